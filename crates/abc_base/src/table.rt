@@ -1,0 +1,167 @@
+ghost use Rattle.std.specs.Prelude.{◌≡◌, ◌<◌, ◌++◌, ◌∷◌, [], List, ℕ, length, get_or, OnOk, OnErr, slice_get, MatchOption, None, Some, IfOk};
+ghost use Rattle.std.specs.Prelude.{set};
+
+use crate::memory::NoMemory;
+use std::alloc::Global;
+use std::marker::Model;
+
+/// A list of values, which contracts see as that list.
+#[derive(Debug, Drop)]
+pub struct Table<T> {
+    items: Vec<T>,
+}
+
+impl<T> Model for Table<T> {
+    ghost use Rattle.std.specs.Prelude.{List};
+
+    ghost Value = { List T };
+
+    ghost view = { λ t. t.items.items };
+}
+
+impl<T: Drop> Table<T> {
+    /// The empty list. It takes no memory.
+    pub fn new(alloc: Global) -> Table<T>
+        ensures { result ≡ [] }
+    {
+        Table {
+            items: Vec::new(alloc),
+        }
+    }
+
+    /// Adds a value at the end. Where memory runs out the list stays as it was, and the value is dropped.
+    pub fn push(&mut self, x: T) -> Result<(), NoMemory>
+        ensures ok { OnOk result (self.new ≡ self.old ++ x ∷ []) }
+        ensures err { OnErr result (self.new ≡ self.old) }
+    {
+        self.items.push(x)?;
+        Ok(())
+    }
+
+    /// How many values there are.
+    pub fn len(&self) -> usize
+        ensures { result ≡ length self.now }
+    {
+        self.items.len()
+    }
+
+    /// The value at a position, which counts from 0.
+    pub fn get(&self, i: usize) -> &T
+        requires { i < length self.now }
+        ensures { get_or self.now i result.now ≡ result.now }
+    {
+        &self.items[i]
+    }
+
+    /// The value at a position, or `None` where the list ends before it.
+    pub fn find(&self, i: usize) -> Option<&T>
+        ensures { MatchOption result (slice_get self.now i ≡ None) (λ x. slice_get self.now i ≡ Some x.now) }
+    {
+        self.items.get(i)
+    }
+
+    /// Replaces the value at a position.
+    pub fn set(&mut self, i: usize, x: T)
+        requires { i < length self.old }
+        ensures { self.new ≡ set self.old i x }
+    {
+        self.items[i] = x;
+    }
+
+    /// All values, in order.
+    pub fn as_slice(&self) -> &[T]
+        ensures { result.now ≡ self.now }
+    {
+        self.items.as_slice()
+    }
+}
+
+impl<T: Copy + Drop> Table<T> {
+    /// A copy of the value at a position, or `None` where the list ends before it.
+    pub fn fetch(&self, i: usize) -> Option<T>
+        ensures { result ≡ slice_get self.now i }
+    {
+        self.items.get(i).copied()
+    }
+}
+
+/// A list of bytes, which contracts see as that list.
+#[derive(Debug, Drop)]
+pub struct Bytes {
+    items: Vec<u8>,
+}
+
+impl Model for Bytes {
+    ghost use Rattle.std.specs.Prelude.{List, ℕ};
+
+    ghost Value = { List ℕ };
+
+    ghost view = { λ t. t.items.items };
+}
+
+impl Bytes {
+    /// The empty list. It takes no memory.
+    pub fn new(alloc: Global) -> Bytes
+        ensures { result ≡ [] }
+    {
+        Bytes {
+            items: Vec::new(alloc),
+        }
+    }
+
+    /// A copy of some bytes.
+    pub fn from_slice(alloc: Global, bytes: &[u8]) -> Result<Bytes, NoMemory>
+        ensures { IfOk result (λ b. b ≡ bytes.now) }
+    {
+        let items = Vec::from_slice(alloc, bytes)?;
+        Ok(Bytes { items })
+    }
+
+    /// Adds a byte at the end. Where memory runs out the list stays as it was.
+    pub fn push(&mut self, x: u8) -> Result<(), NoMemory>
+        ensures ok { OnOk result (self.new ≡ self.old ++ x ∷ []) }
+        ensures err { OnErr result (self.new ≡ self.old) }
+    {
+        self.items.push(x)?;
+        Ok(())
+    }
+
+    /// Adds bytes at the end. Where memory runs out the list stays as it was.
+    pub fn extend_from_slice(&mut self, bytes: &[u8]) -> Result<(), NoMemory>
+        ensures ok { OnOk result (self.new ≡ self.old ++ bytes.now) }
+        ensures err { OnErr result (self.new ≡ self.old) }
+    {
+        self.items.extend_from_slice(bytes)?;
+        Ok(())
+    }
+
+    /// How many bytes there are.
+    pub fn len(&self) -> usize
+        ensures { result ≡ length self.now }
+    {
+        self.items.len()
+    }
+
+    /// The byte at a position, which counts from 0.
+    pub fn get(&self, i: usize) -> &u8
+        requires { i < length self.now }
+        ensures { get_or self.now i result.now ≡ result.now }
+    {
+        &self.items[i]
+    }
+
+    /// Replaces the byte at a position.
+    pub fn set(&mut self, i: usize, x: u8)
+        requires { i < length self.old }
+        ensures { self.new ≡ set self.old i x }
+    {
+        self.items[i] = x;
+    }
+
+    /// All bytes, in order.
+    pub fn as_slice(&self) -> &[u8]
+        ensures { result.now ≡ self.now }
+    {
+        self.items.as_slice()
+    }
+}
