@@ -1,0 +1,7 @@
+pub mod Part
+pub mod Numbers
+pub mod Lists
+pub mod Ends
+pub mod Law
+pub mod Canonical
+pub mod Reasons

@@ -1,0 +1,22 @@
+-- Parts that are lists of parts.
+use Rattle.std.specs.Prelude.{ℕ, zero, suc, ◌-◌, List, [], ◌∷◌, ◌++◌}
+use Rattle.abc_format.specs.Part.{Part, done, then_by, both, image}
+use Rattle.abc_format.specs.Numbers.{u30}
+
+-- n times the part
+abbrev pub times : {A : Type 0} → ℕ → Part A → Part (List A)
+times zero p = done []
+times (suc n) p = image (λ x. x.0 ∷ x.1) (both p (times n p))
+
+-- a count, and that many of the part
+unfoldable pub counted : {A : Type 0} → Part A → Part (List A)
+counted p = image (λ x. x.1) (then_by u30 (λ n. times n p))
+
+-- a pool: entry 0 is not stored, and the counts 0 and 1 both mean that there is no other
+unfoldable pub pool : {A : Type 0} → Part A → Part (List A)
+pool p = image (λ x. x.1) (then_by u30 (λ n. times (n - 1) p))
+
+-- n items, each of which depends on those before it
+abbrev pub chain : {A : Type 0} → ℕ → (List A → Part A) → List A → Part (List A)
+chain zero p before = done before
+chain (suc n) p before = image (λ x. x.1) (then_by (p before) (λ x. chain n p (before ++ x ∷ [])))
