@@ -1,12 +1,12 @@
 -- The canonical spelling is one, and the shortest.
-use Rattle.std.proofs.Common.{◌≡◌, ℕ, ℤ, pos, negsuc, zero, suc, ◌+◌, ◌*◌, ◌^◌, ◌-◌, ◌%◌, ◌/◌, ◌<◌, ◌≤◌, inl, inr, Bool, List, [], ◌∷◌, ◌++◌, length, refl, sym, ap, subst, ◌∙◌, length-append, arith}
+use Rattle.std.proofs.Common.{◌≡◌, ℕ, ℤ, pos, negsuc, zero, suc, ◌+◌, ◌*◌, ◌^◌, ◌-◌, ◌%◌, ◌/◌, ◌<◌, ◌≤◌, Bool, List, [], ◌∷◌, ◌++◌, length, refl, sym, ap, subst, ◌∙◌, length-append, arith}
 use Rattle.std.specs.List.{flat_map}
 use Rattle.std.proofs.lemmas.List.Concat.{flat_map-cons}
 use Rattle.std.proofs.lemmas.Int.{ints}
-use Rattle.std.proofs.lemmas.Bool.{cases_lt, le-ltb, lt-ltb}
+use Rattle.std.proofs.lemmas.Bool.{le-ltb, lt-ltb}
 use Rattle.abc_format.specs.declared.reason.Reason.{Reason}
-use Rattle.abc_base.proofs.Spelling.{IsGroups, raw, number_spelled, number_shortest, number_fits, number_groups}
-use Rattle.abc_base.specs.Numbers.{groups_of, number_bytes, signed24}
+use Rattle.abc_base.proofs.Spelling.{IsGroups, number_spelled, number_shortest, number_fits, number_groups}
+use Rattle.abc_base.specs.Numbers.{number_bytes, signed24}
 use Rattle.abc_format.specs.Canonical.{FitsS24, IsCanonical, counted_bytes, low24, pool_bytes, pool_count, s24_bytes}
 use Rattle.abc_format.specs.Lists.{counted, pool, times}
 use Rattle.abc_format.specs.Numbers.{number, s24, u30, u8, index_below, pool_index, entry_index}
@@ -189,4 +189,3 @@ s24s_three (suc n) zs b s =
     let one = s24_three s.0.0 s.1.0 s.1.3 in
     let more = s24s_three n s.0.1 s.1.1 s.1.4 in
     rw s.2 (ap suc more.0, omega (arith, ap length s.1.2, length-append s.1.0 s.1.1, one, more.1))
-
