@@ -1,0 +1,4 @@
+pub mod Pools
+pub mod Methods
+pub mod Traits
+pub mod Classes
