@@ -5,3 +5,4 @@ pub mod BadPieces
 pub mod Canon
 pub mod Least
 pub mod Determined
+pub mod Fixed

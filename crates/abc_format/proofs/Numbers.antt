@@ -7,7 +7,7 @@ use Rattle.abc_format.specs.declared.reason.Reason.TheVariants as reasons
 use Rattle.abc_format.proofs.Exact.{done-exact, bind_ok, bind_err, fine, ok_is, Front-then, Front-first, Front-second, guard_ok, guard_err, image-exact, checked-exact, then-exact, times-exact, both-exact}
 use Rattle.abc_base.proofs.Spelling.{IsGroups, raw, longer, groups_number, number_groups, number_value}
 use Rattle.abc_format.specs.Law.{Exact}
-use Rattle.abc_format.specs.Lists.{text, counted, pool, times}
+use Rattle.abc_format.specs.Lists.{counted, pool, times}
 use Rattle.abc_format.specs.Numbers.{BadHere, byte, byte_at, byte_here, groups, number, s24, u30, u32, u8, index_below, pool_index, entry_index, s32, u16}
 use Rattle.abc_format.specs.Part.{At, Front, Part, Refusal, both, further, limit, refusal, when, ◌>>=◌}
 
@@ -244,10 +244,6 @@ entry_index-exact n = checked-exact _ _ u30 u30-exact
 pub counted-exact : {A : Type 0} (p : Part A) → Exact p → Exact (counted p)
 unfolding counted
 counted-exact p ep = image-exact _ _ (then-exact u30 (λ n. times n p) u30-exact (λ n. times-exact n p ep))
-
-pub text-exact : Exact text
-unfolding text
-text-exact = counted-exact u8 u8-exact
 
 pub pool-exact : {A : Type 0} (p : Part A) → Exact p → Exact (pool p)
 unfolding pool

@@ -33,6 +33,7 @@ FitsS24 z = (negsuc 8388607 ≤ℤ z) × (z <ℤ pos 8388608)
 unfoldable pub counted_bytes : {A : Type 0} → (A → List ℕ) → List A → List ℕ
 counted_bytes f xs = number_bytes (length xs) ++ flat_map f xs
 
+-- the number of the bytes, and the bytes
 unfoldable pub text_bytes : List ℕ → List ℕ
 text_bytes b = number_bytes (length b) ++ b
 

@@ -1,7 +1,7 @@
 -- Parts that are lists of parts.
 use Rattle.std.specs.Prelude.{ℕ, zero, suc, ◌-◌, List, [], ◌∷◌, ◌++◌}
 use Rattle.abc_format.specs.Part.{Part, done, then_by, both, image}
-use Rattle.abc_format.specs.Numbers.{u8, u30}
+use Rattle.abc_format.specs.Numbers.{u30, u8}
 
 -- n times the part
 abbrev pub times : {A : Type 0} → ℕ → Part A → Part (List A)
@@ -12,13 +12,13 @@ times (suc n) p = image (λ x. x.0 ∷ x.1) (both p (times n p))
 unfoldable pub counted : {A : Type 0} → Part A → Part (List A)
 counted p = image (λ x. x.1) (then_by u30 (λ n. times n p))
 
+-- any bytes, which need not be UTF-8: their number, and the bytes
+unfoldable pub text : Part (List ℕ)
+text = counted u8
+
 -- a pool: entry 0 is not stored, and the counts 0 and 1 both mean that there is no other
 unfoldable pub pool : {A : Type 0} → Part A → Part (List A)
 pool p = image (λ x. x.1) (then_by u30 (λ n. times (n - 1) p))
-
--- a size and that many bytes
-unfoldable pub text : Part (List ℕ)
-text = counted u8
 
 -- n items, each of which depends on those before it
 abbrev pub chain : {A : Type 0} → ℕ → (List A → Part A) → List A → Part (List A)

@@ -2,7 +2,8 @@
 use Rattle.std.proofs.Common.{ℕ, List, length, Bool}
 use Rattle.abc_format.specs.Law.{Exact}
 use Rattle.abc_format.proofs.Exact.{image-exact, both-exact, checked-exact, then-exact, done-exact, times-exact}
-use Rattle.abc_format.proofs.Numbers.{u8-exact, u30-exact, u32-exact, s32-exact, index_below-exact, pool_index-exact, entry_index-exact, counted-exact, pool-exact, when-exact, text-exact}
+use Rattle.abc_format.proofs.Numbers.{u8-exact, u30-exact, u32-exact, s32-exact, index_below-exact, pool_index-exact, entry_index-exact, counted-exact, pool-exact, when-exact}
+use Rattle.abc_format.proofs.Fixed.{text-exact}
 use Rattle.abc_tables.specs.declared.names.MultinameForm.{MultinameForm}
 use Rattle.abc_tables.specs.declared.names.MultinameForm.TheVariants as forms
 use Rattle.abc_tables.specs.declared.traits.TraitKind.{TraitKind}
