@@ -1,7 +1,7 @@
 -- Each part of the pools and of the definitions is exact.
-use Rattle.std.proofs.Common.{ℕ, List, length, Bool}
+use Rattle.std.proofs.Common.{ℕ, Bool}
 use Rattle.abc_format.specs.Law.{Exact}
-use Rattle.abc_format.proofs.Exact.{image-exact, both-exact, checked-exact, then-exact, done-exact, times-exact}
+use Rattle.abc_format.proofs.Exact.{image-exact, checked-exact, then-exact, done-exact, times-exact}
 use Rattle.abc_format.proofs.Numbers.{u8-exact, u30-exact, u32-exact, s32-exact, index_below-exact, pool_index-exact, entry_index-exact, counted-exact, pool-exact, when-exact}
 use Rattle.abc_format.proofs.Fixed.{text-exact}
 use Rattle.abc_tables.specs.declared.names.MultinameForm.{MultinameForm}
@@ -13,7 +13,7 @@ use Rattle.abc_tables.specs.declared.tables.Abc.{Abc}
 use Rattle.abc_tables.specs.Pools.{double, namespace_kind, namespace, namespace_set, multiname_kind, multiname_fields, multiname, pools}
 use Rattle.abc_tables.specs.Methods.{value_kind, option_value, options, method, metadata}
 use Rattle.abc_tables.specs.Traits.{trait_kind, slot_value, trait_fields, trait_info}
-use Rattle.abc_tables.specs.Classes.{instance, class_info, script, definitions, sizes_with}
+use Rattle.abc_tables.specs.Classes.{instance, class_info, script, definitions}
 
 ruleset parts = (image-exact, then-exact, checked-exact, done-exact, times-exact, when-exact, counted-exact, pool-exact, u8-exact, u30-exact, u32-exact, s32-exact, index_below-exact, pool_index-exact, entry_index-exact, text-exact)
 

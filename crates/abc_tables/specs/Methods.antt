@@ -1,5 +1,5 @@
 -- Methods with their optional values, and metadata.
-use Rattle.std.specs.Prelude.{ℕ, ◌*◌, ◌/◌, List, [], ◌∷◌, ◌++◌, length, Bool, true, false, nat_eq, nat_le, not, ◌||◌, bit_and, if◌then◌else◌}
+use Rattle.std.specs.Prelude.{ℕ, ◌*◌, ◌/◌, List, [], ◌∷◌, ◌++◌, length, Bool, true, nat_eq, nat_le, not, ◌||◌, bit_and, if◌then◌else◌}
 use Rattle.std.specs.List.{flat_map}
 use Rattle.abc_base.specs.Numbers.{number_bytes}
 use Rattle.abc_format.specs.declared.reason.Reason.TheVariants as reasons

@@ -1,5 +1,5 @@
 -- Traits.
-use Rattle.std.specs.Prelude.{ℕ, ◌+◌, ◌*◌, ◌%◌, ◌/◌, List, [], ◌∷◌, ◌++◌, Bool, true, false, nat_eq, nat_le, not, Some, None, if◌then◌else◌}
+use Rattle.std.specs.Prelude.{ℕ, ◌+◌, ◌*◌, ◌%◌, ◌/◌, List, [], ◌∷◌, ◌++◌, true, false, nat_eq, nat_le, not, Some, None, if◌then◌else◌}
 use Rattle.std.specs.declared.option.Option.{Option}
 use Rattle.abc_base.specs.Numbers.{number_bytes}
 use Rattle.abc_format.specs.declared.reason.Reason.TheVariants as reasons

@@ -14,7 +14,10 @@ pub enum Instr {
     /// A branch, with its target.
     Branch(u8, u32),
     /// `lookupswitch`, with the targets of its default and of its cases, of which there is at least one.
-    Switch { default: u32, cases: Table<u32> },
+    Switch {
+        default: u32,
+        cases: Table<u32>,
+    },
     /// `pushbyte`
     Byte(i8),
     /// `pushshort`

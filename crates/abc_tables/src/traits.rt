@@ -43,13 +43,28 @@ pub enum TraitBody {
         constant: bool,
     },
     /// Kind 1.
-    Method { disp: u32, method: u32 },
+    Method {
+        disp: u32,
+        method: u32,
+    },
     /// Kind 2.
-    Getter { disp: u32, method: u32 },
+    Getter {
+        disp: u32,
+        method: u32,
+    },
     /// Kind 3.
-    Setter { disp: u32, method: u32 },
+    Setter {
+        disp: u32,
+        method: u32,
+    },
     /// Kind 4.
-    Class { id: u32, class: u32 },
+    Class {
+        id: u32,
+        class: u32,
+    },
     /// Kind 5.
-    Function { id: u32, method: u32 },
+    Function {
+        id: u32,
+        method: u32,
+    },
 }
