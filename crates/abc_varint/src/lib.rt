@@ -24,3 +24,6 @@ pub use read::{
 };
 pub use text::{read_bytes, read_text};
 pub use window::Window;
+
+#[cfg(test)]
+mod tests;
