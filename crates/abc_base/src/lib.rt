@@ -15,6 +15,8 @@ mod source;
 mod sources;
 mod status;
 mod table;
+#[cfg(test)]
+mod tests;
 mod words;
 
 pub use formula::Formula;
