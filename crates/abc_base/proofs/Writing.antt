@@ -6,7 +6,7 @@ use Rattle.std.proofs.KnownBytes.{Appends-trans}
 use Rattle.std.specs.declared.option.Option.{Option}
 use Rattle.std.specs.Io.KnownBytes.{Appends, append_known}
 use Rattle.abc_base.specs.Faults.{Rose}
-use Rattle.abc_base.specs.Sinks.{Grows, GrowsByFront}
+use Rattle.abc_base.specs.Sinks.{GrowsByFront}
 
 -- ---- one piece, in several calls
 
@@ -40,13 +40,13 @@ pub front_first : (old new : Option (List ℕ)) (a b : List ℕ) → GrowsByFron
 front_first old new a b f =
     let n : ℕ = min f.count (length a) in
     let same : take n (a ++ b) ≡ take f.count a = take-append-le n a b (omega arith) ∙ take_min f.count a in
-    record { count = n; front = subst (λ (l : List ℕ). Grows old new l) (sym same) f.front }
+    record { count = n; front = f.front ∙ ap (append_known old) (sym same) }
 
 -- the first piece, and the front of the second
 pub front_second : (old new : Option (List ℕ)) (a b : List ℕ) → GrowsByFront (append_known old a) new b → GrowsByFront old new (a ++ b)
 front_second old new a b f = record {
   count = length a + f.count;
-  front = λ some. f.front (known_told old a ∙ some) ∙ known_twice old a (take f.count b) ∙ ap (append_known old) (sym (take-append-add a b f.count));
+  front = f.front ∙ known_twice old a (take f.count b) ∙ ap (append_known old) (sym (take-append-add a b f.count));
 }
 
 -- by which writes in a row are one write of all that they wrote
