@@ -1,5 +1,5 @@
 -- The canonical spelling is one, and the shortest.
-use Rattle.std.proofs.Common.{◌≡◌, ℕ, ℤ, pos, negsuc, zero, suc, ◌+◌, ◌*◌, ◌^◌, ◌-◌, ◌%◌, ◌/◌, ◌<◌, ◌≤◌, Bool, List, [], ◌∷◌, ◌++◌, length, refl, sym, ap, subst, ◌∙◌, length-append, arith}
+use Rattle.std.proofs.Common.{◌≡◌, ℕ, ℤ, pos, negsuc, zero, suc, ◌+◌, ◌*◌, ◌^◌, ◌-◌, ◌%◌, ◌/◌, ◌<◌, ◌≤◌, Bool, true, false, cond, List, [], ◌∷◌, ◌++◌, length, refl, sym, ap, subst, ◌∙◌, length-append, arith}
 use Rattle.std.specs.List.{flat_map}
 use Rattle.std.proofs.lemmas.List.Concat.{flat_map-cons}
 use Rattle.std.proofs.lemmas.Int.{ints}
@@ -10,7 +10,7 @@ use Rattle.abc_base.specs.Numbers.{number_bytes, signed24}
 use Rattle.abc_format.specs.Canonical.{FitsS24, IsCanonical, counted_bytes, low24, pool_bytes, pool_count, s24_bytes}
 use Rattle.abc_format.specs.Lists.{counted, pool, times}
 use Rattle.abc_format.specs.Numbers.{number, s24, u30, u8, index_below, pool_index, entry_index}
-use Rattle.abc_format.specs.Part.{Part, both, checked, done, image, then_by}
+use Rattle.abc_format.specs.Part.{when, Part, both, checked, done, image, then_by}
 
 -- ---- numbers
 
@@ -189,3 +189,9 @@ s24s_three (suc n) zs b s =
     let one = s24_three s.0.0 s.1.0 s.1.3 in
     let more = s24s_three n s.0.1 s.1.1 s.1.4 in
     rw s.2 (ap suc more.0, omega (arith, ap length s.1.2, length-append s.1.0 s.1.1, one, more.1))
+
+-- the bytes that a flag asks for
+pub when-canonical : {A : Type 0} (flag : Bool) (x : A) (p : Part A) (cp : A → List ℕ) → IsCanonical p cp → IsCanonical (when flag x p) (λ y. cond flag (cp y) [])
+unfolding when
+when-canonical true x p cp kp = kp
+when-canonical false x p cp kp = done-canonical x (λ y. []) refl

@@ -57,7 +57,7 @@ s24-canonical = record {
 
 -- ---- texts
 
-each_byte : (b : List ℕ) → flat_map (λ x. x ∷ []) b ≡ b
+pub each_byte : (b : List ℕ) → flat_map (λ x. x ∷ []) b ≡ b
 each_byte [] = refl
 each_byte (x ∷ b) = rw flat_map-cons (ap (λ (t : List ℕ). x ∷ t) (each_byte b))
 

@@ -5,7 +5,7 @@ use Rattle.std.proofs.lemmas.Int.{of_z-to_z}
 use Rattle.abc_format.proofs.Canon.{number-canonical}
 use Rattle.abc_base.proofs.Spelling.{number_fits, number_grows}
 use Rattle.abc_base.specs.Numbers.{number_bytes}
-use Rattle.abc_format.specs.Canonical.{IsCanonical}
+use Rattle.abc_format.specs.Canonical.{s32_bytes, IsCanonical}
 use Rattle.abc_format.specs.Numbers.{number, s32, u32}
 use Rattle.abc_format.specs.Part.{Part, image}
 
@@ -34,8 +34,8 @@ unfolding u32
 u32-canonical = image-least-canonical (λ x. x % 2 ^ 32) number number_bytes (λ x. x % 2 ^ 32) number_bytes number-canonical
     (λ x b s. record { spelled = number_fits (x % 2 ^ 32) (omega arith); same = omega arith; short = number_grows (x % 2 ^ 32) x (omega arith); bytes = refl })
 
-pub s32-canonical : IsCanonical s32 (λ z. number_bytes (cast_unsigned w32 z))
-unfolding s32
+pub s32-canonical : IsCanonical s32 s32_bytes
+unfolding s32 s32_bytes
 s32-canonical = image-least-canonical (λ x. cast_signed w32 (x % 2 ^ 32)) number number_bytes (λ x. x % 2 ^ 32) (λ z. number_bytes (cast_unsigned w32 z)) number-canonical
     (λ x b s.
     let twice : x % 2 ^ 32 % 2 ^ 32 ≡ x % 2 ^ 32 = omega arith in

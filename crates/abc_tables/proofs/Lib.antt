@@ -1,0 +1,3 @@
+pub mod Exactness
+pub mod Shortest
+pub mod Whole

@@ -1,0 +1,149 @@
+-- The constant pools: numbers, texts, namespaces, sets of namespaces and multinames.
+use Rattle.std.specs.Prelude.{ℕ, List, [], ◌∷◌, ◌++◌, length, Bool, true, false, nat_eq, ◌||◌, if◌then◌else◌}
+use Rattle.abc_base.specs.Numbers.{number_bytes}
+use Rattle.abc_format.specs.declared.reason.Reason.TheVariants as reasons
+use Rattle.abc_format.specs.Part.{Part, done, then_by, both, image, checked}
+use Rattle.abc_format.specs.Numbers.{u8, u32, s32, pool_index, entry_index}
+use Rattle.abc_format.specs.Lists.{times, counted, pool, text}
+use Rattle.abc_format.specs.Canonical.{s32_bytes, counted_bytes, pool_bytes, text_bytes}
+use Rattle.abc_tables.specs.declared.names.NsKind.{NsKind}
+use Rattle.abc_tables.specs.declared.names.NsKind.TheVariants as spaces
+use Rattle.abc_tables.specs.declared.names.Namespace.{Namespace}
+use Rattle.abc_tables.specs.declared.names.MultinameForm.{MultinameForm}
+use Rattle.abc_tables.specs.declared.names.MultinameForm.TheVariants as forms
+use Rattle.abc_tables.specs.declared.names.MultinameKind.{MultinameKind}
+use Rattle.abc_tables.specs.declared.names.Multiname.{Multiname}
+use Rattle.abc_tables.specs.declared.names.Multiname.TheVariants as names
+use Rattle.abc_tables.specs.declared.tables.Eight.{Eight}
+use Rattle.abc_tables.specs.declared.tables.Abc.{Abc}
+
+-- eight bytes, which no one reads as a number
+unfoldable pub double : Part Eight
+double = image (λ b. record { 0 = b }) (times 8 u8)
+
+abbrev pub double_bytes : Eight → List ℕ
+double_bytes d = d.0
+
+-- ---- namespaces
+
+abbrev pub namespace_code : NsKind → ℕ
+namespace_code spaces.Private = 0x05
+namespace_code spaces.Namespace = 0x08
+namespace_code spaces.Package = 0x16
+namespace_code spaces.PackageInternal = 0x17
+namespace_code spaces.Protected = 0x18
+namespace_code spaces.Explicit = 0x19
+namespace_code spaces.StaticProtected = 0x1a
+
+abbrev pub is_namespace_kind : ℕ → Bool
+is_namespace_kind k = nat_eq k 0x05 || nat_eq k 0x08 || nat_eq k 0x16 || nat_eq k 0x17 || nat_eq k 0x18 || nat_eq k 0x19 || nat_eq k 0x1a
+
+abbrev pub namespace_kind_of : ℕ → NsKind
+namespace_kind_of k =
+    if nat_eq k 0x05 then spaces.Private
+    else if nat_eq k 0x08 then spaces.Namespace
+    else if nat_eq k 0x16 then spaces.Package
+    else if nat_eq k 0x17 then spaces.PackageInternal
+    else if nat_eq k 0x18 then spaces.Protected
+    else if nat_eq k 0x19 then spaces.Explicit
+    else spaces.StaticProtected
+
+unfoldable pub namespace_kind : Part NsKind
+namespace_kind = image namespace_kind_of (checked is_namespace_kind reasons.NamespaceKind u8)
+
+-- a kind and a name, where there are so many strings
+unfoldable pub namespace : ℕ → Part Namespace
+namespace strings = image (λ x. record { kind = x.0; name = x.1 }) (both namespace_kind (pool_index strings))
+
+unfoldable pub namespace_bytes : Namespace → List ℕ
+namespace_bytes n = namespace_code n.kind ∷ number_bytes n.name
+
+-- a count and that many namespaces
+unfoldable pub namespace_set : ℕ → Part (List ℕ)
+namespace_set spaces = counted (entry_index spaces)
+
+-- ---- multinames
+
+abbrev pub multiname_code : MultinameForm → Bool → ℕ
+multiname_code forms.QName false = 0x07
+multiname_code forms.QName true = 0x0d
+multiname_code forms.Rt false = 0x0f
+multiname_code forms.Rt true = 0x10
+multiname_code forms.RtL false = 0x11
+multiname_code forms.RtL true = 0x12
+multiname_code forms.Multi false = 0x09
+multiname_code forms.Multi true = 0x0e
+multiname_code forms.MultiL false = 0x1b
+multiname_code forms.MultiL true = 0x1c
+
+abbrev pub is_multiname_kind : ℕ → Bool
+is_multiname_kind k =
+    nat_eq k 0x07 || nat_eq k 0x0d || nat_eq k 0x0f || nat_eq k 0x10 || nat_eq k 0x11 || nat_eq k 0x12 || nat_eq k 0x09 || nat_eq k 0x0e || nat_eq k 0x1b
+    || nat_eq k 0x1c
+
+abbrev kind_with : MultinameForm → Bool → MultinameKind
+kind_with f a = record { form = f; attr = a }
+
+abbrev pub multiname_kind_of : ℕ → MultinameKind
+multiname_kind_of k =
+    if nat_eq k 0x07 then kind_with forms.QName false
+    else if nat_eq k 0x0d then kind_with forms.QName true
+    else if nat_eq k 0x0f then kind_with forms.Rt false
+    else if nat_eq k 0x10 then kind_with forms.Rt true
+    else if nat_eq k 0x11 then kind_with forms.RtL false
+    else if nat_eq k 0x12 then kind_with forms.RtL true
+    else if nat_eq k 0x09 then kind_with forms.Multi false
+    else if nat_eq k 0x0e then kind_with forms.Multi true
+    else if nat_eq k 0x1b then kind_with forms.MultiL false
+    else kind_with forms.MultiL true
+
+unfoldable pub multiname_kind : Part MultinameKind
+multiname_kind = image multiname_kind_of (checked is_multiname_kind reasons.MultinameKind u8)
+
+-- the fields of each form, where there are so many strings, namespaces and sets
+abbrev pub multiname_fields : ℕ → ℕ → ℕ → Bool → MultinameForm → Part Multiname
+multiname_fields strings spaces sets attr forms.QName = image (λ x. names.QName attr x.0 x.1) (both (pool_index spaces) (pool_index strings))
+multiname_fields strings spaces sets attr forms.Rt = image (λ x. names.Rt attr x) (pool_index strings)
+multiname_fields strings spaces sets attr forms.RtL = done (names.RtL attr)
+multiname_fields strings spaces sets attr forms.Multi = image (λ x. names.Multi attr x.0 x.1) (both (pool_index strings) (entry_index sets))
+multiname_fields strings spaces sets attr forms.MultiL = image (λ x. names.MultiL attr x) (entry_index sets)
+
+unfoldable pub multiname : ℕ → ℕ → ℕ → Part Multiname
+multiname strings spaces sets = image (λ x. x.1) (then_by multiname_kind (λ k. multiname_fields strings spaces sets k.attr k.form))
+
+abbrev pub multiname_bytes : Multiname → List ℕ
+multiname_bytes (names.QName attr n i) = multiname_code forms.QName attr ∷ (number_bytes n ++ number_bytes i)
+multiname_bytes (names.Rt attr i) = multiname_code forms.Rt attr ∷ number_bytes i
+multiname_bytes (names.RtL attr) = multiname_code forms.RtL attr ∷ []
+multiname_bytes (names.Multi attr i s) = multiname_code forms.Multi attr ∷ (number_bytes i ++ number_bytes s)
+multiname_bytes (names.MultiL attr s) = multiname_code forms.MultiL attr ∷ number_bytes s
+
+-- ---- all pools
+
+-- the pools in their order, as a value whose other tables are empty
+unfoldable pub pools : Part Abc
+pools =
+    image (λ x. record {
+      ints = x.0;
+      uints = x.1.0;
+      doubles = x.1.1.0;
+      strings = x.1.1.1.0;
+      namespaces = x.1.1.1.1.0;
+      sets = x.1.1.1.1.1.0;
+      names = x.1.1.1.1.1.1;
+      methods = [];
+      metadata = [];
+      instances = [];
+      classes = [];
+      scripts = [];
+      bodies = [];
+    })
+    (both (pool s32) (both (pool u32) (both (pool double) (then_by (pool text) (λ strings.
+    then_by (pool (namespace (length strings))) (λ spaces.
+    then_by (pool (namespace_set (length spaces))) (λ sets.
+    pool (multiname (length strings) (length spaces) (length sets)))))))))
+
+unfoldable pub pools_bytes : Abc → List ℕ
+pools_bytes v =
+    pool_bytes s32_bytes v.ints ++ pool_bytes number_bytes v.uints ++ pool_bytes double_bytes v.doubles ++ pool_bytes text_bytes v.strings
+    ++ pool_bytes namespace_bytes v.namespaces ++ pool_bytes (counted_bytes number_bytes) v.sets ++ pool_bytes multiname_bytes v.names

@@ -1,0 +1,18 @@
+//! The whole file as a value, table by table, and in specs/ what spells each part of it, what refuses it, and its
+//! canonical bytes. Every index and number is a `u32`; the tables of entries that count from 1 leave entry 0 out.
+#![tactic(auto)]
+
+mod classes;
+mod code;
+mod methods;
+mod names;
+mod tables;
+mod traits;
+
+pub use abc_base::{Bytes, Table};
+pub use classes::{ClassInfo, Instance, Script};
+pub use code::{Body, Handler, Instr};
+pub use methods::{Metadata, Method, OptionValue, ValueKind};
+pub use names::{Multiname, MultinameForm, MultinameKind, Namespace, NsKind};
+pub use tables::{Abc, Eight, Sizes};
+pub use traits::{TraitBody, TraitInfo, TraitKind};
