@@ -6,14 +6,13 @@ ghost use Rattle.abc_tables.specs.Classes.{some_index, instance, protected_bytes
 ghost use Rattle.abc_varint.specs.Puts.{Puts};
 ghost use Rattle.abc_varint.specs.Reads.{Reads, ReadsPart};
 
-use crate::indices::EntryIndex;
 use crate::methods::has_flag;
 use crate::traits::TraitCodec;
 use abc_base::{NoMemory, Source};
 use abc_tables::{ClassInfo, Instance, Script, Sizes};
 use abc_varint::{
-    Codec, ReadError, Window, put_counted, put_u8, put_u30, read_counted, read_entry_index,
-    read_index_below, read_pool_index, read_u8,
+    Codec, EntryIndex, ReadError, Window, put_counted, put_u8, put_u30, read_counted,
+    read_entry_index, read_index_below, read_pool_index, read_u8,
 };
 use std::alloc::Global;
 
@@ -75,7 +74,7 @@ fn read_instance<S: Source>(
     })
 }
 
-#[tactic(auto, unfolding(abc_tables::specs::Classes::instance_bytes), using(abc_varint::proofs::Steps::stays, std::proofs::Common::append_assoc))]
+#[tactic(auto, unfolding(abc_tables::specs::Classes::instance_bytes), using(abc_varint::proofs::Putting::stays, std::proofs::Common::append_assoc))]
 fn put_instance(instance: &Instance, out: &mut Vec<u8>) -> Result<(), NoMemory>
     ensures { Puts out.old.items out.new.items result (instance_bytes instance.now) }
 {
@@ -90,7 +89,7 @@ fn put_instance(instance: &Instance, out: &mut Vec<u8>) -> Result<(), NoMemory>
 }
 
 /// Instances, over tables of these sizes.
-#[derive(Drop)]
+#[derive(Clone, Copy, Debug)]
 pub struct InstanceCodec(pub Sizes);
 
 impl Codec for InstanceCodec {
@@ -128,7 +127,7 @@ fn read_class<S: Source>(
     Ok(ClassInfo { cinit, traits })
 }
 
-#[tactic(auto, unfolding(abc_tables::specs::Classes::class_bytes), using(abc_varint::proofs::Steps::stays, std::proofs::Common::append_assoc))]
+#[tactic(auto, unfolding(abc_tables::specs::Classes::class_bytes), using(abc_varint::proofs::Putting::stays, std::proofs::Common::append_assoc))]
 fn put_class(class: &ClassInfo, out: &mut Vec<u8>) -> Result<(), NoMemory>
     ensures { Puts out.old.items out.new.items result (class_bytes class.now) }
 {
@@ -138,7 +137,7 @@ fn put_class(class: &ClassInfo, out: &mut Vec<u8>) -> Result<(), NoMemory>
 }
 
 /// What class objects are, over tables of these sizes.
-#[derive(Drop)]
+#[derive(Clone, Copy, Debug)]
 pub struct ClassCodec(pub Sizes);
 
 impl Codec for ClassCodec {
@@ -176,7 +175,7 @@ fn read_script<S: Source>(
     Ok(Script { init, traits })
 }
 
-#[tactic(auto, unfolding(abc_tables::specs::Classes::script_bytes), using(abc_varint::proofs::Steps::stays, std::proofs::Common::append_assoc))]
+#[tactic(auto, unfolding(abc_tables::specs::Classes::script_bytes), using(abc_varint::proofs::Putting::stays, std::proofs::Common::append_assoc))]
 fn put_script(script: &Script, out: &mut Vec<u8>) -> Result<(), NoMemory>
     ensures { Puts out.old.items out.new.items result (script_bytes script.now) }
 {
@@ -186,7 +185,7 @@ fn put_script(script: &Script, out: &mut Vec<u8>) -> Result<(), NoMemory>
 }
 
 /// Scripts, over tables of these sizes.
-#[derive(Drop)]
+#[derive(Clone, Copy, Debug)]
 pub struct ScriptCodec(pub Sizes);
 
 impl Codec for ScriptCodec {

@@ -1,6 +1,7 @@
 ghost use Rattle.std.specs.Prelude.{◌≡◌, ◌≤◌, ◌<◌, ◌^◌, ◌++◌, ℕ, None, Some, Err, OnErr, length};
 ghost use Rattle.abc_format.specs.Lists.{times, counted};
-ghost use Rattle.abc_tables.specs.Classes.{definitions, definitions_bytes};
+ghost use Rattle.abc_format.specs.Part.{both};
+ghost use Rattle.abc_tables.specs.Classes.{instance, class_info, script, sizes_with, definitions, definitions_bytes};
 ghost use Rattle.abc_traits.specs.Sizes.{capped};
 ghost use Rattle.abc_traits.specs.Definitions.{with_definitions, tables};
 ghost use Rattle.abc_varint.specs.Answers.{Answers};
@@ -27,6 +28,35 @@ struct Definitions {
     scripts: Table<Script>,
 }
 
+/// The sizes of the pools, with no methods, metadata or classes.
+fn pool_sizes(abc: &Abc) -> Sizes
+    ensures { result ≡ capped (sizes_with abc.now 0 0 0) }
+{
+    Sizes {
+        methods: 0,
+        metadata: 0,
+        classes: 0,
+        ..sizes_of(abc)
+    }
+}
+
+/// As many instances as classes, and scripts, over tables of these sizes.
+fn read_classes<S: Source>(
+    alloc: Global,
+    w: &mut Window,
+    source: &mut S,
+    sizes: &Sizes,
+    count: u32,
+) -> Result<(Table<Instance>, (Table<ClassInfo>, Table<Script>)), ReadError>
+    requires { w.old.kept ≡ None }
+    ensures { ReadsPart S.left S.faults (both (times count (instance sizes.now)) (both (times count (class_info sizes.now)) (counted (script sizes.now)))) w.old source.old w.new source.new result }
+{
+    let instances = read_times(&InstanceCodec(*sizes), alloc, w, source, count)?;
+    let classes = read_times(&ClassCodec(*sizes), alloc, w, source, count)?;
+    let scripts = read_counted(&ScriptCodec(*sizes), alloc, w, source)?;
+    Ok((instances, (classes, scripts)))
+}
+
 /// All definitions, over pools of these sizes.
 #[tactic(auto, unfolding(crate::specs::Definitions::tables))]
 fn read_tables<S: Source>(
@@ -46,9 +76,7 @@ fn read_tables<S: Source>(
         classes: count,
         ..*pools
     };
-    let instances = read_times(&InstanceCodec(sizes), alloc, w, source, count)?;
-    let classes = read_times(&ClassCodec(sizes), alloc, w, source, count)?;
-    let scripts = read_counted(&ScriptCodec(sizes), alloc, w, source)?;
+    let (instances, (classes, scripts)) = read_classes(alloc, w, source, &sizes, count)?;
     Ok(Definitions {
         methods,
         metadata,
@@ -77,7 +105,7 @@ pub fn read_definitions<S: Source>(
     ensures answers { Answers (definitions abc.old) w.old (S.left source.old) w.new (S.left source.new) (stored result abc.new) }
 {
     let _ = w.place();
-    let pools = sizes_of(abc);
+    let pools = pool_sizes(abc);
     match read_tables(alloc, w, source, &pools) {
         Ok(found) => {
             abc.methods = found.methods;
@@ -91,7 +119,7 @@ pub fn read_definitions<S: Source>(
     }
 }
 
-#[tactic(auto, unfolding(abc_tables::specs::Classes::definitions_bytes), using(abc_varint::proofs::Steps::stays, std::proofs::Common::append_assoc))]
+#[tactic(auto, unfolding(abc_tables::specs::Classes::definitions_bytes), using(abc_varint::proofs::Putting::stays, std::proofs::Common::append_assoc))]
 fn append_definitions(abc: &Abc, out: &mut Vec<u8>) -> Result<(), NoMemory>
     ensures { Puts out.old.items out.new.items result (definitions_bytes abc.now) }
 {

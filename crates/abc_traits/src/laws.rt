@@ -8,5 +8,4 @@ ghost use Rattle.abc_tables.specs.Classes.{definitions, definitions_bytes};
 pub fn definitions_law()
     ensures determined { (abc : AnyAbc) → IsDetermined (definitions abc) }
     ensures canonical { (abc : AnyAbc) → IsCanonical (definitions abc) definitions_bytes }
-{
-}
+{}

@@ -4,8 +4,8 @@
 
 mod classes;
 mod definitions;
-mod indices;
 mod laws;
+mod lists;
 mod methods;
 mod options;
 mod sizes;
@@ -15,4 +15,3 @@ pub use definitions::{put_definitions, read_definitions};
 pub use laws::definitions_law;
 pub use sizes::sizes_of;
 pub use traits::TraitCodec;
-

@@ -5,13 +5,13 @@ ghost use Rattle.abc_tables.specs.Methods.{has_flag as is_set, method, method_by
 ghost use Rattle.abc_varint.specs.Puts.{Puts};
 ghost use Rattle.abc_varint.specs.Reads.{Reads, ReadsPart};
 
-use crate::indices::{Number, PoolIndex, put_counted_if, put_items_if, read_times_if};
+use crate::lists::{Number30, put_counted_if, put_items_if, read_times_if};
 use crate::options::{OptionCodec, read_options_if};
 use abc_base::{NoMemory, Source};
 use abc_tables::{Metadata, Method, Sizes};
 use abc_varint::{
-    Codec, ReadError, Window, put_count, put_items, put_u8, put_u30, read_pool_index, read_times,
-    read_u8, read_u30,
+    Codec, PoolIndex, ReadError, Window, put_count, put_items, put_u8, put_u30, read_pool_index,
+    read_times, read_u8, read_u30,
 };
 use std::alloc::Global;
 
@@ -45,7 +45,7 @@ fn read_method<S: Source>(
     let optional = has_flag(flags, HAS_OPTIONAL);
     let options = read_options_if(optional, alloc, w, source, sizes, count)?;
     let named = has_flag(flags, HAS_PARAM_NAMES);
-    let param_names = read_times_if(named, &Number, alloc, w, source, count)?;
+    let param_names = read_times_if(named, &Number30, alloc, w, source, count)?;
     Ok(Method {
         ret,
         params,
@@ -56,7 +56,7 @@ fn read_method<S: Source>(
     })
 }
 
-#[tactic(auto, unfolding(abc_tables::specs::Methods::method_bytes), using(abc_varint::proofs::Steps::stays, std::proofs::Common::append_assoc))]
+#[tactic(auto, unfolding(abc_tables::specs::Methods::method_bytes), using(abc_varint::proofs::Putting::stays, std::proofs::Common::append_assoc))]
 fn put_method(method: &Method, out: &mut Vec<u8>) -> Result<(), NoMemory>
     ensures { Puts out.old.items out.new.items result (method_bytes method.now) }
 {
@@ -68,12 +68,12 @@ fn put_method(method: &Method, out: &mut Vec<u8>) -> Result<(), NoMemory>
     let optional = has_flag(method.flags, HAS_OPTIONAL);
     put_counted_if::<OptionCodec>(optional, &method.options, out)?;
     let named = has_flag(method.flags, HAS_PARAM_NAMES);
-    put_items_if::<Number>(named, &method.param_names, out)?;
+    put_items_if::<Number30>(named, &method.param_names, out)?;
     Ok(())
 }
 
 /// Methods, over tables of these sizes.
-#[derive(Drop)]
+#[derive(Clone, Copy, Debug)]
 pub struct MethodCodec(pub Sizes);
 
 impl Codec for MethodCodec {
@@ -113,7 +113,7 @@ fn read_metadata<S: Source>(
     Ok(Metadata { name, items })
 }
 
-#[tactic(auto, unfolding(abc_tables::specs::Methods::metadata_bytes), using(abc_varint::proofs::Steps::stays, std::proofs::Common::append_assoc))]
+#[tactic(auto, unfolding(abc_tables::specs::Methods::metadata_bytes), using(abc_varint::proofs::Putting::stays, std::proofs::Common::append_assoc))]
 fn put_metadata(metadata: &Metadata, out: &mut Vec<u8>) -> Result<(), NoMemory>
     ensures { Puts out.old.items out.new.items result (metadata_bytes metadata.now) }
 {
@@ -124,7 +124,7 @@ fn put_metadata(metadata: &Metadata, out: &mut Vec<u8>) -> Result<(), NoMemory>
 }
 
 /// Metadata, over tables of these sizes.
-#[derive(Drop)]
+#[derive(Clone, Copy, Debug)]
 pub struct MetadataCodec(pub Sizes);
 
 impl Codec for MetadataCodec {

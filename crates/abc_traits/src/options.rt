@@ -107,7 +107,7 @@ fn read_option_value<S: Source>(
     Ok(OptionValue { kind, value })
 }
 
-#[tactic(auto, unfolding(abc_tables::specs::Methods::option_bytes), using(abc_varint::proofs::Steps::stays, std::proofs::Common::append_assoc))]
+#[tactic(auto, unfolding(abc_tables::specs::Methods::option_bytes), using(abc_varint::proofs::Putting::stays, std::proofs::Common::append_assoc))]
 fn put_option_value(option: &OptionValue, out: &mut Vec<u8>) -> Result<(), NoMemory>
     ensures { Puts out.old.items out.new.items result (option_bytes option.now) }
 {
@@ -117,7 +117,7 @@ fn put_option_value(option: &OptionValue, out: &mut Vec<u8>) -> Result<(), NoMem
 }
 
 /// The values of optional parameters, over tables of these sizes.
-#[derive(Drop)]
+#[derive(Clone, Copy, Debug)]
 pub struct OptionCodec(pub Sizes);
 
 impl Codec for OptionCodec {

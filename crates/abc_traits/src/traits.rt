@@ -7,14 +7,14 @@ ghost use Rattle.abc_tables.specs.Traits.{slot_value, slot_value_bytes, trait_co
 ghost use Rattle.abc_varint.specs.Puts.{Puts};
 ghost use Rattle.abc_varint.specs.Reads.{Reads, ReadsPart};
 
-use crate::indices::{IndexBelow, put_counted_if, read_counted_if};
+use crate::lists::{put_counted_if, read_counted_if};
 use crate::methods::has_flag;
 use crate::options::{put_slot_value, read_slot_value};
 use abc_base::{NoMemory, Source};
 use abc_tables::{OptionValue, Sizes, TraitBody, TraitInfo, TraitKind};
 use abc_varint::{
-    Codec, ReadError, Reason, Window, put_u8, put_u30, read_entry_index, read_index_below,
-    read_pool_index, read_u8, read_u30,
+    Codec, IndexBelow, ReadError, Reason, Window, put_u8, put_u30, read_entry_index,
+    read_index_below, read_pool_index, read_u8, read_u30,
 };
 use std::alloc::Global;
 
@@ -23,10 +23,7 @@ const HAS_METADATA: u8 = 4;
 
 /// The kind of a trait, and its attributes.
 #[tactic(auto, unfolding(abc_tables::specs::Traits::trait_kind))]
-fn read_trait_kind<S: Source>(
-    w: &mut Window,
-    source: &mut S,
-) -> Result<(TraitKind, u8), ReadError>
+fn read_trait_kind<S: Source>(w: &mut Window, source: &mut S) -> Result<(TraitKind, u8), ReadError>
     ensures { ReadsPart S.left S.faults trait_kind w.old source.old w.new source.new result }
 {
     let place = w.place();
@@ -50,11 +47,7 @@ fn read_trait_kind<S: Source>(
 }
 
 /// A number, and a position in a table of n entries.
-fn read_pair<S: Source>(
-    w: &mut Window,
-    source: &mut S,
-    n: u32,
-) -> Result<(u32, u32), ReadError>
+fn read_pair<S: Source>(w: &mut Window, source: &mut S, n: u32) -> Result<(u32, u32), ReadError>
     ensures { ReadsPart S.left S.faults (both u30 (index_below n)) w.old source.old w.new source.new result }
 {
     let number = read_u30(w, source)?;
@@ -146,7 +139,8 @@ fn code_of(body: &TraitBody) -> u8
 {
     match body {
         TraitBody::Slot {
-            constant: false, ..
+            constant: false,
+            ..
         } => 0,
         TraitBody::Method { .. } => 1,
         TraitBody::Getter { .. } => 2,
@@ -157,7 +151,7 @@ fn code_of(body: &TraitBody) -> u8
     }
 }
 
-#[tactic(auto, using(abc_varint::proofs::Steps::stays, std::proofs::Common::append_assoc))]
+#[tactic(auto, using(abc_varint::proofs::Putting::stays, std::proofs::Common::append_assoc))]
 fn put_pair(number: u32, index: u32, out: &mut Vec<u8>) -> Result<(), NoMemory>
     ensures { Puts out.old.items out.new.items result (number_bytes number ++ number_bytes index) }
 {
@@ -166,7 +160,7 @@ fn put_pair(number: u32, index: u32, out: &mut Vec<u8>) -> Result<(), NoMemory>
     Ok(())
 }
 
-#[tactic(auto, using(abc_varint::proofs::Steps::stays, std::proofs::Common::append_assoc))]
+#[tactic(auto, using(abc_varint::proofs::Putting::stays, std::proofs::Common::append_assoc))]
 fn put_slot(
     id: u32,
     ty: u32,
@@ -194,7 +188,7 @@ fn put_trait_fields(body: &TraitBody, out: &mut Vec<u8>) -> Result<(), NoMemory>
     }
 }
 
-#[tactic(auto, unfolding(abc_tables::specs::Traits::trait_bytes), using(abc_varint::proofs::Steps::stays, std::proofs::Common::append_assoc))]
+#[tactic(auto, unfolding(abc_tables::specs::Traits::trait_bytes), using(abc_varint::proofs::Putting::stays, std::proofs::Common::append_assoc))]
 fn put_trait(info: &TraitInfo, out: &mut Vec<u8>) -> Result<(), NoMemory>
     ensures { Puts out.old.items out.new.items result (trait_bytes info.now) }
 {
@@ -207,7 +201,7 @@ fn put_trait(info: &TraitInfo, out: &mut Vec<u8>) -> Result<(), NoMemory>
 }
 
 /// Traits, over tables of these sizes.
-#[derive(Drop)]
+#[derive(Clone, Copy, Debug)]
 pub struct TraitCodec(pub Sizes);
 
 impl Codec for TraitCodec {

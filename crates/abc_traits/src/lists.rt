@@ -3,35 +3,22 @@ ghost use Rattle.std.specs.List.{flat_map};
 ghost use Rattle.abc_base.specs.Numbers.{number_bytes};
 ghost use Rattle.abc_format.specs.Canonical.{counted_bytes};
 ghost use Rattle.abc_format.specs.Lists.{times, counted};
-ghost use Rattle.abc_format.specs.Numbers.{u30, index_below, pool_index, entry_index};
+ghost use Rattle.abc_format.specs.Numbers.{u30};
 ghost use Rattle.abc_format.specs.Part.{when};
 ghost use Rattle.abc_varint.specs.Puts.{Puts};
 ghost use Rattle.abc_varint.specs.Reads.{Reads, ReadsPart, ReadsNumber};
 
 use abc_base::{NoMemory, Source, Table};
 use abc_varint::{
-    Codec, ReadError, Window, put_counted, put_items, put_u30, read_counted, read_entry_index,
-    read_index_below, read_pool_index, read_times, read_u30,
+    Codec, ReadError, Window, put_counted, put_items, put_u30, read_counted, read_times, read_u30,
 };
 use std::alloc::Global;
 
-/// Numbers below 2^30.
-#[derive(Drop)]
-pub struct Number;
+/// The codec of numbers below 2^30.
+#[derive(Clone, Copy, Debug)]
+pub struct Number30;
 
-/// Indices into a pool of so many entries, or 0.
-#[derive(Drop)]
-pub struct PoolIndex(pub u32);
-
-/// Indices into a pool of so many entries, not 0.
-#[derive(Drop)]
-pub struct EntryIndex(pub u32);
-
-/// Positions in a table of so many entries.
-#[derive(Drop)]
-pub struct IndexBelow(pub u32);
-
-impl Codec for Number {
+impl Codec for Number30 {
     type Item = u32;
 
     ghost part = { λ _. u30 };
@@ -45,69 +32,6 @@ impl Codec for Number {
         source: &mut S,
     ) -> Result<u32, ReadError> {
         read_u30(w, source)
-    }
-
-    fn put(item: &u32, out: &mut Vec<u8>) -> Result<(), NoMemory> {
-        put_u30(*item, out)
-    }
-}
-
-impl Codec for PoolIndex {
-    type Item = u32;
-
-    ghost part = { λ c. pool_index c.0 };
-
-    ghost canonical = { number_bytes };
-
-    fn read<S: Source>(
-        &self,
-        _alloc: Global,
-        w: &mut Window,
-        source: &mut S,
-    ) -> Result<u32, ReadError> {
-        read_pool_index(w, source, self.0)
-    }
-
-    fn put(item: &u32, out: &mut Vec<u8>) -> Result<(), NoMemory> {
-        put_u30(*item, out)
-    }
-}
-
-impl Codec for EntryIndex {
-    type Item = u32;
-
-    ghost part = { λ c. entry_index c.0 };
-
-    ghost canonical = { number_bytes };
-
-    fn read<S: Source>(
-        &self,
-        _alloc: Global,
-        w: &mut Window,
-        source: &mut S,
-    ) -> Result<u32, ReadError> {
-        read_entry_index(w, source, self.0)
-    }
-
-    fn put(item: &u32, out: &mut Vec<u8>) -> Result<(), NoMemory> {
-        put_u30(*item, out)
-    }
-}
-
-impl Codec for IndexBelow {
-    type Item = u32;
-
-    ghost part = { λ c. index_below c.0 };
-
-    ghost canonical = { number_bytes };
-
-    fn read<S: Source>(
-        &self,
-        _alloc: Global,
-        w: &mut Window,
-        source: &mut S,
-    ) -> Result<u32, ReadError> {
-        read_index_below(w, source, self.0)
     }
 
     fn put(item: &u32, out: &mut Vec<u8>) -> Result<(), NoMemory> {
