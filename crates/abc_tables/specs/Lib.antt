@@ -2,3 +2,11 @@ pub mod Pools
 pub mod Methods
 pub mod Traits
 pub mod Classes
+pub mod Opcodes
+pub mod Instructions
+pub mod Starts
+pub mod Targets
+pub mod Code
+pub mod CodeBytes
+pub mod Ready
+pub mod Places
