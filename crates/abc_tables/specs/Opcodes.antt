@@ -8,7 +8,7 @@ use Rattle.abc_tables.specs.declared.opcodes.TheConstants.{OPCODES}
 
 -- what the table says of an opcode; of one that no instruction has, nothing
 unfoldable pub info_at : ℕ → Option OpInfo
-info_at op = option_map (λ row. row.info) (get_or OPCODES op None)
+info_at op = option_map (λ row. record { form = row.1; pool = row.2 }) (get_or OPCODES op None)
 
 -- the bytes before the first blank, or all
 abbrev pub before_blank : List ℕ → List ℕ
@@ -16,7 +16,7 @@ before_blank name = take (position_or_len (λ b. nat_eq b 0x20) name) name
 
 -- the instruction's name
 unfoldable pub name_at : ℕ → Option (List ℕ)
-name_at op = option_map (λ row. before_blank row.name) (get_or OPCODES op None)
+name_at op = option_map (λ row. before_blank row.0) (get_or OPCODES op None)
 
 -- what follows the opcode
 abbrev pub form_in : Option OpInfo → Option Form

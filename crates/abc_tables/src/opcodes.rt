@@ -35,1385 +35,282 @@ pub struct OpInfo {
     pub pool: Pool,
 }
 
-/// A row of the table of instructions.
-#[derive(Clone, Copy, Debug)]
-pub struct Row {
-    /// Padded with blanks.
-    pub name: [u8; 16],
-    pub info: OpInfo,
-}
+/// A row of the table of instructions: the name, padded with blanks, what follows the opcode, and the pool.
+type Row = ([u8; 16], Form, Pool);
 
 /// The instructions by their opcodes (Overview, chapter 5), with the operands that the file format gives them.
 pub const OPCODES: [Option<Row>; 256] = [
-    // 00
-    None,
-    // 01
-    None,
-    // 02
-    Some(Row {
-        name: *b"nop             ",
-        info: OpInfo {
-            form: Form::Plain,
-            pool: Pool::NoPool,
-        },
-    }),
-    // 03
-    Some(Row {
-        name: *b"throw           ",
-        info: OpInfo {
-            form: Form::Plain,
-            pool: Pool::NoPool,
-        },
-    }),
-    // 04
-    Some(Row {
-        name: *b"getsuper        ",
-        info: OpInfo {
-            form: Form::One,
-            pool: Pool::Name,
-        },
-    }),
-    // 05
-    Some(Row {
-        name: *b"setsuper        ",
-        info: OpInfo {
-            form: Form::One,
-            pool: Pool::Name,
-        },
-    }),
-    // 06
-    Some(Row {
-        name: *b"dxns            ",
-        info: OpInfo {
-            form: Form::One,
-            pool: Pool::Text,
-        },
-    }),
-    // 07
-    Some(Row {
-        name: *b"dxnslate        ",
-        info: OpInfo {
-            form: Form::Plain,
-            pool: Pool::NoPool,
-        },
-    }),
-    // 08
-    Some(Row {
-        name: *b"kill            ",
-        info: OpInfo {
-            form: Form::One,
-            pool: Pool::NoPool,
-        },
-    }),
-    // 09
-    Some(Row {
-        name: *b"label           ",
-        info: OpInfo {
-            form: Form::Plain,
-            pool: Pool::NoPool,
-        },
-    }),
-    // 0a
-    None,
-    // 0b
-    None,
-    // 0c
-    Some(Row {
-        name: *b"ifnlt           ",
-        info: OpInfo {
-            form: Form::Branch,
-            pool: Pool::NoPool,
-        },
-    }),
-    // 0d
-    Some(Row {
-        name: *b"ifnle           ",
-        info: OpInfo {
-            form: Form::Branch,
-            pool: Pool::NoPool,
-        },
-    }),
-    // 0e
-    Some(Row {
-        name: *b"ifngt           ",
-        info: OpInfo {
-            form: Form::Branch,
-            pool: Pool::NoPool,
-        },
-    }),
-    // 0f
-    Some(Row {
-        name: *b"ifnge           ",
-        info: OpInfo {
-            form: Form::Branch,
-            pool: Pool::NoPool,
-        },
-    }),
-    // 10
-    Some(Row {
-        name: *b"jump            ",
-        info: OpInfo {
-            form: Form::Branch,
-            pool: Pool::NoPool,
-        },
-    }),
-    // 11
-    Some(Row {
-        name: *b"iftrue          ",
-        info: OpInfo {
-            form: Form::Branch,
-            pool: Pool::NoPool,
-        },
-    }),
-    // 12
-    Some(Row {
-        name: *b"iffalse         ",
-        info: OpInfo {
-            form: Form::Branch,
-            pool: Pool::NoPool,
-        },
-    }),
-    // 13
-    Some(Row {
-        name: *b"ifeq            ",
-        info: OpInfo {
-            form: Form::Branch,
-            pool: Pool::NoPool,
-        },
-    }),
-    // 14
-    Some(Row {
-        name: *b"ifne            ",
-        info: OpInfo {
-            form: Form::Branch,
-            pool: Pool::NoPool,
-        },
-    }),
-    // 15
-    Some(Row {
-        name: *b"iflt            ",
-        info: OpInfo {
-            form: Form::Branch,
-            pool: Pool::NoPool,
-        },
-    }),
-    // 16
-    Some(Row {
-        name: *b"ifle            ",
-        info: OpInfo {
-            form: Form::Branch,
-            pool: Pool::NoPool,
-        },
-    }),
-    // 17
-    Some(Row {
-        name: *b"ifgt            ",
-        info: OpInfo {
-            form: Form::Branch,
-            pool: Pool::NoPool,
-        },
-    }),
-    // 18
-    Some(Row {
-        name: *b"ifge            ",
-        info: OpInfo {
-            form: Form::Branch,
-            pool: Pool::NoPool,
-        },
-    }),
-    // 19
-    Some(Row {
-        name: *b"ifstricteq      ",
-        info: OpInfo {
-            form: Form::Branch,
-            pool: Pool::NoPool,
-        },
-    }),
-    // 1a
-    Some(Row {
-        name: *b"ifstrictne      ",
-        info: OpInfo {
-            form: Form::Branch,
-            pool: Pool::NoPool,
-        },
-    }),
-    // 1b
-    Some(Row {
-        name: *b"lookupswitch    ",
-        info: OpInfo {
-            form: Form::Switch,
-            pool: Pool::NoPool,
-        },
-    }),
-    // 1c
-    Some(Row {
-        name: *b"pushwith        ",
-        info: OpInfo {
-            form: Form::Plain,
-            pool: Pool::NoPool,
-        },
-    }),
-    // 1d
-    Some(Row {
-        name: *b"popscope        ",
-        info: OpInfo {
-            form: Form::Plain,
-            pool: Pool::NoPool,
-        },
-    }),
-    // 1e
-    Some(Row {
-        name: *b"nextname        ",
-        info: OpInfo {
-            form: Form::Plain,
-            pool: Pool::NoPool,
-        },
-    }),
-    // 1f
-    Some(Row {
-        name: *b"hasnext         ",
-        info: OpInfo {
-            form: Form::Plain,
-            pool: Pool::NoPool,
-        },
-    }),
-    // 20
-    Some(Row {
-        name: *b"pushnull        ",
-        info: OpInfo {
-            form: Form::Plain,
-            pool: Pool::NoPool,
-        },
-    }),
-    // 21
-    Some(Row {
-        name: *b"pushundefined   ",
-        info: OpInfo {
-            form: Form::Plain,
-            pool: Pool::NoPool,
-        },
-    }),
-    // 22
-    None,
-    // 23
-    Some(Row {
-        name: *b"nextvalue       ",
-        info: OpInfo {
-            form: Form::Plain,
-            pool: Pool::NoPool,
-        },
-    }),
-    // 24
-    Some(Row {
-        name: *b"pushbyte        ",
-        info: OpInfo {
-            form: Form::Byte,
-            pool: Pool::NoPool,
-        },
-    }),
-    // 25
-    Some(Row {
-        name: *b"pushshort       ",
-        info: OpInfo {
-            form: Form::Short,
-            pool: Pool::NoPool,
-        },
-    }),
-    // 26
-    Some(Row {
-        name: *b"pushtrue        ",
-        info: OpInfo {
-            form: Form::Plain,
-            pool: Pool::NoPool,
-        },
-    }),
-    // 27
-    Some(Row {
-        name: *b"pushfalse       ",
-        info: OpInfo {
-            form: Form::Plain,
-            pool: Pool::NoPool,
-        },
-    }),
-    // 28
-    Some(Row {
-        name: *b"pushnan         ",
-        info: OpInfo {
-            form: Form::Plain,
-            pool: Pool::NoPool,
-        },
-    }),
-    // 29
-    Some(Row {
-        name: *b"pop             ",
-        info: OpInfo {
-            form: Form::Plain,
-            pool: Pool::NoPool,
-        },
-    }),
-    // 2a
-    Some(Row {
-        name: *b"dup             ",
-        info: OpInfo {
-            form: Form::Plain,
-            pool: Pool::NoPool,
-        },
-    }),
-    // 2b
-    Some(Row {
-        name: *b"swap            ",
-        info: OpInfo {
-            form: Form::Plain,
-            pool: Pool::NoPool,
-        },
-    }),
-    // 2c
-    Some(Row {
-        name: *b"pushstring      ",
-        info: OpInfo {
-            form: Form::One,
-            pool: Pool::Text,
-        },
-    }),
-    // 2d
-    Some(Row {
-        name: *b"pushint         ",
-        info: OpInfo {
-            form: Form::One,
-            pool: Pool::Int,
-        },
-    }),
-    // 2e
-    Some(Row {
-        name: *b"pushuint        ",
-        info: OpInfo {
-            form: Form::One,
-            pool: Pool::UInt,
-        },
-    }),
-    // 2f
-    Some(Row {
-        name: *b"pushdouble      ",
-        info: OpInfo {
-            form: Form::One,
-            pool: Pool::Double,
-        },
-    }),
-    // 30
-    Some(Row {
-        name: *b"pushscope       ",
-        info: OpInfo {
-            form: Form::Plain,
-            pool: Pool::NoPool,
-        },
-    }),
-    // 31
-    Some(Row {
-        name: *b"pushnamespace   ",
-        info: OpInfo {
-            form: Form::One,
-            pool: Pool::Space,
-        },
-    }),
-    // 32
-    Some(Row {
-        name: *b"hasnext2        ",
-        info: OpInfo {
-            form: Form::Two,
-            pool: Pool::NoPool,
-        },
-    }),
-    // 33
-    None,
-    // 34
-    None,
-    // 35
-    None,
-    // 36
-    None,
-    // 37
-    None,
-    // 38
-    None,
-    // 39
-    None,
-    // 3a
-    None,
-    // 3b
-    None,
-    // 3c
-    None,
-    // 3d
-    None,
-    // 3e
-    None,
-    // 3f
-    None,
-    // 40
-    Some(Row {
-        name: *b"newfunction     ",
-        info: OpInfo {
-            form: Form::One,
-            pool: Pool::NoPool,
-        },
-    }),
-    // 41
-    Some(Row {
-        name: *b"call            ",
-        info: OpInfo {
-            form: Form::One,
-            pool: Pool::NoPool,
-        },
-    }),
-    // 42
-    Some(Row {
-        name: *b"construct       ",
-        info: OpInfo {
-            form: Form::One,
-            pool: Pool::NoPool,
-        },
-    }),
-    // 43
-    Some(Row {
-        name: *b"callmethod      ",
-        info: OpInfo {
-            form: Form::Two,
-            pool: Pool::NoPool,
-        },
-    }),
-    // 44
-    Some(Row {
-        name: *b"callstatic      ",
-        info: OpInfo {
-            form: Form::Two,
-            pool: Pool::NoPool,
-        },
-    }),
-    // 45
-    Some(Row {
-        name: *b"callsuper       ",
-        info: OpInfo {
-            form: Form::Two,
-            pool: Pool::Name,
-        },
-    }),
-    // 46
-    Some(Row {
-        name: *b"callproperty    ",
-        info: OpInfo {
-            form: Form::Two,
-            pool: Pool::Name,
-        },
-    }),
-    // 47
-    Some(Row {
-        name: *b"returnvoid      ",
-        info: OpInfo {
-            form: Form::Plain,
-            pool: Pool::NoPool,
-        },
-    }),
-    // 48
-    Some(Row {
-        name: *b"returnvalue     ",
-        info: OpInfo {
-            form: Form::Plain,
-            pool: Pool::NoPool,
-        },
-    }),
-    // 49
-    Some(Row {
-        name: *b"constructsuper  ",
-        info: OpInfo {
-            form: Form::One,
-            pool: Pool::NoPool,
-        },
-    }),
-    // 4a
-    Some(Row {
-        name: *b"constructprop   ",
-        info: OpInfo {
-            form: Form::Two,
-            pool: Pool::Name,
-        },
-    }),
-    // 4b
-    None,
-    // 4c
-    Some(Row {
-        name: *b"callproplex     ",
-        info: OpInfo {
-            form: Form::Two,
-            pool: Pool::Name,
-        },
-    }),
-    // 4d
-    None,
-    // 4e
-    Some(Row {
-        name: *b"callsupervoid   ",
-        info: OpInfo {
-            form: Form::Two,
-            pool: Pool::Name,
-        },
-    }),
-    // 4f
-    Some(Row {
-        name: *b"callpropvoid    ",
-        info: OpInfo {
-            form: Form::Two,
-            pool: Pool::Name,
-        },
-    }),
-    // 50
-    None,
-    // 51
-    None,
-    // 52
-    None,
-    // 53
-    None,
-    // 54
-    None,
-    // 55
-    Some(Row {
-        name: *b"newobject       ",
-        info: OpInfo {
-            form: Form::One,
-            pool: Pool::NoPool,
-        },
-    }),
-    // 56
-    Some(Row {
-        name: *b"newarray        ",
-        info: OpInfo {
-            form: Form::One,
-            pool: Pool::NoPool,
-        },
-    }),
-    // 57
-    Some(Row {
-        name: *b"newactivation   ",
-        info: OpInfo {
-            form: Form::Plain,
-            pool: Pool::NoPool,
-        },
-    }),
-    // 58
-    Some(Row {
-        name: *b"newclass        ",
-        info: OpInfo {
-            form: Form::One,
-            pool: Pool::NoPool,
-        },
-    }),
-    // 59
-    Some(Row {
-        name: *b"getdescendants  ",
-        info: OpInfo {
-            form: Form::One,
-            pool: Pool::Name,
-        },
-    }),
-    // 5a
-    Some(Row {
-        name: *b"newcatch        ",
-        info: OpInfo {
-            form: Form::One,
-            pool: Pool::NoPool,
-        },
-    }),
-    // 5b
-    None,
-    // 5c
-    None,
-    // 5d
-    Some(Row {
-        name: *b"findpropstrict  ",
-        info: OpInfo {
-            form: Form::One,
-            pool: Pool::Name,
-        },
-    }),
-    // 5e
-    Some(Row {
-        name: *b"findproperty    ",
-        info: OpInfo {
-            form: Form::One,
-            pool: Pool::Name,
-        },
-    }),
-    // 5f
-    None,
-    // 60
-    Some(Row {
-        name: *b"getlex          ",
-        info: OpInfo {
-            form: Form::One,
-            pool: Pool::Name,
-        },
-    }),
-    // 61
-    Some(Row {
-        name: *b"setproperty     ",
-        info: OpInfo {
-            form: Form::One,
-            pool: Pool::Name,
-        },
-    }),
-    // 62
-    Some(Row {
-        name: *b"getlocal        ",
-        info: OpInfo {
-            form: Form::One,
-            pool: Pool::NoPool,
-        },
-    }),
-    // 63
-    Some(Row {
-        name: *b"setlocal        ",
-        info: OpInfo {
-            form: Form::One,
-            pool: Pool::NoPool,
-        },
-    }),
-    // 64
-    Some(Row {
-        name: *b"getglobalscope  ",
-        info: OpInfo {
-            form: Form::Plain,
-            pool: Pool::NoPool,
-        },
-    }),
-    // 65
-    Some(Row {
-        name: *b"getscopeobject  ",
-        info: OpInfo {
-            form: Form::ScopeObject,
-            pool: Pool::NoPool,
-        },
-    }),
-    // 66
-    Some(Row {
-        name: *b"getproperty     ",
-        info: OpInfo {
-            form: Form::One,
-            pool: Pool::Name,
-        },
-    }),
-    // 67
-    None,
-    // 68
-    Some(Row {
-        name: *b"initproperty    ",
-        info: OpInfo {
-            form: Form::One,
-            pool: Pool::Name,
-        },
-    }),
-    // 69
-    None,
-    // 6a
-    Some(Row {
-        name: *b"deleteproperty  ",
-        info: OpInfo {
-            form: Form::One,
-            pool: Pool::Name,
-        },
-    }),
-    // 6b
-    None,
-    // 6c
-    Some(Row {
-        name: *b"getslot         ",
-        info: OpInfo {
-            form: Form::One,
-            pool: Pool::NoPool,
-        },
-    }),
-    // 6d
-    Some(Row {
-        name: *b"setslot         ",
-        info: OpInfo {
-            form: Form::One,
-            pool: Pool::NoPool,
-        },
-    }),
-    // 6e
-    Some(Row {
-        name: *b"getglobalslot   ",
-        info: OpInfo {
-            form: Form::One,
-            pool: Pool::NoPool,
-        },
-    }),
-    // 6f
-    Some(Row {
-        name: *b"setglobalslot   ",
-        info: OpInfo {
-            form: Form::One,
-            pool: Pool::NoPool,
-        },
-    }),
-    // 70
-    Some(Row {
-        name: *b"convert_s       ",
-        info: OpInfo {
-            form: Form::Plain,
-            pool: Pool::NoPool,
-        },
-    }),
-    // 71
-    Some(Row {
-        name: *b"esc_xelem       ",
-        info: OpInfo {
-            form: Form::Plain,
-            pool: Pool::NoPool,
-        },
-    }),
-    // 72
-    Some(Row {
-        name: *b"esc_xattr       ",
-        info: OpInfo {
-            form: Form::Plain,
-            pool: Pool::NoPool,
-        },
-    }),
-    // 73
-    Some(Row {
-        name: *b"convert_i       ",
-        info: OpInfo {
-            form: Form::Plain,
-            pool: Pool::NoPool,
-        },
-    }),
-    // 74
-    Some(Row {
-        name: *b"convert_u       ",
-        info: OpInfo {
-            form: Form::Plain,
-            pool: Pool::NoPool,
-        },
-    }),
-    // 75
-    Some(Row {
-        name: *b"convert_d       ",
-        info: OpInfo {
-            form: Form::Plain,
-            pool: Pool::NoPool,
-        },
-    }),
-    // 76
-    Some(Row {
-        name: *b"convert_b       ",
-        info: OpInfo {
-            form: Form::Plain,
-            pool: Pool::NoPool,
-        },
-    }),
-    // 77
-    Some(Row {
-        name: *b"convert_o       ",
-        info: OpInfo {
-            form: Form::Plain,
-            pool: Pool::NoPool,
-        },
-    }),
-    // 78
-    Some(Row {
-        name: *b"checkfilter     ",
-        info: OpInfo {
-            form: Form::Plain,
-            pool: Pool::NoPool,
-        },
-    }),
-    // 79
-    None,
-    // 7a
-    None,
-    // 7b
-    None,
-    // 7c
-    None,
-    // 7d
-    None,
-    // 7e
-    None,
-    // 7f
-    None,
-    // 80
-    Some(Row {
-        name: *b"coerce          ",
-        info: OpInfo {
-            form: Form::One,
-            pool: Pool::Name,
-        },
-    }),
-    // 81
-    None,
-    // 82
-    Some(Row {
-        name: *b"coerce_a        ",
-        info: OpInfo {
-            form: Form::Plain,
-            pool: Pool::NoPool,
-        },
-    }),
-    // 83
-    None,
-    // 84
-    None,
-    // 85
-    Some(Row {
-        name: *b"coerce_s        ",
-        info: OpInfo {
-            form: Form::Plain,
-            pool: Pool::NoPool,
-        },
-    }),
-    // 86
-    Some(Row {
-        name: *b"astype          ",
-        info: OpInfo {
-            form: Form::One,
-            pool: Pool::Name,
-        },
-    }),
-    // 87
-    Some(Row {
-        name: *b"astypelate      ",
-        info: OpInfo {
-            form: Form::Plain,
-            pool: Pool::NoPool,
-        },
-    }),
-    // 88
-    None,
-    // 89
-    None,
-    // 8a
-    None,
-    // 8b
-    None,
-    // 8c
-    None,
-    // 8d
-    None,
-    // 8e
-    None,
-    // 8f
-    None,
-    // 90
-    Some(Row {
-        name: *b"negate          ",
-        info: OpInfo {
-            form: Form::Plain,
-            pool: Pool::NoPool,
-        },
-    }),
-    // 91
-    Some(Row {
-        name: *b"increment       ",
-        info: OpInfo {
-            form: Form::Plain,
-            pool: Pool::NoPool,
-        },
-    }),
-    // 92
-    Some(Row {
-        name: *b"inclocal        ",
-        info: OpInfo {
-            form: Form::One,
-            pool: Pool::NoPool,
-        },
-    }),
-    // 93
-    Some(Row {
-        name: *b"decrement       ",
-        info: OpInfo {
-            form: Form::Plain,
-            pool: Pool::NoPool,
-        },
-    }),
-    // 94
-    Some(Row {
-        name: *b"declocal        ",
-        info: OpInfo {
-            form: Form::One,
-            pool: Pool::NoPool,
-        },
-    }),
-    // 95
-    Some(Row {
-        name: *b"typeof          ",
-        info: OpInfo {
-            form: Form::Plain,
-            pool: Pool::NoPool,
-        },
-    }),
-    // 96
-    Some(Row {
-        name: *b"not             ",
-        info: OpInfo {
-            form: Form::Plain,
-            pool: Pool::NoPool,
-        },
-    }),
-    // 97
-    Some(Row {
-        name: *b"bitnot          ",
-        info: OpInfo {
-            form: Form::Plain,
-            pool: Pool::NoPool,
-        },
-    }),
-    // 98
-    None,
-    // 99
-    None,
-    // 9a
-    None,
-    // 9b
-    None,
-    // 9c
-    None,
-    // 9d
-    None,
-    // 9e
-    None,
-    // 9f
-    None,
-    // a0
-    Some(Row {
-        name: *b"add             ",
-        info: OpInfo {
-            form: Form::Plain,
-            pool: Pool::NoPool,
-        },
-    }),
-    // a1
-    Some(Row {
-        name: *b"subtract        ",
-        info: OpInfo {
-            form: Form::Plain,
-            pool: Pool::NoPool,
-        },
-    }),
-    // a2
-    Some(Row {
-        name: *b"multiply        ",
-        info: OpInfo {
-            form: Form::Plain,
-            pool: Pool::NoPool,
-        },
-    }),
-    // a3
-    Some(Row {
-        name: *b"divide          ",
-        info: OpInfo {
-            form: Form::Plain,
-            pool: Pool::NoPool,
-        },
-    }),
-    // a4
-    Some(Row {
-        name: *b"modulo          ",
-        info: OpInfo {
-            form: Form::Plain,
-            pool: Pool::NoPool,
-        },
-    }),
-    // a5
-    Some(Row {
-        name: *b"lshift          ",
-        info: OpInfo {
-            form: Form::Plain,
-            pool: Pool::NoPool,
-        },
-    }),
-    // a6
-    Some(Row {
-        name: *b"rshift          ",
-        info: OpInfo {
-            form: Form::Plain,
-            pool: Pool::NoPool,
-        },
-    }),
-    // a7
-    Some(Row {
-        name: *b"urshift         ",
-        info: OpInfo {
-            form: Form::Plain,
-            pool: Pool::NoPool,
-        },
-    }),
-    // a8
-    Some(Row {
-        name: *b"bitand          ",
-        info: OpInfo {
-            form: Form::Plain,
-            pool: Pool::NoPool,
-        },
-    }),
-    // a9
-    Some(Row {
-        name: *b"bitor           ",
-        info: OpInfo {
-            form: Form::Plain,
-            pool: Pool::NoPool,
-        },
-    }),
-    // aa
-    Some(Row {
-        name: *b"bitxor          ",
-        info: OpInfo {
-            form: Form::Plain,
-            pool: Pool::NoPool,
-        },
-    }),
-    // ab
-    Some(Row {
-        name: *b"equals          ",
-        info: OpInfo {
-            form: Form::Plain,
-            pool: Pool::NoPool,
-        },
-    }),
-    // ac
-    Some(Row {
-        name: *b"strictequals    ",
-        info: OpInfo {
-            form: Form::Plain,
-            pool: Pool::NoPool,
-        },
-    }),
-    // ad
-    Some(Row {
-        name: *b"lessthan        ",
-        info: OpInfo {
-            form: Form::Plain,
-            pool: Pool::NoPool,
-        },
-    }),
-    // ae
-    Some(Row {
-        name: *b"lessequals      ",
-        info: OpInfo {
-            form: Form::Plain,
-            pool: Pool::NoPool,
-        },
-    }),
-    // af
-    Some(Row {
-        name: *b"greaterthan     ",
-        info: OpInfo {
-            form: Form::Plain,
-            pool: Pool::NoPool,
-        },
-    }),
-    // b0
-    Some(Row {
-        name: *b"greaterequals   ",
-        info: OpInfo {
-            form: Form::Plain,
-            pool: Pool::NoPool,
-        },
-    }),
-    // b1
-    Some(Row {
-        name: *b"instanceof      ",
-        info: OpInfo {
-            form: Form::Plain,
-            pool: Pool::NoPool,
-        },
-    }),
-    // b2
-    Some(Row {
-        name: *b"istype          ",
-        info: OpInfo {
-            form: Form::One,
-            pool: Pool::Name,
-        },
-    }),
-    // b3
-    Some(Row {
-        name: *b"istypelate      ",
-        info: OpInfo {
-            form: Form::Plain,
-            pool: Pool::NoPool,
-        },
-    }),
-    // b4
-    Some(Row {
-        name: *b"in              ",
-        info: OpInfo {
-            form: Form::Plain,
-            pool: Pool::NoPool,
-        },
-    }),
-    // b5
-    None,
-    // b6
-    None,
-    // b7
-    None,
-    // b8
-    None,
-    // b9
-    None,
-    // ba
-    None,
-    // bb
-    None,
-    // bc
-    None,
-    // bd
-    None,
-    // be
-    None,
-    // bf
-    None,
-    // c0
-    Some(Row {
-        name: *b"increment_i     ",
-        info: OpInfo {
-            form: Form::Plain,
-            pool: Pool::NoPool,
-        },
-    }),
-    // c1
-    Some(Row {
-        name: *b"decrement_i     ",
-        info: OpInfo {
-            form: Form::Plain,
-            pool: Pool::NoPool,
-        },
-    }),
-    // c2
-    Some(Row {
-        name: *b"inclocal_i      ",
-        info: OpInfo {
-            form: Form::One,
-            pool: Pool::NoPool,
-        },
-    }),
-    // c3
-    Some(Row {
-        name: *b"declocal_i      ",
-        info: OpInfo {
-            form: Form::One,
-            pool: Pool::NoPool,
-        },
-    }),
-    // c4
-    Some(Row {
-        name: *b"negate_i        ",
-        info: OpInfo {
-            form: Form::Plain,
-            pool: Pool::NoPool,
-        },
-    }),
-    // c5
-    Some(Row {
-        name: *b"add_i           ",
-        info: OpInfo {
-            form: Form::Plain,
-            pool: Pool::NoPool,
-        },
-    }),
-    // c6
-    Some(Row {
-        name: *b"subtract_i      ",
-        info: OpInfo {
-            form: Form::Plain,
-            pool: Pool::NoPool,
-        },
-    }),
-    // c7
-    Some(Row {
-        name: *b"multiply_i      ",
-        info: OpInfo {
-            form: Form::Plain,
-            pool: Pool::NoPool,
-        },
-    }),
-    // c8
-    None,
-    // c9
-    None,
-    // ca
-    None,
-    // cb
-    None,
-    // cc
-    None,
-    // cd
-    None,
-    // ce
-    None,
-    // cf
-    None,
-    // d0
-    Some(Row {
-        name: *b"getlocal_0      ",
-        info: OpInfo {
-            form: Form::Plain,
-            pool: Pool::NoPool,
-        },
-    }),
-    // d1
-    Some(Row {
-        name: *b"getlocal_1      ",
-        info: OpInfo {
-            form: Form::Plain,
-            pool: Pool::NoPool,
-        },
-    }),
-    // d2
-    Some(Row {
-        name: *b"getlocal_2      ",
-        info: OpInfo {
-            form: Form::Plain,
-            pool: Pool::NoPool,
-        },
-    }),
-    // d3
-    Some(Row {
-        name: *b"getlocal_3      ",
-        info: OpInfo {
-            form: Form::Plain,
-            pool: Pool::NoPool,
-        },
-    }),
-    // d4
-    Some(Row {
-        name: *b"setlocal_0      ",
-        info: OpInfo {
-            form: Form::Plain,
-            pool: Pool::NoPool,
-        },
-    }),
-    // d5
-    Some(Row {
-        name: *b"setlocal_1      ",
-        info: OpInfo {
-            form: Form::Plain,
-            pool: Pool::NoPool,
-        },
-    }),
-    // d6
-    Some(Row {
-        name: *b"setlocal_2      ",
-        info: OpInfo {
-            form: Form::Plain,
-            pool: Pool::NoPool,
-        },
-    }),
-    // d7
-    Some(Row {
-        name: *b"setlocal_3      ",
-        info: OpInfo {
-            form: Form::Plain,
-            pool: Pool::NoPool,
-        },
-    }),
-    // d8
-    None,
-    // d9
-    None,
-    // da
-    None,
-    // db
-    None,
-    // dc
-    None,
-    // dd
-    None,
-    // de
-    None,
-    // df
-    None,
-    // e0
-    None,
-    // e1
-    None,
-    // e2
-    None,
-    // e3
-    None,
-    // e4
-    None,
-    // e5
-    None,
-    // e6
-    None,
-    // e7
-    None,
-    // e8
-    None,
-    // e9
-    None,
-    // ea
-    None,
-    // eb
-    None,
-    // ec
-    None,
-    // ed
-    None,
-    // ee
-    None,
-    // ef
-    Some(Row {
-        name: *b"debug           ",
-        info: OpInfo {
-            form: Form::Debug,
-            pool: Pool::Text,
-        },
-    }),
-    // f0
-    Some(Row {
-        name: *b"debugline       ",
-        info: OpInfo {
-            form: Form::One,
-            pool: Pool::NoPool,
-        },
-    }),
-    // f1
-    Some(Row {
-        name: *b"debugfile       ",
-        info: OpInfo {
-            form: Form::One,
-            pool: Pool::Text,
-        },
-    }),
-    // f2
-    None,
-    // f3
-    None,
-    // f4
-    None,
-    // f5
-    None,
-    // f6
-    None,
-    // f7
-    None,
-    // f8
-    None,
-    // f9
-    None,
-    // fa
-    None,
-    // fb
-    None,
-    // fc
-    None,
-    // fd
-    None,
-    // fe
-    None,
-    // ff
+    // 00 to 0f
+    None,
+    None,
+    Some((*b"nop             ", Form::Plain, Pool::NoPool)),
+    Some((*b"throw           ", Form::Plain, Pool::NoPool)),
+    Some((*b"getsuper        ", Form::One, Pool::Name)),
+    Some((*b"setsuper        ", Form::One, Pool::Name)),
+    Some((*b"dxns            ", Form::One, Pool::Text)),
+    Some((*b"dxnslate        ", Form::Plain, Pool::NoPool)),
+    Some((*b"kill            ", Form::One, Pool::NoPool)),
+    Some((*b"label           ", Form::Plain, Pool::NoPool)),
+    None,
+    None,
+    Some((*b"ifnlt           ", Form::Branch, Pool::NoPool)),
+    Some((*b"ifnle           ", Form::Branch, Pool::NoPool)),
+    Some((*b"ifngt           ", Form::Branch, Pool::NoPool)),
+    Some((*b"ifnge           ", Form::Branch, Pool::NoPool)),
+    // 10 to 1f
+    Some((*b"jump            ", Form::Branch, Pool::NoPool)),
+    Some((*b"iftrue          ", Form::Branch, Pool::NoPool)),
+    Some((*b"iffalse         ", Form::Branch, Pool::NoPool)),
+    Some((*b"ifeq            ", Form::Branch, Pool::NoPool)),
+    Some((*b"ifne            ", Form::Branch, Pool::NoPool)),
+    Some((*b"iflt            ", Form::Branch, Pool::NoPool)),
+    Some((*b"ifle            ", Form::Branch, Pool::NoPool)),
+    Some((*b"ifgt            ", Form::Branch, Pool::NoPool)),
+    Some((*b"ifge            ", Form::Branch, Pool::NoPool)),
+    Some((*b"ifstricteq      ", Form::Branch, Pool::NoPool)),
+    Some((*b"ifstrictne      ", Form::Branch, Pool::NoPool)),
+    Some((*b"lookupswitch    ", Form::Switch, Pool::NoPool)),
+    Some((*b"pushwith        ", Form::Plain, Pool::NoPool)),
+    Some((*b"popscope        ", Form::Plain, Pool::NoPool)),
+    Some((*b"nextname        ", Form::Plain, Pool::NoPool)),
+    Some((*b"hasnext         ", Form::Plain, Pool::NoPool)),
+    // 20 to 2f
+    Some((*b"pushnull        ", Form::Plain, Pool::NoPool)),
+    Some((*b"pushundefined   ", Form::Plain, Pool::NoPool)),
+    None,
+    Some((*b"nextvalue       ", Form::Plain, Pool::NoPool)),
+    Some((*b"pushbyte        ", Form::Byte, Pool::NoPool)),
+    Some((*b"pushshort       ", Form::Short, Pool::NoPool)),
+    Some((*b"pushtrue        ", Form::Plain, Pool::NoPool)),
+    Some((*b"pushfalse       ", Form::Plain, Pool::NoPool)),
+    Some((*b"pushnan         ", Form::Plain, Pool::NoPool)),
+    Some((*b"pop             ", Form::Plain, Pool::NoPool)),
+    Some((*b"dup             ", Form::Plain, Pool::NoPool)),
+    Some((*b"swap            ", Form::Plain, Pool::NoPool)),
+    Some((*b"pushstring      ", Form::One, Pool::Text)),
+    Some((*b"pushint         ", Form::One, Pool::Int)),
+    Some((*b"pushuint        ", Form::One, Pool::UInt)),
+    Some((*b"pushdouble      ", Form::One, Pool::Double)),
+    // 30 to 3f
+    Some((*b"pushscope       ", Form::Plain, Pool::NoPool)),
+    Some((*b"pushnamespace   ", Form::One, Pool::Space)),
+    Some((*b"hasnext2        ", Form::Two, Pool::NoPool)),
+    None,
+    None,
+    None,
+    None,
+    None,
+    None,
+    None,
+    None,
+    None,
+    None,
+    None,
+    None,
+    None,
+    // 40 to 4f
+    Some((*b"newfunction     ", Form::One, Pool::NoPool)),
+    Some((*b"call            ", Form::One, Pool::NoPool)),
+    Some((*b"construct       ", Form::One, Pool::NoPool)),
+    Some((*b"callmethod      ", Form::Two, Pool::NoPool)),
+    Some((*b"callstatic      ", Form::Two, Pool::NoPool)),
+    Some((*b"callsuper       ", Form::Two, Pool::Name)),
+    Some((*b"callproperty    ", Form::Two, Pool::Name)),
+    Some((*b"returnvoid      ", Form::Plain, Pool::NoPool)),
+    Some((*b"returnvalue     ", Form::Plain, Pool::NoPool)),
+    Some((*b"constructsuper  ", Form::One, Pool::NoPool)),
+    Some((*b"constructprop   ", Form::Two, Pool::Name)),
+    None,
+    Some((*b"callproplex     ", Form::Two, Pool::Name)),
+    None,
+    Some((*b"callsupervoid   ", Form::Two, Pool::Name)),
+    Some((*b"callpropvoid    ", Form::Two, Pool::Name)),
+    // 50 to 5f
+    None,
+    None,
+    None,
+    None,
+    None,
+    Some((*b"newobject       ", Form::One, Pool::NoPool)),
+    Some((*b"newarray        ", Form::One, Pool::NoPool)),
+    Some((*b"newactivation   ", Form::Plain, Pool::NoPool)),
+    Some((*b"newclass        ", Form::One, Pool::NoPool)),
+    Some((*b"getdescendants  ", Form::One, Pool::Name)),
+    Some((*b"newcatch        ", Form::One, Pool::NoPool)),
+    None,
+    None,
+    Some((*b"findpropstrict  ", Form::One, Pool::Name)),
+    Some((*b"findproperty    ", Form::One, Pool::Name)),
+    None,
+    // 60 to 6f
+    Some((*b"getlex          ", Form::One, Pool::Name)),
+    Some((*b"setproperty     ", Form::One, Pool::Name)),
+    Some((*b"getlocal        ", Form::One, Pool::NoPool)),
+    Some((*b"setlocal        ", Form::One, Pool::NoPool)),
+    Some((*b"getglobalscope  ", Form::Plain, Pool::NoPool)),
+    Some((*b"getscopeobject  ", Form::ScopeObject, Pool::NoPool)),
+    Some((*b"getproperty     ", Form::One, Pool::Name)),
+    None,
+    Some((*b"initproperty    ", Form::One, Pool::Name)),
+    None,
+    Some((*b"deleteproperty  ", Form::One, Pool::Name)),
+    None,
+    Some((*b"getslot         ", Form::One, Pool::NoPool)),
+    Some((*b"setslot         ", Form::One, Pool::NoPool)),
+    Some((*b"getglobalslot   ", Form::One, Pool::NoPool)),
+    Some((*b"setglobalslot   ", Form::One, Pool::NoPool)),
+    // 70 to 7f
+    Some((*b"convert_s       ", Form::Plain, Pool::NoPool)),
+    Some((*b"esc_xelem       ", Form::Plain, Pool::NoPool)),
+    Some((*b"esc_xattr       ", Form::Plain, Pool::NoPool)),
+    Some((*b"convert_i       ", Form::Plain, Pool::NoPool)),
+    Some((*b"convert_u       ", Form::Plain, Pool::NoPool)),
+    Some((*b"convert_d       ", Form::Plain, Pool::NoPool)),
+    Some((*b"convert_b       ", Form::Plain, Pool::NoPool)),
+    Some((*b"convert_o       ", Form::Plain, Pool::NoPool)),
+    Some((*b"checkfilter     ", Form::Plain, Pool::NoPool)),
+    None,
+    None,
+    None,
+    None,
+    None,
+    None,
+    None,
+    // 80 to 8f
+    Some((*b"coerce          ", Form::One, Pool::Name)),
+    None,
+    Some((*b"coerce_a        ", Form::Plain, Pool::NoPool)),
+    None,
+    None,
+    Some((*b"coerce_s        ", Form::Plain, Pool::NoPool)),
+    Some((*b"astype          ", Form::One, Pool::Name)),
+    Some((*b"astypelate      ", Form::Plain, Pool::NoPool)),
+    None,
+    None,
+    None,
+    None,
+    None,
+    None,
+    None,
+    None,
+    // 90 to 9f
+    Some((*b"negate          ", Form::Plain, Pool::NoPool)),
+    Some((*b"increment       ", Form::Plain, Pool::NoPool)),
+    Some((*b"inclocal        ", Form::One, Pool::NoPool)),
+    Some((*b"decrement       ", Form::Plain, Pool::NoPool)),
+    Some((*b"declocal        ", Form::One, Pool::NoPool)),
+    Some((*b"typeof          ", Form::Plain, Pool::NoPool)),
+    Some((*b"not             ", Form::Plain, Pool::NoPool)),
+    Some((*b"bitnot          ", Form::Plain, Pool::NoPool)),
+    None,
+    None,
+    None,
+    None,
+    None,
+    None,
+    None,
+    None,
+    // a0 to af
+    Some((*b"add             ", Form::Plain, Pool::NoPool)),
+    Some((*b"subtract        ", Form::Plain, Pool::NoPool)),
+    Some((*b"multiply        ", Form::Plain, Pool::NoPool)),
+    Some((*b"divide          ", Form::Plain, Pool::NoPool)),
+    Some((*b"modulo          ", Form::Plain, Pool::NoPool)),
+    Some((*b"lshift          ", Form::Plain, Pool::NoPool)),
+    Some((*b"rshift          ", Form::Plain, Pool::NoPool)),
+    Some((*b"urshift         ", Form::Plain, Pool::NoPool)),
+    Some((*b"bitand          ", Form::Plain, Pool::NoPool)),
+    Some((*b"bitor           ", Form::Plain, Pool::NoPool)),
+    Some((*b"bitxor          ", Form::Plain, Pool::NoPool)),
+    Some((*b"equals          ", Form::Plain, Pool::NoPool)),
+    Some((*b"strictequals    ", Form::Plain, Pool::NoPool)),
+    Some((*b"lessthan        ", Form::Plain, Pool::NoPool)),
+    Some((*b"lessequals      ", Form::Plain, Pool::NoPool)),
+    Some((*b"greaterthan     ", Form::Plain, Pool::NoPool)),
+    // b0 to bf
+    Some((*b"greaterequals   ", Form::Plain, Pool::NoPool)),
+    Some((*b"instanceof      ", Form::Plain, Pool::NoPool)),
+    Some((*b"istype          ", Form::One, Pool::Name)),
+    Some((*b"istypelate      ", Form::Plain, Pool::NoPool)),
+    Some((*b"in              ", Form::Plain, Pool::NoPool)),
+    None,
+    None,
+    None,
+    None,
+    None,
+    None,
+    None,
+    None,
+    None,
+    None,
+    None,
+    // c0 to cf
+    Some((*b"increment_i     ", Form::Plain, Pool::NoPool)),
+    Some((*b"decrement_i     ", Form::Plain, Pool::NoPool)),
+    Some((*b"inclocal_i      ", Form::One, Pool::NoPool)),
+    Some((*b"declocal_i      ", Form::One, Pool::NoPool)),
+    Some((*b"negate_i        ", Form::Plain, Pool::NoPool)),
+    Some((*b"add_i           ", Form::Plain, Pool::NoPool)),
+    Some((*b"subtract_i      ", Form::Plain, Pool::NoPool)),
+    Some((*b"multiply_i      ", Form::Plain, Pool::NoPool)),
+    None,
+    None,
+    None,
+    None,
+    None,
+    None,
+    None,
+    None,
+    // d0 to df
+    Some((*b"getlocal_0      ", Form::Plain, Pool::NoPool)),
+    Some((*b"getlocal_1      ", Form::Plain, Pool::NoPool)),
+    Some((*b"getlocal_2      ", Form::Plain, Pool::NoPool)),
+    Some((*b"getlocal_3      ", Form::Plain, Pool::NoPool)),
+    Some((*b"setlocal_0      ", Form::Plain, Pool::NoPool)),
+    Some((*b"setlocal_1      ", Form::Plain, Pool::NoPool)),
+    Some((*b"setlocal_2      ", Form::Plain, Pool::NoPool)),
+    Some((*b"setlocal_3      ", Form::Plain, Pool::NoPool)),
+    None,
+    None,
+    None,
+    None,
+    None,
+    None,
+    None,
+    None,
+    // e0 to ef
+    None,
+    None,
+    None,
+    None,
+    None,
+    None,
+    None,
+    None,
+    None,
+    None,
+    None,
+    None,
+    None,
+    None,
+    None,
+    Some((*b"debug           ", Form::Debug, Pool::Text)),
+    // f0 to ff
+    Some((*b"debugline       ", Form::One, Pool::NoPool)),
+    Some((*b"debugfile       ", Form::One, Pool::Text)),
+    None,
+    None,
+    None,
+    None,
+    None,
+    None,
+    None,
+    None,
+    None,
+    None,
+    None,
+    None,
+    None,
     None,
 ];
 
@@ -1430,7 +327,10 @@ pub fn opcode(op: u8) -> Option<OpInfo>
     ensures { result ≡ info_at op }
 {
     match row_at(&OPCODES, op) {
-        Some(row) => Some(row.info),
+        Some((_, form, pool)) => Some(OpInfo {
+            form: *form,
+            pool: *pool,
+        }),
         None => None,
     }
 }
@@ -1453,7 +353,7 @@ pub fn mnemonic(op: u8) -> Option<&'static [u8]>
     ensures { option_map (λ s. s.now) result ≡ name_at op }
 {
     match row_at(&OPCODES, op) {
-        Some(row) => Some(before_blank_of(&row.name)),
+        Some((name, _, _)) => Some(before_blank_of(name)),
         None => None,
     }
 }

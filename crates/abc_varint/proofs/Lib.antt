@@ -1,0 +1,7 @@
+pub mod Held
+pub mod Loop
+pub mod Chunks
+pub mod Fill
+pub mod Answering
+pub mod Steps
+pub mod Putting

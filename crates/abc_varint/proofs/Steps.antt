@@ -1,0 +1,33 @@
+-- One step of reading a number.
+use Rattle.std.proofs.Common.{◌≡◌, ℕ, zero, suc, ◌+◌, ◌-◌, ◌*◌, ◌%◌, ◌^◌, ◌<◌, ◌≤◌, cond, ltb, Ok, refl, subst, arith}
+use Rattle.abc_format.specs.Part.{At, ◌>>=◌}
+use Rattle.abc_format.specs.Numbers.{u8, groups}
+
+pub groups_step : (k start : ℕ) (from : At) → 0 < k
+    → groups k start from ≡ u8.reads from >>= λ x. cond (ltb x.0 128) (Ok x) (groups (k - 1) start x.1 >>= λ y. Ok (x.0 % 128 + 128 * y.0, y.1))
+unfolding u8
+groups_step zero start from lt = absurd (omega arith)
+groups_step (suc k) start from lt = let e : suc k - 1 ≡ k = omega arith in rw e refl
+
+pub bound_step : (k x y : ℕ) → 0 < k → y < 128 ^ (k - 1) → x % 128 + 128 * y < 128 ^ k
+bound_step zero x y lt h = absurd (omega arith)
+bound_step (suc k) x y lt h =
+    let e : suc k - 1 ≡ k = omega arith in
+    let h2 : y < 128 ^ k = rw (← e) h in
+    omega arith
+
+one_le : (k : ℕ) → 1 ≤ 128 ^ k
+one_le zero = omega arith
+one_le (suc k) = omega (arith, one_le k)
+
+pub bound_one : (k x : ℕ) → 0 < k → x < 128 → x < 128 ^ k
+bound_one zero x lt h = absurd (omega arith)
+bound_one (suc k) x lt h = omega (arith, one_le k)
+
+-- five groups are 35 bits
+pub bound_all : (k y : ℕ) → k ≤ 4 → y < 128 ^ k → y < 268435456
+bound_all zero y le h = omega arith
+bound_all (suc zero) y le h = omega arith
+bound_all (suc (suc zero)) y le h = omega arith
+bound_all (suc (suc (suc zero))) y le h = omega arith
+bound_all (suc (suc (suc (suc k)))) y le h = let z : k ≡ 0 = omega arith in let h2 : y < 128 ^ 4 = subst (λ (n : ℕ). y < 128 ^ suc (suc (suc (suc n)))) z h in omega arith
