@@ -353,7 +353,7 @@ pub fn mnemonic(op: u8) -> Option<&'static [u8]>
     ensures { option_map (λ s. s.now) result ≡ name_at op }
 {
     match row_at(&OPCODES, op) {
-        Some((name, _, _)) => Some(before_blank_of(name)),
+        Some(row) => Some(before_blank_of(&row.0)),
         None => None,
     }
 }
