@@ -3,3 +3,11 @@ pub mod Methods
 pub mod Traits
 pub mod Classes
 pub mod Files
+pub mod Opcodes
+pub mod Instructions
+pub mod Starts
+pub mod Targets
+pub mod Code
+pub mod CodeBytes
+pub mod Ready
+pub mod Places

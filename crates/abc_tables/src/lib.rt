@@ -4,15 +4,19 @@
 
 mod classes;
 mod code;
+mod instructions;
 mod methods;
 mod names;
+mod opcodes;
 mod tables;
 mod traits;
 
 pub use abc_base::{Bytes, Table};
 pub use classes::{ClassInfo, Instance, Script};
 pub use code::{Body, Handler, Instr};
+pub use instructions::{Code, code_len, instr_len};
 pub use methods::{Metadata, Method, OptionValue, ValueKind};
 pub use names::{Multiname, MultinameForm, MultinameKind, Namespace, NsKind};
+pub use opcodes::{Form, OpInfo, Pool, mnemonic, opcode};
 pub use tables::{Abc, Eight, Sizes};
 pub use traits::{TraitBody, TraitInfo, TraitKind};
