@@ -7,3 +7,4 @@ pub mod Meaning
 pub mod CodeExact
 pub mod CodeShortest
 pub mod Lengths
+pub mod BodiesExact

@@ -11,3 +11,4 @@ pub mod Code
 pub mod CodeBytes
 pub mod Ready
 pub mod Places
+pub mod Bodies
