@@ -1,0 +1,5 @@
+pub mod Held
+pub mod Loop
+pub mod Fill
+pub mod Answering
+pub mod Steps

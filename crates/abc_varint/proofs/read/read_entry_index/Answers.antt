@@ -1,0 +1,6 @@
+use Rattle.abc_format.proofs.Numbers.{entry_index-exact}
+use Rattle.abc_varint.proofs.Answering.{answers}
+use Rattle.abc_varint.proofs.read.read_entry_index.Goals as goal
+
+pub returns-clause-answers : goal.returns-clause-answers
+returns-clause-answers g c = answers _ (entry_index-exact c.args.n) _ _ _ _ _ c.next_entry_index.ensures.room c.next_entry_index.ensures.value.0

@@ -1,0 +1,20 @@
+-- What a reader's answer says of the bytes.
+use Rattle.std.specs.Prelude.{◌≡◌, ℕ, true, List, None, Ok, Err}
+use Rattle.std.specs.declared.result.Result.{Result}
+use Rattle.std.specs.declared.option.Option.{Option}
+use Rattle.abc_format.specs.Part.{Part, At, Begins, refusal}
+use Rattle.abc_varint.specs.declared.error.ReadError.{ReadError}
+use Rattle.abc_varint.specs.declared.error.ReadError.TheVariants as errors
+use Rattle.abc_varint.specs.Reads.{stand, tells}
+use Rattle.abc_varint.specs.View.{View}
+
+-- a value is spelled by the bytes between the two, and a refusal is the first fault of what stands ahead
+abbrev pub IsAnswer : {X : Type 0} → Part X → At → At → Result X ReadError → Type 0
+IsAnswer part from to (Ok x) = Begins part from x to
+IsAnswer part from to (Err (errors.Refused place reason)) = part.bad from (refusal place reason)
+IsAnswer part from to (Err errors.ReadFault) = Unit {0}
+IsAnswer part from to (Err errors.NoMemory) = Unit {0}
+
+-- So it is where the window kept nothing and the source tells its bytes.
+abbrev pub Answers : {X : Type 0} → Part X → View → Option (List ℕ) → View → Option (List ℕ) → Result X ReadError → Type 0
+Answers part w s w2 s2 r = w.kept ≡ None → tells s ≡ true → IsAnswer part (stand w s) (stand w2 s2) r

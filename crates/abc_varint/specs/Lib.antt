@@ -1,0 +1,4 @@
+pub mod View
+pub mod Reads
+pub mod Answers
+pub mod Puts

@@ -1,0 +1,22 @@
+//! Numbers, texts and lists of them, read from a source through a window and appended to bytes.
+#![tactic(auto)]
+
+mod codec;
+mod error;
+mod number;
+mod put;
+mod read;
+mod window;
+
+pub use abc_base::{len_u30, len_u32};
+pub use abc_format::Reason;
+pub use codec::{
+    Codec, Counted, put_counted, put_items, put_pool, read_counted, read_pool, read_times,
+};
+pub use error::ReadError;
+pub use put::{put_count, put_s24, put_s32, put_text, put_u8, put_u16, put_u30, put_u32};
+pub use read::{
+    read_entry_index, read_index_below, read_pool_index, read_s24, read_s32, read_u8, read_u16,
+    read_u30, read_u32,
+};
+pub use window::Window;

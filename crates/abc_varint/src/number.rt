@@ -1,0 +1,174 @@
+ghost use Rattle.std.specs.Prelude.{◌≡◌, ◌≤◌, ◌<◌, ◌*◌, ◌+◌, ◌^◌, Some, Err, IfOk, IfErr, OnOk};
+ghost use Rattle.abc_format.specs.Numbers.{groups, number, u16 as two_bytes, u30 as small, u32 as wide, s24 as offset, s32 as signed, index_below as below, pool_index as in_pool, entry_index as of_entry};
+ghost use Rattle.abc_varint.specs.Reads.{Blames, Reads, ReadsNumber, ReadsPart};
+ghost use Rattle.abc_varint.specs.declared.error.ReadError.{ReadError};
+
+use crate::error::ReadError;
+use crate::window::Window;
+use abc_base::Source;
+use abc_format::Reason;
+
+/// At most `more` further bytes of a number that began at `start`.
+#[tactic(auto, using(crate::proofs::Steps::groups_step, crate::proofs::Steps::bound_step, crate::proofs::Steps::bound_one))]
+fn next_groups<S: Source>(
+    w: &mut Window,
+    source: &mut S,
+    more: u32,
+    start: u32,
+) -> Result<u64, ReadError>
+    requires { more ≤ 5 }
+    ensures value { Reads (groups more start) w.old (S.left source.old) w.new (S.left source.new) result }
+    ensures kept { (e : ReadError) → w.old.kept ≡ Some e → 0 < more → result ≡ Err e }
+    ensures no_memory { result ≡ Err ReadError.NoMemory → ⊥ }
+    ensures keeps { IfErr result (λ e. w.new.kept ≡ Some e) }
+    ensures bound { IfOk result (λ x. x < 128 ^ more) }
+    ensures later { S.faults source.old ≤ S.faults source.new }
+    ensures cause { Blames w.old (S.faults source.old) (S.faults source.new) result }
+    ensures rises { OnOk result (0 < more → w.old.place < w.new.place) }
+{
+    if more == 0 {
+        return Err(w.refuse(start, Reason::LongNumber));
+    }
+    let x = w.next_u8(source)?;
+    if x < 128 {
+        return Ok(x as u64);
+    }
+    let high = next_groups(w, source, more - 1, start)?;
+    Ok((x % 128) as u64 + 128 * high)
+}
+
+/// A raw value of up to 35 bits.
+#[tactic(auto, using(crate::proofs::Steps::bound_all))]
+fn next_number<S: Source>(w: &mut Window, source: &mut S) -> Result<u64, ReadError>
+    ensures value { ReadsNumber S.left S.faults number w.old source.old w.new source.new result }
+    ensures bound { IfOk result (λ x. x < 2 ^ 35) }
+    ensures rises { OnOk result (w.old.place < w.new.place) }
+    ensures room { w.old.place ≤ 2 ^ 24 }
+{
+    let start = w.place();
+    next_groups(w, source, 5, start)
+}
+
+/// A number below 2^30.
+#[tactic(auto, unfolding(abc_format::specs::Numbers::u30))]
+pub fn next_u30<S: Source>(w: &mut Window, source: &mut S) -> Result<u32, ReadError>
+    ensures value { ReadsNumber S.left S.faults small w.old source.old w.new source.new result }
+    ensures bound { IfOk result (λ x. x < 2 ^ 30) }
+    ensures rises { OnOk result (w.old.place < w.new.place) }
+    ensures room { w.old.place ≤ 2 ^ 24 }
+{
+    let start = w.place();
+    let x = next_number(w, source)?;
+    if x >= 1 << 30 {
+        return Err(w.refuse(start, Reason::BigNumber));
+    }
+    Ok(x as u32)
+}
+
+/// The low 32 bits of a raw value.
+#[tactic(auto, unfolding(abc_format::specs::Numbers::u32))]
+pub fn next_u32<S: Source>(w: &mut Window, source: &mut S) -> Result<u32, ReadError>
+    ensures value { ReadsNumber S.left S.faults wide w.old source.old w.new source.new result }
+    ensures rises { OnOk result (w.old.place < w.new.place) }
+    ensures room { w.old.place ≤ 2 ^ 24 }
+{
+    let x = next_number(w, source)?;
+    Ok((x % (1 << 32)) as u32)
+}
+
+/// The low 32 bits of a raw value, in two's complement.
+#[tactic(auto, unfolding(abc_format::specs::Numbers::s32))]
+pub fn next_s32<S: Source>(w: &mut Window, source: &mut S) -> Result<i32, ReadError>
+    ensures value { ReadsNumber S.left S.faults signed w.old source.old w.new source.new result }
+    ensures rises { OnOk result (w.old.place < w.new.place) }
+    ensures room { w.old.place ≤ 2 ^ 24 }
+{
+    let x = next_number(w, source)?;
+    Ok(((x % (1 << 32)) as u32).cast_signed())
+}
+
+/// Two bytes, the low one first.
+#[tactic(auto, unfolding(abc_format::specs::Numbers::u16))]
+pub fn next_u16<S: Source>(w: &mut Window, source: &mut S) -> Result<u16, ReadError>
+    ensures value { ReadsNumber S.left S.faults two_bytes w.old source.old w.new source.new result }
+    ensures moves { OnOk result (w.new.place ≡ w.old.place + 2) }
+    ensures room { w.old.place ≤ 2 ^ 24 }
+{
+    let low = w.next_u8(source)?;
+    let high = w.next_u8(source)?;
+    Ok(low as u16 + 256 * high as u16)
+}
+
+/// Three bytes, the low one first, in two's complement.
+#[tactic(auto, unfolding(abc_format::specs::Numbers::s24))]
+pub fn next_s24<S: Source>(w: &mut Window, source: &mut S) -> Result<i32, ReadError>
+    ensures value { ReadsNumber S.left S.faults offset w.old source.old w.new source.new result }
+    ensures moves { OnOk result (w.new.place ≡ w.old.place + 3) }
+    ensures room { w.old.place ≤ 2 ^ 24 }
+{
+    let a = w.next_u8(source)?;
+    let b = w.next_u8(source)?;
+    let c = w.next_u8(source)?;
+    let raw = a as u32 + 256 * b as u32 + 65536 * c as u32;
+    if raw < 1 << 23 {
+        return Ok(raw as i32);
+    }
+    Ok(raw as i32 - (1 << 24))
+}
+
+/// A position in a table of n entries.
+#[tactic(auto, unfolding(abc_format::specs::Numbers::index_below))]
+pub fn next_index_below<S: Source>(w: &mut Window, source: &mut S, n: u32) -> Result<u32, ReadError>
+    ensures value { ReadsPart S.left S.faults (below n) w.old source.old w.new source.new result }
+    ensures no_memory { result ≡ Err ReadError.NoMemory → ⊥ }
+    ensures rises { OnOk result (w.old.place < w.new.place) }
+    ensures room { w.old.place ≤ 2 ^ 24 }
+{
+    let place = w.place();
+    let x = next_u30(w, source)?;
+    if x >= n {
+        return Err(ReadError::Refused {
+            place,
+            reason: Reason::Index,
+        });
+    }
+    Ok(x)
+}
+
+/// An index into a pool of n entries, or 0.
+#[tactic(auto, unfolding(abc_format::specs::Numbers::pool_index))]
+pub fn next_pool_index<S: Source>(w: &mut Window, source: &mut S, n: u32) -> Result<u32, ReadError>
+    ensures value { ReadsPart S.left S.faults (in_pool n) w.old source.old w.new source.new result }
+    ensures no_memory { result ≡ Err ReadError.NoMemory → ⊥ }
+    ensures rises { OnOk result (w.old.place < w.new.place) }
+    ensures room { w.old.place ≤ 2 ^ 24 }
+{
+    let place = w.place();
+    let x = next_u30(w, source)?;
+    if x > n {
+        return Err(ReadError::Refused {
+            place,
+            reason: Reason::Index,
+        });
+    }
+    Ok(x)
+}
+
+/// An index into a pool of n entries, not 0.
+#[tactic(auto, unfolding(abc_format::specs::Numbers::entry_index))]
+pub fn next_entry_index<S: Source>(w: &mut Window, source: &mut S, n: u32) -> Result<u32, ReadError>
+    ensures value { ReadsPart S.left S.faults (of_entry n) w.old source.old w.new source.new result }
+    ensures no_memory { result ≡ Err ReadError.NoMemory → ⊥ }
+    ensures rises { OnOk result (w.old.place < w.new.place) }
+    ensures room { w.old.place ≤ 2 ^ 24 }
+{
+    let place = w.place();
+    let x = next_u30(w, source)?;
+    if x < 1 || x > n {
+        return Err(ReadError::Refused {
+            place,
+            reason: Reason::Index,
+        });
+    }
+    Ok(x)
+}

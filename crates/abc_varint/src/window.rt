@@ -1,0 +1,219 @@
+ghost use Rattle.std.specs.Prelude.{◌≡◌, ◌+◌, ◌-◌, ◌∷◌, ◌++◌, ◌<◌, ◌≤◌, ◌^◌, ◌⊎◌, List, ℕ, None, Some, IfOk, OnOk, OnErr, IfErr, [], true, is_some, length, Result, Ok, Err, IsTrue, ◌↔◌};
+ghost use Rattle.std.specs.Io.{ReadsAtMost};
+ghost use Rattle.std.specs.Io.KnownBytes.{ReadConsumes};
+ghost use Rattle.abc_base.specs.Faults.{HasCause, Rose};
+ghost use Rattle.abc_format.specs.Numbers.{u8 as octet};
+ghost use Rattle.abc_varint.specs.View.{NextOf};
+ghost use Rattle.abc_varint.specs.declared.error.ReadError.{ReadError};
+ghost use Rattle.abc_varint.specs.Reads.{Blames, Reads, stand, tells};
+
+use crate::error::ReadError;
+use abc_base::{Failed, NoMemory, Source};
+use abc_format::Reason;
+use std::alloc::Global;
+use std::marker::Model;
+
+/// The most bytes that are held.
+const BLOCK: usize = 4096;
+
+/// The end where none is set.
+const NO_END: u32 = 1 << 25;
+
+/// The place of the first byte past the longest file, 2^24.
+const LIMIT: u32 = 1 << 24;
+
+/// Bytes that were taken from a source, and not read yet, at most 4,096 of them. However much the source gives, at most
+/// 2^24 + 1 bytes are taken from it in all: one more than the longest file has.
+#[derive(Drop)]
+pub struct Window {
+    block: Vec<u8>,
+    from: usize,
+    to: usize,
+    place: u32,
+    kept: Option<ReadError>,
+    end: u32,
+}
+
+impl Model for Window {
+    ghost use Rattle.std.specs.Prelude.{◌+◌, ◌-◌, ◌≤◌, ◌<◌, ◌^◌, take, drop, length};
+    ghost use Rattle.std.specs.Prelude.{◌≡◌, Some};
+    ghost use Rattle.abc_varint.specs.View.{View};
+    ghost use Rattle.abc_varint.specs.declared.error.ReadError.TheVariants as errors;
+
+    ghost Value = { View };
+
+    ghost view = { λ w. record { place = w.place; held = take (w.to - w.from) (drop w.from w.block.items); kept = w.kept; end = w.end } };
+
+    ghost invariant = { λ w. (w.from ≤ w.to) × (w.to ≤ length w.block.items) × (length w.block.items ≡ 4096) × (w.place ≤ 2 ^ 24) × (w.place + (w.to - w.from) ≤ 2 ^ 24 + 1) × (w.kept ≡ Some errors.NoMemory → ⊥) };
+}
+
+impl Window {
+    /// A window at place 0, with no bytes. Its block is made here, once.
+    pub fn new(alloc: Global) -> Result<Window, NoMemory>
+        ensures place { IfOk result (λ w. w.place ≡ 0) }
+        ensures held { IfOk result (λ w. w.held ≡ []) }
+        ensures kept { IfOk result (λ w. w.kept ≡ None) }
+        ensures end { IfOk result (λ w. w.end ≡ 2 ^ 25) }
+    {
+        let block = vec![in alloc; 0u8; BLOCK]?;
+        Ok(Window {
+            block,
+            from: 0,
+            to: 0,
+            place: 0,
+            kept: None,
+            end: NO_END,
+        })
+    }
+
+    /// The place of the next byte; places count from 0.
+    pub fn place(&self) -> u32
+        ensures is { result ≡ self.now.place }
+        ensures bound { result ≤ 2 ^ 24 }
+    {
+        self.place
+    }
+
+    /// The place that no byte is read from: 2^25, unless another was set.
+    pub fn end(&self) -> u32
+        ensures { result ≡ self.now.end }
+    {
+        self.end
+    }
+
+    /// From now on no byte from this place on is read: a read of it is refused by `CodeEnds`.
+    pub fn set_end(&mut self, end: u32)
+        ensures { self.new ≡ record self.old { end = end } }
+    {
+        self.end = end;
+    }
+
+    /// Keeps a refusal, and gives it.
+    pub fn refuse(&mut self, place: u32, reason: Reason) -> ReadError
+        ensures is { result ≡ ReadError.Refused place reason }
+        ensures keeps { self.new ≡ record self.old { kept = Some result } }
+    {
+        let e = ReadError::Refused { place, reason };
+        self.kept = Some(e);
+        e
+    }
+
+    /// Whether no byte follows, whatever the end is. The source is asked if no byte is held. A kept Err is answered
+    /// again. `ReadFault` comes only where the source's count of faults rose, and is kept.
+    pub fn is_at_end<S: Source>(&mut self, source: &mut S) -> Result<bool, ReadError>
+        ensures ok { OnOk result ((self.old.kept ≡ None) × (self.new.kept ≡ None) × (self.new.place ≡ self.old.place) × (self.new.end ≡ self.old.end)) }
+        ensures same { OnOk result (tells (S.left source.old) ≡ true → (tells (S.left source.new) ≡ true) × (stand self.new (S.left source.new) ≡ stand self.old (S.left source.old))) }
+        ensures value { IfOk result (λ b. tells (S.left source.old) ≡ true → (IsTrue b ↔ ((stand self.old (S.left source.old)).bytes ≡ []))) }
+        ensures keeps { IfErr result (λ e. self.new.kept ≡ Some e) }
+        ensures kept { (e : ReadError) → self.old.kept ≡ Some e → result ≡ Err e }
+        ensures no_memory { result ≡ Err ReadError.NoMemory → ⊥ }
+        ensures fault { self.old.kept ≡ None → IfErr result (λ e. e ≡ ReadError.ReadFault) }
+        ensures later { S.faults source.old ≤ S.faults source.new }
+        ensures cause { self.old.kept ≡ None → OnErr result (Rose (S.faults source.old) (S.faults source.new)) }
+    {
+        if let Some(e) = self.kept {
+            return Err(e);
+        }
+        if self.from == self.to {
+            self.fill(source)?;
+        }
+        Ok(self.from == self.to)
+    }
+
+    /// The next byte of those that are held.
+    fn next(&mut self) -> Result<u8, ReadError>
+        requires { self.old.kept ≡ None }
+        ensures next { NextOf self.old.end self.old.place self.old.held self.new result }
+        ensures moves { OnOk result (self.new.place ≡ self.old.place + 1) }
+        ensures no_memory { result ≡ Err ReadError.NoMemory → ⊥ }
+    {
+        let place = self.place;
+        if place >= self.end {
+            return Err(self.refuse(place, Reason::CodeEnds));
+        }
+        if self.from == self.to {
+            return Err(self.refuse(place, Reason::Short));
+        }
+        if place >= LIMIT {
+            return Err(self.refuse(place, Reason::FileTooLong));
+        }
+        let x = self.block[self.from];
+        self.from += 1;
+        self.place = place + 1;
+        Ok(x)
+    }
+
+    /// Has a byte at hand, unless nothing is left.
+    fn prepare<S: Source>(&mut self, source: &mut S) -> Result<(), ReadError>
+        ensures ok { OnOk result ((self.old.kept ≡ None) × (self.new.kept ≡ None) × (self.new.place ≡ self.old.place) × (self.new.end ≡ self.old.end)) }
+        ensures same { OnOk result (tells (S.left source.old) ≡ true → (tells (S.left source.new) ≡ true) × (stand self.new (S.left source.new) ≡ stand self.old (S.left source.old))) }
+        ensures end { OnOk result (self.old.place < self.old.end → self.new.held ≡ [] → tells (S.left source.old) ≡ true → (stand self.new (S.left source.new)).bytes ≡ []) }
+        ensures keeps { IfErr result (λ e. self.new.kept ≡ Some e) }
+        ensures kept { (e : ReadError) → self.old.kept ≡ Some e → result ≡ Err e }
+        ensures no_memory { result ≡ Err ReadError.NoMemory → ⊥ }
+        ensures fault { self.old.kept ≡ None → IfErr result (λ e. e ≡ ReadError.ReadFault) }
+        ensures later { S.faults source.old ≤ S.faults source.new }
+        ensures cause { self.old.kept ≡ None → OnErr result (Rose (S.faults source.old) (S.faults source.new)) }
+    {
+        if let Some(e) = self.kept {
+            return Err(e);
+        }
+        if self.from == self.to && self.place < self.end {
+            return self.fill(source);
+        }
+        Ok(())
+    }
+
+    /// Takes bytes from the source, where none are held.
+    fn fill<S: Source>(&mut self, source: &mut S) -> Result<(), ReadError>
+        requires empty { self.old.held ≡ [] }
+        requires fresh { self.old.kept ≡ None }
+        ensures ok { OnOk result ((self.new.kept ≡ None) × (self.new.place ≡ self.old.place) × (self.new.end ≡ self.old.end)) }
+        ensures same { OnOk result (tells (S.left source.old) ≡ true → (tells (S.left source.new) ≡ true) × (stand self.new (S.left source.new) ≡ stand self.old (S.left source.old))) }
+        ensures end { OnOk result (self.new.held ≡ [] → tells (S.left source.old) ≡ true → (stand self.new (S.left source.new)).bytes ≡ []) }
+        ensures keeps { IfErr result (λ e. (e ≡ ReadError.ReadFault) × (self.new.kept ≡ Some e)) }
+        ensures later { S.faults source.old ≤ S.faults source.new }
+        ensures cause { OnErr result (Rose (S.faults source.old) (S.faults source.new)) }
+    {
+        let room = BLOCK.min((LIMIT + 1 - self.place) as usize);
+        match read_front(source, &mut self.block, room) {
+            Ok(count) => {
+                self.from = 0;
+                self.to = count;
+                Ok(())
+            }
+            Err(_) => {
+                self.kept = Some(ReadError::ReadFault);
+                Err(ReadError::ReadFault)
+            }
+        }
+    }
+
+    /// The next byte.
+    pub fn next_u8<S: Source>(&mut self, source: &mut S) -> Result<u8, ReadError>
+        ensures value { Reads octet.reads self.old (S.left source.old) self.new (S.left source.new) result }
+        ensures keeps { IfErr result (λ e. self.new.kept ≡ Some e) }
+        ensures moves { OnOk result (self.new.place ≡ self.old.place + 1) }
+        ensures kept { (e : ReadError) → self.old.kept ≡ Some e → result ≡ Err e }
+        ensures no_memory { result ≡ Err ReadError.NoMemory → ⊥ }
+        ensures later { S.faults source.old ≤ S.faults source.new }
+        ensures cause { Blames self.old (S.faults source.old) (S.faults source.new) result }
+        ensures room { self.old.place ≤ 2 ^ 24 }
+    {
+        let _ = &self.block;
+        self.prepare(source)?;
+        self.next()
+    }
+}
+
+/// Reads bytes into the front of the block, as many as there is room for or fewer.
+fn read_front<S: Source>(source: &mut S, block: &mut [u8], room: usize) -> Result<usize, Failed>
+    requires some { 0 < room }
+    requires fits { room ≤ length block.old }
+    ensures room { IfOk result (λ n. n ≤ room) }
+    ensures bound { ReadsAtMost result block.new }
+    ensures bytes { ReadConsumes (S.left source.old) (S.left source.new) result block.new }
+    ensures cause { HasCause (S.faults source.old) (S.faults source.new) result }
+{
+    source.read(&mut block[..room])
+}
