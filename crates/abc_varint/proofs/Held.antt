@@ -2,9 +2,10 @@ use Rattle.std.proofs.Common.{◌≡◌, ℕ, suc, ◌+◌, ◌-◌, ◌<◌, �
 use Rattle.std.specs.declared.option.Option.{Option}
 use Rattle.abc_varint.specs.declared.error.ReadError.{ReadError}
 use Rattle.std.specs.declared.result.Result.{Result}
+use Rattle.std.proofs.lemmas.List.{drop-drop, drop-take}
 use Rattle.std.proofs.lemmas.Bool.{le-ltb, lt-ltb}
 use Rattle.abc_format.specs.declared.reason.Reason.TheVariants as reasons
-use Rattle.abc_varint.specs.View.{View, NextOf, NextHere}
+use Rattle.abc_varint.specs.View.{View, NextOf, NextHere, onward}
 use Rattle.abc_format.specs.Part.{At, Refusal, refusal, limit}
 use Rattle.abc_format.specs.Numbers.{byte_at, u8}
 use Rattle.abc_varint.specs.Reads.{Reads, tells, ahead, stand}
@@ -62,3 +63,11 @@ unfolding u8
 is_next v v2 s s1 end place held r fresh from until same ends (inl h) =
     rw h.1 (λ k t. ap by_byte (sym (same t).1) ∙ past end place (ahead held s1) h.0)
 is_next v v2 s s1 end place held r fresh from until same ends (inr h) = next_here v v2 s s1 end place held r fresh from until same (ends h.0) h.0 h.1
+
+-- a window whose block is read on by n bytes
+pub held_onward : (bs : List ℕ) (from to n place end : ℕ) (kept : Option ReadError) (v : View) → record { place = place; held = take (to - from) (drop from bs); kept = kept; end = end } ≡ v → n ≤ to - from
+    → record { place = place + n; held = take (to - (from + n)) (drop (from + n) bs); kept = kept; end = end } ≡ onward n v
+held_onward bs from to n place end kept v is le =
+    let m = to - (from + n) in
+    let e : to - from ≡ n + m = omega arith in
+    rw (← is, e, drop-take n m (drop from bs), drop-drop n from bs) refl

@@ -1,5 +1,6 @@
 pub mod Held
 pub mod Loop
+pub mod Chunks
 pub mod Fill
 pub mod Answering
 pub mod Steps

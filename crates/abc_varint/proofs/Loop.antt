@@ -39,33 +39,29 @@ nothing (Err f) = refl
 pub starts : {A : Type 0} (p : Part A) (n : ℕ) (w : View) (s : Option (List ℕ)) → w.kept ≡ None → Going p n (n - 0) [] w s w s
 starts {A = A} p n w s k = let e : n - 0 ≡ n = omega arith in record { fresh = k; forth = omega arith; ends_at = refl; told = λ t. t; same = λ t. rw e (nothing ((times n p).reads (stand w s))) }
 
-pub goes_on : {A : Type 0} (p : Part A) (total i : ℕ) (items : List A) (w0 : View) (s0 : Option (List ℕ)) (w : View) (s : Option (List ℕ)) (w2 : View) (s2 : Option (List ℕ)) (x : A)
-    → i < total → Going p total (total - i) items w0 s0 w s → Reads p.reads w s w2 s2 (Ok x) → Going p total (total - (i + 1)) (items ++ x ∷ []) w0 s0 w2 s2
-goes_on p total i items w0 s0 w s w2 s2 x lt g r =
-    let k : total - i ≡ suc (total - (i + 1)) = omega arith in
-    record {
-      fresh = r.1;
-      forth = omega (arith, g.forth, r.2);
-      ends_at = r.3 ∙ g.ends_at;
-      told = λ t. (r.4 (g.told t)).0;
-      same = λ t. let e = (r.4 (g.told t)).1 in sym (rw (k, e) (moved items x ((times (total - (i + 1)) p).reads (stand w2 s2)))) ∙ g.same t;
-    }
+pub goes_on : {A : Type 0} (p : Part A) (total more less : ℕ) (items : List A) (w0 : View) (s0 : Option (List ℕ)) (w : View) (s : Option (List ℕ)) (w2 : View) (s2 : Option (List ℕ)) (x : A)
+    → more ≡ suc less → Going p total more items w0 s0 w s → Reads p.reads w s w2 s2 (Ok x) → Going p total less (items ++ x ∷ []) w0 s0 w2 s2
+goes_on p total more less items w0 s0 w s w2 s2 x k g r = record {
+  fresh = r.1;
+  forth = omega (arith, g.forth, r.2);
+  ends_at = r.3 ∙ g.ends_at;
+  told = λ t. (r.4 (g.told t)).0;
+  same = λ t. let e = (r.4 (g.told t)).1 in sym (rw (k, e) (moved items x ((times less p).reads (stand w2 s2)))) ∙ g.same t;
+}
 
-pub ends : {A : Type 0} (e : ReadError) (p : Part A) (total i : ℕ) (items : List A) (w0 : View) (s0 : Option (List ℕ)) (w : View) (s : Option (List ℕ))
-    → i < total → Going p total (total - i) items w0 s0 w s → (w.kept ≡ None → tells s ≡ true → Fails e (p.reads (stand w s))) → tells s0 ≡ true → Fails e ((times total p).reads (stand w0 s0))
-ends (errors.Refused place reason) p total i items w0 s0 w s lt g f t =
-    let k : total - i ≡ suc (total - (i + 1)) = omega arith in
+pub ends : {A : Type 0} (e : ReadError) (p : Part A) (total more : ℕ) (items : List A) (w0 : View) (s0 : Option (List ℕ)) (w : View) (s : Option (List ℕ))
+    → 0 < more → Going p total more items w0 s0 w s → (w.kept ≡ None → tells s ≡ true → Fails e (p.reads (stand w s))) → tells s0 ≡ true → Fails e ((times total p).reads (stand w0 s0))
+ends (errors.Refused place reason) p total more items w0 s0 w s lt g f t =
+    let k : more ≡ suc (more - 1) = omega arith in
     let h : p.reads (stand w s) ≡ Err (refusal place reason) = f g.fresh (g.told t) in
-    let one : with_front items ((times (total - i) p).reads (stand w s)) ≡ Err (refusal place reason) = rw (k, h) refl in
+    let one : with_front items ((times more p).reads (stand w s)) ≡ Err (refusal place reason) = rw (k, h) refl in
     sym (g.same t) ∙ one
-ends errors.ReadFault p total i items w0 s0 w s lt g f t = tt
-ends errors.NoMemory p total i items w0 s0 w s lt g f t = tt
+ends errors.ReadFault p total more items w0 s0 w s lt g f t = tt
+ends errors.NoMemory p total more items w0 s0 w s lt g f t = tt
 
-pub is_done : {A : Type 0} (p : Part A) (total i : ℕ) (items : List A) (w0 : View) (s0 : Option (List ℕ)) (w : View) (s : Option (List ℕ))
-    → total ≤ i → w0.kept ≡ None → Going p total (total - i) items w0 s0 w s → Reads (times total p).reads w0 s0 w s (Ok items)
-is_done {A = A} p total i items w0 s0 w s le fresh g =
-    let k : total - i ≡ 0 = omega arith in
-    (fresh, g.fresh, g.forth, g.ends_at, λ t. (g.told t, sym (g.same t) ∙ rw k (ap (λ (ns : List A). Ok (ns, stand w s)) (append-nil items))))
+pub is_done : {A : Type 0} (p : Part A) (total more : ℕ) (items : List A) (w0 : View) (s0 : Option (List ℕ)) (w : View) (s : Option (List ℕ))
+    → more ≡ 0 → w0.kept ≡ None → Going p total more items w0 s0 w s → Reads (times total p).reads w0 s0 w s (Ok items)
+is_done {A = A} p total more items w0 s0 w s k fresh g = (fresh, g.fresh, g.forth, g.ends_at, λ t. (g.told t, sym (g.same t) ∙ rw k (ap (λ (ns : List A). Ok (ns, stand w s)) (append-nil items))))
 
 abbrev pub failed : (A : Type 0) → ReadError → Result A ReadError
 failed A e = Err e

@@ -1,5 +1,5 @@
 -- What contracts see of a window.
-use Rattle.std.specs.Prelude.{◌≡◌, ℕ, ◌+◌, ◌^◌, ◌<◌, ◌≤◌, ◌⊎◌, List, [], ◌∷◌, Ok, Err, Some, None}
+use Rattle.std.specs.Prelude.{◌≡◌, ℕ, ◌+◌, ◌^◌, ◌<◌, ◌≤◌, ◌⊎◌, List, [], ◌∷◌, Ok, Err, Some, None, drop}
 use Rattle.std.specs.declared.result.Result.{Result}
 use Rattle.std.specs.declared.option.Option.{Option}
 use Rattle.abc_format.specs.declared.reason.Reason.TheVariants as reasons
@@ -28,3 +28,7 @@ abbrev pub NextOf : ℕ → ℕ → List ℕ → View → Result ℕ ReadError �
 NextOf end place held new r =
     ((end ≤ place) × (r ≡ Err (errors.Refused place reasons.CodeEnds)) × (new ≡ record { place = place; held = held; kept = Some (errors.Refused place reasons.CodeEnds); end = end }))
     ⊎ ((place < end) × NextHere end place held new r)
+
+-- the window, n of the bytes that it holds further on
+abbrev pub onward : ℕ → View → View
+onward n w = record { place = w.place + n; held = drop n w.held; kept = w.kept; end = w.end }

@@ -6,6 +6,7 @@ mod error;
 mod number;
 mod put;
 mod read;
+mod text;
 mod window;
 
 pub use abc_base::{len_u30, len_u32};
@@ -19,4 +20,5 @@ pub use read::{
     read_entry_index, read_index_below, read_pool_index, read_s24, read_s32, read_u8, read_u16,
     read_u30, read_u32,
 };
+pub use text::{read_bytes, read_text};
 pub use window::Window;

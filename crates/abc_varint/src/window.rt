@@ -1,14 +1,14 @@
-ghost use Rattle.std.specs.Prelude.{◌≡◌, ◌+◌, ◌-◌, ◌∷◌, ◌++◌, ◌<◌, ◌≤◌, ◌^◌, ◌⊎◌, List, ℕ, None, Some, IfOk, OnOk, OnErr, IfErr, [], true, is_some, length, Result, Ok, Err, IsTrue, ◌↔◌};
+ghost use Rattle.std.specs.Prelude.{◌≡◌, ◌+◌, ◌-◌, ◌∷◌, ◌++◌, ◌<◌, ◌≤◌, ◌^◌, ◌⊎◌, List, ℕ, None, Some, IfOk, OnOk, OnErr, IfErr, [], true, is_some, length, take, Result, Ok, Err, IsTrue, ◌↔◌};
 ghost use Rattle.std.specs.Io.{ReadsAtMost};
 ghost use Rattle.std.specs.Io.KnownBytes.{ReadConsumes};
 ghost use Rattle.abc_base.specs.Faults.{HasCause, Rose};
 ghost use Rattle.abc_format.specs.Numbers.{u8 as octet};
-ghost use Rattle.abc_varint.specs.View.{NextOf};
+ghost use Rattle.abc_varint.specs.View.{NextOf, onward};
 ghost use Rattle.abc_varint.specs.declared.error.ReadError.{ReadError};
 ghost use Rattle.abc_varint.specs.Reads.{Blames, Reads, stand, tells};
 
 use crate::error::ReadError;
-use abc_base::{Failed, NoMemory, Source};
+use abc_base::{Bytes, Failed, NoMemory, Source};
 use abc_format::Reason;
 use std::alloc::Global;
 use std::marker::Model;
@@ -187,6 +187,24 @@ impl Window {
                 Err(ReadError::ReadFault)
             }
         }
+    }
+
+    /// Moves bytes that are held to the end of `out`, and answers how many: at most `count`, and none that stands at
+    /// the end or after it, or past the longest file. Where memory runs out nothing changes.
+    pub fn take_held(&mut self, count: u32, out: &mut Bytes) -> Result<u32, NoMemory>
+        ensures few { IfOk result (λ n. (n ≤ count) × (n ≤ length self.old.held)) }
+        ensures room { IfOk result (λ n. (0 < n → self.old.place + n ≤ self.old.end) × (self.old.place + n ≤ 2 ^ 24)) }
+        ensures window { IfOk result (λ n. self.new ≡ onward n self.old) }
+        ensures bytes { IfOk result (λ n. out.new ≡ out.old ++ take n self.old.held) }
+        ensures same { OnErr result ((self.new ≡ self.old) × (out.new ≡ out.old)) }
+    {
+        let room = self.end.min(LIMIT).saturating_sub(self.place);
+        let n = (count.min(room) as usize).min(self.to - self.from);
+        let next = self.from + n;
+        out.extend_from_slice(&self.block[self.from..next])?;
+        self.from = next;
+        self.place += n as u32;
+        Ok(n as u32)
     }
 
     /// The next byte.

@@ -1,0 +1,59 @@
+-- Reading bytes many at a time, as they stand in the window.
+use Rattle.std.proofs.Common.{◌≡◌, ℕ, zero, suc, ◌+◌, ◌-◌, ◌<◌, ◌≤◌, List, [], ◌∷◌, ◌++◌, length, take, drop, length-append, length-take, true, Ok, Err, None, Some, refl, sym, ap, ◌∙◌, append_assoc, arith}
+use Rattle.std.specs.declared.result.Result.{Result}
+use Rattle.std.specs.declared.option.Option.{Option}
+use Rattle.abc_format.specs.Part.{At, Refusal, limit, ◌>>=◌}
+use Rattle.abc_format.specs.Numbers.{byte_at, u8}
+use Rattle.abc_format.specs.Lists.{times}
+use Rattle.abc_format.proofs.Numbers.{byte_again}
+use Rattle.abc_varint.specs.View.{View, onward}
+use Rattle.abc_varint.specs.Reads.{tells, stand}
+use Rattle.abc_varint.proofs.Loop.{Going, beside, joined, nothing, with_front}
+
+abbrev placed : ℕ → ℕ → List ℕ → At
+placed end n bytes = record { place = n; bytes = bytes; end = end }
+
+one_before : (x : ℕ) (front : List ℕ) (read : Result (List ℕ × At) Refusal) → ((with_front front read >>= beside x) >>= joined) ≡ with_front (x ∷ front) read
+one_before x front (Ok y) = refl
+one_before x front (Err e) = refl
+
+both_fronts : (a b : List ℕ) (read : Result (List ℕ × At) Refusal) → with_front a (with_front b read) ≡ with_front (a ++ b) read
+both_fronts a b (Ok y) = ap (λ (ns : List ℕ). Ok (ns, y.1)) (sym (append_assoc a b y.0))
+both_fronts a b (Err e) = refl
+
+-- bytes that stand here, before the end and within the longest file, are read as they are
+chunk : (k m : ℕ) (held left : List ℕ) (end n : ℕ) → k ≤ length held → (0 < k → n + k ≤ end) → n + k ≤ limit
+    → (times (k + m) u8).reads (placed end n (held ++ left)) ≡ with_front (take k held) ((times m u8).reads (placed end (n + k) (drop k held ++ left)))
+unfolding u8
+chunk zero m held left end n le within room = let a : 0 + m ≡ m = omega arith in let b : n + 0 ≡ n = omega arith in rw (a, b) (sym (nothing ((times m u8).reads (placed end n (held ++ left)))))
+chunk (suc k) m [] left end n le within room = absurd (omega arith)
+chunk (suc k) m (x ∷ held) left end n le within room =
+    let a : suc k + m ≡ suc (k + m) = omega arith in
+    let b : n + suc k ≡ n + 1 + k = omega arith in
+    let to = within (omega arith) in
+    let one : byte_at end n (x ∷ (held ++ left)) ≡ Ok (x, placed end (n + 1) (held ++ left)) = byte_again end n x (held ++ left) (omega arith) (omega arith) in
+    let rest = chunk k m held left end (n + 1) (omega arith) (λ h. omega arith) (omega arith) in
+    rw (a, b, one, rest) (one_before x (take k held) ((times m u8).reads (placed end (n + 1 + k) (drop k held ++ left))))
+
+pub goes_far : (k total more less : ℕ) (items : List ℕ) (w0 : View) (s0 : Option (List ℕ)) (w : View) (s : Option (List ℕ)) → k + less ≡ more → k ≤ length w.held → (0 < k → w.place + k ≤ w.end) → w.place + k ≤ limit
+    → Going u8 total more items w0 s0 w s → Going u8 total less (items ++ take k w.held) w0 s0 (onward k w) s
+goes_far k total more less items w0 s0 w None all few within room g =
+    record { fresh = g.fresh; forth = omega (arith, g.forth); ends_at = g.ends_at; told = g.told; same = λ t. absurd (let h = g.told t in cc) }
+goes_far k total more less items w0 s0 w (Some left) all few within room g = record {
+  fresh = g.fresh;
+  forth = omega (arith, g.forth);
+  ends_at = g.ends_at;
+  told = g.told;
+  same = λ t.
+      let read = (times less u8).reads (placed w.end (w.place + k) (drop k w.held ++ left)) in
+      let one = chunk k less w.held left w.end w.place few within room in
+      let two : (times more u8).reads (stand w (Some left)) ≡ with_front (take k w.held) read = rw (← all) one in
+      sym (both_fronts items (take k w.held) read) ∙ ap (with_front items) (sym two) ∙ g.same t;
+}
+
+-- how many there are then
+pub far_length : (k less more total : ℕ) (items held : List ℕ) → k + less ≡ more → k ≤ length held → length items + more ≡ total → length (items ++ take k held) + less ≡ total
+far_length k less more total items held all few sum = omega (arith, length-append items (take k held), length-take k held)
+
+pub more_length : (more less total : ℕ) (items : List ℕ) (x : ℕ) → more ≡ suc less → length items + more ≡ total → length (items ++ x ∷ []) + less ≡ total
+more_length more less total items x one sum = omega (arith, length-append items (x ∷ []))

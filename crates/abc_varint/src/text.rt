@@ -1,0 +1,47 @@
+ghost use Rattle.std.specs.Prelude.{◌≡◌, ◌≤◌, ◌<◌, ◌^◌, IfOk, length, None};
+ghost use Rattle.abc_format.specs.Lists.{text, times};
+ghost use Rattle.abc_format.specs.Numbers.{u8 as octet};
+ghost use Rattle.abc_varint.specs.Reads.{ReadsPart};
+
+use crate::error::ReadError;
+use crate::number::next_u30;
+use crate::window::Window;
+use abc_base::{Bytes, Source};
+use std::alloc::Global;
+
+/// Reads so many bytes. Each is refused as by `read_u8`. No memory is reserved for bytes that have not come.
+pub fn read_bytes<S: Source>(
+    alloc: Global,
+    w: &mut Window,
+    source: &mut S,
+    count: u32,
+) -> Result<Bytes, ReadError>
+    requires { w.old.kept ≡ None }
+    ensures value { ReadsPart S.left S.faults (times count octet) w.old source.old w.new source.new result }
+    ensures len { IfOk result (λ b. length b ≡ count) }
+{
+    let mut bytes = Bytes::new(alloc);
+    let mut missing = count - w.take_held(count, &mut bytes)?;
+    while missing > 0 {
+        let x = w.next_u8(source)?;
+        bytes.push(x)?;
+        missing -= 1;
+        missing -= w.take_held(missing, &mut bytes)?;
+    }
+    Ok(bytes)
+}
+
+/// Reads a text: a count below 2^30, and that many bytes.
+#[tactic(auto, unfolding(abc_format::specs::Lists::text, abc_format::specs::Lists::counted))]
+pub fn read_text<S: Source>(
+    alloc: Global,
+    w: &mut Window,
+    source: &mut S,
+) -> Result<Bytes, ReadError>
+    ensures value { ReadsPart S.left S.faults text w.old source.old w.new source.new result }
+    ensures len { IfOk result (λ b. length b < 2 ^ 30) }
+{
+    let count = next_u30(w, source)?;
+    let bytes = read_bytes(alloc, w, source, count)?;
+    Ok(bytes)
+}
