@@ -4,3 +4,4 @@ pub mod Chunks
 pub mod Fill
 pub mod Answering
 pub mod Steps
+pub mod Putting

@@ -93,7 +93,7 @@ pub fn read_pool<C: Codec, S: Source>(
 }
 
 /// Appends the items, one after the other.
-#[tactic(auto, using(crate::proofs::Steps::stays))]
+#[tactic(auto, using(crate::proofs::Putting::stays))]
 pub fn put_items<C: Codec>(items: &Table<C::Item>, out: &mut Vec<u8>) -> Result<(), NoMemory>
     ensures { Puts out.old.items out.new.items result (flat_map C.canonical items.now) }
 {
@@ -104,7 +104,7 @@ pub fn put_items<C: Codec>(items: &Table<C::Item>, out: &mut Vec<u8>) -> Result<
 }
 
 /// Appends how many items there are, and the items.
-#[tactic(auto, unfolding(abc_format::specs::Canonical::counted_bytes), using(crate::proofs::Steps::stays, std::proofs::Common::append_assoc))]
+#[tactic(auto, unfolding(abc_format::specs::Canonical::counted_bytes), using(crate::proofs::Putting::stays, std::proofs::Common::append_assoc))]
 pub fn put_counted<C: Codec>(items: &Table<C::Item>, out: &mut Vec<u8>) -> Result<(), NoMemory>
     ensures { Puts out.old.items out.new.items result (counted_bytes C.canonical items.now) }
 {
@@ -114,7 +114,7 @@ pub fn put_counted<C: Codec>(items: &Table<C::Item>, out: &mut Vec<u8>) -> Resul
 }
 
 /// Appends a pool: how many items there are and one more for entry 0, or 0 where there are none, and the items.
-#[tactic(auto, unfolding(abc_format::specs::Canonical::pool_bytes), using(crate::proofs::Steps::stays, std::proofs::Common::append_assoc))]
+#[tactic(auto, unfolding(abc_format::specs::Canonical::pool_bytes), using(crate::proofs::Putting::stays, std::proofs::Common::append_assoc))]
 pub fn put_pool<C: Codec>(items: &Table<C::Item>, out: &mut Vec<u8>) -> Result<(), NoMemory>
     ensures { Puts out.old.items out.new.items result (pool_bytes C.canonical items.now) }
 {

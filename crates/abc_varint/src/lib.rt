@@ -3,6 +3,7 @@
 
 mod codec;
 mod error;
+mod items;
 mod number;
 mod put;
 mod read;
@@ -15,6 +16,7 @@ pub use codec::{
     Codec, Counted, put_counted, put_items, put_pool, read_counted, read_pool, read_times,
 };
 pub use error::ReadError;
+pub use items::{EntryIndex, IndexBelow, Number32, PoolIndex, Signed32, Text};
 pub use put::{put_count, put_s24, put_s32, put_text, put_u8, put_u16, put_u30, put_u32};
 pub use read::{
     read_entry_index, read_index_below, read_pool_index, read_s24, read_s32, read_u8, read_u16,
@@ -22,3 +24,6 @@ pub use read::{
 };
 pub use text::{read_bytes, read_text};
 pub use window::Window;
+
+#[cfg(test)]
+mod tests;

@@ -70,7 +70,7 @@ pub fn put_count(n: usize, out: &mut Vec<u8>) -> Result<(), NoMemory>
 }
 
 /// Appends a text: the number of its bytes, and the bytes. Where memory runs out, the old bytes are still the front.
-#[tactic(auto, unfolding(abc_format::specs::Canonical::text_bytes), using(crate::proofs::Steps::stays, std::proofs::Common::append_assoc))]
+#[tactic(auto, unfolding(abc_format::specs::Canonical::text_bytes), using(crate::proofs::Putting::stays, std::proofs::Common::append_assoc))]
 pub fn put_text(bytes: &Bytes, out: &mut Vec<u8>) -> Result<(), NoMemory>
     ensures { Puts out.old.items out.new.items result (text_bytes bytes.now) }
 {
@@ -99,7 +99,7 @@ fn more(v: u64) -> u8
 }
 
 /// Appends groups of seven bits, the low ones first, as many as the number needs and at most five.
-#[tactic(auto, using(crate::proofs::Steps::bytes_1, crate::proofs::Steps::bytes_2))]
+#[tactic(auto, using(crate::proofs::Putting::bytes_1, crate::proofs::Putting::bytes_2))]
 pub fn put_number(v: u64, out: &mut Vec<u8>) -> Result<(), NoMemory>
     ensures { PutsWhole out.old.items out.new.items result (number_bytes v) }
 {

@@ -1,6 +1,6 @@
 use Rattle.std.proofs.Common.{◌≡◌, ◌/◌, ◌+◌, ◌%◌, ◌≤◌, ◌<◌, List, [], ◌∷◌, ℕ, ◌++◌, refl, sym, ap, ◌∙◌, arith}
 use Rattle.abc_base.specs.Numbers.{number_bytes}
-use Rattle.abc_varint.proofs.Steps.{bytes_3, bytes_4, bytes_5, bytes_over}
+use Rattle.abc_varint.proofs.Putting.{bytes_3, bytes_4, bytes_5, bytes_over}
 use Rattle.abc_varint.proofs.put.put_number.Goals as goal
 
 put_3 : (old new : List ℕ) (v w x a b : ℕ) → new ≡ old ++ (a ∷ b ∷ x ∷ []) → a ≡ v % 128 + 128 → b ≡ w % 128 + 128 → 128 ≤ v → w ≡ v / 128 → 128 ≤ w → x ≡ w / 128 → x < 128 → new ≡ old ++ number_bytes v
