@@ -40,7 +40,7 @@ whole_front b le = record { parts = sym (append-nil b); place = omega arith; roo
 begins_whole : (v : Abc) (b : List ℕ) → IsFile v b → Begins file (at 0 b) v (at (length b) [])
 begins_whole v b f = record { front = b; spelled = f.0; is = whole_front b f.1 }
 
-whole_begins : (v : Abc) (b : List ℕ) (after : At) → Begins file (at 0 b) v after → after.bytes ≡ [] → IsFile v b
+pub whole_begins : (v : Abc) (b : List ℕ) (after : At) → Begins file (at 0 b) v after → after.bytes ≡ [] → IsFile v b
 whole_begins v b after s none =
     let e : b ≡ s.front = s.is.parts ∙ ap (λ (t : List ℕ). s.front ++ t) none ∙ append-nil s.front in
     let le : length s.front ≤ limit = omega (arith, s.is.place, s.is.room) in
@@ -106,7 +106,7 @@ unfolding no_bodies
 no_bodies-canonical = checked-canonical _ _ _ _ u30-canonical
 
 version_known : (x : ℕ × ℕ) (b : List ℕ) → version.spells x b → u16_bytes x.0 ++ u16_bytes x.1 ≡ version_bytes
-unfolding version u16_bytes
+unfolding version
 version_known x b s =
     let minor : x.0 ≡ 16 = sixteen x.0 s.3.1 in
     let major : x.1 ≡ 46 = forty_six x.1 s.4.1 in

@@ -1,9 +1,10 @@
 -- The whole file.
-use Rattle.std.specs.Prelude.{◌≡◌, ◌≢◌, ◌≤◌, ◌⊎◌, ℕ, List, [], ◌∷◌, ◌++◌, length, nat_eq}
+use Rattle.std.specs.Prelude.{◌≡◌, ◌≢◌, ◌≤◌, ◌⊎◌, ℕ, List, [], ◌++◌, length, nat_eq}
 use Rattle.abc_base.specs.Numbers.{number_bytes}
 use Rattle.abc_format.specs.declared.reason.Reason.TheVariants as reasons
 use Rattle.abc_format.specs.Part.{Part, At, at, limit, Refusal, refusal, Begins, then_by, both, image, checked}
 use Rattle.abc_format.specs.Numbers.{u16, u30}
+use Rattle.abc_format.specs.Canonical.{u16_bytes}
 use Rattle.abc_tables.specs.declared.tables.Abc.{Abc}
 use Rattle.abc_tables.specs.Pools.{pools, pools_bytes}
 use Rattle.abc_tables.specs.Classes.{definitions, definitions_bytes}
@@ -13,7 +14,7 @@ unfoldable pub version : Part (ℕ × ℕ)
 version = both (checked (λ n. nat_eq n 16) reasons.Version u16) (checked (λ n. nat_eq n 46) reasons.Version u16)
 
 abbrev pub version_bytes : List ℕ
-version_bytes = 16 ∷ 0 ∷ 46 ∷ 0 ∷ []
+version_bytes = u16_bytes 16 ++ u16_bytes 46
 
 -- no bodies: they are not read yet
 unfoldable pub no_bodies : Part ℕ
