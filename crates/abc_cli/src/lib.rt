@@ -4,6 +4,8 @@
 mod canon;
 mod ends;
 mod lines;
+#[cfg(test)]
+mod tests;
 mod top;
 
 pub use top::abc_main;
