@@ -1,0 +1,8 @@
+//! The top call: what the program does with the words of a command line and an input.
+#![tactic(auto)]
+
+mod canon;
+mod ends;
+mod lines;
+
+pub use ends::give_bytes;
