@@ -1,12 +1,12 @@
 -- How the ways to end follow from what was written.
 use Rattle.std.proofs.Common.{◌≡◌, ℕ, ◌≤◌, ◌⊎◌, inl, inr, List, [], ◌++◌, Some, None, Ok, Err, refl, sym, ap, ◌∙◌, subst}
-use Rattle.std.specs.Prelude.{is_ok, if◌then◌else◌}
+use Rattle.std.specs.Prelude.{is_ok, if◌then◌else◌, IsSome}
 use Rattle.std.proofs.lemmas.List.{append-nil}
 use Rattle.std.specs.declared.option.Option.{Option}
 use Rattle.std.specs.declared.result.Result.{Result}
 use Rattle.std.specs.Io.KnownBytes.{append_known}
 use Rattle.abc_base.specs.Faults.{Rose, HasCause}
-use Rattle.abc_base.specs.Sinks.{Grows, GrowsByFront, WritesAll}
+use Rattle.abc_base.specs.Sinks.{WritesAll}
 use Rattle.abc_base.specs.declared.status.Status.{Status}
 use Rattle.abc_base.specs.declared.status.Status.TheVariants as status
 use Rattle.abc_format.specs.declared.reason.Reason.{Reason}
@@ -28,7 +28,7 @@ gives before after n m a (Ok t) s w h is = inl (w, is)
 gives before after n m a (Err e) s w h is = inr (h.failed, w, is)
 
 -- nothing was written
-pub nothing : (known : Option (List ℕ)) → Grows known known []
+pub nothing : (known : Option (List ℕ)) → IsSome known → known ≡ append_known known []
 nothing None = λ some. refl
 nothing (Some xs) = λ some. ap (λ (l : List ℕ). Some l) (sym (append-nil xs))
 

@@ -1,8 +1,9 @@
 -- How a run ends: what the sinks got, and when a status but the defined one is answered.
-use Rattle.std.specs.Prelude.{◌≡◌, ◌⊎◌, ℕ, List, []}
+use Rattle.std.specs.Prelude.{◌≡◌, ◌⊎◌, ℕ, List, [], IsSome}
+use Rattle.std.specs.Io.KnownBytes.{append_known}
 use Rattle.std.specs.declared.option.Option.{Option}
 use Rattle.abc_base.specs.Faults.{Rose}
-use Rattle.abc_base.specs.Sinks.{Grows, GrowsByFront}
+use Rattle.abc_base.specs.Sinks.{GrowsByFront}
 use Rattle.abc_base.specs.declared.status.Status.{Status}
 use Rattle.abc_base.specs.declared.status.Status.TheVariants as status
 use Rattle.abc_cli.specs.Lines.{line, read_fault_text, write_fault_text, no_memory_text}
@@ -20,11 +21,11 @@ channel before after faults_before faults_after = record { before = before; afte
 
 -- it got these bytes
 abbrev pub Got : Channel → List ℕ → Type 0
-Got c bytes = Grows c.before c.after bytes
+Got c bytes = IsSome c.before → c.after ≡ append_known c.before bytes
 
 -- it got the front of these bytes
 abbrev pub GotFront : Channel → List ℕ → Type 0
-GotFront c bytes = GrowsByFront c.before c.after bytes
+GotFront c bytes = IsSome c.before → GrowsByFront c.before c.after bytes
 
 -- its count of faults rose
 abbrev pub HasFailed : Channel → Type 0

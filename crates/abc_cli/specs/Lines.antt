@@ -1,6 +1,6 @@
 -- The lines that the program writes where its status is not 0.
 use Rattle.std.specs.Prelude.{ℕ, List, [], ◌∷◌, ◌++◌, codes, decimal}
-use Rattle.abc_base.specs.Escapes.{escaped}
+use Rattle.abc_escape.specs.Escapes.{escaped}
 use Rattle.abc_format.specs.Part.{Refusal}
 use Rattle.abc_format.specs.Reasons.{reason_name}
 

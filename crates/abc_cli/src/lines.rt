@@ -1,11 +1,12 @@
 ghost use Rattle.std.specs.Prelude.{◌++◌};
-ghost use Rattle.abc_base.specs.Escapes.{escaped};
+ghost use Rattle.abc_escape.specs.Escapes.{escaped};
 ghost use Rattle.abc_base.specs.Faults.{HasCause};
 ghost use Rattle.abc_base.specs.Sinks.{WritesAll};
 ghost use Rattle.abc_cli.specs.Lines.{line, refusal_text, usage_text};
 ghost use Rattle.abc_format.specs.Part.{refusal};
 
-use abc_base::{Failed, Sink, write_all, write_escaped};
+use abc_base::{Failed, Sink, write_all};
+use abc_escape::write_escaped;
 use abc_format::Reason;
 use itoa::Buffer;
 
