@@ -2,6 +2,7 @@ ghost use Rattle.std.specs.Prelude.{◌≡◌, ◌≤◌, ◌∷◌, [], ◌++�
 ghost use Rattle.abc_tables.specs.Pools.{double, double_bytes};
 ghost use Rattle.abc_varint.specs.Puts.{Puts};
 ghost use Rattle.abc_varint.specs.Reads.{Reads, ReadsPart};
+ghost use Rattle.abc_varint.specs.declared.error.ReadError.{ReadError};
 
 use abc_base::{NoMemory, Source};
 use abc_tables::Eight;
@@ -37,7 +38,8 @@ impl Codec for Doubles {
 /// Eight bytes, in the order in which they stand.
 #[tactic(auto, unfolding(abc_tables::specs::Pools::double))]
 fn read_double<S: Source>(w: &mut Window, source: &mut S) -> Result<Eight, ReadError>
-    ensures { ReadsPart S.left S.faults double w.old source.old w.new source.new result }
+    ensures value { ReadsPart S.left S.faults double w.old source.old w.new source.new result }
+    ensures no_memory { result ≡ Err ReadError.NoMemory → ⊥ }
 {
     let b0 = read_u8(w, source)?;
     let b1 = read_u8(w, source)?;

@@ -181,8 +181,8 @@ fn append_multiname(name: &Multiname, out: &mut Vec<u8>) -> Result<(), NoMemory>
     Ok(())
 }
 
-/// Appends the shortest spelling of a multiname: its kind byte and its fields. Where memory runs out, the bytes stay as
-/// they were.
+/// Appends the shortest spelling of a multiname: its kind byte and its fields. `NoMemory` comes where memory ran out, and
+/// then the bytes stay as they were.
 pub fn put_multiname(name: &Multiname, out: &mut Vec<u8>) -> Result<(), NoMemory>
     ensures { PutsWhole out.old.items out.new.items result (multiname_bytes name.now) }
 {

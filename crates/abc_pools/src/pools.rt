@@ -62,7 +62,7 @@ fn next_pools<S: Source>(alloc: Global, w: &mut Window, source: &mut S) -> Resul
 /// of the seven, at its kind byte; a member of a set by `Index` where it is 0 or above how many namespaces there are, at
 /// its first byte; any other index by `Index` where it is above how many entries there are; a multiname as by
 /// `read_multiname`. The window does not keep a refusal by `NamespaceKind`, `MultinameKind` or `Index`. `ReadFault` comes
-/// only where the source's count of faults rose.
+/// only where the source's count of faults rose, and `NoMemory` where memory ran out.
 pub fn read_pools<S: Source>(
     alloc: Global,
     w: &mut Window,
@@ -91,7 +91,8 @@ fn append_pools(abc: &Abc, out: &mut Vec<u8>) -> Result<(), NoMemory>
     Ok(())
 }
 
-/// Appends the shortest spelling of the seven pools, in their order. Where memory runs out, the bytes stay as they were.
+/// Appends the shortest spelling of the seven pools, in their order. `NoMemory` comes where memory ran out, and then the
+/// bytes stay as they were.
 pub fn put_pools(abc: &Abc, out: &mut Vec<u8>) -> Result<(), NoMemory>
     ensures { PutsWhole out.old.items out.new.items result (pools_bytes abc.now) }
 {

@@ -3,6 +3,7 @@ ghost use Rattle.abc_base.specs.Numbers.{number_bytes};
 ghost use Rattle.abc_tables.specs.Pools.{namespace, namespace_bytes, namespace_code, namespace_kind};
 ghost use Rattle.abc_varint.specs.Puts.{Puts};
 ghost use Rattle.abc_varint.specs.Reads.{Reads, ReadsPart};
+ghost use Rattle.abc_varint.specs.declared.error.ReadError.{ReadError};
 
 use abc_base::{NoMemory, Source};
 use abc_tables::{Namespace, NsKind};
@@ -39,7 +40,8 @@ impl Codec for Namespaces {
 /// What a namespace is for: one of seven bytes, or it is refused there by `NamespaceKind`.
 #[tactic(auto, unfolding(abc_tables::specs::Pools::namespace_kind))]
 fn read_namespace_kind<S: Source>(w: &mut Window, source: &mut S) -> Result<NsKind, ReadError>
-    ensures { ReadsPart S.left S.faults namespace_kind w.old source.old w.new source.new result }
+    ensures value { ReadsPart S.left S.faults namespace_kind w.old source.old w.new source.new result }
+    ensures no_memory { result ≡ Err ReadError.NoMemory → ⊥ }
 {
     let place = w.place();
     match read_u8(w, source)? {
@@ -64,7 +66,8 @@ fn read_namespace<S: Source>(
     source: &mut S,
     strings: u32,
 ) -> Result<Namespace, ReadError>
-    ensures { ReadsPart S.left S.faults (namespace strings) w.old source.old w.new source.new result }
+    ensures value { ReadsPart S.left S.faults (namespace strings) w.old source.old w.new source.new result }
+    ensures no_memory { result ≡ Err ReadError.NoMemory → ⊥ }
 {
     let kind = read_namespace_kind(w, source)?;
     let name = read_pool_index(w, source, strings)?;
