@@ -9,6 +9,8 @@ use Rattle.abc_tables.specs.declared.tables.Abc.{Abc}
 use Rattle.abc_tables.specs.Files.{IsFile, IsBadFile, file_bytes}
 use Rattle.abc_words.specs.declared.command.Command.{Command}
 use Rattle.abc_words.specs.declared.command.Command.TheVariants as commands
+use Rattle.abc_words.specs.declared.command.Usage.{Usage}
+use Rattle.abc_words.specs.declared.command.Usage.TheVariants as usages
 use Rattle.abc_words.specs.Grammar.{Says, IsUsageWord}
 use Rattle.abc_cli.specs.Lines.{line, usage_text, no_command_text, refusal_text, not_built_text}
 
@@ -55,6 +57,18 @@ CommandOutcome (commands.Gen options) input a = a ≡ not_built
 pub data UsageOutcome (words : List (List ℕ)) : Answer → Type 0 where
   no_command : words ≡ [] → UsageOutcome words (told status.Usage no_command_text)
   word : (i : ℕ) → IsUsageWord words i → UsageOutcome words (told status.Usage (usage_text (get_or words i [])))
+
+-- the text of words outside the grammar, by how they go wrong
+abbrev pub text_of_usage : List (List ℕ) → Usage → List ℕ
+text_of_usage words usages.NoCommand = no_command_text
+text_of_usage words (usages.Word i) = usage_text (get_or words i [])
+
+abbrev pub usage_answer : List (List ℕ) → Usage → Answer
+usage_answer words usage = told status.Usage (text_of_usage words usage)
+
+abbrev pub IsUsage : List (List ℕ) → Usage → Type 0
+IsUsage words usages.NoCommand = words ≡ []
+IsUsage words (usages.Word i) = IsUsageWord words i
 
 -- The defined outcome of words and an input: that of the command that they say, or their usage word.
 pub data IsOutcome (words : List (List ℕ)) (input : Option (List ℕ)) (a : Answer) : Type 0 where

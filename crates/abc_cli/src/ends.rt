@@ -3,7 +3,7 @@ ghost use Rattle.abc_base.specs.Sinks.{WritesAll};
 ghost use Rattle.abc_base.specs.Faults.{HasCause};
 ghost use Rattle.abc_cli.specs.Canon.{error_answer, refusal_answer};
 ghost use Rattle.abc_cli.specs.End.{GivesLine, IsEnd, channel};
-ghost use Rattle.abc_cli.specs.Lines.{line, read_fault_text, write_fault_text, no_memory_text, not_built_text};
+ghost use Rattle.abc_cli.specs.Lines.{line, read_fault_text, write_fault_text, no_memory_text, not_built_text, no_command_text};
 ghost use Rattle.abc_cli.specs.Outcome.{given, told};
 
 use crate::lines::{write_line, write_refusal};
@@ -51,6 +51,15 @@ pub fn give_not_built<E: Sink>(err: &mut E) -> Status
     ensures later { E.faults err.old ≤ E.faults err.new }
 {
     give_line(err, Status::NotBuilt, b"not built")
+}
+
+/// Writes the line of no words at all.
+#[tactic(auto, unfolding(crate::specs::Lines::no_command_text))]
+pub fn give_no_command<E: Sink>(err: &mut E) -> Status
+    ensures gives { GivesLine (channel (E.written err.old) (E.written err.new) (E.faults err.old) (E.faults err.new)) (told Status.Usage no_command_text) result }
+    ensures later { E.faults err.old ≤ E.faults err.new }
+{
+    give_line(err, Status::Usage, b"usage: no command")
 }
 
 /// Writes the line of an error.

@@ -4,5 +4,8 @@
 mod canon;
 mod ends;
 mod lines;
+#[cfg(test)]
+mod tests;
+mod top;
 
-pub use ends::give_bytes;
+pub use top::abc_main;
