@@ -1,0 +1,40 @@
+use Rattle.std.proofs.Common.{◌-◌, ◌<◌, ◌≤◌, ◌∷◌, [], ◌++◌, List, ℕ, sym, subst, arith}
+use Rattle.std.specs.List.{All}
+use Rattle.std.proofs.lemmas.List.Elements.{All-push}
+use Rattle.std.proofs.lemmas.Result.{err_from_is_err_and}
+use Rattle.abc_format.specs.Ends.{blamed}
+use Rattle.abc_varint.proofs.Fill.{Filling, fill_goes_on, fill_ends, fill_done}
+use Rattle.abc_tables.specs.Instructions.{RawInstr, instruction, pieces}
+use Rattle.abc_tables.proofs.CodeParts.{instruction-exact, instruction-some}
+use Rattle.abc_instr.specs.Offsets.{raw_of, pieces_of}
+use Rattle.abc_instr.proofs.Growing.{Grown, grown_pieces, grown_starts}
+use Rattle.abc_instr.proofs.pieces.read_until.Goals as goal
+use Rattle.abc_instr.proofs.pieces.read_until.Goals.{else-loop-test, then-loop-test+then-place-end}
+
+pub returns-in_err-instr-clause-value : goal.returns-in_err-instr-clause-value
+unfolding pieces
+returns-in_err-instr-clause-value g c =
+    let p = err_from_is_err_and c.from_residual-in_err-instr.result c.from_residual-in_err-instr.ensures.1 in
+    rw (p.1, p.2) (λ k t. fill_ends c.in_err-instr.field-0.0 (blamed instruction) c.args.byte_count c.loop.counter (pieces_of c.loop.instrs c.loop.starts) _ _ _ _ (omega arith) (omega arith) c.loop-test.true (omega arith) c.loop.invariant.filling c.in_err-instr.ensures.value t)
+
+pub loop-preserved : goal.loop-preserved
+loop-preserved g c =
+    let le : c.loop.w.place ≤ c.read_raw.new.w.place = omega (arith, c.in_ok-instr.ensures.moves) in
+    let same = grown_pieces c.loop.instrs c.loop.starts c.args.w.now.place c.loop.w.place c.read_raw.new.w.place c.in_ok-instr.instr c.loop.invariant.grown le in
+    let grown = grown_starts c.loop.instrs c.loop.starts c.args.w.now.place c.loop.w.place c.read_raw.new.w.place c.in_ok-instr.instr c.loop.invariant.grown le in
+    let filling = fill_goes_on (blamed instruction) c.args.byte_count c.loop.counter (pieces_of c.loop.instrs c.loop.starts) _ _ _ _ _ _ _ instruction-exact instruction-some (omega arith) (omega arith) (omega arith) c.loop-test.true (omega arith) c.loop.invariant.filling c.in_ok-instr.ensures.value in
+    let each = All-push (λ (p : RawInstr × ℕ). 0 < p.1) (pieces_of c.loop.instrs c.loop.starts) (raw_of c.in_ok-instr.instr, c.read_raw.new.w.place - c.loop.w.place) c.loop.invariant.each (omega (arith, c.in_ok-instr.ensures.moves)) in
+    record {
+      filling = rw (c.in_ok-push-2.ensures.ok, c.in_ok-push-3.ensures.ok, c.place-next.ensures.is, c.place-first.ensures.is, same) filling;
+      grown = rw (c.in_ok-push-2.ensures.ok, c.in_ok-push-3.ensures.ok, c.place-next.ensures.is, c.place-first.ensures.is) grown;
+      each = rw (c.in_ok-push-2.ensures.ok, c.in_ok-push-3.ensures.ok, c.place-next.ensures.is, c.place-first.ensures.is, same) each;
+      room = omega arith;
+      later = omega arith;
+    }
+
+pub returns-clause-value : goal.returns-clause-value
+unfolding pieces
+returns-clause-value g c =
+    fill_done (blamed instruction) c.args.byte_count c.loop.counter (pieces_of c.loop.instrs c.loop.starts) _ _ _ _
+    (λ t. elim c.loop-test.branch [ else-loop-test w ↦ omega (arith, (c.loop.invariant.filling.room t).1) | then-loop-test+then-place-end w ↦ omega arith ])
+    c.requires.fresh c.loop.invariant.filling

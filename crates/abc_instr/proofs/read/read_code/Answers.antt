@@ -1,0 +1,8 @@
+use Rattle.std.proofs.Common.{arith}
+use Rattle.abc_tables.specs.Code.{code}
+use Rattle.abc_tables.proofs.CodeExact.{code-exact}
+use Rattle.abc_varint.proofs.Answering.{answers}
+use Rattle.abc_instr.proofs.read.read_code.Goals as goal
+
+pub returns-clause-answers : goal.returns-clause-answers
+returns-clause-answers g c = answers code code-exact _ _ _ _ c.read_whole.result (omega arith) c.read_whole.ensures.value.0

@@ -1,0 +1,28 @@
+ghost use Rattle.std.specs.Prelude.{◌≡◌, ◌≤◌, ◌<◌, ◌^◌, length};
+ghost use Rattle.abc_tables.specs.Places.{instruction_place};
+ghost use Rattle.abc_tables.specs.Starts.{IsRising};
+ghost use Rattle.abc_varint.specs.Reads.{ReadsPart};
+
+use crate::resolve::number_of;
+use abc_base::{Source, Table};
+use abc_varint::{ReadError, Reason, Window, read_u30};
+
+/// The number of the instruction that starts at a place in the code as it was read, or of the end, as an exception names
+/// it. It is refused by `HandlerRange` at its first byte where no instruction starts there.
+#[tactic(auto, unfolding(abc_tables::specs::Places::instruction_place))]
+pub fn read_place<S: Source>(
+    w: &mut Window,
+    source: &mut S,
+    offsets: &Table<u32>,
+) -> Result<u32, ReadError>
+    requires rising { IsRising offsets.now }
+    requires few { length offsets.now < 2 ^ 32 }
+    ensures { ReadsPart S.left S.faults (instruction_place offsets.now) w.old source.old w.new source.new result }
+{
+    let place = w.place();
+    let x = read_u30(w, source)?;
+    match number_of(offsets, x) {
+        Some(n) => Ok(n),
+        None => Err(w.refuse(place, Reason::HandlerRange)),
+    }
+}

@@ -1,0 +1,219 @@
+ghost use Rattle.std.specs.Prelude.{◌≡◌, ◌≤◌, ◌<◌, ◌+◌, ◌-◌, ◌*◌, ◌^◌, ◌++◌, List, ℕ, length, get_or, IfOk, OnOk, OnErr, All};
+ghost use Rattle.std.specs.List.{flat_map};
+ghost use Rattle.abc_base.specs.Numbers.{number_bytes};
+ghost use Rattle.abc_format.specs.Canonical.{s24_bytes};
+ghost use Rattle.abc_varint.specs.Puts.{Puts};
+ghost use Rattle.abc_tables.specs.Code.{code_listing};
+ghost use Rattle.abc_tables.specs.Starts.{start};
+ghost use Rattle.abc_tables.specs.CodeBytes.{instr_len as len_of, offset as offset_of, instr_bytes, instrs_bytes, canonical_starts, code_len as total, code_bytes, sized};
+ghost use Rattle.abc_tables.specs.Ready.{CanSpell, AllCanSpell, Small, IsReady};
+
+use abc_base::{NoMemory, Table};
+use abc_tables::{Instr, code_len, instr_len};
+use abc_varint::{put_count, put_s24, put_u8, put_u30, put_u32};
+use std::alloc::Global;
+
+/// `lookupswitch`
+const SWITCH: u8 = 0x1b;
+
+/// `pushbyte`
+const BYTE: u8 = 0x24;
+
+/// `pushshort`
+const SHORT: u8 = 0x25;
+
+/// `getscopeobject`
+const SCOPE_OBJECT: u8 = 0x65;
+
+/// `debug`
+const DEBUG: u8 = 0xef;
+
+/// How many bytes the instruction has.
+fn short_len(instr: &Instr) -> u32
+    requires { len_of instr.now < 2 ^ 32 }
+    ensures { result ≡ len_of instr.now }
+{
+    instr_len(instr) as u32
+}
+
+/// Where an instruction starts in the canonical code, or where the code ends. Instructions count from 0.
+#[tactic(auto, using(abc_tables::proofs::Lengths::start_step, abc_tables::proofs::Lengths::len_step))]
+pub fn offset_at(code: &Table<Instr>, index: u32) -> u32
+    requires index { index ≤ length code.now }
+    requires short { total code.now < 2 ^ 23 }
+    ensures { result ≡ start (sized code.now) index }
+{
+    let mut here = 0;
+    for i in 0..index as usize {
+        here += short_len(code.get(i));
+    }
+    here
+}
+
+/// Where each instruction starts in the canonical code, and where the last one ends.
+#[tactic(auto, unfolding(abc_tables::specs::CodeBytes::canonical_starts))]
+pub fn starts_of(alloc: Global, code: &Table<Instr>) -> Result<Table<u32>, NoMemory>
+    requires { total code.now < 2 ^ 23 }
+    ensures { IfOk result (λ ss. ss ≡ canonical_starts code.now) }
+{
+    let mut starts = Table::new(alloc);
+    let mut here = 0;
+    for instr in code.as_slice() {
+        starts.push(here)?;
+        here += short_len(instr);
+    }
+    starts.push(here)?;
+    Ok(starts)
+}
+
+fn put_offset(
+    starts: &Table<u32>,
+    base: u32,
+    target: u32,
+    out: &mut Vec<u8>,
+) -> Result<(), NoMemory>
+    requires target { target < length starts.now }
+    requires start { get_or starts.now target 0 < 2 ^ 23 }
+    requires base { base < 2 ^ 23 }
+    ensures { Puts out.old.items out.new.items result (s24_bytes (offset_of starts.now base target)) }
+{
+    let start = *starts.get(target as usize);
+    put_s24(start as i32 - base as i32, out)
+}
+
+#[tactic(auto, using(abc_varint::proofs::Putting::stays))]
+fn put_offsets(
+    starts: &Table<u32>,
+    base: u32,
+    targets: &Table<u32>,
+    out: &mut Vec<u8>,
+) -> Result<(), NoMemory>
+    requires targets { All (λ t. (t < length starts.now) × (get_or starts.now t 0 < 2 ^ 23)) targets.now }
+    requires base { base < 2 ^ 23 }
+    ensures { Puts out.old.items out.new.items result (flat_map (λ t. s24_bytes (offset_of starts.now base t)) targets.now) }
+{
+    for target in targets.as_slice() {
+        put_offset(starts, base, *target, out)?;
+    }
+    Ok(())
+}
+
+#[tactic(auto, using(abc_varint::proofs::Putting::stays, std::proofs::Common::append_assoc))]
+fn put_instr(
+    instr: &Instr,
+    starts: &Table<u32>,
+    here: u32,
+    next: u32,
+    out: &mut Vec<u8>,
+) -> Result<(), NoMemory>
+    requires can { CanSpell (length starts.now - 1) instr.now }
+    requires some { 0 < length starts.now }
+    requires small { Small starts.now (length starts.now - 1) }
+    requires here { here < 2 ^ 23 }
+    requires next { next < 2 ^ 23 }
+    requires short { len_of instr.now < 2 ^ 23 }
+    ensures { Puts out.old.items out.new.items result (instr_bytes starts.now here next instr.now) }
+{
+    match instr {
+        Instr::Plain(op) => {
+            put_u8(*op, out)?;
+            Ok(())
+        }
+        Instr::One(op, n) => {
+            put_u8(*op, out)?;
+            put_u30(*n, out)?;
+            Ok(())
+        }
+        Instr::Two(op, n, m) => {
+            put_u8(*op, out)?;
+            put_u30(*n, out)?;
+            put_u30(*m, out)?;
+            Ok(())
+        }
+        Instr::Branch(op, target) => {
+            put_u8(*op, out)?;
+            put_offset(starts, next, *target, out)?;
+            Ok(())
+        }
+        Instr::Switch { default, cases } => {
+            put_u8(SWITCH, out)?;
+            put_offset(starts, here, *default, out)?;
+            put_count(cases.len().saturating_sub(1), out)?;
+            put_offsets(starts, here, cases, out)?;
+            Ok(())
+        }
+        Instr::Byte(x) => {
+            put_u8(BYTE, out)?;
+            put_u8(x.cast_unsigned(), out)?;
+            Ok(())
+        }
+        Instr::Short(x) => {
+            put_u8(SHORT, out)?;
+            put_u32(x.cast_unsigned() as u32, out)?;
+            Ok(())
+        }
+        Instr::ScopeObject(x) => {
+            put_u8(SCOPE_OBJECT, out)?;
+            put_u8(*x, out)?;
+            Ok(())
+        }
+        Instr::Debug {
+            kind,
+            name,
+            reg,
+            extra,
+        } => {
+            put_u8(DEBUG, out)?;
+            put_u8(*kind, out)?;
+            put_u30(*name, out)?;
+            put_u8(*reg, out)?;
+            put_u30(*extra, out)?;
+            Ok(())
+        }
+    }
+}
+
+#[tactic(auto, using(abc_varint::proofs::Putting::stays, std::proofs::Common::append_assoc))]
+fn put_instrs(code: &Table<Instr>, starts: &Table<u32>, out: &mut Vec<u8>) -> Result<(), NoMemory>
+    requires can { AllCanSpell (length starts.now - 1) code.now }
+    requires some { 0 < length starts.now }
+    requires small { Small starts.now (length starts.now - 1) }
+    requires short { total code.now < 2 ^ 23 }
+    ensures { Puts out.old.items out.new.items result (instrs_bytes starts.now 0 code.now) }
+{
+    let mut here = 0;
+    for instr in code.as_slice() {
+        let next = here + short_len(instr);
+        put_instr(instr, starts, here, next, out)?;
+        here = next;
+    }
+    Ok(())
+}
+
+#[tactic(auto, unfolding(abc_tables::specs::CodeBytes::code_bytes), using(abc_varint::proofs::Putting::stays, std::proofs::Common::append_assoc))]
+fn append_code(code: &Table<Instr>, starts: &Table<u32>, out: &mut Vec<u8>) -> Result<(), NoMemory>
+    requires ready { IsReady code.now }
+    requires starts { starts.now ≡ canonical_starts code.now }
+    ensures { Puts out.old.items out.new.items result (code_bytes code.now) }
+{
+    put_u30(code_len(code) as u32, out)?;
+    put_instrs(code, starts, out)?;
+    Ok(())
+}
+
+/// Appends the canonical code: the number of its bytes, and the instructions, each number in as few bytes as it needs
+/// and each target as an offset in those bytes. Where memory runs out, the bytes stay as they were.
+pub fn put_code(alloc: Global, code: &Table<Instr>, out: &mut Vec<u8>) -> Result<(), NoMemory>
+    // Some bytes spell the instructions.
+    requires { (b : List ℕ) × code_listing.spells code.now b }
+    ensures ok { OnOk result (out.new.items ≡ out.old.items ++ code_bytes code.now) }
+    ensures err { OnErr result (out.new.items ≡ out.old.items) }
+{
+    let starts = starts_of(alloc, code)?;
+    let len = out.len();
+    let done = append_code(code, &starts, out);
+    if done.is_err() {
+        out.truncate(len);
+    }
+    done
+}

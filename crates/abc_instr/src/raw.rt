@@ -1,0 +1,149 @@
+ghost use Rattle.std.specs.Prelude.{◌≡◌, ◌≤◌, ◌<◌, None, OnOk, map};
+ghost use Rattle.abc_format.specs.Ends.{blamed};
+ghost use Rattle.abc_format.specs.Lists.{times};
+ghost use Rattle.abc_format.specs.Numbers.{s24};
+ghost use Rattle.abc_tables.specs.Instructions.{opcode as opcode_part, signed_byte, signed_short, instruction};
+ghost use Rattle.abc_varint.specs.Reads.{Reads, ReadsPart, Blames};
+ghost use Rattle.abc_instr.specs.Offsets.{offset_of, raw_of, seen};
+
+use abc_base::{Source, Table};
+use abc_tables::{Form, Instr, opcode};
+use abc_varint::{ReadError, Reason, Window, read_s24, read_u8, read_u30, read_u32};
+use std::alloc::Global;
+
+/// An opcode that some instruction has, and what follows it.
+#[tactic(auto, unfolding(abc_tables::specs::Instructions::opcode, abc_tables::specs::Opcodes::form_at))]
+fn read_opcode<S: Source>(w: &mut Window, source: &mut S) -> Result<(u8, Form), ReadError>
+    ensures moves { OnOk result (w.old.place < w.new.place) }
+    ensures value { ReadsPart S.left S.faults opcode_part w.old source.old w.new source.new result }
+{
+    let place = w.place();
+    let op = read_u8(w, source)?;
+    match opcode(op) {
+        Some(info) => Ok((op, info.form)),
+        None => Err(w.refuse(place, Reason::Opcode)),
+    }
+}
+
+/// A byte, in two's complement.
+#[tactic(auto, unfolding(abc_tables::specs::Instructions::signed_byte))]
+fn read_signed_byte<S: Source>(w: &mut Window, source: &mut S) -> Result<i8, ReadError>
+    ensures { ReadsPart S.left S.faults signed_byte w.old source.old w.new source.new result }
+{
+    let x = read_u8(w, source)?;
+    Ok(x.cast_signed())
+}
+
+/// A u32, of which the low 16 bits count, in two's complement.
+#[tactic(auto, unfolding(abc_tables::specs::Instructions::signed_short))]
+fn read_signed_short<S: Source>(w: &mut Window, source: &mut S) -> Result<i16, ReadError>
+    ensures { ReadsPart S.left S.faults signed_short w.old source.old w.new source.new result }
+{
+    let x = read_u32(w, source)?;
+    Ok(((x % 65536) as u16).cast_signed())
+}
+
+/// An offset, as its 32 bits.
+fn read_offset<S: Source>(w: &mut Window, source: &mut S) -> Result<u32, ReadError>
+    ensures { ReadsPart S.left S.faults s24 w.old source.old w.new source.new (seen offset_of result) }
+{
+    let offset = read_s24(w, source)?;
+    Ok(offset.cast_unsigned())
+}
+
+/// So many offsets.
+fn read_offsets<S: Source>(
+    alloc: Global,
+    w: &mut Window,
+    source: &mut S,
+    count: u32,
+) -> Result<Table<u32>, ReadError>
+    requires { w.old.kept ≡ None }
+    ensures { ReadsPart S.left S.faults (times count s24) w.old source.old w.new source.new (seen (λ xs. map offset_of xs) result) }
+{
+    let mut offsets = Table::new(alloc);
+    for _ in 0..count {
+        let offset = read_offset(w, source)?;
+        offsets.push(offset)?;
+    }
+    Ok(offsets)
+}
+
+#[tactic(auto, unfolding(abc_tables::specs::Instructions::instruction, abc_tables::specs::Instructions::switch_offsets))]
+fn read_parts<S: Source>(alloc: Global, w: &mut Window, source: &mut S) -> Result<Instr, ReadError>
+    ensures moves { OnOk result (w.old.place < w.new.place) }
+    ensures value { ReadsPart S.left S.faults instruction w.old source.old w.new source.new (seen raw_of result) }
+{
+    let (op, form) = read_opcode(w, source)?;
+    match form {
+        Form::Plain => Ok(Instr::Plain(op)),
+        Form::One => {
+            let n = read_u30(w, source)?;
+            Ok(Instr::One(op, n))
+        }
+        Form::Two => {
+            let n = read_u30(w, source)?;
+            let m = read_u30(w, source)?;
+            Ok(Instr::Two(op, n, m))
+        }
+        Form::Branch => {
+            let offset = read_offset(w, source)?;
+            Ok(Instr::Branch(op, offset))
+        }
+        Form::Switch => {
+            let default = read_offset(w, source)?;
+            let count = read_u30(w, source)?;
+            let cases = read_offsets(alloc, w, source, count + 1)?;
+            Ok(Instr::Switch { default, cases })
+        }
+        Form::Byte => {
+            let x = read_signed_byte(w, source)?;
+            Ok(Instr::Byte(x))
+        }
+        Form::Short => {
+            let x = read_signed_short(w, source)?;
+            Ok(Instr::Short(x))
+        }
+        Form::ScopeObject => {
+            let x = read_u8(w, source)?;
+            Ok(Instr::ScopeObject(x))
+        }
+        Form::Debug => {
+            let kind = read_u8(w, source)?;
+            let name = read_u30(w, source)?;
+            let reg = read_u8(w, source)?;
+            let extra = read_u30(w, source)?;
+            Ok(Instr::Debug {
+                kind,
+                name,
+                reg,
+                extra,
+            })
+        }
+    }
+}
+
+/// An instruction with offsets for targets; where it needs a byte past the end, that is told at its opcode.
+#[tactic(auto, using(abc_format::proofs::Within::blamed_ends))]
+pub fn read_raw<S: Source>(
+    alloc: Global,
+    w: &mut Window,
+    source: &mut S,
+) -> Result<Instr, ReadError>
+    requires { w.old.kept ≡ None }
+    ensures moves { OnOk result (w.old.place < w.new.place) }
+    ensures value { Reads (blamed instruction).reads w.old (S.left source.old) w.new (S.left source.new) (seen raw_of result) }
+    ensures later { S.faults source.old ≤ S.faults source.new }
+    ensures cause { Blames w.old (S.faults source.old) (S.faults source.new) result }
+{
+    let place = w.place();
+    match read_parts(alloc, w, source) {
+        Err(
+            ReadError::Refused {
+                reason: Reason::CodeEnds,
+                ..
+            },
+        ) => Err(w.refuse(place, Reason::CodeEnds)),
+        other => other,
+    }
+}

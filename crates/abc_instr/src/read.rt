@@ -1,0 +1,70 @@
+ghost use Rattle.std.specs.Prelude.{◌≡◌, ◌≤◌, ◌<◌, ◌^◌, ◌+◌, None, IfOk, length};
+ghost use Rattle.abc_tables.specs.Code.{code as code_part};
+ghost use Rattle.abc_tables.specs.Instructions.{code_length};
+ghost use Rattle.abc_tables.specs.Starts.{IsRising};
+ghost use Rattle.abc_varint.specs.Answers.{Answers};
+ghost use Rattle.abc_varint.specs.Reads.{ReadsPart};
+
+use crate::pieces::read_pieces;
+use crate::resolve::{Missed, resolve_all};
+use abc_base::Source;
+use abc_tables::Code;
+use abc_varint::{ReadError, Reason, Window, read_u30};
+use std::alloc::Global;
+
+/// The length of code, below 2^23.
+const LENGTH_END: u32 = 1 << 23;
+
+#[tactic(auto, unfolding(abc_tables::specs::Instructions::code_length))]
+fn read_length<S: Source>(w: &mut Window, source: &mut S) -> Result<u32, ReadError>
+    ensures small { IfOk result (λ n. n < 2 ^ 23) }
+    ensures value { ReadsPart S.left S.faults code_length w.old source.old w.new source.new result }
+{
+    let place = w.place();
+    let length = read_u30(w, source)?;
+    if length >= LENGTH_END {
+        return Err(w.refuse(place, Reason::CodeLength));
+    }
+    Ok(length)
+}
+
+#[tactic(auto, unfolding(abc_tables::specs::Code::code, abc_tables::specs::Code::code_body, abc_tables::specs::Targets::resolve))]
+fn read_whole<S: Source>(alloc: Global, w: &mut Window, source: &mut S) -> Result<Code, ReadError>
+    requires { w.old.end ≡ 2 ^ 25 }
+    ensures value { ReadsPart S.left S.faults code_part w.old source.old w.new source.new result }
+    ensures rising { IfOk result (λ c. IsRising c.offsets) }
+    ensures count { IfOk result (λ c. length c.offsets ≡ length c.instrs + 1) }
+    ensures few { IfOk result (λ c. length c.offsets < 2 ^ 32) }
+{
+    let length = read_length(w, source)?;
+    let first = w.place();
+    let mut pieces = read_pieces(alloc, w, source, length)?;
+    match resolve_all(alloc, &pieces.starts, &mut pieces.instrs) {
+        Ok(()) => Ok(Code {
+            instrs: pieces.instrs,
+            offsets: pieces.starts,
+        }),
+        Err(Missed::Target(at)) => Err(w.refuse(first + at, Reason::Target)),
+        Err(Missed::NoMemory) => Err(ReadError::NoMemory),
+    }
+}
+
+/// Reads the number of code's bytes, below 2^23, and the instructions that fill them without a gap; their targets are
+/// numbers of instructions, counted from 0, and the number of all of them is the end. After the Err of a number, and
+/// after a refusal, every later read on the window answers that Err again.
+pub fn read_code<S: Source>(
+    alloc: Global,
+    w: &mut Window,
+    source: &mut S,
+) -> Result<Code, ReadError>
+    // The window has no end.
+    requires { w.old.end ≡ 2 ^ 25 }
+    ensures value { ReadsPart S.left S.faults code_part w.old source.old w.new source.new result }
+    ensures answers { Answers code_part w.old (S.left source.old) w.new (S.left source.new) result }
+    ensures rising { IfOk result (λ c. IsRising c.offsets) }
+    ensures count { IfOk result (λ c. length c.offsets ≡ length c.instrs + 1) }
+    ensures few { IfOk result (λ c. length c.offsets < 2 ^ 32) }
+{
+    let _place = w.place();
+    read_whole(alloc, w, source)
+}

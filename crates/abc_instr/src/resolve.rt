@@ -1,0 +1,148 @@
+ghost use Rattle.std.specs.Prelude.{◌≡◌, ◌≤◌, ◌<◌, ◌+◌, ◌^◌, All, get_or, length, nat_eq, map, unwrap_or};
+ghost use Rattle.std.specs.List.{position};
+ghost use Rattle.abc_tables.specs.Starts.{IsRising};
+ghost use Rattle.abc_tables.specs.Targets.{target_of, found, cases_of, instr_of, instrs_of};
+ghost use Rattle.abc_varint.specs.Reads.{stored};
+ghost use Rattle.abc_instr.specs.Offsets.{offset_of, raw_of, pieces_of, seen};
+ghost use Rattle.abc_instr.specs.Resolving.{Resolves};
+ghost use Rattle.abc_instr.specs.declared.resolve.Missed.TheVariants as missed;
+
+use abc_base::{NoMemory, Table};
+use abc_tables::Instr;
+use std::alloc::Global;
+
+/// Why a target was not found.
+#[derive(Clone, Copy, Debug, PartialEq, Eq)]
+pub enum Missed {
+    /// The offset at this place leads to no start.
+    Target(u32),
+    NoMemory,
+}
+
+impl From<NoMemory> for Missed {
+    ghost from_gives = { λ _ e. e ≡ missed.NoMemory };
+
+    fn from(_e: NoMemory) -> Missed {
+        Missed::NoMemory
+    }
+}
+
+/// Which start this is.
+pub fn number_of(starts: &Table<u32>, place: u32) -> Option<u32>
+    requires rising { IsRising starts.now }
+    requires few { length starts.now < 2 ^ 32 }
+    ensures { result ≡ position (λ s. nat_eq s place) starts.now }
+{
+    match starts.as_slice().binary_search(&place) {
+        Ok(i) => Some(i as u32),
+        Err(_) => None,
+    }
+}
+
+/// The number of the instruction, or of the end, at an offset from a base.
+fn target_at(starts: &Table<u32>, base: u32, offset: i32) -> Option<u32>
+    requires rising { IsRising starts.now }
+    requires few { length starts.now < 2 ^ 32 }
+    requires base { base ≤ 2 ^ 24 }
+    ensures { result ≡ target_of starts.now base offset }
+{
+    let place = base as i64 + offset as i64;
+    if place < 0 {
+        return None;
+    }
+    number_of(starts, place as u32)
+}
+
+fn resolve_at(starts: &Table<u32>, base: u32, offset: u32, place: u32) -> Result<u32, Missed>
+    requires rising { IsRising starts.now }
+    requires few { length starts.now < 2 ^ 32 }
+    requires base { base ≤ 2 ^ 24 }
+    ensures { Resolves (found place (target_of starts.now base (offset_of offset))) result }
+{
+    match target_at(starts, base, offset.cast_signed()) {
+        Some(target) => Ok(target),
+        None => Err(Missed::Target(place)),
+    }
+}
+
+fn resolve_cases(
+    alloc: Global,
+    starts: &Table<u32>,
+    base: u32,
+    next: u32,
+    cases: &Table<u32>,
+) -> Result<Table<u32>, Missed>
+    requires rising { IsRising starts.now }
+    requires few { length starts.now < 2 ^ 32 }
+    requires base { base ≤ 2 ^ 24 }
+    ensures { Resolves (cases_of starts.now base next (map offset_of cases.now)) result }
+{
+    let mut targets = Table::new(alloc);
+    let slice = cases.as_slice();
+    for (i, offset) in slice.iter().enumerate() {
+        let after = slice.len() - i;
+        let place = (next as usize).saturating_sub(after.saturating_mul(3)) as u32;
+        let target = resolve_at(starts, base, *offset, place)?;
+        targets.push(target)?;
+    }
+    Ok(targets)
+}
+
+/// The instruction with numbers for its offsets, or `None` where it has none.
+fn resolve_instr(
+    alloc: Global,
+    starts: &Table<u32>,
+    here: u32,
+    next: u32,
+    instr: &Instr,
+) -> Result<Option<Instr>, Missed>
+    requires rising { IsRising starts.now }
+    requires few { length starts.now < 2 ^ 32 }
+    requires here { here ≤ 2 ^ 24 }
+    requires next { next ≤ 2 ^ 24 }
+    ensures { Resolves (instr_of starts.now here next (raw_of instr.now)) (seen (λ o. unwrap_or o instr.now) result) }
+{
+    match instr {
+        Instr::Branch(op, offset) => {
+            let target = resolve_at(starts, next, *offset, here + 1)?;
+            Ok(Some(Instr::Branch(*op, target)))
+        }
+        Instr::Switch { default, cases } => {
+            let default = resolve_at(starts, here, *default, here + 1)?;
+            let cases = resolve_cases(alloc, starts, here, next, cases)?;
+            Ok(Some(Instr::Switch { default, cases }))
+        }
+        Instr::Plain(_) => Ok(None),
+        Instr::One(_, _) => Ok(None),
+        Instr::Two(_, _, _) => Ok(None),
+        Instr::Byte(_) => Ok(None),
+        Instr::Short(_) => Ok(None),
+        Instr::ScopeObject(_) => Ok(None),
+        Instr::Debug { .. } => Ok(None),
+    }
+}
+
+/// Puts numbers in place of all offsets.
+pub fn resolve_all(
+    alloc: Global,
+    starts: &Table<u32>,
+    instrs: &mut Table<Instr>,
+) -> Result<(), Missed>
+    requires rising { IsRising starts.now }
+    requires few { length starts.now < 2 ^ 32 }
+    requires count { length starts.now ≡ length instrs.old + 1 }
+    requires first { get_or starts.now 0 0 ≡ 0 }
+    requires small { All (λ s. s ≤ 2 ^ 24) starts.now }
+    ensures value { Resolves (instrs_of starts.now 0 (pieces_of instrs.old starts.now)) (stored result instrs.new) }
+    ensures count { length instrs.new ≡ length instrs.old }
+{
+    for i in 0..instrs.len() {
+        let here = *starts.get(i);
+        let next = *starts.get(i + 1);
+        match resolve_instr(alloc, starts, here, next, instrs.get(i))? {
+            Some(instr) => instrs.set(i, instr),
+            None => {}
+        }
+    }
+    Ok(())
+}
