@@ -9,7 +9,7 @@ use Rattle.abc_tables.specs.declared.code.Handler.{Handler}
 use Rattle.abc_tables.specs.declared.instructions.Code.{Code}
 use Rattle.abc_tables.specs.declared.tables.Abc.{Abc}
 use Rattle.abc_tables.specs.declared.tables.Sizes.{Sizes}
-use Rattle.abc_tables.specs.Bodies.{IsReadyBody, IsWithin, bodies, bodies_alone, body, body_list, handler, methods_of}
+use Rattle.abc_tables.specs.Bodies.{IsReadyBody, IsWithin, bodies, bodies_alone, body, body_list, body_with, handler, methods_of}
 use Rattle.abc_tables.specs.Classes.{sizes_of}
 use Rattle.abc_tables.specs.Code.{code}
 use Rattle.abc_tables.proofs.BodiesShortest.{code_nearer, code_ready, place_is}
@@ -47,7 +47,7 @@ code_count : (c : Code) (b : List ℕ) → code.spells c b → length c.offsets 
 code_count c b s = sym (code_nearer c b s).count ∙ canonical_count c.instrs
 
 body_ready : (v : Sizes) (taken : List ℕ) (y : Body × List ℕ) (b : List ℕ) → (body v taken).spells y b → IsReadyBody y.0
-unfolding body
+unfolding body body_with
 body_ready v taken y b s =
     let x = s.0 in
     let c = x.1.1.1.1.1.0 in

@@ -24,7 +24,7 @@ use Rattle.abc_tables.specs.declared.code.Instr.TheVariants as instrs
 use Rattle.abc_tables.specs.declared.instructions.Code.{Code}
 use Rattle.abc_tables.specs.declared.tables.Abc.{Abc}
 use Rattle.abc_tables.specs.declared.tables.Sizes.{Sizes}
-use Rattle.abc_tables.specs.Bodies.{handler, handler_bytes, body_method, body, body_bytes, body_list, bodies, bodies_bytes, bodies_alone, methods_of}
+use Rattle.abc_tables.specs.Bodies.{handler, handler_bytes, body_method, body_with, body, body_bytes, body_list, bodies, bodies_bytes, bodies_alone, methods_of}
 use Rattle.abc_tables.specs.Classes.{sizes_of}
 use Rattle.abc_tables.specs.Code.{MeansAll, SpellsCode, code, code_body, code_listing}
 use Rattle.abc_tables.specs.CodeBytes.{canonical_starts, code_bytes, code_len, instr_len, instrs_bytes, sized}
@@ -211,7 +211,7 @@ rest-shortens v =
     (canonical-shortens _ _ (counted-canonical _ _ (trait_info-canonical v))))
 
 pub body-shortens : (v : Sizes) (taken : List ℕ) → Shortens (body v taken) (body v taken) renewed (λ x. body_bytes x.0)
-unfolding body body_bytes body_method
+unfolding body body_with body_bytes body_method
 body-shortens v taken =
     let number = canonical-shortens _ _ u30-canonical in
     image-shortens _ _ _ _ _ _ renewed (λ x. body_bytes x.0)

@@ -33,9 +33,9 @@ handler_bytes starts h =
 unfoldable pub body_method : Sizes → List ℕ → Part ℕ
 body_method v taken = checked (λ m. not (list_any (nat_eq m) taken)) reasons.SecondBody (index_below v.methods)
 
--- a body, where these methods have one already, with the starts of its instructions as they were read
-unfoldable pub body : Sizes → List ℕ → Part (Body × List ℕ)
-body v taken =
+-- a body whose method is spelled so, with the starts of its instructions as they were read
+unfoldable pub body_with : Sizes → Part ℕ → Part (Body × List ℕ)
+body_with v method =
     image (λ x. (
       record {
         method = x.0;
@@ -49,8 +49,12 @@ body v taken =
       },
       x.1.1.1.1.1.0.offsets,
     ))
-    (both (body_method v taken) (both u30 (both u30 (both u30 (both u30 (then_by code (λ c.
+    (both method (both u30 (both u30 (both u30 (both u30 (then_by code (λ c.
     both (counted (handler v c.offsets)) (counted (trait_info v)))))))))
+
+-- a body, where these methods have one already
+unfoldable pub body : Sizes → List ℕ → Part (Body × List ℕ)
+body v taken = body_with v (body_method v taken)
 
 unfoldable pub body_bytes : Body → List ℕ
 body_bytes b =
