@@ -11,3 +11,4 @@ pub mod BodiesExact
 pub mod Shortening
 pub mod BodiesShortest
 pub mod BodiesReady
+pub mod Readiness

@@ -33,15 +33,9 @@ handler_bytes starts h =
 unfoldable pub body_method : Sizes → List ℕ → Part ℕ
 body_method v taken = checked (λ m. not (list_any (nat_eq m) taken)) reasons.SecondBody (index_below v.methods)
 
-<<<<<<< HEAD
 -- a body whose method is spelled so, with the starts of its instructions as they were read
 unfoldable pub body_with : Sizes → Part ℕ → Part (Body × List ℕ)
 body_with v method =
-=======
--- a body, where these methods have one already, with the starts of its instructions as they were read
-unfoldable pub body : Sizes → List ℕ → Part (Body × List ℕ)
-body v taken =
->>>>>>> 047619d05db57ad42ba94fe9ebb4441c6ad50ed0
     image (λ x. (
       record {
         method = x.0;
@@ -55,11 +49,7 @@ body v taken =
       },
       x.1.1.1.1.1.0.offsets,
     ))
-<<<<<<< HEAD
     (both method (both u30 (both u30 (both u30 (both u30 (then_by code (λ c.
-=======
-    (both (body_method v taken) (both u30 (both u30 (both u30 (both u30 (then_by code (λ c.
->>>>>>> 047619d05db57ad42ba94fe9ebb4441c6ad50ed0
     both (counted (handler v c.offsets)) (counted (trait_info v)))))))))
 
 -- a body, where these methods have one already
