@@ -12,7 +12,7 @@ use abc_tables::Code;
 use abc_varint::{ReadError, Reason, Window, read_u30};
 use std::alloc::Global;
 
-/// The length of code, below 2^23.
+/// The length of code is below it.
 const LENGTH_END: u32 = 1 << 23;
 
 #[tactic(auto, unfolding(abc_tables::specs::Instructions::code_length))]
@@ -50,8 +50,10 @@ fn read_whole<S: Source>(alloc: Global, w: &mut Window, source: &mut S) -> Resul
 }
 
 /// Reads the number of code's bytes, below 2^23, and the instructions that fill them without a gap; their targets are
-/// numbers of instructions, counted from 0, and the number of all of them is the end. After the Err of a number, and
-/// after a refusal, every later read on the window answers that Err again.
+/// numbers of instructions, counted from 0, and the number of all of them is the end. It is refused by `CodeLength` at
+/// the length; then by the first instruction that can't be read: by `Opcode` at its opcode, by `CodeEnds` there where it
+/// needs a byte past the code, or as its numbers are; and then by `Target` at the first offset that leads to no start of
+/// an instruction and not to the end.
 pub fn read_code<S: Source>(
     alloc: Global,
     w: &mut Window,

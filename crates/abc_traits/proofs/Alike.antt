@@ -1,10 +1,10 @@
 -- Parts that read alike: wherever they begin, they answer the same.
-use Rattle.std.proofs.Common.{◌≡◌, ℕ, zero, suc, ◌^◌, ◌<◌, Bool, true, false, cond, List, ◌∷◌, Ok, Err, refl, sym, ap, subst, ◌∙◌, arith}
+use Rattle.std.proofs.Common.{◌≡◌, ℕ, zero, suc, ◌^◌, ◌<◌, Bool, true, false, cond, Ok, Err, refl, sym, ap, subst, ◌∙◌}
 use Rattle.std.specs.Prelude.{nat_lt}
 use Rattle.std.specs.declared.result.Result.{Result}
 use Rattle.std.proofs.lemmas.Bool.{ltb-true}
 use Rattle.abc_format.specs.declared.reason.Reason.{Reason}
-use Rattle.abc_format.specs.Part.{At, Part, Refusal, refusal, checked, done, image, then_by, both, when, ◌>>=◌}
+use Rattle.abc_format.specs.Part.{At, Part, Refusal, refusal, checked, done, image, then_by, when, ◌>>=◌}
 use Rattle.abc_format.specs.Numbers.{number, u30}
 use Rattle.abc_format.specs.Lists.{times, counted}
 use Rattle.abc_format.proofs.Exact.{bind_ok, ok_is}

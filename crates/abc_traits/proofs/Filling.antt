@@ -1,8 +1,8 @@
 -- An Abc is filled with the tables that were read beside its pools.
-use Rattle.std.proofs.Common.{◌≡◌, ℕ, ◌^◌, length, List, Ok, Err, refl, sym, ap, subst, ◌∙◌, min, arith}
+use Rattle.std.proofs.Common.{◌≡◌, ℕ, ◌^◌, length, List, Ok, Err, refl, sym, subst, ◌∙◌, min, arith}
 use Rattle.std.specs.declared.result.Result.{Result}
 use Rattle.std.specs.declared.option.Option.{Option}
-use Rattle.abc_format.specs.Part.{At, Part, image}
+use Rattle.abc_format.specs.Part.{Part, image}
 use Rattle.abc_format.specs.Numbers.{u30}
 use Rattle.abc_tables.specs.declared.tables.Abc.{Abc}
 use Rattle.abc_tables.specs.declared.tables.Sizes.{Sizes}

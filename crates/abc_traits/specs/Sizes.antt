@@ -1,5 +1,5 @@
 -- Sizes of tables, as far as an index can tell them.
-use Rattle.std.specs.Prelude.{ℕ, ◌^◌, min}
+use Rattle.std.specs.Prelude.{◌^◌, min}
 use Rattle.abc_tables.specs.declared.tables.Sizes.{Sizes}
 
 -- an index is below 2^30, so a greater size is as good as 2^30

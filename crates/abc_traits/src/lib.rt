@@ -15,3 +15,6 @@ pub use definitions::{put_definitions, read_definitions};
 pub use laws::definitions_law;
 pub use sizes::sizes_of;
 pub use traits::TraitCodec;
+
+#[cfg(test)]
+mod tests;

@@ -1,13 +1,12 @@
-use Rattle.std.proofs.Common.{◌-◌, ◌<◌, ◌≤◌, ◌∷◌, [], ◌++◌, List, ℕ, sym, subst, arith}
-use Rattle.std.specs.List.{All}
+use Rattle.std.proofs.Common.{◌-◌, ◌<◌, ◌≤◌, ℕ, arith}
 use Rattle.std.proofs.lemmas.List.Elements.{All-push}
 use Rattle.std.proofs.lemmas.Result.{err_from_is_err_and}
 use Rattle.abc_format.specs.Ends.{blamed}
-use Rattle.abc_varint.proofs.Fill.{Filling, fill_goes_on, fill_ends, fill_done}
+use Rattle.abc_varint.proofs.Fill.{fill_goes_on, fill_ends, fill_done}
 use Rattle.abc_tables.specs.Instructions.{RawInstr, instruction, pieces}
 use Rattle.abc_tables.proofs.CodeParts.{instruction-exact, instruction-some}
 use Rattle.abc_instr.specs.Offsets.{raw_of, pieces_of}
-use Rattle.abc_instr.proofs.Growing.{Grown, grown_pieces, grown_starts}
+use Rattle.abc_instr.proofs.Growing.{grown_pieces, grown_starts}
 use Rattle.abc_instr.proofs.pieces.read_until.Goals as goal
 use Rattle.abc_instr.proofs.pieces.read_until.Goals.{else-loop-test, then-loop-test+then-place-end}
 

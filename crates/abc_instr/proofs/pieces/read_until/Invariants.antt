@@ -1,4 +1,4 @@
-use Rattle.std.proofs.Common.{◌≡◌, ◌≤◌, ◌<◌, ◌+◌, ◌^◌}
+use Rattle.std.proofs.Common.{◌≤◌, ◌<◌, ◌^◌}
 use Rattle.std.specs.Prelude.{All}
 use Rattle.abc_format.specs.Ends.{blamed}
 use Rattle.abc_varint.proofs.Fill.{Filling}

@@ -22,6 +22,6 @@ pub loop-preserved : goal.loop-preserved
 loop-preserved g c =
     let e = c.in_ok-offset.ensures in (
       rw (c.in_ok-push.ensures.ok, map-append offset_of c.loop.offsets (c.in_ok-offset.offset ∷ []))
-      (goes_on s24 c.args.count (c.args.count - c.loop.counter) (c.args.count - (c.loop.counter + 1)) (map offset_of c.loop.offsets) _ _ _ _ _ _ _ (omega arith) c.loop.invariant.0 e.0),
+          (goes_on s24 c.args.count (c.args.count - c.loop.counter) (c.args.count - (c.loop.counter + 1)) (map offset_of c.loop.offsets) _ _ _ _ _ _ _ (omega arith) c.loop.invariant.0 e.0),
       omega (arith, c.loop.invariant.1, e.2),
     )

@@ -1,4 +1,4 @@
-use Rattle.std.proofs.Common.{ap, arith, ◌∙◌, sym, ◌≡◌, length, ◌+◌}
+use Rattle.std.proofs.Common.{arith}
 use Rattle.abc_format.specs.Part.{refusal}
 use Rattle.abc_format.specs.declared.reason.Reason.TheVariants as reasons
 use Rattle.abc_tables.proofs.Resolving.{missed_within}

@@ -1,9 +1,7 @@
-use Rattle.std.proofs.Common.{◌≡◌, ◌+◌, get_or, sym, ◌∙◌, arith, Ok, Err, unwrap_or}
+use Rattle.std.proofs.Common.{◌≡◌, ◌+◌, get_or, arith, Ok, unwrap_or}
 use Rattle.std.proofs.lemmas.Result.{err_from_is_err_and}
-use Rattle.abc_tables.specs.declared.code.Instr.{Instr}
 use Rattle.abc_tables.specs.Targets.{instr_of}
 use Rattle.abc_instr.specs.Offsets.{raw_of}
-use Rattle.abc_instr.specs.Resolving.{Resolves}
 use Rattle.abc_instr.proofs.Finding.{read_start, stands_set, stands_same, stands_wrong, stands_last}
 use Rattle.abc_instr.proofs.resolve.resolve_all.Goals as goal
 use Rattle.abc_instr.proofs.resolve.resolve_all.Goals.{in-Some, in-None}

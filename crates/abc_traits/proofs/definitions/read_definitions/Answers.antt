@@ -1,4 +1,4 @@
-use Rattle.std.proofs.Common.{◌≡◌, Ok, Err, arith}
+use Rattle.std.proofs.Common.{Ok, Err, arith}
 use Rattle.std.specs.declared.result.Result.{Result}
 use Rattle.abc_tables.specs.declared.tables.Abc.{Abc}
 use Rattle.abc_tables.specs.Classes.{definitions}
