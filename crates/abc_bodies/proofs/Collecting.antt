@@ -1,5 +1,5 @@
 -- Bodies are read one after the other, with a flag for each method that has one.
-use Rattle.std.proofs.Common.{◌≡◌, ℕ, zero, suc, ◌+◌, ◌-◌, ◌<◌, ◌≤◌, Bool, true, false, List, [], ◌∷◌, ◌++◌, length, map, set, Ok, Err, None, Some, refl, sym, ap, subst, ◌∙◌, length-append, length-set, arith}
+use Rattle.std.proofs.Common.{◌≡◌, ℕ, zero, suc, ◌+◌, ◌-◌, ◌<◌, ◌≤◌, Bool, true, false, List, [], ◌∷◌, ◌++◌, length, get_or, map, set, Ok, Err, None, Some, refl, sym, ap, subst, ◌∙◌, length-append, length-set, arith}
 use Rattle.std.specs.Prelude.{replicate, slice_get}
 use Rattle.std.specs.declared.option.Option.{Option}
 use Rattle.std.proofs.lemmas.List.{length-replicate, map-append}
@@ -17,6 +17,7 @@ use Rattle.abc_varint.specs.Reads.{Reads}
 use Rattle.abc_traits.specs.Sizes.{capped}
 use Rattle.abc_traits.proofs.Alike.{Alike, alike_sym, image-alike, image_image}
 use Rattle.abc_traits.proofs.Filling.{mapped, reads_alike, reads_image}
+use Rattle.abc_bodies.specs.Places.{ArePlaces}
 use Rattle.abc_bodies.specs.Reading.{free_body, halves}
 use Rattle.abc_bodies.proofs.Alike.{IsFlagged, body_list-capped, flags_up, free_body-alike, no_flags}
 use Rattle.abc_bodies.proofs.Chaining.{Chaining, chain_begins, chain_done, chain_fails, chain_goes_on}
@@ -42,6 +43,23 @@ paired-halves (b ∷ bs) (t ∷ ss) e =
     let h = paired-halves bs ss (omega arith) in
     ap (λ (x : List Body × List (List ℕ)). (b ∷ x.0, t ∷ x.1)) h
 
+-- ---- places
+
+new_place : (bs : List Body) (ss : List (List ℕ)) (b : Body) (s : List ℕ) → length s ≡ length b.code + 1 → length ss ≡ length bs → (i : ℕ) (c : Body)
+    → slice_get (bs ++ b ∷ []) i ≡ Some c → ((j : ℕ) (d : Body) → slice_get bs j ≡ Some d → length (get_or ss j []) ≡ length d.code + 1) → length (get_or (ss ++ s ∷ []) i []) ≡ length c.code + 1
+new_place [] [] b s many even zero c h each = let same : b ≡ c = cc in ap (λ (d : Body). length s) same ∙ many ∙ ap (λ (d : Body). length d.code + 1) same
+new_place [] [] b s many even (suc i) c h each = absurd cc
+new_place [] (t ∷ ss) b s many even i c h each = absurd (omega arith)
+new_place (a ∷ bs) [] b s many even i c h each = absurd (omega arith)
+new_place (a ∷ bs) (t ∷ ss) b s many even zero c h each = each 0 c h
+new_place (a ∷ bs) (t ∷ ss) b s many even (suc i) c h each = new_place bs ss b s many (omega arith) i c h (λ j d g. each (suc j) d g)
+
+place_more : (bs : List Body) (ss : List (List ℕ)) (b : Body) (s : List ℕ) → length s ≡ length b.code + 1 → ArePlaces bs ss → ArePlaces (bs ++ b ∷ []) (ss ++ s ∷ [])
+place_more bs ss b s many p = record {
+  count = omega (arith, p.count, length-append bs (b ∷ []), length-append ss (s ∷ []));
+  each = λ i c h. new_place bs ss b s many p.count i c h p.each;
+}
+
 -- ---- the loop
 
 abbrev pub next_body : Sizes → List (Body × List ℕ) → Part (Body × List ℕ)
@@ -52,7 +70,7 @@ pub record Collecting (v : Sizes) (total more : ℕ) (flags : List Bool) (bs : L
   pub chained : Chaining (next_body v) total more (paired bs ss) w0 s0 w s
   pub flagged : IsFlagged flags (methods_of (paired bs ss))
   pub count : length flags ≡ v.methods
-  pub even : length bs ≡ length ss
+  pub placed : ArePlaces bs ss
 
 module _ (v : Sizes) (total : ℕ) (w0 : View) (s0 : Option (List ℕ)) where
   pub begins : (flags : List Bool) → flags ≡ replicate v.methods false → w0.kept ≡ None → Collecting v total (total - 0) flags [] [] w0 s0 w0 s0
@@ -60,25 +78,26 @@ module _ (v : Sizes) (total : ℕ) (w0 : View) (s0 : Option (List ℕ)) where
     chained = chain_begins (next_body v) total w0 s0 fresh;
     flagged = rw is (no_flags v.methods);
     count = ap length is ∙ length-replicate v.methods false;
-    even = refl;
+    placed = record { count = refl; each = λ i b h. absurd cc };
   }
 
   exact : (flags : List Bool) (bs : List Body) (ss : List (List ℕ)) → IsFlagged flags (methods_of (paired bs ss)) → length flags ≡ v.methods → Alike (free_body v flags) (next_body v (paired bs ss))
   exact flags bs ss flagged count = free_body-alike v flags (methods_of (paired bs ss)) count flagged
 
   pub collects : (more less : ℕ) (flags : List Bool) (bs : List Body) (ss : List (List ℕ)) (w : View) (s : Option (List ℕ)) (w2 : View) (s2 : Option (List ℕ)) (x : Body × List ℕ)
-      → more ≡ suc less → Collecting v total more flags bs ss w0 s0 w s → Reads (free_body v flags).reads w s w2 s2 (Ok x) → slice_get flags x.0.method ≡ Some false
+      → more ≡ suc less → Collecting v total more flags bs ss w0 s0 w s → Reads (free_body v flags).reads w s w2 s2 (Ok x) → slice_get flags x.0.method ≡ Some false → length x.1 ≡ length x.0.code + 1
       → Collecting v total less (set flags x.0.method true) (bs ++ x.0 ∷ []) (ss ++ x.1 ∷ []) w0 s0 w2 s2
-  collects more less flags bs ss w s w2 s2 x k g r free =
+  collects more less flags bs ss w s w2 s2 x k g r free many =
       let read = reads_alike _ _ (exact flags bs ss g.flagged g.count) w s w2 s2 (Ok x) r in
-      let push = paired-push bs ss x.0 x.1 g.even in
+      let even = sym g.placed.count in
+      let push = paired-push bs ss x.0 x.1 even in
       let methods : methods_of (paired bs ss ++ x ∷ []) ≡ methods_of (paired bs ss) ++ x.0.method ∷ [] = map-append (λ (y : Body × List ℕ). y.0.method) (paired bs ss) (x ∷ []) in
       let up = flags_up flags (methods_of (paired bs ss)) x.0.method (slice_get_within flags x.0.method false free) g.flagged in
       record {
         chained = rw push (chain_goes_on (next_body v) total more less (paired bs ss) w0 s0 w s w2 s2 x k g.chained read);
         flagged = rw (push, methods) up;
         count = length-set flags x.0.method true ∙ g.count;
-        even = omega (arith, g.even, length-append bs (x.0 ∷ []), length-append ss (x.1 ∷ []));
+        placed = place_more bs ss x.0 x.1 many g.placed;
       }
 
   pub fails : (e : ReadError) (more : ℕ) (flags : List Bool) (bs : List Body) (ss : List (List ℕ)) (w : View) (s : Option (List ℕ)) (w2 : View) (s2 : Option (List ℕ))
@@ -90,7 +109,7 @@ module _ (v : Sizes) (total : ℕ) (w0 : View) (s0 : Option (List ℕ)) where
   pub collected : (more : ℕ) (flags : List Bool) (bs : List Body) (ss : List (List ℕ)) (w : View) (s : Option (List ℕ))
       → more ≡ 0 → w0.kept ≡ None → Collecting v total more flags bs ss w0 s0 w s → Reads (image halves (chain total (next_body v) [])).reads w0 s0 w s (Ok (bs, ss))
   collected more flags bs ss w s k fresh g =
-      subst (λ (x : List Body × List (List ℕ)). Reads (image halves (chain total (next_body v) [])).reads w0 s0 w s (Ok x)) (paired-halves bs ss g.even)
+      subst (λ (x : List Body × List (List ℕ)). Reads (image halves (chain total (next_body v) [])).reads w0 s0 w s (Ok x)) (paired-halves bs ss (sym g.placed.count))
       (reads_image halves (chain total (next_body v) []) w0 s0 w s (Ok (paired bs ss)) (chain_done (next_body v) total more (paired bs ss) w0 s0 w s k fresh g.chained))
 
 -- ---- an Abc is filled with the bodies that were read beside its other tables

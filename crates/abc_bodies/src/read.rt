@@ -1,4 +1,5 @@
 ghost use Rattle.std.specs.Prelude.{◌≡◌, ◌≤◌, ◌<◌, ◌^◌, [], None, Some, Err, false, IfOk, OnErr, length, replicate};
+ghost use Rattle.abc_bodies.specs.Places.{ArePlaces};
 ghost use Rattle.abc_bodies.specs.Reading.{halves, with_places};
 ghost use Rattle.abc_format.specs.Lists.{chain};
 ghost use Rattle.abc_format.specs.Part.{image};
@@ -35,7 +36,8 @@ fn read_many<S: Source>(
 ) -> Result<(Table<Body>, Table<Table<u32>>), ReadError>
     requires fresh { w.old.kept ≡ None }
     requires end { w.old.end ≡ 2 ^ 25 }
-    ensures { ReadsPart S.left S.faults (image halves (chain count (λ before. body sizes.now (methods_of before)) [])) w.old source.old w.new source.new result }
+    ensures value { ReadsPart S.left S.faults (image halves (chain count (λ before. body sizes.now (methods_of before)) [])) w.old source.old w.new source.new result }
+    ensures places { IfOk result (λ x. ArePlaces x.0 x.1) }
 {
     let mut has_body = flags_down(alloc, sizes.methods)?;
     let mut bodies = Table::new(alloc);
@@ -58,7 +60,8 @@ fn read_all<S: Source>(
     sizes: &Sizes,
 ) -> Result<(Table<Body>, Table<Table<u32>>), ReadError>
     requires { w.old.end ≡ 2 ^ 25 }
-    ensures { ReadsPart S.left S.faults (image halves (body_list sizes.now)) w.old source.old w.new source.new result }
+    ensures value { ReadsPart S.left S.faults (image halves (body_list sizes.now)) w.old source.old w.new source.new result }
+    ensures places { IfOk result (λ x. ArePlaces x.0 x.1) }
 {
     let count = read_u30(w, source)?;
     read_many(alloc, w, source, sizes, count)
@@ -83,6 +86,7 @@ pub fn read_bodies<S: Source>(
     // The window has no end.
     requires { w.old.end ≡ 2 ^ 25 }
     ensures value { ReadsPart S.left S.faults (bodies abc.old) w.old source.old w.new source.new (with_places result abc.new) }
+    ensures places { IfOk result (ArePlaces (abc.new).bodies) }
     ensures err { OnErr result (abc.new ≡ abc.old) }
     ensures answers { Answers (bodies abc.old) w.old (S.left source.old) w.new (S.left source.new) (with_places result abc.new) }
 {

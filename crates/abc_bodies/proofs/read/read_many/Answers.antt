@@ -6,8 +6,8 @@ use Rattle.abc_varint.proofs.Loop.{other_err}
 use Rattle.abc_bodies.proofs.Collecting.{collects, fails, collected}
 use Rattle.abc_bodies.proofs.read.read_many.Goals as goal
 
-pub returns-in_err-body : goal.returns-in_err-body
-returns-in_err-body g c =
+pub returns-in_err-body-clause-value : goal.returns-in_err-body-clause-value
+returns-in_err-body-clause-value g c =
     let p = err_from_is_err_and c.from_residual-in_err-body.result c.from_residual-in_err-body.ensures.1 in
     let e = c.in_err-body.ensures.value in
     rw (p.1, p.2) (
@@ -26,15 +26,18 @@ loop-preserved g c =
     let e = c.in_ok-body.ensures.value in (
       rw (c.set.ensures, c.in_ok-push.ensures.ok, c.in_ok-push-2.ensures.ok)
           (collects c.args.sizes.now c.args.count c.args.w.now (g.S.Source.left c.args.source.now) (c.args.count - c.loop.counter) (c.args.count - (c.loop.counter + 1)) c.loop.has_body c.loop.bodies c.loop.places
-          c.loop.w (g.S.Source.left c.loop.source) c.read_body.new.w (g.S.Source.left c.read_body.new.source) (c.in_ok-body.body, c.in_ok-body.starts) (omega arith) c.loop.invariant.0 e.0 c.in_ok-body.ensures.free),
+          c.loop.w (g.S.Source.left c.loop.source) c.read_body.new.w (g.S.Source.left c.read_body.new.source) (c.in_ok-body.body, c.in_ok-body.starts) (omega arith) c.loop.invariant.0 e.0 c.in_ok-body.ensures.free c.in_ok-body.ensures.count),
       omega (arith, e.2, c.loop.invariant.1),
     )
 
-pub returns : goal.returns
-returns g c = (
+pub returns-clause-value : goal.returns-clause-value
+returns-clause-value g c = (
   collected c.args.sizes.now c.args.count c.args.w.now (g.S.Source.left c.args.source.now) (c.args.count - c.loop.counter) c.loop.has_body c.loop.bodies c.loop.places c.loop.w (g.S.Source.left c.loop.source)
       (omega arith) c.requires.fresh c.loop.invariant.0,
   (λ e h. absurd (let k = c.requires.fresh in cc)),
   c.loop.invariant.1,
   (λ k h. absurd cc),
 )
+
+pub returns-clause-places : goal.returns-clause-places
+returns-clause-places g c = c.loop.invariant.0.placed
