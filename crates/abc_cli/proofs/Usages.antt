@@ -52,13 +52,11 @@ not_ok c u r e f = cc
 
 canon_not_usage : (input : List ℕ) (a : Answer) → CanonOutcome input a → a.status ≡ status.Usage → ⊥
 canon_not_usage input a (CanonOutcome.accepted v f) e = cc
-canon_not_usage input a (CanonOutcome.refused r f n) e = cc
-canon_not_usage input a (CanonOutcome.with_bodies r f n) e = cc
+canon_not_usage input a (CanonOutcome.refused r f) e = cc
 
 status_not_usage : (s : Status) → IsCanonStatus s → s ≡ status.Usage → ⊥
 status_not_usage s IsCanonStatus.is_done e = cc
 status_not_usage s IsCanonStatus.is_refused e = cc
-status_not_usage s IsCanonStatus.is_not_built e = cc
 
 command_not_usage : (c : Command) (input : Option (List ℕ)) (a : Answer) → CommandOutcome c input a → a.status ≡ status.Usage → ⊥
 command_not_usage commands.Canon (Some b) a o e = canon_not_usage b a o e

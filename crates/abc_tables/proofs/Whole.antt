@@ -1,6 +1,6 @@
 -- The laws of the whole file.
 use Rattle.std.proofs.Common.{◌≡◌, ◌≢◌, ℕ, ◌≤◌, ◌⊎◌, inl, inr, List, [], ◌∷◌, ◌++◌, length, true, refl, sym, ap, subst, ◌∙◌, append_assoc, arith}
-use Rattle.std.specs.Prelude.{nat_eq}
+use Rattle.std.specs.Prelude.{All, nat_eq}
 use Rattle.std.proofs.lemmas.List.{append-nil}
 use Rattle.std.proofs.lemmas.Bool.Decides.{nat_tests}
 use Rattle.abc_base.specs.Numbers.{number_bytes}
@@ -16,9 +16,10 @@ use Rattle.abc_format.proofs.Determined.{determined}
 use Rattle.abc_tables.specs.declared.tables.Abc.{Abc}
 use Rattle.abc_tables.specs.Pools.{pools_bytes}
 use Rattle.abc_tables.specs.Classes.{definitions, definitions_bytes}
-use Rattle.abc_tables.specs.Bodies.{bodies, bodies_alone, bodies_bytes}
+use Rattle.abc_tables.specs.Bodies.{IsReadyBody, bodies, bodies_alone, bodies_bytes}
 use Rattle.abc_tables.specs.Files.{version, version_bytes, file, file_read, file_bytes, IsFile, IsBadFile, IsDecided}
 use Rattle.abc_tables.proofs.BodiesExact.{bodies-exact}
+use Rattle.abc_tables.proofs.BodiesReady.{bodies_ready}
 use Rattle.abc_tables.proofs.BodiesShortest.{bodies_alone-canonical}
 use Rattle.abc_tables.proofs.Exactness.{pools-exact, definitions-exact}
 use Rattle.abc_tables.proofs.Shortest.{pools-canonical, definitions-canonical}
@@ -167,3 +168,11 @@ canonical_same v w b c f g e =
     let one = (canonical_file v b f).0 in
     let two = (canonical_file w c g).0 in
     (decided (file_bytes w)).one_value v w (subst (IsFile v) e one) two
+
+-- the bodies of a file can be written
+pub file_ready : (v : Abc) (b : List ℕ) → IsFile v b → All IsReadyBody v.bodies
+unfolding file
+file_ready v b f =
+    let x = f.0.0 in
+    let s = f.0.1.4.4 in
+    subst (λ (w : Abc). All IsReadyBody w.bodies) (sym f.0.2) (bodies_ready x.1.1.0 x.1.1.1 s.1 s.4)
