@@ -1,27 +1,24 @@
 -- Bodies read alike over tables whose sizes an index cannot tell apart, and with flags in place of the methods taken.
-use Rattle.std.proofs.Common.{◌≡◌, ◌≢◌, ℕ, zero, suc, ◌^◌, ◌<◌, ◌≤◌, inl, inr, Bool, true, false, cond, List, [], ◌∷◌, ◌++◌, length, set, get_or, min, Ok, Err, Some, refl, sym, ap, subst, ◌∙◌, length-set, arith}
-use Rattle.std.specs.Prelude.{nat_eq, nat_lt, not, replicate, slice_get, unwrap_or, ◌||◌}
-use Rattle.std.specs.declared.result.Result.{Result}
+use Rattle.std.proofs.Common.{◌≡◌, ℕ, zero, suc, ◌<◌, inl, inr, Bool, true, false, cond, List, [], ◌∷◌, ◌++◌, length, set, get_or, Ok, Err, refl, sym, ap, ◌∙◌, length-set, arith}
+use Rattle.std.specs.Prelude.{nat_eq, nat_lt, not, replicate, ◌||◌}
 use Rattle.std.specs.List.{list_any}
 use Rattle.std.proofs.lemmas.Bool.{cases_eq, ltb-true}
 use Rattle.std.proofs.lemmas.Bool.Decides.{nat_tests}
 use Rattle.std.proofs.lemmas.Grind.{get_or-set_at}
-use Rattle.std.proofs.lemmas.List.{get_or-replicate, get_or-set_other, get_or-set_same, length-replicate}
+use Rattle.std.proofs.lemmas.List.{get_or-replicate, get_or-set_other, length-replicate}
 use Rattle.std.proofs.lemmas.List.Folds.{list_any-append}
-use Rattle.std.proofs.lemmas.Option.{get_or_from_slice_get, slice_get_within, unwrap_or-slice_get}
+use Rattle.std.proofs.lemmas.Option.{unwrap_or-slice_get}
 use Rattle.abc_format.specs.declared.reason.Reason.{Reason}
-use Rattle.abc_format.specs.declared.reason.Reason.TheVariants as reasons
 use Rattle.abc_format.specs.Lists.{chain}
 use Rattle.abc_format.specs.Numbers.{index_below, u30}
-use Rattle.abc_format.specs.Part.{At, Part, Refusal, checked, image, refusal, then_by, ◌>>=◌}
+use Rattle.abc_format.specs.Part.{At, Part, Refusal, checked}
 use Rattle.abc_format.proofs.Exact.{bind_ok, ok_is}
-use Rattle.abc_tables.specs.declared.code.Body.{Body}
 use Rattle.abc_tables.specs.declared.tables.Sizes.{Sizes}
 use Rattle.abc_tables.specs.Bodies.{body, body_list, body_method, body_with, handler, methods_of}
 use Rattle.abc_traits.specs.Sizes.{capped}
 use Rattle.abc_traits.proofs.Alike.{Alike, alike_refl, alike_trans, checked-alike, counted-alike, image-alike, then-alike}
 use Rattle.abc_traits.proofs.Capped.{index_below-capped, pool_index-capped, trait_info-capped}
-use Rattle.abc_bodies.specs.Reading.{free_body, free_method, is_free}
+use Rattle.abc_bodies.specs.Reading.{free_body, free_method}
 
 -- ---- sizes
 

@@ -1,5 +1,5 @@
 -- Reading items each of which depends on those before it, as a loop does.
-use Rattle.std.proofs.Common.{◌≡◌, ℕ, zero, suc, ◌+◌, ◌-◌, ◌<◌, ◌≤◌, List, [], ◌∷◌, ◌++◌, true, Ok, Err, None, refl, sym, ap, ◌∙◌, arith}
+use Rattle.std.proofs.Common.{◌≡◌, ℕ, suc, ◌-◌, ◌<◌, ◌≤◌, List, [], ◌∷◌, ◌++◌, true, Ok, Err, None, refl, sym, ◌∙◌, arith}
 use Rattle.std.specs.declared.result.Result.{Result}
 use Rattle.std.specs.declared.option.Option.{Option}
 use Rattle.abc_format.specs.Part.{At, Part, Refusal, refusal, ◌>>=◌}
@@ -7,7 +7,7 @@ use Rattle.abc_format.specs.Lists.{chain}
 use Rattle.abc_varint.specs.declared.error.ReadError.{ReadError}
 use Rattle.abc_varint.specs.declared.error.ReadError.TheVariants as errors
 use Rattle.abc_varint.specs.View.{View}
-use Rattle.abc_varint.specs.Reads.{Reads, Fails, tells, stand}
+use Rattle.abc_varint.specs.Reads.{Reads, tells, stand}
 
 -- With the items `before` read so far and `more` to come, what is read in all.
 pub record Chaining {A : Type 0} (p : List A → Part A) (total more : ℕ) (before : List A) (w0 : View) (s0 : Option (List ℕ)) (w : View) (s : Option (List ℕ)) : Type 0 where

@@ -1,5 +1,5 @@
 -- Bodies are read one after the other, with a flag for each method that has one.
-use Rattle.std.proofs.Common.{◌≡◌, ℕ, zero, suc, ◌+◌, ◌-◌, ◌<◌, ◌≤◌, Bool, true, false, List, [], ◌∷◌, ◌++◌, length, get_or, map, set, Ok, Err, None, Some, refl, sym, ap, subst, ◌∙◌, length-append, length-set, arith}
+use Rattle.std.proofs.Common.{◌≡◌, ℕ, zero, suc, ◌+◌, ◌-◌, ◌<◌, Bool, true, false, List, [], ◌∷◌, ◌++◌, length, get_or, set, Ok, Err, None, Some, refl, sym, ap, subst, ◌∙◌, length-append, length-set, arith}
 use Rattle.std.specs.Prelude.{replicate, slice_get}
 use Rattle.std.specs.declared.option.Option.{Option}
 use Rattle.std.proofs.lemmas.List.{length-replicate, map-append}
@@ -16,7 +16,7 @@ use Rattle.abc_varint.specs.View.{View}
 use Rattle.abc_varint.specs.Reads.{Reads}
 use Rattle.abc_traits.specs.Sizes.{capped}
 use Rattle.abc_traits.proofs.Alike.{Alike, alike_sym, image-alike, image_image}
-use Rattle.abc_traits.proofs.Filling.{mapped, reads_alike, reads_image}
+use Rattle.abc_traits.proofs.Filling.{reads_alike, reads_image}
 use Rattle.abc_bodies.specs.Places.{ArePlaces}
 use Rattle.abc_bodies.specs.Reading.{free_body, halves}
 use Rattle.abc_bodies.proofs.Alike.{IsFlagged, body_list-capped, flags_up, free_body-alike, no_flags}

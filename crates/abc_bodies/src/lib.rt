@@ -13,3 +13,6 @@ pub use laws::bodies_law;
 pub use places::Places;
 pub use put::put_bodies;
 pub use read::read_bodies;
+
+#[cfg(test)]
+mod tests;

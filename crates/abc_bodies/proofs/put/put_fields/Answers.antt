@@ -1,4 +1,4 @@
-use Rattle.std.proofs.Common.{◌≡◌, ◌-◌, ℕ, All, length, subst, sym, arith}
+use Rattle.std.proofs.Common.{◌≡◌, ◌-◌, ℕ, All, length, subst, arith}
 use Rattle.abc_tables.specs.Bodies.{IsWithin}
 use Rattle.abc_tables.specs.CodeBytes.{canonical_starts}
 use Rattle.abc_tables.proofs.Lengths.{canonical_count}
