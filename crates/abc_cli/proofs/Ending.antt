@@ -1,6 +1,6 @@
 -- How the ways to end follow from what was written.
 use Rattle.std.proofs.Common.{◌≡◌, ℕ, ◌≤◌, ◌⊎◌, inl, inr, List, [], ◌++◌, Some, None, Ok, Err, refl, sym, ap, ◌∙◌, subst}
-use Rattle.std.specs.Prelude.{is_ok, if◌then◌else◌, IsSome}
+use Rattle.std.specs.Prelude.{is_ok, if◌then◌else◌, IfSome, IsSome}
 use Rattle.std.proofs.lemmas.List.{append-nil}
 use Rattle.std.specs.declared.option.Option.{Option}
 use Rattle.std.specs.declared.result.Result.{Result}
@@ -13,7 +13,10 @@ use Rattle.abc_format.specs.declared.reason.Reason.{Reason}
 use Rattle.abc_format.specs.Part.{refusal}
 use Rattle.abc_varint.specs.declared.error.ReadError.{ReadError}
 use Rattle.abc_varint.specs.declared.error.ReadError.TheVariants as errors
+use Rattle.abc_file.specs.Reading.{AnswersFile}
+use Rattle.abc_tables.specs.declared.tables.Abc.{Abc}
 use Rattle.abc_tables.specs.Files.{IsBadFile, file_bytes}
+use Rattle.abc_tables.proofs.Whole.{read_spelled}
 use Rattle.abc_words.specs.declared.command.Command.TheVariants as commands
 use Rattle.abc_cli.specs.Canon.{error_answer, IsCanonical, IsFaultOf}
 use Rattle.abc_cli.specs.Lines.{line, read_fault_text, write_fault_text, no_memory_text}
@@ -66,6 +69,10 @@ memory_failed P F out err s o (inl g) = at_status P F out err s status.NoMemory 
 memory_failed P F out err s o (inr g) = at_status P F out err s status.WriteFault g.2 (IsEnd.memory_line_failed g.0 o g.1)
 
 -- ---- canon
+
+pub canonical_of : (input : Option (List ℕ)) (v : Abc × List (List ℕ)) (old new : List ℕ) → IfSome input (λ b. AnswersFile b (Ok v)) → old ≡ [] → new ≡ old ++ file_bytes v.0 → IsCanonical input new
+canonical_of None v old new f none is = tt
+canonical_of (Some b) v old new f none is = (v.0, (read_spelled v b f.0, f.1), rw (is, none) refl)
 
 refusal_outcome : (input : Option (List ℕ)) (place : ℕ) (reason : Reason) → IsFaultOf input (errors.Refused place reason) → CommandOutcome commands.Canon input (error_answer (errors.Refused place reason))
 refusal_outcome None place reason f = IsCanonStatus.is_refused
