@@ -1,1 +1,3 @@
+pub mod Formulas
 pub mod Spelling
+pub mod Writing

@@ -2,14 +2,33 @@
 //! words of a command line, the program's statuses, and how numbers are spelled.
 #![tactic(auto)]
 
+mod calls;
+mod formula;
+mod host;
 mod memory;
+mod names;
 mod number;
+mod plain;
+mod sink;
+mod sinks;
 mod source;
 mod sources;
+mod status;
 mod table;
+#[cfg(test)]
+mod tests;
+mod words;
 
+pub use formula::Formula;
+pub use host::{BuiltinHost, Host};
 pub use memory::NoMemory;
+pub use names::{Fault, HostClass};
 pub use number::{len_u30, len_u32};
+pub use plain::Plain;
+pub use sink::{Sink, write_all};
+pub use sinks::{MemSink, StdSink, SteadySink};
 pub use source::{Failed, Source};
-pub use sources::{StdSource, SteadySource};
+pub use sources::{MemSource, StdSource, SteadySource};
+pub use status::Status;
 pub use table::{Bytes, Table};
+pub use words::Words;

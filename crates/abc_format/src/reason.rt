@@ -40,6 +40,8 @@ pub enum Reason {
     Trailing,
     /// A byte is needed past the longest file, and is there.
     FileTooLong,
+    /// There are method bodies, which are not read yet.
+    NotBuilt,
 }
 
 impl Reason {
@@ -66,6 +68,7 @@ impl Reason {
             Reason::SecondBody => b"SecondBody",
             Reason::Trailing => b"Trailing",
             Reason::FileTooLong => b"FileTooLong",
+            Reason::NotBuilt => b"NotBuilt",
         }
     }
 }

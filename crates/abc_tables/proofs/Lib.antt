@@ -1,8 +1,10 @@
 pub mod Exactness
 pub mod Shortest
+pub mod Whole
 pub mod CodeParts
 pub mod Resolving
 pub mod Meaning
 pub mod CodeExact
 pub mod CodeShortest
 pub mod Lengths
+pub mod BodiesExact

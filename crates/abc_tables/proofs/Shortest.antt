@@ -1,12 +1,12 @@
 -- The canonical bytes of each part of the pools and of the definitions are a spelling, and none is shorter.
 use Rattle.std.proofs.lemmas.List.{append-nil}
-use Rattle.std.proofs.Common.{◌≡◌, ℕ, ◌+◌, ◌*◌, ◌%◌, ◌/◌, ◌++◌, ◌∷◌, [], length, List, Bool, true, false, cond, not, refl, sym, ap, ◌∙◌, append_assoc, Some, None, arith}
+use Rattle.std.proofs.Common.{◌≡◌, ℕ, ◌+◌, ◌*◌, ◌%◌, ◌/◌, ◌<◌, ◌++◌, ◌∷◌, [], length, List, Bool, true, false, cond, not, refl, sym, ap, ◌∙◌, append_assoc, Some, None, arith}
 use Rattle.std.specs.Prelude.{nat_eq, nat_le}
 use Rattle.std.specs.List.{flat_map}
 use Rattle.std.proofs.lemmas.Bool.Decides.{nat_tests}
 use Rattle.abc_base.specs.Numbers.{number_bytes}
 use Rattle.abc_format.specs.Part.{image, when}
-use Rattle.abc_format.specs.Numbers.{pool_index}
+use Rattle.abc_format.specs.Numbers.{u8, pool_index}
 use Rattle.abc_format.specs.Canonical.{IsCanonical, counted_bytes, pool_bytes, text_bytes}
 use Rattle.abc_format.proofs.Canon.{image-canonical, both-canonical, checked-canonical, then-canonical, done-canonical, times-canonical, times_length, u8-canonical, u30-canonical, index_below-canonical, pool_index-canonical, entry_index-canonical, counted-canonical, pool-canonical, when-canonical}
 use Rattle.abc_format.proofs.Least.{u32-canonical, s32-canonical}
@@ -148,13 +148,54 @@ trait_code_back : (k : ℕ) → nat_le k 6 ≡ true → trait_code (trait_kind_o
 trait_code_back k h = grind (arith, nat_tests)
 
 abbrev kind_byte : TraitKind × ℕ → ℕ
-kind_byte k = 16 * k.1 + trait_code k.0
+kind_byte k = 16 * (k.1 % 16) + trait_code k.0
+
+kind_byte_low : (a : ℕ) (kind : TraitKind) → (16 * a + trait_code kind) % 16 ≡ trait_code kind
+kind_byte_low a traits.Slot = omega arith
+kind_byte_low a traits.Method = omega arith
+kind_byte_low a traits.Getter = omega arith
+kind_byte_low a traits.Setter = omega arith
+kind_byte_low a traits.Class = omega arith
+kind_byte_low a traits.Function = omega arith
+kind_byte_low a traits.Const = omega arith
+
+trait_kind_back : (kind : TraitKind) → trait_kind_of (trait_code kind) ≡ kind
+trait_kind_back traits.Slot = refl
+trait_kind_back traits.Method = refl
+trait_kind_back traits.Getter = refl
+trait_kind_back traits.Setter = refl
+trait_kind_back traits.Class = refl
+trait_kind_back traits.Function = refl
+trait_kind_back traits.Const = refl
+
+trait_code_low : (kind : TraitKind) → nat_le (trait_code kind) 6 ≡ true
+trait_code_low traits.Slot = refl
+trait_code_low traits.Method = refl
+trait_code_low traits.Getter = refl
+trait_code_low traits.Setter = refl
+trait_code_low traits.Class = refl
+trait_code_low traits.Function = refl
+trait_code_low traits.Const = refl
+
+abbrev kind_and_attributes : ℕ → TraitKind × ℕ
+kind_and_attributes b = (trait_kind_of (b % 16), b / 16 % 16)
+
+kind_byte_back : (kind : TraitKind) (a : ℕ) → a < 16 → (kind, a) ≡ kind_and_attributes (kind_byte (kind, a))
+kind_byte_back kind a lt =
+    let low = kind_byte_low (a % 16) kind in
+    let high : (16 * (a % 16) + trait_code kind) / 16 % 16 ≡ a = omega arith in
+    rw (low, trait_kind_back kind, high) refl
 
 pub trait_kind-canonical : IsCanonical trait_kind (λ k. kind_byte k ∷ [])
-unfolding trait_kind
-trait_kind-canonical =
-    image-canonical (λ b. (trait_kind_of (b % 16), b / 16)) _ (λ b. b ∷ []) (λ k. kind_byte k ∷ []) (checked-canonical _ _ _ _ u8-canonical)
-    (λ x b s. let low = trait_code_back (x % 16) s.1 in let all : x ≡ 16 * (x / 16) + trait_code (trait_kind_of (x % 16)) = omega arith in ap (λ (c : ℕ). c ∷ []) all)
+unfolding trait_kind u8
+trait_kind-canonical = record {
+  spelled = λ k b s.
+      let x = s.0 in
+      let back : k ≡ kind_and_attributes (kind_byte k) = rw s.2 (kind_byte_back (trait_kind_of (x % 16)) (x / 16 % 16) (omega arith)) in
+      let low : nat_le (kind_byte k % 16) 6 ≡ true = rw (kind_byte_low (k.1 % 16) k.0) (trait_code_low k.0) in
+      (kind_byte k, (refl, low), back);
+  shortest = λ k b s. rw s.1.0 (omega arith);
+}
 
 slot_bytes_by : (zero_test : Bool) (n : ℕ) (kind : ValueKind) → (zero_test ≡ true → n ≡ 0)
     → number_bytes n ++ cond (not zero_test) (value_code kind ∷ []) [] ≡ slot_value_bytes (cond zero_test None (Some (record { kind = kind; value = n })))
@@ -202,7 +243,7 @@ trait_info-canonical v =
     both-canonical _ _ _ (λ m. cond (has_flag k.1 4) (counted_bytes number_bytes m) []) (trait_fields-canonical v k.0) (when-canonical (has_flag k.1 4) _ _ _ (counted-canonical _ _ (index_below-canonical v.metadata))))))
     (λ x b s.
     let kind : x.1.0.0 ≡ trait_kind_in x.1.1.0 = kind_of_fields v x.1.0.0 x.1.1.0 s.4.4.0 s.4.4.3 in
-    ap (λ (k : TraitKind). number_bytes x.0 ++ ((16 * x.1.0.1 + trait_code k) ∷ [] ++ (trait_fields_bytes x.1.1.0 ++ cond (has_flag x.1.0.1 4) (counted_bytes number_bytes x.1.1.1) []))) kind ∙ simp append_assoc)
+    ap (λ (k : TraitKind). number_bytes x.0 ++ ((16 * (x.1.0.1 % 16) + trait_code k) ∷ [] ++ (trait_fields_bytes x.1.1.0 ++ cond (has_flag x.1.0.1 4) (counted_bytes number_bytes x.1.1.1) []))) kind ∙ simp append_assoc)
 
 -- ---- classes and scripts
 

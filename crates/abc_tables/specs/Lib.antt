@@ -2,6 +2,7 @@ pub mod Pools
 pub mod Methods
 pub mod Traits
 pub mod Classes
+pub mod Files
 pub mod Opcodes
 pub mod Instructions
 pub mod Starts
@@ -10,3 +11,4 @@ pub mod Code
 pub mod CodeBytes
 pub mod Ready
 pub mod Places
+pub mod Bodies

@@ -41,7 +41,7 @@ trait_kind_of k =
 
 -- the kind and the attributes
 unfoldable pub trait_kind : Part (TraitKind × ℕ)
-trait_kind = image (λ b. (trait_kind_of (b % 16), b / 16)) (checked (λ b. nat_le (b % 16) 6) reasons.TraitKind u8)
+trait_kind = image (λ b. (trait_kind_of (b % 16), b / 16 % 16)) (checked (λ b. nat_le (b % 16) 6) reasons.TraitKind u8)
 
 -- ---- the fields of each kind
 
@@ -94,5 +94,5 @@ trait_info v =
 
 unfoldable pub trait_bytes : TraitInfo → List ℕ
 trait_bytes t =
-    number_bytes t.name ++ (16 * t.attrs + trait_code (trait_kind_in t.body)) ∷ [] ++ trait_fields_bytes t.body
+    number_bytes t.name ++ (16 * (t.attrs % 16) + trait_code (trait_kind_in t.body)) ∷ [] ++ trait_fields_bytes t.body
     ++ (if has_flag t.attrs 4 then counted_bytes number_bytes t.metadata else [])

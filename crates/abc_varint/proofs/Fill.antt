@@ -27,9 +27,6 @@ fill_starts p n w s k e =
     let b : w.place + n - w.place ≡ n = omega arith in
     record { fresh = k; forth = omega arith; told = λ t. t; end = e; ends_at = refl; room = λ t. (omega arith, omega arith); same = λ t. rw (a, b) (nothing ((fill n n p).reads (opened (stand w s)))) }
 
-abbrev bounded : ℕ → ℕ → List ℕ → At
-bounded end n bytes = record { place = n; bytes = bytes; end = end }
-
 -- one item within the room
 step_ok : {A : Type 0} (p : Part A) (m E : ℕ) (w : View) (s : Option (List ℕ)) (x : A) (w2 : View) (s2 : Option (List ℕ)) → w.end ≡ E → w.place + m ≡ E → E ≤ no_end
     → p.reads (stand w s) ≡ Ok (x, stand w2 s2) → (inside m p).reads (opened (stand w s)) ≡ Ok (x, opened (stand w2 s2))

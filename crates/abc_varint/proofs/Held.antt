@@ -1,3 +1,4 @@
+-- The next byte of those that a window holds.
 use Rattle.std.proofs.Common.{◌≡◌, ℕ, suc, ◌+◌, ◌-◌, ◌<◌, ◌≤◌, ◌^◌, ◌∷◌, List, get_or, take, drop, drop-cons, length, refl, sym, ap, ◌∙◌, Ok, Err, None, Some, [], true, arith, inl, inr, add-one}
 use Rattle.std.specs.declared.option.Option.{Option}
 use Rattle.abc_varint.specs.declared.error.ReadError.{ReadError}

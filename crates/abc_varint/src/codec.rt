@@ -18,6 +18,7 @@ use std::alloc::Global;
 /// How the items of a list are read and put. A value of the codec holds what reading them depends on, as the sizes of
 /// the tables that they point into.
 pub trait Codec {
+    /// An item, once it is read.
     type Item: Drop;
 
     /// What an item is spelled by.
@@ -26,7 +27,8 @@ pub trait Codec {
     /// The bytes that put an item.
     ghost canonical: { Self.Item → List ℕ };
 
-    /// Reads an item.
+    /// Reads an item. It is refused as its part is, `ReadFault` comes only where the source's count of faults rose, and
+    /// `NoMemory` where memory ran out. An Err that the window keeps is answered again.
     fn read<S: Source>(
         &self,
         alloc: Global,
@@ -35,12 +37,13 @@ pub trait Codec {
     ) -> Result<Self::Item, ReadError>
         ensures { ReadsPart S.left S.faults (part self.now) w.old source.old w.new source.new result };
 
-    /// Appends an item.
+    /// Appends an item. Where memory runs out, the old bytes are still the front.
     fn put(item: &Self::Item, out: &mut Vec<u8>) -> Result<(), NoMemory>
         ensures { Puts out.old.items out.new.items result (canonical item.now) };
 }
 
-/// Reads so many items, one after the other.
+/// Reads so many items, one after the other, with the errors of the codec's `read`. No memory is reserved for items that
+/// have not come.
 pub fn read_times<C: Codec, S: Source>(
     codec: &C,
     alloc: Global,
@@ -60,7 +63,7 @@ pub fn read_times<C: Codec, S: Source>(
     Ok(items)
 }
 
-/// Reads a count below 2^30, and that many items.
+/// Reads a count below 2^30, as `read_u30` does, and that many items, as `read_times` does.
 #[tactic(auto, unfolding(abc_format::specs::Lists::counted))]
 pub fn read_counted<C: Codec, S: Source>(
     codec: &C,
@@ -76,7 +79,8 @@ pub fn read_counted<C: Codec, S: Source>(
     Ok(items)
 }
 
-/// Reads a pool: a count below 2^30, and one item less than that, or none at the count 0. Entry 0 is not spelled.
+/// Reads a pool, whose entry 0 is not spelled: a count below 2^30, as `read_u30` does, and one item less than that, or
+/// none at the count 0, as `read_times` does.
 #[tactic(auto, unfolding(abc_format::specs::Lists::pool))]
 pub fn read_pool<C: Codec, S: Source>(
     codec: &C,
@@ -92,7 +96,7 @@ pub fn read_pool<C: Codec, S: Source>(
     Ok(items)
 }
 
-/// Appends the items, one after the other.
+/// Appends the items, one after the other. Where memory runs out, the old bytes are still the front.
 #[tactic(auto, using(crate::proofs::Putting::stays))]
 pub fn put_items<C: Codec>(items: &Table<C::Item>, out: &mut Vec<u8>) -> Result<(), NoMemory>
     ensures { Puts out.old.items out.new.items result (flat_map C.canonical items.now) }
@@ -103,7 +107,7 @@ pub fn put_items<C: Codec>(items: &Table<C::Item>, out: &mut Vec<u8>) -> Result<
     Ok(())
 }
 
-/// Appends how many items there are, and the items.
+/// Appends how many items there are, and the items. Where memory runs out, the old bytes are still the front.
 #[tactic(auto, unfolding(abc_format::specs::Canonical::counted_bytes), using(crate::proofs::Putting::stays, std::proofs::Common::append_assoc))]
 pub fn put_counted<C: Codec>(items: &Table<C::Item>, out: &mut Vec<u8>) -> Result<(), NoMemory>
     ensures { Puts out.old.items out.new.items result (counted_bytes C.canonical items.now) }
@@ -113,7 +117,8 @@ pub fn put_counted<C: Codec>(items: &Table<C::Item>, out: &mut Vec<u8>) -> Resul
     Ok(())
 }
 
-/// Appends a pool: how many items there are and one more for entry 0, or 0 where there are none, and the items.
+/// Appends a pool: how many items there are and one more for entry 0, or 0 where there are none, and the items. Where
+/// memory runs out, the old bytes are still the front.
 #[tactic(auto, unfolding(abc_format::specs::Canonical::pool_bytes), using(crate::proofs::Putting::stays, std::proofs::Common::append_assoc))]
 pub fn put_pool<C: Codec>(items: &Table<C::Item>, out: &mut Vec<u8>) -> Result<(), NoMemory>
     ensures { Puts out.old.items out.new.items result (pool_bytes C.canonical items.now) }

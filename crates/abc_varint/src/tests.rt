@@ -1,5 +1,3 @@
-ghost use Rattle.std.specs.Prelude.{◌<◌};
-
 use super::*;
 use abc_base::{NoMemory, SteadySource};
 use std::test::*;
@@ -10,26 +8,24 @@ fn refused<T>(place: u32, reason: Reason) -> Result<T, ReadError> {
     Err(ReadError::Refused { place, reason })
 }
 
-fn u30_of(rt: &HostRuntime, bytes: &[u8], piece: usize) -> Result<u32, ReadError>
-    requires { 0 < piece }
-{
-    let mut source = SteadySource::new(rt.alloc(), bytes, piece)?;
+fn source_of(rt: &HostRuntime, bytes: &[u8], piece: usize) -> Result<SteadySource, NoMemory> {
+    SteadySource::new(rt.alloc(), bytes, piece.max(1))
+}
+
+fn u30_of(rt: &HostRuntime, bytes: &[u8], piece: usize) -> Result<u32, ReadError> {
+    let mut source = source_of(rt, bytes, piece)?;
     let mut w = Window::new(rt.alloc())?;
     read_u30(&mut w, &mut source)
 }
 
-fn s32_of(rt: &HostRuntime, bytes: &[u8], piece: usize) -> Result<i32, ReadError>
-    requires { 0 < piece }
-{
-    let mut source = SteadySource::new(rt.alloc(), bytes, piece)?;
+fn s32_of(rt: &HostRuntime, bytes: &[u8], piece: usize) -> Result<i32, ReadError> {
+    let mut source = source_of(rt, bytes, piece)?;
     let mut w = Window::new(rt.alloc())?;
     read_s32(&mut w, &mut source)
 }
 
-fn s24_of(rt: &HostRuntime, bytes: &[u8], piece: usize) -> Result<i32, ReadError>
-    requires { 0 < piece }
-{
-    let mut source = SteadySource::new(rt.alloc(), bytes, piece)?;
+fn s24_of(rt: &HostRuntime, bytes: &[u8], piece: usize) -> Result<i32, ReadError> {
+    let mut source = source_of(rt, bytes, piece)?;
     let mut w = Window::new(rt.alloc())?;
     read_s24(&mut w, &mut source)
 }
@@ -51,6 +47,12 @@ fn numbers(rt: HostRuntime) {
             u30_of(&rt, &[0xff, 0xff], piece),
             refused(2, Reason::Short)
         );
+    }
+}
+
+#[test]
+fn signed_numbers(rt: HostRuntime) {
+    for piece in PIECES {
         assert_eq!(rt; s32_of(&rt, &[0x40], piece), Ok(64));
         assert_eq!(rt; s32_of(&rt, &[0xff, 0xff, 0xff, 0xff, 0x0f], piece), Ok(-1));
         assert_eq!(rt; s32_of(&rt, &[0xff, 0xff, 0xff, 0xff, 0x7f], piece), Ok(-1));
@@ -85,10 +87,8 @@ fn spellings(rt: HostRuntime) -> Result<(), Fail> {
 }
 
 /// A table of each codec, read and put again.
-fn again(rt: &HostRuntime, bytes: &[u8], piece: usize) -> Result<Vec<u8>, ReadError>
-    requires { 0 < piece }
-{
-    let mut source = SteadySource::new(rt.alloc(), bytes, piece)?;
+fn again(rt: &HostRuntime, bytes: &[u8], piece: usize) -> Result<Vec<u8>, ReadError> {
+    let mut source = source_of(rt, bytes, piece)?;
     let mut w = Window::new(rt.alloc())?;
     let mut out = Vec::new(rt.alloc());
     let version = read_u16(&mut w, &mut source)?;

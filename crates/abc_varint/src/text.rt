@@ -9,7 +9,8 @@ use crate::window::Window;
 use abc_base::{Bytes, Source};
 use std::alloc::Global;
 
-/// Reads so many bytes. Each is refused as by `read_u8`. No memory is reserved for bytes that have not come.
+/// Reads so many bytes, each refused as by `read_u8`. `NoMemory` comes where memory ran out; no memory is reserved for
+/// bytes that have not come.
 pub fn read_bytes<S: Source>(
     alloc: Global,
     w: &mut Window,
@@ -31,7 +32,8 @@ pub fn read_bytes<S: Source>(
     Ok(bytes)
 }
 
-/// Reads a text: a count below 2^30, and that many bytes.
+/// Reads a text: a count below 2^30, as `read_u30` does, and that many bytes, as `read_bytes` does. They need not be
+/// UTF-8.
 #[tactic(auto, unfolding(abc_format::specs::Lists::text, abc_format::specs::Lists::counted))]
 pub fn read_text<S: Source>(
     alloc: Global,

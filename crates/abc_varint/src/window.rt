@@ -88,7 +88,7 @@ impl Window {
         self.end = end;
     }
 
-    /// Keeps a refusal, and gives it.
+    /// Keeps a refusal, and gives it: every later read answers it.
     pub fn refuse(&mut self, place: u32, reason: Reason) -> ReadError
         ensures is { result ≡ ReadError.Refused place reason }
         ensures keeps { self.new ≡ record self.old { kept = Some result } }

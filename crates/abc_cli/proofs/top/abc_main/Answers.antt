@@ -1,0 +1,44 @@
+use Rattle.std.proofs.Common.{sym, ap, subst, ◌∙◌}
+use Rattle.abc_words.specs.declared.command.Usage.{Usage}
+use Rattle.abc_cli.specs.End.{GivesLine, channel}
+use Rattle.abc_cli.specs.Outcome.{Answer, IsOutcome, usage_answer}
+use Rattle.abc_cli.proofs.Ending.{line_ends, nothing, weaker}
+use Rattle.abc_cli.proofs.Usages.{usage_found, is_usage, usage_outcome, same_usage, not_ok, end_not_usage}
+use Rattle.abc_cli.proofs.top.abc_main.Goals as goal
+
+pub give_usage-requires : goal.give_usage-requires
+give_usage-requires g c = is_usage c.args.words.now c.parse.result c.in-Err.usage c.parse.ensures.none c.parse.ensures.word c.in-Err.is
+
+pub returns-in-Ok-clause-end : goal.returns-in-Ok-clause-end
+returns-in-Ok-clause-end g c =
+    weaker _ _ _ _ _ _ c.run_command.result (λ a o. IsOutcome.command c.in-Ok.command ((c.parse.ensures.command c.in-Ok.command).0 c.in-Ok.is) o) (λ h. h) c.run_command.ensures.end
+
+pub returns-in-Ok-clause-usage : goal.returns-in-Ok-clause-usage
+returns-in-Ok-clause-usage g c = λ a u.
+    let f = usage_found c.args.words.now c.parse.result c.parse.ensures.none c.parse.ensures.word a u in
+    absurd (not_ok c.in-Ok.command f.0 c.parse.result c.in-Ok.is f.1)
+
+pub returns-in-Ok-clause-untouched : goal.returns-in-Ok-clause-untouched
+returns-in-Ok-clause-untouched g c = λ a u.
+    let f = usage_found c.args.words.now c.parse.result c.parse.ensures.none c.parse.ensures.word a u in
+    absurd (not_ok c.in-Ok.command f.0 c.parse.result c.in-Ok.is f.1)
+
+pub returns-in-Ok-clause-well_formed : goal.returns-in-Ok-clause-well_formed
+returns-in-Ok-clause-well_formed g c = λ w e. end_not_usage c.in-Ok.command (g.S.Source.left c.args.source.now) _ _ _ c.run_command.result c.run_command.ensures.end e
+
+pub returns-in-Err-clause-end : goal.returns-in-Err-clause-end
+returns-in-Err-clause-end g c =
+    let u = is_usage c.args.words.now c.parse.result c.in-Err.usage c.parse.ensures.none c.parse.ensures.word c.in-Err.is in
+    line_ends _ _ _ _ (usage_answer c.args.words.now c.in-Err.usage) c.give_usage.result (IsOutcome.usage (usage_outcome c.args.words.now c.in-Err.usage u)) (nothing (g.K.Sink.written c.args.out.now))
+    c.give_usage.ensures
+
+pub returns-in-Err-clause-usage : goal.returns-in-Err-clause-usage
+returns-in-Err-clause-usage g c = λ a u.
+    let f = usage_found c.args.words.now c.parse.result c.parse.ensures.none c.parse.ensures.word a u in
+    let same = same_usage f.0 c.in-Err.usage c.parse.result f.1 c.in-Err.is in
+    let is = f.2 ∙ ap (λ (x : Usage). usage_answer c.args.words.now x) same in
+    let err = channel (g.E.Sink.written c.args.err.now) (g.E.Sink.written c.give_usage.new.err) (g.E.Sink.faults c.args.err.now) (g.E.Sink.faults c.give_usage.new.err) in
+    subst (λ (x : Answer). GivesLine err x c.give_usage.result) (sym is) c.give_usage.ensures
+
+pub returns-in-Err-clause-well_formed : goal.returns-in-Err-clause-well_formed
+returns-in-Err-clause-well_formed g c = λ w e. absurd (not_ok w.0 c.in-Err.usage c.parse.result ((c.parse.ensures.command w.0).1 w.1) c.in-Err.is)

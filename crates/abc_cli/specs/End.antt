@@ -1,0 +1,52 @@
+-- How a run ends: what the sinks got, and when a status but the defined one is answered.
+use Rattle.std.specs.Prelude.{◌≡◌, ◌⊎◌, ℕ, List, [], IsSome}
+use Rattle.std.specs.Io.KnownBytes.{append_known}
+use Rattle.std.specs.declared.option.Option.{Option}
+use Rattle.abc_base.specs.Faults.{Rose}
+use Rattle.abc_base.specs.Sinks.{GrowsByFront}
+use Rattle.abc_base.specs.declared.status.Status.{Status}
+use Rattle.abc_base.specs.declared.status.Status.TheVariants as status
+use Rattle.abc_cli.specs.Lines.{line, read_fault_text, write_fault_text, no_memory_text}
+use Rattle.abc_cli.specs.Outcome.{Answer, told}
+
+-- a sink before and after: what was written to it, where it tells that, and its count of faults
+pub record Channel : Type 0 where
+  pub before : Option (List ℕ)
+  pub after : Option (List ℕ)
+  pub faults_before : ℕ
+  pub faults_after : ℕ
+
+abbrev pub channel : Option (List ℕ) → Option (List ℕ) → ℕ → ℕ → Channel
+channel before after faults_before faults_after = record { before = before; after = after; faults_before = faults_before; faults_after = faults_after }
+
+-- it got these bytes
+abbrev pub Got : Channel → List ℕ → Type 0
+Got c bytes = IsSome c.before → c.after ≡ append_known c.before bytes
+
+-- it got the front of these bytes
+abbrev pub GotFront : Channel → List ℕ → Type 0
+GotFront c bytes = IsSome c.before → GrowsByFront c.before c.after bytes
+
+-- its count of faults rose
+abbrev pub HasFailed : Channel → Type 0
+HasFailed c = Rose c.faults_before c.faults_after
+
+-- the line was written, and the status is its own; or writing it failed
+abbrev pub GivesLine : Channel → Answer → Status → Type 0
+GivesLine err a s = (Got err a.err × (s ≡ a.status)) ⊎ (HasFailed err × GotFront err a.err × (s ≡ status.WriteFault))
+
+-- The run ends with an answer of the outcome, written whole; or with a fault of the source, of a sink or of memory, each with its cause and with what stands.
+pub data IsEnd (Outcome : Answer → Type 0) (SourceFailed : Type 0) (out err : Channel) : Status → Type 0 where
+  defined : (a : Answer) → Outcome a → Got out a.out → Got err a.err → IsEnd Outcome SourceFailed out err a.status
+  read_fault : SourceFailed → Got out [] → Got err (line read_fault_text) → IsEnd Outcome SourceFailed out err status.ReadFault
+  no_memory : Got out [] → Got err (line no_memory_text) → IsEnd Outcome SourceFailed out err status.NoMemory
+  -- writing to `out` failed, and the line that says so was written
+  out_failed : (a : Answer) → Outcome a → HasFailed out → GotFront out a.out → Got err (line write_fault_text) → IsEnd Outcome SourceFailed out err status.WriteFault
+  -- writing to `out` failed, and then writing the line that says so
+  both_failed : (a : Answer) → Outcome a → HasFailed out → HasFailed err → GotFront out a.out → GotFront err (line write_fault_text) → IsEnd Outcome SourceFailed out err status.WriteFault
+  -- writing an answer's line failed
+  line_failed : (a : Answer) → Outcome a → HasFailed err → Got out a.out → GotFront err a.err → IsEnd Outcome SourceFailed out err status.WriteFault
+  -- writing the line of a failed read failed
+  read_line_failed : SourceFailed → HasFailed err → Got out [] → GotFront err (line read_fault_text) → IsEnd Outcome SourceFailed out err status.WriteFault
+  -- writing the line of missing memory failed
+  memory_line_failed : HasFailed err → Got out [] → GotFront err (line no_memory_text) → IsEnd Outcome SourceFailed out err status.WriteFault

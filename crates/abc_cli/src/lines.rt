@@ -1,0 +1,89 @@
+ghost use Rattle.std.specs.Prelude.{◌++◌};
+ghost use Rattle.abc_escape.specs.Escapes.{escaped};
+ghost use Rattle.abc_base.specs.Faults.{HasCause};
+ghost use Rattle.abc_base.specs.Sinks.{WritesAll};
+ghost use Rattle.abc_cli.specs.Lines.{line, refusal_text, usage_text};
+ghost use Rattle.abc_format.specs.Part.{refusal};
+
+use abc_base::{Failed, Sink, write_all};
+use abc_escape::write_escaped;
+use abc_format::Reason;
+use itoa::Buffer;
+
+/// Writes three pieces in a row.
+#[tactic(auto, using(abc_base::proofs::Writing::writing))]
+fn write_three<E: Sink>(err: &mut E, a: &[u8], b: &[u8], c: &[u8]) -> Result<(), Failed>
+    ensures bytes { WritesAll (E.written err.old) (E.written err.new) result (a.now ++ b.now ++ c.now) }
+    ensures cause { HasCause (E.faults err.old) (E.faults err.new) result }
+{
+    write_all(err, a)?;
+    write_all(err, b)?;
+    write_all(err, c)
+}
+
+/// Writes a piece with escapes between two others.
+#[tactic(auto, using(abc_base::proofs::Writing::writing))]
+fn write_with_escapes<E: Sink>(err: &mut E, a: &[u8], word: &[u8], c: &[u8]) -> Result<(), Failed>
+    ensures bytes { WritesAll (E.written err.old) (E.written err.new) result (a.now ++ escaped word.now ++ c.now) }
+    ensures cause { HasCause (E.faults err.old) (E.faults err.new) result }
+{
+    write_all(err, a)?;
+    write_escaped(err, word)?;
+    write_all(err, c)
+}
+
+/// Writes two pieces in a row.
+#[tactic(auto, using(abc_base::proofs::Writing::writing))]
+fn write_two<E: Sink>(err: &mut E, a: &[u8], b: &[u8]) -> Result<(), Failed>
+    ensures bytes { WritesAll (E.written err.old) (E.written err.new) result (a.now ++ b.now) }
+    ensures cause { HasCause (E.faults err.old) (E.faults err.new) result }
+{
+    write_all(err, a)?;
+    write_all(err, b)
+}
+
+/// Writes five pieces in a row.
+#[tactic(auto, using(abc_base::proofs::Writing::writing))]
+fn write_five<E: Sink>(
+    err: &mut E,
+    a: &[u8],
+    b: &[u8],
+    c: &[u8],
+    d: &[u8],
+    e: &[u8],
+) -> Result<(), Failed>
+    ensures bytes { WritesAll (E.written err.old) (E.written err.new) result ((a.now ++ b.now ++ c.now) ++ (d.now ++ e.now)) }
+    ensures cause { HasCause (E.faults err.old) (E.faults err.new) result }
+{
+    write_three(err, a, b, c)?;
+    write_two(err, d, e)
+}
+
+/// Writes a line: `abc: `, a text, and a line feed.
+#[tactic(auto, unfolding(crate::specs::Lines::line))]
+pub fn write_line<E: Sink>(err: &mut E, text: &[u8]) -> Result<(), Failed>
+    ensures bytes { WritesAll (E.written err.old) (E.written err.new) result (line text.now) }
+    ensures cause { HasCause (E.faults err.old) (E.faults err.new) result }
+{
+    write_three(err, b"abc: ", text, b"\n")
+}
+
+/// Writes the line of words that go wrong at this one.
+#[tactic(auto, unfolding(crate::specs::Lines::line, crate::specs::Lines::usage_text))]
+pub fn write_usage<E: Sink>(err: &mut E, word: &[u8]) -> Result<(), Failed>
+    ensures bytes { WritesAll (E.written err.old) (E.written err.new) result (line (usage_text word.now)) }
+    ensures cause { HasCause (E.faults err.old) (E.faults err.new) result }
+{
+    write_with_escapes(err, b"abc: usage: ", word, b"\n")
+}
+
+/// Writes the line of a refused file.
+#[tactic(auto, unfolding(crate::specs::Lines::line, crate::specs::Lines::refusal_text), using(std::proofs::Common::append_assoc))]
+pub fn write_refusal<E: Sink>(err: &mut E, place: u32, reason: Reason) -> Result<(), Failed>
+    ensures bytes { WritesAll (E.written err.old) (E.written err.new) result (line (refusal_text (refusal place reason))) }
+    ensures cause { HasCause (E.faults err.old) (E.faults err.new) result }
+{
+    let mut buffer = Buffer::new();
+    let digits = buffer.format(place).as_bytes();
+    write_five(err, b"abc: byte ", digits, b": ", reason.name(), b"\n")
+}

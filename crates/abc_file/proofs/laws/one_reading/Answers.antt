@@ -1,0 +1,5 @@
+use Rattle.abc_tables.proofs.Whole.{decided}
+use Rattle.abc_file.proofs.laws.one_reading.Goals as goal
+
+pub returns : goal.returns
+returns c = decided

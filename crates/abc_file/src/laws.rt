@@ -1,0 +1,17 @@
+ghost use Rattle.std.specs.Prelude.{◌≡◌, ◌≤◌, List, ℕ, length};
+ghost use Rattle.abc_tables.specs.declared.tables.Abc.{Abc};
+ghost use Rattle.abc_tables.specs.Files.{IsFile, IsDecided, file_bytes};
+
+/// Every list of bytes is spelled by exactly one file, or is bad at exactly one place for exactly one reason, and
+/// never both.
+pub fn one_reading()
+    ensures { (b : List ℕ) → IsDecided b }
+{}
+
+/// What is written spells the file, and no spelling is shorter; two files that can be spelled are written alike only
+/// where they are equal.
+pub fn canonical_form()
+    ensures spelled { (v : Abc) → (b : List ℕ) → IsFile v b → IsFile v (file_bytes v) }
+    ensures shortest { (v : Abc) → (b : List ℕ) → IsFile v b → length (file_bytes v) ≤ length b }
+    ensures one_form { (v w : Abc) → (b c : List ℕ) → IsFile v b → IsFile w c → file_bytes v ≡ file_bytes w → v ≡ w }
+{}

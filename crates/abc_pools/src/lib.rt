@@ -1,0 +1,14 @@
+//! The constant pools, read from a source through a window and put as their shortest bytes: numbers, texts,
+//! namespaces, sets of namespaces and multinames.
+#![tactic(auto)]
+
+mod doubles;
+mod multinames;
+mod pools;
+mod spaces;
+
+pub use multinames::{put_multiname, read_multiname};
+pub use pools::{put_pools, read_pools, shortest_spelling};
+
+#[cfg(test)]
+mod tests;

@@ -1,0 +1,148 @@
+-- The laws of the whole file.
+use Rattle.std.proofs.Common.{◌≡◌, ◌≢◌, ℕ, ◌≤◌, ◌⊎◌, inl, inr, List, [], ◌∷◌, ◌++◌, length, true, refl, sym, ap, subst, ◌∙◌, append_assoc, arith}
+use Rattle.std.specs.Prelude.{nat_eq}
+use Rattle.std.proofs.lemmas.List.{append-nil}
+use Rattle.std.proofs.lemmas.Bool.Decides.{nat_tests}
+use Rattle.abc_base.specs.Numbers.{number_bytes}
+use Rattle.abc_format.specs.declared.reason.Reason.TheVariants as reasons
+use Rattle.abc_format.specs.Part.{At, at, limit, Front, Refusal, refusal, Begins}
+use Rattle.abc_format.specs.Law.{Exact, IsDetermined}
+use Rattle.abc_format.specs.Canonical.{IsCanonical, u16_bytes}
+use Rattle.abc_format.proofs.Exact.{image-exact, both-exact, checked-exact, then-exact}
+use Rattle.abc_format.proofs.Numbers.{u16-exact, u30-exact}
+use Rattle.abc_format.proofs.Canon.{image-canonical, both-canonical, checked-canonical, then-canonical, u30-canonical}
+use Rattle.abc_format.proofs.Fixed.{u16-canonical}
+use Rattle.abc_format.proofs.Determined.{determined}
+use Rattle.abc_tables.specs.declared.tables.Abc.{Abc}
+use Rattle.abc_tables.specs.Pools.{pools_bytes}
+use Rattle.abc_tables.specs.Classes.{definitions, definitions_bytes}
+use Rattle.abc_tables.specs.Files.{version, version_bytes, no_bodies, file, file_bytes, IsFile, IsBadFile, IsDecided}
+use Rattle.abc_tables.proofs.Exactness.{pools-exact, definitions-exact}
+use Rattle.abc_tables.proofs.Shortest.{pools-canonical, definitions-canonical}
+
+pub version-exact : Exact version
+unfolding version
+version-exact = both-exact _ _ (checked-exact _ _ _ u16-exact) (checked-exact _ _ _ u16-exact)
+
+pub no_bodies-exact : Exact no_bodies
+unfolding no_bodies
+no_bodies-exact = checked-exact _ _ _ u30-exact
+
+pub file-exact : Exact file
+unfolding file
+file-exact = image-exact _ _ (both-exact _ _ version-exact (then-exact _ _ pools-exact (λ abc. both-exact _ _ (definitions-exact abc) no_bodies-exact)))
+
+-- ---- the whole input
+
+whole_front : (b : List ℕ) → length b ≤ limit → Front (at 0 b) b (at (length b) [])
+whole_front b le = record { parts = sym (append-nil b); place = omega arith; room = le; same = refl; within = λ h. omega arith }
+
+begins_whole : (v : Abc) (b : List ℕ) → IsFile v b → Begins file (at 0 b) v (at (length b) [])
+begins_whole v b f = record { front = b; spelled = f.0; is = whole_front b f.1 }
+
+pub whole_begins : (v : Abc) (b : List ℕ) (after : At) → Begins file (at 0 b) v after → after.bytes ≡ [] → IsFile v b
+whole_begins v b after s none =
+    let e : b ≡ s.front = s.is.parts ∙ ap (λ (t : List ℕ). s.front ++ t) none ∙ append-nil s.front in
+    let le : length s.front ≤ limit = omega (arith, s.is.place, s.is.room) in
+    (subst (file.spells v) (sym e) s.spelled, subst (λ (t : List ℕ). length t ≤ limit) (sym e) le)
+
+is_empty : (b : List ℕ) → (b ≡ []) ⊎ (b ≢ [])
+is_empty [] = inl refl
+is_empty (x ∷ b) = inr (λ e. cc)
+
+zero_room : (b : List ℕ) → (at 0 b).place ≤ limit
+zero_room b = omega arith
+
+law : IsDetermined file
+law = determined file file-exact
+
+decided_some : (b : List ℕ) → ((v : Abc) × (after : At) × Begins file (at 0 b) v after) ⊎ ((r : Refusal) × file.bad (at 0 b) r) → ((v : Abc) × IsFile v b) ⊎ ((r : Refusal) × IsBadFile b r)
+decided_some b (inl s) =
+    elim (is_empty s.1.bytes) [
+      | inl none ↦ inl (s.0, whole_begins s.0 b s.1 s.2 none)
+      | inr some ↦ inr (refusal s.1.place reasons.Trailing, inr (s.0, s.1, s.2, some, refl))
+    ]
+decided_some b (inr r) = inr (r.0, inl r.1)
+
+same_refusal : (b : List ℕ) (r s : Refusal) → IsBadFile b r → IsBadFile b s → r ≡ s
+same_refusal b r s (inl x) (inl y) = law.one_refusal (at 0 b) r s x y
+same_refusal b r s (inl x) (inr y) = absurd (law.never_both (at 0 b) y.0 y.1 r y.2 x)
+same_refusal b r s (inr x) (inl y) = absurd (law.never_both (at 0 b) x.0 x.1 s x.2 y)
+same_refusal b r s (inr x) (inr y) =
+    let e = (law.one_value (at 0 b) x.0 y.0 x.1 y.1 x.2 y.2).1 in
+    x.4 ∙ ap (λ (a : At). refusal a.place reasons.Trailing) e ∙ sym y.4
+
+never_both : (b : List ℕ) (v : Abc) (r : Refusal) → IsFile v b → IsBadFile b r → ⊥
+never_both b v r f (inl x) = law.never_both (at 0 b) v (at (length b) []) r (begins_whole v b f) x
+never_both b v r f (inr x) =
+    let e = (law.one_value (at 0 b) v x.0 (at (length b) []) x.1 (begins_whole v b f) x.2).1 in
+    x.3 (sym (ap (λ (a : At). a.bytes) e))
+
+pub decided : (b : List ℕ) → IsDecided b
+decided b = record {
+  some = decided_some b (law.some (at 0 b) (zero_room b));
+  one_value = λ v w f g. (law.one_value (at 0 b) v w (at (length b) []) (at (length b) []) (begins_whole v b f) (begins_whole w b g)).0;
+  one_refusal = same_refusal b;
+  never_both = never_both b;
+}
+
+-- ---- canonical bytes
+
+sixteen : (n : ℕ) → nat_eq n 16 ≡ true → n ≡ 16
+sixteen n h = grind (arith, nat_tests)
+
+forty_six : (n : ℕ) → nat_eq n 46 ≡ true → n ≡ 46
+forty_six n h = grind (arith, nat_tests)
+
+none : (n : ℕ) → nat_eq n 0 ≡ true → n ≡ 0
+none n h = grind (arith, nat_tests)
+
+version-canonical : IsCanonical version (λ x. u16_bytes x.0 ++ u16_bytes x.1)
+unfolding version
+version-canonical = both-canonical _ _ _ _ (checked-canonical _ _ _ _ u16-canonical) (checked-canonical _ _ _ _ u16-canonical)
+
+no_bodies-canonical : IsCanonical no_bodies number_bytes
+unfolding no_bodies
+no_bodies-canonical = checked-canonical _ _ _ _ u30-canonical
+
+version_known : (x : ℕ × ℕ) (b : List ℕ) → version.spells x b → u16_bytes x.0 ++ u16_bytes x.1 ≡ version_bytes
+unfolding version
+version_known x b s =
+    let minor : x.0 ≡ 16 = sixteen x.0 s.3.1 in
+    let major : x.1 ≡ 46 = forty_six x.1 s.4.1 in
+    rw (minor, major) refl
+
+bodies_known : (n : ℕ) (b : List ℕ) → no_bodies.spells n b → number_bytes n ≡ number_bytes 0
+unfolding no_bodies
+bodies_known n b s = ap number_bytes (none n s.1)
+
+-- definitions leave the pools as they are
+pools_kept : (abc v : Abc) (b : List ℕ) → (definitions abc).spells v b → pools_bytes abc ≡ pools_bytes v
+unfolding definitions pools_bytes
+pools_kept abc v b s = rw s.2 refl
+
+pub file-canonical : IsCanonical file file_bytes
+unfolding file file_bytes
+file-canonical =
+    image-canonical _ _ (λ x. (u16_bytes x.0.0 ++ u16_bytes x.0.1) ++ (pools_bytes x.1.0 ++ (definitions_bytes x.1.1.0 ++ number_bytes x.1.1.1))) _
+    (both-canonical _ _ _ (λ y. pools_bytes y.0 ++ (definitions_bytes y.1.0 ++ number_bytes y.1.1)) version-canonical
+    (then-canonical _ _ pools_bytes (λ abc y. definitions_bytes y.0 ++ number_bytes y.1) pools-canonical (λ abc. both-canonical _ _ _ _ (definitions-canonical abc) no_bodies-canonical)))
+    (λ x b s.
+    let begin = version_known x.0 s.0 s.3 in
+    let kept = pools_kept x.1.0 x.1.1.0 s.4.4.0 s.4.4.3 in
+    let end = bodies_known x.1.1.1 s.4.4.1 s.4.4.4 in
+    rw (begin, kept, end) (simp append_assoc))
+
+-- ---- what the canonical bytes promise
+
+pub canonical_file : (v : Abc) (b : List ℕ) → IsFile v b → IsFile v (file_bytes v) × (length (file_bytes v) ≤ length b)
+canonical_file v b f =
+    let spelled = file-canonical.spelled v b f.0 in
+    let shortest = file-canonical.shortest v b f.0 in
+    ((spelled, omega (arith, shortest, f.1)), shortest)
+
+pub canonical_same : (v w : Abc) (b c : List ℕ) → IsFile v b → IsFile w c → file_bytes v ≡ file_bytes w → v ≡ w
+canonical_same v w b c f g e =
+    let one = (canonical_file v b f).0 in
+    let two = (canonical_file w c g).0 in
+    (decided (file_bytes w)).one_value v w (subst (IsFile v) e one) two

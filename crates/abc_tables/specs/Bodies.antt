@@ -1,0 +1,68 @@
+-- Method bodies: their sizes, code, exceptions and traits.
+use Rattle.std.specs.Prelude.{ℕ, List, [], ◌++◌, map, not, nat_eq, get_or}
+use Rattle.std.specs.List.{list_any}
+use Rattle.abc_base.specs.Numbers.{number_bytes}
+use Rattle.abc_format.specs.declared.reason.Reason.TheVariants as reasons
+use Rattle.abc_format.specs.Part.{Part, then_by, both, image, checked}
+use Rattle.abc_format.specs.Numbers.{u30, index_below, pool_index}
+use Rattle.abc_format.specs.Lists.{counted, chain}
+use Rattle.abc_format.specs.Canonical.{counted_bytes}
+use Rattle.abc_tables.specs.declared.code.Body.{Body}
+use Rattle.abc_tables.specs.declared.code.Handler.{Handler}
+use Rattle.abc_tables.specs.declared.tables.Abc.{Abc}
+use Rattle.abc_tables.specs.declared.tables.Sizes.{Sizes}
+use Rattle.abc_tables.specs.Classes.{sizes_of}
+use Rattle.abc_tables.specs.Code.{code}
+use Rattle.abc_tables.specs.CodeBytes.{canonical_starts, code_bytes}
+use Rattle.abc_tables.specs.Places.{instruction_place}
+use Rattle.abc_tables.specs.Traits.{trait_info, trait_bytes}
+
+-- three places in code whose instructions start so, a type and a name
+unfoldable pub handler : Sizes → List ℕ → Part Handler
+handler v starts =
+    image (λ x. record { from = x.0; to = x.1.0; target = x.1.1.0; exc_type = x.1.1.1.0; var_name = x.1.1.1.1 })
+    (both (instruction_place starts) (both (instruction_place starts) (both (instruction_place starts) (both (pool_index v.names) (pool_index v.names)))))
+
+unfoldable pub handler_bytes : List ℕ → Handler → List ℕ
+handler_bytes starts h =
+    number_bytes (get_or starts h.from 0) ++ number_bytes (get_or starts h.to 0) ++ number_bytes (get_or starts h.target 0) ++ number_bytes h.exc_type
+    ++ number_bytes h.var_name
+
+-- a method that none of these bodies have
+unfoldable pub body_method : Sizes → List ℕ → Part ℕ
+body_method v taken = checked (λ m. not (list_any (nat_eq m) taken)) reasons.SecondBody (index_below v.methods)
+
+-- a body, where these methods have one already, with the starts of its instructions as they were read
+unfoldable pub body : Sizes → List ℕ → Part (Body × List ℕ)
+body v taken =
+    image (λ x. (record {
+      method = x.0;
+      max_stack = x.1.0;
+      local_count = x.1.1.0;
+      init_scope = x.1.1.1.0;
+      max_scope = x.1.1.1.1.0;
+      code = x.1.1.1.1.1.0.instrs;
+      handlers = x.1.1.1.1.1.1.0;
+      traits = x.1.1.1.1.1.1.1;
+    }, x.1.1.1.1.1.0.offsets))
+    (both (body_method v taken) (both u30 (both u30 (both u30 (both u30 (then_by code (λ c.
+    both (counted (handler v c.offsets)) (counted (trait_info v)))))))))
+
+unfoldable pub body_bytes : Body → List ℕ
+body_bytes b =
+    number_bytes b.method ++ number_bytes b.max_stack ++ number_bytes b.local_count ++ number_bytes b.init_scope ++ number_bytes b.max_scope
+    ++ code_bytes b.code ++ counted_bytes (handler_bytes (canonical_starts b.code)) b.handlers ++ counted_bytes trait_bytes b.traits
+
+abbrev pub methods_of : List (Body × List ℕ) → List ℕ
+methods_of read = map (λ x. x.0.method) read
+
+-- a count and that many bodies, each of another method
+unfoldable pub body_list : Sizes → Part (List (Body × List ℕ))
+body_list v = image (λ x. x.1) (then_by u30 (λ n. chain n (λ before. body v (methods_of before)) []))
+
+-- the bodies beside the rest of a value, and the starts of each body's instructions
+unfoldable pub bodies : Abc → Part (Abc × List (List ℕ))
+bodies abc = image (λ xs. (record abc { bodies = map (λ x. x.0) xs }, map (λ x. x.1) xs)) (body_list (sizes_of abc))
+
+unfoldable pub bodies_bytes : Abc → List ℕ
+bodies_bytes v = counted_bytes body_bytes v.bodies

@@ -1,0 +1,45 @@
+-- The whole file.
+use Rattle.std.specs.Prelude.{◌≡◌, ◌≢◌, ◌≤◌, ◌⊎◌, ℕ, List, [], ◌++◌, length, nat_eq}
+use Rattle.abc_base.specs.Numbers.{number_bytes}
+use Rattle.abc_format.specs.declared.reason.Reason.TheVariants as reasons
+use Rattle.abc_format.specs.Part.{Part, At, at, limit, Refusal, refusal, Begins, then_by, both, image, checked}
+use Rattle.abc_format.specs.Numbers.{u16, u30}
+use Rattle.abc_format.specs.Canonical.{u16_bytes}
+use Rattle.abc_tables.specs.declared.tables.Abc.{Abc}
+use Rattle.abc_tables.specs.Pools.{pools, pools_bytes}
+use Rattle.abc_tables.specs.Classes.{definitions, definitions_bytes}
+
+-- minor version 16, and major version 46
+unfoldable pub version : Part (ℕ × ℕ)
+version = both (checked (λ n. nat_eq n 16) reasons.Version u16) (checked (λ n. nat_eq n 46) reasons.Version u16)
+
+abbrev pub version_bytes : List ℕ
+version_bytes = u16_bytes 16 ++ u16_bytes 46
+
+-- no bodies: they are not read yet
+unfoldable pub no_bodies : Part ℕ
+no_bodies = checked (λ n. nat_eq n 0) reasons.NotBuilt u30
+
+-- the version, the pools, the definitions, and the bodies
+unfoldable pub file : Part Abc
+file = image (λ x. x.1.1.0) (both version (then_by pools (λ abc. both (definitions abc) no_bodies)))
+
+unfoldable pub file_bytes : Abc → List ℕ
+file_bytes v = version_bytes ++ pools_bytes v ++ definitions_bytes v ++ number_bytes 0
+
+-- ---- the whole input
+
+-- The bytes spell the file.
+abbrev pub IsFile : Abc → List ℕ → Type 0
+IsFile v b = file.spells v b × (length b ≤ limit)
+
+-- The input is refused at its first fault; a byte after a complete file is one.
+abbrev pub IsBadFile : List ℕ → Refusal → Type 0
+IsBadFile b r = file.bad (at 0 b) r ⊎ ((v : Abc) × (after : At) × Begins file (at 0 b) v after × (after.bytes ≢ []) × (r ≡ refusal after.place reasons.Trailing))
+
+-- The bytes spell exactly one file, or are bad at exactly one place for exactly one reason, and never both.
+pub record IsDecided (b : List ℕ) : Type 0 where
+  pub some : ((v : Abc) × IsFile v b) ⊎ ((r : Refusal) × IsBadFile b r)
+  pub one_value : (v w : Abc) → IsFile v b → IsFile w b → v ≡ w
+  pub one_refusal : (r s : Refusal) → IsBadFile b r → IsBadFile b s → r ≡ s
+  pub never_both : (v : Abc) (r : Refusal) → IsFile v b → IsBadFile b r → ⊥

@@ -1,0 +1,3 @@
+pub mod Alike
+pub mod Capped
+pub mod Filling

@@ -1,0 +1,10 @@
+use Rattle.abc_format.proofs.Determined.{determined}
+use Rattle.abc_tables.proofs.Exactness.{definitions-exact}
+use Rattle.abc_tables.proofs.Shortest.{definitions-canonical}
+use Rattle.abc_traits.proofs.laws.definitions_law.Goals as goal
+
+pub returns-clause-determined : goal.returns-clause-determined
+returns-clause-determined c = λ abc. determined _ (definitions-exact abc)
+
+pub returns-clause-canonical : goal.returns-clause-canonical
+returns-clause-canonical c = λ abc. definitions-canonical abc

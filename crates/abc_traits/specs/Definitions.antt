@@ -1,0 +1,26 @@
+-- Definitions apart from the pools beside them.
+use Rattle.std.specs.Prelude.{ℕ, length}
+use Rattle.abc_format.specs.Part.{Part, then_by, both, image}
+use Rattle.abc_format.specs.Numbers.{u30}
+use Rattle.abc_format.specs.Lists.{times, counted}
+use Rattle.abc_tables.specs.declared.tables.Abc.{Abc}
+use Rattle.abc_tables.specs.declared.tables.Sizes.{Sizes}
+use Rattle.abc_tables.specs.Methods.{method, metadata}
+use Rattle.abc_tables.specs.Classes.{instance, class_info, script}
+use Rattle.abc_traits.specs.declared.definitions.Definitions.{Definitions}
+
+-- an Abc whose later tables are these
+abbrev pub with_definitions : Abc → Definitions → Abc
+with_definitions abc d = record abc { methods = d.methods; metadata = d.metadata; instances = d.instances; classes = d.classes; scripts = d.scripts }
+
+abbrev pub sizes_within : Sizes → ℕ → ℕ → ℕ → Sizes
+sizes_within pools methods metadata classes = record pools { methods = methods; metadata = metadata; classes = classes }
+
+-- the five tables, beside pools of these sizes
+unfoldable pub tables : Sizes → Part Definitions
+tables pools =
+    image (λ x. record { methods = x.0; metadata = x.1.0; instances = x.1.1.1.0; classes = x.1.1.1.1.0; scripts = x.1.1.1.1.1 })
+    (then_by (counted (method pools)) (λ methods.
+    then_by (counted (metadata pools)) (λ metadata.
+    then_by u30 (λ classes. let v = sizes_within pools (length methods) (length metadata) classes in
+    both (times classes (instance v)) (both (times classes (class_info v)) (counted (script v)))))))

@@ -1,0 +1,210 @@
+ghost use Rattle.std.specs.Prelude.{◌≡◌, ◌≤◌, ℕ, [], ◌∷◌, ◌++◌, None, Some, Err, length};
+ghost use Rattle.abc_format.specs.Lists.{counted};
+ghost use Rattle.abc_format.specs.Numbers.{pool_index};
+ghost use Rattle.abc_format.specs.Part.{image, when};
+ghost use Rattle.abc_tables.specs.Classes.{some_index, instance, protected_bytes, instance_bytes, class_info, class_bytes, script, script_bytes};
+ghost use Rattle.abc_varint.specs.Puts.{Puts};
+ghost use Rattle.abc_varint.specs.Reads.{Reads, ReadsPart};
+
+use crate::methods::has_flag;
+use crate::traits::TraitCodec;
+use abc_base::{NoMemory, Source};
+use abc_tables::{ClassInfo, Instance, Script, Sizes};
+use abc_varint::{
+    Codec, EntryIndex, ReadError, Window, put_counted, put_u8, put_u30, read_counted,
+    read_entry_index, read_index_below, read_pool_index, read_u8,
+};
+use std::alloc::Global;
+
+/// The flag of an instance that has a protected namespace.
+const HAS_PROTECTED: u8 = 0x08;
+
+/// A namespace where a flag asks for it.
+#[tactic(auto, unfolding(abc_format::specs::Part::when))]
+fn read_protected_if<S: Source>(
+    flag: bool,
+    w: &mut Window,
+    source: &mut S,
+    namespaces: u32,
+) -> Result<Option<u32>, ReadError>
+    requires { w.old.kept ≡ None }
+    ensures { ReadsPart S.left S.faults (when flag None (image some_index (pool_index namespaces))) w.old source.old w.new source.new result }
+{
+    if !flag {
+        return Ok(None);
+    }
+    let namespace = read_pool_index(w, source, namespaces)?;
+    Ok(Some(namespace))
+}
+
+fn put_protected(namespace: Option<u32>, out: &mut Vec<u8>) -> Result<(), NoMemory>
+    ensures { Puts out.old.items out.new.items result (protected_bytes namespace) }
+{
+    match namespace {
+        None => Ok(()),
+        Some(index) => put_u30(index, out),
+    }
+}
+
+#[tactic(auto, unfolding(abc_tables::specs::Classes::instance))]
+fn read_instance<S: Source>(
+    alloc: Global,
+    w: &mut Window,
+    source: &mut S,
+    sizes: &Sizes,
+) -> Result<Instance, ReadError>
+    ensures { ReadsPart S.left S.faults (instance sizes.now) w.old source.old w.new source.new result }
+{
+    let name = read_entry_index(w, source, sizes.names)?;
+    let super_name = read_pool_index(w, source, sizes.names)?;
+    let flags = read_u8(w, source)?;
+    let has_protected = has_flag(flags, HAS_PROTECTED);
+    let protected_ns = read_protected_if(has_protected, w, source, sizes.namespaces)?;
+    let interfaces = read_counted(&EntryIndex(sizes.names), alloc, w, source)?;
+    let iinit = read_index_below(w, source, sizes.methods)?;
+    let traits = read_counted(&TraitCodec(*sizes), alloc, w, source)?;
+    Ok(Instance {
+        name,
+        super_name,
+        flags,
+        protected_ns,
+        interfaces,
+        iinit,
+        traits,
+    })
+}
+
+#[tactic(auto, unfolding(abc_tables::specs::Classes::instance_bytes), using(abc_varint::proofs::Putting::stays, std::proofs::Common::append_assoc))]
+fn put_instance(instance: &Instance, out: &mut Vec<u8>) -> Result<(), NoMemory>
+    ensures { Puts out.old.items out.new.items result (instance_bytes instance.now) }
+{
+    put_u30(instance.name, out)?;
+    put_u30(instance.super_name, out)?;
+    put_u8(instance.flags, out)?;
+    put_protected(instance.protected_ns, out)?;
+    put_counted::<EntryIndex>(&instance.interfaces, out)?;
+    put_u30(instance.iinit, out)?;
+    put_counted::<TraitCodec>(&instance.traits, out)?;
+    Ok(())
+}
+
+/// Instances, over tables of these sizes.
+#[derive(Clone, Copy, Debug)]
+pub struct InstanceCodec(pub Sizes);
+
+impl Codec for InstanceCodec {
+    type Item = Instance;
+
+    ghost part = { λ c. instance c.0 };
+
+    ghost canonical = { instance_bytes };
+
+    fn read<S: Source>(
+        &self,
+        alloc: Global,
+        w: &mut Window,
+        source: &mut S,
+    ) -> Result<Instance, ReadError> {
+        read_instance(alloc, w, source, &self.0)
+    }
+
+    fn put(item: &Instance, out: &mut Vec<u8>) -> Result<(), NoMemory> {
+        put_instance(item, out)
+    }
+}
+
+#[tactic(auto, unfolding(abc_tables::specs::Classes::class_info))]
+fn read_class<S: Source>(
+    alloc: Global,
+    w: &mut Window,
+    source: &mut S,
+    sizes: &Sizes,
+) -> Result<ClassInfo, ReadError>
+    ensures { ReadsPart S.left S.faults (class_info sizes.now) w.old source.old w.new source.new result }
+{
+    let cinit = read_index_below(w, source, sizes.methods)?;
+    let traits = read_counted(&TraitCodec(*sizes), alloc, w, source)?;
+    Ok(ClassInfo { cinit, traits })
+}
+
+#[tactic(auto, unfolding(abc_tables::specs::Classes::class_bytes), using(abc_varint::proofs::Putting::stays, std::proofs::Common::append_assoc))]
+fn put_class(class: &ClassInfo, out: &mut Vec<u8>) -> Result<(), NoMemory>
+    ensures { Puts out.old.items out.new.items result (class_bytes class.now) }
+{
+    put_u30(class.cinit, out)?;
+    put_counted::<TraitCodec>(&class.traits, out)?;
+    Ok(())
+}
+
+/// What class objects are, over tables of these sizes.
+#[derive(Clone, Copy, Debug)]
+pub struct ClassCodec(pub Sizes);
+
+impl Codec for ClassCodec {
+    type Item = ClassInfo;
+
+    ghost part = { λ c. class_info c.0 };
+
+    ghost canonical = { class_bytes };
+
+    fn read<S: Source>(
+        &self,
+        alloc: Global,
+        w: &mut Window,
+        source: &mut S,
+    ) -> Result<ClassInfo, ReadError> {
+        read_class(alloc, w, source, &self.0)
+    }
+
+    fn put(item: &ClassInfo, out: &mut Vec<u8>) -> Result<(), NoMemory> {
+        put_class(item, out)
+    }
+}
+
+#[tactic(auto, unfolding(abc_tables::specs::Classes::script))]
+fn read_script<S: Source>(
+    alloc: Global,
+    w: &mut Window,
+    source: &mut S,
+    sizes: &Sizes,
+) -> Result<Script, ReadError>
+    ensures { ReadsPart S.left S.faults (script sizes.now) w.old source.old w.new source.new result }
+{
+    let init = read_index_below(w, source, sizes.methods)?;
+    let traits = read_counted(&TraitCodec(*sizes), alloc, w, source)?;
+    Ok(Script { init, traits })
+}
+
+#[tactic(auto, unfolding(abc_tables::specs::Classes::script_bytes), using(abc_varint::proofs::Putting::stays, std::proofs::Common::append_assoc))]
+fn put_script(script: &Script, out: &mut Vec<u8>) -> Result<(), NoMemory>
+    ensures { Puts out.old.items out.new.items result (script_bytes script.now) }
+{
+    put_u30(script.init, out)?;
+    put_counted::<TraitCodec>(&script.traits, out)?;
+    Ok(())
+}
+
+/// Scripts, over tables of these sizes.
+#[derive(Clone, Copy, Debug)]
+pub struct ScriptCodec(pub Sizes);
+
+impl Codec for ScriptCodec {
+    type Item = Script;
+
+    ghost part = { λ c. script c.0 };
+
+    ghost canonical = { script_bytes };
+
+    fn read<S: Source>(
+        &self,
+        alloc: Global,
+        w: &mut Window,
+        source: &mut S,
+    ) -> Result<Script, ReadError> {
+        read_script(alloc, w, source, &self.0)
+    }
+
+    fn put(item: &Script, out: &mut Vec<u8>) -> Result<(), NoMemory> {
+        put_script(item, out)
+    }
+}

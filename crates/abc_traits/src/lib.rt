@@ -1,0 +1,20 @@
+//! Methods, metadata, instances, classes, scripts and their traits, read from a source through a window and appended to
+//! bytes. Which bytes spell them, and what refuses them, stands in abc_tables.
+#![tactic(auto)]
+
+mod classes;
+mod definitions;
+mod laws;
+mod lists;
+mod methods;
+mod options;
+mod sizes;
+mod traits;
+
+pub use definitions::{put_definitions, read_definitions};
+pub use laws::definitions_law;
+pub use sizes::sizes_of;
+pub use traits::TraitCodec;
+
+#[cfg(test)]
+mod tests;

@@ -1,0 +1,149 @@
+ghost use Rattle.std.specs.Prelude.{◌≡◌, ◌≤◌, ◌*◌, ◌/◌, ℕ, [], ◌∷◌, ◌++◌, None, Some, Err, length, not, nat_eq, bit_and};
+ghost use Rattle.abc_format.specs.Lists.{times};
+ghost use Rattle.abc_format.specs.Part.{when};
+ghost use Rattle.abc_tables.specs.Methods.{has_flag as is_set, method, method_bytes, metadata, metadata_bytes};
+ghost use Rattle.abc_varint.specs.Puts.{Puts};
+ghost use Rattle.abc_varint.specs.Reads.{Reads, ReadsPart};
+
+use crate::lists::{Number30, put_counted_if, put_items_if, read_times_if};
+use crate::options::{OptionCodec, read_options_if};
+use abc_base::{NoMemory, Source};
+use abc_tables::{Metadata, Method, Sizes};
+use abc_varint::{
+    Codec, PoolIndex, ReadError, Window, put_count, put_items, put_u8, put_u30, read_pool_index,
+    read_times, read_u8, read_u30,
+};
+use std::alloc::Global;
+
+/// The flag of a method that has optional values.
+const HAS_OPTIONAL: u8 = 0x08;
+
+/// The flag of a method that has names for its parameters.
+const HAS_PARAM_NAMES: u8 = 0x80;
+
+/// Whether a flag is set.
+pub fn has_flag(flags: u8, flag: u8) -> bool
+    ensures { result ≡ is_set flags flag }
+{
+    flags & flag != 0
+}
+
+#[tactic(auto, unfolding(abc_tables::specs::Methods::method))]
+fn read_method<S: Source>(
+    alloc: Global,
+    w: &mut Window,
+    source: &mut S,
+    sizes: &Sizes,
+) -> Result<Method, ReadError>
+    ensures { ReadsPart S.left S.faults (method sizes.now) w.old source.old w.new source.new result }
+{
+    let count = read_u30(w, source)?;
+    let ret = read_pool_index(w, source, sizes.names)?;
+    let params = read_times(&PoolIndex(sizes.names), alloc, w, source, count)?;
+    let name = read_pool_index(w, source, sizes.strings)?;
+    let flags = read_u8(w, source)?;
+    let optional = has_flag(flags, HAS_OPTIONAL);
+    let options = read_options_if(optional, alloc, w, source, sizes, count)?;
+    let named = has_flag(flags, HAS_PARAM_NAMES);
+    let param_names = read_times_if(named, &Number30, alloc, w, source, count)?;
+    Ok(Method {
+        ret,
+        params,
+        name,
+        flags,
+        options,
+        param_names,
+    })
+}
+
+#[tactic(auto, unfolding(abc_tables::specs::Methods::method_bytes), using(abc_varint::proofs::Putting::stays, std::proofs::Common::append_assoc))]
+fn put_method(method: &Method, out: &mut Vec<u8>) -> Result<(), NoMemory>
+    ensures { Puts out.old.items out.new.items result (method_bytes method.now) }
+{
+    put_count(method.params.len(), out)?;
+    put_u30(method.ret, out)?;
+    put_items::<PoolIndex>(&method.params, out)?;
+    put_u30(method.name, out)?;
+    put_u8(method.flags, out)?;
+    let optional = has_flag(method.flags, HAS_OPTIONAL);
+    put_counted_if::<OptionCodec>(optional, &method.options, out)?;
+    let named = has_flag(method.flags, HAS_PARAM_NAMES);
+    put_items_if::<Number30>(named, &method.param_names, out)?;
+    Ok(())
+}
+
+/// Methods, over tables of these sizes.
+#[derive(Clone, Copy, Debug)]
+pub struct MethodCodec(pub Sizes);
+
+impl Codec for MethodCodec {
+    type Item = Method;
+
+    ghost part = { λ c. method c.0 };
+
+    ghost canonical = { method_bytes };
+
+    fn read<S: Source>(
+        &self,
+        alloc: Global,
+        w: &mut Window,
+        source: &mut S,
+    ) -> Result<Method, ReadError> {
+        read_method(alloc, w, source, &self.0)
+    }
+
+    fn put(item: &Method, out: &mut Vec<u8>) -> Result<(), NoMemory> {
+        put_method(item, out)
+    }
+}
+
+/// A name, a count, and twice as many strings.
+#[tactic(auto, unfolding(abc_tables::specs::Methods::metadata))]
+fn read_metadata<S: Source>(
+    alloc: Global,
+    w: &mut Window,
+    source: &mut S,
+    sizes: &Sizes,
+) -> Result<Metadata, ReadError>
+    ensures { ReadsPart S.left S.faults (metadata sizes.now) w.old source.old w.new source.new result }
+{
+    let name = read_pool_index(w, source, sizes.strings)?;
+    let count = read_u30(w, source)?;
+    let items = read_times(&PoolIndex(sizes.strings), alloc, w, source, 2 * count)?;
+    Ok(Metadata { name, items })
+}
+
+#[tactic(auto, unfolding(abc_tables::specs::Methods::metadata_bytes), using(abc_varint::proofs::Putting::stays, std::proofs::Common::append_assoc))]
+fn put_metadata(metadata: &Metadata, out: &mut Vec<u8>) -> Result<(), NoMemory>
+    ensures { Puts out.old.items out.new.items result (metadata_bytes metadata.now) }
+{
+    put_u30(metadata.name, out)?;
+    put_count(metadata.items.len() / 2, out)?;
+    put_items::<PoolIndex>(&metadata.items, out)?;
+    Ok(())
+}
+
+/// Metadata, over tables of these sizes.
+#[derive(Clone, Copy, Debug)]
+pub struct MetadataCodec(pub Sizes);
+
+impl Codec for MetadataCodec {
+    type Item = Metadata;
+
+    ghost part = { λ c. metadata c.0 };
+
+    ghost canonical = { metadata_bytes };
+
+    fn read<S: Source>(
+        &self,
+        alloc: Global,
+        w: &mut Window,
+        source: &mut S,
+    ) -> Result<Metadata, ReadError> {
+        read_metadata(alloc, w, source, &self.0)
+    }
+
+    fn put(item: &Metadata, out: &mut Vec<u8>) -> Result<(), NoMemory> {
+        put_metadata(item, out)
+    }
+}

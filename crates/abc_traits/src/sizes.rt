@@ -1,0 +1,34 @@
+ghost use Rattle.std.specs.Prelude.{◌≡◌, ◌≤◌, ◌^◌, length, min};
+ghost use Rattle.abc_tables.specs.Classes.{sizes_of as all_sizes};
+ghost use Rattle.abc_traits.specs.Sizes.{capped};
+
+use abc_tables::{Abc, Sizes, Table};
+
+/// The greatest size that an index tells from a smaller one, 2^30.
+const LARGEST: usize = 1 << 30;
+
+/// How many values there are, or 2^30 where there are more.
+fn size_of<T: Drop>(items: &Table<T>) -> u32
+    ensures { result ≡ min (length items.now) (2 ^ 30) }
+{
+    items.len().min(LARGEST) as u32
+}
+
+/// How many entries the tables have that indices name, each at most 2^30: an index is below 2^30, so it is tested
+/// against a greater size as against 2^30.
+pub fn sizes_of(abc: &Abc) -> Sizes
+    ensures { result ≡ capped (all_sizes abc.now) }
+{
+    Sizes {
+        ints: size_of(&abc.ints),
+        uints: size_of(&abc.uints),
+        doubles: size_of(&abc.doubles),
+        strings: size_of(&abc.strings),
+        namespaces: size_of(&abc.namespaces),
+        sets: size_of(&abc.sets),
+        names: size_of(&abc.names),
+        methods: size_of(&abc.methods),
+        metadata: size_of(&abc.metadata),
+        classes: size_of(&abc.classes),
+    }
+}

@@ -1,0 +1,27 @@
+-- What the code changes where it fills an option.
+use Rattle.std.proofs.Common.{◌≡◌, ℕ, Bool, true, false, cond, Option, Some, List, [], length, drop, get_or, sym, ap, ◌<◌, ◌+◌}
+use Rattle.std.specs.Bool.{OnTrue}
+use Rattle.std.specs.Prelude.{codes}
+use Rattle.std.proofs.lemmas.List.{at_drop_more}
+use Rattle.abc_words.specs.declared.given.GivenRun.{GivenRun}
+use Rattle.abc_words.specs.declared.given.GivenGen.{GivenGen}
+use Rattle.abc_words.specs.Commands.{objects, frames, methods}
+use Rattle.abc_words.specs.Reading.{run_with, gen_with, can_take, some_if, after_word, after_words, go_on}
+
+filled : {A : Type 0} (f : Option ℕ → A) (r test : Bool) (n : ℕ) (new before : Option ℕ) → r ≡ test → new ≡ cond r (Some n) before → OnTrue r (some_if test (f (Some n)) ≡ Some (f new))
+filled f true true n new before is after = ap (λ (o : Option ℕ). Some (f o)) (sym after)
+filled f true false n new before is after = absurd cc
+filled f false test n new before is after = tt
+
+pub gen_methods : (g : GivenGen) (name : List ℕ) (n : ℕ) (r : Bool) (new : Option ℕ) → name ≡ codes "methods" → r ≡ can_take methods g.methods n → new ≡ cond r (Some n) g.methods → OnTrue r (gen_with g name n ≡ Some (record g { methods = new }))
+gen_methods g name n r new named is after = rw named (filled (λ o. record g { methods = o }) r (can_take methods g.methods n) n new g.methods is after)
+
+pub run_objects : (g : GivenRun) (name : List ℕ) (n : ℕ) (r : Bool) (new : Option ℕ) → name ≡ codes "objects" → r ≡ can_take objects g.objects n → new ≡ cond r (Some n) g.objects → OnTrue r (run_with g name n ≡ Some (record g { objects = new }))
+run_objects g name n r new named is after = rw named (filled (λ o. record g { objects = o }) r (can_take objects g.objects n) n new g.objects is after)
+
+pub run_frames : (g : GivenRun) (name : List ℕ) (n : ℕ) (r : Bool) (new : Option ℕ) → name ≡ codes "frames" → r ≡ can_take frames g.frames n → new ≡ cond r (Some n) g.frames → OnTrue r (run_with g name n ≡ Some (record g { frames = new }))
+run_frames g name n r new named is after = rw named (filled (λ o. record g { frames = o }) r (can_take frames g.frames n) n new g.frames is after)
+
+-- the word at position i is read next
+pub words_more : {G : Type 0} (with : G → List ℕ → ℕ → Option G) (g : G) (i : ℕ) (words : List (List ℕ)) → i < length words → after_words with g i (drop i words) ≡ go_on i (after_word with g (get_or words i [])) (λ h. after_words with h (i + 1) (drop (i + 1) words))
+words_more with g i words lt = at_drop_more (after_words with g i) words i [] lt
