@@ -35,16 +35,19 @@ body_method v taken = checked (λ m. not (list_any (nat_eq m) taken)) reasons.Se
 -- a body, where these methods have one already, with the starts of its instructions as they were read
 unfoldable pub body : Sizes → List ℕ → Part (Body × List ℕ)
 body v taken =
-    image (λ x. (record {
-      method = x.0;
-      max_stack = x.1.0;
-      local_count = x.1.1.0;
-      init_scope = x.1.1.1.0;
-      max_scope = x.1.1.1.1.0;
-      code = x.1.1.1.1.1.0.instrs;
-      handlers = x.1.1.1.1.1.1.0;
-      traits = x.1.1.1.1.1.1.1;
-    }, x.1.1.1.1.1.0.offsets))
+    image (λ x. (
+      record {
+        method = x.0;
+        max_stack = x.1.0;
+        local_count = x.1.1.0;
+        init_scope = x.1.1.1.0;
+        max_scope = x.1.1.1.1.0;
+        code = x.1.1.1.1.1.0.instrs;
+        handlers = x.1.1.1.1.1.1.0;
+        traits = x.1.1.1.1.1.1.1;
+      },
+      x.1.1.1.1.1.0.offsets,
+    ))
     (both (body_method v taken) (both u30 (both u30 (both u30 (both u30 (then_by code (λ c.
     both (counted (handler v c.offsets)) (counted (trait_info v)))))))))
 
