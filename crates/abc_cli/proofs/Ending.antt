@@ -1,11 +1,11 @@
 -- How the ways to end follow from what was written.
-use Rattle.std.proofs.Common.{◌≡◌, ℕ, ◌≤◌, ◌⊎◌, inl, inr, List, [], ◌++◌, Some, None, Ok, Err, refl, sym, ap, ◌∙◌, subst}
+use Rattle.std.proofs.Common.{◌≡◌, ℕ, inl, inr, List, [], ◌++◌, Some, None, Ok, Err, refl, sym, ap, ◌∙◌, subst}
 use Rattle.std.specs.Prelude.{is_ok, if◌then◌else◌, IfSome, IsSome}
 use Rattle.std.proofs.lemmas.List.{append-nil}
 use Rattle.std.specs.declared.option.Option.{Option}
 use Rattle.std.specs.declared.result.Result.{Result}
 use Rattle.std.specs.Io.KnownBytes.{append_known}
-use Rattle.abc_base.specs.Faults.{Rose, HasCause}
+use Rattle.abc_base.specs.Faults.{HasCause}
 use Rattle.abc_base.specs.Sinks.{WritesAll}
 use Rattle.abc_base.specs.declared.status.Status.{Status}
 use Rattle.abc_base.specs.declared.status.Status.TheVariants as status
@@ -15,11 +15,11 @@ use Rattle.abc_varint.specs.declared.error.ReadError.{ReadError}
 use Rattle.abc_varint.specs.declared.error.ReadError.TheVariants as errors
 use Rattle.abc_file.specs.Reading.{AnswersFile}
 use Rattle.abc_tables.specs.declared.tables.Abc.{Abc}
-use Rattle.abc_tables.specs.Files.{IsBadFile, file_bytes}
+use Rattle.abc_tables.specs.Files.{file_bytes}
 use Rattle.abc_tables.proofs.Whole.{read_spelled}
 use Rattle.abc_words.specs.declared.command.Command.TheVariants as commands
 use Rattle.abc_cli.specs.Canon.{error_answer, IsCanonical, IsFaultOf}
-use Rattle.abc_cli.specs.Lines.{line, read_fault_text, write_fault_text, no_memory_text}
+use Rattle.abc_cli.specs.Lines.{read_fault_text, write_fault_text, no_memory_text}
 use Rattle.abc_cli.specs.Outcome.{Answer, told, given, CanonOutcome, IsCanonStatus, CommandOutcome}
 use Rattle.abc_cli.specs.End.{Channel, channel, Got, GotFront, HasFailed, GivesLine, IsEnd}
 

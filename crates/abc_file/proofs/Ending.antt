@@ -1,10 +1,10 @@
 -- What reading the parts of a file, and then asking for more, says of the whole input.
-use Rattle.std.proofs.Common.{◌≡◌, inl, inr, ℕ, List, ◌++◌, ◌∷◌, length, length-append, arith, Bool, false, Ok, Err, None, Some, [], true, refl, ap, sym, ◌∙◌}
+use Rattle.std.proofs.Common.{◌≡◌, inl, inr, ℕ, List, ◌++◌, ◌∷◌, length, length-append, arith, Bool, false, Ok, Err, None, Some, [], true, refl, ap, ◌∙◌}
 use Rattle.std.specs.Prelude.{IfSome, IfOk, IfErr, OnOk, IsTrue, ◌↔◌, if◌then◌else◌}
 use Rattle.std.specs.declared.result.Result.{Result}
 use Rattle.std.specs.declared.option.Option.{Option}
 use Rattle.abc_format.specs.declared.reason.Reason.TheVariants as reasons
-use Rattle.abc_format.specs.Part.{At, at, no_end, refusal}
+use Rattle.abc_format.specs.Part.{At, at, refusal}
 use Rattle.abc_varint.specs.declared.error.ReadError.{ReadError}
 use Rattle.abc_varint.specs.declared.error.ReadError.TheVariants as errors
 use Rattle.abc_varint.specs.View.{View}

@@ -3,14 +3,13 @@ use Rattle.std.proofs.Common.{◌≡◌, ◌≢◌, ℕ, ◌≤◌, ◌⊎◌, i
 use Rattle.std.specs.Prelude.{All, nat_eq}
 use Rattle.std.proofs.lemmas.List.{append-nil}
 use Rattle.std.proofs.lemmas.Bool.Decides.{nat_tests}
-use Rattle.abc_base.specs.Numbers.{number_bytes}
 use Rattle.abc_format.specs.declared.reason.Reason.TheVariants as reasons
 use Rattle.abc_format.specs.Part.{Part, At, at, limit, Front, Refusal, refusal, Begins}
 use Rattle.abc_format.specs.Law.{Exact, IsDetermined}
 use Rattle.abc_format.specs.Canonical.{IsCanonical, u16_bytes}
 use Rattle.abc_format.proofs.Exact.{image-exact, both-exact, checked-exact, then-exact}
-use Rattle.abc_format.proofs.Numbers.{u16-exact, u30-exact}
-use Rattle.abc_format.proofs.Canon.{image-canonical, both-canonical, checked-canonical, then-canonical, u30-canonical}
+use Rattle.abc_format.proofs.Numbers.{u16-exact}
+use Rattle.abc_format.proofs.Canon.{image-canonical, both-canonical, checked-canonical, then-canonical}
 use Rattle.abc_format.proofs.Fixed.{u16-canonical}
 use Rattle.abc_format.proofs.Determined.{determined}
 use Rattle.abc_tables.specs.declared.tables.Abc.{Abc}
