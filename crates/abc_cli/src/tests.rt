@@ -205,17 +205,11 @@ fn size_across_the_block(rt: HostRuntime) -> Result<(), Fail> {
     given.extend_from_slice(&[0; 8])?;
     for piece in PIECES {
         answers(&rt, &[b"canon"], &given, piece, Status::Done, &given, b"")?;
-        if given.len() > 4096 {
-            answers(
-                &rt,
-                &[b"canon"],
-                &given[..4096],
-                piece,
-                Status::Refused,
-                b"",
-                b"abc: byte 4096: Short\n",
-            )?;
-        }
+    }
+    given.truncate(4096);
+    let line = b"abc: byte 4096: Short\n";
+    for piece in PIECES {
+        answers(&rt, &[b"canon"], &given, piece, Status::Refused, b"", line)?;
     }
     Ok(())
 }
