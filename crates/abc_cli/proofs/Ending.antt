@@ -1,23 +1,25 @@
 -- How the ways to end follow from what was written.
-use Rattle.std.proofs.Common.{◌≡◌, ℕ, ◌≤◌, ◌⊎◌, inl, inr, List, [], ◌++◌, Some, None, Ok, Err, refl, sym, ap, ◌∙◌, subst}
-use Rattle.std.specs.Prelude.{is_ok, if◌then◌else◌, IsSome}
+use Rattle.std.proofs.Common.{◌≡◌, ℕ, inl, inr, List, [], ◌++◌, Some, None, Ok, Err, refl, sym, ap, ◌∙◌, subst}
+use Rattle.std.specs.Prelude.{is_ok, if◌then◌else◌, IfSome, IsSome}
 use Rattle.std.proofs.lemmas.List.{append-nil}
 use Rattle.std.specs.declared.option.Option.{Option}
 use Rattle.std.specs.declared.result.Result.{Result}
 use Rattle.std.specs.Io.KnownBytes.{append_known}
-use Rattle.abc_base.specs.Faults.{Rose, HasCause}
+use Rattle.abc_base.specs.Faults.{HasCause}
 use Rattle.abc_base.specs.Sinks.{WritesAll}
 use Rattle.abc_base.specs.declared.status.Status.{Status}
 use Rattle.abc_base.specs.declared.status.Status.TheVariants as status
 use Rattle.abc_format.specs.declared.reason.Reason.{Reason}
-use Rattle.abc_format.specs.declared.reason.Reason.TheVariants as reasons
 use Rattle.abc_format.specs.Part.{refusal}
 use Rattle.abc_varint.specs.declared.error.ReadError.{ReadError}
 use Rattle.abc_varint.specs.declared.error.ReadError.TheVariants as errors
-use Rattle.abc_tables.specs.Files.{IsBadFile, file_bytes}
+use Rattle.abc_file.specs.Reading.{AnswersFile}
+use Rattle.abc_tables.specs.declared.tables.Abc.{Abc}
+use Rattle.abc_tables.specs.Files.{file_bytes}
+use Rattle.abc_tables.proofs.Whole.{read_spelled}
 use Rattle.abc_words.specs.declared.command.Command.TheVariants as commands
-use Rattle.abc_cli.specs.Canon.{refusal_answer, error_answer, IsCanonical, IsFaultOf}
-use Rattle.abc_cli.specs.Lines.{line, read_fault_text, write_fault_text, no_memory_text}
+use Rattle.abc_cli.specs.Canon.{error_answer, IsCanonical, IsFaultOf}
+use Rattle.abc_cli.specs.Lines.{read_fault_text, write_fault_text, no_memory_text}
 use Rattle.abc_cli.specs.Outcome.{Answer, told, given, CanonOutcome, IsCanonStatus, CommandOutcome}
 use Rattle.abc_cli.specs.End.{Channel, channel, Got, GotFront, HasFailed, GivesLine, IsEnd}
 
@@ -68,26 +70,18 @@ memory_failed P F out err s o (inr g) = at_status P F out err s status.WriteFaul
 
 -- ---- canon
 
-known_refusal : (b : List ℕ) (place : ℕ) (reason : Reason) → IsBadFile b (refusal place reason) → CanonOutcome b (refusal_answer place reason)
-known_refusal b place reasons.NotBuilt f = CanonOutcome.with_bodies (refusal place reasons.NotBuilt) f refl
-known_refusal b place reason f = CanonOutcome.refused (refusal place reason) f (λ e. cc)
+pub canonical_of : (input : Option (List ℕ)) (v : Abc × List (List ℕ)) (old new : List ℕ) → IfSome input (λ b. AnswersFile b (Ok v)) → old ≡ [] → new ≡ old ++ file_bytes v.0 → IsCanonical input new
+canonical_of None v old new f none is = tt
+canonical_of (Some b) v old new f none is = (v.0, (read_spelled v b f.0, f.1), rw (is, none) refl)
 
-refusal_status : (place : ℕ) (reason : Reason) → IsCanonStatus (refusal_answer place reason).status
-refusal_status place reasons.NotBuilt = IsCanonStatus.is_not_built
-refusal_status place reason = IsCanonStatus.is_refused
-
-refusal_outcome : (input : Option (List ℕ)) (place : ℕ) (reason : Reason) → IsFaultOf input (errors.Refused place reason) → CommandOutcome commands.Canon input (refusal_answer place reason)
-refusal_outcome None place reason f = refusal_status place reason
-refusal_outcome (Some b) place reason f = known_refusal b place reason f
-
-nothing_out : (place : ℕ) (reason : Reason) → (refusal_answer place reason).out ≡ []
-nothing_out place reasons.NotBuilt = refl
-nothing_out place reason = refl
+refusal_outcome : (input : Option (List ℕ)) (place : ℕ) (reason : Reason) → IsFaultOf input (errors.Refused place reason) → CommandOutcome commands.Canon input (error_answer (errors.Refused place reason))
+refusal_outcome None place reason f = IsCanonStatus.is_refused
+refusal_outcome (Some b) place reason f = CanonOutcome.refused (refusal place reason) f
 
 pub error_ends : (input : Option (List ℕ)) (F : Type 0) (out err : Channel) (e : ReadError) (s : Status) → IsFaultOf input e → (e ≡ errors.ReadFault → F) → Got out [] → GivesLine err (error_answer e) s
     → IsEnd (CommandOutcome commands.Canon input) F out err s
 error_ends input F out err (errors.Refused place reason) s f cause o g =
-    line_ends (CommandOutcome commands.Canon input) F out err (refusal_answer place reason) s (refusal_outcome input place reason f) (subst (Got out) (sym (nothing_out place reason)) o) g
+    line_ends (CommandOutcome commands.Canon input) F out err (error_answer (errors.Refused place reason)) s (refusal_outcome input place reason f) o g
 error_ends input F out err errors.ReadFault s f cause o g = read_failed (CommandOutcome commands.Canon input) F out err s (cause refl) o g
 error_ends input F out err errors.NoMemory s f cause o g = memory_failed (CommandOutcome commands.Canon input) F out err s o g
 
@@ -95,12 +89,8 @@ pub bytes_outcome : (input : Option (List ℕ)) (bytes : List ℕ) → IsCanonic
 bytes_outcome None bytes f = IsCanonStatus.is_done
 bytes_outcome (Some b) bytes f = rw f.2 (CanonOutcome.accepted f.0 f.1)
 
-refusal_not_done : (place : ℕ) (reason : Reason) → (refusal_answer place reason).status ≡ status.Done → ⊥
-refusal_not_done place reasons.NotBuilt e = cc
-refusal_not_done place reason e = cc
-
 error_not_done : (e : ReadError) → (error_answer e).status ≡ status.Done → ⊥
-error_not_done (errors.Refused place reason) h = refusal_not_done place reason h
+error_not_done (errors.Refused place reason) h = cc
 error_not_done errors.ReadFault h = cc
 error_not_done errors.NoMemory h = cc
 

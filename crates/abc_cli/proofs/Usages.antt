@@ -1,5 +1,5 @@
 -- What the reading of the words says of the outcome.
-use Rattle.std.proofs.Common.{◌≡◌, ℕ, ◌+◌, ◌<◌, ◌≤◌, inl, inr, ◌⊎◌, Some, None, List, [], length, take, Ok, Err, refl, sym, ap, ◌∙◌, subst, arith}
+use Rattle.std.proofs.Common.{◌≡◌, ℕ, ◌+◌, ◌<◌, inl, inr, ◌⊎◌, Some, None, List, [], length, take, Ok, Err, refl, sym, ap, ◌∙◌, subst, arith}
 use Rattle.std.specs.Prelude.{◌↔◌}
 use Rattle.std.proofs.lemmas.List.{take_all}
 use Rattle.std.proofs.lemmas.Bool.{cases_lt}
@@ -13,9 +13,9 @@ use Rattle.abc_words.specs.declared.command.RunOptions.{RunOptions}
 use Rattle.abc_words.specs.declared.command.GenOptions.{GenOptions}
 use Rattle.abc_words.specs.declared.command.Usage.{Usage}
 use Rattle.abc_words.specs.declared.command.Usage.TheVariants as usages
-use Rattle.abc_words.specs.Grammar.{Says, CanBegin, IsWellFormed, IsUsageWord}
-use Rattle.abc_cli.specs.Outcome.{Answer, CanonOutcome, IsCanonStatus, CommandOutcome, UsageOutcome, usage_answer, IsUsage, IsOutcome, not_built}
-use Rattle.abc_cli.specs.End.{Channel, IsEnd, GivesLine, Got}
+use Rattle.abc_words.specs.Grammar.{CanBegin, IsUsageWord}
+use Rattle.abc_cli.specs.Outcome.{Answer, CanonOutcome, IsCanonStatus, CommandOutcome, UsageOutcome, usage_answer, IsUsage, not_built}
+use Rattle.abc_cli.specs.End.{Channel, IsEnd}
 
 -- the usage word is one of the words
 pub usage_within : (words : List (List ℕ)) (i : ℕ) → IsUsageWord words i → i < length words
@@ -52,13 +52,11 @@ not_ok c u r e f = cc
 
 canon_not_usage : (input : List ℕ) (a : Answer) → CanonOutcome input a → a.status ≡ status.Usage → ⊥
 canon_not_usage input a (CanonOutcome.accepted v f) e = cc
-canon_not_usage input a (CanonOutcome.refused r f n) e = cc
-canon_not_usage input a (CanonOutcome.with_bodies r f n) e = cc
+canon_not_usage input a (CanonOutcome.refused r f) e = cc
 
 status_not_usage : (s : Status) → IsCanonStatus s → s ≡ status.Usage → ⊥
 status_not_usage s IsCanonStatus.is_done e = cc
 status_not_usage s IsCanonStatus.is_refused e = cc
-status_not_usage s IsCanonStatus.is_not_built e = cc
 
 command_not_usage : (c : Command) (input : Option (List ℕ)) (a : Answer) → CommandOutcome c input a → a.status ≡ status.Usage → ⊥
 command_not_usage commands.Canon (Some b) a o e = canon_not_usage b a o e

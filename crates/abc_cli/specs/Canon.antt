@@ -2,24 +2,17 @@
 use Rattle.std.specs.Prelude.{◌≡◌, ℕ, List, Some, None}
 use Rattle.std.specs.declared.option.Option.{Option}
 use Rattle.abc_base.specs.declared.status.Status.TheVariants as status
-use Rattle.abc_format.specs.declared.reason.Reason.{Reason}
-use Rattle.abc_format.specs.declared.reason.Reason.TheVariants as reasons
 use Rattle.abc_format.specs.Part.{refusal}
 use Rattle.abc_varint.specs.declared.error.ReadError.{ReadError}
 use Rattle.abc_varint.specs.declared.error.ReadError.TheVariants as errors
 use Rattle.abc_tables.specs.declared.tables.Abc.{Abc}
 use Rattle.abc_tables.specs.Files.{IsFile, IsBadFile, file_bytes}
 use Rattle.abc_cli.specs.Lines.{refusal_text, read_fault_text, no_memory_text}
-use Rattle.abc_cli.specs.Outcome.{Answer, told, not_built}
-
--- what a refusal is answered with
-abbrev pub refusal_answer : ℕ → Reason → Answer
-refusal_answer place reasons.NotBuilt = not_built
-refusal_answer place reason = told status.Refused (refusal_text (refusal place reason))
+use Rattle.abc_cli.specs.Outcome.{Answer, told}
 
 -- what an error is answered with
 abbrev pub error_answer : ReadError → Answer
-error_answer (errors.Refused place reason) = refusal_answer place reason
+error_answer (errors.Refused place reason) = told status.Refused (refusal_text (refusal place reason))
 error_answer errors.ReadFault = told status.ReadFault read_fault_text
 error_answer errors.NoMemory = told status.NoMemory no_memory_text
 

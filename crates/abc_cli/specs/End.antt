@@ -7,7 +7,7 @@ use Rattle.abc_base.specs.Sinks.{GrowsByFront}
 use Rattle.abc_base.specs.declared.status.Status.{Status}
 use Rattle.abc_base.specs.declared.status.Status.TheVariants as status
 use Rattle.abc_cli.specs.Lines.{line, read_fault_text, write_fault_text, no_memory_text}
-use Rattle.abc_cli.specs.Outcome.{Answer, told}
+use Rattle.abc_cli.specs.Outcome.{Answer}
 
 -- a sink before and after: what was written to it, where it tells that, and its count of faults
 pub record Channel : Type 0 where

@@ -1,9 +1,8 @@
 -- What a command line and an input are answered with.
-use Rattle.std.specs.Prelude.{◌≡◌, ◌≢◌, ℕ, List, [], Some, None, get_or}
+use Rattle.std.specs.Prelude.{◌≡◌, ℕ, List, [], Some, None, get_or}
 use Rattle.std.specs.declared.option.Option.{Option}
 use Rattle.abc_base.specs.declared.status.Status.{Status}
 use Rattle.abc_base.specs.declared.status.Status.TheVariants as status
-use Rattle.abc_format.specs.declared.reason.Reason.TheVariants as reasons
 use Rattle.abc_format.specs.Part.{Refusal}
 use Rattle.abc_tables.specs.declared.tables.Abc.{Abc}
 use Rattle.abc_tables.specs.Files.{IsFile, IsBadFile, file_bytes}
@@ -31,17 +30,15 @@ told s text = record { status = s; out = []; err = line text }
 abbrev pub not_built : Answer
 not_built = told status.NotBuilt not_built_text
 
--- `canon` of an input: the canonical bytes of the file that it spells, or its first fault; bodies are not built
+-- `canon` of an input: the canonical bytes of the file that it spells, or its first fault
 pub data CanonOutcome (input : List ℕ) : Answer → Type 0 where
   accepted : (v : Abc) → IsFile v input → CanonOutcome input (given (file_bytes v))
-  refused : (r : Refusal) → IsBadFile input r → r.reason ≢ reasons.NotBuilt → CanonOutcome input (told status.Refused (refusal_text r))
-  with_bodies : (r : Refusal) → IsBadFile input r → r.reason ≡ reasons.NotBuilt → CanonOutcome input not_built
+  refused : (r : Refusal) → IsBadFile input r → CanonOutcome input (told status.Refused (refusal_text r))
 
 -- the statuses that `canon` has where reading doesn't fail and memory is found
 pub data IsCanonStatus : Status → Type 0 where
   is_done : IsCanonStatus status.Done
   is_refused : IsCanonStatus status.Refused
-  is_not_built : IsCanonStatus status.NotBuilt
 
 -- a command on an input; of an input that the source doesn't tell no more than this is known
 abbrev pub CommandOutcome : Command → Option (List ℕ) → Answer → Type 0

@@ -1,10 +1,11 @@
 ghost use Rattle.std.specs.Prelude.{◌≡◌, ◌≤◌, is_ok, if◌then◌else◌};
 ghost use Rattle.abc_base.specs.Sinks.{WritesAll};
 ghost use Rattle.abc_base.specs.Faults.{HasCause};
-ghost use Rattle.abc_cli.specs.Canon.{error_answer, refusal_answer};
+ghost use Rattle.abc_cli.specs.Canon.{error_answer};
 ghost use Rattle.abc_cli.specs.End.{GivesLine, IsEnd, channel};
 ghost use Rattle.abc_cli.specs.Lines.{line, read_fault_text, write_fault_text, no_memory_text, not_built_text, no_command_text};
 ghost use Rattle.abc_cli.specs.Outcome.{given, told};
+ghost use Rattle.abc_varint.specs.declared.error.ReadError.{ReadError};
 
 use crate::lines::{write_line, write_refusal};
 use abc_base::{Failed, Sink, Status, write_all};
@@ -34,12 +35,9 @@ fn give_line<E: Sink>(err: &mut E, status: Status, text: &[u8]) -> Status
 /// Writes the line of a refused file.
 #[tactic(auto, using(crate::proofs::Ending::gives))]
 fn give_refusal<E: Sink>(err: &mut E, place: u32, reason: Reason) -> Status
-    ensures gives { GivesLine (channel (E.written err.old) (E.written err.new) (E.faults err.old) (E.faults err.new)) (refusal_answer place reason) result }
+    ensures gives { GivesLine (channel (E.written err.old) (E.written err.new) (E.faults err.old) (E.faults err.new)) (error_answer (ReadError.Refused place reason)) result }
     ensures later { E.faults err.old ≤ E.faults err.new }
 {
-    if reason == Reason::NotBuilt {
-        return give_not_built(err);
-    }
     let written = write_refusal(err, place, reason);
     ended(written, Status::Refused)
 }

@@ -105,17 +105,15 @@ fn refused_files(rt: HostRuntime) -> Result<(), Fail> {
             b"abc: byte 16: OptionCount\n",
         ),
         (&[0xff, 0xff, 0xff, 0xff, 3], b"abc: byte 9: Short\n"),
-        (&[0, 0, 0, 0, 0, 0, 0, 0, 0, 0, 0, 1], b"abc: not built\n"),
+        (
+            &[0, 0, 0, 0, 0, 0, 0, 0, 0, 0, 0, 1, 0],
+            b"abc: byte 16: Index\n",
+        ),
     ];
     for (given, line) in refused {
         let given = file(&rt, given)?;
-        let status = if line == b"abc: not built\n".as_slice() {
-            Status::NotBuilt
-        } else {
-            Status::Refused
-        };
         for piece in PIECES {
-            answers(&rt, &[b"canon"], &given, piece, status, b"", line)?;
+            answers(&rt, &[b"canon"], &given, piece, Status::Refused, b"", line)?;
         }
     }
     for piece in PIECES {
@@ -137,6 +135,58 @@ fn refused_files(rt: HostRuntime) -> Result<(), Fail> {
             b"",
             b"abc: byte 2: Version\n",
         )?;
+    }
+    Ok(())
+}
+
+/// A file of one script with one body, from the length of its code on.
+fn script<R: AllocGlobal>(rt: &R, code: &[u8]) -> Result<Vec<u8>, NoMemory> {
+    let mut bytes = file(
+        rt,
+        &[
+            0, 0, 0, 0, 0, 0, 0, 1, 0, 0, 0, 0, 0, 0, 1, 0, 0, 1, 0, 2, 1, 0, 1,
+        ],
+    )?;
+    bytes.extend_from_slice(code)?;
+    Ok(bytes)
+}
+
+/// Code that begins at byte 28, and what follows it.
+#[test]
+fn method_bodies(rt: HostRuntime) -> Result<(), Fail> {
+    let given = script(
+        &rt,
+        &[
+            9, 9, 0x62, 0x80, 0, 0x29, 0x10, 0xf7, 0xff, 0xff, 1, 1, 5, 0, 0, 0, 0,
+        ],
+    )?;
+    let wanted = script(
+        &rt,
+        &[
+            8, 9, 0x62, 0, 0x29, 0x10, 0xf8, 0xff, 0xff, 1, 1, 4, 0, 0, 0, 0,
+        ],
+    )?;
+    for piece in PIECES {
+        answers(&rt, &[b"canon"], &given, piece, Status::Done, &wanted, b"")?;
+    }
+    let refused: [(&[u8], &[u8]); 5] = [
+        (
+            &[11, 0x24, 0, 0x1b, 1, 0, 0, 0, 8, 0, 0, 0x47, 0, 0],
+            b"abc: byte 31: Target\n",
+        ),
+        (&[1, 1, 0, 0], b"abc: byte 28: Opcode\n"),
+        (&[1, 0x62, 0, 0], b"abc: byte 28: CodeEnds\n"),
+        (
+            &[9, 0x1b, 0, 0, 0, 0xff, 0xff, 0xff, 0xff, 3, 0, 0],
+            b"abc: byte 28: CodeEnds\n",
+        ),
+        (&[1, 0x47, 0], b"abc: byte 30: Short\n"),
+    ];
+    for (code, line) in refused {
+        let given = script(&rt, code)?;
+        for piece in PIECES {
+            answers(&rt, &[b"canon"], &given, piece, Status::Refused, b"", line)?;
+        }
     }
     Ok(())
 }

@@ -9,11 +9,11 @@ use Rattle.abc_varint.specs.declared.error.ReadError.TheVariants as errors
 use Rattle.abc_varint.specs.Reads.{stand, tells}
 use Rattle.abc_format.specs.declared.reason.Reason.TheVariants as reasons
 use Rattle.abc_tables.specs.declared.tables.Abc.{Abc}
-use Rattle.abc_tables.specs.Files.{IsFile, IsBadFile}
+use Rattle.abc_tables.specs.Files.{IsFileRead, IsBadFile}
 
--- an accepted value is spelled by all the bytes, and a refusal is their first fault
-abbrev pub AnswersFile : List ℕ → Result Abc ReadError → Type 0
-AnswersFile b (Ok v) = IsFile v b
+-- an accepted value is spelled by all the bytes, with its instructions where the places say; a refusal is their first fault
+abbrev pub AnswersFile : List ℕ → Result (Abc × List (List ℕ)) ReadError → Type 0
+AnswersFile b (Ok v) = IsFileRead v b
 AnswersFile b (Err (errors.Refused place reason)) = IsBadFile b (refusal place reason)
 AnswersFile b (Err errors.ReadFault) = Unit {0}
 AnswersFile b (Err errors.NoMemory) = Unit {0}

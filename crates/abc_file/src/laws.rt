@@ -1,6 +1,7 @@
-ghost use Rattle.std.specs.Prelude.{◌≡◌, ◌≤◌, List, ℕ, length};
+ghost use Rattle.std.specs.Prelude.{◌≡◌, ◌≤◌, All, List, ℕ, length};
 ghost use Rattle.abc_tables.specs.declared.tables.Abc.{Abc};
-ghost use Rattle.abc_tables.specs.Files.{IsFile, IsDecided, file_bytes};
+ghost use Rattle.abc_tables.specs.Bodies.{IsReadyBody};
+ghost use Rattle.abc_tables.specs.Files.{IsFile, IsFileRead, IsDecided, file_bytes};
 
 /// Every list of bytes is spelled by exactly one file, or is bad at exactly one place for exactly one reason, and
 /// never both.
@@ -14,4 +15,10 @@ pub fn canonical_form()
     ensures spelled { (v : Abc) → (b : List ℕ) → IsFile v b → IsFile v (file_bytes v) }
     ensures shortest { (v : Abc) → (b : List ℕ) → IsFile v b → length (file_bytes v) ≤ length b }
     ensures one_form { (v w : Abc) → (b c : List ℕ) → IsFile v b → IsFile w c → file_bytes v ≡ file_bytes w → v ≡ w }
+{}
+
+/// What is read beside the starts of instructions is the file, and each of its bodies can be written.
+pub fn reading_gives_the_file()
+    ensures file { (v : Abc) → (starts : List (List ℕ)) → (b : List ℕ) → IsFileRead (v, starts) b → IsFile v b }
+    ensures ready { (v : Abc) → (b : List ℕ) → IsFile v b → All IsReadyBody v.bodies }
 {}

@@ -5,6 +5,7 @@ mod laws;
 mod reading;
 mod writing;
 
-pub use laws::{canonical_form, one_reading};
+pub use abc_bodies::Places;
+pub use laws::{canonical_form, one_reading, reading_gives_the_file};
 pub use reading::read;
 pub use writing::write;

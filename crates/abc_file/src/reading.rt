@@ -1,17 +1,18 @@
-ghost use Rattle.std.specs.Prelude.{◌≡◌, ◌≤◌, Ok, Err, IfSome, IfOk, IfErr, OnOk, None, [], true, nat_eq, if◌then◌else◌};
+ghost use Rattle.std.specs.Prelude.{◌≡◌, ◌≤◌, ◌^◌, Ok, Err, IfSome, IfOk, IfErr, OnOk, None, [], true, nat_eq, if◌then◌else◌};
 ghost use Rattle.abc_base.specs.Faults.{Rose};
 ghost use Rattle.abc_format.specs.Numbers.{u16 as two_bytes};
 ghost use Rattle.abc_format.specs.Part.{checked};
 ghost use Rattle.abc_file.specs.Reading.{AnswersFile, IsNew, IsTrailing, IsUsedUp};
-ghost use Rattle.abc_tables.specs.Files.{file, no_bodies, version};
+ghost use Rattle.abc_tables.specs.Files.{file_read, version};
 ghost use Rattle.abc_varint.specs.Reads.{ReadsPart, stand, tells};
 ghost use Rattle.abc_varint.specs.declared.error.ReadError.{ReadError};
 
 use abc_base::Source;
+use abc_bodies::{Places, read_bodies};
 use abc_pools::read_pools;
 use abc_tables::Abc;
 use abc_traits::read_definitions;
-use abc_varint::{ReadError, Reason, Window, read_u16, read_u30};
+use abc_varint::{ReadError, Reason, Window, read_u16};
 use std::alloc::Global;
 
 /// One number of the version, which has to be this one.
@@ -43,40 +44,29 @@ fn read_version<S: Source>(w: &mut Window, source: &mut S) -> Result<(u16, u16),
     Ok((minor, major))
 }
 
-/// The count of bodies, which are not read yet.
-#[tactic(auto, unfolding(abc_tables::specs::Files::no_bodies))]
-fn read_no_bodies<S: Source>(w: &mut Window, source: &mut S) -> Result<u32, ReadError>
-    ensures { ReadsPart S.left S.faults no_bodies w.old source.old w.new source.new result }
-{
-    let place = w.place();
-    let count = read_u30(w, source)?;
-    if count != 0 {
-        return Err(ReadError::Refused {
-            place,
-            reason: Reason::NotBuilt,
-        });
-    }
-    Ok(count)
-}
-
 /// The file, and not what follows it.
-#[tactic(auto, unfolding(abc_tables::specs::Files::file))]
-fn read_parts<S: Source>(alloc: Global, w: &mut Window, source: &mut S) -> Result<Abc, ReadError>
-    ensures { ReadsPart S.left S.faults file w.old source.old w.new source.new result }
+#[tactic(auto, unfolding(abc_tables::specs::Files::file_read))]
+fn read_parts<S: Source>(
+    alloc: Global,
+    w: &mut Window,
+    source: &mut S,
+) -> Result<(Abc, Places), ReadError>
+    requires { w.old.end ≡ 2 ^ 25 }
+    ensures { ReadsPart S.left S.faults file_read w.old source.old w.new source.new result }
 {
     read_version(w, source)?;
     let mut abc = read_pools(alloc, w, source)?;
     read_definitions(alloc, w, source, &mut abc)?;
-    read_no_bodies(w, source)?;
-    Ok(abc)
+    let places = read_bodies(alloc, w, source, &mut abc)?;
+    Ok((abc, places))
 }
 
 /// The file, where nothing follows it.
-fn complete(abc: Abc, done: bool, place: u32) -> Result<Abc, ReadError>
-    ensures { result ≡ (if done then Ok abc else Err (ReadError.Refused place Reason.Trailing)) }
+fn complete(file: (Abc, Places), done: bool, place: u32) -> Result<(Abc, Places), ReadError>
+    ensures { result ≡ (if done then Ok file else Err (ReadError.Refused place Reason.Trailing)) }
 {
     if done {
-        Ok(abc)
+        Ok(file)
     } else {
         Err(ReadError::Refused {
             place,
@@ -86,23 +76,31 @@ fn complete(abc: Abc, done: bool, place: u32) -> Result<Abc, ReadError>
 }
 
 /// The file that was read, where nothing follows it.
-fn read_nothing_more<S: Source>(w: &mut Window, source: &mut S, abc: Abc) -> Result<Abc, ReadError>
+fn read_nothing_more<S: Source>(
+    w: &mut Window,
+    source: &mut S,
+    file: (Abc, Places),
+) -> Result<(Abc, Places), ReadError>
     requires { w.old.kept ≡ None }
-    ensures ended { IfOk result (λ v. (v ≡ abc) × (tells (S.left source.old) ≡ true → ((stand w.old (S.left source.old)).bytes ≡ []))) }
+    ensures ended { IfOk result (λ v. (v ≡ file) × (tells (S.left source.old) ≡ true → ((stand w.old (S.left source.old)).bytes ≡ []))) }
     ensures trailing { IfErr result (λ e. IsTrailing w.old (S.left source.old) e) }
     ensures end { OnOk result (IsUsedUp (S.left source.old) (S.left source.new)) }
     ensures later { S.faults source.old ≤ S.faults source.new }
     ensures cause { result ≡ Err ReadError.ReadFault → Rose (S.faults source.old) (S.faults source.new) }
 {
     match w.is_at_end(source) {
-        Ok(done) => complete(abc, done, w.place()),
+        Ok(done) => complete(file, done, w.place()),
         Err(e) => Err(e),
     }
 }
 
 /// The file, and nothing after it.
 #[tactic(auto, using(crate::proofs::Ending::all_refused, crate::proofs::Ending::all_read, crate::proofs::Ending::more_follows))]
-fn read_to_end<S: Source>(alloc: Global, w: &mut Window, source: &mut S) -> Result<Abc, ReadError>
+fn read_to_end<S: Source>(
+    alloc: Global,
+    w: &mut Window,
+    source: &mut S,
+) -> Result<(Abc, Places), ReadError>
     requires { IsNew w.old }
     ensures answers { IfSome (S.left source.old) (λ b. AnswersFile b result) }
     ensures end { OnOk result (IsUsedUp (S.left source.old) (S.left source.new)) }
@@ -110,15 +108,16 @@ fn read_to_end<S: Source>(alloc: Global, w: &mut Window, source: &mut S) -> Resu
     ensures cause { result ≡ Err ReadError.ReadFault → Rose (S.faults source.old) (S.faults source.new) }
 {
     match read_parts(alloc, w, source) {
-        Ok(abc) => read_nothing_more(w, source, abc),
+        Ok(file) => read_nothing_more(w, source, file),
         Err(e) => Err(e),
     }
 }
 
-/// Reads a file to the input's end. It is refused at its first fault, by the place of that fault and its reason; a byte
-/// that follows a complete file is refused by `Trailing`. `ReadFault` comes only where the source's count of faults
-/// rose. At most 2^24 + 1 bytes are taken, whatever the source gives.
-pub fn read<S: Source>(alloc: Global, source: &mut S) -> Result<Abc, ReadError>
+/// Reads a file to the input's end, and gives where the instructions of its bodies began. It is refused at its first
+/// fault, by the place of that fault and its reason; a byte that follows a complete file is refused by `Trailing`.
+/// `ReadFault` comes only where the source's count of faults rose. At most 2^24 + 1 bytes are taken, whatever the source
+/// gives.
+pub fn read<S: Source>(alloc: Global, source: &mut S) -> Result<(Abc, Places), ReadError>
     ensures answers { IfSome (S.left source.old) (λ b. AnswersFile b result) }
     ensures end { OnOk result (IsUsedUp (S.left source.old) (S.left source.new)) }
     ensures later { S.faults source.old ≤ S.faults source.new }

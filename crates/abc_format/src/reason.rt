@@ -40,8 +40,6 @@ pub enum Reason {
     Trailing,
     /// A byte is needed past the longest file, and is there.
     FileTooLong,
-    /// There are method bodies, which are not read yet.
-    NotBuilt,
 }
 
 impl Reason {
@@ -68,7 +66,6 @@ impl Reason {
             Reason::SecondBody => b"SecondBody",
             Reason::Trailing => b"Trailing",
             Reason::FileTooLong => b"FileTooLong",
-            Reason::NotBuilt => b"NotBuilt",
         }
     }
 }

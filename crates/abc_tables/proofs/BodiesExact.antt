@@ -1,11 +1,12 @@
 -- Each part of the bodies is exact.
 use Rattle.std.proofs.Common.{ℕ, List, []}
 use Rattle.abc_format.specs.Law.{Exact}
+use Rattle.abc_format.specs.Part.{Part}
 use Rattle.abc_format.proofs.Exact.{image-exact, both-exact, checked-exact, then-exact, chain-exact}
 use Rattle.abc_format.proofs.Numbers.{u30-exact, index_below-exact, pool_index-exact, counted-exact}
 use Rattle.abc_tables.specs.declared.tables.Abc.{Abc}
 use Rattle.abc_tables.specs.declared.tables.Sizes.{Sizes}
-use Rattle.abc_tables.specs.Bodies.{handler, body_method, body, body_list, bodies, methods_of}
+use Rattle.abc_tables.specs.Bodies.{handler, body_method, body_with, body, body_list, bodies, methods_of}
 use Rattle.abc_tables.specs.Classes.{sizes_of}
 use Rattle.abc_tables.proofs.CodeExact.{code-exact}
 use Rattle.abc_tables.proofs.CodeParts.{instruction_place-exact}
@@ -21,11 +22,15 @@ pub body_method-exact : (v : Sizes) (taken : List ℕ) → Exact (body_method v 
 unfolding body_method
 body_method-exact v taken = checked-exact _ _ _ (index_below-exact v.methods)
 
+pub body_with-exact : (v : Sizes) (method : Part ℕ) → Exact method → Exact (body_with v method)
+unfolding body_with
+body_with-exact v method exact =
+    image-exact _ _ (both-exact _ _ exact (both-exact _ _ u30-exact (both-exact _ _ u30-exact (both-exact _ _ u30-exact (both-exact _ _ u30-exact
+    (then-exact _ _ code-exact (λ c. both-exact _ _ (counted-exact _ (handler-exact v c.offsets)) (counted-exact _ (trait_info-exact v)))))))))
+
 pub body-exact : (v : Sizes) (taken : List ℕ) → Exact (body v taken)
 unfolding body
-body-exact v taken =
-    image-exact _ _ (both-exact _ _ (body_method-exact v taken) (both-exact _ _ u30-exact (both-exact _ _ u30-exact (both-exact _ _ u30-exact (both-exact _ _ u30-exact
-    (then-exact _ _ code-exact (λ c. both-exact _ _ (counted-exact _ (handler-exact v c.offsets)) (counted-exact _ (trait_info-exact v)))))))))
+body-exact v taken = body_with-exact v (body_method v taken) (body_method-exact v taken)
 
 pub body_list-exact : (v : Sizes) → Exact (body_list v)
 unfolding body_list

@@ -153,7 +153,7 @@ operands_can ps here next op forms.Debug raw b i f s m =
     let k = small x.1.1.1 v.1 v.4 in
     rw e ((h.0, k.0), omega (arith, h.1, k.1, ap length t.2, length-append t.0 t.1, ap length t.3, ap length u.2, length-append u.0 u.1, ap length v.2, length-append v.0 v.1, ap length v.3))
 
-piece_can : (ps : List (RawInstr × ℕ)) (here next : ℕ) (raw : RawInstr) (b : List ℕ) (i : Instr) → instruction.spells raw b → Means ps here next raw i → CanSpell (length ps) i × (instr_len i ≤ length b)
+pub piece_can : (ps : List (RawInstr × ℕ)) (here next : ℕ) (raw : RawInstr) (b : List ℕ) (i : Instr) → instruction.spells raw b → Means ps here next raw i → CanSpell (length ps) i × (instr_len i ≤ length b)
 unfolding instruction opcode u8
 piece_can ps here next raw b i s m =
     let o = s.0.0 in

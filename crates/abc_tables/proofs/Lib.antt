@@ -8,3 +8,7 @@ pub mod CodeExact
 pub mod CodeShortest
 pub mod Lengths
 pub mod BodiesExact
+pub mod Shortening
+pub mod BodiesShortest
+pub mod BodiesReady
+pub mod Readiness

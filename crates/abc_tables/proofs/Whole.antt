@@ -1,22 +1,25 @@
 -- The laws of the whole file.
 use Rattle.std.proofs.Common.{◌≡◌, ◌≢◌, ℕ, ◌≤◌, ◌⊎◌, inl, inr, List, [], ◌∷◌, ◌++◌, length, true, refl, sym, ap, subst, ◌∙◌, append_assoc, arith}
-use Rattle.std.specs.Prelude.{nat_eq}
+use Rattle.std.specs.Prelude.{All, nat_eq}
 use Rattle.std.proofs.lemmas.List.{append-nil}
 use Rattle.std.proofs.lemmas.Bool.Decides.{nat_tests}
-use Rattle.abc_base.specs.Numbers.{number_bytes}
 use Rattle.abc_format.specs.declared.reason.Reason.TheVariants as reasons
-use Rattle.abc_format.specs.Part.{At, at, limit, Front, Refusal, refusal, Begins}
+use Rattle.abc_format.specs.Part.{Part, At, at, limit, Front, Refusal, refusal, Begins}
 use Rattle.abc_format.specs.Law.{Exact, IsDetermined}
 use Rattle.abc_format.specs.Canonical.{IsCanonical, u16_bytes}
 use Rattle.abc_format.proofs.Exact.{image-exact, both-exact, checked-exact, then-exact}
-use Rattle.abc_format.proofs.Numbers.{u16-exact, u30-exact}
-use Rattle.abc_format.proofs.Canon.{image-canonical, both-canonical, checked-canonical, then-canonical, u30-canonical}
+use Rattle.abc_format.proofs.Numbers.{u16-exact}
+use Rattle.abc_format.proofs.Canon.{image-canonical, both-canonical, checked-canonical, then-canonical}
 use Rattle.abc_format.proofs.Fixed.{u16-canonical}
 use Rattle.abc_format.proofs.Determined.{determined}
 use Rattle.abc_tables.specs.declared.tables.Abc.{Abc}
 use Rattle.abc_tables.specs.Pools.{pools_bytes}
 use Rattle.abc_tables.specs.Classes.{definitions, definitions_bytes}
-use Rattle.abc_tables.specs.Files.{version, version_bytes, no_bodies, file, file_bytes, IsFile, IsBadFile, IsDecided}
+use Rattle.abc_tables.specs.Bodies.{IsReadyBody, bodies, bodies_alone, bodies_bytes}
+use Rattle.abc_tables.specs.Files.{version, version_bytes, file, file_read, file_bytes, IsFile, IsBadFile, IsDecided}
+use Rattle.abc_tables.proofs.BodiesExact.{bodies-exact}
+use Rattle.abc_tables.proofs.BodiesReady.{bodies_ready}
+use Rattle.abc_tables.proofs.BodiesShortest.{bodies_alone-canonical}
 use Rattle.abc_tables.proofs.Exactness.{pools-exact, definitions-exact}
 use Rattle.abc_tables.proofs.Shortest.{pools-canonical, definitions-canonical}
 
@@ -24,13 +27,36 @@ pub version-exact : Exact version
 unfolding version
 version-exact = both-exact _ _ (checked-exact _ _ _ u16-exact) (checked-exact _ _ _ u16-exact)
 
-pub no_bodies-exact : Exact no_bodies
-unfolding no_bodies
-no_bodies-exact = checked-exact _ _ _ u30-exact
+pub bodies_alone-exact : (abc : Abc) → Exact (bodies_alone abc)
+unfolding bodies_alone
+bodies_alone-exact abc = image-exact _ _ (bodies-exact abc)
 
 pub file-exact : Exact file
 unfolding file
-file-exact = image-exact _ _ (both-exact _ _ version-exact (then-exact _ _ pools-exact (λ abc. both-exact _ _ (definitions-exact abc) no_bodies-exact)))
+file-exact = image-exact _ _ (both-exact _ _ version-exact (then-exact _ _ pools-exact (λ abc. then-exact _ _ (definitions-exact abc) (λ full. bodies_alone-exact full))))
+
+pub file_read-exact : Exact file_read
+unfolding file_read
+file_read-exact = image-exact _ _ (both-exact _ _ version-exact (then-exact _ _ pools-exact (λ abc. then-exact _ _ (definitions-exact abc) (λ full. bodies-exact full))))
+
+-- ---- with the starts and without them
+
+-- the starts are told beside the file
+pub read_spelled : (v : Abc × List (List ℕ)) (b : List ℕ) → file_read.spells v b → file.spells v.0 b
+unfolding file file_read bodies_alone
+read_spelled v b s =
+    let x = s.0 in
+    let d = s.1.4 in
+    let f = d.4 in
+    ((x.0, (x.1.0, (x.1.1.0, x.1.1.1.0))), (s.1.0, s.1.1, s.1.2, s.1.3, (d.0, d.1, d.2, d.3, (f.0, f.1, f.2, f.3, (x.1.1.1, f.4, refl)))), ap (λ (y : Abc × List (List ℕ)). y.0) s.2)
+
+pub read_begins : (from : At) (v : Abc × List (List ℕ)) (after : At) → Begins file_read from v after → Begins file from v.0 after
+read_begins from v after b = record { front = b.front; spelled = read_spelled v b.front b.spelled; is = b.is }
+
+-- what refuses the one refuses the other
+pub read_bad : (from : At) (r : Refusal) → file_read.bad from r → file.bad from r
+unfolding file file_read bodies_alone
+read_bad from r b = b
 
 -- ---- the whole input
 
@@ -40,11 +66,11 @@ whole_front b le = record { parts = sym (append-nil b); place = omega arith; roo
 begins_whole : (v : Abc) (b : List ℕ) → IsFile v b → Begins file (at 0 b) v (at (length b) [])
 begins_whole v b f = record { front = b; spelled = f.0; is = whole_front b f.1 }
 
-pub whole_begins : (v : Abc) (b : List ℕ) (after : At) → Begins file (at 0 b) v after → after.bytes ≡ [] → IsFile v b
-whole_begins v b after s none =
+pub whole_begins : {A : Type 0} (p : Part A) (v : A) (b : List ℕ) (after : At) → Begins p (at 0 b) v after → after.bytes ≡ [] → p.spells v b × (length b ≤ limit)
+whole_begins p v b after s none =
     let e : b ≡ s.front = s.is.parts ∙ ap (λ (t : List ℕ). s.front ++ t) none ∙ append-nil s.front in
     let le : length s.front ≤ limit = omega (arith, s.is.place, s.is.room) in
-    (subst (file.spells v) (sym e) s.spelled, subst (λ (t : List ℕ). length t ≤ limit) (sym e) le)
+    (subst (p.spells v) (sym e) s.spelled, subst (λ (t : List ℕ). length t ≤ limit) (sym e) le)
 
 is_empty : (b : List ℕ) → (b ≡ []) ⊎ (b ≢ [])
 is_empty [] = inl refl
@@ -59,7 +85,7 @@ law = determined file file-exact
 decided_some : (b : List ℕ) → ((v : Abc) × (after : At) × Begins file (at 0 b) v after) ⊎ ((r : Refusal) × file.bad (at 0 b) r) → ((v : Abc) × IsFile v b) ⊎ ((r : Refusal) × IsBadFile b r)
 decided_some b (inl s) =
     elim (is_empty s.1.bytes) [
-      | inl none ↦ inl (s.0, whole_begins s.0 b s.1 s.2 none)
+      | inl none ↦ inl (s.0, whole_begins file s.0 b s.1 s.2 none)
       | inr some ↦ inr (refusal s.1.place reasons.Trailing, inr (s.0, s.1, s.2, some, refl))
     ]
 decided_some b (inr r) = inr (r.0, inl r.1)
@@ -94,16 +120,9 @@ sixteen n h = grind (arith, nat_tests)
 forty_six : (n : ℕ) → nat_eq n 46 ≡ true → n ≡ 46
 forty_six n h = grind (arith, nat_tests)
 
-none : (n : ℕ) → nat_eq n 0 ≡ true → n ≡ 0
-none n h = grind (arith, nat_tests)
-
 version-canonical : IsCanonical version (λ x. u16_bytes x.0 ++ u16_bytes x.1)
 unfolding version
 version-canonical = both-canonical _ _ _ _ (checked-canonical _ _ _ _ u16-canonical) (checked-canonical _ _ _ _ u16-canonical)
-
-no_bodies-canonical : IsCanonical no_bodies number_bytes
-unfolding no_bodies
-no_bodies-canonical = checked-canonical _ _ _ _ u30-canonical
 
 version_known : (x : ℕ × ℕ) (b : List ℕ) → version.spells x b → u16_bytes x.0 ++ u16_bytes x.1 ≡ version_bytes
 unfolding version
@@ -112,26 +131,28 @@ version_known x b s =
     let major : x.1 ≡ 46 = forty_six x.1 s.4.1 in
     rw (minor, major) refl
 
-bodies_known : (n : ℕ) (b : List ℕ) → no_bodies.spells n b → number_bytes n ≡ number_bytes 0
-unfolding no_bodies
-bodies_known n b s = ap number_bytes (none n s.1)
-
 -- definitions leave the pools as they are
 pools_kept : (abc v : Abc) (b : List ℕ) → (definitions abc).spells v b → pools_bytes abc ≡ pools_bytes v
 unfolding definitions pools_bytes
 pools_kept abc v b s = rw s.2 refl
 
+-- bodies leave all else as it is
+rest_kept : (abc v : Abc) (b : List ℕ) → (bodies_alone abc).spells v b → (pools_bytes abc ≡ pools_bytes v) × (definitions_bytes abc ≡ definitions_bytes v)
+unfolding bodies_alone bodies pools_bytes definitions_bytes
+rest_kept abc v b s = let is = s.2 ∙ ap (λ (y : Abc × List (List ℕ)). y.0) s.1.2 in rw is (refl, refl)
+
 pub file-canonical : IsCanonical file file_bytes
 unfolding file file_bytes
 file-canonical =
-    image-canonical _ _ (λ x. (u16_bytes x.0.0 ++ u16_bytes x.0.1) ++ (pools_bytes x.1.0 ++ (definitions_bytes x.1.1.0 ++ number_bytes x.1.1.1))) _
-    (both-canonical _ _ _ (λ y. pools_bytes y.0 ++ (definitions_bytes y.1.0 ++ number_bytes y.1.1)) version-canonical
-    (then-canonical _ _ pools_bytes (λ abc y. definitions_bytes y.0 ++ number_bytes y.1) pools-canonical (λ abc. both-canonical _ _ _ _ (definitions-canonical abc) no_bodies-canonical)))
+    image-canonical _ _ (λ x. (u16_bytes x.0.0 ++ u16_bytes x.0.1) ++ (pools_bytes x.1.0 ++ (definitions_bytes x.1.1.0 ++ bodies_bytes x.1.1.1))) _
+    (both-canonical _ _ _ (λ y. pools_bytes y.0 ++ (definitions_bytes y.1.0 ++ bodies_bytes y.1.1)) version-canonical
+    (then-canonical _ _ pools_bytes (λ abc y. definitions_bytes y.0 ++ bodies_bytes y.1) pools-canonical (λ abc.
+    then-canonical _ _ definitions_bytes (λ full. bodies_bytes) (definitions-canonical abc) (λ full. bodies_alone-canonical full))))
     (λ x b s.
     let begin = version_known x.0 s.0 s.3 in
     let kept = pools_kept x.1.0 x.1.1.0 s.4.4.0 s.4.4.3 in
-    let end = bodies_known x.1.1.1 s.4.4.1 s.4.4.4 in
-    rw (begin, kept, end) (simp append_assoc))
+    let rest = rest_kept x.1.1.0 x.1.1.1 s.4.4.1 s.4.4.4 in
+    rw (begin, kept, rest.0, rest.1) (simp append_assoc))
 
 -- ---- what the canonical bytes promise
 
@@ -146,3 +167,11 @@ canonical_same v w b c f g e =
     let one = (canonical_file v b f).0 in
     let two = (canonical_file w c g).0 in
     (decided (file_bytes w)).one_value v w (subst (IsFile v) e one) two
+
+-- the bodies of a file can be written
+pub file_ready : (v : Abc) (b : List ℕ) → IsFile v b → All IsReadyBody v.bodies
+unfolding file
+file_ready v b f =
+    let x = f.0.0 in
+    let s = f.0.1.4.4 in
+    subst (λ (w : Abc). All IsReadyBody w.bodies) (sym f.0.2) (bodies_ready x.1.1.0 x.1.1.1 s.1 s.4)

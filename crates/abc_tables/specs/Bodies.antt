@@ -1,5 +1,5 @@
 -- Method bodies: their sizes, code, exceptions and traits.
-use Rattle.std.specs.Prelude.{ℕ, List, [], ◌++◌, map, not, nat_eq, get_or}
+use Rattle.std.specs.Prelude.{ℕ, ◌≤◌, List, [], ◌++◌, All, length, map, not, nat_eq, get_or}
 use Rattle.std.specs.List.{list_any}
 use Rattle.abc_base.specs.Numbers.{number_bytes}
 use Rattle.abc_format.specs.declared.reason.Reason.TheVariants as reasons
@@ -15,6 +15,7 @@ use Rattle.abc_tables.specs.Classes.{sizes_of}
 use Rattle.abc_tables.specs.Code.{code}
 use Rattle.abc_tables.specs.CodeBytes.{canonical_starts, code_bytes}
 use Rattle.abc_tables.specs.Places.{instruction_place}
+use Rattle.abc_tables.specs.Ready.{IsReady}
 use Rattle.abc_tables.specs.Traits.{trait_info, trait_bytes}
 
 -- three places in code whose instructions start so, a type and a name
@@ -32,9 +33,9 @@ handler_bytes starts h =
 unfoldable pub body_method : Sizes → List ℕ → Part ℕ
 body_method v taken = checked (λ m. not (list_any (nat_eq m) taken)) reasons.SecondBody (index_below v.methods)
 
--- a body, where these methods have one already, with the starts of its instructions as they were read
-unfoldable pub body : Sizes → List ℕ → Part (Body × List ℕ)
-body v taken =
+-- a body whose method is spelled so, with the starts of its instructions as they were read
+unfoldable pub body_with : Sizes → Part ℕ → Part (Body × List ℕ)
+body_with v method =
     image (λ x. (
       record {
         method = x.0;
@@ -48,8 +49,12 @@ body v taken =
       },
       x.1.1.1.1.1.0.offsets,
     ))
-    (both (body_method v taken) (both u30 (both u30 (both u30 (both u30 (then_by code (λ c.
+    (both method (both u30 (both u30 (both u30 (both u30 (then_by code (λ c.
     both (counted (handler v c.offsets)) (counted (trait_info v)))))))))
+
+-- a body, where these methods have one already
+unfoldable pub body : Sizes → List ℕ → Part (Body × List ℕ)
+body v taken = body_with v (body_method v taken)
 
 unfoldable pub body_bytes : Body → List ℕ
 body_bytes b =
@@ -69,3 +74,20 @@ bodies abc = image (λ xs. (record abc { bodies = map (λ x. x.0) xs }, map (λ 
 
 unfoldable pub bodies_bytes : Abc → List ℕ
 bodies_bytes v = counted_bytes body_bytes v.bodies
+
+-- the bodies beside the rest of a value, without what is known only of bytes as they were read
+unfoldable pub bodies_alone : Abc → Part Abc
+bodies_alone abc = image (λ x. x.0) (bodies abc)
+
+-- ---- which bodies some bytes spell
+
+-- The places are numbers of the n instructions or of the end.
+pub record IsWithin (n : ℕ) (h : Handler) : Type 0 where
+  pub from : h.from ≤ n
+  pub to : h.to ≤ n
+  pub target : h.target ≤ n
+
+-- Some bytes spell the code, and its exceptions name places in it.
+pub record IsReadyBody (b : Body) : Type 0 where
+  pub code : IsReady b.code
+  pub places : All (IsWithin (length b.code)) b.handlers

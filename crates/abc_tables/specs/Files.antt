@@ -1,13 +1,13 @@
 -- The whole file.
 use Rattle.std.specs.Prelude.{◌≡◌, ◌≢◌, ◌≤◌, ◌⊎◌, ℕ, List, [], ◌++◌, length, nat_eq}
-use Rattle.abc_base.specs.Numbers.{number_bytes}
 use Rattle.abc_format.specs.declared.reason.Reason.TheVariants as reasons
 use Rattle.abc_format.specs.Part.{Part, At, at, limit, Refusal, refusal, Begins, then_by, both, image, checked}
-use Rattle.abc_format.specs.Numbers.{u16, u30}
+use Rattle.abc_format.specs.Numbers.{u16}
 use Rattle.abc_format.specs.Canonical.{u16_bytes}
 use Rattle.abc_tables.specs.declared.tables.Abc.{Abc}
 use Rattle.abc_tables.specs.Pools.{pools, pools_bytes}
 use Rattle.abc_tables.specs.Classes.{definitions, definitions_bytes}
+use Rattle.abc_tables.specs.Bodies.{bodies, bodies_alone, bodies_bytes}
 
 -- minor version 16, and major version 46
 unfoldable pub version : Part (ℕ × ℕ)
@@ -16,22 +16,26 @@ version = both (checked (λ n. nat_eq n 16) reasons.Version u16) (checked (λ n.
 abbrev pub version_bytes : List ℕ
 version_bytes = u16_bytes 16 ++ u16_bytes 46
 
--- no bodies: they are not read yet
-unfoldable pub no_bodies : Part ℕ
-no_bodies = checked (λ n. nat_eq n 0) reasons.NotBuilt u30
-
--- the version, the pools, the definitions, and the bodies
+-- the version, the pools, the definitions and the bodies
 unfoldable pub file : Part Abc
-file = image (λ x. x.1.1.0) (both version (then_by pools (λ abc. both (definitions abc) no_bodies)))
+file = image (λ x. x.1.1.1) (both version (then_by pools (λ abc. then_by (definitions abc) (λ full. bodies_alone full))))
+
+-- the same, with the starts of each body's instructions as they were read
+unfoldable pub file_read : Part (Abc × List (List ℕ))
+file_read = image (λ x. x.1.1.1) (both version (then_by pools (λ abc. then_by (definitions abc) (λ full. bodies full))))
 
 unfoldable pub file_bytes : Abc → List ℕ
-file_bytes v = version_bytes ++ pools_bytes v ++ definitions_bytes v ++ number_bytes 0
+file_bytes v = version_bytes ++ pools_bytes v ++ definitions_bytes v ++ bodies_bytes v
 
 -- ---- the whole input
 
 -- The bytes spell the file.
 abbrev pub IsFile : Abc → List ℕ → Type 0
 IsFile v b = file.spells v b × (length b ≤ limit)
+
+-- The bytes spell the file, and the instructions of its bodies start so in their code.
+abbrev pub IsFileRead : Abc × List (List ℕ) → List ℕ → Type 0
+IsFileRead v b = file_read.spells v b × (length b ≤ limit)
 
 -- The input is refused at its first fault; a byte after a complete file is one.
 abbrev pub IsBadFile : List ℕ → Refusal → Type 0

@@ -8,6 +8,7 @@ mod instructions;
 mod methods;
 mod names;
 mod opcodes;
+mod ready;
 mod tables;
 mod traits;
 
@@ -18,5 +19,6 @@ pub use instructions::{Code, code_len, instr_len};
 pub use methods::{Metadata, Method, OptionValue, ValueKind};
 pub use names::{Multiname, MultinameForm, MultinameKind, Namespace, NsKind};
 pub use opcodes::{Form, OpInfo, Pool, mnemonic, opcode};
+pub use ready::{are_bodies_ready, is_ready, is_ready_body};
 pub use tables::{Abc, Eight, Sizes};
 pub use traits::{TraitBody, TraitInfo, TraitKind};

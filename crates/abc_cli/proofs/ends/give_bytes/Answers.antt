@@ -1,5 +1,5 @@
 use Rattle.std.proofs.Common.{refl}
-use Rattle.abc_cli.specs.End.{IsEnd, channel}
+use Rattle.abc_cli.specs.End.{IsEnd}
 use Rattle.abc_cli.specs.Lines.{write_fault_text}
 use Rattle.abc_cli.specs.Outcome.{given}
 use Rattle.abc_cli.proofs.Ending.{bytes_failed, nothing}

@@ -1,0 +1,136 @@
+-- Bodies are read one after the other, with a flag for each method that has one.
+use Rattle.std.proofs.Common.{◌≡◌, ℕ, zero, suc, ◌+◌, ◌-◌, ◌<◌, Bool, true, false, List, [], ◌∷◌, ◌++◌, length, get_or, set, Ok, Err, None, Some, refl, sym, ap, subst, ◌∙◌, length-append, length-set, arith}
+use Rattle.std.specs.Prelude.{replicate, slice_get}
+use Rattle.std.specs.declared.option.Option.{Option}
+use Rattle.std.proofs.lemmas.List.{length-replicate, map-append}
+use Rattle.std.proofs.lemmas.Option.{slice_get_within}
+use Rattle.abc_format.specs.Lists.{chain}
+use Rattle.abc_format.specs.Part.{Part, image}
+use Rattle.abc_tables.specs.declared.code.Body.{Body}
+use Rattle.abc_tables.specs.declared.tables.Abc.{Abc}
+use Rattle.abc_tables.specs.declared.tables.Sizes.{Sizes}
+use Rattle.abc_tables.specs.Bodies.{bodies, body, body_list, methods_of}
+use Rattle.abc_tables.specs.Classes.{sizes_of}
+use Rattle.abc_varint.specs.declared.error.ReadError.{ReadError}
+use Rattle.abc_varint.specs.View.{View}
+use Rattle.abc_varint.specs.Reads.{Reads}
+use Rattle.abc_traits.specs.Sizes.{capped}
+use Rattle.abc_traits.proofs.Alike.{Alike, alike_sym, image-alike, image_image}
+use Rattle.abc_traits.proofs.Filling.{reads_alike, reads_image}
+use Rattle.abc_bodies.specs.Places.{ArePlaces}
+use Rattle.abc_bodies.specs.Reading.{free_body, halves}
+use Rattle.abc_bodies.proofs.Alike.{IsFlagged, body_list-capped, flags_up, free_body-alike, no_flags}
+use Rattle.abc_bodies.proofs.Chaining.{Chaining, chain_begins, chain_done, chain_fails, chain_goes_on}
+
+-- ---- each body beside its starts
+
+abbrev pub paired : List Body → List (List ℕ) → List (Body × List ℕ)
+paired [] ss = []
+paired (b ∷ bs) [] = []
+paired (b ∷ bs) (s ∷ ss) = (b, s) ∷ paired bs ss
+
+paired-push : (bs : List Body) (ss : List (List ℕ)) (b : Body) (s : List ℕ) → length bs ≡ length ss → paired (bs ++ b ∷ []) (ss ++ s ∷ []) ≡ paired bs ss ++ (b, s) ∷ []
+paired-push [] [] b s e = refl
+paired-push [] (t ∷ ss) b s e = absurd (omega arith)
+paired-push (c ∷ bs) [] b s e = absurd (omega arith)
+paired-push (c ∷ bs) (t ∷ ss) b s e = ap (λ (l : List (Body × List ℕ)). (c, t) ∷ l) (paired-push bs ss b s (omega arith))
+
+paired-halves : (bs : List Body) (ss : List (List ℕ)) → length bs ≡ length ss → halves (paired bs ss) ≡ (bs, ss)
+paired-halves [] [] e = refl
+paired-halves [] (t ∷ ss) e = absurd (omega arith)
+paired-halves (b ∷ bs) [] e = absurd (omega arith)
+paired-halves (b ∷ bs) (t ∷ ss) e =
+    let h = paired-halves bs ss (omega arith) in
+    ap (λ (x : List Body × List (List ℕ)). (b ∷ x.0, t ∷ x.1)) h
+
+-- ---- places
+
+new_place : (bs : List Body) (ss : List (List ℕ)) (b : Body) (s : List ℕ) → length s ≡ length b.code + 1 → length ss ≡ length bs → (i : ℕ) (c : Body)
+    → slice_get (bs ++ b ∷ []) i ≡ Some c → ((j : ℕ) (d : Body) → slice_get bs j ≡ Some d → length (get_or ss j []) ≡ length d.code + 1) → length (get_or (ss ++ s ∷ []) i []) ≡ length c.code + 1
+new_place [] [] b s many even zero c h each = let same : b ≡ c = cc in ap (λ (d : Body). length s) same ∙ many ∙ ap (λ (d : Body). length d.code + 1) same
+new_place [] [] b s many even (suc i) c h each = absurd cc
+new_place [] (t ∷ ss) b s many even i c h each = absurd (omega arith)
+new_place (a ∷ bs) [] b s many even i c h each = absurd (omega arith)
+new_place (a ∷ bs) (t ∷ ss) b s many even zero c h each = each 0 c h
+new_place (a ∷ bs) (t ∷ ss) b s many even (suc i) c h each = new_place bs ss b s many (omega arith) i c h (λ j d g. each (suc j) d g)
+
+place_more : (bs : List Body) (ss : List (List ℕ)) (b : Body) (s : List ℕ) → length s ≡ length b.code + 1 → ArePlaces bs ss → ArePlaces (bs ++ b ∷ []) (ss ++ s ∷ [])
+place_more bs ss b s many p = record {
+  count = omega (arith, p.count, length-append bs (b ∷ []), length-append ss (s ∷ []));
+  each = λ i c h. new_place bs ss b s many p.count i c h p.each;
+}
+
+-- ---- the loop
+
+abbrev pub next_body : Sizes → List (Body × List ℕ) → Part (Body × List ℕ)
+next_body v before = body v (methods_of before)
+
+-- what is known where some bodies are read and `more` are to come
+pub record Collecting (v : Sizes) (total more : ℕ) (flags : List Bool) (bs : List Body) (ss : List (List ℕ)) (w0 : View) (s0 : Option (List ℕ)) (w : View) (s : Option (List ℕ)) : Type 0 where
+  pub chained : Chaining (next_body v) total more (paired bs ss) w0 s0 w s
+  pub flagged : IsFlagged flags (methods_of (paired bs ss))
+  pub count : length flags ≡ v.methods
+  pub placed : ArePlaces bs ss
+
+module _ (v : Sizes) (total : ℕ) (w0 : View) (s0 : Option (List ℕ)) where
+  pub begins : (flags : List Bool) → flags ≡ replicate v.methods false → w0.kept ≡ None → Collecting v total (total - 0) flags [] [] w0 s0 w0 s0
+  begins flags is fresh = record {
+    chained = chain_begins (next_body v) total w0 s0 fresh;
+    flagged = rw is (no_flags v.methods);
+    count = ap length is ∙ length-replicate v.methods false;
+    placed = record { count = refl; each = λ i b h. absurd cc };
+  }
+
+  exact : (flags : List Bool) (bs : List Body) (ss : List (List ℕ)) → IsFlagged flags (methods_of (paired bs ss)) → length flags ≡ v.methods → Alike (free_body v flags) (next_body v (paired bs ss))
+  exact flags bs ss flagged count = free_body-alike v flags (methods_of (paired bs ss)) count flagged
+
+  pub collects : (more less : ℕ) (flags : List Bool) (bs : List Body) (ss : List (List ℕ)) (w : View) (s : Option (List ℕ)) (w2 : View) (s2 : Option (List ℕ)) (x : Body × List ℕ)
+      → more ≡ suc less → Collecting v total more flags bs ss w0 s0 w s → Reads (free_body v flags).reads w s w2 s2 (Ok x) → slice_get flags x.0.method ≡ Some false → length x.1 ≡ length x.0.code + 1
+      → Collecting v total less (set flags x.0.method true) (bs ++ x.0 ∷ []) (ss ++ x.1 ∷ []) w0 s0 w2 s2
+  collects more less flags bs ss w s w2 s2 x k g r free many =
+      let read = reads_alike _ _ (exact flags bs ss g.flagged g.count) w s w2 s2 (Ok x) r in
+      let even = sym g.placed.count in
+      let push = paired-push bs ss x.0 x.1 even in
+      let methods : methods_of (paired bs ss ++ x ∷ []) ≡ methods_of (paired bs ss) ++ x.0.method ∷ [] = map-append (λ (y : Body × List ℕ). y.0.method) (paired bs ss) (x ∷ []) in
+      let up = flags_up flags (methods_of (paired bs ss)) x.0.method (slice_get_within flags x.0.method false free) g.flagged in
+      record {
+        chained = rw push (chain_goes_on (next_body v) total more less (paired bs ss) w0 s0 w s w2 s2 x k g.chained read);
+        flagged = rw (push, methods) up;
+        count = length-set flags x.0.method true ∙ g.count;
+        placed = place_more bs ss x.0 x.1 many g.placed;
+      }
+
+  pub fails : (e : ReadError) (more : ℕ) (flags : List Bool) (bs : List Body) (ss : List (List ℕ)) (w : View) (s : Option (List ℕ)) (w2 : View) (s2 : Option (List ℕ))
+      → 0 < more → Collecting v total more flags bs ss w0 s0 w s → Reads (free_body v flags).reads w s w2 s2 (Err e) → Reads (image halves (chain total (next_body v) [])).reads w0 s0 w2 s2 (Err e)
+  fails e more flags bs ss w s w2 s2 lt g r =
+      let read = reads_alike _ _ (exact flags bs ss g.flagged g.count) w s w2 s2 (Err e) r in
+      reads_image halves (chain total (next_body v) []) w0 s0 w2 s2 (Err e) (chain_fails (next_body v) e total more (paired bs ss) w0 s0 w s w2 s2 lt g.chained read)
+
+  pub collected : (more : ℕ) (flags : List Bool) (bs : List Body) (ss : List (List ℕ)) (w : View) (s : Option (List ℕ))
+      → more ≡ 0 → w0.kept ≡ None → Collecting v total more flags bs ss w0 s0 w s → Reads (image halves (chain total (next_body v) [])).reads w0 s0 w s (Ok (bs, ss))
+  collected more flags bs ss w s k fresh g =
+      subst (λ (x : List Body × List (List ℕ)). Reads (image halves (chain total (next_body v) [])).reads w0 s0 w s (Ok x)) (paired-halves bs ss (sym g.placed.count))
+      (reads_image halves (chain total (next_body v) []) w0 s0 w s (Ok (paired bs ss)) (chain_done (next_body v) total more (paired bs ss) w0 s0 w s k fresh g.chained))
+
+-- ---- an Abc is filled with the bodies that were read beside its other tables
+
+abbrev pub with_bodies : Abc → List Body × List (List ℕ) → Abc × List (List ℕ)
+with_bodies abc x = (record abc { bodies = x.0 }, x.1)
+
+bodies_alike : (abc : Abc) → Alike (image (with_bodies abc) (image halves (body_list (sizes_of abc)))) (bodies abc)
+unfolding bodies
+bodies_alike abc = image_image _ _ _
+
+module _ (abc : Abc) (v : Sizes) (same : v ≡ capped (sizes_of abc)) (w : View) (s : Option (List ℕ)) (w2 : View) (s2 : Option (List ℕ)) where
+  all_alike : Alike (image halves (body_list v)) (image halves (body_list (sizes_of abc)))
+  all_alike = image-alike _ _ _ (rw same (alike_sym _ _ (body_list-capped (sizes_of abc))))
+
+  pub fills_ok : (x : List Body × List (List ℕ)) → Reads (image halves (body_list v)).reads w s w2 s2 (Ok x) → Reads (bodies abc).reads w s w2 s2 (Ok (with_bodies abc x))
+  fills_ok x r =
+      reads_alike _ _ (bodies_alike abc) w s w2 s2 (Ok (with_bodies abc x))
+      (reads_image (with_bodies abc) (image halves (body_list (sizes_of abc))) w s w2 s2 (Ok x) (reads_alike _ _ all_alike w s w2 s2 (Ok x) r))
+
+  pub fills_err : (e : ReadError) → Reads (image halves (body_list v)).reads w s w2 s2 (Err e) → Reads (bodies abc).reads w s w2 s2 (Err e)
+  fills_err e r =
+      reads_alike _ _ (bodies_alike abc) w s w2 s2 (Err e)
+      (reads_image (with_bodies abc) (image halves (body_list (sizes_of abc))) w s w2 s2 (Err e) (reads_alike _ _ all_alike w s w2 s2 (Err e) r))

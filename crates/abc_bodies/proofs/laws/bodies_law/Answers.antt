@@ -1,0 +1,14 @@
+use Rattle.abc_format.proofs.Determined.{determined}
+use Rattle.abc_tables.proofs.BodiesExact.{bodies-exact}
+use Rattle.abc_tables.proofs.BodiesReady.{bodies_ready}
+use Rattle.abc_tables.proofs.BodiesShortest.{bodies_alone-canonical}
+use Rattle.abc_bodies.proofs.laws.bodies_law.Goals as goal
+
+pub returns-clause-determined : goal.returns-clause-determined
+returns-clause-determined c = λ abc. determined _ (bodies-exact abc)
+
+pub returns-clause-canonical : goal.returns-clause-canonical
+returns-clause-canonical c = λ abc. bodies_alone-canonical abc
+
+pub returns-clause-ready : goal.returns-clause-ready
+returns-clause-ready c = λ abc v b s. bodies_ready abc v b s

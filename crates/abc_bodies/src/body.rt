@@ -1,0 +1,69 @@
+ghost use Rattle.std.specs.Prelude.{◌≡◌, ◌≤◌, ◌<◌, ◌+◌, ◌^◌, None, Some, Err, false, IfOk, length, slice_get};
+ghost use Rattle.abc_bodies.specs.Reading.{free_method, free_body};
+ghost use Rattle.abc_tables.specs.Bodies.{body_with};
+ghost use Rattle.abc_varint.specs.Reads.{Reads, ReadsPart};
+
+use crate::handlers::read_handlers;
+use abc_base::{Source, Table};
+use abc_instr::read_code;
+use abc_tables::{Body, Sizes};
+use abc_traits::TraitCodec;
+use abc_varint::{ReadError, Reason, Window, read_counted, read_index_below, read_u30};
+use std::alloc::Global;
+
+/// A method that has no body yet: its flag is down.
+#[tactic(auto, unfolding(crate::specs::Reading::free_method))]
+fn read_method<S: Source>(
+    w: &mut Window,
+    source: &mut S,
+    sizes: &Sizes,
+    flags: &Table<bool>,
+) -> Result<u32, ReadError>
+    ensures value { ReadsPart S.left S.faults (free_method sizes.now flags.now) w.old source.old w.new source.new result }
+    ensures free { IfOk result (λ m. slice_get flags.now m ≡ Some false) }
+{
+    let place = w.place();
+    let method = read_index_below(w, source, sizes.methods)?;
+    match flags.fetch(method as usize) {
+        Some(false) => Ok(method),
+        _ => Err(ReadError::Refused {
+            place,
+            reason: Reason::SecondBody,
+        }),
+    }
+}
+
+/// A body of a method whose flag is down, and where its instructions began.
+#[tactic(auto, unfolding(crate::specs::Reading::free_body, abc_tables::specs::Bodies::body_with))]
+pub fn read_body<S: Source>(
+    alloc: Global,
+    w: &mut Window,
+    source: &mut S,
+    sizes: &Sizes,
+    flags: &Table<bool>,
+) -> Result<(Body, Table<u32>), ReadError>
+    requires { w.old.end ≡ 2 ^ 25 }
+    ensures value { ReadsPart S.left S.faults (free_body sizes.now flags.now) w.old source.old w.new source.new result }
+    ensures free { IfOk result (λ x. slice_get flags.now (x.0).method ≡ Some false) }
+    ensures count { IfOk result (λ x. length x.1 ≡ length (x.0).code + 1) }
+{
+    let method = read_method(w, source, sizes, flags)?;
+    let max_stack = read_u30(w, source)?;
+    let local_count = read_u30(w, source)?;
+    let init_scope = read_u30(w, source)?;
+    let max_scope = read_u30(w, source)?;
+    let code = read_code(alloc, w, source)?;
+    let handlers = read_handlers(alloc, w, source, sizes, &code.offsets)?;
+    let traits = read_counted(&TraitCodec(*sizes), alloc, w, source)?;
+    let body = Body {
+        method,
+        max_stack,
+        local_count,
+        init_scope,
+        max_scope,
+        code: code.instrs,
+        handlers,
+        traits,
+    };
+    Ok((body, code.offsets))
+}

@@ -1,0 +1,133 @@
+ghost use Rattle.std.specs.Prelude.{◌≡◌, ◌≤◌, ◌<◌, ◌-◌, ◌^◌, ◌++◌, All, None, Some, Err, get_or, length};
+ghost use Rattle.std.specs.List.{flat_map};
+ghost use Rattle.abc_base.specs.Numbers.{number_bytes};
+ghost use Rattle.abc_format.specs.Canonical.{counted_bytes};
+ghost use Rattle.abc_format.specs.Lists.{times, counted};
+ghost use Rattle.abc_tables.specs.Bodies.{handler as handler_part, handler_bytes, IsWithin};
+ghost use Rattle.abc_tables.specs.Starts.{IsRising};
+ghost use Rattle.abc_varint.specs.Puts.{Puts};
+ghost use Rattle.abc_varint.specs.Reads.{Reads, ReadsPart};
+
+use abc_base::{NoMemory, Source, Table};
+use abc_instr::read_place;
+use abc_tables::{Handler, Sizes};
+use abc_varint::{ReadError, Window, put_count, put_u30, read_pool_index, read_u30};
+use std::alloc::Global;
+
+#[tactic(auto, unfolding(abc_tables::specs::Bodies::handler))]
+fn read_handler<S: Source>(
+    w: &mut Window,
+    source: &mut S,
+    sizes: &Sizes,
+    starts: &Table<u32>,
+) -> Result<Handler, ReadError>
+    requires rising { IsRising starts.now }
+    requires few { length starts.now < 2 ^ 32 }
+    ensures { ReadsPart S.left S.faults (handler_part sizes.now starts.now) w.old source.old w.new source.new result }
+{
+    let from = read_place(w, source, starts)?;
+    let to = read_place(w, source, starts)?;
+    let target = read_place(w, source, starts)?;
+    let exc_type = read_pool_index(w, source, sizes.names)?;
+    let var_name = read_pool_index(w, source, sizes.names)?;
+    Ok(Handler {
+        from,
+        to,
+        target,
+        exc_type,
+        var_name,
+    })
+}
+
+/// So many exceptions.
+fn read_many<S: Source>(
+    alloc: Global,
+    w: &mut Window,
+    source: &mut S,
+    sizes: &Sizes,
+    starts: &Table<u32>,
+    count: u32,
+) -> Result<Table<Handler>, ReadError>
+    requires rising { IsRising starts.now }
+    requires few { length starts.now < 2 ^ 32 }
+    requires fresh { w.old.kept ≡ None }
+    ensures { ReadsPart S.left S.faults (times count (handler_part sizes.now starts.now)) w.old source.old w.new source.new result }
+{
+    let mut handlers = Table::new(alloc);
+    for _ in 0..count {
+        let handler = read_handler(w, source, sizes, starts)?;
+        handlers.push(handler)?;
+    }
+    Ok(handlers)
+}
+
+/// A count and that many exceptions, over code whose instructions start so.
+#[tactic(auto, unfolding(abc_format::specs::Lists::counted))]
+pub fn read_handlers<S: Source>(
+    alloc: Global,
+    w: &mut Window,
+    source: &mut S,
+    sizes: &Sizes,
+    starts: &Table<u32>,
+) -> Result<Table<Handler>, ReadError>
+    requires rising { IsRising starts.now }
+    requires few { length starts.now < 2 ^ 32 }
+    ensures { ReadsPart S.left S.faults (counted (handler_part sizes.now starts.now)) w.old source.old w.new source.new result }
+{
+    let count = read_u30(w, source)?;
+    let handlers = read_many(alloc, w, source, sizes, starts, count)?;
+    Ok(handlers)
+}
+
+fn put_place(starts: &Table<u32>, place: u32, out: &mut Vec<u8>) -> Result<(), NoMemory>
+    requires { place < length starts.now }
+    ensures { Puts out.old.items out.new.items result (number_bytes (get_or starts.now place 0)) }
+{
+    put_u30(*starts.get(place as usize), out)
+}
+
+#[tactic(auto, unfolding(abc_tables::specs::Bodies::handler_bytes), using(abc_varint::proofs::Putting::stays, std::proofs::Common::append_assoc))]
+fn put_handler(starts: &Table<u32>, handler: &Handler, out: &mut Vec<u8>) -> Result<(), NoMemory>
+    requires some { 0 < length starts.now }
+    requires within { IsWithin (length starts.now - 1) handler.now }
+    ensures { Puts out.old.items out.new.items result (handler_bytes starts.now handler.now) }
+{
+    put_place(starts, handler.from, out)?;
+    put_place(starts, handler.to, out)?;
+    put_place(starts, handler.target, out)?;
+    put_u30(handler.exc_type, out)?;
+    put_u30(handler.var_name, out)?;
+    Ok(())
+}
+
+#[tactic(auto, using(abc_varint::proofs::Putting::stays))]
+fn put_many(
+    starts: &Table<u32>,
+    handlers: &Table<Handler>,
+    out: &mut Vec<u8>,
+) -> Result<(), NoMemory>
+    requires some { 0 < length starts.now }
+    requires within { All (IsWithin (length starts.now - 1)) handlers.now }
+    ensures { Puts out.old.items out.new.items result (flat_map (handler_bytes starts.now) handlers.now) }
+{
+    for handler in handlers.as_slice() {
+        put_handler(starts, handler, out)?;
+    }
+    Ok(())
+}
+
+/// Appends how many exceptions there are, and the exceptions, over code whose instructions start so.
+#[tactic(auto, unfolding(abc_format::specs::Canonical::counted_bytes), using(abc_varint::proofs::Putting::stays, std::proofs::Common::append_assoc))]
+pub fn put_handlers(
+    starts: &Table<u32>,
+    handlers: &Table<Handler>,
+    out: &mut Vec<u8>,
+) -> Result<(), NoMemory>
+    requires some { 0 < length starts.now }
+    requires within { All (IsWithin (length starts.now - 1)) handlers.now }
+    ensures { Puts out.old.items out.new.items result (counted_bytes (handler_bytes starts.now) handlers.now) }
+{
+    put_count(handlers.len(), out)?;
+    put_many(starts, handlers, out)?;
+    Ok(())
+}

@@ -1,0 +1,18 @@
+//! Method bodies: their code, exceptions and traits, read from a source through a window and appended to bytes. Which
+//! bytes spell them, and what refuses them, stands in abc_tables.
+#![tactic(auto)]
+
+mod body;
+mod handlers;
+mod laws;
+mod places;
+mod put;
+mod read;
+
+pub use laws::bodies_law;
+pub use places::Places;
+pub use put::put_bodies;
+pub use read::read_bodies;
+
+#[cfg(test)]
+mod tests;

@@ -1,0 +1,100 @@
+ghost use Rattle.std.specs.Prelude.{◌≡◌, ◌≤◌, ◌<◌, ◌++◌, All};
+ghost use Rattle.std.specs.List.{flat_map};
+ghost use Rattle.abc_base.specs.Numbers.{number_bytes};
+ghost use Rattle.abc_format.specs.Canonical.{counted_bytes};
+ghost use Rattle.abc_tables.specs.Bodies.{body_bytes, bodies_bytes, IsReadyBody};
+ghost use Rattle.abc_tables.specs.CodeBytes.{code_bytes, canonical_starts};
+ghost use Rattle.abc_tables.specs.Ready.{IsReady};
+ghost use Rattle.abc_varint.specs.Puts.{Puts, PutsWhole};
+
+use crate::handlers::put_handlers;
+use abc_base::{NoMemory, Table};
+use abc_instr::{put_code, starts_of};
+use abc_tables::{Abc, Body, Instr};
+use abc_traits::TraitCodec;
+use abc_varint::{put_count, put_counted, put_u30};
+use std::alloc::Global;
+
+/// The method and the four sizes.
+#[tactic(auto, using(abc_varint::proofs::Putting::stays, std::proofs::Common::append_assoc))]
+fn put_sizes(body: &Body, out: &mut Vec<u8>) -> Result<(), NoMemory>
+    ensures { Puts out.old.items out.new.items result (number_bytes (body.now).method ++ number_bytes (body.now).max_stack ++ number_bytes (body.now).local_count ++ number_bytes (body.now).init_scope ++ number_bytes (body.now).max_scope) }
+{
+    put_u30(body.method, out)?;
+    put_u30(body.max_stack, out)?;
+    put_u30(body.local_count, out)?;
+    put_u30(body.init_scope, out)?;
+    put_u30(body.max_scope, out)?;
+    Ok(())
+}
+
+/// The code of a body.
+fn put_instrs(alloc: Global, code: &Table<Instr>, out: &mut Vec<u8>) -> Result<(), NoMemory>
+    requires { IsReady code.now }
+    ensures { Puts out.old.items out.new.items result (code_bytes code.now) }
+{
+    put_code(alloc, code, out)
+}
+
+#[tactic(auto, unfolding(abc_tables::specs::Bodies::body_bytes), using(abc_varint::proofs::Putting::stays, std::proofs::Common::append_assoc))]
+fn put_fields(
+    body: &Body,
+    starts: &Table<u32>,
+    alloc: Global,
+    out: &mut Vec<u8>,
+) -> Result<(), NoMemory>
+    requires ready { IsReadyBody body.now }
+    requires starts { starts.now ≡ canonical_starts (body.now).code }
+    ensures { Puts out.old.items out.new.items result (body_bytes body.now) }
+{
+    put_sizes(body, out)?;
+    put_instrs(alloc, &body.code, out)?;
+    put_handlers(starts, &body.handlers, out)?;
+    put_counted::<TraitCodec>(&body.traits, out)?;
+    Ok(())
+}
+
+fn put_body(alloc: Global, body: &Body, out: &mut Vec<u8>) -> Result<(), NoMemory>
+    requires { IsReadyBody body.now }
+    ensures { Puts out.old.items out.new.items result (body_bytes body.now) }
+{
+    let starts = starts_of(alloc, &body.code)?;
+    put_fields(body, &starts, alloc, out)
+}
+
+#[tactic(auto, using(abc_varint::proofs::Putting::stays))]
+fn put_many(alloc: Global, bodies: &Table<Body>, out: &mut Vec<u8>) -> Result<(), NoMemory>
+    requires { All IsReadyBody bodies.now }
+    ensures { Puts out.old.items out.new.items result (flat_map body_bytes bodies.now) }
+{
+    for body in bodies.as_slice() {
+        put_body(alloc, body, out)?;
+    }
+    Ok(())
+}
+
+#[tactic(auto, unfolding(abc_tables::specs::Bodies::bodies_bytes, abc_format::specs::Canonical::counted_bytes), using(abc_varint::proofs::Putting::stays, std::proofs::Common::append_assoc))]
+fn append_bodies(alloc: Global, abc: &Abc, out: &mut Vec<u8>) -> Result<(), NoMemory>
+    requires { All IsReadyBody (abc.now).bodies }
+    ensures { Puts out.old.items out.new.items result (bodies_bytes abc.now) }
+{
+    put_count(abc.bodies.len(), out)?;
+    put_many(alloc, &abc.bodies, out)?;
+    Ok(())
+}
+
+/// Appends the canonical bytes of the method bodies: how many there are, and each with its code, its exceptions, whose
+/// places are counted in the canonical code, and its traits. Where the bytes of any list spell the bodies, these do, and
+/// none is shorter. Where memory runs out, the bytes stay as they were.
+pub fn put_bodies(alloc: Global, abc: &Abc, out: &mut Vec<u8>) -> Result<(), NoMemory>
+    // Some bytes spell each body's code, and its exceptions name places in it.
+    requires { All IsReadyBody (abc.now).bodies }
+    ensures { PutsWhole out.old.items out.new.items result (bodies_bytes abc.now) }
+{
+    let len = out.len();
+    let done = append_bodies(alloc, abc, out);
+    if done.is_err() {
+        out.truncate(len);
+    }
+    done
+}

@@ -1,0 +1,102 @@
+ghost use Rattle.std.specs.Prelude.{◌≡◌, ◌≤◌, ◌<◌, ◌^◌, [], None, Some, Err, false, IfOk, OnErr, length, replicate};
+ghost use Rattle.abc_bodies.specs.Places.{ArePlaces};
+ghost use Rattle.abc_bodies.specs.Reading.{halves, with_places};
+ghost use Rattle.abc_format.specs.Lists.{chain};
+ghost use Rattle.abc_format.specs.Part.{image};
+ghost use Rattle.abc_tables.specs.Bodies.{bodies, body, body_list, methods_of};
+ghost use Rattle.abc_varint.specs.Answers.{Answers};
+ghost use Rattle.abc_varint.specs.Reads.{Reads, ReadsPart};
+
+use crate::body::read_body;
+use crate::places::Places;
+use abc_base::{NoMemory, Source, Table};
+use abc_tables::{Abc, Body, Sizes};
+use abc_traits::sizes_of;
+use abc_varint::{ReadError, Window, read_u30};
+use std::alloc::Global;
+
+/// So many flags, all down.
+fn flags_down(alloc: Global, count: u32) -> Result<Table<bool>, NoMemory>
+    ensures { IfOk result (λ flags. flags ≡ replicate count false) }
+{
+    let mut flags = Table::new(alloc);
+    for _ in 0..count {
+        flags.push(false)?;
+    }
+    Ok(flags)
+}
+
+/// So many bodies, each of another method.
+fn read_many<S: Source>(
+    alloc: Global,
+    w: &mut Window,
+    source: &mut S,
+    sizes: &Sizes,
+    count: u32,
+) -> Result<(Table<Body>, Table<Table<u32>>), ReadError>
+    requires fresh { w.old.kept ≡ None }
+    requires end { w.old.end ≡ 2 ^ 25 }
+    ensures value { ReadsPart S.left S.faults (image halves (chain count (λ before. body sizes.now (methods_of before)) [])) w.old source.old w.new source.new result }
+    ensures places { IfOk result (λ x. ArePlaces x.0 x.1) }
+{
+    let mut has_body = flags_down(alloc, sizes.methods)?;
+    let mut bodies = Table::new(alloc);
+    let mut places = Table::new(alloc);
+    for _ in 0..count {
+        let (body, starts) = read_body(alloc, w, source, sizes, &has_body)?;
+        has_body.set(body.method as usize, true);
+        bodies.push(body)?;
+        places.push(starts)?;
+    }
+    Ok((bodies, places))
+}
+
+/// A count and that many bodies, over tables of these sizes.
+#[tactic(auto, unfolding(abc_tables::specs::Bodies::body_list))]
+fn read_all<S: Source>(
+    alloc: Global,
+    w: &mut Window,
+    source: &mut S,
+    sizes: &Sizes,
+) -> Result<(Table<Body>, Table<Table<u32>>), ReadError>
+    requires { w.old.end ≡ 2 ^ 25 }
+    ensures value { ReadsPart S.left S.faults (image halves (body_list sizes.now)) w.old source.old w.new source.new result }
+    ensures places { IfOk result (λ x. ArePlaces x.0 x.1) }
+{
+    let count = read_u30(w, source)?;
+    read_many(alloc, w, source, sizes, count)
+}
+
+/// Reads method bodies beside the other tables of an Abc, whose bodies they replace, and gives where their instructions
+/// began. After any Err the Abc is as it was.
+///
+/// The bytes are refused at a number or a byte as by `read_u30` and `read_u8`, code as by `read_code`, and traits as by
+/// `read_definitions`. A body's method is refused by `Index` where there is no such method, and then by `SecondBody` where
+/// it has a body already; a place of an exception by `HandlerRange` where no instruction begins or the code ends there; its
+/// type and its name by `Index` where there is no such multiname: each at its first byte. A body's targets are tested
+/// once its code is read, before the count of its exceptions. The window does not keep `SecondBody`. `ReadFault` comes
+/// only where the source's count of faults rose, and `NoMemory` where memory ran out. No memory is reserved for bodies
+/// that have not come.
+pub fn read_bodies<S: Source>(
+    alloc: Global,
+    w: &mut Window,
+    source: &mut S,
+    abc: &mut Abc,
+) -> Result<Places, ReadError>
+    // The window has no end.
+    requires { w.old.end ≡ 2 ^ 25 }
+    ensures value { ReadsPart S.left S.faults (bodies abc.old) w.old source.old w.new source.new (with_places result abc.new) }
+    ensures places { IfOk result (ArePlaces (abc.new).bodies) }
+    ensures err { OnErr result (abc.new ≡ abc.old) }
+    ensures answers { Answers (bodies abc.old) w.old (S.left source.old) w.new (S.left source.new) (with_places result abc.new) }
+{
+    let _ = w.place();
+    let sizes = sizes_of(abc);
+    match read_all(alloc, w, source, &sizes) {
+        Ok((found, places)) => {
+            abc.bodies = found;
+            Ok(Places::new(places))
+        }
+        Err(e) => Err(e),
+    }
+}

@@ -1,0 +1,103 @@
+ghost use Rattle.std.specs.Prelude.{◌≡◌, ◌↔◌, ◌≤◌, ◌<◌, ◌^◌, All, IsTrue, Some, length};
+ghost use Rattle.abc_tables.specs.Bodies.{IsReadyBody, IsWithin};
+ghost use Rattle.abc_tables.specs.Opcodes.{form_at};
+ghost use Rattle.abc_tables.specs.Ready.{AllCanSpell, AllUpTo, CanSpell, IsReady};
+
+use crate::code::{Body, Handler, Instr};
+use crate::instructions::code_len;
+use crate::opcodes::{Form, opcode};
+use crate::tables::Abc;
+use abc_base::Table;
+
+/// The least number that no operand has.
+const OPERAND_LIMIT: u32 = 1 << 30;
+
+/// The least length that no code has.
+const CODE_LIMIT: u64 = 1 << 23;
+
+/// Whether the instruction with this opcode has this form.
+#[tactic(auto, unfolding(crate::specs::Opcodes::form_at))]
+fn has_form(op: u8, form: Form) -> bool
+    ensures { IsTrue result ↔ (form_at op ≡ Some form) }
+{
+    match opcode(op) {
+        Some(info) => info.form == form,
+        None => false,
+    }
+}
+
+fn are_within(targets: &[u32], count: usize) -> bool
+    ensures { IsTrue result ↔ All (λ t. t ≤ count) targets.now }
+{
+    targets.iter().all(|target| *target as usize <= count)
+}
+
+/// Whether a switch has some cases, and not too many, that lead to instructions or to the end.
+#[tactic(auto, using(crate::proofs::Readiness::up_to))]
+fn is_switch(default: u32, cases: &Table<u32>, count: usize) -> bool
+    ensures { IsTrue result ↔ ((default ≤ count) × AllUpTo count cases.now × (0 < length cases.now) × (length cases.now ≤ 2 ^ 30)) }
+{
+    let some = 0 < cases.len() && cases.len() <= OPERAND_LIMIT as usize;
+    default as usize <= count && are_within(cases.as_slice(), count) && some
+}
+
+/// Whether the instruction can be spelled in code of so many instructions.
+fn can_spell(instr: &Instr, count: usize) -> bool
+    ensures { IsTrue result ↔ CanSpell count instr.now }
+{
+    match instr {
+        Instr::Plain(op) => has_form(*op, Form::Plain),
+        Instr::One(op, x) => has_form(*op, Form::One) && *x < OPERAND_LIMIT,
+        Instr::Two(op, x, y) => {
+            has_form(*op, Form::Two) && *x < OPERAND_LIMIT && *y < OPERAND_LIMIT
+        }
+        Instr::Branch(op, target) => has_form(*op, Form::Branch) && *target as usize <= count,
+        Instr::Switch { default, cases } => is_switch(*default, cases, count),
+        Instr::Byte(x) => *x >= i8::MIN,
+        Instr::Short(x) => *x >= i16::MIN,
+        Instr::ScopeObject(_) => true,
+        Instr::Debug { name, extra, .. } => *name < OPERAND_LIMIT && *extra < OPERAND_LIMIT,
+    }
+}
+
+fn each_can_spell(code: &[Instr], count: usize) -> bool
+    ensures { IsTrue result ↔ All (CanSpell count) code.now }
+{
+    code.iter().all(|instr| can_spell(instr, count))
+}
+
+/// Whether some bytes spell the code.
+#[tactic(auto, using(crate::proofs::Readiness::spelled))]
+pub fn is_ready(code: &Table<Instr>) -> bool
+    ensures { IsTrue result ↔ IsReady code.now }
+{
+    code_len(code) < CODE_LIMIT && each_can_spell(code.as_slice(), code.len())
+}
+
+fn is_within(handler: &Handler, count: usize) -> bool
+    ensures { IsTrue result ↔ IsWithin count handler.now }
+{
+    handler.from as usize <= count
+        && handler.to as usize <= count
+        && handler.target as usize <= count
+}
+
+fn are_all_within(handlers: &[Handler], count: usize) -> bool
+    ensures { IsTrue result ↔ All (IsWithin count) handlers.now }
+{
+    handlers.iter().all(|handler| is_within(handler, count))
+}
+
+/// Whether some bytes spell the body's code, and its exceptions name places in it.
+pub fn is_ready_body(body: &Body) -> bool
+    ensures { IsTrue result ↔ IsReadyBody body.now }
+{
+    is_ready(&body.code) && are_all_within(body.handlers.as_slice(), body.code.len())
+}
+
+/// Whether that is so of every body.
+pub fn are_bodies_ready(abc: &Abc) -> bool
+    ensures { IsTrue result ↔ All IsReadyBody (abc.now).bodies }
+{
+    abc.bodies.as_slice().iter().all(is_ready_body)
+}
