@@ -4,6 +4,7 @@
 
 mod classes;
 mod code;
+mod copies;
 mod instructions;
 mod methods;
 mod names;
@@ -15,6 +16,7 @@ mod traits;
 pub use abc_base::{Bytes, Table};
 pub use classes::{ClassInfo, Instance, Script};
 pub use code::{Body, Handler, Instr};
+pub use copies::same;
 pub use instructions::{Code, code_len, instr_len};
 pub use methods::{Metadata, Method, OptionValue, ValueKind};
 pub use names::{Multiname, MultinameForm, MultinameKind, Namespace, NsKind};
@@ -22,3 +24,6 @@ pub use opcodes::{Form, OpInfo, Pool, mnemonic, opcode};
 pub use ready::{are_bodies_ready, is_ready, is_ready_body};
 pub use tables::{Abc, Eight, Sizes};
 pub use traits::{TraitBody, TraitInfo, TraitKind};
+
+#[cfg(test)]
+mod tests;

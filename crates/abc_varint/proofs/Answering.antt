@@ -1,5 +1,5 @@
 -- A reader of an exact part answers as its part says.
-use Rattle.std.proofs.Common.{◌≡◌, ℕ, ◌≤◌, List, Ok, Err, None, Some, [], true, refl, sym, subst, arith}
+use Rattle.std.proofs.Common.{◌≡◌, ℕ, ◌≤◌, List, Ok, Err, None, Some, [], refl, subst, arith}
 use Rattle.std.specs.declared.result.Result.{Result}
 use Rattle.std.specs.declared.option.Option.{Option}
 use Rattle.std.specs.Prelude.{IfSome}
@@ -8,7 +8,7 @@ use Rattle.abc_format.specs.Law.{Exact}
 use Rattle.abc_varint.specs.declared.error.ReadError.{ReadError}
 use Rattle.abc_varint.specs.declared.error.ReadError.TheVariants as errors
 use Rattle.abc_varint.specs.View.{View}
-use Rattle.abc_varint.specs.Reads.{Reads, ReadsPart, tells, stand}
+use Rattle.abc_varint.specs.Reads.{Reads, stand}
 use Rattle.abc_varint.specs.Answers.{Answers, IsAnswer}
 
 pub answers : {A : Type 0} (p : Part A) → Exact p → (w w2 : View) (s s2 : Option (List ℕ)) (r : Result A ReadError) → w.place ≤ limit → Reads p.reads w s w2 s2 r → Answers p w s w2 s2 r

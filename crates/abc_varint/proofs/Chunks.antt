@@ -1,14 +1,15 @@
 -- Reading bytes many at a time, as they stand in the window.
-use Rattle.std.proofs.Common.{◌≡◌, ℕ, zero, suc, ◌+◌, ◌-◌, ◌<◌, ◌≤◌, List, [], ◌∷◌, ◌++◌, length, take, drop, length-append, length-take, true, Ok, Err, None, Some, refl, sym, ap, ◌∙◌, append_assoc, arith}
+use Rattle.std.proofs.Common.{◌≡◌, ℕ, zero, suc, ◌+◌, ◌-◌, ◌<◌, ◌≤◌, List, [], ◌∷◌, ◌++◌, length, take, drop, length-append, length-take, Ok, Err, None, Some, refl, sym, ap, ◌∙◌, append_assoc, arith}
 use Rattle.std.specs.declared.result.Result.{Result}
 use Rattle.std.specs.declared.option.Option.{Option}
 use Rattle.abc_format.specs.Part.{At, Refusal, limit, ◌>>=◌}
 use Rattle.abc_format.specs.Numbers.{byte_at, u8}
 use Rattle.abc_format.specs.Lists.{times}
 use Rattle.abc_format.proofs.Numbers.{byte_again}
+use Rattle.abc_varint.specs.Ready.{IsReady}
 use Rattle.abc_varint.specs.View.{View, onward}
-use Rattle.abc_varint.specs.Reads.{tells, stand}
-use Rattle.abc_varint.proofs.Loop.{Going, beside, joined, nothing, with_front}
+use Rattle.abc_varint.specs.Reads.{Reads, stand}
+use Rattle.abc_varint.proofs.Loop.{Going, beside, is_done, joined, nothing, starts, with_front}
 
 abbrev placed : ℕ → ℕ → List ℕ → At
 placed end n bytes = record { place = n; bytes = bytes; end = end }
@@ -57,3 +58,9 @@ far_length k less more total items held all few sum = omega (arith, length-appen
 
 pub more_length : (more less total : ℕ) (items : List ℕ) (x : ℕ) → more ≡ suc less → length items + more ≡ total → length (items ++ x ∷ []) + less ≡ total
 more_length more less total items x one sum = omega (arith, length-append items (x ∷ []))
+
+-- bytes that are ready, as a whole
+pub text_taken : (n : ℕ) (bytes held : List ℕ) (w w2 : View) (s : Option (List ℕ)) → IsReady n w → held ≡ w.held → bytes ≡ take n held → w2 ≡ onward n w → Reads (times n u8).reads w s w2 s (Ok bytes)
+text_taken n bytes held w w2 s r same e is =
+    let front : bytes ≡ take n w.held = rw (← same) e in
+    rw (is, front) (is_done u8 n 0 (take n w.held) w s (onward n w) s refl r.fresh (goes_far n n (n - 0) 0 [] w s w s (omega arith) r.held (λ h. r.before) r.within (starts u8 n w s r.fresh)))

@@ -4,7 +4,7 @@ use Rattle.std.proofs.lemmas.List.{append-nil}
 use Rattle.std.specs.declared.option.Option.{Option}
 use Rattle.abc_varint.specs.declared.error.ReadError.{ReadError}
 use Rattle.abc_varint.specs.declared.error.ReadError.TheVariants as errors
-use Rattle.abc_format.specs.Part.{At, Refusal, refusal, Part, limit, no_end}
+use Rattle.abc_format.specs.Part.{Refusal, refusal, Part, limit, no_end}
 use Rattle.abc_format.specs.Ends.{fill, inside, IsNonEmpty}
 use Rattle.abc_format.specs.Law.{Exact}
 use Rattle.abc_varint.specs.View.{View}

@@ -1,5 +1,5 @@
 -- The next byte of those that a window holds.
-use Rattle.std.proofs.Common.{◌≡◌, ℕ, suc, ◌+◌, ◌-◌, ◌<◌, ◌≤◌, ◌^◌, ◌∷◌, List, get_or, take, drop, drop-cons, length, refl, sym, ap, ◌∙◌, Ok, Err, None, Some, [], true, arith, inl, inr, add-one}
+use Rattle.std.proofs.Common.{◌≡◌, ℕ, suc, ◌+◌, ◌-◌, ◌<◌, ◌≤◌, ◌^◌, ◌∷◌, List, get_or, take, drop, drop-cons, length, length-take, refl, sym, ap, ◌∙◌, Ok, Err, None, Some, [], true, arith, inl, inr, add-one}
 use Rattle.std.specs.declared.option.Option.{Option}
 use Rattle.abc_varint.specs.declared.error.ReadError.{ReadError}
 use Rattle.std.specs.declared.result.Result.{Result}
@@ -72,3 +72,9 @@ held_onward bs from to n place end kept v is le =
     let m = to - (from + n) in
     let e : to - from ≡ n + m = omega arith in
     rw (← is, e, drop-take n m (drop from bs), drop-drop n from bs) refl
+
+-- what is held lies in the block
+pub held_room : (bs : List ℕ) (from to n place end : ℕ) (kept : Option ReadError) (v : View) → record { place = place; held = take (to - from) (drop from bs); kept = kept; end = end } ≡ v → n ≤ length v.held → n ≤ to - from
+held_room bs from to n place end kept v is le =
+    let same : length (take (to - from) (drop from bs)) ≡ length v.held = ap (λ (w : View). length w.held) is in
+    omega (arith, same, length-take (to - from) (drop from bs))

@@ -1,4 +1,5 @@
 pub mod Held
+pub mod Front
 pub mod Loop
 pub mod Chunks
 pub mod Fill

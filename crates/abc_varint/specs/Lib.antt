@@ -1,4 +1,5 @@
 pub mod View
+pub mod Ready
 pub mod Reads
 pub mod Answers
 pub mod Puts

@@ -38,8 +38,25 @@ fn next_groups<S: Source>(
 }
 
 /// A raw value of up to 35 bits.
-#[tactic(auto, using(crate::proofs::Steps::bound_all))]
+#[inline(always)]
+#[tactic(auto, using(crate::proofs::Front::number_taken))]
 fn next_number<S: Source>(w: &mut Window, source: &mut S) -> Result<u64, ReadError>
+    ensures value { ReadsNumber S.left S.faults number w.old source.old w.new source.new result }
+    ensures bound { IfOk result (λ x. x < 2 ^ 35) }
+    ensures rises { OnOk result (w.old.place < w.new.place) }
+    ensures room { w.old.place ≤ 2 ^ 24 }
+{
+    match w.take_number() {
+        Some(x) => Ok(x),
+        None => slow_number(w, source),
+    }
+}
+
+/// A raw value of up to 35 bits, byte by byte.
+#[cold]
+#[inline(never)]
+#[tactic(auto, using(crate::proofs::Steps::bound_all))]
+fn slow_number<S: Source>(w: &mut Window, source: &mut S) -> Result<u64, ReadError>
     ensures value { ReadsNumber S.left S.faults number w.old source.old w.new source.new result }
     ensures bound { IfOk result (λ x. x < 2 ^ 35) }
     ensures rises { OnOk result (w.old.place < w.new.place) }
@@ -50,6 +67,7 @@ fn next_number<S: Source>(w: &mut Window, source: &mut S) -> Result<u64, ReadErr
 }
 
 /// A number below 2^30.
+#[inline(always)]
 #[tactic(auto, unfolding(abc_format::specs::Numbers::u30))]
 pub fn next_u30<S: Source>(w: &mut Window, source: &mut S) -> Result<u32, ReadError>
     ensures value { ReadsNumber S.left S.faults small w.old source.old w.new source.new result }
@@ -66,6 +84,7 @@ pub fn next_u30<S: Source>(w: &mut Window, source: &mut S) -> Result<u32, ReadEr
 }
 
 /// The low 32 bits of a raw value.
+#[inline(always)]
 #[tactic(auto, unfolding(abc_format::specs::Numbers::u32))]
 pub fn next_u32<S: Source>(w: &mut Window, source: &mut S) -> Result<u32, ReadError>
     ensures value { ReadsNumber S.left S.faults wide w.old source.old w.new source.new result }
@@ -77,6 +96,7 @@ pub fn next_u32<S: Source>(w: &mut Window, source: &mut S) -> Result<u32, ReadEr
 }
 
 /// The low 32 bits of a raw value, in two's complement.
+#[inline(always)]
 #[tactic(auto, unfolding(abc_format::specs::Numbers::s32))]
 pub fn next_s32<S: Source>(w: &mut Window, source: &mut S) -> Result<i32, ReadError>
     ensures value { ReadsNumber S.left S.faults signed w.old source.old w.new source.new result }
@@ -88,6 +108,7 @@ pub fn next_s32<S: Source>(w: &mut Window, source: &mut S) -> Result<i32, ReadEr
 }
 
 /// Two bytes, the low one first.
+#[inline(always)]
 #[tactic(auto, unfolding(abc_format::specs::Numbers::u16))]
 pub fn next_u16<S: Source>(w: &mut Window, source: &mut S) -> Result<u16, ReadError>
     ensures value { ReadsNumber S.left S.faults two_bytes w.old source.old w.new source.new result }
@@ -117,6 +138,7 @@ pub fn next_s24<S: Source>(w: &mut Window, source: &mut S) -> Result<i32, ReadEr
 }
 
 /// A position in a table of n entries.
+#[inline(always)]
 #[tactic(auto, unfolding(abc_format::specs::Numbers::index_below))]
 pub fn next_index_below<S: Source>(w: &mut Window, source: &mut S, n: u32) -> Result<u32, ReadError>
     ensures value { ReadsPart S.left S.faults (below n) w.old source.old w.new source.new result }
@@ -136,6 +158,7 @@ pub fn next_index_below<S: Source>(w: &mut Window, source: &mut S, n: u32) -> Re
 }
 
 /// An index into a pool of n entries, or 0.
+#[inline(always)]
 #[tactic(auto, unfolding(abc_format::specs::Numbers::pool_index))]
 pub fn next_pool_index<S: Source>(w: &mut Window, source: &mut S, n: u32) -> Result<u32, ReadError>
     ensures value { ReadsPart S.left S.faults (in_pool n) w.old source.old w.new source.new result }
@@ -155,6 +178,7 @@ pub fn next_pool_index<S: Source>(w: &mut Window, source: &mut S, n: u32) -> Res
 }
 
 /// An index into a pool of n entries, not 0.
+#[inline(always)]
 #[tactic(auto, unfolding(abc_format::specs::Numbers::entry_index))]
 pub fn next_entry_index<S: Source>(w: &mut Window, source: &mut S, n: u32) -> Result<u32, ReadError>
     ensures value { ReadsPart S.left S.faults (of_entry n) w.old source.old w.new source.new result }

@@ -1,4 +1,4 @@
-ghost use Rattle.std.specs.Prelude.{◌≡◌, ◌<◌, ◌+◌, ◌%◌, ◌^◌, ◌∷◌, []};
+ghost use Rattle.std.specs.Prelude.{◌≡◌, ◌≤◌, ◌<◌, ◌+◌, ◌%◌, ◌^◌, ◌∷◌, []};
 ghost use Rattle.abc_base.specs.Numbers.{number_bytes};
 ghost use Rattle.abc_format.specs.Canonical.{FitsS24, low24, s24_bytes, s32_bytes, text_bytes, u16_bytes};
 ghost use Rattle.abc_varint.specs.Puts.{Puts, PutsWhole};
@@ -8,6 +8,7 @@ use abc_base::{Bytes, NoMemory};
 // Each of these appends the shortest spelling of a value. Where memory runs out, the bytes stay as they were.
 
 /// Appends a byte.
+#[inline(always)]
 pub fn put_u8(v: u8, out: &mut Vec<u8>) -> Result<(), NoMemory>
     ensures { PutsWhole out.old.items out.new.items result (v ∷ []) }
 {
@@ -16,6 +17,7 @@ pub fn put_u8(v: u8, out: &mut Vec<u8>) -> Result<(), NoMemory>
 }
 
 /// Appends two bytes, the low one first.
+#[inline(always)]
 #[tactic(auto, unfolding(abc_format::specs::Canonical::u16_bytes))]
 pub fn put_u16(v: u16, out: &mut Vec<u8>) -> Result<(), NoMemory>
     ensures { PutsWhole out.old.items out.new.items result (u16_bytes v) }
@@ -25,6 +27,7 @@ pub fn put_u16(v: u16, out: &mut Vec<u8>) -> Result<(), NoMemory>
 }
 
 /// Appends a number in as few bytes as it needs, one to five. `read_u30` takes it back where it is below 2^30.
+#[inline(always)]
 pub fn put_u30(v: u32, out: &mut Vec<u8>) -> Result<(), NoMemory>
     ensures { PutsWhole out.old.items out.new.items result (number_bytes v) }
 {
@@ -32,6 +35,7 @@ pub fn put_u30(v: u32, out: &mut Vec<u8>) -> Result<(), NoMemory>
 }
 
 /// Appends a number in as few bytes as it needs, one to five.
+#[inline(always)]
 pub fn put_u32(v: u32, out: &mut Vec<u8>) -> Result<(), NoMemory>
     ensures { PutsWhole out.old.items out.new.items result (number_bytes v) }
 {
@@ -39,6 +43,7 @@ pub fn put_u32(v: u32, out: &mut Vec<u8>) -> Result<(), NoMemory>
 }
 
 /// Appends a number as its 32 bits in two's complement, in as few bytes as they need, one to five.
+#[inline(always)]
 #[tactic(auto, unfolding(abc_format::specs::Canonical::s32_bytes))]
 pub fn put_s32(v: i32, out: &mut Vec<u8>) -> Result<(), NoMemory>
     ensures { PutsWhole out.old.items out.new.items result (s32_bytes v) }
@@ -63,6 +68,7 @@ pub fn put_s24(v: i32, out: &mut Vec<u8>) -> Result<(), NoMemory>
 
 /// Appends how many there are of something, in as few bytes as the number needs. `read_u30` takes it back where it is
 /// below 2^30.
+#[inline(always)]
 pub fn put_count(n: usize, out: &mut Vec<u8>) -> Result<(), NoMemory>
     ensures { PutsWhole out.old.items out.new.items result (number_bytes n) }
 {
@@ -70,6 +76,7 @@ pub fn put_count(n: usize, out: &mut Vec<u8>) -> Result<(), NoMemory>
 }
 
 /// Appends a text: the number of its bytes, and the bytes. Where memory runs out, the old bytes are still the front.
+#[inline(always)]
 #[tactic(auto, unfolding(abc_format::specs::Canonical::text_bytes), using(crate::proofs::Putting::stays, std::proofs::Common::append_assoc))]
 pub fn put_text(bytes: &Bytes, out: &mut Vec<u8>) -> Result<(), NoMemory>
     ensures { Puts out.old.items out.new.items result (text_bytes bytes.now) }
@@ -92,6 +99,7 @@ fn low_24(v: i32) -> u32
 }
 
 /// Seven bits, with the high bit set: another byte follows.
+#[inline]
 fn more(v: u64) -> u8
     ensures { result ≡ v % 128 + 128 }
 {
@@ -99,18 +107,51 @@ fn more(v: u64) -> u8
 }
 
 /// Appends groups of seven bits, the low ones first, as many as the number needs and at most five.
-#[tactic(auto, using(crate::proofs::Putting::bytes_1, crate::proofs::Putting::bytes_2))]
+#[inline(always)]
+#[tactic(auto, using(crate::proofs::Putting::bytes_1))]
 pub fn put_number(v: u64, out: &mut Vec<u8>) -> Result<(), NoMemory>
+    ensures { PutsWhole out.old.items out.new.items result (number_bytes v) }
+{
+    if v < 128 {
+        out.push(v as u8)?;
+        return Ok(());
+    }
+    put_longer(v, out)
+}
+
+/// Appends two groups or more.
+#[inline(never)]
+fn put_longer(v: u64, out: &mut Vec<u8>) -> Result<(), NoMemory>
+    requires { 128 ≤ v }
+    ensures { PutsWhole out.old.items out.new.items result (number_bytes v) }
+{
+    if out.capacity() - out.len() < 5 {
+        return put_with_growth(v, out);
+    }
+    put_groups(v, out)
+}
+
+/// Appends two groups or more, where there may be no room for them yet.
+#[cold]
+#[inline(never)]
+fn put_with_growth(v: u64, out: &mut Vec<u8>) -> Result<(), NoMemory>
+    requires { 128 ≤ v }
+    ensures { PutsWhole out.old.items out.new.items result (number_bytes v) }
+{
+    put_groups(v, out)
+}
+
+/// Appends two groups or more, the low ones first.
+#[inline(always)]
+#[tactic(auto, using(crate::proofs::Putting::bytes_2))]
+fn put_groups(v: u64, out: &mut Vec<u8>) -> Result<(), NoMemory>
+    requires { 128 ≤ v }
     ensures { PutsWhole out.old.items out.new.items result (number_bytes v) }
 {
     let v1 = v / 128;
     let v2 = v1 / 128;
     let v3 = v2 / 128;
     let v4 = v3 / 128;
-    if v < 128 {
-        out.push(v as u8)?;
-        return Ok(());
-    }
     if v1 < 128 {
         out.extend_from_slice(&[more(v), v1 as u8])?;
         return Ok(());

@@ -17,6 +17,7 @@ use abc_base::Source;
 
 /// A byte, 0 to 255. It is refused at its place: by `CodeEnds` at the window's end or after it, else by `Short` where
 /// the input has ended, else by `FileTooLong` at place 2^24.
+#[inline(always)]
 pub fn read_u8<S: Source>(w: &mut Window, source: &mut S) -> Result<u8, ReadError>
     ensures value { ReadsNumber S.left S.faults octet w.old source.old w.new source.new result }
     ensures answers { Answers octet w.old (S.left source.old) w.new (S.left source.new) result }
@@ -26,6 +27,7 @@ pub fn read_u8<S: Source>(w: &mut Window, source: &mut S) -> Result<u8, ReadErro
 }
 
 /// A number of two bytes, the low one first. Each byte is refused as by `read_u8`.
+#[inline(always)]
 pub fn read_u16<S: Source>(w: &mut Window, source: &mut S) -> Result<u16, ReadError>
     ensures value { ReadsNumber S.left S.faults two_bytes w.old source.old w.new source.new result }
     ensures answers { Answers two_bytes w.old (S.left source.old) w.new (S.left source.new) result }
@@ -36,6 +38,7 @@ pub fn read_u16<S: Source>(w: &mut Window, source: &mut S) -> Result<u16, ReadEr
 
 /// A number below 2^30, in one to five bytes. Each byte is refused as by `read_u8`; the number by `LongNumber` where
 /// its fifth byte has the high bit set, and by `BigNumber` where it is 2^30 or more, both at its first byte.
+#[inline(always)]
 pub fn read_u30<S: Source>(w: &mut Window, source: &mut S) -> Result<u32, ReadError>
     ensures value { ReadsNumber S.left S.faults small w.old source.old w.new source.new result }
     ensures answers { Answers small w.old (S.left source.old) w.new (S.left source.new) result }
@@ -46,6 +49,7 @@ pub fn read_u30<S: Source>(w: &mut Window, source: &mut S) -> Result<u32, ReadEr
 }
 
 /// The low 32 bits of a number in one to five bytes, which is refused as by `read_u30` but for `BigNumber`.
+#[inline(always)]
 pub fn read_u32<S: Source>(w: &mut Window, source: &mut S) -> Result<u32, ReadError>
     ensures value { ReadsNumber S.left S.faults wide w.old source.old w.new source.new result }
     ensures answers { Answers wide w.old (S.left source.old) w.new (S.left source.new) result }
@@ -55,6 +59,7 @@ pub fn read_u32<S: Source>(w: &mut Window, source: &mut S) -> Result<u32, ReadEr
 }
 
 /// The same 32 bits as by `read_u32`, in two's complement.
+#[inline(always)]
 pub fn read_s32<S: Source>(w: &mut Window, source: &mut S) -> Result<i32, ReadError>
     ensures value { ReadsNumber S.left S.faults signed w.old source.old w.new source.new result }
     ensures answers { Answers signed w.old (S.left source.old) w.new (S.left source.new) result }
@@ -64,6 +69,7 @@ pub fn read_s32<S: Source>(w: &mut Window, source: &mut S) -> Result<i32, ReadEr
 }
 
 /// Three bytes, the low one first, in two's complement: -2^23 to 2^23 - 1. Each byte is refused as by `read_u8`.
+#[inline(always)]
 pub fn read_s24<S: Source>(w: &mut Window, source: &mut S) -> Result<i32, ReadError>
     ensures value { ReadsNumber S.left S.faults offset w.old source.old w.new source.new result }
     ensures answers { Answers offset w.old (S.left source.old) w.new (S.left source.new) result }
@@ -74,6 +80,7 @@ pub fn read_s24<S: Source>(w: &mut Window, source: &mut S) -> Result<i32, ReadEr
 
 /// A position in a table of n entries that counts from 0. It is refused as by `read_u30`, and then by `Index` where it
 /// is n or more, at its first byte; the window does not keep that refusal.
+#[inline(always)]
 pub fn read_index_below<S: Source>(w: &mut Window, source: &mut S, n: u32) -> Result<u32, ReadError>
     ensures value { ReadsPart S.left S.faults (below n) w.old source.old w.new source.new result }
     ensures answers { Answers (below n) w.old (S.left source.old) w.new (S.left source.new) result }
@@ -85,6 +92,7 @@ pub fn read_index_below<S: Source>(w: &mut Window, source: &mut S, n: u32) -> Re
 
 /// An index into a pool of n entries that count from 1, or 0. It is refused as by `read_u30`, and then by `Index` where
 /// it is above n, at its first byte; the window does not keep that refusal.
+#[inline(always)]
 pub fn read_pool_index<S: Source>(w: &mut Window, source: &mut S, n: u32) -> Result<u32, ReadError>
     ensures value { ReadsPart S.left S.faults (in_pool n) w.old source.old w.new source.new result }
     ensures answers { Answers (in_pool n) w.old (S.left source.old) w.new (S.left source.new) result }
@@ -96,6 +104,7 @@ pub fn read_pool_index<S: Source>(w: &mut Window, source: &mut S, n: u32) -> Res
 
 /// An index into a pool of n entries that count from 1. It is refused as by `read_u30`, and then by `Index` where it is
 /// 0 or above n, at its first byte; the window does not keep that refusal.
+#[inline(always)]
 pub fn read_entry_index<S: Source>(w: &mut Window, source: &mut S, n: u32) -> Result<u32, ReadError>
     ensures value { ReadsPart S.left S.faults (of_entry n) w.old source.old w.new source.new result }
     ensures answers { Answers (of_entry n) w.old (S.left source.old) w.new (S.left source.new) result }

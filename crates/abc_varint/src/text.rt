@@ -11,7 +11,28 @@ use std::alloc::Global;
 
 /// Reads so many bytes, each refused as by `read_u8`. `NoMemory` comes where memory ran out; no memory is reserved for
 /// bytes that have not come.
+#[inline]
 pub fn read_bytes<S: Source>(
+    alloc: Global,
+    w: &mut Window,
+    source: &mut S,
+    count: u32,
+) -> Result<Bytes, ReadError>
+    requires { w.old.kept ≡ None }
+    ensures value { ReadsPart S.left S.faults (times count octet) w.old source.old w.new source.new result }
+    ensures len { IfOk result (λ b. length b ≡ count) }
+{
+    if w.is_ready(count) {
+        let bytes = Bytes::from_slice(alloc, &w.held()[..count as usize])?;
+        w.go_on(count as usize);
+        return Ok(bytes);
+    }
+    gather_bytes(alloc, w, source, count)
+}
+
+/// Reads so many bytes, which need not be held yet.
+#[inline(never)]
+fn gather_bytes<S: Source>(
     alloc: Global,
     w: &mut Window,
     source: &mut S,

@@ -1,11 +1,13 @@
-ghost use Rattle.std.specs.Prelude.{◌≡◌, ◌+◌, ◌-◌, ◌∷◌, ◌++◌, ◌<◌, ◌≤◌, ◌^◌, ◌⊎◌, List, ℕ, None, Some, IfOk, OnOk, OnErr, IfErr, [], true, is_some, length, take, Result, Ok, Err, IsTrue, ◌↔◌};
+ghost use Rattle.std.specs.Prelude.{◌≡◌, ◌+◌, ◌-◌, ◌∷◌, ◌++◌, ◌<◌, ◌≤◌, ◌^◌, ◌⊎◌, List, ℕ, None, Some, IfSome, IfOk, OnOk, OnErr, IfErr, [], true, is_some, length, take, Result, Ok, Err, IsTrue, ◌↔◌};
 ghost use Rattle.std.specs.Io.{ReadsAtMost};
 ghost use Rattle.std.specs.Io.KnownBytes.{ReadConsumes};
 ghost use Rattle.abc_base.specs.Faults.{HasCause, Rose};
+ghost use Rattle.abc_base.specs.Numbers.{SpellsNumber};
 ghost use Rattle.abc_format.specs.Numbers.{u8 as octet};
 ghost use Rattle.abc_varint.specs.View.{NextOf, onward};
 ghost use Rattle.abc_varint.specs.declared.error.ReadError.{ReadError};
 ghost use Rattle.abc_varint.specs.Reads.{Blames, Reads, stand, tells};
+ghost use Rattle.abc_varint.specs.Ready.{IsReady, TakesNumber};
 
 use crate::error::ReadError;
 use abc_base::{Bytes, Failed, NoMemory, Source};
@@ -67,6 +69,7 @@ impl Window {
     }
 
     /// The place of the next byte; places count from 0.
+    #[inline]
     pub fn place(&self) -> u32
         ensures is { result ≡ self.now.place }
         ensures bound { result ≤ 2 ^ 24 }
@@ -89,6 +92,8 @@ impl Window {
     }
 
     /// Keeps a refusal, and gives it: every later read answers it.
+    #[cold]
+    #[inline(never)]
     pub fn refuse(&mut self, place: u32, reason: Reason) -> ReadError
         ensures is { result ≡ ReadError.Refused place reason }
         ensures keeps { self.new ≡ record self.old { kept = Some result } }
@@ -207,7 +212,52 @@ impl Window {
         Ok(n as u32)
     }
 
+    /// Whether so many bytes are held and one more, each of them before the end, and no Err is kept. Then they are within
+    /// the longest file, since at most one byte past it is ever held.
+    #[inline]
+    pub(crate) fn is_ready(&self, count: u32) -> bool
+        ensures { IsTrue result → IsReady count self.now }
+    {
+        self.kept.is_none()
+            && self.to - self.from > count as usize
+            && self.place as u64 + count as u64 <= self.end as u64
+    }
+
+    /// The bytes that are held.
+    #[inline]
+    pub(crate) fn held(&self) -> &[u8]
+        ensures { result.now ≡ self.now.held }
+    {
+        &self.block[self.from..self.to]
+    }
+
+    /// Goes on, past so many of the bytes that are held.
+    #[inline]
+    pub(crate) fn go_on(&mut self, count: usize)
+        requires { IsReady count self.old }
+        ensures { self.new ≡ onward count self.old }
+    {
+        self.from += count;
+        self.place += count as u32;
+    }
+
+    /// A number that the bytes that are held spell, where five of them are ready. With `None` nothing changes.
+    #[inline(always)]
+    pub(crate) fn take_number(&mut self) -> Option<u64>
+        ensures some { IfSome result (λ x. TakesNumber x self.old self.new) }
+        ensures bound { IfSome result (λ x. x < 2 ^ 35) }
+        ensures none { result ≡ None → self.new ≡ self.old }
+    {
+        if !self.is_ready(5) {
+            return None;
+        }
+        let (x, count) = front_number(self.held())?;
+        self.go_on(count);
+        Some(x)
+    }
+
     /// The next byte.
+    #[inline(always)]
     pub fn next_u8<S: Source>(&mut self, source: &mut S) -> Result<u8, ReadError>
         ensures value { Reads octet.reads self.old (S.left source.old) self.new (S.left source.new) result }
         ensures keeps { IfErr result (λ e. self.new.kept ≡ Some e) }
@@ -219,9 +269,64 @@ impl Window {
         ensures room { self.old.place ≤ 2 ^ 24 }
     {
         let _ = &self.block;
+        if self.is_ready(1) {
+            let x = self.held()[0];
+            self.go_on(1);
+            return Ok(x);
+        }
+        self.fetch_u8(source)
+    }
+
+    /// The next byte, where it may have to be taken from the source.
+    #[cold]
+    #[inline(never)]
+    fn fetch_u8<S: Source>(&mut self, source: &mut S) -> Result<u8, ReadError>
+        ensures value { Reads octet.reads self.old (S.left source.old) self.new (S.left source.new) result }
+        ensures keeps { IfErr result (λ e. self.new.kept ≡ Some e) }
+        ensures moves { OnOk result (self.new.place ≡ self.old.place + 1) }
+        ensures kept { (e : ReadError) → self.old.kept ≡ Some e → result ≡ Err e }
+        ensures no_memory { result ≡ Err ReadError.NoMemory → ⊥ }
+        ensures later { S.faults source.old ≤ S.faults source.new }
+        ensures cause { Blames self.old (S.faults source.old) (S.faults source.new) result }
+    {
         self.prepare(source)?;
         self.next()
     }
+}
+
+/// The number that the first bytes spell, and how many they are, where five bytes are enough.
+#[inline(always)]
+fn front_number(bytes: &[u8]) -> Option<(u64, usize)>
+    requires { 5 ≤ length bytes.now }
+    ensures spelled { IfSome result (λ p. SpellsNumber p.0 (take p.1 bytes.now)) }
+    ensures few { IfSome result (λ p. (0 < p.1) × (p.1 ≤ 5)) }
+    ensures bound { IfSome result (λ p. p.0 < 2 ^ 35) }
+{
+    let a = bytes[0] as u64;
+    if a < 128 {
+        return Some((a, 1));
+    }
+    let b = bytes[1] as u64;
+    let one = a % 128;
+    if b < 128 {
+        return Some((one + 128 * b, 2));
+    }
+    let c = bytes[2] as u64;
+    let two = one + 128 * (b % 128);
+    if c < 128 {
+        return Some((two + 16384 * c, 3));
+    }
+    let d = bytes[3] as u64;
+    let three = two + 16384 * (c % 128);
+    if d < 128 {
+        return Some((three + 2097152 * d, 4));
+    }
+    let e = bytes[4] as u64;
+    let four = three + 2097152 * (d % 128);
+    if e < 128 {
+        return Some((four + 268435456 * e, 5));
+    }
+    None
 }
 
 /// Reads bytes into the front of the block, as many as there is room for or fewer.

@@ -1,7 +1,6 @@
-use Rattle.abc_varint.proofs.Held.{is_next}
+use Rattle.std.proofs.Common.{refl}
+use Rattle.abc_varint.proofs.Front.{byte_taken}
 use Rattle.abc_varint.proofs.window.Window.next_u8.Goals as goal
 
-pub returns-clause-value : goal.returns-clause-value
-returns-clause-value g c =
-    let p = c.in_ok-prepare.ensures in
-    is_next c.args.self.now c.next.new.self _ _ c.prepare.new.self.end c.prepare.new.self.place c.prepare.new.self.held c.next.result p.ok.0 p.ok.2 p.ok.3 p.same (λ lt. p.end (rw (← p.ok.2, ← p.ok.3) lt)) c.next.ensures.next
+pub returns-then-is_ready-clause-value : goal.returns-then-is_ready-clause-value
+returns-then-is_ready-clause-value g c = byte_taken _ c.held.result.now c.args.self.now _ _ (c.is_ready.ensures c.if-is_ready.true) c.held.ensures refl c.go_on.ensures

@@ -1,7 +1,7 @@
-use Rattle.std.proofs.Common.{◌≡◌, ◌/◌, ◌+◌, ◌%◌, ◌≤◌, ◌<◌, List, [], ◌∷◌, ℕ, ◌++◌, refl, sym, ap, ◌∙◌, arith}
+use Rattle.std.proofs.Common.{◌≡◌, ◌/◌, ◌+◌, ◌%◌, ◌≤◌, ◌<◌, List, [], ◌∷◌, ℕ, ◌++◌, refl, arith}
 use Rattle.abc_base.specs.Numbers.{number_bytes}
 use Rattle.abc_varint.proofs.Putting.{bytes_3, bytes_4, bytes_5, bytes_over}
-use Rattle.abc_varint.proofs.put.put_number.Goals as goal
+use Rattle.abc_varint.proofs.put.put_groups.Goals as goal
 
 put_3 : (old new : List ℕ) (v w x a b : ℕ) → new ≡ old ++ (a ∷ b ∷ x ∷ []) → a ≡ v % 128 + 128 → b ≡ w % 128 + 128 → 128 ≤ v → w ≡ v / 128 → 128 ≤ w → x ≡ w / 128 → x < 128 → new ≡ old ++ number_bytes v
 put_3 old new v w x a b is one two h1 e1 h2 e2 lt = rw (bytes_3 v w x h1 e1 h2 e2 lt, ← one, ← two) is
