@@ -3,6 +3,7 @@ ghost use Rattle.abc_format.specs.Lists.{counted};
 ghost use Rattle.abc_format.specs.Numbers.{pool_index};
 ghost use Rattle.abc_format.specs.Part.{image, when};
 ghost use Rattle.abc_tables.specs.Classes.{some_index, instance, protected_bytes, instance_bytes, class_info, class_bytes, script, script_bytes};
+ghost use Rattle.abc_varint.specs.Passes.{Passes, PassesPart, nothing};
 ghost use Rattle.abc_varint.specs.Puts.{Puts};
 ghost use Rattle.abc_varint.specs.Reads.{Reads, ReadsPart};
 
@@ -11,7 +12,7 @@ use crate::traits::TraitCodec;
 use abc_base::{NoMemory, Source};
 use abc_tables::{ClassInfo, Instance, Script, Sizes};
 use abc_varint::{
-    Codec, EntryIndex, ReadError, Window, put_counted, put_u8, put_u30, read_counted,
+    Codec, EntryIndex, IndexBelow, PoolIndex, ReadError, Window, pass_counted, put_counted, put_u8, put_u30, read_counted,
     read_entry_index, read_index_below, read_pool_index, read_u8,
 };
 use std::alloc::Global;
@@ -88,6 +89,48 @@ fn put_instance(instance: &Instance, out: &mut Vec<u8>) -> Result<(), NoMemory>
     Ok(())
 }
 
+/// Passes a namespace where a flag asks for it.
+#[tactic(auto, unfolding(abc_format::specs::Part::when))]
+fn pass_protected_if<S: Source>(
+    flag: bool,
+    alloc: Global,
+    w: &mut Window,
+    source: &mut S,
+    namespaces: u32,
+    out: &mut Vec<u8>,
+) -> Result<(), ReadError>
+    requires { w.old.kept ≡ None }
+    ensures { PassesPart S.left S.faults (when flag None (image some_index (pool_index namespaces))) protected_bytes nothing w.old source.old w.new source.new out.old.items out.new.items result }
+{
+    if flag {
+        PoolIndex(namespaces).pass(alloc, w, source, out)?;
+    }
+    Ok(())
+}
+
+/// Reads an instance and appends its canonical bytes; none of it is kept.
+#[tactic(auto, unfolding(abc_tables::specs::Classes::instance, abc_tables::specs::Classes::instance_bytes))]
+fn pass_instance<S: Source>(
+    alloc: Global,
+    w: &mut Window,
+    source: &mut S,
+    sizes: &Sizes,
+    out: &mut Vec<u8>,
+) -> Result<(), ReadError>
+    ensures { PassesPart S.left S.faults (instance sizes.now) instance_bytes nothing w.old source.old w.new source.new out.old.items out.new.items result }
+{
+    EntryIndex(sizes.names).pass(alloc, w, source, out)?;
+    PoolIndex(sizes.names).pass(alloc, w, source, out)?;
+    let flags = read_u8(w, source)?;
+    put_u8(flags, out)?;
+    let has_protected = has_flag(flags, HAS_PROTECTED);
+    pass_protected_if(has_protected, alloc, w, source, sizes.namespaces, out)?;
+    pass_counted(&EntryIndex(sizes.names), alloc, w, source, out)?;
+    IndexBelow(sizes.methods).pass(alloc, w, source, out)?;
+    pass_counted(&TraitCodec(*sizes), alloc, w, source, out)?;
+    Ok(())
+}
+
 /// Instances, over tables of these sizes.
 #[derive(Clone, Copy, Debug)]
 pub struct InstanceCodec(pub Sizes);
@@ -110,6 +153,16 @@ impl Codec for InstanceCodec {
 
     fn put(item: &Instance, out: &mut Vec<u8>) -> Result<(), NoMemory> {
         put_instance(item, out)
+    }
+
+    fn pass<S: Source>(
+        &self,
+        alloc: Global,
+        w: &mut Window,
+        source: &mut S,
+        out: &mut Vec<u8>,
+    ) -> Result<(), ReadError> {
+        pass_instance(alloc, w, source, &self.0, out)
     }
 }
 
@@ -136,6 +189,22 @@ fn put_class(class: &ClassInfo, out: &mut Vec<u8>) -> Result<(), NoMemory>
     Ok(())
 }
 
+/// Reads a method and traits and appends their canonical bytes; none of them is kept.
+#[tactic(auto, unfolding(abc_tables::specs::Classes::class_info, abc_tables::specs::Classes::class_bytes))]
+fn pass_class<S: Source>(
+    alloc: Global,
+    w: &mut Window,
+    source: &mut S,
+    sizes: &Sizes,
+    out: &mut Vec<u8>,
+) -> Result<(), ReadError>
+    ensures { PassesPart S.left S.faults (class_info sizes.now) class_bytes nothing w.old source.old w.new source.new out.old.items out.new.items result }
+{
+    IndexBelow(sizes.methods).pass(alloc, w, source, out)?;
+    pass_counted(&TraitCodec(*sizes), alloc, w, source, out)?;
+    Ok(())
+}
+
 /// What class objects are, over tables of these sizes.
 #[derive(Clone, Copy, Debug)]
 pub struct ClassCodec(pub Sizes);
@@ -158,6 +227,16 @@ impl Codec for ClassCodec {
 
     fn put(item: &ClassInfo, out: &mut Vec<u8>) -> Result<(), NoMemory> {
         put_class(item, out)
+    }
+
+    fn pass<S: Source>(
+        &self,
+        alloc: Global,
+        w: &mut Window,
+        source: &mut S,
+        out: &mut Vec<u8>,
+    ) -> Result<(), ReadError> {
+        pass_class(alloc, w, source, &self.0, out)
     }
 }
 
@@ -184,6 +263,22 @@ fn put_script(script: &Script, out: &mut Vec<u8>) -> Result<(), NoMemory>
     Ok(())
 }
 
+/// Reads a method and traits and appends their canonical bytes; none of them is kept.
+#[tactic(auto, unfolding(abc_tables::specs::Classes::script, abc_tables::specs::Classes::script_bytes))]
+fn pass_script<S: Source>(
+    alloc: Global,
+    w: &mut Window,
+    source: &mut S,
+    sizes: &Sizes,
+    out: &mut Vec<u8>,
+) -> Result<(), ReadError>
+    ensures { PassesPart S.left S.faults (script sizes.now) script_bytes nothing w.old source.old w.new source.new out.old.items out.new.items result }
+{
+    IndexBelow(sizes.methods).pass(alloc, w, source, out)?;
+    pass_counted(&TraitCodec(*sizes), alloc, w, source, out)?;
+    Ok(())
+}
+
 /// Scripts, over tables of these sizes.
 #[derive(Clone, Copy, Debug)]
 pub struct ScriptCodec(pub Sizes);
@@ -206,5 +301,15 @@ impl Codec for ScriptCodec {
 
     fn put(item: &Script, out: &mut Vec<u8>) -> Result<(), NoMemory> {
         put_script(item, out)
+    }
+
+    fn pass<S: Source>(
+        &self,
+        alloc: Global,
+        w: &mut Window,
+        source: &mut S,
+        out: &mut Vec<u8>,
+    ) -> Result<(), ReadError> {
+        pass_script(alloc, w, source, &self.0, out)
     }
 }

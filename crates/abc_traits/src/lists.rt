@@ -5,12 +5,13 @@ ghost use Rattle.abc_format.specs.Canonical.{counted_bytes};
 ghost use Rattle.abc_format.specs.Lists.{times, counted};
 ghost use Rattle.abc_format.specs.Numbers.{u30};
 ghost use Rattle.abc_format.specs.Part.{when};
+ghost use Rattle.abc_varint.specs.Passes.{Passes, PassesPart, nothing};
 ghost use Rattle.abc_varint.specs.Puts.{Puts};
 ghost use Rattle.abc_varint.specs.Reads.{Reads, ReadsPart, ReadsNumber};
 
 use abc_base::{NoMemory, Source, Table};
 use abc_varint::{
-    Codec, ReadError, Window, put_counted, put_items, put_u30, read_counted, read_times, read_u30,
+    Codec, ReadError, Window, pass_counted, pass_times, put_counted, put_items, put_u30, read_counted, read_times, read_u30,
 };
 use std::alloc::Global;
 
@@ -102,6 +103,45 @@ pub fn put_counted_if<C: Codec>(
 {
     if flag {
         return put_counted::<C>(items, out);
+    }
+    Ok(())
+}
+
+/// Passes so many items where a flag asks for them, and none where it does not.
+#[tactic(auto, unfolding(abc_format::specs::Part::when))]
+pub fn pass_times_if<C: Codec, S: Source>(
+    flag: bool,
+    codec: &C,
+    alloc: Global,
+    w: &mut Window,
+    source: &mut S,
+    count: u32,
+    out: &mut Vec<u8>,
+) -> Result<(), ReadError>
+    requires { w.old.kept ≡ None }
+    ensures { PassesPart S.left S.faults (when flag [] (times count (C.part codec.now))) (λ xs. if flag then flat_map C.canonical xs else []) nothing w.old source.old w.new source.new out.old.items out.new.items result }
+{
+    if flag {
+        pass_times(codec, alloc, w, source, count, out)?;
+    }
+    Ok(())
+}
+
+/// Passes a count and the items where a flag asks for them, and nothing where it does not.
+#[tactic(auto, unfolding(abc_format::specs::Part::when))]
+pub fn pass_counted_if<C: Codec, S: Source>(
+    flag: bool,
+    codec: &C,
+    alloc: Global,
+    w: &mut Window,
+    source: &mut S,
+    out: &mut Vec<u8>,
+) -> Result<(), ReadError>
+    requires { w.old.kept ≡ None }
+    ensures { PassesPart S.left S.faults (when flag [] (counted (C.part codec.now))) (λ xs. if flag then counted_bytes C.canonical xs else []) nothing w.old source.old w.new source.new out.old.items out.new.items result }
+{
+    if flag {
+        pass_counted(codec, alloc, w, source, out)?;
     }
     Ok(())
 }

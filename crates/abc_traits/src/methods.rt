@@ -2,15 +2,16 @@ ghost use Rattle.std.specs.Prelude.{◌≡◌, ◌≤◌, ◌*◌, ◌/◌, ℕ,
 ghost use Rattle.abc_format.specs.Lists.{times};
 ghost use Rattle.abc_format.specs.Part.{when};
 ghost use Rattle.abc_tables.specs.Methods.{has_flag as is_set, method, method_bytes, metadata, metadata_bytes};
+ghost use Rattle.abc_varint.specs.Passes.{Passes, PassesPart, nothing};
 ghost use Rattle.abc_varint.specs.Puts.{Puts};
 ghost use Rattle.abc_varint.specs.Reads.{Reads, ReadsPart};
 
-use crate::lists::{Number30, put_counted_if, put_items_if, read_times_if};
-use crate::options::{OptionCodec, read_options_if};
+use crate::lists::{Number30, pass_times_if, put_counted_if, put_items_if, read_times_if};
+use crate::options::{OptionCodec, pass_options_if, read_options_if};
 use abc_base::{NoMemory, Source};
 use abc_tables::{Metadata, Method, Sizes};
 use abc_varint::{
-    Codec, PoolIndex, ReadError, Window, put_count, put_items, put_u8, put_u30, read_pool_index,
+    Codec, PoolIndex, ReadError, Window, pass_times, put_count, put_items, put_u8, put_u30, read_pool_index,
     read_times, read_u8, read_u30,
 };
 use std::alloc::Global;
@@ -72,6 +73,31 @@ fn put_method(method: &Method, out: &mut Vec<u8>) -> Result<(), NoMemory>
     Ok(())
 }
 
+/// Reads a method and appends its canonical bytes; none of it is kept.
+#[tactic(auto, unfolding(abc_tables::specs::Methods::method, abc_tables::specs::Methods::method_bytes))]
+fn pass_method<S: Source>(
+    alloc: Global,
+    w: &mut Window,
+    source: &mut S,
+    sizes: &Sizes,
+    out: &mut Vec<u8>,
+) -> Result<(), ReadError>
+    ensures { PassesPart S.left S.faults (method sizes.now) method_bytes nothing w.old source.old w.new source.new out.old.items out.new.items result }
+{
+    let count = read_u30(w, source)?;
+    put_u30(count, out)?;
+    PoolIndex(sizes.names).pass(alloc, w, source, out)?;
+    pass_times(&PoolIndex(sizes.names), alloc, w, source, count, out)?;
+    PoolIndex(sizes.strings).pass(alloc, w, source, out)?;
+    let flags = read_u8(w, source)?;
+    put_u8(flags, out)?;
+    let optional = has_flag(flags, HAS_OPTIONAL);
+    pass_options_if(optional, alloc, w, source, sizes, count, out)?;
+    let named = has_flag(flags, HAS_PARAM_NAMES);
+    pass_times_if(named, &Number30, alloc, w, source, count, out)?;
+    Ok(())
+}
+
 /// Methods, over tables of these sizes.
 #[derive(Clone, Copy, Debug)]
 pub struct MethodCodec(pub Sizes);
@@ -94,6 +120,16 @@ impl Codec for MethodCodec {
 
     fn put(item: &Method, out: &mut Vec<u8>) -> Result<(), NoMemory> {
         put_method(item, out)
+    }
+
+    fn pass<S: Source>(
+        &self,
+        alloc: Global,
+        w: &mut Window,
+        source: &mut S,
+        out: &mut Vec<u8>,
+    ) -> Result<(), ReadError> {
+        pass_method(alloc, w, source, &self.0, out)
     }
 }
 
@@ -123,6 +159,24 @@ fn put_metadata(metadata: &Metadata, out: &mut Vec<u8>) -> Result<(), NoMemory>
     Ok(())
 }
 
+/// Reads metadata and appends its canonical bytes; none of it is kept.
+#[tactic(auto, unfolding(abc_tables::specs::Methods::metadata, abc_tables::specs::Methods::metadata_bytes))]
+fn pass_metadata<S: Source>(
+    alloc: Global,
+    w: &mut Window,
+    source: &mut S,
+    sizes: &Sizes,
+    out: &mut Vec<u8>,
+) -> Result<(), ReadError>
+    ensures { PassesPart S.left S.faults (metadata sizes.now) metadata_bytes nothing w.old source.old w.new source.new out.old.items out.new.items result }
+{
+    PoolIndex(sizes.strings).pass(alloc, w, source, out)?;
+    let count = read_u30(w, source)?;
+    put_u30(count, out)?;
+    pass_times(&PoolIndex(sizes.strings), alloc, w, source, 2 * count, out)?;
+    Ok(())
+}
+
 /// Metadata, over tables of these sizes.
 #[derive(Clone, Copy, Debug)]
 pub struct MetadataCodec(pub Sizes);
@@ -145,5 +199,15 @@ impl Codec for MetadataCodec {
 
     fn put(item: &Metadata, out: &mut Vec<u8>) -> Result<(), NoMemory> {
         put_metadata(item, out)
+    }
+
+    fn pass<S: Source>(
+        &self,
+        alloc: Global,
+        w: &mut Window,
+        source: &mut S,
+        out: &mut Vec<u8>,
+    ) -> Result<(), ReadError> {
+        pass_metadata(alloc, w, source, &self.0, out)
     }
 }

@@ -1,16 +1,18 @@
-ghost use Rattle.std.specs.Prelude.{◌≡◌, ◌≤◌, ℕ, [], ◌∷◌, ◌++◌, None, Some, Err, not, nat_eq};
+ghost use Rattle.std.specs.Prelude.{◌≡◌, ◌≤◌, ℕ, [], ◌∷◌, ◌++◌, None, Some, Err, not, nat_eq, if◌then◌else◌};
 ghost use Rattle.abc_format.specs.Lists.{times};
 ghost use Rattle.abc_format.specs.Part.{when};
 ghost use Rattle.abc_tables.specs.declared.methods.ValueKind.TheVariants as kinds;
 ghost use Rattle.abc_tables.specs.Methods.{value_code, value_kind, has_value as names_entry, option_value, option_bytes, options};
 ghost use Rattle.abc_tables.specs.Traits.{slot_value, slot_value_bytes};
+ghost use Rattle.abc_format.specs.Canonical.{counted_bytes};
+ghost use Rattle.abc_varint.specs.Passes.{Passes, PassesPart, nothing};
 ghost use Rattle.abc_varint.specs.Puts.{Puts};
 ghost use Rattle.abc_varint.specs.Reads.{Reads, ReadsPart};
 
 use abc_base::{NoMemory, Source, Table};
 use abc_tables::{OptionValue, Sizes, ValueKind};
 use abc_varint::{
-    Codec, ReadError, Reason, Window, put_u8, put_u30, read_times, read_u8, read_u30,
+    Codec, ReadError, Reason, Window, pass_times, put_u8, put_u30, read_times, read_u8, read_u30,
 };
 use std::alloc::Global;
 
@@ -182,6 +184,51 @@ pub fn read_options_if<S: Source>(
     } else {
         Ok(Table::new(alloc))
     }
+}
+
+/// Passes the values of the last parameters, at most as many as there are parameters.
+#[tactic(auto, unfolding(abc_tables::specs::Methods::options, abc_format::specs::Canonical::counted_bytes))]
+fn pass_options<S: Source>(
+    alloc: Global,
+    w: &mut Window,
+    source: &mut S,
+    sizes: &Sizes,
+    params: u32,
+    out: &mut Vec<u8>,
+) -> Result<(), ReadError>
+    ensures { PassesPart S.left S.faults (options sizes.now params) (counted_bytes option_bytes) nothing w.old source.old w.new source.new out.old.items out.new.items result }
+{
+    let place = w.place();
+    let count = read_u30(w, source)?;
+    if count > params {
+        return Err(ReadError::Refused {
+            place,
+            reason: Reason::OptionCount,
+        });
+    }
+    put_u30(count, out)?;
+    pass_times(&OptionCodec(*sizes), alloc, w, source, count, out)?;
+    Ok(())
+}
+
+/// Passes the values where a flag asks for them, and nothing where it does not.
+#[tactic(auto, unfolding(abc_format::specs::Part::when))]
+pub fn pass_options_if<S: Source>(
+    flag: bool,
+    alloc: Global,
+    w: &mut Window,
+    source: &mut S,
+    sizes: &Sizes,
+    params: u32,
+    out: &mut Vec<u8>,
+) -> Result<(), ReadError>
+    requires { w.old.kept ≡ None }
+    ensures { PassesPart S.left S.faults (when flag [] (options sizes.now params)) (λ xs. if flag then counted_bytes option_bytes xs else []) nothing w.old source.old w.new source.new out.old.items out.new.items result }
+{
+    if flag {
+        pass_options(alloc, w, source, sizes, params, out)?;
+    }
+    Ok(())
 }
 
 /// The kind of a value where a flag asks for it.

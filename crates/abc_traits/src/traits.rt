@@ -4,16 +4,17 @@ ghost use Rattle.abc_format.specs.Numbers.{u30, index_below, pool_index};
 ghost use Rattle.abc_format.specs.Part.{both, image};
 ghost use Rattle.abc_tables.specs.declared.traits.TraitBody.TheVariants as bodies;
 ghost use Rattle.abc_tables.specs.Traits.{slot_value, slot_value_bytes, trait_code, trait_kind, trait_kind_in, trait_fields, trait_fields_bytes, trait_info, trait_bytes};
+ghost use Rattle.abc_varint.specs.Passes.{Passes, PassesPart, nothing};
 ghost use Rattle.abc_varint.specs.Puts.{Puts};
 ghost use Rattle.abc_varint.specs.Reads.{Reads, ReadsPart};
 
-use crate::lists::{put_counted_if, read_counted_if};
+use crate::lists::{pass_counted_if, put_counted_if, read_counted_if};
 use crate::methods::has_flag;
 use crate::options::{put_slot_value, read_slot_value};
 use abc_base::{NoMemory, Source};
 use abc_tables::{OptionValue, Sizes, TraitBody, TraitInfo, TraitKind};
 use abc_varint::{
-    Codec, IndexBelow, ReadError, Reason, Window, put_u8, put_u30, read_entry_index,
+    Codec, EntryIndex, IndexBelow, ReadError, Reason, Window, put_u8, put_u30, read_entry_index,
     read_index_below, read_pool_index, read_u8, read_u30,
 };
 use std::alloc::Global;
@@ -200,6 +201,27 @@ fn put_trait(info: &TraitInfo, out: &mut Vec<u8>) -> Result<(), NoMemory>
     Ok(())
 }
 
+/// Reads a trait and appends its canonical bytes; none of it is kept.
+#[tactic(auto, unfolding(abc_tables::specs::Traits::trait_info, abc_tables::specs::Traits::trait_bytes))]
+fn pass_trait<S: Source>(
+    alloc: Global,
+    w: &mut Window,
+    source: &mut S,
+    sizes: &Sizes,
+    out: &mut Vec<u8>,
+) -> Result<(), ReadError>
+    ensures { PassesPart S.left S.faults (trait_info sizes.now) trait_bytes nothing w.old source.old w.new source.new out.old.items out.new.items result }
+{
+    EntryIndex(sizes.names).pass(alloc, w, source, out)?;
+    let (kind, attrs) = read_trait_kind(w, source)?;
+    let body = read_trait_fields(w, source, sizes, kind)?;
+    put_u8(16 * (attrs % 16) + code_of(&body), out)?;
+    put_trait_fields(&body, out)?;
+    let described = has_flag(attrs, HAS_METADATA);
+    pass_counted_if(described, &IndexBelow(sizes.metadata), alloc, w, source, out)?;
+    Ok(())
+}
+
 /// Traits, over tables of these sizes.
 #[derive(Clone, Copy, Debug)]
 pub struct TraitCodec(pub Sizes);
@@ -226,5 +248,15 @@ impl Codec for TraitCodec {
     /// Appends a trait. Of its attributes the low four bits count.
     fn put(item: &TraitInfo, out: &mut Vec<u8>) -> Result<(), NoMemory> {
         put_trait(item, out)
+    }
+
+    fn pass<S: Source>(
+        &self,
+        alloc: Global,
+        w: &mut Window,
+        source: &mut S,
+        out: &mut Vec<u8>,
+    ) -> Result<(), ReadError> {
+        pass_trait(alloc, w, source, &self.0, out)
     }
 }

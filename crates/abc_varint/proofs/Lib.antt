@@ -1,6 +1,7 @@
 pub mod Held
 pub mod Front
 pub mod Loop
+pub mod Passing
 pub mod Chunks
 pub mod Fill
 pub mod Answering

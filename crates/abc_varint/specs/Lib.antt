@@ -3,3 +3,4 @@ pub mod Ready
 pub mod Reads
 pub mod Answers
 pub mod Puts
+pub mod Passes

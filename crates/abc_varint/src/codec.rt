@@ -4,12 +4,14 @@ ghost use Rattle.abc_base.specs.Numbers.{number_bytes};
 ghost use Rattle.abc_format.specs.Canonical.{counted_bytes, pool_bytes, pool_count as count_of};
 ghost use Rattle.abc_format.specs.Lists.{times, counted, pool};
 ghost use Rattle.abc_format.specs.Part.{Part};
+ghost use Rattle.abc_varint.specs.Passes.{PassesPart, nothing};
 ghost use Rattle.abc_varint.specs.Puts.{Puts};
 ghost use Rattle.abc_varint.specs.Reads.{Reads, ReadsPart};
 ghost use Rattle.abc_varint.specs.declared.error.ReadError.{ReadError};
 
 use crate::error::ReadError;
 use crate::number::next_u30;
+use crate::pass::pass_counted;
 use crate::put::{put_count, put_number};
 use crate::window::Window;
 use abc_base::{NoMemory, Source, Table};
@@ -40,6 +42,22 @@ pub trait Codec {
     /// Appends an item. Where memory runs out, the old bytes are still the front.
     fn put(item: &Self::Item, out: &mut Vec<u8>) -> Result<(), NoMemory>
         ensures { Puts out.old.items out.new.items result (canonical item.now) };
+
+    /// Reads an item, as `read` does, and appends its canonical bytes. After an Err any bytes may follow the old ones.
+    #[tactic(auto)]
+    fn pass<S: Source>(
+        &self,
+        alloc: Global,
+        w: &mut Window,
+        source: &mut S,
+        out: &mut Vec<u8>,
+    ) -> Result<(), ReadError>
+        ensures { PassesPart S.left S.faults (part self.now) canonical nothing w.old source.old w.new source.new out.old.items out.new.items result }
+    {
+        let item = self.read(alloc, w, source)?;
+        Self::put(&item, out)?;
+        Ok(())
+    }
 }
 
 /// Reads so many items, one after the other, with the errors of the codec's `read`. No memory is reserved for items that
@@ -165,5 +183,16 @@ impl<C: Codec> Codec for Counted<C> {
 
     fn put(item: &Table<C::Item>, out: &mut Vec<u8>) -> Result<(), NoMemory> {
         put_counted::<C>(item, out)
+    }
+
+    fn pass<S: Source>(
+        &self,
+        alloc: Global,
+        w: &mut Window,
+        source: &mut S,
+        out: &mut Vec<u8>,
+    ) -> Result<(), ReadError> {
+        pass_counted(&self.0, alloc, w, source, out)?;
+        Ok(())
     }
 }

@@ -7,7 +7,7 @@ use crate::codec::Codec;
 use crate::error::ReadError;
 use crate::number::{next_entry_index, next_index_below, next_pool_index, next_s32, next_u32};
 use crate::put::{put_s32, put_text, put_u30, put_u32};
-use crate::text::read_text;
+use crate::text::{pass_text, read_text};
 use crate::window::Window;
 use abc_base::{Bytes, NoMemory, Source};
 use std::alloc::Global;
@@ -159,5 +159,16 @@ impl Codec for Text {
 
     fn put(item: &Bytes, out: &mut Vec<u8>) -> Result<(), NoMemory> {
         put_text(item, out)
+    }
+
+    fn pass<S: Source>(
+        &self,
+        alloc: Global,
+        w: &mut Window,
+        source: &mut S,
+        out: &mut Vec<u8>,
+    ) -> Result<(), ReadError> {
+        pass_text(alloc, w, source, out)?;
+        Ok(())
     }
 }

@@ -5,6 +5,7 @@ mod codec;
 mod error;
 mod items;
 mod number;
+mod pass;
 mod put;
 mod read;
 mod text;
@@ -17,6 +18,7 @@ pub use codec::{
 };
 pub use error::ReadError;
 pub use items::{EntryIndex, IndexBelow, Number32, PoolIndex, Signed32, Text};
+pub use pass::{pass_counted, pass_pool, pass_times};
 pub use put::{put_count, put_s24, put_s32, put_text, put_u8, put_u16, put_u30, put_u32};
 pub use read::{
     read_entry_index, read_index_below, read_pool_index, read_s24, read_s32, read_u8, read_u16,

@@ -1,10 +1,13 @@
 ghost use Rattle.std.specs.Prelude.{◌≡◌, ◌≤◌, ◌<◌, ◌^◌, IfOk, length, None};
+ghost use Rattle.abc_format.specs.Canonical.{text_bytes};
 ghost use Rattle.abc_format.specs.Lists.{text, times};
 ghost use Rattle.abc_format.specs.Numbers.{u8 as octet};
+ghost use Rattle.abc_varint.specs.Passes.{PassesPart, nothing};
 ghost use Rattle.abc_varint.specs.Reads.{ReadsPart};
 
 use crate::error::ReadError;
 use crate::number::next_u30;
+use crate::put::put_u30;
 use crate::window::Window;
 use abc_base::{Bytes, Source};
 use std::alloc::Global;
@@ -67,4 +70,43 @@ pub fn read_text<S: Source>(
     let count = next_u30(w, source)?;
     let bytes = read_bytes(alloc, w, source, count)?;
     Ok(bytes)
+}
+
+/// Reads so many bytes, as `read_bytes` does, and appends them.
+#[inline]
+fn pass_bytes<S: Source>(
+    alloc: Global,
+    w: &mut Window,
+    source: &mut S,
+    count: u32,
+    out: &mut Vec<u8>,
+) -> Result<(), ReadError>
+    requires { w.old.kept ≡ None }
+    ensures { PassesPart S.left S.faults (times count octet) (λ b. b) nothing w.old source.old w.new source.new out.old.items out.new.items result }
+{
+    if w.is_ready(count) {
+        let size = count as usize;
+        out.extend_from_slice(&w.held()[..size])?;
+        w.go_on(size);
+        return Ok(());
+    }
+    let bytes = gather_bytes(alloc, w, source, count)?;
+    out.extend_from_slice(bytes.as_slice())?;
+    Ok(())
+}
+
+/// Reads a text, as `read_text` does, and appends its canonical bytes. Gives the number of its bytes.
+#[tactic(auto, unfolding(abc_format::specs::Lists::text, abc_format::specs::Lists::counted, abc_format::specs::Canonical::text_bytes))]
+pub fn pass_text<S: Source>(
+    alloc: Global,
+    w: &mut Window,
+    source: &mut S,
+    out: &mut Vec<u8>,
+) -> Result<u32, ReadError>
+    ensures { PassesPart S.left S.faults text text_bytes length w.old source.old w.new source.new out.old.items out.new.items result }
+{
+    let count = next_u30(w, source)?;
+    put_u30(count, out)?;
+    pass_bytes(alloc, w, source, count, out)?;
+    Ok(count)
 }
