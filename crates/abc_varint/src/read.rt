@@ -16,6 +16,9 @@ use abc_base::Source;
 
 // Each read of a number answers an Err that the window keeps, and every later read answers that Err again. `ReadFault`
 // comes only where the source's count of faults rose, and no read of a number takes memory.
+//
+// Whether the source tells its bytes or not, the window goes over no fewer bytes than the canonical spelling of a
+// `read_u30` or a `read_u32` has, and every byte that is read stands before its end.
 
 /// A byte, 0 to 255. It is refused at its place: by `CodeEnds` at the window's end or after it, else by `Short` where
 /// the input has ended, else by `FileTooLong` at place 2^24.
