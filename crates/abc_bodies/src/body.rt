@@ -1,6 +1,6 @@
 ghost use Rattle.std.specs.Prelude.{◌≡◌, ◌≤◌, ◌<◌, ◌+◌, ◌^◌, None, Some, Err, false, IfOk, length, slice_get};
 ghost use Rattle.abc_bodies.specs.Reading.{free_method, free_body};
-ghost use Rattle.abc_tables.specs.Bodies.{body_with};
+ghost use Rattle.abc_tables.specs.Bodies.{body_with, IsReadyBody};
 ghost use Rattle.abc_varint.specs.Reads.{Reads, ReadsPart};
 
 use crate::handlers::read_handlers;
@@ -46,6 +46,7 @@ pub fn read_body<S: Source>(
     ensures value { ReadsPart S.left S.faults (free_body sizes.now flags.now) w.old source.old w.new source.new result }
     ensures free { IfOk result (λ x. slice_get flags.now (x.0).method ≡ Some false) }
     ensures count { IfOk result (λ x. length x.1 ≡ length (x.0).code + 1) }
+    ensures ready { IfOk result (λ x. IsReadyBody x.0) }
 {
     let method = read_method(w, source, sizes, flags)?;
     let max_stack = read_u30(w, source)?;

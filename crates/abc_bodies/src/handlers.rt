@@ -1,4 +1,4 @@
-ghost use Rattle.std.specs.Prelude.{◌≡◌, ◌≤◌, ◌<◌, ◌-◌, ◌^◌, ◌++◌, All, None, Some, Err, get_or, length};
+ghost use Rattle.std.specs.Prelude.{◌≡◌, ◌≤◌, ◌<◌, ◌-◌, ◌^◌, ◌++◌, All, None, Some, Err, IfOk, get_or, length};
 ghost use Rattle.std.specs.List.{flat_map};
 ghost use Rattle.abc_base.specs.Numbers.{number_bytes};
 ghost use Rattle.abc_format.specs.Canonical.{counted_bytes};
@@ -23,7 +23,8 @@ fn read_handler<S: Source>(
 ) -> Result<Handler, ReadError>
     requires rising { IsRising starts.now }
     requires few { length starts.now < 2 ^ 32 }
-    ensures { ReadsPart S.left S.faults (handler_part sizes.now starts.now) w.old source.old w.new source.new result }
+    ensures value { ReadsPart S.left S.faults (handler_part sizes.now starts.now) w.old source.old w.new source.new result }
+    ensures within { IfOk result (IsWithin (length starts.now - 1)) }
 {
     let from = read_place(w, source, starts)?;
     let to = read_place(w, source, starts)?;
@@ -51,7 +52,8 @@ fn read_many<S: Source>(
     requires rising { IsRising starts.now }
     requires few { length starts.now < 2 ^ 32 }
     requires fresh { w.old.kept ≡ None }
-    ensures { ReadsPart S.left S.faults (times count (handler_part sizes.now starts.now)) w.old source.old w.new source.new result }
+    ensures value { ReadsPart S.left S.faults (times count (handler_part sizes.now starts.now)) w.old source.old w.new source.new result }
+    ensures within { IfOk result (All (IsWithin (length starts.now - 1))) }
 {
     let mut handlers = Table::new(alloc);
     for _ in 0..count {
@@ -72,7 +74,8 @@ pub fn read_handlers<S: Source>(
 ) -> Result<Table<Handler>, ReadError>
     requires rising { IsRising starts.now }
     requires few { length starts.now < 2 ^ 32 }
-    ensures { ReadsPart S.left S.faults (counted (handler_part sizes.now starts.now)) w.old source.old w.new source.new result }
+    ensures value { ReadsPart S.left S.faults (counted (handler_part sizes.now starts.now)) w.old source.old w.new source.new result }
+    ensures within { IfOk result (All (IsWithin (length starts.now - 1))) }
 {
     let count = read_u30(w, source)?;
     let handlers = read_many(alloc, w, source, sizes, starts, count)?;

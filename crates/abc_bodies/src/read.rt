@@ -1,9 +1,9 @@
-ghost use Rattle.std.specs.Prelude.{◌≡◌, ◌≤◌, ◌<◌, ◌^◌, [], None, Some, Err, false, IfOk, OnErr, length, replicate};
+ghost use Rattle.std.specs.Prelude.{◌≡◌, ◌≤◌, ◌<◌, ◌^◌, [], All, None, Some, Err, false, IfOk, OnErr, OnOk, length, replicate};
 ghost use Rattle.abc_bodies.specs.Places.{ArePlaces};
 ghost use Rattle.abc_bodies.specs.Reading.{halves, with_places};
 ghost use Rattle.abc_format.specs.Lists.{chain};
 ghost use Rattle.abc_format.specs.Part.{image};
-ghost use Rattle.abc_tables.specs.Bodies.{bodies, body, body_list, methods_of};
+ghost use Rattle.abc_tables.specs.Bodies.{bodies, body, body_list, methods_of, IsReadyBody};
 ghost use Rattle.abc_varint.specs.Answers.{Answers};
 ghost use Rattle.abc_varint.specs.Reads.{Reads, ReadsPart};
 
@@ -38,6 +38,7 @@ fn read_many<S: Source>(
     requires end { w.old.end ≡ 2 ^ 25 }
     ensures value { ReadsPart S.left S.faults (image halves (chain count (λ before. body sizes.now (methods_of before)) [])) w.old source.old w.new source.new result }
     ensures places { IfOk result (λ x. ArePlaces x.0 x.1) }
+    ensures ready { IfOk result (λ x. All IsReadyBody x.0) }
 {
     let mut has_body = flags_down(alloc, sizes.methods)?;
     let mut bodies = Table::new(alloc);
@@ -62,6 +63,7 @@ fn read_all<S: Source>(
     requires { w.old.end ≡ 2 ^ 25 }
     ensures value { ReadsPart S.left S.faults (image halves (body_list sizes.now)) w.old source.old w.new source.new result }
     ensures places { IfOk result (λ x. ArePlaces x.0 x.1) }
+    ensures ready { IfOk result (λ x. All IsReadyBody x.0) }
 {
     let count = read_u30(w, source)?;
     read_many(alloc, w, source, sizes, count)
@@ -76,7 +78,7 @@ fn read_all<S: Source>(
 /// type and its name by `Index` where there is no such multiname: each at its first byte. A body's targets are tested
 /// once its code is read, before the count of its exceptions. The window does not keep `SecondBody`. `ReadFault` comes
 /// only where the source's count of faults rose, and `NoMemory` where memory ran out. No memory is reserved for bodies
-/// that have not come.
+/// that have not come. What was read can be put.
 pub fn read_bodies<S: Source>(
     alloc: Global,
     w: &mut Window,
@@ -87,6 +89,7 @@ pub fn read_bodies<S: Source>(
     requires { w.old.end ≡ 2 ^ 25 }
     ensures value { ReadsPart S.left S.faults (bodies abc.old) w.old source.old w.new source.new (with_places result abc.new) }
     ensures places { IfOk result (ArePlaces (abc.new).bodies) }
+    ensures ready { OnOk result (All IsReadyBody (abc.new).bodies) }
     ensures err { OnErr result (abc.new ≡ abc.old) }
     ensures answers { Answers (bodies abc.old) w.old (S.left source.old) w.new (S.left source.new) (with_places result abc.new) }
 {

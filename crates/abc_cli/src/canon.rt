@@ -10,7 +10,6 @@ ghost use Rattle.abc_words.specs.declared.command.Command.TheVariants as command
 use crate::ends::{give_bytes, give_error};
 use abc_base::{Sink, Source, Status};
 use abc_file::{read, write};
-use abc_tables::are_bodies_ready;
 use abc_varint::ReadError;
 use std::alloc::Global;
 
@@ -23,11 +22,6 @@ fn canonical_bytes<S: Source>(alloc: Global, source: &mut S) -> Result<Vec<u8>, 
     ensures cause { result ≡ Err ReadError.ReadFault → Rose (S.faults source.old) (S.faults source.new) }
 {
     let (abc, _places) = read(alloc, source)?;
-    // A file that was read can always be written. The test proves it where the source tells no bytes, and says no memory
-    // rather than a wrong thing.
-    if !are_bodies_ready(&abc) {
-        return Err(ReadError::NoMemory);
-    }
     let mut bytes = Vec::new(alloc);
     write(alloc, &abc, &mut bytes)?;
     Ok(bytes)

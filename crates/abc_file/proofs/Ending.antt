@@ -1,6 +1,6 @@
 -- What reading the parts of a file, and then asking for more, says of the whole input.
 use Rattle.std.proofs.Common.{◌≡◌, inl, inr, ℕ, List, ◌++◌, ◌∷◌, length, length-append, arith, Bool, false, Ok, Err, None, Some, [], true, refl, ap, ◌∙◌}
-use Rattle.std.specs.Prelude.{IfSome, IfOk, IfErr, OnOk, IsTrue, ◌↔◌, if◌then◌else◌}
+use Rattle.std.specs.Prelude.{All, IfSome, IfOk, IfErr, OnOk, IsTrue, ◌↔◌, if◌then◌else◌}
 use Rattle.std.specs.declared.result.Result.{Result}
 use Rattle.std.specs.declared.option.Option.{Option}
 use Rattle.abc_format.specs.declared.reason.Reason.TheVariants as reasons
@@ -11,6 +11,7 @@ use Rattle.abc_varint.specs.View.{View}
 use Rattle.abc_varint.specs.Reads.{Reads, tells, stand}
 use Rattle.abc_varint.proofs.Answering.{answers_all}
 use Rattle.abc_tables.specs.declared.tables.Abc.{Abc}
+use Rattle.abc_tables.specs.Bodies.{IsReadyBody}
 use Rattle.abc_tables.specs.Files.{file_read, IsBadFile}
 use Rattle.abc_tables.proofs.Whole.{file_read-exact, read_bad, read_begins, whole_begins}
 use Rattle.abc_file.specs.Reading.{AnswersFile, IsNew, IsTrailing, IsUsedUp}
@@ -44,6 +45,12 @@ pub either : (w w2 : View) (s s2 : Option (List ℕ)) (v : Abc × List (List ℕ
     → IfOk r (λ x. (x ≡ v) × (tells s2 ≡ true → (stand w2 s2).bytes ≡ [])) → IfErr r (λ e. IsTrailing w2 s2 e) → IfSome s (λ b. AnswersFile b r)
 either w w2 s s2 v (Ok x) n reads ended trailing = rw ended.0 (all_read w w2 s s2 v n reads ended.1)
 either w w2 s s2 v (Err e) n reads ended trailing = more_follows w w2 s s2 v e n reads trailing
+
+-- what was read is answered as it is, or an Err
+pub still_ready : (w : View) (s : Option (List ℕ)) (v : Abc × List (List ℕ)) (r : Result (Abc × List (List ℕ)) ReadError) → All IsReadyBody (v.0).bodies
+    → IfOk r (λ x. (x ≡ v) × (tells s ≡ true → (stand w s).bytes ≡ [])) → IfOk r (λ x. All IsReadyBody (x.0).bodies)
+still_ready w s v (Ok x) ready ended = rw ended.0 ready
+still_ready w s v (Err e) ready ended = tt
 
 no_rest : (held rest : List ℕ) → held ++ rest ≡ [] → rest ≡ []
 no_rest held [] e = refl

@@ -1,8 +1,9 @@
-ghost use Rattle.std.specs.Prelude.{◌≡◌, ◌≤◌, ◌^◌, Ok, Err, IfSome, IfOk, IfErr, OnOk, None, [], true, nat_eq, if◌then◌else◌};
+ghost use Rattle.std.specs.Prelude.{◌≡◌, ◌≤◌, ◌^◌, Ok, Err, IfSome, IfOk, IfErr, OnOk, None, [], true, All, nat_eq, if◌then◌else◌};
 ghost use Rattle.abc_base.specs.Faults.{Rose};
 ghost use Rattle.abc_format.specs.Numbers.{u16 as two_bytes};
 ghost use Rattle.abc_format.specs.Part.{checked};
 ghost use Rattle.abc_file.specs.Reading.{AnswersFile, IsNew, IsTrailing, IsUsedUp};
+ghost use Rattle.abc_tables.specs.Bodies.{IsReadyBody};
 ghost use Rattle.abc_tables.specs.Files.{file_read, version};
 ghost use Rattle.abc_varint.specs.Reads.{ReadsPart, stand, tells};
 ghost use Rattle.abc_varint.specs.declared.error.ReadError.{ReadError};
@@ -52,7 +53,8 @@ fn read_parts<S: Source>(
     source: &mut S,
 ) -> Result<(Abc, Places), ReadError>
     requires { w.old.end ≡ 2 ^ 25 }
-    ensures { ReadsPart S.left S.faults file_read w.old source.old w.new source.new result }
+    ensures value { ReadsPart S.left S.faults file_read w.old source.old w.new source.new result }
+    ensures ready { IfOk result (λ x. All IsReadyBody (x.0).bodies) }
 {
     read_version(w, source)?;
     let mut abc = read_pools(alloc, w, source)?;
@@ -103,6 +105,7 @@ fn read_to_end<S: Source>(
 ) -> Result<(Abc, Places), ReadError>
     requires { IsNew w.old }
     ensures answers { IfSome (S.left source.old) (λ b. AnswersFile b result) }
+    ensures ready { IfOk result (λ x. All IsReadyBody (x.0).bodies) }
     ensures end { OnOk result (IsUsedUp (S.left source.old) (S.left source.new)) }
     ensures later { S.faults source.old ≤ S.faults source.new }
     ensures cause { result ≡ Err ReadError.ReadFault → Rose (S.faults source.old) (S.faults source.new) }
@@ -116,9 +119,10 @@ fn read_to_end<S: Source>(
 /// Reads a file to the input's end, and gives where the instructions of its bodies began. It is refused at its first
 /// fault, by the place of that fault and its reason; a byte that follows a complete file is refused by `Trailing`.
 /// `ReadFault` comes only where the source's count of faults rose. At most 2^24 + 1 bytes are taken, whatever the source
-/// gives.
+/// gives. What was read can be written, whether the source tells its bytes or not.
 pub fn read<S: Source>(alloc: Global, source: &mut S) -> Result<(Abc, Places), ReadError>
     ensures answers { IfSome (S.left source.old) (λ b. AnswersFile b result) }
+    ensures ready { IfOk result (λ x. All IsReadyBody (x.0).bodies) }
     ensures end { OnOk result (IsUsedUp (S.left source.old) (S.left source.new)) }
     ensures later { S.faults source.old ≤ S.faults source.new }
     ensures cause { result ≡ Err ReadError.ReadFault → Rose (S.faults source.old) (S.faults source.new) }

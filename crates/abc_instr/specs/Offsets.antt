@@ -1,11 +1,12 @@
 -- Instructions between reading and resolving: each stands in the table that the caller gets, and where a target is to
 -- stand there is an offset in bytes, as its 32 bits in two's complement.
-use Rattle.std.specs.Prelude.{ℕ, ℤ, ◌-◌, List, [], ◌∷◌, map, Ok, Err}
+use Rattle.std.specs.Prelude.{ℕ, ℤ, ◌-◌, ◌^◌, List, [], ◌∷◌, map, Ok, Err}
 use Rattle.std.specs.Int.{w32, cast_signed}
 use Rattle.std.specs.declared.result.Result.{Result}
 use Rattle.abc_tables.specs.declared.code.Instr.{Instr}
 use Rattle.abc_tables.specs.declared.code.Instr.TheVariants as instrs
 use Rattle.abc_tables.specs.Instructions.{RawInstr, Same, Branch, Switch}
+use Rattle.abc_tables.specs.Ready.{CanSpell, AllCanSpell}
 use Rattle.abc_instr.specs.declared.pieces.Pieces.{Pieces}
 
 -- the offset that stands for a target
@@ -23,6 +24,14 @@ raw_of (instrs.Byte z) = Same (instrs.Byte z)
 raw_of (instrs.Short z) = Same (instrs.Short z)
 raw_of (instrs.ScopeObject x) = Same (instrs.ScopeObject x)
 raw_of (instrs.Debug kind name reg extra) = Same (instrs.Debug kind name reg extra)
+
+-- Some bytes spell it, but for its targets, in whose places stand any 32 bits.
+abbrev pub IsRaw : Instr → Type 0
+IsRaw = CanSpell (2 ^ 32)
+
+-- Each of them is so.
+abbrev pub AreRaw : List Instr → Type 0
+AreRaw = AllCanSpell (2 ^ 32)
 
 -- each with its length, the difference of two starts
 abbrev pub pieces_of : List Instr → List ℕ → List (RawInstr × ℕ)

@@ -1,8 +1,9 @@
 ghost use Rattle.std.specs.Prelude.{◌≡◌, ◌≤◌, ◌<◌, ◌+◌, ◌^◌, None, IfOk, All, length};
+ghost use Rattle.abc_tables.specs.CodeBytes.{code_len};
 ghost use Rattle.abc_tables.specs.Instructions.{pieces as pieces_part};
 ghost use Rattle.abc_tables.specs.Starts.{starts as starts_from, size};
 ghost use Rattle.abc_varint.specs.Reads.{Reads, ReadsUntil, Blames};
-ghost use Rattle.abc_instr.specs.Offsets.{pieces_in, seen};
+ghost use Rattle.abc_instr.specs.Offsets.{pieces_in, seen, AreRaw};
 
 use crate::raw::read_raw;
 use abc_base::{Source, Table};
@@ -33,6 +34,8 @@ fn read_until<S: Source>(
     ensures count { IfOk result (λ p. length p.starts ≡ length p.instrs + 1) }
     ensures size { IfOk result (λ p. size (pieces_in p) ≤ 2 ^ 24) }
     ensures each { IfOk result (λ p. All (λ x. 0 < x.1) (pieces_in p)) }
+    ensures raw { IfOk result (λ p. AreRaw p.instrs) }
+    ensures few { IfOk result (λ p. code_len p.instrs ≤ byte_count) }
     ensures later { S.faults source.old ≤ S.faults source.new }
     ensures cause { Blames w.old (S.faults source.old) (S.faults source.new) result }
 {
@@ -68,6 +71,8 @@ pub fn read_pieces<S: Source>(
     ensures count { IfOk result (λ p. length p.starts ≡ length p.instrs + 1) }
     ensures size { IfOk result (λ p. size (pieces_in p) ≤ 2 ^ 24) }
     ensures each { IfOk result (λ p. All (λ x. 0 < x.1) (pieces_in p)) }
+    ensures raw { IfOk result (λ p. AreRaw p.instrs) }
+    ensures few { IfOk result (λ p. code_len p.instrs ≤ byte_count) }
     ensures later { S.faults source.old ≤ S.faults source.new }
     ensures cause { Blames w.old (S.faults source.old) (S.faults source.new) result }
 {

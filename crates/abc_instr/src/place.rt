@@ -1,4 +1,4 @@
-ghost use Rattle.std.specs.Prelude.{◌≡◌, ◌≤◌, ◌<◌, ◌^◌, length};
+ghost use Rattle.std.specs.Prelude.{◌≡◌, ◌≤◌, ◌<◌, ◌^◌, IfOk, length};
 ghost use Rattle.abc_tables.specs.Places.{instruction_place};
 ghost use Rattle.abc_tables.specs.Starts.{IsRising};
 ghost use Rattle.abc_varint.specs.Reads.{ReadsPart};
@@ -17,7 +17,8 @@ pub fn read_place<S: Source>(
 ) -> Result<u32, ReadError>
     requires rising { IsRising offsets.now }
     requires few { length offsets.now < 2 ^ 32 }
-    ensures { ReadsPart S.left S.faults (instruction_place offsets.now) w.old source.old w.new source.new result }
+    ensures value { ReadsPart S.left S.faults (instruction_place offsets.now) w.old source.old w.new source.new result }
+    ensures within { IfOk result (λ n. n < length offsets.now) }
 {
     let place = w.place();
     let x = read_u30(w, source)?;

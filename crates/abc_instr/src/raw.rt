@@ -1,10 +1,15 @@
-ghost use Rattle.std.specs.Prelude.{◌≡◌, ◌≤◌, ◌<◌, None, OnOk, map};
+ghost use Rattle.std.specs.Prelude.{◌≡◌, ◌≤◌, ◌<◌, ◌*◌, ◌^◌, None, Some, IfOk, OnOk, length, map};
+ghost use Rattle.std.specs.Int.{w16, cast_unsigned};
 ghost use Rattle.abc_format.specs.Ends.{blamed};
 ghost use Rattle.abc_format.specs.Lists.{times};
 ghost use Rattle.abc_format.specs.Numbers.{s24};
 ghost use Rattle.abc_tables.specs.Instructions.{opcode as opcode_part, signed_byte, signed_short, instruction};
+ghost use Rattle.abc_tables.specs.CodeBytes.{instr_len, number_len};
+ghost use Rattle.abc_tables.specs.Opcodes.{form_at};
+ghost use Rattle.abc_tables.specs.Ready.{AllUpTo};
 ghost use Rattle.abc_varint.specs.Reads.{Reads, ReadsPart, Blames};
-ghost use Rattle.abc_instr.specs.Offsets.{offset_of, raw_of, seen};
+ghost use Rattle.abc_varint.specs.View.{Passes};
+ghost use Rattle.abc_instr.specs.Offsets.{offset_of, raw_of, seen, IsRaw};
 
 use abc_base::{Source, Table};
 use abc_tables::{Form, Instr, opcode};
@@ -16,6 +21,8 @@ use std::alloc::Global;
 fn read_opcode<S: Source>(w: &mut Window, source: &mut S) -> Result<(u8, Form), ReadError>
     ensures moves { OnOk result (w.old.place < w.new.place) }
     ensures value { ReadsPart S.left S.faults opcode_part w.old source.old w.new source.new result }
+    ensures passes { OnOk result (Passes 1 w.old w.new) }
+    ensures form { IfOk result (λ x. form_at x.0 ≡ Some x.1) }
 {
     let place = w.place();
     let op = read_u8(w, source)?;
@@ -28,7 +35,8 @@ fn read_opcode<S: Source>(w: &mut Window, source: &mut S) -> Result<(u8, Form), 
 /// A byte, in two's complement.
 #[tactic(auto, unfolding(abc_tables::specs::Instructions::signed_byte))]
 fn read_signed_byte<S: Source>(w: &mut Window, source: &mut S) -> Result<i8, ReadError>
-    ensures { ReadsPart S.left S.faults signed_byte w.old source.old w.new source.new result }
+    ensures value { ReadsPart S.left S.faults signed_byte w.old source.old w.new source.new result }
+    ensures passes { OnOk result (Passes 1 w.old w.new) }
 {
     let x = read_u8(w, source)?;
     Ok(x.cast_signed())
@@ -37,7 +45,8 @@ fn read_signed_byte<S: Source>(w: &mut Window, source: &mut S) -> Result<i8, Rea
 /// A u32, of which the low 16 bits count, in two's complement.
 #[tactic(auto, unfolding(abc_tables::specs::Instructions::signed_short))]
 fn read_signed_short<S: Source>(w: &mut Window, source: &mut S) -> Result<i16, ReadError>
-    ensures { ReadsPart S.left S.faults signed_short w.old source.old w.new source.new result }
+    ensures value { ReadsPart S.left S.faults signed_short w.old source.old w.new source.new result }
+    ensures passes { IfOk result (λ z. Passes (number_len (cast_unsigned w16 z)) w.old w.new) }
 {
     let x = read_u32(w, source)?;
     Ok(((x % 65536) as u16).cast_signed())
@@ -45,7 +54,8 @@ fn read_signed_short<S: Source>(w: &mut Window, source: &mut S) -> Result<i16, R
 
 /// An offset, as its 32 bits.
 fn read_offset<S: Source>(w: &mut Window, source: &mut S) -> Result<u32, ReadError>
-    ensures { ReadsPart S.left S.faults s24 w.old source.old w.new source.new (seen offset_of result) }
+    ensures value { ReadsPart S.left S.faults s24 w.old source.old w.new source.new (seen offset_of result) }
+    ensures passes { OnOk result (Passes 3 w.old w.new) }
 {
     let offset = read_s24(w, source)?;
     Ok(offset.cast_unsigned())
@@ -59,7 +69,10 @@ fn read_offsets<S: Source>(
     count: u32,
 ) -> Result<Table<u32>, ReadError>
     requires { w.old.kept ≡ None }
-    ensures { ReadsPart S.left S.faults (times count s24) w.old source.old w.new source.new (seen (λ xs. map offset_of xs) result) }
+    ensures value { ReadsPart S.left S.faults (times count s24) w.old source.old w.new source.new (seen (λ xs. map offset_of xs) result) }
+    ensures count { IfOk result (λ xs. length xs ≡ count) }
+    ensures each { IfOk result (AllUpTo (2 ^ 32)) }
+    ensures passes { OnOk result (w.old.place ≤ w.old.end → Passes (3 * count) w.old w.new) }
 {
     let mut offsets = Table::new(alloc);
     for _ in 0..count {
@@ -73,6 +86,8 @@ fn read_offsets<S: Source>(
 fn read_parts<S: Source>(alloc: Global, w: &mut Window, source: &mut S) -> Result<Instr, ReadError>
     ensures moves { OnOk result (w.old.place < w.new.place) }
     ensures value { ReadsPart S.left S.faults instruction w.old source.old w.new source.new (seen raw_of result) }
+    ensures raw { IfOk result IsRaw }
+    ensures passes { IfOk result (λ i. Passes (instr_len i) w.old w.new) }
 {
     let (op, form) = read_opcode(w, source)?;
     match form {
@@ -133,6 +148,8 @@ pub fn read_raw<S: Source>(
     requires { w.old.kept ≡ None }
     ensures moves { OnOk result (w.old.place < w.new.place) }
     ensures value { Reads (blamed instruction).reads w.old (S.left source.old) w.new (S.left source.new) (seen raw_of result) }
+    ensures raw { IfOk result IsRaw }
+    ensures passes { IfOk result (λ i. Passes (instr_len i) w.old w.new) }
     ensures later { S.faults source.old ≤ S.faults source.new }
     ensures cause { Blames w.old (S.faults source.old) (S.faults source.new) result }
 {

@@ -1,6 +1,7 @@
 ghost use Rattle.std.specs.Prelude.{◌≡◌, ◌≤◌, ◌<◌, ◌^◌, ◌+◌, None, IfOk, length};
 ghost use Rattle.abc_tables.specs.Code.{code as code_part};
 ghost use Rattle.abc_tables.specs.Instructions.{code_length};
+ghost use Rattle.abc_tables.specs.Ready.{IsReady};
 ghost use Rattle.abc_tables.specs.Starts.{IsRising};
 ghost use Rattle.abc_varint.specs.Answers.{Answers};
 ghost use Rattle.abc_varint.specs.Reads.{ReadsPart};
@@ -35,6 +36,7 @@ fn read_whole<S: Source>(alloc: Global, w: &mut Window, source: &mut S) -> Resul
     ensures rising { IfOk result (λ c. IsRising c.offsets) }
     ensures count { IfOk result (λ c. length c.offsets ≡ length c.instrs + 1) }
     ensures few { IfOk result (λ c. length c.offsets < 2 ^ 32) }
+    ensures ready { IfOk result (λ c. IsReady c.instrs) }
 {
     let length = read_length(w, source)?;
     let first = w.place();
@@ -53,7 +55,7 @@ fn read_whole<S: Source>(alloc: Global, w: &mut Window, source: &mut S) -> Resul
 /// numbers of instructions, counted from 0, and the number of all of them is the end. It is refused by `CodeLength` at
 /// the length; then by the first instruction that can't be read: by `Opcode` at its opcode, by `CodeEnds` there where it
 /// needs a byte past the code, or as its numbers are; and then by `Target` at the first offset that leads to no start of
-/// an instruction and not to the end.
+/// an instruction and not to the end. Whether the source tells its bytes or not, the instructions can be put.
 pub fn read_code<S: Source>(
     alloc: Global,
     w: &mut Window,
@@ -66,6 +68,7 @@ pub fn read_code<S: Source>(
     ensures rising { IfOk result (λ c. IsRising c.offsets) }
     ensures count { IfOk result (λ c. length c.offsets ≡ length c.instrs + 1) }
     ensures few { IfOk result (λ c. length c.offsets < 2 ^ 32) }
+    ensures ready { IfOk result (λ c. IsReady c.instrs) }
 {
     let _place = w.place();
     read_whole(alloc, w, source)

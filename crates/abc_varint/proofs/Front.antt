@@ -2,14 +2,14 @@
 use Rattle.std.proofs.Common.{◌≡◌, ℕ, ◌+◌, ◌*◌, ◌%◌, ◌<◌, ◌≤◌, List, [], ◌∷◌, ◌++◌, get_or, length, take, drop, length-take, Ok, None, Some, refl, sym, ap, ◌∙◌, append_assoc, arith}
 use Rattle.std.specs.declared.option.Option.{Option}
 use Rattle.std.proofs.lemmas.List.{take-append-drop}
-use Rattle.abc_base.specs.Numbers.{SpellsNumber}
-use Rattle.abc_base.proofs.Spelling.{groups_number}
+use Rattle.abc_base.specs.Numbers.{SpellsNumber, number_bytes}
+use Rattle.abc_base.proofs.Spelling.{groups_number, number_shortest}
 use Rattle.abc_format.specs.Part.{Front, limit}
 use Rattle.abc_format.specs.Numbers.{byte_at, number, u8}
 use Rattle.abc_format.proofs.Numbers.{byte_again, number-exact}
 use Rattle.abc_varint.specs.Ready.{IsReady, TakesNumber}
 use Rattle.abc_varint.specs.Reads.{Reads, stand}
-use Rattle.abc_varint.specs.View.{View, onward}
+use Rattle.abc_varint.specs.View.{View, Passes, onward}
 
 -- ---- what five bytes spell
 
@@ -71,6 +71,12 @@ number_here x n w (Some left) r e = (
 
 pub number_taken : (x : ℕ) (w w2 : View) (s : Option (List ℕ)) → TakesNumber x w w2 → Reads number.reads w s w2 s (Ok x)
 number_taken x w w2 s t = rw t.is (number_here x t.count w s t.ready t.spelled)
+
+-- no fewer bytes than the shortest spelling has
+pub number_passes : (x : ℕ) (w w2 : View) → TakesNumber x w w2 → Passes (length (number_bytes x)) w w2
+number_passes x w w2 t =
+    let at : w2.place ≡ w.place + t.count = ap (λ (v : View). v.place) t.is in
+    (omega (arith, number_shortest x (take t.count w.held) t.spelled, length-take t.count w.held, t.ready.held), omega (arith, t.ready.before))
 
 byte_here : (x : ℕ) (held : List ℕ) (left : List ℕ) (end place : ℕ) → 1 ≤ length held → place + 1 ≤ end → place + 1 ≤ limit → x ≡ get_or held 0 0
     → byte_at end place (held ++ left) ≡ Ok (x, record { place = place + 1; bytes = drop 1 held ++ left; end = end })

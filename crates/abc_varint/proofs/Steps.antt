@@ -1,5 +1,7 @@
 -- One step of reading a number.
-use Rattle.std.proofs.Common.{◌≡◌, ℕ, zero, suc, ◌+◌, ◌-◌, ◌*◌, ◌%◌, ◌^◌, ◌<◌, ◌≤◌, cond, ltb, Ok, refl, subst, arith}
+use Rattle.std.proofs.Common.{◌≡◌, ℕ, zero, suc, ◌+◌, ◌-◌, ◌*◌, ◌/◌, ◌%◌, ◌^◌, ◌<◌, ◌≤◌, cond, ltb, length, inl, inr, Ok, refl, subst, arith}
+use Rattle.std.proofs.lemmas.Bool.{cases_lt, le-ltb, lt-ltb}
+use Rattle.abc_base.specs.Numbers.{groups_of, number_bytes}
 use Rattle.abc_format.specs.Part.{At, ◌>>=◌}
 use Rattle.abc_format.specs.Numbers.{u8, groups}
 
@@ -31,3 +33,26 @@ bound_all (suc zero) y le h = omega arith
 bound_all (suc (suc zero)) y le h = omega arith
 bound_all (suc (suc (suc zero))) y le h = omega arith
 bound_all (suc (suc (suc (suc k)))) y le h = let z : k ≡ 0 = omega arith in let h2 : y < 128 ^ 4 = subst (λ (n : ℕ). y < 128 ^ suc (suc (suc (suc n)))) z h in omega arith
+
+-- ---- the fewest bytes
+
+groups_up : (k x : ℕ) → length (groups_of k x) ≤ length (groups_of (suc k) x)
+groups_up zero x = omega arith
+groups_up (suc k) x = elim (cases_lt x 128) [
+  | inl lt ↦ rw (lt-ltb x 128 lt) (omega arith)
+  | inr ge ↦ let h = groups_up k (x / 128) in rw (le-ltb x 128 ge) (omega arith)
+]
+
+-- seven bits more take at most one byte more
+number_step : (x y : ℕ) → length (number_bytes (x % 128 + 128 * y)) ≤ 1 + length (number_bytes y)
+unfolding number_bytes
+number_step x y = elim (cases_lt (x % 128 + 128 * y) 128) [
+  | inl lt ↦ rw (lt-ltb (x % 128 + 128 * y) 128 lt) (omega arith)
+  | inr ge ↦
+      let same : (x % 128 + 128 * y) / 128 ≡ y = omega arith in
+      let h = groups_up 4 y in
+      rw (le-ltb (x % 128 + 128 * y) 128 ge, same) (omega arith)
+]
+
+pub few_step : (x y before here after : ℕ) → here ≡ before + 1 → here + length (number_bytes y) ≤ after → before + length (number_bytes (x % 128 + 128 * y)) ≤ after
+few_step x y before here after one few = omega (arith, number_step x y)

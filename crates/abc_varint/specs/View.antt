@@ -32,3 +32,7 @@ NextOf end place held new r =
 -- the window, n of the bytes that it holds further on
 abbrev pub onward : ℕ → View → View
 onward n w = record { place = w.place + n; held = drop n w.held; kept = w.kept; end = w.end }
+
+-- The window went over at least so many bytes, each of them before its end.
+abbrev pub Passes : ℕ → View → View → Type 0
+Passes count w w2 = (w.place + count ≤ w2.place) × (w2.place ≤ w.end)

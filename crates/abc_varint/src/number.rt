@@ -1,6 +1,8 @@
-ghost use Rattle.std.specs.Prelude.{◌≡◌, ◌≤◌, ◌<◌, ◌*◌, ◌+◌, ◌^◌, Some, Err, IfOk, IfErr, OnOk};
+ghost use Rattle.std.specs.Prelude.{◌≡◌, ◌≤◌, ◌<◌, ◌*◌, ◌+◌, ◌^◌, Some, Err, IfOk, IfErr, OnOk, length};
+ghost use Rattle.abc_base.specs.Numbers.{number_bytes};
 ghost use Rattle.abc_format.specs.Numbers.{groups, number, u16 as two_bytes, u30 as small, u32 as wide, s24 as offset, s32 as signed, index_below as below, pool_index as in_pool, entry_index as of_entry};
 ghost use Rattle.abc_varint.specs.Reads.{Blames, Reads, ReadsNumber, ReadsPart};
+ghost use Rattle.abc_varint.specs.View.{Passes};
 ghost use Rattle.abc_varint.specs.declared.error.ReadError.{ReadError};
 
 use crate::error::ReadError;
@@ -9,7 +11,7 @@ use abc_base::Source;
 use abc_format::Reason;
 
 /// At most `more` further bytes of a number that began at `start`.
-#[tactic(auto, using(crate::proofs::Steps::groups_step, crate::proofs::Steps::bound_step, crate::proofs::Steps::bound_one))]
+#[tactic(auto, using(crate::proofs::Steps::groups_step, crate::proofs::Steps::bound_step, crate::proofs::Steps::bound_one, abc_base::proofs::Spelling::length_1))]
 fn next_groups<S: Source>(
     w: &mut Window,
     source: &mut S,
@@ -25,6 +27,7 @@ fn next_groups<S: Source>(
     ensures later { S.faults source.old ≤ S.faults source.new }
     ensures cause { Blames w.old (S.faults source.old) (S.faults source.new) result }
     ensures rises { OnOk result (0 < more → w.old.place < w.new.place) }
+    ensures passes { IfOk result (λ x. Passes (length (number_bytes x)) w.old w.new) }
 {
     if more == 0 {
         return Err(w.refuse(start, Reason::LongNumber));
@@ -39,11 +42,12 @@ fn next_groups<S: Source>(
 
 /// A raw value of up to 35 bits.
 #[inline(always)]
-#[tactic(auto, using(crate::proofs::Front::number_taken))]
+#[tactic(auto, using(crate::proofs::Front::number_taken, crate::proofs::Front::number_passes))]
 fn next_number<S: Source>(w: &mut Window, source: &mut S) -> Result<u64, ReadError>
     ensures value { ReadsNumber S.left S.faults number w.old source.old w.new source.new result }
     ensures bound { IfOk result (λ x. x < 2 ^ 35) }
     ensures rises { OnOk result (w.old.place < w.new.place) }
+    ensures passes { IfOk result (λ x. Passes (length (number_bytes x)) w.old w.new) }
     ensures room { w.old.place ≤ 2 ^ 24 }
 {
     match w.take_number() {
@@ -60,6 +64,7 @@ fn slow_number<S: Source>(w: &mut Window, source: &mut S) -> Result<u64, ReadErr
     ensures value { ReadsNumber S.left S.faults number w.old source.old w.new source.new result }
     ensures bound { IfOk result (λ x. x < 2 ^ 35) }
     ensures rises { OnOk result (w.old.place < w.new.place) }
+    ensures passes { IfOk result (λ x. Passes (length (number_bytes x)) w.old w.new) }
     ensures room { w.old.place ≤ 2 ^ 24 }
 {
     let start = w.place();
@@ -73,6 +78,7 @@ pub fn next_u30<S: Source>(w: &mut Window, source: &mut S) -> Result<u32, ReadEr
     ensures value { ReadsNumber S.left S.faults small w.old source.old w.new source.new result }
     ensures bound { IfOk result (λ x. x < 2 ^ 30) }
     ensures rises { OnOk result (w.old.place < w.new.place) }
+    ensures passes { IfOk result (λ x. Passes (length (number_bytes x)) w.old w.new) }
     ensures room { w.old.place ≤ 2 ^ 24 }
 {
     let start = w.place();
@@ -85,10 +91,11 @@ pub fn next_u30<S: Source>(w: &mut Window, source: &mut S) -> Result<u32, ReadEr
 
 /// The low 32 bits of a raw value.
 #[inline(always)]
-#[tactic(auto, unfolding(abc_format::specs::Numbers::u32))]
+#[tactic(auto, unfolding(abc_format::specs::Numbers::u32), using(abc_base::proofs::Spelling::number_grows))]
 pub fn next_u32<S: Source>(w: &mut Window, source: &mut S) -> Result<u32, ReadError>
     ensures value { ReadsNumber S.left S.faults wide w.old source.old w.new source.new result }
     ensures rises { OnOk result (w.old.place < w.new.place) }
+    ensures passes { IfOk result (λ x. Passes (length (number_bytes x)) w.old w.new) }
     ensures room { w.old.place ≤ 2 ^ 24 }
 {
     let x = next_number(w, source)?;
@@ -125,6 +132,7 @@ pub fn next_u16<S: Source>(w: &mut Window, source: &mut S) -> Result<u16, ReadEr
 pub fn next_s24<S: Source>(w: &mut Window, source: &mut S) -> Result<i32, ReadError>
     ensures value { ReadsNumber S.left S.faults offset w.old source.old w.new source.new result }
     ensures moves { OnOk result (w.new.place ≡ w.old.place + 3) }
+    ensures within { OnOk result (w.new.place ≤ w.old.end) }
     ensures room { w.old.place ≤ 2 ^ 24 }
 {
     let a = w.next_u8(source)?;

@@ -1,7 +1,9 @@
-ghost use Rattle.std.specs.Prelude.{◌≡◌, ◌≤◌, ◌<◌, ◌+◌, ◌^◌, Err, IfOk, OnOk};
+ghost use Rattle.std.specs.Prelude.{◌≡◌, ◌≤◌, ◌<◌, ◌+◌, ◌^◌, Err, IfOk, OnOk, length};
+ghost use Rattle.abc_base.specs.Numbers.{number_bytes};
 ghost use Rattle.abc_format.specs.Numbers.{u8 as octet, u16 as two_bytes, u30 as small, u32 as wide, s24 as offset, s32 as signed, index_below as below, pool_index as in_pool, entry_index as of_entry};
 ghost use Rattle.abc_varint.specs.Answers.{Answers};
 ghost use Rattle.abc_varint.specs.Reads.{ReadsNumber, ReadsPart};
+ghost use Rattle.abc_varint.specs.View.{Passes};
 ghost use Rattle.abc_varint.specs.declared.error.ReadError.{ReadError};
 
 use crate::error::ReadError;
@@ -14,6 +16,9 @@ use abc_base::Source;
 
 // Each read of a number answers an Err that the window keeps, and every later read answers that Err again. `ReadFault`
 // comes only where the source's count of faults rose, and no read of a number takes memory.
+//
+// Whether the source tells its bytes or not, the window goes over no fewer bytes than the canonical spelling of a
+// `read_u30` or a `read_u32` has, and every byte that is read stands before its end.
 
 /// A byte, 0 to 255. It is refused at its place: by `CodeEnds` at the window's end or after it, else by `Short` where
 /// the input has ended, else by `FileTooLong` at place 2^24.
@@ -22,6 +27,7 @@ pub fn read_u8<S: Source>(w: &mut Window, source: &mut S) -> Result<u8, ReadErro
     ensures value { ReadsNumber S.left S.faults octet w.old source.old w.new source.new result }
     ensures answers { Answers octet w.old (S.left source.old) w.new (S.left source.new) result }
     ensures moves { OnOk result (w.new.place ≡ w.old.place + 1) }
+    ensures within { OnOk result (w.new.place ≤ w.old.end) }
 {
     w.next_u8(source)
 }
@@ -44,6 +50,7 @@ pub fn read_u30<S: Source>(w: &mut Window, source: &mut S) -> Result<u32, ReadEr
     ensures answers { Answers small w.old (S.left source.old) w.new (S.left source.new) result }
     ensures bound { IfOk result (λ x. x < 2 ^ 30) }
     ensures rises { OnOk result (w.old.place < w.new.place) }
+    ensures passes { IfOk result (λ x. Passes (length (number_bytes x)) w.old w.new) }
 {
     next_u30(w, source)
 }
@@ -54,6 +61,7 @@ pub fn read_u32<S: Source>(w: &mut Window, source: &mut S) -> Result<u32, ReadEr
     ensures value { ReadsNumber S.left S.faults wide w.old source.old w.new source.new result }
     ensures answers { Answers wide w.old (S.left source.old) w.new (S.left source.new) result }
     ensures rises { OnOk result (w.old.place < w.new.place) }
+    ensures passes { IfOk result (λ x. Passes (length (number_bytes x)) w.old w.new) }
 {
     next_u32(w, source)
 }
@@ -74,6 +82,7 @@ pub fn read_s24<S: Source>(w: &mut Window, source: &mut S) -> Result<i32, ReadEr
     ensures value { ReadsNumber S.left S.faults offset w.old source.old w.new source.new result }
     ensures answers { Answers offset w.old (S.left source.old) w.new (S.left source.new) result }
     ensures moves { OnOk result (w.new.place ≡ w.old.place + 3) }
+    ensures within { OnOk result (w.new.place ≤ w.old.end) }
 {
     next_s24(w, source)
 }

@@ -130,6 +130,7 @@ impl Window {
         requires { self.old.kept ≡ None }
         ensures next { NextOf self.old.end self.old.place self.old.held self.new result }
         ensures moves { OnOk result (self.new.place ≡ self.old.place + 1) }
+        ensures within { OnOk result (self.new.place ≤ self.old.end) }
         ensures no_memory { result ≡ Err ReadError.NoMemory → ⊥ }
     {
         let place = self.place;
@@ -262,6 +263,7 @@ impl Window {
         ensures value { Reads octet.reads self.old (S.left source.old) self.new (S.left source.new) result }
         ensures keeps { IfErr result (λ e. self.new.kept ≡ Some e) }
         ensures moves { OnOk result (self.new.place ≡ self.old.place + 1) }
+        ensures within { OnOk result (self.new.place ≤ self.old.end) }
         ensures kept { (e : ReadError) → self.old.kept ≡ Some e → result ≡ Err e }
         ensures no_memory { result ≡ Err ReadError.NoMemory → ⊥ }
         ensures later { S.faults source.old ≤ S.faults source.new }
@@ -284,6 +286,7 @@ impl Window {
         ensures value { Reads octet.reads self.old (S.left source.old) self.new (S.left source.new) result }
         ensures keeps { IfErr result (λ e. self.new.kept ≡ Some e) }
         ensures moves { OnOk result (self.new.place ≡ self.old.place + 1) }
+        ensures within { OnOk result (self.new.place ≤ self.old.end) }
         ensures kept { (e : ReadError) → self.old.kept ≡ Some e → result ≡ Err e }
         ensures no_memory { result ≡ Err ReadError.NoMemory → ⊥ }
         ensures later { S.faults source.old ≤ S.faults source.new }

@@ -1,6 +1,8 @@
 use Rattle.std.proofs.Common.{arith, false, ◌-◌, ◌+◌}
+use Rattle.std.proofs.lemmas.List.Elements.{All-push}
 use Rattle.std.proofs.lemmas.Option.{slice_get_within}
 use Rattle.std.proofs.lemmas.Result.{err_from_is_err_and}
+use Rattle.abc_tables.specs.Bodies.{IsReadyBody}
 use Rattle.abc_varint.specs.declared.error.ReadError.TheVariants as errors
 use Rattle.abc_varint.proofs.Loop.{other_err}
 use Rattle.abc_bodies.proofs.Collecting.{collects, fails, collected}
@@ -12,10 +14,10 @@ returns-in_err-body-clause-value g c =
     let e = c.in_err-body.ensures.value in
     rw (p.1, p.2) (
       fails c.args.sizes.now c.args.count c.args.w.now (g.S.Source.left c.args.source.now) c.in_err-body.field-0.0 (c.args.count - c.loop.counter) c.loop.has_body c.loop.bodies c.loop.places
-          c.loop.w (g.S.Source.left c.loop.source) c.read_body.new.w (g.S.Source.left c.read_body.new.source) (omega arith) c.loop.invariant.0 e.0,
+          c.loop.w (g.S.Source.left c.loop.source) c.read_body.new.w (g.S.Source.left c.read_body.new.source) (omega arith) c.loop.invariant.collecting e.0,
       (λ e h. absurd (let k = c.requires.fresh in cc)),
-      omega (arith, c.loop.invariant.1, e.2),
-      (λ k h. let r = e.3 c.loop.invariant.0.chained.fresh (other_err c.in_err-body.field-0.0 errors.ReadFault h) in omega (arith, c.loop.invariant.1, r)),
+      omega (arith, c.loop.invariant.later, e.2),
+      (λ k h. let r = e.3 c.loop.invariant.collecting.chained.fresh (other_err c.in_err-body.field-0.0 errors.ReadFault h) in omega (arith, c.loop.invariant.later, r)),
     )
 
 pub set-requires : goal.set-requires
@@ -23,21 +25,23 @@ set-requires g c = slice_get_within c.loop.has_body c.in_ok-body.body.method fal
 
 pub loop-preserved : goal.loop-preserved
 loop-preserved g c =
-    let e = c.in_ok-body.ensures.value in (
-      rw (c.set.ensures, c.in_ok-push.ensures.ok, c.in_ok-push-2.ensures.ok)
+    let e = c.in_ok-body.ensures.value in
+    record {
+      collecting = rw (c.set.ensures, c.in_ok-push.ensures.ok, c.in_ok-push-2.ensures.ok)
           (collects c.args.sizes.now c.args.count c.args.w.now (g.S.Source.left c.args.source.now) (c.args.count - c.loop.counter) (c.args.count - (c.loop.counter + 1)) c.loop.has_body c.loop.bodies c.loop.places
-          c.loop.w (g.S.Source.left c.loop.source) c.read_body.new.w (g.S.Source.left c.read_body.new.source) (c.in_ok-body.body, c.in_ok-body.starts) (omega arith) c.loop.invariant.0 e.0 c.in_ok-body.ensures.free c.in_ok-body.ensures.count),
-      omega (arith, e.2, c.loop.invariant.1),
-    )
+          c.loop.w (g.S.Source.left c.loop.source) c.read_body.new.w (g.S.Source.left c.read_body.new.source) (c.in_ok-body.body, c.in_ok-body.starts) (omega arith) c.loop.invariant.collecting e.0 c.in_ok-body.ensures.free c.in_ok-body.ensures.count);
+      later = omega (arith, e.2, c.loop.invariant.later);
+      ready = rw c.in_ok-push.ensures.ok (All-push IsReadyBody c.loop.bodies c.in_ok-body.body c.loop.invariant.ready c.in_ok-body.ensures.ready);
+    }
 
 pub returns-clause-value : goal.returns-clause-value
 returns-clause-value g c = (
   collected c.args.sizes.now c.args.count c.args.w.now (g.S.Source.left c.args.source.now) (c.args.count - c.loop.counter) c.loop.has_body c.loop.bodies c.loop.places c.loop.w (g.S.Source.left c.loop.source)
-      (omega arith) c.requires.fresh c.loop.invariant.0,
+      (omega arith) c.requires.fresh c.loop.invariant.collecting,
   (λ e h. absurd (let k = c.requires.fresh in cc)),
-  c.loop.invariant.1,
+  c.loop.invariant.later,
   (λ k h. absurd cc),
 )
 
 pub returns-clause-places : goal.returns-clause-places
-returns-clause-places g c = c.loop.invariant.0.placed
+returns-clause-places g c = c.loop.invariant.collecting.placed

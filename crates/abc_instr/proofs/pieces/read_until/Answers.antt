@@ -1,12 +1,14 @@
-use Rattle.std.proofs.Common.{◌-◌, ◌<◌, ◌≤◌, ℕ, arith}
+use Rattle.std.proofs.Common.{◌-◌, ◌<◌, ◌≤◌, ℕ, ◌∷◌, [], arith}
 use Rattle.std.proofs.lemmas.List.Elements.{All-push}
 use Rattle.std.proofs.lemmas.Result.{err_from_is_err_and}
 use Rattle.abc_format.specs.Ends.{blamed}
 use Rattle.abc_varint.proofs.Fill.{fill_goes_on, fill_ends, fill_done}
 use Rattle.abc_tables.specs.Instructions.{RawInstr, instruction, pieces}
 use Rattle.abc_tables.proofs.CodeParts.{instruction-exact, instruction-some}
+use Rattle.abc_tables.proofs.Lengths.{len-append}
 use Rattle.abc_instr.specs.Offsets.{raw_of, pieces_of}
 use Rattle.abc_instr.proofs.Growing.{grown_pieces, grown_starts}
+use Rattle.abc_instr.proofs.Resolved.{raw_push}
 use Rattle.abc_instr.proofs.pieces.read_until.Goals as goal
 use Rattle.abc_instr.proofs.pieces.read_until.Goals.{else-loop-test, then-loop-test+then-place-end}
 
@@ -28,6 +30,9 @@ loop-preserved g c =
       grown = rw (c.in_ok-push-2.ensures.ok, c.in_ok-push-3.ensures.ok, c.place-next.ensures.is, c.place-first.ensures.is) grown;
       each = rw (c.in_ok-push-2.ensures.ok, c.in_ok-push-3.ensures.ok, c.place-next.ensures.is, c.place-first.ensures.is, same) each;
       room = omega arith;
+      raw = rw c.in_ok-push-2.ensures.ok (raw_push c.loop.instrs c.in_ok-instr.instr c.loop.invariant.raw c.in_ok-instr.ensures.raw);
+      few = rw c.in_ok-push-2.ensures.ok (omega (arith, len-append c.loop.instrs (c.in_ok-instr.instr ∷ []), c.loop.invariant.few, c.in_ok-instr.ensures.passes.0));
+      within = omega (arith, c.in_ok-instr.ensures.passes.1, c.loop.invariant.filling.end);
       later = omega arith;
     }
 

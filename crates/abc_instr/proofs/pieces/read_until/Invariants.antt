@@ -1,9 +1,10 @@
-use Rattle.std.proofs.Common.{◌≤◌, ◌<◌, ◌^◌}
+use Rattle.std.proofs.Common.{◌+◌, ◌≤◌, ◌<◌, ◌^◌}
 use Rattle.std.specs.Prelude.{All}
 use Rattle.abc_format.specs.Ends.{blamed}
 use Rattle.abc_varint.proofs.Fill.{Filling}
+use Rattle.abc_tables.specs.CodeBytes.{code_len}
 use Rattle.abc_tables.specs.Instructions.{instruction}
-use Rattle.abc_instr.specs.Offsets.{pieces_of}
+use Rattle.abc_instr.specs.Offsets.{pieces_of, AreRaw}
 use Rattle.abc_instr.proofs.Growing.{Grown}
 use Rattle.abc_instr.proofs.pieces.read_until.Given as goal
 
@@ -13,5 +14,8 @@ invariant-loop g l = record {
   grown : Grown l.instrs l.starts l.initial.w.place l.w.place;
   each : All (λ p. 0 < p.1) (pieces_of l.instrs l.starts);
   room : l.w.place ≤ 2 ^ 24;
+  raw : AreRaw l.instrs;
+  few : l.initial.w.place + code_len l.instrs ≤ l.w.place;
+  within : l.w.place ≤ l.initial.w.place + l.byte_count;
   later : g.S.Source.faults l.initial.source ≤ g.S.Source.faults l.source;
 }

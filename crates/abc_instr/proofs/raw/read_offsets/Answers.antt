@@ -1,27 +1,35 @@
-use Rattle.std.proofs.Common.{◌-◌, ◌+◌, ◌∷◌, [], map, arith}
+use Rattle.std.proofs.Common.{◌-◌, ◌+◌, ◌^◌, ◌∷◌, [], length-append, map, arith}
 use Rattle.std.proofs.lemmas.List.{map-append}
 use Rattle.std.proofs.lemmas.Result.{err_from_is_err_and}
 use Rattle.abc_format.specs.Numbers.{s24}
 use Rattle.abc_varint.specs.declared.error.ReadError.TheVariants as errors
 use Rattle.abc_varint.proofs.Loop.{goes_on, ends, other_err}
 use Rattle.abc_instr.specs.Offsets.{offset_of}
+use Rattle.abc_instr.proofs.Resolved.{up_to_push}
 use Rattle.abc_instr.proofs.raw.read_offsets.Goals as goal
 
-pub returns-in_err-offset : goal.returns-in_err-offset
-returns-in_err-offset g c =
+pub returns-in_err-offset-clause-value : goal.returns-in_err-offset-clause-value
+returns-in_err-offset-clause-value g c =
     let p = err_from_is_err_and c.from_residual.result c.from_residual.ensures.1 in
-    let e = c.in_err-offset.ensures in
+    let e = c.in_err-offset.ensures.value in
+    let before = c.loop.invariant in
     rw (p.1, p.2) (
-      (λ k t. ends c.in_err-offset.field-0.0 s24 c.args.count (c.args.count - c.loop.counter) (map offset_of c.loop.offsets) _ _ _ _ (omega arith) c.loop.invariant.0 e.0 t),
+      (λ k t. ends c.in_err-offset.field-0.0 s24 c.args.count (c.args.count - c.loop.counter) (map offset_of c.loop.offsets) _ _ _ _ (omega arith) before.going e.0 t),
       (λ e h. absurd (let k = c.requires in cc)),
-      omega (arith, c.loop.invariant.1, e.2),
-      (λ k h. let r = e.3 c.loop.invariant.0.fresh (other_err c.in_err-offset.field-0.0 errors.ReadFault h) in omega (arith, c.loop.invariant.1, r)),
+      omega (arith, before.later, e.2),
+      (λ k h. let r = e.3 before.going.fresh (other_err c.in_err-offset.field-0.0 errors.ReadFault h) in omega (arith, before.later, r)),
     )
 
 pub loop-preserved : goal.loop-preserved
 loop-preserved g c =
-    let e = c.in_ok-offset.ensures in (
-      rw (c.in_ok-push.ensures.ok, map-append offset_of c.loop.offsets (c.in_ok-offset.offset ∷ []))
-          (goes_on s24 c.args.count (c.args.count - c.loop.counter) (c.args.count - (c.loop.counter + 1)) (map offset_of c.loop.offsets) _ _ _ _ _ _ _ (omega arith) c.loop.invariant.0 e.0),
-      omega (arith, c.loop.invariant.1, e.2),
-    )
+    let e = c.in_ok-offset.ensures.value in
+    let now = c.in_ok-offset.ensures.passes in
+    let before = c.loop.invariant in
+    record {
+      going = rw (c.in_ok-push.ensures.ok, map-append offset_of c.loop.offsets (c.in_ok-offset.offset ∷ []))
+          (goes_on s24 c.args.count (c.args.count - c.loop.counter) (c.args.count - (c.loop.counter + 1)) (map offset_of c.loop.offsets) _ _ _ _ _ _ _ (omega arith) before.going e.0);
+      later = omega (arith, before.later, e.2);
+      count = rw c.in_ok-push.ensures.ok (omega (arith, length-append c.loop.offsets (c.in_ok-offset.offset ∷ []), before.count));
+      each = rw c.in_ok-push.ensures.ok (up_to_push (2 ^ 32) c.loop.offsets c.in_ok-offset.offset before.each (omega arith));
+      passes = λ h. let p = before.passes h in (omega (arith, p.0, now.0), omega (arith, now.1, before.going.ends_at));
+    }

@@ -4,6 +4,7 @@ use Rattle.abc_format.specs.declared.reason.Reason.TheVariants as reasons
 use Rattle.abc_tables.proofs.Resolving.{missed_within}
 use Rattle.abc_instr.specs.Offsets.{pieces_in}
 use Rattle.abc_instr.proofs.Growing.{grown_found}
+use Rattle.abc_instr.proofs.Resolved.{resolved_ready}
 use Rattle.abc_instr.proofs.read.read_whole.Goals as goal
 
 pub resolve_all-requires-clause-rising : goal.resolve_all-requires-clause-rising
@@ -23,6 +24,13 @@ returns-in-Ok-clause-rising g c = let p = c.in_ok-pieces.pieces in let e = c.in_
 
 pub returns-in-Ok-clause-few : goal.returns-in-Ok-clause-few
 returns-in-Ok-clause-few g c = let p = c.in_ok-pieces.pieces in let e = c.in_ok-pieces.ensures in (grown_found p.instrs p.starts e.starts e.size e.each).few
+
+-- what got its targets can be put
+pub returns-in-Ok-clause-ready : goal.returns-in-Ok-clause-ready
+returns-in-Ok-clause-ready g c =
+    let p = c.in_ok-pieces.pieces in
+    let e = c.in_ok-pieces.ensures in
+    resolved_ready p.starts p.instrs c.resolve_all.new.instrs e.count c.in-Ok.ensures.count c.in-Ok.ensures.value e.raw (omega (arith, e.few, c.in_ok-length.ensures.small))
 
 -- where the target that was missed stands
 pub overflow_add-first : goal.overflow_add-first

@@ -1,0 +1,107 @@
+-- What was read and got its targets can be put.
+use Rattle.std.proofs.Common.{◌≡◌, ℕ, zero, suc, ℤ, pos, negsuc, ◌+◌, ◌-◌, ◌*◌, ◌^◌, ◌<◌, ◌≤◌, List, [], ◌∷◌, ◌++◌, length, map, nat_eq, Ok, Err, Some, None, refl, sym, ap, subst, ◌∙◌, arith}
+use Rattle.std.proofs.lemmas.List.{length-map}
+use Rattle.std.proofs.lemmas.List.Quantifiers.{position-Some}
+use Rattle.std.specs.declared.option.Option.{Option}
+use Rattle.abc_format.specs.Part.{◌>>=◌}
+use Rattle.abc_format.proofs.Exact.{bind_ok}
+use Rattle.abc_tables.specs.declared.code.Instr.{Instr}
+use Rattle.abc_tables.specs.declared.code.Instr.TheVariants as instrs
+use Rattle.abc_tables.specs.CodeBytes.{code_len, instr_len}
+use Rattle.abc_tables.specs.Ready.{AllCanSpell, AllUpTo, CanSpell, IsReady}
+use Rattle.abc_tables.specs.Targets.{at_start, cases_of, found, instr_of, instrs_of, target_of}
+use Rattle.abc_instr.specs.Offsets.{AreRaw, IsRaw, offset_of, pieces_of, raw_of}
+
+-- ---- targets
+
+at_start_within : (ss : List ℕ) (z : ℤ) (t : ℕ) → at_start ss z ≡ Some t → t < length ss
+at_start_within ss (pos n) t e = (position-Some (λ s. nat_eq s n) ss t 0 e).0
+at_start_within ss (negsuc n) t e = absurd cc
+
+found_is : (place : ℕ) (o : Option ℕ) (t : ℕ) → found place o ≡ Ok t → o ≡ Some t
+found_is place (Some u) t e = cc
+found_is place None t e = absurd cc
+
+target_within : (ss : List ℕ) (place base : ℕ) (z : ℤ) (n t : ℕ) → length ss ≡ suc n → found place (target_of ss base z) ≡ Ok t → t ≤ n
+target_within ss place base z n t count e = omega (arith, at_start_within ss _ t (found_is place (target_of ss base z) t e))
+
+record Within (n : ℕ) (zs : List ℤ) (ts : List ℕ) : Type 0 where
+  count : length ts ≡ length zs
+  each : AllUpTo n ts
+
+cases_within : (ss : List ℕ) (base next n : ℕ) (zs : List ℤ) (ts : List ℕ) → length ss ≡ suc n → cases_of ss base next zs ≡ Ok ts → Within n zs ts
+cases_within ss base next n [] ts count e = let same : [] ≡ ts = cc in subst (Within n []) same (record { count = refl; each = tt })
+cases_within ss base next n (z ∷ zs) ts count e =
+    let place = next - 3 * suc (length zs) in
+    let a = bind_ok (found place (target_of ss base z)) (λ t. cases_of ss base next zs >>= λ us. Ok (t ∷ us)) ts e in
+    let b = bind_ok (cases_of ss base next zs) (λ us. Ok (a.0 ∷ us)) ts a.2 in
+    let rest = cases_within ss base next n zs b.0 count b.1 in
+    let same : a.0 ∷ b.0 ≡ ts = let h = b.2 in cc in
+    subst (Within n (z ∷ zs)) same (record { count = ap suc rest.count; each = (target_within ss place base z n a.0 count a.1, rest.each) })
+
+-- ---- instructions
+
+-- It is as long as it was, and its targets are numbers of the n instructions or of the end.
+record Set (n : ℕ) (i j : Instr) : Type 0 where
+  can : CanSpell n j
+  len : instr_len j ≡ instr_len i
+
+stays : (n : ℕ) (i j : Instr) → CanSpell n i → i ≡ j → Set n i j
+stays n i j can same = subst (Set n i) same (record { can = can; len = refl })
+
+instr_set : (ss : List ℕ) (here next n : ℕ) (i j : Instr) → length ss ≡ suc n → instr_of ss here next (raw_of i) ≡ Ok j → IsRaw i → Set n i j
+instr_set ss here next n (instrs.Plain op) j count e raw = stays n (instrs.Plain op) j raw cc
+instr_set ss here next n (instrs.One op x) j count e raw = stays n (instrs.One op x) j raw cc
+instr_set ss here next n (instrs.Two op x y) j count e raw = stays n (instrs.Two op x y) j raw cc
+instr_set ss here next n (instrs.Branch op t) j count e raw =
+    let a = bind_ok (found (here + 1) (target_of ss next (offset_of t))) (λ u. Ok (instrs.Branch op u)) j e in
+    let same : instrs.Branch op a.0 ≡ j = let h = a.2 in cc in
+    subst (Set n (instrs.Branch op t)) same (record { can = (raw.0, target_within ss (here + 1) next (offset_of t) n a.0 count a.1); len = refl })
+instr_set ss here next n (instrs.Switch t ts) j count e raw =
+    let zs = map offset_of ts in
+    let a = bind_ok (found (here + 1) (target_of ss here (offset_of t))) (λ u. cases_of ss here next zs >>= λ us. Ok (instrs.Switch u us)) j e in
+    let b = bind_ok (cases_of ss here next zs) (λ us. Ok (instrs.Switch a.0 us)) j a.2 in
+    let w = cases_within ss here next n zs b.0 count b.1 in
+    let many : length b.0 ≡ length ts = w.count ∙ length-map ts offset_of in
+    let same : instrs.Switch a.0 b.0 ≡ j = let h = b.2 in cc in
+    subst (Set n (instrs.Switch t ts)) same (record {
+      can = (target_within ss (here + 1) here (offset_of t) n a.0 count a.1, w.each, omega (arith, many, raw.2), omega (arith, many, raw.3));
+      len = rw many refl;
+    })
+instr_set ss here next n (instrs.Byte z) j count e raw = stays n (instrs.Byte z) j raw cc
+instr_set ss here next n (instrs.Short z) j count e raw = stays n (instrs.Short z) j raw cc
+instr_set ss here next n (instrs.ScopeObject x) j count e raw = stays n (instrs.ScopeObject x) j raw cc
+instr_set ss here next n (instrs.Debug kind name reg extra) j count e raw = stays n (instrs.Debug kind name reg extra) j raw cc
+
+record AllSet (n : ℕ) (is js : List Instr) : Type 0 where
+  can : AllCanSpell n js
+  len : code_len js ≡ code_len is
+
+instrs_set : (ss : List ℕ) (here n : ℕ) (is : List Instr) (os : List ℕ) (js : List Instr) → length ss ≡ suc n → length os ≡ suc (length is) → instrs_of ss here (pieces_of is os) ≡ Ok js → AreRaw is → AllSet n is js
+instrs_set ss here n [] os js count even e raw = let same : [] ≡ js = cc in subst (AllSet n []) same (record { can = tt; len = refl })
+instrs_set ss here n (i ∷ is) [] js count even e raw = absurd (omega arith)
+instrs_set ss here n (i ∷ is) (o ∷ []) js count even e raw = absurd (omega arith)
+instrs_set ss here n (i ∷ is) (o ∷ p ∷ os) js count even e raw =
+    let next = here + (p - o) in
+    let more = instrs_of ss next (pieces_of is (p ∷ os)) in
+    let a = bind_ok (instr_of ss here next (raw_of i)) (λ x. more >>= λ xs. Ok (x ∷ xs)) js e in
+    let b = bind_ok more (λ xs. Ok (a.0 ∷ xs)) js a.2 in
+    let one = instr_set ss here next n i a.0 count a.1 raw.0 in
+    let rest = instrs_set ss next n is (p ∷ os) b.0 count (omega arith) b.1 raw.1 in
+    let same : a.0 ∷ b.0 ≡ js = let h = b.2 in cc in
+    subst (AllSet n (i ∷ is)) same (record { can = (one.can, rest.can); len = omega (arith, one.len, rest.len) })
+
+pub resolved_ready : (ss : List ℕ) (is js : List Instr) → length ss ≡ length is + 1 → length js ≡ length is → instrs_of ss 0 (pieces_of is ss) ≡ Ok js → AreRaw is → code_len is < 2 ^ 23 → IsReady js
+resolved_ready ss is js count even e raw short =
+    let a = instrs_set ss 0 (length js) is ss js (omega arith) (omega arith) e raw in
+    record { can = a.can; short = omega (arith, a.len) }
+
+-- ---- one more, as a loop reads it
+
+pub raw_push : (is : List Instr) (i : Instr) → AreRaw is → IsRaw i → AreRaw (is ++ i ∷ [])
+raw_push [] i raw one = (one, tt)
+raw_push (x ∷ is) i raw one = (raw.0, raw_push is i raw.1 one)
+
+pub up_to_push : (n : ℕ) (ts : List ℕ) (t : ℕ) → AllUpTo n ts → t ≤ n → AllUpTo n (ts ++ t ∷ [])
+up_to_push n [] t all le = (le, tt)
+up_to_push n (x ∷ ts) t all le = (all.0, up_to_push n ts t all.1 le)
