@@ -1,3 +1,4 @@
 pub mod Alike
 pub mod Chaining
 pub mod Collecting
+pub mod Passing

@@ -5,11 +5,13 @@
 mod body;
 mod handlers;
 mod laws;
+mod pass;
 mod places;
 mod put;
 mod read;
 
 pub use laws::bodies_law;
+pub use pass::pass_bodies;
 pub use places::Places;
 pub use put::put_bodies;
 pub use read::read_bodies;

@@ -54,7 +54,7 @@ fn put_fields(
     Ok(())
 }
 
-fn put_body(alloc: Global, body: &Body, out: &mut Vec<u8>) -> Result<(), NoMemory>
+pub fn put_body(alloc: Global, body: &Body, out: &mut Vec<u8>) -> Result<(), NoMemory>
     requires { IsReadyBody body.now }
     ensures { Puts out.old.items out.new.items result (body_bytes body.now) }
 {

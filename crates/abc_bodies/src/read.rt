@@ -16,7 +16,7 @@ use abc_varint::{ReadError, Window, read_u30};
 use std::alloc::Global;
 
 /// So many flags, all down.
-fn flags_down(alloc: Global, count: u32) -> Result<Table<bool>, NoMemory>
+pub fn flags_down(alloc: Global, count: u32) -> Result<Table<bool>, NoMemory>
     ensures { IfOk result (λ flags. flags ≡ replicate count false) }
 {
     let mut flags = Table::new(alloc);

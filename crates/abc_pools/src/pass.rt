@@ -1,5 +1,5 @@
 ghost use Rattle.std.specs.Prelude.{◌≡◌, ◌≤◌, ℕ, [], ◌∷◌, ◌++◌, None, Some, Err, length};
-ghost use Rattle.abc_tables.specs.Classes.{sizes_of};
+ghost use Rattle.abc_tables.specs.Classes.{sizes_with};
 ghost use Rattle.abc_tables.specs.Pools.{pools as spelled_pools, pools_bytes};
 ghost use Rattle.abc_varint.specs.Passes.{Passes, PassesPart};
 
@@ -20,7 +20,7 @@ pub fn pass_pools<S: Source>(
     source: &mut S,
     out: &mut Vec<u8>,
 ) -> Result<Sizes, ReadError>
-    ensures { PassesPart S.left S.faults spelled_pools pools_bytes sizes_of w.old source.old w.new source.new out.old.items out.new.items result }
+    ensures { PassesPart S.left S.faults spelled_pools pools_bytes (λ v. sizes_with v 0 0 0) w.old source.old w.new source.new out.old.items out.new.items result }
 {
     let ints = pass_pool(&Signed32, alloc, w, source, out)?;
     let uints = pass_pool(&Number32, alloc, w, source, out)?;

@@ -1,12 +1,15 @@
 -- Definitions apart from the pools beside them.
-use Rattle.std.specs.Prelude.{ℕ, length}
+use Rattle.std.specs.Prelude.{ℕ, List, ◌++◌, length}
+use Rattle.std.specs.List.{flat_map}
+use Rattle.abc_base.specs.Numbers.{number_bytes}
+use Rattle.abc_format.specs.Canonical.{counted_bytes}
 use Rattle.abc_format.specs.Part.{Part, then_by, both, image}
 use Rattle.abc_format.specs.Numbers.{u30}
 use Rattle.abc_format.specs.Lists.{times, counted}
 use Rattle.abc_tables.specs.declared.tables.Abc.{Abc}
 use Rattle.abc_tables.specs.declared.tables.Sizes.{Sizes}
-use Rattle.abc_tables.specs.Methods.{method, metadata}
-use Rattle.abc_tables.specs.Classes.{instance, class_info, script}
+use Rattle.abc_tables.specs.Methods.{method, method_bytes, metadata, metadata_bytes}
+use Rattle.abc_tables.specs.Classes.{instance, instance_bytes, class_info, class_bytes, script, script_bytes}
 use Rattle.abc_traits.specs.declared.definitions.Definitions.{Definitions}
 
 -- an Abc whose later tables are these
@@ -24,3 +27,13 @@ tables pools =
     then_by (counted (metadata pools)) (λ metadata.
     then_by u30 (λ classes. let v = sizes_within pools (length methods) (length metadata) classes in
     both (times classes (instance v)) (both (times classes (class_info v)) (counted (script v)))))))
+
+-- the bytes of the five tables
+abbrev pub tables_bytes : Definitions → List ℕ
+tables_bytes d =
+    counted_bytes method_bytes d.methods ++ counted_bytes metadata_bytes d.metadata ++ number_bytes (length d.classes) ++ flat_map instance_bytes d.instances
+    ++ flat_map class_bytes d.classes ++ counted_bytes script_bytes d.scripts
+
+-- the sizes of all tables that indices name, beside pools of these sizes
+abbrev pub sizes_beside : Sizes → Definitions → Sizes
+sizes_beside pools d = sizes_within pools (length d.methods) (length d.metadata) (length d.classes)

@@ -1,5 +1,5 @@
 use Rattle.std.proofs.Common.{arith, append_assoc, refl, ◌∙◌, []}
-use Rattle.abc_tables.specs.Classes.{sizes_of}
+use Rattle.abc_tables.specs.Classes.{sizes_with}
 use Rattle.abc_tables.specs.Pools.{pools, pools_bytes, namespace_set}
 use Rattle.abc_pools.proofs.pass.pass_pools.Goals as goal
 

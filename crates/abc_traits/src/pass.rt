@@ -1,0 +1,62 @@
+ghost use Rattle.std.specs.Prelude.{◌≡◌, ◌≤◌, ℕ, [], ◌∷◌, ◌++◌, None, Some, Err, IfOk, length};
+ghost use Rattle.std.specs.List.{flat_map};
+ghost use Rattle.abc_format.specs.Canonical.{counted_bytes};
+ghost use Rattle.abc_format.specs.Lists.{times, counted};
+ghost use Rattle.abc_format.specs.Part.{both};
+ghost use Rattle.abc_tables.specs.Classes.{instance, instance_bytes, class_info, class_bytes, script, script_bytes};
+ghost use Rattle.abc_traits.specs.Definitions.{tables, tables_bytes, sizes_beside};
+ghost use Rattle.abc_varint.specs.Passes.{Passes, PassesPart};
+ghost use Rattle.abc_varint.specs.Reads.{Reads, ReadsPart};
+
+use crate::classes::{ClassCodec, InstanceCodec, ScriptCodec};
+use crate::methods::{MetadataCodec, MethodCodec};
+use abc_base::Source;
+use abc_tables::Sizes;
+use abc_varint::{ReadError, Window, pass_counted, pass_times, put_u30, read_u30};
+use std::alloc::Global;
+
+/// Passes as many instances as classes, and scripts, over tables of these sizes. Gives how many classes there are.
+fn pass_classes<S: Source>(
+    alloc: Global,
+    w: &mut Window,
+    source: &mut S,
+    sizes: &Sizes,
+    count: u32,
+    out: &mut Vec<u8>,
+) -> Result<u32, ReadError>
+    requires { w.old.kept ≡ None }
+    ensures value { PassesPart S.left S.faults (both (times count (instance sizes.now)) (both (times count (class_info sizes.now)) (counted (script sizes.now)))) (λ x. flat_map instance_bytes x.0 ++ flat_map class_bytes x.1.0 ++ counted_bytes script_bytes x.1.1) (λ x. length x.1.0) w.old source.old w.new source.new out.old.items out.new.items result }
+    ensures count { IfOk result (λ n. n ≡ count) }
+{
+    pass_times(&InstanceCodec(*sizes), alloc, w, source, count, out)?;
+    pass_times(&ClassCodec(*sizes), alloc, w, source, count, out)?;
+    pass_counted(&ScriptCodec(*sizes), alloc, w, source, out)?;
+    Ok(count)
+}
+
+/// Reads the definitions beside pools of these sizes, as `read_definitions` does, and appends the canonical bytes of each
+/// field before the next is read. None is kept: gives how many entries the tables have. After an Err any bytes may follow
+/// the old ones.
+#[tactic(auto, unfolding(crate::specs::Definitions::tables))]
+pub fn pass_definitions<S: Source>(
+    alloc: Global,
+    w: &mut Window,
+    source: &mut S,
+    pools: &Sizes,
+    out: &mut Vec<u8>,
+) -> Result<Sizes, ReadError>
+    ensures { PassesPart S.left S.faults (tables pools.now) tables_bytes (sizes_beside pools.now) w.old source.old w.new source.new out.old.items out.new.items result }
+{
+    let methods = pass_counted(&MethodCodec(*pools), alloc, w, source, out)?;
+    let metadata = pass_counted(&MetadataCodec(*pools), alloc, w, source, out)?;
+    let count = read_u30(w, source)?;
+    put_u30(count, out)?;
+    let sizes = Sizes {
+        methods,
+        metadata,
+        classes: count,
+        ..*pools
+    };
+    pass_classes(alloc, w, source, &sizes, count, out)?;
+    Ok(sizes)
+}
