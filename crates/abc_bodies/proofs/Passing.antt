@@ -6,9 +6,12 @@ use Rattle.std.specs.declared.option.Option.{Option}
 use Rattle.std.proofs.lemmas.List.{append-nil, flat_map_more, length-replicate, map-append}
 use Rattle.std.proofs.lemmas.Option.{slice_get_within}
 use Rattle.abc_format.specs.Lists.{chain}
+use Rattle.abc_format.specs.Part.{At, ◌>>=◌}
 use Rattle.abc_tables.specs.declared.code.Body.{Body}
 use Rattle.abc_tables.specs.declared.tables.Sizes.{Sizes}
-use Rattle.abc_tables.specs.Bodies.{body_bytes, methods_of}
+use Rattle.abc_tables.specs.declared.tables.Abc.{Abc}
+use Rattle.abc_tables.specs.Bodies.{bodies, body_bytes, body_list, methods_of}
+use Rattle.abc_tables.specs.Classes.{sizes_of}
 use Rattle.abc_varint.specs.declared.error.ReadError.{ReadError}
 use Rattle.abc_varint.specs.Passes.{Passes}
 use Rattle.abc_varint.specs.View.{View}
@@ -68,3 +71,13 @@ module _ (v : Sizes) (total : ℕ) (w0 : View) (s0 : Option (List ℕ)) (old : L
   passed more flags new w s k fresh g =
       let r = chain_done (next_body v) total more g.before w0 s0 w s k fresh g.chained in
       (r.0, r.1, r.2, r.3, λ t. let a = r.4 t in (a.0, record { value = g.before; read = a.1; bytes = g.bytes; tells = omega (arith, k, g.many) }))
+
+-- ---- bodies beside the other tables
+
+-- an Abc with these bodies, and the starts of their instructions
+abbrev pub beside : Abc → List (Body × List ℕ) → Abc × List (List ℕ)
+beside abc xs = (record abc { bodies = map (λ x. x.0) xs }, map (λ x. x.1) xs)
+
+pub filled : (abc : Abc) (v : Sizes) (from : At) → v ≡ sizes_of abc → (bodies abc).reads from ≡ ((body_list v).reads from >>= λ x. Ok (beside abc x.0, x.1))
+unfolding bodies
+filled abc v from same = rw same refl

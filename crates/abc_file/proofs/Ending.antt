@@ -41,17 +41,6 @@ pub more_follows : (w w2 : View) (s s2 : Option (List ℕ)) (v : Abc × List (Li
 more_follows w w2 None s2 v e n r t = tt
 more_follows w w2 (Some b) s2 v e n r t = more w w2 b s2 v e n r t
 
-pub either : (w w2 : View) (s s2 : Option (List ℕ)) (v : Abc × List (List ℕ)) (r : Result (Abc × List (List ℕ)) ReadError) → IsNew w → Reads file_read.reads w s w2 s2 (Ok v)
-    → IfOk r (λ x. (x ≡ v) × (tells s2 ≡ true → (stand w2 s2).bytes ≡ [])) → IfErr r (λ e. IsTrailing w2 s2 e) → IfSome s (λ b. AnswersFile b r)
-either w w2 s s2 v (Ok x) n reads ended trailing = rw ended.0 (all_read w w2 s s2 v n reads ended.1)
-either w w2 s s2 v (Err e) n reads ended trailing = more_follows w w2 s s2 v e n reads trailing
-
--- what was read is answered as it is, or an Err
-pub still_ready : (w : View) (s : Option (List ℕ)) (v : Abc × List (List ℕ)) (r : Result (Abc × List (List ℕ)) ReadError) → All IsReadyBody (v.0).bodies
-    → IfOk r (λ x. (x ≡ v) × (tells s ≡ true → (stand w s).bytes ≡ [])) → IfOk r (λ x. All IsReadyBody (x.0).bodies)
-still_ready w s v (Ok x) ready ended = rw ended.0 ready
-still_ready w s v (Err e) ready ended = tt
-
 no_rest : (held rest : List ℕ) → held ++ rest ≡ [] → rest ≡ []
 no_rest held [] e = refl
 no_rest held (x ∷ rest) e = absurd (omega (arith, ap length e, length-append held (x ∷ rest)))
@@ -61,11 +50,6 @@ left_none w w2 b None none told same = absurd (let e = told in cc)
 left_none w w2 b (Some rest) none told same = ap (λ (l : List ℕ). Some l) (no_rest w2.held rest (ap (λ (a : At). a.bytes) same ∙ none))
 
 -- nothing of the input is left where nothing follows the file
-pub used_up : (w w2 : View) (s s2 : Option (List ℕ)) (done : Bool) (v : Abc × List (List ℕ)) (e : ReadError) (r : Result (Abc × List (List ℕ)) ReadError) → (tells s ≡ true → (IsTrue done ↔ ((stand w s).bytes ≡ [])))
-    → (tells s ≡ true → (tells s2 ≡ true) × (stand w2 s2 ≡ stand w s)) → r ≡ (if done then Ok v else Err e) → OnOk r (IsUsedUp s s2)
-used_up w w2 None s2 done v e (Ok x) value same is = tt
-used_up w w2 None s2 done v e (Err d) value same is = tt
-used_up w w2 (Some b) s2 true v e (Ok x) value same is = left_none w w2 b s2 ((value refl).0 refl) (same refl).0 (same refl).1
-used_up w w2 (Some b) s2 true v e (Err d) value same is = tt
-used_up w w2 (Some b) s2 false v e (Ok x) value same is = absurd (let h = is in cc)
-used_up w w2 (Some b) s2 false v e (Err d) value same is = tt
+pub used_up : (w w2 : View) (s s2 : Option (List ℕ)) → (tells s ≡ true → (stand w s).bytes ≡ []) → (tells s ≡ true → (tells s2 ≡ true) × (stand w2 s2 ≡ stand w s)) → IsUsedUp s s2
+used_up w w2 None s2 none same = tt
+used_up w w2 (Some b) s2 none same = left_none w w2 b s2 (none refl) (same refl).0 (same refl).1

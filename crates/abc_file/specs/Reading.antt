@@ -9,7 +9,7 @@ use Rattle.abc_varint.specs.declared.error.ReadError.TheVariants as errors
 use Rattle.abc_varint.specs.Reads.{stand, tells}
 use Rattle.abc_format.specs.declared.reason.Reason.TheVariants as reasons
 use Rattle.abc_tables.specs.declared.tables.Abc.{Abc}
-use Rattle.abc_tables.specs.Files.{IsFileRead, IsBadFile}
+use Rattle.abc_tables.specs.Files.{IsFile, IsFileRead, IsBadFile, file_bytes}
 
 -- an accepted value is spelled by all the bytes, with its instructions where the places say; a refusal is their first fault
 abbrev pub AnswersFile : List ℕ → Result (Abc × List (List ℕ)) ReadError → Type 0
@@ -35,3 +35,15 @@ abbrev pub IsTrailing : View → Option (List ℕ) → ReadError → Type 0
 IsTrailing w left (errors.Refused place reason) = (place ≡ w.place) × (reason ≡ reasons.Trailing) × (tells left ≡ true → (stand w left).bytes ≢ [])
 IsTrailing w left errors.ReadFault = Unit {0}
 IsTrailing w left errors.NoMemory = ⊥
+
+-- they are the canonical bytes of the file that the input spells
+abbrev pub IsCanonicalOf : Option (List ℕ) → List ℕ → Type 0
+IsCanonicalOf None bytes = Unit {0}
+IsCanonicalOf (Some input) bytes = (v : Abc) × IsFile v input × (bytes ≡ file_bytes v)
+
+-- a refusal is the first fault of the input
+abbrev pub IsFaultOf : Option (List ℕ) → ReadError → Type 0
+IsFaultOf None e = Unit {0}
+IsFaultOf (Some input) (errors.Refused place reason) = IsBadFile input (refusal place reason)
+IsFaultOf (Some input) errors.ReadFault = Unit {0}
+IsFaultOf (Some input) errors.NoMemory = Unit {0}

@@ -1,11 +1,14 @@
 //! The whole file: read from any source, refused at its first fault, and written in its canonical bytes.
 #![tactic(auto)]
 
+mod canon;
 mod laws;
 mod reading;
+mod rest;
 mod writing;
 
 pub use abc_bodies::Places;
 pub use laws::{canonical_form, one_reading, reading_gives_the_file};
+pub use canon::canonical;
 pub use reading::read;
 pub use writing::write;

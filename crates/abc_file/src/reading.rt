@@ -9,6 +9,7 @@ ghost use Rattle.abc_varint.specs.Reads.{ReadsPart, stand, tells};
 ghost use Rattle.abc_varint.specs.declared.error.ReadError.{ReadError};
 
 use abc_base::Source;
+use crate::rest::read_nothing_more;
 use abc_bodies::{Places, read_bodies};
 use abc_pools::read_pools;
 use abc_tables::Abc;
@@ -37,7 +38,7 @@ fn read_version_number<S: Source>(
 
 /// The version: minor 16, major 46. It is refused by `Version` at the number that differs.
 #[tactic(auto, unfolding(abc_tables::specs::Files::version))]
-fn read_version<S: Source>(w: &mut Window, source: &mut S) -> Result<(u16, u16), ReadError>
+pub fn read_version<S: Source>(w: &mut Window, source: &mut S) -> Result<(u16, u16), ReadError>
     ensures { ReadsPart S.left S.faults version w.old source.old w.new source.new result }
 {
     let minor = read_version_number(w, source, 16)?;
@@ -63,39 +64,6 @@ fn read_parts<S: Source>(
     Ok((abc, places))
 }
 
-/// The file, where nothing follows it.
-fn complete(file: (Abc, Places), done: bool, place: u32) -> Result<(Abc, Places), ReadError>
-    ensures { result ≡ (if done then Ok file else Err (ReadError.Refused place Reason.Trailing)) }
-{
-    if done {
-        Ok(file)
-    } else {
-        Err(ReadError::Refused {
-            place,
-            reason: Reason::Trailing,
-        })
-    }
-}
-
-/// The file that was read, where nothing follows it.
-fn read_nothing_more<S: Source>(
-    w: &mut Window,
-    source: &mut S,
-    file: (Abc, Places),
-) -> Result<(Abc, Places), ReadError>
-    requires { w.old.kept ≡ None }
-    ensures ended { IfOk result (λ v. (v ≡ file) × (tells (S.left source.old) ≡ true → ((stand w.old (S.left source.old)).bytes ≡ []))) }
-    ensures trailing { IfErr result (λ e. IsTrailing w.old (S.left source.old) e) }
-    ensures end { OnOk result (IsUsedUp (S.left source.old) (S.left source.new)) }
-    ensures later { S.faults source.old ≤ S.faults source.new }
-    ensures cause { result ≡ Err ReadError.ReadFault → Rose (S.faults source.old) (S.faults source.new) }
-{
-    match w.is_at_end(source) {
-        Ok(done) => complete(file, done, w.place()),
-        Err(e) => Err(e),
-    }
-}
-
 /// The file, and nothing after it.
 #[tactic(auto, using(crate::proofs::Ending::all_refused, crate::proofs::Ending::all_read, crate::proofs::Ending::more_follows))]
 fn read_to_end<S: Source>(
@@ -110,10 +78,9 @@ fn read_to_end<S: Source>(
     ensures later { S.faults source.old ≤ S.faults source.new }
     ensures cause { result ≡ Err ReadError.ReadFault → Rose (S.faults source.old) (S.faults source.new) }
 {
-    match read_parts(alloc, w, source) {
-        Ok(file) => read_nothing_more(w, source, file),
-        Err(e) => Err(e),
-    }
+    let file = read_parts(alloc, w, source)?;
+    read_nothing_more(w, source)?;
+    Ok(file)
 }
 
 /// Reads a file to the input's end, and gives where the instructions of its bodies began. It is refused at its first

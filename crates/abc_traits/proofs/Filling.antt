@@ -2,7 +2,7 @@
 use Rattle.std.proofs.Common.{◌≡◌, ℕ, ◌^◌, length, List, Ok, Err, refl, sym, subst, ◌∙◌, min, arith}
 use Rattle.std.specs.declared.result.Result.{Result}
 use Rattle.std.specs.declared.option.Option.{Option}
-use Rattle.abc_format.specs.Part.{Part, image}
+use Rattle.abc_format.specs.Part.{At, Part, image, ◌>>=◌}
 use Rattle.abc_format.specs.Numbers.{u30}
 use Rattle.abc_tables.specs.declared.tables.Abc.{Abc}
 use Rattle.abc_tables.specs.declared.tables.Sizes.{Sizes}
@@ -80,3 +80,7 @@ fills_ok abc pools w s w2 s2 d same h = fills abc w s w2 s2 (Ok d) (subst (λ (v
 pub fills_err : (abc : Abc) (pools : Sizes) (w : View) (s : Option (List ℕ)) (w2 : View) (s2 : Option (List ℕ)) (e : ReadError)
     → pools ≡ capped (sizes_with abc 0 0 0) → Reads (tables pools).reads w s w2 s2 (Err e) → Reads (definitions abc).reads w s w2 s2 (Err e)
 fills_err abc pools w s w2 s2 e same h = fills abc w s w2 s2 (Err e) (subst (λ (v : Sizes). Reads (tables v).reads w s w2 s2 (Err e)) same h)
+
+-- the definitions beside an Abc's pools are read as the tables are, and fill it
+pub filled : (abc : Abc) (pools : Sizes) (from : At) → pools ≡ sizes_with abc 0 0 0 → (definitions abc).reads from ≡ ((tables pools).reads from >>= λ x. Ok (with_definitions abc x.0, x.1))
+filled abc pools from same = sym ((definitions_alike abc).same from) ∙ rw same refl

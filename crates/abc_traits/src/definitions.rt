@@ -20,12 +20,13 @@ use std::alloc::Global;
 
 /// The tables that definitions fill.
 #[derive(Drop)]
-struct Definitions {
-    methods: Table<Method>,
-    metadata: Table<Metadata>,
-    instances: Table<Instance>,
-    classes: Table<ClassInfo>,
-    scripts: Table<Script>,
+pub struct Definitions {
+    pub methods: Table<Method>,
+    pub metadata: Table<Metadata>,
+    /// As many as classes.
+    pub instances: Table<Instance>,
+    pub classes: Table<ClassInfo>,
+    pub scripts: Table<Script>,
 }
 
 /// The sizes of the pools, with no methods, metadata or classes.

@@ -12,7 +12,7 @@ mod pass;
 mod sizes;
 mod traits;
 
-pub use definitions::{put_definitions, read_definitions};
+pub use definitions::{Definitions, put_definitions, read_definitions};
 pub use laws::definitions_law;
 pub use pass::pass_definitions;
 pub use sizes::sizes_of;

@@ -1,12 +1,16 @@
-use Rattle.abc_file.proofs.Ending.{all_refused, either, still_ready}
+use Rattle.std.proofs.lemmas.Result.{err_from_is_err_and}
+use Rattle.abc_file.proofs.Ending.{all_read, all_refused, more_follows}
 use Rattle.abc_file.proofs.reading.read_to_end.Goals as goal
 
-pub returns-in-Ok-clause-answers : goal.returns-in-Ok-clause-answers
-returns-in-Ok-clause-answers g c = either _ _ _ _ _ _ c.requires c.in-Ok.ensures.value.0 c.read_nothing_more.ensures.ended c.read_nothing_more.ensures.trailing
+pub returns-clause-answers : goal.returns-clause-answers
+returns-clause-answers g c = all_read c.args.w.now c.read_parts.new.w (g.S.Source.left c.args.source.now) (g.S.Source.left c.read_parts.new.source) c.in_ok-file.file c.requires c.in_ok-file.ensures.value.0 c.in_ok-read_nothing_more.ensures.ended
 
-pub returns-in-Ok-clause-ready : goal.returns-in-Ok-clause-ready
-returns-in-Ok-clause-ready g c = still_ready c.read_parts.new.w (g.S.Source.left c.read_parts.new.source) c.in-Ok.file c.read_nothing_more.result c.in-Ok.ensures.ready c.read_nothing_more.ensures.ended
+pub returns-in_err-file-clause-answers : goal.returns-in_err-file-clause-answers
+returns-in_err-file-clause-answers g c =
+    let p = err_from_is_err_and c.from_residual.result c.from_residual.ensures.1 in
+    rw (p.1, p.2) (all_refused c.args.w.now c.read_parts.new.w (g.S.Source.left c.args.source.now) (g.S.Source.left c.read_parts.new.source) c.in_err-file.field-0.0 c.requires c.in_err-file.ensures.value.0)
 
-pub returns-in-Err-clause-answers : goal.returns-in-Err-clause-answers
-returns-in-Err-clause-answers g c =
-    all_refused c.args.w.now c.read_parts.new.w (g.S.Source.left c.args.source.now) (g.S.Source.left c.read_parts.new.source) c.in-Err.e c.requires c.in-Err.ensures.value.0
+pub returns-in_err-read_nothing_more-clause-answers : goal.returns-in_err-read_nothing_more-clause-answers
+returns-in_err-read_nothing_more-clause-answers g c =
+    let p = err_from_is_err_and c.from_residual-in_err-read_nothing_more.result c.from_residual-in_err-read_nothing_more.ensures.1 in
+    rw (p.1, p.2) (more_follows c.args.w.now c.read_parts.new.w (g.S.Source.left c.args.source.now) (g.S.Source.left c.read_parts.new.source) c.in_ok-file.file c.in_err-read_nothing_more.field-0.0 c.requires c.in_ok-file.ensures.value.0 c.in_err-read_nothing_more.ensures.trailing)
