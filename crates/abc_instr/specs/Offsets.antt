@@ -25,7 +25,7 @@ raw_of (instrs.Short z) = Same (instrs.Short z)
 raw_of (instrs.ScopeObject x) = Same (instrs.ScopeObject x)
 raw_of (instrs.Debug kind name reg extra) = Same (instrs.Debug kind name reg extra)
 
--- Some bytes spell it, but for its targets, in whose places stand any 32 bits.
+-- Some bytes spell it, but for its targets: in their places stand numbers of at most 2^32, as any 32 bits are.
 abbrev pub IsRaw : Instr → Type 0
 IsRaw = CanSpell (2 ^ 32)
 
