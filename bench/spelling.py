@@ -24,7 +24,7 @@ def longer(value, length):
 
 
 def varied(rng, value):
-    """A number below 2^30, one time in four in more bytes than it needs."""
+    """A number below 2^30, at times in more bytes than it needs."""
     return longer(value, rng.choice((0, 0, 0, 0, 0, 0, 0, 0, 0, 2, 3, 5)))
 
 

@@ -5,6 +5,27 @@ use crate::fault::{Answer, Fault, Reason};
 /// No instruction starts there.
 const NONE: u32 = u32::MAX;
 
+/// What follows each opcode, sixteen a line: nothing (0), a u30 (1), two (2), the offset of a branch (b), a switch (s), a
+/// byte (y), the number of `pushshort` (h), or the fields of `debug` (d); no instruction has the opcodes of the dots.
+const FORMS: &[u8; 256] = b"\
+    ..00111010..bbbb\
+    bbbbbbbbbbbs0000\
+    00.0yh0000001111\
+    012.............\
+    11122220012.2.22\
+    .....110111..11.\
+    11110y1.1.1.1111\
+    000000000.......\
+    1.0..010........\
+    00101000........\
+    0000000000000000\
+    00100...........\
+    00110000........\
+    00000000........\
+    ...............d\
+    11..............\
+";
+
 /// An offset that was copied and has to be mended.
 struct Offset {
     /// Its first byte in the input.
@@ -67,86 +88,31 @@ impl Code {
     #[inline(always)]
     fn instruction(&mut self, c: &mut Canon, first: usize) -> Answer<()> {
         let here = c.at;
-        match c.u8()? {
-            // Nothing follows.
-            0x02
-            | 0x03
-            | 0x07
-            | 0x09
-            | 0x1c..=0x21
-            | 0x23
-            | 0x26..=0x2b
-            | 0x30
-            | 0x47
-            | 0x48
-            | 0x57
-            | 0x64 => {}
-            0x70..=0x78
-            | 0x82
-            | 0x85
-            | 0x87
-            | 0x90
-            | 0x91
-            | 0x93
-            | 0x95..=0x97
-            | 0xa0..=0xb1
-            | 0xb3
-            | 0xb4 => {}
-            0xc0 | 0xc1 | 0xc4..=0xc7 | 0xd0..=0xd7 => {}
-            // A u30.
-            0x04..=0x06
-            | 0x08
-            | 0x2c..=0x2f
-            | 0x31
-            | 0x40..=0x42
-            | 0x49
-            | 0x55
-            | 0x56
-            | 0x58..=0x5a
-            | 0x5d
-            | 0x5e
-            | 0x60..=0x63
-            | 0x66
-            | 0x68
-            | 0x6a
-            | 0x6c..=0x6f
-            | 0x80
-            | 0x86
-            | 0x92
-            | 0x94
-            | 0xb2
-            | 0xc2
-            | 0xc3
-            | 0xf0
-            | 0xf1 => {
+        match FORMS[c.u8()? as usize] {
+            b'0' => {}
+            b'1' => {
                 c.u30()?;
             }
-            // Two u30.
-            0x32 | 0x43..=0x46 | 0x4a | 0x4c | 0x4e | 0x4f => {
+            b'2' => {
                 c.u30()?;
                 c.u30()?;
             }
-            // A branch.
-            0x0c..=0x1a => self.offset(c, here + 4 - first)?,
-            // lookupswitch
-            0x1b => {
+            b'b' => self.offset(c, here + 4 - first)?,
+            b's' => {
                 self.offset(c, here - first)?;
                 let cases = c.u30()?;
                 for _ in 0..cases + 1 {
                     self.offset(c, here - first)?;
                 }
             }
-            // pushbyte, getscopeobject
-            0x24 | 0x65 => {
+            b'y' => {
                 c.u8()?;
             }
-            // pushshort
-            0x25 => {
+            b'h' => {
                 let value = c.raw()?;
                 c.put(u32::from(value as u16));
             }
-            // debug
-            0xef => {
+            b'd' => {
                 c.u8()?;
                 c.u30()?;
                 c.u8()?;
