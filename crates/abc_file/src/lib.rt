@@ -3,6 +3,8 @@
 
 mod laws;
 mod reading;
+#[cfg(test)]
+mod tests;
 mod writing;
 
 pub use abc_bodies::Places;
