@@ -34,6 +34,8 @@ const READ_FAULT: &[u8] = b"abc: read fault\n";
 
 const WRITE_FAULT: &[u8] = b"abc: write fault\n";
 
+const NOT_BUILT: &[u8] = b"abc: not built\n";
+
 /// A run: its words and its input, how many bytes its streams move at once, the calls of the source and of the output
 /// that fail, and the room for the output and for the line.
 #[derive(Clone, Copy)]
@@ -365,71 +367,63 @@ fn longest_file(rt: HostRuntime) -> Result<(), Fail> {
     Ok(())
 }
 
-/// Words that are answered by a line, whatever the input is.
-const WORDS: [(&[&[u8]], Status, &[u8]); 15] = [
-    (&[], Status::Usage, b"abc: usage: no command\n"),
-    (&[b""], Status::Usage, b"abc: usage: \n"),
-    (&[b"canonize"], Status::Usage, b"abc: usage: canonize\n"),
-    (
-        &[b"can\"on\n"],
-        Status::Usage,
-        b"abc: usage: can\\22on\\0a\n",
-    ),
-    (
-        &[b"canon", b"--fuel=1"],
-        Status::Usage,
-        b"abc: usage: --fuel=1\n",
-    ),
-    (
-        &[b"run", b"--fuel=01"],
-        Status::Usage,
-        b"abc: usage: --fuel=01\n",
-    ),
+/// Words outside the grammar, and their line.
+const FAULTY_WORDS: [(&[&[u8]], &[u8]); 10] = [
+    (&[], b"abc: usage: no command\n"),
+    (&[b""], b"abc: usage: \n"),
+    (&[b"canonize"], b"abc: usage: canonize\n"),
+    (&[b"can\"on\n"], b"abc: usage: can\\22on\\0a\n"),
+    (&[b"canon", b"--fuel=1"], b"abc: usage: --fuel=1\n"),
+    (&[b"run", b"--fuel=01"], b"abc: usage: --fuel=01\n"),
     (
         &[b"run", b"--fuel=1", b"--fuel=1"],
-        Status::Usage,
         b"abc: usage: --fuel=1\n",
     ),
     (
         &[b"run", b"--fuel=4294967296"],
-        Status::Usage,
         b"abc: usage: --fuel=4294967296\n",
     ),
     (
-        &[b"run", b"--fuel=1", b"--steps=1", b"--fuel=x"],
-        Status::Usage,
+        &[b"run", b"--steps=1", b"--fuel=x"],
         b"abc: usage: --steps=1\n",
     ),
-    (
-        &[b"gen", b"--methods=0"],
-        Status::Usage,
-        b"abc: usage: --methods=0\n",
-    ),
-    (&[b"dis"], Status::NotBuilt, b"abc: not built\n"),
-    (&[b"asm"], Status::NotBuilt, b"abc: not built\n"),
-    (&[b"check"], Status::NotBuilt, b"abc: not built\n"),
-    (
-        &[b"run", b"--fuel=4294967295"],
-        Status::NotBuilt,
-        b"abc: not built\n",
-    ),
-    (
-        &[b"gen", b"--methods=10000"],
-        Status::NotBuilt,
-        b"abc: not built\n",
-    ),
+    (&[b"gen", b"--methods=0"], b"abc: usage: --methods=0\n"),
 ];
 
 #[test]
-fn words_with_a_line(rt: HostRuntime) -> Result<(), Fail> {
-    for piece in PIECES {
-        for (words, status, line) in WORDS {
-            let run = Run {
-                words,
-                ..canon(EMPTY, piece)
-            };
-            ends(&rt, "words", run, told(status, line))?;
-        }
+fn faulty_words(rt: HostRuntime) -> Result<(), Fail> {
+    for (words, line) in FAULTY_WORDS {
+        let run = Run {
+            words,
+            ..canon(EMPTY, 7)
+        };
+        ends(&rt, "faulty_words", run, told(Status::Usage, line))?;
+    }
+    Ok(())
+}
+
+/// The words of commands that are not built yet.
+const OTHER_COMMANDS: [&[&[u8]]; 5] = [
+    &[b"dis"],
+    &[b"asm"],
+    &[b"check"],
+    &[b"run", b"--fuel=4294967295"],
+    &[b"gen", b"--methods=10000"],
+];
+
+#[test]
+fn other_commands(rt: HostRuntime) -> Result<(), Fail> {
+    for words in OTHER_COMMANDS {
+        let run = Run {
+            words,
+            ..canon(EMPTY, 7)
+        };
+        ends(
+            &rt,
+            "other_commands",
+            run,
+            told(Status::NotBuilt, NOT_BUILT),
+        )?;
     }
     Ok(())
 }
@@ -506,7 +500,7 @@ fn full_line<R: Abort + AllocGlobal>(rt: &R, piece: usize, k: u8) -> Result<(), 
                 words: &[b"dis"],
                 ..run
             },
-            told(Status::NotBuilt, b"abc: not built\n"),
+            told(Status::NotBuilt, NOT_BUILT),
         ),
         (short, told(Status::Refused, b"abc: byte 15: Short\n")),
         (
