@@ -392,12 +392,14 @@ const FAULTY_WORDS: [(&[&[u8]], &[u8]); 10] = [
 
 #[test]
 fn faulty_words(rt: HostRuntime) -> Result<(), Fail> {
-    for (words, line) in FAULTY_WORDS {
-        let run = Run {
-            words,
-            ..canon(EMPTY, 7)
-        };
-        ends(&rt, "faulty_words", run, told(Status::Usage, line))?;
+    for piece in PIECES {
+        for (words, line) in FAULTY_WORDS {
+            let run = Run {
+                words,
+                ..canon(EMPTY, piece)
+            };
+            ends(&rt, "faulty_words", run, told(Status::Usage, line))?;
+        }
     }
     Ok(())
 }
