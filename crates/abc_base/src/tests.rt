@@ -139,9 +139,17 @@ fn lists(rt: HostRuntime) -> Result<(), Fail> {
     bytes.push(b'c')?;
     bytes.extend_from_slice(b"de")?;
     assert_eq!(rt; bytes.as_slice(), b"abcde".as_slice());
+    assert_eq!(rt; bytes.len(), 5);
+    bytes.set(4, b'f');
+    assert_eq!(rt; *bytes.get(4), b'f');
     let mut table = Table::new(rt.alloc());
     table.push(7u32)?;
     assert_eq!(rt; table.as_slice(), [7].as_slice());
+    assert_eq!(rt; table.len(), 1);
+    table.set(0, 9);
+    assert_eq!(rt; *table.get(0), 9);
+    assert_eq!(rt; table.find(0).copied(), Some(9));
+    assert_eq!(rt; table.fetch(1), None);
     Ok(())
 }
 
