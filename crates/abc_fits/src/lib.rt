@@ -1,0 +1,12 @@
+//! How many bytes the canonical bytes of a file have, and whether some bytes spell it. Neither takes memory.
+#![tactic(auto)]
+
+mod body_lengths;
+mod definition_lengths;
+mod laws;
+mod lengths;
+mod pool_lengths;
+mod total;
+
+pub use laws::canonical_length;
+pub use total::canon_len;
