@@ -3,6 +3,8 @@
 
 mod body_lengths;
 mod definition_lengths;
+mod fitting_pools;
+mod indices;
 mod laws;
 mod lengths;
 mod pool_lengths;
