@@ -3,3 +3,7 @@ pub mod CanonicalLength
 pub mod Places
 pub mod Combined
 pub mod PoolsFit
+pub mod MethodsFit
+pub mod TraitsFit
+pub mod ClassesFit
+pub mod DefinitionsFit

@@ -1,14 +1,26 @@
 -- Which values of each part some bytes spell.
-use Rattle.std.specs.Prelude.{ℕ, ℤ, List, []}
-use Rattle.abc_format.specs.Lists.{pool, text}
+use Rattle.std.specs.Prelude.{ℕ, ℤ, List, [], length, None}
+use Rattle.std.specs.declared.option.Option.{Option}
+use Rattle.abc_format.specs.Lists.{counted, pool, text, times}
 use Rattle.abc_format.specs.Numbers.{entry_index, index_below, pool_index, s32, u30, u32}
-use Rattle.abc_format.specs.Part.{Part}
+use Rattle.abc_format.specs.Part.{Part, image, when}
+use Rattle.abc_tables.specs.declared.classes.ClassInfo.{ClassInfo}
+use Rattle.abc_tables.specs.declared.classes.Instance.{Instance}
+use Rattle.abc_tables.specs.declared.classes.Script.{Script}
+use Rattle.abc_tables.specs.declared.methods.Metadata.{Metadata}
+use Rattle.abc_tables.specs.declared.methods.Method.{Method}
+use Rattle.abc_tables.specs.declared.methods.OptionValue.{OptionValue}
 use Rattle.abc_tables.specs.declared.names.Multiname.{Multiname}
 use Rattle.abc_tables.specs.declared.names.Namespace.{Namespace}
 use Rattle.abc_tables.specs.declared.tables.Abc.{Abc}
 use Rattle.abc_tables.specs.declared.tables.Eight.{Eight}
 use Rattle.abc_tables.specs.declared.tables.Sizes.{Sizes}
+use Rattle.abc_tables.specs.declared.traits.TraitBody.{TraitBody}
+use Rattle.abc_tables.specs.declared.traits.TraitInfo.{TraitInfo}
+use Rattle.abc_tables.specs.Classes.{class_info, definitions, instance, script, some_index}
+use Rattle.abc_tables.specs.Methods.{has_flag, metadata, method, option_value, options}
 use Rattle.abc_tables.specs.Pools.{double, multiname, namespace, namespace_set, pools}
+use Rattle.abc_tables.specs.Traits.{slot_value, trait_fields, trait_info, trait_kind_in}
 
 -- Some bytes spell x.
 pub record Spelled {A : Type 0} (p : Part A) (x : A) : Type 0 where
@@ -79,3 +91,64 @@ pools_alone v = record v { methods = []; metadata = []; instances = []; classes 
 
 unfoldable pub FitPools : Abc → Type 0
 FitPools v = Spelled pools (pools_alone v)
+
+-- ---- methods and metadata
+
+unfoldable pub FitsOption : Sizes → OptionValue → Type 0
+FitsOption v o = Spelled (option_value v) o
+
+-- the optional values of a method, which a flag asks for
+unfoldable pub FitOptions : Sizes → Method → Type 0
+FitOptions v m = Spelled (when (has_flag m.flags 0x08) [] (options v (length m.params))) m.options
+
+-- the names of its parameters, which a flag asks for
+unfoldable pub FitParamNames : Method → Type 0
+FitParamNames m = Spelled (when (has_flag m.flags 0x80) [] (times (length m.params) u30)) m.param_names
+
+unfoldable pub FitsMethod : Sizes → Method → Type 0
+FitsMethod v m = Spelled (method v) m
+
+unfoldable pub FitsMetadata : Sizes → Metadata → Type 0
+FitsMetadata v m = Spelled (metadata v) m
+
+-- ---- traits
+
+unfoldable pub FitsSlotValue : Sizes → Option OptionValue → Type 0
+FitsSlotValue v o = Spelled (slot_value v) o
+
+unfoldable pub FitsTraitFields : Sizes → TraitBody → Type 0
+FitsTraitFields v t = Spelled (trait_fields v (trait_kind_in t)) t
+
+-- the metadata of a trait, which an attribute asks for
+unfoldable pub FitsTraitMetadata : Sizes → TraitInfo → Type 0
+FitsTraitMetadata v t = Spelled (when (has_flag t.attrs 4) [] (counted (index_below v.metadata))) t.metadata
+
+unfoldable pub FitsTrait : Sizes → TraitInfo → Type 0
+FitsTrait v t = Spelled (trait_info v) t
+
+unfoldable pub FitTraits : Sizes → List TraitInfo → Type 0
+FitTraits v ts = Spelled (counted (trait_info v)) ts
+
+-- ---- classes and scripts
+
+-- the protected namespace of an instance, which a flag asks for
+unfoldable pub FitsProtected : Sizes → Instance → Type 0
+FitsProtected v i = Spelled (when (has_flag i.flags 0x08) None (image some_index (pool_index v.namespaces))) i.protected_ns
+
+unfoldable pub FitsInstance : Sizes → Instance → Type 0
+FitsInstance v i = Spelled (instance v) i
+
+unfoldable pub FitsClass : Sizes → ClassInfo → Type 0
+FitsClass v c = Spelled (class_info v) c
+
+unfoldable pub FitsScript : Sizes → Script → Type 0
+FitsScript v s = Spelled (script v) s
+
+-- ---- all definitions
+
+-- a value without its bodies
+abbrev pub without_bodies : Abc → Abc
+without_bodies v = record v { bodies = [] }
+
+unfoldable pub FitDefinitions : Abc → Type 0
+FitDefinitions v = Spelled (definitions (pools_alone v)) (without_bodies v)

@@ -112,7 +112,7 @@ fn are_multinames(names: &[Multiname], sizes: &Sizes) -> bool
 
 /// Whether some bytes spell the pools.
 #[tactic(auto, using(crate::proofs::PoolsFit::pools_fit))]
-pub fn fits_pools(abc: &Abc, sizes: &Sizes) -> bool
+pub fn fit_pools(abc: &Abc, sizes: &Sizes) -> bool
     requires { sizes.now ≡ all_sizes abc.now }
     ensures { IsTrue result ↔ FitPools abc.now }
 {

@@ -3,6 +3,7 @@
 
 mod body_lengths;
 mod definition_lengths;
+mod fitting_definitions;
 mod fitting_pools;
 mod indices;
 mod laws;
