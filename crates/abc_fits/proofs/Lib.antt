@@ -7,3 +7,5 @@ pub mod MethodsFit
 pub mod TraitsFit
 pub mod ClassesFit
 pub mod DefinitionsFit
+pub mod Chains
+pub mod BodiesFit

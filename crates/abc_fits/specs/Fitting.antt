@@ -1,5 +1,5 @@
 -- Which values of each part some bytes spell.
-use Rattle.std.specs.Prelude.{ℕ, ℤ, List, [], length, None}
+use Rattle.std.specs.Prelude.{◌≢◌, ℕ, ℤ, List, [], length, None}
 use Rattle.std.specs.declared.option.Option.{Option}
 use Rattle.abc_format.specs.Lists.{counted, pool, text, times}
 use Rattle.abc_format.specs.Numbers.{entry_index, index_below, pool_index, s32, u30, u32}
@@ -7,6 +7,8 @@ use Rattle.abc_format.specs.Part.{Part, image, when}
 use Rattle.abc_tables.specs.declared.classes.ClassInfo.{ClassInfo}
 use Rattle.abc_tables.specs.declared.classes.Instance.{Instance}
 use Rattle.abc_tables.specs.declared.classes.Script.{Script}
+use Rattle.abc_tables.specs.declared.code.Body.{Body}
+use Rattle.abc_tables.specs.declared.code.Handler.{Handler}
 use Rattle.abc_tables.specs.declared.methods.Metadata.{Metadata}
 use Rattle.abc_tables.specs.declared.methods.Method.{Method}
 use Rattle.abc_tables.specs.declared.methods.OptionValue.{OptionValue}
@@ -17,7 +19,10 @@ use Rattle.abc_tables.specs.declared.tables.Eight.{Eight}
 use Rattle.abc_tables.specs.declared.tables.Sizes.{Sizes}
 use Rattle.abc_tables.specs.declared.traits.TraitBody.{TraitBody}
 use Rattle.abc_tables.specs.declared.traits.TraitInfo.{TraitInfo}
+use Rattle.abc_tables.specs.Bodies.{bodies_alone, body_with}
 use Rattle.abc_tables.specs.Classes.{class_info, definitions, instance, script, some_index}
+use Rattle.abc_tables.specs.CodeBytes.{canonical_starts}
+use Rattle.abc_tables.specs.Files.{file}
 use Rattle.abc_tables.specs.Methods.{has_flag, metadata, method, option_value, options}
 use Rattle.abc_tables.specs.Pools.{double, multiname, namespace, namespace_set, pools}
 use Rattle.abc_tables.specs.Traits.{slot_value, trait_fields, trait_info, trait_kind_in}
@@ -152,3 +157,33 @@ without_bodies v = record v { bodies = [] }
 
 unfoldable pub FitDefinitions : Abc → Type 0
 FitDefinitions v = Spelled (definitions (pools_alone v)) (without_bodies v)
+
+-- ---- bodies
+
+-- Its numbers are spelled by some bytes.
+pub record HasSizes (b : Body) : Type 0 where
+  pub max_stack : IsNumber b.max_stack
+  pub local_count : IsNumber b.local_count
+  pub init_scope : IsNumber b.init_scope
+  pub max_scope : IsNumber b.max_scope
+
+-- Its type and its name are spelled by some bytes.
+pub record HasNames (v : Sizes) (h : Handler) : Type 0 where
+  pub exc_type : IsPoolIndex v.names h.exc_type
+  pub var_name : IsPoolIndex v.names h.var_name
+
+-- a body by itself, whatever other bodies there are
+unfoldable pub FitsBody : Sizes → Body → Type 0
+FitsBody v b = Spelled (body_with v (index_below v.methods)) (b, canonical_starts b.code)
+
+-- two bodies of different methods
+abbrev pub Differ : Body → Body → Type 0
+Differ x y = x.method ≢ y.method
+
+unfoldable pub FitBodies : Abc → Type 0
+FitBodies v = Spelled (bodies_alone (without_bodies v)) v
+
+-- ---- the whole file
+
+unfoldable pub FitsTables : Abc → Type 0
+FitsTables v = Spelled file v
