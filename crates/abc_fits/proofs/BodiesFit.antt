@@ -23,8 +23,9 @@ use Rattle.abc_tables.specs.Ready.{IsReady}
 use Rattle.abc_tables.proofs.BodiesReady.{code_count, handler_within}
 use Rattle.abc_tables.proofs.BodiesShortest.{canonical_rising, code_again, code_ready, place_spelled}
 use Rattle.abc_tables.proofs.Lengths.{canonical_count, canonical_small}
-use Rattle.abc_fits.specs.Fitting.{Differ, FitBodies, FitTraits, FitsBody, HasNames, HasSizes, IsNumber, IsPoolIndex, IsPosition, Spelled}
-use Rattle.abc_fits.proofs.Combined.{counted_spelled, number_fits}
+use Rattle.abc_fits.specs.Distinct.{Differ}
+use Rattle.abc_fits.specs.Fitting.{FitBodies, FitTraits, FitsBody, HasNames, HasSizes, IsNumber, IsPoolIndex, IsPosition, Spelled}
+use Rattle.abc_fits.proofs.Combined.{counted_spelled, number_fits, position_fits}
 use Rattle.abc_fits.proofs.Chains.{Follow, chain_spelled, chained, pairs_before, pairs_map}
 
 -- ---- handlers
@@ -256,3 +257,7 @@ bodies_fit v = (
       let same : v ≡ record v { bodies = map (λ (x : Read). x.0) (map anew v.bodies) } = ap (λ (bs : List Body). let w : Abc = record v { bodies = bs } in w) (sym (bodies_again v.bodies)) in
       record { bytes = l.bytes; is = ((record v { bodies = map (λ (x : Read). x.0) (map anew v.bodies) }, map (λ (x : Read). x.1) (map anew v.bodies)), (map anew v.bodies, l.is, refl), same) },
 )
+
+-- each method is in its table
+pub methods_below : (v : Sizes) (bs : List Body) → All (FitsBody v) bs → All (λ b. b.method < v.methods) bs
+methods_below v bs all = λ k d lt. ((position_fits v.methods (get_or bs k d).method).0 ((body_fits v (get_or bs k d)).0 (all k d lt)).0).0

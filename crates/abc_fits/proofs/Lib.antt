@@ -9,3 +9,5 @@ pub mod ClassesFit
 pub mod DefinitionsFit
 pub mod Chains
 pub mod BodiesFit
+pub mod Windows
+pub mod FileFits

@@ -171,6 +171,10 @@ uints_fit xs each =
     let all : All (Spelled u32) xs = λ k d less. subst (Spelled u32) (sym (get_or_default xs k d 0 less)) (u32_spelled (get_or xs k 0) (each k)) in
     (λ s. (p.0 s).0, λ lt. p.1 (lt, all))
 
+pub uints_few : (xs : List ℕ) → FitUints xs → length xs + 1 < 2 ^ 30
+unfolding FitUints
+uints_few xs s = ((pool_spelled u32 xs).0 s).0
+
 pub doubles_fit : (xs : List Eight) → FitDoubles xs ↔ ((length xs + 1 < 2 ^ 30) × All FitsDouble xs)
 unfolding FitDoubles FitsDouble
 doubles_fit xs = pool_spelled double xs

@@ -1,5 +1,5 @@
 -- Which values of each part some bytes spell.
-use Rattle.std.specs.Prelude.{◌≢◌, ℕ, ℤ, List, [], length, None}
+use Rattle.std.specs.Prelude.{◌<◌, ◌^◌, ℕ, ℤ, List, [], length, None}
 use Rattle.std.specs.declared.option.Option.{Option}
 use Rattle.abc_format.specs.Lists.{counted, pool, text, times}
 use Rattle.abc_format.specs.Numbers.{entry_index, index_below, pool_index, s32, u30, u32}
@@ -176,14 +176,23 @@ pub record HasNames (v : Sizes) (h : Handler) : Type 0 where
 unfoldable pub FitsBody : Sizes → Body → Type 0
 FitsBody v b = Spelled (body_with v (index_below v.methods)) (b, canonical_starts b.code)
 
--- two bodies of different methods
-abbrev pub Differ : Body → Body → Type 0
-Differ x y = x.method ≢ y.method
-
 unfoldable pub FitBodies : Abc → Type 0
 FitBodies v = Spelled (bodies_alone (without_bodies v)) v
 
 -- ---- the whole file
+
+-- Each table that indices name has a number of entries that some bytes spell.
+pub record AreFew (v : Abc) : Type 0 where
+  pub ints : length v.ints < 2 ^ 30
+  pub uints : length v.uints < 2 ^ 30
+  pub doubles : length v.doubles < 2 ^ 30
+  pub strings : length v.strings < 2 ^ 30
+  pub namespaces : length v.namespaces < 2 ^ 30
+  pub sets : length v.sets < 2 ^ 30
+  pub names : length v.names < 2 ^ 30
+  pub methods : length v.methods < 2 ^ 30
+  pub metadata : length v.metadata < 2 ^ 30
+  pub classes : length v.classes < 2 ^ 30
 
 unfoldable pub FitsTables : Abc → Type 0
 FitsTables v = Spelled file v

@@ -3,6 +3,8 @@
 
 mod body_lengths;
 mod definition_lengths;
+mod fitting;
+mod fitting_bodies;
 mod fitting_definitions;
 mod fitting_pools;
 mod indices;
@@ -11,5 +13,6 @@ mod lengths;
 mod pool_lengths;
 mod total;
 
+pub use fitting::fits;
 pub use laws::canonical_length;
 pub use total::canon_len;
