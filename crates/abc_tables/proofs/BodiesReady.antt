@@ -33,7 +33,7 @@ chain_all P (suc n) p each before xs b s all =
 
 -- ---- bodies
 
-handler_within : (v : Sizes) (ss : List ℕ) (n : ℕ) → length ss ≡ suc n → (h : Handler) (b : List ℕ) → (handler v ss).spells h b → IsWithin n h
+pub handler_within : (v : Sizes) (ss : List ℕ) (n : ℕ) → length ss ≡ suc n → (h : Handler) (b : List ℕ) → (handler v ss).spells h b → IsWithin n h
 unfolding handler
 handler_within v ss n count h b s =
     let x = s.0 in
@@ -43,7 +43,7 @@ handler_within v ss n count h b s =
     let target = place_is ss x.1.1.0 t.4.4.0 t.4.4.3 in
     subst (IsWithin n) (sym s.2) (record { from = omega (arith, from.within); to = omega (arith, to.within); target = omega (arith, target.within) })
 
-code_count : (c : Code) (b : List ℕ) → code.spells c b → length c.offsets ≡ suc (length c.instrs)
+pub code_count : (c : Code) (b : List ℕ) → code.spells c b → length c.offsets ≡ suc (length c.instrs)
 code_count c b s = sym (code_nearer c b s).count ∙ canonical_count c.instrs
 
 body_ready : (v : Sizes) (taken : List ℕ) (y : Body × List ℕ) (b : List ℕ) → (body v taken).spells y b → IsReadyBody y.0

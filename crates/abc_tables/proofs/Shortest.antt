@@ -147,10 +147,10 @@ metadata-canonical v =
 trait_code_back : (k : ℕ) → nat_le k 6 ≡ true → trait_code (trait_kind_of k) ≡ k
 trait_code_back k h = grind (arith, nat_tests)
 
-abbrev kind_byte : TraitKind × ℕ → ℕ
+abbrev pub kind_byte : TraitKind × ℕ → ℕ
 kind_byte k = 16 * (k.1 % 16) + trait_code k.0
 
-kind_byte_low : (a : ℕ) (kind : TraitKind) → (16 * a + trait_code kind) % 16 ≡ trait_code kind
+pub kind_byte_low : (a : ℕ) (kind : TraitKind) → (16 * a + trait_code kind) % 16 ≡ trait_code kind
 kind_byte_low a traits.Slot = omega arith
 kind_byte_low a traits.Method = omega arith
 kind_byte_low a traits.Getter = omega arith
@@ -168,7 +168,7 @@ trait_kind_back traits.Class = refl
 trait_kind_back traits.Function = refl
 trait_kind_back traits.Const = refl
 
-trait_code_low : (kind : TraitKind) → nat_le (trait_code kind) 6 ≡ true
+pub trait_code_low : (kind : TraitKind) → nat_le (trait_code kind) 6 ≡ true
 trait_code_low traits.Slot = refl
 trait_code_low traits.Method = refl
 trait_code_low traits.Getter = refl
@@ -177,10 +177,10 @@ trait_code_low traits.Class = refl
 trait_code_low traits.Function = refl
 trait_code_low traits.Const = refl
 
-abbrev kind_and_attributes : ℕ → TraitKind × ℕ
+abbrev pub kind_and_attributes : ℕ → TraitKind × ℕ
 kind_and_attributes b = (trait_kind_of (b % 16), b / 16 % 16)
 
-kind_byte_back : (kind : TraitKind) (a : ℕ) → a < 16 → (kind, a) ≡ kind_and_attributes (kind_byte (kind, a))
+pub kind_byte_back : (kind : TraitKind) (a : ℕ) → a < 16 → (kind, a) ≡ kind_and_attributes (kind_byte (kind, a))
 kind_byte_back kind a lt =
     let low = kind_byte_low (a % 16) kind in
     let high : (16 * (a % 16) + trait_code kind) / 16 % 16 ≡ a = omega arith in

@@ -33,6 +33,10 @@ file_bytes v = version_bytes ++ pools_bytes v ++ definitions_bytes v ++ bodies_b
 abbrev pub IsFile : Abc → List ℕ → Type 0
 IsFile v b = file.spells v b × (length b ≤ limit)
 
+-- Some bytes spell the file.
+abbrev pub Fits : Abc → Type 0
+Fits v = (b : List ℕ) × IsFile v b
+
 -- The bytes spell the file, and the instructions of its bodies start so in their code.
 abbrev pub IsFileRead : Abc × List (List ℕ) → List ℕ → Type 0
 IsFileRead v b = file_read.spells v b × (length b ≤ limit)

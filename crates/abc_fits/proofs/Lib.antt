@@ -1,0 +1,13 @@
+pub mod Capped
+pub mod CanonicalLength
+pub mod Places
+pub mod Combined
+pub mod PoolsFit
+pub mod MethodsFit
+pub mod TraitsFit
+pub mod ClassesFit
+pub mod DefinitionsFit
+pub mod Chains
+pub mod BodiesFit
+pub mod Windows
+pub mod FileFits

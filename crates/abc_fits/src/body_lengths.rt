@@ -1,0 +1,121 @@
+ghost use Rattle.std.specs.Prelude.{◌≡◌, ◌≤◌, ◌+◌, ◌-◌, ◌^◌, length, min};
+ghost use Rattle.abc_fits.specs.Lengths.{body_len, counted_len, handler_len, place_len};
+ghost use Rattle.abc_fits.specs.Steps.{AreSteps, IsFirstFrom};
+ghost use Rattle.abc_tables.specs.CodeBytes.{canonical_starts, code_len as total, number_len};
+
+use crate::lengths::{Measured, count_bytes, counted_bytes, number_bytes};
+use abc_base::Table;
+use abc_tables::{Body, Handler, Instr, code_len, instr_len};
+
+/// The first places in code whose starts have two, three, four and five bytes in their canonical spelling.
+#[derive(Clone, Copy, Debug)]
+pub struct Steps {
+    pub two: usize,
+    pub three: usize,
+    pub four: usize,
+    pub five: usize,
+}
+
+/// The first place in canonical code, an instruction or the end, that starts at the limit or after it. It is the place
+/// after the end where all start before it.
+fn first_from(code: &Table<Instr>, limit: u32) -> usize
+    ensures { IsFirstFrom code.now limit result }
+{
+    let mut here: u64 = 0;
+    for (i, instr) in code.as_slice().iter().enumerate() {
+        if limit as u64 <= here {
+            return i;
+        }
+        here = here.saturating_add(instr_len(instr));
+    }
+    if limit as u64 <= here {
+        code.len()
+    } else {
+        code.len() + 1
+    }
+}
+
+/// The steps of the code's starts.
+fn steps_of(code: &Table<Instr>) -> Steps
+    ensures { AreSteps code.now result }
+{
+    Steps {
+        two: first_from(code, 1 << 7),
+        three: first_from(code, 1 << 14),
+        four: first_from(code, 1 << 21),
+        five: first_from(code, 1 << 28),
+    }
+}
+
+/// The start of a place in the code that has these steps. A place past the end counts as the start of the code.
+#[tactic(auto, using(crate::proofs::Places::past, crate::proofs::Places::one, crate::proofs::Places::two, crate::proofs::Places::three, crate::proofs::Places::four, crate::proofs::Places::five))]
+fn place_bytes(place: u32, code: &Table<Instr>, steps: &Steps) -> u64
+    requires { AreSteps code.now steps.now }
+    ensures is { result ≡ place_len (canonical_starts code.now) place }
+    ensures bound { result ≤ 5 }
+{
+    let place = place as usize;
+    if place > code.len() {
+        return 1;
+    }
+    if place < steps.two {
+        1
+    } else if place < steps.three {
+        2
+    } else if place < steps.four {
+        3
+    } else if place < steps.five {
+        4
+    } else {
+        5
+    }
+}
+
+fn handler_bytes(handler: &Handler, code: &Table<Instr>, steps: &Steps) -> u64
+    requires { AreSteps code.now steps.now }
+    ensures is { result ≡ handler_len (canonical_starts code.now) handler.now }
+    ensures bound { result ≤ 25 }
+{
+    let from = place_bytes(handler.from, code, steps);
+    let to = place_bytes(handler.to, code, steps);
+    let target = place_bytes(handler.target, code, steps);
+    from + to + target + number_bytes(handler.exc_type) + number_bytes(handler.var_name)
+}
+
+/// The count of handlers, and the handlers. The code is gone through once for each step, and not for each handler.
+#[tactic(auto, using(crate::proofs::Capped::empty_list))]
+fn handlers_bytes(handlers: &Table<Handler>, code: &Table<Instr>) -> u64
+    ensures { result ≡ min (counted_len (handler_len (canonical_starts code.now)) handlers.now) (2 ^ 64 - 1) }
+{
+    if handlers.len() == 0 {
+        return 1;
+    }
+    let steps = steps_of(code);
+    let mut len: u64 = 0;
+    for handler in handlers.as_slice() {
+        len = len.saturating_add(handler_bytes(handler, code, &steps));
+    }
+    count_bytes(handlers.len()).saturating_add(len)
+}
+
+/// How many bytes the instructions have, and that number.
+fn code_bytes(code: &Table<Instr>) -> u64
+    ensures { result ≡ min (number_len (total code.now) + total code.now) (2 ^ 64 - 1) }
+{
+    let len = code_len(code);
+    count_bytes(len as usize).saturating_add(len)
+}
+
+impl Measured for Body {
+    ghost len = { body_len };
+
+    #[tactic(auto, unfolding(crate::specs::Lengths::body_len), using(crate::proofs::Capped::both_capped))]
+    fn canonical_len(&self) -> u64 {
+        let sizes = number_bytes(self.max_stack) + number_bytes(self.local_count);
+        let scopes = number_bytes(self.init_scope) + number_bytes(self.max_scope);
+        (number_bytes(self.method) + sizes + scopes)
+            .saturating_add(code_bytes(&self.code))
+            .saturating_add(handlers_bytes(&self.handlers, &self.code))
+            .saturating_add(counted_bytes(&self.traits))
+    }
+}

@@ -1,0 +1,103 @@
+ghost use Rattle.std.specs.Prelude.{◌≡◌, ◌↔◌, ◌*◌, ◌^◌, ◌<◌, All, AllPairs, IsTrue, false, length};
+ghost use Rattle.abc_fits.specs.Distinct.{Differ, DifferFrom};
+ghost use Rattle.abc_fits.specs.Fitting.{FitBodies, FitsBody, HasNames, HasSizes};
+ghost use Rattle.abc_tables.specs.Classes.{sizes_of as all_sizes};
+
+use crate::fitting_definitions::are_traits;
+use crate::indices::{is_count, is_number, is_pool_index, is_position};
+use abc_tables::{Abc, Body, Handler, Sizes, is_ready_body};
+
+/// How many methods one walk over the bodies looks for.
+const WINDOW: usize = 1 << 14;
+
+/// Whether some bytes spell the four sizes of a body.
+fn has_sizes(body: &Body) -> bool
+    ensures { IsTrue result ↔ HasSizes body.now }
+{
+    is_number(body.max_stack)
+        && is_number(body.local_count)
+        && is_number(body.init_scope)
+        && is_number(body.max_scope)
+}
+
+/// Whether some bytes spell the type and the name of a handler.
+fn has_names(handler: &Handler, sizes: &Sizes) -> bool
+    ensures { IsTrue result ↔ HasNames sizes.now handler.now }
+{
+    is_pool_index(handler.exc_type, sizes.names) && is_pool_index(handler.var_name, sizes.names)
+}
+
+fn have_names(handlers: &[Handler], sizes: &Sizes) -> bool
+    ensures { IsTrue result ↔ All (HasNames sizes.now) handlers.now }
+{
+    handlers.iter().all(|handler| has_names(handler, sizes))
+}
+
+/// Whether some bytes spell the body, whatever other bodies there are.
+#[tactic(auto, using(crate::proofs::BodiesFit::body_fits))]
+fn is_body(body: &Body, sizes: &Sizes) -> bool
+    ensures { IsTrue result ↔ FitsBody sizes.now body.now }
+{
+    is_position(body.method, sizes.methods)
+        && has_sizes(body)
+        && is_ready_body(body)
+        && is_count(body.handlers.len())
+        && have_names(body.handlers.as_slice(), sizes)
+        && are_traits(&body.traits, sizes)
+}
+
+fn are_bodies(bodies: &[Body], sizes: &Sizes) -> bool
+    ensures { IsTrue result ↔ All (FitsBody sizes.now) bodies.now }
+{
+    bodies.iter().all(|body| is_body(body, sizes))
+}
+
+/// Whether no two of the bodies have one method among those from `low` on, as many as there are marks.
+fn are_distinct_from(bodies: &[Body], low: usize, seen: &mut [bool]) -> bool
+    requires { All (λ mark. mark ≡ false) seen.old }
+    ensures { IsTrue result ↔ AllPairs (DifferFrom low (length seen.old)) bodies.now }
+{
+    for body in bodies {
+        let method = body.method as usize;
+        if low <= method && method - low < seen.len() {
+            if seen[method - low] {
+                return false;
+            }
+            seen[method - low] = true;
+        }
+    }
+    true
+}
+
+/// Whether no two of the bodies have one method of this window.
+fn are_distinct_in(bodies: &[Body], window: usize) -> bool
+    requires { window < 2 ^ 32 }
+    ensures { IsTrue result ↔ AllPairs (DifferFrom (window * WINDOW) WINDOW) bodies.now }
+{
+    let mut seen = [false; WINDOW];
+    are_distinct_from(bodies, window * WINDOW, &mut seen)
+}
+
+/// Whether no two of the bodies have one method, where there are so many methods. The bodies are gone through once for
+/// each window of methods.
+fn are_distinct(bodies: &[Body], methods: u32) -> bool
+    requires { All (λ b. b.method < methods) bodies.now }
+    ensures { IsTrue result ↔ AllPairs Differ bodies.now }
+{
+    for window in 0..methods as usize / WINDOW + 1 {
+        if !are_distinct_in(bodies, window) {
+            return false;
+        }
+    }
+    true
+}
+
+/// Whether some bytes spell the bodies.
+#[tactic(auto, using(crate::proofs::BodiesFit::bodies_fit, crate::proofs::BodiesFit::methods_below))]
+pub fn fit_bodies(abc: &Abc, sizes: &Sizes) -> bool
+    requires { sizes.now ≡ all_sizes abc.now }
+    ensures { IsTrue result ↔ FitBodies abc.now }
+{
+    let bodies = abc.bodies.as_slice();
+    is_count(bodies.len()) && are_bodies(bodies, sizes) && are_distinct(bodies, sizes.methods)
+}
