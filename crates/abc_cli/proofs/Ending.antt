@@ -13,12 +13,9 @@ use Rattle.abc_format.specs.declared.reason.Reason.{Reason}
 use Rattle.abc_format.specs.Part.{refusal}
 use Rattle.abc_varint.specs.declared.error.ReadError.{ReadError}
 use Rattle.abc_varint.specs.declared.error.ReadError.TheVariants as errors
-use Rattle.abc_file.specs.Reading.{AnswersFile}
-use Rattle.abc_tables.specs.declared.tables.Abc.{Abc}
-use Rattle.abc_tables.specs.Files.{file_bytes}
-use Rattle.abc_tables.proofs.Whole.{read_spelled}
+use Rattle.abc_file.specs.Reading.{IsCanonicalOf, IsFaultOf}
 use Rattle.abc_words.specs.declared.command.Command.TheVariants as commands
-use Rattle.abc_cli.specs.Canon.{error_answer, IsCanonical, IsFaultOf}
+use Rattle.abc_cli.specs.Canon.{error_answer}
 use Rattle.abc_cli.specs.Lines.{read_fault_text, write_fault_text, no_memory_text}
 use Rattle.abc_cli.specs.Outcome.{Answer, told, given, CanonOutcome, IsCanonStatus, CommandOutcome}
 use Rattle.abc_cli.specs.End.{Channel, channel, Got, GotFront, HasFailed, GivesLine, IsEnd}
@@ -70,10 +67,6 @@ memory_failed P F out err s o (inr g) = at_status P F out err s status.WriteFaul
 
 -- ---- canon
 
-pub canonical_of : (input : Option (List ℕ)) (v : Abc × List (List ℕ)) (old new : List ℕ) → IfSome input (λ b. AnswersFile b (Ok v)) → old ≡ [] → new ≡ old ++ file_bytes v.0 → IsCanonical input new
-canonical_of None v old new f none is = tt
-canonical_of (Some b) v old new f none is = (v.0, (read_spelled v b f.0, f.1), rw (is, none) refl)
-
 refusal_outcome : (input : Option (List ℕ)) (place : ℕ) (reason : Reason) → IsFaultOf input (errors.Refused place reason) → CommandOutcome commands.Canon input (error_answer (errors.Refused place reason))
 refusal_outcome None place reason f = IsCanonStatus.is_refused
 refusal_outcome (Some b) place reason f = CanonOutcome.refused (refusal place reason) f
@@ -85,7 +78,7 @@ error_ends input F out err (errors.Refused place reason) s f cause o g =
 error_ends input F out err errors.ReadFault s f cause o g = read_failed (CommandOutcome commands.Canon input) F out err s (cause refl) o g
 error_ends input F out err errors.NoMemory s f cause o g = memory_failed (CommandOutcome commands.Canon input) F out err s o g
 
-pub bytes_outcome : (input : Option (List ℕ)) (bytes : List ℕ) → IsCanonical input bytes → CommandOutcome commands.Canon input (given bytes)
+pub bytes_outcome : (input : Option (List ℕ)) (bytes : List ℕ) → IsCanonicalOf input bytes → CommandOutcome commands.Canon input (given bytes)
 bytes_outcome None bytes f = IsCanonStatus.is_done
 bytes_outcome (Some b) bytes f = rw f.2 (CanonOutcome.accepted f.0 f.1)
 

@@ -1,6 +1,8 @@
-ghost use Rattle.std.specs.Prelude.{◌≡◌, ◌≤◌, ℕ, [], ◌∷◌, ◌++◌, None, Some, Err, not, nat_eq, if◌then◌else◌};
+ghost use Rattle.std.specs.Prelude.{◌≡◌, ◌≤◌, ℕ, [], ◌∷◌, ◌++◌, None, Some, Err, not, nat_eq, nat_le, if◌then◌else◌};
 ghost use Rattle.abc_format.specs.Lists.{times};
-ghost use Rattle.abc_format.specs.Part.{when};
+ghost use Rattle.abc_format.specs.Numbers.{u30 as number30};
+ghost use Rattle.abc_format.specs.Part.{checked, when};
+ghost use Rattle.abc_format.specs.declared.reason.Reason.{Reason};
 ghost use Rattle.abc_tables.specs.declared.methods.ValueKind.TheVariants as kinds;
 ghost use Rattle.abc_tables.specs.Methods.{value_code, value_kind, has_value as names_entry, option_value, option_bytes, options};
 ghost use Rattle.abc_tables.specs.Traits.{slot_value, slot_value_bytes};
@@ -143,6 +145,25 @@ impl Codec for OptionCodec {
     }
 }
 
+/// How many parameters have a value, at most as many as there are parameters.
+fn read_option_count<S: Source>(
+    w: &mut Window,
+    source: &mut S,
+    params: u32,
+) -> Result<u32, ReadError>
+    ensures { ReadsPart S.left S.faults (checked (λ c. nat_le c params) Reason.OptionCount number30) w.old source.old w.new source.new result }
+{
+    let place = w.place();
+    let count = read_u30(w, source)?;
+    if count > params {
+        return Err(ReadError::Refused {
+            place,
+            reason: Reason::OptionCount,
+        });
+    }
+    Ok(count)
+}
+
 /// The values of the last parameters, at most as many as there are parameters.
 #[tactic(auto, unfolding(abc_tables::specs::Methods::options))]
 fn read_options<S: Source>(
@@ -154,14 +175,7 @@ fn read_options<S: Source>(
 ) -> Result<Table<OptionValue>, ReadError>
     ensures { ReadsPart S.left S.faults (options sizes.now params) w.old source.old w.new source.new result }
 {
-    let place = w.place();
-    let count = read_u30(w, source)?;
-    if count > params {
-        return Err(ReadError::Refused {
-            place,
-            reason: Reason::OptionCount,
-        });
-    }
+    let count = read_option_count(w, source, params)?;
     let items = read_times(&OptionCodec(*sizes), alloc, w, source, count)?;
     Ok(items)
 }
@@ -198,14 +212,7 @@ fn pass_options<S: Source>(
 ) -> Result<(), ReadError>
     ensures { PassesPart S.left S.faults (options sizes.now params) (counted_bytes option_bytes) nothing w.old source.old w.new source.new out.old.items out.new.items result }
 {
-    let place = w.place();
-    let count = read_u30(w, source)?;
-    if count > params {
-        return Err(ReadError::Refused {
-            place,
-            reason: Reason::OptionCount,
-        });
-    }
+    let count = read_option_count(w, source, params)?;
     put_u30(count, out)?;
     pass_times(&OptionCodec(*sizes), alloc, w, source, count, out)?;
     Ok(())
