@@ -6,8 +6,8 @@ ghost use Rattle.abc_varint.specs.Passes.{Passes, PassesPart, nothing};
 ghost use Rattle.abc_varint.specs.Reads.{Reads, ReadsPart};
 ghost use Rattle.abc_varint.specs.declared.error.ReadError.{ReadError};
 
-use crate::rest::read_nothing_more;
 use crate::reading::read_version;
+use crate::rest::read_nothing_more;
 use abc_base::Source;
 use abc_bodies::pass_bodies;
 use abc_pools::pass_pools;

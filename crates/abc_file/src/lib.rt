@@ -10,7 +10,7 @@ mod tests;
 mod writing;
 
 pub use abc_bodies::Places;
-pub use laws::{canonical_form, one_reading, reading_gives_the_file};
 pub use canon::canonical;
+pub use laws::{canonical_form, one_reading, reading_gives_the_file};
 pub use reading::read;
 pub use writing::write;

@@ -8,8 +8,8 @@ ghost use Rattle.abc_tables.specs.Files.{file_read, version};
 ghost use Rattle.abc_varint.specs.Reads.{ReadsPart, stand, tells};
 ghost use Rattle.abc_varint.specs.declared.error.ReadError.{ReadError};
 
-use abc_base::Source;
 use crate::rest::read_nothing_more;
+use abc_base::Source;
 use abc_bodies::{Places, read_bodies};
 use abc_pools::read_pools;
 use abc_tables::Abc;

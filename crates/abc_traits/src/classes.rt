@@ -12,8 +12,8 @@ use crate::traits::TraitCodec;
 use abc_base::{NoMemory, Source};
 use abc_tables::{ClassInfo, Instance, Script, Sizes};
 use abc_varint::{
-    Codec, EntryIndex, IndexBelow, PoolIndex, ReadError, Window, pass_counted, put_counted, put_u8, put_u30, read_counted,
-    read_entry_index, read_index_below, read_pool_index, read_u8,
+    Codec, EntryIndex, IndexBelow, PoolIndex, ReadError, Window, pass_counted, put_counted, put_u8,
+    put_u30, read_counted, read_entry_index, read_index_below, read_pool_index, read_u8,
 };
 use std::alloc::Global;
 

@@ -11,7 +11,8 @@ ghost use Rattle.abc_varint.specs.Reads.{Reads, ReadsPart, ReadsNumber};
 
 use abc_base::{NoMemory, Source, Table};
 use abc_varint::{
-    Codec, ReadError, Window, pass_counted, pass_times, put_counted, put_items, put_u30, read_counted, read_times, read_u30,
+    Codec, ReadError, Window, pass_counted, pass_times, put_counted, put_items, put_u30,
+    read_counted, read_times, read_u30,
 };
 use std::alloc::Global;
 

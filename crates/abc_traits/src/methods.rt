@@ -11,8 +11,8 @@ use crate::options::{OptionCodec, pass_options_if, read_options_if};
 use abc_base::{NoMemory, Source};
 use abc_tables::{Metadata, Method, Sizes};
 use abc_varint::{
-    Codec, PoolIndex, ReadError, Window, pass_times, put_count, put_items, put_u8, put_u30, read_pool_index,
-    read_times, read_u8, read_u30,
+    Codec, PoolIndex, ReadError, Window, pass_times, put_count, put_items, put_u8, put_u30,
+    read_pool_index, read_times, read_u8, read_u30,
 };
 use std::alloc::Global;
 

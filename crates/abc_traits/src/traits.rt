@@ -218,7 +218,14 @@ fn pass_trait<S: Source>(
     put_u8(16 * (attrs % 16) + code_of(&body), out)?;
     put_trait_fields(&body, out)?;
     let described = has_flag(attrs, HAS_METADATA);
-    pass_counted_if(described, &IndexBelow(sizes.metadata), alloc, w, source, out)?;
+    pass_counted_if(
+        described,
+        &IndexBelow(sizes.metadata),
+        alloc,
+        w,
+        source,
+        out,
+    )?;
     Ok(())
 }
 

@@ -66,12 +66,21 @@ ends errors.NoMemory p canonical total more old new w0 s0 w s lt g f t = tt
 
 pub is_done : {A : Type 0} (p : Part A) (canonical : A → List ℕ) (total more : ℕ) (old new : List ℕ) (w0 : View) (s0 : Option (List ℕ)) (w : View) (s : Option (List ℕ))
     → more ≡ 0 → w0.kept ≡ None → PassesOn p canonical total more old new w0 s0 w s → Passes (times total p) (flat_map canonical) nothing w0 s0 w s old new (Ok tt)
-is_done {A = A} p canonical total more old new w0 s0 w s k fresh g = (fresh, g.fresh, g.forth, g.ends_at, λ t. (g.told t, let m = g.same t in record {
-  value = m.items;
-  read = sym m.read ∙ rw k (ap (λ (ns : List A). Ok (ns, stand w s)) (append-nil m.items));
-  bytes = m.bytes;
-  tells = refl;
-}))
+is_done {A = A} p canonical total more old new w0 s0 w s k fresh g = (
+  fresh,
+  g.fresh,
+  g.forth,
+  g.ends_at,
+  λ t. (
+    g.told t,
+    let m = g.same t in record {
+      value = m.items;
+      read = sym m.read ∙ rw k (ap (λ (ns : List A). Ok (ns, stand w s)) (append-nil m.items));
+      bytes = m.bytes;
+      tells = refl;
+    },
+  ),
+)
 
 -- ---- how many items there are
 
@@ -103,15 +112,23 @@ pub counted_passes : {A : Type 0} (p : Part A) (all : List A → List ℕ) (n : 
     → Reads u30.reads w s w1 s1 (Ok n) → middle ≡ old ++ number_bytes n → Passes (times n p) all nothing w1 s1 w2 s2 middle new (Ok tt)
     → Passes (counted p) (λ xs. number_bytes (length xs) ++ all xs) length w s w2 s2 old new (Ok n)
 unfolding counted
-counted_passes p all n old middle new w s w1 s1 w2 s2 r b g = (r.0, g.1, omega (arith, r.2, g.2), g.3 ∙ r.3, λ t.
-    let a = r.4 t in let d = g.4 a.0 in let x = d.1 in
-    let count : length x.value ≡ n = times_count n p _ _ x.value x.read in
-    (d.0, record {
-      value = x.value;
-      read = rw (a.1, x.read) refl;
-      bytes = x.bytes ∙ ap (λ (t : List ℕ). t ++ all x.value) b ∙ append_assoc old (number_bytes n) (all x.value) ∙ ap (λ (k : ℕ). old ++ (number_bytes k ++ all x.value)) (sym count);
-      tells = sym count;
-    }))
+counted_passes p all n old middle new w s w1 s1 w2 s2 r b g = (
+  r.0,
+  g.1,
+  omega (arith, r.2, g.2),
+  g.3 ∙ r.3,
+  λ t.
+      let a = r.4 t in let d = g.4 a.0 in let x = d.1 in
+      let count : length x.value ≡ n = times_count n p _ _ x.value x.read in (
+        d.0,
+        record {
+          value = x.value;
+          read = rw (a.1, x.read) refl;
+          bytes = x.bytes ∙ ap (λ (t : List ℕ). t ++ all x.value) b ∙ append_assoc old (number_bytes n) (all x.value) ∙ ap (λ (k : ℕ). old ++ (number_bytes k ++ all x.value)) (sym count);
+          tells = sym count;
+        },
+      ),
+)
 
 -- what nothing is told of
 pub untold : {X T : Type 0} (p : Part X) (canonical : X → List ℕ) (tell : X → T) (w : View) (s : Option (List ℕ)) (w2 : View) (s2 : Option (List ℕ)) (old new : List ℕ) (t : T)
@@ -122,17 +139,25 @@ pub pool_passes : {A : Type 0} (p : Part A) (canonical : A → List ℕ) (n m : 
     → m ≡ n - 1 → Reads u30.reads w s w1 s1 (Ok n) → middle ≡ old ++ number_bytes (if nat_eq n 1 then 0 else n) → Passes (times m p) (flat_map canonical) nothing w1 s1 w2 s2 middle new (Ok tt)
     → Passes (pool p) (pool_bytes canonical) length w s w2 s2 old new (Ok m)
 unfolding pool pool_bytes
-pool_passes p canonical n m old middle new w s w1 s1 w2 s2 less r b g = (r.0, g.1, omega (arith, r.2, g.2), g.3 ∙ r.3, λ t.
-    let a = r.4 t in let d = g.4 a.0 in let x = d.1 in
-    let count : length x.value ≡ m = times_count m p _ _ x.value x.read in
-    (d.0, record {
-      value = x.value;
-      read = rw (a.1, ← less, x.read) refl;
-      bytes =
-        x.bytes ∙ ap (λ (t : List ℕ). t ++ flat_map canonical x.value) b ∙ append_assoc old (number_bytes (if nat_eq n 1 then 0 else n)) (flat_map canonical x.value)
-        ∙ ap (λ (k : ℕ). old ++ (number_bytes k ++ flat_map canonical x.value)) (sym (shortest_count n x.value (count ∙ less)));
-      tells = sym count;
-    }))
+pool_passes p canonical n m old middle new w s w1 s1 w2 s2 less r b g = (
+  r.0,
+  g.1,
+  omega (arith, r.2, g.2),
+  g.3 ∙ r.3,
+  λ t.
+      let a = r.4 t in let d = g.4 a.0 in let x = d.1 in
+      let count : length x.value ≡ m = times_count m p _ _ x.value x.read in (
+        d.0,
+        record {
+          value = x.value;
+          read = rw (a.1, ← less, x.read) refl;
+          bytes =
+              x.bytes ∙ ap (λ (t : List ℕ). t ++ flat_map canonical x.value) b ∙ append_assoc old (number_bytes (if nat_eq n 1 then 0 else n)) (flat_map canonical x.value)
+              ∙ ap (λ (k : ℕ). old ++ (number_bytes k ++ flat_map canonical x.value)) (sym (shortest_count n x.value (count ∙ less)));
+          tells = sym count;
+        },
+      ),
+)
 
 -- what is read and then put
 pub puts_read : {X : Type 0} (p : Part X) (x : X) (canonical : X → List ℕ) (old new : List ℕ) (w : View) (s : Option (List ℕ)) (w2 : View) (s2 : Option (List ℕ))

@@ -11,15 +11,23 @@ pub returns : goal.returns
 unfolding body_list counted_bytes
 returns g c =
     let e1 = c.in_ok-count.ensures.value.0 in let e2 = c.in_ok-pass_many.ensures.value in (
-      (e1.0.0, e2.0.1, omega (arith, e1.0.2, e2.0.2), e2.0.3 ∙ e1.0.3, λ t.
-        let d1 = e1.0.4 t in let d2 = e2.0.4 d1.0 in
-        let x2 = d2.1 in let count : length x2.value ≡ c.in_ok-count.count = sym x2.tells ∙ c.in_ok-pass_many.ensures.count in
-        (d2.0, record {
-          value = x2.value;
-          read = rw (d1.1, x2.read) refl;
-          bytes = rw (x2.bytes, c.in_ok-put_u30.ensures, flat_map-map body_bytes (λ (y : Body × List ℕ). y.0) x2.value, length-map x2.value, count) (simp append_assoc);
-          tells = refl;
-        })),
+      (
+        e1.0.0,
+        e2.0.1,
+        omega (arith, e1.0.2, e2.0.2),
+        e2.0.3 ∙ e1.0.3,
+        λ t.
+            let d1 = e1.0.4 t in let d2 = e2.0.4 d1.0 in
+            let x2 = d2.1 in let count : length x2.value ≡ c.in_ok-count.count = sym x2.tells ∙ c.in_ok-pass_many.ensures.count in (
+              d2.0,
+              record {
+                value = x2.value;
+                read = rw (d1.1, x2.read) refl;
+                bytes = rw (x2.bytes, c.in_ok-put_u30.ensures, flat_map-map body_bytes (λ (y : Body × List ℕ). y.0) x2.value, length-map x2.value, count) (simp append_assoc);
+                tells = refl;
+              },
+            ),
+      ),
       (λ e h. absurd (let k = e1.0.0 in cc)),
       omega (arith, e1.2, e2.2),
       (λ k h. absurd cc),

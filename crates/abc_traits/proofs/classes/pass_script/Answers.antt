@@ -6,15 +6,23 @@ pub returns : goal.returns
 unfolding script script_bytes
 returns g c =
     let e1 = c.in_ok-pass.ensures in let e2 = c.in_ok-pass_counted.ensures.value in (
-      (e1.0.0, e2.0.1, omega (arith, e1.0.2, e2.0.2), e2.0.3 ∙ e1.0.3, λ t.
-        let d1 = e1.0.4 t in let d2 = e2.0.4 d1.0 in
-        let x1 = d1.1 in let x2 = d2.1 in
-        (d2.0, record {
-          value = record { init = x1.value; traits = x2.value };
-          read = rw (x1.read, x2.read) refl;
-          bytes = rw (x2.bytes, x1.bytes) (simp append_assoc);
-          tells = refl;
-        })),
+      (
+        e1.0.0,
+        e2.0.1,
+        omega (arith, e1.0.2, e2.0.2),
+        e2.0.3 ∙ e1.0.3,
+        λ t.
+            let d1 = e1.0.4 t in let d2 = e2.0.4 d1.0 in
+            let x1 = d1.1 in let x2 = d2.1 in (
+              d2.0,
+              record {
+                value = record { init = x1.value; traits = x2.value };
+                read = rw (x1.read, x2.read) refl;
+                bytes = rw (x2.bytes, x1.bytes) (simp append_assoc);
+                tells = refl;
+              },
+            ),
+      ),
       (λ e h. absurd (let k = e1.0.0 in cc)),
       omega (arith, e1.2, e2.2),
       (λ k h. absurd cc),
