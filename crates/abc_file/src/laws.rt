@@ -1,7 +1,7 @@
-ghost use Rattle.std.specs.Prelude.{◌≡◌, ◌≤◌, All, List, ℕ, length};
+ghost use Rattle.std.specs.Prelude.{◌≡◌, ◌↔◌, ◌≤◌, All, List, ℕ, length};
 ghost use Rattle.abc_tables.specs.declared.tables.Abc.{Abc};
 ghost use Rattle.abc_tables.specs.Bodies.{IsReadyBody};
-ghost use Rattle.abc_tables.specs.Files.{IsFile, IsFileRead, IsDecided, file_bytes};
+ghost use Rattle.abc_tables.specs.Files.{Fits, IsFile, IsFileRead, IsDecided, file_bytes};
 
 /// Every list of bytes is spelled by exactly one file, or is bad at exactly one place for exactly one reason, and
 /// never both.
@@ -9,12 +9,13 @@ pub fn one_reading()
     ensures { (b : List ℕ) → IsDecided b }
 {}
 
-/// What is written spells the file, and no spelling is shorter; two files that can be spelled are written alike only
-/// where they are equal.
+/// What is written spells the file, and no spelling is shorter. Two files that can be spelled are written alike exactly
+/// where they are equal, which is what `same` answers; so what is written, once it is read, is written again as it was.
 pub fn canonical_form()
     ensures spelled { (v : Abc) → (b : List ℕ) → IsFile v b → IsFile v (file_bytes v) }
     ensures shortest { (v : Abc) → (b : List ℕ) → IsFile v b → length (file_bytes v) ≤ length b }
-    ensures one_form { (v w : Abc) → (b c : List ℕ) → IsFile v b → IsFile w c → file_bytes v ≡ file_bytes w → v ≡ w }
+    ensures one_form { (v w : Abc) → Fits v → Fits w → ((file_bytes v ≡ file_bytes w) ↔ (v ≡ w)) }
+    ensures once { (v w : Abc) → Fits v → IsFile w (file_bytes v) → file_bytes w ≡ file_bytes v }
 {}
 
 /// What is read beside the starts of instructions is the file, and each of its bodies can be written.

@@ -16,3 +16,6 @@ mod total;
 pub use fitting::fits;
 pub use laws::canonical_length;
 pub use total::canon_len;
+
+#[cfg(test)]
+mod tests;

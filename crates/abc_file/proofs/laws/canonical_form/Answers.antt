@@ -1,4 +1,6 @@
-use Rattle.abc_tables.proofs.Whole.{canonical_file, canonical_same}
+use Rattle.std.proofs.Common.{ap}
+use Rattle.abc_tables.specs.Files.{file_bytes}
+use Rattle.abc_tables.proofs.Whole.{canonical_file, canonical_same, decided}
 use Rattle.abc_file.proofs.laws.canonical_form.Goals as goal
 
 pub returns-clause-spelled : goal.returns-clause-spelled
@@ -8,4 +10,7 @@ pub returns-clause-shortest : goal.returns-clause-shortest
 returns-clause-shortest c = λ v b f. (canonical_file v b f).1
 
 pub returns-clause-one_form : goal.returns-clause-one_form
-returns-clause-one_form c = canonical_same
+returns-clause-one_form c = λ v w f g. (canonical_same v w f.0 g.0 f.1 g.1, ap file_bytes)
+
+pub returns-clause-once : goal.returns-clause-once
+returns-clause-once c = λ v w f g. ap file_bytes ((decided (file_bytes v)).one_value w v g (canonical_file v f.0 f.1).0)
