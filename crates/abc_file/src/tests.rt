@@ -14,6 +14,12 @@ fn read_back(rt: &HostRuntime, bytes: &[u8]) -> Result<Abc, ReadError> {
     Ok(abc)
 }
 
+/// The canonical bytes of the file that some bytes spell.
+fn passed_on(rt: &HostRuntime, bytes: &[u8]) -> Result<Vec<u8>, ReadError> {
+    let mut source = SteadySource::new(rt.alloc(), bytes, 97)?;
+    canonical(rt.alloc(), &mut source)
+}
+
 const SEEDS: [u32; 16] = [
     1, 2, 3, 4, 5, 6, 7, 8, 9, 10, 11, 12, 1000, 1000000, 123456789, 4294967295,
 ];
@@ -34,6 +40,8 @@ fn drawn_files(rt: HostRuntime) -> Result<(), Fail> {
         let mut out = Vec::new(rt.alloc());
         write(rt.alloc(), &second, &mut out)?;
         assert_eq!(rt; out.as_slice(), short.as_slice(), "seed {seed}");
+        let passed = passed_on(&rt, &long)?;
+        assert_eq!(rt; passed.as_slice(), short.as_slice(), "seed {seed}");
     }
     Ok(())
 }
