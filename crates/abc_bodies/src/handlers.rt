@@ -26,9 +26,9 @@ fn read_handler<S: Source>(
     ensures value { ReadsPart S.left S.faults (handler_part sizes.now starts.now) w.old source.old w.new source.new result }
     ensures within { IfOk result (IsWithin (length starts.now - 1)) }
 {
-    let from = read_place(w, source, starts)?;
-    let to = read_place(w, source, starts)?;
-    let target = read_place(w, source, starts)?;
+    let from = read_place(w, source, starts.as_slice())?;
+    let to = read_place(w, source, starts.as_slice())?;
+    let target = read_place(w, source, starts.as_slice())?;
     let exc_type = read_pool_index(w, source, sizes.names)?;
     let var_name = read_pool_index(w, source, sizes.names)?;
     Ok(Handler {

@@ -1,3 +1,5 @@
 pub mod Growing
 pub mod Finding
 pub mod Resolved
+pub mod Weaving
+pub mod Scanned

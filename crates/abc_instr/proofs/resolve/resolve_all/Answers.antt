@@ -12,13 +12,13 @@ returns-in_err-instr-clause-value c =
     let lt = c.loop-i-test.true in
     let here = read_start c.args.starts.now c.loop-i.i c.get-here.result.now (omega arith) c.get-here.ensures in
     let next = read_start c.args.starts.now (c.loop-i.i + 1) c.get-next.result.now (omega arith) c.get-next.ensures in
-    rw (p.1, p.2) (stands_wrong c.args.starts.now c.args.instrs.now c.loop-i.instrs c.loop-i.i _ _ c.get.result.now c.in_err-instr.field-0.0 _ c.requires.rising c.requires.count (omega arith) c.get.ensures c.loop-i.invariant here next c.in_err-instr.ensures)
+    rw (p.1, p.2) (stands_wrong c.args.starts.now c.args.instrs.now c.loop-i.instrs c.loop-i.i _ _ c.get.result.now c.in_err-instr.field-0.0 _ c.requires.rising c.requires.count (omega arith) c.get.ensures c.loop-i.invariant here next (rw c.as_slice.ensures at c.in_err-instr.ensures))
 
 pub loop-i-preserved : goal.loop-i-preserved
 loop-i-preserved c =
     let here = read_start c.args.starts.now c.loop-i.i c.get-here.result.now (omega arith) c.get-here.ensures in
     let next = read_start c.args.starts.now (c.loop-i.i + 1) c.get-next.result.now (omega arith) c.get-next.ensures in
-    let e : instr_of c.args.starts.now (get_or c.args.starts.now c.loop-i.i 0) (get_or c.args.starts.now (c.loop-i.i + 1) 0) (raw_of c.get.result.now) ≡ Ok (unwrap_or c.in_ok-instr.field-0 c.get.result.now) = rw (here, next) c.in_ok-instr.ensures in
+    let e : instr_of c.args.starts.now (get_or c.args.starts.now c.loop-i.i 0) (get_or c.args.starts.now (c.loop-i.i + 1) 0) (raw_of c.get.result.now) ≡ Ok (unwrap_or c.in_ok-instr.field-0 c.get.result.now) = rw (here, next) (rw c.as_slice.ensures at c.in_ok-instr.ensures) in
     elim c.match-branch-2.branch [
       | in-Some w ↦
           rw (w.instrs-is, w.set.ensures) (stands_set c.args.starts.now c.args.instrs.now c.loop-i.instrs c.loop-i.i c.get.result.now w.in-Some.instr _ c.requires.rising c.requires.count (omega arith) c.get.ensures c.loop-i.invariant (rw w.in-Some.is at e))
