@@ -3,3 +3,4 @@ pub mod Finding
 pub mod Resolved
 pub mod Weaving
 pub mod Scanned
+pub mod Passing

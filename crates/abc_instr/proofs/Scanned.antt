@@ -124,7 +124,7 @@ jumps_ok (x ∷ xs) b h m near short raw =
     All-append IsJump (jumps_in (jump_in x.0) b h (h + x.1) m (m + instr_len x.0)) (jumps_from (b + length (plain_bytes x.0)) (h + x.1) (m + instr_len x.0) xs)
     (jump_ok x.0 b h (h + x.1) m (omega arith) (omega arith) (omega arith) raw.0) (jumps_ok xs (b + length (plain_bytes x.0)) (h + x.1) (m + instr_len x.0) (omega arith) (omega arith) raw.1)
 
-canonical : (is : List Instr) → starts 0 (sized is) ≡ canonical_starts is
+pub canonical : (is : List Instr) → starts 0 (sized is) ≡ canonical_starts is
 unfolding canonical_starts
 canonical is = refl
 
@@ -145,11 +145,11 @@ can_weave n xs scan small is read =
     })
 
 -- The instructions with their targets are as long as they were.
-record AreAlike (is js : List Instr) : Type 0 where
-  len : code_len js ≡ code_len is
-  starts_are : (at : ℕ) → starts at (sized js) ≡ starts at (sized is)
+pub record AreAlike (is js : List Instr) : Type 0 where
+  pub len : code_len js ≡ code_len is
+  pub starts_are : (at : ℕ) → starts at (sized js) ≡ starts at (sized is)
 
-alike : (ss : List ℕ) (here n : ℕ) (xs : List (Instr × ℕ)) (js : List Instr) → length ss ≡ suc n → instrs_of ss here (raws_in xs) ≡ Ok js → AreRaw (instrs_in xs) → AreAlike (instrs_in xs) js
+pub alike : (ss : List ℕ) (here n : ℕ) (xs : List (Instr × ℕ)) (js : List Instr) → length ss ≡ suc n → instrs_of ss here (raws_in xs) ≡ Ok js → AreRaw (instrs_in xs) → AreAlike (instrs_in xs) js
 alike ss here n [] js count e raw = let same : [] ≡ js = cc in subst (AreAlike []) same (record { len = refl; starts_are = λ at. refl })
 alike ss here n (x ∷ xs) js count e raw =
     let next = here + x.1 in

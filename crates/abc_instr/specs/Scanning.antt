@@ -7,7 +7,8 @@ use Rattle.abc_base.specs.Numbers.{number_bytes}
 use Rattle.abc_format.specs.Part.{Refusal, ◌>>=◌}
 use Rattle.abc_tables.specs.declared.code.Instr.{Instr}
 use Rattle.abc_tables.specs.declared.code.Instr.TheVariants as instrs
-use Rattle.abc_tables.specs.CodeBytes.{code_len, instr_bytes, instr_len, sized}
+use Rattle.abc_tables.specs.declared.instructions.Code.{Code}
+use Rattle.abc_tables.specs.CodeBytes.{canonical_starts, code_len, instr_bytes, instr_len, sized}
 use Rattle.abc_tables.specs.Instructions.{RawInstr}
 use Rattle.abc_tables.specs.Ready.{Small}
 use Rattle.abc_tables.specs.Starts.{starts as starts_from, size as size_of, IsRising}
@@ -112,3 +113,7 @@ pub record CanWeave (ss ms : List ℕ) (js : List Jump) : Type 0 where
   pub count : length ms ≡ length ss
   pub small : Small ms (length ms - 1)
   pub each : All IsJump js
+
+-- where the instructions start, as they were read and in the canonical bytes
+abbrev pub starts_in : Code → List ℕ × List ℕ
+starts_in c = (c.offsets, canonical_starts c.instrs)
