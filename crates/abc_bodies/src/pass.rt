@@ -1,95 +1,58 @@
-ghost use Rattle.std.specs.Prelude.{◌≡◌, ◌≤◌, ◌<◌, ◌^◌, [], None, Some, Err, IfOk, length, map};
+ghost use Rattle.std.specs.Prelude.{◌≡◌, ◌≤◌, ◌<◌, ◌^◌, [], None, Some, Err, false, IfOk, length, map, slice_get};
 ghost use Rattle.std.specs.List.{flat_map};
+ghost use Rattle.abc_base.specs.Numbers.{number_bytes};
 ghost use Rattle.abc_format.specs.Canonical.{counted_bytes};
 ghost use Rattle.abc_format.specs.Lists.{chain};
+ghost use Rattle.abc_format.specs.Numbers.{u30 as small};
+ghost use Rattle.abc_bodies.specs.Reading.{free_body, rest, rest_bytes};
 ghost use Rattle.abc_tables.specs.Bodies.{body, body_bytes, body_list, methods_of};
 ghost use Rattle.abc_varint.specs.Passes.{Passes, PassesPart, nothing};
 ghost use Rattle.abc_varint.specs.Reads.{Reads, ReadsPart};
 
 use crate::body::read_method;
+use crate::handlers::pass_handlers;
 use crate::read::flags_down;
 use abc_base::{Source, Table};
-use abc_instr::{Scan, pass_code, read_place};
+use abc_instr::{Scan, pass_code};
 use abc_tables::Sizes;
 use abc_traits::TraitCodec;
-use abc_varint::{Codec, PoolIndex, ReadError, Window, pass_counted, put_u30, read_u30};
+use abc_varint::{ReadError, Window, pass_counted, put_u30, read_u30};
 use std::alloc::Global;
 
-/// Passes a place of an exception.
-fn pass_place<S: Source>(
-    w: &mut Window,
-    source: &mut S,
-    starts: &[u32],
-    moved: &[u32],
-    out: &mut Vec<u8>,
-) -> Result<(), ReadError>
-{
-    let n = read_place(w, source, starts)?;
-    put_u30(moved[n as usize], out)?;
-    Ok(())
-}
-
-fn pass_handler<S: Source>(
-    alloc: Global,
-    w: &mut Window,
-    source: &mut S,
-    sizes: &Sizes,
-    starts: &[u32],
-    moved: &[u32],
-    out: &mut Vec<u8>,
-) -> Result<(), ReadError>
-{
-    pass_place(w, source, starts, moved, out)?;
-    pass_place(w, source, starts, moved, out)?;
-    pass_place(w, source, starts, moved, out)?;
-    PoolIndex(sizes.names).pass(alloc, w, source, out)?;
-    PoolIndex(sizes.names).pass(alloc, w, source, out)?;
-    Ok(())
-}
-
-fn pass_times<S: Source>(
-    alloc: Global,
-    w: &mut Window,
-    source: &mut S,
-    sizes: &Sizes,
-    starts: &[u32],
-    moved: &[u32],
-    count: u32,
-    out: &mut Vec<u8>,
-) -> Result<(), ReadError>
-{
-    for _ in 0..count {
-        pass_handler(alloc, w, source, sizes, starts, moved, out)?;
-    }
-    Ok(())
-}
-
-fn pass_handlers<S: Source>(
-    alloc: Global,
-    w: &mut Window,
-    source: &mut S,
-    sizes: &Sizes,
-    starts: &[u32],
-    moved: &[u32],
-    out: &mut Vec<u8>,
-) -> Result<(), ReadError>
-{
-    let count = read_u30(w, source)?;
-    put_u30(count, out)?;
-    pass_times(alloc, w, source, sizes, starts, moved, count, out)
-}
-
-fn pass_number<S: Source>(
+/// Passes one of the four sizes.
+#[inline(always)]
+fn pass_size<S: Source>(
     w: &mut Window,
     source: &mut S,
     out: &mut Vec<u8>,
 ) -> Result<(), ReadError>
+    ensures { PassesPart S.left S.faults small number_bytes nothing w.old source.old w.new source.new out.old.items out.new.items result }
 {
     let x = read_u30(w, source)?;
     put_u30(x, out)?;
     Ok(())
 }
 
+/// Passes what follows the sizes of a body: code, exceptions and traits.
+fn pass_rest<S: Source>(
+    alloc: Global,
+    w: &mut Window,
+    source: &mut S,
+    sizes: &Sizes,
+    scan: &mut Scan,
+    out: &mut Vec<u8>,
+) -> Result<(), ReadError>
+    requires { w.old.end ≡ 2 ^ 25 }
+    ensures { PassesPart S.left S.faults (rest sizes.now) rest_bytes nothing w.old source.old w.new source.new out.old.items out.new.items result }
+{
+    pass_code(alloc, w, source, scan, out)?;
+    pass_handlers(alloc, w, source, sizes, &scan.starts, &scan.moved, out)?;
+    pass_counted(&TraitCodec(*sizes), alloc, w, source, out)?;
+    Ok(())
+}
+
+/// Passes a body of a method whose flag is down. Gives the method.
+#[tactic(auto, unfolding(crate::specs::Reading::free_body, abc_tables::specs::Bodies::body_with))]
 fn pass_body<S: Source>(
     alloc: Global,
     w: &mut Window,
@@ -99,16 +62,17 @@ fn pass_body<S: Source>(
     scan: &mut Scan,
     out: &mut Vec<u8>,
 ) -> Result<u32, ReadError>
+    requires { w.old.end ≡ 2 ^ 25 }
+    ensures value { PassesPart S.left S.faults (free_body sizes.now flags.now) (λ x. body_bytes x.0) (λ x. (x.0).method) w.old source.old w.new source.new out.old.items out.new.items result }
+    ensures free { IfOk result (λ m. slice_get flags.now m ≡ Some false) }
 {
     let method = read_method(w, source, sizes, flags)?;
     put_u30(method, out)?;
-    pass_number(w, source, out)?;
-    pass_number(w, source, out)?;
-    pass_number(w, source, out)?;
-    pass_number(w, source, out)?;
-    pass_code(alloc, w, source, scan, out)?;
-    pass_handlers(alloc, w, source, sizes, &scan.starts, &scan.moved, out)?;
-    pass_counted(&TraitCodec(*sizes), alloc, w, source, out)?;
+    pass_size(w, source, out)?;
+    pass_size(w, source, out)?;
+    pass_size(w, source, out)?;
+    pass_size(w, source, out)?;
+    pass_rest(alloc, w, source, sizes, scan, out)?;
     Ok(method)
 }
 

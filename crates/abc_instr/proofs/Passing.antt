@@ -58,11 +58,12 @@ scan_is n xs scan is read =
     let count : length ss ≡ suc (length xs) = ap length is.starts ∙ length-starts 0 xs in
     let w = woven_is ss ms plain (length xs) count xs 0 0 0 0 (omega arith) (omega arith) refl read.raw in
     rw (moved, is.plain, is.jumps, last, w) (joins (instrs_of ss 0 (raws_in xs)) (number_bytes (code_len (instrs_in xs))) ms) where
-  zero_more : (k : ℕ) → 0 + k ≡ k
-  zero_more k = omega arith
-  joins : (r : Result (List Instr) Refusal) (front ms : List ℕ) → ((r >>= λ js. Ok ([] ++ instrs_bytes ms 0 js)) >>= λ b. Ok (front ++ b)) ≡ (r >>= λ js. Ok (front ++ instrs_bytes ms 0 js))
-  joins (Ok js) front ms = refl
-  joins (Err d) front ms = refl
+      zero_more : (k : ℕ) → 0 + k ≡ k
+      zero_more k = omega arith
+
+      joins : (r : Result (List Instr) Refusal) (front ms : List ℕ) → ((r >>= λ js. Ok ([] ++ instrs_bytes ms 0 js)) >>= λ b. Ok (front ++ b)) ≡ (r >>= λ js. Ok (front ++ instrs_bytes ms 0 js))
+      joins (Ok js) front ms = refl
+      joins (Err d) front ms = refl
 
 pub record IsPut (xs : List (Instr × ℕ)) (scan : Scan) (out new : List ℕ) : Type 0 where
   pub instrs : List Instr

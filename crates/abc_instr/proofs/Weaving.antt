@@ -122,8 +122,8 @@ split xs p rest from before le within e =
       after = sym (drop_drop xs before (before + length p) (omega arith)) ∙ rw (by before (length p)) (ap (drop (length p)) e ∙ drop-append_seam p rest);
       within = omega (arith, ap length e, length-drop before xs, length-append p rest);
     } where
-  by : (n k : ℕ) → n + k - n ≡ k
-  by n k = omega arith
+      by : (n k : ℕ) → n + k - n ≡ k
+      by n k = omega arith
 
 module _ (ss ms plain : List ℕ) (n : ℕ) (count : length ss ≡ suc n) where
   pub woven_is : (xs : List (Instr × ℕ)) (from before here moved : ℕ) → from ≤ before → before ≤ length plain → drop before plain ≡ flat_map plain_bytes (instrs_in xs) → AreRaw (instrs_in xs)
@@ -147,7 +147,7 @@ module _ (ss ms plain : List ℕ) (n : ℕ) (count : length ss ≡ suc n) where
             let empty : take (before + length p - before) (drop before plain) ≡ [] = let z : before + length p - before ≡ 0 = omega arith in rw z refl in
             ap (λ (o : Option Instr). woven ss ms plain from (jumps_in o before here (here + x.1) moved (moved + len) ++ rest)) h.some
             ∙ jump_step ms front len moved (instr_of ss here (here + x.1) (raw_of x.0)) more (woven ss ms plain before rest) (λ y q. (instr_set ss here (here + x.1) n x.0 y count q raw.0).len)
-                (same ∙ ap (λ (l : List ℕ). more >>= λ js. Ok (l ++ instrs_bytes ms (moved + len) js)) empty)
+            (same ∙ ap (λ (l : List ℕ). more >>= λ js. Ok (l ++ instrs_bytes ms (moved + len) js)) empty)
         | inr none ↦
             let h = is_plain x.0 none in
             let same = woven_is xs from (before + length p) (here + x.1) (moved + len) (omega arith) s.within s.after raw.1 in

@@ -66,12 +66,7 @@ pub fn starts_of(alloc: Global, code: &Table<Instr>) -> Result<Table<u32>, NoMem
     Ok(starts)
 }
 
-fn put_offset(
-    starts: &[u32],
-    base: u32,
-    target: u32,
-    out: &mut Vec<u8>,
-) -> Result<(), NoMemory>
+fn put_offset(starts: &[u32], base: u32, target: u32, out: &mut Vec<u8>) -> Result<(), NoMemory>
     requires target { target < length starts.now }
     requires start { get_or starts.now target 0 < 2 ^ 23 }
     requires base { base < 2 ^ 23 }

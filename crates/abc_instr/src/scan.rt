@@ -280,5 +280,12 @@ pub fn put_scan(alloc: Global, scan: &Scan, out: &mut Vec<u8>) -> Result<(), Mis
 {
     let len = scan.moved[scan.moved.len() - 1];
     put_u30(len, out)?;
-    put_woven(alloc, &scan.starts, &scan.moved, &scan.plain, &scan.jumps, out)
+    put_woven(
+        alloc,
+        &scan.starts,
+        &scan.moved,
+        &scan.plain,
+        &scan.jumps,
+        out,
+    )
 }

@@ -45,7 +45,7 @@ loop-preserved g c =
     let add = c.in_ok-moved.ensures in
     let before : c.len-before.result ≡ length c.loop.scan.plain.items = omega (arith, c.len-before.ensures, c.loop.scan.plain.ok.0) in
     let come = comes x n here c.loop.moved c.len-before.result _ c.in_ok-moved.moved c.in_ok-jump.jump c.put_plain.new.plain.items c.loop.scan c.add.new.self c.in_ok-jump.ensures.jump c.in_ok-jump.ensures.bytes before
-        (omega (arith, inv.size, read.moves, c.place-in-loop.ensures.is, c.place-first.ensures.is)) add.end add.starts add.moved add.plain (rw (← c.place-first.ensures.is, ← c.place.ensures.is) add.jumps) in
+    (omega (arith, inv.size, read.moves, c.place-in-loop.ensures.is, c.place-first.ensures.is)) add.end add.starts add.moved add.plain (rw (← c.place-first.ensures.is, ← c.place.ensures.is) add.jumps) in
     let end : c.in_ok-moved.moved ≡ c.loop.moved + instr_len x = comes_to x c.loop.moved c.len-before.result c.in_ok-moved.moved c.in_ok-jump.jump c.loop.scan.plain.items c.put_plain.new.plain.items c.in_ok-jump.ensures.jump c.in_ok-jump.ensures.bytes before add.end in
     let all : instrs_in (xs ++ (x, n) ∷ []) ≡ instrs_in xs ++ x ∷ [] = map-append (λ (y : Instr × ℕ). y.0) xs ((x, n) ∷ []) in
     let raws : raws_in (xs ++ (x, n) ∷ []) ≡ raws_in xs ++ (raw_of x, n) ∷ [] = map-append (λ (y : Instr × ℕ). (raw_of y.0, y.1)) xs ((x, n) ∷ []) in (
@@ -71,7 +71,7 @@ returns-in_err-instr-clause-value g c =
     let p = err_from_is_err_and c.from_residual-in_err-instr.result c.from_residual-in_err-instr.ensures.1 in
     let inv = c.loop.invariant.1 in
     rw (p.1, p.2) (λ k t. fill_ends c.in_err-instr.field-0.0 (blamed instruction) c.args.byte_count c.loop.counter (raws_in c.loop.invariant.0) _ _ _ _ (omega (arith, c.place-first.ensures.bound, c.place-first.ensures.is)) (omega (arith, c.requires.small)) c.loop-test.true
-        (omega (arith, c.if-here-byte_count.false, c.place.ensures.is, c.place-first.ensures.is, inv.size)) inv.filling c.in_err-instr.ensures.value t)
+    (omega (arith, c.if-here-byte_count.false, c.place.ensures.is, c.place-first.ensures.is, inv.size)) inv.filling c.in_err-instr.ensures.value t)
 
 pub returns-after-loop-clause-value : goal.returns-after-loop-clause-value
 unfolding pieces
