@@ -34,6 +34,7 @@ fn pass_size<S: Source>(
 }
 
 /// Passes what follows the sizes of a body: code, exceptions and traits.
+#[tactic(auto, unfolding(crate::specs::Reading::rest))]
 fn pass_rest<S: Source>(
     alloc: Global,
     w: &mut Window,
