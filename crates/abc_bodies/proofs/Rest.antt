@@ -88,3 +88,12 @@ module _ (v : Sizes) (os ms read put old b1 : List ℕ) (es : os ≡ read) (em :
             },
           ),
     )
+
+-- ---- a body, after its method and its four sizes
+
+pub rest_fails : (e : ReadError) (v : Sizes) (flags : List Bool) (m a b c d : ℕ) (from a1 a2 a3 a4 a5 : At) → (free_method v flags).reads from ≡ Ok (m, a1) → u30.reads a1 ≡ Ok (a, a2) → u30.reads a2 ≡ Ok (b, a3) → u30.reads a3 ≡ Ok (c, a4)
+    → u30.reads a4 ≡ Ok (d, a5) → Fails e ((rest v).reads a5) → Fails e ((free_body v flags).reads from)
+unfolding free_body body_with rest
+rest_fails (errors.Refused place reason) v flags m a b c d from a1 a2 a3 a4 a5 r1 r2 r3 r4 r5 f = rw (r1, r2, r3, r4, r5, f) refl
+rest_fails errors.ReadFault v flags m a b c d from a1 a2 a3 a4 a5 r1 r2 r3 r4 r5 f = tt
+rest_fails errors.NoMemory v flags m a b c d from a1 a2 a3 a4 a5 r1 r2 r3 r4 r5 f = tt

@@ -21,11 +21,7 @@ use std::alloc::Global;
 
 /// Passes one of the four sizes.
 #[inline(always)]
-fn pass_size<S: Source>(
-    w: &mut Window,
-    source: &mut S,
-    out: &mut Vec<u8>,
-) -> Result<(), ReadError>
+fn pass_size<S: Source>(w: &mut Window, source: &mut S, out: &mut Vec<u8>) -> Result<(), ReadError>
     ensures { PassesPart S.left S.faults small number_bytes nothing w.old source.old w.new source.new out.old.items out.new.items result }
 {
     let x = read_u30(w, source)?;
