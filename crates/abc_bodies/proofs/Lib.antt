@@ -2,3 +2,4 @@ pub mod Alike
 pub mod Chaining
 pub mod Collecting
 pub mod Passing
+pub mod Rest

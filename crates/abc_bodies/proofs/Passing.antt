@@ -1,5 +1,5 @@
 -- Bodies are passed one after the other, with a flag for each method that has one.
-use Rattle.std.proofs.Common.{◌≡◌, ℕ, suc, ◌+◌, ◌-◌, ◌<◌, Bool, true, false, List, [], ◌∷◌, ◌++◌, length, map, set, Ok, Err, None, Some, refl, sym, ap, ◌∙◌, length-append, length-set, arith, append_assoc}
+use Rattle.std.proofs.Common.{◌≡◌, ℕ, suc, ◌+◌, ◌-◌, ◌<◌, ◌≤◌, Bool, true, false, List, [], ◌∷◌, ◌++◌, length, map, set, Ok, Err, None, Some, refl, sym, ap, ◌∙◌, length-append, length-set, arith, append_assoc}
 use Rattle.std.specs.Prelude.{replicate, slice_get}
 use Rattle.std.specs.List.{flat_map}
 use Rattle.std.specs.declared.option.Option.{Option}
@@ -15,7 +15,7 @@ use Rattle.abc_tables.specs.Classes.{sizes_of}
 use Rattle.abc_varint.specs.declared.error.ReadError.{ReadError}
 use Rattle.abc_varint.specs.Passes.{Passes}
 use Rattle.abc_varint.specs.View.{View}
-use Rattle.abc_varint.specs.Reads.{Reads}
+use Rattle.abc_varint.specs.Reads.{Reads, stand, tells}
 use Rattle.abc_traits.proofs.Filling.{reads_alike}
 use Rattle.abc_bodies.specs.Reading.{free_body}
 use Rattle.abc_bodies.proofs.Alike.{IsFlagged, flags_up, free_body-alike, no_flags}
@@ -25,52 +25,85 @@ use Rattle.abc_bodies.proofs.Collecting.{next_body}
 abbrev pub entry_bytes : Body × List ℕ → List ℕ
 entry_bytes x = body_bytes x.0
 
--- what is known where some bodies are passed and `more` are to come
-pub record PassesOn (v : Sizes) (total more : ℕ) (flags : List Bool) (old new : List ℕ) (w0 : View) (s0 : Option (List ℕ)) (w : View) (s : Option (List ℕ)) : Type 0 where
+-- Some bodies are passed, and `more` are to come.
+pub record Middle (v : Sizes) (total more : ℕ) (flags : List Bool) (from here : At) (old new : List ℕ) : Type 0 where
   pub before : List (Body × List ℕ)
-  pub chained : Chaining (next_body v) total more before w0 s0 w s
+  pub read : (chain more (next_body v) before).reads here ≡ (chain total (next_body v) []).reads from
   pub flagged : IsFlagged flags (methods_of before)
-  pub count : length flags ≡ v.methods
   pub many : length before + more ≡ total
   pub bytes : new ≡ old ++ flat_map entry_bytes before
 
+pub record PassesOn (v : Sizes) (total more : ℕ) (flags : List Bool) (old new : List ℕ) (w0 : View) (s0 : Option (List ℕ)) (w : View) (s : Option (List ℕ)) : Type 0 where
+  pub fresh : w.kept ≡ None
+  pub forth : w0.place ≤ w.place
+  pub ends_at : w.end ≡ w0.end
+  pub told : tells s0 ≡ true → tells s ≡ true
+  pub count : length flags ≡ v.methods
+  pub same : tells s0 ≡ true → Middle v total more flags (stand w0 s0) (stand w s) old new
+
 module _ (v : Sizes) (total : ℕ) (w0 : View) (s0 : Option (List ℕ)) (old : List ℕ) where
+  chaining : (more : ℕ) (flags : List Bool) (new : List ℕ) (w : View) (s : Option (List ℕ)) (g : PassesOn v total more flags old new w0 s0 w s) (m : Middle v total more flags (stand w0 s0) (stand w s) old new) → Chaining (next_body v) total more m.before w0 s0 w s
+  chaining more flags new w s g m = record { fresh = g.fresh; forth = g.forth; ends_at = g.ends_at; told = g.told; same = λ t. m.read }
+
   pub begins : (flags : List Bool) → flags ≡ replicate v.methods false → w0.kept ≡ None → PassesOn v total (total - 0) flags old old w0 s0 w0 s0
   begins flags is fresh = record {
-    before = [];
-    chained = chain_begins (next_body v) total w0 s0 fresh;
-    flagged = rw is (no_flags v.methods);
+    fresh = fresh;
+    forth = omega arith;
+    ends_at = refl;
+    told = λ t. t;
     count = ap length is ∙ length-replicate v.methods false;
-    many = omega arith;
-    bytes = sym (append-nil old);
+    same = λ t. record {
+      before = [];
+      read = (chain_begins (next_body v) total w0 s0 fresh).same t;
+      flagged = rw is (no_flags v.methods);
+      many = omega arith;
+      bytes = sym (append-nil old);
+    };
   }
 
-  pub goes_on : (more less : ℕ) (flags : List Bool) (new new2 : List ℕ) (w : View) (s : Option (List ℕ)) (w2 : View) (s2 : Option (List ℕ)) (x : Body × List ℕ)
-      → more ≡ suc less → PassesOn v total more flags old new w0 s0 w s → Reads (free_body v flags).reads w s w2 s2 (Ok x) → slice_get flags x.0.method ≡ Some false → new2 ≡ new ++ body_bytes x.0
-      → PassesOn v total less (set flags x.0.method true) old new2 w0 s0 w2 s2
-  goes_on more less flags new new2 w s w2 s2 x k g r free b =
-      let read = reads_alike _ _ (free_body-alike v flags (methods_of g.before) g.count g.flagged) w s w2 s2 (Ok x) r in
-      let methods : methods_of (g.before ++ x ∷ []) ≡ methods_of g.before ++ x.0.method ∷ [] = map-append (λ (y : Body × List ℕ). y.0.method) g.before (x ∷ []) in
-      record {
-        before = g.before ++ x ∷ [];
-        chained = chain_goes_on (next_body v) total more less g.before w0 s0 w s w2 s2 x k g.chained read;
-        flagged = rw methods (flags_up flags (methods_of g.before) x.0.method (slice_get_within flags x.0.method false free) g.flagged);
-        count = length-set flags x.0.method true ∙ g.count;
-        many = omega (arith, k, g.many, length-append g.before (x ∷ []));
-        bytes = b ∙ ap (λ (t : List ℕ). t ++ body_bytes x.0) g.bytes ∙ flat_map_more entry_bytes old g.before x;
-      }
+  pub goes_on : (more less : ℕ) (flags : List Bool) (new new2 : List ℕ) (w : View) (s : Option (List ℕ)) (w2 : View) (s2 : Option (List ℕ)) (method : ℕ)
+      → more ≡ suc less → PassesOn v total more flags old new w0 s0 w s → Passes (free_body v flags) entry_bytes (λ x. x.0.method) w s w2 s2 new new2 (Ok method) → slice_get flags method ≡ Some false
+      → PassesOn v total less (set flags method true) old new2 w0 s0 w2 s2
+  goes_on more less flags new new2 w s w2 s2 method k g r free = record {
+    fresh = r.1;
+    forth = omega (arith, g.forth, r.2);
+    ends_at = r.3 ∙ g.ends_at;
+    told = λ t. (r.4 (g.told t)).0;
+    count = length-set flags method true ∙ g.count;
+    same = λ t.
+        let m = g.same t in
+        let a = r.4 (g.told t) in
+        let x = a.1 in
+        let read = reads_alike _ _ (free_body-alike v flags (methods_of m.before) g.count m.flagged) w s w2 s2 (Ok x.value) (r.0, r.1, r.2, r.3, λ u. (a.0, x.read)) in
+        let methods : methods_of (m.before ++ x.value ∷ []) ≡ methods_of m.before ++ method ∷ [] = map-append (λ (y : Body × List ℕ). y.0.method) m.before (x.value ∷ []) ∙ ap (λ (n : ℕ). methods_of m.before ++ n ∷ []) (sym x.tells) in
+        record {
+          before = m.before ++ x.value ∷ [];
+          read = (chain_goes_on (next_body v) total more less m.before w0 s0 w s w2 s2 x.value k (chaining more flags new w s g m) read).same t;
+          flagged = rw methods (flags_up flags (methods_of m.before) method (slice_get_within flags method false free) m.flagged);
+          many = omega (arith, k, m.many, length-append m.before (x.value ∷ []));
+          bytes = x.bytes ∙ ap (λ (u : List ℕ). u ++ body_bytes x.value.0) m.bytes ∙ flat_map_more entry_bytes old m.before x.value;
+        };
+  }
 
   pub fails : {T : Type 0} (told : List (Body × List ℕ) → T) (e : ReadError) (more : ℕ) (flags : List Bool) (new new2 : List ℕ) (w : View) (s : Option (List ℕ)) (w2 : View) (s2 : Option (List ℕ))
       → 0 < more → PassesOn v total more flags old new w0 s0 w s → Reads (free_body v flags).reads w s w2 s2 (Err e) → Passes (chain total (next_body v) []) (flat_map entry_bytes) told w0 s0 w2 s2 old new2 (Err e)
-  fails told e more flags new new2 w s w2 s2 lt g r =
-      let read = reads_alike _ _ (free_body-alike v flags (methods_of g.before) g.count g.flagged) w s w2 s2 (Err e) r in
-      chain_fails (next_body v) e total more g.before w0 s0 w s w2 s2 lt g.chained read
+  fails told e more flags new new2 w s w2 s2 lt g r = λ fresh t.
+      let m = g.same t in
+      let read = reads_alike _ _ (free_body-alike v flags (methods_of m.before) g.count m.flagged) w s w2 s2 (Err e) r in
+      chain_fails (next_body v) e total more m.before w0 s0 w s w2 s2 lt (chaining more flags new w s g m) read fresh t
 
   pub passed : (more : ℕ) (flags : List Bool) (new : List ℕ) (w : View) (s : Option (List ℕ))
       → more ≡ 0 → w0.kept ≡ None → PassesOn v total more flags old new w0 s0 w s → Passes (chain total (next_body v) []) (flat_map entry_bytes) length w0 s0 w s old new (Ok total)
-  passed more flags new w s k fresh g =
-      let r = chain_done (next_body v) total more g.before w0 s0 w s k fresh g.chained in
-      (r.0, r.1, r.2, r.3, λ t. let a = r.4 t in (a.0, record { value = g.before; read = a.1; bytes = g.bytes; tells = omega (arith, k, g.many) }))
+  passed more flags new w s k fresh g = (
+    fresh,
+    g.fresh,
+    g.forth,
+    g.ends_at,
+    λ t.
+        let m = g.same t in
+        let r = chain_done (next_body v) total more m.before w0 s0 w s k fresh (chaining more flags new w s g m) in
+        (g.told t, record { value = m.before; read = (r.4 t).1; bytes = m.bytes; tells = omega (arith, k, m.many) }),
+  )
 
 -- ---- bodies beside the other tables
 

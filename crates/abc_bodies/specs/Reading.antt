@@ -1,13 +1,21 @@
 -- Bodies as they are read: methods that have one are told by flags.
-use Rattle.std.specs.Prelude.{ℕ, Bool, true, not, unwrap_or, slice_get, List, map, Ok, Err}
+use Rattle.std.specs.Prelude.{ℕ, ◌++◌, Bool, true, not, unwrap_or, slice_get, List, map, Ok, Err}
 use Rattle.std.specs.declared.result.Result.{Result}
 use Rattle.abc_format.specs.declared.reason.Reason.TheVariants as reasons
-use Rattle.abc_format.specs.Part.{Part, checked}
+use Rattle.abc_format.specs.Part.{Part, both, checked, then_by}
+use Rattle.abc_format.specs.Canonical.{counted_bytes}
+use Rattle.abc_format.specs.Lists.{counted}
 use Rattle.abc_format.specs.Numbers.{index_below}
 use Rattle.abc_tables.specs.declared.code.Body.{Body}
 use Rattle.abc_tables.specs.declared.tables.Abc.{Abc}
 use Rattle.abc_tables.specs.declared.tables.Sizes.{Sizes}
-use Rattle.abc_tables.specs.Bodies.{body_with}
+use Rattle.abc_tables.specs.declared.code.Handler.{Handler}
+use Rattle.abc_tables.specs.declared.instructions.Code.{Code}
+use Rattle.abc_tables.specs.declared.traits.TraitInfo.{TraitInfo}
+use Rattle.abc_tables.specs.Bodies.{body_with, handler, handler_bytes}
+use Rattle.abc_tables.specs.Code.{code}
+use Rattle.abc_tables.specs.CodeBytes.{canonical_starts, code_bytes}
+use Rattle.abc_tables.specs.Traits.{trait_bytes, trait_info}
 
 -- the flag of the method is down
 abbrev pub is_free : List Bool → ℕ → Bool
@@ -27,3 +35,10 @@ halves xs = (map (λ x. x.0) xs, map (λ x. x.1) xs)
 abbrev pub with_places : {E : Type 0} → Result (List (List ℕ)) E → Abc → Result (Abc × List (List ℕ)) E
 with_places (Ok starts) abc = Ok (abc, starts)
 with_places (Err e) abc = Err e
+
+-- what follows the sizes of a body: code, exceptions and traits
+unfoldable pub rest : Sizes → Part (Code × (List Handler × List TraitInfo))
+rest v = then_by code (λ c. both (counted (handler v c.offsets)) (counted (trait_info v)))
+
+unfoldable pub rest_bytes : Code × (List Handler × List TraitInfo) → List ℕ
+rest_bytes x = code_bytes x.0.instrs ++ (counted_bytes (handler_bytes (canonical_starts x.0.instrs)) x.1.0 ++ counted_bytes trait_bytes x.1.1)

@@ -13,7 +13,7 @@ use std::alloc::Global;
 
 /// A method that has no body yet: its flag is down.
 #[tactic(auto, unfolding(crate::specs::Reading::free_method))]
-fn read_method<S: Source>(
+pub fn read_method<S: Source>(
     w: &mut Window,
     source: &mut S,
     sizes: &Sizes,

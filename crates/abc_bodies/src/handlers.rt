@@ -4,14 +4,18 @@ ghost use Rattle.abc_base.specs.Numbers.{number_bytes};
 ghost use Rattle.abc_format.specs.Canonical.{counted_bytes};
 ghost use Rattle.abc_format.specs.Lists.{times, counted};
 ghost use Rattle.abc_tables.specs.Bodies.{handler as handler_part, handler_bytes, IsWithin};
+ghost use Rattle.abc_tables.specs.Places.{instruction_place};
 ghost use Rattle.abc_tables.specs.Starts.{IsRising};
+ghost use Rattle.abc_varint.specs.Passes.{Passes, PassesPart, nothing};
 ghost use Rattle.abc_varint.specs.Puts.{Puts};
 ghost use Rattle.abc_varint.specs.Reads.{Reads, ReadsPart};
 
 use abc_base::{NoMemory, Source, Table};
 use abc_instr::read_place;
 use abc_tables::{Handler, Sizes};
-use abc_varint::{ReadError, Window, put_count, put_u30, read_pool_index, read_u30};
+use abc_varint::{
+    Codec, PoolIndex, ReadError, Window, put_count, put_u30, read_pool_index, read_u30,
+};
 use std::alloc::Global;
 
 #[tactic(auto, unfolding(abc_tables::specs::Bodies::handler))]
@@ -26,9 +30,9 @@ fn read_handler<S: Source>(
     ensures value { ReadsPart S.left S.faults (handler_part sizes.now starts.now) w.old source.old w.new source.new result }
     ensures within { IfOk result (IsWithin (length starts.now - 1)) }
 {
-    let from = read_place(w, source, starts)?;
-    let to = read_place(w, source, starts)?;
-    let target = read_place(w, source, starts)?;
+    let from = read_place(w, source, starts.as_slice())?;
+    let to = read_place(w, source, starts.as_slice())?;
+    let target = read_place(w, source, starts.as_slice())?;
     let exc_type = read_pool_index(w, source, sizes.names)?;
     let var_name = read_pool_index(w, source, sizes.names)?;
     Ok(Handler {
@@ -133,4 +137,92 @@ pub fn put_handlers(
     put_count(handlers.len(), out)?;
     put_many(starts, handlers, out)?;
     Ok(())
+}
+
+/// Passes a place: it is where the instruction starts in the canonical code.
+fn pass_place<S: Source>(
+    w: &mut Window,
+    source: &mut S,
+    starts: &[u32],
+    moved: &[u32],
+    out: &mut Vec<u8>,
+) -> Result<(), ReadError>
+    requires rising { IsRising starts.now }
+    requires few { length starts.now < 2 ^ 32 }
+    requires count { length moved.now ≡ length starts.now }
+    ensures { PassesPart S.left S.faults (instruction_place starts.now) (λ n. number_bytes (get_or moved.now n 0)) nothing w.old source.old w.new source.new out.old.items out.new.items result }
+{
+    let index = read_place(w, source, starts)?;
+    put_u30(moved[index as usize], out)?;
+    Ok(())
+}
+
+/// Passes an exception, over code whose instructions start so as it was read, and so in the canonical code.
+#[tactic(auto, unfolding(abc_tables::specs::Bodies::handler, abc_tables::specs::Bodies::handler_bytes))]
+fn pass_handler<S: Source>(
+    alloc: Global,
+    w: &mut Window,
+    source: &mut S,
+    sizes: &Sizes,
+    starts: &[u32],
+    moved: &[u32],
+    out: &mut Vec<u8>,
+) -> Result<(), ReadError>
+    requires rising { IsRising starts.now }
+    requires few { length starts.now < 2 ^ 32 }
+    requires count { length moved.now ≡ length starts.now }
+    ensures { PassesPart S.left S.faults (handler_part sizes.now starts.now) (handler_bytes moved.now) nothing w.old source.old w.new source.new out.old.items out.new.items result }
+{
+    pass_place(w, source, starts, moved, out)?;
+    pass_place(w, source, starts, moved, out)?;
+    pass_place(w, source, starts, moved, out)?;
+    PoolIndex(sizes.names).pass(alloc, w, source, out)?;
+    PoolIndex(sizes.names).pass(alloc, w, source, out)?;
+    Ok(())
+}
+
+/// Passes so many exceptions.
+fn pass_many<S: Source>(
+    alloc: Global,
+    w: &mut Window,
+    source: &mut S,
+    sizes: &Sizes,
+    starts: &[u32],
+    moved: &[u32],
+    count: u32,
+    out: &mut Vec<u8>,
+) -> Result<(), ReadError>
+    requires rising { IsRising starts.now }
+    requires few { length starts.now < 2 ^ 32 }
+    requires count { length moved.now ≡ length starts.now }
+    requires fresh { w.old.kept ≡ None }
+    ensures { PassesPart S.left S.faults (times count (handler_part sizes.now starts.now)) (flat_map (handler_bytes moved.now)) nothing w.old source.old w.new source.new out.old.items out.new.items result }
+{
+    for _ in 0..count {
+        pass_handler(alloc, w, source, sizes, starts, moved, out)?;
+    }
+    Ok(())
+}
+
+/// Passes a count and that many exceptions, over code whose instructions start so as it was read, and so in the
+/// canonical code. Gives how many there are.
+#[tactic(auto, unfolding(abc_format::specs::Lists::counted, abc_format::specs::Canonical::counted_bytes))]
+pub fn pass_handlers<S: Source>(
+    alloc: Global,
+    w: &mut Window,
+    source: &mut S,
+    sizes: &Sizes,
+    starts: &[u32],
+    moved: &[u32],
+    out: &mut Vec<u8>,
+) -> Result<u32, ReadError>
+    requires rising { IsRising starts.now }
+    requires few { length starts.now < 2 ^ 32 }
+    requires count { length moved.now ≡ length starts.now }
+    ensures { PassesPart S.left S.faults (counted (handler_part sizes.now starts.now)) (counted_bytes (handler_bytes moved.now)) length w.old source.old w.new source.new out.old.items out.new.items result }
+{
+    let count = read_u30(w, source)?;
+    put_u30(count, out)?;
+    pass_many(alloc, w, source, sizes, starts, moved, count, out)?;
+    Ok(count)
 }

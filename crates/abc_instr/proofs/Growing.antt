@@ -24,11 +24,11 @@ pieces_length (j ∷ is) [] e = absurd (omega arith)
 pieces_length (j ∷ is) (s ∷ []) e = absurd (omega arith)
 pieces_length (j ∷ is) (s ∷ u ∷ ss) e = ap suc (pieces_length is (u ∷ ss) (omega arith))
 
-starts_push : {A : Type 0} (at : ℕ) (ps : List (A × ℕ)) (x : A × ℕ) → starts at (ps ++ x ∷ []) ≡ starts at ps ++ (at + size ps + x.1) ∷ []
+pub starts_push : {A : Type 0} (at : ℕ) (ps : List (A × ℕ)) (x : A × ℕ) → starts at (ps ++ x ∷ []) ≡ starts at ps ++ (at + size ps + x.1) ∷ []
 starts_push at [] x = let e : at + 0 + x.1 ≡ at + x.1 = omega arith in rw e refl
 starts_push at (p ∷ ps) x = let e : at + (p.1 + size ps) + x.1 ≡ at + p.1 + size ps + x.1 = omega arith in rw e (ap (λ (l : List ℕ). at ∷ l) (starts_push (at + p.1) ps x))
 
-last_start : {A : Type 0} (at : ℕ) (ps : List (A × ℕ)) → get_or (starts at ps) (length ps) 0 ≡ at + size ps
+pub last_start : {A : Type 0} (at : ℕ) (ps : List (A × ℕ)) → get_or (starts at ps) (length ps) 0 ≡ at + size ps
 last_start at [] = omega arith
 last_start at (p ∷ ps) = omega (arith, last_start (at + p.1) ps)
 
@@ -64,11 +64,11 @@ pub record Found (is : List Instr) (ss : List ℕ) : Type 0 where
   pub first : get_or ss 0 0 ≡ 0
   pub small : All (λ s. s ≤ 2 ^ 24) ss
 
-first_start : {A : Type 0} (ps : List (A × ℕ)) → get_or (starts 0 ps) 0 0 ≡ 0
+pub first_start : {A : Type 0} (ps : List (A × ℕ)) → get_or (starts 0 ps) 0 0 ≡ 0
 first_start [] = refl
 first_start (p ∷ ps) = refl
 
-all_small : {A : Type 0} (ps : List (A × ℕ)) → size ps ≤ 2 ^ 24 → All (λ s. s ≤ 2 ^ 24) (starts 0 ps)
+pub all_small : {A : Type 0} (ps : List (A × ℕ)) → size ps ≤ 2 ^ 24 → All (λ s. s ≤ 2 ^ 24) (starts 0 ps)
 all_small ps le = λ k d lt.
     let len = length-starts 0 ps in
     let at : get_or (starts 0 ps) k d ≡ start ps k = get_or_default (starts 0 ps) k d 0 lt ∙ starts_from ps k (omega (arith, len)) in

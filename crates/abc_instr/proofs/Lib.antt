@@ -1,3 +1,6 @@
 pub mod Growing
 pub mod Finding
 pub mod Resolved
+pub mod Weaving
+pub mod Scanned
+pub mod Passing

@@ -42,14 +42,14 @@ cases_within ss base next n (z ∷ zs) ts count e =
 -- ---- instructions
 
 -- It is as long as it was, and its targets are numbers of the n instructions or of the end.
-record Set (n : ℕ) (i j : Instr) : Type 0 where
-  can : CanSpell n j
-  len : instr_len j ≡ instr_len i
+pub record Set (n : ℕ) (i j : Instr) : Type 0 where
+  pub can : CanSpell n j
+  pub len : instr_len j ≡ instr_len i
 
 stays : (n : ℕ) (i j : Instr) → CanSpell n i → i ≡ j → Set n i j
 stays n i j can same = subst (Set n i) same (record { can = can; len = refl })
 
-instr_set : (ss : List ℕ) (here next n : ℕ) (i j : Instr) → length ss ≡ suc n → instr_of ss here next (raw_of i) ≡ Ok j → IsRaw i → Set n i j
+pub instr_set : (ss : List ℕ) (here next n : ℕ) (i j : Instr) → length ss ≡ suc n → instr_of ss here next (raw_of i) ≡ Ok j → IsRaw i → Set n i j
 instr_set ss here next n (instrs.Plain op) j count e raw = stays n (instrs.Plain op) j raw cc
 instr_set ss here next n (instrs.One op x) j count e raw = stays n (instrs.One op x) j raw cc
 instr_set ss here next n (instrs.Two op x y) j count e raw = stays n (instrs.Two op x y) j raw cc

@@ -1,17 +1,21 @@
 //! The instruction codec: code as a list of instructions, whose targets are numbers of instructions.
 #![tactic(auto)]
 
+mod pass;
 mod pieces;
 mod place;
 mod put;
 mod raw;
 mod read;
 mod resolve;
+mod scan;
 
 pub use abc_tables::{Code, Form, Instr, OpInfo, Pool, code_len, mnemonic, opcode};
+pub use pass::pass_code;
 pub use place::read_place;
 pub use put::{offset_at, put_code, starts_of};
 pub use read::read_code;
+pub use scan::Scan;
 
 #[cfg(test)]
 mod tests;

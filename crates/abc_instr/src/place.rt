@@ -4,7 +4,7 @@ ghost use Rattle.abc_tables.specs.Starts.{IsRising};
 ghost use Rattle.abc_varint.specs.Reads.{ReadsPart};
 
 use crate::resolve::number_of;
-use abc_base::{Source, Table};
+use abc_base::Source;
 use abc_varint::{ReadError, Reason, Window, read_u30};
 
 /// The number of the instruction that starts at a place in the code as it was read, or of the end, as an exception names
@@ -13,7 +13,7 @@ use abc_varint::{ReadError, Reason, Window, read_u30};
 pub fn read_place<S: Source>(
     w: &mut Window,
     source: &mut S,
-    offsets: &Table<u32>,
+    offsets: &[u32],
 ) -> Result<u32, ReadError>
     requires rising { IsRising offsets.now }
     requires few { length offsets.now < 2 ^ 32 }

@@ -17,19 +17,19 @@ use std::alloc::Global;
 const SWITCH: u8 = 0x1b;
 
 /// `pushbyte`
-const BYTE: u8 = 0x24;
+pub const BYTE: u8 = 0x24;
 
 /// `pushshort`
-const SHORT: u8 = 0x25;
+pub const SHORT: u8 = 0x25;
 
 /// `getscopeobject`
-const SCOPE_OBJECT: u8 = 0x65;
+pub const SCOPE_OBJECT: u8 = 0x65;
 
 /// `debug`
-const DEBUG: u8 = 0xef;
+pub const DEBUG: u8 = 0xef;
 
 /// How many bytes the instruction has.
-fn short_len(instr: &Instr) -> u32
+pub fn short_len(instr: &Instr) -> u32
     requires { len_of instr.now < 2 ^ 32 }
     ensures { result ≡ len_of instr.now }
 {
@@ -66,24 +66,19 @@ pub fn starts_of(alloc: Global, code: &Table<Instr>) -> Result<Table<u32>, NoMem
     Ok(starts)
 }
 
-fn put_offset(
-    starts: &Table<u32>,
-    base: u32,
-    target: u32,
-    out: &mut Vec<u8>,
-) -> Result<(), NoMemory>
+fn put_offset(starts: &[u32], base: u32, target: u32, out: &mut Vec<u8>) -> Result<(), NoMemory>
     requires target { target < length starts.now }
     requires start { get_or starts.now target 0 < 2 ^ 23 }
     requires base { base < 2 ^ 23 }
     ensures { Puts out.old.items out.new.items result (s24_bytes (offset_of starts.now base target)) }
 {
-    let start = *starts.get(target as usize);
+    let start = starts[target as usize];
     put_s24(start as i32 - base as i32, out)
 }
 
 #[tactic(auto, using(abc_varint::proofs::Putting::stays))]
 fn put_offsets(
-    starts: &Table<u32>,
+    starts: &[u32],
     base: u32,
     targets: &Table<u32>,
     out: &mut Vec<u8>,
@@ -99,9 +94,9 @@ fn put_offsets(
 }
 
 #[tactic(auto, using(abc_varint::proofs::Putting::stays, std::proofs::Common::append_assoc))]
-fn put_instr(
+pub fn put_instr(
     instr: &Instr,
-    starts: &Table<u32>,
+    starts: &[u32],
     here: u32,
     next: u32,
     out: &mut Vec<u8>,
@@ -174,7 +169,7 @@ fn put_instr(
 }
 
 #[tactic(auto, using(abc_varint::proofs::Putting::stays, std::proofs::Common::append_assoc))]
-fn put_instrs(code: &Table<Instr>, starts: &Table<u32>, out: &mut Vec<u8>) -> Result<(), NoMemory>
+fn put_instrs(code: &Table<Instr>, starts: &[u32], out: &mut Vec<u8>) -> Result<(), NoMemory>
     requires can { AllCanSpell (length starts.now - 1) code.now }
     requires some { 0 < length starts.now }
     requires small { Small starts.now (length starts.now - 1) }
@@ -197,7 +192,7 @@ fn append_code(code: &Table<Instr>, starts: &Table<u32>, out: &mut Vec<u8>) -> R
     ensures { Puts out.old.items out.new.items result (code_bytes code.now) }
 {
     put_u30(code_len(code) as u32, out)?;
-    put_instrs(code, starts, out)?;
+    put_instrs(code, starts.as_slice(), out)?;
     Ok(())
 }
 

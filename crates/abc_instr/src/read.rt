@@ -17,7 +17,7 @@ use std::alloc::Global;
 const LENGTH_END: u32 = 1 << 23;
 
 #[tactic(auto, unfolding(abc_tables::specs::Instructions::code_length))]
-fn read_length<S: Source>(w: &mut Window, source: &mut S) -> Result<u32, ReadError>
+pub fn read_length<S: Source>(w: &mut Window, source: &mut S) -> Result<u32, ReadError>
     ensures small { IfOk result (λ n. n < 2 ^ 23) }
     ensures value { ReadsPart S.left S.faults code_length w.old source.old w.new source.new result }
 {

@@ -28,19 +28,19 @@ impl From<NoMemory> for Missed {
 }
 
 /// Which start this is.
-pub fn number_of(starts: &Table<u32>, place: u32) -> Option<u32>
+pub fn number_of(starts: &[u32], place: u32) -> Option<u32>
     requires rising { IsRising starts.now }
     requires few { length starts.now < 2 ^ 32 }
     ensures { result ≡ position (λ s. nat_eq s place) starts.now }
 {
-    match starts.as_slice().binary_search(&place) {
+    match starts.binary_search(&place) {
         Ok(i) => Some(i as u32),
         Err(_) => None,
     }
 }
 
 /// The number of the instruction, or of the end, at an offset from a base.
-fn target_at(starts: &Table<u32>, base: u32, offset: i32) -> Option<u32>
+fn target_at(starts: &[u32], base: u32, offset: i32) -> Option<u32>
     requires rising { IsRising starts.now }
     requires few { length starts.now < 2 ^ 32 }
     requires base { base ≤ 2 ^ 24 }
@@ -53,7 +53,7 @@ fn target_at(starts: &Table<u32>, base: u32, offset: i32) -> Option<u32>
     number_of(starts, place as u32)
 }
 
-fn resolve_at(starts: &Table<u32>, base: u32, offset: u32, place: u32) -> Result<u32, Missed>
+fn resolve_at(starts: &[u32], base: u32, offset: u32, place: u32) -> Result<u32, Missed>
     requires rising { IsRising starts.now }
     requires few { length starts.now < 2 ^ 32 }
     requires base { base ≤ 2 ^ 24 }
@@ -67,7 +67,7 @@ fn resolve_at(starts: &Table<u32>, base: u32, offset: u32, place: u32) -> Result
 
 fn resolve_cases(
     alloc: Global,
-    starts: &Table<u32>,
+    starts: &[u32],
     base: u32,
     next: u32,
     cases: &Table<u32>,
@@ -89,9 +89,9 @@ fn resolve_cases(
 }
 
 /// The instruction with numbers for its offsets, or `None` where it has none.
-fn resolve_instr(
+pub fn resolve_instr(
     alloc: Global,
-    starts: &Table<u32>,
+    starts: &[u32],
     here: u32,
     next: u32,
     instr: &Instr,
@@ -139,7 +139,7 @@ pub fn resolve_all(
     for i in 0..instrs.len() {
         let here = *starts.get(i);
         let next = *starts.get(i + 1);
-        match resolve_instr(alloc, starts, here, next, instrs.get(i))? {
+        match resolve_instr(alloc, starts.as_slice(), here, next, instrs.get(i))? {
             Some(instr) => instrs.set(i, instr),
             None => {}
         }

@@ -7,12 +7,12 @@ use Rattle.abc_instr.proofs.put.append_code.Goals as goal
 pub put_instrs-requires-clause-can : goal.put_instrs-requires-clause-can
 put_instrs-requires-clause-can c =
     let n : length c.args.code.now ≡ length (canonical_starts c.args.code.now) - 1 = omega (arith, canonical_count c.args.code.now) in
-    rw c.requires.starts (subst (λ (m : ℕ). AllCanSpell m c.args.code.now) n c.requires.ready.can)
+    rw (c.as_slice.ensures, c.requires.starts) (subst (λ (m : ℕ). AllCanSpell m c.args.code.now) n c.requires.ready.can)
 
 pub put_instrs-requires-clause-some : goal.put_instrs-requires-clause-some
-put_instrs-requires-clause-some c = rw c.requires.starts (omega (arith, canonical_count c.args.code.now))
+put_instrs-requires-clause-some c = rw (c.as_slice.ensures, c.requires.starts) (omega (arith, canonical_count c.args.code.now))
 
 pub put_instrs-requires-clause-small : goal.put_instrs-requires-clause-small
 put_instrs-requires-clause-small c =
     let n : length c.args.code.now ≡ length (canonical_starts c.args.code.now) - 1 = omega (arith, canonical_count c.args.code.now) in
-    rw c.requires.starts (subst (λ (m : ℕ). Small (canonical_starts c.args.code.now) m) n (canonical_small c.args.code.now c.requires.ready.short))
+    rw (c.as_slice.ensures, c.requires.starts) (subst (λ (m : ℕ). Small (canonical_starts c.args.code.now) m) n (canonical_small c.args.code.now c.requires.ready.short))

@@ -3,7 +3,7 @@ use Rattle.abc_tables.proofs.Resolving.{search_is}
 use Rattle.abc_instr.proofs.resolve.number_of.Goals as goal
 
 pub returns-in-Ok : goal.returns-in-Ok
-returns-in-Ok c = search_is c.args.starts.now c.args.place (Ok c.in-Ok.i) c.requires.rising (rw c.as_slice.ensures at c.in-Ok.ensures.position)
+returns-in-Ok c = search_is c.args.starts.now c.args.place (Ok c.in-Ok.i) c.requires.rising c.in-Ok.ensures.position
 
 pub returns-in-Err : goal.returns-in-Err
-returns-in-Err c = search_is c.args.starts.now c.args.place (Err c.in-Err.field-0) c.requires.rising (rw c.as_slice.ensures at c.in-Err.ensures.position)
+returns-in-Err c = search_is c.args.starts.now c.args.place (Err c.in-Err.field-0) c.requires.rising c.in-Err.ensures.position

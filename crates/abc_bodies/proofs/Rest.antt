@@ -1,0 +1,99 @@
+-- What follows the sizes of a body is passed part by part.
+use Rattle.std.proofs.Common.{◌≡◌, ℕ, ◌≤◌, true, Bool, List, ◌++◌, length, Ok, Err, None, refl, sym, ap, subst, ◌∙◌, append_assoc, arith}
+use Rattle.std.specs.declared.option.Option.{Option}
+use Rattle.std.specs.declared.result.Result.{Result}
+use Rattle.abc_base.specs.Numbers.{number_bytes}
+use Rattle.abc_format.specs.Canonical.{counted_bytes}
+use Rattle.abc_format.specs.Lists.{counted}
+use Rattle.abc_format.specs.Numbers.{u30}
+use Rattle.abc_format.specs.Part.{At, Part}
+use Rattle.abc_tables.specs.declared.instructions.Code.{Code}
+use Rattle.abc_tables.specs.declared.tables.Sizes.{Sizes}
+use Rattle.abc_tables.specs.Bodies.{body_with, handler, handler_bytes}
+use Rattle.abc_tables.specs.Code.{code}
+use Rattle.abc_tables.specs.CodeBytes.{canonical_starts, code_bytes}
+use Rattle.abc_tables.specs.Traits.{trait_bytes, trait_info}
+use Rattle.abc_varint.specs.declared.error.ReadError.{ReadError}
+use Rattle.abc_varint.specs.declared.error.ReadError.TheVariants as errors
+use Rattle.abc_varint.specs.Passes.{Passes, nothing}
+use Rattle.abc_varint.specs.Reads.{Fails, Reads, stand, tells}
+use Rattle.abc_varint.specs.View.{View}
+use Rattle.abc_instr.specs.Scanning.{starts_in}
+use Rattle.abc_bodies.specs.Reading.{free_body, free_method, rest, rest_bytes}
+
+abbrev code_of : Code → List ℕ
+code_of c = code_bytes c.instrs
+
+pub code_fails : (e : ReadError) (v : Sizes) (from : At) → Fails e (code.reads from) → Fails e ((rest v).reads from)
+unfolding rest
+code_fails (errors.Refused place reason) v from f = rw f refl
+code_fails errors.ReadFault v from f = tt
+code_fails errors.NoMemory v from f = tt
+
+handlers_refused : (e : ReadError) (v : Sizes) (c : Code) (from a : At) → code.reads from ≡ Ok (c, a) → Fails e ((counted (handler v c.offsets)).reads a) → Fails e ((rest v).reads from)
+unfolding rest
+handlers_refused (errors.Refused place reason) v c from a r f = rw (r, f) refl
+handlers_refused errors.ReadFault v c from a r f = tt
+handlers_refused errors.NoMemory v c from a r f = tt
+
+traits_refused : (e : ReadError) (v : Sizes) (c : Code) (from a b : At) (hs : List _) → code.reads from ≡ Ok (c, a) → (counted (handler v c.offsets)).reads a ≡ Ok (hs, b) → Fails e ((counted (trait_info v)).reads b) → Fails e ((rest v).reads from)
+unfolding rest
+traits_refused (errors.Refused place reason) v c from a b hs r h f = rw (r, h, f) refl
+traits_refused errors.ReadFault v c from a b hs r h f = tt
+traits_refused errors.NoMemory v c from a b hs r h f = tt
+
+module _ (v : Sizes) (os ms read put old b1 : List ℕ) (es : os ≡ read) (em : ms ≡ put) (w : View) (s : Option (List ℕ)) (w1 : View) (s1 : Option (List ℕ)) (p : Passes code code_of starts_in w s w1 s1 old b1 (Ok (read, put))) where
+  pub handlers_fail : (e : ReadError) → (w1.kept ≡ None → tells s1 ≡ true → Fails e ((counted (handler v os)).reads (stand w1 s1))) → w.kept ≡ None → tells s ≡ true → Fails e ((rest v).reads (stand w s))
+  handlers_fail e f k t =
+      let a = p.4 t in
+      let x = a.1 in
+      let same : os ≡ x.value.offsets = es ∙ ap (λ (y : List ℕ × List ℕ). y.0) x.tells in
+      handlers_refused e v x.value (stand w s) (stand w1 s1) x.read (subst (λ (ss : List ℕ). Fails e ((counted (handler v ss)).reads (stand w1 s1))) same (f p.1 a.0))
+
+  module _ (b2 : List ℕ) (n : ℕ) (w2 : View) (s2 : Option (List ℕ)) (q : Passes (counted (handler v os)) (counted_bytes (handler_bytes ms)) length w1 s1 w2 s2 b1 b2 (Ok n)) where
+    pub traits_fail : (e : ReadError) → (w2.kept ≡ None → tells s2 ≡ true → Fails e ((counted (trait_info v)).reads (stand w2 s2))) → w.kept ≡ None → tells s ≡ true → Fails e ((rest v).reads (stand w s))
+    traits_fail e f k t =
+        let a = p.4 t in
+        let x = a.1 in
+        let b = q.4 a.0 in
+        let y = b.1 in
+        let same : os ≡ x.value.offsets = es ∙ ap (λ (z : List ℕ × List ℕ). z.0) x.tells in
+        let h = subst (λ (ss : List ℕ). (counted (handler v ss)).reads (stand w1 s1) ≡ Ok (y.value, stand w2 s2)) same y.read in
+        traits_refused e v x.value (stand w s) (stand w1 s1) (stand w2 s2) y.value x.read h (f q.1 b.0)
+
+    pub rest_passes : (new : List ℕ) (m : ℕ) (w3 : View) (s3 : Option (List ℕ)) → Passes (counted (trait_info v)) (counted_bytes trait_bytes) length w2 s2 w3 s3 b2 new (Ok m) → Passes (rest v) rest_bytes nothing w s w3 s3 old new (Ok tt)
+    unfolding rest rest_bytes
+    rest_passes new m w3 s3 r = (
+      p.0,
+      r.1,
+      omega (arith, p.2, q.2, r.2),
+      r.3 ∙ q.3 ∙ p.3,
+      λ t.
+          let a = p.4 t in
+          let x = a.1 in
+          let b = q.4 a.0 in
+          let y = b.1 in
+          let d = r.4 b.0 in
+          let z = d.1 in
+          let same : os ≡ x.value.offsets = es ∙ ap (λ (u : List ℕ × List ℕ). u.0) x.tells in
+          let moved : ms ≡ canonical_starts x.value.instrs = em ∙ ap (λ (u : List ℕ × List ℕ). u.1) x.tells in
+          let h = subst (λ (ss : List ℕ). (counted (handler v ss)).reads (stand w1 s1) ≡ Ok (y.value, stand w2 s2)) same y.read in
+          let puts = subst (λ (ss : List ℕ). b2 ≡ b1 ++ counted_bytes (handler_bytes ss) y.value) moved y.bytes in (
+            d.0,
+            record {
+              value = (x.value, (y.value, z.value));
+              read = rw (x.read, h, z.read) refl;
+              bytes = z.bytes ∙ rw (puts, x.bytes) (simp append_assoc);
+              tells = refl;
+            },
+          ),
+    )
+
+-- ---- a body, after its method and its four sizes
+
+pub rest_fails : (e : ReadError) (v : Sizes) (flags : List Bool) (m a b c d : ℕ) (from a1 a2 a3 a4 a5 : At) → (free_method v flags).reads from ≡ Ok (m, a1) → u30.reads a1 ≡ Ok (a, a2) → u30.reads a2 ≡ Ok (b, a3) → u30.reads a3 ≡ Ok (c, a4)
+    → u30.reads a4 ≡ Ok (d, a5) → Fails e ((rest v).reads a5) → Fails e ((free_body v flags).reads from)
+unfolding free_body body_with rest
+rest_fails (errors.Refused place reason) v flags m a b c d from a1 a2 a3 a4 a5 r1 r2 r3 r4 r5 f = rw (r1, r2, r3, r4, r5, f) refl
+rest_fails errors.ReadFault v flags m a b c d from a1 a2 a3 a4 a5 r1 r2 r3 r4 r5 f = tt
+rest_fails errors.NoMemory v flags m a b c d from a1 a2 a3 a4 a5 r1 r2 r3 r4 r5 f = tt

@@ -1,0 +1,130 @@
+-- What code says whose scan is put.
+use Rattle.std.proofs.Common.{◌≡◌, ℕ, suc, ◌+◌, ◌-◌, ◌^◌, ◌<◌, ◌≤◌, List, [], ◌∷◌, ◌++◌, length, map, get_or, take, drop, Ok, Err, refl, sym, ap, subst, ◌∙◌, append_assoc, arith}
+use Rattle.std.specs.Prelude.{All}
+use Rattle.std.specs.List.{flat_map}
+use Rattle.std.specs.declared.result.Result.{Result}
+use Rattle.std.proofs.lemmas.List.{length-map}
+use Rattle.std.proofs.lemmas.List.Elements.{All-append, All-nil, All-push}
+use Rattle.abc_base.specs.Numbers.{number_bytes}
+use Rattle.abc_format.specs.Part.{At, Refusal, refusal, ◌>>=◌}
+use Rattle.abc_tables.specs.declared.code.Instr.{Instr}
+use Rattle.abc_tables.specs.declared.instructions.Code.{Code}
+use Rattle.abc_tables.specs.Code.{code, code_body}
+use Rattle.abc_tables.specs.CodeBytes.{canonical_starts, code_bytes, code_len, instrs_bytes, sized}
+use Rattle.abc_tables.specs.Instructions.{RawInstr, code_length, pieces}
+use Rattle.abc_tables.specs.Starts.{starts, size}
+use Rattle.abc_tables.specs.Targets.{instrs_of, resolve}
+use Rattle.abc_tables.proofs.Lengths.{canonical_count}
+use Rattle.abc_tables.proofs.Resolving.{length-starts}
+use Rattle.abc_varint.specs.declared.error.ReadError.{ReadError}
+use Rattle.abc_varint.specs.declared.error.ReadError.TheVariants as errors
+use Rattle.abc_varint.specs.Reads.{Fails}
+use Rattle.abc_instr.specs.declared.scan.Scan.{Scan}
+use Rattle.abc_instr.specs.Offsets.{raw_of}
+use Rattle.abc_instr.specs.Resolving.{onto}
+use Rattle.abc_instr.specs.Scanning.{AreRead, IsScan, instrs_in, plain_bytes, raws_in, scan_bytes, starts_in}
+use Rattle.abc_instr.proofs.Growing.{last_start}
+use Rattle.abc_instr.proofs.Scanned.{AreAlike, alike, canonical}
+use Rattle.abc_instr.proofs.Weaving.{woven_is}
+
+sized_count : (is : List Instr) → length (sized is) ≡ length is
+sized_count [] = refl
+sized_count (i ∷ is) = ap suc (sized_count is)
+
+raws_starts : (at : ℕ) (xs : List (Instr × ℕ)) → starts at (raws_in xs) ≡ starts at xs
+raws_starts at [] = refl
+raws_starts at (x ∷ xs) = ap (λ (l : List ℕ). at ∷ l) (raws_starts (at + x.1) xs)
+
+pub raws_some : (xs : List (Instr × ℕ)) → All (λ x. 0 < x.1) xs → All (λ x. 0 < x.1) (raws_in xs)
+raws_some [] all = λ k d lt. absurd (omega arith)
+raws_some (x ∷ xs) all =
+    let P : RawInstr × ℕ → Type 0 = λ y. 0 < y.1 in
+    All-append P ((raw_of x.0, x.1) ∷ []) (raws_in xs) (All-push P [] (raw_of x.0, x.1) (All-nil P) (all 0 x (omega arith))) (raws_some xs (λ k d lt. all (suc k) d (omega arith)))
+
+pub raws_size : (xs : List (Instr × ℕ)) → size (raws_in xs) ≡ size xs
+raws_size [] = refl
+raws_size (x ∷ xs) = ap (λ (n : ℕ). x.1 + n) (raws_size xs)
+
+-- the bytes of a scan, from its instructions
+scan_is : (n : ℕ) (xs : List (Instr × ℕ)) (scan : Scan) → IsScan xs scan → AreRead n xs
+    → scan_bytes scan ≡ (instrs_of scan.starts.items 0 (raws_in xs) >>= λ js. Ok (number_bytes (code_len (instrs_in xs)) ++ instrs_bytes (canonical_starts (instrs_in xs)) 0 js))
+scan_is n xs scan is read =
+    let ss = scan.starts.items in
+    let ms = canonical_starts (instrs_in xs) in
+    let plain = flat_map plain_bytes (instrs_in xs) in
+    let moved : scan.moved.items ≡ ms = is.moved ∙ canonical (instrs_in xs) in
+    let many : length ms - 1 ≡ length (sized (instrs_in xs)) = omega (arith, canonical_count (instrs_in xs), sized_count (instrs_in xs)) in
+    let last : get_or ms (length ms - 1) 0 ≡ code_len (instrs_in xs) = ap (λ (k : ℕ). get_or ms k 0) many ∙ ap (λ (l : List ℕ). get_or l (length (sized (instrs_in xs))) 0) (sym (canonical (instrs_in xs))) ∙ last_start 0 (sized (instrs_in xs)) ∙ zero_more (code_len (instrs_in xs)) in
+    let count : length ss ≡ suc (length xs) = ap length is.starts ∙ length-starts 0 xs in
+    let w = woven_is ss ms plain (length xs) count xs 0 0 0 0 (omega arith) (omega arith) refl read.raw in
+    rw (moved, is.plain, is.jumps, last, w) (joins (instrs_of ss 0 (raws_in xs)) (number_bytes (code_len (instrs_in xs))) ms) where
+      zero_more : (k : ℕ) → 0 + k ≡ k
+      zero_more k = omega arith
+
+      joins : (r : Result (List Instr) Refusal) (front ms : List ℕ) → ((r >>= λ js. Ok ([] ++ instrs_bytes ms 0 js)) >>= λ b. Ok (front ++ b)) ≡ (r >>= λ js. Ok (front ++ instrs_bytes ms 0 js))
+      joins (Ok js) front ms = refl
+      joins (Err d) front ms = refl
+
+pub record IsPut (xs : List (Instr × ℕ)) (scan : Scan) (out new : List ℕ) : Type 0 where
+  pub instrs : List Instr
+  pub found : instrs_of (starts 0 (raws_in xs)) 0 (raws_in xs) ≡ Ok instrs
+  pub bytes : new ≡ out ++ code_bytes instrs
+  pub starts_are : scan.starts.items ≡ starts 0 (raws_in xs)
+  pub moved : scan.moved.items ≡ canonical_starts instrs
+
+module _ (n : ℕ) (xs : List (Instr × ℕ)) (scan : Scan) (is : IsScan xs scan) (read : AreRead n xs) (out : List ℕ) where
+  first : scan.starts.items ≡ starts 0 (raws_in xs)
+  first = is.starts ∙ sym (raws_starts 0 xs)
+
+  found : (new : List ℕ) (r : Result (List Instr) Refusal) → instrs_of scan.starts.items 0 (raws_in xs) ≡ r → onto out (r >>= λ js. Ok (number_bytes (code_len (instrs_in xs)) ++ instrs_bytes (canonical_starts (instrs_in xs)) 0 js)) ≡ Ok new → IsPut xs scan out new
+  unfolding canonical_starts code_bytes
+  found new (Ok js) e h =
+      let count : length scan.starts.items ≡ suc (length xs) = ap length is.starts ∙ length-starts 0 xs in
+      let a = alike scan.starts.items 0 (length xs) xs js count e read.raw in
+      let b : out ++ (number_bytes (code_len (instrs_in xs)) ++ instrs_bytes (canonical_starts (instrs_in xs)) 0 js) ≡ new = cc in
+      record {
+        instrs = js;
+        found = rw (← first) e;
+        bytes = sym b ∙ rw (a.len, a.starts_are 0) refl;
+        starts_are = first;
+        moved = is.moved ∙ sym (a.starts_are 0);
+      }
+  found new (Err d) e h = absurd cc
+
+  missed : (d : Refusal) (r : Result (List Instr) Refusal) → instrs_of scan.starts.items 0 (raws_in xs) ≡ r → onto out (r >>= λ js. Ok (number_bytes (code_len (instrs_in xs)) ++ instrs_bytes (canonical_starts (instrs_in xs)) 0 js)) ≡ Err d
+      → instrs_of (starts 0 (raws_in xs)) 0 (raws_in xs) ≡ Err d
+  missed d (Ok js) e h = absurd cc
+  missed d (Err f) e h = let same : f ≡ d = cc in rw (← first) (e ∙ ap (λ (x : Refusal). Err x) same)
+
+  pub is_put : (new : List ℕ) → onto out (scan_bytes scan) ≡ Ok new → IsPut xs scan out new
+  is_put new h = found new (instrs_of scan.starts.items 0 (raws_in xs)) refl (ap (onto out) (sym (scan_is n xs scan is read)) ∙ h)
+
+  pub is_missed : (d : Refusal) → onto out (scan_bytes scan) ≡ Err d → instrs_of (starts 0 (raws_in xs)) 0 (raws_in xs) ≡ Err d
+  is_missed d h = missed d (instrs_of scan.starts.items 0 (raws_in xs)) refl (ap (onto out) (sym (scan_is n xs scan is read)) ∙ h)
+
+-- ---- code
+
+pub code_found : (n : ℕ) (from a b : At) (xs : List (Instr × ℕ)) (js : List Instr) → code_length.reads from ≡ Ok (n, a) → (pieces n).reads a ≡ Ok (raws_in xs, b) → instrs_of (starts 0 (raws_in xs)) 0 (raws_in xs) ≡ Ok js
+    → code.reads from ≡ Ok (record { instrs = js; offsets = starts 0 (raws_in xs) }, b)
+unfolding code code_body resolve
+code_found n from a b xs js e f g = rw (e, f, g) refl
+
+pub code_missed : (n : ℕ) (from a b : At) (xs : List (Instr × ℕ)) (d : Refusal) → code_length.reads from ≡ Ok (n, a) → (pieces n).reads a ≡ Ok (raws_in xs, b) → instrs_of (starts 0 (raws_in xs)) 0 (raws_in xs) ≡ Err d
+    → code.reads from ≡ Err (refusal (a.place + d.place) d.reason)
+unfolding code code_body resolve
+code_missed n from a b xs d e f g = rw (e, f, g) refl
+
+pub length_fails : (e : ReadError) (from : At) → Fails e (code_length.reads from) → Fails e (code.reads from)
+unfolding code
+length_fails (errors.Refused place reason) from f = rw f refl
+length_fails errors.ReadFault from f = tt
+length_fails errors.NoMemory from f = tt
+
+pub pieces_fail : (e : ReadError) (n : ℕ) (from a : At) → code_length.reads from ≡ Ok (n, a) → Fails e ((pieces n).reads a) → Fails e (code.reads from)
+unfolding code code_body
+pieces_fail (errors.Refused place reason) n from a g f = rw (g, f) refl
+pieces_fail errors.ReadFault n from a g f = tt
+pieces_fail errors.NoMemory n from a g f = tt
+
+pub told : (os ms : List ℕ) (c : Code) → os ≡ c.offsets → ms ≡ canonical_starts c.instrs → (os, ms) ≡ starts_in c
+told os ms c e f = rw (e, f) refl

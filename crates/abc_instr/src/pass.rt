@@ -1,0 +1,41 @@
+ghost use Rattle.std.specs.Prelude.{◌≡◌, ◌≤◌, ◌<◌, ◌^◌, ◌+◌, None, OnOk, length};
+ghost use Rattle.abc_tables.specs.Code.{code as code_part};
+ghost use Rattle.abc_tables.specs.CodeBytes.{code_bytes};
+ghost use Rattle.abc_tables.specs.Starts.{IsRising};
+ghost use Rattle.abc_varint.specs.Passes.{Passes, PassesPart};
+ghost use Rattle.abc_varint.specs.Reads.{Reads, ReadsPart, stored};
+ghost use Rattle.abc_instr.specs.Scanning.{starts_in};
+
+use crate::read::read_length;
+use crate::resolve::Missed;
+use crate::scan::{Scan, put_scan, scan_code};
+use abc_base::Source;
+use abc_varint::{ReadError, Reason, Window};
+use std::alloc::Global;
+
+/// Reads code, as `read_code` does, and appends its canonical bytes. None of it is kept but where its instructions start,
+/// in the bytes as they were read and in the canonical ones; the memory of the code before is used again. After an Err
+/// any bytes may follow the old ones.
+pub fn pass_code<S: Source>(
+    alloc: Global,
+    w: &mut Window,
+    source: &mut S,
+    scan: &mut Scan,
+    out: &mut Vec<u8>,
+) -> Result<(), ReadError>
+    // The window has no end.
+    requires { w.old.end ≡ 2 ^ 25 }
+    ensures value { PassesPart S.left S.faults code_part (λ c. code_bytes c.instrs) starts_in w.old source.old w.new source.new out.old.items out.new.items (stored result ((scan.new).starts.items, (scan.new).moved.items)) }
+    ensures rising { OnOk result (IsRising (scan.new).starts.items) }
+    ensures few { OnOk result (length (scan.new).starts.items < 2 ^ 32) }
+    ensures count { OnOk result (length (scan.new).moved.items ≡ length (scan.new).starts.items) }
+{
+    let length = read_length(w, source)?;
+    let first = w.place();
+    scan_code(alloc, w, source, length, scan)?;
+    match put_scan(alloc, scan, out) {
+        Ok(()) => Ok(()),
+        Err(Missed::Target(at)) => Err(w.refuse(first + at, Reason::Target)),
+        Err(Missed::NoMemory) => Err(ReadError::NoMemory),
+    }
+}
