@@ -221,8 +221,8 @@ pub fn pass_handlers<S: Source>(
     requires count { length moved.now ≡ length starts.now }
     ensures { PassesPart S.left S.faults (counted (handler_part sizes.now starts.now)) (counted_bytes (handler_bytes moved.now)) length w.old source.old w.new source.new out.old.items out.new.items result }
 {
-    let count = read_u30(w, source)?;
-    put_u30(count, out)?;
-    pass_many(alloc, w, source, sizes, starts, moved, count, out)?;
-    Ok(count)
+    let total = read_u30(w, source)?;
+    put_u30(total, out)?;
+    pass_many(alloc, w, source, sizes, starts, moved, total, out)?;
+    Ok(total)
 }

@@ -5,6 +5,7 @@ ghost use Rattle.abc_varint.specs.Reads.{tells};
 use super::*;
 use abc_base::{NoMemory, Source, SteadySource, Table};
 use abc_tables::{Abc, Method, Multiname};
+use abc_traits::sizes_of;
 use abc_varint::{ReadError, Reason, Window};
 use std::alloc::Global;
 use std::test::*;
@@ -123,6 +124,30 @@ fn spellings(rt: HostRuntime) -> Result<(), Fail> {
     Ok(())
 }
 
+/// What is passed, after a byte, of the bodies that these bytes spell.
+fn passed(rt: &HostRuntime, bytes: &[u8], piece: usize) -> Result<Vec<u8>, ReadError>
+    requires { 0 < piece }
+{
+    let mut source = SteadySource::new(rt.alloc(), bytes, piece)?;
+    let mut w = Window::new(rt.alloc())?;
+    let mut out = Vec::new(rt.alloc());
+    out.push(0xbf)?;
+    let sizes = sizes_of(&beside(rt.alloc())?);
+    pass_bodies(rt.alloc(), &mut w, &mut source, &sizes, &mut out)?;
+    Ok(out)
+}
+
+#[test]
+fn passes(rt: HostRuntime) -> Result<(), Fail> {
+    for piece in PIECES {
+        let out = passed(&rt, LONGER, piece).ok().ok_or("bodies")?;
+        assert_eq!(rt; out.as_slice(), SHORTER);
+        let out = passed(&rt, &TWO[1..], piece).ok().ok_or("bodies")?;
+        assert_eq!(rt; out.as_slice(), TWO);
+    }
+    Ok(())
+}
+
 fn bodies_of(rt: &HostRuntime, bytes: &[u8], piece: usize) -> Result<Abc, ReadError>
     requires { 0 < piece }
 {
@@ -195,6 +220,7 @@ fn refusals(rt: HostRuntime) {
         for (bytes, place, reason) in REFUSALS {
             let want = ReadError::Refused { place, reason };
             assert_eq!(rt; recoded(&rt, bytes, piece, 0).err(), Some(want));
+            assert_eq!(rt; passed(&rt, bytes, piece).err(), Some(want));
         }
     }
 }

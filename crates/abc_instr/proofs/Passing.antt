@@ -1,9 +1,8 @@
 -- What code says whose scan is put.
-use Rattle.std.proofs.Common.{◌≡◌, ℕ, suc, ◌+◌, ◌-◌, ◌^◌, ◌<◌, ◌≤◌, List, [], ◌∷◌, ◌++◌, length, map, get_or, take, drop, Ok, Err, refl, sym, ap, subst, ◌∙◌, append_assoc, arith}
+use Rattle.std.proofs.Common.{◌≡◌, ℕ, suc, ◌+◌, ◌-◌, ◌<◌, List, [], ◌∷◌, ◌++◌, length, get_or, Ok, Err, refl, sym, ap, ◌∙◌, arith}
 use Rattle.std.specs.Prelude.{All}
 use Rattle.std.specs.List.{flat_map}
 use Rattle.std.specs.declared.result.Result.{Result}
-use Rattle.std.proofs.lemmas.List.{length-map}
 use Rattle.std.proofs.lemmas.List.Elements.{All-append, All-nil, All-push}
 use Rattle.abc_base.specs.Numbers.{number_bytes}
 use Rattle.abc_format.specs.Part.{At, Refusal, refusal, ◌>>=◌}
@@ -24,7 +23,7 @@ use Rattle.abc_instr.specs.Offsets.{raw_of}
 use Rattle.abc_instr.specs.Resolving.{onto}
 use Rattle.abc_instr.specs.Scanning.{AreRead, IsScan, instrs_in, plain_bytes, raws_in, scan_bytes, starts_in}
 use Rattle.abc_instr.proofs.Growing.{last_start}
-use Rattle.abc_instr.proofs.Scanned.{AreAlike, alike, canonical}
+use Rattle.abc_instr.proofs.Scanned.{alike, canonical}
 use Rattle.abc_instr.proofs.Weaving.{woven_is}
 
 sized_count : (is : List Instr) → length (sized is) ≡ length is

@@ -1,31 +1,27 @@
 -- What a scan knows of the instructions that were read, and how it grows.
-use Rattle.std.proofs.Common.{◌≡◌, ℕ, suc, ◌+◌, ◌-◌, ◌^◌, ◌<◌, ◌≤◌, Bool, true, false, List, [], ◌∷◌, ◌++◌, length, map, get_or, ◌⊎◌, Ok, Some, None, refl, sym, ap, subst, ◌∙◌, length-append, append_assoc, zero-add, inl, inr, arith}
+use Rattle.std.proofs.Common.{◌≡◌, ℕ, suc, ◌+◌, ◌-◌, ◌^◌, ◌<◌, ◌≤◌, List, [], ◌∷◌, ◌++◌, length, ◌⊎◌, Ok, Some, None, refl, sym, ap, subst, ◌∙◌, length-append, append_assoc, zero-add, inl, inr, arith}
 use Rattle.std.specs.Prelude.{All}
 use Rattle.std.specs.List.{flat_map}
 use Rattle.std.specs.declared.option.Option.{Option}
-use Rattle.std.specs.declared.result.Result.{Result}
-use Rattle.std.proofs.lemmas.Bool.{cases_Bool}
 use Rattle.std.proofs.lemmas.List.{append-nil, length-map, map-append}
 use Rattle.std.proofs.lemmas.List.Concat.{flat_map-append}
 use Rattle.std.proofs.lemmas.List.Elements.{All-append, All-nil, All-push}
-use Rattle.abc_format.specs.Part.{Refusal, ◌>>=◌}
+use Rattle.abc_format.specs.Part.{◌>>=◌}
 use Rattle.abc_format.proofs.Exact.{bind_ok}
 use Rattle.abc_tables.specs.declared.code.Instr.{Instr}
 use Rattle.abc_tables.specs.declared.code.Instr.TheVariants as instrs
 use Rattle.abc_tables.specs.CodeBytes.{canonical_starts, code_len, instr_len, sized}
-use Rattle.abc_tables.specs.Instructions.{RawInstr}
 use Rattle.abc_tables.specs.Ready.{Small}
-use Rattle.abc_tables.specs.Starts.{starts, size, IsRising}
+use Rattle.abc_tables.specs.Starts.{starts, size}
 use Rattle.abc_tables.specs.Targets.{instr_of, instrs_of}
-use Rattle.abc_tables.proofs.CodeShortest.{start_small}
-use Rattle.abc_tables.proofs.Lengths.{canonical_count, canonical_small, len-append}
-use Rattle.abc_tables.proofs.Resolving.{few_starts, length-starts, size-push, starts_rising}
+use Rattle.abc_tables.proofs.Lengths.{canonical_count, canonical_small}
+use Rattle.abc_tables.proofs.Resolving.{few_starts, length-starts, starts_rising}
 use Rattle.abc_instr.specs.declared.scan.Jump.{Jump}
 use Rattle.abc_instr.specs.declared.scan.Scan.{Scan}
 use Rattle.abc_instr.specs.Offsets.{raw_of, AreRaw, IsRaw}
 use Rattle.abc_instr.specs.Scanning.{AreRead, CanWeave, IsJump, IsScan, end_of, instrs_in, jump_in, jumps_from, jumps_in, plain_bytes, raws_in}
-use Rattle.abc_instr.proofs.Growing.{last_start, starts_push}
-use Rattle.abc_instr.proofs.Resolved.{instr_set, raw_push}
+use Rattle.abc_instr.proofs.Growing.{starts_push}
+use Rattle.abc_instr.proofs.Resolved.{instr_set}
 
 -- ---- one instruction
 

@@ -1,22 +1,20 @@
 -- What a scan of instructions puts.
-use Rattle.std.proofs.Common.{◌≡◌, ℕ, suc, ◌+◌, ◌-◌, ◌^◌, ◌<◌, ◌≤◌, Bool, true, false, if◌then◌else◌, List, [], ◌∷◌, ◌++◌, length, map, get_or, take, drop, Ok, Err, Some, None, refl, sym, ap, subst, ◌∙◌, length-append, length-drop, length-take, append_assoc, inl, inr, arith}
-use Rattle.std.specs.Prelude.{All}
+use Rattle.std.proofs.Common.{◌≡◌, ℕ, suc, ◌+◌, ◌-◌, ◌<◌, ◌≤◌, true, false, List, [], ◌∷◌, ◌++◌, length, get_or, take, drop, Ok, Err, Some, None, refl, sym, ap, ◌∙◌, length-append, length-drop, length-take, append_assoc, inl, inr, arith}
 use Rattle.std.specs.List.{flat_map}
 use Rattle.std.specs.declared.option.Option.{Option}
 use Rattle.std.specs.declared.result.Result.{Result}
 use Rattle.std.proofs.lemmas.Bool.{cases_Bool}
-use Rattle.std.proofs.lemmas.List.{append-nil, map-append, drop-drop, take_all, take_at, take-append-drop}
+use Rattle.std.proofs.lemmas.List.{append-nil, drop-drop, take_all, take_at, take-append-drop}
 use Rattle.std.proofs.Math.Seq.{drop-append_seam}
 use Rattle.abc_format.specs.Part.{Refusal, refusal, ◌>>=◌}
 use Rattle.abc_format.specs.declared.reason.Reason.TheVariants as reasons
 use Rattle.abc_tables.specs.declared.code.Instr.{Instr}
 use Rattle.abc_tables.specs.declared.code.Instr.TheVariants as instrs
-use Rattle.abc_tables.specs.CodeBytes.{code_len, instr_bytes, instr_len, instrs_bytes, sized}
+use Rattle.abc_tables.specs.CodeBytes.{instr_bytes, instr_len, instrs_bytes}
 use Rattle.abc_tables.specs.Instructions.{RawInstr, Same}
-use Rattle.abc_tables.specs.Starts.{starts, size}
 use Rattle.abc_tables.specs.Targets.{instr_of, instrs_of}
 use Rattle.abc_instr.specs.declared.scan.Jump.{Jump}
-use Rattle.abc_instr.specs.Offsets.{raw_of, AreRaw, IsRaw}
+use Rattle.abc_instr.specs.Offsets.{raw_of, AreRaw}
 use Rattle.abc_tables.proofs.Resolving.{drop_read}
 use Rattle.abc_instr.specs.Resolving.{onto, Resolves}
 use Rattle.abc_instr.specs.declared.resolve.Missed.{Missed}

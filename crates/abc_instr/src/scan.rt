@@ -45,7 +45,12 @@ pub struct Scan {
 
 impl Scan {
     /// A scan of nothing. It takes no memory.
-    pub fn new(alloc: Global) -> Scan {
+    pub fn new(alloc: Global) -> Scan
+        ensures starts { result.starts.items ≡ [] }
+        ensures moved { result.moved.items ≡ [] }
+        ensures plain { result.plain.items ≡ [] }
+        ensures jumps { result.jumps.items ≡ [] }
+    {
         Scan {
             starts: Vec::new(alloc),
             moved: Vec::new(alloc),

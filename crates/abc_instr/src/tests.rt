@@ -182,6 +182,18 @@ fn recoded(rt: &HostRuntime, bytes: &[u8], piece: usize) -> Result<Vec<u8>, Read
     Ok(out)
 }
 
+/// What is passed of code, and where its instructions start: as they were read, and in the canonical bytes.
+fn passed(rt: &HostRuntime, bytes: &[u8], piece: usize) -> Result<(Vec<u8>, Scan), ReadError>
+    requires { 0 < piece }
+{
+    let mut source = SteadySource::new(rt.alloc(), bytes, piece)?;
+    let mut w = Window::new(rt.alloc())?;
+    let mut scan = Scan::new(rt.alloc());
+    let mut out = Vec::new(rt.alloc());
+    pass_code(rt.alloc(), &mut w, &mut source, &mut scan, &mut out)?;
+    Ok((out, scan))
+}
+
 fn code_of(rt: &HostRuntime, bytes: &[u8], piece: usize) -> Result<Code, ReadError>
     requires { 0 < piece }
 {
@@ -207,6 +219,8 @@ fn each_instruction(rt: HostRuntime) -> Result<(), Fail> {
         let code = code_of(&rt, &ALL, piece).ok().ok_or("code")?;
         assert_eq!(rt; code.instrs.len(), 143);
         assert_eq!(rt; code_len(&code.instrs), 263);
+        let (out, _) = passed(&rt, &ALL, piece).ok().ok_or("code")?;
+        assert_eq!(rt; out.as_slice(), ALL.as_slice());
     }
     Ok(())
 }
@@ -249,6 +263,10 @@ fn offsets_move_with_lengths(rt: HostRuntime) -> Result<(), Fail> {
         assert_eq!(rt; out.as_slice(), short.as_slice());
         let code = code_of(&rt, &long, piece).ok().ok_or("code")?;
         assert_eq!(rt; code.offsets.as_slice(), [0, 1, 4, 5, 9].as_slice());
+        let (out, scan) = passed(&rt, &long, piece).ok().ok_or("code")?;
+        assert_eq!(rt; out.as_slice(), short.as_slice());
+        assert_eq!(rt; scan.starts.as_slice(), [0, 1, 4, 5, 9].as_slice());
+        assert_eq!(rt; scan.moved.as_slice(), [0, 1, 3, 4, 8].as_slice());
     }
     Ok(())
 }
@@ -262,7 +280,31 @@ fn a_switch_counts_from_itself(rt: HostRuntime) -> Result<(), Fail> {
     for piece in PIECES {
         let out = recoded(&rt, &long, piece).ok().ok_or("code")?;
         assert_eq!(rt; out.as_slice(), short.as_slice());
+        let (out, _) = passed(&rt, &long, piece).ok().ok_or("code")?;
+        assert_eq!(rt; out.as_slice(), short.as_slice());
     }
+    Ok(())
+}
+
+/// The memory of one code serves the next: of the first, nothing is left.
+#[test]
+fn one_code_after_the_other(rt: HostRuntime) -> Result<(), Fail> {
+    let both = [4, 0x10, 0xfc, 0xff, 0xff, 3, 0x62, 0x80, 0];
+    let mut source = SteadySource::new(rt.alloc(), &both, 7)?;
+    let mut w = Window::new(rt.alloc())?;
+    let mut scan = Scan::new(rt.alloc());
+    let mut out = Vec::new(rt.alloc());
+    for _ in 0..2 {
+        assert_eq!(rt; w.end(), 1 << 25);
+        let done = pass_code(rt.alloc(), &mut w, &mut source, &mut scan, &mut out);
+        assert!(rt; done.is_ok());
+    }
+    assert_eq!(rt;
+        out.as_slice(),
+        [4, 0x10, 0xfc, 0xff, 0xff, 2, 0x62, 0].as_slice()
+    );
+    assert_eq!(rt; scan.starts.as_slice(), [0, 3].as_slice());
+    assert_eq!(rt; scan.moved.as_slice(), [0, 2].as_slice());
     Ok(())
 }
 
@@ -274,6 +316,13 @@ fn signs(rt: HostRuntime) -> Result<(), Fail> {
     assert!(rt; matches!(code.instrs.find(0), Some(Instr::Byte(-1))));
     assert!(rt; matches!(code.instrs.find(1), Some(Instr::Short(-2))));
     let out = recoded(&rt, &[8, 0x24, 0xff, 0x25, 0xfe, 0xff, 0xff, 0xff, 0x0f], 1)
+        .ok()
+        .ok_or("code")?;
+    assert_eq!(rt;
+        out.as_slice(),
+        [6, 0x24, 0xff, 0x25, 0xfe, 0xff, 3].as_slice()
+    );
+    let (out, _) = passed(&rt, &[8, 0x24, 0xff, 0x25, 0xfe, 0xff, 0xff, 0xff, 0x0f], 1)
         .ok()
         .ok_or("code")?;
     assert_eq!(rt;
@@ -331,6 +380,8 @@ fn refusals(rt: HostRuntime) {
     for piece in PIECES {
         for (bytes, place, reason) in REFUSALS {
             assert_eq!(rt; refused(&rt, bytes, piece), Some((place, reason)));
+            let want = ReadError::Refused { place, reason };
+            assert_eq!(rt; passed(&rt, bytes, piece).err(), Some(want));
         }
     }
 }
@@ -345,6 +396,8 @@ fn many_branches(rt: HostRuntime) -> Result<(), Fail> {
         bytes.extend_from_slice(&[0x12, 0xfc, 0xff, 0xff])?;
     }
     let out = recoded(&rt, bytes.as_slice(), 4096).ok().ok_or("code")?;
+    assert_eq!(rt; out.as_slice(), bytes.as_slice());
+    let (out, _) = passed(&rt, bytes.as_slice(), 4096).ok().ok_or("code")?;
     assert_eq!(rt; out.as_slice(), bytes.as_slice());
     Ok(())
 }

@@ -8,8 +8,8 @@ use Rattle.abc_bodies.proofs.handlers.pass_handlers.Goals as goal
 pub returns : goal.returns
 unfolding counted_bytes
 returns g c =
-    let read = c.in_ok-count.ensures.value.0 in let items = c.in_ok-pass_many.ensures in (
-      counted_passes (handler c.args.sizes.now c.args.starts.now) (flat_map (handler_bytes c.args.moved.now)) c.in_ok-count.count _ _ _ _ _ _ _ _ _ read.0 c.in_ok-put_u30.ensures items.0,
+    let read = c.in_ok-total.ensures.value.0 in let items = c.in_ok-pass_many.ensures in (
+      counted_passes (handler c.args.sizes.now c.args.starts.now) (flat_map (handler_bytes c.args.moved.now)) c.in_ok-total.total _ _ _ _ _ _ _ _ _ read.0 c.in_ok-put_u30.ensures items.0,
       (λ e h. absurd (let k = read.0.0 in cc)),
       omega (arith, read.2, items.2),
       (λ k h. absurd cc),

@@ -1,4 +1,4 @@
-use Rattle.std.proofs.Common.{◌∙◌, refl, arith}
+use Rattle.std.proofs.Common.{◌∙◌, arith}
 use Rattle.std.proofs.lemmas.Result.{err_from_is_err_and}
 use Rattle.abc_format.specs.Part.{refusal}
 use Rattle.abc_format.specs.declared.reason.Reason.TheVariants as reasons

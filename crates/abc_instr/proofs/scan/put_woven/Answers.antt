@@ -1,5 +1,5 @@
 use Rattle.std.proofs.lemmas.Result.{err_from_is_err_and}
-use Rattle.abc_instr.proofs.Weaving.{weaves_on, weaves_wrong, woven_is}
+use Rattle.abc_instr.proofs.Weaving.{weaves_on, weaves_wrong}
 use Rattle.abc_instr.proofs.scan.put_woven.Goals as goal
 
 pub returns-in_err-put_jump : goal.returns-in_err-put_jump

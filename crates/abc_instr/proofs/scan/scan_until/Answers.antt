@@ -1,12 +1,12 @@
-use Rattle.std.proofs.Common.{◌≡◌, ℕ, ◌-◌, ◌+◌, ◌<◌, ◌++◌, ◌∷◌, [], List, length, refl, arith}
+use Rattle.std.proofs.Common.{◌≡◌, ℕ, ◌-◌, ◌+◌, ◌<◌, ◌++◌, ◌∷◌, [], length, refl, arith}
 use Rattle.std.proofs.lemmas.List.{map-append}
 use Rattle.std.proofs.lemmas.List.Elements.{All-nil, All-push}
 use Rattle.std.proofs.lemmas.Result.{err_from_is_err_and}
 use Rattle.abc_format.specs.Ends.{blamed}
 use Rattle.abc_varint.proofs.Fill.{fill_starts, fill_goes_on, fill_ends, fill_done}
 use Rattle.abc_tables.specs.declared.code.Instr.{Instr}
-use Rattle.abc_tables.specs.CodeBytes.{code_len, instr_len}
-use Rattle.abc_tables.specs.Instructions.{RawInstr, instruction, pieces}
+use Rattle.abc_tables.specs.CodeBytes.{instr_len}
+use Rattle.abc_tables.specs.Instructions.{instruction, pieces}
 use Rattle.abc_tables.proofs.CodeParts.{instruction-exact, instruction-some}
 use Rattle.abc_tables.proofs.Lengths.{len-append}
 use Rattle.abc_tables.proofs.Resolving.{size-push}
