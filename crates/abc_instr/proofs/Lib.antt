@@ -4,3 +4,4 @@ pub mod Resolved
 pub mod Weaving
 pub mod Scanned
 pub mod Passing
+pub mod Numbering
