@@ -1,12 +1,10 @@
 -- What follows the sizes of a body is passed part by part.
-use Rattle.std.proofs.Common.{◌≡◌, ℕ, ◌≤◌, true, Bool, List, ◌++◌, length, Ok, Err, None, refl, sym, ap, subst, ◌∙◌, append_assoc, arith}
+use Rattle.std.proofs.Common.{◌≡◌, ℕ, true, Bool, List, ◌++◌, length, Ok, None, refl, ap, subst, ◌∙◌, append_assoc, arith}
 use Rattle.std.specs.declared.option.Option.{Option}
-use Rattle.std.specs.declared.result.Result.{Result}
-use Rattle.abc_base.specs.Numbers.{number_bytes}
 use Rattle.abc_format.specs.Canonical.{counted_bytes}
 use Rattle.abc_format.specs.Lists.{counted}
 use Rattle.abc_format.specs.Numbers.{u30}
-use Rattle.abc_format.specs.Part.{At, Part}
+use Rattle.abc_format.specs.Part.{At}
 use Rattle.abc_tables.specs.declared.instructions.Code.{Code}
 use Rattle.abc_tables.specs.declared.tables.Sizes.{Sizes}
 use Rattle.abc_tables.specs.Bodies.{body_with, handler, handler_bytes}
@@ -16,7 +14,7 @@ use Rattle.abc_tables.specs.Traits.{trait_bytes, trait_info}
 use Rattle.abc_varint.specs.declared.error.ReadError.{ReadError}
 use Rattle.abc_varint.specs.declared.error.ReadError.TheVariants as errors
 use Rattle.abc_varint.specs.Passes.{Passes, nothing}
-use Rattle.abc_varint.specs.Reads.{Fails, Reads, stand, tells}
+use Rattle.abc_varint.specs.Reads.{Fails, stand, tells}
 use Rattle.abc_varint.specs.View.{View}
 use Rattle.abc_instr.specs.Scanning.{starts_in}
 use Rattle.abc_bodies.specs.Reading.{free_body, free_method, rest, rest_bytes}
