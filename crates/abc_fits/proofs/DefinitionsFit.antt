@@ -1,9 +1,6 @@
 -- Which definitions some bytes spell as a whole.
-use Rattle.std.proofs.Common.{◌≡◌, ℕ, ◌^◌, ◌<◌, List, ◌++◌, length, refl, sym, subst, arith}
+use Rattle.std.proofs.Common.{◌≡◌, ℕ, ◌^◌, ◌<◌, ◌++◌, length, refl, sym, subst, arith}
 use Rattle.std.specs.Prelude.{◌↔◌, All}
-use Rattle.abc_tables.specs.declared.classes.ClassInfo.{ClassInfo}
-use Rattle.abc_tables.specs.declared.classes.Instance.{Instance}
-use Rattle.abc_tables.specs.declared.classes.Script.{Script}
 use Rattle.abc_tables.specs.declared.methods.Metadata.{Metadata}
 use Rattle.abc_tables.specs.declared.methods.Method.{Method}
 use Rattle.abc_tables.specs.declared.tables.Abc.{Abc}
@@ -41,12 +38,6 @@ pub record AreDefinitions (v : Abc) : Type 0 where
   pub classes : All (FitsClass (sizes_of v)) v.classes
   pub script_count : length v.scripts < 2 ^ 30
   pub scripts : All (FitsScript (sizes_of v)) v.scripts
-
-abbrev Definitions : Type 0
-Definitions = List Method × (List Metadata × (ℕ × (List Instance × (List ClassInfo × List Script))))
-
-abbrev defined : Abc → Definitions → Abc
-defined abc x = record abc { methods = x.0; metadata = x.1.0; instances = x.1.1.1.0; classes = x.1.1.1.1.0; scripts = x.1.1.1.1.1 }
 
 definitions_in : (abc v : Abc) → Spelled (definitions abc) v → AreDefinitions v
 unfolding FitsClass FitsInstance FitsMetadata FitsMethod FitsScript IsNumber definitions

@@ -3,7 +3,7 @@ ghost use Rattle.abc_fits.specs.Lengths.{body_len, counted_len, handler_len, pla
 ghost use Rattle.abc_fits.specs.Steps.{AreSteps, IsFirstFrom};
 ghost use Rattle.abc_tables.specs.CodeBytes.{canonical_starts, code_len as total, number_len};
 
-use crate::lengths::{Measured, count_bytes, counted_bytes, number_bytes};
+use crate::lengths::{Measured, len_of_count, len_of_counted, len_of_number};
 use abc_base::Table;
 use abc_tables::{Body, Handler, Instr, code_len, instr_len};
 
@@ -49,7 +49,7 @@ fn steps_of(code: &Table<Instr>) -> Steps
 
 /// The start of a place in the code that has these steps. A place past the end counts as the start of the code.
 #[tactic(auto, using(crate::proofs::Places::past, crate::proofs::Places::one, crate::proofs::Places::two, crate::proofs::Places::three, crate::proofs::Places::four, crate::proofs::Places::five))]
-fn place_bytes(place: u32, code: &Table<Instr>, steps: &Steps) -> u64
+fn len_of_place(place: u32, code: &Table<Instr>, steps: &Steps) -> u64
     requires { AreSteps code.now steps.now }
     ensures is { result ≡ place_len (canonical_starts code.now) place }
     ensures bound { result ≤ 5 }
@@ -71,20 +71,20 @@ fn place_bytes(place: u32, code: &Table<Instr>, steps: &Steps) -> u64
     }
 }
 
-fn handler_bytes(handler: &Handler, code: &Table<Instr>, steps: &Steps) -> u64
+fn len_of_handler(handler: &Handler, code: &Table<Instr>, steps: &Steps) -> u64
     requires { AreSteps code.now steps.now }
     ensures is { result ≡ handler_len (canonical_starts code.now) handler.now }
     ensures bound { result ≤ 25 }
 {
-    let from = place_bytes(handler.from, code, steps);
-    let to = place_bytes(handler.to, code, steps);
-    let target = place_bytes(handler.target, code, steps);
-    from + to + target + number_bytes(handler.exc_type) + number_bytes(handler.var_name)
+    let from = len_of_place(handler.from, code, steps);
+    let to = len_of_place(handler.to, code, steps);
+    let target = len_of_place(handler.target, code, steps);
+    from + to + target + len_of_number(handler.exc_type) + len_of_number(handler.var_name)
 }
 
 /// The count of handlers, and the handlers. The code is gone through once for each step, and not for each handler.
 #[tactic(auto, using(crate::proofs::Capped::empty_list))]
-fn handlers_bytes(handlers: &Table<Handler>, code: &Table<Instr>) -> u64
+fn len_of_handlers(handlers: &Table<Handler>, code: &Table<Instr>) -> u64
     ensures { result ≡ min (counted_len (handler_len (canonical_starts code.now)) handlers.now) (2 ^ 64 - 1) }
 {
     if handlers.len() == 0 {
@@ -93,17 +93,17 @@ fn handlers_bytes(handlers: &Table<Handler>, code: &Table<Instr>) -> u64
     let steps = steps_of(code);
     let mut len: u64 = 0;
     for handler in handlers.as_slice() {
-        len = len.saturating_add(handler_bytes(handler, code, &steps));
+        len = len.saturating_add(len_of_handler(handler, code, &steps));
     }
-    count_bytes(handlers.len()).saturating_add(len)
+    len_of_count(handlers.len()).saturating_add(len)
 }
 
 /// How many bytes the instructions have, and that number.
-fn code_bytes(code: &Table<Instr>) -> u64
+fn len_of_code(code: &Table<Instr>) -> u64
     ensures { result ≡ min (number_len (total code.now) + total code.now) (2 ^ 64 - 1) }
 {
     let len = code_len(code);
-    count_bytes(len as usize).saturating_add(len)
+    len_of_count(len as usize).saturating_add(len)
 }
 
 impl Measured for Body {
@@ -111,11 +111,11 @@ impl Measured for Body {
 
     #[tactic(auto, unfolding(crate::specs::Lengths::body_len), using(crate::proofs::Capped::both_capped))]
     fn canonical_len(&self) -> u64 {
-        let sizes = number_bytes(self.max_stack) + number_bytes(self.local_count);
-        let scopes = number_bytes(self.init_scope) + number_bytes(self.max_scope);
-        (number_bytes(self.method) + sizes + scopes)
-            .saturating_add(code_bytes(&self.code))
-            .saturating_add(handlers_bytes(&self.handlers, &self.code))
-            .saturating_add(counted_bytes(&self.traits))
+        let sizes = len_of_number(self.max_stack) + len_of_number(self.local_count);
+        let scopes = len_of_number(self.init_scope) + len_of_number(self.max_scope);
+        (len_of_number(self.method) + sizes + scopes)
+            .saturating_add(len_of_code(&self.code))
+            .saturating_add(len_of_handlers(&self.handlers, &self.code))
+            .saturating_add(len_of_counted(&self.traits))
     }
 }

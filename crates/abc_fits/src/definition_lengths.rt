@@ -4,7 +4,7 @@ ghost use Rattle.abc_fits.specs.Lengths.{class_len, counted_len, definitions_len
 ghost use Rattle.abc_tables.specs.CodeBytes.{number_len};
 ghost use Rattle.abc_tables.specs.Methods.{has_flag as is_set};
 
-use crate::lengths::{Measured, all_bytes, count_bytes, counted_bytes, number_bytes};
+use crate::lengths::{Measured, len_of_all, len_of_count, len_of_counted, len_of_number};
 use abc_base::Table;
 use abc_tables::{
     Abc, ClassInfo, Instance, Metadata, Method, OptionValue, Script, TraitBody, TraitInfo,
@@ -30,27 +30,27 @@ impl Measured for OptionValue {
     ghost len = { option_len };
 
     fn canonical_len(&self) -> u64 {
-        number_bytes(self.value) + 1
+        len_of_number(self.value) + 1
     }
 }
 
 /// The optional values, where a flag says that there are any.
-fn options_bytes(method: &Method) -> u64
+fn len_of_options(method: &Method) -> u64
     ensures { result ≡ min (if is_set (method.now).flags 0x08 then counted_len option_len (method.now).options else 0) (2 ^ 64 - 1) }
 {
     if has_flag(method.flags, HAS_OPTIONAL) {
-        counted_bytes(&method.options)
+        len_of_counted(&method.options)
     } else {
         0
     }
 }
 
 /// The names of the parameters, where a flag says that there are any.
-fn param_names_bytes(method: &Method) -> u64
+fn len_of_param_names(method: &Method) -> u64
     ensures { result ≡ min (if is_set (method.now).flags 0x80 then sum_by number_len (method.now).param_names else 0) (2 ^ 64 - 1) }
 {
     if has_flag(method.flags, HAS_PARAM_NAMES) {
-        all_bytes(&method.param_names)
+        len_of_all(&method.param_names)
     } else {
         0
     }
@@ -61,12 +61,12 @@ impl Measured for Method {
 
     #[tactic(auto, unfolding(crate::specs::Lengths::method_len))]
     fn canonical_len(&self) -> u64 {
-        let numbers = count_bytes(self.params.len()) + number_bytes(self.ret);
-        let signature = numbers.saturating_add(all_bytes(&self.params));
+        let numbers = len_of_count(self.params.len()) + len_of_number(self.ret);
+        let signature = numbers.saturating_add(len_of_all(&self.params));
         signature
-            .saturating_add(number_bytes(self.name) + 1)
-            .saturating_add(options_bytes(self))
-            .saturating_add(param_names_bytes(self))
+            .saturating_add(len_of_number(self.name) + 1)
+            .saturating_add(len_of_options(self))
+            .saturating_add(len_of_param_names(self))
     }
 }
 
@@ -75,43 +75,43 @@ impl Measured for Metadata {
 
     #[tactic(auto, unfolding(crate::specs::Lengths::metadata_len))]
     fn canonical_len(&self) -> u64 {
-        let numbers = number_bytes(self.name) + count_bytes(self.items.len() / 2);
-        numbers.saturating_add(all_bytes(&self.items))
+        let numbers = len_of_number(self.name) + len_of_count(self.items.len() / 2);
+        numbers.saturating_add(len_of_all(&self.items))
     }
 }
 
-fn slot_value_bytes(value: &Option<OptionValue>) -> u64
+fn len_of_slot_value(value: &Option<OptionValue>) -> u64
     ensures is { result ≡ slot_value_len value.now }
     ensures bound { result ≤ 6 }
 {
     match value {
-        Some(option) => number_bytes(option.value) + 1,
+        Some(option) => len_of_number(option.value) + 1,
         None => 1,
     }
 }
 
-fn trait_fields_bytes(body: &TraitBody) -> u64
+fn len_of_trait_fields(body: &TraitBody) -> u64
     ensures is { result ≡ trait_fields_len body.now }
     ensures bound { result ≤ 16 }
 {
     match body {
         TraitBody::Slot { id, ty, value, .. } => {
-            number_bytes(*id) + number_bytes(*ty) + slot_value_bytes(value)
+            len_of_number(*id) + len_of_number(*ty) + len_of_slot_value(value)
         }
-        TraitBody::Method { disp, method } => number_bytes(*disp) + number_bytes(*method),
-        TraitBody::Getter { disp, method } => number_bytes(*disp) + number_bytes(*method),
-        TraitBody::Setter { disp, method } => number_bytes(*disp) + number_bytes(*method),
-        TraitBody::Class { id, class } => number_bytes(*id) + number_bytes(*class),
-        TraitBody::Function { id, method } => number_bytes(*id) + number_bytes(*method),
+        TraitBody::Method { disp, method } => len_of_number(*disp) + len_of_number(*method),
+        TraitBody::Getter { disp, method } => len_of_number(*disp) + len_of_number(*method),
+        TraitBody::Setter { disp, method } => len_of_number(*disp) + len_of_number(*method),
+        TraitBody::Class { id, class } => len_of_number(*id) + len_of_number(*class),
+        TraitBody::Function { id, method } => len_of_number(*id) + len_of_number(*method),
     }
 }
 
 /// The metadata, where an attribute says that there is any.
-fn trait_metadata_bytes(info: &TraitInfo) -> u64
+fn len_of_trait_metadata(info: &TraitInfo) -> u64
     ensures { result ≡ min (if is_set (info.now).attrs 4 then counted_len number_len (info.now).metadata else 0) (2 ^ 64 - 1) }
 {
     if has_flag(info.attrs, HAS_METADATA) {
-        counted_bytes(&info.metadata)
+        len_of_counted(&info.metadata)
     } else {
         0
     }
@@ -122,17 +122,17 @@ impl Measured for TraitInfo {
 
     #[tactic(auto, unfolding(crate::specs::Lengths::trait_len))]
     fn canonical_len(&self) -> u64 {
-        let fields = number_bytes(self.name) + 1 + trait_fields_bytes(&self.body);
-        fields.saturating_add(trait_metadata_bytes(self))
+        let fields = len_of_number(self.name) + 1 + len_of_trait_fields(&self.body);
+        fields.saturating_add(len_of_trait_metadata(self))
     }
 }
 
-fn protected_bytes(space: &Option<u32>) -> u64
+fn len_of_protected(space: &Option<u32>) -> u64
     ensures is { result ≡ protected_len space.now }
     ensures bound { result ≤ 5 }
 {
     match space {
-        Some(index) => number_bytes(*index),
+        Some(index) => len_of_number(*index),
         None => 0,
     }
 }
@@ -142,11 +142,11 @@ impl Measured for Instance {
 
     #[tactic(auto, unfolding(crate::specs::Lengths::instance_len))]
     fn canonical_len(&self) -> u64 {
-        let names = number_bytes(self.name) + number_bytes(self.super_name) + 1;
-        (names + protected_bytes(&self.protected_ns))
-            .saturating_add(counted_bytes(&self.interfaces))
-            .saturating_add(number_bytes(self.iinit))
-            .saturating_add(counted_bytes(&self.traits))
+        let names = len_of_number(self.name) + len_of_number(self.super_name) + 1;
+        (names + len_of_protected(&self.protected_ns))
+            .saturating_add(len_of_counted(&self.interfaces))
+            .saturating_add(len_of_number(self.iinit))
+            .saturating_add(len_of_counted(&self.traits))
     }
 }
 
@@ -155,7 +155,7 @@ impl Measured for ClassInfo {
 
     #[tactic(auto, unfolding(crate::specs::Lengths::class_len))]
     fn canonical_len(&self) -> u64 {
-        number_bytes(self.cinit).saturating_add(counted_bytes(&self.traits))
+        len_of_number(self.cinit).saturating_add(len_of_counted(&self.traits))
     }
 }
 
@@ -164,19 +164,19 @@ impl Measured for Script {
 
     #[tactic(auto, unfolding(crate::specs::Lengths::script_len))]
     fn canonical_len(&self) -> u64 {
-        number_bytes(self.init).saturating_add(counted_bytes(&self.traits))
+        len_of_number(self.init).saturating_add(len_of_counted(&self.traits))
     }
 }
 
 /// The canonical bytes of all definitions.
 #[tactic(auto, unfolding(crate::specs::Lengths::definitions_len), using(crate::proofs::Capped::both_capped))]
-pub fn definitions_bytes(abc: &Abc) -> u64
+pub fn len_of_definitions(abc: &Abc) -> u64
     ensures { result ≡ min (definitions_len abc.now) (2 ^ 64 - 1) }
 {
-    counted_bytes(&abc.methods)
-        .saturating_add(counted_bytes(&abc.metadata))
-        .saturating_add(count_bytes(abc.classes.len()))
-        .saturating_add(all_bytes(&abc.instances))
-        .saturating_add(all_bytes(&abc.classes))
-        .saturating_add(counted_bytes(&abc.scripts))
+    len_of_counted(&abc.methods)
+        .saturating_add(len_of_counted(&abc.metadata))
+        .saturating_add(len_of_count(abc.classes.len()))
+        .saturating_add(len_of_all(&abc.instances))
+        .saturating_add(len_of_all(&abc.classes))
+        .saturating_add(len_of_counted(&abc.scripts))
 }

@@ -18,7 +18,7 @@ pub trait Measured: Drop {
 }
 
 /// How many canonical bytes a number has, 1 to 5.
-pub fn number_bytes(n: u32) -> u64
+pub fn len_of_number(n: u32) -> u64
     ensures is { result ≡ number_len n }
     ensures bound { result ≤ 5 }
 {
@@ -26,18 +26,18 @@ pub fn number_bytes(n: u32) -> u64
 }
 
 /// How many canonical bytes a count has, 1 to 5.
-pub fn count_bytes(n: usize) -> u64
+pub fn len_of_count(n: usize) -> u64
     ensures is { result ≡ number_len n }
     ensures bound { result ≤ 5 }
 {
     if n > u32::MAX as usize {
         return 5;
     }
-    number_bytes(n as u32)
+    len_of_number(n as u32)
 }
 
 /// The canonical bytes of all items, one after the other.
-pub fn all_bytes<T: Measured>(items: &Table<T>) -> u64
+pub fn len_of_all<T: Measured>(items: &Table<T>) -> u64
     ensures { result ≡ min (sum_by T.len items.now) (2 ^ 64 - 1) }
 {
     let mut len: u64 = 0;
@@ -48,15 +48,15 @@ pub fn all_bytes<T: Measured>(items: &Table<T>) -> u64
 }
 
 /// The canonical bytes of a count and the items.
-pub fn counted_bytes<T: Measured>(items: &Table<T>) -> u64
+pub fn len_of_counted<T: Measured>(items: &Table<T>) -> u64
     ensures { result ≡ min (counted_len T.len items.now) (2 ^ 64 - 1) }
 {
-    count_bytes(items.len()).saturating_add(all_bytes(items))
+    len_of_count(items.len()).saturating_add(len_of_all(items))
 }
 
 /// How many canonical bytes the count of a pool has, 1 to 5: entry 0 counts too, unless the pool is empty.
 #[tactic(auto, using(crate::proofs::Capped::empty_pool, crate::proofs::Capped::counted_pool))]
-fn pool_count_bytes<T: Drop>(items: &Table<T>) -> u64
+fn len_of_pool_count<T: Drop>(items: &Table<T>) -> u64
     ensures is { result ≡ number_len (pool_count items.now) }
     ensures bound { result ≤ 5 }
 {
@@ -64,21 +64,21 @@ fn pool_count_bytes<T: Drop>(items: &Table<T>) -> u64
     if entries == 0 {
         return 1;
     }
-    count_bytes(entries.saturating_add(1))
+    len_of_count(entries.saturating_add(1))
 }
 
 /// The canonical bytes of a pool.
-pub fn pool_bytes<T: Measured>(items: &Table<T>) -> u64
+pub fn len_of_pool<T: Measured>(items: &Table<T>) -> u64
     ensures { result ≡ min (pool_len T.len items.now) (2 ^ 64 - 1) }
 {
-    pool_count_bytes(items).saturating_add(all_bytes(items))
+    len_of_pool_count(items).saturating_add(len_of_all(items))
 }
 
 impl Measured for u32 {
     ghost len = { number_len };
 
     fn canonical_len(&self) -> u64 {
-        number_bytes(*self)
+        len_of_number(*self)
     }
 }
 
@@ -86,7 +86,7 @@ impl Measured for i32 {
     ghost len = { s32_len };
 
     fn canonical_len(&self) -> u64 {
-        number_bytes(self.cast_unsigned())
+        len_of_number(self.cast_unsigned())
     }
 }
 
@@ -103,7 +103,7 @@ impl Measured for Bytes {
     ghost len = { text_len };
 
     fn canonical_len(&self) -> u64 {
-        count_bytes(self.len()).saturating_add(self.len() as u64)
+        len_of_count(self.len()).saturating_add(self.len() as u64)
     }
 }
 
@@ -111,6 +111,6 @@ impl Measured for Table<u32> {
     ghost len = { counted_len number_len };
 
     fn canonical_len(&self) -> u64 {
-        counted_bytes(self)
+        len_of_counted(self)
     }
 }

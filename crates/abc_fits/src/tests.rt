@@ -249,23 +249,6 @@ fn break_pool(alloc: Global, abc: &mut Abc, fault: PoolFault) -> Result<(), NoMe
     Ok(())
 }
 
-#[test]
-fn pools_that_no_bytes_spell(rt: HostRuntime) -> Result<(), Fail> {
-    let alloc = rt.alloc();
-    for fault in [
-        PoolFault::NamespaceName,
-        PoolFault::NoSpaceInSet,
-        PoolFault::SpaceInSet,
-        PoolFault::MultinameText,
-        PoolFault::NoSet,
-    ] {
-        let mut abc = base(alloc)?;
-        break_pool(alloc, &mut abc, fault)?;
-        assert!(rt; !fits(&abc), "{fault:?}");
-    }
-    Ok(())
-}
-
 /// What a method has that no bytes spell.
 #[derive(Clone, Copy, Debug)]
 enum MethodFault {
@@ -306,26 +289,6 @@ fn broken_method(alloc: Global, fault: MethodFault) -> Result<Method, NoMemory> 
     Ok(method)
 }
 
-#[test]
-fn methods_that_no_bytes_spell(rt: HostRuntime) -> Result<(), Fail> {
-    let alloc = rt.alloc();
-    for fault in [
-        MethodFault::Return,
-        MethodFault::Parameter,
-        MethodFault::OptionsWithoutFlag,
-        MethodFault::MoreOptionsThanParameters,
-        MethodFault::OptionPastItsPool,
-        MethodFault::NamesWithoutFlag,
-        MethodFault::TooFewNames,
-        MethodFault::NameOfTwoToTheThirty,
-    ] {
-        let mut abc = base(alloc)?;
-        abc.methods = two(alloc, broken_method(alloc, fault)?, plain_method(alloc))?;
-        assert!(rt; !fits(&abc), "{fault:?}");
-    }
-    Ok(())
-}
-
 /// What a trait has that no bytes spell.
 #[derive(Clone, Copy, Debug)]
 enum TraitFault {
@@ -359,25 +322,6 @@ fn broken_slot(alloc: Global, fault: TraitFault) -> Result<TraitInfo, NoMemory> 
         TraitFault::MethodPastItsTable => info.body = TraitBody::Method { disp: 0, method: 2 },
     }
     Ok(info)
-}
-
-#[test]
-fn traits_that_no_bytes_spell(rt: HostRuntime) -> Result<(), Fail> {
-    let alloc = rt.alloc();
-    for fault in [
-        TraitFault::NoName,
-        TraitFault::Attributes,
-        TraitFault::MetadataWithoutAttribute,
-        TraitFault::MetadataPastItsTable,
-        TraitFault::ValueOfZero,
-        TraitFault::MethodPastItsTable,
-    ] {
-        let mut abc = base(alloc)?;
-        let traits = one(alloc, broken_slot(alloc, fault)?)?;
-        abc.scripts = one(alloc, Script { init: 1, traits })?;
-        assert!(rt; !fits(&abc), "{fault:?}");
-    }
-    Ok(())
 }
 
 /// What the tables of definitions have that no bytes spell.
@@ -428,24 +372,6 @@ fn break_table(alloc: Global, abc: &mut Abc, fault: TableFault) -> Result<(), No
     Ok(())
 }
 
-#[test]
-fn tables_that_no_bytes_spell(rt: HostRuntime) -> Result<(), Fail> {
-    let alloc = rt.alloc();
-    for fault in [
-        TableFault::OddMetadata,
-        TableFault::InstanceWithoutClass,
-        TableFault::ClassWithoutInstance,
-        TableFault::ProtectedWithoutFlag,
-        TableFault::FlagWithoutProtected,
-        TableFault::ScriptPastTheMethods,
-    ] {
-        let mut abc = base(alloc)?;
-        break_table(alloc, &mut abc, fault)?;
-        assert!(rt; !fits(&abc), "{fault:?}");
-    }
-    Ok(())
-}
-
 /// What a body has that no bytes spell.
 #[derive(Clone, Copy, Debug)]
 enum BodyFault {
@@ -477,20 +403,73 @@ fn broken_body(alloc: Global, fault: BodyFault) -> Result<Body, NoMemory> {
     Ok(broken)
 }
 
+/// What a file has that no bytes spell.
+#[derive(Clone, Copy, Debug)]
+enum Fault {
+    Pool(PoolFault),
+    Method(MethodFault),
+    Trait(TraitFault),
+    Table(TableFault),
+    Body(BodyFault),
+}
+
+const FAULTS: [Fault; 32] = [
+    Fault::Pool(PoolFault::NamespaceName),
+    Fault::Pool(PoolFault::NoSpaceInSet),
+    Fault::Pool(PoolFault::SpaceInSet),
+    Fault::Pool(PoolFault::MultinameText),
+    Fault::Pool(PoolFault::NoSet),
+    Fault::Method(MethodFault::Return),
+    Fault::Method(MethodFault::Parameter),
+    Fault::Method(MethodFault::OptionsWithoutFlag),
+    Fault::Method(MethodFault::MoreOptionsThanParameters),
+    Fault::Method(MethodFault::OptionPastItsPool),
+    Fault::Method(MethodFault::NamesWithoutFlag),
+    Fault::Method(MethodFault::TooFewNames),
+    Fault::Method(MethodFault::NameOfTwoToTheThirty),
+    Fault::Trait(TraitFault::NoName),
+    Fault::Trait(TraitFault::Attributes),
+    Fault::Trait(TraitFault::MetadataWithoutAttribute),
+    Fault::Trait(TraitFault::MetadataPastItsTable),
+    Fault::Trait(TraitFault::ValueOfZero),
+    Fault::Trait(TraitFault::MethodPastItsTable),
+    Fault::Table(TableFault::OddMetadata),
+    Fault::Table(TableFault::InstanceWithoutClass),
+    Fault::Table(TableFault::ClassWithoutInstance),
+    Fault::Table(TableFault::ProtectedWithoutFlag),
+    Fault::Table(TableFault::FlagWithoutProtected),
+    Fault::Table(TableFault::ScriptPastTheMethods),
+    Fault::Body(BodyFault::MethodPastItsTable),
+    Fault::Body(BodyFault::SizeOfTwoToTheThirty),
+    Fault::Body(BodyFault::Opcode),
+    Fault::Body(BodyFault::BranchPastTheEnd),
+    Fault::Body(BodyFault::SwitchWithoutCases),
+    Fault::Body(BodyFault::PlacePastTheEnd),
+    Fault::Body(BodyFault::HandlerType),
+];
+
+fn break_file(alloc: Global, abc: &mut Abc, fault: Fault) -> Result<(), NoMemory> {
+    match fault {
+        Fault::Pool(fault) => break_pool(alloc, abc, fault)?,
+        Fault::Method(fault) => {
+            abc.methods = two(alloc, broken_method(alloc, fault)?, plain_method(alloc))?;
+        }
+        Fault::Trait(fault) => {
+            let traits = one(alloc, broken_slot(alloc, fault)?)?;
+            abc.scripts = one(alloc, Script { init: 1, traits })?;
+        }
+        Fault::Table(fault) => break_table(alloc, abc, fault)?,
+        Fault::Body(fault) => abc.bodies = one(alloc, broken_body(alloc, fault)?)?,
+    }
+    Ok(())
+}
+
 #[test]
-fn bodies_that_no_bytes_spell(rt: HostRuntime) -> Result<(), Fail> {
+fn files_that_no_bytes_spell(rt: HostRuntime) -> Result<(), Fail> {
     let alloc = rt.alloc();
-    for fault in [
-        BodyFault::MethodPastItsTable,
-        BodyFault::SizeOfTwoToTheThirty,
-        BodyFault::Opcode,
-        BodyFault::BranchPastTheEnd,
-        BodyFault::SwitchWithoutCases,
-        BodyFault::PlacePastTheEnd,
-        BodyFault::HandlerType,
-    ] {
+    for fault in FAULTS {
         let mut abc = base(alloc)?;
-        abc.bodies = one(alloc, broken_body(alloc, fault)?)?;
+        break_file(alloc, &mut abc, fault)?;
         assert!(rt; !fits(&abc), "{fault:?}");
     }
     Ok(())

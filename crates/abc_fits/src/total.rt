@@ -1,9 +1,9 @@
 ghost use Rattle.std.specs.Prelude.{◌≡◌, ◌-◌, ◌^◌, min};
 ghost use Rattle.abc_fits.specs.Lengths.{file_len};
 
-use crate::definition_lengths::definitions_bytes;
-use crate::lengths::counted_bytes;
-use crate::pool_lengths::pools_bytes;
+use crate::definition_lengths::len_of_definitions;
+use crate::lengths::len_of_counted;
+use crate::pool_lengths::len_of_pools;
 use abc_tables::Abc;
 
 /// How many bytes the canonical bytes of a file have: the sum over all its fields, with the fewest bytes of each number,
@@ -13,8 +13,8 @@ use abc_tables::Abc;
 pub fn canon_len(a: &Abc) -> u64
     ensures { result ≡ min (file_len a.now) (2 ^ 64 - 1) }
 {
-    pools_bytes(a)
+    len_of_pools(a)
         .saturating_add(4)
-        .saturating_add(definitions_bytes(a))
-        .saturating_add(counted_bytes(&a.bodies))
+        .saturating_add(len_of_definitions(a))
+        .saturating_add(len_of_counted(&a.bodies))
 }
