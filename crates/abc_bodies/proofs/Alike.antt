@@ -15,7 +15,7 @@ use Rattle.abc_format.specs.Part.{At, Part, Refusal, checked}
 use Rattle.abc_format.proofs.Exact.{bind_ok, ok_is}
 use Rattle.abc_tables.specs.declared.tables.Sizes.{Sizes}
 use Rattle.abc_tables.specs.Bodies.{body, body_list, body_method, body_with, handler, methods_of}
-use Rattle.abc_traits.specs.Sizes.{capped}
+use Rattle.abc_tables.specs.Sizes.{capped}
 use Rattle.abc_traits.proofs.Alike.{Alike, alike_refl, alike_trans, checked-alike, counted-alike, image-alike, then-alike}
 use Rattle.abc_traits.proofs.Capped.{index_below-capped, pool_index-capped, trait_info-capped}
 use Rattle.abc_bodies.specs.Reading.{free_body, free_method}

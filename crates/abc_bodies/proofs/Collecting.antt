@@ -11,10 +11,10 @@ use Rattle.abc_tables.specs.declared.tables.Abc.{Abc}
 use Rattle.abc_tables.specs.declared.tables.Sizes.{Sizes}
 use Rattle.abc_tables.specs.Bodies.{bodies, body, body_list, methods_of}
 use Rattle.abc_tables.specs.Classes.{sizes_of}
+use Rattle.abc_tables.specs.Sizes.{capped}
 use Rattle.abc_varint.specs.declared.error.ReadError.{ReadError}
 use Rattle.abc_varint.specs.View.{View}
 use Rattle.abc_varint.specs.Reads.{Reads}
-use Rattle.abc_traits.specs.Sizes.{capped}
 use Rattle.abc_traits.proofs.Alike.{Alike, alike_sym, image-alike, image_image}
 use Rattle.abc_traits.proofs.Filling.{reads_alike, reads_image}
 use Rattle.abc_bodies.specs.Places.{ArePlaces}

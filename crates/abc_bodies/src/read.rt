@@ -10,8 +10,7 @@ ghost use Rattle.abc_varint.specs.Reads.{Reads, ReadsPart};
 use crate::body::read_body;
 use crate::places::Places;
 use abc_base::{NoMemory, Source, Table};
-use abc_tables::{Abc, Body, Sizes};
-use abc_traits::sizes_of;
+use abc_tables::{Abc, Body, Sizes, sizes_of};
 use abc_varint::{ReadError, Window, read_u30};
 use std::alloc::Global;
 

@@ -4,8 +4,7 @@ ghost use Rattle.abc_varint.specs.Reads.{tells};
 
 use super::*;
 use abc_base::{NoMemory, Source, SteadySource, Table};
-use abc_tables::{Abc, Method, Multiname};
-use abc_traits::sizes_of;
+use abc_tables::{Abc, Method, Multiname, sizes_of};
 use abc_varint::{ReadError, Reason, Window};
 use std::alloc::Global;
 use std::test::*;

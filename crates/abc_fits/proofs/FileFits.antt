@@ -1,13 +1,14 @@
 -- Which files some bytes spell.
-use Rattle.std.proofs.Common.{◌≡◌, ℕ, ◌^◌, ◌≤◌, List, ◌++◌, refl, sym, ap, subst, ◌∙◌, arith}
+use Rattle.std.proofs.Common.{◌≡◌, ℕ, ◌^◌, ◌<◌, ◌≤◌, List, ◌++◌, length, min, refl, sym, ap, subst, ◌∙◌, arith}
 use Rattle.std.specs.Prelude.{◌↔◌}
 use Rattle.abc_format.specs.Canonical.{u16_bytes}
 use Rattle.abc_format.proofs.Fixed.{u16_fits}
 use Rattle.abc_tables.specs.declared.tables.Abc.{Abc}
 use Rattle.abc_tables.specs.Bodies.{bodies, bodies_alone}
-use Rattle.abc_tables.specs.Classes.{definitions}
+use Rattle.abc_tables.specs.Classes.{definitions, sizes_of}
 use Rattle.abc_tables.specs.Files.{Fits, file, file_bytes, version}
 use Rattle.abc_tables.specs.Pools.{pools}
+use Rattle.abc_tables.specs.Sizes.{capped}
 use Rattle.abc_tables.proofs.Whole.{file-canonical}
 use Rattle.abc_fits.specs.Fitting.{AreFew, FitBodies, FitDefinitions, FitPools, FitsTables, Spelled, pools_alone, without_bodies}
 use Rattle.abc_fits.specs.Lengths.{file_len}
@@ -91,6 +92,23 @@ tables_few v s =
       metadata = d.metadata_count;
       classes = d.class_count;
     }
+
+-- sizes below 2^30 are told as they are
+pub few_told : (v : Abc) → AreFew v → capped (sizes_of v) ≡ sizes_of v
+few_told v few =
+    let told : (n : ℕ) → n < 2 ^ 30 → min n (2 ^ 30) ≡ n = λ n lt. omega arith in
+    rw (
+      told (length v.ints) few.ints,
+      told (length v.uints) few.uints,
+      told (length v.doubles) few.doubles,
+      told (length v.strings) few.strings,
+      told (length v.namespaces) few.namespaces,
+      told (length v.sets) few.sets,
+      told (length v.names) few.names,
+      told (length v.methods) few.methods,
+      told (length v.metadata) few.metadata,
+      told (length v.classes) few.classes,
+    ) refl
 
 -- ---- the whole file
 

@@ -7,24 +7,9 @@ ghost use Rattle.abc_tables.specs.Methods.{has_flag as is_set};
 use crate::lengths::{Measured, len_of_all, len_of_count, len_of_counted, len_of_number};
 use abc_base::Table;
 use abc_tables::{
-    Abc, ClassInfo, Instance, Metadata, Method, OptionValue, Script, TraitBody, TraitInfo,
+    Abc, ClassInfo, HAS_METADATA, HAS_OPTIONAL, HAS_PARAM_NAMES, Instance, Metadata, Method,
+    OptionValue, Script, TraitBody, TraitInfo, has_flag,
 };
-
-/// The flag of a method that has optional values.
-pub const HAS_OPTIONAL: u8 = 0x08;
-
-/// The flag of a method that has names of its parameters.
-pub const HAS_PARAM_NAMES: u8 = 0x80;
-
-/// The attribute of a trait that has metadata.
-pub const HAS_METADATA: u8 = 4;
-
-/// Whether a flag is set.
-pub fn has_flag(flags: u8, flag: u8) -> bool
-    ensures { result ≡ is_set flags flag }
-{
-    flags & flag != 0
-}
 
 impl Measured for OptionValue {
     ghost len = { option_len };

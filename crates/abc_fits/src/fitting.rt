@@ -1,6 +1,5 @@
 ghost use Rattle.std.specs.Prelude.{◌≡◌, ◌↔◌, IsTrue};
 ghost use Rattle.abc_fits.specs.Fitting.{AreFew, FitsTables};
-ghost use Rattle.abc_tables.specs.Classes.{sizes_of as all_sizes};
 ghost use Rattle.abc_tables.specs.Files.{Fits};
 
 use crate::fitting_bodies::fit_bodies;
@@ -8,7 +7,7 @@ use crate::fitting_definitions::fit_definitions;
 use crate::fitting_pools::fit_pools;
 use crate::indices::is_count;
 use crate::total::canon_len;
-use abc_tables::{Abc, Sizes};
+use abc_tables::{Abc, sizes_of};
 
 /// The greatest length of a file.
 const LONGEST: u64 = 1 << 24;
@@ -29,27 +28,8 @@ fn are_few(abc: &Abc) -> bool
         && is_count(abc.classes.len())
 }
 
-/// How many entries the tables have that indices name.
-fn sizes_of(abc: &Abc) -> Sizes
-    requires { AreFew abc.now }
-    ensures { result ≡ all_sizes abc.now }
-{
-    Sizes {
-        ints: abc.ints.len() as u32,
-        uints: abc.uints.len() as u32,
-        doubles: abc.doubles.len() as u32,
-        strings: abc.strings.len() as u32,
-        namespaces: abc.namespaces.len() as u32,
-        sets: abc.sets.len() as u32,
-        names: abc.names.len() as u32,
-        methods: abc.methods.len() as u32,
-        metadata: abc.metadata.len() as u32,
-        classes: abc.classes.len() as u32,
-    }
-}
-
 /// Whether some bytes spell the tables, however many.
-#[tactic(auto, using(crate::proofs::FileFits::tables_fit, crate::proofs::FileFits::tables_few))]
+#[tactic(auto, using(crate::proofs::FileFits::tables_fit, crate::proofs::FileFits::tables_few, crate::proofs::FileFits::few_told))]
 fn fit_tables(abc: &Abc) -> bool
     ensures { IsTrue result ↔ FitsTables abc.now }
 {

@@ -1,50 +1,25 @@
 ghost use Rattle.std.specs.Prelude.{◌≡◌, ◌↔◌, ◌<◌, ◌^◌, All, IsTrue, length};
 ghost use Rattle.abc_fits.specs.Fitting.{FitDefinitions, FitOptions, FitParamNames, FitTraits, FitsClass, FitsInstance, FitsMetadata, FitsMethod, FitsOption, FitsProtected, FitsScript, FitsSlotValue, FitsTrait, FitsTraitFields, FitsTraitMetadata};
 ghost use Rattle.abc_tables.specs.Classes.{sizes_of as all_sizes};
-ghost use Rattle.abc_tables.specs.Methods.{has_value as names_entry};
 
-use crate::definition_lengths::{HAS_METADATA, HAS_OPTIONAL, HAS_PARAM_NAMES, has_flag};
 use crate::indices::{
     are_entry_indices, are_numbers, are_pool_indices, are_positions, is_count, is_entry_index,
     is_number, is_pool_index, is_position,
 };
 use abc_base::Table;
 use abc_tables::{
-    Abc, ClassInfo, Instance, Metadata, Method, OptionValue, Script, Sizes, TraitBody, TraitInfo,
-    ValueKind,
+    Abc, ClassInfo, HAS_METADATA, HAS_OPTIONAL, HAS_PARAM_NAMES, HAS_PROTECTED, Instance, Metadata,
+    Method, OptionValue, Script, Sizes, TraitBody, TraitInfo, has_flag,
 };
-
-/// The flag of an instance that has a protected namespace.
-const HAS_PROTECTED: u8 = 0x08;
 
 /// The least attributes that no trait has.
 const ATTRIBUTES_LIMIT: u8 = 16;
-
-/// Whether the pool that a kind names has the entry, or it names none.
-fn has_value(sizes: &Sizes, value: u32, kind: ValueKind) -> bool
-    ensures { result ≡ names_entry sizes.now value kind }
-{
-    match kind {
-        ValueKind::Undefined | ValueKind::False | ValueKind::True | ValueKind::Null => true,
-        ValueKind::Utf8 => value <= sizes.strings,
-        ValueKind::Int => value <= sizes.ints,
-        ValueKind::UInt => value <= sizes.uints,
-        ValueKind::Double => value <= sizes.doubles,
-        ValueKind::Private
-        | ValueKind::Namespace
-        | ValueKind::Package
-        | ValueKind::PackageInternal
-        | ValueKind::Protected
-        | ValueKind::Explicit
-        | ValueKind::StaticProtected => value <= sizes.namespaces,
-    }
-}
 
 #[tactic(auto, using(crate::proofs::MethodsFit::option_fits))]
 fn is_option(option: &OptionValue, sizes: &Sizes) -> bool
     ensures { IsTrue result ↔ FitsOption sizes.now option.now }
 {
-    is_number(option.value) && has_value(sizes, option.value, option.kind)
+    is_number(option.value) && sizes.has_value(option.value, option.kind)
 }
 
 fn are_options(options: &[OptionValue], sizes: &Sizes) -> bool

@@ -2,6 +2,7 @@ pub mod Pools
 pub mod Methods
 pub mod Traits
 pub mod Classes
+pub mod Sizes
 pub mod Files
 pub mod Opcodes
 pub mod Instructions

@@ -12,7 +12,7 @@ use Rattle.abc_tables.specs.declared.tables.Sizes.{Sizes}
 use Rattle.abc_tables.specs.Methods.{has_value, value_kind, option_value, options, method, metadata}
 use Rattle.abc_tables.specs.Traits.{slot_value, trait_fields, trait_info}
 use Rattle.abc_tables.specs.Classes.{instance, class_info, script}
-use Rattle.abc_traits.specs.Sizes.{capped}
+use Rattle.abc_tables.specs.Sizes.{capped}
 use Rattle.abc_traits.proofs.Alike.{Alike, alike_refl, image-alike, then-alike, times-alike, counted-alike, when-alike, checked-alike, u30_below, first_read}
 
 -- ---- one index

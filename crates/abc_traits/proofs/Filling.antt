@@ -7,12 +7,12 @@ use Rattle.abc_format.specs.Numbers.{u30}
 use Rattle.abc_tables.specs.declared.tables.Abc.{Abc}
 use Rattle.abc_tables.specs.declared.tables.Sizes.{Sizes}
 use Rattle.abc_tables.specs.Classes.{instance, class_info, script, sizes_with, definitions}
+use Rattle.abc_tables.specs.Sizes.{capped}
 use Rattle.abc_varint.specs.declared.error.ReadError.{ReadError}
 use Rattle.abc_varint.specs.declared.error.ReadError.TheVariants as errors
 use Rattle.abc_varint.specs.View.{View}
 use Rattle.abc_varint.specs.Reads.{Reads, stand}
 use Rattle.abc_traits.specs.declared.definitions.Definitions.{Definitions}
-use Rattle.abc_traits.specs.Sizes.{capped}
 use Rattle.abc_traits.specs.Definitions.{with_definitions, sizes_within, tables}
 use Rattle.abc_traits.proofs.Alike.{Alike, alike_refl, alike_sym, alike_trans, image-alike, image_image, then-alike, times-alike, counted-alike}
 use Rattle.abc_traits.proofs.Capped.{method-capped, metadata-capped, instance-capped, class_info-capped, script-capped}

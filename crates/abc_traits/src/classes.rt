@@ -7,18 +7,14 @@ ghost use Rattle.abc_varint.specs.Passes.{Passes, PassesPart, nothing};
 ghost use Rattle.abc_varint.specs.Puts.{Puts};
 ghost use Rattle.abc_varint.specs.Reads.{Reads, ReadsPart};
 
-use crate::methods::has_flag;
 use crate::traits::TraitCodec;
 use abc_base::{NoMemory, Source};
-use abc_tables::{ClassInfo, Instance, Script, Sizes};
+use abc_tables::{ClassInfo, HAS_PROTECTED, Instance, Script, Sizes, has_flag};
 use abc_varint::{
     Codec, EntryIndex, IndexBelow, PoolIndex, ReadError, Window, pass_counted, put_counted, put_u8,
     put_u30, read_counted, read_entry_index, read_index_below, read_pool_index, read_u8,
 };
 use std::alloc::Global;
-
-/// The flag of an instance that has a protected namespace.
-const HAS_PROTECTED: u8 = 0x08;
 
 /// A namespace where a flag asks for it.
 #[tactic(auto, unfolding(abc_format::specs::Part::when))]

@@ -2,7 +2,7 @@ ghost use Rattle.std.specs.Prelude.{◌≡◌, ◌≤◌, ◌<◌, ◌^◌, ◌+
 ghost use Rattle.abc_format.specs.Lists.{times, counted};
 ghost use Rattle.abc_format.specs.Part.{both};
 ghost use Rattle.abc_tables.specs.Classes.{instance, class_info, script, sizes_with, definitions, definitions_bytes};
-ghost use Rattle.abc_traits.specs.Sizes.{capped};
+ghost use Rattle.abc_tables.specs.Sizes.{capped};
 ghost use Rattle.abc_traits.specs.Definitions.{with_definitions, tables};
 ghost use Rattle.abc_varint.specs.Answers.{Answers};
 ghost use Rattle.abc_varint.specs.Puts.{Puts, PutsWhole};
@@ -10,9 +10,8 @@ ghost use Rattle.abc_varint.specs.Reads.{Reads, ReadsPart, stored};
 
 use crate::classes::{ClassCodec, InstanceCodec, ScriptCodec};
 use crate::methods::{MetadataCodec, MethodCodec};
-use crate::sizes::sizes_of;
 use abc_base::{NoMemory, Source, Table};
-use abc_tables::{Abc, ClassInfo, Instance, Metadata, Method, Script, Sizes};
+use abc_tables::{Abc, ClassInfo, Instance, Metadata, Method, Script, Sizes, sizes_of};
 use abc_varint::{
     ReadError, Window, put_count, put_counted, put_items, read_counted, read_times, read_u30,
 };

@@ -9,13 +9,11 @@ mod lists;
 mod methods;
 mod options;
 mod pass;
-mod sizes;
 mod traits;
 
 pub use definitions::{Definitions, put_definitions, read_definitions};
 pub use laws::definitions_law;
 pub use pass::pass_definitions;
-pub use sizes::sizes_of;
 pub use traits::TraitCodec;
 
 #[cfg(test)]

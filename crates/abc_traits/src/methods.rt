@@ -1,7 +1,7 @@
 ghost use Rattle.std.specs.Prelude.{◌≡◌, ◌≤◌, ◌*◌, ◌/◌, ℕ, [], ◌∷◌, ◌++◌, None, Some, Err, length, not, nat_eq, bit_and};
 ghost use Rattle.abc_format.specs.Lists.{times};
 ghost use Rattle.abc_format.specs.Part.{when};
-ghost use Rattle.abc_tables.specs.Methods.{has_flag as is_set, method, method_bytes, metadata, metadata_bytes};
+ghost use Rattle.abc_tables.specs.Methods.{method, method_bytes, metadata, metadata_bytes};
 ghost use Rattle.abc_varint.specs.Passes.{Passes, PassesPart, nothing};
 ghost use Rattle.abc_varint.specs.Puts.{Puts};
 ghost use Rattle.abc_varint.specs.Reads.{Reads, ReadsPart};
@@ -9,25 +9,12 @@ ghost use Rattle.abc_varint.specs.Reads.{Reads, ReadsPart};
 use crate::lists::{Number30, pass_times_if, put_counted_if, put_items_if, read_times_if};
 use crate::options::{OptionCodec, pass_options_if, read_options_if};
 use abc_base::{NoMemory, Source};
-use abc_tables::{Metadata, Method, Sizes};
+use abc_tables::{HAS_OPTIONAL, HAS_PARAM_NAMES, Metadata, Method, Sizes, has_flag};
 use abc_varint::{
     Codec, PoolIndex, ReadError, Window, pass_times, put_count, put_items, put_u8, put_u30,
     read_pool_index, read_times, read_u8, read_u30,
 };
 use std::alloc::Global;
-
-/// The flag of a method that has optional values.
-const HAS_OPTIONAL: u8 = 0x08;
-
-/// The flag of a method that has names for its parameters.
-const HAS_PARAM_NAMES: u8 = 0x80;
-
-/// Whether a flag is set.
-pub fn has_flag(flags: u8, flag: u8) -> bool
-    ensures { result ≡ is_set flags flag }
-{
-    flags & flag != 0
-}
 
 #[tactic(auto, unfolding(abc_tables::specs::Methods::method))]
 fn read_method<S: Source>(

@@ -4,7 +4,7 @@ ghost use Rattle.abc_format.specs.Numbers.{u30 as number30};
 ghost use Rattle.abc_format.specs.Part.{checked, when};
 ghost use Rattle.abc_format.specs.declared.reason.Reason.{Reason};
 ghost use Rattle.abc_tables.specs.declared.methods.ValueKind.TheVariants as kinds;
-ghost use Rattle.abc_tables.specs.Methods.{value_code, value_kind, has_value as names_entry, option_value, option_bytes, options};
+ghost use Rattle.abc_tables.specs.Methods.{value_code, value_kind, option_value, option_bytes, options};
 ghost use Rattle.abc_tables.specs.Traits.{slot_value, slot_value_bytes};
 ghost use Rattle.abc_format.specs.Canonical.{counted_bytes};
 ghost use Rattle.abc_varint.specs.Passes.{Passes, PassesPart, nothing};
@@ -70,26 +70,6 @@ fn code_of(kind: ValueKind) -> u8
     }
 }
 
-/// Whether the pool that a kind names has the entry, or the kind names none.
-fn has_value(sizes: &Sizes, value: u32, kind: ValueKind) -> bool
-    ensures { result ≡ names_entry sizes.now value kind }
-{
-    match kind {
-        ValueKind::Undefined | ValueKind::False | ValueKind::True | ValueKind::Null => true,
-        ValueKind::Utf8 => value <= sizes.strings,
-        ValueKind::Int => value <= sizes.ints,
-        ValueKind::UInt => value <= sizes.uints,
-        ValueKind::Double => value <= sizes.doubles,
-        ValueKind::Private
-        | ValueKind::Namespace
-        | ValueKind::Package
-        | ValueKind::PackageInternal
-        | ValueKind::Protected
-        | ValueKind::Explicit
-        | ValueKind::StaticProtected => value <= sizes.namespaces,
-    }
-}
-
 /// A value and its kind. The index is tested once the kind is accepted.
 #[tactic(auto, unfolding(abc_tables::specs::Methods::option_value))]
 fn read_option_value<S: Source>(
@@ -102,7 +82,7 @@ fn read_option_value<S: Source>(
     let place = w.place();
     let value = read_u30(w, source)?;
     let kind = read_value_kind(w, source)?;
-    if !has_value(sizes, value, kind) {
+    if !sizes.has_value(value, kind) {
         return Err(ReadError::Refused {
             place,
             reason: Reason::Index,
@@ -267,7 +247,7 @@ pub fn read_slot_value<S: Source>(
     let place = w.place();
     let value = read_u30(w, source)?;
     let kind = read_value_kind_if(value != 0, w, source)?;
-    if !has_value(sizes, value, kind) {
+    if !sizes.has_value(value, kind) {
         return Err(ReadError::Refused {
             place,
             reason: Reason::Index,

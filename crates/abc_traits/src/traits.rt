@@ -9,18 +9,14 @@ ghost use Rattle.abc_varint.specs.Puts.{Puts};
 ghost use Rattle.abc_varint.specs.Reads.{Reads, ReadsPart};
 
 use crate::lists::{pass_counted_if, put_counted_if, read_counted_if};
-use crate::methods::has_flag;
 use crate::options::{put_slot_value, read_slot_value};
 use abc_base::{NoMemory, Source};
-use abc_tables::{OptionValue, Sizes, TraitBody, TraitInfo, TraitKind};
+use abc_tables::{HAS_METADATA, OptionValue, Sizes, TraitBody, TraitInfo, TraitKind, has_flag};
 use abc_varint::{
     Codec, EntryIndex, IndexBelow, ReadError, Reason, Window, put_u8, put_u30, read_entry_index,
     read_index_below, read_pool_index, read_u8, read_u30,
 };
 use std::alloc::Global;
-
-/// The attribute of a trait that has metadata.
-const HAS_METADATA: u8 = 4;
 
 /// The kind of a trait, and its attributes.
 #[tactic(auto, unfolding(abc_tables::specs::Traits::trait_kind))]

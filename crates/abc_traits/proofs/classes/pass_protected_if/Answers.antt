@@ -1,4 +1,4 @@
-use Rattle.std.proofs.Common.{arith, append_assoc, refl, ◌∙◌}
+use Rattle.std.proofs.Common.{arith, refl}
 use Rattle.std.proofs.Common.{Some}
 use Rattle.abc_format.specs.Part.{when}
 use Rattle.abc_traits.proofs.classes.pass_protected_if.Goals as goal

@@ -1,5 +1,5 @@
 use Rattle.std.proofs.Common.{arith, append_assoc, refl, ◌∙◌}
-use Rattle.std.proofs.Common.{◌≡◌, length, sym}
+use Rattle.std.proofs.Common.{sym}
 use Rattle.abc_tables.specs.Classes.{class_info}
 use Rattle.abc_varint.proofs.Passing.{times_count}
 use Rattle.abc_traits.proofs.pass.pass_classes.Goals as goal

@@ -1,8 +1,11 @@
 ghost use Rattle.std.specs.Prelude.{◌≡◌, ◌≤◌, ◌^◌, length, min};
 ghost use Rattle.abc_tables.specs.Classes.{sizes_of as all_sizes};
-ghost use Rattle.abc_traits.specs.Sizes.{capped};
+ghost use Rattle.abc_tables.specs.Methods.{has_value as names_entry};
+ghost use Rattle.abc_tables.specs.Sizes.{capped};
 
-use abc_tables::{Abc, Sizes, Table};
+use crate::methods::ValueKind;
+use crate::tables::{Abc, Sizes};
+use abc_base::Table;
 
 /// The greatest size that an index tells from a smaller one, 2^30.
 const LARGEST: usize = 1 << 30;
@@ -30,5 +33,27 @@ pub fn sizes_of(abc: &Abc) -> Sizes
         methods: size_of(&abc.methods),
         metadata: size_of(&abc.metadata),
         classes: size_of(&abc.classes),
+    }
+}
+
+impl Sizes {
+    /// Whether the pool that a kind names has the entry, or the kind names none.
+    pub fn has_value(&self, value: u32, kind: ValueKind) -> bool
+        ensures { result ≡ names_entry self.now value kind }
+    {
+        match kind {
+            ValueKind::Undefined | ValueKind::False | ValueKind::True | ValueKind::Null => true,
+            ValueKind::Utf8 => value <= self.strings,
+            ValueKind::Int => value <= self.ints,
+            ValueKind::UInt => value <= self.uints,
+            ValueKind::Double => value <= self.doubles,
+            ValueKind::Private
+            | ValueKind::Namespace
+            | ValueKind::Package
+            | ValueKind::PackageInternal
+            | ValueKind::Protected
+            | ValueKind::Explicit
+            | ValueKind::StaticProtected => value <= self.namespaces,
+        }
     }
 }
