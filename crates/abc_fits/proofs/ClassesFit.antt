@@ -41,10 +41,10 @@ protected_unasked v i e = unasked (has_flag i.flags 0x08) None i.protected_ns (i
 
 -- ---- instances, classes and scripts
 
-abbrev InstanceFits : Sizes → Instance → Type 0
+abbrev pub InstanceFits : Sizes → Instance → Type 0
 InstanceFits v i = IsEntryIndex v.names i.name × IsPoolIndex v.names i.super_name × FitsProtected v i × (length i.interfaces < 2 ^ 30) × All (IsEntryIndex v.names) i.interfaces × IsPosition v.methods i.iinit × FitTraits v i.traits
 
-pub instance_fits : (v : Sizes) (i : Instance) → FitsInstance v i ↔ (IsEntryIndex v.names i.name × IsPoolIndex v.names i.super_name × FitsProtected v i × (length i.interfaces < 2 ^ 30) × All (IsEntryIndex v.names) i.interfaces × IsPosition v.methods i.iinit × FitTraits v i.traits)
+pub instance_fits : (v : Sizes) (i : Instance) → FitsInstance v i ↔ InstanceFits v i
 unfolding FitsInstance FitsProtected FitTraits IsEntryIndex IsPoolIndex IsPosition instance u8
 instance_fits v i = (
   λ s.
@@ -77,20 +77,20 @@ instance_fits v i = (
       },
 )
 
-abbrev ClassFits : Sizes → ClassInfo → Type 0
+abbrev pub ClassFits : Sizes → ClassInfo → Type 0
 ClassFits v c = IsPosition v.methods c.cinit × FitTraits v c.traits
 
-pub class_fits : (v : Sizes) (c : ClassInfo) → FitsClass v c ↔ (IsPosition v.methods c.cinit × FitTraits v c.traits)
+pub class_fits : (v : Sizes) (c : ClassInfo) → FitsClass v c ↔ ClassFits v c
 unfolding FitsClass FitTraits IsPosition class_info
 class_fits v c = (
   λ s. let t = s.is.1 in subst (ClassFits v) (sym s.is.2) (record { bytes = t.0; is = t.3 }, record { bytes = t.1; is = t.4 }),
   λ h. record { bytes = h.0.bytes ++ h.1.bytes; is = ((c.cinit, c.traits), (h.0.bytes, h.1.bytes, refl, h.0.is, h.1.is), refl) },
 )
 
-abbrev ScriptFits : Sizes → Script → Type 0
+abbrev pub ScriptFits : Sizes → Script → Type 0
 ScriptFits v s = IsPosition v.methods s.init × FitTraits v s.traits
 
-pub script_fits : (v : Sizes) (s : Script) → FitsScript v s ↔ (IsPosition v.methods s.init × FitTraits v s.traits)
+pub script_fits : (v : Sizes) (s : Script) → FitsScript v s ↔ ScriptFits v s
 unfolding FitsScript FitTraits IsPosition script
 script_fits v c = (
   λ s. let t = s.is.1 in subst (ScriptFits v) (sym s.is.2) (record { bytes = t.0; is = t.3 }, record { bytes = t.1; is = t.4 }),

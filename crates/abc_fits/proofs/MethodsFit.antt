@@ -170,10 +170,10 @@ names_unasked m e =
 
 -- ---- methods
 
-abbrev MethodFits : Sizes → Method → Type 0
+abbrev pub MethodFits : Sizes → Method → Type 0
 MethodFits v m = (length m.params < 2 ^ 30) × IsPoolIndex v.names m.ret × All (IsPoolIndex v.names) m.params × IsPoolIndex v.strings m.name × FitOptions v m × FitParamNames m
 
-pub method_fits : (v : Sizes) (m : Method) → FitsMethod v m ↔ ((length m.params < 2 ^ 30) × IsPoolIndex v.names m.ret × All (IsPoolIndex v.names) m.params × IsPoolIndex v.strings m.name × FitOptions v m × FitParamNames m)
+pub method_fits : (v : Sizes) (m : Method) → FitsMethod v m ↔ MethodFits v m
 unfolding FitsMethod FitOptions FitParamNames IsPoolIndex IsNumber method u8
 method_fits v m = (
   λ s.
@@ -212,10 +212,10 @@ method_fits v m = (
 
 -- ---- metadata
 
-abbrev MetadataFits : Sizes → Metadata → Type 0
+abbrev pub MetadataFits : Sizes → Metadata → Type 0
 MetadataFits v m = IsPoolIndex v.strings m.name × (length m.items % 2 ≡ 0) × (length m.items / 2 < 2 ^ 30) × All (IsPoolIndex v.strings) m.items
 
-pub metadata_fits : (v : Sizes) (m : Metadata) → FitsMetadata v m ↔ (IsPoolIndex v.strings m.name × (length m.items % 2 ≡ 0) × (length m.items / 2 < 2 ^ 30) × All (IsPoolIndex v.strings) m.items)
+pub metadata_fits : (v : Sizes) (m : Metadata) → FitsMetadata v m ↔ MetadataFits v m
 unfolding FitsMetadata IsPoolIndex IsNumber metadata
 metadata_fits v m = (
   λ s.

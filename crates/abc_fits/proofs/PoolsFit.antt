@@ -1,5 +1,5 @@
 -- Which values of the pools some bytes spell.
-use Rattle.std.proofs.Common.{◌≡◌, ℕ, ℤ, ◌+◌, ◌^◌, ◌<◌, Bool, true, false, List, [], length, get_or, refl, sym, subst}
+use Rattle.std.proofs.Common.{◌≡◌, ℕ, ℤ, ◌+◌, ◌^◌, ◌<◌, Bool, true, false, List, length, get_or, refl, sym, subst}
 use Rattle.std.specs.Prelude.{◌↔◌, All, FitsSigned}
 use Rattle.std.specs.Int.{w32}
 use Rattle.std.proofs.lemmas.List.{get_or_default}
@@ -18,7 +18,7 @@ use Rattle.abc_tables.specs.declared.tables.Abc.{Abc}
 use Rattle.abc_tables.specs.declared.tables.Eight.{Eight}
 use Rattle.abc_tables.specs.declared.tables.Sizes.{Sizes}
 use Rattle.abc_tables.specs.Classes.{sizes_of}
-use Rattle.abc_tables.specs.Pools.{double, is_multiname_kind, is_namespace_kind, multiname, multiname_code, multiname_fields, multiname_kind, multiname_kind_of, namespace, namespace_code, namespace_kind, namespace_kind_of, namespace_set, pools}
+use Rattle.abc_tables.specs.Pools.{PoolValues, double, is_multiname_kind, is_namespace_kind, multiname, multiname_code, multiname_fields, multiname_kind, multiname_kind_of, namespace, namespace_code, namespace_kind, namespace_kind_of, namespace_set, pools, with_pools}
 use Rattle.abc_fits.specs.Fitting.{FitsDouble, FitsInt, FitDoubles, FitInts, FitMultinames, FitNamespaces, FitNamespaceSets, FitPools, FitTexts, FitUints, FitsMultiname, FitsNamespace, FitsNamespaceSet, FitsText, IsEntryIndex, IsPoolIndex, Spelled, pools_alone}
 use Rattle.abc_fits.proofs.Combined.{byte_spelled, checked_spelled, counted_spelled, done_is, done_spelled, every_byte, image_comes, image_spelled, pool_spelled, s32_spelled, then_parts, then_spelled, times_spelled, u32_spelled}
 
@@ -197,26 +197,6 @@ multinames_fit v xs = pool_spelled (multiname v.strings v.namespaces v.sets) xs
 
 -- ---- all pools
 
-abbrev PoolValues : Type 0
-PoolValues = List ℤ × (List ℕ × (List Eight × (List (List ℕ) × (List Namespace × (List (List ℕ) × List Multiname)))))
-
-abbrev filled : PoolValues → Abc
-filled x = record {
-  ints = x.0;
-  uints = x.1.0;
-  doubles = x.1.1.0;
-  strings = x.1.1.1.0;
-  namespaces = x.1.1.1.1.0;
-  sets = x.1.1.1.1.1.0;
-  names = x.1.1.1.1.1.1;
-  methods = [];
-  metadata = [];
-  instances = [];
-  classes = [];
-  scripts = [];
-  bodies = [];
-}
-
 -- some bytes spell each pool
 pub record ArePools (v : Abc) : Type 0 where
   pub ints : FitInts v.ints
@@ -239,7 +219,7 @@ after_strings strings = then_by (pool (namespace (length strings))) (after_space
 abbrev from_strings : Part (List (List ℕ) × (List Namespace × (List (List ℕ) × List Multiname)))
 from_strings = then_by (pool text) after_strings
 
-pools_in : (x : PoolValues) → Spelled (both (pool s32) (both (pool u32) (both (pool double) from_strings))) x → ArePools (filled x)
+pools_in : (x : PoolValues) → Spelled (both (pool s32) (both (pool u32) (both (pool double) from_strings))) x → ArePools (with_pools x)
 unfolding FitDoubles FitInts FitMultinames FitNamespaces FitNamespaceSets FitTexts FitUints
 pools_in x s =
     let a = then_parts (pool s32) (λ _. both (pool u32) (both (pool double) from_strings)) x s in
@@ -250,7 +230,7 @@ pools_in x s =
     let f = then_parts (pool (namespace_set (length x.1.1.1.1.0))) (after_sets (length x.1.1.1.0) (length x.1.1.1.1.0)) x.1.1.1.1.1 e.1 in
     record { ints = a.0; uints = b.0; doubles = c.0; strings = d.0; namespaces = e.0; sets = f.0; names = f.1 }
 
-pools_from : (x : PoolValues) → ArePools (filled x) → Spelled (both (pool s32) (both (pool u32) (both (pool double) from_strings))) x
+pools_from : (x : PoolValues) → ArePools (with_pools x) → Spelled (both (pool s32) (both (pool u32) (both (pool double) from_strings))) x
 unfolding FitDoubles FitInts FitMultinames FitNamespaces FitNamespaceSets FitTexts FitUints
 pools_from x p =
     then_spelled (pool s32) (λ _. both (pool u32) (both (pool double) from_strings)) x p.ints
@@ -267,10 +247,10 @@ pub pools_fit : (v : Abc) → FitPools v ↔ ArePools v
 unfolding FitPools pools FitMultinames
 pools_fit v = (
   λ s.
-      let c = image_comes filled (both (pool s32) (both (pool u32) (both (pool double) from_strings))) (pools_alone v) s in
+      let c = image_comes with_pools (both (pool s32) (both (pool u32) (both (pool double) from_strings))) (pools_alone v) s in
       let p : ArePools (pools_alone v) = subst ArePools (sym c.is) (pools_in c.from c.spelled) in
       record { ints = p.ints; uints = p.uints; doubles = p.doubles; strings = p.strings; namespaces = p.namespaces; sets = p.sets; names = p.names },
   λ p.
-      image_spelled filled (both (pool s32) (both (pool u32) (both (pool double) from_strings))) (values_of v) (pools_alone v) refl
+      image_spelled with_pools (both (pool s32) (both (pool u32) (both (pool double) from_strings))) (values_of v) (pools_alone v) refl
       (pools_from (values_of v) (record { ints = p.ints; uints = p.uints; doubles = p.doubles; strings = p.strings; namespaces = p.namespaces; sets = p.sets; names = p.names })),
 )

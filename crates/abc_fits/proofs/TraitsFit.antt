@@ -104,10 +104,10 @@ metadata_unasked v t e =
 
 -- ---- a trait
 
-abbrev TraitFits : Sizes → TraitInfo → Type 0
+abbrev pub TraitFits : Sizes → TraitInfo → Type 0
 TraitFits v t = IsEntryIndex v.names t.name × (t.attrs < 16) × FitsTraitFields v t.body × FitsTraitMetadata v t
 
-pub trait_fits : (v : Sizes) (t : TraitInfo) → FitsTrait v t ↔ (IsEntryIndex v.names t.name × (t.attrs < 16) × FitsTraitFields v t.body × FitsTraitMetadata v t)
+pub trait_fits : (v : Sizes) (t : TraitInfo) → FitsTrait v t ↔ TraitFits v t
 unfolding FitsTrait FitsTraitMetadata IsEntryIndex FitsTraitFields trait_info
 trait_fits v t = (
   λ s.

@@ -3,9 +3,9 @@ ghost use Rattle.abc_fits.specs.Lengths.{body_len, counted_len, handler_len, pla
 ghost use Rattle.abc_fits.specs.Steps.{AreSteps, IsFirstFrom};
 ghost use Rattle.abc_tables.specs.CodeBytes.{canonical_starts, code_len as total, number_len};
 
-use crate::lengths::{Measured, len_of_count, len_of_counted, len_of_number};
+use crate::lengths::{Measured, len_of_counted, len_of_number};
 use abc_base::Table;
-use abc_tables::{Body, Handler, Instr, code_len, instr_len};
+use abc_tables::{Body, Handler, Instr, code_len, count_len, instr_len};
 
 /// The first places in code whose starts have two, three, four and five bytes in their canonical spelling.
 #[derive(Clone, Copy, Debug)]
@@ -95,7 +95,7 @@ fn len_of_handlers(handlers: &Table<Handler>, code: &Table<Instr>) -> u64
     for handler in handlers.as_slice() {
         len = len.saturating_add(len_of_handler(handler, code, &steps));
     }
-    len_of_count(handlers.len()).saturating_add(len)
+    count_len(handlers.len()).saturating_add(len)
 }
 
 /// How many bytes the instructions have, and that number.
@@ -103,7 +103,7 @@ fn len_of_code(code: &Table<Instr>) -> u64
     ensures { result ≡ min (number_len (total code.now) + total code.now) (2 ^ 64 - 1) }
 {
     let len = code_len(code);
-    len_of_count(len as usize).saturating_add(len)
+    count_len(len as usize).saturating_add(len)
 }
 
 impl Measured for Body {

@@ -4,11 +4,11 @@ ghost use Rattle.abc_fits.specs.Lengths.{class_len, counted_len, definitions_len
 ghost use Rattle.abc_tables.specs.CodeBytes.{number_len};
 ghost use Rattle.abc_tables.specs.Methods.{has_flag as is_set};
 
-use crate::lengths::{Measured, len_of_all, len_of_count, len_of_counted, len_of_number};
+use crate::lengths::{Measured, len_of_all, len_of_counted, len_of_number};
 use abc_base::Table;
 use abc_tables::{
     Abc, ClassInfo, HAS_METADATA, HAS_OPTIONAL, HAS_PARAM_NAMES, Instance, Metadata, Method,
-    OptionValue, Script, TraitBody, TraitInfo, has_flag,
+    OptionValue, Script, TraitBody, TraitInfo, count_len, has_flag,
 };
 
 impl Measured for OptionValue {
@@ -46,7 +46,7 @@ impl Measured for Method {
 
     #[tactic(auto, unfolding(crate::specs::Lengths::method_len))]
     fn canonical_len(&self) -> u64 {
-        let numbers = len_of_count(self.params.len()) + len_of_number(self.ret);
+        let numbers = count_len(self.params.len()) + len_of_number(self.ret);
         let signature = numbers.saturating_add(len_of_all(&self.params));
         signature
             .saturating_add(len_of_number(self.name) + 1)
@@ -60,7 +60,7 @@ impl Measured for Metadata {
 
     #[tactic(auto, unfolding(crate::specs::Lengths::metadata_len))]
     fn canonical_len(&self) -> u64 {
-        let numbers = len_of_number(self.name) + len_of_count(self.items.len() / 2);
+        let numbers = len_of_number(self.name) + count_len(self.items.len() / 2);
         numbers.saturating_add(len_of_all(&self.items))
     }
 }
@@ -160,7 +160,7 @@ pub fn len_of_definitions(abc: &Abc) -> u64
 {
     len_of_counted(&abc.methods)
         .saturating_add(len_of_counted(&abc.metadata))
-        .saturating_add(len_of_count(abc.classes.len()))
+        .saturating_add(count_len(abc.classes.len()))
         .saturating_add(len_of_all(&abc.instances))
         .saturating_add(len_of_all(&abc.classes))
         .saturating_add(len_of_counted(&abc.scripts))

@@ -1,21 +1,20 @@
 ghost use Rattle.std.specs.Prelude.{◌↔◌, ◌+◌, ◌<◌, ◌^◌, All, IsTrue};
 ghost use Rattle.abc_fits.specs.Fitting.{IsEntryIndex, IsNumber, IsPoolIndex, IsPosition};
 
-/// The least number that no operand, count or index has.
-const LIMIT: u32 = 1 << 30;
+use abc_tables::U30_LIMIT;
 
 /// Whether so many items can be counted.
 pub fn is_count(count: usize) -> bool
     ensures { IsTrue result ↔ (count < 2 ^ 30) }
 {
-    count < LIMIT as usize
+    count < U30_LIMIT as usize
 }
 
 /// Whether a pool of so many entries can be counted, with entry 0.
 pub fn is_pool_count(count: usize) -> bool
     ensures { IsTrue result ↔ (count + 1 < 2 ^ 30) }
 {
-    count < LIMIT as usize - 1
+    count < U30_LIMIT as usize - 1
 }
 
 /// Whether some bytes spell a number below 2^30.
@@ -23,7 +22,7 @@ pub fn is_pool_count(count: usize) -> bool
 pub fn is_number(n: u32) -> bool
     ensures { IsTrue result ↔ IsNumber n }
 {
-    n < LIMIT
+    n < U30_LIMIT
 }
 
 /// Whether some bytes spell a position in a table of so many entries, which counts from 0.
@@ -31,7 +30,7 @@ pub fn is_number(n: u32) -> bool
 pub fn is_position(index: u32, size: u32) -> bool
     ensures { IsTrue result ↔ IsPosition size index }
 {
-    index < size && index < LIMIT
+    index < size && index < U30_LIMIT
 }
 
 /// Whether some bytes spell an index into a pool of so many entries, which counts from 1, or 0.
@@ -39,7 +38,7 @@ pub fn is_position(index: u32, size: u32) -> bool
 pub fn is_pool_index(index: u32, size: u32) -> bool
     ensures { IsTrue result ↔ IsPoolIndex size index }
 {
-    index <= size && index < LIMIT
+    index <= size && index < U30_LIMIT
 }
 
 /// Whether some bytes spell an index into a pool of so many entries, which counts from 1, and is not 0.
@@ -47,7 +46,7 @@ pub fn is_pool_index(index: u32, size: u32) -> bool
 pub fn is_entry_index(index: u32, size: u32) -> bool
     ensures { IsTrue result ↔ IsEntryIndex size index }
 {
-    1 <= index && index <= size && index < LIMIT
+    1 <= index && index <= size && index < U30_LIMIT
 }
 
 /// Whether that is so of each number.

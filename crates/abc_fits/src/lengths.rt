@@ -5,7 +5,7 @@ ghost use Rattle.abc_format.specs.Canonical.{pool_count};
 ghost use Rattle.abc_tables.specs.CodeBytes.{number_len};
 
 use abc_base::{Bytes, Table, len_u32};
-use abc_tables::Eight;
+use abc_tables::{Eight, count_len};
 
 /// Values whose canonical bytes are counted.
 pub trait Measured: Drop {
@@ -25,17 +25,6 @@ pub fn len_of_number(n: u32) -> u64
     len_u32(n) as u64
 }
 
-/// How many canonical bytes a count has, 1 to 5.
-pub fn len_of_count(n: usize) -> u64
-    ensures is { result ≡ number_len n }
-    ensures bound { result ≤ 5 }
-{
-    if n > u32::MAX as usize {
-        return 5;
-    }
-    len_of_number(n as u32)
-}
-
 /// The canonical bytes of all items, one after the other.
 pub fn len_of_all<T: Measured>(items: &Table<T>) -> u64
     ensures { result ≡ min (sum_by T.len items.now) (2 ^ 64 - 1) }
@@ -51,7 +40,7 @@ pub fn len_of_all<T: Measured>(items: &Table<T>) -> u64
 pub fn len_of_counted<T: Measured>(items: &Table<T>) -> u64
     ensures { result ≡ min (counted_len T.len items.now) (2 ^ 64 - 1) }
 {
-    len_of_count(items.len()).saturating_add(len_of_all(items))
+    count_len(items.len()).saturating_add(len_of_all(items))
 }
 
 /// How many canonical bytes the count of a pool has, 1 to 5: entry 0 counts too, unless the pool is empty.
@@ -64,7 +53,7 @@ fn len_of_pool_count<T: Drop>(items: &Table<T>) -> u64
     if entries == 0 {
         return 1;
     }
-    len_of_count(entries.saturating_add(1))
+    count_len(entries.saturating_add(1))
 }
 
 /// The canonical bytes of a pool.
@@ -103,7 +92,7 @@ impl Measured for Bytes {
     ghost len = { text_len };
 
     fn canonical_len(&self) -> u64 {
-        len_of_count(self.len()).saturating_add(self.len() as u64)
+        count_len(self.len()).saturating_add(self.len() as u64)
     }
 }
 

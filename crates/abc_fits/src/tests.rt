@@ -106,24 +106,6 @@ fn body(alloc: Global, method: u32) -> Result<Body, NoMemory> {
     })
 }
 
-fn empty(alloc: Global) -> Abc {
-    Abc {
-        ints: Table::new(alloc),
-        uints: Table::new(alloc),
-        doubles: Table::new(alloc),
-        strings: Table::new(alloc),
-        namespaces: Table::new(alloc),
-        sets: Table::new(alloc),
-        names: Table::new(alloc),
-        methods: Table::new(alloc),
-        metadata: Table::new(alloc),
-        instances: Table::new(alloc),
-        classes: Table::new(alloc),
-        scripts: Table::new(alloc),
-        bodies: Table::new(alloc),
-    }
-}
-
 fn fill_pools(alloc: Global, abc: &mut Abc) -> Result<(), NoMemory> {
     abc.ints = one(alloc, -1)?;
     abc.uints = one(alloc, 0)?;
@@ -177,7 +159,7 @@ fn fill_definitions(alloc: Global, abc: &mut Abc) -> Result<(), NoMemory> {
 
 /// A file with an entry of each kind.
 fn base(alloc: Global) -> Result<Abc, NoMemory> {
-    let mut abc = empty(alloc);
+    let mut abc = Abc::new(alloc);
     fill_pools(alloc, &mut abc)?;
     fill_definitions(alloc, &mut abc)?;
     abc.bodies = one(alloc, body(alloc, 0)?)?;
@@ -187,8 +169,8 @@ fn base(alloc: Global) -> Result<Abc, NoMemory> {
 #[test]
 fn known_lengths(rt: HostRuntime) -> Result<(), Fail> {
     let alloc = rt.alloc();
-    assert_eq!(rt; canon_len(&empty(alloc)), 16);
-    assert!(rt; fits(&empty(alloc)));
+    assert_eq!(rt; canon_len(&Abc::new(alloc)), 16);
+    assert!(rt; fits(&Abc::new(alloc)));
     let mut abc = base(alloc)?;
     assert_eq!(rt; canon_len(&abc), BASE_LEN);
     assert!(rt; fits(&abc));

@@ -9,7 +9,7 @@ ghost use Rattle.abc_varint.specs.Reads.{Reads, ReadsPart};
 use crate::doubles::Doubles;
 use crate::multinames::Multinames;
 use crate::spaces::Namespaces;
-use abc_base::{NoMemory, Source, Table};
+use abc_base::{NoMemory, Source};
 use abc_tables::Abc;
 use abc_varint::{
     Counted, EntryIndex, Number32, ReadError, Signed32, Text, Window, put_pool, read_pool,
@@ -47,12 +47,7 @@ fn next_pools<S: Source>(alloc: Global, w: &mut Window, source: &mut S) -> Resul
         namespaces,
         sets,
         names,
-        methods: Table::new(alloc),
-        metadata: Table::new(alloc),
-        instances: Table::new(alloc),
-        classes: Table::new(alloc),
-        scripts: Table::new(alloc),
-        bodies: Table::new(alloc),
+        ..Abc::new(alloc)
     })
 }
 

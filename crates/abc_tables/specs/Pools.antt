@@ -1,5 +1,5 @@
 -- The constant pools: numbers, texts, namespaces, sets of namespaces and multinames.
-use Rattle.std.specs.Prelude.{ℕ, List, [], ◌∷◌, ◌++◌, length, Bool, true, false, nat_eq, ◌||◌, if◌then◌else◌}
+use Rattle.std.specs.Prelude.{ℕ, ℤ, List, [], ◌∷◌, ◌++◌, length, Bool, true, false, nat_eq, ◌||◌, if◌then◌else◌}
 use Rattle.abc_base.specs.Numbers.{number_bytes}
 use Rattle.abc_format.specs.declared.reason.Reason.TheVariants as reasons
 use Rattle.abc_format.specs.Part.{Part, done, then_by, both, image, checked}
@@ -120,24 +120,44 @@ multiname_bytes (names.MultiL attr s) = multiname_code forms.MultiL attr ∷ num
 
 -- ---- all pools
 
+-- a file whose tables are empty
+abbrev pub empty : Abc
+empty = record {
+  ints = [];
+  uints = [];
+  doubles = [];
+  strings = [];
+  namespaces = [];
+  sets = [];
+  names = [];
+  methods = [];
+  metadata = [];
+  instances = [];
+  classes = [];
+  scripts = [];
+  bodies = [];
+}
+
+-- the values of the pools, in their order
+abbrev pub PoolValues : Type 0
+PoolValues = List ℤ × (List ℕ × (List Eight × (List (List ℕ) × (List Namespace × (List (List ℕ) × List Multiname)))))
+
+-- a file that has these pools alone
+abbrev pub with_pools : PoolValues → Abc
+with_pools x = record empty {
+  ints = x.0;
+  uints = x.1.0;
+  doubles = x.1.1.0;
+  strings = x.1.1.1.0;
+  namespaces = x.1.1.1.1.0;
+  sets = x.1.1.1.1.1.0;
+  names = x.1.1.1.1.1.1;
+}
+
 -- the pools in their order, as a value whose other tables are empty
 unfoldable pub pools : Part Abc
 pools =
-    image (λ x. record {
-      ints = x.0;
-      uints = x.1.0;
-      doubles = x.1.1.0;
-      strings = x.1.1.1.0;
-      namespaces = x.1.1.1.1.0;
-      sets = x.1.1.1.1.1.0;
-      names = x.1.1.1.1.1.1;
-      methods = [];
-      metadata = [];
-      instances = [];
-      classes = [];
-      scripts = [];
-      bodies = [];
-    })
+    image with_pools
     (both (pool s32) (both (pool u32) (both (pool double) (then_by (pool text) (λ strings.
     then_by (pool (namespace (length strings))) (λ spaces.
     then_by (pool (namespace_set (length spaces))) (λ sets.

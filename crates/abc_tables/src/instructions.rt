@@ -13,7 +13,7 @@ pub struct Code {
 }
 
 /// How many bytes spell a count in its canonical spelling, 1 to 5.
-fn count_len(n: usize) -> u64
+pub fn count_len(n: usize) -> u64
     ensures is { result ≡ number_len n }
     ensures bound { result ≤ 5 }
 {

@@ -6,11 +6,9 @@ ghost use Rattle.abc_tables.specs.Ready.{AllCanSpell, AllUpTo, CanSpell, IsReady
 use crate::code::{Body, Handler, Instr};
 use crate::instructions::code_len;
 use crate::opcodes::{Form, opcode};
+use crate::sizes::U30_LIMIT;
 use crate::tables::Abc;
 use abc_base::Table;
-
-/// The least number that no operand has.
-const OPERAND_LIMIT: u32 = 1 << 30;
 
 /// The least length that no code has.
 const CODE_LIMIT: u64 = 1 << 23;
@@ -37,7 +35,7 @@ fn are_within(targets: &[u32], count: usize) -> bool
 fn is_switch(default: u32, cases: &Table<u32>, count: usize) -> bool
     ensures { IsTrue result ↔ ((default ≤ count) × AllUpTo count cases.now × (0 < length cases.now) × (length cases.now ≤ 2 ^ 30)) }
 {
-    let some = 0 < cases.len() && cases.len() <= OPERAND_LIMIT as usize;
+    let some = 0 < cases.len() && cases.len() <= U30_LIMIT as usize;
     default as usize <= count && are_within(cases.as_slice(), count) && some
 }
 
@@ -47,16 +45,14 @@ fn can_spell(instr: &Instr, count: usize) -> bool
 {
     match instr {
         Instr::Plain(op) => has_form(*op, Form::Plain),
-        Instr::One(op, x) => has_form(*op, Form::One) && *x < OPERAND_LIMIT,
-        Instr::Two(op, x, y) => {
-            has_form(*op, Form::Two) && *x < OPERAND_LIMIT && *y < OPERAND_LIMIT
-        }
+        Instr::One(op, x) => has_form(*op, Form::One) && *x < U30_LIMIT,
+        Instr::Two(op, x, y) => { has_form(*op, Form::Two) && *x < U30_LIMIT && *y < U30_LIMIT }
         Instr::Branch(op, target) => has_form(*op, Form::Branch) && *target as usize <= count,
         Instr::Switch { default, cases } => is_switch(*default, cases, count),
         Instr::Byte(x) => *x >= i8::MIN,
         Instr::Short(x) => *x >= i16::MIN,
         Instr::ScopeObject(_) => true,
-        Instr::Debug { name, extra, .. } => *name < OPERAND_LIMIT && *extra < OPERAND_LIMIT,
+        Instr::Debug { name, extra, .. } => *name < U30_LIMIT && *extra < U30_LIMIT,
     }
 }
 

@@ -7,14 +7,14 @@ use crate::methods::ValueKind;
 use crate::tables::{Abc, Sizes};
 use abc_base::Table;
 
-/// The greatest size that an index tells from a smaller one, 2^30.
-const LARGEST: usize = 1 << 30;
+/// The least number that no operand, count or index has.
+pub const U30_LIMIT: u32 = 1 << 30;
 
 /// How many values there are, or 2^30 where there are more.
 fn size_of<T: Drop>(items: &Table<T>) -> u32
     ensures { result ≡ min (length items.now) (2 ^ 30) }
 {
-    items.len().min(LARGEST) as u32
+    items.len().min(U30_LIMIT as usize) as u32
 }
 
 /// How many entries the tables have that indices name, each at most 2^30: an index is below 2^30, so it is tested

@@ -1,8 +1,12 @@
+ghost use Rattle.std.specs.Prelude.{◌≡◌};
+ghost use Rattle.abc_tables.specs.Pools.{empty};
+
 use crate::classes::{ClassInfo, Instance, Script};
 use crate::code::Body;
 use crate::methods::{Metadata, Method};
 use crate::names::{Multiname, Namespace};
 use abc_base::{Bytes, Table};
+use std::alloc::Global;
 
 /// The eight bytes of a double, as they stand in the file.
 #[derive(Clone, Copy, Debug, PartialEq, Eq)]
@@ -27,6 +31,29 @@ pub struct Abc {
     pub classes: Table<ClassInfo>,
     pub scripts: Table<Script>,
     pub bodies: Table<Body>,
+}
+
+impl Abc {
+    /// A file whose tables are empty.
+    pub fn new(alloc: Global) -> Abc
+        ensures { result ≡ empty }
+    {
+        Abc {
+            ints: Table::new(alloc),
+            uints: Table::new(alloc),
+            doubles: Table::new(alloc),
+            strings: Table::new(alloc),
+            namespaces: Table::new(alloc),
+            sets: Table::new(alloc),
+            names: Table::new(alloc),
+            methods: Table::new(alloc),
+            metadata: Table::new(alloc),
+            instances: Table::new(alloc),
+            classes: Table::new(alloc),
+            scripts: Table::new(alloc),
+            bodies: Table::new(alloc),
+        }
+    }
 }
 
 /// How many entries the tables have that indices name. Entry 0, which is not stored, is not counted.

@@ -48,11 +48,8 @@ fn small(alloc: Global) -> Result<Abc, NoMemory> {
         param_names: Table::new(alloc),
     };
     Ok(Abc {
-        ints: Table::new(alloc),
-        uints: Table::new(alloc),
         doubles: one(alloc, Eight([0x7f, 0xf8, 0, 0, 0, 0, 0, 1]))?,
         strings: one(alloc, Bytes::from_slice(alloc, b"main")?)?,
-        namespaces: Table::new(alloc),
         sets: one(alloc, Table::new(alloc))?,
         names: one(
             alloc,
@@ -62,11 +59,8 @@ fn small(alloc: Global) -> Result<Abc, NoMemory> {
             },
         )?,
         methods: one(alloc, method)?,
-        metadata: Table::new(alloc),
-        instances: Table::new(alloc),
-        classes: Table::new(alloc),
-        scripts: Table::new(alloc),
         bodies: one(alloc, body(alloc)?)?,
+        ..Abc::new(alloc)
     })
 }
 

@@ -64,14 +64,8 @@ fn pools(alloc: Global) -> Result<Abc, NoMemory> {
         doubles,
         strings,
         namespaces,
-        sets: Table::new(alloc),
         names,
-        methods: Table::new(alloc),
-        metadata: Table::new(alloc),
-        instances: Table::new(alloc),
-        classes: Table::new(alloc),
-        scripts: Table::new(alloc),
-        bodies: Table::new(alloc),
+        ..Abc::new(alloc)
     })
 }
 

@@ -1,6 +1,5 @@
-use Rattle.std.proofs.Common.{arith, append_assoc, refl, ◌∙◌, []}
-use Rattle.abc_tables.specs.Classes.{sizes_with}
-use Rattle.abc_tables.specs.Pools.{pools, pools_bytes, namespace_set}
+use Rattle.std.proofs.Common.{arith, append_assoc, refl, ◌∙◌}
+use Rattle.abc_tables.specs.Pools.{pools, pools_bytes, namespace_set, with_pools}
 use Rattle.abc_pools.proofs.pass.pass_pools.Goals as goal
 
 pub returns : goal.returns
@@ -20,21 +19,7 @@ returns g c =
             let x1 = d1.1 in let x2 = d2.1 in let x3 = d3.1 in let x4 = d4.1 in let x5 = d5.1 in let x6 = d6.1 in let x7 = d7.1 in (
               d7.0,
               record {
-                value = record {
-                  ints = x1.value;
-                  uints = x2.value;
-                  doubles = x3.value;
-                  strings = x4.value;
-                  namespaces = x5.value;
-                  sets = x6.value;
-                  names = x7.value;
-                  methods = [];
-                  metadata = [];
-                  instances = [];
-                  classes = [];
-                  scripts = [];
-                  bodies = [];
-                };
+                value = with_pools (x1.value, (x2.value, (x3.value, (x4.value, (x5.value, (x6.value, x7.value))))));
                 read = rw (x1.read, x2.read, x3.read, x4.read, ← x4.tells, x5.read, ← x5.tells, x6.read, ← x6.tells, x7.read) refl;
                 bytes = x7.bytes ∙ rw (x6.bytes, x5.bytes, x4.bytes, x3.bytes, x2.bytes, x1.bytes) (simp append_assoc);
                 tells = rw (x1.tells, x2.tells, x3.tells, x4.tells, x5.tells, x6.tells, x7.tells) refl;
