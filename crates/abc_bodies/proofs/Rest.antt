@@ -1,10 +1,11 @@
 -- What follows the sizes of a body is passed part by part.
-use Rattle.std.proofs.Common.{◌≡◌, ℕ, true, Bool, List, ◌++◌, length, Ok, None, refl, ap, subst, ◌∙◌, append_assoc, arith}
+use Rattle.std.proofs.Common.{◌≡◌, ℕ, true, Bool, List, ◌++◌, length, map, Ok, Err, None, refl, sym, ap, subst, ◌∙◌, append_assoc, arith}
 use Rattle.std.specs.declared.option.Option.{Option}
 use Rattle.abc_format.specs.Canonical.{counted_bytes}
 use Rattle.abc_format.specs.Lists.{counted}
 use Rattle.abc_format.specs.Numbers.{u30}
-use Rattle.abc_format.specs.Part.{At}
+use Rattle.abc_format.specs.Part.{At, refusal}
+use Rattle.abc_tables.specs.declared.code.Handler.{Handler}
 use Rattle.abc_tables.specs.declared.instructions.Code.{Code}
 use Rattle.abc_tables.specs.declared.tables.Sizes.{Sizes}
 use Rattle.abc_tables.specs.Bodies.{body_with, handler, handler_bytes}
@@ -16,8 +17,10 @@ use Rattle.abc_varint.specs.declared.error.ReadError.TheVariants as errors
 use Rattle.abc_varint.specs.Passes.{Passes, nothing}
 use Rattle.abc_varint.specs.Reads.{Fails, stand, tells}
 use Rattle.abc_varint.specs.View.{View}
-use Rattle.abc_instr.specs.Scanning.{starts_in}
+use Rattle.abc_instr.specs.Marks.{moved_in}
+use Rattle.abc_bodies.specs.Moved.{moved_bytes, moved_handler}
 use Rattle.abc_bodies.specs.Reading.{free_body, free_method, rest, rest_bytes}
+use Rattle.abc_bodies.proofs.Moving.{Mapped, bytes_moved, handlers_move, mapped, move, unmapped}
 
 abbrev code_of : Code → List ℕ
 code_of c = code_bytes c.instrs
@@ -40,24 +43,41 @@ traits_refused (errors.Refused place reason) v c from a b hs r h f = rw (r, h, f
 traits_refused errors.ReadFault v c from a b hs r h f = tt
 traits_refused errors.NoMemory v c from a b hs r h f = tt
 
-module _ (v : Sizes) (os ms read put old b1 : List ℕ) (es : os ≡ read) (em : ms ≡ put) (w : View) (s : Option (List ℕ)) (w1 : View) (s1 : Option (List ℕ)) (p : Passes code code_of starts_in w s w1 s1 old b1 (Ok (read, put))) where
-  pub handlers_fail : (e : ReadError) → (w1.kept ≡ None → tells s1 ≡ true → Fails e ((counted (handler v os)).reads (stand w1 s1))) → w.kept ≡ None → tells s ≡ true → Fails e ((rest v).reads (stand w s))
+-- what is refused as moved is refused
+unmoved : (e : ReadError) (v : Sizes) (c : Code) (marks : ℕ → Option ℕ) (from : At) → marks ≡ moved_in c → Fails e ((counted (moved_handler v marks)).reads from) → Fails e ((counted (handler v c.offsets)).reads from)
+unmoved (errors.Refused place reason) v c marks from same f =
+    let os = c.offsets in
+    let ms = canonical_starts c.instrs in
+    let h = subst (λ (m : ℕ → Option ℕ). (counted (moved_handler v m)).reads from ≡ Err (refusal place reason)) same f in
+    unmapped (map (move os ms)) ((counted (handler v os)).reads from) (refusal place reason) (sym (handlers_move os ms v from) ∙ h)
+unmoved errors.ReadFault v c marks from same f = tt
+unmoved errors.NoMemory v c marks from same f = tt
+
+-- what is read as moved is read, and then moved
+read_moved : (v : Sizes) (c : Code) (marks : ℕ → Option ℕ) (from after : At) (hs : List Handler) → marks ≡ moved_in c → (counted (moved_handler v marks)).reads from ≡ Ok (hs, after)
+    → Mapped (map (move c.offsets (canonical_starts c.instrs))) ((counted (handler v c.offsets)).reads from) hs after
+read_moved v c marks from after hs same e =
+    let os = c.offsets in
+    let ms = canonical_starts c.instrs in
+    let h = subst (λ (m : ℕ → Option ℕ). (counted (moved_handler v m)).reads from ≡ Ok (hs, after)) same e in
+    mapped (map (move os ms)) ((counted (handler v os)).reads from) hs after (sym (handlers_move os ms v from) ∙ h)
+
+module _ (v : Sizes) (marks : ℕ → Option ℕ) (old b1 : List ℕ) (w : View) (s : Option (List ℕ)) (w1 : View) (s1 : Option (List ℕ)) (p : Passes code code_of moved_in w s w1 s1 old b1 (Ok marks)) where
+  pub handlers_fail : (e : ReadError) → (w1.kept ≡ None → tells s1 ≡ true → Fails e ((counted (moved_handler v marks)).reads (stand w1 s1))) → w.kept ≡ None → tells s ≡ true → Fails e ((rest v).reads (stand w s))
   handlers_fail e f k t =
       let a = p.4 t in
       let x = a.1 in
-      let same : os ≡ x.value.offsets = es ∙ ap (λ (y : List ℕ × List ℕ). y.0) x.tells in
-      handlers_refused e v x.value (stand w s) (stand w1 s1) x.read (subst (λ (ss : List ℕ). Fails e ((counted (handler v ss)).reads (stand w1 s1))) same (f p.1 a.0))
+      handlers_refused e v x.value (stand w s) (stand w1 s1) x.read (unmoved e v x.value marks (stand w1 s1) x.tells (f p.1 a.0))
 
-  module _ (b2 : List ℕ) (n : ℕ) (w2 : View) (s2 : Option (List ℕ)) (q : Passes (counted (handler v os)) (counted_bytes (handler_bytes ms)) length w1 s1 w2 s2 b1 b2 (Ok n)) where
+  module _ (b2 : List ℕ) (n : ℕ) (w2 : View) (s2 : Option (List ℕ)) (q : Passes (counted (moved_handler v marks)) (counted_bytes moved_bytes) length w1 s1 w2 s2 b1 b2 (Ok n)) where
     pub traits_fail : (e : ReadError) → (w2.kept ≡ None → tells s2 ≡ true → Fails e ((counted (trait_info v)).reads (stand w2 s2))) → w.kept ≡ None → tells s ≡ true → Fails e ((rest v).reads (stand w s))
     traits_fail e f k t =
         let a = p.4 t in
         let x = a.1 in
         let b = q.4 a.0 in
         let y = b.1 in
-        let same : os ≡ x.value.offsets = es ∙ ap (λ (z : List ℕ × List ℕ). z.0) x.tells in
-        let h = subst (λ (ss : List ℕ). (counted (handler v ss)).reads (stand w1 s1) ≡ Ok (y.value, stand w2 s2)) same y.read in
-        traits_refused e v x.value (stand w s) (stand w1 s1) (stand w2 s2) y.value x.read h (f q.1 b.0)
+        let h = read_moved v x.value marks (stand w1 s1) (stand w2 s2) y.value x.tells y.read in
+        traits_refused e v x.value (stand w s) (stand w1 s1) (stand w2 s2) h.value x.read h.read (f q.1 b.0)
 
     pub rest_passes : (new : List ℕ) (m : ℕ) (w3 : View) (s3 : Option (List ℕ)) → Passes (counted (trait_info v)) (counted_bytes trait_bytes) length w2 s2 w3 s3 b2 new (Ok m) → Passes (rest v) rest_bytes nothing w s w3 s3 old new (Ok tt)
     unfolding rest rest_bytes
@@ -73,14 +93,14 @@ module _ (v : Sizes) (os ms read put old b1 : List ℕ) (es : os ≡ read) (em :
           let y = b.1 in
           let d = r.4 b.0 in
           let z = d.1 in
-          let same : os ≡ x.value.offsets = es ∙ ap (λ (u : List ℕ × List ℕ). u.0) x.tells in
-          let moved : ms ≡ canonical_starts x.value.instrs = em ∙ ap (λ (u : List ℕ × List ℕ). u.1) x.tells in
-          let h = subst (λ (ss : List ℕ). (counted (handler v ss)).reads (stand w1 s1) ≡ Ok (y.value, stand w2 s2)) same y.read in
-          let puts = subst (λ (ss : List ℕ). b2 ≡ b1 ++ counted_bytes (handler_bytes ss) y.value) moved y.bytes in (
+          let os = x.value.offsets in
+          let ms = canonical_starts x.value.instrs in
+          let h = read_moved v x.value marks (stand w1 s1) (stand w2 s2) y.value x.tells y.read in
+          let puts : b2 ≡ b1 ++ counted_bytes (handler_bytes ms) h.value = y.bytes ∙ ap (λ (l : List ℕ). b1 ++ l) (ap (counted_bytes moved_bytes) h.is ∙ bytes_moved os ms h.value) in (
             d.0,
             record {
-              value = (x.value, (y.value, z.value));
-              read = rw (x.read, h, z.read) refl;
+              value = (x.value, (h.value, z.value));
+              read = rw (x.read, h.read, z.read) refl;
               bytes = z.bytes ∙ rw (puts, x.bytes) (simp append_assoc);
               tells = refl;
             },

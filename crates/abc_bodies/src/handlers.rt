@@ -6,15 +6,17 @@ ghost use Rattle.abc_format.specs.Lists.{times, counted};
 ghost use Rattle.abc_tables.specs.Bodies.{handler as handler_part, handler_bytes, IsWithin};
 ghost use Rattle.abc_tables.specs.Places.{instruction_place};
 ghost use Rattle.abc_tables.specs.Starts.{IsRising};
+ghost use Rattle.abc_instr.specs.Marks.{mark_at};
+ghost use Rattle.abc_bodies.specs.Moved.{moved_bytes, moved_handler, moved_place};
 ghost use Rattle.abc_varint.specs.Passes.{Passes, PassesPart, nothing};
 ghost use Rattle.abc_varint.specs.Puts.{Puts};
 ghost use Rattle.abc_varint.specs.Reads.{Reads, ReadsPart};
 
 use abc_base::{NoMemory, Source, Table};
-use abc_instr::read_place;
+use abc_instr::{Marks, read_place};
 use abc_tables::{Handler, Sizes};
 use abc_varint::{
-    Codec, PoolIndex, ReadError, Window, put_count, put_u30, read_pool_index, read_u30,
+    Codec, PoolIndex, ReadError, Reason, Window, put_count, put_u30, read_pool_index, read_u30,
 };
 use std::alloc::Global;
 
@@ -140,42 +142,41 @@ pub fn put_handlers(
 }
 
 /// Passes a place: it is where the instruction starts in the canonical code.
+#[tactic(auto, unfolding(crate::specs::Moved::moved_place))]
 fn pass_place<S: Source>(
     w: &mut Window,
     source: &mut S,
-    starts: &[u32],
-    moved: &[u32],
+    marks: &Marks,
     out: &mut Vec<u8>,
 ) -> Result<(), ReadError>
-    requires rising { IsRising starts.now }
-    requires few { length starts.now < 2 ^ 32 }
-    requires count { length moved.now ≡ length starts.now }
-    ensures { PassesPart S.left S.faults (instruction_place starts.now) (λ n. number_bytes (get_or moved.now n 0)) nothing w.old source.old w.new source.new out.old.items out.new.items result }
+    ensures { PassesPart S.left S.faults (moved_place (mark_at marks.now)) number_bytes nothing w.old source.old w.new source.new out.old.items out.new.items result }
 {
-    let index = read_place(w, source, starts)?;
-    put_u30(moved[index as usize], out)?;
-    Ok(())
+    let place = w.place();
+    let x = read_u30(w, source)?;
+    match marks.get(x) {
+        Some(moved) => {
+            put_u30(moved, out)?;
+            Ok(())
+        }
+        None => Err(w.refuse(place, Reason::HandlerRange)),
+    }
 }
 
 /// Passes an exception, over code whose instructions start so as it was read, and so in the canonical code.
-#[tactic(auto, unfolding(abc_tables::specs::Bodies::handler, abc_tables::specs::Bodies::handler_bytes))]
+#[tactic(auto, unfolding(crate::specs::Moved::moved_handler, crate::specs::Moved::moved_bytes))]
 fn pass_handler<S: Source>(
     alloc: Global,
     w: &mut Window,
     source: &mut S,
     sizes: &Sizes,
-    starts: &[u32],
-    moved: &[u32],
+    marks: &Marks,
     out: &mut Vec<u8>,
 ) -> Result<(), ReadError>
-    requires rising { IsRising starts.now }
-    requires few { length starts.now < 2 ^ 32 }
-    requires count { length moved.now ≡ length starts.now }
-    ensures { PassesPart S.left S.faults (handler_part sizes.now starts.now) (handler_bytes moved.now) nothing w.old source.old w.new source.new out.old.items out.new.items result }
+    ensures { PassesPart S.left S.faults (moved_handler sizes.now (mark_at marks.now)) moved_bytes nothing w.old source.old w.new source.new out.old.items out.new.items result }
 {
-    pass_place(w, source, starts, moved, out)?;
-    pass_place(w, source, starts, moved, out)?;
-    pass_place(w, source, starts, moved, out)?;
+    pass_place(w, source, marks, out)?;
+    pass_place(w, source, marks, out)?;
+    pass_place(w, source, marks, out)?;
     PoolIndex(sizes.names).pass(alloc, w, source, out)?;
     PoolIndex(sizes.names).pass(alloc, w, source, out)?;
     Ok(())
@@ -187,19 +188,15 @@ fn pass_many<S: Source>(
     w: &mut Window,
     source: &mut S,
     sizes: &Sizes,
-    starts: &[u32],
-    moved: &[u32],
+    marks: &Marks,
     count: u32,
     out: &mut Vec<u8>,
 ) -> Result<(), ReadError>
-    requires rising { IsRising starts.now }
-    requires few { length starts.now < 2 ^ 32 }
-    requires count { length moved.now ≡ length starts.now }
     requires fresh { w.old.kept ≡ None }
-    ensures { PassesPart S.left S.faults (times count (handler_part sizes.now starts.now)) (flat_map (handler_bytes moved.now)) nothing w.old source.old w.new source.new out.old.items out.new.items result }
+    ensures { PassesPart S.left S.faults (times count (moved_handler sizes.now (mark_at marks.now))) (flat_map moved_bytes) nothing w.old source.old w.new source.new out.old.items out.new.items result }
 {
     for _ in 0..count {
-        pass_handler(alloc, w, source, sizes, starts, moved, out)?;
+        pass_handler(alloc, w, source, sizes, marks, out)?;
     }
     Ok(())
 }
@@ -212,17 +209,13 @@ pub fn pass_handlers<S: Source>(
     w: &mut Window,
     source: &mut S,
     sizes: &Sizes,
-    starts: &[u32],
-    moved: &[u32],
+    marks: &Marks,
     out: &mut Vec<u8>,
 ) -> Result<u32, ReadError>
-    requires rising { IsRising starts.now }
-    requires few { length starts.now < 2 ^ 32 }
-    requires count { length moved.now ≡ length starts.now }
-    ensures { PassesPart S.left S.faults (counted (handler_part sizes.now starts.now)) (counted_bytes (handler_bytes moved.now)) length w.old source.old w.new source.new out.old.items out.new.items result }
+    ensures { PassesPart S.left S.faults (counted (moved_handler sizes.now (mark_at marks.now))) (counted_bytes moved_bytes) length w.old source.old w.new source.new out.old.items out.new.items result }
 {
     let total = read_u30(w, source)?;
     put_u30(total, out)?;
-    pass_many(alloc, w, source, sizes, starts, moved, total, out)?;
+    pass_many(alloc, w, source, sizes, marks, total, out)?;
     Ok(total)
 }

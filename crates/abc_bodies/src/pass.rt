@@ -43,7 +43,7 @@ fn pass_rest<S: Source>(
     ensures { PassesPart S.left S.faults (rest sizes.now) rest_bytes nothing w.old source.old w.new source.new out.old.items out.new.items result }
 {
     pass_code(alloc, w, source, scan, out)?;
-    pass_handlers(alloc, w, source, sizes, &scan.starts, &scan.moved, out)?;
+    pass_handlers(alloc, w, source, sizes, &scan.marks, out)?;
     pass_counted(&TraitCodec(*sizes), alloc, w, source, out)?;
     Ok(())
 }

@@ -1,5 +1,5 @@
 -- What code says whose scan is put.
-use Rattle.std.proofs.Common.{◌≡◌, ℕ, suc, ◌+◌, ◌-◌, ◌<◌, List, [], ◌∷◌, ◌++◌, length, get_or, Ok, Err, refl, sym, ap, ◌∙◌, arith}
+use Rattle.std.proofs.Common.{◌≡◌, ℕ, suc, ◌+◌, ◌<◌, List, [], ◌∷◌, ◌++◌, length, Ok, Err, refl, sym, ap, ◌∙◌, arith}
 use Rattle.std.specs.Prelude.{All}
 use Rattle.std.specs.List.{flat_map}
 use Rattle.std.specs.declared.result.Result.{Result}
@@ -7,13 +7,11 @@ use Rattle.std.proofs.lemmas.List.Elements.{All-append, All-nil, All-push}
 use Rattle.abc_base.specs.Numbers.{number_bytes}
 use Rattle.abc_format.specs.Part.{At, Refusal, refusal, ◌>>=◌}
 use Rattle.abc_tables.specs.declared.code.Instr.{Instr}
-use Rattle.abc_tables.specs.declared.instructions.Code.{Code}
 use Rattle.abc_tables.specs.Code.{code, code_body}
 use Rattle.abc_tables.specs.CodeBytes.{canonical_starts, code_bytes, code_len, instrs_bytes, sized}
 use Rattle.abc_tables.specs.Instructions.{RawInstr, code_length, pieces}
 use Rattle.abc_tables.specs.Starts.{starts, size}
 use Rattle.abc_tables.specs.Targets.{instrs_of, resolve}
-use Rattle.abc_tables.proofs.Lengths.{canonical_count}
 use Rattle.abc_tables.proofs.Resolving.{length-starts}
 use Rattle.abc_varint.specs.declared.error.ReadError.{ReadError}
 use Rattle.abc_varint.specs.declared.error.ReadError.TheVariants as errors
@@ -21,8 +19,8 @@ use Rattle.abc_varint.specs.Reads.{Fails}
 use Rattle.abc_instr.specs.declared.scan.Scan.{Scan}
 use Rattle.abc_instr.specs.Offsets.{raw_of}
 use Rattle.abc_instr.specs.Resolving.{onto}
-use Rattle.abc_instr.specs.Scanning.{AreRead, IsScan, instrs_in, plain_bytes, raws_in, scan_bytes, starts_in}
-use Rattle.abc_instr.proofs.Growing.{last_start}
+use Rattle.abc_instr.specs.Marks.{mark_at, moved_at}
+use Rattle.abc_instr.specs.Scanning.{AreRead, IsWhole, instrs_in, plain_bytes, raws_in, scan_bytes}
 use Rattle.abc_instr.proofs.Scanned.{alike, canonical}
 use Rattle.abc_instr.proofs.Weaving.{woven_is}
 
@@ -45,21 +43,14 @@ raws_size [] = refl
 raws_size (x ∷ xs) = ap (λ (n : ℕ). x.1 + n) (raws_size xs)
 
 -- the bytes of a scan, from its instructions
-scan_is : (n : ℕ) (xs : List (Instr × ℕ)) (scan : Scan) → IsScan xs scan → AreRead n xs
-    → scan_bytes scan ≡ (instrs_of scan.starts.items 0 (raws_in xs) >>= λ js. Ok (number_bytes (code_len (instrs_in xs)) ++ instrs_bytes (canonical_starts (instrs_in xs)) 0 js))
+scan_is : (n : ℕ) (xs : List (Instr × ℕ)) (scan : Scan) → IsWhole xs scan → AreRead n xs
+    → scan_bytes scan ≡ (instrs_of (starts 0 xs) 0 (raws_in xs) >>= λ js. Ok (number_bytes (code_len (instrs_in xs)) ++ instrs_bytes (canonical_starts (instrs_in xs)) 0 js))
 scan_is n xs scan is read =
-    let ss = scan.starts.items in
+    let ss = starts 0 xs in
     let ms = canonical_starts (instrs_in xs) in
     let plain = flat_map plain_bytes (instrs_in xs) in
-    let moved : scan.moved.items ≡ ms = is.moved ∙ canonical (instrs_in xs) in
-    let many : length ms - 1 ≡ length (sized (instrs_in xs)) = omega (arith, canonical_count (instrs_in xs), sized_count (instrs_in xs)) in
-    let last : get_or ms (length ms - 1) 0 ≡ code_len (instrs_in xs) = ap (λ (k : ℕ). get_or ms k 0) many ∙ ap (λ (l : List ℕ). get_or l (length (sized (instrs_in xs))) 0) (sym (canonical (instrs_in xs))) ∙ last_start 0 (sized (instrs_in xs)) ∙ zero_more (code_len (instrs_in xs)) in
-    let count : length ss ≡ suc (length xs) = ap length is.starts ∙ length-starts 0 xs in
-    let w = woven_is ss ms plain (length xs) count xs 0 0 0 0 (omega arith) (omega arith) refl read.raw in
-    rw (moved, is.plain, is.jumps, last, w) (joins (instrs_of ss 0 (raws_in xs)) (number_bytes (code_len (instrs_in xs))) ms) where
-      zero_more : (k : ℕ) → 0 + k ≡ k
-      zero_more k = omega arith
-
+    let w = woven_is ss ms plain (length xs) (length-starts 0 xs) xs 0 0 0 0 (omega arith) (omega arith) refl read.raw in
+    rw (is.marks, is.plain, is.jumps, is.len, canonical (instrs_in xs), w) (joins (instrs_of ss 0 (raws_in xs)) (number_bytes (code_len (instrs_in xs))) ms) where
       joins : (r : Result (List Instr) Refusal) (front ms : List ℕ) → ((r >>= λ js. Ok ([] ++ instrs_bytes ms 0 js)) >>= λ b. Ok (front ++ b)) ≡ (r >>= λ js. Ok (front ++ instrs_bytes ms 0 js))
       joins (Ok js) front ms = refl
       joins (Err d) front ms = refl
@@ -68,38 +59,36 @@ pub record IsPut (xs : List (Instr × ℕ)) (scan : Scan) (out new : List ℕ) :
   pub instrs : List Instr
   pub found : instrs_of (starts 0 (raws_in xs)) 0 (raws_in xs) ≡ Ok instrs
   pub bytes : new ≡ out ++ code_bytes instrs
-  pub starts_are : scan.starts.items ≡ starts 0 (raws_in xs)
-  pub moved : scan.moved.items ≡ canonical_starts instrs
+  pub marks : mark_at scan.marks ≡ moved_at (starts 0 (raws_in xs)) (canonical_starts instrs)
 
-module _ (n : ℕ) (xs : List (Instr × ℕ)) (scan : Scan) (is : IsScan xs scan) (read : AreRead n xs) (out : List ℕ) where
-  first : scan.starts.items ≡ starts 0 (raws_in xs)
-  first = is.starts ∙ sym (raws_starts 0 xs)
+module _ (n : ℕ) (xs : List (Instr × ℕ)) (scan : Scan) (is : IsWhole xs scan) (read : AreRead n xs) (out : List ℕ) where
+  first : starts 0 xs ≡ starts 0 (raws_in xs)
+  first = sym (raws_starts 0 xs)
 
-  found : (new : List ℕ) (r : Result (List Instr) Refusal) → instrs_of scan.starts.items 0 (raws_in xs) ≡ r → onto out (r >>= λ js. Ok (number_bytes (code_len (instrs_in xs)) ++ instrs_bytes (canonical_starts (instrs_in xs)) 0 js)) ≡ Ok new → IsPut xs scan out new
+  found : (new : List ℕ) (r : Result (List Instr) Refusal) → instrs_of (starts 0 xs) 0 (raws_in xs) ≡ r → onto out (r >>= λ js. Ok (number_bytes (code_len (instrs_in xs)) ++ instrs_bytes (canonical_starts (instrs_in xs)) 0 js)) ≡ Ok new → IsPut xs scan out new
   unfolding canonical_starts code_bytes
   found new (Ok js) e h =
-      let count : length scan.starts.items ≡ suc (length xs) = ap length is.starts ∙ length-starts 0 xs in
-      let a = alike scan.starts.items 0 (length xs) xs js count e read.raw in
+      let count : length (starts 0 xs) ≡ suc (length xs) = length-starts 0 xs in
+      let a = alike (starts 0 xs) 0 (length xs) xs js count e read.raw in
       let b : out ++ (number_bytes (code_len (instrs_in xs)) ++ instrs_bytes (canonical_starts (instrs_in xs)) 0 js) ≡ new = cc in
       record {
         instrs = js;
         found = rw (← first) e;
         bytes = sym b ∙ rw (a.len, a.starts_are 0) refl;
-        starts_are = first;
-        moved = is.moved ∙ sym (a.starts_are 0);
+        marks = is.marks ∙ rw (first, a.starts_are 0) refl;
       }
   found new (Err d) e h = absurd cc
 
-  missed : (d : Refusal) (r : Result (List Instr) Refusal) → instrs_of scan.starts.items 0 (raws_in xs) ≡ r → onto out (r >>= λ js. Ok (number_bytes (code_len (instrs_in xs)) ++ instrs_bytes (canonical_starts (instrs_in xs)) 0 js)) ≡ Err d
+  missed : (d : Refusal) (r : Result (List Instr) Refusal) → instrs_of (starts 0 xs) 0 (raws_in xs) ≡ r → onto out (r >>= λ js. Ok (number_bytes (code_len (instrs_in xs)) ++ instrs_bytes (canonical_starts (instrs_in xs)) 0 js)) ≡ Err d
       → instrs_of (starts 0 (raws_in xs)) 0 (raws_in xs) ≡ Err d
   missed d (Ok js) e h = absurd cc
   missed d (Err f) e h = let same : f ≡ d = cc in rw (← first) (e ∙ ap (λ (x : Refusal). Err x) same)
 
   pub is_put : (new : List ℕ) → onto out (scan_bytes scan) ≡ Ok new → IsPut xs scan out new
-  is_put new h = found new (instrs_of scan.starts.items 0 (raws_in xs)) refl (ap (onto out) (sym (scan_is n xs scan is read)) ∙ h)
+  is_put new h = found new (instrs_of (starts 0 xs) 0 (raws_in xs)) refl (ap (onto out) (sym (scan_is n xs scan is read)) ∙ h)
 
   pub is_missed : (d : Refusal) → onto out (scan_bytes scan) ≡ Err d → instrs_of (starts 0 (raws_in xs)) 0 (raws_in xs) ≡ Err d
-  is_missed d h = missed d (instrs_of scan.starts.items 0 (raws_in xs)) refl (ap (onto out) (sym (scan_is n xs scan is read)) ∙ h)
+  is_missed d h = missed d (instrs_of (starts 0 xs) 0 (raws_in xs)) refl (ap (onto out) (sym (scan_is n xs scan is read)) ∙ h)
 
 -- ---- code
 
@@ -124,6 +113,3 @@ unfolding code code_body
 pieces_fail (errors.Refused place reason) n from a g f = rw (g, f) refl
 pieces_fail errors.ReadFault n from a g f = tt
 pieces_fail errors.NoMemory n from a g f = tt
-
-pub told : (os ms : List ℕ) (c : Code) → os ≡ c.offsets → ms ≡ canonical_starts c.instrs → (os, ms) ≡ starts_in c
-told os ms c e f = rw (e, f) refl

@@ -25,11 +25,11 @@ found_is place None t e = absurd cc
 target_within : (ss : List ℕ) (place base : ℕ) (z : ℤ) (n t : ℕ) → length ss ≡ suc n → found place (target_of ss base z) ≡ Ok t → t ≤ n
 target_within ss place base z n t count e = omega (arith, at_start_within ss _ t (found_is place (target_of ss base z) t e))
 
-record Within (n : ℕ) (zs : List ℤ) (ts : List ℕ) : Type 0 where
-  count : length ts ≡ length zs
+pub record Within (n : ℕ) (zs : List ℤ) (ts : List ℕ) : Type 0 where
+  pub count : length ts ≡ length zs
   each : AllUpTo n ts
 
-cases_within : (ss : List ℕ) (base next n : ℕ) (zs : List ℤ) (ts : List ℕ) → length ss ≡ suc n → cases_of ss base next zs ≡ Ok ts → Within n zs ts
+pub cases_within : (ss : List ℕ) (base next n : ℕ) (zs : List ℤ) (ts : List ℕ) → length ss ≡ suc n → cases_of ss base next zs ≡ Ok ts → Within n zs ts
 cases_within ss base next n [] ts count e = let same : [] ≡ ts = cc in subst (Within n []) same (record { count = refl; each = tt })
 cases_within ss base next n (z ∷ zs) ts count e =
     let place = next - 3 * suc (length zs) in

@@ -1,9 +1,12 @@
 -- What a scan knows of the instructions that were read, and how it grows.
-use Rattle.std.proofs.Common.{◌≡◌, ℕ, suc, ◌+◌, ◌-◌, ◌^◌, ◌<◌, ◌≤◌, List, [], ◌∷◌, ◌++◌, length, ◌⊎◌, Ok, Some, None, refl, sym, ap, subst, ◌∙◌, length-append, append_assoc, zero-add, inl, inr, arith}
-use Rattle.std.specs.Prelude.{All}
-use Rattle.std.specs.List.{flat_map}
+use Rattle.std.proofs.Common.{◌≡◌, ℕ, suc, ◌+◌, ◌^◌, ◌<◌, ◌≤◌, List, [], ◌∷◌, ◌++◌, length, get_or, ◌⊎◌, Bool, true, false, Ok, Some, None, refl, sym, ap, subst, ◌∙◌, length-append, append_assoc, zero-add, inl, inr, arith}
+use Rattle.std.specs.Prelude.{All, if◌then◌else◌, nat_eq, nat_lt, option_map}
+use Rattle.std.specs.List.{flat_map, position_or_len}
+use Rattle.std.proofs.Math.Path.{fun_ext}
+use Rattle.std.proofs.lemmas.Bool.{cases_Bool, cases_lt, eq-eqb, le-ltb, lt-ltb, ne_eqb}
+use Rattle.std.proofs.lemmas.Bool.Decides.{eqb_tells}
 use Rattle.std.specs.declared.option.Option.{Option}
-use Rattle.std.proofs.lemmas.List.{append-nil, length-map, map-append}
+use Rattle.std.proofs.lemmas.List.{append-nil, map-append}
 use Rattle.std.proofs.lemmas.List.Concat.{flat_map-append}
 use Rattle.std.proofs.lemmas.List.Elements.{All-append, All-nil, All-push}
 use Rattle.abc_format.specs.Part.{◌>>=◌}
@@ -11,31 +14,104 @@ use Rattle.abc_format.proofs.Exact.{bind_ok}
 use Rattle.abc_tables.specs.declared.code.Instr.{Instr}
 use Rattle.abc_tables.specs.declared.code.Instr.TheVariants as instrs
 use Rattle.abc_tables.specs.CodeBytes.{canonical_starts, code_len, instr_len, sized}
-use Rattle.abc_tables.specs.Ready.{Small}
 use Rattle.abc_tables.specs.Starts.{starts, size}
 use Rattle.abc_tables.specs.Targets.{instr_of, instrs_of}
-use Rattle.abc_tables.proofs.Lengths.{canonical_count, canonical_small}
-use Rattle.abc_tables.proofs.Resolving.{few_starts, length-starts, starts_rising}
 use Rattle.abc_instr.specs.declared.scan.Jump.{Jump}
 use Rattle.abc_instr.specs.declared.scan.Scan.{Scan}
-use Rattle.abc_instr.specs.Offsets.{raw_of, AreRaw, IsRaw}
-use Rattle.abc_instr.specs.Scanning.{AreRead, CanWeave, IsJump, IsScan, end_of, instrs_in, jump_in, jumps_from, jumps_in, plain_bytes, raws_in}
-use Rattle.abc_instr.proofs.Growing.{starts_push}
+use Rattle.abc_instr.specs.Offsets.{raw_of, AreRaw}
+use Rattle.abc_instr.specs.Marks.{mark_at, marked, moved_at}
+use Rattle.abc_instr.specs.Scanning.{Adds, AreRead, IsJump, IsScan, IsWhole, instrs_in, jump_in, jumps_from, jumps_in, plain_bytes, raws_in, start_in}
 use Rattle.abc_instr.proofs.Resolved.{instr_set}
 
 -- ---- one instruction
 
--- what has no targets is as long as its bytes
-pub end_is : (i : Instr) (at : ℕ) → end_of (jump_in i) at (length (plain_bytes i)) ≡ at + instr_len i
-end_is (instrs.Plain op) at = refl
-end_is (instrs.One op n) at = omega arith
-end_is (instrs.Two op n m) at = omega (arith, length-append {A = ℕ})
-end_is (instrs.Branch op t) at = refl
-end_is (instrs.Switch t ts) at = refl
-end_is (instrs.Byte z) at = refl
-end_is (instrs.Short z) at = omega arith
-end_is (instrs.ScopeObject x) at = refl
-end_is (instrs.Debug kind name reg extra) at = omega (arith, length-append {A = ℕ})
+-- The bytes of an instruction without targets are as many as it has; one with some has none yet.
+pub plain_len : (i : Instr) → jump_in i ≡ None → length (plain_bytes i) ≡ instr_len i
+plain_len (instrs.Plain op) e = refl
+plain_len (instrs.One op n) e = omega arith
+plain_len (instrs.Two op n m) e = omega (arith, length-append {A = ℕ})
+plain_len (instrs.Branch op t) e = absurd cc
+plain_len (instrs.Switch t ts) e = absurd cc
+plain_len (instrs.Byte z) e = refl
+plain_len (instrs.Short z) e = omega arith
+plain_len (instrs.ScopeObject x) e = refl
+plain_len (instrs.Debug kind name reg extra) e = omega (arith, length-append {A = ℕ})
+
+-- an instruction with targets is kept itself, and nothing is put
+pub record IsKept (i j : Instr) : Type 0 where
+  pub same : i ≡ j
+  pub none : plain_bytes i ≡ []
+
+pub kept : (i j : Instr) → Some j ≡ jump_in i → IsKept i j
+kept (instrs.Plain op) j e = absurd cc
+kept (instrs.One op n) j e = absurd cc
+kept (instrs.Two op n m) j e = absurd cc
+kept (instrs.Branch op t) j e = record { same = cc; none = refl }
+kept (instrs.Switch t ts) j e = record { same = cc; none = refl }
+kept (instrs.Byte z) j e = absurd cc
+kept (instrs.Short z) j e = absurd cc
+kept (instrs.ScopeObject x) j e = absurd cc
+kept (instrs.Debug kind name reg extra) j e = absurd cc
+
+-- so it comes to the jumps
+pub jump_kept : (i j : Instr) (b b2 h h2 n n2 m end : ℕ) (old new : List Jump) → Some j ≡ jump_in i → b ≡ b2 → h ≡ h2 → n ≡ n2 → end ≡ m + instr_len j
+    → new ≡ old ++ record { instr = j; before = b; here = h; next = n; moved_here = m; moved_next = end } ∷ [] → new ≡ old ++ jumps_in (jump_in i) b2 h2 n2 m (m + instr_len i)
+jump_kept i j b b2 h h2 n n2 m end old new k eb eh en ee e = let same = (kept i j k).same in e ∙ rw (← k, same, eb, eh, en, ee) refl
+
+-- ---- the marks
+
+-- one start more
+start_push : (h m : ℕ) (xs : List (Instr × ℕ)) (x : Instr × ℕ) (p : ℕ) → All (λ y. 0 < y.1) xs → start_in h m (xs ++ x ∷ []) p ≡ marked (h + size xs) (m + code_len (instrs_in xs)) (start_in h m xs) p
+start_push h m [] x p some = let e : h + 0 ≡ h = omega arith in let f : m + 0 ≡ m = omega arith in rw (e, f) refl
+start_push h m (y ∷ xs) x p some =
+    let first : 0 < y.1 = some 0 y (omega arith) in
+    let e : h + (y.1 + size xs) ≡ h + y.1 + size xs = omega arith in
+    let f : m + (instr_len y.0 + code_len (instrs_in xs)) ≡ m + instr_len y.0 + code_len (instrs_in xs) = omega arith in
+    elim (eqb_tells p h) [
+      | inl here ↦ let other : nat_eq p (h + y.1 + size xs) ≡ false = ne_eqb p (h + y.1 + size xs) (λ same. omega (arith, here.1, same)) in rw (e, f, here.0, other) refl
+      | inr there ↦ rw (e, f, there.0) (start_push (h + y.1) (m + instr_len y.0) xs x p (λ k d lt. some (suc k) d (omega arith)))
+    ]
+
+-- a start and the others
+moved_first : (s m : ℕ) (ss ms : List ℕ) (p : ℕ) → moved_at (s ∷ ss) (m ∷ ms) p ≡ (if nat_eq s p then Some m else moved_at ss ms p)
+moved_first s m ss ms p = elim (cases_Bool (nat_eq s p)) [
+  | inl here ↦ let some = lt-ltb 0 (suc (length ss)) (omega arith) in rw (here, some) refl
+  | inr there ↦ rw there (later (position_or_len (λ t. nat_eq t p) ss))
+] where
+  later : (k : ℕ) → option_map (λ n. get_or (m ∷ ms) n 0) (if nat_lt (1 + k) (suc (length ss)) then Some (1 + k) else None) ≡ option_map (λ n. get_or ms n 0) (if nat_lt k (length ss) then Some k else None)
+  later k = elim (cases_lt k (length ss)) [
+    | inl lt ↦ let a = lt-ltb k (length ss) lt in let b = lt-ltb (1 + k) (suc (length ss)) (omega arith) in let c : 1 + k ≡ suc k = omega arith in rw (a, b, c) refl
+    | inr ge ↦ let a = le-ltb k (length ss) ge in let b = le-ltb (1 + k) (suc (length ss)) (omega arith) in rw (a, b) refl
+  ]
+
+chosen : (b : Bool) (x y : Option ℕ) → b ≡ true → (if b then x else y) ≡ x
+chosen b x y e = rw e refl
+
+passed_by : (b : Bool) (x y : Option ℕ) → b ≡ false → (if b then x else y) ≡ y
+passed_by b x y e = rw e refl
+
+eq_sym : (a b : ℕ) → nat_eq a b ≡ nat_eq b a
+eq_sym a b = elim (eqb_tells a b) [
+  | inl same ↦ same.0 ∙ sym (eq-eqb b a (sym same.1))
+  | inr other ↦ other.0 ∙ sym (ne_eqb b a (λ same. other.1 (sym same)))
+]
+
+-- with the end they are all starts
+pub all_marked : (h m : ℕ) (xs : List (Instr × ℕ)) (p : ℕ) → All (λ y. 0 < y.1) xs → marked (h + size xs) (m + code_len (instrs_in xs)) (start_in h m xs) p ≡ moved_at (starts h xs) (starts m (sized (instrs_in xs))) p
+all_marked h m [] p some = let e : h + 0 ≡ h = omega arith in let f : m + 0 ≡ m = omega arith in rw (e, f) (rw (eq_sym p h) (sym (moved_first h m [] [] p)))
+all_marked h m (y ∷ xs) p some =
+    let first : 0 < y.1 = some 0 y (omega arith) in
+    let e : h + (y.1 + size xs) ≡ h + y.1 + size xs = omega arith in
+    let f : m + (instr_len y.0 + code_len (instrs_in xs)) ≡ m + instr_len y.0 + code_len (instrs_in xs) = omega arith in
+    let rest = all_marked (h + y.1) (m + instr_len y.0) xs p (λ k d lt. some (suc k) d (omega arith)) in
+    let all = moved_first h m (starts (h + y.1) xs) (starts (m + instr_len y.0) (sized (instrs_in xs))) p in
+    elim (eqb_tells p h) [
+      | inl here ↦
+          let other : nat_eq p (h + y.1 + size xs) ≡ false = ne_eqb p (h + y.1 + size xs) (λ same. omega (arith, here.1, same)) in
+          let back : nat_eq h p ≡ true = eq-eqb h p (sym here.1) in
+          rw (e, f, here.0, other) (sym (all ∙ chosen (nat_eq h p) (Some m) _ back))
+      | inr there ↦ let back : nat_eq h p ≡ false = ne_eqb h p (λ same. there.1 (sym same)) in rw (e, f, there.0) (rest ∙ sym (all ∙ passed_by (nat_eq h p) (Some m) _ back))
+    ]
 
 -- ---- one more
 
@@ -60,40 +136,28 @@ jumps_push b h m (y ∷ xs) x =
     let g = rw (e1, e2, e3) at (jumps_push (b + p) (h + y.1) (m + instr_len y.0) xs x) in
     ap (λ (l : List Jump). one ++ l) g ∙ sym (append_assoc one (jumps_from (b + p) (h + y.1) (m + instr_len y.0) xs) _)
 
--- an instruction x of n bytes came to the scan
-pub record Comes (x : Instr) (n here at : ℕ) (old new : Scan) : Type 0 where
-  pub starts : new.starts.items ≡ old.starts.items ++ (here + n) ∷ []
-  pub moved : new.moved.items ≡ old.moved.items ++ (at + instr_len x) ∷ []
-  pub plain : new.plain.items ≡ old.plain.items ++ plain_bytes x
-  pub jumps : new.jumps.items ≡ old.jumps.items ++ jumps_in (jump_in x) (length old.plain.items) here (here + n) at (at + instr_len x)
-
-pub scan_push : (xs : List (Instr × ℕ)) (x : Instr) (n here moved : ℕ) (old new : Scan) → here ≡ size xs → moved ≡ code_len (instrs_in xs) → IsScan xs old → Comes x n here moved old new → IsScan (xs ++ (x, n) ∷ []) new
-scan_push xs x n here moved old new h m is c =
+-- An instruction x of n bytes came to the scan of some others, whose end was marked before.
+pub scan_push : (xs : List (Instr × ℕ)) (x : Instr) (n here moved : ℕ) (old mid new : Scan) → All (λ y. 0 < y.1) xs → here ≡ size xs → moved ≡ code_len (instrs_in xs) → IsScan xs old
+    → ((p : ℕ) → mark_at mid.marks p ≡ marked here moved (mark_at old.marks) p) → mid.plain.items ≡ old.plain.items → mid.jumps.items ≡ old.jumps.items
+    → new.marks ≡ mid.marks → Adds x n here moved mid new → IsScan (xs ++ (x, n) ∷ []) new
+scan_push xs x n here moved old mid new some h m is marks plain jumps same adds =
     let all : instrs_in (xs ++ (x, n) ∷ []) ≡ instrs_in xs ++ x ∷ [] = map-append (λ (y : Instr × ℕ). y.0) xs ((x, n) ∷ []) in
     let bytes : bytes_in (xs ++ (x, n) ∷ []) ≡ bytes_in xs ++ plain_bytes x = ap (flat_map plain_bytes) all ∙ flat_map-append plain_bytes (instrs_in xs) (x ∷ []) ∙ ap (λ (l : List ℕ). bytes_in xs ++ l) (append-nil (plain_bytes x)) in
     record {
-      starts = c.starts ∙ rw (is.starts, h) (simp zero-add at (sym (starts_push 0 xs (x, n))));
-      moved = c.moved ∙ rw (is.moved, m) (simp zero-add at (sym (ap (starts 0) (ap sized all ∙ sized_push (instrs_in xs) x) ∙ starts_push 0 (sized (instrs_in xs)) (x, instr_len x))));
-      plain = c.plain ∙ ap (λ (l : List ℕ). l ++ plain_bytes x) is.plain ∙ sym bytes;
-      jumps = c.jumps ∙ rw (is.jumps, is.plain, h, m) (simp zero-add at (sym (jumps_push 0 0 0 xs (x, n))));
+      marks = λ p. ap (λ (m : List ℕ). mark_at m p) same ∙ marks p ∙ rw (is.marks p, h, m) (simp zero-add at (sym (start_push 0 0 xs (x, n) p some)));
+      plain = adds.plain ∙ ap (λ (l : List ℕ). l ++ plain_bytes x) (plain ∙ is.plain) ∙ sym bytes;
+      jumps = adds.jumps ∙ rw (jumps, is.jumps, plain, is.plain, h, m) (simp zero-add at (sym (jumps_push 0 0 0 xs (x, n))));
     }
 
-pub comes_to : (x : Instr) (at before end : ℕ) (jump : Option Instr) (old mid : List ℕ) → jump ≡ jump_in x → mid ≡ old ++ plain_bytes x → before ≡ length old → end ≡ end_of jump at (length mid - before) → end ≡ at + instr_len x
-comes_to x at before end jump old mid j m b f =
-    let count : length mid - before ≡ length (plain_bytes x) = omega (arith, ap length m, length-append old (plain_bytes x)) in
-    f ∙ rw (j, count) (end_is x at)
-
-pub comes : (x : Instr) (n here at before next end : ℕ) (jump : Option Instr) (mid : List ℕ) (old new : Scan) → jump ≡ jump_in x → mid ≡ old.plain.items ++ plain_bytes x → before ≡ length old.plain.items → next ≡ here + n
-    → end ≡ end_of jump at (length mid - before) → new.starts.items ≡ old.starts.items ++ next ∷ [] → new.moved.items ≡ old.moved.items ++ end ∷ [] → new.plain.items ≡ mid
-    → new.jumps.items ≡ old.jumps.items ++ jumps_in jump before here next at end → Comes x n here at old new
-comes x n here at before next end jump mid old new j m b e f starts moved plain jumps =
-    let to : end ≡ at + instr_len x = comes_to x at before end jump old.plain.items mid j m b f in
-    record {
-      starts = rw (← e) starts;
-      moved = rw (← to) moved;
-      plain = plain ∙ m;
-      jumps = rw (← e, ← to, ← b, ← j) jumps;
-    }
+-- Once the end is marked, the scan is whole.
+pub scan_whole : (xs : List (Instr × ℕ)) (here moved : ℕ) (old new : Scan) → All (λ y. 0 < y.1) xs → here ≡ size xs → moved ≡ code_len (instrs_in xs) → IsScan xs old
+    → ((p : ℕ) → mark_at new.marks p ≡ marked here moved (mark_at old.marks) p) → new.plain.items ≡ old.plain.items → new.jumps.items ≡ old.jumps.items → new.len ≡ moved → IsWhole xs new
+scan_whole xs here moved old new some h m is marks plain jumps len = record {
+  marks = fun_ext (λ p. marks p ∙ rw (is.marks p, h, m) (simp zero-add at (all_marked 0 0 xs p some)));
+  plain = plain ∙ is.plain;
+  jumps = jumps ∙ is.jumps;
+  len = len ∙ m;
+}
 
 -- ---- what a scan says
 
@@ -108,37 +172,24 @@ one_or_none (instrs.Short z) = inr refl
 one_or_none (instrs.ScopeObject x) = inr refl
 one_or_none (instrs.Debug kind name reg extra) = inr refl
 
-jump_ok : (i : Instr) (b h n m : ℕ) → h ≤ 2 ^ 24 → n ≤ 2 ^ 24 → m + instr_len i < 2 ^ 23 → IsRaw i → All IsJump (jumps_in (jump_in i) b h n m (m + instr_len i))
-jump_ok i b h n m here next short raw = elim (one_or_none i) [
-  | inl some ↦ rw some (All-push IsJump [] _ (All-nil IsJump) (record { here = here; next = next; moved_here = omega arith; moved_next = short; short = omega arith; raw = raw }))
+jump_ok : (i : Instr) (b h n m : ℕ) → h ≤ 2 ^ 24 → n ≤ 2 ^ 24 → m + instr_len i < 2 ^ 23 → All IsJump (jumps_in (jump_in i) b h n m (m + instr_len i))
+jump_ok i b h n m here next short = elim (one_or_none i) [
+  | inl some ↦ rw some (All-push IsJump [] _ (All-nil IsJump) (record { here = here; next = next; moved_here = omega arith; moved_next = short }))
   | inr none ↦ rw none (All-nil IsJump)
 ]
 
-jumps_ok : (xs : List (Instr × ℕ)) (b h m : ℕ) → h + size xs ≤ 2 ^ 24 → m + code_len (instrs_in xs) < 2 ^ 23 → AreRaw (instrs_in xs) → All IsJump (jumps_from b h m xs)
-jumps_ok [] b h m near short raw = All-nil IsJump
-jumps_ok (x ∷ xs) b h m near short raw =
+jumps_ok : (xs : List (Instr × ℕ)) (b h m : ℕ) → h + size xs ≤ 2 ^ 24 → m + code_len (instrs_in xs) < 2 ^ 23 → All IsJump (jumps_from b h m xs)
+jumps_ok [] b h m near short = All-nil IsJump
+jumps_ok (x ∷ xs) b h m near short =
     All-append IsJump (jumps_in (jump_in x.0) b h (h + x.1) m (m + instr_len x.0)) (jumps_from (b + length (plain_bytes x.0)) (h + x.1) (m + instr_len x.0) xs)
-    (jump_ok x.0 b h (h + x.1) m (omega arith) (omega arith) (omega arith) raw.0) (jumps_ok xs (b + length (plain_bytes x.0)) (h + x.1) (m + instr_len x.0) (omega arith) (omega arith) raw.1)
+    (jump_ok x.0 b h (h + x.1) m (omega arith) (omega arith) (omega arith)) (jumps_ok xs (b + length (plain_bytes x.0)) (h + x.1) (m + instr_len x.0) (omega arith) (omega arith))
+
+pub jumps_are : (n : ℕ) (xs : List (Instr × ℕ)) (scan : Scan) → n < 2 ^ 23 → IsWhole xs scan → AreRead n xs → All IsJump scan.jumps.items
+jumps_are n xs scan small is read = rw is.jumps (jumps_ok xs 0 0 0 (omega (arith, read.size)) (omega (arith, read.few)))
 
 pub canonical : (is : List Instr) → starts 0 (sized is) ≡ canonical_starts is
 unfolding canonical_starts
 canonical is = refl
-
-pub can_weave : (n : ℕ) (xs : List (Instr × ℕ)) (scan : Scan) → n < 2 ^ 23 → IsScan xs scan → AreRead n xs → CanWeave scan.starts.items scan.moved.items scan.jumps.items
-can_weave n xs scan small is read =
-    let all = instrs_in xs in
-    let many : length all ≡ length xs = length-map xs (λ (x : Instr × ℕ). x.0) in
-    let ss = length-starts 0 xs in
-    let ms = canonical_count all in
-    let short : Small (canonical_starts all) (length (canonical_starts all) - 1) = let k : length (canonical_starts all) - 1 ≡ length all = omega arith in rw k (canonical_small all (omega (arith, read.few))) in
-    rw (is.starts, is.moved, is.jumps, canonical all) (record {
-      rising = starts_rising xs read.some;
-      few = omega (arith, few_starts xs read.some (omega (arith, read.size)));
-      some = omega arith;
-      count = omega arith;
-      small = short;
-      each = jumps_ok xs 0 0 0 (omega (arith, read.size)) (omega (arith, read.few)) read.raw;
-    })
 
 -- The instructions with their targets are as long as they were.
 pub record AreAlike (is js : List Instr) : Type 0 where

@@ -1,26 +1,32 @@
 -- What a scan of instructions puts.
-use Rattle.std.proofs.Common.{◌≡◌, ℕ, suc, ◌+◌, ◌-◌, ◌<◌, ◌≤◌, true, false, List, [], ◌∷◌, ◌++◌, length, get_or, take, drop, Ok, Err, Some, None, refl, sym, ap, ◌∙◌, length-append, length-drop, length-take, append_assoc, inl, inr, arith}
+use Rattle.std.proofs.Common.{◌≡◌, ℕ, suc, ℤ, pos, negsuc, ◌+ℤ◌, ◌-ℤ◌, ◌+◌, ◌-◌, ◌*◌, ◌^◌, ◌<◌, ◌≤◌, map, option_map, true, false, List, [], ◌∷◌, ◌++◌, length, get_or, take, drop, Ok, Err, Some, None, refl, sym, ap, ◌∙◌, length-append, length-drop, length-take, append_assoc, inl, inr, arith}
 use Rattle.std.specs.List.{flat_map}
 use Rattle.std.specs.declared.option.Option.{Option}
 use Rattle.std.specs.declared.result.Result.{Result}
 use Rattle.std.proofs.lemmas.Bool.{cases_Bool}
-use Rattle.std.proofs.lemmas.List.{append-nil, drop-drop, take_all, take_at, take-append-drop}
+use Rattle.std.proofs.lemmas.List.{append-nil, drop-drop, length-map, take_all, take_at, take-append-drop}
 use Rattle.std.proofs.Math.Seq.{drop-append_seam}
 use Rattle.abc_format.specs.Part.{Refusal, refusal, ◌>>=◌}
 use Rattle.abc_format.specs.declared.reason.Reason.TheVariants as reasons
 use Rattle.abc_tables.specs.declared.code.Instr.{Instr}
 use Rattle.abc_tables.specs.declared.code.Instr.TheVariants as instrs
-use Rattle.abc_tables.specs.CodeBytes.{instr_bytes, instr_len, instrs_bytes}
+use Rattle.abc_base.specs.Numbers.{number_bytes}
+use Rattle.abc_format.specs.Canonical.{s24_bytes}
+use Rattle.abc_tables.specs.CodeBytes.{instr_bytes, instr_len, instrs_bytes, offset}
 use Rattle.abc_tables.specs.Instructions.{RawInstr, Same}
-use Rattle.abc_tables.specs.Targets.{instr_of, instrs_of}
+use Rattle.abc_tables.specs.Ready.{CanSpell}
+use Rattle.abc_tables.proofs.Lengths.{number_most}
+use Rattle.std.specs.Int.{w16, cast_unsigned}
+use Rattle.abc_tables.specs.Targets.{at_start, cases_of, found, instr_of, instrs_of, target_of}
 use Rattle.abc_instr.specs.declared.scan.Jump.{Jump}
-use Rattle.abc_instr.specs.Offsets.{raw_of, AreRaw}
+use Rattle.abc_instr.specs.Marks.{moved_at}
+use Rattle.abc_instr.specs.Offsets.{offset_of, raw_of, AreRaw, IsRaw}
 use Rattle.abc_tables.proofs.Resolving.{drop_read}
 use Rattle.abc_instr.specs.Resolving.{onto, Resolves}
 use Rattle.abc_instr.specs.declared.resolve.Missed.{Missed}
 use Rattle.abc_instr.specs.declared.resolve.Missed.TheVariants as missed
-use Rattle.abc_instr.specs.Scanning.{instrs_in, is_jump, jump_bytes, jump_in, jumps_from, jumps_in, plain_bytes, raws_in, woven}
-use Rattle.abc_instr.proofs.Resolved.{instr_set}
+use Rattle.abc_instr.specs.Scanning.{bytes_to, case_bytes, instrs_in, is_jump, jump_bytes, jump_in, jumps_from, jumps_in, leads, plain_bytes, raws_in, target_bytes, woven}
+use Rattle.abc_instr.proofs.Resolved.{cases_within, instr_set}
 
 -- ---- the steps of the loop that weaves
 
@@ -35,29 +41,58 @@ weave_fails : (out t : List ℕ) (d : Refusal) (one more : Result (List ℕ) Ref
 weave_fails out t d (Ok b) more e = absurd cc
 weave_fails out t d (Err f) more e = e
 
-module _ (ss ms plain : List ℕ) (js : List Jump) (i from : ℕ) (j : Jump) (lt : i < length js) (at : j ≡ get_or js i j) where
-  step : woven ss ms plain from (drop i js) ≡ (jump_bytes ss ms j >>= λ b. woven ss ms plain j.before (drop (i + 1) js) >>= λ more. Ok (take (j.before - from) (drop from plain) ++ (b ++ more)))
-  step = ap (woven ss ms plain from) (drop_read js i j lt at)
+module _ (f : ℕ → Option ℕ) (plain : List ℕ) (js : List Jump) (i from : ℕ) (j : Jump) (lt : i < length js) (at : j ≡ get_or js i j) where
+  step : woven f plain from (drop i js) ≡ (jump_bytes f j >>= λ b. woven f plain j.before (drop (i + 1) js) >>= λ more. Ok (take (j.before - from) (drop from plain) ++ (b ++ more)))
+  step = ap (woven f plain from) (drop_read js i j lt at)
 
-  pub weaves_on : (out mid new : List ℕ) (all : Result (List ℕ) Refusal) → onto out (woven ss ms plain from (drop i js)) ≡ all → mid ≡ out ++ take (j.before - from) (drop from plain) → onto mid (jump_bytes ss ms j) ≡ Ok new
-      → onto new (woven ss ms plain j.before (drop (i + 1) js)) ≡ all
+  pub weaves_on : (out mid new : List ℕ) (all : Result (List ℕ) Refusal) → onto out (woven f plain from (drop i js)) ≡ all → mid ≡ out ++ take (j.before - from) (drop from plain) → onto mid (jump_bytes f j) ≡ Ok new
+      → onto new (woven f plain j.before (drop (i + 1) js)) ≡ all
   weaves_on out mid new all h m e =
-      weaves out new (take (j.before - from) (drop from plain)) (jump_bytes ss ms j) (woven ss ms plain j.before (drop (i + 1) js)) (rw m at e) ∙ ap (onto out) (sym step) ∙ h
+      weaves out new (take (j.before - from) (drop from plain)) (jump_bytes f j) (woven f plain j.before (drop (i + 1) js)) (rw m at e) ∙ ap (onto out) (sym step) ∙ h
 
-  pub weaves_wrong : (m : Missed) (out mid : List ℕ) (all : Result (List ℕ) Refusal) → onto out (woven ss ms plain from (drop i js)) ≡ all → mid ≡ out ++ take (j.before - from) (drop from plain) → Resolves {A = List ℕ} (onto mid (jump_bytes ss ms j)) (Err m)
+  pub weaves_wrong : (m : Missed) (out mid : List ℕ) (all : Result (List ℕ) Refusal) → onto out (woven f plain from (drop i js)) ≡ all → mid ≡ out ++ take (j.before - from) (drop from plain) → Resolves {A = List ℕ} (onto mid (jump_bytes f j)) (Err m)
       → Resolves {A = List ℕ} all (Err m)
   weaves_wrong (missed.Target place) out mid all h m e =
-      sym h ∙ ap (onto out) step ∙ weave_fails out (take (j.before - from) (drop from plain)) (refusal place reasons.Target) (jump_bytes ss ms j) (woven ss ms plain j.before (drop (i + 1) js)) (rw m at e)
+      sym h ∙ ap (onto out) step ∙ weave_fails out (take (j.before - from) (drop from plain)) (refusal place reasons.Target) (jump_bytes f j) (woven f plain j.before (drop (i + 1) js)) (rw m at e)
   weaves_wrong missed.NoMemory out mid all h m e = tt
+
+-- ---- the cases of a switch, one after the other
+
+cases_on : (out new : List ℕ) (one more all : Result (List ℕ) Refusal) → onto out (one >>= λ b. more >>= λ bs. Ok (b ++ bs)) ≡ all → onto out one ≡ Ok new → onto new more ≡ all
+cases_on out new (Ok b) (Ok bs) all h e = let g : out ++ b ≡ new = cc in ap (λ (l : List ℕ). Ok (l ++ bs)) (sym g) ∙ ap (λ (l : List ℕ). Ok l) (append_assoc out b bs) ∙ h
+cases_on out new (Ok b) (Err d) all h e = h
+cases_on out new (Err d) more all h e = absurd cc
+
+cases_wrong : (out : List ℕ) (d : Refusal) (one more all : Result (List ℕ) Refusal) → onto out (one >>= λ b. more >>= λ bs. Ok (b ++ bs)) ≡ all → onto out one ≡ Err d → all ≡ Err d
+cases_wrong out d (Ok b) more all h e = absurd cc
+cases_wrong out d (Err c) more all h e = sym h ∙ e
+
+module _ (f : ℕ → Option ℕ) (next base moved i t : ℕ) (cases : List ℕ) (lt : i < length cases) (at : t ≡ get_or cases i t) where
+  case_step : case_bytes f next base moved (map offset_of (drop i cases))
+      ≡ (target_bytes f (next - 3 * (length cases - i)) base moved (offset_of t) >>= λ b. case_bytes f next base moved (map offset_of (drop (i + 1) cases)) >>= λ bs. Ok (b ++ bs))
+  case_step =
+      let n : suc (length (map offset_of (drop (i + 1) cases))) ≡ length cases - i = omega (arith, length-map (drop (i + 1) cases) offset_of, length-drop (i + 1) cases) in
+      ap (λ (l : List ℕ). case_bytes f next base moved (map offset_of l)) (drop_read cases i t lt at)
+      ∙ ap (λ (k : ℕ). target_bytes f (next - 3 * k) base moved (offset_of t) >>= λ b. case_bytes f next base moved (map offset_of (drop (i + 1) cases)) >>= λ bs. Ok (b ++ bs)) n
+
+  pub case_goes_on : (place : ℕ) (out new : List ℕ) (all : Result (List ℕ) Refusal) → place ≡ next - 3 * (length cases - i) → onto out (case_bytes f next base moved (map offset_of (drop i cases))) ≡ all
+      → onto out (target_bytes f place base moved (offset_of t)) ≡ Ok new → onto new (case_bytes f next base moved (map offset_of (drop (i + 1) cases))) ≡ all
+  case_goes_on place out new all p h e = cases_on out new (target_bytes f (next - 3 * (length cases - i)) base moved (offset_of t)) _ all (ap (onto out) (sym case_step) ∙ h) (rw p at e)
+
+  pub case_wrong : (m : Missed) (place : ℕ) (out : List ℕ) (all : Result (List ℕ) Refusal) → place ≡ next - 3 * (length cases - i) → onto out (case_bytes f next base moved (map offset_of (drop i cases))) ≡ all
+      → Resolves {A = List ℕ} (onto out (target_bytes f place base moved (offset_of t))) (Err m) → Resolves {A = List ℕ} all (Err m)
+  case_wrong (missed.Target at) place out all p h e =
+      cases_wrong out (refusal at reasons.Target) (target_bytes f (next - 3 * (length cases - i)) base moved (offset_of t)) _ all (ap (onto out) (sym case_step) ∙ h) (rw p at e)
+  case_wrong missed.NoMemory place out all p h e = tt
 
 -- ---- instructions without targets, and with some
 
-record IsPlain (i : Instr) : Type 0 where
-  raw : raw_of i ≡ Same i
-  bytes : (ss : List ℕ) (here next : ℕ) → instr_bytes ss here next i ≡ plain_bytes i
-  none : jump_in i ≡ None
+pub record IsPlain (i : Instr) : Type 0 where
+  pub raw : raw_of i ≡ Same i
+  pub bytes : (ss : List ℕ) (here next : ℕ) → instr_bytes ss here next i ≡ plain_bytes i
+  pub none : jump_in i ≡ None
 
-is_plain : (i : Instr) → is_jump i ≡ false → IsPlain i
+pub is_plain : (i : Instr) → is_jump i ≡ false → IsPlain i
 is_plain (instrs.Plain op) e = record { raw = refl; bytes = λ ss here next. refl; none = refl }
 is_plain (instrs.One op n) e = record { raw = refl; bytes = λ ss here next. refl; none = refl }
 is_plain (instrs.Two op n m) e = record { raw = refl; bytes = λ ss here next. refl; none = refl }
@@ -67,6 +102,22 @@ is_plain (instrs.Byte z) e = record { raw = refl; bytes = λ ss here next. refl;
 is_plain (instrs.Short z) e = record { raw = refl; bytes = λ ss here next. refl; none = refl }
 is_plain (instrs.ScopeObject x) e = record { raw = refl; bytes = λ ss here next. refl; none = refl }
 is_plain (instrs.Debug kind name reg extra) e = record { raw = refl; bytes = λ ss here next. refl; none = refl }
+
+-- it can be put, whatever the starts are
+pub record CanPut (i : Instr) : Type 0 where
+  pub can : CanSpell 0 i
+  pub short : instr_len i < 2 ^ 23
+
+pub can_put : (i : Instr) → is_jump i ≡ false → IsRaw i → CanPut i
+can_put (instrs.Plain op) e raw = record { can = raw; short = omega arith }
+can_put (instrs.One op n) e raw = record { can = raw; short = omega (arith, number_most n) }
+can_put (instrs.Two op n m) e raw = record { can = raw; short = omega (arith, number_most n, number_most m) }
+can_put (instrs.Branch op t) e raw = absurd cc
+can_put (instrs.Switch t ts) e raw = absurd cc
+can_put (instrs.Byte z) e raw = record { can = raw; short = omega arith }
+can_put (instrs.Short z) e raw = record { can = raw; short = omega (arith, number_most (cast_unsigned w16 z)) }
+can_put (instrs.ScopeObject x) e raw = record { can = raw; short = omega arith }
+can_put (instrs.Debug kind name reg extra) e raw = record { can = raw; short = omega (arith, number_most name, number_most extra) }
 
 record HasTargets (i : Instr) : Type 0 where
   bytes : plain_bytes i ≡ []
@@ -83,7 +134,7 @@ has_targets (instrs.Short z) e = absurd cc
 has_targets (instrs.ScopeObject x) e = absurd cc
 has_targets (instrs.Debug kind name reg extra) e = absurd cc
 
--- ---- all of them
+-- ---- one of them, and the others
 
 plain_step : (ms front : List ℕ) (i : Instr) (moved : ℕ) (more : Result (List Instr) Refusal) (tail : Result (List ℕ) Refusal)
     → IsPlain i → tail ≡ (more >>= λ js. Ok ((front ++ plain_bytes i) ++ instrs_bytes ms (moved + instr_len i) js))
@@ -123,9 +174,71 @@ split xs p rest from before le within e =
       by : (n k : ℕ) → n + k - n ≡ k
       by n k = omega arith
 
+-- ---- where targets are moved
+
+leads_is : (ss ms : List ℕ) (z : ℤ) → leads (moved_at ss ms) z ≡ option_map (λ n. get_or ms n 0) (at_start ss z)
+leads_is ss ms (pos p) = refl
+leads_is ss ms (negsuc p) = refl
+
+found_map : (place : ℕ) (g : ℕ → ℕ) (h : ℕ → List ℕ) (o : Option ℕ) → (found place (option_map g o) >>= λ m. Ok (h m)) ≡ (found place o >>= λ t. Ok (h (g t)))
+found_map place g h (Some t) = refl
+found_map place g h None = refl
+
+target_is : (ss ms : List ℕ) (place base moved : ℕ) (z : ℤ) → target_bytes (moved_at ss ms) place base moved z ≡ (found place (target_of ss base z) >>= λ t. Ok (s24_bytes (offset ms moved t)))
+target_is ss ms place base moved z =
+    ap (λ (o : Option ℕ). found place o >>= λ m. Ok (s24_bytes (pos m -ℤ pos moved))) (leads_is ss ms (pos base +ℤ z)) ∙ found_map place (λ n. get_or ms n 0) (λ m. s24_bytes (pos m -ℤ pos moved)) (target_of ss base z)
+
+abbrev each_case : List ℕ → ℕ → List ℕ → List ℕ
+each_case ms moved ts = flat_map (λ u. s24_bytes (offset ms moved u)) ts
+
+both_cases : (ms : List ℕ) (moved : ℕ) (one : Result ℕ Refusal) (more : Result (List ℕ) Refusal)
+    → ((one >>= λ t. Ok (s24_bytes (offset ms moved t))) >>= λ b. (more >>= λ ts. Ok (each_case ms moved ts)) >>= λ bs. Ok (b ++ bs)) ≡ ((one >>= λ t. more >>= λ ts. Ok (t ∷ ts)) >>= λ ts. Ok (each_case ms moved ts))
+both_cases ms moved (Ok t) (Ok ts) = refl
+both_cases ms moved (Ok t) (Err d) = refl
+both_cases ms moved (Err d) more = refl
+
+cases_are : (ss ms : List ℕ) (next base moved : ℕ) (zs : List ℤ) → case_bytes (moved_at ss ms) next base moved zs ≡ (cases_of ss base next zs >>= λ ts. Ok (each_case ms moved ts))
+cases_are ss ms next base moved [] = refl
+cases_are ss ms next base moved (z ∷ zs) =
+    let place = next - 3 * suc (length zs) in
+    ap (λ (r : Result (List ℕ) Refusal). r >>= λ b. case_bytes (moved_at ss ms) next base moved zs >>= λ bs. Ok (b ++ bs)) (target_is ss ms place base moved z)
+    ∙ ap (λ (r : Result (List ℕ) Refusal). (found place (target_of ss base z) >>= λ t. Ok (s24_bytes (offset ms moved t))) >>= λ b. r >>= λ bs. Ok (b ++ bs)) (cases_are ss ms next base moved zs)
+    ∙ both_cases ms moved (found place (target_of ss base z)) (cases_of ss base next zs)
+
+branch_is : (op : ℕ) (ms : List ℕ) (here moved : ℕ) (one : Result ℕ Refusal) → ((one >>= λ t. Ok (s24_bytes (offset ms moved t))) >>= λ b. Ok (op ∷ b)) ≡ ((one >>= λ t. Ok (instrs.Branch op t)) >>= λ i. Ok (instr_bytes ms here moved i))
+branch_is op ms here moved (Ok t) = refl
+branch_is op ms here moved (Err d) = refl
+
+switch_is : (k : ℕ) (ms : List ℕ) (moved next : ℕ) (one : Result ℕ Refusal) (more : Result (List ℕ) Refusal) → ((ts : List ℕ) → more ≡ Ok ts → length ts ≡ k)
+    → ((one >>= λ t. Ok (s24_bytes (offset ms moved t))) >>= λ b. (more >>= λ ts. Ok (each_case ms moved ts)) >>= λ bs. Ok (0x1b ∷ (b ++ (number_bytes (k - 1) ++ bs))))
+    ≡ ((one >>= λ d. more >>= λ ts. Ok (instrs.Switch d ts)) >>= λ i. Ok (instr_bytes ms moved next i))
+switch_is k ms moved next (Ok t) (Ok ts) same = let e : length ts ≡ k = same ts refl in rw e refl
+switch_is k ms moved next (Ok t) (Err d) same = refl
+switch_is k ms moved next (Err d) more same = refl
+
+pub jump_is : (ss ms : List ℕ) (n : ℕ) (j : Jump) → length ss ≡ suc n → is_jump j.instr ≡ true → jump_bytes (moved_at ss ms) j ≡ (instr_of ss j.here j.next (raw_of j.instr) >>= λ i. Ok (instr_bytes ms j.moved_here j.moved_next i))
+jump_is ss ms n j count e = by_instr j.instr e where
+  by_instr : (i : Instr) → is_jump i ≡ true → bytes_to (moved_at ss ms) j i ≡ (instr_of ss j.here j.next (raw_of i) >>= λ x. Ok (instr_bytes ms j.moved_here j.moved_next x))
+  by_instr (instrs.Plain op) e = absurd cc
+  by_instr (instrs.One op n) e = absurd cc
+  by_instr (instrs.Two op n m) e = absurd cc
+  by_instr (instrs.Branch op t) e =
+      ap (λ (r : Result (List ℕ) Refusal). r >>= λ b. Ok (op ∷ b)) (target_is ss ms (j.here + 1) j.next j.moved_next (offset_of t)) ∙ branch_is op ms j.moved_here j.moved_next (found (j.here + 1) (target_of ss j.next (offset_of t)))
+  by_instr (instrs.Switch t ts) e =
+      let zs = map offset_of ts in
+      ap (λ (r : Result (List ℕ) Refusal). r >>= λ b. case_bytes (moved_at ss ms) j.next j.here j.moved_here zs >>= λ bs. Ok (0x1b ∷ (b ++ (number_bytes (length ts - 1) ++ bs)))) (target_is ss ms (j.here + 1) j.here j.moved_here (offset_of t))
+      ∙ ap (λ (r : Result (List ℕ) Refusal). (found (j.here + 1) (target_of ss j.here (offset_of t)) >>= λ u. Ok (s24_bytes (offset ms j.moved_here u))) >>= λ b. r >>= λ bs. Ok (0x1b ∷ (b ++ (number_bytes (length ts - 1) ++ bs)))) (cases_are ss ms j.next j.here j.moved_here zs)
+      ∙ switch_is (length ts) ms j.moved_here j.moved_next (found (j.here + 1) (target_of ss j.here (offset_of t))) (cases_of ss j.here j.next zs) (λ us q. omega (arith, (cases_within ss j.here j.next n zs us count q).count, length-map ts offset_of))
+  by_instr (instrs.Byte z) e = absurd cc
+  by_instr (instrs.Short z) e = absurd cc
+  by_instr (instrs.ScopeObject x) e = absurd cc
+  by_instr (instrs.Debug kind name reg extra) e = absurd cc
+
+-- ---- all of them
+
 module _ (ss ms plain : List ℕ) (n : ℕ) (count : length ss ≡ suc n) where
   pub woven_is : (xs : List (Instr × ℕ)) (from before here moved : ℕ) → from ≤ before → before ≤ length plain → drop before plain ≡ flat_map plain_bytes (instrs_in xs) → AreRaw (instrs_in xs)
-      → woven ss ms plain from (jumps_from before here moved xs) ≡ (instrs_of ss here (raws_in xs) >>= λ js. Ok (take (before - from) (drop from plain) ++ instrs_bytes ms moved js))
+      → woven (moved_at ss ms) plain from (jumps_from before here moved xs) ≡ (instrs_of ss here (raws_in xs) >>= λ js. Ok (take (before - from) (drop from plain) ++ instrs_bytes ms moved js))
   woven_is [] from before here moved le within e raw =
       let none : length plain - before ≡ 0 = omega (arith, ap length e, length-drop before plain) in
       let all : take (before - from) (drop from plain) ≡ drop from plain = take_all (before - from) (drop from plain) (omega (arith, length-drop from plain)) in
@@ -143,13 +256,15 @@ module _ (ss ms plain : List ℕ) (n : ℕ) (count : length ss ≡ suc n) where
             let k : before + length p ≡ before = omega (arith, ap length h.bytes) in
             let same = woven_is xs before (before + length p) (here + x.1) (moved + len) (omega arith) s.within s.after raw.1 in
             let empty : take (before + length p - before) (drop before plain) ≡ [] = let z : before + length p - before ≡ 0 = omega arith in rw z refl in
-            ap (λ (o : Option Instr). woven ss ms plain from (jumps_in o before here (here + x.1) moved (moved + len) ++ rest)) h.some
-            ∙ jump_step ms front len moved (instr_of ss here (here + x.1) (raw_of x.0)) more (woven ss ms plain before rest) (λ y q. (instr_set ss here (here + x.1) n x.0 y count q raw.0).len)
+            ap (λ (o : Option Instr). woven (moved_at ss ms) plain from (jumps_in o before here (here + x.1) moved (moved + len) ++ rest)) h.some
+            ∙ ap (λ (r : Result (List ℕ) Refusal). r >>= λ b. woven (moved_at ss ms) plain before rest >>= λ m. Ok (front ++ (b ++ m)))
+            (jump_is ss ms n (record { instr = x.0; before = before; here = here; next = here + x.1; moved_here = moved; moved_next = moved + len }) count some)
+            ∙ jump_step ms front len moved (instr_of ss here (here + x.1) (raw_of x.0)) more (woven (moved_at ss ms) plain before rest) (λ y q. (instr_set ss here (here + x.1) n x.0 y count q raw.0).len)
             (same ∙ ap (λ (l : List ℕ). more >>= λ js. Ok (l ++ instrs_bytes ms (moved + len) js)) empty)
         | inr none ↦
             let h = is_plain x.0 none in
             let same = woven_is xs from (before + length p) (here + x.1) (moved + len) (omega arith) s.within s.after raw.1 in
-            ap (λ (o : Option Instr). woven ss ms plain from (jumps_in o before here (here + x.1) moved (moved + len) ++ rest)) h.none
-            ∙ plain_step ms front x.0 moved more (woven ss ms plain from rest) h (same ∙ ap (λ (l : List ℕ). more >>= λ js. Ok (l ++ instrs_bytes ms (moved + len) js)) s.taken)
+            ap (λ (o : Option Instr). woven (moved_at ss ms) plain from (jumps_in o before here (here + x.1) moved (moved + len) ++ rest)) h.none
+            ∙ plain_step ms front x.0 moved more (woven (moved_at ss ms) plain from rest) h (same ∙ ap (λ (l : List ℕ). more >>= λ js. Ok (l ++ instrs_bytes ms (moved + len) js)) s.taken)
             ∙ ap (λ (r : RawInstr). (instr_of ss here (here + x.1) r >>= λ y. more >>= λ js. Ok (y ∷ js)) >>= λ js. Ok (front ++ instrs_bytes ms moved js)) (sym h.raw)
       ]

@@ -1,3 +1,5 @@
 pub mod Offsets
 pub mod Resolving
 pub mod Scanning
+pub mod Fronts
+pub mod Marks

@@ -1,21 +1,22 @@
 -- Code between reading and putting: what has no targets stands as its canonical bytes, and what has some as it was read.
-use Rattle.std.specs.Prelude.{◌≡◌, ℕ, ◌+◌, ◌-◌, ◌^◌, ◌<◌, ◌≤◌, All, Bool, true, false, if◌then◌else◌, List, [], ◌∷◌, ◌++◌, length, map, take, drop, get_or, Some, None, Ok, Err}
+use Rattle.std.specs.Prelude.{◌≡◌, ℕ, suc, ℤ, pos, negsuc, ◌+ℤ◌, ◌-ℤ◌, ◌+◌, ◌-◌, ◌*◌, ◌^◌, ◌<◌, ◌≤◌, All, Bool, true, false, if◌then◌else◌, nat_eq, List, [], ◌∷◌, ◌++◌, length, map, take, drop, Some, None, Ok, Err}
 use Rattle.std.specs.List.{flat_map}
 use Rattle.std.specs.declared.option.Option.{Option}
 use Rattle.std.specs.declared.result.Result.{Result}
 use Rattle.abc_base.specs.Numbers.{number_bytes}
-use Rattle.abc_format.specs.Part.{Refusal, ◌>>=◌}
+use Rattle.abc_format.specs.Canonical.{s24_bytes}
+use Rattle.abc_format.specs.Part.{Refusal, limit, ◌>>=◌}
 use Rattle.abc_tables.specs.declared.code.Instr.{Instr}
 use Rattle.abc_tables.specs.declared.code.Instr.TheVariants as instrs
-use Rattle.abc_tables.specs.declared.instructions.Code.{Code}
-use Rattle.abc_tables.specs.CodeBytes.{canonical_starts, code_len, instr_bytes, instr_len, sized}
+use Rattle.abc_tables.specs.CodeBytes.{code_len, instr_bytes, instr_len, sized}
 use Rattle.abc_tables.specs.Instructions.{RawInstr}
-use Rattle.abc_tables.specs.Ready.{Small}
-use Rattle.abc_tables.specs.Starts.{starts as starts_from, size as size_of, IsRising}
-use Rattle.abc_tables.specs.Targets.{instr_of}
+use Rattle.abc_tables.specs.Starts.{starts as starts_from, size as size_of}
+use Rattle.abc_tables.specs.Targets.{found}
 use Rattle.abc_instr.specs.declared.scan.Jump.{Jump}
 use Rattle.abc_instr.specs.declared.scan.Scan.{Scan}
-use Rattle.abc_instr.specs.Offsets.{raw_of, AreRaw, IsRaw}
+use Rattle.abc_varint.specs.View.{Passes, View}
+use Rattle.abc_instr.specs.Marks.{mark_at, moved_at}
+use Rattle.abc_instr.specs.Offsets.{offset_of, raw_of, AreRaw, IsRaw}
 
 -- ---- one instruction
 
@@ -39,11 +40,6 @@ plain_bytes i = if is_jump i then [] else instr_bytes [] 0 0 i
 abbrev pub jump_in : Instr → Option Instr
 jump_in i = if is_jump i then Some i else None
 
--- where an instruction ends that has targets, or so many bytes
-abbrev pub end_of : Option Instr → ℕ → ℕ → ℕ
-end_of (Some i) at count = at + instr_len i
-end_of None at count = at + count
-
 -- at most one jump
 abbrev pub jumps_in : Option Instr → ℕ → ℕ → ℕ → ℕ → ℕ → List Jump
 jumps_in (Some i) before here next moved_here moved_next = record { instr = i; before = before; here = here; next = next; moved_here = moved_here; moved_next = moved_next } ∷ []
@@ -63,12 +59,23 @@ jumps_from before here moved [] = []
 jumps_from before here moved (x ∷ xs) =
     jumps_in (jump_in x.0) before here (here + x.1) moved (moved + instr_len x.0) ++ jumps_from (before + length (plain_bytes x.0)) (here + x.1) (moved + instr_len x.0) xs
 
--- The scan is of these instructions.
+-- where the one that starts at a place starts in the canonical bytes, from these places on
+abbrev pub start_in : ℕ → ℕ → List (Instr × ℕ) → ℕ → Option ℕ
+start_in here moved [] p = None
+start_in here moved (x ∷ xs) p = if nat_eq p here then Some moved else start_in (here + x.1) (moved + instr_len x.0) xs p
+
+-- The scan is of these instructions, so far.
 pub record IsScan (xs : List (Instr × ℕ)) (scan : Scan) : Type 0 where
-  pub starts : scan.starts.items ≡ starts_from 0 xs
-  pub moved : scan.moved.items ≡ starts_from 0 (sized (instrs_in xs))
+  pub marks : (p : ℕ) → mark_at scan.marks p ≡ start_in 0 0 xs p
   pub plain : scan.plain.items ≡ flat_map plain_bytes (instrs_in xs)
   pub jumps : scan.jumps.items ≡ jumps_from 0 0 0 xs
+
+-- The scan is of these instructions, and of no others.
+pub record IsWhole (xs : List (Instr × ℕ)) (scan : Scan) : Type 0 where
+  pub marks : mark_at scan.marks ≡ moved_at (starts_from 0 xs) (starts_from 0 (sized (instrs_in xs)))
+  pub plain : scan.plain.items ≡ flat_map plain_bytes (instrs_in xs)
+  pub jumps : scan.jumps.items ≡ jumps_from 0 0 0 xs
+  pub len : scan.len ≡ code_len (instrs_in xs)
 
 -- They were read, but for their targets, from at most n bytes, in which they can be put.
 pub record AreRead (n : ℕ) (xs : List (Instr × ℕ)) : Type 0 where
@@ -77,43 +84,75 @@ pub record AreRead (n : ℕ) (xs : List (Instr × ℕ)) : Type 0 where
   pub size : size_of xs ≤ n
   pub few : code_len (instrs_in xs) ≤ n
 
+-- An instruction of n bytes came to the scan.
+pub record Adds (x : Instr) (n here moved : ℕ) (old new : Scan) : Type 0 where
+  pub plain : new.plain.items ≡ old.plain.items ++ plain_bytes x
+  pub jumps : new.jumps.items ≡ old.jumps.items ++ jumps_in (jump_in x) (length old.plain.items) here (here + n) moved (moved + instr_len x)
+
+-- One instruction was passed by, where `says` tells what was read.
+pub record Steps {E : Type 0} (says : Result RawInstr E → Type 0) (first moved end : ℕ) (w w2 : View) (old new : Scan) : Type 0 where
+  pub instr : Instr
+  pub moves : w.place < w2.place
+  pub passes : Passes (instr_len instr) w w2
+  pub room : w2.place ≤ limit
+  pub raw : IsRaw instr
+  pub adds : Adds instr (w2.place - w.place) (w.place - first) moved old new
+  pub marks : new.marks ≡ old.marks
+  pub end_is : end ≡ moved + instr_len instr
+  pub says_so : says (Ok (raw_of instr))
+
+abbrev pub StepsOn : {E : Type 0} → (Result RawInstr E → Type 0) → ℕ → ℕ → View → View → Scan → Scan → Result ℕ E → Type 0
+StepsOn says first moved w w2 old new (Ok end) = Steps says first moved end w w2 old new
+StepsOn says first moved w w2 old new (Err e) = says (Err e)
+
+-- what a scan of n bytes leaves so far, where `says` tells what was read
+abbrev pub ScansOn : {E : Type 0} → (Result (List (RawInstr × ℕ)) E → Type 0) → ℕ → View → View → Scan → Result ℕ E → Type 0
+ScansOn says n w w2 scan (Ok moved) = (xs : List (Instr × ℕ)) × IsScan xs scan × AreRead n xs × (moved ≡ code_len (instrs_in xs)) × (w.place + size_of xs ≡ w2.place) × says (Ok (raws_in xs))
+ScansOn says n w w2 scan (Err e) = says (Err e)
+
 -- what a scan of n bytes leaves, where `says` tells what was read
 abbrev pub Scans : {T E : Type 0} → (Result (List (RawInstr × ℕ)) E → Type 0) → ℕ → Scan → Result T E → Type 0
-Scans says n scan (Ok t) = (xs : List (Instr × ℕ)) × IsScan xs scan × AreRead n xs × says (Ok (raws_in xs))
+Scans says n scan (Ok t) = (xs : List (Instr × ℕ)) × IsWhole xs scan × AreRead n xs × says (Ok (raws_in xs))
 Scans says n scan (Err e) = says (Err e)
 
 -- ---- bytes from a scan
 
--- the canonical bytes of a jump, or the target that leads nowhere
-abbrev pub jump_bytes : List ℕ → List ℕ → Jump → Result (List ℕ) Refusal
-jump_bytes ss ms j = instr_of ss j.here j.next (raw_of j.instr) >>= λ i. Ok (instr_bytes ms j.moved_here j.moved_next i)
+-- where a place is moved; there is none before the code
+abbrev pub leads : (ℕ → Option ℕ) → ℤ → Option ℕ
+leads marks (pos p) = marks p
+leads marks (negsuc p) = None
+
+-- the offset from a moved base to where a target is moved, that stood at this place as an offset from a base
+abbrev pub target_bytes : (ℕ → Option ℕ) → ℕ → ℕ → ℕ → ℤ → Result (List ℕ) Refusal
+target_bytes marks place base moved z = found place (leads marks (pos base +ℤ z)) >>= λ m. Ok (s24_bytes (pos m -ℤ pos moved))
+
+-- the same for the cases of a switch, whose last offset stands just before `next`
+abbrev pub case_bytes : (ℕ → Option ℕ) → ℕ → ℕ → ℕ → List ℤ → Result (List ℕ) Refusal
+case_bytes marks next base moved [] = Ok []
+case_bytes marks next base moved (z ∷ zs) = target_bytes marks (next - 3 * suc (length zs)) base moved z >>= λ b. case_bytes marks next base moved zs >>= λ bs. Ok (b ++ bs)
+
+-- the canonical bytes of an instruction with targets, or the first that leads nowhere
+abbrev pub bytes_to : (ℕ → Option ℕ) → Jump → Instr → Result (List ℕ) Refusal
+bytes_to marks j (instrs.Branch op t) = target_bytes marks (j.here + 1) j.next j.moved_next (offset_of t) >>= λ b. Ok (op ∷ b)
+bytes_to marks j (instrs.Switch t ts) =
+    target_bytes marks (j.here + 1) j.here j.moved_here (offset_of t) >>= λ b. case_bytes marks j.next j.here j.moved_here (map offset_of ts) >>= λ bs. Ok (0x1b ∷ (b ++ (number_bytes (length ts - 1) ++ bs)))
+bytes_to marks j _ = Ok []
+
+abbrev pub jump_bytes : (ℕ → Option ℕ) → Jump → Result (List ℕ) Refusal
+jump_bytes marks j = bytes_to marks j j.instr
 
 -- the bytes from a position of `plain` on, with the jumps between them
-abbrev pub woven : List ℕ → List ℕ → List ℕ → ℕ → List Jump → Result (List ℕ) Refusal
-woven ss ms plain from [] = Ok (drop from plain)
-woven ss ms plain from (j ∷ js) = jump_bytes ss ms j >>= λ b. woven ss ms plain j.before js >>= λ more. Ok (take (j.before - from) (drop from plain) ++ (b ++ more))
+abbrev pub woven : (ℕ → Option ℕ) → List ℕ → ℕ → List Jump → Result (List ℕ) Refusal
+woven marks plain from [] = Ok (drop from plain)
+woven marks plain from (j ∷ js) = jump_bytes marks j >>= λ b. woven marks plain j.before js >>= λ more. Ok (take (j.before - from) (drop from plain) ++ (b ++ more))
 
 -- the number of bytes, and the bytes
 abbrev pub scan_bytes : Scan → Result (List ℕ) Refusal
-scan_bytes scan = woven scan.starts.items scan.moved.items scan.plain.items 0 scan.jumps.items >>= λ b. Ok (number_bytes (get_or scan.moved.items (length scan.moved.items - 1) 0) ++ b)
+scan_bytes scan = woven (mark_at scan.marks) scan.plain.items 0 scan.jumps.items >>= λ b. Ok (number_bytes scan.len ++ b)
 
--- Its places and its lengths are small, and its offsets are such.
+-- Its places and its lengths are small.
 pub record IsJump (j : Jump) : Type 0 where
   pub here : j.here ≤ 2 ^ 24
   pub next : j.next ≤ 2 ^ 24
   pub moved_here : j.moved_here < 2 ^ 23
   pub moved_next : j.moved_next < 2 ^ 23
-  pub short : instr_len j.instr < 2 ^ 23
-  pub raw : IsRaw j.instr
-
-pub record CanWeave (ss ms : List ℕ) (js : List Jump) : Type 0 where
-  pub rising : IsRising ss
-  pub few : length ss < 2 ^ 32
-  pub some : 0 < length ss
-  pub count : length ms ≡ length ss
-  pub small : Small ms (length ms - 1)
-  pub each : All IsJump js
-
--- where the instructions start, as they were read and in the canonical bytes
-abbrev pub starts_in : Code → List ℕ × List ℕ
-starts_in c = (c.offsets, canonical_starts c.instrs)

@@ -1,6 +1,8 @@
 //! The instruction codec: code as a list of instructions, whose targets are numbers of instructions.
 #![tactic(auto)]
 
+mod front;
+mod marks;
 mod pass;
 mod pieces;
 mod place;
@@ -9,8 +11,10 @@ mod raw;
 mod read;
 mod resolve;
 mod scan;
+mod weave;
 
 pub use abc_tables::{Code, Form, Instr, OpInfo, Pool, code_len, mnemonic, opcode};
+pub use marks::Marks;
 pub use pass::pass_code;
 pub use place::read_place;
 pub use put::{offset_at, put_code, starts_of};

@@ -1,14 +1,14 @@
 ghost use Rattle.std.specs.Prelude.{◌≡◌, ◌≤◌, ◌<◌, ◌^◌, ◌+◌, None, OnOk, length};
 ghost use Rattle.abc_tables.specs.Code.{code as code_part};
 ghost use Rattle.abc_tables.specs.CodeBytes.{code_bytes};
-ghost use Rattle.abc_tables.specs.Starts.{IsRising};
 ghost use Rattle.abc_varint.specs.Passes.{Passes, PassesPart};
 ghost use Rattle.abc_varint.specs.Reads.{Reads, ReadsPart, stored};
-ghost use Rattle.abc_instr.specs.Scanning.{starts_in};
+ghost use Rattle.abc_instr.specs.Marks.{mark_at, moved_in};
 
 use crate::read::read_length;
 use crate::resolve::Missed;
-use crate::scan::{Scan, put_scan, scan_code};
+use crate::scan::{Scan, scan_code};
+use crate::weave::put_scan;
 use abc_base::Source;
 use abc_varint::{ReadError, Reason, Window};
 use std::alloc::Global;
@@ -25,15 +25,12 @@ pub fn pass_code<S: Source>(
 ) -> Result<(), ReadError>
     // The window has no end.
     requires { w.old.end ≡ 2 ^ 25 }
-    ensures value { PassesPart S.left S.faults code_part (λ c. code_bytes c.instrs) starts_in w.old source.old w.new source.new out.old.items out.new.items (stored result ((scan.new).starts.items, (scan.new).moved.items)) }
-    ensures rising { OnOk result (IsRising (scan.new).starts.items) }
-    ensures few { OnOk result (length (scan.new).starts.items < 2 ^ 32) }
-    ensures count { OnOk result (length (scan.new).moved.items ≡ length (scan.new).starts.items) }
+    ensures { PassesPart S.left S.faults code_part (λ c. code_bytes c.instrs) moved_in w.old source.old w.new source.new out.old.items out.new.items (stored result (mark_at (scan.new).marks)) }
 {
     let length = read_length(w, source)?;
     let first = w.place();
     scan_code(alloc, w, source, length, scan)?;
-    match put_scan(alloc, scan, out) {
+    match put_scan(scan, out) {
         Ok(()) => Ok(()),
         Err(Missed::Target(at)) => Err(w.refuse(first + at, Reason::Target)),
         Err(Missed::NoMemory) => Err(ReadError::NoMemory),

@@ -14,19 +14,19 @@ use abc_varint::{put_count, put_s24, put_u8, put_u30, put_u32};
 use std::alloc::Global;
 
 /// `lookupswitch`
-const SWITCH: u8 = 0x1b;
+pub const SWITCH: u8 = 0x1b;
 
 /// `pushbyte`
 pub const BYTE: u8 = 0x24;
 
 /// `pushshort`
-pub const SHORT: u8 = 0x25;
+const SHORT: u8 = 0x25;
 
 /// `getscopeobject`
-pub const SCOPE_OBJECT: u8 = 0x65;
+const SCOPE_OBJECT: u8 = 0x65;
 
 /// `debug`
-pub const DEBUG: u8 = 0xef;
+const DEBUG: u8 = 0xef;
 
 /// How many bytes the instruction has.
 pub fn short_len(instr: &Instr) -> u32

@@ -11,9 +11,6 @@ use abc_base::{NoMemory, Table};
 use abc_tables::Instr;
 use std::alloc::Global;
 
-/// How far from an even spacing of the starts one is looked for first.
-const NEAR: usize = 2048;
-
 /// Why a target was not found.
 #[derive(Clone, Copy, Debug, PartialEq, Eq)]
 pub enum Missed {
@@ -30,30 +27,12 @@ impl From<NoMemory> for Missed {
     }
 }
 
-/// Where a place would stand among the starts, if it is not far from where it would if they lay evenly.
-fn guess(starts: &[u32], place: u32) -> usize {
-    let len = starts.len();
-    let end = starts.last().copied().unwrap_or(0).max(1) as u64;
-    let even = (place as u64).saturating_mul(len as u64) / end;
-    let from = (even as usize).saturating_sub(NEAR).min(len);
-    let to = (even as usize).saturating_add(NEAR).min(len);
-    match starts[from..to].binary_search(&place) {
-        Ok(i) => from + i,
-        Err(i) => from + i,
-    }
-}
-
-/// Which start this is. It is looked for near where it would stand if the starts lay evenly, which they about do, and
-/// then among all.
+/// Which start this is.
 pub fn number_of(starts: &[u32], place: u32) -> Option<u32>
     requires rising { IsRising starts.now }
     requires few { length starts.now < 2 ^ 32 }
     ensures { result ≡ position (λ s. nat_eq s place) starts.now }
 {
-    let near = guess(starts, place);
-    if near < starts.len() && starts[near] == place {
-        return Some(near as u32);
-    }
     match starts.binary_search(&place) {
         Ok(i) => Some(i as u32),
         Err(_) => None,

@@ -8,7 +8,7 @@ use std::alloc::Global;
 use std::test::*;
 
 /// How many bytes the source gives at once.
-const PIECES: [usize; 2] = [1, 7];
+const PIECES: [usize; 3] = [1, 7, 500];
 
 /// Each instruction once: a length, and then a line for each.
 const ALL: [u8; 265] = [
@@ -182,7 +182,7 @@ fn recoded(rt: &HostRuntime, bytes: &[u8], piece: usize) -> Result<Vec<u8>, Read
     Ok(out)
 }
 
-/// What is passed of code, and where its instructions start: as they were read, and in the canonical bytes.
+/// What is passed of code, and its scan.
 fn passed(rt: &HostRuntime, bytes: &[u8], piece: usize) -> Result<(Vec<u8>, Scan), ReadError>
     requires { 0 < piece }
 {
@@ -192,6 +192,15 @@ fn passed(rt: &HostRuntime, bytes: &[u8], piece: usize) -> Result<(Vec<u8>, Scan
     let mut out = Vec::new(rt.alloc());
     pass_code(rt.alloc(), &mut w, &mut source, &mut scan, &mut out)?;
     Ok((out, scan))
+}
+
+/// What the marks say of so many places.
+fn marks_of(rt: &HostRuntime, scan: &Scan, count: u32) -> Result<Vec<Option<u32>>, Fail> {
+    let mut marks = Vec::new(rt.alloc());
+    for place in 0..count {
+        marks.push(scan.marks.get(place))?;
+    }
+    Ok(marks)
 }
 
 fn code_of(rt: &HostRuntime, bytes: &[u8], piece: usize) -> Result<Code, ReadError>
@@ -265,8 +274,20 @@ fn offsets_move_with_lengths(rt: HostRuntime) -> Result<(), Fail> {
         assert_eq!(rt; code.offsets.as_slice(), [0, 1, 4, 5, 9].as_slice());
         let (out, scan) = passed(&rt, &long, piece).ok().ok_or("code")?;
         assert_eq!(rt; out.as_slice(), short.as_slice());
-        assert_eq!(rt; scan.starts.as_slice(), [0, 1, 4, 5, 9].as_slice());
-        assert_eq!(rt; scan.moved.as_slice(), [0, 1, 3, 4, 8].as_slice());
+        let marks = [
+            Some(0),
+            Some(1),
+            None,
+            None,
+            Some(3),
+            Some(4),
+            None,
+            None,
+            None,
+            Some(8),
+            None,
+        ];
+        assert_eq!(rt; marks_of(&rt, &scan, 11)?.as_slice(), marks.as_slice());
     }
     Ok(())
 }
@@ -303,8 +324,8 @@ fn one_code_after_the_other(rt: HostRuntime) -> Result<(), Fail> {
         out.as_slice(),
         [4, 0x10, 0xfc, 0xff, 0xff, 2, 0x62, 0].as_slice()
     );
-    assert_eq!(rt; scan.starts.as_slice(), [0, 3].as_slice());
-    assert_eq!(rt; scan.moved.as_slice(), [0, 2].as_slice());
+    let marks = [Some(0), None, None, Some(2), None];
+    assert_eq!(rt; marks_of(&rt, &scan, 5)?.as_slice(), marks.as_slice());
     Ok(())
 }
 
@@ -399,5 +420,29 @@ fn many_branches(rt: HostRuntime) -> Result<(), Fail> {
     assert_eq!(rt; out.as_slice(), bytes.as_slice());
     let (out, _) = passed(&rt, bytes.as_slice(), 4096).ok().ok_or("code")?;
     assert_eq!(rt; out.as_slice(), bytes.as_slice());
+    Ok(())
+}
+
+/// Targets far ahead and far back, in code of more places than the marks get at once.
+#[test]
+fn far_targets(rt: HostRuntime) -> Result<(), Fail> {
+    let mut long = Vec::new(rt.alloc());
+    let mut short = Vec::new(rt.alloc());
+    long.extend_from_slice(&[0x98, 3, 0x10, 0x90, 1, 0])?;
+    short.extend_from_slice(&[0xb4, 2, 0x10, 0x2c, 1, 0])?;
+    for _ in 0..100 {
+        long.extend_from_slice(&[0x62, 0x81, 0, 9])?;
+        short.extend_from_slice(&[0x62, 1, 9])?;
+    }
+    long.extend_from_slice(&[0x10, 0x6c, 0xfe, 0xff])?;
+    short.extend_from_slice(&[0x10, 0xd0, 0xfe, 0xff])?;
+    for piece in PIECES {
+        let (out, scan) = passed(&rt, &long, piece).ok().ok_or("code")?;
+        assert_eq!(rt; out.as_slice(), short.as_slice());
+        assert_eq!(rt; scan.marks.get(404), Some(304));
+        assert_eq!(rt; scan.marks.get(403), Some(303));
+        assert_eq!(rt; scan.marks.get(402), None);
+        assert_eq!(rt; scan.marks.get(408), Some(308));
+    }
     Ok(())
 }

@@ -1,11 +1,12 @@
 -- Numbers and bytes that are read straight from those that a window holds.
-use Rattle.std.proofs.Common.{◌≡◌, ℕ, ◌+◌, ◌*◌, ◌%◌, ◌<◌, ◌≤◌, List, [], ◌∷◌, ◌++◌, get_or, length, take, drop, length-take, Ok, None, Some, refl, sym, ap, ◌∙◌, append_assoc, arith}
+use Rattle.std.proofs.Common.{◌≡◌, ℕ, ℤ, ◌+◌, ◌*◌, ◌%◌, ◌<◌, ◌≤◌, List, [], ◌∷◌, ◌++◌, get_or, length, take, drop, length-take, Ok, None, Some, refl, sym, ap, ◌∙◌, append_assoc, arith}
 use Rattle.std.specs.declared.option.Option.{Option}
 use Rattle.std.proofs.lemmas.List.{take-append-drop}
-use Rattle.abc_base.specs.Numbers.{SpellsNumber, number_bytes}
+use Rattle.abc_base.specs.Numbers.{SpellsNumber, number_bytes, signed24}
 use Rattle.abc_base.proofs.Spelling.{groups_number, number_shortest}
-use Rattle.abc_format.specs.Part.{Front, limit}
-use Rattle.abc_format.specs.Numbers.{byte_at, number, u8}
+use Rattle.abc_format.specs.Law.{Exact}
+use Rattle.abc_format.specs.Part.{Front, Part, limit}
+use Rattle.abc_format.specs.Numbers.{byte_at, number, s24, u8}
 use Rattle.abc_format.proofs.Numbers.{byte_again, number-exact}
 use Rattle.abc_varint.specs.Ready.{IsReady, TakesNumber}
 use Rattle.abc_varint.specs.Reads.{Reads, stand}
@@ -46,10 +47,18 @@ spells_5 (a2 ∷ b2 ∷ c2 ∷ d2 ∷ []) a b c d f x le ea eb ec ed ef ha hb hc
 spells_5 (a2 ∷ b2 ∷ c2 ∷ d2 ∷ f2 ∷ r) a b c d f x le ea eb ec ed ef ha hb hc hd lt e =
     groups_number x (a2 ∷ b2 ∷ c2 ∷ d2 ∷ f2 ∷ []) (omega arith, (omega arith, (omega arith, (omega arith, omega arith)))) (omega arith) (omega arith)
 
+-- three bytes, whatever they are
+pub three_bytes : (bs : List ℕ) (z : ℤ) → 3 ≤ length bs → z ≡ signed24 (get_or bs 0 0 % 256 + 256 * (get_or bs 1 0 % 256) + 65536 * (get_or bs 2 0 % 256)) → s24.spells z (take 3 bs)
+unfolding s24 u8
+three_bytes [] z le e = absurd (omega arith)
+three_bytes (a ∷ []) z le e = absurd (omega arith)
+three_bytes (a ∷ b ∷ []) z le e = absurd (omega arith)
+three_bytes (a ∷ b ∷ c ∷ r) z le e = ((a, (b, c)), (a ∷ [], b ∷ c ∷ [], refl, refl, (b ∷ [], c ∷ [], refl, refl, refl)), e)
+
 -- ---- what is read then
 
-number_front : (w : View) (left : List ℕ) (n : ℕ) → IsReady n w → Front (stand w (Some left)) (take n w.held) (stand (onward n w) (Some left))
-number_front w left n r =
+front_of : (w : View) (left : List ℕ) (n : ℕ) → IsReady n w → Front (stand w (Some left)) (take n w.held) (stand (onward n w) (Some left))
+front_of w left n r =
     let len : length (take n w.held) ≡ n = omega (arith, length-take n w.held, r.held) in
     record {
       parts = ap (λ (t : List ℕ). t ++ left) (sym (take-append-drop n w.held)) ∙ append_assoc (take n w.held) (drop n w.held) left;
@@ -59,18 +68,14 @@ number_front w left n r =
       within = λ h. r.before;
     }
 
-number_here : (x n : ℕ) (w : View) (s : Option (List ℕ)) → IsReady n w → SpellsNumber x (take n w.held) → Reads number.reads w s (onward n w) s (Ok x)
-number_here x n w None r e = (r.fresh, r.fresh, omega arith, refl, λ t. absurd cc)
-number_here x n w (Some left) r e = (
-  r.fresh,
-  r.fresh,
-  omega arith,
-  refl,
-  λ t. (refl, number-exact.again (stand w (Some left)) x (stand (onward n w) (Some left)) (record { front = take n w.held; spelled = e; is = number_front w left n r })),
-)
+-- A value that these bytes spell is read, and the window stands after them.
+pub front_taken : {A : Type 0} (p : Part A) (x : A) (n : ℕ) (w w2 : View) (s : Option (List ℕ)) → Exact p → IsReady n w → p.spells x (take n w.held) → w2 ≡ onward n w → Reads p.reads w s w2 s (Ok x)
+front_taken p x n w w2 None exact r e is = rw is (r.fresh, r.fresh, omega arith, refl, λ t. absurd cc)
+front_taken p x n w w2 (Some left) exact r e is =
+    rw is (r.fresh, r.fresh, omega arith, refl, λ t. (refl, exact.again (stand w (Some left)) x (stand (onward n w) (Some left)) (record { front = take n w.held; spelled = e; is = front_of w left n r })))
 
 pub number_taken : (x : ℕ) (w w2 : View) (s : Option (List ℕ)) → TakesNumber x w w2 → Reads number.reads w s w2 s (Ok x)
-number_taken x w w2 s t = rw t.is (number_here x t.count w s t.ready t.spelled)
+number_taken x w w2 s t = front_taken number x t.count w w2 s number-exact t.ready t.spelled t.is
 
 -- no fewer bytes than the shortest spelling has
 pub number_passes : (x : ℕ) (w w2 : View) → TakesNumber x w w2 → Passes (length (number_bytes x)) w w2

@@ -18,6 +18,7 @@ pub use codec::{
 };
 pub use error::ReadError;
 pub use items::{EntryIndex, IndexBelow, Number32, PoolIndex, Signed32, Text};
+pub use number::front_s24;
 pub use pass::{pass_counted, pass_pool, pass_times};
 pub use put::{put_count, put_s24, put_s32, put_text, put_u8, put_u16, put_u30, put_u32};
 pub use read::{
@@ -25,7 +26,7 @@ pub use read::{
     read_u30, read_u32,
 };
 pub use text::{read_bytes, read_text};
-pub use window::Window;
+pub use window::{Window, front_number};
 
 #[cfg(test)]
 mod tests;

@@ -1,5 +1,5 @@
-ghost use Rattle.std.specs.Prelude.{◌≡◌, ◌≤◌, ◌<◌, ◌*◌, ◌+◌, ◌^◌, Some, Err, IfOk, IfErr, OnOk, length};
-ghost use Rattle.abc_base.specs.Numbers.{number_bytes};
+ghost use Rattle.std.specs.Prelude.{◌≡◌, ◌≤◌, ◌<◌, ◌*◌, ◌+◌, ◌%◌, ◌^◌, Some, Err, IfOk, IfErr, OnOk, length, take};
+ghost use Rattle.abc_base.specs.Numbers.{number_bytes, signed24};
 ghost use Rattle.abc_format.specs.Numbers.{groups, number, u16 as two_bytes, u30 as small, u32 as wide, s24 as offset, s32 as signed, index_below as below, pool_index as in_pool, entry_index as of_entry};
 ghost use Rattle.abc_varint.specs.Reads.{Blames, Reads, ReadsNumber, ReadsPart};
 ghost use Rattle.abc_varint.specs.View.{Passes};
@@ -127,6 +127,28 @@ pub fn next_u16<S: Source>(w: &mut Window, source: &mut S) -> Result<u16, ReadEr
     Ok(low as u16 + 256 * high as u16)
 }
 
+/// 24 bits, in two's complement.
+#[inline(always)]
+fn signed_24(low: u8, middle: u8, high: u8) -> i32
+    ensures { result ≡ signed24 (low % 256 + 256 * (middle % 256) + 65536 * (high % 256)) }
+{
+    let raw = low as u32 + 256 * middle as u32 + 65536 * high as u32;
+    if raw < 1 << 23 {
+        return raw as i32;
+    }
+    raw as i32 - (1 << 24)
+}
+
+/// The number that the first three bytes spell, the low one first, in two's complement.
+#[inline(always)]
+#[tactic(auto, using(crate::proofs::Front::three_bytes))]
+pub fn front_s24(bytes: &[u8]) -> i32
+    requires { 3 ≤ length bytes.now }
+    ensures { offset.spells result (take 3 bytes.now) }
+{
+    signed_24(bytes[0], bytes[1], bytes[2])
+}
+
 /// Three bytes, the low one first, in two's complement.
 #[tactic(auto, unfolding(abc_format::specs::Numbers::s24))]
 pub fn next_s24<S: Source>(w: &mut Window, source: &mut S) -> Result<i32, ReadError>
@@ -138,11 +160,7 @@ pub fn next_s24<S: Source>(w: &mut Window, source: &mut S) -> Result<i32, ReadEr
     let a = w.next_u8(source)?;
     let b = w.next_u8(source)?;
     let c = w.next_u8(source)?;
-    let raw = a as u32 + 256 * b as u32 + 65536 * c as u32;
-    if raw < 1 << 23 {
-        return Ok(raw as i32);
-    }
-    Ok(raw as i32 - (1 << 24))
+    Ok(signed_24(a, b, c))
 }
 
 /// A position in a table of n entries.

@@ -216,7 +216,7 @@ impl Window {
     /// Whether so many bytes are held and one more, each of them before the end, and no Err is kept. Then they are within
     /// the longest file, since at most one byte past it is ever held.
     #[inline]
-    pub(crate) fn is_ready(&self, count: u32) -> bool
+    pub fn is_ready(&self, count: u32) -> bool
         ensures { IsTrue result → IsReady count self.now }
     {
         self.kept.is_none()
@@ -224,9 +224,9 @@ impl Window {
             && self.place as u64 + count as u64 <= self.end as u64
     }
 
-    /// The bytes that are held.
+    /// The bytes that are held: taken from the source, and not read yet.
     #[inline]
-    pub(crate) fn held(&self) -> &[u8]
+    pub fn held(&self) -> &[u8]
         ensures { result.now ≡ self.now.held }
     {
         &self.block[self.from..self.to]
@@ -234,7 +234,7 @@ impl Window {
 
     /// Goes on, past so many of the bytes that are held.
     #[inline]
-    pub(crate) fn go_on(&mut self, count: usize)
+    pub fn go_on(&mut self, count: usize)
         requires { IsReady count self.old }
         ensures { self.new ≡ onward count self.old }
     {
@@ -297,9 +297,9 @@ impl Window {
     }
 }
 
-/// The number that the first bytes spell, and how many they are, where five bytes are enough.
+/// The number that the first bytes spell, and how many they are, one to five. `None` where the first five spell none.
 #[inline(always)]
-fn front_number(bytes: &[u8]) -> Option<(u64, usize)>
+pub fn front_number(bytes: &[u8]) -> Option<(u64, usize)>
     requires { 5 ≤ length bytes.now }
     ensures spelled { IfSome result (λ p. SpellsNumber p.0 (take p.1 bytes.now)) }
     ensures few { IfSome result (λ p. (0 < p.1) × (p.1 ≤ 5)) }

@@ -1,9 +1,9 @@
 use Rattle.std.proofs.Common.{arith, append_assoc, refl, ◌∙◌}
-use Rattle.abc_tables.specs.Bodies.{handler, handler_bytes}
+use Rattle.abc_bodies.specs.Moved.{moved_bytes, moved_handler}
 use Rattle.abc_bodies.proofs.handlers.pass_handler.Goals as goal
 
 pub returns : goal.returns
-unfolding handler handler_bytes
+unfolding moved_handler moved_bytes
 returns g c =
     let e1 = c.in_ok-pass_place.ensures in let e2 = c.in_ok-pass_place-2.ensures in let e3 = c.in_ok-pass_place-3.ensures in let e4 = c.in_ok-pass.ensures in let e5 = c.in_ok-pass-2.ensures in (
       (

@@ -7,19 +7,19 @@ use Rattle.abc_tables.proofs.Resolving.{missed_within}
 use Rattle.abc_varint.specs.declared.error.ReadError.TheVariants as errors
 use Rattle.abc_varint.proofs.Loop.{other_err}
 use Rattle.abc_instr.specs.Scanning.{raws_in}
-use Rattle.abc_instr.proofs.Scanned.{can_weave}
-use Rattle.abc_instr.proofs.Passing.{code_found, code_missed, is_put, is_missed, length_fails, pieces_fail, raws_some, raws_size, told}
+use Rattle.abc_instr.proofs.Scanned.{jumps_are}
+use Rattle.abc_instr.proofs.Passing.{code_found, code_missed, is_put, is_missed, length_fails, pieces_fail, raws_some, raws_size}
 use Rattle.abc_instr.proofs.pass.pass_code.Goals as goal
 
-pub returns-in_err-length-clause-value : goal.returns-in_err-length-clause-value
-returns-in_err-length-clause-value g c =
+pub returns-in_err-length : goal.returns-in_err-length
+returns-in_err-length g c =
     let p = err_from_is_err_and c.from_residual.result c.from_residual.ensures.1 in
     let e = c.in_err-length.field-0.0 in
     let v = c.in_err-length.ensures.value in
     rw (p.1, p.2) ((λ k t. length_fails e _ (v.0 k t)), (λ f h. other_err e f (v.1 f h)), v.2, (λ k h. v.3 k (other_err e errors.ReadFault h)))
 
-pub returns-in_err-scan_code-clause-value : goal.returns-in_err-scan_code-clause-value
-returns-in_err-scan_code-clause-value g c =
+pub returns-in_err-scan_code : goal.returns-in_err-scan_code
+returns-in_err-scan_code g c =
     let p = err_from_is_err_and c.from_residual-in_err-scan_code.result c.from_residual-in_err-scan_code.ensures.1 in
     let e = c.in_err-scan_code.field-0.0 in
     let length = c.in_ok-length.ensures.value in
@@ -32,7 +32,7 @@ returns-in_err-scan_code-clause-value g c =
     )
 
 pub put_scan-requires : goal.put_scan-requires
-put_scan-requires g c = let v = c.in_ok-scan_code.ensures.value in can_weave c.in_ok-length.length v.0 c.scan_code.new.scan c.in_ok-length.ensures.small v.1 v.2
+put_scan-requires g c = let v = c.in_ok-scan_code.ensures.value in jumps_are c.in_ok-length.length v.0 c.scan_code.new.scan c.in_ok-length.ensures.small v.1 v.2
 
 pub overflow_add-first : goal.overflow_add-first
 overflow_add-first g c =
@@ -42,8 +42,8 @@ overflow_add-first g c =
     let within = missed_within (starts 0 (raws_in v.0)) 0 (raws_in v.0) d (raws_some v.0 v.2.some) (is_missed c.in_ok-length.length v.0 c.scan_code.new.scan v.1 v.2 c.args.out.now.items d h) in
     omega (arith, within, raws_size v.0, v.2.size, c.in_ok-length.ensures.small, c.place-first.ensures.bound)
 
-pub returns-in-Ok-clause-value : goal.returns-in-Ok-clause-value
-returns-in-Ok-clause-value g c =
+pub returns-in-Ok : goal.returns-in-Ok
+returns-in-Ok g c =
     let n = c.in_ok-length.length in
     let length = c.in_ok-length.ensures.value in
     let v = c.in_ok-scan_code.ensures.value in
@@ -60,7 +60,7 @@ returns-in-Ok-clause-value g c =
                 value = record { instrs = p.instrs; offsets = starts 0 (raws_in v.0) };
                 read = code_found n _ _ _ v.0 p.instrs a.1 b.1 p.found;
                 bytes = p.bytes;
-                tells = told _ _ (record { instrs = p.instrs; offsets = starts 0 (raws_in v.0) }) p.starts_are p.moved;
+                tells = p.marks;
               },
             ),
       ),
@@ -69,17 +69,8 @@ returns-in-Ok-clause-value g c =
       (λ k h. absurd cc),
     )
 
-pub returns-in-Ok-clause-rising : goal.returns-in-Ok-clause-rising
-returns-in-Ok-clause-rising g c = let v = c.in_ok-scan_code.ensures.value in (can_weave c.in_ok-length.length v.0 c.scan_code.new.scan c.in_ok-length.ensures.small v.1 v.2).rising
-
-pub returns-in-Ok-clause-few : goal.returns-in-Ok-clause-few
-returns-in-Ok-clause-few g c = let v = c.in_ok-scan_code.ensures.value in (can_weave c.in_ok-length.length v.0 c.scan_code.new.scan c.in_ok-length.ensures.small v.1 v.2).few
-
-pub returns-in-Ok-clause-count : goal.returns-in-Ok-clause-count
-returns-in-Ok-clause-count g c = let v = c.in_ok-scan_code.ensures.value in (can_weave c.in_ok-length.length v.0 c.scan_code.new.scan c.in_ok-length.ensures.small v.1 v.2).count
-
-pub returns-in-Err-Target-clause-value : goal.returns-in-Err-Target-clause-value
-returns-in-Err-Target-clause-value g c =
+pub returns-in-Err-Target : goal.returns-in-Err-Target
+returns-in-Err-Target g c =
     let n = c.in_ok-length.length in
     let length = c.in_ok-length.ensures.value in
     let v = c.in_ok-scan_code.ensures.value in

@@ -1,6 +1,5 @@
 use Rattle.std.proofs.Common.{Ok, Err}
 use Rattle.abc_tables.proofs.Resolving.{search_is}
-use Rattle.abc_instr.proofs.Numbering.{number_is}
 use Rattle.abc_instr.proofs.resolve.number_of.Goals as goal
 
 pub returns-in-Ok : goal.returns-in-Ok
@@ -8,6 +7,3 @@ returns-in-Ok c = search_is c.args.starts.now c.args.place (Ok c.in-Ok.i) c.requ
 
 pub returns-in-Err : goal.returns-in-Err
 returns-in-Err c = search_is c.args.starts.now c.args.place (Err c.in-Err.field-0) c.requires.rising c.in-Err.ensures.position
-
-pub returns-then-starts-near : goal.returns-then-starts-near
-returns-then-starts-near c = number_is c.args.starts.now c.guess-near.result c.args.place c.requires.rising c.if-near-starts.true c.if-starts-near.true

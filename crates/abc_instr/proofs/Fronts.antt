@@ -1,0 +1,150 @@
+-- The instructions that bytes at hand begin with.
+use Rattle.std.specs.Prelude.{◌≤ℤ◌, ◌<ℤ◌, negsuc}
+use Rattle.std.proofs.Common.{◌≡◌, ℕ, ℤ, suc, pos, ◌%◌, ◌+◌, ◌-◌, ◌<◌, ◌≤◌, ◌^◌, List, [], ◌∷◌, ◌++◌, length, length-take, length-drop, take, drop, get_or, Some, Ok, refl, sym, ap, ◌∙◌, append_assoc, unwrap_or, is_some, true, arith}
+use Rattle.std.specs.declared.option.Option.{Option}
+use Rattle.std.proofs.lemmas.Bool.{lt-ltb}
+use Rattle.std.specs.Int.{w8, cast_signed, cast_unsigned}
+use Rattle.std.proofs.lemmas.List.{append-nil, take_all}
+use Rattle.std.proofs.Math.Seq.{take-add}
+use Rattle.abc_base.specs.Numbers.{SpellsNumber, number_bytes}
+use Rattle.abc_base.proofs.Spelling.{number_shortest}
+use Rattle.abc_format.specs.Ends.{blamed}
+use Rattle.abc_format.specs.Part.{limit}
+use Rattle.abc_format.specs.Numbers.{s24, u8, u30}
+use Rattle.abc_tables.specs.declared.code.Instr.{Instr}
+use Rattle.abc_tables.specs.declared.code.Instr.TheVariants as instrs
+use Rattle.abc_tables.specs.declared.opcodes.Form.{Form}
+use Rattle.abc_tables.specs.declared.opcodes.Form.TheVariants as forms
+use Rattle.abc_tables.specs.Instructions.{RawInstr, Branch, Same, instruction, opcode, operands, signed_byte}
+use Rattle.abc_tables.specs.Opcodes.{form_at}
+use Rattle.abc_tables.proofs.CodeParts.{instruction-exact}
+use Rattle.abc_varint.proofs.Front.{front_taken}
+use Rattle.abc_varint.specs.Reads.{Reads}
+use Rattle.abc_varint.specs.Ready.{IsReady}
+use Rattle.abc_tables.specs.CodeBytes.{instr_len}
+use Rattle.abc_varint.specs.View.{Passes, View, onward}
+use Rattle.abc_instr.specs.Fronts.{IsFront, count_of}
+use Rattle.abc_instr.specs.declared.front.Front.{Front}
+use Rattle.abc_instr.specs.declared.front.Front.TheVariants as fronts
+use Rattle.abc_instr.specs.Offsets.{offset_of, raw_of}
+
+-- an opcode, with the operands of its form
+spelled : (op : ℕ) (form : Form) (x : RawInstr) (rest : List ℕ) → form_at op ≡ Some form → (operands op form).spells x rest → instruction.spells x (op ∷ rest)
+unfolding instruction opcode u8
+spelled op form x rest e s =
+    let some : is_some (form_at op) ≡ true = rw e refl in
+    let is : (op, form) ≡ (op, unwrap_or (form_at op) forms.Plain) = rw e refl in
+    (((op, form), x), (op ∷ [], rest, refl, (op, (refl, some), is), s), refl)
+
+-- a number that is below 2^30
+small : (n : ℕ) (b : List ℕ) → SpellsNumber n b → n < 2 ^ 30 → u30.spells n b
+unfolding u30
+small n b s lt = (s, lt-ltb _ _ lt)
+
+taken_one : (k op : ℕ) (rest : List ℕ) → take (1 + k) (op ∷ rest) ≡ op ∷ take k rest
+taken_one k op rest = let e : 1 + k ≡ suc k = omega arith in rw e refl
+
+taken_two : (j k op : ℕ) (rest : List ℕ) → take (1 + j + k) (op ∷ rest) ≡ op ∷ (take j rest ++ take k (drop j rest))
+taken_two j k op rest = let e : 1 + j + k ≡ suc (j + k) = omega arith in rw e (ap (λ (l : List ℕ). op ∷ l) (take-add j k rest))
+
+after_one : (j op : ℕ) (rest : List ℕ) → drop (1 + j) (op ∷ rest) ≡ drop j rest
+after_one j op rest = let e : 1 + j ≡ suc j = omega arith in rw e refl
+
+-- the bytes from a position to the end are those from it on
+pub all_after : {A : Type 0} (spells : A → List ℕ → Type 0) (k n : ℕ) (x : A) (bytes : List ℕ) → spells x (take n (take (length bytes - k) (drop k bytes))) → spells x (take n (drop k bytes))
+all_after spells k n x bytes s = let all : take (length bytes - k) (drop k bytes) ≡ drop k bytes = take_all (length bytes - k) (drop k bytes) (omega (arith, length-drop k bytes)) in rw all at s
+
+pub plain_front : (bytes old new : List ℕ) → 11 ≤ length bytes → form_at (get_or bytes 0 0) ≡ Some forms.Plain → new ≡ old ++ get_or bytes 0 0 ∷ [] → IsFront (fronts.Put 1) bytes old new
+plain_front [] old new len form put = absurd (omega arith)
+plain_front (op ∷ rest) old new len form put = record {
+  instr = instrs.Plain op;
+  spelled = spelled op forms.Plain (Same (instrs.Plain op)) [] form (refl, refl);
+  some = omega arith;
+  few = omega arith;
+  told = refl;
+  raw = form;
+  short = omega arith;
+  put = put;
+}
+
+pub one_front : (bytes : List ℕ) (n k : ℕ) (old mid new : List ℕ) → 11 ≤ length bytes → form_at (get_or bytes 0 0) ≡ Some forms.One → SpellsNumber n (take k (drop 1 bytes)) → 0 < k → k ≤ 5 → n < 2 ^ 30
+    → mid ≡ old ++ get_or bytes 0 0 ∷ [] → new ≡ mid ++ number_bytes n → IsFront (fronts.Put (1 + k)) bytes old new
+one_front [] n k old mid new len form s some few lt first put = absurd (omega arith)
+one_front (op ∷ rest) n k old mid new len form s some few lt first put =
+    let count : length (take k rest) ≡ k = omega (arith, length-take k rest) in
+    record {
+      instr = instrs.One op n;
+      spelled = rw (taken_one k op rest) (spelled op forms.One (Same (instrs.One op n)) (take k rest) form (n, small n (take k rest) s lt, refl));
+      some = omega arith;
+      few = omega arith;
+      told = refl;
+      raw = (form, lt);
+      short = omega (arith, number_shortest n (take k rest) s, count);
+      put = put ∙ rw first (append_assoc old (op ∷ []) (number_bytes n));
+    }
+
+pub two_front : (bytes : List ℕ) (n m j k : ℕ) (old mid last new : List ℕ) → 11 ≤ length bytes → form_at (get_or bytes 0 0) ≡ Some forms.Two
+    → SpellsNumber n (take j (drop 1 bytes)) → 0 < j → j ≤ 5 → n < 2 ^ 30 → SpellsNumber m (take k (drop (1 + j) bytes)) → 0 < k → k ≤ 5 → m < 2 ^ 30
+    → mid ≡ old ++ get_or bytes 0 0 ∷ [] → last ≡ mid ++ number_bytes n → new ≡ last ++ number_bytes m → IsFront (fronts.Put (1 + j + k)) bytes old new
+two_front [] n m j k old mid last new len form s some few lt s2 some2 few2 lt2 first second put = absurd (omega arith)
+two_front (op ∷ rest) n m j k old mid last new len form s some few lt s2 some2 few2 lt2 first second put =
+    let one : length (take j rest) ≡ j = omega (arith, length-take j rest) in
+    let t = rw (after_one j op rest) at s2 in
+    let two : length (take k (drop j rest)) ≡ k = omega (arith, length-take k (drop j rest), length-drop j rest) in
+    record {
+      instr = instrs.Two op n m;
+      spelled = rw (taken_two j k op rest) (spelled op forms.Two (Same (instrs.Two op n m)) (take j rest ++ take k (drop j rest)) form ((n, m), (take j rest, take k (drop j rest), refl, small n (take j rest) s lt, small m (take k (drop j rest)) t lt2), refl));
+      some = omega arith;
+      few = omega arith;
+      told = refl;
+      raw = (form, lt, lt2);
+      short = omega (arith, number_shortest n (take j rest) s, number_shortest m (take k (drop j rest)) t, one, two);
+      put = put ∙ rw (second, first) (append_assoc (old ++ op ∷ []) (number_bytes n) (number_bytes m) ∙ append_assoc old (op ∷ []) (number_bytes n ++ number_bytes m));
+    }
+
+pub byte_front : (bytes : List ℕ) (z : ℤ) (old mid new : List ℕ) → 11 ≤ length bytes → form_at (get_or bytes 0 0) ≡ Some forms.Byte → negsuc 127 ≤ℤ z → z <ℤ pos 128 → z ≡ cast_signed w8 (get_or bytes 1 0) → get_or bytes 1 0 < 256
+    → mid ≡ old ++ 0x24 ∷ [] → new ≡ mid ++ cast_unsigned w8 z ∷ [] → IsFront (fronts.Put 2) bytes old new
+unfolding signed_byte u8
+byte_front [] z old mid new len form low high is lt first put = absurd (omega arith)
+byte_front (op ∷ []) z old mid new len form low high is lt first put = absurd (omega arith)
+byte_front (op ∷ x ∷ rest) z old mid new len form low high is lt first put =
+    let same : z ≡ cast_signed w8 (x % 256) = let e : x % 256 ≡ x = omega arith in rw e is in
+    record {
+      instr = instrs.Byte z;
+      spelled = spelled op forms.Byte (Same (instrs.Byte z)) (x ∷ []) form (z, (x, refl, same), refl);
+      some = omega arith;
+      few = omega arith;
+      raw = (low, high);
+      short = omega arith;
+      told = refl;
+      put = put ∙ rw first (append_assoc old (0x24 ∷ []) (cast_unsigned w8 z ∷ []));
+    }
+
+pub branch_front : (bytes : List ℕ) (z : ℤ) (n : ℕ) (old : List ℕ) → 11 ≤ length bytes → form_at (get_or bytes 0 0) ≡ Some forms.Branch → n ≤ 2 ^ 32 → offset_of n ≡ z → s24.spells z (take 3 (take (length bytes - 1) (drop 1 bytes)))
+    → IsFront (fronts.Branch (get_or bytes 0 0) n) bytes old old
+branch_front [] z n old len form le same s = absurd (omega arith)
+branch_front (op ∷ rest) z n old len form le same s =
+    record {
+      instr = instrs.Branch op n;
+      spelled = spelled op forms.Branch (Branch op (offset_of n)) (take 3 rest) form (z, all_after s24.spells 1 3 z (op ∷ rest) s, ap (Branch op) same);
+      some = omega arith;
+      few = omega arith;
+      raw = (form, le);
+      short = omega arith;
+      told = refl;
+      put = sym (append-nil old);
+    }
+
+-- what was taken was read
+pub taken : (f : Front) (w w2 : View) (s : Option (List ℕ)) (old new : List ℕ) → IsReady (count_of f) w → w2 ≡ onward (count_of f) w → (i : IsFront f w.held old new) → Reads (blamed instruction).reads w s w2 s (Ok (raw_of i.instr))
+taken f w w2 s old new ready is i = front_taken (blamed instruction) (raw_of i.instr) (count_of f) w w2 s instruction-exact ready i.spelled is
+
+pub record Moves (i : Instr) (w w2 : View) : Type 0 where
+  pub moves : w.place < w2.place
+  pub passes : Passes (instr_len i) w w2
+  pub room : w2.place ≤ limit
+
+pub passed : (f : Front) (w w2 : View) (old new : List ℕ) → IsReady (count_of f) w → w2 ≡ onward (count_of f) w → (i : IsFront f w.held old new) → Moves i.instr w w2
+passed f w w2 old new ready is i =
+    let at : w2.place ≡ w.place + count_of f = ap (λ (v : View). v.place) is in
+    record { moves = omega (arith, i.some); passes = (omega (arith, i.short), omega (arith, ready.before)); room = omega (arith, ready.within) }
