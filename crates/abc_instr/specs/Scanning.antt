@@ -150,7 +150,7 @@ woven marks plain from (j ∷ js) = jump_bytes marks j >>= λ b. woven marks pla
 abbrev pub scan_bytes : Scan → Result (List ℕ) Refusal
 scan_bytes scan = woven (mark_at scan.marks) scan.plain.items 0 scan.jumps.items >>= λ b. Ok (number_bytes scan.len ++ b)
 
--- Its places and its lengths are small.
+-- Its places are small, as those of code are.
 pub record IsJump (j : Jump) : Type 0 where
   pub here : j.here ≤ 2 ^ 24
   pub next : j.next ≤ 2 ^ 24

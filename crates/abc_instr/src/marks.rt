@@ -33,7 +33,7 @@ impl Model for Marks {
 
 impl Marks {
     /// Marks of no code. It takes no memory.
-    pub fn new(alloc: Global) -> Marks
+    pub(crate) fn new(alloc: Global) -> Marks
         ensures { (p : ℕ) → mark_at result p ≡ None }
     {
         Marks {
@@ -42,7 +42,7 @@ impl Marks {
     }
 
     /// Takes all marks away.
-    pub fn clear(&mut self)
+    pub(crate) fn clear(&mut self)
         ensures { (p : ℕ) → mark_at self.new p ≡ None }
     {
         self.table.clear();
@@ -64,7 +64,7 @@ impl Marks {
     /// Marks a place.
     #[inline(always)]
     #[tactic(auto, using(crate::proofs::Marking::one_more, crate::proofs::Marking::stays_small))]
-    pub fn set(&mut self, place: u32, moved: u32) -> Result<(), NoMemory>
+    pub(crate) fn set(&mut self, place: u32, moved: u32) -> Result<(), NoMemory>
         requires { moved < 2 ^ 23 }
         ensures { OnOk result ((p : ℕ) → mark_at self.new p ≡ marked place moved (mark_at self.old) p) }
     {
