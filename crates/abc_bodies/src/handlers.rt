@@ -4,7 +4,6 @@ ghost use Rattle.abc_base.specs.Numbers.{number_bytes};
 ghost use Rattle.abc_format.specs.Canonical.{counted_bytes};
 ghost use Rattle.abc_format.specs.Lists.{times, counted};
 ghost use Rattle.abc_tables.specs.Bodies.{handler as handler_part, handler_bytes, IsWithin};
-ghost use Rattle.abc_tables.specs.Places.{instruction_place};
 ghost use Rattle.abc_tables.specs.Starts.{IsRising};
 ghost use Rattle.abc_instr.specs.Marks.{mark_at};
 ghost use Rattle.abc_bodies.specs.Moved.{moved_bytes, moved_handler, moved_place};
@@ -141,7 +140,8 @@ pub fn put_handlers(
     Ok(())
 }
 
-/// Passes a place: it is where the instruction starts in the canonical code.
+/// Passes a place: it is put as where its instruction starts in the canonical code, and refused by `HandlerRange` at its
+/// first byte where no instruction starts there.
 #[tactic(auto, unfolding(crate::specs::Moved::moved_place))]
 fn pass_place<S: Source>(
     w: &mut Window,
@@ -162,7 +162,7 @@ fn pass_place<S: Source>(
     }
 }
 
-/// Passes an exception, over code whose instructions start so as it was read, and so in the canonical code.
+/// Passes an exception, over code whose instructions are moved as the marks say.
 #[tactic(auto, unfolding(crate::specs::Moved::moved_handler, crate::specs::Moved::moved_bytes))]
 fn pass_handler<S: Source>(
     alloc: Global,
@@ -201,8 +201,8 @@ fn pass_many<S: Source>(
     Ok(())
 }
 
-/// Passes a count and that many exceptions, over code whose instructions start so as it was read, and so in the
-/// canonical code. Gives how many there are.
+/// Passes a count and that many exceptions, over code whose instructions are moved as the marks say. Gives how many there
+/// are.
 #[tactic(auto, unfolding(abc_format::specs::Lists::counted, abc_format::specs::Canonical::counted_bytes))]
 pub fn pass_handlers<S: Source>(
     alloc: Global,

@@ -1,6 +1,6 @@
 pub mod Fronts
 pub mod Marking
-mod Growing
+pub mod Growing
 pub mod Finding
 pub mod Resolved
 pub mod Weaving

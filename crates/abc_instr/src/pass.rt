@@ -13,9 +13,9 @@ use abc_base::Source;
 use abc_varint::{ReadError, Reason, Window};
 use std::alloc::Global;
 
-/// Reads code, as `read_code` does, and appends its canonical bytes. None of it is kept but where its instructions start,
-/// in the bytes as they were read and in the canonical ones; the memory of the code before is used again. After an Err
-/// any bytes may follow the old ones.
+/// Reads code, as `read_code` does, and appends its canonical bytes. What is left of it are the marks, which say where each
+/// instruction starts in the canonical bytes; the memory of a scan is used again. After an Err any bytes may follow the
+/// old ones.
 pub fn pass_code<S: Source>(
     alloc: Global,
     w: &mut Window,
