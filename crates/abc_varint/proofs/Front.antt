@@ -1,16 +1,17 @@
 -- Numbers and bytes that are read straight from those that a window holds.
 use Rattle.std.proofs.Common.{◌≡◌, ℕ, ℤ, ◌+◌, ◌*◌, ◌%◌, ◌<◌, ◌≤◌, List, [], ◌∷◌, ◌++◌, get_or, length, take, drop, length-take, Ok, None, Some, refl, sym, ap, ◌∙◌, append_assoc, arith}
 use Rattle.std.specs.declared.option.Option.{Option}
-use Rattle.std.proofs.lemmas.List.{take-append-drop}
+use Rattle.std.proofs.lemmas.List.{drop-drop, take-append-drop, take-append-le}
 use Rattle.abc_base.specs.Numbers.{SpellsNumber, number_bytes, signed24}
 use Rattle.abc_base.proofs.Spelling.{groups_number, number_shortest}
 use Rattle.abc_format.specs.Law.{Exact}
 use Rattle.abc_format.specs.Part.{Front, Part, limit}
-use Rattle.abc_format.specs.Numbers.{byte_at, number, s24, u8}
-use Rattle.abc_format.proofs.Numbers.{byte_again, number-exact}
+use Rattle.abc_format.specs.Numbers.{number, s24, u8}
+use Rattle.abc_format.proofs.Numbers.{number-exact, u8-exact}
 use Rattle.abc_varint.specs.Ready.{IsReady, TakesNumber}
-use Rattle.abc_varint.specs.Reads.{Reads, stand}
-use Rattle.abc_varint.specs.View.{View, Passes, onward}
+use Rattle.abc_varint.specs.Reads.{IsInput, Reads, ReadsNumber, stand}
+use Rattle.abc_varint.specs.View.{View, Passes, held, onward}
+use Rattle.abc_varint.proofs.Inputs.{ahead, among, rest}
 
 -- ---- what five bytes spell
 
@@ -57,11 +58,13 @@ three_bytes (a ∷ b ∷ c ∷ r) z le e = ((a, (b, c)), (a ∷ [], b ∷ c ∷ 
 
 -- ---- what is read then
 
-front_of : (w : View) (left : List ℕ) (n : ℕ) → IsReady n w → Front (stand w (Some left)) (take n w.held) (stand (onward n w) (Some left))
-front_of w left n r =
-    let len : length (take n w.held) ≡ n = omega (arith, length-take n w.held, r.held) in
+front_of : (w : View) (s : Option (List ℕ)) (input : List ℕ) (n : ℕ) → w.place ≤ length w.taken → IsInput w s input → IsReady n w → Front (stand w input) (take n (held w)) (stand (onward n w) input)
+front_of w s input n among is r =
+    let len : length (take n (held w)) ≡ n = omega (arith, length-take n (held w), r.held) in
+    let here : drop w.place input ≡ held w ++ rest w input = ahead w s input among is in
+    let front : take n (drop w.place input) ≡ take n (held w) = ap (λ (t : List ℕ). take n t) here ∙ take-append-le n (held w) (rest w input) r.held in
     record {
-      parts = ap (λ (t : List ℕ). t ++ left) (sym (take-append-drop n w.held)) ∙ append_assoc (take n w.held) (drop n w.held) left;
+      parts = sym (take-append-drop n (drop w.place input)) ∙ ap (λ (t : List ℕ). t ++ drop n (drop w.place input)) front ∙ ap (λ (t : List ℕ). take n (held w) ++ t) (drop-drop n w.place input);
       place = ap (λ (k : ℕ). w.place + k) (sym len);
       room = r.within;
       same = refl;
@@ -69,26 +72,31 @@ front_of w left n r =
     }
 
 -- A value that these bytes spell is read, and the window stands after them.
-pub front_taken : {A : Type 0} (p : Part A) (x : A) (n : ℕ) (w w2 : View) (s : Option (List ℕ)) → Exact p → IsReady n w → p.spells x (take n w.held) → w2 ≡ onward n w → Reads p.reads w s w2 s (Ok x)
-front_taken p x n w w2 None exact r e is = rw is (r.fresh, r.fresh, omega arith, refl, λ t. absurd cc)
-front_taken p x n w w2 (Some left) exact r e is =
-    rw is (r.fresh, r.fresh, omega arith, refl, λ t. (refl, exact.again (stand w (Some left)) x (stand (onward n w) (Some left)) (record { front = take n w.held; spelled = e; is = front_of w left n r })))
+pub front_taken : {A : Type 0} (p : Part A) (x : A) (n : ℕ) (w w2 : View) (s : Option (List ℕ)) → Exact p → w.place ≤ length w.taken → IsReady n w → p.spells x (take n (held w)) → w2 ≡ onward n w → Reads p.reads w s w2 s (Ok x)
+front_taken p x n w w2 s exact among r e is =
+    rw is (r.fresh, r.fresh, omega arith, refl, λ input is_input. (is_input, exact.again (stand w input) x (stand (onward n w) input) (record { front = take n (held w); spelled = e; is = front_of w s input n among is_input r })))
 
 pub number_taken : (x : ℕ) (w w2 : View) (s : Option (List ℕ)) → TakesNumber x w w2 → Reads number.reads w s w2 s (Ok x)
-number_taken x w w2 s t = front_taken number x t.count w w2 s number-exact t.ready t.spelled t.is
+number_taken x w w2 s t = front_taken number x t.count w w2 s number-exact (omega (arith, among w t.count t.some t.ready.held)) t.ready t.spelled t.is
+
+-- as a reader of numbers does
+pub number_read : {S : Type 0} (left : S → Option (List ℕ)) (faults : S → ℕ) (x : ℕ) (w w2 : View) (s : S) → TakesNumber x w w2 → ReadsNumber left faults number w s w2 s (Ok x)
+number_read left faults x w w2 s t = (
+  (number_taken x w w2 (left s) t, (λ e k. absurd (let fresh = t.ready.fresh in cc)), omega arith, (λ k h. absurd cc), tt),
+  tt,
+  (λ h. absurd cc),
+)
 
 -- no fewer bytes than the shortest spelling has
 pub number_passes : (x : ℕ) (w w2 : View) → TakesNumber x w w2 → Passes (length (number_bytes x)) w w2
 number_passes x w w2 t =
     let at : w2.place ≡ w.place + t.count = ap (λ (v : View). v.place) t.is in
-    (omega (arith, number_shortest x (take t.count w.held) t.spelled, length-take t.count w.held, t.ready.held), omega (arith, t.ready.before))
+    (omega (arith, number_shortest x (take t.count (held w)) t.spelled, length-take t.count (held w), t.ready.held), omega (arith, t.ready.before))
 
-byte_here : (x : ℕ) (held : List ℕ) (left : List ℕ) (end place : ℕ) → 1 ≤ length held → place + 1 ≤ end → place + 1 ≤ limit → x ≡ get_or held 0 0
-    → byte_at end place (held ++ left) ≡ Ok (x, record { place = place + 1; bytes = drop 1 held ++ left; end = end })
-byte_here x [] left end place le before within e = absurd (omega arith)
-byte_here x (y ∷ rest) left end place le before within e = rw e (byte_again end place y (rest ++ left) (omega arith) (omega arith))
+first : (bs : List ℕ) (x : ℕ) → 1 ≤ length bs → x ≡ get_or bs 0 0 → take 1 bs ≡ x ∷ []
+first [] x le e = absurd (omega arith)
+first (y ∷ more) x le e = rw e refl
 
-pub byte_taken : (x : ℕ) (held : List ℕ) (w w2 : View) (s : Option (List ℕ)) → IsReady 1 w → held ≡ w.held → x ≡ get_or held 0 0 → w2 ≡ onward 1 w → Reads u8.reads w s w2 s (Ok x)
+pub byte_taken : (x : ℕ) (bytes : List ℕ) (w w2 : View) (s : Option (List ℕ)) → IsReady 1 w → bytes ≡ held w → x ≡ get_or bytes 0 0 → w2 ≡ onward 1 w → Reads u8.reads w s w2 s (Ok x)
 unfolding u8
-byte_taken x held w w2 None r same e is = rw is (r.fresh, r.fresh, omega arith, refl, λ t. absurd cc)
-byte_taken x held w w2 (Some left) r same e is = rw is (r.fresh, r.fresh, omega arith, refl, λ t. (refl, byte_here x w.held left w.end w.place r.held r.before r.within (e ∙ ap (λ (l : List ℕ). get_or l 0 0) same)))
+byte_taken x bytes w w2 s r same e is = front_taken u8 x 1 w w2 s u8-exact (omega (arith, among w 1 (omega arith) r.held)) r (first (held w) x r.held (e ∙ ap (λ (l : List ℕ). get_or l 0 0) same)) is

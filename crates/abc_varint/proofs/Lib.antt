@@ -1,3 +1,4 @@
+pub mod Inputs
 pub mod Held
 pub mod Front
 pub mod Loop

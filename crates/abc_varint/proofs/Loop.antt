@@ -1,5 +1,5 @@
 -- Reading items one after the other, as a loop does.
-use Rattle.std.proofs.Common.{◌≡◌, ℕ, suc, ◌-◌, ◌<◌, ◌≤◌, List, [], ◌∷◌, ◌++◌, true, Ok, Err, None, refl, sym, ap, ◌∙◌, append_assoc, arith}
+use Rattle.std.proofs.Common.{◌≡◌, ℕ, suc, ◌-◌, ◌<◌, ◌≤◌, List, [], ◌∷◌, ◌++◌, Ok, Err, None, refl, sym, ap, ◌∙◌, append_assoc, arith}
 use Rattle.std.proofs.lemmas.List.{append-nil}
 use Rattle.std.specs.declared.result.Result.{Result}
 use Rattle.std.specs.declared.option.Option.{Option}
@@ -8,7 +8,7 @@ use Rattle.abc_varint.specs.declared.error.ReadError.TheVariants as errors
 use Rattle.abc_format.specs.Part.{At, Refusal, refusal, Part, ◌>>=◌}
 use Rattle.abc_format.specs.Lists.{times}
 use Rattle.abc_varint.specs.View.{View}
-use Rattle.abc_varint.specs.Reads.{Reads, Fails, tells, stand}
+use Rattle.abc_varint.specs.Reads.{Reads, Fails, IsInput, stand}
 
 -- what was read before, and what is still read
 abbrev pub with_front : {A : Type 0} → List A → Result (List A × At) Refusal → Result (List A × At) Refusal
@@ -19,8 +19,8 @@ pub record Going {A : Type 0} (p : Part A) (total more : ℕ) (items : List A) (
   pub fresh : w.kept ≡ None
   pub forth : w0.place ≤ w.place
   pub ends_at : w.end ≡ w0.end
-  pub told : tells s0 ≡ true → tells s ≡ true
-  pub same : tells s0 ≡ true → with_front items ((times more p).reads (stand w s)) ≡ (times total p).reads (stand w0 s0)
+  pub told : (input : List ℕ) → IsInput w s input → IsInput w0 s0 input
+  pub same : (input : List ℕ) → IsInput w s input → with_front items ((times more p).reads (stand w input)) ≡ (times total p).reads (stand w0 input)
 
 abbrev pub beside : {A : Type 0} → A → List A × At → Result ((A × List A) × At) Refusal
 beside x y = Ok ((x, y.0), y.1)
@@ -37,7 +37,7 @@ nothing (Ok y) = refl
 nothing (Err f) = refl
 
 pub starts : {A : Type 0} (p : Part A) (n : ℕ) (w : View) (s : Option (List ℕ)) → w.kept ≡ None → Going p n (n - 0) [] w s w s
-starts {A = A} p n w s k = let e : n - 0 ≡ n = omega arith in record { fresh = k; forth = omega arith; ends_at = refl; told = λ t. t; same = λ t. rw e (nothing ((times n p).reads (stand w s))) }
+starts {A = A} p n w s k = let e : n - 0 ≡ n = omega arith in record { fresh = k; forth = omega arith; ends_at = refl; told = λ input is. is; same = λ input is. rw e (nothing ((times n p).reads (stand w input))) }
 
 pub goes_on : {A : Type 0} (p : Part A) (total more less : ℕ) (items : List A) (w0 : View) (s0 : Option (List ℕ)) (w : View) (s : Option (List ℕ)) (w2 : View) (s2 : Option (List ℕ)) (x : A)
     → more ≡ suc less → Going p total more items w0 s0 w s → Reads p.reads w s w2 s2 (Ok x) → Going p total less (items ++ x ∷ []) w0 s0 w2 s2
@@ -45,23 +45,24 @@ goes_on p total more less items w0 s0 w s w2 s2 x k g r = record {
   fresh = r.1;
   forth = omega (arith, g.forth, r.2);
   ends_at = r.3 ∙ g.ends_at;
-  told = λ t. (r.4 (g.told t)).0;
-  same = λ t. let e = (r.4 (g.told t)).1 in sym (rw (k, e) (moved items x ((times less p).reads (stand w2 s2)))) ∙ g.same t;
+  told = λ input is. g.told input (r.4 input is).0;
+  same = λ input is. let e = (r.4 input is).1 in sym (rw (k, e) (moved items x ((times less p).reads (stand w2 input)))) ∙ g.same input (r.4 input is).0;
 }
 
-pub ends : {A : Type 0} (e : ReadError) (p : Part A) (total more : ℕ) (items : List A) (w0 : View) (s0 : Option (List ℕ)) (w : View) (s : Option (List ℕ))
-    → 0 < more → Going p total more items w0 s0 w s → (w.kept ≡ None → tells s ≡ true → Fails e (p.reads (stand w s))) → tells s0 ≡ true → Fails e ((times total p).reads (stand w0 s0))
-ends (errors.Refused place reason) p total more items w0 s0 w s lt g f t =
+-- an Err of the item that comes next is that of all
+pub ends : {A : Type 0} (e : ReadError) (p : Part A) (total more : ℕ) (items : List A) (w0 : View) (s0 : Option (List ℕ)) (w : View) (s : Option (List ℕ)) (input : List ℕ)
+    → 0 < more → Going p total more items w0 s0 w s → IsInput w s input × Fails e (p.reads (stand w input)) → IsInput w0 s0 input × Fails e ((times total p).reads (stand w0 input))
+ends (errors.Refused place reason) p total more items w0 s0 w s input lt g f =
     let k : more ≡ suc (more - 1) = omega arith in
-    let h : p.reads (stand w s) ≡ Err (refusal place reason) = f g.fresh (g.told t) in
-    let one : with_front items ((times more p).reads (stand w s)) ≡ Err (refusal place reason) = rw (k, h) refl in
-    sym (g.same t) ∙ one
-ends errors.ReadFault p total more items w0 s0 w s lt g f t = tt
-ends errors.NoMemory p total more items w0 s0 w s lt g f t = tt
+    let h : p.reads (stand w input) ≡ Err (refusal place reason) = f.1 in
+    let one : with_front items ((times more p).reads (stand w input)) ≡ Err (refusal place reason) = rw (k, h) refl in
+    (g.told input f.0, sym (g.same input f.0) ∙ one)
+ends errors.ReadFault p total more items w0 s0 w s input lt g f = (g.told input f.0, tt)
+ends errors.NoMemory p total more items w0 s0 w s input lt g f = (g.told input f.0, tt)
 
 pub is_done : {A : Type 0} (p : Part A) (total more : ℕ) (items : List A) (w0 : View) (s0 : Option (List ℕ)) (w : View) (s : Option (List ℕ))
     → more ≡ 0 → w0.kept ≡ None → Going p total more items w0 s0 w s → Reads (times total p).reads w0 s0 w s (Ok items)
-is_done {A = A} p total more items w0 s0 w s k fresh g = (fresh, g.fresh, g.forth, g.ends_at, λ t. (g.told t, sym (g.same t) ∙ rw k (ap (λ (ns : List A). Ok (ns, stand w s)) (append-nil items))))
+is_done {A = A} p total more items w0 s0 w s k fresh g = (fresh, g.fresh, g.forth, g.ends_at, λ input is. (g.told input is, sym (g.same input is) ∙ rw k (ap (λ (ns : List A). Ok (ns, stand w input)) (append-nil items))))
 
 abbrev pub failed : (A : Type 0) → ReadError → Result A ReadError
 failed A e = Err e

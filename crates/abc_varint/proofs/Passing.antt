@@ -1,5 +1,5 @@
 -- Passing items one after the other, as a loop does.
-use Rattle.std.proofs.Common.{◌≡◌, ℕ, zero, suc, ◌+◌, ◌-◌, nat_eq, if◌then◌else◌, ◌<◌, ◌≤◌, List, [], ◌∷◌, ◌++◌, length, true, Ok, Err, None, refl, sym, ap, ◌∙◌, append_assoc, arith}
+use Rattle.std.proofs.Common.{◌≡◌, ℕ, zero, suc, ◌+◌, ◌-◌, nat_eq, if◌then◌else◌, ◌<◌, ◌≤◌, List, [], ◌∷◌, ◌++◌, length, Ok, Err, None, refl, sym, ap, ◌∙◌, append_assoc, arith}
 use Rattle.std.proofs.lemmas.List.{append-nil, flat_map_more}
 use Rattle.std.proofs.lemmas.Bool.Decides.{nat_tests}
 use Rattle.std.specs.List.{flat_map}
@@ -14,7 +14,7 @@ use Rattle.abc_format.specs.Lists.{times, counted, pool}
 use Rattle.abc_format.specs.Numbers.{u30}
 use Rattle.abc_varint.specs.View.{View}
 use Rattle.abc_varint.specs.Passes.{Passes, Rewrites, nothing}
-use Rattle.abc_varint.specs.Reads.{Reads, Fails, tells, stand}
+use Rattle.abc_varint.specs.Reads.{Reads, Fails, IsInput, stand}
 use Rattle.abc_varint.proofs.Loop.{with_front, moved, beside, joined, nothing as no_front}
 
 -- Of `total` items some were read, and their bytes were appended; `more` are to come.
@@ -27,16 +27,16 @@ pub record PassesOn {A : Type 0} (p : Part A) (canonical : A → List ℕ) (tota
   pub fresh : w.kept ≡ None
   pub forth : w0.place ≤ w.place
   pub ends_at : w.end ≡ w0.end
-  pub told : tells s0 ≡ true → tells s ≡ true
-  pub same : tells s0 ≡ true → Middle p canonical total more (stand w0 s0) (stand w s) old new
+  pub told : (input : List ℕ) → IsInput w s input → IsInput w0 s0 input
+  pub same : (input : List ℕ) → IsInput w s input → Middle p canonical total more (stand w0 input) (stand w input) old new
 
 pub starts : {A : Type 0} (p : Part A) (canonical : A → List ℕ) (n : ℕ) (old : List ℕ) (w : View) (s : Option (List ℕ)) → w.kept ≡ None → PassesOn p canonical n (n - 0) old old w s w s
 starts {A = A} p canonical n old w s k = let e : n - 0 ≡ n = omega arith in record {
   fresh = k;
   forth = omega arith;
   ends_at = refl;
-  told = λ t. t;
-  same = λ t. record { items = []; read = rw e (no_front ((times n p).reads (stand w s))); bytes = sym (append-nil old) };
+  told = λ input is. is;
+  same = λ input is. record { items = []; read = rw e (no_front ((times n p).reads (stand w input))); bytes = sym (append-nil old) };
 }
 
 pub goes_on : {A : Type 0} (p : Part A) (canonical : A → List ℕ) (total more less : ℕ) (old new new2 : List ℕ) (w0 : View) (s0 : Option (List ℕ)) (w : View) (s : Option (List ℕ)) (w2 : View) (s2 : Option (List ℕ))
@@ -45,24 +45,24 @@ goes_on p canonical total more less old new new2 w0 s0 w s w2 s2 k g r = record 
   fresh = r.1;
   forth = omega (arith, g.forth, r.2);
   ends_at = r.3 ∙ g.ends_at;
-  told = λ t. (r.4 (g.told t)).0;
-  same = λ t. let m = g.same t in let x = (r.4 (g.told t)).1 in record {
+  told = λ input is. g.told input (r.4 input is).0;
+  same = λ input is. let m = g.same input (r.4 input is).0 in let x = (r.4 input is).1 in record {
     items = m.items ++ x.value ∷ [];
-    read = sym (rw (k, x.read) (moved m.items x.value ((times less p).reads (stand w2 s2)))) ∙ m.read;
+    read = sym (rw (k, x.read) (moved m.items x.value ((times less p).reads (stand w2 input)))) ∙ m.read;
     bytes = x.bytes ∙ ap (λ (t : List ℕ). t ++ canonical x.value) m.bytes ∙ flat_map_more canonical old m.items x.value;
   };
 }
 
-pub ends : {A : Type 0} (e : ReadError) (p : Part A) (canonical : A → List ℕ) (total more : ℕ) (old new : List ℕ) (w0 : View) (s0 : Option (List ℕ)) (w : View) (s : Option (List ℕ))
-    → 0 < more → PassesOn p canonical total more old new w0 s0 w s → (w.kept ≡ None → tells s ≡ true → Fails e (p.reads (stand w s))) → tells s0 ≡ true → Fails e ((times total p).reads (stand w0 s0))
-ends (errors.Refused place reason) p canonical total more old new w0 s0 w s lt g f t =
+pub ends : {A : Type 0} (e : ReadError) (p : Part A) (canonical : A → List ℕ) (total more : ℕ) (old new : List ℕ) (w0 : View) (s0 : Option (List ℕ)) (w : View) (s : Option (List ℕ)) (input : List ℕ)
+    → 0 < more → PassesOn p canonical total more old new w0 s0 w s → IsInput w s input × Fails e (p.reads (stand w input)) → IsInput w0 s0 input × Fails e ((times total p).reads (stand w0 input))
+ends (errors.Refused place reason) p canonical total more old new w0 s0 w s input lt g f =
     let k : more ≡ suc (more - 1) = omega arith in
-    let m = g.same t in
-    let h : p.reads (stand w s) ≡ Err (refusal place reason) = f g.fresh (g.told t) in
-    let one : with_front m.items ((times more p).reads (stand w s)) ≡ Err (refusal place reason) = rw (k, h) refl in
-    sym m.read ∙ one
-ends errors.ReadFault p canonical total more old new w0 s0 w s lt g f t = tt
-ends errors.NoMemory p canonical total more old new w0 s0 w s lt g f t = tt
+    let m = g.same input f.0 in
+    let h : p.reads (stand w input) ≡ Err (refusal place reason) = f.1 in
+    let one : with_front m.items ((times more p).reads (stand w input)) ≡ Err (refusal place reason) = rw (k, h) refl in
+    (g.told input f.0, sym m.read ∙ one)
+ends errors.ReadFault p canonical total more old new w0 s0 w s input lt g f = (g.told input f.0, tt)
+ends errors.NoMemory p canonical total more old new w0 s0 w s input lt g f = (g.told input f.0, tt)
 
 pub is_done : {A : Type 0} (p : Part A) (canonical : A → List ℕ) (total more : ℕ) (old new : List ℕ) (w0 : View) (s0 : Option (List ℕ)) (w : View) (s : Option (List ℕ))
     → more ≡ 0 → w0.kept ≡ None → PassesOn p canonical total more old new w0 s0 w s → Passes (times total p) (flat_map canonical) nothing w0 s0 w s old new (Ok tt)
@@ -71,11 +71,11 @@ is_done {A = A} p canonical total more old new w0 s0 w s k fresh g = (
   g.fresh,
   g.forth,
   g.ends_at,
-  λ t. (
-    g.told t,
-    let m = g.same t in record {
+  λ input is. (
+    g.told input is,
+    let m = g.same input is in record {
       value = m.items;
-      read = sym m.read ∙ rw k (ap (λ (ns : List A). Ok (ns, stand w s)) (append-nil m.items));
+      read = sym m.read ∙ rw k (ap (λ (ns : List A). Ok (ns, stand w input)) (append-nil m.items));
       bytes = m.bytes;
       tells = refl;
     },
@@ -117,10 +117,10 @@ counted_passes p all n old middle new w s w1 s1 w2 s2 r b g = (
   g.1,
   omega (arith, r.2, g.2),
   g.3 ∙ r.3,
-  λ t.
-      let a = r.4 t in let d = g.4 a.0 in let x = d.1 in
+  λ input is.
+      let d = g.4 input is in let a = r.4 input d.0 in let x = d.1 in
       let count : length x.value ≡ n = times_count n p _ _ x.value x.read in (
-        d.0,
+        a.0,
         record {
           value = x.value;
           read = rw (a.1, x.read) refl;
@@ -133,7 +133,7 @@ counted_passes p all n old middle new w s w1 s1 w2 s2 r b g = (
 -- what nothing is told of
 pub untold : {X T : Type 0} (p : Part X) (canonical : X → List ℕ) (tell : X → T) (w : View) (s : Option (List ℕ)) (w2 : View) (s2 : Option (List ℕ)) (old new : List ℕ) (t : T)
     → Passes p canonical tell w s w2 s2 old new (Ok t) → Passes p canonical nothing w s w2 s2 old new (Ok tt)
-untold p canonical tell w s w2 s2 old new t g = (g.0, g.1, g.2, g.3, λ t. let d = g.4 t in let x = d.1 in (d.0, record { value = x.value; read = x.read; bytes = x.bytes; tells = refl }))
+untold p canonical tell w s w2 s2 old new t g = (g.0, g.1, g.2, g.3, λ input is. let d = g.4 input is in let x = d.1 in (d.0, record { value = x.value; read = x.read; bytes = x.bytes; tells = refl }))
 
 pub pool_passes : {A : Type 0} (p : Part A) (canonical : A → List ℕ) (n m : ℕ) (old middle new : List ℕ) (w : View) (s : Option (List ℕ)) (w1 : View) (s1 : Option (List ℕ)) (w2 : View) (s2 : Option (List ℕ))
     → m ≡ n - 1 → Reads u30.reads w s w1 s1 (Ok n) → middle ≡ old ++ number_bytes (if nat_eq n 1 then 0 else n) → Passes (times m p) (flat_map canonical) nothing w1 s1 w2 s2 middle new (Ok tt)
@@ -144,10 +144,10 @@ pool_passes p canonical n m old middle new w s w1 s1 w2 s2 less r b g = (
   g.1,
   omega (arith, r.2, g.2),
   g.3 ∙ r.3,
-  λ t.
-      let a = r.4 t in let d = g.4 a.0 in let x = d.1 in
+  λ input is.
+      let d = g.4 input is in let a = r.4 input d.0 in let x = d.1 in
       let count : length x.value ≡ m = times_count m p _ _ x.value x.read in (
-        d.0,
+        a.0,
         record {
           value = x.value;
           read = rw (a.1, ← less, x.read) refl;
@@ -162,4 +162,4 @@ pool_passes p canonical n m old middle new w s w1 s1 w2 s2 less r b g = (
 -- what is read and then put
 pub puts_read : {X : Type 0} (p : Part X) (x : X) (canonical : X → List ℕ) (old new : List ℕ) (w : View) (s : Option (List ℕ)) (w2 : View) (s2 : Option (List ℕ))
     → Reads p.reads w s w2 s2 (Ok x) → new ≡ old ++ canonical x → Passes p canonical nothing w s w2 s2 old new (Ok tt)
-puts_read p x canonical old new w s w2 s2 r b = (r.0, r.1, r.2, r.3, λ t. let a = r.4 t in (a.0, record { value = x; read = a.1; bytes = b; tells = refl }))
+puts_read p x canonical old new w s w2 s2 r b = (r.0, r.1, r.2, r.3, λ input is. let a = r.4 input is in (a.0, record { value = x; read = a.1; bytes = b; tells = refl }))

@@ -1,11 +1,11 @@
 -- What a reader's answer says of the bytes.
-use Rattle.std.specs.Prelude.{◌≡◌, ℕ, true, List, None, Ok, Err}
+use Rattle.std.specs.Prelude.{◌≡◌, ℕ, List, None, Ok, Err}
 use Rattle.std.specs.declared.result.Result.{Result}
 use Rattle.std.specs.declared.option.Option.{Option}
 use Rattle.abc_format.specs.Part.{Part, At, Begins, refusal}
 use Rattle.abc_varint.specs.declared.error.ReadError.{ReadError}
 use Rattle.abc_varint.specs.declared.error.ReadError.TheVariants as errors
-use Rattle.abc_varint.specs.Reads.{stand, tells}
+use Rattle.abc_varint.specs.Reads.{IsInput, stand}
 use Rattle.abc_varint.specs.View.{View}
 
 -- a value is spelled by the bytes between the two, and a refusal is the first fault of what stands ahead
@@ -15,6 +15,13 @@ IsAnswer part from to (Err (errors.Refused place reason)) = part.bad from (refus
 IsAnswer part from to (Err errors.ReadFault) = Unit {0}
 IsAnswer part from to (Err errors.NoMemory) = Unit {0}
 
--- So it is where the window kept nothing and the source tells its bytes.
+-- So it is of some input, which is the one that the source tells, where it tells its bytes.
+pub record AnswersSome {X : Type 0} (part : Part X) (w : View) (s : Option (List ℕ)) (w2 : View) (s2 : Option (List ℕ)) (r : Result X ReadError) : Type 0 where
+  pub input : List ℕ
+  pub before : IsInput w s input
+  pub after : IsInput w2 s2 input
+  pub is : IsAnswer part (stand w input) (stand w2 input) r
+
+-- So it is where the window kept nothing.
 abbrev pub Answers : {X : Type 0} → Part X → View → Option (List ℕ) → View → Option (List ℕ) → Result X ReadError → Type 0
-Answers part w s w2 s2 r = w.kept ≡ None → tells s ≡ true → IsAnswer part (stand w s) (stand w2 s2) r
+Answers part w s w2 s2 r = w.kept ≡ None → AnswersSome part w s w2 s2 r

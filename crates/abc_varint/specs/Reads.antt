@@ -1,25 +1,38 @@
 -- What a reader does with a window and a source.
-use Rattle.std.specs.Prelude.{◌≡◌, ℕ, ◌≤◌, Bool, true, false, List, ◌++◌, Some, None, Ok, Err, IfErr}
+use Rattle.std.specs.Prelude.{◌≡◌, ℕ, ◌≤◌, List, [], ◌++◌, Some, None, Ok, Err, IfErr, drop, take, length}
 use Rattle.std.specs.declared.result.Result.{Result}
 use Rattle.std.specs.declared.option.Option.{Option}
 use Rattle.abc_base.specs.Faults.{Rose}
 use Rattle.abc_format.specs.Part.{Part, At, Refusal, refusal, no_end}
 use Rattle.abc_varint.specs.declared.error.ReadError.{ReadError}
 use Rattle.abc_varint.specs.declared.error.ReadError.TheVariants as errors
-use Rattle.abc_varint.specs.View.{View}
+use Rattle.abc_varint.specs.View.{View, IsKept, kept_of}
 
--- the bytes ahead, where the source tells them
-abbrev pub ahead : List ℕ → Option (List ℕ) → List ℕ
-ahead held None = held
-ahead held (Some left) = held ++ left
+-- ---- the input
 
-abbrev pub tells : Option (List ℕ) → Bool
-tells None = false
-tells (Some left) = true
+-- Of an input these bytes were taken, and the source tells what is left, if it tells its bytes.
+abbrev pub Continues : List ℕ → Option (List ℕ) → List ℕ → Type 0
+Continues taken None input = take (length taken) input ≡ taken
+Continues taken (Some left) input = input ≡ taken ++ left
 
--- where the window stands, and the bytes from there on
-abbrev pub stand : View → Option (List ℕ) → At
-stand w left = record { place = w.place; bytes = ahead w.held left; end = w.end }
+-- It may be the whole input, as far as that is known.
+abbrev pub IsInput : View → Option (List ℕ) → List ℕ → Type 0
+IsInput w s input = Continues w.taken s input
+
+-- what the source tells of what is left
+abbrev pub told : Option (List ℕ) → List ℕ
+told None = []
+told (Some left) = left
+
+-- the input, if nothing follows but what the source tells
+abbrev pub known : View → Option (List ℕ) → List ℕ
+known w s = w.taken ++ told s
+
+-- where the window stands in an input, and the bytes from there on
+abbrev pub stand : View → List ℕ → At
+stand w input = record { place = w.place; bytes = drop w.place input; end = w.end }
+
+-- ---- readers
 
 -- what an Err says of reading, unless reading failed or memory ran out
 abbrev pub Fails : {Y : Type 0} → ReadError → Result Y Refusal → Type 0
@@ -27,14 +40,20 @@ Fails (errors.Refused place reason) read = read ≡ Err (refusal place reason)
 Fails errors.ReadFault read = Unit {0}
 Fails errors.NoMemory read = Unit {0}
 
--- The result is what `reads` gives, from where the window stood to where it stands now, if the source tells its bytes.
+-- The result is what `reads` gives, from where the window stood to where it stands now: a value in whatever may be the input, an Err in that which is known.
 abbrev pub Reads : {X : Type 0} → (At → Result (X × At) Refusal) → View → Option (List ℕ) → View → Option (List ℕ) → Result X ReadError → Type 0
-Reads reads w s w2 s2 (Ok x) = (w.kept ≡ None) × (w2.kept ≡ None) × (w.place ≤ w2.place) × (w2.end ≡ w.end) × (tells s ≡ true → (tells s2 ≡ true) × (reads (stand w s) ≡ Ok (x, stand w2 s2)))
-Reads reads w s w2 s2 (Err e) = w.kept ≡ None → tells s ≡ true → Fails e (reads (stand w s))
+Reads reads w s w2 s2 (Ok x) =
+    (w.kept ≡ None) × (w2.kept ≡ None) × (w.place ≤ w2.place) × (w2.end ≡ w.end)
+    × ((input : List ℕ) → IsInput w2 s2 input → IsInput w s input × (reads (stand w input) ≡ Ok (x, stand w2 input)))
+Reads reads w s w2 s2 (Err e) = w.kept ≡ None → IsInput w s (known w2 s2) × Fails e (reads (stand w (known w2 s2)))
 
 -- a read fault is told only where the count of faults rose, or stood at its last value
 abbrev pub Blames : {X : Type 0} → View → ℕ → ℕ → Result X ReadError → Type 0
 Blames w before now r = (w.kept ≡ None) → r ≡ Err errors.ReadFault → Rose before now
+
+-- An Err leaves the window with the end that it had, and is kept exactly where it is of a byte or a number.
+abbrev pub Keeps : {X : Type 0} → View → View → Result X ReadError → Type 0
+Keeps w w2 r = IfErr r (λ e. (w2.kept ≡ kept_of e) × (w2.end ≡ w.end))
 
 -- What a reader of a part does, for a source that means `left` and `faults`: it reads, answers a kept Err again, and has a cause for a read fault.
 abbrev pub ReadsPart : {S X : Type 0} → (S → Option (List ℕ)) → (S → ℕ) → Part X → View → S → View → S → Result X ReadError → Type 0
@@ -43,12 +62,13 @@ ReadsPart left faults part w s w2 s2 r =
     × ((e : ReadError) → w.kept ≡ Some e → r ≡ Err e)
     × (faults s ≤ faults s2)
     × Blames w (faults s) (faults s2) r
+    × Keeps w w2 r
 
--- A reader of a number besides keeps its Err in the window, and takes no memory.
+-- A reader of a number keeps each Err, and takes no memory.
 abbrev pub ReadsNumber : {S X : Type 0} → (S → Option (List ℕ)) → (S → ℕ) → Part X → View → S → View → S → Result X ReadError → Type 0
 ReadsNumber left faults part w s w2 s2 r =
     ReadsPart left faults part w s w2 s2 r
-    × IfErr r (λ e. w2.kept ≡ Some e)
+    × IfErr r (λ e. IsKept e w2)
     × (r ≡ Err errors.NoMemory → ⊥)
 
 -- the result of a reader that leaves its value in place
@@ -62,5 +82,7 @@ opened a = record { place = a.place; bytes = a.bytes; end = no_end }
 
 -- As `Reads`, of a window that has an end, where the definition says none.
 abbrev pub ReadsUntil : {X : Type 0} → (At → Result (X × At) Refusal) → View → Option (List ℕ) → View → Option (List ℕ) → Result X ReadError → Type 0
-ReadsUntil reads w s w2 s2 (Ok x) = (w.kept ≡ None) × (w2.kept ≡ None) × (w.place ≤ w2.place) × (w2.end ≡ w.end) × (tells s ≡ true → (tells s2 ≡ true) × (reads (opened (stand w s)) ≡ Ok (x, opened (stand w2 s2))))
-ReadsUntil reads w s w2 s2 (Err e) = w.kept ≡ None → tells s ≡ true → Fails e (reads (opened (stand w s)))
+ReadsUntil reads w s w2 s2 (Ok x) =
+    (w.kept ≡ None) × (w2.kept ≡ None) × (w.place ≤ w2.place) × (w2.end ≡ w.end)
+    × ((input : List ℕ) → IsInput w2 s2 input → IsInput w s input × (reads (opened (stand w input)) ≡ Ok (x, opened (stand w2 input))))
+ReadsUntil reads w s w2 s2 (Err e) = w.kept ≡ None → IsInput w s (known w2 s2) × Fails e (reads (opened (stand w (known w2 s2))))

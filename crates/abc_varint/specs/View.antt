@@ -1,7 +1,8 @@
 -- What contracts see of a window.
-use Rattle.std.specs.Prelude.{◌≡◌, ℕ, ◌+◌, ◌<◌, ◌≤◌, ◌⊎◌, List, [], ◌∷◌, Ok, Err, Some, None, drop}
+use Rattle.std.specs.Prelude.{◌≡◌, ℕ, ◌+◌, ◌<◌, ◌≤◌, ◌⊎◌, List, [], ◌∷◌, ◌++◌, Ok, Err, Some, None, drop, length, take}
 use Rattle.std.specs.declared.result.Result.{Result}
 use Rattle.std.specs.declared.option.Option.{Option}
+use Rattle.abc_format.specs.declared.reason.Reason.{Reason}
 use Rattle.abc_format.specs.declared.reason.Reason.TheVariants as reasons
 use Rattle.abc_format.specs.Part.{limit}
 use Rattle.abc_varint.specs.declared.error.ReadError.{ReadError}
@@ -10,28 +11,54 @@ use Rattle.abc_varint.specs.declared.error.ReadError.TheVariants as errors
 pub record View : Type 0 where
   -- of the next byte
   pub place : ℕ
-  -- taken from the source, and not read yet
-  pub held : List ℕ
+  -- every byte that was taken from the source, in their order
+  pub taken : List ℕ
   -- the Err that every later read answers
   pub kept : Option ReadError
   -- no byte from this place on is read
   pub end : ℕ
 
--- The next byte of a window that keeps nothing, where nothing else can be taken from the source.
-abbrev pub NextHere : ℕ → ℕ → List ℕ → View → Result ℕ ReadError → Type 0
-NextHere end place [] new r = (r ≡ Err (errors.Refused place reasons.Short)) × (new ≡ record { place = place; held = []; kept = Some (errors.Refused place reasons.Short); end = end })
-NextHere end place (x ∷ rest) new r =
-    ((place < limit) × (r ≡ Ok x) × (new ≡ record { place = place + 1; held = rest; kept = None; end = end }))
-    ⊎ ((limit ≤ place) × (r ≡ Err (errors.Refused place reasons.FileTooLong)) × (new ≡ record { place = place; held = x ∷ rest; kept = Some (errors.Refused place reasons.FileTooLong); end = end }))
+-- taken from the source, and not read yet
+abbrev pub held : View → List ℕ
+held w = drop w.place w.taken
 
-abbrev pub NextOf : ℕ → ℕ → List ℕ → View → Result ℕ ReadError → Type 0
-NextOf end place held new r =
-    ((end ≤ place) × (r ≡ Err (errors.Refused place reasons.CodeEnds)) × (new ≡ record { place = place; held = held; kept = Some (errors.Refused place reasons.CodeEnds); end = end }))
-    ⊎ ((place < end) × NextHere end place held new r)
-
--- the window, n of the bytes that it holds further on
+-- the window, n bytes further on
 abbrev pub onward : ℕ → View → View
-onward n w = record { place = w.place + n; held = drop n w.held; kept = w.kept; end = w.end }
+onward n w = record { place = w.place + n; taken = w.taken; kept = w.kept; end = w.end }
+
+-- ---- what is kept
+
+abbrev pub kept_reason : Reason → ReadError → Option ReadError
+kept_reason reasons.Short e = Some e
+kept_reason reasons.LongNumber e = Some e
+kept_reason reasons.BigNumber e = Some e
+kept_reason reasons.CodeEnds e = Some e
+kept_reason reasons.FileTooLong e = Some e
+kept_reason _ e = None
+
+-- A window keeps an Err of a byte or a number that can't be read, and no other.
+abbrev pub kept_of : ReadError → Option ReadError
+kept_of (errors.Refused place reason) = kept_reason reason (errors.Refused place reason)
+kept_of errors.ReadFault = Some errors.ReadFault
+kept_of errors.NoMemory = None
+
+-- The window keeps it.
+abbrev pub IsKept : ReadError → View → Type 0
+IsKept e w = (w.kept ≡ Some e) × (kept_of e ≡ Some e)
+
+-- ---- the next byte
+
+-- The next byte of a window that keeps nothing, where nothing else can be taken from the source.
+abbrev pub NextHere : View → List ℕ → View → Result ℕ ReadError → Type 0
+NextHere w [] new r = (r ≡ Err (errors.Refused w.place reasons.Short)) × (new ≡ record w { kept = Some (errors.Refused w.place reasons.Short) })
+NextHere w (x ∷ rest) new r =
+    ((w.place < limit) × (r ≡ Ok x) × (new ≡ onward 1 w))
+    ⊎ ((limit ≤ w.place) × (r ≡ Err (errors.Refused w.place reasons.FileTooLong)) × (new ≡ record w { kept = Some (errors.Refused w.place reasons.FileTooLong) }))
+
+abbrev pub NextOf : View → View → Result ℕ ReadError → Type 0
+NextOf w new r =
+    ((w.end ≤ w.place) × (r ≡ Err (errors.Refused w.place reasons.CodeEnds)) × (new ≡ record w { kept = Some (errors.Refused w.place reasons.CodeEnds) }))
+    ⊎ ((w.place < w.end) × NextHere w (held w) new r)
 
 -- The window went over at least so many bytes, each of them before its end.
 abbrev pub Passes : ℕ → View → View → Type 0

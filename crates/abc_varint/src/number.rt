@@ -1,8 +1,8 @@
-ghost use Rattle.std.specs.Prelude.{◌≡◌, ◌≤◌, ◌<◌, ◌*◌, ◌+◌, ◌%◌, ◌^◌, Some, Err, IfOk, IfErr, OnOk, length, take};
+ghost use Rattle.std.specs.Prelude.{◌≡◌, ◌≤◌, ◌<◌, ◌*◌, ◌+◌, ◌%◌, ◌^◌, Some, Err, IfOk, IfErr, OnErr, OnOk, length, take};
 ghost use Rattle.abc_base.specs.Numbers.{number_bytes, signed24};
 ghost use Rattle.abc_format.specs.Numbers.{groups, number, u16 as two_bytes, u30 as small, u32 as wide, s24 as offset, s32 as signed, index_below as below, pool_index as in_pool, entry_index as of_entry};
 ghost use Rattle.abc_varint.specs.Reads.{Blames, Reads, ReadsNumber, ReadsPart};
-ghost use Rattle.abc_varint.specs.View.{Passes};
+ghost use Rattle.abc_varint.specs.View.{IsKept, Passes};
 ghost use Rattle.abc_varint.specs.declared.error.ReadError.{ReadError};
 
 use crate::error::ReadError;
@@ -22,7 +22,8 @@ fn next_groups<S: Source>(
     ensures value { Reads (groups more start) w.old (S.left source.old) w.new (S.left source.new) result }
     ensures kept { (e : ReadError) → w.old.kept ≡ Some e → 0 < more → result ≡ Err e }
     ensures no_memory { result ≡ Err ReadError.NoMemory → ⊥ }
-    ensures keeps { IfErr result (λ e. w.new.kept ≡ Some e) }
+    ensures keeps { IfErr result (λ e. IsKept e w.new) }
+    ensures stays { OnErr result (w.new.end ≡ w.old.end) }
     ensures bound { IfOk result (λ x. x < 128 ^ more) }
     ensures later { S.faults source.old ≤ S.faults source.new }
     ensures cause { Blames w.old (S.faults source.old) (S.faults source.new) result }
@@ -42,7 +43,7 @@ fn next_groups<S: Source>(
 
 /// A raw value of up to 35 bits.
 #[inline(always)]
-#[tactic(auto, using(crate::proofs::Front::number_taken, crate::proofs::Front::number_passes))]
+#[tactic(auto, using(crate::proofs::Front::number_passes))]
 fn next_number<S: Source>(w: &mut Window, source: &mut S) -> Result<u64, ReadError>
     ensures value { ReadsNumber S.left S.faults number w.old source.old w.new source.new result }
     ensures bound { IfOk result (λ x. x < 2 ^ 35) }

@@ -1,15 +1,16 @@
-ghost use Rattle.std.specs.Prelude.{◌≡◌, ◌+◌, ◌-◌, ◌∷◌, ◌++◌, ◌<◌, ◌≤◌, ◌^◌, ◌⊎◌, List, ℕ, None, Some, IfSome, IfOk, OnOk, OnErr, IfErr, [], true, is_some, length, take, Result, Ok, Err, IsTrue, ◌↔◌};
+ghost use Rattle.std.specs.Prelude.{◌≡◌, ◌+◌, ◌-◌, ◌∷◌, ◌++◌, ◌<◌, ◌≤◌, ◌^◌, ◌⊎◌, List, ℕ, None, Some, IfSome, IfOk, OnOk, OnErr, IfErr, [], true, is_some, length, take, drop, Result, Ok, Err, IsTrue, ◌↔◌};
 ghost use Rattle.std.specs.Io.{ReadsAtMost};
 ghost use Rattle.std.specs.Io.KnownBytes.{ReadConsumes};
 ghost use Rattle.abc_base.specs.Faults.{HasCause, Rose};
 ghost use Rattle.abc_base.specs.Numbers.{SpellsNumber};
 ghost use Rattle.abc_format.specs.Numbers.{u8 as octet};
-ghost use Rattle.abc_varint.specs.View.{NextOf, onward};
+ghost use Rattle.abc_varint.specs.View.{IsKept, NextOf, held, kept_of, onward};
 ghost use Rattle.abc_varint.specs.declared.error.ReadError.{ReadError};
-ghost use Rattle.abc_varint.specs.Reads.{Blames, Reads, stand, tells};
+ghost use Rattle.abc_varint.specs.Reads.{Blames, IsInput, Keeps, Reads, known, stand, told};
 ghost use Rattle.abc_varint.specs.Ready.{IsReady, TakesNumber};
 
 use crate::error::ReadError;
+use crate::taken::Taken;
 use abc_base::{Bytes, Failed, NoMemory, Source};
 use abc_format::Reason;
 use std::alloc::Global;
@@ -25,9 +26,11 @@ const NO_END: u32 = 1 << 25;
 const LIMIT: u32 = 1 << 24;
 
 /// Bytes that were taken from a source, and not read yet, at most 4,096 of them. However much the source gives, at most
-/// 2^24 + 1 bytes are taken from it in all: one more than the longest file has.
+/// 2^24 + 1 bytes are taken from it in all: one more than the longest file has. Clauses see besides every byte that was
+/// taken so far; the program keeps none that was read.
 #[derive(Drop)]
 pub struct Window {
+    taken: Taken,
     block: Vec<u8>,
     from: usize,
     to: usize,
@@ -37,28 +40,28 @@ pub struct Window {
 }
 
 impl Model for Window {
-    ghost use Rattle.std.specs.Prelude.{◌+◌, ◌-◌, ◌≤◌, ◌<◌, ◌^◌, take, drop, length};
-    ghost use Rattle.std.specs.Prelude.{◌≡◌, Some};
-    ghost use Rattle.abc_varint.specs.View.{View};
-    ghost use Rattle.abc_varint.specs.declared.error.ReadError.TheVariants as errors;
+    ghost use Rattle.std.specs.Prelude.{◌≡◌, ◌+◌, ◌-◌, ◌≤◌, ◌<◌, ◌^◌, Some, take, drop, length};
+    ghost use Rattle.abc_varint.specs.View.{View, kept_of};
+    ghost use Rattle.abc_varint.specs.declared.error.ReadError.{ReadError};
 
     ghost Value = { View };
 
-    ghost view = { λ w. record { place = w.place; held = take (w.to - w.from) (drop w.from w.block.items); kept = w.kept; end = w.end } };
+    ghost view = { λ w. record { place = w.place; taken = w.taken.bytes; kept = w.kept; end = w.end } };
 
-    ghost invariant = { λ w. (w.from ≤ w.to) × (w.to ≤ length w.block.items) × (length w.block.items ≡ 4096) × (w.place ≤ 2 ^ 24) × (w.place + (w.to - w.from) ≤ 2 ^ 24 + 1) × (w.kept ≡ Some errors.NoMemory → ⊥) };
+    ghost invariant = { λ w. (w.from ≤ w.to) × (w.to ≤ length w.block.items) × (length w.block.items ≡ 4096) × (w.place ≤ 2 ^ 24) × (w.place + (w.to - w.from) ≤ 2 ^ 24 + 1) × (w.place + (w.to - w.from) ≡ length w.taken.bytes) × (drop w.place w.taken.bytes ≡ take (w.to - w.from) (drop w.from w.block.items)) × ((e : ReadError) → w.kept ≡ Some e → kept_of e ≡ Some e) };
 }
 
 impl Window {
     /// A window at place 0, with no bytes. Its block is made here, once.
     pub fn new(alloc: Global) -> Result<Window, NoMemory>
         ensures place { IfOk result (λ w. w.place ≡ 0) }
-        ensures held { IfOk result (λ w. w.held ≡ []) }
+        ensures taken { IfOk result (λ w. w.taken ≡ []) }
         ensures kept { IfOk result (λ w. w.kept ≡ None) }
         ensures end { IfOk result (λ w. w.end ≡ 2 ^ 25) }
     {
         let block = vec![in alloc; 0u8; BLOCK]?;
         Ok(Window {
+            taken: Taken::new(),
             block,
             from: 0,
             to: 0,
@@ -94,7 +97,8 @@ impl Window {
     /// Keeps a refusal, and gives it: every later read answers it.
     #[cold]
     #[inline(never)]
-    pub fn refuse(&mut self, place: u32, reason: Reason) -> ReadError
+    pub(crate) fn refuse(&mut self, place: u32, reason: Reason) -> ReadError
+        requires { kept_of (ReadError.Refused place reason) ≡ Some (ReadError.Refused place reason) }
         ensures is { result ≡ ReadError.Refused place reason }
         ensures keeps { self.new ≡ record self.old { kept = Some result } }
     {
@@ -103,13 +107,36 @@ impl Window {
         e
     }
 
+    /// Tells the refusal by `CodeEnds` that is kept at another place, and keeps it so.
+    #[cold]
+    #[inline(never)]
+    pub fn blame(&mut self, place: u32) -> ReadError
+        requires { (p : ℕ) × (self.old.kept ≡ Some (ReadError.Refused p Reason.CodeEnds)) }
+        ensures is { result ≡ ReadError.Refused place Reason.CodeEnds }
+        ensures keeps { self.new ≡ record self.old { kept = Some result } }
+    {
+        self.refuse(place, Reason::CodeEnds)
+    }
+
+    /// A window holds at most 4,096 bytes that were taken from its source and not read yet, and takes at most 2^24 + 1 in
+    /// all.
+    pub fn stays_small(&self)
+        ensures held { length (held self.now) ≤ 4096 }
+        ensures taken { length self.now.taken ≤ 2 ^ 24 + 1 }
+    {
+        // So that what holds of every window is known here.
+        let _ = &self.block;
+    }
+
     /// Whether no byte follows, whatever the end is. The source is asked if no byte is held. A kept Err is answered
     /// again. `ReadFault` comes only where the source's count of faults rose, and is kept.
+    #[tactic(auto, using(crate::proofs::Inputs::not_at_end))]
     pub fn is_at_end<S: Source>(&mut self, source: &mut S) -> Result<bool, ReadError>
         ensures ok { OnOk result ((self.old.kept ≡ None) × (self.new.kept ≡ None) × (self.new.place ≡ self.old.place) × (self.new.end ≡ self.old.end)) }
-        ensures same { OnOk result (tells (S.left source.old) ≡ true → (tells (S.left source.new) ≡ true) × (stand self.new (S.left source.new) ≡ stand self.old (S.left source.old))) }
-        ensures value { IfOk result (λ b. tells (S.left source.old) ≡ true → (IsTrue b ↔ ((stand self.old (S.left source.old)).bytes ≡ []))) }
-        ensures keeps { IfErr result (λ e. self.new.kept ≡ Some e) }
+        ensures same { OnOk result ((input : List ℕ) → IsInput self.new (S.left source.new) input → IsInput self.old (S.left source.old) input) }
+        ensures value { IfOk result (λ b. IsTrue b ↔ (drop self.new.place (known self.new (S.left source.new)) ≡ [])) }
+        ensures input { self.old.kept ≡ None → OnErr result (IsInput self.old (S.left source.old) (known self.new (S.left source.new))) }
+        ensures keeps { IfErr result (λ e. IsKept e self.new) }
         ensures kept { (e : ReadError) → self.old.kept ≡ Some e → result ≡ Err e }
         ensures no_memory { result ≡ Err ReadError.NoMemory → ⊥ }
         ensures fault { self.old.kept ≡ None → IfErr result (λ e. e ≡ ReadError.ReadFault) }
@@ -119,16 +146,26 @@ impl Window {
         if let Some(e) = self.kept {
             return Err(e);
         }
-        if self.from == self.to {
-            self.fill(source)?;
+        if !self.is_used_up() {
+            return Ok(false);
         }
-        Ok(self.from == self.to)
+        self.fill(source)?;
+        Ok(self.is_used_up())
+    }
+
+    /// Whether no byte is held.
+    #[inline]
+    fn is_used_up(&self) -> bool
+        ensures { IsTrue result ↔ (held self.now ≡ []) }
+    {
+        self.from == self.to
     }
 
     /// The next byte of those that are held.
     fn next(&mut self) -> Result<u8, ReadError>
         requires { self.old.kept ≡ None }
-        ensures next { NextOf self.old.end self.old.place self.old.held self.new result }
+        ensures next { NextOf self.old self.new result }
+        ensures keeps { IfErr result (λ e. IsKept e self.new) }
         ensures moves { OnOk result (self.new.place ≡ self.old.place + 1) }
         ensures within { OnOk result (self.new.place ≤ self.old.end) }
         ensures no_memory { result ≡ Err ReadError.NoMemory → ⊥ }
@@ -152,9 +189,11 @@ impl Window {
     /// Has a byte at hand, unless nothing is left.
     fn prepare<S: Source>(&mut self, source: &mut S) -> Result<(), ReadError>
         ensures ok { OnOk result ((self.old.kept ≡ None) × (self.new.kept ≡ None) × (self.new.place ≡ self.old.place) × (self.new.end ≡ self.old.end)) }
-        ensures same { OnOk result (tells (S.left source.old) ≡ true → (tells (S.left source.new) ≡ true) × (stand self.new (S.left source.new) ≡ stand self.old (S.left source.old))) }
-        ensures end { OnOk result (self.old.place < self.old.end → self.new.held ≡ [] → tells (S.left source.old) ≡ true → (stand self.new (S.left source.new)).bytes ≡ []) }
-        ensures keeps { IfErr result (λ e. self.new.kept ≡ Some e) }
+        ensures same { OnOk result ((input : List ℕ) → IsInput self.new (S.left source.new) input → IsInput self.old (S.left source.old) input) }
+        ensures end { OnOk result (self.old.place < self.old.end → held self.new ≡ [] → told (S.left source.new) ≡ []) }
+        ensures input { self.old.kept ≡ None → OnErr result (IsInput self.old (S.left source.old) (known self.new (S.left source.new))) }
+        ensures stays { OnErr result (self.new.end ≡ self.old.end) }
+        ensures keeps { IfErr result (λ e. IsKept e self.new) }
         ensures kept { (e : ReadError) → self.old.kept ≡ Some e → result ≡ Err e }
         ensures no_memory { result ≡ Err ReadError.NoMemory → ⊥ }
         ensures fault { self.old.kept ≡ None → IfErr result (λ e. e ≡ ReadError.ReadFault) }
@@ -164,7 +203,7 @@ impl Window {
         if let Some(e) = self.kept {
             return Err(e);
         }
-        if self.from == self.to && self.place < self.end {
+        if self.is_used_up() && self.place < self.end {
             return self.fill(source);
         }
         Ok(())
@@ -172,18 +211,21 @@ impl Window {
 
     /// Takes bytes from the source, where none are held.
     fn fill<S: Source>(&mut self, source: &mut S) -> Result<(), ReadError>
-        requires empty { self.old.held ≡ [] }
+        requires empty { held self.old ≡ [] }
         requires fresh { self.old.kept ≡ None }
         ensures ok { OnOk result ((self.new.kept ≡ None) × (self.new.place ≡ self.old.place) × (self.new.end ≡ self.old.end)) }
-        ensures same { OnOk result (tells (S.left source.old) ≡ true → (tells (S.left source.new) ≡ true) × (stand self.new (S.left source.new) ≡ stand self.old (S.left source.old))) }
-        ensures end { OnOk result (self.new.held ≡ [] → tells (S.left source.old) ≡ true → (stand self.new (S.left source.new)).bytes ≡ []) }
-        ensures keeps { IfErr result (λ e. (e ≡ ReadError.ReadFault) × (self.new.kept ≡ Some e)) }
+        ensures same { OnOk result ((input : List ℕ) → IsInput self.new (S.left source.new) input → IsInput self.old (S.left source.old) input) }
+        ensures end { OnOk result (held self.new ≡ [] → told (S.left source.new) ≡ []) }
+        ensures input { OnErr result (IsInput self.old (S.left source.old) (known self.new (S.left source.new))) }
+        ensures stays { OnErr result (self.new.end ≡ self.old.end) }
+        ensures keeps { IfErr result (λ e. (e ≡ ReadError.ReadFault) × IsKept e self.new) }
         ensures later { S.faults source.old ≤ S.faults source.new }
         ensures cause { OnErr result (Rose (S.faults source.old) (S.faults source.new)) }
     {
         let room = BLOCK.min((LIMIT + 1 - self.place) as usize);
         match read_front(source, &mut self.block, room) {
             Ok(count) => {
+                self.taken.note(&self.block[..count]);
                 self.from = 0;
                 self.to = count;
                 Ok(())
@@ -198,10 +240,10 @@ impl Window {
     /// Moves bytes that are held to the end of `out`, and answers how many: at most `count`, and none that stands at
     /// the end or after it, or past the longest file. Where memory runs out nothing changes.
     pub fn take_held(&mut self, count: u32, out: &mut Bytes) -> Result<u32, NoMemory>
-        ensures few { IfOk result (λ n. (n ≤ count) × (n ≤ length self.old.held)) }
+        ensures few { IfOk result (λ n. (n ≤ count) × (n ≤ length (held self.old))) }
         ensures room { IfOk result (λ n. (0 < n → self.old.place + n ≤ self.old.end) × (self.old.place + n ≤ 2 ^ 24)) }
         ensures window { IfOk result (λ n. self.new ≡ onward n self.old) }
-        ensures bytes { IfOk result (λ n. out.new ≡ out.old ++ take n self.old.held) }
+        ensures bytes { IfOk result (λ n. out.new ≡ out.old ++ take n (held self.old)) }
         ensures same { OnErr result ((self.new ≡ self.old) × (out.new ≡ out.old)) }
     {
         let room = self.end.min(LIMIT).saturating_sub(self.place);
@@ -227,7 +269,7 @@ impl Window {
     /// The bytes that are held: taken from the source, and not read yet.
     #[inline]
     pub fn held(&self) -> &[u8]
-        ensures { result.now ≡ self.now.held }
+        ensures { result.now ≡ held self.now }
     {
         &self.block[self.from..self.to]
     }
@@ -261,9 +303,10 @@ impl Window {
     #[inline(always)]
     pub fn next_u8<S: Source>(&mut self, source: &mut S) -> Result<u8, ReadError>
         ensures value { Reads octet.reads self.old (S.left source.old) self.new (S.left source.new) result }
-        ensures keeps { IfErr result (λ e. self.new.kept ≡ Some e) }
+        ensures keeps { IfErr result (λ e. IsKept e self.new) }
         ensures moves { OnOk result (self.new.place ≡ self.old.place + 1) }
         ensures within { OnOk result (self.new.place ≤ self.old.end) }
+        ensures stays { OnErr result (self.new.end ≡ self.old.end) }
         ensures kept { (e : ReadError) → self.old.kept ≡ Some e → result ≡ Err e }
         ensures no_memory { result ≡ Err ReadError.NoMemory → ⊥ }
         ensures later { S.faults source.old ≤ S.faults source.new }
@@ -284,9 +327,10 @@ impl Window {
     #[inline(never)]
     fn fetch_u8<S: Source>(&mut self, source: &mut S) -> Result<u8, ReadError>
         ensures value { Reads octet.reads self.old (S.left source.old) self.new (S.left source.new) result }
-        ensures keeps { IfErr result (λ e. self.new.kept ≡ Some e) }
+        ensures keeps { IfErr result (λ e. IsKept e self.new) }
         ensures moves { OnOk result (self.new.place ≡ self.old.place + 1) }
         ensures within { OnOk result (self.new.place ≤ self.old.end) }
+        ensures stays { OnErr result (self.new.end ≡ self.old.end) }
         ensures kept { (e : ReadError) → self.old.kept ≡ Some e → result ≡ Err e }
         ensures no_memory { result ≡ Err ReadError.NoMemory → ⊥ }
         ensures later { S.faults source.old ≤ S.faults source.new }

@@ -1,7 +1,8 @@
-use Rattle.std.proofs.Common.{◌≡◌, ◌-◌, ◌+◌, ◌∷◌, ◌++◌, [], suc, arith}
+use Rattle.std.proofs.Common.{◌≡◌, ◌-◌, ◌+◌, ◌∷◌, ◌++◌, [], suc, arith, ◌∙◌}
 use Rattle.std.proofs.lemmas.Result.{err_from_is_err_and}
 use Rattle.abc_format.specs.Numbers.{u8}
 use Rattle.abc_varint.specs.declared.error.ReadError.TheVariants as errors
+use Rattle.abc_varint.specs.View.{held}
 use Rattle.abc_varint.proofs.Chunks.{far_length, goes_far, more_length}
 use Rattle.abc_varint.proofs.Loop.{ends, goes_on, other_err, starts}
 use Rattle.abc_varint.proofs.text.gather_bytes.Goals as goal
@@ -15,7 +16,7 @@ loop-missing-init g c =
     rw (t.bytes, t.window, c.new-bytes.ensures) (
       goes_far n count (count - 0) (count - n) [] _ _ _ _ all t.few.1 t.room.0 t.room.1 (starts u8 count c.args.w.now (g.S.Source.left c.args.source.now) c.requires),
       omega arith,
-      far_length n (count - n) (count - 0) count [] c.args.w.now.held all t.few.1 (omega arith),
+      far_length n (count - n) (count - 0) count [] (held c.args.w.now) all t.few.1 (omega arith),
     )
 
 pub returns-in_err-x-clause-value : goal.returns-in_err-x-clause-value
@@ -24,10 +25,11 @@ returns-in_err-x-clause-value g c =
     let e = c.in_err-x.ensures in
     let i = c.loop-missing.invariant in
     rw (p.1, p.2) (
-      (λ k t. ends c.in_err-x.field-0.0 u8 c.args.count c.loop-missing.missing c.loop-missing.bytes _ _ _ _ (omega arith) i.0 e.value t),
+      (λ k. ends c.in_err-x.field-0.0 u8 c.args.count c.loop-missing.missing c.loop-missing.bytes _ _ _ _ _ (omega arith) i.0 (e.value i.0.fresh)),
       (λ d h. absurd (let k = c.requires in cc)),
       omega (arith, i.1, e.later),
       (λ k h. let r = e.cause i.0.fresh (other_err c.in_err-x.field-0.0 errors.ReadFault h) in omega (arith, i.1, r)),
+      (let q = e.keeps in cc, e.stays ∙ i.0.ends_at),
     )
 
 pub loop-missing-preserved : goal.loop-missing-preserved

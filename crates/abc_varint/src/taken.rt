@@ -1,0 +1,32 @@
+//! Bytes that only clauses read. They take no memory, and nothing is done with them when the program runs.
+ghost use Rattle.std.specs.Prelude.{◌≡◌, ℕ, List, [], ◌++◌};
+ghost use Rattle.std.specs.Borrow.{ftrue};
+
+use std::marker::{Model, PhantomData};
+
+/// The bytes that were taken from a source so far, in their order.
+#[derive(Drop)]
+pub struct Taken {
+    marker: PhantomData<u8>,
+    pub ghost bytes: { List ℕ },
+}
+
+impl Model for Taken {
+    ghost also_owns = { λ _. ftrue };
+}
+
+impl Taken {
+    /// No bytes.
+    pub fn new() -> Taken
+        ensures { result.bytes ≡ [] }
+    {
+        Taken {
+            marker: PhantomData,
+        }
+    }
+
+    /// These bytes were taken too.
+    pub fn note(&mut self, _piece: &[u8])
+        ensures { self.new.bytes ≡ self.old.bytes ++ _piece.now }
+    {}
+}
