@@ -102,6 +102,10 @@ multiname_kind_in wide = image multiname_kind_of (checked (is_multiname_kind wid
 unfoldable pub multiname_kind : Part MultinameKind
 multiname_kind = multiname_kind_in true
 
+-- a base and a count of parameters, where there are so many multinames: they may name any of them
+abbrev pub type_fields : ℕ → Part (ℕ × List ℕ)
+type_fields all = both (entry_index all) (counted (pool_index all))
+
 -- the fields of each kind, where there are so many strings, namespaces, sets and multinames
 abbrev pub multiname_fields : ℕ → ℕ → ℕ → ℕ → MultinameKind → Part Multiname
 multiname_fields strings spaces sets all (kinds.QName attr) = image (λ x. names.QName attr x.0 x.1) (both (pool_index spaces) (pool_index strings))
@@ -109,7 +113,7 @@ multiname_fields strings spaces sets all (kinds.Rt attr) = image (λ x. names.Rt
 multiname_fields strings spaces sets all (kinds.RtL attr) = done (names.RtL attr)
 multiname_fields strings spaces sets all (kinds.Multi attr) = image (λ x. names.Multi attr x.0 x.1) (both (pool_index strings) (entry_index sets))
 multiname_fields strings spaces sets all (kinds.MultiL attr) = image (λ x. names.MultiL attr x) (entry_index sets)
-multiname_fields strings spaces sets all kinds.TypeName = image (λ x. names.TypeName x.0 x.1) (both (entry_index all) (counted (pool_index all)))
+multiname_fields strings spaces sets all kinds.TypeName = image (λ x. names.TypeName x.0 x.1) (type_fields all)
 
 abbrev pub multiname_of : Part MultinameKind → ℕ → ℕ → ℕ → ℕ → Part Multiname
 multiname_of kind strings spaces sets all = image (λ x. x.1) (then_by kind (multiname_fields strings spaces sets all))
@@ -166,13 +170,16 @@ with_pools x = record empty {
 }
 
 -- the pools in their order, as a value whose other tables are empty
-unfoldable pub pools : Part Abc
-pools =
+abbrev pub pools_of : (ℕ → ℕ → ℕ → Part (List Multiname)) → Part Abc
+pools_of multinames =
     image with_pools
     (both (pool s32) (both (pool u32) (both (pool double) (then_by (pool text) (λ strings.
     then_by (pool (namespace (length strings))) (λ spaces.
     then_by (pool (namespace_set (length spaces))) (λ sets.
     multinames (length strings) (length spaces) (length sets))))))))
+
+unfoldable pub pools : Part Abc
+pools = pools_of multinames
 
 unfoldable pub pools_bytes : Abc → List ℕ
 pools_bytes v =
