@@ -1,12 +1,13 @@
 -- Bodies are passed one after the other, with a flag for each method that has one.
-use Rattle.std.proofs.Common.{◌≡◌, ℕ, suc, ◌+◌, ◌-◌, ◌<◌, ◌≤◌, Bool, true, false, List, [], ◌∷◌, ◌++◌, length, map, set, Ok, Err, None, Some, refl, sym, ap, ◌∙◌, length-append, length-set, arith}
+use Rattle.std.proofs.Common.{◌≡◌, ℕ, suc, ◌+◌, ◌-◌, ◌<◌, ◌≤◌, Bool, true, false, List, [], ◌∷◌, ◌++◌, length, map, set, Ok, Err, None, Some, refl, sym, subst, ap, ◌∙◌, length-append, length-set, arith}
 use Rattle.std.specs.Prelude.{replicate, slice_get}
 use Rattle.std.specs.List.{flat_map}
 use Rattle.std.specs.declared.option.Option.{Option}
+use Rattle.std.specs.declared.result.Result.{Result}
 use Rattle.std.proofs.lemmas.List.{append-nil, flat_map_more, length-replicate, map-append}
 use Rattle.std.proofs.lemmas.Option.{slice_get_within}
 use Rattle.abc_format.specs.Lists.{chain}
-use Rattle.abc_format.specs.Part.{At, ◌>>=◌}
+use Rattle.abc_format.specs.Part.{At, Refusal, ◌>>=◌}
 use Rattle.abc_tables.specs.declared.code.Body.{Body}
 use Rattle.abc_tables.specs.declared.tables.Sizes.{Sizes}
 use Rattle.abc_tables.specs.declared.tables.Abc.{Abc}
@@ -15,11 +16,10 @@ use Rattle.abc_tables.specs.Classes.{sizes_of}
 use Rattle.abc_varint.specs.declared.error.ReadError.{ReadError}
 use Rattle.abc_varint.specs.Passes.{Passes}
 use Rattle.abc_varint.specs.View.{View}
-use Rattle.abc_varint.specs.Reads.{Reads, stand, tells}
-use Rattle.abc_traits.proofs.Filling.{reads_alike}
+use Rattle.abc_varint.specs.Reads.{Reads, Fails, IsInput, known, stand}
 use Rattle.abc_bodies.specs.Reading.{free_body}
 use Rattle.abc_bodies.proofs.Alike.{IsFlagged, flags_up, free_body-alike, no_flags}
-use Rattle.abc_bodies.proofs.Chaining.{Chaining, chain_begins, chain_done, chain_fails, chain_goes_on}
+use Rattle.abc_bodies.proofs.Chaining.{chain_begins, chain_ends, chain_step, chain_stops}
 use Rattle.abc_bodies.proofs.Collecting.{next_body}
 
 abbrev pub entry_bytes : Body × List ℕ → List ℕ
@@ -37,24 +37,21 @@ pub record PassesOn (v : Sizes) (total more : ℕ) (flags : List Bool) (old new 
   pub fresh : w.kept ≡ None
   pub forth : w0.place ≤ w.place
   pub ends_at : w.end ≡ w0.end
-  pub told : tells s0 ≡ true → tells s ≡ true
+  pub told : (input : List ℕ) → IsInput w s input → IsInput w0 s0 input
   pub count : length flags ≡ v.methods
-  pub same : tells s0 ≡ true → Middle v total more flags (stand w0 s0) (stand w s) old new
+  pub same : (input : List ℕ) → IsInput w s input → Middle v total more flags (stand w0 input) (stand w input) old new
 
 module _ (v : Sizes) (total : ℕ) (w0 : View) (s0 : Option (List ℕ)) (old : List ℕ) where
-  chaining : (more : ℕ) (flags : List Bool) (new : List ℕ) (w : View) (s : Option (List ℕ)) (g : PassesOn v total more flags old new w0 s0 w s) (m : Middle v total more flags (stand w0 s0) (stand w s) old new) → Chaining (next_body v) total more m.before w0 s0 w s
-  chaining more flags new w s g m = record { fresh = g.fresh; forth = g.forth; ends_at = g.ends_at; told = g.told; same = λ t. m.read }
-
   pub begins : (flags : List Bool) → flags ≡ replicate v.methods false → w0.kept ≡ None → PassesOn v total (total - 0) flags old old w0 s0 w0 s0
   begins flags is fresh = record {
     fresh = fresh;
     forth = omega arith;
     ends_at = refl;
-    told = λ t. t;
+    told = λ input is. is;
     count = ap length is ∙ length-replicate v.methods false;
-    same = λ t. record {
+    same = λ input known. record {
       before = [];
-      read = (chain_begins (next_body v) total w0 s0 fresh).same t;
+      read = (chain_begins (next_body v) total w0 s0 fresh).same input known;
       flagged = rw is (no_flags v.methods);
       many = omega arith;
       bytes = sym (append-nil old);
@@ -68,17 +65,17 @@ module _ (v : Sizes) (total : ℕ) (w0 : View) (s0 : Option (List ℕ)) (old : L
     fresh = r.1;
     forth = omega (arith, g.forth, r.2);
     ends_at = r.3 ∙ g.ends_at;
-    told = λ t. (r.4 (g.told t)).0;
+    told = λ input is. g.told input (r.4 input is).0;
     count = length-set flags method true ∙ g.count;
-    same = λ t.
-        let m = g.same t in
-        let a = r.4 (g.told t) in
+    same = λ input is.
+        let a = r.4 input is in
+        let m = g.same input a.0 in
         let x = a.1 in
-        let read = reads_alike _ _ (free_body-alike v flags (methods_of m.before) g.count m.flagged) w s w2 s2 (Ok x.value) (r.0, r.1, r.2, r.3, λ u. (a.0, x.read)) in
+        let read : (next_body v m.before).reads (stand w input) ≡ Ok (x.value, stand w2 input) = sym ((free_body-alike v flags (methods_of m.before) g.count m.flagged).same (stand w input)) ∙ x.read in
         let methods : methods_of (m.before ++ x.value ∷ []) ≡ methods_of m.before ++ method ∷ [] = map-append (λ (y : Body × List ℕ). y.0.method) m.before (x.value ∷ []) ∙ ap (λ (n : ℕ). methods_of m.before ++ n ∷ []) (sym x.tells) in
         record {
           before = m.before ++ x.value ∷ [];
-          read = (chain_goes_on (next_body v) total more less m.before w0 s0 w s w2 s2 x.value k (chaining more flags new w s g m) read).same t;
+          read = chain_step (next_body v) total more m.before (stand w0 input) (stand w input) m.read less x.value (stand w2 input) k read;
           flagged = rw methods (flags_up flags (methods_of m.before) method (slice_get_within flags method false free) m.flagged);
           many = omega (arith, k, m.many, length-append m.before (x.value ∷ []));
           bytes = x.bytes ∙ ap (λ (u : List ℕ). u ++ body_bytes x.value.0) m.bytes ∙ flat_map_more entry_bytes old m.before x.value;
@@ -87,10 +84,12 @@ module _ (v : Sizes) (total : ℕ) (w0 : View) (s0 : Option (List ℕ)) (old : L
 
   pub fails : {T : Type 0} (told : List (Body × List ℕ) → T) (e : ReadError) (more : ℕ) (flags : List Bool) (new new2 : List ℕ) (w : View) (s : Option (List ℕ)) (w2 : View) (s2 : Option (List ℕ))
       → 0 < more → PassesOn v total more flags old new w0 s0 w s → Reads (free_body v flags).reads w s w2 s2 (Err e) → Passes (chain total (next_body v) []) (flat_map entry_bytes) told w0 s0 w2 s2 old new2 (Err e)
-  fails told e more flags new new2 w s w2 s2 lt g r = λ fresh t.
-      let m = g.same t in
-      let read = reads_alike _ _ (free_body-alike v flags (methods_of m.before) g.count m.flagged) w s w2 s2 (Err e) r in
-      chain_fails (next_body v) e total more m.before w0 s0 w s w2 s2 lt (chaining more flags new w s g m) read fresh t
+  fails told e more flags new new2 w s w2 s2 lt g r = λ fresh.
+      let input = known w2 s2 in
+      let h = r g.fresh in
+      let m = g.same input h.0 in
+      let next = subst (λ (z : Result ((Body × List ℕ) × At) Refusal). Fails e z) ((free_body-alike v flags (methods_of m.before) g.count m.flagged).same (stand w input)) h.1 in
+      (g.told input h.0, chain_stops (next_body v) total more m.before (stand w0 input) (stand w input) m.read e lt next)
 
   pub passed : (more : ℕ) (flags : List Bool) (new : List ℕ) (w : View) (s : Option (List ℕ))
       → more ≡ 0 → w0.kept ≡ None → PassesOn v total more flags old new w0 s0 w s → Passes (chain total (next_body v) []) (flat_map entry_bytes) length w0 s0 w s old new (Ok total)
@@ -99,10 +98,9 @@ module _ (v : Sizes) (total : ℕ) (w0 : View) (s0 : Option (List ℕ)) (old : L
     g.fresh,
     g.forth,
     g.ends_at,
-    λ t.
-        let m = g.same t in
-        let r = chain_done (next_body v) total more m.before w0 s0 w s k fresh (chaining more flags new w s g m) in
-        (g.told t, record { value = m.before; read = (r.4 t).1; bytes = m.bytes; tells = omega (arith, k, m.many) }),
+    λ input is.
+        let m = g.same input is in
+        (g.told input is, record { value = m.before; read = chain_ends (next_body v) total more m.before (stand w0 input) (stand w input) m.read k; bytes = m.bytes; tells = omega (arith, k, m.many) }),
   )
 
 -- ---- bodies beside the other tables

@@ -15,7 +15,7 @@ use Rattle.abc_tables.specs.Traits.{trait_bytes, trait_info}
 use Rattle.abc_varint.specs.declared.error.ReadError.{ReadError}
 use Rattle.abc_varint.specs.declared.error.ReadError.TheVariants as errors
 use Rattle.abc_varint.specs.Passes.{Passes, nothing}
-use Rattle.abc_varint.specs.Reads.{Fails, stand, tells}
+use Rattle.abc_varint.specs.Reads.{Fails, IsInput, stand}
 use Rattle.abc_varint.specs.View.{View}
 use Rattle.abc_instr.specs.Marks.{moved_in}
 use Rattle.abc_bodies.specs.Moved.{moved_bytes, moved_handler}
@@ -63,21 +63,21 @@ read_moved v c marks from after hs same e =
     mapped (map (move os ms)) ((counted (handler v os)).reads from) hs after (sym (handlers_move os ms v from) ∙ h)
 
 module _ (v : Sizes) (marks : ℕ → Option ℕ) (old b1 : List ℕ) (w : View) (s : Option (List ℕ)) (w1 : View) (s1 : Option (List ℕ)) (p : Passes code code_of moved_in w s w1 s1 old b1 (Ok marks)) where
-  pub handlers_fail : (e : ReadError) → (w1.kept ≡ None → tells s1 ≡ true → Fails e ((counted (moved_handler v marks)).reads (stand w1 s1))) → w.kept ≡ None → tells s ≡ true → Fails e ((rest v).reads (stand w s))
-  handlers_fail e f k t =
-      let a = p.4 t in
+  pub handlers_fail : (e : ReadError) (input : List ℕ) → IsInput w1 s1 input × Fails e ((counted (moved_handler v marks)).reads (stand w1 input)) → IsInput w s input × Fails e ((rest v).reads (stand w input))
+  handlers_fail e input f =
+      let a = p.4 input f.0 in
       let x = a.1 in
-      handlers_refused e v x.value (stand w s) (stand w1 s1) x.read (unmoved e v x.value marks (stand w1 s1) x.tells (f p.1 a.0))
+      (a.0, handlers_refused e v x.value (stand w input) (stand w1 input) x.read (unmoved e v x.value marks (stand w1 input) x.tells f.1))
 
   module _ (b2 : List ℕ) (n : ℕ) (w2 : View) (s2 : Option (List ℕ)) (q : Passes (counted (moved_handler v marks)) (counted_bytes moved_bytes) length w1 s1 w2 s2 b1 b2 (Ok n)) where
-    pub traits_fail : (e : ReadError) → (w2.kept ≡ None → tells s2 ≡ true → Fails e ((counted (trait_info v)).reads (stand w2 s2))) → w.kept ≡ None → tells s ≡ true → Fails e ((rest v).reads (stand w s))
-    traits_fail e f k t =
-        let a = p.4 t in
+    pub traits_fail : (e : ReadError) (input : List ℕ) → IsInput w2 s2 input × Fails e ((counted (trait_info v)).reads (stand w2 input)) → IsInput w s input × Fails e ((rest v).reads (stand w input))
+    traits_fail e input f =
+        let b = q.4 input f.0 in
+        let a = p.4 input b.0 in
         let x = a.1 in
-        let b = q.4 a.0 in
         let y = b.1 in
-        let h = read_moved v x.value marks (stand w1 s1) (stand w2 s2) y.value x.tells y.read in
-        traits_refused e v x.value (stand w s) (stand w1 s1) (stand w2 s2) h.value x.read h.read (f q.1 b.0)
+        let h = read_moved v x.value marks (stand w1 input) (stand w2 input) y.value x.tells y.read in
+        (a.0, traits_refused e v x.value (stand w input) (stand w1 input) (stand w2 input) h.value x.read h.read f.1)
 
     pub rest_passes : (new : List ℕ) (m : ℕ) (w3 : View) (s3 : Option (List ℕ)) → Passes (counted (trait_info v)) (counted_bytes trait_bytes) length w2 s2 w3 s3 b2 new (Ok m) → Passes (rest v) rest_bytes nothing w s w3 s3 old new (Ok tt)
     unfolding rest rest_bytes
@@ -86,18 +86,18 @@ module _ (v : Sizes) (marks : ℕ → Option ℕ) (old b1 : List ℕ) (w : View)
       r.1,
       omega (arith, p.2, q.2, r.2),
       r.3 ∙ q.3 ∙ p.3,
-      λ t.
-          let a = p.4 t in
+      λ input is.
+          let d = r.4 input is in
+          let b = q.4 input d.0 in
+          let a = p.4 input b.0 in
           let x = a.1 in
-          let b = q.4 a.0 in
           let y = b.1 in
-          let d = r.4 b.0 in
           let z = d.1 in
           let os = x.value.offsets in
           let ms = canonical_starts x.value.instrs in
-          let h = read_moved v x.value marks (stand w1 s1) (stand w2 s2) y.value x.tells y.read in
+          let h = read_moved v x.value marks (stand w1 input) (stand w2 input) y.value x.tells y.read in
           let puts : b2 ≡ b1 ++ counted_bytes (handler_bytes ms) h.value = y.bytes ∙ ap (λ (l : List ℕ). b1 ++ l) (ap (counted_bytes moved_bytes) h.is ∙ bytes_moved os ms h.value) in (
-            d.0,
+            a.0,
             record {
               value = (x.value, (h.value, z.value));
               read = rw (x.read, h.read, z.read) refl;

@@ -158,7 +158,10 @@ fn pass_place<S: Source>(
             put_u30(moved, out)?;
             Ok(())
         }
-        None => Err(w.refuse(place, Reason::HandlerRange)),
+        None => Err(ReadError::Refused {
+            place,
+            reason: Reason::HandlerRange,
+        }),
     }
 }
 

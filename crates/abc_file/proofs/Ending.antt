@@ -1,55 +1,105 @@
 -- What reading the parts of a file, and then asking for more, says of the whole input.
-use Rattle.std.proofs.Common.{◌≡◌, inl, inr, ℕ, List, ◌++◌, ◌∷◌, length, length-append, arith, Bool, false, Ok, Err, None, Some, [], true, refl, ap, ◌∙◌}
-use Rattle.std.specs.Prelude.{All, IfSome, IfOk, IfErr, OnOk, IsTrue, ◌↔◌, if◌then◌else◌}
+use Rattle.std.proofs.Common.{◌≡◌, inl, inr, ℕ, List, ◌++◌, ◌∷◌, length, length-append, arith, Ok, Err, None, Some, [], drop, refl, subst, sym, ap, ◌∙◌}
+use Rattle.std.specs.Prelude.{◌≢◌}
+use Rattle.std.proofs.Math.Seq.{take-append_seam}
 use Rattle.std.specs.declared.result.Result.{Result}
 use Rattle.std.specs.declared.option.Option.{Option}
 use Rattle.abc_format.specs.declared.reason.Reason.TheVariants as reasons
-use Rattle.abc_format.specs.Part.{At, at, refusal}
+use Rattle.abc_format.specs.Part.{At, at, Begins, Refusal, refusal}
 use Rattle.abc_varint.specs.declared.error.ReadError.{ReadError}
 use Rattle.abc_varint.specs.declared.error.ReadError.TheVariants as errors
 use Rattle.abc_varint.specs.View.{View}
-use Rattle.abc_varint.specs.Reads.{Reads, tells, stand}
-use Rattle.abc_varint.proofs.Answering.{answers_all}
+use Rattle.abc_varint.specs.Reads.{Fails, IsInput, Reads, known, stand, told}
+use Rattle.abc_varint.proofs.Inputs.{known_is}
 use Rattle.abc_tables.specs.declared.tables.Abc.{Abc}
-use Rattle.abc_tables.specs.Bodies.{IsReadyBody}
-use Rattle.abc_tables.specs.Files.{file_read, IsBadFile}
-use Rattle.abc_tables.proofs.Whole.{file_read-exact, read_bad, read_begins, whole_begins}
-use Rattle.abc_file.specs.Reading.{AnswersFile, IsNew, IsTrailing, IsUsedUp}
+use Rattle.abc_tables.specs.Files.{file, file_read, Fits, IsBadFile, IsFile}
+use Rattle.abc_tables.proofs.Whole.{file_read-exact, read_bad, read_begins, read_spelled, whole_begins}
+use Rattle.abc_file.specs.Reading.{AnswersFile, IsEnd, IsNew, IsTrailing, IsUsedUp, OfInput, Refuses}
 
-refused : (b : List ℕ) (w2 : View) (s2 : Option (List ℕ)) (e : ReadError) (w : View) → IsNew w → Reads file_read.reads w (Some b) w2 s2 (Err e) → AnswersFile b (Err e)
-refused b w2 s2 (errors.Refused place reason) w n r = inl (read_bad (at 0 b) (refusal place reason) (answers_all file_read file_read-exact w w2 (Some b) s2 (Err (errors.Refused place reason)) n.place n.held n.kept n.end r))
-refused b w2 s2 errors.ReadFault w n r = tt
-refused b w2 s2 errors.NoMemory w n r = tt
+-- ---- the input of a new window
 
-pub all_refused : (w w2 : View) (s s2 : Option (List ℕ)) (e : ReadError) → IsNew w → Reads file_read.reads w s w2 s2 (Err e) → IfSome s (λ b. AnswersFile b (Err e))
-all_refused w w2 None s2 e n r = tt
-all_refused w w2 (Some b) s2 e n r = refused b w2 s2 e w n r
+pub of_input : (P : List ℕ → Type 0) (w : View) (s : Option (List ℕ)) (input : List ℕ) → IsNew w → IsInput w s input → P input → OfInput s P
+of_input P w None input n is p = (input, p)
+of_input P w (Some b) input n is p = let e : input ≡ b = is ∙ ap (λ (t : List ℕ). t ++ b) n.taken in subst P e p
 
-pub all_read : (w w2 : View) (s s2 : Option (List ℕ)) (v : Abc × List (List ℕ)) → IsNew w → Reads file_read.reads w s w2 s2 (Ok v) → (tells s2 ≡ true → (stand w2 s2).bytes ≡ []) → IfSome s (λ b. AnswersFile b (Ok v))
-all_read w w2 None s2 v n r end = tt
-all_read w w2 (Some b) s2 v n r end =
-    whole_begins file_read v b (stand w2 s2) (answers_all file_read file_read-exact w w2 (Some b) s2 (Ok v) n.place n.held n.kept n.end r) (end (r.4 refl).0)
+-- a fault of no byte is that of any input
+pub of_any : (P : List ℕ → Type 0) (s : Option (List ℕ)) → ((input : List ℕ) → P input) → OfInput s P
+of_any P None p = ([], p [])
+of_any P (Some b) p = p b
 
-more : (w w2 : View) (b : List ℕ) (s2 : Option (List ℕ)) (v : Abc × List (List ℕ)) (e : ReadError) → IsNew w → Reads file_read.reads w (Some b) w2 s2 (Ok v) → IsTrailing w2 s2 e → AnswersFile b (Err e)
-more w w2 b s2 v (errors.Refused place reason) n r t =
-    let bad : IsBadFile b (refusal w2.place reasons.Trailing) = inr (v.0, stand w2 s2, read_begins (at 0 b) v (stand w2 s2) (answers_all file_read file_read-exact w w2 (Some b) s2 (Ok v) n.place n.held n.kept n.end r), t.2 (r.4 refl).0, refl) in
-    rw (t.0, t.1) bad
-more w w2 b s2 v errors.ReadFault n r t = tt
-more w w2 b s2 v errors.NoMemory n r t = tt
+pub begins : (w : View) (input : List ℕ) → IsNew w → stand w input ≡ at 0 input
+begins w input n = rw (n.place, n.end) refl
 
-pub more_follows : (w w2 : View) (s s2 : Option (List ℕ)) (v : Abc × List (List ℕ)) (e : ReadError) → IsNew w → Reads file_read.reads w s w2 s2 (Ok v) → IsTrailing w2 s2 e → IfSome s (λ b. AnswersFile b (Err e))
-more_follows w w2 None s2 v e n r t = tt
-more_follows w w2 (Some b) s2 v e n r t = more w w2 b s2 v e n r t
+-- ---- what was read of it
 
-no_rest : (held rest : List ℕ) → held ++ rest ≡ [] → rest ≡ []
-no_rest held [] e = refl
-no_rest held (x ∷ rest) e = absurd (omega (arith, ap length e, length-append held (x ∷ rest)))
+refused : (b : List ℕ) (e : ReadError) → Fails e (file_read.reads (at 0 b)) → Refuses e b
+refused b (errors.Refused place reason) f = inl (read_bad (at 0 b) (refusal place reason) (file_read-exact.refused (at 0 b) (refusal place reason) (omega arith) f))
+refused b errors.ReadFault f = tt
+refused b errors.NoMemory f = tt
 
-left_none : (w w2 : View) (b : List ℕ) (s2 : Option (List ℕ)) → (stand w (Some b)).bytes ≡ [] → tells s2 ≡ true → stand w2 s2 ≡ stand w (Some b) → s2 ≡ Some []
-left_none w w2 b None none told same = absurd (let e = told in cc)
-left_none w w2 b (Some rest) none told same = ap (λ (l : List ℕ). Some l) (no_rest w2.held rest (ap (λ (a : At). a.bytes) same ∙ none))
+-- some input is refused so
+pub part_refused : (w : View) (s : Option (List ℕ)) (input : List ℕ) (e : ReadError) → IsNew w → IsInput w s input × Fails e (file_read.reads (stand w input)) → OfInput s (Refuses e)
+part_refused w s input e n f = of_input (Refuses e) w s input n f.0 (refused input e (subst (λ (a : At). Fails e (file_read.reads a)) (begins w input n) f.1))
 
--- nothing of the input is left where nothing follows the file
-pub used_up : (w w2 : View) (s s2 : Option (List ℕ)) → (tells s ≡ true → (stand w s).bytes ≡ []) → (tells s ≡ true → (tells s2 ≡ true) × (stand w2 s2 ≡ stand w s)) → IsUsedUp s s2
-used_up w w2 None s2 none same = tt
-used_up w w2 (Some b) s2 none same = left_none w w2 b s2 (none refl) (same refl).0 (same refl).1
+pub begun : (w : View) (input : List ℕ) (v : Abc × List (List ℕ)) (after : At) → IsNew w → file_read.reads (stand w input) ≡ Ok (v, after) → Begins file_read (at 0 input) v after
+begun w input v after n e = file_read-exact.found (at 0 input) v after (omega arith) (subst (λ (a : At). file_read.reads a ≡ Ok (v, after)) (begins w input n) e)
+
+-- a byte follows the file
+pub trails : (w2 : View) (input : List ℕ) (v : Abc × List (List ℕ)) (place : ℕ) (reason : _) → place ≡ w2.place → reason ≡ reasons.Trailing → Begins file_read (at 0 input) v (stand w2 input) → drop w2.place input ≢ [] → IsBadFile input (refusal place reason)
+trails w2 input v place reason here is b some =
+    let bad : IsBadFile input (refusal w2.place reasons.Trailing) = inr (v.0, stand w2 input, read_begins (at 0 input) v (stand w2 input) b, some, refl) in
+    rw (here, is) bad
+
+-- ---- the whole
+
+answers_err : (b : List ℕ) (e : ReadError) → Refuses e b → AnswersFile b (Err e)
+answers_err b (errors.Refused place reason) f = f
+answers_err b errors.ReadFault f = tt
+answers_err b errors.NoMemory f = tt
+
+pub of_answers : (s : Option (List ℕ)) (e : ReadError) → OfInput s (Refuses e) → OfInput s (λ b. AnswersFile b (Err e))
+of_answers None e f = (f.0, answers_err f.0 e f.1)
+of_answers (Some b) e f = answers_err b e f
+
+pub all_refused : (w w2 : View) (s s2 : Option (List ℕ)) (e : ReadError) → IsNew w → Reads file_read.reads w s w2 s2 (Err e) → OfInput s (λ b. AnswersFile b (Err e))
+all_refused w w2 s s2 e n r = of_answers s e (part_refused w s (known w2 s2) e n (r n.kept))
+
+module _ (w w2 w3 : View) (s s2 s3 : Option (List ℕ)) (v : Abc × List (List ℕ)) (n : IsNew w) (r : Reads file_read.reads w s w2 s2 (Ok v)) where
+  pub all_read : IsEnd w2 s2 w3 s3 → OfInput s (λ b. AnswersFile b (Ok v))
+  all_read end =
+      let h = r.4 (known w3 s3) end.input in
+      of_input (λ b. AnswersFile b (Ok v)) w s (known w3 s3) n h.0 (whole_begins file_read v (known w3 s3) (stand w2 (known w3 s3)) (begun w (known w3 s3) v (stand w2 (known w3 s3)) n h.1) end.none)
+
+  pub more_follows : (e : ReadError) → IsTrailing w2 s2 w3 s3 e → OfInput s (λ b. AnswersFile b (Err e))
+  more_follows (errors.Refused place reason) t =
+      let input = known w3 s3 in let h = r.4 input t.2 in
+      of_input (λ b. AnswersFile b (Err (errors.Refused place reason))) w s input n h.0 (trails w2 input v place reason t.0 t.1 (begun w input v (stand w2 input) n h.1) t.3)
+  more_follows errors.ReadFault t = of_any (λ b. AnswersFile b (Err errors.ReadFault)) s (λ b. tt)
+  more_follows errors.NoMemory t = absurd t
+
+-- ---- nothing of the input is left
+
+tells_still : (w w2 : View) (b : List ℕ) (s2 : Option (List ℕ)) → ((input : List ℕ) → IsInput w2 s2 input → IsInput w (Some b) input) → (left : List ℕ) × (s2 ≡ Some left)
+tells_still w w2 b None same =
+    let one = same (w2.taken ++ []) (known_is w2 None) in
+    let two = same (w2.taken ++ 0 ∷ []) (take-append_seam w2.taken (0 ∷ [])) in
+    absurd (omega (arith, ap length (one ∙ sym two), length-append w2.taken [], length-append w2.taken (0 ∷ [])))
+tells_still w w2 b (Some left) same = (left, refl)
+
+-- where the source told its bytes, and tells of no more
+pub used_up : (w w2 : View) (s s2 : Option (List ℕ)) → ((input : List ℕ) → IsInput w2 s2 input → IsInput w s input) → told s2 ≡ [] → IsUsedUp s s2
+used_up w w2 None s2 same none = tt
+used_up w w2 (Some b) s2 same none =
+    let t = tells_still w w2 b s2 same in
+    let no_left : t.0 ≡ [] = ap told (sym t.1) ∙ none in
+    t.1 ∙ ap (λ (l : List ℕ). Some l) no_left
+
+pub used_up_first : (w w2 : View) (s s2 s3 : Option (List ℕ)) → ((input : List ℕ) → IsInput w2 s2 input → IsInput w s input) → IsUsedUp s2 s3 → IsUsedUp s s3
+used_up_first w w2 None s2 s3 same used = tt
+used_up_first w w2 (Some b) s2 s3 same used = let t = tells_still w w2 b s2 same in subst (λ (s : Option (List ℕ)). IsUsedUp s s3) t.1 used
+
+-- ---- the value
+
+pub some_fits : (s : Option (List ℕ)) (v : Abc × List (List ℕ)) → OfInput s (λ b. AnswersFile b (Ok v)) → Fits v.0
+some_fits None v a = (a.0, (read_spelled v a.0 a.1.0, a.1.1))
+some_fits (Some b) v a = (b, (read_spelled v b a.0, a.1))

@@ -1,11 +1,11 @@
 -- What passing the parts of a file, and then asking for more, says of the whole input.
-use Rattle.std.proofs.Common.{◌≡◌, ℕ, List, [], ◌++◌, Ok, Err, None, Some, true, refl, ◌∙◌}
+use Rattle.std.proofs.Common.{◌≡◌, ℕ, List, [], ◌++◌, Ok, Err, None, Some, refl, ◌∙◌}
 use Rattle.std.specs.declared.option.Option.{Option}
 use Rattle.abc_format.specs.Part.{At, refusal}
 use Rattle.abc_varint.specs.declared.error.ReadError.{ReadError}
 use Rattle.abc_varint.specs.declared.error.ReadError.TheVariants as errors
 use Rattle.abc_varint.specs.Passes.{Passes, nothing}
-use Rattle.abc_varint.specs.Reads.{Reads, Fails, tells, stand}
+use Rattle.abc_varint.specs.Reads.{Fails, IsInput, known, stand}
 use Rattle.abc_varint.specs.View.{View}
 use Rattle.abc_tables.specs.declared.tables.Abc.{Abc}
 use Rattle.abc_tables.specs.declared.tables.Sizes.{Sizes}
@@ -14,13 +14,13 @@ use Rattle.abc_tables.specs.Bodies.{body_list}
 use Rattle.abc_tables.specs.Classes.{sizes_of, sizes_with}
 use Rattle.abc_tables.specs.Files.{file_bytes, file_read, version}
 use Rattle.abc_tables.specs.Pools.{pools}
-use Rattle.abc_tables.proofs.Whole.{read_spelled}
+use Rattle.abc_tables.proofs.Whole.{read_spelled, whole_begins}
 use Rattle.abc_traits.specs.declared.definitions.Definitions.{Definitions}
 use Rattle.abc_traits.specs.Definitions.{tables, with_definitions}
 use Rattle.abc_traits.proofs.Filling.{filled as definitions_filled}
 use Rattle.abc_bodies.proofs.Passing.{filled as bodies_filled}
-use Rattle.abc_file.specs.Reading.{AnswersFile, IsCanonicalOf, IsFaultOf, IsNew, IsTrailing}
-use Rattle.abc_file.proofs.Ending.{all_read, all_refused, more_follows as followed}
+use Rattle.abc_file.specs.Reading.{Canonises, IsCanonicalOf, IsEnd, IsFaultOf, IsNew, IsTrailing, Refuses}
+use Rattle.abc_file.proofs.Ending.{begun, of_any, of_input, part_refused, trails}
 
 -- ---- a part that fails, after those before it were passed
 
@@ -40,26 +40,22 @@ bodies_fail errors.NoMemory from b c d n v pool_sizes x sizes r1 r2 same1 r3 sam
 
 -- ---- the whole
 
-fault_of : (b : List ℕ) (e : ReadError) → AnswersFile b (Err e) → IsFaultOf (Some b) e
-fault_of b (errors.Refused place reason) a = a
-fault_of b errors.ReadFault a = tt
-fault_of b errors.NoMemory a = tt
+module _ (w w2 w3 : View) (s s2 s3 : Option (List ℕ)) (old new : List ℕ) (n : IsNew w) (p : Passes file_read (λ x. file_bytes x.0) nothing w s w2 s2 old new (Ok tt)) where
+  pub all_passed : old ≡ [] → IsEnd w2 s2 w3 s3 → IsCanonicalOf s new
+  all_passed empty end =
+      let input = known w3 s3 in
+      let h = p.4 input end.input in
+      let x = h.1 in
+      let whole = whole_begins file_read x.value input (stand w2 input) (begun w input x.value (stand w2 input) n x.read) end.none in
+      of_input (Canonises new) w s input n h.0 (x.value.0, (read_spelled x.value input whole.0, whole.1), x.bytes ∙ rw empty refl)
 
-pub all_passed : (w w2 : View) (s s2 : Option (List ℕ)) (old new : List ℕ) → IsNew w → old ≡ [] → Passes file_read (λ x. file_bytes x.0) nothing w s w2 s2 old new (Ok tt) → (tells s2 ≡ true → (stand w2 s2).bytes ≡ []) → IsCanonicalOf s new
-all_passed w w2 None s2 old new n empty p end = tt
-all_passed w w2 (Some b) s2 old new n empty p end =
-    let x = (p.4 refl).1 in
-    let read : Reads file_read.reads w (Some b) w2 s2 (Ok x.value) = (p.0, p.1, p.2, p.3, λ t. ((p.4 refl).0, x.read)) in
-    let file = all_read w w2 (Some b) s2 x.value n read end in
-    (x.value.0, (read_spelled x.value b file.0, file.1), x.bytes ∙ rw empty refl)
+  pub more_follows : (e : ReadError) → IsTrailing w2 s2 w3 s3 e → IsFaultOf s e
+  more_follows (errors.Refused place reason) t =
+      let input = known w3 s3 in
+      let h = p.4 input t.2 in
+      of_input (Refuses (errors.Refused place reason)) w s input n h.0 (trails w2 input h.1.value place reason t.0 t.1 (begun w input h.1.value (stand w2 input) n h.1.read) t.3)
+  more_follows errors.ReadFault t = of_any (Refuses errors.ReadFault) s (λ b. tt)
+  more_follows errors.NoMemory t = absurd t
 
-pub all_refused_too : (w w2 : View) (s s2 : Option (List ℕ)) (e : ReadError) → IsNew w → (w.kept ≡ None → tells s ≡ true → Fails e (file_read.reads (stand w s))) → IsFaultOf s e
-all_refused_too w w2 None s2 e n f = tt
-all_refused_too w w2 (Some b) s2 e n f = fault_of b e (all_refused w w2 (Some b) s2 e n f)
-
-pub more_follows : (w w2 : View) (s s2 : Option (List ℕ)) (e : ReadError) (old new : List ℕ) → IsNew w → Passes file_read (λ x. file_bytes x.0) nothing w s w2 s2 old new (Ok tt) → IsTrailing w2 s2 e → IsFaultOf s e
-more_follows w w2 None s2 e old new n p t = tt
-more_follows w w2 (Some b) s2 e old new n p t =
-    let x = (p.4 refl).1 in
-    let read : Reads file_read.reads w (Some b) w2 s2 (Ok x.value) = (p.0, p.1, p.2, p.3, λ k. ((p.4 refl).0, x.read)) in
-    fault_of b e (followed w w2 (Some b) s2 x.value e n read t)
+pub all_refused_too : (w w2 : View) (s s2 : Option (List ℕ)) (e : ReadError) → IsNew w → (w.kept ≡ None → IsInput w s (known w2 s2) × Fails e (file_read.reads (stand w (known w2 s2)))) → IsFaultOf s e
+all_refused_too w w2 s s2 e n f = part_refused w s (known w2 s2) e n (f n.kept)

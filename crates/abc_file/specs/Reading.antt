@@ -1,15 +1,20 @@
 -- What reading a whole file answers.
-use Rattle.std.specs.Prelude.{◌≡◌, ◌≢◌, true, List, ℕ, [], Some, None, Ok, Err}
+use Rattle.std.specs.Prelude.{◌≡◌, ◌≢◌, List, ℕ, [], drop, Some, None, Ok, Err}
 use Rattle.std.specs.declared.result.Result.{Result}
 use Rattle.std.specs.declared.option.Option.{Option}
 use Rattle.abc_format.specs.Part.{no_end, refusal}
 use Rattle.abc_varint.specs.View.{View}
 use Rattle.abc_varint.specs.declared.error.ReadError.{ReadError}
 use Rattle.abc_varint.specs.declared.error.ReadError.TheVariants as errors
-use Rattle.abc_varint.specs.Reads.{stand, tells}
+use Rattle.abc_varint.specs.Reads.{IsInput, known}
 use Rattle.abc_format.specs.declared.reason.Reason.TheVariants as reasons
 use Rattle.abc_tables.specs.declared.tables.Abc.{Abc}
 use Rattle.abc_tables.specs.Files.{IsFile, IsFileRead, IsBadFile, file_bytes}
+
+-- It holds of the input that a source tells, or else of some input.
+abbrev pub OfInput : Option (List ℕ) → (List ℕ → Type 0) → Type 0
+OfInput None P = (input : List ℕ) × P input
+OfInput (Some input) P = P input
 
 -- an accepted value is spelled by all the bytes, with its instructions where the places say; a refusal is their first fault
 abbrev pub AnswersFile : List ℕ → Result (Abc × List (List ℕ)) ReadError → Type 0
@@ -26,24 +31,33 @@ IsUsedUp (Some bytes) new = new ≡ Some []
 -- a window that has read nothing
 pub record IsNew (w : View) : Type 0 where
   pub place : w.place ≡ 0
-  pub held : w.held ≡ []
+  pub taken : w.taken ≡ []
   pub kept : w.kept ≡ None
   pub end : w.end ≡ no_end
 
+-- What is known now may have been the input before, and nothing of it stands ahead.
+pub record IsEnd (w : View) (s : Option (List ℕ)) (w2 : View) (s2 : Option (List ℕ)) : Type 0 where
+  pub input : IsInput w s (known w2 s2)
+  pub none : drop w.place (known w2 s2) ≡ []
+
 -- the Err of a file that something follows: at its first byte, or that of a failed read
-abbrev pub IsTrailing : View → Option (List ℕ) → ReadError → Type 0
-IsTrailing w left (errors.Refused place reason) = (place ≡ w.place) × (reason ≡ reasons.Trailing) × (tells left ≡ true → (stand w left).bytes ≢ [])
-IsTrailing w left errors.ReadFault = Unit {0}
-IsTrailing w left errors.NoMemory = ⊥
+abbrev pub IsTrailing : View → Option (List ℕ) → View → Option (List ℕ) → ReadError → Type 0
+IsTrailing w s w2 s2 (errors.Refused place reason) = (place ≡ w.place) × (reason ≡ reasons.Trailing) × IsInput w s (known w2 s2) × (drop w.place (known w2 s2) ≢ [])
+IsTrailing w s w2 s2 errors.ReadFault = Unit {0}
+IsTrailing w s w2 s2 errors.NoMemory = ⊥
 
 -- they are the canonical bytes of the file that the input spells
+abbrev pub Canonises : List ℕ → List ℕ → Type 0
+Canonises bytes input = (v : Abc) × IsFile v input × (bytes ≡ file_bytes v)
+
 abbrev pub IsCanonicalOf : Option (List ℕ) → List ℕ → Type 0
-IsCanonicalOf None bytes = Unit {0}
-IsCanonicalOf (Some input) bytes = (v : Abc) × IsFile v input × (bytes ≡ file_bytes v)
+IsCanonicalOf left bytes = OfInput left (Canonises bytes)
 
 -- a refusal is the first fault of the input
+abbrev pub Refuses : ReadError → List ℕ → Type 0
+Refuses (errors.Refused place reason) input = IsBadFile input (refusal place reason)
+Refuses errors.ReadFault input = Unit {0}
+Refuses errors.NoMemory input = Unit {0}
+
 abbrev pub IsFaultOf : Option (List ℕ) → ReadError → Type 0
-IsFaultOf None e = Unit {0}
-IsFaultOf (Some input) (errors.Refused place reason) = IsBadFile input (refusal place reason)
-IsFaultOf (Some input) errors.ReadFault = Unit {0}
-IsFaultOf (Some input) errors.NoMemory = Unit {0}
+IsFaultOf left e = OfInput left (Refuses e)

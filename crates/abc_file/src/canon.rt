@@ -49,7 +49,7 @@ fn pass_parts<S: Source>(
 }
 
 /// Passes the file, and nothing after it.
-#[tactic(auto, using(crate::proofs::Passing::all_passed, crate::proofs::Passing::all_refused_too, crate::proofs::Passing::more_follows))]
+#[tactic(auto, using(crate::proofs::Ending::used_up_first))]
 fn pass_to_end<S: Source>(
     alloc: Global,
     w: &mut Window,

@@ -1,11 +1,12 @@
-ghost use Rattle.std.specs.Prelude.{◌≡◌, ◌≤◌, ◌^◌, Ok, Err, IfSome, IfOk, IfErr, OnOk, None, [], true, All, nat_eq, if◌then◌else◌};
+ghost use Rattle.std.specs.Prelude.{◌≡◌, ◌≤◌, ◌^◌, Ok, Err, IfOk, IfErr, OnOk, None, All, nat_eq, if◌then◌else◌};
 ghost use Rattle.abc_base.specs.Faults.{Rose};
 ghost use Rattle.abc_format.specs.Numbers.{u16 as two_bytes};
 ghost use Rattle.abc_format.specs.Part.{checked};
-ghost use Rattle.abc_file.specs.Reading.{AnswersFile, IsNew, IsTrailing, IsUsedUp};
+ghost use Rattle.abc_file.specs.Reading.{AnswersFile, IsNew, IsTrailing, IsUsedUp, OfInput};
+ghost use Rattle.abc_bodies.specs.Places.{ArePlaces};
 ghost use Rattle.abc_tables.specs.Bodies.{IsReadyBody};
-ghost use Rattle.abc_tables.specs.Files.{file_read, version};
-ghost use Rattle.abc_varint.specs.Reads.{ReadsPart, stand, tells};
+ghost use Rattle.abc_tables.specs.Files.{Fits, file_read, version};
+ghost use Rattle.abc_varint.specs.Reads.{ReadsPart};
 ghost use Rattle.abc_varint.specs.declared.error.ReadError.{ReadError};
 
 use crate::rest::read_nothing_more;
@@ -55,6 +56,7 @@ fn read_parts<S: Source>(
 ) -> Result<(Abc, Places), ReadError>
     requires { w.old.end ≡ 2 ^ 25 }
     ensures value { ReadsPart S.left S.faults file_read w.old source.old w.new source.new result }
+    ensures places { IfOk result (λ x. ArePlaces (x.0).bodies x.1) }
     ensures ready { IfOk result (λ x. All IsReadyBody (x.0).bodies) }
 {
     read_version(w, source)?;
@@ -65,14 +67,16 @@ fn read_parts<S: Source>(
 }
 
 /// The file, and nothing after it.
-#[tactic(auto, using(crate::proofs::Ending::all_refused, crate::proofs::Ending::all_read, crate::proofs::Ending::more_follows))]
+#[tactic(auto, using(crate::proofs::Ending::used_up_first))]
 fn read_to_end<S: Source>(
     alloc: Global,
     w: &mut Window,
     source: &mut S,
 ) -> Result<(Abc, Places), ReadError>
     requires { IsNew w.old }
-    ensures answers { IfSome (S.left source.old) (λ b. AnswersFile b result) }
+    ensures answers { OfInput (S.left source.old) (λ b. AnswersFile b result) }
+    ensures fits { IfOk result (λ x. Fits x.0) }
+    ensures places { IfOk result (λ x. ArePlaces (x.0).bodies x.1) }
     ensures ready { IfOk result (λ x. All IsReadyBody (x.0).bodies) }
     ensures end { OnOk result (IsUsedUp (S.left source.old) (S.left source.new)) }
     ensures later { S.faults source.old ≤ S.faults source.new }
@@ -86,9 +90,12 @@ fn read_to_end<S: Source>(
 /// Reads a file to the input's end, and gives where the instructions of its bodies began. It is refused at its first
 /// fault, by the place of that fault and its reason; a byte that follows a complete file is refused by `Trailing`.
 /// `ReadFault` comes only where the source's count of faults rose. At most 2^24 + 1 bytes are taken, whatever the source
-/// gives. What was read can be written, whether the source tells its bytes or not.
+/// gives. Whether the source tells its bytes or not, some bytes spell what was read, and the places are those of its
+/// instructions.
 pub fn read<S: Source>(alloc: Global, source: &mut S) -> Result<(Abc, Places), ReadError>
-    ensures answers { IfSome (S.left source.old) (λ b. AnswersFile b result) }
+    ensures answers { OfInput (S.left source.old) (λ b. AnswersFile b result) }
+    ensures fits { IfOk result (λ x. Fits x.0) }
+    ensures places { IfOk result (λ x. ArePlaces (x.0).bodies x.1) }
     ensures ready { IfOk result (λ x. All IsReadyBody (x.0).bodies) }
     ensures end { OnOk result (IsUsedUp (S.left source.old) (S.left source.new)) }
     ensures later { S.faults source.old ≤ S.faults source.new }

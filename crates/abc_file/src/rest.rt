@@ -1,18 +1,17 @@
-ghost use Rattle.std.specs.Prelude.{◌≡◌, ◌≤◌, [], Err, IfErr, OnOk, None, true};
+ghost use Rattle.std.specs.Prelude.{◌≡◌, ◌≤◌, Err, IfErr, OnOk, None};
 ghost use Rattle.abc_base.specs.Faults.{Rose};
-ghost use Rattle.abc_file.specs.Reading.{IsTrailing, IsUsedUp};
-ghost use Rattle.abc_varint.specs.Reads.{stand, tells};
+ghost use Rattle.abc_file.specs.Reading.{IsEnd, IsTrailing, IsUsedUp};
 ghost use Rattle.abc_varint.specs.declared.error.ReadError.{ReadError};
 
 use abc_base::Source;
 use abc_varint::{ReadError, Reason, Window};
 
 /// Ok where nothing follows what was read; a byte that does is refused by `Trailing`.
-#[tactic(auto, using(crate::proofs::Ending::used_up))]
+#[tactic(auto, using(crate::proofs::Ending::used_up, abc_varint::proofs::Inputs::known_is))]
 pub fn read_nothing_more<S: Source>(w: &mut Window, source: &mut S) -> Result<(), ReadError>
     requires { w.old.kept ≡ None }
-    ensures ended { OnOk result (tells (S.left source.old) ≡ true → ((stand w.old (S.left source.old)).bytes ≡ [])) }
-    ensures trailing { IfErr result (λ e. IsTrailing w.old (S.left source.old) e) }
+    ensures ended { OnOk result (IsEnd w.old (S.left source.old) w.new (S.left source.new)) }
+    ensures trailing { IfErr result (λ e. IsTrailing w.old (S.left source.old) w.new (S.left source.new) e) }
     ensures end { OnOk result (IsUsedUp (S.left source.old) (S.left source.new)) }
     ensures later { S.faults source.old ≤ S.faults source.new }
     ensures cause { result ≡ Err ReadError.ReadFault → Rose (S.faults source.old) (S.faults source.new) }

@@ -22,7 +22,8 @@ use Rattle.abc_varint.proofs.Front.{front_taken}
 use Rattle.abc_varint.specs.Reads.{Reads}
 use Rattle.abc_varint.specs.Ready.{IsReady}
 use Rattle.abc_tables.specs.CodeBytes.{instr_len}
-use Rattle.abc_varint.specs.View.{Passes, View, onward}
+use Rattle.abc_varint.specs.View.{Passes, View, held, onward}
+use Rattle.abc_varint.proofs.Inputs.{among}
 use Rattle.abc_instr.specs.Fronts.{IsFront, count_of}
 use Rattle.abc_instr.specs.declared.front.Front.{Front}
 use Rattle.abc_instr.specs.declared.front.Front.TheVariants as fronts
@@ -136,15 +137,15 @@ branch_front (op ∷ rest) z n old len form le same s =
     }
 
 -- what was taken was read
-pub taken : (f : Front) (w w2 : View) (s : Option (List ℕ)) (old new : List ℕ) → IsReady (count_of f) w → w2 ≡ onward (count_of f) w → (i : IsFront f w.held old new) → Reads (blamed instruction).reads w s w2 s (Ok (raw_of i.instr))
-taken f w w2 s old new ready is i = front_taken (blamed instruction) (raw_of i.instr) (count_of f) w w2 s instruction-exact ready i.spelled is
+pub taken : (f : Front) (w w2 : View) (s : Option (List ℕ)) (old new : List ℕ) → IsReady (count_of f) w → w2 ≡ onward (count_of f) w → (i : IsFront f (held w) old new) → Reads (blamed instruction).reads w s w2 s (Ok (raw_of i.instr))
+taken f w w2 s old new ready is i = front_taken (blamed instruction) (raw_of i.instr) (count_of f) w w2 s instruction-exact (omega (arith, among w (count_of f) i.some ready.held)) ready i.spelled is
 
 pub record Moves (i : Instr) (w w2 : View) : Type 0 where
   pub moves : w.place < w2.place
   pub passes : Passes (instr_len i) w w2
   pub room : w2.place ≤ limit
 
-pub passed : (f : Front) (w w2 : View) (old new : List ℕ) → IsReady (count_of f) w → w2 ≡ onward (count_of f) w → (i : IsFront f w.held old new) → Moves i.instr w w2
+pub passed : (f : Front) (w w2 : View) (old new : List ℕ) → IsReady (count_of f) w → w2 ≡ onward (count_of f) w → (i : IsFront f (held w) old new) → Moves i.instr w w2
 passed f w w2 old new ready is i =
     let at : w2.place ≡ w.place + count_of f = ap (λ (v : View). v.place) is in
     record { moves = omega (arith, i.some); passes = (omega (arith, i.short), omega (arith, ready.before)); room = omega (arith, ready.within) }

@@ -6,7 +6,7 @@ use Rattle.abc_tables.specs.declared.code.Instr.TheVariants as instrs
 use Rattle.abc_tables.specs.CodeBytes.{instr_len}
 use Rattle.abc_tables.specs.Instructions.{instruction}
 use Rattle.abc_varint.specs.Ready.{IsReady}
-use Rattle.abc_varint.specs.View.{View, onward}
+use Rattle.abc_varint.specs.View.{View, held, onward}
 use Rattle.abc_instr.specs.declared.front.Front.{Front}
 use Rattle.abc_instr.specs.declared.front.Front.TheVariants as fronts
 use Rattle.abc_instr.specs.Offsets.{IsRaw, raw_of}
@@ -40,5 +40,5 @@ PutsFront None bytes old new = new ≡ old
 
 -- the instruction at hand was passed by, or nothing changed
 abbrev pub TakesFront : Option Front → View → View → List ℕ → List ℕ → Type 0
-TakesFront (Some f) w w2 old new = IsReady (count_of f) w × (w2 ≡ onward (count_of f) w) × IsFront f w.held old new
+TakesFront (Some f) w w2 old new = IsReady (count_of f) w × (w2 ≡ onward (count_of f) w) × IsFront f (held w) old new
 TakesFront None w w2 old new = (w2 ≡ w) × (new ≡ old)

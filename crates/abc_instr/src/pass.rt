@@ -32,7 +32,10 @@ pub fn pass_code<S: Source>(
     scan_code(alloc, w, source, length, scan)?;
     match put_scan(scan, out) {
         Ok(()) => Ok(()),
-        Err(Missed::Target(at)) => Err(w.refuse(first + at, Reason::Target)),
+        Err(Missed::Target(at)) => Err(ReadError::Refused {
+            place: first + at,
+            reason: Reason::Target,
+        }),
         Err(Missed::NoMemory) => Err(ReadError::NoMemory),
     }
 }

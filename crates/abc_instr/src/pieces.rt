@@ -2,7 +2,7 @@ ghost use Rattle.std.specs.Prelude.{◌≡◌, ◌≤◌, ◌<◌, ◌+◌, ◌^
 ghost use Rattle.abc_tables.specs.CodeBytes.{code_len};
 ghost use Rattle.abc_tables.specs.Instructions.{pieces as pieces_part};
 ghost use Rattle.abc_tables.specs.Starts.{starts as starts_from, size};
-ghost use Rattle.abc_varint.specs.Reads.{Reads, ReadsUntil, Blames};
+ghost use Rattle.abc_varint.specs.Reads.{Blames, Keeps, Reads, ReadsUntil};
 ghost use Rattle.abc_instr.specs.Offsets.{pieces_in, seen, AreRaw};
 
 use crate::raw::read_raw;
@@ -38,6 +38,7 @@ fn read_until<S: Source>(
     ensures few { IfOk result (λ p. code_len p.instrs ≤ byte_count) }
     ensures later { S.faults source.old ≤ S.faults source.new }
     ensures cause { Blames w.old (S.faults source.old) (S.faults source.new) result }
+    ensures keeps { Keeps w.old w.new result }
 {
     let first = w.place();
     let end = first + byte_count;
@@ -75,6 +76,7 @@ pub fn read_pieces<S: Source>(
     ensures few { IfOk result (λ p. code_len p.instrs ≤ byte_count) }
     ensures later { S.faults source.old ≤ S.faults source.new }
     ensures cause { Blames w.old (S.faults source.old) (S.faults source.new) result }
+    ensures keeps { Keeps w.old w.new result }
 {
     let outer = w.end();
     let end = w.place() + byte_count;

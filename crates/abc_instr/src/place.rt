@@ -24,6 +24,9 @@ pub fn read_place<S: Source>(
     let x = read_u30(w, source)?;
     match number_of(offsets, x) {
         Some(n) => Ok(n),
-        None => Err(w.refuse(place, Reason::HandlerRange)),
+        None => Err(ReadError::Refused {
+            place,
+            reason: Reason::HandlerRange,
+        }),
     }
 }

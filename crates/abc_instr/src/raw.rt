@@ -7,7 +7,7 @@ ghost use Rattle.abc_tables.specs.Instructions.{opcode as opcode_part, signed_by
 ghost use Rattle.abc_tables.specs.CodeBytes.{instr_len, number_len};
 ghost use Rattle.abc_tables.specs.Opcodes.{form_at};
 ghost use Rattle.abc_tables.specs.Ready.{AllUpTo};
-ghost use Rattle.abc_varint.specs.Reads.{Reads, ReadsPart, Blames};
+ghost use Rattle.abc_varint.specs.Reads.{Blames, Keeps, Reads, ReadsPart};
 ghost use Rattle.abc_varint.specs.View.{Passes};
 ghost use Rattle.abc_instr.specs.Offsets.{offset_of, raw_of, seen, IsRaw};
 
@@ -28,7 +28,10 @@ fn read_opcode<S: Source>(w: &mut Window, source: &mut S) -> Result<(u8, Form), 
     let op = read_u8(w, source)?;
     match opcode(op) {
         Some(info) => Ok((op, info.form)),
-        None => Err(w.refuse(place, Reason::Opcode)),
+        None => Err(ReadError::Refused {
+            place,
+            reason: Reason::Opcode,
+        }),
     }
 }
 
@@ -152,6 +155,7 @@ pub fn read_raw<S: Source>(
     ensures passes { IfOk result (λ i. Passes (instr_len i) w.old w.new) }
     ensures later { S.faults source.old ≤ S.faults source.new }
     ensures cause { Blames w.old (S.faults source.old) (S.faults source.new) result }
+    ensures keeps { Keeps w.old w.new result }
 {
     let place = w.place();
     match read_parts(alloc, w, source) {
@@ -160,7 +164,7 @@ pub fn read_raw<S: Source>(
                 reason: Reason::CodeEnds,
                 ..
             },
-        ) => Err(w.refuse(place, Reason::CodeEnds)),
+        ) => Err(w.blame(place)),
         other => other,
     }
 }

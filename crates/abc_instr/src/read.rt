@@ -24,7 +24,10 @@ pub fn read_length<S: Source>(w: &mut Window, source: &mut S) -> Result<u32, Rea
     let place = w.place();
     let length = read_u30(w, source)?;
     if length >= LENGTH_END {
-        return Err(w.refuse(place, Reason::CodeLength));
+        return Err(ReadError::Refused {
+            place,
+            reason: Reason::CodeLength,
+        });
     }
     Ok(length)
 }
@@ -46,7 +49,10 @@ fn read_whole<S: Source>(alloc: Global, w: &mut Window, source: &mut S) -> Resul
             instrs: pieces.instrs,
             offsets: pieces.starts,
         }),
-        Err(Missed::Target(at)) => Err(w.refuse(first + at, Reason::Target)),
+        Err(Missed::Target(at)) => Err(ReadError::Refused {
+            place: first + at,
+            reason: Reason::Target,
+        }),
         Err(Missed::NoMemory) => Err(ReadError::NoMemory),
     }
 }

@@ -2,7 +2,7 @@ ghost use Rattle.std.specs.Prelude.{◌≡◌, ◌≤◌, ◌<◌, ◌+◌, ◌-
 ghost use Rattle.abc_format.specs.Ends.{blamed};
 ghost use Rattle.abc_tables.specs.CodeBytes.{instr_len as len_of};
 ghost use Rattle.abc_tables.specs.Instructions.{instruction, pieces as pieces_part};
-ghost use Rattle.abc_varint.specs.Reads.{Reads, ReadsUntil, Blames};
+ghost use Rattle.abc_varint.specs.Reads.{Blames, Keeps, Reads, ReadsUntil};
 ghost use Rattle.abc_instr.specs.Marks.{mark_at};
 ghost use Rattle.abc_instr.specs.Offsets.{IsRaw};
 ghost use Rattle.abc_instr.specs.Scanning.{Scans, ScansOn, StepsOn, is_jump, jump_in, plain_bytes};
@@ -108,6 +108,7 @@ impl Scan {
         ensures value { StepsOn (Reads (blamed instruction).reads w.old (S.left source.old) w.new (S.left source.new)) first moved w.old w.new self.old self.new result }
         ensures later { S.faults source.old ≤ S.faults source.new }
         ensures cause { Blames w.old (S.faults source.old) (S.faults source.new) result }
+        ensures keeps { Keeps w.old w.new result }
     {
         let here = w.place() - first;
         let before = self.plain.len();
@@ -136,6 +137,7 @@ impl Scan {
         ensures value { StepsOn (Reads (blamed instruction).reads w.old (S.left source.old) w.new (S.left source.new)) first moved w.old w.new self.old self.new result }
         ensures later { S.faults source.old ≤ S.faults source.new }
         ensures cause { Blames w.old (S.faults source.old) (S.faults source.new) result }
+        ensures keeps { Keeps w.old w.new result }
     {
         let here = w.place() - first;
         let before = self.plain.len();
@@ -184,6 +186,7 @@ fn scan_until<S: Source>(
     ensures value { ScansOn (ReadsUntil (pieces_part byte_count).reads w.old (S.left source.old) w.new (S.left source.new)) byte_count w.old w.new scan.new result }
     ensures later { S.faults source.old ≤ S.faults source.new }
     ensures cause { Blames w.old (S.faults source.old) (S.faults source.new) result }
+    ensures keeps { Keeps w.old w.new result }
 {
     scan.begin();
     let first = w.place();
@@ -213,6 +216,7 @@ fn scan_within<S: Source>(
     ensures value { ScansOn (Reads (pieces_part byte_count).reads w.old (S.left source.old) w.new (S.left source.new)) byte_count w.old w.new scan.new result }
     ensures later { S.faults source.old ≤ S.faults source.new }
     ensures cause { Blames w.old (S.faults source.old) (S.faults source.new) result }
+    ensures keeps { Keeps w.old w.new result }
 {
     let outer = w.end();
     let end = w.place() + byte_count;
@@ -236,6 +240,7 @@ pub fn scan_code<S: Source>(
     ensures value { Scans (Reads (pieces_part byte_count).reads w.old (S.left source.old) w.new (S.left source.new)) byte_count scan.new result }
     ensures later { S.faults source.old ≤ S.faults source.new }
     ensures cause { Blames w.old (S.faults source.old) (S.faults source.new) result }
+    ensures keeps { Keeps w.old w.new result }
 {
     let first = w.place();
     let moved = scan_within(alloc, w, source, byte_count, scan)?;

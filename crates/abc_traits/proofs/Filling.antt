@@ -11,7 +11,7 @@ use Rattle.abc_tables.specs.Sizes.{capped}
 use Rattle.abc_varint.specs.declared.error.ReadError.{ReadError}
 use Rattle.abc_varint.specs.declared.error.ReadError.TheVariants as errors
 use Rattle.abc_varint.specs.View.{View}
-use Rattle.abc_varint.specs.Reads.{Reads, stand}
+use Rattle.abc_varint.specs.Reads.{Reads, known, stand}
 use Rattle.abc_traits.specs.declared.definitions.Definitions.{Definitions}
 use Rattle.abc_traits.specs.Definitions.{with_definitions, sizes_within, tables}
 use Rattle.abc_traits.proofs.Alike.{Alike, alike_refl, alike_sym, alike_trans, image-alike, image_image, then-alike, times-alike, counted-alike}
@@ -20,20 +20,20 @@ use Rattle.abc_traits.proofs.Capped.{method-capped, metadata-capped, instance-ca
 -- ---- reading, through parts that read alike
 
 pub reads_alike : {A : Type 0} (p q : Part A) → Alike p q → (w : View) (s : Option (List ℕ)) (w2 : View) (s2 : Option (List ℕ)) (r : Result A ReadError) → Reads p.reads w s w2 s2 r → Reads q.reads w s w2 s2 r
-reads_alike p q k w s w2 s2 (Ok x) h = (h.0, h.1, h.2, h.3, λ t. ((h.4 t).0, sym (k.same (stand w s)) ∙ (h.4 t).1))
-reads_alike p q k w s w2 s2 (Err (errors.Refused place reason)) h = λ fresh t. sym (k.same (stand w s)) ∙ h fresh t
-reads_alike p q k w s w2 s2 (Err errors.ReadFault) h = λ fresh t. tt
-reads_alike p q k w s w2 s2 (Err errors.NoMemory) h = λ fresh t. tt
+reads_alike p q k w s w2 s2 (Ok x) h = (h.0, h.1, h.2, h.3, λ input is. ((h.4 input is).0, sym (k.same (stand w input)) ∙ (h.4 input is).1))
+reads_alike p q k w s w2 s2 (Err (errors.Refused place reason)) h = λ fresh. ((h fresh).0, sym (k.same (stand w (known w2 s2))) ∙ (h fresh).1)
+reads_alike p q k w s w2 s2 (Err errors.ReadFault) h = λ fresh. ((h fresh).0, tt)
+reads_alike p q k w s w2 s2 (Err errors.NoMemory) h = λ fresh. ((h fresh).0, tt)
 
 abbrev pub mapped : {A B : Type 0} → (A → B) → Result A ReadError → Result B ReadError
 mapped f (Ok x) = Ok (f x)
 mapped f (Err e) = Err e
 
 pub reads_image : {A B : Type 0} (f : A → B) (p : Part A) (w : View) (s : Option (List ℕ)) (w2 : View) (s2 : Option (List ℕ)) (r : Result A ReadError) → Reads p.reads w s w2 s2 r → Reads (image f p).reads w s w2 s2 (mapped f r)
-reads_image f p w s w2 s2 (Ok x) h = (h.0, h.1, h.2, h.3, λ t. let e = (h.4 t).1 in ((h.4 t).0, rw e refl))
-reads_image f p w s w2 s2 (Err (errors.Refused place reason)) h = λ fresh t. let e = h fresh t in rw e refl
-reads_image f p w s w2 s2 (Err errors.ReadFault) h = λ fresh t. tt
-reads_image f p w s w2 s2 (Err errors.NoMemory) h = λ fresh t. tt
+reads_image f p w s w2 s2 (Ok x) h = (h.0, h.1, h.2, h.3, λ input is. let e = (h.4 input is).1 in ((h.4 input is).0, rw e refl))
+reads_image f p w s w2 s2 (Err (errors.Refused place reason)) h = λ fresh. let e = (h fresh).1 in ((h fresh).0, rw e refl)
+reads_image f p w s w2 s2 (Err errors.ReadFault) h = λ fresh. ((h fresh).0, tt)
+reads_image f p w s w2 s2 (Err errors.NoMemory) h = λ fresh. ((h fresh).0, tt)
 
 -- ---- the tables, beside pools whose sizes an index cannot tell apart
 

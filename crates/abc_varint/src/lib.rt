@@ -26,7 +26,6 @@ pub use read::{
     read_entry_index, read_index_below, read_pool_index, read_s24, read_s32, read_u8, read_u16,
     read_u30, read_u32,
 };
-pub use taken::Taken;
 pub use text::{read_bytes, read_text};
 pub use window::{Window, front_number};
 

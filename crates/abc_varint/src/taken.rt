@@ -6,7 +6,7 @@ use std::marker::{Model, PhantomData};
 
 /// The bytes that were taken from a source so far, in their order.
 #[derive(Drop)]
-pub struct Taken {
+pub(crate) struct Taken {
     marker: PhantomData<u8>,
     pub ghost bytes: { List ℕ },
 }
@@ -17,7 +17,7 @@ impl Model for Taken {
 
 impl Taken {
     /// No bytes.
-    pub fn new() -> Taken
+    pub(crate) fn new() -> Taken
         ensures { result.bytes ≡ [] }
     {
         Taken {
@@ -26,7 +26,7 @@ impl Taken {
     }
 
     /// These bytes were taken too.
-    pub fn note(&mut self, _piece: &[u8])
+    pub(crate) fn note(&mut self, _piece: &[u8])
         ensures { self.new.bytes ≡ self.old.bytes ++ _piece.now }
     {}
 }

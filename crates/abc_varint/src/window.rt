@@ -135,6 +135,7 @@ impl Window {
         ensures ok { OnOk result ((self.old.kept ≡ None) × (self.new.kept ≡ None) × (self.new.place ≡ self.old.place) × (self.new.end ≡ self.old.end)) }
         ensures same { OnOk result ((input : List ℕ) → IsInput self.new (S.left source.new) input → IsInput self.old (S.left source.old) input) }
         ensures value { IfOk result (λ b. IsTrue b ↔ (drop self.new.place (known self.new (S.left source.new)) ≡ [])) }
+        ensures none { IfOk result (λ b. IsTrue b → told (S.left source.new) ≡ []) }
         ensures input { self.old.kept ≡ None → OnErr result (IsInput self.old (S.left source.old) (known self.new (S.left source.new))) }
         ensures keeps { IfErr result (λ e. IsKept e self.new) }
         ensures kept { (e : ReadError) → self.old.kept ≡ Some e → result ≡ Err e }

@@ -14,4 +14,5 @@ returns g c =
       (λ e h. absurd (let k = read.0.0 in cc)),
       omega (arith, read.2, items.2),
       (λ k h. absurd cc),
+      tt,
     )

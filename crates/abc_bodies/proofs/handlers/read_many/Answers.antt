@@ -1,4 +1,4 @@
-use Rattle.std.proofs.Common.{arith, length, ◌-◌, ◌+◌}
+use Rattle.std.proofs.Common.{◌∙◌, arith, length, ◌-◌, ◌+◌}
 use Rattle.std.proofs.lemmas.List.Elements.{All-push}
 use Rattle.std.proofs.lemmas.Result.{err_from_is_err_and}
 use Rattle.abc_tables.specs.Bodies.{handler, IsWithin}
@@ -12,10 +12,11 @@ returns-in_err-handler-clause-value g c =
     let e = c.in_err-handler.ensures.value in
     let before = c.loop.invariant in
     rw (p.1, p.2) (
-      (λ k t. ends c.in_err-handler.field-0.0 (handler c.args.sizes.now c.args.starts.now) c.args.count (c.args.count - c.loop.counter) c.loop.handlers _ _ _ _ (omega arith) before.going e.0 t),
+      (λ k. ends c.in_err-handler.field-0.0 (handler c.args.sizes.now c.args.starts.now) c.args.count (c.args.count - c.loop.counter) c.loop.handlers _ _ _ _ _ (omega arith) before.going (e.0 before.going.fresh)),
       (λ e h. absurd (let k = c.requires.fresh in cc)),
       omega (arith, before.later, e.2),
       (λ k h. let r = e.3 before.going.fresh (other_err c.in_err-handler.field-0.0 errors.ReadFault h) in omega (arith, before.later, r)),
+      (e.4.0, e.4.1 ∙ before.going.ends_at),
     )
 
 pub loop-preserved : goal.loop-preserved

@@ -16,10 +16,10 @@ returns g c =
         e2.0.1,
         omega (arith, e1.0.2, e2.0.2),
         e2.0.3 ∙ e1.0.3,
-        λ t.
-            let d1 = e1.0.4 t in let d2 = e2.0.4 d1.0 in
+        λ input is.
+            let d2 = e2.0.4 input is in let d1 = e1.0.4 input d2.0 in
             let x2 = d2.1 in let count : length x2.value ≡ c.in_ok-count.count = sym x2.tells ∙ c.in_ok-pass_many.ensures.count in (
-              d2.0,
+              d1.0,
               record {
                 value = x2.value;
                 read = rw (d1.1, x2.read) refl;
@@ -31,4 +31,5 @@ returns g c =
       (λ e h. absurd (let k = e1.0.0 in cc)),
       omega (arith, e1.2, e2.2),
       (λ k h. absurd cc),
+      tt,
     )

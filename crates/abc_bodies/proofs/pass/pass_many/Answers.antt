@@ -1,4 +1,4 @@
-use Rattle.std.proofs.Common.{arith, false, length, ◌-◌, ◌+◌}
+use Rattle.std.proofs.Common.{◌∙◌, arith, false, length, ◌-◌, ◌+◌}
 use Rattle.std.proofs.lemmas.Option.{slice_get_within}
 use Rattle.std.proofs.lemmas.Result.{err_from_is_err_and}
 use Rattle.abc_varint.specs.declared.error.ReadError.TheVariants as errors
@@ -16,6 +16,7 @@ returns-in_err-method-clause-value g c =
       (λ e h. absurd (let k = c.requires.fresh in cc)),
       omega (arith, c.loop.invariant.1, e.2),
       (λ k h. let r = e.3 c.loop.invariant.0.fresh (other_err c.in_err-method.field-0.0 errors.ReadFault h) in omega (arith, c.loop.invariant.1, r)),
+      (e.4.0, e.4.1 ∙ c.loop.invariant.0.ends_at),
     )
 
 pub set-requires : goal.set-requires
@@ -37,6 +38,7 @@ returns-clause-value g c = (
   (λ e h. absurd (let k = c.requires.fresh in cc)),
   c.loop.invariant.1,
   (λ k h. absurd cc),
+  tt,
 )
 
 pub loop-init : goal.loop-init

@@ -18,6 +18,7 @@ returns-in-Ok-clause-value g c =
       λ err k. absurd (let h = e.1 err k in cc),
       e.2,
       λ k h. absurd cc,
+      tt,
     )
 
 pub returns-in-Ok-clause-answers : goal.returns-in-Ok-clause-answers
@@ -39,6 +40,7 @@ returns-in-Err-clause-value g c =
       λ err k. other_err c.in-Err.e err (e.1 err k),
       e.2,
       λ k h. e.3 k (other_err c.in-Err.e errors.ReadFault h),
+      e.4,
     )
 
 pub returns-in-Err-clause-answers : goal.returns-in-Err-clause-answers

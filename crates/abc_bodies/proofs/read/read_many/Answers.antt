@@ -1,4 +1,4 @@
-use Rattle.std.proofs.Common.{arith, false, ◌-◌, ◌+◌}
+use Rattle.std.proofs.Common.{◌∙◌, arith, false, ◌-◌, ◌+◌}
 use Rattle.std.proofs.lemmas.List.Elements.{All-push}
 use Rattle.std.proofs.lemmas.Option.{slice_get_within}
 use Rattle.std.proofs.lemmas.Result.{err_from_is_err_and}
@@ -18,6 +18,7 @@ returns-in_err-body-clause-value g c =
       (λ e h. absurd (let k = c.requires.fresh in cc)),
       omega (arith, c.loop.invariant.later, e.2),
       (λ k h. let r = e.3 c.loop.invariant.collecting.chained.fresh (other_err c.in_err-body.field-0.0 errors.ReadFault h) in omega (arith, c.loop.invariant.later, r)),
+      (e.4.0, e.4.1 ∙ c.loop.invariant.collecting.chained.ends_at),
     )
 
 pub set-requires : goal.set-requires
@@ -41,6 +42,7 @@ returns-clause-value g c = (
   (λ e h. absurd (let k = c.requires.fresh in cc)),
   c.loop.invariant.later,
   (λ k h. absurd cc),
+  tt,
 )
 
 pub returns-clause-places : goal.returns-clause-places

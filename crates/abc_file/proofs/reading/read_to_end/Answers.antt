@@ -1,9 +1,14 @@
 use Rattle.std.proofs.lemmas.Result.{err_from_is_err_and}
-use Rattle.abc_file.proofs.Ending.{all_read, all_refused, more_follows}
+use Rattle.abc_file.proofs.Ending.{all_read, all_refused, more_follows, some_fits}
 use Rattle.abc_file.proofs.reading.read_to_end.Goals as goal
 
 pub returns-clause-answers : goal.returns-clause-answers
-returns-clause-answers g c = all_read c.args.w.now c.read_parts.new.w (g.S.Source.left c.args.source.now) (g.S.Source.left c.read_parts.new.source) c.in_ok-file.file c.requires c.in_ok-file.ensures.value.0 c.in_ok-read_nothing_more.ensures.ended
+returns-clause-answers g c =
+    all_read c.args.w.now c.read_parts.new.w c.read_nothing_more.new.w (g.S.Source.left c.args.source.now) (g.S.Source.left c.read_parts.new.source) (g.S.Source.left c.read_nothing_more.new.source) c.in_ok-file.file c.requires c.in_ok-file.ensures.value.0
+    c.in_ok-read_nothing_more.ensures.ended
+
+pub returns-clause-fits : goal.returns-clause-fits
+returns-clause-fits g c = some_fits (g.S.Source.left c.args.source.now) c.in_ok-file.file (returns-clause-answers g c)
 
 pub returns-in_err-file-clause-answers : goal.returns-in_err-file-clause-answers
 returns-in_err-file-clause-answers g c =
@@ -13,4 +18,5 @@ returns-in_err-file-clause-answers g c =
 pub returns-in_err-read_nothing_more-clause-answers : goal.returns-in_err-read_nothing_more-clause-answers
 returns-in_err-read_nothing_more-clause-answers g c =
     let p = err_from_is_err_and c.from_residual-in_err-read_nothing_more.result c.from_residual-in_err-read_nothing_more.ensures.1 in
-    rw (p.1, p.2) (more_follows c.args.w.now c.read_parts.new.w (g.S.Source.left c.args.source.now) (g.S.Source.left c.read_parts.new.source) c.in_ok-file.file c.in_err-read_nothing_more.field-0.0 c.requires c.in_ok-file.ensures.value.0 c.in_err-read_nothing_more.ensures.trailing)
+    rw (p.1, p.2) (more_follows c.args.w.now c.read_parts.new.w c.read_nothing_more.new.w (g.S.Source.left c.args.source.now) (g.S.Source.left c.read_parts.new.source) (g.S.Source.left c.read_nothing_more.new.source) c.in_ok-file.file c.requires c.in_ok-file.ensures.value.0
+    c.in_err-read_nothing_more.field-0.0 c.in_err-read_nothing_more.ensures.trailing)

@@ -5,6 +5,7 @@ use Rattle.abc_format.specs.declared.reason.Reason.TheVariants as reasons
 use Rattle.abc_tables.specs.Starts.{starts}
 use Rattle.abc_tables.proofs.Resolving.{missed_within}
 use Rattle.abc_varint.specs.declared.error.ReadError.TheVariants as errors
+use Rattle.abc_varint.proofs.Inputs.{known_is}
 use Rattle.abc_varint.proofs.Loop.{other_err}
 use Rattle.abc_instr.specs.Scanning.{raws_in}
 use Rattle.abc_instr.proofs.Scanned.{jumps_are}
@@ -16,7 +17,7 @@ returns-in_err-length g c =
     let p = err_from_is_err_and c.from_residual.result c.from_residual.ensures.1 in
     let e = c.in_err-length.field-0.0 in
     let v = c.in_err-length.ensures.value in
-    rw (p.1, p.2) ((λ k t. length_fails e _ (v.0 k t)), (λ f h. other_err e f (v.1 f h)), v.2, (λ k h. v.3 k (other_err e errors.ReadFault h)))
+    rw (p.1, p.2) ((λ k. ((v.0 k).0, length_fails e _ (v.0 k).1)), (λ f h. other_err e f (v.1 f h)), v.2, (λ k h. v.3 k (other_err e errors.ReadFault h)), v.4)
 
 pub returns-in_err-scan_code : goal.returns-in_err-scan_code
 returns-in_err-scan_code g c =
@@ -25,10 +26,11 @@ returns-in_err-scan_code g c =
     let length = c.in_ok-length.ensures.value in
     let v = c.in_err-scan_code.ensures in
     rw (p.1, p.2) (
-      (λ k t. let a = length.0.4 t in pieces_fail e c.in_ok-length.length _ _ a.1 (v.value length.0.1 a.0)),
+      (λ k. let f = v.value length.0.1 in let a = length.0.4 _ f.0 in (a.0, pieces_fail e c.in_ok-length.length _ _ a.1 f.1)),
       (λ f h. absurd (let k = length.0.0 in cc)),
       omega (arith, length.2, v.later),
       (λ k h. let r = v.cause length.0.1 (other_err e errors.ReadFault h) in omega (arith, length.2, r)),
+      (v.keeps.0, v.keeps.1 ∙ length.0.3),
     )
 
 pub put_scan-requires : goal.put_scan-requires
@@ -53,9 +55,9 @@ returns-in-Ok g c =
         v.3.1,
         omega (arith, length.0.2, v.3.2),
         v.3.3 ∙ length.0.3,
-        λ t.
-            let a = length.0.4 t in let b = v.3.4 a.0 in (
-              b.0,
+        λ input is.
+            let b = v.3.4 input is in let a = length.0.4 input b.0 in (
+              a.0,
               record {
                 value = record { instrs = p.instrs; offsets = starts 0 (raws_in v.0) };
                 read = code_found n _ _ _ v.0 p.instrs a.1 b.1 p.found;
@@ -67,6 +69,7 @@ returns-in-Ok g c =
       (λ e h. absurd (let k = length.0.0 in cc)),
       omega (arith, length.2, c.in_ok-scan_code.ensures.later),
       (λ k h. absurd cc),
+      tt,
     )
 
 pub returns-in-Err-Target : goal.returns-in-Err-Target
@@ -77,9 +80,10 @@ returns-in-Err-Target g c =
     let h = rw c.in-Err-Target.field-0-is at c.in-Err-Target.ensures in
     let d = refusal c.in-Err-Target.at reasons.Target in
     let m = is_missed n v.0 c.scan_code.new.scan v.1 v.2 c.args.out.now.items d h in
-    rw c.refuse.ensures.is (
-      (λ k t. let a = length.0.4 t in let b = v.3.4 a.0 in rw c.place-first.ensures.is (code_missed n _ _ _ v.0 d a.1 b.1 m)),
+    (
+      (λ k. let b = v.3.4 _ (known_is _ _) in let a = length.0.4 _ b.0 in (a.0, rw c.place-first.ensures.is (code_missed n _ _ _ v.0 d a.1 b.1 m))),
       (λ e h. absurd (let k = length.0.0 in cc)),
       omega (arith, length.2, c.in_ok-scan_code.ensures.later),
       (λ k h. absurd cc),
+      (v.3.1, v.3.3 ∙ length.0.3),
     )

@@ -16,7 +16,7 @@ pub returns-in_err-instr-clause-value : goal.returns-in_err-instr-clause-value
 unfolding pieces
 returns-in_err-instr-clause-value g c =
     let p = err_from_is_err_and c.from_residual-in_err-instr.result c.from_residual-in_err-instr.ensures.1 in
-    rw (p.1, p.2) (λ k t. fill_ends c.in_err-instr.field-0.0 (blamed instruction) c.args.byte_count c.loop.counter (pieces_of c.loop.instrs c.loop.starts) _ _ _ _ (omega arith) (omega arith) c.loop-test.true (omega arith) c.loop.invariant.filling c.in_err-instr.ensures.value t)
+    rw (p.1, p.2) (λ k. fill_ends c.in_err-instr.field-0.0 (blamed instruction) c.args.byte_count c.loop.counter (pieces_of c.loop.instrs c.loop.starts) _ _ _ _ _ (omega arith) (omega arith) c.loop-test.true (omega arith) c.loop.invariant.filling (c.in_err-instr.ensures.value c.loop.invariant.filling.fresh))
 
 pub loop-preserved : goal.loop-preserved
 loop-preserved g c =
@@ -40,5 +40,5 @@ pub returns-clause-value : goal.returns-clause-value
 unfolding pieces
 returns-clause-value g c =
     fill_done (blamed instruction) c.args.byte_count c.loop.counter (pieces_of c.loop.instrs c.loop.starts) _ _ _ _
-    (λ t. elim c.loop-test.branch [ else-loop-test w ↦ omega (arith, (c.loop.invariant.filling.room t).1) | then-loop-test+then-place-end w ↦ omega arith ])
+    (elim c.loop-test.branch [ else-loop-test w ↦ omega (arith, c.loop.invariant.filling.room.1) | then-loop-test+then-place-end w ↦ omega arith ])
     c.requires.fresh c.loop.invariant.filling

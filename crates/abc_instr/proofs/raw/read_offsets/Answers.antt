@@ -1,4 +1,4 @@
-use Rattle.std.proofs.Common.{◌-◌, ◌+◌, ◌^◌, ◌∷◌, [], length-append, map, arith}
+use Rattle.std.proofs.Common.{◌-◌, ◌+◌, ◌^◌, ◌∷◌, [], length-append, map, arith, ◌∙◌}
 use Rattle.std.proofs.lemmas.List.{map-append}
 use Rattle.std.proofs.lemmas.Result.{err_from_is_err_and}
 use Rattle.abc_format.specs.Numbers.{s24}
@@ -14,10 +14,11 @@ returns-in_err-offset-clause-value g c =
     let e = c.in_err-offset.ensures.value in
     let before = c.loop.invariant in
     rw (p.1, p.2) (
-      (λ k t. ends c.in_err-offset.field-0.0 s24 c.args.count (c.args.count - c.loop.counter) (map offset_of c.loop.offsets) _ _ _ _ (omega arith) before.going e.0 t),
+      (λ k. ends c.in_err-offset.field-0.0 s24 c.args.count (c.args.count - c.loop.counter) (map offset_of c.loop.offsets) _ _ _ _ _ (omega arith) before.going (e.0 before.going.fresh)),
       (λ e h. absurd (let k = c.requires in cc)),
       omega (arith, before.later, e.2),
       (λ k h. let r = e.3 before.going.fresh (other_err c.in_err-offset.field-0.0 errors.ReadFault h) in omega (arith, before.later, r)),
+      (e.4.0, e.4.1 ∙ before.going.ends_at),
     )
 
 pub loop-preserved : goal.loop-preserved

@@ -64,8 +64,8 @@ unfolding pieces
 returns-in_err-moved-clause-value g c =
     let p = err_from_is_err_and c.from_residual-in_err-moved.result c.from_residual-in_err-moved.ensures.1 in
     let inv = c.loop.invariant.1 in
-    rw (p.1, p.2) (λ k t. fill_ends c.in_err-moved.field-0.0 (blamed instruction) c.args.byte_count c.loop.counter (raws_in c.loop.invariant.0) _ _ _ _ (omega (arith, c.place-first.ensures.bound, c.place-first.ensures.is)) (omega (arith, c.requires.small)) c.loop-test.true
-    (omega (arith, c.if-here-byte_count.false, c.place.ensures.is, c.place-first.ensures.is, inv.size)) inv.filling c.in_err-moved.ensures.value t)
+    rw (p.1, p.2) (λ k. fill_ends c.in_err-moved.field-0.0 (blamed instruction) c.args.byte_count c.loop.counter (raws_in c.loop.invariant.0) _ _ _ _ _ (omega (arith, c.place-first.ensures.bound, c.place-first.ensures.is)) (omega (arith, c.requires.small)) c.loop-test.true
+    (omega (arith, c.if-here-byte_count.false, c.place.ensures.is, c.place-first.ensures.is, inv.size)) inv.filling (c.in_err-moved.ensures.value inv.filling.fresh))
 
 pub returns-after-loop-clause-value : goal.returns-after-loop-clause-value
 unfolding pieces
@@ -77,7 +77,7 @@ returns-after-loop-clause-value g c =
       record { some = inv.some; raw = inv.raw; size = omega (arith, inv.size, inv.within); few = omega (arith, inv.few, inv.moved, inv.within) },
       inv.moved,
       inv.size,
-      fill_done (blamed instruction) c.args.byte_count c.loop.counter (raws_in xs) _ _ _ _ (λ t. omega (arith, (inv.filling.room t).1, c.loop-test.false)) c.requires.fresh inv.filling,
+      fill_done (blamed instruction) c.args.byte_count c.loop.counter (raws_in xs) _ _ _ _ (omega (arith, inv.filling.room.1, c.loop-test.false)) c.requires.fresh inv.filling,
     )
 
 pub returns-then-here-byte_count-clause-value : goal.returns-then-here-byte_count-clause-value
@@ -90,5 +90,5 @@ returns-then-here-byte_count-clause-value g c =
       record { some = inv.some; raw = inv.raw; size = omega (arith, inv.size, inv.within); few = omega (arith, inv.few, inv.moved, inv.within) },
       inv.moved,
       inv.size,
-      fill_done (blamed instruction) c.args.byte_count c.loop.counter (raws_in xs) _ _ _ _ (λ t. omega (arith, c.if-here-byte_count.true, c.place.ensures.is, c.place-first.ensures.is, inv.size)) c.requires.fresh inv.filling,
+      fill_done (blamed instruction) c.args.byte_count c.loop.counter (raws_in xs) _ _ _ _ (omega (arith, c.if-here-byte_count.true, c.place.ensures.is, c.place-first.ensures.is, inv.size)) c.requires.fresh inv.filling,
     )

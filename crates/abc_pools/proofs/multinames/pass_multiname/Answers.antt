@@ -12,10 +12,10 @@ returns-in-TypeName g c =
         e2.0.1,
         omega (arith, e1.0.2, e2.0.2),
         e2.0.3 ∙ e1.0.3,
-        λ t.
-            let d1 = e1.0.4 t in let d2 = e2.0.4 d1.0 in
+        λ input is.
+            let d2 = e2.0.4 input is in let d1 = e1.0.4 input d2.0 in
             let x = d2.1 in (
-              d2.0,
+              d1.0,
               record {
                 value = names.TypeName x.value.0 x.value.1;
                 read = rw (d1.1, c.in-TypeName.is, x.read) refl;
@@ -27,4 +27,5 @@ returns-in-TypeName g c =
       (λ e h. absurd (let k = e1.0.0 in cc)),
       omega (arith, e1.2, e2.2),
       (λ k h. absurd cc),
+      tt,
     )

@@ -9,10 +9,10 @@ returns g c =
         e2.0.1,
         omega (arith, e1.0.2, e2.0.2),
         e2.0.3 ∙ e1.0.3,
-        λ t.
-            let d1 = e1.0.4 t in let d2 = e2.0.4 d1.0 in
+        λ input is.
+            let d2 = e2.0.4 input is in let d1 = e1.0.4 input d2.0 in
             let x = d2.1 in (
-              d2.0,
+              d1.0,
               record {
                 value = (c.in_ok-base.base, x.value);
                 read = rw (d1.1, x.read) refl;
@@ -24,4 +24,5 @@ returns g c =
       (λ e h. absurd (let k = e1.0.0 in cc)),
       omega (arith, e1.2, e2.2),
       (λ k h. absurd cc),
+      tt,
     )

@@ -16,9 +16,10 @@ returns g c =
         p.1,
         p.2,
         p.3,
-        λ t. let d = p.4 t in let x = d.1 in (d.0, record { value = x.value; read = in_pool name m x.value _ _ x.read x.tells; bytes = x.bytes; tells = x.tells }),
+        λ input is. let d = p.4 input is in let x = d.1 in (d.0, record { value = x.value; read = in_pool name m x.value _ _ x.read x.tells; bytes = x.bytes; tells = x.tells }),
       ),
       (λ e h. absurd (let k = read.0.0.0 in cc)),
       omega (arith, read.0.2, items.2),
       (λ k h. absurd cc),
+      tt,
     )

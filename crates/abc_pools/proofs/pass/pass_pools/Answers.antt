@@ -13,11 +13,11 @@ returns g c =
         e7.0.1,
         omega (arith, e1.0.2, e2.0.2, e3.0.2, e4.0.2, e5.0.2, e6.0.2, e7.0.2),
         e7.0.3 ∙ e6.0.3 ∙ e5.0.3 ∙ e4.0.3 ∙ e3.0.3 ∙ e2.0.3 ∙ e1.0.3,
-        λ t.
-            let d1 = e1.0.4 t in let d2 = e2.0.4 d1.0 in let d3 = e3.0.4 d2.0 in let d4 = e4.0.4 d3.0 in
-            let d5 = e5.0.4 d4.0 in let d6 = e6.0.4 d5.0 in let d7 = e7.0.4 d6.0 in
+        λ input is.
+            let d7 = e7.0.4 input is in let d6 = e6.0.4 input d7.0 in let d5 = e5.0.4 input d6.0 in let d4 = e4.0.4 input d5.0 in
+            let d3 = e3.0.4 input d4.0 in let d2 = e2.0.4 input d3.0 in let d1 = e1.0.4 input d2.0 in
             let x1 = d1.1 in let x2 = d2.1 in let x3 = d3.1 in let x4 = d4.1 in let x5 = d5.1 in let x6 = d6.1 in let x7 = d7.1 in (
-              d7.0,
+              d1.0,
               record {
                 value = with_pools (x1.value, (x2.value, (x3.value, (x4.value, (x5.value, (x6.value, x7.value))))));
                 read = rw (x1.read, x2.read, x3.read, x4.read, ← x4.tells, x5.read, ← x5.tells, x6.read, ← x6.tells, x7.read) refl;
@@ -29,4 +29,5 @@ returns g c =
       (λ e h. absurd (let k = e1.0.0 in cc)),
       omega (arith, e1.2, e2.2, e3.2, e4.2, e5.2, e6.2, e7.2),
       (λ k h. absurd cc),
+      tt,
     )

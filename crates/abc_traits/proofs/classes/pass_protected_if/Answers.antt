@@ -12,8 +12,8 @@ returns-in_ok-pass g c =
         e1.0.1,
         e1.0.2,
         e1.0.3,
-        λ t.
-            let d1 = e1.0.4 t in
+        λ input is.
+            let d1 = e1.0.4 input is in
             let x1 = d1.1 in (
               d1.0,
               record {
@@ -27,4 +27,5 @@ returns-in_ok-pass g c =
       (λ e h. absurd (let k = e1.0.0 in cc)),
       omega (arith, e1.2),
       (λ k h. absurd cc),
+      tt,
     )

@@ -14,10 +14,10 @@ returns g c =
         e3.0.1,
         omega (arith, e1.0.2, e2.0.2, e3.0.2),
         e3.0.3 ∙ e2.0.3 ∙ e1.0.3,
-        λ t.
-            let d1 = e1.0.4 t in let d2 = e2.0.4 d1.0 in let d3 = e3.0.4 d2.0 in
+        λ input is.
+            let d3 = e3.0.4 input is in let d2 = e2.0.4 input d3.0 in let d1 = e1.0.4 input d2.0 in
             let x1 = d1.1 in let x3 = d3.1 in let half : length x3.value / 2 ≡ c.in_ok-count.count = omega (arith, times_count (2 * c.in_ok-count.count) (pool_index (c.args.sizes.now).strings) _ _ x3.value x3.read) in (
-              d3.0,
+              d1.0,
               record {
                 value = record { name = x1.value; items = x3.value };
                 read = rw (x1.read, d2.1, x3.read) refl;
@@ -29,4 +29,5 @@ returns g c =
       (λ e h. absurd (let k = e1.0.0 in cc)),
       omega (arith, e1.2, e2.2, e3.2),
       (λ k h. absurd cc),
+      tt,
     )

@@ -14,10 +14,11 @@ returns g c =
         e7.0.1,
         omega (arith, e1.0.2, e2.0.2, e3.0.2, e4.0.2, e5.0.2, e6.0.2, e7.0.2),
         e7.0.3 ∙ e6.0.3 ∙ e5.0.3 ∙ e4.0.3 ∙ e3.0.3 ∙ e2.0.3 ∙ e1.0.3,
-        λ t.
-            let d1 = e1.0.4 t in let d2 = e2.0.4 d1.0 in let d3 = e3.0.4 d2.0 in let d4 = e4.0.4 d3.0 in let d5 = e5.0.4 d4.0 in let d6 = e6.0.4 d5.0 in let d7 = e7.0.4 d6.0 in
+        λ input is.
+            let d7 = e7.0.4 input is in let d6 = e6.0.4 input d7.0 in let d5 = e5.0.4 input d6.0 in let d4 = e4.0.4 input d5.0 in
+            let d3 = e3.0.4 input d4.0 in let d2 = e2.0.4 input d3.0 in let d1 = e1.0.4 input d2.0 in
             let x2 = d2.1 in let x3 = d3.1 in let x4 = d4.1 in let x6 = d6.1 in let x7 = d7.1 in let count : length x3.value ≡ c.in_ok-count.count = times_count c.in_ok-count.count (pool_index (c.args.sizes.now).names) _ _ x3.value x3.read in (
-              d7.0,
+              d1.0,
               record {
                 value = record { ret = x2.value; params = x3.value; name = x4.value; flags = c.in_ok-flags.flags; options = x6.value; param_names = x7.value };
                 read = rw (d1.1, x2.read, x3.read, x4.read, d5.1, ← c.has_flag-optional.ensures, x6.read, ← c.has_flag-named.ensures, x7.read) refl;
@@ -29,4 +30,5 @@ returns g c =
       (λ e h. absurd (let k = e1.0.0 in cc)),
       omega (arith, e1.2, e2.2, e3.2, e4.2, e5.2, e6.2, e7.2),
       (λ k h. absurd cc),
+      tt,
     )

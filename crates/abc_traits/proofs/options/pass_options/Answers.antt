@@ -14,10 +14,10 @@ returns g c =
         e2.0.1,
         omega (arith, e1.0.2, e2.0.2),
         e2.0.3 ∙ e1.0.3,
-        λ t.
-            let d1 = e1.0.4 t in let d2 = e2.0.4 d1.0 in
+        λ input is.
+            let d2 = e2.0.4 input is in let d1 = e1.0.4 input d2.0 in
             let x2 = d2.1 in let count : length x2.value ≡ c.in_ok-count.count = times_count c.in_ok-count.count (option_value c.args.sizes.now) _ _ x2.value x2.read in (
-              d2.0,
+              d1.0,
               record {
                 value = x2.value;
                 read = rw (d1.1, x2.read) refl;
@@ -29,4 +29,5 @@ returns g c =
       (λ e h. absurd (let k = e1.0.0 in cc)),
       omega (arith, e1.2, e2.2),
       (λ k h. absurd cc),
+      tt,
     )

@@ -12,10 +12,10 @@ returns-clause-value g c =
         e3.0.1,
         omega (arith, e1.0.2, e2.0.2, e3.0.2),
         e3.0.3 ∙ e2.0.3 ∙ e1.0.3,
-        λ t.
-            let d1 = e1.0.4 t in let d2 = e2.0.4 d1.0 in let d3 = e3.0.4 d2.0 in
+        λ input is.
+            let d3 = e3.0.4 input is in let d2 = e2.0.4 input d3.0 in let d1 = e1.0.4 input d2.0 in
             let x1 = d1.1 in let x2 = d2.1 in let x3 = d3.1 in (
-              d3.0,
+              d1.0,
               record {
                 value = (x1.value, (x2.value, x3.value));
                 read = rw (x1.read, x2.read, x3.read) refl;
@@ -27,4 +27,5 @@ returns-clause-value g c =
       (λ e h. absurd (let k = e1.0.0 in cc)),
       omega (arith, e1.2, e2.2, e3.2),
       (λ k h. absurd cc),
+      tt,
     )

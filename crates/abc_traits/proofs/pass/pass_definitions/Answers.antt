@@ -12,10 +12,10 @@ returns g c =
         e4.0.1,
         omega (arith, e1.0.2, e2.0.2, e3.0.2, e4.0.2),
         e4.0.3 ∙ e3.0.3 ∙ e2.0.3 ∙ e1.0.3,
-        λ t.
-            let d1 = e1.0.4 t in let d2 = e2.0.4 d1.0 in let d3 = e3.0.4 d2.0 in let d4 = e4.0.4 d3.0 in
+        λ input is.
+            let d4 = e4.0.4 input is in let d3 = e3.0.4 input d4.0 in let d2 = e2.0.4 input d3.0 in let d1 = e1.0.4 input d2.0 in
             let x1 = d1.1 in let x2 = d2.1 in let x4 = d4.1 in let classes : length x4.value.1.0 ≡ c.in_ok-count.count = sym x4.tells ∙ c.in_ok-pass_classes.ensures.count in (
-              d4.0,
+              d1.0,
               record {
                 value = record { methods = x1.value; metadata = x2.value; instances = x4.value.0; classes = x4.value.1.0; scripts = x4.value.1.1 };
                 read = rw (x1.read, ← x1.tells, x2.read, ← x2.tells, d3.1, x4.read) refl;
@@ -27,4 +27,5 @@ returns g c =
       (λ e h. absurd (let k = e1.0.0 in cc)),
       omega (arith, e1.2, e2.2, e3.2, e4.2),
       (λ k h. absurd cc),
+      tt,
     )

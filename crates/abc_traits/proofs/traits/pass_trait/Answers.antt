@@ -11,10 +11,10 @@ returns g c =
         e4.0.1,
         omega (arith, e1.0.2, e2.0.2, e3.0.2, e4.0.2),
         e4.0.3 ∙ e3.0.3 ∙ e2.0.3 ∙ e1.0.3,
-        λ t.
-            let d1 = e1.0.4 t in let d2 = e2.0.4 d1.0 in let d3 = e3.0.4 d2.0 in let d4 = e4.0.4 d3.0 in
+        λ input is.
+            let d4 = e4.0.4 input is in let d3 = e3.0.4 input d4.0 in let d2 = e2.0.4 input d3.0 in let d1 = e1.0.4 input d2.0 in
             let x1 = d1.1 in let x4 = d4.1 in (
-              d4.0,
+              d1.0,
               record {
                 value = record { name = x1.value; attrs = c.in_ok-kind.attrs; body = c.in_ok-body.body; metadata = x4.value };
                 read = rw (x1.read, d2.1, d3.1, ← c.has_flag-described.ensures, x4.read) refl;
@@ -26,4 +26,5 @@ returns g c =
       (λ e h. absurd (let k = e1.0.0 in cc)),
       omega (arith, e1.2, e2.2, e3.2, e4.2),
       (λ k h. absurd cc),
+      tt,
     )
