@@ -1,4 +1,4 @@
-ghost use Rattle.std.specs.Prelude.{◌≡◌, ◌≤◌, ℕ, List, None, Some, IfOk, get_or, length};
+ghost use Rattle.std.specs.Prelude.{◌≡◌, ◌≤◌, ℕ, List, None, Some, IfOk, OnErr, get_or, length};
 ghost use Rattle.abc_tables.specs.Opcodes.{form_at};
 ghost use Rattle.abc_instr.specs.Fronts.{IsFront, PutsFront, TakesFront, count_of};
 
@@ -132,7 +132,8 @@ fn put_front(bytes: &[u8], plain: &mut Vec<u8>) -> Result<Option<Front>, NoMemor
 /// past it. `None`, and nothing changed, where that can't be done.
 #[inline(always)]
 pub fn take_front(w: &mut Window, plain: &mut Vec<u8>) -> Result<Option<Front>, NoMemory>
-    ensures { IfOk result (λ f. TakesFront f w.old w.new plain.old.items plain.new.items) }
+    ensures taken { IfOk result (λ f. TakesFront f w.old w.new plain.old.items plain.new.items) }
+    ensures same { OnErr result (w.new ≡ w.old) }
 {
     if !w.is_ready(ROOM) {
         return Ok(None);

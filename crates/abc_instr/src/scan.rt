@@ -123,6 +123,7 @@ impl Scan {
     /// Passes by an instruction straight from the bytes at hand, where that can be done. Gives where it ends in the
     /// canonical bytes.
     #[inline(always)]
+    #[tactic(auto, using(abc_varint::proofs::Inputs::known_is))]
     fn pass_next<S: Source>(
         &mut self,
         alloc: Global,

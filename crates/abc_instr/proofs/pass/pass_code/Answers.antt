@@ -5,6 +5,7 @@ use Rattle.abc_format.specs.declared.reason.Reason.TheVariants as reasons
 use Rattle.abc_tables.specs.Starts.{starts}
 use Rattle.abc_tables.proofs.Resolving.{missed_within}
 use Rattle.abc_varint.specs.declared.error.ReadError.TheVariants as errors
+use Rattle.abc_varint.specs.Reads.{known}
 use Rattle.abc_varint.proofs.Inputs.{known_is}
 use Rattle.abc_varint.proofs.Loop.{other_err}
 use Rattle.abc_instr.specs.Scanning.{raws_in}
@@ -36,8 +37,8 @@ returns-in_err-scan_code g c =
 pub put_scan-requires : goal.put_scan-requires
 put_scan-requires g c = let v = c.in_ok-scan_code.ensures.value in jumps_are c.in_ok-length.length v.0 c.scan_code.new.scan c.in_ok-length.ensures.small v.1 v.2
 
-pub overflow_add-first : goal.overflow_add-first
-overflow_add-first g c =
+pub overflow_add-result : goal.overflow_add-result
+overflow_add-result g c =
     let v = c.in_ok-scan_code.ensures.value in
     let h = rw c.in-Err-Target.field-0-is at c.in-Err-Target.ensures in
     let d = refusal c.in-Err-Target.at reasons.Target in
@@ -81,7 +82,9 @@ returns-in-Err-Target g c =
     let d = refusal c.in-Err-Target.at reasons.Target in
     let m = is_missed n v.0 c.scan_code.new.scan v.1 v.2 c.args.out.now.items d h in
     (
-      (λ k. let b = v.3.4 _ (known_is _ _) in let a = length.0.4 _ b.0 in (a.0, rw c.place-first.ensures.is (code_missed n _ _ _ v.0 d a.1 b.1 m))),
+      (λ k.
+          let w2 = c.scan_code.new.w in let s2 = g.S.Source.left c.scan_code.new.source in
+          let b = v.3.4 (known w2 s2) (known_is w2 s2) in let a = length.0.4 (known w2 s2) b.0 in (a.0, rw c.place-first.ensures.is (code_missed n _ _ _ v.0 d a.1 b.1 m))),
       (λ e h. absurd (let k = length.0.0 in cc)),
       omega (arith, length.2, c.in_ok-scan_code.ensures.later),
       (λ k h. absurd cc),

@@ -33,8 +33,8 @@ returns-in-Ok-clause-ready g c =
     resolved_ready p.starts p.instrs c.resolve_all.new.instrs e.count c.in-Ok.ensures.count c.in-Ok.ensures.value e.raw (omega (arith, e.few, c.in_ok-length.ensures.small))
 
 -- where the target that was missed stands
-pub overflow_add-first : goal.overflow_add-first
-overflow_add-first g c =
+pub overflow_add-result : goal.overflow_add-result
+overflow_add-result g c =
     let p = c.in_ok-pieces.pieces in
     let e = c.in_ok-pieces.ensures in
     let h = rw c.in-Err-Target.field-0-is at c.in-Err-Target.ensures in

@@ -12,7 +12,7 @@ use Rattle.abc_instr.proofs.scan.Scan.pass_next.Goals as goal
 pub returns-in-Some-Put-clause-value : goal.returns-in-Some-Put-clause-value
 returns-in-Some-Put-clause-value g c =
     let f = c.in-Some-Put.field-0 in
-    let t = rw c.in-Some-Put.is at c.in_ok-take_front.ensures in
+    let t = rw c.in-Some-Put.is at c.in_ok-take_front.ensures.taken in
     let front = t.2 in
     let none : jump_in front.instr ≡ None = sym front.told ∙ ap branch_in c.in-Some-Put.field-0-is in
     let moves = passed f _ _ _ _ t.0 t.1 front in
@@ -31,7 +31,7 @@ returns-in-Some-Put-clause-value g c =
 pub returns-in_ok-keep-in-Some-Branch-clause-value : goal.returns-in_ok-keep-in-Some-Branch-clause-value
 returns-in_ok-keep-in-Some-Branch-clause-value g c =
     let f = c.in-Some-Branch.field-0 in
-    let t = rw c.in-Some-Branch.is at c.in_ok-take_front.ensures in
+    let t = rw c.in-Some-Branch.is at c.in_ok-take_front.ensures.taken in
     let front = t.2 in
     let keep = c.in_ok-keep-in-Some-Branch.ensures in
     let jump = instrs.Branch c.in-Some-Branch.op c.in-Some-Branch.offset in
