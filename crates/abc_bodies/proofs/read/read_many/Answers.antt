@@ -4,6 +4,8 @@ use Rattle.std.proofs.lemmas.Option.{slice_get_within}
 use Rattle.std.proofs.lemmas.Result.{err_from_is_err_and}
 use Rattle.abc_tables.specs.Bodies.{IsReadyBody}
 use Rattle.abc_varint.specs.declared.error.ReadError.TheVariants as errors
+use Rattle.abc_varint.specs.Reads.{known}
+use Rattle.abc_varint.proofs.Inputs.{known_is}
 use Rattle.abc_varint.proofs.Loop.{other_err}
 use Rattle.abc_bodies.proofs.Collecting.{collects, fails, collected}
 use Rattle.abc_bodies.proofs.read.read_many.Goals as goal
@@ -47,3 +49,33 @@ returns-clause-value g c = (
 
 pub returns-clause-places : goal.returns-clause-places
 returns-clause-places g c = c.loop.invariant.collecting.placed
+
+pub returns-in_err-push-clause-value : goal.returns-in_err-push-clause-value
+returns-in_err-push-clause-value g c =
+    let p = err_from_is_err_and c.from_residual-in_err-push.result c.from_residual-in_err-push.ensures.1 in
+    let e = c.in_ok-body.ensures.value in
+    let before = c.loop.invariant in
+    let w = c.read_body.new.w in
+    let s = g.S.Source.left c.read_body.new.source in
+    rw (p.1, p.2) (
+      (λ k. (before.collecting.chained.told (known w s) (e.0.4 (known w s) (known_is w s)).0, tt)),
+      (λ e h. absurd (let k = c.requires.fresh in cc)),
+      omega (arith, before.later, e.2),
+      (λ k h. absurd cc),
+      (e.0.1, e.0.3 ∙ before.collecting.chained.ends_at),
+    )
+
+pub returns-in_err-push-2-clause-value : goal.returns-in_err-push-2-clause-value
+returns-in_err-push-2-clause-value g c =
+    let p = err_from_is_err_and c.from_residual-in_err-push-2.result c.from_residual-in_err-push-2.ensures.1 in
+    let e = c.in_ok-body.ensures.value in
+    let before = c.loop.invariant in
+    let w = c.read_body.new.w in
+    let s = g.S.Source.left c.read_body.new.source in
+    rw (p.1, p.2) (
+      (λ k. (before.collecting.chained.told (known w s) (e.0.4 (known w s) (known_is w s)).0, tt)),
+      (λ e h. absurd (let k = c.requires.fresh in cc)),
+      omega (arith, before.later, e.2),
+      (λ k h. absurd cc),
+      (e.0.1, e.0.3 ∙ before.collecting.chained.ends_at),
+    )
