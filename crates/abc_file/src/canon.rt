@@ -49,7 +49,7 @@ fn pass_parts<S: Source>(
 }
 
 /// Passes the file, and nothing after it.
-#[tactic(auto, using(crate::proofs::Ending::used_up_first))]
+#[tactic(auto)]
 fn pass_to_end<S: Source>(
     alloc: Global,
     w: &mut Window,

@@ -67,7 +67,7 @@ fn read_parts<S: Source>(
 }
 
 /// The file, and nothing after it.
-#[tactic(auto, using(crate::proofs::Ending::used_up_first))]
+#[tactic(auto)]
 fn read_to_end<S: Source>(
     alloc: Global,
     w: &mut Window,

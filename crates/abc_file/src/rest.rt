@@ -7,7 +7,7 @@ use abc_base::Source;
 use abc_varint::{ReadError, Reason, Window};
 
 /// Ok where nothing follows what was read; a byte that does is refused by `Trailing`.
-#[tactic(auto, using(crate::proofs::Ending::used_up, abc_varint::proofs::Inputs::known_is))]
+#[tactic(auto, using(abc_varint::proofs::Inputs::known_is))]
 pub fn read_nothing_more<S: Source>(w: &mut Window, source: &mut S) -> Result<(), ReadError>
     requires { w.old.kept ≡ None }
     ensures ended { OnOk result (IsEnd w.old (S.left source.old) w.new (S.left source.new)) }

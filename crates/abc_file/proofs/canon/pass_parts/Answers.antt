@@ -47,7 +47,7 @@ returns-in_err-sizes g c =
     let e1 = c.in_ok-pass_version.ensures in let e2 = c.in_ok-pools.ensures in let e3 = c.in_err-sizes.ensures in
     rw (p.1, p.2) (
       (λ k.
-          let f = e3.0 e2.0.1 in let input = known c.sizes.new.w (g.S.Source.left c.sizes.new.source) in
+          let f = e3.0 e2.0.1 in let input = known c.pass_definitions.new.w (g.S.Source.left c.pass_definitions.new.source) in
           let d2 = e2.0.4 input f.0 in let d1 = e1.0.4 input d2.0 in let x1 = d1.1 in let x2 = d2.1 in
           (d1.0, definitions_fail c.in_err-sizes.field-0.0 _ _ _ x1.value x2.value c.in_ok-pools.pools x1.read x2.read x2.tells f.1)),
       (λ e h. absurd (let k = e1.0.0 in cc)),

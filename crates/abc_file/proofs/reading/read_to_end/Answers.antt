@@ -1,5 +1,5 @@
 use Rattle.std.proofs.lemmas.Result.{err_from_is_err_and}
-use Rattle.abc_file.proofs.Ending.{all_read, all_refused, more_follows, some_fits}
+use Rattle.abc_file.proofs.Ending.{all_read, all_refused, more_follows, some_fits, used_up_first}
 use Rattle.abc_file.proofs.reading.read_to_end.Goals as goal
 
 pub returns-clause-answers : goal.returns-clause-answers
@@ -20,3 +20,8 @@ returns-in_err-read_nothing_more-clause-answers g c =
     let p = err_from_is_err_and c.from_residual-in_err-read_nothing_more.result c.from_residual-in_err-read_nothing_more.ensures.1 in
     rw (p.1, p.2) (more_follows c.args.w.now c.read_parts.new.w c.read_nothing_more.new.w (g.S.Source.left c.args.source.now) (g.S.Source.left c.read_parts.new.source) (g.S.Source.left c.read_nothing_more.new.source) c.in_ok-file.file c.requires c.in_ok-file.ensures.value.0
     c.in_err-read_nothing_more.field-0.0 c.in_err-read_nothing_more.ensures.trailing)
+
+pub returns-clause-end : goal.returns-clause-end
+returns-clause-end g c =
+    used_up_first c.args.w.now c.read_parts.new.w (g.S.Source.left c.args.source.now) (g.S.Source.left c.read_parts.new.source) (g.S.Source.left c.read_nothing_more.new.source) (λ input is. (c.in_ok-file.ensures.value.0.4 input is).0)
+    c.in_ok-read_nothing_more.ensures.end
