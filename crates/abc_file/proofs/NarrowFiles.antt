@@ -1,27 +1,24 @@
 -- The narrow format spells just the narrow values, by the same bytes.
-use Rattle.std.proofs.Common.{◌≡◌, ◌↔◌, ℕ, Bool, true, false, List, [], ◌∷◌, length, map, refl, sym, ap, subst, ◌∙◌, eqb-true, arith}
+use Rattle.std.proofs.Common.{◌≡◌, ◌↔◌, ℕ, Bool, true, false, List, [], ◌∷◌, length, map, refl, sym, ap, ◌∙◌, eqb-true, arith}
 use Rattle.std.specs.Prelude.{All, ◌+◌, nat_eq, unwrap_or}
 use Rattle.std.proofs.lemmas.Bool.Decides.{nat_tests}
 use Rattle.std.proofs.lemmas.List.Elements.{All-cons, All-head, All-map, All-nil, All-same, All-tail}
 use Rattle.abc_format.specs.Canonical.{IsCanonical}
 use Rattle.abc_format.specs.Ends.{Pieces}
-use Rattle.abc_format.specs.Lists.{chain}
 use Rattle.abc_format.specs.Numbers.{u8, u30}
 use Rattle.abc_format.specs.Part.{Part, then_by}
 use Rattle.abc_tables.specs.declared.code.Body.{Body}
 use Rattle.abc_tables.specs.declared.code.Instr.{Instr}
-use Rattle.abc_tables.specs.declared.code.Instr.TheVariants as instrs
 use Rattle.abc_tables.specs.declared.instructions.Code.{Code}
 use Rattle.abc_tables.specs.declared.names.Multiname.{Multiname}
-use Rattle.abc_tables.specs.declared.names.Multiname.TheVariants as names
 use Rattle.abc_tables.specs.declared.names.MultinameKind.{MultinameKind}
 use Rattle.abc_tables.specs.declared.names.MultinameKind.TheVariants as kinds
 use Rattle.abc_tables.specs.declared.opcodes.Form.{Form}
 use Rattle.abc_tables.specs.declared.opcodes.Form.TheVariants as forms
 use Rattle.abc_tables.specs.declared.tables.Abc.{Abc}
-use Rattle.abc_tables.specs.Bodies.{bodies, bodies_alone, body, body_list, body_method, body_with, methods_of}
+use Rattle.abc_tables.specs.Bodies.{bodies, bodies_alone, body, body_list, body_with, methods_of}
 use Rattle.abc_tables.specs.Classes.{definitions, sizes_of}
-use Rattle.abc_tables.specs.Code.{Means, MeansAll, SpellsCode, SpellsCodeOf, code, code_body}
+use Rattle.abc_tables.specs.Code.{Means, MeansAll, code, code_body}
 use Rattle.abc_tables.specs.Files.{file, file_bytes}
 use Rattle.abc_tables.specs.Instructions.{Branch, RawInstr, Same, Switch, instruction, opcode, opcode_in, operands}
 use Rattle.abc_tables.specs.Opcodes.{form_at, info_at, is_opcode}
