@@ -1,27 +1,24 @@
 -- The narrow format spells just the narrow values, by the same bytes.
-use Rattle.std.proofs.Common.{◌≡◌, ◌↔◌, ℕ, Bool, true, false, List, [], ◌∷◌, length, map, refl, sym, ap, subst, ◌∙◌, eqb-true, arith}
+use Rattle.std.proofs.Common.{◌≡◌, ◌↔◌, ℕ, Bool, true, false, List, [], ◌∷◌, length, map, refl, sym, ap, ◌∙◌, eqb-true, arith}
 use Rattle.std.specs.Prelude.{All, ◌+◌, nat_eq, unwrap_or}
 use Rattle.std.proofs.lemmas.Bool.Decides.{nat_tests}
 use Rattle.std.proofs.lemmas.List.Elements.{All-cons, All-head, All-map, All-nil, All-same, All-tail}
 use Rattle.abc_format.specs.Canonical.{IsCanonical}
 use Rattle.abc_format.specs.Ends.{Pieces}
-use Rattle.abc_format.specs.Lists.{chain}
 use Rattle.abc_format.specs.Numbers.{u8, u30}
 use Rattle.abc_format.specs.Part.{Part, then_by}
 use Rattle.abc_tables.specs.declared.code.Body.{Body}
 use Rattle.abc_tables.specs.declared.code.Instr.{Instr}
-use Rattle.abc_tables.specs.declared.code.Instr.TheVariants as instrs
 use Rattle.abc_tables.specs.declared.instructions.Code.{Code}
 use Rattle.abc_tables.specs.declared.names.Multiname.{Multiname}
-use Rattle.abc_tables.specs.declared.names.Multiname.TheVariants as names
 use Rattle.abc_tables.specs.declared.names.MultinameKind.{MultinameKind}
 use Rattle.abc_tables.specs.declared.names.MultinameKind.TheVariants as kinds
 use Rattle.abc_tables.specs.declared.opcodes.Form.{Form}
 use Rattle.abc_tables.specs.declared.opcodes.Form.TheVariants as forms
 use Rattle.abc_tables.specs.declared.tables.Abc.{Abc}
-use Rattle.abc_tables.specs.Bodies.{bodies, bodies_alone, body, body_list, body_method, body_with, methods_of}
+use Rattle.abc_tables.specs.Bodies.{bodies, bodies_alone, body, body_list, body_with, methods_of}
 use Rattle.abc_tables.specs.Classes.{definitions, sizes_of}
-use Rattle.abc_tables.specs.Code.{Means, MeansAll, SpellsCode, SpellsCodeOf, code, code_body}
+use Rattle.abc_tables.specs.Code.{Means, MeansAll, code, code_body}
 use Rattle.abc_tables.specs.Files.{file, file_bytes}
 use Rattle.abc_tables.specs.Instructions.{Branch, RawInstr, Same, Switch, instruction, opcode, opcode_in, operands}
 use Rattle.abc_tables.specs.Opcodes.{form_at, info_at, is_opcode}
@@ -208,28 +205,28 @@ bodies_narrow abc =
 -- ---- the whole file
 
 -- the pools, the definitions and the bodies, each beside those before them
-abbrev Steps : Type 0
-Steps = Abc × (Abc × Abc)
+abbrev Stages : Type 0
+Stages = Abc × (Abc × Abc)
 
-abbrev all_steps : Part Steps
-all_steps = then_by pools (λ abc. then_by (definitions abc) (λ full. bodies_alone full))
+abbrev all_stages : Part Stages
+all_stages = then_by pools (λ abc. then_by (definitions abc) (λ full. bodies_alone full))
 
-same_names : (x : Steps) (b : List ℕ) → all_steps.spells x b → x.1.1.names ≡ x.0.names
+same_names : (x : Stages) (b : List ℕ) → all_stages.spells x b → x.1.1.names ≡ x.0.names
 unfolding definitions bodies_alone bodies
 same_names x b s =
     let full = s.4.3 in let last = s.4.4 in
     ap (λ (v : Abc). v.names) last.2 ∙ ap (λ (y : Abc × List (List ℕ)). (y.0).names) last.1.2 ∙ ap (λ (v : Abc). v.names) full.2
 
-steps_narrow : Narrows (then_by (pools_of narrow_names) (λ abc. then_by (definitions abc) narrow_bodies)) all_steps (λ x. IsNarrow x.1.1)
-steps_narrow =
-    told_narrows _ _ (λ (x : Steps). All HasNone x.0.names × All HasNoApplytype x.1.1.bodies) (λ (x : Steps). IsNarrow x.1.1)
+stages_narrow : Narrows (then_by (pools_of narrow_names) (λ abc. then_by (definitions abc) narrow_bodies)) all_stages (λ x. IsNarrow x.1.1)
+stages_narrow =
+    told_narrows _ _ (λ (x : Stages). All HasNone x.0.names × All HasNoApplytype x.1.1.bodies) (λ (x : Stages). IsNarrow x.1.1)
     (λ x b s h. record { names = All-same HasNone x.1.1.names x.0.names (same_names x b s) h.0; code = h.1 })
     (λ x b s h. (All-same HasNone x.0.names x.1.1.names (sym (same_names x b s)) h.names, h.code))
     (pair_narrows _ _ _ _ (λ v. All HasNone v.names) (λ (y : Abc × Abc). All HasNoApplytype y.1.bodies) pools_narrow (λ abc. second_narrows _ _ _ _ bodies_narrow))
 
 file_narrows : Narrows narrow_file file IsNarrow
 unfolding narrow_file file
-file_narrows = image_narrows _ _ _ IsNarrow (second_narrows _ _ _ _ (λ version. steps_narrow))
+file_narrows = image_narrows _ _ _ IsNarrow (second_narrows _ _ _ _ (λ version. stages_narrow))
 
 pub just_narrow : (v : Abc) (b : List ℕ) → narrow_file.spells v b ↔ (file.spells v b × IsNarrow v)
 just_narrow v b = (file_narrows.wider v b, λ h. file_narrows.narrower v b h.0 h.1)

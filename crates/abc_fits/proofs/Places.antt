@@ -8,9 +8,9 @@ use Rattle.abc_tables.specs.Starts.{start}
 use Rattle.abc_tables.proofs.Lengths.{canonical_count, number_five}
 use Rattle.abc_tables.proofs.Meaning.{starts_from}
 use Rattle.abc_tables.proofs.Resolving.{length-starts}
-use Rattle.abc_fits.specs.declared.body_lengths.Steps.{Steps}
+use Rattle.abc_fits.specs.declared.body_lengths.Widths.{Widths}
 use Rattle.abc_fits.specs.Lengths.{place_len}
-use Rattle.abc_fits.specs.Steps.{AreSteps, IsFirstFrom}
+use Rattle.abc_fits.specs.StartWidths.{AreWidths, IsFirstFrom}
 
 -- ---- starts
 
@@ -42,7 +42,7 @@ passed code i here x lt e is = rw add-one (omega (arith, next_start code i x lt 
 
 -- ---- the bytes of a start
 
-module _ (code : List Instr) (s : Steps) (steps : AreSteps code s) (t : ℕ) where
+module _ (code : List Instr) (s : Widths) (widths : AreWidths code s) (t : ℕ) where
   pub past : length code < t → place_len (canonical_starts code) t ≡ 1
   past more = ap number_len (get_or-eq_default (canonical_starts code) 0 (omega (arith, canonical_count code))) ∙ length_1 0 (omega arith)
 
@@ -50,16 +50,16 @@ module _ (code : List Instr) (s : Steps) (steps : AreSteps code s) (t : ℕ) whe
   at le = ap number_len (start_at code t le)
 
   pub one : t ≤ length code → t < s.two → place_len (canonical_starts code) t ≡ 1
-  one le lt = at le ∙ length_1 (start (sized code) t) (steps.two.before t le lt)
+  one le lt = at le ∙ length_1 (start (sized code) t) (widths.two.before t le lt)
 
   pub two : t ≤ length code → s.two ≤ t → t < s.three → place_len (canonical_starts code) t ≡ 2
-  two le ge lt = at le ∙ length_2 (start (sized code) t) (steps.two.from t le ge) (steps.three.before t le lt)
+  two le ge lt = at le ∙ length_2 (start (sized code) t) (widths.two.from t le ge) (widths.three.before t le lt)
 
   pub three : t ≤ length code → s.three ≤ t → t < s.four → place_len (canonical_starts code) t ≡ 3
-  three le ge lt = at le ∙ length_3 (start (sized code) t) (steps.three.from t le ge) (steps.four.before t le lt)
+  three le ge lt = at le ∙ length_3 (start (sized code) t) (widths.three.from t le ge) (widths.four.before t le lt)
 
   pub four : t ≤ length code → s.four ≤ t → t < s.five → place_len (canonical_starts code) t ≡ 4
-  four le ge lt = at le ∙ length_4 (start (sized code) t) (steps.four.from t le ge) (steps.five.before t le lt)
+  four le ge lt = at le ∙ length_4 (start (sized code) t) (widths.four.from t le ge) (widths.five.before t le lt)
 
   pub five : t ≤ length code → s.five ≤ t → place_len (canonical_starts code) t ≡ 5
-  five le ge = at le ∙ number_five (start (sized code) t) (steps.five.from t le ge)
+  five le ge = at le ∙ number_five (start (sized code) t) (widths.five.from t le ge)

@@ -1,4 +1,4 @@
--- Bodies of different methods.
+-- For the prover alone: bodies of different methods, method by method.
 use Rattle.std.specs.Prelude.{◌≢◌, ◌+◌, ◌<◌, ◌≤◌, ℕ}
 use Rattle.abc_tables.specs.declared.code.Body.{Body}
 

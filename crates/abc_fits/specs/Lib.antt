@@ -1,4 +1,4 @@
 pub mod Lengths
-pub mod Steps
+pub mod StartWidths
 pub mod Fitting
 pub mod Distinct

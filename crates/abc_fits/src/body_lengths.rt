@@ -1,6 +1,6 @@
 ghost use Rattle.std.specs.Prelude.{◌≡◌, ◌≤◌, ◌+◌, ◌-◌, ◌^◌, length, min};
 ghost use Rattle.abc_fits.specs.Lengths.{body_len, counted_len, handler_len, place_len};
-ghost use Rattle.abc_fits.specs.Steps.{AreSteps, IsFirstFrom};
+ghost use Rattle.abc_fits.specs.StartWidths.{AreWidths, IsFirstFrom};
 ghost use Rattle.abc_tables.specs.CodeBytes.{canonical_starts, code_len as total, number_len};
 
 use crate::lengths::{Measured, len_of_counted, len_of_number};
@@ -9,7 +9,7 @@ use abc_tables::{Body, Handler, Instr, code_len, count_len, instr_len};
 
 /// The first places in code whose starts have two, three, four and five bytes in their canonical spelling.
 #[derive(Clone, Copy, Debug)]
-pub struct Steps {
+pub struct Widths {
     pub two: usize,
     pub three: usize,
     pub four: usize,
@@ -35,11 +35,11 @@ fn first_from(code: &Table<Instr>, limit: u32) -> usize
     }
 }
 
-/// The steps of the code's starts.
-fn steps_of(code: &Table<Instr>) -> Steps
-    ensures { AreSteps code.now result }
+/// From which places on the code's starts have two, three, four and five bytes.
+fn widths_of(code: &Table<Instr>) -> Widths
+    ensures { AreWidths code.now result }
 {
-    Steps {
+    Widths {
         two: first_from(code, 1 << 7),
         three: first_from(code, 1 << 14),
         four: first_from(code, 1 << 21),
@@ -47,10 +47,10 @@ fn steps_of(code: &Table<Instr>) -> Steps
     }
 }
 
-/// The start of a place in the code that has these steps. A place past the end counts as the start of the code.
+/// How many bytes the start of a place has, in the code that has these widths. A place past the end counts as the start of the code.
 #[tactic(auto, using(crate::proofs::Places::past, crate::proofs::Places::one, crate::proofs::Places::two, crate::proofs::Places::three, crate::proofs::Places::four, crate::proofs::Places::five))]
-fn len_of_place(place: u32, code: &Table<Instr>, steps: &Steps) -> u64
-    requires { AreSteps code.now steps.now }
+fn len_of_place(place: u32, code: &Table<Instr>, widths: &Widths) -> u64
+    requires { AreWidths code.now widths.now }
     ensures is { result ≡ place_len (canonical_starts code.now) place }
     ensures bound { result ≤ 5 }
 {
@@ -58,31 +58,31 @@ fn len_of_place(place: u32, code: &Table<Instr>, steps: &Steps) -> u64
     if place > code.len() {
         return 1;
     }
-    if place < steps.two {
+    if place < widths.two {
         1
-    } else if place < steps.three {
+    } else if place < widths.three {
         2
-    } else if place < steps.four {
+    } else if place < widths.four {
         3
-    } else if place < steps.five {
+    } else if place < widths.five {
         4
     } else {
         5
     }
 }
 
-fn len_of_handler(handler: &Handler, code: &Table<Instr>, steps: &Steps) -> u64
-    requires { AreSteps code.now steps.now }
+fn len_of_handler(handler: &Handler, code: &Table<Instr>, widths: &Widths) -> u64
+    requires { AreWidths code.now widths.now }
     ensures is { result ≡ handler_len (canonical_starts code.now) handler.now }
     ensures bound { result ≤ 25 }
 {
-    let from = len_of_place(handler.from, code, steps);
-    let to = len_of_place(handler.to, code, steps);
-    let target = len_of_place(handler.target, code, steps);
+    let from = len_of_place(handler.from, code, widths);
+    let to = len_of_place(handler.to, code, widths);
+    let target = len_of_place(handler.target, code, widths);
     from + to + target + len_of_number(handler.exc_type) + len_of_number(handler.var_name)
 }
 
-/// The count of handlers, and the handlers. The code is gone through once for each step, and not for each handler.
+/// The count of handlers, and the handlers. The code is gone through once for each width, and not for each handler.
 #[tactic(auto, using(crate::proofs::Capped::empty_list))]
 fn len_of_handlers(handlers: &Table<Handler>, code: &Table<Instr>) -> u64
     ensures { result ≡ min (counted_len (handler_len (canonical_starts code.now)) handlers.now) (2 ^ 64 - 1) }
@@ -90,10 +90,10 @@ fn len_of_handlers(handlers: &Table<Handler>, code: &Table<Instr>) -> u64
     if handlers.len() == 0 {
         return 1;
     }
-    let steps = steps_of(code);
+    let widths = widths_of(code);
     let mut len: u64 = 0;
     for handler in handlers.as_slice() {
-        len = len.saturating_add(len_of_handler(handler, code, &steps));
+        len = len.saturating_add(len_of_handler(handler, code, &widths));
     }
     count_len(handlers.len()).saturating_add(len)
 }

@@ -11,8 +11,8 @@ use std::test::*;
 const PIECES: [usize; 3] = [1, 7, 500];
 
 /// Each instruction once: a length, and then a line for each.
-const ALL: [u8; 265] = [
-    0x87, 2, 0x02, // nop
+const ALL: [u8; 267] = [
+    0x89, 2, 0x02, // nop
     0x03, // throw
     0x04, 5, // getsuper
     0x05, 5, // setsuper
@@ -72,6 +72,7 @@ const ALL: [u8; 265] = [
     0x4c, 6, 2, // callproplex
     0x4e, 6, 2, // callsupervoid
     0x4f, 6, 2, // callpropvoid
+    0x53, 5, // applytype
     0x55, 5, // newobject
     0x56, 5, // newarray
     0x57, // newactivation
@@ -226,8 +227,8 @@ fn each_instruction(rt: HostRuntime) -> Result<(), Fail> {
         let out = recoded(&rt, &ALL, piece).ok().ok_or("code")?;
         assert_eq!(rt; out.as_slice(), ALL.as_slice());
         let code = code_of(&rt, &ALL, piece).ok().ok_or("code")?;
-        assert_eq!(rt; code.instrs.len(), 143);
-        assert_eq!(rt; code_len(&code.instrs), 263);
+        assert_eq!(rt; code.instrs.len(), 144);
+        assert_eq!(rt; code_len(&code.instrs), 265);
         let (out, _) = passed(&rt, &ALL, piece).ok().ok_or("code")?;
         assert_eq!(rt; out.as_slice(), ALL.as_slice());
     }
@@ -246,7 +247,7 @@ fn no_other_opcode(rt: HostRuntime) {
             }
         }
     }
-    assert_eq!(rt; count, 143);
+    assert_eq!(rt; count, 144);
 }
 
 #[test]

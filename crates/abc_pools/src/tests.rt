@@ -187,11 +187,7 @@ fn refusals(rt: HostRuntime) -> Result<(), Fail> {
             Reason::Index,
         ),
         // One multiname, whose base is 0, and one whose parameter is one too high.
-        (
-            [0, 0, 0, 0, 0, 0, 2, 0x1d, 0].as_slice(),
-            8,
-            Reason::Index,
-        ),
+        ([0, 0, 0, 0, 0, 0, 2, 0x1d, 0].as_slice(), 8, Reason::Index),
         (
             [0, 0, 0, 0, 0, 0, 2, 0x1d, 1, 2, 0, 2].as_slice(),
             11,

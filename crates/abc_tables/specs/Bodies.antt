@@ -12,6 +12,7 @@ use Rattle.abc_tables.specs.declared.code.Handler.{Handler}
 use Rattle.abc_tables.specs.declared.instructions.Code.{Code}
 use Rattle.abc_tables.specs.declared.tables.Abc.{Abc}
 use Rattle.abc_tables.specs.declared.tables.Sizes.{Sizes}
+use Rattle.abc_tables.specs.declared.traits.TraitInfo.{TraitInfo}
 use Rattle.abc_tables.specs.Classes.{sizes_of}
 use Rattle.abc_tables.specs.Code.{code}
 use Rattle.abc_tables.specs.CodeBytes.{canonical_starts, code_bytes}
@@ -19,10 +20,14 @@ use Rattle.abc_tables.specs.Places.{instruction_place}
 use Rattle.abc_tables.specs.Ready.{IsReady}
 use Rattle.abc_tables.specs.Traits.{trait_info, trait_bytes}
 
+-- the fields in their order
+abbrev pub handler_in : ℕ × (ℕ × (ℕ × (ℕ × ℕ))) → Handler
+handler_in (from, (to, (target, (exc_type, var_name)))) = record { from = from; to = to; target = target; exc_type = exc_type; var_name = var_name }
+
 -- three places in code whose instructions start so, a type and a name
 unfoldable pub handler : Sizes → List ℕ → Part Handler
 handler v starts =
-    image (λ x. record { from = x.0; to = x.1.0; target = x.1.1.0; exc_type = x.1.1.1.0; var_name = x.1.1.1.1 })
+    image handler_in
     (both (instruction_place starts) (both (instruction_place starts) (both (instruction_place starts) (both (pool_index v.names) (pool_index v.names)))))
 
 unfoldable pub handler_bytes : List ℕ → Handler → List ℕ
@@ -34,22 +39,26 @@ handler_bytes starts h =
 unfoldable pub body_method : Sizes → List ℕ → Part ℕ
 body_method v taken = checked (λ m. not (list_any (nat_eq m) taken)) reasons.SecondBody (index_below v.methods)
 
+-- the fields in their order, and beside the body where its instructions started
+abbrev pub body_in : ℕ × (ℕ × (ℕ × (ℕ × (ℕ × (Code × (List Handler × List TraitInfo)))))) → Body × List ℕ
+body_in (method, (max_stack, (local_count, (init_scope, (max_scope, (code, (handlers, traits))))))) = (
+  record {
+    method = method;
+    max_stack = max_stack;
+    local_count = local_count;
+    init_scope = init_scope;
+    max_scope = max_scope;
+    code = code.instrs;
+    handlers = handlers;
+    traits = traits;
+  },
+  code.offsets,
+)
+
 -- a body whose code and method are spelled so, with the starts of its instructions as they were read
 abbrev pub body_of : Part Code → Sizes → Part ℕ → Part (Body × List ℕ)
 body_of code v method =
-    image (λ x. (
-      record {
-        method = x.0;
-        max_stack = x.1.0;
-        local_count = x.1.1.0;
-        init_scope = x.1.1.1.0;
-        max_scope = x.1.1.1.1.0;
-        code = x.1.1.1.1.1.0.instrs;
-        handlers = x.1.1.1.1.1.1.0;
-        traits = x.1.1.1.1.1.1.1;
-      },
-      x.1.1.1.1.1.0.offsets,
-    ))
+    image body_in
     (both method (both u30 (both u30 (both u30 (both u30 (then_by code (λ c.
     both (counted (handler v c.offsets)) (counted (trait_info v)))))))))
 

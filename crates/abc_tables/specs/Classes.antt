@@ -10,25 +10,25 @@ use Rattle.abc_format.specs.Canonical.{counted_bytes}
 use Rattle.abc_tables.specs.declared.classes.Instance.{Instance}
 use Rattle.abc_tables.specs.declared.classes.ClassInfo.{ClassInfo}
 use Rattle.abc_tables.specs.declared.classes.Script.{Script}
+use Rattle.abc_tables.specs.declared.methods.Metadata.{Metadata}
+use Rattle.abc_tables.specs.declared.methods.Method.{Method}
 use Rattle.abc_tables.specs.declared.tables.Abc.{Abc}
 use Rattle.abc_tables.specs.declared.tables.Sizes.{Sizes}
+use Rattle.abc_tables.specs.declared.traits.TraitInfo.{TraitInfo}
 use Rattle.abc_tables.specs.Methods.{has_flag, method, method_bytes, metadata, metadata_bytes}
 use Rattle.abc_tables.specs.Traits.{trait_info, trait_bytes}
 
 abbrev pub some_index : ℕ → Option ℕ
 some_index n = Some n
 
+-- the fields in their order
+abbrev pub instance_in : ℕ × (ℕ × (ℕ × (Option ℕ × (List ℕ × (ℕ × List TraitInfo))))) → Instance
+instance_in (name, (super_name, (flags, (protected_ns, (interfaces, (iinit, traits)))))) =
+    record { name = name; super_name = super_name; flags = flags; protected_ns = protected_ns; interfaces = interfaces; iinit = iinit; traits = traits }
+
 unfoldable pub instance : Sizes → Part Instance
 instance v =
-    image (λ x. record {
-      name = x.0;
-      super_name = x.1.0;
-      flags = x.1.1.0;
-      protected_ns = x.1.1.1.0;
-      interfaces = x.1.1.1.1.0;
-      iinit = x.1.1.1.1.1.0;
-      traits = x.1.1.1.1.1.1;
-    })
+    image instance_in
     (both (entry_index v.names) (both (pool_index v.names) (then_by u8 (λ flags.
     both (when (has_flag flags 0x08) None (image some_index (pool_index v.namespaces)))
     (both (counted (entry_index v.names)) (both (index_below v.methods) (counted (trait_info v))))))))
@@ -74,10 +74,15 @@ sizes_with abc methods metadata classes = record {
 abbrev pub sizes_of : Abc → Sizes
 sizes_of abc = sizes_with abc (length abc.methods) (length abc.metadata) (length abc.classes)
 
+-- the definitions beside the pools of a value; the third is the number of classes
+abbrev pub with_definitions : Abc → List Method × (List Metadata × (ℕ × (List Instance × (List ClassInfo × List Script)))) → Abc
+with_definitions abc (methods, (metadata, (count, (instances, (classes, scripts))))) =
+    record abc { methods = methods; metadata = metadata; instances = instances; classes = classes; scripts = scripts }
+
 -- methods, metadata, as many instances as classes, and scripts, beside the pools of a value
 unfoldable pub definitions : Abc → Part Abc
 definitions abc =
-    image (λ x. record abc { methods = x.0; metadata = x.1.0; instances = x.1.1.1.0; classes = x.1.1.1.1.0; scripts = x.1.1.1.1.1 })
+    image (with_definitions abc)
     (then_by (counted (method (sizes_with abc 0 0 0))) (λ methods.
     then_by (counted (metadata (sizes_with abc 0 0 0))) (λ metadata.
     then_by u30 (λ classes. let v = sizes_with abc (length methods) (length metadata) classes in

@@ -16,16 +16,20 @@ version = both (checked (λ n. nat_eq n 16) reasons.Version u16) (checked (λ n.
 abbrev pub version_bytes : List ℕ
 version_bytes = u16_bytes 16 ++ u16_bytes 46
 
+-- of the version, the pools, what has the definitions too, and what has all
+abbrev pub last_of : {A : Type 0} → (ℕ × ℕ) × (Abc × (Abc × A)) → A
+last_of (version, (pools, (definitions, all))) = all
+
 -- the version, the pools, the definitions and the bodies
 abbrev pub file_of : Part Abc → (Abc → Part Abc) → Part Abc
-file_of pools bodies = image (λ x. x.1.1.1) (both version (then_by pools (λ abc. then_by (definitions abc) (λ full. bodies full))))
+file_of pools bodies = image last_of (both version (then_by pools (λ abc. then_by (definitions abc) (λ full. bodies full))))
 
 unfoldable pub file : Part Abc
 file = file_of pools bodies_alone
 
 -- the same, with the starts of each body's instructions as they were read
 unfoldable pub file_read : Part (Abc × List (List ℕ))
-file_read = image (λ x. x.1.1.1) (both version (then_by pools (λ abc. then_by (definitions abc) (λ full. bodies full))))
+file_read = image last_of (both version (then_by pools (λ abc. then_by (definitions abc) (λ full. bodies full))))
 
 unfoldable pub file_bytes : Abc → List ℕ
 file_bytes v = version_bytes ++ pools_bytes v ++ definitions_bytes v ++ bodies_bytes v

@@ -37,6 +37,9 @@ signed_short = image (λ x. cast_signed w16 (x % 65536)) u32
 unfoldable pub switch_offsets : Part (ℤ × (ℕ × List ℤ))
 switch_offsets = both s24 (then_by u30 (λ count. times (count + 1) s24))
 
+abbrev debug_in : ℕ × (ℕ × (ℕ × ℕ)) → RawInstr
+debug_in (kind, (name, (reg, extra))) = Same (instrs.Debug kind name reg extra)
+
 abbrev pub operands : ℕ → Form → Part RawInstr
 operands op forms.Plain = done (Same (instrs.Plain op))
 operands op forms.One = image (λ n. Same (instrs.One op n)) u30
@@ -46,9 +49,9 @@ operands op forms.Switch = image (λ x. Switch x.0 x.1.1) switch_offsets
 operands op forms.Byte = image (λ z. Same (instrs.Byte z)) signed_byte
 operands op forms.Short = image (λ z. Same (instrs.Short z)) signed_short
 operands op forms.ScopeObject = image (λ x. Same (instrs.ScopeObject x)) u8
-operands op forms.Debug = image (λ x. Same (instrs.Debug x.0 x.1.0 x.1.1.0 x.1.1.1)) (both u8 (both u30 (both u8 u30)))
+operands op forms.Debug = image debug_in (both u8 (both u30 (both u8 u30)))
 
--- an opcode and its operands
+-- an opcode, read so, and its operands
 abbrev pub instruction_of : Part (ℕ × Form) → Part RawInstr
 instruction_of opcode = image (λ x. x.1) (then_by opcode (λ o. operands o.0 o.1))
 

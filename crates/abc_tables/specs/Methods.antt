@@ -94,9 +94,14 @@ option_bytes o = number_bytes o.value ++ value_code o.kind ∷ []
 unfoldable pub options : Sizes → ℕ → Part (List OptionValue)
 options v params = image (λ x. x.1) (then_by (checked (λ c. nat_le c params) reasons.OptionCount u30) (λ c. times c (option_value v)))
 
+-- the number of parameters, and the fields in their order
+abbrev pub method_in : ℕ × (ℕ × (List ℕ × (ℕ × (ℕ × (List OptionValue × List ℕ))))) → Method
+method_in (count, (ret, (params, (name, (flags, (options, param_names)))))) =
+    record { ret = ret; params = params; name = name; flags = flags; options = options; param_names = param_names }
+
 unfoldable pub method : Sizes → Part Method
 method v =
-    image (λ x. record { ret = x.1.0; params = x.1.1.0; name = x.1.1.1.0; flags = x.1.1.1.1.0; options = x.1.1.1.1.1.0; param_names = x.1.1.1.1.1.1 })
+    image method_in
     (then_by u30 (λ params.
     both (pool_index v.names) (both (times params (pool_index v.names)) (both (pool_index v.strings) (then_by u8 (λ flags.
     both (when (has_flag flags 0x08) [] (options v params)) (when (has_flag flags 0x80) [] (times params u30))))))))

@@ -118,6 +118,6 @@ form_in None = None
 unfoldable pub form_at : ℕ → Option Form
 form_at op = form_in (info_at op)
 
--- some instruction has the opcode; the narrow set of instructions lacks 53
+-- some instruction has the opcode; where `wide` is false, as in the narrow format, 53 is none
 abbrev pub is_opcode : Bool → ℕ → Bool
 is_opcode wide op = (wide || not (nat_eq op 0x53)) && is_some (form_at op)

@@ -76,7 +76,7 @@ multiname_code (kinds.MultiL false) = 0x1b
 multiname_code (kinds.MultiL true) = 0x1c
 multiname_code kinds.TypeName = 0x1d
 
--- the narrow grammar has no kind 1D
+-- the bytes that are kinds; where `wide` is false, as in the narrow format, 1D is none
 abbrev pub is_multiname_kind : Bool → ℕ → Bool
 is_multiname_kind wide k =
     nat_eq k 0x07 || nat_eq k 0x0d || nat_eq k 0x0f || nat_eq k 0x10 || nat_eq k 0x11 || nat_eq k 0x12 || nat_eq k 0x09 || nat_eq k 0x0e || nat_eq k 0x1b
@@ -102,7 +102,7 @@ multiname_kind_in wide = image multiname_kind_of (checked (is_multiname_kind wid
 unfoldable pub multiname_kind : Part MultinameKind
 multiname_kind = multiname_kind_in true
 
--- a base and a count of parameters, where there are so many multinames: they may name any of them
+-- a base, a count and that many parameters, where there are so many multinames in all
 abbrev pub type_fields : ℕ → Part (ℕ × List ℕ)
 type_fields all = both (entry_index all) (counted (pool_index all))
 
@@ -115,6 +115,7 @@ multiname_fields strings spaces sets all (kinds.Multi attr) = image (λ x. names
 multiname_fields strings spaces sets all (kinds.MultiL attr) = image (λ x. names.MultiL attr x) (entry_index sets)
 multiname_fields strings spaces sets all kinds.TypeName = image (λ x. names.TypeName x.0 x.1) (type_fields all)
 
+-- a kind, read so, and its fields
 abbrev pub multiname_of : Part MultinameKind → ℕ → ℕ → ℕ → ℕ → Part Multiname
 multiname_of kind strings spaces sets all = image (λ x. x.1) (then_by kind (multiname_fields strings spaces sets all))
 
@@ -159,14 +160,14 @@ PoolValues = List ℤ × (List ℕ × (List Eight × (List (List ℕ) × (List N
 
 -- a file that has these pools alone
 abbrev pub with_pools : PoolValues → Abc
-with_pools x = record empty {
-  ints = x.0;
-  uints = x.1.0;
-  doubles = x.1.1.0;
-  strings = x.1.1.1.0;
-  namespaces = x.1.1.1.1.0;
-  sets = x.1.1.1.1.1.0;
-  names = x.1.1.1.1.1.1;
+with_pools (ints, (uints, (doubles, (strings, (namespaces, (sets, multinames)))))) = record empty {
+  ints = ints;
+  uints = uints;
+  doubles = doubles;
+  strings = strings;
+  namespaces = namespaces;
+  sets = sets;
+  names = multinames;
 }
 
 -- the pools in their order, as a value whose other tables are empty

@@ -26,7 +26,7 @@ abbrev pub AllCanSpell : ℕ → List Instr → Type 0
 AllCanSpell n [] = Unit {0}
 AllCanSpell n (i ∷ is) = CanSpell n i × AllCanSpell n is
 
--- each start lies below the greatest length
+-- for the prover alone: each start lies below the greatest length
 abbrev pub Small : List ℕ → ℕ → Type 0
 Small ss n = (t : ℕ) → t ≤ n → get_or ss t 0 < 2 ^ 23
 

@@ -86,9 +86,13 @@ trait_fields_bytes (bodies.Function id method) = number_bytes id ++ number_bytes
 
 -- ---- a trait
 
+-- the fields in their order
+abbrev pub trait_in : ℕ × ((TraitKind × ℕ) × (TraitBody × List ℕ)) → TraitInfo
+trait_in (name, ((kind, attrs), (body, metadata))) = record { name = name; attrs = attrs; body = body; metadata = metadata }
+
 unfoldable pub trait_info : Sizes → Part TraitInfo
 trait_info v =
-    image (λ x. record { name = x.0; attrs = x.1.0.1; body = x.1.1.0; metadata = x.1.1.1 })
+    image trait_in
     (both (entry_index v.names) (then_by trait_kind (λ k.
     both (trait_fields v k.0) (when (has_flag k.1 4) [] (counted (index_below v.metadata))))))
 

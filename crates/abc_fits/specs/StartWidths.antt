@@ -1,6 +1,6 @@
--- Where the starts of canonical code come to take one byte more.
+-- For the prover alone: where the starts of canonical code come to take one byte more.
 use Rattle.std.specs.Prelude.{ℕ, ◌^◌, ◌<◌, ◌≤◌, List, length}
-use Rattle.abc_fits.specs.declared.body_lengths.Steps.{Steps}
+use Rattle.abc_fits.specs.declared.body_lengths.Widths.{Widths}
 use Rattle.abc_tables.specs.declared.code.Instr.{Instr}
 use Rattle.abc_tables.specs.CodeBytes.{sized}
 use Rattle.abc_tables.specs.Starts.{start}
@@ -11,7 +11,7 @@ pub record IsFirstFrom (code : List Instr) (limit first : ℕ) : Type 0 where
   pub before : (t : ℕ) → t ≤ length code → t < first → start (sized code) t < limit
 
 -- The starts have two bytes from the first of these places on, three from the second on, and so on.
-pub record AreSteps (code : List Instr) (s : Steps) : Type 0 where
+pub record AreWidths (code : List Instr) (s : Widths) : Type 0 where
   pub two : IsFirstFrom code (2 ^ 7) s.two
   pub three : IsFirstFrom code (2 ^ 14) s.three
   pub four : IsFirstFrom code (2 ^ 21) s.four
