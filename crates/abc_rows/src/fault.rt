@@ -5,7 +5,7 @@ use std::io;
 use std::num::ParseIntError;
 
 /// Why rows can't be run.
-#[derive(Clone, Copy, Debug, PartialEq, Eq)]
+#[derive(Clone, Copy, Debug)]
 pub enum Fault {
     /// Memory ran out.
     NoMemory,

@@ -131,7 +131,7 @@ fn definition_of(
     })
 }
 
-/// The row of a block.
+/// The row of a block, which has a step.
 fn row_of(alloc: Global, lines: &[String], known: &[Definition]) -> Result<Row, Fault> {
     let mut row = Row::new(alloc);
     for (i, line) in lines.iter().enumerate() {
@@ -140,6 +140,9 @@ fn row_of(alloc: Global, lines: &[String], known: &[Definition]) -> Result<Row, 
             let more = lines.get(i..).and_then(|l| l.get(1..)).unwrap_or(&[]);
             row.take(line, more, known)?;
         }
+    }
+    if row.steps.is_empty() {
+        return Err(Fault::BadLine);
     }
     Ok(row)
 }

@@ -10,7 +10,7 @@ use std::alloc::Global;
 const PIECES: [u32; 3] = [1, 7, 5000];
 
 /// How many runs ended as their row wants, and how many didn't. The counts stand still at their last value.
-#[derive(Clone, Copy, Debug, PartialEq, Eq)]
+#[derive(Drop)]
 pub struct Tally {
     pub passed: u32,
     pub failed: u32,
