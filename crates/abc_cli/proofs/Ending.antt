@@ -1,6 +1,6 @@
 -- How the ways to end follow from what was written.
-use Rattle.std.proofs.Common.{◌≡◌, ℕ, inl, inr, List, [], ◌++◌, Some, None, Ok, Err, refl, sym, ap, ◌∙◌, subst}
-use Rattle.std.specs.Prelude.{is_ok, if◌then◌else◌, IfSome, IsSome}
+use Rattle.std.proofs.Common.{◌≡◌, ℕ, inl, inr, List, [], Some, None, Ok, Err, refl, sym, ap, ◌∙◌, subst}
+use Rattle.std.specs.Prelude.{is_ok, if◌then◌else◌, IsSome}
 use Rattle.std.proofs.lemmas.List.{append-nil}
 use Rattle.std.specs.declared.option.Option.{Option}
 use Rattle.std.specs.declared.result.Result.{Result}

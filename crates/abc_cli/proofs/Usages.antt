@@ -1,8 +1,6 @@
 -- What the reading of the words says of the outcome.
-use Rattle.std.proofs.Common.{◌≡◌, ℕ, ◌+◌, ◌<◌, inl, inr, ◌⊎◌, Some, None, List, [], length, take, Ok, Err, refl, sym, ap, ◌∙◌, subst, arith}
+use Rattle.std.proofs.Common.{◌≡◌, ℕ, false, inl, inr, ◌⊎◌, Some, None, List, [], Ok, Err, refl, ap, subst}
 use Rattle.std.specs.Prelude.{◌↔◌}
-use Rattle.std.proofs.lemmas.List.{take_all}
-use Rattle.std.proofs.lemmas.Bool.{cases_lt}
 use Rattle.std.specs.declared.option.Option.{Option}
 use Rattle.std.specs.declared.result.Result.{Result}
 use Rattle.abc_base.specs.declared.status.Status.{Status}
@@ -13,20 +11,9 @@ use Rattle.abc_words.specs.declared.command.RunOptions.{RunOptions}
 use Rattle.abc_words.specs.declared.command.GenOptions.{GenOptions}
 use Rattle.abc_words.specs.declared.command.Usage.{Usage}
 use Rattle.abc_words.specs.declared.command.Usage.TheVariants as usages
-use Rattle.abc_words.specs.Grammar.{CanBegin, IsUsageWord}
-use Rattle.abc_cli.specs.Outcome.{Answer, CanonOutcome, IsCanonStatus, CommandOutcome, UsageOutcome, usage_answer, IsUsage, not_built}
+use Rattle.abc_words.specs.Grammar.{IsUsageWord, Says}
+use Rattle.abc_cli.specs.Outcome.{Answer, CanonOutcome, IsCanonStatus, CommandOutcome, UsageOutcome, usage_answer, IsUsage, AsksNoInput, reads_input, not_built}
 use Rattle.abc_cli.specs.End.{Channel, IsEnd}
-
--- the usage word is one of the words
-pub usage_within : (words : List (List ℕ)) (i : ℕ) → IsUsageWord words i → i < length words
-usage_within words i u =
-    elim (cases_lt i (length words)) [
-      | inl lt ↦ lt
-      | inr le ↦
-          let here : take i words ≡ words = take_all i words (omega arith) in
-          let next : take (i + 1) words ≡ words = take_all (i + 1) words (omega arith) in
-          absurd (u.stops (subst CanBegin (here ∙ sym next) u.before))
-    ]
 
 -- the answers of words outside the grammar are those that reading the words finds
 pub usage_found : (words : List (List ℕ)) (r : Result Command Usage) → ((r ≡ Err usages.NoCommand) ↔ (words ≡ [])) → ((i : ℕ) → (r ≡ Err (usages.Word i)) ↔ IsUsageWord words i)
@@ -45,8 +32,17 @@ usage_outcome words (usages.Word i) h = UsageOutcome.word i h
 pub same_usage : (u v : Usage) (r : Result Command Usage) → r ≡ Err u → r ≡ Err v → u ≡ v
 same_usage u v r e f = cc
 
+same_command : (c d : Command) (r : Result Command Usage) → r ≡ Ok c → r ≡ Ok d → c ≡ d
+same_command c d r e f = cc
+
 pub not_ok : (c : Command) (u : Usage) (r : Result Command Usage) → r ≡ Ok c → r ≡ Err u → ⊥
 not_ok c u r e f = cc
+
+-- reading the words finds the command that they say, which then reads no input
+pub unread_command : (words : List (List ℕ)) (r : Result Command Usage) (c : Command) → ((i : ℕ) → (r ≡ Err (usages.Word i)) ↔ IsUsageWord words i) → ((r ≡ Err usages.NoCommand) ↔ (words ≡ []))
+    → ((d : Command) → (r ≡ Ok d) ↔ Says words d) → r ≡ Ok c → AsksNoInput words → reads_input c ≡ false
+unread_command words r c word none command e (AsksNoInput.usage a u) = let f = usage_found words r none word a u in absurd (not_ok c f.0 r e f.1)
+unread_command words r c word none command e (AsksNoInput.command d says silent) = let f = (command d).1 says in subst (λ (x : Command). reads_input x ≡ false) (same_command d c r f e) silent
 
 -- ---- what a command's answer is not
 

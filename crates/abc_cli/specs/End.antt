@@ -6,10 +6,11 @@ use Rattle.abc_base.specs.Faults.{Rose}
 use Rattle.abc_base.specs.Sinks.{GrowsByFront}
 use Rattle.abc_base.specs.declared.status.Status.{Status}
 use Rattle.abc_base.specs.declared.status.Status.TheVariants as status
+use Rattle.abc_file.specs.Reading.{IsUsedUp}
 use Rattle.abc_cli.specs.Lines.{line, read_fault_text, write_fault_text, no_memory_text}
 use Rattle.abc_cli.specs.Outcome.{Answer}
 
--- a sink before and after: what was written to it, where it tells that, and its count of faults
+-- A stream before and after: the bytes that a source has left, or that were written to a sink, where it tells them, and its count of faults.
 pub record Channel : Type 0 where
   pub before : Option (List ℕ)
   pub after : Option (List ℕ)
@@ -18,6 +19,10 @@ pub record Channel : Type 0 where
 
 abbrev pub channel : Option (List ℕ) → Option (List ℕ) → ℕ → ℕ → Channel
 channel before after faults_before faults_after = record { before = before; after = after; faults_before = faults_before; faults_after = faults_after }
+
+-- what such a value went through, by what it tells of its bytes and by its count of faults
+abbrev pub stream : {T : Type 0} → (T → Option (List ℕ)) → (T → ℕ) → T → T → Channel
+stream bytes faults old new = channel (bytes old) (bytes new) (faults old) (faults new)
 
 -- it got these bytes
 abbrev pub Got : Channel → List ℕ → Type 0
@@ -50,3 +55,11 @@ pub data IsEnd (Outcome : Answer → Type 0) (SourceFailed : Type 0) (out err : 
   read_line_failed : SourceFailed → HasFailed err → Got out [] → GotFront err (line read_fault_text) → IsEnd Outcome SourceFailed out err status.WriteFault
   -- writing the line of missing memory failed
   memory_line_failed : HasFailed err → Got out [] → GotFront err (line no_memory_text) → IsEnd Outcome SourceFailed out err status.WriteFault
+
+-- the run of a source and two sinks ends by an outcome of the source's bytes
+abbrev pub Ends : (Option (List ℕ) → Answer → Type 0) → Channel → Channel → Channel → Status → Type 0
+Ends Outcome source out err = IsEnd (Outcome source.before) (HasFailed source) out err
+
+-- the run ended well only where nothing of the input is left
+abbrev pub UsesUp : Channel → Status → Type 0
+UsesUp source s = s ≡ status.Done → IsUsedUp source.before source.after

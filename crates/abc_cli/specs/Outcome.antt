@@ -1,5 +1,5 @@
 -- What a command line and an input are answered with.
-use Rattle.std.specs.Prelude.{◌≡◌, ℕ, List, [], Some, None, get_or}
+use Rattle.std.specs.Prelude.{◌≡◌, ℕ, Bool, true, false, List, [], Some, None, get_or}
 use Rattle.std.specs.declared.option.Option.{Option}
 use Rattle.abc_base.specs.declared.status.Status.{Status}
 use Rattle.abc_base.specs.declared.status.Status.TheVariants as status
@@ -50,6 +50,15 @@ CommandOutcome commands.Check input a = a ≡ not_built
 CommandOutcome (commands.Run options) input a = a ≡ not_built
 CommandOutcome (commands.Gen options) input a = a ≡ not_built
 
+-- whether a command reads its input: `gen` never does, and neither do commands that are not built
+abbrev pub reads_input : Command → Bool
+reads_input commands.Canon = true
+reads_input commands.Dis = false
+reads_input commands.Asm = false
+reads_input commands.Check = false
+reads_input (commands.Run options) = false
+reads_input (commands.Gen options) = false
+
 -- words outside the grammar, by the word at which they go wrong
 pub data UsageOutcome (words : List (List ℕ)) : Answer → Type 0 where
   no_command : words ≡ [] → UsageOutcome words (told status.Usage no_command_text)
@@ -71,3 +80,8 @@ IsUsage words (usages.Word i) = IsUsageWord words i
 pub data IsOutcome (words : List (List ℕ)) (input : Option (List ℕ)) (a : Answer) : Type 0 where
   usage : UsageOutcome words a → IsOutcome words input a
   command : (c : Command) → Says words c → CommandOutcome c input a → IsOutcome words input a
+
+-- the words ask for nothing of the input: they are outside the grammar, or say a command that doesn't read it
+pub data AsksNoInput (words : List (List ℕ)) : Type 0 where
+  usage : (a : Answer) → UsageOutcome words a → AsksNoInput words
+  command : (c : Command) → Says words c → reads_input c ≡ false → AsksNoInput words

@@ -1,8 +1,6 @@
-ghost use Rattle.std.specs.Prelude.{◌≡◌, ◌<◌, length};
-ghost use Rattle.abc_base.specs.Faults.{Rose};
-ghost use Rattle.abc_cli.specs.End.{GivesLine, IsEnd, channel};
-ghost use Rattle.abc_cli.specs.Outcome.{Answer, CommandOutcome, IsOutcome, IsUsage, UsageOutcome, usage_answer};
-ghost use Rattle.abc_file.specs.Reading.{IsUsedUp};
+ghost use Rattle.std.specs.Prelude.{◌≡◌, ◌<◌, false, length};
+ghost use Rattle.abc_cli.specs.End.{Ends, GivesLine, UsesUp, stream};
+ghost use Rattle.abc_cli.specs.Outcome.{Answer, AsksNoInput, CommandOutcome, IsOutcome, IsUsage, UsageOutcome, reads_input, usage_answer};
 ghost use Rattle.abc_words.specs.Grammar.{IsWellFormed};
 
 use crate::canon::canon;
@@ -20,8 +18,9 @@ fn run_command<S: Source, K: Sink, E: Sink>(
     out: &mut K,
     err: &mut E,
 ) -> Status
-    ensures end { IsEnd (CommandOutcome command.now (S.left source.old)) (Rose (S.faults source.old) (S.faults source.new)) (channel (K.written out.old) (K.written out.new) (K.faults out.old) (K.faults out.new)) (channel (E.written err.old) (E.written err.new) (E.faults err.old) (E.faults err.new)) result }
-    ensures used_up { result ≡ Status.Done → IsUsedUp (S.left source.old) (S.left source.new) }
+    ensures end { Ends (CommandOutcome command.now) (stream S.left S.faults source.old source.new) (stream K.written K.faults out.old out.new) (stream E.written E.faults err.old err.new) result }
+    ensures used_up { UsesUp (stream S.left S.faults source.old source.new) result }
+    ensures unread { reads_input command.now ≡ false → source.new ≡ source.old }
 {
     match command {
         Command::Canon => canon(alloc, source, out, err),
@@ -34,7 +33,7 @@ fn run_command<S: Source, K: Sink, E: Sink>(
 /// Writes the line of words outside the grammar.
 fn give_usage<E: Sink>(words: &Words, usage: Usage, err: &mut E) -> Status
     requires { IsUsage words.now usage }
-    ensures { GivesLine (channel (E.written err.old) (E.written err.new) (E.faults err.old) (E.faults err.new)) (usage_answer words.now usage) result }
+    ensures { GivesLine (stream E.written E.faults err.old err.new) (usage_answer words.now usage) result }
 {
     match usage {
         Usage::NoCommand => give_no_command(err),
@@ -56,12 +55,14 @@ pub fn abc_main<S: Source, K: Sink, E: Sink, H: Host>(
     _host: &H,
 ) -> Status
     // The run ends with the defined outcome, or with a fault that has its cause.
-    ensures end { IsEnd (IsOutcome words.now (S.left source.old)) (Rose (S.faults source.old) (S.faults source.new)) (channel (K.written out.old) (K.written out.new) (K.faults out.old) (K.faults out.new)) (channel (E.written err.old) (E.written err.new) (E.faults err.old) (E.faults err.new)) result }
+    ensures end { Ends (IsOutcome words.now) (stream S.left S.faults source.old source.new) (stream K.written K.faults out.old out.new) (stream E.written E.faults err.old err.new) result }
     // On status 0 nothing of the input is left.
-    ensures used_up { result ≡ Status.Done → IsUsedUp (S.left source.old) (S.left source.new) }
+    ensures used_up { UsesUp (stream S.left S.faults source.old source.new) result }
+    // Nothing is read where the words ask for nothing of the input.
+    ensures unread { AsksNoInput words.now → source.new ≡ source.old }
     // Words outside the grammar are answered by their line, whatever the input is, and other words never are.
-    ensures usage { (a : Answer) → UsageOutcome words.now a → GivesLine (channel (E.written err.old) (E.written err.new) (E.faults err.old) (E.faults err.new)) a result }
-    ensures untouched { (a : Answer) → UsageOutcome words.now a → (source.new ≡ source.old) × (out.new ≡ out.old) }
+    ensures usage { (a : Answer) → UsageOutcome words.now a → GivesLine (stream E.written E.faults err.old err.new) a result }
+    ensures untouched { (a : Answer) → UsageOutcome words.now a → out.new ≡ out.old }
     ensures well_formed { IsWellFormed words.now → result ≡ Status.Usage → ⊥ }
     // Memory is wanted for well-formed words alone.
     ensures memory { result ≡ Status.NoMemory → IsWellFormed words.now }

@@ -142,9 +142,6 @@ numbered name n = (name, n)
 after_dashes : (word rest : List ℕ) → bytes_eq (take 2 word) dashes ≡ true → rest ≡ drop 2 word → name_and_number word ≡ option_and_then with_number (option_map (halves rest) (position is_sign rest))
 after_dashes word rest begins is = rw begins (ap (λ (l : List ℕ). option_and_then with_number (cut l)) (sym is) ∙ ap (option_and_then with_number) (cut-position rest))
 
-pub without_dashes : (word : List ℕ) → bytes_eq (take 2 word) dashes ≡ false → name_and_number word ≡ None
-without_dashes word e = rw e refl
-
 pub without_sign : (word rest : List ℕ) → bytes_eq (take 2 word) dashes ≡ true → rest ≡ drop 2 word → position is_sign rest ≡ None → name_and_number word ≡ None
 without_sign word rest begins is none = after_dashes word rest begins is ∙ rw none refl
 

@@ -21,7 +21,3 @@ run_objects g name n r new named is after = rw named (filled (λ o. record g { o
 
 pub run_frames : (g : GivenRun) (name : List ℕ) (n : ℕ) (r : Bool) (new : Option ℕ) → name ≡ codes "frames" → r ≡ can_take frames g.frames n → new ≡ cond r (Some n) g.frames → OnTrue r (run_with g name n ≡ Some (record g { frames = new }))
 run_frames g name n r new named is after = rw named (filled (λ o. record g { frames = o }) r (can_take frames g.frames n) n new g.frames is after)
-
--- the word at position i is read next
-pub words_more : {G : Type 0} (with : G → List ℕ → ℕ → Option G) (g : G) (i : ℕ) (words : List (List ℕ)) → i < length words → after_words with g i (drop i words) ≡ go_on i (after_word with g (get_or words i [])) (λ h. after_words with h (i + 1) (drop (i + 1) words))
-words_more with g i words lt = at_drop_more (after_words with g i) words i [] lt

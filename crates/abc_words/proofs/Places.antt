@@ -61,9 +61,6 @@ and_right : (a b : Bool) → (a && b) ≡ true → b ≡ true
 and_right true b e = e
 and_right false b e = absurd cc
 
-same_name : (name : List ℕ) → bytes_eq name name ≡ true
-same_name name = (bytes_eq-Decides name name).1 refl
-
 cond_false : (b r : Bool) → cond b false r ≡ true → (b ≡ false) × (r ≡ true)
 cond_false true r e = absurd cc
 cond_false false r e = (refl, e)

@@ -1,9 +1,9 @@
 use Rattle.std.proofs.Common.{sym, ap, subst, ◌∙◌}
 use Rattle.abc_words.specs.declared.command.Usage.{Usage}
-use Rattle.abc_cli.specs.End.{GivesLine, channel}
+use Rattle.abc_cli.specs.End.{GivesLine, stream}
 use Rattle.abc_cli.specs.Outcome.{Answer, IsOutcome, usage_answer}
 use Rattle.abc_cli.proofs.Ending.{line_ends, nothing, weaker}
-use Rattle.abc_cli.proofs.Usages.{usage_found, is_usage, usage_outcome, same_usage, not_ok, end_not_usage}
+use Rattle.abc_cli.proofs.Usages.{usage_found, is_usage, usage_outcome, same_usage, not_ok, end_not_usage, unread_command}
 use Rattle.abc_cli.proofs.top.abc_main.Goals as goal
 
 pub give_usage-requires : goal.give_usage-requires
@@ -17,6 +17,10 @@ pub returns-in-Ok-clause-usage : goal.returns-in-Ok-clause-usage
 returns-in-Ok-clause-usage g c = λ a u.
     let f = usage_found c.args.words.now c.parse.result c.parse.ensures.none c.parse.ensures.word a u in
     absurd (not_ok c.in-Ok.command f.0 c.parse.result c.in-Ok.is f.1)
+
+pub returns-in-Ok-clause-unread : goal.returns-in-Ok-clause-unread
+returns-in-Ok-clause-unread g c = λ asks.
+    c.run_command.ensures.unread (unread_command c.args.words.now c.parse.result c.in-Ok.command c.parse.ensures.word c.parse.ensures.none c.parse.ensures.command c.in-Ok.is asks)
 
 pub returns-in-Ok-clause-untouched : goal.returns-in-Ok-clause-untouched
 returns-in-Ok-clause-untouched g c = λ a u.
@@ -37,7 +41,7 @@ returns-in-Err-clause-usage g c = λ a u.
     let f = usage_found c.args.words.now c.parse.result c.parse.ensures.none c.parse.ensures.word a u in
     let same = same_usage f.0 c.in-Err.usage c.parse.result f.1 c.in-Err.is in
     let is = f.2 ∙ ap (λ (x : Usage). usage_answer c.args.words.now x) same in
-    let err = channel (g.E.Sink.written c.args.err.now) (g.E.Sink.written c.give_usage.new.err) (g.E.Sink.faults c.args.err.now) (g.E.Sink.faults c.give_usage.new.err) in
+    let err = stream g.E.Sink.written g.E.Sink.faults c.args.err.now c.give_usage.new.err in
     subst (λ (x : Answer). GivesLine err x c.give_usage.result) (sym is) c.give_usage.ensures
 
 pub returns-in-Err-clause-well_formed : goal.returns-in-Err-clause-well_formed
