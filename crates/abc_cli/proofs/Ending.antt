@@ -17,7 +17,7 @@ use Rattle.abc_file.specs.Reading.{IsCanonicalOf, IsFaultOf}
 use Rattle.abc_words.specs.declared.command.Command.TheVariants as commands
 use Rattle.abc_cli.specs.Canon.{error_answer}
 use Rattle.abc_cli.specs.Lines.{read_fault_text, write_fault_text, no_memory_text}
-use Rattle.abc_cli.specs.Outcome.{Answer, told, given, CanonOutcome, IsCanonStatus, CommandOutcome}
+use Rattle.abc_cli.specs.Outcome.{Answer, told, given, CanonOutcome, CommandOutcome}
 use Rattle.abc_cli.specs.End.{Channel, channel, Got, GotFront, HasFailed, GivesLine, IsEnd}
 
 -- a line that was written or not
@@ -68,7 +68,7 @@ memory_failed P F out err s o (inr g) = at_status P F out err s status.WriteFaul
 -- ---- canon
 
 refusal_outcome : (input : Option (List ℕ)) (place : ℕ) (reason : Reason) → IsFaultOf input (errors.Refused place reason) → CommandOutcome commands.Canon input (error_answer (errors.Refused place reason))
-refusal_outcome None place reason f = IsCanonStatus.is_refused
+refusal_outcome None place reason f = (f.0, CanonOutcome.refused (refusal place reason) f.1)
 refusal_outcome (Some b) place reason f = CanonOutcome.refused (refusal place reason) f
 
 pub error_ends : (input : Option (List ℕ)) (F : Type 0) (out err : Channel) (e : ReadError) (s : Status) → IsFaultOf input e → (e ≡ errors.ReadFault → F) → Got out [] → GivesLine err (error_answer e) s
@@ -79,7 +79,7 @@ error_ends input F out err errors.ReadFault s f cause o g = read_failed (Command
 error_ends input F out err errors.NoMemory s f cause o g = memory_failed (CommandOutcome commands.Canon input) F out err s o g
 
 pub bytes_outcome : (input : Option (List ℕ)) (bytes : List ℕ) → IsCanonicalOf input bytes → CommandOutcome commands.Canon input (given bytes)
-bytes_outcome None bytes f = IsCanonStatus.is_done
+bytes_outcome None bytes f = (f.0, rw f.1.2 (CanonOutcome.accepted f.1.0 f.1.1))
 bytes_outcome (Some b) bytes f = rw f.2 (CanonOutcome.accepted f.0 f.1)
 
 error_not_done : (e : ReadError) → (error_answer e).status ≡ status.Done → ⊥

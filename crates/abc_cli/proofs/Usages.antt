@@ -12,7 +12,7 @@ use Rattle.abc_words.specs.declared.command.GenOptions.{GenOptions}
 use Rattle.abc_words.specs.declared.command.Usage.{Usage}
 use Rattle.abc_words.specs.declared.command.Usage.TheVariants as usages
 use Rattle.abc_words.specs.Grammar.{IsUsageWord, Says}
-use Rattle.abc_cli.specs.Outcome.{Answer, CanonOutcome, IsCanonStatus, CommandOutcome, UsageOutcome, usage_answer, IsUsage, AsksNoInput, reads_input, not_built}
+use Rattle.abc_cli.specs.Outcome.{Answer, CanonOutcome, CommandOutcome, UsageOutcome, usage_answer, IsUsage, AsksNoInput, reads_input, not_built}
 use Rattle.abc_cli.specs.End.{Channel, IsEnd}
 
 -- the answers of words outside the grammar are those that reading the words finds
@@ -50,13 +50,9 @@ canon_not_usage : (input : List ℕ) (a : Answer) → CanonOutcome input a → a
 canon_not_usage input a (CanonOutcome.accepted v f) e = cc
 canon_not_usage input a (CanonOutcome.refused r f) e = cc
 
-status_not_usage : (s : Status) → IsCanonStatus s → s ≡ status.Usage → ⊥
-status_not_usage s IsCanonStatus.is_done e = cc
-status_not_usage s IsCanonStatus.is_refused e = cc
-
 command_not_usage : (c : Command) (input : Option (List ℕ)) (a : Answer) → CommandOutcome c input a → a.status ≡ status.Usage → ⊥
 command_not_usage commands.Canon (Some b) a o e = canon_not_usage b a o e
-command_not_usage commands.Canon None a o e = status_not_usage a.status o e
+command_not_usage commands.Canon None a o e = canon_not_usage o.0 a o.1 e
 command_not_usage commands.Dis input a o e = let h = ap (λ (x : Answer). x.status) o in cc
 command_not_usage commands.Asm input a o e = let h = ap (λ (x : Answer). x.status) o in cc
 command_not_usage commands.Check input a o e = let h = ap (λ (x : Answer). x.status) o in cc

@@ -1,11 +1,12 @@
 -- What a command line and an input are answered with.
-use Rattle.std.specs.Prelude.{◌≡◌, ℕ, Bool, true, false, List, [], Some, None, get_or}
+use Rattle.std.specs.Prelude.{◌≡◌, ℕ, Bool, true, false, List, [], get_or}
 use Rattle.std.specs.declared.option.Option.{Option}
 use Rattle.abc_base.specs.declared.status.Status.{Status}
 use Rattle.abc_base.specs.declared.status.Status.TheVariants as status
 use Rattle.abc_format.specs.Part.{Refusal}
 use Rattle.abc_tables.specs.declared.tables.Abc.{Abc}
 use Rattle.abc_tables.specs.Files.{IsFile, IsBadFile, file_bytes}
+use Rattle.abc_file.specs.Reading.{OfInput}
 use Rattle.abc_words.specs.declared.command.Command.{Command}
 use Rattle.abc_words.specs.declared.command.Command.TheVariants as commands
 use Rattle.abc_words.specs.declared.command.Usage.{Usage}
@@ -35,15 +36,9 @@ pub data CanonOutcome (input : List ℕ) : Answer → Type 0 where
   accepted : (v : Abc) → IsFile v input → CanonOutcome input (given (file_bytes v))
   refused : (r : Refusal) → IsBadFile input r → CanonOutcome input (told status.Refused (refusal_text r))
 
--- the statuses that `canon` has where reading doesn't fail and memory is found
-pub data IsCanonStatus : Status → Type 0 where
-  is_done : IsCanonStatus status.Done
-  is_refused : IsCanonStatus status.Refused
-
--- a command on an input; of an input that the source doesn't tell no more than this is known
+-- a command on the input that a source tells, or else on some input
 abbrev pub CommandOutcome : Command → Option (List ℕ) → Answer → Type 0
-CommandOutcome commands.Canon (Some input) a = CanonOutcome input a
-CommandOutcome commands.Canon None a = IsCanonStatus a.status
+CommandOutcome commands.Canon left a = OfInput left (λ input. CanonOutcome input a)
 CommandOutcome commands.Dis input a = a ≡ not_built
 CommandOutcome commands.Asm input a = a ≡ not_built
 CommandOutcome commands.Check input a = a ≡ not_built
