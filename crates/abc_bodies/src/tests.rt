@@ -1,6 +1,5 @@
-ghost use Rattle.std.specs.Prelude.{◌≡◌, ◌^◌, true};
+ghost use Rattle.std.specs.Prelude.{◌≡◌, ◌^◌};
 ghost use Rattle.abc_bodies.specs.Places.{ArePlaces};
-ghost use Rattle.abc_varint.specs.Reads.{tells};
 
 use super::*;
 use abc_base::{NoMemory, Source, SteadySource, Table};
@@ -53,9 +52,7 @@ fn recode<S: Source>(
     index: u32,
     out: &mut Vec<u8>,
 ) -> Result<Option<u32>, ReadError>
-    requires told { tells (S.left source.old) ≡ true }
-    requires fresh { w.old.kept ≡ None }
-    requires end { w.old.end ≡ 2 ^ 25 }
+    requires { w.old.end ≡ 2 ^ 25 }
 {
     let mut abc = beside(alloc)?;
     let places = read_bodies(alloc, w, source, &mut abc)?;

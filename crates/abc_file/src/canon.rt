@@ -69,9 +69,9 @@ fn pass_to_end<S: Source>(
     Ok(())
 }
 
-/// The canonical bytes of the file that the source gives up to its end, as `write` puts what `read` reads; but the file
-/// is never held whole: each field is put before the next is read. It is refused as by `read`. `ReadFault` comes only
-/// where the source's count of faults rose, and `NoMemory` where memory ran out.
+/// The canonical bytes of the file that the source gives up to its end, as `write` puts what `read` reads; each field is
+/// put before the next is read. It is refused as by `read`. `ReadFault` comes only where the source's count of faults
+/// rose, and `NoMemory` where memory ran out.
 pub fn canonical<S: Source>(alloc: Global, source: &mut S) -> Result<Vec<u8>, ReadError>
     ensures bytes { IfOk result (λ v. IsCanonicalOf (S.left source.old) v.items) }
     ensures fault { IfErr result (λ e. IsFaultOf (S.left source.old) e) }

@@ -22,7 +22,7 @@ use Rattle.abc_varint.proofs.Front.{front_taken}
 use Rattle.abc_varint.specs.Reads.{Reads}
 use Rattle.abc_varint.specs.Ready.{IsReady}
 use Rattle.abc_tables.specs.CodeBytes.{instr_len}
-use Rattle.abc_varint.specs.View.{Passes, View, held, onward}
+use Rattle.abc_varint.specs.View.{GoesOver, View, held, onward}
 use Rattle.abc_varint.proofs.Inputs.{among}
 use Rattle.abc_instr.specs.Fronts.{IsFront, count_of}
 use Rattle.abc_instr.specs.declared.front.Front.{Front}
@@ -142,7 +142,7 @@ taken f w w2 s old new ready is i = front_taken (blamed instruction) (raw_of i.i
 
 pub record Moves (i : Instr) (w w2 : View) : Type 0 where
   pub moves : w.place < w2.place
-  pub passes : Passes (instr_len i) w w2
+  pub passes : GoesOver (instr_len i) w w2
   pub room : w2.place ≤ limit
 
 pub passed : (f : Front) (w w2 : View) (old new : List ℕ) → IsReady (count_of f) w → w2 ≡ onward (count_of f) w → (i : IsFront f (held w) old new) → Moves i.instr w w2

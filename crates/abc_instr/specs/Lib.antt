@@ -3,3 +3,4 @@ pub mod Resolving
 pub mod Scanning
 pub mod Fronts
 pub mod Marks
+pub mod Laws

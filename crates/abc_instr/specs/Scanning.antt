@@ -14,7 +14,7 @@ use Rattle.abc_tables.specs.Starts.{starts as starts_from, size as size_of}
 use Rattle.abc_tables.specs.Targets.{found}
 use Rattle.abc_instr.specs.declared.scan.Jump.{Jump}
 use Rattle.abc_instr.specs.declared.scan.Scan.{Scan}
-use Rattle.abc_varint.specs.View.{Passes, View}
+use Rattle.abc_varint.specs.View.{GoesOver, View}
 use Rattle.abc_instr.specs.Marks.{mark_at, moved_at}
 use Rattle.abc_instr.specs.Offsets.{offset_of, raw_of, AreRaw, IsRaw}
 
@@ -93,7 +93,7 @@ pub record Adds (x : Instr) (n here moved : ℕ) (old new : Scan) : Type 0 where
 pub record Steps {E : Type 0} (says : Result RawInstr E → Type 0) (first moved end : ℕ) (w w2 : View) (old new : Scan) : Type 0 where
   pub instr : Instr
   pub moves : w.place < w2.place
-  pub passes : Passes (instr_len instr) w w2
+  pub passes : GoesOver (instr_len instr) w w2
   pub room : w2.place ≤ limit
   pub raw : IsRaw instr
   pub adds : Adds instr (w2.place - w.place) (w.place - first) moved old new

@@ -3,6 +3,7 @@
 
 mod front;
 mod marks;
+mod laws;
 mod pass;
 mod pieces;
 mod place;
@@ -15,6 +16,7 @@ mod weave;
 
 pub use abc_tables::{Code, Form, Instr, OpInfo, Pool, code_len, mnemonic, opcode};
 pub use marks::Marks;
+pub use laws::code_law;
 pub use pass::pass_code;
 pub use place::read_place;
 pub use put::{offset_at, put_code, starts_of};

@@ -8,7 +8,7 @@ ghost use Rattle.abc_tables.specs.CodeBytes.{instr_len, number_len};
 ghost use Rattle.abc_tables.specs.Opcodes.{form_at};
 ghost use Rattle.abc_tables.specs.Ready.{AllUpTo};
 ghost use Rattle.abc_varint.specs.Reads.{Blames, Keeps, Reads, ReadsPart};
-ghost use Rattle.abc_varint.specs.View.{Passes};
+ghost use Rattle.abc_varint.specs.View.{GoesOver};
 ghost use Rattle.abc_instr.specs.Offsets.{offset_of, raw_of, seen, IsRaw};
 
 use abc_base::{Source, Table};
@@ -21,7 +21,7 @@ use std::alloc::Global;
 fn read_opcode<S: Source>(w: &mut Window, source: &mut S) -> Result<(u8, Form), ReadError>
     ensures moves { OnOk result (w.old.place < w.new.place) }
     ensures value { ReadsPart S.left S.faults opcode_part w.old source.old w.new source.new result }
-    ensures passes { OnOk result (Passes 1 w.old w.new) }
+    ensures passes { OnOk result (GoesOver 1 w.old w.new) }
     ensures form { IfOk result (λ x. form_at x.0 ≡ Some x.1) }
 {
     let place = w.place();
@@ -39,7 +39,7 @@ fn read_opcode<S: Source>(w: &mut Window, source: &mut S) -> Result<(u8, Form), 
 #[tactic(auto, unfolding(abc_tables::specs::Instructions::signed_byte))]
 fn read_signed_byte<S: Source>(w: &mut Window, source: &mut S) -> Result<i8, ReadError>
     ensures value { ReadsPart S.left S.faults signed_byte w.old source.old w.new source.new result }
-    ensures passes { OnOk result (Passes 1 w.old w.new) }
+    ensures passes { OnOk result (GoesOver 1 w.old w.new) }
 {
     let x = read_u8(w, source)?;
     Ok(x.cast_signed())
@@ -49,7 +49,7 @@ fn read_signed_byte<S: Source>(w: &mut Window, source: &mut S) -> Result<i8, Rea
 #[tactic(auto, unfolding(abc_tables::specs::Instructions::signed_short))]
 fn read_signed_short<S: Source>(w: &mut Window, source: &mut S) -> Result<i16, ReadError>
     ensures value { ReadsPart S.left S.faults signed_short w.old source.old w.new source.new result }
-    ensures passes { IfOk result (λ z. Passes (number_len (cast_unsigned w16 z)) w.old w.new) }
+    ensures passes { IfOk result (λ z. GoesOver (number_len (cast_unsigned w16 z)) w.old w.new) }
 {
     let x = read_u32(w, source)?;
     Ok(((x % 65536) as u16).cast_signed())
@@ -58,7 +58,7 @@ fn read_signed_short<S: Source>(w: &mut Window, source: &mut S) -> Result<i16, R
 /// An offset, as its 32 bits.
 fn read_offset<S: Source>(w: &mut Window, source: &mut S) -> Result<u32, ReadError>
     ensures value { ReadsPart S.left S.faults s24 w.old source.old w.new source.new (seen offset_of result) }
-    ensures passes { OnOk result (Passes 3 w.old w.new) }
+    ensures passes { OnOk result (GoesOver 3 w.old w.new) }
 {
     let offset = read_s24(w, source)?;
     Ok(offset.cast_unsigned())
@@ -75,7 +75,7 @@ fn read_offsets<S: Source>(
     ensures value { ReadsPart S.left S.faults (times count s24) w.old source.old w.new source.new (seen (λ xs. map offset_of xs) result) }
     ensures count { IfOk result (λ xs. length xs ≡ count) }
     ensures each { IfOk result (AllUpTo (2 ^ 32)) }
-    ensures passes { OnOk result (w.old.place ≤ w.old.end → Passes (3 * count) w.old w.new) }
+    ensures passes { OnOk result (w.old.place ≤ w.old.end → GoesOver (3 * count) w.old w.new) }
 {
     let mut offsets = Table::new(alloc);
     for _ in 0..count {
@@ -90,7 +90,7 @@ fn read_parts<S: Source>(alloc: Global, w: &mut Window, source: &mut S) -> Resul
     ensures moves { OnOk result (w.old.place < w.new.place) }
     ensures value { ReadsPart S.left S.faults instruction w.old source.old w.new source.new (seen raw_of result) }
     ensures raw { IfOk result IsRaw }
-    ensures passes { IfOk result (λ i. Passes (instr_len i) w.old w.new) }
+    ensures passes { IfOk result (λ i. GoesOver (instr_len i) w.old w.new) }
 {
     let (op, form) = read_opcode(w, source)?;
     match form {
@@ -152,7 +152,7 @@ pub fn read_raw<S: Source>(
     ensures moves { OnOk result (w.old.place < w.new.place) }
     ensures value { Reads (blamed instruction).reads w.old (S.left source.old) w.new (S.left source.new) (seen raw_of result) }
     ensures raw { IfOk result IsRaw }
-    ensures passes { IfOk result (λ i. Passes (instr_len i) w.old w.new) }
+    ensures passes { IfOk result (λ i. GoesOver (instr_len i) w.old w.new) }
     ensures later { S.faults source.old ≤ S.faults source.new }
     ensures cause { Blames w.old (S.faults source.old) (S.faults source.new) result }
     ensures keeps { Keeps w.old w.new result }

@@ -1,5 +1,4 @@
-ghost use Rattle.std.specs.Prelude.{◌≡◌, ◌^◌, true};
-ghost use Rattle.abc_varint.specs.Reads.{tells};
+ghost use Rattle.std.specs.Prelude.{◌≡◌, ◌^◌};
 
 use super::*;
 use abc_base::{Source, SteadySource};
@@ -14,8 +13,7 @@ fn recode<S: Source>(
     source: &mut S,
     out: &mut Vec<u8>,
 ) -> Result<(), ReadError>
-    requires told { tells (S.left source.old) ≡ true }
-    requires end { w.old.end ≡ 2 ^ 25 }
+    requires { w.old.end ≡ 2 ^ 25 }
 {
     let code = read_code(alloc, w, source)?;
     put_code(alloc, &code.instrs, out)?;

@@ -10,7 +10,7 @@ use Rattle.abc_format.specs.Numbers.{number, s24, u8}
 use Rattle.abc_format.proofs.Numbers.{number-exact, u8-exact}
 use Rattle.abc_varint.specs.Ready.{IsReady, TakesNumber}
 use Rattle.abc_varint.specs.Reads.{IsInput, Reads, ReadsNumber, stand}
-use Rattle.abc_varint.specs.View.{View, Passes, held, onward}
+use Rattle.abc_varint.specs.View.{View, GoesOver, held, onward}
 use Rattle.abc_varint.proofs.Inputs.{ahead, among, rest}
 
 -- ---- what five bytes spell
@@ -88,7 +88,7 @@ number_read left faults x w w2 s t = (
 )
 
 -- no fewer bytes than the shortest spelling has
-pub number_passes : (x : ℕ) (w w2 : View) → TakesNumber x w w2 → Passes (length (number_bytes x)) w w2
+pub number_passes : (x : ℕ) (w w2 : View) → TakesNumber x w w2 → GoesOver (length (number_bytes x)) w w2
 number_passes x w w2 t =
     let at : w2.place ≡ w.place + t.count = ap (λ (v : View). v.place) t.is in
     (omega (arith, number_shortest x (take t.count (held w)) t.spelled, length-take t.count (held w), t.ready.held), omega (arith, t.ready.before))

@@ -4,3 +4,4 @@ pub mod Reads
 pub mod Answers
 pub mod Puts
 pub mod Passes
+pub mod Laws

@@ -61,5 +61,5 @@ NextOf w new r =
     ⊎ ((w.place < w.end) × NextHere w (held w) new r)
 
 -- The window went over at least so many bytes, each of them before its end.
-abbrev pub Passes : ℕ → View → View → Type 0
-Passes count w w2 = (w.place + count ≤ w2.place) × (w2.place ≤ w.end)
+abbrev pub GoesOver : ℕ → View → View → Type 0
+GoesOver count w w2 = (w.place + count ≤ w2.place) × (w2.place ≤ w.end)

@@ -2,7 +2,7 @@ ghost use Rattle.std.specs.Prelude.{◌≡◌, ◌≤◌, ◌<◌, ◌*◌, ◌+
 ghost use Rattle.abc_base.specs.Numbers.{number_bytes, signed24};
 ghost use Rattle.abc_format.specs.Numbers.{groups, number, u16 as two_bytes, u30 as small, u32 as wide, s24 as offset, s32 as signed, index_below as below, pool_index as in_pool, entry_index as of_entry};
 ghost use Rattle.abc_varint.specs.Reads.{Blames, Reads, ReadsNumber, ReadsPart};
-ghost use Rattle.abc_varint.specs.View.{IsKept, Passes};
+ghost use Rattle.abc_varint.specs.View.{IsKept, GoesOver};
 ghost use Rattle.abc_varint.specs.declared.error.ReadError.{ReadError};
 
 use crate::error::ReadError;
@@ -28,7 +28,7 @@ fn next_groups<S: Source>(
     ensures later { S.faults source.old ≤ S.faults source.new }
     ensures cause { Blames w.old (S.faults source.old) (S.faults source.new) result }
     ensures rises { OnOk result (0 < more → w.old.place < w.new.place) }
-    ensures passes { IfOk result (λ x. Passes (length (number_bytes x)) w.old w.new) }
+    ensures passes { IfOk result (λ x. GoesOver (length (number_bytes x)) w.old w.new) }
 {
     if more == 0 {
         return Err(w.refuse(start, Reason::LongNumber));
@@ -48,7 +48,7 @@ fn next_number<S: Source>(w: &mut Window, source: &mut S) -> Result<u64, ReadErr
     ensures value { ReadsNumber S.left S.faults number w.old source.old w.new source.new result }
     ensures bound { IfOk result (λ x. x < 2 ^ 35) }
     ensures rises { OnOk result (w.old.place < w.new.place) }
-    ensures passes { IfOk result (λ x. Passes (length (number_bytes x)) w.old w.new) }
+    ensures passes { IfOk result (λ x. GoesOver (length (number_bytes x)) w.old w.new) }
     ensures room { w.old.place ≤ 2 ^ 24 }
 {
     match w.take_number() {
@@ -65,7 +65,7 @@ fn slow_number<S: Source>(w: &mut Window, source: &mut S) -> Result<u64, ReadErr
     ensures value { ReadsNumber S.left S.faults number w.old source.old w.new source.new result }
     ensures bound { IfOk result (λ x. x < 2 ^ 35) }
     ensures rises { OnOk result (w.old.place < w.new.place) }
-    ensures passes { IfOk result (λ x. Passes (length (number_bytes x)) w.old w.new) }
+    ensures passes { IfOk result (λ x. GoesOver (length (number_bytes x)) w.old w.new) }
     ensures room { w.old.place ≤ 2 ^ 24 }
 {
     let start = w.place();
@@ -79,7 +79,7 @@ pub fn next_u30<S: Source>(w: &mut Window, source: &mut S) -> Result<u32, ReadEr
     ensures value { ReadsNumber S.left S.faults small w.old source.old w.new source.new result }
     ensures bound { IfOk result (λ x. x < 2 ^ 30) }
     ensures rises { OnOk result (w.old.place < w.new.place) }
-    ensures passes { IfOk result (λ x. Passes (length (number_bytes x)) w.old w.new) }
+    ensures passes { IfOk result (λ x. GoesOver (length (number_bytes x)) w.old w.new) }
     ensures room { w.old.place ≤ 2 ^ 24 }
 {
     let start = w.place();
@@ -96,7 +96,7 @@ pub fn next_u30<S: Source>(w: &mut Window, source: &mut S) -> Result<u32, ReadEr
 pub fn next_u32<S: Source>(w: &mut Window, source: &mut S) -> Result<u32, ReadError>
     ensures value { ReadsNumber S.left S.faults wide w.old source.old w.new source.new result }
     ensures rises { OnOk result (w.old.place < w.new.place) }
-    ensures passes { IfOk result (λ x. Passes (length (number_bytes x)) w.old w.new) }
+    ensures passes { IfOk result (λ x. GoesOver (length (number_bytes x)) w.old w.new) }
     ensures room { w.old.place ≤ 2 ^ 24 }
 {
     let x = next_number(w, source)?;

@@ -3,7 +3,7 @@ ghost use Rattle.abc_base.specs.Numbers.{number_bytes};
 ghost use Rattle.abc_format.specs.Numbers.{u8 as octet, u16 as two_bytes, u30 as small, u32 as wide, s24 as offset, s32 as signed, index_below as below, pool_index as in_pool, entry_index as of_entry};
 ghost use Rattle.abc_varint.specs.Answers.{Answers};
 ghost use Rattle.abc_varint.specs.Reads.{ReadsNumber, ReadsPart};
-ghost use Rattle.abc_varint.specs.View.{Passes};
+ghost use Rattle.abc_varint.specs.View.{GoesOver};
 ghost use Rattle.abc_varint.specs.declared.error.ReadError.{ReadError};
 
 use crate::error::ReadError;
@@ -50,7 +50,7 @@ pub fn read_u30<S: Source>(w: &mut Window, source: &mut S) -> Result<u32, ReadEr
     ensures answers { Answers small w.old (S.left source.old) w.new (S.left source.new) result }
     ensures bound { IfOk result (λ x. x < 2 ^ 30) }
     ensures rises { OnOk result (w.old.place < w.new.place) }
-    ensures passes { IfOk result (λ x. Passes (length (number_bytes x)) w.old w.new) }
+    ensures passes { IfOk result (λ x. GoesOver (length (number_bytes x)) w.old w.new) }
 {
     next_u30(w, source)
 }
@@ -61,7 +61,7 @@ pub fn read_u32<S: Source>(w: &mut Window, source: &mut S) -> Result<u32, ReadEr
     ensures value { ReadsNumber S.left S.faults wide w.old source.old w.new source.new result }
     ensures answers { Answers wide w.old (S.left source.old) w.new (S.left source.new) result }
     ensures rises { OnOk result (w.old.place < w.new.place) }
-    ensures passes { IfOk result (λ x. Passes (length (number_bytes x)) w.old w.new) }
+    ensures passes { IfOk result (λ x. GoesOver (length (number_bytes x)) w.old w.new) }
 {
     next_u32(w, source)
 }

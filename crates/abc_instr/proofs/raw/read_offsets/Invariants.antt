@@ -1,7 +1,7 @@
 use Rattle.std.proofs.Common.{◌≡◌, ◌≤◌, ◌-◌, ◌*◌, ◌^◌, length, map}
 use Rattle.abc_format.specs.Numbers.{s24}
 use Rattle.abc_tables.specs.Ready.{AllUpTo}
-use Rattle.abc_varint.specs.View.{Passes}
+use Rattle.abc_varint.specs.View.{GoesOver}
 use Rattle.abc_varint.proofs.Loop.{Going}
 use Rattle.abc_instr.specs.Offsets.{offset_of}
 use Rattle.abc_instr.proofs.raw.read_offsets.Given as goal
@@ -12,5 +12,5 @@ invariant-loop g l = record {
   later : g.S.Source.faults l.initial.source ≤ g.S.Source.faults l.source;
   count : length l.offsets ≡ l.counter;
   each : AllUpTo (2 ^ 32) l.offsets;
-  passes : l.initial.w.place ≤ l.initial.w.end → Passes (3 * l.counter) l.initial.w l.w;
+  passes : l.initial.w.place ≤ l.initial.w.end → GoesOver (3 * l.counter) l.initial.w l.w;
 }

@@ -4,4 +4,4 @@ use Rattle.abc_instr.proofs.tests.recode.Goals as goal
 
 pub put_code-requires : goal.put_code-requires
 unfolding code_listing
-put_code-requires g c = let a = c.in_ok-code.ensures.answers c.in_ok-code.ensures.value.0.0 c.requires.told in (a.front, (c.in_ok-code.code, a.spelled, refl))
+put_code-requires g c = let a = (c.in_ok-code.ensures.answers c.in_ok-code.ensures.value.0.0).is in (a.front, (c.in_ok-code.code, a.spelled, refl))

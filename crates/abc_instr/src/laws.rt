@@ -1,0 +1,18 @@
+ghost use Rattle.std.specs.Prelude.{◌↔◌, List, ℕ};
+ghost use Rattle.abc_format.specs.Canonical.{IsCanonical};
+ghost use Rattle.abc_format.specs.Law.{IsDetermined};
+ghost use Rattle.abc_tables.specs.declared.instructions.Code.{Code as AnyCode};
+ghost use Rattle.abc_tables.specs.Code.{code as code_part, code_listing};
+ghost use Rattle.abc_tables.specs.CodeBytes.{code_bytes};
+ghost use Rattle.abc_instr.specs.Laws.{SpellsWithLength};
+
+/// What reading and putting code stand on. Code is spelled by the number of its bytes, below 2^23, and by the pieces of
+/// its instructions, one after the other, whose targets are the numbers of the instructions that begin where the offsets
+/// lead. Bytes begin with code in exactly one way, or are refused at exactly one place for one reason, and never both.
+/// The canonical bytes spell what any spelling spells, but for where the instructions began as they were read, and none
+/// is shorter.
+pub fn code_law()
+    ensures spelled { (c : AnyCode) → (b : List ℕ) → code_part.spells c b ↔ SpellsWithLength c b }
+    ensures determined { IsDetermined code_part }
+    ensures shortest { IsCanonical code_listing code_bytes }
+{}
