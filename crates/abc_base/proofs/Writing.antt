@@ -1,11 +1,10 @@
 -- What several writes do together, one after the other.
-use Rattle.std.proofs.Common.{◌≡◌, ℕ, ◌+◌, ◌-◌, ◌≤◌, min, List, ◌++◌, length, take, drop, Some, None, is_some, refl, sym, ap, subst, ◌∙◌, arith, append_assoc}
+use Rattle.std.proofs.Common.{◌≡◌, ℕ, ◌+◌, ◌-◌, min, List, ◌++◌, length, take, drop, Some, None, is_some, refl, sym, ap, subst, ◌∙◌, arith, append_assoc}
 use Rattle.std.proofs.lemmas.List.{take-take, drop-take, take-append-drop, take-append-le, take_min, take_rest}
 use Rattle.std.proofs.Math.Seq.{take-append-add}
 use Rattle.std.proofs.KnownBytes.{Appends-trans}
 use Rattle.std.specs.declared.option.Option.{Option}
 use Rattle.std.specs.Io.KnownBytes.{Appends, append_known}
-use Rattle.abc_base.specs.Faults.{Rose}
 use Rattle.abc_base.specs.Sinks.{GrowsByFront}
 
 -- ---- one piece, in several calls
@@ -51,11 +50,3 @@ front_second old new a b f = record {
 
 -- by which writes in a row are one write of all that they wrote
 pub ruleset writing = (known_twice, known_told, front_first, front_second)
-
--- ---- the counts of faults
-
-pub rose_later : (before mid now : ℕ) → Rose before mid → mid ≤ now → Rose before now
-rose_later before mid now r le = omega arith
-
-pub rose_earlier : (before mid now : ℕ) → before ≤ mid → Rose mid now → Rose before now
-rose_earlier before mid now le r = omega arith

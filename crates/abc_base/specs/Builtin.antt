@@ -17,7 +17,7 @@ twice_formed : IsFormula twice
 twice_formed = record {
   short = omega arith;
   free = All-from_recursion (λ (name : List ℕ). ¬ (name ≡ codes "twice")) taken_names
-      (third _ _ refl, (third _ _ refl, (third _ _ refl, (third _ _ refl, (third _ _ refl, (third _ _ refl, (third _ _ refl, (third _ _ refl, (third _ _ refl, (third _ _ refl, (third _ _ refl, (third _ _ refl, (third _ _ refl, (third _ _ refl, tt))))))))))))));
+      (third _ _ refl, (third _ _ refl, (third _ _ refl, (third _ _ refl, (third _ _ refl, (third _ _ refl, (third _ _ refl, (third _ _ refl, (third _ _ refl, (third _ _ refl, (third _ _ refl, (third _ _ refl, (third _ _ refl, (third _ _ refl, (third _ _ refl, tt)))))))))))))));
   constant = is_small 0 (omega arith);
   few = omega arith;
   small = All-from_recursion IsSmall (pos 2 ∷ []) (is_small 2 (omega arith), tt);
@@ -27,7 +27,7 @@ plus_formed : IsFormula plus
 plus_formed = record {
   short = omega arith;
   free = All-from_recursion (λ (name : List ℕ). ¬ (name ≡ codes "plus")) taken_names
-      (third _ _ refl, (third _ _ refl, (third _ _ refl, (third _ _ refl, (third _ _ refl, (third _ _ refl, (third _ _ refl, (third _ _ refl, (third _ _ refl, (third _ _ refl, (third _ _ refl, (third _ _ refl, (third _ _ refl, (third _ _ refl, tt))))))))))))));
+      (third _ _ refl, (third _ _ refl, (third _ _ refl, (third _ _ refl, (third _ _ refl, (third _ _ refl, (third _ _ refl, (third _ _ refl, (third _ _ refl, (third _ _ refl, (third _ _ refl, (third _ _ refl, (third _ _ refl, (third _ _ refl, (third _ _ refl, tt)))))))))))))));
   constant = is_small 0 (omega arith);
   few = omega arith;
   small = All-from_recursion IsSmall (pos 1 ∷ pos 1 ∷ []) (is_small 1 (omega arith), (is_small 1 (omega arith), tt));

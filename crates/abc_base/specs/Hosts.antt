@@ -40,7 +40,7 @@ formula_at formulas id = get_or formulas id (record { name = []; constant = pos 
 abbrev pub taken_names : List (List ℕ)
 taken_names =
     codes "trace"
-    ∷ map class_name (classes.Object ∷ classes.Class ∷ classes.Function ∷ classes.Namespace ∷ classes.Str ∷ classes.Int ∷ classes.UInt ∷ classes.Number ∷ classes.Boolean ∷ classes.Error ∷ classes.TypeError ∷ classes.ReferenceError ∷ classes.ArgumentError ∷ [])
+    ∷ map class_name (classes.Object ∷ classes.Class ∷ classes.Function ∷ classes.Namespace ∷ classes.Str ∷ classes.Int ∷ classes.UInt ∷ classes.Number ∷ classes.Boolean ∷ classes.Error ∷ classes.TypeError ∷ classes.ReferenceError ∷ classes.ArgumentError ∷ classes.Array ∷ [])
 
 -- from -2^31 to 2^31
 abbrev pub IsSmall : ℤ → Type 0

@@ -1,3 +1,4 @@
+pub mod Adapters
 pub mod Builtin
 pub mod Faults
 pub mod Hosts

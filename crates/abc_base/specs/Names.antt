@@ -22,6 +22,7 @@ class_name classes.Error = codes "Error"
 class_name classes.TypeError = codes "TypeError"
 class_name classes.ReferenceError = codes "ReferenceError"
 class_name classes.ArgumentError = codes "ArgumentError"
+class_name classes.Array = codes "Array"
 
 -- the name of a fault
 abbrev pub fault_name : Fault → List ℕ
@@ -33,6 +34,7 @@ fault_name faults.ObjectToPrimitive = codes "ObjectToPrimitive"
 fault_name faults.TextOrder = codes "TextOrder"
 fault_name faults.GetterCall = codes "GetterCall"
 fault_name faults.FunctionConstruct = codes "FunctionConstruct"
+fault_name faults.ArrayIndex = codes "ArrayIndex"
 
 -- the code of a status
 abbrev pub status_code : Status → ℕ

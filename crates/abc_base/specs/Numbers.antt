@@ -1,5 +1,4 @@
 -- How numbers are spelled: seven bits a byte, the low bits first, and the high bit is set where another byte follows.
-use Rattle.std.specs.Int.{w32, cast_signed}
 use Rattle.std.specs.Prelude.{◌≡◌, ℕ, ℤ, zero, suc, pos, ◌-ℤ◌, ◌+◌, ◌*◌, ◌/◌, ◌%◌, ◌^◌, ◌<◌, ◌≤◌, List, [], ◌∷◌, ◌++◌, length, nat_lt, if◌then◌else◌}
 use Rattle.std.specs.List.{AllByRecursion, enumerate_from, sum_by}
 
@@ -25,25 +24,9 @@ SpellsU30 x bytes = SpellsNumber x bytes × (x < 2 ^ 30)
 abbrev pub SpellsU32 : ℕ → List ℕ → Type 0
 SpellsU32 x bytes = (raw : ℕ) × SpellsNumber raw bytes × (x ≡ raw % 2 ^ 32)
 
--- the same 32 bits, in two's complement
-abbrev pub SpellsS32 : ℤ → List ℕ → Type 0
-SpellsS32 z bytes = (raw : ℕ) × SpellsNumber raw bytes × (z ≡ cast_signed w32 (raw % 2 ^ 32))
-
--- one byte
-abbrev pub SpellsU8 : ℕ → List ℕ → Type 0
-SpellsU8 x bytes = bytes ≡ x ∷ []
-
--- two bytes, the low one first
-abbrev pub SpellsU16 : ℕ → List ℕ → Type 0
-SpellsU16 x bytes = (low : ℕ) × (high : ℕ) × (bytes ≡ low ∷ high ∷ []) × (x ≡ low % 256 + 256 * (high % 256))
-
 -- 24 bits in two's complement
 abbrev pub signed24 : ℕ → ℤ
 signed24 x = if nat_lt x (2 ^ 23) then pos x else pos x -ℤ pos (2 ^ 24)
-
--- three bytes, the low one first
-abbrev pub SpellsS24 : ℤ → List ℕ → Type 0
-SpellsS24 z bytes = (low : ℕ) × (middle : ℕ) × (high : ℕ) × (bytes ≡ low ∷ middle ∷ high ∷ []) × (z ≡ signed24 (low % 256 + 256 * (middle % 256) + 65536 * (high % 256)))
 
 -- ---- the fewest bytes
 

@@ -14,6 +14,7 @@ mod sinks;
 mod source;
 mod sources;
 mod status;
+mod streams;
 mod table;
 #[cfg(test)]
 mod tests;
@@ -30,5 +31,6 @@ pub use sinks::{MemSink, StdSink, SteadySink};
 pub use source::{Failed, Source};
 pub use sources::{MemSource, StdSource, SteadySource};
 pub use status::Status;
+pub use streams::{Reader, Writer};
 pub use table::{Bytes, Table};
 pub use words::Words;

@@ -17,6 +17,7 @@ pub enum HostClass {
     TypeError,
     ReferenceError,
     ArgumentError,
+    Array,
 }
 
 impl HostClass {
@@ -38,6 +39,7 @@ impl HostClass {
             HostClass::TypeError => b"TypeError",
             HostClass::ReferenceError => b"ReferenceError",
             HostClass::ArgumentError => b"ArgumentError",
+            HostClass::Array => b"Array",
         }
     }
 }
@@ -61,6 +63,8 @@ pub enum Fault {
     GetterCall,
     /// An object is made by a function that is no class.
     FunctionConstruct,
+    /// An array is made with a negative length, or an element is written past the end of an array.
+    ArrayIndex,
 }
 
 impl Fault {
@@ -77,6 +81,7 @@ impl Fault {
             Fault::TextOrder => b"TextOrder",
             Fault::GetterCall => b"GetterCall",
             Fault::FunctionConstruct => b"FunctionConstruct",
+            Fault::ArrayIndex => b"ArrayIndex",
         }
     }
 }

@@ -1,6 +1,7 @@
 ghost use Rattle.std.specs.Prelude.{◌≡◌, ◌<◌, ◌-◌, ◌+◌, ◌++◌, ◌↔◌, ◌⊎◌, ℕ, [], min, take, length, Some, None, Ok, IfOk, OnOk, OnErr, IsErr, Contains};
 ghost use Rattle.std.specs.Io.{WritesAtMost};
 ghost use Rattle.std.specs.Io.KnownBytes.{WriteAppends};
+ghost use Rattle.abc_base.specs.Adapters.{PassesWriting};
 ghost use Rattle.abc_base.specs.Faults.{HasCause};
 ghost use Rattle.abc_base.specs.Views.{one_more};
 
@@ -8,8 +9,8 @@ use crate::calls::{is_failing, raised};
 use crate::memory::NoMemory;
 use crate::sink::Sink;
 use crate::source::Failed;
+use crate::streams::Writer;
 use std::alloc::Global;
-use std::io::Write;
 use std::marker::Model;
 
 /// Bytes in memory: room for so many, at most `piece` of them a call, and calls that fail. Contracts see it as a
@@ -116,8 +117,9 @@ impl Sink for SteadySink {
     }
 }
 
-/// Any writer of std. It tells nothing of its bytes, and counts each `Err` as a fault, and each write of no byte of a
-/// piece that has some. Contracts see it as a record: the writer, and the count, which stands still at 2^64 - 1.
+/// Any writer of std. It tells nothing of its bytes, fails exactly where a write of the writer answers an `Err` or takes
+/// no byte of a piece that has some, and counts that as a fault. Contracts see it as a record: the writer, and the
+/// count, which stands still at 2^64 - 1.
 #[derive(Drop)]
 pub struct StdSink<W: Drop> {
     inner: W,
@@ -132,7 +134,7 @@ impl<W: Drop> Model for StdSink<W> {
     ghost view = { λ s. record { inner = s.inner; faults = s.faults } };
 }
 
-impl<W: Write + Drop> StdSink<W> {
+impl<W: Writer + Drop> StdSink<W> {
     /// A sink over the writer, with no fault yet.
     pub fn new(inner: W) -> StdSink<W>
         ensures { result ≡ record { inner = inner; faults = 0 } }
@@ -141,7 +143,7 @@ impl<W: Write + Drop> StdSink<W> {
     }
 }
 
-impl<W: Write + Drop> Sink for StdSink<W> {
+impl<W: Writer + Drop> Sink for StdSink<W> {
     ghost written = { λ _. None };
 
     ghost faults = { λ s. s.faults };
@@ -153,8 +155,9 @@ impl<W: Write + Drop> Sink for StdSink<W> {
         ensures cause { HasCause self.old.faults self.new.faults result }
         ensures ok { OnOk result (self.new.faults ≡ self.old.faults) }
         ensures err { OnErr result (self.new.faults ≡ one_more self.old.faults) }
+        ensures passes { PassesWriting (λ answer. W.may_answer self.old.inner piece.now answer self.new.inner) piece.now result }
     {
-        match self.inner.write(piece) {
+        match self.inner.write_some(piece) {
             Ok(count) if count > 0 || piece.is_empty() => Ok(count),
             _ => {
                 self.faults = raised(self.faults);

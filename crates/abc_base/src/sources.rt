@@ -1,14 +1,15 @@
 ghost use Rattle.std.specs.Prelude.{◌≡◌, ◌<◌, ◌≤◌, ◌↔◌, ℕ, drop, take, min, Some, None, Ok, IfOk, OnOk, OnErr, IsErr, Contains, length};
 ghost use Rattle.std.specs.Io.{ReadsAtMost};
 ghost use Rattle.std.specs.Io.KnownBytes.{ReadConsumes};
+ghost use Rattle.abc_base.specs.Adapters.{PassesReading};
 ghost use Rattle.abc_base.specs.Faults.{HasCause};
 ghost use Rattle.abc_base.specs.Views.{one_more};
 
 use crate::calls::{is_failing, raised};
 use crate::memory::NoMemory;
 use crate::source::{Failed, Source};
+use crate::streams::Reader;
 use std::alloc::Global;
-use std::io::Read;
 use std::marker::Model;
 
 /// Bytes in memory, at most `piece` of them a call. A read of it never fails. Contracts see it as a record: what is
@@ -152,7 +153,8 @@ impl Source for MemSource {
     }
 }
 
-/// Any reader of std. It tells nothing of its bytes, and counts each `Err` as a fault. Contracts see it as a record:
+/// Any reader of std. It tells nothing of its bytes, fails exactly where a read of the reader answers an `Err`, and
+/// counts that as a fault. Contracts see it as a record:
 /// the reader, and the count, which stands still at 2^64 - 1.
 #[derive(Drop)]
 pub struct StdSource<R: Drop> {
@@ -168,7 +170,7 @@ impl<R: Drop> Model for StdSource<R> {
     ghost view = { λ s. record { inner = s.inner; faults = s.faults } };
 }
 
-impl<R: Read + Drop> StdSource<R> {
+impl<R: Reader + Drop> StdSource<R> {
     /// A source over the reader, with no fault yet.
     pub fn new(inner: R) -> StdSource<R>
         ensures { result ≡ record { inner = inner; faults = 0 } }
@@ -177,7 +179,7 @@ impl<R: Read + Drop> StdSource<R> {
     }
 }
 
-impl<R: Read + Drop> Source for StdSource<R> {
+impl<R: Reader + Drop> Source for StdSource<R> {
     ghost left = { λ _. None };
 
     ghost faults = { λ s. s.faults };
@@ -188,8 +190,9 @@ impl<R: Read + Drop> Source for StdSource<R> {
         ensures cause { HasCause self.old.faults self.new.faults result }
         ensures ok { OnOk result (self.new.faults ≡ self.old.faults) }
         ensures err { OnErr result (self.new.faults ≡ one_more self.old.faults) }
+        ensures passes { PassesReading (λ answer. R.may_answer self.old.inner into.new answer self.new.inner) result }
     {
-        match self.inner.read(into) {
+        match self.inner.read_some(into) {
             Ok(count) => Ok(count),
             Err(_) => {
                 self.faults = raised(self.faults);

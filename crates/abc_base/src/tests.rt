@@ -157,7 +157,8 @@ fn lists(rt: HostRuntime) -> Result<(), Fail> {
 fn names_and_lengths(rt: HostRuntime) {
     assert_eq!(rt; HostClass::Str.name(), b"String".as_slice());
     assert_eq!(rt; HostClass::UInt.name(), b"uint".as_slice());
-    assert_eq!(rt; Fault::TextOrder.name(), b"TextOrder".as_slice());
+    assert_eq!(rt; HostClass::Array.name(), b"Array".as_slice());
+    assert_eq!(rt; Fault::ArrayIndex.name(), b"ArrayIndex".as_slice());
     assert_eq!(rt; Status::NotBuilt.code(), 11);
     for (value, want) in [(0, 1), (127, 1), (128, 2), (16384, 3), (4294967295, 5)] {
         assert_eq!(rt; len_u32(value), want);
