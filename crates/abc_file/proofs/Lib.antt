@@ -1,2 +1,4 @@
 pub mod Ending
+pub mod NarrowFiles
+pub mod Narrowing
 pub mod Passing

@@ -1,7 +1,9 @@
 ghost use Rattle.std.specs.Prelude.{◌≡◌, ◌↔◌, ◌≤◌, All, List, ℕ, length};
+ghost use Rattle.abc_file.specs.Narrow.{IsNarrow, narrow_file};
+ghost use Rattle.abc_format.specs.Canonical.{IsCanonical};
 ghost use Rattle.abc_tables.specs.declared.tables.Abc.{Abc};
 ghost use Rattle.abc_tables.specs.Bodies.{IsReadyBody};
-ghost use Rattle.abc_tables.specs.Files.{Fits, IsFile, IsFileRead, IsDecided, file_bytes};
+ghost use Rattle.abc_tables.specs.Files.{Fits, IsFile, IsFileRead, IsDecided, file, file_bytes};
 
 /// Every list of bytes is spelled by exactly one file, or is bad at exactly one place for exactly one reason, and
 /// never both.
@@ -22,4 +24,11 @@ pub fn canonical_form()
 pub fn reading_gives_the_file()
     ensures file { (v : Abc) → (starts : List (List ℕ)) → (b : List ℕ) → IsFileRead (v, starts) b → IsFile v b }
     ensures ready { (v : Abc) → (b : List ℕ) → IsFile v b → All IsReadyBody v.bodies }
+{}
+
+/// The narrow format, which has no multinames of kind 1D and no opcode 53, spells just the files without them, by the same
+/// bytes as the format does; and such a file has the same canonical bytes in both.
+pub fn widening()
+    ensures same_values { (v : Abc) → (b : List ℕ) → (narrow_file.spells v b ↔ (file.spells v b × IsNarrow v)) }
+    ensures same_bytes { IsCanonical narrow_file file_bytes }
 {}

@@ -66,15 +66,16 @@ namespace-len : (n : Namespace) → length (namespace_bytes n) ≡ namespace_len
 unfolding namespace_bytes
 namespace-len n = omega arith
 
+indices-len : (xs : List ℕ) → length (counted_bytes number_bytes xs) ≡ counted_len number_len xs
+indices-len xs = counted-len number_bytes number_len (λ n. refl) xs
+
 multiname-len : (m : Multiname) → length (multiname_bytes m) ≡ multiname_len m
 multiname-len (names.QName attr n i) = omega (arith, length-append (number_bytes n) (number_bytes i))
 multiname-len (names.Rt attr i) = omega arith
 multiname-len (names.RtL attr) = omega arith
 multiname-len (names.Multi attr i s) = omega (arith, length-append (number_bytes i) (number_bytes s))
 multiname-len (names.MultiL attr s) = omega arith
-
-set-len : (xs : List ℕ) → length (counted_bytes number_bytes xs) ≡ counted_len number_len xs
-set-len xs = counted-len number_bytes number_len (λ n. refl) xs
+multiname-len (names.TypeName base params) = omega (arith, indices-len params, length-append (number_bytes base) (counted_bytes number_bytes params))
 
 pools-len : (v : Abc) → length (pools_bytes v) ≡ pools_len v
 unfolding pools_bytes pools_len
@@ -87,7 +88,7 @@ pools-len v =
       pool-len double_bytes double_len (λ d. refl) v.doubles,
       pool-len text_bytes text_len text-len v.strings,
       pool-len namespace_bytes namespace_len namespace-len v.namespaces,
-      pool-len (counted_bytes number_bytes) (counted_len number_len) set-len v.sets,
+      pool-len (counted_bytes number_bytes) (counted_len number_len) indices-len v.sets,
       pool-len multiname_bytes multiname_len multiname-len v.names,
     ))
 
@@ -126,7 +127,7 @@ trait_fields-len (bodies.Function id method) = simp length-append
 trait-len : (t : TraitInfo) → length (trait_bytes t) ≡ trait_len t
 unfolding trait_bytes trait_len
 trait-len t =
-    let more = flagged (has_flag t.attrs 4) (counted_bytes number_bytes t.metadata) (counted_len number_len t.metadata) (set-len t.metadata) in
+    let more = flagged (has_flag t.attrs 4) (counted_bytes number_bytes t.metadata) (counted_len number_len t.metadata) (indices-len t.metadata) in
     simp length-append (omega (arith, trait_fields-len t.body, more))
 
 traits-len : (ts : List TraitInfo) → length (counted_bytes trait_bytes ts) ≡ counted_len trait_len ts
@@ -140,7 +141,7 @@ protected-len (Some n) = refl
 
 instance-len : (i : Instance) → length (instance_bytes i) ≡ instance_len i
 unfolding instance_bytes instance_len
-instance-len i = simp length-append (omega (arith, protected-len i.protected_ns, set-len i.interfaces, traits-len i.traits))
+instance-len i = simp length-append (omega (arith, protected-len i.protected_ns, indices-len i.interfaces, traits-len i.traits))
 
 class-len : (c : ClassInfo) → length (class_bytes c) ≡ class_len c
 unfolding class_bytes class_len

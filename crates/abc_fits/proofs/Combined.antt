@@ -9,7 +9,7 @@ use Rattle.std.proofs.lemmas.List.Elements.{All-cons, All-head, All-nil, All-sam
 use Rattle.abc_base.specs.Numbers.{number_bytes}
 use Rattle.abc_base.proofs.Spelling.{number_fits as spells}
 use Rattle.abc_format.specs.declared.reason.Reason.{Reason}
-use Rattle.abc_format.specs.Lists.{counted, pool, text, times}
+use Rattle.abc_format.specs.Lists.{counted, pool, pool_by, text, times}
 use Rattle.abc_format.specs.Numbers.{entry_index, index_below, pool_index, s32, u30, u32, u8}
 use Rattle.abc_format.specs.Part.{Part, both, checked, done, image, then_by, when}
 use Rattle.abc_format.proofs.Canon.{times_length}
@@ -148,20 +148,25 @@ counted_spelled p xs =
     let count = number_fits (length xs) in
     (λ s. let h = listed.0 s in (count.0 h.0, h.1), λ h. listed.1 (count.1 h.0, h.1))
 
-pub pool_spelled : {A : Type 0} (p : Part A) (xs : List A) → Spelled (pool p) xs ↔ ((length xs + 1 < 2 ^ 30) × All (Spelled p) xs)
-unfolding IsNumber pool
-pool_spelled {A = A} p xs = (
+pub pool_by_spelled : {A : Type 0} (p : ℕ → Part A) (xs : List A) → Spelled (pool_by p) xs ↔ ((length xs + 1 < 2 ^ 30) × All (Spelled (p (length xs))) xs)
+unfolding IsNumber pool_by
+pool_by_spelled {A = A} p xs = (
   λ s.
-      let c = image_comes (λ (x : ℕ × List A). x.1) (then_by u30 (λ n. times (n - 1) p)) xs s in
-      let t = then_parts u30 (λ n. times (n - 1) p) c.from c.spelled in
-      let each = (times_spelled (c.from.0 - 1) p c.from.1).0 t.1 in
+      let c = image_comes (λ (x : ℕ × List A). x.1) (then_by u30 (λ n. times (n - 1) (p (n - 1)))) xs s in
+      let t = then_parts u30 (λ n. times (n - 1) (p (n - 1))) c.from c.spelled in
+      let each = (times_spelled (c.from.0 - 1) (p (c.from.0 - 1)) c.from.1).0 t.1 in
       let count : length c.from.1 + 1 < 2 ^ 30 = omega (arith, each.0, (number_fits c.from.0).0 t.0) in
-      subst (λ (ys : List A). (length ys + 1 < 2 ^ 30) × All (Spelled p) ys) (sym c.is) (count, each.1),
+      let all : All (Spelled (p (length c.from.1))) c.from.1 = subst (λ (k : ℕ). All (Spelled (p k)) c.from.1) (sym each.0) each.1 in
+      subst (λ (ys : List A). (length ys + 1 < 2 ^ 30) × All (Spelled (p (length ys))) ys) (sym c.is) (count, all),
   λ h.
-      image_spelled (λ (x : ℕ × List A). x.1) (then_by u30 (λ n. times (n - 1) p)) (length xs + 1, xs) xs refl
-      (then_spelled u30 (λ n. times (n - 1) p) (length xs + 1, xs) ((number_fits (length xs + 1)).1 h.0)
-      (subst (λ (k : ℕ). Spelled (times k p) xs) (omega arith) (each_times p xs h.1))),
+      image_spelled (λ (x : ℕ × List A). x.1) (then_by u30 (λ n. times (n - 1) (p (n - 1)))) (length xs + 1, xs) xs refl
+      (then_spelled u30 (λ n. times (n - 1) (p (n - 1))) (length xs + 1, xs) ((number_fits (length xs + 1)).1 h.0)
+      (subst (λ (k : ℕ). Spelled (times k (p k)) xs) (omega arith) (each_times (p (length xs)) xs h.1))),
 )
+
+pub pool_spelled : {A : Type 0} (p : Part A) (xs : List A) → Spelled (pool p) xs ↔ ((length xs + 1 < 2 ^ 30) × All (Spelled p) xs)
+unfolding pool pool_by
+pool_spelled p xs = pool_by_spelled (λ n. p) xs
 
 -- any bytes
 pub every_byte : (b : List ℕ) → All (Spelled u8) b

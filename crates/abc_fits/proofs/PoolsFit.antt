@@ -1,26 +1,25 @@
 -- Which values of the pools some bytes spell.
-use Rattle.std.proofs.Common.{◌≡◌, ℕ, ℤ, ◌+◌, ◌^◌, ◌<◌, Bool, true, false, List, length, get_or, refl, sym, subst}
+use Rattle.std.proofs.Common.{◌≡◌, ℕ, ℤ, ◌+◌, ◌^◌, ◌<◌, true, false, List, length, get_or, refl, sym, subst}
 use Rattle.std.specs.Prelude.{◌↔◌, All, FitsSigned}
 use Rattle.std.specs.Int.{w32}
 use Rattle.std.proofs.lemmas.List.{get_or_default}
-use Rattle.abc_format.specs.Lists.{pool, text, times}
+use Rattle.abc_format.specs.Lists.{counted, pool, text, times}
 use Rattle.abc_format.specs.Numbers.{entry_index, pool_index, s32, u32, u8}
 use Rattle.abc_format.specs.Part.{Part, both, then_by}
 use Rattle.abc_tables.specs.declared.names.NsKind.{NsKind}
 use Rattle.abc_tables.specs.declared.names.NsKind.TheVariants as spaces
 use Rattle.abc_tables.specs.declared.names.Namespace.{Namespace}
-use Rattle.abc_tables.specs.declared.names.MultinameForm.{MultinameForm}
-use Rattle.abc_tables.specs.declared.names.MultinameForm.TheVariants as forms
 use Rattle.abc_tables.specs.declared.names.MultinameKind.{MultinameKind}
+use Rattle.abc_tables.specs.declared.names.MultinameKind.TheVariants as kinds
 use Rattle.abc_tables.specs.declared.names.Multiname.{Multiname}
 use Rattle.abc_tables.specs.declared.names.Multiname.TheVariants as names
 use Rattle.abc_tables.specs.declared.tables.Abc.{Abc}
 use Rattle.abc_tables.specs.declared.tables.Eight.{Eight}
 use Rattle.abc_tables.specs.declared.tables.Sizes.{Sizes}
 use Rattle.abc_tables.specs.Classes.{sizes_of}
-use Rattle.abc_tables.specs.Pools.{PoolValues, double, is_multiname_kind, is_namespace_kind, multiname, multiname_code, multiname_fields, multiname_kind, multiname_kind_of, namespace, namespace_code, namespace_kind, namespace_kind_of, namespace_set, pools, with_pools}
+use Rattle.abc_tables.specs.Pools.{PoolValues, double, is_multiname_kind, is_namespace_kind, multiname, multiname_code, multiname_fields, multiname_kind, multiname_kind_of, multinames, namespace, namespace_code, namespace_kind, namespace_kind_of, namespace_set, pools, with_pools}
 use Rattle.abc_fits.specs.Fitting.{FitsDouble, FitsInt, FitDoubles, FitInts, FitMultinames, FitNamespaces, FitNamespaceSets, FitPools, FitTexts, FitUints, FitsMultiname, FitsNamespace, FitsNamespaceSet, FitsText, IsEntryIndex, IsPoolIndex, Spelled, pools_alone}
-use Rattle.abc_fits.proofs.Combined.{byte_spelled, checked_spelled, counted_spelled, done_is, done_spelled, every_byte, image_comes, image_spelled, pool_spelled, s32_spelled, then_parts, then_spelled, times_spelled, u32_spelled}
+use Rattle.abc_fits.proofs.Combined.{byte_spelled, checked_spelled, counted_spelled, done_is, done_spelled, every_byte, image_comes, image_spelled, pool_by_spelled, pool_spelled, s32_spelled, then_parts, then_spelled, times_spelled, u32_spelled}
 
 -- ---- numbers
 
@@ -76,37 +75,37 @@ namespace_set_fits spaces xs = counted_spelled (entry_index spaces) xs
 
 -- ---- multinames
 
-kind_again : (f : MultinameForm) (a : Bool) → record { form = f; attr = a } ≡ multiname_kind_of (multiname_code f a)
-kind_again forms.QName false = refl
-kind_again forms.QName true = refl
-kind_again forms.Rt false = refl
-kind_again forms.Rt true = refl
-kind_again forms.RtL false = refl
-kind_again forms.RtL true = refl
-kind_again forms.Multi false = refl
-kind_again forms.Multi true = refl
-kind_again forms.MultiL false = refl
-kind_again forms.MultiL true = refl
+kind_again : (k : MultinameKind) → k ≡ multiname_kind_of (multiname_code k)
+kind_again (kinds.QName false) = refl
+kind_again (kinds.QName true) = refl
+kind_again (kinds.Rt false) = refl
+kind_again (kinds.Rt true) = refl
+kind_again (kinds.RtL false) = refl
+kind_again (kinds.RtL true) = refl
+kind_again (kinds.Multi false) = refl
+kind_again (kinds.Multi true) = refl
+kind_again (kinds.MultiL false) = refl
+kind_again (kinds.MultiL true) = refl
+kind_again kinds.TypeName = refl
 
-is_kind : (f : MultinameForm) (a : Bool) → is_multiname_kind (multiname_code f a) ≡ true
-is_kind forms.QName false = refl
-is_kind forms.QName true = refl
-is_kind forms.Rt false = refl
-is_kind forms.Rt true = refl
-is_kind forms.RtL false = refl
-is_kind forms.RtL true = refl
-is_kind forms.Multi false = refl
-is_kind forms.Multi true = refl
-is_kind forms.MultiL false = refl
-is_kind forms.MultiL true = refl
+is_kind : (k : MultinameKind) → is_multiname_kind true (multiname_code k) ≡ true
+is_kind (kinds.QName false) = refl
+is_kind (kinds.QName true) = refl
+is_kind (kinds.Rt false) = refl
+is_kind (kinds.Rt true) = refl
+is_kind (kinds.RtL false) = refl
+is_kind (kinds.RtL true) = refl
+is_kind (kinds.Multi false) = refl
+is_kind (kinds.Multi true) = refl
+is_kind (kinds.MultiL false) = refl
+is_kind (kinds.MultiL true) = refl
+is_kind kinds.TypeName = refl
 
-multiname_kind_spelled : (f : MultinameForm) (a : Bool) → Spelled multiname_kind (record { form = f; attr = a })
+multiname_kind_spelled : (k : MultinameKind) → Spelled multiname_kind k
 unfolding multiname_kind
-multiname_kind_spelled f a =
-    image_spelled multiname_kind_of _ (multiname_code f a) (record { form = f; attr = a }) (kind_again f a)
-    (checked_spelled _ _ u8 (multiname_code f a) (byte_spelled (multiname_code f a)) (is_kind f a))
+multiname_kind_spelled k = image_spelled multiname_kind_of _ (multiname_code k) k (kind_again k) (checked_spelled _ _ u8 (multiname_code k) (byte_spelled (multiname_code k)) (is_kind k))
 
-module _ (strings spaces sets : ℕ) where
+module _ (strings spaces sets all : ℕ) where
   -- the fields of a multiname are in their pools
   abbrev pub HasFields : Multiname → Type 0
   HasFields (names.QName attr n i) = IsPoolIndex spaces n × IsPoolIndex strings i
@@ -114,49 +113,57 @@ module _ (strings spaces sets : ℕ) where
   HasFields (names.RtL attr) = Unit {0}
   HasFields (names.Multi attr i s) = IsPoolIndex strings i × IsEntryIndex sets s
   HasFields (names.MultiL attr s) = IsEntryIndex sets s
+  HasFields (names.TypeName base params) = IsEntryIndex all base × (length params < 2 ^ 30) × All (IsPoolIndex all) params
 
-  fields_in : (attr : Bool) (form : MultinameForm) (m : Multiname) → Spelled (multiname_fields strings spaces sets attr form) m → HasFields m
+  fields_in : (kind : MultinameKind) (m : Multiname) → Spelled (multiname_fields strings spaces sets all kind) m → HasFields m
   unfolding IsEntryIndex IsPoolIndex
-  fields_in attr forms.QName m s =
+  fields_in (kinds.QName attr) m s =
       let c = image_comes (λ (x : ℕ × ℕ). names.QName attr x.0 x.1) (both (pool_index spaces) (pool_index strings)) m s in
       subst HasFields (sym c.is) (then_parts (pool_index spaces) (λ _. pool_index strings) c.from c.spelled)
-  fields_in attr forms.Rt m s = let c = image_comes (λ x. names.Rt attr x) (pool_index strings) m s in subst HasFields (sym c.is) c.spelled
-  fields_in attr forms.RtL m s = subst HasFields (sym (done_is (names.RtL attr) m s)) tt
-  fields_in attr forms.Multi m s =
+  fields_in (kinds.Rt attr) m s = let c = image_comes (λ x. names.Rt attr x) (pool_index strings) m s in subst HasFields (sym c.is) c.spelled
+  fields_in (kinds.RtL attr) m s = subst HasFields (sym (done_is (names.RtL attr) m s)) tt
+  fields_in (kinds.Multi attr) m s =
       let c = image_comes (λ (x : ℕ × ℕ). names.Multi attr x.0 x.1) (both (pool_index strings) (entry_index sets)) m s in
       subst HasFields (sym c.is) (then_parts (pool_index strings) (λ _. entry_index sets) c.from c.spelled)
-  fields_in attr forms.MultiL m s = let c = image_comes (λ x. names.MultiL attr x) (entry_index sets) m s in subst HasFields (sym c.is) c.spelled
+  fields_in (kinds.MultiL attr) m s = let c = image_comes (λ x. names.MultiL attr x) (entry_index sets) m s in subst HasFields (sym c.is) c.spelled
+  fields_in kinds.TypeName m s =
+      let c = image_comes (λ (x : ℕ × List ℕ). names.TypeName x.0 x.1) (both (entry_index all) (counted (pool_index all))) m s in
+      let t = then_parts (entry_index all) (λ _. counted (pool_index all)) c.from c.spelled in
+      let params = (counted_spelled (pool_index all) c.from.1).0 t.1 in
+      subst HasFields (sym c.is) (t.0, params.0, params.1)
 
-  of_form : (f : MultinameForm) (a : Bool) (m : Multiname) → Spelled (multiname_fields strings spaces sets a f) m → Spelled (multiname strings spaces sets) m
+  of_kind : (k : MultinameKind) (m : Multiname) → Spelled (multiname_fields strings spaces sets all k) m → Spelled (multiname strings spaces sets all) m
   unfolding multiname
-  of_form f a m s =
-      let kind : MultinameKind = record { form = f; attr = a } in
-      image_spelled (λ (x : MultinameKind × Multiname). x.1) _ (kind, m) m refl
-      (then_spelled multiname_kind (λ k. multiname_fields strings spaces sets k.attr k.form) (kind, m) (multiname_kind_spelled f a) s)
+  of_kind k m s =
+      image_spelled (λ (x : MultinameKind × Multiname). x.1) _ (k, m) m refl
+      (then_spelled multiname_kind (multiname_fields strings spaces sets all) (k, m) (multiname_kind_spelled k) s)
 
-  with_fields : (m : Multiname) → HasFields m → Spelled (multiname strings spaces sets) m
+  with_fields : (m : Multiname) → HasFields m → Spelled (multiname strings spaces sets all) m
   unfolding IsEntryIndex IsPoolIndex
   with_fields (names.QName a n i) h =
-      of_form forms.QName a (names.QName a n i) (image_spelled _ _ (n, i) (names.QName a n i) refl (then_spelled (pool_index spaces) (λ _. pool_index strings) (n, i) h.0 h.1))
-  with_fields (names.Rt a i) h = of_form forms.Rt a (names.Rt a i) (image_spelled _ _ i (names.Rt a i) refl h)
-  with_fields (names.RtL a) h = of_form forms.RtL a (names.RtL a) (done_spelled (names.RtL a) (names.RtL a) refl)
+      of_kind (kinds.QName a) (names.QName a n i) (image_spelled _ _ (n, i) (names.QName a n i) refl (then_spelled (pool_index spaces) (λ _. pool_index strings) (n, i) h.0 h.1))
+  with_fields (names.Rt a i) h = of_kind (kinds.Rt a) (names.Rt a i) (image_spelled _ _ i (names.Rt a i) refl h)
+  with_fields (names.RtL a) h = of_kind (kinds.RtL a) (names.RtL a) (done_spelled (names.RtL a) (names.RtL a) refl)
   with_fields (names.Multi a i s) h =
-      of_form forms.Multi a (names.Multi a i s) (image_spelled _ _ (i, s) (names.Multi a i s) refl (then_spelled (pool_index strings) (λ _. entry_index sets) (i, s) h.0 h.1))
-  with_fields (names.MultiL a s) h = of_form forms.MultiL a (names.MultiL a s) (image_spelled _ _ s (names.MultiL a s) refl h)
+      of_kind (kinds.Multi a) (names.Multi a i s) (image_spelled _ _ (i, s) (names.Multi a i s) refl (then_spelled (pool_index strings) (λ _. entry_index sets) (i, s) h.0 h.1))
+  with_fields (names.MultiL a s) h = of_kind (kinds.MultiL a) (names.MultiL a s) (image_spelled _ _ s (names.MultiL a s) refl h)
+  with_fields (names.TypeName base params) h =
+      of_kind kinds.TypeName (names.TypeName base params)
+      (image_spelled _ _ (base, params) (names.TypeName base params) refl
+      (then_spelled (entry_index all) (λ _. counted (pool_index all)) (base, params) h.0 ((counted_spelled (pool_index all) params).1 (h.1, h.2))))
 
-  multiname_spelled : (m : Multiname) → Spelled (multiname strings spaces sets) m ↔ HasFields m
+  multiname_spelled : (m : Multiname) → Spelled (multiname strings spaces sets all) m ↔ HasFields m
   unfolding multiname
   multiname_spelled m = (
     λ s.
-        let c = image_comes (λ (x : MultinameKind × Multiname). x.1) (then_by multiname_kind (λ k. multiname_fields strings spaces sets k.attr k.form)) m s in
-        subst HasFields (sym c.is)
-        (fields_in c.from.0.attr c.from.0.form c.from.1 (then_parts multiname_kind (λ k. multiname_fields strings spaces sets k.attr k.form) c.from c.spelled).1),
+        let c = image_comes (λ (x : MultinameKind × Multiname). x.1) (then_by multiname_kind (multiname_fields strings spaces sets all)) m s in
+        subst HasFields (sym c.is) (fields_in c.from.0 c.from.1 (then_parts multiname_kind (multiname_fields strings spaces sets all) c.from c.spelled).1),
     with_fields m,
   )
 
-pub multiname_fits : (v : Sizes) (m : Multiname) → FitsMultiname v m ↔ HasFields v.strings v.namespaces v.sets m
+pub multiname_fits : (v : Sizes) (m : Multiname) → FitsMultiname v m ↔ HasFields v.strings v.namespaces v.sets v.names m
 unfolding FitsMultiname
-multiname_fits v m = multiname_spelled v.strings v.namespaces v.sets m
+multiname_fits v m = multiname_spelled v.strings v.namespaces v.sets v.names m
 
 -- ---- each pool
 
@@ -191,9 +198,11 @@ pub namespace_sets_fit : (spaces : ℕ) (xs : List (List ℕ)) → FitNamespaceS
 unfolding FitNamespaceSets FitsNamespaceSet
 namespace_sets_fit spaces xs = pool_spelled (namespace_set spaces) xs
 
-pub multinames_fit : (v : Sizes) (xs : List Multiname) → FitMultinames v xs ↔ ((length xs + 1 < 2 ^ 30) × All (FitsMultiname v) xs)
-unfolding FitMultinames FitsMultiname
-multinames_fit v xs = pool_spelled (multiname v.strings v.namespaces v.sets) xs
+pub multinames_fit : (v : Sizes) (xs : List Multiname) → v.names ≡ length xs → FitMultinames v xs ↔ ((length xs + 1 < 2 ^ 30) × All (FitsMultiname v) xs)
+unfolding FitMultinames FitsMultiname multinames
+multinames_fit v xs e =
+    subst (λ (k : ℕ). Spelled (multinames v.strings v.namespaces v.sets) xs ↔ ((length xs + 1 < 2 ^ 30) × All (Spelled (multiname v.strings v.namespaces v.sets k)) xs)) (sym e)
+    (pool_by_spelled (multiname v.strings v.namespaces v.sets) xs)
 
 -- ---- all pools
 
@@ -208,7 +217,7 @@ pub record ArePools (v : Abc) : Type 0 where
   pub names : FitMultinames (sizes_of v) v.names
 
 abbrev after_sets : ℕ → ℕ → List (List ℕ) → Part (List Multiname)
-after_sets strings spaces sets = pool (multiname strings spaces (length sets))
+after_sets strings spaces sets = multinames strings spaces (length sets)
 
 abbrev after_spaces : ℕ → List Namespace → Part (List (List ℕ) × List Multiname)
 after_spaces strings spaces = then_by (pool (namespace_set (length spaces))) (after_sets strings (length spaces))

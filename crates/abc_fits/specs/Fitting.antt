@@ -24,7 +24,7 @@ use Rattle.abc_tables.specs.Classes.{class_info, definitions, instance, script, 
 use Rattle.abc_tables.specs.CodeBytes.{canonical_starts}
 use Rattle.abc_tables.specs.Files.{file}
 use Rattle.abc_tables.specs.Methods.{has_flag, metadata, method, option_value, options}
-use Rattle.abc_tables.specs.Pools.{double, multiname, namespace, namespace_set, pools}
+use Rattle.abc_tables.specs.Pools.{double, multiname, multinames, namespace, namespace_set, pools}
 use Rattle.abc_tables.specs.Traits.{slot_value, trait_fields, trait_info, trait_kind_in}
 
 -- Some bytes spell x.
@@ -85,10 +85,10 @@ unfoldable pub FitNamespaceSets : ℕ → List (List ℕ) → Type 0
 FitNamespaceSets spaces xs = Spelled (pool (namespace_set spaces)) xs
 
 unfoldable pub FitsMultiname : Sizes → Multiname → Type 0
-FitsMultiname v m = Spelled (multiname v.strings v.namespaces v.sets) m
+FitsMultiname v m = Spelled (multiname v.strings v.namespaces v.sets v.names) m
 
 unfoldable pub FitMultinames : Sizes → List Multiname → Type 0
-FitMultinames v xs = Spelled (pool (multiname v.strings v.namespaces v.sets)) xs
+FitMultinames v xs = Spelled (multinames v.strings v.namespaces v.sets) xs
 
 -- the pools of a value, and no other table
 abbrev pub pools_alone : Abc → Abc

@@ -55,6 +55,7 @@ multiname_len (names.Rt attr name) = 1 + number_len name
 multiname_len (names.RtL attr) = 1
 multiname_len (names.Multi attr name set) = 1 + number_len name + number_len set
 multiname_len (names.MultiL attr set) = 1 + number_len set
+multiname_len (names.TypeName base params) = 1 + number_len base + counted_len number_len params
 
 unfoldable pub pools_len : Abc → ℕ
 pools_len v =

@@ -2,7 +2,9 @@ ghost use Rattle.std.specs.Prelude.{◌≡◌, ◌↔◌, All, IsTrue, length};
 ghost use Rattle.abc_fits.specs.Fitting.{FitsDouble, FitsInt, FitDoubles, FitInts, FitMultinames, FitNamespaces, FitNamespaceSets, FitPools, FitTexts, FitUints, FitsMultiname, FitsNamespace, FitsNamespaceSet, FitsText};
 ghost use Rattle.abc_tables.specs.Classes.{sizes_of as all_sizes};
 
-use crate::indices::{are_entry_indices, is_count, is_entry_index, is_pool_count, is_pool_index};
+use crate::indices::{
+    are_entry_indices, are_pool_indices, is_count, is_entry_index, is_pool_count, is_pool_index,
+};
 use abc_base::{Bytes, Table};
 use abc_tables::{Abc, Eight, Multiname, Namespace, Sizes};
 
@@ -100,11 +102,17 @@ fn is_multiname(name: &Multiname, sizes: &Sizes) -> bool
             is_pool_index(*name, sizes.strings) && is_entry_index(*set, sizes.sets)
         }
         Multiname::MultiL { set, .. } => is_entry_index(*set, sizes.sets),
+        Multiname::TypeName { base, params } => {
+            is_entry_index(*base, sizes.names)
+                && is_count(params.len())
+                && are_pool_indices(params.as_slice(), sizes.names)
+        }
     }
 }
 
 #[tactic(auto, using(crate::proofs::PoolsFit::multinames_fit))]
 fn are_multinames(names: &[Multiname], sizes: &Sizes) -> bool
+    requires { sizes.now.names ≡ length names.now }
     ensures { IsTrue result ↔ FitMultinames sizes.now names.now }
 {
     is_pool_count(names.len()) && names.iter().all(|name| is_multiname(name, sizes))

@@ -1,7 +1,7 @@
 ghost use Rattle.std.specs.Prelude.{◌≡◌, ◌-◌, ◌^◌, min};
 ghost use Rattle.abc_fits.specs.Lengths.{namespace_len, multiname_len, pools_len};
 
-use crate::lengths::{Measured, len_of_number, len_of_pool};
+use crate::lengths::{Measured, len_of_counted, len_of_number, len_of_pool};
 use abc_tables::{Abc, Multiname, Namespace};
 
 impl Measured for Namespace {
@@ -22,6 +22,9 @@ impl Measured for Multiname {
             Multiname::RtL { .. } => 1,
             Multiname::Multi { name, set, .. } => 1 + len_of_number(*name) + len_of_number(*set),
             Multiname::MultiL { set, .. } => 1 + len_of_number(*set),
+            Multiname::TypeName { base, params } => {
+                (1 + len_of_number(*base)).saturating_add(len_of_counted(params))
+            }
         }
     }
 }

@@ -1,76 +1,83 @@
 ghost use Rattle.std.specs.Prelude.{◌≡◌, ◌≤◌, ◌^◌, ◌∷◌, [], ◌++◌, Err, None, Some};
 ghost use Rattle.abc_base.specs.Numbers.{number_bytes};
-ghost use Rattle.abc_tables.specs.Pools.{multiname, multiname_bytes, multiname_code, multiname_kind};
+ghost use Rattle.abc_format.specs.Canonical.{counted_bytes};
+ghost use Rattle.abc_tables.specs.Pools.{multiname, multiname_bytes, multiname_code, multiname_fields, multiname_kind, type_fields};
 ghost use Rattle.abc_varint.specs.Answers.{Answers};
+ghost use Rattle.abc_varint.specs.Passes.{Passes, PassesPart, nothing};
 ghost use Rattle.abc_varint.specs.Puts.{Puts, PutsWhole};
 ghost use Rattle.abc_varint.specs.Reads.{Reads, ReadsPart};
 ghost use Rattle.abc_varint.specs.declared.error.ReadError.{ReadError};
 
 use abc_base::{NoMemory, Source};
-use abc_tables::{Multiname, MultinameForm, MultinameKind};
+use abc_tables::{Multiname, MultinameKind};
 use abc_varint::{
-    Codec, ReadError, Reason, Window, put_u8, put_u30, read_entry_index, read_pool_index, read_u8,
+    Codec, PoolIndex, ReadError, Reason, Window, pass_counted, put_counted, put_u8, put_u30,
+    read_counted, read_entry_index, read_pool_index, read_u8,
 };
 use std::alloc::Global;
 
-/// The codec of multinames, where there are so many strings, namespaces and sets of namespaces.
+/// The codec of multinames, where there are so many strings, namespaces, sets of namespaces and multinames.
 #[derive(Clone, Copy, Debug)]
 pub struct Multinames {
     pub strings: u32,
     pub spaces: u32,
     pub sets: u32,
+    pub names: u32,
 }
 
 impl Codec for Multinames {
     type Item = Multiname;
 
-    ghost part = { λ c. multiname c.strings c.spaces c.sets };
+    ghost part = { λ c. multiname c.strings c.spaces c.sets c.names };
 
     ghost canonical = { multiname_bytes };
 
     fn read<S: Source>(
         &self,
-        _alloc: Global,
+        alloc: Global,
         w: &mut Window,
         source: &mut S,
     ) -> Result<Multiname, ReadError> {
-        read_multiname(w, source, self.strings, self.spaces, self.sets)
+        next_multiname(alloc, w, source, self)
     }
 
     fn put(item: &Multiname, out: &mut Vec<u8>) -> Result<(), NoMemory> {
         append_multiname(item, out)
     }
+
+    fn pass<S: Source>(
+        &self,
+        alloc: Global,
+        w: &mut Window,
+        source: &mut S,
+        out: &mut Vec<u8>,
+    ) -> Result<(), ReadError> {
+        pass_multiname(alloc, w, source, self, out)
+    }
 }
 
-/// A form, and whether an attribute is named.
-fn kind_of(form: MultinameForm, attr: bool) -> MultinameKind
-    ensures { result ≡ record { form = form; attr = attr } }
-{
-    MultinameKind { form, attr }
-}
-
-/// What a multiname consists of: one of ten bytes, or it is refused there by `MultinameKind`.
+/// What a multiname consists of: one of eleven bytes, or it is refused there by `MultinameKind`.
 #[tactic(auto, unfolding(abc_tables::specs::Pools::multiname_kind))]
 fn read_multiname_kind<S: Source>(
     w: &mut Window,
     source: &mut S,
 ) -> Result<MultinameKind, ReadError>
     ensures value { ReadsPart S.left S.faults multiname_kind w.old source.old w.new source.new result }
-    ensures no_memory { result ≡ Err ReadError.NoMemory → ⊥ }
     ensures room { w.old.place ≤ 2 ^ 24 }
 {
     let place = w.place();
     match read_u8(w, source)? {
-        0x07 => Ok(kind_of(MultinameForm::QName, false)),
-        0x0d => Ok(kind_of(MultinameForm::QName, true)),
-        0x0f => Ok(kind_of(MultinameForm::Rt, false)),
-        0x10 => Ok(kind_of(MultinameForm::Rt, true)),
-        0x11 => Ok(kind_of(MultinameForm::RtL, false)),
-        0x12 => Ok(kind_of(MultinameForm::RtL, true)),
-        0x09 => Ok(kind_of(MultinameForm::Multi, false)),
-        0x0e => Ok(kind_of(MultinameForm::Multi, true)),
-        0x1b => Ok(kind_of(MultinameForm::MultiL, false)),
-        0x1c => Ok(kind_of(MultinameForm::MultiL, true)),
+        0x07 => Ok(MultinameKind::QName { attr: false }),
+        0x0d => Ok(MultinameKind::QName { attr: true }),
+        0x0f => Ok(MultinameKind::Rt { attr: false }),
+        0x10 => Ok(MultinameKind::Rt { attr: true }),
+        0x11 => Ok(MultinameKind::RtL { attr: false }),
+        0x12 => Ok(MultinameKind::RtL { attr: true }),
+        0x09 => Ok(MultinameKind::Multi { attr: false }),
+        0x0e => Ok(MultinameKind::Multi { attr: true }),
+        0x1b => Ok(MultinameKind::MultiL { attr: false }),
+        0x1c => Ok(MultinameKind::MultiL { attr: true }),
+        0x1d => Ok(MultinameKind::TypeName),
         _ => Err(ReadError::Refused {
             place,
             reason: Reason::MultinameKind,
@@ -78,77 +85,144 @@ fn read_multiname_kind<S: Source>(
     }
 }
 
-/// A kind, and the fields that it asks for.
-#[tactic(auto, unfolding(abc_tables::specs::Pools::multiname))]
-fn next_multiname<S: Source>(
+/// The fields that a kind asks for.
+fn read_fields<S: Source>(
+    alloc: Global,
     w: &mut Window,
     source: &mut S,
-    strings: u32,
-    spaces: u32,
-    sets: u32,
+    pools: &Multinames,
+    kind: MultinameKind,
 ) -> Result<Multiname, ReadError>
-    ensures value { ReadsPart S.left S.faults (multiname strings spaces sets) w.old source.old w.new source.new result }
-    ensures no_memory { result ≡ Err ReadError.NoMemory → ⊥ }
-    ensures room { w.old.place ≤ 2 ^ 24 }
+    requires { w.old.kept ≡ None }
+    ensures { ReadsPart S.left S.faults (multiname_fields pools.now.strings pools.now.spaces pools.now.sets pools.now.names kind) w.old source.old w.new source.new result }
 {
-    let MultinameKind { form, attr } = read_multiname_kind(w, source)?;
-    match form {
-        MultinameForm::QName => {
-            let ns = read_pool_index(w, source, spaces)?;
-            let name = read_pool_index(w, source, strings)?;
+    match kind {
+        MultinameKind::QName { attr } => {
+            let ns = read_pool_index(w, source, pools.spaces)?;
+            let name = read_pool_index(w, source, pools.strings)?;
             Ok(Multiname::QName { attr, ns, name })
         }
-        MultinameForm::Rt => {
-            let name = read_pool_index(w, source, strings)?;
+        MultinameKind::Rt { attr } => {
+            let name = read_pool_index(w, source, pools.strings)?;
             Ok(Multiname::Rt { attr, name })
         }
-        MultinameForm::RtL => Ok(Multiname::RtL { attr }),
-        MultinameForm::Multi => {
-            let name = read_pool_index(w, source, strings)?;
-            let set = read_entry_index(w, source, sets)?;
+        MultinameKind::RtL { attr } => Ok(Multiname::RtL { attr }),
+        MultinameKind::Multi { attr } => {
+            let name = read_pool_index(w, source, pools.strings)?;
+            let set = read_entry_index(w, source, pools.sets)?;
             Ok(Multiname::Multi { attr, name, set })
         }
-        MultinameForm::MultiL => {
-            let set = read_entry_index(w, source, sets)?;
+        MultinameKind::MultiL { attr } => {
+            let set = read_entry_index(w, source, pools.sets)?;
             Ok(Multiname::MultiL { attr, set })
+        }
+        MultinameKind::TypeName => {
+            let base = read_entry_index(w, source, pools.names)?;
+            let params = read_counted(&PoolIndex(pools.names), alloc, w, source)?;
+            Ok(Multiname::TypeName { base, params })
         }
     }
 }
 
-/// A multiname, where the pools have so many strings, namespaces and sets of namespaces: a kind byte, and the fields that
-/// the kind asks for. Each byte and number is refused as by `read_u8` and `read_u30`; the kind by `MultinameKind` where
-/// it is none of the ten, at its byte; a name, a namespace or a set by `Index` where it is above how many there are, or
-/// is a set 0, at its first byte. The window does not keep the last two. `ReadFault` comes only where the source's count
-/// of faults rose, and no memory is taken.
+/// A kind, and the fields that it asks for.
+#[tactic(auto, unfolding(abc_tables::specs::Pools::multiname))]
+fn next_multiname<S: Source>(
+    alloc: Global,
+    w: &mut Window,
+    source: &mut S,
+    pools: &Multinames,
+) -> Result<Multiname, ReadError>
+    ensures value { ReadsPart S.left S.faults (multiname pools.now.strings pools.now.spaces pools.now.sets pools.now.names) w.old source.old w.new source.new result }
+    ensures room { w.old.place ≤ 2 ^ 24 }
+{
+    let kind = read_multiname_kind(w, source)?;
+    let name = read_fields(alloc, w, source, pools, kind)?;
+    Ok(name)
+}
+
+/// A multiname, where the pools have so many strings, namespaces, sets of namespaces and multinames: a kind byte, and the
+/// fields that the kind asks for. Each byte and number is refused as by `read_u8` and `read_u30`; the kind by
+/// `MultinameKind` where it is none of the eleven, at its byte; a name, a namespace, a set, a base or a parameter by
+/// `Index` where it is above how many there are, or is a set 0 or a base 0, at its first byte. The window does not keep
+/// the last two. `ReadFault` comes only where the source's count of faults rose, and `NoMemory` where memory ran out: only
+/// parameters take any, and none is reserved for those that have not come.
 pub fn read_multiname<S: Source>(
+    alloc: Global,
     w: &mut Window,
     source: &mut S,
     strings: u32,
     spaces: u32,
     sets: u32,
+    names: u32,
 ) -> Result<Multiname, ReadError>
-    ensures value { ReadsPart S.left S.faults (multiname strings spaces sets) w.old source.old w.new source.new result }
-    ensures answers { Answers (multiname strings spaces sets) w.old (S.left source.old) w.new (S.left source.new) result }
-    ensures no_memory { result ≡ Err ReadError.NoMemory → ⊥ }
+    ensures value { ReadsPart S.left S.faults (multiname strings spaces sets names) w.old source.old w.new source.new result }
+    ensures answers { Answers (multiname strings spaces sets names) w.old (S.left source.old) w.new (S.left source.new) result }
 {
-    next_multiname(w, source, strings, spaces, sets)
+    let pools = Multinames {
+        strings,
+        spaces,
+        sets,
+        names,
+    };
+    next_multiname(alloc, w, source, &pools)
+}
+
+/// Reads a base and parameters, as a multiname of kind 1D has them, and appends their canonical bytes. No parameter is kept.
+#[tactic(auto)]
+fn pass_type_fields<S: Source>(
+    alloc: Global,
+    w: &mut Window,
+    source: &mut S,
+    names: u32,
+    out: &mut Vec<u8>,
+) -> Result<(), ReadError>
+    requires { w.old.kept ≡ None }
+    ensures { PassesPart S.left S.faults (type_fields names) (λ x. number_bytes x.0 ++ counted_bytes number_bytes x.1) nothing w.old source.old w.new source.new out.old.items out.new.items result }
+{
+    let base = read_entry_index(w, source, names)?;
+    put_u30(base, out)?;
+    pass_counted(&PoolIndex(names), alloc, w, source, out)?;
+    Ok(())
+}
+
+/// Reads a multiname and appends its canonical bytes, as `read_multiname` and `put_multiname` do, and keeps none of it.
+#[tactic(auto, unfolding(abc_tables::specs::Pools::multiname))]
+fn pass_multiname<S: Source>(
+    alloc: Global,
+    w: &mut Window,
+    source: &mut S,
+    pools: &Multinames,
+    out: &mut Vec<u8>,
+) -> Result<(), ReadError>
+    ensures { PassesPart S.left S.faults (multiname pools.now.strings pools.now.spaces pools.now.sets pools.now.names) multiname_bytes nothing w.old source.old w.new source.new out.old.items out.new.items result }
+{
+    let kind = read_multiname_kind(w, source)?;
+    if let MultinameKind::TypeName = kind {
+        put_u8(0x1d, out)?;
+        pass_type_fields(alloc, w, source, pools.names, out)?;
+        return Ok(());
+    }
+    let name = read_fields(alloc, w, source, pools, kind)?;
+    append_multiname(&name, out)?;
+    Ok(())
 }
 
 /// The byte of a multiname's kind.
-fn kind_byte(form: MultinameForm, attr: bool) -> u8
-    ensures { result ≡ multiname_code form attr }
+fn kind_byte(kind: MultinameKind) -> u8
+    ensures { result ≡ multiname_code kind }
 {
-    match (form, attr) {
-        (MultinameForm::QName, false) => 0x07,
-        (MultinameForm::QName, true) => 0x0d,
-        (MultinameForm::Rt, false) => 0x0f,
-        (MultinameForm::Rt, true) => 0x10,
-        (MultinameForm::RtL, false) => 0x11,
-        (MultinameForm::RtL, true) => 0x12,
-        (MultinameForm::Multi, false) => 0x09,
-        (MultinameForm::Multi, true) => 0x0e,
-        (MultinameForm::MultiL, false) => 0x1b,
-        (MultinameForm::MultiL, true) => 0x1c,
+    match kind {
+        MultinameKind::QName { attr: false } => 0x07,
+        MultinameKind::QName { attr: true } => 0x0d,
+        MultinameKind::Rt { attr: false } => 0x0f,
+        MultinameKind::Rt { attr: true } => 0x10,
+        MultinameKind::RtL { attr: false } => 0x11,
+        MultinameKind::RtL { attr: true } => 0x12,
+        MultinameKind::Multi { attr: false } => 0x09,
+        MultinameKind::Multi { attr: true } => 0x0e,
+        MultinameKind::MultiL { attr: false } => 0x1b,
+        MultinameKind::MultiL { attr: true } => 0x1c,
+        MultinameKind::TypeName => 0x1d,
     }
 }
 
@@ -157,25 +231,30 @@ fn kind_byte(form: MultinameForm, attr: bool) -> u8
 fn append_multiname(name: &Multiname, out: &mut Vec<u8>) -> Result<(), NoMemory>
     ensures { Puts out.old.items out.new.items result (multiname_bytes name.now) }
 {
-    match *name {
+    match name {
         Multiname::QName { attr, ns, name } => {
-            put_u8(kind_byte(MultinameForm::QName, attr), out)?;
-            put_u30(ns, out)?;
-            put_u30(name, out)?;
+            put_u8(kind_byte(MultinameKind::QName { attr: *attr }), out)?;
+            put_u30(*ns, out)?;
+            put_u30(*name, out)?;
         }
         Multiname::Rt { attr, name } => {
-            put_u8(kind_byte(MultinameForm::Rt, attr), out)?;
-            put_u30(name, out)?;
+            put_u8(kind_byte(MultinameKind::Rt { attr: *attr }), out)?;
+            put_u30(*name, out)?;
         }
-        Multiname::RtL { attr } => put_u8(kind_byte(MultinameForm::RtL, attr), out)?,
+        Multiname::RtL { attr } => put_u8(kind_byte(MultinameKind::RtL { attr: *attr }), out)?,
         Multiname::Multi { attr, name, set } => {
-            put_u8(kind_byte(MultinameForm::Multi, attr), out)?;
-            put_u30(name, out)?;
-            put_u30(set, out)?;
+            put_u8(kind_byte(MultinameKind::Multi { attr: *attr }), out)?;
+            put_u30(*name, out)?;
+            put_u30(*set, out)?;
         }
         Multiname::MultiL { attr, set } => {
-            put_u8(kind_byte(MultinameForm::MultiL, attr), out)?;
-            put_u30(set, out)?;
+            put_u8(kind_byte(MultinameKind::MultiL { attr: *attr }), out)?;
+            put_u30(*set, out)?;
+        }
+        Multiname::TypeName { base, params } => {
+            put_u8(kind_byte(MultinameKind::TypeName), out)?;
+            put_u30(*base, out)?;
+            put_counted::<PoolIndex>(params, out)?;
         }
     }
     Ok(())

@@ -1,7 +1,7 @@
 ghost use Rattle.std.specs.Prelude.{◌≡◌, ◌≤◌, ◌∷◌, [], ◌++◌, ℕ, Err, None, Some, length};
 ghost use Rattle.abc_format.specs.Canonical.{IsCanonical};
 ghost use Rattle.abc_format.specs.Law.{IsDetermined};
-ghost use Rattle.abc_tables.specs.Pools.{multiname, multiname_bytes, pools as spelled_pools, pools_bytes};
+ghost use Rattle.abc_tables.specs.Pools.{multiname, multiname_bytes, multinames, pools as spelled_pools, pools_bytes};
 ghost use Rattle.abc_varint.specs.Answers.{Answers};
 ghost use Rattle.abc_varint.specs.Puts.{Puts, PutsWhole};
 ghost use Rattle.abc_varint.specs.Reads.{Reads, ReadsPart};
@@ -9,12 +9,38 @@ ghost use Rattle.abc_varint.specs.Reads.{Reads, ReadsPart};
 use crate::doubles::Doubles;
 use crate::multinames::Multinames;
 use crate::spaces::Namespaces;
-use abc_base::{NoMemory, Source};
-use abc_tables::Abc;
+use abc_base::{NoMemory, Source, Table};
+use abc_tables::{Abc, Multiname};
 use abc_varint::{
     Counted, EntryIndex, Number32, ReadError, Signed32, Text, Window, put_pool, read_pool,
+    read_times, read_u30,
 };
 use std::alloc::Global;
+
+/// The multinames, where there are so many strings, namespaces and sets of namespaces. They may name one another, so each
+/// is read by how many the count says that there are.
+#[tactic(auto, unfolding(abc_tables::specs::Pools::multinames, abc_format::specs::Lists::pool_by))]
+fn read_names<S: Source>(
+    alloc: Global,
+    w: &mut Window,
+    source: &mut S,
+    strings: u32,
+    spaces: u32,
+    sets: u32,
+) -> Result<Table<Multiname>, ReadError>
+    ensures { ReadsPart S.left S.faults (multinames strings spaces sets) w.old source.old w.new source.new result }
+{
+    let count = read_u30(w, source)?;
+    let names = count.saturating_sub(1);
+    let in_all = Multinames {
+        strings,
+        spaces,
+        sets,
+        names,
+    };
+    let entries = read_times(&in_all, alloc, w, source, names)?;
+    Ok(entries)
+}
 
 /// The seven pools in their order, and no other table.
 #[tactic(auto, unfolding(abc_tables::specs::Pools::pools, abc_tables::specs::Pools::namespace_set))]
@@ -33,12 +59,8 @@ fn next_pools<S: Source>(alloc: Global, w: &mut Window, source: &mut S) -> Resul
     let space_count = namespaces.len() as u32;
     let in_spaces = Counted(EntryIndex(space_count));
     let sets = read_pool(&in_spaces, alloc, w, source)?;
-    let in_all = Multinames {
-        strings: string_count,
-        spaces: space_count,
-        sets: sets.len() as u32,
-    };
-    let names = read_pool(&in_all, alloc, w, source)?;
+    let set_count = sets.len() as u32;
+    let names = read_names(alloc, w, source, string_count, space_count, set_count)?;
     Ok(Abc {
         ints,
         uints,
@@ -104,6 +126,6 @@ pub fn put_pools(abc: &Abc, out: &mut Vec<u8>) -> Result<(), NoMemory>
 pub fn shortest_spelling()
     ensures one_reading { IsDetermined spelled_pools }
     ensures shortest { IsCanonical spelled_pools pools_bytes }
-    ensures one_reading_of_names { (strings spaces sets : ℕ) → IsDetermined (multiname strings spaces sets) }
-    ensures shortest_names { (strings spaces sets : ℕ) → IsCanonical (multiname strings spaces sets) multiname_bytes }
+    ensures one_reading_of_names { (strings spaces sets names : ℕ) → IsDetermined (multiname strings spaces sets names) }
+    ensures shortest_names { (strings spaces sets names : ℕ) → IsCanonical (multiname strings spaces sets names) multiname_bytes }
 {}

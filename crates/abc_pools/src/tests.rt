@@ -10,15 +10,15 @@ use std::test::*;
 const PIECES: [usize; 3] = [1, 7, 5000];
 
 /// Pools with each kind of namespace and of multiname, in their shortest bytes.
-const EACH_KIND: [u8; 69] = [
+const EACH_KIND: [u8; 74] = [
     3, 1, 0xff, 0xff, 0xff, 0xff, 0x0f, // 1 and -1
     2, 0xff, 0xff, 0xff, 0xff, 0x0f, // 2^32 - 1
     2, 0, 0, 0, 0, 0, 0, 0xf0, 0x3f, // one double
     3, 1, 0x61, 0, // "a" and ""
     8, 0x05, 0, 0x08, 1, 0x16, 2, 0x17, 1, 0x18, 2, 0x19, 0, 0x1a, 1, // seven namespaces
     3, 2, 1, 7, 0, // two sets
-    11, 0x07, 7, 1, 0x0d, 0, 0, 0x0f, 1, 0x10, 2, 0x11, 0x12, // ten multinames
-    0x09, 1, 2, 0x0e, 2, 1, 0x1b, 1, 0x1c, 2,
+    12, 0x07, 7, 1, 0x0d, 0, 0, 0x0f, 1, 0x10, 2, 0x11, 0x12, // eleven multinames
+    0x09, 1, 2, 0x0e, 2, 1, 0x1b, 1, 0x1c, 2, 0x1d, 11, 2, 0, 1,
 ];
 
 /// The same pools where the counts, the texts' lengths and an index take more bytes than they need.
@@ -75,47 +75,12 @@ fn assert_each_kind(rt: &impl Abort, abc: &Abc) {
 }
 
 fn assert_each_name(rt: &impl Abort, abc: &Abc) {
-    assert_eq!(rt;
-        abc.names.as_slice(),
-        [
-            Multiname::QName {
-                attr: false,
-                ns: 7,
-                name: 1
-            },
-            Multiname::QName {
-                attr: true,
-                ns: 0,
-                name: 0
-            },
-            Multiname::Rt {
-                attr: false,
-                name: 1
-            },
-            Multiname::Rt {
-                attr: true,
-                name: 2
-            },
-            Multiname::RtL { attr: false },
-            Multiname::RtL { attr: true },
-            Multiname::Multi {
-                attr: false,
-                name: 1,
-                set: 2
-            },
-            Multiname::Multi {
-                attr: true,
-                name: 2,
-                set: 1
-            },
-            Multiname::MultiL {
-                attr: false,
-                set: 1
-            },
-            Multiname::MultiL { attr: true, set: 2 },
-        ]
-        .as_slice()
-    );
+    assert_eq!(rt; abc.names.len(), 11);
+    let last = match abc.names.find(10) {
+        Some(Multiname::TypeName { base, params }) => Some((*base, params.as_slice())),
+        _ => None,
+    };
+    assert_eq!(rt; last, Some((11, [0, 1].as_slice())));
     let later = [
         abc.methods.len(),
         abc.metadata.len(),
@@ -131,7 +96,7 @@ fn assert_each_name(rt: &impl Abort, abc: &Abc) {
 fn each_kind(rt: HostRuntime) -> Result<(), Fail> {
     for piece in PIECES {
         let (abc, place) = pools_of(&rt, &EACH_KIND, piece).ok().ok_or("pools")?;
-        assert_eq!(rt; place, 69);
+        assert_eq!(rt; place, 74);
         assert_each_kind(&rt, &abc);
         assert_each_name(&rt, &abc);
         let mut out = Vec::from_slice(rt.alloc(), &[0x99])?;
@@ -152,6 +117,18 @@ fn shortest_bytes(rt: HostRuntime) -> Result<(), Fail> {
         out.as_slice(),
         [0, 0, 0, 2, 1, 0x61, 2, 8, 1, 0, 0].as_slice()
     );
+    Ok(())
+}
+
+/// A multiname that has the next one as its base and itself as its parameter, and one without parameters.
+#[test]
+fn later_names(rt: HostRuntime) -> Result<(), Fail> {
+    let bytes = [0, 0, 0, 0, 0, 0, 3, 0x1d, 2, 1, 1, 0x1d, 2, 0];
+    let (abc, place) = pools_of(&rt, &bytes, 3).ok().ok_or("pools")?;
+    assert_eq!(rt; place, 14);
+    let mut out = Vec::new(rt.alloc());
+    assert_eq!(rt; put_pools(&abc, &mut out), Ok(()));
+    assert_eq!(rt; out.as_slice(), bytes.as_slice());
     Ok(())
 }
 
@@ -209,6 +186,28 @@ fn refusals(rt: HostRuntime) -> Result<(), Fail> {
             9,
             Reason::Index,
         ),
+        // One multiname, whose base is 0, and one whose parameter is one too high.
+        (
+            [0, 0, 0, 0, 0, 0, 2, 0x1d, 0].as_slice(),
+            8,
+            Reason::Index,
+        ),
+        (
+            [0, 0, 0, 0, 0, 0, 2, 0x1d, 1, 2, 0, 2].as_slice(),
+            11,
+            Reason::Index,
+        ),
+        // Parameters that end with the input, and more than memory has.
+        (
+            [0, 0, 0, 0, 0, 0, 2, 0x1d, 1, 2, 1].as_slice(),
+            11,
+            Reason::Short,
+        ),
+        (
+            [0, 0, 0, 0, 0, 0, 2, 0x1d, 1, 0xff, 0xff, 0xff, 0xff, 3].as_slice(),
+            14,
+            Reason::Short,
+        ),
         // Numbers that are too big or too long, at their first byte.
         (
             [0, 0x80, 0x80, 0x80, 0x80, 4].as_slice(),
@@ -233,7 +232,7 @@ fn refusals(rt: HostRuntime) -> Result<(), Fail> {
 
 #[test]
 fn cut_short(rt: HostRuntime) -> Result<(), Fail> {
-    for end in 0..69u8 {
+    for end in 0..74u8 {
         let bytes = EACH_KIND.get(..end as usize).ok_or("a front")?;
         assert_eq!(rt;
             pools_of(&rt, bytes, 7).err(),
@@ -261,16 +260,11 @@ fn goes_on_after_a_refusal(rt: HostRuntime) -> Result<(), Fail> {
     );
     for (place, reason) in [(6, Reason::MultinameKind), (8, Reason::Index)] {
         assert_eq!(rt;
-            read_multiname(&mut w, &mut source, 3, 0, 5),
-            Err(ReadError::Refused { place, reason })
+            read_multiname(rt.alloc(), &mut w, &mut source, 3, 0, 5, 0).err(),
+            Some(ReadError::Refused { place, reason })
         );
     }
-    let name = Multiname::Multi {
-        attr: true,
-        name: 3,
-        set: 5,
-    };
-    assert_eq!(rt; read_multiname(&mut w, &mut source, 3, 0, 5), Ok(name));
+    let name = read_multiname(rt.alloc(), &mut w, &mut source, 3, 0, 5, 0)?;
     let mut out = Vec::new(rt.alloc());
     assert_eq!(rt; put_multiname(&name, &mut out), Ok(()));
     assert_eq!(rt; out.as_slice(), [0x0e, 3, 5].as_slice());

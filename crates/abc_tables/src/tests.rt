@@ -37,6 +37,14 @@ fn body(alloc: Global) -> Result<Body, NoMemory> {
     })
 }
 
+/// A multiname that is its own base.
+fn with_parameter(alloc: Global, param: u32) -> Result<Multiname, NoMemory> {
+    Ok(Multiname::TypeName {
+        base: 1,
+        params: one(alloc, param)?,
+    })
+}
+
 /// A double, a text, a set, a name, and a method with a body.
 fn small(alloc: Global) -> Result<Abc, NoMemory> {
     let method = Method {
@@ -51,13 +59,7 @@ fn small(alloc: Global) -> Result<Abc, NoMemory> {
         doubles: one(alloc, Eight([0x7f, 0xf8, 0, 0, 0, 0, 0, 1]))?,
         strings: one(alloc, Bytes::from_slice(alloc, b"main")?)?,
         sets: one(alloc, Table::new(alloc))?,
-        names: one(
-            alloc,
-            Multiname::Rt {
-                attr: true,
-                name: 1,
-            },
-        )?,
+        names: one(alloc, with_parameter(alloc, 0)?)?,
         methods: one(alloc, method)?,
         bodies: one(alloc, body(alloc)?)?,
         ..Abc::new(alloc)
@@ -75,15 +77,8 @@ fn copies_are_the_same(rt: HostRuntime) -> Result<(), Fail> {
     assert!(rt; !same(&first, &second));
     assert!(rt; !same(&second, &first));
     let mut third = first.copy(alloc).ok().ok_or("memory")?;
-    third.names = one(
-        alloc,
-        Multiname::Rt {
-            attr: false,
-            name: 1,
-        },
-    )
-    .ok()
-    .ok_or("memory")?;
+    let other = with_parameter(alloc, 1).ok().ok_or("memory")?;
+    third.names = one(alloc, other).ok().ok_or("memory")?;
     assert!(rt; !same(&first, &third));
     Ok(())
 }

@@ -7,7 +7,7 @@ unfolding pools pools_bytes namespace_set
 returns g c =
     let e1 = c.in_ok-ints.ensures.value in let e2 = c.in_ok-uints.ensures.value in let e3 = c.in_ok-doubles.ensures.value in
     let e4 = c.in_ok-strings.ensures.value in let e5 = c.in_ok-namespaces.ensures.value in let e6 = c.in_ok-sets.ensures.value in
-    let e7 = c.in_ok-names.ensures.value in (
+    let e7 = c.in_ok-names.ensures in (
       (
         e1.0.0,
         e7.0.1,

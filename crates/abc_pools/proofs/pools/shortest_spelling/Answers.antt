@@ -7,6 +7,6 @@ pub returns : goal.returns
 returns c = record {
   one_reading = determined _ pools-exact;
   shortest = pools-canonical;
-  one_reading_of_names = λ strings spaces sets. determined _ (multiname-exact strings spaces sets);
+  one_reading_of_names = λ strings spaces sets names. determined _ (multiname-exact strings spaces sets names);
   shortest_names = multiname-canonical;
 }
