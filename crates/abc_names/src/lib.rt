@@ -17,5 +17,5 @@ pub use keys::{NameKey, are_equal, first_places};
 pub use meanings::{Meanings, meanings_of};
 pub use named::{DefiniteName, Named, PlainName, Spaces};
 pub use names::Names;
-pub use pool::{definite_name_at, is_plain_at, plain_name_at, qname_at, text_at};
+pub use pool::{definite_name_at, is_plain_at, plain_name_at, qname_at, space_name, text_at};
 pub use tables::NameTables;

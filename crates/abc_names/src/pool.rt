@@ -190,3 +190,10 @@ pub fn qname_at(abc: &Abc, index: u32) -> DefiniteName
         None => DefiniteName { ns: 0, string: 0 },
     }
 }
+
+/// The name of a namespace of the pool: a string, where 0 is the empty text.
+pub fn space_name(abc: &Abc, index: u32) -> u32
+    ensures { result ≡ (space abc.now index).name }
+{
+    space_at(abc, index).name
+}

@@ -1,4 +1,4 @@
-use Rattle.std.proofs.Common.{◌≡◌, ◌∙◌, ◌++◌, ◌∷◌, [], List, Ok, Err, OnErr, sym, ap}
+use Rattle.std.proofs.Common.{◌∙◌, ◌++◌, ◌∷◌, [], Ok, Err, OnErr, ap}
 use Rattle.std.specs.declared.result.Result.{Result}
 use Rattle.abc_heirs.proofs.Sharing.{view_added, view_kept, held_added}
 use Rattle.abc_heirs.proofs.heirs.Heirs.keep.Goals as goal
