@@ -1,0 +1,8 @@
+pub mod Items
+pub mod Parts
+pub mod Starts
+pub mod Traits
+pub mod Methods
+pub mod Bases
+pub mod Rules
+pub mod Firsts
