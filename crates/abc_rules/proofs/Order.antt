@@ -95,3 +95,22 @@ one_more v rule before none = λ r lt i is b. go r i is b (cases_lt (rule_number
 
 pub refused : (v : Abc) (rule : LinkRule) (x : Item) → AllHoldBefore v (rule_number rule) → IsFirstItem v rule (Some x) → IsFirstBroken v rule x
 refused v rule x before some = record { item = some.0; breaks = some.1; first = some.2; before = before }
+
+pub none_before : (v : Abc) → AllHoldBefore v 1
+none_before v = λ r lt i is b. absurd (go r lt)
+  where
+    go : (r : LinkRule) → rule_number r < 1 → ⊥
+    go rules.NoScript lt = omega arith
+    go rules.NameKind lt = omega arith
+    go rules.UnknownBase lt = omega arith
+    go rules.BaseCycle lt = omega arith
+    go rules.FinalBase lt = omega arith
+    go rules.BaseIsInterface lt = omega arith
+    go rules.UnknownInterface lt = omega arith
+    go rules.UnknownType lt = omega arith
+    go rules.OwnedTwice lt = omega arith
+    go rules.NoBody lt = omega arith
+    go rules.SameName lt = omega arith
+    go rules.SameSlot lt = omega arith
+    go rules.TraitNotRun lt = omega arith
+    go rules.TooLarge lt = omega arith

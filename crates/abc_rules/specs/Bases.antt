@@ -70,5 +70,8 @@ abbrev pub interfaces_of : Abc → Instance → List ℕ
 interfaces_of v i = flat_map (λ n. interfaces_named v (resolve v n)) i.interfaces
 
 -- interfaces alone are followed from, to the interfaces that they name
+abbrev pub targets_of : Abc → Instance → List ℕ
+targets_of v i = if has_flag i.flags 0x04 then interfaces_of v i else []
+
 abbrev pub interface_graph : Abc → List (List ℕ)
-interface_graph v = map (λ i. if has_flag i.flags 0x04 then interfaces_of v i else []) v.instances
+interface_graph v = map (targets_of v) v.instances

@@ -6,3 +6,7 @@ pub mod Methods
 pub mod Bases
 pub mod Rules
 pub mod Firsts
+pub mod Repeats
+pub mod Clashes
+pub mod Times
+pub mod Cycles
