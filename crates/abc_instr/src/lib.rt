@@ -2,8 +2,8 @@
 #![tactic(auto)]
 
 mod front;
-mod marks;
 mod laws;
+mod marks;
 mod pass;
 mod pieces;
 mod place;
@@ -15,8 +15,8 @@ mod scan;
 mod weave;
 
 pub use abc_tables::{Code, Form, Instr, OpInfo, Pool, code_len, mnemonic, opcode};
-pub use marks::Marks;
 pub use laws::code_law;
+pub use marks::Marks;
 pub use pass::pass_code;
 pub use place::read_place;
 pub use put::{offset_at, put_code, starts_of};

@@ -77,8 +77,8 @@ module _ (v v1 v2 : View) (s s1 : Option (List ℕ)) (place : v1.place ≡ v.pla
         λ input is_input. (
           same input is_input,
           let here : drop v1.place input ≡ x ∷ (more ++ rest v1 input) = ahead v1 s1 input (omega (arith, one_held v1.taken v1.place x more is)) is_input ∙ ap (λ (t : List ℕ). t ++ rest v1 input) is in
-          ap (λ (a : At). byte_at a.end a.place a.bytes) (sym (stood input)) ∙ ap (byte_at v1.end v1.place) here ∙ taken v1.end v1.place x (more ++ rest v1 input) lt h.0
-          ∙ ap (λ (t : List ℕ). Ok (x, record { place = v1.place + 1; bytes = t; end = v1.end })) (sym (after_one input v1.place x (more ++ rest v1 input) here)),
+              ap (λ (a : At). byte_at a.end a.place a.bytes) (sym (stood input)) ∙ ap (byte_at v1.end v1.place) here ∙ taken v1.end v1.place x (more ++ rest v1 input) lt h.0
+              ∙ ap (λ (t : List ℕ). Ok (x, record { place = v1.place + 1; bytes = t; end = v1.end })) (sym (after_one input v1.place x (more ++ rest v1 input) here)),
         ),
       )
   next_here (x ∷ more) r is fresh clear ends lt (inr h) = rw (h.1, h.2) (λ k.

@@ -80,8 +80,7 @@ returns-in-Err-Target g c =
     let v = c.in_ok-scan_code.ensures.value in
     let h = rw c.in-Err-Target.field-0-is at c.in-Err-Target.ensures in
     let d = refusal c.in-Err-Target.at reasons.Target in
-    let m = is_missed n v.0 c.scan_code.new.scan v.1 v.2 c.args.out.now.items d h in
-    (
+    let m = is_missed n v.0 c.scan_code.new.scan v.1 v.2 c.args.out.now.items d h in (
       (λ k.
           let w2 = c.scan_code.new.w in let s2 = g.S.Source.left c.scan_code.new.source in
           let b = v.3.4 (known w2 s2) (known_is w2 s2) in let a = length.0.4 (known w2 s2) b.0 in (a.0, rw c.place-first.ensures.is (code_missed n _ _ _ v.0 d a.1 b.1 m))),

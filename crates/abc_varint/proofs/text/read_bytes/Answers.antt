@@ -8,5 +8,5 @@ returns-then-is_ready-clause-value g c = (
   λ e h. absurd (let k = c.requires in cc),
   omega arith,
   λ k h. absurd cc,
-      tt,
+  tt,
 )

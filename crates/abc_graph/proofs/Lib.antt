@@ -1,0 +1,4 @@
+pub mod Searched
+pub mod Ranked
+pub mod Placing
+pub mod Walks

@@ -1,0 +1,10 @@
+//! Lists of values under keys, of which each has first what its base has, and then its own: the slots of layouts with
+//! their numbers.
+#![tactic(auto)]
+
+mod heirs;
+mod keyed;
+#[cfg(test)]
+mod tests;
+
+pub use heirs::Heirs;

@@ -1,0 +1,5 @@
+pub mod Past
+pub mod Numbering
+pub mod InGroups
+pub mod Meant
+pub mod SameKeys

@@ -1,0 +1,21 @@
+//! The names of a file: texts by numbers, namespaces, and what a name of a type, a base or an interface stands for.
+#![tactic(auto)]
+
+mod hosts;
+mod keys;
+mod meanings;
+mod named;
+mod names;
+mod pool;
+mod resolving;
+mod tables;
+#[cfg(test)]
+mod tests;
+
+pub use hosts::HOST_CLASSES;
+pub use keys::{NameKey, are_equal, first_places};
+pub use meanings::{Meanings, meanings_of};
+pub use named::{DefiniteName, Named, PlainName, Spaces};
+pub use names::Names;
+pub use pool::{definite_name_at, is_plain_at, plain_name_at, qname_at, space_name, text_at};
+pub use tables::NameTables;

@@ -1,0 +1,63 @@
+ghost use Rattle.std.specs.Prelude.{◌≡◌, ◌+◌, ◌<◌, ◌^◌, length, IfOk};
+ghost use Rattle.abc_names.specs.Meaning.{resolve, type_named};
+ghost use Rattle.abc_names.specs.Meanings.{AreMeanings, MeansBelow};
+
+use crate::named::Named;
+use crate::names::Names;
+use abc_base::{NoMemory, Table};
+use abc_tables::Abc;
+use std::alloc::Global;
+
+/// What the names of a pool stand for, from index 0 on, each looked up once.
+#[tactic(auto, using(crate::proofs::Meant::means_none, crate::proofs::Meant::means_next, crate::proofs::Meant::means_all))]
+pub fn meanings_of(alloc: Global, names: Names<'_>) -> Result<Table<Option<Named>>, NoMemory>
+    ensures { IfOk result (λ t. AreMeanings names.entry.abc.now t) }
+{
+    if names.abc.names.len() >= u32::MAX as usize {
+        return Err(NoMemory);
+    }
+    let mut meanings = Table::new(alloc);
+    for name in 0..names.abc.names.len() as u32 + 1 {
+        meanings.push(names.resolve(name))?;
+    }
+    Ok(meanings)
+}
+
+/// A file with what its names stand for.
+#[derive(Clone, Copy)]
+pub struct Meanings<'a> {
+    pub abc: &'a Abc,
+    pub table: &'a Table<Option<Named>>,
+    ghost sound: { AreMeanings abc.now table.now },
+}
+
+impl<'a> Meanings<'a> {
+    /// A file with what its names stand for.
+    pub fn new(abc: &'a Abc, table: &'a Table<Option<Named>>) -> Meanings<'a>
+        requires { AreMeanings abc.now table.now }
+        ensures { result.abc.now ≡ abc.now }
+    {
+        Meanings { abc, table }
+    }
+
+    /// What a name stands for: the first class of the file that it names, else what the host has under its text.
+    #[tactic(auto, using(crate::proofs::Meant::nothing_meant))]
+    pub fn resolve(&self, name: u32) -> Option<Named>
+        ensures { result ≡ resolve self.now.abc.now name }
+    {
+        match self.table.fetch(name as usize) {
+            Some(named) => named,
+            None => None,
+        }
+    }
+
+    /// What a type stands for, where index 0 is the type any.
+    pub fn type_named(&self, name: u32) -> Option<Named>
+        ensures { result ≡ type_named self.now.abc.now name }
+    {
+        if name == 0 {
+            return Some(Named::Any);
+        }
+        self.resolve(name)
+    }
+}

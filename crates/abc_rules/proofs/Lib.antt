@@ -1,0 +1,8 @@
+pub mod Past
+pub mod Order
+pub mod Pairs
+pub mod SlotRepeats
+pub mod SidedRepeats
+pub mod Counting
+pub mod Cyclic
+pub mod Within

@@ -1,0 +1,12 @@
+use Rattle.std.proofs.Common.{◌≡◌, ◌∙◌, ap, Bool}
+use Rattle.std.proofs.lemmas.Result.{IfOk-equal}
+use Rattle.abc_rules.specs.Repeats.{keys_clash}
+use Rattle.abc_rules.specs.Traits.{any_pair, names_clash}
+use Rattle.abc_rules.proofs.SidedRepeats.{of_traits, if_ok_same}
+use Rattle.abc_rules.proofs.same_name.SameName.has_same_name.Goals as goal
+
+pub returns : goal.returns
+returns c =
+    if_ok_same c.any_clash.result c.any_clash.ensures
+    (ap (any_pair keys_clash) (c.as_slice.ensures.value ∙ c.in_ok-keys.ensures)
+    ∙ of_traits c.args.self.now.names.abc.now c.args.self.now.names.tables.now.numbers c.args.table.now c.keys_tell_names.ensures)

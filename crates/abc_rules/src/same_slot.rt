@@ -1,0 +1,99 @@
+ghost use Rattle.std.specs.Prelude.{◌≡◌, ◌<◌, ◌^◌, length, map, nat_eq, IfOk};
+ghost use Rattle.std.specs.Option.{option_copied};
+ghost use Rattle.indexmap.specs.IndexMap.{get};
+ghost use Rattle.abc_rules.specs.Repeats.{is_repeat as repeats_at};
+ghost use Rattle.abc_rules.specs.Traits.{any_pair, any_table, slot_id as id_of, slots_clash};
+ghost use Rattle.abc_rules.specs.declared.items.LinkRule.TheVariants as rules;
+
+use crate::items::{Item, LinkRule};
+use crate::parts::{instance_table, own_table};
+use crate::rule::Rule;
+use abc_base::NoMemory;
+use abc_index::index_of;
+use abc_tables::{Abc, TraitBody, TraitInfo};
+use indexmap::IndexMap;
+use std::alloc::Global;
+
+/// No two traits of one table have one slot number.
+#[derive(Clone, Copy, Debug)]
+pub(crate) struct SameSlot<'a> {
+    pub abc: &'a Abc,
+}
+
+/// The slot number of a trait; 0 is none.
+fn slot_id(body: TraitBody) -> u32
+    ensures { result ≡ id_of body }
+{
+    match body {
+        TraitBody::Slot { id, .. } | TraitBody::Class { id, .. } | TraitBody::Function { id, .. } =>
+            id,
+        TraitBody::Method { .. } | TraitBody::Getter { .. } | TraitBody::Setter { .. } => 0,
+    }
+}
+
+/// The slot numbers of a table.
+fn slot_ids(alloc: Global, table: &[TraitInfo]) -> Result<Vec<u32>, NoMemory>
+    ensures { IfOk result (λ ids. ids.items ≡ map (λ t. id_of t.body) table.now) }
+{
+    let mut ids = Vec::new(alloc);
+    for info in table {
+        ids.push(slot_id(info.body))?;
+    }
+    Ok(ids)
+}
+
+/// Whether a number above 0 stands first at another place than the given one.
+fn is_repeat(firsts: &IndexMap<u32, u32>, id: u32, place: u32) -> bool
+    ensures { result ≡ repeats_at (get nat_eq firsts.now id) id place }
+{
+    match firsts.get(&id) {
+        Some(first) => id != 0 && *first != place,
+        None => false,
+    }
+}
+
+/// Whether two traits of a table have one slot number.
+#[tactic(auto, using(crate::proofs::SlotRepeats::slots_repeat, crate::proofs::SlotRepeats::slots_distinct))]
+fn has_same_slot(alloc: Global, table: &[TraitInfo]) -> Result<bool, NoMemory>
+    ensures { IfOk result (λ b. b ≡ any_pair slots_clash table.now) }
+{
+    let ids = slot_ids(alloc, table)?;
+    if ids.len() > u32::MAX as usize {
+        return Err(NoMemory);
+    }
+    let firsts = index_of(alloc, ids.as_slice())?;
+    for i in 0..ids.len() {
+        if is_repeat(&firsts, ids[i], i as u32) {
+            return Ok(true);
+        }
+    }
+    Ok(false)
+}
+
+impl SameSlot<'_> {
+    fn breaks(&self, alloc: Global, item: Item) -> Result<bool, NoMemory>
+        ensures { IfOk result (λ b. b ≡ any_table (any_pair slots_clash) self.now.abc.now item.kind item.index) }
+    {
+        let of_instances = has_same_slot(alloc, instance_table(self.abc, item))?;
+        let own = has_same_slot(alloc, own_table(self.abc, item))?;
+        Ok(of_instances || own)
+    }
+}
+
+impl Rule for SameSlot<'_> {
+    ghost file = { λ r. r.abc.now };
+
+    ghost rule = { λ _. rules.SameSlot };
+
+    fn rule(&self) -> LinkRule {
+        LinkRule::SameSlot
+    }
+
+    fn abc(&self) -> &Abc {
+        self.abc
+    }
+
+    fn is_broken(&self, alloc: Global, item: Item) -> Result<bool, NoMemory> {
+        self.breaks(alloc, item)
+    }
+}
