@@ -5,7 +5,7 @@ Use: files.py FOLDER [KIND..]. A file that is there already is left as it is. Ea
 and KIND_half.abc, of 8,388,608:
   ints         ints, in short and in long spellings
   strings      strings of 0 to 40 bytes
-  names        namespaces, namespace sets and multinames
+  names        namespaces, namespace sets and multinames, a fifth of them with 0 to 4 parameters
   definitions  methods, classes and traits
   bodies       method bodies of 20 to 200 bytes of code, as a compiler writes them
   code         a body with 8 MiB less a byte of code (4 MiB less a byte in the half file), and smaller ones after it

@@ -32,6 +32,12 @@ def multiname(rng, strings_count, spaces, sets):
     return bytes([kind]) + fields[kind]
 
 
+def type_name(rng, names):
+    """A name with parameters, where there will be so many names."""
+    params = [number(rng.randint(0, names)) for _ in range(rng.randint(0, 4))]
+    return b"\x1d" + number(rng.randint(1, names)) + counted(params)
+
+
 def namespace(rng, strings_count):
     return bytes([rng.choice(KINDS)]) + number(rng.randint(0, strings_count))
 
@@ -46,8 +52,11 @@ def names(rng, size):
     made = sum(map(len, words)) + sum(map(len, spaces)) + sum(map(len, sets))
     entries = []
     while made < size - slack(size):
-        entries.append(multiname(rng, len(words), len(spaces), len(sets)))
+        # It may name itself, or one of the sixteen after it.
+        has_params = rng.random() < 0.2
+        entries.append(type_name(rng, len(entries) + 17) if has_params else multiname(rng, len(words), len(spaces), len(sets)))
         made += len(entries[-1])
+    entries += [b"\x11"] * 16
     tail = pool(spaces) + pool(sets) + pool(entries) + bytes(5)
     return padded(size, lambda filler: HEAD + bytes(3) + pool(words + [text(filler)]) + tail)
 

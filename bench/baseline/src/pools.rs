@@ -3,11 +3,11 @@ use crate::canon::{Canon, Sizes};
 use crate::fault::{Answer, Fault, Reason};
 
 impl Canon<'_> {
-    /// A pool, and how many entries it has.
-    fn pool(&mut self, entry: impl Fn(&mut Self) -> Answer<()>) -> Answer<u32> {
+    /// A pool, and how many entries it has, which each of them is told.
+    fn pool(&mut self, entry: impl Fn(&mut Self, u32) -> Answer<()>) -> Answer<u32> {
         let entries = self.read_u30()?.saturating_sub(1);
         self.put(if entries == 0 { 0 } else { entries + 1 });
-        self.times(entries, entry)?;
+        self.times(entries, |c| entry(c, entries))?;
         Ok(entries)
     }
 
@@ -31,7 +31,7 @@ impl Canon<'_> {
         self.times(count, |c| c.index(1, spaces).map(drop))
     }
 
-    fn multiname(&mut self, v: &Sizes) -> Answer<()> {
+    fn multiname(&mut self, v: &Sizes, names: u32) -> Answer<()> {
         let start = self.at;
         match self.u8()? {
             0x07 | 0x0d => {
@@ -49,6 +49,11 @@ impl Canon<'_> {
             0x1b | 0x1c => {
                 self.index(1, v.sets)?;
             }
+            0x1d => {
+                self.index(1, names)?;
+                let params = self.u30()?;
+                self.times(params, |c| c.index(0, names).map(drop))?;
+            }
             _ => return Err(Fault::new(start, Reason::MultinameKind)),
         }
         Ok(())
@@ -57,13 +62,13 @@ impl Canon<'_> {
     /// The seven pools.
     pub fn pools(&mut self) -> Answer<Sizes> {
         let mut v = Sizes::default();
-        v.ints = self.pool(|c| c.u32())?;
-        v.uints = self.pool(|c| c.u32())?;
-        v.doubles = self.pool(|c| c.bytes(8))?;
-        v.strings = self.pool(|c| c.text())?;
-        v.spaces = self.pool(|c| c.namespace(v.strings))?;
-        v.sets = self.pool(|c| c.set(v.spaces))?;
-        v.names = self.pool(|c| c.multiname(&v))?;
+        v.ints = self.pool(|c, _| c.u32())?;
+        v.uints = self.pool(|c, _| c.u32())?;
+        v.doubles = self.pool(|c, _| c.bytes(8))?;
+        v.strings = self.pool(|c, _| c.text())?;
+        v.spaces = self.pool(|c, _| c.namespace(v.strings))?;
+        v.sets = self.pool(|c, _| c.set(v.spaces))?;
+        v.names = self.pool(|c, names| c.multiname(&v, names))?;
         Ok(v)
     }
 }

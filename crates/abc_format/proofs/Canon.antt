@@ -8,7 +8,7 @@ use Rattle.abc_format.specs.declared.reason.Reason.{Reason}
 use Rattle.abc_base.proofs.Spelling.{IsGroups, number_spelled, number_shortest, number_fits, number_groups}
 use Rattle.abc_base.specs.Numbers.{number_bytes, signed24}
 use Rattle.abc_format.specs.Canonical.{FitsS24, IsCanonical, counted_bytes, low24, pool_bytes, pool_count, s24_bytes}
-use Rattle.abc_format.specs.Lists.{counted, pool, times}
+use Rattle.abc_format.specs.Lists.{counted, pool, pool_by, times}
 use Rattle.abc_format.specs.Numbers.{number, s24, u30, u8, index_below, pool_index, entry_index}
 use Rattle.abc_format.specs.Part.{when, Part, both, checked, done, image, then_by}
 
@@ -122,21 +122,25 @@ best_count n (x ∷ xs) b len s =
     let e : n ≡ length xs + 2 = omega (arith, len) in
     record { spelled = subst (λ (k : ℕ). u30.spells k (number_bytes k)) e (u30-canonical.spelled n b s); short = subst (λ (k : ℕ). length (number_bytes k) ≤ length b) e (u30-canonical.shortest n b s); same = omega (arith, e) }
 
-pub pool-canonical : {A : Type 0} (p : Part A) (cp : A → List ℕ) → IsCanonical p cp → IsCanonical (pool p) (pool_bytes cp)
-unfolding pool pool_bytes
-pool-canonical p cp kp = record {
+pub pool_by-canonical : {A : Type 0} (p : ℕ → Part A) (cp : A → List ℕ) → ((n : ℕ) → IsCanonical (p n) cp) → IsCanonical (pool_by p) (pool_bytes cp)
+unfolding pool_by pool_bytes
+pool_by-canonical p cp kp = record {
   spelled = λ xs b s.
       let n = s.0.0 in
-      let items = times_spelled (n - 1) p cp kp s.0.1 s.1.1 s.1.4 in
-      let c = best_count n s.0.1 s.1.0 (times_length (n - 1) p s.0.1 s.1.1 s.1.4) s.1.3 in
-      let moved : (times (pool_count s.0.1 - 1) p).spells s.0.1 (flat_map cp s.0.1) = subst (λ (k : ℕ). (times k p).spells s.0.1 (flat_map cp s.0.1)) c.same items in
+      let items = times_spelled (n - 1) (p (n - 1)) cp (kp (n - 1)) s.0.1 s.1.1 s.1.4 in
+      let c = best_count n s.0.1 s.1.0 (times_length (n - 1) (p (n - 1)) s.0.1 s.1.1 s.1.4) s.1.3 in
+      let moved : (times (pool_count s.0.1 - 1) (p (pool_count s.0.1 - 1))).spells s.0.1 (flat_map cp s.0.1) = subst (λ (k : ℕ). (times k (p k)).spells s.0.1 (flat_map cp s.0.1)) c.same items in
       rw s.2 ((pool_count s.0.1, s.0.1), (number_bytes (pool_count s.0.1), flat_map cp s.0.1, refl, c.spelled, moved), refl);
   shortest = λ xs b s.
       let n = s.0.0 in
-      let items = times_shortest (n - 1) p cp kp s.0.1 s.1.1 s.1.4 in
-      let c = best_count n s.0.1 s.1.0 (times_length (n - 1) p s.0.1 s.1.1 s.1.4) s.1.3 in
+      let items = times_shortest (n - 1) (p (n - 1)) cp (kp (n - 1)) s.0.1 s.1.1 s.1.4 in
+      let c = best_count n s.0.1 s.1.0 (times_length (n - 1) (p (n - 1)) s.0.1 s.1.1 s.1.4) s.1.3 in
       rw (s.2, s.1.2) (omega (arith, items, c.short, length-append s.1.0 s.1.1, length-append (number_bytes (pool_count s.0.1)) (flat_map cp s.0.1)));
 }
+
+pub pool-canonical : {A : Type 0} (p : Part A) (cp : A → List ℕ) → IsCanonical p cp → IsCanonical (pool p) (pool_bytes cp)
+unfolding pool pool_by
+pool-canonical p cp kp = pool_by-canonical (λ n. p) cp (λ n. kp)
 
 -- the same bytes, written otherwise
 pub same-canonical : {A : Type 0} (p : Part A) (f h : A → List ℕ) → ((x : A) → f x ≡ h x) → IsCanonical p f → IsCanonical p h

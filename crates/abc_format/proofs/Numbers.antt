@@ -7,7 +7,7 @@ use Rattle.abc_format.specs.declared.reason.Reason.TheVariants as reasons
 use Rattle.abc_format.proofs.Exact.{done-exact, bind_ok, bind_err, fine, ok_is, Front-then, Front-first, Front-second, guard_ok, guard_err, image-exact, checked-exact, then-exact, times-exact, both-exact}
 use Rattle.abc_base.proofs.Spelling.{IsGroups, raw, longer, groups_number, number_groups, number_value}
 use Rattle.abc_format.specs.Law.{Exact}
-use Rattle.abc_format.specs.Lists.{counted, pool, times}
+use Rattle.abc_format.specs.Lists.{counted, pool, pool_by, times}
 use Rattle.abc_format.specs.Numbers.{BadHere, byte, byte_at, byte_here, groups, number, s24, u30, u32, u8, index_below, pool_index, entry_index, s32, u16}
 use Rattle.abc_format.specs.Part.{At, Front, Part, Refusal, both, further, limit, refusal, when, ◌>>=◌}
 
@@ -245,9 +245,13 @@ pub counted-exact : {A : Type 0} (p : Part A) → Exact p → Exact (counted p)
 unfolding counted
 counted-exact p ep = image-exact _ _ (then-exact u30 (λ n. times n p) u30-exact (λ n. times-exact n p ep))
 
+pub pool_by-exact : {A : Type 0} (p : ℕ → Part A) → ((n : ℕ) → Exact (p n)) → Exact (pool_by p)
+unfolding pool_by
+pool_by-exact p ep = image-exact _ _ (then-exact u30 (λ n. times (n - 1) (p (n - 1))) u30-exact (λ n. times-exact (n - 1) (p (n - 1)) (ep (n - 1))))
+
 pub pool-exact : {A : Type 0} (p : Part A) → Exact p → Exact (pool p)
-unfolding pool
-pool-exact p ep = image-exact _ _ (then-exact u30 (λ n. times (n - 1) p) u30-exact (λ n. times-exact (n - 1) p ep))
+unfolding pool pool_by
+pool-exact p ep = pool_by-exact (λ n. p) (λ n. ep)
 
 pub when-exact : {A : Type 0} (b : Bool) (x : A) (p : Part A) → Exact p → Exact (when b x p)
 unfolding when

@@ -20,6 +20,10 @@ text = counted u8
 unfoldable pub pool : {A : Type 0} → Part A → Part (List A)
 pool p = image (λ x. x.1) (then_by u30 (λ n. times (n - 1) p))
 
+-- a pool whose entries may name one another: how each is read depends on how many there are
+unfoldable pub pool_by : {A : Type 0} → (ℕ → Part A) → Part (List A)
+pool_by p = image (λ x. x.1) (then_by u30 (λ n. times (n - 1) (p (n - 1))))
+
 -- n items, each of which depends on those before it
 abbrev pub chain : {A : Type 0} → ℕ → (List A → Part A) → List A → Part (List A)
 chain zero p before = done before

@@ -1,16 +1,16 @@
 -- Each part of the pools and of the definitions is exact.
-use Rattle.std.proofs.Common.{ℕ, Bool}
+use Rattle.std.proofs.Common.{ℕ}
 use Rattle.abc_format.specs.Law.{Exact}
 use Rattle.abc_format.proofs.Exact.{image-exact, checked-exact, then-exact, done-exact, times-exact}
-use Rattle.abc_format.proofs.Numbers.{u8-exact, u30-exact, u32-exact, s32-exact, index_below-exact, pool_index-exact, entry_index-exact, counted-exact, pool-exact, when-exact}
+use Rattle.abc_format.proofs.Numbers.{u8-exact, u30-exact, u32-exact, s32-exact, index_below-exact, pool_index-exact, entry_index-exact, counted-exact, pool-exact, pool_by-exact, when-exact}
 use Rattle.abc_format.proofs.Fixed.{text-exact}
-use Rattle.abc_tables.specs.declared.names.MultinameForm.{MultinameForm}
-use Rattle.abc_tables.specs.declared.names.MultinameForm.TheVariants as forms
+use Rattle.abc_tables.specs.declared.names.MultinameKind.{MultinameKind}
+use Rattle.abc_tables.specs.declared.names.MultinameKind.TheVariants as kinds
 use Rattle.abc_tables.specs.declared.traits.TraitKind.{TraitKind}
 use Rattle.abc_tables.specs.declared.traits.TraitKind.TheVariants as traits
 use Rattle.abc_tables.specs.declared.tables.Sizes.{Sizes}
 use Rattle.abc_tables.specs.declared.tables.Abc.{Abc}
-use Rattle.abc_tables.specs.Pools.{double, namespace_kind, namespace, namespace_set, multiname_kind, multiname_fields, multiname, pools}
+use Rattle.abc_tables.specs.Pools.{double, namespace_kind, namespace, namespace_set, multiname_kind, multiname_fields, multiname, multinames, pools}
 use Rattle.abc_tables.specs.Methods.{value_kind, option_value, options, method, metadata}
 use Rattle.abc_tables.specs.Traits.{trait_kind, slot_value, trait_fields, trait_info}
 use Rattle.abc_tables.specs.Classes.{instance, class_info, script, definitions}
@@ -39,20 +39,25 @@ pub multiname_kind-exact : Exact multiname_kind
 unfolding multiname_kind
 multiname_kind-exact = search parts
 
-multiname_fields-exact : (strings spaces sets : ℕ) (attr : Bool) (form : MultinameForm) → Exact (multiname_fields strings spaces sets attr form)
-multiname_fields-exact strings spaces sets attr forms.QName = search parts
-multiname_fields-exact strings spaces sets attr forms.Rt = search parts
-multiname_fields-exact strings spaces sets attr forms.RtL = search parts
-multiname_fields-exact strings spaces sets attr forms.Multi = search parts
-multiname_fields-exact strings spaces sets attr forms.MultiL = search parts
+multiname_fields-exact : (strings spaces sets names : ℕ) (kind : MultinameKind) → Exact (multiname_fields strings spaces sets names kind)
+multiname_fields-exact strings spaces sets names (kinds.QName attr) = search parts
+multiname_fields-exact strings spaces sets names (kinds.Rt attr) = search parts
+multiname_fields-exact strings spaces sets names (kinds.RtL attr) = search parts
+multiname_fields-exact strings spaces sets names (kinds.Multi attr) = search parts
+multiname_fields-exact strings spaces sets names (kinds.MultiL attr) = search parts
+multiname_fields-exact strings spaces sets names kinds.TypeName = search parts
 
-pub multiname-exact : (strings spaces sets : ℕ) → Exact (multiname strings spaces sets)
+pub multiname-exact : (strings spaces sets names : ℕ) → Exact (multiname strings spaces sets names)
 unfolding multiname
-multiname-exact strings spaces sets = search (parts, multiname_kind-exact, multiname_fields-exact)
+multiname-exact strings spaces sets names = search (parts, multiname_kind-exact, multiname_fields-exact)
+
+pub multinames-exact : (strings spaces sets : ℕ) → Exact (multinames strings spaces sets)
+unfolding multinames
+multinames-exact strings spaces sets = pool_by-exact _ (multiname-exact strings spaces sets)
 
 pub pools-exact : Exact pools
 unfolding pools
-pools-exact = search (parts, double-exact, namespace-exact, namespace_set-exact, multiname-exact) depth 24
+pools-exact = search (parts, double-exact, namespace-exact, namespace_set-exact, multinames-exact) depth 24
 
 -- ---- methods and metadata
 

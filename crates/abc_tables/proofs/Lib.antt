@@ -12,3 +12,4 @@ pub mod Shortening
 pub mod BodiesShortest
 pub mod BodiesReady
 pub mod Readiness
+pub mod Rows

@@ -8,12 +8,11 @@ use Rattle.abc_base.specs.Numbers.{number_bytes}
 use Rattle.abc_format.specs.Part.{image, when}
 use Rattle.abc_format.specs.Numbers.{u8, pool_index}
 use Rattle.abc_format.specs.Canonical.{IsCanonical, counted_bytes, pool_bytes, text_bytes}
-use Rattle.abc_format.proofs.Canon.{image-canonical, both-canonical, checked-canonical, then-canonical, done-canonical, times-canonical, times_length, u8-canonical, u30-canonical, index_below-canonical, pool_index-canonical, entry_index-canonical, counted-canonical, pool-canonical, when-canonical}
+use Rattle.abc_format.proofs.Canon.{image-canonical, both-canonical, checked-canonical, then-canonical, done-canonical, times-canonical, times_length, u8-canonical, u30-canonical, index_below-canonical, pool_index-canonical, entry_index-canonical, counted-canonical, pool-canonical, pool_by-canonical, when-canonical}
 use Rattle.abc_format.proofs.Least.{u32-canonical, s32-canonical}
 use Rattle.abc_format.proofs.Fixed.{text-canonical, each_byte}
-use Rattle.abc_tables.specs.declared.names.MultinameForm.{MultinameForm}
-use Rattle.abc_tables.specs.declared.names.MultinameForm.TheVariants as forms
 use Rattle.abc_tables.specs.declared.names.MultinameKind.{MultinameKind}
+use Rattle.abc_tables.specs.declared.names.MultinameKind.TheVariants as kinds
 use Rattle.abc_tables.specs.declared.names.Multiname.{Multiname}
 use Rattle.abc_tables.specs.declared.names.Multiname.TheVariants as names
 use Rattle.abc_tables.specs.declared.methods.ValueKind.{ValueKind}
@@ -23,7 +22,7 @@ use Rattle.abc_tables.specs.declared.traits.TraitKind.TheVariants as traits
 use Rattle.abc_tables.specs.declared.traits.TraitBody.{TraitBody}
 use Rattle.abc_tables.specs.declared.tables.Sizes.{Sizes}
 use Rattle.abc_tables.specs.declared.tables.Abc.{Abc}
-use Rattle.abc_tables.specs.Pools.{double, double_bytes, namespace_code, namespace_kind_of, is_namespace_kind, namespace_kind, namespace, namespace_bytes, namespace_set, multiname_code, multiname_kind_of, is_multiname_kind, multiname_kind, multiname_fields, multiname, multiname_bytes, pools, pools_bytes}
+use Rattle.abc_tables.specs.Pools.{double, double_bytes, namespace_code, namespace_kind_of, is_namespace_kind, namespace_kind, namespace, namespace_bytes, namespace_set, multiname_code, multiname_kind_of, is_multiname_kind, multiname_kind, multiname_fields, multiname, multinames, multiname_bytes, pools, pools_bytes}
 use Rattle.abc_tables.specs.Methods.{has_flag, value_code, is_value_kind, value_kind_of, value_kind, option_value, option_bytes, options, method, method_bytes, metadata, metadata_bytes}
 use Rattle.abc_tables.specs.Traits.{trait_code, trait_kind_of, trait_kind, slot_value_of, slot_value, slot_value_bytes, trait_fields, trait_kind_in, trait_fields_bytes, trait_info, trait_bytes}
 use Rattle.abc_tables.specs.Classes.{some_index, instance, protected_bytes, instance_bytes, class_info, class_bytes, script, script_bytes, sizes_with, definitions, definitions_bytes}
@@ -52,13 +51,10 @@ pub namespace_set-canonical : (spaces : ℕ) → IsCanonical (namespace_set spac
 unfolding namespace_set
 namespace_set-canonical spaces = counted-canonical _ _ (entry_index-canonical spaces)
 
-abbrev kind_code : MultinameKind → ℕ
-kind_code k = multiname_code k.form k.attr
-
-multiname_code_back : (k : ℕ) → is_multiname_kind k ≡ true → kind_code (multiname_kind_of k) ≡ k
+multiname_code_back : (k : ℕ) → is_multiname_kind true k ≡ true → multiname_code (multiname_kind_of k) ≡ k
 multiname_code_back k h = grind (arith, nat_tests)
 
-multiname_kind-canonical : IsCanonical multiname_kind (λ k. kind_code k ∷ [])
+multiname_kind-canonical : IsCanonical multiname_kind (λ k. multiname_code k ∷ [])
 unfolding multiname_kind
 multiname_kind-canonical = image-canonical _ _ _ _ (checked-canonical _ _ _ _ u8-canonical) (λ x b s. ap (λ (c : ℕ). c ∷ []) (sym (multiname_code_back x s.1)))
 
@@ -68,26 +64,34 @@ fields_bytes (names.Rt attr i) = number_bytes i
 fields_bytes (names.RtL attr) = []
 fields_bytes (names.Multi attr i s) = number_bytes i ++ number_bytes s
 fields_bytes (names.MultiL attr s) = number_bytes s
+fields_bytes (names.TypeName base params) = number_bytes base ++ counted_bytes number_bytes params
 
-multiname_fields-canonical : (strings spaces sets : ℕ) (attr : Bool) (form : MultinameForm) → IsCanonical (multiname_fields strings spaces sets attr form) fields_bytes
-multiname_fields-canonical strings spaces sets attr forms.QName = image-canonical _ _ _ _ (both-canonical _ _ _ _ (pool_index-canonical spaces) (pool_index-canonical strings)) (λ x b s. refl)
-multiname_fields-canonical strings spaces sets attr forms.Rt = image-canonical _ _ _ _ (pool_index-canonical strings) (λ x b s. refl)
-multiname_fields-canonical strings spaces sets attr forms.RtL = done-canonical _ _ refl
-multiname_fields-canonical strings spaces sets attr forms.Multi = image-canonical _ _ _ _ (both-canonical _ _ _ _ (pool_index-canonical strings) (entry_index-canonical sets)) (λ x b s. refl)
-multiname_fields-canonical strings spaces sets attr forms.MultiL = image-canonical _ _ _ _ (entry_index-canonical sets) (λ x b s. refl)
+multiname_fields-canonical : (strings spaces sets all : ℕ) (kind : MultinameKind) → IsCanonical (multiname_fields strings spaces sets all kind) fields_bytes
+multiname_fields-canonical strings spaces sets all (kinds.QName attr) = image-canonical _ _ _ _ (both-canonical _ _ _ _ (pool_index-canonical spaces) (pool_index-canonical strings)) (λ x b s. refl)
+multiname_fields-canonical strings spaces sets all (kinds.Rt attr) = image-canonical _ _ _ _ (pool_index-canonical strings) (λ x b s. refl)
+multiname_fields-canonical strings spaces sets all (kinds.RtL attr) = done-canonical _ _ refl
+multiname_fields-canonical strings spaces sets all (kinds.Multi attr) = image-canonical _ _ _ _ (both-canonical _ _ _ _ (pool_index-canonical strings) (entry_index-canonical sets)) (λ x b s. refl)
+multiname_fields-canonical strings spaces sets all (kinds.MultiL attr) = image-canonical _ _ _ _ (entry_index-canonical sets) (λ x b s. refl)
+multiname_fields-canonical strings spaces sets all kinds.TypeName =
+    image-canonical _ _ _ _ (both-canonical _ _ _ (counted_bytes number_bytes) (entry_index-canonical all) (counted-canonical _ _ (pool_index-canonical all))) (λ x b s. refl)
 
-kind_first : (strings spaces sets : ℕ) (attr : Bool) (form : MultinameForm) (m : Multiname) (b : List ℕ) → (multiname_fields strings spaces sets attr form).spells m b → multiname_code form attr ∷ fields_bytes m ≡ multiname_bytes m
-kind_first strings spaces sets attr forms.QName m b s = rw s.2 refl
-kind_first strings spaces sets attr forms.Rt m b s = rw s.2 refl
-kind_first strings spaces sets attr forms.RtL m b s = rw s.0 refl
-kind_first strings spaces sets attr forms.Multi m b s = rw s.2 refl
-kind_first strings spaces sets attr forms.MultiL m b s = rw s.2 refl
+kind_first : (strings spaces sets all : ℕ) (kind : MultinameKind) (m : Multiname) (b : List ℕ) → (multiname_fields strings spaces sets all kind).spells m b → multiname_code kind ∷ fields_bytes m ≡ multiname_bytes m
+kind_first strings spaces sets all (kinds.QName attr) m b s = rw s.2 refl
+kind_first strings spaces sets all (kinds.Rt attr) m b s = rw s.2 refl
+kind_first strings spaces sets all (kinds.RtL attr) m b s = rw s.0 refl
+kind_first strings spaces sets all (kinds.Multi attr) m b s = rw s.2 refl
+kind_first strings spaces sets all (kinds.MultiL attr) m b s = rw s.2 refl
+kind_first strings spaces sets all kinds.TypeName m b s = rw s.2 refl
 
-pub multiname-canonical : (strings spaces sets : ℕ) → IsCanonical (multiname strings spaces sets) multiname_bytes
+pub multiname-canonical : (strings spaces sets all : ℕ) → IsCanonical (multiname strings spaces sets all) multiname_bytes
 unfolding multiname
-multiname-canonical strings spaces sets =
-    image-canonical _ _ _ _ (then-canonical _ _ (λ k. kind_code k ∷ []) (λ k. fields_bytes) multiname_kind-canonical (λ k. multiname_fields-canonical strings spaces sets k.attr k.form))
-    (λ x b s. kind_first strings spaces sets x.0.attr x.0.form x.1 s.1 s.4)
+multiname-canonical strings spaces sets all =
+    image-canonical _ _ _ _ (then-canonical _ _ (λ k. multiname_code k ∷ []) (λ k. fields_bytes) multiname_kind-canonical (multiname_fields-canonical strings spaces sets all))
+    (λ x b s. kind_first strings spaces sets all x.0 x.1 s.1 s.4)
+
+pub multinames-canonical : (strings spaces sets : ℕ) → IsCanonical (multinames strings spaces sets) (pool_bytes multiname_bytes)
+unfolding multinames
+multinames-canonical strings spaces sets = pool_by-canonical _ _ (multiname-canonical strings spaces sets)
 
 pub pools-canonical : IsCanonical pools pools_bytes
 unfolding pools pools_bytes
@@ -97,7 +101,7 @@ pools-canonical =
     (then-canonical _ _ (pool_bytes text_bytes) _ (pool-canonical _ _ text-canonical) (λ strings.
     then-canonical _ _ (pool_bytes namespace_bytes) _ (pool-canonical _ _ (namespace-canonical (length strings))) (λ spaces.
     then-canonical _ _ (pool_bytes (counted_bytes number_bytes)) (λ sets. pool_bytes multiname_bytes) (pool-canonical _ _ (namespace_set-canonical (length spaces))) (λ sets.
-    pool-canonical _ _ (multiname-canonical (length strings) (length spaces) (length sets)))))))))
+    multinames-canonical (length strings) (length spaces) (length sets))))))))
     (λ x b s. simp append_assoc)
 
 -- ---- methods and metadata

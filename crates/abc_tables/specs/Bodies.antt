@@ -9,6 +9,7 @@ use Rattle.abc_format.specs.Lists.{counted, chain}
 use Rattle.abc_format.specs.Canonical.{counted_bytes}
 use Rattle.abc_tables.specs.declared.code.Body.{Body}
 use Rattle.abc_tables.specs.declared.code.Handler.{Handler}
+use Rattle.abc_tables.specs.declared.instructions.Code.{Code}
 use Rattle.abc_tables.specs.declared.tables.Abc.{Abc}
 use Rattle.abc_tables.specs.declared.tables.Sizes.{Sizes}
 use Rattle.abc_tables.specs.Classes.{sizes_of}
@@ -33,9 +34,9 @@ handler_bytes starts h =
 unfoldable pub body_method : Sizes → List ℕ → Part ℕ
 body_method v taken = checked (λ m. not (list_any (nat_eq m) taken)) reasons.SecondBody (index_below v.methods)
 
--- a body whose method is spelled so, with the starts of its instructions as they were read
-unfoldable pub body_with : Sizes → Part ℕ → Part (Body × List ℕ)
-body_with v method =
+-- a body whose code and method are spelled so, with the starts of its instructions as they were read
+abbrev pub body_of : Part Code → Sizes → Part ℕ → Part (Body × List ℕ)
+body_of code v method =
     image (λ x. (
       record {
         method = x.0;
@@ -52,6 +53,9 @@ body_with v method =
     (both method (both u30 (both u30 (both u30 (both u30 (then_by code (λ c.
     both (counted (handler v c.offsets)) (counted (trait_info v)))))))))
 
+unfoldable pub body_with : Sizes → Part ℕ → Part (Body × List ℕ)
+body_with = body_of code
+
 -- a body, where these methods have one already
 unfoldable pub body : Sizes → List ℕ → Part (Body × List ℕ)
 body v taken = body_with v (body_method v taken)
@@ -65,12 +69,18 @@ abbrev pub methods_of : List (Body × List ℕ) → List ℕ
 methods_of read = map (λ x. x.0.method) read
 
 -- a count and that many bodies, each of another method
+abbrev pub body_list_of : (List ℕ → Part (Body × List ℕ)) → Part (List (Body × List ℕ))
+body_list_of body = image (λ x. x.1) (then_by u30 (λ n. chain n (λ before. body (methods_of before)) []))
+
 unfoldable pub body_list : Sizes → Part (List (Body × List ℕ))
-body_list v = image (λ x. x.1) (then_by u30 (λ n. chain n (λ before. body v (methods_of before)) []))
+body_list v = body_list_of (body v)
 
 -- the bodies beside the rest of a value, and the starts of each body's instructions
+abbrev pub bodies_of : Part (List (Body × List ℕ)) → Abc → Part (Abc × List (List ℕ))
+bodies_of list abc = image (λ xs. (record abc { bodies = map (λ x. x.0) xs }, map (λ x. x.1) xs)) list
+
 unfoldable pub bodies : Abc → Part (Abc × List (List ℕ))
-bodies abc = image (λ xs. (record abc { bodies = map (λ x. x.0) xs }, map (λ x. x.1) xs)) (body_list (sizes_of abc))
+bodies abc = bodies_of (body_list (sizes_of abc)) abc
 
 unfoldable pub bodies_bytes : Abc → List ℕ
 bodies_bytes v = counted_bytes body_bytes v.bodies

@@ -35,12 +35,15 @@ MeansAll ps here [] (i ∷ is) = ⊥
 MeansAll ps here (x ∷ xs) [] = ⊥
 MeansAll ps here (x ∷ xs) (i ∷ is) = Means ps here (here + x.1) x.0 i × MeansAll ps (here + x.1) xs is
 
--- Bytes, without their length, that spell code.
-pub record SpellsCode (c : Code) (b : List ℕ) : Type 0 where
+-- Bytes, without their length, that spell code of such instructions.
+pub record SpellsCodeOf (instruction : Part RawInstr) (c : Code) (b : List ℕ) : Type 0 where
   pub pieces : List (RawInstr × ℕ)
   pub filled : Pieces instruction pieces b
   pub means : MeansAll pieces 0 pieces c.instrs
   pub offsets : AreStarts pieces c.offsets
+
+abbrev pub SpellsCode : Code → List ℕ → Type 0
+SpellsCode = SpellsCodeOf instruction
 
 -- ---- the first offset that leads nowhere
 
@@ -62,7 +65,7 @@ MissesFirst ps here [] place = ⊥
 MissesFirst ps here (x ∷ xs) place = Misses ps here (here + x.1) x.0 place ⊎ ((i : Instr) × Means ps here (here + x.1) x.0 i × MissesFirst ps (here + x.1) xs place)
 
 -- The pieces of n bytes were read, and an offset in them is the first that leads nowhere.
-pub record BadTarget (n : ℕ) (from : At) (r : Refusal) : Type 0 where
+pub record BadTargetOf (instruction : Part RawInstr) (n : ℕ) (from : At) (r : Refusal) : Type 0 where
   pub pieces : List (RawInstr × ℕ)
   pub front : List ℕ
   pub after : At
@@ -75,17 +78,23 @@ pub record BadTarget (n : ℕ) (from : At) (r : Refusal) : Type 0 where
 
 -- ---- code
 
--- The code of n bytes: an instruction that can't be read is refused first, and then a target.
-unfoldable pub code_body : ℕ → Part Code
-code_body n = record {
-  spells = λ c b. SpellsCode c b × (length b ≡ n);
-  bad = λ from r. BadPiece n (blamed instruction) from r ⊎ BadTarget n from r;
-  reads = (refined resolve (pieces n)).reads;
+-- The code of n bytes, whose pieces are read so: an instruction that can't be read is refused first, and then a target.
+abbrev pub code_body_of : Part RawInstr → Part (List (RawInstr × ℕ)) → ℕ → Part Code
+code_body_of instruction pieces n = record {
+  spells = λ c b. SpellsCodeOf instruction c b × (length b ≡ n);
+  bad = λ from r. BadPiece n (blamed instruction) from r ⊎ BadTargetOf instruction n from r;
+  reads = (refined resolve pieces).reads;
 }
 
+unfoldable pub code_body : ℕ → Part Code
+code_body n = code_body_of instruction (pieces n) n
+
 -- a length, and the code of so many bytes
+abbrev pub code_of : (ℕ → Part Code) → Part Code
+code_of body = image (λ x. x.1) (then_by code_length body)
+
 unfoldable pub code : Part Code
-code = image (λ x. x.1) (then_by code_length code_body)
+code = code_of code_body
 
 -- the instructions alone
 unfoldable pub code_listing : Part (List Instr)

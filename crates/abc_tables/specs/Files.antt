@@ -17,8 +17,11 @@ abbrev pub version_bytes : List ℕ
 version_bytes = u16_bytes 16 ++ u16_bytes 46
 
 -- the version, the pools, the definitions and the bodies
+abbrev pub file_of : Part Abc → (Abc → Part Abc) → Part Abc
+file_of pools bodies = image (λ x. x.1.1.1) (both version (then_by pools (λ abc. then_by (definitions abc) (λ full. bodies full))))
+
 unfoldable pub file : Part Abc
-file = image (λ x. x.1.1.1) (both version (then_by pools (λ abc. then_by (definitions abc) (λ full. bodies_alone full))))
+file = file_of pools bodies_alone
 
 -- the same, with the starts of each body's instructions as they were read
 unfoldable pub file_read : Part (Abc × List (List ℕ))

@@ -1,5 +1,5 @@
 -- The parts of code: an instruction as it is spelled, with its offsets in bytes.
-use Rattle.std.specs.Prelude.{ℕ, ℤ, ◌+◌, ◌%◌, ◌^◌, is_some, unwrap_or, List, nat_lt}
+use Rattle.std.specs.Prelude.{ℕ, ℤ, ◌+◌, ◌%◌, ◌^◌, Bool, true, unwrap_or, List, nat_lt}
 use Rattle.std.specs.Int.{w8, w16, cast_signed}
 use Rattle.abc_format.specs.declared.reason.Reason.TheVariants as reasons
 use Rattle.abc_format.specs.Part.{Part, done, both, then_by, image, checked}
@@ -10,7 +10,7 @@ use Rattle.abc_tables.specs.declared.code.Instr.{Instr}
 use Rattle.abc_tables.specs.declared.code.Instr.TheVariants as instrs
 use Rattle.abc_tables.specs.declared.opcodes.Form.{Form}
 use Rattle.abc_tables.specs.declared.opcodes.Form.TheVariants as forms
-use Rattle.abc_tables.specs.Opcodes.{form_at}
+use Rattle.abc_tables.specs.Opcodes.{form_at, is_opcode}
 
 -- An instruction as it is spelled. One without targets is itself; a branch and a switch have offsets in bytes.
 pub data RawInstr : Type 0 where
@@ -19,8 +19,11 @@ pub data RawInstr : Type 0 where
   Switch : ℤ → List ℤ → RawInstr
 
 -- an opcode that some instruction has, and what follows it
+abbrev pub opcode_in : Bool → Part (ℕ × Form)
+opcode_in wide = image (λ op. (op, unwrap_or (form_at op) forms.Plain)) (checked (is_opcode wide) reasons.Opcode u8)
+
 unfoldable pub opcode : Part (ℕ × Form)
-opcode = image (λ op. (op, unwrap_or (form_at op) forms.Plain)) (checked (λ op. is_some (form_at op)) reasons.Opcode u8)
+opcode = opcode_in true
 
 -- a byte, in two's complement
 unfoldable pub signed_byte : Part ℤ
@@ -46,12 +49,18 @@ operands op forms.ScopeObject = image (λ x. Same (instrs.ScopeObject x)) u8
 operands op forms.Debug = image (λ x. Same (instrs.Debug x.0 x.1.0 x.1.1.0 x.1.1.1)) (both u8 (both u30 (both u8 u30)))
 
 -- an opcode and its operands
+abbrev pub instruction_of : Part (ℕ × Form) → Part RawInstr
+instruction_of opcode = image (λ x. x.1) (then_by opcode (λ o. operands o.0 o.1))
+
 unfoldable pub instruction : Part RawInstr
-instruction = image (λ x. x.1) (then_by opcode (λ o. operands o.0 o.1))
+instruction = instruction_of opcode
 
 -- the instructions that fill n bytes without a gap, and how many bytes spell each
+abbrev pub pieces_of : Part RawInstr → ℕ → Part (List (RawInstr × ℕ))
+pieces_of instruction n = fill n n (blamed instruction)
+
 unfoldable pub pieces : ℕ → Part (List (RawInstr × ℕ))
-pieces n = fill n n (blamed instruction)
+pieces = pieces_of instruction
 
 unfoldable pub code_length : Part ℕ
 code_length = checked (λ n. nat_lt n (2 ^ 23)) reasons.CodeLength u30

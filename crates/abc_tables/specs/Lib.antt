@@ -5,6 +5,7 @@ pub mod Classes
 pub mod Sizes
 pub mod Files
 pub mod Opcodes
+pub mod Rows
 pub mod Instructions
 pub mod Starts
 pub mod Targets

@@ -1,17 +1,16 @@
 -- The constant pools: numbers, texts, namespaces, sets of namespaces and multinames.
-use Rattle.std.specs.Prelude.{ℕ, ℤ, List, [], ◌∷◌, ◌++◌, length, Bool, true, false, nat_eq, ◌||◌, if◌then◌else◌}
+use Rattle.std.specs.Prelude.{ℕ, ℤ, List, [], ◌∷◌, ◌++◌, length, Bool, true, false, nat_eq, ◌||◌, ◌&&◌, if◌then◌else◌}
 use Rattle.abc_base.specs.Numbers.{number_bytes}
 use Rattle.abc_format.specs.declared.reason.Reason.TheVariants as reasons
 use Rattle.abc_format.specs.Part.{Part, done, then_by, both, image, checked}
 use Rattle.abc_format.specs.Numbers.{u8, u32, s32, pool_index, entry_index}
-use Rattle.abc_format.specs.Lists.{times, counted, pool, text}
+use Rattle.abc_format.specs.Lists.{times, counted, pool, pool_by, text}
 use Rattle.abc_format.specs.Canonical.{s32_bytes, counted_bytes, pool_bytes, text_bytes}
 use Rattle.abc_tables.specs.declared.names.NsKind.{NsKind}
 use Rattle.abc_tables.specs.declared.names.NsKind.TheVariants as spaces
 use Rattle.abc_tables.specs.declared.names.Namespace.{Namespace}
-use Rattle.abc_tables.specs.declared.names.MultinameForm.{MultinameForm}
-use Rattle.abc_tables.specs.declared.names.MultinameForm.TheVariants as forms
 use Rattle.abc_tables.specs.declared.names.MultinameKind.{MultinameKind}
+use Rattle.abc_tables.specs.declared.names.MultinameKind.TheVariants as kinds
 use Rattle.abc_tables.specs.declared.names.Multiname.{Multiname}
 use Rattle.abc_tables.specs.declared.names.Multiname.TheVariants as names
 use Rattle.abc_tables.specs.declared.tables.Eight.{Eight}
@@ -64,59 +63,75 @@ namespace_set spaces = counted (entry_index spaces)
 
 -- ---- multinames
 
-abbrev pub multiname_code : MultinameForm → Bool → ℕ
-multiname_code forms.QName false = 0x07
-multiname_code forms.QName true = 0x0d
-multiname_code forms.Rt false = 0x0f
-multiname_code forms.Rt true = 0x10
-multiname_code forms.RtL false = 0x11
-multiname_code forms.RtL true = 0x12
-multiname_code forms.Multi false = 0x09
-multiname_code forms.Multi true = 0x0e
-multiname_code forms.MultiL false = 0x1b
-multiname_code forms.MultiL true = 0x1c
+abbrev pub multiname_code : MultinameKind → ℕ
+multiname_code (kinds.QName false) = 0x07
+multiname_code (kinds.QName true) = 0x0d
+multiname_code (kinds.Rt false) = 0x0f
+multiname_code (kinds.Rt true) = 0x10
+multiname_code (kinds.RtL false) = 0x11
+multiname_code (kinds.RtL true) = 0x12
+multiname_code (kinds.Multi false) = 0x09
+multiname_code (kinds.Multi true) = 0x0e
+multiname_code (kinds.MultiL false) = 0x1b
+multiname_code (kinds.MultiL true) = 0x1c
+multiname_code kinds.TypeName = 0x1d
 
-abbrev pub is_multiname_kind : ℕ → Bool
-is_multiname_kind k =
+-- the narrow grammar has no kind 1D
+abbrev pub is_multiname_kind : Bool → ℕ → Bool
+is_multiname_kind wide k =
     nat_eq k 0x07 || nat_eq k 0x0d || nat_eq k 0x0f || nat_eq k 0x10 || nat_eq k 0x11 || nat_eq k 0x12 || nat_eq k 0x09 || nat_eq k 0x0e || nat_eq k 0x1b
-    || nat_eq k 0x1c
-
-abbrev kind_with : MultinameForm → Bool → MultinameKind
-kind_with f a = record { form = f; attr = a }
+    || nat_eq k 0x1c || (wide && nat_eq k 0x1d)
 
 abbrev pub multiname_kind_of : ℕ → MultinameKind
 multiname_kind_of k =
-    if nat_eq k 0x07 then kind_with forms.QName false
-    else if nat_eq k 0x0d then kind_with forms.QName true
-    else if nat_eq k 0x0f then kind_with forms.Rt false
-    else if nat_eq k 0x10 then kind_with forms.Rt true
-    else if nat_eq k 0x11 then kind_with forms.RtL false
-    else if nat_eq k 0x12 then kind_with forms.RtL true
-    else if nat_eq k 0x09 then kind_with forms.Multi false
-    else if nat_eq k 0x0e then kind_with forms.Multi true
-    else if nat_eq k 0x1b then kind_with forms.MultiL false
-    else kind_with forms.MultiL true
+    if nat_eq k 0x07 then kinds.QName false
+    else if nat_eq k 0x0d then kinds.QName true
+    else if nat_eq k 0x0f then kinds.Rt false
+    else if nat_eq k 0x10 then kinds.Rt true
+    else if nat_eq k 0x11 then kinds.RtL false
+    else if nat_eq k 0x12 then kinds.RtL true
+    else if nat_eq k 0x09 then kinds.Multi false
+    else if nat_eq k 0x0e then kinds.Multi true
+    else if nat_eq k 0x1b then kinds.MultiL false
+    else if nat_eq k 0x1c then kinds.MultiL true
+    else kinds.TypeName
+
+abbrev pub multiname_kind_in : Bool → Part MultinameKind
+multiname_kind_in wide = image multiname_kind_of (checked (is_multiname_kind wide) reasons.MultinameKind u8)
 
 unfoldable pub multiname_kind : Part MultinameKind
-multiname_kind = image multiname_kind_of (checked is_multiname_kind reasons.MultinameKind u8)
+multiname_kind = multiname_kind_in true
 
--- the fields of each form, where there are so many strings, namespaces and sets
-abbrev pub multiname_fields : ℕ → ℕ → ℕ → Bool → MultinameForm → Part Multiname
-multiname_fields strings spaces sets attr forms.QName = image (λ x. names.QName attr x.0 x.1) (both (pool_index spaces) (pool_index strings))
-multiname_fields strings spaces sets attr forms.Rt = image (λ x. names.Rt attr x) (pool_index strings)
-multiname_fields strings spaces sets attr forms.RtL = done (names.RtL attr)
-multiname_fields strings spaces sets attr forms.Multi = image (λ x. names.Multi attr x.0 x.1) (both (pool_index strings) (entry_index sets))
-multiname_fields strings spaces sets attr forms.MultiL = image (λ x. names.MultiL attr x) (entry_index sets)
+-- a base and a count of parameters, where there are so many multinames: they may name any of them
+abbrev pub type_fields : ℕ → Part (ℕ × List ℕ)
+type_fields all = both (entry_index all) (counted (pool_index all))
 
-unfoldable pub multiname : ℕ → ℕ → ℕ → Part Multiname
-multiname strings spaces sets = image (λ x. x.1) (then_by multiname_kind (λ k. multiname_fields strings spaces sets k.attr k.form))
+-- the fields of each kind, where there are so many strings, namespaces, sets and multinames
+abbrev pub multiname_fields : ℕ → ℕ → ℕ → ℕ → MultinameKind → Part Multiname
+multiname_fields strings spaces sets all (kinds.QName attr) = image (λ x. names.QName attr x.0 x.1) (both (pool_index spaces) (pool_index strings))
+multiname_fields strings spaces sets all (kinds.Rt attr) = image (λ x. names.Rt attr x) (pool_index strings)
+multiname_fields strings spaces sets all (kinds.RtL attr) = done (names.RtL attr)
+multiname_fields strings spaces sets all (kinds.Multi attr) = image (λ x. names.Multi attr x.0 x.1) (both (pool_index strings) (entry_index sets))
+multiname_fields strings spaces sets all (kinds.MultiL attr) = image (λ x. names.MultiL attr x) (entry_index sets)
+multiname_fields strings spaces sets all kinds.TypeName = image (λ x. names.TypeName x.0 x.1) (type_fields all)
+
+abbrev pub multiname_of : Part MultinameKind → ℕ → ℕ → ℕ → ℕ → Part Multiname
+multiname_of kind strings spaces sets all = image (λ x. x.1) (then_by kind (multiname_fields strings spaces sets all))
+
+unfoldable pub multiname : ℕ → ℕ → ℕ → ℕ → Part Multiname
+multiname = multiname_of multiname_kind
+
+-- those of the pool, which may name one another
+unfoldable pub multinames : ℕ → ℕ → ℕ → Part (List Multiname)
+multinames strings spaces sets = pool_by (multiname strings spaces sets)
 
 abbrev pub multiname_bytes : Multiname → List ℕ
-multiname_bytes (names.QName attr n i) = multiname_code forms.QName attr ∷ (number_bytes n ++ number_bytes i)
-multiname_bytes (names.Rt attr i) = multiname_code forms.Rt attr ∷ number_bytes i
-multiname_bytes (names.RtL attr) = multiname_code forms.RtL attr ∷ []
-multiname_bytes (names.Multi attr i s) = multiname_code forms.Multi attr ∷ (number_bytes i ++ number_bytes s)
-multiname_bytes (names.MultiL attr s) = multiname_code forms.MultiL attr ∷ number_bytes s
+multiname_bytes (names.QName attr n i) = multiname_code (kinds.QName attr) ∷ (number_bytes n ++ number_bytes i)
+multiname_bytes (names.Rt attr i) = multiname_code (kinds.Rt attr) ∷ number_bytes i
+multiname_bytes (names.RtL attr) = multiname_code (kinds.RtL attr) ∷ []
+multiname_bytes (names.Multi attr i s) = multiname_code (kinds.Multi attr) ∷ (number_bytes i ++ number_bytes s)
+multiname_bytes (names.MultiL attr s) = multiname_code (kinds.MultiL attr) ∷ number_bytes s
+multiname_bytes (names.TypeName base params) = multiname_code kinds.TypeName ∷ (number_bytes base ++ counted_bytes number_bytes params)
 
 -- ---- all pools
 
@@ -155,13 +170,16 @@ with_pools x = record empty {
 }
 
 -- the pools in their order, as a value whose other tables are empty
-unfoldable pub pools : Part Abc
-pools =
+abbrev pub pools_of : (ℕ → ℕ → ℕ → Part (List Multiname)) → Part Abc
+pools_of multinames =
     image with_pools
     (both (pool s32) (both (pool u32) (both (pool double) (then_by (pool text) (λ strings.
     then_by (pool (namespace (length strings))) (λ spaces.
     then_by (pool (namespace_set (length spaces))) (λ sets.
-    pool (multiname (length strings) (length spaces) (length sets)))))))))
+    multinames (length strings) (length spaces) (length sets))))))))
+
+unfoldable pub pools : Part Abc
+pools = pools_of multinames
 
 unfoldable pub pools_bytes : Abc → List ℕ
 pools_bytes v =

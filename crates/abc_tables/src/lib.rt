@@ -22,7 +22,7 @@ pub use copies::same;
 pub use flags::{HAS_METADATA, HAS_OPTIONAL, HAS_PARAM_NAMES, HAS_PROTECTED, has_flag};
 pub use instructions::{Code, code_len, count_len, instr_len};
 pub use methods::{Metadata, Method, OptionValue, ValueKind};
-pub use names::{Multiname, MultinameForm, MultinameKind, Namespace, NsKind};
+pub use names::{Multiname, MultinameKind, Namespace, NsKind};
 pub use opcodes::{Form, OpInfo, Pool, mnemonic, opcode};
 pub use ready::{are_bodies_ready, is_ready, is_ready_body};
 pub use sizes::{U30_LIMIT, sizes_of};

@@ -1,3 +1,5 @@
+use abc_base::Table;
+
 /// What a namespace is for (Overview, chapter 4, "Namespace").
 #[derive(Clone, Copy, Debug, PartialEq, Eq)]
 pub enum NsKind {
@@ -25,33 +27,27 @@ pub struct Namespace {
     pub name: u32,
 }
 
-/// Which fields a multiname has.
+/// What the kind byte of a multiname says: which fields it has, and of all but the last whether it names an attribute.
 #[derive(Clone, Copy, Debug, PartialEq, Eq)]
-pub enum MultinameForm {
-    /// A namespace and a name.
-    QName,
-    /// A name; the namespace comes at run time.
-    Rt,
-    /// Nothing; the namespace and the name come at run time.
-    RtL,
-    /// A name and a set of namespaces.
-    Multi,
-    /// A set of namespaces; the name comes at run time.
-    MultiL,
-}
-
-/// What the kind byte of a multiname says.
-#[derive(Clone, Copy, Debug, PartialEq, Eq)]
-pub struct MultinameKind {
-    pub form: MultinameForm,
-    /// The name of an attribute.
-    pub attr: bool,
+pub enum MultinameKind {
+    /// 07 and 0D: a namespace and a name.
+    QName { attr: bool },
+    /// 0F and 10: a name; the namespace comes at run time.
+    Rt { attr: bool },
+    /// 11 and 12: nothing; the namespace and the name come at run time.
+    RtL { attr: bool },
+    /// 09 and 0E: a name and a set of namespaces.
+    Multi { attr: bool },
+    /// 1B and 1C: a set of namespaces; the name comes at run time.
+    MultiL { attr: bool },
+    /// 1D: another multiname and its parameters.
+    TypeName,
 }
 
 /// A name of the constant pool (Overview, chapter 4, "Multiname"). A name is a string of the pool, counted from 1, where
 /// 0 is any name; a namespace is one of the pool, counted from 1, where 0 is any namespace; a set is one of the pool,
 /// counted from 1, and never 0. `attr` says that it names an attribute.
-#[derive(Clone, Copy, Debug, PartialEq, Eq)]
+#[derive(Debug, Drop)]
 pub enum Multiname {
     /// Kinds 07 and 0D.
     QName { attr: bool, ns: u32, name: u32 },
@@ -63,4 +59,7 @@ pub enum Multiname {
     Multi { attr: bool, name: u32, set: u32 },
     /// Kinds 1B and 1C.
     MultiL { attr: bool, set: u32 },
+    /// Kind 1D, which the Overview leaves out: a type with its parameters. The base is a multiname of the pool, counted
+    /// from 1, and never 0; so is each parameter, where 0 is any type. They may be later entries, or this one.
+    TypeName { base: u32, params: Table<u32> },
 }

@@ -1,5 +1,7 @@
-ghost use Rattle.std.specs.Prelude.{◌≡◌, get_or, None, option_map};
-ghost use Rattle.abc_tables.specs.Opcodes.{info_at, name_at, before_blank};
+ghost use Rattle.std.specs.Prelude.{◌≡◌, option_map};
+ghost use Rattle.abc_tables.specs.Opcodes.{info_at, name_at};
+ghost use Rattle.abc_tables.specs.Rows.{before_blank, info_in, name_in};
+ghost use Rattle.abc_tables.specs.declared.opcodes.TheConstants.{OPCODES as rows_of_code};
 
 /// What follows an opcode: one form for each variant of `Instr`.
 #[derive(Clone, Copy, Debug, PartialEq, Eq)]
@@ -129,7 +131,7 @@ pub const OPCODES: [Option<Row>; 256] = [
     None,
     None,
     None,
-    None,
+    Some((*b"applytype       ", Form::One, Pool::NoPool)),
     None,
     Some((*b"newobject       ", Form::One, Pool::NoPool)),
     Some((*b"newarray        ", Form::One, Pool::NoPool)),
@@ -316,13 +318,14 @@ pub const OPCODES: [Option<Row>; 256] = [
 
 /// The row of an opcode.
 fn row_at<'a>(rows: &'a [Option<Row>; 256], op: u8) -> &'a Option<Row>
-    ensures { result.now ≡ get_or rows.now op None }
+    requires { rows.now ≡ rows_of_code }
+    ensures info { info_in result.now ≡ info_at op }
+    ensures name { name_in result.now ≡ name_at op }
 {
     &rows[op as usize]
 }
 
-/// What follows the opcode, or `None` where no instruction has it.
-#[tactic(auto, unfolding(crate::specs::Opcodes::info_at))]
+/// What follows the opcode, and the pool that its operand names, or `None` where no instruction has the opcode.
 pub fn opcode(op: u8) -> Option<OpInfo>
     ensures { result ≡ info_at op }
 {
@@ -348,7 +351,6 @@ fn before_blank_of(name: &[u8; 16]) -> &[u8]
 }
 
 /// The name of the instruction with this opcode, as assembly texts write it, or `None` where there is none.
-#[tactic(auto, unfolding(crate::specs::Opcodes::name_at))]
 pub fn mnemonic(op: u8) -> Option<&'static [u8]>
     ensures { option_map (λ s. s.now) result ≡ name_at op }
 {
