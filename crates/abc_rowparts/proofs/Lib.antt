@@ -6,3 +6,5 @@ pub mod Coding
 pub mod Leasts
 pub mod Determined
 pub mod Operanding
+pub mod Wordlines
+pub mod Counts

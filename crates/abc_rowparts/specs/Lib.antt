@@ -4,3 +4,4 @@ pub mod Lines
 pub mod Operands
 pub mod Rows
 pub mod Firsts
+pub mod Wordlines
