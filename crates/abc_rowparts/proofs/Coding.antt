@@ -23,7 +23,7 @@ coded_err : {I : Type 0} (b : Bool) (i : I) (r : Result (List I × List Row) Fau
 coded_err true i r f e = e
 coded_err false i r f e = elim (bind_err r (λ z. Ok (i ∷ z.0, z.1)) f e) [ inl h ↦ h | inr a ↦ absurd cc ]
 
-module _ {I : Type 0} (same : Shows) (faults : Faults) (head : Head I (Unit {0})) (keeps : Keeps same faults head nothing) (here : head.place ≡ 23) (plain_words : (i : I) → is_label (head.word i) ≡ false) (labels_clean : (row : Row) (after : List Row) → IsLabel row → least (faults row after) ≡ None) (labels_found : (row : Row) (after : List Row) → is_label row.word ≡ true → least (faults row after) ≡ None → IsLabel row) where
+module _ {I : Type 0} (given : Type 0) (same : Shows) (faults : Faults) (head : Head I (Unit {0})) (keeps : Keeps given same faults head nothing) (here : head.place ≡ 23) (plain_words : (i : I) → is_label (head.word i) ≡ false) (labels_clean : (row : Row) (after : List Row) → IsLabel row → least (faults row after) ≡ None) (labels_found : (row : Row) (after : List Row) → is_label row.word ≡ true → least (faults row after) ≡ None → IsLabel row) where
   abbrev part : ℕ → Rows (List I)
   part k = code faults head k
 
@@ -59,9 +59,9 @@ module _ {I : Type 0} (same : Shows) (faults : Faults) (head : Head I (Unit {0})
   front_shown k row rows front y false l e clean rest =
       ([], row ∷ front, refl, tt, (row, front, refl, keeps.found row rows e l clean, rest (k + 1)))
 
-  front_fits : (row : Row) (rows : List Row) (y : List I) (b : Bool) → is_label row.word ≡ b → place_of row.word ≡ head.place → least (faults row rows) ≡ None → AllFit head y → AllFit head (cond b y (head.value row ∷ y))
-  front_fits row rows y true l e clean rest = rest
-  front_fits row rows y false l e clean rest = (keeps.fits row [] rows tt e l clean refl tt (λ w h a. a), rest)
+  front_fits : given → (row : Row) (rows : List Row) (y : List I) (b : Bool) → is_label row.word ≡ b → place_of row.word ≡ head.place → least (faults row rows) ≡ None → AllFit head y → AllFit head (cond b y (head.value row ∷ y))
+  front_fits all row rows y true l e clean rest = rest
+  front_fits all row rows y false l e clean rest = (keeps.fits all row [] rows tt e l clean refl tt (λ w h a. a), rest)
 
   abbrev made_of : List I → List Row → Result (List I × List Row) Fault
   made_of x rest = Ok (x, rest)
@@ -71,7 +71,7 @@ module _ {I : Type 0} (same : Shows) (faults : Faults) (head : Head I (Unit {0})
     parts : rows ≡ front ++ rest
     shown : (k : ℕ) → Match same front ((part k).shows x)
     clean : Clean faults front rest
-    fits : AllFit head x
+    fits : given → AllFit head x
     like : List I
     alike : (k : ℕ) → places_shown (code_after head k like) ≡ places front
     all : (w : ℕ) → Among w (places front) → w ≡ head.place
@@ -81,7 +81,7 @@ module _ {I : Type 0} (same : Shows) (faults : Faults) (head : Head I (Unit {0})
   none_taken rows x rest stop e =
       let made : List I × List Row = ([], rows) in
       subst (λ (z : List I × List Row). CodeTaken rows z.0 z.1) (ok_is made (x, rest) e)
-      (record { front = []; parts = refl; shown = λ k. ([], [], refl, tt, refl); clean = tt; fits = tt; like = []; alike = λ k. refl; all = λ w a. absurd a; other = stop })
+      (record { front = []; parts = refl; shown = λ k. ([], [], refl, tt, refl); clean = tt; fits = λ all. tt; like = []; alike = λ k. refl; all = λ w a. absurd a; other = stop })
 
   code_taken : (rows : List Row) (x : List I) (rest : List Row) → code_reads faults head rows ≡ Ok (x, rest) → CodeTaken rows x rest
   code_taken [] x rest e = none_taken [] x rest (λ h. h) e
@@ -99,7 +99,7 @@ module _ {I : Type 0} (same : Shows) (faults : Faults) (head : Head I (Unit {0})
               parts = ap (λ (l : List Row). row ∷ l) t.parts;
               shown = λ k. front_shown k row rows t.front a.0 (is_label row.word) refl is u.0 t.shown;
               clean = (subst (λ (l : List Row). least (faults row l) ≡ None) t.parts u.0, t.clean);
-              fits = front_fits row rows a.0 (is_label row.word) refl is u.0 t.fits;
+              fits = λ all. front_fits all row rows a.0 (is_label row.word) refl is u.0 (t.fits all);
               like = head.value row ∷ t.like;
               alike = λ k. same_cons (place_of (head.word (head.value row))) (place_of row.word) (places_shown (code_after head (k + 1) t.like)) (places t.front) (keeps.at (head.value row) ∙ sym is) (t.alike (k + 1));
               all = λ w h. elim h [ inl e ↦ e ∙ is | inr m ↦ t.all w m ];
@@ -174,11 +174,11 @@ module _ {I : Type 0} (same : Shows) (faults : Faults) (head : Head I (Unit {0})
   code_stops k y front w more rest other e h =
       elim (code_inside k y front w more e) [ inl s ↦ other (subst (λ (v : ℕ). Next rest v) s h) | inr no_ ↦ absurd no_ ]
 
-  pub code-lawful : (n k : ℕ) → Lawful same faults n (part k)
+  pub code-lawful : (n k : ℕ) → Lawful given same faults n (part k)
   code-lawful n k = record {
     taken = λ rows x rest le e.
         let t = code_taken rows x rest e in
-        record { front = t.front; parts = t.parts; shown = t.shown k; clean = t.clean; fits = λ free. t.fits; like = t.like; alike = t.alike k; stops = λ y w more s h. code_stops k y (places t.front) w more rest t.other s h };
+        record { front = t.front; parts = t.parts; shown = t.shown k; clean = t.clean; fits = λ all free. t.fits all; like = t.like; alike = t.alike k; stops = λ y w more s h. code_stops k y (places t.front) w more rest t.other s h };
     refused = λ rows f le e.
         let r = code_refused rows f e in
         record { front = r.front; row = r.row; after = r.after; parts = r.parts; clean = r.clean; reason = r.reason; line = r.line; like = r.like; more = []; alike = r.alike k };

@@ -48,7 +48,7 @@ bad_of f = Err f
 err_is : {A : Type 0} (f g : Fault) → bad_of {A = A} f ≡ bad_of g → f ≡ g
 err_is f g e = cc
 
-module _ {A : Type 0} (same : Shows) (faults : Faults) (body : Rows A) (version_found : (row : Row) (after : List Row) → place_of row.word ≡ 0 → least (faults row after) ≡ None → IsLine same row words.Abc (Number 16 ∷ Number 46 ∷ [])) (version_clean : (row : Row) (after : List Row) → IsLine same row words.Abc (Number 16 ∷ Number 46 ∷ []) → least (faults row after) ≡ None) where
+module _ {A : Type 0} (given : Type 0) (same : Shows) (faults : Faults) (body : Rows A) (version_found : (row : Row) (after : List Row) → place_of row.word ≡ 0 → least (faults row after) ≡ None → IsLine same row words.Abc (Number 16 ∷ Number 46 ∷ [])) (version_clean : (row : Row) (after : List Row) → IsLine same row words.Abc (Number 16 ∷ Number 46 ∷ []) → least (faults row after) ≡ None) where
   -- no reason holds at any line
   abbrev NoReason : List Row → Type 0
   NoReason rows = (a : List Row) (row : Row) (b : List Row) (reason : AsmReason) → rows ≡ a ++ row ∷ b → HasReason faults body a row b reason → ⊥
@@ -142,9 +142,9 @@ module _ {A : Type 0} (same : Shows) (faults : Faults) (body : Rows A) (version_
     ok : (v : A) → res ≡ Ok v → Answered rows v
     err : (f : Fault) → res ≡ Err f → IsFaultOf faults body rows f
 
-  module _ (n : ℕ) (lawful : Lawful same faults n body) where
-    finished : (row : Row) (rows : List Row) (x : A) (rest : List Row) → place_of row.word ≡ 0 → least (faults row rows) ≡ None → Taken same faults body rows x rest → Outcome (row ∷ rows) (ended faults (x, rest))
-    finished row rows x [] here clean t =
+  module _ (n : ℕ) (lawful : Lawful given same faults n body) where
+    finished : (row : Row) (rows : List Row) → (Clean faults (row ∷ rows) [] → given) → (x : A) (rest : List Row) → place_of row.word ≡ 0 → least (faults row rows) ≡ None → Taken given same faults body rows x rest → Outcome (row ∷ rows) (ended faults (x, rest))
+    finished row rows given_holds x [] here clean t =
         let all : rows ≡ t.front = t.parts ∙ append-nil t.front in
         let shown : Match same (row ∷ rows) (lines_of body x) = (row, rows, refl, version_found row rows here clean, subst (λ (l : List Row). Match same l (body.shows x)) (sym all) t.shown) in
         let alike : places_shown (lines_of body t.like) ≡ places (row ∷ t.front) ++ [] = cons_same (place_of row.word) 0 (places t.front) (places_shown (body.shows t.like)) here t.alike ∙ sym (append-nil (places (row ∷ t.front))) in
@@ -152,10 +152,10 @@ module _ {A : Type 0} (same : Shows) (faults : Faults) (body : Rows A) (version_
         let none : NoReason (row ∷ rows) = λ a other b reason e h.
             none_before (row ∷ t.front) [] t.like [] cleaned alike a other b reason (ap (λ (l : List Row). row ∷ l) (sym all) ∙ e) (subst (λ (l : List Row). HasReason faults body a other l reason) (sym (append-nil b)) h) in
         record {
-          ok = λ v e. subst (λ (w : A). Answered (row ∷ rows) w) (ok_is x v e) (record { is = record { shown = shown; fits = t.fits (λ w h k. h) }; clean = none });
+          ok = λ v e. subst (λ (w : A). Answered (row ∷ rows) w) (ok_is x v e) (record { is = record { shown = shown; fits = t.fits (given_holds (subst (λ (l : List Row). Clean faults (row ∷ l) []) (sym all) cleaned)) (λ w h k. h) }; clean = none });
           err = λ f e. absurd cc;
         }
-    finished row rows x (other ∷ after) here clean t =
+    finished row rows given_holds x (other ∷ after) here clean t =
         let alike : places_shown (lines_of body t.like) ≡ places (row ∷ t.front) = cons_same (place_of row.word) 0 (places t.front) (places_shown (body.shows t.like)) here t.alike in
         let cleaned : Clean faults (row ∷ t.front) (other ∷ after) = (subst (λ (l : List Row). least (faults row l) ≡ None) t.parts clean, t.clean) in
         let stop : ¬ CanBegin body (places (row ∷ t.front) ++ place_of other.word ∷ []) = λ c.
@@ -168,23 +168,23 @@ module _ {A : Type 0} (same : Shows) (faults : Faults) (body : Rows A) (version_
               subst (λ (l : List Row). IsFaultOf faults body l f) (sym (ap (λ (l : List Row). row ∷ l) t.parts)) (subst (λ (h : Fault). IsFaultOf faults body (row ∷ (t.front ++ other ∷ after)) h) same_fault (misplaced_fault (row ∷ t.front) other after t.like cleaned alike stop));
         }
 
-    after_version : (row : Row) (rows : List Row) → length rows ≤ n → place_of row.word ≡ 0 → least (faults row rows) ≡ None → (r : Result (A × List Row) Fault) → body.reads rows ≡ r → Outcome (row ∷ rows) (r >>= λ x. ended faults x)
-    after_version row rows le here clean (Ok x) e = finished row rows x.0 x.1 here clean (lawful.taken rows x.0 x.1 le e)
-    after_version row rows le here clean (Err d) e =
+    after_version : (row : Row) (rows : List Row) → (Clean faults (row ∷ rows) [] → given) → length rows ≤ n → place_of row.word ≡ 0 → least (faults row rows) ≡ None → (r : Result (A × List Row) Fault) → body.reads rows ≡ r → Outcome (row ∷ rows) (r >>= λ x. ended faults x)
+    after_version row rows g le here clean (Ok x) e = finished row rows g x.0 x.1 here clean (lawful.taken rows x.0 x.1 le e)
+    after_version row rows g le here clean (Err d) e =
         record { ok = λ v h. absurd cc; err = λ f h. subst (λ (g : Fault). IsFaultOf faults body (row ∷ rows) g) (err_is {A = A} d f h) (refused_fault row rows d here clean (lawful.refused rows d le e)) }
 
-    outcome : (row : Row) (rows : List Row) → length rows ≤ n → Outcome (row ∷ rows) (assembles faults body (row ∷ rows))
-    outcome row rows le = record {
+    outcome : (row : Row) (rows : List Row) → (Clean faults (row ∷ rows) [] → given) → length rows ≤ n → Outcome (row ∷ rows) (assembles faults body (row ∷ rows))
+    outcome row rows g le = record {
       ok = λ v e. elim (if_is (nat_eq (place_of row.word) 0) (unless (least (faults row rows)) row.number (body.reads rows >>= λ x. ended faults x)) (misplaced faults row rows) (Ok v) e) [
         | inl c ↦
             let u = unless_ok (least (faults row rows)) row.number (body.reads rows >>= λ x. ended faults x) v c.1 in
-            (after_version row rows le (eq_true (place_of row.word) 0 c.0) u.0 (body.reads rows) refl).ok v u.1
+            (after_version row rows g le (eq_true (place_of row.word) 0 c.0) u.0 (body.reads rows) refl).ok v u.1
         | inr c ↦ absurd cc
       ];
       err = λ f e. elim (if_is (nat_eq (place_of row.word) 0) (unless (least (faults row rows)) row.number (body.reads rows >>= λ x. ended faults x)) (misplaced faults row rows) (Err f) e) [
         | inl c ↦ elim (unless_err (least (faults row rows)) row.number (body.reads rows >>= λ x. ended faults x) f c.1) [
           | inl now ↦ version_fault row rows f (eq_true (place_of row.word) 0 c.0) now.0 now.1 lawful.some
-          | inr later ↦ (after_version row rows le (eq_true (place_of row.word) 0 c.0) later.0 (body.reads rows) refl).err f later.1
+          | inr later ↦ (after_version row rows g le (eq_true (place_of row.word) 0 c.0) later.0 (body.reads rows) refl).err f later.1
         ]
         | inr c ↦ subst (λ (g : Fault). IsFaultOf faults body (row ∷ rows) g) (err_is {A = A} (fault row.number (lesser reasons.Order (least (faults row rows)))) f c.1) (first_fault row rows c.0 lawful.some)
       ];
@@ -192,13 +192,13 @@ module _ {A : Type 0} (same : Shows) (faults : Faults) (body : Rows A) (version_
 
     -- ---- what the program answers
 
-    pub assembled : (rows : List Row) (v : A) → length rows ≤ suc n → assembles faults body rows ≡ Ok v → IsAssemblyOf same body rows v
-    assembled [] v le e = absurd cc
-    assembled (row ∷ rows) v le e = ((outcome row rows (omega arith)).ok v e).is
+    pub assembled : (rows : List Row) (v : A) → (Clean faults rows [] → given) → length rows ≤ suc n → assembles faults body rows ≡ Ok v → IsAssemblyOf same body rows v
+    assembled [] v g le e = absurd cc
+    assembled (row ∷ rows) v g le e = ((outcome row rows g (omega arith)).ok v e).is
 
-    pub refused : (rows : List Row) (f : Fault) → length rows ≤ suc n → assembles faults body rows ≡ Err f → IsAssemblyFault faults body rows f
-    refused [] f le e = sym (err_is {A = A} (fault 1 reasons.Order) f e)
-    refused (row ∷ rows) f le e = (outcome row rows (omega arith)).err f e
+    pub refused : (rows : List Row) (f : Fault) → (Clean faults rows [] → given) → length rows ≤ suc n → assembles faults body rows ≡ Err f → IsAssemblyFault faults body rows f
+    refused [] f g le e = sym (err_is {A = A} (fault 1 reasons.Order) f e)
+    refused (row ∷ rows) f g le e = (outcome row rows g (omega arith)).err f e
 
     pub assembles_it : (rows : List Row) (v : A) → length rows ≤ suc n → IsAssemblyOf same body rows v → assembles faults body rows ≡ Ok v
     assembles_it [] v le is = absurd (no_row is.shown.0 is.shown.1 is.shown.2)
@@ -215,20 +215,20 @@ module _ {A : Type 0} (same : Shows) (faults : Faults) (body : Rows A) (version_
         let reads : body.reads rows ≡ Ok (v, []) = subst (λ (l : List Row). body.reads l ≡ Ok (v, [])) nil (lawful.again v rows [] few is.fits shown (λ w h k. h)) in
         rw (here, clean, reads) refl
 
-    either : (rows : List Row) → length rows ≤ suc n → (r : Result A Fault) → assembles faults body rows ≡ r → ((v : A) × IsAssemblyOf same body rows v) ⊎ ((f : Fault) × IsAssemblyFault faults body rows f)
-    either rows le (Ok v) e = inl (v, assembled rows v le e)
-    either rows le (Err f) e = inr (f, refused rows f le e)
+    either : (rows : List Row) → (Clean faults rows [] → given) → length rows ≤ suc n → (r : Result A Fault) → assembles faults body rows ≡ r → ((v : A) × IsAssemblyOf same body rows v) ⊎ ((f : Fault) × IsAssemblyFault faults body rows f)
+    either rows g le (Ok v) e = inl (v, assembled rows v g le e)
+    either rows g le (Err f) e = inr (f, refused rows f g le e)
 
-    both_not : (rows : List Row) (v : A) (f : Fault) → length rows ≤ suc n → IsAssemblyOf same body rows v → IsAssemblyFault faults body rows f → ⊥
-    both_not [] v f le is bad = absurd (no_row is.shown.0 is.shown.1 is.shown.2)
-    both_not (row ∷ rows) v f le is bad =
-        let a = (outcome row rows (omega arith)).ok v (assembles_it (row ∷ rows) v le is) in
+    both_not : (rows : List Row) (v : A) (f : Fault) → (Clean faults rows [] → given) → length rows ≤ suc n → IsAssemblyOf same body rows v → IsAssemblyFault faults body rows f → ⊥
+    both_not [] v f g le is bad = absurd (no_row is.shown.0 is.shown.1 is.shown.2)
+    both_not (row ∷ rows) v f g le is bad =
+        let a = (outcome row rows g (omega arith)).ok v (assembles_it (row ∷ rows) v le is) in
         a.clean bad.front bad.row bad.after f.reason bad.parts bad.holds
 
-    pub determined : (rows : List Row) → length rows ≤ suc n → IsDetermined same faults body rows
-    determined rows le = record {
-      some = either rows le (assembles faults body rows) refl;
+    pub determined : (rows : List Row) → (Clean faults rows [] → given) → length rows ≤ suc n → IsDetermined same faults body rows
+    determined rows g le = record {
+      some = either rows g le (assembles faults body rows) refl;
       one_value = λ v w p q. ok_is v w (sym (assembles_it rows v le p) ∙ assembles_it rows w le q);
-      one_fault = λ f g p q. one_fault rows f g p q;
-      never_both = λ v f p q. both_not rows v f le p q;
+      one_fault = λ f h p q. one_fault rows f h p q;
+      never_both = λ v f p q. both_not rows v f g le p q;
     }

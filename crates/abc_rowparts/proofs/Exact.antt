@@ -30,7 +30,7 @@ inside_of_two a b before w more s t f g e =
       | inr c ↦ Among-right w s t (g (c.0 ∷ c.1) more c.3)
     ]
 
-module _ {A B : Type 0} (same : Shows) (faults : Faults) (n : ℕ) (p : Rows A) (q : Rows B) (lp : Lawful same faults n p) (lq : Lawful same faults n q) (apart : (w : ℕ) → Among w q.starts → Among w p.has → ⊥) where
+module _ {A B : Type 0} (given : Type 0) (same : Shows) (faults : Faults) (n : ℕ) (p : Rows A) (q : Rows B) (lp : Lawful given same faults n p) (lq : Lawful given same faults n q) (apart : (w : ℕ) → Among w q.starts → Among w p.has → ⊥) where
   -- where the second part's lines and what is free for both come next, the first part cannot go on
   both_free : (b rest : List Row) → ((w : ℕ) (more : List ℕ) → places b ≡ w ∷ more → Among w q.starts) → IsFree (both p q) rest → IsFree p (b ++ rest)
   both_free b rest begins free w h k =
@@ -39,7 +39,7 @@ module _ {A B : Type 0} (same : Shows) (faults : Faults) (n : ℕ) (p : Rows A) 
         | inr r ↦ free w r (Among-left w p.has q.has k)
       ]
 
-  both_taken : (rows : List Row) (x : A × B) (rest : List Row) → length rows ≤ n → (both p q).reads rows ≡ Ok (x, rest) → Taken same faults (both p q) rows x rest
+  both_taken : (rows : List Row) (x : A × B) (rest : List Row) → length rows ≤ n → (both p q).reads rows ≡ Ok (x, rest) → Taken given same faults (both p q) rows x rest
   both_taken rows x rest le e =
       let a = bind_ok (p.reads rows) (λ x. q.reads x.1 >>= λ y. Ok ((x.0, y.0), y.1)) (x, rest) e in
       let b = bind_ok (q.reads a.0.1) (λ y. Ok ((a.0.0, y.0), y.1)) (x, rest) a.2 in
@@ -47,15 +47,15 @@ module _ {A B : Type 0} (same : Shows) (faults : Faults) (n : ℕ) (p : Rows A) 
       let less : length a.0.1 ≤ n = omega (arith, ap length one.parts, length-append one.front a.0.1) in
       let two = lq.taken a.0.1 b.0.0 b.0.1 less b.1 in
       let made : (A × B) × List Row = ((a.0.0, b.0.0), b.0.1) in
-      subst (λ (z : (A × B) × List Row). Taken same faults (both p q) rows z.0 z.1) (ok_is made (x, rest) b.2)
+      subst (λ (z : (A × B) × List Row). Taken given same faults (both p q) rows z.0 z.1) (ok_is made (x, rest) b.2)
       (record {
         front = one.front ++ two.front;
         parts = one.parts ∙ ap (λ (l : List Row). one.front ++ l) two.parts ∙ sym (append_assoc one.front two.front b.0.1);
         shown = Match-append same one.front two.front (p.shows a.0.0) (q.shows b.0.0) one.shown two.shown;
         clean = Clean-append faults one.front two.front b.0.1 (subst (λ (l : List Row). Clean faults one.front l) two.parts one.clean) two.clean;
-        fits = λ free. (
-          one.fits (subst (λ (l : List Row). IsFree p l) (sym two.parts) (both_free two.front b.0.1 (λ w more s. lq.first two.like w more (two.alike ∙ s)) free)),
-          two.fits (λ w h k. free w h (Among-right w p.has q.has k)));
+        fits = λ all free. (
+          one.fits all (subst (λ (l : List Row). IsFree p l) (sym two.parts) (both_free two.front b.0.1 (λ w more s. lq.first two.like w more (two.alike ∙ s)) free)),
+          two.fits all (λ w h k. free w h (Among-right w p.has q.has k)));
         like = (one.like, two.like);
         alike = shown-append (p.shows one.like) (q.shows two.like) ∙ ap (λ (l : List ℕ). l ++ places_shown (q.shows two.like)) one.alike ∙ ap (λ (l : List ℕ). places one.front ++ l) two.alike ∙ sym (places-append one.front two.front);
         stops = λ y w more s h.
@@ -122,5 +122,5 @@ module _ {A B : Type 0} (same : Shows) (faults : Faults) (n : ℕ) (p : Rows A) 
   both_inside x before w more e =
       inside_of_two (places_shown (p.shows x.0)) (places_shown (q.shows x.1)) before w more p.has q.has (λ a m. lp.inside x.0 a w m) (λ a m. lq.inside x.1 a w m) (sym (shown-append (p.shows x.0) (q.shows x.1)) ∙ e)
 
-  pub both-lawful : Lawful same faults n (both p q)
+  pub both-lawful : Lawful given same faults n (both p q)
   both-lawful = record { taken = both_taken; refused = both_refused; again = both_again; some = (lp.some, lq.some); first = both_first; begins = both_begins; inside = both_inside }

@@ -17,12 +17,12 @@ pub none_inside : (before : List ℕ) (w : ℕ) (more : List ℕ) → [] ≡ bef
 none_inside [] w more e = cc
 none_inside (v ∷ before) w more e = cc
 
-pub nothing-lawful : (same : Shows) (faults : Faults) (n : ℕ) → Lawful same faults n nothing
-nothing-lawful same faults n = record {
+pub nothing-lawful : (given : Type 0) (same : Shows) (faults : Faults) (n : ℕ) → Lawful given same faults n nothing
+nothing-lawful given same faults n = record {
   taken = λ rows x rest le e.
       let made : Unit {0} × List Row = (tt, rows) in
-      subst (λ (z : Unit {0} × List Row). Taken same faults nothing rows z.0 z.1) (ok_is made (x, rest) e)
-      (record { front = []; parts = refl; shown = refl; clean = tt; fits = λ free. tt; like = tt; alike = refl; stops = λ y w more s h. absurd cc });
+      subst (λ (z : Unit {0} × List Row). Taken given same faults nothing rows z.0 z.1) (ok_is made (x, rest) e)
+      (record { front = []; parts = refl; shown = refl; clean = tt; fits = λ all free. tt; like = tt; alike = refl; stops = λ y w more s h. absurd cc });
   refused = λ rows f le e. absurd cc;
   again = λ x front rest le fit match free. ap (λ (l : List Row). fine (x, l ++ rest)) match;
   some = tt;
@@ -34,8 +34,8 @@ nothing-lawful same faults n = record {
 
 -- ---- fewer lines
 
-pub weaken : {A : Type 0} (same : Shows) (faults : Faults) (n m : ℕ) (p : Rows A) → n ≤ m → Lawful same faults m p → Lawful same faults n p
-weaken same faults n m p le lp = record {
+pub weaken : {A : Type 0} (given : Type 0) (same : Shows) (faults : Faults) (n m : ℕ) (p : Rows A) → n ≤ m → Lawful given same faults m p → Lawful given same faults n p
+weaken given same faults n m p le lp = record {
   taken = λ rows x rest few e. lp.taken rows x rest (omega arith) e;
   refused = λ rows f few e. lp.refused rows f (omega arith) e;
   again = λ x front rest few fit match free. lp.again x front rest (omega arith) fit match free;
@@ -44,17 +44,17 @@ weaken same faults n m p le lp = record {
 
 -- ---- other values
 
-pub image-lawful : {A B : Type 0} (same : Shows) (faults : Faults) (n : ℕ) (f : A → B) (g : B → A) (p : Rows A) → ((x : A) → g (f x) ≡ x) → ((y : B) → f (g y) ≡ y) → Lawful same faults n p → Lawful same faults n (image f g p)
-image-lawful {A} {B} same faults n f g p back forth lp = record {
+pub image-lawful : {A B : Type 0} (given : Type 0) (same : Shows) (faults : Faults) (n : ℕ) (f : A → B) (g : B → A) (p : Rows A) → ((x : A) → g (f x) ≡ x) → ((y : B) → f (g y) ≡ y) → Lawful given same faults n p → Lawful given same faults n (image f g p)
+image-lawful {A} {B} given same faults n f g p back forth lp = record {
   taken = λ rows y rest le e.
       let a = bind_ok (p.reads rows) (λ x. Ok (f x.0, x.1)) (y, rest) e in
       let t = lp.taken rows a.0.0 a.0.1 le a.1 in
       let made : B × List Row = (f a.0.0, a.0.1) in
-      subst (λ (z : B × List Row). Taken same faults (image f g p) rows z.0 z.1) (ok_is made (y, rest) a.2)
+      subst (λ (z : B × List Row). Taken given same faults (image f g p) rows z.0 z.1) (ok_is made (y, rest) a.2)
       (record {
         front = t.front; parts = t.parts; clean = t.clean;
         shown = subst (λ (x : A). Match same t.front (p.shows x)) (sym (back a.0.0)) t.shown;
-        fits = λ free. subst (λ (x : A). p.fits x) (sym (back a.0.0)) (t.fits free);
+        fits = λ all free. subst (λ (x : A). p.fits x) (sym (back a.0.0)) (t.fits all free);
         like = f t.like;
         alike = ap (λ (x : A). places_shown (p.shows x)) (back t.like) ∙ t.alike;
         stops = λ z w more s h. t.stops (g z) w more s h;
@@ -90,7 +90,7 @@ eq_true a b e = grind (arith, nat_tests)
 pub eq_refl : (a b : ℕ) → a ≡ b → nat_eq a b ≡ true
 eq_refl a b e = grind (arith, nat_tests)
 
-module _ {H B : Type 0} (same : Shows) (faults : Faults) (head : Head H B) (below : Rows B) (keeps : Keeps same faults head below) (ordinary : ¬ (head.place ≡ 23)) (apart : Among head.place below.has → ⊥) (inside : (x : B) (before : List ℕ) (w : ℕ) (more : List ℕ) → places_shown (below.shows x) ≡ before ++ w ∷ more → Among w below.has) where
+module _ {H B : Type 0} (given : Type 0) (same : Shows) (faults : Faults) (head : Head H B) (below : Rows B) (keeps : Keeps given same faults head below) (ordinary : ¬ (head.place ≡ 23)) (apart : Among head.place below.has → ⊥) (inside : (x : B) (before : List ℕ) (w : ℕ) (more : List ℕ) → places_shown (below.shows x) ≡ before ++ w ∷ more → Among w below.has) where
   abbrev made_of : List (H × B) → List Row → Result (List (H × B) × List Row) Fault
   made_of x rest = Ok (x, rest)
 
@@ -153,17 +153,17 @@ module _ {H B : Type 0} (same : Shows) (faults : Faults) (head : Head H B) (belo
       let tail : places_shown (below.shows x.1 ++ items_shown head below xs) ≡ before ++ w ∷ more = cc in
       both_has w (inside_of_two (places_shown (below.shows x.1)) (places_shown (items_shown head below xs)) before w more below.has (head.place ∷ below.has) (λ a m. inside x.1 a w m) (λ a m. many_inside xs a w m) (sym (shown-append (below.shows x.1) (items_shown head below xs)) ∙ tail))
 
-  item_lawful : (n : ℕ) → Lawful same faults n below → Lawful same faults n (many faults head below n) → Lawful same faults n (both below (many faults head below n))
-  item_lawful n lb lm = both-lawful same faults n below (many faults head below n) lb lm (λ w s k. elim s [ inl e ↦ apart (subst (λ (v : ℕ). Among v below.has) e k) | inr other ↦ absurd other ])
+  item_lawful : (n : ℕ) → Lawful given same faults n below → Lawful given same faults n (many faults head below n) → Lawful given same faults n (both below (many faults head below n))
+  item_lawful n lb lm = both-lawful given same faults n below (many faults head below n) lb lm (λ w s k. elim s [ inl e ↦ apart (subst (λ (v : ℕ). Among v below.has) e k) | inr other ↦ absurd other ])
 
   -- a first line that is not of the word
-  other_taken : (n : ℕ) (row : Row) (rows : List Row) (x : List (H × B)) (rest : List Row) → nat_eq (place_of row.word) head.place ≡ false → made_of [] (row ∷ rows) ≡ made_of x rest → Taken same faults (many faults head below n) (row ∷ rows) x rest
+  other_taken : (n : ℕ) (row : Row) (rows : List Row) (x : List (H × B)) (rest : List Row) → nat_eq (place_of row.word) head.place ≡ false → made_of [] (row ∷ rows) ≡ made_of x rest → Taken given same faults (many faults head below n) (row ∷ rows) x rest
   other_taken n row rows x rest differs e =
       let made : List (H × B) × List Row = ([], row ∷ rows) in
-      subst (λ (z : List (H × B) × List Row). Taken same faults (many faults head below n) (row ∷ rows) z.0 z.1) (ok_is made (x, rest) e)
-      (record { front = []; parts = refl; shown = refl; clean = tt; fits = λ free. tt; like = []; alike = refl; stops = λ y w more s h. other_stops row differs y w more s h })
+      subst (λ (z : List (H × B) × List Row). Taken given same faults (many faults head below n) (row ∷ rows) z.0 z.1) (ok_is made (x, rest) e)
+      (record { front = []; parts = refl; shown = refl; clean = tt; fits = λ all free. tt; like = []; alike = refl; stops = λ y w more s h. other_stops row differs y w more s h })
 
-  one_taken : (n : ℕ) → Lawful same faults n (both below (many faults head below n)) → (row : Row) (rows : List Row) (x : List (H × B)) (rest : List Row) → length rows ≤ n → place_of row.word ≡ head.place → (least (faults row rows) ≡ None) × ((headed (head.value row) (pair_reads below.reads (items_reads faults head below n) rows)) ≡ Ok (x, rest)) → Taken same faults (many faults head below (suc n)) (row ∷ rows) x rest
+  one_taken : (n : ℕ) → Lawful given same faults n (both below (many faults head below n)) → (row : Row) (rows : List Row) (x : List (H × B)) (rest : List Row) → length rows ≤ n → place_of row.word ≡ head.place → (least (faults row rows) ≡ None) × ((headed (head.value row) (pair_reads below.reads (items_reads faults head below n) rows)) ≡ Ok (x, rest)) → Taken given same faults (many faults head below (suc n)) (row ∷ rows) x rest
   one_taken n lt row rows x rest le here u =
       let b = bind_ok (pair_reads below.reads (items_reads faults head below n) rows) (λ x. Ok ((head.value row, x.0.0) ∷ x.0.1, x.1)) (x, rest) u.1 in
       let z = b.0 in
@@ -173,21 +173,21 @@ module _ {H B : Type 0} (same : Shows) (faults : Faults) (head : Head H B) (belo
       let m = Match-split same t.front (below.shows z.0.0) (items_shown head below z.0.1) t.shown in
       let regroup : t.front ++ z.1 ≡ m.0 ++ (m.1 ++ z.1) = ap (λ (l : List Row). l ++ z.1) m.2 ∙ append_assoc m.0 m.1 z.1 in
       let made : List (H × B) × List Row = ((head.value row, z.0.0) ∷ z.0.1, z.1) in
-      subst (λ (z : List (H × B) × List Row). Taken same faults (many faults head below (suc n)) (row ∷ rows) z.0 z.1) (ok_is made (x, rest) b.2)
+      subst (λ (z : List (H × B) × List Row). Taken given same faults (many faults head below (suc n)) (row ∷ rows) z.0 z.1) (ok_is made (x, rest) b.2)
       (record {
         front = row ∷ t.front;
         parts = ap (λ (l : List Row). row ∷ l) t.parts;
         shown = (row, t.front, refl, keeps.found row rows here plain u.0, t.shown);
         clean = (clean, t.clean);
-        fits = λ free.
-            let inner = t.fits (λ w h a. free w h (both_has w a)) in
-            (keeps.fits row m.0 (m.1 ++ z.1) z.0.0 here plain (subst (λ (l : List Row). least (faults row l) ≡ None) regroup clean) m.3 inner.0 (below_free n z.0.1 m.1 z.1 m.4 free), inner.0, inner.1);
+        fits = λ all free.
+            let inner = t.fits all (λ w h a. free w h (both_has w a)) in
+            (keeps.fits all row m.0 (m.1 ++ z.1) z.0.0 here plain (subst (λ (l : List Row). least (faults row l) ≡ None) regroup clean) m.3 inner.0 (below_free n z.0.1 m.1 z.1 m.4 free), inner.0, inner.1);
         like = (head.value row, t.like.0) ∷ t.like.1;
         alike = same_cons (place_of (head.word (head.value row))) (place_of row.word) (places_shown (below.shows t.like.0 ++ items_shown head below t.like.1)) (places t.front) (keeps.at (head.value row) ∙ sym here) t.alike;
         stops = λ y w more s h. one_stops y (place_of row.word) (places t.front) w more (λ y1 s1. t.stops y1 w more s1 h) s;
       })
 
-  one_refused : (n : ℕ) → Lawful same faults n (both below (many faults head below n)) → (row : Row) (rows : List Row) (f : Fault) → length rows ≤ n → place_of row.word ≡ head.place → ((least (faults row rows) ≡ Some f.reason) × (f.line ≡ row.number)) ⊎ ((least (faults row rows) ≡ None) × ((headed (head.value row) (pair_reads below.reads (items_reads faults head below n) rows)) ≡ Err f)) → Refused faults (many faults head below (suc n)) (row ∷ rows) f
+  one_refused : (n : ℕ) → Lawful given same faults n (both below (many faults head below n)) → (row : Row) (rows : List Row) (f : Fault) → length rows ≤ n → place_of row.word ≡ head.place → ((least (faults row rows) ≡ Some f.reason) × (f.line ≡ row.number)) ⊎ ((least (faults row rows) ≡ None) × ((headed (head.value row) (pair_reads below.reads (items_reads faults head below n) rows)) ≡ Err f)) → Refused faults (many faults head below (suc n)) (row ∷ rows) f
   one_refused n lt row rows f le here u =
       elim u [
         | inl now ↦ record {
@@ -211,18 +211,18 @@ module _ {H B : Type 0} (same : Shows) (faults : Faults) (head : Head H B) (belo
         ]
       ]
 
-  many_taken : (n : ℕ) → Lawful same faults n (both below (many faults head below n)) → (rows : List Row) (x : List (H × B)) (rest : List Row) → length rows ≤ suc n → items_reads faults head below (suc n) rows ≡ Ok (x, rest) → Taken same faults (many faults head below (suc n)) rows x rest
+  many_taken : (n : ℕ) → Lawful given same faults n (both below (many faults head below n)) → (rows : List Row) (x : List (H × B)) (rest : List Row) → length rows ≤ suc n → items_reads faults head below (suc n) rows ≡ Ok (x, rest) → Taken given same faults (many faults head below (suc n)) rows x rest
   many_taken n lt [] x rest le e =
       let made : List (H × B) × List Row = ([], []) in
-      subst (λ (z : List (H × B) × List Row). Taken same faults (many faults head below (suc n)) [] z.0 z.1) (ok_is made (x, rest) e)
-      (record { front = []; parts = refl; shown = refl; clean = tt; fits = λ free. tt; like = []; alike = refl; stops = λ y w more s h. absurd h })
+      subst (λ (z : List (H × B) × List Row). Taken given same faults (many faults head below (suc n)) [] z.0 z.1) (ok_is made (x, rest) e)
+      (record { front = []; parts = refl; shown = refl; clean = tt; fits = λ all free. tt; like = []; alike = refl; stops = λ y w more s h. absurd h })
   many_taken n lt (row ∷ rows) x rest le e =
       elim (if_is (nat_eq (place_of row.word) head.place) (unless (least (faults row rows)) row.number (headed (head.value row) (pair_reads below.reads (items_reads faults head below n) rows))) (Ok ([], row ∷ rows)) (Ok (x, rest)) e) [
         | inr c ↦ other_taken (suc n) row rows x rest c.0 c.1
         | inl c ↦ one_taken n lt row rows x rest (omega arith) (eq_true (place_of row.word) head.place c.0) (unless_ok (least (faults row rows)) row.number (headed (head.value row) (pair_reads below.reads (items_reads faults head below n) rows)) (x, rest) c.1)
       ]
 
-  many_refused : (n : ℕ) → Lawful same faults n (both below (many faults head below n)) → (rows : List Row) (f : Fault) → length rows ≤ suc n → items_reads faults head below (suc n) rows ≡ Err f → Refused faults (many faults head below (suc n)) rows f
+  many_refused : (n : ℕ) → Lawful given same faults n (both below (many faults head below n)) → (rows : List Row) (f : Fault) → length rows ≤ suc n → items_reads faults head below (suc n) rows ≡ Err f → Refused faults (many faults head below (suc n)) rows f
   many_refused n lt [] f le e = absurd cc
   many_refused n lt (row ∷ rows) f le e =
       elim (if_is (nat_eq (place_of row.word) head.place) (unless (least (faults row rows)) row.number (headed (head.value row) (pair_reads below.reads (items_reads faults head below n) rows))) (Ok ([], row ∷ rows)) (Err f) e) [
@@ -230,7 +230,7 @@ module _ {H B : Type 0} (same : Shows) (faults : Faults) (head : Head H B) (belo
         | inl c ↦ one_refused n lt row rows f (omega arith) (eq_true (place_of row.word) head.place c.0) (unless_err (least (faults row rows)) row.number (headed (head.value row) (pair_reads below.reads (items_reads faults head below n) rows)) f c.1)
       ]
 
-  many_again : (n : ℕ) → Lawful same faults n (both below (many faults head below n)) → (x : List (H × B)) (front rest : List Row) → length (front ++ rest) ≤ suc n → (many faults head below n).fits x → Match same front (items_shown head below x) → IsFree (many faults head below n) rest → items_reads faults head below (suc n) (front ++ rest) ≡ Ok (x, rest)
+  many_again : (n : ℕ) → Lawful given same faults n (both below (many faults head below n)) → (x : List (H × B)) (front rest : List Row) → length (front ++ rest) ≤ suc n → (many faults head below n).fits x → Match same front (items_shown head below x) → IsFree (many faults head below n) rest → items_reads faults head below (suc n) (front ++ rest) ≡ Ok (x, rest)
   many_again n lt [] front rest le fit match free = rw match (none_again n rest free)
   many_again n lt (x ∷ xs) front rest le fit match free =
       let row = match.0 in
@@ -245,20 +245,20 @@ module _ {H B : Type 0} (same : Shows) (faults : Faults) (head : Head H B) (belo
       let tail : pair_reads below.reads (items_reads faults head below n) (others ++ rest) ≡ Ok ((x.1, xs), rest) = lt.again (x.1, xs) others rest le1 (fit.1, fit.2) match.4 (λ w h a. free w h (both_has w a)) in
       rw (regroup, here, clean, tail) (ap (λ (h : H). fine ((h, x.1) ∷ xs, rest)) k.1)
 
-  pub many-lawful : (n : ℕ) → Lawful same faults n below → Lawful same faults n (many faults head below n)
+  pub many-lawful : (n : ℕ) → Lawful given same faults n below → Lawful given same faults n (many faults head below n)
   many-lawful zero lb = record {
     taken = λ rows x rest le e.
         let made : List (H × B) × List Row = ([], rows) in
         let none : rows ≡ [] = no_rows rows le in
-        subst (λ (z : List (H × B) × List Row). Taken same faults (many faults head below zero) rows z.0 z.1) (ok_is made (x, rest) e)
-        (record { front = []; parts = refl; shown = refl; clean = tt; fits = λ free. tt; like = []; alike = refl; stops = λ y w more s h. subst (λ (l : List Row). Next l w) none h });
+        subst (λ (z : List (H × B) × List Row). Taken given same faults (many faults head below zero) rows z.0 z.1) (ok_is made (x, rest) e)
+        (record { front = []; parts = refl; shown = refl; clean = tt; fits = λ all free. tt; like = []; alike = refl; stops = λ y w more s h. subst (λ (l : List Row). Next l w) none h });
     refused = λ rows f le e. absurd cc;
     again = λ x front rest le fit match free. zero_again x front rest le match;
     some = []; first = many_first; begins = many_begins; inside = many_inside;
   }
   many-lawful (suc n) lb =
-      let ln = many-lawful n (weaken same faults n (suc n) below (omega arith) lb) in
-      let lt = item_lawful n (weaken same faults n (suc n) below (omega arith) lb) ln in
+      let ln = many-lawful n (weaken given same faults n (suc n) below (omega arith) lb) in
+      let lt = item_lawful n (weaken given same faults n (suc n) below (omega arith) lb) ln in
       record { taken = many_taken n lt; refused = many_refused n lt; again = many_again n lt; some = []; first = many_first; begins = many_begins; inside = many_inside }
 
 -- ---- tables

@@ -11,7 +11,7 @@ use Rattle.abc_rowparts.specs.Law.{Among, Clean, IsFree, Keeps, Lawful, Match, N
 use Rattle.abc_rowparts.proofs.Many.{eq_refl, eq_true, label_place, none_inside, same_cons}
 use Rattle.abc_rowparts.proofs.Pieces.{bind_err, bind_ok, fine, ok_is, unless_err, unless_ok}
 
-module _ {H B : Type 0} (same : Shows) (faults : Faults) (head : Head H B) (below : Rows B) (keeps : Keeps same faults head below) (ordinary : ¬ (head.place ≡ 23)) (inside : (x : B) (before : List ℕ) (w : ℕ) (more : List ℕ) → places_shown (below.shows x) ≡ before ++ w ∷ more → Among w below.has) where
+module _ {H B : Type 0} (given : Type 0) (same : Shows) (faults : Faults) (head : Head H B) (below : Rows B) (keeps : Keeps given same faults head below) (ordinary : ¬ (head.place ≡ 23)) (inside : (x : B) (before : List ℕ) (w : ℕ) (more : List ℕ) → places_shown (below.shows x) ≡ before ++ w ∷ more → Among w below.has) where
   abbrev part : Rows (Option (H × B))
   part = optional faults head below
 
@@ -48,14 +48,14 @@ module _ {H B : Type 0} (same : Shows) (faults : Faults) (head : Head H B) (belo
   one_stops None v front w more rest s = cc
   one_stops (Some y) v front w more rest s = let tail : places_shown (below.shows y.1) ≡ front ++ w ∷ more = cc in rest y.1 tail
 
-  other_taken : (row : Row) (rows : List Row) (x : Option (H × B)) (rest : List Row) → nat_eq (place_of row.word) head.place ≡ false → made_of None (row ∷ rows) ≡ made_of x rest → Taken same faults part (row ∷ rows) x rest
+  other_taken : (row : Row) (rows : List Row) (x : Option (H × B)) (rest : List Row) → nat_eq (place_of row.word) head.place ≡ false → made_of None (row ∷ rows) ≡ made_of x rest → Taken given same faults part (row ∷ rows) x rest
   other_taken row rows x rest differs e =
       let made : Option (H × B) × List Row = (None, row ∷ rows) in
-      subst (λ (z : Option (H × B) × List Row). Taken same faults part (row ∷ rows) z.0 z.1) (ok_is made (x, rest) e)
-      (record { front = []; parts = refl; shown = refl; clean = tt; fits = λ free. tt; like = None; alike = refl; stops = λ y w more s h. other_stops row differs y w more s h })
+      subst (λ (z : Option (H × B) × List Row). Taken given same faults part (row ∷ rows) z.0 z.1) (ok_is made (x, rest) e)
+      (record { front = []; parts = refl; shown = refl; clean = tt; fits = λ all free. tt; like = None; alike = refl; stops = λ y w more s h. other_stops row differs y w more s h })
 
-  module _ (n : ℕ) (lb : Lawful same faults n below) where
-    one_taken : (row : Row) (rows : List Row) (x : Option (H × B)) (rest : List Row) → length rows ≤ n → place_of row.word ≡ head.place → (least (faults row rows) ≡ None) × (topped (head.value row) (below.reads rows) ≡ Ok (x, rest)) → Taken same faults part (row ∷ rows) x rest
+  module _ (n : ℕ) (lb : Lawful given same faults n below) where
+    one_taken : (row : Row) (rows : List Row) (x : Option (H × B)) (rest : List Row) → length rows ≤ n → place_of row.word ≡ head.place → (least (faults row rows) ≡ None) × (topped (head.value row) (below.reads rows) ≡ Ok (x, rest)) → Taken given same faults part (row ∷ rows) x rest
     one_taken row rows x rest le here u =
         let b = bind_ok (below.reads rows) (λ y. Ok (Some (head.value row, y.0), y.1)) (x, rest) u.1 in
         let z = b.0 in
@@ -63,15 +63,15 @@ module _ {H B : Type 0} (same : Shows) (faults : Faults) (head : Head H B) (belo
         let plain = plain_row row here in
         let clean : least (faults row (t.front ++ z.1)) ≡ None = subst (λ (l : List Row). least (faults row l) ≡ None) t.parts u.0 in
         let made : Option (H × B) × List Row = (Some (head.value row, z.0), z.1) in
-        subst (λ (y : Option (H × B) × List Row). Taken same faults part (row ∷ rows) y.0 y.1) (ok_is made (x, rest) b.2)
+        subst (λ (y : Option (H × B) × List Row). Taken given same faults part (row ∷ rows) y.0 y.1) (ok_is made (x, rest) b.2)
         (record {
           front = row ∷ t.front;
           parts = ap (λ (l : List Row). row ∷ l) t.parts;
           shown = (row, t.front, refl, keeps.found row rows here plain u.0, t.shown);
           clean = (clean, t.clean);
-          fits = λ free.
-              let inner = t.fits (λ w h a. free w h (inr a)) in
-              (keeps.fits row t.front z.1 z.0 here plain clean t.shown inner (λ w h a. free w h (inr a)), inner);
+          fits = λ all free.
+              let inner = t.fits all (λ w h a. free w h (inr a)) in
+              (keeps.fits all row t.front z.1 z.0 here plain clean t.shown inner (λ w h a. free w h (inr a)), inner);
           like = Some (head.value row, t.like);
           alike = same_cons (place_of (head.word (head.value row))) (place_of row.word) (places_shown (below.shows t.like)) (places t.front) (keeps.at (head.value row) ∙ sym here) t.alike;
           stops = λ y w more s h. one_stops y (place_of row.word) (places t.front) w more (λ b s1. t.stops b w more s1 h) s;
@@ -101,11 +101,11 @@ module _ {H B : Type 0} (same : Shows) (faults : Faults) (head : Head H B) (belo
           ]
         ]
 
-    option_taken : (rows : List Row) (x : Option (H × B)) (rest : List Row) → length rows ≤ n → option_reads faults head below rows ≡ Ok (x, rest) → Taken same faults part rows x rest
+    option_taken : (rows : List Row) (x : Option (H × B)) (rest : List Row) → length rows ≤ n → option_reads faults head below rows ≡ Ok (x, rest) → Taken given same faults part rows x rest
     option_taken [] x rest le e =
         let made : Option (H × B) × List Row = (None, []) in
-        subst (λ (z : Option (H × B) × List Row). Taken same faults part [] z.0 z.1) (ok_is made (x, rest) e)
-        (record { front = []; parts = refl; shown = refl; clean = tt; fits = λ free. tt; like = None; alike = refl; stops = λ y w more s h. absurd h })
+        subst (λ (z : Option (H × B) × List Row). Taken given same faults part [] z.0 z.1) (ok_is made (x, rest) e)
+        (record { front = []; parts = refl; shown = refl; clean = tt; fits = λ all free. tt; like = None; alike = refl; stops = λ y w more s h. absurd h })
     option_taken (row ∷ rows) x rest le e =
         elim (if_is (nat_eq (place_of row.word) head.place) (unless (least (faults row rows)) row.number (topped (head.value row) (below.reads rows))) (Ok (None, row ∷ rows)) (Ok (x, rest)) e) [
           | inr c ↦ other_taken row rows x rest c.0 c.1
@@ -141,5 +141,5 @@ module _ {H B : Type 0} (same : Shows) (faults : Faults) (head : Head H B) (belo
         let tail : below.reads (others ++ rest) ≡ Ok (x.1, rest) = lb.again x.1 others rest le1 fit.1 match.4 (λ w h a. free w h (inr a)) in
         rw (regroup, here, clean, tail) (ap (λ (h : H). made_of (Some (h, x.1)) rest) k.1)
 
-    pub optional-lawful : Lawful same faults n part
+    pub optional-lawful : Lawful given same faults n part
     optional-lawful = record { taken = option_taken; refused = option_refused; again = option_again; some = None; first = option_first; begins = option_begins; inside = option_inside }

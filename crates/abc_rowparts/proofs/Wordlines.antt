@@ -140,15 +140,15 @@ pub same_word : (w v : Word) → ¬ (place_of v ≡ 23) → place_of w ≡ place
 same_word w v other e = sym (word_back w (λ h. other (sym e ∙ h))) ∙ ap word_at e ∙ word_back v other
 
 -- what the lines that follow must be, by the other faults of a line
-pub record Agrees {A B : Type 0} (rules : Rules) (w : Word) (p : Operands A) (agree : A → B → Type 0) (below : Rows B) : Type 0 where
-  pub fits : (row : Row) (front rest : List Row) (y : B) → row.word ≡ w → IsClear rules row (front ++ rest) → Match shows_operands front (below.shows y) → below.fits y → IsFree below rest → agree (p.value row.labels row.operands) y
+pub record Agrees {A B : Type 0} (given : Type 0) (rules : Rules) (w : Word) (p : Operands A) (agree : A → B → Type 0) (below : Rows B) : Type 0 where
+  pub fits : given → (row : Row) (front rest : List Row) (y : B) → row.word ≡ w → IsClear rules row (front ++ rest) → Match shows_operands front (below.shows y) → below.fits y → IsFree below rest → agree (p.value row.labels row.operands) y
   pub again : (row : Row) (front rest : List Row) (y : B) → row.word ≡ w → agree (p.value row.labels row.operands) y → Match shows_operands front (below.shows y) → below.fits y → IsFree below rest → (rules.others row (front ++ rest) w ≡ []) × (rules.extra row (front ++ rest) ≡ [])
 
-module _ {A B : Type 0} (rules : Rules) (w : Word) (p : Operands A) (agree : A → B → Type 0) (below : Rows B) (ordinary : ¬ (place_of w ≡ 23)) (own_is : (labels : List Label) (tokens : List Token) → rules.own w labels tokens ≡ reasons_of p labels tokens) (lp : AreOperands p) (agrees : Agrees rules w p agree below) where
+module _ {A B : Type 0} (given : Type 0) (rules : Rules) (w : Word) (p : Operands A) (agree : A → B → Type 0) (below : Rows B) (ordinary : ¬ (place_of w ≡ 23)) (own_is : (labels : List Label) (tokens : List Token) → rules.own w labels tokens ≡ reasons_of p labels tokens) (lp : AreOperands p) (agrees : Agrees given rules w p agree below) where
   own_nil : (row : Row) (after : List Row) → row.word ≡ w → IsClear rules row after → (p.counts row.labels row.operands ≡ true) × (p.faults row.labels row.operands ≡ [])
   own_nil row after word c = reasons_nil p row.labels row.operands (sym (own_is row.labels row.operands) ∙ ap (λ (v : Word). rules.own v row.labels row.operands) (sym word) ∙ c.own)
 
-  pub line-keeps : Keeps shows_operands (faults_of rules) (line w p agree) below
+  pub line-keeps : Keeps given shows_operands (faults_of rules) (line w p agree) below
   line-keeps = record {
     at = λ x. refl;
     found = λ row after here plain e.
@@ -156,11 +156,11 @@ module _ {A B : Type 0} (rules : Rules) (w : Word) (p : Operands A) (agree : A �
         let word = same_word row.word w ordinary here in
         let own = own_nil row after word c in
         record { word = word; whole = c.whole; operands = (lp.found row.labels row.operands own.0 own.1).0; once = c.once };
-    fits = λ row front rest y here plain e match fit free.
+    fits = λ all row front rest y here plain e match fit free.
         let c = clear rules row (front ++ rest) e in
         let word = same_word row.word w ordinary here in
         let own = own_nil row (front ++ rest) word c in
-        ((lp.found row.labels row.operands own.0 own.1).1, agrees.fits row front rest y word c match fit free);
+        ((lp.found row.labels row.operands own.0 own.1).1, agrees.fits all row front rest y word c match fit free);
     again = λ row front rest x y fit is match fit_below free.
         let a = lp.again row.labels row.operands x is.operands fit.0 in
         let word = is.word in
@@ -170,17 +170,17 @@ module _ {A B : Type 0} (rules : Rules) (w : Word) (p : Operands A) (agree : A �
   }
 
 -- nothing is asked of the lines that follow
-pub agrees_always : {A B : Type 0} (rules : Rules) (w : Word) (p : Operands A) (below : Rows B) → ((row : Row) (after : List Row) → row.word ≡ w → (rules.others row after w ≡ []) × (rules.extra row after ≡ [])) → Agrees rules w p always below
-agrees_always rules w p below free = record { fits = λ row front rest y word c match fit next. tt; again = λ row front rest y word a match fit next. free row (front ++ rest) word }
+pub agrees_always : {A B : Type 0} (given : Type 0) (rules : Rules) (w : Word) (p : Operands A) (below : Rows B) → ((row : Row) (after : List Row) → row.word ≡ w → (rules.others row after w ≡ []) × (rules.extra row after ≡ [])) → Agrees given rules w p always below
+agrees_always given rules w p below free = record { fits = λ all row front rest y word c match fit next. tt; again = λ row front rest y word a match fit next. free row (front ++ rest) word }
 
 -- lines without lines below them
-module _ {A : Type 0} (rules : Rules) (w : Word) (p : Operands A) (ordinary : ¬ (place_of w ≡ 23)) (own_is : (labels : List Label) (tokens : List Token) → rules.own w labels tokens ≡ reasons_of p labels tokens) (others : (row : Row) (after : List Row) → row.word ≡ w → (rules.others row after w ≡ []) × (rules.extra row after ≡ [])) (lp : AreOperands p) where
-  pub flat-lawful : (n : ℕ) → Lawful shows_operands (faults_of rules) n (flat (faults_of rules) w p n)
+module _ {A : Type 0} (given : Type 0) (rules : Rules) (w : Word) (p : Operands A) (ordinary : ¬ (place_of w ≡ 23)) (own_is : (labels : List Label) (tokens : List Token) → rules.own w labels tokens ≡ reasons_of p labels tokens) (others : (row : Row) (after : List Row) → row.word ≡ w → (rules.others row after w ≡ []) × (rules.extra row after ≡ [])) (lp : AreOperands p) where
+  pub flat-lawful : (n : ℕ) → Lawful given shows_operands (faults_of rules) n (flat (faults_of rules) w p n)
   flat-lawful n =
-      image-lawful shows_operands (faults_of rules) n (map (λ (x : A × Unit {0}). x.0)) (map (λ (x : A). (x, tt)))
+      image-lawful given shows_operands (faults_of rules) n (map (λ (x : A × Unit {0}). x.0)) (map (λ (x : A). (x, tt)))
         (many (faults_of rules) (line w p always) nothing n)
         (map_back (λ (x : A × Unit {0}). x.0) (λ (x : A). (x, tt)) (λ x. refl)) (map_back (λ (x : A). (x, tt)) (λ (x : A × Unit {0}). x.0) (λ x. refl))
-        (many-lawful shows_operands (faults_of rules) (line w p always) nothing (line-keeps rules w p always nothing ordinary own_is lp (agrees_always rules w p nothing others)) ordinary (λ h. h) (λ x before w more e. none_inside before w more e) n (nothing-lawful shows_operands (faults_of rules) n))
+        (many-lawful given shows_operands (faults_of rules) (line w p always) nothing (line-keeps given rules w p always nothing ordinary own_is lp (agrees_always given rules w p nothing others)) ordinary (λ h. h) (λ x before w more e. none_inside before w more e) n (nothing-lawful given shows_operands (faults_of rules) n))
 
 -- ---- instructions and label lines
 
@@ -198,7 +198,7 @@ no_operands : (labels : List Label) (tokens : List Token) → none.counts labels
 no_operands labels [] e = refl
 no_operands labels (token ∷ tokens) e = absurd cc
 
-module _ {I : Type 0} (rules : Rules) (opcode_of : I → ℕ) (operands : ℕ → Operands I) (default : I)
+module _ {I : Type 0} (given : Type 0) (rules : Rules) (opcode_of : I → ℕ) (operands : ℕ → Operands I) (default : I)
     (own_is : (op : ℕ) (labels : List Label) (tokens : List Token) → rules.own (words.Instruction op) labels tokens ≡ reasons_of (operands op) labels tokens)
     (label_is : (labels : List Label) (tokens : List Token) → rules.own words.Label labels tokens ≡ reasons_of none labels tokens)
     (others : (row : Row) (after : List Row) → place_of row.word ≡ 23 → (rules.others row after row.word ≡ []) × (rules.extra row after ≡ []))
@@ -231,11 +231,11 @@ module _ {I : Type 0} (rules : Rules) (opcode_of : I → ℕ) (operands : ℕ �
         fits = subst (λ (i : I). head.fits i tt) (sym v) (subst (λ (n : ℕ). (operands n).fits ((operands op).value row.labels row.operands)) (sym same) f.1);
       }
 
-  instruction-keeps : Keeps shows_operands (faults_of rules) head nothing
+  instruction-keeps : Keeps given shows_operands (faults_of rules) head nothing
   instruction-keeps = record {
     at = λ i. refl;
     found = λ row after here plain e. (instruction_line row after here plain e).found;
-    fits = λ row front rest y here plain e match fit free. (instruction_line row (front ++ rest) here plain e).fits;
+    fits = λ all row front rest y here plain e match fit free. (instruction_line row (front ++ rest) here plain e).fits;
     again = λ row front rest i y fit is match fit_below free.
         let op = opcode_of i in
         let a = (are op).again row.labels row.operands i is.operands fit in
@@ -262,8 +262,8 @@ module _ {I : Type 0} (rules : Rules) (opcode_of : I → ℕ) (operands : ℕ �
       let own : rules.own row.word row.labels row.operands ≡ [] = ap (λ (v : Word). rules.own v row.labels row.operands) (label_word row.word l.word) ∙ label_is row.labels row.operands ∙ ap (λ (t : List Token). reasons_of none row.labels t) tokens in
       unclear rules row after (record { whole = l.whole; own = own; others = more.0; once = l.once; extra = more.1 })
 
-  pub code_is-lawful : (n : ℕ) → Lawful shows_operands (faults_of rules) n (code (faults_of rules) head 0)
-  code_is-lawful n = code-lawful shows_operands (faults_of rules) head instruction-keeps refl (λ i. refl) label_clean label_found n 0
+  pub code_is-lawful : (n : ℕ) → Lawful given shows_operands (faults_of rules) n (code (faults_of rules) head 0)
+  code_is-lawful n = code-lawful given shows_operands (faults_of rules) head instruction-keeps refl (λ i. refl) label_clean label_found n 0
 
 -- ---- places
 
@@ -295,15 +295,15 @@ apart (x ∷ s) p d w a b =
       ]
     ]
 
-pub closed-lawful : {A : Type 0} (same : Shows) (faults : Faults) (n : ℕ) (others : List ℕ) (p : Rows A) → Lawful same faults n p → Lawful same faults n (closed_to others p)
-closed-lawful same faults n others p lp = record {
+pub closed-lawful : {A : Type 0} (given : Type 0) (same : Shows) (faults : Faults) (n : ℕ) (more_places : List ℕ) (p : Rows A) → Lawful given same faults n p → Lawful given same faults n (closed_to more_places p)
+closed-lawful given same faults n more_places p lp = record {
   taken = λ rows x rest le e.
       let t = lp.taken rows x rest le e in
-      record { front = t.front; parts = t.parts; shown = t.shown; clean = t.clean; fits = λ free. t.fits (λ w h k. free w h (Among-left w p.has others k)); like = t.like; alike = t.alike; stops = t.stops };
+      record { front = t.front; parts = t.parts; shown = t.shown; clean = t.clean; fits = λ all free. t.fits all (λ w h k. free w h (Among-left w p.has more_places k)); like = t.like; alike = t.alike; stops = t.stops };
   refused = λ rows f le e.
       let r = lp.refused rows f le e in
       record { front = r.front; row = r.row; after = r.after; parts = r.parts; clean = r.clean; reason = r.reason; line = r.line; like = r.like; more = r.more; alike = r.alike };
-  again = λ x front rest le fit match free. lp.again x front rest le fit match (λ w h k. free w h (Among-left w p.has others k));
+  again = λ x front rest le fit match free. lp.again x front rest le fit match (λ w h k. free w h (Among-left w p.has more_places k));
   some = lp.some; first = lp.first; begins = lp.begins;
-  inside = λ x before w more e. Among-left w p.has others (lp.inside x before w more e);
+  inside = λ x before w more e. Among-left w p.has more_places (lp.inside x before w more e);
 }

@@ -51,12 +51,12 @@ abbrev pub IsFree : {A : Type 0} → Rows A → List Row → Type 0
 IsFree p rest = (place : ℕ) → Next rest place → Among place p.has → ⊥
 
 -- The lines at the front are those of a value, and the part cannot go on.
-pub record Taken {A : Type 0} (operands : Shows) (faults : Faults) (p : Rows A) (rows : List Row) (x : A) (rest : List Row) : Type 0 where
+pub record Taken {A : Type 0} (given : Type 0) (operands : Shows) (faults : Faults) (p : Rows A) (rows : List Row) (x : A) (rest : List Row) : Type 0 where
   pub front : List Row
   pub parts : rows ≡ front ++ rest
   pub shown : Match operands front (p.shows x)
   pub clean : Clean faults front rest
-  pub fits : IsFree p rest → p.fits x
+  pub fits : given → IsFree p rest → p.fits x
   -- some value has lines of these words, and none has these and then one of the next word
   pub like : A
   pub alike : places_shown (p.shows like) ≡ places front
@@ -75,9 +75,9 @@ pub record Refused {A : Type 0} (faults : Faults) (p : Rows A) (rows : List Row)
   pub more : List ℕ
   pub alike : places_shown (p.shows like) ≡ places front ++ place_of row.word ∷ more
 
--- What is promised of at most n lines.
-pub record Lawful {A : Type 0} (operands : Shows) (faults : Faults) (n : ℕ) (p : Rows A) : Type 0 where
-  pub taken : (rows : List Row) (x : A) (rest : List Row) → length rows ≤ n → p.reads rows ≡ Ok (x, rest) → Taken operands faults p rows x rest
+-- What is promised of at most n lines. `given` is what holds of the whole text where none of its lines has a fault: the values then fit.
+pub record Lawful {A : Type 0} (given : Type 0) (operands : Shows) (faults : Faults) (n : ℕ) (p : Rows A) : Type 0 where
+  pub taken : (rows : List Row) (x : A) (rest : List Row) → length rows ≤ n → p.reads rows ≡ Ok (x, rest) → Taken given operands faults p rows x rest
   pub refused : (rows : List Row) (f : Fault) → length rows ≤ n → p.reads rows ≡ Err f → Refused faults p rows f
   pub again : (x : A) (front rest : List Row) → length (front ++ rest) ≤ n → p.fits x → Match operands front (p.shows x) → IsFree p rest → p.reads (front ++ rest) ≡ Ok (x, rest)
   pub some : A
@@ -86,8 +86,8 @@ pub record Lawful {A : Type 0} (operands : Shows) (faults : Faults) (n : ℕ) (p
   pub inside : (x : A) (before : List ℕ) (place : ℕ) (more : List ℕ) → places_shown (p.shows x) ≡ before ++ place ∷ more → Among place p.has
 
 -- What a line promises.
-pub record Keeps {H B : Type 0} (operands : Shows) (faults : Faults) (head : Head H B) (below : Rows B) : Type 0 where
+pub record Keeps {H B : Type 0} (given : Type 0) (operands : Shows) (faults : Faults) (head : Head H B) (below : Rows B) : Type 0 where
   pub at : (h : H) → place_of (head.word h) ≡ head.place
   pub found : (row : Row) (after : List Row) → place_of row.word ≡ head.place → is_label row.word ≡ false → least (faults row after) ≡ None → IsLine operands row (head.word (head.value row)) (head.items (head.value row))
-  pub fits : (row : Row) (front rest : List Row) (y : B) → place_of row.word ≡ head.place → is_label row.word ≡ false → least (faults row (front ++ rest)) ≡ None → Match operands front (below.shows y) → below.fits y → IsFree below rest → head.fits (head.value row) y
+  pub fits : given → (row : Row) (front rest : List Row) (y : B) → place_of row.word ≡ head.place → is_label row.word ≡ false → least (faults row (front ++ rest)) ≡ None → Match operands front (below.shows y) → below.fits y → IsFree below rest → head.fits (head.value row) y
   pub again : (row : Row) (front rest : List Row) (h : H) (y : B) → head.fits h y → IsLine operands row (head.word h) (head.items h) → Match operands front (below.shows y) → below.fits y → IsFree below rest → (least (faults row (front ++ rest)) ≡ None) × (head.value row ≡ h)
