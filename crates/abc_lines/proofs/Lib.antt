@@ -1,1 +1,4 @@
 pub mod Forms
+pub mod Below
+pub mod Tables
+pub mod Whole
