@@ -1,3 +1,5 @@
+pub mod Answers
 pub mod File
 pub mod Kinds
 pub mod Lineforms
+pub mod Texts
