@@ -18,7 +18,7 @@ use Rattle.abc_rowparts.specs.Operands.{AreOperands, Operands, reasons_of}
 use Rattle.abc_rowparts.specs.Rows.{Faults, Rows, both, code, items_shown, image, many, nothing}
 use Rattle.abc_rowparts.specs.Law.{Among, IsFree, Lawful, Match, Next}
 use Rattle.abc_rowparts.specs.Wordlines.{Rules, always, among, closed_to, count_in, count_lines, faults_of, flat, line, shows_operands}
-use Rattle.abc_rowparts.proofs.Counts.{count_in-append, counted, flat_count}
+use Rattle.abc_rowparts.proofs.Counts.{count_in-append, count_in-none, counted, flat_count}
 use Rattle.abc_rowparts.proofs.Exact.{both-lawful}
 use Rattle.abc_rowparts.proofs.Many.{image-lawful, many-lawful, map_back}
 use Rattle.abc_rowparts.proofs.Pieces.{shown-append}
@@ -129,13 +129,29 @@ module _ (v : Sizes) (instances : ℕ) (given : Type 0) (r : Rules)
         (λ row after here. (others_are row after row.word ∙ code_others v instances row.word here row after, extra_none row after (λ e. absurd (let at : 23 ≡ 22 = sym here ∙ ap place_of e in omega arith))))
         instruction-are opcode_is n
 
+  abbrev pub open_below : Rows (List Instr × (List Handler × List TraitInfo))
+  open_below = both (code fs (instructions v instances) 0) (both (flat fs words.Catch (catch_line v) n) (traits v instances fs n))
+
+  pub open_below-lawful : Lawful given shows_operands fs n open_below
+  open_below-lawful =
+      both-lawful given shows_operands fs n (code fs (instructions v instances) 0) (both (flat fs words.Catch (catch_line v) n) (traits v instances fs n)) code-lawful
+        (both-lawful given shows_operands fs n (flat fs words.Catch (catch_line v) n) (traits v instances fs n)
+          (flat-lawful given r words.Catch (catch_line v) (λ e. absurd (omega arith)) (own_is words.Catch) (free_word words.Catch (λ e. absurd (omega arith)) (λ row after. refl)) (catch-are v) n)
+          traits-lawful
+          (λ w a b. apart (18 ∷ []) (24 ∷ []) refl w (subst (λ (l : List ℕ). Among w l) traits_starts a) b))
+        (λ w a b. apart (24 ∷ 18 ∷ []) (23 ∷ []) refl w (subst (λ (l : List ℕ). Among w (24 ∷ l)) traits_starts a) b)
+
+  pub open_has : open_below.has ≡ 23 ∷ 24 ∷ 18 ∷ 19 ∷ skipped
+  unfolding traits
+  open_has = refl
+
   pub body_below-lawful : Lawful given shows_operands fs n (body_below v instances fs n)
   unfolding body_below
-  body_below-lawful =
-      closed-lawful given shows_operands fs n body_part (both (code fs (instructions v instances) 0) (both (flat fs words.Catch (catch_line v) n) (traits v instances fs n)))
-        (both-lawful given shows_operands fs n (code fs (instructions v instances) 0) (both (flat fs words.Catch (catch_line v) n) (traits v instances fs n)) code-lawful
-          (both-lawful given shows_operands fs n (flat fs words.Catch (catch_line v) n) (traits v instances fs n)
-            (flat-lawful given r words.Catch (catch_line v) (λ e. absurd (omega arith)) (own_is words.Catch) (free_word words.Catch (λ e. absurd (omega arith)) (λ row after. refl)) (catch-are v) n)
-            traits-lawful
-            (λ w a b. apart (18 ∷ []) (24 ∷ []) refl w (subst (λ (l : List ℕ). Among w l) traits_starts a) b))
-          (λ w a b. apart (24 ∷ 18 ∷ []) (23 ∷ []) refl w (subst (λ (l : List ℕ). Among w (24 ∷ l)) traits_starts a) b))
+  body_below-lawful = closed-lawful given shows_operands fs n body_part open_below open_below-lawful
+
+  -- no line below a body stands at another place
+  pub body_below_none : (place : ℕ) → among place (23 ∷ 24 ∷ 18 ∷ 19 ∷ skipped) ≡ false → (y : List Instr × (List Handler × List TraitInfo)) → count_in place (places_shown ((body_below v instances fs n).shows y)) ≡ 0
+  unfolding body_below
+  body_below_none place other y =
+      count_in-none place (places_shown (open_below.shows y)) open_below.has (open_below-lawful.inside y)
+        (λ h. let yes : among place (23 ∷ 24 ∷ 18 ∷ 19 ∷ skipped) ≡ true = among_yes place (23 ∷ 24 ∷ 18 ∷ 19 ∷ skipped) (subst (λ (l : List ℕ). Among place l) open_has h) in cc)

@@ -10,6 +10,7 @@ use Rattle.abc_text.specs.declared.word.Word.TheVariants as words
 use Rattle.abc_text.specs.Tokens.{Token}
 use Rattle.abc_text.specs.Words.{place_of}
 use Rattle.abc_text.proofs.Bools.{and_true, if_is}
+use Rattle.abc_tables.specs.declared.code.Body.{Body}
 use Rattle.abc_tables.specs.declared.code.Instr.{Instr}
 use Rattle.abc_tables.specs.declared.code.Handler.{Handler}
 use Rattle.abc_tables.specs.declared.methods.OptionValue.{OptionValue}
@@ -21,8 +22,8 @@ use Rattle.abc_rowparts.specs.Lines.{Label, Row, Shown, places_shown}
 use Rattle.abc_rowparts.specs.Operands.{AreOperands, Operands, reasons_of}
 use Rattle.abc_rowparts.specs.Rows.{Faults, Rows, both, code, image, items_shown, many, nothing, option_shown, optional}
 use Rattle.abc_rowparts.specs.Law.{Among, IsFree, Lawful, Match, Next}
-use Rattle.abc_rowparts.specs.Wordlines.{Rules, always, closed_to, count_all, count_in, count_lines, faults_of, flat, line, shows_operands}
-use Rattle.abc_rowparts.proofs.Counts.{count_in-none, flat_count}
+use Rattle.abc_rowparts.specs.Wordlines.{Rules, always, among, closed_to, count_all, count_in, count_lines, faults_of, flat, line, shows_operands}
+use Rattle.abc_rowparts.proofs.Counts.{count_in-none, flat_count, many_none}
 use Rattle.abc_rowparts.proofs.Exact.{both-lawful}
 use Rattle.abc_rowparts.proofs.Many.{eq_refl, eq_true, image-lawful, many-lawful, map_back}
 use Rattle.abc_rowparts.proofs.Pieces.{Among-right}
@@ -30,7 +31,7 @@ use Rattle.abc_rowparts.proofs.Optional.{optional-lawful}
 use Rattle.abc_rowparts.proofs.Wordlines.{Agrees, IsClear, agrees_always, apart, closed-lawful, flat-lawful, line-keeps, yes_among}
 use Rattle.abc_lines.specs.Lineforms.{BodyHead, InstanceHead, MethodHead, TraitHead, body_line, entry_line, implements_line, instance_line, method_index_line, method_line, number_line, option_line, param_line, protected_line, string_index_line, trait_line}
 use Rattle.abc_lines.specs.File.{BodyAgrees, ClassAgrees, InstanceAgrees, InstanceBelow, IsBalanced, MethodAgrees, body_below, body_lines, body_part, class_counts, classes, count_unless, ends_body, extra, faults, instance_below, instance_counts, instance_lines, instance_part, long_code, metadata, method_below, method_counts, method_part, methods, others, own, plain_rules, rules, scripts, skipped, traits, where_set}
-use Rattle.abc_lines.proofs.Below.{body_below-lawful, count_fine, count_two, counted_below, flat_none, free_word, traits-lawful, traits_has, traits_starts}
+use Rattle.abc_lines.proofs.Below.{body_below-lawful, body_below_none, count_fine, count_two, counted_below, flat_none, free_word, traits-lawful, traits_has, traits_starts}
 use Rattle.abc_lines.proofs.Forms.{body-are, entry-are, implements-are, instance-are, method-are, method_index-are, number-are, option-are, param-are, protected-are, string_index-are}
 
 -- only a body's line has extra reasons
@@ -98,7 +99,7 @@ module _ (v : Sizes) (instances : ℕ) where
   trait_list_starts : (n : ℕ) → (traits v instances fs n).starts ≡ 18 ∷ []
   trait_list_starts n = traits_starts v instances given all (λ w labels tokens. refl) (λ row after w. refl) extra_none n
 
-  trait_list_has : (n : ℕ) → (traits v instances fs n).has ≡ 18 ∷ 19 ∷ skipped
+  pub trait_list_has : (n : ℕ) → (traits v instances fs n).has ≡ 18 ∷ 19 ∷ skipped
   trait_list_has n = traits_has v instances given all (λ w labels tokens. refl) (λ row after w. refl) extra_none n
 
   -- a line's other faults where there are none
@@ -111,7 +112,7 @@ module _ (v : Sizes) (instances : ℕ) where
   module _ (n : ℕ) where
     -- ---- methods
 
-    method_below-lawful : Lawful given shows_operands fs n (method_below v instances n)
+    pub method_below-lawful : Lawful given shows_operands fs n (method_below v instances n)
     unfolding method_below
     method_below-lawful =
         closed-lawful given shows_operands fs n skipped (both (flat fs words.Param (param_line v) n) (both (flat fs words.Optional (option_line v) n) (flat fs words.ParamName number_line n)))
@@ -157,7 +158,7 @@ module _ (v : Sizes) (instances : ℕ) where
           (ap count_unless (method_test flags front rest y (method_counted front rest y match open_) ∙ a), extra_of row (front ++ rest) words.Method word (λ e. cc));
     }
 
-    method_below_has : (method_below v instances n).has ≡ method_part
+    pub method_below_has : (method_below v instances n).has ≡ method_part
     unfolding method_below
     method_below_has = refl
 
@@ -188,7 +189,7 @@ module _ (v : Sizes) (instances : ℕ) where
           (line-keeps given all words.Initializer (method_index_line v) always (traits v instances fs n) (λ e. absurd (omega arith)) (λ labels tokens. refl) (method_index-are v) (agrees_always given all words.Initializer (method_index_line v) (traits v instances fs n) (free words.Initializer (λ e. absurd (omega arith)) (λ row after. refl))))
           (λ e. absurd (omega arith)) (trait_list-lawful n).inside n (trait_list-lawful n)
 
-    instance_below-lawful : Lawful given shows_operands fs n (instance_below v instances n)
+    pub instance_below-lawful : Lawful given shows_operands fs n (instance_below v instances n)
     unfolding instance_below
     instance_below-lawful =
         let iinit = optional fs (line words.Initializer (method_index_line v) always) (traits v instances fs n) in
@@ -262,7 +263,7 @@ module _ (v : Sizes) (instances : ℕ) where
           (rw (x, z, u) refl, extra_of row after words.Instance word (λ e. cc));
     }
 
-    instance_below_has : (instance_below v instances n).has ≡ 15 ∷ 16 ∷ 17 ∷ 18 ∷ 19 ∷ 23 ∷ 25 ∷ skipped
+    pub instance_below_has : (instance_below v instances n).has ≡ 15 ∷ 16 ∷ 17 ∷ 18 ∷ 19 ∷ 23 ∷ 25 ∷ skipped
     unfolding instance_below traits
     instance_below_has = refl
 
@@ -336,6 +337,12 @@ module _ (v : Sizes) (instances : ℕ) where
     body_below_has : (w : ℕ) → Among w (body_below v instances fs n).has → w ≡ 22 → ⊥
     unfolding body_below traits
     body_below_has w h e = apart (22 ∷ []) (body_below v instances fs n).has refl 22 (inl refl) (subst (λ (x : ℕ). Among x (body_below v instances fs n).has) e h)
+
+    -- the lines of bodies stand at these places
+    pub bodies_none : (place : ℕ) → nat_eq 22 place ≡ false → among place (23 ∷ 24 ∷ 18 ∷ 19 ∷ skipped) ≡ false → (bs : List Body) → count_in place (places_shown ((body_lines v instances n).shows bs)) ≡ 0
+    unfolding body_lines
+    bodies_none place here other bs =
+        many_none place (line words.Body (body_line v) (BodyAgrees v instances)) (body_below v instances fs n) (λ h. here) (λ y. body_below_none v instances given all (λ w labels tokens. refl) (λ row after w. refl) extra_none n place other y) (map _ bs)
 
     pub bodies-lawful : Lawful given shows_operands fs n (body_lines v instances n)
     unfolding body_lines

@@ -9,6 +9,10 @@ use Rattle.abc_text.specs.Reasons.{least}
 use Rattle.abc_text.specs.Tokens.{Token}
 use Rattle.abc_text.specs.Words.{place_of}
 use Rattle.abc_text.proofs.Bools.{and_true, split_bool}
+use Rattle.abc_tables.specs.declared.classes.ClassInfo.{ClassInfo}
+use Rattle.abc_tables.specs.declared.classes.Script.{Script}
+use Rattle.abc_tables.specs.declared.code.Body.{Body}
+use Rattle.abc_tables.specs.declared.methods.Method.{Method}
 use Rattle.abc_tables.specs.declared.tables.Sizes.{Sizes}
 use Rattle.abc_tables.specs.Methods.{has_flag}
 use Rattle.abc_rowparts.specs.Lines.{Item, Label, Number, Row}
@@ -21,8 +25,8 @@ use Rattle.abc_rowparts.proofs.Determined.{determined}
 use Rattle.abc_rowparts.proofs.Exact.{both-lawful}
 use Rattle.abc_rowparts.proofs.Many.{eq_true}
 use Rattle.abc_rowparts.proofs.Wordlines.{agrees_always, apart, clear, flat-lawful, line-keeps, reasons_nil, same_word}
-use Rattle.abc_lines.specs.Lineforms.{double_line, instance_line, int_line, name_line, namespace_line, set_line, string_line, uint_line, version_line}
-use Rattle.abc_lines.specs.File.{IsBalanced, own, body_lines, class_counts, classes, count_unless, faults, file, instance_below, instance_counts, instance_lines, instance_part, metadata, method_below, methods, others, pools, rules, scripts, skipped, traits, where_set}
+use Rattle.abc_lines.specs.Lineforms.{InstanceHead, double_line, instance_line, int_line, name_line, namespace_line, set_line, string_line, uint_line, version_line}
+use Rattle.abc_lines.specs.File.{InstanceBelow, IsBalanced, own, body_lines, class_counts, classes, count_unless, faults, file, instance_below, instance_counts, instance_lines, instance_part, metadata, method_below, methods, others, pools, rules, scripts, skipped, traits, where_set}
 use Rattle.abc_lines.proofs.Below.{count_fine}
 use Rattle.abc_lines.proofs.Forms.{double-are, int-are, name-are, namespace-are, set-are, string-are, uint-are, version-are}
 use Rattle.abc_lines.proofs.Tables.{bodies-lawful, classes-lawful, free, instances-lawful, metadata-lawful, methods-lawful, scripts-lawful}
@@ -68,7 +72,7 @@ module _ (v : Sizes) (instances : ℕ) where
           (flat-lawful given (rules v instances) words.UInt uint_line (λ e. absurd (omega arith)) (λ labels tokens. refl) (free v instances words.UInt (λ e. absurd (omega arith)) (λ row after. refl)) uint-are n)
           doubles-lawful (apart (3 ∷ 4 ∷ 5 ∷ 6 ∷ 7 ∷ []) (2 ∷ []) refl)
 
-    pools-lawful : Lawful given shows_operands fs n (pools v instances n)
+    pub pools-lawful : Lawful given shows_operands fs n (pools v instances n)
     unfolding pools
     pools-lawful =
         both-lawful given shows_operands fs n (flat fs words.Int int_line n) (both (flat fs words.UInt uint_line n) (both (flat fs words.Double double_line n) (both (flat fs words.Text string_line n) (both (flat fs words.Namespace (namespace_line v) n) (both (flat fs words.Set (set_line v) n) (flat fs words.Name (name_line v) n))))))
@@ -77,27 +81,27 @@ module _ (v : Sizes) (instances : ℕ) where
 
     -- ---- the places of the tables
 
-    pools_has : (pools v instances n).has ≡ 1 ∷ 2 ∷ 3 ∷ 4 ∷ 5 ∷ 6 ∷ 7 ∷ []
+    pub pools_has : (pools v instances n).has ≡ 1 ∷ 2 ∷ 3 ∷ 4 ∷ 5 ∷ 6 ∷ 7 ∷ []
     unfolding pools
     pools_has = refl
 
-    methods_has : (methods v instances n).has ≡ 8 ∷ 9 ∷ 10 ∷ 11 ∷ skipped
+    pub methods_has : (methods v instances n).has ≡ 8 ∷ 9 ∷ 10 ∷ 11 ∷ skipped
     unfolding methods method_below
     methods_has = refl
 
-    metadata_has : (metadata v instances n).has ≡ 12 ∷ 13 ∷ []
+    pub metadata_has : (metadata v instances n).has ≡ 12 ∷ 13 ∷ []
     unfolding metadata
     metadata_has = refl
 
-    instances_has : (instance_lines v instances n).has ≡ 14 ∷ 15 ∷ 16 ∷ 17 ∷ 18 ∷ 19 ∷ 23 ∷ 25 ∷ skipped
+    pub instances_has : (instance_lines v instances n).has ≡ 14 ∷ 15 ∷ 16 ∷ 17 ∷ 18 ∷ 19 ∷ 23 ∷ 25 ∷ skipped
     unfolding instance_lines instance_below traits
     instances_has = refl
 
-    classes_has : (classes v instances n).has ≡ 20 ∷ 18 ∷ 19 ∷ skipped
+    pub classes_has : (classes v instances n).has ≡ 20 ∷ 18 ∷ 19 ∷ skipped
     unfolding classes traits
     classes_has = refl
 
-    scripts_has : (scripts v instances n).has ≡ 21 ∷ 18 ∷ 19 ∷ skipped
+    pub scripts_has : (scripts v instances n).has ≡ 21 ∷ 18 ∷ 19 ∷ skipped
     unfolding scripts traits
     scripts_has = refl
 
@@ -129,21 +133,51 @@ module _ (v : Sizes) (instances : ℕ) where
     apart_at : (a b s p : List ℕ) → a ≡ s → b ≡ p → ((w : ℕ) → Among w s → Among w p → ⊥) → (w : ℕ) → Among w a → Among w b → ⊥
     apart_at a b s p e f d w x y = d w (subst (λ (l : List ℕ). Among w l) e x) (subst (λ (l : List ℕ). Among w l) f y)
 
-    file-lawful : Lawful given shows_operands fs n (file v instances n)
+    abbrev pub scripts_on : Rows (List Script × List Body)
+    scripts_on = both (scripts v instances n) (body_lines v instances n)
+
+    pub scripts_on-lawful : Lawful given shows_operands fs n scripts_on
+    scripts_on-lawful =
+        both-lawful given shows_operands fs n (scripts v instances n) (body_lines v instances n) (scripts-lawful v instances n) (bodies-lawful v instances n)
+          (apart_at _ _ (22 ∷ []) (21 ∷ 18 ∷ 19 ∷ skipped) bodies_starts scripts_has (apart (22 ∷ []) (21 ∷ 18 ∷ 19 ∷ skipped) refl))
+
+    abbrev pub classes_on : Rows (List ClassInfo × (List Script × List Body))
+    classes_on = both (classes v instances n) scripts_on
+
+    pub classes_on-lawful : Lawful given shows_operands fs n classes_on
+    classes_on-lawful =
+        both-lawful given shows_operands fs n (classes v instances n) scripts_on (classes-lawful v instances n) scripts_on-lawful
+          (apart_at _ _ (21 ∷ 22 ∷ []) (20 ∷ 18 ∷ 19 ∷ skipped) later_starts classes_has (apart (21 ∷ 22 ∷ []) (20 ∷ 18 ∷ 19 ∷ skipped) refl))
+
+    abbrev pub instances_on : Rows (List (InstanceHead × InstanceBelow v instances) × (List ClassInfo × (List Script × List Body)))
+    instances_on = both (instance_lines v instances n) classes_on
+
+    pub instances_on-lawful : Lawful given shows_operands fs n instances_on
+    instances_on-lawful =
+        both-lawful given shows_operands fs n (instance_lines v instances n) classes_on (instances-lawful v instances n) classes_on-lawful
+          (apart_at _ _ (20 ∷ 21 ∷ 22 ∷ []) (14 ∷ 15 ∷ 16 ∷ 17 ∷ 18 ∷ 19 ∷ 23 ∷ 25 ∷ skipped) class_starts instances_has (apart (20 ∷ 21 ∷ 22 ∷ []) (14 ∷ 15 ∷ 16 ∷ 17 ∷ 18 ∷ 19 ∷ 23 ∷ 25 ∷ skipped) refl))
+
+    abbrev pub metadata_on : Rows (List (ℕ × List (ℕ × ℕ)) × (List (InstanceHead × InstanceBelow v instances) × (List ClassInfo × (List Script × List Body))))
+    metadata_on = both (metadata v instances n) instances_on
+
+    pub metadata_on-lawful : Lawful given shows_operands fs n metadata_on
+    metadata_on-lawful =
+        both-lawful given shows_operands fs n (metadata v instances n) instances_on (metadata-lawful v instances n) instances_on-lawful
+          (apart_at _ _ (14 ∷ 20 ∷ 21 ∷ 22 ∷ []) (12 ∷ 13 ∷ []) instance_starts metadata_has (apart (14 ∷ 20 ∷ 21 ∷ 22 ∷ []) (12 ∷ 13 ∷ []) refl))
+
+    abbrev pub methods_on : Rows (List Method × (List (ℕ × List (ℕ × ℕ)) × (List (InstanceHead × InstanceBelow v instances) × (List ClassInfo × (List Script × List Body)))))
+    methods_on = both (methods v instances n) metadata_on
+
+    pub methods_on-lawful : Lawful given shows_operands fs n methods_on
+    methods_on-lawful =
+        both-lawful given shows_operands fs n (methods v instances n) metadata_on (methods-lawful v instances n) metadata_on-lawful
+          (apart_at _ _ (12 ∷ 14 ∷ 20 ∷ 21 ∷ 22 ∷ []) (8 ∷ 9 ∷ 10 ∷ 11 ∷ skipped) metadata_starts methods_has (apart (12 ∷ 14 ∷ 20 ∷ 21 ∷ 22 ∷ []) (8 ∷ 9 ∷ 10 ∷ 11 ∷ skipped) refl))
+
+    pub file-lawful : Lawful given shows_operands fs n (file v instances n)
     unfolding file
     file-lawful =
-        both-lawful given shows_operands fs n (pools v instances n) (both (methods v instances n) (both (metadata v instances n) (both (instance_lines v instances n) (both (classes v instances n) (both (scripts v instances n) (body_lines v instances n)))))) pools-lawful
-        (both-lawful given shows_operands fs n (methods v instances n) (both (metadata v instances n) (both (instance_lines v instances n) (both (classes v instances n) (both (scripts v instances n) (body_lines v instances n))))) (methods-lawful v instances n)
-        (both-lawful given shows_operands fs n (metadata v instances n) (both (instance_lines v instances n) (both (classes v instances n) (both (scripts v instances n) (body_lines v instances n)))) (metadata-lawful v instances n)
-        (both-lawful given shows_operands fs n (instance_lines v instances n) (both (classes v instances n) (both (scripts v instances n) (body_lines v instances n))) (instances-lawful v instances n)
-        (both-lawful given shows_operands fs n (classes v instances n) (both (scripts v instances n) (body_lines v instances n)) (classes-lawful v instances n)
-        (both-lawful given shows_operands fs n (scripts v instances n) (body_lines v instances n) (scripts-lawful v instances n) (bodies-lawful v instances n)
-        (apart_at _ _ (22 ∷ []) (21 ∷ 18 ∷ 19 ∷ skipped) bodies_starts scripts_has (apart (22 ∷ []) (21 ∷ 18 ∷ 19 ∷ skipped) refl)))
-        (apart_at _ _ (21 ∷ 22 ∷ []) (20 ∷ 18 ∷ 19 ∷ skipped) later_starts classes_has (apart (21 ∷ 22 ∷ []) (20 ∷ 18 ∷ 19 ∷ skipped) refl)))
-        (apart_at _ _ (20 ∷ 21 ∷ 22 ∷ []) (14 ∷ 15 ∷ 16 ∷ 17 ∷ 18 ∷ 19 ∷ 23 ∷ 25 ∷ skipped) class_starts instances_has (apart (20 ∷ 21 ∷ 22 ∷ []) (14 ∷ 15 ∷ 16 ∷ 17 ∷ 18 ∷ 19 ∷ 23 ∷ 25 ∷ skipped) refl)))
-        (apart_at _ _ (14 ∷ 20 ∷ 21 ∷ 22 ∷ []) (12 ∷ 13 ∷ []) instance_starts metadata_has (apart (14 ∷ 20 ∷ 21 ∷ 22 ∷ []) (12 ∷ 13 ∷ []) refl)))
-        (apart_at _ _ (12 ∷ 14 ∷ 20 ∷ 21 ∷ 22 ∷ []) (8 ∷ 9 ∷ 10 ∷ 11 ∷ skipped) metadata_starts methods_has (apart (12 ∷ 14 ∷ 20 ∷ 21 ∷ 22 ∷ []) (8 ∷ 9 ∷ 10 ∷ 11 ∷ skipped) refl)))
-        (apart_at _ _ (8 ∷ 12 ∷ 14 ∷ 20 ∷ 21 ∷ 22 ∷ []) (1 ∷ 2 ∷ 3 ∷ 4 ∷ 5 ∷ 6 ∷ 7 ∷ []) method_starts pools_has (apart (8 ∷ 12 ∷ 14 ∷ 20 ∷ 21 ∷ 22 ∷ []) (1 ∷ 2 ∷ 3 ∷ 4 ∷ 5 ∷ 6 ∷ 7 ∷ []) refl))
+        both-lawful given shows_operands fs n (pools v instances n) methods_on pools-lawful methods_on-lawful
+          (apart_at _ _ (8 ∷ 12 ∷ 14 ∷ 20 ∷ 21 ∷ 22 ∷ []) (1 ∷ 2 ∷ 3 ∷ 4 ∷ 5 ∷ 6 ∷ 7 ∷ []) method_starts pools_has (apart (8 ∷ 12 ∷ 14 ∷ 20 ∷ 21 ∷ 22 ∷ []) (1 ∷ 2 ∷ 3 ∷ 4 ∷ 5 ∷ 6 ∷ 7 ∷ []) refl))
 
   -- ---- the first line
 
@@ -172,7 +206,7 @@ module _ (v : Sizes) (instances : ℕ) where
       let own = reasons_nil version_line row.labels row.operands (ap (λ (w : Word). own v instances w row.labels row.operands) (sym word) ∙ c.own) in
       (version-are.found row.labels row.operands own.0 own.1).1
 
-  version_found : (row : Row) (after : List Row) → place_of row.word ≡ 0 → least (fs row after) ≡ None → IsLine shows_operands row words.Abc (Number 16 ∷ Number 46 ∷ [])
+  pub version_found : (row : Row) (after : List Row) → place_of row.word ≡ 0 → least (fs row after) ≡ None → IsLine shows_operands row words.Abc (Number 16 ∷ Number 46 ∷ [])
   version_found row after here e =
       let word = same_word row.word words.Abc (λ e. absurd (omega arith)) here in
       let plain : is_label row.word ≡ false = ap is_label word in
@@ -183,7 +217,7 @@ module _ (v : Sizes) (instances : ℕ) where
           items_are x ∙ ap (λ (m : ℕ). Number m ∷ Number x.1.0 ∷ []) (exact 16 x.0 fit.0) ∙ ap (λ (m : ℕ). Number 16 ∷ Number m ∷ []) (exact 46 x.1.0 fit.1.0) in
       subst (λ (l : List Item). IsLine shows_operands row words.Abc l) all is
 
-  version_clean : (row : Row) (after : List Row) → IsLine shows_operands row words.Abc (Number 16 ∷ Number 46 ∷ []) → least (fs row after) ≡ None
+  pub version_clean : (row : Row) (after : List Row) → IsLine shows_operands row words.Abc (Number 16 ∷ Number 46 ∷ []) → least (fs row after) ≡ None
   version_clean row after is =
       let x : ℕ × (ℕ × Unit {0}) = (16, (46, tt)) in
       (version_keeps.again row [] after x tt ((fits_16, (fits_46, tt)), tt) (subst (λ (l : List Item). IsLine shows_operands row words.Abc l) (sym (items_are x)) is) refl tt (λ w h k. k)).0
@@ -228,7 +262,7 @@ module _ (v : Sizes) (instances : ℕ) where
         ]
       ]
 
-  balanced : (rows : List Row) → count_all 20 rows ≡ v.classes → count_all 14 rows ≡ instances → Clean fs rows [] → given
+  pub balanced : (rows : List Row) → count_all 20 rows ≡ v.classes → count_all 14 rows ≡ instances → Clean fs rows [] → given
   balanced rows classes_are instances_are clean =
       let low : instances ≤ v.classes = elim (last_says 14 v.classes instances instance_enough rows clean) [ inl e ↦ omega (arith, e, instances_are) | inr le ↦ le ] in
       let high : v.classes ≤ instances = elim (last_says 20 instances v.classes class_enough rows clean) [ inl e ↦ omega (arith, e, classes_are) | inr le ↦ le ] in

@@ -44,6 +44,15 @@ many_count head below at inside free (x ∷ xs) =
         ap (count_in head.place) (shown-append (below.shows x.1) (items_shown head below xs)) ∙ count_in-append head.place (places_shown (below.shows x.1)) (places_shown (items_shown head below xs)) ∙ omega (arith, none, more) in
     rw yes (omega (arith, all))
 
+-- heads and lines below them, of which none stands at a place
+pub many_none : {H B : Type 0} (place : ℕ) (head : Head H B) (below : Rows B) → ((h : H) → nat_eq (place_of (head.word h)) place ≡ false) → ((x : B) → count_in place (places_shown (below.shows x)) ≡ 0) → (xs : List (H × B)) → count_in place (places_shown (items_shown head below xs)) ≡ 0
+many_none place head below other none [] = refl
+many_none place head below other none (x ∷ xs) =
+    let here = other x.0 in
+    let all : count_in place (places_shown (below.shows x.1 ++ items_shown head below xs)) ≡ 0 =
+        ap (count_in place) (shown-append (below.shows x.1) (items_shown head below xs)) ∙ count_in-append place (places_shown (below.shows x.1)) (places_shown (items_shown head below xs)) ∙ omega (arith, none x.1, many_none place head below other none xs) in
+    rw here all
+
 -- ---- rows
 
 count_free : (part : List ℕ) (place : ℕ) (rest : List Row) → Among place part → ((w : ℕ) → Next rest w → Among w part → ⊥) → count_lines part place rest ≡ 0
