@@ -1,12 +1,9 @@
 -- A text is one of exactly one file, or has exactly one fault.
-use Rattle.std.proofs.Common.{◌≡◌, ℕ, suc, ◌+◌, ◌<◌, ◌≤◌, ◌^◌, ◌⊎◌, inl, inr, Bool, true, false, List, [], ◌∷◌, length, map, Some, None, refl, sym, ap, subst, ◌∙◌, arith}
+use Rattle.std.proofs.Common.{◌≡◌, ℕ, suc, ◌<◌, ◌^◌, ◌⊎◌, inl, inr, Bool, true, false, List, [], ◌∷◌, length, map, Some, None, refl, sym, ap, subst, ◌∙◌, arith}
 use Rattle.std.proofs.lemmas.Bool.{cases_lt}
 use Rattle.std.specs.Option.{IsSome, option_to_list}
 use Rattle.std.specs.declared.option.Option.{Option}
-use Rattle.abc_text.specs.declared.reason.AsmReason.{AsmReason}
 use Rattle.abc_text.specs.declared.reason.AsmReason.TheVariants as reasons
-use Rattle.abc_tables.specs.declared.classes.Instance.{Instance}
-use Rattle.abc_tables.specs.declared.methods.Metadata.{Metadata}
 use Rattle.abc_tables.specs.declared.tables.Abc.{Abc}
 use Rattle.abc_tables.specs.declared.tables.Sizes.{Sizes}
 use Rattle.abc_tables.specs.declared.traits.TraitInfo.{TraitInfo}
@@ -15,10 +12,10 @@ use Rattle.abc_tables.specs.Files.{file_bytes}
 use Rattle.abc_tables.specs.Methods.{has_flag}
 use Rattle.abc_rowparts.specs.Assembly as rows
 use Rattle.abc_rowparts.specs.Law.{Match}
-use Rattle.abc_rowparts.specs.Lines.{Row, Shown}
-use Rattle.abc_rowparts.specs.Rows.{Fault, Rows, ItemsFit, fault}
+use Rattle.abc_rowparts.specs.Lines.{Row}
+use Rattle.abc_rowparts.specs.Rows.{Fault, Rows, fault}
 use Rattle.abc_rowparts.specs.Wordlines.{count_all, shows_operands}
-use Rattle.abc_lines.specs.Answers.{HasOneAnswer, IsAssemblyFault, IsAssemblyOf, IsListed, IsTooLong, IsWhole, abc_of, first_in, initializer_in, instance_in, instance_of, joined, lines_of, metadata_lines, metadata_of, outline, outline_of, pairs, table}
+use Rattle.abc_lines.specs.Answers.{HasOneAnswer, IsAssemblyFault, IsAssemblyOf, IsListed, abc_of, first_in, initializer_in, instance_in, instance_of, joined, metadata_lines, metadata_of, outline_of, pairs}
 use Rattle.abc_lines.specs.File.{InstanceAgrees, InstanceBelow, Outline, body_below, body_lines, classes, faults, file, instance_below, instance_lines, metadata, method_below, methods, pools, scripts, traits, where_set}
 use Rattle.abc_lines.specs.Lineforms.{InstanceHead}
 use Rattle.abc_lines.specs.Texts.{instances_in, rows_of, sizes_in}
@@ -109,7 +106,7 @@ listed_by_rows : (rs : List Row) (v : Abc) → IsListedBy (sizes_of v) (length v
 listed_by_rows rs v l =
     let same = sizes_same (sizes_of v) (length v.instances) 0 rs v l.shown in
     let here : IsListedBy (sizes_in rs) (instances_in rs) 0 rs v =
-        subst (λ (k : ℕ). IsListedBy (sizes_in rs) k 0 rs v) same.1 (subst (λ (z : Sizes). IsListedBy z (length v.instances) 0 rs v) same.0 l) in
+    subst (λ (k : ℕ). IsListedBy (sizes_in rs) k 0 rs v) same.1 (subst (λ (z : Sizes). IsListedBy z (length v.instances) 0 rs v) same.0 l) in
     record {
       shown = shown_any (sizes_in rs) (instances_in rs) 0 (length rs) (outline_of (sizes_in rs) (instances_in rs) v) rs here.shown;
       fits = fits_any (sizes_in rs) (instances_in rs) 0 (length rs) (outline_of (sizes_in rs) (instances_in rs) v) here.fits;

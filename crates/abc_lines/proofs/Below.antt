@@ -1,7 +1,5 @@
 -- The laws of traits, and of what stands below a body, for the plain rules and for all.
-use Rattle.std.proofs.Common.{◌≡◌, ℕ, suc, ◌+◌, ◌<◌, ◌≤◌, ◌⊎◌, inl, inr, Bool, true, false, cond, ◌||◌, nat_eq, nat_le, List, [], ◌∷◌, ◌++◌, length, map, Ok, Err, Some, None, refl, sym, ap, subst, ◌∙◌, arith}
-use Rattle.abc_text.specs.declared.reason.AsmReason.{AsmReason}
-use Rattle.abc_text.specs.declared.reason.AsmReason.TheVariants as reasons
+use Rattle.std.proofs.Common.{◌≡◌, ℕ, ◌+◌, inl, inr, Bool, true, false, cond, ◌||◌, nat_eq, List, [], ◌∷◌, ◌++◌, length, map, refl, sym, ap, subst, ◌∙◌, arith}
 use Rattle.abc_text.specs.declared.word.Word.{Word}
 use Rattle.abc_text.specs.declared.word.Word.TheVariants as words
 use Rattle.abc_text.specs.Tokens.{Token}
@@ -14,17 +12,17 @@ use Rattle.abc_tables.specs.declared.tables.Sizes.{Sizes}
 use Rattle.abc_tables.specs.declared.traits.TraitInfo.{TraitInfo}
 use Rattle.abc_tables.specs.Methods.{has_flag}
 use Rattle.abc_rowparts.specs.Lines.{Label, Row, Shown, places_shown}
-use Rattle.abc_rowparts.specs.Operands.{AreOperands, Operands, reasons_of}
-use Rattle.abc_rowparts.specs.Rows.{Faults, Rows, both, code, items_shown, image, many, nothing}
-use Rattle.abc_rowparts.specs.Law.{Among, IsFree, Lawful, Match, Next}
+use Rattle.abc_rowparts.specs.Operands.{Operands}
+use Rattle.abc_rowparts.specs.Rows.{Faults, Rows, both, code, items_shown, many, nothing}
+use Rattle.abc_rowparts.specs.Law.{Among, IsFree, Lawful, Match}
 use Rattle.abc_rowparts.specs.Wordlines.{Rules, always, among, closed_to, count_in, count_lines, faults_of, flat, line, shows_operands}
 use Rattle.abc_rowparts.proofs.Counts.{count_in-append, count_in-none, counted, flat_count}
 use Rattle.abc_rowparts.proofs.Exact.{both-lawful}
 use Rattle.abc_rowparts.proofs.Many.{image-lawful, many-lawful, map_back}
 use Rattle.abc_rowparts.proofs.Pieces.{shown-append}
-use Rattle.abc_rowparts.proofs.Wordlines.{Agrees, IsClear, among_yes, apart, closed-lawful, code_is-lawful, flat-lawful, line-keeps, yes_among}
-use Rattle.abc_lines.specs.Lineforms.{TraitHead, catch_line, instruction_line, opcode_of, trait_line, trait_metadata_line}
-use Rattle.abc_lines.specs.File.{MetadataAgrees, body_below, body_part, count_unless, extra, instructions, others, own, plain_rules, rules, skipped, trait_counts, trait_part, traits}
+use Rattle.abc_rowparts.proofs.Wordlines.{Agrees, among_yes, apart, closed-lawful, code_is-lawful, flat-lawful, line-keeps, yes_among}
+use Rattle.abc_lines.specs.Lineforms.{catch_line, instruction_line, opcode_of, trait_line, trait_metadata_line}
+use Rattle.abc_lines.specs.File.{MetadataAgrees, body_below, body_part, count_unless, instructions, others, own, skipped, trait_counts, trait_part, traits}
 use Rattle.abc_lines.proofs.Forms.{catch-are, instruction-are, opcode_is, trait-are, trait_metadata-are}
 
 -- ---- counts
@@ -59,8 +57,8 @@ within_is (x ∷ a) b e w h =
 pub counted_below : {A : Type 0} (part : List ℕ) (place : ℕ) (p : Rows A) → among 23 part ≡ true → nat_eq 23 place ≡ false → among place part ≡ true → within p.has part ≡ true → within part p.has ≡ true → ((x : A) (before : List ℕ) (w : ℕ) (more : List ℕ) → places_shown (p.shows x) ≡ before ++ w ∷ more → Among w p.has) → (x : A) (front rest : List Row) → Match shows_operands front (p.shows x) → IsFree p rest → count_lines part place (front ++ rest) ≡ count_in place (places_shown (p.shows x))
 counted_below part place p labels_in no_labels there inner outer inside x front rest match free =
     counted part place labels_in no_labels shows_operands p x front rest (yes_among place part there)
-      (λ before w more e. within_is p.has part inner w (inside x before w more e)) match
-      (λ w h k. free w h (yes_among w p.has (within_is part p.has outer w k)))
+    (λ before w more e. within_is p.has part inner w (inside x before w more e)) match
+    (λ w h k. free w h (yes_among w p.has (within_is part p.has outer w k)))
 
 -- nothing is asked of the lines that follow an instruction or a label line
 code_others : (v : Sizes) (instances : ℕ) (w : Word) → place_of w ≡ 23 → (row : Row) (after : List Row) → others v instances row after w ≡ []
@@ -110,10 +108,10 @@ module _ (v : Sizes) (instances : ℕ) (given : Type 0) (r : Rules)
   unfolding traits
   traits-lawful =
       image-lawful given shows_operands fs n _ _ (many fs (line words.Trait (trait_line v) (MetadataAgrees v instances)) (closed_to skipped (flat fs words.TraitMetadata (trait_metadata_line v) n)) n)
-        (map_back _ _ (λ x. refl)) (map_back _ _ (λ t. refl))
-        (many-lawful given shows_operands fs (line words.Trait (trait_line v) (MetadataAgrees v instances)) (closed_to skipped (flat fs words.TraitMetadata (trait_metadata_line v) n))
-          (line-keeps given r words.Trait (trait_line v) (MetadataAgrees v instances) (closed_to skipped (flat fs words.TraitMetadata (trait_metadata_line v) n)) (λ e. absurd (omega arith)) (own_is words.Trait) (trait-are v) trait_agrees)
-          (λ e. absurd (omega arith)) (λ a. apart (18 ∷ []) trait_part refl 18 (inl refl) a) metadata_part-lawful.inside n metadata_part-lawful)
+      (map_back _ _ (λ x. refl)) (map_back _ _ (λ t. refl))
+      (many-lawful given shows_operands fs (line words.Trait (trait_line v) (MetadataAgrees v instances)) (closed_to skipped (flat fs words.TraitMetadata (trait_metadata_line v) n))
+      (line-keeps given r words.Trait (trait_line v) (MetadataAgrees v instances) (closed_to skipped (flat fs words.TraitMetadata (trait_metadata_line v) n)) (λ e. absurd (omega arith)) (own_is words.Trait) (trait-are v) trait_agrees)
+      (λ e. absurd (omega arith)) (λ a. apart (18 ∷ []) trait_part refl 18 (inl refl) a) metadata_part-lawful.inside n metadata_part-lawful)
 
   pub traits_starts : (traits v instances fs n).starts ≡ 18 ∷ []
   unfolding traits
@@ -126,8 +124,8 @@ module _ (v : Sizes) (instances : ℕ) (given : Type 0) (r : Rules)
   code-lawful : Lawful given shows_operands fs n (code fs (instructions v instances) 0)
   code-lawful =
       code_is-lawful given r opcode_of instruction_line (instrs.Plain 0) (λ op. own_is (words.Instruction op)) (own_is words.Label)
-        (λ row after here. (others_are row after row.word ∙ code_others v instances row.word here row after, extra_none row after (λ e. absurd (let at : 23 ≡ 22 = sym here ∙ ap place_of e in omega arith))))
-        instruction-are opcode_is n
+      (λ row after here. (others_are row after row.word ∙ code_others v instances row.word here row after, extra_none row after (λ e. absurd (let at : 23 ≡ 22 = sym here ∙ ap place_of e in omega arith))))
+      instruction-are opcode_is n
 
   abbrev pub open_below : Rows (List Instr × (List Handler × List TraitInfo))
   open_below = both (code fs (instructions v instances) 0) (both (flat fs words.Catch (catch_line v) n) (traits v instances fs n))
@@ -135,11 +133,11 @@ module _ (v : Sizes) (instances : ℕ) (given : Type 0) (r : Rules)
   pub open_below-lawful : Lawful given shows_operands fs n open_below
   open_below-lawful =
       both-lawful given shows_operands fs n (code fs (instructions v instances) 0) (both (flat fs words.Catch (catch_line v) n) (traits v instances fs n)) code-lawful
-        (both-lawful given shows_operands fs n (flat fs words.Catch (catch_line v) n) (traits v instances fs n)
-          (flat-lawful given r words.Catch (catch_line v) (λ e. absurd (omega arith)) (own_is words.Catch) (free_word words.Catch (λ e. absurd (omega arith)) (λ row after. refl)) (catch-are v) n)
-          traits-lawful
-          (λ w a b. apart (18 ∷ []) (24 ∷ []) refl w (subst (λ (l : List ℕ). Among w l) traits_starts a) b))
-        (λ w a b. apart (24 ∷ 18 ∷ []) (23 ∷ []) refl w (subst (λ (l : List ℕ). Among w (24 ∷ l)) traits_starts a) b)
+      (both-lawful given shows_operands fs n (flat fs words.Catch (catch_line v) n) (traits v instances fs n)
+      (flat-lawful given r words.Catch (catch_line v) (λ e. absurd (omega arith)) (own_is words.Catch) (free_word words.Catch (λ e. absurd (omega arith)) (λ row after. refl)) (catch-are v) n)
+      traits-lawful
+      (λ w a b. apart (18 ∷ []) (24 ∷ []) refl w (subst (λ (l : List ℕ). Among w l) traits_starts a) b))
+      (λ w a b. apart (24 ∷ 18 ∷ []) (23 ∷ []) refl w (subst (λ (l : List ℕ). Among w (24 ∷ l)) traits_starts a) b)
 
   pub open_has : open_below.has ≡ 23 ∷ 24 ∷ 18 ∷ 19 ∷ skipped
   unfolding traits
@@ -154,4 +152,4 @@ module _ (v : Sizes) (instances : ℕ) (given : Type 0) (r : Rules)
   unfolding body_below
   body_below_none place other y =
       count_in-none place (places_shown (open_below.shows y)) open_below.has (open_below-lawful.inside y)
-        (λ h. let yes : among place (23 ∷ 24 ∷ 18 ∷ 19 ∷ skipped) ≡ true = among_yes place (23 ∷ 24 ∷ 18 ∷ 19 ∷ skipped) (subst (λ (l : List ℕ). Among place l) open_has h) in cc)
+      (λ h. let yes : among place (23 ∷ 24 ∷ 18 ∷ 19 ∷ skipped) ≡ true = among_yes place (23 ∷ 24 ∷ 18 ∷ 19 ∷ skipped) (subst (λ (l : List ℕ). Among place l) open_has h) in cc)

@@ -1,20 +1,17 @@
 -- The laws of the operands of each line.
-use Rattle.std.proofs.Common.{◌≡◌, ℕ, zero, suc, ℤ, pos, negsuc, ◌^◌, Bool, true, false, cond, nat_eq, nat_le, nat_lt, List, [], ◌∷◌, Some, None, refl, sym, ap, subst, ◌∙◌, ◌⊎◌, inl, inr}
-use Rattle.std.specs.List.{AllByRecursion}
+use Rattle.std.proofs.Common.{◌≡◌, ℕ, zero, suc, ℤ, pos, negsuc, ◌^◌, true, false, cond, nat_eq, List, ◌∷◌, Some, None, refl, sym, ap, ◌∙◌, ◌⊎◌, inl, inr}
 use Rattle.std.specs.declared.option.Option.{Option}
 use Rattle.abc_text.specs.declared.reason.AsmReason.TheVariants as reasons
 use Rattle.abc_text.proofs.Bools.{if_is}
 use Rattle.abc_text.proofs.Scans.{eq_is}
 use Rattle.abc_tables.specs.declared.names.NsKind.{NsKind}
 use Rattle.abc_tables.specs.declared.names.NsKind.TheVariants as spaces
-use Rattle.abc_tables.specs.declared.names.Namespace.{Namespace}
 use Rattle.abc_tables.specs.declared.names.MultinameKind.{MultinameKind}
 use Rattle.abc_tables.specs.declared.names.MultinameKind.TheVariants as kinds
 use Rattle.abc_tables.specs.declared.names.Multiname.{Multiname}
 use Rattle.abc_tables.specs.declared.names.Multiname.TheVariants as names
 use Rattle.abc_tables.specs.declared.methods.ValueKind.{ValueKind}
 use Rattle.abc_tables.specs.declared.methods.ValueKind.TheVariants as values
-use Rattle.abc_tables.specs.declared.methods.OptionValue.{OptionValue}
 use Rattle.abc_tables.specs.declared.traits.TraitKind.{TraitKind}
 use Rattle.abc_tables.specs.declared.traits.TraitKind.TheVariants as traits
 use Rattle.abc_tables.specs.declared.traits.TraitBody.{TraitBody}
@@ -24,15 +21,14 @@ use Rattle.abc_tables.specs.declared.code.Instr.{Instr}
 use Rattle.abc_tables.specs.declared.code.Instr.TheVariants as instrs
 use Rattle.abc_tables.specs.declared.opcodes.Form.{Form}
 use Rattle.abc_tables.specs.declared.opcodes.Form.TheVariants as forms
-use Rattle.abc_tables.specs.Opcodes.{branches, form_at, form_of, pool_of, info_at, is_in, name_in, named, one_operand, two_operands, form_in}
-use Rattle.abc_tables.specs.Methods.{has_value}
+use Rattle.abc_tables.specs.Opcodes.{branches, form_at, form_of, info_at, is_in, name_in, named, one_operand, two_operands}
 use Rattle.abc_tables.specs.Traits.{trait_kind_in}
-use Rattle.abc_rowparts.specs.Operands.{AreOperands, IsOperand, Operand, Operands, any_number, by, checked, eight, entry_upto, exactly, index_below, index_upto, none, number_below, seen, several, signed_between, target, text, u30, ◌&◌}
+use Rattle.abc_rowparts.specs.Operands.{AreOperands, IsOperand, Operand, any_number, by, eight, entry_upto, exactly, index_below, index_upto, none, number_below, several, signed_between, target, text, u30, ◌&◌}
 use Rattle.abc_rowparts.proofs.Operanding.{any_number-is, any_signed-is, by-are, checked-is, eight-is, kind-is, none-are, number_below-is, seen-are, several-are, target-is, text-is, then-are}
 use Rattle.abc_rowparts.proofs.Wordlines.{lookup_there}
 use Rattle.abc_rowparts.specs.Wordlines.{lookup}
 use Rattle.abc_lines.specs.Kinds.{multiname_kind, multiname_word, multiname_words, space_kind, space_word, space_words, trait_kind, trait_word, trait_words, value_kind, value_word, value_words}
-use Rattle.abc_lines.specs.Lineforms.{BodyHead, debug_in, first_of, kind_or, one_of, pair_in, second_of, signed_in, slot_in, switch_in, two_of, type_of, InstanceHead, MethodHead, TraitHead, alone, body_line, by_form, catch_line, double_line, entry_line, implements_line, instance_line, instruction_fields, instruction_line, int_line, kind_in, method_index_line, method_line, multiname_fields, multiname_rest, name_line, namespace_line, no_instruction, number_line, opcode_of, option_line, option_rest, pair_fields, param_line, protected_line, set_line, slot_fields, slot_kind, slot_rest, slot_value, slot_value_in, slot_value_of, string_index_line, string_line, trait_fields, trait_line, trait_metadata_line, trait_rest, uint_line, value_index, version_line}
+use Rattle.abc_lines.specs.Lineforms.{debug_in, first_of, kind_or, one_of, pair_in, second_of, signed_in, slot_in, switch_in, two_of, type_of, TraitHead, alone, body_line, by_form, catch_line, double_line, entry_line, implements_line, instance_line, instruction_fields, instruction_line, int_line, kind_in, method_index_line, method_line, multiname_fields, multiname_rest, name_line, namespace_line, number_line, opcode_of, option_line, option_rest, pair_fields, param_line, protected_line, set_line, slot_fields, slot_kind, slot_rest, slot_value, slot_value_in, slot_value_of, string_index_line, string_line, trait_fields, trait_line, trait_metadata_line, trait_rest, uint_line, value_index, version_line}
 
 -- ---- operands
 
@@ -176,8 +172,8 @@ module _ (v : Sizes) where
   unfolding name_line
   name-are =
       seen-are (λ (x : MultinameKind × Multiname). x.1) (λ (m : Multiname). (kind_in m, m)) (by multiname_kind (multiname_rest v))
-        (λ x fit. ap (λ (k : MultinameKind). (k, x.1)) (multiname_of_kind x.0 x.1 fit.1))
-        (by-are multiname_kind (multiname_rest v) multiname-is multiname_fields-are)
+      (λ x fit. ap (λ (k : MultinameKind). (k, x.1)) (multiname_of_kind x.0 x.1 fit.1))
+      (by-are multiname_kind (multiname_rest v) multiname-is multiname_fields-are)
 
   pub method-are : AreOperands (method_line v)
   unfolding method_line
@@ -266,8 +262,8 @@ module _ (v : Sizes) where
   unfolding trait_line
   trait-are =
       seen-are (λ (x : TraitKind × TraitHead). x.1) (λ (t : TraitHead). (trait_kind_in t.body, t)) (by trait_kind (trait_rest v))
-        (λ x fit. ap (λ (k : TraitKind). (k, x.1)) (trait_of_kind x.0 x.1.body fit.1.0.1.1))
-        (by-are trait_kind (trait_rest v) trait-is trait_rest-are)
+      (λ x fit. ap (λ (k : TraitKind). (k, x.1)) (trait_of_kind x.0 x.1.body fit.1.0.1.1))
+      (by-are trait_kind (trait_rest v) trait-is trait_rest-are)
 
   pub trait_metadata-are : AreOperands (trait_metadata_line v)
   unfolding trait_metadata_line
@@ -279,17 +275,17 @@ module _ (v : Sizes) where
   unfolding body_line
   body-are =
       seen-are _ _ (index_below v.methods & (u30 & (u30 & (u30 & (u30 & none))))) (λ x fit. refl)
-        (then-are (index_below v.methods) (u30 & (u30 & (u30 & (u30 & none)))) (index_below-is v.methods)
-        (then-are u30 (u30 & (u30 & (u30 & none))) u30-is (then-are u30 (u30 & (u30 & none)) u30-is (then-are u30 (u30 & none) u30-is (then-are u30 none u30-is none-are)))))
+      (then-are (index_below v.methods) (u30 & (u30 & (u30 & (u30 & none)))) (index_below-is v.methods)
+      (then-are u30 (u30 & (u30 & (u30 & none))) u30-is (then-are u30 (u30 & (u30 & none)) u30-is (then-are u30 (u30 & none) u30-is (then-are u30 none u30-is none-are)))))
 
   pub catch-are : AreOperands (catch_line v)
   unfolding catch_line
   catch-are =
       seen-are _ _ (target & (target & (target & (index_upto v.names & (index_upto v.names & none))))) (λ x fit. refl)
-        (then-are target (target & (target & (index_upto v.names & (index_upto v.names & none)))) target-is
-        (then-are target (target & (index_upto v.names & (index_upto v.names & none))) target-is
-        (then-are target (index_upto v.names & (index_upto v.names & none)) target-is
-        (then-are (index_upto v.names) (index_upto v.names & none) (index_upto-is v.names) (then-are (index_upto v.names) none (index_upto-is v.names) none-are)))))
+      (then-are target (target & (target & (index_upto v.names & (index_upto v.names & none)))) target-is
+      (then-are target (target & (index_upto v.names & (index_upto v.names & none))) target-is
+      (then-are target (index_upto v.names & (index_upto v.names & none)) target-is
+      (then-are (index_upto v.names) (index_upto v.names & none) (index_upto-is v.names) (then-are (index_upto v.names) none (index_upto-is v.names) none-are)))))
 
 -- ---- instructions
 
@@ -304,7 +300,7 @@ instruction_fields-are op forms.Short = seen-are (λ x. instrs.Short x.0) (λ i.
 instruction_fields-are op forms.ScopeObject = seen-are (λ x. instrs.ScopeObject x.0) (λ i. (first_of i, tt)) (number_below 256 & none) (λ x fit. refl) (then-are (number_below 256) none (number_below-is 256) none-are)
 instruction_fields-are op forms.Debug =
     seen-are (λ x. instrs.Debug x.0 x.1.0 x.1.1.0 x.1.1.1.0) debug_in (number_below 256 & (u30 & (number_below 256 & (u30 & none)))) (λ x fit. refl)
-      (then-are (number_below 256) (u30 & (number_below 256 & (u30 & none))) (number_below-is 256) (then-are u30 (number_below 256 & (u30 & none)) u30-is (then-are (number_below 256) (u30 & none) (number_below-is 256) (then-are u30 none u30-is none-are))))
+    (then-are (number_below 256) (u30 & (number_below 256 & (u30 & none))) (number_below-is 256) (then-are u30 (number_below 256 & (u30 & none)) u30-is (then-are (number_below 256) (u30 & none) (number_below-is 256) (then-are u30 none u30-is none-are))))
 
 by_form-are : (op : ℕ) (form : Option Form) → AreOperands (by_form op form)
 by_form-are op (Some form) = instruction_fields-are op form

@@ -1,28 +1,24 @@
 -- The sizes of a text's tables are those of its file.
-use Rattle.std.proofs.Common.{◌≡◌, ℕ, suc, ◌+◌, ◌⊎◌, inl, inr, Bool, true, false, nat_eq, List, [], ◌∷◌, ◌++◌, length, map, refl, sym, ap, subst, ◌∙◌, arith}
+use Rattle.std.proofs.Common.{◌≡◌, ℕ, suc, ◌+◌, inl, true, false, nat_eq, List, [], ◌∷◌, ◌++◌, length, map, refl, ap, subst, ◌∙◌, arith}
 use Rattle.abc_text.specs.declared.word.Word.TheVariants as words
-use Rattle.abc_text.specs.Words.{place_of}
 use Rattle.abc_tables.specs.declared.classes.ClassInfo.{ClassInfo}
 use Rattle.abc_tables.specs.declared.classes.Script.{Script}
 use Rattle.abc_tables.specs.declared.code.Body.{Body}
 use Rattle.abc_tables.specs.declared.methods.Method.{Method}
-use Rattle.abc_tables.specs.declared.tables.Abc.{Abc}
-use Rattle.abc_tables.specs.declared.traits.TraitInfo.{TraitInfo}
-use Rattle.abc_tables.specs.declared.methods.OptionValue.{OptionValue}
 use Rattle.abc_tables.specs.declared.tables.Sizes.{Sizes}
 use Rattle.abc_rowparts.specs.Assembly as rows
-use Rattle.abc_rowparts.specs.Lines.{Row, Shown, places_shown}
-use Rattle.abc_rowparts.specs.Rows.{Faults, Rows, items_shown}
+use Rattle.abc_rowparts.specs.Lines.{Row, places_shown}
+use Rattle.abc_rowparts.specs.Rows.{Faults, Rows}
 use Rattle.abc_rowparts.specs.Law.{Among, Lawful, Match}
 use Rattle.abc_rowparts.specs.Wordlines.{always, among, count_all, count_in, flat, line, shows_operands}
 use Rattle.abc_rowparts.proofs.Counts.{count_all-match, count_in-none, flat_count, many_count}
 use Rattle.abc_rowparts.proofs.Wordlines.{among_yes, apart, flat-lawful}
 use Rattle.abc_lines.specs.File.{InstanceBelow, body_lines, rules, scripts, ClassAgrees, InstanceAgrees, IsBalanced, MethodAgrees, Outline, PoolValues, classes, faults, file, instance_below, instance_lines, metadata, method_below, method_part, methods, pools, skipped, traits}
-use Rattle.abc_lines.specs.Lineforms.{InstanceHead, MethodHead, double_line, entry_line, instance_line, int_line, method_index_line, method_line, name_line, namespace_line, set_line, string_index_line, string_line, uint_line}
+use Rattle.abc_lines.specs.Lineforms.{InstanceHead, double_line, entry_line, instance_line, int_line, method_index_line, method_line, name_line, namespace_line, set_line, string_index_line, string_line, uint_line}
 use Rattle.abc_lines.proofs.Below.{count_two, flat_none}
 use Rattle.abc_lines.proofs.Forms.{entry-are}
 use Rattle.abc_lines.proofs.Tables.{bodies_none, scripts-lawful, classes-lawful, free, instance_below-lawful, instance_below_has, instances-lawful, metadata-lawful, method_below-lawful, method_below_has, methods-lawful, trait_list-lawful, trait_list_has}
-use Rattle.abc_lines.proofs.Whole.{classes_has, classes_on, classes_on-lawful, instances_has, instances_on, instances_on-lawful, metadata_has, metadata_on, metadata_on-lawful, methods_has, methods_on, methods_on-lawful, pools-lawful, pools_has, scripts_has, scripts_on}
+use Rattle.abc_lines.proofs.Whole.{classes_has, instances_has, metadata_has, methods_has, pools-lawful, pools_has, scripts_has, scripts_on}
 
 length_map : {A B : Type 0} (f : A → B) (xs : List A) → length (map f xs) ≡ length xs
 length_map f [] = refl
@@ -52,7 +48,7 @@ module _ (v : Sizes) (instances n : ℕ) where
   unfolding methods
   method_count ms =
       many_count (line words.Method (method_line v) (MethodAgrees v instances)) (method_below v instances n) (λ h. refl) (method_below-lawful v instances n).inside
-        (λ a. apart (8 ∷ []) method_part refl 8 (inl refl) (subst (λ (l : List ℕ). Among 8 l) (method_below_has v instances n) a)) (map _ ms)
+      (λ a. apart (8 ∷ []) method_part refl 8 (inl refl) (subst (λ (l : List ℕ). Among 8 l) (method_below_has v instances n) a)) (map _ ms)
       ∙ length_map _ ms
 
   entry_places : (x : List (ℕ × ℕ)) (before : List ℕ) (w : ℕ) (more : List ℕ) → places_shown ((flat fs words.Entry (entry_line v) n).shows x) ≡ before ++ w ∷ more → Among w (13 ∷ [])
@@ -66,13 +62,13 @@ module _ (v : Sizes) (instances n : ℕ) where
   unfolding instance_lines
   instance_count is =
       many_count (line words.Instance (instance_line v) (InstanceAgrees v instances)) (instance_below v instances n) (λ h. refl) (instance_below-lawful v instances n).inside
-        (λ a. apart (14 ∷ []) (15 ∷ 16 ∷ 17 ∷ 18 ∷ 19 ∷ 23 ∷ 25 ∷ skipped) refl 14 (inl refl) (subst (λ (l : List ℕ). Among 14 l) (instance_below_has v instances n) a)) is
+      (λ a. apart (14 ∷ []) (15 ∷ 16 ∷ 17 ∷ 18 ∷ 19 ∷ 23 ∷ 25 ∷ skipped) refl 14 (inl refl) (subst (λ (l : List ℕ). Among 14 l) (instance_below_has v instances n) a)) is
 
   class_count : (cs : List ClassInfo) → at 20 (classes v instances n) cs ≡ length cs
   unfolding classes
   class_count cs =
       many_count (line words.Class (method_index_line v) (ClassAgrees v instances)) (traits v instances fs n) (λ h. refl) (trait_list-lawful v instances n).inside
-        (λ a. apart (20 ∷ []) (18 ∷ 19 ∷ skipped) refl 20 (inl refl) (subst (λ (l : List ℕ). Among 20 l) (trait_list_has v instances n) a)) (map _ cs)
+      (λ a. apart (20 ∷ []) (18 ∷ 19 ∷ skipped) refl 20 (inl refl) (subst (λ (l : List ℕ). Among 20 l) (trait_list_has v instances n) a)) (map _ cs)
       ∙ length_map _ cs
 
   -- ---- all tables
@@ -91,55 +87,77 @@ module _ (v : Sizes) (instances n : ℕ) where
 
   later_none : (place : ℕ) → among place (21 ∷ 18 ∷ 19 ∷ skipped) ≡ false → nat_eq 22 place ≡ false → among place (23 ∷ 24 ∷ 18 ∷ 19 ∷ skipped) ≡ false → (x : List Script × List Body) → at place (scripts_on v instances n) x ≡ 0
   later_none place a b c x =
-      omega (arith, count_two place ((scripts v instances n).shows x.0) ((body_lines v instances n).shows x.1),
+      omega (
+        arith,
+        count_two place ((scripts v instances n).shows x.0) ((body_lines v instances n).shows x.1),
         none place (scripts v instances n) (scripts-lawful v instances n) (not_in place (scripts v instances n).has (21 ∷ 18 ∷ 19 ∷ skipped) (scripts_has v instances n) a) x.0,
-        bodies_none v instances n place b c x.1)
+        bodies_none v instances n place b c x.1,
+      )
 
   -- at a place of the pools
   pool_place : (place : ℕ) → among place (8 ∷ 9 ∷ 10 ∷ 11 ∷ skipped) ≡ false → among place (12 ∷ 13 ∷ []) ≡ false → among place (14 ∷ 15 ∷ 16 ∷ 17 ∷ 18 ∷ 19 ∷ 23 ∷ 25 ∷ skipped) ≡ false → among place (20 ∷ 18 ∷ 19 ∷ skipped) ≡ false → among place (21 ∷ 18 ∷ 19 ∷ skipped) ≡ false → nat_eq 22 place ≡ false → among place (23 ∷ 24 ∷ 18 ∷ 19 ∷ skipped) ≡ false → (x : Outline v instances) → at place (file v instances n) x ≡ at place (pools v instances n) x.0
   pool_place place a b c d e f g x =
-      omega (arith, file_count place x,
+      omega (
+        arith,
+        file_count place x,
         none place (methods v instances n) (methods-lawful v instances n) (not_in place (methods v instances n).has (8 ∷ 9 ∷ 10 ∷ 11 ∷ skipped) (methods_has v instances n) a) x.1.0,
         none place (metadata v instances n) (metadata-lawful v instances n) (not_in place (metadata v instances n).has (12 ∷ 13 ∷ []) (metadata_has v instances n) b) x.1.1.0,
         none place (instance_lines v instances n) (instances-lawful v instances n) (not_in place (instance_lines v instances n).has (14 ∷ 15 ∷ 16 ∷ 17 ∷ 18 ∷ 19 ∷ 23 ∷ 25 ∷ skipped) (instances_has v instances n) c) x.1.1.1.0,
         none place (classes v instances n) (classes-lawful v instances n) (not_in place (classes v instances n).has (20 ∷ 18 ∷ 19 ∷ skipped) (classes_has v instances n) d) x.1.1.1.1.0,
-        later_none place e f g x.1.1.1.1.1)
+        later_none place e f g x.1.1.1.1.1,
+      )
 
   methods_counted : (x : Outline v instances) → at 8 (file v instances n) x ≡ length x.1.0
   methods_counted x =
-      omega (arith, file_count 8 x, none 8 (pools v instances n) (pools-lawful v instances n) (not_in 8 (pools v instances n).has (1 ∷ 2 ∷ 3 ∷ 4 ∷ 5 ∷ 6 ∷ 7 ∷ []) (pools_has v instances n) refl) x.0,
+      omega (
+        arith,
+        file_count 8 x,
+        none 8 (pools v instances n) (pools-lawful v instances n) (not_in 8 (pools v instances n).has (1 ∷ 2 ∷ 3 ∷ 4 ∷ 5 ∷ 6 ∷ 7 ∷ []) (pools_has v instances n) refl) x.0,
         method_count x.1.0,
         none 8 (metadata v instances n) (metadata-lawful v instances n) (not_in 8 (metadata v instances n).has (12 ∷ 13 ∷ []) (metadata_has v instances n) refl) x.1.1.0,
         none 8 (instance_lines v instances n) (instances-lawful v instances n) (not_in 8 (instance_lines v instances n).has (14 ∷ 15 ∷ 16 ∷ 17 ∷ 18 ∷ 19 ∷ 23 ∷ 25 ∷ skipped) (instances_has v instances n) refl) x.1.1.1.0,
         none 8 (classes v instances n) (classes-lawful v instances n) (not_in 8 (classes v instances n).has (20 ∷ 18 ∷ 19 ∷ skipped) (classes_has v instances n) refl) x.1.1.1.1.0,
-        later_none 8 refl refl refl x.1.1.1.1.1)
+        later_none 8 refl refl refl x.1.1.1.1.1,
+      )
 
   metadata_counted : (x : Outline v instances) → at 12 (file v instances n) x ≡ length x.1.1.0
   metadata_counted x =
-      omega (arith, file_count 12 x, none 12 (pools v instances n) (pools-lawful v instances n) (not_in 12 (pools v instances n).has (1 ∷ 2 ∷ 3 ∷ 4 ∷ 5 ∷ 6 ∷ 7 ∷ []) (pools_has v instances n) refl) x.0,
+      omega (
+        arith,
+        file_count 12 x,
+        none 12 (pools v instances n) (pools-lawful v instances n) (not_in 12 (pools v instances n).has (1 ∷ 2 ∷ 3 ∷ 4 ∷ 5 ∷ 6 ∷ 7 ∷ []) (pools_has v instances n) refl) x.0,
         none 12 (methods v instances n) (methods-lawful v instances n) (not_in 12 (methods v instances n).has (8 ∷ 9 ∷ 10 ∷ 11 ∷ skipped) (methods_has v instances n) refl) x.1.0,
         metadata_count x.1.1.0,
         none 12 (instance_lines v instances n) (instances-lawful v instances n) (not_in 12 (instance_lines v instances n).has (14 ∷ 15 ∷ 16 ∷ 17 ∷ 18 ∷ 19 ∷ 23 ∷ 25 ∷ skipped) (instances_has v instances n) refl) x.1.1.1.0,
         none 12 (classes v instances n) (classes-lawful v instances n) (not_in 12 (classes v instances n).has (20 ∷ 18 ∷ 19 ∷ skipped) (classes_has v instances n) refl) x.1.1.1.1.0,
-        later_none 12 refl refl refl x.1.1.1.1.1)
+        later_none 12 refl refl refl x.1.1.1.1.1,
+      )
 
   instances_counted : (x : Outline v instances) → at 14 (file v instances n) x ≡ length x.1.1.1.0
   instances_counted x =
-      omega (arith, file_count 14 x, none 14 (pools v instances n) (pools-lawful v instances n) (not_in 14 (pools v instances n).has (1 ∷ 2 ∷ 3 ∷ 4 ∷ 5 ∷ 6 ∷ 7 ∷ []) (pools_has v instances n) refl) x.0,
+      omega (
+        arith,
+        file_count 14 x,
+        none 14 (pools v instances n) (pools-lawful v instances n) (not_in 14 (pools v instances n).has (1 ∷ 2 ∷ 3 ∷ 4 ∷ 5 ∷ 6 ∷ 7 ∷ []) (pools_has v instances n) refl) x.0,
         none 14 (methods v instances n) (methods-lawful v instances n) (not_in 14 (methods v instances n).has (8 ∷ 9 ∷ 10 ∷ 11 ∷ skipped) (methods_has v instances n) refl) x.1.0,
         none 14 (metadata v instances n) (metadata-lawful v instances n) (not_in 14 (metadata v instances n).has (12 ∷ 13 ∷ []) (metadata_has v instances n) refl) x.1.1.0,
         instance_count x.1.1.1.0,
         none 14 (classes v instances n) (classes-lawful v instances n) (not_in 14 (classes v instances n).has (20 ∷ 18 ∷ 19 ∷ skipped) (classes_has v instances n) refl) x.1.1.1.1.0,
-        later_none 14 refl refl refl x.1.1.1.1.1)
+        later_none 14 refl refl refl x.1.1.1.1.1,
+      )
 
   classes_counted : (x : Outline v instances) → at 20 (file v instances n) x ≡ length x.1.1.1.1.0
   classes_counted x =
-      omega (arith, file_count 20 x, none 20 (pools v instances n) (pools-lawful v instances n) (not_in 20 (pools v instances n).has (1 ∷ 2 ∷ 3 ∷ 4 ∷ 5 ∷ 6 ∷ 7 ∷ []) (pools_has v instances n) refl) x.0,
+      omega (
+        arith,
+        file_count 20 x,
+        none 20 (pools v instances n) (pools-lawful v instances n) (not_in 20 (pools v instances n).has (1 ∷ 2 ∷ 3 ∷ 4 ∷ 5 ∷ 6 ∷ 7 ∷ []) (pools_has v instances n) refl) x.0,
         none 20 (methods v instances n) (methods-lawful v instances n) (not_in 20 (methods v instances n).has (8 ∷ 9 ∷ 10 ∷ 11 ∷ skipped) (methods_has v instances n) refl) x.1.0,
         none 20 (metadata v instances n) (metadata-lawful v instances n) (not_in 20 (metadata v instances n).has (12 ∷ 13 ∷ []) (metadata_has v instances n) refl) x.1.1.0,
         none 20 (instance_lines v instances n) (instances-lawful v instances n) (not_in 20 (instance_lines v instances n).has (14 ∷ 15 ∷ 16 ∷ 17 ∷ 18 ∷ 19 ∷ 23 ∷ 25 ∷ skipped) (instances_has v instances n) refl) x.1.1.1.0,
         class_count x.1.1.1.1.0,
-        later_none 20 refl refl refl x.1.1.1.1.1)
+        later_none 20 refl refl refl x.1.1.1.1.1,
+      )
 
   -- ---- pools
 

@@ -1,13 +1,11 @@
 -- The laws of each table of lines.
-use Rattle.std.proofs.Common.{◌≡◌, ℕ, zero, suc, ◌+◌, ◌-◌, ◌<◌, ◌≤◌, ◌^◌, ◌⊎◌, inl, inr, Bool, true, false, cond, ◌&&◌, ◌||◌, nat_eq, nat_le, List, [], ◌∷◌, ◌++◌, length, map, Ok, Err, Some, None, refl, sym, ap, subst, ◌∙◌, arith}
+use Rattle.std.proofs.Common.{◌≡◌, ℕ, ◌-◌, ◌≤◌, ◌^◌, inl, inr, Bool, true, false, cond, ◌&&◌, nat_eq, nat_le, List, [], ◌∷◌, ◌++◌, length, map, Ok, Some, None, refl, sym, ap, subst, ◌∙◌, arith}
 use Rattle.std.proofs.lemmas.Bool.Decides.{nat_tests}
 use Rattle.std.specs.Option.{IsSome}
 use Rattle.std.specs.declared.option.Option.{Option}
-use Rattle.abc_text.specs.declared.reason.AsmReason.{AsmReason}
 use Rattle.abc_text.specs.declared.reason.AsmReason.TheVariants as reasons
 use Rattle.abc_text.specs.declared.word.Word.{Word}
 use Rattle.abc_text.specs.declared.word.Word.TheVariants as words
-use Rattle.abc_text.specs.Tokens.{Token}
 use Rattle.abc_text.specs.Words.{place_of}
 use Rattle.abc_text.proofs.Bools.{and_true, if_is}
 use Rattle.abc_tables.specs.declared.code.Body.{Body}
@@ -18,19 +16,18 @@ use Rattle.abc_tables.specs.declared.tables.Sizes.{Sizes}
 use Rattle.abc_tables.specs.declared.traits.TraitInfo.{TraitInfo}
 use Rattle.abc_tables.specs.CodeBytes.{code_len}
 use Rattle.abc_tables.specs.Methods.{has_flag}
-use Rattle.abc_rowparts.specs.Lines.{Label, Row, Shown, places_shown}
-use Rattle.abc_rowparts.specs.Operands.{AreOperands, Operands, reasons_of}
-use Rattle.abc_rowparts.specs.Rows.{Faults, Rows, both, code, image, items_shown, many, nothing, option_shown, optional}
+use Rattle.abc_rowparts.specs.Lines.{Row, Shown, places_shown}
+use Rattle.abc_rowparts.specs.Rows.{Faults, both, many, option_shown, optional}
 use Rattle.abc_rowparts.specs.Law.{Among, IsFree, Lawful, Match, Next}
-use Rattle.abc_rowparts.specs.Wordlines.{Rules, always, among, closed_to, count_all, count_in, count_lines, faults_of, flat, line, shows_operands}
+use Rattle.abc_rowparts.specs.Wordlines.{Rules, always, among, count_all, count_in, count_lines, faults_of, flat, line, shows_operands}
 use Rattle.abc_rowparts.proofs.Counts.{count_in-none, flat_count, many_none}
 use Rattle.abc_rowparts.proofs.Exact.{both-lawful}
 use Rattle.abc_rowparts.proofs.Many.{eq_refl, eq_true, image-lawful, many-lawful, map_back}
 use Rattle.abc_rowparts.proofs.Pieces.{Among-right}
 use Rattle.abc_rowparts.proofs.Optional.{optional-lawful}
 use Rattle.abc_rowparts.proofs.Wordlines.{Agrees, IsClear, agrees_always, apart, closed-lawful, flat-lawful, line-keeps, yes_among}
-use Rattle.abc_lines.specs.Lineforms.{BodyHead, InstanceHead, MethodHead, TraitHead, body_line, entry_line, implements_line, instance_line, method_index_line, method_line, number_line, option_line, param_line, protected_line, string_index_line, trait_line}
-use Rattle.abc_lines.specs.File.{BodyAgrees, ClassAgrees, InstanceAgrees, InstanceBelow, IsBalanced, MethodAgrees, body_below, body_lines, body_part, class_counts, classes, count_unless, ends_body, extra, faults, instance_below, instance_counts, instance_lines, instance_part, long_code, metadata, method_below, method_counts, method_part, methods, others, own, plain_rules, rules, scripts, skipped, traits, where_set}
+use Rattle.abc_lines.specs.Lineforms.{body_line, entry_line, implements_line, instance_line, method_index_line, method_line, number_line, option_line, param_line, protected_line, string_index_line}
+use Rattle.abc_lines.specs.File.{BodyAgrees, ClassAgrees, InstanceAgrees, InstanceBelow, IsBalanced, MethodAgrees, body_below, body_lines, body_part, classes, count_unless, ends_body, extra, faults, instance_below, instance_counts, instance_lines, instance_part, long_code, metadata, method_below, method_counts, method_part, methods, others, plain_rules, rules, scripts, skipped, traits, where_set}
 use Rattle.abc_lines.proofs.Below.{body_below-lawful, body_below_none, count_fine, count_two, counted_below, flat_none, free_word, traits-lawful, traits_has, traits_starts}
 use Rattle.abc_lines.proofs.Forms.{body-are, entry-are, implements-are, instance-are, method-are, method_index-are, number-are, option-are, param-are, protected-are, string_index-are}
 
@@ -116,13 +113,13 @@ module _ (v : Sizes) (instances : ℕ) where
     unfolding method_below
     method_below-lawful =
         closed-lawful given shows_operands fs n skipped (both (flat fs words.Param (param_line v) n) (both (flat fs words.Optional (option_line v) n) (flat fs words.ParamName number_line n)))
-          (both-lawful given shows_operands fs n (flat fs words.Param (param_line v) n) (both (flat fs words.Optional (option_line v) n) (flat fs words.ParamName number_line n))
-            (flat-lawful given all words.Param (param_line v) (λ e. absurd (omega arith)) (λ labels tokens. refl) (free words.Param (λ e. absurd (omega arith)) (λ row after. refl)) (param-are v) n)
-            (both-lawful given shows_operands fs n (flat fs words.Optional (option_line v) n) (flat fs words.ParamName number_line n)
-              (flat-lawful given all words.Optional (option_line v) (λ e. absurd (omega arith)) (λ labels tokens. refl) (free words.Optional (λ e. absurd (omega arith)) (λ row after. refl)) (option-are v) n)
-              (flat-lawful given all words.ParamName number_line (λ e. absurd (omega arith)) (λ labels tokens. refl) (free words.ParamName (λ e. absurd (omega arith)) (λ row after. refl)) number-are n)
-              (apart (11 ∷ []) (10 ∷ []) refl))
-            (apart (10 ∷ 11 ∷ []) (9 ∷ []) refl))
+        (both-lawful given shows_operands fs n (flat fs words.Param (param_line v) n) (both (flat fs words.Optional (option_line v) n) (flat fs words.ParamName number_line n))
+        (flat-lawful given all words.Param (param_line v) (λ e. absurd (omega arith)) (λ labels tokens. refl) (free words.Param (λ e. absurd (omega arith)) (λ row after. refl)) (param-are v) n)
+        (both-lawful given shows_operands fs n (flat fs words.Optional (option_line v) n) (flat fs words.ParamName number_line n)
+        (flat-lawful given all words.Optional (option_line v) (λ e. absurd (omega arith)) (λ labels tokens. refl) (free words.Optional (λ e. absurd (omega arith)) (λ row after. refl)) (option-are v) n)
+        (flat-lawful given all words.ParamName number_line (λ e. absurd (omega arith)) (λ labels tokens. refl) (free words.ParamName (λ e. absurd (omega arith)) (λ row after. refl)) number-are n)
+        (apart (11 ∷ []) (10 ∷ []) refl))
+        (apart (10 ∷ 11 ∷ []) (9 ∷ []) refl))
 
     -- the counts of the lines below a method
     record MethodCounted (front rest : List Row) (y : List ℕ × (List OptionValue × List ℕ)) : Type 0 where
@@ -166,10 +163,10 @@ module _ (v : Sizes) (instances : ℕ) where
     unfolding methods
     methods-lawful =
         image-lawful given shows_operands fs n _ _ (many fs (line words.Method (method_line v) (MethodAgrees v instances)) (method_below v instances n) n)
-          (map_back _ _ (λ x. refl)) (map_back _ _ (λ m. refl))
-          (many-lawful given shows_operands fs (line words.Method (method_line v) (MethodAgrees v instances)) (method_below v instances n)
-            (line-keeps given all words.Method (method_line v) (MethodAgrees v instances) (method_below v instances n) (λ e. absurd (omega arith)) (λ labels tokens. refl) (method-are v) method_agrees)
-            (λ e. absurd (omega arith)) (λ a. apart (8 ∷ []) method_part refl 8 (inl refl) (subst (λ (l : List ℕ). Among 8 l) method_below_has a)) method_below-lawful.inside n method_below-lawful)
+        (map_back _ _ (λ x. refl)) (map_back _ _ (λ m. refl))
+        (many-lawful given shows_operands fs (line words.Method (method_line v) (MethodAgrees v instances)) (method_below v instances n)
+        (line-keeps given all words.Method (method_line v) (MethodAgrees v instances) (method_below v instances n) (λ e. absurd (omega arith)) (λ labels tokens. refl) (method-are v) method_agrees)
+        (λ e. absurd (omega arith)) (λ a. apart (8 ∷ []) method_part refl 8 (inl refl) (subst (λ (l : List ℕ). Among 8 l) method_below_has a)) method_below-lawful.inside n method_below-lawful)
 
     -- ---- metadata
 
@@ -178,28 +175,28 @@ module _ (v : Sizes) (instances : ℕ) where
     metadata-lawful =
         let entries = flat-lawful given all words.Entry (entry_line v) (λ e. absurd (omega arith)) (λ labels tokens. refl) (free words.Entry (λ e. absurd (omega arith)) (λ row after. refl)) (entry-are v) n in
         many-lawful given shows_operands fs (line words.Metadata (string_index_line v) always) (flat fs words.Entry (entry_line v) n)
-          (line-keeps given all words.Metadata (string_index_line v) always (flat fs words.Entry (entry_line v) n) (λ e. absurd (omega arith)) (λ labels tokens. refl) (string_index-are v) (agrees_always given all words.Metadata (string_index_line v) (flat fs words.Entry (entry_line v) n) (free words.Metadata (λ e. absurd (omega arith)) (λ row after. refl))))
-          (λ e. absurd (omega arith)) (λ a. apart (12 ∷ []) (13 ∷ []) refl 12 (inl refl) a) entries.inside n entries
+        (line-keeps given all words.Metadata (string_index_line v) always (flat fs words.Entry (entry_line v) n) (λ e. absurd (omega arith)) (λ labels tokens. refl) (string_index-are v) (agrees_always given all words.Metadata (string_index_line v) (flat fs words.Entry (entry_line v) n) (free words.Metadata (λ e. absurd (omega arith)) (λ row after. refl))))
+        (λ e. absurd (omega arith)) (λ a. apart (12 ∷ []) (13 ∷ []) refl 12 (inl refl) a) entries.inside n entries
 
     -- ---- instances
 
     initializer-lawful : Lawful given shows_operands fs n (optional fs (line words.Initializer (method_index_line v) always) (traits v instances fs n))
     initializer-lawful =
         optional-lawful given shows_operands fs (line words.Initializer (method_index_line v) always) (traits v instances fs n)
-          (line-keeps given all words.Initializer (method_index_line v) always (traits v instances fs n) (λ e. absurd (omega arith)) (λ labels tokens. refl) (method_index-are v) (agrees_always given all words.Initializer (method_index_line v) (traits v instances fs n) (free words.Initializer (λ e. absurd (omega arith)) (λ row after. refl))))
-          (λ e. absurd (omega arith)) (trait_list-lawful n).inside n (trait_list-lawful n)
+        (line-keeps given all words.Initializer (method_index_line v) always (traits v instances fs n) (λ e. absurd (omega arith)) (λ labels tokens. refl) (method_index-are v) (agrees_always given all words.Initializer (method_index_line v) (traits v instances fs n) (free words.Initializer (λ e. absurd (omega arith)) (λ row after. refl))))
+        (λ e. absurd (omega arith)) (trait_list-lawful n).inside n (trait_list-lawful n)
 
     pub instance_below-lawful : Lawful given shows_operands fs n (instance_below v instances n)
     unfolding instance_below
     instance_below-lawful =
         let iinit = optional fs (line words.Initializer (method_index_line v) always) (traits v instances fs n) in
         closed-lawful given shows_operands fs n skipped (both (flat fs words.Protected (protected_line v) n) (both (flat fs words.Implements (implements_line v) n) (optional fs (line words.Initializer (method_index_line v) always) (traits v instances fs n))))
-          (both-lawful given shows_operands fs n (flat fs words.Protected (protected_line v) n) (both (flat fs words.Implements (implements_line v) n) (optional fs (line words.Initializer (method_index_line v) always) (traits v instances fs n)))
-            (flat-lawful given all words.Protected (protected_line v) (λ e. absurd (omega arith)) (λ labels tokens. refl) (free words.Protected (λ e. absurd (omega arith)) (λ row after. refl)) (protected-are v) n)
-            (both-lawful given shows_operands fs n (flat fs words.Implements (implements_line v) n) (optional fs (line words.Initializer (method_index_line v) always) (traits v instances fs n))
-              (flat-lawful given all words.Implements (implements_line v) (λ e. absurd (omega arith)) (λ labels tokens. refl) (free words.Implements (λ e. absurd (omega arith)) (λ row after. refl)) (implements-are v) n)
-              initializer-lawful (apart (17 ∷ []) (16 ∷ []) refl))
-            (apart (16 ∷ 17 ∷ []) (15 ∷ []) refl))
+        (both-lawful given shows_operands fs n (flat fs words.Protected (protected_line v) n) (both (flat fs words.Implements (implements_line v) n) (optional fs (line words.Initializer (method_index_line v) always) (traits v instances fs n)))
+        (flat-lawful given all words.Protected (protected_line v) (λ e. absurd (omega arith)) (λ labels tokens. refl) (free words.Protected (λ e. absurd (omega arith)) (λ row after. refl)) (protected-are v) n)
+        (both-lawful given shows_operands fs n (flat fs words.Implements (implements_line v) n) (optional fs (line words.Initializer (method_index_line v) always) (traits v instances fs n))
+        (flat-lawful given all words.Implements (implements_line v) (λ e. absurd (omega arith)) (λ labels tokens. refl) (free words.Implements (λ e. absurd (omega arith)) (λ row after. refl)) (implements-are v) n)
+        initializer-lawful (apart (17 ∷ []) (16 ∷ []) refl))
+        (apart (16 ∷ 17 ∷ []) (15 ∷ []) refl))
 
     abbrev initializer_shown : Option (ℕ × List TraitInfo) → List Shown
     initializer_shown o = option_shown (line words.Initializer (method_index_line v) always) (traits v instances fs n) o
@@ -249,10 +246,11 @@ module _ (v : Sizes) (instances : ℕ) where
           let k = instance_counted front rest y match open_ in
           let fine = count_fine (instance_counts v.classes instances flags after) (no_others row after words.Instance word c) in
           let two = and_true (nat_eq (count_lines instance_part 15 after) (where_set (has_flag flags 0x08) 1) && nat_le 1 (count_lines instance_part 17 after)) (nat_le (instances - count_all 14 after) v.classes) fine in
-          let one = and_true (nat_eq (count_lines instance_part 15 after) (where_set (has_flag flags 0x08) 1)) (nat_le 1 (count_lines instance_part 17 after)) two.0 in
-          (sym k.protected ∙ eq_true (count_lines instance_part 15 after) (where_set (has_flag flags 0x08) 1) one.0,
-           one_initializer y.1.1 (ap (λ (m : ℕ). nat_le 1 m) (sym k.initializer) ∙ one.1),
-           balanced);
+          let one = and_true (nat_eq (count_lines instance_part 15 after) (where_set (has_flag flags 0x08) 1)) (nat_le 1 (count_lines instance_part 17 after)) two.0 in (
+            sym k.protected ∙ eq_true (count_lines instance_part 15 after) (where_set (has_flag flags 0x08) 1) one.0,
+            one_initializer y.1.1 (ap (λ (m : ℕ). nat_le 1 m) (sym k.initializer) ∙ one.1),
+            balanced,
+          );
       again = λ row front rest y word a match fit open_.
           let flags = ((instance_line v).value row.labels row.operands).flags in
           let after = front ++ rest in
@@ -271,8 +269,8 @@ module _ (v : Sizes) (instances : ℕ) where
     unfolding instance_lines
     instances-lawful =
         many-lawful given shows_operands fs (line words.Instance (instance_line v) (InstanceAgrees v instances)) (instance_below v instances n)
-          (line-keeps given all words.Instance (instance_line v) (InstanceAgrees v instances) (instance_below v instances n) (λ e. absurd (omega arith)) (λ labels tokens. refl) (instance-are v) instance_agrees)
-          (λ e. absurd (omega arith)) (λ a. apart (14 ∷ []) (15 ∷ 16 ∷ 17 ∷ 18 ∷ 19 ∷ 23 ∷ 25 ∷ skipped) refl 14 (inl refl) (subst (λ (l : List ℕ). Among 14 l) instance_below_has a)) instance_below-lawful.inside n instance_below-lawful
+        (line-keeps given all words.Instance (instance_line v) (InstanceAgrees v instances) (instance_below v instances n) (λ e. absurd (omega arith)) (λ labels tokens. refl) (instance-are v) instance_agrees)
+        (λ e. absurd (omega arith)) (λ a. apart (14 ∷ []) (15 ∷ 16 ∷ 17 ∷ 18 ∷ 19 ∷ 23 ∷ 25 ∷ skipped) refl 14 (inl refl) (subst (λ (l : List ℕ). Among 14 l) instance_below_has a)) instance_below-lawful.inside n instance_below-lawful
 
     -- ---- classes and scripts
 
@@ -286,19 +284,19 @@ module _ (v : Sizes) (instances : ℕ) where
     unfolding classes
     classes-lawful =
         image-lawful given shows_operands fs n _ _ (many fs (line words.Class (method_index_line v) (ClassAgrees v instances)) (traits v instances fs n) n)
-          (map_back _ _ (λ x. refl)) (map_back _ _ (λ c. refl))
-          (many-lawful given shows_operands fs (line words.Class (method_index_line v) (ClassAgrees v instances)) (traits v instances fs n)
-            (line-keeps given all words.Class (method_index_line v) (ClassAgrees v instances) (traits v instances fs n) (λ e. absurd (omega arith)) (λ labels tokens. refl) (method_index-are v) class_agrees)
-            (λ e. absurd (omega arith)) (λ a. apart (20 ∷ []) (18 ∷ 19 ∷ skipped) refl 20 (inl refl) (subst (λ (l : List ℕ). Among 20 l) (trait_list_has n) a)) (trait_list-lawful n).inside n (trait_list-lawful n))
+        (map_back _ _ (λ x. refl)) (map_back _ _ (λ c. refl))
+        (many-lawful given shows_operands fs (line words.Class (method_index_line v) (ClassAgrees v instances)) (traits v instances fs n)
+        (line-keeps given all words.Class (method_index_line v) (ClassAgrees v instances) (traits v instances fs n) (λ e. absurd (omega arith)) (λ labels tokens. refl) (method_index-are v) class_agrees)
+        (λ e. absurd (omega arith)) (λ a. apart (20 ∷ []) (18 ∷ 19 ∷ skipped) refl 20 (inl refl) (subst (λ (l : List ℕ). Among 20 l) (trait_list_has n) a)) (trait_list-lawful n).inside n (trait_list-lawful n))
 
     pub scripts-lawful : Lawful given shows_operands fs n (scripts v instances n)
     unfolding scripts
     scripts-lawful =
         image-lawful given shows_operands fs n _ _ (many fs (line words.Script (method_index_line v) always) (traits v instances fs n) n)
-          (map_back _ _ (λ x. refl)) (map_back _ _ (λ s. refl))
-          (many-lawful given shows_operands fs (line words.Script (method_index_line v) always) (traits v instances fs n)
-            (line-keeps given all words.Script (method_index_line v) always (traits v instances fs n) (λ e. absurd (omega arith)) (λ labels tokens. refl) (method_index-are v) (agrees_always given all words.Script (method_index_line v) (traits v instances fs n) (free words.Script (λ e. absurd (omega arith)) (λ row after. refl))))
-            (λ e. absurd (omega arith)) (λ a. apart (21 ∷ []) (18 ∷ 19 ∷ skipped) refl 21 (inl refl) (subst (λ (l : List ℕ). Among 21 l) (trait_list_has n) a)) (trait_list-lawful n).inside n (trait_list-lawful n))
+        (map_back _ _ (λ x. refl)) (map_back _ _ (λ s. refl))
+        (many-lawful given shows_operands fs (line words.Script (method_index_line v) always) (traits v instances fs n)
+        (line-keeps given all words.Script (method_index_line v) always (traits v instances fs n) (λ e. absurd (omega arith)) (λ labels tokens. refl) (method_index-are v) (agrees_always given all words.Script (method_index_line v) (traits v instances fs n) (free words.Script (λ e. absurd (omega arith)) (λ row after. refl))))
+        (λ e. absurd (omega arith)) (λ a. apart (21 ∷ []) (18 ∷ 19 ∷ skipped) refl 21 (inl refl) (subst (λ (l : List ℕ). Among 21 l) (trait_list_has n) a)) (trait_list-lawful n).inside n (trait_list-lawful n))
 
     -- ---- bodies
 
@@ -348,7 +346,7 @@ module _ (v : Sizes) (instances : ℕ) where
     unfolding body_lines
     bodies-lawful =
         image-lawful given shows_operands fs n _ _ (many fs (line words.Body (body_line v) (BodyAgrees v instances)) (body_below v instances fs n) n)
-          (map_back _ _ (λ x. refl)) (map_back _ _ (λ b. refl))
-          (many-lawful given shows_operands fs (line words.Body (body_line v) (BodyAgrees v instances)) (body_below v instances fs n)
-            (line-keeps given all words.Body (body_line v) (BodyAgrees v instances) (body_below v instances fs n) (λ e. absurd (omega arith)) (λ labels tokens. refl) (body-are v) body_agrees)
-            (λ e. absurd (omega arith)) (λ a. body_below_has 22 a refl) below-lawful.inside n below-lawful)
+        (map_back _ _ (λ x. refl)) (map_back _ _ (λ b. refl))
+        (many-lawful given shows_operands fs (line words.Body (body_line v) (BodyAgrees v instances)) (body_below v instances fs n)
+        (line-keeps given all words.Body (body_line v) (BodyAgrees v instances) (body_below v instances fs n) (λ e. absurd (omega arith)) (λ labels tokens. refl) (body-are v) body_agrees)
+        (λ e. absurd (omega arith)) (λ a. body_below_has 22 a refl) below-lawful.inside n below-lawful)

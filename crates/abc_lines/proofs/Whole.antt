@@ -1,12 +1,9 @@
 -- The lines of a whole text are those of exactly one outline, or have exactly one fault.
-use Rattle.std.proofs.Common.{◌≡◌, ℕ, zero, suc, ◌+◌, ◌-◌, ◌<◌, ◌≤◌, ◌⊎◌, inl, inr, Bool, true, false, cond, ◌&&◌, nat_eq, nat_le, List, [], ◌∷◌, ◌++◌, length, map, None, refl, sym, ap, subst, ◌∙◌, append-nil, arith}
+use Rattle.std.proofs.Common.{◌≡◌, ℕ, ◌-◌, ◌≤◌, ◌⊎◌, inl, inr, false, ◌&&◌, nat_eq, nat_le, List, [], ◌∷◌, ◌++◌, length, None, refl, sym, ap, subst, ◌∙◌, append-nil, arith}
 use Rattle.std.proofs.lemmas.Bool.Decides.{nat_tests}
-use Rattle.abc_text.specs.declared.reason.AsmReason.{AsmReason}
-use Rattle.abc_text.specs.declared.reason.AsmReason.TheVariants as reasons
 use Rattle.abc_text.specs.declared.word.Word.{Word}
 use Rattle.abc_text.specs.declared.word.Word.TheVariants as words
 use Rattle.abc_text.specs.Reasons.{least}
-use Rattle.abc_text.specs.Tokens.{Token}
 use Rattle.abc_text.specs.Words.{place_of}
 use Rattle.abc_text.proofs.Bools.{and_true, split_bool}
 use Rattle.abc_tables.specs.declared.classes.ClassInfo.{ClassInfo}
@@ -15,12 +12,12 @@ use Rattle.abc_tables.specs.declared.code.Body.{Body}
 use Rattle.abc_tables.specs.declared.methods.Method.{Method}
 use Rattle.abc_tables.specs.declared.tables.Sizes.{Sizes}
 use Rattle.abc_tables.specs.Methods.{has_flag}
-use Rattle.abc_rowparts.specs.Lines.{Item, Label, Number, Row}
+use Rattle.abc_rowparts.specs.Lines.{Item, Number, Row}
 use Rattle.abc_rowparts.specs.Operands.{any_number, exactly}
 use Rattle.abc_rowparts.specs.Rows.{Faults, Rows, both, is_label, nothing}
 use Rattle.abc_rowparts.specs.Law.{Among, Clean, IsLine, Keeps, Lawful}
 use Rattle.abc_rowparts.specs.Assembly.{IsDetermined}
-use Rattle.abc_rowparts.specs.Wordlines.{always, count_all, count_lines, faults_of, flat, line, shows_operands}
+use Rattle.abc_rowparts.specs.Wordlines.{always, count_all, count_lines, flat, line, shows_operands}
 use Rattle.abc_rowparts.proofs.Determined.{determined}
 use Rattle.abc_rowparts.proofs.Exact.{both-lawful}
 use Rattle.abc_rowparts.proofs.Many.{eq_true}
@@ -45,39 +42,39 @@ module _ (v : Sizes) (instances : ℕ) where
     sets-lawful : Lawful given shows_operands fs n (both (flat fs words.Set (set_line v) n) (flat fs words.Name (name_line v) n))
     sets-lawful =
         both-lawful given shows_operands fs n (flat fs words.Set (set_line v) n) (flat fs words.Name (name_line v) n)
-          (flat-lawful given (rules v instances) words.Set (set_line v) (λ e. absurd (omega arith)) (λ labels tokens. refl) (free v instances words.Set (λ e. absurd (omega arith)) (λ row after. refl)) (set-are v) n)
-          names-lawful (apart (7 ∷ []) (6 ∷ []) refl)
+        (flat-lawful given (rules v instances) words.Set (set_line v) (λ e. absurd (omega arith)) (λ labels tokens. refl) (free v instances words.Set (λ e. absurd (omega arith)) (λ row after. refl)) (set-are v) n)
+        names-lawful (apart (7 ∷ []) (6 ∷ []) refl)
 
     spaces-lawful : Lawful given shows_operands fs n (both (flat fs words.Namespace (namespace_line v) n) (both (flat fs words.Set (set_line v) n) (flat fs words.Name (name_line v) n)))
     spaces-lawful =
         both-lawful given shows_operands fs n (flat fs words.Namespace (namespace_line v) n) (both (flat fs words.Set (set_line v) n) (flat fs words.Name (name_line v) n))
-          (flat-lawful given (rules v instances) words.Namespace (namespace_line v) (λ e. absurd (omega arith)) (λ labels tokens. refl) (free v instances words.Namespace (λ e. absurd (omega arith)) (λ row after. refl)) (namespace-are v) n)
-          sets-lawful (apart (6 ∷ 7 ∷ []) (5 ∷ []) refl)
+        (flat-lawful given (rules v instances) words.Namespace (namespace_line v) (λ e. absurd (omega arith)) (λ labels tokens. refl) (free v instances words.Namespace (λ e. absurd (omega arith)) (λ row after. refl)) (namespace-are v) n)
+        sets-lawful (apart (6 ∷ 7 ∷ []) (5 ∷ []) refl)
 
     strings-lawful : Lawful given shows_operands fs n (both (flat fs words.Text string_line n) (both (flat fs words.Namespace (namespace_line v) n) (both (flat fs words.Set (set_line v) n) (flat fs words.Name (name_line v) n))))
     strings-lawful =
         both-lawful given shows_operands fs n (flat fs words.Text string_line n) (both (flat fs words.Namespace (namespace_line v) n) (both (flat fs words.Set (set_line v) n) (flat fs words.Name (name_line v) n)))
-          (flat-lawful given (rules v instances) words.Text string_line (λ e. absurd (omega arith)) (λ labels tokens. refl) (free v instances words.Text (λ e. absurd (omega arith)) (λ row after. refl)) string-are n)
-          spaces-lawful (apart (5 ∷ 6 ∷ 7 ∷ []) (4 ∷ []) refl)
+        (flat-lawful given (rules v instances) words.Text string_line (λ e. absurd (omega arith)) (λ labels tokens. refl) (free v instances words.Text (λ e. absurd (omega arith)) (λ row after. refl)) string-are n)
+        spaces-lawful (apart (5 ∷ 6 ∷ 7 ∷ []) (4 ∷ []) refl)
 
     doubles-lawful : Lawful given shows_operands fs n (both (flat fs words.Double double_line n) (both (flat fs words.Text string_line n) (both (flat fs words.Namespace (namespace_line v) n) (both (flat fs words.Set (set_line v) n) (flat fs words.Name (name_line v) n)))))
     doubles-lawful =
         both-lawful given shows_operands fs n (flat fs words.Double double_line n) (both (flat fs words.Text string_line n) (both (flat fs words.Namespace (namespace_line v) n) (both (flat fs words.Set (set_line v) n) (flat fs words.Name (name_line v) n))))
-          (flat-lawful given (rules v instances) words.Double double_line (λ e. absurd (omega arith)) (λ labels tokens. refl) (free v instances words.Double (λ e. absurd (omega arith)) (λ row after. refl)) double-are n)
-          strings-lawful (apart (4 ∷ 5 ∷ 6 ∷ 7 ∷ []) (3 ∷ []) refl)
+        (flat-lawful given (rules v instances) words.Double double_line (λ e. absurd (omega arith)) (λ labels tokens. refl) (free v instances words.Double (λ e. absurd (omega arith)) (λ row after. refl)) double-are n)
+        strings-lawful (apart (4 ∷ 5 ∷ 6 ∷ 7 ∷ []) (3 ∷ []) refl)
 
     uints-lawful : Lawful given shows_operands fs n (both (flat fs words.UInt uint_line n) (both (flat fs words.Double double_line n) (both (flat fs words.Text string_line n) (both (flat fs words.Namespace (namespace_line v) n) (both (flat fs words.Set (set_line v) n) (flat fs words.Name (name_line v) n))))))
     uints-lawful =
         both-lawful given shows_operands fs n (flat fs words.UInt uint_line n) (both (flat fs words.Double double_line n) (both (flat fs words.Text string_line n) (both (flat fs words.Namespace (namespace_line v) n) (both (flat fs words.Set (set_line v) n) (flat fs words.Name (name_line v) n)))))
-          (flat-lawful given (rules v instances) words.UInt uint_line (λ e. absurd (omega arith)) (λ labels tokens. refl) (free v instances words.UInt (λ e. absurd (omega arith)) (λ row after. refl)) uint-are n)
-          doubles-lawful (apart (3 ∷ 4 ∷ 5 ∷ 6 ∷ 7 ∷ []) (2 ∷ []) refl)
+        (flat-lawful given (rules v instances) words.UInt uint_line (λ e. absurd (omega arith)) (λ labels tokens. refl) (free v instances words.UInt (λ e. absurd (omega arith)) (λ row after. refl)) uint-are n)
+        doubles-lawful (apart (3 ∷ 4 ∷ 5 ∷ 6 ∷ 7 ∷ []) (2 ∷ []) refl)
 
     pub pools-lawful : Lawful given shows_operands fs n (pools v instances n)
     unfolding pools
     pools-lawful =
         both-lawful given shows_operands fs n (flat fs words.Int int_line n) (both (flat fs words.UInt uint_line n) (both (flat fs words.Double double_line n) (both (flat fs words.Text string_line n) (both (flat fs words.Namespace (namespace_line v) n) (both (flat fs words.Set (set_line v) n) (flat fs words.Name (name_line v) n))))))
-          (flat-lawful given (rules v instances) words.Int int_line (λ e. absurd (omega arith)) (λ labels tokens. refl) (free v instances words.Int (λ e. absurd (omega arith)) (λ row after. refl)) int-are n)
-          uints-lawful (apart (2 ∷ 3 ∷ 4 ∷ 5 ∷ 6 ∷ 7 ∷ []) (1 ∷ []) refl)
+        (flat-lawful given (rules v instances) words.Int int_line (λ e. absurd (omega arith)) (λ labels tokens. refl) (free v instances words.Int (λ e. absurd (omega arith)) (λ row after. refl)) int-are n)
+        uints-lawful (apart (2 ∷ 3 ∷ 4 ∷ 5 ∷ 6 ∷ 7 ∷ []) (1 ∷ []) refl)
 
     -- ---- the places of the tables
 
@@ -139,7 +136,7 @@ module _ (v : Sizes) (instances : ℕ) where
     pub scripts_on-lawful : Lawful given shows_operands fs n scripts_on
     scripts_on-lawful =
         both-lawful given shows_operands fs n (scripts v instances n) (body_lines v instances n) (scripts-lawful v instances n) (bodies-lawful v instances n)
-          (apart_at _ _ (22 ∷ []) (21 ∷ 18 ∷ 19 ∷ skipped) bodies_starts scripts_has (apart (22 ∷ []) (21 ∷ 18 ∷ 19 ∷ skipped) refl))
+        (apart_at _ _ (22 ∷ []) (21 ∷ 18 ∷ 19 ∷ skipped) bodies_starts scripts_has (apart (22 ∷ []) (21 ∷ 18 ∷ 19 ∷ skipped) refl))
 
     abbrev pub classes_on : Rows (List ClassInfo × (List Script × List Body))
     classes_on = both (classes v instances n) scripts_on
@@ -147,7 +144,7 @@ module _ (v : Sizes) (instances : ℕ) where
     pub classes_on-lawful : Lawful given shows_operands fs n classes_on
     classes_on-lawful =
         both-lawful given shows_operands fs n (classes v instances n) scripts_on (classes-lawful v instances n) scripts_on-lawful
-          (apart_at _ _ (21 ∷ 22 ∷ []) (20 ∷ 18 ∷ 19 ∷ skipped) later_starts classes_has (apart (21 ∷ 22 ∷ []) (20 ∷ 18 ∷ 19 ∷ skipped) refl))
+        (apart_at _ _ (21 ∷ 22 ∷ []) (20 ∷ 18 ∷ 19 ∷ skipped) later_starts classes_has (apart (21 ∷ 22 ∷ []) (20 ∷ 18 ∷ 19 ∷ skipped) refl))
 
     abbrev pub instances_on : Rows (List (InstanceHead × InstanceBelow v instances) × (List ClassInfo × (List Script × List Body)))
     instances_on = both (instance_lines v instances n) classes_on
@@ -155,7 +152,7 @@ module _ (v : Sizes) (instances : ℕ) where
     pub instances_on-lawful : Lawful given shows_operands fs n instances_on
     instances_on-lawful =
         both-lawful given shows_operands fs n (instance_lines v instances n) classes_on (instances-lawful v instances n) classes_on-lawful
-          (apart_at _ _ (20 ∷ 21 ∷ 22 ∷ []) (14 ∷ 15 ∷ 16 ∷ 17 ∷ 18 ∷ 19 ∷ 23 ∷ 25 ∷ skipped) class_starts instances_has (apart (20 ∷ 21 ∷ 22 ∷ []) (14 ∷ 15 ∷ 16 ∷ 17 ∷ 18 ∷ 19 ∷ 23 ∷ 25 ∷ skipped) refl))
+        (apart_at _ _ (20 ∷ 21 ∷ 22 ∷ []) (14 ∷ 15 ∷ 16 ∷ 17 ∷ 18 ∷ 19 ∷ 23 ∷ 25 ∷ skipped) class_starts instances_has (apart (20 ∷ 21 ∷ 22 ∷ []) (14 ∷ 15 ∷ 16 ∷ 17 ∷ 18 ∷ 19 ∷ 23 ∷ 25 ∷ skipped) refl))
 
     abbrev pub metadata_on : Rows (List (ℕ × List (ℕ × ℕ)) × (List (InstanceHead × InstanceBelow v instances) × (List ClassInfo × (List Script × List Body))))
     metadata_on = both (metadata v instances n) instances_on
@@ -163,7 +160,7 @@ module _ (v : Sizes) (instances : ℕ) where
     pub metadata_on-lawful : Lawful given shows_operands fs n metadata_on
     metadata_on-lawful =
         both-lawful given shows_operands fs n (metadata v instances n) instances_on (metadata-lawful v instances n) instances_on-lawful
-          (apart_at _ _ (14 ∷ 20 ∷ 21 ∷ 22 ∷ []) (12 ∷ 13 ∷ []) instance_starts metadata_has (apart (14 ∷ 20 ∷ 21 ∷ 22 ∷ []) (12 ∷ 13 ∷ []) refl))
+        (apart_at _ _ (14 ∷ 20 ∷ 21 ∷ 22 ∷ []) (12 ∷ 13 ∷ []) instance_starts metadata_has (apart (14 ∷ 20 ∷ 21 ∷ 22 ∷ []) (12 ∷ 13 ∷ []) refl))
 
     abbrev pub methods_on : Rows (List Method × (List (ℕ × List (ℕ × ℕ)) × (List (InstanceHead × InstanceBelow v instances) × (List ClassInfo × (List Script × List Body)))))
     methods_on = both (methods v instances n) metadata_on
@@ -171,13 +168,13 @@ module _ (v : Sizes) (instances : ℕ) where
     pub methods_on-lawful : Lawful given shows_operands fs n methods_on
     methods_on-lawful =
         both-lawful given shows_operands fs n (methods v instances n) metadata_on (methods-lawful v instances n) metadata_on-lawful
-          (apart_at _ _ (12 ∷ 14 ∷ 20 ∷ 21 ∷ 22 ∷ []) (8 ∷ 9 ∷ 10 ∷ 11 ∷ skipped) metadata_starts methods_has (apart (12 ∷ 14 ∷ 20 ∷ 21 ∷ 22 ∷ []) (8 ∷ 9 ∷ 10 ∷ 11 ∷ skipped) refl))
+        (apart_at _ _ (12 ∷ 14 ∷ 20 ∷ 21 ∷ 22 ∷ []) (8 ∷ 9 ∷ 10 ∷ 11 ∷ skipped) metadata_starts methods_has (apart (12 ∷ 14 ∷ 20 ∷ 21 ∷ 22 ∷ []) (8 ∷ 9 ∷ 10 ∷ 11 ∷ skipped) refl))
 
     pub file-lawful : Lawful given shows_operands fs n (file v instances n)
     unfolding file
     file-lawful =
         both-lawful given shows_operands fs n (pools v instances n) methods_on pools-lawful methods_on-lawful
-          (apart_at _ _ (8 ∷ 12 ∷ 14 ∷ 20 ∷ 21 ∷ 22 ∷ []) (1 ∷ 2 ∷ 3 ∷ 4 ∷ 5 ∷ 6 ∷ 7 ∷ []) method_starts pools_has (apart (8 ∷ 12 ∷ 14 ∷ 20 ∷ 21 ∷ 22 ∷ []) (1 ∷ 2 ∷ 3 ∷ 4 ∷ 5 ∷ 6 ∷ 7 ∷ []) refl))
+        (apart_at _ _ (8 ∷ 12 ∷ 14 ∷ 20 ∷ 21 ∷ 22 ∷ []) (1 ∷ 2 ∷ 3 ∷ 4 ∷ 5 ∷ 6 ∷ 7 ∷ []) method_starts pools_has (apart (8 ∷ 12 ∷ 14 ∷ 20 ∷ 21 ∷ 22 ∷ []) (1 ∷ 2 ∷ 3 ∷ 4 ∷ 5 ∷ 6 ∷ 7 ∷ []) refl))
 
   -- ---- the first line
 
@@ -214,7 +211,7 @@ module _ (v : Sizes) (instances : ℕ) where
       let is = version_keeps.found row after here plain e in
       let fit = version_fit row after here e in
       let all : version_line.items x ≡ Number 16 ∷ Number 46 ∷ [] =
-          items_are x ∙ ap (λ (m : ℕ). Number m ∷ Number x.1.0 ∷ []) (exact 16 x.0 fit.0) ∙ ap (λ (m : ℕ). Number 16 ∷ Number m ∷ []) (exact 46 x.1.0 fit.1.0) in
+      items_are x ∙ ap (λ (m : ℕ). Number m ∷ Number x.1.0 ∷ []) (exact 16 x.0 fit.0) ∙ ap (λ (m : ℕ). Number 16 ∷ Number m ∷ []) (exact 46 x.1.0 fit.1.0) in
       subst (λ (l : List Item). IsLine shows_operands row words.Abc l) all is
 
   pub version_clean : (row : Row) (after : List Row) → IsLine shows_operands row words.Abc (Number 16 ∷ Number 46 ∷ []) → least (fs row after) ≡ None

@@ -52,20 +52,37 @@ instance_in i = (instance_head i, (option_to_list i.protected_ns, (i.interfaces,
 
 abbrev pub instance_of : InstanceHead × (List ℕ × (List ℕ × Option (ℕ × List TraitInfo))) → Instance
 instance_of x = record {
-  name = x.0.name; super_name = x.0.super_name; flags = x.0.flags; protected_ns = first_in x.1.0; interfaces = x.1.1.0;
-  iinit = (initializer_in x.1.1.1).0; traits = (initializer_in x.1.1.1).1;
+  name = x.0.name;
+  super_name = x.0.super_name;
+  flags = x.0.flags;
+  protected_ns = first_in x.1.0;
+  interfaces = x.1.1.0;
+  iinit = (initializer_in x.1.1.1).0;
+  traits = (initializer_in x.1.1.1).1;
 }
 
 module _ (sizes : Sizes) (instances : ℕ) where
   abbrev pub outline_of : Abc → Outline sizes instances
   outline_of v = (
     (v.ints, (v.uints, (v.doubles, (v.strings, (v.namespaces, (v.sets, v.names)))))),
-    (v.methods, (map metadata_lines v.metadata, (map instance_in v.instances, (v.classes, (v.scripts, v.bodies))))))
+    (v.methods, (map metadata_lines v.metadata, (map instance_in v.instances, (v.classes, (v.scripts, v.bodies))))),
+  )
 
   abbrev pub abc_of : Outline sizes instances → Abc
   abc_of x = record {
-    ints = x.0.0; uints = x.0.1.0; doubles = x.0.1.1.0; strings = x.0.1.1.1.0; namespaces = x.0.1.1.1.1.0; sets = x.0.1.1.1.1.1.0; names = x.0.1.1.1.1.1.1;
-    methods = x.1.0; metadata = map metadata_of x.1.1.0; instances = map instance_of x.1.1.1.0; classes = x.1.1.1.1.0; scripts = x.1.1.1.1.1.0; bodies = x.1.1.1.1.1.1;
+    ints = x.0.0;
+    uints = x.0.1.0;
+    doubles = x.0.1.1.0;
+    strings = x.0.1.1.1.0;
+    namespaces = x.0.1.1.1.1.0;
+    sets = x.0.1.1.1.1.1.0;
+    names = x.0.1.1.1.1.1.1;
+    methods = x.1.0;
+    metadata = map metadata_of x.1.1.0;
+    instances = map instance_of x.1.1.1.0;
+    classes = x.1.1.1.1.0;
+    scripts = x.1.1.1.1.1.0;
+    bodies = x.1.1.1.1.1.1;
   }
 
 -- ---- the lines of a file

@@ -1,5 +1,5 @@
 -- The lines of a file: the one table that the assembler and the disassembler share.
-use Rattle.std.specs.Prelude.{◌≡◌, ℕ, ◌+◌, ◌-◌, ◌≤◌, ◌^◌, ℤ, Bool, true, false, ◌&&◌, ◌||◌, nat_eq, nat_le, IsSome, List, [], ◌∷◌, length, map, Some, None, Ok, Err, if◌then◌else◌}
+use Rattle.std.specs.Prelude.{◌≡◌, ℕ, ◌-◌, ◌^◌, ℤ, Bool, true, false, ◌&&◌, ◌||◌, nat_eq, nat_le, IsSome, List, [], ◌∷◌, length, map, Ok, Err, if◌then◌else◌}
 use Rattle.std.specs.declared.option.Option.{Option}
 use Rattle.std.specs.declared.result.Result.{Result}
 use Rattle.abc_text.specs.declared.reason.AsmReason.{AsmReason}
@@ -25,7 +25,7 @@ use Rattle.abc_tables.specs.CodeBytes.{code_len}
 use Rattle.abc_tables.specs.Methods.{has_flag}
 use Rattle.abc_rowparts.specs.Lines.{Label, Row}
 use Rattle.abc_rowparts.specs.Operands.{none, reasons_of}
-use Rattle.abc_rowparts.specs.Rows.{Fault, Faults, Head, Rows, both, code, image, many, nothing, optional}
+use Rattle.abc_rowparts.specs.Rows.{Fault, Faults, Head, Rows, both, code, image, many, optional}
 use Rattle.abc_rowparts.specs.Wordlines.{Rules, always, closed_to, count_all, count_lines, faults_of, flat, instruction, line}
 use Rattle.abc_lines.specs.Lineforms.{BodyHead, InstanceHead, MethodHead, TraitHead, body_line, catch_line, double_line, entry_line, implements_line, instance_line, instruction_line, int_line, method_index_line, method_line, name_line, namespace_line, number_line, opcode_of, option_line, param_line, protected_line, set_line, string_index_line, string_line, trait_line, trait_metadata_line, uint_line, version_line}
 
@@ -217,12 +217,19 @@ module _ (v : Sizes) (instances : ℕ) where
   unfoldable pub body_lines : ℕ → Rows (List Body)
   body_lines n = image
       (map (λ (x : BodyHead × (List Instr × (List Handler × List TraitInfo))). record {
-        method = x.0.method; max_stack = x.0.max_stack; local_count = x.0.local_count; init_scope = x.0.init_scope; max_scope = x.0.max_scope;
-        code = x.1.0; handlers = x.1.1.0; traits = x.1.1.1;
+        method = x.0.method;
+        max_stack = x.0.max_stack;
+        local_count = x.0.local_count;
+        init_scope = x.0.init_scope;
+        max_scope = x.0.max_scope;
+        code = x.1.0;
+        handlers = x.1.1.0;
+        traits = x.1.1.1;
       }))
       (map (λ (b : Body). (
         record { method = b.method; max_stack = b.max_stack; local_count = b.local_count; init_scope = b.init_scope; max_scope = b.max_scope },
-        (b.code, (b.handlers, b.traits)))))
+        (b.code, (b.handlers, b.traits)),
+      )))
       (many faults (line words.Body (body_line v) BodyAgrees) (body_below faults n) n)
 
   -- the values of the pools

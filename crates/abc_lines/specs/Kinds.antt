@@ -1,6 +1,5 @@
 -- The words that an assembly text has for kinds.
-use Rattle.std.specs.Prelude.{ℕ, true, false, List, [], ◌∷◌, codes, Some, None}
-use Rattle.std.specs.declared.option.Option.{Option}
+use Rattle.std.specs.Prelude.{ℕ, true, false, List, [], ◌∷◌, codes}
 use Rattle.abc_tables.specs.declared.names.NsKind.{NsKind}
 use Rattle.abc_tables.specs.declared.names.NsKind.TheVariants as spaces
 use Rattle.abc_tables.specs.declared.names.MultinameKind.{MultinameKind}

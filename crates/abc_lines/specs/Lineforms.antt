@@ -1,8 +1,7 @@
 -- The operands of each line.
-use Rattle.std.specs.Prelude.{◌≡◌, ℕ, zero, suc, ℤ, pos, negsuc, ◌^◌, Bool, true, false, nat_le, List, [], ◌∷◌, Some, None}
+use Rattle.std.specs.Prelude.{ℕ, zero, suc, ℤ, pos, negsuc, ◌^◌, true, false, List, [], ◌∷◌, Some, None}
 use Rattle.std.specs.declared.option.Option.{Option}
 use Rattle.abc_text.specs.declared.reason.AsmReason.TheVariants as reasons
-use Rattle.abc_text.specs.Tokens.{Token}
 use Rattle.abc_tables.specs.declared.names.Namespace.{Namespace}
 use Rattle.abc_tables.specs.declared.names.MultinameKind.{MultinameKind}
 use Rattle.abc_tables.specs.declared.names.MultinameKind.TheVariants as kinds
@@ -25,7 +24,6 @@ use Rattle.abc_tables.specs.declared.opcodes.Form.TheVariants as forms
 use Rattle.abc_tables.specs.Opcodes.{form_at}
 use Rattle.abc_tables.specs.Methods.{has_value}
 use Rattle.abc_tables.specs.Traits.{trait_kind_in}
-use Rattle.abc_rowparts.specs.Lines.{Label}
 use Rattle.abc_rowparts.specs.Operands.{Operand, Operands, by, checked, eight, entry_upto, exactly, index_below, index_upto, none, number_below, seen, several, signed_between, target, text, u30, unseen, ◌&◌}
 use Rattle.abc_lines.specs.Kinds.{multiname_kind, space_kind, trait_kind, value_kind}
 
@@ -232,14 +230,14 @@ pub record BodyHead : Type 0 where
 unfoldable pub body_line : Sizes → Operands BodyHead
 body_line v =
     seen (λ x. record { method = x.0; max_stack = x.1.0; local_count = x.1.1.0; init_scope = x.1.1.1.0; max_scope = x.1.1.1.1.0 })
-      (λ b. (b.method, (b.max_stack, (b.local_count, (b.init_scope, (b.max_scope, tt))))))
-      (index_below v.methods & (u30 & (u30 & (u30 & (u30 & none)))))
+    (λ b. (b.method, (b.max_stack, (b.local_count, (b.init_scope, (b.max_scope, tt))))))
+    (index_below v.methods & (u30 & (u30 & (u30 & (u30 & none)))))
 
 unfoldable pub catch_line : Sizes → Operands Handler
 catch_line v =
     seen (λ x. record { from = x.0; to = x.1.0; target = x.1.1.0; exc_type = x.1.1.1.0; var_name = x.1.1.1.1.0 })
-      (λ h. (h.from, (h.to, (h.target, (h.exc_type, (h.var_name, tt))))))
-      (target & (target & (target & (index_upto v.names & (index_upto v.names & none)))))
+    (λ h. (h.from, (h.to, (h.target, (h.exc_type, (h.var_name, tt))))))
+    (target & (target & (target & (index_upto v.names & (index_upto v.names & none)))))
 
 -- ---- instructions
 

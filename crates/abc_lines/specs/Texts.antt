@@ -139,10 +139,10 @@ abbrev pub rows_from : List Label → List (List ℕ) → List (List ℕ) → Li
 rows_from labels set taken [] = []
 rows_from labels set taken (raw ∷ raws) =
     by_step (step_of raw.word)
-      (row raw (labels_set 0 raws) (is_taken (method_in raw.operands) taken) ∷ rows_from (labels_set 0 raws) [] (method_in raw.operands ++ taken) raws)
-      (row raw labels (is_among raw.name set) ∷ rows_from labels (raw.name ∷ set) taken raws)
-      (row raw labels false ∷ rows_from labels set taken raws)
-      (row raw labels false ∷ rows_from labels set taken raws)
+    (row raw (labels_set 0 raws) (is_taken (method_in raw.operands) taken) ∷ rows_from (labels_set 0 raws) [] (method_in raw.operands ++ taken) raws)
+    (row raw labels (is_among raw.name set) ∷ rows_from labels (raw.name ∷ set) taken raws)
+    (row raw labels false ∷ rows_from labels set taken raws)
+    (row raw labels false ∷ rows_from labels set taken raws)
 
 -- the lines of a text that have tokens
 unfoldable pub rows_of : List ℕ → List Row

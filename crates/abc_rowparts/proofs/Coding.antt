@@ -1,12 +1,12 @@
 -- Label lines and instructions.
-use Rattle.std.proofs.Common.{◌≡◌, ℕ, zero, suc, ◌+◌, ◌<◌, ◌≤◌, ◌⊎◌, inl, inr, Bool, true, false, cond, nat_eq, List, [], ◌∷◌, ◌++◌, length, map, Ok, Err, Some, None, refl, sym, ap, subst, ◌∙◌, append_assoc, append-nil, length-append, arith}
+use Rattle.std.proofs.Common.{◌≡◌, ℕ, ◌+◌, inl, inr, Bool, true, false, cond, nat_eq, List, [], ◌∷◌, ◌++◌, Ok, Err, Some, None, refl, sym, ap, subst, ◌∙◌, append_assoc}
 use Rattle.std.specs.List.{AllByRecursion}
 use Rattle.std.specs.declared.result.Result.{Result}
 use Rattle.abc_text.specs.Reasons.{least}
 use Rattle.abc_text.specs.Words.{place_of}
-use Rattle.abc_rowparts.specs.Lines.{Row, Shown, Line, Labels, places, places_shown}
-use Rattle.abc_rowparts.specs.Rows.{AllFit, Fault, Faults, Rows, Head, nothing, fault, unless, code, coded, code_reads, code_after, is_label, ◌>>=◌}
-use Rattle.abc_rowparts.specs.Law.{Among, Clean, IsFree, IsLine, IsLabel, Keeps, Lawful, Match, Next, Refused, Shows, Taken}
+use Rattle.abc_rowparts.specs.Lines.{Row, places, places_shown}
+use Rattle.abc_rowparts.specs.Rows.{AllFit, Fault, Faults, Rows, Head, nothing, unless, code, coded, code_reads, code_after, is_label}
+use Rattle.abc_rowparts.specs.Law.{Among, Clean, IsLabel, Keeps, Lawful, Match, Next, Shows}
 use Rattle.abc_text.proofs.Bools.{if_is, split_bool}
 use Rattle.abc_rowparts.proofs.Pieces.{bind_err, bind_ok, fine, ok_is, unless_err, unless_ok}
 use Rattle.abc_rowparts.proofs.Many.{eq_refl, eq_true, label_place, none_inside, same_cons}
@@ -131,9 +131,13 @@ module _ {I : Type 0} (given : Type 0) (same : Shows) (faults : Faults) (head : 
               | inr later ↦
                   let r = code_refused rows f (coded_err (is_label row.word) (head.value row) (code_reads faults head rows) f later.1) in
                   record {
-                    front = row ∷ r.front; row = r.row; after = r.after; parts = ap (λ (l : List Row). row ∷ l) r.parts;
+                    front = row ∷ r.front;
+                    row = r.row;
+                    after = r.after;
+                    parts = ap (λ (l : List Row). row ∷ l) r.parts;
                     clean = (subst (λ (l : List Row). least (faults row l) ≡ None) r.parts later.0, r.clean);
-                    reason = r.reason; line = r.line;
+                    reason = r.reason;
+                    line = r.line;
                     like = head.value row ∷ r.like;
                     alike = λ k. same_cons (place_of (head.word (head.value row))) (place_of row.word) (places_shown (code_after head (k + 1) r.like)) (places r.front ++ place_of r.row.word ∷ []) (here_alike k) (r.alike (k + 1));
                   }
@@ -162,7 +166,7 @@ module _ {I : Type 0} (given : Type 0) (same : Shows) (faults : Faults) (head : 
       let row = match.0 in
       let next = match.4 in
       let regroup : others ++ rest ≡ row ∷ (next.0 ++ (next.1 ++ rest)) =
-          ap (λ (l : List Row). l ++ rest) match.2 ∙ ap (λ (l : List Row). row ∷ (l ++ rest)) next.2 ∙ ap (λ (l : List Row). row ∷ l) (append_assoc next.0 next.1 rest) in
+      ap (λ (l : List Row). l ++ rest) match.2 ∙ ap (λ (l : List Row). row ∷ (l ++ rest)) next.2 ∙ ap (λ (l : List Row). row ∷ l) (append_assoc next.0 next.1 rest) in
       let tail : code_reads faults head (next.0 ++ (next.1 ++ rest)) ≡ Ok (is, rest) = skipped next.0 (next.1 ++ rest) (is, rest) next.3 (after_again (k + 1) is next.1 rest fit.1 next.4 free) in
       let a = keeps.again row [] (next.0 ++ (next.1 ++ rest)) i tt fit.0 match.3 refl tt (λ w h m. m) in
       let here_ : nat_eq (place_of row.word) head.place ≡ true = eq_refl (place_of row.word) head.place (ap place_of match.3.word ∙ keeps.at i) in
@@ -186,5 +190,8 @@ module _ {I : Type 0} (given : Type 0) (same : Shows) (faults : Faults) (head : 
         let regroup : front ++ rest ≡ match.0 ++ (match.1 ++ rest) = ap (λ (l : List Row). l ++ rest) match.2 ∙ append_assoc match.0 match.1 rest in
         let body = skipped match.0 (match.1 ++ rest) (x, rest) match.3 (after_again k x match.1 rest fit match.4 (λ h. free head.place h (inl refl))) in
         rw regroup body;
-    some = []; first = code_first k; begins = code_begins k; inside = code_inside k;
+    some = [];
+    first = code_first k;
+    begins = code_begins k;
+    inside = code_inside k;
   }

@@ -1,12 +1,12 @@
 -- How many lines of a value stand at a place.
-use Rattle.std.proofs.Common.{◌≡◌, ℕ, suc, ◌+◌, ◌⊎◌, inl, inr, Bool, true, false, cond, nat_eq, List, [], ◌∷◌, ◌++◌, length, map, refl, sym, ap, subst, ◌∙◌, append_assoc, arith}
+use Rattle.std.proofs.Common.{◌≡◌, ℕ, ◌+◌, inl, inr, true, false, nat_eq, List, [], ◌∷◌, ◌++◌, length, map, refl, sym, ap, subst, ◌∙◌, append_assoc, arith}
 use Rattle.std.specs.List.{AllByRecursion}
 use Rattle.abc_text.specs.declared.word.Word.{Word}
 use Rattle.abc_text.specs.Words.{place_of}
-use Rattle.abc_text.proofs.Bools.{if_is, split_bool}
-use Rattle.abc_rowparts.specs.Lines.{Row, Shown, Line, Labels, places, places_shown}
+use Rattle.abc_text.proofs.Bools.{split_bool}
+use Rattle.abc_rowparts.specs.Lines.{Row, Shown, Line, Labels, places_shown}
 use Rattle.abc_rowparts.specs.Operands.{Operands}
-use Rattle.abc_rowparts.specs.Rows.{Faults, Head, Rows, items_shown, nothing}
+use Rattle.abc_rowparts.specs.Rows.{Head, Rows, items_shown, nothing}
 use Rattle.abc_rowparts.specs.Law.{Among, IsLabel, Match, Next, Shows}
 use Rattle.abc_rowparts.specs.Wordlines.{always, among, count_all, count_in, count_lines, line}
 use Rattle.abc_rowparts.proofs.Many.{eq_refl, eq_true, label_place}
@@ -41,7 +41,7 @@ many_count head below at inside free (x ∷ xs) =
     let none = count_in-none head.place (places_shown (below.shows x.1)) below.has (inside x.1) free in
     let more = many_count head below at inside free xs in
     let all : count_in head.place (places_shown (below.shows x.1 ++ items_shown head below xs)) ≡ length xs =
-        ap (count_in head.place) (shown-append (below.shows x.1) (items_shown head below xs)) ∙ count_in-append head.place (places_shown (below.shows x.1)) (places_shown (items_shown head below xs)) ∙ omega (arith, none, more) in
+    ap (count_in head.place) (shown-append (below.shows x.1) (items_shown head below xs)) ∙ count_in-append head.place (places_shown (below.shows x.1)) (places_shown (items_shown head below xs)) ∙ omega (arith, none, more) in
     rw yes (omega (arith, all))
 
 -- heads and lines below them, of which none stands at a place
@@ -50,7 +50,7 @@ many_none place head below other none [] = refl
 many_none place head below other none (x ∷ xs) =
     let here = other x.0 in
     let all : count_in place (places_shown (below.shows x.1 ++ items_shown head below xs)) ≡ 0 =
-        ap (count_in place) (shown-append (below.shows x.1) (items_shown head below xs)) ∙ count_in-append place (places_shown (below.shows x.1)) (places_shown (items_shown head below xs)) ∙ omega (arith, none x.1, many_none place head below other none xs) in
+    ap (count_in place) (shown-append (below.shows x.1) (items_shown head below xs)) ∙ count_in-append place (places_shown (below.shows x.1)) (places_shown (items_shown head below xs)) ∙ omega (arith, none x.1, many_none place head below other none xs) in
     rw here all
 
 -- ---- rows

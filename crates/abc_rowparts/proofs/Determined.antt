@@ -1,19 +1,19 @@
 -- Lines are those of exactly one value, or have exactly one fault.
-use Rattle.std.proofs.Common.{◌≡◌, ℕ, zero, suc, ◌+◌, ◌<◌, ◌≤◌, ◌⊎◌, inl, inr, Bool, true, false, cond, nat_eq, List, [], ◌∷◌, ◌++◌, length, map, Ok, Err, Some, None, refl, sym, ap, subst, ◌∙◌, append_assoc, append-nil, length-append, arith}
+use Rattle.std.proofs.Common.{◌≡◌, ℕ, suc, ◌≤◌, ◌⊎◌, inl, inr, true, false, nat_eq, List, [], ◌∷◌, ◌++◌, length, Ok, Err, Some, None, refl, sym, ap, subst, ◌∙◌, append_assoc, append-nil, arith}
 use Rattle.std.specs.declared.result.Result.{Result}
 use Rattle.abc_text.specs.declared.reason.AsmReason.{AsmReason}
 use Rattle.abc_text.specs.declared.reason.AsmReason.TheVariants as reasons
 use Rattle.abc_text.specs.declared.word.Word.TheVariants as words
 use Rattle.abc_text.specs.Reasons.{least, lesser, rank}
 use Rattle.abc_text.specs.Words.{place_of}
-use Rattle.abc_rowparts.specs.Lines.{Row, Shown, Line, Number, places, places_shown}
+use Rattle.abc_rowparts.specs.Lines.{Row, Number, places, places_shown}
 use Rattle.abc_rowparts.specs.Rows.{Fault, Faults, Rows, fault, unless, ◌>>=◌}
-use Rattle.abc_rowparts.specs.Law.{Among, Clean, IsFree, IsLine, Lawful, Match, Next, Refused, Shows, Taken}
-use Rattle.abc_rowparts.specs.Assembly.{CanBegin, HasReason, IsAssemblyFault, IsAssemblyOf, IsDetermined, IsFaultOf, IsIn, assembles, ended, lines_of, misplaced}
-use Rattle.abc_rowparts.proofs.Leasts.{IsLeast, least_none, least_some, lesser_least, same_rank}
+use Rattle.abc_rowparts.specs.Law.{Clean, IsLine, Lawful, Match, Refused, Shows, Taken}
+use Rattle.abc_rowparts.specs.Assembly.{CanBegin, HasReason, IsAssemblyFault, IsAssemblyOf, IsDetermined, IsFaultOf, assembles, ended, lines_of, misplaced}
+use Rattle.abc_rowparts.proofs.Leasts.{least_none, least_some, lesser_least, same_rank}
 use Rattle.abc_rowparts.proofs.Many.{eq_refl, eq_true}
 use Rattle.abc_text.proofs.Bools.{if_is}
-use Rattle.abc_rowparts.proofs.Pieces.{bind_err, bind_ok, cut, fine, ok_is, places-append, unless_err, unless_ok}
+use Rattle.abc_rowparts.proofs.Pieces.{cut, ok_is, places-append, unless_err, unless_ok}
 
 pub Clean-at : (faults : Faults) (a : List Row) (row : Row) (b rest : List Row) → Clean faults (a ++ row ∷ b) rest → least (faults row (b ++ rest)) ≡ None
 Clean-at faults [] row b rest c = c.0
@@ -100,7 +100,11 @@ module _ {A : Type 0} (given : Type 0) (same : Shows) (faults : Faults) (body : 
   misplaced_fault front row after v clean alike no_value =
       let m = lesser_least reasons.Order (faults row after) in
       record {
-        front = front; row = row; after = after; parts = refl; line = refl;
+        front = front;
+        row = row;
+        after = after;
+        parts = refl;
+        line = refl;
         before = none_before front (row ∷ after) v [] clean (alike ∙ sym (append-nil (places front)));
         holds = elim m.among [ inl e ↦ inr (e, no_value) | inr i ↦ inl i ];
         first = λ s h. m.first s (elim h [ inl i ↦ inr i | inr o ↦ inl o.0 ]);
@@ -111,7 +115,11 @@ module _ {A : Type 0} (given : Type 0) (same : Shows) (faults : Faults) (body : 
       let m = least_some (faults r.row r.after) f.reason r.reason in
       let alike : places_shown (lines_of body r.like) ≡ places (row ∷ r.front) ++ place_of r.row.word ∷ r.more = cons_same (place_of row.word) 0 (places r.front ++ place_of r.row.word ∷ r.more) (places_shown (body.shows r.like)) here r.alike in
       record {
-        front = row ∷ r.front; row = r.row; after = r.after; parts = ap (λ (l : List Row). row ∷ l) r.parts; line = r.line;
+        front = row ∷ r.front;
+        row = r.row;
+        after = r.after;
+        parts = ap (λ (l : List Row). row ∷ l) r.parts;
+        line = r.line;
         before = none_before (row ∷ r.front) (r.row ∷ r.after) r.like (place_of r.row.word ∷ r.more) (subst (λ (l : List Row). least (faults row l) ≡ None) r.parts clean, r.clean) alike;
         holds = inl m.among;
         first = λ s h. elim h [ inl i ↦ m.first s i | inr o ↦ absurd (o.1 (r.like, r.more, alike ∙ sym (append_assoc (places (row ∷ r.front)) (place_of r.row.word ∷ []) r.more))) ];
@@ -121,7 +129,11 @@ module _ {A : Type 0} (given : Type 0) (same : Shows) (faults : Faults) (body : 
   version_fault row rows f here reason line v =
       let m = least_some (faults row rows) f.reason reason in
       record {
-        front = []; row = row; after = rows; parts = refl; line = line;
+        front = [];
+        row = row;
+        after = rows;
+        parts = refl;
+        line = line;
         before = λ a other b r e h. absurd (none_front a other b e);
         holds = inl m.among;
         first = λ s h. elim h [ inl i ↦ m.first s i | inr o ↦ absurd (o.1 (v, places_shown (body.shows v), ap (λ (p : ℕ). p ∷ places_shown (body.shows v)) (sym here))) ];
@@ -131,7 +143,11 @@ module _ {A : Type 0} (given : Type 0) (same : Shows) (faults : Faults) (body : 
   first_fault row rows differs v =
       let m = lesser_least reasons.Order (faults row rows) in
       record {
-        front = []; row = row; after = rows; parts = refl; line = refl;
+        front = [];
+        row = row;
+        after = rows;
+        parts = refl;
+        line = refl;
         before = λ a other b r e h. absurd (none_front a other b e);
         holds = elim m.among [ inl e ↦ inr (e, λ c. other_first (place_of row.word) (places_shown (body.shows c.0)) c.1 differs c.2) | inr i ↦ inl i ];
         first = λ s h. m.first s (elim h [ inl i ↦ inr i | inr o ↦ inl o.0 ]);
@@ -150,7 +166,7 @@ module _ {A : Type 0} (given : Type 0) (same : Shows) (faults : Faults) (body : 
         let alike : places_shown (lines_of body t.like) ≡ places (row ∷ t.front) ++ [] = cons_same (place_of row.word) 0 (places t.front) (places_shown (body.shows t.like)) here t.alike ∙ sym (append-nil (places (row ∷ t.front))) in
         let cleaned : Clean faults (row ∷ t.front) [] = (subst (λ (l : List Row). least (faults row l) ≡ None) t.parts clean, t.clean) in
         let none : NoReason (row ∷ rows) = λ a other b reason e h.
-            none_before (row ∷ t.front) [] t.like [] cleaned alike a other b reason (ap (λ (l : List Row). row ∷ l) (sym all) ∙ e) (subst (λ (l : List Row). HasReason faults body a other l reason) (sym (append-nil b)) h) in
+        none_before (row ∷ t.front) [] t.like [] cleaned alike a other b reason (ap (λ (l : List Row). row ∷ l) (sym all) ∙ e) (subst (λ (l : List Row). HasReason faults body a other l reason) (sym (append-nil b)) h) in
         record {
           ok = λ v e. subst (λ (w : A). Answered (row ∷ rows) w) (ok_is x v e) (record { is = record { shown = shown; fits = t.fits (given_holds (subst (λ (l : List Row). Clean faults (row ∷ l) []) (sym all) cleaned)) (λ w h k. h) }; clean = none });
           err = λ f e. absurd cc;
@@ -159,7 +175,7 @@ module _ {A : Type 0} (given : Type 0) (same : Shows) (faults : Faults) (body : 
         let alike : places_shown (lines_of body t.like) ≡ places (row ∷ t.front) = cons_same (place_of row.word) 0 (places t.front) (places_shown (body.shows t.like)) here t.alike in
         let cleaned : Clean faults (row ∷ t.front) (other ∷ after) = (subst (λ (l : List Row). least (faults row l) ≡ None) t.parts clean, t.clean) in
         let stop : ¬ CanBegin body (places (row ∷ t.front) ++ place_of other.word ∷ []) = λ c.
-            t.stops c.0 (place_of other.word) c.1 (tail_is (place_of row.word) 0 (places_shown (body.shows c.0)) (places t.front) (place_of other.word) c.1 c.2) refl in
+        t.stops c.0 (place_of other.word) c.1 (tail_is (place_of row.word) 0 (places_shown (body.shows c.0)) (places t.front) (place_of other.word) c.1 c.2) refl in
         record {
           ok = λ v e. absurd cc;
           err = λ f e.

@@ -1,13 +1,10 @@
 -- The laws of each way to make a part of a text.
-use Rattle.std.proofs.Common.{◌≡◌, ℕ, zero, suc, ◌+◌, ◌<◌, ◌≤◌, ◌⊎◌, inl, inr, Bool, true, false, cond, List, [], ◌∷◌, ◌++◌, length, map, Ok, Err, Some, None, refl, sym, ap, subst, ◌∙◌, append_assoc, append-nil, length-append, arith}
-use Rattle.std.specs.declared.result.Result.{Result}
-use Rattle.abc_text.specs.Reasons.{least}
+use Rattle.std.proofs.Common.{◌≡◌, ℕ, ◌≤◌, inl, inr, List, [], ◌∷◌, ◌++◌, length, Ok, Err, refl, sym, ap, subst, ◌∙◌, append_assoc, length-append, arith}
 use Rattle.abc_text.specs.Words.{place_of}
-use Rattle.abc_rowparts.specs.Lines.{Row, Shown, Line, Labels, places, places_shown}
-use Rattle.abc_rowparts.specs.Rows.{Fault, Faults, Rows, Head, both, many, nothing, fault, unless, pair_reads, items_reads, items_shown, is_label, ◌>>=◌}
-use Rattle.abc_rowparts.specs.Law.{Among, Clean, IsFree, IsLine, IsLabel, Keeps, Lawful, Match, Next, Refused, Shows, Taken}
-use Rattle.abc_text.proofs.Bools.{if_is, split_bool}
-use Rattle.abc_rowparts.proofs.Pieces.{Among-cases, Among-left, Among-right, Clean-append, Match-append, Match-split, Next-cases, Next-made, bind_err, bind_ok, cut, fine, ok_is, places-append, shown-append, unless_err, unless_ok}
+use Rattle.abc_rowparts.specs.Lines.{Row, places, places_shown}
+use Rattle.abc_rowparts.specs.Rows.{Fault, Faults, Rows, both, ◌>>=◌}
+use Rattle.abc_rowparts.specs.Law.{Among, Clean, IsFree, Lawful, Match, Next, Refused, Shows, Taken}
+use Rattle.abc_rowparts.proofs.Pieces.{Among-left, Among-right, Clean-append, Match-append, Match-split, Next-cases, Next-made, bind_err, bind_ok, cut, ok_is, places-append, shown-append}
 
 -- ---- one after the other
 
@@ -55,7 +52,8 @@ module _ {A B : Type 0} (given : Type 0) (same : Shows) (faults : Faults) (n : �
         clean = Clean-append faults one.front two.front b.0.1 (subst (λ (l : List Row). Clean faults one.front l) two.parts one.clean) two.clean;
         fits = λ all free. (
           one.fits all (subst (λ (l : List Row). IsFree p l) (sym two.parts) (both_free two.front b.0.1 (λ w more s. lq.first two.like w more (two.alike ∙ s)) free)),
-          two.fits all (λ w h k. free w h (Among-right w p.has q.has k)));
+          two.fits all (λ w h k. free w h (Among-right w p.has q.has k)),
+        );
         like = (one.like, two.like);
         alike = shown-append (p.shows one.like) (q.shows two.like) ∙ ap (λ (l : List ℕ). l ++ places_shown (q.shows two.like)) one.alike ∙ ap (λ (l : List ℕ). places one.front ++ l) two.alike ∙ sym (places-append one.front two.front);
         stops = λ y w more s h.
@@ -76,7 +74,13 @@ module _ {A B : Type 0} (given : Type 0) (same : Shows) (faults : Faults) (n : �
         | inl h ↦
             let r = lp.refused rows f le h in
             record {
-              front = r.front; row = r.row; after = r.after; parts = r.parts; clean = r.clean; reason = r.reason; line = r.line;
+              front = r.front;
+              row = r.row;
+              after = r.after;
+              parts = r.parts;
+              clean = r.clean;
+              reason = r.reason;
+              line = r.line;
               like = (r.like, lq.some);
               more = r.more ++ places_shown (q.shows lq.some);
               alike = shown-append (p.shows r.like) (q.shows lq.some) ∙ ap (λ (l : List ℕ). l ++ places_shown (q.shows lq.some)) r.alike ∙ append_assoc (places r.front) (place_of r.row.word ∷ r.more) (places_shown (q.shows lq.some));
@@ -87,10 +91,13 @@ module _ {A B : Type 0} (given : Type 0) (same : Shows) (faults : Faults) (n : �
               let less : length a.0.1 ≤ n = omega (arith, ap length one.parts, length-append one.front a.0.1) in
               let r = lq.refused a.0.1 f less h in
               record {
-                front = one.front ++ r.front; row = r.row; after = r.after;
+                front = one.front ++ r.front;
+                row = r.row;
+                after = r.after;
                 parts = one.parts ∙ ap (λ (l : List Row). one.front ++ l) r.parts ∙ sym (append_assoc one.front r.front (r.row ∷ r.after));
                 clean = Clean-append faults one.front r.front (r.row ∷ r.after) (subst (λ (l : List Row). Clean faults one.front l) r.parts one.clean) r.clean;
-                reason = r.reason; line = r.line;
+                reason = r.reason;
+                line = r.line;
                 like = (one.like, r.like);
                 more = r.more;
                 alike = shown-append (p.shows one.like) (q.shows r.like) ∙ ap (λ (l : List ℕ). l ++ places_shown (q.shows r.like)) one.alike ∙ ap (λ (l : List ℕ). places one.front ++ l) r.alike ∙ sym (append_assoc (places one.front) (places r.front) (place_of r.row.word ∷ r.more)) ∙ ap (λ (l : List ℕ). l ++ place_of r.row.word ∷ r.more) (sym (places-append one.front r.front));

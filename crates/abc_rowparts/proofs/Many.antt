@@ -1,16 +1,16 @@
 -- Any number of lines of one word, each with the lines below it.
-use Rattle.std.proofs.Common.{◌≡◌, ℕ, zero, suc, ◌+◌, ◌<◌, ◌≤◌, ◌⊎◌, inl, inr, Bool, true, false, cond, nat_eq, List, [], ◌∷◌, ◌++◌, length, map, Ok, Err, Some, None, refl, sym, ap, subst, ◌∙◌, append_assoc, append-nil, length-append, arith}
+use Rattle.std.proofs.Common.{◌≡◌, ℕ, zero, suc, ◌≤◌, ◌⊎◌, inl, inr, true, false, nat_eq, List, [], ◌∷◌, ◌++◌, length, map, Ok, Err, Some, None, refl, sym, ap, subst, ◌∙◌, append_assoc, length-append, arith}
 use Rattle.std.proofs.lemmas.Bool.Decides.{nat_tests}
 use Rattle.std.specs.declared.result.Result.{Result}
 use Rattle.abc_text.specs.declared.word.Word.{Word}
 use Rattle.abc_text.specs.declared.word.Word.TheVariants as words
 use Rattle.abc_text.specs.Reasons.{least}
 use Rattle.abc_text.specs.Words.{place_of}
-use Rattle.abc_rowparts.specs.Lines.{Row, Shown, Line, Labels, places, places_shown}
-use Rattle.abc_rowparts.specs.Rows.{Fault, Faults, Rows, Head, both, image, many, nothing, fault, unless, headed, pair_reads, items_reads, items_shown, is_label, ◌>>=◌}
-use Rattle.abc_rowparts.specs.Law.{Among, Clean, IsFree, IsLine, IsLabel, Keeps, Lawful, Match, Next, Refused, Shows, Taken}
+use Rattle.abc_rowparts.specs.Lines.{Row, places, places_shown}
+use Rattle.abc_rowparts.specs.Rows.{Fault, Faults, Rows, Head, both, image, many, nothing, unless, headed, pair_reads, items_reads, items_shown, is_label}
+use Rattle.abc_rowparts.specs.Law.{Among, IsFree, Keeps, Lawful, Match, Next, Refused, Shows, Taken}
 use Rattle.abc_text.proofs.Bools.{if_is, split_bool}
-use Rattle.abc_rowparts.proofs.Pieces.{Among-cases, Among-left, Among-right, Clean-append, Match-append, Match-split, Next-cases, Next-made, bind_err, bind_ok, cut, fine, ok_is, places-append, shown-append, unless_err, unless_ok}
+use Rattle.abc_rowparts.proofs.Pieces.{Among-cases, Match-split, Next-cases, bind_err, bind_ok, fine, ok_is, shown-append, unless_err, unless_ok}
 use Rattle.abc_rowparts.proofs.Exact.{both-lawful, inside_of_two}
 
 pub none_inside : (before : List ℕ) (w : ℕ) (more : List ℕ) → [] ≡ before ++ w ∷ more → ⊥
@@ -31,7 +31,6 @@ nothing-lawful given same faults n = record {
   inside = λ x before w more e. absurd (none_inside before w more e);
 }
 
-
 -- ---- fewer lines
 
 pub weaken : {A : Type 0} (given : Type 0) (same : Shows) (faults : Faults) (n m : ℕ) (p : Rows A) → n ≤ m → Lawful given same faults m p → Lawful given same faults n p
@@ -39,7 +38,10 @@ weaken given same faults n m p le lp = record {
   taken = λ rows x rest few e. lp.taken rows x rest (omega arith) e;
   refused = λ rows f few e. lp.refused rows f (omega arith) e;
   again = λ x front rest few fit match free. lp.again x front rest (omega arith) fit match free;
-  some = lp.some; first = lp.first; begins = lp.begins; inside = lp.inside;
+  some = lp.some;
+  first = lp.first;
+  begins = lp.begins;
+  inside = lp.inside;
 }
 
 -- ---- other values
@@ -52,7 +54,9 @@ image-lawful {A} {B} given same faults n f g p back forth lp = record {
       let made : B × List Row = (f a.0.0, a.0.1) in
       subst (λ (z : B × List Row). Taken given same faults (image f g p) rows z.0 z.1) (ok_is made (y, rest) a.2)
       (record {
-        front = t.front; parts = t.parts; clean = t.clean;
+        front = t.front;
+        parts = t.parts;
+        clean = t.clean;
         shown = subst (λ (x : A). Match same t.front (p.shows x)) (sym (back a.0.0)) t.shown;
         fits = λ all free. subst (λ (x : A). p.fits x) (sym (back a.0.0)) (t.fits all free);
         like = f t.like;
@@ -191,18 +195,28 @@ module _ {H B : Type 0} (given : Type 0) (same : Shows) (faults : Faults) (head 
   one_refused n lt row rows f le here u =
       elim u [
         | inl now ↦ record {
-            front = []; row = row; after = rows; parts = refl; clean = tt; reason = now.0; line = now.1;
-            like = (head.value row, lt.some.0) ∷ [];
-            more = places_shown (below.shows lt.some.0 ++ []);
-            alike = same_cons (place_of (head.word (head.value row))) (place_of row.word) (places_shown (below.shows lt.some.0 ++ [])) (places_shown (below.shows lt.some.0 ++ [])) (keeps.at (head.value row) ∙ sym here) refl;
-          }
+          front = [];
+          row = row;
+          after = rows;
+          parts = refl;
+          clean = tt;
+          reason = now.0;
+          line = now.1;
+          like = (head.value row, lt.some.0) ∷ [];
+          more = places_shown (below.shows lt.some.0 ++ []);
+          alike = same_cons (place_of (head.word (head.value row))) (place_of row.word) (places_shown (below.shows lt.some.0 ++ [])) (places_shown (below.shows lt.some.0 ++ [])) (keeps.at (head.value row) ∙ sym here) refl;
+        }
         | inr later ↦ elim (bind_err (pair_reads below.reads (items_reads faults head below n) rows) (λ x. Ok ((head.value row, x.0.0) ∷ x.0.1, x.1)) f later.1) [
           | inl h ↦
               let r = lt.refused rows f le h in
               record {
-                front = row ∷ r.front; row = r.row; after = r.after; parts = ap (λ (l : List Row). row ∷ l) r.parts;
+                front = row ∷ r.front;
+                row = r.row;
+                after = r.after;
+                parts = ap (λ (l : List Row). row ∷ l) r.parts;
                 clean = (subst (λ (l : List Row). least (faults row l) ≡ None) r.parts later.0, r.clean);
-                reason = r.reason; line = r.line;
+                reason = r.reason;
+                line = r.line;
                 like = (head.value row, r.like.0) ∷ r.like.1;
                 more = r.more;
                 alike = same_cons (place_of (head.word (head.value row))) (place_of row.word) (places_shown (below.shows r.like.0 ++ items_shown head below r.like.1)) (places r.front ++ place_of r.row.word ∷ r.more) (keeps.at (head.value row) ∙ sym here) r.alike;
@@ -254,7 +268,10 @@ module _ {H B : Type 0} (given : Type 0) (same : Shows) (faults : Faults) (head 
         (record { front = []; parts = refl; shown = refl; clean = tt; fits = λ all free. tt; like = []; alike = refl; stops = λ y w more s h. subst (λ (l : List Row). Next l w) none h });
     refused = λ rows f le e. absurd cc;
     again = λ x front rest le fit match free. zero_again x front rest le match;
-    some = []; first = many_first; begins = many_begins; inside = many_inside;
+    some = [];
+    first = many_first;
+    begins = many_begins;
+    inside = many_inside;
   }
   many-lawful (suc n) lb =
       let ln = many-lawful n (weaken given same faults n (suc n) below (omega arith) lb) in

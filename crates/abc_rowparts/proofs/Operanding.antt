@@ -1,6 +1,5 @@
 -- The laws of each operand and of each way to make a line's operands.
-use Rattle.std.proofs.Common.{◌≡◌, ℕ, zero, suc, ℤ, pos, negsuc, ◌+◌, ◌<◌, ◌≤◌, ◌^◌, ◌⊎◌, inl, inr, Bool, true, false, cond, ◌&&◌, nat_eq, nat_lt, nat_le, List, [], ◌∷◌, ◌++◌, length, Ok, Err, Some, None, refl, sym, ap, subst, ◌∙◌, arith, rules}
-use Rattle.std.specs.List.{list_all}
+use Rattle.std.proofs.Common.{◌≡◌, ℕ, zero, suc, ℤ, pos, negsuc, inl, inr, Bool, true, false, cond, ◌&&◌, nat_eq, nat_lt, List, [], ◌∷◌, ◌++◌, length, Ok, Err, Some, None, refl, sym, ap, subst, ◌∙◌}
 use Rattle.std.specs.declared.option.Option.{Option}
 use Rattle.std.specs.declared.result.Result.{Result}
 use Rattle.abc_text.specs.declared.reason.AsmReason.{AsmReason}
@@ -8,7 +7,7 @@ use Rattle.abc_text.specs.declared.reason.AsmReason.TheVariants as reasons
 use Rattle.abc_text.specs.Tokens.{Token, Bare, Quoted, hex_pair, is_hex}
 use Rattle.abc_text.proofs.Bools.{and_true, if_is, split_bool}
 use Rattle.abc_text.proofs.Scans.{eq_is}
-use Rattle.abc_rowparts.specs.Lines.{Label, Item, Number, Signed, Text, Eight, Kind, Target}
+use Rattle.abc_rowparts.specs.Lines.{Label, Number, Signed, Text, Eight, Kind, Target}
 use Rattle.abc_rowparts.specs.Operands.{AreHex, AreOperands, AreTokens, EachFits, IsOperand, IsSigned, IsToken, Operand, Operands, any_number, any_signed, by, by_counts, by_faults, by_value, checked, eight, eight_in, eight_of, found_kind, found_place, hex_bytes, is_digit, is_name, is_numeral, kind, kind_of, more_hex, negative, none, number_of, numeral, place_of_label, reasons_in, seen, several, several_faults, several_items, several_value, signed_of, signed_token, target, target_of, tested, text, text_of, unseen, value_in, value_or}
 
 abbrev yes : {A : Type 0} → A → Result A AsmReason
@@ -228,10 +227,11 @@ module _ {A B : Type 0} (p : Operand A) (rest : Option A → Operands B) (lp : I
   by_again labels [] x is fit = absurd is
   by_again labels (token ∷ tokens) x is fit =
       let one = lp.again labels token x.0 is.0 fit.0 in
-      let two = (lr x.0).again labels tokens x.1 is.1 fit.1 in
-      (ap (λ (r : Result A AsmReason). (rest (value_in r)).counts labels tokens) one ∙ two.0,
-       ap (λ (r : Result A AsmReason). reasons_in r ++ (rest (value_in r)).faults labels tokens) one ∙ two.1,
-       ap (λ (r : Result A AsmReason). (value_or r p.default, (rest (value_in r)).value labels tokens)) one ∙ ap (λ (b : B). (x.0, b)) two.2)
+      let two = (lr x.0).again labels tokens x.1 is.1 fit.1 in (
+        ap (λ (r : Result A AsmReason). (rest (value_in r)).counts labels tokens) one ∙ two.0,
+        ap (λ (r : Result A AsmReason). reasons_in r ++ (rest (value_in r)).faults labels tokens) one ∙ two.1,
+        ap (λ (r : Result A AsmReason). (value_or r p.default, (rest (value_in r)).value labels tokens)) one ∙ ap (λ (b : B). (x.0, b)) two.2,
+      )
 
   pub by-are : AreOperands (by p rest)
   by-are = record { found = by_found; again = by_again }
@@ -254,9 +254,10 @@ module _ {A : Type 0} (p : Operand A) (lp : IsOperand p) where
   several_again labels (token ∷ tokens) [] is fit = absurd is
   several_again labels (token ∷ tokens) (x ∷ xs) is fit =
       let one = lp.again labels token x is.0 fit.0 in
-      let two = several_again labels tokens xs is.1 fit.1 in
-      (ap (λ (r : Result A AsmReason). reasons_in r ++ several_faults p labels tokens) one ∙ two.0,
-       ap (λ (r : Result A AsmReason). value_or r p.default ∷ several_value p labels tokens) one ∙ ap (λ (b : List A). x ∷ b) two.1)
+      let two = several_again labels tokens xs is.1 fit.1 in (
+        ap (λ (r : Result A AsmReason). reasons_in r ++ several_faults p labels tokens) one ∙ two.0,
+        ap (λ (r : Result A AsmReason). value_or r p.default ∷ several_value p labels tokens) one ∙ ap (λ (b : List A). x ∷ b) two.1,
+      )
 
   pub several-are : AreOperands (several p)
   several-are = record { found = λ labels tokens counts e. several_found labels tokens e; again = λ labels tokens xs is fit. let h = several_again labels tokens xs is fit in (refl, h.0, h.1) }

@@ -1,15 +1,15 @@
 -- At most one line of a word, with the lines below it.
-use Rattle.std.proofs.Common.{◌≡◌, ℕ, suc, ◌+◌, ◌≤◌, ◌⊎◌, inl, inr, Bool, true, false, cond, nat_eq, List, [], ◌∷◌, ◌++◌, length, Ok, Err, Some, None, refl, sym, ap, subst, ◌∙◌, append_assoc, append-nil, length-append, arith}
+use Rattle.std.proofs.Common.{◌≡◌, ℕ, ◌≤◌, ◌⊎◌, inl, inr, true, false, nat_eq, List, [], ◌∷◌, ◌++◌, length, Ok, Err, Some, None, refl, sym, ap, subst, ◌∙◌, arith}
 use Rattle.std.specs.declared.option.Option.{Option}
 use Rattle.std.specs.declared.result.Result.{Result}
 use Rattle.abc_text.specs.Reasons.{least}
 use Rattle.abc_text.specs.Words.{place_of}
 use Rattle.abc_text.proofs.Bools.{if_is, split_bool}
-use Rattle.abc_rowparts.specs.Lines.{Row, Shown, Line, places, places_shown}
-use Rattle.abc_rowparts.specs.Rows.{Fault, Faults, Rows, Head, fault, is_label, option_reads, option_shown, optional, topped, unless, ◌>>=◌}
-use Rattle.abc_rowparts.specs.Law.{Among, Clean, IsFree, Keeps, Lawful, Match, Next, Refused, Shows, Taken}
+use Rattle.abc_rowparts.specs.Lines.{Row, places, places_shown}
+use Rattle.abc_rowparts.specs.Rows.{Fault, Faults, Rows, Head, is_label, option_reads, option_shown, optional, topped, unless}
+use Rattle.abc_rowparts.specs.Law.{Among, IsFree, Keeps, Lawful, Match, Refused, Shows, Taken}
 use Rattle.abc_rowparts.proofs.Many.{eq_refl, eq_true, label_place, none_inside, same_cons}
-use Rattle.abc_rowparts.proofs.Pieces.{bind_err, bind_ok, fine, ok_is, unless_err, unless_ok}
+use Rattle.abc_rowparts.proofs.Pieces.{bind_err, bind_ok, ok_is, unless_err, unless_ok}
 
 module _ {H B : Type 0} (given : Type 0) (same : Shows) (faults : Faults) (head : Head H B) (below : Rows B) (keeps : Keeps given same faults head below) (ordinary : ¬ (head.place ≡ 23)) (inside : (x : B) (before : List ℕ) (w : ℕ) (more : List ℕ) → places_shown (below.shows x) ≡ before ++ w ∷ more → Among w below.has) where
   abbrev part : Rows (Option (H × B))
@@ -81,18 +81,28 @@ module _ {H B : Type 0} (given : Type 0) (same : Shows) (faults : Faults) (head 
     one_refused row rows f le here u =
         elim u [
           | inl now ↦ record {
-              front = []; row = row; after = rows; parts = refl; clean = tt; reason = now.0; line = now.1;
-              like = Some (head.value row, lb.some);
-              more = places_shown (below.shows lb.some);
-              alike = same_cons (place_of (head.word (head.value row))) (place_of row.word) (places_shown (below.shows lb.some)) (places_shown (below.shows lb.some)) (keeps.at (head.value row) ∙ sym here) refl;
-            }
+            front = [];
+            row = row;
+            after = rows;
+            parts = refl;
+            clean = tt;
+            reason = now.0;
+            line = now.1;
+            like = Some (head.value row, lb.some);
+            more = places_shown (below.shows lb.some);
+            alike = same_cons (place_of (head.word (head.value row))) (place_of row.word) (places_shown (below.shows lb.some)) (places_shown (below.shows lb.some)) (keeps.at (head.value row) ∙ sym here) refl;
+          }
           | inr later ↦ elim (bind_err (below.reads rows) (λ y. Ok (Some (head.value row, y.0), y.1)) f later.1) [
             | inl h ↦
                 let r = lb.refused rows f le h in
                 record {
-                  front = row ∷ r.front; row = r.row; after = r.after; parts = ap (λ (l : List Row). row ∷ l) r.parts;
+                  front = row ∷ r.front;
+                  row = r.row;
+                  after = r.after;
+                  parts = ap (λ (l : List Row). row ∷ l) r.parts;
                   clean = (subst (λ (l : List Row). least (faults row l) ≡ None) r.parts later.0, r.clean);
-                  reason = r.reason; line = r.line;
+                  reason = r.reason;
+                  line = r.line;
                   like = Some (head.value row, r.like);
                   more = r.more;
                   alike = same_cons (place_of (head.word (head.value row))) (place_of row.word) (places_shown (below.shows r.like)) (places r.front ++ place_of r.row.word ∷ r.more) (keeps.at (head.value row) ∙ sym here) r.alike;

@@ -1,15 +1,14 @@
 -- Lists of lines in pieces, and results.
-use Rattle.std.proofs.Common.{◌≡◌, ℕ, zero, suc, ◌+◌, ◌<◌, ◌≤◌, ◌⊎◌, inl, inr, Bool, true, false, cond, List, [], ◌∷◌, ◌++◌, length, map, Ok, Err, Some, None, refl, sym, ap, subst, ◌∙◌, append_assoc, append-nil, length-append, arith}
+use Rattle.std.proofs.Common.{◌≡◌, ℕ, ◌⊎◌, inl, inr, List, [], ◌∷◌, ◌++◌, Ok, Err, Some, None, refl, sym, ap, subst, ◌∙◌, append_assoc}
 use Rattle.std.specs.declared.result.Result.{Result}
 use Rattle.std.specs.declared.option.Option.{Option}
-use Rattle.std.specs.List.{All}
 use Rattle.std.proofs.lemmas.List.{map-append}
 use Rattle.abc_text.specs.declared.reason.AsmReason.{AsmReason}
 use Rattle.abc_text.specs.Reasons.{least}
 use Rattle.abc_text.specs.Words.{place_of}
 use Rattle.abc_rowparts.specs.Lines.{Row, Shown, Line, Labels, places, places_shown}
-use Rattle.abc_rowparts.specs.Rows.{Fault, Faults, Rows, fault, unless, ◌>>=◌}
-use Rattle.abc_rowparts.specs.Law.{Among, Clean, IsFree, IsLine, IsLabel, Match, Next, Shows}
+use Rattle.abc_rowparts.specs.Rows.{Fault, Faults, fault, unless, ◌>>=◌}
+use Rattle.abc_rowparts.specs.Law.{Among, Clean, Match, Next, Shows}
 
 pub bind_ok : {A B : Type 0} (r : Result A Fault) (f : A → Result B Fault) (y : B) → (r >>= f) ≡ Ok y → (x : A) × (r ≡ Ok x) × (f x ≡ Ok y)
 bind_ok (Ok x) f y e = (x, refl, e)

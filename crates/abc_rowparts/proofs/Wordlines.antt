@@ -1,5 +1,5 @@
 -- The laws of lines of one word, and of instructions and label lines.
-use Rattle.std.proofs.Common.{◌≡◌, ℕ, zero, suc, ◌+◌, ◌<◌, ◌≤◌, ◌⊎◌, inl, inr, Bool, true, false, cond, nat_eq, nat_le, List, [], ◌∷◌, ◌++◌, length, map, Ok, Err, Some, None, refl, sym, ap, subst, ◌∙◌, append_assoc, arith}
+use Rattle.std.proofs.Common.{◌≡◌, ℕ, inl, inr, Bool, true, false, cond, nat_eq, nat_le, List, [], ◌∷◌, ◌++◌, map, Some, None, refl, sym, ap, subst, ◌∙◌, arith}
 use Rattle.std.proofs.lemmas.Slice.Eq.{bytes_eq-Decides}
 use Rattle.std.specs.Str.{bytes_eq}
 use Rattle.std.specs.List.{AllByRecursion}
@@ -12,10 +12,10 @@ use Rattle.abc_text.specs.Reasons.{least}
 use Rattle.abc_text.specs.Tokens.{Token}
 use Rattle.abc_text.specs.Words.{place_of}
 use Rattle.abc_text.proofs.Bools.{if_is, split_bool}
-use Rattle.abc_rowparts.specs.Lines.{Label, Row, Item}
-use Rattle.abc_rowparts.specs.Operands.{AreOperands, Operands, none, reasons_of, unseen}
-use Rattle.abc_rowparts.specs.Rows.{Faults, Head, Rows, code, image, is_label, many, nothing}
-use Rattle.abc_rowparts.specs.Law.{Among, IsFree, IsLabel, IsLine, Keeps, Lawful, Match, Next, Shows}
+use Rattle.abc_rowparts.specs.Lines.{Label, Row}
+use Rattle.abc_rowparts.specs.Operands.{AreOperands, Operands, none, reasons_of}
+use Rattle.abc_rowparts.specs.Rows.{Faults, Head, Rows, code, is_label, many, nothing}
+use Rattle.abc_rowparts.specs.Law.{Among, IsFree, IsLabel, IsLine, Keeps, Lawful, Match, Shows}
 use Rattle.abc_rowparts.specs.Wordlines.{Rules, always, among, closed_to, faults_of, flat, if_none, in_word, instruction, line, lookup, plain_faults, shows_operands, twice}
 use Rattle.abc_rowparts.proofs.Coding.{code-lawful}
 use Rattle.abc_rowparts.proofs.Many.{eq_refl, eq_true, image-lawful, many-lawful, map_back, none_inside, nothing-lawful}
@@ -95,10 +95,10 @@ module _ (rules : Rules) (row : Row) (after : List Row) where
   pub unclear : IsClear rules row after → least (faults_of rules row after) ≡ None
   unclear c =
       let plain : plain_faults rules row after ≡ [] =
-          ap (λ (b : Bool). cond b (reasons.Text ∷ []) (own ++ (others ++ again))) c.whole
-          ∙ ap (λ (l : List AsmReason). l ++ (others ++ again)) c.own
-          ∙ ap (λ (l : List AsmReason). l ++ again) c.others
-          ∙ ap (λ (b : Bool). cond b (twice row.word ∷ []) []) c.once in
+      ap (λ (b : Bool). cond b (reasons.Text ∷ []) (own ++ (others ++ again))) c.whole
+      ∙ ap (λ (l : List AsmReason). l ++ (others ++ again)) c.own
+      ∙ ap (λ (l : List AsmReason). l ++ again) c.others
+      ∙ ap (λ (b : Bool). cond b (twice row.word ∷ []) []) c.once in
       nil_least (faults_of rules row after) (ap (λ (l : List AsmReason). l ++ if_none l (rules.extra row after)) plain ∙ c.extra)
 
 -- ---- a line of one word
@@ -178,9 +178,9 @@ module _ {A : Type 0} (given : Type 0) (rules : Rules) (w : Word) (p : Operands 
   pub flat-lawful : (n : ℕ) → Lawful given shows_operands (faults_of rules) n (flat (faults_of rules) w p n)
   flat-lawful n =
       image-lawful given shows_operands (faults_of rules) n (map (λ (x : A × Unit {0}). x.0)) (map (λ (x : A). (x, tt)))
-        (many (faults_of rules) (line w p always) nothing n)
-        (map_back (λ (x : A × Unit {0}). x.0) (λ (x : A). (x, tt)) (λ x. refl)) (map_back (λ (x : A). (x, tt)) (λ (x : A × Unit {0}). x.0) (λ x. refl))
-        (many-lawful given shows_operands (faults_of rules) (line w p always) nothing (line-keeps given rules w p always nothing ordinary own_is lp (agrees_always given rules w p nothing others)) ordinary (λ h. h) (λ x before w more e. none_inside before w more e) n (nothing-lawful given shows_operands (faults_of rules) n))
+      (many (faults_of rules) (line w p always) nothing n)
+      (map_back (λ (x : A × Unit {0}). x.0) (λ (x : A). (x, tt)) (λ x. refl)) (map_back (λ (x : A). (x, tt)) (λ (x : A × Unit {0}). x.0) (λ x. refl))
+      (many-lawful given shows_operands (faults_of rules) (line w p always) nothing (line-keeps given rules w p always nothing ordinary own_is lp (agrees_always given rules w p nothing others)) ordinary (λ h. h) (λ x before w more e. none_inside before w more e) n (nothing-lawful given shows_operands (faults_of rules) n))
 
 -- ---- instructions and label lines
 
@@ -226,7 +226,9 @@ module _ {I : Type 0} (given : Type 0) (rules : Rules) (opcode_of : I → ℕ) (
       let same : opcode_of ((operands op).value row.labels row.operands) ≡ op = opcode_is op ((operands op).value row.labels row.operands) f.1 in
       let line_ : IsLine shows_operands row (words.Instruction op) ((operands op).items ((operands op).value row.labels row.operands)) = record { word = w.1; whole = c.whole; operands = f.0; once = c.once } in
       record {
-        opcode = op; word = w.1; value = v;
+        opcode = op;
+        word = w.1;
+        value = v;
         found = subst (λ (i : I). IsLine shows_operands row (head.word i) (head.items i)) (sym v) (subst (λ (n : ℕ). IsLine shows_operands row (words.Instruction n) ((operands n).items ((operands op).value row.labels row.operands))) (sym same) line_);
         fits = subst (λ (i : I). head.fits i tt) (sym v) (subst (λ (n : ℕ). (operands n).fits ((operands op).value row.labels row.operands)) (sym same) f.1);
       }
@@ -241,9 +243,10 @@ module _ {I : Type 0} (given : Type 0) (rules : Rules) (opcode_of : I → ℕ) (
         let a = (are op).again row.labels row.operands i is.operands fit in
         let at : place_of row.word ≡ 23 = ap place_of is.word in
         let more = others row (front ++ rest) at in
-        let own : rules.own row.word row.labels row.operands ≡ [] = ap (λ (v : Word). rules.own v row.labels row.operands) is.word ∙ own_is op row.labels row.operands ∙ nil_reasons (operands op) row.labels row.operands a.0 a.1 in
-        (unclear rules row (front ++ rest) (record { whole = is.whole; own = own; others = more.0; once = is.once; extra = more.1 }),
-         ap (λ (x : Word). (in_word opcode_of operands default x).value row.labels row.operands) is.word ∙ a.2);
+        let own : rules.own row.word row.labels row.operands ≡ [] = ap (λ (v : Word). rules.own v row.labels row.operands) is.word ∙ own_is op row.labels row.operands ∙ nil_reasons (operands op) row.labels row.operands a.0 a.1 in (
+          unclear rules row (front ++ rest) (record { whole = is.whole; own = own; others = more.0; once = is.once; extra = more.1 }),
+          ap (λ (x : Word). (in_word opcode_of operands default x).value row.labels row.operands) is.word ∙ a.2,
+        );
   }
 
   label_at : (row : Row) → is_label row.word ≡ true → place_of row.word ≡ 23
@@ -304,6 +307,8 @@ closed-lawful given same faults n more_places p lp = record {
       let r = lp.refused rows f le e in
       record { front = r.front; row = r.row; after = r.after; parts = r.parts; clean = r.clean; reason = r.reason; line = r.line; like = r.like; more = r.more; alike = r.alike };
   again = λ x front rest le fit match free. lp.again x front rest le fit match (λ w h k. free w h (Among-left w p.has more_places k));
-  some = lp.some; first = lp.first; begins = lp.begins;
+  some = lp.some;
+  first = lp.first;
+  begins = lp.begins;
   inside = λ x before w more e. Among-left w p.has more_places (lp.inside x before w more e);
 }

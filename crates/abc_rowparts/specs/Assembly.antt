@@ -1,12 +1,12 @@
 -- Which lines are those of a value, and the first fault of lines that are none's.
-use Rattle.std.specs.Prelude.{◌≡◌, ℕ, ◌+◌, ◌≤◌, ◌⊎◌, nat_eq, List, [], ◌∷◌, ◌++◌, Some, None, Ok, Err, if◌then◌else◌}
+use Rattle.std.specs.Prelude.{◌≡◌, ℕ, ◌≤◌, ◌⊎◌, nat_eq, List, [], ◌∷◌, ◌++◌, Ok, Err, if◌then◌else◌}
 use Rattle.std.specs.declared.result.Result.{Result}
 use Rattle.abc_text.specs.declared.reason.AsmReason.{AsmReason}
 use Rattle.abc_text.specs.declared.reason.AsmReason.TheVariants as reasons
 use Rattle.abc_text.specs.declared.word.Word.TheVariants as words
 use Rattle.abc_text.specs.Reasons.{least, lesser, rank}
 use Rattle.abc_text.specs.Words.{place_of}
-use Rattle.abc_rowparts.specs.Lines.{Row, Shown, Line, Item, Number, places, places_shown}
+use Rattle.abc_rowparts.specs.Lines.{Row, Shown, Line, Number, places, places_shown}
 use Rattle.abc_rowparts.specs.Rows.{Fault, Faults, Rows, fault, unless, ◌>>=◌}
 use Rattle.abc_rowparts.specs.Law.{Match, Shows}
 

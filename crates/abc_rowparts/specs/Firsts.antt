@@ -1,5 +1,5 @@
 -- The first reason among faults that are noted one after the other.
-use Rattle.std.specs.Prelude.{◌≡◌, nat_le, Some, None, Ok, Err, if◌then◌else◌}
+use Rattle.std.specs.Prelude.{nat_le, Some, None, Ok, Err, if◌then◌else◌}
 use Rattle.std.specs.declared.option.Option.{Option}
 use Rattle.std.specs.declared.result.Result.{Result}
 use Rattle.abc_text.specs.declared.reason.AsmReason.{AsmReason}

@@ -1,7 +1,6 @@
 -- What a part of a text promises.
-use Rattle.std.specs.Prelude.{◌≡◌, ℕ, ◌≤◌, ◌⊎◌, Bool, true, false, nat_eq, List, [], ◌∷◌, ◌++◌, length, map, Some, None, Ok, Err}
+use Rattle.std.specs.Prelude.{◌≡◌, ℕ, ◌≤◌, ◌⊎◌, true, false, List, [], ◌∷◌, ◌++◌, length, Some, None, Ok, Err}
 use Rattle.std.specs.List.{AllByRecursion}
-use Rattle.abc_text.specs.declared.reason.AsmReason.{AsmReason}
 use Rattle.abc_text.specs.declared.word.Word.{Word}
 use Rattle.abc_text.specs.Reasons.{least}
 use Rattle.abc_text.specs.Words.{place_of}

@@ -1,5 +1,5 @@
 -- The lines of a text as they are written, and the lines of a value as they are meant.
-use Rattle.std.specs.Prelude.{◌≡◌, ℕ, ℤ, Bool, List, [], ◌∷◌, map}
+use Rattle.std.specs.Prelude.{ℕ, ℤ, Bool, List, [], ◌∷◌, map}
 use Rattle.abc_text.specs.declared.word.Word.{Word}
 use Rattle.abc_text.specs.Tokens.{Token}
 use Rattle.abc_text.specs.Words.{place_of}

@@ -1,9 +1,8 @@
 -- Parts of a text: which lines a value has, and how lines are read.
-use Rattle.std.specs.Prelude.{◌≡◌, ℕ, zero, suc, ◌+◌, Bool, true, false, nat_eq, List, [], ◌∷◌, ◌++◌, All, map, Some, None, Ok, Err, if◌then◌else◌}
+use Rattle.std.specs.Prelude.{ℕ, zero, suc, ◌+◌, Bool, true, false, nat_eq, List, [], ◌∷◌, ◌++◌, Some, None, Ok, Err, if◌then◌else◌}
 use Rattle.std.specs.declared.option.Option.{Option}
 use Rattle.std.specs.declared.result.Result.{Result}
 use Rattle.abc_text.specs.declared.reason.AsmReason.{AsmReason}
-use Rattle.abc_text.specs.declared.reason.AsmReason.TheVariants as reasons
 use Rattle.abc_text.specs.declared.word.Word.{Word}
 use Rattle.abc_text.specs.declared.word.Word.TheVariants as words
 use Rattle.abc_text.specs.Reasons.{least}
@@ -95,7 +94,7 @@ items_reads faults head below zero rows = Ok ([], rows)
 items_reads faults head below (suc n) [] = Ok ([], [])
 items_reads faults head below (suc n) (row ∷ rows) =
     if nat_eq (place_of row.word) head.place then
-      unless (least (faults row rows)) row.number (headed (head.value row) (pair_reads below.reads (items_reads faults head below n) rows))
+    unless (least (faults row rows)) row.number (headed (head.value row) (pair_reads below.reads (items_reads faults head below n) rows))
     else Ok ([], row ∷ rows)
 
 -- any number of lines of one word, each with the lines below it; n is at least the number of lines that are left

@@ -1,7 +1,7 @@
 -- What going over a line finds are its tokens.
-use Rattle.std.proofs.Common.{◌≡◌, ℕ, ◌⊎◌, inl, inr, Bool, true, false, nat_eq, List, [], ◌∷◌, ◌++◌, refl, sym, ap, subst, ◌∙◌, append_assoc, append-nil}
+use Rattle.std.proofs.Common.{◌≡◌, ℕ, inl, inr, Bool, true, false, nat_eq, List, [], ◌∷◌, ◌++◌, refl, sym, ap, subst, ◌∙◌, append_assoc, append-nil}
 use Rattle.std.specs.List.{AllByRecursion}
-use Rattle.abc_text.specs.Tokens.{Token, Bare, Quoted, AreBlanks, EndsLine, EndsRun, HasTokens, IsClosed, IsQuoted, IsRun, backslash, hex_pair, is_blank, is_hex, is_run_byte, quote, semicolon}
+use Rattle.abc_text.specs.Tokens.{Token, Bare, Quoted, EndsRun, HasTokens, IsQuoted, backslash, hex_pair, is_blank, is_hex, is_run_byte, quote, semicolon}
 use Rattle.abc_text.specs.Scanning.{Between, Escape, EscapeLow, InQuote, InRun, Scan, Within, also, scan, scanned}
 use Rattle.abc_text.proofs.Bools.{split_bool}
 use Rattle.abc_text.proofs.Scans.{eq_is, not_closed, quote_goes_on}
@@ -105,11 +105,11 @@ reading_quote b bytes inner text is more =
         | inl y ↦
             let same : backslash ≡ b = sym (eq_is b backslash y) in
             rw (x, y) (moved (scan bytes (Escape text)) (quote ∷ ((inner ++ backslash ∷ []) ++ bytes)) (quote ∷ (inner ++ b ∷ bytes))
-              (ap (λ (l : List ℕ). quote ∷ l) (append_assoc inner (backslash ∷ []) bytes ∙ ap (λ (n : ℕ). inner ++ n ∷ bytes) same))
-              (more (Escape text) (quote ∷ (inner ++ backslash ∷ [])) (inner, refl, is)))
+            (ap (λ (l : List ℕ). quote ∷ l) (append_assoc inner (backslash ∷ []) bytes ∙ ap (λ (n : ℕ). inner ++ n ∷ bytes) same))
+            (more (Escape text) (quote ∷ (inner ++ backslash ∷ [])) (inner, refl, is)))
         | inr y ↦
             rw (x, y) (moved (scan bytes (InQuote (text ++ b ∷ []))) (quote ∷ ((inner ++ b ∷ []) ++ bytes)) (quote ∷ (inner ++ b ∷ bytes)) (ap (λ (l : List ℕ). quote ∷ l) (append_assoc inner (b ∷ []) bytes))
-              (more (InQuote (text ++ b ∷ [])) (quote ∷ (inner ++ b ∷ [])) (inner ++ b ∷ [], refl, quoted_append inner text (b ∷ []) (b ∷ []) is (inl ([], refl, x, y, refl)))))
+            (more (InQuote (text ++ b ∷ [])) (quote ∷ (inner ++ b ∷ [])) (inner ++ b ∷ [], refl, quoted_append inner text (b ∷ []) (b ∷ []) is (inl ([], refl, x, y, refl)))))
       ]
     ]
 
@@ -119,7 +119,7 @@ reading_escape b bytes inner text is more =
     elim (split_bool (is_hex b)) [
       | inl x ↦
           rw x (moved (scan bytes (EscapeLow text b)) (quote ∷ ((inner ++ backslash ∷ b ∷ []) ++ bytes)) (quote ∷ (inner ++ backslash ∷ b ∷ bytes)) (ap (λ (l : List ℕ). quote ∷ l) (append_assoc inner (backslash ∷ b ∷ []) bytes))
-            (more (EscapeLow text b) (quote ∷ (inner ++ backslash ∷ b ∷ [])) (inner, refl, is, x)))
+          (more (EscapeLow text b) (quote ∷ (inner ++ backslash ∷ b ∷ [])) (inner, refl, is, x)))
       | inr x ↦
           let none : scan (backslash ∷ b ∷ bytes) (InQuote text) ≡ scanned true [] = rw x refl in
           rw x (broken_line inner text (backslash ∷ b ∷ bytes) is none)
@@ -132,7 +132,7 @@ reading_low b high bytes inner text is hex more =
       | inl x ↦
           let byte = hex_pair high b in
           rw x (moved (scan bytes (InQuote (text ++ byte ∷ []))) (quote ∷ ((inner ++ backslash ∷ high ∷ b ∷ []) ++ bytes)) (quote ∷ (inner ++ backslash ∷ high ∷ b ∷ bytes)) (ap (λ (l : List ℕ). quote ∷ l) (append_assoc inner (backslash ∷ high ∷ b ∷ []) bytes))
-            (more (InQuote (text ++ byte ∷ [])) (quote ∷ (inner ++ backslash ∷ high ∷ b ∷ [])) (inner ++ backslash ∷ high ∷ b ∷ [], refl, quoted_append inner text (backslash ∷ high ∷ b ∷ []) (byte ∷ []) is (inr (high, b, [], refl, hex, x, refl, refl)))))
+          (more (InQuote (text ++ byte ∷ [])) (quote ∷ (inner ++ backslash ∷ high ∷ b ∷ [])) (inner ++ backslash ∷ high ∷ b ∷ [], refl, quoted_append inner text (backslash ∷ high ∷ b ∷ []) (byte ∷ []) is (inr (high, b, [], refl, hex, x, refl, refl)))))
       | inr x ↦
           let none : scan (backslash ∷ high ∷ b ∷ bytes) (InQuote text) ≡ scanned true [] = rw (hex, x) refl in
           rw x (broken_line inner text (backslash ∷ high ∷ b ∷ bytes) is none)

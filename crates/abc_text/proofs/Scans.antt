@@ -1,8 +1,8 @@
 -- The tokens of a line are found by going over it once.
-use Rattle.std.proofs.Common.{◌≡◌, ℕ, ◌+◌, ◌*◌, ◌⊎◌, inl, inr, Bool, true, false, cond, ◌&&◌, ◌||◌, not, nat_eq, List, [], ◌∷◌, ◌++◌, refl, sym, ap, subst, ◌∙◌, append_assoc, append-nil, rules}
+use Rattle.std.proofs.Common.{◌≡◌, ℕ, ◌⊎◌, inl, inr, Bool, true, false, ◌&&◌, not, nat_eq, List, [], ◌∷◌, ◌++◌, refl, sym, ap, subst, ◌∙◌, append_assoc, append-nil, rules}
 use Rattle.std.specs.List.{AllByRecursion}
 use Rattle.abc_text.specs.Tokens.{Token, Bare, Quoted, AreBlanks, EndsLine, EndsRun, HasTokens, IsClosed, IsQuoted, IsRun, backslash, hex_pair, is_blank, is_hex, is_run_byte, quote, semicolon}
-use Rattle.abc_text.specs.Scanning.{Between, Escape, EscapeLow, InQuote, InRun, Scan, Within, also, scan, scanned}
+use Rattle.abc_text.specs.Scanning.{Between, InQuote, InRun, Scan, also, scan, scanned}
 use Rattle.abc_text.proofs.Bools.{and_true, not_true, split_bool}
 
 -- ---- runs
@@ -170,13 +170,13 @@ stays_open (b ∷ high ∷ []) front not_ =
     open_step b (high ∷ []) front not_ (λ y n. stays_open (high ∷ []) (front ++ b ∷ []) n) (λ y. ap (λ (n : ℕ). scan (n ∷ high ∷ []) (InQuote front)) (eq_is b backslash y) ∙ open_one high front (is_hex high) refl)
 stays_open (b ∷ high ∷ low ∷ rest) front not_ =
     open_step b (high ∷ low ∷ rest) front not_ (λ y n. stays_open (high ∷ low ∷ rest) (front ++ b ∷ []) n)
-      (λ y.
-        let same : b ≡ backslash = eq_is b backslash y in
-        ap (λ (n : ℕ). scan (n ∷ high ∷ low ∷ rest) (InQuote front)) same
-        ∙ elim (split_bool (is_hex high)) [
-          | inr h ↦ open_high high (low ∷ rest) front h
-          | inl h ↦ open_low high low rest front (is_hex low) refl h (λ l. stays_open rest (front ++ hex_pair high low ∷ []) (λ c. not_ (subst (λ (n : ℕ). IsClosed (n ∷ high ∷ low ∷ rest)) (sym same) (closed_escape high low rest h l c))))
-        ])
+    (λ y.
+    let same : b ≡ backslash = eq_is b backslash y in
+    ap (λ (n : ℕ). scan (n ∷ high ∷ low ∷ rest) (InQuote front)) same
+    ∙ elim (split_bool (is_hex high)) [
+      | inr h ↦ open_high high (low ∷ rest) front h
+      | inl h ↦ open_low high low rest front (is_hex low) refl h (λ l. stays_open rest (front ++ hex_pair high low ∷ []) (λ c. not_ (subst (λ (n : ℕ). IsClosed (n ∷ high ∷ low ∷ rest)) (sym same) (closed_escape high low rest h l c))))
+    ])
 
 -- ---- whole lines
 

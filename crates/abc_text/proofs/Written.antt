@@ -1,10 +1,10 @@
 -- What is written is read.
-use Rattle.std.proofs.Common.{◌≡◌, ℕ, ◌+◌, ◌*◌, ◌/◌, ◌%◌, ◌<◌, ◌⊎◌, inl, inr, Bool, true, false, cond, not, ◌&&◌, nat_eq, nat_le, nat_lt, List, [], ◌∷◌, ◌++◌, refl, sym, ap, subst, ◌∙◌, append_assoc, arith}
+use Rattle.std.proofs.Common.{◌≡◌, ℕ, ◌+◌, ◌/◌, ◌%◌, ◌<◌, inl, inr, true, false, not, ◌&&◌, nat_eq, nat_le, nat_lt, List, [], ◌∷◌, ◌++◌, refl, sym, ap, subst, append_assoc, arith}
 use Rattle.std.specs.List.{AllByRecursion}
 use Rattle.std.proofs.lemmas.Bool.{cases_lt}
 use Rattle.std.proofs.lemmas.Bool.Decides.{nat_tests}
 use Rattle.abc_escape.specs.Escapes.{escape_of, escaped, hex_digit, is_plain}
-use Rattle.abc_text.specs.Tokens.{Token, Bare, Quoted, EndsRun, HasTokens, IsQuoted, IsRun, backslash, hex_pair, hex_value, is_hex, is_run_byte, quote, semicolon}
+use Rattle.abc_text.specs.Tokens.{Token, Bare, Quoted, EndsRun, HasTokens, IsQuoted, backslash, hex_value, is_hex, quote, semicolon}
 use Rattle.abc_text.specs.Writing.{AreWritable, IsComment, IsWritable, written, written_line}
 use Rattle.abc_text.proofs.Bools.{and_true, not_true, split_bool}
 use Rattle.abc_text.proofs.Readings.{quoted_append}
