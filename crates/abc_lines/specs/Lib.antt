@@ -2,4 +2,5 @@ pub mod Answers
 pub mod File
 pub mod Kinds
 pub mod Lineforms
+pub mod Listing
 pub mod Texts

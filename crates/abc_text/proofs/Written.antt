@@ -5,7 +5,7 @@ use Rattle.std.proofs.lemmas.Bool.{cases_lt}
 use Rattle.std.proofs.lemmas.Bool.Decides.{nat_tests}
 use Rattle.abc_escape.specs.Escapes.{escape_of, escaped, hex_digit, is_plain}
 use Rattle.abc_text.specs.Tokens.{Token, Bare, Quoted, EndsRun, HasTokens, IsQuoted, backslash, hex_value, is_hex, quote, semicolon}
-use Rattle.abc_text.specs.Writing.{AreWritable, IsComment, IsWritable, written, written_line}
+use Rattle.abc_text.specs.Writing.{AreWritable, IsComment, IsWritable, spaced, written, written_line}
 use Rattle.abc_text.proofs.Bools.{and_true, not_true, split_bool}
 use Rattle.abc_text.proofs.Readings.{quoted_append}
 
@@ -69,10 +69,15 @@ blank_first bytes [] has = (0x20 ∷ has.0, has.1, ap (λ (l : List ℕ). 0x20 �
 blank_first bytes (Bare word ∷ tokens) has = (0x20 ∷ has.0, has.1, ap (λ (l : List ℕ). 0x20 ∷ l) has.2, (refl, has.3), has.4, has.5)
 blank_first bytes (Quoted text ∷ tokens) has = (0x20 ∷ has.0, has.1, has.2, ap (λ (l : List ℕ). 0x20 ∷ l) has.3, (refl, has.4), has.5, has.6)
 
+spaced_has : (tokens : List Token) (comment : List ℕ) → AreWritable tokens → IsComment comment → HasTokens false (spaced tokens ++ comment) tokens × EndsRun (spaced tokens ++ comment)
+spaced_has [] comment are is = comment_has comment is
+spaced_has (token ∷ tokens) comment are is =
+    let more = spaced_has tokens comment are.1 is in
+    let here = token_has token (spaced tokens ++ comment) tokens are.0 more.1 more.0 in
+    (subst (λ (l : List ℕ). HasTokens false (0x20 ∷ l) (token ∷ tokens)) (sym (append_assoc (written token) (spaced tokens) comment)) (blank_first (written token ++ (spaced tokens ++ comment)) (token ∷ tokens) here), refl)
+
 pub line_has : (tokens : List Token) (comment : List ℕ) → AreWritable tokens → IsComment comment → HasTokens false (written_line tokens ++ comment) tokens
 line_has [] comment are is = (comment_has comment is).0
-line_has (token ∷ []) comment are is = let c = comment_has comment is in token_has token comment [] are.0 c.1 c.0
-line_has (token ∷ other ∷ tokens) comment are is =
-    let line = written_line (other ∷ tokens) in
-    let more = blank_first (line ++ comment) (other ∷ tokens) (line_has (other ∷ tokens) comment are.1 is) in
-    subst (λ (l : List ℕ). HasTokens false l (token ∷ other ∷ tokens)) (sym (append_assoc (written token) (0x20 ∷ line) comment)) (token_has token (0x20 ∷ (line ++ comment)) (other ∷ tokens) are.0 refl more)
+line_has (token ∷ tokens) comment are is =
+    let more = spaced_has tokens comment are.1 is in
+    subst (λ (l : List ℕ). HasTokens false l (token ∷ tokens)) (sym (append_assoc (written token) (spaced tokens) comment)) (token_has token (spaced tokens ++ comment) tokens are.0 more.1 more.0)

@@ -9,11 +9,15 @@ abbrev pub written : Token → List ℕ
 written (Bare word) = word
 written (Quoted text) = quote ∷ (escaped text ++ quote ∷ [])
 
+-- each token behind a space
+abbrev pub spaced : List Token → List ℕ
+spaced [] = []
+spaced (token ∷ tokens) = 0x20 ∷ (written token ++ spaced tokens)
+
 -- one space between tokens
 abbrev pub written_line : List Token → List ℕ
 written_line [] = []
-written_line (token ∷ []) = written token
-written_line (token ∷ other ∷ tokens) = written token ++ 0x20 ∷ written_line (other ∷ tokens)
+written_line (token ∷ tokens) = written token ++ spaced tokens
 
 abbrev pub IsWritable : Token → Type 0
 IsWritable (Bare []) = ⊥
