@@ -1,0 +1,91 @@
+//! The lines of the constant pools.
+ghost use Rattle.std.specs.Prelude.{◌≡◌, List, ℕ};
+ghost use Rattle.abc_lines.specs.Kinds.{multiname_word, space_word};
+ghost use Rattle.abc_lines.specs.Lineforms.{double_line, int_line, kind_in, name_line, namespace_line, set_line, string_line, uint_line};
+ghost use Rattle.abc_lines.specs.Listing.{line_bytes};
+ghost use Rattle.abc_tables.specs.Classes.{sizes_of};
+ghost use Rattle.abc_text.specs.declared.word.Word.TheVariants as words;
+ghost use Rattle.abc_varint.specs.Puts.{Puts};
+
+use crate::comments::{put_quoted_comment, string_at};
+use crate::listed::Listed;
+use crate::tokens::{put, put_hex_bytes, put_number, put_quoted, put_signed, put_word};
+use abc_base::NoMemory;
+use abc_tables::{Abc, Bytes, Eight, Namespace, NsKind};
+
+/// The word of a kind of namespace.
+pub fn space_name(kind: NsKind) -> &'static [u8]
+    ensures { result.now ≡ space_word kind }
+{
+    match kind {
+        NsKind::Private => b"Private",
+        NsKind::Namespace => b"Namespace",
+        NsKind::Package => b"Package",
+        NsKind::PackageInternal => b"PackageInternal",
+        NsKind::Protected => b"Protected",
+        NsKind::Explicit => b"Explicit",
+        NsKind::StaticProtected => b"StaticProtected",
+    }
+}
+
+impl Listed for i32 {
+    ghost text = { λ v n. line_bytes v words.Int (int_line.items n) };
+
+    #[tactic(auto, unfolding(abc_lines::specs::Lineforms::int_line, abc_rowparts::specs::Operands::any_signed), using(abc_varint::proofs::Putting::stays, std::proofs::Common::append_assoc))]
+    fn put(&self, _abc: &Abc, out: &mut Vec<u8>) -> Result<(), NoMemory> {
+        put(b"int", out)?;
+        put_signed(*self, out)?;
+        put(b"\n", out)?;
+        Ok(())
+    }
+}
+
+impl Listed for u32 {
+    ghost text = { λ v n. line_bytes v words.UInt (uint_line.items n) };
+
+    #[tactic(auto, unfolding(abc_lines::specs::Lineforms::uint_line, abc_rowparts::specs::Operands::any_number), using(abc_varint::proofs::Putting::stays, std::proofs::Common::append_assoc))]
+    fn put(&self, _abc: &Abc, out: &mut Vec<u8>) -> Result<(), NoMemory> {
+        put(b"uint", out)?;
+        put_number(*self, out)?;
+        put(b"\n", out)?;
+        Ok(())
+    }
+}
+
+impl Listed for Eight {
+    ghost text = { λ v d. line_bytes v words.Double (double_line.items d) };
+
+    #[tactic(auto, unfolding(abc_lines::specs::Lineforms::double_line, abc_rowparts::specs::Operands::eight), using(abc_varint::proofs::Putting::stays, std::proofs::Common::append_assoc))]
+    fn put(&self, _abc: &Abc, out: &mut Vec<u8>) -> Result<(), NoMemory> {
+        put(b"double ", out)?;
+        put_hex_bytes(&self.0, out)?;
+        put(b"\n", out)?;
+        Ok(())
+    }
+}
+
+impl Listed for Bytes {
+    ghost text = { λ v b. line_bytes v words.Text (string_line.items b) };
+
+    #[tactic(auto, unfolding(abc_lines::specs::Lineforms::string_line, abc_rowparts::specs::Operands::text), using(abc_varint::proofs::Putting::stays, std::proofs::Common::append_assoc))]
+    fn put(&self, _abc: &Abc, out: &mut Vec<u8>) -> Result<(), NoMemory> {
+        put(b"string", out)?;
+        put_quoted(self.as_slice(), out)?;
+        put(b"\n", out)?;
+        Ok(())
+    }
+}
+
+impl Listed for Namespace {
+    ghost text = { λ v n. line_bytes v words.Namespace ((namespace_line (sizes_of v)).items n) };
+
+    #[tactic(auto, unfolding(abc_lines::specs::Lineforms::namespace_line, abc_lines::specs::Kinds::space_kind, abc_rowparts::specs::Operands::any_number), using(abc_varint::proofs::Putting::stays, std::proofs::Common::append_assoc))]
+    fn put(&self, abc: &Abc, out: &mut Vec<u8>) -> Result<(), NoMemory> {
+        put(b"ns", out)?;
+        put_word(space_name(self.kind), out)?;
+        put_number(self.name, out)?;
+        put_quoted_comment(string_at(abc, self.name), out)?;
+        put(b"\n", out)?;
+        Ok(())
+    }
+}
