@@ -1,0 +1,84 @@
+//! What ends a line: the front of the text that its name has.
+ghost use Rattle.std.specs.Prelude.{◌≡◌, ◌++◌, ◌≤◌, ◌-◌, length, take, codes, Some};
+ghost use Rattle.abc_escape.specs.Escapes.{escaped};
+ghost use Rattle.abc_lines.specs.Listing.{multiname_comment, name_comment, name_in, operand_comment, quoted_comment, string_at as string_of};
+ghost use Rattle.abc_varint.specs.Puts.{Puts};
+
+use crate::tokens::{put, put_escaped};
+use abc_base::NoMemory;
+use abc_tables::{Abc, Multiname, Pool};
+
+/// How many bytes of a text are shown.
+const SHOWN: usize = 16;
+
+/// The string of an index that counts from 1; 0 is the empty text.
+pub fn string_at(abc: &Abc, n: u32) -> &[u8]
+    ensures { result.now ≡ string_of abc.now n }
+{
+    if n == 0 {
+        return &[];
+    }
+    match abc.strings.find(n as usize - 1) {
+        Some(text) => text.as_slice(),
+        None => &[],
+    }
+}
+
+/// The front of a text.
+#[tactic(auto, using(abc_varint::proofs::Putting::stays, std::proofs::Common::append_assoc))]
+pub fn put_quoted_comment(text: &[u8], out: &mut Vec<u8>) -> Result<(), NoMemory>
+    ensures { Puts out.old.items out.new.items result (quoted_comment text.now) }
+{
+    put(b" ; \"", out)?;
+    put_escaped(&text[..text.len().min(SHOWN)], out)?;
+    put(b"\"", out)?;
+    Ok(())
+}
+
+/// The string of an index, where 0 is any name.
+#[tactic(auto, using(abc_varint::proofs::Putting::stays_whole))]
+pub fn put_name_comment(abc: &Abc, n: u32, out: &mut Vec<u8>) -> Result<(), NoMemory>
+    ensures { Puts out.old.items out.new.items result (name_comment abc.now n) }
+{
+    if n == 0 {
+        put(b" ; *", out)
+    } else {
+        put_quoted_comment(string_at(abc, n), out)
+    }
+}
+
+/// The string that a multiname has, or 0.
+pub fn name_of(multiname: &Multiname) -> u32
+    ensures { result ≡ name_in (Some multiname.now) }
+{
+    match multiname {
+        Multiname::QName { name, .. } => *name,
+        Multiname::Rt { name, .. } => *name,
+        Multiname::Multi { name, .. } => *name,
+        Multiname::RtL { .. } | Multiname::MultiL { .. } | Multiname::TypeName { .. } => 0,
+    }
+}
+
+/// The string of the multiname of an index, which counts from 1.
+pub fn put_multiname_comment(abc: &Abc, n: u32, out: &mut Vec<u8>) -> Result<(), NoMemory>
+    ensures { Puts out.old.items out.new.items result (multiname_comment abc.now n) }
+{
+    let name = match abc.names.find((n as usize).saturating_sub(1)) {
+        Some(multiname) => name_of(multiname),
+        None => 0,
+    };
+    put_name_comment(abc, name, out)
+}
+
+/// The name or the string that an instruction's first operand is, where it is in range and not 0.
+pub fn put_operand_comment(abc: &Abc, pool: Pool, n: u32, out: &mut Vec<u8>) -> Result<(), NoMemory>
+    ensures { Puts out.old.items out.new.items result (operand_comment abc.now pool n) }
+{
+    match pool {
+        Pool::Name if n >= 1 && n as usize <= abc.names.len() => put_multiname_comment(abc, n, out),
+        Pool::Text if n >= 1 && n as usize <= abc.strings.len() => {
+            put_quoted_comment(string_at(abc, n), out)
+        }
+        _ => Ok(()),
+    }
+}

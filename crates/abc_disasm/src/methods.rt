@@ -1,0 +1,66 @@
+//! The lines of methods and metadata.
+ghost use Rattle.std.specs.Prelude.{◌≡◌, ◌<◌, ◌*◌, ◌/◌, ◌+◌, length, List, ℕ};
+ghost use Rattle.std.specs.List.{flat_map};
+ghost use Rattle.abc_disasm.specs.Texts.{entry_text, metadata_text, method_text, option_text};
+ghost use Rattle.abc_lines.specs.Answers.{pairs};
+ghost use Rattle.abc_lines.specs.Kinds.{value_word};
+ghost use Rattle.abc_varint.specs.Puts.{Puts};
+
+use crate::listed::{Listed, put_all};
+use crate::numbers::{put_number_line, put_number_lines};
+use crate::tokens::{put, put_number, put_word};
+use abc_base::NoMemory;
+use abc_tables::{Abc, Metadata, Method, OptionValue, ValueKind};
+
+/// The word of the kind of a value.
+pub fn value_name(kind: ValueKind) -> &'static [u8]
+    ensures { result.now ≡ value_word kind }
+{
+    match kind {
+        ValueKind::Undefined => b"Undefined",
+        ValueKind::Utf8 => b"Utf8",
+        ValueKind::Int => b"Int",
+        ValueKind::UInt => b"UInt",
+        ValueKind::Double => b"Double",
+        ValueKind::False => b"False",
+        ValueKind::True => b"True",
+        ValueKind::Null => b"Null",
+        ValueKind::Private => b"Private",
+        ValueKind::Namespace => b"Namespace",
+        ValueKind::Package => b"Package",
+        ValueKind::PackageInternal => b"PackageInternal",
+        ValueKind::Protected => b"Protected",
+        ValueKind::Explicit => b"Explicit",
+        ValueKind::StaticProtected => b"StaticProtected",
+    }
+}
+
+impl Listed for OptionValue {
+    ghost text = { option_text };
+
+    #[tactic(auto, unfolding(abc_lines::specs::Lineforms::option_line, abc_lines::specs::Kinds::value_kind, abc_rowparts::specs::Operands::any_number), using(abc_varint::proofs::Putting::stays, std::proofs::Common::append_assoc))]
+    fn put(&self, _abc: &Abc, out: &mut Vec<u8>) -> Result<(), NoMemory> {
+        put(b"option", out)?;
+        put_word(value_name(self.kind), out)?;
+        put_number(self.value, out)?;
+        put(b"\n", out)?;
+        Ok(())
+    }
+}
+
+impl Listed for Method {
+    ghost text = { method_text };
+
+    #[tactic(auto, unfolding(abc_lines::specs::Lineforms::method_line, abc_rowparts::specs::Operands::any_number), using(abc_varint::proofs::Putting::stays, std::proofs::Common::append_assoc))]
+    fn put(&self, abc: &Abc, out: &mut Vec<u8>) -> Result<(), NoMemory> {
+        put(b"method", out)?;
+        put_number(self.ret, out)?;
+        put_number(self.name, out)?;
+        put_number(self.flags as u32, out)?;
+        put(b"\n", out)?;
+        put_number_lines(b"param", &self.params, out)?;
+        put_all(&self.options, abc, out)?;
+        put_number_lines(b"pname", &self.param_names, out)?;
+        Ok(())
+    }
+}

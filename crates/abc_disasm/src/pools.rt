@@ -1,0 +1,152 @@
+//! The lines of the constant pools.
+ghost use Rattle.std.specs.Prelude.{◌≡◌, List, ℕ};
+ghost use Rattle.abc_disasm.specs.Texts.{name_fields};
+ghost use Rattle.abc_lines.specs.Kinds.{multiname_word, space_word};
+ghost use Rattle.abc_lines.specs.Lineforms.{double_line, int_line, kind_in, name_line, namespace_line, set_line, string_line, uint_line};
+ghost use Rattle.abc_lines.specs.Listing.{line_bytes};
+ghost use Rattle.abc_tables.specs.Classes.{sizes_of};
+ghost use Rattle.abc_text.specs.declared.word.Word.TheVariants as words;
+ghost use Rattle.abc_varint.specs.Puts.{Puts};
+
+use crate::comments::{name_of, put_name_comment, put_quoted_comment, string_at};
+use crate::listed::Listed;
+use crate::numbers::{put_numbers, put_two};
+use crate::tokens::{put, put_hex_bytes, put_number, put_quoted, put_signed, put_word};
+use abc_base::NoMemory;
+use abc_tables::{Abc, Bytes, Eight, Multiname, Namespace, NsKind, Table};
+
+/// The word of a kind of namespace.
+pub fn space_name(kind: NsKind) -> &'static [u8]
+    ensures { result.now ≡ space_word kind }
+{
+    match kind {
+        NsKind::Private => b"Private",
+        NsKind::Namespace => b"Namespace",
+        NsKind::Package => b"Package",
+        NsKind::PackageInternal => b"PackageInternal",
+        NsKind::Protected => b"Protected",
+        NsKind::Explicit => b"Explicit",
+        NsKind::StaticProtected => b"StaticProtected",
+    }
+}
+
+impl Listed for i32 {
+    ghost text = { λ v n. line_bytes v words.Int (int_line.items n) };
+
+    #[tactic(auto, unfolding(abc_lines::specs::Lineforms::int_line, abc_rowparts::specs::Operands::any_signed), using(abc_varint::proofs::Putting::stays, std::proofs::Common::append_assoc))]
+    fn put(&self, _abc: &Abc, out: &mut Vec<u8>) -> Result<(), NoMemory> {
+        put(b"int", out)?;
+        put_signed(*self, out)?;
+        put(b"\n", out)?;
+        Ok(())
+    }
+}
+
+impl Listed for u32 {
+    ghost text = { λ v n. line_bytes v words.UInt (uint_line.items n) };
+
+    #[tactic(auto, unfolding(abc_lines::specs::Lineforms::uint_line, abc_rowparts::specs::Operands::any_number), using(abc_varint::proofs::Putting::stays, std::proofs::Common::append_assoc))]
+    fn put(&self, _abc: &Abc, out: &mut Vec<u8>) -> Result<(), NoMemory> {
+        put(b"uint", out)?;
+        put_number(*self, out)?;
+        put(b"\n", out)?;
+        Ok(())
+    }
+}
+
+impl Listed for Eight {
+    ghost text = { λ v d. line_bytes v words.Double (double_line.items d) };
+
+    #[tactic(auto, unfolding(abc_lines::specs::Lineforms::double_line, abc_rowparts::specs::Operands::eight), using(abc_varint::proofs::Putting::stays, std::proofs::Common::append_assoc))]
+    fn put(&self, _abc: &Abc, out: &mut Vec<u8>) -> Result<(), NoMemory> {
+        put(b"double ", out)?;
+        put_hex_bytes(&self.0, out)?;
+        put(b"\n", out)?;
+        Ok(())
+    }
+}
+
+impl Listed for Bytes {
+    ghost text = { λ v b. line_bytes v words.Text (string_line.items b) };
+
+    #[tactic(auto, unfolding(abc_lines::specs::Lineforms::string_line, abc_rowparts::specs::Operands::text), using(abc_varint::proofs::Putting::stays, std::proofs::Common::append_assoc))]
+    fn put(&self, _abc: &Abc, out: &mut Vec<u8>) -> Result<(), NoMemory> {
+        put(b"string", out)?;
+        put_quoted(self.as_slice(), out)?;
+        put(b"\n", out)?;
+        Ok(())
+    }
+}
+
+impl Listed for Namespace {
+    ghost text = { λ v n. line_bytes v words.Namespace ((namespace_line (sizes_of v)).items n) };
+
+    #[tactic(auto, unfolding(abc_lines::specs::Lineforms::namespace_line, abc_lines::specs::Kinds::space_kind, abc_rowparts::specs::Operands::any_number), using(abc_varint::proofs::Putting::stays, std::proofs::Common::append_assoc))]
+    fn put(&self, abc: &Abc, out: &mut Vec<u8>) -> Result<(), NoMemory> {
+        put(b"ns", out)?;
+        put_word(space_name(self.kind), out)?;
+        put_number(self.name, out)?;
+        put_quoted_comment(string_at(abc, self.name), out)?;
+        put(b"\n", out)?;
+        Ok(())
+    }
+}
+
+impl Listed for Table<u32> {
+    ghost text = { λ v xs. line_bytes v words.Set ((set_line (sizes_of v)).items xs) };
+
+    #[tactic(auto, unfolding(abc_lines::specs::Lineforms::set_line, abc_rowparts::specs::Operands::any_number), using(abc_varint::proofs::Putting::stays, std::proofs::Common::append_assoc, crate::proofs::Shown::entries))]
+    fn put(&self, _abc: &Abc, out: &mut Vec<u8>) -> Result<(), NoMemory> {
+        put(b"set", out)?;
+        put_numbers(self, out)?;
+        put(b"\n", out)?;
+        Ok(())
+    }
+}
+
+/// The word of a multiname's kind.
+pub fn kind_name(multiname: &Multiname) -> &'static [u8]
+    ensures { result.now ≡ multiname_word (kind_in multiname.now) }
+{
+    match multiname {
+        Multiname::QName { attr, .. } => if *attr { b"QNameA" } else { b"QName" },
+        Multiname::Rt { attr, .. } => if *attr { b"RTQNameA" } else { b"RTQName" },
+        Multiname::RtL { attr } => if *attr { b"RTQNameLA" } else { b"RTQNameL" },
+        Multiname::Multi { attr, .. } => if *attr { b"MultinameA" } else { b"Multiname" },
+        Multiname::MultiL { attr, .. } => if *attr { b"MultinameLA" } else { b"MultinameL" },
+        Multiname::TypeName { .. } => b"TypeName",
+    }
+}
+
+/// The indices of a multiname, in the order of the file.
+#[tactic(auto, unfolding(abc_rowparts::specs::Operands::any_number), using(abc_varint::proofs::Putting::stays, std::proofs::Common::append_assoc, crate::proofs::Shown::types))]
+fn put_name_fields(multiname: &Multiname, _abc: &Abc, out: &mut Vec<u8>) -> Result<(), NoMemory>
+    ensures { Puts out.old.items out.new.items result (name_fields _abc.now multiname.now) }
+{
+    match multiname {
+        Multiname::QName { ns, name, .. } => put_two(*ns, *name, out),
+        Multiname::Rt { name, .. } => put_number(*name, out),
+        Multiname::RtL { .. } => Ok(()),
+        Multiname::Multi { name, set, .. } => put_two(*name, *set, out),
+        Multiname::MultiL { set, .. } => put_number(*set, out),
+        Multiname::TypeName { base, params } => {
+            put_number(*base, out)?;
+            put_numbers(params, out)?;
+            Ok(())
+        }
+    }
+}
+
+impl Listed for Multiname {
+    ghost text = { λ v m. line_bytes v words.Name ((name_line (sizes_of v)).items m) };
+
+    #[tactic(auto, unfolding(abc_lines::specs::Lineforms::name_line, abc_lines::specs::Kinds::multiname_kind), using(abc_varint::proofs::Putting::stays, std::proofs::Common::append_assoc, crate::proofs::Shown::name_line_is))]
+    fn put(&self, abc: &Abc, out: &mut Vec<u8>) -> Result<(), NoMemory> {
+        put(b"name", out)?;
+        put_word(kind_name(self), out)?;
+        put_name_fields(self, abc, out)?;
+        put_name_comment(abc, name_of(self), out)?;
+        put(b"\n", out)?;
+        Ok(())
+    }
+}

@@ -1,0 +1,78 @@
+//! The lines of traits.
+ghost use Rattle.std.specs.Prelude.{◌≡◌};
+ghost use Rattle.abc_disasm.specs.Texts.{fields_text, slot_text, trait_text};
+ghost use Rattle.abc_lines.specs.Kinds.{trait_word};
+ghost use Rattle.abc_tables.specs.Traits.{trait_kind_in};
+ghost use Rattle.abc_varint.specs.Puts.{Puts};
+
+use crate::comments::put_multiname_comment;
+use crate::listed::Listed;
+use crate::methods::value_name;
+use crate::numbers::{put_number_lines, put_two};
+use crate::tokens::{put, put_number, put_word};
+use abc_base::NoMemory;
+use abc_tables::{Abc, OptionValue, TraitBody, TraitInfo};
+
+/// The word of a trait's kind.
+fn trait_name(body: &TraitBody) -> &'static [u8]
+    ensures { result.now ≡ trait_word (trait_kind_in body.now) }
+{
+    match body {
+        TraitBody::Slot { constant, .. } => if *constant { b"const" } else { b"slot" },
+        TraitBody::Method { .. } => b"method",
+        TraitBody::Getter { .. } => b"getter",
+        TraitBody::Setter { .. } => b"setter",
+        TraitBody::Class { .. } => b"class",
+        TraitBody::Function { .. } => b"function",
+    }
+}
+
+/// The index of a slot's value and its kind, or 0.
+#[tactic(auto, using(abc_varint::proofs::Putting::stays, std::proofs::Common::append_assoc, crate::proofs::Shown::slot_some, crate::proofs::Shown::slot_zero, crate::proofs::Shown::slot_none))]
+fn put_slot_value(value: &Option<OptionValue>, _abc: &Abc, out: &mut Vec<u8>) -> Result<(), NoMemory>
+    ensures { Puts out.old.items out.new.items result (slot_text _abc.now value.now) }
+{
+    let Some(option) = value else { return put_number(0, out) };
+    put_number(option.value, out)?;
+    if option.value != 0 {
+        put_word(value_name(option.kind), out)?;
+    }
+    Ok(())
+}
+
+/// What a trait declares.
+#[tactic(auto, unfolding(abc_rowparts::specs::Operands::any_number), using(abc_varint::proofs::Putting::stays, std::proofs::Common::append_assoc))]
+fn put_fields(body: &TraitBody, abc: &Abc, out: &mut Vec<u8>) -> Result<(), NoMemory>
+    ensures { Puts out.old.items out.new.items result (fields_text abc.now body.now) }
+{
+    match body {
+        TraitBody::Slot { id, ty, value, .. } => {
+            put_number(*id, out)?;
+            put_number(*ty, out)?;
+            put_slot_value(value, abc, out)?;
+            Ok(())
+        }
+        TraitBody::Method { disp, method } => put_two(*disp, *method, out),
+        TraitBody::Getter { disp, method } => put_two(*disp, *method, out),
+        TraitBody::Setter { disp, method } => put_two(*disp, *method, out),
+        TraitBody::Class { id, class } => put_two(*id, *class, out),
+        TraitBody::Function { id, method } => put_two(*id, *method, out),
+    }
+}
+
+impl Listed for TraitInfo {
+    ghost text = { trait_text };
+
+    #[tactic(auto, unfolding(abc_lines::specs::Lineforms::trait_line, abc_lines::specs::Kinds::trait_kind, abc_rowparts::specs::Operands::any_number), using(abc_varint::proofs::Putting::stays, std::proofs::Common::append_assoc))]
+    fn put(&self, abc: &Abc, out: &mut Vec<u8>) -> Result<(), NoMemory> {
+        put(b"trait", out)?;
+        put_word(trait_name(&self.body), out)?;
+        put_number(self.attrs as u32, out)?;
+        put_number(self.name, out)?;
+        put_fields(&self.body, abc, out)?;
+        put_multiname_comment(abc, self.name, out)?;
+        put(b"\n", out)?;
+        put_number_lines(b"tmeta", &self.metadata, out)?;
+        Ok(())
+    }
+}

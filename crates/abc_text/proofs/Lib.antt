@@ -1,0 +1,4 @@
+pub mod Bools
+pub mod Scans
+pub mod Readings
+pub mod Written
