@@ -36,11 +36,7 @@ pub(crate) fn base_graph(
 }
 
 /// Adds the interface of the file that a name stands for, if it is one.
-fn push_interface(
-    list: &mut Table<u32>,
-    abc: &Abc,
-    named: Option<Named>,
-) -> Result<(), NoMemory>
+fn push_interface(list: &mut Table<u32>, abc: &Abc, named: Option<Named>) -> Result<(), NoMemory>
     ensures { OnOk result (list.new ≡ list.old ++ interfaces_in abc.now named) }
 {
     match named {

@@ -25,9 +25,8 @@ fn slot_id(body: TraitBody) -> u32
     ensures { result ≡ id_of body }
 {
     match body {
-        TraitBody::Slot { id, .. }
-        | TraitBody::Class { id, .. }
-        | TraitBody::Function { id, .. } => id,
+        TraitBody::Slot { id, .. } | TraitBody::Class { id, .. } | TraitBody::Function { id, .. } =>
+            id,
         TraitBody::Method { .. } | TraitBody::Getter { .. } | TraitBody::Setter { .. } => 0,
     }
 }

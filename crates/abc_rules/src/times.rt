@@ -21,11 +21,7 @@ fn count_one(times: &mut Vec<u32>, methods: &[u32], place: usize)
 
 /// How often each of so many methods is named. A file that names 2^32 methods finds no memory.
 #[tactic(auto, using(crate::proofs::Counting::none_counted, crate::proofs::Counting::all_counted))]
-pub(crate) fn times_of(
-    alloc: Global,
-    methods: &[u32],
-    count: usize,
-) -> Result<Vec<u32>, NoMemory>
+pub(crate) fn times_of(alloc: Global, methods: &[u32], count: usize) -> Result<Vec<u32>, NoMemory>
     ensures { IfOk result (λ times. AreTimes times.items methods.now count) }
 {
     if methods.len() > u32::MAX as usize {
