@@ -1,5 +1,5 @@
 -- The numbers of a file's texts.
-use Rattle.std.proofs.Common.{◌≡◌, ℕ, zero, suc, ◌-◌, Bool, true, false, List, [], ◌∷◌, cond, nat_eq, eqb-true, get_or, refl, sym, ap, ◌∙◌, arith}
+use Rattle.std.proofs.Common.{◌≡◌, ℕ, zero, suc, ◌-◌, Bool, true, false, List, [], cond, nat_eq, eqb-true, get_or, refl, sym, ap, ◌∙◌, arith}
 use Rattle.std.specs.Str.{bytes_eq}
 use Rattle.abc_index.specs.Texts.{AreNumbersOf, texts_of}
 use Rattle.abc_tables.specs.declared.tables.Abc.{Abc}

@@ -1,13 +1,12 @@
 -- Equal names have equal keys, and unequal names unequal ones.
-use Rattle.std.proofs.Common.{◌≡◌, ◌≢◌, ℕ, Bool, true, false, ◌&&◌, cond, nat_eq, eq-eqb, eqb-true, refl, sym, ap, ◌∙◌, arith}
+use Rattle.std.proofs.Common.{◌≡◌, ℕ, Bool, true, false, ◌&&◌, cond, nat_eq, eq-eqb, eqb-true, refl, sym, ap, ◌∙◌}
 use Rattle.std.specs.Str.{bytes_eq}
 use Rattle.std.proofs.lemmas.Bool.{false≢true}
-use Rattle.abc_tables.specs.declared.names.Namespace.{Namespace}
 use Rattle.abc_tables.specs.declared.tables.Abc.{Abc}
 use Rattle.abc_names.specs.declared.keys.NameKey.{NameKey}
 use Rattle.abc_names.specs.declared.named.DefiniteName.{DefiniteName}
 use Rattle.abc_names.specs.declared.tables.NameTables.{NameTables}
-use Rattle.abc_names.specs.Pool.{space, text, same_space, is_private, shared_code}
+use Rattle.abc_names.specs.Pool.{space, text, is_private, shared_code}
 use Rattle.abc_names.specs.Keys.{keys_eq, name_key, same_name}
 use Rattle.abc_names.specs.Numbers.{AreNames, number}
 

@@ -1,5 +1,5 @@
 -- Keys by which namespaces, and names of a namespace and a text, are found: equal keys are those of equal ones.
-use Rattle.std.specs.Prelude.{◌≡◌, ℕ, List, Bool, nat_eq, ◌&&◌, if◌then◌else◌}
+use Rattle.std.specs.Prelude.{ℕ, List, Bool, nat_eq, ◌&&◌, if◌then◌else◌}
 use Rattle.std.specs.Str.{bytes_eq}
 use Rattle.abc_tables.specs.declared.names.Namespace.{Namespace}
 use Rattle.abc_tables.specs.declared.tables.Abc.{Abc}

@@ -1,5 +1,5 @@
 -- What the names of a pool stand for, as a table.
-use Rattle.std.specs.Prelude.{◌≡◌, ℕ, ◌+◌, ◌<◌, List, None, length, get_or}
+use Rattle.std.specs.Prelude.{◌≡◌, ℕ, ◌<◌, List, None, length, get_or}
 use Rattle.std.specs.declared.option.Option.{Option}
 use Rattle.abc_tables.specs.declared.tables.Abc.{Abc}
 use Rattle.abc_names.specs.declared.named.Named.{Named}

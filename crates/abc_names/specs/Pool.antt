@@ -1,6 +1,6 @@
 -- Texts, namespaces, sets and names of a file by their indices. Index 0 is the empty text, and no namespace, set or name;
 -- no index past the end is asked for.
-use Rattle.std.specs.Prelude.{ℕ, ◌-◌, List, [], Bool, true, false, nat_eq, not, ◌||◌, ◌&&◌, Some, None, if◌then◌else◌, get_or}
+use Rattle.std.specs.Prelude.{ℕ, ◌-◌, List, [], Bool, false, nat_eq, not, ◌||◌, ◌&&◌, Some, None, if◌then◌else◌, get_or}
 use Rattle.std.specs.declared.option.Option.{Option}
 use Rattle.std.specs.Str.{bytes_eq}
 use Rattle.abc_tables.specs.declared.names.NsKind.{NsKind}

@@ -1,8 +1,8 @@
 -- How often methods are named, one name after the other.
-use Rattle.std.proofs.Common.{◌≡◌, ◌≢◌, ℕ, ◌+◌, ◌<◌, ◌≤◌, ◌⊎◌, inl, inr, Bool, true, false, List, [], length, get_or, nat_eq, eq-eqb, eqb-true, take, replicate, refl, sym, ap, subst, ◌∙◌, arith, get_or-set_other, get_or-set_same}
+use Rattle.std.proofs.Common.{◌≡◌, ℕ, ◌+◌, ◌<◌, ◌≤◌, ◌⊎◌, inl, inr, Bool, true, false, List, length, get_or, nat_eq, eq-eqb, eqb-true, take, replicate, refl, sym, ap, subst, ◌∙◌, arith, get_or-set_other, get_or-set_same}
 use Rattle.std.proofs.Math.ListN.{set, length-set}
 use Rattle.std.proofs.lemmas.Bool.{cases_eq}
-use Rattle.std.proofs.lemmas.List.{get_or_default, get_or-replicate, length-replicate, take_all, length-take}
+use Rattle.std.proofs.lemmas.List.{get_or-replicate, length-replicate, take_all, length-take}
 use Rattle.std.proofs.lemmas.List.Sums.{count_by_more_no, count_by_more_yes, count_by-le-length}
 use Rattle.abc_rules.specs.Methods.{times_named}
 use Rattle.abc_rules.specs.Times.{AreTimes}

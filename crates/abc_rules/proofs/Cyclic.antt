@@ -1,5 +1,5 @@
 -- The first class that returns to itself, over bases or over interfaces.
-use Rattle.std.proofs.Common.{◌≡◌, ℕ, ◌<◌, ◌≤◌, ◌⊎◌, inl, inr, min, Some, None, length, refl, sym, ap, subst, ◌∙◌, arith, List, true, false, Bool, IsTrue}
+use Rattle.std.proofs.Common.{◌≡◌, ℕ, ◌<◌, ◌≤◌, ◌⊎◌, inl, inr, min, Some, None, length, refl, sym, ap, subst, ◌∙◌, arith, List, IsTrue}
 use Rattle.std.specs.declared.option.Option.{Option}
 use Rattle.std.proofs.lemmas.Bool.{cases_lt, false≢true}
 use Rattle.std.proofs.lemmas.List.{length-map}
@@ -12,7 +12,7 @@ use Rattle.abc_rules.specs.declared.items.Item.{Item}
 use Rattle.abc_rules.specs.Items.{IsItem, StandsBefore, count_of, kind_number}
 use Rattle.abc_rules.specs.Bases.{base_graph, interface_graph}
 use Rattle.abc_rules.specs.Rules.{Breaks, AllHoldBefore, IsFirstBroken, is_class}
-use Rattle.abc_rules.specs.Firsts.{item, IsFirstItem}
+use Rattle.abc_rules.specs.Firsts.{item}
 use Rattle.abc_rules.specs.Cycles.{earlier}
 use Rattle.abc_rules.proofs.Order.{one_more}
 

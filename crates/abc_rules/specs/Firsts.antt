@@ -1,5 +1,5 @@
 -- The first items that break a rule.
-use Rattle.std.specs.Prelude.{◌≡◌, ℕ, ◌+◌, ◌<◌, ◌^◌, Some, None, length}
+use Rattle.std.specs.Prelude.{◌≡◌, ℕ, ◌<◌, ◌^◌, Some, None, length}
 use Rattle.std.specs.declared.option.Option.{Option}
 use Rattle.abc_tables.specs.declared.tables.Abc.{Abc}
 use Rattle.abc_rules.specs.declared.error.LinkError.{LinkError}
@@ -7,7 +7,7 @@ use Rattle.abc_rules.specs.declared.error.LinkError.TheVariants as errors
 use Rattle.abc_rules.specs.declared.items.LinkRule.{LinkRule}
 use Rattle.abc_rules.specs.declared.items.ItemKind.{ItemKind}
 use Rattle.abc_rules.specs.declared.items.Item.{Item}
-use Rattle.abc_rules.specs.Items.{IsItem, StandsBefore, count_of, rule_number, kind_number}
+use Rattle.abc_rules.specs.Items.{IsItem, StandsBefore, count_of, kind_number}
 use Rattle.abc_rules.specs.Rules.{Breaks, IsFirstBroken}
 
 abbrev pub item : ItemKind → ℕ → Item

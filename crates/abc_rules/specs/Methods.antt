@@ -1,5 +1,5 @@
 -- The methods that a file names.
-use Rattle.std.specs.Prelude.{ℕ, List, [], ◌∷◌, ◌++◌, Bool, nat_eq, nat_lt, not, ◌&&◌, if◌then◌else◌, count_by, map}
+use Rattle.std.specs.Prelude.{ℕ, List, [], ◌∷◌, ◌++◌, Bool, nat_eq, nat_lt, ◌&&◌, if◌then◌else◌, count_by, map}
 use Rattle.std.specs.List.{flat_map}
 use Rattle.abc_tables.specs.Methods.{has_flag}
 use Rattle.abc_tables.specs.declared.classes.ClassInfo.{ClassInfo}

@@ -1,5 +1,5 @@
 -- The parts of a file by their numbers; no number past the end is asked for.
-use Rattle.std.specs.Prelude.{ℕ, List, [], None, get_or}
+use Rattle.std.specs.Prelude.{ℕ, List, [], get_or}
 use Rattle.abc_names.specs.Instances.{instance_at}
 use Rattle.abc_tables.specs.declared.methods.Method.{Method}
 use Rattle.abc_tables.specs.declared.traits.TraitInfo.{TraitInfo}

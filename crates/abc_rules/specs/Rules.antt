@@ -1,5 +1,5 @@
 -- When an item of a file breaks a rule of linking, and the first broken rule.
-use Rattle.std.specs.Prelude.{◌≡◌, ℕ, ◌<◌, ◌⊎◌, Bool, true, false, nat_eq, nat_lt, ◌||◌, IsTrue, length}
+use Rattle.std.specs.Prelude.{ℕ, ◌<◌, ◌⊎◌, Bool, true, false, nat_eq, nat_lt, ◌||◌, IsTrue, length}
 use Rattle.abc_graph.specs.Graph.{Returns}
 use Rattle.abc_tables.specs.declared.code.Body.{Body}
 use Rattle.abc_tables.specs.declared.tables.Abc.{Abc}

@@ -17,6 +17,8 @@ mod same_name;
 mod same_slot;
 mod simple;
 mod start;
+#[cfg(test)]
+mod tests;
 mod times;
 mod types;
 

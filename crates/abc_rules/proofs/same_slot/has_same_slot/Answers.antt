@@ -1,4 +1,4 @@
-use Rattle.std.proofs.Common.{◌≡◌, ◌∙◌, sym, ap, arith, ◌<◌, length, nat_eq, get_or}
+use Rattle.std.proofs.Common.{◌∙◌, sym, ap, arith, ◌<◌, length, nat_eq}
 use Rattle.std.proofs.lemmas.List.{get_or_default}
 use Rattle.abc_index.specs.Index.{first}
 use Rattle.abc_rules.proofs.SlotRepeats.{slots_repeat}

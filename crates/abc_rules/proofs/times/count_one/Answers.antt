@@ -1,4 +1,4 @@
-use Rattle.std.proofs.Common.{◌≡◌, ◌<◌, ◌∙◌, arith, length, get_or}
+use Rattle.std.proofs.Common.{◌<◌, ◌∙◌, arith, length, get_or}
 use Rattle.std.proofs.lemmas.List.{get_or_default}
 use Rattle.abc_rules.proofs.Counting.{few_times}
 use Rattle.abc_rules.proofs.times.count_one.Goals as goal
