@@ -1,1 +1,5 @@
+pub mod Forms
+pub mod Marking
+pub mod Pairs
+pub mod Readiness
 pub mod Shown
