@@ -65,14 +65,14 @@ shown_pool op form other e =
 row : (v : Abc) (op : ℕ) (items : List Item) (comment : List ℕ) → (name_of op ++ operands items) ++ (comment ++ end_) ≡ name_of op ++ (operands items ++ (comment ++ end_))
 row v op items comment = append_assoc (name_of op) (operands items) (comment ++ end_)
 
-plain_items : (op : ℕ) → form_at op ≡ Some forms.Plain → (instruction_line op).items (instrs.Plain op) ≡ []
+pub plain_items : (op : ℕ) → form_at op ≡ Some forms.Plain → (instruction_line op).items (instrs.Plain op) ≡ []
 unfolding instruction_line
 plain_items op e = rw e refl
 
 pub plain_text : (v : Abc) (op : ℕ) → form_at op ≡ Some forms.Plain → instr_text v (instrs.Plain op) ≡ name_of op ++ end_
 plain_text v op e = ap (λ (items : List Item). line_bytes v (words.Instruction op) items) (plain_items op e) ∙ row v op [] []
 
-one_items : (op n : ℕ) → form_at op ≡ Some forms.One → (instruction_line op).items (instrs.One op n) ≡ Number n ∷ []
+pub one_items : (op n : ℕ) → form_at op ≡ Some forms.One → (instruction_line op).items (instrs.One op n) ≡ Number n ∷ []
 unfolding instruction_line any_number
 one_items op n e = rw e refl
 
@@ -83,7 +83,7 @@ one_text v op n e =
     ∙ ap (λ (l : List ℕ). name_of op ++ (0x20 ∷ (l ++ (operand_comment v (pool_shown op) n ++ end_)))) (append-nil (decimal n))
     ∙ ap (λ (p : Pool). name_of op ++ (0x20 ∷ (decimal n ++ (operand_comment v p n ++ end_)))) (shown_pool op forms.One (λ h. cc) e)
 
-two_items : (op n m : ℕ) → form_at op ≡ Some forms.Two → (instruction_line op).items (instrs.Two op n m) ≡ Number n ∷ Number m ∷ []
+pub two_items : (op n m : ℕ) → form_at op ≡ Some forms.Two → (instruction_line op).items (instrs.Two op n m) ≡ Number n ∷ Number m ∷ []
 unfolding instruction_line any_number
 two_items op n m e = rw e refl
 
@@ -96,7 +96,7 @@ two_text v op n m e =
     ∙ ap (λ (l : List ℕ). name_of op ++ (0x20 ∷ (decimal n ++ (0x20 ∷ (l ++ comment))))) (append-nil (decimal m))
     ∙ ap (λ (p : Pool). name_of op ++ (0x20 ∷ (decimal n ++ (0x20 ∷ (decimal m ++ (operand_comment v p n ++ end_)))))) (shown_pool op forms.Two (λ h. cc) e)
 
-branch_items : (op t : ℕ) → form_at op ≡ Some forms.Branch → (instruction_line op).items (instrs.Branch op t) ≡ Target t ∷ []
+pub branch_items : (op t : ℕ) → form_at op ≡ Some forms.Branch → (instruction_line op).items (instrs.Branch op t) ≡ Target t ∷ []
 unfolding instruction_line target
 branch_items op t e = rw e refl
 
@@ -111,7 +111,7 @@ unfolding target
 shown_labels [] = refl
 shown_labels (t ∷ ts) = ap (λ (l : List ℕ). 0x20 ∷ 0x4c ∷ (decimal t ++ l)) (shown_labels ts)
 
-switch_items : (d t : ℕ) (ts : List ℕ) → (instruction_line 0x1b).items (instrs.Switch d (t ∷ ts)) ≡ Target d ∷ several_items target (t ∷ ts)
+pub switch_items : (d t : ℕ) (ts : List ℕ) → (instruction_line 0x1b).items (instrs.Switch d (t ∷ ts)) ≡ Target d ∷ several_items target (t ∷ ts)
 unfolding instruction_line form_at info_at target
 switch_items d t ts = refl
 
@@ -128,7 +128,7 @@ switch_text v d (t ∷ ts) some =
     ∙ ap (λ (l : List ℕ). codes "lookupswitch" ++ ((0x20 ∷ 0x4c ∷ (decimal d ++ l)) ++ end_)) (shown_labels (t ∷ ts))
     ∙ ap (λ (l : List ℕ). codes "lookupswitch" ++ l) (append_assoc (0x20 ∷ 0x4c ∷ decimal d) (labels (t ∷ ts)) end_)
 
-byte_items : (z : ℤ) → (instruction_line 0x24).items (instrs.Byte z) ≡ Signed z ∷ []
+pub byte_items : (z : ℤ) → (instruction_line 0x24).items (instrs.Byte z) ≡ Signed z ∷ []
 unfolding instruction_line form_at info_at any_signed
 byte_items z = refl
 
@@ -143,7 +143,7 @@ byte_text v z =
     ∙ ap (λ (l : List ℕ). l ++ (operands (Signed z ∷ []) ++ end_)) byte_name
     ∙ ap (λ (l : List ℕ). codes "pushbyte" ++ (0x20 ∷ (l ++ end_))) (append-nil (signed_decimal z))
 
-short_items : (z : ℤ) → (instruction_line 0x25).items (instrs.Short z) ≡ Signed z ∷ []
+pub short_items : (z : ℤ) → (instruction_line 0x25).items (instrs.Short z) ≡ Signed z ∷ []
 unfolding instruction_line form_at info_at any_signed
 short_items z = refl
 
@@ -158,7 +158,7 @@ short_text v z =
     ∙ ap (λ (l : List ℕ). l ++ (operands (Signed z ∷ []) ++ end_)) short_name
     ∙ ap (λ (l : List ℕ). codes "pushshort" ++ (0x20 ∷ (l ++ end_))) (append-nil (signed_decimal z))
 
-scope_items : (n : ℕ) → (instruction_line 0x65).items (instrs.ScopeObject n) ≡ Number n ∷ []
+pub scope_items : (n : ℕ) → (instruction_line 0x65).items (instrs.ScopeObject n) ≡ Number n ∷ []
 unfolding instruction_line form_at info_at any_number
 scope_items n = refl
 
@@ -173,7 +173,7 @@ scope_text v n =
     ∙ ap (λ (l : List ℕ). l ++ (operands (Number n ∷ []) ++ end_)) scope_name
     ∙ ap (λ (l : List ℕ). codes "getscopeobject" ++ (0x20 ∷ (l ++ end_))) (append-nil (decimal n))
 
-debug_items : (kind name reg extra : ℕ) → (instruction_line 0xef).items (instrs.Debug kind name reg extra) ≡ Number kind ∷ Number name ∷ Number reg ∷ Number extra ∷ []
+pub debug_items : (kind name reg extra : ℕ) → (instruction_line 0xef).items (instrs.Debug kind name reg extra) ≡ Number kind ∷ Number name ∷ Number reg ∷ Number extra ∷ []
 unfolding instruction_line form_at info_at any_number
 debug_items kind name reg extra = refl
 

@@ -69,6 +69,7 @@ fn put_label_if(body: &Body, marks: &[bool], n: usize, out: &mut Vec<u8>) -> Res
 }
 
 /// The instructions, with the labels that the body names.
+#[tactic(auto, using(crate::proofs::Fronts::front_through, abc_varint::proofs::Putting::stays, std::proofs::Common::append_assoc))]
 fn put_code(body: &Body, marks: &[bool], abc: &Abc, out: &mut Vec<u8>) -> Result<(), NoMemory>
     requires marked { AreMarks marks.now (body_targets (body.now)) }
     requires len { length marks.now ≡ length (body.now).code + 1 }
@@ -80,7 +81,8 @@ fn put_code(body: &Body, marks: &[bool], abc: &Abc, out: &mut Vec<u8>) -> Result
         put_label_if(body, marks, i, out)?;
         put_instr(body.code.get(i), abc, out)?;
     }
-    put_label_if(body, marks, body.code.len(), out)
+    put_label_if(body, marks, body.code.len(), out)?;
+    Ok(())
 }
 
 /// A body and the lines below it.
