@@ -64,3 +64,37 @@ impl Listed for Method {
         Ok(())
     }
 }
+
+/// A line of two strings.
+#[tactic(auto, unfolding(abc_lines::specs::Lineforms::entry_line, abc_rowparts::specs::Operands::any_number), using(abc_varint::proofs::Putting::stays, std::proofs::Common::append_assoc))]
+fn put_entry(first: u32, second: u32, _abc: &Abc, out: &mut Vec<u8>) -> Result<(), NoMemory>
+    ensures { Puts out.old.items out.new.items result (entry_text _abc.now (first, second)) }
+{
+    put(b"item", out)?;
+    put_number(first, out)?;
+    put_number(second, out)?;
+    put(b"\n", out)?;
+    Ok(())
+}
+
+/// Such a line for every two strings.
+#[tactic(auto, using(abc_varint::proofs::Putting::stays))]
+fn put_entries(items: &[u32], abc: &Abc, out: &mut Vec<u8>) -> Result<(), NoMemory>
+    ensures { Puts out.old.items out.new.items result (flat_map (entry_text abc.now) (pairs items.now)) }
+{
+    for i in 0..items.len() / 2 {
+        put_entry(items[2 * i], items[2 * i + 1], abc, out)?;
+    }
+    Ok(())
+}
+
+impl Listed for Metadata {
+    ghost text = { metadata_text };
+
+    #[tactic(auto, using(abc_varint::proofs::Putting::stays, std::proofs::Common::append_assoc))]
+    fn put(&self, abc: &Abc, out: &mut Vec<u8>) -> Result<(), NoMemory> {
+        put_number_line(b"metadata", self.name, out)?;
+        put_entries(self.items.as_slice(), abc, out)?;
+        Ok(())
+    }
+}

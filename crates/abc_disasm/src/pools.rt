@@ -1,11 +1,8 @@
 //! The lines of the constant pools.
 ghost use Rattle.std.specs.Prelude.{◌≡◌, List, ℕ};
-ghost use Rattle.abc_disasm.specs.Texts.{name_fields};
+ghost use Rattle.abc_disasm.specs.Texts.{double_text, int_text, name_fields, name_text, namespace_text, set_text, string_text, uint_text};
 ghost use Rattle.abc_lines.specs.Kinds.{multiname_word, space_word};
-ghost use Rattle.abc_lines.specs.Lineforms.{double_line, int_line, kind_in, name_line, namespace_line, set_line, string_line, uint_line};
-ghost use Rattle.abc_lines.specs.Listing.{line_bytes};
-ghost use Rattle.abc_tables.specs.Classes.{sizes_of};
-ghost use Rattle.abc_text.specs.declared.word.Word.TheVariants as words;
+ghost use Rattle.abc_lines.specs.Lineforms.{kind_in};
 ghost use Rattle.abc_varint.specs.Puts.{Puts};
 
 use crate::comments::{name_of, put_name_comment, put_quoted_comment, string_at};
@@ -31,7 +28,7 @@ pub fn space_name(kind: NsKind) -> &'static [u8]
 }
 
 impl Listed for i32 {
-    ghost text = { λ v n. line_bytes v words.Int (int_line.items n) };
+    ghost text = { int_text };
 
     #[tactic(auto, unfolding(abc_lines::specs::Lineforms::int_line, abc_rowparts::specs::Operands::any_signed), using(abc_varint::proofs::Putting::stays, std::proofs::Common::append_assoc))]
     fn put(&self, _abc: &Abc, out: &mut Vec<u8>) -> Result<(), NoMemory> {
@@ -43,7 +40,7 @@ impl Listed for i32 {
 }
 
 impl Listed for u32 {
-    ghost text = { λ v n. line_bytes v words.UInt (uint_line.items n) };
+    ghost text = { uint_text };
 
     #[tactic(auto, unfolding(abc_lines::specs::Lineforms::uint_line, abc_rowparts::specs::Operands::any_number), using(abc_varint::proofs::Putting::stays, std::proofs::Common::append_assoc))]
     fn put(&self, _abc: &Abc, out: &mut Vec<u8>) -> Result<(), NoMemory> {
@@ -55,7 +52,7 @@ impl Listed for u32 {
 }
 
 impl Listed for Eight {
-    ghost text = { λ v d. line_bytes v words.Double (double_line.items d) };
+    ghost text = { double_text };
 
     #[tactic(auto, unfolding(abc_lines::specs::Lineforms::double_line, abc_rowparts::specs::Operands::eight), using(abc_varint::proofs::Putting::stays, std::proofs::Common::append_assoc))]
     fn put(&self, _abc: &Abc, out: &mut Vec<u8>) -> Result<(), NoMemory> {
@@ -67,7 +64,7 @@ impl Listed for Eight {
 }
 
 impl Listed for Bytes {
-    ghost text = { λ v b. line_bytes v words.Text (string_line.items b) };
+    ghost text = { string_text };
 
     #[tactic(auto, unfolding(abc_lines::specs::Lineforms::string_line, abc_rowparts::specs::Operands::text), using(abc_varint::proofs::Putting::stays, std::proofs::Common::append_assoc))]
     fn put(&self, _abc: &Abc, out: &mut Vec<u8>) -> Result<(), NoMemory> {
@@ -79,7 +76,7 @@ impl Listed for Bytes {
 }
 
 impl Listed for Namespace {
-    ghost text = { λ v n. line_bytes v words.Namespace ((namespace_line (sizes_of v)).items n) };
+    ghost text = { namespace_text };
 
     #[tactic(auto, unfolding(abc_lines::specs::Lineforms::namespace_line, abc_lines::specs::Kinds::space_kind, abc_rowparts::specs::Operands::any_number), using(abc_varint::proofs::Putting::stays, std::proofs::Common::append_assoc))]
     fn put(&self, abc: &Abc, out: &mut Vec<u8>) -> Result<(), NoMemory> {
@@ -93,7 +90,7 @@ impl Listed for Namespace {
 }
 
 impl Listed for Table<u32> {
-    ghost text = { λ v xs. line_bytes v words.Set ((set_line (sizes_of v)).items xs) };
+    ghost text = { set_text };
 
     #[tactic(auto, unfolding(abc_lines::specs::Lineforms::set_line, abc_rowparts::specs::Operands::any_number), using(abc_varint::proofs::Putting::stays, std::proofs::Common::append_assoc, crate::proofs::Shown::entries))]
     fn put(&self, _abc: &Abc, out: &mut Vec<u8>) -> Result<(), NoMemory> {
@@ -138,7 +135,7 @@ fn put_name_fields(multiname: &Multiname, _abc: &Abc, out: &mut Vec<u8>) -> Resu
 }
 
 impl Listed for Multiname {
-    ghost text = { λ v m. line_bytes v words.Name ((name_line (sizes_of v)).items m) };
+    ghost text = { name_text };
 
     #[tactic(auto, unfolding(abc_lines::specs::Lineforms::name_line, abc_lines::specs::Kinds::multiname_kind), using(abc_varint::proofs::Putting::stays, std::proofs::Common::append_assoc, crate::proofs::Shown::name_line_is))]
     fn put(&self, abc: &Abc, out: &mut Vec<u8>) -> Result<(), NoMemory> {

@@ -1,0 +1,7 @@
+-- Which numbers of instructions are named.
+use Rattle.std.specs.Prelude.{◌≡◌, ℕ, ◌<◌, Bool, false, List, length, get_or}
+use Rattle.abc_rowparts.specs.Wordlines.{among}
+
+-- Each mark says whether its number is named.
+abbrev pub AreMarks : List Bool → List ℕ → Type 0
+AreMarks marks named = (n : ℕ) → n < length marks → get_or marks n false ≡ among n named

@@ -1,0 +1,112 @@
+//! The lines of bodies.
+ghost use Rattle.std.specs.Prelude.{◌≡◌, ◌+◌, ◌<◌, ◌^◌, All, length};
+ghost use Rattle.std.specs.List.{flat_map};
+ghost use Rattle.abc_disasm.specs.Marks.{AreMarks};
+ghost use Rattle.abc_lines.specs.Listing.{label_bytes};
+ghost use Rattle.abc_disasm.specs.Texts.{IsShown, body_head_text, body_targets, code_text, handler_text, label_if, whole_body};
+ghost use Rattle.abc_tables.specs.Bodies.{IsReadyBody};
+ghost use Rattle.abc_varint.specs.Puts.{Puts};
+
+use crate::instrs::put_instr;
+use crate::listed::{Listed, put_all};
+use crate::marks::marks_of;
+use crate::tokens::{put, put_label, put_number, put_target};
+use abc_base::{NoMemory, Table};
+use abc_tables::{Abc, Body, Handler};
+use std::alloc::Global;
+
+impl Listed for Handler {
+    ghost text = { handler_text };
+
+    #[tactic(auto, unfolding(abc_lines::specs::Lineforms::catch_line, abc_rowparts::specs::Operands::any_number, abc_rowparts::specs::Operands::target), using(abc_varint::proofs::Putting::stays, std::proofs::Common::append_assoc))]
+    fn put(&self, _abc: &Abc, out: &mut Vec<u8>) -> Result<(), NoMemory> {
+        put(b"catch", out)?;
+        put_target(self.from, out)?;
+        put_target(self.to, out)?;
+        put_target(self.target, out)?;
+        put_number(self.exc_type, out)?;
+        put_number(self.var_name, out)?;
+        put(b"\n", out)?;
+        Ok(())
+    }
+}
+
+/// The line of a body itself.
+#[tactic(auto, unfolding(abc_lines::specs::Lineforms::body_line, abc_rowparts::specs::Operands::any_number), using(abc_varint::proofs::Putting::stays, std::proofs::Common::append_assoc))]
+fn put_body_line(body: &Body, _abc: &Abc, out: &mut Vec<u8>) -> Result<(), NoMemory>
+    ensures { Puts out.old.items out.new.items result (body_head_text _abc.now body.now) }
+{
+    put(b"body", out)?;
+    put_number(body.method, out)?;
+    put_number(body.max_stack, out)?;
+    put_number(body.local_count, out)?;
+    put_number(body.init_scope, out)?;
+    put_number(body.max_scope, out)?;
+    put(b"\n", out)?;
+    Ok(())
+}
+
+#[tactic(auto, using(abc_varint::proofs::Putting::stays, std::proofs::Common::append_assoc))]
+fn put_label_line(n: u32, out: &mut Vec<u8>) -> Result<(), NoMemory>
+    ensures { Puts out.old.items out.new.items result (label_bytes n) }
+{
+    put_label(n, out)?;
+    put(b":\n", out)?;
+    Ok(())
+}
+
+/// The line of an instruction's label, if the body names it.
+fn put_label_if(body: &Body, marks: &[bool], n: usize, out: &mut Vec<u8>) -> Result<(), NoMemory>
+    requires marked { AreMarks marks.now (body_targets (body.now)) }
+    requires within { n < length marks.now }
+    requires short { n < 2 ^ 32 }
+    ensures { Puts out.old.items out.new.items result (label_if (body_targets (body.now)) n) }
+{
+    if marks[n] {
+        return put_label_line(n as u32, out);
+    }
+    Ok(())
+}
+
+/// The instructions, with the labels that the body names.
+#[tactic(auto, using(crate::proofs::Fronts::front_through, abc_varint::proofs::Putting::stays, std::proofs::Common::append_assoc))]
+fn put_code(body: &Body, marks: &[bool], abc: &Abc, out: &mut Vec<u8>) -> Result<(), NoMemory>
+    requires marked { AreMarks marks.now (body_targets (body.now)) }
+    requires len { length marks.now ≡ length (body.now).code + 1 }
+    requires shown { All IsShown (body.now).code }
+    requires short { length (body.now).code < 2 ^ 23 }
+    ensures { Puts out.old.items out.new.items result (code_text abc.now (body_targets (body.now)) 0 (body.now).code) }
+{
+    for i in 0..body.code.len() {
+        put_label_if(body, marks, i, out)?;
+        put_instr(body.code.get(i), abc, out)?;
+    }
+    put_label_if(body, marks, body.code.len(), out)?;
+    Ok(())
+}
+
+/// A body and the lines below it.
+#[tactic(auto, using(abc_varint::proofs::Putting::stays, abc_varint::proofs::Putting::stays_whole, std::proofs::Common::append_assoc, crate::proofs::Readiness::shown, crate::proofs::Readiness::short))]
+fn put_body(alloc: Global, body: &Body, abc: &Abc, out: &mut Vec<u8>) -> Result<(), NoMemory>
+    requires { IsReadyBody (body.now) }
+    ensures { Puts out.old.items out.new.items result (whole_body abc.now (body.now)) }
+{
+    let marks = marks_of(alloc, body)?;
+    put_body_line(body, abc, out)?;
+    put_code(body, marks.as_slice(), abc, out)?;
+    put_all(&body.handlers, abc, out)?;
+    put_all(&body.traits, abc, out)?;
+    Ok(())
+}
+
+/// All bodies.
+#[tactic(auto, using(abc_varint::proofs::Putting::stays))]
+pub fn put_bodies(alloc: Global, bodies: &Table<Body>, abc: &Abc, out: &mut Vec<u8>) -> Result<(), NoMemory>
+    requires { All IsReadyBody bodies.now }
+    ensures { Puts out.old.items out.new.items result (flat_map (whole_body abc.now) bodies.now) }
+{
+    for body in bodies.as_slice() {
+        put_body(alloc, body, abc, out)?;
+    }
+    Ok(())
+}

@@ -1,0 +1,71 @@
+ghost use Rattle.std.specs.Prelude.{All};
+ghost use Rattle.abc_disasm.specs.Texts.{definitions_text, pools_text, version_text, whole_text};
+ghost use Rattle.abc_lines.specs.Listing.{listing};
+ghost use Rattle.abc_tables.specs.Bodies.{IsReadyBody};
+ghost use Rattle.abc_varint.specs.Puts.{Puts, PutsWhole};
+
+use crate::bodies::put_bodies;
+use crate::listed::put_all;
+use crate::tokens::put;
+use abc_base::NoMemory;
+use abc_tables::Abc;
+use std::alloc::Global;
+
+fn put_version(out: &mut Vec<u8>) -> Result<(), NoMemory>
+    ensures { PutsWhole out.old.items out.new.items result version_text }
+{
+    put(b"abc 16 46\n", out)
+}
+
+#[tactic(auto, using(abc_varint::proofs::Putting::stays, std::proofs::Common::append_assoc))]
+fn put_pools(abc: &Abc, out: &mut Vec<u8>) -> Result<(), NoMemory>
+    ensures { Puts out.old.items out.new.items result (pools_text abc.now) }
+{
+    put_all(&abc.ints, abc, out)?;
+    put_all(&abc.uints, abc, out)?;
+    put_all(&abc.doubles, abc, out)?;
+    put_all(&abc.strings, abc, out)?;
+    put_all(&abc.namespaces, abc, out)?;
+    put_all(&abc.sets, abc, out)?;
+    put_all(&abc.names, abc, out)?;
+    Ok(())
+}
+
+#[tactic(auto, using(abc_varint::proofs::Putting::stays, std::proofs::Common::append_assoc))]
+fn put_definitions(abc: &Abc, out: &mut Vec<u8>) -> Result<(), NoMemory>
+    ensures { Puts out.old.items out.new.items result (definitions_text abc.now) }
+{
+    put_all(&abc.methods, abc, out)?;
+    put_all(&abc.metadata, abc, out)?;
+    put_all(&abc.instances, abc, out)?;
+    put_all(&abc.classes, abc, out)?;
+    put_all(&abc.scripts, abc, out)?;
+    Ok(())
+}
+
+#[tactic(auto, using(abc_varint::proofs::Putting::stays, std::proofs::Common::append_assoc))]
+fn put_file(alloc: Global, abc: &Abc, out: &mut Vec<u8>) -> Result<(), NoMemory>
+    requires { All IsReadyBody (abc.now).bodies }
+    ensures { Puts out.old.items out.new.items result (whole_text abc.now) }
+{
+    put_version(out)?;
+    put_pools(abc, out)?;
+    put_definitions(abc, out)?;
+    put_bodies(alloc, &abc.bodies, abc, out)?;
+    Ok(())
+}
+
+/// Appends the one text of a file, of which some bytes spell each body's code. Where memory runs out, the bytes stay as
+/// they were. It takes a byte for each instruction of one body, and time that grows with the value and the text.
+#[tactic(auto, using(crate::proofs::Rendering::listing_is))]
+pub fn disassemble(alloc: Global, abc: &Abc, out: &mut Vec<u8>) -> Result<(), NoMemory>
+    requires { All IsReadyBody (abc.now).bodies }
+    ensures { PutsWhole out.old.items out.new.items result (listing abc.now) }
+{
+    let len = out.len();
+    let done = put_file(alloc, abc, out);
+    if done.is_err() {
+        out.truncate(len);
+    }
+    done
+}
