@@ -133,7 +133,7 @@ module _ (v : Abc) where
   unfolding file.traits
   traits_are named n ts =
       many_shows v named (line words.Trait (trait_line s) (file.MetadataAgrees s i)) (Metas n) (λ (t : TraitInfo). (trait_head t, t.metadata)) (trait_text v)
-        (λ t. ap (λ (l : List ℕ). line_bytes v words.Trait ((trait_line s).items (trait_head t)) ++ l) (flat_shows v named words.TraitMetadata (trait_metadata_line s) (texts.number_line (codes "tmeta")) tmeta_is t.metadata)) ts
+      (λ t. ap (λ (l : List ℕ). line_bytes v words.Trait ((trait_line s).items (trait_head t)) ++ l) (flat_shows v named words.TraitMetadata (trait_metadata_line s) (texts.number_line (codes "tmeta")) tmeta_is t.metadata)) ts
 
   abbrev method_head : Method → MethodHead
   method_head m = record { ret = m.ret; name = m.name; flags = m.flags }
@@ -154,16 +154,16 @@ module _ (v : Abc) where
   unfolding file.methods
   methods_are ms =
       many_shows v [] (line words.Method (method_line s) (file.MethodAgrees s i)) (file.method_below s i 0) (λ (m : Method). (method_head m, (m.params, (m.options, m.param_names)))) (method_text v)
-        (λ m. ap (λ (l : List ℕ). line_bytes v words.Method ((method_line s).items (method_head m)) ++ l) (method_below_is m)) ms
+      (λ m. ap (λ (l : List ℕ). line_bytes v words.Method ((method_line s).items (method_head m)) ++ l) (method_below_is m)) ms
 
   metadata_are : (ms : List Metadata) → rendered v [] ((file.metadata s i 0).shows (map metadata_lines ms)) ≡ flat_map (metadata_text v) ms
   unfolding file.metadata
   metadata_are ms =
       many_shows v [] (line words.Metadata (string_index_line s) always) (flat fs words.Entry (entry_line s) 0) metadata_lines (metadata_text v)
-        (λ m.
-          ap (λ (l : List ℕ). l ++ rendered v [] ((flat fs words.Entry (entry_line s) 0).shows (pairs m.items))) (metadata_is m.name)
-          ∙ ap (λ (l : List ℕ). texts.number_line (codes "metadata") m.name ++ l) (flat_shows v [] words.Entry (entry_line s) (entry_text v) (λ x. refl) (pairs m.items)))
-        ms
+      (λ m.
+      ap (λ (l : List ℕ). l ++ rendered v [] ((flat fs words.Entry (entry_line s) 0).shows (pairs m.items))) (metadata_is m.name)
+      ∙ ap (λ (l : List ℕ). texts.number_line (codes "metadata") m.name ++ l) (flat_shows v [] words.Entry (entry_line s) (entry_text v) (λ x. refl) (pairs m.items)))
+      ms
 
   protected_are : (o : Option ℕ) → rendered v [] ((flat fs words.Protected (protected_line s) 0).shows (option_to_list o)) ≡ protected_text v o
   protected_are None = refl
@@ -187,19 +187,19 @@ module _ (v : Abc) where
   unfolding file.instance_lines
   instances_are is =
       many_shows v [] (line words.Instance (instance_line s) (file.InstanceAgrees s i)) (file.instance_below s i 0) instance_in (instance_text v)
-        (λ x. ap (λ (l : List ℕ). line_bytes v words.Instance ((instance_line s).items (instance_head x)) ++ l) (instance_below_is x)) is
+      (λ x. ap (λ (l : List ℕ). line_bytes v words.Instance ((instance_line s).items (instance_head x)) ++ l) (instance_below_is x)) is
 
   classes_are : (cs : List ClassInfo) → rendered v [] ((file.classes s i 0).shows cs) ≡ flat_map (class_text v) cs
   unfolding file.classes
   classes_are cs =
       many_shows v [] (line words.Class (method_index_line s) (file.ClassAgrees s i)) (file.traits s i fs 0) (λ (c : ClassInfo). (c.cinit, c.traits)) (class_text v)
-        (λ c. ap (λ (l : List ℕ). l ++ rendered v [] ((file.traits s i fs 0).shows c.traits)) (class_is c.cinit) ∙ ap (λ (l : List ℕ). texts.number_line (codes "class") c.cinit ++ l) (traits_are [] 0 c.traits)) cs
+      (λ c. ap (λ (l : List ℕ). l ++ rendered v [] ((file.traits s i fs 0).shows c.traits)) (class_is c.cinit) ∙ ap (λ (l : List ℕ). texts.number_line (codes "class") c.cinit ++ l) (traits_are [] 0 c.traits)) cs
 
   scripts_are : (ss : List Script) → rendered v [] ((file.scripts s i 0).shows ss) ≡ flat_map (script_text v) ss
   unfolding file.scripts
   scripts_are ss =
       many_shows v [] (line words.Script (method_index_line s) always) (file.traits s i fs 0) (λ (c : Script). (c.init, c.traits)) (script_text v)
-        (λ c. ap (λ (l : List ℕ). l ++ rendered v [] ((file.traits s i fs 0).shows c.traits)) (script_is c.init) ∙ ap (λ (l : List ℕ). texts.number_line (codes "script") c.init ++ l) (traits_are [] 0 c.traits)) ss
+      (λ c. ap (λ (l : List ℕ). l ++ rendered v [] ((file.traits s i fs 0).shows c.traits)) (script_is c.init) ∙ ap (λ (l : List ℕ). texts.number_line (codes "script") c.init ++ l) (traits_are [] 0 c.traits)) ss
 
   pools_are : rendered v [] ((file.pools s i 0).shows (outline v).0) ≡ pools_text v
   unfolding file.pools
@@ -247,15 +247,15 @@ module _ (v : Abc) where
       let fz = flat_map (script_text v) v.scripts in
       let fd = flat_map (metadata_text v) v.metadata in
       ap (λ (l : List ℕ). first ++ l)
-        (two v [] p (m ++ (d ++ (x ++ (c ++ z))))
-        ∙ ap (λ (l : List ℕ). r p ++ l) (two v [] m (d ++ (x ++ (c ++ z)))
-        ∙ ap (λ (l : List ℕ). r m ++ l) (two v [] d (x ++ (c ++ z))
-        ∙ ap (λ (l : List ℕ). r d ++ l) (two v [] x (c ++ z)
-        ∙ ap (λ (l : List ℕ). r x ++ l) (two v [] c z ∙ ap (λ (l : List ℕ). l ++ r z) (classes_are v.classes) ∙ ap (λ (l : List ℕ). fc ++ l) (scripts_are v.scripts))
-        ∙ ap (λ (l : List ℕ). l ++ (fc ++ fz)) (instances_are v.instances))
-        ∙ ap (λ (l : List ℕ). l ++ (fx ++ (fc ++ fz))) (metadata_are v.metadata))
-        ∙ ap (λ (l : List ℕ). l ++ (fd ++ (fx ++ (fc ++ fz)))) (methods_are v.methods))
-        ∙ ap (λ (l : List ℕ). l ++ definitions_text v) pools_are)
+      (two v [] p (m ++ (d ++ (x ++ (c ++ z))))
+      ∙ ap (λ (l : List ℕ). r p ++ l) (two v [] m (d ++ (x ++ (c ++ z)))
+      ∙ ap (λ (l : List ℕ). r m ++ l) (two v [] d (x ++ (c ++ z))
+      ∙ ap (λ (l : List ℕ). r d ++ l) (two v [] x (c ++ z)
+      ∙ ap (λ (l : List ℕ). r x ++ l) (two v [] c z ∙ ap (λ (l : List ℕ). l ++ r z) (classes_are v.classes) ∙ ap (λ (l : List ℕ). fc ++ l) (scripts_are v.scripts))
+      ∙ ap (λ (l : List ℕ). l ++ (fc ++ fz)) (instances_are v.instances))
+      ∙ ap (λ (l : List ℕ). l ++ (fx ++ (fc ++ fz))) (metadata_are v.metadata))
+      ∙ ap (λ (l : List ℕ). l ++ (fd ++ (fx ++ (fc ++ fz)))) (methods_are v.methods))
+      ∙ ap (λ (l : List ℕ). l ++ definitions_text v) pools_are)
       ∙ ap (λ (l : List ℕ). l ++ (pools_text v ++ definitions_text v)) version_is
 
   -- ---- bodies

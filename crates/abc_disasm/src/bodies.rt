@@ -101,7 +101,12 @@ fn put_body(alloc: Global, body: &Body, abc: &Abc, out: &mut Vec<u8>) -> Result<
 
 /// All bodies.
 #[tactic(auto, using(abc_varint::proofs::Putting::stays))]
-pub fn put_bodies(alloc: Global, bodies: &Table<Body>, abc: &Abc, out: &mut Vec<u8>) -> Result<(), NoMemory>
+pub fn put_bodies(
+    alloc: Global,
+    bodies: &Table<Body>,
+    abc: &Abc,
+    out: &mut Vec<u8>,
+) -> Result<(), NoMemory>
     requires { All IsReadyBody bodies.now }
     ensures { Puts out.old.items out.new.items result (flat_map (whole_body abc.now) bodies.now) }
 {

@@ -98,7 +98,12 @@ fn put_targets(targets: &Table<u32>, out: &mut Vec<u8>) -> Result<(), NoMemory>
 
 /// A line of a word and labels.
 #[tactic(auto, using(abc_varint::proofs::Putting::stays, std::proofs::Common::append_assoc))]
-fn put_target_line(word: &[u8], default: u32, cases: &Table<u32>, out: &mut Vec<u8>) -> Result<(), NoMemory>
+fn put_target_line(
+    word: &[u8],
+    default: u32,
+    cases: &Table<u32>,
+    out: &mut Vec<u8>,
+) -> Result<(), NoMemory>
     ensures { Puts out.old.items out.new.items result (word.now ++ ((0x20 ∷ label_of default) ++ (labels cases.now ++ 0x0a ∷ []))) }
 {
     put(word, out)?;
@@ -110,7 +115,12 @@ fn put_target_line(word: &[u8], default: u32, cases: &Table<u32>, out: &mut Vec<
 
 /// A switch.
 #[tactic(auto, using(crate::proofs::Forms::switch_text))]
-fn put_switch(default: u32, cases: &Table<u32>, _abc: &Abc, out: &mut Vec<u8>) -> Result<(), NoMemory>
+fn put_switch(
+    default: u32,
+    cases: &Table<u32>,
+    _abc: &Abc,
+    out: &mut Vec<u8>,
+) -> Result<(), NoMemory>
     requires { 0 < length cases.now }
     ensures { Puts out.old.items out.new.items result (instr_text _abc.now (instrs.Switch default cases.now)) }
 {
@@ -149,7 +159,14 @@ fn put_scope_object(n: u8, _abc: &Abc, out: &mut Vec<u8>) -> Result<(), NoMemory
 
 /// `debug`
 #[tactic(auto, using(abc_varint::proofs::Putting::stays, std::proofs::Common::append_assoc, crate::proofs::Forms::debug_text))]
-fn put_debug(kind: u8, name: u32, reg: u8, extra: u32, _abc: &Abc, out: &mut Vec<u8>) -> Result<(), NoMemory>
+fn put_debug(
+    kind: u8,
+    name: u32,
+    reg: u8,
+    extra: u32,
+    _abc: &Abc,
+    out: &mut Vec<u8>,
+) -> Result<(), NoMemory>
     ensures { Puts out.old.items out.new.items result (instr_text _abc.now (instrs.Debug kind name reg extra)) }
 {
     put(b"debug", out)?;

@@ -4,7 +4,6 @@
 mod bodies;
 mod classes;
 mod comments;
-
 mod instrs;
 mod listed;
 mod listing;

@@ -29,10 +29,16 @@ fn trait_name(body: &TraitBody) -> &'static [u8]
 
 /// The index of a slot's value and its kind, or 0.
 #[tactic(auto, using(abc_varint::proofs::Putting::stays, std::proofs::Common::append_assoc, crate::proofs::Shown::slot_some, crate::proofs::Shown::slot_zero, crate::proofs::Shown::slot_none))]
-fn put_slot_value(value: &Option<OptionValue>, _abc: &Abc, out: &mut Vec<u8>) -> Result<(), NoMemory>
+fn put_slot_value(
+    value: &Option<OptionValue>,
+    _abc: &Abc,
+    out: &mut Vec<u8>,
+) -> Result<(), NoMemory>
     ensures { Puts out.old.items out.new.items result (slot_text _abc.now value.now) }
 {
-    let Some(option) = value else { return put_number(0, out) };
+    let Some(option) = value else {
+        return put_number(0, out)
+    };
     put_number(option.value, out)?;
     if option.value != 0 {
         put_word(value_name(option.kind), out)?;

@@ -57,7 +57,11 @@ fn class(alloc: Global, super_name: u32, iinit: u32) -> Instance {
 
 /// The public names Main, Object and trace.
 fn pools(alloc: Global, abc: &mut Abc) -> Result<(), Fail> {
-    for text in [b"Main".as_slice(), b"Object".as_slice(), b"trace".as_slice()] {
+    for text in [
+        b"Main".as_slice(),
+        b"Object".as_slice(),
+        b"trace".as_slice(),
+    ] {
         abc.strings.push(Bytes::from_slice(alloc, text)?)?;
     }
     abc.namespaces.push(Namespace {

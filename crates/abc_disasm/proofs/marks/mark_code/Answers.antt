@@ -15,7 +15,7 @@ loop-instr-preserved c = record {
       let front = named ++ flat_map instr_targets (take i c.args.code.now) in
       let d = c.instr-item.result in
       subst (AreMarks c.mark_instr.new.marks.items) (ap (λ (x : Instr). front ++ instr_targets x) c.instr-item.is ∙ more_by instr_targets named c.args.code.now i d c.loop-instr-test.true)
-        (c.mark_instr.ensures.marked front (c.loop-instr.invariant.marked named are));
+      (c.mark_instr.ensures.marked front (c.loop-instr.invariant.marked named are));
 }
 
 pub returns-clause-marked : goal.returns-clause-marked

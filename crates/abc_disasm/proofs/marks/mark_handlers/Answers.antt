@@ -14,7 +14,7 @@ loop-handler-preserved c = record {
       let i = c.loop-handler.handler-index in
       let front = named ++ flat_map handler_targets (take i c.args.handlers.now) in
       subst (AreMarks c.mark_handler.new.marks.items) (more_by handler_targets named c.args.handlers.now i _ c.loop-handler-test.true)
-        (c.mark_handler.ensures.marked front (c.loop-handler.invariant.marked named are));
+      (c.mark_handler.ensures.marked front (c.loop-handler.invariant.marked named are));
 }
 
 pub returns-clause-marked : goal.returns-clause-marked

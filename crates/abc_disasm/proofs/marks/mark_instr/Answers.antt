@@ -9,5 +9,5 @@ pub returns-in-Switch-clause-marked : goal.returns-in-Switch-clause-marked
 returns-in-Switch-clause-marked c = λ named are.
     let d = c.in-Switch.default in
     subst (AreMarks c.mark_all.new.marks.items)
-      (ap (λ (l : List ℕ). (named ++ d ∷ []) ++ l) c.as_slice.ensures ∙ append_assoc named (d ∷ []) c.in-Switch.cases ∙ ap (λ (i : Instr). named ++ instr_targets i) (sym c.in-Switch.is))
-      (c.mark_all.ensures.marked (named ++ d ∷ []) (c.mark-in-Switch.ensures.marked named are))
+    (ap (λ (l : List ℕ). (named ++ d ∷ []) ++ l) c.as_slice.ensures ∙ append_assoc named (d ∷ []) c.in-Switch.cases ∙ ap (λ (i : Instr). named ++ instr_targets i) (sym c.in-Switch.is))
+    (c.mark_all.ensures.marked (named ++ d ∷ []) (c.mark-in-Switch.ensures.marked named are))

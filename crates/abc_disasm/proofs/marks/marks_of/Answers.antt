@@ -15,5 +15,5 @@ returns-clause-marked c =
     let code = c.mark_code.ensures.marked [] none in
     let all = c.mark_handlers.ensures.marked (flat_map instr_targets c.as_slice.result.now) code in
     subst (AreMarks c.mark_handlers.new.marks.items)
-      (ap (λ (l : List Instr). flat_map instr_targets l ++ flat_map handler_targets c.as_slice-2.result.now) c.as_slice.ensures
-       ∙ ap (λ (l : List Handler). flat_map instr_targets c.args.body.now.code ++ flat_map handler_targets l) c.as_slice-2.ensures) all
+    (ap (λ (l : List Instr). flat_map instr_targets l ++ flat_map handler_targets c.as_slice-2.result.now) c.as_slice.ensures
+    ∙ ap (λ (l : List Handler). flat_map instr_targets c.args.body.now.code ++ flat_map handler_targets l) c.as_slice-2.ensures) all
