@@ -1,5 +1,0 @@
-pub mod Past
-pub mod Numbering
-pub mod InGroups
-pub mod Meant
-pub mod SameKeys

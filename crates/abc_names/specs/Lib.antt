@@ -1,6 +1,0 @@
-pub mod Pool
-pub mod Instances
-pub mod Meaning
-pub mod Numbers
-pub mod Meanings
-pub mod Keys

@@ -1,8 +1,0 @@
-pub mod Past
-pub mod Order
-pub mod Pairs
-pub mod SlotRepeats
-pub mod SidedRepeats
-pub mod Counting
-pub mod Cyclic
-pub mod Within
