@@ -237,13 +237,13 @@ instr_head n (instrs.Short z) can = instruction_head 0x25 forms.Short refl
 instr_head n (instrs.ScopeObject x) can = instruction_head 0x65 forms.ScopeObject refl
 instr_head n (instrs.Debug kind name reg extra) can = instruction_head 0xef forms.Debug refl
 
-module _ (k : ℕ) (small : k < 2 ^ 64) where
-  -- numbers of the k instructions and of the end
-  abbrev pub UpTo : ℕ → Type 0
-  UpTo n = n ≤ k
+-- numbers of k instructions and of the end
+abbrev pub UpTo : ℕ → ℕ → Type 0
+UpTo k n = n ≤ k
 
+module _ (k : ℕ) (small : k < 2 ^ 64) where
   abbrev pub ItemsShown : Instr → Type 0
-  ItemsShown i = AllByRecursion (CanBeShown UpTo) ((instruction_line (opcode_of i)).items i)
+  ItemsShown i = AllByRecursion (CanBeShown (UpTo k)) ((instruction_line (opcode_of i)).items i)
 
   plain_shown : (op : ℕ) → form_at op ≡ Some forms.Plain → ItemsShown (instrs.Plain op)
   unfolding instruction_line
@@ -261,7 +261,7 @@ module _ (k : ℕ) (small : k < 2 ^ 64) where
   unfolding instruction_line target
   branch_shown op t e le = rw e ((omega arith, le), tt)
 
-  targets_shown : (ts : List ℕ) → AllUpTo k ts → AllByRecursion (CanBeShown UpTo) (several_items target ts)
+  targets_shown : (ts : List ℕ) → AllUpTo k ts → AllByRecursion (CanBeShown (UpTo k)) (several_items target ts)
   unfolding target
   targets_shown [] up = tt
   targets_shown (t ∷ ts) up = let le = up.0 in ((omega arith, le), targets_shown ts up.1)

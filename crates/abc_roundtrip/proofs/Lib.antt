@@ -10,3 +10,4 @@ pub mod Tables
 pub mod Fields
 pub mod Fitting
 pub mod Bodylines
+pub mod Listings
