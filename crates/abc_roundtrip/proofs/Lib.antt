@@ -11,3 +11,4 @@ pub mod Fields
 pub mod Fitting
 pub mod Bodylines
 pub mod Listings
+pub mod Bytefields
