@@ -1,6 +1,6 @@
 -- The lines of bodies are read back as those of the bodies.
-use Rattle.std.proofs.Common.{◌≡◌, ℕ, zero, suc, ◌+◌, ◌<◌, ◌≤◌, ◌^◌, Bool, true, false, nat_eq, List, [], ◌∷◌, ◌++◌, decimal, length, map, Some, refl, sym, ap, subst, ◌∙◌, append_assoc, append-nil, arith}
-use Rattle.std.specs.List.{All, AllByRecursion, AllPairs, flat_map}
+use Rattle.std.proofs.Common.{◌≡◌, ℕ, zero, suc, ◌+◌, ◌<◌, ◌≤◌, ◌^◌, true, false, List, [], ◌∷◌, ◌++◌, decimal, length, map, refl, sym, ap, subst, ◌∙◌, append_assoc, append-nil, arith}
+use Rattle.std.specs.List.{AllByRecursion, AllPairs, flat_map}
 use Rattle.std.proofs.lemmas.List.Elements.{recursion_from_All}
 use Rattle.abc_text.specs.declared.word.Word.TheVariants as words
 use Rattle.abc_tables.specs.declared.code.Body.{Body}
@@ -24,7 +24,7 @@ use Rattle.abc_rowparts.specs.Rows.{Faults, code_after}
 use Rattle.abc_rowparts.specs.Wordlines.{among, flat, shows_operands}
 use Rattle.abc_lines.specs.File as file
 use Rattle.abc_lines.specs.Lineforms.{body_line, catch_line}
-use Rattle.abc_lines.specs.Listing.{label_of, lines_of_body, targets_in, token_of}
+use Rattle.abc_lines.specs.Listing.{lines_of_body, targets_in, token_of}
 use Rattle.abc_lines.specs.Texts.{is_among, is_taken, labels_set, method_in, row, rows_from}
 use Rattle.abc_roundtrip.proofs.Fields.{catch_in}
 use Rattle.abc_roundtrip.proofs.Fitting.{body_head, body_line_in, both_all, traits_in}
@@ -178,14 +178,13 @@ module _ (v : Abc) where
       let line : IsLine shows_operands (row raw here (is_taken (method_in raw.operands) taken)) words.Body items =
       record { word = refl; whole = refl; operands = items_tokens (Named named b) here are items stand.0.1; once = ap (λ (ms : List (List ℕ)). is_taken ms taken) (method_token b) ∙ free } in
       let on : (k : ℕ) (set : List (List ℕ)) → Match shows_operands (rows_from here set taken2 (raws k more)) rest =
-      λ k set. subst (λ (ms : List (List ℕ)). Match shows_operands (rows_from here set (ms ++ taken) (raws k more)) rest) (sym (method_token b)) (h k here set) in
-      (
+      λ k set. subst (λ (ms : List (List ℕ)). Match shows_operands (rows_from here set (ms ++ taken) (raws k more)) rest) (sym (method_token b)) (h k here set) in (
         row raw here (is_taken (method_in raw.operands) taken),
         rows_from here [] taken2 others,
         refl,
         line,
         match_code (file.instructions s i) (λ x. refl) named (Named named b) here taken2 are b.code 0 (omega (arith, is.short)) lines.0 (rest_of b ++ more) (rest_of b ++ rest)
-        (λ k set. match_still (Named named b) here set taken2 are (rest_of b) lines.1 is.still more rest (λ k. on k set) k) (k + 1) [] (λ n le lt. refl),
+            (λ k set. match_still (Named named b) here set taken2 are (rest_of b) lines.1 is.still more rest (λ k. on k set) k) (k + 1) [] (λ n le lt. refl),
       )
 
   kept_parts : (named : List ℕ) (b : Body) (more : List Shown) → AllByRecursion IsStill (rest_of b) → kept named (first_of b ∷ (code_of b ++ rest_of b)) ++ more ≡ first_of b ∷ (kept named (code_of b) ++ (rest_of b ++ more))

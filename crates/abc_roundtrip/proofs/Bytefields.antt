@@ -1,15 +1,13 @@
 -- Where bytes spell a file, the file's fields of one byte are below 256.
-use Rattle.std.proofs.Common.{◌≡◌, ℕ, zero, suc, ◌+◌, ◌-◌, ◌<◌, ◌^◌, Bool, true, false, List, [], ◌∷◌, ◌++◌, length, map, Some, None, refl, sym, ap, subst, ◌∙◌}
+use Rattle.std.proofs.Common.{◌≡◌, ℕ, zero, suc, ◌+◌, ◌-◌, ◌<◌, List, [], ◌∷◌, ◌++◌, length, map, sym, subst}
 use Rattle.std.specs.List.{AllByRecursion}
-use Rattle.abc_format.specs.declared.reason.Reason.{Reason}
 use Rattle.abc_format.specs.Ends.{Pieces}
 use Rattle.abc_format.specs.Lists.{chain, counted, pool, text, times}
-use Rattle.abc_format.specs.Numbers.{u30, u8}
-use Rattle.abc_format.specs.Part.{Part, both, checked, done, image, then_by}
+use Rattle.abc_format.specs.Numbers.{u8}
+use Rattle.abc_format.specs.Part.{Part}
 use Rattle.abc_tables.specs.declared.classes.Instance.{Instance}
 use Rattle.abc_tables.specs.declared.code.Body.{Body}
 use Rattle.abc_tables.specs.declared.code.Instr.{Instr}
-use Rattle.abc_tables.specs.declared.code.Instr.TheVariants as instrs
 use Rattle.abc_tables.specs.declared.instructions.Code.{Code}
 use Rattle.abc_tables.specs.declared.methods.Method.{Method}
 use Rattle.abc_tables.specs.declared.opcodes.Form.{Form}
@@ -21,7 +19,7 @@ use Rattle.abc_tables.specs.Bodies.{bodies, bodies_alone, body, body_list, body_
 use Rattle.abc_tables.specs.Classes.{definitions, instance, sizes_of, sizes_with}
 use Rattle.abc_tables.specs.Code.{Means, MeansAll, code, code_body}
 use Rattle.abc_tables.specs.Files.{file}
-use Rattle.abc_tables.specs.Instructions.{Branch, RawInstr, Same, Switch, instruction, opcode, operands}
+use Rattle.abc_tables.specs.Instructions.{Branch, RawInstr, Same, Switch, instruction, operands}
 use Rattle.abc_tables.specs.Methods.{method}
 use Rattle.abc_tables.specs.Pools.{double, pools}
 use Rattle.abc_roundtrip.proofs.Fitting.{HasByteValues}

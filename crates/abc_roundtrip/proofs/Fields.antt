@@ -1,5 +1,5 @@
 -- What some bytes spell has fields in the ranges that lines ask for.
-use Rattle.std.proofs.Common.{◌≡◌, ℕ, zero, suc, ℤ, pos, negsuc, ◌-◌, ◌%◌, ◌^◌, ◌<◌, ◌≤◌, ◌≤ℤ◌, ◌<ℤ◌, ◌⊎◌, inl, inr, Bool, true, false, ◌&&◌, nat_eq, nat_lt, nat_le, int_le, leb, List, [], ◌∷◌, length, Some, None, refl, sym, ap, subst, le-leb, lt-ltb, le-ltb, arith}
+use Rattle.std.proofs.Common.{◌≡◌, ℕ, zero, suc, ℤ, pos, negsuc, ◌-◌, ◌%◌, ◌^◌, ◌<◌, ◌≤ℤ◌, ◌<ℤ◌, inl, inr, true, false, ◌&&◌, nat_lt, nat_le, int_le, List, [], ◌∷◌, length, Some, None, refl, sym, subst, le-leb, lt-ltb, le-ltb, arith}
 use Rattle.std.specs.Int.{w32, cast_signed}
 use Rattle.std.specs.List.{All, AllByRecursion}
 use Rattle.std.specs.declared.option.Option.{Option}
@@ -23,7 +23,7 @@ use Rattle.abc_tables.specs.declared.traits.TraitBody.{TraitBody}
 use Rattle.abc_tables.specs.declared.traits.TraitBody.TheVariants as bodies
 use Rattle.abc_tables.specs.Methods.{has_value}
 use Rattle.abc_tables.specs.Opcodes.{form_at, info_at}
-use Rattle.abc_tables.specs.Ready.{AllUpTo, CanSpell}
+use Rattle.abc_tables.specs.Ready.{CanSpell}
 use Rattle.abc_tables.specs.Traits.{trait_kind_in}
 use Rattle.abc_fits.specs.Fitting.{FitsDouble, FitsInt, FitsMultiname, FitsNamespace, FitsNamespaceSet, FitsOption, FitsSlotValue, HasNames, IsEntryIndex, IsNumber, IsPoolIndex, IsPosition, Spelled}
 use Rattle.abc_fits.proofs.Combined.{entry_index_fits}
@@ -31,8 +31,8 @@ use Rattle.abc_fits.proofs.MethodsFit.{option_fits, value_fits}
 use Rattle.abc_fits.proofs.PoolsFit as pools
 use Rattle.abc_fits.proofs.PoolsFit.{double_fits, multiname_fits, namespace_fits, namespace_set_fits}
 use Rattle.abc_fits.proofs.TraitsFit as traits
-use Rattle.abc_rowparts.specs.Operands.{EachFits, any_number, any_signed, eight, entry_upto, index_below, index_upto, number_below, signed_between, target, text, u30}
-use Rattle.abc_lines.specs.Kinds.{multiname_kind, space_kind, trait_kind, value_kind}
+use Rattle.abc_rowparts.specs.Operands.{EachFits, any_number, any_signed, eight, entry_upto, index_below, index_upto, number_below, target, text, u30}
+use Rattle.abc_lines.specs.Kinds.{multiname_kind, space_kind, value_kind}
 use Rattle.abc_lines.specs.Lineforms.{catch_line, double_line, instruction_line, int_line, kind_in, multiname_fields, name_line, namespace_line, opcode_of, option_line, set_line, slot_value, string_line, trait_fields, uint_line}
 use Rattle.abc_roundtrip.proofs.Forms.{HasByteFields}
 

@@ -1,5 +1,5 @@
 -- A file that some bytes spell fits the table of lines.
-use Rattle.std.proofs.Common.{◌≡◌, ◌≢◌, ℕ, zero, suc, ◌+◌, ◌*◌, ◌/◌, ◌%◌, ◌^◌, ◌<◌, ◌≤◌, ◌⊎◌, inl, inr, Bool, true, false, ◌&&◌, ◌||◌, nat_eq, nat_le, IsSome, List, [], ◌∷◌, ◌++◌, length, map, Some, None, refl, sym, ap, subst, ◌∙◌, arith}
+use Rattle.std.proofs.Common.{◌≡◌, ℕ, ◌^◌, ◌<◌, inl, inr, true, false, nat_eq, nat_le, List, [], ◌∷◌, length, map, Some, None, refl, sym, subst, arith}
 use Rattle.std.specs.List.{All, AllByRecursion}
 use Rattle.std.specs.Option.{option_to_list}
 use Rattle.std.specs.declared.option.Option.{Option}
@@ -13,31 +13,26 @@ use Rattle.abc_tables.specs.declared.classes.ClassInfo.{ClassInfo}
 use Rattle.abc_tables.specs.declared.classes.Instance.{Instance}
 use Rattle.abc_tables.specs.declared.classes.Script.{Script}
 use Rattle.abc_tables.specs.declared.code.Body.{Body}
-use Rattle.abc_tables.specs.declared.code.Handler.{Handler}
 use Rattle.abc_tables.specs.declared.code.Instr.{Instr}
 use Rattle.abc_tables.specs.declared.methods.Metadata.{Metadata}
 use Rattle.abc_tables.specs.declared.methods.Method.{Method}
-use Rattle.abc_tables.specs.declared.methods.OptionValue.{OptionValue}
 use Rattle.abc_tables.specs.declared.tables.Abc.{Abc}
-use Rattle.abc_tables.specs.declared.tables.Eight.{Eight}
 use Rattle.abc_tables.specs.declared.tables.Sizes.{Sizes}
 use Rattle.abc_tables.specs.declared.traits.TraitInfo.{TraitInfo}
-use Rattle.abc_tables.specs.Bodies.{IsReadyBody}
 use Rattle.abc_tables.specs.Classes.{sizes_of}
 use Rattle.abc_tables.specs.CodeBytes.{code_len}
 use Rattle.abc_tables.specs.Methods.{has_flag}
 use Rattle.abc_tables.specs.Ready.{AllCanSpell}
-use Rattle.abc_tables.specs.Traits.{trait_kind_in}
 use Rattle.abc_fits.specs.Fitting.{FitBodies, FitDefinitions, FitOptions, FitParamNames, FitPools, FitTraits, FitUints, FitsBody, FitsClass, FitsInstance, FitsMetadata, FitsMethod, FitsOption, FitsProtected, FitsScript, FitsTrait, FitsTraitMetadata, HasNames, IsEntryIndex, IsNumber, IsPoolIndex, IsPosition, Spelled}
 use Rattle.abc_fits.proofs.BodiesFit.{bodies_fit, body_fits}
 use Rattle.abc_fits.proofs.ClassesFit.{class_fits, instance_fits, protected_asked, protected_missing, protected_unasked, script_fits}
 use Rattle.abc_fits.proofs.Combined.{pool_spelled}
-use Rattle.abc_fits.proofs.DefinitionsFit.{AreDefinitions, definitions_fit}
+use Rattle.abc_fits.proofs.DefinitionsFit.{definitions_fit}
 use Rattle.abc_fits.proofs.MethodsFit.{metadata_fits, method_fits, names_asked, names_unasked, options_asked, options_unasked}
-use Rattle.abc_fits.proofs.PoolsFit.{ArePools, doubles_fit, ints_fit, multinames_fit, namespace_sets_fit, namespaces_fit, pools_fit}
+use Rattle.abc_fits.proofs.PoolsFit.{doubles_fit, ints_fit, multinames_fit, namespace_sets_fit, namespaces_fit, pools_fit}
 use Rattle.abc_fits.proofs.TraitsFit.{fields_fit, metadata_asked, metadata_unasked, trait_fits, traits_fit}
-use Rattle.abc_rowparts.specs.Operands.{Operands, any_number, index_upto, u30}
-use Rattle.abc_rowparts.specs.Rows.{AllFit, Faults, Head, ItemsFit, Rows, nothing}
+use Rattle.abc_rowparts.specs.Operands.{Operands, index_upto}
+use Rattle.abc_rowparts.specs.Rows.{AllFit, Faults, Head, ItemsFit, Rows}
 use Rattle.abc_rowparts.specs.Wordlines.{always, closed_to, flat, line}
 use Rattle.abc_lines.specs.Answers.{instance_head, instance_in, metadata_lines, outline, pairs, table}
 use Rattle.abc_lines.specs.File as file
@@ -174,8 +169,7 @@ module _ (s : Sizes) (i : ℕ) where
   method_below_in : (n : ℕ) (m : Method) → FitsMethod s m → (file.method_below s i n).fits (m.params, (m.options, m.param_names))
   unfolding file.method_below
   method_below_in n m fits =
-      let h = (method_fits s m).0 fits in
-      (
+      let h = (method_fits s m).0 fits in (
         flat_in fs words.Param (param_line s) n m.params (each_of (IsPoolIndex s.names) (param_line s).fits param_in m.params h.2),
         (flat_in fs words.Optional (option_line s) n m.options (options_by m h.4).each_in, flat_in fs words.ParamName number_line n m.param_names (names_by m h.5).each_in),
       )
@@ -256,8 +250,7 @@ module _ (s : Sizes) (i : ℕ) where
   instance_below_in : (n : ℕ) (x : Instance) → FitsInstance s x → (file.instance_below s i n).fits (instance_in x).1
   unfolding file.instance_below
   instance_below_in n x fits =
-      let h = (instance_fits s x).0 fits in
-      (
+      let h = (instance_fits s x).0 fits in (
         flat_in fs words.Protected (protected_line s) n (option_to_list x.protected_ns) (protected_by x h.2).each_in,
         (flat_in fs words.Implements (implements_line s) n x.interfaces (each_of (IsEntryIndex s.names) (implements_line s).fits implements_line_in x.interfaces h.4), ((method_index_in x.iinit h.5, tt), traits_in fs n x.traits h.6)),
       )
@@ -335,8 +328,7 @@ module _ (v : Abc) where
   unfolding file.pools
   pools_in n fits =
       let h = (pools_fit v).0 fits in
-      let f = file.faults s_ i_ in
-      (
+      let f = file.faults s_ i_ in (
         flat_in f words.Int int_line n v.ints (each_of _ int_line.fits int_in v.ints ((ints_fit v.ints).0 h.ints).1),
         (
           flat_in f words.UInt uint_line n v.uints (uints_in h.uints),
@@ -361,8 +353,7 @@ module _ (v : Abc) where
   table_fits pools definitions bodies bytes =
       let d = (definitions_fit v).0 definitions in
       let b = (bodies_fit v).0 bodies in
-      let balanced = sym d.instance_count in
-      (
+      let balanced = sym d.instance_count in (
         pools_in 0 pools,
         (
           methods_in s_ i_ 0 v.methods d.methods bytes.methods,

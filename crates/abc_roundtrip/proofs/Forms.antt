@@ -1,7 +1,6 @@
 -- The operands of each line can be written and read back.
-use Rattle.std.proofs.Common.{◌≡◌, ℕ, zero, suc, ℤ, pos, negsuc, ◌+◌, ◌<◌, ◌≤◌, ◌^◌, ◌≤ℤ◌, ◌<ℤ◌, Bool, true, false, List, [], ◌∷◌, length, Some, None, refl, ap, arith}
+use Rattle.std.proofs.Common.{◌≡◌, ℕ, zero, suc, ℤ, pos, negsuc, ◌<◌, ◌≤◌, ◌^◌, ◌≤ℤ◌, ◌<ℤ◌, true, false, List, [], ◌∷◌, length, Some, refl, arith}
 use Rattle.std.specs.List.{AllByRecursion}
-use Rattle.std.specs.declared.option.Option.{Option}
 use Rattle.std.proofs.lemmas.Int.{ints}
 use Rattle.abc_text.specs.declared.word.Word.TheVariants as words
 use Rattle.abc_tables.specs.declared.code.Handler.{Handler}
@@ -18,18 +17,16 @@ use Rattle.abc_tables.specs.declared.tables.Eight.{Eight}
 use Rattle.abc_tables.specs.declared.tables.Sizes.{Sizes}
 use Rattle.abc_tables.specs.declared.traits.TraitKind.{TraitKind}
 use Rattle.abc_tables.specs.declared.traits.TraitKind.TheVariants as traits
-use Rattle.abc_tables.specs.Methods.{has_value}
-use Rattle.abc_tables.specs.Opcodes.{form_at, info_at, name_at}
+use Rattle.abc_tables.specs.Opcodes.{form_at, info_at}
 use Rattle.abc_tables.specs.Traits.{trait_kind_in}
 use Rattle.abc_tables.specs.Ready.{AllUpTo, CanSpell}
-use Rattle.abc_rowparts.specs.Lines.{Item}
-use Rattle.abc_rowparts.specs.Operands.{Operand, Operands, any_number, any_signed, eight, entry_upto, index_below, index_upto, is_name, none, number_below, several, several_items, signed_between, target, text, u30, ◌&◌}
+use Rattle.abc_rowparts.specs.Operands.{Operand, any_number, any_signed, eight, entry_upto, index_below, index_upto, is_name, number_below, several_items, target, text, u30}
 use Rattle.abc_lines.specs.Kinds.{multiname_kind, multiname_word, space_kind, space_word, trait_kind, trait_word, value_kind, value_word}
-use Rattle.abc_lines.specs.Lineforms.{alone, body_line, catch_line, double_line, entry_line, implements_line, instance_line, instruction_line, int_line, kind_in, method_index_line, method_line, multiname_fields, multiname_rest, name_line, namespace_line, number_line, opcode_of, option_line, option_rest, pair_fields, param_line, protected_line, set_line, slot_fields, slot_kind, slot_rest, slot_value, string_index_line, string_line, trait_fields, trait_line, trait_metadata_line, trait_rest, uint_line, value_index}
+use Rattle.abc_lines.specs.Lineforms.{alone, body_line, catch_line, double_line, entry_line, implements_line, instance_line, instruction_line, int_line, kind_in, method_index_line, method_line, multiname_fields, name_line, namespace_line, number_line, opcode_of, option_line, pair_fields, param_line, protected_line, set_line, slot_fields, slot_rest, slot_value, string_index_line, string_line, trait_fields, trait_line, trait_metadata_line, trait_rest, uint_line}
 use Rattle.abc_roundtrip.proofs.Heads.{IsHead, instruction_head}
 use Rattle.abc_roundtrip.proofs.Items.{CanBeShown}
 use Rattle.abc_roundtrip.proofs.Runs.{size_of}
-use Rattle.abc_roundtrip.proofs.Standing.{AreShown, IsShown, by-shown, checked-shown, entry_upto-shown, index_below-shown, index_upto-shown, kind-shown, none-shown, number_below-shown, seen-shown, several-shown, then-shown, u30-shown}
+use Rattle.abc_roundtrip.proofs.Standing.{AreShown, IsShown, entry_upto-shown, index_below-shown, index_upto-shown, number_below-shown, several-shown, u30-shown}
 
 -- ---- kind words
 

@@ -1,5 +1,5 @@
 -- The words at the heads of lines are read back.
-use Rattle.std.proofs.Common.{◌≡◌, ℕ, ◌⊎◌, inl, inr, Bool, true, false, ◌&&◌, nat_eq, List, [], ◌∷◌, ◌++◌, Some, None, refl, sym, ap, ◌∙◌}
+use Rattle.std.proofs.Common.{◌≡◌, ℕ, inl, inr, Bool, true, false, ◌&&◌, nat_eq, List, [], ◌∷◌, Some, None, refl, sym, ap, ◌∙◌}
 use Rattle.std.specs.List.{list_all}
 use Rattle.std.specs.declared.option.Option.{Option}
 use Rattle.abc_text.specs.declared.word.Word.{Word}
@@ -9,9 +9,8 @@ use Rattle.abc_text.proofs.Scans.{eq_is}
 use Rattle.abc_tables.specs.declared.opcodes.Form.{Form}
 use Rattle.abc_tables.specs.Opcodes.{form_at, info_at, name_at, name_in, named}
 use Rattle.abc_rowparts.specs.Operands.{is_name}
-use Rattle.abc_rowparts.specs.Wordlines.{lookup}
 use Rattle.abc_lines.specs.Listing.{word_name}
-use Rattle.abc_lines.specs.Texts.{instruction_in, line_words, or_else, word_of}
+use Rattle.abc_lines.specs.Texts.{or_else, word_of}
 
 -- a line may begin with the word's name, which is read back as the word
 pub record IsHead (w : Word) : Type 0 where

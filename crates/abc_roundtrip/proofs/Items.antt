@@ -1,9 +1,9 @@
 -- Operands as tokens show them.
-use Rattle.std.proofs.Common.{◌≡◌, ℕ, ◌+◌, ◌<◌, ◌^◌, ◌/◌, ◌%◌, inl, inr, true, false, not, ◌&&◌, nat_eq, nat_le, nat_lt, List, [], ◌∷◌, ◌++◌, length, map, Some, refl, sym, ap, arith}
-use Rattle.std.specs.List.{AllByRecursion, flat_map}
+use Rattle.std.proofs.Common.{◌≡◌, ℕ, ◌+◌, ◌<◌, ◌^◌, ◌/◌, ◌%◌, inl, inr, true, false, not, ◌&&◌, nat_eq, nat_le, nat_lt, List, [], ◌∷◌, ◌++◌, length, map, Some, refl, arith}
+use Rattle.std.specs.List.{AllByRecursion}
 use Rattle.std.proofs.lemmas.Bool.Decides.{nat_tests}
 use Rattle.abc_escape.specs.Escapes.{escape_of, escaped, hex_digit, is_plain}
-use Rattle.abc_text.specs.Tokens.{Token, Bare, Quoted, quote}
+use Rattle.abc_text.specs.Tokens.{Token, Bare, quote}
 use Rattle.abc_text.specs.Writing.{AreWritable, IsWritable, spaced, written, written_line}
 use Rattle.abc_text.proofs.Bools.{and_true, split_bool}
 use Rattle.abc_rowparts.specs.Lines.{Label, Item, Number, Signed, Text, Eight, Kind, Target}

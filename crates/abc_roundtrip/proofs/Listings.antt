@@ -1,6 +1,6 @@
 -- The listing of a file that some bytes spell is a text of it.
-use Rattle.std.proofs.Common.{◌≡◌, ℕ, zero, suc, ℤ, pos, negsuc, ◌+◌, ◌*◌, ◌%◌, ◌/◌, ◌^◌, ◌<◌, ◌≤◌, Bool, true, false, ◌&&◌, nat_eq, nat_le, int_le, List, [], ◌∷◌, ◌++◌, length, map, Some, None, refl, sym, ap, subst, ◌∙◌, append_assoc, append-nil, arith}
-use Rattle.std.specs.List.{All, AllByRecursion, flat_map}
+use Rattle.std.proofs.Common.{◌≡◌, ℕ, zero, suc, ℤ, pos, negsuc, ◌*◌, ◌%◌, ◌/◌, ◌^◌, ◌<◌, ◌≤◌, true, ◌&&◌, nat_eq, nat_le, int_le, List, [], ◌∷◌, ◌++◌, length, map, Some, None, refl, sym, ap, subst, ◌∙◌, append_assoc, append-nil, arith}
+use Rattle.std.specs.List.{AllByRecursion, flat_map}
 use Rattle.std.specs.Option.{option_to_list}
 use Rattle.std.specs.declared.option.Option.{Option}
 use Rattle.std.proofs.lemmas.Bool.Decides.{nat_tests}
@@ -16,29 +16,29 @@ use Rattle.abc_tables.specs.declared.tables.Abc.{Abc}
 use Rattle.abc_tables.specs.declared.tables.Eight.{Eight}
 use Rattle.abc_tables.specs.declared.tables.Sizes.{Sizes}
 use Rattle.abc_tables.specs.Classes.{sizes_of}
-use Rattle.abc_tables.specs.Files.{Fits, file_bytes}
-use Rattle.abc_fits.specs.Fitting.{FitBodies, FitDefinitions, FitPools, FitsMetadata}
+use Rattle.abc_tables.specs.Files.{Fits}
+use Rattle.abc_fits.specs.Fitting.{FitBodies, FitDefinitions, FitsMetadata}
 use Rattle.abc_fits.proofs.BodiesFit.{bodies_fit}
 use Rattle.abc_fits.proofs.CanonicalLength.{file-len}
 use Rattle.abc_fits.proofs.DefinitionsFit.{definitions_fit}
 use Rattle.abc_fits.proofs.FileFits.{file_fits, tables_fit}
 use Rattle.abc_fits.proofs.MethodsFit.{metadata_fits}
 use Rattle.abc_rowparts.specs.Law.{Match}
-use Rattle.abc_rowparts.specs.Lines.{Number, Shown, Line, Labels}
+use Rattle.abc_rowparts.specs.Lines.{Number, Shown, Line}
 use Rattle.abc_rowparts.specs.Operands.{Operands, any_signed, eight}
 use Rattle.abc_rowparts.specs.Rows.{Faults}
 use Rattle.abc_rowparts.specs.Wordlines.{flat, shows_operands}
-use Rattle.abc_lines.specs.Answers.{IsAssemblyOf, IsListed, IsWhole, first_in, instance_in, instance_of, joined, lines_of, metadata_lines, metadata_of, outline, pairs, table}
+use Rattle.abc_lines.specs.Answers.{IsAssemblyOf, IsWhole, first_in, instance_in, instance_of, joined, lines_of, metadata_lines, metadata_of, outline, pairs, table}
 use Rattle.abc_lines.specs.File as file
 use Rattle.abc_lines.specs.Lineforms.{double_line, int_line, name_line, namespace_line, set_line, string_line, uint_line}
-use Rattle.abc_lines.specs.Listing.{body_text, lines_of_body, listing, quiet_lines, rendered, targets_in}
+use Rattle.abc_lines.specs.Listing.{body_text, lines_of_body, listing, quiet_lines, targets_in}
 use Rattle.abc_lines.specs.Texts.{Raw, lines_in, raws_from, rows_from, rows_of}
 use Rattle.abc_roundtrip.proofs.Bodylines.{all_differ, bodies_stand, bodies_written, kept_body, match_bodies, none_taken}
 use Rattle.abc_roundtrip.proofs.Fitting.{HasByteValues, table_fits}
 use Rattle.abc_roundtrip.proofs.Forms.{double_shown, int_shown, name-shown, namespace-shown, set-shown, string_shown, uint-shown}
 use Rattle.abc_roundtrip.proofs.Items.{CanBeShown}
 use Rattle.abc_roundtrip.proofs.Matching.{kept_still, match_still}
-use Rattle.abc_roundtrip.proofs.Readback.{AllStand, exact, kept, lines_read, raws, rendered_kept, stand_more, two_stand}
+use Rattle.abc_roundtrip.proofs.Readback.{AllStand, exact, lines_read, raws, rendered_kept, stand_more, two_stand}
 use Rattle.abc_roundtrip.proofs.Runs.{size_of}
 use Rattle.abc_roundtrip.proofs.Standing.{AllSit, AreShown, flat-sits, is_quiet, sit_stand, sit_still, two_sit}
 use Rattle.abc_roundtrip.proofs.Tables.{classes-sit, instances-sit, metadata-sit, methods-sit, scripts-sit}
@@ -113,14 +113,13 @@ module _ (v : Abc) where
       let d = (file.metadata s i 0).shows (map metadata_lines v.metadata) in
       let x = (file.instance_lines s i 0).shows (map instance_in v.instances) in
       let c = (file.classes s i 0).shows v.classes in
-      let z = (file.scripts s i 0).shows v.scripts in
-      (
+      let z = (file.scripts s i 0).shows v.scripts in (
         (refl, (omega arith, (omega arith, tt))),
         two_sit Nowhere p (m ++ (d ++ (x ++ (c ++ z)))) (pools_sit fits.0 bytes)
-        (two_sit Nowhere m (d ++ (x ++ (c ++ z))) (methods-sit Nowhere s i 0 v.methods fits.1.0)
-        (two_sit Nowhere d (x ++ (c ++ z)) (metadata-sit Nowhere s i 0 (map metadata_lines v.metadata) fits.1.1.0)
-        (two_sit Nowhere x (c ++ z) (instances-sit Nowhere s i 0 (map instance_in v.instances) fits.1.1.1.0)
-        (two_sit Nowhere c z (classes-sit Nowhere s i 0 v.classes fits.1.1.1.1.0) (scripts-sit Nowhere s i 0 v.scripts fits.1.1.1.1.1.0))))),
+            (two_sit Nowhere m (d ++ (x ++ (c ++ z))) (methods-sit Nowhere s i 0 v.methods fits.1.0)
+            (two_sit Nowhere d (x ++ (c ++ z)) (metadata-sit Nowhere s i 0 (map metadata_lines v.metadata) fits.1.1.0)
+            (two_sit Nowhere x (c ++ z) (instances-sit Nowhere s i 0 (map instance_in v.instances) fits.1.1.1.0)
+            (two_sit Nowhere c z (classes-sit Nowhere s i 0 v.classes fits.1.1.1.1.0) (scripts-sit Nowhere s i 0 v.scripts fits.1.1.1.1.1.0))))),
       )
 
   -- ---- the lines of the table, body by body

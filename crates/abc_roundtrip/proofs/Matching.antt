@@ -1,25 +1,22 @@
 -- The lines that are read back are those of the value: labels stand for the numbers that they are shown for.
-use Rattle.std.proofs.Common.{◌≡◌, ℕ, zero, suc, ◌+◌, ◌<◌, ◌≤◌, ◌^◌, ◌⊎◌, inl, inr, Bool, true, false, cond, nat_eq, List, [], ◌∷◌, ◌++◌, decimal, length, map, Some, None, refl, sym, ap, subst, ◌∙◌, append_assoc, append-nil, bytes_eq, arith}
+use Rattle.std.proofs.Common.{◌≡◌, ℕ, ◌+◌, ◌<◌, ◌≤◌, ◌^◌, inl, inr, true, false, nat_eq, List, [], ◌∷◌, ◌++◌, decimal, length, Some, refl, ap, ◌∙◌, bytes_eq, arith}
 use Rattle.std.specs.List.{AllByRecursion, flat_map}
-use Rattle.std.specs.declared.option.Option.{Option}
 use Rattle.std.proofs.lemmas.Bool.{cases_lt}
 use Rattle.std.proofs.lemmas.Bool.Decides.{nat_tests}
 use Rattle.std.proofs.lemmas.Fmt.{decimal_injective}
 use Rattle.std.proofs.lemmas.Grind.{flat_map-append}
 use Rattle.std.proofs.lemmas.Slice.Eq.{bytes_eq-Decides}
 use Rattle.abc_text.specs.declared.word.Word.{Word}
-use Rattle.abc_text.specs.declared.word.Word.TheVariants as words
-use Rattle.abc_text.specs.Tokens.{Token}
 use Rattle.abc_text.proofs.Bools.{split_bool}
 use Rattle.abc_rowparts.specs.Law.{IsLabel, IsLine, Match}
-use Rattle.abc_rowparts.specs.Lines.{Label, Row, Item, Number, Signed, Text, Eight, Kind, Target, Shown, Line, Labels}
+use Rattle.abc_rowparts.specs.Lines.{Label, Item, Number, Signed, Text, Eight, Kind, Target, Shown, Line, Labels}
 use Rattle.abc_rowparts.specs.Operands.{place_of_label}
 use Rattle.abc_rowparts.specs.Rows.{Head, code_after}
 use Rattle.abc_rowparts.specs.Wordlines.{among, shows_operands}
-use Rattle.abc_lines.specs.Listing.{label_of, target_in, targets_in, token_of}
+use Rattle.abc_lines.specs.Listing.{label_of, target_in, targets_in}
 use Rattle.abc_lines.specs.Texts.{Raw, Skips, Counts, Step, by_step, is_among, is_taken, labels_set, method_in, row, rows_from, step_of}
 use Rattle.abc_roundtrip.proofs.Items.{CanBeShown, items_tokens}
-use Rattle.abc_roundtrip.proofs.Readback.{AllStand, Stands, kept, raw_label, raw_line, raws}
+use Rattle.abc_roundtrip.proofs.Readback.{AllStand, kept, raw_label, raw_line, raws}
 
 -- ---- names
 
@@ -64,8 +61,7 @@ match_still leads labels set taken are (Labels n ∷ lines) all still more rest 
 match_still leads labels set taken are (Line w items ∷ lines) all still more rest h k =
     let others = raws (k + 1) (lines ++ more) in
     let raw = raw_line k w items in
-    let rs = rows_from labels set taken others in
-    (
+    let rs = rows_from labels set taken others in (
       row raw labels false,
       rs,
       ap (λ (s : Step). by_step s (row raw (labels_set 0 others) (is_taken (method_in raw.operands) taken) ∷ rows_from (labels_set 0 others) [] (method_in raw.operands ++ taken) others) (row raw labels (is_among raw.name set) ∷ rows_from labels (raw.name ∷ set) taken others) (row raw labels false ∷ rs) (row raw labels false ∷ rs)) still.0,
@@ -142,8 +138,7 @@ module _ {I : Type 0} (head : Head I (Unit {0})) (counts : (i : I) → step_of (
       (λ k set f.
       let others = raws (k + 1) (kept named (code_lines (j + 1) is) ++ more) in
       let raw = raw_line k (head.word i) (head.items i) in
-      let rs = rows_from labels set taken others in
-      (
+      let rs = rows_from labels set taken others in (
         row raw labels false,
         rs,
         ap (λ (s : Step). by_step s (row raw (labels_set 0 others) (is_taken (method_in raw.operands) taken) ∷ rows_from (labels_set 0 others) [] (method_in raw.operands ++ taken) others) (row raw labels (is_among raw.name set) ∷ rows_from labels (raw.name ∷ set) taken others) (row raw labels false ∷ rs) (row raw labels false ∷ rs)) (counts i),

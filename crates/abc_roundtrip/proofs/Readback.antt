@@ -1,11 +1,10 @@
 -- The lines of a listing are read back one by one, before what they ask of each other is looked at.
-use Rattle.std.proofs.Common.{◌≡◌, ℕ, ◌+◌, ◌<◌, ◌^◌, inl, inr, true, false, cond, nat_eq, List, [], ◌∷◌, ◌++◌, codes, length, map, Some, None, if◌then◌else◌, refl, sym, ap, ◌∙◌, append_assoc, append-nil, arith}
+use Rattle.std.proofs.Common.{◌≡◌, ℕ, ◌+◌, ◌<◌, ◌^◌, inl, inr, true, false, List, [], ◌∷◌, ◌++◌, map, Some, if◌then◌else◌, refl, sym, ap, ◌∙◌, append_assoc, append-nil, arith}
 use Rattle.std.specs.List.{AllByRecursion, flat_map}
 use Rattle.std.specs.declared.option.Option.{Option}
-use Rattle.std.proofs.lemmas.Grind.{flat_map-append}
 use Rattle.abc_text.specs.declared.word.Word.{Word}
 use Rattle.abc_text.specs.declared.word.Word.TheVariants as words
-use Rattle.abc_text.specs.Scanning.{Between, Scan, scan, scanned}
+use Rattle.abc_text.specs.Scanning.{Scan, scan, scanned}
 use Rattle.abc_text.specs.Tokens.{Token, Bare}
 use Rattle.abc_text.specs.Writing.{written_line}
 use Rattle.abc_text.proofs.Bools.{split_bool}
@@ -16,11 +15,11 @@ use Rattle.abc_rowparts.specs.Lines.{Item, Number, Signed, Text, Eight, Kind, Ta
 use Rattle.abc_rowparts.specs.Operands.{is_name}
 use Rattle.abc_rowparts.specs.Wordlines.{among}
 use Rattle.abc_lines.specs.Listing.{comment_of, label_bytes, label_of, line_bytes, rendered, token_of, word_name}
-use Rattle.abc_lines.specs.Texts.{Raw, before_colon, before_colon_more, if_name, lines_in, onto_first, or_else, raw_of, raws_from, token_name, word_of}
+use Rattle.abc_lines.specs.Texts.{Raw, before_colon, before_colon_more, if_name, lines_in, or_else, raw_of, raws_from, token_name, word_of}
 use Rattle.abc_roundtrip.proofs.Heads.{IsHead}
 use Rattle.abc_roundtrip.proofs.Items.{CanBeShown, IsFine, all_append, fine_writable, items_fine, line_feed, word_fine}
 use Rattle.abc_roundtrip.proofs.Remarks.{IsRemark, remark_is}
-use Rattle.abc_roundtrip.proofs.Runs.{IsNoFeed, IsWord, feeds, label_name, name_word}
+use Rattle.abc_roundtrip.proofs.Runs.{IsNoFeed, IsWord, label_name, name_word}
 
 -- ---- lines that can be written and read
 

@@ -1,5 +1,5 @@
 -- What ends a line is a comment, of whatever text it shows.
-use Rattle.std.proofs.Common.{◌≡◌, ℕ, ◌-◌, inl, inr, Bool, true, false, if◌then◌else◌, ◌&&◌, nat_eq, nat_le, List, [], ◌∷◌, ◌++◌, codes, length, take, slice_get, Some, refl}
+use Rattle.std.proofs.Common.{ℕ, ◌-◌, inl, inr, Bool, true, false, if◌then◌else◌, ◌&&◌, nat_eq, nat_le, List, [], ◌∷◌, ◌++◌, codes, length, take, slice_get, refl}
 use Rattle.std.specs.List.{AllByRecursion}
 use Rattle.abc_escape.specs.Escapes.{escaped}
 use Rattle.abc_text.specs.declared.word.Word.{Word}

@@ -1,8 +1,8 @@
 -- Runs of letters and digits, as numbers, names and labels are written.
-use Rattle.std.proofs.Common.{◌≡◌, ℕ, zero, suc, ℤ, pos, negsuc, ◌+◌, ◌-◌, ◌*◌, ◌/◌, ◌%◌, ◌^◌, ◌<◌, ◌≤◌, ◌⊎◌, inl, inr, Bool, true, false, cond, not, ◌&&◌, ◌||◌, nat_eq, nat_le, nat_lt, List, [], ◌∷◌, ◌++◌, length, get_or, decimal, refl, sym, ap, subst, ◌∙◌, arith}
+use Rattle.std.proofs.Common.{◌≡◌, ℕ, zero, suc, ℤ, pos, negsuc, ◌+◌, ◌/◌, ◌%◌, ◌^◌, ◌<◌, ◌≤◌, ◌⊎◌, inl, inr, Bool, true, false, cond, ◌&&◌, ◌||◌, nat_eq, nat_le, nat_lt, List, [], ◌∷◌, length, get_or, decimal, refl, ap, arith}
 use Rattle.std.specs.Fmt.{signed_decimal}
 use Rattle.std.specs.Str.Parse.{AllDigits}
-use Rattle.std.specs.List.{AllByRecursion, flat_map, list_all}
+use Rattle.std.specs.List.{AllByRecursion, list_all}
 use Rattle.std.proofs.lemmas.Bool.{cases_lt}
 use Rattle.std.proofs.lemmas.Bool.Decides.{nat_tests}
 use Rattle.std.proofs.lemmas.Fmt.{decimal_digit, decimal_is_IsNumeral, decimal_nonempty, digits_value-decimal, first_decimal}
@@ -10,7 +10,7 @@ use Rattle.std.proofs.lemmas.Str.Parse.{digit_from_value, numerals_by_weight, te
 use Rattle.abc_escape.specs.Escapes.{hex_digit}
 use Rattle.abc_text.specs.Tokens.{Bare, hex_value, is_hex, is_run_byte}
 use Rattle.abc_text.specs.Writing.{IsWritable}
-use Rattle.abc_text.proofs.Bools.{and_true, split_bool}
+use Rattle.abc_text.proofs.Bools.{and_true}
 use Rattle.abc_rowparts.specs.Operands.{AreHex, IsSigned, is_digit, is_letter, is_name, is_numeral, number_of}
 use Rattle.abc_lines.specs.Listing.{hex_of, label_of}
 

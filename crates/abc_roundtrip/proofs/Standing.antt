@@ -1,22 +1,20 @@
 -- Which operands and lines of a part can be written and read back, proved once for each way to make a part.
-use Rattle.std.proofs.Common.{◌≡◌, ℕ, suc, ℤ, pos, negsuc, ◌<◌, ◌≤◌, ◌^◌, Bool, true, false, ◌&&◌, nat_lt, nat_le, int_le, List, [], ◌∷◌, ◌++◌, map, Some, None, refl, arith}
+use Rattle.std.proofs.Common.{◌≡◌, ℕ, ◌<◌, ◌≤◌, ◌^◌, Bool, true, false, nat_lt, List, [], ◌∷◌, ◌++◌, map, Some, None, refl, arith}
 use Rattle.std.specs.List.{AllByRecursion}
 use Rattle.std.specs.declared.option.Option.{Option}
 use Rattle.std.proofs.lemmas.Bool.Decides.{nat_tests}
 use Rattle.abc_text.specs.declared.reason.AsmReason.{AsmReason}
 use Rattle.abc_text.specs.declared.word.Word.{Word}
 use Rattle.abc_text.specs.declared.word.Word.TheVariants as words
-use Rattle.abc_text.proofs.Bools.{and_true}
-use Rattle.abc_rowparts.specs.Lines.{Item, Shown, Line, Labels}
-use Rattle.abc_rowparts.specs.Operands.{Operand, Operands, any_number, any_signed, by, checked, entry_upto, index_below, index_upto, is_name, kind, none, number_below, seen, several, several_items, signed_between, u30, ◌&◌}
+use Rattle.abc_rowparts.specs.Lines.{Shown, Line, Labels}
+use Rattle.abc_rowparts.specs.Operands.{Operand, Operands, any_number, by, checked, entry_upto, index_below, index_upto, is_name, kind, none, number_below, seen, several, u30, ◌&◌}
 use Rattle.abc_rowparts.specs.Rows.{Faults, Head, ItemsFit, OptionFits, Rows, items_shown, nothing, option_shown}
 use Rattle.abc_rowparts.specs.Wordlines.{always, flat, line}
 use Rattle.abc_lines.specs.Texts.{Skips, step_of}
-use Rattle.abc_roundtrip.proofs.Heads.{IsHead, is_line_word, line_head}
+use Rattle.abc_roundtrip.proofs.Heads.{is_line_word, line_head}
 use Rattle.abc_roundtrip.proofs.Items.{CanBeShown}
 use Rattle.abc_roundtrip.proofs.Matching.{IsStill}
 use Rattle.abc_roundtrip.proofs.Readback.{AllStand}
-use Rattle.abc_roundtrip.proofs.Runs.{size_of}
 
 -- ---- operands
 

@@ -1,19 +1,13 @@
 -- The lines of each table can be written and read back, and name no number of an instruction.
-use Rattle.std.proofs.Common.{◌≡◌, ℕ, ◌<◌, ◌≤◌, List, [], ◌∷◌, ◌++◌, length, map, Some, refl}
-use Rattle.std.specs.List.{AllByRecursion}
+use Rattle.std.proofs.Common.{ℕ, ◌++◌, map, refl}
 use Rattle.abc_text.specs.declared.word.Word.TheVariants as words
-use Rattle.abc_tables.specs.declared.classes.ClassInfo.{ClassInfo}
-use Rattle.abc_tables.specs.declared.classes.Script.{Script}
-use Rattle.abc_tables.specs.declared.methods.Method.{Method}
 use Rattle.abc_tables.specs.declared.tables.Sizes.{Sizes}
-use Rattle.abc_tables.specs.declared.traits.TraitInfo.{TraitInfo}
-use Rattle.abc_rowparts.specs.Lines.{Shown}
 use Rattle.abc_rowparts.specs.Rows.{Faults}
 use Rattle.abc_rowparts.specs.Wordlines.{always, flat, line}
 use Rattle.abc_lines.specs.File as file
 use Rattle.abc_lines.specs.Lineforms.{entry_line, implements_line, instance_line, method_index_line, method_line, number_line, option_line, param_line, protected_line, string_index_line, trait_line, trait_metadata_line}
 use Rattle.abc_roundtrip.proofs.Forms.{entry-shown, implements-shown, instance-shown, method-shown, method_index-shown, number-shown, option-shown, param-shown, protected-shown, string_index-shown, trait-shown, trait_metadata-shown}
-use Rattle.abc_roundtrip.proofs.Standing.{AllSit, Listed, flat-sits, line-sits, many-sits, optional-sits, two_sit}
+use Rattle.abc_roundtrip.proofs.Standing.{Listed, flat-sits, line-sits, many-sits, optional-sits, two_sit}
 
 module _ (leads : ℕ → Type 0) (v : Sizes) (instances : ℕ) where
   pub traits-sit : (faults : Faults) (n : ℕ) → Listed leads (file.traits v instances faults n)
