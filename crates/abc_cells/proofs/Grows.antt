@@ -1,8 +1,7 @@
 -- One more cell.
-use Rattle.std.proofs.Common.{◌≡◌, ℕ, zero, suc, ◌+◌, ◌-◌, ◌<◌, ◌≤◌, Bool, true, false, cond, List, [], ◌∷◌, ◌++◌, Some, length, take, map, set, refl, sym, ap, ◌∙◌, subst, arith, ◌⊎◌, inl, inr, length-append, eq-eqb}
+use Rattle.std.proofs.Common.{◌≡◌, ℕ, zero, suc, ◌+◌, ◌-◌, ◌<◌, ◌≤◌, Bool, true, false, cond, List, [], ◌∷◌, ◌++◌, Some, length, take, set, refl, sym, ap, ◌∙◌, subst, arith, inl, inr, length-append, eq-eqb}
 use Rattle.std.specs.Prelude.{slice_get, filter, nat_eq, ◌&&◌}
 use Rattle.std.proofs.lemmas.List.Elements.{filter-append}
-use Rattle.std.proofs.lemmas.Option.{slice_get-map, slice_get_within}
 use Rattle.std.proofs.lemmas.List.{length-map, map-append, take-append-le}
 use Rattle.abc_cells.specs.declared.cell.Cell.{Cell}
 use Rattle.abc_cells.specs.declared.cell.Held.{Held}
@@ -11,7 +10,7 @@ use Rattle.abc_cells.specs.declared.cell.Lane.TheVariants.{Slots, Properties, El
 use Rattle.abc_cells.specs.declared.chain.Chain.{Chain}
 use Rattle.abc_cells.specs.Lanes.{lane_of, same_lane}
 use Rattle.abc_cells.specs.Links.{Link, link_of, links, is_in, count, IsAt, IsBelow, IsLinked, AreLinked, IsChain, IsUnder, held_at}
-use Rattle.abc_cells.proofs.Parts.{slice_get_take, slice_get_some, slice_get_more, slice_get_left, slice_get_seam}
+use Rattle.abc_cells.proofs.Parts.{slice_get_more, slice_get_left, slice_get_seam}
 use Rattle.abc_cells.proofs.Walks.{below_from}
 
 pub same_lane_self : (l : Lane) → same_lane l l ≡ true

@@ -1,15 +1,14 @@
 -- The lists of an object after a write and after one more cell, and of all other objects.
-use Rattle.std.proofs.Common.{◌≡◌, ℕ, zero, suc, ◌+◌, ◌-◌, ◌<◌, ◌≤◌, Bool, true, false, cond, List, [], ◌∷◌, ◌++◌, Option, Some, None, length, take, map, set, refl, sym, ap, ◌∙◌, subst, arith, ◌⊎◌, inl, inr}
+use Rattle.std.proofs.Common.{◌≡◌, ℕ, zero, suc, Bool, true, false, cond, List, [], ◌∷◌, ◌++◌, Some, length, take, map, set, refl, sym, ap, ◌∙◌}
 use Rattle.std.specs.Prelude.{slice_get, filter, nat_eq, ◌&&◌}
 use Rattle.std.proofs.lemmas.Bool.{ne_eqb, and_left, and_right}
 use Rattle.std.proofs.lemmas.List.Elements.{filter-append}
-use Rattle.std.proofs.lemmas.Option.{slice_get-map}
 use Rattle.abc_cells.specs.declared.cell.Cell.{Cell}
 use Rattle.abc_cells.specs.declared.cell.Held.{Held}
 use Rattle.abc_cells.specs.declared.cell.Lane.{Lane}
 use Rattle.abc_cells.specs.Lanes.{lane_of, same_lane, is_of, owned}
-use Rattle.abc_cells.specs.Links.{Link, link_of, links, is_in, count, IsAt, IsLinked, AreLinked, held_at}
-use Rattle.abc_cells.proofs.Parts.{filter_at, filter_set_in, filter_set_out, set_same}
+use Rattle.abc_cells.specs.Links.{Link, link_of, links, is_in, count, IsAt, AreLinked, held_at}
+use Rattle.abc_cells.proofs.Parts.{filter_at, filter_set_in, filter_set_out}
 use Rattle.abc_cells.proofs.Walks.{link_at}
 use Rattle.abc_cells.proofs.Grows.{is_in_own, set_held}
 

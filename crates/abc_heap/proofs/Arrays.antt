@@ -1,11 +1,12 @@
 -- Elements that are added one after the other.
-use Rattle.std.proofs.Common.{◌≡◌, ℕ, zero, suc, ◌+◌, ◌<◌, ◌≤◌, List, [], ◌∷◌, ◌++◌, Option, length, refl, ap, ◌∙◌, arith, length-append, append_assoc, append-nil}
+use Rattle.std.proofs.Common.{◌≡◌, ℕ, zero, suc, ◌+◌, ◌<◌, List, [], ◌∷◌, ◌++◌, Option, length, refl, ap, ◌∙◌, arith, length-append, append_assoc, append-nil}
 use Rattle.abc_cells.specs.declared.values.ObjId.{ObjId}
 use Rattle.abc_cells.specs.declared.values.Value.{Value}
 use Rattle.abc_heap.specs.declared.records.What.TheVariants.{Array}
-use Rattle.abc_heap.specs.Heap.{Heap, Object, all_cells, cells_of, HasRoomFor}
+use Rattle.abc_heap.specs.Heap.{Heap, Object, all_cells, HasRoomFor}
 use Rattle.abc_heap.specs.Changes.{change, with_object, with_more_elements, with_array, bare}
 use Rattle.abc_heap.proofs.Makes.{change_last}
+use Rattle.abc_heap.proofs.Steps.{all_more}
 
 pub elements_on : (vs ws : List Value) (o : ℕ) (obs : List Object) → change (with_more_elements ws) o (change (with_more_elements vs) o obs) ≡ change (with_more_elements (vs ++ ws)) o obs
 elements_on vs ws o [] = refl
@@ -45,16 +46,12 @@ element_added_on h now new vs ws v o e f q =
     ∙ (ap (λ obs. record h { objects = obs }) (elements_on vs (v ∷ []) o h.objects)
     ∙ ap (λ us. with_object (with_more_elements us) o h) q))
 
-all_one_more : (obs : List Object) (ob : Object) → all_cells (obs ++ ob ∷ []) ≡ all_cells obs + cells_of ob
-all_one_more [] ob = omega arith
-all_one_more (x ∷ obs) ob = omega (arith, all_one_more obs ob)
-
 -- an array, empty and then filled
 pub array_begun : (h new : Heap) (layout : ℕ) (delegate : Option ObjId) (o n : ℕ) → HasRoomFor h 1 n → o ≡ length h.objects → new ≡ with_array [] layout delegate h → (o < length new.objects) × HasRoomFor new 0 n
 array_begun h new layout delegate o n r q e =
     let ob = with_more_elements [] (bare layout delegate Array) in
     let objects : length new.objects ≡ length h.objects + 1 = ap (λ (x : Heap). length x.objects) e ∙ length-append h.objects (ob ∷ []) in
-    let cells : all_cells new.objects ≡ all_cells h.objects + 0 = ap (λ (x : Heap). all_cells x.objects) e ∙ all_one_more h.objects ob in
+    let cells : all_cells new.objects ≡ all_cells h.objects + 0 = ap (λ (x : Heap). all_cells x.objects) e ∙ all_more h.objects ob in
     let scopes : length new.scopes ≡ length h.scopes = ap (λ (x : Heap). length x.scopes) e in
     let most : new.limits.objects ≡ h.limits.objects = ap (λ (x : Heap). x.limits.objects) e in
     let limit : new.limits.cells ≡ h.limits.cells = ap (λ (x : Heap). x.limits.cells) e in

@@ -1,5 +1,5 @@
 -- What the calls promise, from what the flat lists do.
-use Rattle.std.proofs.Common.{◌≡◌, ℕ, zero, suc, ◌+◌, ◌-◌, ◌<◌, ◌≤◌, List, [], ◌∷◌, ◌++◌, Option, Some, None, length, refl, sym, ap, ◌∙◌, subst, arith}
+use Rattle.std.proofs.Common.{◌≡◌, ℕ, zero, suc, ◌+◌, ◌-◌, ◌<◌, List, [], ◌∷◌, Option, Some, None, length, refl, sym, ap, ◌∙◌, subst, arith}
 use Rattle.std.specs.Prelude.{slice_get}
 use Rattle.abc_cells.specs.declared.cell.Cell.{Cell}
 use Rattle.abc_cells.specs.declared.cell.Held.{Held}
@@ -15,14 +15,13 @@ use Rattle.abc_heap.specs.declared.heads.Head.{Head}
 use Rattle.abc_heap.specs.declared.search.Spot.{Spot}
 use Rattle.abc_heap.specs.Heap.{Object, object_at, Heap, properties_of, elements_of, cells_used, all_cells, ledger as the_ledger}
 use Rattle.abc_heap.specs.Changes.{change, with_property, with_object, with_new_property}
-use Rattle.abc_heap.specs.Properties.{with_delete, with_put, at_position, place_named, place_in, property_in_heap, found, filled, the_value, valued, put_at, delete_at, cells_to_put}
-use Rattle.abc_heap.specs.Texts.{text_of, text_in}
+use Rattle.abc_heap.specs.Properties.{with_delete, with_put, at_position, place_named, found, filled, the_value, valued, put_at, delete_at}
 use Rattle.abc_heap.specs.declared.records.Limits.{Limits}
 use Rattle.abc_heap.specs.View.{object, objects, AreHeads}
 use Rattle.abc_heap.specs.Spots.{IsSpot}
 use Rattle.abc_heap.proofs.Flat.{object_is, zero_plus, property_read, length_objects, properties_are, elements_are}
 use Rattle.abc_heap.proofs.Ledger.{ledger}
-use Rattle.abc_heap.proofs.Writes.{property_written, inside, changed}
+use Rattle.abc_heap.proofs.Writes.{property_written, inside}
 
 pub change_same : (f g : Object → Object) (o : ℕ) (obs : List Object) → ((ob : Object) → properties_of obs o ≡ ob.properties → f ob ≡ g ob) → change f o obs ≡ change g o obs
 change_same f g o [] h = refl
@@ -46,8 +45,8 @@ pub deleted : (cells : List Cell) (hs : List Head) (o : ℕ) (f : Span → List 
 deleted cells hs o f t s h a b q lane none =
     property_written cells s.place o s.position h hs a b q.at (inside cells s.place o Properties s.position q.at) lane
     ∙ change_same (with_property s.position (property_in h)) (with_delete f t) o (objects cells 0 hs) (λ ob e.
-      let k : place_named f t ob.properties ≡ Some s.position = ap (place_named f t) (sym e) ∙ q.is in
-      ap (λ p. with_property s.position p ob) none ∙ ap (λ p. record ob { properties = delete_at ob.properties p }) (sym k))
+    let k : place_named f t ob.properties ≡ Some s.position = ap (place_named f t) (sym e) ∙ q.is in
+    ap (λ p. with_property s.position p ob) none ∙ ap (λ p. record ob { properties = delete_at ob.properties p }) (sym k))
 
 pub not_deleted : (obs : List Object) (o : ℕ) (f : Span → List ℕ) (t : List ℕ) → place_named f t (properties_of obs o) ≡ None → change (with_delete f t) o obs ≡ obs
 not_deleted obs o f t n = change_none (with_delete f t) o obs (λ ob e. ap (λ p. record ob { properties = delete_at ob.properties p }) (ap (place_named f t) (sym e) ∙ n))
@@ -57,9 +56,9 @@ pub put_over : (cells : List Cell) (hs : List Head) (o : ℕ) (f : Span → List
 put_over cells hs o f t n v s c h a b q r lane val =
     property_written cells s.place o s.position h hs a b q.at (inside cells s.place o Properties s.position q.at) lane
     ∙ change_same (with_property s.position (property_in h)) (with_put f t n v) o (objects cells 0 hs) (λ ob e.
-      let k : place_named f t ob.properties ≡ Some s.position = ap (place_named f t) (sym e) ∙ q.is in
-      let w : slice_get ob.properties s.position ≡ Some (property_in c.held) = ap (λ ps. slice_get ps s.position) (sym e) ∙ property_read cells hs s.place o s.position c a b q.at r in
-      ap (λ p. with_property s.position p ob) (val ∙ ap (λ x. valued v (filled x)) (sym w)) ∙ ap (λ p. record ob { properties = put_at n v ob.properties p }) (sym k))
+    let k : place_named f t ob.properties ≡ Some s.position = ap (place_named f t) (sym e) ∙ q.is in
+    let w : slice_get ob.properties s.position ≡ Some (property_in c.held) = ap (λ ps. slice_get ps s.position) (sym e) ∙ property_read cells hs s.place o s.position c a b q.at r in
+    ap (λ p. with_property s.position p ob) (val ∙ ap (λ x. valued v (filled x)) (sym w)) ∙ ap (λ p. record ob { properties = put_at n v ob.properties p }) (sym k))
 
 -- a write to a property that is not there
 pub put_new : (obs : List Object) (o : ℕ) (f : Span → List ℕ) (t : List ℕ) (n : Span) (v : Value) → place_named f t (properties_of obs o) ≡ None → change (with_new_property n v) o obs ≡ change (with_put f t n v) o obs

@@ -1,24 +1,21 @@
 -- The records of flat lists.
-use Rattle.std.proofs.Common.{◌≡◌, ℕ, zero, suc, ◌+◌, ◌-◌, ◌<◌, ◌≤◌, Bool, true, false, List, [], ◌∷◌, ◌++◌, Option, Some, None, length, take, map, set, refl, sym, ap, ◌∙◌, subst, arith}
+use Rattle.std.proofs.Common.{◌≡◌, ℕ, zero, suc, ◌+◌, ◌<◌, ◌≤◌, List, [], ◌∷◌, Some, length, set, refl, sym, ap, ◌∙◌, subst, arith}
 use Rattle.std.specs.Prelude.{slice_get, option_map}
 use Rattle.std.proofs.lemmas.List.{length-map}
 use Rattle.std.proofs.lemmas.Option.{slice_get-map, slice_get_within}
 use Rattle.abc_cells.specs.declared.cell.Cell.{Cell}
-use Rattle.abc_cells.specs.declared.cell.Held.{Held}
-use Rattle.abc_cells.specs.declared.values.Value.{Value}
-use Rattle.abc_cells.specs.declared.values.Span.{Span}
 use Rattle.abc_cells.specs.declared.cell.Lane.{Lane}
 use Rattle.abc_cells.specs.declared.cell.Lane.TheVariants.{Slots, Properties, Elements}
 use Rattle.abc_cells.specs.declared.chain.Chain.{Chain}
-use Rattle.abc_cells.specs.Lanes.{lane_of, same_lane, is_of, owned, slots, properties, elements, value_in, property_in}
-use Rattle.abc_cells.specs.Links.{Link, link_of, links, count, IsAt, IsChain, AreLinked, IsReached, held_at}
-use Rattle.abc_cells.proofs.Parts.{slice_get_some, set_same}
+use Rattle.abc_cells.specs.Lanes.{lane_of, owned, slots, properties, elements, value_in, property_in}
+use Rattle.abc_cells.specs.Links.{Link, link_of, links, count, IsAt, IsChain, IsReached}
+use Rattle.abc_cells.proofs.Parts.{slice_get_some}
 use Rattle.abc_cells.proofs.Walks.{link_at}
-use Rattle.abc_cells.proofs.Owned.{count_owned, owned_at, owned_held, owned_apart, links_held, is_of_other, is_of_lane, map_held}
+use Rattle.abc_cells.proofs.Owned.{count_owned, owned_at}
 use Rattle.abc_heap.specs.declared.heads.Head.{Head}
 use Rattle.abc_heap.specs.Heap.{Object, object_at, slots_of, properties_of, elements_of}
-use Rattle.abc_heap.specs.Changes.{change, with_slot, with_property, with_element}
-use Rattle.abc_heap.specs.View.{object, objects, IsHead, AreHeads}
+use Rattle.abc_heap.specs.Changes.{change}
+use Rattle.abc_heap.specs.View.{object, objects, AreHeads}
 
 -- a part of an object, from the flat lists
 pub slots_at : (cells : List Cell) (m o : ℕ) (hs : List Head) → o < length hs → slots_of (objects cells m hs) o ≡ slots (m + o) cells

@@ -1,10 +1,9 @@
 -- The ledger counts the flat cells.
-use Rattle.std.proofs.Common.{◌≡◌, ℕ, zero, suc, ◌+◌, ◌<◌, ◌≤◌, Bool, true, false, cond, List, [], ◌∷◌, Some, length, map, refl, sym, ap, ◌∙◌, arith, ◌⊎◌, inl, inr}
-use Rattle.std.specs.Prelude.{slice_get, nat_eq, ◌&&◌}
+use Rattle.std.proofs.Common.{◌≡◌, ℕ, suc, ◌+◌, ◌<◌, ◌≤◌, Bool, true, false, cond, List, [], ◌∷◌, Some, length, refl, sym, ap, ◌∙◌, arith, inl, inr}
+use Rattle.std.specs.Prelude.{slice_get}
 use Rattle.std.proofs.lemmas.Bool.{cases_eq}
 use Rattle.std.proofs.lemmas.List.{length-map}
 use Rattle.abc_cells.specs.declared.cell.Cell.{Cell}
-use Rattle.abc_cells.specs.declared.cell.Held.{Held}
 use Rattle.abc_cells.specs.declared.cell.Lane.{Lane}
 use Rattle.abc_cells.specs.declared.cell.Lane.TheVariants.{Slots, Properties, Elements}
 use Rattle.abc_cells.specs.Lanes.{lane_of, same_lane, is_of, owned, value_in, property_in}
@@ -46,11 +45,11 @@ none_more c cells m (h ∷ hs) b =
 one_more : (c : Cell) (cells : List Cell) (m : ℕ) (hs : List Head) → m ≤ c.owner → c.owner < m + length hs → all_cells (objects (c ∷ cells) m hs) ≡ all_cells (objects cells m hs) + 1
 one_more c cells m [] b d = absurd (omega arith)
 one_more c cells m (h ∷ hs) b d = elim (cases_eq m c.owner) [
-    inl q ↦
+  | inl q ↦
       let s : sizes m (c ∷ cells) ≡ sizes m cells + 1 = ap (λ n. sizes n (c ∷ cells)) q ∙ (sizes_own c cells (lane_of c.held) refl ∙ ap (λ n. sizes n cells + 1) (sym q)) in
       omega (arith, none_more c cells (m + 1) hs (omega arith), cells_are (c ∷ cells) m h, cells_are cells m h, s)
   | inr n ↦ omega (arith, one_more c cells (m + 1) hs (omega arith) (omega arith), cells_are (c ∷ cells) m h, cells_are cells m h, sizes_other c cells m n)
-  ]
+]
 
 no_cells : (m : ℕ) (hs : List Head) → all_cells (objects [] m hs) ≡ 0
 no_cells m [] = refl

@@ -1,20 +1,17 @@
 -- The search by text, from the last property down.
-use Rattle.std.proofs.Common.{◌≡◌, ℕ, zero, suc, ◌+◌, ◌-◌, ◌<◌, ◌≤◌, Bool, true, false, List, [], ◌∷◌, Option, Some, None, length, take, map, refl, sym, ap, ◌∙◌, subst, arith, if◌then◌else◌}
+use Rattle.std.proofs.Common.{◌≡◌, ℕ, suc, ◌-◌, ◌<◌, ◌≤◌, Bool, true, false, List, Option, Some, length, refl, sym, ap, ◌∙◌, arith, if◌then◌else◌}
 use Rattle.std.specs.Prelude.{slice_get}
 use Rattle.std.proofs.lemmas.List.{length-map}
-use Rattle.std.proofs.lemmas.Option.{slice_get_within}
 use Rattle.abc_cells.specs.declared.cell.Cell.{Cell}
 use Rattle.abc_cells.specs.declared.values.Span.{Span}
 use Rattle.abc_cells.specs.declared.values.Value.{Value}
-use Rattle.abc_cells.specs.declared.cell.Lane.{Lane}
 use Rattle.abc_cells.specs.declared.cell.Lane.TheVariants.{Properties}
-use Rattle.abc_cells.specs.Lanes.{lane_of, owned, property_in}
-use Rattle.abc_cells.specs.Links.{Link, link_of, links, IsAt, count, AreLinked}
+use Rattle.abc_cells.specs.Lanes.{owned, property_in}
+use Rattle.abc_cells.specs.Links.{link_of, links, IsAt, AreLinked}
 use Rattle.abc_cells.proofs.Parts.{slice_get_take}
 use Rattle.abc_cells.proofs.Walks.{link_at, linked_at, jump_in}
 use Rattle.abc_cells.proofs.Owned.{count_owned}
 use Rattle.abc_heap.specs.declared.heads.Head.{Head}
-use Rattle.abc_heap.specs.declared.search.Spot.{Spot}
 use Rattle.abc_heap.specs.Heap.{properties_of}
 use Rattle.abc_heap.specs.Properties.{is_named, place_below, place_named}
 use Rattle.abc_heap.specs.View.{objects, AreHeads}
@@ -70,6 +67,6 @@ search_on cells heads o f t place left c a b inv p e h =
         record {
           inside = omega (arith, j, length-map cells link_of);
           is = λ y ey.
-            let u = was.is y (slice_get_take place (links cells) c.before j.1 ∙ ey) in
-            (u.0 ∙ s.0, u.1 ∙ s.1, omega (arith, u.2, s.2));
+              let u = was.is y (slice_get_take place (links cells) c.before j.1 ∙ ey) in
+              (u.0 ∙ s.0, u.1 ∙ s.1, omega (arith, u.2, s.2));
         }

@@ -1,5 +1,5 @@
 -- What is used after a step.
-use Rattle.std.proofs.Common.{◌≡◌, ℕ, zero, suc, ◌+◌, ◌<◌, List, [], ◌∷◌, ◌++◌, Option, Some, None, length, set, refl, ap, ◌∙◌, arith, length-append}
+use Rattle.std.proofs.Common.{◌≡◌, ℕ, ◌+◌, ◌<◌, List, [], ◌∷◌, ◌++◌, Option, Some, length, set, refl, ap, ◌∙◌, arith, length-append}
 use Rattle.std.specs.Prelude.{false}
 use Rattle.abc_cells.specs.declared.values.ObjId.{ObjId}
 use Rattle.abc_cells.specs.declared.values.Value.{Value}
@@ -17,7 +17,7 @@ use Rattle.abc_heap.proofs.Makes.{nodes_length}
 pub used_scopes : (saved : Option ScopeId) (es : List ScopeEntry) (h : Heap) → cells_used (with_scopes saved es h) ≡ cells_used h + length es
 used_scopes saved es h = omega (arith, length-append h.scopes (nodes (length h.scopes) saved es), nodes_length (length h.scopes) saved es)
 
-all_more : (obs : List Object) (ob : Object) → all_cells (obs ++ ob ∷ []) ≡ all_cells obs + cells_of ob
+pub all_more : (obs : List Object) (ob : Object) → all_cells (obs ++ ob ∷ []) ≡ all_cells obs + cells_of ob
 all_more [] ob = omega arith
 all_more (x ∷ obs) ob = omega (arith, all_more obs ob)
 
@@ -34,21 +34,21 @@ pub record Counted (h : Heap) (new : Heap) (p : ℕ) (q : ℕ) (r : ℕ) : Type 
 
 pub made_counted : (vs : List Value) (layout : ℕ) (delegate : Option ObjId) (what : What) (h new : Heap) → new ≡ with_made vs layout delegate what h → Counted h new 1 (length vs) 0
 made_counted vs layout delegate what h new e = record {
-    objects = ap (λ (x : Heap). length x.objects) e ∙ length-append h.objects (_ ∷ []);
-    cells = ap cells_used e ∙ used_made vs layout delegate what h;
-    scopes = ap (λ (x : Heap). length x.scopes) e ∙ omega arith;
-    limit_objects = ap (λ (x : Heap). x.limits.objects) e;
-    limit_cells = ap (λ (x : Heap). x.limits.cells) e;
-  }
+  objects = ap (λ (x : Heap). length x.objects) e ∙ length-append h.objects (_ ∷ []);
+  cells = ap cells_used e ∙ used_made vs layout delegate what h;
+  scopes = ap (λ (x : Heap). length x.scopes) e ∙ omega arith;
+  limit_objects = ap (λ (x : Heap). x.limits.objects) e;
+  limit_cells = ap (λ (x : Heap). x.limits.cells) e;
+}
 
 pub scopes_counted : (saved : Option ScopeId) (es : List ScopeEntry) (h new : Heap) → new ≡ with_scopes saved es h → Counted h new 0 (length es) (length es)
 scopes_counted saved es h new e = record {
-    objects = ap (λ (x : Heap). length x.objects) e ∙ omega arith;
-    cells = ap cells_used e ∙ used_scopes saved es h;
-    scopes = ap (λ (x : Heap). length x.scopes) e ∙ (length-append h.scopes (nodes (length h.scopes) saved es) ∙ omega (arith, nodes_length (length h.scopes) saved es));
-    limit_objects = ap (λ (x : Heap). x.limits.objects) e;
-    limit_cells = ap (λ (x : Heap). x.limits.cells) e;
-  }
+  objects = ap (λ (x : Heap). length x.objects) e ∙ omega arith;
+  cells = ap cells_used e ∙ used_scopes saved es h;
+  scopes = ap (λ (x : Heap). length x.scopes) e ∙ (length-append h.scopes (nodes (length h.scopes) saved es) ∙ omega (arith, nodes_length (length h.scopes) saved es));
+  limit_objects = ap (λ (x : Heap). x.limits.objects) e;
+  limit_cells = ap (λ (x : Heap). x.limits.cells) e;
+}
 
 -- the slots of the last object
 slots_last : (obs : List Object) (ob : Object) (o : ℕ) → o ≡ length obs → slots_of (obs ++ ob ∷ []) o ≡ ob.slots
@@ -71,9 +71,10 @@ class_made h h1 h2 h3 h4 h5 h6 ps cs parts saved es p o statics i ep e1 es1 e2 e
     let s' : statics ≡ top (length h.scopes) saved es = es1 ∙ ap (λ k. top k saved es) (c1.scopes ∙ omega arith) in
     let i' : i ≡ length h.scopes + length es = omega (arith, ei, c1.scopes, c2.scopes) in
     let chain : h6 ≡ f p o statics i =
-      e6 ∙ ap (named o) (e5 ∙ ap (with_object (with_slot 0 (Obj (obj_id p))) o) (e4 ∙ ap (with_made cs parts.class_layout parts.delegate (ClassObject parts.class parts.home statics (scope_id i))) (e3 ∙ ap (with_scopes statics ((record { object = obj_id (p + 1); with_flag = false }) ∷ [])) (e2 ∙ ap (with_scopes saved es) e1)))) in
-    ( number
-    , chain ∙ (ap (λ j. f p o statics j) i'
-      ∙ (ap (λ s. f p o s (length h.scopes + length es)) s'
-      ∙ (ap (λ q. f q o (top (length h.scopes) saved es) (length h.scopes + length es)) ep
-      ∙ ap (λ r. f (length h.objects) r (top (length h.scopes) saved es) (length h.scopes + length es)) number))))
+    e6 ∙ ap (named o) (e5 ∙ ap (with_object (with_slot 0 (Obj (obj_id p))) o) (e4 ∙ ap (with_made cs parts.class_layout parts.delegate (ClassObject parts.class parts.home statics (scope_id i))) (e3 ∙ ap (with_scopes statics ((record { object = obj_id (p + 1); with_flag = false }) ∷ [])) (e2 ∙ ap (with_scopes saved es) e1)))) in (
+      number,
+      chain ∙ (ap (λ j. f p o statics j) i'
+          ∙ (ap (λ s. f p o s (length h.scopes + length es)) s'
+          ∙ (ap (λ q. f q o (top (length h.scopes) saved es) (length h.scopes + length es)) ep
+          ∙ ap (λ r. f (length h.objects) r (top (length h.scopes) saved es) (length h.scopes + length es)) number))),
+    )

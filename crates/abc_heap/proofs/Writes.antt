@@ -1,5 +1,5 @@
 -- One thing held anew changes one object, and no other.
-use Rattle.std.proofs.Common.{◌≡◌, ℕ, zero, suc, ◌+◌, ◌-◌, ◌<◌, ◌≤◌, Bool, true, false, List, [], ◌∷◌, ◌++◌, Option, Some, None, length, take, map, set, refl, sym, ap, ◌∙◌, subst, arith}
+use Rattle.std.proofs.Common.{◌≡◌, ℕ, zero, suc, ◌<◌, false, List, [], ◌∷◌, Some, length, map, refl, sym, ap, ◌∙◌, subst, arith}
 use Rattle.std.specs.Prelude.{slice_get}
 use Rattle.abc_cells.specs.Filling.{Filling}
 use Rattle.abc_cells.specs.declared.cell.Cell.{Cell}
@@ -8,8 +8,8 @@ use Rattle.abc_cells.specs.declared.cell.Held.TheVariants.{Slot, Element}
 use Rattle.abc_cells.specs.declared.values.Value.{Value}
 use Rattle.abc_cells.specs.declared.cell.Lane.{Lane}
 use Rattle.abc_cells.specs.declared.cell.Lane.TheVariants.{Slots, Properties, Elements}
-use Rattle.abc_cells.specs.Lanes.{lane_of, same_lane, is_of, owned, value_in, property_in}
-use Rattle.abc_cells.specs.Links.{Link, link_of, links, IsAt, AreLinked, held_at}
+use Rattle.abc_cells.specs.Lanes.{lane_of, same_lane, owned, value_in, property_in}
+use Rattle.abc_cells.specs.Links.{link_of, links, IsAt, held_at}
 use Rattle.abc_cells.proofs.Parts.{slice_get_some, set_same}
 use Rattle.abc_cells.proofs.Walks.{link_at}
 use Rattle.abc_cells.proofs.Owned.{owned_held, owned_apart, links_held, is_of_other, is_of_lane, map_held}
@@ -56,25 +56,25 @@ pub slot_written : (cells : List Cell) (p o k : ℕ) (v : Value) (hs : List Head
 slot_written cells p o k v hs a b at inside =
     let w = slice_get_some cells p inside in
     held_changed cells p o Slots k w.0 (Slot v) hs (with_slot k v) at w.1 refl b (λ x.
-      built x (owned o Slots (held_at cells p (Slot v))) (held_at (owned o Slots cells) k (Slot v)) (owned o Properties (held_at cells p (Slot v))) (owned o Properties cells) (owned o Elements (held_at cells p (Slot v))) (owned o Elements cells)
-        (owned_held cells p o Slots k w.0 (Slot v) a.linked at w.1 refl) (other_lane cells p o Slots Properties k w.0 (Slot v) at w.1 refl refl) (other_lane cells p o Slots Elements k w.0 (Slot v) at w.1 refl refl)
-      ∙ ap (λ s. record (object cells o x) { slots = s }) (map_held value_in (owned o Slots cells) k (Slot v)))
+    built x (owned o Slots (held_at cells p (Slot v))) (held_at (owned o Slots cells) k (Slot v)) (owned o Properties (held_at cells p (Slot v))) (owned o Properties cells) (owned o Elements (held_at cells p (Slot v))) (owned o Elements cells)
+    (owned_held cells p o Slots k w.0 (Slot v) a.linked at w.1 refl) (other_lane cells p o Slots Properties k w.0 (Slot v) at w.1 refl refl) (other_lane cells p o Slots Elements k w.0 (Slot v) at w.1 refl refl)
+    ∙ ap (λ s. record (object cells o x) { slots = s }) (map_held value_in (owned o Slots cells) k (Slot v)))
 
 pub element_written : (cells : List Cell) (p o k : ℕ) (v : Value) (hs : List Head) → AreHeads (links cells) hs → o < length hs → IsAt (links cells) p o Elements k → p < length cells → objects (held_at cells p (Element v)) 0 hs ≡ change (with_element k v) o (objects cells 0 hs)
 element_written cells p o k v hs a b at inside =
     let w = slice_get_some cells p inside in
     held_changed cells p o Elements k w.0 (Element v) hs (with_element k v) at w.1 refl b (λ x.
-      built x (owned o Slots (held_at cells p (Element v))) (owned o Slots cells) (owned o Properties (held_at cells p (Element v))) (owned o Properties cells) (owned o Elements (held_at cells p (Element v))) (held_at (owned o Elements cells) k (Element v))
-        (other_lane cells p o Elements Slots k w.0 (Element v) at w.1 refl refl) (other_lane cells p o Elements Properties k w.0 (Element v) at w.1 refl refl) (owned_held cells p o Elements k w.0 (Element v) a.linked at w.1 refl)
-      ∙ ap (λ s. record (object cells o x) { elements = s }) (map_held value_in (owned o Elements cells) k (Element v)))
+    built x (owned o Slots (held_at cells p (Element v))) (owned o Slots cells) (owned o Properties (held_at cells p (Element v))) (owned o Properties cells) (owned o Elements (held_at cells p (Element v))) (held_at (owned o Elements cells) k (Element v))
+    (other_lane cells p o Elements Slots k w.0 (Element v) at w.1 refl refl) (other_lane cells p o Elements Properties k w.0 (Element v) at w.1 refl refl) (owned_held cells p o Elements k w.0 (Element v) a.linked at w.1 refl)
+    ∙ ap (λ s. record (object cells o x) { elements = s }) (map_held value_in (owned o Elements cells) k (Element v)))
 
 pub property_written : (cells : List Cell) (p o k : ℕ) (h : Held) (hs : List Head) → AreHeads (links cells) hs → o < length hs → IsAt (links cells) p o Properties k → p < length cells → lane_of h ≡ Properties → objects (held_at cells p h) 0 hs ≡ change (with_property k (property_in h)) o (objects cells 0 hs)
 property_written cells p o k h hs a b at inside s =
     let w = slice_get_some cells p inside in
     held_changed cells p o Properties k w.0 h hs (with_property k (property_in h)) at w.1 s b (λ x.
-      built x (owned o Slots (held_at cells p h)) (owned o Slots cells) (owned o Properties (held_at cells p h)) (held_at (owned o Properties cells) k h) (owned o Elements (held_at cells p h)) (owned o Elements cells)
-        (other_lane cells p o Properties Slots k w.0 h at w.1 s refl) (owned_held cells p o Properties k w.0 h a.linked at w.1 s) (other_lane cells p o Properties Elements k w.0 h at w.1 s refl)
-      ∙ ap (λ s. record (object cells o x) { properties = s }) (map_held property_in (owned o Properties cells) k h))
+    built x (owned o Slots (held_at cells p h)) (owned o Slots cells) (owned o Properties (held_at cells p h)) (held_at (owned o Properties cells) k h) (owned o Elements (held_at cells p h)) (owned o Elements cells)
+    (other_lane cells p o Properties Slots k w.0 h at w.1 s refl) (owned_held cells p o Properties k w.0 h a.linked at w.1 s) (other_lane cells p o Properties Elements k w.0 h at w.1 s refl)
+    ∙ ap (λ s. record (object cells o x) { properties = s }) (map_held property_in (owned o Properties cells) k h))
 
 -- the invariant stays
 length_held : (cells : List Cell) (p : ℕ) (h : Held) → length (held_at cells p h) ≡ length cells

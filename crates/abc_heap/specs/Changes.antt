@@ -1,9 +1,9 @@
 -- What the calls change: one object, or what is made at the end.
-use Rattle.std.specs.Prelude.{◌≡◌, ℕ, zero, suc, ◌+◌, ◌<◌, ◌≤◌, false, List, [], ◌∷◌, ◌++◌, length, set, replicate, Option, Some, None}
+use Rattle.std.specs.Prelude.{◌≡◌, ℕ, zero, suc, ◌+◌, false, List, [], ◌∷◌, ◌++◌, length, set, Option, Some, None}
 use Rattle.abc_cells.specs.declared.values.Span.{Span}
 use Rattle.abc_cells.specs.declared.values.ObjId.{ObjId}
 use Rattle.abc_cells.specs.declared.values.Value.{Value}
-use Rattle.abc_cells.specs.declared.values.Value.TheVariants.{Undefined, Obj}
+use Rattle.abc_cells.specs.declared.values.Value.TheVariants.{Obj}
 use Rattle.abc_heap.specs.declared.records.What.{What}
 use Rattle.abc_heap.specs.declared.records.What.TheVariants.{Closure, ClassObject, Plain, Array}
 use Rattle.abc_heap.specs.declared.records.ScopeId.{ScopeId}
@@ -79,8 +79,8 @@ with_class ps cs parts saved scopes h =
     let own = (record { object = obj_id o; with_flag = false }) ∷ [] in
     let what = ClassObject parts.class parts.home statics (scope_id (length h.scopes + length scopes)) in
     let made = with_object (with_slot 0 (Obj (obj_id (length h.objects)))) o
-      (with_made cs parts.class_layout parts.delegate what
-        (with_scopes statics own (with_scopes saved scopes (with_made ps parts.prototype_layout parts.base_prototype Plain h)))) in
+    (with_made cs parts.class_layout parts.delegate what
+    (with_scopes statics own (with_scopes saved scopes (with_made ps parts.prototype_layout parts.base_prototype Plain h)))) in
     record made { classes = set h.classes parts.class (Some (obj_id o)) }
 
 pub record IsClassMade (old : Heap) (new : Heap) (o : ObjId) (ps : List Value) (cs : List Value) (parts : ClassParts) (saved : Option ScopeId) (scopes : List ScopeEntry) : Type 0 where

@@ -4,7 +4,7 @@ use Rattle.abc_cells.specs.Filling.{Filling}
 use Rattle.abc_cells.specs.declared.cell.Cell.{Cell}
 use Rattle.abc_cells.specs.declared.cell.Lane.TheVariants.{Slots, Properties, Elements}
 use Rattle.abc_cells.specs.Lanes.{slots, properties, elements}
-use Rattle.abc_cells.specs.Links.{Link, links, count, AreLinked, IsChain, IsAt}
+use Rattle.abc_cells.specs.Links.{Link, count, AreLinked, IsChain, IsAt}
 use Rattle.abc_heap.specs.declared.heads.Head.{Head}
 use Rattle.abc_heap.specs.declared.records.ScopeNode.{ScopeNode}
 use Rattle.abc_heap.specs.declared.records.Limits.{Limits}

@@ -105,7 +105,13 @@ pub fn revalued(held: Held, v: Value) -> Held
 }
 
 /// Adds a property to an object, as its last.
-pub fn add_property(heads: &mut Reserved<Head>, cells: &mut Reserved<Cell>, o: u32, name: Span, v: Value)
+pub fn add_property(
+    heads: &mut Reserved<Head>,
+    cells: &mut Reserved<Cell>,
+    o: u32,
+    name: Span,
+    v: Value,
+)
     requires heads { AreHeads (links cells.old.items) heads.old.items }
     requires inside { o < length heads.old.items }
     requires room { HasRoom cells.old 1 }
@@ -133,7 +139,12 @@ pub fn add_element(heads: &mut Reserved<Head>, cells: &mut Reserved<Cell>, o: u3
 }
 
 /// What stands at a position, which counts from 1.
-pub fn held_at_position(heads: &Reserved<Head>, cells: &Reserved<Cell>, o: u32, position: u32) -> Held
+pub fn held_at_position(
+    heads: &Reserved<Head>,
+    cells: &Reserved<Cell>,
+    o: u32,
+    position: u32,
+) -> Held
     requires heads { AreHeads (links cells.now.items) heads.now.items }
     requires inside { o < length heads.now.items }
     ensures { property_in result ≡ at_position (properties_of (objects cells.now.items 0 heads.now.items) o) position }
@@ -159,7 +170,13 @@ pub fn element_count(heads: &Reserved<Head>, cells: &Reserved<Cell>, o: u32) -> 
 }
 
 /// Adds an object with no cells, and gives its number.
-pub fn add_object(heads: &mut Reserved<Head>, cells: &Reserved<Cell>, layout: u32, delegate: Option<ObjId>, what: StoredWhat) -> u32
+pub fn add_object(
+    heads: &mut Reserved<Head>,
+    cells: &Reserved<Cell>,
+    layout: u32,
+    delegate: Option<ObjId>,
+    what: StoredWhat,
+) -> u32
     requires heads { AreHeads (links cells.now.items) heads.old.items }
     requires room { HasRoom heads.old 1 }
     ensures number { result ≡ length heads.old.items }
@@ -182,7 +199,13 @@ pub fn add_object(heads: &mut Reserved<Head>, cells: &Reserved<Cell>, layout: u3
 }
 
 /// Adds a slot to the object whose slots are the last cells.
-fn add_slot(heads: &Reserved<Head>, cells: &mut Reserved<Cell>, chain: Chain, o: u32, v: Value) -> Chain
+fn add_slot(
+    heads: &Reserved<Head>,
+    cells: &mut Reserved<Cell>,
+    chain: Chain,
+    o: u32,
+    v: Value,
+) -> Chain
     requires heads { AreHeads (links cells.old.items) heads.now.items }
     requires inside { o < length heads.now.items }
     requires room { HasRoom cells.old 1 }

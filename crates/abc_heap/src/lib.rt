@@ -9,8 +9,10 @@ mod search;
 mod starts;
 mod store;
 mod stored;
+#[cfg(test)]
+mod tests;
 mod texts;
 
 pub use records::{Full, Limit, Limits, ScopeEntry, ScopeId, ScopeNode, What};
-pub use starts::Starts;
+pub use starts::{NoSlots, Starts};
 pub use store::{ClassParts, Store};

@@ -6,7 +6,11 @@ use crate::records::{ScopeEntry, ScopeId, ScopeNode};
 use abc_cells::Reserved;
 
 /// Adds nodes for some scopes above a saved one, and gives the top.
-pub fn capture(scopes: &mut Reserved<ScopeNode>, saved: Option<ScopeId>, entries: &[ScopeEntry]) -> Option<ScopeId>
+pub fn capture(
+    scopes: &mut Reserved<ScopeNode>,
+    saved: Option<ScopeId>,
+    entries: &[ScopeEntry],
+) -> Option<ScopeId>
     requires room { HasRoom scopes.old (length entries.now) }
     ensures scopes { scopes.new ≡ record { items = scopes.old.items ++ nodes (length scopes.old.items) saved entries.now; limit = scopes.old.limit } }
     ensures top { result ≡ top (length scopes.old.items) saved entries.now }

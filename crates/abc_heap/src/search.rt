@@ -33,7 +33,15 @@ fn has_name(fixed: &[u8], made: &[u8], pool: &Table<Bytes>, held: Held, text: &[
 }
 
 /// Where the object has a property of this text.
-pub fn place_of_name(fixed: &[u8], made: &[u8], pool: &Table<Bytes>, heads: &Reserved<Head>, cells: &Reserved<Cell>, o: u32, text: &[u8]) -> Option<Spot>
+pub fn place_of_name(
+    fixed: &[u8],
+    made: &[u8],
+    pool: &Table<Bytes>,
+    heads: &Reserved<Head>,
+    cells: &Reserved<Cell>,
+    o: u32,
+    text: &[u8],
+) -> Option<Spot>
     requires heads { AreHeads (links cells.now.items) heads.now.items }
     requires inside { o < length heads.now.items }
     requires names { (k : ℕ) (n : Span) (v : Value) → slice_get (properties_of (objects cells.now.items 0 heads.now.items) o) k ≡ Some (Some (n, v)) → IsTextIn fixed.now made.now pool.now n }
@@ -57,7 +65,15 @@ pub fn place_of_name(fixed: &[u8], made: &[u8], pool: &Table<Bytes>, heads: &Res
 }
 
 /// Where the object has a property of the text of a name.
-pub fn find(fixed: &Bytes, made: &Reserved<u8>, pool: &Table<Bytes>, heads: &Reserved<Head>, cells: &Reserved<Cell>, o: u32, name: Span) -> Option<Spot>
+pub fn find(
+    fixed: &Bytes,
+    made: &Reserved<u8>,
+    pool: &Table<Bytes>,
+    heads: &Reserved<Head>,
+    cells: &Reserved<Cell>,
+    o: u32,
+    name: Span,
+) -> Option<Spot>
     requires heads { AreHeads (links cells.now.items) heads.now.items }
     requires inside { o < length heads.now.items }
     requires name { IsTextIn fixed.now made.now.items pool.now name }

@@ -9,7 +9,11 @@ ghost use Rattle.abc_heap.specs.Changes.{with_object, with_slot, with_element, w
 ghost use Rattle.abc_heap.specs.Scopes.{top};
 ghost use Rattle.abc_heap.specs.declared.records.Limit.TheVariants.{Cells, Text};
 
-use crate::heads::{Head, add_element, add_object, add_property, element_count, element_place, fill_slots, head_at, held_at_position, next_from, property_count, property_name, property_value, revalued, slot_place, value_of};
+use crate::heads::{
+    Head, add_element, add_object, add_property, element_count, element_place, fill_slots, head_at,
+    held_at_position, next_from, property_count, property_name, property_value, revalued,
+    slot_place, value_of,
+};
 use crate::records::{Full, Limit, Limits, ScopeEntry, ScopeId, ScopeNode, What};
 use crate::scopes::capture;
 use crate::search::find;
@@ -65,7 +69,13 @@ impl Model for Store {
 
 impl Store {
     /// A store with no objects, which holds the memory for its limits, and room for the class objects of some classes.
-    pub fn empty(alloc: Global, limits: Limits, fixed: Bytes, formulas: Table<Bytes>, classes: u32) -> Result<Store, NoMemory>
+    pub fn empty(
+        alloc: Global,
+        limits: Limits,
+        fixed: Bytes,
+        formulas: Table<Bytes>,
+        classes: u32,
+    ) -> Result<Store, NoMemory>
         ensures { IfOk result (λ a. a ≡ record { objects = []; scopes = []; fixed = fixed; made = []; formulas = formulas; classes = replicate classes None; frames = 0; stack = 0; limits = limits }) }
     {
         Ok(Store {
@@ -145,7 +155,15 @@ impl Store {
         requires name { IsText pool.now self.now name }
         ensures { result ≡ property_in_heap pool.now self.now o.0 name }
     {
-        match find(&self.fixed, &self.made, pool, &self.heads, &self.cells, o.0, name) {
+        match find(
+            &self.fixed,
+            &self.made,
+            pool,
+            &self.heads,
+            &self.cells,
+            o.0,
+            name,
+        ) {
             Some(spot) => property_value(cell_at(&self.cells, spot.place).held),
             None => None,
         }
@@ -160,7 +178,15 @@ impl Store {
         ensures was { result ≡ is_some (place_in pool.now self.old o.0 name) }
         ensures heap { self.new ≡ with_object (with_delete (text_of pool.now self.old) (text_of pool.now self.old name)) o.0 self.old }
     {
-        match find(&self.fixed, &self.made, pool, &self.heads, &self.cells, o.0, name) {
+        match find(
+            &self.fixed,
+            &self.made,
+            pool,
+            &self.heads,
+            &self.cells,
+            o.0,
+            name,
+        ) {
             Some(spot) => {
                 hold(&mut self.cells, spot.place, Held::Deleted);
                 true
@@ -171,13 +197,27 @@ impl Store {
 
     /// Writes a property: an own one takes the value, else a new one is made, last.
     #[tactic(auto, using(crate::proofs::Flat::length_objects))]
-    pub fn set_property(&mut self, pool: &Table<Bytes>, o: ObjId, name: Span, v: Value) -> Result<(), Full>
+    pub fn set_property(
+        &mut self,
+        pool: &Table<Bytes>,
+        o: ObjId,
+        name: Span,
+        v: Value,
+    ) -> Result<(), Full>
         requires named { AreNamed pool.now self.old }
         requires inside { o.0 < length self.old.objects }
         requires name { IsText pool.now self.old name }
         ensures { MatchResult result (λ _. Fits self.old self.new (cells_to_put (place_in pool.now self.old o.0 name)) (with_object (with_put (text_of pool.now self.old) (text_of pool.now self.old name) name v) o.0 self.old)) (λ e. IsFull self.old self.new (cells_used self.old) (cells_to_put (place_in pool.now self.old o.0 name)) self.old.limits.cells Cells e) }
     {
-        match find(&self.fixed, &self.made, pool, &self.heads, &self.cells, o.0, name) {
+        match find(
+            &self.fixed,
+            &self.made,
+            pool,
+            &self.heads,
+            &self.cells,
+            o.0,
+            name,
+        ) {
             Some(spot) => {
                 let held = revalued(cell_at(&self.cells, spot.place).held, v);
                 hold(&mut self.cells, spot.place, held);
@@ -334,7 +374,13 @@ impl Store {
     }
 
     /// Makes an object at the end, where there is room.
-    pub fn make_object<S: Starts>(&mut self, layout: u32, delegate: Option<ObjId>, what: What, starts: &S) -> ObjId
+    pub fn make_object<S: Starts>(
+        &mut self,
+        layout: u32,
+        delegate: Option<ObjId>,
+        what: What,
+        starts: &S,
+    ) -> ObjId
         requires room { HasRoomFor self.old 1 (length (S.values starts.now)) }
         ensures number { result.0 ≡ length self.old.objects }
         ensures heap { self.new ≡ with_made (S.values starts.now) layout delegate what self.old }
@@ -413,12 +459,24 @@ impl Store {
         ensures number { result.0 ≡ length self.old.objects }
         ensures heap { self.new ≡ with_array [] layout delegate self.old }
     {
-        let o = add_object(&mut self.heads, &self.cells, layout, delegate, stored(What::Array));
+        let o = add_object(
+            &mut self.heads,
+            &self.cells,
+            layout,
+            delegate,
+            stored(What::Array),
+        );
         ObjId(o)
     }
 
     /// Makes an object with its slots.
-    pub fn new_object<S: Starts>(&mut self, layout: u32, delegate: Option<ObjId>, what: What, starts: &S) -> Result<ObjId, Full>
+    pub fn new_object<S: Starts>(
+        &mut self,
+        layout: u32,
+        delegate: Option<ObjId>,
+        what: What,
+        starts: &S,
+    ) -> Result<ObjId, Full>
         ensures { MatchResult result (λ o. IsMade self.old self.new o (S.values starts.now) layout delegate what) (λ e. IsFullOf self.old self.new 1 (length (S.values starts.now)) e) }
     {
         let count = starts.count();
@@ -428,7 +486,16 @@ impl Store {
 
     /// Makes an unbound function, which keeps scopes above the saved one.
     #[tactic(auto, using(crate::proofs::Steps::used_scopes))]
-    pub fn new_function<S: Starts>(&mut self, layout: u32, method: u32, home: u32, delegate: Option<ObjId>, saved: Option<ScopeId>, scopes: &[ScopeEntry], starts: &S) -> Result<ObjId, Full>
+    pub fn new_function<S: Starts>(
+        &mut self,
+        layout: u32,
+        method: u32,
+        home: u32,
+        delegate: Option<ObjId>,
+        saved: Option<ScopeId>,
+        scopes: &[ScopeEntry],
+        starts: &S,
+    ) -> Result<ObjId, Full>
         requires few { length scopes.now < 2 ^ 32 }
         ensures { MatchResult result (λ o. IsFunctionMade self.old self.new o (S.values starts.now) layout method home delegate saved scopes.now) (λ e. IsFullOf self.old self.new 1 (length (S.values starts.now) + length scopes.now) e) }
     {
@@ -446,16 +513,31 @@ impl Store {
 
     /// Makes a class object and its prototype object, which its first slot holds. The class keeps scopes above the saved
     /// one for its static methods, and itself above these for its instances.
-    pub fn new_class<P: Starts, C: Starts>(&mut self, parts: ClassParts, saved: Option<ScopeId>, scopes: &[ScopeEntry], prototype_starts: &P, class_starts: &C) -> Result<ObjId, Full>
+    pub fn new_class<P: Starts, C: Starts>(
+        &mut self,
+        parts: ClassParts,
+        saved: Option<ScopeId>,
+        scopes: &[ScopeEntry],
+        prototype_starts: &P,
+        class_starts: &C,
+    ) -> Result<ObjId, Full>
         requires class { parts.class < length self.old.classes }
         requires prototype { 0 < length (C.values class_starts.now) }
         requires few { length scopes.now < 2 ^ 32 }
         ensures { MatchResult result (λ o. IsClassMade self.old self.new o (P.values prototype_starts.now) (C.values class_starts.now) parts saved scopes.now) (λ e. IsFullOf self.old self.new 2 (length (P.values prototype_starts.now) + length (C.values class_starts.now) + length scopes.now + 1) e) }
     {
         let _limit = self.limits.objects;
-        let cells = u64::from(prototype_starts.count()) + u64::from(class_starts.count()) + scopes.len() as u64 + 1;
+        let cells = u64::from(prototype_starts.count())
+            + u64::from(class_starts.count())
+            + scopes.len() as u64
+            + 1;
         self.room(2, cells)?;
-        let prototype = self.make_object(parts.prototype_layout, parts.base_prototype, What::Plain, prototype_starts);
+        let prototype = self.make_object(
+            parts.prototype_layout,
+            parts.base_prototype,
+            What::Plain,
+            prototype_starts,
+        );
         let statics = self.keep_scopes(saved, scopes);
         let object = ObjId(prototype.0 + 1);
         let own = ScopeEntry {
@@ -476,7 +558,12 @@ impl Store {
     }
 
     /// Makes an array of some values.
-    pub fn new_array(&mut self, layout: u32, delegate: Option<ObjId>, elements: &[Value]) -> Result<ObjId, Full>
+    pub fn new_array(
+        &mut self,
+        layout: u32,
+        delegate: Option<ObjId>,
+        elements: &[Value],
+    ) -> Result<ObjId, Full>
         ensures { MatchResult result (λ o. IsArrayMade self.old self.new o elements.now layout delegate) (λ e. IsFullOf self.old self.new 1 (length elements.now) e) }
     {
         self.room(1, elements.len() as u64)?;
@@ -486,7 +573,12 @@ impl Store {
     }
 
     /// Makes an array of some elements that are undefined.
-    pub fn new_undefined(&mut self, layout: u32, delegate: Option<ObjId>, count: u32) -> Result<ObjId, Full>
+    pub fn new_undefined(
+        &mut self,
+        layout: u32,
+        delegate: Option<ObjId>,
+        count: u32,
+    ) -> Result<ObjId, Full>
         ensures { MatchResult result (λ o. IsArrayMade self.old self.new o (replicate count Undefined) layout delegate) (λ e. IsFullOf self.old self.new 1 count e) }
     {
         self.room(1, u64::from(count))?;

@@ -48,7 +48,12 @@ pub enum StoredWhat {
 }
 
 /// A closure, as it is kept.
-fn stored_closure(method: u32, home: u32, scope: Option<ScopeId>, bound: Option<ObjId>) -> StoredWhat
+fn stored_closure(
+    method: u32,
+    home: u32,
+    scope: Option<ScopeId>,
+    bound: Option<ObjId>,
+) -> StoredWhat
     ensures { what_in result ≡ Closure method home scope bound }
 {
     match (bound, scope) {

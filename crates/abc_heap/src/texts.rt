@@ -20,7 +20,12 @@ fn pool_bytes(pool: &Table<Bytes>, i: u32) -> &[u8]
 }
 
 /// A part, in which texts lie.
-pub fn part_bytes<'a>(fixed: &'a [u8], made: &'a [u8], pool: &'a Table<Bytes>, part: u32) -> &'a [u8]
+pub fn part_bytes<'a>(
+    fixed: &'a [u8],
+    made: &'a [u8],
+    pool: &'a Table<Bytes>,
+    part: u32,
+) -> &'a [u8]
     ensures { result.now ≡ part_of fixed.now made.now pool.now part }
 {
     if part == 0 {

@@ -1,9 +1,9 @@
-use Rattle.std.proofs.Common.{◌∙◌, refl, ap, sym, subst, arith, map, ◌++◌, ◌∷◌, [], ◌≡◌, length}
-use Rattle.std.proofs.lemmas.List.{map-append, length-map}
+use Rattle.std.proofs.Common.{refl, ap, arith}
+use Rattle.std.proofs.lemmas.List.{length-map}
 use Rattle.abc_cells.specs.Filling.{Filling}
 use Rattle.abc_cells.specs.declared.cell.Cell.{Cell}
 use Rattle.abc_cells.specs.Lanes.{lane_of}
-use Rattle.abc_cells.specs.Links.{link_of, links, AreLinked, IsLinked, IsChain}
+use Rattle.abc_cells.specs.Links.{link_of, links}
 use Rattle.abc_cells.proofs.Grows.{count_le, append_linked, append_chain}
 use Rattle.abc_cells.proofs.chain.append.Goals as goal
 

@@ -1,7 +1,5 @@
-use Rattle.std.proofs.Common.{◌∙◌, ap, sym}
+use Rattle.std.proofs.Common.{◌∙◌, ap}
 use Rattle.std.specs.Prelude.{slice_get, Some, ◌≡◌}
-use Rattle.abc_cells.specs.Filling.{Filling}
-use Rattle.abc_cells.specs.declared.cell.Cell.{Cell}
 use Rattle.abc_cells.proofs.Grows.{set_held}
 use Rattle.abc_cells.proofs.chain.hold.Goals as goal
 

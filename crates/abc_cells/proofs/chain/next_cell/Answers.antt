@@ -1,6 +1,5 @@
 use Rattle.std.proofs.Common.{refl, arith}
 use Rattle.abc_cells.specs.Lanes.{lane_of}
-use Rattle.abc_cells.specs.Links.{links}
 use Rattle.abc_cells.proofs.Grows.{next_linked, next_jump}
 use Rattle.abc_cells.proofs.chain.next_cell.Goals as goal
 

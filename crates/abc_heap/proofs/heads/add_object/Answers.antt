@@ -1,9 +1,8 @@
-use Rattle.std.proofs.Common.{◌≡◌, ◌∙◌, ap, refl, sym, subst, length, ◌++◌, ◌∷◌, []}
+use Rattle.std.proofs.Common.{◌∙◌, ap, refl, sym, subst}
 use Rattle.abc_cells.specs.Filling.{Filling}
 use Rattle.abc_cells.specs.Links.{links}
 use Rattle.abc_heap.specs.declared.heads.Head.{Head}
 use Rattle.abc_heap.specs.View.{objects, AreHeads}
-use Rattle.abc_heap.specs.Spots.{IsFilling}
 use Rattle.abc_heap.proofs.Makes.{object_added, head_added, filling_begins}
 use Rattle.abc_heap.proofs.heads.add_object.Goals as goal
 

@@ -15,11 +15,15 @@ loop-k-preserved g c =
     let was = c.loop-k.invariant in
     let before = objects c.args.cells.now.items 0 c.args.heads.now.items in
     let next : suc c.loop-k.k ≡ c.loop-k.k + 1 = omega arith in
-    let vs = g.S.Starts.values c.args.starts.now in
-    (made.heads, made.next, omega (arith, made.sizes.0, was.2), made.sizes.1 ∙ was.3
-    , made.objects
-      ∙ (ap (change (with_more_slots (c.start.result ∷ [])) c.args.o) was.4
-      ∙ (slots_on (take c.loop-k.k vs) (c.start.result ∷ []) c.args.o before
-      ∙ (ap (λ ws. change (with_more_slots ws) c.args.o before) (take_next vs c.loop-k.k c.start.result c.start.ensures)
-      ∙ ap (λ n. change (with_more_slots (take n vs)) c.args.o before) next)))
-    , omega arith)
+    let vs = g.S.Starts.values c.args.starts.now in (
+      made.heads,
+      made.next,
+      omega (arith, made.sizes.0, was.2),
+      made.sizes.1 ∙ was.3,
+      made.objects
+          ∙ (ap (change (with_more_slots (c.start.result ∷ [])) c.args.o) was.4
+          ∙ (slots_on (take c.loop-k.k vs) (c.start.result ∷ []) c.args.o before
+          ∙ (ap (λ ws. change (with_more_slots ws) c.args.o before) (take_next vs c.loop-k.k c.start.result c.start.ensures)
+          ∙ ap (λ n. change (with_more_slots (take n vs)) c.args.o before) next))),
+      omega arith,
+    )

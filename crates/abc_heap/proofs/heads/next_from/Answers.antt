@@ -1,4 +1,4 @@
-use Rattle.std.proofs.Common.{◌≡◌, ◌∙◌, ap, sym, arith, length}
+use Rattle.std.proofs.Common.{◌∙◌, ap, sym, arith}
 use Rattle.std.specs.Prelude.{is_some}
 use Rattle.abc_heap.specs.Heap.{properties_of}
 use Rattle.abc_heap.specs.View.{objects}

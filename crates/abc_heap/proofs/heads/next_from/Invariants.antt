@@ -1,4 +1,4 @@
-use Rattle.std.proofs.Common.{◌≡◌, drop}
+use Rattle.std.proofs.Common.{◌≡◌}
 use Rattle.abc_heap.specs.Properties.{next_filled}
 use Rattle.abc_heap.specs.Heap.{properties_of}
 use Rattle.abc_heap.specs.View.{objects}

@@ -1,5 +1,4 @@
 use Rattle.std.proofs.Common.{sym, ◌∙◌, ◌-◌}
-use Rattle.abc_cells.specs.declared.cell.Lane.TheVariants.{Properties}
 use Rattle.abc_heap.specs.Texts.{text_in}
 use Rattle.abc_heap.proofs.Searches.{search_start, search_name, search_found, search_on}
 use Rattle.abc_heap.proofs.search.place_of_name.Goals as goal

@@ -11,12 +11,14 @@ pub invariant_of-self : goal.invariant_of-self
 invariant_of-self c =
     let s = sizes_are _ c.args.self.now c.self.inside.cells.items c.self.inside.heads.items c.self.view_is refl c.self.invariant.0 in
     let l = c.self.invariant.1 in
-    let sizes = c.add_element.ensures.sizes in
-    (c.add_element.ensures.heads, record {
-      objects = sizes.heads_limit ∙ l.objects;
-      cells = sizes.cells_limit ∙ l.cells;
-      scopes = l.scopes;
-      text = l.text;
-      within = omega (arith, s, c.requires.room, sizes.cells);
-      small = l.small;
-    })
+    let sizes = c.add_element.ensures.sizes in (
+      c.add_element.ensures.heads,
+      record {
+        objects = sizes.heads_limit ∙ l.objects;
+        cells = sizes.cells_limit ∙ l.cells;
+        scopes = l.scopes;
+        text = l.text;
+        within = omega (arith, s, c.requires.room, sizes.cells);
+        small = l.small;
+      },
+    )

@@ -1,4 +1,4 @@
-use Rattle.std.proofs.Common.{◌≡◌, ◌+◌, ap, sym, arith, take, length}
+use Rattle.std.proofs.Common.{◌+◌, ap, sym, arith, take, length}
 use Rattle.std.proofs.lemmas.List.{length-take}
 use Rattle.abc_heap.proofs.Bytes.{take_next_or}
 use Rattle.abc_heap.proofs.Arrays.{element_fits, element_added_on, no_elements}

@@ -1,8 +1,7 @@
-use Rattle.std.proofs.Common.{◌≡◌, ◌∙◌, ◌+◌, ◌<◌, ap, sym, arith, length}
+use Rattle.std.proofs.Common.{◌+◌, ap, sym, arith}
 use Rattle.std.specs.Prelude.{replicate}
 use Rattle.std.proofs.lemmas.List.{replicate_more, length-replicate}
 use Rattle.abc_cells.specs.declared.values.Value.TheVariants.{Undefined}
-use Rattle.abc_heap.specs.Heap.{Heap}
 use Rattle.abc_heap.proofs.Arrays.{element_fits, element_added_on, no_elements}
 use Rattle.abc_heap.proofs.store.Store.add_undefined.Goals as goal
 

@@ -1,4 +1,4 @@
-use Rattle.std.proofs.Common.{◌∙◌, refl, sym, arith, ◌≡◌, length, ◌+◌}
+use Rattle.std.proofs.Common.{◌∙◌, sym, arith, ◌≡◌, length, ◌+◌}
 use Rattle.abc_heap.specs.Heap.{all_cells}
 use Rattle.abc_heap.specs.View.{objects}
 use Rattle.abc_heap.proofs.Flat.{length_objects}

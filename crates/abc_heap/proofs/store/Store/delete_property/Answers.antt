@@ -6,7 +6,6 @@ use Rattle.abc_cells.specs.declared.cell.Lane.TheVariants.{Properties}
 use Rattle.abc_heap.specs.Heap.{Heap}
 use Rattle.abc_heap.specs.Texts.{text_in, text_of}
 use Rattle.abc_heap.specs.Properties.{with_delete, place_in}
-use Rattle.abc_heap.specs.Changes.{with_object}
 use Rattle.abc_heap.specs.View.{objects}
 use Rattle.abc_heap.proofs.Calls.{deleted, not_deleted, object_in, changed_by}
 use Rattle.abc_heap.proofs.Writes.{hold_keeps, inside}
@@ -22,7 +21,7 @@ returns-in-Some-clause-heap c =
     let f = text_in c.self.inside.fixed c.self.inside.made.items c.args.pool.now in
     let b = object_in cells heads c.args.self.now c.args.o.0 (ap (λ (h : Heap). h.objects) c.self.view_is) c.requires.inside in
     changed_by _ c.args.self.now _ (λ h. with_delete (text_of c.args.pool.now h) (text_of c.args.pool.now h c.args.name)) c.args.o.0 c.self.view_is
-      (ap (λ (x : Filling Cell). objects x.items 0 heads) c.hold.ensures ∙ deleted cells heads c.args.o.0 f (f c.args.name) c.in-Some.spot Deleted c.self.invariant.0 b c.in-Some.ensures refl refl)
+    (ap (λ (x : Filling Cell). objects x.items 0 heads) c.hold.ensures ∙ deleted cells heads c.args.o.0 f (f c.args.name) c.in-Some.spot Deleted c.self.invariant.0 b c.in-Some.ensures refl refl)
 
 pub returns-in-None-clause-heap : goal.returns-in-None-clause-heap
 returns-in-None-clause-heap c =

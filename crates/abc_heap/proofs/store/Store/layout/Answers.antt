@@ -1,4 +1,4 @@
-use Rattle.std.proofs.Common.{◌∙◌, ap, refl, sym}
+use Rattle.std.proofs.Common.{ap, refl, sym}
 use Rattle.abc_heap.specs.Heap.{Heap, Object}
 use Rattle.abc_heap.proofs.Calls.{object_in, object_seen}
 use Rattle.abc_heap.proofs.store.Store.layout.Goals as goal

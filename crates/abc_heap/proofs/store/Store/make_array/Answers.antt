@@ -1,5 +1,5 @@
-use Rattle.std.proofs.Common.{◌≡◌, ◌∙◌, ap, refl, sym, arith, ◌+◌, length, ◌++◌, ◌∷◌, []}
-use Rattle.abc_heap.specs.Heap.{Heap, Object}
+use Rattle.std.proofs.Common.{◌∙◌, ap, refl, sym, arith, length, ◌++◌, ◌∷◌, []}
+use Rattle.abc_heap.specs.Heap.{Heap}
 use Rattle.abc_heap.specs.Changes.{bare}
 use Rattle.abc_heap.specs.View.{objects}
 use Rattle.abc_heap.proofs.Flat.{length_objects}
@@ -14,15 +14,17 @@ add_object-o-requires-clause-room c =
 
 pub invariant_of-self : goal.invariant_of-self
 invariant_of-self c =
-    let l = c.self.invariant.1 in
-    (c.add_object-o.ensures.heads, record {
-      objects = c.add_object-o.ensures.sizes.1 ∙ l.objects;
-      cells = l.cells;
-      scopes = l.scopes;
-      text = l.text;
-      within = l.within;
-      small = l.small;
-    })
+    let l = c.self.invariant.1 in (
+      c.add_object-o.ensures.heads,
+      record {
+        objects = c.add_object-o.ensures.sizes.1 ∙ l.objects;
+        cells = l.cells;
+        scopes = l.scopes;
+        text = l.text;
+        within = l.within;
+        small = l.small;
+      },
+    )
 
 pub returns : goal.returns
 returns c =

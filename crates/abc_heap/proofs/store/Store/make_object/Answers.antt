@@ -1,4 +1,4 @@
-use Rattle.std.proofs.Common.{◌≡◌, ◌∙◌, ap, refl, sym, subst, arith, ◌+◌, length, ◌++◌, ◌∷◌, []}
+use Rattle.std.proofs.Common.{◌∙◌, ap, refl, sym, arith, length, ◌++◌, ◌∷◌, []}
 use Rattle.abc_heap.specs.View.{objects}
 use Rattle.abc_heap.specs.Heap.{Heap}
 use Rattle.abc_heap.specs.Changes.{bare}
@@ -20,15 +20,17 @@ fill_slots-requires-clause-room g c =
 pub invariant_of-self : goal.invariant_of-self
 invariant_of-self g c =
     let s = sizes_are _ c.args.self.now c.self.inside.cells.items c.self.inside.heads.items c.self.view_is refl c.self.invariant.0 in
-    let l = c.self.invariant.1 in
-    (c.fill_slots.ensures.heads, record {
-      objects = c.add_object-o.ensures.sizes.1 ∙ l.objects;
-      cells = c.fill_slots.ensures.sizes.1 ∙ l.cells;
-      scopes = l.scopes;
-      text = l.text;
-      within = omega (arith, s, c.requires.room, c.fill_slots.ensures.sizes);
-      small = l.small;
-    })
+    let l = c.self.invariant.1 in (
+      c.fill_slots.ensures.heads,
+      record {
+        objects = c.add_object-o.ensures.sizes.1 ∙ l.objects;
+        cells = c.fill_slots.ensures.sizes.1 ∙ l.cells;
+        scopes = l.scopes;
+        text = l.text;
+        within = omega (arith, s, c.requires.room, c.fill_slots.ensures.sizes);
+        small = l.small;
+      },
+    )
 
 pub returns : goal.returns
 returns g c =

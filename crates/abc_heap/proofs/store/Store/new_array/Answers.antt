@@ -1,7 +1,4 @@
-use Rattle.std.proofs.Common.{◌≡◌, ◌∙◌, arith}
-use Rattle.std.specs.Prelude.{replicate}
-use Rattle.std.proofs.lemmas.List.{length-replicate}
-use Rattle.abc_cells.specs.declared.values.Value.TheVariants.{Undefined}
+use Rattle.std.proofs.Common.{arith}
 use Rattle.abc_heap.proofs.Arrays.{array_begun, array_filled}
 use Rattle.abc_heap.proofs.store.Store.new_array.Goals as goal
 
@@ -13,7 +10,7 @@ add_elements-requires-clause-room c = (array_begun c.args.self.now _ _ _ _ _ c.i
 
 pub returns : goal.returns
 returns c = record {
-    number = c.make_array-o.ensures.number;
-    room = (omega (arith, c.in_ok-room.ensures), omega (arith, c.in_ok-room.ensures));
-    heap = array_filled c.args.self.now _ _ c.args.elements.now _ _ _ c.make_array-o.ensures.number c.make_array-o.ensures.heap c.add_elements.ensures;
-  }
+  number = c.make_array-o.ensures.number;
+  room = (omega (arith, c.in_ok-room.ensures), omega (arith, c.in_ok-room.ensures));
+  heap = array_filled c.args.self.now _ _ c.args.elements.now _ _ _ c.make_array-o.ensures.number c.make_array-o.ensures.heap c.add_elements.ensures;
+}

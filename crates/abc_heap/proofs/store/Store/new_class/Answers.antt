@@ -1,5 +1,5 @@
 use Rattle.std.specs.Prelude.{false, ◌+◌, ◌∷◌, []}
-use Rattle.std.proofs.Common.{arith, ◌∙◌, refl, ap, ◌≡◌, length}
+use Rattle.std.proofs.Common.{arith, ◌∙◌, ap, ◌≡◌, length}
 use Rattle.abc_heap.specs.Heap.{Heap, obj_id}
 use Rattle.abc_heap.proofs.Steps.{made_counted, scopes_counted, made_slot, class_made}
 use Rattle.abc_heap.proofs.store.Store.new_class.Goals as goal
@@ -31,7 +31,7 @@ set_slot-requires g c = made_slot _ _ _ _ _ _ c.make_object-o.result.0 c.make_ob
 pub name_class-requires : goal.name_class-requires
 name_class-requires g c =
     let n : length c.set_slot.new.self.classes ≡ length c.args.self.now.classes =
-      ap (λ (h : Heap). length h.classes) c.set_slot.ensures ∙ (ap (λ (h : Heap). length h.classes) c.make_object-o.ensures.heap ∙ (ap (λ (h : Heap). length h.classes) c.keep_above-instances.ensures.heap ∙ (ap (λ (h : Heap). length h.classes) c.keep_scopes-statics.ensures.heap ∙ ap (λ (h : Heap). length h.classes) c.make_object-prototype.ensures.heap))) in
+    ap (λ (h : Heap). length h.classes) c.set_slot.ensures ∙ (ap (λ (h : Heap). length h.classes) c.make_object-o.ensures.heap ∙ (ap (λ (h : Heap). length h.classes) c.keep_above-instances.ensures.heap ∙ (ap (λ (h : Heap). length h.classes) c.keep_scopes-statics.ensures.heap ∙ ap (λ (h : Heap). length h.classes) c.make_object-prototype.ensures.heap))) in
     omega (arith, n, c.requires.class)
 
 pub returns : goal.returns

@@ -1,4 +1,4 @@
-use Rattle.std.proofs.Common.{◌≡◌, ◌∙◌, arith}
+use Rattle.std.proofs.Common.{arith}
 use Rattle.std.specs.Prelude.{replicate}
 use Rattle.std.proofs.lemmas.List.{length-replicate}
 use Rattle.abc_cells.specs.declared.values.Value.TheVariants.{Undefined}
@@ -15,7 +15,7 @@ add_undefined-requires-clause-room c =
 
 pub returns : goal.returns
 returns c = record {
-    number = c.make_array-o.ensures.number;
-    room = (omega (arith, c.in_ok-room.ensures), omega (arith, c.in_ok-room.ensures, length-replicate c.args.count Undefined));
-    heap = array_filled c.args.self.now _ _ (replicate c.args.count Undefined) _ _ _ c.make_array-o.ensures.number c.make_array-o.ensures.heap c.add_undefined.ensures;
-  }
+  number = c.make_array-o.ensures.number;
+  room = (omega (arith, c.in_ok-room.ensures), omega (arith, c.in_ok-room.ensures, length-replicate c.args.count Undefined));
+  heap = array_filled c.args.self.now _ _ (replicate c.args.count Undefined) _ _ _ c.make_array-o.ensures.number c.make_array-o.ensures.heap c.add_undefined.ensures;
+}
