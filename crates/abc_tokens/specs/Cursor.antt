@@ -1,0 +1,46 @@
+-- The lines of a text, one after the other.
+use Rattle.std.specs.Prelude.{◌≡◌, ℕ, ◌≤◌, ◌<◌, ◌+◌, ◌^◌, ◌||◌, List, [], ◌∷◌, length, Some, None}
+use Rattle.std.specs.declared.option.Option.{Option}
+use Rattle.abc_text.specs.declared.word.Word.{Word}
+use Rattle.abc_text.specs.Scanning.{Between, scan}
+use Rattle.abc_lines.specs.Texts.{Raw, lines_in, raw_of as raw_of_scan, raws_from, token_name, token_word}
+use Rattle.abc_tokens.specs.declared.line.Line.{Line}
+use Rattle.abc_tokens.specs.declared.token.Token.{Token}
+use Rattle.abc_tokens.specs.Walks.{token_of}
+
+abbrev pub head_word : Token → Word
+head_word token = token_word (token_of token)
+
+abbrev pub head_name : Token → List ℕ
+head_name token = token_name (token_of token)
+
+-- the line as the definitions have it
+abbrev pub raw_of : Line → Raw
+raw_of line = record {
+  number = line.number;
+  broken = line.broken || (scan line.tail.now Between).broken;
+  word = line.word;
+  name = line.name.now;
+  operands = (scan line.tail.now Between).tokens;
+}
+
+-- the lines after it
+abbrev pub raws_after : Line → List Raw
+raws_after line = raws_from (line.number + 1) (lines_in line.rest.now)
+
+-- how much of a text is left behind the line, with the number of the next line
+abbrev pub left_after : Line → ℕ
+left_after line = line.number + 1 + length line.rest.now
+
+-- the numbers of all lines that follow are 32 bits wide
+abbrev pub IsNumbered : Line → Type 0
+IsNumbered line = left_after line ≤ 2 ^ 32
+
+-- the bytes begin with a line, and the others follow it, at any number
+abbrev pub Splits : List ℕ → List ℕ → List ℕ → Type 0
+Splits text line others = (number : ℕ) → raws_from number (lines_in text) ≡ raw_of_scan number (scan line Between) (raws_from (number + 1) (lines_in others))
+
+-- Of some lines this is the first, and the others come after it; or there are none.
+abbrev pub Comes : List Raw → ℕ → Option Line → Type 0
+Comes raws left None = raws ≡ []
+Comes raws left (Some line) = (raws ≡ raw_of line ∷ raws_after line) × (left_after line ≤ left) × (length line.rest.now < left)
