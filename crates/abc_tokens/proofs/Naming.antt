@@ -1,5 +1,5 @@
 -- Names and the colon behind them.
-use Rattle.std.proofs.Common.{◌≡◌, ℕ, zero, suc, ◌-◌, ◌<◌, Bool, true, false, ◌&&◌, ◌||◌, nat_eq, List, [], ◌∷◌, ◌++◌, length, take, drop, get_or, Some, None, refl, sym, ap, ◌∙◌, arith, cond}
+use Rattle.std.proofs.Common.{◌≡◌, ℕ, zero, suc, ◌-◌, ◌<◌, true, false, ◌&&◌, ◌||◌, nat_eq, List, [], ◌∷◌, length, take, drop, get_or, Some, None, refl, ap, arith}
 use Rattle.std.specs.List.{list_all}
 use Rattle.abc_rowparts.specs.Operands.{is_digit, is_letter, is_name}
 use Rattle.abc_lines.specs.Texts.{before_colon, before_colon_more}

@@ -1,6 +1,6 @@
 -- Going over a quoted text.
 use Rattle.std.proofs.Common.{◌≡◌, ℕ, zero, suc, ◌+◌, ◌<◌, ◌≤◌, ◌⊎◌, inl, inr, Bool, true, false, ◌&&◌, nat_eq, List, [], ◌∷◌, ◌++◌, length, take, drop, get_or, refl, sym, ap, subst, ◌∙◌, append-nil, append_assoc, arith}
-use Rattle.std.proofs.lemmas.List.{take-append-drop, take_all, drop_all}
+use Rattle.std.proofs.lemmas.List.{take-append-drop, take_all}
 use Rattle.abc_text.specs.Tokens.{Quoted, IsQuoted, backslash, hex_pair, is_hex, quote}
 use Rattle.abc_text.specs.Scanning.{Between, InQuote, also, scan, scanned}
 use Rattle.abc_text.proofs.Bools.{and_true, split_bool}

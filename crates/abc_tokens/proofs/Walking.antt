@@ -1,11 +1,11 @@
 -- Going over blanks and runs.
-use Rattle.std.proofs.Common.{◌≡◌, ℕ, zero, suc, ◌+◌, ◌-◌, ◌<◌, ◌≤◌, Bool, true, false, nat_eq, List, [], ◌∷◌, ◌++◌, length, take, drop, get_or, ◌==◌, rules, refl, sym, ap, subst, ◌∙◌, add-one, arith}
+use Rattle.std.proofs.Common.{◌≡◌, ℕ, zero, suc, ◌+◌, ◌-◌, ◌<◌, true, false, nat_eq, List, [], ◌∷◌, ◌++◌, length, take, drop, get_or, ◌==◌, rules, refl, sym, ap, subst, ◌∙◌, add-one, arith}
 use Rattle.std.proofs.Math.Seq.{drop-cons, take-suc}
 use Rattle.std.proofs.lemmas.List.{length-drop, take-append-drop, take_all}
 use Rattle.std.proofs.lemmas.Bool.Decides.{nat_tests}
 use Rattle.std.specs.List.{AllByRecursion}
-use Rattle.abc_text.specs.Tokens.{Bare, EndsRun, IsRun, is_blank, is_run_byte, quote, semicolon}
-use Rattle.abc_text.specs.Scanning.{Between, InQuote, also, scan, scanned}
+use Rattle.abc_text.specs.Tokens.{Bare, EndsRun, is_blank, is_run_byte, quote, semicolon}
+use Rattle.abc_text.specs.Scanning.{Between, also, scan, scanned}
 use Rattle.abc_text.proofs.Scans.{blank_read, eq_is, run_read}
 use Rattle.abc_tokens.specs.Walks.{BeginsRun, BeginsToken}
 

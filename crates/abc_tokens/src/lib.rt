@@ -9,16 +9,17 @@ mod names;
 mod next;
 mod noting;
 mod quoted;
+#[cfg(test)]
+mod tests;
 mod token;
 mod vocabulary;
 
+pub use bytes::is_hex;
 pub use kinds::find_kind;
 pub use line::{Line, next_line};
-pub use names::{is_name, name_before_colon};
-pub use names::is_digit;
+pub use names::{is_digit, is_name, name_before_colon};
 pub use next::put_tokens;
 pub use noting::note;
-pub use bytes::is_hex;
 pub use quoted::{hex_pair, unquoted};
 pub use token::Token;
 pub use vocabulary::Vocabulary;

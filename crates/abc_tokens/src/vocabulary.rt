@@ -3,8 +3,8 @@ ghost use Rattle.abc_rowparts.specs.Wordlines.{lookup};
 ghost use Rattle.abc_lines.specs.Texts.{before_colon, if_name, line_words, or_else};
 ghost use Rattle.abc_tokens.specs.Names.{KnowsOpcodes};
 
-use crate::names::{is_name, name_before_colon};
 use crate::kinds::find_kind;
+use crate::names::{is_name, name_before_colon};
 use crate::noting::note;
 use abc_base::NoMemory;
 use abc_tables::mnemonic;

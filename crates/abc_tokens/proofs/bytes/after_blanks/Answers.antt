@@ -1,4 +1,4 @@
-use Rattle.std.proofs.Common.{◌≡◌, true, get_or, sym, ◌∙◌}
+use Rattle.std.proofs.Common.{◌≡◌, true, get_or, ◌∙◌}
 use Rattle.abc_text.specs.Tokens.{is_blank}
 use Rattle.abc_tokens.proofs.Walking.{blank_step}
 use Rattle.abc_tokens.proofs.bytes.after_blanks.Goals as goal

@@ -1,4 +1,4 @@
-use Rattle.std.proofs.Common.{◌≡◌, ℕ, ◌+◌, ◌-◌, ◌<◌, ◌≤◌, ◌^◌, true, false, List, [], ◌∷◌, ◌++◌, ◌&&◌, ◌||◌, nat_eq, length, map, take, drop, get_or}
+use Rattle.std.proofs.Common.{◌≡◌, drop}
 use Rattle.abc_text.specs.Scanning.{Between, scan}
 use Rattle.abc_tokens.proofs.bytes.after_blanks.Given as goal
 

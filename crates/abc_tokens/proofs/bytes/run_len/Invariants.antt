@@ -1,4 +1,4 @@
-use Rattle.std.proofs.Common.{◌≡◌, ℕ, ◌+◌, ◌-◌, ◌<◌, ◌≤◌, ◌^◌, true, false, List, [], ◌∷◌, ◌++◌, ◌&&◌, ◌||◌, nat_eq, length, map, take, drop, get_or}
+use Rattle.std.proofs.Common.{◌≡◌, true, take}
 use Rattle.std.specs.List.{AllByRecursion}
 use Rattle.abc_text.specs.Tokens.{is_run_byte}
 use Rattle.abc_tokens.proofs.bytes.run_len.Given as goal

@@ -1,4 +1,4 @@
-use Rattle.std.proofs.Common.{◌≡◌, ℕ, ◌+◌, ◌-◌, ◌<◌, ◌≤◌, ◌^◌, true, false, List, [], ◌∷◌, ◌++◌, ◌&&◌, ◌||◌, nat_eq, length, map, take, drop, get_or}
+use Rattle.std.proofs.Common.{◌≡◌, map, drop}
 use Rattle.abc_rowparts.specs.Wordlines.{lookup}
 use Rattle.abc_tokens.specs.Names.{unpadded}
 use Rattle.abc_tokens.proofs.kinds.find_kind.Given as goal

@@ -1,4 +1,4 @@
-use Rattle.std.proofs.Common.{◌≡◌, ◌≤◌, length, arith}
+use Rattle.std.proofs.Common.{arith}
 use Rattle.abc_tokens.proofs.Dividing.{lines_begin, splits_end}
 use Rattle.abc_tokens.proofs.line.split_line.Goals as goal
 

@@ -1,4 +1,4 @@
-use Rattle.std.proofs.Common.{◌≡◌, ℕ, ◌+◌, ◌-◌, ◌<◌, ◌≤◌, ◌^◌, true, false, List, [], ◌∷◌, ◌++◌, ◌&&◌, ◌||◌, nat_eq, length, map, take, drop, get_or}
+use Rattle.std.proofs.Common.{◌≡◌, take, drop}
 use Rattle.abc_lines.specs.Texts.{lines_in}
 use Rattle.abc_tokens.proofs.Dividing.{led}
 use Rattle.abc_tokens.proofs.line.split_line.Given as goal

@@ -1,4 +1,4 @@
-use Rattle.std.proofs.Common.{◌≡◌, ◌+◌, ◌<◌, List, ℕ, length, drop, take, ap, sym, ◌∙◌, arith}
+use Rattle.std.proofs.Common.{◌+◌, List, ℕ, take, ap, sym, ◌∙◌, arith}
 use Rattle.abc_text.specs.Scanning.{Between, also, scan}
 use Rattle.abc_text.specs.Tokens.{Quoted}
 use Rattle.abc_text.proofs.Scans.{quote_begins}

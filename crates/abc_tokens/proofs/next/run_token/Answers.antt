@@ -1,4 +1,4 @@
-use Rattle.std.proofs.Common.{◌≡◌, ◌<◌, List, ℕ, length, drop, take, ap, sym, subst, ◌∙◌, arith}
+use Rattle.std.proofs.Common.{List, ℕ, take, ap, sym, ◌∙◌, arith}
 use Rattle.abc_text.specs.Scanning.{Between, also, scan}
 use Rattle.abc_text.specs.Tokens.{Bare}
 use Rattle.abc_tokens.proofs.Walking.{run_found, shorter, tail_is, tail_short}

@@ -1,5 +1,5 @@
 -- The text so far.
-use Rattle.std.proofs.Common.{◌≡◌, ◌<◌, ◌≤◌, ◌+◌, ◌++◌, ◌∷◌, [], ℕ, List, true, false, length, drop, get_or, sym, ap, ◌∙◌, append-nil, arith}
+use Rattle.std.proofs.Common.{◌≡◌, ◌+◌, ◌++◌, ◌∷◌, [], ℕ, List, true, false, drop, sym, ap, ◌∙◌, append-nil, arith}
 use Rattle.std.proofs.lemmas.List.{drop_all, length-drop}
 use Rattle.abc_tokens.specs.Walks.{begins_escape, meant}
 use Rattle.abc_tokens.proofs.Quoting.{escape_hex, made_escape, made_plain, meant_empty, within_escape}

@@ -1,5 +1,5 @@
 -- One more opcode.
-use Rattle.std.proofs.Common.{◌≡◌, ◌+◌, ◌-◌, ◌<◌, ℕ, List, sym, ap, ◌∙◌, arith}
+use Rattle.std.proofs.Common.{◌+◌, ◌-◌, ℕ, List, sym, ap, ◌∙◌}
 use Rattle.std.specs.Borrow.{Bor}
 use Rattle.std.specs.Map.{lookup}
 use Rattle.abc_tokens.specs.Names.{NameMap, either_of, found, is_named, opcode_from}
@@ -16,7 +16,7 @@ loop-op-preserved c =
     elim c.match-mnemonic.branch [
       | in-Some+in_ok-note-in-Some w ↦ λ name.
           ap (λ (m : NameMap ℕ). either_of (found m name) (opcode_from (256 - (op + 1)) (op + 1) name)) w.opcodes-is
-          ∙ opcode_named op name w.in-Some.name.now (found c.loop-op.opcodes name) (found w.opcodes name) c.loop-op-test.true (sym w.in-Some.ensures) (w.in_ok-note.ensures name)
+          ∙ opcode_named op name w.in-Some.name.now (found c.loop-op.opcodes name) (found {V = ℕ} w.note.new.values name) c.loop-op-test.true (sym w.in-Some.ensures) (w.in_ok-note-in-Some.ensures name)
           ∙ c.loop-op.invariant name
       | in-None w ↦ λ name.
           ap (λ (m : NameMap ℕ). either_of (found m name) (opcode_from (256 - (op + 1)) (op + 1) name)) w.opcodes-is

@@ -1,4 +1,4 @@
-use Rattle.std.proofs.Common.{◌≡◌, ℕ, ◌+◌, ◌-◌, ◌<◌, ◌≤◌, ◌^◌, true, false, List, [], ◌∷◌, ◌++◌, ◌&&◌, ◌||◌, nat_eq, length, map, take, drop, get_or}
+use Rattle.std.proofs.Common.{◌≡◌, ℕ, ◌-◌, List}
 use Rattle.abc_tables.specs.Opcodes.{named}
 use Rattle.abc_tokens.specs.Names.{either_of, found, opcode_from, opcode_in}
 use Rattle.abc_tokens.proofs.vocabulary.opcodes_by_name.Given as goal
