@@ -1,6 +1,5 @@
 -- Two values that are read one after the other, with the first of their faults.
-use Rattle.std.specs.Prelude.{nat_le, Ok, Err, Some, None, List, [], if◌then◌else◌}
-use Rattle.std.specs.declared.option.Option.{Option}
+use Rattle.std.specs.Prelude.{nat_le, Ok, Err, List, if◌then◌else◌}
 use Rattle.std.specs.declared.result.Result.{Result}
 use Rattle.abc_text.specs.declared.reason.AsmReason.{AsmReason}
 use Rattle.abc_text.specs.Reasons.{least, rank}

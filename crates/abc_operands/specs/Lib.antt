@@ -1,3 +1,5 @@
 pub mod Answers
-pub mod Joined
 pub mod Heads
+pub mod Joined
+pub mod Places
+pub mod Signed

@@ -1,46 +1,46 @@
-ghost use Rattle.std.specs.Prelude.{◌≡◌, ◌∷◌, [], length, MatchResult};
-ghost use Rattle.abc_text.specs.declared.reason.AsmReason.TheVariants as reasons;
+//! The tokens of a line that has so many.
+ghost use Rattle.std.specs.Prelude.{◌≡◌, ◌∷◌, [], length, MatchOption};
 
-use abc_text::AsmReason;
 use abc_tokens::Token;
 
-/// That there is no token.
-pub fn no_token(tokens: &[Token<'_>]) -> Result<(), AsmReason> {
-    if tokens.is_empty() {
-        Ok(())
-    } else {
-        Err(AsmReason::Operands)
-    }
-}
-
 /// The only token.
-pub fn one_token<'a>(tokens: &[Token<'a>]) -> Result<Token<'a>, AsmReason>
-    ensures { MatchResult result (λ t. tokens.now ≡ t ∷ []) (λ r. (r ≡ reasons.Operands) × ¬ (length tokens.now ≡ 1)) }
+pub fn one_token<'a>(tokens: &[Token<'a>]) -> Option<Token<'a>>
+    ensures { MatchOption result (¬ (length tokens.now ≡ 1)) (λ t. tokens.now ≡ t ∷ []) }
 {
     if tokens.len() != 1 {
-        return Err(AsmReason::Operands);
+        return None;
     }
-    Ok(tokens[0])
+    Some(tokens[0])
 }
 
 /// Two tokens, which are all.
-pub fn two_tokens<'a>(tokens: &[Token<'a>]) -> Result<(Token<'a>, Token<'a>), AsmReason>
-    ensures { MatchResult result (λ t. tokens.now ≡ t.0 ∷ t.1 ∷ []) (λ r. (r ≡ reasons.Operands) × ¬ (length tokens.now ≡ 2)) }
+pub fn two_tokens<'a>(tokens: &[Token<'a>]) -> Option<(Token<'a>, Token<'a>)>
+    ensures { MatchOption result (¬ (length tokens.now ≡ 2)) (λ t. tokens.now ≡ t.0 ∷ t.1 ∷ []) }
 {
     if tokens.len() != 2 {
-        return Err(AsmReason::Operands);
+        return None;
     }
-    Ok((tokens[0], tokens[1]))
+    Some((tokens[0], tokens[1]))
 }
 
 /// Three tokens, which are all.
-pub fn three_tokens<'a>(
-    tokens: &[Token<'a>],
-) -> Result<(Token<'a>, Token<'a>, Token<'a>), AsmReason>
-    ensures { MatchResult result (λ t. tokens.now ≡ t.0 ∷ t.1 ∷ t.2 ∷ []) (λ r. (r ≡ reasons.Operands) × ¬ (length tokens.now ≡ 3)) }
+pub fn three_tokens<'a>(tokens: &[Token<'a>]) -> Option<(Token<'a>, Token<'a>, Token<'a>)>
+    ensures { MatchOption result (¬ (length tokens.now ≡ 3)) (λ t. tokens.now ≡ t.0 ∷ t.1 ∷ t.2 ∷ []) }
 {
     if tokens.len() != 3 {
-        return Err(AsmReason::Operands);
+        return None;
     }
-    Ok((tokens[0], tokens[1], tokens[2]))
+    Some((tokens[0], tokens[1], tokens[2]))
+}
+
+/// Five tokens, which are all.
+pub fn five_tokens<'a>(
+    tokens: &[Token<'a>],
+) -> Option<(Token<'a>, Token<'a>, Token<'a>, Token<'a>, Token<'a>)>
+    ensures { MatchOption result (¬ (length tokens.now ≡ 5)) (λ t. tokens.now ≡ t.0 ∷ t.1 ∷ t.2 ∷ t.3 ∷ t.4 ∷ []) }
+{
+    if tokens.len() != 5 {
+        return None;
+    }
+    Some((tokens[0], tokens[1], tokens[2], tokens[3], tokens[4]))
 }

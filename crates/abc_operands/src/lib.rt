@@ -4,23 +4,24 @@
 
 mod counts;
 mod error;
-mod instructions;
+mod handlers;
 mod kinds;
 mod lines;
 mod numbers;
 mod pools;
+mod signed;
 mod together;
-mod traits;
 
+pub use counts::{five_tokens, one_token, three_tokens, two_tokens};
 pub use error::LineError;
-pub use instructions::{catch_line, instruction_line};
+pub use handlers::{catch_line, target};
+pub use kinds::{multiname_kind, space_kind, trait_kind, value_kind};
 pub use lines::{
-    BodyHead, InstanceHead, MethodHead, body_line, entry_line, flags_of, implements_line, instance_line,
+    BodyHead, InstanceHead, MethodHead, body_line, entry_line, implements_line, instance_line,
     method_index_line, method_line, number_line, param_line, protected_line, string_index_line,
-    trait_metadata_line, version_line,
+    trait_metadata_line,
 };
-pub use pools::{
-    double_line, int_line, name_line, namespace_line, option_line, set_line, string_line, uint_line,
-};
-pub use together::two;
-pub use traits::{TraitHead, attrs_of, trait_line};
+pub use numbers::{byte, entry_upto, index_below, index_upto, number_below, u30};
+pub use pools::{int_line, namespace_line, option_line, string_line, uint_line};
+pub use signed::signed_within;
+pub use together::{earlier, two};

@@ -1,10 +1,10 @@
-ghost use Rattle.std.specs.Prelude.{◌≡◌, ◌^◌, ◌≤◌, ◌≤ℤ◌, negsuc, pos, [], min, MatchOption, true, false};
+ghost use Rattle.std.specs.Prelude.{◌≡◌, ◌^◌, ◌≤◌, [], min, MatchOption, true, false};
 ghost use Rattle.abc_rowparts.specs.Operands.{is_numeral, number_of};
 ghost use Rattle.abc_rowparts.specs.Operands as operands;
 ghost use Rattle.abc_tokens.specs.Walks.{token_of};
 
 use abc_text::AsmReason;
-use abc_tokens::{Token, is_digit};
+use abc_tokens::Token;
 
 /// No number from here on is in the range of a field.
 const TOO_GREAT: u64 = 1 << 40;
@@ -94,47 +94,5 @@ pub fn index_below(token: Token<'_>, size: u32) -> Result<u32, AsmReason>
         Ok(index) if index < size => Ok(index),
         Ok(_) => Err(AsmReason::Index),
         Err(reason) => Err(reason),
-    }
-}
-
-/// That number, and no other.
-pub fn exactly(token: Token<'_>, number: u64) -> Result<(), AsmReason> {
-    let Token::Bare(word) = token else {
-        return Err(AsmReason::Number);
-    };
-    match numeral(word) {
-        Some(found) if found == number => Ok(()),
-        Some(_) => Err(AsmReason::Range),
-        None => Err(AsmReason::Number),
-    }
-}
-
-/// A number from a least one to a greatest one, with `-` where it is below 0.
-pub fn signed_between(token: Token<'_>, low: i64, high: i64) -> Result<i64, AsmReason>
-    requires low { negsuc (2 ^ 31) ≤ℤ low }
-    requires high { high ≤ℤ pos (2 ^ 31) }
-    ensures { result ≡ (operands.signed_between low high).reads [] (token_of token.entry) }
-{
-    let Token::Bare(word) = token else {
-        return Err(AsmReason::Number);
-    };
-    match signed(word) {
-        Some(number) if low <= number && number <= high => Ok(number),
-        Some(_) => Err(AsmReason::Range),
-        None => Err(AsmReason::Number),
-    }
-}
-
-/// The number that a numeral stands for, which a `-` may make less than 0, within 2^40 of 0; `-0` is none.
-fn signed(word: &[u8]) -> Option<i64> {
-    if word.is_empty() || word[0] != b'-' {
-        return match numeral(word) {
-            Some(number) => Some(number as i64),
-            None => None,
-        };
-    }
-    match numeral(&word[1..]) {
-        Some(number) if number > 0 => Some(-(number as i64)),
-        _ => None,
     }
 }

@@ -20,7 +20,7 @@ pub fn two<A: Copy, B: Copy>(
 }
 
 /// The first of a reason and of that which a value has, if it has one.
-fn earlier<B: Copy>(reason: AsmReason, other: Result<B, AsmReason>) -> AsmReason
+pub fn earlier<B: Copy>(reason: AsmReason, other: Result<B, AsmReason>) -> AsmReason
     ensures { result ≡ earlier_of reason other }
 {
     match other {

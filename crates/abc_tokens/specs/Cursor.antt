@@ -40,7 +40,23 @@ IsNumbered line = left_after line ≤ 2 ^ 32
 abbrev pub Splits : List ℕ → List ℕ → List ℕ → Type 0
 Splits text line others = (number : ℕ) → raws_from number (lines_in text) ≡ raw_of_scan number (scan line Between) (raws_from (number + 1) (lines_in others))
 
--- Of some lines this is the first, and the others come after it; or there are none.
-abbrev pub Comes : List Raw → ℕ → Option Line → Type 0
-Comes raws left None = raws ≡ []
-Comes raws left (Some line) = (raws ≡ raw_of line ∷ raws_after line) × (left_after line ≤ left) × (length line.rest.now < left)
+-- Of the lines of some bytes, so many, this is the first with tokens, and the others come after it; or there are none. The first line's number is given.
+abbrev pub Comes : List Raw → ℕ → ℕ → Option Line → Type 0
+Comes raws number count None = raws ≡ []
+Comes raws number count (Some line) = (raws ≡ raw_of line ∷ raws_after line) × (left_after line ≤ number + count) × (length line.rest.now < count)
+
+-- ---- the next line, if there is one
+
+-- the lines from it on
+abbrev pub raws_at : Option Line → List Raw
+raws_at None = []
+raws_at (Some line) = raw_of line ∷ raws_after line
+
+-- how many lines there may be from it on
+abbrev pub most_lines : Option Line → ℕ
+most_lines None = 0
+most_lines (Some line) = 1 + length line.rest.now
+
+abbrev pub AreNumbered : Option Line → Type 0
+AreNumbered None = Unit {0}
+AreNumbered (Some line) = IsNumbered line

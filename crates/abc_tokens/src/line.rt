@@ -30,7 +30,7 @@ impl<'a> Line<'a> {
     /// The next line with tokens.
     pub fn after(&self, vocabulary: &Vocabulary) -> Option<Line<'a>>
         requires { IsNumbered self.now }
-        ensures { Comes (raws_after self.now) (self.now.number + 1 + length self.now.rest.now) result }
+        ensures { Comes (raws_after self.now) (self.now.number + 1) (length self.now.rest.now) result }
     {
         next_line(vocabulary, self.rest, u64::from(self.number) + 1)
     }
@@ -75,7 +75,7 @@ fn word_of(vocabulary: &Vocabulary, token: &Token<'_>) -> Word
 /// The next line with tokens of what is left of a text, of which the first line has this number.
 pub fn next_line<'a>(vocabulary: &Vocabulary, text: &'a [u8], number: u64) -> Option<Line<'a>>
     requires { number + length text.now ≤ 2 ^ 32 }
-    ensures { Comes (raws_from number (lines_in text.now)) (number + length text.now) result }
+    ensures { Comes (raws_from number (lines_in text.now)) number (length text.now) result }
 {
     let mut rest = text;
     let mut number = number;

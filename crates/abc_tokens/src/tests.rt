@@ -13,6 +13,9 @@ fn a_line_is_found_behind_a_comment(rt: HostRuntime) -> Result<(), Fail> {
     assert!(rt; !put_tokens(line.tail, &mut tokens)?);
     assert_eq!(rt; tokens.len(), 2);
     assert!(rt; next_line(&vocabulary, line.rest, 3).is_none());
-    assert_eq!(rt; unquoted(rt.alloc(), b"a\\42")?.as_slice(), b"aB".as_slice());
+    assert_eq!(rt;
+        unquoted(rt.alloc(), b"a\\42")?.as_slice(),
+        b"aB".as_slice()
+    );
     Ok(())
 }

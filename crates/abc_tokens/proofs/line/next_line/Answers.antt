@@ -12,7 +12,7 @@ returns-in-Broken c =
     let short = c.split_line.ensures.short in (
       c.loop-rest.invariant.same ∙ c.split_line.ensures.lines number ∙ broken_comes number (scan c.split_line.result.0.now Between) more c.in-Broken.ensures,
       omega (arith, short, c.loop-rest.invariant.bound),
-      omega (arith, short, c.loop-rest.invariant.bound),
+      omega (arith, short, c.loop-rest.invariant.short),
     )
 
 pub returns : goal.returns

@@ -6,6 +6,7 @@ abbrev pub invariant-loop-rest : goal.invariant-loop-rest
 invariant-loop-rest l = record {
   same : raws_from l.initial.number (lines_in l.initial.rest) ≡ raws_from l.number (lines_in l.rest);
   bound : l.number + length l.rest ≤ l.initial.number + length l.initial.rest;
+  short : length l.rest ≤ length l.initial.rest;
 }
 
 abbrev pub decreases-loop-rest : goal.decreases-loop-rest
