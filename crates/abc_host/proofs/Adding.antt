@@ -1,5 +1,5 @@
 -- A formula that may stand behind others keeps them such as a host may have.
-use Rattle.std.proofs.Common.{◌≡◌, ◌+◌, ◌<◌, List, [], ◌∷◌, ◌++◌, length, get_or, map, if◌then◌else◌, is_ok, Ok, Err, inl, inr, sym, ap, subst, ◌∙◌, length-append, arith}
+use Rattle.std.proofs.Common.{◌≡◌, ◌+◌, List, [], ◌∷◌, ◌++◌, length, get_or, map, if◌then◌else◌, is_ok, Ok, Err, inl, inr, sym, ap, subst, ◌∙◌, length-append, arith}
 use Rattle.std.specs.declared.result.Result.{Result}
 use Rattle.std.proofs.lemmas.List.{map-append}
 use Rattle.std.proofs.Math.ListN.{get_or-append}

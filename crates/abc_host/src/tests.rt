@@ -118,11 +118,12 @@ fn calls(rt: HostRuntime) -> Result<(), Fail> {
         c: 0,
         d: 0,
     };
+    assert_eq!(rt; table.count(), 2);
+    assert_eq!(rt; table.name(0), b"counted".as_slice());
     for id in 0..table.count() {
         assert_eq!(rt; table.params(id), 0);
         assert_eq!(rt; table.call(id, &args), Some(5));
     }
     assert_eq!(rt; counter.get(), 1);
-    assert_eq!(rt; table.name(0), b"counted".as_slice());
     Ok(())
 }

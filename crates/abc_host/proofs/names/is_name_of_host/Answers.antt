@@ -1,4 +1,4 @@
-use Rattle.std.proofs.Common.{◌≡◌, codes}
+use Rattle.std.proofs.Common.{codes}
 use Rattle.abc_base.specs.Names.{class_name}
 use Rattle.abc_base.specs.declared.names.HostClass.TheVariants as classes
 use Rattle.abc_host.specs.declared.names.TheConstants.{CLASSES}
