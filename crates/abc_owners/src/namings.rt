@@ -47,12 +47,12 @@ fn push_part(
     first: Owner,
     init: u32,
     other: Owner,
-    table: &[TraitInfo],
+    table: &Table<TraitInfo>,
 ) -> Result<(), NoMemory>
     ensures { OnOk result (list.new ≡ list.old ++ namings_of first init other table.now) }
 {
     push_naming(list, first, init)?;
-    push_table(list, other, table)
+    push_table(list, other, table.as_slice())
 }
 
 /// The methods that the instances of all classes name.
@@ -62,8 +62,7 @@ fn push_instances(list: &mut Table<Naming>, abc: &Abc, count: u32) -> Result<(),
 {
     for k in 0..count {
         let instance = abc.instances.get(k as usize);
-        let table = instance.traits.as_slice();
-        push_part(list, Owner::Iinit(k), instance.iinit, Owner::Instance(k), table)?;
+        push_part(list, Owner::Iinit(k), instance.iinit, Owner::Instance(k), &instance.traits)?;
     }
     Ok(())
 }
@@ -75,8 +74,7 @@ fn push_classes(list: &mut Table<Naming>, abc: &Abc, count: u32) -> Result<(), N
 {
     for k in 0..count {
         let class = abc.classes.get(k as usize);
-        let table = class.traits.as_slice();
-        push_part(list, Owner::ClassInit(k), class.cinit, Owner::Static(k), table)?;
+        push_part(list, Owner::ClassInit(k), class.cinit, Owner::Static(k), &class.traits)?;
     }
     Ok(())
 }
@@ -88,8 +86,7 @@ fn push_scripts(list: &mut Table<Naming>, abc: &Abc, count: u32) -> Result<(), N
 {
     for s in 0..count {
         let script = abc.scripts.get(s as usize);
-        let table = script.traits.as_slice();
-        push_part(list, Owner::ScriptInit(s), script.init, Owner::ScriptMethod(s), table)?;
+        push_part(list, Owner::ScriptInit(s), script.init, Owner::ScriptMethod(s), &script.traits)?;
     }
     Ok(())
 }

@@ -2,6 +2,7 @@
 use Rattle.std.proofs.Common.{◌≡◌, ℕ, ◌+◌, ◌<◌, List, [], ◌∷◌, ◌++◌, Some, None, length, refl, sym, ap, subst, ◌∙◌, arith, length-append}
 use Rattle.std.specs.declared.option.Option.{Option}
 use Rattle.std.specs.List.{flat_map}
+use Rattle.std.specs.Option.{IfSome}
 use Rattle.abc_base.specs.declared.names.HostClass.TheVariants as hosts
 use Rattle.abc_graph.specs.Ways.{IsFalling}
 use Rattle.abc_heirs.specs.Heirs.{AreHeirs, inherited}
@@ -67,3 +68,7 @@ slots_next l lists new x b own keys n h is_b is_own is_keys is = record {
 
     at : b ≡ base l (length lists)
     at = is_b ∙ ap (base l) (sym h.len)
+
+pub base_known : (l : LinkedFile) (lists : List (Listed SlotInfo)) (x : ℕ) (o : Option ℕ) → IsNumbering l.file l.parts → HasSlots l lists x → o ≡ base l x → IfSome o (λ b. b < length lists)
+base_known l lists x None n h e = tt
+base_known l lists x (Some b) n h e = base_low l x b (length lists) n h.len (sym e)
