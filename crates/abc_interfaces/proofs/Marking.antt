@@ -26,15 +26,21 @@ next_marked v marks old new n h e mark is = subst (λ (ns : List ℕ). ListsMark
     complete k lt m i (inl low) = Contains-append_left old (n ∷ []) k (h.complete k low m i)
     complete k lt m i (inr high) = let q : n ≡ k = omega arith in subst (λ j. Contains (old ++ n ∷ []) j) q (Contains-push old n)
 
--- a class that is not marked, or no interface
-pub next_unmarked : (v : Abc) (marks : List Bool) (nodes : List ℕ) (n : ℕ) → ListsMarked v marks nodes n → (get_or marks n false ≡ true → IsTrue (is_interface v n) → ⊥) → ListsMarked v marks nodes (n + 1)
-next_unmarked v marks nodes n h not = record { sound = h.sound; complete = λ k lt m i. go k lt m i (cases_lt k n) }
+-- one class more that is not listed
+skipped : (v : Abc) (marks : List Bool) (nodes : List ℕ) (n : ℕ) → ListsMarked v marks nodes n → (get_or marks n false ≡ true → IsTrue (is_interface v n) → ⊥) → ListsMarked v marks nodes (n + 1)
+skipped v marks nodes n h no = record { sound = h.sound; complete = λ k lt m i. go k lt m i (cases_lt k n) }
   where
     go : (k : ℕ) → k < n + 1 → get_or marks k false ≡ true → IsTrue (is_interface v k) → (k < n) ⊎ (n ≤ k) → Contains nodes k
     go k lt m i (inl low) = h.complete k low m i
     go k lt m i (inr high) =
         let q : k ≡ n = omega arith in
-        absurd (not (subst (λ j. get_or marks j false ≡ true) q m) (subst (λ j. IsTrue (is_interface v j)) q i))
+        absurd (no (subst (λ j. get_or marks j false ≡ true) q m) (subst (λ j. IsTrue (is_interface v j)) q i))
+
+pub next_unmarked : (v : Abc) (marks : List Bool) (nodes : List ℕ) (n : ℕ) → ListsMarked v marks nodes n → get_or marks n false ≡ false → ListsMarked v marks nodes (n + 1)
+next_unmarked v marks nodes n h e = skipped v marks nodes n h (λ m i. cc)
+
+pub next_class : (v : Abc) (marks : List Bool) (nodes : List ℕ) (n : ℕ) → ListsMarked v marks nodes n → is_interface v n ≡ false → ListsMarked v marks nodes (n + 1)
+next_class v marks nodes n h e = skipped v marks nodes n h (λ m i. cc)
 
 pub searched : (v : Abc) (g : List (List ℕ)) (k : ℕ) (marks marks2 : List Bool) (list given keys : List ℕ) → g ≡ class_graph v → IsReached g k marks → marks2 ≡ marks → ListsMarked v marks2 list (length marks2)
     → given ≡ list → AddsEach [] keys given (length given) → IsSetOf v k keys

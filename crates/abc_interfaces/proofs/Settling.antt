@@ -1,11 +1,15 @@
 -- Sets that are put there one after the other.
-use Rattle.std.proofs.Common.{◌≡◌, ◌≢◌, ℕ, zero, suc, ◌+◌, ◌<◌, ◌≤◌, ◌⊎◌, inl, inr, Bool, true, false, List, [], ◌∷◌, ◌++◌, Contains, Some, None, get_or, length, set, slice_get, refl, sym, ap, subst, ◌∙◌, arith, length-append, length-set}
+use Rattle.std.proofs.Common.{◌≡◌, ◌≢◌, ℕ, zero, suc, ◌+◌, ◌<◌, ◌≤◌, ◌⊎◌, inl, inr, Bool, true, false, List, [], ◌∷◌, ◌++◌, Contains, Some, None, eq-eqb, eqb-true, get_or, length, nat_eq, set, slice_get, refl, sym, ap, subst, ◌∙◌, arith, length-append, length-set}
 use Rattle.std.specs.declared.option.Option.{Option}
+use Rattle.std.specs.List.{list_any}
+use Rattle.std.specs.Prelude.{◌↔◌, IsTrue}
 use Rattle.std.proofs.lemmas.Bool.{cases_lt}
 use Rattle.std.proofs.lemmas.List.{get_or_default}
 use Rattle.abc_program.specs.Interfaces.{class_graph}
 use Rattle.abc_tables.specs.declared.tables.Abc.{Abc}
-use Rattle.abc_interfaces.specs.Sets.{AreSets, AreUnset, HasSets, IsSetOf, ListsBelow, Set, Settles, SettlesEach, is_settled, is_there}
+use Rattle.abc_interfaces.specs.Sets.{AreSets, AreUnset, HasSets, IsAbove, IsSetOf, ListsBelow, Set, Settles, SettlesEach, is_settled, is_there, keys_at}
+use Rattle.abc_interfaces.proofs.Uniting.{known_set}
+use Rattle.abc_rules.proofs.Pairs.{any_found, any_makes}
 use Rattle.abc_interfaces.proofs.Graphs.{as_many}
 
 -- ---- one set
@@ -89,3 +93,16 @@ all_settled v g sets nodes is_g h l = record { are = h.are; all = all }
         let c = l.lists k low in
         let at : get_or nodes c.0 0 ≡ k = get_or_default nodes c.0 0 k c.1 ∙ c.2 in
         sym (ap (is_settled sets) at) ∙ h.each c.0 c.1 (omega (arith, at, low))
+
+-- what a set of a class has
+pub has_above : (v : Abc) (sets : List (Option Set)) (k i : ℕ) (b : Bool) → HasSets v sets → k < length v.instances → b ≡ list_any (nat_eq i) (keys_at sets k) → IsTrue b ↔ IsAbove v k i
+has_above v sets k i b h lt e = (
+  λ t. let f = any_found (nat_eq i) (keys_at sets k) 0 (sym e ∙ t) in
+  let q : i ≡ get_or (keys_at sets k) f.0 0 = eqb-true i (get_or (keys_at sets k) f.0 0) f.2 in
+  s.sound i (f.0, f.1, get_or_default (keys_at sets k) f.0 0 i f.1 ∙ sym q),
+  λ a. let c = s.complete i a in
+  e ∙ any_makes (nat_eq i) (keys_at sets k) i c.0 c.1 (eq-eqb i (get_or (keys_at sets k) c.0 i) (sym c.2)),
+)
+  where
+    s : IsSetOf v k (keys_at sets k)
+    s = known_set v sets k h.are (h.all k lt)

@@ -32,7 +32,7 @@ flat_contains f (z ∷ xs) zero x y lt e c = Contains-append_left (f z) (flat_ma
 flat_contains f (z ∷ xs) (suc i) x y lt e c = Contains-append_right (f z) (flat_map f xs) y (flat_contains f xs i x y (omega arith) e c)
 
 -- one of the lists that are there
-known_set : (v : Abc) (sets : List (Option Set)) (t : ℕ) → AreSets v sets → is_settled sets t ≡ true → IsSetOf v t (keys_at sets t)
+pub known_set : (v : Abc) (sets : List (Option Set)) (t : ℕ) → AreSets v sets → is_settled sets t ≡ true → IsSetOf v t (keys_at sets t)
 known_set v sets t a e = go (slice_get sets t) refl e
   where
     go : (o : Option (Option Set)) → slice_get sets t ≡ o → is_there o ≡ true → IsSetOf v t (keys_at sets t)

@@ -2,7 +2,7 @@ ghost use Rattle.std.specs.Prelude.{◌≡◌, ◌<◌, ◌↔◌, ◌^◌, leng
 ghost use Rattle.abc_interfaces.specs.Sets.{HasSets, IsAbove};
 
 use crate::graph::class_graph;
-use crate::sets::sets_of;
+use crate::sets::{has, sets_of};
 use crate::visits::visits;
 use abc_base::{NoMemory, Table};
 use abc_names::Meanings;
@@ -32,15 +32,13 @@ impl Interfaces {
     }
 
     /// Whether a class names an interface, itself, through its bases or through the interfaces' interfaces.
+    #[tactic(auto, using(crate::proofs::Settling::has_above))]
     pub fn implements(&self, abc: &Abc, class: u32, interface: u32) -> bool
         requires sets { HasSets abc.now self.now.sets }
         requires known { class < length abc.now.instances }
         ensures { IsTrue result ↔ IsAbove abc.now class interface }
     {
         let _file = abc;
-        match self.sets.find(class as usize) {
-            Some(Some(set)) => set.contains(&interface),
-            _ => false,
-        }
+        has(&self.sets, class, interface)
     }
 }

@@ -1,4 +1,4 @@
-ghost use Rattle.std.specs.Prelude.{◌≡◌, ◌++◌, ◌∷◌, ◌<◌, ◌^◌, [], false, if◌then◌else◌, length, not, IfOk, OnOk};
+ghost use Rattle.std.specs.Prelude.{◌≡◌, ◌++◌, ◌∷◌, ◌+◌, ◌<◌, ◌^◌, [], false, if◌then◌else◌, length, nat_eq, not, IfOk, OnOk};
 ghost use Rattle.std.specs.List.{flat_map, list_any};
 ghost use Rattle.abc_graph.specs.Graph.{IsGraph, targets};
 ghost use Rattle.abc_interfaces.specs.Sets.{AreSets, AreUnset, HasSets, IsSetOf, ListsBelow, ListsMarked, Settles, SettlesEach, given_by, is_settled as is_settled_in, keys_at as keys_in_sets};
@@ -95,17 +95,37 @@ fn given(
     Ok(list)
 }
 
+/// Adds a class, if it is marked and an interface.
+#[tactic(auto, using(crate::proofs::Marking::next_marked, crate::proofs::Marking::next_unmarked, crate::proofs::Marking::next_class))]
+fn push_marked(
+    list: &mut Vec<u32>,
+    abc: &Abc,
+    marks: &[bool],
+    class: u32,
+) -> Result<(), NoMemory>
+    requires within { class < length marks.now }
+    requires before { ListsMarked abc.now marks.now list.old.items class }
+    ensures { OnOk result (ListsMarked abc.now marks.now list.new.items (class + 1)) }
+{
+    if !marks[class as usize] {
+        return Ok(());
+    }
+    if !is_interface(abc, class) {
+        return Ok(());
+    }
+    list.push(class)?;
+    Ok(())
+}
+
 /// The interfaces among marked classes.
-#[tactic(auto, using(crate::proofs::Marking::none_marked, crate::proofs::Marking::next_marked, crate::proofs::Marking::next_unmarked))]
-fn marked(alloc: Global, abc: &Abc, marks: &[bool]) -> Result<Vec<u32>, NoMemory>
-    requires { length marks.now < 2 ^ 32 }
+#[tactic(auto, using(crate::proofs::Marking::none_marked))]
+fn marked(alloc: Global, abc: &Abc, marks: &[bool], count: u32) -> Result<Vec<u32>, NoMemory>
+    requires { count ≡ length marks.now }
     ensures { IfOk result (λ list. ListsMarked abc.now marks.now list.items (length marks.now)) }
 {
     let mut list = Vec::new(alloc);
-    for class in 0..marks.len() as u32 {
-        if marks[class as usize] && is_interface(abc, class) {
-            list.push(class)?;
-        }
+    for class in 0..count {
+        push_marked(&mut list, abc, marks, class)?;
     }
     Ok(list)
 }
@@ -143,7 +163,7 @@ fn searched(
     ensures { IfOk result (λ s. IsSetOf abc.now class s.keys) }
 {
     let marks = reached(alloc, graph, class)?;
-    let list = marked(alloc, abc, marks.as_slice())?;
+    let list = marked(alloc, abc, marks.as_slice(), graph.len() as u32)?;
     set_of(alloc, list.as_slice())
 }
 
@@ -254,4 +274,14 @@ pub(crate) fn sets_of(
 {
     let sets = settle_each(alloc, abc, graph, nodes)?;
     Ok(sets)
+}
+
+/// Whether the set of a class has a number.
+pub(crate) fn has(sets: &Table<Option<IndexSet<u32>>>, class: u32, number: u32) -> bool
+    ensures { result ≡ list_any (nat_eq number) (keys_in_sets sets.now class) }
+{
+    match sets.find(class as usize) {
+        Some(Some(set)) => set.contains(&number),
+        _ => false,
+    }
 }

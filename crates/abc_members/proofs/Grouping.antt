@@ -1,5 +1,5 @@
 -- The traits of one layout more, by the texts of their names.
-use Rattle.std.proofs.Common.{◌≡◌, ℕ, zero, suc, ◌+◌, ◌-◌, ◌<◌, ◌≤◌, ◌⊎◌, inl, inr, List, [], ◌∷◌, ◌++◌, Some, None, get_or, length, map, nat_eq, slice_get, unwrap_or, refl, sym, ap, subst, ◌∙◌, arith, length-append}
+use Rattle.std.proofs.Common.{◌≡◌, ℕ, zero, suc, ◌+◌, ◌-◌, ◌<◌, ◌≤◌, ◌⊎◌, inl, inr, Bool, true, false, List, [], ◌∷◌, ◌++◌, Some, None, cond, eqb-true, get_or, length, map, nat_eq, slice_get, unwrap_or, refl, sym, ap, subst, ◌∙◌, arith, length-append}
 use Rattle.std.specs.declared.option.Option.{Option}
 use Rattle.std.specs.Option.{option_copied}
 use Rattle.std.specs.Str.{bytes_eq}
@@ -78,7 +78,11 @@ groups_next l t old new x ts m h is_ts g is = record {
 
 text_entry : (v : Abc) (i : ℕ) → get_or (texts_of v.strings) i [] ≡ text v i
 text_entry v zero = refl
-text_entry v (suc i) = let e : suc i - 1 ≡ i = omega arith in ap (λ m. get_or v.strings m []) (sym e)
+text_entry v (suc i) = sym (go (nat_eq (suc i) 0) refl)
+  where
+    go : (b : Bool) → nat_eq (suc i) 0 ≡ b → cond b [] (get_or v.strings (suc i - 1) []) ≡ get_or v.strings i []
+    go true e = let q = eqb-true (suc i) 0 e in absurd (omega arith)
+    go false e = let q : suc i - 1 ≡ i = omega arith in ap (λ m. get_or v.strings m []) q
 
 texts_are : (v : Abc) (ts : List TraitInfo) → names_of v.strings (trait_strings v ts) ≡ trait_texts v ts
 texts_are v [] = refl

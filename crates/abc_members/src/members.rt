@@ -24,7 +24,6 @@ pub struct Members {
 }
 
 /// Adds the own traits of the next layout.
-#[tactic(auto, using(crate::proofs::Grouping::groups_next))]
 fn push_group(
     alloc: Global,
     groups: &mut Table<IndexMap<u32, Table<u32>>>,
@@ -109,7 +108,8 @@ impl Members {
         requires known { layout < length layouts.now.parts }
         ensures { (t : List ℕ) → number_in self.now.texts t ≡ number → option_copied result ≡ own_traits_of (linked abc.now layouts.now) layout t }
     {
-        let _file = (abc, layouts);
+        let _file = abc;
+        let _layouts = layouts;
         let groups = self.group_of(layout);
         match number {
             Some(number) => groups.get(&number),

@@ -63,7 +63,6 @@ fn keys_of(
 
 /// The places of some traits by the numbers of the texts of their names. Of 2^32 traits or more there is never room for
 /// the places.
-#[tactic(auto, using(crate::proofs::Grouping::groups_texts))]
 pub(crate) fn group(
     alloc: Global,
     abc: &Abc,
