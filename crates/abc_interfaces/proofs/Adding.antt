@@ -18,7 +18,7 @@ one_same old x e =
     let q : x ≡ get_or old f.0 0 = eqb-true x (get_or old f.0 0) f.2 in
     record {
       keeps = λ y c. c;
-      each = λ j lt. let z : 0 ≡ j = omega arith in subst (λ (n : ℕ). Contains old (get_or (x ∷ []) n 0)) z (f.0, f.1, get_or_default old f.0 0 x f.1 ∙ sym q);
+      each = λ j lt. let z : 0 ≡ j = omega arith in subst (λ (n : ℕ). Contains old (get_or (x ∷ []) n 0)) z (f.0, f.1, get_or_default old f.0 x 0 f.1 ∙ sym q);
       only = λ y c. inl c;
     }
 
@@ -58,7 +58,7 @@ next_added first old new numbers x i a b lt e = record {
     of_numbers y c =
         let z : c.0 ≡ 0 = let h = c.1 in omega arith in
         let q : x ≡ y = sym (ap (λ n. get_or (x ∷ []) n y) z) ∙ c.2 in
-        (i, lt, get_or_default numbers i 0 y lt ∙ e ∙ q)
+        (i, lt, get_or_default numbers i y 0 lt ∙ e ∙ q)
 
     only : (y : ℕ) → Contains old y ⊎ Contains (x ∷ []) y → Contains first y ⊎ Contains numbers y
     only y (inl c) = a.only y c

@@ -68,7 +68,8 @@ fn make(alloc: Global, abc: &Abc, meanings: &Table<Option<Named>>) -> Result<Mad
     let owners = Owners::new(alloc, abc)?;
     let layouts = layouts_in(alloc, abc, meanings)?;
     let count = layouts.len() as u32;
-    let slots = slots_of(alloc, &Meanings::new(abc, meanings), &layouts, count)?;
+    let meant = Meanings::new(abc, meanings);
+    let slots = slots_of(alloc, &meant, &layouts, count)?;
     let members = Members::new(alloc, abc, &layouts, count)?;
     Ok(Made {
         owners,
