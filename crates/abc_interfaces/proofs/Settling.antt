@@ -98,10 +98,10 @@ all_settled v g sets nodes is_g h l = record { are = h.are; all = all }
 pub has_above : (v : Abc) (sets : List (Option Set)) (k i : ℕ) (b : Bool) → HasSets v sets → k < length v.instances → b ≡ list_any (nat_eq i) (keys_at sets k) → IsTrue b ↔ IsAbove v k i
 has_above v sets k i b h lt e = (
   λ t. let f = any_found (nat_eq i) (keys_at sets k) 0 (sym e ∙ t) in
-  let q : i ≡ get_or (keys_at sets k) f.0 0 = eqb-true i (get_or (keys_at sets k) f.0 0) f.2 in
-  s.sound i (f.0, f.1, get_or_default (keys_at sets k) f.0 i 0 f.1 ∙ sym q),
+      let q : i ≡ get_or (keys_at sets k) f.0 0 = eqb-true i (get_or (keys_at sets k) f.0 0) f.2 in
+      s.sound i (f.0, f.1, get_or_default (keys_at sets k) f.0 i 0 f.1 ∙ sym q),
   λ a. let c = s.complete i a in
-  e ∙ any_makes (nat_eq i) (keys_at sets k) i c.0 c.1 (eq-eqb i (get_or (keys_at sets k) c.0 i) (sym c.2)),
+      e ∙ any_makes (nat_eq i) (keys_at sets k) i c.0 c.1 (eq-eqb i (get_or (keys_at sets k) c.0 i) (sym c.2)),
 )
   where
     s : IsSetOf v k (keys_at sets k)

@@ -97,12 +97,7 @@ fn given(
 
 /// Adds a class, if it is marked and an interface.
 #[tactic(auto, using(crate::proofs::Marking::next_marked, crate::proofs::Marking::next_unmarked, crate::proofs::Marking::next_class))]
-fn push_marked(
-    list: &mut Vec<u32>,
-    abc: &Abc,
-    marks: &[bool],
-    class: u32,
-) -> Result<(), NoMemory>
+fn push_marked(list: &mut Vec<u32>, abc: &Abc, marks: &[bool], class: u32) -> Result<(), NoMemory>
     requires within { class < length marks.now }
     requires before { ListsMarked abc.now marks.now list.old.items class }
     ensures { OnOk result (ListsMarked abc.now marks.now list.new.items (class + 1)) }

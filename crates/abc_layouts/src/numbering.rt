@@ -79,12 +79,7 @@ fn push_globals(abc: &Abc, parts: &mut Table<Part>, count: u32) -> Result<(), No
 
 /// The catch objects of a body.
 #[tactic(auto, using(crate::proofs::Adding::each_none, crate::proofs::Adding::catch_next))]
-fn push_catches(
-    abc: &Abc,
-    parts: &mut Table<Part>,
-    body: u32,
-    count: u32,
-) -> Result<(), NoMemory>
+fn push_catches(abc: &Abc, parts: &mut Table<Part>, body: u32, count: u32) -> Result<(), NoMemory>
     requires body { body < length abc.now.bodies }
     requires count { count ≡ length (body_at abc.now body).handlers }
     ensures { OnOk result (AddsEach abc.now parts.old parts.new (λ k. Part.Catch body k) (length (body_at abc.now body).handlers)) }

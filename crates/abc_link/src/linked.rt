@@ -163,7 +163,9 @@ impl Linked {
         requires { IsLayout self.now layout }
         ensures { option_copied result ≡ own_traits_of self.now layout.0 text.now }
     {
-        self.made.members.own_traits(&self.abc, &self.made.layouts, layout.0, text)
+        self.made
+            .members
+            .own_traits(&self.abc, &self.made.layouts, layout.0, text)
     }
 }
 

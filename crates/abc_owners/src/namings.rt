@@ -28,11 +28,7 @@ fn push_trait(list: &mut Table<Naming>, owner: Owner, body: TraitBody) -> Result
 }
 
 /// Adds the methods that a table names.
-fn push_table(
-    list: &mut Table<Naming>,
-    owner: Owner,
-    table: &[TraitInfo],
-) -> Result<(), NoMemory>
+fn push_table(list: &mut Table<Naming>, owner: Owner, table: &[TraitInfo]) -> Result<(), NoMemory>
     ensures { OnOk result (list.new ≡ list.old ++ namings_among owner table.now) }
 {
     for info in table {
@@ -62,7 +58,13 @@ fn push_instances(list: &mut Table<Naming>, abc: &Abc, count: u32) -> Result<(),
 {
     for k in 0..count {
         let instance = abc.instances.get(k as usize);
-        push_part(list, Owner::Iinit(k), instance.iinit, Owner::Instance(k), &instance.traits)?;
+        push_part(
+            list,
+            Owner::Iinit(k),
+            instance.iinit,
+            Owner::Instance(k),
+            &instance.traits,
+        )?;
     }
     Ok(())
 }
@@ -74,7 +76,13 @@ fn push_classes(list: &mut Table<Naming>, abc: &Abc, count: u32) -> Result<(), N
 {
     for k in 0..count {
         let class = abc.classes.get(k as usize);
-        push_part(list, Owner::ClassInit(k), class.cinit, Owner::Static(k), &class.traits)?;
+        push_part(
+            list,
+            Owner::ClassInit(k),
+            class.cinit,
+            Owner::Static(k),
+            &class.traits,
+        )?;
     }
     Ok(())
 }
@@ -86,7 +94,13 @@ fn push_scripts(list: &mut Table<Naming>, abc: &Abc, count: u32) -> Result<(), N
 {
     for s in 0..count {
         let script = abc.scripts.get(s as usize);
-        push_part(list, Owner::ScriptInit(s), script.init, Owner::ScriptMethod(s), &script.traits)?;
+        push_part(
+            list,
+            Owner::ScriptInit(s),
+            script.init,
+            Owner::ScriptMethod(s),
+            &script.traits,
+        )?;
     }
     Ok(())
 }

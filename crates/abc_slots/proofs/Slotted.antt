@@ -54,7 +54,7 @@ pub slots_next : (l : LinkedFile) (lists new : List (Listed SlotInfo)) (x : ℕ)
 slots_next l lists new x b own keys n h is_b is_own is_keys is = record {
   len = ap length is ∙ length-append lists (joined (inherited lists b) list ∷ []) ∙ ap (λ m. m + 1) h.len;
   heirs = subst (λ (ls : List (Listed SlotInfo)). AreHeirs (base l) values numbers ls) (sym (is ∙ ap (λ (o : Option ℕ). lists ++ joined (inherited lists o) list ∷ []) at))
-  (heirs_next (base l) values numbers (falling l.file l.parts n) lists list h.heirs (is_own ∙ ap values (sym h.len)) (is_keys ∙ ap numbers (sym h.len)));
+      (heirs_next (base l) values numbers (falling l.file l.parts n) lists list h.heirs (is_own ∙ ap values (sym h.len)) (is_keys ∙ ap numbers (sym h.len)));
 }
   where
     list : Listed SlotInfo

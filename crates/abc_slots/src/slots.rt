@@ -178,7 +178,12 @@ fn own_slots(
 }
 
 /// The numbers of the own slots of a part; 0 is none.
-fn own_numbers(alloc: Global, meanings: &Meanings<'_>, layouts: &Layouts, part: Part) -> Result<Table<u32>, NoMemory>
+fn own_numbers(
+    alloc: Global,
+    meanings: &Meanings<'_>,
+    layouts: &Layouts,
+    part: Part,
+) -> Result<Table<u32>, NoMemory>
     ensures { IfOk result (λ t. t ≡ own_numbers_of (linked meanings.now.abc.now layouts.now) part) }
 {
     let _layouts = layouts;
