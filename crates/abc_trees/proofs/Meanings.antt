@@ -10,6 +10,7 @@ use Rattle.abc_trees.specs.declared.heads.Head.{Head}
 use Rattle.abc_trees.specs.declared.keys.Key.{Key}
 use Rattle.abc_trees.specs.Trees.{Tree, Leaf, Apply, head, Grows, Done, More, IsTree}
 use Rattle.abc_trees.specs.Classes.{leaf_key, apply_key, keys_eq, Means, MeansLeaf, MeansApply, class, HasTree, HasClass, AreClasses, AreDistinct, Extends, IsBuilt, IsClassOf}
+use Rattle.abc_trees.proofs.Efforts.{below_zero}
 use Rattle.abc_trees.proofs.Keyed.{insert_extends, insert_distinct, extends_then, none_distinct}
 
 -- ---- added keys leave what classes stand for
@@ -43,11 +44,8 @@ built_leaf heads graph x c h old keys classes distinct is at same = record {
     none : (k : ℕ) → k < 0 → ⊥
     none k l = omega arith
 
-drop_cons : (xs : List ℕ) (i : ℕ) → i < length xs → drop i xs ≡ get_or xs i 0 ∷ drop (i + 1) xs
-drop_cons [] i lt = absurd (nothing lt)
-  where
-    nothing : i < length [] → ⊥
-    nothing l = omega arith
+pub drop_cons : (xs : List ℕ) (i : ℕ) → i < length xs → drop i xs ≡ get_or xs i 0 ∷ drop (i + 1) xs
+drop_cons [] i lt = absurd (below_zero i lt)
 drop_cons (x ∷ xs) zero lt = refl
 drop_cons (x ∷ xs) (suc i) lt =
     let e : suc i + 1 ≡ suc (i + 1) = omega arith in
@@ -134,7 +132,7 @@ none_classed heads graph keys classes e = record {
     never : (x c : ℕ) → class classes x ≡ Some c → ⊥
     never x c h = let n : class classes x ≡ None = ap (λ cs. class cs x) e ∙ nothing x (length graph) in cc
       where
-        nothing : (x n : ℕ) → get_or (replicate n None) x None ≡ None
+        nothing : (x n : ℕ) → class (replicate n None) x ≡ None
         nothing x zero = refl
         nothing zero (suc n) = refl
         nothing (suc x) (suc n) = nothing x n

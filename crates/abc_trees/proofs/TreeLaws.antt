@@ -1,5 +1,5 @@
 -- Trees are equal exactly where their test says so; a node has one tree, a class stands for one, and a tree has one class.
-use Rattle.std.proofs.Common.{◌≡◌, ◌≢◌, ℕ, ◌⊎◌, inl, inr, List, [], ◌∷◌, ◌++◌, Bool, true, false, ◌&&◌, ◌||◌, nat_eq, eqb-true, eq-eqb, slice_get, Some, refl, sym, ap, subst, ◌∙◌, true≢false}
+use Rattle.std.proofs.Common.{◌≡◌, ◌≢◌, ℕ, ◌⊎◌, inl, inr, List, [], ◌∷◌, ◌++◌, Bool, true, false, ◌&&◌, ◌||◌, nat_eq, eqb-true, eq-eqb, slice_get, Some, refl, sym, ap, subst, ◌∙◌, true≢false, arith}
 use Rattle.std.specs.List.{list_any}
 use Rattle.abc_trees.specs.declared.heads.Head.{Head}
 use Rattle.abc_trees.specs.declared.keys.Key.{Key}
@@ -105,6 +105,9 @@ one_tree Done Done = refl
 one_tree {heads} {graph} {w = w} (More {xs = xs} {t = t} p g) (More q h) =
     one_tree g (subst (λ part. Grows heads graph xs (Apply t part) w) (sym (one_tree p q)) h)
 
+steps_apart : (k l : Key) → k ≡ l → k.step ≡ 0 → l.step ≡ 1 → ⊥
+steps_apart k l e a b = let f : k.step ≡ l.step = ap (λ k. k.step) e in omega arith
+
 pub one_meaning : {keys : List Key} {c : ℕ} {t u : Tree} → Means keys c t → Means keys c u → t ≡ u
 one_meaning (MeansLeaf {h = h} a) (MeansLeaf {h = k} b) =
     let e : Some (leaf_key h) ≡ Some (leaf_key k) = sym a ∙ b in
@@ -113,19 +116,11 @@ one_meaning (MeansLeaf {h = h} a) (MeansLeaf {h = k} b) =
 one_meaning (MeansLeaf {h = h} a) (MeansApply {tree = x} {part = y} b p q) =
     let e : Some (leaf_key h) ≡ Some (apply_key x y) = sym a ∙ b in
     let r : leaf_key h ≡ apply_key x y = cc in
-    let s : 0 ≡ 1 = ap (λ k. k.step) r in
-    absurd (zero_one s)
-  where
-    zero_one : 0 ≡ 1 → ⊥
-    zero_one s = omega s
+    absurd (steps_apart (leaf_key h) (apply_key x y) r refl refl)
 one_meaning (MeansApply {tree = x} {part = y} a p q) (MeansLeaf {h = h} b) =
     let e : Some (apply_key x y) ≡ Some (leaf_key h) = sym a ∙ b in
     let r : apply_key x y ≡ leaf_key h = cc in
-    let s : 1 ≡ 0 = ap (λ k. k.step) r in
-    absurd (one_zero s)
-  where
-    one_zero : 1 ≡ 0 → ⊥
-    one_zero s = omega s
+    absurd (steps_apart (leaf_key h) (apply_key x y) (sym r) refl refl)
 one_meaning {keys} {u = w} (MeansApply {tree = x} {part = y} {t = t} {u = u} a p q) (MeansApply {tree = x2} {part = y2} {t = t2} {u = u2} b p2 q2) =
     let e : Some (apply_key x y) ≡ Some (apply_key x2 y2) = sym a ∙ b in
     let r : apply_key x y ≡ apply_key x2 y2 = cc in

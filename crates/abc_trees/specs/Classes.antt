@@ -44,6 +44,10 @@ pub record AreClasses (heads : List Head) (graph : List (List ℕ)) (keys : List
   pub tree : (x c : ℕ) → class classes x ≡ Some c → HasTree heads graph keys x c
   pub closed : (x c : ℕ) → class classes x ≡ Some c → (k : ℕ) → k < length (targets graph x) → HasClass classes (get_or (targets graph x) k 0)
 
+-- no two nodes of a list have one class
+pub record AreApart (classes : List (Option ℕ)) (nodes : List ℕ) : Type 0 where
+  pub one : (i j c : ℕ) → i < length nodes → j < length nodes → class classes (get_or nodes i 0) ≡ Some c → class classes (get_or nodes j 0) ≡ Some c → i ≡ j
+
 -- ---- how keys are added
 
 -- no key stands at two places

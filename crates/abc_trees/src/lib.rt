@@ -5,6 +5,7 @@
 mod classes;
 mod heads;
 mod keys;
+mod marks;
 mod order;
 mod stack;
 mod visit;

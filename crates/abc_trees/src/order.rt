@@ -1,6 +1,9 @@
-ghost use Rattle.std.specs.Prelude.{◌≡◌, ◌<◌, ◌≤◌, ◌+◌, get_or, length, IsTrue, OnOk};
+ghost use Rattle.std.specs.Prelude.{◌≡◌, ◌<◌, ◌≤◌, ◌+◌, true, length, set, OnOk};
+ghost use Rattle.abc_graph.specs.Graph.{targets};
 ghost use Rattle.abc_trees.specs.Effort.{unmarked};
 
+use crate::classes::parts_of;
+use crate::marks::has_mark;
 use crate::stack::Stack;
 use abc_base::{NoMemory, Table};
 use std::alloc::Global;
@@ -39,33 +42,22 @@ impl Walk {
 
 impl Walk {
     /// Enters a node for the first time.
-    #[tactic(auto, using(crate::proofs::Efforts::entered, crate::proofs::Efforts::marked_length))]
     fn enter(&mut self, graph: &Table<Table<u32>>, node: u32) -> Result<(), NoMemory>
-        requires marks { length self.old.entered.items ≡ length graph.now }
         requires known { node < length graph.now }
-        requires fresh { get_or self.old.entered.items node true ≡ false }
-        ensures marks { OnOk result (length self.new.entered.items ≡ length graph.now) }
-        ensures less { OnOk result (unmarked graph.now self.new.entered.items + length self.new.todo ≤ unmarked graph.now self.old.entered.items + length self.old.todo) }
+        requires within { node < length self.old.entered.items }
+        ensures marks { OnOk result (self.new.entered.items ≡ set self.old.entered.items node true) }
+        ensures more { OnOk result (length self.new.todo ≡ length (targets graph.now node) + (length self.old.todo + 1)) }
     {
         self.entered[node as usize] = true;
         self.todo.push(Task {
             node,
             is_leaving: true,
         })?;
-        self.add_all(graph.get(node as usize))
-    }
-
-    /// Whether a node is one of the graph that was not entered.
-    fn is_fresh(&self, node: u32) -> bool
-        ensures { IsTrue result → (node < length self.now.entered.items) × (get_or self.now.entered.items node true ≡ false) }
-    {
-        match self.entered.get(node as usize) {
-            Some(entered) => !*entered,
-            None => false,
-        }
+        self.add_all(parts_of(graph, node))
     }
 
     /// Does what is to be done at a node.
+    #[tactic(auto, using(crate::proofs::Efforts::unmarked_within, crate::proofs::Efforts::marked_length))]
     fn step(&mut self, graph: &Table<Table<u32>>, task: Task) -> Result<(), NoMemory>
         requires marks { length self.old.entered.items ≡ length graph.now }
         ensures marks { OnOk result (length self.new.entered.items ≡ length graph.now) }
@@ -74,9 +66,10 @@ impl Walk {
         if task.is_leaving {
             return self.order.push(task.node);
         }
-        if self.is_fresh(task.node) {
-            return self.enter(graph, task.node);
+        if has_mark(&self.entered, task.node as usize) {
+            return Ok(());
         }
+        self.enter(graph, task.node)?;
         Ok(())
     }
 }

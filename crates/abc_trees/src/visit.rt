@@ -1,12 +1,13 @@
 ghost use Rattle.std.specs.Prelude.{◌≡◌, ◌<◌, ◌≤◌, ◌+◌, ◌∷◌, ◌++◌, [], List, false, true, get_or, length, set, IfOk, OnOk};
 ghost use Rattle.abc_graph.specs.Graph.{targets};
-ghost use Rattle.abc_trees.specs.Classes.{AllClassed, AreClasses, AreDistinct};
+ghost use Rattle.abc_trees.specs.Classes.{AllClassed, AreApart, AreClasses, AreDistinct};
 ghost use Rattle.abc_trees.specs.Effort.{unmarked};
 ghost use Rattle.abc_trees.specs.Trees.{Tree as TreeOf};
 ghost use Rattle.abc_trees.specs.Visits.{IsVisit, IsVisited};
 
 use crate::classes::{Classes, parts_of};
 use crate::heads::Head;
+use crate::marks::has_mark;
 use crate::stack::Stack;
 use abc_base::{NoMemory, Table};
 use std::alloc::Global;
@@ -36,17 +37,6 @@ impl Visit {
             self.todo.push(*nodes.get(i))?;
         }
         Ok(())
-    }
-}
-
-/// The mark at a place; past the end it counts as set.
-#[tactic(auto, using(crate::proofs::Visited::no_mark, crate::proofs::Visited::a_mark))]
-fn has_mark(marks: &[bool], place: usize) -> bool
-    ensures { result ≡ get_or marks.now place true }
-{
-    match marks.get(place) {
-        Some(mark) => *mark,
-        None => true,
     }
 }
 
@@ -95,7 +85,8 @@ impl Visit {
                 if has_mark(&self.opened, node as usize) {
                     return Ok(());
                 }
-                self.meet(graph, node, class)
+                self.meet(graph, node, class)?;
+                Ok(())
             }
             None => Ok(()),
         }
@@ -104,6 +95,7 @@ impl Visit {
 
 /// The nodes that are met when some nodes and all that they lead to are visited, depth first, each before those that it
 /// leads to. Of each class only the first is met.
+#[tactic(auto, using(crate::proofs::Visited::visit_ended, crate::proofs::Visited::visit_classed, crate::proofs::Visited::visit_apart))]
 pub fn visit_order(
     alloc: Global,
     heads: &Table<Head>,
@@ -114,7 +106,9 @@ pub fn visit_order(
     requires valid { AreClasses heads.now graph.now classes.now.keys.keys classes.now.classes }
     requires distinct { AreDistinct classes.now.keys.keys }
     requires roots { AllClassed classes.now.classes roots.now }
-    ensures { IfOk result (λ seen. IsVisited heads.now graph.now roots.now seen) }
+    ensures visited { IfOk result (λ seen. IsVisited heads.now graph.now roots.now seen) }
+    ensures classed { IfOk result (AllClassed classes.now.classes) }
+    ensures apart { IfOk result (AreApart classes.now.classes) }
 {
     let met = vec![in alloc; false; classes.keys.len()]?;
     let opened = vec![in alloc; false; graph.len()]?;

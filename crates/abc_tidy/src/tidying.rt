@@ -1,0 +1,113 @@
+ghost use Rattle.std.specs.Prelude.{◌≡◌, ◌<◌, ◌^◌, IfOk, MatchResult};
+ghost use Rattle.abc_refs.specs.Nodes.{counts_of, node_count};
+ghost use Rattle.abc_refs.specs.Refs.{file_refs};
+ghost use Rattle.abc_tidy.specs.declared.error.TidyRule.TheVariants as rules;
+ghost use Rattle.abc_tidy.specs.Rules.{HoldBefore, IsTidied, IsTidyError};
+ghost use Rattle.abc_tidy.specs.Visited.{IsTidiedValue};
+
+use crate::checks::{first_body, first_method};
+use crate::cycles::first_cyclic;
+use crate::entries::entries_of;
+use crate::error::{TidyError, TidyRule};
+use crate::numbering::{are_classed, numbers_of, roots_of};
+use crate::pools::new_pools;
+use abc_base::{NoMemory, Table};
+use abc_fits::fits;
+use abc_refs::{Counts, Numbers, Ref, refs_of, renumbered};
+use abc_tables::Abc;
+use abc_trees::{classes_of, likely_order, visit_order};
+use std::alloc::Global;
+
+/// The tidied value of a file.
+#[tactic(auto, using(crate::proofs::Tidied::as_many, crate::proofs::Tidied::tidied_value))]
+fn tidied_value(
+    alloc: Global,
+    abc: &Abc,
+    counts: Counts,
+    refs: &Table<Ref>,
+) -> Result<Abc, NoMemory>
+    requires refs { refs.now ≡ file_refs abc.now }
+    requires counts { counts ≡ counts_of abc.now }
+    requires few { node_count counts < 2 ^ 32 }
+    ensures { IfOk result (λ t. IsTidiedValue abc.now t) }
+{
+    let entries = entries_of(alloc, abc, &counts)?;
+    let roots = roots_of(alloc, &counts, refs)?;
+    let order = likely_order(alloc, &entries.graph, &roots)?;
+    let classes = classes_of(alloc, &entries.heads, &entries.graph, &order)?;
+    if !are_classed(&classes, &roots) {
+        return Err(NoMemory);
+    }
+    let seen = visit_order(alloc, &entries.heads, &entries.graph, &classes, &roots)?;
+    let all = numbers_of(alloc, abc, &counts, &entries, &classes, &seen)?;
+    let numbers = Numbers {
+        counts,
+        numbers: all,
+    };
+    let pools = new_pools(alloc, abc, &numbers, &seen)?;
+    renumbered(alloc, abc, &numbers, pools)
+}
+
+/// Tries the rules on the indices of a file.
+#[tactic(auto, using(crate::proofs::Tidied::refused_body, crate::proofs::Tidied::refused_method, crate::proofs::Tidied::refused_name, crate::proofs::Tidied::all_before))]
+fn check_indices(
+    alloc: Global,
+    abc: &Abc,
+    counts: &Counts,
+    refs: &Table<Ref>,
+) -> Result<(), TidyError>
+    requires refs { refs.now ≡ file_refs abc.now }
+    requires counts { counts.now ≡ counts_of abc.now }
+    requires few { node_count counts.now < 2 ^ 32 }
+    ensures { MatchResult result (λ _. HoldBefore abc.now rules.TooLarge) (IsTidyError abc.now) }
+{
+    let _counts = counts;
+    if let Some(index) = first_body(alloc, abc)? {
+        return Err(TidyError::Refused {
+            rule: TidyRule::Operand,
+            index,
+        });
+    }
+    if let Some(index) = first_method(abc)? {
+        return Err(TidyError::Refused {
+            rule: TidyRule::ParamName,
+            index,
+        });
+    }
+    if let Some(index) = first_cyclic(alloc, abc, refs)? {
+        return Err(TidyError::Refused {
+            rule: TidyRule::NameCycle,
+            index,
+        });
+    }
+    Ok(())
+}
+
+/// A file that means the same, without the entries of its pools that nothing names and those that are doubled, and with the
+/// others in the order of first use. A file whose pools have 2^32 entries finds no memory.
+///
+/// The visit goes over methods, metadata, instances, classes, scripts and bodies in file order, and over the fields of each
+/// in file order. An entry that is met gets the next number of its pool, before what it names. Index 0 stays 0.
+///
+/// It is `Refused` where a rule is broken, by the first of them and the least index: an operand of an instruction names an
+/// entry that is not there, a name of a parameter is above the strings, a name that is visited reaches itself, or the
+/// tidied file is not spelled by any bytes of at most 2^24.
+#[tactic(auto, using(crate::proofs::Tidied::done, crate::proofs::Tidied::too_large))]
+pub fn tidy(alloc: Global, abc: &Abc) -> Result<Abc, TidyError>
+    ensures { MatchResult result (IsTidied abc.now) (IsTidyError abc.now) }
+{
+    let counts = match Counts::of(abc) {
+        Some(counts) => counts,
+        None => return Err(TidyError::NoMemory),
+    };
+    let refs = refs_of(alloc, abc)?;
+    check_indices(alloc, abc, &counts, &refs)?;
+    let tidied = tidied_value(alloc, abc, counts, &refs)?;
+    if fits(&tidied) {
+        return Ok(tidied);
+    }
+    Err(TidyError::Refused {
+        rule: TidyRule::TooLarge,
+        index: 0,
+    })
+}
