@@ -32,47 +32,44 @@ rows_below n m [] e = tt
 rows_below n m (x ∷ xs) e = (All-from_recursion (λ y. y < m) (name_targets n x) (targets_below n m x e), rows_below n m xs e)
 
 pub names_are_graph : (v : Abc) (g : List (List ℕ)) → g ≡ name_graph v → IsGraph g
-names_are_graph v g e = subst IsGraph (sym e) (All-from_recursion (All (λ y. y < many)) (name_graph v) (
-    All-from_recursion (λ y. y < many) (names_among (length v.names) (name_indices (file_refs v))) (among_below (length v.names) many (name_indices (file_refs v)) count),
-    rows_below (length v.names) many v.names count))
-  where
-    many : ℕ
-    many = length (name_graph v)
-
-    count : many ≡ suc (length v.names)
-    unfolding many
-    count = ap suc (length-map v.names (name_targets (length v.names)))
+names_are_graph v g e =
+    let count : length (name_graph v) ≡ suc (length v.names) = ap suc (length-map v.names (name_targets (length v.names))) in
+    subst IsGraph (sym e) (All-from_recursion (All (λ y. y < length (name_graph v))) (name_graph v) (
+    All-from_recursion (λ y. y < length (name_graph v)) (names_among (length v.names) (name_indices (file_refs v))) (among_below (length v.names) (length (name_graph v)) (name_indices (file_refs v)) count),
+    rows_below (length v.names) (length (name_graph v)) v.names count))
 
 pub names_count : (v : Abc) (g : List (List ℕ)) → g ≡ name_graph v → length g ≡ length v.names + 1
 names_count v g e = let q : length g ≡ suc (length v.names) = ap length e ∙ ap suc (length-map v.names (name_targets (length v.names))) in omega arith
 
 -- ---- the rows that are kept
 
-pub kept_next : (marks : List Bool) (graph rows : List (List ℕ)) (n : ℕ) (r : List ℕ) → AreKeptBelow marks graph rows n → r ≡ row marks graph n → AreKeptBelow marks graph (rows ++ r ∷ []) (n + 1)
-kept_next marks graph rows n r s e = record {
+kept_next_one : (marks : List Bool) (graph rows : List (List ℕ)) (n : ℕ) (r : List ℕ) → AreKeptBelow marks graph rows n → r ≡ row marks graph n → AreKeptBelow marks graph (rows ++ r ∷ []) (n + 1)
+kept_next_one marks graph rows n r s e = record {
   len = many;
   rows_are = λ x lt. go x lt (cases_lt x n);
 }
   where
     many : length (rows ++ r ∷ []) ≡ n + 1
-    many = let l = s.len in grind (arith, length-append)
+    many = length-append rows (r ∷ []) ∙ ap (λ k. k + 1) s.len
 
     go : (x : ℕ) → x < n + 1 → (x < n) ⊎ (n ≤ x) → targets (rows ++ r ∷ []) x ≡ row marks graph x
     go x lt (inl h) = let within : x < length rows = let l = s.len in omega arith in get_or_append_left rows (r ∷ []) [] x within ∙ s.rows_are x h
     go x lt (inr h) =
         let q : x ≡ n = omega arith in
-        let l : n ≡ length rows = sym s.len in
-        ap (targets (rows ++ r ∷ [])) (q ∙ l) ∙ get_or_push rows r [] ∙ e ∙ ap (row marks graph) (sym q)
+        get_or_push rows r [] x (s.len ∙ sym q) ∙ e ∙ ap (row marks graph) (sym q)
 
-pub kept_none : (marks : List Bool) (graph : List (List ℕ)) → AreKeptBelow marks graph [] 0
-kept_none marks graph = record { len = refl; rows_are = λ x lt. absurd (no x lt) }
+pub kept_next : (marks : List Bool) (graph rows rows2 : List (List ℕ)) (n : ℕ) (r : List ℕ) → AreKeptBelow marks graph rows n → r ≡ row marks graph n → rows2 ≡ rows ++ r ∷ [] → AreKeptBelow marks graph rows2 (n + 1)
+kept_next marks graph rows rows2 n r s e is = subst (λ rs. AreKeptBelow marks graph rs (n + 1)) (sym is) (kept_next_one marks graph rows n r s e)
+
+pub kept_none : (marks : List Bool) (graph rows : List (List ℕ)) → rows ≡ [] → AreKeptBelow marks graph rows 0
+kept_none marks graph rows e = record { len = ap length e; rows_are = λ x lt. absurd (no x lt) }
   where
     no : (x : ℕ) → x < 0 → ⊥
     no x lt = omega arith
 
-pub kept_all : (marks : List Bool) (graph rows : List (List ℕ)) (n : ℕ) → AreKeptBelow marks graph rows n → n ≡ length graph → AreKept marks graph rows
-kept_all marks graph rows n s e = record {
-  len = s.len ∙ e;
+pub kept_all : (marks : List Bool) (graph rows : List (List ℕ)) (n : ℕ) → AreKeptBelow marks graph rows n → length graph ≤ n → n ≤ length graph → AreKept marks graph rows
+kept_all marks graph rows n s low high = record {
+  len = let l = s.len in omega arith;
   rows_are = λ x. go x (cases_lt x n);
 }
   where

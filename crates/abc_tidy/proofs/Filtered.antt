@@ -33,18 +33,18 @@ left_next n xs old new i x e lt at is =
 -- they are at most so many
 among : (n : ℕ) (xs : List ℕ) → AllByRecursion (λ y. y < suc n) (names_among n xs)
 among n [] = tt
-among n (x ∷ xs) = by (is_name n x) refl
+among n (x ∷ xs) = by (is_name n x) refl (among n xs)
   where
     and-right : (a b : Bool) → (a && b) ≡ true → b ≡ true
     and-right true b e = e
     and-right false b e = absurd (true≢false (sym e))
 
-    by : (b : Bool) → is_name n x ≡ b → AllByRecursion (λ y. y < suc n) (names_among n (x ∷ xs))
-    by true e =
+    by : (b : Bool) → is_name n x ≡ b → AllByRecursion (λ y. y < suc n) (names_among n xs) → AllByRecursion (λ y. y < suc n) (names_among n (x ∷ xs))
+    by true e rest =
         let l : x ≤ n = leb-true x n (and-right (not (nat_eq x 0)) (nat_le x n) e) in
         let m : x < suc n = omega arith in
-        subst (AllByRecursion (λ y. y < suc n)) (sym (ap (λ t. if t then x ∷ names_among n xs else names_among n xs) e)) (m, among n xs)
-    by false e = subst (AllByRecursion (λ y. y < suc n)) (sym (ap (λ t. if t then x ∷ names_among n xs else names_among n xs) e)) (among n xs)
+        subst (AllByRecursion (λ y. y < suc n)) (sym (ap (λ t. if t then x ∷ names_among n xs else names_among n xs) e)) (m, rest)
+    by false e rest = subst (AllByRecursion (λ y. y < suc n)) (sym (ap (λ t. if t then x ∷ names_among n xs else names_among n xs) e)) rest
 
 pub among_below : (n m : ℕ) (xs : List ℕ) → m ≡ suc n → AllByRecursion (λ y. y < m) (names_among n xs)
 among_below n m xs e = subst (λ k. AllByRecursion (λ y. y < k) (names_among n xs)) (sym e) (among n xs)

@@ -33,3 +33,6 @@ none_found P xs n before le = λ i b. before i (let w = b.within in omega arith)
 
 pub none_before : {A : Type 0} (P : A → Type 0) (xs : List A) → HoldBelow P xs 0
 none_before P xs = λ j lt b. below_zero j lt
+
+pub at_zero : (xs : List ℕ) (i r : ℕ) → i < length xs → get_or xs i r ≡ r → r ≡ get_or xs i 0
+at_zero xs i r lt e = sym e ∙ any_default xs i r 0 lt

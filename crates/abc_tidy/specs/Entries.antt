@@ -52,10 +52,13 @@ space_value spaces.Protected place = 0
 space_value spaces.Explicit place = 0
 space_value spaces.StaticProtected place = 0
 
+abbrev pub space_head : Namespace → ℕ → Head
+space_head n place = record { kind = namespace_code n.kind; value = space_value n.kind place }
+
 -- from a place on
 abbrev pub space_heads : ℕ → List Namespace → List Head
 space_heads place [] = []
-space_heads place (n ∷ ns) = record { kind = namespace_code n.kind; value = space_value n.kind place } ∷ space_heads (place + 1) ns
+space_heads place (n ∷ ns) = space_head n place ∷ space_heads (place + 1) ns
 
 abbrev pub name_kind : Multiname → ℕ
 name_kind (names.QName attr ns name) = multiname_code (kinds.QName attr)

@@ -1,5 +1,5 @@
 -- For the prover alone: how the new numbers are found.
-use Rattle.std.specs.Prelude.{◌≡◌, ℕ, ◌+◌, ◌<◌, List, Some, None, count_by, get_or, length, nat_eq, take, if◌then◌else◌}
+use Rattle.std.specs.Prelude.{◌≡◌, ℕ, ◌+◌, ◌<◌, List, Some, None, count_by, get_or, length, nat_eq, set, take, if◌then◌else◌}
 use Rattle.std.specs.declared.option.Option.{Option}
 use Rattle.abc_refs.specs.declared.nodes.Counts.{Counts}
 use Rattle.abc_trees.specs.Classes.{class}
@@ -8,6 +8,11 @@ use Rattle.abc_tidy.specs.Visited.{is_of_pool, number_at, pool_index}
 -- each class of the first n nodes that were met has its place among them
 pub record ArePlaces (classes : List (Option ℕ)) (seen : List ℕ) (n : ℕ) (places : List ℕ) : Type 0 where
   pub places_are : (i c : ℕ) → i < n → class classes (get_or seen i 0) ≡ Some c → get_or places c 0 ≡ i
+
+-- the places once one more class, if there is one, has its place
+abbrev pub noted : List ℕ → Option ℕ → ℕ → List ℕ
+noted places None n = places
+noted places (Some c) n = set places c n
 
 abbrev pub next_number : Counts → List ℕ → ℕ → ℕ
 next_number c met x = if nat_eq (pool_index c x) 0 then 0 else get_or met (pool_index c x) 0 + 1

@@ -1,7 +1,8 @@
-ghost use Rattle.std.specs.Prelude.{◌≡◌, ◌↔◌, ◌≤◌, All, IfOk, IsTrue};
-ghost use Rattle.abc_tidy.specs.Firsts.{IsFirst};
-ghost use Rattle.abc_tidy.specs.Rules.{BodyHolds, IsThere, MethodHolds, names_pool as is_named, pool_size as size_of_pool};
+ghost use Rattle.std.specs.Prelude.{◌≡◌, ◌↔◌, ◌≤◌, All, IfOk, IsTrue, MatchResult};
+ghost use Rattle.abc_tidy.specs.declared.error.TidyRule.TheVariants as rules;
+ghost use Rattle.abc_tidy.specs.Rules.{BodyHolds, Holds, IsTidyError, IsThere, MethodHolds, names_pool as is_named, pool_size as size_of_pool};
 
+use crate::error::{TidyError, TidyRule};
 use abc_base::{NoMemory, Table};
 use abc_refs::{Indexed, Ref};
 use abc_tables::{Abc, Body, Method, Pool};
@@ -67,30 +68,47 @@ fn method_holds(abc: &Abc, method: &Method) -> bool
     are_at_most(method.param_names.as_slice(), abc.strings.len())
 }
 
-/// The first body with an operand that names an entry that is not there.
-#[tactic(auto, using(crate::proofs::Firsts::holds_next, crate::proofs::Firsts::found, crate::proofs::Firsts::none_found))]
-pub(crate) fn first_body(alloc: Global, abc: &Abc) -> Result<Option<u32>, NoMemory>
-    ensures { IfOk result (λ r. IsFirst (BodyHolds abc.now) (abc.now).bodies r) }
+/// A number of items, unless there are 2^32 or more.
+pub(crate) fn count_of(len: usize) -> Result<u32, NoMemory>
+    ensures { IfOk result (λ n. n ≡ len) }
 {
-    let count = u32::try_from(abc.bodies.len()).map_err(|_| NoMemory)?;
-    for i in 0..count {
-        if !body_holds(alloc, abc, abc.bodies.get(i as usize))? {
-            return Ok(Some(i));
-        }
+    if len > u32::MAX as usize {
+        return Err(NoMemory);
     }
-    Ok(None)
+    Ok(len as u32)
 }
 
-/// The first method with a name of a parameter that is above the strings.
-#[tactic(auto, using(crate::proofs::Firsts::holds_next, crate::proofs::Firsts::found, crate::proofs::Firsts::none_found))]
-pub(crate) fn first_method(abc: &Abc) -> Result<Option<u32>, NoMemory>
-    ensures { IfOk result (λ r. IsFirst (MethodHolds abc.now) (abc.now).methods r) }
+/// Tries that each operand names an entry, or nothing. The first body where one does not is refused.
+#[tactic(auto, using(crate::proofs::Firsts::holds_next, crate::proofs::Tidied::refused_body, crate::proofs::Firsts::none_found))]
+pub(crate) fn check_bodies(alloc: Global, abc: &Abc) -> Result<(), TidyError>
+    ensures { MatchResult result (λ _. Holds abc.now rules.Operand) (IsTidyError abc.now) }
 {
-    let count = u32::try_from(abc.methods.len()).map_err(|_| NoMemory)?;
+    let count = count_of(abc.bodies.len())?;
     for i in 0..count {
-        if !method_holds(abc, abc.methods.get(i as usize)) {
-            return Ok(Some(i));
+        if !body_holds(alloc, abc, abc.bodies.get(i as usize))? {
+            return Err(TidyError::Refused {
+                rule: TidyRule::Operand,
+                index: i,
+            });
         }
     }
-    Ok(None)
+    Ok(())
+}
+
+/// Tries that no name of a parameter is above the strings. The first method where one is is refused.
+#[tactic(auto, using(crate::proofs::Firsts::holds_next, crate::proofs::Tidied::refused_method, crate::proofs::Firsts::none_found))]
+pub(crate) fn check_methods(abc: &Abc) -> Result<(), TidyError>
+    requires { Holds abc.now rules.Operand }
+    ensures { MatchResult result (λ _. Holds abc.now rules.ParamName) (IsTidyError abc.now) }
+{
+    let count = count_of(abc.methods.len())?;
+    for i in 0..count {
+        if !method_holds(abc, abc.methods.get(i as usize)) {
+            return Err(TidyError::Refused {
+                rule: TidyRule::ParamName,
+                index: i,
+            });
+        }
+    }
+    Ok(())
 }

@@ -103,7 +103,7 @@ fn kept_row(
 }
 
 /// The graph with the edges of its marked nodes alone.
-#[tactic(auto, using(crate::proofs::Cyclic::kept_next, crate::proofs::Cyclic::kept_all))]
+#[tactic(auto, using(crate::proofs::Cyclic::kept_next, crate::proofs::Cyclic::kept_none, crate::proofs::Cyclic::kept_all))]
 fn kept_rows(
     alloc: Global,
     graph: &Table<Table<u32>>,
@@ -121,7 +121,7 @@ fn kept_rows(
 }
 
 /// The first name that is visited and reaches itself.
-#[tactic(auto, using(crate::proofs::Cyclic::names_are_graph, crate::proofs::Cyclic::kept_graph, crate::proofs::Cyclic::first_cyclic))]
+#[tactic(auto, using(crate::proofs::Cyclic::names_are_graph, crate::proofs::Cyclic::names_count, crate::proofs::Cyclic::kept_graph))]
 pub(crate) fn first_cyclic(
     alloc: Global,
     abc: &Abc,
@@ -134,5 +134,6 @@ pub(crate) fn first_cyclic(
     let graph = name_graph(alloc, abc, refs)?;
     let marks = reached(alloc, &graph, 0)?;
     let rows = kept_rows(alloc, &graph, &marks)?;
-    first_return(alloc, &rows)
+    let first = first_return(alloc, &rows)?;
+    Ok(first)
 }

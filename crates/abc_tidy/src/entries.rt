@@ -1,6 +1,6 @@
 ghost use Rattle.std.specs.Prelude.{◌≡◌, ◌<◌, ◌+◌, ◌++◌, ◌∷◌, ◌^◌, [], length, map, IfOk, OnOk};
 ghost use Rattle.abc_refs.specs.Nodes.{counts_of, node_count, node_of, set_node};
-ghost use Rattle.abc_tidy.specs.Entries.{graph_of, heads_of, name_head as head_of_name, name_kind as kind_of_name, name_parts as parts_of_name, no_parts, set_parts as parts_of_set, sets_kind, space_heads, space_parts as parts_of_space, space_value as value_of_space, value_graph, value_head, value_heads};
+ghost use Rattle.abc_tidy.specs.Entries.{graph_of, heads_of, name_head as head_of_name, name_kind as kind_of_name, name_parts as parts_of_name, no_parts, set_parts as parts_of_set, sets_kind, space_head, space_heads, space_parts as parts_of_space, space_value as value_of_space, value_graph, value_head, value_heads};
 ghost use Rattle.abc_tables.specs.Pools.{namespace_code};
 
 use crate::places::{double_places, int_places, text_places, uint_places};
@@ -65,7 +65,7 @@ fn name_kind(name: &Multiname) -> u8
 
 /// The node of an index of a pool.
 #[tactic(auto, using(crate::proofs::Nodes::node_small))]
-fn node(counts: &Counts, pool: Pool, index: u32) -> u32
+pub(crate) fn node(counts: &Counts, pool: Pool, index: u32) -> u32
     requires { node_count counts.now < 2 ^ 32 }
     ensures { result ≡ node_of counts.now pool index }
 {
@@ -145,26 +145,21 @@ impl Entries {
         Ok(())
     }
 
-    #[tactic(auto, using(crate::proofs::Building::space_head_next, crate::proofs::Building::space_heads_all))]
-    fn add_spaces(
+    fn add_space(
         &mut self,
         alloc: Global,
         counts: &Counts,
-        spaces: &Table<Namespace>,
+        space: &Namespace,
+        place: u32,
     ) -> Result<(), NoMemory>
-        requires few { node_count counts.now < 2 ^ 32 }
-        requires spaces { length spaces.now < 2 ^ 32 }
-        ensures heads { OnOk result (self.new.heads ≡ self.old.heads ++ space_heads 0 spaces.now) }
-        ensures graph { OnOk result (self.new.graph ≡ self.old.graph ++ map (parts_of_space counts.now) spaces.now) }
+        requires { node_count counts.now < 2 ^ 32 }
+        ensures heads { OnOk result (self.new.heads ≡ self.old.heads ++ space_head space.now place ∷ []) }
+        ensures graph { OnOk result (self.new.graph ≡ self.old.graph ++ parts_of_space counts.now space.now ∷ []) }
     {
-        for i in 0..spaces.len() as u32 {
-            let space = spaces.get(i as usize);
-            let mut parts = Table::new(alloc);
-            parts.push(node(counts, Pool::Text, space.name))?;
-            let value = space_value(space.kind, i);
-            self.push(space_code(space.kind), value, parts)?;
-        }
-        Ok(())
+        let mut parts = Table::new(alloc);
+        parts.push(node(counts, Pool::Text, space.name))?;
+        let value = space_value(space.kind, place);
+        self.push(space_code(space.kind), value, parts)
     }
 
     fn add_sets(
@@ -203,6 +198,25 @@ impl Entries {
     }
 }
 
+impl Entries {
+    fn add_spaces(
+        &mut self,
+        alloc: Global,
+        counts: &Counts,
+        spaces: &Table<Namespace>,
+    ) -> Result<(), NoMemory>
+        requires few { node_count counts.now < 2 ^ 32 }
+        requires spaces { length spaces.now < 2 ^ 32 }
+        ensures heads { OnOk result (self.new.heads ≡ self.old.heads ++ space_heads 0 spaces.now) }
+        ensures graph { OnOk result (self.new.graph ≡ self.old.graph ++ map (parts_of_space counts.now) spaces.now) }
+    {
+        for i in 0..spaces.len() {
+            self.add_space(alloc, counts, spaces.get(i), i as u32)?;
+        }
+        Ok(())
+    }
+}
+
 /// Node 0, and the entries that have no indices.
 fn values_of(alloc: Global, abc: &Abc) -> Result<Entries, NoMemory>
     requires { node_count (counts_of abc.now) < 2 ^ 32 }
@@ -226,6 +240,7 @@ fn values_of(alloc: Global, abc: &Abc) -> Result<Entries, NoMemory>
 }
 
 /// All entries of a file.
+#[tactic(auto, using(crate::proofs::Building::few_counts, crate::proofs::Building::few_spaces))]
 pub(crate) fn entries_of(alloc: Global, abc: &Abc, counts: &Counts) -> Result<Entries, NoMemory>
     requires counts { counts.now ≡ counts_of abc.now }
     requires few { node_count counts.now < 2 ^ 32 }

@@ -1,10 +1,11 @@
-ghost use Rattle.std.specs.Prelude.{◌≡◌, ◌<◌, ◌+◌, ◌^◌, get_or, length, map, replicate, set, IfOk, IsTrue, OnOk};
+ghost use Rattle.std.specs.Prelude.{◌≡◌, ◌↔◌, ◌<◌, ◌+◌, ◌^◌, ℕ, All, Some, get_or, length, map, replicate, set, IfOk, IsTrue, OnOk};
 ghost use Rattle.abc_refs.specs.Nodes.{counts_of, node_count, node_of};
-ghost use Rattle.abc_trees.specs.Classes.{AllClassed, AreApart, AreClasses, AreDistinct};
+ghost use Rattle.abc_trees.specs.Classes.{AllClassed, AreApart, AreClasses, AreDistinct, HasClass};
 ghost use Rattle.abc_tidy.specs.Entries.{graph_of, heads_of};
-ghost use Rattle.abc_tidy.specs.Numbered.{ArePlaces, AreNodeNumbers, AreNumbersMet, next_number, node_number};
+ghost use Rattle.abc_tidy.specs.Numbered.{ArePlaces, AreNodeNumbers, AreNumbersMet, next_number, node_number, noted};
 ghost use Rattle.abc_tidy.specs.Visited.{AreNumbers, pool_index as index_of_pool, roots_of as roots_of_file};
 
+use crate::checks::count_of;
 use crate::entries::{Entries, node};
 use abc_base::{NoMemory, Table};
 use abc_refs::{Counts, Ref};
@@ -62,17 +63,22 @@ pub(crate) fn roots_of(
     Ok(roots)
 }
 
-/// Whether each of some nodes has a class.
-#[tactic(auto, using(abc_trees::proofs::Visited::all_classed))]
-pub(crate) fn are_classed(classes: &Classes, nodes: &Table<u32>) -> bool
-    ensures { IsTrue result → AllClassed classes.now.classes nodes.now }
+/// Whether a node has a class.
+#[tactic(auto, using(crate::proofs::Numbered::has_one, crate::proofs::Numbered::no_class))]
+fn has_class(classes: &Classes, node: u32) -> bool
+    ensures { IsTrue result ↔ HasClass classes.now.classes node }
 {
-    for node in nodes.as_slice() {
-        if classes.class(*node).is_none() {
-            return false;
-        }
+    match classes.class(node) {
+        Some(_) => true,
+        None => false,
     }
-    true
+}
+
+/// Whether each of some nodes has a class.
+pub(crate) fn are_classed(classes: &Classes, nodes: &[u32]) -> bool
+    ensures { IsTrue result ↔ All (HasClass classes.now.classes) nodes.now }
+{
+    nodes.iter().all(|node| has_class(classes, *node))
 }
 
 /// So many zeros.
@@ -108,8 +114,18 @@ fn read_number(numbers: &Table<u32>, place: usize) -> u32
     }
 }
 
+/// Notes the place of a class, if there is one.
+fn note_place(places: &mut Table<usize>, class: Option<usize>, place: usize)
+    requires { (c : ℕ) → class ≡ Some c → c < length places.old }
+    ensures { places.new ≡ noted places.old class place }
+{
+    match class {
+        Some(class) => places.set(class, place),
+        None => {}
+    }
+}
+
 /// The place of each class among the nodes that were met.
-#[tactic(auto, using(crate::proofs::Numbered::place_next, crate::proofs::Numbered::places_begin, crate::proofs::Numbered::class_small))]
 fn places_of(
     alloc: Global,
     classes: &Classes,
@@ -123,10 +139,8 @@ fn places_of(
 {
     let mut places = zeros(alloc, classes.keys.len())?;
     for i in 0..seen.len() {
-        match classes.class(*seen.get(i)) {
-            Some(class) => places.set(class, i),
-            None => {}
-        }
+        let class = classes.class(*seen.get(i));
+        note_place(&mut places, class, i);
     }
     Ok(places)
 }
@@ -165,8 +179,19 @@ impl Counters {
     }
 }
 
+/// No node of any pool as yet.
+fn no_counts(alloc: Global) -> Result<Table<u32>, NoMemory>
+    ensures { IfOk result (λ t. t ≡ replicate 8 0) }
+{
+    let mut met = Table::new(alloc);
+    for _pool in 0..POOLS {
+        met.push(0)?;
+    }
+    Ok(met)
+}
+
 /// The new number of each node that was met, in order.
-#[tactic(auto, using(crate::proofs::Numbered::met_next, crate::proofs::Numbered::met_begin, crate::proofs::Numbered::met_all))]
+#[tactic(auto, using(crate::proofs::Numbered::met_begin, crate::proofs::Numbered::met_all))]
 fn numbers_met(
     alloc: Global,
     counts: &Counts,
@@ -174,14 +199,12 @@ fn numbers_met(
 ) -> Result<Table<u32>, NoMemory>
     ensures { IfOk result (λ t. AreNumbersMet counts.now seen.now t) }
 {
-    let mut met = Table::new(alloc);
-    for _pool in 0..POOLS {
-        met.push(0)?;
-    }
+    let met = no_counts(alloc)?;
     let mut counters = Counters { met };
     let mut numbers = Table::new(alloc);
     for node in seen.as_slice() {
-        numbers.push(counters.number(counts, *node)?)?;
+        let number = counters.number(counts, *node)?;
+        numbers.push(number)?;
     }
     Ok(numbers)
 }
@@ -202,7 +225,7 @@ fn number_of_node(
 }
 
 /// The new number of each node.
-#[tactic(auto, using(crate::proofs::Numbered::node_next))]
+#[tactic(auto, using(crate::proofs::Numbered::node_begin))]
 fn node_numbers(
     alloc: Global,
     count: u32,
@@ -214,33 +237,36 @@ fn node_numbers(
 {
     let mut all = Table::new(alloc);
     for node in 0..count {
-        all.push(number_of_node(classes, places, numbers, node))?;
+        let number = number_of_node(classes, places, numbers, node);
+        all.push(number)?;
     }
     Ok(all)
 }
 
 /// The new number of each node of a file whose nodes were met in this order.
-#[tactic(auto, using(crate::proofs::Numbered::numbered))]
 pub(crate) fn numbers_of(
     alloc: Global,
     _abc: &Abc,
     counts: &Counts,
     entries: &Entries,
     classes: &Classes,
+    _roots: &Table<u32>,
     seen: &Table<u32>,
 ) -> Result<Table<u32>, NoMemory>
     requires counts { counts.now ≡ counts_of _abc.now }
-    requires few { node_count counts.now < 2 ^ 32 }
     requires heads { entries.now.heads ≡ heads_of _abc.now }
     requires graph { entries.now.graph ≡ graph_of _abc.now }
-    requires valid { AreClasses (heads_of _abc.now) (graph_of _abc.now) classes.now.keys.keys classes.now.classes }
+    requires rooted { _roots.now ≡ roots_of_file _abc.now }
+    requires valid { AreClasses entries.now.heads entries.now.graph classes.now.keys.keys classes.now.classes }
     requires distinct { AreDistinct classes.now.keys.keys }
-    requires roots { AllClassed classes.now.classes (roots_of_file _abc.now) }
+    requires roots { AllClassed classes.now.classes _roots.now }
     requires classed { AllClassed classes.now.classes seen.now }
     requires apart { AreApart classes.now.classes seen.now }
     ensures { IfOk result (λ t. AreNumbers _abc.now seen.now t) }
 {
+    let count = count_of(entries.graph.len())?;
     let places = places_of(alloc, classes, seen, &entries.heads, &entries.graph)?;
     let numbers = numbers_met(alloc, counts, seen)?;
-    node_numbers(alloc, entries.graph.len() as u32, classes, &places, &numbers)
+    let all = node_numbers(alloc, count, classes, &places, &numbers)?;
+    Ok(all)
 }

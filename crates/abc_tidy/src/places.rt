@@ -1,7 +1,4 @@
-ghost use Rattle.std.specs.Prelude.{◌≡◌, ◌<◌, ◌^◌, map, length, unwrap_or, nat_eq, IfOk};
-ghost use Rattle.std.specs.Cmp.Lexicographic.{pointwise};
-ghost use Rattle.std.specs.Ordering.{int_eq};
-ghost use Rattle.abc_index.specs.Index.{first};
+ghost use Rattle.std.specs.Prelude.{◌≡◌, ◌<◌, ◌+◌, ◌^◌, map, length, IfOk};
 ghost use Rattle.abc_tidy.specs.Entries.{double_places as places_of_doubles, int_places as places_of_ints, place_among, text_places as places_of_texts, uint_places as places_of_uints};
 
 use abc_base::{NoMemory, Table};

@@ -1,11 +1,11 @@
-ghost use Rattle.std.specs.Prelude.{◌≡◌, ◌<◌, ◌^◌, IfOk, MatchResult};
+ghost use Rattle.std.specs.Prelude.{◌≡◌, ◌<◌, ◌+◌, ◌^◌, length, IfOk, MatchResult};
 ghost use Rattle.abc_refs.specs.Nodes.{counts_of, node_count};
 ghost use Rattle.abc_refs.specs.Refs.{file_refs};
 ghost use Rattle.abc_tidy.specs.declared.error.TidyRule.TheVariants as rules;
-ghost use Rattle.abc_tidy.specs.Rules.{HoldBefore, IsTidied, IsTidyError};
+ghost use Rattle.abc_tidy.specs.Rules.{Holds, IsTidied, IsTidyError};
 ghost use Rattle.abc_tidy.specs.Visited.{IsTidiedValue};
 
-use crate::checks::{first_body, first_method};
+use crate::checks::{check_bodies, check_methods};
 use crate::cycles::first_cyclic;
 use crate::entries::entries_of;
 use crate::error::{TidyError, TidyRule};
@@ -18,8 +18,9 @@ use abc_tables::Abc;
 use abc_trees::{classes_of, likely_order, visit_order};
 use std::alloc::Global;
 
-/// The tidied value of a file.
-#[tactic(auto, using(crate::proofs::Tidied::as_many, crate::proofs::Tidied::tidied_value))]
+/// The tidied value of a file. Where the order of the entries is not one in which each stands behind those that it names,
+/// it finds no memory: that comes of no file whose visited names don't reach themselves, which is tried and not proved.
+#[tactic(auto, using(crate::proofs::Tidied::as_many, crate::proofs::Tidied::the_roots, crate::proofs::Numbered::all_of))]
 fn tidied_value(
     alloc: Global,
     abc: &Abc,
@@ -35,52 +36,36 @@ fn tidied_value(
     let roots = roots_of(alloc, &counts, refs)?;
     let order = likely_order(alloc, &entries.graph, &roots)?;
     let classes = classes_of(alloc, &entries.heads, &entries.graph, &order)?;
-    if !are_classed(&classes, &roots) {
+    if !are_classed(&classes, roots.as_slice()) {
         return Err(NoMemory);
     }
     let seen = visit_order(alloc, &entries.heads, &entries.graph, &classes, &roots)?;
-    let all = numbers_of(alloc, abc, &counts, &entries, &classes, &seen)?;
+    let all = numbers_of(alloc, abc, &counts, &entries, &classes, &roots, &seen)?;
     let numbers = Numbers {
         counts,
         numbers: all,
     };
     let pools = new_pools(alloc, abc, &numbers, &seen)?;
-    renumbered(alloc, abc, &numbers, pools)
+    let tidied = renumbered(alloc, abc, &numbers, pools)?;
+    Ok(tidied)
 }
 
-/// Tries the rules on the indices of a file.
-#[tactic(auto, using(crate::proofs::Tidied::refused_body, crate::proofs::Tidied::refused_method, crate::proofs::Tidied::refused_name, crate::proofs::Tidied::all_before))]
-fn check_indices(
-    alloc: Global,
-    abc: &Abc,
-    counts: &Counts,
-    refs: &Table<Ref>,
-) -> Result<(), TidyError>
+/// Tries that no name that is visited reaches itself. The first that does is refused.
+#[tactic(auto, using(crate::proofs::Tidied::refused_name, crate::proofs::Tidied::no_name))]
+fn check_names(alloc: Global, abc: &Abc, refs: &Table<Ref>) -> Result<(), TidyError>
     requires refs { refs.now ≡ file_refs abc.now }
-    requires counts { counts.now ≡ counts_of abc.now }
-    requires few { node_count counts.now < 2 ^ 32 }
-    ensures { MatchResult result (λ _. HoldBefore abc.now rules.TooLarge) (IsTidyError abc.now) }
+    requires few { length (abc.now).names + 1 < 2 ^ 32 }
+    requires operands { Holds abc.now rules.Operand }
+    requires param_names { Holds abc.now rules.ParamName }
+    ensures { MatchResult result (λ _. Holds abc.now rules.NameCycle) (IsTidyError abc.now) }
 {
-    let _counts = counts;
-    if let Some(index) = first_body(alloc, abc)? {
-        return Err(TidyError::Refused {
-            rule: TidyRule::Operand,
-            index,
-        });
-    }
-    if let Some(index) = first_method(abc)? {
-        return Err(TidyError::Refused {
-            rule: TidyRule::ParamName,
-            index,
-        });
-    }
-    if let Some(index) = first_cyclic(alloc, abc, refs)? {
-        return Err(TidyError::Refused {
+    match first_cyclic(alloc, abc, refs)? {
+        Some(index) => Err(TidyError::Refused {
             rule: TidyRule::NameCycle,
             index,
-        });
+        }),
+        None => Ok(()),
     }
-    Ok(())
 }
 
 /// A file that means the same, without the entries of its pools that nothing names and those that are doubled, and with the
@@ -92,7 +77,7 @@ fn check_indices(
 /// It is `Refused` where a rule is broken, by the first of them and the least index: an operand of an instruction names an
 /// entry that is not there, a name of a parameter is above the strings, a name that is visited reaches itself, or the
 /// tidied file is not spelled by any bytes of at most 2^24.
-#[tactic(auto, using(crate::proofs::Tidied::done, crate::proofs::Tidied::too_large))]
+#[tactic(auto, using(crate::proofs::Building::few_names, crate::proofs::Tidied::done, crate::proofs::Tidied::too_large))]
 pub fn tidy(alloc: Global, abc: &Abc) -> Result<Abc, TidyError>
     ensures { MatchResult result (IsTidied abc.now) (IsTidyError abc.now) }
 {
@@ -100,8 +85,10 @@ pub fn tidy(alloc: Global, abc: &Abc) -> Result<Abc, TidyError>
         Some(counts) => counts,
         None => return Err(TidyError::NoMemory),
     };
+    check_bodies(alloc, abc)?;
+    check_methods(abc)?;
     let refs = refs_of(alloc, abc)?;
-    check_indices(alloc, abc, &counts, &refs)?;
+    check_names(alloc, abc, &refs)?;
     let tidied = tidied_value(alloc, abc, counts, &refs)?;
     if fits(&tidied) {
         return Ok(tidied);
