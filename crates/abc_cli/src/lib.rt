@@ -2,8 +2,12 @@
 #![tactic(auto)]
 
 mod canon;
+mod check;
+mod commands;
+mod dis;
 mod ends;
 mod lines;
+mod stop;
 #[cfg(test)]
 mod tests;
 mod top;
