@@ -1,12 +1,11 @@
 -- The labels of a body stand for numbers of its instructions or of its end.
-use Rattle.std.proofs.Common.{◌≡◌, ℕ, zero, suc, ◌+◌, ◌≤◌, ◌⊎◌, inl, inr, Bool, true, false, cond, nat_eq, List, [], ◌∷◌, ◌++◌, bytes_eq, length, map, Some, None, refl, sym, ap, subst, ◌∙◌, arith}
-use Rattle.std.specs.List.{AllByRecursion, flat_map}
-use Rattle.std.specs.declared.option.Option.{Option}
+use Rattle.std.proofs.Common.{◌≡◌, ℕ, ◌+◌, ◌≤◌, ◌⊎◌, inl, inr, true, false, List, [], ◌∷◌, ◌++◌, bytes_eq, Some, None, refl, sym, ap, subst, ◌∙◌, arith}
+use Rattle.std.specs.List.{AllByRecursion}
 use Rattle.abc_text.specs.declared.word.Word.{Word}
 use Rattle.abc_text.specs.declared.word.Word.TheVariants as words
 use Rattle.abc_text.specs.Tokens.{Token, Bare, Quoted}
 use Rattle.abc_text.proofs.Bools.{split_bool}
-use Rattle.abc_rowparts.specs.Law.{IsLabel, IsLine, Match}
+use Rattle.abc_rowparts.specs.Law.{IsLabel, Match}
 use Rattle.abc_rowparts.specs.Lines.{Label, Row, Item, Number, Signed, Text, Eight, Kind, Target, Shown, Line, Labels}
 use Rattle.abc_rowparts.specs.Operands.{AreTokens, IsToken, place_of_label}
 use Rattle.abc_rowparts.specs.Rows.{is_label}
@@ -259,8 +258,7 @@ module _ (labels : List Label) (taken : List (List ℕ)) (k : ℕ) (below : AreB
   lines_below (Line w items ∷ lines) more inner set (raw ∷ raws) match =
       let is : raw.word ≡ w = word_is labels set taken raw raws match.0 match.1 match.2 ∙ match.3.word in
       let same : match.0.labels ≡ labels = ap first_labels (sym match.2) ∙ inner_labels w inner.0 set raw raws is in
-      let rest : rows_from labels set taken raws ≡ match.1 = sym (inner_rest w inner.0 set raw raws is) ∙ ap later match.2 in
-      (
+      let rest : rows_from labels set taken raws ≡ match.1 = sym (inner_rest w inner.0 set raw raws is) ∙ ap later match.2 in (
         items_below k labels below match.0.operands items (subst (λ (l : List Label). AreTokens l match.0.operands items) same match.3.operands),
         lines_below lines more inner.1 set raws (subst (λ (rs : List Row). Match shows_operands rs (lines ++ more)) (sym rest) match.4),
       )

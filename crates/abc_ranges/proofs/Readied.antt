@@ -1,5 +1,5 @@
 -- The bodies of a text's file are such as some bytes spell.
-use Rattle.std.proofs.Common.{◌≡◌, ℕ, zero, suc, ℤ, pos, negsuc, ◌+◌, ◌*◌, ◌^◌, ◌<◌, ◌≤◌, ◌≤ℤ◌, ◌<ℤ◌, ◌⊎◌, inl, inr, true, false, ◌&&◌, nat_lt, nat_le, int_le, List, [], ◌∷◌, ◌++◌, length, map, Some, None, refl, sym, ap, subst, ◌∙◌, arith}
+use Rattle.std.proofs.Common.{◌≡◌, ℕ, ℤ, pos, negsuc, ◌+◌, ◌^◌, ◌<◌, inl, inr, true, false, nat_lt, nat_le, int_le, List, [], ◌∷◌, ◌++◌, length, Some, None, refl, ap, subst, ◌∙◌, arith}
 use Rattle.std.specs.List.{All, AllByRecursion, flat_map}
 use Rattle.std.specs.declared.option.Option.{Option}
 use Rattle.std.proofs.lemmas.Bool.Decides.{nat_tests}
@@ -31,7 +31,7 @@ use Rattle.abc_lines.specs.Answers.{IsAssemblyOf, outline, table}
 use Rattle.abc_lines.specs.File as file
 use Rattle.abc_lines.specs.Lineforms.{body_line, by_form, catch_line, instruction_line, opcode_of, trait_metadata_line}
 use Rattle.abc_lines.specs.Listing.{quiet_lines}
-use Rattle.abc_lines.specs.Texts.{Counts, Skips, Step, by_step, lines_in, raws_from, rows_of, step_of}
+use Rattle.abc_lines.specs.Texts.{Skips, Step, by_step, lines_in, raws_from, rows_of, step_of}
 use Rattle.abc_ranges.proofs.Bodyparts.{catches_of, code_of, plain_body, plain_lines, rest_of}
 use Rattle.abc_ranges.proofs.Fitting.{body_head}
 use Rattle.abc_ranges.proofs.Places.{Behind, EndsBody, IsInner, LineUpTo, TargetUpTo, behind_lines, body_below, count_of}
