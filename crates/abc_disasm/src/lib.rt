@@ -15,3 +15,6 @@ mod tokens;
 mod traits;
 
 pub use listing::disassemble;
+
+#[cfg(test)]
+mod tests;

@@ -26,9 +26,11 @@ use Rattle.abc_lines.specs.File as file
 use Rattle.abc_lines.specs.Lineforms.{body_line, catch_line}
 use Rattle.abc_lines.specs.Listing.{lines_of_body, targets_in, token_of}
 use Rattle.abc_lines.specs.Texts.{is_among, is_taken, labels_set, method_in, row, rows_from}
-use Rattle.abc_roundtrip.proofs.Fields.{catch_in}
-use Rattle.abc_roundtrip.proofs.Fitting.{body_head, body_line_in, both_all, traits_in}
-use Rattle.abc_roundtrip.proofs.Forms.{HasByteFields, UpTo, body-shown, catch_shown, instr_head, instr_shown}
+use Rattle.abc_ranges.specs.Bytes.{HasByteFields}
+use Rattle.abc_ranges.proofs.Bodyparts.{body_lines_are, catches_of, code_of, first_of, rest_of}
+use Rattle.abc_ranges.proofs.Fields.{catch_in}
+use Rattle.abc_ranges.proofs.Fitting.{body_head, body_line_in, both_all, traits_in}
+use Rattle.abc_roundtrip.proofs.Forms.{UpTo, body-shown, catch_shown, instr_head, instr_shown}
 use Rattle.abc_roundtrip.proofs.Heads.{line_head}
 use Rattle.abc_roundtrip.proofs.Items.{items_tokens}
 use Rattle.abc_roundtrip.proofs.Matching.{AreSet, IsStill, decimals_differ, found, kept_still, match_code, match_still, named_stand}
@@ -79,29 +81,12 @@ module _ (v : Abc) where
   abbrev fs : Faults
   fs = file.faults s i
 
-  abbrev code_of : Body → List Shown
-  code_of b = Labels 0 ∷ code_after (file.instructions s i) 0 b.code
-
-  abbrev catches_of : Body → List Shown
-  catches_of b = (flat fs words.Catch (catch_line s) 0).shows b.handlers
-
-  -- what stands behind the code
-  abbrev rest_of : Body → List Shown
-  rest_of b = catches_of b ++ (file.traits s i fs 0).shows b.traits
-
-  abbrev first_of : Body → Shown
-  first_of b = Line words.Body ((body_line s).items (body_head s i b))
-
-  body_lines_are : (b : Body) → lines_of_body v b ≡ first_of b ∷ (code_of b ++ rest_of b)
-  unfolding file.body_lines file.body_below
-  body_lines_are b = ap (λ (l : List Shown). first_of b ∷ l) (append-nil (code_of b ++ rest_of b))
-
   -- What is needed of the lines of a body.
   pub record BodyStands (b : Body) : Type 0 where
     short : length b.code < 2 ^ 64
     method : b.method < 2 ^ 64
-    stand : AllStand (UpTo (length b.code)) (first_of b ∷ (code_of b ++ rest_of b))
-    still : AllByRecursion IsStill (rest_of b)
+    stand : AllStand (UpTo (length b.code)) (first_of v b ∷ (code_of v b ++ rest_of v b))
+    still : AllByRecursion IsStill (rest_of v b)
 
   code_stands : (k j n : ℕ) (small : k < 2 ^ 64) → j + n ≤ k → (is : List Instr) → length is ≡ n → AllCanSpell k is → AllByRecursion HasByteFields is → AllStand (UpTo k) (Labels j ∷ code_after (file.instructions s i) j is)
   code_stands k j n small le [] e can bytes = (omega arith, tt)
@@ -123,15 +108,15 @@ module _ (v : Abc) where
       let small = few_instructions b h.2 in
       let m = ((position_fits s.methods b.method).0 h.0).1 in
       let both = both_all (IsWithin k) (HasNames s) b.handlers (recursion_from_All (IsWithin k) b.handlers h.2.places) (recursion_from_All (HasNames s) b.handlers h.4) in
-      let sits = two_sit (UpTo k) (catches_of b) ((file.traits s i fs 0).shows b.traits) (catches_sit k small b.handlers both) (traits-sit (UpTo k) s i fs 0 b.traits (traits_in s i fs 0 b.traits h.5)) in
+      let sits = two_sit (UpTo k) (catches_of v b) ((file.traits s i fs 0).shows b.traits) (catches_sit k small b.handlers both) (traits-sit (UpTo k) s i fs 0 b.traits (traits_in s i fs 0 b.traits h.5)) in
       record {
         short = small;
         method = omega arith;
         stand = (
           (line_head words.Body refl, body-shown (UpTo k) s (body_head s i b) (body_line_in s i b fits)),
-          two_stand (UpTo k) (code_of b) (rest_of b) (code_stands k 0 k small (omega arith) b.code refl h.2.code.can bytes) (sit_stand (UpTo k) (rest_of b) sits),
+          two_stand (UpTo k) (code_of v b) (rest_of v b) (code_stands k 0 k small (omega arith) b.code refl h.2.code.can bytes) (sit_stand (UpTo k) (rest_of v b) sits),
         );
-        still = sit_still (UpTo k) (rest_of b) sits;
+        still = sit_still (UpTo k) (rest_of v b) sits;
       }
 
   pub bodies_stand : (bs : List Body) → AllByRecursion (FitsBody s) bs → AllByRecursion (λ b. AllByRecursion HasByteFields b.code) bs → AllByRecursion BodyStands bs
@@ -149,8 +134,8 @@ module _ (v : Abc) where
 
   any_stands : (b : Body) → BodyStands b → AllStand (λ n. Unit {0}) (kept_body b)
   any_stands b is =
-      subst (λ (l : List Shown). AllStand (λ n. Unit {0}) (kept (named_of b) l)) (sym (body_lines_are b))
-      (kept_stand (λ n. Unit {0}) (named_of b) (first_of b ∷ (code_of b ++ rest_of b)) (stand_more (UpTo (length b.code)) (λ n. Unit {0}) (λ n h. tt) (first_of b ∷ (code_of b ++ rest_of b)) is.stand))
+      subst (λ (l : List Shown). AllStand (λ n. Unit {0}) (kept (named_of b) l)) (sym (body_lines_are v b))
+      (kept_stand (λ n. Unit {0}) (named_of b) (first_of v b ∷ (code_of v b ++ rest_of v b)) (stand_more (UpTo (length b.code)) (λ n. Unit {0}) (λ n h. tt) (first_of v b ∷ (code_of v b ++ rest_of v b)) is.stand))
 
   pub bodies_written : (bs : List Body) → AllByRecursion BodyStands bs → AllStand (λ n. Unit {0}) (flat_map kept_body bs)
   bodies_written [] all = tt
@@ -164,17 +149,17 @@ module _ (v : Abc) where
   abbrev Named : List ℕ → Body → ℕ → Type 0
   Named named b n = (n ≤ length b.code) × (among n named ≡ true)
 
-  match_first : (named : List ℕ) (b : Body) (is : BodyStands b) → AllStand (Named named b) (first_of b ∷ (code_of b ++ rest_of b)) → (taken : List (List ℕ)) → is_among (decimal b.method) taken ≡ false → (more rest : List Shown)
+  match_first : (named : List ℕ) (b : Body) (is : BodyStands b) → AllStand (Named named b) (first_of v b ∷ (code_of v b ++ rest_of v b)) → (taken : List (List ℕ)) → is_among (decimal b.method) taken ≡ false → (more rest : List Shown)
       → ((k : ℕ) (labels : List Label) (set : List (List ℕ)) → Match shows_operands (rows_from labels set (decimal b.method ∷ taken) (raws k more)) rest)
-      → (k : ℕ) (labels : List Label) (set : List (List ℕ)) → Match shows_operands (rows_from labels set taken (raws k (first_of b ∷ (kept named (code_of b) ++ (rest_of b ++ more))))) (first_of b ∷ (code_of b ++ (rest_of b ++ rest)))
+      → (k : ℕ) (labels : List Label) (set : List (List ℕ)) → Match shows_operands (rows_from labels set taken (raws k (first_of v b ∷ (kept named (code_of v b) ++ (rest_of v b ++ more))))) (first_of v b ∷ (code_of v b ++ (rest_of v b ++ rest)))
   match_first named b is stand taken free more rest h k labels set =
       let items = (body_line s).items (body_head s i b) in
       let raw = raw_line k words.Body items in
-      let others = raws (k + 1) (kept named (code_of b) ++ (rest_of b ++ more)) in
+      let others = raws (k + 1) (kept named (code_of v b) ++ (rest_of v b ++ more)) in
       let here = labels_set 0 others in
       let taken2 = method_in raw.operands ++ taken in
-      let lines = front_stand (Named named b) (code_of b) (rest_of b) stand.1 in
-      let are : AreSet (Named named b) here = λ n h. found (file.instructions s i) (λ x. refl) named b.code 0 (k + 1) n (rest_of b ++ more) (omega arith) (omega (arith, h.0)) (omega (arith, h.0, is.short)) h.1 in
+      let lines = front_stand (Named named b) (code_of v b) (rest_of v b) stand.1 in
+      let are : AreSet (Named named b) here = λ n h. found (file.instructions s i) (λ x. refl) named b.code 0 (k + 1) n (rest_of v b ++ more) (omega arith) (omega (arith, h.0)) (omega (arith, h.0, is.short)) h.1 in
       let line : IsLine shows_operands (row raw here (is_taken (method_in raw.operands) taken)) words.Body items =
       record { word = refl; whole = refl; operands = items_tokens (Named named b) here are items stand.0.1; once = ap (λ (ms : List (List ℕ)). is_taken ms taken) (method_token b) ∙ free } in
       let on : (k : ℕ) (set : List (List ℕ)) → Match shows_operands (rows_from here set taken2 (raws k more)) rest =
@@ -183,27 +168,27 @@ module _ (v : Abc) where
         rows_from here [] taken2 others,
         refl,
         line,
-        match_code (file.instructions s i) (λ x. refl) named (Named named b) here taken2 are b.code 0 (omega (arith, is.short)) lines.0 (rest_of b ++ more) (rest_of b ++ rest)
-            (λ k set. match_still (Named named b) here set taken2 are (rest_of b) lines.1 is.still more rest (λ k. on k set) k) (k + 1) [] (λ n le lt. refl),
+        match_code (file.instructions s i) (λ x. refl) named (Named named b) here taken2 are b.code 0 (omega (arith, is.short)) lines.0 (rest_of v b ++ more) (rest_of v b ++ rest)
+            (λ k set. match_still (Named named b) here set taken2 are (rest_of v b) lines.1 is.still more rest (λ k. on k set) k) (k + 1) [] (λ n le lt. refl),
       )
 
-  kept_parts : (named : List ℕ) (b : Body) (more : List Shown) → AllByRecursion IsStill (rest_of b) → kept named (first_of b ∷ (code_of b ++ rest_of b)) ++ more ≡ first_of b ∷ (kept named (code_of b) ++ (rest_of b ++ more))
+  kept_parts : (named : List ℕ) (b : Body) (more : List Shown) → AllByRecursion IsStill (rest_of v b) → kept named (first_of v b ∷ (code_of v b ++ rest_of v b)) ++ more ≡ first_of v b ∷ (kept named (code_of v b) ++ (rest_of v b ++ more))
   kept_parts named b more still =
-      ap (λ (l : List Shown). first_of b ∷ l)
-      (ap (λ (l : List Shown). l ++ more) (kept-append named (code_of b) (rest_of b) ∙ ap (λ (l : List Shown). kept named (code_of b) ++ l) (kept_still named (rest_of b) still)) ∙ append_assoc (kept named (code_of b)) (rest_of b) more)
+      ap (λ (l : List Shown). first_of v b ∷ l)
+      (ap (λ (l : List Shown). l ++ more) (kept-append named (code_of v b) (rest_of v b) ∙ ap (λ (l : List Shown). kept named (code_of v b) ++ l) (kept_still named (rest_of v b) still)) ∙ append_assoc (kept named (code_of v b)) (rest_of v b) more)
 
   match_body : (b : Body) → BodyStands b → (taken : List (List ℕ)) → is_among (decimal b.method) taken ≡ false → (more rest : List Shown)
       → ((k : ℕ) (labels : List Label) (set : List (List ℕ)) → Match shows_operands (rows_from labels set (decimal b.method ∷ taken) (raws k more)) rest)
       → (k : ℕ) (labels : List Label) (set : List (List ℕ)) → Match shows_operands (rows_from labels set taken (raws k (kept_body b ++ more))) (lines_of_body v b ++ rest)
   match_body b is taken free more rest h k labels set =
-      let plain = first_of b ∷ (code_of b ++ rest_of b) in
+      let plain = first_of v b ∷ (code_of v b ++ rest_of v b) in
       let named = named_of b in
-      let stand : AllStand (Named named b) plain = subst (λ (l : List Shown). AllStand (λ n. (n ≤ length b.code) × (among n (flat_map targets_in l) ≡ true)) plain) (sym (body_lines_are b)) (named_stand (UpTo (length b.code)) plain is.stand) in
+      let stand : AllStand (Named named b) plain = subst (λ (l : List Shown). AllStand (λ n. (n ≤ length b.code) × (among n (flat_map targets_in l) ≡ true)) plain) (sym (body_lines_are v b)) (named_stand (UpTo (length b.code)) plain is.stand) in
       let there = match_first named b is stand taken free more rest h k labels set in
-      let front : kept_body b ++ more ≡ first_of b ∷ (kept named (code_of b) ++ (rest_of b ++ more)) = ap (λ (l : List Shown). kept named l ++ more) (body_lines_are b) ∙ kept_parts named b more is.still in
-      let back : lines_of_body v b ++ rest ≡ first_of b ∷ (code_of b ++ (rest_of b ++ rest)) = ap (λ (l : List Shown). l ++ rest) (body_lines_are b) ∙ ap (λ (l : List Shown). first_of b ∷ l) (append_assoc (code_of b) (rest_of b) rest) in
+      let front : kept_body b ++ more ≡ first_of v b ∷ (kept named (code_of v b) ++ (rest_of v b ++ more)) = ap (λ (l : List Shown). kept named l ++ more) (body_lines_are v b) ∙ kept_parts named b more is.still in
+      let back : lines_of_body v b ++ rest ≡ first_of v b ∷ (code_of v b ++ (rest_of v b ++ rest)) = ap (λ (l : List Shown). l ++ rest) (body_lines_are v b) ∙ ap (λ (l : List Shown). first_of v b ∷ l) (append_assoc (code_of v b) (rest_of v b) rest) in
       subst (λ (l : List Shown). Match shows_operands (rows_from labels set taken (raws k (kept_body b ++ more))) l) (sym back)
-      (subst (λ (l : List Shown). Match shows_operands (rows_from labels set taken (raws k l)) (first_of b ∷ (code_of b ++ (rest_of b ++ rest)))) (sym front) there)
+      (subst (λ (l : List Shown). Match shows_operands (rows_from labels set taken (raws k l)) (first_of v b ∷ (code_of v b ++ (rest_of v b ++ rest)))) (sym front) there)
 
   -- ---- all bodies
 

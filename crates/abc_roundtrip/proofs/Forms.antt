@@ -23,6 +23,7 @@ use Rattle.abc_tables.specs.Ready.{AllUpTo, CanSpell}
 use Rattle.abc_rowparts.specs.Operands.{Operand, any_number, any_signed, eight, entry_upto, index_below, index_upto, is_name, number_below, several_items, target, text, u30}
 use Rattle.abc_lines.specs.Kinds.{multiname_kind, multiname_word, space_kind, space_word, trait_kind, trait_word, value_kind, value_word}
 use Rattle.abc_lines.specs.Lineforms.{alone, body_line, catch_line, double_line, entry_line, implements_line, instance_line, instruction_line, int_line, kind_in, method_index_line, method_line, multiname_fields, name_line, namespace_line, number_line, opcode_of, option_line, pair_fields, param_line, protected_line, set_line, slot_fields, slot_rest, slot_value, string_index_line, string_line, trait_fields, trait_line, trait_metadata_line, trait_rest, uint_line}
+use Rattle.abc_ranges.specs.Bytes.{HasByteFields}
 use Rattle.abc_roundtrip.proofs.Heads.{IsHead, instruction_head}
 use Rattle.abc_roundtrip.proofs.Items.{CanBeShown}
 use Rattle.abc_roundtrip.proofs.Runs.{size_of}
@@ -215,12 +216,6 @@ module _ (leads : ℕ → Type 0) where
     catch_shown h from to to_ fits = (from, (to, (to_, (index_upto-shown leads v.names _ fits.0.1.1.1.0, (index_upto-shown leads v.names _ fits.0.1.1.1.1.0, tt)))))
 
 -- ---- instructions
-
--- the fields of one byte, which are below 256
-abbrev pub HasByteFields : Instr → Type 0
-HasByteFields (instrs.ScopeObject n) = n < 256
-HasByteFields (instrs.Debug kind name reg extra) = (kind < 256) × (reg < 256)
-HasByteFields _ = Unit {0}
 
 pub instr_head : (n : ℕ) (i : Instr) → CanSpell n i → IsHead (words.Instruction (opcode_of i))
 unfolding form_at info_at

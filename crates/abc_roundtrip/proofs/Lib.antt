@@ -7,8 +7,6 @@ pub mod Matching
 pub mod Standing
 pub mod Forms
 pub mod Tables
-pub mod Fields
-pub mod Fitting
 pub mod Bodylines
 pub mod Listings
-pub mod Bytefields
+pub mod Narrowing

@@ -34,7 +34,9 @@ use Rattle.abc_lines.specs.Lineforms.{double_line, int_line, name_line, namespac
 use Rattle.abc_lines.specs.Listing.{body_text, lines_of_body, listing, quiet_lines, targets_in}
 use Rattle.abc_lines.specs.Texts.{Raw, lines_in, raws_from, rows_from, rows_of}
 use Rattle.abc_roundtrip.proofs.Bodylines.{all_differ, bodies_stand, bodies_written, kept_body, match_bodies, none_taken}
-use Rattle.abc_roundtrip.proofs.Fitting.{HasByteValues, table_fits}
+use Rattle.abc_ranges.specs.Bytes.{HasByteValues}
+use Rattle.abc_ranges.proofs.Bodyparts.{lines_are}
+use Rattle.abc_ranges.proofs.Fitting.{table_fits}
 use Rattle.abc_roundtrip.proofs.Forms.{double_shown, int_shown, name-shown, namespace-shown, set-shown, string_shown, uint-shown}
 use Rattle.abc_roundtrip.proofs.Items.{CanBeShown}
 use Rattle.abc_roundtrip.proofs.Matching.{kept_still, match_still}
@@ -122,36 +124,6 @@ module _ (v : Abc) where
             (two_sit Nowhere c z (classes-sit Nowhere s i 0 v.classes fits.1.1.1.1.0) (scripts-sit Nowhere s i 0 v.scripts fits.1.1.1.1.1.0))))),
       )
 
-  -- ---- the lines of the table, body by body
-
-  bodies_listed : (bs : List Body) → (file.body_lines s i 0).shows bs ≡ flat_map (lines_of_body v) bs
-  unfolding file.body_lines
-  bodies_listed [] = refl
-  bodies_listed (b ∷ bs) =
-      let first = Line words.Body _ in
-      let below = (file.body_below s i fs 0).shows (b.code, (b.handlers, b.traits)) in
-      let rest = (file.body_lines s i 0).shows bs in
-      ap (λ (l : List Shown). first ∷ l) (ap (λ (l : List Shown). l ++ rest) (sym (append-nil below)))
-      ∙ ap (λ (l : List Shown). lines_of_body v b ++ l) (bodies_listed bs)
-
-  lines_are : lines_of v ≡ quiet_lines v ++ flat_map (lines_of_body v) v.bodies
-  unfolding file.file
-  lines_are =
-      let p = (file.pools s i 0).shows (outline v).0 in
-      let m = (file.methods s i 0).shows v.methods in
-      let d = (file.metadata s i 0).shows (map metadata_lines v.metadata) in
-      let x = (file.instance_lines s i 0).shows (map instance_in v.instances) in
-      let c = (file.classes s i 0).shows v.classes in
-      let z = (file.scripts s i 0).shows v.scripts in
-      let b = flat_map (lines_of_body v) v.bodies in
-      ap (λ (l : List Shown). Line words.Abc (Number 16 ∷ Number 46 ∷ []) ∷ (p ++ (m ++ (d ++ (x ++ (c ++ (z ++ l))))))) (bodies_listed v.bodies)
-      ∙ ap (λ (l : List Shown). Line words.Abc (Number 16 ∷ Number 46 ∷ []) ∷ l)
-      (ap (λ (l : List Shown). p ++ (m ++ (d ++ (x ++ l)))) (sym (append_assoc c z b))
-      ∙ ap (λ (l : List Shown). p ++ (m ++ (d ++ l))) (sym (append_assoc x (c ++ z) b))
-      ∙ ap (λ (l : List Shown). p ++ (m ++ l)) (sym (append_assoc d (x ++ (c ++ z)) b))
-      ∙ ap (λ (l : List Shown). p ++ l) (sym (append_assoc m (d ++ (x ++ (c ++ z))) b))
-      ∙ sym (append_assoc p (m ++ (d ++ (x ++ (c ++ z)))) b))
-
   -- ---- the listing
 
   bodies_text : (bs : List Body) → flat_map (body_text v) bs ≡ flat_map (exact v) (flat_map (kept_body v) bs)
@@ -184,7 +156,7 @@ module _ (v : Abc) where
       let read : raws_from 1 (lines_in (listing v)) ≡ raws 1 lines = ap (λ (l : List ℕ). raws_from 1 (lines_in l)) (listing_is sit) ∙ lines_read v (λ n. Unit {0}) lines written 1 in
       let there = match_still Nowhere [] [] [] (λ n h. absurd h) quiet (sit_stand Nowhere quiet sit) (sit_still Nowhere quiet sit) (flat_map (kept_body v) v.bodies) (flat_map (lines_of_body v) v.bodies)
       (λ k. match_bodies v v.bodies stand (all_differ v.bodies b.2) [] (none_taken v v.bodies) k [] []) 1 in
-      subst (λ (l : List Shown). Match shows_operands (rows_of (listing v)) l) (sym lines_are)
+      subst (λ (l : List Shown). Match shows_operands (rows_of (listing v)) l) (sym (lines_are v))
       (subst (λ (rs : List _). Match shows_operands rs (quiet ++ flat_map (lines_of_body v) v.bodies)) (sym (rows_by (listing v) lines read)) there)
 
 -- ---- the file of an outline

@@ -7,7 +7,7 @@ use Rattle.abc_lines.specs.Listing.{listing}
 use Rattle.abc_lines.proofs.Answering.{text_decided}
 use Rattle.abc_tables.specs.declared.tables.Abc.{Abc}
 use Rattle.abc_tables.specs.Files.{IsFile}
-use Rattle.abc_roundtrip.proofs.Bytefields.{byte_values}
+use Rattle.abc_ranges.proofs.Bytefields.{byte_values}
 use Rattle.abc_roundtrip.proofs.Listings.{listing_is_text}
 use Rattle.abc_roundtrip.proofs.laws.listing_is_read_back.Goals as goal
 

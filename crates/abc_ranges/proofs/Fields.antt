@@ -34,7 +34,7 @@ use Rattle.abc_fits.proofs.TraitsFit as traits
 use Rattle.abc_rowparts.specs.Operands.{EachFits, any_number, any_signed, eight, entry_upto, index_below, index_upto, number_below, target, text, u30}
 use Rattle.abc_lines.specs.Kinds.{multiname_kind, space_kind, value_kind}
 use Rattle.abc_lines.specs.Lineforms.{catch_line, double_line, instruction_line, int_line, kind_in, multiname_fields, name_line, namespace_line, opcode_of, option_line, set_line, slot_value, string_line, trait_fields, uint_line}
-use Rattle.abc_roundtrip.proofs.Forms.{HasByteFields}
+use Rattle.abc_ranges.specs.Bytes.{HasByteFields}
 
 -- ---- lists
 

@@ -22,8 +22,7 @@ use Rattle.abc_tables.specs.Files.{file}
 use Rattle.abc_tables.specs.Instructions.{Branch, RawInstr, Same, Switch, instruction, operands}
 use Rattle.abc_tables.specs.Methods.{method}
 use Rattle.abc_tables.specs.Pools.{double, pools}
-use Rattle.abc_roundtrip.proofs.Fitting.{HasByteValues}
-use Rattle.abc_roundtrip.proofs.Forms.{HasByteFields}
+use Rattle.abc_ranges.specs.Bytes.{HasByteFields, HasByteValues}
 
 abbrev pub AreBytes : List ℕ → Type 0
 AreBytes bytes = AllByRecursion (λ b. b < 256) bytes

@@ -38,16 +38,8 @@ use Rattle.abc_lines.specs.Answers.{instance_head, instance_in, metadata_lines, 
 use Rattle.abc_lines.specs.File as file
 use Rattle.abc_lines.specs.Kinds.{trait_kind}
 use Rattle.abc_lines.specs.Lineforms.{BodyHead, MethodHead, TraitHead, body_line, catch_line, double_line, entry_line, implements_line, instance_line, int_line, method_index_line, method_line, name_line, namespace_line, number_line, option_line, param_line, protected_line, set_line, string_index_line, string_line, trait_line, trait_metadata_line, uint_line}
-use Rattle.abc_roundtrip.proofs.Fields.{below_in, catch_in, double_in, each, each_of, entry_in, fields_in, instr_in, int_in, name_in, namespace_in, number_in, option_in, pool_in, position_in, set_in, string_in, uint_in}
-use Rattle.abc_roundtrip.proofs.Forms.{HasByteFields}
-
--- The fields of one byte are below 256.
-pub record HasByteValues (v : Abc) : Type 0 where
-  pub doubles : AllByRecursion (λ d. AllByRecursion (λ b. b < 256) d.0) v.doubles
-  pub strings : AllByRecursion (λ s. AllByRecursion (λ b. b < 256) s) v.strings
-  pub methods : AllByRecursion (λ m. m.flags < 256) v.methods
-  pub instance_list : AllByRecursion (λ i. i.flags < 256) v.instances
-  pub bodies : AllByRecursion (λ b. AllByRecursion HasByteFields b.code) v.bodies
+use Rattle.abc_ranges.proofs.Fields.{below_in, catch_in, double_in, each, each_of, entry_in, fields_in, instr_in, int_in, name_in, namespace_in, number_in, option_in, pool_in, position_in, set_in, string_in, uint_in}
+use Rattle.abc_ranges.specs.Bytes.{HasByteFields, HasByteValues}
 
 -- ---- lists of lines
 
