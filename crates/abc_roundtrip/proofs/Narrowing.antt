@@ -10,7 +10,7 @@ use Rattle.abc_disasm.proofs.Shown.{name_line_is}
 use Rattle.abc_file.specs.Narrow.{HasNoApplytype, IsNarrow, has_params, is_applytype}
 use Rattle.abc_lines.specs.Kinds.{multiname_kind, multiname_word}
 use Rattle.abc_lines.specs.Lineforms.{instruction_line, kind_in, multiname_fields, name_line, opcode_of}
-use Rattle.abc_lines.specs.Listing.{comment_of, listing, name_comment, token_of}
+use Rattle.abc_lines.specs.Listing.{comment_of, listing, name_comment, name_in, token_of}
 use Rattle.abc_lines.specs.Texts.{or_else}
 use Rattle.abc_rowparts.specs.Lines.{Item}
 use Rattle.abc_tables.specs.declared.code.Body.{Body}
@@ -87,7 +87,7 @@ module _ (v : Abc) where
   unfolding name_line multiname_kind
   name_same m e =
       let fields = (multiname_fields (sizes_of v) (kind_in m)).items m in
-      ap (λ (w : List ℕ). written_line (Bare (codes "name") ∷ Bare w ∷ map token_of fields) ++ (name_comment v _ ++ 0x0a ∷ [])) (word_is m e)
+      ap (λ (w : List ℕ). written_line (Bare (codes "name") ∷ Bare w ∷ map token_of fields) ++ (name_comment v (name_in (Some m)) ++ 0x0a ∷ [])) (word_is m e)
       ∙ ap (λ (n : ℕ). written_line (Bare (codes "name") ∷ Bare (multiname_word (kind_in m)) ∷ map token_of fields) ++ (name_comment v n ++ 0x0a ∷ [])) (sym (name_line_is (sizes_of v) m))
 
   names_same : (ms : List Multiname) → AllByRecursion (λ m. has_params m ≡ false) ms → flat_map (narrow_name v) ms ≡ flat_map (name_text v) ms
