@@ -1,5 +1,5 @@
 -- How the ways to end follow from what was written.
-use Rattle.std.proofs.Common.{◌≡◌, ℕ, inl, inr, List, [], Some, None, Ok, Err, refl, sym, ap, ◌∙◌, subst}
+use Rattle.std.proofs.Common.{◌≡◌, ℕ, All, inl, inr, List, [], Some, None, Ok, Err, refl, sym, ap, ◌∙◌, subst}
 use Rattle.std.specs.Prelude.{is_ok, if◌then◌else◌, IsSome}
 use Rattle.std.proofs.lemmas.List.{append-nil}
 use Rattle.std.specs.declared.option.Option.{Option}
@@ -14,18 +14,23 @@ use Rattle.abc_varint.specs.declared.error.ReadError.{ReadError}
 use Rattle.abc_varint.specs.declared.error.ReadError.TheVariants as errors
 use Rattle.abc_file.specs.Reading.{AnswersFile, Canonises, IsCanonicalOf, IsFaultOf, IsUsedUp, OfInput, Refuses}
 use Rattle.abc_tables.specs.declared.tables.Abc.{Abc}
-use Rattle.abc_tables.proofs.Whole.{read_spelled}
+use Rattle.abc_tables.specs.Bodies.{IsReadyBody}
+use Rattle.abc_tables.specs.Files.{Fits, file_bytes}
+use Rattle.abc_tables.proofs.Whole.{file_ready, read_spelled}
 use Rattle.abc_rules.specs.declared.error.LinkError.{LinkError}
 use Rattle.abc_rules.specs.declared.error.LinkError.TheVariants as refusals
 use Rattle.abc_rules.specs.Firsts.{IsRefusal}
 use Rattle.abc_rules.specs.Rules.{AllHold}
+use Rattle.abc_tidy.specs.declared.error.TidyError.{TidyError}
+use Rattle.abc_tidy.specs.declared.error.TidyError.TheVariants as tidying
+use Rattle.abc_tidy.specs.Rules.{IsTidied, IsTidyError}
 use Rattle.abc_words.specs.declared.command.Command.{Command}
 use Rattle.abc_words.specs.declared.command.Command.TheVariants as commands
 use Rattle.abc_cli.specs.declared.stop.Stop.{Stop}
 use Rattle.abc_cli.specs.declared.stop.Stop.TheVariants as stops
 use Rattle.abc_cli.specs.Lines.{read_fault_text, write_fault_text, no_memory_text}
-use Rattle.abc_cli.specs.Outcome.{Answer, told, given, Check, CommandOutcome, OfFile, OutcomeOf}
-use Rattle.abc_cli.specs.Stops.{Gives, Stops, StopsAt, stop_answer, stop_of_link, stop_of_read}
+use Rattle.abc_cli.specs.Outcome.{Answer, told, given, Check, CommandOutcome, OfFile, OutcomeOf, Tidy}
+use Rattle.abc_cli.specs.Stops.{Gives, Stops, StopsAt, stop_answer, stop_of_link, stop_of_read, stop_of_tidy}
 use Rattle.abc_cli.specs.End.{Channel, channel, Got, GotFront, HasFailed, GivesLine, Ends, IsEnd}
 
 -- a line that was written or not
@@ -91,6 +96,7 @@ gave command source out err bytes s g end =
 pub stopped : (command : Command) (source out err : Channel) (stop : Stop) (s : Status) → Stops command source stop → Got out [] → GivesLine err (stop_answer stop) s → Ends (CommandOutcome command) source out err s
 stopped command source out err (stops.File place reason) s x o g = line_ends (CommandOutcome command source.before) (HasFailed source) out err (stop_answer (stops.File place reason)) s (x.outcome tt) o g
 stopped command source out err (stops.Item i rule) s x o g = line_ends (CommandOutcome command source.before) (HasFailed source) out err (stop_answer (stops.Item i rule)) s (x.outcome tt) o g
+stopped command source out err (stops.Tidy rule i) s x o g = line_ends (CommandOutcome command source.before) (HasFailed source) out err (stop_answer (stops.Tidy rule i)) s (x.outcome tt) o g
 stopped command source out err stops.NotBuilt s x o g = line_ends (CommandOutcome command source.before) (HasFailed source) out err (stop_answer stops.NotBuilt) s (x.outcome tt) o g
 stopped command source out err stops.ReadFault s x o g = read_failed (CommandOutcome command source.before) (HasFailed source) out err s (x.cause refl) o g
 stopped command source out err stops.NoMemory s x o g = memory_failed (CommandOutcome command source.before) (HasFailed source) out err s o g
@@ -98,6 +104,7 @@ stopped command source out err stops.NoMemory s x o g = memory_failed (CommandOu
 stop_not_done : (stop : Stop) → (stop_answer stop).status ≡ status.Done → ⊥
 stop_not_done (stops.File place reason) h = cc
 stop_not_done (stops.Item i rule) h = cc
+stop_not_done (stops.Tidy rule i) h = cc
 stop_not_done stops.NotBuilt h = cc
 stop_not_done stops.ReadFault h = cc
 stop_not_done stops.NoMemory h = cc
@@ -167,3 +174,16 @@ link_stops_at v refusals.NoMemory h = memory_stops_at (Check v)
 
 pub links_stop_at : (v : Abc) → AllHold v → StopsAt (Check v) stops.NotBuilt
 links_stop_at v h = record { answer = λ d. Check.links h refl; read = λ e. absurd cc }
+
+-- ---- tidy
+
+pub tidy_stops_at : (v : Abc) (e : TidyError) → IsTidyError v e → StopsAt (Tidy v) (stop_of_tidy e)
+tidy_stops_at v (tidying.Refused rule i) h = record { answer = λ d. Tidy.untidy rule i h refl; read = λ e. absurd cc }
+tidy_stops_at v tidying.NoMemory h = memory_stops_at (Tidy v)
+
+pub tidied_gives : (v t : Abc) (bytes : List ℕ) → IsTidied v t → bytes ≡ file_bytes t → Tidy v (given bytes)
+tidied_gives v t bytes h is = Tidy.tidied t h (ap given is)
+
+-- a file that fits has bodies that can be written
+pub fits_ready : (v : Abc) → Fits v → All IsReadyBody v.bodies
+fits_ready v f = file_ready v f.0 f.1

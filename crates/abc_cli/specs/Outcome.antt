@@ -16,7 +16,9 @@ use Rattle.abc_words.specs.Grammar.{Says, IsUsageWord}
 use Rattle.abc_rules.specs.declared.items.Item.{Item}
 use Rattle.abc_rules.specs.declared.items.LinkRule.{LinkRule}
 use Rattle.abc_rules.specs.Rules.{AllHold, IsFirstBroken}
-use Rattle.abc_cli.specs.Lines.{line, item_text, usage_text, no_command_text, refusal_text, not_built_text}
+use Rattle.abc_tidy.specs.declared.error.TidyRule.{TidyRule}
+use Rattle.abc_tidy.specs.Rules.{IsFirstBroken as IsFirstUntidy, IsTidied}
+use Rattle.abc_cli.specs.Lines.{line, item_text, usage_text, no_command_text, refusal_text, not_built_text, tidy_text}
 
 -- a status, the bytes for `out` and the bytes for `err`
 pub record Answer : Type 0 where
@@ -55,13 +57,18 @@ pub data Check (v : Abc) (a : Answer) : Type 0 where
   refused : (rule : LinkRule) (i : Item) → IsFirstBroken v rule i → a ≡ told status.Refused (item_text i rule) → Check v a
   links : AllHold v → a ≡ not_built → Check v a
 
+-- `tidy` of a file: the canonical bytes of the tidied file, or the first broken rule of tidying at its least index
+pub data Tidy (v : Abc) (a : Answer) : Type 0 where
+  tidied : (t : Abc) → IsTidied v t → a ≡ given (file_bytes t) → Tidy v a
+  untidy : (rule : TidyRule) (i : ℕ) → IsFirstUntidy v rule i → a ≡ told status.Refused (tidy_text rule i) → Tidy v a
+
 -- a command on an input
 abbrev pub OutcomeOf : Command → List ℕ → Answer → Type 0
 OutcomeOf commands.Canon input a = OfFile Canon input a
 OutcomeOf commands.Dis input a = OfFile Dis input a
 OutcomeOf commands.Asm input a = a ≡ not_built
 OutcomeOf commands.Check input a = OfFile Check input a
-OutcomeOf commands.Tidy input a = a ≡ not_built
+OutcomeOf commands.Tidy input a = OfFile Tidy input a
 OutcomeOf (commands.Run options) input a = a ≡ not_built
 OutcomeOf (commands.Gen options) input a = a ≡ not_built
 
@@ -75,7 +82,7 @@ reads_input commands.Canon = true
 reads_input commands.Dis = true
 reads_input commands.Asm = false
 reads_input commands.Check = true
-reads_input commands.Tidy = false
+reads_input commands.Tidy = true
 reads_input (commands.Run options) = false
 reads_input (commands.Gen options) = false
 

@@ -8,17 +8,20 @@ use Rattle.abc_varint.specs.declared.error.ReadError.{ReadError}
 use Rattle.abc_varint.specs.declared.error.ReadError.TheVariants as errors
 use Rattle.abc_rules.specs.declared.error.LinkError.{LinkError}
 use Rattle.abc_rules.specs.declared.error.LinkError.TheVariants as refusals
+use Rattle.abc_tidy.specs.declared.error.TidyError.{TidyError}
+use Rattle.abc_tidy.specs.declared.error.TidyError.TheVariants as tidying
 use Rattle.abc_words.specs.declared.command.Command.{Command}
 use Rattle.abc_cli.specs.declared.stop.Stop.{Stop}
 use Rattle.abc_cli.specs.declared.stop.Stop.TheVariants as stops
 use Rattle.abc_cli.specs.End.{Channel, HasFailed}
-use Rattle.abc_cli.specs.Lines.{item_text, refusal_text, read_fault_text, no_memory_text}
+use Rattle.abc_cli.specs.Lines.{item_text, refusal_text, read_fault_text, no_memory_text, tidy_text}
 use Rattle.abc_cli.specs.Outcome.{Answer, CommandOutcome, given, not_built, told}
 
 -- what is answered where a command gives nothing
 abbrev pub stop_answer : Stop → Answer
 stop_answer (stops.File place reason) = told status.Refused (refusal_text (refusal place reason))
 stop_answer (stops.Item i rule) = told status.Refused (item_text i rule)
+stop_answer (stops.Tidy rule i) = told status.Refused (tidy_text rule i)
 stop_answer stops.NotBuilt = not_built
 stop_answer stops.ReadFault = told status.ReadFault read_fault_text
 stop_answer stops.NoMemory = told status.NoMemory no_memory_text
@@ -37,6 +40,10 @@ stop_of_read errors.NoMemory = stops.NoMemory
 abbrev pub stop_of_link : LinkError → Stop
 stop_of_link (refusals.Refused rule i) = stops.Item i rule
 stop_of_link refusals.NoMemory = stops.NoMemory
+
+abbrev pub stop_of_tidy : TidyError → Stop
+stop_of_tidy (tidying.Refused rule i) = stops.Tidy rule i
+stop_of_tidy tidying.NoMemory = stops.NoMemory
 
 -- The bytes are those of the command's outcome, and nothing of the input is left.
 pub record Gives (command : Command) (source : Channel) (bytes : List ℕ) : Type 0 where

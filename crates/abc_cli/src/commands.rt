@@ -7,6 +7,7 @@ use crate::canon::canon;
 use crate::check::check;
 use crate::dis::dis;
 use crate::stop::Stop;
+use crate::tidy::tidy;
 use abc_base::Source;
 use abc_words::Command;
 use std::alloc::Global;
@@ -25,6 +26,7 @@ pub fn bytes_of<S: Source>(
         Command::Canon => canon(alloc, source),
         Command::Dis => dis(alloc, source),
         Command::Check => check(alloc, source),
-        Command::Asm | Command::Tidy | Command::Run(_) | Command::Gen(_) => Err(Stop::NotBuilt),
+        Command::Tidy => tidy(alloc, source),
+        Command::Asm | Command::Run(_) | Command::Gen(_) => Err(Stop::NotBuilt),
     }
 }

@@ -2,7 +2,7 @@ ghost use Rattle.std.specs.Prelude.{◌≡◌, is_ok, if◌then◌else◌};
 ghost use Rattle.abc_base.specs.Sinks.{WritesAll};
 ghost use Rattle.abc_base.specs.Faults.{HasCause};
 ghost use Rattle.abc_cli.specs.End.{GivesLine, IsEnd, stream};
-ghost use Rattle.abc_cli.specs.Lines.{line, write_fault_text, no_command_text};
+ghost use Rattle.abc_cli.specs.Lines.{kind_of_tidy, line, write_fault_text, no_command_text};
 ghost use Rattle.abc_cli.specs.Outcome.{given, told};
 ghost use Rattle.abc_cli.specs.Stops.{stop_answer};
 
@@ -11,6 +11,7 @@ use crate::stop::Stop;
 use abc_base::{Failed, Sink, Status, write_all};
 use abc_format::Reason;
 use abc_rules::{Item, LinkRule};
+use abc_tidy::TidyRule;
 
 /// The status where its line was written, and that of a failed write where it wasn't.
 pub fn ended(written: Result<(), Failed>, status: Status) -> Status
@@ -49,6 +50,27 @@ fn give_item<E: Sink>(err: &mut E, item: Item, rule: LinkRule) -> Status
     ended(written, Status::Refused)
 }
 
+/// What kind of thing breaks a rule of tidying.
+fn tidy_kind(rule: TidyRule) -> &'static [u8]
+    ensures { result.now ≡ kind_of_tidy rule }
+{
+    match rule {
+        TidyRule::Operand => b"body",
+        TidyRule::ParamName => b"method",
+        TidyRule::NameCycle => b"name",
+        TidyRule::TooLarge => b"file",
+    }
+}
+
+/// Writes the line of a file that breaks a rule of tidying.
+#[tactic(auto, using(crate::proofs::Ending::gives))]
+fn give_tidy<E: Sink>(err: &mut E, rule: TidyRule, index: u32) -> Status
+    ensures { GivesLine (stream E.written E.faults err.old err.new) (stop_answer (Stop.Tidy rule index)) result }
+{
+    let written = write_place(err, tidy_kind(rule), index, rule.name().as_bytes());
+    ended(written, Status::Refused)
+}
+
 /// Writes the line of no words at all.
 #[tactic(auto, unfolding(crate::specs::Lines::no_command_text))]
 pub fn give_no_command<E: Sink>(err: &mut E) -> Status
@@ -65,6 +87,7 @@ pub fn give_stop<E: Sink>(err: &mut E, stop: Stop) -> Status
     match stop {
         Stop::File { place, reason } => give_file(err, place, reason),
         Stop::Item { item, rule } => give_item(err, item, rule),
+        Stop::Tidy { rule, index } => give_tidy(err, rule, index),
         Stop::NotBuilt => give_line(err, Status::NotBuilt, b"not built"),
         Stop::ReadFault => give_line(err, Status::ReadFault, b"read fault"),
         Stop::NoMemory => give_line(err, Status::NoMemory, b"no memory"),

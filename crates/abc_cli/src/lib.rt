@@ -10,6 +10,7 @@ mod lines;
 mod stop;
 #[cfg(test)]
 mod tests;
+mod tidy;
 mod top;
 
 pub use top::abc_main;

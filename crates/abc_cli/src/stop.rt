@@ -1,10 +1,11 @@
 ghost use Rattle.std.specs.Prelude.{◌≡◌};
-ghost use Rattle.abc_cli.specs.Stops.{stop_of_link, stop_of_read};
+ghost use Rattle.abc_cli.specs.Stops.{stop_of_link, stop_of_read, stop_of_tidy};
 ghost use Rattle.abc_cli.specs.declared.stop.Stop.TheVariants as stops;
 
 use abc_base::NoMemory;
 use abc_format::Reason;
 use abc_rules::{Item, LinkError, LinkRule};
+use abc_tidy::{TidyError, TidyRule};
 use abc_varint::ReadError;
 use thiserror::Error;
 
@@ -17,6 +18,9 @@ pub enum Stop {
     /// The file breaks a rule of linking.
     #[error("{rule:?} is broken by {item:?}")]
     Item { item: Item, rule: LinkRule },
+    /// The file breaks a rule of tidying, at a body, a method or a name.
+    #[error("{rule:?} is broken at {index}")]
+    Tidy { rule: TidyRule, index: u32 },
     /// The command is not built yet.
     #[error("not built")]
     NotBuilt,
@@ -47,6 +51,17 @@ impl From<LinkError> for Stop {
         match e {
             LinkError::Refused { rule, item } => Stop::Item { item, rule },
             LinkError::NoMemory => Stop::NoMemory,
+        }
+    }
+}
+
+impl From<TidyError> for Stop {
+    ghost from_gives = { λ e stop. stop ≡ stop_of_tidy e };
+
+    fn from(e: TidyError) -> Stop {
+        match e {
+            TidyError::Refused { rule, index } => Stop::Tidy { rule, index },
+            TidyError::NoMemory => Stop::NoMemory,
         }
     }
 }

@@ -14,6 +14,7 @@ fn steady_streams(rt: HostRuntime) -> Result<(), Fail> {
         ("canon", 17, Status::Refused),
         ("dis", 16, Status::Done),
         ("check", 16, Status::Refused),
+        ("tidy", 16, Status::Done),
     ] {
         let mut words = Words::new(rt.alloc());
         words.push(command.as_bytes())?;

@@ -19,4 +19,4 @@ pub returns-in_err-bytes-clause-stops : goal.returns-in_err-bytes-clause-stops
 returns-in_err-bytes-clause-stops g c =
     let p = err_from_is_err_and c.from_residual-in_err-bytes.result c.from_residual-in_err-bytes.ensures.1 in
     rw (p.1, p.2) (file_stops_at commands.Check Check (λ input a o. o) (stream g.S.Source.left g.S.Source.faults c.args.source.now c.read.new.source) c.in_ok-abc.abc c.in_ok-abc.field-0-1 c.in_err-bytes.field-0.0 c.in_ok-abc.ensures.answers
-      c.in_err-bytes.ensures.stops)
+    c.in_err-bytes.ensures.stops)

@@ -19,4 +19,4 @@ pub returns-in_err-text-clause-stops : goal.returns-in_err-text-clause-stops
 returns-in_err-text-clause-stops g c =
     let p = err_from_is_err_and c.from_residual-in_err-text.result c.from_residual-in_err-text.ensures.1 in
     rw (p.1, p.2) (file_stops_at commands.Dis Dis (λ input a o. o) (stream g.S.Source.left g.S.Source.faults c.args.source.now c.read.new.source) c.in_ok-abc.abc c.in_ok-abc.field-0-1 c.in_err-text.field-0.0 c.in_ok-abc.ensures.answers
-      c.in_err-text.ensures.stops)
+    c.in_err-text.ensures.stops)
