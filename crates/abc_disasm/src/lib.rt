@@ -15,6 +15,3 @@ mod tokens;
 mod traits;
 
 pub use listing::disassemble;
-
-#[cfg(test)]
-mod tests;

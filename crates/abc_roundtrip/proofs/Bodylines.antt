@@ -1,5 +1,5 @@
 -- The lines of bodies are read back as those of the bodies.
-use Rattle.std.proofs.Common.{◌≡◌, ℕ, zero, suc, ◌+◌, ◌<◌, ◌≤◌, ◌^◌, true, false, List, [], ◌∷◌, ◌++◌, decimal, length, map, refl, sym, ap, subst, ◌∙◌, append_assoc, append-nil, arith}
+use Rattle.std.proofs.Common.{◌≡◌, ℕ, zero, suc, ◌+◌, ◌<◌, ◌≤◌, ◌^◌, true, false, List, [], ◌∷◌, ◌++◌, decimal, length, map, refl, sym, ap, subst, ◌∙◌, append_assoc, arith}
 use Rattle.std.specs.List.{AllByRecursion, AllPairs, flat_map}
 use Rattle.std.proofs.lemmas.List.Elements.{recursion_from_All}
 use Rattle.abc_text.specs.declared.word.Word.TheVariants as words
@@ -18,7 +18,7 @@ use Rattle.abc_fits.specs.Fitting.{FitsBody, HasNames}
 use Rattle.abc_fits.proofs.BodiesFit.{body_fits}
 use Rattle.abc_fits.proofs.Combined.{position_fits}
 use Rattle.abc_rowparts.specs.Law.{IsLine, Match}
-use Rattle.abc_rowparts.specs.Lines.{Label, Shown, Line, Labels}
+use Rattle.abc_rowparts.specs.Lines.{Label, Shown, Labels}
 use Rattle.abc_rowparts.specs.Operands.{any_number}
 use Rattle.abc_rowparts.specs.Rows.{Faults, code_after}
 use Rattle.abc_rowparts.specs.Wordlines.{among, flat, shows_operands}

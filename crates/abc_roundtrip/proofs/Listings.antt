@@ -1,5 +1,5 @@
 -- The listing of a file that some bytes spell is a text of it.
-use Rattle.std.proofs.Common.{◌≡◌, ℕ, zero, suc, ℤ, pos, negsuc, ◌*◌, ◌%◌, ◌/◌, ◌^◌, ◌<◌, ◌≤◌, true, ◌&&◌, nat_eq, nat_le, int_le, List, [], ◌∷◌, ◌++◌, length, map, Some, None, refl, sym, ap, subst, ◌∙◌, append_assoc, append-nil, arith}
+use Rattle.std.proofs.Common.{◌≡◌, ℕ, zero, suc, ℤ, pos, negsuc, ◌*◌, ◌%◌, ◌/◌, ◌^◌, ◌<◌, ◌≤◌, true, ◌&&◌, nat_eq, nat_le, int_le, List, [], ◌∷◌, ◌++◌, length, map, Some, None, refl, sym, ap, subst, ◌∙◌, arith}
 use Rattle.std.specs.List.{AllByRecursion, flat_map}
 use Rattle.std.specs.Option.{option_to_list}
 use Rattle.std.specs.declared.option.Option.{Option}
@@ -24,7 +24,7 @@ use Rattle.abc_fits.proofs.DefinitionsFit.{definitions_fit}
 use Rattle.abc_fits.proofs.FileFits.{file_fits, tables_fit}
 use Rattle.abc_fits.proofs.MethodsFit.{metadata_fits}
 use Rattle.abc_rowparts.specs.Law.{Match}
-use Rattle.abc_rowparts.specs.Lines.{Number, Shown, Line}
+use Rattle.abc_rowparts.specs.Lines.{Shown}
 use Rattle.abc_rowparts.specs.Operands.{Operands, any_signed, eight}
 use Rattle.abc_rowparts.specs.Rows.{Faults}
 use Rattle.abc_rowparts.specs.Wordlines.{flat, shows_operands}

@@ -1,5 +1,5 @@
 -- A file without parameterised names and `applytype` has the text that it had before there were any.
-use Rattle.std.proofs.Common.{◌≡◌, ℕ, ◌+◌, inl, inr, Bool, true, false, nat_eq, not, List, [], ◌∷◌, ◌++◌, codes, map, Some, None, refl, sym, ap, ◌∙◌}
+use Rattle.std.proofs.Common.{◌≡◌, ℕ, ◌+◌, inl, inr, true, false, nat_eq, not, List, [], ◌∷◌, ◌++◌, codes, map, Some, refl, sym, ap, ◌∙◌}
 use Rattle.std.specs.List.{All, AllByRecursion, filter, flat_map}
 use Rattle.std.specs.declared.option.Option.{Option}
 use Rattle.std.proofs.lemmas.List.Elements.{recursion_from_All}
@@ -12,7 +12,6 @@ use Rattle.abc_lines.specs.Kinds.{multiname_kind, multiname_word}
 use Rattle.abc_lines.specs.Lineforms.{instruction_line, kind_in, multiname_fields, name_line, opcode_of}
 use Rattle.abc_lines.specs.Listing.{comment_of, listing, name_comment, name_in, token_of}
 use Rattle.abc_lines.specs.Texts.{or_else}
-use Rattle.abc_rowparts.specs.Lines.{Item}
 use Rattle.abc_tables.specs.declared.code.Body.{Body}
 use Rattle.abc_tables.specs.declared.code.Instr.{Instr}
 use Rattle.abc_tables.specs.declared.code.Instr.TheVariants as instrs
@@ -31,7 +30,7 @@ use Rattle.abc_text.specs.Tokens.{Bare}
 use Rattle.abc_text.specs.Writing.{written_line}
 use Rattle.abc_text.proofs.Bools.{split_bool}
 use Rattle.abc_text.proofs.Scans.{eq_is}
-use Rattle.abc_roundtrip.specs.Narrow.{kind_word, narrow_body, narrow_code, narrow_instr, narrow_listing, narrow_name, narrow_named, narrow_pools, narrow_words}
+use Rattle.abc_roundtrip.specs.Narrow.{kind_word, narrow_body, narrow_code, narrow_instr, narrow_listing, narrow_name, narrow_words}
 
 -- ---- names
 

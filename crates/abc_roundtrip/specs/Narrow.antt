@@ -1,6 +1,6 @@
 -- The narrow text: that of files without multinames of kind 1D and without opcode 53. It is made of the lines of the one
 -- text, with two tables that lack a row each.
-use Rattle.std.specs.Prelude.{ℕ, ◌+◌, Bool, true, false, nat_eq, not, List, [], ◌∷◌, ◌++◌, codes, map, Some, if◌then◌else◌}
+use Rattle.std.specs.Prelude.{ℕ, ◌+◌, nat_eq, not, List, [], ◌∷◌, ◌++◌, codes, map, Some, if◌then◌else◌}
 use Rattle.std.specs.List.{filter, flat_map}
 use Rattle.abc_disasm.specs.Texts.{body_head_text, body_targets, definitions_text, double_text, handler_text, int_text, label_if, namespace_text, set_text, string_text, trait_text, uint_text, version_text}
 use Rattle.abc_lines.specs.Kinds.{multiname_words}
