@@ -1,0 +1,6 @@
+pub mod Rooted
+pub mod Adding
+pub mod Hosts
+pub mod Numbered
+pub mod Past
+pub mod Finding

@@ -1,0 +1,10 @@
+//! The layouts of a file by their numbers: what has one, and what stands under what.
+#![tactic(auto)]
+
+mod forest;
+mod key;
+mod layouts;
+mod numbering;
+
+pub use layouts::Layouts;
+pub use numbering::number_parts;

@@ -1,0 +1,208 @@
+ghost use Rattle.std.specs.Prelude.{◌≡◌, ◌<◌, ◌++◌, ◌^◌, Contains, length, map, get_or, IfOk, IsTrue, OnOk};
+ghost use Rattle.abc_graph.specs.Orders.{IsOrder};
+ghost use Rattle.abc_layouts.specs.Forest.{class_bases};
+ghost use Rattle.abc_layouts.specs.Numbering.{AddsBodies, AddsBody, AddsEach, AddsParts};
+ghost use Rattle.abc_program.specs.Numbering.{IsNumbering};
+ghost use Rattle.abc_program.specs.Parts.{has_activation as activates};
+ghost use Rattle.abc_rules.specs.Parts.{body_at, method_at};
+ghost use Rattle.abc_rules.specs.Rules.{AllHold};
+
+use crate::forest::class_order;
+use abc_base::{HostClass, NoMemory, Table};
+use abc_graph::Order;
+use abc_names::{HOST_CLASSES, Meanings};
+use abc_program::Part;
+use abc_tables::{Abc, has_flag};
+use std::alloc::Global;
+
+/// The instances of the classes of the host.
+fn push_hosts(parts: &mut Table<Part>, hosts: &[HostClass]) -> Result<(), NoMemory>
+    ensures { OnOk result (parts.new ≡ parts.old ++ map (λ h. Part.Host h) hosts.now) }
+{
+    for host in hosts {
+        parts.push(Part::Host(*host))?;
+    }
+    Ok(())
+}
+
+/// The class objects of the host.
+fn push_host_objects(parts: &mut Table<Part>, hosts: &[HostClass]) -> Result<(), NoMemory>
+    ensures { OnOk result (parts.new ≡ parts.old ++ map (λ h. Part.HostClassObject h) hosts.now) }
+{
+    for host in hosts {
+        parts.push(Part::HostClassObject(*host))?;
+    }
+    Ok(())
+}
+
+/// The instances of the file's classes, each behind those of its base.
+#[tactic(auto, using(crate::proofs::Adding::each_none, crate::proofs::Adding::instance_next))]
+fn push_instances(abc: &Abc, parts: &mut Table<Part>, order: &Order) -> Result<(), NoMemory>
+    requires { IsOrder (class_bases abc.now) order.now.nodes order.now.places }
+    ensures { OnOk result (AddsEach abc.now parts.old parts.new (λ q. Part.Instance (get_or order.now.nodes q 0)) (length order.now.nodes)) }
+{
+    for class in order.nodes.as_slice() {
+        parts.push(Part::Instance(*class))?;
+    }
+    Ok(())
+}
+
+/// The class objects of the file.
+#[tactic(auto, using(crate::proofs::Adding::each_none, crate::proofs::Adding::class_object_next))]
+fn push_class_objects(abc: &Abc, parts: &mut Table<Part>, count: u32) -> Result<(), NoMemory>
+    requires { count ≡ length abc.now.instances }
+    ensures { OnOk result (AddsEach abc.now parts.old parts.new (λ k. Part.ClassObject k) count) }
+{
+    for class in 0..count {
+        parts.push(Part::ClassObject(class))?;
+    }
+    Ok(())
+}
+
+/// The global objects of the scripts.
+#[tactic(auto, using(crate::proofs::Adding::each_none, crate::proofs::Adding::global_next))]
+fn push_globals(abc: &Abc, parts: &mut Table<Part>, count: u32) -> Result<(), NoMemory>
+    requires { count ≡ length abc.now.scripts }
+    ensures { OnOk result (AddsEach abc.now parts.old parts.new (λ k. Part.Global k) count) }
+{
+    for script in 0..count {
+        parts.push(Part::Global(script))?;
+    }
+    Ok(())
+}
+
+/// The catch objects of a body.
+#[tactic(auto, using(crate::proofs::Adding::each_none, crate::proofs::Adding::catch_next))]
+fn push_catches(
+    abc: &Abc,
+    parts: &mut Table<Part>,
+    body: u32,
+    count: u32,
+) -> Result<(), NoMemory>
+    requires body { body < length abc.now.bodies }
+    requires count { count ≡ length (body_at abc.now body).handlers }
+    ensures { OnOk result (AddsEach abc.now parts.old parts.new (λ k. Part.Catch body k) count) }
+{
+    for exception in 0..count {
+        parts.push(Part::Catch(body, exception))?;
+    }
+    Ok(())
+}
+
+/// The flags of the method of a body.
+#[tactic(auto, using(crate::proofs::Past::past_end))]
+fn body_method(abc: &Abc, body: u32) -> u32
+    ensures { result ≡ (body_at abc.now body).method }
+{
+    match abc.bodies.find(body as usize) {
+        Some(body) => body.method,
+        None => 0,
+    }
+}
+
+/// How many exceptions a body has.
+#[tactic(auto, using(crate::proofs::Past::past_end))]
+fn handler_count(abc: &Abc, body: u32) -> usize
+    ensures { result ≡ length (body_at abc.now body).handlers }
+{
+    match abc.bodies.find(body as usize) {
+        Some(body) => body.handlers.len(),
+        None => 0,
+    }
+}
+
+/// The flags of a method.
+#[tactic(auto, using(crate::proofs::Past::past_end))]
+fn method_flags(abc: &Abc, method: u32) -> u8
+    ensures { result ≡ (method_at abc.now method).flags }
+{
+    match abc.methods.find(method as usize) {
+        Some(method) => method.flags,
+        None => 0,
+    }
+}
+
+/// Whether a body makes an activation.
+fn has_activation(abc: &Abc, body: u32) -> bool
+    ensures { result ≡ activates abc.now body }
+{
+    has_flag(method_flags(abc, body_method(abc, body)), 0x02)
+}
+
+/// The activation of a body, if it makes one.
+#[tactic(auto, using(crate::proofs::Adding::adds_none, crate::proofs::Adding::adds_activation))]
+fn push_activation(abc: &Abc, parts: &mut Table<Part>, body: u32) -> Result<(), NoMemory>
+    requires { body < length abc.now.bodies }
+    ensures adds { OnOk result (AddsParts abc.now parts.old parts.new) }
+    ensures own { OnOk result (IsTrue (activates abc.now body) → Contains parts.new (Part.Activation body)) }
+{
+    if has_activation(abc, body) {
+        parts.push(Part::Activation(body))?;
+    }
+    Ok(())
+}
+
+/// The activation and the catch objects of a body.
+#[tactic(auto, using(crate::proofs::Adding::body_added))]
+fn push_body(abc: &Abc, parts: &mut Table<Part>, body: u32) -> Result<(), NoMemory>
+    requires { body < length abc.now.bodies }
+    ensures { OnOk result (AddsBody abc.now parts.old parts.new body) }
+{
+    let count = handler_count(abc, body);
+    if count > u32::MAX as usize {
+        return Err(NoMemory);
+    }
+    push_activation(abc, parts, body)?;
+    push_catches(abc, parts, body, count as u32)?;
+    Ok(())
+}
+
+/// The activations and the catch objects of all bodies.
+#[tactic(auto, using(crate::proofs::Adding::bodies_none, crate::proofs::Adding::bodies_next))]
+fn push_bodies(abc: &Abc, parts: &mut Table<Part>, count: u32) -> Result<(), NoMemory>
+    requires { count ≡ length abc.now.bodies }
+    ensures { OnOk result (AddsBodies abc.now parts.old parts.new count) }
+{
+    for body in 0..count {
+        push_body(abc, parts, body)?;
+    }
+    Ok(())
+}
+
+/// Whether the tables of a file can be counted by 32 bits.
+fn are_few(abc: &Abc) -> bool
+    ensures { IsTrue result → (length abc.now.instances < 2 ^ 32) × (length abc.now.scripts < 2 ^ 32) × (length abc.now.bodies < 2 ^ 32) }
+{
+    abc.instances.len() <= u32::MAX as usize
+        && abc.scripts.len() <= u32::MAX as usize
+        && abc.bodies.len() <= u32::MAX as usize
+}
+
+/// All parts that have layouts, in an order in which each stands behind what it is under, the classes of the host first.
+#[tactic(auto, using(crate::proofs::Numbered::numbered))]
+fn parts_in_order(alloc: Global, abc: &Abc, order: &Order) -> Result<Table<Part>, NoMemory>
+    requires { IsOrder (class_bases abc.now) order.now.nodes order.now.places }
+    ensures { IfOk result (λ parts. IsNumbering abc.now parts) }
+{
+    if !are_few(abc) {
+        return Err(NoMemory);
+    }
+    let mut parts = Table::new(alloc);
+    push_hosts(&mut parts, HOST_CLASSES.as_slice())?;
+    push_host_objects(&mut parts, HOST_CLASSES.as_slice())?;
+    push_instances(abc, &mut parts, order)?;
+    push_class_objects(abc, &mut parts, abc.instances.len() as u32)?;
+    push_globals(abc, &mut parts, abc.scripts.len() as u32)?;
+    push_bodies(abc, &mut parts, abc.bodies.len() as u32)?;
+    Ok(parts)
+}
+
+/// All parts of a file that have layouts; a part's place is the number of its layout. What a part stands under has a
+/// lower number, and the classes of the host have the first.
+pub fn number_parts(alloc: Global, meanings: &Meanings<'_>) -> Result<Table<Part>, NoMemory>
+    requires { AllHold meanings.now.abc.now }
+    ensures { IfOk result (λ parts. IsNumbering meanings.now.abc.now parts) }
+{
+    let order = class_order(alloc, meanings)?;
+    parts_in_order(alloc, meanings.abc, &order)
+}
