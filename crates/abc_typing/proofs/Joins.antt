@@ -3,18 +3,18 @@ use Rattle.std.proofs.Common.{◌≡◌, ◌≢◌, ℕ, zero, suc, ◌+◌, ◌
 use Rattle.std.proofs.lemmas.Bool.{cases_lt, cases_eq}
 use Rattle.abc_program.specs.declared.types.Kind.{Kind}
 use Rattle.abc_program.specs.declared.types.Kind.TheVariants.{Any, Undef, Null, Num, Bool, Text, Space, Obj}
-use Rattle.abc_program.specs.Linked.{LinkedFile, above}
+use Rattle.abc_program.specs.Linked.{IsLinkedFile, LinkedFile, above}
 use Rattle.abc_program.specs.Tree.{IsBelow, IsCommon}
 use Rattle.abc_program.specs.declared.part.LayoutId.{LayoutId}
-use Rattle.abc_typing.specs.Typing.{IsTree, IsGood}
+use Rattle.abc_typing.proofs.Good.{IsGood}
 use Rattle.abc_program.specs.Kinds.{IsAtMost, IsJoin}
 use Rattle.abc_typing.specs.Height.{height}
-use Rattle.abc_typing.proofs.Tree.{below_self, below_up, below_le, below_both, below_next}
-use Rattle.abc_typing.proofs.Order.{kind_self, kind_any}
+use Rattle.abc_program.proofs.Tree.{above_le, below_self, below_up, below_le, below_both, below_next}
+use Rattle.abc_program.proofs.Order.{kind_self, kind_any}
 
-pub meeting : (p : LinkedFile) → IsTree p → (fuel a b : ℕ) → a + b ≤ fuel → (c : ℕ) × IsCommon p a b c
+pub meeting : (p : LinkedFile) → IsLinkedFile p → (fuel a b : ℕ) → a + b ≤ fuel → (c : ℕ) × IsCommon p a b c
 meeting p t zero a b h = let e : b ≡ a = omega arith in (a, record { left = below_self p a; right = subst (λ x. IsBelow p x a) (sym e) (below_self p a); least = λ n x y. x })
-meeting p t (suc fuel) a b h = elim (cases_eq a b) [ inl e ↦ (a, record { left = below_self p a; right = subst (λ x. IsBelow p x a) e (below_self p a); least = λ n x y. x }) | inr ne ↦ elim (cases_lt b a) [ inl lt ↦ (let ta = t a in down lt (meeting p t fuel (above p a) b (omega arith))) | inr le ↦ (let tb = t b in let lt : a < b = omega arith in up lt (meeting p t fuel a (above p b) (omega arith))) ] ]
+meeting p t (suc fuel) a b h = elim (cases_eq a b) [ inl e ↦ (a, record { left = below_self p a; right = subst (λ x. IsBelow p x a) e (below_self p a); least = λ n x y. x }) | inr ne ↦ elim (cases_lt b a) [ inl lt ↦ (let ta = above_le p t a in down lt (meeting p t fuel (above p a) b (omega arith))) | inr le ↦ (let tb = above_le p t b in let lt : a < b = omega arith in up lt (meeting p t fuel a (above p b) (omega arith))) ] ]
   where
     down : b < a → ((c : ℕ) × IsCommon p (above p a) b c) → (c : ℕ) × IsCommon p a b c
     down lt r = (r.0, record { left = below_up p a r.0 r.1.left; right = r.1.right; least = λ n x y. r.1.least n (below_both p t a b n lt x y) y })
@@ -24,7 +24,7 @@ meeting p t (suc fuel) a b h = elim (cases_eq a b) [ inl e ↦ (a, record { left
 
 -- what stands above another layout is lower
 climbs_lower : (p : LinkedFile) → IsGood p → (n : ℕ) → 0 < n → length p.parts ≤ n → (a c : ℕ) → IsBelow p a c → a ≢ c → min c n < min a n
-climbs_lower p g n pos long a c b ne = elim (cases_lt a (length p.parts)) [ inl lt ↦ (let q = below_le p g.tree a c b in omega arith) | inr le ↦ (let q = below_le p g.tree (above p a) c (below_next p a c b ne) in let z = g.outside a le in omega arith) ]
+climbs_lower p g n pos long a c b ne = elim (cases_lt a (length p.parts)) [ inl lt ↦ (let q = below_le p g.linked a c b in omega arith) | inr le ↦ (let q = below_le p g.linked (above p a) c (below_next p a c b ne) in let z = g.outside a le in omega arith) ]
 
 -- the least kind above two, and that it is the first or has less to rise
 pub record Joined (p : LinkedFile) (n : ℕ) (a b j : Kind) : Type 0 where
@@ -55,7 +55,7 @@ kind_join p g n pos long Null Text = (Text, joined_right p n Null Text tt (omega
 kind_join p g n pos long Null Space = (Space, joined_right p n Null Space tt (omega arith))
 kind_join p g n pos long Null (Obj m) = (Obj m, joined_right p n Null (Obj m) tt (omega arith))
 kind_join p g n pos long (Obj l) (Obj m) =
-    let r = meeting p g.tree (l.0 + m.0) l.0 m.0 (omega arith) in
+    let r = meeting p g.linked (l.0 + m.0) l.0 m.0 (omega arith) in
     (Obj (record { 0 = r.0 }), record { join = record { left = r.1.left; right = r.1.right; least = least r.0 r.1 }; rises = elim (cases_eq l.0 r.0) [ inl e ↦ inl (ap (λ (x : ℕ). Obj (record { 0 = x })) (sym e)) | inr ne ↦ inr (let z = climbs_lower p g n pos long l.0 r.0 r.1.left ne in omega arith) ] })
   where
     least : (c : ℕ) → IsCommon p l.0 m.0 c → (k : Kind) → IsAtMost p (Obj l) k → IsAtMost p (Obj m) k → IsAtMost p (Obj (record { 0 = c })) k

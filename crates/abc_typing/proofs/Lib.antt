@@ -1,6 +1,6 @@
 pub mod Lists
-pub mod Tree
-pub mod Order
+pub mod Good
+pub mod Reaching
 pub mod Joins
 pub mod Member
 pub mod Fine

@@ -6,12 +6,13 @@ use Rattle.abc_typing.specs.Lists.{Each2}
 use Rattle.abc_typing.proofs.Lists.{Each2-length, Each2-take, Each2-drop, Each2-append, Each2-set}
 use Rattle.abc_program.specs.declared.types.Kind.{Kind}
 use Rattle.abc_program.specs.declared.types.Kind.TheVariants.{Any, Undef, Null, Num, Bool as Truth, Text, Space, Obj}
-use Rattle.abc_program.specs.Linked.{LinkedFile, above, layout_of}
+use Rattle.abc_program.specs.Linked.{IsLinkedFile, LinkedFile, above, layout_of}
 use Rattle.abc_program.specs.Tree.{up, IsBelow}
 use Rattle.abc_program.specs.declared.part.LayoutId.{LayoutId}
 use Rattle.abc_program.specs.Kinds.{IsAtMost}
-use Rattle.abc_typing.proofs.Tree.{below_trans, below_le, below_next, below_reached, below_self}
-use Rattle.abc_typing.proofs.Order.{kind_self, kind_any, kind_trans}
+use Rattle.abc_program.proofs.Tree.{above_le, below_self, below_trans, below_up}
+use Rattle.abc_typing.proofs.Reaching.{below_reached, reached}
+use Rattle.abc_program.proofs.Order.{kind_self, kind_any, kind_trans}
 use Rattle.abc_base.specs.declared.names.HostClass.TheVariants as hosts
 use Rattle.abc_program.specs.Places.{place_of}
 use Rattle.abc_program.specs.declared.part.Part.TheVariants as parts
@@ -36,28 +37,16 @@ use Rattle.abc_shapes.specs.declared.row.Scoping.{Scoping}
 use Rattle.abc_shapes.specs.declared.row.Scoping.TheVariants.{Stays, Pushes, Pops}
 use Rattle.abc_typing.specs.Effects.{Here, fixed, slot, needs, args, depth, taken, kind_at, receiver, is_null, goes_on, slot_kind, sum_kind, scope_of, kind_of, scope_kind, scopes_after, locals_after, next, caught, covering}
 use Rattle.abc_typing.specs.Rules.{reaches, is_namespace, is_object, is_number, is_instance, has_slot, suits, all_suit, is_walked, names_scope, super_layout, keeps, may_pop, may_push, is_empty}
-use Rattle.abc_typing.specs.Typing.{IsTree, IsGood, ScopeLe, StateLe, IsFine, In, Follows}
+use Rattle.abc_typing.specs.Typing.{ScopeLe, StateLe, IsFine, In, Follows}
 use Rattle.std.proofs.lemmas.Bool.{cases_eq}
-use Rattle.abc_typing.proofs.Tree.{below_up}
 use Rattle.abc_typing.specs.Effects.{leads, after}
 use Rattle.abc_typing.specs.Rules.{after_instr, after_row}
 use Rattle.abc_typing.proofs.Member.{in_left, in_right, map_in}
 use Rattle.abc_typing.proofs.Sized.{split}
+use Rattle.abc_typing.proofs.Good.{IsGood}
 use Rattle.abc_typing.specs.Standing.{here, Stands}
 use Rattle.abc_typing.proofs.Member.{and_left, and_right, and_both}
 use Rattle.abc_typing.proofs.Fine.{stands, fine_from}
-
--- the test of being below finds what is below
-pub reached : (p : LinkedFile) → IsTree p → (fuel l m : ℕ) → l ≤ fuel → IsBelow p l m → reaches p fuel l m ≡ true
-reached p t zero l m h b = let q = below_le p t l m b in eq-eqb l m (let z = t l in zeroes l m h q)
-  where
-    zeroes : (l m : ℕ) → l ≤ 0 → m ≤ l → l ≡ m
-    zeroes l m h q = omega arith
-reached p t (suc fuel) l m h b = go (λ ne. let z = t l in reached p t fuel (above p l) m (omega arith) (below_next p l m b ne)) (nat_eq l m) refl
-  where
-    go : ((l ≡ m → ⊥) → reaches p fuel (above p l) m ≡ true) → (e : Bool) → nat_eq l m ≡ e → (nat_eq l m || reaches p fuel (above p l) m) ≡ true
-    go rec true is = ap (λ (x : Bool). x || reaches p fuel (above p l) m) is
-    go rec false is = ap (λ (x : Bool). x || reaches p fuel (above p l) m) is ∙ rec (λ e. let w = eq-eqb l m e in absurd cc)
 
 kind_at_le : (p : LinkedFile) (n : ℕ) (xs ys : List Kind) → Each2 (IsAtMost p) xs ys → IsAtMost p (kind_at xs n) (kind_at ys n)
 kind_at_le p n [] [] h = tt
@@ -107,7 +96,7 @@ object_down p a Null h e = grind arith
 object_down p a (Obj m) h e = grind arith
 object_down p a b h e = absurd cc
 
-instance_down : (p : LinkedFile) → IsTree p → (o : Option LayoutId) (a b : Kind) → IsAtMost p a b → is_instance p o b ≡ true → is_instance p o a ≡ true
+instance_down : (p : LinkedFile) → IsLinkedFile p → (o : Option LayoutId) (a b : Kind) → IsAtMost p a b → is_instance p o b ≡ true → is_instance p o a ≡ true
 instance_down p t None a b h e = refl
 instance_down p t (Some m) Null b h e = refl
 instance_down p t (Some m) (Obj l) (Obj k) h e = reached p t l.0 l.0 m.0 (omega arith) (below_trans p l.0 k.0 m.0 h (below_reached p k.0 k.0 m.0 e))
@@ -130,7 +119,7 @@ module _ (h : Here) (g : IsGood h.file) where
   suits_down : (n : Need) (a b : Kind) → IsAtMost h.file a b → ((r : VerifyRule) → suits h r n b ≡ true) → (r : VerifyRule) → suits h r n a ≡ true
   suits_down Namespace a b le f NotSpace = namespace_down h.file a b le (f NotSpace)
   suits_down Slotted a b le f NotObject = object_down h.file a b le (f NotObject)
-  suits_down Instance a b le f NotObject = instance_down h.file g.tree (super_layout h.row.site h.method.home) a b le (f NotObject)
+  suits_down Instance a b le f NotObject = instance_down h.file g.linked (super_layout h.row.site h.method.home) a b le (f NotObject)
   suits_down Slotted a b le f SlotIndex = slot_down h.file g (operand h.instr) a b le (f NotObject) (f SlotIndex)
   suits_down Index a b le f NotIndex = number_down h.file a b le (f NotIndex)
   suits_down n a b le f r = grind arith
@@ -243,12 +232,12 @@ scope_kind_le p z Space Space h = below_self p _
 scope_kind_le p z a b h = grind arith
 
 -- the first layout is above all
-root : (p : LinkedFile) → IsTree p → (fuel l : ℕ) → l ≤ fuel → IsBelow p l 0
+root : (p : LinkedFile) → IsLinkedFile p → (fuel l : ℕ) → l ≤ fuel → IsBelow p l 0
 root p t zero l h = let e : l ≡ 0 = omega arith in subst (λ k. IsBelow p k 0) (sym e) (below_self p 0)
-root p t (suc fuel) l h = elim (cases_eq l 0) [ inl e ↦ subst (λ k. IsBelow p k 0) (sym e) (below_self p 0) | inr ne ↦ (let z = t l in below_up p l 0 (root p t fuel (above p l) (omega arith))) ]
+root p t (suc fuel) l h = elim (cases_eq l 0) [ inl e ↦ subst (λ k. IsBelow p k 0) (sym e) (below_self p 0) | inr ne ↦ (let z = above_le p t l in below_up p l 0 (root p t fuel (above p l) (omega arith))) ]
 
 object_above : (p : LinkedFile) → IsGood p → (l : ℕ) → IsBelow p l (place_of p.parts (parts.Host hosts.Object))
-object_above p g l = subst (λ (x : ℕ). IsBelow p l x) (sym g.root) (root p g.tree l l (omega arith))
+object_above p g l = subst (λ (x : ℕ). IsBelow p l x) (sym g.root) (root p g.linked l l (omega arith))
 
 null_down : (p : LinkedFile) (a b : Kind) → IsAtMost p a b → is_null a ≡ false → is_null b ≡ false
 null_down p a Null h e = grind arith

@@ -1,12 +1,8 @@
 -- Typings, and what can be derived.
-use Rattle.std.specs.Prelude.{◌≡◌, ℕ, ◌-◌, ◌≤◌, ◌+◌, List, [], ◌∷◌, ◌++◌, Bool, Option, Some, None, length, take, replicate, slice_get, ◌⊎◌}
+use Rattle.std.specs.Prelude.{◌≡◌, ℕ, ◌+◌, List, [], ◌∷◌, ◌++◌, Bool, Option, Some, None, length, take, replicate, slice_get, ◌⊎◌}
 use Rattle.abc_typing.specs.Lists.{Each2}
 use Rattle.abc_program.specs.declared.types.Kind.{Kind}
 use Rattle.abc_program.specs.declared.types.Kind.TheVariants.{Undef}
-use Rattle.abc_base.specs.declared.names.HostClass.TheVariants as hosts
-use Rattle.abc_program.specs.Linked.{above}
-use Rattle.abc_program.specs.Places.{place_of}
-use Rattle.abc_program.specs.declared.part.Part.TheVariants as parts
 use Rattle.abc_program.specs.Kinds.{IsAtMost}
 use Rattle.abc_program.specs.Linked.{LinkedFile}
 use Rattle.abc_typing.specs.Routines.{Routine}
@@ -14,19 +10,7 @@ use Rattle.abc_typing.specs.declared.state.Scope.{Scope}
 use Rattle.abc_typing.specs.declared.state.State.{State}
 use Rattle.abc_typing.specs.declared.rule.VerifyRule.{VerifyRule}
 use Rattle.abc_typing.specs.declared.rule.VerifyRule.TheVariants.{Merge}
-use Rattle.abc_typing.specs.Effects.{slot}
 use Rattle.abc_typing.specs.Rules.{broken, broken_early, follows}
-
--- layouts are a tree: a base has a lower number than what is under it, and the first is above itself
-abbrev pub IsTree : LinkedFile → Type 0
-IsTree p = (l : ℕ) → above p l ≤ l - 1
-
--- what a linked file keeps, as far as a verifier asks: a tree of layouts, in which each has the slots of the one above it
-pub record IsGood (p : LinkedFile) : Type 0 where
-  pub tree : IsTree p
-  pub outside : (l : ℕ) → length p.parts ≤ l → above p l ≡ 0
-  pub root : place_of p.parts (parts.Host hosts.Object) ≡ 0
-  pub inherits : (l j : ℕ) (k : Kind) → slot p (above p l) j ≡ Some k → slot p l j ≡ Some k
 
 pub record ScopeLe (p : LinkedFile) (a b : Scope) : Type 0 where
   pub kind : IsAtMost p a.kind b.kind

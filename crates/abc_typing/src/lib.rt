@@ -3,11 +3,13 @@
 #![tactic(auto)]
 
 mod home;
+mod laws;
 mod rule;
 mod stack;
 mod state;
 
 pub use home::Home;
+pub use laws::law_of_rules;
 pub use rule::VerifyRule;
 pub use stack::Stack;
 pub use state::{Scope, State};
