@@ -1,5 +1,5 @@
 -- A state that breaks no rule.
-use Rattle.std.proofs.Common.{◌≡◌, ℕ, List, [], ◌∷◌, ◌++◌, Option, Some, None, refl, sym, ap, ◌∙◌, subst, ◌⊎◌, inl, inr}
+use Rattle.std.proofs.Common.{◌≡◌, ℕ, List, [], ◌∷◌, ◌++◌, Option, Some, None, refl, ap, ◌∙◌, inl, inr}
 use Rattle.std.specs.Prelude.{Bool, true, false, cond, map, slice_get}
 use Rattle.abc_shapes.specs.Instructions.{opcode}
 use Rattle.abc_shapes.specs.Rows.{Shape, row_at}
@@ -10,7 +10,7 @@ use Rattle.abc_typing.specs.declared.state.State.{State}
 use Rattle.abc_typing.specs.declared.rule.VerifyRule.{VerifyRule}
 use Rattle.abc_typing.specs.declared.rule.VerifyRule.TheVariants.{NotRun, PoolIndex, NameForm, StackUnder, StackOver, ScopeUnder, ScopeOver, LocalIndex, OffEnd, Merge, NotSpace, NotObject, SlotIndex, ScopeIndex, NotHere, NotIndex, Parameters, Flags}
 use Rattle.abc_typing.specs.Effects.{covering, caught}
-use Rattle.abc_typing.specs.Rules.{keeps, first_broken, early_rules, late_rules, at_row, at_instr, after_row, after_instr, broken, follows}
+use Rattle.abc_typing.specs.Rules.{keeps, first_broken, early_rules, late_rules, at_row, at_instr, after_row, after_instr}
 use Rattle.abc_typing.specs.Typing.{In, IsFine}
 use Rattle.abc_typing.specs.Standing.{here, Stands}
 

@@ -1,11 +1,9 @@
 -- What a linked file keeps, as far as a verifier asks.
-use Rattle.std.proofs.Common.{◌≡◌, ℕ, zero, suc, ◌+◌, ◌≤◌, ◌<◌, ◌⊎◌, inl, inr, Bool, true, false, nat_eq, List, [], ◌∷◌, ◌++◌, Some, None, length, take, refl, sym, ap, ◌∙◌, subst, arith, unwrap_or}
+use Rattle.std.proofs.Common.{◌≡◌, ℕ, ◌+◌, ◌≤◌, ◌<◌, inl, inr, Bool, true, false, nat_eq, List, [], ◌∷◌, ◌++◌, Some, None, length, refl, ap, ◌∙◌, subst, arith, unwrap_or}
 use Rattle.std.specs.Prelude.{if◌then◌else◌, slice_get, Option}
 use Rattle.std.proofs.lemmas.Bool.{cases_lt}
 use Rattle.std.proofs.lemmas.List.{get_or_past, length-take}
-use Rattle.abc_base.specs.declared.names.HostClass.{HostClass}
 use Rattle.abc_base.specs.declared.names.HostClass.TheVariants as hosts
-use Rattle.abc_graph.specs.Ways.{IsFalling}
 use Rattle.abc_heirs.specs.Heirs.{heritage}
 use Rattle.abc_heirs.proofs.Laid.{heritage_none, heritage_some}
 use Rattle.abc_index.specs.Index.{first, first_from}

@@ -1,11 +1,10 @@
 -- Two kinds have a least kind above both, and it is the first or stands higher.
-use Rattle.std.proofs.Common.{◌≡◌, ◌≢◌, ℕ, zero, suc, ◌+◌, ◌≤◌, ◌<◌, List, [], ◌∷◌, length, get_or, refl, sym, ap, subst, arith, ◌⊎◌, inl, inr, min}
+use Rattle.std.proofs.Common.{◌≡◌, ◌≢◌, ℕ, zero, suc, ◌+◌, ◌≤◌, ◌<◌, length, refl, sym, ap, subst, arith, ◌⊎◌, inl, inr, min}
 use Rattle.std.proofs.lemmas.Bool.{cases_lt, cases_eq}
 use Rattle.abc_program.specs.declared.types.Kind.{Kind}
 use Rattle.abc_program.specs.declared.types.Kind.TheVariants.{Any, Undef, Null, Num, Bool, Text, Space, Obj}
 use Rattle.abc_program.specs.Linked.{IsLinkedFile, LinkedFile, above}
 use Rattle.abc_program.specs.Tree.{IsBelow, IsCommon}
-use Rattle.abc_program.specs.declared.part.LayoutId.{LayoutId}
 use Rattle.abc_typing.proofs.Good.{IsGood}
 use Rattle.abc_program.specs.Kinds.{IsAtMost, IsJoin}
 use Rattle.abc_typing.specs.Height.{height}

@@ -1,3 +1,4 @@
+pub mod Deep
 pub mod Lists
 pub mod Good
 pub mod Reaching

@@ -1,6 +1,6 @@
 -- What is in a list.
-use Rattle.std.proofs.Common.{◌≡◌, ℕ, List, [], ◌∷◌, ◌++◌, refl, sym, ap, ◌∙◌, subst, ◌⊎◌, inl, inr}
-use Rattle.std.specs.Prelude.{Bool, true, false, cond, map, filter, ◌&&◌}
+use Rattle.std.proofs.Common.{◌≡◌, List, [], ◌∷◌, ◌++◌, refl, ap, ◌⊎◌, inl, inr}
+use Rattle.std.specs.Prelude.{Bool, true, false, cond, map, ◌&&◌}
 use Rattle.abc_typing.specs.Typing.{In}
 
 pub in_append : {X : Type 0} (x : X) (xs ys : List X) → In x (xs ++ ys) → In x xs ⊎ In x ys

@@ -1,34 +1,32 @@
 -- The rules and what follows are monotone: one lemma for each need and each source of a kind.
-use Rattle.std.proofs.Common.{◌≡◌, ℕ, zero, suc, ◌+◌, ◌-◌, ◌≤◌, List, [], ◌∷◌, ◌++◌, Option, Some, None, length, take, drop, set, refl, sym, ap, ◌∙◌, subst, arith, ◌⊎◌, inl, inr}
-use Rattle.std.specs.Prelude.{Bool, true, false, is_some, cond, not, ◌&&◌, ◌||◌, leb, ltb, nat_eq, slice_get, map}
-use Rattle.std.proofs.lemmas.Bool.{eqb-true, eq-eqb}
+use Rattle.std.proofs.Common.{◌≡◌, ℕ, zero, suc, ◌+◌, ◌-◌, ◌≤◌, List, [], ◌∷◌, ◌++◌, Option, Some, None, length, take, refl, sym, ap, ◌∙◌, subst, arith, inl, inr}
+use Rattle.std.specs.Prelude.{Bool, true, false, is_some, cond, not, ◌&&◌, ◌||◌, leb, ltb, slice_get, map}
 use Rattle.abc_typing.specs.Lists.{Each2}
 use Rattle.abc_typing.proofs.Lists.{Each2-length, Each2-take, Each2-drop, Each2-append, Each2-set}
 use Rattle.abc_program.specs.declared.types.Kind.{Kind}
 use Rattle.abc_program.specs.declared.types.Kind.TheVariants.{Any, Undef, Null, Num, Bool as Truth, Text, Space, Obj}
-use Rattle.abc_program.specs.Linked.{IsLinkedFile, LinkedFile, above, layout_of}
+use Rattle.abc_program.specs.Linked.{IsLinkedFile, LinkedFile, above}
 use Rattle.abc_program.specs.Tree.{up, IsBelow}
 use Rattle.abc_program.specs.declared.part.LayoutId.{LayoutId}
 use Rattle.abc_program.specs.Kinds.{IsAtMost}
 use Rattle.abc_program.proofs.Tree.{above_le, below_self, below_trans, below_up}
 use Rattle.abc_typing.proofs.Reaching.{below_reached, reached}
-use Rattle.abc_program.proofs.Order.{kind_self, kind_any, kind_trans}
+use Rattle.abc_program.proofs.Order.{kind_self, kind_any}
 use Rattle.abc_base.specs.declared.names.HostClass.TheVariants as hosts
 use Rattle.abc_program.specs.Places.{place_of}
 use Rattle.abc_program.specs.declared.part.Part.TheVariants as parts
 use Rattle.abc_shapes.specs.Instructions.{local, operand, second}
-use Rattle.abc_shapes.specs.Rows.{Shape, row_at}
 use Rattle.abc_shapes.specs.declared.row.RowKind.TheVariants as rows
-use Rattle.abc_tables.specs.declared.code.Instr.{Instr}
-use Rattle.abc_typing.specs.Routines.{Catch, Routine, or_any}
+use Rattle.abc_typing.specs.Routines.{Routine, or_any}
+use Rattle.abc_typing.specs.declared.catch.Catch.{Catch}
 use Rattle.abc_typing.specs.declared.state.Scope.{Scope}
 use Rattle.abc_typing.specs.declared.state.State.{State}
 use Rattle.abc_typing.specs.declared.rule.VerifyRule.{VerifyRule}
 use Rattle.abc_typing.specs.declared.rule.VerifyRule.TheVariants.{NotRun, PoolIndex, NameForm, StackUnder, StackOver, ScopeUnder, ScopeOver, LocalIndex, OffEnd, Merge, NotSpace, NotObject, SlotIndex, ScopeIndex, NotHere, NotIndex, Parameters, Flags}
 use Rattle.abc_shapes.specs.declared.row.Operand.{Operand}
-use Rattle.abc_shapes.specs.declared.row.Operand.TheVariants.{Unnamed, StringAt, IntAt, UintAt, DoubleAt, NamespaceAt, FunctionAt, ClassAt, HandlerAt, NameAt, PlainNameAt, TypeAt, TypeOrAny, ScopeAt}
+use Rattle.abc_shapes.specs.declared.row.Operand.TheVariants.{ScopeAt}
 use Rattle.abc_shapes.specs.declared.row.Need.{Need}
-use Rattle.abc_shapes.specs.declared.row.Need.TheVariants.{Value, Namespace, Index, Slotted, Instance, Runtime}
+use Rattle.abc_shapes.specs.declared.row.Need.TheVariants.{Namespace, Index, Slotted, Instance}
 use Rattle.abc_shapes.specs.declared.row.Source.{Source}
 use Rattle.abc_shapes.specs.declared.row.Source.TheVariants.{Fixed, Taken, LocalKind, ScopeKind, SlotKind, SumKind, TypeKind, AsTypeKind, ActivationKind, ClassObjectKind, CatchObjectKind}
 use Rattle.abc_shapes.specs.declared.row.Locals.{Locals}
@@ -36,7 +34,7 @@ use Rattle.abc_shapes.specs.declared.row.Locals.TheVariants.{Untouched, Reads, S
 use Rattle.abc_shapes.specs.declared.row.Scoping.{Scoping}
 use Rattle.abc_shapes.specs.declared.row.Scoping.TheVariants.{Stays, Pushes, Pops}
 use Rattle.abc_typing.specs.Effects.{Here, fixed, slot, needs, args, depth, taken, kind_at, receiver, is_null, goes_on, slot_kind, sum_kind, scope_of, kind_of, scope_kind, scopes_after, locals_after, next, caught, covering}
-use Rattle.abc_typing.specs.Rules.{reaches, is_namespace, is_object, is_number, is_instance, has_slot, suits, all_suit, is_walked, names_scope, super_layout, keeps, may_pop, may_push, is_empty}
+use Rattle.abc_typing.specs.Rules.{is_namespace, is_object, is_number, is_instance, has_slot, suits, all_suit, is_walked, names_scope, super_layout, keeps, may_pop, may_push, is_empty}
 use Rattle.abc_typing.specs.Typing.{ScopeLe, StateLe, IsFine, In, Follows}
 use Rattle.std.proofs.lemmas.Bool.{cases_eq}
 use Rattle.abc_typing.specs.Effects.{leads, after}
@@ -307,6 +305,6 @@ follows_le p m i s t k n g le fine f =
     let at = here p m i h.instr h.row in
     let below : Stands p m i s = record { instr = h.instr; row = h.row; at = h.at; is = h.is; kept = keeps_down at g s t le h.kept; follows_is = ap (λ o. after_instr p m i s o ++ map (caught s) (covering m i)) h.at ∙ ap (λ o. after_row p m i h.instr s o ++ map (caught s) (covering m i)) h.is } in
     elim (split p m i s k n below f) [
-      inl r ↦ (next at t, follow_from p m i t k h r.lead (goes_too at g s t le r.goes), subst (λ x. StateLe p x (next at t)) (sym r.is) (next_le at g s t le r.goes))
+      | inl r ↦ (next at t, follow_from p m i t k h r.lead (goes_too at g s t le r.goes), subst (λ x. StateLe p x (next at t)) (sym r.is) (next_le at g s t le r.goes))
       | inr r ↦ ((caught t r.handler).1, subst (λ (j : ℕ). Follows p m i t j (caught t r.handler).1) (sym r.target) (caught_from p m i t r.handler r.covers), subst (λ x. StateLe p x (caught t r.handler).1) (sym r.is) (record { stack = (kind_self p r.handler.kind, tt); scopes = tt; locals = le.locals }))
     ]

@@ -1,23 +1,23 @@
 -- What can be derived keeps to the sizes, and leads to places inside.
-use Rattle.std.proofs.Common.{◌≡◌, ℕ, zero, suc, ◌+◌, ◌-◌, ◌≤◌, ◌<◌, List, [], ◌∷◌, ◌++◌, Option, Some, None, length, take, drop, refl, sym, ap, ◌∙◌, subst, arith, ◌⊎◌, inl, inr, length-append, length-drop, length-set}
-use Rattle.std.specs.Prelude.{Bool, true, false, cond, map, slice_get, ◌&&◌, ◌||◌, leb, ltb, replicate}
+use Rattle.std.proofs.Common.{◌≡◌, ℕ, ◌+◌, ◌-◌, ◌≤◌, ◌<◌, List, [], ◌∷◌, ◌++◌, length, drop, refl, sym, ap, ◌∙◌, subst, arith, ◌⊎◌, inl, inr, length-append, length-drop, length-set}
+use Rattle.std.specs.Prelude.{Bool, true, false, map, ◌||◌, ltb, replicate}
 use Rattle.std.proofs.lemmas.Bool.{leb-true, ltb-true}
 use Rattle.std.proofs.lemmas.List.{length-map, length-take, length-replicate}
 use Rattle.abc_typing.proofs.Lists.{Each2-length}
-use Rattle.abc_program.specs.declared.types.Kind.{Kind}
 use Rattle.abc_program.specs.declared.types.Kind.TheVariants.{Undef}
 use Rattle.abc_program.specs.Linked.{LinkedFile}
-use Rattle.abc_typing.specs.Routines.{Catch, Routine}
+use Rattle.abc_typing.specs.Routines.{Routine}
+use Rattle.abc_typing.specs.declared.catch.Catch.{Catch}
 use Rattle.abc_typing.specs.declared.state.Scope.{Scope}
 use Rattle.abc_typing.specs.declared.state.State.{State}
-use Rattle.abc_typing.specs.declared.rule.VerifyRule.TheVariants.{StackOver, ScopeOver, OffEnd, StackUnder}
+use Rattle.abc_typing.specs.declared.rule.VerifyRule.TheVariants.{StackOver, ScopeOver, OffEnd}
 use Rattle.abc_shapes.specs.declared.row.Locals.{Locals}
 use Rattle.abc_shapes.specs.declared.row.Locals.TheVariants.{Untouched, Reads, Sets, Walks}
 use Rattle.abc_shapes.specs.declared.row.Scoping.{Scoping}
 use Rattle.abc_shapes.specs.declared.row.Scoping.TheVariants.{Stays, Pushes, Pops}
 use Rattle.abc_typing.specs.Effects.{Here, depth, kind_of, next, scopes_after, locals_after, after, leads, covering, caught, needs, taken, goes_on, scope_kind, kind_at}
-use Rattle.abc_typing.specs.Rules.{keeps, is_empty, may_push, all_below, handler_target, follows}
-use Rattle.abc_typing.specs.Typing.{In, Follows, IsFine, Derivable, Entry, Next, Join, IsJoinState, entry, StateLe}
+use Rattle.abc_typing.specs.Rules.{is_empty, may_push, all_below, handler_target}
+use Rattle.abc_typing.specs.Typing.{In, Follows, IsFine, Derivable, Entry, Next, Join, entry}
 use Rattle.abc_typing.specs.Standing.{here, Stands, IsSized}
 use Rattle.abc_typing.proofs.Member.{in_append, in_map, in_cond, and_left, and_right}
 use Rattle.abc_typing.proofs.Fine.{stands}
@@ -66,7 +66,7 @@ pub split : (p : LinkedFile) (m : Routine) (i : ℕ) (s : State) (t : ℕ) (n : 
 split p m i s t n h f =
     let at = here p m i h.instr h.row in
     elim (in_append (t, n) (after at s) (map (caught s) (covering m i)) (subst (λ xs. In (t, n) xs) h.follows_is f)) [
-      inl k ↦ (let c = in_cond (t, n) _ _ k in let r = in_map _ (t, n) _ c.1 in inl (record { lead = subst (λ x. In x (leads at h.row.leads)) (sym (ap (λ (z : ℕ × State). z.0) r.2)) r.1; goes = c.0; is = ap (λ (z : ℕ × State). z.1) r.2 }))
+      | inl k ↦ (let c = in_cond (t, n) _ _ k in let r = in_map _ (t, n) _ c.1 in inl (record { lead = subst (λ x. In x (leads at h.row.leads)) (sym (ap (λ (z : ℕ × State). z.0) r.2)) r.1; goes = c.0; is = ap (λ (z : ℕ × State). z.1) r.2 }))
       | inr k ↦ (let r = in_map (caught s) (t, n) _ k in inr (record { handler = r.0; covers = r.1; target = ap (λ (z : ℕ × State). z.0) r.2; is = ap (λ (z : ℕ × State). z.1) r.2 }))
     ]
 

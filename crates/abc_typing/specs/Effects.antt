@@ -1,5 +1,5 @@
 -- What an instruction does to a state, by its row.
-use Rattle.std.specs.Prelude.{ℕ, zero, suc, ◌+◌, ◌-◌, ◌*◌, ◌%◌, List, [], ◌∷◌, ◌++◌, Bool, true, false, cond, not, ◌&&◌, leb, ltb, Option, Some, None, length, take, drop, set, map, flat_map, filter, slice_get, get_or}
+use Rattle.std.specs.Prelude.{ℕ, ◌+◌, ◌-◌, ◌*◌, List, [], ◌∷◌, ◌++◌, Bool, true, false, cond, not, ◌&&◌, leb, ltb, Option, Some, None, length, take, drop, set, map, flat_map, filter, slice_get}
 use Rattle.abc_program.specs.declared.types.Kind.{Kind}
 use Rattle.abc_program.specs.declared.types.Kind.TheVariants.{Any, Undef, Null, Num, Bool as Truth, Text, Space, Obj}
 use Rattle.abc_base.specs.declared.names.HostClass.TheVariants as hosts
@@ -15,11 +15,12 @@ use Rattle.abc_tables.specs.declared.code.Instr.{Instr}
 use Rattle.abc_tables.specs.declared.names.Multiname.{Multiname}
 use Rattle.abc_tables.specs.declared.names.Multiname.TheVariants as names
 use Rattle.abc_program.specs.Linked.{LinkedFile}
-use Rattle.abc_typing.specs.Routines.{Catch, Routine, object_of, or_any, type_at}
+use Rattle.abc_typing.specs.Routines.{Routine, object_of, or_any, type_at}
+use Rattle.abc_typing.specs.declared.catch.Catch.{Catch}
 use Rattle.abc_typing.specs.declared.state.Scope.{Scope}
 use Rattle.abc_typing.specs.declared.state.State.{State}
 use Rattle.abc_shapes.specs.declared.row.Need.{Need}
-use Rattle.abc_shapes.specs.declared.row.Need.TheVariants.{Value, Namespace, Index, Slotted, Instance, Runtime}
+use Rattle.abc_shapes.specs.declared.row.Need.TheVariants.{Value, Namespace, Slotted, Runtime}
 use Rattle.abc_shapes.specs.declared.row.Source.{Source}
 use Rattle.abc_shapes.specs.declared.row.Source.TheVariants.{Fixed, Taken, LocalKind, ScopeKind, SlotKind, SumKind, TypeKind, AsTypeKind, ActivationKind, ClassObjectKind, CatchObjectKind}
 use Rattle.abc_shapes.specs.declared.row.Locals.{Locals}

@@ -1,6 +1,5 @@
 -- A method with its body, as a verifier sees it: what is known as it begins, its sizes, its code and its handlers.
-use Rattle.std.specs.Prelude.{ℕ, suc, ◌-◌, ◌+◌, List, [], ◌∷◌, Bool, ◌&&◌, ◌||◌, Option, Some, None, if◌then◌else◌, map, ltb, ◌++◌}
-
+use Rattle.std.specs.Prelude.{ℕ, suc, ◌-◌, List, [], ◌∷◌, Bool, ◌&&◌, ◌||◌, Option, Some, None, if◌then◌else◌, map, ltb, ◌++◌}
 use Rattle.abc_base.specs.declared.names.HostClass.TheVariants as hosts
 use Rattle.abc_names.specs.Instances.{instance_at}
 use Rattle.abc_tables.specs.Methods.{has_flag}
@@ -16,20 +15,13 @@ use Rattle.abc_program.specs.declared.part.LayoutId.{LayoutId}
 use Rattle.abc_program.specs.declared.part.Part.{Part}
 use Rattle.abc_program.specs.declared.part.Part.TheVariants as parts
 use Rattle.abc_program.specs.declared.types.Kind.{Kind}
-use Rattle.abc_program.specs.declared.types.Kind.TheVariants.{Any, Undef, Null, Num, Bool as Truth, Text, Space, Obj}
+use Rattle.abc_program.specs.declared.types.Kind.TheVariants.{Any, Obj}
 use Rattle.abc_program.specs.declared.types.Owner.{Owner}
 use Rattle.abc_program.specs.declared.types.Ty.{Ty}
 use Rattle.abc_program.specs.declared.types.Owner.TheVariants as owners
+use Rattle.abc_typing.specs.declared.catch.Catch.{Catch}
 use Rattle.abc_typing.specs.declared.home.Home.{Home}
 use Rattle.abc_typing.specs.declared.home.Home.TheVariants.{Elsewhere, OnInstances, MakesInstances}
-
--- where a throw between two places goes on, with the kind of what is caught and the layout of the catch object
-pub record Catch : Type 0 where
-  pub from : ℕ
-  pub to : ℕ
-  pub target : ℕ
-  pub kind : Kind
-  pub layout : LayoutId
 
 pub record Routine : Type 0 where
   -- what a call fills: `this`, then the parameters, then the array of what is left over or of all arguments
@@ -100,17 +92,17 @@ catches l b e (h ∷ hs) = record { from = h.from; to = h.to; target = h.target;
 
 abbrev pub routine_of : LinkedFile → ℕ → Body → Method → Owner → Routine
 routine_of l b body m owner = record {
-    filled = filled_by l owner m;
-    home = home_of l owner;
-    needs_activation = has_flag m.flags 0x02;
-    unsupported = is_unsupported m.flags;
-    activation = layout_of l (parts.Activation b);
-    max_stack = body.max_stack;
-    local_count = body.local_count;
-    scope_size = body.max_scope - body.init_scope;
-    code = body.code;
-    handlers = catches l b 0 body.handlers;
-  }
+  filled = filled_by l owner m;
+  home = home_of l owner;
+  needs_activation = has_flag m.flags 0x02;
+  unsupported = is_unsupported m.flags;
+  activation = layout_of l (parts.Activation b);
+  max_stack = body.max_stack;
+  local_count = body.local_count;
+  scope_size = body.max_scope - body.init_scope;
+  code = body.code;
+  handlers = catches l b 0 body.handlers;
+}
 
 -- the method that a body is of, with that body
 abbrev pub routine : LinkedFile → ℕ → Routine

@@ -1,7 +1,7 @@
 -- The rules, in the order in which a refusal names them.
 use Rattle.std.specs.Prelude.{ℕ, zero, suc, is_some, nat_eq, ◌+◌, ◌-◌, List, [], ◌∷◌, ◌++◌, Bool, true, false, cond, not, ◌&&◌, ◌||◌, leb, ltb, eqb, Option, Some, None, length, map, slice_get}
 use Rattle.abc_program.specs.declared.types.Kind.{Kind}
-use Rattle.abc_program.specs.declared.types.Kind.TheVariants.{Any, Undef, Null, Num, Bool as Truth, Text, Space, Obj}
+use Rattle.abc_program.specs.declared.types.Kind.TheVariants.{Null, Num, Space, Obj}
 use Rattle.abc_program.specs.Linked.{above}
 use Rattle.abc_program.specs.Owners.{body_of, owner_of}
 use Rattle.abc_program.specs.declared.part.LayoutId.{LayoutId}
@@ -13,9 +13,10 @@ use Rattle.abc_tables.specs.declared.code.Instr.{Instr}
 use Rattle.abc_tables.specs.declared.names.Multiname.{Multiname}
 use Rattle.abc_tables.specs.declared.names.Multiname.TheVariants as names
 use Rattle.abc_typing.specs.declared.home.Home.{Home}
-use Rattle.abc_typing.specs.declared.home.Home.TheVariants.{Elsewhere, OnInstances, MakesInstances}
+use Rattle.abc_typing.specs.declared.home.Home.TheVariants.{OnInstances, MakesInstances}
 use Rattle.abc_program.specs.Linked.{LinkedFile}
-use Rattle.abc_typing.specs.Routines.{Catch, Routine, type_at}
+use Rattle.abc_typing.specs.Routines.{Routine, type_at}
+use Rattle.abc_typing.specs.declared.catch.Catch.{Catch}
 use Rattle.abc_typing.specs.declared.state.State.{State}
 use Rattle.abc_typing.specs.declared.rule.VerifyRule.{VerifyRule}
 use Rattle.abc_typing.specs.declared.rule.VerifyRule.TheVariants.{NotRun, PoolIndex, NameForm, StackUnder, StackOver, ScopeUnder, ScopeOver, LocalIndex, OffEnd, Merge, NotSpace, NotObject, SlotIndex, ScopeIndex, NotHere, NotIndex, Parameters, Flags}
@@ -24,12 +25,12 @@ use Rattle.abc_shapes.specs.declared.row.Operand.TheVariants.{Unnamed, StringAt,
 use Rattle.abc_shapes.specs.declared.row.Need.{Need}
 use Rattle.abc_shapes.specs.declared.row.Need.TheVariants.{Namespace, Index, Slotted, Instance}
 use Rattle.abc_shapes.specs.declared.row.Locals.{Locals}
-use Rattle.abc_shapes.specs.declared.row.Locals.TheVariants.{Untouched, Reads, Sets, Walks}
+use Rattle.abc_shapes.specs.declared.row.Locals.TheVariants.{Untouched, Walks}
 use Rattle.abc_shapes.specs.declared.row.Scoping.{Scoping}
-use Rattle.abc_shapes.specs.declared.row.Scoping.TheVariants.{Stays, Pushes, Pops}
+use Rattle.abc_shapes.specs.declared.row.Scoping.TheVariants.{Pushes, Pops}
 use Rattle.abc_shapes.specs.declared.row.Site.{Site}
 use Rattle.abc_shapes.specs.declared.row.Site.TheVariants.{Anywhere, WithActivation, OnInstance, InMaker}
-use Rattle.abc_typing.specs.Effects.{Here, name_at, slot, needs, args, depth, taken, kind_at, leads, after, covering, caught}
+use Rattle.abc_typing.specs.Effects.{Here, name_at, slot, needs, depth, taken, kind_at, leads, after, covering, caught}
 
 abbrev pub is_free : Owner → Bool
 is_free owners.Free = true

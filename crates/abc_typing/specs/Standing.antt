@@ -1,5 +1,5 @@
 -- A place whose rules a state keeps, opened once for all proofs.
-use Rattle.std.specs.Prelude.{◌≡◌, ℕ, ◌≤◌, List, ◌++◌, true, Some, length, map, slice_get}
+use Rattle.std.specs.Prelude.{◌≡◌, ℕ, ◌≤◌, ◌++◌, true, Some, length, map, slice_get}
 use Rattle.abc_shapes.specs.Instructions.{opcode}
 use Rattle.abc_shapes.specs.Rows.{Shape, row_at}
 use Rattle.abc_tables.specs.declared.code.Instr.{Instr}

@@ -1,7 +1,6 @@
 -- Typings, and what can be derived.
-use Rattle.std.specs.Prelude.{◌≡◌, ℕ, ◌+◌, List, [], ◌∷◌, ◌++◌, Bool, Option, Some, None, length, take, replicate, slice_get, ◌⊎◌}
+use Rattle.std.specs.Prelude.{◌≡◌, ℕ, List, [], ◌∷◌, ◌++◌, Option, Some, None, length, take, replicate, ◌⊎◌}
 use Rattle.abc_typing.specs.Lists.{Each2}
-use Rattle.abc_program.specs.declared.types.Kind.{Kind}
 use Rattle.abc_program.specs.declared.types.Kind.TheVariants.{Undef}
 use Rattle.abc_program.specs.Kinds.{IsAtMost}
 use Rattle.abc_program.specs.Linked.{LinkedFile}

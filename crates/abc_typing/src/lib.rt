@@ -2,12 +2,14 @@
 //! state keeps, typings, and what refutes them. Definitions alone; the crates above compute what stands here.
 #![tactic(auto)]
 
+mod catch;
 mod home;
 mod laws;
 mod rule;
 mod stack;
 mod state;
 
+pub use catch::Catch;
 pub use home::Home;
 pub use laws::law_of_rules;
 pub use rule::VerifyRule;

@@ -1,4 +1,4 @@
-ghost use Rattle.std.specs.Prelude.{◌≡◌, ◌<◌, ◌∷◌, [], length, get_or, OnOk, OnErr, MatchOption};
+ghost use Rattle.std.specs.Prelude.{◌≡◌, ◌∷◌, [], drop, length, get_or, IfOk, OnOk, OnErr, MatchOption};
 
 use abc_base::NoMemory;
 use std::alloc::Global;
@@ -56,5 +56,52 @@ impl<T: Drop> Stack<T> {
         ensures { result ≡ length self.now }
     {
         self.items.len()
+    }
+
+    /// Takes so many values from the top, or all where there are fewer.
+    pub fn drop_top(&mut self, count: usize)
+        ensures { self.new ≡ drop count self.old }
+    {
+        let mut left = count;
+        while left > 0 {
+            if self.pop().is_none() {
+                return;
+            }
+            left -= 1;
+        }
+    }
+}
+
+/// A copy of some values.
+fn copy_items<T: Copy + Drop>(alloc: Global, items: &[T]) -> Result<Vec<T>, NoMemory>
+    ensures { IfOk result (λ v. v.items ≡ items.now) }
+{
+    let mut copy = Vec::new(alloc);
+    for item in items {
+        copy.push(*item)?;
+    }
+    Ok(copy)
+}
+
+impl<T: Copy + Drop> Stack<T> {
+    /// A copy of the stack.
+    pub fn copy(&self, alloc: Global) -> Result<Stack<T>, NoMemory>
+        ensures { IfOk result (λ s. s ≡ self.now) }
+    {
+        let items = copy_items(alloc, self.items.as_slice())?;
+        Ok(Stack { items })
+    }
+
+    /// The value so far below the top, or another where there is none.
+    #[tactic(auto, using(crate::proofs::Deep::deep, crate::proofs::Deep::past))]
+    pub fn get_or(&self, depth: usize, other: T) -> T
+        ensures { result ≡ get_or self.now depth other }
+    {
+        let len = self.items.len();
+        if depth < len {
+            self.items[len - 1 - depth]
+        } else {
+            other
+        }
     }
 }

@@ -1,7 +1,5 @@
 use Rattle.abc_typing.proofs.Monotone.{fine_down, follows_le}
 use Rattle.abc_typing.proofs.Good.{good}
-use Rattle.abc_typing.proofs.Joins.{kind_join}
-use Rattle.abc_typing.proofs.Sized.{derivable_sized}
 use Rattle.abc_typing.proofs.laws.law_of_rules.Goals as goal
 
 pub returns : goal.returns
