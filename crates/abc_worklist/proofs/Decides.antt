@@ -1,8 +1,7 @@
 -- A method has a typing, or a place and a rule refute it.
-use Rattle.std.proofs.Common.{◌≡◌, ℕ, zero, suc, ◌+◌, ◌≤◌, ◌<◌, List, [], ◌∷◌, ◌++◌, Option, Some, None, length, set, max, refl, sym, ap, ◌∙◌, subst, arith, ◌⊎◌, inl, inr}
+use Rattle.std.proofs.Common.{◌≡◌, ℕ, zero, suc, ◌+◌, ◌≤◌, ◌<◌, List, [], ◌∷◌, ◌++◌, Option, Some, None, length, set, refl, sym, ap, ◌∙◌, subst, arith, ◌⊎◌, inl, inr}
 use Rattle.std.specs.Prelude.{Bool, true, false, cond, slice_get, replicate}
 use Rattle.std.proofs.lemmas.Bool.{cases_eq}
-use Rattle.abc_program.specs.declared.types.Kind.{Kind}
 use Rattle.abc_program.specs.Linked.{LinkedFile}
 use Rattle.abc_typing.specs.Routines.{Routine}
 use Rattle.abc_typing.specs.declared.state.Scope.{Scope}
@@ -16,10 +15,10 @@ use Rattle.abc_tables.specs.declared.code.Instr.{Instr}
 use Rattle.abc_shapes.specs.Instructions.{opcode}
 use Rattle.abc_typing.specs.Standing.{here}
 use Rattle.abc_typing.specs.Rules.{keeps, first_broken, broken, broken_early, follows, at_row, at_instr, early_rules, late_rules}
-use Rattle.abc_typing.specs.Typing.{StateLe, HasOneFlag, HasOneShape, IsFine, In, Follows, IsTyping, entry, Derivable, Entry, Next, Refutes, Broken, Unmerged, HasTyping, IsRefuted}
+use Rattle.abc_typing.specs.Typing.{HasOneFlag, HasOneShape, IsFine, In, entry, Derivable, Entry, Next, Broken, Unmerged, HasTyping, IsRefuted}
 use Rattle.abc_typing.proofs.Good.{IsGood}
 use Rattle.abc_typing.proofs.Sized.{follows_inside, derivable_sized}
-use Rattle.abc_worklist.specs.Work.{at, Landed, Runs, Halts, weight, total, Advances, AreDerived, AtHeads, IsUnderWay, walked}
+use Rattle.abc_worklist.specs.Work.{at, Landed, Runs, Halts, total, Advances, AreDerived, IsUnderWay, walked}
 use Rattle.abc_worklist.specs.Rank.{layouts, rank, top}
 use Rattle.abc_worklist.proofs.Turn.{advance_self, advance_trans, lands_on, turn, begins}
 use Rattle.abc_worklist.proofs.Visits.{Reaches, merge_same, merge_joined, merge_first}
@@ -44,7 +43,7 @@ flags (x ∷ xs) (y ∷ ys) = elim (flags_equal x.is_with y.is_with) [ inr ne �
 
 pub one_shape : (s u : State) → HasOneShape s u ⊎ (HasOneShape s u → ⊥)
 one_shape s u = elim (cases_eq (length s.stack) (length u.stack)) [
-  inr ne ↦ inr (λ h. ne h.stack)
+  | inr ne ↦ inr (λ h. ne h.stack)
   | inl e ↦ elim (flags s.scopes u.scopes) [ inr ne ↦ inr (λ h. ne h.scopes) | inl f ↦ elim (cases_eq (length s.locals) (length u.locals)) [ inr ne ↦ inr (λ h. ne h.locals) | inl g ↦ inl (record { stack = e; scopes = f; locals = g }) ] ]
 ]
 
@@ -91,9 +90,9 @@ module _ (p : LinkedFile) (m : Routine) (g : IsGood p) where
       go : (o : Option State) → at a t ≡ o → IsRefuted p m ⊎ ((c : List (Option State)) × ((w : List ℕ) × Reaches p m (rank (layouts p)) (top (layouts p) m) everywhere t u a v c w))
       go None e = inr (set a t (Some u), (t ∷ v, merge_first p m _ _ everywhere a v t u h refl e (rank_most p g (layouts p) (omega arith) (omega arith) m u (derivable_sized p m t u du)) d du))
       go (Some old) e = elim (one_shape old u) [
-        inr ne ↦ inl (clash p m t old u (d t old e) du ne)
+        | inr ne ↦ inl (clash p m t old u (d t old e) du ne)
         | inl same ↦ elim (state_join p g (layouts p) (omega arith) (omega arith) old u same) [
-          inl le ↦ inr (a, (v, merge_same p m _ _ everywhere a v t u old e d le))
+          | inl le ↦ inr (a, (v, merge_same p m _ _ everywhere a v t u old e d le))
           | inr j ↦ inr (set a t (Some j.0), (t ∷ v, merge_joined p m _ _ everywhere a v t u old j.0 h refl e d du j.1 j.2))
         ]
       ]

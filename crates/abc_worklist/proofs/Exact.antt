@@ -1,5 +1,5 @@
 -- A method has a typing exactly where nothing refutes it.
-use Rattle.std.proofs.Common.{◌≡◌, ℕ, Option, Some, None, sym, ◌∙◌, subst, ◌⊎◌, ◌↔◌, inl, inr}
+use Rattle.std.proofs.Common.{◌≡◌, ℕ, Option, Some, sym, ◌∙◌, subst, ◌↔◌, inl, inr}
 use Rattle.abc_program.specs.Linked.{LinkedFile}
 use Rattle.abc_typing.specs.Routines.{Routine}
 use Rattle.abc_typing.specs.declared.state.Scope.{Scope}
@@ -7,10 +7,8 @@ use Rattle.abc_typing.specs.declared.state.State.{State}
 use Rattle.abc_typing.specs.declared.rule.VerifyRule.{VerifyRule}
 use Rattle.abc_typing.specs.Lists.{Each2}
 use Rattle.abc_typing.proofs.Lists.{Each2-length}
-use Rattle.abc_program.specs.declared.types.Kind.{Kind}
-use Rattle.std.specs.Prelude.{Bool, List, [], ◌∷◌}
-use Rattle.abc_typing.specs.Rules.{broken}
-use Rattle.abc_typing.specs.Typing.{ScopeLe, StateLe, HasOneFlag, HasOneShape, IsFine, Follows, IsTyping, Derivable, Entry, Next, Join, Refutes, Broken, Unmerged, HasTyping, IsRefuted}
+use Rattle.std.specs.Prelude.{List, [], ◌∷◌}
+use Rattle.abc_typing.specs.Typing.{ScopeLe, StateLe, HasOneFlag, IsTyping, Derivable, Entry, Next, Join, Refutes, Broken, Unmerged, HasTyping, IsRefuted}
 use Rattle.abc_worklist.proofs.Order.{state_trans}
 use Rattle.abc_worklist.proofs.Decides.{decides}
 use Rattle.abc_typing.proofs.Good.{IsGood}

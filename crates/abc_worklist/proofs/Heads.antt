@@ -1,12 +1,12 @@
 -- States at the heads that all run on make a typing of all places.
-use Rattle.std.proofs.Common.{◌≡◌, ◌≢◌, ℕ, zero, suc, ◌+◌, List, [], ◌∷◌, Option, Some, None, refl, sym, ap, ◌∙◌, subst, arith, ◌⊎◌, inl, inr}
-use Rattle.std.specs.Prelude.{Bool, true, false, cond, eqb, slice_get}
-use Rattle.std.proofs.lemmas.Bool.{eqb-true, eqb-false, eq-eqb}
+use Rattle.std.proofs.Common.{◌≡◌, ℕ, zero, suc, List, [], ◌∷◌, Option, Some, None, refl, sym, ap, ◌∙◌, subst, inl, inr}
+use Rattle.std.specs.Prelude.{Bool, true, false, cond, eqb}
+use Rattle.std.proofs.lemmas.Bool.{eqb-true, eqb-false}
 use Rattle.abc_program.specs.Linked.{LinkedFile}
 use Rattle.abc_typing.specs.Routines.{Routine}
 use Rattle.abc_typing.specs.declared.state.State.{State}
 use Rattle.abc_typing.specs.Rules.{follows}
-use Rattle.abc_typing.specs.Typing.{StateLe, IsFine, IsTyping, In, Follows, entry, Derivable}
+use Rattle.abc_typing.specs.Typing.{StateLe, IsFine, IsTyping, In, Follows, entry}
 use Rattle.abc_worklist.specs.Work.{at, Landed, Runs, Halts, Goes, AtHeads, follow_at, onward, walked, IsUnderWay}
 use Rattle.abc_worklist.proofs.Order.{state_self}
 

@@ -1,7 +1,5 @@
 -- Two states of one shape have a least state above both; the first, or one that has less to rise.
 use Rattle.std.proofs.Common.{◌≡◌, ℕ, zero, suc, ◌+◌, ◌*◌, ◌≤◌, ◌<◌, List, [], ◌∷◌, length, refl, sym, ap, ◌∙◌, subst, arith, ◌⊎◌, inl, inr}
-use Rattle.std.specs.Prelude.{Bool, true, false}
-use Rattle.std.proofs.lemmas.Bool.{cases_eq}
 use Rattle.abc_typing.specs.Lists.{Each2}
 use Rattle.abc_program.specs.declared.types.Kind.{Kind}
 use Rattle.abc_program.specs.declared.types.Kind.TheVariants.{Any, Undef, Null, Num, Bool as Truth, Text, Space, Obj}
@@ -29,7 +27,7 @@ list_join {X = X} R ok f one (x ∷ xs) (y ∷ ys) h = both (one x y h.0) (list_
 
     rises : (j : X) (js : List X) → ItemJoined R f x y j → ListJoined R f xs ys js → (j ∷ js ≡ x ∷ xs) ⊎ (tally f (j ∷ js) < tally f (x ∷ xs))
     rises j js a b = elim a.rises [
-      inl e ↦ elim b.rises [ inl d ↦ inl (ap (λ (z : X). z ∷ js) e ∙ ap (λ (zs : List X). x ∷ zs) d) | inr lt ↦ inr (let w = ap f e in omega (arith, w, lt)) ]
+      | inl e ↦ elim b.rises [ inl d ↦ inl (ap (λ (z : X). z ∷ js) e ∙ ap (λ (zs : List X). x ∷ zs) d) | inr lt ↦ inr (let w = ap f e in omega (arith, w, lt)) ]
       | inr lt ↦ elim b.rises [ inl d ↦ inr (let w = ap (tally f) d in omega (arith, w, lt)) | inr lu ↦ inr (omega (arith, lt, lu)) ]
     ]
 
@@ -64,14 +62,18 @@ module _ (p : LinkedFile) (t : IsGood p) (n : ℕ) (pos : 0 < n) (long : length 
 
       go : (a : (js : List Kind) × ListJoined (IsAtMost p) (height n) s.stack u.stack js) (b : (js : List Scope) × ListJoined (ScopeLe p) (scope_height n) s.scopes u.scopes js) (c : (js : List Kind) × ListJoined (IsAtMost p) (height n) s.locals u.locals js) → StateLe p u s ⊎ ((j : State) × IsJoinState p s u j × (rank n j < rank n s))
       go a b c = elim a.1.rises [
-        inr lt ↦ inr (record { stack = a.0; scopes = b.0; locals = c.0 }, made a b c, elim b.1.rises [
-          inr lu ↦ elim c.1.rises [ inr lv ↦ omega (arith, lt, lu, lv) | inl g ↦ let w = ap (tally (height n)) g in omega (arith, lt, lu, w) ]
-          | inl f ↦ let v = ap (tally (scope_height n)) f in elim c.1.rises [ inr lv ↦ omega (arith, lt, v, lv) | inl g ↦ let w = ap (tally (height n)) g in omega (arith, lt, v, w) ]
-        ])
+        | inr lt ↦ inr (
+          record { stack = a.0; scopes = b.0; locals = c.0 },
+          made a b c,
+          elim b.1.rises [
+            | inr lu ↦ elim c.1.rises [ inr lv ↦ omega (arith, lt, lu, lv) | inl g ↦ let w = ap (tally (height n)) g in omega (arith, lt, lu, w) ]
+            | inl f ↦ let v = ap (tally (scope_height n)) f in elim c.1.rises [ inr lv ↦ omega (arith, lt, v, lv) | inl g ↦ let w = ap (tally (height n)) g in omega (arith, lt, v, w) ]
+          ],
+        )
         | inl e ↦ let x = ap (tally (height n)) e in elim b.1.rises [
-          inr lu ↦ inr (record { stack = a.0; scopes = b.0; locals = c.0 }, made a b c, elim c.1.rises [ inr lv ↦ omega (arith, x, lu, lv) | inl g ↦ let w = ap (tally (height n)) g in omega (arith, x, lu, w) ])
+          | inr lu ↦ inr (record { stack = a.0; scopes = b.0; locals = c.0 }, made a b c, elim c.1.rises [ inr lv ↦ omega (arith, x, lu, lv) | inl g ↦ let w = ap (tally (height n)) g in omega (arith, x, lu, w) ])
           | inl f ↦ let v = ap (tally (scope_height n)) f in elim c.1.rises [
-            inr lv ↦ inr (record { stack = a.0; scopes = b.0; locals = c.0 }, made a b c, omega (arith, x, v, lv))
+            | inr lv ↦ inr (record { stack = a.0; scopes = b.0; locals = c.0 }, made a b c, omega (arith, x, v, lv))
             | inl g ↦ inl (record { stack = subst (λ z. Each2 (IsAtMost p) u.stack z) e a.1.right; scopes = subst (λ z. Each2 (ScopeLe p) u.scopes z) f b.1.right; locals = subst (λ z. Each2 (IsAtMost p) u.locals z) g c.1.right })
           ]
         ]

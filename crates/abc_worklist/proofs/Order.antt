@@ -1,7 +1,6 @@
 -- States are ordered.
-use Rattle.std.proofs.Common.{◌≡◌, ℕ, List, refl, ◌∙◌}
+use Rattle.std.proofs.Common.{refl, ◌∙◌}
 use Rattle.abc_typing.proofs.Lists.{Each2-self, Each2-trans}
-use Rattle.abc_program.specs.declared.types.Kind.{Kind}
 use Rattle.abc_program.specs.Kinds.{IsAtMost}
 use Rattle.abc_program.proofs.Order.{kind_self, kind_trans}
 use Rattle.abc_program.specs.Linked.{LinkedFile}

@@ -1,12 +1,12 @@
 -- The work list's invariant, over lists alone.
 use Rattle.std.proofs.Common.{◌≡◌, ◌≢◌, ℕ, zero, suc, ◌+◌, ◌<◌, List, [], ◌∷◌, Option, Some, None, length, set, refl, sym, ap, ◌∙◌, subst, arith, ◌⊎◌, inl, inr, length-set}
-use Rattle.std.specs.Prelude.{Bool, true, false, slice_get, replicate}
+use Rattle.std.specs.Prelude.{Bool, true, replicate}
 use Rattle.std.proofs.lemmas.Bool.{cases_eq}
 use Rattle.std.proofs.lemmas.List.{length-replicate}
 use Rattle.abc_program.specs.Linked.{LinkedFile}
 use Rattle.abc_typing.specs.Routines.{Routine}
 use Rattle.abc_typing.specs.declared.state.State.{State}
-use Rattle.abc_typing.specs.Typing.{StateLe, IsFine, In, Follows, entry, Derivable, Entry, Join, IsJoinState}
+use Rattle.abc_typing.specs.Typing.{StateLe, In, entry, Derivable, Entry}
 use Rattle.abc_worklist.specs.Work.{at, Landed, Runs, Halts, Goes, weight, total, Advances, AreDerived, AtHeads, IsUnderWay}
 use Rattle.abc_worklist.proofs.Order.{state_self, state_trans}
 

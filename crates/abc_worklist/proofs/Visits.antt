@@ -1,11 +1,11 @@
 -- A state flows to a place.
-use Rattle.std.proofs.Common.{◌≡◌, ℕ, zero, suc, ◌+◌, ◌≤◌, ◌<◌, List, [], ◌∷◌, Option, Some, None, length, set, refl, sym, ap, ◌∙◌, subst, arith, ◌⊎◌, inl, inr}
-use Rattle.std.specs.Prelude.{Bool, true, false}
+use Rattle.std.proofs.Common.{◌≡◌, ℕ, ◌≤◌, ◌<◌, List, ◌∷◌, Option, Some, None, length, set, sym, subst, arith}
+use Rattle.std.specs.Prelude.{Bool, true}
 use Rattle.abc_program.specs.Linked.{LinkedFile}
 use Rattle.abc_typing.specs.Routines.{Routine}
 use Rattle.abc_typing.specs.declared.state.State.{State}
-use Rattle.abc_typing.specs.Typing.{StateLe, IsFine, In, Follows, Derivable, Join, IsJoinState}
-use Rattle.abc_worklist.specs.Work.{at, Landed, Runs, Halts, weight, total, Advances, AreDerived, AtHeads, IsUnderWay}
+use Rattle.abc_typing.specs.Typing.{StateLe, Derivable, Join, IsJoinState}
+use Rattle.abc_worklist.specs.Work.{at, Landed, weight, Advances, AreDerived}
 use Rattle.abc_worklist.proofs.Order.{state_self}
 use Rattle.abc_worklist.proofs.Turn.{advance_self, raise_advances, raise_lands, raise_derives}
 

@@ -1,13 +1,11 @@
 -- How far a state can rise.
-use Rattle.std.specs.Prelude.{◌≡◌, ℕ, suc, ◌+◌, ◌*◌, ◌<◌, List, [], ◌∷◌, Bool, length, ◌⊎◌}
+use Rattle.std.specs.Prelude.{◌≡◌, ℕ, suc, ◌+◌, ◌*◌, ◌<◌, List, [], ◌∷◌, length, ◌⊎◌}
 use Rattle.abc_typing.specs.Lists.{Each2}
-use Rattle.abc_program.specs.declared.types.Kind.{Kind}
 use Rattle.abc_typing.specs.Height.{height}
 use Rattle.abc_program.specs.Linked.{LinkedFile}
 use Rattle.abc_typing.specs.Routines.{Routine}
 use Rattle.abc_typing.specs.declared.state.Scope.{Scope}
 use Rattle.abc_typing.specs.declared.state.State.{State}
-use Rattle.abc_typing.specs.Typing.{IsJoinState}
 
 abbrev pub tally : {X : Type 0} → (X → ℕ) → List X → ℕ
 tally f [] = 0
