@@ -1,0 +1,7 @@
+pub mod Lists
+pub mod Height
+pub mod Routines
+pub mod Effects
+pub mod Rules
+pub mod Typing
+pub mod Standing
