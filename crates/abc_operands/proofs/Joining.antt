@@ -122,7 +122,7 @@ joined_three f (Err a) (Ok y) (Err c) = refl
 joined_three f (Err a) (Err b) (Ok z) = refl
 joined_three f (Err a) (Err b) (Err c) = refl
 
-three_counts : {A B C : Type 0} (p : Operand A) (q : Operand B) (o : Operand C) (labels : List Label) (ts : List Token) → ¬ (length ts ≡ 3) → (p & (q & (o & none))).counts labels ts ≡ false
+pub three_counts : {A B C : Type 0} (p : Operand A) (q : Operand B) (o : Operand C) (labels : List Label) (ts : List Token) → ¬ (length ts ≡ 3) → (p & (q & (o & none))).counts labels ts ≡ false
 three_counts p q o labels [] e = refl
 three_counts p q o labels (a ∷ []) e = refl
 three_counts p q o labels (a ∷ b ∷ []) e = refl
