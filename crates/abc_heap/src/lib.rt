@@ -14,5 +14,5 @@ mod tests;
 mod texts;
 
 pub use records::{Full, Limit, Limits, ScopeEntry, ScopeId, ScopeNode, What};
-pub use starts::{NoSlots, Starts};
+pub use starts::Starts;
 pub use store::{ClassParts, Store};

@@ -1,4 +1,4 @@
-ghost use Rattle.std.specs.Prelude.{◌≡◌, ◌<◌, List, [], length, slice_get, Some};
+ghost use Rattle.std.specs.Prelude.{◌≡◌, ◌<◌, List, length, slice_get, Some};
 ghost use Rattle.abc_cells.specs.declared.values.Value.{Value};
 
 use abc_cells::Value;
@@ -16,21 +16,4 @@ pub trait Starts {
     fn start(&self, k: u32) -> Value
         requires { k < length (values self.now) }
         ensures { slice_get (values self.now) k ≡ Some result };
-}
-
-/// An object without slots.
-#[derive(Clone, Copy, Debug)]
-pub struct NoSlots;
-
-impl Starts for NoSlots {
-    ghost values = { λ _. [] };
-
-    fn count(&self) -> u32 {
-        0
-    }
-
-    fn start(&self, k: u32) -> Value {
-        let _ = k;
-        Value::Undefined
-    }
 }

@@ -4,6 +4,27 @@ use abc_cells::{ObjId, Span, Value};
 use std::alloc::Global;
 use std::test::*;
 
+/// The start of a single slot.
+#[derive(Drop)]
+struct OneSlot {
+    value: Value,
+}
+
+impl Starts for OneSlot {
+    ghost use Rattle.std.specs.Prelude.{[], ◌∷◌};
+
+    ghost values = { λ s. s.value ∷ [] };
+
+    fn count(&self) -> u32 {
+        1
+    }
+
+    fn start(&self, k: u32) -> Value {
+        let _ = k;
+        self.value
+    }
+}
+
 /// A store with small limits and no fixed texts.
 fn small(alloc: Global, objects: u32, cells: u32, text: u32) -> Result<Store, NoMemory> {
     let limits = Limits {
@@ -41,8 +62,11 @@ fn room_at_the_limit_and_below(rt: HostRuntime) -> Result<(), Fail> {
         Ok(ObjId(0))
     );
     assert_eq!(rt; store.new_undefined(0, None, 2), Err(Full(Limit::Cells)));
+    let start = OneSlot {
+        value: Value::Num(7),
+    };
     assert_eq!(rt;
-        store.new_object(0, None, What::Plain, &NoSlots),
+        store.new_object(0, None, What::Plain, &start),
         Ok(ObjId(1))
     );
     assert_eq!(rt; store.new_undefined(0, None, 2), Err(Full(Limit::Objects)));
@@ -57,7 +81,7 @@ fn room_at_the_limit_and_below(rt: HostRuntime) -> Result<(), Fail> {
     assert_eq!(rt; store.take_frame(5), Ok(()));
     assert_eq!(rt; store.take_frame(9), Err(Full(Limit::Frames)));
     let counts = store.counts();
-    assert_eq!(rt; (counts.objects, counts.cells, counts.text), (2, 2, 2));
+    assert_eq!(rt; (counts.objects, counts.cells, counts.text), (2, 3, 2));
     assert_eq!(rt; value_at(&store, ObjId(0), 2), Some(Value::Num(7)));
     assert_eq!(rt; value_at(&store, ObjId(0), 3), None);
     Ok(())
