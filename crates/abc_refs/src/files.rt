@@ -25,12 +25,7 @@ pub fn refs_of(alloc: Global, abc: &Abc) -> Result<Table<Ref>, NoMemory>
 }
 
 /// The definitions and bodies of a file with new numbers in place of their indices, beside these pools.
-pub fn renumbered(
-    alloc: Global,
-    abc: &Abc,
-    numbers: &Numbers,
-    pools: Abc,
-) -> Result<Abc, NoMemory>
+pub fn renumbered(alloc: Global, abc: &Abc, numbers: &Numbers, pools: Abc) -> Result<Abc, NoMemory>
     ensures { IfOk result (λ t. t ≡ beside (new_file (number_in numbers.now) abc.now) pools) }
 {
     let methods = abc.methods.renumber(alloc, numbers)?;

@@ -8,8 +8,6 @@ mod error;
 mod numbering;
 mod places;
 mod pools;
-#[cfg(test)]
-mod tests;
 mod tidying;
 
 pub use error::{TidyError, TidyRule};

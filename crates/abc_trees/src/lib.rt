@@ -8,8 +8,6 @@ mod keys;
 mod marks;
 mod order;
 mod stack;
-#[cfg(test)]
-mod tests;
 mod visit;
 
 pub use classes::{Classes, classes_of};
