@@ -6,7 +6,7 @@ use Rattle.indexmap.specs.IndexMap.{get}
 use Rattle.abc_base.specs.declared.names.HostClass.TheVariants as hosts
 use Rattle.abc_index.specs.Index.{first}
 use Rattle.abc_tables.specs.declared.tables.Abc.{Abc}
-use Rattle.abc_layouts.specs.Laid.{AreLayouts, PlaceMap, base_found, place_found, under_found}
+use Rattle.abc_layouts.specs.Laid.{AreLayouts, HasPlaces, PlaceMap, base_found, place_found, under_found}
 use Rattle.abc_layouts.specs.declared.layouts.Layouts.{Layouts}
 use Rattle.abc_program.specs.Numbering.{part_at}
 use Rattle.abc_program.specs.Parts.{parent}
@@ -17,6 +17,9 @@ use Rattle.abc_program.specs.declared.part.Part.TheVariants as parts
 
 pub at_keys : (all : List Part) (keys given : List PartKey) (places : PlaceMap) → keys ≡ map part_key all → given ≡ keys → ((k : PartKey) → get key_eq places k ≡ first (key_eq k) given) → (k : PartKey) → get key_eq places k ≡ first (key_eq k) (map part_key all)
 at_keys all keys given places e q f k = f k ∙ ap (first (key_eq k)) (q ∙ e)
+
+pub layout_is : (l : Layouts) (p : Part) → HasPlaces l → place_found l.places p ≡ place_of l.parts p
+layout_is l p h = ap (λ o. unwrap_or o 0) (h.places (part_key p))
 
 pub place_is : (all : List Part) (places : PlaceMap) → ((k : PartKey) → get key_eq places k ≡ first (key_eq k) (map part_key all)) → (p : Part) → place_found places p ≡ place_of all p
 place_is all places f p = ap (λ o. unwrap_or o 0) (f (part_key p))
@@ -31,4 +34,4 @@ base_is v all places f x = go (parent v (part_at all x))
 pub base_at : (v : Abc) (l : Layouts) (x : ℕ) → AreLayouts v l → x < length l.parts → get_or l.bases x None ≡ base_of v l.parts x
 base_at v l x a lt =
     let none : Option ℕ = None in
-    ap (λ (bs : List (Option ℕ)). get_or bs x none) a.bases ∙ get_or-map (base_found v l.places) l.parts x (parts.Host hosts.Object) none lt ∙ base_is v l.parts l.places a.places x
+    ap (λ (bs : List (Option ℕ)). get_or bs x none) a.bases ∙ get_or-map (base_found v l.places) l.parts x (parts.Host hosts.Object) none lt ∙ base_is v l.parts l.places a.found.places x

@@ -56,3 +56,14 @@ numbered v nodes places a b c d e f o is_a is_b instances classes globals bodies
     every (parts.Global s) has = bodies.adds.keeps (parts.Global s) (globals.each s has)
     every (parts.Activation b2) has = bodies.activations b2 has.0 has.1
     every (parts.Catch b2 x) has = bodies.catches b2 x has.0 has.1
+
+-- the same, of the lists that the code has
+pub numbered_by : (v : Abc) (nodes given : List ℕ) (places : List (Option ℕ)) (hs hs2 : List HostClass) (z a b c d e f : List Part) → IsOrder (class_bases v) nodes places → given ≡ nodes
+    → z ≡ [] → hs ≡ host_classes → hs2 ≡ host_classes → a ≡ z ++ map (λ h. parts.Host h) hs → b ≡ a ++ map (λ h. parts.HostClassObject h) hs2 → AddsEach v b c (λ q. parts.Instance (get_or given q 0)) (length given)
+    → AddsEach v c d (λ k. parts.ClassObject k) (length v.instances) → AddsEach v d e (λ k. parts.Global k) (length v.scripts) → AddsBodies v e f (length v.bodies) → IsNumbering v f
+numbered_by v nodes given places hs hs2 z a b c d e f o is_given is_z is_hs is_hs2 is_a is_b instances classes globals bodies =
+    numbered v given places a b c d e f
+    (subst (λ (ns : List ℕ). IsOrder (class_bases v) ns places) (sym is_given) o)
+    (is_a ∙ ap (λ (ps : List Part). ps ++ map (λ h. parts.Host h) hs) is_z ∙ ap (λ (xs : List HostClass). map (λ h. parts.Host h) xs) is_hs)
+    (is_b ∙ ap (λ (xs : List HostClass). a ++ map (λ h. parts.HostClassObject h) xs) is_hs2)
+    instances classes globals bodies

@@ -27,8 +27,12 @@ under_found places (Some q) = Some (place_found places q)
 abbrev pub base_found : Abc → PlaceMap → Part → Option ℕ
 base_found v places p = under_found places (parent v p)
 
+-- each part is found at its first place
+pub record HasPlaces (l : Layouts) : Type 0 where
+  pub places : (k : PartKey) → get key_eq l.places k ≡ first (key_eq k) (map part_key l.parts)
+
 -- the parts have numbers, are found by them, and so are the layouts that they stand under
 pub record AreLayouts (v : Abc) (l : Layouts) : Type 0 where
   pub numbering : IsNumbering v l.parts
-  pub places : (k : PartKey) → get key_eq l.places k ≡ first (key_eq k) (map part_key l.parts)
+  pub found : HasPlaces l
   pub bases : l.bases ≡ map (base_found v l.places) l.parts

@@ -19,10 +19,7 @@ fn class_in(named: Option<Named>) -> Option<u32>
 }
 
 /// The base of each class, where it is a class of the file.
-fn class_bases(
-    alloc: Global,
-    meanings: &Meanings<'_>,
-) -> Result<Table<Option<u32>>, NoMemory>
+fn class_bases(alloc: Global, meanings: &Meanings<'_>) -> Result<Table<Option<u32>>, NoMemory>
     ensures { IfOk result (λ t. t ≡ bases_of meanings.now.abc.now) }
 {
     let mut bases = Table::new(alloc);

@@ -30,10 +30,7 @@ fn first_places(alloc: Global, keys: &[PartKey]) -> Result<IndexMap<PartKey, u32
 
 /// The first place of each part, by its key.
 #[tactic(auto, using(crate::proofs::Finding::at_keys))]
-pub(crate) fn places_of(
-    alloc: Global,
-    parts: &[Part],
-) -> Result<IndexMap<PartKey, u32>, NoMemory>
+pub(crate) fn places_of(alloc: Global, parts: &[Part]) -> Result<IndexMap<PartKey, u32>, NoMemory>
     ensures { IfOk result (λ m. (k : AnyKey) → get key_eq m k ≡ first (key_eq k) (map key_of parts.now)) }
 {
     if parts.len() > u32::MAX as usize {

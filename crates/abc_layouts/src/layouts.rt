@@ -1,7 +1,7 @@
 ghost use Rattle.std.specs.Prelude.{◌≡◌, ◌<◌, length, map, IfOk};
 ghost use Rattle.std.specs.Option.{option_map};
 ghost use Rattle.abc_graph.specs.Ways.{IsFalling};
-ghost use Rattle.abc_layouts.specs.Laid.{AreLayouts, base_found, place_found};
+ghost use Rattle.abc_layouts.specs.Laid.{AreLayouts, HasPlaces, base_found, place_found};
 ghost use Rattle.abc_program.specs.Numbering.{part_at};
 ghost use Rattle.abc_program.specs.Parts.{HasLayout, base_part as base_part_of, host_parent as host_parent_of, parent as parent_of};
 ghost use Rattle.abc_program.specs.Places.{base_of, place_of};
@@ -159,29 +159,36 @@ fn as_layout(place: Option<u32>) -> Option<LayoutId>
 }
 
 impl Layouts {
-    /// The layout of a part that has one.
-    #[tactic(auto, using(crate::proofs::Finding::place_is))]
-    pub fn layout_of(&self, abc: &Abc, part: Part) -> LayoutId
-        requires layouts { AreLayouts abc.now self.now }
-        requires part { HasLayout abc.now part }
-        ensures { result.0 ≡ place_of self.now.parts part }
+    /// The layout of a part; of one without a layout, that of Object's instances.
+    #[tactic(auto, using(crate::proofs::Finding::layout_is))]
+    pub fn layout_of(&self, part: Part) -> LayoutId
+        requires { HasPlaces self.now }
+        ensures { result ≡ record { 0 = place_of self.now.parts part } }
     {
-        let _file = abc;
         LayoutId(place(&self.places, part))
     }
 
-    /// The layout that a layout stands under; that of Object's instances stands under none.
+    /// The number of the layout that a layout stands under.
     #[tactic(auto, using(crate::proofs::Finding::base_at))]
+    pub fn base_number(&self, abc: &Abc, layout: u32) -> Option<u32>
+        requires layouts { AreLayouts abc.now self.now }
+        requires layout { layout < length self.now.parts }
+        ensures { result ≡ base_of abc.now self.now.parts layout }
+    {
+        let _file = abc;
+        match self.bases.fetch(layout as usize) {
+            Some(base) => base,
+            None => None,
+        }
+    }
+
+    /// The layout that a layout stands under; that of Object's instances stands under none.
     pub fn base(&self, abc: &Abc, layout: LayoutId) -> Option<LayoutId>
         requires layouts { AreLayouts abc.now self.now }
         requires layout { layout.0 < length self.now.parts }
         ensures { result ≡ option_map (λ n. record { 0 = n }) (base_of abc.now self.now.parts layout.0) }
     {
-        let _file = abc;
-        match self.bases.fetch(layout.0 as usize) {
-            Some(base) => as_layout(base),
-            None => None,
-        }
+        as_layout(self.base_number(abc, layout.0))
     }
 
     /// A part that has a layout is found by it, and what a layout stands under has a lower number.

@@ -37,11 +37,17 @@ fn push_host_objects(parts: &mut Table<Part>, hosts: &[HostClass]) -> Result<(),
 
 /// The instances of the file's classes, each behind those of its base.
 #[tactic(auto, using(crate::proofs::Adding::each_none, crate::proofs::Adding::instance_next))]
-fn push_instances(abc: &Abc, parts: &mut Table<Part>, order: &Order) -> Result<(), NoMemory>
-    requires { IsOrder (class_bases abc.now) order.now.nodes order.now.places }
-    ensures { OnOk result (AddsEach abc.now parts.old parts.new (λ q. Part.Instance (get_or order.now.nodes q 0)) (length order.now.nodes)) }
+fn push_instances(
+    abc: &Abc,
+    parts: &mut Table<Part>,
+    nodes: &[u32],
+    places: &Table<Option<usize>>,
+) -> Result<(), NoMemory>
+    requires { IsOrder (class_bases abc.now) nodes.now places.now }
+    ensures { OnOk result (AddsEach abc.now parts.old parts.new (λ q. Part.Instance (get_or nodes.now q 0)) (length nodes.now)) }
 {
-    for class in order.nodes.as_slice() {
+    let _order = places;
+    for class in nodes {
         parts.push(Part::Instance(*class))?;
     }
     Ok(())
@@ -51,7 +57,7 @@ fn push_instances(abc: &Abc, parts: &mut Table<Part>, order: &Order) -> Result<(
 #[tactic(auto, using(crate::proofs::Adding::each_none, crate::proofs::Adding::class_object_next))]
 fn push_class_objects(abc: &Abc, parts: &mut Table<Part>, count: u32) -> Result<(), NoMemory>
     requires { count ≡ length abc.now.instances }
-    ensures { OnOk result (AddsEach abc.now parts.old parts.new (λ k. Part.ClassObject k) count) }
+    ensures { OnOk result (AddsEach abc.now parts.old parts.new (λ k. Part.ClassObject k) (length abc.now.instances)) }
 {
     for class in 0..count {
         parts.push(Part::ClassObject(class))?;
@@ -63,7 +69,7 @@ fn push_class_objects(abc: &Abc, parts: &mut Table<Part>, count: u32) -> Result<
 #[tactic(auto, using(crate::proofs::Adding::each_none, crate::proofs::Adding::global_next))]
 fn push_globals(abc: &Abc, parts: &mut Table<Part>, count: u32) -> Result<(), NoMemory>
     requires { count ≡ length abc.now.scripts }
-    ensures { OnOk result (AddsEach abc.now parts.old parts.new (λ k. Part.Global k) count) }
+    ensures { OnOk result (AddsEach abc.now parts.old parts.new (λ k. Part.Global k) (length abc.now.scripts)) }
 {
     for script in 0..count {
         parts.push(Part::Global(script))?;
@@ -73,15 +79,10 @@ fn push_globals(abc: &Abc, parts: &mut Table<Part>, count: u32) -> Result<(), No
 
 /// The catch objects of a body.
 #[tactic(auto, using(crate::proofs::Adding::each_none, crate::proofs::Adding::catch_next))]
-fn push_catches(
-    abc: &Abc,
-    parts: &mut Table<Part>,
-    body: u32,
-    count: u32,
-) -> Result<(), NoMemory>
+fn push_catches(abc: &Abc, parts: &mut Table<Part>, body: u32, count: u32) -> Result<(), NoMemory>
     requires body { body < length abc.now.bodies }
     requires count { count ≡ length (body_at abc.now body).handlers }
-    ensures { OnOk result (AddsEach abc.now parts.old parts.new (λ k. Part.Catch body k) count) }
+    ensures { OnOk result (AddsEach abc.now parts.old parts.new (λ k. Part.Catch body k) (length (body_at abc.now body).handlers)) }
 {
     for exception in 0..count {
         parts.push(Part::Catch(body, exception))?;
@@ -161,7 +162,7 @@ fn push_body(abc: &Abc, parts: &mut Table<Part>, body: u32) -> Result<(), NoMemo
 #[tactic(auto, using(crate::proofs::Adding::bodies_none, crate::proofs::Adding::bodies_next))]
 fn push_bodies(abc: &Abc, parts: &mut Table<Part>, count: u32) -> Result<(), NoMemory>
     requires { count ≡ length abc.now.bodies }
-    ensures { OnOk result (AddsBodies abc.now parts.old parts.new count) }
+    ensures { OnOk result (AddsBodies abc.now parts.old parts.new (length abc.now.bodies)) }
 {
     for body in 0..count {
         push_body(abc, parts, body)?;
@@ -190,7 +191,7 @@ fn parts_in_order(alloc: Global, abc: &Abc, order: &Order) -> Result<Table<Part>
     let mut parts = Table::new(alloc);
     push_hosts(&mut parts, HOST_CLASSES.as_slice())?;
     push_host_objects(&mut parts, HOST_CLASSES.as_slice())?;
-    push_instances(abc, &mut parts, order)?;
+    push_instances(abc, &mut parts, order.nodes.as_slice(), &order.places)?;
     push_class_objects(abc, &mut parts, abc.instances.len() as u32)?;
     push_globals(abc, &mut parts, abc.scripts.len() as u32)?;
     push_bodies(abc, &mut parts, abc.bodies.len() as u32)?;

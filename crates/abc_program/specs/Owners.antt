@@ -1,50 +1,67 @@
--- Whose method each method is.
-use Rattle.std.specs.Prelude.{ℕ, ◌+◌, List, [], ◌∷◌, ◌++◌, Some, None, find, map, nat_eq}
+-- Whose method each method is, and which body it has.
+use Rattle.std.specs.Prelude.{ℕ, ◌+◌, List, [], ◌∷◌, ◌++◌, Some, None, get_or, nat_eq}
 use Rattle.std.specs.declared.option.Option.{Option}
+use Rattle.std.specs.List.{flat_map}
+use Rattle.abc_index.specs.Index.{first}
+use Rattle.abc_rules.specs.Methods.{methods_with_bodies}
 use Rattle.abc_tables.specs.declared.classes.ClassInfo.{ClassInfo}
 use Rattle.abc_tables.specs.declared.classes.Instance.{Instance}
 use Rattle.abc_tables.specs.declared.classes.Script.{Script}
 use Rattle.abc_tables.specs.declared.tables.Abc.{Abc}
+use Rattle.abc_tables.specs.declared.traits.TraitBody.{TraitBody}
+use Rattle.abc_tables.specs.declared.traits.TraitBody.TheVariants as traits
 use Rattle.abc_tables.specs.declared.traits.TraitInfo.{TraitInfo}
-use Rattle.abc_index.specs.Index.{first}
-use Rattle.abc_rules.specs.Methods.{methods_among, methods_with_bodies}
+use Rattle.abc_program.specs.declared.types.Naming.{Naming}
 use Rattle.abc_program.specs.declared.types.Owner.{Owner}
 use Rattle.abc_program.specs.declared.types.Owner.TheVariants as owners
-
--- a method, and what names it
-pub record Naming : Type 0 where
-  pub method : ℕ
-  pub owner : Owner
 
 abbrev pub naming : Owner → ℕ → Naming
 naming o m = record { method = m; owner = o }
 
+-- the method that a trait names, if it names one
+abbrev pub namings_in : Owner → TraitBody → List Naming
+namings_in o (traits.Method disp m) = naming o m ∷ []
+namings_in o (traits.Getter disp m) = naming o m ∷ []
+namings_in o (traits.Setter disp m) = naming o m ∷ []
+namings_in o (traits.Function id m) = naming o m ∷ []
+namings_in o (traits.Slot id ty value constant) = []
+namings_in o (traits.Class id k) = []
+
+abbrev pub namings_among : Owner → List TraitInfo → List Naming
+namings_among o ts = flat_map (λ t. namings_in o t.body) ts
+
 -- an initializer, and the methods of a table
 abbrev pub namings_of : Owner → ℕ → Owner → List TraitInfo → List Naming
-namings_of first init other table = naming first init ∷ map (naming other) (methods_among table)
+namings_of first init other table = naming first init ∷ namings_among other table
 
-abbrev pub of_instances : ℕ → List Instance → List Naming
-of_instances k [] = []
-of_instances k (i ∷ is) = namings_of (owners.Iinit k) i.iinit (owners.Instance k) i.traits ++ of_instances (k + 1) is
+abbrev pub of_instance : ℕ → Instance → List Naming
+of_instance k i = namings_of (owners.Iinit k) i.iinit (owners.Instance k) i.traits
 
-abbrev pub of_classes : ℕ → List ClassInfo → List Naming
-of_classes k [] = []
-of_classes k (c ∷ cs) = namings_of (owners.ClassInit k) c.cinit (owners.Static k) c.traits ++ of_classes (k + 1) cs
+abbrev pub of_class : ℕ → ClassInfo → List Naming
+of_class k c = namings_of (owners.ClassInit k) c.cinit (owners.Static k) c.traits
 
-abbrev pub of_scripts : ℕ → List Script → List Naming
-of_scripts s [] = []
-of_scripts s (x ∷ xs) = namings_of (owners.ScriptInit s) x.init (owners.ScriptMethod s) x.traits ++ of_scripts (s + 1) xs
+abbrev pub of_script : ℕ → Script → List Naming
+of_script s x = namings_of (owners.ScriptInit s) x.init (owners.ScriptMethod s) x.traits
 
--- where the rules hold no method stands in two of them, and the traits of bodies name none
+-- what the values of a list name one after the other, each by its number from k on
+abbrev pub namings_from : {A : Type 0} → (ℕ → A → List Naming) → ℕ → List A → List Naming
+namings_from of k [] = []
+namings_from of k (x ∷ xs) = of k x ++ namings_from of (k + 1) xs
+
+-- where the rules hold no method is named by two of them, and the traits of bodies name none
 abbrev pub namings : Abc → List Naming
-namings v = of_instances 0 v.instances ++ of_classes 0 v.classes ++ of_scripts 0 v.scripts
+namings v = namings_from of_instance 0 v.instances ++ namings_from of_class 0 v.classes ++ namings_from of_script 0 v.scripts
 
-abbrev pub owner_in : Option Naming → Owner
-owner_in None = owners.Free
-owner_in (Some n) = n.owner
+abbrev pub no_naming : Naming
+no_naming = naming owners.Free 0
 
+abbrev pub owner_at : List Naming → Option ℕ → Owner
+owner_at ns None = owners.Free
+owner_at ns (Some p) = (get_or ns p no_naming).owner
+
+-- what names the method first; nothing names a free one
 abbrev pub owner_of : Abc → ℕ → Owner
-owner_of v m = owner_in (find (λ n. nat_eq n.method m) (namings v))
+owner_of v m = owner_at (namings v) (first (λ n. nat_eq m n.method) (namings v))
 
 -- the body of a method: the first that names it
 abbrev pub body_of : Abc → ℕ → Option ℕ

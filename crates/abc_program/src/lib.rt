@@ -8,4 +8,4 @@ mod types;
 
 pub use key::{PartKey, part_key};
 pub use part::{LayoutId, Part};
-pub use types::{Kind, Owner, SlotInfo, Ty};
+pub use types::{Kind, Naming, Owner, SlotInfo, Ty};

@@ -20,6 +20,13 @@ pub enum Owner {
     Instance(u32),
 }
 
+/// A method, and what names it.
+#[derive(Clone, Copy, Debug, PartialEq, Eq)]
+pub struct Naming {
+    pub method: u32,
+    pub owner: Owner,
+}
+
 /// The type of a slot, a parameter or a name.
 #[derive(Clone, Copy, Debug, PartialEq, Eq)]
 pub enum Ty {

@@ -1,0 +1,19 @@
+-- A linked file, as the tables that say it.
+use Rattle.abc_link.specs.Made.{IsMade}
+use Rattle.abc_link.specs.declared.linked.Linked.TheInside.{Inside}
+use Rattle.abc_names.specs.Meanings.{AreMeanings}
+use Rattle.abc_names.specs.Numbers.{AreNames}
+use Rattle.abc_program.specs.Linked.{LinkedFile}
+use Rattle.abc_rules.specs.Firsts.{IsFew}
+use Rattle.abc_rules.specs.Rules.{AllHold}
+use Rattle.abc_slots.specs.Files.{linked}
+
+abbrev pub file_of : Inside → LinkedFile
+file_of a = linked a.abc a.made.layouts
+
+pub record AreTables (a : Inside) : Type 0 where
+  pub rules : AllHold a.abc
+  pub tables : IsFew a.abc
+  pub names_are : AreNames a.abc a.names
+  pub meanings_are : AreMeanings a.abc a.meanings
+  pub made_of : IsMade a.abc a.made

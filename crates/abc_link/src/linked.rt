@@ -1,0 +1,204 @@
+ghost use Rattle.std.specs.Prelude.{◌≡◌, ◌<◌, ◌^◌, ℕ, List, length};
+ghost use Rattle.std.specs.Option.{option_copied, option_map};
+ghost use Rattle.abc_index.specs.Texts.{number_in};
+ghost use Rattle.abc_names.specs.Pool.{is_public as is_public_in, same_space};
+ghost use Rattle.abc_program.specs.Linked.{IsLayout, IsLinkedFile, above as above_of, base as base_of, layout_of as layout_of_part, part_of as part_of_layout};
+ghost use Rattle.abc_program.specs.Owners.{body_of as body_of_method, owner_of};
+ghost use Rattle.abc_program.specs.Slots.{slot_numbered as slot_with, slots_of};
+ghost use Rattle.abc_program.specs.Traits.{own_traits as own_traits_of};
+ghost use Rattle.abc_program.specs.Types.{kind_of_type as kind_of, type_of as type_of_name};
+
+use abc_base::{HostClass, Table};
+use abc_heirs::Heirs;
+use abc_layouts::Layouts;
+use abc_members::Members;
+use abc_names::{Meanings, NameTables, Named, Names};
+use abc_owners::Owners;
+use abc_program::{Kind, LayoutId, Owner, Part, SlotInfo, Ty};
+use abc_slots::type_in;
+use abc_tables::Abc;
+use std::marker::Model;
+
+/// What is made of a file that keeps the rules of linking.
+#[derive(Drop)]
+pub(crate) struct Made {
+    pub owners: Owners,
+    pub layouts: Layouts,
+    pub slots: Heirs<SlotInfo>,
+    pub members: Members,
+}
+
+/// A linked file: whose method each method is, the layouts of objects and their slots, the types of names.
+#[derive(Drop)]
+pub struct Linked {
+    pub(crate) abc: Abc,
+    pub(crate) names: NameTables,
+    pub(crate) meanings: Table<Option<Named>>,
+    pub(crate) made: Made,
+}
+
+impl Model for Linked {
+    ghost use Rattle.abc_program.specs.Linked.{LinkedFile};
+
+    ghost Value = { LinkedFile };
+
+    ghost use Rattle.abc_link.specs.Tables.{AreTables, file_of};
+
+    ghost view = { file_of };
+
+    ghost invariant = { AreTables };
+}
+
+impl Linked {
+    /// The file.
+    pub fn abc(&self) -> &Abc
+        ensures { result.now ≡ self.now.file }
+    {
+        &self.abc
+    }
+
+    /// What every linked file keeps: the rules of linking, and a numbering of its layouts.
+    #[tactic(auto, using(crate::proofs::Laws::is_linked))]
+    pub fn linked_law(&self)
+        ensures { IsLinkedFile self.now }
+    {
+        let _file = &self.abc;
+    }
+
+    /// Whose method a method is.
+    pub fn owner(&self, method: u32) -> Owner
+        ensures { result ≡ owner_of self.now.file method }
+    {
+        self.made.owners.owner(&self.abc, method)
+    }
+
+    /// The body of a method, if it has one.
+    pub fn body_of(&self, method: u32) -> Option<u32>
+        ensures { result ≡ body_of_method self.now.file method }
+    {
+        self.made.owners.body_of(&self.abc, method)
+    }
+}
+
+impl Linked {
+    /// How many layouts there are.
+    pub fn layouts(&self) -> u32
+        ensures { result ≡ length self.now.parts }
+    {
+        self.made.layouts.len() as u32
+    }
+
+    /// What a layout is of.
+    pub fn part_of(&self, layout: LayoutId) -> Part
+        requires { IsLayout self.now layout }
+        ensures { result ≡ part_of_layout self.now layout }
+    {
+        self.made.layouts.part_of(layout)
+    }
+
+    /// The layout of a part; of a part without one, that of Object's instances.
+    pub fn layout_of(&self, part: Part) -> LayoutId
+        ensures { result ≡ layout_of_part self.now part }
+    {
+        self.made.layouts.layout_of(part)
+    }
+
+    /// The layout that a layout stands under. That of Object's instances, layout 0, stands under none.
+    pub fn base(&self, layout: LayoutId) -> Option<LayoutId>
+        requires { IsLayout self.now layout }
+        ensures { result ≡ option_map (λ n. record { 0 = n }) (base_of self.now layout.0) }
+    {
+        self.made.layouts.base(&self.abc, layout)
+    }
+
+    /// The layout that stands above a layout: what it stands under, or that of Object's instances where it stands under
+    /// none or is no layout.
+    #[tactic(auto, using(crate::proofs::Laws::none_above))]
+    pub fn above(&self, layout: LayoutId) -> LayoutId
+        ensures { result.0 ≡ above_of self.now layout.0 }
+    {
+        if layout.0 as usize >= self.made.layouts.len() {
+            return LayoutId(0);
+        }
+        match self.made.layouts.base_number(&self.abc, layout.0) {
+            Some(base) => LayoutId(base),
+            None => LayoutId(0),
+        }
+    }
+
+    /// The slots of a layout: those that it inherits, and then its own in file order.
+    #[tactic(auto, using(crate::proofs::Laws::slots_found, crate::proofs::Laws::slots_within))]
+    pub fn slots(&self, layout: LayoutId) -> &Table<SlotInfo>
+        requires { IsLayout self.now layout }
+        ensures { result.now ≡ slots_of self.now layout.0 }
+    {
+        self.made.slots.values(layout.0)
+    }
+
+    /// The slot that a number above 0 names, as its place among the slots of the layout. An inherited slot of that number
+    /// wins.
+    #[tactic(auto, using(crate::proofs::Laws::numbered_found, crate::proofs::Laws::slots_within))]
+    pub fn slot_numbered(&self, layout: LayoutId, number: u32) -> Option<u32>
+        requires { IsLayout self.now layout }
+        ensures { result ≡ slot_with self.now layout.0 number }
+    {
+        let place = self.made.slots.place(layout.0, number);
+        if number == 0 { None } else { place }
+    }
+
+    /// The type of a name, where index 0 is the type any. A name that doesn't resolve has none.
+    pub fn type_of(&self, name: u32) -> Option<Ty>
+        ensures { result ≡ type_of_name self.now name }
+    {
+        let meanings = Meanings::new(&self.abc, &self.meanings);
+        match meanings.type_named(name) {
+            Some(named) => Some(type_in(&self.abc, &self.made.layouts, named)),
+            None => None,
+        }
+    }
+
+    /// The own traits of a layout that have a text, as their places in its table, in file order. It answers none where no
+    /// own trait has the text.
+    pub fn own_traits(&self, layout: LayoutId, text: &[u8]) -> Option<&Table<u32>>
+        requires { IsLayout self.now layout }
+        ensures { option_copied result ≡ own_traits_of self.now layout.0 text.now }
+    {
+        self.made
+            .members
+            .own_traits(&self.abc, &self.made.layouts, layout.0, text)
+    }
+}
+
+impl Linked {
+    /// Whether two namespaces of the pool are equal.
+    pub fn is_same_space(&self, a: u32, b: u32) -> bool
+        ensures { result ≡ same_space self.now.file a b }
+    {
+        let names = Names::new(&self.abc, &self.names);
+        names.is_same_space(a, b)
+    }
+
+    /// Whether a namespace of the pool is public.
+    pub fn is_public(&self, space: u32) -> bool
+        ensures { result ≡ is_public_in self.now.file space }
+    {
+        let names = Names::new(&self.abc, &self.names);
+        names.is_public(space)
+    }
+}
+
+/// The kind of the values of a type.
+pub fn kind_of_type(l: &Linked, ty: Ty) -> Kind
+    ensures { result ≡ kind_of l.now ty }
+{
+    match ty {
+        Ty::Any | Ty::Object => Kind::Any,
+        Ty::Void => Kind::Undef,
+        Ty::Int | Ty::UInt | Ty::Number => Kind::Num,
+        Ty::Boolean => Kind::Bool,
+        Ty::Text => Kind::Text,
+        Ty::Space => Kind::Space,
+        Ty::Of(layout) => Kind::Obj(layout),
+        Ty::Interface(_) => Kind::Obj(l.layout_of(Part::Host(HostClass::Object))),
+    }
+}

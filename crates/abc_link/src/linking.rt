@@ -1,0 +1,116 @@
+ghost use Rattle.std.specs.Prelude.{◌≡◌, ◌<◌, ◌^◌, length, IfOk, IsTrue, MatchResult};
+ghost use Rattle.abc_layouts.specs.Laid.{AreLayouts};
+ghost use Rattle.abc_link.specs.Made.{IsMade};
+ghost use Rattle.abc_names.specs.Meanings.{AreMeanings};
+ghost use Rattle.abc_names.specs.Numbers.{AreNames};
+ghost use Rattle.abc_program.specs.Linked.{IsLinkedFile};
+ghost use Rattle.abc_rules.specs.Firsts.{IsFew, IsRefusal};
+ghost use Rattle.abc_rules.specs.Rules.{AllHold};
+
+use crate::linked::{Linked, Made};
+use abc_base::{NoMemory, Table};
+use abc_layouts::Layouts;
+use abc_members::Members;
+use abc_names::{Meanings, NameTables, Named, Names, meanings_of};
+use abc_owners::Owners;
+use abc_rules::{LinkError, check_rules};
+use abc_slots::slots_of;
+use abc_tables::Abc;
+use std::alloc::Global;
+
+/// Whether the tables of a file can be counted by 32 bits.
+fn are_few(abc: &Abc) -> bool
+    ensures { IsTrue result → IsFew abc.now }
+{
+    abc.methods.len() <= u32::MAX as usize
+        && abc.instances.len() <= u32::MAX as usize
+        && abc.scripts.len() <= u32::MAX as usize
+        && abc.bodies.len() <= u32::MAX as usize
+}
+
+/// What the names of a file stand for.
+fn meanings_in(
+    alloc: Global,
+    abc: &Abc,
+    names: &NameTables,
+) -> Result<Table<Option<Named>>, NoMemory>
+    requires { AreNames abc.now names.now }
+    ensures { IfOk result (λ t. AreMeanings abc.now t) }
+{
+    meanings_of(alloc, Names::new(abc, names))
+}
+
+/// The layouts of a file that keeps the rules. Of 2^32 layouts or more there is never room for all.
+fn layouts_in(
+    alloc: Global,
+    abc: &Abc,
+    meanings: &Table<Option<Named>>,
+) -> Result<Layouts, NoMemory>
+    requires meanings { AreMeanings abc.now meanings.now }
+    requires rules { AllHold abc.now }
+    ensures are { IfOk result (λ l. AreLayouts abc.now l) }
+    ensures few { IfOk result (λ l. length l.parts < 2 ^ 32) }
+{
+    let meanings = Meanings::new(abc, meanings);
+    let layouts = Layouts::new(alloc, &meanings)?;
+    if layouts.len() > u32::MAX as usize {
+        return Err(NoMemory);
+    }
+    Ok(layouts)
+}
+
+/// What is made of a file that keeps the rules.
+fn make(alloc: Global, abc: &Abc, meanings: &Table<Option<Named>>) -> Result<Made, NoMemory>
+    requires meanings { AreMeanings abc.now meanings.now }
+    requires rules { AllHold abc.now }
+    ensures { IfOk result (λ m. IsMade abc.now m) }
+{
+    let owners = Owners::new(alloc, abc)?;
+    let layouts = layouts_in(alloc, abc, meanings)?;
+    let count = layouts.len() as u32;
+    let meant = Meanings::new(abc, meanings);
+    let slots = slots_of(alloc, &meant, &layouts, count)?;
+    let members = Members::new(alloc, abc, &layouts, count)?;
+    Ok(Made {
+        owners,
+        layouts,
+        slots,
+        members,
+    })
+}
+
+/// Tries the rules.
+fn check(
+    alloc: Global,
+    abc: &Abc,
+    names: &NameTables,
+    meanings: &Table<Option<Named>>,
+) -> Result<(), LinkError>
+    requires names { AreNames abc.now names.now }
+    requires meanings { AreMeanings abc.now meanings.now }
+    ensures { MatchResult result (λ _. AllHold abc.now × IsFew abc.now) (IsRefusal abc.now) }
+{
+    if !are_few(abc) {
+        return Err(LinkError::NoMemory);
+    }
+    check_rules(alloc, abc, names, meanings)
+}
+
+/// Links a file. It is refused where it breaks a rule of linking: by the first rule that is broken, in the order of
+/// `LinkRule`, and the first item that breaks it, in file order. Linking consumes the file.
+pub fn link(alloc: Global, abc: Abc) -> Result<Linked, LinkError>
+    ensures { MatchResult result (λ l. (l.file ≡ abc) × IsLinkedFile l) (IsRefusal abc) }
+{
+    let names = NameTables::new(alloc, &abc)?;
+    let meanings = meanings_in(alloc, &abc, &names)?;
+    check(alloc, &abc, &names, &meanings)?;
+    let made = make(alloc, &abc, &meanings)?;
+    let linked = Linked {
+        abc,
+        names,
+        meanings,
+        made,
+    };
+    linked.linked_law();
+    Ok(linked)
+}

@@ -1,0 +1,7 @@
+//! The own traits of layouts, found by the texts of their names.
+#![tactic(auto)]
+
+mod members;
+mod numbers;
+
+pub use members::Members;

@@ -1,0 +1,123 @@
+ghost use Rattle.std.specs.Prelude.{◌≡◌, ◌<◌, ◌^◌, length, map, nat_eq, IfOk};
+ghost use Rattle.abc_index.specs.Index.{Finds, first};
+ghost use Rattle.abc_program.specs.Owners.{body_of, owner_at as owner_at_of, owner_of};
+ghost use Rattle.abc_rules.specs.Methods.{methods_with_bodies as all_with_bodies};
+ghost use Rattle.abc_owners.specs.Owning.{AreOwners};
+
+use crate::namings::namings;
+use abc_base::{NoMemory, Table};
+use abc_index::index_of;
+use abc_program::{Naming, Owner};
+use abc_tables::Abc;
+use indexmap::IndexMap;
+use std::alloc::Global;
+
+/// Whose method each method is, and which body it has.
+#[derive(Drop)]
+pub struct Owners {
+    pub(crate) namings: Table<Naming>,
+    /// The first place where each method is named.
+    pub(crate) places: IndexMap<u32, u32>,
+    /// The first body of each method.
+    pub(crate) bodies: IndexMap<u32, u32>,
+}
+
+/// The first place of each key. Of 2^32 keys or more there is never room for the places.
+fn first_places(alloc: Global, keys: &[u32]) -> Result<IndexMap<u32, u32>, NoMemory>
+    ensures { IfOk result (λ m. Finds nat_eq m keys.now) }
+{
+    if keys.len() > u32::MAX as usize {
+        return Err(NoMemory);
+    }
+    index_of(alloc, keys)
+}
+
+/// The methods that are named.
+fn methods_of(alloc: Global, list: &[Naming]) -> Result<Vec<u32>, NoMemory>
+    ensures { IfOk result (λ methods. methods.items ≡ map (λ n. n.method) list.now) }
+{
+    let mut methods = Vec::new(alloc);
+    for naming in list {
+        methods.push(naming.method)?;
+    }
+    Ok(methods)
+}
+
+/// The first place where each method is named.
+#[tactic(auto, using(crate::proofs::Found::finds_in))]
+fn places_of(alloc: Global, list: &[Naming]) -> Result<IndexMap<u32, u32>, NoMemory>
+    ensures { IfOk result (λ m. Finds nat_eq m (map (λ n. n.method) list.now)) }
+{
+    let methods = methods_of(alloc, list)?;
+    first_places(alloc, methods.as_slice())
+}
+
+/// The methods that have bodies.
+fn methods_with_bodies(alloc: Global, abc: &Abc) -> Result<Vec<u32>, NoMemory>
+    ensures { IfOk result (λ methods. methods.items ≡ all_with_bodies abc.now) }
+{
+    let mut list = Vec::new(alloc);
+    for body in abc.bodies.as_slice() {
+        list.push(body.method)?;
+    }
+    Ok(list)
+}
+
+/// The first body of each method.
+#[tactic(auto, using(crate::proofs::Found::finds_in))]
+fn bodies_of(alloc: Global, abc: &Abc) -> Result<IndexMap<u32, u32>, NoMemory>
+    ensures { IfOk result (λ m. Finds nat_eq m (all_with_bodies abc.now)) }
+{
+    let methods = methods_with_bodies(alloc, abc)?;
+    first_places(alloc, methods.as_slice())
+}
+
+/// What a place of a list names as the owner, if there is one.
+#[tactic(auto, using(crate::proofs::Found::past_end))]
+fn owner_at(list: &Table<Naming>, place: Option<u32>) -> Owner
+    ensures { result ≡ owner_at_of list.now place }
+{
+    match place {
+        Some(place) => match list.fetch(place as usize) {
+            Some(naming) => naming.owner,
+            None => Owner::Free,
+        },
+        None => Owner::Free,
+    }
+}
+
+impl Owners {
+    /// The owners and bodies of a file's methods.
+    pub fn new(alloc: Global, abc: &Abc) -> Result<Owners, NoMemory>
+        ensures { IfOk result (λ o. AreOwners abc.now o) }
+    {
+        let namings = namings(alloc, abc)?;
+        let places = places_of(alloc, namings.as_slice())?;
+        let bodies = bodies_of(alloc, abc)?;
+        Ok(Owners {
+            namings,
+            places,
+            bodies,
+        })
+    }
+
+    /// What names a method.
+    #[tactic(auto, using(crate::proofs::Found::owner_found))]
+    pub fn owner(&self, abc: &Abc, method: u32) -> Owner
+        requires { AreOwners abc.now self.now }
+        ensures { result ≡ owner_of abc.now method }
+    {
+        let _file = abc;
+        owner_at(&self.namings, self.places.get(&method).copied())
+    }
+
+    /// The body of a method, if it has one.
+    #[tactic(auto, using(crate::proofs::Found::body_found))]
+    pub fn body_of(&self, abc: &Abc, method: u32) -> Option<u32>
+        requires { AreOwners abc.now self.now }
+        ensures { result ≡ body_of abc.now method }
+    {
+        let _file = abc;
+        self.bodies.get(&method).copied()
+    }
+}

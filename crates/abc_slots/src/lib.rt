@@ -1,0 +1,10 @@
+//! The types of names and the slots of layouts.
+#![tactic(auto)]
+
+mod parts;
+mod slots;
+mod types;
+
+pub use parts::traits_of;
+pub use slots::slots_of;
+pub use types::type_in;
