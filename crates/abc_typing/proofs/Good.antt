@@ -100,6 +100,16 @@ first_slots p t =
     ∙ ap (λ (xs : List SlotInfo). xs ++ own_slots p (part_at p.parts 0)) (heritage_none (base p) (λ y. own_slots p (part_at p.parts y)))
     ∙ ap (own_slots p) e
 
+-- what is no layout has none
+pub slots_past : (p : LinkedFile) → IsLinkedFile p → (l : ℕ) → length p.parts ≤ l → slots_of p l ≡ []
+slots_past p t l le =
+    let e : part_at p.parts l ≡ parts.Host hosts.Object = get_or_past p.parts l (parts.Host hosts.Object) le in
+    let none : base p l ≡ None = ap (λ (q : Part). place_under p.parts (parent p.file q)) e in
+    slots_split p t l
+    ∙ ap (λ (o : Option ℕ). heritage (base p) (λ y. own_slots p (part_at p.parts y)) o ++ own_slots p (part_at p.parts l)) none
+    ∙ ap (λ (xs : List SlotInfo). xs ++ own_slots p (part_at p.parts l)) (heritage_none (base p) (λ y. own_slots p (part_at p.parts y)))
+    ∙ ap (own_slots p) e
+
 inherited : (p : LinkedFile) → IsLinkedFile p → (l j : ℕ) (k : Kind) → slot p (above p l) j ≡ Some k → slot p l j ≡ Some k
 inherited p t l j k = at (base p l) refl
   where

@@ -5,3 +5,4 @@ pub mod Effects
 pub mod Rules
 pub mod Typing
 pub mod Standing
+pub mod RuleNames

@@ -1,3 +1,6 @@
+ghost use Rattle.std.specs.Prelude.{◌≡◌};
+ghost use Rattle.abc_typing.specs.RuleNames.{rule_name};
+
 /// What a place asks of a state, in the order in which a refusal names it.
 #[derive(Clone, Copy, Debug, PartialEq, Eq)]
 pub enum VerifyRule {
@@ -37,4 +40,32 @@ pub enum VerifyRule {
     Parameters,
     /// The method's flags are those of this profile.
     Flags,
+}
+
+impl VerifyRule {
+    /// The name of the rule, which is that of the variant.
+    pub fn name(&self) -> &[u8]
+        ensures { result.now ≡ rule_name self.now }
+    {
+        match self {
+            VerifyRule::NotRun => b"NotRun",
+            VerifyRule::PoolIndex => b"PoolIndex",
+            VerifyRule::NameForm => b"NameForm",
+            VerifyRule::StackUnder => b"StackUnder",
+            VerifyRule::StackOver => b"StackOver",
+            VerifyRule::ScopeUnder => b"ScopeUnder",
+            VerifyRule::ScopeOver => b"ScopeOver",
+            VerifyRule::LocalIndex => b"LocalIndex",
+            VerifyRule::OffEnd => b"OffEnd",
+            VerifyRule::Merge => b"Merge",
+            VerifyRule::NotSpace => b"NotSpace",
+            VerifyRule::NotObject => b"NotObject",
+            VerifyRule::SlotIndex => b"SlotIndex",
+            VerifyRule::ScopeIndex => b"ScopeIndex",
+            VerifyRule::NotHere => b"NotHere",
+            VerifyRule::NotIndex => b"NotIndex",
+            VerifyRule::Parameters => b"Parameters",
+            VerifyRule::Flags => b"Flags",
+        }
+    }
 }

@@ -1,0 +1,24 @@
+use Rattle.std.proofs.Common.{◌≡◌, subst, refl}
+use Rattle.abc_flow.specs.Walking.{Passed}
+use Rattle.abc_flow.specs.declared.step.Onward.{Onward}
+use Rattle.abc_flow.specs.declared.step.Onward.TheVariants.{Stops, GoesOn}
+use Rattle.abc_flow.specs.declared.step.Written.{Written}
+use Rattle.abc_flow.proofs.Walks.{walk_init, walk_step, walk_stop}
+use Rattle.abc_flow.proofs.walk.pace.Goals as goal
+
+stops : (o : Onward) → ((w : Written) → o ≡ GoesOn w → ⊥) → o ≡ Stops
+stops Stops h = refl
+stops (GoesOn w) h = absurd (h w refl)
+
+pub loop-now-init : goal.loop-now-init
+loop-now-init g c = walk_init _ _ _ c.args.cover.now c.args.start c.args.state c.args.seen.now _ _ c.requires.opened c.requires.place c.requires.derived c.requires.covers c.requires.seen_is
+
+pub loop-now-preserved : goal.loop-now-preserved
+loop-now-preserved g c =
+    walk_step _ _ _ c.args.cover.now c.args.start c.args.state c.loop-now.place c.loop-now.now c.pass.new.now c.loop-now.seen c.pass.new.seen c.loop-now.written c.in-GoesOn.next _ _ _ _ _ _ c.requires.heads c.loop-now.invariant
+    (subst (λ (o : Onward). Passed (g.F.Flow.file c.args.flow.now) (g.F.Flow.routine c.args.flow.now) (g.F.Flow.heads c.args.flow.now) c.args.cover.now c.loop-now.place c.loop-now.now c.pass.new.now c.loop-now.seen c.pass.new.seen c.loop-now.states c.loop-now.work c.pass.new.states c.pass.new.work o) c.in-GoesOn.is c.in_ok-next.ensures)
+
+pub returns : goal.returns
+returns g c =
+    walk_stop _ _ _ c.args.cover.now c.args.start c.args.state c.loop-now.place c.loop-now.now c.pass.new.now c.loop-now.seen c.pass.new.seen c.loop-now.written _ _ _ _ _ _ c.loop-now.invariant
+    (subst (λ (o : Onward). Passed (g.F.Flow.file c.args.flow.now) (g.F.Flow.routine c.args.flow.now) (g.F.Flow.heads c.args.flow.now) c.args.cover.now c.loop-now.place c.loop-now.now c.pass.new.now c.loop-now.seen c.pass.new.seen c.loop-now.states c.loop-now.work c.pass.new.states c.pass.new.work o) (stops c.in_ok-next.field-0 c.in_default.not-GoesOn) c.in_ok-next.ensures)

@@ -1,0 +1,70 @@
+use crate::step::{Merged, Step};
+use abc_base::NoMemory;
+use abc_program::Kind;
+use abc_tables::Instr;
+use abc_typing::{Catch, State, VerifyRule};
+use std::alloc::Global;
+
+/// What the instructions of a method do to states.
+pub trait Flow {
+    ghost use Rattle.std.specs.Prelude.{◌≡◌, Bool, IfOk, List, MatchOption, None, Some, length, slice_get};
+    ghost use Rattle.abc_program.specs.Kinds.{IsJoin};
+    ghost use Rattle.abc_program.specs.Linked.{IsLinkedFile, LinkedFile};
+    ghost use Rattle.abc_typing.specs.Effects.{covering};
+    ghost use Rattle.abc_typing.specs.Routines.{Routine};
+    ghost use Rattle.abc_typing.specs.Rules.{broken, broken_early};
+    ghost use Rattle.abc_typing.specs.Typing.{IsFine, entry};
+    ghost use Rattle.abc_flow.specs.Walking.{MergesTo, Steps, is_head};
+
+    ghost file: { Self → LinkedFile };
+
+    ghost routine: { Self → Routine };
+
+    ghost heads: { Self → List Bool };
+
+    fn alloc(&self) -> Global;
+
+    /// How many instructions there are.
+    fn len(&self) -> usize
+        ensures { result ≡ length (routine self.now).code };
+
+    /// The instruction at a place, or `None` where the code ends before it.
+    fn instr(&self, place: u32) -> Option<&Instr>
+        ensures { MatchOption result (slice_get (routine self.now).code place ≡ None) (λ i. slice_get (routine self.now).code place ≡ Some i.now) };
+
+    fn handlers(&self) -> &[Catch]
+        ensures { result.now ≡ (routine self.now).handlers };
+
+    /// Whether a walk begins at a place.
+    fn is_head(&self, place: u32) -> bool
+        ensures { result ≡ is_head (heads self.now) place };
+
+    /// The first rule that a state breaks, where these handlers cover the place.
+    fn broken(&self, place: u32, state: &State, cover: &[Catch]) -> Option<VerifyRule>
+        requires linked { IsLinkedFile (file self.now) }
+        requires cover { cover.now ≡ covering (routine self.now) place }
+        ensures { result ≡ broken (file self.now) (routine self.now) place state.now };
+
+    /// The first rule before Merge that a state breaks.
+    fn broken_early(&self, place: u32, state: &State) -> Option<VerifyRule>
+        ensures { result ≡ broken_early (file self.now) (routine self.now) place state.now };
+
+    /// Does the instruction at a place to a state that breaks no rule.
+    fn step(&self, place: u32, state: &mut State) -> Result<Step, NoMemory>
+        requires { IsFine (file self.now) (routine self.now) place state.old }
+        ensures { IfOk result (λ w. Steps (file self.now) (routine self.now) place state.old state.new w) };
+
+    /// The state that a method begins with.
+    fn entry(&self) -> Result<State, NoMemory>
+        ensures { IfOk result (λ s. s ≡ entry (routine self.now)) };
+
+    /// The least kind above both.
+    fn join(&self, a: Kind, b: Kind) -> Kind
+        requires { IsLinkedFile (file self.now) }
+        ensures { IsJoin (file self.now) a b result };
+
+    /// Two states of one place together.
+    fn merge(&self, old: &State, next: &State) -> Result<Merged, NoMemory>
+        requires { IsLinkedFile (file self.now) }
+        ensures { IfOk result (λ j. MergesTo (file self.now) old.now next.now j) };
+}

@@ -1,0 +1,15 @@
+//! The work list of a verifier as code, over anything that says what the instructions of a method do to states. States are
+//! kept at heads alone: the first place, the targets of branches, switches and handlers, and the ends of handlers' ranges.
+//! From a head a walk goes over straight-line code with one running state, up to the next head.
+#![tactic(auto)]
+
+mod copies;
+mod flow;
+mod merging;
+mod notes;
+mod step;
+mod walk;
+
+pub use flow::Flow;
+pub use step::{Merged, Onward, Refusal, Step, Written};
+pub use walk::check_flow;

@@ -1,0 +1,192 @@
+ghost use Rattle.std.specs.Prelude.{◌≡◌, ◌∷◌, ◌<◌, [], Some, length, set, map, MatchResult};
+ghost use Rattle.abc_program.specs.Linked.{IsLinkedFile};
+ghost use Rattle.abc_shapes.specs.Instructions.{targets};
+ghost use Rattle.abc_typing.specs.Typing.{Derivable, HasOneShape, Refutes};
+ghost use Rattle.abc_flow.specs.Walking.{AllReach, AreReady, IsOpen, IsReady, RefusedBy, caught_with, landing, targets_at};
+ghost use Rattle.abc_flow.specs.declared.step.Refusal.TheVariants as refusals;
+
+use crate::copies::{caught_state, copy_state};
+use crate::flow::Flow;
+use crate::step::{Merged, Refusal};
+use abc_base::Table;
+use abc_program::Kind;
+use abc_tables::Instr;
+use abc_typing::{Catch, Stack, State, VerifyRule};
+
+/// A place gets a state, and work.
+pub(crate) fn raise(
+    states: &mut Table<Option<State>>,
+    work: &mut Stack<u32>,
+    place: u32,
+    state: State,
+) -> Result<(), Refusal>
+    requires { place < length states.old }
+    ensures { MatchResult result (λ _. (states.new ≡ set states.old place (Some state)) × (work.new ≡ place ∷ work.old)) (λ e. e ≡ refusals.NoMemory) }
+{
+    states.set(place as usize, Some(state));
+    work.push(place)?;
+    Ok(())
+}
+
+/// Two states of unequal shapes meet: the rule that the first breaks, or Merge.
+#[tactic(auto, using(crate::proofs::Places::clash_broken, crate::proofs::Places::clash_merge))]
+fn refuse<F: Flow>(flow: &F, place: u32, old: &State, next: &State) -> VerifyRule
+    requires old_derived { Derivable (F.file flow.now) (F.routine flow.now) place old.now }
+    requires next_derived { Derivable (F.file flow.now) (F.routine flow.now) place next.now }
+    requires unequal { HasOneShape old.now next.now → ⊥ }
+    ensures { Refutes (F.file flow.now) (F.routine flow.now) place result }
+{
+    match flow.broken_early(place, old) {
+        Some(rule) => rule,
+        None => VerifyRule::Merge,
+    }
+}
+
+/// A state flows to a place.
+#[tactic(auto, using(crate::proofs::Places::merge_same, crate::proofs::Places::merge_joined, crate::proofs::Places::merge_first, crate::proofs::Places::is_derived, crate::proofs::Places::in_states))]
+pub(crate) fn merge_at<F: Flow>(
+    flow: &F,
+    states: &mut Table<Option<State>>,
+    work: &mut Stack<u32>,
+    place: u32,
+    next: &State,
+) -> Result<(), Refusal>
+    requires linked { IsLinkedFile (F.file flow.now) }
+    requires opened { IsOpen (F.file flow.now) (F.routine flow.now) states.old }
+    requires ready { IsReady (F.file flow.now) (F.routine flow.now) (F.heads flow.now) place next.now }
+    ensures { MatchResult result (λ _. AllReach (F.file flow.now) (F.routine flow.now) (F.heads flow.now) ((place, next.now) ∷ []) states.old work.old states.new work.new) (λ e. RefusedBy (F.file flow.now) (F.routine flow.now) e) }
+{
+    match states.find(place as usize) {
+        Some(Some(old)) => match flow.merge(old, next)? {
+            Merged::Same => Ok(()),
+            Merged::Joined(joined) => raise(states, work, place, joined),
+            Merged::Unequal => Err(Refusal::Refused(place, refuse(flow, place, old, next))),
+        },
+        _ => raise(states, work, place, copy_state(flow.alloc(), next)?),
+    }
+}
+
+/// A handler gets the locals that were seen.
+fn catch_one<F: Flow>(
+    flow: &F,
+    states: &mut Table<Option<State>>,
+    work: &mut Stack<u32>,
+    seen: &Table<Kind>,
+    handler: &Catch,
+) -> Result<(), Refusal>
+    requires linked { IsLinkedFile (F.file flow.now) }
+    requires opened { IsOpen (F.file flow.now) (F.routine flow.now) states.old }
+    requires ready { IsReady (F.file flow.now) (F.routine flow.now) (F.heads flow.now) handler.now.target (caught_with seen.now handler.now).1 }
+    ensures { MatchResult result (λ _. AllReach (F.file flow.now) (F.routine flow.now) (F.heads flow.now) (caught_with seen.now handler.now ∷ []) states.old work.old states.new work.new) (λ e. RefusedBy (F.file flow.now) (F.routine flow.now) e) }
+{
+    let state = caught_state(flow.alloc(), handler, seen)?;
+    merge_at(flow, states, work, handler.target, &state)
+}
+
+/// Handlers get the locals that were seen.
+pub(crate) fn catch_all<F: Flow>(
+    flow: &F,
+    states: &mut Table<Option<State>>,
+    work: &mut Stack<u32>,
+    seen: &Table<Kind>,
+    cover: &[Catch],
+) -> Result<(), Refusal>
+    requires linked { IsLinkedFile (F.file flow.now) }
+    requires opened { IsOpen (F.file flow.now) (F.routine flow.now) states.old }
+    requires ready { AreReady (F.file flow.now) (F.routine flow.now) (F.heads flow.now) (map (caught_with seen.now) cover.now) }
+    ensures { MatchResult result (λ _. AllReach (F.file flow.now) (F.routine flow.now) (F.heads flow.now) (map (caught_with seen.now) cover.now) states.old work.old states.new work.new) (λ e. RefusedBy (F.file flow.now) (F.routine flow.now) e) }
+{
+    for handler in cover {
+        catch_one(flow, states, work, seen, handler)?;
+    }
+    Ok(())
+}
+
+/// A state flows to a place that an instruction names.
+fn jump_to<F: Flow>(
+    flow: &F,
+    states: &mut Table<Option<State>>,
+    work: &mut Stack<u32>,
+    place: u32,
+    state: &State,
+) -> Result<(), Refusal>
+    requires linked { IsLinkedFile (F.file flow.now) }
+    requires opened { IsOpen (F.file flow.now) (F.routine flow.now) states.old }
+    requires ready { IsReady (F.file flow.now) (F.routine flow.now) (F.heads flow.now) place state.now }
+    ensures { MatchResult result (λ _. AllReach (F.file flow.now) (F.routine flow.now) (F.heads flow.now) (map (landing state.now) (place ∷ [])) states.old work.old states.new work.new) (λ e. RefusedBy (F.file flow.now) (F.routine flow.now) e) }
+{
+    merge_at(flow, states, work, place, state)
+}
+
+/// A state flows to the cases of a switch.
+fn jump_cases<F: Flow>(
+    flow: &F,
+    states: &mut Table<Option<State>>,
+    work: &mut Stack<u32>,
+    state: &State,
+    cases: &[u32],
+) -> Result<(), Refusal>
+    requires linked { IsLinkedFile (F.file flow.now) }
+    requires opened { IsOpen (F.file flow.now) (F.routine flow.now) states.old }
+    requires ready { AreReady (F.file flow.now) (F.routine flow.now) (F.heads flow.now) (map (landing state.now) cases.now) }
+    ensures { MatchResult result (λ _. AllReach (F.file flow.now) (F.routine flow.now) (F.heads flow.now) (map (landing state.now) cases.now) states.old work.old states.new work.new) (λ e. RefusedBy (F.file flow.now) (F.routine flow.now) e) }
+{
+    for case in cases {
+        merge_at(flow, states, work, *case, state)?;
+    }
+    Ok(())
+}
+
+/// A state flows to the places that an instruction names.
+#[tactic(auto, using(crate::proofs::Places::reach_none, crate::proofs::Places::one_ready, crate::proofs::Places::first_ready, crate::proofs::Places::rest_ready, crate::proofs::Places::reach_rest))]
+fn jump_along<F: Flow>(
+    flow: &F,
+    states: &mut Table<Option<State>>,
+    work: &mut Stack<u32>,
+    instr: &Instr,
+    state: &State,
+) -> Result<(), Refusal>
+    requires linked { IsLinkedFile (F.file flow.now) }
+    requires opened { IsOpen (F.file flow.now) (F.routine flow.now) states.old }
+    requires ready { AreReady (F.file flow.now) (F.routine flow.now) (F.heads flow.now) (map (landing state.now) (targets instr.now)) }
+    ensures { MatchResult result (λ _. AllReach (F.file flow.now) (F.routine flow.now) (F.heads flow.now) (map (landing state.now) (targets instr.now)) states.old work.old states.new work.new) (λ e. RefusedBy (F.file flow.now) (F.routine flow.now) e) }
+{
+    match instr {
+        Instr::Branch(_, target) => jump_to(flow, states, work, *target, state),
+        Instr::Switch {
+            default,
+            cases,
+        } => {
+            jump_to(flow, states, work, *default, state)?;
+            jump_cases(flow, states, work, state, cases.as_slice())?;
+            Ok(())
+        }
+        Instr::Plain(_) => Ok(()),
+        Instr::One(_, _) => Ok(()),
+        Instr::Two(_, _, _) => Ok(()),
+        Instr::Byte(_) => Ok(()),
+        Instr::Short(_) => Ok(()),
+        Instr::ScopeObject(_) => Ok(()),
+        Instr::Debug { .. } => Ok(()),
+    }
+}
+
+/// A state flows to the places that the instruction at a place names.
+#[tactic(auto, using(crate::proofs::Places::reach_none))]
+pub(crate) fn jump<F: Flow>(
+    flow: &F,
+    states: &mut Table<Option<State>>,
+    work: &mut Stack<u32>,
+    place: u32,
+    state: &State,
+) -> Result<(), Refusal>
+    requires linked { IsLinkedFile (F.file flow.now) }
+    requires opened { IsOpen (F.file flow.now) (F.routine flow.now) states.old }
+    requires ready { AreReady (F.file flow.now) (F.routine flow.now) (F.heads flow.now) (map (landing state.now) (targets_at (F.routine flow.now) place)) }
+    ensures { MatchResult result (λ _. AllReach (F.file flow.now) (F.routine flow.now) (F.heads flow.now) (map (landing state.now) (targets_at (F.routine flow.now) place)) states.old work.old states.new work.new) (λ e. RefusedBy (F.file flow.now) (F.routine flow.now) e) }
+{
+    match flow.instr(place) {
+        Some(instr) => jump_along(flow, states, work, instr, state),
+        None => Ok(()),
+    }
+}

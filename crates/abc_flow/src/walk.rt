@@ -1,0 +1,240 @@
+ghost use Rattle.std.specs.Prelude.{◌≡◌, ◌<◌, ◌^◌, ◌∷◌, true, [], None, cond, map, length, replicate, IfOk, MatchResult};
+ghost use Rattle.abc_program.specs.Linked.{IsLinkedFile};
+ghost use Rattle.abc_typing.specs.Effects.{covering};
+ghost use Rattle.abc_typing.specs.Typing.{Derivable, HasTyping};
+ghost use Rattle.abc_worklist.specs.Work.{IsUnderWay};
+ghost use Rattle.abc_flow.specs.Walking.{AllReach, AreHeads, AreReady, ArrivesAt, HasPaced, HasTurned, HasWalked, IsOpen, IsPending, MayGoOn, Passed, RefusedBy, is_head, landing, targets_at};
+
+use crate::copies::{copy_state, copy_table, covering_of};
+use crate::flow::Flow;
+use crate::merging::{catch_all, jump, merge_at, raise};
+use crate::notes::note;
+use crate::step::{Onward, Refusal, Step, Written};
+use abc_base::{NoMemory, Table};
+use abc_program::Kind;
+use abc_typing::{Catch, Stack, State, VerifyRule};
+use std::alloc::Global;
+
+/// A state flows to the places that an instruction names, if the step leads there.
+#[tactic(auto, using(crate::proofs::Places::reach_none))]
+fn jump_if<F: Flow>(
+    flow: &F,
+    states: &mut Table<Option<State>>,
+    work: &mut Stack<u32>,
+    jumps: bool,
+    place: u32,
+    state: &State,
+) -> Result<(), Refusal>
+    requires linked { IsLinkedFile (F.file flow.now) }
+    requires opened { IsOpen (F.file flow.now) (F.routine flow.now) states.old }
+    requires ready { jumps ≡ true → AreReady (F.file flow.now) (F.routine flow.now) (F.heads flow.now) (map (landing state.now) (targets_at (F.routine flow.now) place)) }
+    ensures { MatchResult result (λ _. AllReach (F.file flow.now) (F.routine flow.now) (F.heads flow.now) (map (landing state.now) (cond jumps (targets_at (F.routine flow.now) place) [])) states.old work.old states.new work.new) (λ e. RefusedBy (F.file flow.now) (F.routine flow.now) e) }
+{
+    if jumps {
+        jump(flow, states, work, place, state)
+    } else {
+        Ok(())
+    }
+}
+
+/// A state comes to the next place.
+#[tactic(auto, using(crate::proofs::Places::arrived_not, crate::proofs::Places::arrived_head, crate::proofs::Places::head_ready))]
+fn arrive<F: Flow>(
+    flow: &F,
+    states: &mut Table<Option<State>>,
+    work: &mut Stack<u32>,
+    step: Step,
+    place: u32,
+    state: &State,
+) -> Result<Onward, Refusal>
+    requires linked { IsLinkedFile (F.file flow.now) }
+    requires small { length (F.routine flow.now).code < 2 ^ 31 }
+    requires opened { IsOpen (F.file flow.now) (F.routine flow.now) states.old }
+    requires ready { step.next ≡ true → MayGoOn (F.file flow.now) (F.routine flow.now) place state.now }
+    requires place { place < length (F.routine flow.now).code }
+    ensures { MatchResult result (λ o. ArrivesAt (F.file flow.now) (F.routine flow.now) (F.heads flow.now) step place state.now states.old work.old states.new work.new o) (λ e. RefusedBy (F.file flow.now) (F.routine flow.now) e) }
+{
+    if !step.next {
+        return Ok(Onward::Stops);
+    }
+    if flow.is_head(place + 1) {
+        merge_at(flow, states, work, place + 1, state)?;
+        return Ok(Onward::Stops);
+    }
+    Ok(Onward::GoesOn(step.written))
+}
+
+/// A walk passes a place, which these handlers cover.
+#[tactic(auto, using(crate::proofs::Walks::passed, crate::proofs::Walks::now_seen, crate::proofs::Walks::jumps_ready, crate::proofs::Walks::next_ready))]
+fn pass<F: Flow>(
+    flow: &F,
+    states: &mut Table<Option<State>>,
+    work: &mut Stack<u32>,
+    cover: &[Catch],
+    seen: &mut Table<Kind>,
+    written: Written,
+    place: u32,
+    now: &mut State,
+) -> Result<Onward, Refusal>
+    requires linked { IsLinkedFile (F.file flow.now) }
+    requires small { length (F.routine flow.now).code < 2 ^ 31 }
+    requires heads { AreHeads (F.routine flow.now) (F.heads flow.now) }
+    requires opened { IsOpen (F.file flow.now) (F.routine flow.now) states.old }
+    requires place { place < length (F.routine flow.now).code }
+    requires derived { Derivable (F.file flow.now) (F.routine flow.now) place now.old }
+    requires covers { cover.now ≡ covering (F.routine flow.now) place }
+    requires pending { IsPending (F.file flow.now) (F.routine flow.now) (F.heads flow.now) cover.now seen.old now.old.locals written }
+    ensures { MatchResult result (λ o. Passed (F.file flow.now) (F.routine flow.now) (F.heads flow.now) cover.now place now.old now.new seen.old seen.new states.old work.old states.new work.new o) (λ e. RefusedBy (F.file flow.now) (F.routine flow.now) e) }
+{
+    if let Some(rule) = flow.broken(place, now, cover) {
+        return Err(Refusal::Refused(place, rule));
+    }
+    note(flow, seen, &now.locals, written);
+    let step = flow.step(place, now)?;
+    jump_if(flow, states, work, step.jumps, place, now)?;
+    let onward = arrive(flow, states, work, step, place, now)?;
+    Ok(onward)
+}
+
+/// The places of a walk, from a head on; what is left is to tell the handlers.
+#[tactic(auto, using(crate::proofs::Walks::walk_init, crate::proofs::Walks::walk_step, crate::proofs::Walks::walk_stop))]
+fn pace<F: Flow>(
+    flow: &F,
+    states: &mut Table<Option<State>>,
+    work: &mut Stack<u32>,
+    cover: &[Catch],
+    seen: &mut Table<Kind>,
+    start: u32,
+    state: State,
+) -> Result<(), Refusal>
+    requires linked { IsLinkedFile (F.file flow.now) }
+    requires small { length (F.routine flow.now).code < 2 ^ 31 }
+    requires heads { AreHeads (F.routine flow.now) (F.heads flow.now) }
+    requires opened { IsOpen (F.file flow.now) (F.routine flow.now) states.old }
+    requires place { start < length (F.routine flow.now).code }
+    requires derived { Derivable (F.file flow.now) (F.routine flow.now) start state }
+    requires covers { cover.now ≡ covering (F.routine flow.now) start }
+    requires seen_is { seen.old ≡ state.locals }
+    ensures { MatchResult result (λ _. HasPaced (F.file flow.now) (F.routine flow.now) (F.heads flow.now) cover.now start state seen.new states.old work.old states.new work.new) (λ e. RefusedBy (F.file flow.now) (F.routine flow.now) e) }
+{
+    let mut now = state;
+    let mut place = start;
+    let mut written = Written::Nothing;
+    while let Onward::GoesOn(next) = pass(flow, states, work, cover, seen, written, place, &mut now)?
+    {
+        written = next;
+        place += 1;
+    }
+    Ok(())
+}
+
+/// A walk from a head, and what the handlers that cover it get.
+#[tactic(auto, using(crate::proofs::Walks::walked_all))]
+fn walk_covered<F: Flow>(
+    flow: &F,
+    states: &mut Table<Option<State>>,
+    work: &mut Stack<u32>,
+    cover: &[Catch],
+    seen: &mut Table<Kind>,
+    start: u32,
+    state: State,
+) -> Result<(), Refusal>
+    requires linked { IsLinkedFile (F.file flow.now) }
+    requires small { length (F.routine flow.now).code < 2 ^ 31 }
+    requires heads { AreHeads (F.routine flow.now) (F.heads flow.now) }
+    requires opened { IsOpen (F.file flow.now) (F.routine flow.now) states.old }
+    requires place { start < length (F.routine flow.now).code }
+    requires derived { Derivable (F.file flow.now) (F.routine flow.now) start state }
+    requires covers { cover.now ≡ covering (F.routine flow.now) start }
+    requires seen_is { seen.old ≡ state.locals }
+    ensures { MatchResult result (λ _. HasWalked (F.file flow.now) (F.routine flow.now) (F.heads flow.now) start state states.old work.old states.new work.new) (λ e. RefusedBy (F.file flow.now) (F.routine flow.now) e) }
+{
+    pace(flow, states, work, cover, seen, start, state)?;
+    catch_all(flow, states, work, seen, cover)?;
+    Ok(())
+}
+
+/// A walk from a head.
+fn walk_from<F: Flow>(
+    flow: &F,
+    states: &mut Table<Option<State>>,
+    work: &mut Stack<u32>,
+    start: u32,
+    state: State,
+) -> Result<(), Refusal>
+    requires linked { IsLinkedFile (F.file flow.now) }
+    requires small { length (F.routine flow.now).code < 2 ^ 31 }
+    requires heads { AreHeads (F.routine flow.now) (F.heads flow.now) }
+    requires opened { IsOpen (F.file flow.now) (F.routine flow.now) states.old }
+    requires place { start < length (F.routine flow.now).code }
+    requires derived { Derivable (F.file flow.now) (F.routine flow.now) start state }
+    ensures { MatchResult result (λ _. HasWalked (F.file flow.now) (F.routine flow.now) (F.heads flow.now) start state states.old work.old states.new work.new) (λ e. RefusedBy (F.file flow.now) (F.routine flow.now) e) }
+{
+    let cover = covering_of(flow.alloc(), flow.handlers(), start)?;
+    let mut seen = copy_table(flow.alloc(), state.locals.as_slice())?;
+    walk_covered(flow, states, work, cover.as_slice(), &mut seen, start, state)
+}
+
+/// One head of the work.
+#[tactic(auto, using(crate::proofs::Walks::visit_none, crate::proofs::Walks::visit_walked, crate::proofs::Walks::is_whole, crate::proofs::Walks::state_inside, crate::proofs::Places::is_derived))]
+fn visit<F: Flow>(
+    flow: &F,
+    states: &mut Table<Option<State>>,
+    work: &mut Stack<u32>,
+    place: u32,
+) -> Result<(), Refusal>
+    requires linked { IsLinkedFile (F.file flow.now) }
+    requires small { length (F.routine flow.now).code < 2 ^ 31 }
+    requires heads { AreHeads (F.routine flow.now) (F.heads flow.now) }
+    requires under_way { IsUnderWay (F.file flow.now) (F.routine flow.now) (is_head (F.heads flow.now)) states.old (place ∷ work.old) }
+    ensures { MatchResult result (λ _. HasTurned (F.file flow.now) (F.routine flow.now) (F.heads flow.now) states.old work.old states.new work.new) (λ e. RefusedBy (F.file flow.now) (F.routine flow.now) e) }
+{
+    let state = match states.find(place as usize) {
+        Some(Some(state)) => copy_state(flow.alloc(), state)?,
+        _ => return Ok(()),
+    };
+    walk_from(flow, states, work, place, state)
+}
+
+/// No states.
+fn blank(alloc: Global, count: usize) -> Result<Table<Option<State>>, NoMemory>
+    ensures { IfOk result (λ t. t ≡ replicate count None) }
+{
+    let mut states = Table::new(alloc);
+    for _place in 0..count {
+        states.push(None)?;
+    }
+    Ok(states)
+}
+
+/// The work list, where there is code.
+fn check_code<F: Flow>(flow: &F) -> Result<(), Refusal>
+    requires linked { IsLinkedFile (F.file flow.now) }
+    requires some { 0 < length (F.routine flow.now).code }
+    requires small { length (F.routine flow.now).code < 2 ^ 31 }
+    requires heads { AreHeads (F.routine flow.now) (F.heads flow.now) }
+    ensures { MatchResult result (λ _. HasTyping (F.file flow.now) (F.routine flow.now)) (λ e. RefusedBy (F.file flow.now) (F.routine flow.now) e) }
+{
+    let mut states = blank(flow.alloc(), flow.len())?;
+    let mut work = Stack::new(flow.alloc());
+    raise(&mut states, &mut work, 0, flow.entry()?)?;
+    while let Some(place) = work.pop() {
+        visit(flow, &mut states, &mut work, place)?;
+    }
+    Ok(())
+}
+
+/// Whether a method has a typing. The answer is Ok exactly where it has one; else a place and a rule refute every typing,
+/// or memory ran out.
+#[tactic(auto, using(crate::proofs::Walks::no_code))]
+pub fn check_flow<F: Flow>(flow: &F) -> Result<(), Refusal>
+    requires linked { IsLinkedFile (F.file flow.now) }
+    requires small { length (F.routine flow.now).code < 2 ^ 31 }
+    requires heads { AreHeads (F.routine flow.now) (F.heads flow.now) }
+    ensures { MatchResult result (λ _. HasTyping (F.file flow.now) (F.routine flow.now)) (λ e. RefusedBy (F.file flow.now) (F.routine flow.now) e) }
+{
+    if flow.len() == 0 {
+        return Err(Refusal::Refused(0, VerifyRule::OffEnd));
+    }
+    check_code(flow)
+}
