@@ -28,13 +28,13 @@ next_marked v marks old new n h e mark is = subst (λ (ns : List ℕ). ListsMark
 
 -- one class more that is not listed
 skipped : (v : Abc) (marks : List Bool) (nodes : List ℕ) (n : ℕ) → ListsMarked v marks nodes n → (get_or marks n false ≡ true → IsTrue (is_interface v n) → ⊥) → ListsMarked v marks nodes (n + 1)
-skipped v marks nodes n h no = record { sound = h.sound; complete = λ k lt m i. go k lt m i (cases_lt k n) }
+skipped v marks nodes n h deny = record { sound = h.sound; complete = λ k lt m i. go k lt m i (cases_lt k n) }
   where
     go : (k : ℕ) → k < n + 1 → get_or marks k false ≡ true → IsTrue (is_interface v k) → (k < n) ⊎ (n ≤ k) → Contains nodes k
     go k lt m i (inl low) = h.complete k low m i
     go k lt m i (inr high) =
         let q : k ≡ n = omega arith in
-        absurd (no (subst (λ j. get_or marks j false ≡ true) q m) (subst (λ j. IsTrue (is_interface v j)) q i))
+        absurd (deny (subst (λ j. get_or marks j false ≡ true) q m) (subst (λ j. IsTrue (is_interface v j)) q i))
 
 pub next_unmarked : (v : Abc) (marks : List Bool) (nodes : List ℕ) (n : ℕ) → ListsMarked v marks nodes n → get_or marks n false ≡ false → ListsMarked v marks nodes (n + 1)
 next_unmarked v marks nodes n h e = skipped v marks nodes n h (λ m i. cc)

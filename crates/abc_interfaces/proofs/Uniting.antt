@@ -17,14 +17,14 @@ contains_none y c = let h = c.1 in omega arith
 -- what some of several numbers give
 contains_flat : (f : ℕ → List ℕ) (xs : List ℕ) (y : ℕ) → Contains (flat_map f xs) y → (x : ℕ) × Contains xs x × Contains (f x) y
 contains_flat f [] y c = absurd (contains_none y c)
-contains_flat f (x ∷ xs) y c = go (Contains-append_cases (f x) (flat_map f xs) y c)
+contains_flat f (x ∷ xs) y c = go (contains_flat f xs y) (Contains-append_cases (f x) (flat_map f xs) y c)
   where
     later : ((z : ℕ) × Contains xs z × Contains (f z) y) → (z : ℕ) × Contains (x ∷ xs) z × Contains (f z) y
     later h = let c = h.1 in (h.0, (suc c.0, let l = c.1 in omega arith, c.2), h.2)
 
-    go : Contains (f x) y ⊎ Contains (flat_map f xs) y → (z : ℕ) × Contains (x ∷ xs) z × Contains (f z) y
-    go (inl h) = (x, (0, omega arith, refl), h)
-    go (inr h) = later (contains_flat f xs y h)
+    go : (Contains (flat_map f xs) y → (z : ℕ) × Contains xs z × Contains (f z) y) → Contains (f x) y ⊎ Contains (flat_map f xs) y → (z : ℕ) × Contains (x ∷ xs) z × Contains (f z) y
+    go rest (inl h) = (x, (0, omega arith, refl), h)
+    go rest (inr h) = later (rest h)
 
 flat_contains : (f : ℕ → List ℕ) (xs : List ℕ) (i x y : ℕ) → i < length xs → get_or xs i x ≡ x → Contains (f x) y → Contains (flat_map f xs) y
 flat_contains f [] i x y lt e c = absurd (omega arith)

@@ -140,7 +140,8 @@ fn united(
     ensures { IfOk result (λ s. IsSetOf abc.now class s.keys) }
 {
     let list = given(alloc, abc, sets, targets_of(graph, class))?;
-    set_of(alloc, list.as_slice())
+    let set = set_of(alloc, list.as_slice())?;
+    Ok(set)
 }
 
 /// The set of a class, by a search.
