@@ -96,11 +96,7 @@ pub fn read_each<E: Element>(
 }
 
 /// A set of namespaces. `LineError::NoMemory` where memory runs out.
-pub fn set_line(
-    alloc: Global,
-    tokens: &[Token<'_>],
-    sizes: &Sizes,
-) -> Result<Table<u32>, LineError>
+pub fn set_line(alloc: Global, tokens: &[Token<'_>], sizes: &Sizes) -> Result<Table<u32>, LineError>
     ensures { (labels : List Label) → Answers result (line_result (forms.set_line sizes.now) labels (tokens_of tokens.now)) }
 {
     let entries = Entries {

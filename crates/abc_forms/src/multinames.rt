@@ -10,9 +10,7 @@ ghost use Rattle.abc_tokens.specs.Walks.{tokens_of};
 
 use crate::each::{Indices, read_each, sooner};
 use crate::fronts::{first_and_rest, told};
-use abc_operands::{
-    LineError, entry_upto, index_upto, multiname_kind, one_token, two, two_tokens,
-};
+use abc_operands::{LineError, entry_upto, index_upto, multiname_kind, one_token, two, two_tokens};
 use abc_tables::{Multiname, MultinameKind, Sizes};
 use abc_text::AsmReason;
 use abc_tokens::Token;
@@ -113,11 +111,7 @@ pub fn first_of(value: Result<u32, AsmReason>, reason: AsmReason) -> AsmReason
 }
 
 /// A multiname: its kind, and its indices in file order. `LineError::NoMemory` where memory runs out.
-pub fn name_line(
-    alloc: Global,
-    tokens: &[Token<'_>],
-    sizes: &Sizes,
-) -> Result<Multiname, LineError>
+pub fn name_line(alloc: Global, tokens: &[Token<'_>], sizes: &Sizes) -> Result<Multiname, LineError>
     ensures { (labels : List Label) → Answers result (line_result (forms.name_line sizes.now) labels (tokens_of tokens.now)) }
 {
     let Some((kind, fields)) = first_and_rest(tokens) else {

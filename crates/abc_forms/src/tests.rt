@@ -20,7 +20,9 @@ const SIZES: Sizes = Sizes {
 fn sets_and_types_take_memory(rt: HostRuntime) -> Result<(), Fail> {
     let mut tokens = Vec::new(rt.alloc());
     put_tokens(b"1 2", &mut tokens)?;
-    let set = set_line(rt.alloc(), tokens.as_slice(), &SIZES).ok().ok_or("no set")?;
+    let set = set_line(rt.alloc(), tokens.as_slice(), &SIZES)
+        .ok()
+        .ok_or("no set")?;
     assert_eq!(rt; set.len(), 2);
     put_tokens(b"TypeName 1 0 3", &mut tokens)?;
     match name_line(rt.alloc(), tokens.as_slice(), &SIZES) {

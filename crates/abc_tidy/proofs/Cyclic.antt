@@ -35,8 +35,9 @@ pub names_are_graph : (v : Abc) (g : List (List ℕ)) → g ≡ name_graph v →
 names_are_graph v g e =
     let count : length (name_graph v) ≡ suc (length v.names) = ap suc (length-map v.names (name_targets (length v.names))) in
     subst IsGraph (sym e) (All-from_recursion (All (λ y. y < length (name_graph v))) (name_graph v) (
-    All-from_recursion (λ y. y < length (name_graph v)) (names_among (length v.names) (name_indices (file_refs v))) (among_below (length v.names) (length (name_graph v)) (name_indices (file_refs v)) count),
-    rows_below (length v.names) (length (name_graph v)) v.names count))
+      All-from_recursion (λ y. y < length (name_graph v)) (names_among (length v.names) (name_indices (file_refs v))) (among_below (length v.names) (length (name_graph v)) (name_indices (file_refs v)) count),
+      rows_below (length v.names) (length (name_graph v)) v.names count,
+    ))
 
 pub names_count : (v : Abc) (g : List (List ℕ)) → g ≡ name_graph v → length g ≡ length v.names + 1
 names_count v g e = let q : length g ≡ suc (length v.names) = ap length e ∙ ap suc (length-map v.names (name_targets (length v.names))) in omega arith
@@ -173,8 +174,9 @@ first_cyclic v marks graph rows None e s k f = λ i c. f i (within i c) (returns
     returns : (i : ℕ) → IsCyclic v i → Leads rows i i
     returns i c = leads_kept marks graph rows 0 i i k s (on i c) (subst (λ g. Leads g i i) (sym e) c.returns)
 first_cyclic v marks graph rows (Some x) e s k f = (
-    record {
-      visited = subst (λ g. Leads g 0 x) e (s.sound x (first_edge marks graph rows x x k f.1));
-      returns = subst (λ g. Leads g x x) e (leads_of marks graph rows x x k f.1);
-    },
-    λ j lt c. f.2 j lt (leads_kept marks graph rows 0 j j k s (s.complete j (subst (λ g. Leads g 0 j) (sym e) c.visited)) (subst (λ g. Leads g j j) (sym e) c.returns)))
+  record {
+    visited = subst (λ g. Leads g 0 x) e (s.sound x (first_edge marks graph rows x x k f.1));
+    returns = subst (λ g. Leads g x x) e (leads_of marks graph rows x x k f.1);
+  },
+  λ j lt c. f.2 j lt (leads_kept marks graph rows 0 j j k s (s.complete j (subst (λ g. Leads g 0 j) (sym e) c.visited)) (subst (λ g. Leads g j j) (sym e) c.returns)),
+)

@@ -19,11 +19,7 @@ fn is_name(count: usize, index: u32) -> bool
 
 /// Adds those of some indices that are names.
 #[tactic(auto, using(crate::proofs::Filtered::kept_next, crate::proofs::Filtered::left_next))]
-fn add_names(
-    targets: &mut Table<u32>,
-    count: usize,
-    indices: &[u32],
-) -> Result<(), NoMemory>
+fn add_names(targets: &mut Table<u32>, count: usize, indices: &[u32]) -> Result<(), NoMemory>
     ensures { OnOk result (targets.new ≡ targets.old ++ those_among count indices.now) }
 {
     for index in indices {
@@ -60,11 +56,7 @@ fn name_indices(alloc: Global, refs: &[Ref]) -> Result<Table<u32>, NoMemory>
 }
 
 /// The graph of the names: what each leads to, and what the definitions and bodies do.
-fn name_graph(
-    alloc: Global,
-    abc: &Abc,
-    refs: &Table<Ref>,
-) -> Result<Table<Table<u32>>, NoMemory>
+fn name_graph(alloc: Global, abc: &Abc, refs: &Table<Ref>) -> Result<Table<Table<u32>>, NoMemory>
     requires { refs.now ≡ file_refs abc.now }
     ensures { IfOk result (λ g. g ≡ graph_of_names abc.now) }
 {

@@ -11,9 +11,13 @@ use abc_trees::Head;
 use std::alloc::Global;
 
 const INTS: u8 = 1;
+
 const UINTS: u8 = 2;
+
 const DOUBLES: u8 = 3;
+
 const TEXTS: u8 = 4;
+
 const SETS: u8 = 6;
 
 /// The entries of a file's pools as nodes, in file order after node 0: what each is by itself, and the nodes of the entries

@@ -192,11 +192,7 @@ fn no_counts(alloc: Global) -> Result<Table<u32>, NoMemory>
 
 /// The new number of each node that was met, in order.
 #[tactic(auto, using(crate::proofs::Numbered::met_begin, crate::proofs::Numbered::met_all))]
-fn numbers_met(
-    alloc: Global,
-    counts: &Counts,
-    seen: &Table<u32>,
-) -> Result<Table<u32>, NoMemory>
+fn numbers_met(alloc: Global, counts: &Counts, seen: &Table<u32>) -> Result<Table<u32>, NoMemory>
     ensures { IfOk result (λ t. AreNumbersMet counts.now seen.now t) }
 {
     let met = no_counts(alloc)?;
@@ -210,12 +206,7 @@ fn numbers_met(
 }
 
 /// The new number of a node: that of the node of its class that was met.
-fn number_of_node(
-    classes: &Classes,
-    places: &Table<usize>,
-    numbers: &Table<u32>,
-    node: u32,
-) -> u32
+fn number_of_node(classes: &Classes, places: &Table<usize>, numbers: &Table<u32>, node: u32) -> u32
     ensures { result ≡ node_number classes.now.classes places.now numbers.now node }
 {
     match classes.class(node) {

@@ -42,12 +42,7 @@ impl Visit {
 
 impl Visit {
     /// Meets a node, and puts those that it leads to on the stack.
-    fn meet(
-        &mut self,
-        graph: &Table<Table<u32>>,
-        node: u32,
-        class: usize,
-    ) -> Result<(), NoMemory>
+    fn meet(&mut self, graph: &Table<Table<u32>>, node: u32, class: usize) -> Result<(), NoMemory>
         requires unmet { get_or self.old.met.items class true ≡ false }
         requires unopened { get_or self.old.opened.items node true ≡ false }
         requires known { node < length graph.now }
