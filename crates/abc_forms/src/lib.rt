@@ -5,8 +5,6 @@
 mod each;
 mod fronts;
 mod multinames;
-#[cfg(test)]
-mod tests;
 
 pub use each::{Element, Entries, Indices, read_each, set_line};
 pub use fronts::{first_and_rest, told};
