@@ -12,7 +12,6 @@ use abc_tidy::tidy as tidy_file;
 use std::alloc::Global;
 
 /// The canonical bytes of the tidied file.
-#[tactic(auto, using(crate::proofs::Ending::tidied_gives))]
 fn tidied(alloc: Global, abc: &Abc) -> Result<Vec<u8>, Stop>
     ensures gives { IfOk result (λ bytes. Tidy abc.now (given bytes.items)) }
     ensures stops { IfErr result (λ stop. StopsAt (Tidy abc.now) stop) }
