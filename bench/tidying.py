@@ -11,11 +11,12 @@ def type_name(base):
 
 
 def longest(size):
-    """How many type names fit, each of which names the next."""
+    """How many type names fit, each of which names the next: two bytes beside those of the next one's number."""
     left, count = size - REST, 0
-    while left >= len(type_name(count + 2)):
-        count += 1
-        left -= len(type_name(count + 1))
+    for width in range(1, 6):
+        more = min(left // (width + 2), 128**width - 2 - count)
+        count += more
+        left -= more * (width + 2)
     return count
 
 
