@@ -2,13 +2,23 @@
 """Makes the files that the benchmarks read, by a seed for each.
 
 Use: files.py FOLDER [KIND..]. A file that is there already is left as it is. Each kind has KIND.abc, of 16,777,216 bytes,
-and KIND_half.abc, of 8,388,608:
+and KIND_half.abc, of 8,388,608; from `chain` on they have at most so many:
   ints         ints, in short and in long spellings
   strings      strings of 0 to 40 bytes
   names        namespaces, namespace sets and multinames, a fifth of them with 0 to 4 parameters
   definitions  methods, classes and traits
   bodies       method bodies of 20 to 200 bytes of code, as a compiler writes them
   code         a body with 8 MiB less a byte of code (4 MiB less a byte in the half file), and smaller ones after it
+  chain        2^18 classes, each with the next one as its base
+  interfaces   2^18 edges among 65 rows of 64 interfaces
+  traits       2^20 slots of one class, each with a number
+  one_text     2^20 slots of one text in as many namespaces
+  forward      as many type names as fit, each of which names the next
+  backward     the same, each of which names the one before
+  cycle        the same in one cycle
+These are texts, KIND.abcasm and KIND_half.abcasm, and have any size:
+  labels       a body with 2^20 labels
+  long         a label and quoted texts of a megabyte
 FOLDER/huge gets small files, each of which claims 2^30 - 1 entries of one table and then ends.
 """
 import os
@@ -16,7 +26,10 @@ import random
 import sys
 
 import bodies
+import linking
 import tables
+import texts
+import tidying
 from spelling import HEAD, SIZE
 
 MAKERS = {
@@ -26,7 +39,17 @@ MAKERS = {
     "definitions": tables.definitions,
     "bodies": bodies.small_bodies,
     "code": bodies.large_body,
+    "chain": linking.chain,
+    "interfaces": linking.interfaces,
+    "traits": linking.traits,
+    "one_text": linking.one_text,
+    "forward": tidying.forward,
+    "backward": tidying.backward,
+    "cycle": tidying.cycle,
+    "labels": texts.labels,
+    "long": texts.long_tokens,
 }
+TEXTS = ("labels", "long")
 HUGE = "ff ff ff ff 03"
 # The bytes between the version and the huge count.
 CLAIMS = {
@@ -69,8 +92,9 @@ def main():
     os.makedirs(os.path.join(folder, "huge"), exist_ok=True)
     for seed, (name, maker) in enumerate(MAKERS.items()):
         if name in kinds:
-            write_new(os.path.join(folder, name + ".abc"), lambda: maker(random.Random(seed), SIZE))
-            write_new(os.path.join(folder, name + "_half.abc"), lambda: maker(random.Random(seed), SIZE // 2))
+            ending = ".abcasm" if name in TEXTS else ".abc"
+            write_new(os.path.join(folder, name + ending), lambda: maker(random.Random(seed), SIZE))
+            write_new(os.path.join(folder, name + "_half" + ending), lambda: maker(random.Random(seed), SIZE // 2))
     for name, before in CLAIMS.items():
         write_new(os.path.join(folder, "huge", name + ".abc"), lambda: HEAD + bytes.fromhex(before + HUGE))
 

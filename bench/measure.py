@@ -1,12 +1,14 @@
 #!/usr/bin/env python3
 """Runs two programs on files in turn and compares them: their outputs, times and peak memory.
 
-Use: measure.py 'PROGRAM WORDS' 'PEER WORDS' FOLDER KIND.. [--refused FILE..]
+Use: measure.py 'PROGRAM WORDS' 'PEER WORDS' FOLDER KIND.. [--ending .abc] [--status 0] [--beside 'PROGRAM WORDS'] [--refused FILE..]
 
-Each kind has a file KIND.abc and one of half its size, KIND_half.abc, in the folder. Of five runs each the best time counts:
-that on the clock, and that of the processor (cpu), which other work on the machine disturbs less. Growth is the time of a
-whole file by that of the half one. The peak of memory comes from one more run under GNU time: what the system tells of a
-direct child counts the memory of this script too. Files that are refused are told by their peak alone.
+Each kind has a file KIND.abc and mostly one of half its size, KIND_half.abc, in the folder; --ending names another ending.
+Of five runs each the best time counts: that on the clock, and that of the processor (cpu), which other work on the machine
+disturbs less. Growth is the time of a whole file by that of the half one. The peak of memory comes from one more run under
+GNU time: what the system tells of a direct child counts the memory of this script too. All answers have the status that
+--status says. With --beside the times are also told by those of that program, whose answers are its own. Files that are
+refused are told by their peak alone. Where the program's command isn't built yet, the peer is measured alone.
 """
 import argparse
 import hashlib
@@ -18,6 +20,7 @@ import time
 
 RUNS = 5
 GNU_TIME = "/usr/bin/time"
+NOT_BUILT = 11
 
 
 def peak(words, path):
@@ -47,44 +50,84 @@ class Best:
             self.answers.add((child.returncode, hashlib.file_digest(out, "sha256").hexdigest(), err.read()))
 
 
+def is_built(words):
+    """Whether the program's command is built: one that isn't says so whatever the input is."""
+    return subprocess.run(words, stdin=subprocess.DEVNULL, capture_output=True).returncode != NOT_BUILT
+
+
 def compare(programs, path, wanted):
     """The best of each program on a file; all runs have to give the same answer, with the wanted status."""
-    both = [Best() for _ in programs]
+    bests = [Best() for _ in programs]
     for _ in range(RUNS):
-        for best, words in zip(both, programs):
+        for best, words in zip(bests, programs):
             best.run(words, path)
-    answers = set.union(*(best.answers for best in both))
+    answers = set.union(*(best.answers for best in bests))
     statuses = {status for status, _, _ in answers}
     if len(answers) != 1 or statuses != {wanted}:
         sys.exit(f"{path}: the answers differ, or their status is not {wanted}: {answers}")
-    return both
+    return bests
 
 
-def show(programs, path):
-    """Prints a file's figures without the line's end, and gives the best runs."""
-    ours, peer = compare(programs, path, 0)
-    size = os.path.getsize(path)
-    peaks = [peak(words, path) / size for words in programs]
-    name = os.path.basename(path).removesuffix(".abc")
-    print(f"{name:17} {ours.clock:7.3f} {peer.clock:7.3f} {ours.clock / peer.clock:6.2f} {ours.cpu / peer.cpu:6.2f}", end="")
-    print(f" {size / ours.clock / 1e6:6.1f} {peaks[0]:10.2f} {peaks[1]:6.2f}", end="")
-    return ours, peer
+def figure(value, width, places=2):
+    return f"{value:{width}.{places}f}" if value is not None else f"{'-':>{width}}"
 
 
-def kinds(programs, folder, names):
-    print(f"{'file':17} {'abc s':>7} {'peer s':>7} {'ratio':>6} {'of cpu':>6} {'MB/s':>6} {'peak/byte':>10} {'peer':>6} {'growth':>7} {'of cpu':>6}")
-    for name in names:
-        half, _ = show(programs, os.path.join(folder, name + "_half.abc"))
-        print(flush=True)
-        whole, _ = show(programs, os.path.join(folder, name + ".abc"))
-        print(f" {whole.clock / half.clock:7.2f} {whole.cpu / half.cpu:6.2f}", flush=True)
+def by(one, other):
+    return one and one / other
 
 
-def refused(programs, paths):
-    for path in paths:
-        compare(programs, path, 1)
-    peaks = [max(peak(words, path) for path in paths) for words in programs]
-    print(f"{len(paths)} small files with huge counts, refused: the greatest peak is {peaks[0]:,} bytes, that of the peer {peaks[1]:,}")
+class Table:
+    """The figures of some files. Without our program those of the peer alone."""
+
+    def __init__(self, given):
+        self.given = given
+        self.programs = [given.ours.split(), given.peer.split()]
+        if not is_built(self.programs[0]):
+            print(f"{given.ours}: not built, so these are figures of the peer alone")
+            del self.programs[0]
+
+    def head(self):
+        beside = f" {'beside':>7}" if self.given.beside else ""
+        print(f"{'file':17} {'abc s':>7} {'peer s':>7} {'ratio':>6} {'of cpu':>6} {'MB/s':>6} {'peak/byte':>10} {'peer':>6}{beside} {'growth':>7} {'of cpu':>6}")
+
+    def path(self, name):
+        return os.path.join(self.given.folder, name + self.given.ending)
+
+    def beside(self, first, path):
+        """The time by that of the program beside."""
+        other = Best()
+        for _ in range(RUNS):
+            other.run(self.given.beside.split(), path)
+        return first.clock / other.clock
+
+    def show(self, name):
+        """Prints a file's figures without the line's end, and gives the best runs of the program that is measured."""
+        path = self.path(name)
+        bests = compare(self.programs, path, self.given.status)
+        size = os.path.getsize(path)
+        peaks = [peak(words, path) / size for words in self.programs]
+        first, peer = bests[0], bests[-1]
+        ours, cpu, ours_peak = (first.clock, first.cpu, peaks[0]) if len(bests) == 2 else (None, None, None)
+        print(f"{name:17} {figure(ours, 7, 3)} {figure(peer.clock, 7, 3)} {figure(by(ours, peer.clock), 6)} {figure(by(cpu, peer.cpu), 6)}", end="")
+        print(f" {size / first.clock / 1e6:6.1f} {figure(ours_peak, 10)} {figure(peaks[-1], 6)}", end="")
+        if self.given.beside:
+            print(f" {self.beside(first, path):7.2f}", end="", flush=True)
+        return first
+
+    def kind(self, name):
+        half = None
+        if os.path.exists(self.path(name + "_half")):
+            half = self.show(name + "_half")
+            print(flush=True)
+        whole = self.show(name)
+        print(f" {whole.clock / half.clock:7.2f} {whole.cpu / half.cpu:6.2f}" if half else "", flush=True)
+
+    def refused(self):
+        paths = self.given.refused
+        for path in paths:
+            compare(self.programs, path, 1)
+        peaks = [max(peak(words, path) for path in paths) for words in self.programs]
+        print(f"{len(paths)} small files with huge counts, refused: the greatest peak is {peaks[0]:,} bytes, that of the peer {peaks[-1]:,}")
 
 
 def main():
@@ -93,14 +136,19 @@ def main():
     parser.add_argument("peer")
     parser.add_argument("folder")
     parser.add_argument("kinds", nargs="+")
+    parser.add_argument("--ending", default=".abc")
+    parser.add_argument("--status", type=int, default=0)
+    parser.add_argument("--beside")
     parser.add_argument("--refused", nargs="*", default=[])
     given = parser.parse_args()
     if not os.path.exists(GNU_TIME):
         sys.exit(f"{GNU_TIME} is not here (Debian's package time)")
-    programs = (given.ours.split(), given.peer.split())
-    kinds(programs, given.folder, given.kinds)
+    table = Table(given)
+    table.head()
+    for name in given.kinds:
+        table.kind(name)
     if given.refused:
-        refused(programs, given.refused)
+        table.refused()
 
 
 main()

@@ -1,62 +1,158 @@
-//! Reads an ABC file from standard input and writes its canonical bytes, in one pass over the whole input. It takes no
-//! words; its streams and its status are those of `abc canon`.
+//! The peer of `abc` in benchmarks: the command is the first word, and no word is `canon`. Its streams and its status are
+//! those of `abc` with that command.
 use std::io::{self, Read, Write};
 use std::process::ExitCode;
 
+mod asm;
 mod bodies;
 mod canon;
 mod code;
 mod definitions;
+mod dis;
 mod fault;
+mod graph;
+mod link;
+mod linked_names;
+mod opcodes;
+mod operands;
+mod order;
+mod parts;
 mod pools;
+mod read_bodies;
+mod read_definitions;
+mod reader;
+mod tidy;
+mod tokens;
+mod trees;
+mod value;
+mod visit;
+mod writer;
 
 use canon::Canon;
 use fault::{Answer, Fault, Reason};
+use reader::Reader;
+use value::File;
 
-/// The most bytes that a file has.
+/// The most bytes that a file has, and a text.
 const MOST: usize = 1 << 24;
+const MOST_TEXT: usize = 1 << 28;
 
-/// The canonical bytes of the input, of which one byte past the most is enough.
-fn canonical(input: &[u8]) -> Answer<Vec<u8>> {
-    let mut canon = Canon::new(&input[..input.len().min(MOST)]);
-    let done = canon.file();
+/// Why a command ends: the status, and the line behind `abc: `.
+struct Refusal {
+    status: u8,
+    line: String,
+}
+
+impl Refusal {
+    fn new(status: u8, line: impl Into<String>) -> Self {
+        Refusal {
+            status,
+            line: line.into(),
+        }
+    }
+}
+
+impl From<Fault> for Refusal {
+    fn from(Fault { place, reason }: Fault) -> Self {
+        Refusal::new(1, format!("byte {place}: {reason:?}"))
+    }
+}
+
+type Done = Result<(), Refusal>;
+
+/// The answer for an input of which one byte past the most was read: all bytes up to the place that was read to are needed.
+fn whole<T>(input: &[u8], at: usize, done: Answer<T>) -> Answer<T> {
     match done {
-        Ok(()) if canon.at < input.len() => Err(Fault::new(canon.at, Reason::Trailing)),
-        Ok(()) => Ok(canon.out),
+        Ok(_) if at < input.len() => Err(Fault::new(at, Reason::Trailing)),
         Err(fault) if fault.reason == Reason::Short && input.len() > MOST => Err(Fault {
             reason: Reason::FileTooLong,
             ..fault
         }),
-        Err(fault) => Err(fault),
+        _ => done,
     }
 }
 
-fn write(bytes: &[u8]) -> io::Result<()> {
+fn canonical(input: &[u8]) -> Answer<Vec<u8>> {
+    let mut canon = Canon::new(&input[..input.len().min(MOST)]);
+    let done = canon.file();
+    whole(input, canon.at, done)?;
+    Ok(canon.out)
+}
+
+fn read_value(input: &[u8]) -> Answer<File<'_>> {
+    let mut reader = Reader::new(&input[..input.len().min(MOST)]);
+    let done = reader.file();
+    whole(input, reader.at, done)
+}
+
+fn read_input(most: usize) -> Result<Vec<u8>, Refusal> {
+    let mut input = Vec::new();
+    let read = io::stdin()
+        .lock()
+        .take(most as u64 + 1)
+        .read_to_end(&mut input);
+    read.map(|_| input)
+        .map_err(|_| Refusal::new(7, "read fault"))
+}
+
+fn write_fault(_: io::Error) -> Refusal {
+    Refusal::new(8, "write fault")
+}
+
+fn write(bytes: &[u8]) -> Done {
     let mut out = io::stdout().lock();
-    out.write_all(bytes)?;
-    out.flush()
+    out.write_all(bytes)
+        .and_then(|()| out.flush())
+        .map_err(write_fault)
+}
+
+fn canon() -> Done {
+    write(&canonical(&read_input(MOST)?)?)
+}
+
+fn dis() -> Done {
+    let input = read_input(MOST)?;
+    let file = read_value(&input)?;
+    let mut out = io::stdout().lock();
+    dis::write_text(&file, &mut out)
+        .and_then(|()| out.flush())
+        .map_err(write_fault)
+}
+
+fn asm() -> Done {
+    let text = read_input(MOST_TEXT)?;
+    let file = asm::assemble(&text, MOST_TEXT, MOST)
+        .map_err(|fault| Refusal::new(1, format!("line {}: {:?}", fault.line, fault.reason)))?;
+    write(&file)
+}
+
+fn tidy() -> Done {
+    let input = read_input(MOST)?;
+    let file = tidy::tidy(read_value(&input)?, MOST).map_err(|line| Refusal::new(1, line))?;
+    write(&file)
+}
+
+fn check() -> Done {
+    let input = read_input(MOST)?;
+    link::link(&read_value(&input)?).map_err(|line| Refusal::new(1, line))?;
+    Err(Refusal::new(11, "not built"))
 }
 
 fn main() -> ExitCode {
-    let mut input = Vec::new();
-    if io::stdin()
-        .lock()
-        .take(MOST as u64 + 1)
-        .read_to_end(&mut input)
-        .is_err()
-    {
-        eprintln!("abc: read fault");
-        return ExitCode::from(7);
-    }
-    match canonical(&input) {
-        Ok(bytes) if write(&bytes).is_ok() => ExitCode::SUCCESS,
-        Ok(_) => {
-            eprintln!("abc: write fault");
-            ExitCode::from(8)
-        }
-        Err(Fault { place, reason }) => {
-            eprintln!("abc: byte {place}: {reason:?}");
-            ExitCode::from(1)
+    let word = std::env::args().nth(1);
+    let done = match word.as_deref() {
+        None | Some("canon") => canon(),
+        Some("dis") => dis(),
+        Some("asm") => asm(),
+        Some("tidy") => tidy(),
+        Some("check") => check(),
+        Some(word) => Err(Refusal::new(2, format!("usage: {word}"))),
+    };
+    match done {
+        Ok(()) => ExitCode::SUCCESS,
+        Err(Refusal { status, line }) => {
+            eprintln!("abc: {line}");
+            ExitCode::from(status)
         }
     }
 }
