@@ -71,11 +71,7 @@ fn two_numbers(op: u8, tokens: &[Token<'_>]) -> Result<Instr, AsmReason>
 }
 
 /// A label.
-fn to_label(
-    op: u8,
-    tokens: &[Token<'_>],
-    places: &IndexMap<&[u8], u32>,
-) -> Result<Instr, AsmReason>
+fn to_label(op: u8, tokens: &[Token<'_>], places: &IndexMap<&[u8], u32>) -> Result<Instr, AsmReason>
     ensures { (labels : List Label) → Places places.now labels → result ≡ line_result (lines.instruction_fields op forms.Branch) labels (tokens_of tokens.now) }
 {
     let Some(token) = one_token(tokens) else {
