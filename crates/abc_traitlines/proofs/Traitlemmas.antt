@@ -64,13 +64,13 @@ named_good v kind labels ts t others u rest r s b last all e f a c d last_is all
     ap (λ l. line_result (trait_rest v (Some kind)) labels (tokens_of l)) (e ∙ ap (λ (l : List code.Token). t ∷ l) f)
     ∙ seen_mapped headed (λ t. (t.attrs, (t.name, t.body))) (p & (q & o)) labels (token_of t ∷ token_of u ∷ tokens_of rest)
     ∙ ap (mapped headed) (
-      next_late p (q & o) labels (token_of t) (token_of u ∷ tokens_of rest) (below_late 16 labels (token_of t))
-      ∙ ap (joined (p.reads labels (token_of t))) (next_late q o labels (token_of u) (tokens_of rest) (entry_late v.names labels (token_of u)))
-      ∙ ap (λ x. joined x (joined (q.reads labels (token_of u)) (line_result o labels (tokens_of rest)))) (sym a)
-      ∙ ap (λ x. joined r (joined x (line_result o labels (tokens_of rest)))) (sym c)
-      ∙ ap (λ x. joined r (joined s x)) (sym d)
-      ∙ ap (joined r) (sym last_is)
-      ∙ sym all_is)
+    next_late p (q & o) labels (token_of t) (token_of u ∷ tokens_of rest) (below_late 16 labels (token_of t))
+    ∙ ap (joined (p.reads labels (token_of t))) (next_late q o labels (token_of u) (tokens_of rest) (entry_late v.names labels (token_of u)))
+    ∙ ap (λ x. joined x (joined (q.reads labels (token_of u)) (line_result o labels (tokens_of rest)))) (sym a)
+    ∙ ap (λ x. joined r (joined x (line_result o labels (tokens_of rest)))) (sym c)
+    ∙ ap (λ x. joined r (joined s x)) (sym d)
+    ∙ ap (joined r) (sym last_is)
+    ∙ sym all_is)
 
 pub named_empty : (v : Sizes) (kind : TraitKind) (labels : List Label) (ts : List code.Token) → ts ≡ [] → line_result (trait_rest v (Some kind)) labels (tokens_of ts) ≡ Err reasons.Operands
 named_empty v kind labels ts e = ap (λ l. line_result (trait_rest v (Some kind)) labels (tokens_of l)) e ∙ badly_counted (trait_rest v (Some kind)) labels [] refl
@@ -95,13 +95,13 @@ slot_good v c labels ts t others u rest r s b last all e f a x d last_is all_is 
     slots_as v c labels (tokens_of ts)
     ∙ ap (λ l. mapped (slotted c) (line_result (slot_fields v) labels (tokens_of l))) (e ∙ ap (λ (l : List code.Token). t ∷ l) f)
     ∙ ap (mapped (slotted c)) (
-      next_late u30 (q & o) labels (token_of t) (token_of u ∷ tokens_of rest) (u30_late labels (token_of t))
-      ∙ ap (joined (u30.reads labels (token_of t))) (next_late q o labels (token_of u) (tokens_of rest) (upto_late v.names labels (token_of u)))
-      ∙ ap (λ y. joined y (joined (q.reads labels (token_of u)) (line_result o labels (tokens_of rest)))) (sym a)
-      ∙ ap (λ y. joined r (joined y (line_result o labels (tokens_of rest)))) (sym x)
-      ∙ ap (λ y. joined r (joined s y)) (sym d)
-      ∙ ap (joined r) (sym last_is)
-      ∙ sym all_is)
+    next_late u30 (q & o) labels (token_of t) (token_of u ∷ tokens_of rest) (u30_late labels (token_of t))
+    ∙ ap (joined (u30.reads labels (token_of t))) (next_late q o labels (token_of u) (tokens_of rest) (upto_late v.names labels (token_of u)))
+    ∙ ap (λ y. joined y (joined (q.reads labels (token_of u)) (line_result o labels (tokens_of rest)))) (sym a)
+    ∙ ap (λ y. joined r (joined y (line_result o labels (tokens_of rest)))) (sym x)
+    ∙ ap (λ y. joined r (joined s y)) (sym d)
+    ∙ ap (joined r) (sym last_is)
+    ∙ sym all_is)
 
 pub slot_none : (v : Sizes) (c : Bool) (labels : List Label) (ts : List code.Token) → ts ≡ [] → line_result (trait_fields v (slot_kind_of c)) labels (tokens_of ts) ≡ Err reasons.Operands
 slot_none v c labels ts e = ap (λ l. line_result (trait_fields v (slot_kind_of c)) labels (tokens_of l)) e ∙ slots_as v c labels [] ∙ ap (mapped (slotted c)) (badly_counted (slot_fields v) labels [] refl)

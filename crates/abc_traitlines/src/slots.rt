@@ -14,10 +14,7 @@ use abc_text::AsmReason;
 use abc_tokens::Token;
 
 /// The value of a slot: an index, and a kind unless that is 0.
-pub fn slot_value(
-    fields: &[Token<'_>],
-    sizes: &Sizes,
-) -> Result<Option<OptionValue>, AsmReason>
+pub fn slot_value(fields: &[Token<'_>], sizes: &Sizes) -> Result<Option<OptionValue>, AsmReason>
     ensures { (labels : List Label) → result ≡ line_result (forms.slot_value sizes.now) labels (tokens_of fields.now) }
 {
     let Some((index, kinds)) = first_and_rest(fields) else {
@@ -30,11 +27,7 @@ pub fn slot_value(
 }
 
 /// A value of a known index.
-fn known(
-    value: u32,
-    kinds: &[Token<'_>],
-    sizes: &Sizes,
-) -> Result<Option<OptionValue>, AsmReason>
+fn known(value: u32, kinds: &[Token<'_>], sizes: &Sizes) -> Result<Option<OptionValue>, AsmReason>
     ensures { (labels : List Label) → result ≡ mapped (λ o. forms.slot_value_of (value, o)) (line_result (forms.slot_rest sizes.now (Some value)) labels (tokens_of kinds.now)) }
 {
     if value == 0 {
