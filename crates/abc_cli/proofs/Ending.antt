@@ -1,5 +1,5 @@
 -- How the ways to end follow from what was written.
-use Rattle.std.proofs.Common.{◌≡◌, ℕ, inl, inr, List, [], Some, None, Ok, Err, refl, sym, ap, ◌∙◌, subst}
+use Rattle.std.proofs.Common.{◌≡◌, ℕ, All, inl, inr, List, [], Some, None, Ok, Err, refl, sym, ap, ◌∙◌, subst}
 use Rattle.std.specs.Prelude.{is_ok, if◌then◌else◌, IsSome}
 use Rattle.std.proofs.lemmas.List.{append-nil}
 use Rattle.std.specs.declared.option.Option.{Option}
@@ -9,16 +9,29 @@ use Rattle.abc_base.specs.Faults.{HasCause}
 use Rattle.abc_base.specs.Sinks.{WritesAll}
 use Rattle.abc_base.specs.declared.status.Status.{Status}
 use Rattle.abc_base.specs.declared.status.Status.TheVariants as status
-use Rattle.abc_format.specs.declared.reason.Reason.{Reason}
 use Rattle.abc_format.specs.Part.{refusal}
 use Rattle.abc_varint.specs.declared.error.ReadError.{ReadError}
 use Rattle.abc_varint.specs.declared.error.ReadError.TheVariants as errors
-use Rattle.abc_file.specs.Reading.{IsCanonicalOf, IsFaultOf}
+use Rattle.abc_file.specs.Reading.{AnswersFile, Canonises, IsCanonicalOf, IsFaultOf, IsUsedUp, OfInput, Refuses}
+use Rattle.abc_tables.specs.declared.tables.Abc.{Abc}
+use Rattle.abc_tables.specs.Bodies.{IsReadyBody}
+use Rattle.abc_tables.specs.Files.{Fits, file_bytes}
+use Rattle.abc_tables.proofs.Whole.{file_ready, read_spelled}
+use Rattle.abc_rules.specs.declared.error.LinkError.{LinkError}
+use Rattle.abc_rules.specs.declared.error.LinkError.TheVariants as refusals
+use Rattle.abc_rules.specs.Firsts.{IsRefusal}
+use Rattle.abc_rules.specs.Rules.{AllHold}
+use Rattle.abc_tidy.specs.declared.error.TidyError.{TidyError}
+use Rattle.abc_tidy.specs.declared.error.TidyError.TheVariants as tidying
+use Rattle.abc_tidy.specs.Rules.{IsTidied, IsTidyError}
+use Rattle.abc_words.specs.declared.command.Command.{Command}
 use Rattle.abc_words.specs.declared.command.Command.TheVariants as commands
-use Rattle.abc_cli.specs.Canon.{error_answer}
+use Rattle.abc_cli.specs.declared.stop.Stop.{Stop}
+use Rattle.abc_cli.specs.declared.stop.Stop.TheVariants as stops
 use Rattle.abc_cli.specs.Lines.{read_fault_text, write_fault_text, no_memory_text}
-use Rattle.abc_cli.specs.Outcome.{Answer, told, given, CanonOutcome, CommandOutcome}
-use Rattle.abc_cli.specs.End.{Channel, channel, Got, GotFront, HasFailed, GivesLine, IsEnd}
+use Rattle.abc_cli.specs.Outcome.{Answer, told, given, Check, CommandOutcome, OfFile, OutcomeOf, Tidy}
+use Rattle.abc_cli.specs.Stops.{Gives, Stops, StopsAt, stop_answer, stop_of_link, stop_of_read, stop_of_tidy}
+use Rattle.abc_cli.specs.End.{Channel, channel, Got, GotFront, HasFailed, GivesLine, Ends, IsEnd}
 
 -- a line that was written or not
 pub gives : {T E : Type 0} (before after : Option (List ℕ)) (n m : ℕ) (a : Answer) (written : Result T E) (s : Status)
@@ -65,28 +78,112 @@ memory_failed : (P : Answer → Type 0) (F : Type 0) (out err : Channel) (s : St
 memory_failed P F out err s o (inl g) = at_status P F out err s status.NoMemory g.1 (IsEnd.no_memory o g.0)
 memory_failed P F out err s o (inr g) = at_status P F out err s status.WriteFault g.2 (IsEnd.memory_line_failed g.0 o g.1)
 
--- ---- canon
+-- ---- what a command gives, and why it stops
 
-refusal_outcome : (input : Option (List ℕ)) (place : ℕ) (reason : Reason) → IsFaultOf input (errors.Refused place reason) → CommandOutcome commands.Canon input (error_answer (errors.Refused place reason))
-refusal_outcome None place reason f = (f.0, CanonOutcome.refused (refusal place reason) f.1)
-refusal_outcome (Some b) place reason f = CanonOutcome.refused (refusal place reason) f
+pub of_any : (P Q : List ℕ → Type 0) (left : Option (List ℕ)) → ((b : List ℕ) → P b → Q b) → OfInput left P → OfInput left Q
+of_any P Q None f x = (x.0, f x.0 x.1)
+of_any P Q (Some b) f x = f b x
 
-pub error_ends : (input : Option (List ℕ)) (F : Type 0) (out err : Channel) (e : ReadError) (s : Status) → IsFaultOf input e → (e ≡ errors.ReadFault → F) → Got out [] → GivesLine err (error_answer e) s
-    → IsEnd (CommandOutcome commands.Canon input) F out err s
-error_ends input F out err (errors.Refused place reason) s f cause o g =
-    line_ends (CommandOutcome commands.Canon input) F out err (error_answer (errors.Refused place reason)) s (refusal_outcome input place reason f) o g
-error_ends input F out err errors.ReadFault s f cause o g = read_failed (CommandOutcome commands.Canon input) F out err s (cause refl) o g
-error_ends input F out err errors.NoMemory s f cause o g = memory_failed (CommandOutcome commands.Canon input) F out err s o g
+pub any_input : (P : List ℕ → Type 0) (left : Option (List ℕ)) → ((b : List ℕ) → P b) → OfInput left P
+any_input P None f = ([], f [])
+any_input P (Some b) f = f b
 
-pub bytes_outcome : (input : Option (List ℕ)) (bytes : List ℕ) → IsCanonicalOf input bytes → CommandOutcome commands.Canon input (given bytes)
-bytes_outcome None bytes f = (f.0, rw f.1.2 (CanonOutcome.accepted f.1.0 f.1.1))
-bytes_outcome (Some b) bytes f = rw f.2 (CanonOutcome.accepted f.0 f.1)
+pub gave : (command : Command) (source out err : Channel) (bytes : List ℕ) (s : Status) → Gives command source bytes → IsEnd (λ a. a ≡ given bytes) ⊥ out err s → Ends (CommandOutcome command) source out err s
+gave command source out err bytes s g end =
+    weaker (λ a. a ≡ given bytes) (CommandOutcome command source.before) ⊥ (HasFailed source) out err s
+    (λ a e. subst (λ (x : Answer). CommandOutcome command source.before x) (sym e) g.outcome) (λ h. absurd h) end
 
-error_not_done : (e : ReadError) → (error_answer e).status ≡ status.Done → ⊥
-error_not_done (errors.Refused place reason) h = cc
-error_not_done errors.ReadFault h = cc
-error_not_done errors.NoMemory h = cc
+pub stopped : (command : Command) (source out err : Channel) (stop : Stop) (s : Status) → Stops command source stop → Got out [] → GivesLine err (stop_answer stop) s → Ends (CommandOutcome command) source out err s
+stopped command source out err (stops.File place reason) s x o g = line_ends (CommandOutcome command source.before) (HasFailed source) out err (stop_answer (stops.File place reason)) s (x.outcome tt) o g
+stopped command source out err (stops.Item i rule) s x o g = line_ends (CommandOutcome command source.before) (HasFailed source) out err (stop_answer (stops.Item i rule)) s (x.outcome tt) o g
+stopped command source out err (stops.Tidy rule i) s x o g = line_ends (CommandOutcome command source.before) (HasFailed source) out err (stop_answer (stops.Tidy rule i)) s (x.outcome tt) o g
+stopped command source out err stops.NotBuilt s x o g = line_ends (CommandOutcome command source.before) (HasFailed source) out err (stop_answer stops.NotBuilt) s (x.outcome tt) o g
+stopped command source out err stops.ReadFault s x o g = read_failed (CommandOutcome command source.before) (HasFailed source) out err s (x.cause refl) o g
+stopped command source out err stops.NoMemory s x o g = memory_failed (CommandOutcome command source.before) (HasFailed source) out err s o g
 
-pub not_done : (err : Channel) (e : ReadError) (s : Status) → GivesLine err (error_answer e) s → s ≡ status.Done → ⊥
-not_done err e s (inl g) h = error_not_done e (sym g.1 ∙ h)
-not_done err e s (inr g) h = let k = g.2 in cc
+stop_not_done : (stop : Stop) → (stop_answer stop).status ≡ status.Done → ⊥
+stop_not_done (stops.File place reason) h = cc
+stop_not_done (stops.Item i rule) h = cc
+stop_not_done (stops.Tidy rule i) h = cc
+stop_not_done stops.NotBuilt h = cc
+stop_not_done stops.ReadFault h = cc
+stop_not_done stops.NoMemory h = cc
+
+pub not_done : (err : Channel) (stop : Stop) (s : Status) → GivesLine err (stop_answer stop) s → s ≡ status.Done → ⊥
+not_done err stop s (inl g) h = stop_not_done stop (sym g.1 ∙ h)
+not_done err stop s (inr g) h = let k = g.2 in cc
+
+pub memory_stops : (command : Command) (source : Channel) → Stops command source stops.NoMemory
+memory_stops command source = record { outcome = λ d. absurd d; cause = λ h. absurd cc }
+
+-- ---- commands on a file
+
+-- the outcome of a command that is one on a file
+abbrev pub IsOnFile : Command → (Abc → Answer → Type 0) → Type 0
+IsOnFile command Answers = (input : List ℕ) (a : Answer) → OfFile Answers input a → OutcomeOf command input a
+
+pub read_stops : (command : Command) (Answers : Abc → Answer → Type 0) → IsOnFile command Answers → (source : Channel) (e : ReadError) → IsFaultOf source.before e → (e ≡ errors.ReadFault → HasFailed source)
+    → Stops command source (stop_of_read e)
+read_stops command Answers on source (errors.Refused place reason) f cause = record {
+  outcome = λ d. of_any (Refuses (errors.Refused place reason)) (λ input. OutcomeOf command input (stop_answer (stops.File place reason))) source.before
+      (λ b bad. on b (stop_answer (stops.File place reason)) (OfFile.refused (refusal place reason) bad refl)) f;
+  cause = λ h. absurd cc;
+}
+read_stops command Answers on source errors.ReadFault f cause = record { outcome = λ d. absurd d; cause = λ h. cause refl }
+read_stops command Answers on source errors.NoMemory f cause = memory_stops command source
+
+fault_read : (e : ReadError) (b : List ℕ) → AnswersFile b (Err e) → Refuses e b
+fault_read (errors.Refused place reason) b x = x
+fault_read errors.ReadFault b x = tt
+fault_read errors.NoMemory b x = tt
+
+-- the same where the file itself was to be read
+pub file_stops : (command : Command) (Answers : Abc → Answer → Type 0) → IsOnFile command Answers → (source : Channel) (e : ReadError) → OfInput source.before (λ b. AnswersFile b (Err e))
+    → (e ≡ errors.ReadFault → HasFailed source) → Stops command source (stop_of_read e)
+file_stops command Answers on source e f cause = read_stops command Answers on source e (of_any (λ b. AnswersFile b (Err e)) (Refuses e) source.before (fault_read e) f) cause
+
+-- what a file that was read is answered with
+pub file_answered : (command : Command) (Answers : Abc → Answer → Type 0) → IsOnFile command Answers → (left : Option (List ℕ)) (v : Abc) (starts : List (List ℕ)) (a : Answer)
+    → OfInput left (λ b. AnswersFile b (Ok (v, starts))) → Answers v a → CommandOutcome command left a
+file_answered command Answers on left v starts a f x =
+    of_any (λ b. AnswersFile b (Ok (v, starts))) (λ input. OutcomeOf command input a) left (λ b r. on b a (OfFile.accepted v (read_spelled (v, starts) b r.0, r.1) x)) f
+
+pub file_gives : (command : Command) (Answers : Abc → Answer → Type 0) → IsOnFile command Answers → (source : Channel) (v : Abc) (starts : List (List ℕ)) (bytes : List ℕ)
+    → OfInput source.before (λ b. AnswersFile b (Ok (v, starts))) → IsUsedUp source.before source.after → Answers v (given bytes) → Gives command source bytes
+file_gives command Answers on source v starts bytes f used x = record { outcome = file_answered command Answers on source.before v starts (given bytes) f x; used_up = used }
+
+pub file_stops_at : (command : Command) (Answers : Abc → Answer → Type 0) → IsOnFile command Answers → (source : Channel) (v : Abc) (starts : List (List ℕ)) (stop : Stop)
+    → OfInput source.before (λ b. AnswersFile b (Ok (v, starts))) → StopsAt (Answers v) stop → Stops command source stop
+file_stops_at command Answers on source v starts stop f x =
+    record { outcome = λ d. file_answered command Answers on source.before v starts (stop_answer stop) f (x.answer d); cause = λ e. absurd (x.read e) }
+
+pub memory_stops_at : (Answers : Answer → Type 0) → StopsAt Answers stops.NoMemory
+memory_stops_at Answers = record { answer = λ d. absurd d; read = λ e. absurd cc }
+
+pub canonical_gives : (source : Channel) (bytes : List ℕ) → IsCanonicalOf source.before bytes → IsUsedUp source.before source.after → Gives commands.Canon source bytes
+canonical_gives source bytes f used = record {
+  outcome = of_any (Canonises bytes) (λ input. OutcomeOf commands.Canon input (given bytes)) source.before (λ b x. OfFile.accepted x.0 x.1 (ap given x.2)) f;
+  used_up = used;
+}
+
+-- ---- check
+
+pub link_stops_at : (v : Abc) (e : LinkError) → IsRefusal v e → StopsAt (Check v) (stop_of_link e)
+link_stops_at v (refusals.Refused rule i) h = record { answer = λ d. Check.refused rule i h refl; read = λ e. absurd cc }
+link_stops_at v refusals.NoMemory h = memory_stops_at (Check v)
+
+pub links_stop_at : (v : Abc) → AllHold v → StopsAt (Check v) stops.NotBuilt
+links_stop_at v h = record { answer = λ d. Check.links h refl; read = λ e. absurd cc }
+
+-- ---- tidy
+
+pub tidy_stops_at : (v : Abc) (e : TidyError) → IsTidyError v e → StopsAt (Tidy v) (stop_of_tidy e)
+tidy_stops_at v (tidying.Refused rule i) h = record { answer = λ d. Tidy.untidy rule i h refl; read = λ e. absurd cc }
+tidy_stops_at v tidying.NoMemory h = memory_stops_at (Tidy v)
+
+pub tidied_gives : (v t : Abc) (bytes : List ℕ) → IsTidied v t → bytes ≡ file_bytes t → Tidy v (given bytes)
+tidied_gives v t bytes h is = Tidy.tidied t h (ap given is)
+
+-- a file that fits has bodies that can be written
+pub fits_ready : (v : Abc) → Fits v → All IsReadyBody v.bodies
+fits_ready v f = file_ready v f.0 f.1

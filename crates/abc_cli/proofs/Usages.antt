@@ -12,8 +12,12 @@ use Rattle.abc_words.specs.declared.command.GenOptions.{GenOptions}
 use Rattle.abc_words.specs.declared.command.Usage.{Usage}
 use Rattle.abc_words.specs.declared.command.Usage.TheVariants as usages
 use Rattle.abc_words.specs.Grammar.{IsUsageWord, Says}
-use Rattle.abc_cli.specs.Outcome.{Answer, CanonOutcome, CommandOutcome, UsageOutcome, usage_answer, IsUsage, AsksNoInput, reads_input, not_built}
+use Rattle.abc_cli.specs.Outcome.{Answer, Canon, Check, CommandOutcome, Dis, OfFile, OutcomeOf, Tidy, UsageOutcome, usage_answer, IsUsage, AsksNoInput, reads_input, not_built}
+use Rattle.abc_tables.specs.declared.tables.Abc.{Abc}
 use Rattle.abc_cli.specs.End.{Channel, IsEnd}
+use Rattle.abc_cli.specs.Stops.{Stops}
+use Rattle.abc_cli.specs.declared.stop.Stop.TheVariants as stops
+use Rattle.abc_cli.proofs.Ending.{any_input}
 
 -- the answers of words outside the grammar are those that reading the words finds
 pub usage_found : (words : List (List ℕ)) (r : Result Command Usage) → ((r ≡ Err usages.NoCommand) ↔ (words ≡ [])) → ((i : ℕ) → (r ≡ Err (usages.Word i)) ↔ IsUsageWord words i)
@@ -46,18 +50,30 @@ unread_command words r c word none command e (AsksNoInput.command d says silent)
 
 -- ---- what a command's answer is not
 
-canon_not_usage : (input : List ℕ) (a : Answer) → CanonOutcome input a → a.status ≡ status.Usage → ⊥
-canon_not_usage input a (CanonOutcome.accepted v f) e = cc
-canon_not_usage input a (CanonOutcome.refused r f) e = cc
+file_not_usage : (Answers : Abc → Answer → Type 0) → ((v : Abc) (a : Answer) → Answers v a → a.status ≡ status.Usage → ⊥) → (input : List ℕ) (a : Answer) → OfFile Answers input a → a.status ≡ status.Usage → ⊥
+file_not_usage Answers not input a (OfFile.accepted v f x) e = not v a x e
+file_not_usage Answers not input a (OfFile.refused r f x) e = let h = ap (λ (y : Answer). y.status) x in cc
+
+check_not_usage : (v : Abc) (a : Answer) → Check v a → a.status ≡ status.Usage → ⊥
+check_not_usage v a (Check.refused rule i h x) e = let k = ap (λ (y : Answer). y.status) x in cc
+check_not_usage v a (Check.links h x) e = let k = ap (λ (y : Answer). y.status) x in cc
+
+tidy_not_usage : (v : Abc) (a : Answer) → Tidy v a → a.status ≡ status.Usage → ⊥
+tidy_not_usage v a (Tidy.tidied t h x) e = let k = ap (λ (y : Answer). y.status) x in cc
+tidy_not_usage v a (Tidy.untidy rule i h x) e = let k = ap (λ (y : Answer). y.status) x in cc
+
+outcome_not_usage : (c : Command) (input : List ℕ) (a : Answer) → OutcomeOf c input a → a.status ≡ status.Usage → ⊥
+outcome_not_usage commands.Canon input a o e = file_not_usage Canon (λ v b x k. let h = ap (λ (y : Answer). y.status) x in cc) input a o e
+outcome_not_usage commands.Dis input a o e = file_not_usage Dis (λ v b x k. let h = ap (λ (y : Answer). y.status) x in cc) input a o e
+outcome_not_usage commands.Asm input a o e = let h = ap (λ (x : Answer). x.status) o in cc
+outcome_not_usage commands.Check input a o e = file_not_usage Check check_not_usage input a o e
+outcome_not_usage commands.Tidy input a o e = file_not_usage Tidy tidy_not_usage input a o e
+outcome_not_usage (commands.Run options) input a o e = let h = ap (λ (x : Answer). x.status) o in cc
+outcome_not_usage (commands.Gen options) input a o e = let h = ap (λ (x : Answer). x.status) o in cc
 
 command_not_usage : (c : Command) (input : Option (List ℕ)) (a : Answer) → CommandOutcome c input a → a.status ≡ status.Usage → ⊥
-command_not_usage commands.Canon (Some b) a o e = canon_not_usage b a o e
-command_not_usage commands.Canon None a o e = canon_not_usage o.0 a o.1 e
-command_not_usage commands.Dis input a o e = let h = ap (λ (x : Answer). x.status) o in cc
-command_not_usage commands.Asm input a o e = let h = ap (λ (x : Answer). x.status) o in cc
-command_not_usage commands.Check input a o e = let h = ap (λ (x : Answer). x.status) o in cc
-command_not_usage (commands.Run options) input a o e = let h = ap (λ (x : Answer). x.status) o in cc
-command_not_usage (commands.Gen options) input a o e = let h = ap (λ (x : Answer). x.status) o in cc
+command_not_usage c (Some b) a o e = outcome_not_usage c b a o e
+command_not_usage c None a o e = outcome_not_usage c o.0 a o.1 e
 
 pub end_not_usage : (c : Command) (input : Option (List ℕ)) (F : Type 0) (out err : Channel) (s : Status) → IsEnd (CommandOutcome c input) F out err s → s ≡ status.Usage → ⊥
 end_not_usage c input F out err s (IsEnd.defined a x y z) e = command_not_usage c input a x e
@@ -69,10 +85,27 @@ end_not_usage c input F out err s (IsEnd.line_failed a x y z w) e = cc
 end_not_usage c input F out err s (IsEnd.read_line_failed x y z w) e = cc
 end_not_usage c input F out err s (IsEnd.memory_line_failed y z w) e = cc
 
--- a command that is not built
-pub other_command : (c : Command) (input : Option (List ℕ)) → ((c ≡ commands.Dis) ⊎ ((c ≡ commands.Asm) ⊎ ((c ≡ commands.Check) ⊎ (((o : RunOptions) × (c ≡ commands.Run o)) ⊎ ((o : GenOptions) × (c ≡ commands.Gen o)))))) → CommandOutcome c input not_built
-other_command c input (inl e) = rw e refl
-other_command c input (inr (inl e)) = rw e refl
-other_command c input (inr (inr (inl e))) = rw e refl
-other_command c input (inr (inr (inr (inl e)))) = rw e.1 refl
-other_command c input (inr (inr (inr (inr e)))) = rw e.1 refl
+-- ---- commands that are not built
+
+abbrev pub IsNotBuilt : Command → Type 0
+IsNotBuilt commands.Asm = Unit {0}
+IsNotBuilt (commands.Run options) = Unit {0}
+IsNotBuilt (commands.Gen options) = Unit {0}
+IsNotBuilt _ = ⊥
+
+not_built_outcome : (c : Command) → IsNotBuilt c → (input : List ℕ) → OutcomeOf c input not_built
+not_built_outcome commands.Canon h input = absurd h
+not_built_outcome commands.Dis h input = absurd h
+not_built_outcome commands.Asm h input = refl
+not_built_outcome commands.Check h input = absurd h
+not_built_outcome commands.Tidy h input = absurd h
+not_built_outcome (commands.Run options) h input = refl
+not_built_outcome (commands.Gen options) h input = refl
+
+not_built_stops : (c : Command) (source : Channel) → IsNotBuilt c → Stops c source stops.NotBuilt
+not_built_stops c source h = record { outcome = λ d. any_input (λ input. OutcomeOf c input not_built) source.before (not_built_outcome c h); cause = λ e. absurd cc }
+
+pub other_stops : (c : Command) (source : Channel) → ((c ≡ commands.Asm) ⊎ (((o : RunOptions) × (c ≡ commands.Run o)) ⊎ ((o : GenOptions) × (c ≡ commands.Gen o)))) → Stops c source stops.NotBuilt
+other_stops c source (inl e) = rw e (not_built_stops commands.Asm source tt)
+other_stops c source (inr (inl e)) = rw e.1 (not_built_stops (commands.Run e.0) source tt)
+other_stops c source (inr (inr e)) = rw e.1 (not_built_stops (commands.Gen e.0) source tt)

@@ -1,4 +1,4 @@
 pub mod Lines
 pub mod Outcome
 pub mod End
-pub mod Canon
+pub mod Stops

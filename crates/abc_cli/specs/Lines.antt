@@ -3,6 +3,12 @@ use Rattle.std.specs.Prelude.{ℕ, List, [], ◌∷◌, ◌++◌, codes, decimal
 use Rattle.abc_escape.specs.Escapes.{escaped}
 use Rattle.abc_format.specs.Part.{Refusal}
 use Rattle.abc_format.specs.Reasons.{reason_name}
+use Rattle.abc_rules.specs.declared.items.Item.{Item}
+use Rattle.abc_rules.specs.declared.items.LinkRule.{LinkRule}
+use Rattle.abc_rules.specs.Items.{kind_name, rule_name}
+use Rattle.abc_tidy.specs.declared.error.TidyRule.{TidyRule}
+use Rattle.abc_tidy.specs.declared.error.TidyRule.TheVariants as tidying
+use Rattle.abc_tidy.specs.Rules.{rule_name as tidy_rule_name}
 
 -- `abc: `, a text, and a line feed
 unfoldable pub line : List ℕ → List ℕ
@@ -15,9 +21,28 @@ usage_text word = codes "usage: " ++ escaped word
 unfoldable pub no_command_text : List ℕ
 no_command_text = codes "usage: no command"
 
+-- a place by its kind and number, and what is wrong there
+unfoldable pub place_text : List ℕ → ℕ → List ℕ → List ℕ
+place_text kind n name = kind ++ codes " " ++ decimal n ++ codes ": " ++ name
+
 -- a refused file: the place and the reason of its first fault
-unfoldable pub refusal_text : Refusal → List ℕ
-refusal_text r = codes "byte " ++ decimal r.place ++ codes ": " ++ reason_name r.reason
+abbrev pub refusal_text : Refusal → List ℕ
+refusal_text r = place_text (codes "byte") r.place (reason_name r.reason)
+
+-- a rule of linking, and the item that breaks it
+abbrev pub item_text : Item → LinkRule → List ℕ
+item_text i rule = place_text (kind_name i.kind) i.index (rule_name rule)
+
+-- what kind of thing breaks a rule of tidying
+abbrev pub kind_of_tidy : TidyRule → List ℕ
+kind_of_tidy tidying.Operand = codes "body"
+kind_of_tidy tidying.ParamName = codes "method"
+kind_of_tidy tidying.NameCycle = codes "name"
+kind_of_tidy tidying.TooLarge = codes "file"
+
+-- a rule of tidying, and where it is broken
+abbrev pub tidy_text : TidyRule → ℕ → List ℕ
+tidy_text rule i = place_text (kind_of_tidy rule) i (tidy_rule_name rule)
 
 unfoldable pub read_fault_text : List ℕ
 read_fault_text = codes "read fault"

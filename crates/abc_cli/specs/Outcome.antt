@@ -4,6 +4,7 @@ use Rattle.std.specs.declared.option.Option.{Option}
 use Rattle.abc_base.specs.declared.status.Status.{Status}
 use Rattle.abc_base.specs.declared.status.Status.TheVariants as status
 use Rattle.abc_format.specs.Part.{Refusal}
+use Rattle.abc_lines.specs.Listing.{listing}
 use Rattle.abc_tables.specs.declared.tables.Abc.{Abc}
 use Rattle.abc_tables.specs.Files.{IsFile, IsBadFile, file_bytes}
 use Rattle.abc_file.specs.Reading.{OfInput}
@@ -12,7 +13,12 @@ use Rattle.abc_words.specs.declared.command.Command.TheVariants as commands
 use Rattle.abc_words.specs.declared.command.Usage.{Usage}
 use Rattle.abc_words.specs.declared.command.Usage.TheVariants as usages
 use Rattle.abc_words.specs.Grammar.{Says, IsUsageWord}
-use Rattle.abc_cli.specs.Lines.{line, usage_text, no_command_text, refusal_text, not_built_text}
+use Rattle.abc_rules.specs.declared.items.Item.{Item}
+use Rattle.abc_rules.specs.declared.items.LinkRule.{LinkRule}
+use Rattle.abc_rules.specs.Rules.{AllHold, IsFirstBroken}
+use Rattle.abc_tidy.specs.declared.error.TidyRule.{TidyRule}
+use Rattle.abc_tidy.specs.Rules.{IsFirstBroken as IsFirstUntidy, IsTidied}
+use Rattle.abc_cli.specs.Lines.{line, item_text, usage_text, no_command_text, refusal_text, not_built_text, tidy_text}
 
 -- a status, the bytes for `out` and the bytes for `err`
 pub record Answer : Type 0 where
@@ -31,28 +37,56 @@ told s text = record { status = s; out = []; err = line text }
 abbrev pub not_built : Answer
 not_built = told status.NotBuilt not_built_text
 
--- `canon` of an input: the canonical bytes of the file that it spells, or its first fault
-pub data CanonOutcome (input : List ℕ) : Answer → Type 0 where
-  accepted : (v : Abc) → IsFile v input → CanonOutcome input (given (file_bytes v))
-  refused : (r : Refusal) → IsBadFile input r → CanonOutcome input (told status.Refused (refusal_text r))
+-- ---- commands
+
+-- A command on a file: what the file is answered with that the input spells, or the input's first fault.
+pub data OfFile (Answers : Abc → Answer → Type 0) (input : List ℕ) (a : Answer) : Type 0 where
+  accepted : (v : Abc) → IsFile v input → Answers v a → OfFile Answers input a
+  refused : (r : Refusal) → IsBadFile input r → a ≡ told status.Refused (refusal_text r) → OfFile Answers input a
+
+-- `canon` of a file: its canonical bytes
+abbrev pub Canon : Abc → Answer → Type 0
+Canon v a = a ≡ given (file_bytes v)
+
+-- `dis` of a file: its one text
+abbrev pub Dis : Abc → Answer → Type 0
+Dis v a = a ≡ given (listing v)
+
+-- `check` of a file: its first broken rule of linking, by the first item that breaks it; a file that links is not verified yet
+pub data Check (v : Abc) (a : Answer) : Type 0 where
+  refused : (rule : LinkRule) (i : Item) → IsFirstBroken v rule i → a ≡ told status.Refused (item_text i rule) → Check v a
+  links : AllHold v → a ≡ not_built → Check v a
+
+-- `tidy` of a file: the canonical bytes of the tidied file, or the first broken rule of tidying at its least index
+pub data Tidy (v : Abc) (a : Answer) : Type 0 where
+  tidied : (t : Abc) → IsTidied v t → a ≡ given (file_bytes t) → Tidy v a
+  untidy : (rule : TidyRule) (i : ℕ) → IsFirstUntidy v rule i → a ≡ told status.Refused (tidy_text rule i) → Tidy v a
+
+-- a command on an input
+abbrev pub OutcomeOf : Command → List ℕ → Answer → Type 0
+OutcomeOf commands.Canon input a = OfFile Canon input a
+OutcomeOf commands.Dis input a = OfFile Dis input a
+OutcomeOf commands.Asm input a = a ≡ not_built
+OutcomeOf commands.Check input a = OfFile Check input a
+OutcomeOf commands.Tidy input a = OfFile Tidy input a
+OutcomeOf (commands.Run options) input a = a ≡ not_built
+OutcomeOf (commands.Gen options) input a = a ≡ not_built
 
 -- a command on the input that a source tells, or else on some input
 abbrev pub CommandOutcome : Command → Option (List ℕ) → Answer → Type 0
-CommandOutcome commands.Canon left a = OfInput left (λ input. CanonOutcome input a)
-CommandOutcome commands.Dis input a = a ≡ not_built
-CommandOutcome commands.Asm input a = a ≡ not_built
-CommandOutcome commands.Check input a = a ≡ not_built
-CommandOutcome (commands.Run options) input a = a ≡ not_built
-CommandOutcome (commands.Gen options) input a = a ≡ not_built
+CommandOutcome command left a = OfInput left (λ input. OutcomeOf command input a)
 
 -- whether a command reads its input: `gen` never does, and neither do commands that are not built
 abbrev pub reads_input : Command → Bool
 reads_input commands.Canon = true
-reads_input commands.Dis = false
+reads_input commands.Dis = true
 reads_input commands.Asm = false
-reads_input commands.Check = false
+reads_input commands.Check = true
+reads_input commands.Tidy = true
 reads_input (commands.Run options) = false
 reads_input (commands.Gen options) = false
+
+-- ---- words outside the grammar
 
 -- words outside the grammar, by the word at which they go wrong
 pub data UsageOutcome (words : List (List ℕ)) : Answer → Type 0 where
@@ -70,6 +104,8 @@ usage_answer words usage = told status.Usage (text_of_usage words usage)
 abbrev pub IsUsage : List (List ℕ) → Usage → Type 0
 IsUsage words usages.NoCommand = words ≡ []
 IsUsage words (usages.Word i) = IsUsageWord words i
+
+-- ---- all words
 
 -- The defined outcome of words and an input: that of the command that they say, or their usage word.
 pub data IsOutcome (words : List (List ℕ)) (input : Option (List ℕ)) (a : Answer) : Type 0 where

@@ -1,27 +1,18 @@
-ghost use Rattle.std.specs.Prelude.{◌≡◌, ◌≤◌, Err, IfErr, IfOk, OnOk};
-ghost use Rattle.abc_cli.specs.End.{Ends, UsesUp, stream};
-ghost use Rattle.abc_cli.specs.Outcome.{CommandOutcome};
-ghost use Rattle.abc_file.specs.Reading.{IsCanonicalOf, IsFaultOf};
-ghost use Rattle.abc_varint.specs.declared.error.ReadError.{ReadError};
+ghost use Rattle.std.specs.Prelude.{IfErr, IfOk};
+ghost use Rattle.abc_cli.specs.End.{stream};
+ghost use Rattle.abc_cli.specs.Stops.{Gives, Stops};
 ghost use Rattle.abc_words.specs.declared.command.Command.TheVariants as commands;
 
-use crate::ends::{give_bytes, give_error};
-use abc_base::{Sink, Source, Status};
+use crate::stop::Stop;
+use abc_base::Source;
 use abc_file::canonical;
 use std::alloc::Global;
 
-/// The command `canon`.
-pub fn canon<S: Source, K: Sink, E: Sink>(
-    alloc: Global,
-    source: &mut S,
-    out: &mut K,
-    err: &mut E,
-) -> Status
-    ensures end { Ends (CommandOutcome commands.Canon) (stream S.left S.faults source.old source.new) (stream K.written K.faults out.old out.new) (stream E.written E.faults err.old err.new) result }
-    ensures used_up { UsesUp (stream S.left S.faults source.old source.new) result }
+/// What the command `canon` gives: the canonical bytes of the file.
+pub fn canon<S: Source>(alloc: Global, source: &mut S) -> Result<Vec<u8>, Stop>
+    ensures gives { IfOk result (λ bytes. Gives commands.Canon (stream S.left S.faults source.old source.new) bytes.items) }
+    ensures stops { IfErr result (λ stop. Stops commands.Canon (stream S.left S.faults source.old source.new) stop) }
 {
-    match canonical(alloc, source) {
-        Ok(bytes) => give_bytes(out, err, &bytes),
-        Err(e) => give_error(err, e),
-    }
+    let bytes = canonical(alloc, source)?;
+    Ok(bytes)
 }

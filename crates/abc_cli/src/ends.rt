@@ -1,16 +1,17 @@
-ghost use Rattle.std.specs.Prelude.{◌≡◌, ◌≤◌, is_ok, if◌then◌else◌};
+ghost use Rattle.std.specs.Prelude.{◌≡◌, is_ok, if◌then◌else◌};
 ghost use Rattle.abc_base.specs.Sinks.{WritesAll};
 ghost use Rattle.abc_base.specs.Faults.{HasCause};
-ghost use Rattle.abc_cli.specs.Canon.{error_answer};
 ghost use Rattle.abc_cli.specs.End.{GivesLine, IsEnd, stream};
-ghost use Rattle.abc_cli.specs.Lines.{line, read_fault_text, write_fault_text, no_memory_text, not_built_text, no_command_text};
+ghost use Rattle.abc_cli.specs.Lines.{kind_of_tidy, line, write_fault_text, no_command_text};
 ghost use Rattle.abc_cli.specs.Outcome.{given, told};
-ghost use Rattle.abc_varint.specs.declared.error.ReadError.{ReadError};
+ghost use Rattle.abc_cli.specs.Stops.{stop_answer};
 
-use crate::lines::{write_line, write_refusal};
+use crate::lines::{write_line, write_place};
+use crate::stop::Stop;
 use abc_base::{Failed, Sink, Status, write_all};
 use abc_format::Reason;
-use abc_varint::ReadError;
+use abc_rules::{Item, LinkRule};
+use abc_tidy::TidyRule;
 
 /// The status where its line was written, and that of a failed write where it wasn't.
 pub fn ended(written: Result<(), Failed>, status: Status) -> Status
@@ -25,8 +26,7 @@ pub fn ended(written: Result<(), Failed>, status: Status) -> Status
 /// Writes the line of a status that has a fixed one.
 #[tactic(auto, using(crate::proofs::Ending::gives))]
 fn give_line<E: Sink>(err: &mut E, status: Status, text: &[u8]) -> Status
-    ensures gives { GivesLine (stream E.written E.faults err.old err.new) (told status text.now) result }
-    ensures later { E.faults err.old ≤ E.faults err.new }
+    ensures { GivesLine (stream E.written E.faults err.old err.new) (told status text.now) result }
 {
     let written = write_line(err, text);
     ended(written, status)
@@ -34,42 +34,63 @@ fn give_line<E: Sink>(err: &mut E, status: Status, text: &[u8]) -> Status
 
 /// Writes the line of a refused file.
 #[tactic(auto, using(crate::proofs::Ending::gives))]
-fn give_refusal<E: Sink>(err: &mut E, place: u32, reason: Reason) -> Status
-    ensures gives { GivesLine (stream E.written E.faults err.old err.new) (error_answer (ReadError.Refused place reason)) result }
-    ensures later { E.faults err.old ≤ E.faults err.new }
+fn give_file<E: Sink>(err: &mut E, place: u32, reason: Reason) -> Status
+    ensures { GivesLine (stream E.written E.faults err.old err.new) (stop_answer (Stop.File place reason)) result }
 {
-    let written = write_refusal(err, place, reason);
+    let written = write_place(err, b"byte", place, reason.name());
     ended(written, Status::Refused)
 }
 
-/// Writes the line of what is not built yet.
-#[tactic(auto, unfolding(crate::specs::Lines::not_built_text))]
-pub fn give_not_built<E: Sink>(err: &mut E) -> Status
-    ensures gives { GivesLine (stream E.written E.faults err.old err.new) (told Status.NotBuilt not_built_text) result }
-    ensures later { E.faults err.old ≤ E.faults err.new }
+/// Writes the line of an item that breaks a rule of linking.
+#[tactic(auto, using(crate::proofs::Ending::gives))]
+fn give_item<E: Sink>(err: &mut E, item: Item, rule: LinkRule) -> Status
+    ensures { GivesLine (stream E.written E.faults err.old err.new) (stop_answer (Stop.Item item rule)) result }
 {
-    give_line(err, Status::NotBuilt, b"not built")
+    let written = write_place(err, item.kind.name(), item.index, rule.name());
+    ended(written, Status::Refused)
+}
+
+/// What kind of thing breaks a rule of tidying.
+fn tidy_kind(rule: TidyRule) -> &'static [u8]
+    ensures { result.now ≡ kind_of_tidy rule }
+{
+    match rule {
+        TidyRule::Operand => b"body",
+        TidyRule::ParamName => b"method",
+        TidyRule::NameCycle => b"name",
+        TidyRule::TooLarge => b"file",
+    }
+}
+
+/// Writes the line of a file that breaks a rule of tidying.
+#[tactic(auto, using(crate::proofs::Ending::gives))]
+fn give_tidy<E: Sink>(err: &mut E, rule: TidyRule, index: u32) -> Status
+    ensures { GivesLine (stream E.written E.faults err.old err.new) (stop_answer (Stop.Tidy rule index)) result }
+{
+    let written = write_place(err, tidy_kind(rule), index, rule.name().as_bytes());
+    ended(written, Status::Refused)
 }
 
 /// Writes the line of no words at all.
 #[tactic(auto, unfolding(crate::specs::Lines::no_command_text))]
 pub fn give_no_command<E: Sink>(err: &mut E) -> Status
-    ensures gives { GivesLine (stream E.written E.faults err.old err.new) (told Status.Usage no_command_text) result }
-    ensures later { E.faults err.old ≤ E.faults err.new }
+    ensures { GivesLine (stream E.written E.faults err.old err.new) (told Status.Usage no_command_text) result }
 {
     give_line(err, Status::Usage, b"usage: no command")
 }
 
-/// Writes the line of an error.
-#[tactic(auto, unfolding(crate::specs::Lines::read_fault_text, crate::specs::Lines::no_memory_text))]
-pub fn give_error<E: Sink>(err: &mut E, e: ReadError) -> Status
-    ensures gives { GivesLine (stream E.written E.faults err.old err.new) (error_answer e) result }
-    ensures later { E.faults err.old ≤ E.faults err.new }
+/// Writes the line that says why there are no bytes.
+#[tactic(auto, unfolding(crate::specs::Lines::read_fault_text, crate::specs::Lines::no_memory_text, crate::specs::Lines::not_built_text))]
+pub fn give_stop<E: Sink>(err: &mut E, stop: Stop) -> Status
+    ensures { GivesLine (stream E.written E.faults err.old err.new) (stop_answer stop) result }
 {
-    match e {
-        ReadError::Refused { place, reason } => give_refusal(err, place, reason),
-        ReadError::ReadFault => give_line(err, Status::ReadFault, b"read fault"),
-        ReadError::NoMemory => give_line(err, Status::NoMemory, b"no memory"),
+    match stop {
+        Stop::File { place, reason } => give_file(err, place, reason),
+        Stop::Item { item, rule } => give_item(err, item, rule),
+        Stop::Tidy { rule, index } => give_tidy(err, rule, index),
+        Stop::NotBuilt => give_line(err, Status::NotBuilt, b"not built"),
+        Stop::ReadFault => give_line(err, Status::ReadFault, b"read fault"),
+        Stop::NoMemory => give_line(err, Status::NoMemory, b"no memory"),
     }
 }
 

@@ -2,10 +2,15 @@
 #![tactic(auto)]
 
 mod canon;
+mod check;
+mod commands;
+mod dis;
 mod ends;
 mod lines;
+mod stop;
 #[cfg(test)]
 mod tests;
+mod tidy;
 mod top;
 
 pub use top::abc_main;

@@ -1,13 +1,11 @@
-ghost use Rattle.std.specs.Prelude.{◌++◌};
+ghost use Rattle.std.specs.Prelude.{◌++◌, ◌∷◌, []};
 ghost use Rattle.abc_escape.specs.Escapes.{escaped};
 ghost use Rattle.abc_base.specs.Faults.{HasCause};
 ghost use Rattle.abc_base.specs.Sinks.{WritesAll};
-ghost use Rattle.abc_cli.specs.Lines.{line, refusal_text, usage_text};
-ghost use Rattle.abc_format.specs.Part.{refusal};
+ghost use Rattle.abc_cli.specs.Lines.{line, place_text, usage_text};
 
 use abc_base::{Failed, Sink, write_all};
 use abc_escape::write_escaped;
-use abc_format::Reason;
 use itoa::Buffer;
 
 /// Writes three pieces in a row.
@@ -32,31 +30,40 @@ fn write_with_escapes<E: Sink>(err: &mut E, a: &[u8], word: &[u8], c: &[u8]) -> 
     write_all(err, c)
 }
 
-/// Writes two pieces in a row.
+/// Writes six pieces in a row.
 #[tactic(auto, using(abc_base::proofs::Writing::writing))]
-fn write_two<E: Sink>(err: &mut E, a: &[u8], b: &[u8]) -> Result<(), Failed>
-    ensures bytes { WritesAll (E.written err.old) (E.written err.new) result (a.now ++ b.now) }
-    ensures cause { HasCause (E.faults err.old) (E.faults err.new) result }
-{
-    write_all(err, a)?;
-    write_all(err, b)
-}
-
-/// Writes five pieces in a row.
-#[tactic(auto, using(abc_base::proofs::Writing::writing))]
-fn write_five<E: Sink>(
+fn write_six<E: Sink>(
     err: &mut E,
     a: &[u8],
     b: &[u8],
     c: &[u8],
     d: &[u8],
     e: &[u8],
+    f: &[u8],
 ) -> Result<(), Failed>
-    ensures bytes { WritesAll (E.written err.old) (E.written err.new) result ((a.now ++ b.now ++ c.now) ++ (d.now ++ e.now)) }
+    ensures bytes { WritesAll (E.written err.old) (E.written err.new) result ((a.now ++ b.now ++ c.now) ++ (d.now ++ e.now ++ f.now)) }
     ensures cause { HasCause (E.faults err.old) (E.faults err.new) result }
 {
     write_three(err, a, b, c)?;
-    write_two(err, d, e)
+    write_three(err, d, e, f)
+}
+
+/// Writes six pieces in a row, and a line feed.
+#[tactic(auto, using(abc_base::proofs::Writing::writing))]
+fn write_six_and_end<E: Sink>(
+    err: &mut E,
+    a: &[u8],
+    b: &[u8],
+    c: &[u8],
+    d: &[u8],
+    e: &[u8],
+    f: &[u8],
+) -> Result<(), Failed>
+    ensures bytes { WritesAll (E.written err.old) (E.written err.new) result (((a.now ++ b.now ++ c.now) ++ (d.now ++ e.now ++ f.now)) ++ 10 ∷ []) }
+    ensures cause { HasCause (E.faults err.old) (E.faults err.new) result }
+{
+    write_six(err, a, b, c, d, e, f)?;
+    write_all(err, b"\n")
 }
 
 /// Writes a line: `abc: `, a text, and a line feed.
@@ -77,13 +84,18 @@ pub fn write_usage<E: Sink>(err: &mut E, word: &[u8]) -> Result<(), Failed>
     write_with_escapes(err, b"abc: usage: ", word, b"\n")
 }
 
-/// Writes the line of a refused file.
-#[tactic(auto, unfolding(crate::specs::Lines::line, crate::specs::Lines::refusal_text), using(std::proofs::Common::append_assoc))]
-pub fn write_refusal<E: Sink>(err: &mut E, place: u32, reason: Reason) -> Result<(), Failed>
-    ensures bytes { WritesAll (E.written err.old) (E.written err.new) result (line (refusal_text (refusal place reason))) }
+/// Writes the line of a place by its kind, its number, and what is wrong there.
+#[tactic(auto, unfolding(crate::specs::Lines::line, crate::specs::Lines::place_text), using(std::proofs::Common::append_assoc))]
+pub fn write_place<E: Sink>(
+    err: &mut E,
+    kind: &[u8],
+    number: u32,
+    name: &[u8],
+) -> Result<(), Failed>
+    ensures bytes { WritesAll (E.written err.old) (E.written err.new) result (line (place_text kind.now number name.now)) }
     ensures cause { HasCause (E.faults err.old) (E.faults err.new) result }
 {
     let mut buffer = Buffer::new();
-    let digits = buffer.format(place).as_bytes();
-    write_five(err, b"abc: byte ", digits, b": ", reason.name(), b"\n")
+    let digits = buffer.format(number).as_bytes();
+    write_six_and_end(err, b"abc: ", kind, b" ", digits, b": ", name)
 }

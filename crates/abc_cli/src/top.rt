@@ -3,8 +3,8 @@ ghost use Rattle.abc_cli.specs.End.{Ends, GivesLine, UsesUp, stream};
 ghost use Rattle.abc_cli.specs.Outcome.{Answer, AsksNoInput, CommandOutcome, IsOutcome, IsUsage, UsageOutcome, reads_input, usage_answer};
 ghost use Rattle.abc_words.specs.Grammar.{IsWellFormed};
 
-use crate::canon::canon;
-use crate::ends::{ended, give_no_command, give_not_built};
+use crate::commands::bytes_of;
+use crate::ends::{ended, give_bytes, give_no_command, give_stop};
 use crate::lines::write_usage;
 use abc_base::{Host, Sink, Source, Status, Words};
 use abc_words::{Command, Usage, parse};
@@ -22,11 +22,9 @@ fn run_command<S: Source, K: Sink, E: Sink>(
     ensures used_up { UsesUp (stream S.left S.faults source.old source.new) result }
     ensures unread { reads_input command.now ≡ false → source.new ≡ source.old }
 {
-    match command {
-        Command::Canon => canon(alloc, source, out, err),
-        Command::Dis | Command::Asm | Command::Check | Command::Run(_) | Command::Gen(_) => {
-            give_not_built(err)
-        }
+    match bytes_of(alloc, command, source) {
+        Ok(bytes) => give_bytes(out, err, &bytes),
+        Err(stop) => give_stop(err, stop),
     }
 }
 

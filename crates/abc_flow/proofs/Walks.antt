@@ -122,7 +122,7 @@ module _ (p : LinkedFile) (m : Routine) (heads : List Bool) where
 
   follow_leads : (i : ℕ) (s n : State) (step : Step) (t : ℕ) (u : State) → Steps p m i s n step → Follows p m i s t u → (In t (leads_of m i step) × (u ≡ n)) ⊎ In (t, u) (map (caught s) (covering m i))
   follow_leads i s n step t u z f = elim (in_append (t, u) (after_instr p m i s (slice_get m.code i)) (map (caught s) (covering m i)) f) [
-    inr k ↦ inr k
+    | inr k ↦ inr k
     | inl k ↦ (let r = in_map (landing n) (t, u) (leads_of m i step) (subst (λ (xs : List (ℕ × State)). In (t, u) xs) z.after k) in inl (subst (λ x. In x (leads_of m i step)) (sym (ap (λ (y : ℕ × State). y.0) r.2)) r.1, ap (λ (y : ℕ × State). y.1) r.2))
   ]
 
@@ -143,7 +143,7 @@ module _ (p : LinkedFile) (m : Routine) (heads : List Bool) where
 
   landed_lead : (i : ℕ) (n : State) (step : Step) (t : ℕ) (b c : List (Option State)) (w x : List ℕ) → Moves p m heads b w c x → ((k : ℕ) (u : State) → In (k, u) (map (landing n) (cond step.jumps (targets_at m i) [])) → Landed p b k u) → In t (leads_of m i step) → Landed p c t n ⊎ In t (cond step.next (suc i ∷ []) [])
   landed_lead i n step t b c w x g l h = elim (in_append t (cond step.next (suc i ∷ []) []) (cond step.jumps (targets_at m i) []) h) [
-    inl k ↦ inr k
+    | inl k ↦ inr k
     | inr k ↦ inl (lands_on p _ _ (is_head heads) b c w x g t n (l t n (map_in (landing n) t (cond step.jumps (targets_at m i) []) k)))
   ]
 
@@ -158,7 +158,7 @@ module _ (p : LinkedFile) (m : Routine) (heads : List Bool) where
     where
       all : (t : ℕ) (u : State) → Follows p m i s t u → Landed p d t u ⊎ In (t, u) (map (caught s) (covering m i))
       all t u f = elim (follow_leads i s n step t u z f) [
-        inr k ↦ inr k
+        | inr k ↦ inr k
         | inl k ↦ inl (subst (λ q. Landed p d t q) (sym k.1) (elim (landed_lead i n step t c d x y arrived.advances jumped.landed k.0) [ inl l ↦ l | inr l ↦ arrived.landed t n (map_in (landing n) t (cond step.next (suc i ∷ []) []) l) ]))
       ]
   passed cover i s n step old seen a c d v x y (GoesOn w) noted dv fine z jumped arrived =
@@ -176,7 +176,7 @@ module _ (p : LinkedFile) (m : Routine) (heads : List Bool) where
     where
       all : (t : ℕ) (u : State) → Follows p m i s t u → Landed p d t u ⊎ (((t ≡ suc i) × (u ≡ n)) ⊎ In (t, u) (map (caught s) (covering m i)))
       all t u f = elim (follow_leads i s n step t u z f) [
-        inr k ↦ inr (inr k)
+        | inr k ↦ inr (inr k)
         | inl k ↦ elim (landed_lead i n step t c d x x (subst (λ (ss : List (Option State)). Moves p m heads c x ss x) (sym arrived.3) (advance_self p _ _ (is_head heads) c x)) jumped.landed k.0) [ inl l ↦ inl (subst (λ q. Landed p d t q) (sym k.1) l) | inr l ↦ inr (inl (in_next step.next t i l, k.1)) ]
       ]
 
@@ -189,18 +189,18 @@ module _ (p : LinkedFile) (m : Routine) (heads : List Bool) where
       let e : suc i ≡ i + 1 = omega arith in
       let on = r.passes in
       let moved : IsWalking p m heads cover start s (suc i) u seen next a v d y =
-          record {
-            advances = advance_trans p _ _ (is_head heads) a c d v x y k.advances r.advances;
-            whole = r.whole;
-            inside = on.inside;
-            derived = on.derived;
-            covers = k.covers ∙ covering_next m heads i hs on.inside on.inner;
-            pending = Later n.locals r.seen_is.ready r.seen_is.most on.wrote;
-            back = λ b z g told runs. k.back b z (advance_trans p _ _ (is_head heads) c d b x y z r.advances g) (told_down p b cover old seen r.rises told) (Goes i n u on.fine on.inner (λ t q f. elim (on.follows t q f) [
-              inl l ↦ inl (lands_on p _ _ (is_head heads) d b y z g t q l)
-              | inr h ↦ elim h [ inl j ↦ inr j | inr j ↦ inl (caught_lands p b cover n seen t q r.seen_is.most told (subst (λ (xs : List Catch). In (t, q) (map (caught n) xs)) (sym k.covers) j)) ]
-            ]) runs);
-          } in
+      record {
+        advances = advance_trans p _ _ (is_head heads) a c d v x y k.advances r.advances;
+        whole = r.whole;
+        inside = on.inside;
+        derived = on.derived;
+        covers = k.covers ∙ covering_next m heads i hs on.inside on.inner;
+        pending = Later n.locals r.seen_is.ready r.seen_is.most on.wrote;
+        back = λ b z g told runs. k.back b z (advance_trans p _ _ (is_head heads) c d b x y z r.advances g) (told_down p b cover old seen r.rises told) (Goes i n u on.fine on.inner (λ t q f. elim (on.follows t q f) [
+          | inl l ↦ inl (lands_on p _ _ (is_head heads) d b y z g t q l)
+          | inr h ↦ elim h [ inl j ↦ inr j | inr j ↦ inl (caught_lands p b cover n seen t q r.seen_is.most told (subst (λ (xs : List Catch). In (t, q) (map (caught n) xs)) (sym k.covers) j)) ]
+        ]) runs);
+      } in
       subst (λ j. IsWalking p m heads cover start s j u seen next a v d y) e moved
 
   pub walk_stop : (cover : List Catch) (start : ℕ) (s : State) (i : ℕ) (n u : State) (old seen : List Kind) (w : Written) (a c d : List (Option State)) (v x y : List ℕ) → IsWalking p m heads cover start s i n old w a v c x → Passed p m heads cover i n u old seen c x d y Stops → HasPaced p m heads cover start s seen a v d y
@@ -210,7 +210,7 @@ module _ (p : LinkedFile) (m : Routine) (heads : List Bool) where
         whole = r.whole;
         ready = r.seen_is.ready;
         runs = λ b z g told. k.back b z (advance_trans p _ _ (is_head heads) c d b x y z r.advances g) (told_down p b cover old seen r.rises told) (Halts i n r.passes.fine (λ t q f. elim (r.passes.follows t q f) [
-          inl l ↦ lands_on p _ _ (is_head heads) d b y z g t q l
+          | inl l ↦ lands_on p _ _ (is_head heads) d b y z g t q l
           | inr j ↦ caught_lands p b cover n seen t q r.seen_is.most told (subst (λ (xs : List Catch). In (t, q) (map (caught n) xs)) (sym k.covers) j)
         ]));
       }

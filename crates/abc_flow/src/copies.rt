@@ -33,7 +33,11 @@ pub(crate) fn copy_state(alloc: Global, state: &State) -> Result<State, NoMemory
 }
 
 /// What a handler gets where these are the locals.
-pub(crate) fn caught_state(alloc: Global, handler: &Catch, locals: &Table<Kind>) -> Result<State, NoMemory>
+pub(crate) fn caught_state(
+    alloc: Global,
+    handler: &Catch,
+    locals: &Table<Kind>,
+) -> Result<State, NoMemory>
     ensures { IfOk result (λ s. s ≡ (caught_with locals.now handler.now).1) }
 {
     let mut stack = Stack::new(alloc);
@@ -55,7 +59,11 @@ fn covers_place(handler: &Catch, place: u32) -> bool
 
 /// The handlers that cover a place.
 #[tactic(auto, using(crate::proofs::Places::filter_kept, crate::proofs::Places::filter_left))]
-pub(crate) fn covering_of(alloc: Global, handlers: &[Catch], place: u32) -> Result<Table<Catch>, NoMemory>
+pub(crate) fn covering_of(
+    alloc: Global,
+    handlers: &[Catch],
+    place: u32,
+) -> Result<Table<Catch>, NoMemory>
     ensures { IfOk result (λ t. t ≡ filter (covers place) handlers.now) }
 {
     let mut cover = Table::new(alloc);

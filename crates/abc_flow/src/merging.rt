@@ -153,10 +153,7 @@ fn jump_along<F: Flow>(
 {
     match instr {
         Instr::Branch(_, target) => jump_to(flow, states, work, *target, state),
-        Instr::Switch {
-            default,
-            cases,
-        } => {
+        Instr::Switch { default, cases } => {
             jump_to(flow, states, work, *default, state)?;
             jump_cases(flow, states, work, state, cases.as_slice())?;
             Ok(())

@@ -22,7 +22,13 @@ fn note_one<F: Flow>(flow: &F, seen: &mut Table<Kind>, locals: &Table<Kind>, loc
 }
 
 /// Joins two locals to what was seen of them.
-fn note_two<F: Flow>(flow: &F, seen: &mut Table<Kind>, locals: &Table<Kind>, first: u32, second: u32)
+fn note_two<F: Flow>(
+    flow: &F,
+    seen: &mut Table<Kind>,
+    locals: &Table<Kind>,
+    first: u32,
+    second: u32,
+)
     requires { IsLinkedFile (F.file flow.now) }
     ensures { Noted (F.file flow.now) (writes.Two first second) seen.old locals.now seen.new }
 {
@@ -31,7 +37,12 @@ fn note_two<F: Flow>(flow: &F, seen: &mut Table<Kind>, locals: &Table<Kind>, fir
 }
 
 /// Joins the locals that a step wrote to what was seen of them.
-pub(crate) fn note<F: Flow>(flow: &F, seen: &mut Table<Kind>, locals: &Table<Kind>, written: Written)
+pub(crate) fn note<F: Flow>(
+    flow: &F,
+    seen: &mut Table<Kind>,
+    locals: &Table<Kind>,
+    written: Written,
+)
     requires { IsLinkedFile (F.file flow.now) }
     ensures { Noted (F.file flow.now) written seen.old locals.now seen.new }
 {

@@ -120,8 +120,9 @@ fn pace<F: Flow>(
     let mut now = state;
     let mut place = start;
     let mut written = Written::Nothing;
-    while let Onward::GoesOn(next) = pass(flow, states, work, cover, seen, written, place, &mut now)?
-    {
+    while let Onward::GoesOn(next) = pass(
+        flow, states, work, cover, seen, written, place, &mut now,
+    )? {
         written = next;
         place += 1;
     }
@@ -172,7 +173,15 @@ fn walk_from<F: Flow>(
 {
     let cover = covering_of(flow.alloc(), flow.handlers(), start)?;
     let mut seen = copy_table(flow.alloc(), state.locals.as_slice())?;
-    walk_covered(flow, states, work, cover.as_slice(), &mut seen, start, state)
+    walk_covered(
+        flow,
+        states,
+        work,
+        cover.as_slice(),
+        &mut seen,
+        start,
+        state,
+    )
 }
 
 /// One head of the work.

@@ -1,5 +1,6 @@
 -- What is made of a file that keeps the rules of linking.
 use Rattle.std.specs.Prelude.{ℕ, ◌<◌, ◌^◌, length}
+use Rattle.abc_interfaces.specs.Sets.{HasSets}
 use Rattle.abc_layouts.specs.Laid.{AreLayouts}
 use Rattle.abc_link.specs.declared.linked.Made.{Made}
 use Rattle.abc_members.specs.Grouped.{HasGroups}
@@ -8,10 +9,11 @@ use Rattle.abc_slots.specs.Files.{linked}
 use Rattle.abc_slots.specs.Tables.{HasSlots}
 use Rattle.abc_tables.specs.declared.tables.Abc.{Abc}
 
--- owners of methods, layouts, their slots and their own traits
+-- owners of methods, layouts, their slots and their own traits, the interfaces of classes
 pub record IsMade (v : Abc) (m : Made) : Type 0 where
   pub owners_are : AreOwners v m.owners
   pub layouts_are : AreLayouts v m.layouts
   pub few : length m.layouts.parts < 2 ^ 32
   pub slots_are : HasSlots (linked v m.layouts) m.slots (length m.layouts.parts)
+  pub interfaces_are : HasSets v m.interfaces.sets
   pub members_are : HasGroups (linked v m.layouts) m.members.texts m.members.groups (length m.layouts.parts)

@@ -1,7 +1,8 @@
-ghost use Rattle.std.specs.Prelude.{◌≡◌, ◌<◌, ◌^◌, ℕ, List, length};
+ghost use Rattle.std.specs.Prelude.{◌≡◌, ◌<◌, ◌↔◌, IsTrue, length};
 ghost use Rattle.std.specs.Option.{option_copied, option_map};
 ghost use Rattle.abc_index.specs.Texts.{number_in};
 ghost use Rattle.abc_names.specs.Pool.{is_public as is_public_in, same_space};
+ghost use Rattle.abc_program.specs.Interfaces.{Implements};
 ghost use Rattle.abc_program.specs.Linked.{IsLayout, IsLinkedFile, above as above_of, base as base_of, layout_of as layout_of_part, part_of as part_of_layout};
 ghost use Rattle.abc_program.specs.Owners.{body_of as body_of_method, owner_of};
 ghost use Rattle.abc_program.specs.Slots.{slot_numbered as slot_with, slots_of};
@@ -10,6 +11,7 @@ ghost use Rattle.abc_program.specs.Types.{kind_of_type as kind_of, type_of as ty
 
 use abc_base::{HostClass, Table};
 use abc_heirs::Heirs;
+use abc_interfaces::Interfaces;
 use abc_layouts::Layouts;
 use abc_members::Members;
 use abc_names::{Meanings, NameTables, Named, Names};
@@ -26,6 +28,7 @@ pub(crate) struct Made {
     pub layouts: Layouts,
     pub slots: Heirs<SlotInfo>,
     pub members: Members,
+    pub interfaces: Interfaces,
 }
 
 /// A linked file: whose method each method is, the layouts of objects and their slots, the types of names.
@@ -166,6 +169,16 @@ impl Linked {
         self.made
             .members
             .own_traits(&self.abc, &self.made.layouts, layout.0, text)
+    }
+}
+
+impl Linked {
+    /// Whether a class names an interface: itself, through its bases, or through the interfaces' interfaces.
+    pub fn implements(&self, class: u32, interface: u32) -> bool
+        requires { class < length self.now.file.instances }
+        ensures { IsTrue result ↔ Implements self.now class interface }
+    {
+        self.made.interfaces.implements(&self.abc, class, interface)
     }
 }
 

@@ -9,6 +9,7 @@ ghost use Rattle.abc_rules.specs.Rules.{AllHold};
 
 use crate::linked::{Linked, Made};
 use abc_base::{NoMemory, Table};
+use abc_interfaces::Interfaces;
 use abc_layouts::Layouts;
 use abc_members::Members;
 use abc_names::{Meanings, NameTables, Named, Names, meanings_of};
@@ -71,11 +72,13 @@ fn make(alloc: Global, abc: &Abc, meanings: &Table<Option<Named>>) -> Result<Mad
     let meant = Meanings::new(abc, meanings);
     let slots = slots_of(alloc, &meant, &layouts, count)?;
     let members = Members::new(alloc, abc, &layouts, count)?;
+    let interfaces = Interfaces::new(alloc, &meant)?;
     Ok(Made {
         owners,
         layouts,
         slots,
         members,
+        interfaces,
     })
 }
 

@@ -1,5 +1,5 @@
 -- The items of a file, and their order.
-use Rattle.std.specs.Prelude.{◌≡◌, ℕ, ◌<◌, ◌⊎◌, length}
+use Rattle.std.specs.Prelude.{◌≡◌, ℕ, ◌<◌, ◌⊎◌, List, codes, length}
 use Rattle.abc_tables.specs.declared.tables.Abc.{Abc}
 use Rattle.abc_rules.specs.declared.items.LinkRule.{LinkRule}
 use Rattle.abc_rules.specs.declared.items.LinkRule.TheVariants as rules
@@ -31,6 +31,30 @@ kind_number kinds.Method = 1
 kind_number kinds.Class = 2
 kind_number kinds.Script = 3
 kind_number kinds.Body = 4
+
+-- the names of rules and of kinds, as error lines show them
+abbrev pub rule_name : LinkRule → List ℕ
+rule_name rules.NoScript = codes "NoScript"
+rule_name rules.NameKind = codes "NameKind"
+rule_name rules.UnknownBase = codes "UnknownBase"
+rule_name rules.BaseCycle = codes "BaseCycle"
+rule_name rules.FinalBase = codes "FinalBase"
+rule_name rules.BaseIsInterface = codes "BaseIsInterface"
+rule_name rules.UnknownInterface = codes "UnknownInterface"
+rule_name rules.UnknownType = codes "UnknownType"
+rule_name rules.OwnedTwice = codes "OwnedTwice"
+rule_name rules.NoBody = codes "NoBody"
+rule_name rules.SameName = codes "SameName"
+rule_name rules.SameSlot = codes "SameSlot"
+rule_name rules.TraitNotRun = codes "TraitNotRun"
+rule_name rules.TooLarge = codes "TooLarge"
+
+abbrev pub kind_name : ItemKind → List ℕ
+kind_name kinds.File = codes "file"
+kind_name kinds.Method = codes "method"
+kind_name kinds.Class = codes "class"
+kind_name kinds.Script = codes "script"
+kind_name kinds.Body = codes "body"
 
 -- how many items of a kind a file has
 abbrev pub count_of : Abc → ItemKind → ℕ

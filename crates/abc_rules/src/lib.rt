@@ -17,8 +17,6 @@ mod same_name;
 mod same_slot;
 mod simple;
 mod start;
-#[cfg(test)]
-mod tests;
 mod times;
 mod types;
 

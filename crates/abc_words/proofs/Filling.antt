@@ -1,12 +1,11 @@
 -- What the code changes where it fills an option.
-use Rattle.std.proofs.Common.{◌≡◌, ℕ, Bool, true, false, cond, Option, Some, List, [], length, drop, get_or, sym, ap, ◌<◌, ◌+◌}
+use Rattle.std.proofs.Common.{◌≡◌, ℕ, Bool, true, false, cond, Option, Some, List, sym, ap}
 use Rattle.std.specs.Bool.{OnTrue}
 use Rattle.std.specs.Prelude.{codes}
-use Rattle.std.proofs.lemmas.List.{at_drop_more}
 use Rattle.abc_words.specs.declared.given.GivenRun.{GivenRun}
 use Rattle.abc_words.specs.declared.given.GivenGen.{GivenGen}
 use Rattle.abc_words.specs.Commands.{objects, frames, methods}
-use Rattle.abc_words.specs.Reading.{run_with, gen_with, can_take, some_if, after_word, after_words, go_on}
+use Rattle.abc_words.specs.Reading.{run_with, gen_with, can_take, some_if}
 
 filled : {A : Type 0} (f : Option ℕ → A) (r test : Bool) (n : ℕ) (new before : Option ℕ) → r ≡ test → new ≡ cond r (Some n) before → OnTrue r (some_if test (f (Some n)) ≡ Some (f new))
 filled f true true n new before is after = ap (λ (o : Option ℕ). Some (f o)) (sym after)

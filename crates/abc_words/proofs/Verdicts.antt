@@ -171,6 +171,10 @@ check_only : (c : Command) → word_of c ≡ codes "check" → c ≡ commands.Ch
 check_only commands.Check e = refl
 check_only c e = absurd (apart (word_of c) (codes "check") refl e)
 
+tidy_only : (c : Command) → word_of c ≡ codes "tidy" → c ≡ commands.Tidy
+tidy_only commands.Tidy e = refl
+tidy_only c e = absurd (apart (word_of c) (codes "tidy") refl e)
+
 -- ---- the commands with options
 
 wrapped : (wrap : List Place → List Place) (p : Place) (more : Option (List Place)) → option_map (λ (l : List Place). wrap (p ∷ l)) more ≡ option_map wrap (option_map (λ (l : List Place). p ∷ l) more)
@@ -252,13 +256,14 @@ IsAnswer-if w literal words false x y is here later = later (λ e. let same = (b
 begin_with_nothing : CanBegin []
 begin_with_nothing = (codes "canon" ∷ [], (commands.Canon, record { options = []; parts = refl; settings = none (λ k d lt. absurd (omega arith)) }))
 
-no_word_of : (w : List ℕ) → w ≢ codes "canon" → w ≢ codes "dis" → w ≢ codes "asm" → w ≢ codes "check" → w ≢ codes "run" → w ≢ codes "gen" → (c : Command) → w ≢ word_of c
-no_word_of w canon dis asm check run gen commands.Canon e = canon e
-no_word_of w canon dis asm check run gen commands.Dis e = dis e
-no_word_of w canon dis asm check run gen commands.Asm e = asm e
-no_word_of w canon dis asm check run gen commands.Check e = check e
-no_word_of w canon dis asm check run gen (commands.Run o) e = run e
-no_word_of w canon dis asm check run gen (commands.Gen o) e = gen e
+no_word_of : (w : List ℕ) → w ≢ codes "canon" → w ≢ codes "dis" → w ≢ codes "asm" → w ≢ codes "check" → w ≢ codes "tidy" → w ≢ codes "run" → w ≢ codes "gen" → (c : Command) → w ≢ word_of c
+no_word_of w canon dis asm check tidy run gen commands.Canon e = canon e
+no_word_of w canon dis asm check tidy run gen commands.Dis e = dis e
+no_word_of w canon dis asm check tidy run gen commands.Asm e = asm e
+no_word_of w canon dis asm check tidy run gen commands.Check e = check e
+no_word_of w canon dis asm check tidy run gen commands.Tidy e = tidy e
+no_word_of w canon dis asm check tidy run gen (commands.Run o) e = run e
+no_word_of w canon dis asm check tidy run gen (commands.Gen o) e = gen e
 
 IsAnswer-other : (w : List ℕ) (words : List (List ℕ)) → ((c : Command) → w ≢ word_of c) → IsAnswer (w ∷ words) (Err (usages.Word 0))
 IsAnswer-other w words other = record {
@@ -283,9 +288,10 @@ IsAnswer-command (w ∷ words) =
     IsAnswer-if w (codes "dis") words (bytes_eq w (codes "dis")) _ _ refl (IsAnswer-plain commands.Dis refl dis_only words) (λ dis.
     IsAnswer-if w (codes "asm") words (bytes_eq w (codes "asm")) _ _ refl (IsAnswer-plain commands.Asm refl asm_only words) (λ asm.
     IsAnswer-if w (codes "check") words (bytes_eq w (codes "check")) _ _ refl (IsAnswer-plain commands.Check refl check_only words) (λ check.
+    IsAnswer-if w (codes "tidy") words (bytes_eq w (codes "tidy")) _ _ refl (IsAnswer-plain commands.Tidy refl tidy_only words) (λ tidy.
     IsAnswer-if w (codes "run") words (bytes_eq w (codes "run")) _ _ refl (IsAnswer-run words) (λ run.
     IsAnswer-if w (codes "gen") words (bytes_eq w (codes "gen")) _ _ refl (IsAnswer-gen words) (λ gen.
-    IsAnswer-other w words (no_word_of w canon dis asm check run gen)))))))
+    IsAnswer-other w words (no_word_of w canon dis asm check tidy run gen))))))))
 
 -- ---- never two answers
 

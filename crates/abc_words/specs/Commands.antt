@@ -48,6 +48,7 @@ word_of commands.Canon = codes "canon"
 word_of commands.Dis = codes "dis"
 word_of commands.Asm = codes "asm"
 word_of commands.Check = codes "check"
+word_of commands.Tidy = codes "tidy"
 word_of (commands.Run _) = codes "run"
 word_of (commands.Gen _) = codes "gen"
 
@@ -57,5 +58,6 @@ settings_of commands.Canon = []
 settings_of commands.Dis = []
 settings_of commands.Asm = []
 settings_of commands.Check = []
+settings_of commands.Tidy = []
 settings_of (commands.Run o) = setting fuel o.fuel ∷ setting objects o.objects ∷ setting cells o.cells ∷ setting text o.text ∷ setting frames o.frames ∷ setting stack o.stack ∷ []
 settings_of (commands.Gen o) = setting seed o.seed ∷ setting methods o.methods ∷ []

@@ -9,6 +9,8 @@ pub enum Command {
     Asm,
     /// Whether a file is verified.
     Check,
+    /// The canonical bytes of a file whose pools are tidied.
+    Tidy,
     /// A run of a file.
     Run(RunOptions),
     /// A run of a generated file.

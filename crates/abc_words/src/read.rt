@@ -30,6 +30,7 @@ fn read_command(words: &Words) -> Result<Command, Usage>
         b"dis" => read_plain(words, Command::Dis),
         b"asm" => read_plain(words, Command::Asm),
         b"check" => read_plain(words, Command::Check),
+        b"tidy" => read_plain(words, Command::Tidy),
         b"run" => {
             let given = read_options(words, GivenRun::new())?;
             Ok(Command::Run(given.options()))

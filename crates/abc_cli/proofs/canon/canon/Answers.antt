@@ -1,20 +1,15 @@
-use Rattle.std.proofs.Common.{sym, subst}
+use Rattle.std.proofs.lemmas.Result.{err_from_is_err_and}
 use Rattle.abc_words.specs.declared.command.Command.TheVariants as commands
-use Rattle.abc_file.specs.Reading.{IsCanonicalOf}
-use Rattle.abc_cli.specs.Outcome.{CommandOutcome}
-use Rattle.abc_cli.proofs.Ending.{bytes_outcome, error_ends, not_done, nothing, weaker}
+use Rattle.abc_cli.specs.End.{stream}
+use Rattle.abc_cli.specs.Outcome.{Canon}
+use Rattle.abc_cli.proofs.Ending.{canonical_gives, read_stops}
 use Rattle.abc_cli.proofs.canon.canon.Goals as goal
 
-pub returns-in-Ok-clause-end : goal.returns-in-Ok-clause-end
-returns-in-Ok-clause-end g c =
-    let input = g.S.Source.left c.args.source.now in
-    let bytes = subst (IsCanonicalOf input) (sym c.deref.ensures.value) c.in-Ok.ensures.bytes in
-    weaker _ _ _ _ _ _ c.give_bytes.result (λ a e. subst (CommandOutcome commands.Canon input) (sym e) (bytes_outcome input c.deref.result.now bytes)) (λ h. absurd h) c.give_bytes.ensures.end
+pub returns-clause-gives : goal.returns-clause-gives
+returns-clause-gives g c = canonical_gives (stream g.S.Source.left g.S.Source.faults c.args.source.now c.canonical.new.source) c.in_ok-bytes.bytes.items c.in_ok-bytes.ensures.bytes c.in_ok-bytes.ensures.end
 
-pub returns-in-Err-clause-end : goal.returns-in-Err-clause-end
-returns-in-Err-clause-end g c =
-    error_ends (g.S.Source.left c.args.source.now) _ _ _ c.in-Err.e c.give_error.result c.in-Err.ensures.fault (λ h. c.in-Err.ensures.cause cc) (nothing (g.K.Sink.written c.args.out.now))
-    c.give_error.ensures.gives
-
-pub returns-in-Err-clause-used_up : goal.returns-in-Err-clause-used_up
-returns-in-Err-clause-used_up g c = λ h. absurd (not_done _ c.in-Err.e c.give_error.result c.give_error.ensures.gives h)
+pub returns-in_err-bytes-clause-stops : goal.returns-in_err-bytes-clause-stops
+returns-in_err-bytes-clause-stops g c =
+    let p = err_from_is_err_and c.from_residual.result c.from_residual.ensures.1 in
+    rw (p.1, p.2) (read_stops commands.Canon Canon (λ input a o. o) (stream g.S.Source.left g.S.Source.faults c.args.source.now c.canonical.new.source) c.in_err-bytes.field-0.0 c.in_err-bytes.ensures.fault
+    (λ e. c.in_err-bytes.ensures.cause cc))

@@ -10,4 +10,4 @@ returns-in-Ok g c = record { end = IsEnd.defined (given c.args.bytes.now) refl c
 
 pub returns-in-Err : goal.returns-in-Err
 unfolding write_fault_text
-returns-in-Err g c = record { end = bytes_failed _ _ _ _ (given c.args.bytes.now) c.give_line.result refl c.in-Err.ensures.cause.failed c.in-Err.ensures.bytes c.give_line.ensures.gives }
+returns-in-Err g c = record { end = bytes_failed _ _ _ _ (given c.args.bytes.now) c.give_line.result refl c.in-Err.ensures.cause.failed c.in-Err.ensures.bytes c.give_line.ensures }

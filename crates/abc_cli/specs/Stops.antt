@@ -1,0 +1,61 @@
+-- What a command gives, or what it is answered with where it gives nothing.
+use Rattle.std.specs.Prelude.{◌≡◌, ◌≢◌, ℕ, List}
+use Rattle.std.specs.declared.option.Option.{Option}
+use Rattle.abc_base.specs.declared.status.Status.TheVariants as status
+use Rattle.abc_file.specs.Reading.{IsUsedUp}
+use Rattle.abc_format.specs.Part.{refusal}
+use Rattle.abc_varint.specs.declared.error.ReadError.{ReadError}
+use Rattle.abc_varint.specs.declared.error.ReadError.TheVariants as errors
+use Rattle.abc_rules.specs.declared.error.LinkError.{LinkError}
+use Rattle.abc_rules.specs.declared.error.LinkError.TheVariants as refusals
+use Rattle.abc_tidy.specs.declared.error.TidyError.{TidyError}
+use Rattle.abc_tidy.specs.declared.error.TidyError.TheVariants as tidying
+use Rattle.abc_words.specs.declared.command.Command.{Command}
+use Rattle.abc_cli.specs.declared.stop.Stop.{Stop}
+use Rattle.abc_cli.specs.declared.stop.Stop.TheVariants as stops
+use Rattle.abc_cli.specs.End.{Channel, HasFailed}
+use Rattle.abc_cli.specs.Lines.{item_text, refusal_text, read_fault_text, no_memory_text, tidy_text}
+use Rattle.abc_cli.specs.Outcome.{Answer, CommandOutcome, given, not_built, told}
+
+-- what is answered where a command gives nothing
+abbrev pub stop_answer : Stop → Answer
+stop_answer (stops.File place reason) = told status.Refused (refusal_text (refusal place reason))
+stop_answer (stops.Item i rule) = told status.Refused (item_text i rule)
+stop_answer (stops.Tidy rule i) = told status.Refused (tidy_text rule i)
+stop_answer stops.NotBuilt = not_built
+stop_answer stops.ReadFault = told status.ReadFault read_fault_text
+stop_answer stops.NoMemory = told status.NoMemory no_memory_text
+
+-- whether the words and the input alone are the reason
+abbrev pub IsDefined : Stop → Type 0
+IsDefined stops.ReadFault = ⊥
+IsDefined stops.NoMemory = ⊥
+IsDefined _ = Unit {0}
+
+abbrev pub stop_of_read : ReadError → Stop
+stop_of_read (errors.Refused place reason) = stops.File place reason
+stop_of_read errors.ReadFault = stops.ReadFault
+stop_of_read errors.NoMemory = stops.NoMemory
+
+abbrev pub stop_of_link : LinkError → Stop
+stop_of_link (refusals.Refused rule i) = stops.Item i rule
+stop_of_link refusals.NoMemory = stops.NoMemory
+
+abbrev pub stop_of_tidy : TidyError → Stop
+stop_of_tidy (tidying.Refused rule i) = stops.Tidy rule i
+stop_of_tidy tidying.NoMemory = stops.NoMemory
+
+-- The bytes are those of the command's outcome, and nothing of the input is left.
+pub record Gives (command : Command) (source : Channel) (bytes : List ℕ) : Type 0 where
+  pub outcome : CommandOutcome command source.before (given bytes)
+  pub used_up : IsUsedUp source.before source.after
+
+-- A stop is the command's outcome, or a failed read that has its cause; want of memory is free.
+pub record Stops (command : Command) (source : Channel) (stop : Stop) : Type 0 where
+  pub outcome : IsDefined stop → CommandOutcome command source.before (stop_answer stop)
+  pub cause : stop ≡ stops.ReadFault → HasFailed source
+
+-- A stop after the input was read is one of the answers, and no failed read; want of memory is free.
+pub record StopsAt (Answers : Answer → Type 0) (stop : Stop) : Type 0 where
+  pub answer : IsDefined stop → Answers (stop_answer stop)
+  pub read : stop ≢ stops.ReadFault

@@ -1,0 +1,75 @@
+ghost use Rattle.std.specs.Prelude.{◌≡◌};
+ghost use Rattle.abc_cli.specs.Stops.{stop_of_link, stop_of_read, stop_of_tidy};
+ghost use Rattle.abc_cli.specs.declared.stop.Stop.TheVariants as stops;
+
+use abc_base::NoMemory;
+use abc_format::Reason;
+use abc_rules::{Item, LinkError, LinkRule};
+use abc_tidy::{TidyError, TidyRule};
+use abc_varint::ReadError;
+use thiserror::Error;
+
+/// Why a command gives no bytes.
+#[derive(Clone, Copy, Debug, PartialEq, Eq, Error)]
+pub enum Stop {
+    /// The input is no file.
+    #[error("the file is refused at {place}: {reason:?}")]
+    File { place: u32, reason: Reason },
+    /// The file breaks a rule of linking.
+    #[error("{rule:?} is broken by {item:?}")]
+    Item { item: Item, rule: LinkRule },
+    /// The file breaks a rule of tidying, at a body, a method or a name.
+    #[error("{rule:?} is broken at {index}")]
+    Tidy { rule: TidyRule, index: u32 },
+    /// The command is not built yet.
+    #[error("not built")]
+    NotBuilt,
+    /// A read failed.
+    #[error("a read failed")]
+    ReadFault,
+    /// Memory ran out.
+    #[error("memory ran out")]
+    NoMemory,
+}
+
+impl From<ReadError> for Stop {
+    ghost from_gives = { λ e stop. stop ≡ stop_of_read e };
+
+    fn from(e: ReadError) -> Stop {
+        match e {
+            ReadError::Refused { place, reason } => Stop::File { place, reason },
+            ReadError::ReadFault => Stop::ReadFault,
+            ReadError::NoMemory => Stop::NoMemory,
+        }
+    }
+}
+
+impl From<LinkError> for Stop {
+    ghost from_gives = { λ e stop. stop ≡ stop_of_link e };
+
+    fn from(e: LinkError) -> Stop {
+        match e {
+            LinkError::Refused { rule, item } => Stop::Item { item, rule },
+            LinkError::NoMemory => Stop::NoMemory,
+        }
+    }
+}
+
+impl From<TidyError> for Stop {
+    ghost from_gives = { λ e stop. stop ≡ stop_of_tidy e };
+
+    fn from(e: TidyError) -> Stop {
+        match e {
+            TidyError::Refused { rule, index } => Stop::Tidy { rule, index },
+            TidyError::NoMemory => Stop::NoMemory,
+        }
+    }
+}
+
+impl From<NoMemory> for Stop {
+    ghost from_gives = { λ _ stop. stop ≡ stops.NoMemory };
+
+    fn from(_e: NoMemory) -> Stop {
+        Stop::NoMemory
+    }
+}

@@ -1,0 +1,33 @@
+ghost use Rattle.std.specs.Prelude.{IfErr, IfOk};
+ghost use Rattle.abc_cli.specs.End.{stream};
+ghost use Rattle.abc_cli.specs.Outcome.{Tidy, given};
+ghost use Rattle.abc_cli.specs.Stops.{Gives, Stops, StopsAt};
+ghost use Rattle.abc_words.specs.declared.command.Command.TheVariants as commands;
+
+use crate::stop::Stop;
+use abc_base::Source;
+use abc_file::{read, write};
+use abc_tables::Abc;
+use abc_tidy::tidy as tidy_file;
+use std::alloc::Global;
+
+/// The canonical bytes of the tidied file.
+fn tidied(alloc: Global, abc: &Abc) -> Result<Vec<u8>, Stop>
+    ensures gives { IfOk result (λ bytes. Tidy abc.now (given bytes.items)) }
+    ensures stops { IfErr result (λ stop. StopsAt (Tidy abc.now) stop) }
+{
+    let tidied = tidy_file(alloc, abc)?;
+    let mut bytes = Vec::new(alloc);
+    write(alloc, &tidied, &mut bytes)?;
+    Ok(bytes)
+}
+
+/// What the command `tidy` gives: the canonical bytes of the tidied file.
+pub fn tidy<S: Source>(alloc: Global, source: &mut S) -> Result<Vec<u8>, Stop>
+    ensures gives { IfOk result (λ bytes. Gives commands.Tidy (stream S.left S.faults source.old source.new) bytes.items) }
+    ensures stops { IfErr result (λ stop. Stops commands.Tidy (stream S.left S.faults source.old source.new) stop) }
+{
+    let (abc, _) = read(alloc, source)?;
+    let bytes = tidied(alloc, &abc)?;
+    Ok(bytes)
+}

@@ -1,0 +1,2 @@
+pub mod Eaching
+pub mod Kinded

@@ -1,0 +1,11 @@
+pub mod Flat
+pub mod Writes
+pub mod Searches
+pub mod Growth
+pub mod Ledger
+pub mod Calls
+pub mod Makes
+pub mod Bytes
+pub mod Positions
+pub mod Steps
+pub mod Arrays

@@ -1,0 +1,5 @@
+use Rattle.abc_heap.proofs.Calls.{elements_counted}
+use Rattle.abc_heap.proofs.heads.element_count.Goals as goal
+
+pub returns : goal.returns
+returns c = elements_counted c.args.cells.now.items c.args.heads.now.items c.args.o _ c.requires.heads c.head_at.ensures

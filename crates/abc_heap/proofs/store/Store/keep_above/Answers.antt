@@ -1,0 +1,21 @@
+use Rattle.std.proofs.Common.{◌∙◌, ap, refl, arith, length, ◌∷◌, []}
+use Rattle.std.proofs.lemmas.List.{length-append}
+use Rattle.abc_cells.specs.Filling.{Filling}
+use Rattle.abc_heap.specs.declared.records.ScopeNode.{ScopeNode}
+use Rattle.abc_heap.proofs.Calls.{sizes_are}
+use Rattle.abc_heap.proofs.store.Store.keep_above.Goals as goal
+
+pub invariant_of-self : goal.invariant_of-self
+invariant_of-self c =
+    let s = sizes_are _ c.args.self.now c.self.inside.cells.items c.self.inside.heads.items c.self.view_is refl c.self.invariant.0 in
+    let l = c.self.invariant.1 in (
+      c.self.invariant.0,
+      record {
+        objects = l.objects;
+        cells = l.cells;
+        scopes = ap (λ (f : Filling ScopeNode). f.limit) c.push.ensures ∙ l.scopes;
+        text = l.text;
+        within = omega (arith, s, c.requires, ap (λ (f : Filling ScopeNode). length f.items) c.push.ensures, length-append c.self.inside.scopes.items ((record { entry = c.args.entry; parent = c.args.below }) ∷ []));
+        small = l.small;
+      },
+    )

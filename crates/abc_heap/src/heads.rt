@@ -1,0 +1,271 @@
+ghost use Rattle.std.specs.Prelude.{◌≡◌, ◌<◌, ◌≤◌, ◌+◌, ◌^◌, ℕ, length, Some, None, slice_get, is_some, [], ◌∷◌, ◌++◌};
+ghost use Rattle.abc_cells.specs.Lanes.{value_in, property_in, lane_of};
+ghost use Rattle.abc_cells.specs.Links.{links, IsAt};
+ghost use Rattle.abc_cells.specs.declared.cell.Lane.TheVariants.{Slots, Properties, Elements};
+ghost use Rattle.abc_cells.specs.Filling.{HasRoom};
+ghost use Rattle.abc_heap.specs.What.{what_in};
+ghost use Rattle.abc_heap.specs.Heap.{slots_of, properties_of, elements_of};
+ghost use Rattle.abc_heap.specs.Properties.{at_position, the_value, the_name, valued, next_filled};
+ghost use Rattle.abc_heap.specs.Changes.{change, with_new_property, with_new_element, with_more_slots, bare};
+ghost use Rattle.abc_heap.specs.View.{objects, AreHeads};
+ghost use Rattle.abc_heap.specs.Spots.{IsGrown, IsFilling};
+
+use crate::starts::Starts;
+use crate::stored::StoredWhat;
+use abc_cells::{Cell, Chain, Held, ObjId, Reserved, Span, Value, append, cell_at, place_of};
+
+/// An object, but for what its cells hold. Its slots lie one after the other from `slots` on.
+#[derive(Clone, Copy, Debug)]
+pub struct Head {
+    pub layout: u32,
+    pub delegate: Option<ObjId>,
+    pub slots: u32,
+    pub properties: Chain,
+    pub elements: Chain,
+    pub what: StoredWhat,
+}
+
+/// The head of an object.
+pub fn head_at(heads: &Reserved<Head>, o: u32) -> Head
+    requires { o < length heads.now.items }
+    ensures { slice_get heads.now.items o ≡ Some result }
+{
+    heads.get(o)
+}
+
+/// The value that a cell holds.
+pub fn value_of(held: Held) -> Value
+    ensures { result ≡ value_in held }
+{
+    match held {
+        Held::Slot(v) => v,
+        Held::Property(_name, v) => v,
+        Held::Deleted => Value::Undefined,
+        Held::Element(v) => v,
+    }
+}
+
+/// The place of a slot.
+pub fn slot_place(heads: &Reserved<Head>, cells: &Reserved<Cell>, o: u32, k: u32) -> u32
+    requires heads { AreHeads (links cells.now.items) heads.now.items }
+    requires small { length cells.now.items < 2 ^ 32 }
+    requires slot { k < length (slots_of (objects cells.now.items 0 heads.now.items) o) }
+    ensures { IsAt (links cells.now.items) result o Slots k }
+{
+    head_at(heads, o).slots + k
+}
+
+/// The place of an element.
+pub fn element_place(heads: &Reserved<Head>, cells: &Reserved<Cell>, o: u32, k: u32) -> u32
+    requires heads { AreHeads (links cells.now.items) heads.now.items }
+    requires element { k < length (elements_of (objects cells.now.items 0 heads.now.items) o) }
+    ensures { IsAt (links cells.now.items) result o Elements k }
+{
+    place_of(cells, head_at(heads, o).elements.last, k)
+}
+
+/// The place of a property, by its place in the list.
+pub fn property_place(heads: &Reserved<Head>, cells: &Reserved<Cell>, o: u32, k: u32) -> u32
+    requires heads { AreHeads (links cells.now.items) heads.now.items }
+    requires property { k < length (properties_of (objects cells.now.items 0 heads.now.items) o) }
+    ensures { IsAt (links cells.now.items) result o Properties k }
+{
+    place_of(cells, head_at(heads, o).properties.last, k)
+}
+
+/// The value of a property, where the cell holds one.
+pub fn property_value(held: Held) -> Option<Value>
+    ensures { result ≡ the_value (property_in held) }
+{
+    match held {
+        Held::Property(_name, v) => Some(v),
+        _ => None,
+    }
+}
+
+/// The name of a property, where the cell holds one.
+pub fn property_name(held: Held) -> Option<Span>
+    ensures { result ≡ the_name (property_in held) }
+{
+    match held {
+        Held::Property(name, _v) => Some(name),
+        _ => None,
+    }
+}
+
+/// The property with another value.
+pub fn revalued(held: Held, v: Value) -> Held
+    ensures value { property_in result ≡ valued v (property_in held) }
+    ensures lane { lane_of result ≡ Properties }
+{
+    match held {
+        Held::Property(name, _old) => Held::Property(name, v),
+        _ => Held::Deleted,
+    }
+}
+
+/// Adds a property to an object, as its last.
+pub fn add_property(
+    heads: &mut Reserved<Head>,
+    cells: &mut Reserved<Cell>,
+    o: u32,
+    name: Span,
+    v: Value,
+)
+    requires heads { AreHeads (links cells.old.items) heads.old.items }
+    requires inside { o < length heads.old.items }
+    requires room { HasRoom cells.old 1 }
+    ensures objects { objects cells.new.items 0 heads.new.items ≡ change (with_new_property name v) o (objects cells.old.items 0 heads.old.items) }
+    ensures heads { AreHeads (links cells.new.items) heads.new.items }
+    ensures sizes { IsGrown heads.old heads.new cells.old cells.new }
+{
+    let head = head_at(heads, o);
+    let properties = append(cells, head.properties, o, Held::Property(name, v));
+    heads.set(o, Head { properties, ..head });
+}
+
+/// Adds an element to an object, as its last.
+pub fn add_element(heads: &mut Reserved<Head>, cells: &mut Reserved<Cell>, o: u32, v: Value)
+    requires heads { AreHeads (links cells.old.items) heads.old.items }
+    requires inside { o < length heads.old.items }
+    requires room { HasRoom cells.old 1 }
+    ensures objects { objects cells.new.items 0 heads.new.items ≡ change (with_new_element v) o (objects cells.old.items 0 heads.old.items) }
+    ensures heads { AreHeads (links cells.new.items) heads.new.items }
+    ensures sizes { IsGrown heads.old heads.new cells.old cells.new }
+{
+    let head = head_at(heads, o);
+    let elements = append(cells, head.elements, o, Held::Element(v));
+    heads.set(o, Head { elements, ..head });
+}
+
+/// What stands at a position, which counts from 1.
+pub fn held_at_position(
+    heads: &Reserved<Head>,
+    cells: &Reserved<Cell>,
+    o: u32,
+    position: u32,
+) -> Held
+    requires heads { AreHeads (links cells.now.items) heads.now.items }
+    requires inside { o < length heads.now.items }
+    ensures { property_in result ≡ at_position (properties_of (objects cells.now.items 0 heads.now.items) o) position }
+{
+    if position == 0 {
+        return Held::Deleted;
+    }
+    if head_at(heads, o).properties.count < position {
+        return Held::Deleted;
+    }
+    let place = property_place(heads, cells, o, position - 1);
+    cell_at(cells, place).held
+}
+
+/// How many elements an object has.
+pub fn element_count(heads: &Reserved<Head>, cells: &Reserved<Cell>, o: u32) -> u32
+    requires heads { AreHeads (links cells.now.items) heads.now.items }
+    requires inside { o < length heads.now.items }
+    ensures { result ≡ length (elements_of (objects cells.now.items 0 heads.now.items) o) }
+{
+    let _ = cells;
+    head_at(heads, o).elements.count
+}
+
+/// Adds an object with no cells, and gives its number.
+pub fn add_object(
+    heads: &mut Reserved<Head>,
+    cells: &Reserved<Cell>,
+    layout: u32,
+    delegate: Option<ObjId>,
+    what: StoredWhat,
+) -> u32
+    requires heads { AreHeads (links cells.now.items) heads.old.items }
+    requires room { HasRoom heads.old 1 }
+    ensures number { result ≡ length heads.old.items }
+    ensures objects { objects cells.now.items 0 heads.new.items ≡ objects cells.now.items 0 heads.old.items ++ bare layout delegate (what_in what) ∷ [] }
+    ensures heads { AreHeads (links cells.now.items) heads.new.items }
+    ensures next { IsFilling cells.now.items heads.new.items result (record { last = 0; count = 0 }) }
+    ensures sizes { (length heads.new.items ≡ length heads.old.items + 1) × (heads.new.limit ≡ heads.old.limit) }
+{
+    let none = Chain { last: 0, count: 0 };
+    let o = heads.len();
+    heads.push(Head {
+        layout,
+        delegate,
+        slots: cells.len(),
+        properties: none,
+        elements: none,
+        what,
+    });
+    o
+}
+
+/// Adds a slot to the object whose slots are the last cells.
+fn add_slot(
+    heads: &Reserved<Head>,
+    cells: &mut Reserved<Cell>,
+    chain: Chain,
+    o: u32,
+    v: Value,
+) -> Chain
+    requires heads { AreHeads (links cells.old.items) heads.now.items }
+    requires inside { o < length heads.now.items }
+    requires room { HasRoom cells.old 1 }
+    requires next { IsFilling cells.old.items heads.now.items o chain }
+    ensures objects { objects cells.new.items 0 heads.now.items ≡ change (with_more_slots (v ∷ [])) o (objects cells.old.items 0 heads.now.items) }
+    ensures heads { AreHeads (links cells.new.items) heads.now.items }
+    ensures next { IsFilling cells.new.items heads.now.items o result }
+    ensures sizes { (length cells.new.items ≡ length cells.old.items + 1) × (cells.new.limit ≡ cells.old.limit) }
+{
+    append(cells, chain, o, Held::Slot(v))
+}
+
+/// Gives a bare object its slots.
+pub fn fill_slots<S: Starts>(heads: &Reserved<Head>, cells: &mut Reserved<Cell>, o: u32, starts: &S)
+    requires heads { AreHeads (links cells.old.items) heads.now.items }
+    requires inside { o < length heads.now.items }
+    requires room { HasRoom cells.old (length (S.values starts.now)) }
+    requires next { IsFilling cells.old.items heads.now.items o (record { last = 0; count = 0 }) }
+    ensures objects { objects cells.new.items 0 heads.now.items ≡ change (with_more_slots (S.values starts.now)) o (objects cells.old.items 0 heads.now.items) }
+    ensures heads { AreHeads (links cells.new.items) heads.now.items }
+    ensures sizes { (length cells.new.items ≡ length cells.old.items + length (S.values starts.now)) × (cells.new.limit ≡ cells.old.limit) }
+{
+    let mut chain = Chain { last: 0, count: 0 };
+    let count = starts.count();
+    for k in 0..count {
+        chain = add_slot(heads, cells, chain, o, starts.start(k));
+    }
+}
+
+/// Whether a cell holds a property.
+fn is_property(held: Held) -> bool
+    ensures { result ≡ is_some (property_in held) }
+{
+    match held {
+        Held::Property(_name, _v) => true,
+        _ => false,
+    }
+}
+
+/// How many positions an object has.
+pub fn property_count(heads: &Reserved<Head>, cells: &Reserved<Cell>, o: u32) -> u32
+    requires heads { AreHeads (links cells.now.items) heads.now.items }
+    requires inside { o < length heads.now.items }
+    ensures { result ≡ length (properties_of (objects cells.now.items 0 heads.now.items) o) }
+{
+    let _ = cells;
+    head_at(heads, o).properties.count
+}
+
+/// The least filled position above `from`.
+pub fn next_from(heads: &Reserved<Head>, cells: &Reserved<Cell>, o: u32, from: u32) -> Option<u32>
+    requires heads { AreHeads (links cells.now.items) heads.now.items }
+    requires inside { o < length heads.now.items }
+    ensures { result ≡ next_filled (properties_of (objects cells.now.items 0 heads.now.items) o) from }
+{
+    let count = property_count(heads, cells, o);
+    for k in from..count {
+        if is_property(held_at_position(heads, cells, o, k + 1)) {
+            return Some(k + 1);
+        }
+    }
+    None
+}

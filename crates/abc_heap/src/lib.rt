@@ -1,0 +1,18 @@
+//! The heap of a run, in flat lists whose memory is taken once: objects with their slots, properties and elements,
+//! captured scopes, and the texts made. Contracts see records.
+#![tactic(auto)]
+
+mod heads;
+mod records;
+mod scopes;
+mod search;
+mod starts;
+mod store;
+mod stored;
+#[cfg(test)]
+mod tests;
+mod texts;
+
+pub use records::{Full, Limit, Limits, ScopeEntry, ScopeId, ScopeNode, What};
+pub use starts::Starts;
+pub use store::{ClassParts, Store};

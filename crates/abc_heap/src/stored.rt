@@ -1,0 +1,190 @@
+ghost use Rattle.std.specs.Prelude.{◌≡◌};
+ghost use Rattle.abc_heap.specs.What.{what_in};
+ghost use Rattle.abc_heap.specs.declared.records.What.TheVariants.{Closure};
+
+use crate::records::{ScopeId, What};
+use abc_base::HostClass;
+use abc_cells::ObjId;
+
+/// What an object is, in at most 20 bytes: what may be missing makes a variant of its own.
+#[derive(Clone, Copy, Debug)]
+pub enum StoredWhat {
+    Plain,
+    Free {
+        method: u32,
+        home: u32,
+        scope: Option<ScopeId>,
+    },
+    Bound {
+        method: u32,
+        home: u32,
+        bound: ObjId,
+    },
+    BoundWithin {
+        method: u32,
+        home: u32,
+        scope: ScopeId,
+        bound: ObjId,
+    },
+    OuterClass {
+        class: u32,
+        home: u32,
+        instances: ScopeId,
+    },
+    InnerClass {
+        class: u32,
+        home: u32,
+        statics: ScopeId,
+        instances: ScopeId,
+    },
+    HostClass(HostClass),
+    Trace,
+    Formula(u32),
+    HostObject,
+    Global(u32),
+    Activation,
+    Catch,
+    Array,
+}
+
+/// A closure, as it is kept.
+fn stored_closure(
+    method: u32,
+    home: u32,
+    scope: Option<ScopeId>,
+    bound: Option<ObjId>,
+) -> StoredWhat
+    ensures { what_in result ≡ Closure method home scope bound }
+{
+    match (bound, scope) {
+        (None, scope) => StoredWhat::Free {
+            method,
+            home,
+            scope,
+        },
+        (Some(bound), None) => StoredWhat::Bound {
+            method,
+            home,
+            bound,
+        },
+        (Some(bound), Some(scope)) => StoredWhat::BoundWithin {
+            method,
+            home,
+            scope,
+            bound,
+        },
+    }
+}
+
+/// What an object is, as it is kept.
+pub fn stored(what: What) -> StoredWhat
+    ensures { what_in result ≡ what }
+{
+    match what {
+        What::Plain => StoredWhat::Plain,
+        What::Closure {
+            method,
+            home,
+            scope,
+            bound,
+        } => stored_closure(method, home, scope, bound),
+        What::ClassObject {
+            class,
+            home,
+            statics: None,
+            instances,
+        } => StoredWhat::OuterClass {
+            class,
+            home,
+            instances,
+        },
+        What::ClassObject {
+            class,
+            home,
+            statics: Some(statics),
+            instances,
+        } => StoredWhat::InnerClass {
+            class,
+            home,
+            statics,
+            instances,
+        },
+        What::HostClass(class) => StoredWhat::HostClass(class),
+        What::Trace => StoredWhat::Trace,
+        What::Formula(number) => StoredWhat::Formula(number),
+        What::HostObject => StoredWhat::HostObject,
+        What::Global(script) => StoredWhat::Global(script),
+        What::Activation => StoredWhat::Activation,
+        What::Catch => StoredWhat::Catch,
+        What::Array => StoredWhat::Array,
+    }
+}
+
+/// What an object is, from what is kept.
+pub fn restored(kept: StoredWhat) -> What
+    ensures { result ≡ what_in kept }
+{
+    match kept {
+        StoredWhat::Plain => What::Plain,
+        StoredWhat::Free {
+            method,
+            home,
+            scope,
+        } => What::Closure {
+            method,
+            home,
+            scope,
+            bound: None,
+        },
+        StoredWhat::Bound {
+            method,
+            home,
+            bound,
+        } => What::Closure {
+            method,
+            home,
+            scope: None,
+            bound: Some(bound),
+        },
+        StoredWhat::BoundWithin {
+            method,
+            home,
+            scope,
+            bound,
+        } => What::Closure {
+            method,
+            home,
+            scope: Some(scope),
+            bound: Some(bound),
+        },
+        StoredWhat::OuterClass {
+            class,
+            home,
+            instances,
+        } => What::ClassObject {
+            class,
+            home,
+            statics: None,
+            instances,
+        },
+        StoredWhat::InnerClass {
+            class,
+            home,
+            statics,
+            instances,
+        } => What::ClassObject {
+            class,
+            home,
+            statics: Some(statics),
+            instances,
+        },
+        StoredWhat::HostClass(class) => What::HostClass(class),
+        StoredWhat::Trace => What::Trace,
+        StoredWhat::Formula(number) => What::Formula(number),
+        StoredWhat::HostObject => What::HostObject,
+        StoredWhat::Global(script) => What::Global(script),
+        StoredWhat::Activation => What::Activation,
+        StoredWhat::Catch => What::Catch,
+        StoredWhat::Array => What::Array,
+    }
+}

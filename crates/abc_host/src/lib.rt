@@ -1,0 +1,15 @@
+//! A host whose formulas are closures that an embedder hands in.
+#![tactic(auto)]
+
+mod bounds;
+mod entry;
+mod host;
+mod laws;
+mod names;
+mod table;
+#[cfg(test)]
+mod tests;
+
+pub use entry::Entry;
+pub use laws::{adding_in_turn, means_builtin_host};
+pub use table::{AddError, HostTable};

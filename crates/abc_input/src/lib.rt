@@ -1,0 +1,10 @@
+//! The whole of an input in memory.
+#![tactic(auto)]
+
+mod error;
+mod reading;
+#[cfg(test)]
+mod tests;
+
+pub use error::InputError;
+pub use reading::read_input;

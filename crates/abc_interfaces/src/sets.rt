@@ -1,0 +1,283 @@
+ghost use Rattle.std.specs.Prelude.{◌≡◌, ◌++◌, ◌∷◌, ◌+◌, ◌<◌, ◌^◌, [], false, if◌then◌else◌, length, nat_eq, not, IfOk, OnOk};
+ghost use Rattle.std.specs.List.{flat_map, list_any};
+ghost use Rattle.abc_graph.specs.Graph.{IsGraph, targets};
+ghost use Rattle.abc_interfaces.specs.Sets.{AreSets, AreUnset, HasSets, IsSetOf, ListsBelow, ListsMarked, Settles, SettlesEach, given_by, is_settled as is_settled_in, keys_at as keys_in_sets};
+ghost use Rattle.abc_program.specs.Interfaces.{class_graph};
+ghost use Rattle.abc_rules.specs.Bases.{is_interface as is_interface_class};
+
+use crate::graph::is_interface;
+use crate::set::set_of;
+use abc_base::{NoMemory, Table};
+use abc_graph::reached;
+use abc_tables::Abc;
+use indexmap::IndexSet;
+use std::alloc::Global;
+
+/// Whether the set of a class is there.
+fn is_settled(sets: &Table<Option<IndexSet<u32>>>, class: u32) -> bool
+    ensures { result ≡ is_settled_in sets.now class }
+{
+    match sets.find(class as usize) {
+        Some(Some(_)) => true,
+        _ => false,
+    }
+}
+
+/// The set of a class, as far as it is there.
+fn keys_at(sets: &Table<Option<IndexSet<u32>>>, class: u32) -> &[u32]
+    ensures { result.now ≡ keys_in_sets sets.now class }
+{
+    match sets.find(class as usize) {
+        Some(Some(set)) => set.as_slice(),
+        _ => &[],
+    }
+}
+
+/// Whether the set of one of several classes is missing.
+fn any_missing(sets: &Table<Option<IndexSet<u32>>>, classes: &[u32]) -> bool
+    ensures { result ≡ list_any (λ t. not (is_settled_in sets.now t)) classes.now }
+{
+    for class in classes {
+        if !is_settled(sets, *class) {
+            return true;
+        }
+    }
+    false
+}
+
+/// Adds some numbers to a list.
+fn push_all(list: &mut Vec<u32>, numbers: &[u32]) -> Result<(), NoMemory>
+    ensures { OnOk result (list.new.items ≡ list.old.items ++ numbers.now) }
+{
+    for number in numbers {
+        list.push(*number)?;
+    }
+    Ok(())
+}
+
+/// Adds a class, if it is an interface.
+fn push_interface(list: &mut Vec<u32>, abc: &Abc, class: u32) -> Result<(), NoMemory>
+    ensures { OnOk result (list.new.items ≡ list.old.items ++ (if is_interface_class abc.now class then class ∷ [] else [])) }
+{
+    if is_interface(abc, class) {
+        list.push(class)?;
+    }
+    Ok(())
+}
+
+/// Adds what a class has of one that it leads to.
+fn push_given(
+    list: &mut Vec<u32>,
+    abc: &Abc,
+    sets: &Table<Option<IndexSet<u32>>>,
+    class: u32,
+) -> Result<(), NoMemory>
+    ensures { OnOk result (list.new.items ≡ list.old.items ++ given_by abc.now sets.now class) }
+{
+    push_interface(list, abc, class)?;
+    push_all(list, keys_at(sets, class))?;
+    Ok(())
+}
+
+/// What a class has of all that it leads to.
+fn given(
+    alloc: Global,
+    abc: &Abc,
+    sets: &Table<Option<IndexSet<u32>>>,
+    classes: &[u32],
+) -> Result<Vec<u32>, NoMemory>
+    ensures { IfOk result (λ list. list.items ≡ flat_map (given_by abc.now sets.now) classes.now) }
+{
+    let mut list = Vec::new(alloc);
+    for class in classes {
+        push_given(&mut list, abc, sets, *class)?;
+    }
+    Ok(list)
+}
+
+/// Adds a class, if it is marked and an interface.
+#[tactic(auto, using(crate::proofs::Marking::next_marked, crate::proofs::Marking::next_unmarked, crate::proofs::Marking::next_class))]
+fn push_marked(list: &mut Vec<u32>, abc: &Abc, marks: &[bool], class: u32) -> Result<(), NoMemory>
+    requires within { class < length marks.now }
+    requires before { ListsMarked abc.now marks.now list.old.items class }
+    ensures { OnOk result (ListsMarked abc.now marks.now list.new.items (class + 1)) }
+{
+    if !marks[class as usize] {
+        return Ok(());
+    }
+    if !is_interface(abc, class) {
+        return Ok(());
+    }
+    list.push(class)?;
+    Ok(())
+}
+
+/// The interfaces among marked classes.
+#[tactic(auto, using(crate::proofs::Marking::none_marked))]
+fn marked(alloc: Global, abc: &Abc, marks: &[bool], count: u32) -> Result<Vec<u32>, NoMemory>
+    requires { count ≡ length marks.now }
+    ensures { IfOk result (λ list. ListsMarked abc.now marks.now list.items (length marks.now)) }
+{
+    let mut list = Vec::new(alloc);
+    for class in 0..count {
+        push_marked(&mut list, abc, marks, class)?;
+    }
+    Ok(list)
+}
+
+/// The set of a class, by the sets of all that it leads to.
+#[tactic(auto, using(crate::proofs::Uniting::united))]
+fn united(
+    alloc: Global,
+    abc: &Abc,
+    graph: &Table<Table<u32>>,
+    sets: &Table<Option<IndexSet<u32>>>,
+    class: u32,
+) -> Result<IndexSet<u32>, NoMemory>
+    requires graph { graph.now ≡ class_graph abc.now }
+    requires sets { AreSets abc.now sets.now }
+    requires there { list_any (λ t. not (is_settled_in sets.now t)) (targets graph.now class) ≡ false }
+    ensures { IfOk result (λ s. IsSetOf abc.now class s.keys) }
+{
+    let list = given(alloc, abc, sets, targets_of(graph, class))?;
+    let set = set_of(alloc, list.as_slice())?;
+    Ok(set)
+}
+
+/// The set of a class, by a search.
+#[tactic(auto, using(crate::proofs::Marking::searched))]
+fn searched(
+    alloc: Global,
+    abc: &Abc,
+    graph: &Table<Table<u32>>,
+    class: u32,
+) -> Result<IndexSet<u32>, NoMemory>
+    requires graph { graph.now ≡ class_graph abc.now }
+    requires in_range { IsGraph graph.now }
+    requires few { length graph.now < 2 ^ 32 }
+    requires known { class < length graph.now }
+    ensures { IfOk result (λ s. IsSetOf abc.now class s.keys) }
+{
+    let marks = reached(alloc, graph, class)?;
+    let list = marked(alloc, abc, marks.as_slice(), graph.len() as u32)?;
+    set_of(alloc, list.as_slice())
+}
+
+/// What a class leads to.
+#[tactic(auto, using(crate::proofs::Past::past_end))]
+fn targets_of(graph: &Table<Table<u32>>, class: u32) -> &[u32]
+    ensures { result.now ≡ targets graph.now class }
+{
+    match graph.find(class as usize) {
+        Some(list) => list.as_slice(),
+        None => &[],
+    }
+}
+
+/// The set of a class: of those of all that it leads to, where they are there, else by a search.
+fn set_for(
+    alloc: Global,
+    abc: &Abc,
+    graph: &Table<Table<u32>>,
+    sets: &Table<Option<IndexSet<u32>>>,
+    class: u32,
+) -> Result<IndexSet<u32>, NoMemory>
+    requires graph { graph.now ≡ class_graph abc.now }
+    requires in_range { IsGraph graph.now }
+    requires few { length graph.now < 2 ^ 32 }
+    requires known { class < length graph.now }
+    requires sets { AreSets abc.now sets.now }
+    ensures { IfOk result (λ s. IsSetOf abc.now class s.keys) }
+{
+    if any_missing(sets, targets_of(graph, class)) {
+        return searched(alloc, abc, graph, class);
+    }
+    united(alloc, abc, graph, sets, class)
+}
+
+/// Puts the set of a class there, unless it is there or the number is that of no class.
+#[tactic(auto, using(crate::proofs::Settling::stays, crate::proofs::Settling::put))]
+fn settle(
+    alloc: Global,
+    abc: &Abc,
+    graph: &Table<Table<u32>>,
+    sets: &mut Table<Option<IndexSet<u32>>>,
+    class: u32,
+) -> Result<(), NoMemory>
+    requires graph { graph.now ≡ class_graph abc.now }
+    requires in_range { IsGraph graph.now }
+    requires few { length graph.now < 2 ^ 32 }
+    requires as_many { length sets.old ≡ length graph.now }
+    requires sets { AreSets abc.now sets.old }
+    ensures { OnOk result (Settles abc.now sets.old sets.new class) }
+{
+    if is_settled(sets, class) {
+        return Ok(());
+    }
+    if class as usize >= sets.len() {
+        return Ok(());
+    }
+    let set = set_for(alloc, abc, graph, sets, class)?;
+    sets.set(class as usize, Some(set));
+    Ok(())
+}
+
+/// No sets, for so many classes.
+#[tactic(auto, using(crate::proofs::Settling::unset_none, crate::proofs::Settling::unset_next))]
+fn unset(alloc: Global, count: usize) -> Result<Table<Option<IndexSet<u32>>>, NoMemory>
+    ensures { IfOk result (λ sets. AreUnset sets count) }
+{
+    let mut sets = Table::new(alloc);
+    for _class in 0..count {
+        sets.push(None)?;
+    }
+    Ok(sets)
+}
+
+/// Puts the sets of some classes there, each by those that are there before.
+#[tactic(auto, using(crate::proofs::Settling::begun, crate::proofs::Settling::next))]
+fn settle_each(
+    alloc: Global,
+    abc: &Abc,
+    graph: &Table<Table<u32>>,
+    nodes: &[u32],
+) -> Result<Table<Option<IndexSet<u32>>>, NoMemory>
+    requires graph { graph.now ≡ class_graph abc.now }
+    requires in_range { IsGraph graph.now }
+    requires few { length graph.now < 2 ^ 32 }
+    ensures { IfOk result (λ sets. SettlesEach abc.now (length graph.now) sets nodes.now (length nodes.now)) }
+{
+    let mut sets = unset(alloc, graph.len())?;
+    for class in nodes {
+        settle(alloc, abc, graph, &mut sets, *class)?;
+    }
+    Ok(sets)
+}
+
+/// The sets of all classes.
+#[tactic(auto, using(crate::proofs::Settling::all_settled))]
+pub(crate) fn sets_of(
+    alloc: Global,
+    abc: &Abc,
+    graph: &Table<Table<u32>>,
+    nodes: &[u32],
+) -> Result<Table<Option<IndexSet<u32>>>, NoMemory>
+    requires graph { graph.now ≡ class_graph abc.now }
+    requires in_range { IsGraph graph.now }
+    requires few { length graph.now < 2 ^ 32 }
+    requires nodes { ListsBelow nodes.now (length graph.now) }
+    ensures { IfOk result (λ sets. HasSets abc.now sets) }
+{
+    let sets = settle_each(alloc, abc, graph, nodes)?;
+    Ok(sets)
+}
+
+/// Whether the set of a class has a number.
+pub(crate) fn has(sets: &Table<Option<IndexSet<u32>>>, class: u32, number: u32) -> bool
+    ensures { result ≡ list_any (nat_eq number) (keys_in_sets sets.now class) }
+{
+    match sets.find(class as usize) {
+        Some(Some(set)) => set.contains(&number),
+        _ => false,
+    }
+}

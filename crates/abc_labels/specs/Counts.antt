@@ -1,0 +1,15 @@
+-- Counting lines by their words, before they are read.
+use Rattle.std.specs.Prelude.{ℕ, ◌+◌, nat_eq, List, [], ◌∷◌, if◌then◌else◌}
+use Rattle.abc_text.specs.Words.{place_of}
+use Rattle.abc_rowparts.specs.Wordlines.{among}
+use Rattle.abc_lines.specs.Texts.{Raw}
+
+-- how many of the lines stand at this place, up to one that is not of the part
+abbrev pub count_raws : List ℕ → ℕ → List Raw → ℕ
+count_raws part place [] = 0
+count_raws part place (raw ∷ raws) = if nat_eq (place_of raw.word) place then 1 + count_raws part place raws else (if among (place_of raw.word) part then count_raws part place raws else 0)
+
+-- how many of all lines do
+abbrev pub count_all_raws : ℕ → List Raw → ℕ
+count_all_raws place [] = 0
+count_all_raws place (raw ∷ raws) = if nat_eq (place_of raw.word) place then 1 + count_all_raws place raws else count_all_raws place raws

@@ -1,0 +1,50 @@
+ghost use Rattle.std.specs.Prelude.{◌≡◌, ◌<◌, ◌^◌, ℕ, List};
+ghost use Rattle.abc_labels.specs.Counts.{count_raws};
+ghost use Rattle.abc_lines.specs.Texts.{rows_from};
+ghost use Rattle.abc_rowparts.specs.Lines.{Label};
+ghost use Rattle.abc_rowparts.specs.Wordlines.{among, count_lines as lines_counted};
+ghost use Rattle.abc_tokens.specs.Cursor.{AreNumbered, most_lines, raws_at};
+
+use crate::places::place_of;
+use abc_tokens::{Line, Vocabulary};
+
+/// Whether a place is one of a part's.
+fn is_among(place: u8, part: &[u8]) -> bool
+    ensures { result ≡ among place part.now }
+{
+    for other in part {
+        if place == *other {
+            return true;
+        }
+    }
+    false
+}
+
+/// How many of the lines from one on stand at a place, up to one that is not of the part.
+pub fn count_lines(vocabulary: &Vocabulary, first: Option<Line<'_>>, part: &[u8], place: u8) -> u32
+    requires numbered { AreNumbered first }
+    requires few { most_lines first < 2 ^ 32 }
+    ensures { (labels : List Label) (set taken : List (List ℕ)) → result ≡ lines_counted part.now place (rows_from labels set taken (raws_at first.entry)) }
+{
+    count_ahead(vocabulary, first, part, place)
+}
+
+/// The same, of lines before they are read.
+fn count_ahead(vocabulary: &Vocabulary, first: Option<Line<'_>>, part: &[u8], place: u8) -> u32
+    requires numbered { AreNumbered first }
+    requires few { most_lines first < 2 ^ 32 }
+    ensures { result ≡ count_raws part.now place (raws_at first.entry) }
+{
+    let mut count: u32 = 0;
+    let mut next = first;
+    while let Some(line) = next {
+        let here = place_of(line.word);
+        if here == place {
+            count += 1;
+        } else if !is_among(here, part) {
+            return count;
+        }
+        next = line.after(vocabulary);
+    }
+    count
+}

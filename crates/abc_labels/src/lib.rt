@@ -1,0 +1,15 @@
+//! What lines ask of those that follow: the labels of a body, how many lines of a kind there are below another, and how many
+//! each table has. Each is one walk over the lines, ahead of reading them.
+#![tactic(auto)]
+
+mod counting;
+mod labels;
+mod places;
+mod sizes;
+#[cfg(test)]
+mod tests;
+
+pub use counting::count_lines;
+pub use labels::labels_of;
+pub use places::place_of;
+pub use sizes::{TableSizes, sizes_of};

@@ -1,0 +1,5 @@
+pub mod Answers
+pub mod Heads
+pub mod Joined
+pub mod Places
+pub mod Signed

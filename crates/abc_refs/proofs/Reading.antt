@@ -1,0 +1,20 @@
+-- Reading a number at a place, or 0 past the end.
+use Rattle.std.proofs.Common.{◌≡◌, ℕ, zero, suc, ◌+◌, ◌<◌, List, [], ◌∷◌, ◌++◌, Some, None, get_or, slice_get, length, map, take, refl, sym, ap, ◌∙◌, arith}
+use Rattle.std.proofs.Math.Seq.{take-suc}
+use Rattle.std.proofs.lemmas.List.{map_push}
+use Rattle.std.proofs.lemmas.Option.{get_or_from_slice_get}
+
+pub no_number : (xs : List ℕ) (i : ℕ) → slice_get xs i ≡ None → 0 ≡ get_or xs i 0
+no_number [] i e = refl
+no_number (x ∷ xs) zero e = cc
+no_number (x ∷ xs) (suc i) e = no_number xs i e
+
+pub a_number : (xs : List ℕ) (i x : ℕ) → slice_get xs i ≡ Some x → x ≡ get_or xs i 0
+a_number xs i x e = sym (get_or_from_slice_get xs i x 0 e)
+
+-- what was made of the first values of a list, and what is made of the next
+pub push_mapped : {A B : Type 0} (f : A → B) (xs : List A) (ys : List B) (i : ℕ) (x : A) (y : B) → ys ≡ map f (take i xs) → i < length xs → x ≡ get_or xs i x → y ≡ f x → ys ++ y ∷ [] ≡ map f (take (i + 1) xs)
+push_mapped f xs ys i x y e lt at is =
+    let one : i + 1 ≡ suc i = omega arith in
+    ap (λ s. s ++ y ∷ []) e ∙ ap (λ b. map f (take i xs) ++ b ∷ []) (is ∙ ap f at) ∙ sym (map_push f (take i xs) (get_or xs i x))
+    ∙ sym (ap (map f) (ap (λ n. take n xs) one ∙ take-suc xs i x lt))

@@ -1,0 +1,100 @@
+ghost use Rattle.abc_refs.specs.Refs.{body_refs, handler_refs, instr_refs};
+ghost use Rattle.abc_refs.specs.Renumbered.{new_body, new_handler, new_instr};
+
+use crate::indexed::{Indexed, copy_of, note};
+use crate::nodes::Numbers;
+use crate::refs::{DEBUG, Ref, operand_pool};
+use abc_base::{NoMemory, Table};
+use abc_tables::{Body, Handler, Instr, Pool};
+use std::alloc::Global;
+
+impl Indexed for Instr {
+    ghost refs = { instr_refs };
+
+    ghost renumbered = { new_instr };
+
+    fn note_refs(&self, found: &mut Table<Ref>) -> Result<(), NoMemory> {
+        match self {
+            Instr::One(op, n) => note(operand_pool(*op), *n, found),
+            Instr::Two(op, n, _) => note(operand_pool(*op), *n, found),
+            Instr::Debug { name, .. } => note(operand_pool(DEBUG), *name, found),
+            _ => Ok(()),
+        }
+    }
+
+    fn renumber(&self, alloc: Global, numbers: &Numbers) -> Result<Instr, NoMemory> {
+        Ok(match self {
+            Instr::One(op, n) => Instr::One(*op, numbers.number(operand_pool(*op), *n)),
+            Instr::Two(op, n, m) => Instr::Two(*op, numbers.number(operand_pool(*op), *n), *m),
+            Instr::Debug {
+                kind,
+                name,
+                reg,
+                extra,
+            } => Instr::Debug {
+                kind: *kind,
+                name: numbers.number(operand_pool(DEBUG), *name),
+                reg: *reg,
+                extra: *extra,
+            },
+            Instr::Plain(op) => Instr::Plain(*op),
+            Instr::Branch(op, target) => Instr::Branch(*op, *target),
+            Instr::Switch { default, cases } => Instr::Switch {
+                default: *default,
+                cases: copy_of(alloc, cases)?,
+            },
+            Instr::Byte(x) => Instr::Byte(*x),
+            Instr::Short(x) => Instr::Short(*x),
+            Instr::ScopeObject(x) => Instr::ScopeObject(*x),
+        })
+    }
+}
+
+impl Indexed for Handler {
+    ghost refs = { handler_refs };
+
+    ghost renumbered = { new_handler };
+
+    fn note_refs(&self, found: &mut Table<Ref>) -> Result<(), NoMemory> {
+        note(Pool::Name, self.exc_type, found)?;
+        note(Pool::Name, self.var_name, found)
+    }
+
+    fn renumber(&self, _alloc: Global, numbers: &Numbers) -> Result<Handler, NoMemory> {
+        Ok(Handler {
+            from: self.from,
+            to: self.to,
+            target: self.target,
+            exc_type: numbers.number(Pool::Name, self.exc_type),
+            var_name: numbers.number(Pool::Name, self.var_name),
+        })
+    }
+}
+
+impl Indexed for Body {
+    ghost refs = { body_refs };
+
+    ghost renumbered = { new_body };
+
+    fn note_refs(&self, found: &mut Table<Ref>) -> Result<(), NoMemory> {
+        self.code.note_refs(found)?;
+        self.handlers.note_refs(found)?;
+        self.traits.note_refs(found)
+    }
+
+    fn renumber(&self, alloc: Global, numbers: &Numbers) -> Result<Body, NoMemory> {
+        let code = self.code.renumber(alloc, numbers)?;
+        let handlers = self.handlers.renumber(alloc, numbers)?;
+        let traits = self.traits.renumber(alloc, numbers)?;
+        Ok(Body {
+            method: self.method,
+            max_stack: self.max_stack,
+            local_count: self.local_count,
+            init_scope: self.init_scope,
+            max_scope: self.max_scope,
+            code,
+            handlers,
+            traits,
+        })
+    }
+}

@@ -1,0 +1,167 @@
+ghost use Rattle.std.specs.Prelude.{◌≡◌, ◌++◌, IfOk, OnOk, option_map};
+ghost use Rattle.abc_refs.specs.Nodes.{number_in};
+ghost use Rattle.abc_refs.specs.Refs.{class_refs, instance_refs, protected_refs, script_refs, trait_body_refs, trait_refs, value_refs};
+ghost use Rattle.abc_refs.specs.Renumbered.{new_class, new_instance, new_option, new_script, new_trait, new_trait_body};
+ghost use Rattle.abc_tables.specs.declared.opcodes.Pool.TheVariants as pools;
+
+use crate::indexed::{Indexed, copy_of, note, note_each, renumber_all};
+use crate::nodes::Numbers;
+use crate::refs::{Ref, value_pool};
+use abc_base::{NoMemory, Table};
+use abc_tables::{ClassInfo, Instance, OptionValue, Pool, Script, TraitBody, TraitInfo};
+use std::alloc::Global;
+
+fn note_value(value: Option<OptionValue>, found: &mut Table<Ref>) -> Result<(), NoMemory>
+    ensures { OnOk result (found.new ≡ found.old ++ value_refs value) }
+{
+    match value {
+        Some(option) => note(value_pool(option.kind), option.value, found),
+        None => Ok(()),
+    }
+}
+
+fn new_value(value: Option<OptionValue>, numbers: &Numbers) -> Option<OptionValue>
+    ensures { result ≡ option_map (new_option (number_in numbers.now)) value }
+{
+    match value {
+        Some(option) => Some(OptionValue {
+            kind: option.kind,
+            value: numbers.number(value_pool(option.kind), option.value),
+        }),
+        None => None,
+    }
+}
+
+fn note_body(body: TraitBody, found: &mut Table<Ref>) -> Result<(), NoMemory>
+    ensures { OnOk result (found.new ≡ found.old ++ trait_body_refs body) }
+{
+    match body {
+        TraitBody::Slot { ty, value, .. } => {
+            note(Pool::Name, ty, found)?;
+            note_value(value, found)
+        }
+        _ => Ok(()),
+    }
+}
+
+fn new_body(body: TraitBody, numbers: &Numbers) -> TraitBody
+    ensures { result ≡ new_trait_body (number_in numbers.now) body }
+{
+    match body {
+        TraitBody::Slot {
+            id,
+            ty,
+            value,
+            constant,
+        } => TraitBody::Slot {
+            id,
+            ty: numbers.number(Pool::Name, ty),
+            value: new_value(value, numbers),
+            constant,
+        },
+        other => other,
+    }
+}
+
+impl Indexed for TraitInfo {
+    ghost refs = { trait_refs };
+
+    ghost renumbered = { new_trait };
+
+    fn note_refs(&self, found: &mut Table<Ref>) -> Result<(), NoMemory> {
+        note(Pool::Name, self.name, found)?;
+        note_body(self.body, found)
+    }
+
+    fn renumber(&self, alloc: Global, numbers: &Numbers) -> Result<TraitInfo, NoMemory> {
+        let metadata = copy_of(alloc, &self.metadata)?;
+        Ok(TraitInfo {
+            name: numbers.number(Pool::Name, self.name),
+            attrs: self.attrs,
+            body: new_body(self.body, numbers),
+            metadata,
+        })
+    }
+}
+
+fn note_protected(space: Option<u32>, found: &mut Table<Ref>) -> Result<(), NoMemory>
+    ensures { OnOk result (found.new ≡ found.old ++ protected_refs space) }
+{
+    match space {
+        Some(index) => note(Pool::Space, index, found),
+        None => Ok(()),
+    }
+}
+
+fn new_protected(space: Option<u32>, numbers: &Numbers) -> Option<u32>
+    ensures { result ≡ option_map (number_in numbers.now pools.Space) space }
+{
+    match space {
+        Some(index) => Some(numbers.number(Pool::Space, index)),
+        None => None,
+    }
+}
+
+impl Indexed for Instance {
+    ghost refs = { instance_refs };
+
+    ghost renumbered = { new_instance };
+
+    fn note_refs(&self, found: &mut Table<Ref>) -> Result<(), NoMemory> {
+        note(Pool::Name, self.name, found)?;
+        note(Pool::Name, self.super_name, found)?;
+        note_protected(self.protected_ns, found)?;
+        note_each(Pool::Name, &self.interfaces, found)?;
+        self.traits.note_refs(found)
+    }
+
+    fn renumber(&self, alloc: Global, numbers: &Numbers) -> Result<Instance, NoMemory> {
+        let interfaces = renumber_all(alloc, Pool::Name, &self.interfaces, numbers)?;
+        let traits = self.traits.renumber(alloc, numbers)?;
+        Ok(Instance {
+            name: numbers.number(Pool::Name, self.name),
+            super_name: numbers.number(Pool::Name, self.super_name),
+            flags: self.flags,
+            protected_ns: new_protected(self.protected_ns, numbers),
+            interfaces,
+            iinit: self.iinit,
+            traits,
+        })
+    }
+}
+
+impl Indexed for ClassInfo {
+    ghost refs = { class_refs };
+
+    ghost renumbered = { new_class };
+
+    fn note_refs(&self, found: &mut Table<Ref>) -> Result<(), NoMemory> {
+        self.traits.note_refs(found)
+    }
+
+    fn renumber(&self, alloc: Global, numbers: &Numbers) -> Result<ClassInfo, NoMemory> {
+        let traits = self.traits.renumber(alloc, numbers)?;
+        Ok(ClassInfo {
+            cinit: self.cinit,
+            traits,
+        })
+    }
+}
+
+impl Indexed for Script {
+    ghost refs = { script_refs };
+
+    ghost renumbered = { new_script };
+
+    fn note_refs(&self, found: &mut Table<Ref>) -> Result<(), NoMemory> {
+        self.traits.note_refs(found)
+    }
+
+    fn renumber(&self, alloc: Global, numbers: &Numbers) -> Result<Script, NoMemory> {
+        let traits = self.traits.renumber(alloc, numbers)?;
+        Ok(Script {
+            init: self.init,
+            traits,
+        })
+    }
+}

@@ -1,0 +1,12 @@
+pub mod Runs
+pub mod Items
+pub mod Heads
+pub mod Remarks
+pub mod Readback
+pub mod Matching
+pub mod Standing
+pub mod Forms
+pub mod Tables
+pub mod Bodylines
+pub mod Listings
+pub mod Narrowing

@@ -1,0 +1,67 @@
+-- The tidied value of a file, and the first rule that is broken.
+use Rattle.std.proofs.Common.{◌≡◌, ℕ, ◌<◌, List, map, length, get_or, Some, None, refl, sym, ap, subst, ◌∙◌, arith}
+use Rattle.std.specs.declared.option.Option.{Option}
+use Rattle.abc_refs.specs.declared.nodes.Counts.{Counts}
+use Rattle.abc_refs.specs.declared.nodes.Numbers.{Numbers}
+use Rattle.abc_refs.specs.declared.refs.Ref.{Ref}
+use Rattle.abc_refs.specs.Nodes.{counts_of, node_of, number_in}
+use Rattle.abc_refs.specs.Refs.{file_refs}
+use Rattle.abc_refs.specs.Renumbered.{beside, new_file}
+use Rattle.abc_tables.specs.declared.code.Body.{Body}
+use Rattle.abc_tables.specs.declared.methods.Method.{Method}
+use Rattle.abc_tables.specs.declared.tables.Abc.{Abc}
+use Rattle.abc_tables.specs.Files.{Fits}
+use Rattle.abc_trees.specs.declared.heads.Head.{Head}
+use Rattle.abc_trees.specs.Visits.{IsVisited}
+use Rattle.abc_tidy.specs.declared.error.TidyRule.TheVariants as rules
+use Rattle.abc_tidy.specs.Entries.{graph_of, heads_of}
+use Rattle.abc_tidy.specs.Firsts.{HoldBelow, IsFirstCyclic}
+use Rattle.abc_tidy.specs.NewPools.{new_pools}
+use Rattle.abc_tidy.specs.Rules.{BodyHolds, Holds, IsFirstBroken, IsTidied, MethodHolds}
+use Rattle.abc_tidy.specs.Visited.{AreNumbers, IsTidiedValue, roots_of}
+use Rattle.abc_tidy.proofs.Building.{same_count}
+
+pub as_many : (v : Abc) (heads : List Head) (graph : List (List ℕ)) → heads ≡ heads_of v → graph ≡ graph_of v → length heads ≡ length graph
+as_many v heads graph e f = ap length e ∙ same_count v ∙ sym (ap length f)
+
+pub the_roots : (v : Abc) (c : Counts) (refs : List Ref) (roots : List ℕ) → c ≡ counts_of v → refs ≡ file_refs v → roots ≡ map (λ r. node_of c r.pool r.index) refs → roots ≡ roots_of v
+the_roots v c refs roots e f is = is ∙ (λ i. map (λ r. node_of (e i) r.pool r.index) (f i))
+
+abbrev with_numbers : Counts → List ℕ → Numbers
+with_numbers c numbers = record { counts = c; numbers = numbers }
+
+pub tidied_value : (v pools t : Abc) (c : Counts) (heads : List Head) (graph : List (List ℕ)) (roots seen numbers : List ℕ) → c ≡ counts_of v → heads ≡ heads_of v → graph ≡ graph_of v → roots ≡ roots_of v → IsVisited heads graph roots seen → AreNumbers v seen numbers → pools ≡ new_pools (with_numbers c numbers) v seen → t ≡ beside (new_file (number_in (with_numbers c numbers)) v) pools → IsTidiedValue v t
+tidied_value v pools t c heads graph roots seen numbers counts e f g visited numbered made is = record {
+  seen = seen;
+  numbers = numbers;
+  visited = subst (λ hs. IsVisited hs (graph_of v) (roots_of v) seen) e (subst (λ gr. IsVisited heads gr (roots_of v) seen) f (subst (λ rs. IsVisited heads graph rs seen) g visited));
+  numbered = numbered;
+  is = is ∙ ap (beside (new_file (number_in (with_numbers c numbers)) v)) made ∙ ap (λ k. beside (new_file (number_in (with_numbers k numbers)) v) (new_pools (with_numbers k numbers) v seen)) counts;
+}
+
+-- ---- the rules
+
+pub refused_body : (v : Abc) (i : ℕ) (x : Body) → HoldBelow (BodyHolds v) v.bodies i → i < length v.bodies → get_or v.bodies i x ≡ x → (BodyHolds v x → ⊥) → IsFirstBroken v rules.Operand i
+refused_body v i x before lt at breaks = record { before = tt; broken = record { item = x; within = lt; at = at; breaks = breaks }; least = before }
+
+pub refused_method : (v : Abc) (i : ℕ) (x : Method) → Holds v rules.Operand → HoldBelow (MethodHolds v) v.methods i → i < length v.methods → get_or v.methods i x ≡ x → (MethodHolds v x → ⊥) → IsFirstBroken v rules.ParamName i
+refused_method v i x first before lt at breaks = record { before = first; broken = record { item = x; within = lt; at = at; breaks = breaks }; least = before }
+
+pub refused_name : (v : Abc) (i : ℕ) → Holds v rules.Operand → Holds v rules.ParamName → IsFirstCyclic v (Some i) → IsFirstBroken v rules.NameCycle i
+refused_name v i a b f = record { before = (a, b); broken = f.0; least = f.1 }
+
+pub no_name : (v : Abc) → IsFirstCyclic v None → Holds v rules.NameCycle
+no_name v f = f
+
+pub done : (v t : Abc) → Holds v rules.Operand → Holds v rules.ParamName → Holds v rules.NameCycle → IsTidiedValue v t → Fits t → IsTidied v t
+done v t a b c is fits = record { operands = a; param_names = b; names = c; value = is; fits = fits }
+
+pub too_large : (v t : Abc) → Holds v rules.Operand → Holds v rules.ParamName → Holds v rules.NameCycle → IsTidiedValue v t → (Fits t → ⊥) → IsFirstBroken v rules.TooLarge 0
+too_large v t a b c is unfit = record {
+  before = (a, b, c);
+  broken = record { zero = refl; tidied = t; is = is; unfit = unfit };
+  least = λ j lt h. none j lt;
+}
+  where
+    none : (j : ℕ) → j < 0 → ⊥
+    none j lt = omega arith

@@ -1,0 +1,9 @@
+use Rattle.abc_tidy.proofs.Tidied.{the_roots, tidied_value}
+use Rattle.abc_tidy.proofs.tidying.tidied_value.Goals as goal
+
+pub returns : goal.returns
+returns c =
+    tidied_value c.args.abc.now c.in_ok-pools.pools c.in_ok-tidied.tidied c.args.counts c.in_ok-entries.entries.heads c.in_ok-entries.entries.graph c.in_ok-roots.roots c.in_ok-seen.seen c.in_ok-all.all
+    c.requires.counts c.in_ok-entries.ensures.heads c.in_ok-entries.ensures.graph
+    (the_roots c.args.abc.now c.args.counts c.args.refs.now c.in_ok-roots.roots c.requires.counts c.requires.refs c.in_ok-roots.ensures)
+    c.in_ok-seen.ensures.visited c.in_ok-all.ensures c.in_ok-pools.ensures c.in_ok-tidied.ensures

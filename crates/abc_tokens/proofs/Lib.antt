@@ -1,0 +1,6 @@
+pub mod Dividing
+pub mod Keeping
+pub mod Naming
+pub mod Quoting
+pub mod Walking
+pub mod Wording

@@ -1,0 +1,111 @@
+ghost use Rattle.std.specs.Prelude.{◌≡◌, ◌<◌, ◌≤◌, ◌+◌, ◌^◌, length};
+ghost use Rattle.abc_lines.specs.Texts.{lines_in, raws_from};
+ghost use Rattle.abc_tokens.specs.Cursor.{Comes, Splits, head_name, head_word};
+
+use crate::names::name_before_colon;
+use crate::next::next_token;
+use crate::token::{Next, Token};
+use crate::vocabulary::Vocabulary;
+use abc_text::Word;
+
+/// A line of a text that has tokens, up to its first token.
+#[derive(Clone, Copy, Debug)]
+pub struct Line<'a> {
+    /// Lines are counted from 1, those without tokens too.
+    pub number: u32,
+    pub word: Word,
+    /// What stands before the colon that ends the first token.
+    pub name: &'a [u8],
+    /// The first token is a quote that isn't closed, or has an escape that is none.
+    pub broken: bool,
+    /// What follows the first token in the line.
+    pub tail: &'a [u8],
+    /// What follows the line in the text.
+    pub rest: &'a [u8],
+}
+
+impl<'a> Line<'a> {
+    ghost use Rattle.abc_tokens.specs.Cursor.{IsNumbered, raws_after};
+
+    /// The next line with tokens.
+    pub fn after(&self, vocabulary: &Vocabulary) -> Option<Line<'a>>
+        requires { IsNumbered self.now }
+        ensures { Comes (raws_after self.now) (self.now.number + 1) (length self.now.rest.now) result }
+    {
+        next_line(vocabulary, self.rest, u64::from(self.number) + 1)
+    }
+}
+
+/// The first line of a text and what stands behind its end.
+fn split_line(text: &[u8]) -> (&[u8], &[u8])
+    requires { 0 < length text.now }
+    ensures lines { Splits text.now result.0.now result.1.now }
+    ensures short { length result.1.now < length text.now }
+{
+    for i in 0..text.len() {
+        if text[i] == b'\n' {
+            return (&text[..i], &text[i + 1..]);
+        }
+    }
+    (text, &[])
+}
+
+/// The name of a token at the head of a line.
+fn name_of<'a>(token: &Token<'a>) -> &'a [u8]
+    ensures { result.now ≡ head_name token.now }
+{
+    match token {
+        Token::Bare(word) => match name_before_colon(word) {
+            Some(name) => name,
+            None => &[],
+        },
+        Token::Quoted(_) => &[],
+    }
+}
+
+fn word_of(vocabulary: &Vocabulary, token: &Token<'_>) -> Word
+    ensures { result ≡ head_word token.now }
+{
+    match token {
+        Token::Bare(word) => vocabulary.word(word),
+        Token::Quoted(_) => Word::Unknown,
+    }
+}
+
+/// The next line with tokens of what is left of a text, of which the first line has this number.
+pub fn next_line<'a>(vocabulary: &Vocabulary, text: &'a [u8], number: u64) -> Option<Line<'a>>
+    requires { number + length text.now ≤ 2 ^ 32 }
+    ensures { Comes (raws_from number (lines_in text.now)) number (length text.now) result }
+{
+    let mut rest = text;
+    let mut number = number;
+    while !rest.is_empty() {
+        let (line, others) = split_line(rest);
+        match next_token(line) {
+            Next::End => {}
+            Next::Token(token, tail) => {
+                return Some(Line {
+                    number: number as u32,
+                    word: word_of(vocabulary, &token),
+                    name: name_of(&token),
+                    broken: false,
+                    tail,
+                    rest: others,
+                });
+            }
+            Next::Broken => {
+                return Some(Line {
+                    number: number as u32,
+                    word: Word::Unknown,
+                    name: &[],
+                    broken: true,
+                    tail: &[],
+                    rest: others,
+                });
+            }
+        }
+        rest = others;
+        number += 1;
+    }
+    None
+}

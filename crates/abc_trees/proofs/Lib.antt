@@ -1,0 +1,6 @@
+pub mod Efforts
+pub mod Reading
+pub mod Keyed
+pub mod Meanings
+pub mod TreeLaws
+pub mod Visited

@@ -1,0 +1,4 @@
+pub mod Trees
+pub mod Classes
+pub mod Visits
+pub mod Effort
