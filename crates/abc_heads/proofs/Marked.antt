@@ -80,9 +80,9 @@ code_append : (xs ys : List Instr) → code_targets (xs ++ ys) ≡ code_targets 
 code_append [] ys = refl
 code_append (x ∷ xs) ys = ap (λ (ts : List ℕ). targets x ++ ts) (code_append xs ys) ∙ assoc (targets x) (code_targets xs) (code_targets ys)
   where
-    assoc : (as bs cs : List ℕ) → as ++ (bs ++ cs) ≡ (as ++ bs) ++ cs
-    assoc [] bs cs = refl
-    assoc (a ∷ as) bs cs = ap (λ (ts : List ℕ). a ∷ ts) (assoc as bs cs)
+    assoc : (us vs ws : List ℕ) → us ++ (vs ++ ws) ≡ (us ++ vs) ++ ws
+    assoc [] vs ws = refl
+    assoc (u ∷ us) vs ws = ap (λ (ts : List ℕ). u ∷ ts) (assoc us vs ws)
 
 pub code_none : (code : List Instr) (marks : List Bool) → Marks (code_targets (take 0 code)) marks marks
 code_none code marks = marks_none marks
