@@ -1,8 +1,0 @@
--- The bytes so far, and those of the digits that are left.
-use Rattle.std.proofs.Common.{◌≡◌, ◌*◌, drop, take}
-use Rattle.abc_rowparts.specs.Operands.{hex_bytes}
-use Rattle.abc_otherlines.specs.Otherlines.{onto_hex}
-use Rattle.abc_otherlines.proofs.doubles.eight_bytes.Given as goal
-
-abbrev pub invariant-loop-i : goal.invariant-loop-i
-invariant-loop-i l = onto_hex (take l.i l.bytes) (hex_bytes (drop (2 * l.i) l.word)) ≡ hex_bytes l.word
