@@ -1,5 +1,5 @@
 -- The slots of layouts, and their numbers.
-use Rattle.std.specs.Prelude.{ℕ, List, [], ◌∷◌, true, false, Some, None, if◌then◌else◌, get_or, nat_eq, unwrap_or}
+use Rattle.std.specs.Prelude.{ℕ, ◌<◌, ◌^◌, List, [], ◌∷◌, true, false, Some, None, if◌then◌else◌, get_or, length, nat_eq, unwrap_or}
 use Rattle.std.specs.declared.option.Option.{Option}
 use Rattle.std.specs.List.{flat_map}
 use Rattle.abc_base.specs.declared.names.HostClass.TheVariants as hosts
