@@ -10,24 +10,24 @@ use abc_typing::{Stack, State};
 use std::alloc::Global;
 
 /// What a local holds as a method begins.
-#[tactic(auto, using(crate::proofs::Finds::past_end))]
-fn first_kind(filled: &[Kind], place: u32) -> Kind
+#[tactic(auto, using(crate::proofs::Finds::past_end, crate::proofs::Finds::found))]
+fn first_kind(filled: &Table<Kind>, place: u32) -> Kind
     ensures { result ≡ get_or filled.now place kinds.Undef }
 {
-    match filled.get(place as usize) {
-        Some(kind) => *kind,
+    match filled.fetch(place as usize) {
+        Some(kind) => kind,
         None => Kind::Undef,
     }
 }
 
 /// What is filled, and then undefined, up to so many locals.
-#[tactic(auto, using(crate::proofs::Finds::padded_next))]
-fn first_locals(alloc: Global, filled: &[Kind], count: u32) -> Result<Table<Kind>, NoMemory>
+fn first_locals(alloc: Global, filled: &Table<Kind>, count: u32) -> Result<Table<Kind>, NoMemory>
     ensures { IfOk result (λ t. t ≡ take count (filled.now ++ replicate count kinds.Undef)) }
 {
     let mut locals = Table::new(alloc);
     for place in 0..count {
-        locals.push(first_kind(filled, place))?;
+        let kind = first_kind(filled, place);
+        locals.push(kind)?;
     }
     Ok(locals)
 }
@@ -36,10 +36,12 @@ fn first_locals(alloc: Global, filled: &[Kind], count: u32) -> Result<Table<Kind
 pub fn entry_of(alloc: Global, frame: &Frame<'_>) -> Result<State, NoMemory>
     ensures { IfOk result (λ s. s ≡ entry (routine_in frame.now)) }
 {
-    let locals = first_locals(alloc, frame.filled.as_slice(), frame.local_count)?;
+    let stack = Stack::new(alloc);
+    let scopes = Table::new(alloc);
+    let locals = first_locals(alloc, &frame.filled, frame.local_count)?;
     Ok(State {
-        stack: Stack::new(alloc),
-        scopes: Table::new(alloc),
+        stack,
+        scopes,
         locals,
     })
 }

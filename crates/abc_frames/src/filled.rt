@@ -59,7 +59,8 @@ fn push_types(filled: &mut Table<Kind>, linked: &Linked, names: &[u32]) -> Resul
     ensures { OnOk result (filled.new ≡ filled.old ++ map (λ t. or_any (type_at linked.now t)) names.now) }
 {
     for name in names {
-        filled.push(type_or_any(linked, *name))?;
+        let kind = type_or_any(linked, *name);
+        filled.push(kind)?;
     }
     Ok(())
 }
@@ -75,20 +76,29 @@ fn takes_array(flags: u8) -> bool
 fn push_array(filled: &mut Table<Kind>, linked: &Linked, flags: u8) -> Result<(), NoMemory>
     ensures { OnOk result (filled.new ≡ filled.old ++ arrays linked.now flags) }
 {
-    if takes_array(flags) {
-        filled.push(part_kind(linked, Part::Host(HostClass::Array)))?;
+    if !takes_array(flags) {
+        return Ok(());
     }
+    let kind = part_kind(linked, Part::Host(HostClass::Array));
+    filled.push(kind)?;
     Ok(())
 }
 
 /// What a call of a method fills: `this`, the parameters, and the array that the flags ask for.
-#[tactic(auto, using(crate::proofs::Finds::filled_all))]
-pub(crate) fn filled_of(alloc: Global, linked: &Linked, method: u32) -> Result<Table<Kind>, NoMemory>
+pub(crate) fn filled_of(
+    alloc: Global,
+    linked: &Linked,
+    method: u32,
+) -> Result<Table<Kind>, NoMemory>
     ensures { IfOk result (λ t. t ≡ filled_by linked.now (owner_of linked.now.file method) (method_at linked.now.file method)) }
 {
+    let whose = linked.owner(method);
+    let this = kind_of_this(linked, whose);
+    let types = parameters_of(linked, method);
+    let flags = flags_of(linked, method);
     let mut filled = Table::new(alloc);
-    filled.push(kind_of_this(linked, linked.owner(method)))?;
-    push_types(&mut filled, linked, parameters_of(linked, method))?;
-    push_array(&mut filled, linked, flags_of(linked, method))?;
+    filled.push(this)?;
+    push_types(&mut filled, linked, types)?;
+    push_array(&mut filled, linked, flags)?;
     Ok(filled)
 }
