@@ -1,1 +1,2 @@
-pub mod Verifying
+pub mod Typed
+pub mod Refusing

@@ -45,7 +45,10 @@ impl Flow for Flowing<'_> {
     }
 
     fn is_head(&self, place: u32) -> bool {
-        self.heads.fetch(place as usize).unwrap_or(false)
+        match self.heads.fetch(place as usize) {
+            Some(is_head) => is_head,
+            None => false,
+        }
     }
 
     fn broken(&self, place: u32, state: &State, cover: &[Catch]) -> Option<VerifyRule> {

@@ -2,8 +2,12 @@
 //! that refute each of its typings.
 #![tactic(auto)]
 
+mod error;
 mod flowing;
+mod verified;
 mod verify;
 
 pub use abc_typing::VerifyRule;
-pub use verify::{Verified, VerifyError, verify};
+pub use error::VerifyError;
+pub use verified::Verified;
+pub use verify::verify;

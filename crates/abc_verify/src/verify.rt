@@ -1,85 +1,131 @@
-ghost use Rattle.std.specs.Prelude.{◌≡◌, ◌<◌, ◌×◌, MatchResult, length};
+ghost use Rattle.std.specs.Prelude.{◌≡◌, ◌<◌, ◌×◌, Some, MatchResult, length};
+ghost use Rattle.abc_frames.specs.Frames.{routine_in};
+ghost use Rattle.abc_program.specs.Linked.{IsLinkedFile};
+ghost use Rattle.abc_program.specs.Owners.{body_of as body_of_method};
 ghost use Rattle.abc_typing.specs.Routines.{routine};
 ghost use Rattle.abc_typing.specs.Typing.{HasTyping};
 ghost use Rattle.abc_flow.specs.Walking.{RefusedBy};
-ghost use Rattle.abc_verify.specs.Verifying.{AreTyped, IsRefusal, IsTyped, MethodRefused};
+ghost use Rattle.abc_verify.specs.Refusing.{IsRefusal, IsRefusedAt, refused_of};
+ghost use Rattle.abc_verify.specs.Typed.{AllTyped, HasOwnMethods, IsTyped, IsVerified};
 
+use crate::error::VerifyError;
 use crate::flowing::Flowing;
+use crate::verified::Verified;
 use abc_flow::{Refusal, check_flow};
-use abc_frames::frame_of;
+use abc_frames::{Frame, frame_of};
 use abc_heads::heads_of;
 use abc_link::Linked;
-use abc_typing::VerifyRule;
 use std::alloc::Global;
 
-/// A linked file whose methods all have typings.
-#[derive(Drop)]
-pub struct Verified {
-    pub linked: Linked,
-}
+/// More instructions than there is ever room for the states of.
+const TOO_MANY: usize = 0x8000_0000;
 
-/// Why a linked file isn't verified.
-#[derive(Clone, Copy, Debug, PartialEq, Eq)]
-pub enum VerifyError {
-    /// Memory ran out, or a method has 2^31 instructions or 2^32 handlers or more.
-    NoMemory,
-    /// The first method that has no typing, a place in its code, and the rule that is broken there.
-    Refused {
-        method: u32,
-        place: u32,
-        rule: VerifyRule,
-    },
-}
-
-/// Verifies a body.
-fn check_body(alloc: Global, linked: &Linked, body: u32) -> Result<(), Refusal>
-    requires { body < length linked.now.file.bodies }
-    ensures { MatchResult result (λ _. HasTyping linked.now (routine linked.now body)) (λ e. RefusedBy linked.now (routine linked.now body) e) }
+/// Verifies a body with its method. Of a method with 2^31 instructions or more there is never room for the states.
+fn check_frame(alloc: Global, linked: &Linked, frame: &Frame<'_>) -> Result<(), Refusal>
+    requires { IsLinkedFile linked.now }
+    ensures { MatchResult result (λ _. HasTyping linked.now (routine_in frame.now)) (λ e. RefusedBy linked.now (routine_in frame.now) e) }
 {
-    linked.linked_law();
-    let frame = frame_of(alloc, linked, body)?;
-    if frame.code.len() >= 1 << 31 {
+    if frame.code.len() >= TOO_MANY {
         return Err(Refusal::NoMemory);
     }
-    let heads = heads_of(alloc, frame.code.as_slice(), frame.handlers.as_slice())?;
+    let code = frame.code.as_slice();
+    let handlers = frame.handlers.as_slice();
+    let heads = heads_of(alloc, code, handlers)?;
     let flow = Flowing {
         alloc,
         linked,
-        frame: &frame,
+        frame,
         heads: &heads,
     };
     check_flow(&flow)?;
     Ok(())
 }
 
+/// Verifies a body.
+#[tactic(auto, using(crate::proofs::Methods::refused_along))]
+fn check_body(alloc: Global, linked: &Linked, body: u32) -> Result<(), Refusal>
+    requires linked { IsLinkedFile linked.now }
+    requires inside { body < length linked.now.file.bodies }
+    ensures { MatchResult result (λ _. HasTyping linked.now (routine linked.now body)) (λ e. RefusedBy linked.now (routine linked.now body) e) }
+{
+    let frame = frame_of(alloc, linked, body)?;
+    check_frame(alloc, linked, &frame)?;
+    Ok(())
+}
+
+/// The refusal of a method with this body.
+fn refusal_of(method: u32, body: u32, refusal: Refusal) -> VerifyError
+    ensures { result ≡ refused_of method body refusal }
+{
+    match refusal {
+        Refusal::Refused(index, rule) => VerifyError::Refused {
+            method,
+            body,
+            index,
+            rule,
+        },
+        Refusal::NoMemory => VerifyError::NoMemory,
+    }
+}
+
+/// Verifies a method that has this body.
+fn check_numbered(
+    alloc: Global,
+    linked: &Linked,
+    method: u32,
+    body: u32,
+) -> Result<(), VerifyError>
+    requires linked { IsLinkedFile linked.now }
+    requires of_method { body_of_method linked.now.file method ≡ Some body }
+    ensures { MatchResult result (λ _. IsTyped linked.now method) (IsRefusedAt linked.now method) }
+{
+    match check_body(alloc, linked, body) {
+        Ok(()) => Ok(()),
+        Err(refusal) => Err(refusal_of(method, body, refusal)),
+    }
+}
+
 /// Verifies a method, if it has a body.
-fn check_method(alloc: Global, linked: &Linked, method: u32) -> Result<(), Refusal>
-    ensures { MatchResult result (λ _. IsTyped linked.now method) (MethodRefused linked.now method) }
+fn check_method(alloc: Global, linked: &Linked, method: u32) -> Result<(), VerifyError>
+    requires { IsLinkedFile linked.now }
+    ensures { MatchResult result (λ _. IsTyped linked.now method) (IsRefusedAt linked.now method) }
 {
     match linked.body_of(method) {
-        Some(body) => check_body(alloc, linked, body),
+        Some(body) => check_numbered(alloc, linked, method, body),
         None => Ok(()),
     }
 }
 
-/// Verifies all methods that have bodies, in the order of their numbers. It answers [`VerifyError::Refused`] where a method has
-/// no typing, with the first such method, and [`VerifyError::NoMemory`] where memory runs out.
-pub fn verify(alloc: Global, linked: Linked) -> Result<Verified, VerifyError>
-    ensures { MatchResult result (λ v. (v.linked ≡ linked) × AreTyped linked (length linked.file.methods)) (IsRefusal linked) }
+/// Verifies all methods, in the order of their numbers.
+#[tactic(auto, using(crate::proofs::Methods::first_refused))]
+fn check_methods(alloc: Global, linked: &Linked, count: u32) -> Result<(), VerifyError>
+    requires linked { IsLinkedFile linked.now }
+    requires all { count ≡ length linked.now.file.methods }
+    ensures { MatchResult result (λ _. IsVerified linked.now) (IsRefusal linked.now) }
 {
-    let count = linked.abc().methods.len() as u32;
     for method in 0..count {
-        match check_method(alloc, &linked, method) {
-            Ok(()) => {}
-            Err(Refusal::NoMemory) => return Err(VerifyError::NoMemory),
-            Err(Refusal::Refused(place, rule)) => {
-                return Err(VerifyError::Refused {
-                    method,
-                    place,
-                    rule,
-                });
-            }
-        }
+        check_method(alloc, linked, method)?;
     }
-    Ok(Verified { linked })
+    Ok(())
+}
+
+/// How many methods a file has.
+fn method_count(linked: &Linked) -> u32
+    requires { IsLinkedFile linked.now }
+    ensures { result ≡ length linked.now.file.methods }
+{
+    linked.abc().methods.len() as u32
+}
+
+/// Verifies all methods that have bodies, in the order of their numbers, and so every body of a file that some bytes spell. It
+/// answers [`VerifyError::Refused`] exactly where a method's body has no typing, with the first such method, and
+/// [`VerifyError::NoMemory`] where memory runs out.
+pub fn verify(alloc: Global, linked: Linked) -> Result<Verified, VerifyError>
+    ensures { MatchResult result (λ v. (v ≡ linked) × IsVerified linked × (HasOwnMethods linked.file → AllTyped linked)) (IsRefusal linked) }
+{
+    linked.linked_law();
+    let count = method_count(&linked);
+    check_methods(alloc, &linked, count)?;
+    let verified = Verified::of(linked);
+    Ok(verified)
 }

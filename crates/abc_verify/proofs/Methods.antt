@@ -1,0 +1,93 @@
+-- Methods and their bodies.
+use Rattle.std.proofs.Common.{◌≡◌, ℕ, zero, suc, ◌+◌, ◌<◌, ◌≤◌, List, [], ◌∷◌, Some, None, Bool, true, length, map, get_or, nat_eq, refl, sym, ap, ◌∙◌, subst, arith, eq-eqb, eqb-true, below_more}
+use Rattle.std.proofs.lemmas.List.{length-map}
+use Rattle.abc_flow.specs.Walking.{AreHeads, RefusedBy}
+use Rattle.abc_flow.specs.declared.step.Refusal.{Refusal}
+use Rattle.abc_flow.specs.declared.step.Refusal.TheVariants as flows
+use Rattle.abc_index.specs.Index.{first}
+use Rattle.abc_program.specs.Linked.{IsLinkedFile, LinkedFile}
+use Rattle.abc_program.specs.Owners.{body_of}
+use Rattle.abc_rules.specs.Methods.{methods_with_bodies}
+use Rattle.abc_rules.specs.Parts.{body_at, no_body}
+use Rattle.abc_rules.proofs.Pairs.{first_found, first_hit}
+use Rattle.abc_tables.specs.declared.code.Body.{Body}
+use Rattle.abc_tables.specs.declared.tables.Abc.{Abc}
+use Rattle.abc_typing.specs.Routines.{Routine, routine}
+use Rattle.abc_typing.specs.Typing.{HasTyping, IsRefuted, Refutes}
+use Rattle.abc_typing.specs.declared.rule.VerifyRule.{VerifyRule}
+use Rattle.abc_typing.proofs.Good.{good}
+use Rattle.abc_worklist.proofs.Exact.{typed_not_refuted}
+use Rattle.abc_verify.specs.Refusing.{IsRefusal, IsRefusedAt, IsUntyped, refused_of}
+use Rattle.abc_verify.specs.Typed.{AllTyped, AreTyped, HasOwnMethods, IsTyped, IsVerified}
+use Rattle.abc_verify.specs.declared.error.VerifyError.{VerifyError}
+use Rattle.abc_verify.specs.declared.error.VerifyError.TheVariants.{NoMemory, Refused}
+
+-- ---- bodies
+
+-- a method's body is one of the file
+pub body_inside : (v : Abc) (m b : ℕ) → body_of v m ≡ Some b → b < length v.bodies
+body_inside v m b e =
+    let h = first_hit (nat_eq m) (methods_with_bodies v) 0 b e in
+    let long : length (methods_with_bodies v) ≡ length v.bodies = length-map (λ (x : Body). x.method) v.bodies in
+    let lt = h.0 in
+    omega (arith, lt, long)
+
+mapped : (xs : List Body) (i : ℕ) → i < length xs → get_or (map (λ x. x.method) xs) i 0 ≡ (get_or xs i no_body).method
+mapped [] i h = absurd (omega arith)
+mapped (x ∷ xs) zero h = refl
+mapped (x ∷ xs) (suc i) h = mapped xs i (omega arith)
+
+-- each body is that of its method
+own_body : (v : Abc) → HasOwnMethods v → (b : ℕ) → b < length v.bodies → body_of v (body_at v b).method ≡ Some b
+own_body v own b lt =
+    let m = (body_at v b).method in
+    let long : length (methods_with_bodies v) ≡ length v.bodies = length-map (λ (x : Body). x.method) v.bodies in
+    let hit : nat_eq m (get_or (methods_with_bodies v) b 0) ≡ true = eq-eqb m (get_or (methods_with_bodies v) b 0) (sym (mapped v.bodies b lt)) in
+    let f = first_found (nat_eq m) (methods_with_bodies v) 0 b (omega (arith, long)) hit in
+    let h = first_hit (nat_eq m) (methods_with_bodies v) 0 f.0 f.1 in
+    let low : f.0 < length v.bodies = let z = h.0 in omega (arith, long, z) in
+    let same : m ≡ (body_at v f.0).method = eqb-true m (get_or (methods_with_bodies v) f.0 0) h.1 ∙ mapped v.bodies f.0 low in
+    f.1 ∙ ap (λ (i : ℕ). Some i) (own.apart f.0 b low lt (sym same))
+
+pub all_typed : (l : LinkedFile) → IsVerified l → HasOwnMethods l.file → AllTyped l
+all_typed l h own = λ b lt. h (body_at l.file b).method (own.known b lt) b (own_body l.file own b lt)
+
+-- ---- one method
+
+pub typed_along : (l : LinkedFile) (a b : Routine) → a ≡ b → HasTyping l a → HasTyping l b
+typed_along l a b e h = subst (λ (r : Routine). HasTyping l r) e h
+
+pub refused_along : (l : LinkedFile) (a b : Routine) (e : Refusal) → a ≡ b → RefusedBy l a e → RefusedBy l b e
+refused_along l a b e q h = subst (λ (r : Routine). RefusedBy l r e) q h
+
+pub is_typed : (l : LinkedFile) (m b : ℕ) → body_of l.file m ≡ Some b → HasTyping l (routine l b) → IsTyped l m
+is_typed l m b e h = λ k f. (let q : b ≡ k = cc in subst (λ (i : ℕ). HasTyping l (routine l i)) q h)
+
+pub not_typed : (l : LinkedFile) (m : ℕ) → body_of l.file m ≡ None → IsTyped l m
+not_typed l m e = λ b f. absurd cc
+
+pub no_memory : (l : LinkedFile) (r : Routine) (e : Refusal) → e ≡ flows.NoMemory → RefusedBy l r e
+no_memory l r flows.NoMemory q = tt
+no_memory l r (flows.Refused i k) q = absurd cc
+
+pub refused : (l : LinkedFile) (m b : ℕ) (e : Refusal) (x : VerifyError) → IsLinkedFile l → body_of l.file m ≡ Some b → RefusedBy l (routine l b) e → x ≡ refused_of m b e → IsRefusedAt l m x
+refused l m b e x t is h q = subst (IsRefusedAt l m) (sym q) (go e h)
+  where
+    go : (e : Refusal) → RefusedBy l (routine l b) e → IsRefusedAt l m (refused_of m b e)
+    go flows.NoMemory h = tt
+    go (flows.Refused i r) h = (refl, record { of_method = is; refuted = h; untyped = λ y. typed_not_refuted l (routine l b) (good l t) y (i, r, h) })
+
+-- ---- all methods
+
+pub none_typed : (l : LinkedFile) → AreTyped l 0
+none_typed l = λ m h. absurd (omega arith)
+
+pub more_typed : (l : LinkedFile) (m : ℕ) → AreTyped l m → IsTyped l m → AreTyped l (m + 1)
+more_typed l m h one = below_more _ _ h one
+
+pub whole : (l : LinkedFile) (n : ℕ) → n ≡ length l.file.methods → AreTyped l n → IsVerified l
+whole l n e h = subst (λ (k : ℕ). AreTyped l k) e h
+
+pub first_refused : (l : LinkedFile) (m : ℕ) (e : VerifyError) → m < length l.file.methods → AreTyped l m → IsRefusedAt l m e → IsRefusal l e
+first_refused l m NoMemory lt h r = tt
+first_refused l m (Refused k b i rule) lt h r = subst (λ (n : ℕ). (n < length l.file.methods) × AreTyped l n × IsUntyped l k b i rule) (sym r.0) (lt, h, r.1)

@@ -1,0 +1,12 @@
+use Rattle.std.proofs.Common.{◌≡◌, length, arith}
+use Rattle.abc_verify.proofs.Methods.{more_typed, none_typed, whole}
+use Rattle.abc_verify.proofs.verify.check_methods.Goals as goal
+
+pub loop-method-init : goal.loop-method-init
+loop-method-init c = none_typed c.args.linked.now
+
+pub loop-method-preserved : goal.loop-method-preserved
+loop-method-preserved c = more_typed c.args.linked.now c.loop-method.method c.loop-method.invariant c.in_ok-check_method.ensures
+
+pub returns : goal.returns
+returns c = whole c.args.linked.now c.loop-method.method (omega (arith, c.requires.all)) c.loop-method.invariant
