@@ -2,12 +2,12 @@
 //! that refute each of its typings.
 #![tactic(auto)]
 
+mod checked;
+mod checking;
 mod error;
 mod flowing;
-mod verified;
-mod verify;
 
 pub use abc_typing::VerifyRule;
+pub use checked::Verified;
+pub use checking::verify;
 pub use error::VerifyError;
-pub use verified::Verified;
-pub use verify::verify;

@@ -10,7 +10,7 @@ ghost use Rattle.abc_verify.specs.Typed.{AllTyped, HasOwnMethods, IsTyped, IsVer
 
 use crate::error::VerifyError;
 use crate::flowing::Flowing;
-use crate::verified::Verified;
+use crate::checked::Verified;
 use abc_flow::{Refusal, check_flow};
 use abc_frames::{Frame, frame_of};
 use abc_heads::heads_of;

@@ -1,6 +1,6 @@
 use Rattle.std.proofs.Common.{◌≡◌, length, arith}
 use Rattle.abc_verify.proofs.Methods.{more_typed, none_typed, whole}
-use Rattle.abc_verify.proofs.verify.check_methods.Goals as goal
+use Rattle.abc_verify.proofs.checking.check_methods.Goals as goal
 
 pub loop-method-init : goal.loop-method-init
 loop-method-init c = none_typed c.args.linked.now

@@ -1,5 +1,5 @@
 use Rattle.abc_verify.proofs.Methods.{body_inside, is_typed, refused}
-use Rattle.abc_verify.proofs.verify.check_numbered.Goals as goal
+use Rattle.abc_verify.proofs.checking.check_numbered.Goals as goal
 
 pub check_body-requires : goal.check_body-requires
 check_body-requires c = record { linked = c.requires.linked; inside = body_inside c.args.linked.now.file c.args.method c.args.body c.requires.of_method }
