@@ -111,15 +111,25 @@ is_join p a b j h = record {
 -- ---- the order has no two that are at most each other
 
 kind_antisym : (p : LinkedFile) → IsLinkedFile p → (a b : Kind) → IsAtMost p a b → IsAtMost p b a → a ≡ b
-kind_antisym p t (Obj x) (Obj y) h k = ap (λ (n : ℕ). Obj (record { 0 = n })) (below_antisym p t x.0 y.0 h k)
 kind_antisym p t Any Any h k = refl
+kind_antisym p t Any b h k = absurd h
 kind_antisym p t Undef Undef h k = refl
+kind_antisym p t Undef b h k = absurd k
 kind_antisym p t Null Null h k = refl
+kind_antisym p t Null b h k = absurd k
 kind_antisym p t Num Num h k = refl
+kind_antisym p t Num b h k = absurd k
 kind_antisym p t Truth Truth h k = refl
+kind_antisym p t Truth b h k = absurd k
 kind_antisym p t Text Text h k = refl
+kind_antisym p t Text Null h k = absurd h
+kind_antisym p t Text b h k = absurd k
 kind_antisym p t Space Space h k = refl
-kind_antisym p t a b h k = grind arith
+kind_antisym p t Space Null h k = absurd h
+kind_antisym p t Space b h k = absurd k
+kind_antisym p t (Obj x) (Obj y) h k = ap (λ (n : ℕ). Obj (record { 0 = n })) (below_antisym p t x.0 y.0 h k)
+kind_antisym p t (Obj x) Null h k = absurd h
+kind_antisym p t (Obj x) b h k = absurd k
 
 lists_antisym : {X : Type 0} (S : X → X → Type 0) → ((x y : X) → S x y → S y x → x ≡ y) → (xs ys : List X) → Each2 S xs ys → Each2 S ys xs → xs ≡ ys
 lists_antisym S f [] [] h k = refl
