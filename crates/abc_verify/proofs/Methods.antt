@@ -1,7 +1,10 @@
 -- Methods and their bodies.
-use Rattle.std.proofs.Common.{◌≡◌, ℕ, zero, suc, ◌+◌, ◌<◌, ◌≤◌, List, [], ◌∷◌, Some, None, Bool, true, length, map, get_or, nat_eq, refl, sym, ap, ◌∙◌, subst, arith, eq-eqb, eqb-true, below_more}
+use Rattle.std.proofs.Common.{◌≡◌, ℕ, zero, suc, ◌+◌, ◌<◌, ◌≤◌, List, [], ◌∷◌, Some, None, Bool, true, length, map, get_or, nat_eq, refl, sym, ap, ◌∙◌, subst, arith, ◌⊎◌, inl, inr, eq-eqb, eqb-true, below_more}
+use Rattle.std.proofs.lemmas.Bool.{cases_lt}
 use Rattle.std.proofs.lemmas.List.{length-map}
-use Rattle.abc_flow.specs.Walking.{AreHeads, RefusedBy}
+use Rattle.abc_fits.proofs.BodiesFit.{bodies_fit, methods_below}
+use Rattle.abc_fits.proofs.FileFits.{file_fits, tables_fit}
+use Rattle.abc_flow.specs.Walking.{RefusedBy}
 use Rattle.abc_flow.specs.declared.step.Refusal.{Refusal}
 use Rattle.abc_flow.specs.declared.step.Refusal.TheVariants as flows
 use Rattle.abc_index.specs.Index.{first}
@@ -10,6 +13,8 @@ use Rattle.abc_program.specs.Owners.{body_of}
 use Rattle.abc_rules.specs.Methods.{methods_with_bodies}
 use Rattle.abc_rules.specs.Parts.{body_at, no_body}
 use Rattle.abc_rules.proofs.Pairs.{first_found, first_hit}
+use Rattle.abc_tables.specs.Classes.{sizes_of}
+use Rattle.abc_tables.specs.Files.{Fits}
 use Rattle.abc_tables.specs.declared.code.Body.{Body}
 use Rattle.abc_tables.specs.declared.tables.Abc.{Abc}
 use Rattle.abc_typing.specs.Routines.{Routine, routine}
@@ -18,7 +23,7 @@ use Rattle.abc_typing.specs.declared.rule.VerifyRule.{VerifyRule}
 use Rattle.abc_typing.proofs.Good.{good}
 use Rattle.abc_worklist.proofs.Exact.{typed_not_refuted}
 use Rattle.abc_verify.specs.Refusing.{IsRefusal, IsRefusedAt, IsUntyped, refused_of}
-use Rattle.abc_verify.specs.Typed.{AllTyped, AreTyped, HasOwnMethods, IsTyped, IsVerified}
+use Rattle.abc_verify.specs.Typed.{AllTyped, AreTyped, IsTyped, IsVerified}
 use Rattle.abc_verify.specs.declared.error.VerifyError.{VerifyError}
 use Rattle.abc_verify.specs.declared.error.VerifyError.TheVariants.{NoMemory, Refused}
 
@@ -28,20 +33,36 @@ use Rattle.abc_verify.specs.declared.error.VerifyError.TheVariants.{NoMemory, Re
 pub body_inside : (v : Abc) (m b : ℕ) → body_of v m ≡ Some b → b < length v.bodies
 body_inside v m b e =
     let h = first_hit (nat_eq m) (methods_with_bodies v) 0 b e in
-    let long : length (methods_with_bodies v) ≡ length v.bodies = length-map (λ (x : Body). x.method) v.bodies in
+    let long : length (methods_with_bodies v) ≡ length v.bodies = length-map v.bodies (λ (x : Body). x.method) in
     let lt = h.0 in
     omega (arith, lt, long)
 
-mapped : (xs : List Body) (i : ℕ) → i < length xs → get_or (map (λ x. x.method) xs) i 0 ≡ (get_or xs i no_body).method
+mapped : (xs : List Body) (i : ℕ) → i < length xs → get_or (map (λ (x : Body). x.method) xs) i 0 ≡ (get_or xs i no_body).method
 mapped [] i h = absurd (omega arith)
 mapped (x ∷ xs) zero h = refl
 mapped (x ∷ xs) (suc i) h = mapped xs i (omega arith)
+
+-- each body is of a method of the file, and no two are of one
+record HasOwnMethods (v : Abc) : Type 0 where
+  known : (b : ℕ) → b < length v.bodies → (body_at v b).method < length v.methods
+  apart : (a b : ℕ) → a < length v.bodies → b < length v.bodies → (body_at v a).method ≡ (body_at v b).method → a ≡ b
+
+own_methods : (v : Abc) → Fits v → HasOwnMethods v
+own_methods v fits =
+    let f = (bodies_fit v).0 ((tables_fit v).0 ((file_fits v).0 fits).1).2 in
+    record {
+      known = λ b lt. methods_below (sizes_of v) v.bodies f.1 b no_body lt;
+      apart = λ a b la lb e. elim (cases_lt a b) [
+        inl lt ↦ absurd (f.2 a b no_body lt lb e)
+        | inr le ↦ elim (cases_lt b a) [ inl gt ↦ absurd (f.2 b a no_body gt la (sym e)) | inr ge ↦ omega arith ]
+      ];
+    }
 
 -- each body is that of its method
 own_body : (v : Abc) → HasOwnMethods v → (b : ℕ) → b < length v.bodies → body_of v (body_at v b).method ≡ Some b
 own_body v own b lt =
     let m = (body_at v b).method in
-    let long : length (methods_with_bodies v) ≡ length v.bodies = length-map (λ (x : Body). x.method) v.bodies in
+    let long : length (methods_with_bodies v) ≡ length v.bodies = length-map v.bodies (λ (x : Body). x.method) in
     let hit : nat_eq m (get_or (methods_with_bodies v) b 0) ≡ true = eq-eqb m (get_or (methods_with_bodies v) b 0) (sym (mapped v.bodies b lt)) in
     let f = first_found (nat_eq m) (methods_with_bodies v) 0 b (omega (arith, long)) hit in
     let h = first_hit (nat_eq m) (methods_with_bodies v) 0 f.0 f.1 in
@@ -49,8 +70,8 @@ own_body v own b lt =
     let same : m ≡ (body_at v f.0).method = eqb-true m (get_or (methods_with_bodies v) f.0 0) h.1 ∙ mapped v.bodies f.0 low in
     f.1 ∙ ap (λ (i : ℕ). Some i) (own.apart f.0 b low lt (sym same))
 
-pub all_typed : (l : LinkedFile) → IsVerified l → HasOwnMethods l.file → AllTyped l
-all_typed l h own = λ b lt. h (body_at l.file b).method (own.known b lt) b (own_body l.file own b lt)
+pub all_typed : (l : LinkedFile) → IsVerified l → Fits l.file → AllTyped l
+all_typed l h fits = λ b lt. let own = own_methods l.file fits in h (body_at l.file b).method (own.known b lt) b (own_body l.file own b lt)
 
 -- ---- one method
 

@@ -2,8 +2,6 @@
 use Rattle.std.specs.Prelude.{◌≡◌, ℕ, ◌<◌, Some, length}
 use Rattle.abc_program.specs.Linked.{LinkedFile}
 use Rattle.abc_program.specs.Owners.{body_of}
-use Rattle.abc_rules.specs.Parts.{body_at}
-use Rattle.abc_tables.specs.declared.tables.Abc.{Abc}
 use Rattle.abc_typing.specs.Routines.{routine}
 use Rattle.abc_typing.specs.Typing.{HasTyping}
 
@@ -22,8 +20,3 @@ IsVerified l = AreTyped l (length l.file.methods)
 -- every body has a typing
 abbrev pub AllTyped : LinkedFile → Type 0
 AllTyped l = (b : ℕ) → b < length l.file.bodies → HasTyping l (routine l b)
-
--- each body is of a method of the file, and no two are of one: so it is in every file that some bytes spell
-pub record HasOwnMethods (v : Abc) : Type 0 where
-  pub known : (b : ℕ) → b < length v.bodies → (body_at v b).method < length v.methods
-  pub apart : (a b : ℕ) → a < length v.bodies → b < length v.bodies → (body_at v a).method ≡ (body_at v b).method → a ≡ b

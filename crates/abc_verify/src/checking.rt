@@ -2,11 +2,12 @@ ghost use Rattle.std.specs.Prelude.{◌≡◌, ◌<◌, ◌×◌, Some, MatchRes
 ghost use Rattle.abc_frames.specs.Frames.{routine_in};
 ghost use Rattle.abc_program.specs.Linked.{IsLinkedFile};
 ghost use Rattle.abc_program.specs.Owners.{body_of as body_of_method};
+ghost use Rattle.abc_tables.specs.Files.{Fits};
 ghost use Rattle.abc_typing.specs.Routines.{routine};
 ghost use Rattle.abc_typing.specs.Typing.{HasTyping};
 ghost use Rattle.abc_flow.specs.Walking.{RefusedBy};
 ghost use Rattle.abc_verify.specs.Refusing.{IsRefusal, IsRefusedAt, refused_of};
-ghost use Rattle.abc_verify.specs.Typed.{AllTyped, HasOwnMethods, IsTyped, IsVerified};
+ghost use Rattle.abc_verify.specs.Typed.{AllTyped, IsTyped, IsVerified};
 
 use crate::error::VerifyError;
 use crate::flowing::Flowing;
@@ -117,11 +118,11 @@ fn method_count(linked: &Linked) -> u32
     linked.abc().methods.len() as u32
 }
 
-/// Verifies all methods that have bodies, in the order of their numbers, and so every body of a file that some bytes spell. It
+/// Verifies all methods that have bodies, in the order of their numbers, and so every body of a file that fits. It
 /// answers [`VerifyError::Refused`] exactly where a method's body has no typing, with the first such method, and
 /// [`VerifyError::NoMemory`] where memory runs out.
 pub fn verify(alloc: Global, linked: Linked) -> Result<Verified, VerifyError>
-    ensures { MatchResult result (λ v. (v ≡ linked) × IsVerified linked × (HasOwnMethods linked.file → AllTyped linked)) (IsRefusal linked) }
+    ensures { MatchResult result (λ v. (v ≡ linked) × IsVerified linked × (Fits linked.file → AllTyped linked)) (IsRefusal linked) }
 {
     linked.linked_law();
     let count = method_count(&linked);
