@@ -104,7 +104,7 @@ pub none_typed : (l : LinkedFile) → AreTyped l 0
 none_typed l = λ m h. absurd (omega arith)
 
 pub more_typed : (l : LinkedFile) (m : ℕ) → AreTyped l m → IsTyped l m → AreTyped l (m + 1)
-more_typed l m h one = below_more _ _ h one
+more_typed l m h one = below_more (λ (k : ℕ). IsTyped l k) m h one
 
 pub whole : (l : LinkedFile) (n : ℕ) → n ≡ length l.file.methods → AreTyped l n → IsVerified l
 whole l n e h = subst (λ (k : ℕ). AreTyped l k) e h
