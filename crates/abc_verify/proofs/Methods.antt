@@ -17,15 +17,13 @@ use Rattle.abc_tables.specs.Classes.{sizes_of}
 use Rattle.abc_tables.specs.Files.{Fits}
 use Rattle.abc_tables.specs.declared.code.Body.{Body}
 use Rattle.abc_tables.specs.declared.tables.Abc.{Abc}
-use Rattle.abc_typing.specs.Routines.{Routine, routine}
-use Rattle.abc_typing.specs.Typing.{HasTyping, IsRefuted, Refutes}
-use Rattle.abc_typing.specs.declared.rule.VerifyRule.{VerifyRule}
+use Rattle.abc_typing.specs.Routines.{routine}
+use Rattle.abc_typing.specs.Typing.{HasTyping}
 use Rattle.abc_typing.proofs.Good.{good}
 use Rattle.abc_worklist.proofs.Exact.{typed_not_refuted}
-use Rattle.abc_verify.specs.Refusing.{IsRefusal, IsRefusedAt, IsUntyped, refused_of}
+use Rattle.abc_verify.specs.Refusing.{IsRefusal, refused_of}
 use Rattle.abc_verify.specs.Typed.{AllTyped, AreTyped, IsTyped, IsVerified}
 use Rattle.abc_verify.specs.declared.error.VerifyError.{VerifyError}
-use Rattle.abc_verify.specs.declared.error.VerifyError.TheVariants.{NoMemory, Refused}
 
 -- ---- bodies
 
@@ -75,28 +73,18 @@ all_typed l h fits = λ b lt. let own = own_methods l.file fits in h (body_at l.
 
 -- ---- one method
 
-pub typed_along : (l : LinkedFile) (a b : Routine) → a ≡ b → HasTyping l a → HasTyping l b
-typed_along l a b e h = subst (λ (r : Routine). HasTyping l r) e h
-
-pub refused_along : (l : LinkedFile) (a b : Routine) (e : Refusal) → a ≡ b → RefusedBy l a e → RefusedBy l b e
-refused_along l a b e q h = subst (λ (r : Routine). RefusedBy l r e) q h
-
 pub is_typed : (l : LinkedFile) (m b : ℕ) → body_of l.file m ≡ Some b → HasTyping l (routine l b) → IsTyped l m
 is_typed l m b e h = λ k f. (let q : b ≡ k = cc in subst (λ (i : ℕ). HasTyping l (routine l i)) q h)
 
 pub not_typed : (l : LinkedFile) (m : ℕ) → body_of l.file m ≡ None → IsTyped l m
 not_typed l m e = λ b f. absurd cc
 
-pub no_memory : (l : LinkedFile) (r : Routine) (e : Refusal) → e ≡ flows.NoMemory → RefusedBy l r e
-no_memory l r flows.NoMemory q = tt
-no_memory l r (flows.Refused i k) q = absurd cc
-
-pub refused : (l : LinkedFile) (m b : ℕ) (e : Refusal) (x : VerifyError) → IsLinkedFile l → body_of l.file m ≡ Some b → RefusedBy l (routine l b) e → x ≡ refused_of m b e → IsRefusedAt l m x
-refused l m b e x t is h q = subst (IsRefusedAt l m) (sym q) (go e h)
+pub refused : (l : LinkedFile) (m b : ℕ) (e : Refusal) (x : VerifyError) → IsLinkedFile l → m < length l.file.methods → AreTyped l m → body_of l.file m ≡ Some b → RefusedBy l (routine l b) e → x ≡ refused_of m b e → IsRefusal l x
+refused l m b e x t lt before is h q = subst (IsRefusal l) (sym q) (go e h)
   where
-    go : (e : Refusal) → RefusedBy l (routine l b) e → IsRefusedAt l m (refused_of m b e)
+    go : (e : Refusal) → RefusedBy l (routine l b) e → IsRefusal l (refused_of m b e)
     go flows.NoMemory h = tt
-    go (flows.Refused i r) h = (refl, record { of_method = is; refuted = h; untyped = λ y. typed_not_refuted l (routine l b) (good l t) y (i, r, h) })
+    go (flows.Refused i r) h = (lt, before, record { of_method = is; refuted = h; untyped = λ y. typed_not_refuted l (routine l b) (good l t) y (i, r, h) })
 
 -- ---- all methods
 
@@ -108,7 +96,3 @@ more_typed l m h one = below_more (λ (k : ℕ). IsTyped l k) m h one
 
 pub whole : (l : LinkedFile) (n : ℕ) → n ≡ length l.file.methods → AreTyped l n → IsVerified l
 whole l n e h = subst (λ (k : ℕ). AreTyped l k) e h
-
-pub first_refused : (l : LinkedFile) (m : ℕ) (e : VerifyError) → m < length l.file.methods → AreTyped l m → IsRefusedAt l m e → IsRefusal l e
-first_refused l m NoMemory lt h r = tt
-first_refused l m (Refused k b i rule) lt h r = subst (λ (n : ℕ). (n < length l.file.methods) × AreTyped l n × IsUntyped l k b i rule) (sym r.0) (lt, h, r.1)

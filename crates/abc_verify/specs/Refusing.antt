@@ -17,12 +17,8 @@ pub record IsUntyped (l : LinkedFile) (m b i : ℕ) (r : VerifyRule) : Type 0 wh
   pub refuted : Refutes l (routine l b) i r
   pub untyped : HasTyping l (routine l b) → ⊥
 
--- a refusal of this method; want of memory is free
-abbrev pub IsRefusedAt : LinkedFile → ℕ → VerifyError → Type 0
-IsRefusedAt l m NoMemory = Unit {0}
-IsRefusedAt l m (Refused k b i r) = (k ≡ m) × IsUntyped l k b i r
-
--- a refusal names the first method whose body has no typing, with a place and a rule that refute each
+-- a refusal names the first method whose body has no typing, with a place and a rule that refute each; want of
+-- memory is free
 abbrev pub IsRefusal : LinkedFile → VerifyError → Type 0
 IsRefusal l NoMemory = Unit {0}
 IsRefusal l (Refused m b i r) = (m < length l.file.methods) × AreTyped l m × IsUntyped l m b i r

@@ -6,8 +6,8 @@ ghost use Rattle.abc_tables.specs.Files.{Fits};
 ghost use Rattle.abc_typing.specs.Routines.{routine};
 ghost use Rattle.abc_typing.specs.Typing.{HasTyping};
 ghost use Rattle.abc_flow.specs.Walking.{RefusedBy};
-ghost use Rattle.abc_verify.specs.Refusing.{IsRefusal, IsRefusedAt, refused_of};
-ghost use Rattle.abc_verify.specs.Typed.{AllTyped, IsTyped, IsVerified};
+ghost use Rattle.abc_verify.specs.Refusing.{IsRefusal, refused_of};
+ghost use Rattle.abc_verify.specs.Typed.{AllTyped, AreTyped, IsTyped, IsVerified};
 
 use crate::error::VerifyError;
 use crate::flowing::Flowing;
@@ -38,20 +38,17 @@ fn check_frame(alloc: Global, linked: &Linked, frame: &Frame<'_>) -> Result<(), 
         frame,
         heads: &heads,
     };
-    check_flow(&flow)?;
-    Ok(())
+    check_flow(&flow)
 }
 
 /// Verifies a body.
-#[tactic(auto, using(crate::proofs::Methods::refused_along))]
 fn check_body(alloc: Global, linked: &Linked, body: u32) -> Result<(), Refusal>
     requires linked { IsLinkedFile linked.now }
     requires inside { body < length linked.now.file.bodies }
     ensures { MatchResult result (λ _. HasTyping linked.now (routine linked.now body)) (λ e. RefusedBy linked.now (routine linked.now body) e) }
 {
     let frame = frame_of(alloc, linked, body)?;
-    check_frame(alloc, linked, &frame)?;
-    Ok(())
+    check_frame(alloc, linked, &frame)
 }
 
 /// The refusal of a method with this body.
@@ -69,7 +66,7 @@ fn refusal_of(method: u32, body: u32, refusal: Refusal) -> VerifyError
     }
 }
 
-/// Verifies a method that has this body.
+/// Verifies a method that has this body, where those before have typings.
 fn check_numbered(
     alloc: Global,
     linked: &Linked,
@@ -77,8 +74,10 @@ fn check_numbered(
     body: u32,
 ) -> Result<(), VerifyError>
     requires linked { IsLinkedFile linked.now }
+    requires inside { method < length linked.now.file.methods }
+    requires before { AreTyped linked.now method }
     requires of_method { body_of_method linked.now.file method ≡ Some body }
-    ensures { MatchResult result (λ _. IsTyped linked.now method) (IsRefusedAt linked.now method) }
+    ensures { MatchResult result (λ _. IsTyped linked.now method) (IsRefusal linked.now) }
 {
     match check_body(alloc, linked, body) {
         Ok(()) => Ok(()),
@@ -86,10 +85,12 @@ fn check_numbered(
     }
 }
 
-/// Verifies a method, if it has a body.
+/// Verifies a method, if it has a body, where those before have typings.
 fn check_method(alloc: Global, linked: &Linked, method: u32) -> Result<(), VerifyError>
-    requires { IsLinkedFile linked.now }
-    ensures { MatchResult result (λ _. IsTyped linked.now method) (IsRefusedAt linked.now method) }
+    requires linked { IsLinkedFile linked.now }
+    requires inside { method < length linked.now.file.methods }
+    requires before { AreTyped linked.now method }
+    ensures { MatchResult result (λ _. IsTyped linked.now method) (IsRefusal linked.now) }
 {
     match linked.body_of(method) {
         Some(body) => check_numbered(alloc, linked, method, body),
@@ -98,7 +99,6 @@ fn check_method(alloc: Global, linked: &Linked, method: u32) -> Result<(), Verif
 }
 
 /// Verifies all methods, in the order of their numbers.
-#[tactic(auto, using(crate::proofs::Methods::first_refused))]
 fn check_methods(alloc: Global, linked: &Linked, count: u32) -> Result<(), VerifyError>
     requires linked { IsLinkedFile linked.now }
     requires all { count ≡ length linked.now.file.methods }

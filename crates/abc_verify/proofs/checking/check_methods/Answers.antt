@@ -1,6 +1,9 @@
-use Rattle.std.proofs.Common.{◌≡◌, length, arith}
+use Rattle.std.proofs.Common.{◌≡◌, ◌<◌, length, arith}
 use Rattle.abc_verify.proofs.Methods.{more_typed, none_typed, whole}
 use Rattle.abc_verify.proofs.checking.check_methods.Goals as goal
+
+pub check_method-requires : goal.check_method-requires
+check_method-requires c = record { linked = c.requires.linked; inside = omega (arith, c.requires.all); before = c.loop-method.invariant }
 
 pub loop-method-init : goal.loop-method-init
 loop-method-init c = none_typed c.args.linked.now

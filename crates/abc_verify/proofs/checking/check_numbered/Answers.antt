@@ -8,4 +8,4 @@ pub returns-in-Ok : goal.returns-in-Ok
 returns-in-Ok c = is_typed c.args.linked.now c.args.method c.args.body c.requires.of_method c.in-Ok.ensures
 
 pub returns-in-Err : goal.returns-in-Err
-returns-in-Err c = refused c.args.linked.now c.args.method c.args.body c.in-Err.refusal _ c.requires.linked c.requires.of_method c.in-Err.ensures c.refusal_of.ensures
+returns-in-Err c = refused c.args.linked.now c.args.method c.args.body c.in-Err.refusal _ c.requires.linked c.requires.inside c.requires.before c.requires.of_method c.in-Err.ensures c.refusal_of.ensures
