@@ -84,7 +84,7 @@ refused l m b e x t lt before is h q = subst (IsRefusal l) (sym q) (go e h)
   where
     go : (e : Refusal) → RefusedBy l (routine l b) e → IsRefusal l (refused_of m b e)
     go flows.NoMemory h = tt
-    go (flows.Refused i r) h = (lt, before, record { of_method = is; refuted = h; untyped = λ y. typed_not_refuted l (routine l b) (good l t) y (i, r, h) })
+    go (flows.Refused i r) h = (lt, before, record { of_method = is; refuted = h; untyped = λ y. typed_not_refuted l (routine l b) (good l t) y (i, (r, h)) })
 
 -- ---- all methods
 
