@@ -1,3 +1,4 @@
+pub mod Loops
 pub mod Needs
 pub mod Stepping
 pub mod Takes

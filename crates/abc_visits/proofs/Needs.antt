@@ -1,7 +1,6 @@
 -- Needs with the parts of a name opened, one after the other.
 use Rattle.std.proofs.Common.{◌≡◌, ℕ, zero, suc, ◌+◌, ◌*◌, ◌^◌, ◌<◌, ◌≤◌, Bool, true, false, cond, ◌&&◌, List, [], ◌∷◌, ◌++◌, Some, None, length, take, drop, get_or, set, slice_get, refl, sym, ap, ◌∙◌, subst, arith, length-append}
 use Rattle.std.specs.Prelude.{filter, flat_map}
-use Rattle.std.proofs.Math.Seq.{drop-cons}
 use Rattle.abc_program.specs.declared.types.Kind.{Kind}
 use Rattle.abc_program.specs.declared.types.Kind.TheVariants.{Any}
 use Rattle.abc_shapes.specs.declared.row.Need.{Need}
@@ -196,10 +195,7 @@ set_past [] k x h = refl
 set_past (y ∷ xs) zero x h = absurd (omega arith)
 set_past {X} (y ∷ xs) (suc k) x h = ap (λ (ys : List X). y ∷ ys) (set_past xs k x (omega arith))
 
--- ---- loops
-
-pub drop_next : {X : Type 0} (xs : List X) (k : ℕ) (d : X) → k < length xs → drop k xs ≡ get_or xs k d ∷ drop (k + 1) xs
-drop_next {X} xs k d h = let next : suc k ≡ k + 1 = omega arith in drop-cons xs k d h ∙ ap (λ (n : ℕ). get_or xs k d ∷ drop n xs) next
+-- ---- handlers
 
 pub filter_twice : (test : Catch → Bool) (hs : List Catch) → filter test (filter test hs) ≡ filter test hs
 filter_twice test [] = refl

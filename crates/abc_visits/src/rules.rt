@@ -110,7 +110,8 @@ impl Visit<'_> {
     {
         let size = self.frame.max_stack as usize;
         let kept = state.stack.len().saturating_sub(self.depth());
-        fits(kept, gives_count(self.row.gives), size) && (size > 0 || !is_covered(handlers, self.place))
+        fits(kept, gives_count(self.row.gives), size)
+            && (size > 0 || !is_covered(handlers, self.place))
     }
 
     /// Whether a state keeps a rule.
@@ -152,7 +153,7 @@ impl Visit<'_> {
     }
 
     /// The first of some rules that a state breaks.
-    #[tactic(auto, using(crate::proofs::Needs::drop_next))]
+    #[tactic(auto, using(crate::proofs::Loops::rule_next, crate::proofs::Loops::rule_stops))]
     fn first_broken(&self, state: &State, handlers: &[Catch], rules: &[VerifyRule]) -> Option<VerifyRule>
         requires { filter (covers self.now.place) handlers.now ≡ covering (routine_in self.now.frame.now) self.now.place }
         ensures { result ≡ first_broken (keeps (here_in self.now) state.now) rules.now }

@@ -1,4 +1,4 @@
-ghost use Rattle.std.specs.Prelude.{◌≡◌, filter, length, map, not};
+ghost use Rattle.std.specs.Prelude.{◌≡◌, ◌||◌, filter, length, ltb, map, not};
 ghost use Rattle.abc_shapes.specs.Instructions.{operand as operand_in, targets};
 ghost use Rattle.abc_typing.specs.Effects.{covers, leads as leads_of};
 ghost use Rattle.abc_typing.specs.Rules.{all_below, handler_target, in_table, is_empty};
@@ -12,7 +12,7 @@ use abc_tables::Instr;
 use abc_typing::Catch;
 
 /// Whether places are below the code's end.
-#[tactic(auto, using(crate::proofs::Needs::drop_next))]
+#[tactic(auto, using(crate::proofs::Loops::below_next, crate::proofs::Loops::below_stops))]
 fn are_below(places: &[u32], end: usize) -> bool
     ensures { result ≡ all_below places.now end }
 {
@@ -51,7 +51,7 @@ fn covers_place(handler: &Catch, place: u32) -> bool
 }
 
 /// Whether one of some handlers covers a place.
-#[tactic(auto, using(crate::proofs::Needs::drop_next))]
+#[tactic(auto, using(crate::proofs::Loops::uncovered, crate::proofs::Loops::covered))]
 pub(crate) fn is_covered(handlers: &[Catch], place: u32) -> bool
     ensures { not result ≡ is_empty (filter (covers place) handlers.now) }
 {
@@ -63,13 +63,20 @@ pub(crate) fn is_covered(handlers: &[Catch], place: u32) -> bool
     false
 }
 
+/// Whether a handler doesn't cover a place, or its target is below the code's end.
+fn is_inside(handler: &Catch, place: u32, end: usize) -> bool
+    ensures { result ≡ (not (covers place handler.now) || ltb handler.now.target end) }
+{
+    !covers_place(handler, place) || (handler.target as usize) < end
+}
+
 /// Whether the targets of the handlers that cover a place are below the code's end.
-#[tactic(auto, using(crate::proofs::Needs::drop_next))]
+#[tactic(auto, using(crate::proofs::Loops::inside_next, crate::proofs::Loops::inside_stops))]
 pub(crate) fn are_handlers_below(handlers: &[Catch], place: u32, end: usize) -> bool
     ensures { result ≡ all_below (map handler_target (filter (covers place) handlers.now)) end }
 {
     for handler in handlers {
-        if covers_place(handler, place) && handler.target as usize >= end {
+        if !is_inside(handler, place, end) {
             return false;
         }
     }
