@@ -1,5 +1,5 @@
 -- Loops over places, handlers and rules: what is left after so many.
-use Rattle.std.proofs.Common.{◌≡◌, ℕ, suc, ◌+◌, ◌<◌, ◌≤◌, cond, Bool, true, false, ◌&&◌, ◌||◌, List, [], ◌∷◌, Some, None, length, drop, get_or, map, refl, sym, ap, ◌∙◌, arith}
+use Rattle.std.proofs.Common.{◌≡◌, ℕ, zero, suc, ◌+◌, ◌<◌, ◌≤◌, cond, Bool, true, false, ◌&&◌, ◌||◌, List, [], ◌∷◌, ◌++◌, Some, None, length, take, drop, get_or, map, refl, sym, ap, ◌∙◌, arith}
 use Rattle.std.specs.Prelude.{filter, not, ltb, Option}
 use Rattle.std.proofs.Math.Seq.{drop-cons}
 use Rattle.std.proofs.lemmas.Bool.{le-ltb, lt-ltb}
@@ -10,6 +10,14 @@ use Rattle.abc_typing.specs.declared.rule.VerifyRule.{VerifyRule}
 
 drop_next : {X : Type 0} (xs : List X) (k : ℕ) (d : X) → k < length xs → drop k xs ≡ get_or xs k d ∷ drop (k + 1) xs
 drop_next {X} xs k d h = let next : suc k ≡ k + 1 = omega arith in drop-cons xs k d h ∙ ap (λ (n : ℕ). get_or xs k d ∷ drop n xs) next
+
+pub take_next : {X : Type 0} (xs : List X) (k : ℕ) (x : X) → k < length xs → get_or xs k x ≡ x → take (k + 1) xs ≡ take k xs ++ x ∷ []
+take_next {X} xs k x h e = let next : k + 1 ≡ suc k = omega arith in ap (λ (n : ℕ). take n xs) next ∙ go xs k h ∙ ap (λ (y : X). take k xs ++ y ∷ []) e
+  where
+    go : (ys : List X) (j : ℕ) → j < length ys → take (suc j) ys ≡ take j ys ++ get_or ys j x ∷ []
+    go [] j h = absurd (omega arith)
+    go (y ∷ ys) zero h = refl
+    go (y ∷ ys) (suc j) h = ap (λ (zs : List X). y ∷ zs) (go ys j (omega arith))
 
 -- ---- places
 
@@ -54,7 +62,7 @@ inside_stops i e hs k d h q =
   where
     go : (b : Bool) (x : Catch) (fs : List Catch) → false ≡ (not b || ltb x.target e) → all_below (map handler_target (cond b (x ∷ fs) fs)) e ≡ false
     go true x fs q = sym (ap (λ (b : Bool). b && all_below (map handler_target fs) e) q)
-    go false x fs q = sym q
+    go false x fs q = absurd cc
 
 -- ---- rules
 

@@ -5,14 +5,16 @@ use Rattle.abc_flow.specs.Walking.{Steps, Wrote, WroteOne, WroteTwo, landing, le
 use Rattle.abc_flow.specs.declared.step.Step.{Step}
 use Rattle.abc_program.specs.Linked.{LinkedFile}
 use Rattle.abc_program.specs.declared.types.Kind.{Kind}
+use Rattle.abc_program.specs.declared.types.Kind.TheVariants as kinds
 use Rattle.abc_shapes.specs.Instructions.{local, opcode, second, targets}
 use Rattle.abc_shapes.specs.Rows.{Shape, row_at}
+use Rattle.abc_shapes.specs.declared.row.RowKind.TheVariants as rows
 use Rattle.abc_shapes.specs.declared.row.Leads.{Leads}
 use Rattle.abc_shapes.specs.declared.row.Leads.TheVariants.{Next, Branches, Jumps, Switches, Ends}
 use Rattle.abc_shapes.specs.declared.row.Locals.{Locals}
 use Rattle.abc_shapes.specs.declared.row.Locals.TheVariants.{Untouched, Reads, Sets, Walks}
 use Rattle.abc_tables.specs.declared.code.Instr.{Instr}
-use Rattle.abc_typing.specs.Effects.{Here, after, depth, goes_on, kind_at, kind_of, leads, locals_after, needs, next, scope_kind, scopes_after, taken}
+use Rattle.abc_typing.specs.Effects.{Here, after, depth, fixed, goes_on, kind_at, kind_of, leads, locals_after, needs, next, scope_kind, scopes_after, taken}
 use Rattle.abc_typing.specs.Routines.{Routine}
 use Rattle.abc_typing.specs.Rules.{after_instr, after_row, has_locals}
 use Rattle.abc_typing.specs.Standing.{Stands}
@@ -46,7 +48,7 @@ split true b e = e
 split false b e = absurd cc
 
 apart_by : (x y count : ℕ) → (ltb x count && (ltb y count && not (eqb x y))) ≡ true → x ≢ y
-apart_by x y count e q =
+apart_by x y count e = λ q.
     let z : not (eqb x y) ≡ true = split (ltb y count) (not (eqb x y)) (split (ltb x count) (ltb y count && not (eqb x y)) e) in
     let w : eqb x y ≡ true = eq-eqb x y q in
     let v : not true ≡ true = ap not (sym w) ∙ z in
@@ -55,8 +57,8 @@ apart_by x y count e q =
 wrote : (h : Here) (s : State) (l : Locals) (count : ℕ) → has_locals l h.instr count ≡ true → Wrote (written_by (change_of h s l)) s.locals (locals_after h s l)
 wrote h s Untouched count e = refl
 wrote h s Reads count e = refl
-wrote h s (Sets source) count e = record { kind = _; is = refl }
-wrote h s Walks count e = record { apart = apart_by (local h.instr) (second h.instr) count e; first = _; second = _; is = refl }
+wrote h s (Sets source) count e = record { kind = kind_of h s source; is = refl }
+wrote h s Walks count e = record { apart = apart_by (local h.instr) (second h.instr) count e; first = fixed h.file rows.Object; second = kinds.Num; is = refl }
 
 -- the locals that a step keeps by its rules
 kept_locals : (h : Here) (s : State) → IsFine h.file h.method h.place s → slice_get h.method.code h.place ≡ Some h.instr → row_at (opcode h.instr) ≡ Some h.row → has_locals h.row.locals h.instr h.method.local_count ≡ true

@@ -1,4 +1,4 @@
-ghost use Rattle.std.specs.Prelude.{◌≡◌, ◌++◌, ◌-◌, IfOk, OnOk, drop, length, set, take};
+ghost use Rattle.std.specs.Prelude.{◌≡◌, ◌++◌, ◌≤◌, IfOk, OnOk, drop, length, set, take};
 ghost use Rattle.abc_visits.specs.Visits.{changed, given_kinds, scoped, written_by};
 
 use abc_base::{NoMemory, Table};
@@ -30,14 +30,17 @@ pub(crate) fn change_stack(stack: &mut Stack<Kind>, depth: usize, given: Given) 
 {
     stack.drop_top(depth);
     match given {
-        Given::Nothing => {}
-        Given::One(a) => stack.push(a)?,
+        Given::Nothing => Ok(()),
+        Given::One(a) => {
+            stack.push(a)?;
+            Ok(())
+        }
         Given::Two(a, b) => {
             stack.push(b)?;
             stack.push(a)?;
+            Ok(())
         }
     }
-    Ok(())
 }
 
 /// Replaces the kind at a place, if there is one.
@@ -51,6 +54,7 @@ fn set_kind(kinds: &mut Table<Kind>, place: u32, kind: Kind)
 }
 
 /// So many scopes, from the bottom.
+#[tactic(auto, using(crate::proofs::Loops::take_next))]
 fn first_scopes(alloc: Global, scopes: &Table<Scope>, count: usize) -> Result<Table<Scope>, NoMemory>
     requires { count ≤ length scopes.now }
     ensures { IfOk result (λ t. t ≡ take count scopes.now) }
@@ -72,14 +76,17 @@ pub(crate) fn change_scopes(
     ensures { OnOk result (scopes.new ≡ scoped scoping kind scopes.old) }
 {
     match scoping {
-        Scoping::Stays => {}
-        Scoping::Pushes(is_with) => scopes.push(Scope { kind, is_with })?,
+        Scoping::Stays => Ok(()),
+        Scoping::Pushes(is_with) => {
+            scopes.push(Scope { kind, is_with })?;
+            Ok(())
+        }
         Scoping::Pops => {
             let count = scopes.len().saturating_sub(1);
             *scopes = first_scopes(alloc, scopes, count)?;
+            Ok(())
         }
     }
-    Ok(())
 }
 
 /// Changes the locals, and says which.

@@ -11,4 +11,3 @@ mod visit;
 
 pub use rules::{broken_at, broken_early_at};
 pub use step::step_at;
-pub use visit::Visit;

@@ -4,7 +4,7 @@ ghost use Rattle.abc_shapes.specs.Rows.{row_at};
 ghost use Rattle.abc_shapes.specs.Table.{sources};
 ghost use Rattle.abc_typing.specs.Effects.{covering, covers};
 ghost use Rattle.abc_typing.specs.Rules.{at_row, broken, broken_early, early_rules, first_broken, is_here, is_walked, keeps, late_rules, names_scope};
-ghost use Rattle.abc_typing.specs.declared.rule.VerifyRule.TheVariants as rules;
+ghost use Rattle.abc_typing.specs.declared.rule.VerifyRule.TheVariants as variants;
 ghost use Rattle.abc_frames.specs.Frames.{routine_in};
 ghost use Rattle.abc_visits.specs.Visits.{here_in};
 
@@ -106,7 +106,7 @@ impl Visit<'_> {
     /// Whether the stack keeps to its size, with a value that is caught.
     fn fits_stack(&self, state: &State, handlers: &[Catch]) -> bool
         requires { filter (covers self.now.place) handlers.now ≡ covering (routine_in self.now.frame.now) self.now.place }
-        ensures { result ≡ keeps (here_in self.now) state.now rules.StackOver }
+        ensures { result ≡ keeps (here_in self.now) state.now variants.StackOver }
     {
         let size = self.frame.max_stack as usize;
         let kept = state.stack.len().saturating_sub(self.depth());

@@ -61,9 +61,11 @@ fn leads_away(leads: Leads) -> bool
 fn step_of(goes: bool, leads: Leads, written: Written) -> Step
     ensures { result ≡ step_by goes leads written }
 {
+    let on = leads_on(leads);
+    let away = leads_away(leads);
     Step {
-        next: goes && leads_on(leads),
-        jumps: goes && leads_away(leads),
+        next: goes && on,
+        jumps: goes && away,
         written,
     }
 }

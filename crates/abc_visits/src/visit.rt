@@ -13,7 +13,7 @@ use abc_tables::Instr;
 
 /// An instruction at its place in a method, with its row.
 #[derive(Clone, Copy)]
-pub struct Visit<'a> {
+pub(crate) struct Visit<'a> {
     pub linked: &'a Linked,
     pub frame: &'a Frame<'a>,
     pub place: u32,
