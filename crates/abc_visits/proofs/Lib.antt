@@ -1,4 +1,4 @@
+pub mod Asking
 pub mod Loops
-pub mod Needs
 pub mod Stepping
 pub mod Takes

@@ -44,7 +44,7 @@ pub(crate) fn change_stack(stack: &mut Stack<Kind>, depth: usize, given: Given) 
 }
 
 /// Replaces the kind at a place, if there is one.
-#[tactic(auto, using(crate::proofs::Needs::set_past))]
+#[tactic(auto, using(crate::proofs::Asking::set_past))]
 fn set_kind(kinds: &mut Table<Kind>, place: u32, kind: Kind)
     ensures { kinds.new ≡ set kinds.old place kind }
 {

@@ -52,7 +52,7 @@ fn picked(need: Need, here: Kind, below: Kind) -> Kind
 }
 
 /// The kind of the value, from so deep on, that has to have the slot; any kind where none has to.
-#[tactic(auto, using(crate::proofs::Needs::one_receiver, crate::proofs::Needs::two_receiver, crate::proofs::Needs::three_receiver))]
+#[tactic(auto, using(crate::proofs::Asking::one_receiver, crate::proofs::Asking::two_receiver, crate::proofs::Asking::three_receiver))]
 fn receiver_at(takes: Takes, parts: Parts, stack: &Stack<Kind>, at: usize) -> Kind
     requires { at < 2 ^ 40 }
     ensures { result ≡ receiver_of (flat_map (unfolded (parts_of parts)) (needs takes)) (drop at stack.now) }
@@ -77,7 +77,7 @@ fn receiver_at(takes: Takes, parts: Parts, stack: &Stack<Kind>, at: usize) -> Ki
 
 impl Visit<'_> {
     /// The kind of the value so deep below the arguments; any kind where there is none.
-    #[tactic(auto, using(crate::proofs::Needs::taken_at))]
+    #[tactic(auto, using(crate::proofs::Asking::taken_at))]
     pub(crate) fn taken(&self, state: &State, depth: u8) -> Kind
         ensures { result ≡ kind_in (taken (here_in self.now) state.now) depth }
     {

@@ -33,7 +33,7 @@ impl Visit<'_> {
     }
 
     /// Whether the value so deep, if there is one, is what a rule asks.
-    #[tactic(auto, using(crate::proofs::Needs::one_there, crate::proofs::Needs::one_gone))]
+    #[tactic(auto, using(crate::proofs::Asking::one_there, crate::proofs::Asking::one_gone))]
     fn one_suits(&self, rule: VerifyRule, need: Need, stack: &Stack<Kind>, at: usize) -> bool
         ensures { result ≡ all_suit (here_in self.now) rule (need ∷ []) (drop at stack.now) }
     {
@@ -45,7 +45,7 @@ impl Visit<'_> {
     }
 
     /// Whether the parts of a name, from so deep on, are what a rule asks.
-    #[tactic(auto, using(crate::proofs::Needs::both_suit))]
+    #[tactic(auto, using(crate::proofs::Asking::both_suit))]
     fn parts_suit(&self, rule: VerifyRule, parts: Parts, stack: &Stack<Kind>, at: usize) -> bool
         requires { at < 2 ^ 48 }
         ensures { result ≡ all_suit (here_in self.now) rule (parts_of parts) (drop at stack.now) }
@@ -77,7 +77,7 @@ impl Visit<'_> {
     }
 
     /// Whether the values of needs, from so deep on, are what a rule asks.
-    #[tactic(auto, using(crate::proofs::Needs::one_suits, crate::proofs::Needs::two_suit, crate::proofs::Needs::three_suit))]
+    #[tactic(auto, using(crate::proofs::Asking::one_suits, crate::proofs::Asking::two_suit, crate::proofs::Asking::three_suit))]
     fn takes_suit(&self, rule: VerifyRule, takes: Takes, parts: Parts, stack: &Stack<Kind>, at: usize) -> bool
         requires { at < 2 ^ 40 }
         ensures { result ≡ all_suit (here_in self.now) rule (flat_map (unfolded (parts_of parts)) (needs takes)) (drop at stack.now) }

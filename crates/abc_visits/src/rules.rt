@@ -182,7 +182,7 @@ fn broken_in(linked: &Linked, frame: &Frame<'_>, place: u32, instr: &Instr, stat
 }
 
 /// The first rule that a state breaks at a place, Merge left out, where these handlers cover the place.
-#[tactic(auto, using(crate::proofs::Needs::filter_twice))]
+#[tactic(auto, using(crate::proofs::Asking::filter_twice))]
 pub fn broken_at(linked: &Linked, frame: &Frame<'_>, place: u32, state: &State, cover: &[Catch]) -> Option<VerifyRule>
     requires { cover.now ≡ covering (routine_in frame.now) place }
     ensures { result ≡ broken linked.now (routine_in frame.now) place state.now }

@@ -50,7 +50,7 @@ pub(crate) fn need_count(need: Need, parts: Parts) -> usize
 }
 
 /// How many values needs take.
-#[tactic(auto, using(crate::proofs::Needs::one_count, crate::proofs::Needs::two_count, crate::proofs::Needs::three_count))]
+#[tactic(auto, using(crate::proofs::Asking::one_count, crate::proofs::Asking::two_count, crate::proofs::Asking::three_count))]
 fn takes_count(takes: Takes, parts: Parts) -> usize
     ensures count { result ≡ length (flat_map (unfolded (parts_of parts)) (needs takes)) }
     ensures few { result ≤ 6 }
@@ -66,7 +66,7 @@ fn takes_count(takes: Takes, parts: Parts) -> usize
 }
 
 /// What a row takes for each argument, times the arguments.
-#[tactic(auto, using(crate::proofs::Needs::product_fits))]
+#[tactic(auto, using(crate::proofs::Asking::product_fits))]
 fn product(factor: u8, count: u32) -> usize
     ensures product { result ≡ factor * count }
     ensures fits { result < 2 ^ 40 }
