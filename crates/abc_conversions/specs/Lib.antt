@@ -1,0 +1,5 @@
+pub mod Reads
+pub mod Numbers
+pub mod Order
+pub mod Equality
+pub mod Opcodes

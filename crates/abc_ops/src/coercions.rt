@@ -1,0 +1,72 @@
+ghost use Rattle.std.specs.Prelude.{◌≡◌, IfOk};
+ghost use Rattle.abc_heap.specs.Heap.{Heap};
+ghost use Rattle.abc_objects.specs.Stands.{StandsOver};
+ghost use Rattle.abc_objects.specs.Values.{Exists};
+ghost use Rattle.abc_ops.specs.Coercions.{Coerces, Keeps, kept_by, undefined_as_null as null_for_undefined};
+ghost use Rattle.abc_ops.specs.Left.{Leaves};
+
+use crate::conversions::convert;
+use crate::end::OpEnd;
+use crate::program::Types;
+use crate::types::is_of;
+use abc_base::HostClass;
+use abc_conversions::Conversion;
+use abc_objects::{Arena, Value};
+use abc_program::Ty;
+
+fn undefined_as_null(v: Value) -> Value
+    ensures { result ≡ null_for_undefined v }
+{
+    match v {
+        Value::Undefined => Value::Null,
+        _ => v,
+    }
+}
+
+/// The value where it is of a type; undefined and null become null.
+fn keep_by(is: bool, v: Value) -> Result<Value, OpEnd>
+    ensures { (h : Heap) → Leaves (kept_by h is v) result h }
+{
+    match v {
+        Value::Undefined | Value::Null => Ok(Value::Null),
+        _ => {
+            if is {
+                Ok(v)
+            } else {
+                Err(OpEnd::Throw(HostClass::TypeError))
+            }
+        }
+    }
+}
+
+fn keep<L: Types>(l: &L, a: &Arena, ty: Ty, v: Value) -> Result<Value, OpEnd>
+    requires over { StandsOver (L.linked l.now) a.now }
+    requires value { Exists (L.linked l.now) a.now v }
+    ensures { Keeps (L.linked l.now) a.now a.now ty v result }
+{
+    let is = is_of(l, a, ty, v);
+    keep_by(is, v)
+}
+
+/// The value that coercion to a type gives.
+pub fn coerce<L: Types>(l: &L, a: &mut Arena, ty: Ty, v: Value) -> Result<Value, OpEnd>
+    requires over { StandsOver (L.linked l.now) a.old }
+    requires value { Exists (L.linked l.now) a.old v }
+    ensures left { Coerces (L.linked l.now) a.old a.new ty v result }
+    ensures over { StandsOver (L.linked l.now) a.new }
+    ensures exists { IfOk result (Exists (L.linked l.now) a.new) }
+{
+    match ty {
+        Ty::Any => Ok(v),
+        Ty::Void => Ok(Value::Undefined),
+        Ty::Object => Ok(undefined_as_null(v)),
+        Ty::Int => convert(l, a, Conversion::ConvertI, v),
+        Ty::UInt => convert(l, a, Conversion::ConvertU, v),
+        Ty::Number => convert(l, a, Conversion::ConvertD, v),
+        Ty::Boolean => convert(l, a, Conversion::ConvertB, v),
+        Ty::Text => convert(l, a, Conversion::CoerceS, v),
+        Ty::Space => keep(l, a, ty, v),
+        Ty::Of(_) => keep(l, a, ty, v),
+        Ty::Interface(_) => keep(l, a, ty, v),
+    }
+}

@@ -1,0 +1,101 @@
+ghost use Rattle.std.specs.Prelude.{◌≡◌, IfOk};
+ghost use Rattle.abc_base.specs.Ranges.{IsNumber};
+ghost use Rattle.abc_base.specs.declared.names.Fault.{Fault};
+ghost use Rattle.abc_heap.specs.Heap.{Heap};
+ghost use Rattle.abc_heap.specs.Texts.{IsText};
+ghost use Rattle.abc_objects.specs.Stands.{StandsOver};
+ghost use Rattle.abc_objects.specs.Values.{Exists};
+ghost use Rattle.abc_ops.specs.Conversions.{converted, objected, spelled, text_or_null as text_or_null_of};
+ghost use Rattle.abc_ops.specs.Left.{Leaves, as_value, number_or_fault};
+
+use crate::end::OpEnd;
+use crate::made::make_number;
+use crate::program::Types;
+use abc_base::{Fault, HostClass};
+use abc_conversions::{Conversion, is_true, to_int, to_number, to_uint};
+use abc_names::space_name;
+use abc_objects::{Arena, FixedText, Span, Value, span_of_string};
+
+/// The text of a value. That of a number is made, and a namespace has its name.
+pub fn spell<L: Types>(l: &L, a: &mut Arena, v: Value) -> Result<Span, OpEnd>
+    requires over { StandsOver (L.linked l.now) a.old }
+    requires value { Exists (L.linked l.now) a.old v }
+    ensures left { Leaves (spelled (L.linked l.now) a.old v) result a.new }
+    ensures over { StandsOver (L.linked l.now) a.new }
+{
+    match v {
+        Value::Undefined => Ok(FixedText::Undefined.span()),
+        Value::Null => Ok(FixedText::Null.span()),
+        Value::Num(n) => make_number(a, n),
+        Value::Bool(true) => Ok(FixedText::True.span()),
+        Value::Bool(false) => Ok(FixedText::False.span()),
+        Value::Text(s) => Ok(s),
+        Value::Space(n) => Ok(span_of_string(&l.abc().strings, space_name(l.abc(), n))),
+        Value::Obj(_) => Err(OpEnd::Profile(Fault::ObjectToPrimitive)),
+    }
+}
+
+/// The text of a value, as a value.
+fn to_text<L: Types>(l: &L, a: &mut Arena, v: Value) -> Result<Value, OpEnd>
+    requires over { StandsOver (L.linked l.now) a.old }
+    requires value { Exists (L.linked l.now) a.old v }
+    ensures left { Leaves (as_value (spelled (L.linked l.now) a.old v)) result a.new }
+    ensures over { StandsOver (L.linked l.now) a.new }
+{
+    match spell(l, a, v) {
+        Ok(s) => Ok(Value::Text(s)),
+        Err(end) => Err(end),
+    }
+}
+
+/// The text of a value, and null for undefined and null.
+fn text_or_null<L: Types>(l: &L, a: &mut Arena, v: Value) -> Result<Value, OpEnd>
+    requires over { StandsOver (L.linked l.now) a.old }
+    requires value { Exists (L.linked l.now) a.old v }
+    ensures left { Leaves (text_or_null_of (L.linked l.now) a.old v) result a.new }
+    ensures over { StandsOver (L.linked l.now) a.new }
+{
+    match v {
+        Value::Undefined | Value::Null => Ok(Value::Null),
+        _ => to_text(l, a, v),
+    }
+}
+
+/// The value itself; undefined and null throw a TypeError.
+fn to_object(v: Value) -> Result<Value, OpEnd>
+    ensures { (h : Heap) → Leaves (objected h v) result h }
+{
+    match v {
+        Value::Undefined | Value::Null => Err(OpEnd::Throw(HostClass::TypeError)),
+        _ => Ok(v),
+    }
+}
+
+/// A number as a value.
+pub fn number_value(n: Result<i64, Fault>) -> Result<Value, OpEnd>
+    ensures { (h : Heap) → Leaves (number_or_fault h n) result h }
+{
+    match n {
+        Ok(n) => Ok(Value::Num(n)),
+        Err(fault) => Err(OpEnd::Profile(fault)),
+    }
+}
+
+/// The value that a conversion gives. Text conversion of a number makes a text.
+pub fn convert<L: Types>(l: &L, a: &mut Arena, to: Conversion, v: Value) -> Result<Value, OpEnd>
+    requires over { StandsOver (L.linked l.now) a.old }
+    requires value { Exists (L.linked l.now) a.old v }
+    ensures left { Leaves (converted (L.linked l.now) a.old to v) result a.new }
+    ensures over { StandsOver (L.linked l.now) a.new }
+    ensures exists { IfOk result (Exists (L.linked l.now) a.new) }
+{
+    match to {
+        Conversion::ConvertS => to_text(l, a, v),
+        Conversion::ConvertI => number_value(to_int(v)),
+        Conversion::ConvertU => number_value(to_uint(v)),
+        Conversion::ConvertD => number_value(to_number(v)),
+        Conversion::ConvertB => Ok(Value::Bool(is_true(v))),
+        Conversion::ConvertO => to_object(v),
+        Conversion::CoerceS => text_or_null(l, a, v),
+    }
+}
