@@ -1,7 +1,6 @@
 -- Equality of values.
 use Rattle.std.specs.Prelude.{ℕ, ℤ, List, Bool, true, false, not, if◌then◌else◌, nat_eq, Ok, Err}
 use Rattle.std.specs.Ordering.{int_eq}
-
 use Rattle.std.specs.Str.{bytes_eq}
 use Rattle.std.specs.declared.result.Result.{Result}
 use Rattle.abc_base.specs.declared.names.Fault.{Fault}
@@ -10,17 +9,10 @@ use Rattle.abc_cells.specs.declared.values.ObjId.{ObjId}
 use Rattle.abc_cells.specs.declared.values.Span.{Span}
 use Rattle.abc_cells.specs.declared.values.Value.{Value}
 use Rattle.abc_cells.specs.declared.values.Value.TheVariants as values
+use Rattle.abc_conversions.specs.Kinds.{is_nothing, is_null, is_undefined}
 use Rattle.abc_conversions.specs.Numbers.{number_of_bool}
 
 -- ---- strictly: values of one kind
-
-abbrev pub is_undefined : Value → Bool
-is_undefined values.Undefined = true
-is_undefined other = false
-
-abbrev pub is_null : Value → Bool
-is_null values.Null = true
-is_null other = false
 
 abbrev pub same_number : ℤ → Value → Bool
 same_number n (values.Num m) = int_eq n m
@@ -54,11 +46,6 @@ same_values text same (values.Space a) y = same_space same a y
 same_values text same (values.Obj o) y = same_object o y
 
 -- ---- loosely
-
-abbrev pub is_nothing : Value → Bool
-is_nothing values.Undefined = true
-is_nothing values.Null = true
-is_nothing other = false
 
 -- a Num or a Bool, by its number
 abbrev pub number_equals : ℤ → Value → Result Bool Fault

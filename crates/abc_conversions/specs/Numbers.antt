@@ -7,6 +7,7 @@ use Rattle.abc_base.specs.declared.names.Fault.{Fault}
 use Rattle.abc_base.specs.declared.names.Fault.TheVariants.{NotANumber, TextToNumber, ObjectToPrimitive}
 use Rattle.abc_cells.specs.declared.values.Value.{Value}
 use Rattle.abc_cells.specs.declared.values.Value.TheVariants as values
+use Rattle.abc_conversions.specs.Kinds.{is_undefined}
 use Rattle.abc_arithmetic.specs.Modular.{signed, unsigned}
 use Rattle.abc_arithmetic.specs.Operations.{calculated, calculated_single}
 use Rattle.abc_arithmetic.specs.declared.operation.Operation.{Operation}
@@ -46,8 +47,7 @@ number_of (values.Obj o) = Err ObjectToPrimitive
 
 -- a number that is to be taken modulo 2 ^ 32: undefined is 0
 abbrev pub whole_of : Value → Result ℤ Fault
-whole_of values.Undefined = Ok (pos 0)
-whole_of v = number_of v
+whole_of v = if is_undefined v then Ok (pos 0) else number_of v
 
 abbrev pub int_of : Value → Result ℤ Fault
 int_of v = and_then (whole_of v) (λ n. Ok (signed n))

@@ -9,6 +9,7 @@ use Rattle.abc_base.specs.declared.names.Fault.TheVariants.{TextOrder}
 use Rattle.abc_cells.specs.declared.values.Span.{Span}
 use Rattle.abc_cells.specs.declared.values.Value.{Value}
 use Rattle.abc_cells.specs.declared.values.Value.TheVariants as values
+use Rattle.abc_conversions.specs.Kinds.{is_undefined}
 use Rattle.abc_conversions.specs.Numbers.{and_then, number_of}
 use Rattle.abc_conversions.specs.declared.order.Order.{Order}
 use Rattle.abc_conversions.specs.declared.order.Order.TheVariants.{Less, LessOrEqual, Greater, GreaterOrEqual}
@@ -35,8 +36,7 @@ ordered_texts order a b = if is_ascii a && is_ascii b then Ok (holds order (text
 -- ---- numbers: undefined is none, stands in no order, and is no fault
 
 abbrev pub number_or_none : Value → Result (Option ℤ) Fault
-number_or_none values.Undefined = Ok None
-number_or_none v = and_then (number_of v) (λ n. Ok (Some n))
+number_or_none v = if is_undefined v then Ok None else and_then (number_of v) (λ n. Ok (Some n))
 
 abbrev pub numbers_hold : Order → Option ℤ → Option ℤ → Bool
 numbers_hold order None b = false

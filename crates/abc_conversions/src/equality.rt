@@ -1,20 +1,12 @@
 ghost use Rattle.std.specs.Prelude.{◌≡◌};
-ghost use Rattle.abc_conversions.specs.Equality.{equal_values, is_nothing, number_equals, object_equals, same_number, same_object, same_space, same_text, same_truth, same_values, space_equals, text_equals};
+ghost use Rattle.abc_conversions.specs.Equality.{equal_values, number_equals, object_equals, same_number, same_object, same_space, same_text, same_truth, same_values, space_equals, text_equals};
 ghost use Rattle.abc_conversions.specs.Reads.{IsReadable};
 
+use crate::kinds::{is_nothing, is_null, is_undefined};
 use crate::numbers::number_of_truth;
 use crate::texts::Texts;
 use abc_base::Fault;
 use abc_cells::{ObjId, Span, Value};
-
-fn nothing(v: Value) -> bool
-    ensures { result ≡ is_nothing v }
-{
-    match v {
-        Value::Undefined | Value::Null => true,
-        _ => false,
-    }
-}
 
 fn is_number(n: i64, v: Value) -> bool
     ensures { result ≡ same_number n v }
@@ -71,8 +63,8 @@ pub fn strictly_equal<T: Texts>(texts: &T, x: Value, y: Value) -> bool
     ensures { result ≡ same_values (T.text texts.now) (T.same texts.now) x y }
 {
     match x {
-        Value::Undefined => y == Value::Undefined,
-        Value::Null => y == Value::Null,
+        Value::Undefined => is_undefined(y),
+        Value::Null => is_null(y),
         Value::Num(n) => is_number(n, y),
         Value::Bool(truth) => is_truth(truth, y),
         Value::Text(s) => is_text(texts, s, y),
@@ -122,7 +114,7 @@ pub fn equal<T: Texts>(texts: &T, x: Value, y: Value) -> Result<bool, Fault>
     ensures { result ≡ equal_values (T.text texts.now) (T.same texts.now) x y }
 {
     match x {
-        Value::Undefined | Value::Null => Ok(nothing(y)),
+        Value::Undefined | Value::Null => Ok(is_nothing(y)),
         Value::Num(n) => number_equal(n, y),
         Value::Bool(truth) => number_equal(number_of_truth(truth), y),
         Value::Text(s) => text_equal(texts, s, y),

@@ -2,6 +2,7 @@ ghost use Rattle.std.specs.Prelude.{◌≡◌, IfOk};
 ghost use Rattle.abc_base.specs.Ranges.{IsNumber};
 ghost use Rattle.abc_conversions.specs.Numbers.{IsInRange, calculated_of, calculated_single_of, int_of, is_modular as modular, is_modular_single as modular_single, number_of, number_of_bool, operand_of, operand_of_single, truth_of, uint_of, whole_of};
 
+use crate::kinds::is_undefined;
 use abc_arithmetic::{
     Operation, Single, calculate, calculate_single, from_signed, from_unsigned, to_signed,
     to_unsigned,
@@ -52,10 +53,10 @@ pub fn to_whole(v: Value) -> Result<i64, Fault>
     ensures value { result ≡ whole_of v }
     ensures number { IfOk result IsNumber }
 {
-    match v {
-        Value::Undefined => Ok(0),
-        _ => to_number(v),
+    if is_undefined(v) {
+        return Ok(0);
     }
+    to_number(v)
 }
 
 /// A value as a number from -2147483648 to 2147483647.

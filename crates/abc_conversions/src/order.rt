@@ -1,8 +1,9 @@
 ghost use Rattle.std.specs.Prelude.{◌≡◌, nat_lt, list_all};
 ghost use Rattle.abc_conversions.specs.Numbers.{IsInRange};
-ghost use Rattle.abc_conversions.specs.Order.{holds as holds_by, number_or_none as number_if, ordered, ordered_numbers, ordered_texts, text_below};
+ghost use Rattle.abc_conversions.specs.Order.{holds as holds_by, number_or_none as number_if, numbers_hold as numbers_hold_by, ordered, ordered_numbers, ordered_texts, text_below};
 ghost use Rattle.abc_conversions.specs.Reads.{IsReadable};
 
+use crate::kinds::is_undefined;
 use crate::numbers::to_number;
 use crate::texts::Texts;
 use abc_base::Fault;
@@ -54,11 +55,20 @@ fn number_or_none(v: Value) -> Result<Option<i64>, Fault>
     requires { IsInRange v }
     ensures { result ≡ number_if v }
 {
-    if v == Value::Undefined {
+    if is_undefined(v) {
         return Ok(None);
     }
     let n = to_number(v)?;
     Ok(Some(n))
+}
+
+fn numbers_hold(order: Order, left: Option<i64>, right: Option<i64>) -> bool
+    ensures { result ≡ numbers_hold_by order left right }
+{
+    match (left, right) {
+        (Some(a), Some(b)) => holds(order, a < b, b < a),
+        _ => false,
+    }
 }
 
 fn order_numbers(order: Order, x: Value, y: Value) -> Result<bool, Fault>
@@ -68,10 +78,7 @@ fn order_numbers(order: Order, x: Value, y: Value) -> Result<bool, Fault>
 {
     let left = number_or_none(x)?;
     let right = number_or_none(y)?;
-    match (left, right) {
-        (Some(a), Some(b)) => Ok(holds(order, a < b, b < a)),
-        _ => Ok(false),
-    }
+    Ok(numbers_hold(order, left, right))
 }
 
 /// Whether two values stand in an order: two texts by their bytes, all others by their numbers, the left first. Undefined

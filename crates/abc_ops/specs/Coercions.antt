@@ -4,6 +4,7 @@ use Rattle.std.specs.declared.result.Result.{Result}
 use Rattle.abc_base.specs.declared.names.HostClass.TheVariants as hosts
 use Rattle.abc_cells.specs.declared.values.Value.{Value}
 use Rattle.abc_cells.specs.declared.values.Value.TheVariants as values
+use Rattle.abc_conversions.specs.Kinds.{is_nothing, is_undefined}
 use Rattle.abc_conversions.specs.declared.numbers.Conversion.TheVariants as conversions
 use Rattle.abc_heap.specs.Heap.{Heap}
 use Rattle.abc_program.specs.Linked.{LinkedFile}
@@ -17,14 +18,13 @@ use Rattle.abc_ops.specs.declared.end.OpEnd.TheVariants as ends
 
 -- null for undefined
 abbrev pub undefined_as_null : Value → Value
-undefined_as_null values.Undefined = values.Null
-undefined_as_null v = v
+undefined_as_null v = if is_undefined v then values.Null else v
 
 -- by whether the value is of the type: undefined and null become null
 abbrev pub kept_by : Heap → Bool → Value → Left Value
-kept_by h is values.Undefined = gives h values.Null
-kept_by h is values.Null = gives h values.Null
-kept_by h is v = if is then gives h v else ends_by h (ends.Throw hosts.TypeError)
+kept_by h is v =
+    if is_nothing v then gives h values.Null
+    else (if is then gives h v else ends_by h (ends.Throw hosts.TypeError))
 
 -- what coercion to a class or an interface answers and leaves: is tells whether the value is of the type
 pub record Keeps (l : LinkedFile) (old new : Heap) (ty : Ty) (v : Value) (result : Result Value OpEnd) : Type 0 where

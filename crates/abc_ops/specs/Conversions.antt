@@ -1,11 +1,12 @@
 -- The conversions of values.
-use Rattle.std.specs.Prelude.{true, false}
+use Rattle.std.specs.Prelude.{true, false, if◌then◌else◌}
 use Rattle.std.specs.Fmt.{signed_decimal}
 use Rattle.abc_base.specs.declared.names.Fault.TheVariants as faults
 use Rattle.abc_base.specs.declared.names.HostClass.TheVariants as hosts
 use Rattle.abc_cells.specs.declared.values.Span.{Span}
 use Rattle.abc_cells.specs.declared.values.Value.{Value}
 use Rattle.abc_cells.specs.declared.values.Value.TheVariants as values
+use Rattle.abc_conversions.specs.Kinds.{is_nothing}
 use Rattle.abc_conversions.specs.Numbers.{int_of, number_of, truth_of, uint_of}
 use Rattle.abc_conversions.specs.declared.numbers.Conversion.{Conversion}
 use Rattle.abc_conversions.specs.declared.numbers.Conversion.TheVariants as conversions
@@ -31,15 +32,11 @@ spelled l h (values.Obj o) = ends_by h (ends.Profile faults.ObjectToPrimitive)
 
 -- convert_o
 abbrev pub objected : Heap → Value → Left Value
-objected h values.Undefined = ends_by h (ends.Throw hosts.TypeError)
-objected h values.Null = ends_by h (ends.Throw hosts.TypeError)
-objected h v = gives h v
+objected h v = if is_nothing v then ends_by h (ends.Throw hosts.TypeError) else gives h v
 
 -- coerce_s
 abbrev pub text_or_null : LinkedFile → Heap → Value → Left Value
-text_or_null l h values.Undefined = gives h values.Null
-text_or_null l h values.Null = gives h values.Null
-text_or_null l h v = as_value (spelled l h v)
+text_or_null l h v = if is_nothing v then gives h values.Null else as_value (spelled l h v)
 
 abbrev pub converted : LinkedFile → Heap → Conversion → Value → Left Value
 converted l h conversions.ConvertS v = as_value (spelled l h v)

@@ -1,7 +1,8 @@
 -- What the opcodes compute of one value and of two.
-use Rattle.std.specs.Prelude.{ℕ, Bool, true, false, ◌||◌, ◌&&◌, not, nat_eq, ◌++◌, if◌then◌else◌}
+use Rattle.std.specs.Prelude.{ℕ, ◌||◌, ◌&&◌, not, nat_eq, ◌++◌, if◌then◌else◌}
 use Rattle.abc_cells.specs.declared.values.Value.{Value}
 use Rattle.abc_cells.specs.declared.values.Value.TheVariants as values
+use Rattle.abc_conversions.specs.Kinds.{is_text}
 use Rattle.abc_conversions.specs.Numbers.{calculated_of, calculated_single_of, truth_of}
 use Rattle.abc_conversions.specs.Opcodes.{operation_of, single_of}
 use Rattle.abc_heap.specs.Heap.{Heap, object_at}
@@ -41,10 +42,6 @@ computed_single h op v =
     else number_or_fault h (calculated_single_of (single_of op) v))
 
 -- ---- two values
-
-abbrev pub is_text : Value → Bool
-is_text (values.Text s) = true
-is_text v = false
 
 -- the texts of both, the left made before the right, one after the other
 abbrev pub joined : LinkedFile → Heap → Value → Value → Left Value

@@ -10,33 +10,27 @@ use crate::end::OpEnd;
 use crate::program::Types;
 use crate::types::is_of;
 use abc_base::HostClass;
-use abc_conversions::Conversion;
+use abc_conversions::{Conversion, is_nothing, is_undefined};
 use abc_objects::{Arena, Value};
 use abc_program::Ty;
 
 fn undefined_as_null(v: Value) -> Value
     ensures { result ≡ null_for_undefined v }
 {
-    match v {
-        Value::Undefined => Value::Null,
-        _ => v,
-    }
+    if is_undefined(v) { Value::Null } else { v }
 }
 
 /// The value where it is of a type; undefined and null become null.
 fn keep_by(is: bool, v: Value) -> Result<Value, OpEnd>
     ensures { (h : Heap) → Leaves (kept_by h is v) result h }
 {
-    match v {
-        Value::Undefined | Value::Null => Ok(Value::Null),
-        _ => {
-            if is {
-                Ok(v)
-            } else {
-                Err(OpEnd::Throw(HostClass::TypeError))
-            }
-        }
+    if is_nothing(v) {
+        return Ok(Value::Null);
     }
+    if is {
+        return Ok(v);
+    }
+    Err(OpEnd::Throw(HostClass::TypeError))
 }
 
 fn keep<L: Types>(l: &L, a: &Arena, ty: Ty, v: Value) -> Result<Value, OpEnd>

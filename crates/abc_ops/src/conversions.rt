@@ -12,7 +12,7 @@ use crate::end::OpEnd;
 use crate::made::make_number;
 use crate::program::Types;
 use abc_base::{Fault, HostClass};
-use abc_conversions::{Conversion, is_true, to_int, to_number, to_uint};
+use abc_conversions::{Conversion, is_nothing, is_true, to_int, to_number, to_uint};
 use abc_names::space_name;
 use abc_objects::{Arena, FixedText, Span, Value, span_of_string};
 
@@ -55,20 +55,20 @@ fn text_or_null<L: Types>(l: &L, a: &mut Arena, v: Value) -> Result<Value, OpEnd
     ensures left { Leaves (text_or_null_of (L.linked l.now) a.old v) result a.new }
     ensures over { StandsOver (L.linked l.now) a.new }
 {
-    match v {
-        Value::Undefined | Value::Null => Ok(Value::Null),
-        _ => to_text(l, a, v),
+    if is_nothing(v) {
+        return Ok(Value::Null);
     }
+    to_text(l, a, v)
 }
 
 /// The value itself; undefined and null throw a TypeError.
 fn to_object(v: Value) -> Result<Value, OpEnd>
     ensures { (h : Heap) → Leaves (objected h v) result h }
 {
-    match v {
-        Value::Undefined | Value::Null => Err(OpEnd::Throw(HostClass::TypeError)),
-        _ => Ok(v),
+    if is_nothing(v) {
+        return Err(OpEnd::Throw(HostClass::TypeError));
     }
+    Ok(v)
 }
 
 /// A number as a value.

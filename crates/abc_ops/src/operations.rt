@@ -2,13 +2,13 @@ ghost use Rattle.std.specs.Prelude.{◌≡◌, IfOk};
 ghost use Rattle.abc_objects.specs.Stands.{StandsOver};
 ghost use Rattle.abc_objects.specs.Values.{Exists};
 ghost use Rattle.abc_ops.specs.Left.{Leaves};
-ghost use Rattle.abc_ops.specs.Operations.{computed, computed_single, is_text as is_text_value, joined, name_of_what, type_name as type_name_of};
+ghost use Rattle.abc_ops.specs.Operations.{computed, computed_single, joined, name_of_what, type_name as type_name_of};
 
 use crate::conversions::{number_value, spell};
 use crate::end::OpEnd;
 use crate::made::make_joined;
 use crate::program::Types;
-use abc_conversions::{calculate_value, calculate_values, is_true, operation, single};
+use abc_conversions::{calculate_value, calculate_values, is_text, is_true, operation, single};
 use abc_objects::{Arena, FixedText, Value, What};
 
 fn name_of_object(what: What) -> FixedText
@@ -55,15 +55,6 @@ pub fn unary<L: Types>(l: &L, a: &mut Arena, op: u8, v: Value) -> Result<Value, 
         return Ok(Value::Bool(!is_true(v)));
     }
     number_value(calculate_value(single(op), v))
-}
-
-fn is_text(v: Value) -> bool
-    ensures { result ≡ is_text_value v }
-{
-    match v {
-        Value::Text(_) => true,
-        _ => false,
-    }
 }
 
 /// The texts of two values, the left made before the right, one after the other.
