@@ -1,6 +1,7 @@
 -- The order of values: two texts by their bytes, all others by their numbers.
-use Rattle.std.specs.Prelude.{ℕ, ℤ, int_lt, nat_lt, List, list_all, Bool, false, not, ◌&&◌, if◌then◌else◌, Ok, Err, Some, None, nat_cmp}
-use Rattle.std.specs.Ordering.{is_lt}
+use Rattle.std.specs.Prelude.{ℕ, ℤ, int_lt, nat_lt, List, Bool, false, not, ◌&&◌, if◌then◌else◌, Ok, Err, Some, None}
+use Rattle.std.specs.List.{list_all}
+use Rattle.std.specs.Ordering.{is_lt, nat_cmp}
 use Rattle.std.specs.Cmp.Lexicographic.{slice_cmp}
 use Rattle.std.specs.declared.option.Option.{Option}
 use Rattle.std.specs.declared.result.Result.{Result}

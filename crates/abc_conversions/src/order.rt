@@ -1,4 +1,5 @@
-ghost use Rattle.std.specs.Prelude.{◌≡◌, nat_lt, list_all};
+ghost use Rattle.std.specs.Prelude.{◌≡◌, nat_lt};
+ghost use Rattle.std.specs.List.{list_all};
 ghost use Rattle.abc_conversions.specs.Numbers.{IsInRange};
 ghost use Rattle.abc_conversions.specs.Order.{holds as holds_by, number_or_none as number_if, numbers_hold as numbers_hold_by, ordered, ordered_numbers, ordered_texts, text_below};
 ghost use Rattle.abc_conversions.specs.Reads.{IsReadable};

@@ -1,6 +1,7 @@
 -- The conversions of values.
-use Rattle.std.specs.Prelude.{true, false, if◌then◌else◌}
+use Rattle.std.specs.Prelude.{true, false, if◌then◌else◌, Ok, Err}
 use Rattle.std.specs.Fmt.{signed_decimal}
+use Rattle.std.specs.declared.result.Result.{Result}
 use Rattle.abc_base.specs.declared.names.Fault.TheVariants as faults
 use Rattle.abc_base.specs.declared.names.HostClass.TheVariants as hosts
 use Rattle.abc_cells.specs.declared.values.Span.{Span}
@@ -16,7 +17,8 @@ use Rattle.abc_program.specs.Linked.{LinkedFile}
 use Rattle.abc_objects.specs.Fixed.{fixed_span}
 use Rattle.abc_objects.specs.Starts.{string_span}
 use Rattle.abc_objects.specs.declared.fixed.FixedText.TheVariants as fixed
-use Rattle.abc_ops.specs.Left.{Left, as_value, ends_by, gives, number_or_fault, text_made}
+use Rattle.abc_ops.specs.Left.{Left, as_value, ends_by, gives, number_or_fault, text_made, unchanged}
+use Rattle.abc_ops.specs.declared.end.OpEnd.{OpEnd}
 use Rattle.abc_ops.specs.declared.end.OpEnd.TheVariants as ends
 
 -- convert_s: a number makes its text, a namespace has its name
@@ -31,8 +33,8 @@ spelled l h (values.Space n) = gives h (string_span l.file.strings (space l.file
 spelled l h (values.Obj o) = ends_by h (ends.Profile faults.ObjectToPrimitive)
 
 -- convert_o
-abbrev pub objected : Heap → Value → Left Value
-objected h v = if is_nothing v then ends_by h (ends.Throw hosts.TypeError) else gives h v
+abbrev pub objected : Value → Result Value OpEnd
+objected v = if is_nothing v then Err (ends.Throw hosts.TypeError) else Ok v
 
 -- coerce_s
 abbrev pub text_or_null : LinkedFile → Heap → Value → Left Value
@@ -40,9 +42,9 @@ text_or_null l h v = if is_nothing v then gives h values.Null else as_value (spe
 
 abbrev pub converted : LinkedFile → Heap → Conversion → Value → Left Value
 converted l h conversions.ConvertS v = as_value (spelled l h v)
-converted l h conversions.ConvertI v = number_or_fault h (int_of v)
-converted l h conversions.ConvertU v = number_or_fault h (uint_of v)
-converted l h conversions.ConvertD v = number_or_fault h (number_of v)
+converted l h conversions.ConvertI v = unchanged h (number_or_fault (int_of v))
+converted l h conversions.ConvertU v = unchanged h (number_or_fault (uint_of v))
+converted l h conversions.ConvertD v = unchanged h (number_or_fault (number_of v))
 converted l h conversions.ConvertB v = gives h (values.Bool (truth_of v))
-converted l h conversions.ConvertO v = objected h v
+converted l h conversions.ConvertO v = unchanged h (objected v)
 converted l h conversions.CoerceS v = text_or_null l h v

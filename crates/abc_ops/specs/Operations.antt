@@ -14,7 +14,7 @@ use Rattle.abc_objects.specs.Fixed.{fixed_span}
 use Rattle.abc_objects.specs.declared.fixed.FixedText.{FixedText}
 use Rattle.abc_objects.specs.declared.fixed.FixedText.TheVariants as fixed
 use Rattle.abc_ops.specs.Conversions.{spelled}
-use Rattle.abc_ops.specs.Left.{Left, as_value, gives, number_or_fault, text_made, then}
+use Rattle.abc_ops.specs.Left.{Left, as_value, gives, number_or_fault, text_made, then, unchanged}
 
 -- ---- typeof
 
@@ -39,7 +39,7 @@ abbrev pub computed_single : Heap → ℕ → Value → Left Value
 computed_single h op v =
     if nat_eq op 0x95 then gives h (values.Text (fixed_span (type_name h v)))
     else (if nat_eq op 0x96 then gives h (values.Bool (not (truth_of v)))
-    else number_or_fault h (calculated_single_of (single_of op) v))
+    else unchanged h (number_or_fault (calculated_single_of (single_of op) v)))
 
 -- ---- two values
 
@@ -53,4 +53,4 @@ joined l h x y =
 abbrev pub computed : LinkedFile → Heap → ℕ → Value → Value → Left Value
 computed l h op x y =
     if nat_eq op 0xA0 && (is_text x || is_text y) then joined l h x y
-    else number_or_fault h (calculated_of (operation_of op) x y)
+    else unchanged h (number_or_fault (calculated_of (operation_of op) x y))

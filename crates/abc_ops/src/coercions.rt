@@ -1,9 +1,10 @@
 ghost use Rattle.std.specs.Prelude.{◌≡◌, IfOk};
 ghost use Rattle.abc_heap.specs.Heap.{Heap};
+ghost use Rattle.abc_program.specs.Linked.{LinkedFile};
+ghost use Rattle.abc_objects.specs.Growing.{Grows};
 ghost use Rattle.abc_objects.specs.Stands.{StandsOver};
 ghost use Rattle.abc_objects.specs.Values.{Exists};
 ghost use Rattle.abc_ops.specs.Coercions.{Coerces, Keeps, kept_by, undefined_as_null as null_for_undefined};
-ghost use Rattle.abc_ops.specs.Left.{Leaves};
 
 use crate::conversions::convert;
 use crate::end::OpEnd;
@@ -15,14 +16,16 @@ use abc_objects::{Arena, Value};
 use abc_program::Ty;
 
 fn undefined_as_null(v: Value) -> Value
-    ensures { result ≡ null_for_undefined v }
+    ensures value { result ≡ null_for_undefined v }
+    ensures there { (l : LinkedFile) (h : Heap) → Exists l h v → Exists l h result }
 {
     if is_undefined(v) { Value::Null } else { v }
 }
 
 /// The value where it is of a type; undefined and null become null.
 fn keep_by(is: bool, v: Value) -> Result<Value, OpEnd>
-    ensures { (h : Heap) → Leaves (kept_by h is v) result h }
+    ensures value { result ≡ kept_by is v }
+    ensures there { (l : LinkedFile) (h : Heap) → Exists l h v → IfOk result (Exists l h) }
 {
     if is_nothing(v) {
         return Ok(Value::Null);
@@ -36,19 +39,22 @@ fn keep_by(is: bool, v: Value) -> Result<Value, OpEnd>
 fn keep<L: Types>(l: &L, a: &Arena, ty: Ty, v: Value) -> Result<Value, OpEnd>
     requires over { StandsOver (L.linked l.now) a.now }
     requires value { Exists (L.linked l.now) a.now v }
-    ensures { Keeps (L.linked l.now) a.now a.now ty v result }
+    ensures kept { Keeps (L.linked l.now) a.now ty v result }
+    ensures there { IfOk result (Exists (L.linked l.now) a.now) }
 {
     let is = is_of(l, a, ty, v);
     keep_by(is, v)
 }
 
 /// The value that coercion to a type gives.
+#[tactic(auto, using(crate::proofs::Staying::grows_itself))]
 pub fn coerce<L: Types>(l: &L, a: &mut Arena, ty: Ty, v: Value) -> Result<Value, OpEnd>
     requires over { StandsOver (L.linked l.now) a.old }
     requires value { Exists (L.linked l.now) a.old v }
     ensures left { Coerces (L.linked l.now) a.old a.new ty v result }
     ensures over { StandsOver (L.linked l.now) a.new }
-    ensures exists { IfOk result (Exists (L.linked l.now) a.new) }
+    ensures grows { Grows a.old a.new }
+    ensures there { IfOk result (Exists (L.linked l.now) a.new) }
 {
     match ty {
         Ty::Any => Ok(v),

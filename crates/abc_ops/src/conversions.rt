@@ -1,10 +1,13 @@
 ghost use Rattle.std.specs.Prelude.{◌≡◌, IfOk};
 ghost use Rattle.abc_base.specs.Ranges.{IsNumber};
-ghost use Rattle.abc_base.specs.declared.names.Fault.{Fault};
 ghost use Rattle.abc_heap.specs.Heap.{Heap};
 ghost use Rattle.abc_heap.specs.Texts.{IsText};
+ghost use Rattle.abc_names.specs.Pool.{space as space_in};
+ghost use Rattle.abc_program.specs.Linked.{LinkedFile};
+ghost use Rattle.abc_objects.specs.Growing.{Grows};
 ghost use Rattle.abc_objects.specs.Stands.{StandsOver};
-ghost use Rattle.abc_objects.specs.Values.{Exists};
+ghost use Rattle.abc_objects.specs.Starts.{string_span};
+ghost use Rattle.abc_objects.specs.Values.{Exists, IsSpace};
 ghost use Rattle.abc_ops.specs.Conversions.{converted, objected, spelled, text_or_null as text_or_null_of};
 ghost use Rattle.abc_ops.specs.Left.{Leaves, as_value, number_or_fault};
 
@@ -16,12 +19,18 @@ use abc_conversions::{Conversion, is_nothing, is_true, to_int, to_number, to_uin
 use abc_names::space_name;
 use abc_objects::{Arena, FixedText, Span, Value, span_of_string};
 
-/// The text of a value. That of a number is made, and a namespace has its name.
-pub fn spell<L: Types>(l: &L, a: &mut Arena, v: Value) -> Result<Span, OpEnd>
-    requires over { StandsOver (L.linked l.now) a.old }
-    requires value { Exists (L.linked l.now) a.old v }
-    ensures left { Leaves (spelled (L.linked l.now) a.old v) result a.new }
-    ensures over { StandsOver (L.linked l.now) a.new }
+/// The text of a namespace: its name.
+fn name_of_space<L: Types>(l: &L, space: u32) -> Span
+    requires { IsSpace (L.linked l.now) space }
+    ensures { result ≡ string_span (L.linked l.now).file.strings (space_in (L.linked l.now).file space).name }
+{
+    let abc = l.abc();
+    span_of_string(&abc.strings, space_name(abc, space))
+}
+
+fn spell_as<L: Types>(l: &L, a: &mut Arena, v: Value) -> Result<Span, OpEnd>
+    requires { Exists (L.linked l.now) a.old v }
+    ensures { Leaves (spelled (L.linked l.now) a.old v) result a.new }
 {
     match v {
         Value::Undefined => Ok(FixedText::Undefined.span()),
@@ -30,9 +39,21 @@ pub fn spell<L: Types>(l: &L, a: &mut Arena, v: Value) -> Result<Span, OpEnd>
         Value::Bool(true) => Ok(FixedText::True.span()),
         Value::Bool(false) => Ok(FixedText::False.span()),
         Value::Text(s) => Ok(s),
-        Value::Space(n) => Ok(span_of_string(&l.abc().strings, space_name(l.abc(), n))),
+        Value::Space(n) => Ok(name_of_space(l, n)),
         Value::Obj(_) => Err(OpEnd::Profile(Fault::ObjectToPrimitive)),
     }
+}
+
+/// The text of a value. That of a number is made, and a namespace has its name.
+pub fn spell<L: Types>(l: &L, a: &mut Arena, v: Value) -> Result<Span, OpEnd>
+    requires over { StandsOver (L.linked l.now) a.old }
+    requires value { Exists (L.linked l.now) a.old v }
+    ensures left { Leaves (spelled (L.linked l.now) a.old v) result a.new }
+    ensures over { StandsOver (L.linked l.now) a.new }
+    ensures grows { Grows a.old a.new }
+    ensures there { IfOk result (IsText (L.linked l.now).file.strings a.new) }
+{
+    spell_as(l, a, v)
 }
 
 /// The text of a value, as a value.
@@ -41,6 +62,8 @@ fn to_text<L: Types>(l: &L, a: &mut Arena, v: Value) -> Result<Value, OpEnd>
     requires value { Exists (L.linked l.now) a.old v }
     ensures left { Leaves (as_value (spelled (L.linked l.now) a.old v)) result a.new }
     ensures over { StandsOver (L.linked l.now) a.new }
+    ensures grows { Grows a.old a.new }
+    ensures there { IfOk result (Exists (L.linked l.now) a.new) }
 {
     match spell(l, a, v) {
         Ok(s) => Ok(Value::Text(s)),
@@ -49,11 +72,14 @@ fn to_text<L: Types>(l: &L, a: &mut Arena, v: Value) -> Result<Value, OpEnd>
 }
 
 /// The text of a value, and null for undefined and null.
+#[tactic(auto, using(crate::proofs::Staying::grows_itself))]
 fn text_or_null<L: Types>(l: &L, a: &mut Arena, v: Value) -> Result<Value, OpEnd>
     requires over { StandsOver (L.linked l.now) a.old }
     requires value { Exists (L.linked l.now) a.old v }
     ensures left { Leaves (text_or_null_of (L.linked l.now) a.old v) result a.new }
     ensures over { StandsOver (L.linked l.now) a.new }
+    ensures grows { Grows a.old a.new }
+    ensures there { IfOk result (Exists (L.linked l.now) a.new) }
 {
     if is_nothing(v) {
         return Ok(Value::Null);
@@ -63,7 +89,8 @@ fn text_or_null<L: Types>(l: &L, a: &mut Arena, v: Value) -> Result<Value, OpEnd
 
 /// The value itself; undefined and null throw a TypeError.
 fn to_object(v: Value) -> Result<Value, OpEnd>
-    ensures { (h : Heap) → Leaves (objected h v) result h }
+    ensures value { result ≡ objected v }
+    ensures there { (l : LinkedFile) (h : Heap) → Exists l h v → IfOk result (Exists l h) }
 {
     if is_nothing(v) {
         return Err(OpEnd::Throw(HostClass::TypeError));
@@ -73,7 +100,9 @@ fn to_object(v: Value) -> Result<Value, OpEnd>
 
 /// A number as a value.
 pub fn number_value(n: Result<i64, Fault>) -> Result<Value, OpEnd>
-    ensures { (h : Heap) → Leaves (number_or_fault h n) result h }
+    requires { IfOk n IsNumber }
+    ensures value { result ≡ number_or_fault n }
+    ensures there { (l : LinkedFile) (h : Heap) → IfOk result (Exists l h) }
 {
     match n {
         Ok(n) => Ok(Value::Num(n)),
@@ -82,12 +111,14 @@ pub fn number_value(n: Result<i64, Fault>) -> Result<Value, OpEnd>
 }
 
 /// The value that a conversion gives. Text conversion of a number makes a text.
+#[tactic(auto, using(crate::proofs::Staying::grows_itself))]
 pub fn convert<L: Types>(l: &L, a: &mut Arena, to: Conversion, v: Value) -> Result<Value, OpEnd>
     requires over { StandsOver (L.linked l.now) a.old }
     requires value { Exists (L.linked l.now) a.old v }
     ensures left { Leaves (converted (L.linked l.now) a.old to v) result a.new }
     ensures over { StandsOver (L.linked l.now) a.new }
-    ensures exists { IfOk result (Exists (L.linked l.now) a.new) }
+    ensures grows { Grows a.old a.new }
+    ensures there { IfOk result (Exists (L.linked l.now) a.new) }
 {
     match to {
         Conversion::ConvertS => to_text(l, a, v),

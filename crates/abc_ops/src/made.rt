@@ -1,8 +1,7 @@
-ghost use Rattle.std.specs.Prelude.{◌≡◌, ◌++◌, IfOk};
+ghost use Rattle.std.specs.Prelude.{◌≡◌, ◌++◌};
 ghost use Rattle.std.specs.Fmt.{signed_decimal};
 ghost use Rattle.abc_base.specs.Ranges.{IsNumber};
 ghost use Rattle.abc_heap.specs.Texts.{IsText, text_of};
-ghost use Rattle.abc_program.specs.Linked.{LinkedFile};
 ghost use Rattle.abc_objects.specs.Stands.{StandsOver};
 ghost use Rattle.abc_ops.specs.Left.{Leaves, text_made};
 
@@ -12,8 +11,7 @@ use abc_objects::{Arena, Program, Span};
 /// Makes the text of a number.
 pub fn make_number(a: &mut Arena, n: i64) -> Result<Span, OpEnd>
     requires { IsNumber n }
-    ensures left { Leaves (text_made a.old (signed_decimal n)) result a.new }
-    ensures over { (l : LinkedFile) → StandsOver l a.old → StandsOver l a.new }
+    ensures { Leaves (text_made a.old (signed_decimal n)) result a.new }
 {
     match a.text_of_number(n) {
         Ok(s) => Ok(s),
@@ -26,8 +24,7 @@ pub fn make_joined<L: Program>(l: &L, a: &mut Arena, s: Span, t: Span) -> Result
     requires over { StandsOver (L.linked l.now) a.old }
     requires left { IsText (L.linked l.now).file.strings a.old s }
     requires right { IsText (L.linked l.now).file.strings a.old t }
-    ensures left { Leaves (text_made a.old (text_of (L.linked l.now).file.strings a.old s ++ text_of (L.linked l.now).file.strings a.old t)) result a.new }
-    ensures over { StandsOver (L.linked l.now) a.new }
+    ensures { Leaves (text_made a.old (text_of (L.linked l.now).file.strings a.old s ++ text_of (L.linked l.now).file.strings a.old t)) result a.new }
 {
     match a.text_join(l, s, t) {
         Ok(s) => Ok(s),

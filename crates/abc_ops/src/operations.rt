@@ -1,4 +1,5 @@
 ghost use Rattle.std.specs.Prelude.{◌≡◌, IfOk};
+ghost use Rattle.abc_objects.specs.Growing.{Grows};
 ghost use Rattle.abc_objects.specs.Stands.{StandsOver};
 ghost use Rattle.abc_objects.specs.Values.{Exists};
 ghost use Rattle.abc_ops.specs.Left.{Leaves};
@@ -41,12 +42,14 @@ fn type_name<L: Types>(l: &L, a: &Arena, v: Value) -> FixedText
 
 /// What an opcode computes of a value: 90, 91, 93, 97, C0, C1 and C4 a number, 95 the name of its type, 96 whether it is
 /// false.
+#[tactic(auto, using(crate::proofs::Staying::grows_itself))]
 pub fn unary<L: Types>(l: &L, a: &mut Arena, op: u8, v: Value) -> Result<Value, OpEnd>
     requires over { StandsOver (L.linked l.now) a.old }
     requires value { Exists (L.linked l.now) a.old v }
     ensures left { Leaves (computed_single a.old op v) result a.new }
     ensures over { StandsOver (L.linked l.now) a.new }
-    ensures exists { IfOk result (Exists (L.linked l.now) a.new) }
+    ensures grows { Grows a.old a.new }
+    ensures there { IfOk result (Exists (L.linked l.now) a.new) }
 {
     if op == 0x95 {
         return Ok(Value::Text(type_name(l, a, v).span()));
@@ -64,7 +67,8 @@ fn join<L: Types>(l: &L, a: &mut Arena, x: Value, y: Value) -> Result<Value, OpE
     requires right { Exists (L.linked l.now) a.old y }
     ensures left { Leaves (joined (L.linked l.now) a.old x y) result a.new }
     ensures over { StandsOver (L.linked l.now) a.new }
-    ensures exists { IfOk result (Exists (L.linked l.now) a.new) }
+    ensures grows { Grows a.old a.new }
+    ensures there { IfOk result (Exists (L.linked l.now) a.new) }
 {
     let s = spell(l, a, x)?;
     let t = spell(l, a, y)?;
@@ -75,13 +79,15 @@ fn join<L: Types>(l: &L, a: &mut Arena, x: Value, y: Value) -> Result<Value, OpE
 }
 
 /// What an opcode from A0 to AA or from C5 to C7 computes of two values. A0 joins texts where one of them is a text.
+#[tactic(auto, using(crate::proofs::Staying::grows_itself))]
 pub fn binary<L: Types>(l: &L, a: &mut Arena, op: u8, x: Value, y: Value) -> Result<Value, OpEnd>
     requires over { StandsOver (L.linked l.now) a.old }
     requires left { Exists (L.linked l.now) a.old x }
     requires right { Exists (L.linked l.now) a.old y }
     ensures left { Leaves (computed (L.linked l.now) a.old op x y) result a.new }
     ensures over { StandsOver (L.linked l.now) a.new }
-    ensures exists { IfOk result (Exists (L.linked l.now) a.new) }
+    ensures grows { Grows a.old a.new }
+    ensures there { IfOk result (Exists (L.linked l.now) a.new) }
 {
     let texts = is_text(x) || is_text(y);
     if op == 0xA0 && texts {
