@@ -18,11 +18,13 @@ difference x y = in_range (x -ℤ y)
 abbrev pub product : ℤ → ℤ → Result ℤ Fault
 product x y = in_range (x *ℤ y)
 
--- by a divisor other than 0, and without a remainder
+-- a quotient without a remainder
+abbrev pub whole_quotient : ℤ → ℤ → Result ℤ Fault
+whole_quotient x y = if int_eq (int_rem x y) (pos 0) then in_range (int_div x y) else Err Range
+
+-- by a divisor other than 0
 abbrev pub quotient : ℤ → ℤ → Result ℤ Fault
-quotient x y =
-    if int_eq y (pos 0) then Err NotANumber
-    else (if int_eq (int_rem x y) (pos 0) then in_range (int_div x y) else Err Range)
+quotient x y = if int_eq y (pos 0) then Err NotANumber else whole_quotient x y
 
 -- the remainder has the dividend's sign
 abbrev pub remainder : ℤ → ℤ → Result ℤ Fault

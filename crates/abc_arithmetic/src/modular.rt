@@ -11,7 +11,6 @@ pub fn to_unsigned(n: i64) -> u32
 }
 
 /// The number from -2^31 to 2^31 - 1 that differs from `n` by a multiple of 2^32.
-#[tactic(auto, unfolding(crate::specs::Modular::unsigned, std::specs::Int::int_wrap))]
 pub fn to_signed(n: i64) -> i32
     ensures { result ≡ signed n }
 {

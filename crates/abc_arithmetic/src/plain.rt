@@ -1,6 +1,6 @@
-ghost use Rattle.std.specs.Prelude.{◌≡◌, IfOk};
+ghost use Rattle.std.specs.Prelude.{◌≡◌, ◌≢◌, pos, IfOk};
 ghost use Rattle.abc_base.specs.Ranges.{IsNumber};
-ghost use Rattle.abc_arithmetic.specs.Plain.{difference, negated, product, quotient, remainder, sum};
+ghost use Rattle.abc_arithmetic.specs.Plain.{difference, negated, product, quotient, remainder, sum, whole_quotient};
 
 use crate::range::within;
 use abc_base::Fault;
@@ -36,6 +36,20 @@ pub fn multiply(x: i64, y: i64) -> Result<i64, Fault>
     }
 }
 
+/// The quotient where the division leaves no remainder.
+fn divide_exactly(x: i64, y: i64) -> Result<i64, Fault>
+    requires left { IsNumber x }
+    requires right { IsNumber y }
+    requires nonzero { y ≢ pos 0 }
+    ensures value { result ≡ whole_quotient x y }
+    ensures number { IfOk result IsNumber }
+{
+    if x % y != 0 {
+        return Err(Fault::Range);
+    }
+    within(x / y)
+}
+
 pub fn divide(x: i64, y: i64) -> Result<i64, Fault>
     requires left { IsNumber x }
     requires right { IsNumber y }
@@ -45,10 +59,7 @@ pub fn divide(x: i64, y: i64) -> Result<i64, Fault>
     if y == 0 {
         return Err(Fault::NotANumber);
     }
-    if x % y != 0 {
-        return Err(Fault::Range);
-    }
-    within(x / y)
+    divide_exactly(x, y)
 }
 
 pub fn modulo(x: i64, y: i64) -> Result<i64, Fault>

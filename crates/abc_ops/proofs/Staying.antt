@@ -21,7 +21,7 @@ use Rattle.abc_objects.specs.Growing.{Grows}
 use Rattle.abc_objects.proofs.Grown.{grows_self}
 use Rattle.abc_objects.proofs.Kept.{made_grows, over_made}
 use Rattle.abc_ops.specs.Conversions.{spelled}
-use Rattle.abc_ops.specs.Left.{Leaves, Left, follow, text_made, text_made_if, then}
+use Rattle.abc_ops.specs.Left.{Leaves, Left, followed_by, followed, text_made, text_made_if}
 use Rattle.abc_ops.specs.declared.end.OpEnd.{OpEnd}
 
 -- the arena still stands over the file, it only grew, and the text that was answered is there
@@ -82,10 +82,10 @@ grows_itself old new e = subst (λ (h : Heap). Grows old h) (sym e) (grows_self 
 
 -- ---- steps one after the other
 
-pub then_ok : {A B : Type 0} (step : Left A) (x : A) (g : Heap) (f : Heap → A → Left B) (r : Result B OpEnd) (k : Heap) → Leaves step (Ok x) g → Leaves (f g x) r k → Leaves (then step f) r k
+pub then_ok : {A B : Type 0} (step : Left A) (x : A) (g : Heap) (f : Heap → A → Left B) (r : Result B OpEnd) (k : Heap) → Leaves step (Ok x) g → Leaves (f g x) r k → Leaves (followed step f) r k
 then_ok {A = A} step x g f r k e p =
-    subst (λ (q : Result A OpEnd). Leaves (follow step.heap q f) r k) e.0 (subst (λ (h : Heap). Leaves (follow h (Ok x) f) r k) e.1 p)
+    subst (λ (q : Result A OpEnd). Leaves (followed_by step.heap q f) r k) e.0 (subst (λ (h : Heap). Leaves (followed_by h (Ok x) f) r k) e.1 p)
 
-pub then_err : {A B : Type 0} (step : Left A) (x : OpEnd) (g : Heap) (f : Heap → A → Left B) → Leaves step (Err x) g → Leaves (then step f) (Err x) g
+pub then_err : {A B : Type 0} (step : Left A) (x : OpEnd) (g : Heap) (f : Heap → A → Left B) → Leaves step (Err x) g → Leaves (followed step f) (Err x) g
 then_err {A = A} {B = B} step x g f e =
-    subst (λ (q : Result A OpEnd). Leaves (follow step.heap q f) (Err {T = B} x) g) e.0 (subst (λ (h : Heap). Leaves (follow h (Err {T = A} x) f) (Err {T = B} x) g) e.1 (refl, refl))
+    subst (λ (q : Result A OpEnd). Leaves (followed_by step.heap q f) (Err {T = B} x) g) e.0 (subst (λ (h : Heap). Leaves (followed_by h (Err {T = A} x) f) (Err {T = B} x) g) e.1 (refl, refl))

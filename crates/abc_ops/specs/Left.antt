@@ -25,12 +25,12 @@ abbrev pub ends_by : {A : Type 0} → Heap → OpEnd → Left A
 ends_by h e = record { answer = Err e; heap = h }
 
 -- what follows a step where it has a value, in the heap that the step left
-abbrev pub follow : {A B : Type 0} → Heap → Result A OpEnd → (Heap → A → Left B) → Left B
-follow h (Ok x) f = f h x
-follow h (Err e) f = ends_by h e
+abbrev pub followed_by : {A B : Type 0} → Heap → Result A OpEnd → (Heap → A → Left B) → Left B
+followed_by h (Ok x) f = f h x
+followed_by h (Err e) f = ends_by h e
 
-abbrev pub then : {A B : Type 0} → Left A → (Heap → A → Left B) → Left B
-then step f = follow step.heap step.answer f
+abbrev pub followed : {A B : Type 0} → Left A → (Heap → A → Left B) → Left B
+followed step f = followed_by step.heap step.answer f
 
 -- a text is made, after all others, where there is room for it
 abbrev pub text_made_if : Bool → Heap → List ℕ → Left Span
@@ -50,7 +50,7 @@ abbrev pub text_value : Heap → Span → Left Value
 text_value h s = gives h (values.Text s)
 
 abbrev pub as_value : Left Span → Left Value
-as_value step = then step text_value
+as_value step = followed step text_value
 
 -- the operation answered and left what it is to
 abbrev pub Leaves : {A : Type 0} → Left A → Result A OpEnd → Heap → Type 0

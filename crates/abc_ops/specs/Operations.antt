@@ -14,7 +14,7 @@ use Rattle.abc_objects.specs.Fixed.{fixed_span}
 use Rattle.abc_objects.specs.declared.fixed.FixedText.{FixedText}
 use Rattle.abc_objects.specs.declared.fixed.FixedText.TheVariants as fixed
 use Rattle.abc_ops.specs.Conversions.{spelled}
-use Rattle.abc_ops.specs.Left.{Left, as_value, gives, number_or_fault, text_made, then, unchanged}
+use Rattle.abc_ops.specs.Left.{Left, as_value, gives, number_or_fault, followed, text_made, unchanged}
 
 -- ---- typeof
 
@@ -46,8 +46,8 @@ computed_single h op v =
 -- the texts of both, the left made before the right, one after the other
 abbrev pub joined : LinkedFile → Heap → Value → Value → Left Value
 joined l h x y =
-    then (spelled l h x) (λ g a.
-    then (spelled l g y) (λ k b.
+    followed (spelled l h x) (λ g a.
+    followed (spelled l g y) (λ k b.
     as_value (text_made k (text_of l.file.strings k a ++ text_of l.file.strings k b))))
 
 abbrev pub computed : LinkedFile → Heap → ℕ → Value → Value → Left Value

@@ -4,16 +4,16 @@ ghost use Rattle.abc_program.specs.Linked.{LinkedFile};
 ghost use Rattle.abc_objects.specs.Growing.{Grows};
 ghost use Rattle.abc_objects.specs.Stands.{StandsOver};
 ghost use Rattle.abc_objects.specs.Values.{Exists};
+ghost use Rattle.abc_ops.specs.Names.{NamesAreShort};
 ghost use Rattle.abc_ops.specs.Coercions.{Coerces, Keeps, kept_by, undefined_as_null as null_for_undefined};
 
 use crate::conversions::convert;
 use crate::end::OpEnd;
-use crate::program::Types;
 use crate::types::is_of;
 use abc_base::HostClass;
 use abc_conversions::{Conversion, is_nothing, is_undefined};
+use abc_link::{Linked, Ty};
 use abc_objects::{Arena, Value};
-use abc_program::Ty;
 
 fn undefined_as_null(v: Value) -> Value
     ensures value { result ≡ null_for_undefined v }
@@ -36,11 +36,11 @@ fn keep_by(is: bool, v: Value) -> Result<Value, OpEnd>
     Err(OpEnd::Throw(HostClass::TypeError))
 }
 
-fn keep<L: Types>(l: &L, a: &Arena, ty: Ty, v: Value) -> Result<Value, OpEnd>
-    requires over { StandsOver (L.linked l.now) a.now }
-    requires value { Exists (L.linked l.now) a.now v }
-    ensures kept { Keeps (L.linked l.now) a.now ty v result }
-    ensures there { IfOk result (Exists (L.linked l.now) a.now) }
+fn keep(l: &Linked, a: &Arena, ty: Ty, v: Value) -> Result<Value, OpEnd>
+    requires over { StandsOver l.now a.now }
+    requires value { Exists l.now a.now v }
+    ensures kept { Keeps l.now a.now ty v result }
+    ensures there { IfOk result (Exists l.now a.now) }
 {
     let is = is_of(l, a, ty, v);
     keep_by(is, v)
@@ -48,13 +48,14 @@ fn keep<L: Types>(l: &L, a: &Arena, ty: Ty, v: Value) -> Result<Value, OpEnd>
 
 /// The value that coercion to a type gives.
 #[tactic(auto, using(crate::proofs::Staying::grows_itself))]
-pub fn coerce<L: Types>(l: &L, a: &mut Arena, ty: Ty, v: Value) -> Result<Value, OpEnd>
-    requires over { StandsOver (L.linked l.now) a.old }
-    requires value { Exists (L.linked l.now) a.old v }
-    ensures left { Coerces (L.linked l.now) a.old a.new ty v result }
-    ensures over { StandsOver (L.linked l.now) a.new }
+pub fn coerce(l: &Linked, a: &mut Arena, ty: Ty, v: Value) -> Result<Value, OpEnd>
+    requires over { StandsOver l.now a.old }
+    requires names { NamesAreShort l.now }
+    requires value { Exists l.now a.old v }
+    ensures left { Coerces l.now a.old a.new ty v result }
+    ensures over { StandsOver l.now a.new }
     ensures grows { Grows a.old a.new }
-    ensures there { IfOk result (Exists (L.linked l.now) a.new) }
+    ensures there { IfOk result (Exists l.now a.new) }
 {
     match ty {
         Ty::Any => Ok(v),

@@ -4,9 +4,9 @@ ghost use Rattle.abc_objects.specs.Values.{Exists};
 ghost use Rattle.abc_ops.specs.Compares.{compared, compared_as, or_fault as or_fault_of};
 
 use crate::end::OpEnd;
-use crate::program::Types;
 use abc_base::Fault;
 use abc_conversions::{Comparison, Texts, are_ordered, comparison, equal, strictly_equal};
+use abc_link::Linked;
 use abc_objects::{Arena, Span, Value};
 
 /// The texts of an arena over a linked file, and its namespaces.
@@ -16,15 +16,15 @@ struct Reading<'a, L> {
     arena: &'a Arena,
 }
 
-impl<L: Types> Texts for Reading<'_, L> {
+impl Texts for Reading<'_, L> {
     ghost use Rattle.abc_heap.specs.Texts.{IsText, text_of};
     ghost use Rattle.abc_names.specs.Pool.{same_space};
 
-    ghost has = { λ r s. IsText (L.linked r.l.now).file.strings r.arena.now s };
+    ghost has = { λ r s. IsText r.l.now.file.strings r.arena.now s };
 
-    ghost text = { λ r. text_of (L.linked r.l.now).file.strings r.arena.now };
+    ghost text = { λ r. text_of r.l.now.file.strings r.arena.now };
 
-    ghost same = { λ r. same_space (L.linked r.l.now).file };
+    ghost same = { λ r. same_space r.l.now.file };
 
     fn bytes(&self, s: Span) -> &[u8] {
         self.arena.text_bytes(self.l, s)
@@ -44,10 +44,10 @@ fn or_fault(outcome: Result<bool, Fault>) -> Result<bool, OpEnd>
     }
 }
 
-fn compare_as<L: Types>(l: &L, a: &Arena, how: Comparison, x: Value, y: Value) -> Result<bool, OpEnd>
-    requires left { Exists (L.linked l.now) a.now x }
-    requires right { Exists (L.linked l.now) a.now y }
-    ensures { result ≡ compared_as (L.linked l.now) a.now how x y }
+fn compare_as(l: &Linked, a: &Arena, how: Comparison, x: Value, y: Value) -> Result<bool, OpEnd>
+    requires left { Exists l.now a.now x }
+    requires right { Exists l.now a.now y }
+    ensures { result ≡ compared_as l.now a.now how x y }
 {
     let texts = Reading { l, arena: a };
     match how {
@@ -59,11 +59,11 @@ fn compare_as<L: Types>(l: &L, a: &Arena, how: Comparison, x: Value, y: Value) -
 
 /// What a comparison from AB to B0 answers: equals, strictequals, lessthan, lessequals, greaterthan and greaterequals. The
 /// left is converted before the right.
-pub fn compare<L: Types>(l: &L, a: &Arena, op: u8, x: Value, y: Value) -> Result<bool, OpEnd>
-    requires over { StandsOver (L.linked l.now) a.now }
-    requires left { Exists (L.linked l.now) a.now x }
-    requires right { Exists (L.linked l.now) a.now y }
-    ensures { result ≡ compared (L.linked l.now) a.now op x y }
+pub fn compare(l: &Linked, a: &Arena, op: u8, x: Value, y: Value) -> Result<bool, OpEnd>
+    requires over { StandsOver l.now a.now }
+    requires left { Exists l.now a.now x }
+    requires right { Exists l.now a.now y }
+    ensures { result ≡ compared l.now a.now op x y }
 {
     compare_as(l, a, comparison(op), x, y)
 }

@@ -9,28 +9,31 @@ ghost use Rattle.abc_objects.specs.Stands.{StandsOver};
 ghost use Rattle.abc_objects.specs.Starts.{string_span};
 ghost use Rattle.abc_objects.specs.Values.{Exists, IsSpace};
 ghost use Rattle.abc_ops.specs.Conversions.{converted, objected, spelled, text_or_null as text_or_null_of};
+ghost use Rattle.abc_ops.specs.Names.{NamesAreShort};
 ghost use Rattle.abc_ops.specs.Left.{Leaves, as_value, number_or_fault};
 
 use crate::end::OpEnd;
 use crate::made::make_number;
-use crate::program::Types;
 use abc_base::{Fault, HostClass};
 use abc_conversions::{Conversion, is_nothing, is_true, to_int, to_number, to_uint};
+use abc_link::Linked;
 use abc_names::space_name;
 use abc_objects::{Arena, FixedText, Span, Value, span_of_string};
 
 /// The text of a namespace: its name.
-fn name_of_space<L: Types>(l: &L, space: u32) -> Span
-    requires { IsSpace (L.linked l.now) space }
-    ensures { result ≡ string_span (L.linked l.now).file.strings (space_in (L.linked l.now).file space).name }
+fn name_of_space(l: &Linked, space: u32) -> Span
+    requires names { NamesAreShort l.now }
+    requires space { IsSpace l.now space }
+    ensures { result ≡ string_span l.now.file.strings (space_in l.now.file space).name }
 {
     let abc = l.abc();
     span_of_string(&abc.strings, space_name(abc, space))
 }
 
-fn spell_as<L: Types>(l: &L, a: &mut Arena, v: Value) -> Result<Span, OpEnd>
-    requires { Exists (L.linked l.now) a.old v }
-    ensures { Leaves (spelled (L.linked l.now) a.old v) result a.new }
+fn spell_as(l: &Linked, a: &mut Arena, v: Value) -> Result<Span, OpEnd>
+    requires names { NamesAreShort l.now }
+    requires value { Exists l.now a.old v }
+    ensures { Leaves (spelled l.now a.old v) result a.new }
 {
     match v {
         Value::Undefined => Ok(FixedText::Undefined.span()),
@@ -45,25 +48,27 @@ fn spell_as<L: Types>(l: &L, a: &mut Arena, v: Value) -> Result<Span, OpEnd>
 }
 
 /// The text of a value. That of a number is made, and a namespace has its name.
-pub fn spell<L: Types>(l: &L, a: &mut Arena, v: Value) -> Result<Span, OpEnd>
-    requires over { StandsOver (L.linked l.now) a.old }
-    requires value { Exists (L.linked l.now) a.old v }
-    ensures left { Leaves (spelled (L.linked l.now) a.old v) result a.new }
-    ensures over { StandsOver (L.linked l.now) a.new }
+pub fn spell(l: &Linked, a: &mut Arena, v: Value) -> Result<Span, OpEnd>
+    requires over { StandsOver l.now a.old }
+    requires names { NamesAreShort l.now }
+    requires value { Exists l.now a.old v }
+    ensures left { Leaves (spelled l.now a.old v) result a.new }
+    ensures over { StandsOver l.now a.new }
     ensures grows { Grows a.old a.new }
-    ensures there { IfOk result (IsText (L.linked l.now).file.strings a.new) }
+    ensures there { IfOk result (IsText l.now.file.strings a.new) }
 {
     spell_as(l, a, v)
 }
 
 /// The text of a value, as a value.
-fn to_text<L: Types>(l: &L, a: &mut Arena, v: Value) -> Result<Value, OpEnd>
-    requires over { StandsOver (L.linked l.now) a.old }
-    requires value { Exists (L.linked l.now) a.old v }
-    ensures left { Leaves (as_value (spelled (L.linked l.now) a.old v)) result a.new }
-    ensures over { StandsOver (L.linked l.now) a.new }
+fn to_text(l: &Linked, a: &mut Arena, v: Value) -> Result<Value, OpEnd>
+    requires over { StandsOver l.now a.old }
+    requires names { NamesAreShort l.now }
+    requires value { Exists l.now a.old v }
+    ensures left { Leaves (as_value (spelled l.now a.old v)) result a.new }
+    ensures over { StandsOver l.now a.new }
     ensures grows { Grows a.old a.new }
-    ensures there { IfOk result (Exists (L.linked l.now) a.new) }
+    ensures there { IfOk result (Exists l.now a.new) }
 {
     match spell(l, a, v) {
         Ok(s) => Ok(Value::Text(s)),
@@ -73,13 +78,14 @@ fn to_text<L: Types>(l: &L, a: &mut Arena, v: Value) -> Result<Value, OpEnd>
 
 /// The text of a value, and null for undefined and null.
 #[tactic(auto, using(crate::proofs::Staying::grows_itself))]
-fn text_or_null<L: Types>(l: &L, a: &mut Arena, v: Value) -> Result<Value, OpEnd>
-    requires over { StandsOver (L.linked l.now) a.old }
-    requires value { Exists (L.linked l.now) a.old v }
-    ensures left { Leaves (text_or_null_of (L.linked l.now) a.old v) result a.new }
-    ensures over { StandsOver (L.linked l.now) a.new }
+fn text_or_null(l: &Linked, a: &mut Arena, v: Value) -> Result<Value, OpEnd>
+    requires over { StandsOver l.now a.old }
+    requires names { NamesAreShort l.now }
+    requires value { Exists l.now a.old v }
+    ensures left { Leaves (text_or_null_of l.now a.old v) result a.new }
+    ensures over { StandsOver l.now a.new }
     ensures grows { Grows a.old a.new }
-    ensures there { IfOk result (Exists (L.linked l.now) a.new) }
+    ensures there { IfOk result (Exists l.now a.new) }
 {
     if is_nothing(v) {
         return Ok(Value::Null);
@@ -112,13 +118,14 @@ pub fn number_value(n: Result<i64, Fault>) -> Result<Value, OpEnd>
 
 /// The value that a conversion gives. Text conversion of a number makes a text.
 #[tactic(auto, using(crate::proofs::Staying::grows_itself))]
-pub fn convert<L: Types>(l: &L, a: &mut Arena, to: Conversion, v: Value) -> Result<Value, OpEnd>
-    requires over { StandsOver (L.linked l.now) a.old }
-    requires value { Exists (L.linked l.now) a.old v }
-    ensures left { Leaves (converted (L.linked l.now) a.old to v) result a.new }
-    ensures over { StandsOver (L.linked l.now) a.new }
+pub fn convert(l: &Linked, a: &mut Arena, to: Conversion, v: Value) -> Result<Value, OpEnd>
+    requires over { StandsOver l.now a.old }
+    requires names { NamesAreShort l.now }
+    requires value { Exists l.now a.old v }
+    ensures left { Leaves (converted l.now a.old to v) result a.new }
+    ensures over { StandsOver l.now a.new }
     ensures grows { Grows a.old a.new }
-    ensures there { IfOk result (Exists (L.linked l.now) a.new) }
+    ensures there { IfOk result (Exists l.now a.new) }
 {
     match to {
         Conversion::ConvertS => to_text(l, a, v),

@@ -8,7 +8,6 @@ mod conversions;
 mod end;
 mod made;
 mod operations;
-mod program;
 mod types;
 
 pub use abc_conversions::Conversion;
@@ -17,5 +16,4 @@ pub use compares::compare;
 pub use conversions::convert;
 pub use end::OpEnd;
 pub use operations::{binary, unary};
-pub use program::Types;
 pub use types::is_of;

@@ -1,15 +1,17 @@
 ghost use Rattle.std.specs.Prelude.{◌≡◌, IfOk};
+ghost use Rattle.abc_program.specs.Linked.{LinkedFile};
 ghost use Rattle.abc_objects.specs.Growing.{Grows};
 ghost use Rattle.abc_objects.specs.Stands.{StandsOver};
 ghost use Rattle.abc_objects.specs.Values.{Exists};
 ghost use Rattle.abc_ops.specs.Left.{Leaves};
+ghost use Rattle.abc_ops.specs.Names.{NamesAreShort};
 ghost use Rattle.abc_ops.specs.Operations.{computed, computed_single, joined, name_of_what, type_name as type_name_of};
 
 use crate::conversions::{number_value, spell};
 use crate::end::OpEnd;
 use crate::made::make_joined;
-use crate::program::Types;
 use abc_conversions::{calculate_value, calculate_values, is_text, is_true, operation, single};
+use abc_link::Linked;
 use abc_objects::{Arena, FixedText, Value, What};
 
 fn name_of_object(what: What) -> FixedText
@@ -24,11 +26,10 @@ fn name_of_object(what: What) -> FixedText
 }
 
 /// The name of a value's type, as `typeof` gives it.
-fn type_name<L: Types>(l: &L, a: &Arena, v: Value) -> FixedText
-    requires { Exists (L.linked l.now) a.now v }
+fn type_name(a: &Arena, v: Value) -> FixedText
+    requires { (l : LinkedFile) × Exists l a.now v }
     ensures { result ≡ type_name_of a.now v }
 {
-    let _ = l;
     match v {
         Value::Undefined => FixedText::Undefined,
         Value::Null => FixedText::Object,
@@ -43,16 +44,17 @@ fn type_name<L: Types>(l: &L, a: &Arena, v: Value) -> FixedText
 /// What an opcode computes of a value: 90, 91, 93, 97, C0, C1 and C4 a number, 95 the name of its type, 96 whether it is
 /// false.
 #[tactic(auto, using(crate::proofs::Staying::grows_itself))]
-pub fn unary<L: Types>(l: &L, a: &mut Arena, op: u8, v: Value) -> Result<Value, OpEnd>
-    requires over { StandsOver (L.linked l.now) a.old }
-    requires value { Exists (L.linked l.now) a.old v }
+pub fn unary(l: &Linked, a: &mut Arena, op: u8, v: Value) -> Result<Value, OpEnd>
+    requires over { StandsOver l.now a.old }
+    requires value { Exists l.now a.old v }
     ensures left { Leaves (computed_single a.old op v) result a.new }
-    ensures over { StandsOver (L.linked l.now) a.new }
+    ensures over { StandsOver l.now a.new }
     ensures grows { Grows a.old a.new }
-    ensures there { IfOk result (Exists (L.linked l.now) a.new) }
+    ensures there { IfOk result (Exists l.now a.new) }
 {
+    let _ = l;
     if op == 0x95 {
-        return Ok(Value::Text(type_name(l, a, v).span()));
+        return Ok(Value::Text(type_name(a, v).span()));
     }
     if op == 0x96 {
         return Ok(Value::Bool(!is_true(v)));
@@ -61,14 +63,15 @@ pub fn unary<L: Types>(l: &L, a: &mut Arena, op: u8, v: Value) -> Result<Value, 
 }
 
 /// The texts of two values, the left made before the right, one after the other.
-fn join<L: Types>(l: &L, a: &mut Arena, x: Value, y: Value) -> Result<Value, OpEnd>
-    requires over { StandsOver (L.linked l.now) a.old }
-    requires left { Exists (L.linked l.now) a.old x }
-    requires right { Exists (L.linked l.now) a.old y }
-    ensures left { Leaves (joined (L.linked l.now) a.old x y) result a.new }
-    ensures over { StandsOver (L.linked l.now) a.new }
+fn join(l: &Linked, a: &mut Arena, x: Value, y: Value) -> Result<Value, OpEnd>
+    requires over { StandsOver l.now a.old }
+    requires names { NamesAreShort l.now }
+    requires left { Exists l.now a.old x }
+    requires right { Exists l.now a.old y }
+    ensures left { Leaves (joined l.now a.old x y) result a.new }
+    ensures over { StandsOver l.now a.new }
     ensures grows { Grows a.old a.new }
-    ensures there { IfOk result (Exists (L.linked l.now) a.new) }
+    ensures there { IfOk result (Exists l.now a.new) }
 {
     let s = spell(l, a, x)?;
     let t = spell(l, a, y)?;
@@ -80,14 +83,15 @@ fn join<L: Types>(l: &L, a: &mut Arena, x: Value, y: Value) -> Result<Value, OpE
 
 /// What an opcode from A0 to AA or from C5 to C7 computes of two values. A0 joins texts where one of them is a text.
 #[tactic(auto, using(crate::proofs::Staying::grows_itself))]
-pub fn binary<L: Types>(l: &L, a: &mut Arena, op: u8, x: Value, y: Value) -> Result<Value, OpEnd>
-    requires over { StandsOver (L.linked l.now) a.old }
-    requires left { Exists (L.linked l.now) a.old x }
-    requires right { Exists (L.linked l.now) a.old y }
-    ensures left { Leaves (computed (L.linked l.now) a.old op x y) result a.new }
-    ensures over { StandsOver (L.linked l.now) a.new }
+pub fn binary(l: &Linked, a: &mut Arena, op: u8, x: Value, y: Value) -> Result<Value, OpEnd>
+    requires over { StandsOver l.now a.old }
+    requires names { NamesAreShort l.now }
+    requires left { Exists l.now a.old x }
+    requires right { Exists l.now a.old y }
+    ensures left { Leaves (computed l.now a.old op x y) result a.new }
+    ensures over { StandsOver l.now a.new }
     ensures grows { Grows a.old a.new }
-    ensures there { IfOk result (Exists (L.linked l.now) a.new) }
+    ensures there { IfOk result (Exists l.now a.new) }
 {
     let texts = is_text(x) || is_text(y);
     if op == 0xA0 && texts {

@@ -4,10 +4,9 @@ ghost use Rattle.abc_objects.specs.Stands.{StandsOver};
 ghost use Rattle.abc_objects.specs.Values.{Exists};
 ghost use Rattle.abc_ops.specs.Types.{IsBool, IsInstanceOf, IsInt, IsNum, IsObjectOf, IsOf, IsSomething, IsSpaceValue, IsTextValue, IsUInt, IsUndefined, NamesInterface};
 
-use crate::program::{Layouts, Types};
 use abc_kinds::is_below;
+use abc_link::{LayoutId, Linked, Part, Ty};
 use abc_objects::{Arena, Value};
-use abc_program::{LayoutId, Part, Ty};
 
 fn is_undefined(v: Value) -> bool
     ensures { IsTrue result ↔ IsUndefined v }
@@ -82,20 +81,21 @@ fn is_space_value(v: Value) -> bool
 }
 
 /// Whether a value is an object whose layout is the given one or stands under it.
-fn is_object_of<L: Types>(l: &L, a: &Arena, layout: LayoutId, v: Value) -> bool
-    requires { Exists (L.linked l.now) a.now v }
-    ensures { IsTrue result ↔ IsObjectOf (L.linked l.now) a.now layout.0 v }
+fn is_object_of(l: &Linked, a: &Arena, layout: LayoutId, v: Value) -> bool
+    requires over { StandsOver l.now a.now }
+    requires value { Exists l.now a.now v }
+    ensures { IsTrue result ↔ IsObjectOf l.now a.now layout.0 v }
 {
     match v {
-        Value::Obj(o) => is_below(&Layouts(l), a.layout(o), layout),
+        Value::Obj(o) => is_below(l, a.layout(o), layout),
         _ => false,
     }
 }
 
 /// Whether a part is the instances of a class that names an interface.
-fn names_interface<L: Types>(l: &L, part: Part, interface: u32) -> bool
-    requires { HasLayout (L.linked l.now).file part }
-    ensures { IsTrue result ↔ NamesInterface (L.linked l.now) interface part }
+fn names_interface(l: &Linked, part: Part, interface: u32) -> bool
+    requires { HasLayout l.now.file part }
+    ensures { IsTrue result ↔ NamesInterface l.now interface part }
 {
     match part {
         Part::Instance(class) => l.implements(class, interface),
@@ -104,10 +104,10 @@ fn names_interface<L: Types>(l: &L, part: Part, interface: u32) -> bool
 }
 
 /// Whether a value is an instance of a class that names an interface.
-fn is_instance_of<L: Types>(l: &L, a: &Arena, interface: u32, v: Value) -> bool
-    requires over { StandsOver (L.linked l.now) a.now }
-    requires value { Exists (L.linked l.now) a.now v }
-    ensures { IsTrue result ↔ IsInstanceOf (L.linked l.now) a.now interface v }
+fn is_instance_of(l: &Linked, a: &Arena, interface: u32, v: Value) -> bool
+    requires over { StandsOver l.now a.now }
+    requires value { Exists l.now a.now v }
+    ensures { IsTrue result ↔ IsInstanceOf l.now a.now interface v }
 {
     match v {
         Value::Obj(o) => names_interface(l, l.part_of(a.layout(o)), interface),
@@ -116,10 +116,10 @@ fn is_instance_of<L: Types>(l: &L, a: &Arena, interface: u32, v: Value) -> bool
 }
 
 /// Whether a value is of a type. Undefined and null are of no type but any, and undefined is of void.
-pub fn is_of<L: Types>(l: &L, a: &Arena, ty: Ty, v: Value) -> bool
-    requires over { StandsOver (L.linked l.now) a.now }
-    requires value { Exists (L.linked l.now) a.now v }
-    ensures { IsTrue result ↔ IsOf (L.linked l.now) a.now ty v }
+pub fn is_of(l: &Linked, a: &Arena, ty: Ty, v: Value) -> bool
+    requires over { StandsOver l.now a.now }
+    requires value { Exists l.now a.now v }
+    ensures { IsTrue result ↔ IsOf l.now a.now ty v }
 {
     match ty {
         Ty::Any => true,
