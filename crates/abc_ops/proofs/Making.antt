@@ -1,5 +1,6 @@
 -- What the arena's calls on texts leave, as steps.
 use Rattle.std.proofs.Common.{◌≡◌, ℕ, ◌+◌, ◌<◌, ◌≤◌, ◌∙◌, List, ◌++◌, length, take, drop, Bool, true, false, nat_le, refl, sym, ap, subst, arith, length-take, length-drop, length-append}
+use Rattle.std.proofs.lemmas.Bool.Decides.{nat_tests}
 use Rattle.std.specs.declared.result.Result.{Result}
 use Rattle.std.specs.declared.result.Result.TheVariants.{Ok, Err}
 use Rattle.abc_cells.specs.declared.values.Span.{Span}
@@ -12,10 +13,10 @@ use Rattle.abc_ops.specs.declared.end.OpEnd.{OpEnd}
 use Rattle.abc_ops.specs.declared.end.OpEnd.TheVariants as ends
 
 le_true : (a b : ℕ) → a ≤ b → nat_le a b ≡ true
-le_true a b h = grind arith
+le_true a b h = grind (arith, nat_tests)
 
 le_false : (a b : ℕ) → b < a → nat_le a b ≡ false
-le_false a b h = grind arith
+le_false a b h = grind (arith, nat_tests)
 
 -- a text that was made
 pub made_is : (old new : Heap) (s : Span) (bytes : List ℕ) → IsTextMade old new s bytes → Leaves (text_made old bytes) (Ok s) new

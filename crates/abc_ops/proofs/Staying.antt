@@ -7,6 +7,8 @@ use Rattle.std.specs.declared.result.Result.TheVariants.{Ok, Err}
 use Rattle.abc_cells.specs.declared.values.Span.{Span}
 use Rattle.abc_cells.specs.declared.values.Value.{Value}
 use Rattle.abc_cells.specs.declared.values.Value.TheVariants as values
+use Rattle.abc_conversions.specs.Numbers.{IsInRange}
+use Rattle.abc_conversions.specs.Reads.{IsReadable}
 use Rattle.abc_heap.specs.Heap.{Heap}
 use Rattle.abc_heap.specs.Texts.{IsText}
 use Rattle.abc_names.specs.Pool.{space}
@@ -42,17 +44,17 @@ fixed_longer : (l : LinkedFile) (h : Heap) (n : ℕ) → StandsOver l h → n �
 fixed_longer l h n s le = omega (arith, le, ap length s.fixed.1, length-append fixed_bytes s.fixed.0)
 
 pub fixed_there : (l : LinkedFile) (h : Heap) (t : FixedText) → StandsOver l h → IsText l.file.strings h (fixed_span t)
-fixed_there l h fixed.Empty s = fixed_longer l h _ s (omega arith)
-fixed_there l h fixed.Undefined s = fixed_longer l h _ s (omega arith)
-fixed_there l h fixed.Null s = fixed_longer l h _ s (omega arith)
-fixed_there l h fixed.True s = fixed_longer l h _ s (omega arith)
-fixed_there l h fixed.False s = fixed_longer l h _ s (omega arith)
-fixed_there l h fixed.Number s = fixed_longer l h _ s (omega arith)
-fixed_there l h fixed.Boolean s = fixed_longer l h _ s (omega arith)
-fixed_there l h fixed.Str s = fixed_longer l h _ s (omega arith)
-fixed_there l h fixed.Object s = fixed_longer l h _ s (omega arith)
-fixed_there l h fixed.Function s = fixed_longer l h _ s (omega arith)
-fixed_there l h fixed.Message s = fixed_longer l h _ s (omega arith)
+fixed_there l h fixed.Empty s = fixed_longer l h 0 s (omega arith)
+fixed_there l h fixed.Undefined s = fixed_longer l h 9 s (omega arith)
+fixed_there l h fixed.Null s = fixed_longer l h 13 s (omega arith)
+fixed_there l h fixed.True s = fixed_longer l h 17 s (omega arith)
+fixed_there l h fixed.False s = fixed_longer l h 22 s (omega arith)
+fixed_there l h fixed.Number s = fixed_longer l h 28 s (omega arith)
+fixed_there l h fixed.Boolean s = fixed_longer l h 35 s (omega arith)
+fixed_there l h fixed.Str s = fixed_longer l h 41 s (omega arith)
+fixed_there l h fixed.Object s = fixed_longer l h 47 s (omega arith)
+fixed_there l h fixed.Function s = fixed_longer l h 55 s (omega arith)
+fixed_there l h fixed.Message s = fixed_longer l h 62 s (omega arith)
 
 -- and so is a string of the pool
 pub string_there : (pool : List (List ℕ)) (h : Heap) (i : ℕ) → IsText pool h (string_span pool i)
@@ -89,3 +91,23 @@ then_ok {A = A} step x g f r k e p =
 pub then_err : {A B : Type 0} (step : Left A) (x : OpEnd) (g : Heap) (f : Heap → A → Left B) → Leaves step (Err x) g → Leaves (followed step f) (Err x) g
 then_err {A = A} {B = B} step x g f e =
     subst (λ (q : Result A OpEnd). Leaves (followed_by step.heap q f) (Err {T = B} x) g) e.0 (subst (λ (h : Heap). Leaves (followed_by h (Err {T = A} x) f) (Err {T = B} x) g) e.1 (refl, refl))
+
+-- ---- values that are there
+
+pub in_range_there : (l : LinkedFile) (h : Heap) (v : Value) → Exists l h v → IsInRange v
+in_range_there l h values.Undefined e = tt
+in_range_there l h values.Null e = tt
+in_range_there l h (values.Num n) e = e
+in_range_there l h (values.Bool b) e = tt
+in_range_there l h (values.Text s) e = tt
+in_range_there l h (values.Space n) e = tt
+in_range_there l h (values.Obj o) e = tt
+
+pub readable_there : (l : LinkedFile) (h : Heap) (v : Value) → Exists l h v → IsReadable (λ (s : Span). IsText l.file.strings h s) v
+readable_there l h values.Undefined e = tt
+readable_there l h values.Null e = tt
+readable_there l h (values.Num n) e = tt
+readable_there l h (values.Bool b) e = tt
+readable_there l h (values.Text s) e = e
+readable_there l h (values.Space n) e = tt
+readable_there l h (values.Obj o) e = tt

@@ -7,10 +7,10 @@ pub returns-in-Ok : goal.returns-in-Ok
 returns-in-Ok c =
     let pool = c.args.l.now.file.strings in
     let h = c.args.a.now in
-    made_is h c.text_join.new.a c.in-Ok.s (text_of pool h c.args.s ++ text_of pool h c.args.t) c.in-Ok.ensures.made
+    made_is h c.text_join.new.self c.in-Ok.s (text_of pool h c.args.s ++ text_of pool h c.args.t) c.in-Ok.ensures.made
 
 pub returns-in-Err : goal.returns-in-Err
 returns-in-Err c =
     let pool = c.args.l.now.file.strings in
     let h = c.args.a.now in
-    full_is h c.text_join.new.a (text_of pool h c.args.s ++ text_of pool h c.args.t) _ c.in-Err.full (length_of_both pool h c.args.s c.args.t c.requires.left c.requires.right) c.in-Err.ensures.made
+    full_is h c.text_join.new.self (text_of pool h c.args.s ++ text_of pool h c.args.t) _ c.in-Err.full (length_of_both pool h c.args.s c.args.t c.requires.left c.requires.right) c.in-Err.ensures.made
