@@ -25,7 +25,8 @@ pub enum Conversion {
 
 /// 1 for true and 0 for false.
 pub fn number_of_truth(truth: bool) -> i64
-    ensures { result ≡ number_of_bool truth }
+    ensures value { result ≡ number_of_bool truth }
+    ensures number { IsNumber result }
 {
     if truth { 1 } else { 0 }
 }
@@ -60,6 +61,7 @@ pub fn to_whole(v: Value) -> Result<i64, Fault>
 }
 
 /// A value as a number from -2147483648 to 2147483647.
+#[tactic(auto, using(crate::proofs::Following::goes, crate::proofs::Following::stops))]
 pub fn to_int(v: Value) -> Result<i64, Fault>
     requires { IsInRange v }
     ensures value { result ≡ int_of v }
@@ -70,6 +72,7 @@ pub fn to_int(v: Value) -> Result<i64, Fault>
 }
 
 /// A value as a number from 0 to 4294967295.
+#[tactic(auto, using(crate::proofs::Following::goes, crate::proofs::Following::stops))]
 pub fn to_uint(v: Value) -> Result<i64, Fault>
     requires { IsInRange v }
     ensures value { result ≡ uint_of v }
@@ -118,6 +121,7 @@ fn operand(op: Operation, v: Value) -> Result<i64, Fault>
 }
 
 /// The result of an operation on two values, of which the left is made a number first.
+#[tactic(auto, using(crate::proofs::Following::goes, crate::proofs::Following::stops))]
 pub fn calculate_values(op: Operation, x: Value, y: Value) -> Result<i64, Fault>
     requires left { IsInRange x }
     requires right { IsInRange y }
@@ -153,6 +157,7 @@ fn operand_single(op: Single, v: Value) -> Result<i64, Fault>
 }
 
 /// The result of an operation on one value.
+#[tactic(auto, using(crate::proofs::Following::goes, crate::proofs::Following::stops))]
 pub fn calculate_value(op: Single, v: Value) -> Result<i64, Fault>
     requires { IsInRange v }
     ensures value { result ≡ calculated_single_of op v }

@@ -45,13 +45,17 @@ fn is_below(a: &[u8], b: &[u8]) -> bool
 fn order_texts(order: Order, a: &[u8], b: &[u8]) -> Result<bool, Fault>
     ensures { result ≡ ordered_texts order a.now b.now }
 {
-    if !is_ascii(a) || !is_ascii(b) {
+    if !is_ascii(a) {
+        return Err(Fault::TextOrder);
+    }
+    if !is_ascii(b) {
         return Err(Fault::TextOrder);
     }
     Ok(holds(order, is_below(a, b), is_below(b, a)))
 }
 
 /// A value as a number; undefined is none, and no fault.
+#[tactic(auto, using(crate::proofs::Following::goes, crate::proofs::Following::stops))]
 fn number_or_none(v: Value) -> Result<Option<i64>, Fault>
     requires { IsInRange v }
     ensures { result ≡ number_if v }
@@ -72,6 +76,7 @@ fn numbers_hold(order: Order, left: Option<i64>, right: Option<i64>) -> bool
     }
 }
 
+#[tactic(auto, using(crate::proofs::Following::goes, crate::proofs::Following::stops))]
 fn order_numbers(order: Order, x: Value, y: Value) -> Result<bool, Fault>
     requires left { IsInRange x }
     requires right { IsInRange y }
