@@ -1,5 +1,5 @@
 ghost use Rattle.std.specs.Prelude.{◌≡◌};
-ghost use Rattle.abc_conversions.specs.Equality.{equal_values, number_equals, object_equals, same_number, same_object, same_space, same_text, same_truth, same_values, space_equals, text_equals};
+ghost use Rattle.abc_conversions.specs.Equality.{equal_values, number_equals, object_equals, same_number, same_object, same_space, same_text, same_truth, same_values, text_equals};
 ghost use Rattle.abc_conversions.specs.Reads.{IsReadable};
 
 use crate::kinds::{is_nothing, is_null, is_undefined};

@@ -12,6 +12,6 @@ mod texts;
 pub use equality::{equal, strictly_equal};
 pub use kinds::{is_nothing, is_null, is_text, is_undefined};
 pub use numbers::{Conversion, calculate_value, calculate_values, is_true, to_int, to_number, to_uint};
-pub use opcodes::{Comparison, comparison, operation, single};
+pub use opcodes::{Comparison, comparison_at, operation, single};
 pub use order::{Order, are_ordered};
 pub use texts::Texts;

@@ -50,7 +50,7 @@ pub fn single(op: u8) -> Single
 }
 
 /// The comparison of an opcode from AB to B0; of any other, that of B0.
-pub fn comparison(op: u8) -> Comparison
+pub fn comparison_at(op: u8) -> Comparison
     ensures { result ≡ comparison_of op }
 {
     match op {

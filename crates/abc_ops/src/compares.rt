@@ -5,7 +5,7 @@ ghost use Rattle.abc_ops.specs.Compares.{compared, compared_as, or_fault as or_f
 
 use crate::end::OpEnd;
 use abc_base::Fault;
-use abc_conversions::{Comparison, Texts, are_ordered, comparison, equal, strictly_equal};
+use abc_conversions::{Comparison, Texts, are_ordered, comparison_at, equal, strictly_equal};
 use abc_link::Linked;
 use abc_objects::{Arena, Span, Value};
 
@@ -65,5 +65,5 @@ pub fn compare(l: &Linked, a: &Arena, op: u8, x: Value, y: Value) -> Result<bool
     requires right { Exists l.now a.now y }
     ensures { result ≡ compared l.now a.now op x y }
 {
-    compare_as(l, a, comparison(op), x, y)
+    compare_as(l, a, comparison_at(op), x, y)
 }
