@@ -1,5 +1,5 @@
 -- Steps one after the other.
-use Rattle.std.proofs.Common.{◌≡◌, refl, sym, ◌∙◌, subst}
+use Rattle.std.proofs.Common.{◌≡◌, refl, subst}
 use Rattle.std.specs.declared.result.Result.{Result}
 use Rattle.std.specs.declared.result.Result.TheVariants.{Ok, Err}
 use Rattle.abc_base.specs.declared.names.Fault.{Fault}
@@ -7,7 +7,7 @@ use Rattle.abc_conversions.specs.Numbers.{and_then}
 
 -- a fault ends both
 pub stops : {A B : Type 0} (r : Result A Fault) (f : A → Result B Fault) (e : Fault) → Err e ≡ r → Err e ≡ and_then r f
-stops {A = A} {B = B} r f e p = subst (λ (q : Result A Fault). Err {T = B} e ≡ and_then q f) p refl
+stops {A = A} {B = B} r f e p = subst (λ (q : Result A Fault). ◌≡◌ {A = Result B Fault} (Err e) (and_then q f)) p refl
 
 -- a value goes on
 pub goes : {A B : Type 0} (r : Result A Fault) (f : A → Result B Fault) (x : A) (s : Result B Fault) → Ok x ≡ r → s ≡ f x → s ≡ and_then r f

@@ -21,15 +21,17 @@ le_false a b h = grind (arith, nat_tests)
 -- a text that was made
 pub made_is : (old new : Heap) (s : Span) (bytes : List ℕ) → IsTextMade old new s bytes → Leaves (text_made old bytes) (Ok s) new
 made_is old new s bytes m =
+    let answer : Span → Result Span OpEnd = λ x. Ok x in
     let P : Bool → Type 0 = λ b. Leaves (text_made_if b old bytes) (Ok s) new in
-    subst P (sym (le_true (length old.made + length bytes) old.limits.text m.fits)) (ap (λ (x : Span). Ok {E = OpEnd} x) m.span, m.heap)
+    subst P (sym (le_true (length old.made + length bytes) old.limits.text m.fits)) (ap answer m.span, m.heap)
 
 -- a text for which there is no room
 pub full_is : (old new : Heap) (bytes : List ℕ) (need : ℕ) (e : Full) → length bytes ≡ need → IsFull old new (length old.made) need old.limits.text limits.Text e → Leaves (text_made old bytes) (Err (ends.Full e.0)) new
 full_is old new bytes need e len f =
+    let answer : Full → Result Span OpEnd = λ x. Err (ends.Full x.0) in
     let P : Bool → Type 0 = λ b. Leaves (text_made_if b old bytes) (Err (ends.Full e.0)) new in
     let over : old.limits.text < length old.made + length bytes = omega (arith, f.1, len) in
-    subst P (sym (le_false (length old.made + length bytes) old.limits.text over)) (ap (λ (x : Full). Err {T = Span} (ends.Full x.0)) f.0, f.2)
+    subst P (sym (le_false (length old.made + length bytes) old.limits.text over)) (ap answer f.0, f.2)
 
 -- the bytes of a text are as many as its span says
 pub length_of_text : (pool : List (List ℕ)) (h : Heap) (s : Span) → IsText pool h s → length (text_of pool h s) ≡ s.len

@@ -89,8 +89,8 @@ then_ok {A = A} step x g f r k e p =
     subst (λ (q : Result A OpEnd). Leaves (followed_by step.heap q f) r k) e.0 (subst (λ (h : Heap). Leaves (followed_by h (Ok x) f) r k) e.1 p)
 
 pub then_err : {A B : Type 0} (step : Left A) (x : OpEnd) (g : Heap) (f : Heap → A → Left B) → Leaves step (Err x) g → Leaves (followed step f) (Err x) g
-then_err {A = A} {B = B} step x g f e =
-    subst (λ (q : Result A OpEnd). Leaves (followed_by step.heap q f) (Err {T = B} x) g) e.0 (subst (λ (h : Heap). Leaves (followed_by h (Err {T = A} x) f) (Err {T = B} x) g) e.1 (refl, refl))
+then_err {A = A} step x g f e =
+    subst (λ (q : Result A OpEnd). Leaves (followed_by step.heap q f) (Err x) g) e.0 (subst (λ (h : Heap). Leaves (followed_by h (Err x) f) (Err x) g) e.1 (refl, refl))
 
 -- ---- values that are there
 
