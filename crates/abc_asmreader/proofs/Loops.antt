@@ -123,9 +123,9 @@ module _ {A : Type 0} (word : Word) (item : Item A) (old : Reader) where
         let k = n - (length xs + 1) in
         let number : n - length xs ≡ suc k = less n (length xs) (length rows) few in
         sym (
-          ap (λ (l : List Row). with_front xs (items_read word (one n) (n - length xs) l)) e
-          ∙ ap (λ (m : ℕ). with_front xs (items_read word (one n) m (row ∷ rows))) number
-          ∙ ap (with_front xs) (one_line word (one n) k row rows r same is)
+        ap (λ (l : List Row). with_front xs (items_read word (one n) (n - length xs) l)) e
+        ∙ ap (λ (m : ℕ). with_front xs (items_read word (one n) m (row ∷ rows))) number
+        ∙ ap (with_front xs) (one_line word (one n) k row rows r same is)
         )
         ∙ going.reads n le
 

@@ -240,7 +240,7 @@ still_reads old mid new line repeated noted is next sizes all instances classes 
     let short = fewer (raws_after line) (line.number + 1) (length line.rest.now) new.next here in
     let rest : raws_after line ≡ raws_at new.next = comes_raws (raws_after line) (line.number + 1) (length line.rest.now) new.next here in
     let counted : (place : ℕ) → count_all_raws place (raws_at old.next) ≡ cond (nat_eq (place_of line.word) place) (1 + count_all_raws place (raws_at new.next)) (count_all_raws place (raws_at new.next)) = λ place.
-        ap (λ (o : Option Line). count_all_raws place (raws_at o)) next ∙ ap (λ (raws : List Raw). cond (nat_eq (place_of line.word) place) (1 + count_all_raws place raws) (count_all_raws place raws)) rest in
+    ap (λ (o : Option Line). count_all_raws place (raws_at o)) next ∙ ap (λ (raws : List Raw). cond (nat_eq (place_of line.word) place) (1 + count_all_raws place raws) (count_all_raws place raws)) rest in
     let instances_are : new.instances_left ≡ count_all_raws 14 (raws_at new.next) = one_step (nat_eq (place_of line.word) 14) new.instances_left (count_all_raws 14 (raws_at new.next)) old.instances_left (noted.instances ∙ instances) (is.instances ∙ counted 14) in
     let classes_are : new.classes_left ≡ count_all_raws 20 (raws_at new.next) = one_step (nat_eq (place_of line.word) 20) new.classes_left (count_all_raws 20 (raws_at new.next)) old.classes_left (noted.classes ∙ classes) (is.classes ∙ counted 20) in
     let more : new.instances ≡ old.instances = noted.all ∙ all in

@@ -127,7 +127,12 @@ fn read_line<F: Flat>(reader: &mut Reader<'_>) -> Result<F::Value, AsmError>
     ensures reads { ReadsItem (lone_item F.value) reader.old reader.new result }
 {
     let taken = reader.take()?;
-    let value = F::line(reader.alloc, reader.operands.as_slice(), &reader.sizes, &reader.places);
+    let value = F::line(
+        reader.alloc,
+        reader.operands.as_slice(),
+        &reader.sizes,
+        &reader.places,
+    );
     made(&taken, value)
 }
 

@@ -11,7 +11,9 @@ mod texts;
 
 pub use equality::{equal, strictly_equal};
 pub use kinds::{is_nothing, is_null, is_text, is_undefined};
-pub use numbers::{Conversion, calculate_value, calculate_values, is_true, to_int, to_number, to_uint};
+pub use numbers::{
+    Conversion, calculate_value, calculate_values, is_true, to_int, to_number, to_uint,
+};
 pub use opcodes::{Comparison, comparison_at, operation, single};
 pub use order::{Order, are_ordered};
 pub use texts::Texts;

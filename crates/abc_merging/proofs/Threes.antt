@@ -153,9 +153,9 @@ state_antisym p t a b h k =
 pub joins : (p : LinkedFile) → IsLinkedFile p → (old n j : State) → HasOneShape old n → (StateLe p n old → ⊥) → JoinsState p old n j → MergesTo p old n (Joined j)
 joins p t old n j shape ne h =
     elim (state_join p (good p t) (layouts p) (omega arith) (omega arith) old n shape) [
-      inl le ↦ absurd (ne le)
+      | inl le ↦ absurd (ne le)
       | inr r ↦ (
-        let mine = is_join p old n j h in
-        let e : r.0 ≡ j = state_antisym p t r.0 j (r.1.least j mine.left mine.right) (mine.least r.0 r.1.left r.1.right) in
-        (mine, subst (λ (s : State). rank (layouts p) s < rank (layouts p) old) e r.2))
+          let mine = is_join p old n j h in
+          let e : r.0 ≡ j = state_antisym p t r.0 j (r.1.least j mine.left mine.right) (mine.least r.0 r.1.left r.1.right) in
+          (mine, subst (λ (s : State). rank (layouts p) s < rank (layouts p) old) e r.2))
     ]

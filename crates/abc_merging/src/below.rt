@@ -13,12 +13,7 @@ use abc_program::Kind;
 use abc_typing::{Scope, Stack, State};
 
 /// Whether the operand at a depth is at most another.
-fn is_operand_at_most<T: Tree>(
-    tree: &T,
-    a: &Stack<Kind>,
-    b: &Stack<Kind>,
-    depth: usize,
-) -> bool
+fn is_operand_at_most<T: Tree>(tree: &T, a: &Stack<Kind>, b: &Stack<Kind>, depth: usize) -> bool
     requires { IsLinkedFile (T.file tree.now) }
     ensures { IsTrue result ↔ IsAtMost (T.file tree.now) (get_or a.now depth kinds.Any) (get_or b.now depth kinds.Any) }
 {
@@ -77,12 +72,7 @@ fn is_scope_at_most<T: Tree>(tree: &T, a: Scope, b: Scope) -> bool
 }
 
 /// Whether the scope at a place is at most another.
-fn is_scope_at_most_at<T: Tree>(
-    tree: &T,
-    a: &Table<Scope>,
-    b: &Table<Scope>,
-    place: usize,
-) -> bool
+fn is_scope_at_most_at<T: Tree>(tree: &T, a: &Table<Scope>, b: &Table<Scope>, place: usize) -> bool
     requires { IsLinkedFile (T.file tree.now) }
     ensures { IsTrue result ↔ ScopeLe (T.file tree.now) (get_or a.now place no_scope) (get_or b.now place no_scope) }
 {

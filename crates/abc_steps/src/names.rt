@@ -48,12 +48,30 @@ fn parts_of_one(name: &Multiname) -> Parts
     ensures { parts_of result ≡ runtime (Some name.now) }
 {
     match name {
-        Multiname::Rt { .. } => Parts { name: false, space: true },
-        Multiname::RtL { .. } => Parts { name: true, space: true },
-        Multiname::MultiL { .. } => Parts { name: true, space: false },
-        Multiname::QName { .. } => Parts { name: false, space: false },
-        Multiname::Multi { .. } => Parts { name: false, space: false },
-        Multiname::TypeName { .. } => Parts { name: false, space: false },
+        Multiname::Rt { .. } => Parts {
+            name: false,
+            space: true,
+        },
+        Multiname::RtL { .. } => Parts {
+            name: true,
+            space: true,
+        },
+        Multiname::MultiL { .. } => Parts {
+            name: true,
+            space: false,
+        },
+        Multiname::QName { .. } => Parts {
+            name: false,
+            space: false,
+        },
+        Multiname::Multi { .. } => Parts {
+            name: false,
+            space: false,
+        },
+        Multiname::TypeName { .. } => Parts {
+            name: false,
+            space: false,
+        },
     }
 }
 
@@ -88,11 +106,17 @@ pub fn parts_of_name(linked: &Linked, name: u32) -> Parts
     ensures { parts_of result ≡ runtime (name_at linked.now name) }
 {
     if name == 0 {
-        return Parts { name: false, space: false };
+        return Parts {
+            name: false,
+            space: false,
+        };
     }
     match linked.abc().names.find((name - 1) as usize) {
         Some(name) => parts_of_one(name),
-        None => Parts { name: false, space: false },
+        None => Parts {
+            name: false,
+            space: false,
+        },
     }
 }
 
