@@ -40,7 +40,7 @@ listed text other out a got done input (OfFile.accepted v f x) = record {
   bytes = listing v;
   read = f;
   got = subst (λ (y : Answer). Got out y.out) x got;
-  text = λ bytes. record { text = text v input bytes f; no_other = λ w. other v w input bytes f };
+  text = λ bytes. record { is_text = text v input bytes f; no_other = λ w. other v w input bytes f };
 }
 listed text other out a got done input (OfFile.refused r f x) = let k = ap (λ (y : Answer). y.status) x in absurd cc
 

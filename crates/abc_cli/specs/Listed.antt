@@ -11,7 +11,7 @@ AreBytes input = All (λ byte. byte < 256) input
 
 -- a text of the file, and of no other
 pub record IsTextOf (text : List ℕ) (v : Abc) : Type 0 where
-  pub text : IsAssemblyOf text v
+  pub is_text : IsAssemblyOf text v
   pub no_other : (w : Abc) → IsAssemblyOf text w → w ≡ v
 
 -- The sink got a text of the file that the input spells, and of no other.

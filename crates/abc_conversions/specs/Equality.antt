@@ -1,5 +1,5 @@
 -- Equality of values.
-use Rattle.std.specs.Prelude.{ℕ, ℤ, List, Bool, true, false, not, if◌then◌else◌, nat_eq, Ok, Err}
+use Rattle.std.specs.Prelude.{ℕ, ℤ, List, Bool, false, not, if◌then◌else◌, nat_eq, Ok, Err}
 use Rattle.std.specs.Ordering.{int_eq}
 use Rattle.std.specs.Str.{bytes_eq}
 use Rattle.std.specs.declared.result.Result.{Result}

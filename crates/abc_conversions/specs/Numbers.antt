@@ -1,5 +1,5 @@
 -- Values as numbers and truths.
-use Rattle.std.specs.Prelude.{ℕ, ℤ, pos, Bool, true, false, not, nat_eq, if◌then◌else◌, Ok, Err}
+use Rattle.std.specs.Prelude.{ℤ, pos, Bool, true, false, not, nat_eq, if◌then◌else◌, Ok, Err}
 use Rattle.std.specs.Ordering.{int_eq}
 use Rattle.std.specs.declared.result.Result.{Result}
 use Rattle.abc_base.specs.Ranges.{IsNumber}
