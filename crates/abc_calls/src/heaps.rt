@@ -1,6 +1,8 @@
-use super::*;
+//! The heap at its limits and below.
+
 use abc_base::{Bytes, NoMemory, Table};
 use abc_cells::{ObjId, Span, Value};
+use abc_heap::{Full, Limit, Limits, Starts, Store, What};
 use std::alloc::Global;
 use std::test::*;
 
