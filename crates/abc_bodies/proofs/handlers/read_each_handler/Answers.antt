@@ -4,7 +4,7 @@ use Rattle.std.proofs.lemmas.Result.{err_from_is_err_and}
 use Rattle.abc_tables.specs.Bodies.{handler, IsWithin}
 use Rattle.abc_varint.specs.declared.error.ReadError.TheVariants as errors
 use Rattle.abc_varint.proofs.Loop.{goes_on, ends, other_err}
-use Rattle.abc_bodies.proofs.handlers.read_many.Goals as goal
+use Rattle.abc_bodies.proofs.handlers.read_each_handler.Goals as goal
 
 pub returns-in_err-handler-clause-value : goal.returns-in_err-handler-clause-value
 returns-in_err-handler-clause-value g c =

@@ -2,7 +2,7 @@ use Rattle.std.proofs.Common.{◌≤◌, ◌-◌}
 use Rattle.std.specs.Prelude.{All}
 use Rattle.abc_tables.specs.Bodies.{IsReadyBody}
 use Rattle.abc_bodies.proofs.Collecting.{Collecting}
-use Rattle.abc_bodies.proofs.read.read_many.Given as goal
+use Rattle.abc_bodies.proofs.read.read_each_body.Given as goal
 
 abbrev pub invariant-loop : goal.invariant-loop
 invariant-loop g l = record {

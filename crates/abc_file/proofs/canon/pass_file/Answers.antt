@@ -12,7 +12,7 @@ use Rattle.abc_varint.specs.declared.error.ReadError.TheVariants as errors
 use Rattle.abc_varint.specs.Reads.{known}
 use Rattle.abc_varint.proofs.Loop.{other_err}
 use Rattle.abc_file.proofs.Passing.{definitions_fail, bodies_fail}
-use Rattle.abc_file.proofs.canon.pass_parts.Goals as goal
+use Rattle.abc_file.proofs.canon.pass_file.Goals as goal
 
 pub returns : goal.returns
 unfolding file_read file_bytes pools_bytes definitions_bytes bodies_bytes

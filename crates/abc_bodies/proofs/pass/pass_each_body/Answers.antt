@@ -4,7 +4,7 @@ use Rattle.std.proofs.lemmas.Result.{err_from_is_err_and}
 use Rattle.abc_varint.specs.declared.error.ReadError.TheVariants as errors
 use Rattle.abc_varint.proofs.Loop.{other_err}
 use Rattle.abc_bodies.proofs.Passing.{begins, goes_on, fails, passed}
-use Rattle.abc_bodies.proofs.pass.pass_many.Goals as goal
+use Rattle.abc_bodies.proofs.pass.pass_each_body.Goals as goal
 
 pub returns-in_err-method-clause-value : goal.returns-in_err-method-clause-value
 returns-in_err-method-clause-value g c =

@@ -8,7 +8,7 @@ use Rattle.abc_varint.specs.Reads.{known}
 use Rattle.abc_varint.proofs.Inputs.{known_is}
 use Rattle.abc_varint.proofs.Loop.{other_err}
 use Rattle.abc_bodies.proofs.Collecting.{collects, fails, collected}
-use Rattle.abc_bodies.proofs.read.read_many.Goals as goal
+use Rattle.abc_bodies.proofs.read.read_each_body.Goals as goal
 
 pub returns-in_err-body-clause-value : goal.returns-in_err-body-clause-value
 returns-in_err-body-clause-value g c =

@@ -2,7 +2,7 @@ use Rattle.std.proofs.Common.{◌≤◌, ◌-◌, length}
 use Rattle.std.specs.Prelude.{All}
 use Rattle.abc_tables.specs.Bodies.{handler, IsWithin}
 use Rattle.abc_varint.proofs.Loop.{Going}
-use Rattle.abc_bodies.proofs.handlers.read_many.Given as goal
+use Rattle.abc_bodies.proofs.handlers.read_each_handler.Given as goal
 
 abbrev pub invariant-loop : goal.invariant-loop
 invariant-loop g l = record {

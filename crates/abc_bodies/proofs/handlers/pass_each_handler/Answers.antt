@@ -5,7 +5,7 @@ use Rattle.abc_bodies.specs.Moved.{moved_bytes, moved_handler}
 use Rattle.abc_varint.specs.declared.error.ReadError.TheVariants as errors
 use Rattle.abc_varint.proofs.Loop.{other_err}
 use Rattle.abc_varint.proofs.Passing.{goes_on, ends}
-use Rattle.abc_bodies.proofs.handlers.pass_many.Goals as goal
+use Rattle.abc_bodies.proofs.handlers.pass_each_handler.Goals as goal
 
 pub returns-in_err-pass_handler : goal.returns-in_err-pass_handler
 returns-in_err-pass_handler g c =
