@@ -1,3 +1,2 @@
 pub mod Ending
-pub mod Listings
 pub mod Usages

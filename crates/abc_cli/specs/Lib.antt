@@ -1,5 +1,4 @@
 pub mod Lines
 pub mod Outcome
 pub mod End
-pub mod Listed
 pub mod Stops
