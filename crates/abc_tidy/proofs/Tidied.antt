@@ -1,5 +1,7 @@
 -- The tidied value of a file, and the first rule that is broken.
-use Rattle.std.proofs.Common.{◌≡◌, ℕ, ◌<◌, List, map, length, get_or, Some, None, refl, sym, ap, subst, ◌∙◌, arith}
+use Rattle.std.proofs.Common.{◌≡◌, ℕ, zero, suc, ◌<◌, ◌≤◌, ◌⊎◌, inl, inr, All, List, [], ◌∷◌, map, length, get_or, Some, None, refl, sym, ap, subst, ◌∙◌, arith}
+use Rattle.std.proofs.lemmas.Bool.{cases_lt}
+use Rattle.std.proofs.lemmas.List.{get_or_past}
 use Rattle.std.specs.declared.option.Option.{Option}
 use Rattle.abc_refs.specs.declared.nodes.Counts.{Counts}
 use Rattle.abc_refs.specs.declared.nodes.Numbers.{Numbers}
@@ -12,6 +14,8 @@ use Rattle.abc_tables.specs.declared.methods.Method.{Method}
 use Rattle.abc_tables.specs.declared.tables.Abc.{Abc}
 use Rattle.abc_tables.specs.Files.{Fits}
 use Rattle.abc_trees.specs.declared.heads.Head.{Head}
+use Rattle.abc_trees.specs.declared.keys.Key.{Key}
+use Rattle.abc_trees.specs.Classes.{AllClassed, AreClasses, class}
 use Rattle.abc_trees.specs.Visits.{IsVisited}
 use Rattle.abc_tidy.specs.declared.error.TidyRule.TheVariants as rules
 use Rattle.abc_tidy.specs.Entries.{graph_of, heads_of}
@@ -27,13 +31,30 @@ as_many v heads graph e f = ap length e ∙ same_count v ∙ sym (ap length f)
 pub the_roots : (v : Abc) (c : Counts) (refs : List Ref) (roots : List ℕ) → c ≡ counts_of v → refs ≡ file_refs v → roots ≡ map (λ r. node_of c r.pool r.index) refs → roots ≡ roots_of v
 the_roots v c refs roots e f is = is ∙ (λ i. map (λ r. node_of (e i) r.pool r.index) (f i))
 
+-- those that have classes are nodes
+all_nodes : (graph : List (List ℕ)) (classes : List (Option ℕ)) (xs : List ℕ) → length classes ≡ length graph → AllClassed classes xs → All (λ x. x < length graph) xs
+all_nodes graph classes [] len h k d lt = absurd (none k lt)
+  where
+    none : (k : ℕ) → k < 0 → ⊥
+    none k l = omega arith
+all_nodes graph classes (x ∷ xs) len h zero d lt = go (cases_lt x (length classes))
+  where
+    go : (x < length classes) ⊎ (length classes ≤ x) → x < length graph
+    go (inl l) = omega arith
+    go (inr le) = absurd (some_none (get_or_past classes x None le) h.0.is)
+      where
+        some_none : {o : Option ℕ} {n : ℕ} → o ≡ None → o ≡ Some n → ⊥
+        some_none a b = cc
+all_nodes graph classes (x ∷ xs) len h (suc k) d lt = all_nodes graph classes xs len h.1 k d (omega arith)
+
 abbrev with_numbers : Counts → List ℕ → Numbers
 with_numbers c numbers = record { counts = c; numbers = numbers }
 
-pub tidied_value : (v pools t : Abc) (c : Counts) (heads : List Head) (graph : List (List ℕ)) (roots seen numbers : List ℕ) → c ≡ counts_of v → heads ≡ heads_of v → graph ≡ graph_of v → roots ≡ roots_of v → IsVisited heads graph roots seen → AreNumbers v seen numbers → pools ≡ new_pools (with_numbers c numbers) v seen → t ≡ beside (new_file (number_in (with_numbers c numbers)) v) pools → IsTidiedValue v t
-tidied_value v pools t c heads graph roots seen numbers counts e f g visited numbered made is = record {
+pub tidied_value : (v pools t : Abc) (c : Counts) (heads : List Head) (graph : List (List ℕ)) (roots seen numbers : List ℕ) → c ≡ counts_of v → heads ≡ heads_of v → graph ≡ graph_of v → roots ≡ roots_of v → (keys : List Key) (classes : List (Option ℕ)) → AreClasses heads graph keys classes → AllClassed classes seen → IsVisited heads graph roots seen → AreNumbers v seen numbers → pools ≡ new_pools (with_numbers c numbers) v seen → t ≡ beside (new_file (number_in (with_numbers c numbers)) v) pools → IsTidiedValue v t
+tidied_value v pools t c heads graph roots seen numbers counts e f g keys classes valid classed visited numbered made is = record {
   seen = seen;
   numbers = numbers;
+  nodes = subst (λ gr. All (λ x. x < length gr) seen) f (all_nodes graph classes seen valid.len classed);
   visited = subst (λ hs. IsVisited hs (graph_of v) (roots_of v) seen) e (subst (λ gr. IsVisited heads gr (roots_of v) seen) f (subst (λ rs. IsVisited heads graph rs seen) g visited));
   numbered = numbered;
   is = is ∙ ap (beside (new_file (number_in (with_numbers c numbers)) v)) made ∙ ap (λ k. beside (new_file (number_in (with_numbers k numbers)) v) (new_pools (with_numbers k numbers) v seen)) counts;

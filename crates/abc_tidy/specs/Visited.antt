@@ -1,5 +1,5 @@
 -- The visit of a file, and its tidied value.
-use Rattle.std.specs.Prelude.{◌≡◌, ℕ, ◌+◌, ◌<◌, ◌⊎◌, Bool, List, map, take, length, count_by, get_or, nat_eq, nat_le, if◌then◌else◌}
+use Rattle.std.specs.Prelude.{◌≡◌, ℕ, ◌+◌, ◌<◌, ◌⊎◌, All, Bool, List, map, take, length, count_by, get_or, nat_eq, nat_le, if◌then◌else◌}
 use Rattle.abc_graph.specs.Graph.{targets}
 use Rattle.abc_refs.specs.declared.nodes.Counts.{Counts}
 use Rattle.abc_refs.specs.declared.nodes.Numbers.{Numbers}
@@ -61,10 +61,12 @@ IsNamed v seen y = IsAmong (roots_of v) y ⊎ IsPart v seen y
 pub record AreNumbers (v : Abc) (seen numbers : List ℕ) : Type 0 where
   pub numbers_of : (i y : ℕ) (t : Tree) → i < length seen → IsNamed v seen y → IsTreeIn v (get_or seen i 0) t → IsTreeIn v y t → get_or numbers y 0 ≡ number_at (counts_of v) seen i
 
--- The tidied value of a file: its definitions and bodies with the new numbers, beside the pools of the entries that were met.
+-- The tidied value of a file: its definitions and bodies with the new numbers, beside the pools of the entries that were met,
+-- each of which is one of the file.
 pub record IsTidiedValue (v t : Abc) : Type 0 where
   pub seen : List ℕ
   pub numbers : List ℕ
+  pub nodes : All (λ x. x < length (graph_of v)) seen
   pub visited : IsVisited (heads_of v) (graph_of v) (roots_of v) seen
   pub numbered : AreNumbers v seen numbers
   pub is : let f : Numbers = record { counts = counts_of v; numbers = numbers } in t ≡ beside (new_file (number_in f) v) (new_pools f v seen)

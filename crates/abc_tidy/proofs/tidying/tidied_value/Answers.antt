@@ -6,4 +6,5 @@ returns c =
     tidied_value c.args.abc.now c.in_ok-pools.pools c.in_ok-tidied.tidied c.args.counts c.in_ok-entries.entries.heads c.in_ok-entries.entries.graph c.in_ok-roots.roots c.in_ok-seen.seen c.in_ok-all.all
     c.requires.counts c.in_ok-entries.ensures.heads c.in_ok-entries.ensures.graph
     (the_roots c.args.abc.now c.args.counts c.args.refs.now c.in_ok-roots.roots c.requires.counts c.requires.refs c.in_ok-roots.ensures)
+    c.in_ok-classes.classes.keys.keys c.in_ok-classes.classes.classes c.in_ok-classes.ensures.valid c.in_ok-seen.ensures.classed
     c.in_ok-seen.ensures.visited c.in_ok-all.ensures c.in_ok-pools.ensures c.in_ok-tidied.ensures

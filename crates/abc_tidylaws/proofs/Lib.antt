@@ -1,0 +1,10 @@
+pub mod Filling
+pub mod Located
+pub mod Rows
+pub mod Same
+pub mod Distinct
+pub mod Moved
+pub mod Renewed
+pub mod Back
+pub mod Again
+pub mod Kept
