@@ -1,5 +1,6 @@
 -- Names without the public namespace, and traits that hide those of bases.
 use Rattle.std.proofs.Common.{◌≡◌, inl, inr, ℕ, List, [], ◌∷◌, ◌++◌, true, cond, eq-eqb, refl, sym, ap, ◌∙◌}
+use Rattle.std.proofs.lemmas.Bool.{false≢true}
 use Rattle.std.proofs.lemmas.List.{append-nil}
 use Rattle.std.proofs.lemmas.List.Folds.{find-append}
 use Rattle.std.specs.Option.{option_or}
@@ -24,9 +25,9 @@ unfolding answer
 front_answers l h n s cs ds any = elim (finds_first (is_answer l h n s) cs) [
     | inl hit ↦
         ap (λ o. named l o (list_any (fits l h n) (cs ++ ds))) (find-append (is_answer l h n s) cs ds)
-        ∙ ap (λ o. named l (option_or o (find (is_answer l h n s) ds)) (list_any (fits l h n) (cs ++ ds))) hit.1.1
-        ∙ sym (ap (λ o. named l o (list_any (fits l h n) cs)) hit.1.1)
-    | inr miss ↦ let no = sym any ∙ miss.0 in absurd (grind no)
+        ∙ ap (λ o. named l (option_or o (find (is_answer l h n s) ds)) (list_any (fits l h n) (cs ++ ds))) hit.2
+        ∙ sym (ap (λ o. named l o (list_any (fits l h n) cs)) hit.2)
+    | inr miss ↦ let no = sym any ∙ miss.0 in absurd (false≢true (sym no))
   ]
 
 -- the traits of a layout come first, and then those of its bases

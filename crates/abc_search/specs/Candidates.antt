@@ -1,7 +1,6 @@
 -- The candidates of a search, in order, and which of them fit a name.
-use Rattle.std.specs.Prelude.{ℕ, ◌+◌, List, [], ◌∷◌, ◌++◌, Bool, true, false, not, ◌&&◌, ◌||◌, map, reverse, Some, None, codes, if◌then◌else◌}
+use Rattle.std.specs.Prelude.{ℕ, ◌+◌, List, [], ◌∷◌, ◌++◌, Bool, true, false, not, ◌&&◌, ◌||◌, map, reverse, Some, None, if◌then◌else◌}
 use Rattle.std.specs.declared.option.Option.{Option}
-use Rattle.std.specs.Fmt.{decimal}
 use Rattle.std.specs.List.{find, list_any, flat_map}
 use Rattle.std.specs.Str.{bytes_eq}
 use Rattle.abc_cells.specs.declared.values.Span.{Span}
@@ -13,6 +12,7 @@ use Rattle.abc_heap.specs.Texts.{text_of}
 use Rattle.abc_heap.specs.What.{is_array}
 use Rattle.abc_program.specs.Linked.{LinkedFile, base}
 use Rattle.abc_program.specs.Owners.{owner_of}
+use Rattle.abc_search.specs.ElementNames.{is_length, names_element}
 use Rattle.abc_search.specs.Objects.{delegate_at, delegate_of}
 use Rattle.abc_search.specs.Spaces.{holds, holds_protected, holds_public, is_protected}
 use Rattle.abc_search.specs.Traits.{Trait, own}
@@ -45,8 +45,8 @@ text_in l h s = text_of l.file.strings h s
 
 abbrev pub fits : LinkedFile → Heap → Name → Candidate → Bool
 fits l h n (OfTrait x passed t) = bytes_eq (text_in l h n.text) t.text && fits_space l n x passed t.declared
-fits l h n (OfLength o) = bytes_eq (text_in l h n.text) (codes "length")
-fits l h n (OfElement o k) = bytes_eq (text_in l h n.text) (decimal k)
+fits l h n (OfLength o) = is_length (text_in l h n.text)
+fits l h n (OfElement o k) = names_element k (text_in l h n.text)
 fits l h n (OfProperty o s v) = bytes_eq (text_in l h n.text) (text_in l h s)
 
 -- ---- which are passed over: setters by a read, a call or a delete, getters by a write

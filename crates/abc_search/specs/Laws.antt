@@ -1,9 +1,11 @@
 -- What a reader would check of the searches.
-use Rattle.std.specs.Prelude.{◌≡◌, ◌⊎◌, ℕ, List, [], ◌∷◌, ◌++◌, Bool, true, false, map, Some, None, if◌then◌else◌}
+use Rattle.std.specs.Prelude.{◌≡◌, ◌⊎◌, ℕ, List, [], ◌∷◌, ◌++◌, Bool, true, false, map, slice_get, Some, None, if◌then◌else◌}
 use Rattle.std.specs.declared.option.Option.{Option}
 use Rattle.std.specs.List.{list_any}
 use Rattle.abc_cells.specs.declared.values.Value.{Value}
-use Rattle.abc_heap.specs.Heap.{Heap}
+use Rattle.abc_heap.specs.Heap.{Heap, elements_of, object_at, properties_of}
+use Rattle.abc_heap.specs.What.{is_array}
+use Rattle.abc_cells.specs.declared.values.Span.{Span}
 use Rattle.abc_heap.specs.declared.records.ScopeEntry.{ScopeEntry}
 use Rattle.abc_heap.specs.declared.records.ScopeId.{ScopeId}
 use Rattle.abc_program.specs.Linked.{LinkedFile}
@@ -12,6 +14,7 @@ use Rattle.abc_search.specs.Scopes.{Place, has, places, scope_named}
 use Rattle.abc_search.specs.Searches.{declared_found, found_in_scopes, found_on}
 use Rattle.abc_search.specs.Spaces.{holds_public}
 use Rattle.abc_search.specs.Traits.{own}
+use Rattle.abc_search.specs.declared.found.Found.{Found}
 use Rattle.abc_search.specs.declared.found.Found.TheVariants as founds
 use Rattle.abc_search.specs.declared.found.ScopeFound.TheVariants as results
 use Rattle.abc_search.specs.declared.found.Want.{Want}
@@ -44,3 +47,13 @@ own_candidates l x = map (OfTrait x (x ∷ [])) (own l x)
 
 abbrev pub HidesItsBase : Type 0
 HidesItsBase = (l : LinkedFile) (h : Heap) (x : ℕ) (n : Name) (want : Want) → list_any (is_answer l h n (skip_for want)) (own_candidates l x) ≡ true → declared_found l h x x n want ≡ answer l h n (skip_for want) (own_candidates l x)
+
+-- a property, an element or a length that is found is its holder's
+abbrev pub IsThere : Heap → Found → Type 0
+IsThere h (founds.Property holder x) = (k : ℕ) × (n : Span) × (slice_get (properties_of h.objects holder.0) k ≡ Some (Some (n, x)))
+IsThere h (founds.Element holder k) = (x : Value) × (slice_get (elements_of h.objects holder.0) k ≡ Some x)
+IsThere h (founds.Length holder) = is_array (object_at h.objects holder.0).what ≡ true
+IsThere h other = Unit {0}
+
+abbrev pub FindsWhatIsThere : Type 0
+FindsWhatIsThere = (l : LinkedFile) (h : Heap) (v : Value) (n : Name) (want : Want) → IsThere h (found_on l h v n want)

@@ -1,4 +1,4 @@
-ghost use Rattle.abc_search.specs.Laws.{AnswersTheFirst, FindsTheFirstPlace, FindsTraitsAlone, HidesItsBase};
+ghost use Rattle.abc_search.specs.Laws.{AnswersTheFirst, FindsTheFirstPlace, FindsTraitsAlone, FindsWhatIsThere, HidesItsBase};
 
 /// A search answers the first of its candidates that fits and is not passed over. Without one it is `WrongSide` where
 /// another fits, and else `Missing`.
@@ -19,4 +19,9 @@ pub fn properties_are_public()
 /// A trait of a layout that fits hides those of its bases.
 pub fn derived_trait_hides()
     ensures { HidesItsBase }
+{}
+
+/// A property, an element or a length that is found is its holder's.
+pub fn found_is_there()
+    ensures { FindsWhatIsThere }
 {}
