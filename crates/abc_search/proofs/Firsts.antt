@@ -1,9 +1,8 @@
 -- The first that passes a test.
-use Rattle.std.proofs.Common.{◌≡◌, ◌⊎◌, inl, inr, List, [], ◌∷◌, ◌++◌, Bool, true, false, cond, ◌||◌, refl, sym, ap, ◌∙◌}
+use Rattle.std.proofs.Common.{◌≡◌, ◌⊎◌, inl, inr, List, [], ◌∷◌, Bool, true, false, cond, ◌||◌, refl, ap, ◌∙◌}
 use Rattle.std.specs.Prelude.{Some, None}
-use Rattle.std.specs.declared.option.Option.{Option}
 use Rattle.std.specs.List.{find, list_any}
-use Rattle.abc_search.specs.Candidates.{answer, fits, found, is_answer, named}
+use Rattle.abc_search.specs.Candidates.{answer, fits, is_answer, named}
 use Rattle.abc_search.specs.Laws.{AnswersTheFirst, FindsTheFirstPlace, IsFirst}
 use Rattle.abc_search.specs.Scopes.{has, places, scope_named}
 use Rattle.abc_search.specs.Searches.{found_in_scopes}

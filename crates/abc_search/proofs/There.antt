@@ -1,5 +1,5 @@
 -- What is found is its holder's.
-use Rattle.std.proofs.Common.{◌≡◌, ℕ, zero, suc, ◌+◌, List, [], ◌∷◌, ◌++◌, Bool, true, false, cond, map, reverse, inl, inr, refl, sym, ap, subst, arith}
+use Rattle.std.proofs.Common.{◌≡◌, ℕ, suc, ◌+◌, List, [], ◌∷◌, ◌++◌, Bool, true, false, cond, map, reverse, inl, inr, refl, sym, subst, arith}
 use Rattle.std.specs.Prelude.{Some, None, slice_get}
 use Rattle.std.specs.declared.option.Option.{Option}
 use Rattle.std.specs.List.{flat_map, list_any}
@@ -11,7 +11,7 @@ use Rattle.abc_graph.specs.Ways.{way, before}
 use Rattle.abc_heap.specs.Heap.{Heap, elements_of, object_at, properties_of}
 use Rattle.abc_heap.specs.What.{is_array}
 use Rattle.abc_program.specs.Linked.{LinkedFile, base}
-use Rattle.abc_search.specs.Candidates.{Candidate, OfElement, OfLength, OfProperty, OfTrait, answer, candidates_on, elements, elements_from, fits, found, found_as, holder_of, is_answer, layout_at, own_things, properties, property_at, skip_for, things_along, traits_after, traits_on, where_public}
+use Rattle.abc_search.specs.Candidates.{Candidate, OfElement, OfLength, OfProperty, OfTrait, candidates_on, elements, elements_from, fits, found, found_as, holder_of, layout_at, own_things, properties, property_at, skip_for, things_along, traits_after, traits_on, where_public}
 use Rattle.abc_search.specs.Laws.{FindsWhatIsThere, IsThere}
 use Rattle.abc_search.specs.Objects.{delegate_at}
 use Rattle.abc_search.specs.Searches.{found_on}

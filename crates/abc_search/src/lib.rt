@@ -8,6 +8,9 @@ mod name;
 mod traits;
 
 pub use found::{Found, ScopeFound, Want};
-pub use laws::{answer_is_the_first, derived_trait_hides, found_is_there, place_is_the_first, properties_are_public};
+pub use laws::{
+    answer_is_the_first, derived_trait_hides, found_is_there, place_is_the_first,
+    properties_are_public,
+};
 pub use name::{Name, Spaces};
 pub use traits::{Declared, Member, TraitSpace};
