@@ -1,9 +1,0 @@
-//! What the parts of a step of the machine do, as definitions: room, objects that are made, operations, methods that are
-//! entered, calls and returns. The crates above say which opcode does what, and what a run means.
-#![tactic(auto)]
-
-mod laws;
-mod wait;
-
-pub use laws::type_test_decides;
-pub use wait::Wait;
