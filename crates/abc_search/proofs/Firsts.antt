@@ -30,13 +30,13 @@ finds_first test (x ∷ xs) = go (finds_first test xs) (test x) refl
 pub answers_the_first : AnswersTheFirst
 unfolding answer
 answers_the_first l h n s cs = elim (finds_first (is_answer l h n s) cs) [
-    | inl hit ↦ inl (hit.0, hit.1, ap (λ c. named l c (list_any (fits l h n) cs)) hit.2)
-    | inr miss ↦ inr (miss.0, ap (λ c. named l c (list_any (fits l h n) cs)) miss.1)
-  ]
+  | inl hit ↦ inl (hit.0, hit.1, ap (λ c. named l c (list_any (fits l h n) cs)) hit.2)
+  | inr miss ↦ inr (miss.0, ap (λ c. named l c (list_any (fits l h n) cs)) miss.1)
+]
 
 pub finds_the_first_place : FindsTheFirstPlace
 unfolding found_in_scopes
 finds_the_first_place l h scopes saved started n = elim (finds_first (has l h n) (places l h scopes saved)) [
-    | inl hit ↦ inl (hit.0, hit.1, ap (scope_named h started) hit.2)
-    | inr miss ↦ inr (miss.0, ap (scope_named h started) miss.1)
-  ]
+  | inl hit ↦ inl (hit.0, hit.1, ap (scope_named h started) hit.2)
+  | inr miss ↦ inr (miss.0, ap (scope_named h started) miss.1)
+]

@@ -23,12 +23,12 @@ finds_traits_alone l h v n want e =
 front_answers : (l : LinkedFile) (h : Heap) (n : Name) (s : Skip) (cs ds : List Candidate) → list_any (is_answer l h n s) cs ≡ true → answer l h n s (cs ++ ds) ≡ answer l h n s cs
 unfolding answer
 front_answers l h n s cs ds any = elim (finds_first (is_answer l h n s) cs) [
-    | inl hit ↦
-        ap (λ o. named l o (list_any (fits l h n) (cs ++ ds))) (find-append (is_answer l h n s) cs ds)
-        ∙ ap (λ o. named l (option_or o (find (is_answer l h n s) ds)) (list_any (fits l h n) (cs ++ ds))) hit.2
-        ∙ sym (ap (λ o. named l o (list_any (fits l h n) cs)) hit.2)
-    | inr miss ↦ let no = sym any ∙ miss.0 in absurd (false≢true (sym no))
-  ]
+  | inl hit ↦
+      ap (λ o. named l o (list_any (fits l h n) (cs ++ ds))) (find-append (is_answer l h n s) cs ds)
+      ∙ ap (λ o. named l (option_or o (find (is_answer l h n s) ds)) (list_any (fits l h n) (cs ++ ds))) hit.2
+      ∙ sym (ap (λ o. named l o (list_any (fits l h n) cs)) hit.2)
+  | inr miss ↦ let no = sym any ∙ miss.0 in absurd (false≢true (sym no))
+]
 
 -- the traits of a layout come first, and then those of its bases
 traits_split : (l : LinkedFile) (x : ℕ) → traits l x x ≡ own_candidates l x ++ traits_after l (x ∷ []) (steps (base l) x (base l x))

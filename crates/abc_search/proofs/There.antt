@@ -143,8 +143,8 @@ none_there h false = tt
 pub finds_what_is_there : FindsWhatIsThere
 unfolding found_on
 finds_what_is_there l h v n want = elim (answers_the_first l h n (skip_for want) (candidates_on l h n v)) [
-    | inl hit ↦
-        let own = each_within (IsOwn h) hit.1.before hit.1.after hit.0 (subst (λ cs. Each (IsOwn h) cs) hit.1.parts (candidates_own l h n v)) in
-        subst (λ f. IsThere h f) (sym hit.2) (candidate_there l h hit.0 own)
-    | inr miss ↦ subst (λ f. IsThere h f) (sym miss.1) (none_there h (list_any (fits l h n) (candidates_on l h n v)))
-  ]
+  | inl hit ↦
+      let own = each_within (IsOwn h) hit.1.before hit.1.after hit.0 (subst (λ cs. Each (IsOwn h) cs) hit.1.parts (candidates_own l h n v)) in
+      subst (λ f. IsThere h f) (sym hit.2) (candidate_there l h hit.0 own)
+  | inr miss ↦ subst (λ f. IsThere h f) (sym miss.1) (none_there h (list_any (fits l h n) (candidates_on l h n v)))
+]
