@@ -16,8 +16,6 @@ mod sources;
 mod status;
 mod streams;
 mod table;
-#[cfg(test)]
-mod tests;
 mod words;
 
 pub use formula::Formula;

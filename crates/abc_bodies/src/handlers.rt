@@ -19,6 +19,7 @@ use abc_varint::{
 };
 use std::alloc::Global;
 
+/// An exception, over code whose instructions start so.
 #[tactic(auto, unfolding(abc_tables::specs::Bodies::handler))]
 fn read_handler<S: Source>(
     w: &mut Window,
@@ -46,7 +47,7 @@ fn read_handler<S: Source>(
 }
 
 /// So many exceptions.
-fn read_many<S: Source>(
+fn read_each_handler<S: Source>(
     alloc: Global,
     w: &mut Window,
     source: &mut S,
@@ -83,10 +84,11 @@ pub fn read_handlers<S: Source>(
     ensures within { IfOk result (All (IsWithin (length starts.now - 1))) }
 {
     let count = read_u30(w, source)?;
-    let handlers = read_many(alloc, w, source, sizes, starts, count)?;
+    let handlers = read_each_handler(alloc, w, source, sizes, starts, count)?;
     Ok(handlers)
 }
 
+/// Appends where an instruction starts, or where the code ends.
 fn put_place(starts: &Table<u32>, place: u32, out: &mut Vec<u8>) -> Result<(), NoMemory>
     requires { place < length starts.now }
     ensures { Puts out.old.items out.new.items result (number_bytes (get_or starts.now place 0)) }
@@ -94,6 +96,7 @@ fn put_place(starts: &Table<u32>, place: u32, out: &mut Vec<u8>) -> Result<(), N
     put_u30(*starts.get(place as usize), out)
 }
 
+/// Appends an exception, over code whose instructions start so.
 #[tactic(auto, unfolding(abc_tables::specs::Bodies::handler_bytes), using(abc_varint::proofs::Putting::stays, std::proofs::Common::append_assoc))]
 fn put_handler(starts: &Table<u32>, handler: &Handler, out: &mut Vec<u8>) -> Result<(), NoMemory>
     requires some { 0 < length starts.now }
@@ -108,8 +111,9 @@ fn put_handler(starts: &Table<u32>, handler: &Handler, out: &mut Vec<u8>) -> Res
     Ok(())
 }
 
+/// Appends the exceptions, one after the other.
 #[tactic(auto, using(abc_varint::proofs::Putting::stays))]
-fn put_many(
+fn put_each_handler(
     starts: &Table<u32>,
     handlers: &Table<Handler>,
     out: &mut Vec<u8>,
@@ -136,7 +140,7 @@ pub fn put_handlers(
     ensures { Puts out.old.items out.new.items result (counted_bytes (handler_bytes starts.now) handlers.now) }
 {
     put_count(handlers.len(), out)?;
-    put_many(starts, handlers, out)?;
+    put_each_handler(starts, handlers, out)?;
     Ok(())
 }
 
@@ -186,7 +190,7 @@ fn pass_handler<S: Source>(
 }
 
 /// Passes so many exceptions.
-fn pass_many<S: Source>(
+fn pass_each_handler<S: Source>(
     alloc: Global,
     w: &mut Window,
     source: &mut S,
@@ -219,6 +223,6 @@ pub fn pass_handlers<S: Source>(
 {
     let total = read_u30(w, source)?;
     put_u30(total, out)?;
-    pass_many(alloc, w, source, sizes, marks, total, out)?;
+    pass_each_handler(alloc, w, source, sizes, marks, total, out)?;
     Ok(total)
 }

@@ -15,6 +15,3 @@ pub use pass::pass_bodies;
 pub use places::Places;
 pub use put::put_bodies;
 pub use read::read_bodies;
-
-#[cfg(test)]
-mod tests;

@@ -74,7 +74,7 @@ fn pass_body<S: Source>(
 }
 
 /// Passes so many bodies, each of another method. Gives how many there are.
-fn pass_many<S: Source>(
+fn pass_each_body<S: Source>(
     alloc: Global,
     w: &mut Window,
     source: &mut S,
@@ -112,6 +112,6 @@ pub fn pass_bodies<S: Source>(
 {
     let count = read_u30(w, source)?;
     put_u30(count, out)?;
-    pass_many(alloc, w, source, sizes, count, out)?;
+    pass_each_body(alloc, w, source, sizes, count, out)?;
     Ok(())
 }

@@ -15,7 +15,7 @@ use abc_traits::TraitCodec;
 use abc_varint::{put_count, put_counted, put_u30};
 use std::alloc::Global;
 
-/// The method and the four sizes.
+/// Appends the method and the four sizes.
 #[tactic(auto, using(abc_varint::proofs::Putting::stays, std::proofs::Common::append_assoc))]
 fn put_sizes(body: &Body, out: &mut Vec<u8>) -> Result<(), NoMemory>
     ensures { Puts out.old.items out.new.items result (number_bytes (body.now).method ++ number_bytes (body.now).max_stack ++ number_bytes (body.now).local_count ++ number_bytes (body.now).init_scope ++ number_bytes (body.now).max_scope) }
@@ -28,14 +28,15 @@ fn put_sizes(body: &Body, out: &mut Vec<u8>) -> Result<(), NoMemory>
     Ok(())
 }
 
-/// The code of a body.
-fn put_instrs(alloc: Global, code: &Table<Instr>, out: &mut Vec<u8>) -> Result<(), NoMemory>
+/// Appends the code of a body.
+fn put_body_code(alloc: Global, code: &Table<Instr>, out: &mut Vec<u8>) -> Result<(), NoMemory>
     requires { IsReady code.now }
     ensures { Puts out.old.items out.new.items result (code_bytes code.now) }
 {
     put_code(alloc, code, out)
 }
 
+/// Appends a body, over its code's instructions, which start so in the canonical code.
 #[tactic(auto, unfolding(abc_tables::specs::Bodies::body_bytes), using(abc_varint::proofs::Putting::stays, std::proofs::Common::append_assoc))]
 fn put_fields(
     body: &Body,
@@ -48,12 +49,13 @@ fn put_fields(
     ensures { Puts out.old.items out.new.items result (body_bytes body.now) }
 {
     put_sizes(body, out)?;
-    put_instrs(alloc, &body.code, out)?;
+    put_body_code(alloc, &body.code, out)?;
     put_handlers(starts, &body.handlers, out)?;
     put_counted::<TraitCodec>(&body.traits, out)?;
     Ok(())
 }
 
+/// Appends the canonical bytes of a body.
 pub fn put_body(alloc: Global, body: &Body, out: &mut Vec<u8>) -> Result<(), NoMemory>
     requires { IsReadyBody body.now }
     ensures { Puts out.old.items out.new.items result (body_bytes body.now) }
@@ -62,8 +64,9 @@ pub fn put_body(alloc: Global, body: &Body, out: &mut Vec<u8>) -> Result<(), NoM
     put_fields(body, &starts, alloc, out)
 }
 
+/// Appends the bodies, one after the other.
 #[tactic(auto, using(abc_varint::proofs::Putting::stays))]
-fn put_many(alloc: Global, bodies: &Table<Body>, out: &mut Vec<u8>) -> Result<(), NoMemory>
+fn put_each_body(alloc: Global, bodies: &Table<Body>, out: &mut Vec<u8>) -> Result<(), NoMemory>
     requires { All IsReadyBody bodies.now }
     ensures { Puts out.old.items out.new.items result (flat_map body_bytes bodies.now) }
 {
@@ -73,13 +76,14 @@ fn put_many(alloc: Global, bodies: &Table<Body>, out: &mut Vec<u8>) -> Result<()
     Ok(())
 }
 
+/// Appends how many bodies there are, and the bodies.
 #[tactic(auto, unfolding(abc_tables::specs::Bodies::bodies_bytes, abc_format::specs::Canonical::counted_bytes), using(abc_varint::proofs::Putting::stays, std::proofs::Common::append_assoc))]
 fn append_bodies(alloc: Global, abc: &Abc, out: &mut Vec<u8>) -> Result<(), NoMemory>
     requires { All IsReadyBody (abc.now).bodies }
     ensures { Puts out.old.items out.new.items result (bodies_bytes abc.now) }
 {
     put_count(abc.bodies.len(), out)?;
-    put_many(alloc, &abc.bodies, out)?;
+    put_each_body(alloc, &abc.bodies, out)?;
     Ok(())
 }
 

@@ -26,7 +26,7 @@ pub fn flags_down(alloc: Global, count: u32) -> Result<Table<bool>, NoMemory>
 }
 
 /// So many bodies, each of another method.
-fn read_many<S: Source>(
+fn read_each_body<S: Source>(
     alloc: Global,
     w: &mut Window,
     source: &mut S,
@@ -65,7 +65,7 @@ fn read_all<S: Source>(
     ensures ready { IfOk result (λ x. All IsReadyBody x.0) }
 {
     let count = read_u30(w, source)?;
-    read_many(alloc, w, source, sizes, count)
+    read_each_body(alloc, w, source, sizes, count)
 }
 
 /// Reads method bodies beside the other tables of an Abc, whose bodies they replace, and gives where their instructions

@@ -36,7 +36,7 @@ usage_outcome words (usages.Word i) h = UsageOutcome.word i h
 pub same_usage : (u v : Usage) (r : Result Command Usage) → r ≡ Err u → r ≡ Err v → u ≡ v
 same_usage u v r e f = cc
 
-same_command : (c d : Command) (r : Result Command Usage) → r ≡ Ok c → r ≡ Ok d → c ≡ d
+pub same_command : (c d : Command) (r : Result Command Usage) → r ≡ Ok c → r ≡ Ok d → c ≡ d
 same_command c d r e f = cc
 
 pub not_ok : (c : Command) (u : Usage) (r : Result Command Usage) → r ≡ Ok c → r ≡ Err u → ⊥

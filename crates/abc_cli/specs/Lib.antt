@@ -1,4 +1,5 @@
 pub mod Lines
 pub mod Outcome
 pub mod End
+pub mod Listed
 pub mod Stops

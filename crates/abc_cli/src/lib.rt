@@ -8,8 +8,6 @@ mod dis;
 mod ends;
 mod lines;
 mod stop;
-#[cfg(test)]
-mod tests;
 mod tidy;
 mod top;
 

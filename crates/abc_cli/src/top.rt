@@ -1,12 +1,14 @@
 ghost use Rattle.std.specs.Prelude.{◌≡◌, ◌<◌, false, length};
 ghost use Rattle.abc_cli.specs.End.{Ends, GivesLine, UsesUp, stream};
 ghost use Rattle.abc_cli.specs.Outcome.{Answer, AsksNoInput, CommandOutcome, IsOutcome, IsUsage, UsageOutcome, reads_input, usage_answer};
-ghost use Rattle.abc_words.specs.Grammar.{IsWellFormed};
+ghost use Rattle.abc_cli.specs.Listed.{Lists};
+ghost use Rattle.abc_words.specs.Grammar.{IsWellFormed, Says};
 
 use crate::commands::bytes_of;
 use crate::ends::{ended, give_bytes, give_no_command, give_stop};
 use crate::lines::write_usage;
 use abc_base::{Host, Sink, Source, Status, Words};
+use abc_roundtrip::listing_is_read_back;
 use abc_words::{Command, Usage, parse};
 use std::alloc::Global;
 
@@ -62,9 +64,12 @@ pub fn abc_main<S: Source, K: Sink, E: Sink, H: Host>(
     ensures usage { (a : Answer) → UsageOutcome words.now a → GivesLine (stream E.written E.faults err.old err.new) a result }
     ensures untouched { (a : Answer) → UsageOutcome words.now a → out.new ≡ out.old }
     ensures well_formed { IsWellFormed words.now → result ≡ Status.Usage → ⊥ }
+    // What `dis` writes is a text of the file that was read, and of no other.
+    ensures listed { Says words.now Command.Dis → result ≡ Status.Done → Lists (stream S.left S.faults source.old source.new) (stream K.written K.faults out.old out.new) }
     // Memory is wanted for well-formed words alone.
     ensures memory { result ≡ Status.NoMemory → IsWellFormed words.now }
 {
+    listing_is_read_back();
     match parse(words) {
         Ok(command) => run_command(alloc, &command, source, out, err),
         Err(usage) => give_usage(words, usage, err),

@@ -32,7 +32,7 @@ fn pass_version<S: Source>(
 
 /// Passes the file, and not what follows it.
 #[tactic(auto, unfolding(abc_tables::specs::Files::file_read))]
-fn pass_parts<S: Source>(
+fn pass_file<S: Source>(
     alloc: Global,
     w: &mut Window,
     source: &mut S,
@@ -64,7 +64,7 @@ fn pass_to_end<S: Source>(
     ensures later { S.faults source.old ≤ S.faults source.new }
     ensures cause { result ≡ Err ReadError.ReadFault → Rose (S.faults source.old) (S.faults source.new) }
 {
-    pass_parts(alloc, w, source, out)?;
+    pass_file(alloc, w, source, out)?;
     read_nothing_more(w, source)?;
     Ok(())
 }

@@ -5,8 +5,6 @@ mod canon;
 mod laws;
 mod reading;
 mod rest;
-#[cfg(test)]
-mod tests;
 mod writing;
 
 pub use abc_bodies::Places;

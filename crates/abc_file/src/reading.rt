@@ -49,7 +49,7 @@ pub fn read_version<S: Source>(w: &mut Window, source: &mut S) -> Result<(u16, u
 
 /// The file, and not what follows it.
 #[tactic(auto, unfolding(abc_tables::specs::Files::file_read))]
-fn read_parts<S: Source>(
+fn read_file<S: Source>(
     alloc: Global,
     w: &mut Window,
     source: &mut S,
@@ -82,7 +82,7 @@ fn read_to_end<S: Source>(
     ensures later { S.faults source.old ≤ S.faults source.new }
     ensures cause { result ≡ Err ReadError.ReadFault → Rose (S.faults source.old) (S.faults source.new) }
 {
-    let file = read_parts(alloc, w, source)?;
+    let file = read_file(alloc, w, source)?;
     read_nothing_more(w, source)?;
     Ok(file)
 }

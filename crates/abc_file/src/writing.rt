@@ -11,6 +11,7 @@ use abc_traits::put_definitions;
 use abc_varint::put_u16;
 use std::alloc::Global;
 
+/// Appends the canonical bytes of a file.
 #[tactic(auto, unfolding(abc_tables::specs::Files::file_bytes), using(abc_varint::proofs::Putting::stays, std::proofs::Common::append_assoc))]
 fn append_file(alloc: Global, abc: &Abc, out: &mut Vec<u8>) -> Result<(), NoMemory>
     requires { All IsReadyBody (abc.now).bodies }

@@ -16,6 +16,3 @@ mod total;
 pub use fitting::fits;
 pub use laws::canonical_length;
 pub use total::canon_len;
-
-#[cfg(test)]
-mod tests;

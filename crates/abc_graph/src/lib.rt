@@ -7,11 +7,10 @@ mod order;
 mod ranks;
 mod search;
 mod stack;
-#[cfg(test)]
-mod tests;
 mod ways;
 
 pub use cycles::first_return;
 pub use order::{Order, order_of};
+pub use ranks::ranks_of;
 pub use search::reached;
 pub use ways::one_way;

@@ -9,8 +9,6 @@ mod search;
 mod starts;
 mod store;
 mod stored;
-#[cfg(test)]
-mod tests;
 mod texts;
 
 pub use records::{Full, Limit, Limits, ScopeEntry, ScopeId, ScopeNode, What};

@@ -4,7 +4,5 @@
 
 mod heirs;
 mod keyed;
-#[cfg(test)]
-mod tests;
 
 pub use heirs::Heirs;

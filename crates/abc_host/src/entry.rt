@@ -31,6 +31,13 @@ impl Entry {
         Entry { formula, run }
     }
 
+    /// The formula that the closure computes, by which an entry that was refused is told from others.
+    pub fn formula(&self) -> &Formula
+        ensures { result.now ≡ formula_of self.now }
+    {
+        &self.formula
+    }
+
     /// Whether the formula has this name.
     pub(crate) fn is_named(&self, name: &[u8]) -> bool
         ensures { IsTrue result ↔ ((formula_of self.now).name ≡ name.now) }

@@ -7,8 +7,6 @@ mod host;
 mod laws;
 mod names;
 mod table;
-#[cfg(test)]
-mod tests;
 
 pub use entry::Entry;
 pub use laws::{adding_in_turn, means_builtin_host};

@@ -4,8 +4,6 @@
 mod by_text;
 mod groups;
 mod index;
-#[cfg(test)]
-mod tests;
 mod texts;
 
 pub use by_text::places_by_text;

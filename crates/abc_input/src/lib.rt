@@ -3,8 +3,6 @@
 
 mod error;
 mod reading;
-#[cfg(test)]
-mod tests;
 
 pub use error::InputError;
 pub use reading::read_input;

@@ -11,7 +11,6 @@ use Rattle.abc_base.proofs.Spelling.{number_shortest}
 use Rattle.abc_format.specs.Ends.{blamed}
 use Rattle.abc_format.specs.Part.{limit}
 use Rattle.abc_format.specs.Numbers.{s24, u8, u30}
-use Rattle.abc_tables.specs.declared.code.Instr.{Instr}
 use Rattle.abc_tables.specs.declared.code.Instr.TheVariants as instrs
 use Rattle.abc_tables.specs.declared.opcodes.Form.{Form}
 use Rattle.abc_tables.specs.declared.opcodes.Form.TheVariants as forms
@@ -27,7 +26,9 @@ use Rattle.abc_varint.proofs.Inputs.{among}
 use Rattle.abc_instr.specs.Fronts.{IsFront, count_of}
 use Rattle.abc_instr.specs.declared.front.Front.{Front}
 use Rattle.abc_instr.specs.declared.front.Front.TheVariants as fronts
-use Rattle.abc_instr.specs.Offsets.{offset_of, raw_of}
+use Rattle.abc_instr.specs.declared.raw.RawInstr.{RawInstr as Raw}
+use Rattle.abc_instr.specs.declared.raw.RawInstr.TheVariants as raws
+use Rattle.abc_instr.specs.Offsets.{raw_len, raw_of}
 
 -- an opcode, with the operands of its form
 spelled : (op : ℕ) (form : Form) (x : RawInstr) (rest : List ℕ) → form_at op ≡ Some form → (operands op form).spells x rest → instruction.spells x (op ∷ rest)
@@ -58,12 +59,12 @@ all_after spells k n x bytes s = let all : take (length bytes - k) (drop k bytes
 pub plain_front : (bytes old new : List ℕ) → 11 ≤ length bytes → form_at (get_or bytes 0 0) ≡ Some forms.Plain → new ≡ old ++ get_or bytes 0 0 ∷ [] → IsFront (fronts.Put 1) bytes old new
 plain_front [] old new len form put = absurd (omega arith)
 plain_front (op ∷ rest) old new len form put = record {
-  instr = instrs.Plain op;
+  instr = raws.Same (instrs.Plain op);
   spelled = spelled op forms.Plain (Same (instrs.Plain op)) [] form (refl, refl);
   some = omega arith;
   few = omega arith;
   told = refl;
-  raw = form;
+  raw = (form, refl);
   short = omega arith;
   put = put;
 }
@@ -74,12 +75,12 @@ one_front [] n k old mid new len form s some few lt first put = absurd (omega ar
 one_front (op ∷ rest) n k old mid new len form s some few lt first put =
     let count : length (take k rest) ≡ k = omega (arith, length-take k rest) in
     record {
-      instr = instrs.One op n;
+      instr = raws.Same (instrs.One op n);
       spelled = rw (taken_one k op rest) (spelled op forms.One (Same (instrs.One op n)) (take k rest) form (n, small n (take k rest) s lt, refl));
       some = omega arith;
       few = omega arith;
       told = refl;
-      raw = (form, lt);
+      raw = ((form, lt), refl);
       short = omega (arith, number_shortest n (take k rest) s, count);
       put = put ∙ rw first (append_assoc old (op ∷ []) (number_bytes n));
     }
@@ -93,12 +94,12 @@ two_front (op ∷ rest) n m j k old mid last new len form s some few lt s2 some2
     let t = rw (after_one j op rest) at s2 in
     let two : length (take k (drop j rest)) ≡ k = omega (arith, length-take k (drop j rest), length-drop j rest) in
     record {
-      instr = instrs.Two op n m;
+      instr = raws.Same (instrs.Two op n m);
       spelled = rw (taken_two j k op rest) (spelled op forms.Two (Same (instrs.Two op n m)) (take j rest ++ take k (drop j rest)) form ((n, m), (take j rest, take k (drop j rest), refl, small n (take j rest) s lt, small m (take k (drop j rest)) t lt2), refl));
       some = omega arith;
       few = omega arith;
       told = refl;
-      raw = (form, lt, lt2);
+      raw = ((form, lt, lt2), refl);
       short = omega (arith, number_shortest n (take j rest) s, number_shortest m (take k (drop j rest)) t, one, two);
       put = put ∙ rw (second, first) (append_assoc (old ++ op ∷ []) (number_bytes n) (number_bytes m) ∙ append_assoc old (op ∷ []) (number_bytes n ++ number_bytes m));
     }
@@ -111,26 +112,26 @@ byte_front (op ∷ []) z old mid new len form low high is lt first put = absurd 
 byte_front (op ∷ x ∷ rest) z old mid new len form low high is lt first put =
     let same : z ≡ cast_signed w8 (x % 256) = let e : x % 256 ≡ x = omega arith in rw e is in
     record {
-      instr = instrs.Byte z;
+      instr = raws.Same (instrs.Byte z);
       spelled = spelled op forms.Byte (Same (instrs.Byte z)) (x ∷ []) form (z, (x, refl, same), refl);
       some = omega arith;
       few = omega arith;
-      raw = (low, high);
+      raw = ((low, high), refl);
       short = omega arith;
       told = refl;
       put = put ∙ rw first (append_assoc old (0x24 ∷ []) (cast_unsigned w8 z ∷ []));
     }
 
-pub branch_front : (bytes : List ℕ) (z : ℤ) (n : ℕ) (old : List ℕ) → 11 ≤ length bytes → form_at (get_or bytes 0 0) ≡ Some forms.Branch → n ≤ 2 ^ 32 → offset_of n ≡ z → s24.spells z (take 3 (take (length bytes - 1) (drop 1 bytes)))
-    → IsFront (fronts.Branch (get_or bytes 0 0) n) bytes old old
-branch_front [] z n old len form le same s = absurd (omega arith)
-branch_front (op ∷ rest) z n old len form le same s =
+pub branch_front : (bytes : List ℕ) (z : ℤ) (old : List ℕ) → 11 ≤ length bytes → form_at (get_or bytes 0 0) ≡ Some forms.Branch → s24.spells z (take 3 (take (length bytes - 1) (drop 1 bytes)))
+    → IsFront (fronts.Branch (get_or bytes 0 0) z) bytes old old
+branch_front [] z old len form s = absurd (omega arith)
+branch_front (op ∷ rest) z old len form s =
     record {
-      instr = instrs.Branch op n;
-      spelled = spelled op forms.Branch (Branch op (offset_of n)) (take 3 rest) form (z, all_after s24.spells 1 3 z (op ∷ rest) s, ap (Branch op) same);
+      instr = raws.Branch op z;
+      spelled = spelled op forms.Branch (Branch op z) (take 3 rest) form (z, all_after s24.spells 1 3 z (op ∷ rest) s, refl);
       some = omega arith;
       few = omega arith;
-      raw = (form, le);
+      raw = form;
       short = omega arith;
       told = refl;
       put = sym (append-nil old);
@@ -140,9 +141,9 @@ branch_front (op ∷ rest) z n old len form le same s =
 pub taken : (f : Front) (w w2 : View) (s : Option (List ℕ)) (old new : List ℕ) → IsReady (count_of f) w → w2 ≡ onward (count_of f) w → (i : IsFront f (held w) old new) → Reads (blamed instruction).reads w s w2 s (Ok (raw_of i.instr))
 taken f w w2 s old new ready is i = front_taken (blamed instruction) (raw_of i.instr) (count_of f) w w2 s instruction-exact (omega (arith, among w (count_of f) i.some ready.held)) ready i.spelled is
 
-pub record Moves (i : Instr) (w w2 : View) : Type 0 where
+pub record Moves (i : Raw) (w w2 : View) : Type 0 where
   pub moves : w.place < w2.place
-  pub passes : GoesOver (instr_len i) w w2
+  pub passes : GoesOver (raw_len i) w w2
   pub room : w2.place ≤ limit
 
 pub passed : (f : Front) (w w2 : View) (old new : List ℕ) → IsReady (count_of f) w → w2 ≡ onward (count_of f) w → (i : IsFront f (held w) old new) → Moves i.instr w w2

@@ -2,15 +2,15 @@
 use Rattle.std.proofs.Common.{◌≡◌, ℕ, suc, ◌+◌, ◌-◌, ◌^◌, ◌<◌, ◌≤◌, List, [], ◌∷◌, ◌++◌, length, get_or, refl, sym, ap, subst, ◌∙◌, length-append, arith}
 use Rattle.std.specs.List.{All}
 use Rattle.std.proofs.lemmas.List.{get_or_default}
-use Rattle.abc_tables.specs.declared.code.Instr.{Instr}
 use Rattle.abc_tables.specs.Instructions.{RawInstr}
 use Rattle.abc_tables.specs.Starts.{starts, start, size, IsRising}
 use Rattle.abc_tables.proofs.CodeShortest.{start_small}
 use Rattle.abc_tables.proofs.Meaning.{starts_from}
 use Rattle.abc_tables.proofs.Resolving.{few_starts, length-starts, size-push, starts_rising}
+use Rattle.abc_instr.specs.declared.raw.RawInstr.{RawInstr as Raw}
 use Rattle.abc_instr.specs.Offsets.{raw_of, pieces_of}
 
-pub pieces_push : (is : List Instr) (ss : List ℕ) (i : Instr) (t : ℕ) → length ss ≡ suc (length is) → pieces_of (is ++ i ∷ []) (ss ++ t ∷ []) ≡ pieces_of is ss ++ (raw_of i, t - get_or ss (length is) 0) ∷ []
+pub pieces_push : (is : List Raw) (ss : List ℕ) (i : Raw) (t : ℕ) → length ss ≡ suc (length is) → pieces_of (is ++ i ∷ []) (ss ++ t ∷ []) ≡ pieces_of is ss ++ (raw_of i, t - get_or ss (length is) 0) ∷ []
 pieces_push [] [] i t e = absurd (omega arith)
 pieces_push [] (s ∷ []) i t e = refl
 pieces_push [] (s ∷ u ∷ ss) i t e = absurd (omega arith)
@@ -18,7 +18,7 @@ pieces_push (j ∷ is) [] i t e = absurd (omega arith)
 pieces_push (j ∷ is) (s ∷ []) i t e = absurd (omega arith)
 pieces_push (j ∷ is) (s ∷ u ∷ ss) i t e = ap (λ (l : List (RawInstr × ℕ)). (raw_of j, u - s) ∷ l) (pieces_push is (u ∷ ss) i t (omega arith))
 
-pub pieces_length : (is : List Instr) (ss : List ℕ) → length ss ≡ suc (length is) → length (pieces_of is ss) ≡ length is
+pub pieces_length : (is : List Raw) (ss : List ℕ) → length ss ≡ suc (length is) → length (pieces_of is ss) ≡ length is
 pieces_length [] ss e = refl
 pieces_length (j ∷ is) [] e = absurd (omega arith)
 pieces_length (j ∷ is) (s ∷ []) e = absurd (omega arith)
@@ -33,12 +33,12 @@ last_start at [] = omega arith
 last_start at (p ∷ ps) = omega (arith, last_start (at + p.1) ps)
 
 -- what the loop knows of the pieces that it took, from the place w0 to the place w
-pub record Grown (is : List Instr) (ss : List ℕ) (w0 w : ℕ) : Type 0 where
+pub record Grown (is : List Raw) (ss : List ℕ) (w0 w : ℕ) : Type 0 where
   pub count : length ss ≡ length is + 1
   pub starts_are : ss ≡ starts 0 (pieces_of is ss)
   pub size_is : w0 + size (pieces_of is ss) ≡ w
 
-pub grown_pieces : (is : List Instr) (ss : List ℕ) (w0 w w2 : ℕ) (i : Instr) → Grown is ss w0 w → w ≤ w2 → pieces_of (is ++ i ∷ []) (ss ++ (w2 - w0) ∷ []) ≡ pieces_of is ss ++ (raw_of i, w2 - w) ∷ []
+pub grown_pieces : (is : List Raw) (ss : List ℕ) (w0 w w2 : ℕ) (i : Raw) → Grown is ss w0 w → w ≤ w2 → pieces_of (is ++ i ∷ []) (ss ++ (w2 - w0) ∷ []) ≡ pieces_of is ss ++ (raw_of i, w2 - w) ∷ []
 grown_pieces is ss w0 w w2 i g le =
     let count : length ss ≡ suc (length is) = omega (arith, g.count) in
     let n : length (pieces_of is ss) ≡ length is = pieces_length is ss count in
@@ -46,7 +46,7 @@ grown_pieces is ss w0 w w2 i g le =
     let by : w2 - w0 - get_or ss (length is) 0 ≡ w2 - w = omega (arith, g.size_is) in
     rw (← by) (pieces_push is ss i (w2 - w0) count)
 
-pub grown_starts : (is : List Instr) (ss : List ℕ) (w0 w w2 : ℕ) (i : Instr) → Grown is ss w0 w → w ≤ w2 → Grown (is ++ i ∷ []) (ss ++ (w2 - w0) ∷ []) w0 w2
+pub grown_starts : (is : List Raw) (ss : List ℕ) (w0 w w2 : ℕ) (i : Raw) → Grown is ss w0 w → w ≤ w2 → Grown (is ++ i ∷ []) (ss ++ (w2 - w0) ∷ []) w0 w2
 grown_starts is ss w0 w w2 i g le =
     let same = grown_pieces is ss w0 w w2 i g le in
     let t : w2 - w0 ≡ 0 + size (pieces_of is ss) + (w2 - w) = omega (arith, g.size_is) in
@@ -58,7 +58,7 @@ grown_starts is ss w0 w w2 i g le =
     }
 
 -- what the search for targets asks of the starts
-pub record Found (is : List Instr) (ss : List ℕ) : Type 0 where
+pub record Found (is : List Raw) (ss : List ℕ) : Type 0 where
   pub rising : IsRising ss
   pub few : length ss < 2 ^ 32
   pub first : get_or ss 0 0 ≡ 0
@@ -74,7 +74,7 @@ all_small ps le = λ k d lt.
     let at : get_or (starts 0 ps) k d ≡ start ps k = get_or_default (starts 0 ps) k d 0 lt ∙ starts_from ps k (omega (arith, len)) in
     omega (arith, start_small ps k)
 
-pub grown_found : (is : List Instr) (ss : List ℕ) → ss ≡ starts 0 (pieces_of is ss) → size (pieces_of is ss) ≤ 2 ^ 24 → All (λ x. 0 < x.1) (pieces_of is ss) → Found is ss
+pub grown_found : (is : List Raw) (ss : List ℕ) → ss ≡ starts 0 (pieces_of is ss) → size (pieces_of is ss) ≤ 2 ^ 24 → All (λ x. 0 < x.1) (pieces_of is ss) → Found is ss
 grown_found is ss e le all =
     let ps = pieces_of is ss in
     record {

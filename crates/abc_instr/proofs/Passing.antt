@@ -8,7 +8,7 @@ use Rattle.abc_base.specs.Numbers.{number_bytes}
 use Rattle.abc_format.specs.Part.{At, Refusal, refusal, ◌>>=◌}
 use Rattle.abc_tables.specs.declared.code.Instr.{Instr}
 use Rattle.abc_tables.specs.Code.{code, code_body}
-use Rattle.abc_tables.specs.CodeBytes.{canonical_starts, code_bytes, code_len, instrs_bytes, sized}
+use Rattle.abc_tables.specs.CodeBytes.{canonical_starts, code_bytes, instrs_bytes}
 use Rattle.abc_tables.specs.Instructions.{RawInstr, code_length, pieces}
 use Rattle.abc_tables.specs.Starts.{starts, size}
 use Rattle.abc_tables.specs.Targets.{instrs_of, resolve}
@@ -17,60 +17,61 @@ use Rattle.abc_varint.specs.declared.error.ReadError.{ReadError}
 use Rattle.abc_varint.specs.declared.error.ReadError.TheVariants as errors
 use Rattle.abc_varint.specs.Reads.{Fails}
 use Rattle.abc_instr.specs.declared.scan.Scan.{Scan}
-use Rattle.abc_instr.specs.Offsets.{raw_of}
+use Rattle.abc_instr.specs.declared.raw.RawInstr.{RawInstr as Raw}
+use Rattle.abc_instr.specs.Offsets.{raw_of, raws_len, raws_sized}
 use Rattle.abc_instr.specs.Resolving.{onto}
 use Rattle.abc_instr.specs.Marks.{mark_at, moved_at}
 use Rattle.abc_instr.specs.Scanning.{AreRead, IsWhole, instrs_in, plain_bytes, raws_in, scan_bytes}
-use Rattle.abc_instr.proofs.Scanned.{alike, canonical}
+use Rattle.abc_instr.proofs.Scanned.{alike}
 use Rattle.abc_instr.proofs.Weaving.{woven_is}
 
-sized_count : (is : List Instr) → length (sized is) ≡ length is
-sized_count [] = refl
-sized_count (i ∷ is) = ap suc (sized_count is)
+-- where the instructions start in the canonical bytes, and where these end
+abbrev moved_starts : List (Raw × ℕ) → List ℕ
+moved_starts xs = starts 0 (raws_sized (instrs_in xs))
 
-raws_starts : (at : ℕ) (xs : List (Instr × ℕ)) → starts at (raws_in xs) ≡ starts at xs
+raws_starts : (at : ℕ) (xs : List (Raw × ℕ)) → starts at (raws_in xs) ≡ starts at xs
 raws_starts at [] = refl
 raws_starts at (x ∷ xs) = ap (λ (l : List ℕ). at ∷ l) (raws_starts (at + x.1) xs)
 
-pub raws_some : (xs : List (Instr × ℕ)) → All (λ x. 0 < x.1) xs → All (λ x. 0 < x.1) (raws_in xs)
+pub raws_some : (xs : List (Raw × ℕ)) → All (λ x. 0 < x.1) xs → All (λ x. 0 < x.1) (raws_in xs)
 raws_some [] all = λ k d lt. absurd (omega arith)
 raws_some (x ∷ xs) all =
     let P : RawInstr × ℕ → Type 0 = λ y. 0 < y.1 in
     All-append P ((raw_of x.0, x.1) ∷ []) (raws_in xs) (All-push P [] (raw_of x.0, x.1) (All-nil P) (all 0 x (omega arith))) (raws_some xs (λ k d lt. all (suc k) d (omega arith)))
 
-pub raws_size : (xs : List (Instr × ℕ)) → size (raws_in xs) ≡ size xs
+pub raws_size : (xs : List (Raw × ℕ)) → size (raws_in xs) ≡ size xs
 raws_size [] = refl
 raws_size (x ∷ xs) = ap (λ (n : ℕ). x.1 + n) (raws_size xs)
 
 -- the bytes of a scan, from its instructions
-scan_is : (n : ℕ) (xs : List (Instr × ℕ)) (scan : Scan) → IsWhole xs scan → AreRead n xs
-    → scan_bytes scan ≡ (instrs_of (starts 0 xs) 0 (raws_in xs) >>= λ js. Ok (number_bytes (code_len (instrs_in xs)) ++ instrs_bytes (canonical_starts (instrs_in xs)) 0 js))
+scan_is : (n : ℕ) (xs : List (Raw × ℕ)) (scan : Scan) → IsWhole xs scan → AreRead n xs
+    → scan_bytes scan ≡ (instrs_of (starts 0 xs) 0 (raws_in xs) >>= λ js. Ok (number_bytes (raws_len (instrs_in xs)) ++ instrs_bytes (moved_starts xs) 0 js))
 scan_is n xs scan is read =
     let ss = starts 0 xs in
-    let ms = canonical_starts (instrs_in xs) in
+    let ms = moved_starts xs in
     let plain = flat_map plain_bytes (instrs_in xs) in
     let w = woven_is ss ms plain (length xs) (length-starts 0 xs) xs 0 0 0 0 (omega arith) (omega arith) refl read.raw in
-    rw (is.marks, is.plain, is.jumps, is.len, canonical (instrs_in xs), w) (joins (instrs_of ss 0 (raws_in xs)) (number_bytes (code_len (instrs_in xs))) ms) where
+    rw (is.marks, is.plain, is.jumps, is.len, w) (joins (instrs_of ss 0 (raws_in xs)) (number_bytes (raws_len (instrs_in xs))) ms) where
       joins : (r : Result (List Instr) Refusal) (front ms : List ℕ) → ((r >>= λ js. Ok ([] ++ instrs_bytes ms 0 js)) >>= λ b. Ok (front ++ b)) ≡ (r >>= λ js. Ok (front ++ instrs_bytes ms 0 js))
       joins (Ok js) front ms = refl
       joins (Err d) front ms = refl
 
-pub record IsPut (xs : List (Instr × ℕ)) (scan : Scan) (out new : List ℕ) : Type 0 where
+pub record IsPut (xs : List (Raw × ℕ)) (scan : Scan) (out new : List ℕ) : Type 0 where
   pub instrs : List Instr
   pub found : instrs_of (starts 0 (raws_in xs)) 0 (raws_in xs) ≡ Ok instrs
   pub bytes : new ≡ out ++ code_bytes instrs
   pub marks : mark_at scan.marks ≡ moved_at (starts 0 (raws_in xs)) (canonical_starts instrs)
 
-module _ (n : ℕ) (xs : List (Instr × ℕ)) (scan : Scan) (is : IsWhole xs scan) (read : AreRead n xs) (out : List ℕ) where
+module _ (n : ℕ) (xs : List (Raw × ℕ)) (scan : Scan) (is : IsWhole xs scan) (read : AreRead n xs) (out : List ℕ) where
   first : starts 0 xs ≡ starts 0 (raws_in xs)
   first = sym (raws_starts 0 xs)
 
-  found : (new : List ℕ) (r : Result (List Instr) Refusal) → instrs_of (starts 0 xs) 0 (raws_in xs) ≡ r → onto out (r >>= λ js. Ok (number_bytes (code_len (instrs_in xs)) ++ instrs_bytes (canonical_starts (instrs_in xs)) 0 js)) ≡ Ok new → IsPut xs scan out new
+  found : (new : List ℕ) (r : Result (List Instr) Refusal) → instrs_of (starts 0 xs) 0 (raws_in xs) ≡ r → onto out (r >>= λ js. Ok (number_bytes (raws_len (instrs_in xs)) ++ instrs_bytes (moved_starts xs) 0 js)) ≡ Ok new → IsPut xs scan out new
   unfolding canonical_starts code_bytes
   found new (Ok js) e h =
       let count : length (starts 0 xs) ≡ suc (length xs) = length-starts 0 xs in
       let a = alike (starts 0 xs) 0 (length xs) xs js count e read.raw in
-      let b : out ++ (number_bytes (code_len (instrs_in xs)) ++ instrs_bytes (canonical_starts (instrs_in xs)) 0 js) ≡ new = cc in
+      let b : out ++ (number_bytes (raws_len (instrs_in xs)) ++ instrs_bytes (moved_starts xs) 0 js) ≡ new = cc in
       record {
         instrs = js;
         found = rw (← first) e;
@@ -79,7 +80,7 @@ module _ (n : ℕ) (xs : List (Instr × ℕ)) (scan : Scan) (is : IsWhole xs sca
       }
   found new (Err d) e h = absurd cc
 
-  missed : (d : Refusal) (r : Result (List Instr) Refusal) → instrs_of (starts 0 xs) 0 (raws_in xs) ≡ r → onto out (r >>= λ js. Ok (number_bytes (code_len (instrs_in xs)) ++ instrs_bytes (canonical_starts (instrs_in xs)) 0 js)) ≡ Err d
+  missed : (d : Refusal) (r : Result (List Instr) Refusal) → instrs_of (starts 0 xs) 0 (raws_in xs) ≡ r → onto out (r >>= λ js. Ok (number_bytes (raws_len (instrs_in xs)) ++ instrs_bytes (moved_starts xs) 0 js)) ≡ Err d
       → instrs_of (starts 0 (raws_in xs)) 0 (raws_in xs) ≡ Err d
   missed d (Ok js) e h = absurd cc
   missed d (Err f) e h = let same : f ≡ d = cc in rw (← first) (e ∙ ap (λ (x : Refusal). Err x) same)
@@ -92,12 +93,12 @@ module _ (n : ℕ) (xs : List (Instr × ℕ)) (scan : Scan) (is : IsWhole xs sca
 
 -- ---- code
 
-pub code_found : (n : ℕ) (from a b : At) (xs : List (Instr × ℕ)) (js : List Instr) → code_length.reads from ≡ Ok (n, a) → (pieces n).reads a ≡ Ok (raws_in xs, b) → instrs_of (starts 0 (raws_in xs)) 0 (raws_in xs) ≡ Ok js
+pub code_found : (n : ℕ) (from a b : At) (xs : List (Raw × ℕ)) (js : List Instr) → code_length.reads from ≡ Ok (n, a) → (pieces n).reads a ≡ Ok (raws_in xs, b) → instrs_of (starts 0 (raws_in xs)) 0 (raws_in xs) ≡ Ok js
     → code.reads from ≡ Ok (record { instrs = js; offsets = starts 0 (raws_in xs) }, b)
 unfolding code code_body resolve
 code_found n from a b xs js e f g = rw (e, f, g) refl
 
-pub code_missed : (n : ℕ) (from a b : At) (xs : List (Instr × ℕ)) (d : Refusal) → code_length.reads from ≡ Ok (n, a) → (pieces n).reads a ≡ Ok (raws_in xs, b) → instrs_of (starts 0 (raws_in xs)) 0 (raws_in xs) ≡ Err d
+pub code_missed : (n : ℕ) (from a b : At) (xs : List (Raw × ℕ)) (d : Refusal) → code_length.reads from ≡ Ok (n, a) → (pieces n).reads a ≡ Ok (raws_in xs, b) → instrs_of (starts 0 (raws_in xs)) 0 (raws_in xs) ≡ Err d
     → code.reads from ≡ Err (refusal (a.place + d.place) d.reason)
 unfolding code code_body resolve
 code_missed n from a b xs d e f g = rw (e, f, g) refl

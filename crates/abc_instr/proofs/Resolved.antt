@@ -1,6 +1,5 @@
 -- What was read and got its targets can be put.
-use Rattle.std.proofs.Common.{◌≡◌, ℕ, suc, ℤ, pos, negsuc, ◌+◌, ◌-◌, ◌*◌, ◌^◌, ◌<◌, ◌≤◌, List, [], ◌∷◌, ◌++◌, length, map, nat_eq, Ok, Some, None, refl, ap, subst, ◌∙◌, arith}
-use Rattle.std.proofs.lemmas.List.{length-map}
+use Rattle.std.proofs.Common.{◌≡◌, ℕ, suc, ℤ, pos, negsuc, ◌+◌, ◌-◌, ◌*◌, ◌^◌, ◌<◌, ◌≤◌, List, [], ◌∷◌, ◌++◌, length, nat_eq, false, Ok, Some, None, refl, ap, subst, ◌∙◌, arith}
 use Rattle.std.proofs.lemmas.List.Quantifiers.{position-Some}
 use Rattle.std.specs.declared.option.Option.{Option}
 use Rattle.abc_format.specs.Part.{◌>>=◌}
@@ -10,7 +9,9 @@ use Rattle.abc_tables.specs.declared.code.Instr.TheVariants as instrs
 use Rattle.abc_tables.specs.CodeBytes.{code_len, instr_len}
 use Rattle.abc_tables.specs.Ready.{AllCanSpell, AllUpTo, CanSpell, IsReady}
 use Rattle.abc_tables.specs.Targets.{at_start, cases_of, found, instr_of, instrs_of, target_of}
-use Rattle.abc_instr.specs.Offsets.{AreRaw, IsRaw, offset_of, pieces_of, raw_of}
+use Rattle.abc_instr.specs.declared.raw.RawInstr.{RawInstr as Raw}
+use Rattle.abc_instr.specs.declared.raw.RawInstr.TheVariants as raws
+use Rattle.abc_instr.specs.Offsets.{AreRaw, IsRaw, has_targets, pieces_of, raw_len, raw_of, raws_len}
 
 -- ---- targets
 
@@ -42,42 +43,45 @@ cases_within ss base next n (z ∷ zs) ts count e =
 -- ---- instructions
 
 -- It is as long as it was, and its targets are numbers of the n instructions or of the end.
-pub record Set (n : ℕ) (i j : Instr) : Type 0 where
+pub record Set (n : ℕ) (i : Raw) (j : Instr) : Type 0 where
   pub can : CanSpell n j
-  pub len : instr_len j ≡ instr_len i
+  pub len : instr_len j ≡ raw_len i
 
-stays : (n : ℕ) (i j : Instr) → CanSpell n i → i ≡ j → Set n i j
-stays n i j can same = subst (Set n i) same (record { can = can; len = refl })
+-- one without targets, whatever their number is
+same_can : (n : ℕ) (i : Instr) → has_targets i ≡ false → CanSpell 0 i → CanSpell n i
+same_can n (instrs.Plain op) e can = can
+same_can n (instrs.One op x) e can = can
+same_can n (instrs.Two op x y) e can = can
+same_can n (instrs.Branch op t) e can = absurd cc
+same_can n (instrs.Switch t ts) e can = absurd cc
+same_can n (instrs.Byte z) e can = can
+same_can n (instrs.Short z) e can = can
+same_can n (instrs.ScopeObject x) e can = can
+same_can n (instrs.Debug kind name reg extra) e can = can
 
-pub instr_set : (ss : List ℕ) (here next n : ℕ) (i j : Instr) → length ss ≡ suc n → instr_of ss here next (raw_of i) ≡ Ok j → IsRaw i → Set n i j
-instr_set ss here next n (instrs.Plain op) j count e raw = stays n (instrs.Plain op) j raw cc
-instr_set ss here next n (instrs.One op x) j count e raw = stays n (instrs.One op x) j raw cc
-instr_set ss here next n (instrs.Two op x y) j count e raw = stays n (instrs.Two op x y) j raw cc
-instr_set ss here next n (instrs.Branch op t) j count e raw =
-    let a = bind_ok (found (here + 1) (target_of ss next (offset_of t))) (λ u. Ok (instrs.Branch op u)) j e in
+pub instr_set : (ss : List ℕ) (here next n : ℕ) (i : Raw) (j : Instr) → length ss ≡ suc n → instr_of ss here next (raw_of i) ≡ Ok j → IsRaw i → Set n i j
+instr_set ss here next n (raws.Same i) j count e raw =
+    let same : i ≡ j = cc in
+    subst (Set n (raws.Same i)) same (record { can = same_can n i raw.1 raw.0; len = refl })
+instr_set ss here next n (raws.Branch op z) j count e raw =
+    let a = bind_ok (found (here + 1) (target_of ss next z)) (λ u. Ok (instrs.Branch op u)) j e in
     let same : instrs.Branch op a.0 ≡ j = let h = a.2 in cc in
-    subst (Set n (instrs.Branch op t)) same (record { can = (raw.0, target_within ss (here + 1) next (offset_of t) n a.0 count a.1); len = refl })
-instr_set ss here next n (instrs.Switch t ts) j count e raw =
-    let zs = map offset_of ts in
-    let a = bind_ok (found (here + 1) (target_of ss here (offset_of t))) (λ u. cases_of ss here next zs >>= λ us. Ok (instrs.Switch u us)) j e in
+    subst (Set n (raws.Branch op z)) same (record { can = (raw, target_within ss (here + 1) next z n a.0 count a.1); len = refl })
+instr_set ss here next n (raws.Switch z zs) j count e raw =
+    let a = bind_ok (found (here + 1) (target_of ss here z)) (λ u. cases_of ss here next zs >>= λ us. Ok (instrs.Switch u us)) j e in
     let b = bind_ok (cases_of ss here next zs) (λ us. Ok (instrs.Switch a.0 us)) j a.2 in
     let w = cases_within ss here next n zs b.0 count b.1 in
-    let many : length b.0 ≡ length ts = w.count ∙ length-map ts offset_of in
     let same : instrs.Switch a.0 b.0 ≡ j = let h = b.2 in cc in
-    subst (Set n (instrs.Switch t ts)) same (record {
-      can = (target_within ss (here + 1) here (offset_of t) n a.0 count a.1, w.each, omega (arith, many, raw.2), omega (arith, many, raw.3));
-      len = rw many refl;
+    subst (Set n (raws.Switch z zs)) same (record {
+      can = (target_within ss (here + 1) here z n a.0 count a.1, w.each, omega (arith, w.count, raw.0), omega (arith, w.count, raw.1));
+      len = rw w.count refl;
     })
-instr_set ss here next n (instrs.Byte z) j count e raw = stays n (instrs.Byte z) j raw cc
-instr_set ss here next n (instrs.Short z) j count e raw = stays n (instrs.Short z) j raw cc
-instr_set ss here next n (instrs.ScopeObject x) j count e raw = stays n (instrs.ScopeObject x) j raw cc
-instr_set ss here next n (instrs.Debug kind name reg extra) j count e raw = stays n (instrs.Debug kind name reg extra) j raw cc
 
-record AllSet (n : ℕ) (is js : List Instr) : Type 0 where
+record AllSet (n : ℕ) (is : List Raw) (js : List Instr) : Type 0 where
   can : AllCanSpell n js
-  len : code_len js ≡ code_len is
+  len : code_len js ≡ raws_len is
 
-instrs_set : (ss : List ℕ) (here n : ℕ) (is : List Instr) (os : List ℕ) (js : List Instr) → length ss ≡ suc n → length os ≡ suc (length is) → instrs_of ss here (pieces_of is os) ≡ Ok js → AreRaw is → AllSet n is js
+instrs_set : (ss : List ℕ) (here n : ℕ) (is : List Raw) (os : List ℕ) (js : List Instr) → length ss ≡ suc n → length os ≡ suc (length is) → instrs_of ss here (pieces_of is os) ≡ Ok js → AreRaw is → AllSet n is js
 instrs_set ss here n [] os js count even e raw = let same : [] ≡ js = cc in subst (AllSet n []) same (record { can = tt; len = refl })
 instrs_set ss here n (i ∷ is) [] js count even e raw = absurd (omega arith)
 instrs_set ss here n (i ∷ is) (o ∷ []) js count even e raw = absurd (omega arith)
@@ -91,17 +95,17 @@ instrs_set ss here n (i ∷ is) (o ∷ p ∷ os) js count even e raw =
     let same : a.0 ∷ b.0 ≡ js = let h = b.2 in cc in
     subst (AllSet n (i ∷ is)) same (record { can = (one.can, rest.can); len = omega (arith, one.len, rest.len) })
 
-pub resolved_ready : (ss : List ℕ) (is js : List Instr) → length ss ≡ length is + 1 → length js ≡ length is → instrs_of ss 0 (pieces_of is ss) ≡ Ok js → AreRaw is → code_len is < 2 ^ 23 → IsReady js
+pub resolved_ready : (ss : List ℕ) (is : List Raw) (js : List Instr) → length ss ≡ length is + 1 → length js ≡ length is → instrs_of ss 0 (pieces_of is ss) ≡ Ok js → AreRaw is → raws_len is < 2 ^ 23 → IsReady js
 resolved_ready ss is js count even e raw short =
     let a = instrs_set ss 0 (length js) is ss js (omega arith) (omega arith) e raw in
     record { can = a.can; short = omega (arith, a.len) }
 
 -- ---- one more, as a loop reads it
 
-pub raw_push : (is : List Instr) (i : Instr) → AreRaw is → IsRaw i → AreRaw (is ++ i ∷ [])
+pub raw_push : (is : List Raw) (i : Raw) → AreRaw is → IsRaw i → AreRaw (is ++ i ∷ [])
 raw_push [] i raw one = (one, tt)
 raw_push (x ∷ is) i raw one = (raw.0, raw_push is i raw.1 one)
 
-pub up_to_push : (n : ℕ) (ts : List ℕ) (t : ℕ) → AllUpTo n ts → t ≤ n → AllUpTo n (ts ++ t ∷ [])
-up_to_push n [] t all le = (le, tt)
-up_to_push n (x ∷ ts) t all le = (all.0, up_to_push n ts t all.1 le)
+pub raws_len-push : (is : List Raw) (i : Raw) → raws_len (is ++ i ∷ []) ≡ raws_len is + raw_len i
+raws_len-push [] i = omega arith
+raws_len-push (x ∷ is) i = omega (arith, raws_len-push is i)

@@ -1,10 +1,9 @@
 -- What a scan of instructions puts.
-use Rattle.std.proofs.Common.{◌≡◌, ℕ, suc, ℤ, pos, negsuc, ◌+ℤ◌, ◌-ℤ◌, ◌+◌, ◌-◌, ◌*◌, ◌^◌, ◌<◌, ◌≤◌, map, option_map, true, false, List, [], ◌∷◌, ◌++◌, length, get_or, take, drop, Ok, Err, Some, None, refl, sym, ap, ◌∙◌, length-append, length-drop, length-take, append_assoc, inl, inr, arith}
+use Rattle.std.proofs.Common.{◌≡◌, ℕ, suc, ℤ, pos, negsuc, ◌+ℤ◌, ◌-ℤ◌, ◌+◌, ◌-◌, ◌*◌, ◌^◌, ◌<◌, ◌≤◌, option_map, false, List, [], ◌∷◌, ◌++◌, length, get_or, take, drop, Ok, Err, Some, None, refl, sym, ap, ◌∙◌, length-append, length-drop, length-take, append_assoc, ◌⊎◌, inl, inr, arith}
 use Rattle.std.specs.List.{flat_map}
 use Rattle.std.specs.declared.option.Option.{Option}
 use Rattle.std.specs.declared.result.Result.{Result}
-use Rattle.std.proofs.lemmas.Bool.{cases_Bool}
-use Rattle.std.proofs.lemmas.List.{append-nil, drop-drop, length-map, take_all, take_at, take-append-drop}
+use Rattle.std.proofs.lemmas.List.{append-nil, drop-drop, take_all, take_at, take-append-drop}
 use Rattle.std.proofs.Math.Seq.{drop-append_seam}
 use Rattle.abc_format.specs.Part.{Refusal, refusal, ◌>>=◌}
 use Rattle.abc_format.specs.declared.reason.Reason.TheVariants as reasons
@@ -14,18 +13,17 @@ use Rattle.abc_base.specs.Numbers.{number_bytes}
 use Rattle.abc_format.specs.Canonical.{s24_bytes}
 use Rattle.abc_tables.specs.CodeBytes.{instr_bytes, instr_len, instrs_bytes, offset}
 use Rattle.abc_tables.specs.Instructions.{RawInstr, Same}
-use Rattle.abc_tables.specs.Ready.{CanSpell}
-use Rattle.abc_tables.proofs.Lengths.{number_most}
-use Rattle.std.specs.Int.{w16, cast_unsigned}
 use Rattle.abc_tables.specs.Targets.{at_start, cases_of, found, instr_of, instrs_of, target_of}
 use Rattle.abc_instr.specs.declared.scan.Jump.{Jump}
 use Rattle.abc_instr.specs.Marks.{moved_at}
-use Rattle.abc_instr.specs.Offsets.{offset_of, raw_of, AreRaw, IsRaw}
+use Rattle.abc_instr.specs.declared.raw.RawInstr.{RawInstr as Raw}
+use Rattle.abc_instr.specs.declared.raw.RawInstr.TheVariants as raws
+use Rattle.abc_instr.specs.Offsets.{has_targets, raw_len, raw_of, AreRaw, IsRaw}
 use Rattle.abc_tables.proofs.Resolving.{drop_read}
 use Rattle.abc_instr.specs.Resolving.{onto, Resolves}
 use Rattle.abc_instr.specs.declared.resolve.Missed.{Missed}
 use Rattle.abc_instr.specs.declared.resolve.Missed.TheVariants as missed
-use Rattle.abc_instr.specs.Scanning.{bytes_to, case_bytes, instrs_in, is_jump, jump_bytes, jump_in, jumps_from, jumps_in, leads, plain_bytes, raws_in, target_bytes, woven}
+use Rattle.abc_instr.specs.Scanning.{bytes_to, case_bytes, instrs_in, jump_bytes, jump_in, jumps_from, jumps_in, leads, plain_bytes, raws_in, target_bytes, woven}
 use Rattle.abc_instr.proofs.Resolved.{cases_within, instr_set}
 
 -- ---- the steps of the loop that weaves
@@ -67,81 +65,63 @@ cases_wrong : (out : List ℕ) (d : Refusal) (one more all : Result (List ℕ) R
 cases_wrong out d (Ok b) more all h e = absurd cc
 cases_wrong out d (Err c) more all h e = sym h ∙ e
 
-module _ (f : ℕ → Option ℕ) (next base moved i t : ℕ) (cases : List ℕ) (lt : i < length cases) (at : t ≡ get_or cases i t) where
-  case_step : case_bytes f next base moved (map offset_of (drop i cases))
-      ≡ (target_bytes f (next - 3 * (length cases - i)) base moved (offset_of t) >>= λ b. case_bytes f next base moved (map offset_of (drop (i + 1) cases)) >>= λ bs. Ok (b ++ bs))
+module _ (f : ℕ → Option ℕ) (next base moved i : ℕ) (t : ℤ) (cases : List ℤ) (lt : i < length cases) (at : t ≡ get_or cases i t) where
+  case_step : case_bytes f next base moved (drop i cases)
+      ≡ (target_bytes f (next - 3 * (length cases - i)) base moved t >>= λ b. case_bytes f next base moved (drop (i + 1) cases) >>= λ bs. Ok (b ++ bs))
   case_step =
-      let n : suc (length (map offset_of (drop (i + 1) cases))) ≡ length cases - i = omega (arith, length-map (drop (i + 1) cases) offset_of, length-drop (i + 1) cases) in
-      ap (λ (l : List ℕ). case_bytes f next base moved (map offset_of l)) (drop_read cases i t lt at)
-      ∙ ap (λ (k : ℕ). target_bytes f (next - 3 * k) base moved (offset_of t) >>= λ b. case_bytes f next base moved (map offset_of (drop (i + 1) cases)) >>= λ bs. Ok (b ++ bs)) n
+      let n : suc (length (drop (i + 1) cases)) ≡ length cases - i = omega (arith, length-drop (i + 1) cases) in
+      ap (λ (l : List ℤ). case_bytes f next base moved l) (drop_read cases i t lt at)
+      ∙ ap (λ (k : ℕ). target_bytes f (next - 3 * k) base moved t >>= λ b. case_bytes f next base moved (drop (i + 1) cases) >>= λ bs. Ok (b ++ bs)) n
 
-  pub case_goes_on : (place : ℕ) (out new : List ℕ) (all : Result (List ℕ) Refusal) → place ≡ next - 3 * (length cases - i) → onto out (case_bytes f next base moved (map offset_of (drop i cases))) ≡ all
-      → onto out (target_bytes f place base moved (offset_of t)) ≡ Ok new → onto new (case_bytes f next base moved (map offset_of (drop (i + 1) cases))) ≡ all
-  case_goes_on place out new all p h e = cases_on out new (target_bytes f (next - 3 * (length cases - i)) base moved (offset_of t)) _ all (ap (onto out) (sym case_step) ∙ h) (rw p at e)
+  pub case_goes_on : (place : ℕ) (out new : List ℕ) (all : Result (List ℕ) Refusal) → place ≡ next - 3 * (length cases - i) → onto out (case_bytes f next base moved (drop i cases)) ≡ all
+      → onto out (target_bytes f place base moved t) ≡ Ok new → onto new (case_bytes f next base moved (drop (i + 1) cases)) ≡ all
+  case_goes_on place out new all p h e = cases_on out new (target_bytes f (next - 3 * (length cases - i)) base moved t) _ all (ap (onto out) (sym case_step) ∙ h) (rw p at e)
 
-  pub case_wrong : (m : Missed) (place : ℕ) (out : List ℕ) (all : Result (List ℕ) Refusal) → place ≡ next - 3 * (length cases - i) → onto out (case_bytes f next base moved (map offset_of (drop i cases))) ≡ all
-      → Resolves {A = List ℕ} (onto out (target_bytes f place base moved (offset_of t))) (Err m) → Resolves {A = List ℕ} all (Err m)
+  pub case_wrong : (m : Missed) (place : ℕ) (out : List ℕ) (all : Result (List ℕ) Refusal) → place ≡ next - 3 * (length cases - i) → onto out (case_bytes f next base moved (drop i cases)) ≡ all
+      → Resolves {A = List ℕ} (onto out (target_bytes f place base moved t)) (Err m) → Resolves {A = List ℕ} all (Err m)
   case_wrong (missed.Target at) place out all p h e =
-      cases_wrong out (refusal at reasons.Target) (target_bytes f (next - 3 * (length cases - i)) base moved (offset_of t)) _ all (ap (onto out) (sym case_step) ∙ h) (rw p at e)
+      cases_wrong out (refusal at reasons.Target) (target_bytes f (next - 3 * (length cases - i)) base moved t) _ all (ap (onto out) (sym case_step) ∙ h) (rw p at e)
   case_wrong missed.NoMemory place out all p h e = tt
 
 -- ---- instructions without targets, and with some
 
-pub record IsPlain (i : Instr) : Type 0 where
-  pub raw : raw_of i ≡ Same i
-  pub bytes : (ss : List ℕ) (here next : ℕ) → instr_bytes ss here next i ≡ plain_bytes i
-  pub none : jump_in i ≡ None
+-- the bytes of one without targets, whatever the starts are
+same_bytes : (i : Instr) → has_targets i ≡ false → (ss : List ℕ) (here next : ℕ) → instr_bytes ss here next i ≡ plain_bytes (raws.Same i)
+same_bytes (instrs.Plain op) e ss here next = refl
+same_bytes (instrs.One op n) e ss here next = refl
+same_bytes (instrs.Two op n m) e ss here next = refl
+same_bytes (instrs.Branch op t) e ss here next = absurd cc
+same_bytes (instrs.Switch t ts) e ss here next = absurd cc
+same_bytes (instrs.Byte z) e ss here next = refl
+same_bytes (instrs.Short z) e ss here next = refl
+same_bytes (instrs.ScopeObject x) e ss here next = refl
+same_bytes (instrs.Debug kind name reg extra) e ss here next = refl
 
-pub is_plain : (i : Instr) → is_jump i ≡ false → IsPlain i
-is_plain (instrs.Plain op) e = record { raw = refl; bytes = λ ss here next. refl; none = refl }
-is_plain (instrs.One op n) e = record { raw = refl; bytes = λ ss here next. refl; none = refl }
-is_plain (instrs.Two op n m) e = record { raw = refl; bytes = λ ss here next. refl; none = refl }
-is_plain (instrs.Branch op t) e = absurd cc
-is_plain (instrs.Switch t ts) e = absurd cc
-is_plain (instrs.Byte z) e = record { raw = refl; bytes = λ ss here next. refl; none = refl }
-is_plain (instrs.Short z) e = record { raw = refl; bytes = λ ss here next. refl; none = refl }
-is_plain (instrs.ScopeObject x) e = record { raw = refl; bytes = λ ss here next. refl; none = refl }
-is_plain (instrs.Debug kind name reg extra) e = record { raw = refl; bytes = λ ss here next. refl; none = refl }
+pub record IsPlain (r : Raw) : Type 0 where
+  pub instr : Instr
+  pub raw : raw_of r ≡ Same instr
+  pub bytes : (ss : List ℕ) (here next : ℕ) → instr_bytes ss here next instr ≡ plain_bytes r
+  pub len : instr_len instr ≡ raw_len r
+  pub none : jump_in r ≡ None
 
--- it can be put, whatever the starts are
-pub record CanPut (i : Instr) : Type 0 where
-  pub can : CanSpell 0 i
-  pub short : instr_len i < 2 ^ 23
+record HasTargets (r : Raw) : Type 0 where
+  bytes : plain_bytes r ≡ []
+  some : jump_in r ≡ Some r
 
-pub can_put : (i : Instr) → is_jump i ≡ false → IsRaw i → CanPut i
-can_put (instrs.Plain op) e raw = record { can = raw; short = omega arith }
-can_put (instrs.One op n) e raw = record { can = raw; short = omega (arith, number_most n) }
-can_put (instrs.Two op n m) e raw = record { can = raw; short = omega (arith, number_most n, number_most m) }
-can_put (instrs.Branch op t) e raw = absurd cc
-can_put (instrs.Switch t ts) e raw = absurd cc
-can_put (instrs.Byte z) e raw = record { can = raw; short = omega arith }
-can_put (instrs.Short z) e raw = record { can = raw; short = omega (arith, number_most (cast_unsigned w16 z)) }
-can_put (instrs.ScopeObject x) e raw = record { can = raw; short = omega arith }
-can_put (instrs.Debug kind name reg extra) e raw = record { can = raw; short = omega (arith, number_most name, number_most extra) }
-
-record HasTargets (i : Instr) : Type 0 where
-  bytes : plain_bytes i ≡ []
-  some : jump_in i ≡ Some i
-
-has_targets : (i : Instr) → is_jump i ≡ true → HasTargets i
-has_targets (instrs.Plain op) e = absurd cc
-has_targets (instrs.One op n) e = absurd cc
-has_targets (instrs.Two op n m) e = absurd cc
-has_targets (instrs.Branch op t) e = record { bytes = refl; some = refl }
-has_targets (instrs.Switch t ts) e = record { bytes = refl; some = refl }
-has_targets (instrs.Byte z) e = absurd cc
-has_targets (instrs.Short z) e = absurd cc
-has_targets (instrs.ScopeObject x) e = absurd cc
-has_targets (instrs.Debug kind name reg extra) e = absurd cc
+either : (r : Raw) → IsRaw r → HasTargets r ⊎ IsPlain r
+either (raws.Same i) raw = inr (record { instr = i; raw = refl; bytes = same_bytes i raw.1; len = refl; none = refl })
+either (raws.Branch op z) raw = inl (record { bytes = refl; some = refl })
+either (raws.Switch z zs) raw = inl (record { bytes = refl; some = refl })
 
 -- ---- one of them, and the others
 
-plain_step : (ms front : List ℕ) (i : Instr) (moved : ℕ) (more : Result (List Instr) Refusal) (tail : Result (List ℕ) Refusal)
-    → IsPlain i → tail ≡ (more >>= λ js. Ok ((front ++ plain_bytes i) ++ instrs_bytes ms (moved + instr_len i) js))
-    → tail ≡ ((Ok i >>= λ x. more >>= λ js. Ok (x ∷ js)) >>= λ js. Ok (front ++ instrs_bytes ms moved js))
-plain_step ms front i moved (Ok js) tail p e =
-    e ∙ ap (λ (l : List ℕ). Ok l) (append_assoc front (plain_bytes i) (instrs_bytes ms (moved + instr_len i) js) ∙ ap (λ (l : List ℕ). front ++ (l ++ instrs_bytes ms (moved + instr_len i) js)) (sym (p.bytes ms moved (moved + instr_len i))))
-plain_step ms front i moved (Err d) tail p e = e
+plain_step : (ms front : List ℕ) (r : Raw) (moved : ℕ) (more : Result (List Instr) Refusal) (tail : Result (List ℕ) Refusal)
+    → (p : IsPlain r) → tail ≡ (more >>= λ js. Ok ((front ++ plain_bytes r) ++ instrs_bytes ms (moved + raw_len r) js))
+    → tail ≡ ((Ok p.instr >>= λ x. more >>= λ js. Ok (x ∷ js)) >>= λ js. Ok (front ++ instrs_bytes ms moved js))
+plain_step ms front r moved (Ok js) tail p e =
+    let rest = instrs_bytes ms (moved + raw_len r) js in
+    rw p.len (e ∙ ap (λ (l : List ℕ). Ok l) (append_assoc front (plain_bytes r) rest ∙ ap (λ (l : List ℕ). front ++ (l ++ rest)) (sym (p.bytes ms moved (moved + raw_len r)))))
+plain_step ms front r moved (Err d) tail p e = e
 
 jump_step : (ms front : List ℕ) (len moved : ℕ) (one : Result Instr Refusal) (more : Result (List Instr) Refusal) (tail : Result (List ℕ) Refusal)
     → ((x : Instr) → one ≡ Ok x → instr_len x ≡ len) → tail ≡ (more >>= λ js. Ok (instrs_bytes ms (moved + len) js))
@@ -216,28 +196,21 @@ switch_is k ms moved next (Ok t) (Ok ts) same = let e : length ts ≡ k = same t
 switch_is k ms moved next (Ok t) (Err d) same = refl
 switch_is k ms moved next (Err d) more same = refl
 
-pub jump_is : (ss ms : List ℕ) (n : ℕ) (j : Jump) → length ss ≡ suc n → is_jump j.instr ≡ true → jump_bytes (moved_at ss ms) j ≡ (instr_of ss j.here j.next (raw_of j.instr) >>= λ i. Ok (instr_bytes ms j.moved_here j.moved_next i))
-jump_is ss ms n j count e = by_instr j.instr e where
-  by_instr : (i : Instr) → is_jump i ≡ true → bytes_to (moved_at ss ms) j i ≡ (instr_of ss j.here j.next (raw_of i) >>= λ x. Ok (instr_bytes ms j.moved_here j.moved_next x))
-  by_instr (instrs.Plain op) e = absurd cc
-  by_instr (instrs.One op n) e = absurd cc
-  by_instr (instrs.Two op n m) e = absurd cc
-  by_instr (instrs.Branch op t) e =
-      ap (λ (r : Result (List ℕ) Refusal). r >>= λ b. Ok (op ∷ b)) (target_is ss ms (j.here + 1) j.next j.moved_next (offset_of t)) ∙ branch_is op ms j.moved_here j.moved_next (found (j.here + 1) (target_of ss j.next (offset_of t)))
-  by_instr (instrs.Switch t ts) e =
-      let zs = map offset_of ts in
-      ap (λ (r : Result (List ℕ) Refusal). r >>= λ b. case_bytes (moved_at ss ms) j.next j.here j.moved_here zs >>= λ bs. Ok (0x1b ∷ (b ++ (number_bytes (length ts - 1) ++ bs)))) (target_is ss ms (j.here + 1) j.here j.moved_here (offset_of t))
-      ∙ ap (λ (r : Result (List ℕ) Refusal). (found (j.here + 1) (target_of ss j.here (offset_of t)) >>= λ u. Ok (s24_bytes (offset ms j.moved_here u))) >>= λ b. r >>= λ bs. Ok (0x1b ∷ (b ++ (number_bytes (length ts - 1) ++ bs)))) (cases_are ss ms j.next j.here j.moved_here zs)
-      ∙ switch_is (length ts) ms j.moved_here j.moved_next (found (j.here + 1) (target_of ss j.here (offset_of t))) (cases_of ss j.here j.next zs) (λ us q. omega (arith, (cases_within ss j.here j.next n zs us count q).count, length-map ts offset_of))
-  by_instr (instrs.Byte z) e = absurd cc
-  by_instr (instrs.Short z) e = absurd cc
-  by_instr (instrs.ScopeObject x) e = absurd cc
-  by_instr (instrs.Debug kind name reg extra) e = absurd cc
+jump_is : (ss ms : List ℕ) (n : ℕ) (j : Jump) → length ss ≡ suc n → HasTargets j.instr → jump_bytes (moved_at ss ms) j ≡ (instr_of ss j.here j.next (raw_of j.instr) >>= λ i. Ok (instr_bytes ms j.moved_here j.moved_next i))
+jump_is ss ms n j count h = by_instr j.instr h.some where
+  by_instr : (r : Raw) → jump_in r ≡ Some r → bytes_to (moved_at ss ms) j r ≡ (instr_of ss j.here j.next (raw_of r) >>= λ x. Ok (instr_bytes ms j.moved_here j.moved_next x))
+  by_instr (raws.Same i) e = absurd cc
+  by_instr (raws.Branch op z) e =
+      ap (λ (r : Result (List ℕ) Refusal). r >>= λ b. Ok (op ∷ b)) (target_is ss ms (j.here + 1) j.next j.moved_next z) ∙ branch_is op ms j.moved_here j.moved_next (found (j.here + 1) (target_of ss j.next z))
+  by_instr (raws.Switch z zs) e =
+      ap (λ (r : Result (List ℕ) Refusal). r >>= λ b. case_bytes (moved_at ss ms) j.next j.here j.moved_here zs >>= λ bs. Ok (0x1b ∷ (b ++ (number_bytes (length zs - 1) ++ bs)))) (target_is ss ms (j.here + 1) j.here j.moved_here z)
+      ∙ ap (λ (r : Result (List ℕ) Refusal). (found (j.here + 1) (target_of ss j.here z) >>= λ u. Ok (s24_bytes (offset ms j.moved_here u))) >>= λ b. r >>= λ bs. Ok (0x1b ∷ (b ++ (number_bytes (length zs - 1) ++ bs)))) (cases_are ss ms j.next j.here j.moved_here zs)
+      ∙ switch_is (length zs) ms j.moved_here j.moved_next (found (j.here + 1) (target_of ss j.here z)) (cases_of ss j.here j.next zs) (λ us q. (cases_within ss j.here j.next n zs us count q).count)
 
 -- ---- all of them
 
 module _ (ss ms plain : List ℕ) (n : ℕ) (count : length ss ≡ suc n) where
-  pub woven_is : (xs : List (Instr × ℕ)) (from before here moved : ℕ) → from ≤ before → before ≤ length plain → drop before plain ≡ flat_map plain_bytes (instrs_in xs) → AreRaw (instrs_in xs)
+  pub woven_is : (xs : List (Raw × ℕ)) (from before here moved : ℕ) → from ≤ before → before ≤ length plain → drop before plain ≡ flat_map plain_bytes (instrs_in xs) → AreRaw (instrs_in xs)
       → woven (moved_at ss ms) plain from (jumps_from before here moved xs) ≡ (instrs_of ss here (raws_in xs) >>= λ js. Ok (take (before - from) (drop from plain) ++ instrs_bytes ms moved js))
   woven_is [] from before here moved le within e raw =
       let none : length plain - before ≡ 0 = omega (arith, ap length e, length-drop before plain) in
@@ -245,26 +218,24 @@ module _ (ss ms plain : List ℕ) (n : ℕ) (count : length ss ≡ suc n) where
       ap (λ (l : List ℕ). Ok l) (sym (append-nil (take (before - from) (drop from plain)) ∙ all))
   woven_is (x ∷ xs) from before here moved le within e raw =
       let p = plain_bytes x.0 in
-      let len = instr_len x.0 in
+      let len = raw_len x.0 in
       let front = take (before - from) (drop from plain) in
       let s = split plain p (flat_map plain_bytes (instrs_in xs)) from before le within e in
       let more = instrs_of ss (here + x.1) (raws_in xs) in
       let rest = jumps_from (before + length p) (here + x.1) (moved + len) xs in
-      elim (cases_Bool (is_jump x.0)) [
-        | inl some ↦
-            let h = has_targets x.0 some in
+      elim (either x.0 raw.0) [
+        | inl h ↦
             let k : before + length p ≡ before = omega (arith, ap length h.bytes) in
             let same = woven_is xs before (before + length p) (here + x.1) (moved + len) (omega arith) s.within s.after raw.1 in
             let empty : take (before + length p - before) (drop before plain) ≡ [] = let z : before + length p - before ≡ 0 = omega arith in rw z refl in
-            ap (λ (o : Option Instr). woven (moved_at ss ms) plain from (jumps_in o before here (here + x.1) moved (moved + len) ++ rest)) h.some
+            ap (λ (o : Option Raw). woven (moved_at ss ms) plain from (jumps_in o before here (here + x.1) moved (moved + len) ++ rest)) h.some
             ∙ ap (λ (r : Result (List ℕ) Refusal). r >>= λ b. woven (moved_at ss ms) plain before rest >>= λ m. Ok (front ++ (b ++ m)))
-            (jump_is ss ms n (record { instr = x.0; before = before; here = here; next = here + x.1; moved_here = moved; moved_next = moved + len }) count some)
+            (jump_is ss ms n (record { instr = x.0; before = before; here = here; next = here + x.1; moved_here = moved; moved_next = moved + len }) count h)
             ∙ jump_step ms front len moved (instr_of ss here (here + x.1) (raw_of x.0)) more (woven (moved_at ss ms) plain before rest) (λ y q. (instr_set ss here (here + x.1) n x.0 y count q raw.0).len)
             (same ∙ ap (λ (l : List ℕ). more >>= λ js. Ok (l ++ instrs_bytes ms (moved + len) js)) empty)
-        | inr none ↦
-            let h = is_plain x.0 none in
+        | inr h ↦
             let same = woven_is xs from (before + length p) (here + x.1) (moved + len) (omega arith) s.within s.after raw.1 in
-            ap (λ (o : Option Instr). woven (moved_at ss ms) plain from (jumps_in o before here (here + x.1) moved (moved + len) ++ rest)) h.none
+            ap (λ (o : Option Raw). woven (moved_at ss ms) plain from (jumps_in o before here (here + x.1) moved (moved + len) ++ rest)) h.none
             ∙ plain_step ms front x.0 moved more (woven (moved_at ss ms) plain from rest) h (same ∙ ap (λ (l : List ℕ). more >>= λ js. Ok (l ++ instrs_bytes ms (moved + len) js)) s.taken)
             ∙ ap (λ (r : RawInstr). (instr_of ss here (here + x.1) r >>= λ y. more >>= λ js. Ok (y ∷ js)) >>= λ js. Ok (front ++ instrs_bytes ms moved js)) (sym h.raw)
       ]

@@ -1,35 +1,34 @@
 -- Instructions without targets that are put straight from the bytes at hand.
 use Rattle.std.specs.Prelude.{◌≡◌, ℕ, ◌<◌, ◌≤◌, List, ◌++◌, take, None, Some}
 use Rattle.std.specs.declared.option.Option.{Option}
-use Rattle.abc_tables.specs.declared.code.Instr.{Instr}
-use Rattle.abc_tables.specs.declared.code.Instr.TheVariants as instrs
-use Rattle.abc_tables.specs.CodeBytes.{instr_len}
 use Rattle.abc_tables.specs.Instructions.{instruction}
 use Rattle.abc_varint.specs.Ready.{IsReady}
 use Rattle.abc_varint.specs.View.{View, held, onward}
 use Rattle.abc_instr.specs.declared.front.Front.{Front}
 use Rattle.abc_instr.specs.declared.front.Front.TheVariants as fronts
-use Rattle.abc_instr.specs.Offsets.{IsRaw, raw_of}
+use Rattle.abc_instr.specs.declared.raw.RawInstr.{RawInstr as Raw}
+use Rattle.abc_instr.specs.declared.raw.RawInstr.TheVariants as raws
+use Rattle.abc_instr.specs.Offsets.{IsRaw, raw_len, raw_of}
 use Rattle.abc_instr.specs.Scanning.{jump_in, plain_bytes}
 
 -- how many bytes spell it
 abbrev pub count_of : Front → ℕ
 count_of (fronts.Put n) = n
-count_of (fronts.Branch op offset) = 4
+count_of (fronts.Branch op z) = 4
 
 -- the instruction, where it has targets
-abbrev pub branch_in : Front → Option Instr
+abbrev pub branch_in : Front → Option Raw
 branch_in (fronts.Put n) = None
-branch_in (fronts.Branch op offset) = Some (instrs.Branch op offset)
+branch_in (fronts.Branch op z) = Some (raws.Branch op z)
 
 -- The first bytes, at most 11, spell an instruction: it is told where it has targets, and was put where it has none.
 pub record IsFront (f : Front) (bytes old new : List ℕ) : Type 0 where
-  pub instr : Instr
+  pub instr : Raw
   pub spelled : instruction.spells (raw_of instr) (take (count_of f) bytes)
   pub some : 0 < count_of f
   pub few : count_of f ≤ 11
   pub raw : IsRaw instr
-  pub short : instr_len instr ≤ count_of f
+  pub short : raw_len instr ≤ count_of f
   pub told : branch_in f ≡ jump_in instr
   pub put : new ≡ old ++ plain_bytes instr
 

@@ -1,47 +1,69 @@
--- Instructions between reading and resolving: each stands in the table that the caller gets, and where a target is to
--- stand there is an offset in bytes, as its 32 bits in two's complement.
-use Rattle.std.specs.Prelude.{ℕ, ℤ, ◌-◌, ◌^◌, List, [], ◌∷◌, map, Ok, Err}
-use Rattle.std.specs.Int.{w32, cast_signed}
+-- Instructions between reading and resolving, as they are spelled: with offsets in bytes.
+use Rattle.std.specs.Prelude.{◌≡◌, ℕ, ◌+◌, ◌-◌, ◌*◌, ◌^◌, ◌<◌, ◌≤◌, Bool, true, false, List, [], ◌∷◌, length, Some, Ok, Err}
 use Rattle.std.specs.declared.result.Result.{Result}
 use Rattle.abc_tables.specs.declared.code.Instr.{Instr}
 use Rattle.abc_tables.specs.declared.code.Instr.TheVariants as instrs
+use Rattle.abc_tables.specs.declared.opcodes.Form.TheVariants as forms
+use Rattle.abc_tables.specs.CodeBytes.{instr_len, number_len}
 use Rattle.abc_tables.specs.Instructions.{RawInstr, Same, Branch, Switch}
-use Rattle.abc_tables.specs.Ready.{CanSpell, AllCanSpell}
+use Rattle.abc_tables.specs.Opcodes.{form_at}
+use Rattle.abc_tables.specs.Ready.{CanSpell}
+use Rattle.abc_tables.specs.Starts.{size}
 use Rattle.abc_instr.specs.declared.pieces.Pieces.{Pieces}
+use Rattle.abc_instr.specs.declared.raw.RawInstr.{RawInstr as Raw}
+use Rattle.abc_instr.specs.declared.raw.RawInstr.TheVariants as raws
 
--- the offset that stands for a target
-abbrev pub offset_of : ℕ → ℤ
-offset_of x = cast_signed w32 x
+-- the instruction as the format knows it
+abbrev pub raw_of : Raw → RawInstr
+raw_of (raws.Same i) = Same i
+raw_of (raws.Branch op z) = Branch op z
+raw_of (raws.Switch z zs) = Switch z zs
 
--- the instruction as it was spelled
-abbrev pub raw_of : Instr → RawInstr
-raw_of (instrs.Plain op) = Same (instrs.Plain op)
-raw_of (instrs.One op n) = Same (instrs.One op n)
-raw_of (instrs.Two op n m) = Same (instrs.Two op n m)
-raw_of (instrs.Branch op t) = Branch op (offset_of t)
-raw_of (instrs.Switch t ts) = Switch (offset_of t) (map offset_of ts)
-raw_of (instrs.Byte z) = Same (instrs.Byte z)
-raw_of (instrs.Short z) = Same (instrs.Short z)
-raw_of (instrs.ScopeObject x) = Same (instrs.ScopeObject x)
-raw_of (instrs.Debug kind name reg extra) = Same (instrs.Debug kind name reg extra)
+-- one byte for the opcode, and the fewest for each operand
+abbrev pub raw_len : Raw → ℕ
+raw_len (raws.Same i) = instr_len i
+raw_len (raws.Branch op z) = 1 + 3
+raw_len (raws.Switch z zs) = 1 + 3 + number_len (length zs - 1) + 3 * length zs
 
--- Some bytes spell it, but for its targets: in their places stand numbers of at most 2^32, as any 32 bits are.
-abbrev pub IsRaw : Instr → Type 0
-IsRaw = CanSpell (2 ^ 32)
+abbrev pub raws_sized : List Raw → List (Raw × ℕ)
+raws_sized [] = []
+raws_sized (i ∷ is) = (i, raw_len i) ∷ raws_sized is
 
--- Each of them is so.
-abbrev pub AreRaw : List Instr → Type 0
-AreRaw = AllCanSpell (2 ^ 32)
+-- the sum over all of them
+abbrev pub raws_len : List Raw → ℕ
+raws_len is = size (raws_sized is)
+
+-- It has targets.
+abbrev pub has_targets : Instr → Bool
+has_targets (instrs.Plain op) = false
+has_targets (instrs.One op n) = false
+has_targets (instrs.Two op n m) = false
+has_targets (instrs.Branch op t) = true
+has_targets (instrs.Switch t ts) = true
+has_targets (instrs.Byte z) = false
+has_targets (instrs.Short z) = false
+has_targets (instrs.ScopeObject x) = false
+has_targets (instrs.Debug kind name reg extra) = false
+
+-- Some bytes spell it.
+abbrev pub IsRaw : Raw → Type 0
+IsRaw (raws.Same i) = CanSpell 0 i × (has_targets i ≡ false)
+IsRaw (raws.Branch op z) = form_at op ≡ Some forms.Branch
+IsRaw (raws.Switch z zs) = (0 < length zs) × (length zs ≤ 2 ^ 30)
+
+abbrev pub AreRaw : List Raw → Type 0
+AreRaw [] = Unit {0}
+AreRaw (i ∷ is) = IsRaw i × AreRaw is
 
 -- each with its length, the difference of two starts
-abbrev pub pieces_of : List Instr → List ℕ → List (RawInstr × ℕ)
+abbrev pub pieces_of : List Raw → List ℕ → List (RawInstr × ℕ)
 pieces_of [] ss = []
 pieces_of (i ∷ is) [] = []
 pieces_of (i ∷ is) (s ∷ []) = []
 pieces_of (i ∷ is) (s ∷ t ∷ ss) = (raw_of i, t - s) ∷ pieces_of is (t ∷ ss)
 
 abbrev pub pieces_in : Pieces → List (RawInstr × ℕ)
-pieces_in p = pieces_of p.instrs p.starts
+pieces_in p = pieces_of p.instrs.items p.starts
 
 -- a result whose value is seen as another
 abbrev pub seen : {A B E : Type 0} → (A → B) → Result A E → Result B E

@@ -15,8 +15,8 @@ const ROOM: u32 = 11;
 pub enum Front {
     /// One without targets, which was put, and so many bytes spell it.
     Put(usize),
-    /// A branch with this opcode and offset, as its 32 bits.
-    Branch(u8, u32),
+    /// A branch with this opcode and offset.
+    Branch(u8, i32),
 }
 
 impl Front {
@@ -103,8 +103,7 @@ fn branch_front(bytes: &[u8]) -> Front
     requires form { form_at (get_or bytes.now 0 0) ≡ Some Form.Branch }
     ensures { (old : List ℕ) → IsFront result bytes.now old old }
 {
-    let offset = front_s24(&bytes[1..]);
-    Front::Branch(bytes[0], offset.cast_unsigned())
+    Front::Branch(bytes[0], front_s24(&bytes[1..]))
 }
 
 /// Puts the instruction that the bytes begin with, or gives it where it has targets. Nothing is put, and `None` given,

@@ -22,6 +22,3 @@ pub use place::read_place;
 pub use put::{offset_at, put_code, starts_of};
 pub use read::read_code;
 pub use scan::Scan;
-
-#[cfg(test)]
-mod tests;

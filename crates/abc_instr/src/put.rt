@@ -1,4 +1,4 @@
-ghost use Rattle.std.specs.Prelude.{◌≡◌, ◌≤◌, ◌<◌, ◌+◌, ◌-◌, ◌*◌, ◌^◌, ◌++◌, List, ℕ, length, get_or, IfOk, OnOk, OnErr, All};
+ghost use Rattle.std.specs.Prelude.{◌≡◌, ◌≤◌, ◌<◌, ◌+◌, ◌-◌, ◌*◌, ◌^◌, ◌++◌, ◌∷◌, [], List, ℕ, length, get_or, IfOk, OnOk, OnErr, All};
 ghost use Rattle.std.specs.List.{flat_map};
 ghost use Rattle.abc_base.specs.Numbers.{number_bytes};
 ghost use Rattle.abc_format.specs.Canonical.{s24_bytes};
@@ -66,6 +66,7 @@ pub fn starts_of(alloc: Global, code: &Table<Instr>) -> Result<Table<u32>, NoMem
     Ok(starts)
 }
 
+/// Appends the offset from a base to where the target starts.
 fn put_offset(starts: &[u32], base: u32, target: u32, out: &mut Vec<u8>) -> Result<(), NoMemory>
     requires target { target < length starts.now }
     requires start { get_or starts.now target 0 < 2 ^ 23 }
@@ -76,6 +77,7 @@ fn put_offset(starts: &[u32], base: u32, target: u32, out: &mut Vec<u8>) -> Resu
     put_s24(start as i32 - base as i32, out)
 }
 
+/// Appends the offsets from a base to where each target starts.
 #[tactic(auto, using(abc_varint::proofs::Putting::stays))]
 fn put_offsets(
     starts: &[u32],
@@ -93,6 +95,100 @@ fn put_offsets(
     Ok(())
 }
 
+/// Appends an opcode.
+fn put_opcode(op: u8, out: &mut Vec<u8>) -> Result<(), NoMemory>
+    ensures { Puts out.old.items out.new.items result (op ∷ []) }
+{
+    put_u8(op, out)?;
+    Ok(())
+}
+
+/// Appends an opcode and a number.
+#[tactic(auto, using(abc_varint::proofs::Putting::stays, std::proofs::Common::append_assoc))]
+fn put_one(op: u8, n: u32, out: &mut Vec<u8>) -> Result<(), NoMemory>
+    ensures { Puts out.old.items out.new.items result (op ∷ number_bytes n) }
+{
+    put_u8(op, out)?;
+    put_u32(n, out)?;
+    Ok(())
+}
+
+/// Appends an opcode and two numbers.
+#[tactic(auto, using(abc_varint::proofs::Putting::stays, std::proofs::Common::append_assoc))]
+fn put_two(op: u8, n: u32, m: u32, out: &mut Vec<u8>) -> Result<(), NoMemory>
+    ensures { Puts out.old.items out.new.items result (op ∷ (number_bytes n ++ number_bytes m)) }
+{
+    put_u8(op, out)?;
+    put_u30(n, out)?;
+    put_u30(m, out)?;
+    Ok(())
+}
+
+/// Appends an opcode and a byte.
+#[tactic(auto, using(abc_varint::proofs::Putting::stays, std::proofs::Common::append_assoc))]
+fn put_byte(op: u8, x: u8, out: &mut Vec<u8>) -> Result<(), NoMemory>
+    ensures { Puts out.old.items out.new.items result (op ∷ x ∷ []) }
+{
+    put_u8(op, out)?;
+    put_u8(x, out)?;
+    Ok(())
+}
+
+/// Appends `debug` with its operands.
+#[tactic(auto, using(abc_varint::proofs::Putting::stays, std::proofs::Common::append_assoc))]
+fn put_debug(kind: u8, name: u32, reg: u8, extra: u32, out: &mut Vec<u8>) -> Result<(), NoMemory>
+    ensures { Puts out.old.items out.new.items result (0xef ∷ kind ∷ (number_bytes name ++ reg ∷ number_bytes extra)) }
+{
+    put_u8(DEBUG, out)?;
+    put_u8(kind, out)?;
+    put_u30(name, out)?;
+    put_u8(reg, out)?;
+    put_u30(extra, out)?;
+    Ok(())
+}
+
+/// Appends a branch, whose offset counts from its end.
+#[tactic(auto, using(abc_varint::proofs::Putting::stays, std::proofs::Common::append_assoc))]
+fn put_branch(
+    op: u8,
+    starts: &[u32],
+    next: u32,
+    target: u32,
+    out: &mut Vec<u8>,
+) -> Result<(), NoMemory>
+    requires target { target < length starts.now }
+    requires start { get_or starts.now target 0 < 2 ^ 23 }
+    requires next { next < 2 ^ 23 }
+    ensures { Puts out.old.items out.new.items result (op ∷ s24_bytes (offset_of starts.now next target)) }
+{
+    put_u8(op, out)?;
+    put_offset(starts, next, target, out)?;
+    Ok(())
+}
+
+/// Appends a switch, whose offsets count from its start: the default, how many cases there are but one, and the cases.
+#[tactic(auto, using(abc_varint::proofs::Putting::stays, std::proofs::Common::append_assoc))]
+fn put_switch(
+    starts: &[u32],
+    here: u32,
+    default: u32,
+    cases: &Table<u32>,
+    out: &mut Vec<u8>,
+) -> Result<(), NoMemory>
+    requires default { (default < length starts.now) × (get_or starts.now default 0 < 2 ^ 23) }
+    requires cases { All (λ t. (t < length starts.now) × (get_or starts.now t 0 < 2 ^ 23)) cases.now }
+    requires here { here < 2 ^ 23 }
+    ensures { Puts out.old.items out.new.items result (0x1b ∷ (s24_bytes (offset_of starts.now here default) ++ (number_bytes (length cases.now - 1) ++ flat_map (λ t. s24_bytes (offset_of starts.now here t)) cases.now))) }
+{
+    put_u8(SWITCH, out)?;
+    put_offset(starts, here, default, out)?;
+    put_count(cases.len().saturating_sub(1), out)?;
+    put_offsets(starts, here, cases, out)?;
+    Ok(())
+}
+
+/// Appends an instruction from `here` to `next` of the canonical code, whose instructions start so; its targets are
+/// numbers of them, and each stands as an offset.
 #[tactic(auto, using(abc_varint::proofs::Putting::stays, std::proofs::Common::append_assoc))]
 pub fn put_instr(
     instr: &Instr,
@@ -106,68 +202,27 @@ pub fn put_instr(
     requires small { Small starts.now (length starts.now - 1) }
     requires here { here < 2 ^ 23 }
     requires next { next < 2 ^ 23 }
-    requires short { len_of instr.now < 2 ^ 23 }
     ensures { Puts out.old.items out.new.items result (instr_bytes starts.now here next instr.now) }
 {
     match instr {
-        Instr::Plain(op) => {
-            put_u8(*op, out)?;
-            Ok(())
-        }
-        Instr::One(op, n) => {
-            put_u8(*op, out)?;
-            put_u30(*n, out)?;
-            Ok(())
-        }
-        Instr::Two(op, n, m) => {
-            put_u8(*op, out)?;
-            put_u30(*n, out)?;
-            put_u30(*m, out)?;
-            Ok(())
-        }
-        Instr::Branch(op, target) => {
-            put_u8(*op, out)?;
-            put_offset(starts, next, *target, out)?;
-            Ok(())
-        }
-        Instr::Switch { default, cases } => {
-            put_u8(SWITCH, out)?;
-            put_offset(starts, here, *default, out)?;
-            put_count(cases.len().saturating_sub(1), out)?;
-            put_offsets(starts, here, cases, out)?;
-            Ok(())
-        }
-        Instr::Byte(x) => {
-            put_u8(BYTE, out)?;
-            put_u8(x.cast_unsigned(), out)?;
-            Ok(())
-        }
-        Instr::Short(x) => {
-            put_u8(SHORT, out)?;
-            put_u32(x.cast_unsigned() as u32, out)?;
-            Ok(())
-        }
-        Instr::ScopeObject(x) => {
-            put_u8(SCOPE_OBJECT, out)?;
-            put_u8(*x, out)?;
-            Ok(())
-        }
+        Instr::Plain(op) => put_opcode(*op, out),
+        Instr::One(op, n) => put_one(*op, *n, out),
+        Instr::Two(op, n, m) => put_two(*op, *n, *m, out),
+        Instr::Branch(op, target) => put_branch(*op, starts, next, *target, out),
+        Instr::Switch { default, cases } => put_switch(starts, here, *default, cases, out),
+        Instr::Byte(x) => put_byte(BYTE, x.cast_unsigned(), out),
+        Instr::Short(x) => put_one(SHORT, x.cast_unsigned() as u32, out),
+        Instr::ScopeObject(x) => put_byte(SCOPE_OBJECT, *x, out),
         Instr::Debug {
             kind,
             name,
             reg,
             extra,
-        } => {
-            put_u8(DEBUG, out)?;
-            put_u8(*kind, out)?;
-            put_u30(*name, out)?;
-            put_u8(*reg, out)?;
-            put_u30(*extra, out)?;
-            Ok(())
-        }
+        } => put_debug(*kind, *name, *reg, *extra, out),
     }
 }
 
+/// Appends the instructions of canonical code, which start so.
 #[tactic(auto, using(abc_varint::proofs::Putting::stays, std::proofs::Common::append_assoc))]
 fn put_instrs(code: &Table<Instr>, starts: &[u32], out: &mut Vec<u8>) -> Result<(), NoMemory>
     requires can { AllCanSpell (length starts.now - 1) code.now }
@@ -185,6 +240,7 @@ fn put_instrs(code: &Table<Instr>, starts: &[u32], out: &mut Vec<u8>) -> Result<
     Ok(())
 }
 
+/// Appends the number of bytes of the canonical code, and its instructions, which start so.
 #[tactic(auto, unfolding(abc_tables::specs::CodeBytes::code_bytes), using(abc_varint::proofs::Putting::stays, std::proofs::Common::append_assoc))]
 fn append_code(code: &Table<Instr>, starts: &Table<u32>, out: &mut Vec<u8>) -> Result<(), NoMemory>
     requires ready { IsReady code.now }

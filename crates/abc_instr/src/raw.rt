@@ -1,20 +1,30 @@
-ghost use Rattle.std.specs.Prelude.{◌≡◌, ◌≤◌, ◌<◌, ◌*◌, ◌^◌, None, Some, IfOk, OnOk, length, map};
+ghost use Rattle.std.specs.Prelude.{◌≡◌, ◌≤◌, ◌<◌, ◌*◌, ◌^◌, None, Some, IfOk, OnOk, length};
 ghost use Rattle.std.specs.Int.{w16, cast_unsigned};
 ghost use Rattle.abc_format.specs.Ends.{blamed};
 ghost use Rattle.abc_format.specs.Lists.{times};
 ghost use Rattle.abc_format.specs.Numbers.{s24};
 ghost use Rattle.abc_tables.specs.Instructions.{opcode as opcode_part, signed_byte, signed_short, instruction};
-ghost use Rattle.abc_tables.specs.CodeBytes.{instr_len, number_len};
+ghost use Rattle.abc_tables.specs.CodeBytes.{number_len};
 ghost use Rattle.abc_tables.specs.Opcodes.{form_at};
-ghost use Rattle.abc_tables.specs.Ready.{AllUpTo};
 ghost use Rattle.abc_varint.specs.Reads.{Blames, Keeps, Reads, ReadsPart};
 ghost use Rattle.abc_varint.specs.View.{GoesOver};
-ghost use Rattle.abc_instr.specs.Offsets.{offset_of, raw_of, seen, IsRaw};
+ghost use Rattle.abc_instr.specs.Offsets.{raw_len, raw_of, seen, IsRaw};
 
 use abc_base::{Source, Table};
 use abc_tables::{Form, Instr, opcode};
 use abc_varint::{ReadError, Reason, Window, read_s24, read_u8, read_u30, read_u32};
 use std::alloc::Global;
+
+/// An instruction as it is spelled: one without targets is itself, and a branch and a switch have offsets in bytes.
+#[derive(Debug, Drop)]
+pub enum RawInstr {
+    /// One without targets.
+    Same(Instr),
+    /// A branch, with its offset.
+    Branch(u8, i32),
+    /// `lookupswitch`, with the offsets of its default and of its cases.
+    Switch { default: i32, cases: Table<i32> },
+}
 
 /// An opcode that some instruction has, and what follows it.
 #[tactic(auto, unfolding(abc_tables::specs::Instructions::opcode, abc_tables::specs::Opcodes::form_at))]
@@ -55,13 +65,13 @@ fn read_signed_short<S: Source>(w: &mut Window, source: &mut S) -> Result<i16, R
     Ok(((x % 65536) as u16).cast_signed())
 }
 
-/// An offset, as its 32 bits.
-fn read_offset<S: Source>(w: &mut Window, source: &mut S) -> Result<u32, ReadError>
-    ensures value { ReadsPart S.left S.faults s24 w.old source.old w.new source.new (seen offset_of result) }
+/// An offset in bytes.
+fn read_offset<S: Source>(w: &mut Window, source: &mut S) -> Result<i32, ReadError>
+    ensures value { ReadsPart S.left S.faults s24 w.old source.old w.new source.new result }
     ensures passes { OnOk result (GoesOver 3 w.old w.new) }
 {
     let offset = read_s24(w, source)?;
-    Ok(offset.cast_unsigned())
+    Ok(offset)
 }
 
 /// So many offsets.
@@ -70,11 +80,10 @@ fn read_offsets<S: Source>(
     w: &mut Window,
     source: &mut S,
     count: u32,
-) -> Result<Table<u32>, ReadError>
+) -> Result<Table<i32>, ReadError>
     requires { w.old.kept ≡ None }
-    ensures value { ReadsPart S.left S.faults (times count s24) w.old source.old w.new source.new (seen (λ xs. map offset_of xs) result) }
+    ensures value { ReadsPart S.left S.faults (times count s24) w.old source.old w.new source.new result }
     ensures count { IfOk result (λ xs. length xs ≡ count) }
-    ensures each { IfOk result (AllUpTo (2 ^ 32)) }
     ensures passes { OnOk result (w.old.place ≤ w.old.end → GoesOver (3 * count) w.old w.new) }
 {
     let mut offsets = Table::new(alloc);
@@ -85,80 +94,85 @@ fn read_offsets<S: Source>(
     Ok(offsets)
 }
 
+/// An instruction; where it needs a byte past the end, that is told at that byte.
 #[tactic(auto, unfolding(abc_tables::specs::Instructions::instruction, abc_tables::specs::Instructions::switch_offsets))]
-fn read_parts<S: Source>(alloc: Global, w: &mut Window, source: &mut S) -> Result<Instr, ReadError>
+fn read_instruction<S: Source>(
+    alloc: Global,
+    w: &mut Window,
+    source: &mut S,
+) -> Result<RawInstr, ReadError>
     ensures moves { OnOk result (w.old.place < w.new.place) }
     ensures value { ReadsPart S.left S.faults instruction w.old source.old w.new source.new (seen raw_of result) }
     ensures raw { IfOk result IsRaw }
-    ensures passes { IfOk result (λ i. GoesOver (instr_len i) w.old w.new) }
+    ensures passes { IfOk result (λ i. GoesOver (raw_len i) w.old w.new) }
 {
     let (op, form) = read_opcode(w, source)?;
     match form {
-        Form::Plain => Ok(Instr::Plain(op)),
+        Form::Plain => Ok(RawInstr::Same(Instr::Plain(op))),
         Form::One => {
             let n = read_u30(w, source)?;
-            Ok(Instr::One(op, n))
+            Ok(RawInstr::Same(Instr::One(op, n)))
         }
         Form::Two => {
             let n = read_u30(w, source)?;
             let m = read_u30(w, source)?;
-            Ok(Instr::Two(op, n, m))
+            Ok(RawInstr::Same(Instr::Two(op, n, m)))
         }
         Form::Branch => {
             let offset = read_offset(w, source)?;
-            Ok(Instr::Branch(op, offset))
+            Ok(RawInstr::Branch(op, offset))
         }
         Form::Switch => {
             let default = read_offset(w, source)?;
             let count = read_u30(w, source)?;
             let cases = read_offsets(alloc, w, source, count + 1)?;
-            Ok(Instr::Switch { default, cases })
+            Ok(RawInstr::Switch { default, cases })
         }
         Form::Byte => {
             let x = read_signed_byte(w, source)?;
-            Ok(Instr::Byte(x))
+            Ok(RawInstr::Same(Instr::Byte(x)))
         }
         Form::Short => {
             let x = read_signed_short(w, source)?;
-            Ok(Instr::Short(x))
+            Ok(RawInstr::Same(Instr::Short(x)))
         }
         Form::ScopeObject => {
             let x = read_u8(w, source)?;
-            Ok(Instr::ScopeObject(x))
+            Ok(RawInstr::Same(Instr::ScopeObject(x)))
         }
         Form::Debug => {
             let kind = read_u8(w, source)?;
             let name = read_u30(w, source)?;
             let reg = read_u8(w, source)?;
             let extra = read_u30(w, source)?;
-            Ok(Instr::Debug {
+            Ok(RawInstr::Same(Instr::Debug {
                 kind,
                 name,
                 reg,
                 extra,
-            })
+            }))
         }
     }
 }
 
-/// An instruction with offsets for targets; where it needs a byte past the end, that is told at its opcode.
+/// An instruction; where it needs a byte past the end, that is told at its opcode.
 #[tactic(auto, using(abc_format::proofs::Within::blamed_ends))]
 pub fn read_raw<S: Source>(
     alloc: Global,
     w: &mut Window,
     source: &mut S,
-) -> Result<Instr, ReadError>
+) -> Result<RawInstr, ReadError>
     requires { w.old.kept ≡ None }
     ensures moves { OnOk result (w.old.place < w.new.place) }
     ensures value { Reads (blamed instruction).reads w.old (S.left source.old) w.new (S.left source.new) (seen raw_of result) }
     ensures raw { IfOk result IsRaw }
-    ensures passes { IfOk result (λ i. GoesOver (instr_len i) w.old w.new) }
+    ensures passes { IfOk result (λ i. GoesOver (raw_len i) w.old w.new) }
     ensures later { S.faults source.old ≤ S.faults source.new }
     ensures cause { Blames w.old (S.faults source.old) (S.faults source.new) result }
     ensures keeps { Keeps w.old w.new result }
 {
     let place = w.place();
-    match read_parts(alloc, w, source) {
+    match read_instruction(alloc, w, source) {
         Err(
             ReadError::Refused {
                 reason: Reason::CodeEnds,

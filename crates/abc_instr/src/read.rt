@@ -6,7 +6,7 @@ ghost use Rattle.abc_tables.specs.Starts.{IsRising};
 ghost use Rattle.abc_varint.specs.Answers.{Answers};
 ghost use Rattle.abc_varint.specs.Reads.{ReadsPart};
 
-use crate::pieces::read_pieces;
+use crate::pieces::{Pieces, read_pieces};
 use crate::resolve::{Missed, resolve_all};
 use abc_base::Source;
 use abc_tables::Code;
@@ -16,6 +16,7 @@ use std::alloc::Global;
 /// The length of code is below it.
 const LENGTH_END: u32 = 1 << 23;
 
+/// The number of code's bytes, below 2^23. It is refused by `CodeLength` at its first byte where it is greater.
 #[tactic(auto, unfolding(abc_tables::specs::Instructions::code_length))]
 pub fn read_length<S: Source>(w: &mut Window, source: &mut S) -> Result<u32, ReadError>
     ensures small { IfOk result (λ n. n < 2 ^ 23) }
@@ -32,6 +33,7 @@ pub fn read_length<S: Source>(w: &mut Window, source: &mut S) -> Result<u32, Rea
     Ok(length)
 }
 
+/// Code, as `read_code` reads it.
 #[tactic(auto, unfolding(abc_tables::specs::Code::code, abc_tables::specs::Code::code_body, abc_tables::specs::Targets::resolve))]
 fn read_whole<S: Source>(alloc: Global, w: &mut Window, source: &mut S) -> Result<Code, ReadError>
     requires { w.old.end ≡ 2 ^ 25 }
@@ -43,11 +45,15 @@ fn read_whole<S: Source>(alloc: Global, w: &mut Window, source: &mut S) -> Resul
 {
     let length = read_length(w, source)?;
     let first = w.place();
-    let mut pieces = read_pieces(alloc, w, source, length)?;
-    match resolve_all(alloc, &pieces.starts, &mut pieces.instrs) {
-        Ok(()) => Ok(Code {
-            instrs: pieces.instrs,
-            offsets: pieces.starts,
+    let pieces = read_pieces(alloc, w, source, length)?;
+    let Pieces {
+        instrs: raws,
+        starts,
+    } = pieces;
+    match resolve_all(alloc, &starts, raws) {
+        Ok(instrs) => Ok(Code {
+            instrs,
+            offsets: starts,
         }),
         Err(Missed::Target(at)) => Err(ReadError::Refused {
             place: first + at,

@@ -1,12 +1,12 @@
-ghost use Rattle.std.specs.Prelude.{◌≡◌, ◌≤◌, ◌<◌, ◌+◌, ◌^◌, All, get_or, length, nat_eq, map, unwrap_or};
+ghost use Rattle.std.specs.Prelude.{◌≡◌, ◌≤◌, ◌<◌, ◌+◌, ◌^◌, All, IfOk, get_or, length, nat_eq};
 ghost use Rattle.std.specs.List.{position};
 ghost use Rattle.abc_tables.specs.Starts.{IsRising};
 ghost use Rattle.abc_tables.specs.Targets.{target_of, found, cases_of, instr_of, instrs_of};
-ghost use Rattle.abc_varint.specs.Reads.{stored};
-ghost use Rattle.abc_instr.specs.Offsets.{offset_of, raw_of, pieces_of, seen};
+ghost use Rattle.abc_instr.specs.Offsets.{raw_of, pieces_of};
 ghost use Rattle.abc_instr.specs.Resolving.{Resolves};
 ghost use Rattle.abc_instr.specs.declared.resolve.Missed.TheVariants as missed;
 
+use crate::raw::RawInstr;
 use abc_base::{NoMemory, Table};
 use abc_tables::Instr;
 use std::alloc::Global;
@@ -53,29 +53,31 @@ fn target_at(starts: &[u32], base: u32, offset: i32) -> Option<u32>
     number_of(starts, place as u32)
 }
 
-fn resolve_at(starts: &[u32], base: u32, offset: u32, place: u32) -> Result<u32, Missed>
+/// The number of the instruction, or of the end, at an offset from a base, which stands at a place.
+fn resolve_at(starts: &[u32], base: u32, offset: i32, place: u32) -> Result<u32, Missed>
     requires rising { IsRising starts.now }
     requires few { length starts.now < 2 ^ 32 }
     requires base { base ≤ 2 ^ 24 }
-    ensures { Resolves (found place (target_of starts.now base (offset_of offset))) result }
+    ensures { Resolves (found place (target_of starts.now base offset)) result }
 {
-    match target_at(starts, base, offset.cast_signed()) {
+    match target_at(starts, base, offset) {
         Some(target) => Ok(target),
         None => Err(Missed::Target(place)),
     }
 }
 
+/// The numbers for the offsets of the cases, the last of which stands just before `next`.
 fn resolve_cases(
     alloc: Global,
     starts: &[u32],
     base: u32,
     next: u32,
-    cases: &Table<u32>,
+    cases: &Table<i32>,
 ) -> Result<Table<u32>, Missed>
     requires rising { IsRising starts.now }
     requires few { length starts.now < 2 ^ 32 }
     requires base { base ≤ 2 ^ 24 }
-    ensures { Resolves (cases_of starts.now base next (map offset_of cases.now)) result }
+    ensures { Resolves (cases_of starts.now base next cases.now) result }
 {
     let mut targets = Table::new(alloc);
     let slice = cases.as_slice();
@@ -88,61 +90,54 @@ fn resolve_cases(
     Ok(targets)
 }
 
-/// The instruction with numbers for its offsets, or `None` where it has none.
-pub fn resolve_instr(
+/// The instruction from `here` to `next`, with numbers for its offsets.
+fn resolve_instr(
     alloc: Global,
     starts: &[u32],
     here: u32,
     next: u32,
-    instr: &Instr,
-) -> Result<Option<Instr>, Missed>
+    raw: RawInstr,
+) -> Result<Instr, Missed>
     requires rising { IsRising starts.now }
     requires few { length starts.now < 2 ^ 32 }
     requires here { here ≤ 2 ^ 24 }
     requires next { next ≤ 2 ^ 24 }
-    ensures { Resolves (instr_of starts.now here next (raw_of instr.now)) (seen (λ o. unwrap_or o instr.now) result) }
+    ensures { Resolves (instr_of starts.now here next (raw_of raw)) result }
 {
-    match instr {
-        Instr::Branch(op, offset) => {
-            let target = resolve_at(starts, next, *offset, here + 1)?;
-            Ok(Some(Instr::Branch(*op, target)))
+    match raw {
+        RawInstr::Same(instr) => Ok(instr),
+        RawInstr::Branch(op, offset) => {
+            let target = resolve_at(starts, next, offset, here + 1)?;
+            Ok(Instr::Branch(op, target))
         }
-        Instr::Switch { default, cases } => {
-            let default = resolve_at(starts, here, *default, here + 1)?;
-            let cases = resolve_cases(alloc, starts, here, next, cases)?;
-            Ok(Some(Instr::Switch { default, cases }))
+        RawInstr::Switch { default, cases } => {
+            let default = resolve_at(starts, here, default, here + 1)?;
+            let cases = resolve_cases(alloc, starts, here, next, &cases)?;
+            Ok(Instr::Switch { default, cases })
         }
-        Instr::Plain(_) => Ok(None),
-        Instr::One(_, _) => Ok(None),
-        Instr::Two(_, _, _) => Ok(None),
-        Instr::Byte(_) => Ok(None),
-        Instr::Short(_) => Ok(None),
-        Instr::ScopeObject(_) => Ok(None),
-        Instr::Debug { .. } => Ok(None),
     }
 }
 
-/// Puts numbers in place of all offsets.
+/// The instructions that start so, with numbers for all offsets.
 pub fn resolve_all(
     alloc: Global,
     starts: &Table<u32>,
-    instrs: &mut Table<Instr>,
-) -> Result<(), Missed>
+    raws: Vec<RawInstr>,
+) -> Result<Table<Instr>, Missed>
     requires rising { IsRising starts.now }
     requires few { length starts.now < 2 ^ 32 }
-    requires count { length starts.now ≡ length instrs.old + 1 }
+    requires count { length starts.now ≡ length raws.items + 1 }
     requires first { get_or starts.now 0 0 ≡ 0 }
     requires small { All (λ s. s ≤ 2 ^ 24) starts.now }
-    ensures value { Resolves (instrs_of starts.now 0 (pieces_of instrs.old starts.now)) (stored result instrs.new) }
-    ensures count { length instrs.new ≡ length instrs.old }
+    ensures value { Resolves (instrs_of starts.now 0 (pieces_of raws.items starts.now)) result }
+    ensures count { IfOk result (λ is. length is ≡ length raws.items) }
 {
-    for i in 0..instrs.len() {
-        let here = *starts.get(i);
-        let next = *starts.get(i + 1);
-        match resolve_instr(alloc, starts.as_slice(), here, next, instrs.get(i))? {
-            Some(instr) => instrs.set(i, instr),
-            None => {}
-        }
+    let mut instrs = Table::new(alloc);
+    for raw in raws {
+        let here = *starts.get(instrs.len());
+        let next = *starts.get(instrs.len() + 1);
+        let instr = resolve_instr(alloc, starts.as_slice(), here, next, raw)?;
+        instrs.push(instr)?;
     }
-    Ok(())
+    Ok(instrs)
 }

@@ -1,25 +1,24 @@
 ghost use Rattle.std.specs.Prelude.{◌≡◌, ◌≤◌, ◌<◌, ◌+◌, ◌-◌, ◌^◌, ◌++◌, ◌∷◌, [], None, IfOk, OnOk, ℕ, length};
 ghost use Rattle.abc_format.specs.Ends.{blamed};
-ghost use Rattle.abc_tables.specs.CodeBytes.{instr_len as len_of};
 ghost use Rattle.abc_tables.specs.Instructions.{instruction, pieces as pieces_part};
 ghost use Rattle.abc_varint.specs.Reads.{Blames, Keeps, Reads, ReadsUntil};
 ghost use Rattle.abc_instr.specs.Marks.{mark_at};
-ghost use Rattle.abc_instr.specs.Offsets.{IsRaw};
-ghost use Rattle.abc_instr.specs.Scanning.{Scans, ScansOn, StepsOn, is_jump, jump_in, plain_bytes};
+ghost use Rattle.abc_instr.specs.Offsets.{raw_len as len_of, IsRaw};
+ghost use Rattle.abc_instr.specs.Scanning.{Scans, ScansOn, ScansInstrOn, jump_in, plain_bytes};
 
 use crate::front::{Front, take_front};
 use crate::marks::Marks;
 use crate::put::{put_instr, short_len};
-use crate::raw::read_raw;
+use crate::raw::{RawInstr, read_raw};
 use abc_base::{NoMemory, Source};
-use abc_tables::Instr;
+use abc_tables::count_len;
 use abc_varint::{ReadError, Window};
 use std::alloc::Global;
 
-/// An instruction with targets, as it was read: with offsets in their places.
+/// An instruction with targets, as it was read.
 #[derive(Debug, Drop)]
 pub struct Jump {
-    pub instr: Instr,
+    pub instr: RawInstr,
     /// How many bytes the instructions without targets before it have.
     pub before: usize,
     /// Where it starts in the bytes as they were read, and where it ends.
@@ -68,7 +67,7 @@ impl Scan {
     /// Keeps an instruction with targets. Gives where it ends in the canonical bytes.
     fn keep(
         &mut self,
-        instr: Instr,
+        instr: RawInstr,
         before: usize,
         here: u32,
         next: u32,
@@ -80,7 +79,7 @@ impl Scan {
         ensures plain { OnOk result ((self.new).plain.items ≡ (self.old).plain.items) }
         ensures jumps { IfOk result (λ end. (self.new).jumps.items ≡ (self.old).jumps.items ++ record { instr = instr; before = before; here = here; next = next; moved_here = moved_here; moved_next = end } ∷ []) }
     {
-        let moved_next = moved_here + short_len(&instr);
+        let moved_next = moved_here + raw_len(&instr);
         self.jumps.push(Jump {
             instr,
             before,
@@ -105,7 +104,7 @@ impl Scan {
         requires fresh { w.old.kept ≡ None }
         requires first { first ≤ w.old.place }
         requires moved { moved ≤ w.old.place }
-        ensures value { StepsOn (Reads (blamed instruction).reads w.old (S.left source.old) w.new (S.left source.new)) first moved w.old w.new self.old self.new result }
+        ensures value { ScansInstrOn (Reads (blamed instruction).reads w.old (S.left source.old) w.new (S.left source.new)) first moved w.old w.new self.old self.new result }
         ensures later { S.faults source.old ≤ S.faults source.new }
         ensures cause { Blames w.old (S.faults source.old) (S.faults source.new) result }
         ensures keeps { Keeps w.old w.new result }
@@ -135,7 +134,7 @@ impl Scan {
         requires fresh { w.old.kept ≡ None }
         requires first { first ≤ w.old.place }
         requires moved { moved ≤ w.old.place }
-        ensures value { StepsOn (Reads (blamed instruction).reads w.old (S.left source.old) w.new (S.left source.new)) first moved w.old w.new self.old self.new result }
+        ensures value { ScansInstrOn (Reads (blamed instruction).reads w.old (S.left source.old) w.new (S.left source.new)) first moved w.old w.new self.old self.new result }
         ensures later { S.faults source.old ≤ S.faults source.new }
         ensures cause { Blames w.old (S.faults source.old) (S.faults source.new) result }
         ensures keeps { Keeps w.old w.new result }
@@ -146,31 +145,43 @@ impl Scan {
             Some(Front::Put(_)) => Ok(moved + (self.plain.len() - before) as u32),
             Some(Front::Branch(op, offset)) => {
                 let next = w.place() - first;
-                Ok(self.keep(Instr::Branch(op, offset), before, here, next, moved)?)
+                Ok(self.keep(RawInstr::Branch(op, offset), before, here, next, moved)?)
             }
             None => self.pass_any(alloc, w, source, first, moved),
         }
     }
 }
 
-/// Whether the instruction has targets.
-fn has_targets(instr: &Instr) -> bool
-    ensures { result ≡ is_jump instr.now }
+/// How many bytes the instruction has in the canonical code.
+#[inline(always)]
+fn raw_len(instr: &RawInstr) -> u32
+    requires { len_of instr.now < 2 ^ 32 }
+    ensures { result ≡ len_of instr.now }
 {
-    matches!(instr, Instr::Branch(_, _) | Instr::Switch { .. })
+    match instr {
+        RawInstr::Same(same) => short_len(same),
+        RawInstr::Branch(_, _) => 4,
+        RawInstr::Switch { cases, .. } => {
+            let count = cases.len();
+            4 + count_len(count.saturating_sub(1)) as u32 + 3 * count as u32
+        }
+    }
 }
 
 /// Appends the instruction where it has no targets, and gives it back where it has some.
-fn put_plain(instr: Instr, plain: &mut Vec<u8>) -> Result<Option<Instr>, NoMemory>
+fn put_plain(instr: RawInstr, plain: &mut Vec<u8>) -> Result<Option<RawInstr>, NoMemory>
     requires { IsRaw instr }
     ensures jump { IfOk result (λ j. j ≡ jump_in instr) }
     ensures bytes { OnOk result (plain.new.items ≡ plain.old.items ++ plain_bytes instr) }
 {
-    if has_targets(&instr) {
-        return Ok(Some(instr));
+    match instr {
+        RawInstr::Same(same) => {
+            put_instr(&same, &[0], 0, 0, plain)?;
+            Ok(None)
+        }
+        RawInstr::Branch(op, offset) => Ok(Some(RawInstr::Branch(op, offset))),
+        RawInstr::Switch { default, cases } => Ok(Some(RawInstr::Switch { default, cases })),
     }
-    put_instr(&instr, &[0], 0, 0, plain)?;
-    Ok(None)
 }
 
 /// Scans the instructions up to the window's end. Gives where the last one ends in the canonical bytes.

@@ -1,16 +1,15 @@
-ghost use Rattle.std.specs.Prelude.{◌≡◌, ◌≤◌, ◌<◌, ◌+◌, ◌-◌, ◌^◌, ◌++◌, OnOk, All, map, take, drop};
+ghost use Rattle.std.specs.Prelude.{◌≡◌, ◌≤◌, ◌<◌, ◌+◌, ◌-◌, ◌^◌, ◌++◌, OnOk, All, take, drop};
 ghost use Rattle.abc_varint.specs.Reads.{stored};
 ghost use Rattle.abc_instr.specs.Marks.{mark_at};
-ghost use Rattle.abc_instr.specs.Offsets.{offset_of};
 ghost use Rattle.abc_instr.specs.Resolving.{Resolves, onto};
 ghost use Rattle.abc_instr.specs.Scanning.{IsJump, case_bytes, jump_bytes, scan_bytes, target_bytes, woven};
 
 use crate::marks::Marks;
 use crate::put::SWITCH;
+use crate::raw::RawInstr;
 use crate::resolve::Missed;
 use crate::scan::{Jump, Scan};
 use abc_base::{NoMemory, Table};
-use abc_tables::Instr;
 use abc_varint::{put_count, put_s24, put_u8, put_u30};
 
 /// Appends the offset from a moved base to where a target is moved, that stood at a place as an offset from a base.
@@ -20,14 +19,14 @@ fn put_target(
     place: u32,
     base: u32,
     moved: u32,
-    offset: u32,
+    offset: i32,
     out: &mut Vec<u8>,
 ) -> Result<(), Missed>
     requires base { base ≤ 2 ^ 24 }
     requires moved { moved < 2 ^ 23 }
-    ensures { Resolves (onto out.old.items (target_bytes (mark_at marks.now) place base moved (offset_of offset))) (stored result out.new.items) }
+    ensures { Resolves (onto out.old.items (target_bytes (mark_at marks.now) place base moved offset)) (stored result out.new.items) }
 {
-    let target = base as i64 + offset.cast_signed() as i64;
+    let target = base as i64 + offset as i64;
     if target < 0 {
         return Err(Missed::Target(place));
     }
@@ -46,12 +45,12 @@ fn put_cases(
     next: u32,
     base: u32,
     moved: u32,
-    cases: &Table<u32>,
+    cases: &Table<i32>,
     out: &mut Vec<u8>,
 ) -> Result<(), Missed>
     requires base { base ≤ 2 ^ 24 }
     requires moved { moved < 2 ^ 23 }
-    ensures { Resolves (onto out.old.items (case_bytes (mark_at marks.now) next base moved (map offset_of cases.now))) (stored result out.new.items) }
+    ensures { Resolves (onto out.old.items (case_bytes (mark_at marks.now) next base moved cases.now)) (stored result out.new.items) }
 {
     let slice = cases.as_slice();
     for (i, offset) in slice.iter().enumerate() {
@@ -69,23 +68,17 @@ fn put_jump(marks: &Marks, jump: &Jump, out: &mut Vec<u8>) -> Result<(), Missed>
 {
     let first = jump.here + 1;
     match &jump.instr {
-        Instr::Branch(op, offset) => {
+        RawInstr::Branch(op, offset) => {
             put_u8(*op, out)?;
             put_target(marks, first, jump.next, jump.moved_next, *offset, out)
         }
-        Instr::Switch { default, cases } => {
+        RawInstr::Switch { default, cases } => {
             put_u8(SWITCH, out)?;
             put_target(marks, first, jump.here, jump.moved_here, *default, out)?;
             put_count(cases.len().saturating_sub(1), out)?;
             put_cases(marks, jump.next, jump.here, jump.moved_here, cases, out)
         }
-        Instr::Plain(_)
-        | Instr::One(_, _)
-        | Instr::Two(_, _, _)
-        | Instr::Byte(_)
-        | Instr::Short(_)
-        | Instr::ScopeObject(_)
-        | Instr::Debug { .. } => Ok(()),
+        RawInstr::Same(_) => Ok(()),
     }
 }
 

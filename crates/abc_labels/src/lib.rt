@@ -6,8 +6,6 @@ mod counting;
 mod labels;
 mod places;
 mod sizes;
-#[cfg(test)]
-mod tests;
 
 pub use counting::count_lines;
 pub use labels::labels_of;

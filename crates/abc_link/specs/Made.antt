@@ -1,13 +1,20 @@
 -- What is made of a file that keeps the rules of linking.
-use Rattle.std.specs.Prelude.{ℕ, ◌<◌, ◌^◌, length}
+use Rattle.std.specs.Prelude.{ℕ, ◌<◌, ◌^◌, List, length}
+use Rattle.abc_heirs.specs.Heirs.{list_at}
+use Rattle.abc_heirs.specs.Listed.{Listed}
 use Rattle.abc_interfaces.specs.Sets.{HasSets}
 use Rattle.abc_layouts.specs.Laid.{AreLayouts}
 use Rattle.abc_link.specs.declared.linked.Made.{Made}
 use Rattle.abc_members.specs.Grouped.{HasGroups}
 use Rattle.abc_owners.specs.Owning.{AreOwners}
 use Rattle.abc_slots.specs.Files.{linked}
+use Rattle.abc_program.specs.declared.types.SlotInfo.{SlotInfo}
 use Rattle.abc_slots.specs.Tables.{HasSlots}
 use Rattle.abc_tables.specs.declared.tables.Abc.{Abc}
+
+-- the first n lists of slots can be counted by 32 bits
+pub record AreFewSlots (lists : List (Listed SlotInfo)) (n : ℕ) : Type 0 where
+  pub each : (x : ℕ) → x < n → length (list_at lists x).values < 2 ^ 32
 
 -- owners of methods, layouts, their slots and their own traits, the interfaces of classes
 pub record IsMade (v : Abc) (m : Made) : Type 0 where
@@ -15,5 +22,6 @@ pub record IsMade (v : Abc) (m : Made) : Type 0 where
   pub layouts_are : AreLayouts v m.layouts
   pub few : length m.layouts.parts < 2 ^ 32
   pub slots_are : HasSlots (linked v m.layouts) m.slots (length m.layouts.parts)
+  pub few_slots : AreFewSlots m.slots (length m.layouts.parts)
   pub interfaces_are : HasSets v m.interfaces.sets
   pub members_are : HasGroups (linked v m.layouts) m.members.texts m.members.groups (length m.layouts.parts)

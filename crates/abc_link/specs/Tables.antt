@@ -7,11 +7,13 @@ use Rattle.abc_program.specs.Linked.{LinkedFile}
 use Rattle.abc_rules.specs.Firsts.{IsFew}
 use Rattle.abc_rules.specs.Rules.{AllHold}
 use Rattle.abc_slots.specs.Files.{linked}
+use Rattle.abc_tables.specs.Files.{Fits}
 
 abbrev pub file_of : Inside → LinkedFile
 file_of a = linked a.abc a.made.layouts
 
 pub record AreTables (a : Inside) : Type 0 where
+  pub fits : Fits a.abc
   pub rules : AllHold a.abc
   pub tables : IsFew a.abc
   pub names_are : AreNames a.abc a.names

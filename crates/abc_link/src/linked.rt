@@ -5,7 +5,7 @@ ghost use Rattle.abc_names.specs.Pool.{is_public as is_public_in, same_space};
 ghost use Rattle.abc_program.specs.Interfaces.{Implements};
 ghost use Rattle.abc_program.specs.Linked.{IsLayout, IsLinkedFile, above as above_of, base as base_of, layout_of as layout_of_part, part_of as part_of_layout};
 ghost use Rattle.abc_program.specs.Owners.{body_of as body_of_method, owner_of};
-ghost use Rattle.abc_program.specs.Slots.{slot_numbered as slot_with, slots_of};
+ghost use Rattle.abc_program.specs.Slots.{HasFewSlots, slot_numbered as slot_with, slots_of};
 ghost use Rattle.abc_program.specs.Traits.{own_traits as own_traits_of};
 ghost use Rattle.abc_program.specs.Types.{kind_of_type as kind_of, type_of as type_of_name};
 
@@ -64,6 +64,14 @@ impl Linked {
     #[tactic(auto, using(crate::proofs::Laws::is_linked))]
     pub fn linked_law(&self)
         ensures { IsLinkedFile self.now }
+    {
+        let _file = &self.abc;
+    }
+
+    /// Every linked file has fewer than 2^32 slots in each layout.
+    #[tactic(auto, using(crate::proofs::Laws::few_slots))]
+    pub fn slots_law(&self)
+        ensures { HasFewSlots self.now }
     {
         let _file = &self.abc;
     }

@@ -1,19 +1,23 @@
-ghost use Rattle.std.specs.Prelude.{◌≡◌, ◌<◌, ◌^◌, length, IfOk, IsTrue, MatchResult};
+ghost use Rattle.std.specs.Prelude.{◌≡◌, ◌<◌, ◌^◌, length, IfOk, IsTrue, MatchResult, OnOk};
+ghost use Rattle.abc_heirs.specs.Heirs.{list_at};
 ghost use Rattle.abc_layouts.specs.Laid.{AreLayouts};
-ghost use Rattle.abc_link.specs.Made.{IsMade};
+ghost use Rattle.abc_link.specs.Made.{AreFewSlots, IsMade};
 ghost use Rattle.abc_names.specs.Meanings.{AreMeanings};
 ghost use Rattle.abc_names.specs.Numbers.{AreNames};
 ghost use Rattle.abc_program.specs.Linked.{IsLinkedFile};
 ghost use Rattle.abc_rules.specs.Firsts.{IsFew, IsRefusal};
 ghost use Rattle.abc_rules.specs.Rules.{AllHold};
+ghost use Rattle.abc_tables.specs.Files.{Fits};
 
 use crate::linked::{Linked, Made};
 use abc_base::{NoMemory, Table};
+use abc_heirs::Heirs;
 use abc_interfaces::Interfaces;
 use abc_layouts::Layouts;
 use abc_members::Members;
 use abc_names::{Meanings, NameTables, Named, Names, meanings_of};
 use abc_owners::Owners;
+use abc_program::SlotInfo;
 use abc_rules::{LinkError, check_rules};
 use abc_slots::slots_of;
 use abc_tables::Abc;
@@ -60,6 +64,31 @@ fn layouts_in(
     Ok(layouts)
 }
 
+/// Tells that the slots of a layout can be counted by 32 bits. Of 2^32 slots or more there is never room for all.
+fn check_slots_at(slots: &Heirs<SlotInfo>, x: u32) -> Result<(), NoMemory>
+    requires { x < length slots.now }
+    ensures { OnOk result (length (list_at slots.now x).values < 2 ^ 32) }
+{
+    if slots.values(x).len() > u32::MAX as usize {
+        return Err(NoMemory);
+    }
+    Ok(())
+}
+
+/// Tells the same of each layout.
+#[tactic(auto, using(crate::proofs::Laws::no_slots, crate::proofs::Laws::more_slots))]
+fn check_slots(slots: &Heirs<SlotInfo>, layouts: &Layouts, count: u32) -> Result<(), NoMemory>
+    requires count { count ≡ length layouts.now.parts }
+    requires all { length slots.now ≡ length layouts.now.parts }
+    ensures { OnOk result (AreFewSlots slots.now (length layouts.now.parts)) }
+{
+    let _layouts = layouts;
+    for x in 0..count {
+        check_slots_at(slots, x)?;
+    }
+    Ok(())
+}
+
 /// What is made of a file that keeps the rules.
 fn make(alloc: Global, abc: &Abc, meanings: &Table<Option<Named>>) -> Result<Made, NoMemory>
     requires meanings { AreMeanings abc.now meanings.now }
@@ -71,6 +100,7 @@ fn make(alloc: Global, abc: &Abc, meanings: &Table<Option<Named>>) -> Result<Mad
     let count = layouts.len() as u32;
     let meant = Meanings::new(abc, meanings);
     let slots = slots_of(alloc, &meant, &layouts, count)?;
+    check_slots(&slots, &layouts, count)?;
     let members = Members::new(alloc, abc, &layouts, count)?;
     let interfaces = Interfaces::new(alloc, &meant)?;
     Ok(Made {
@@ -99,9 +129,10 @@ fn check(
     check_rules(alloc, abc, names, meanings)
 }
 
-/// Links a file. It is refused where it breaks a rule of linking: by the first rule that is broken, in the order of
+/// Links a file that some bytes spell. It is refused where it breaks a rule of linking: by the first rule that is broken, in the order of
 /// `LinkRule`, and the first item that breaks it, in file order. Linking consumes the file.
 pub fn link(alloc: Global, abc: Abc) -> Result<Linked, LinkError>
+    requires { Fits abc }
     ensures { MatchResult result (λ l. (l.file ≡ abc) × IsLinkedFile l) (IsRefusal abc) }
 {
     let names = NameTables::new(alloc, &abc)?;

@@ -9,8 +9,6 @@ mod names;
 mod pool;
 mod resolving;
 mod tables;
-#[cfg(test)]
-mod tests;
 
 pub use hosts::HOST_CLASSES;
 pub use keys::{NameKey, are_equal, first_places};

@@ -11,6 +11,3 @@ mod spaces;
 pub use multinames::{put_multiname, read_multiname};
 pub use pass::pass_pools;
 pub use pools::{put_pools, read_pools, shortest_spelling};
-
-#[cfg(test)]
-mod tests;

@@ -2,6 +2,7 @@
 -- the two.
 use Rattle.std.specs.Prelude.{ℕ, ◌<◌, ◌^◌, List, length, unwrap_or}
 use Rattle.std.specs.declared.option.Option.{Option}
+use Rattle.abc_tables.specs.Files.{Fits}
 use Rattle.abc_tables.specs.declared.tables.Abc.{Abc}
 use Rattle.abc_rules.specs.Firsts.{IsFew}
 use Rattle.abc_rules.specs.Rules.{AllHold}
@@ -14,9 +15,10 @@ pub record LinkedFile : Type 0 where
   pub file : Abc
   pub parts : List Part
 
--- what a linked file keeps: the rules of linking, and a numbering of its layouts in which a base stands before what is
--- under it
+-- what a linked file keeps: some bytes spell it, the rules of linking hold, and its layouts are numbered so that a base stands
+-- before what is under it
 pub record IsLinkedFile (l : LinkedFile) : Type 0 where
+  pub fits : Fits l.file
   pub rules : AllHold l.file
   pub numbering : IsNumbering l.file l.parts
   pub tables : IsFew l.file

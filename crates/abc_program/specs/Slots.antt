@@ -1,5 +1,5 @@
 -- The slots of layouts, and their numbers.
-use Rattle.std.specs.Prelude.{ℕ, List, [], ◌∷◌, true, false, Some, None, if◌then◌else◌, get_or, nat_eq, unwrap_or}
+use Rattle.std.specs.Prelude.{ℕ, ◌<◌, ◌^◌, List, [], ◌∷◌, true, false, Some, None, if◌then◌else◌, get_or, length, nat_eq, unwrap_or}
 use Rattle.std.specs.declared.option.Option.{Option}
 use Rattle.std.specs.List.{flat_map}
 use Rattle.abc_base.specs.declared.names.HostClass.TheVariants as hosts
@@ -77,3 +77,7 @@ numbers_of l x = heritage (base l) (λ y. own_numbers l (part_at l.parts y)) (So
 -- the first slot of a number above 0, so an inherited one wins
 abbrev pub slot_numbered : LinkedFile → ℕ → ℕ → Option ℕ
 slot_numbered l x k = if nat_eq k 0 then None else first (nat_eq k) (numbers_of l x)
+
+-- the slots of each layout can be counted by 32 bits
+abbrev pub HasFewSlots : LinkedFile → Type 0
+HasFewSlots l = (x : ℕ) → x < length l.parts → length (slots_of l x) < 2 ^ 32

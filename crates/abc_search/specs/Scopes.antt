@@ -1,5 +1,5 @@
 -- The places of a search in scopes, in order, and which of them have a name.
-use Rattle.std.specs.Prelude.{ℕ, List, [], ◌∷◌, ◌++◌, Bool, false, not, map, reverse, Some, None, get_or, length, if◌then◌else◌}
+use Rattle.std.specs.Prelude.{ℕ, List, [], ◌∷◌, ◌++◌, Bool, false, map, reverse, Some, None, get_or, length, if◌then◌else◌}
 use Rattle.std.specs.declared.option.Option.{Option}
 use Rattle.std.specs.List.{list_any, range_with_len}
 use Rattle.abc_graph.specs.Ways.{way}

@@ -28,6 +28,3 @@ pub use ready::{are_bodies_ready, is_ready, is_ready_body};
 pub use sizes::{U30_LIMIT, sizes_of};
 pub use tables::{Abc, Eight, Sizes};
 pub use traits::{TraitBody, TraitInfo, TraitKind};
-
-#[cfg(test)]
-mod tests;

@@ -9,8 +9,6 @@ mod names;
 mod next;
 mod noting;
 mod quoted;
-#[cfg(test)]
-mod tests;
 mod token;
 mod vocabulary;
 

@@ -15,6 +15,3 @@ pub use definitions::{Definitions, put_definitions, read_definitions};
 pub use laws::definitions_law;
 pub use pass::pass_definitions;
 pub use traits::TraitCodec;
-
-#[cfg(test)]
-mod tests;

@@ -30,6 +30,3 @@ pub use read::{
 };
 pub use text::{read_bytes, read_text};
 pub use window::{Window, front_number};
-
-#[cfg(test)]
-mod tests;

@@ -10,6 +10,3 @@ mod read;
 pub use command::{Command, GenOptions, RunOptions, Usage};
 pub use laws::words_are_one_of_three;
 pub use read::parse;
-
-#[cfg(test)]
-mod tests;

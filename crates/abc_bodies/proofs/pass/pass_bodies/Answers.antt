@@ -10,7 +10,7 @@ use Rattle.abc_bodies.proofs.pass.pass_bodies.Goals as goal
 pub returns : goal.returns
 unfolding body_list counted_bytes
 returns g c =
-    let e1 = c.in_ok-count.ensures.value.0 in let e2 = c.in_ok-pass_many.ensures.value in (
+    let e1 = c.in_ok-count.ensures.value.0 in let e2 = c.in_ok-pass_each_body.ensures.value in (
       (
         e1.0.0,
         e2.0.1,
@@ -18,7 +18,7 @@ returns g c =
         e2.0.3 ∙ e1.0.3,
         λ input is.
             let d2 = e2.0.4 input is in let d1 = e1.0.4 input d2.0 in
-            let x2 = d2.1 in let count : length x2.value ≡ c.in_ok-count.count = sym x2.tells ∙ c.in_ok-pass_many.ensures.count in (
+            let x2 = d2.1 in let count : length x2.value ≡ c.in_ok-count.count = sym x2.tells ∙ c.in_ok-pass_each_body.ensures.count in (
               d1.0,
               record {
                 value = x2.value;

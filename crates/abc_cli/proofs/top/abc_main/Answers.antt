@@ -1,9 +1,12 @@
 use Rattle.std.proofs.Common.{sym, ap, subst, ◌∙◌}
 use Rattle.abc_words.specs.declared.command.Usage.{Usage}
-use Rattle.abc_cli.specs.End.{GivesLine, stream}
-use Rattle.abc_cli.specs.Outcome.{Answer, IsOutcome, usage_answer}
+use Rattle.abc_words.specs.declared.command.Command.{Command}
+use Rattle.abc_words.specs.declared.command.Command.TheVariants as commands
+use Rattle.abc_cli.specs.End.{Ends, GivesLine, stream}
+use Rattle.abc_cli.specs.Outcome.{Answer, CommandOutcome, IsOutcome, usage_answer}
 use Rattle.abc_cli.proofs.Ending.{line_ends, nothing, weaker}
-use Rattle.abc_cli.proofs.Usages.{usage_found, is_usage, usage_outcome, same_usage, not_ok, end_not_usage, unread_command}
+use Rattle.abc_cli.proofs.Usages.{usage_found, is_usage, usage_outcome, same_command, same_usage, not_ok, end_not_usage, unread_command}
+use Rattle.abc_cli.proofs.Listings.{lists}
 use Rattle.abc_cli.proofs.top.abc_main.Goals as goal
 
 pub give_usage-requires : goal.give_usage-requires
@@ -46,3 +49,15 @@ returns-in-Err-clause-usage g c = λ a u.
 
 pub returns-in-Err-clause-well_formed : goal.returns-in-Err-clause-well_formed
 returns-in-Err-clause-well_formed g c = λ w e. absurd (not_ok w.0 c.in-Err.usage c.parse.result ((c.parse.ensures.command w.0).1 w.1) c.in-Err.is)
+
+pub returns-in-Ok-clause-listed : goal.returns-in-Ok-clause-listed
+returns-in-Ok-clause-listed g c = λ says done.
+    let source = stream g.S.Source.left g.S.Source.faults c.args.source.now c.run_command.new.source in
+    let out = stream g.K.Sink.written g.K.Sink.faults c.args.out.now c.run_command.new.out in
+    let err = stream g.E.Sink.written g.E.Sink.faults c.args.err.now c.run_command.new.err in
+    let is = same_command c.in-Ok.command commands.Dis c.parse.result c.in-Ok.is ((c.parse.ensures.command commands.Dis).1 says) in
+    lists c.listing_is_read_back.ensures.text c.listing_is_read_back.ensures.no_other source out err c.run_command.result
+    (subst (λ (x : Command). Ends (CommandOutcome x) source out err c.run_command.result) is c.run_command.ensures.end) done
+
+pub returns-in-Err-clause-listed : goal.returns-in-Err-clause-listed
+returns-in-Err-clause-listed g c = λ says done. absurd (not_ok commands.Dis c.in-Err.usage c.parse.result ((c.parse.ensures.command commands.Dis).1 says) c.in-Err.is)

@@ -4,7 +4,7 @@ use Rattle.abc_file.proofs.reading.read_to_end.Goals as goal
 
 pub returns-clause-answers : goal.returns-clause-answers
 returns-clause-answers g c =
-    all_read c.args.w.now c.read_parts.new.w c.read_nothing_more.new.w (g.S.Source.left c.args.source.now) (g.S.Source.left c.read_parts.new.source) (g.S.Source.left c.read_nothing_more.new.source) c.in_ok-file.file c.requires c.in_ok-file.ensures.value.0
+    all_read c.args.w.now c.read_file.new.w c.read_nothing_more.new.w (g.S.Source.left c.args.source.now) (g.S.Source.left c.read_file.new.source) (g.S.Source.left c.read_nothing_more.new.source) c.in_ok-file.file c.requires c.in_ok-file.ensures.value.0
     c.in_ok-read_nothing_more.ensures.ended
 
 pub returns-clause-fits : goal.returns-clause-fits
@@ -13,15 +13,15 @@ returns-clause-fits g c = some_fits (g.S.Source.left c.args.source.now) c.in_ok-
 pub returns-in_err-file-clause-answers : goal.returns-in_err-file-clause-answers
 returns-in_err-file-clause-answers g c =
     let p = err_from_is_err_and c.from_residual.result c.from_residual.ensures.1 in
-    rw (p.1, p.2) (all_refused c.args.w.now c.read_parts.new.w (g.S.Source.left c.args.source.now) (g.S.Source.left c.read_parts.new.source) c.in_err-file.field-0.0 c.requires c.in_err-file.ensures.value.0)
+    rw (p.1, p.2) (all_refused c.args.w.now c.read_file.new.w (g.S.Source.left c.args.source.now) (g.S.Source.left c.read_file.new.source) c.in_err-file.field-0.0 c.requires c.in_err-file.ensures.value.0)
 
 pub returns-in_err-read_nothing_more-clause-answers : goal.returns-in_err-read_nothing_more-clause-answers
 returns-in_err-read_nothing_more-clause-answers g c =
     let p = err_from_is_err_and c.from_residual-in_err-read_nothing_more.result c.from_residual-in_err-read_nothing_more.ensures.1 in
-    rw (p.1, p.2) (more_follows c.args.w.now c.read_parts.new.w c.read_nothing_more.new.w (g.S.Source.left c.args.source.now) (g.S.Source.left c.read_parts.new.source) (g.S.Source.left c.read_nothing_more.new.source) c.in_ok-file.file c.requires c.in_ok-file.ensures.value.0
+    rw (p.1, p.2) (more_follows c.args.w.now c.read_file.new.w c.read_nothing_more.new.w (g.S.Source.left c.args.source.now) (g.S.Source.left c.read_file.new.source) (g.S.Source.left c.read_nothing_more.new.source) c.in_ok-file.file c.requires c.in_ok-file.ensures.value.0
     c.in_err-read_nothing_more.field-0.0 c.in_err-read_nothing_more.ensures.trailing)
 
 pub returns-clause-end : goal.returns-clause-end
 returns-clause-end g c =
-    used_up_first c.args.w.now c.read_parts.new.w (g.S.Source.left c.args.source.now) (g.S.Source.left c.read_parts.new.source) (g.S.Source.left c.read_nothing_more.new.source) (λ input is. (c.in_ok-file.ensures.value.0.4 input is).0)
+    used_up_first c.args.w.now c.read_file.new.w (g.S.Source.left c.args.source.now) (g.S.Source.left c.read_file.new.source) (g.S.Source.left c.read_nothing_more.new.source) (λ input is. (c.in_ok-file.ensures.value.0.4 input is).0)
     c.in_ok-read_nothing_more.ensures.end

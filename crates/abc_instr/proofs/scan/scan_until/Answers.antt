@@ -4,14 +4,13 @@ use Rattle.std.proofs.lemmas.List.Elements.{All-nil, All-push}
 use Rattle.std.proofs.lemmas.Result.{err_from_is_err_and}
 use Rattle.abc_format.specs.Ends.{blamed}
 use Rattle.abc_varint.proofs.Fill.{fill_starts, fill_goes_on, fill_ends, fill_done}
-use Rattle.abc_tables.specs.declared.code.Instr.{Instr}
+use Rattle.abc_instr.specs.declared.raw.RawInstr.{RawInstr as Raw}
 use Rattle.abc_tables.specs.Instructions.{instruction, pieces}
 use Rattle.abc_tables.proofs.CodeParts.{instruction-exact, instruction-some}
-use Rattle.abc_tables.proofs.Lengths.{len-append}
 use Rattle.abc_tables.proofs.Resolving.{size-push}
 use Rattle.abc_instr.specs.Offsets.{raw_of}
 use Rattle.abc_instr.specs.Scanning.{instrs_in, raws_in}
-use Rattle.abc_instr.proofs.Resolved.{raw_push}
+use Rattle.abc_instr.proofs.Resolved.{raw_push, raws_len-push}
 use Rattle.abc_instr.proofs.Scanned.{scan_push}
 use Rattle.abc_instr.proofs.scan.scan_until.Goals as goal
 
@@ -22,7 +21,7 @@ loop-init g c =
       record {
         scan = record { marks = e.marks; plain = e.plain; jumps = e.jumps };
         filling = fill_starts (blamed instruction) c.args.byte_count c.args.w.now (g.S.Source.left c.args.source.now) c.requires.fresh c.requires.end;
-        some = All-nil (λ (x : Instr × ℕ). 0 < x.1);
+        some = All-nil (λ (x : Raw × ℕ). 0 < x.1);
         raw = tt;
         moved = refl;
         size = omega arith;
@@ -41,16 +40,16 @@ loop-preserved g c =
     let x = step.instr in
     let n = c.pass_next.new.w.place - c.loop.w.place in
     let here = c.loop.w.place - c.args.w.now.place in
-    let all : instrs_in (xs ++ (x, n) ∷ []) ≡ instrs_in xs ++ x ∷ [] = map-append (λ (y : Instr × ℕ). y.0) xs ((x, n) ∷ []) in
-    let raws : raws_in (xs ++ (x, n) ∷ []) ≡ raws_in xs ++ (raw_of x, n) ∷ [] = map-append (λ (y : Instr × ℕ). (raw_of y.0, y.1)) xs ((x, n) ∷ []) in (
+    let all : instrs_in (xs ++ (x, n) ∷ []) ≡ instrs_in xs ++ x ∷ [] = map-append (λ (y : Raw × ℕ). y.0) xs ((x, n) ∷ []) in
+    let raws : raws_in (xs ++ (x, n) ∷ []) ≡ raws_in xs ++ (raw_of x, n) ∷ [] = map-append (λ (y : Raw × ℕ). (raw_of y.0, y.1)) xs ((x, n) ∷ []) in (
       xs ++ (x, n) ∷ [],
       record {
         scan = scan_push xs x n here c.loop.moved c.loop.scan (record c.loop.scan { marks = c.set.new.self }) c.pass_next.new.self inv.some (omega (arith, inv.size)) inv.moved inv.scan (rw (← c.place-first.ensures.is, ← c.place.ensures.is) c.in_ok-set.ensures) refl refl step.marks (rw c.place-first.ensures.is at step.adds);
         filling = rw raws (fill_goes_on (blamed instruction) c.args.byte_count c.loop.counter (raws_in xs) _ _ _ _ _ _ _ instruction-exact instruction-some (omega (arith, c.place-first.ensures.bound, c.place-first.ensures.is)) (omega (arith, c.requires.small)) inv.room c.loop-test.true
             (omega (arith, c.if-here-byte_count.false, c.place.ensures.is, c.place-first.ensures.is, inv.size)) inv.filling step.says_so);
-        some = All-push (λ (p : Instr × ℕ). 0 < p.1) xs (x, n) inv.some (omega (arith, step.moves));
+        some = All-push (λ (p : Raw × ℕ). 0 < p.1) xs (x, n) inv.some (omega (arith, step.moves));
         raw = rw all (raw_push (instrs_in xs) x inv.raw step.raw);
-        moved = rw all (omega (arith, step.end_is, inv.moved, len-append (instrs_in xs) (x ∷ [])));
+        moved = rw all (omega (arith, step.end_is, inv.moved, raws_len-push (instrs_in xs) x));
         size = omega (arith, inv.size, size-push xs (x, n), step.moves);
         few = omega (arith, step.end_is, inv.few, step.passes.0);
         room = step.room;

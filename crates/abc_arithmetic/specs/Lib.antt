@@ -1,0 +1,4 @@
+pub mod Modular
+pub mod Plain
+pub mod Whole
+pub mod Operations

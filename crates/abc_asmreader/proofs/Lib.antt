@@ -1,0 +1,7 @@
+pub mod Seen
+pub mod Sets
+pub mod Taking
+pub mod Fresh
+pub mod Loops
+pub mod Lone
+pub mod Pairs

@@ -1,0 +1,90 @@
+//! Streams that never fail, adapters over std's readers and writers, and the program over the former.
+
+use abc_base::{
+    BuiltinHost, Failed, Sink, Source, Status, StdSink, StdSource, SteadySink, SteadySource, Words,
+    write_all,
+};
+use abc_cli::abc_main;
+use abc_input::{InputError, read_input};
+use std::test::*;
+
+#[test]
+fn steady_sink(rt: HostRuntime) {
+    let mut out = SteadySink::new();
+    assert_eq!(rt; out.write(b"abc"), Ok(3));
+    assert_eq!(rt; write_all(&mut out, b"abc"), Ok(()));
+}
+
+#[test]
+fn steady_source(rt: HostRuntime) -> Result<(), Fail> {
+    let mut source = SteadySource::new(rt.alloc(), b"abcde", 3)?;
+    let mut block = [0; 4];
+    for count in [3, 2, 0, 0] {
+        assert_eq!(rt; source.read(&mut block), Ok(count));
+    }
+    assert_eq!(rt; block, *b"dec\0");
+    Ok(())
+}
+
+#[test]
+fn std_source(rt: HostRuntime) {
+    let mut source = StdSource::new(b"abcdef".as_slice());
+    let mut block = [0; 4];
+    assert_eq!(rt; source.read(&mut block), Ok(4));
+    assert_eq!(rt; block, *b"abcd");
+    assert_eq!(rt; source.read(&mut block), Ok(2));
+    assert_eq!(rt; source.read(&mut block), Ok(0));
+}
+
+#[test]
+fn std_sink(rt: HostRuntime) {
+    let mut block = [0u8; 4];
+    let mut out = StdSink::new(block.as_mut_slice());
+    assert_eq!(rt; write_all(&mut out, b"abc"), Ok(()));
+    assert_eq!(rt; write_all(&mut out, b"def"), Err(Failed));
+    assert_eq!(rt; block, *b"abcd");
+}
+
+/// An input of five bytes, in pieces of two, where so many are allowed.
+#[test]
+fn whole_input(rt: HostRuntime) -> Result<(), Fail> {
+    for (most, is_short) in [(6, true), (5, true), (4, false), (0, false)] {
+        let mut source = SteadySource::new(rt.alloc(), b"abcde", 2)?;
+        match read_input(rt.alloc(), &mut source, most) {
+            Ok(bytes) => {
+                assert_eq!(rt; (bytes.as_slice(), is_short), (b"abcde".as_slice(), true));
+            }
+            Err(e) => assert_eq!(rt; (e, is_short), (InputError::TooLong, false)),
+        }
+    }
+    Ok(())
+}
+
+/// The file whose tables are all empty, and a byte after it.
+const EMPTY_AND_MORE: [u8; 17] = [0x10, 0, 0x2e, 0, 0, 0, 0, 0, 0, 0, 0, 0, 0, 0, 0, 0, 0];
+
+#[test]
+fn the_program_over_steady_streams(rt: HostRuntime) -> Result<(), Fail> {
+    for (command, length, status) in [
+        ("canon", 16usize, Status::Done),
+        ("canon", 15, Status::Refused),
+        ("canon", 17, Status::Refused),
+        ("dis", 16, Status::Done),
+        ("check", 16, Status::Refused),
+        ("tidy", 16, Status::Done),
+    ] {
+        let mut words = Words::new(rt.alloc());
+        words.push(command.as_bytes())?;
+        let input = EMPTY_AND_MORE.get(..length).ok_or("a front")?;
+        let got = abc_main(
+            rt.alloc(),
+            &words,
+            &mut SteadySource::new(rt.alloc(), input, 3)?,
+            &mut SteadySink::new(),
+            &mut SteadySink::new(),
+            &BuiltinHost,
+        );
+        assert_eq!(rt; got, status, "{command} of {length} bytes");
+    }
+    Ok(())
+}

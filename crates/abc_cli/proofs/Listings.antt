@@ -1,0 +1,50 @@
+-- What a run of `dis` that ends well leaves in `out`.
+use Rattle.std.proofs.Common.{◌≡◌, ℕ, List, Some, None, Ok, Err, refl, sym, ap, ◌∙◌, subst}
+use Rattle.std.specs.Prelude.{◌↔◌}
+use Rattle.std.specs.declared.option.Option.{Option}
+use Rattle.std.specs.declared.result.Result.{Result}
+use Rattle.abc_base.specs.declared.status.Status.{Status}
+use Rattle.abc_base.specs.declared.status.Status.TheVariants as status
+use Rattle.abc_file.specs.Reading.{OfInput}
+use Rattle.abc_lines.specs.Listing.{listing}
+use Rattle.abc_lines.specs.Answers.{IsAssemblyOf}
+use Rattle.abc_tables.specs.declared.tables.Abc.{Abc}
+use Rattle.abc_tables.specs.Files.{IsFile}
+use Rattle.abc_words.specs.declared.command.Command.TheVariants as commands
+use Rattle.abc_cli.specs.Outcome.{Answer, CommandOutcome, Dis, OfFile, OutcomeOf, given, told}
+use Rattle.abc_cli.specs.End.{Channel, Got, HasFailed, IsEnd, Ends}
+use Rattle.abc_cli.specs.Listed.{AreBytes, IsListed, IsTextOf, Lists}
+use Rattle.abc_cli.proofs.Ending.{of_any}
+
+-- a run that ended well wrote an answer of its outcome
+ended_well : (P : Answer → Type 0) (F : Type 0) (out err : Channel) (s : Status) → IsEnd P F out err s → s ≡ status.Done → (a : Answer) × P a × Got out a.out × (a.status ≡ status.Done)
+ended_well P F out err s (IsEnd.defined a x y z) e = (a, x, y, e)
+ended_well P F out err s (IsEnd.read_fault x y z) e = absurd cc
+ended_well P F out err s (IsEnd.no_memory y z) e = absurd cc
+ended_well P F out err s (IsEnd.out_failed a x y z w) e = absurd cc
+ended_well P F out err s (IsEnd.both_failed a x y z w v) e = absurd cc
+ended_well P F out err s (IsEnd.line_failed a x y z w) e = absurd cc
+ended_well P F out err s (IsEnd.read_line_failed x y z w) e = absurd cc
+ended_well P F out err s (IsEnd.memory_line_failed y z w) e = absurd cc
+
+-- what disassembly says of each file that bytes spell
+abbrev pub IsReadBack : Type 0
+IsReadBack = (v : Abc) → (b : List ℕ) → AreBytes b → IsFile v b → IsAssemblyOf (listing v) v
+
+abbrev pub IsNoOther : Type 0
+IsNoOther = (v w : Abc) → (b : List ℕ) → AreBytes b → IsFile v b → IsAssemblyOf (listing v) w → w ≡ v
+
+listed : IsReadBack → IsNoOther → (out : Channel) (a : Answer) → Got out a.out → a.status ≡ status.Done → (input : List ℕ) → OutcomeOf commands.Dis input a → IsListed out input
+listed text other out a got done input (OfFile.accepted v f x) = record {
+  value = v;
+  bytes = listing v;
+  read = f;
+  got = subst (λ (y : Answer). Got out y.out) x got;
+  text = λ bytes. record { is_text = text v input bytes f; no_other = λ w. other v w input bytes f };
+}
+listed text other out a got done input (OfFile.refused r f x) = let k = ap (λ (y : Answer). y.status) x in absurd cc
+
+pub lists : IsReadBack → IsNoOther → (source out err : Channel) (s : Status) → Ends (CommandOutcome commands.Dis) source out err s → s ≡ status.Done → Lists source out
+lists text other source out err s end done =
+    let a = ended_well (CommandOutcome commands.Dis source.before) (HasFailed source) out err s end done in
+    of_any (λ input. OutcomeOf commands.Dis input a.0) (IsListed out) source.before (λ input. listed text other out a.0 a.2 a.3 input) a.1

@@ -1,0 +1,27 @@
+-- What stands in `out` after a file was disassembled.
+use Rattle.std.specs.Prelude.{◌≡◌, ◌<◌, ℕ, List, All}
+use Rattle.abc_file.specs.Reading.{OfInput}
+use Rattle.abc_lines.specs.Answers.{IsAssemblyOf}
+use Rattle.abc_tables.specs.declared.tables.Abc.{Abc}
+use Rattle.abc_tables.specs.Files.{IsFile}
+use Rattle.abc_cli.specs.End.{Channel, Got}
+
+abbrev pub AreBytes : List ℕ → Type 0
+AreBytes input = All (λ byte. byte < 256) input
+
+-- a text of the file, and of no other
+pub record IsTextOf (text : List ℕ) (v : Abc) : Type 0 where
+  pub is_text : IsAssemblyOf text v
+  pub no_other : (w : Abc) → IsAssemblyOf text w → w ≡ v
+
+-- The sink got a text of the file that the input spells, and of no other.
+pub record IsListed (out : Channel) (input : List ℕ) : Type 0 where
+  pub value : Abc
+  pub bytes : List ℕ
+  pub read : IsFile value input
+  pub got : Got out bytes
+  pub text : AreBytes input → IsTextOf bytes value
+
+-- the input that the source told, or else some input, was disassembled into `out`
+abbrev pub Lists : Channel → Channel → Type 0
+Lists source out = OfInput source.before (λ input. IsListed out input)

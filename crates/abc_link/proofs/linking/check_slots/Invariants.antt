@@ -1,0 +1,5 @@
+use Rattle.abc_link.specs.Made.{AreFewSlots}
+use Rattle.abc_link.proofs.linking.check_slots.Given as goal
+
+abbrev pub invariant-loop-x : goal.invariant-loop-x
+invariant-loop-x l = AreFewSlots l.slots l.x
