@@ -1,0 +1,4 @@
+mod Firsts
+mod Hiding
+mod There
+mod Examples

@@ -1,0 +1,59 @@
+-- What a reader would check of the searches.
+use Rattle.std.specs.Prelude.{◌≡◌, ◌⊎◌, ℕ, List, [], ◌∷◌, ◌++◌, Bool, true, false, map, slice_get, Some, if◌then◌else◌}
+use Rattle.std.specs.declared.option.Option.{Option}
+use Rattle.std.specs.List.{list_any}
+use Rattle.abc_cells.specs.declared.values.Value.{Value}
+use Rattle.abc_heap.specs.Heap.{Heap, elements_of, object_at, properties_of}
+use Rattle.abc_heap.specs.What.{is_array}
+use Rattle.abc_cells.specs.declared.values.Span.{Span}
+use Rattle.abc_heap.specs.declared.records.ScopeEntry.{ScopeEntry}
+use Rattle.abc_heap.specs.declared.records.ScopeId.{ScopeId}
+use Rattle.abc_program.specs.Linked.{LinkedFile}
+use Rattle.abc_search.specs.Candidates.{Candidate, OfTrait, Skip, answer, fits, found, is_answer, skip_for, traits_on}
+use Rattle.abc_search.specs.Scopes.{Place, has, places, scope_named}
+use Rattle.abc_search.specs.Searches.{declared_found, found_in_scopes, found_on}
+use Rattle.abc_search.specs.Spaces.{holds_public}
+use Rattle.abc_search.specs.Traits.{own}
+use Rattle.abc_search.specs.declared.found.Found.{Found}
+use Rattle.abc_search.specs.declared.found.Found.TheVariants as founds
+use Rattle.abc_search.specs.declared.found.ScopeFound.TheVariants as results
+use Rattle.abc_search.specs.declared.found.Want.{Want}
+use Rattle.abc_search.specs.declared.name.Name.{Name}
+
+-- one of a list passes a test, and none before it does
+pub record IsFirst {X : Type 0} (test : X → Bool) (xs : List X) (x : X) : Type 0 where
+  pub before : List X
+  pub after : List X
+  pub parts : xs ≡ before ++ x ∷ after
+  pub passes : test x ≡ true
+  pub none : list_any test before ≡ false
+
+abbrev pub AnswersTheFirst : Type 0
+AnswersTheFirst = (l : LinkedFile) (h : Heap) (n : Name) (s : Skip) (cs : List Candidate) →
+    ((c : Candidate) × IsFirst (is_answer l h n s) cs c × (answer l h n s cs ≡ found l c))
+    ⊎ ((list_any (is_answer l h n s) cs ≡ false) × (answer l h n s cs ≡ (if list_any (fits l h n) cs then founds.WrongSide else founds.Missing)))
+
+abbrev pub FindsTheFirstPlace : Type 0
+FindsTheFirstPlace = (l : LinkedFile) (h : Heap) (scopes : List ScopeEntry) (saved : Option ScopeId) (started : List Bool) (n : Name) →
+    ((p : Place) × IsFirst (has l h n) (places l h scopes saved) p × (found_in_scopes l h scopes saved started n ≡ scope_named h started (Some p)))
+    ⊎ ((list_any (has l h n) (places l h scopes saved) ≡ false) × (found_in_scopes l h scopes saved started n ≡ results.Missing))
+
+abbrev pub FindsTraitsAlone : Type 0
+FindsTraitsAlone = (l : LinkedFile) (h : Heap) (v : Value) (n : Name) (want : Want) → holds_public l n.spaces ≡ false → found_on l h v n want ≡ answer l h n (skip_for want) (traits_on l h v)
+
+-- the own traits of a layout, for an object of that layout
+abbrev pub own_candidates : LinkedFile → ℕ → List Candidate
+own_candidates l x = map (OfTrait x (x ∷ [])) (own l x)
+
+abbrev pub HidesItsBase : Type 0
+HidesItsBase = (l : LinkedFile) (h : Heap) (x : ℕ) (n : Name) (want : Want) → list_any (is_answer l h n (skip_for want)) (own_candidates l x) ≡ true → declared_found l h x x n want ≡ answer l h n (skip_for want) (own_candidates l x)
+
+-- a property, an element or a length that is found is its holder's
+abbrev pub IsThere : Heap → Found → Type 0
+IsThere h (founds.Property holder x) = (k : ℕ) × (n : Span) × (slice_get (properties_of h.objects holder.0) k ≡ Some (Some (n, x)))
+IsThere h (founds.Element holder k) = (x : Value) × (slice_get (elements_of h.objects holder.0) k ≡ Some x)
+IsThere h (founds.Length holder) = is_array (object_at h.objects holder.0).what ≡ true
+IsThere h other = Unit {0}
+
+abbrev pub FindsWhatIsThere : Type 0
+FindsWhatIsThere = (l : LinkedFile) (h : Heap) (v : Value) (n : Name) (want : Want) → IsThere h (found_on l h v n want)

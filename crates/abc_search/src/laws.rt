@@ -1,0 +1,27 @@
+ghost use Rattle.abc_search.specs.Laws.{AnswersTheFirst, FindsTheFirstPlace, FindsTraitsAlone, FindsWhatIsThere, HidesItsBase};
+
+/// A search answers the first of its candidates that fits and is not passed over. Without one it is `WrongSide` where
+/// another fits, and else `Missing`.
+pub fn answer_is_the_first()
+    ensures { AnswersTheFirst }
+{}
+
+/// A search in scopes answers the first place that has the name, and `Missing` where none has it.
+pub fn place_is_the_first()
+    ensures { FindsTheFirstPlace }
+{}
+
+/// A name that does not hold the public namespace finds declared traits alone: no element and no property.
+pub fn properties_are_public()
+    ensures { FindsTraitsAlone }
+{}
+
+/// A trait of a layout that fits hides those of its bases.
+pub fn derived_trait_hides()
+    ensures { HidesItsBase }
+{}
+
+/// A property, an element or a length that is found is its holder's.
+pub fn found_is_there()
+    ensures { FindsWhatIsThere }
+{}
