@@ -95,7 +95,7 @@ broken_reads item old new (errors.Refused line reason) headed broken n row rows 
     headed old.sizes old.instances n row rows here ∙ ap (λ (k : ℕ). Err (fault k reasons.Text)) number ∙ ap (λ (r : AsmReason). Err (fault line r)) (sym broken.5)
 broken_reads item old new errors.NoMemory headed broken n row rows le is = tt
 
-given_by : {A : Type 0} (r : Result A LineError) (o : Option AsmReason) (x : A) (line : ℕ) (left : List Row) → Answers r (told o x) → Gives left (made_at line r) (unless o line (Ok (x, left)))
+pub given_by : {A : Type 0} (r : Result A LineError) (o : Option AsmReason) (x : A) (line : ℕ) (left : List Row) → Answers r (told o x) → Gives left (made_at line r) (unless o line (Ok (x, left)))
 given_by {A} (Ok y) None x line left answers =
     let same : x ≡ y = cc in
     let pair : A → Result (A × List Row) Fault = λ z. Ok (z, left) in
