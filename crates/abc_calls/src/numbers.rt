@@ -36,11 +36,18 @@ fn unsigned_numbers(rt: HostRuntime) {
         ([0x40].as_slice(), Ok(64)),
         ([0x85, 0].as_slice(), Ok(5)),
         ([0xff, 0xff, 0xff, 0xff, 3].as_slice(), Ok(0x3fff_ffff)),
-        ([0x80, 0x80, 0x80, 0x80, 4].as_slice(), refused(0, Reason::BigNumber)),
+        (
+            [0x80, 0x80, 0x80, 0x80, 4].as_slice(),
+            refused(0, Reason::BigNumber),
+        ),
         ([0xff, 0xff].as_slice(), refused(2, Reason::Short)),
     ] {
         for piece in [1, 7] {
-            assert_eq!(rt; u30_of(rt.alloc(), bytes, piece), want, "{bytes:?} by {piece}");
+            assert_eq!(rt;
+                u30_of(rt.alloc(), bytes, piece),
+                want,
+                "{bytes:?} by {piece}"
+            );
         }
     }
 }
@@ -51,10 +58,17 @@ fn signed_numbers(rt: HostRuntime) {
         ([0x40].as_slice(), Ok(64)),
         ([0xff, 0xff, 0xff, 0xff, 0x0f].as_slice(), Ok(-1)),
         ([0xff, 0xff, 0xff, 0xff, 0x7f].as_slice(), Ok(-1)),
-        ([0xff, 0xff, 0xff, 0xff, 0x8f].as_slice(), refused(0, Reason::LongNumber)),
+        (
+            [0xff, 0xff, 0xff, 0xff, 0x8f].as_slice(),
+            refused(0, Reason::LongNumber),
+        ),
     ] {
         for piece in [1, 7] {
-            assert_eq!(rt; s32_of(rt.alloc(), bytes, piece), want, "{bytes:?} by {piece}");
+            assert_eq!(rt;
+                s32_of(rt.alloc(), bytes, piece),
+                want,
+                "{bytes:?} by {piece}"
+            );
         }
     }
     assert_eq!(rt; s24_of(rt.alloc(), &[0xf7, 0xff, 0xff], 1), Ok(-9));

@@ -57,7 +57,9 @@ const SIZES: Sizes = Sizes {
 fn a_set_and_a_parameterised_name(rt: HostRuntime) -> Result<(), Fail> {
     let mut tokens = Vec::new(rt.alloc());
     assert!(rt; !put_tokens(b"1 2", &mut tokens)?);
-    let set = set_line(rt.alloc(), tokens.as_slice(), &SIZES).ok().ok_or("no set")?;
+    let set = set_line(rt.alloc(), tokens.as_slice(), &SIZES)
+        .ok()
+        .ok_or("no set")?;
     assert_eq!(rt; set.as_slice(), [1, 2].as_slice());
     assert!(rt; !put_tokens(b"TypeName 1 0 3", &mut tokens)?);
     match name_line(rt.alloc(), tokens.as_slice(), &SIZES) {
