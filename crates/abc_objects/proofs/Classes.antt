@@ -11,7 +11,7 @@ use Rattle.abc_heap.specs.declared.records.ScopeId.{ScopeId}
 use Rattle.abc_heap.specs.declared.records.ScopeEntry.{ScopeEntry}
 use Rattle.abc_heap.specs.declared.records.ScopeNode.{ScopeNode}
 use Rattle.abc_heap.specs.declared.records.What.TheVariants as whats
-use Rattle.abc_heap.specs.Heap.{Heap, Object, obj_id, slots_of}
+use Rattle.abc_heap.specs.Heap.{Heap, Object, obj_id, object_at, slots_of}
 use Rattle.abc_heap.proofs.Growth.{set_read}
 use Rattle.abc_base.specs.declared.names.HostClass.TheVariants as hosts
 use Rattle.abc_heap.specs.declared.store.ClassParts.{ClassParts}
@@ -31,11 +31,11 @@ use Rattle.abc_program.specs.declared.types.SlotInfo.{SlotInfo}
 use Rattle.abc_program.proofs.Finding.{falling}
 use Rattle.abc_objects.specs.Starts.{StartsExist, start_value, start_values}
 use Rattle.abc_objects.specs.Values.{Exists}
-use Rattle.abc_objects.proofs.Made.{part_found, host_found, over_made_object, older, start_there}
+use Rattle.abc_objects.proofs.Made.{fixed_long, part_found, host_found, over_made_object, older, slots_are, start_there}
 use Rattle.abc_objects.proofs.Reshaped.{each_set}
 use Rattle.abc_objects.specs.Growing.{Grows}
 use Rattle.abc_objects.specs.Stands.{StandsOver, ObjectStands, ScopeStands, IsClassObject, IsObjectOrNone, IsScope, AreEntries, array_layout, host_layout, host_class_number}
-use Rattle.abc_objects.proofs.Grown.{object_grown, scope_stands_grown, scope_grown, bound_grown, exists_grown}
+use Rattle.abc_objects.proofs.Grown.{keeps_same, object_grown, opening_grown, scope_stands_grown, scope_grown, bound_grown, exists_grown}
 use Rattle.abc_objects.proofs.Kept.{object_left, slots_there, added_grows, over_scopes, scopes_grow, top_is, beneath}
 
 -- the heap with a class object and the scope of its instances, which name each other
@@ -44,8 +44,8 @@ with_both ob n k h = record h { objects = h.objects ++ ob ∷ []; scopes = h.sco
 
 pub both_grow : (h : Heap) (ob : Object) (n : ScopeNode) (k : ℕ) → Grows h (with_both ob n k h)
 both_grow h ob n k = record {
-    objects = λ i b. (omega (arith, b, length-append h.objects (ob ∷ [])), ap (λ (z : Object). z.layout) (object_left h.objects (ob ∷ []) i b));
-    scopes = omega (arith, length-append h.scopes (n ∷ []));
+    objects = λ i b. (omega (arith, b, length-append h.objects (ob ∷ [])), keeps_same (object_at h.objects i) (object_at (h.objects ++ ob ∷ []) i) (object_left h.objects (ob ∷ []) i b));
+    scopes = (n ∷ [], refl);
     fixed = refl;
     made = ([], sym (append-nil h.made));
     formulas = refl;
@@ -76,6 +76,9 @@ over_both l h ob n k home statics instances s b free w a d =
     let new = with_both ob n k h in
     let g = both_grow h ob n k in
     record {
+      linked = s.linked;
+      starts = s.starts;
+      opening = opening_grown l h new g s.opening;
       hosts = λ c. omega (arith, s.hosts c, ap (λ (x : Object). length x.slots) (object_left h.objects (ob ∷ []) (host_class_number c) (slots_there h.objects (host_class_number c) (s.hosts c))));
       fixed = s.fixed;
       objects = λ i x e. elim (slice_get_more h.objects ob x i e) [
@@ -115,20 +118,18 @@ class_layout l t k b =
     let c = part_found l t (parts.ClassObject k) b in
     let a = host_found l t hosts.Array in
     let m = host_found l t hosts.Class in
-    let own = λ (y : ℕ). own_slots l (part_at l.parts y) in
-    let f = falling l.file l.parts t.numbering in
-    let up : base l x ≡ Some (host_layout l hosts.Class) = ap (λ p. place_under l.parts (parent l.file p)) c.1 in
-    let one : length (own (host_layout l hosts.Class)) ≡ 1 = ap (λ p. length (own_slots l p)) m.1 in
-    let below = ap length (heritage_some (base l) own f (host_layout l hosts.Class)) ∙ length-append (heritage (base l) own (base l (host_layout l hosts.Class))) (own (host_layout l hosts.Class)) in
-    let all = ap length (heritage_some (base l) own f x) ∙ (ap (λ n. length (heritage (base l) own n ++ own x)) up ∙ length-append (heritage (base l) own (Some (host_layout l hosts.Class))) (own x)) in
+    let below = ap length (slots_are l t (host_layout l hosts.Class) (parts.Host hosts.Class) (parts.Host hosts.Object) m.1 refl) ∙ length-append (slots_of_layout l (host_layout l hosts.Object)) (own_slots l (parts.Host hosts.Class)) in
+    let all = ap length (slots_are l t x (parts.ClassObject k) (parts.Host hosts.Class) c.1 refl) ∙ length-append (slots_of_layout l (host_layout l hosts.Class)) (own_slots l (parts.ClassObject k)) in
+    let one : length (own_slots l (parts.Host hosts.Class)) ≡ 1 = refl in
     (c.0
     , λ (q : x ≡ array_layout l).
       let w : ◌≡◌ {A = Part} (parts.ClassObject k) (parts.Host hosts.Array) = sym c.1 ∙ (ap (part_at l.parts) q ∙ a.1) in
       absurd cc
     , omega (arith, one, below, all))
 
-pub over_class : (l : LinkedFile) (h : Heap) (c : ClassParts) (saved : Option ScopeId) (es : List ScopeEntry) → StandsOver l h → StartsExist l → IsLinkedFile l → c.class < length l.file.instances → c.home < length l.file.scripts → c.prototype_layout ≡ host_layout l hosts.Object → c.class_layout ≡ (layout_of l (parts.ClassObject c.class)).0 → IsObjectOrNone h c.base_prototype → IsObjectOrNone h c.delegate → IsScope h saved → AreEntries h es → get_or h.classes c.class None ≡ None → StandsOver l (with_class (start_values l c.prototype_layout) (start_values l c.class_layout) c saved es h)
-over_class l h c saved es s e t bk bh ex ey db dd sc a free =
+pub over_class : (l : LinkedFile) (h : Heap) (c : ClassParts) (saved : Option ScopeId) (es : List ScopeEntry) → StandsOver l h → c.class < length l.file.instances → c.home < length l.file.scripts → c.prototype_layout ≡ host_layout l hosts.Object → c.class_layout ≡ (layout_of l (parts.ClassObject c.class)).0 → IsObjectOrNone h c.base_prototype → IsObjectOrNone h c.delegate → IsScope h saved → AreEntries h es → get_or h.classes c.class None ≡ None → StandsOver l (with_class (start_values l c.prototype_layout) (start_values l c.class_layout) c saved es h)
+over_class l h c saved es s bk bh ex ey db dd sc a free =
+    let t = s.linked in
     let x = c.prototype_layout in
     let y = c.class_layout in
     let cs = start_values l y in
@@ -139,9 +140,10 @@ over_class l h c saved es s e t bk bh ex ey db dd sc a free =
       let w : ◌≡◌ {A = Part} (parts.Host hosts.Object) (parts.Host hosts.Array) = sym object.1 ∙ (ap (part_at l.parts) (sym ex ∙ q) ∙ array.1) in
       absurd cc in
     let bx : x < length l.parts = subst (λ n. n < length l.parts) (sym ex) object.0 in
+    let by : y < length l.parts = subst (λ n. n < length l.parts) (sym ey) k.0 in
     let h1 = with_made (start_values l x) x c.base_prototype whats.Plain h in
     let g1 = added_grows h (with_more_slots (start_values l x) (bare x c.base_prototype whats.Plain)) in
-    let s1 : StandsOver l h1 = over_made_object l h x c.base_prototype whats.Plain s e bx db tt refl plain (λ i j n m q. absurd cc) in
+    let s1 : StandsOver l h1 = over_made_object l h x c.base_prototype whats.Plain s bx db tt refl plain (λ i j n m q. absurd cc) in
     let sc1 = scope_grown h h1 saved g1 sc in
     let a1 : AreEntries h1 es = λ i n q. (g1.objects n.object.0 (a i n q)).0 in
     let mid = with_scopes saved es h1 in
@@ -160,14 +162,14 @@ over_class l h c saved es s e t bk bh ex ey db dd sc a free =
     let ei : length mid.scopes ≡ length h.scopes + length es = length-append h.scopes (nodes (length h.scopes) saved es) ∙ omega (arith, nodes_length (length h.scopes) saved es) in
     let there : length h.objects < length (mid.objects ++ ob ∷ []) = omega (arith, eo, length-append mid.objects (ob ∷ [])) in
     let stands : ObjectStands l new (length mid.objects) ob = record {
-      layout = subst (λ m. m < length l.parts) (sym ey) k.0;
+      layout = by;
       slots = length-set cs 0 (values.Obj proto) ∙ length-map (slots_of_layout l y) (λ (i : SlotInfo). start_value l.file.strings i.start);
       delegate = older mid c.delegate (bound_grown h1 mid c.delegate g2 (bound_grown h h1 c.delegate g1 dd));
       what = (bk, bh, scope_grown mid new statics g3 t2, omega (arith, length-append mid.scopes (n ∷ [])));
       array = λ q. absurd cc;
       no_array = λ q. λ (w : y ≡ array_layout l). k.1 (sym ey ∙ w);
       elements = λ q. refl;
-      slot_values = each_set (Exists l new) cs 0 (values.Obj proto) (λ i v q. exists_grown l mid new v g3 (start_there l mid y i v s2 e q)) there;
+      slot_values = each_set (Exists l new) cs 0 (values.Obj proto) (λ i v q. exists_grown l mid new v g3 (start_there l mid y i v (fixed_long l mid s2) (s.starts y by) q)) there;
       properties = λ i v q. absurd cc;
       element_values = λ i v q. absurd cc;
     } in

@@ -18,9 +18,9 @@ use Rattle.abc_heap.proofs.Growth.{set_read}
 use Rattle.abc_heap.proofs.Makes.{nodes_length}
 use Rattle.abc_program.specs.Linked.{LinkedFile}
 use Rattle.abc_objects.specs.Values.{Exists, IsObject}
-use Rattle.abc_objects.specs.Growing.{Grows}
+use Rattle.abc_objects.specs.Growing.{Grows, Keeps}
 use Rattle.abc_objects.specs.Stands.{StandsOver, ObjectStands, ScopeStands, IsClassObject, IsScope, IsBeneath, AreEntries, host_class_number}
-use Rattle.abc_objects.proofs.Grown.{grows_self, object_grown, scope_stands_grown}
+use Rattle.abc_objects.proofs.Grown.{keeps_self, keeps_same, object_grown, opening_grown, scope_stands_grown}
 
 -- ---- one object changed
 
@@ -40,12 +40,12 @@ now_object f zero (ob ∷ obs) (suc i) x w e = (x, e, refl)
 now_object f (suc o) (ob ∷ obs) zero x w e = (x, e, refl)
 now_object f (suc o) (ob ∷ obs) (suc i) x w e = now_object f o obs i x w e
 
-layout_kept : (f : Object → Object) (o : ℕ) (obs : List Object) (i : ℕ) → ((ob : Object) → (f ob).layout ≡ ob.layout) → (object_at (change f o obs) i).layout ≡ (object_at obs i).layout
-layout_kept f o [] i w = refl
-layout_kept f zero (ob ∷ obs) zero w = w ob
-layout_kept f zero (ob ∷ obs) (suc i) w = refl
-layout_kept f (suc o) (ob ∷ obs) zero w = refl
-layout_kept f (suc o) (ob ∷ obs) (suc i) w = layout_kept f o obs i w
+kept_at : (f : Object → Object) (o : ℕ) (obs : List Object) (i : ℕ) → ((ob : Object) → Keeps ob (f ob)) → Keeps (object_at obs i) (object_at (change f o obs) i)
+kept_at f o [] i w = keeps_self (object_at [] i)
+kept_at f zero (ob ∷ obs) zero w = w ob
+kept_at f zero (ob ∷ obs) (suc i) w = keeps_self (object_at obs i)
+kept_at f (suc o) (ob ∷ obs) zero w = keeps_self ob
+kept_at f (suc o) (ob ∷ obs) (suc i) w = kept_at f o obs i w
 
 slots_kept : (f : Object → Object) (o : ℕ) (obs : List Object) (i : ℕ) → ((ob : Object) → length (f ob).slots ≡ length ob.slots) → length (slots_of (change f o obs) i) ≡ length (slots_of obs i)
 slots_kept f o [] i w = refl
@@ -54,10 +54,10 @@ slots_kept f zero (ob ∷ obs) (suc i) w = refl
 slots_kept f (suc o) (ob ∷ obs) zero w = refl
 slots_kept f (suc o) (ob ∷ obs) (suc i) w = slots_kept f o obs i w
 
-pub changed_grows : (h : Heap) (f : Object → Object) (o : ℕ) → ((ob : Object) → (f ob).layout ≡ ob.layout) → Grows h (with_object f o h)
+pub changed_grows : (h : Heap) (f : Object → Object) (o : ℕ) → ((ob : Object) → Keeps ob (f ob)) → Grows h (with_object f o h)
 changed_grows h f o w = record {
-    objects = λ i b. (omega (arith, b, length_change f o h.objects), layout_kept f o h.objects i w);
-    scopes = omega arith;
+    objects = λ i b. (omega (arith, b, length_change f o h.objects), kept_at f o h.objects i w);
+    scopes = ([], sym (append-nil h.scopes));
     fixed = refl;
     made = ([], sym (append-nil h.made));
     formulas = refl;
@@ -65,16 +65,18 @@ changed_grows h f o w = record {
 
 -- a change that leaves what an object is, and after which it stands as before
 pub record Reshapes (l : LinkedFile) (h : Heap) (o : ℕ) (f : Object → Object) : Type 0 where
-  pub layout : (ob : Object) → (f ob).layout ≡ ob.layout
-  pub what : (ob : Object) → (f ob).what ≡ ob.what
+  pub keeps : (ob : Object) → Keeps ob (f ob)
   pub slots : (ob : Object) → length (f ob).slots ≡ length ob.slots
   pub stands : (ob : Object) → slice_get h.objects o ≡ Some ob → ObjectStands l h o ob → ObjectStands l h o (f ob)
 
 pub over_changed : (l : LinkedFile) (h : Heap) (f : Object → Object) (o : ℕ) → StandsOver l h → Reshapes l h o f → StandsOver l (with_object f o h)
 over_changed l h f o s r =
     let new = with_object f o h in
-    let g = changed_grows h f o r.layout in
+    let g = changed_grows h f o r.keeps in
     record {
+      linked = s.linked;
+      starts = s.starts;
+      opening = opening_grown l h new g s.opening;
       hosts = λ c. omega (arith, s.hosts c, slots_kept f o h.objects (host_class_number c) r.slots);
       fixed = s.fixed;
       objects = λ i ob e.
@@ -91,13 +93,13 @@ over_changed l h f o s r =
       counted = s.counted;
       named = λ k i e.
         let c = s.named k i e in
-        let y = now_object f o h.objects i c.object r.what c.at in
+        let y = now_object f o h.objects i c.object (λ x. (r.keeps x).what) c.at in
         record { object = y.0; at = y.1; home = c.home; statics = c.statics; instances = c.instances; is = y.2 ∙ c.is };
       classes = λ k i c.
         let w = was_object f o h.objects i c.object c.at in
         let same : c.object.what ≡ w.0.what = elim w.2 [
           inl q ↦ ap (λ (z : Object). z.what) q
-        | inr q ↦ ap (λ (z : Object). z.what) q.1 ∙ r.what w.0
+        | inr q ↦ ap (λ (z : Object). z.what) q.1 ∙ (r.keeps w.0).what
         ] in
         s.classes k i (record { object = w.0; at = w.1; home = c.home; statics = c.statics; instances = c.instances; is = sym same ∙ c.is });
     }
@@ -116,8 +118,8 @@ slots_there [] o b = absurd (omega arith)
 
 pub added_grows : (h : Heap) (ob : Object) → Grows h (record h { objects = h.objects ++ ob ∷ [] })
 added_grows h ob = record {
-    objects = λ i b. (omega (arith, b, length-append h.objects (ob ∷ [])), ap (λ (z : Object). z.layout) (object_left h.objects (ob ∷ []) i b));
-    scopes = omega arith;
+    objects = λ i b. (omega (arith, b, length-append h.objects (ob ∷ [])), keeps_same (object_at h.objects i) (object_at (h.objects ++ ob ∷ []) i) (object_left h.objects (ob ∷ []) i b));
+    scopes = ([], sym (append-nil h.scopes));
     fixed = refl;
     made = ([], sym (append-nil h.made));
     formulas = refl;
@@ -129,6 +131,9 @@ over_added l h ob s a other =
     let new : Heap = record h { objects = h.objects ++ ob ∷ [] } in
     let g = added_grows h ob in
     record {
+      linked = s.linked;
+      starts = s.starts;
+      opening = opening_grown l h new g s.opening;
       hosts = λ c. omega (arith, s.hosts c, ap (λ (x : Object). length x.slots) (object_left h.objects (ob ∷ []) (host_class_number c) (slots_there h.objects (host_class_number c) (s.hosts c))));
       fixed = s.fixed;
       objects = λ i x e. object_grown l h new i x g (elim (slice_get_more h.objects ob x i e) [
@@ -149,6 +154,9 @@ over_added l h ob s a other =
 -- a heap with the same objects, scopes and classes
 pub over_same : (l : LinkedFile) (h new : Heap) → StandsOver l h → Grows h new → new.objects ≡ h.objects → new.scopes ≡ h.scopes → new.classes ≡ h.classes → StandsOver l new
 over_same l h new s g p q r = record {
+    linked = s.linked;
+    starts = s.starts;
+    opening = opening_grown l h new g s.opening;
     hosts = λ c. omega (arith, s.hosts c, ap (λ obs. length (slots_of obs (host_class_number c))) p);
     fixed = (s.fixed.0, g.fixed ∙ s.fixed.1);
     objects = λ i ob e. object_grown l h new i ob g (s.objects i ob (ap (λ obs. slice_get obs i) (sym p) ∙ e));
@@ -162,28 +170,31 @@ over_same l h new s g p q r = record {
 
 -- texts made
 pub made_grows : (h : Heap) (more : List ℕ) → Grows h (record h { made = h.made ++ more })
-made_grows h more = record { objects = λ i b. (b, refl); scopes = omega arith; fixed = refl; made = (more, refl); formulas = refl }
+made_grows h more = record { objects = λ i b. (b, keeps_self (object_at h.objects i)); scopes = ([], sym (append-nil h.scopes)); fixed = refl; made = (more, refl); formulas = refl }
 
 pub over_made : (l : LinkedFile) (h : Heap) (more : List ℕ) → StandsOver l h → StandsOver l (record h { made = h.made ++ more })
 over_made l h more s = over_same l h (record h { made = h.made ++ more }) s (made_grows h more) refl refl refl
 
 -- frames
+frames_grow : (h : Heap) (frames stack : ℕ) → Grows h (record h { frames = frames; stack = stack })
+frames_grow h frames stack = record { objects = λ i b. (b, keeps_self (object_at h.objects i)); scopes = ([], sym (append-nil h.scopes)); fixed = refl; made = ([], sym (append-nil h.made)); formulas = refl }
+
 pub over_frames : (l : LinkedFile) (h : Heap) (frames stack : ℕ) → StandsOver l h → StandsOver l (record h { frames = frames; stack = stack })
-over_frames l h frames stack s = over_same l h (record h { frames = frames; stack = stack }) s (record { objects = λ i b. (b, refl); scopes = omega arith; fixed = refl; made = ([], sym (append-nil h.made)); formulas = refl }) refl refl refl
+over_frames l h frames stack s = over_same l h (record h { frames = frames; stack = stack }) s (frames_grow h frames stack) refl refl refl
 
 -- ---- captured scopes
 
 pub scopes_grow : (h : Heap) (saved : Option ScopeId) (es : List ScopeEntry) → Grows h (with_scopes saved es h)
 scopes_grow h saved es = record {
-    objects = λ i b. (b, refl);
-    scopes = omega (arith, length-append h.scopes (nodes (length h.scopes) saved es));
+    objects = λ i b. (b, keeps_self (object_at h.objects i));
+    scopes = (nodes (length h.scopes) saved es, refl);
     fixed = refl;
     made = ([], sym (append-nil h.made));
     formulas = refl;
   }
 
 -- an element of two lists together
-in_either : {X : Type 0} (xs ys : List X) (i : ℕ) (y : X) → slice_get (xs ++ ys) i ≡ Some y → ((i < length xs) × (slice_get xs i ≡ Some y)) ⊎ ((j : ℕ) × (i ≡ length xs + j) × (slice_get ys j ≡ Some y))
+pub in_either : {X : Type 0} (xs ys : List X) (i : ℕ) (y : X) → slice_get (xs ++ ys) i ≡ Some y → ((i < length xs) × (slice_get xs i ≡ Some y)) ⊎ ((j : ℕ) × (i ≡ length xs + j) × (slice_get ys j ≡ Some y))
 in_either [] ys i y e = inr (i, omega arith, e)
 in_either (x ∷ xs) ys zero y e = inl (omega arith, e)
 in_either (x ∷ xs) ys (suc i) y e = elim (in_either xs ys i y e) [ inl q ↦ inl (omega (arith, q.0), q.1) | inr q ↦ inr (q.0, omega (arith, q.1), q.2) ]
@@ -210,6 +221,9 @@ over_scopes l h saved es s sc a =
     let new = with_scopes saved es h in
     let g = scopes_grow h saved es in
     record {
+      linked = s.linked;
+      starts = s.starts;
+      opening = opening_grown l h new g s.opening;
       hosts = s.hosts;
       fixed = s.fixed;
       objects = λ i ob e. object_grown l h new i ob g (s.objects i ob e);

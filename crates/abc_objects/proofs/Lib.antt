@@ -5,3 +5,7 @@ pub mod Made
 pub mod Ways
 pub mod Classes
 pub mod FixedTexts
+pub mod Parts
+pub mod Opened
+pub mod Tested
+pub mod Steps

@@ -31,29 +31,29 @@ use Rattle.abc_program.specs.declared.types.SlotInfo.{SlotInfo}
 use Rattle.abc_rules.specs.declared.start.Start.{Start}
 use Rattle.abc_rules.specs.declared.start.Start.TheVariants as starts
 use Rattle.abc_objects.specs.Fixed.{fixed_bytes}
-use Rattle.abc_objects.specs.Starts.{start_value, start_values, StartExists, StartsExist, CanStart}
+use Rattle.abc_objects.specs.Starts.{start_value, start_values, StartExists, StartsExist, StartsIn, CanStart}
 use Rattle.abc_objects.specs.Values.{Exists}
 use Rattle.abc_objects.specs.Stands.{StandsOver, ObjectStands, NamesParts, IsOlder, IsObjectOrNone, IsScope, IsMadeAlone, AreEntries, Each, array_layout, host_layout, object_in, prototype_of}
 use Rattle.abc_objects.proofs.Grown.{bound_grown}
 use Rattle.abc_objects.proofs.Kept.{over_added, over_scopes, scopes_grow, top_is}
 
-fixed_long : (l : LinkedFile) (h : Heap) → StandsOver l h → 62 ≤ length h.fixed
+pub fixed_long : (l : LinkedFile) (h : Heap) → StandsOver l h → 62 ≤ length h.fixed
 fixed_long l h s =
     let n : length fixed_bytes ≡ 62 = refl in
     omega (arith, n, ap length s.fixed.1, length-append fixed_bytes s.fixed.0)
 
-start_exists : (l : LinkedFile) (h : Heap) (x : Start) → StandsOver l h → StartExists l x → Exists l h (start_value l.file.strings x)
+start_exists : (l : LinkedFile) (h : Heap) (x : Start) → 62 ≤ length h.fixed → StartExists l x → Exists l h (start_value l.file.strings x)
 start_exists l h starts.Undefined s e = tt
 start_exists l h starts.Null s e = tt
 start_exists l h (starts.Num n) s e = e
 start_exists l h (starts.Bool b) s e = tt
-start_exists l h (starts.BoolText true) s e = omega (arith, fixed_long l h s)
-start_exists l h (starts.BoolText false) s e = omega (arith, fixed_long l h s)
+start_exists l h (starts.BoolText true) s e = omega arith
+start_exists l h (starts.BoolText false) s e = omega arith
 start_exists l h (starts.Text zero) s e = omega arith
 start_exists l h (starts.Text (suc i)) s e = omega arith
 start_exists l h (starts.Space n) s e = e
 
-pub start_there : (l : LinkedFile) (h : Heap) (x k : ℕ) (v : Value) → StandsOver l h → StartsExist l → slice_get (start_values l x) k ≡ Some v → Exists l h v
+pub start_there : (l : LinkedFile) (h : Heap) (x k : ℕ) (v : Value) → 62 ≤ length h.fixed → StartsIn l (slots_of l x) → slice_get (start_values l x) k ≡ Some v → Exists l h v
 start_there l h x k v s e q = go (slice_get (slots_of l x) k) refl
   where
     go : (i : Option SlotInfo) → slice_get (slots_of l x) k ≡ i → Exists l h v
@@ -63,32 +63,36 @@ start_there l h x k v s e q = go (slice_get (slots_of l x) k) refl
     go (Some i) w =
       let p : ◌≡◌ {A = Option Value} (Some (start_value l.file.strings i.start)) (Some v) = ap (option_map (λ (i : SlotInfo). start_value l.file.strings i.start)) (sym w) ∙ (sym (slice_get-map (λ (i : SlotInfo). start_value l.file.strings i.start) (slots_of l x) k) ∙ q) in
       let r : start_value l.file.strings i.start ≡ v = cc in
-      subst (Exists l h) r (start_exists l h i.start s (e.each x k i w))
+      subst (Exists l h) r (start_exists l h i.start s (e.each k i w))
 
 pub older : (h : Heap) (d : Option ObjId) → IsObjectOrNone h d → IsOlder (length h.objects) d
 older h None e = tt
 older h (Some d) e = e
 
-pub made_stands : (l : LinkedFile) (h : Heap) (x : ℕ) (delegate : Option ObjId) (what : What) → StandsOver l h → StartsExist l → x < length l.parts → IsObjectOrNone h delegate → NamesParts l h what → is_array what ≡ false → x ≢ array_layout l → ObjectStands l h (length h.objects) (with_more_slots (start_values l x) (bare x delegate what))
-made_stands l h x delegate what s e b d n plain ne = record {
+-- an object with the slots of a layout, at their start values
+pub bare_stands : (l : LinkedFile) (h : Heap) (o x : ℕ) (delegate : Option ObjId) (what : What) → 62 ≤ length h.fixed → StartsExist l → x < length l.parts → IsOlder o delegate → NamesParts l h what → is_array what ≡ false → x ≢ array_layout l → ObjectStands l h o (with_more_slots (start_values l x) (bare x delegate what))
+bare_stands l h o x delegate what f e b d n plain ne = record {
     layout = b;
     slots = length-map (slots_of l x) (λ (i : SlotInfo). start_value l.file.strings i.start);
-    delegate = older h delegate d;
+    delegate = d;
     what = n;
     array = λ q. absurd cc;
     no_array = λ q. ne;
     elements = λ q. refl;
-    slot_values = λ k v q. start_there l h x k v s e q;
+    slot_values = λ k v q. start_there l h x k v f (e x b) q;
     properties = λ k p q. absurd cc;
     element_values = λ k v q. absurd cc;
   }
 
 -- what an object may be that is made by itself
-pub over_made_object : (l : LinkedFile) (h : Heap) (x : ℕ) (delegate : Option ObjId) (what : What) → StandsOver l h → StartsExist l → x < length l.parts → IsObjectOrNone h delegate → NamesParts l h what → is_array what ≡ false → x ≢ array_layout l → ((k s : ℕ) (c : Option ScopeId) (i : ScopeId) → what ≡ whats.ClassObject k s c i → ⊥) → StandsOver l (with_made (start_values l x) x delegate what h)
-over_made_object l h x delegate what s e b d n plain ne not_class = over_added l h (with_more_slots (start_values l x) (bare x delegate what)) s (made_stands l h x delegate what s e b d n plain ne) not_class
+pub over_made_object : (l : LinkedFile) (h : Heap) (x : ℕ) (delegate : Option ObjId) (what : What) → StandsOver l h → x < length l.parts → IsObjectOrNone h delegate → NamesParts l h what → is_array what ≡ false → x ≢ array_layout l → ((k s : ℕ) (c : Option ScopeId) (i : ScopeId) → what ≡ whats.ClassObject k s c i → ⊥) → StandsOver l (with_made (start_values l x) x delegate what h)
+over_made_object l h x delegate what s b d n plain ne not_class =
+    over_added l h (with_more_slots (start_values l x) (bare x delegate what)) s (bare_stands l h (length h.objects) x delegate what (fixed_long l h s) s.starts b (older h delegate d) n plain ne) not_class
 
-pub can_start : (l : LinkedFile) (x : ℕ) → StartsExist l → CanStart l.file.strings (slots_of l x)
-can_start l x e = record { few = e.few x; short = λ k s q i w. subst (λ (y : Start). StartExists l y) w (e.each x k s q) }
+pub can_start : (l : LinkedFile) (x : ℕ) (pool : List (List ℕ)) (slots : List SlotInfo) → pool ≡ l.file.strings → slots ≡ slots_of l x → StartsIn l (slots_of l x) → CanStart pool slots
+can_start l x pool slots p q e =
+    let own : CanStart l.file.strings (slots_of l x) = record { few = e.few; short = λ k s w i r. subst (λ (y : Start). StartExists l y) r (e.each k s w) } in
+    subst (λ (t : List (List ℕ)). CanStart t slots) (sym p) (subst (CanStart l.file.strings) (sym q) own)
 
 -- past the end of the pool
 pub past_pool_text : (pool : List (List ℕ)) (i : ℕ) → slice_get pool i ≡ None → get_or pool i [] ≡ []
@@ -113,12 +117,12 @@ function_layout l t =
       absurd cc)
 
 -- a function, above the scopes that it keeps
-pub over_function : (l : LinkedFile) (h : Heap) (m s : ℕ) (delegate : Option ObjId) (saved : Option ScopeId) (es : List ScopeEntry) → StandsOver l h → StartsExist l → IsLinkedFile l → m < length l.file.methods → s < length l.file.scripts → IsObjectOrNone h delegate → IsScope h saved → AreEntries h es → StandsOver l (with_made (start_values l (host_layout l hosts.Function)) (host_layout l hosts.Function) delegate (whats.Closure m s (top (length h.scopes) saved es) None) (with_scopes saved es h))
-over_function l h m s delegate saved es over e t bm bs d sc a =
+pub over_function : (l : LinkedFile) (h : Heap) (m s : ℕ) (delegate : Option ObjId) (saved : Option ScopeId) (es : List ScopeEntry) → StandsOver l h → m < length l.file.methods → s < length l.file.scripts → IsObjectOrNone h delegate → IsScope h saved → AreEntries h es → StandsOver l (with_made (start_values l (host_layout l hosts.Function)) (host_layout l hosts.Function) delegate (whats.Closure m s (top (length h.scopes) saved es) None) (with_scopes saved es h))
+over_function l h m s delegate saved es over bm bs d sc a =
     let mid = with_scopes saved es h in
-    let f = function_layout l t in
+    let f = function_layout l over.linked in
     over_made_object l mid (host_layout l hosts.Function) delegate (whats.Closure m s (top (length h.scopes) saved es) None)
-      (over_scopes l h saved es over sc a) e f.0 (bound_grown h mid delegate (scopes_grow h saved es) d) (bm, bs, top_is h saved es sc, tt) refl f.1 (λ k n c i q. absurd cc)
+      (over_scopes l h saved es over sc a) f.0 (bound_grown h mid delegate (scopes_grow h saved es) d) (bm, bs, top_is h saved es sc, tt) refl f.1 (λ k n c i q. absurd cc)
 
 -- an object that is made by itself is no array and no class object
 pub made_alone : (what : What) → IsMadeAlone what → (is_array what ≡ false) × ((k s : ℕ) (c : Option ScopeId) (i : ScopeId) → what ≡ whats.ClassObject k s c i → ⊥)
@@ -134,26 +138,34 @@ made_alone whats.HostObject e = absurd e
 made_alone (whats.Global n) e = absurd e
 made_alone whats.Array e = absurd e
 
--- instances of Array have no slots
-no_slots : (l : LinkedFile) → IsLinkedFile l → slots_of l (array_layout l) ≡ []
-no_slots l t =
-    let a = host_found l t hosts.Array in
+-- a class's own slots stand behind those of its base
+pub slots_are : (l : LinkedFile) → IsLinkedFile l → (x : ℕ) (p q : Part) → part_at l.parts x ≡ p → parent l.file p ≡ Some q → slots_of l x ≡ slots_of l (layout_of l q).0 ++ own_slots l p
+slots_are l t x p q e up =
+    let own = λ (y : ℕ). own_slots l (part_at l.parts y) in
+    let f = falling l.file l.parts t.numbering in
+    let above : base l x ≡ Some (layout_of l q).0 = ap (λ r. place_under l.parts (parent l.file r)) e ∙ ap (place_under l.parts) up in
+    heritage_some (base l) own f x ∙ (ap (λ n. heritage (base l) own n ++ own x) above ∙ ap (λ r. heritage (base l) own (Some (layout_of l q).0) ++ own_slots l r) e)
+
+-- plain objects have no slots
+pub object_slots : (l : LinkedFile) → IsLinkedFile l → slots_of l (host_layout l hosts.Object) ≡ []
+object_slots l t =
     let o = host_found l t hosts.Object in
     let own = λ (y : ℕ). own_slots l (part_at l.parts y) in
     let f = falling l.file l.parts t.numbering in
-    let up : base l (array_layout l) ≡ Some (host_layout l hosts.Object) = ap (λ p. place_under l.parts (parent l.file p)) a.1 in
     let top_of : base l (host_layout l hosts.Object) ≡ None = ap (λ p. place_under l.parts (parent l.file p)) o.1 in
-    let none : own (array_layout l) ≡ [] = ap (own_slots l) a.1 in
-    let bare_object : own (host_layout l hosts.Object) ≡ [] = ap (own_slots l) o.1 in
-    let object : heritage (base l) own (Some (host_layout l hosts.Object)) ≡ [] =
-      heritage_some (base l) own f (host_layout l hosts.Object) ∙ (ap (λ n. heritage (base l) own n ++ own (host_layout l hosts.Object)) top_of ∙ (ap (λ xs. heritage (base l) own None ++ xs) bare_object ∙ ap (λ xs. xs ++ []) (heritage_none (base l) own))) in
-    heritage_some (base l) own f (array_layout l) ∙ (ap (λ n. heritage (base l) own n ++ own (array_layout l)) up ∙ (ap (λ xs. heritage (base l) own (Some (host_layout l hosts.Object)) ++ xs) none ∙ ap (λ xs. xs ++ []) object))
+    let none : own (host_layout l hosts.Object) ≡ [] = ap (own_slots l) o.1 in
+    heritage_some (base l) own f (host_layout l hosts.Object) ∙ (ap (λ n. heritage (base l) own n ++ own (host_layout l hosts.Object)) top_of ∙ (ap (λ xs. heritage (base l) own None ++ xs) none ∙ ap (λ xs. xs ++ []) (heritage_none (base l) own)))
 
-pub over_array : (l : LinkedFile) (h : Heap) (es : List Value) (delegate : Option ObjId) → StandsOver l h → IsLinkedFile l → IsObjectOrNone h delegate → Each (Exists l h) es → StandsOver l (with_array es (array_layout l) delegate h)
-over_array l h es delegate s t d e =
+-- nor have instances of a class of the host without own slots that stands under Object
+pub no_slots : (l : LinkedFile) → IsLinkedFile l → (c : HostClass) → own_slots l (parts.Host c) ≡ [] → parent l.file (parts.Host c) ≡ Some (parts.Host hosts.Object) → slots_of l (host_layout l c) ≡ []
+no_slots l t c none up =
+    slots_are l t (host_layout l c) (parts.Host c) (parts.Host hosts.Object) (host_found l t c).1 up ∙ (ap (λ xs. slots_of l (host_layout l hosts.Object) ++ xs) none ∙ ap (λ xs. xs ++ []) (object_slots l t))
+
+pub over_array : (l : LinkedFile) (h : Heap) (es : List Value) (delegate : Option ObjId) → StandsOver l h → IsObjectOrNone h delegate → Each (Exists l h) es → StandsOver l (with_array es (array_layout l) delegate h)
+over_array l h es delegate s d e =
     over_added l h (with_more_elements es (bare (array_layout l) delegate whats.Array)) s (record {
-      layout = (host_found l t hosts.Array).0;
-      slots = sym (ap length (no_slots l t));
+      layout = (host_found l s.linked hosts.Array).0;
+      slots = sym (ap length (no_slots l s.linked hosts.Array refl refl));
       delegate = older h delegate d;
       what = tt;
       array = λ q. refl;

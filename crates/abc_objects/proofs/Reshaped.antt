@@ -24,8 +24,7 @@ each_more P xs x e p = λ i y q. elim (slice_get_more xs x y i q) [ inl r ↦ e 
 
 pub slot_reshapes : (l : LinkedFile) (h : Heap) (o k : ℕ) (v : Value) → Exists l h v → Reshapes l h o (with_slot k v)
 slot_reshapes l h o k v x = record {
-    layout = λ ob. refl;
-    what = λ ob. refl;
+    keeps = λ ob. record { layout = refl; delegate = refl; what = refl };
     slots = λ ob. length-set ob.slots k v;
     stands = λ ob at s. record {
       layout = s.layout;
@@ -43,8 +42,7 @@ slot_reshapes l h o k v x = record {
 
 pub element_reshapes : (l : LinkedFile) (h : Heap) (o k : ℕ) (v : Value) → Exists l h v → Reshapes l h o (with_element k v)
 element_reshapes l h o k v x = record {
-    layout = λ ob. refl;
-    what = λ ob. refl;
+    keeps = λ ob. record { layout = refl; delegate = refl; what = refl };
     slots = λ ob. refl;
     stands = λ ob at s. record {
       layout = s.layout;
@@ -67,8 +65,7 @@ object_there [] o ob e = absurd cc
 
 pub new_element_reshapes : (l : LinkedFile) (h : Heap) (o : ℕ) (v : Value) → is_array (object_at h.objects o).what ≡ true → Exists l h v → Reshapes l h o (with_new_element v)
 new_element_reshapes l h o v w x = record {
-    layout = λ ob. refl;
-    what = λ ob. refl;
+    keeps = λ ob. record { layout = refl; delegate = refl; what = refl };
     slots = λ ob. refl;
     stands = λ ob at s. record {
       layout = s.layout;
@@ -105,8 +102,7 @@ delete_stands l h ps (Some i) e = each_set (IsProperty l h) ps i None e tt
 
 pub put_reshapes : (l : LinkedFile) (h : Heap) (o : ℕ) (f : Span → List ℕ) (t : List ℕ) (n : Span) (v : Value) → IsText l.file.strings h n → Exists l h v → Reshapes l h o (with_put f t n v)
 put_reshapes l h o f t n v name x = record {
-    layout = λ ob. refl;
-    what = λ ob. refl;
+    keeps = λ ob. record { layout = refl; delegate = refl; what = refl };
     slots = λ ob. refl;
     stands = λ ob at s. record {
       layout = s.layout;
@@ -124,8 +120,7 @@ put_reshapes l h o f t n v name x = record {
 
 pub delete_reshapes : (l : LinkedFile) (h : Heap) (o : ℕ) (f : Span → List ℕ) (t : List ℕ) → Reshapes l h o (with_delete f t)
 delete_reshapes l h o f t = record {
-    layout = λ ob. refl;
-    what = λ ob. refl;
+    keeps = λ ob. record { layout = refl; delegate = refl; what = refl };
     slots = λ ob. refl;
     stands = λ ob at s. record {
       layout = s.layout;

@@ -11,15 +11,18 @@ use Rattle.abc_heap.specs.declared.records.ScopeNode.{ScopeNode}
 use Rattle.abc_heap.specs.declared.store.ClassParts.{ClassParts}
 use Rattle.abc_heap.specs.declared.records.What.{What}
 use Rattle.abc_heap.specs.declared.records.What.TheVariants as whats
-use Rattle.abc_heap.specs.Heap.{Heap, Object, obj_id, slots_of as slots_of_object}
+use Rattle.abc_heap.specs.Heap.{Heap, Object, obj_id, object_at, slots_of as slots_of_object}
 use Rattle.abc_cells.specs.declared.values.Value.TheVariants as values
 use Rattle.abc_heap.specs.Texts.{IsText}
 use Rattle.abc_heap.specs.What.{is_array}
-use Rattle.abc_program.specs.Linked.{LinkedFile, layout_of}
+use Rattle.abc_program.specs.Linked.{LinkedFile, IsLinkedFile, layout_of}
 use Rattle.abc_program.specs.Places.{host_number}
 use Rattle.abc_program.specs.Slots.{slots_of}
 use Rattle.abc_program.specs.declared.part.Part.TheVariants as parts
 use Rattle.abc_objects.specs.Fixed.{fixed_bytes}
+use Rattle.abc_objects.specs.Growing.{Keeps}
+use Rattle.abc_objects.specs.Opening.{opening_objects, opening_scopes}
+use Rattle.abc_objects.specs.Starts.{StartsExist}
 use Rattle.abc_objects.specs.Values.{Exists, IsObject}
 
 -- a scope, or none
@@ -130,9 +133,23 @@ prototype_of h o = object_in (slice_get (slots_of_object h.objects o) 0)
 abbrev pub array_prototype : Heap → Option ObjId
 array_prototype h = prototype_of h (host_class_number hosts.Array)
 
+-- the object is there, and has the layout, the delegate and what it is of the one that was made
+abbrev pub IsMadeAs : Heap → ObjId → Object → Type 0
+IsMadeAs h o made = IsObject h o × Keeps made (object_at h.objects o.0)
+
+-- the objects of the opening keep what they were made as, and its scopes stand first
+pub record HasOpening (l : LinkedFile) (h : Heap) : Type 0 where
+  pub objects : (o : ℕ) (ob : Object) → slice_get (opening_objects l h.formulas) o ≡ Some ob → IsMadeAs h (obj_id o) ob
+  pub scopes : (s : ℕ) (n : ScopeNode) → slice_get (opening_scopes l (length h.formulas)) s ≡ Some n → slice_get h.scopes s ≡ Some n
+  pub few : length h.formulas ≤ 64
+
 pub record StandsOver (l : LinkedFile) (h : Heap) : Type 0 where
-  -- the fixed texts stand first
+  -- the file is linked, and the values with which slots start exist
+  pub linked : IsLinkedFile l
+  pub starts : StartsExist l
+  pub opening : HasOpening l h
   pub hosts : HasPrototypes h
+  -- the fixed texts stand first
   pub fixed : (names : List ℕ) × (h.fixed ≡ fixed_bytes ++ names)
   pub objects : (o : ℕ) (ob : Object) → slice_get h.objects o ≡ Some ob → ObjectStands l h o ob
   pub scopes : (s : ℕ) (n : ScopeNode) → slice_get h.scopes s ≡ Some n → ScopeStands h s n

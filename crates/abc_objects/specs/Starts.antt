@@ -45,9 +45,12 @@ StartExists l (starts.Space n) = IsSpace l n
 StartExists l other = Unit {0}
 
 -- so is each slot's start, and slots can be counted
-pub record StartsExist (l : LinkedFile) : Type 0 where
-  pub each : (x k : ℕ) (s : SlotInfo) → slice_get (slots_of l x) k ≡ Some s → StartExists l s.start
-  pub few : (x : ℕ) → length (slots_of l x) < 2 ^ 32
+pub record StartsIn (l : LinkedFile) (slots : List SlotInfo) : Type 0 where
+  pub each : (k : ℕ) (s : SlotInfo) → slice_get slots k ≡ Some s → StartExists l s.start
+  pub few : length slots < 2 ^ 32
+
+abbrev pub StartsExist : LinkedFile → Type 0
+StartsExist l = (x : ℕ) → x < length l.parts → StartsIn l (slots_of l x)
 
 abbrev pub IsShortStart : List (List ℕ) → Start → Type 0
 IsShortStart pool x = (i : ℕ) → x ≡ starts.Text i → IsShort pool i

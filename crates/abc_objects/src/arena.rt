@@ -1,4 +1,4 @@
-ghost use Rattle.std.specs.Prelude.{◌≡◌, ◌≢◌, ◌<◌, ◌≤◌, ◌+◌, ◌-◌, ◌^◌, ◌++◌, length, true, false, Some, None, slice_get, get_or, replicate, is_some, MatchResult};
+ghost use Rattle.std.specs.Prelude.{◌≡◌, ◌≢◌, ◌<◌, ◌≤◌, ◌+◌, ◌-◌, ◌^◌, ◌++◌, length, true, false, Some, None, slice_get, get_or, replicate, is_some, MatchResult, IfOk};
 ghost use Rattle.abc_cells.specs.declared.values.Value.TheVariants.{Undefined};
 ghost use Rattle.std.specs.Fmt.{signed_decimal};
 ghost use Rattle.abc_base.specs.Ranges.{IsNumber};
@@ -12,20 +12,23 @@ ghost use Rattle.abc_base.specs.declared.names.HostClass.TheVariants.{Function, 
 ghost use Rattle.abc_program.specs.Linked.{LinkedFile, IsLayout};
 ghost use Rattle.abc_program.specs.Places.{host_number};
 ghost use Rattle.abc_objects.specs.Fixed.{fixed_span, fixed_name};
-ghost use Rattle.abc_objects.specs.Stands.{StandsOver, IsObjectOrNone, IsScope, NamesParts, IsMadeAlone, AreEntries, Each, array_layout, array_prototype, class_object_layout, class_parts, host_class_number, host_layout, prototype_of};
+ghost use Rattle.abc_objects.specs.Opening.{IsOpened, IsUnopened, class_object as class_object_of, entry_of, formula_names, global_number, global_object, host_object as host_object_of, host_object_number, opening_counts, property_names};
+ghost use Rattle.abc_objects.specs.Stands.{StandsOver, IsMadeAs, IsObjectOrNone, IsScope, NamesParts, IsMadeAlone, AreEntries, Each, array_layout, array_prototype, class_object_layout, class_parts, host_class_number, host_layout, prototype_of};
 ghost use Rattle.abc_objects.specs.Starts.{start_values};
 ghost use Rattle.abc_objects.specs.Values.{Exists, Holds, IsObject, slot_kind};
 
+use crate::error::OpenError;
 use crate::fixed::FixedText;
-use crate::program::Program;
-use crate::starts::LayoutStarts;
-use abc_base::HostClass;
+use crate::opening::open_store;
+use crate::starts::starts_of;
+use abc_base::{Host, HostClass};
 use abc_cells::{ObjId, Span, Value};
 use abc_heap::{ClassParts, Full, Limits, ScopeEntry, ScopeId, ScopeNode, Store, What};
-use abc_program::{LayoutId, Part};
+use abc_link::{LayoutId, Linked, Part};
+use std::alloc::Global;
 use std::marker::Model;
 
-/// The objects, captured scopes and texts of a run. No call takes memory.
+/// The objects, captured scopes and texts of a run. No call but `open` takes memory.
 #[derive(Debug, Drop)]
 pub struct Arena {
     store: Store,
@@ -40,6 +43,20 @@ impl Model for Arena {
 }
 
 impl Arena {
+    /// Opens an arena over a file, with what every run begins with: the prototypes of the host's classes, their class
+    /// objects, `trace`, the formulas, the host object, and the global objects with their scope entries. It answers
+    /// `TooSmall` exactly where there are more objects or, tried next, more cells of these than the limits allow. A start
+    /// value that is none of a machine, as no file that bytes spell has one, is answered as want of memory.
+    pub fn open<H: Host>(alloc: Global, l: &Linked, limits: &Limits, host: &H) -> Result<Arena, OpenError>
+        ensures opened { MatchResult result (IsOpened l.now (formula_names (H.formulas host.now)) limits.now) (IsUnopened (opening_counts l.now (length (H.formulas host.now))) limits.now) }
+        ensures counts { IfOk result (λ a. ledger a ≡ opening_counts l.now (length (H.formulas host.now))) }
+        ensures over { IfOk result (λ a. StandsOver l.now a) }
+    {
+        l.linked_law();
+        let store = open_store(alloc, l, limits, host)?;
+        Ok(Arena { store })
+    }
+
     /// How much of each limit is used.
     pub fn counts(&self) -> Limits
         ensures { result ≡ ledger self.now }
@@ -49,34 +66,34 @@ impl Arena {
 
     /// Makes an object of a layout, last, with the slots of the layout at their start values. It is a plain object, a
     /// function, an activation or a catch object.
-    pub fn new_object<L: Program>(&mut self, l: &L, layout: LayoutId, delegate: Option<ObjId>, what: What) -> Result<ObjId, Full>
-        requires over { StandsOver (L.linked l.now) self.old }
-        requires layout { IsLayout (L.linked l.now) layout }
-        requires no_array { layout.0 ≢ array_layout (L.linked l.now) }
+    pub fn new_object(&mut self, l: &Linked, layout: LayoutId, delegate: Option<ObjId>, what: What) -> Result<ObjId, Full>
+        requires over { StandsOver l.now self.old }
+        requires layout { IsLayout l.now layout }
+        requires no_array { layout.0 ≢ array_layout l.now }
         requires delegate { IsObjectOrNone self.old delegate }
         requires what { IsMadeAlone what }
-        requires names { NamesParts (L.linked l.now) self.old what }
-        ensures made { MatchResult result (λ o. IsMade self.old self.new o (start_values (L.linked l.now) layout.0) layout.0 delegate what) (λ e. IsFullOf self.old self.new 1 (length (start_values (L.linked l.now) layout.0)) e) }
-        ensures over { StandsOver (L.linked l.now) self.new }
+        requires names { NamesParts l.now self.old what }
+        ensures made { MatchResult result (λ o. IsMade self.old self.new o (start_values l.now layout.0) layout.0 delegate what) (λ e. IsFullOf self.old self.new 1 (length (start_values l.now layout.0)) e) }
+        ensures over { StandsOver l.now self.new }
     {
-        let starts = LayoutStarts::new(&l.abc().strings, l.slots(layout));
+        let starts = starts_of(l, layout);
         self.store.new_object(layout.0, delegate, what, &starts)
     }
 
     /// Makes an unbound function, last, which keeps scopes above the saved one.
-    pub fn new_function<L: Program>(&mut self, l: &L, method: u32, home: u32, delegate: Option<ObjId>, saved: Option<ScopeId>, scopes: &[ScopeEntry]) -> Result<ObjId, Full>
-        requires over { StandsOver (L.linked l.now) self.old }
-        requires method { method < length (L.linked l.now).file.methods }
-        requires home { home < length (L.linked l.now).file.scripts }
+    pub fn new_function(&mut self, l: &Linked, method: u32, home: u32, delegate: Option<ObjId>, saved: Option<ScopeId>, scopes: &[ScopeEntry]) -> Result<ObjId, Full>
+        requires over { StandsOver l.now self.old }
+        requires method { method < length l.now.file.methods }
+        requires home { home < length l.now.file.scripts }
         requires delegate { IsObjectOrNone self.old delegate }
         requires saved { IsScope self.old saved }
         requires scopes { AreEntries self.old scopes.now }
         requires few { length scopes.now < 2 ^ 32 }
-        ensures made { MatchResult result (λ o. IsFunctionMade self.old self.new o (start_values (L.linked l.now) (host_layout (L.linked l.now) Function)) (host_layout (L.linked l.now) Function) method home delegate saved scopes.now) (λ e. IsFullOf self.old self.new 1 (length (start_values (L.linked l.now) (host_layout (L.linked l.now) Function)) + length scopes.now) e) }
-        ensures over { StandsOver (L.linked l.now) self.new }
+        ensures made { MatchResult result (λ o. IsFunctionMade self.old self.new o (start_values l.now (host_layout l.now Function)) (host_layout l.now Function) method home delegate saved scopes.now) (λ e. IsFullOf self.old self.new 1 (length (start_values l.now (host_layout l.now Function)) + length scopes.now) e) }
+        ensures over { StandsOver l.now self.new }
     {
         let layout = l.layout_of(Part::Host(HostClass::Function));
-        let starts = LayoutStarts::new(&l.abc().strings, l.slots(layout));
+        let starts = starts_of(l, layout);
         self.store.new_function(layout.0, method, home, delegate, saved, scopes, &starts)
     }
 
@@ -93,31 +110,57 @@ impl Arena {
 
     /// The class object of a host class.
     pub fn host_class(&self, class: HostClass) -> ObjId
-        ensures { result.0 ≡ host_class_number class }
+        ensures number { result.0 ≡ host_class_number class }
+        ensures is { (l : LinkedFile) → StandsOver l self.now → IsMadeAs self.now result (class_object_of l class) }
     {
         ObjId(14 + class_number(class))
     }
 
+    /// The host object.
+    pub fn host_object(&self) -> ObjId
+        requires { (l : LinkedFile) × StandsOver l self.now }
+        ensures number { result.0 ≡ host_object_number (length self.now.formulas) }
+        ensures is { (l : LinkedFile) → StandsOver l self.now → IsMadeAs self.now result (host_object_of l (property_names self.now.formulas)) }
+    {
+        ObjId(29 + self.store.formulas() as u32)
+    }
+
+    /// The global object of a script.
+    pub fn global(&self, script: u32) -> ObjId
+        requires { (l : LinkedFile) × StandsOver l self.now × (script < length l.file.scripts) }
+        ensures number { result.0 ≡ global_number (length self.now.formulas) script }
+        ensures is { (l : LinkedFile) → StandsOver l self.now → script < length l.file.scripts → IsMadeAs self.now result (global_object l script) }
+    {
+        ObjId(30 + self.store.formulas() as u32 + script)
+    }
+
+    /// The scope entry of a script's global object.
+    pub fn global_scope(&self, script: u32) -> ScopeId
+        ensures number { result.0 ≡ script }
+        ensures is { (l : LinkedFile) → StandsOver l self.now → script < length l.file.scripts → slice_get self.now.scopes result.0 ≡ Some (entry_of (global_number (length self.now.formulas) script)) }
+    {
+        ScopeId(script)
+    }
+
     /// Makes a class object and its prototype object, last, which its prototype slot holds. The class keeps scopes above
     /// the saved one for its static methods, and itself above these for those of its instances.
-    pub fn new_class<L: Program>(&mut self, l: &L, class: u32, home: u32, base_prototype: Option<ObjId>, delegate: Option<ObjId>, saved: Option<ScopeId>, scopes: &[ScopeEntry]) -> Result<ObjId, Full>
-        requires over { StandsOver (L.linked l.now) self.old }
-        requires class { class < length (L.linked l.now).file.instances }
+    pub fn new_class(&mut self, l: &Linked, class: u32, home: u32, base_prototype: Option<ObjId>, delegate: Option<ObjId>, saved: Option<ScopeId>, scopes: &[ScopeEntry]) -> Result<ObjId, Full>
+        requires over { StandsOver l.now self.old }
+        requires class { class < length l.now.file.instances }
         requires first { get_or self.old.classes class None ≡ None }
-        requires home { home < length (L.linked l.now).file.scripts }
+        requires home { home < length l.now.file.scripts }
         requires base_prototype { IsObjectOrNone self.old base_prototype }
         requires delegate { IsObjectOrNone self.old delegate }
         requires saved { IsScope self.old saved }
         requires scopes { AreEntries self.old scopes.now }
         requires few { length scopes.now < 2 ^ 32 }
-        ensures made { MatchResult result (λ o. IsClassMade self.old self.new o (start_values (L.linked l.now) (host_layout (L.linked l.now) Object)) (start_values (L.linked l.now) (class_object_layout (L.linked l.now) class)) (class_parts (L.linked l.now) class home base_prototype delegate) saved scopes.now) (λ e. IsFullOf self.old self.new 2 (length (start_values (L.linked l.now) (host_layout (L.linked l.now) Object)) + length (start_values (L.linked l.now) (class_object_layout (L.linked l.now) class)) + length scopes.now + 1) e) }
-        ensures over { StandsOver (L.linked l.now) self.new }
+        ensures made { MatchResult result (λ o. IsClassMade self.old self.new o (start_values l.now (host_layout l.now Object)) (start_values l.now (class_object_layout l.now class)) (class_parts l.now class home base_prototype delegate) saved scopes.now) (λ e. IsFullOf self.old self.new 2 (length (start_values l.now (host_layout l.now Object)) + length (start_values l.now (class_object_layout l.now class)) + length scopes.now + 1) e) }
+        ensures over { StandsOver l.now self.new }
     {
         let prototype_layout = l.layout_of(Part::Host(HostClass::Object));
         let class_layout = l.layout_of(Part::ClassObject(class));
-        let pool = &l.abc().strings;
-        let prototype_starts = LayoutStarts::new(pool, l.slots(prototype_layout));
-        let class_starts = LayoutStarts::new(pool, l.slots(class_layout));
+        let prototype_starts = starts_of(l, prototype_layout);
+        let class_starts = starts_of(l, class_layout);
         let parts = ClassParts {
             class,
             home,
@@ -130,11 +173,11 @@ impl Arena {
     }
 
     /// Makes an array of some values, last. Its delegate is the prototype of Array.
-    pub fn new_array<L: Program>(&mut self, l: &L, elements: &[Value]) -> Result<ObjId, Full>
-        requires over { StandsOver (L.linked l.now) self.old }
-        requires values { Each (Exists (L.linked l.now) self.old) elements.now }
-        ensures made { MatchResult result (λ o. IsArrayMade self.old self.new o elements.now (array_layout (L.linked l.now)) (array_prototype self.old)) (λ e. IsFullOf self.old self.new 1 (length elements.now) e) }
-        ensures over { StandsOver (L.linked l.now) self.new }
+    pub fn new_array(&mut self, l: &Linked, elements: &[Value]) -> Result<ObjId, Full>
+        requires over { StandsOver l.now self.old }
+        requires values { Each (Exists l.now self.old) elements.now }
+        ensures made { MatchResult result (λ o. IsArrayMade self.old self.new o elements.now (array_layout l.now) (array_prototype self.old)) (λ e. IsFullOf self.old self.new 1 (length elements.now) e) }
+        ensures over { StandsOver l.now self.new }
     {
         let layout = l.layout_of(Part::Host(HostClass::Array));
         let delegate = self.prototype(HostClass::Array);
@@ -142,10 +185,10 @@ impl Arena {
     }
 
     /// Makes an array of some elements that are undefined, last. Its delegate is the prototype of Array.
-    pub fn new_undefined<L: Program>(&mut self, l: &L, count: u32) -> Result<ObjId, Full>
-        requires over { StandsOver (L.linked l.now) self.old }
-        ensures made { MatchResult result (λ o. IsArrayMade self.old self.new o (replicate count Undefined) (array_layout (L.linked l.now)) (array_prototype self.old)) (λ e. IsFullOf self.old self.new 1 count e) }
-        ensures over { StandsOver (L.linked l.now) self.new }
+    pub fn new_undefined(&mut self, l: &Linked, count: u32) -> Result<ObjId, Full>
+        requires over { StandsOver l.now self.old }
+        ensures made { MatchResult result (λ o. IsArrayMade self.old self.new o (replicate count Undefined) (array_layout l.now) (array_prototype self.old)) (λ e. IsFullOf self.old self.new 1 count e) }
+        ensures over { StandsOver l.now self.new }
     {
         let layout = l.layout_of(Part::Host(HostClass::Array));
         let delegate = self.prototype(HostClass::Array);
@@ -185,48 +228,48 @@ impl Arena {
     }
 
     /// Writes a slot. The value is of the kind of the slot's type.
-    pub fn set_slot<L: Program>(&mut self, l: &L, o: ObjId, k: u32, v: Value)
-        requires over { StandsOver (L.linked l.now) self.old }
+    pub fn set_slot(&mut self, l: &Linked, o: ObjId, k: u32, v: Value)
+        requires over { StandsOver l.now self.old }
         requires slot { k < length (slots_of self.old.objects o.0) }
-        requires value { Exists (L.linked l.now) self.old v }
-        requires kind { Holds (L.linked l.now) self.old (slot_kind (L.linked l.now) self.old o k) v }
+        requires value { Exists l.now self.old v }
+        requires kind { Holds l.now self.old (slot_kind l.now self.old o k) v }
         ensures heap { self.new ≡ with_object (with_slot k v) o.0 self.old }
-        ensures over { StandsOver (L.linked l.now) self.new }
+        ensures over { StandsOver l.now self.new }
     {
         let _ = l;
         self.store.set_slot(o, k, v);
     }
 
     /// The value of an own property, or `None` where the object has none of that text.
-    pub fn property<L: Program>(&self, l: &L, o: ObjId, name: Span) -> Option<Value>
-        requires over { StandsOver (L.linked l.now) self.now }
+    pub fn property(&self, l: &Linked, o: ObjId, name: Span) -> Option<Value>
+        requires over { StandsOver l.now self.now }
         requires inside { IsObject self.now o }
-        requires name { IsText (L.linked l.now).file.strings self.now name }
-        ensures { result ≡ property_in_heap (L.linked l.now).file.strings self.now o.0 name }
+        requires name { IsText l.now.file.strings self.now name }
+        ensures { result ≡ property_in_heap l.now.file.strings self.now o.0 name }
     {
         self.store.property(&l.abc().strings, o, name)
     }
 
     /// Writes a property: an own one takes the value, else a new one is made, last.
-    pub fn set_property<L: Program>(&mut self, l: &L, o: ObjId, name: Span, v: Value) -> Result<(), Full>
-        requires over { StandsOver (L.linked l.now) self.old }
+    pub fn set_property(&mut self, l: &Linked, o: ObjId, name: Span, v: Value) -> Result<(), Full>
+        requires over { StandsOver l.now self.old }
         requires inside { IsObject self.old o }
-        requires name { IsText (L.linked l.now).file.strings self.old name }
-        requires value { Exists (L.linked l.now) self.old v }
-        ensures put { MatchResult result (λ _. Fits self.old self.new (cells_to_put (place_in (L.linked l.now).file.strings self.old o.0 name)) (with_object (with_put (text_of (L.linked l.now).file.strings self.old) (text_of (L.linked l.now).file.strings self.old name) name v) o.0 self.old)) (λ e. IsFull self.old self.new (cells_used self.old) (cells_to_put (place_in (L.linked l.now).file.strings self.old o.0 name)) self.old.limits.cells Cells e) }
-        ensures over { StandsOver (L.linked l.now) self.new }
+        requires name { IsText l.now.file.strings self.old name }
+        requires value { Exists l.now self.old v }
+        ensures put { MatchResult result (λ _. Fits self.old self.new (cells_to_put (place_in l.now.file.strings self.old o.0 name)) (with_object (with_put (text_of l.now.file.strings self.old) (text_of l.now.file.strings self.old name) name v) o.0 self.old)) (λ e. IsFull self.old self.new (cells_used self.old) (cells_to_put (place_in l.now.file.strings self.old o.0 name)) self.old.limits.cells Cells e) }
+        ensures over { StandsOver l.now self.new }
     {
         self.store.set_property(&l.abc().strings, o, name, v)
     }
 
     /// Deletes an own property, and tells whether there was one. Its position stays empty.
-    pub fn delete_property<L: Program>(&mut self, l: &L, o: ObjId, name: Span) -> bool
-        requires over { StandsOver (L.linked l.now) self.old }
+    pub fn delete_property(&mut self, l: &Linked, o: ObjId, name: Span) -> bool
+        requires over { StandsOver l.now self.old }
         requires inside { IsObject self.old o }
-        requires name { IsText (L.linked l.now).file.strings self.old name }
-        ensures was { result ≡ is_some (place_in (L.linked l.now).file.strings self.old o.0 name) }
-        ensures heap { self.new ≡ with_object (with_delete (text_of (L.linked l.now).file.strings self.old) (text_of (L.linked l.now).file.strings self.old name)) o.0 self.old }
-        ensures over { StandsOver (L.linked l.now) self.new }
+        requires name { IsText l.now.file.strings self.old name }
+        ensures was { result ≡ is_some (place_in l.now.file.strings self.old o.0 name) }
+        ensures heap { self.new ≡ with_object (with_delete (text_of l.now.file.strings self.old) (text_of l.now.file.strings self.old name)) o.0 self.old }
+        ensures over { StandsOver l.now self.new }
     {
         self.store.delete_property(&l.abc().strings, o, name)
     }
@@ -316,12 +359,12 @@ impl Arena {
     }
 
     /// Makes a text of two.
-    pub fn text_join<L: Program>(&mut self, l: &L, a: Span, b: Span) -> Result<Span, Full>
-        requires over { StandsOver (L.linked l.now) self.old }
-        requires a { IsText (L.linked l.now).file.strings self.old a }
-        requires b { IsText (L.linked l.now).file.strings self.old b }
-        ensures made { MatchResult result (λ s. IsTextMade self.old self.new s (text_of (L.linked l.now).file.strings self.old a ++ text_of (L.linked l.now).file.strings self.old b)) (λ e. IsFull self.old self.new (length self.old.made) (a.len + b.len) self.old.limits.text Text e) }
-        ensures over { StandsOver (L.linked l.now) self.new }
+    pub fn text_join(&mut self, l: &Linked, a: Span, b: Span) -> Result<Span, Full>
+        requires over { StandsOver l.now self.old }
+        requires a { IsText l.now.file.strings self.old a }
+        requires b { IsText l.now.file.strings self.old b }
+        ensures made { MatchResult result (λ s. IsTextMade self.old self.new s (text_of l.now.file.strings self.old a ++ text_of l.now.file.strings self.old b)) (λ e. IsFull self.old self.new (length self.old.made) (a.len + b.len) self.old.limits.text Text e) }
+        ensures over { StandsOver l.now self.new }
     {
         self.store.text_join(&l.abc().strings, a, b)
     }
@@ -336,9 +379,9 @@ impl Arena {
     }
 
     /// The bytes of a text.
-    pub fn text_bytes<'a, L: Program>(&'a self, l: &'a L, s: Span) -> &'a [u8]
-        requires { IsText (L.linked l.now).file.strings self.now s }
-        ensures { result.now ≡ text_of (L.linked l.now).file.strings self.now s }
+    pub fn text_bytes<'a>(&'a self, l: &'a Linked, s: Span) -> &'a [u8]
+        requires { IsText l.now.file.strings self.now s }
+        ensures { result.now ≡ text_of l.now.file.strings self.now s }
     {
         self.store.text_bytes(&l.abc().strings, s)
     }
@@ -363,7 +406,7 @@ impl Arena {
 }
 
 /// The position of a host class among the fourteen.
-fn class_number(class: HostClass) -> u32
+pub(crate) fn class_number(class: HostClass) -> u32
     ensures { result ≡ host_number class }
 {
     match class {

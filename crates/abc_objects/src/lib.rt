@@ -3,13 +3,17 @@
 #![tactic(auto)]
 
 mod arena;
+mod counts;
+mod error;
 mod fixed;
-mod program;
+mod opening;
+mod sound;
 mod starts;
+mod texts;
 
 pub use abc_cells::{ObjId, Span, Value};
 pub use abc_heap::{Full, Limit, Limits, ScopeEntry, ScopeId, ScopeNode, What};
 pub use arena::Arena;
+pub use error::OpenError;
 pub use fixed::FixedText;
-pub use program::Program;
 pub use starts::span_of_string;

@@ -1,13 +1,14 @@
 ghost use Rattle.std.specs.Prelude.{◌≡◌, length, map};
 ghost use Rattle.abc_heap.specs.Texts.{pool_text};
-ghost use Rattle.abc_objects.specs.Starts.{CanStart, IsShort, IsShortStart, start_value, string_span};
+ghost use Rattle.abc_program.specs.Linked.{IsLayout};
+ghost use Rattle.abc_program.specs.Slots.{slots_of};
+ghost use Rattle.abc_objects.specs.Starts.{CanStart, IsShort, IsShortStart, StartsExist, start_value, string_span};
 
 use crate::fixed::FixedText;
 use abc_base::{Bytes, Table};
 use abc_cells::{Span, Value};
 use abc_heap::Starts;
-use abc_program::SlotInfo;
-use abc_rules::Start;
+use abc_link::{LayoutId, Linked, SlotInfo, Start};
 
 /// The values with which the slots of a layout start.
 #[derive(Clone, Copy)]
@@ -26,6 +27,16 @@ impl<'a> LayoutStarts<'a> {
     {
         LayoutStarts { pool, slots }
     }
+}
+
+/// The starts of the slots of a layout.
+pub(crate) fn starts_of(l: &Linked, layout: LayoutId) -> LayoutStarts
+    requires layout { IsLayout l.now layout }
+    requires starts { StartsExist l.now }
+    ensures pool { result.pool.now ≡ l.now.file.strings }
+    ensures slots { result.slots.now ≡ slots_of l.now layout.0 }
+{
+    LayoutStarts::new(&l.abc().strings, l.slots(layout))
 }
 
 impl<'a> Starts for LayoutStarts<'a> {
@@ -71,21 +82,20 @@ pub fn span_of_string(pool: &Table<Bytes>, i: u32) -> Span
     Span {
         part: i + 2,
         start: 0,
-        len: length_of_string(pool, i),
+        len: string_length(pool, i) as u32,
     }
 }
 
 /// How many bytes a string of the pool has.
 #[tactic(auto, using(crate::proofs::Made::past_pool_text))]
-fn length_of_string(pool: &Table<Bytes>, i: u32) -> u32
-    requires { IsShort pool.now i }
+pub(crate) fn string_length(pool: &Table<Bytes>, i: u32) -> usize
     ensures { result ≡ length (pool_text pool.now i) }
 {
     if i == 0 {
         return 0;
     }
     match pool.find(i as usize - 1) {
-        Some(text) => text.len() as u32,
+        Some(text) => text.len(),
         None => 0,
     }
 }

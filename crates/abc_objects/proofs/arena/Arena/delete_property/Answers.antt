@@ -18,15 +18,15 @@ use Rattle.abc_objects.proofs.Ways.{either_way, starts_are}
 use Rattle.abc_objects.proofs.arena.Arena.delete_property.Goals as goal
 
 pub delete_property-requires-clause-named : goal.delete_property-requires-clause-named
-delete_property-requires-clause-named g c =
-    let l = g.L.Program.linked c.args.l.now in
+delete_property-requires-clause-named c =
+    let l = c.args.l.now in
     let h = c.self.inside.store in
     let s = subst (StandsOver l) (sym c.self.view_is) c.requires.over in
     subst (λ (a : Abc). AreNamed a.strings h) (sym c.abc.ensures) (are_named l h s)
 
 pub returns-clause-over : goal.returns-clause-over
-returns-clause-over g c =
-    let l = g.L.Program.linked c.args.l.now in
+returns-clause-over c =
+    let l = c.args.l.now in
     let h = c.self.inside.store in
     let s = subst (StandsOver l) (sym c.self.view_is) c.requires.over in
     let pool = c.abc.result.now.strings in

@@ -18,8 +18,8 @@ use Rattle.abc_objects.proofs.Ways.{either_way, starts_are}
 use Rattle.abc_objects.proofs.arena.Arena.property.Goals as goal
 
 pub property-requires-clause-named : goal.property-requires-clause-named
-property-requires-clause-named g c =
-    let l = g.L.Program.linked c.args.l.now in
+property-requires-clause-named c =
+    let l = c.args.l.now in
     let h = c.self.inside.store in
     let s = subst (StandsOver l) (sym c.self.view_is) c.requires.over in
     subst (λ (a : Abc). AreNamed a.strings h) (sym c.abc.ensures) (are_named l h s)

@@ -18,8 +18,8 @@ use Rattle.abc_objects.proofs.Ways.{either_way, starts_are}
 use Rattle.abc_objects.proofs.arena.Arena.text_join.Goals as goal
 
 pub returns-clause-over : goal.returns-clause-over
-returns-clause-over g c =
-    let l = g.L.Program.linked c.args.l.now in
+returns-clause-over c =
+    let l = c.args.l.now in
     let h = c.self.inside.store in
     let s = subst (StandsOver l) (sym c.self.view_is) c.requires.over in
     either_way (StandsOver l c.text_join.new.self) c.text_join.result _ _ c.text_join.ensures

@@ -1,0 +1,5 @@
+pub mod Values
+pub mod Stands
+pub mod Growing
+pub mod Fixed
+pub mod Starts
