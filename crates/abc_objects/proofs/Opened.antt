@@ -1,8 +1,10 @@
 -- The objects of the opening stand over the file.
 use Rattle.std.proofs.Common.{◌≡◌, ◌≢◌, ℕ, zero, suc, ◌+◌, ◌<◌, ◌≤◌, List, [], ◌∷◌, ◌++◌, Option, Some, None, length, map, set, true, false, refl, sym, ap, ◌∙◌, subst, arith, length-append}
 use Rattle.std.specs.List.{concat, range_with_len}
-use Rattle.std.specs.Prelude.{slice_get, option_map, replicate}
+use Rattle.std.specs.Prelude.{codes, slice_get, option_map, replicate}
 use Rattle.std.proofs.lemmas.List.{length-map, length-set, length-replicate}
+use Rattle.std.proofs.lemmas.Option.{slice_get_within}
+use Rattle.abc_base.specs.Names.{class_name}
 use Rattle.std.proofs.lemmas.List.FromFn.{length-map-range_with_len}
 use Rattle.abc_base.specs.declared.names.HostClass.{HostClass}
 use Rattle.abc_base.specs.declared.names.HostClass.TheVariants as hosts
@@ -180,7 +182,9 @@ pub objects_length : (l : LinkedFile) (fs : List (List ℕ)) → length (opening
 objects_length l fs = omega (arith, four_length l fs, globals_length l (length l.file.scripts), length-append (protos l ++ natives l ++ function_objects l (length fs) ++ host_object l (property_names fs) ∷ []) (map (global_object l) (range_with_len 0 (length l.file.scripts))))
 
 pub names_length : (fs : List (List ℕ)) → length (property_names fs) ≡ 15 + length fs
-names_length fs = omega arith
+names_length fs =
+    let a : length (map class_name host_classes) ≡ 14 = refl in
+    omega (arith, a, length-append (map class_name host_classes) (codes "trace" ∷ fs))
 
 functions_open : (l : LinkedFile) (h : Heap) (n : ℕ) → 62 ≤ length h.fixed → IsLinkedFile l → StartsExist l → n ≤ length h.formulas → From (Opens l h) 28 (function_objects l n)
 functions_open l h n f t e b zero x q =
@@ -194,31 +198,26 @@ functions_open l h n f t e b (suc k) x q =
 pub objects_open : (l : LinkedFile) (h : Heap) (fs : List (List ℕ)) → 62 + length (concat (property_names fs)) ≤ length h.fixed → IsLinkedFile l → StartsExist l → h.formulas ≡ fs → 30 + length fs + length l.file.scripts ≤ length h.objects → From (Opens l h) 0 (opening_objects l fs)
 objects_open l h fs f t e same n =
     let scripts = length l.file.scripts in
-    let one = protos l in
-    let two = natives l in
-    let three = function_objects l (length fs) in
-    let four = host_object l (property_names fs) ∷ [] in
-    let five = map (global_object l) (range_with_len 0 scripts) in
     let q62 : 62 ≤ length h.fixed = omega arith in
     let q14 : 14 ≤ length h.objects = omega arith in
     let count : length fs ≤ length h.formulas = omega (arith, ap length same) in
-    let a : From (Opens l h) 0 one = λ k x q.
+    let a : From (Opens l h) 0 (protos l) = λ k x q.
       let r = at_class (prototype_object l) k x q in
       let z : host_number r.0 ≡ 0 + k = omega (arith, r.1) in
       subst (Opens l h (0 + k)) r.2 (subst (λ i. Opens l h i (prototype_object l r.0)) z (prototype_opens l h r.0 q62 t e)) in
-    let b : From (Opens l h) 14 two = λ k x q.
+    let b : From (Opens l h) 14 (natives l) = λ k x q.
       let r = at_class (class_object l) k x q in
       subst (Opens l h (14 + k)) r.2 (class_opens l h (14 + k) r.0 q62 t e (omega arith) q14) in
-    let c : From (Opens l h) 28 three = functions_open l h (length fs) q62 t e count in
-    let d : From (Opens l h) (29 + length fs) four = λ k x q. host_at k x q in
-    let g : From (Opens l h) (30 + length fs) five = λ k x q.
+    let c : From (Opens l h) 28 (function_objects l (length fs)) = functions_open l h (length fs) q62 t e count in
+    let d : From (Opens l h) (29 + length fs) (host_object l (property_names fs) ∷ []) = λ k x q. host_at k x q in
+    let g : From (Opens l h) (30 + length fs) (map (global_object l) (range_with_len 0 scripts)) = λ k x q.
       let r = at_range (global_object l) 0 scripts k x q in
       let low : 0 + k < scripts = omega (arith, r.0) in
       subst (Opens l h (30 + length fs + k)) r.1 (global_opens l h (30 + length fs + k) (0 + k) q62 t e (omega arith) low) in
-    from_both (Opens l h) 0 (30 + length fs) (one ++ two ++ three ++ four) five (omega (arith, four_length l fs))
-      (from_both (Opens l h) 0 (29 + length fs) (one ++ two ++ three) four (omega (arith, three_length l (length fs)))
-        (from_both (Opens l h) 0 28 (one ++ two) three (omega (arith, two_length l))
-          (from_both (Opens l h) 0 14 one two refl a b) c) d) g
+    from_both (Opens l h) 0 (30 + length fs) (protos l ++ natives l ++ function_objects l (length fs) ++ host_object l (property_names fs) ∷ []) (map (global_object l) (range_with_len 0 scripts)) (omega (arith, four_length l fs))
+      (from_both (Opens l h) 0 (29 + length fs) (protos l ++ natives l ++ function_objects l (length fs)) (host_object l (property_names fs) ∷ []) (omega (arith, three_length l (length fs)))
+        (from_both (Opens l h) 0 28 (protos l ++ natives l) (function_objects l (length fs)) (omega (arith, two_length l))
+          (from_both (Opens l h) 0 14 (protos l) (natives l) refl a b) c) d) g
   where
     host_at : (k : ℕ) (x : Object) → slice_get (host_object l (property_names fs) ∷ []) k ≡ Some x → Opens l h (29 + length fs + k) x
     host_at zero x q =
@@ -250,6 +249,9 @@ global_there l fs s b =
 
 -- ---- the opening heap stands over its file
 
+abbrev no_object : Option ObjId
+no_object = None
+
 no_class_named : (n k o : ℕ) → slice_get (replicate n None) k ≡ Some (Some (obj_id o)) → ⊥
 no_class_named zero k o e = absurd cc
 no_class_named (suc n) zero o e = absurd cc
@@ -270,7 +272,7 @@ opening_stands l fs limits t e few =
       linked = t;
       starts = e;
       opening = record {
-        objects = λ o ob q. (inside h.objects o ob q, keeps_same ob (object_at h.objects o) (object_there h.objects o ob q));
+        objects = λ o ob q. (slice_get_within h.objects o ob q, keeps_same ob (object_at h.objects o) (object_there h.objects o ob q));
         scopes = λ s n q. q;
         few = few;
       };
@@ -285,15 +287,11 @@ opening_stands l fs limits t e few =
         let r = at_range (λ (i : ℕ). entry_of (global_number (length fs) i)) 0 scripts s n q in
         let own : ScopeStands h s (entry_of (global_number (length fs) (0 + s))) = record { object = omega (arith, r.0, count); parent = tt } in
         subst (ScopeStands h s) r.1 own;
-      counted = length-replicate (length l.file.instances) None;
+      counted = length-replicate (length l.file.instances) no_object;
       named = λ k o q. absurd (no_class_named (length l.file.instances) k o q);
       classes = λ k o c. absurd ((at_zero o c.object (each o c.object c.at)).1 k c.home c.statics c.instances c.is);
     }
   where
-    inside : (obs : List Object) (o : ℕ) (ob : Object) → slice_get obs o ≡ Some ob → o < length obs
-    inside (x ∷ obs) zero ob q = omega arith
-    inside (x ∷ obs) (suc o) ob q = let r = inside obs o ob q in omega arith
-    inside [] o ob q = absurd cc
     at_zero : (o : ℕ) (ob : Object) → Opens l (opening l fs limits) (0 + o) ob → Opens l (opening l fs limits) o ob
     at_zero o ob x = let z : 0 + o ≡ o = omega arith in subst (λ i. Opens l (opening l fs limits) i ob) z x
 

@@ -1,20 +1,25 @@
 -- The steps of the opening: what each adds to the heap, and the room that is left.
 use Rattle.std.proofs.Common.{◌≡◌, ℕ, zero, suc, ◌+◌, ◌*◌, ◌<◌, ◌≤◌, List, [], ◌∷◌, ◌++◌, Option, Some, None, length, map, take, get_or, refl, sym, ap, ◌∙◌, subst, arith, length-append, append_assoc, append-nil}
 use Rattle.std.specs.List.{concat, range_with_len, sum, sum_by}
-use Rattle.std.specs.Prelude.{slice_get}
+use Rattle.std.specs.Prelude.{◌^◌, All, codes, option_map, slice_get}
 use Rattle.std.proofs.lemmas.List.{length-map, length-set, length-take, map-append}
+use Rattle.std.proofs.lemmas.List.Elements.{All-head, All-tail}
 use Rattle.std.proofs.lemmas.List.FromFn.{length-map-range_with_len, map-range_with_len_more, take-map-range_with_len}
 use Rattle.std.proofs.lemmas.List.Sums.{sum_by-cons, sum_by-take-le, sum_by_push}
+use Rattle.abc_base.specs.Hosts.{AreFormulas, IsFormula, formula_at}
+use Rattle.abc_base.specs.Names.{class_name}
+use Rattle.abc_base.specs.declared.formula.Formula.{Formula}
 use Rattle.abc_base.specs.declared.names.HostClass.{HostClass}
 use Rattle.abc_base.specs.declared.names.HostClass.TheVariants as hosts
 use Rattle.abc_cells.proofs.Parts.{slice_get_seam}
+use Rattle.abc_cells.specs.declared.values.ObjId.{ObjId}
 use Rattle.abc_cells.specs.declared.values.Span.{Span}
 use Rattle.abc_cells.specs.declared.values.Value.{Value}
 use Rattle.abc_cells.specs.declared.values.Value.TheVariants as values
 use Rattle.abc_heap.proofs.Arrays.{length_change}
 use Rattle.abc_heap.proofs.Bytes.{take_next_or}
 use Rattle.abc_heap.proofs.Makes.{change_last}
-use Rattle.abc_heap.specs.Changes.{change, with_object, with_slot}
+use Rattle.abc_heap.specs.Changes.{change, with_made, with_object, with_scopes, with_slot}
 use Rattle.abc_heap.specs.Heap.{Heap, Object, HasRoomFor, all_cells, cells_of, cells_used, ledger, object_at, obj_id, slots_of as slots_of_object}
 use Rattle.abc_heap.specs.declared.records.Limits.{Limits}
 use Rattle.abc_heap.specs.declared.records.ScopeNode.{ScopeNode}
@@ -23,15 +28,17 @@ use Rattle.abc_heap.specs.declared.records.What.TheVariants as whats
 use Rattle.abc_names.specs.Meaning.{host_classes}
 use Rattle.abc_program.specs.Linked.{LinkedFile, IsLinkedFile, layout_of}
 use Rattle.abc_program.specs.Slots.{slots_of}
+use Rattle.abc_program.specs.declared.part.LayoutId.{LayoutId}
 use Rattle.abc_program.specs.declared.part.Part.{Part}
 use Rattle.abc_program.specs.declared.part.Part.TheVariants as parts
 use Rattle.abc_program.specs.declared.types.SlotInfo.{SlotInfo}
 use Rattle.abc_objects.specs.Fixed.{in_fixed}
-use Rattle.abc_objects.specs.Opening.{class_object, entry_of, function_object, function_objects, global_number, global_object, global_slots, host_object, host_properties, opened, opening, opening_counts, opening_objects, opening_scopes, property_names, prototype_id, prototype_object, slot_counts, spans_from, with_globals, with_more_properties, with_objects}
-use Rattle.abc_objects.specs.Starts.{start_value}
+use Rattle.abc_objects.specs.Opening.{class_object, entry_of, formula_names, formula_objects, function_object, function_objects, global_number, global_object, global_slots, host_object, host_properties, opened, opening, opening_counts, opening_objects, opening_scopes, property_names, prototype_id, prototype_object, slot_counts, spans_from, with_globals, with_more_properties, with_objects}
+use Rattle.abc_objects.specs.Starts.{start_value, start_values}
 use Rattle.abc_objects.specs.Stands.{host_layout}
 use Rattle.abc_objects.proofs.Made.{no_slots, object_slots}
 use Rattle.abc_objects.proofs.Opened.{class_slots, names_length}
+use Rattle.abc_objects.proofs.Parts.{concat_both}
 use Rattle.abc_objects.proofs.Reshaped.{object_there}
 
 -- ---- more objects at the end
@@ -51,10 +58,10 @@ step_on f h s new xs k d b p q =
     q ∙ (ap (with_objects (f (get_or xs k d) ∷ [])) p ∙ (objects_on h (map f (take k xs)) (f (get_or xs k d) ∷ []) ∙ ap (λ obs. with_objects obs h) (map_next f xs k d b)))
 
 -- the next of so many
-pub range_on : (f : ℕ → Object) (before : List Object) (h s new : Heap) (k : ℕ) → s ≡ with_objects (before ++ map f (range_with_len 0 k)) h → new ≡ with_objects (f k ∷ []) s → new ≡ with_objects (before ++ map f (range_with_len 0 (k + 1))) h
-range_on f before h s new k p q =
-    let more = map-range_with_len_more f 0 k k (omega arith) in
-    q ∙ (ap (with_objects (f k ∷ [])) p ∙ (objects_on h (before ++ map f (range_with_len 0 k)) (f k ∷ []) ∙ ap (λ obs. with_objects obs h) (append_assoc before (map f (range_with_len 0 k)) (f k ∷ []) ∙ ap (λ obs. before ++ obs) (sym more))))
+pub range_on : (f : ℕ → Object) (h s new : Heap) (k : ℕ) → s ≡ with_objects (map f (range_with_len 0 k)) h → new ≡ with_objects (f k ∷ []) s → new ≡ with_objects (map f (range_with_len 0 (k + 1))) h
+range_on f h s new k p q =
+    let z : 0 + k ≡ k = omega arith in
+    q ∙ (ap (with_objects (f k ∷ [])) p ∙ (objects_on h (map f (range_with_len 0 k)) (f k ∷ []) ∙ ap (λ obs. with_objects obs h) (sym (map-range_with_len_more f 0 k k z))))
 
 -- ---- room
 
@@ -90,16 +97,20 @@ function_slots l t = ap length (no_slots l t hosts.Function refl refl)
 pub prototype_cells : (l : LinkedFile) → IsLinkedFile l → (cs : List HostClass) → all_cells (map (prototype_object l) cs) ≡ 0
 prototype_cells l t cs = all_none (prototype_object l) cs (λ c. opened_cells l (parts.Host hosts.Object) _ whats.Plain ∙ plain_slots l t)
 
-class_cell : (l : LinkedFile) → IsLinkedFile l → (c : HostClass) → cells_of (class_object l c) ≡ 1
+pub class_cell : (l : LinkedFile) → IsLinkedFile l → (c : HostClass) → cells_of (class_object l c) ≡ 1
 class_cell l t c = omega (arith, length-set (map (λ (i : SlotInfo). start_value l.file.strings i.start) (slots_of l (layout_of l (parts.HostClassObject c)).0)) 0 (values.Obj (prototype_id c)), starts_count l (layout_of l (parts.HostClassObject c)).0, class_slots l t c)
 
 pub class_cells : (l : LinkedFile) → IsLinkedFile l → (cs : List HostClass) → all_cells (map (class_object l) cs) ≡ length cs
 class_cells l t cs = all_single (class_object l) cs (class_cell l t)
 
+pub function_cell : (l : LinkedFile) → IsLinkedFile l → (w : What) → cells_of (function_object l w) ≡ 0
+function_cell l t w = opened_cells l (parts.Host hosts.Function) (Some hosts.Function) w ∙ function_slots l t
+
+pub formula_cells : (l : LinkedFile) → IsLinkedFile l → (n : ℕ) → all_cells (formula_objects l n) ≡ 0
+formula_cells l t n = all_none (λ (i : ℕ). function_object l (whats.Formula i)) (range_with_len 0 n) (λ i. function_cell l t (whats.Formula i))
+
 pub function_cells : (l : LinkedFile) → IsLinkedFile l → (n : ℕ) → all_cells (function_objects l n) ≡ 0
-function_cells l t n =
-    let one = λ (w : What). opened_cells l (parts.Host hosts.Function) (Some hosts.Function) w ∙ function_slots l t in
-    omega (arith, one whats.Trace, all_none (λ (i : ℕ). function_object l (whats.Formula i)) (range_with_len 0 n) (λ i. one (whats.Formula i)))
+function_cells l t n = omega (arith, function_cell l t whats.Trace, formula_cells l t n)
 
 pub functions_count : (l : LinkedFile) (n : ℕ) → length (function_objects l n) ≡ n + 1
 functions_count l n = omega (arith, length-map-range_with_len (λ (i : ℕ). function_object l (whats.Formula i)) 0 n)
@@ -110,6 +121,22 @@ properties_count o at (t ∷ ts) = omega (arith, properties_count (o + 1) (at + 
 
 pub host_cells : (l : LinkedFile) → IsLinkedFile l → (names : List (List ℕ)) → all_cells (host_object l names ∷ []) ≡ length names
 host_cells l t names = omega (arith, starts_count l (layout_of l (parts.Host hosts.Object)).0, plain_slots l t, properties_count 14 62 names)
+
+-- ---- room in the loops
+
+pub prototype_room : (l : LinkedFile) (h s : Heap) (cs : List HostClass) (k : ℕ) → IsLinkedFile l → k < length cs → s ≡ with_objects (map (prototype_object l) (take k cs)) h → HasRoomFor h (length cs) 0 → HasRoomFor s 1 0
+prototype_room l h s cs k t b e r =
+    let n : length (map (prototype_object l) (take k cs)) ≡ k = omega (arith, length-map (take k cs) (prototype_object l), length-take k cs) in
+    room_on h s (map (prototype_object l) (take k cs)) (length cs) 0 1 0 e r (omega (arith, n)) (omega (arith, prototype_cells l t (take k cs)))
+
+pub class_room : (l : LinkedFile) (h s : Heap) (cs : List HostClass) (k : ℕ) → IsLinkedFile l → k < length cs → s ≡ with_objects (map (class_object l) (take k cs)) h → HasRoomFor h (length cs) (length cs) → HasRoomFor s 1 1
+class_room l h s cs k t b e r =
+    let n : length (map (class_object l) (take k cs)) ≡ k = omega (arith, length-map (take k cs) (class_object l), length-take k cs) in
+    room_on h s (map (class_object l) (take k cs)) (length cs) (length cs) 1 1 e r (omega (arith, n)) (omega (arith, class_cells l t (take k cs), length-take k cs))
+
+pub formula_room : (l : LinkedFile) (h s : Heap) (k n : ℕ) → IsLinkedFile l → k < n → s ≡ with_objects (formula_objects l k) h → HasRoomFor h n 0 → HasRoomFor s 1 0
+formula_room l h s k n t b e r =
+    room_on h s (formula_objects l k) n 0 1 0 e r (omega (arith, length-map-range_with_len (λ (i : ℕ). function_object l (whats.Formula i)) 0 k)) (omega (arith, formula_cells l t k))
 
 -- ---- a class object
 
@@ -295,10 +322,46 @@ opening_ledger l fs limits t =
     let put : ℕ → ℕ → Limits = λ n m. record { objects = n; cells = m; text = 0; frames = 0; stack = 0 } in
     ap (λ n. put n (all_cells (opening_objects l fs) + length (opening_scopes l (length fs)))) objects ∙ ap (put (30 + length fs + scripts)) cells
 
--- the names of a host are short
-pub names_short : (fs : List (List ℕ)) → length fs ≤ 64 → ((k : ℕ) (t : List ℕ) → slice_get fs k ≡ Some t → length t ≤ 64) → length (concat fs) ≤ 64 * length fs
-names_short fs few each = all fs each
+-- ---- what single calls make
+
+pub made_opened : (l : LinkedFile) (h new : Heap) (p : Part) (parent : Option HostClass) (what : What) (vs : List Value) (y : LayoutId) (d : Option ObjId) → new ≡ with_made vs y.0 d what h → vs ≡ start_values l y.0 → y ≡ layout_of l p → d ≡ option_map prototype_id parent → new ≡ with_objects (opened l p parent what ∷ []) h
+made_opened l h new p parent what vs y d e v w q =
+    e ∙ (ap (λ ws. with_made ws y.0 d what h) v
+    ∙ (ap (λ (z : LayoutId). with_made (start_values l z.0) z.0 d what h) w
+    ∙ ap (λ o. with_made (start_values l (layout_of l p).0) (layout_of l p).0 o what h) q))
+
+pub global_entered : (l : LinkedFile) (h s new : Heap) (k : ℕ) (o : ObjId) → o.0 ≡ length h.objects → s ≡ with_objects (global_object l k ∷ []) h → new ≡ with_scopes None (record { object = o; with_flag = false } ∷ []) s → new ≡ with_global l k h
+global_entered l h s new k o e p q =
+    q ∙ (ap (with_scopes None (record { object = o; with_flag = false } ∷ [])) p
+    ∙ ap (λ n. record h { objects = h.objects ++ global_object l k ∷ []; scopes = h.scopes ++ entry_of n ∷ [] }) e)
+
+-- the next name of a formula
+pub name_on : (names new : List (List ℕ)) (fs : List Formula) (k : ℕ) (b : List ℕ) → k < length fs → names ≡ map (λ (f : Formula). f.name) (take k fs) → b ≡ (formula_at fs k).name → new ≡ names ++ b ∷ [] → new ≡ map (λ (f : Formula). f.name) (take (k + 1) fs)
+name_on names new fs k b low p e q =
+    let name = λ (f : Formula). f.name in
+    q ∙ (ap (λ xs. xs ++ b ∷ []) p ∙ (ap (λ t. map name (take k fs) ++ t ∷ []) e ∙ map_next name fs k (formula_at [] 0) low))
+
+-- the bytes of the next text
+pub concat_next : (names : List (List ℕ)) (k : ℕ) (d : List ℕ) → k < length names → concat (take (k + 1) names) ≡ concat (take k names) ++ get_or names k d
+concat_next (t ∷ ts) zero d b = append-nil t
+concat_next (t ∷ ts) (suc k) d b =
+    let z : suc k + 1 ≡ suc (k + 1) = omega arith in
+    ap (λ n. concat (take n (t ∷ ts))) z ∙ (ap (λ r. t ++ r) (concat_next ts k d (omega arith)) ∙ sym (append_assoc t (concat (take k ts)) (get_or ts k d)))
+concat_next [] k d b = absurd (omega arith)
+
+pub bytes_on : (fixed bytes new : List ℕ) (names : List (List ℕ)) (k : ℕ) (d : List ℕ) → k < length names → bytes ≡ fixed ++ concat (take k names) → new ≡ bytes ++ get_or names k d → new ≡ fixed ++ concat (take (k + 1) names)
+bytes_on fixed bytes new names k d b p q =
+    q ∙ (ap (λ xs. xs ++ get_or names k d) p ∙ (append_assoc fixed (concat (take k names)) (get_or names k d) ∙ ap (λ r. fixed ++ r) (sym (concat_next names k d b))))
+
+-- the names of the host object's properties are few and short
+pub property_names_short : (fs : List Formula) → AreFormulas fs → (62 + length (concat (property_names (formula_names fs))) < 2 ^ 32) × (length (formula_names fs) ≡ length fs)
+property_names_short fs a =
+    let n = length-map fs (λ (f : Formula). f.name) in
+    let own : length (concat (map class_name host_classes)) ≡ 100 = refl in
+    let trace : length (codes "trace") ≡ 5 = refl in
+    ( omega (arith, n, own, trace, a.few, concat_both (map class_name host_classes) (codes "trace" ∷ formula_names fs), length-append (codes "trace") (concat (formula_names fs)), short fs a.each)
+    , n)
   where
-    all : (ts : List (List ℕ)) → ((k : ℕ) (t : List ℕ) → slice_get ts k ≡ Some t → length t ≤ 64) → length (concat ts) ≤ 64 * length ts
-    all [] f = omega arith
-    all (t ∷ ts) f = omega (arith, f 0 t refl, all ts (λ k x q. f (suc k) x q), length-append t (concat ts))
+    short : (gs : List Formula) → All IsFormula gs → length (concat (map (λ (f : Formula). f.name) gs)) ≤ 64 * length gs
+    short [] e = omega arith
+    short (f ∷ gs) e = omega (arith, (All-head IsFormula f gs e).short, short gs (All-tail IsFormula f gs e), length-append f.name (concat (map (λ (g : Formula). g.name) gs)))

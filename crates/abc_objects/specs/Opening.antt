@@ -79,9 +79,12 @@ class_object l c = with_slot 0 (values.Obj (prototype_id c)) (opened l (parts.Ho
 abbrev pub function_object : LinkedFile → What → Object
 function_object l what = opened l (parts.Host hosts.Function) (Some hosts.Function) what
 
+abbrev pub formula_objects : LinkedFile → ℕ → List Object
+formula_objects l formulas = map (λ n. function_object l (whats.Formula n)) (range_with_len 0 formulas)
+
 -- trace, and then the formulas
 abbrev pub function_objects : LinkedFile → ℕ → List Object
-function_objects l formulas = function_object l whats.Trace ∷ map (λ n. function_object l (whats.Formula n)) (range_with_len 0 formulas)
+function_objects l formulas = function_object l whats.Trace ∷ formula_objects l formulas
 
 -- properties of some names that hold objects which stand one after the other
 abbrev pub host_properties : ℕ → List Span → List (Option (Span × Value))

@@ -6,7 +6,7 @@ ghost use Rattle.abc_heap.specs.Heap.{HasRoomFor};
 ghost use Rattle.abc_program.specs.Linked.{layout_of};
 ghost use Rattle.abc_program.specs.Parts.{HasLayout};
 ghost use Rattle.abc_program.specs.Slots.{slots_of};
-ghost use Rattle.abc_objects.specs.Opening.{IsOpened, IsUnopened, IsWithin, above_host as above, class_object, entry_of, formula_names as names_of, function_object, function_objects, global_object, global_slots, host_object, host_properties, opened, opening_counts, opening_objects, opening_scopes, property_names as names_with, prototype_id, prototype_object, spans_from, with_globals, with_more_properties, with_objects};
+ghost use Rattle.abc_objects.specs.Opening.{IsOpened, IsUnopened, IsWithin, above_host as above, class_object, entry_of, formula_names as names_of, formula_objects, function_object, function_objects, global_object, global_slots, host_object, host_properties, opened, opening_counts, opening_objects, opening_scopes, property_names as names_with, prototype_id, prototype_object, spans_from, with_globals, with_more_properties, with_objects};
 ghost use Rattle.abc_objects.specs.Starts.{StartsExist};
 
 use crate::arena::class_number;
@@ -65,6 +65,17 @@ fn make_part(
     store.make_object(layout.0, prototype_of(parent), what, &starts)
 }
 
+/// Makes the prototype of a class of the host.
+fn make_prototype(store: &mut Store, l: &Linked, class: HostClass)
+    requires starts { StartsExist l.now }
+    requires room { HasRoomFor store.old 1 0 }
+    ensures { store.new ≡ with_objects (prototype_object l.now class ∷ []) store.old }
+{
+    l.linked_law();
+    let parent = above_host(class);
+    make_part(store, l, Part::Host(HostClass::Object), parent, What::Plain);
+}
+
 /// Makes the prototypes of some classes of the host.
 fn make_prototypes(store: &mut Store, l: &Linked, classes: &[HostClass])
     requires starts { StartsExist l.now }
@@ -73,13 +84,7 @@ fn make_prototypes(store: &mut Store, l: &Linked, classes: &[HostClass])
 {
     l.linked_law();
     for class in classes {
-        make_part(
-            store,
-            l,
-            Part::Host(HostClass::Object),
-            above_host(*class),
-            What::Plain,
-        );
+        make_prototype(store, l, *class);
     }
 }
 
@@ -106,6 +111,7 @@ fn make_class_objects(store: &mut Store, l: &Linked, classes: &[HostClass])
     requires room { HasRoomFor store.old (length classes.now) (length classes.now) }
     ensures { store.new ≡ with_objects (map (class_object l.now) classes.now) store.old }
 {
+    l.linked_law();
     for class in classes {
         make_class_object(store, l, *class);
     }
@@ -118,13 +124,20 @@ fn make_function(store: &mut Store, l: &Linked, what: What)
     ensures { store.new ≡ with_objects (function_object l.now what ∷ []) store.old }
 {
     l.linked_law();
-    make_part(
-        store,
-        l,
-        Part::Host(HostClass::Function),
-        Some(HostClass::Function),
-        what,
-    );
+    let parent = Some(HostClass::Function);
+    make_part(store, l, Part::Host(HostClass::Function), parent, what);
+}
+
+/// Makes the formulas.
+fn make_formulas(store: &mut Store, l: &Linked, formulas: u32)
+    requires starts { StartsExist l.now }
+    requires room { HasRoomFor store.old formulas 0 }
+    ensures { store.new ≡ with_objects (formula_objects l.now formulas) store.old }
+{
+    l.linked_law();
+    for formula in 0..formulas {
+        make_function(store, l, What::Formula(formula));
+    }
 }
 
 /// Makes `trace` and the formulas.
@@ -133,10 +146,9 @@ fn make_functions(store: &mut Store, l: &Linked, formulas: u32)
     requires room { HasRoomFor store.old (formulas + 1) 0 }
     ensures { store.new ≡ with_objects (function_objects l.now formulas) store.old }
 {
+    l.linked_law();
     make_function(store, l, What::Trace);
-    for formula in 0..formulas {
-        make_function(store, l, What::Formula(formula));
-    }
+    make_formulas(store, l, formulas);
 }
 
 /// Adds properties of some names, which stand in part 0 behind the fixed texts. They hold objects 14, 15, ..

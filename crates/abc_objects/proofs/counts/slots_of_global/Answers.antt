@@ -1,0 +1,12 @@
+use Rattle.std.proofs.Common.{◌≡◌, ◌<◌, ap, sym, subst, arith, length}
+use Rattle.abc_program.specs.Linked.{layout_of}
+use Rattle.abc_program.specs.Slots.{slots_of}
+use Rattle.abc_program.specs.declared.part.LayoutId.{LayoutId}
+use Rattle.abc_program.specs.declared.part.Part.TheVariants as parts
+use Rattle.abc_objects.proofs.Made.{part_found}
+use Rattle.abc_objects.proofs.counts.slots_of_global.Goals as goal
+
+pub slots-requires : goal.slots-requires
+slots-requires c =
+    let l = c.args.l.now in
+    subst (λ (x : LayoutId). x.0 < length l.parts) (sym c.layout_of.ensures) (part_found l c.linked_law.ensures (parts.Global c.args.script) c.requires.script).0
