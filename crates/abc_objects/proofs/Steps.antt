@@ -1,5 +1,5 @@
 -- The steps of the opening: what each adds to the heap, and the room that is left.
-use Rattle.std.proofs.Common.{◌≡◌, ℕ, zero, suc, ◌+◌, ◌*◌, ◌<◌, ◌≤◌, List, [], ◌∷◌, ◌++◌, Option, Some, None, length, map, take, get_or, refl, sym, ap, ◌∙◌, subst, arith, length-append, append_assoc, append-nil}
+use Rattle.std.proofs.Common.{◌≡◌, ℕ, zero, suc, ◌+◌, ◌*◌, ◌<◌, ◌≤◌, List, [], ◌∷◌, ◌++◌, Option, Some, None, length, map, take, get_or, refl, sym, ap, ◌∙◌, subst, arith, length-append, append_assoc, append-nil, false}
 use Rattle.std.specs.List.{concat, range_with_len, sum, sum_by}
 use Rattle.std.specs.Prelude.{◌^◌, All, codes, option_map, slice_get}
 use Rattle.std.proofs.lemmas.List.{length-map, length-set, length-take, map-append}
@@ -32,12 +32,12 @@ use Rattle.abc_program.specs.declared.part.LayoutId.{LayoutId}
 use Rattle.abc_program.specs.declared.part.Part.{Part}
 use Rattle.abc_program.specs.declared.part.Part.TheVariants as parts
 use Rattle.abc_program.specs.declared.types.SlotInfo.{SlotInfo}
-use Rattle.abc_objects.specs.Fixed.{in_fixed}
-use Rattle.abc_objects.specs.Opening.{class_object, entry_of, formula_names, formula_objects, function_object, function_objects, global_number, global_object, global_slots, host_object, host_properties, opened, opening, opening_counts, opening_objects, opening_scopes, property_names, prototype_id, prototype_object, slot_counts, spans_from, with_globals, with_more_properties, with_objects}
-use Rattle.abc_objects.specs.Starts.{start_value, start_values}
-use Rattle.abc_objects.specs.Stands.{host_layout}
+use Rattle.abc_objects.specs.Fixed.{fixed_bytes, in_fixed}
+use Rattle.abc_objects.specs.Opening.{IsWithin, above_host, class_object, entry_of, formula_names, formula_objects, function_object, function_objects, global_number, global_object, global_slots, host_object, host_properties, opened, opening, opening_counts, opening_objects, opening_scopes, property_names, prototype_id, prototype_object, slot_count, slot_counts, spans_from, with_globals, with_more_properties, with_objects}
+use Rattle.abc_objects.specs.Starts.{start_value, start_values, StartsExist}
+use Rattle.abc_objects.specs.Stands.{StandsOver, host_layout}
 use Rattle.abc_objects.proofs.Made.{no_slots, object_slots}
-use Rattle.abc_objects.proofs.Opened.{class_slots, names_length}
+use Rattle.abc_objects.proofs.Opened.{class_slots, names_length, opening_stands}
 use Rattle.abc_objects.proofs.Parts.{concat_both}
 use Rattle.abc_objects.proofs.Reshaped.{object_there}
 
@@ -95,7 +95,7 @@ pub function_slots : (l : LinkedFile) → IsLinkedFile l → length (slots_of l 
 function_slots l t = ap length (no_slots l t hosts.Function refl refl)
 
 pub prototype_cells : (l : LinkedFile) → IsLinkedFile l → (cs : List HostClass) → all_cells (map (prototype_object l) cs) ≡ 0
-prototype_cells l t cs = all_none (prototype_object l) cs (λ c. opened_cells l (parts.Host hosts.Object) _ whats.Plain ∙ plain_slots l t)
+prototype_cells l t cs = all_none (prototype_object l) cs (λ c. opened_cells l (parts.Host hosts.Object) (above_host c) whats.Plain ∙ plain_slots l t)
 
 pub class_cell : (l : LinkedFile) → IsLinkedFile l → (c : HostClass) → cells_of (class_object l c) ≡ 1
 class_cell l t c = omega (arith, length-set (map (λ (i : SlotInfo). start_value l.file.strings i.start) (slots_of l (layout_of l (parts.HostClassObject c)).0)) 0 (values.Obj (prototype_id c)), starts_count l (layout_of l (parts.HostClassObject c)).0, class_slots l t c)
@@ -120,7 +120,7 @@ properties_count o at [] = refl
 properties_count o at (t ∷ ts) = omega (arith, properties_count (o + 1) (at + length t) ts)
 
 pub host_cells : (l : LinkedFile) → IsLinkedFile l → (names : List (List ℕ)) → all_cells (host_object l names ∷ []) ≡ length names
-host_cells l t names = omega (arith, starts_count l (layout_of l (parts.Host hosts.Object)).0, plain_slots l t, properties_count 14 62 names)
+host_cells l t names = omega (arith, starts_count l (layout_of l (parts.Host hosts.Object)).0, plain_slots l t, properties_count 14 (length fixed_bytes) names)
 
 -- ---- room in the loops
 
@@ -168,15 +168,17 @@ properties_more : (o at : ℕ) (names : List (List ℕ)) (t : List ℕ) → host
 properties_more o at [] t =
     let z : at ≡ at + 0 = omega arith in
     let y : o ≡ o + 0 = omega arith in
-    ap (λ a. Some (in_fixed a (length t), values.Obj (obj_id o)) ∷ []) z ∙ ap (λ n. Some (in_fixed (at + 0) (length t), values.Obj (obj_id n)) ∷ []) y
+    let one : ℕ → ℕ → List (Option (Span × Value)) = λ a n. Some (in_fixed a (length t), values.Obj (obj_id n)) ∷ [] in
+    ap (λ a. one a o) z ∙ ap (λ n. one (at + 0) n) y
 properties_more o at (x ∷ xs) t =
     let z : (at + length x) + length (concat xs) ≡ at + length (x ++ concat xs) = omega (arith, length-append x (concat xs)) in
     let y : (o + 1) + length xs ≡ o + suc (length xs) = omega arith in
     let first : Option (Span × Value) = Some (in_fixed at (length x), values.Obj (obj_id o)) in
     let rest = host_properties (o + 1) (spans_from (at + length x) xs) in
+    let one : ℕ → ℕ → List (Option (Span × Value)) = λ a n. Some (in_fixed a (length t), values.Obj (obj_id n)) ∷ [] in
     ap (λ r. first ∷ r) (properties_more (o + 1) (at + length x) xs t)
-    ∙ (ap (λ a. first ∷ (rest ++ Some (in_fixed a (length t), values.Obj (obj_id ((o + 1) + length xs))) ∷ [])) z
-    ∙ ap (λ n. first ∷ (rest ++ Some (in_fixed (at + length (x ++ concat xs)) (length t), values.Obj (obj_id n)) ∷ [])) y)
+    ∙ (ap (λ a. first ∷ (rest ++ one a ((o + 1) + length xs))) z
+    ∙ ap (λ n. first ∷ (rest ++ one (at + length (x ++ concat xs)) n)) y)
 
 pub property_on : (h s new : Heap) (o k start object : ℕ) (names : List (List ℕ)) (d : List ℕ) → k < length names → s ≡ with_object (with_more_properties (host_properties 14 (spans_from 62 (take k names)))) o h → start ≡ 62 + length (concat (take k names)) → object ≡ 14 + k → new ≡ with_object (with_more_properties (Some (in_fixed start (length (get_or names k d)), values.Obj (obj_id object)) ∷ [])) o s → new ≡ with_object (with_more_properties (host_properties 14 (spans_from 62 (take (k + 1) names)))) o h
 property_on h s new o k start object names d b p e w q =
@@ -219,9 +221,6 @@ property_room h s o k n names e b w inside r =
     subst (λ (y : Heap). (o < length y.objects) × HasRoomFor y 0 1) (sym e) own
 
 -- ---- the global objects
-
-abbrev slot_count : LinkedFile → ℕ → ℕ
-slot_count l s = length (slots_of l (layout_of l (parts.Global s)).0)
 
 pub counts_more : (l : LinkedFile) (k : ℕ) → sum (slot_counts l (k + 1)) ≡ sum (slot_counts l k) + slot_count l k
 counts_more l k = ap sum (map-range_with_len_more (slot_count l) 0 k k (omega arith)) ∙ sum_by_push (λ (n : ℕ). n) (slot_counts l k) (slot_count l k)
@@ -277,9 +276,6 @@ pub record Built (old new : Heap) (obs : List Object) (n c : ℕ) : Type 0 where
   pub size : length obs ≡ n
   pub cells : all_cells obs ≡ c
 
-pub built_first : (old new : Heap) (obs : List Object) (n c : ℕ) → new ≡ with_objects obs old → length obs ≡ n → all_cells obs ≡ c → Built old new obs n c
-built_first old new obs n c e a b = record { heap = e; size = a; cells = b }
-
 pub built_more : (old mid new : Heap) (obs more : List Object) (n c m d : ℕ) → Built old mid obs n c → new ≡ with_objects more mid → length more ≡ m → all_cells more ≡ d → Built old new (obs ++ more) (n + m) (c + d)
 built_more old mid new obs more n c m d b e p q = record {
     heap = e ∙ (ap (with_objects more) b.heap ∙ objects_on old obs more);
@@ -306,6 +302,18 @@ opening_made l old mid new fs names f scripts none nodes b q ef en es =
     ∙ ap (λ ns. put (full (length fs) ns ++ gs (length l.file.scripts)) (ids (30 + f) (length l.file.scripts))) en))))))
 
 -- the ledger of the opening
+joined_length : (a b c d e : List Object) → length (a ++ b ++ c ++ d ++ e) ≡ length a + length b + length c + length d + length e
+joined_length a b c d e = omega (arith, length-append (a ++ b ++ c ++ d) e, length-append (a ++ b ++ c) d, length-append (a ++ b) c, length-append a b)
+
+joined_cells : (a b c d e : List Object) → all_cells (a ++ b ++ c ++ d ++ e) ≡ all_cells a + all_cells b + all_cells c + all_cells d + all_cells e
+joined_cells a b c d e = omega (arith, all_both (a ++ b ++ c ++ d) e, all_both (a ++ b ++ c) d, all_both (a ++ b) c, all_both a b)
+
+lengths_sum : (x a b c d e n s : ℕ) → x ≡ a + b + c + d + e → a ≡ 14 → b ≡ 14 → c ≡ n + 1 → d ≡ 1 → e ≡ s → x ≡ 30 + n + s
+lengths_sum x a b c d e n s p i j k m q = omega arith
+
+cells_sum : (x a b c d e o n s g : ℕ) → x ≡ a + b + c + d + e → a ≡ 0 → b ≡ 14 → c ≡ 0 → d ≡ 15 + n → e ≡ g → o ≡ s → x + o ≡ 29 + n + s + g
+cells_sum x a b c d e o n s g p i j k m q r = omega arith
+
 pub opening_ledger : (l : LinkedFile) (fs : List (List ℕ)) (limits : Limits) → IsLinkedFile l → ledger (opening l fs limits) ≡ opening_counts l (length fs)
 opening_ledger l fs limits t =
     let scripts = length l.file.scripts in
@@ -314,13 +322,38 @@ opening_ledger l fs limits t =
     let three = function_objects l (length fs) in
     let four = host_object l (property_names fs) ∷ [] in
     let five = map (global_object l) (range_with_len 0 scripts) in
-    let a : length one ≡ 14 = refl in
-    let b : length two ≡ 14 = refl in
-    let c : length host_classes ≡ 14 = refl in
-    let objects : length (opening_objects l fs) ≡ 30 + length fs + scripts = omega (arith, a, b, functions_count l (length fs), globals_count l scripts, length-append one two, length-append (one ++ two) three, length-append (one ++ two ++ three) four, length-append (one ++ two ++ three ++ four) five) in
-    let cells : all_cells (opening_objects l fs) + length (opening_scopes l (length fs)) ≡ 29 + length fs + scripts + global_slots l = omega (arith, c, prototype_cells l t host_classes, class_cells l t host_classes, function_cells l t (length fs), host_cells l t (property_names fs), names_length fs, globals_cells l scripts, all_both one two, all_both (one ++ two) three, all_both (one ++ two ++ three) four, all_both (one ++ two ++ three ++ four) five, length-map-range_with_len (λ (s : ℕ). entry_of (global_number (length fs) s)) 0 scripts) in
+    let objects : length (opening_objects l fs) ≡ 30 + length fs + scripts =
+      lengths_sum _ (length one) (length two) (length three) (length four) (length five) (length fs) scripts (joined_length one two three four five) refl refl (functions_count l (length fs)) refl (globals_count l scripts) in
+    let entries = length-map-range_with_len (λ (s : ℕ). entry_of (global_number (length fs) s)) 0 scripts in
+    let cells : all_cells (opening_objects l fs) + length (opening_scopes l (length fs)) ≡ 29 + length fs + scripts + global_slots l =
+      cells_sum _ (all_cells one) (all_cells two) (all_cells three) (all_cells four) (all_cells five) _ (length fs) scripts (global_slots l) (joined_cells one two three four five) (prototype_cells l t host_classes) (class_cells l t host_classes) (function_cells l t (length fs)) (host_cells l t (property_names fs) ∙ names_length fs) (globals_cells l scripts) entries in
     let put : ℕ → ℕ → Limits = λ n m. record { objects = n; cells = m; text = 0; frames = 0; stack = 0 } in
     ap (λ n. put n (all_cells (opening_objects l fs) + length (opening_scopes l (length fs)))) objects ∙ ap (put (30 + length fs + scripts)) cells
+
+-- the room at the beginning
+pub opening_room : (l : LinkedFile) (h : Heap) (f : ℕ) → h.objects ≡ [] → h.scopes ≡ [] → IsWithin (opening_counts l f) h.limits → HasRoomFor h (30 + f + length l.file.scripts) (29 + f + length l.file.scripts + global_slots l)
+opening_room l h f e n w = (omega (arith, w.0, ap length e), omega (arith, w.1, ap all_cells e, ap length n))
+
+-- the steps, one after the other
+pub opening_one : (l : LinkedFile) (old new : Heap) (cs : List HostClass) → IsLinkedFile l → cs ≡ host_classes → new ≡ with_objects (map (prototype_object l) cs) old → Built old new (map (prototype_object l) host_classes) 14 0
+opening_one l old new cs t w e = record { heap = e ∙ ap (λ xs. with_objects (map (prototype_object l) xs) old) w; size = refl; cells = prototype_cells l t host_classes }
+
+pub opening_two : (l : LinkedFile) (old mid new : Heap) (cs : List HostClass) → IsLinkedFile l → cs ≡ host_classes → Built old mid (map (prototype_object l) host_classes) 14 0 → new ≡ with_objects (map (class_object l) cs) mid → Built old new (map (prototype_object l) host_classes ++ map (class_object l) host_classes) 28 14
+opening_two l old mid new cs t w b e = built_more old mid new (map (prototype_object l) host_classes) (map (class_object l) host_classes) 14 0 14 14 b (e ∙ ap (λ xs. with_objects (map (class_object l) xs) mid) w) refl (class_cells l t host_classes)
+
+pub opening_three : (l : LinkedFile) (old mid new : Heap) (f : ℕ) → IsLinkedFile l → Built old mid (map (prototype_object l) host_classes ++ map (class_object l) host_classes) 28 14 → new ≡ with_objects (function_objects l f) mid → Built old new (map (prototype_object l) host_classes ++ map (class_object l) host_classes ++ function_objects l f) (28 + (f + 1)) (14 + 0)
+opening_three l old mid new f t b e = built_more old mid new (map (prototype_object l) host_classes ++ map (class_object l) host_classes) (function_objects l f) 28 14 (f + 1) 0 b e (functions_count l f) (function_cells l t f)
+
+built_as : (old new : Heap) (obs : List Object) (n c m d : ℕ) → n ≡ m → c ≡ d → Built old new obs n c → Built old new obs m d
+built_as old new obs n c m d p q b = record { heap = b.heap; size = b.size ∙ p; cells = b.cells ∙ q }
+
+pub opening_four : (l : LinkedFile) (old mid new : Heap) (names : List (List ℕ)) (f : ℕ) → IsLinkedFile l → length names ≡ 15 + f → Built old mid (map (prototype_object l) host_classes ++ map (class_object l) host_classes ++ function_objects l f) (28 + (f + 1)) (14 + 0) → new ≡ with_objects (host_object l names ∷ []) mid → Built old new (map (prototype_object l) host_classes ++ map (class_object l) host_classes ++ function_objects l f ++ host_object l names ∷ []) (30 + f) (29 + f)
+opening_four l old mid new names f t n b e =
+    let obs = map (prototype_object l) host_classes ++ map (class_object l) host_classes ++ function_objects l f in
+    let p : (28 + (f + 1)) + 1 ≡ 30 + f = omega arith in
+    let q : (14 + 0) + length names ≡ 29 + f = omega (arith, n) in
+    built_as old new (obs ++ host_object l names ∷ []) ((28 + (f + 1)) + 1) ((14 + 0) + length names) (30 + f) (29 + f) p q
+      (built_more old mid new obs (host_object l names ∷ []) (28 + (f + 1)) (14 + 0) 1 (length names) b e refl (host_cells l t names))
 
 -- ---- what single calls make
 
@@ -365,3 +398,11 @@ property_names_short fs a =
     short : (gs : List Formula) → All IsFormula gs → length (concat (map (λ (f : Formula). f.name) gs)) ≤ 64 * length gs
     short [] e = omega arith
     short (f ∷ gs) e = omega (arith, (All-head IsFormula f gs e).short, short gs (All-tail IsFormula f gs e), length-append f.name (concat (map (λ (g : Formula). g.name) gs)))
+
+-- the opening, as the call that makes it says
+pub ledger_opened : (l : LinkedFile) (fs : List Formula) (limits : Limits) (h : Heap) → IsLinkedFile l → h ≡ opening l (formula_names fs) limits → ledger h ≡ opening_counts l (length fs)
+ledger_opened l fs limits h t e = ap ledger e ∙ (opening_ledger l (formula_names fs) limits t ∙ ap (opening_counts l) (length-map fs (λ (f : Formula). f.name)))
+
+pub stands_opened : (l : LinkedFile) (fs : List Formula) (limits : Limits) (h : Heap) → IsLinkedFile l → StartsExist l → length fs ≤ 64 → h ≡ opening l (formula_names fs) limits → StandsOver l h
+stands_opened l fs limits h t s few e =
+    subst (StandsOver l) (sym e) (opening_stands l (formula_names fs) limits t s (omega (arith, few, length-map fs (λ (f : Formula). f.name))))

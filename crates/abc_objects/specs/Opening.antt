@@ -131,8 +131,12 @@ opening l formulas limits = record {
 
 -- ---- how much there is at opening
 
+-- the slots of the global object of a script
+abbrev pub slot_count : LinkedFile → ℕ → ℕ
+slot_count l s = length (slots_of l (layout_of l (parts.Global s)).0)
+
 abbrev pub slot_counts : LinkedFile → ℕ → List ℕ
-slot_counts l scripts = map (λ s. length (slots_of l (layout_of l (parts.Global s)).0)) (range_with_len 0 scripts)
+slot_counts l scripts = map (slot_count l) (range_with_len 0 scripts)
 
 -- the slots of all global objects
 abbrev pub global_slots : LinkedFile → ℕ

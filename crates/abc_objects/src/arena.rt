@@ -131,6 +131,8 @@ impl Arena {
         ensures number { result.0 ≡ global_number (length self.now.formulas) script }
         ensures is { (l : LinkedFile) → StandsOver l self.now → script < length l.file.scripts → IsMadeAs self.now result (global_object l script) }
     {
+        // The object is one of those that are counted, so its number has 32 bits.
+        let _objects = self.store.counts().objects;
         ObjId(30 + self.store.formulas() as u32 + script)
     }
 

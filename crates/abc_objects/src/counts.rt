@@ -1,7 +1,5 @@
 ghost use Rattle.std.specs.Prelude.{◌≡◌, ◌<◌, ◌≤◌, ◌*◌, length, MatchResult};
-ghost use Rattle.abc_program.specs.Linked.{layout_of};
-ghost use Rattle.abc_program.specs.Slots.{slots_of};
-ghost use Rattle.abc_objects.specs.Opening.{IsUnopened, IsWithin, global_slots as slots_of_globals, opening_counts};
+ghost use Rattle.abc_objects.specs.Opening.{IsUnopened, IsWithin, global_slots as slots_of_globals, opening_counts, slot_count};
 ghost use Rattle.abc_objects.specs.Starts.{StartsExist};
 
 use crate::error::OpenError;
@@ -12,7 +10,7 @@ use abc_link::{Linked, Part};
 fn slots_of_global(l: &Linked, script: u32) -> u32
     requires script { script < length l.now.file.scripts }
     requires starts { StartsExist l.now }
-    ensures { result ≡ length (slots_of l.now (layout_of l.now (Part.Global script)).0) }
+    ensures { result ≡ slot_count l.now script }
 {
     l.linked_law();
     l.slots(l.layout_of(Part::Global(script))).len() as u32

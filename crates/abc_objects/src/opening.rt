@@ -6,7 +6,7 @@ ghost use Rattle.abc_heap.specs.Heap.{HasRoomFor};
 ghost use Rattle.abc_program.specs.Linked.{layout_of};
 ghost use Rattle.abc_program.specs.Parts.{HasLayout};
 ghost use Rattle.abc_program.specs.Slots.{slots_of};
-ghost use Rattle.abc_objects.specs.Opening.{IsOpened, IsUnopened, IsWithin, above_host as above, class_object, entry_of, formula_names as names_of, formula_objects, function_object, function_objects, global_object, global_slots, host_object, host_properties, opened, opening_counts, opening_objects, opening_scopes, property_names as names_with, prototype_id, prototype_object, spans_from, with_globals, with_more_properties, with_objects};
+ghost use Rattle.abc_objects.specs.Opening.{IsOpened, IsUnopened, IsWithin, above_host as above, class_object, entry_of, formula_names as names_of, formula_objects, function_object, function_objects, global_object, global_slots, host_object, host_properties, opened, opening_counts, opening_objects, opening_scopes, property_names as names_with, prototype_id, prototype_object, slot_count, spans_from, with_globals, with_more_properties, with_objects};
 ghost use Rattle.abc_objects.specs.Starts.{StartsExist};
 
 use crate::arena::class_number;
@@ -197,7 +197,7 @@ fn make_host_object(store: &mut Store, l: &Linked, names: &[Bytes])
 fn make_global(store: &mut Store, l: &Linked, script: u32)
     requires starts { StartsExist l.now }
     requires script { script < length l.now.file.scripts }
-    requires room { HasRoomFor store.old 1 (length (slots_of l.now (layout_of l.now (Part.Global script)).0) + 1) }
+    requires room { HasRoomFor store.old 1 (slot_count l.now script + 1) }
     ensures { store.new ≡ record store.old { objects = store.old.objects ++ global_object l.now script ∷ []; scopes = store.old.scopes ++ entry_of (length store.old.objects) ∷ [] } }
 {
     let object = make_part(
@@ -233,13 +233,16 @@ fn make_opening(store: &mut Store, l: &Linked, names: &[Bytes], formulas: u32, s
     requires scopes { store.old.scopes ≡ [] }
     requires formulas { formulas ≡ length store.old.formulas }
     requires scripts { scripts ≡ length l.now.file.scripts }
+    requires few { formulas ≤ 64 }
     requires names { names.now ≡ names_with store.old.formulas }
     requires short { 62 + length (concat names.now) < 2 ^ 32 }
     requires room { IsWithin (opening_counts l.now formulas) store.old.limits }
     ensures { store.new ≡ record store.old { objects = opening_objects l.now store.old.formulas; scopes = opening_scopes l.now formulas } }
 {
-    make_prototypes(store, l, HOST_CLASSES.as_slice());
-    make_class_objects(store, l, HOST_CLASSES.as_slice());
+    l.linked_law();
+    let classes = HOST_CLASSES.as_slice();
+    make_prototypes(store, l, classes);
+    make_class_objects(store, l, classes);
     make_functions(store, l, formulas);
     make_host_object(store, l, names);
     make_globals(store, l, scripts);
