@@ -6,7 +6,7 @@ ghost use Rattle.abc_heap.specs.Heap.{HasRoomFor};
 ghost use Rattle.abc_program.specs.Linked.{layout_of};
 ghost use Rattle.abc_program.specs.Parts.{HasLayout};
 ghost use Rattle.abc_program.specs.Slots.{slots_of};
-ghost use Rattle.abc_objects.specs.Opening.{IsOpened, IsUnopened, IsWithin, above_host as above, class_object, entry_of, formula_names as names_of, formula_objects, function_object, function_objects, global_object, global_slots, host_object, host_properties, opened, opening_counts, opening_objects, opening_scopes, property_names as names_with, prototype_id, prototype_object, slot_count, spans_from, with_globals, with_more_properties, with_objects};
+ghost use Rattle.abc_objects.specs.Opening.{IsOpened, IsUnopened, IsWithin, above_host as above, class_object, entry_of, formula_names as names_of, formula_objects, function_object, function_objects, global_object, global_slots, host_object, host_properties, opened, opening, opening_counts, opening_objects, opening_scopes, property_names as names_with, prototype_id, prototype_object, slot_count, spans_from, with_globals, with_more_properties, with_objects};
 ghost use Rattle.abc_objects.specs.Starts.{StartsExist};
 
 use crate::arena::class_number;
@@ -15,7 +15,7 @@ use crate::error::OpenError;
 use crate::sound::starts_exist;
 use crate::starts::starts_of;
 use crate::texts::{formula_names, part_zero, property_names};
-use abc_base::{Bytes, Host, HostClass};
+use abc_base::{Bytes, Host, HostClass, NoMemory, Table};
 use abc_cells::{ObjId, Span, Value};
 use abc_heap::{Limits, ScopeEntry, Store, What};
 use abc_link::{Linked, Part};
@@ -248,6 +248,31 @@ fn make_opening(store: &mut Store, l: &Linked, names: &[Bytes], formulas: u32, s
     make_globals(store, l, scripts);
 }
 
+/// A heap with what every run begins with, for which there is room.
+fn opened_store(
+    alloc: Global,
+    l: &Linked,
+    limits: Limits,
+    formulas: Table<Bytes>,
+    count: u32,
+) -> Result<Store, NoMemory>
+    requires starts { StartsExist l.now }
+    requires count { count ≡ length formulas }
+    requires few { count ≤ 64 }
+    requires short { 62 + length (concat (names_with formulas)) < 2 ^ 32 }
+    requires room { IsWithin (opening_counts l.now count) limits }
+    ensures { IfOk result (λ h. h ≡ opening l.now formulas limits) }
+{
+    l.linked_law();
+    let names = property_names(alloc, &formulas)?;
+    let fixed = part_zero(alloc, names.as_slice())?;
+    let classes = l.abc().instances.len() as u32;
+    let scripts = l.abc().scripts.len() as u32;
+    let mut store = Store::empty(alloc, limits, fixed, formulas, classes)?;
+    make_opening(&mut store, l, names.as_slice(), count, scripts);
+    Ok(store)
+}
+
 /// Opens a heap with what every run begins with.
 pub(crate) fn open_store<H: Host>(
     alloc: Global,
@@ -257,20 +282,13 @@ pub(crate) fn open_store<H: Host>(
 ) -> Result<Store, OpenError>
     ensures opened { MatchResult result (IsOpened l.now (names_of (H.formulas host.now)) limits.now) (IsUnopened (opening_counts l.now (length (H.formulas host.now))) limits.now) }
     ensures starts { IfOk result (λ _. StartsExist l.now) }
-    ensures few { length (H.formulas host.now) ≤ 64 }
 {
     if !starts_exist(l) {
         return Err(OpenError::NoMemory);
     }
-    l.linked_law();
     let count = host.count();
     test_room(l, limits, count)?;
     let formulas = formula_names(alloc, host)?;
-    let names = property_names(alloc, &formulas)?;
-    let fixed = part_zero(alloc, names.as_slice())?;
-    let classes = l.abc().instances.len() as u32;
-    let scripts = l.abc().scripts.len() as u32;
-    let mut store = Store::empty(alloc, *limits, fixed, formulas, classes)?;
-    make_opening(&mut store, l, names.as_slice(), count, scripts);
+    let store = opened_store(alloc, l, *limits, formulas, count)?;
     Ok(store)
 }

@@ -30,7 +30,7 @@ impl<'a> LayoutStarts<'a> {
 }
 
 /// The starts of the slots of a layout.
-pub(crate) fn starts_of(l: &Linked, layout: LayoutId) -> LayoutStarts
+pub(crate) fn starts_of<'a>(l: &'a Linked, layout: LayoutId) -> LayoutStarts<'a>
     requires layout { IsLayout l.now layout }
     requires starts { StartsExist l.now }
     ensures pool { result.pool.now ≡ l.now.file.strings }
