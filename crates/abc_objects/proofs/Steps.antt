@@ -283,8 +283,8 @@ built_more old mid new obs more n c m d b e p q = record {
     cells = omega (arith, all_both obs more, b.cells, q);
   }
 
-pub built_room : (old new : Heap) (obs : List Object) (n c N M m d : ℕ) → Built old new obs n c → HasRoomFor old N M → n + m ≤ N → c + d ≤ M → HasRoomFor new m d
-built_room old new obs n c N M m d b r p q = room_on old new obs N M m d b.heap r (omega (arith, b.size)) (omega (arith, b.cells))
+pub built_room : (old new : Heap) (obs : List Object) (n c x y m d : ℕ) → Built old new obs n c → HasRoomFor old x y → n + m ≤ x → c + d ≤ y → HasRoomFor new m d
+built_room old new obs n c x y m d b r p q = room_on old new obs x y m d b.heap r (omega (arith, b.size)) (omega (arith, b.cells))
 
 pub opening_made : (l : LinkedFile) (old mid new : Heap) (fs names : List (List ℕ)) (f scripts : ℕ) → old.objects ≡ [] → old.scopes ≡ [] → Built old mid (map (prototype_object l) host_classes ++ map (class_object l) host_classes ++ function_objects l f ++ host_object l names ∷ []) (30 + f) (29 + f) → new ≡ with_globals l scripts mid → f ≡ length fs → names ≡ property_names fs → scripts ≡ length l.file.scripts → new ≡ record old { objects = opening_objects l fs; scopes = opening_scopes l f }
 opening_made l old mid new fs names f scripts none nodes b q ef en es =

@@ -1,5 +1,5 @@
 -- The opening heap: what every run begins with.
-use Rattle.std.specs.Prelude.{◌≡◌, ℕ, ◌+◌, ◌<◌, ◌≤◌, List, [], ◌∷◌, ◌++◌, length, map, codes, replicate, Option, Some, None, option_map}
+use Rattle.std.specs.Prelude.{◌≡◌, ℕ, ◌+◌, ◌<◌, ◌≤◌, List, [], ◌∷◌, ◌++◌, length, map, codes, replicate, Option, Some, None, option_map, false}
 use Rattle.std.specs.List.{concat, range_with_len, sum}
 use Rattle.abc_base.specs.Names.{class_name}
 use Rattle.abc_base.specs.declared.formula.Formula.{Formula}
@@ -93,7 +93,9 @@ host_properties o (s ∷ ss) = Some (s, values.Obj (obj_id o)) ∷ host_properti
 
 -- its properties are the class objects, trace and the formulas, which stand from number 14 on
 abbrev pub host_object : LinkedFile → List (List ℕ) → Object
-host_object l names = record (opened l (parts.Host hosts.Object) (Some hosts.Object) whats.HostObject) { properties = host_properties 14 (spans_from (length fixed_bytes) names) }
+host_object l names =
+    let plain = opened l (parts.Host hosts.Object) (Some hosts.Object) whats.HostObject in
+    record plain { properties = host_properties 14 (spans_from (length fixed_bytes) names) }
 
 abbrev pub global_object : LinkedFile → ℕ → Object
 global_object l s = opened l (parts.Global s) (Some hosts.Object) (whats.Global s)
