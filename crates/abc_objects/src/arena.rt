@@ -10,7 +10,6 @@ ghost use Rattle.abc_heap.specs.Changes.{with_object, with_slot, with_element, w
 ghost use Rattle.abc_heap.specs.declared.records.Limit.TheVariants.{Cells, Text};
 ghost use Rattle.abc_base.specs.declared.names.HostClass.TheVariants.{Function, Object};
 ghost use Rattle.abc_program.specs.Linked.{LinkedFile, IsLayout};
-ghost use Rattle.abc_program.specs.Places.{host_number};
 ghost use Rattle.abc_objects.specs.Fixed.{fixed_span, fixed_name};
 ghost use Rattle.abc_objects.specs.Opening.{IsOpened, IsUnopened, class_object as class_object_of, entry_of, formula_names, global_number, global_object, host_object as host_object_of, host_object_number, opening_counts, property_names};
 ghost use Rattle.abc_objects.specs.Stands.{StandsOver, IsMadeAs, IsObjectOrNone, IsScope, NamesParts, IsMadeAlone, AreEntries, Each, array_layout, array_prototype, class_object_layout, class_parts, host_class_number, host_layout, prototype_of};
@@ -19,6 +18,7 @@ ghost use Rattle.abc_objects.specs.Values.{Exists, Holds, IsObject, slot_kind};
 
 use crate::error::OpenError;
 use crate::fixed::FixedText;
+use crate::hosts::class_number;
 use crate::opening::open_store;
 use crate::starts::starts_of;
 use abc_base::{Host, HostClass};
@@ -404,27 +404,5 @@ impl Arena {
         ensures over { (l : LinkedFile) → StandsOver l self.old → StandsOver l self.new }
     {
         self.store.give_frame(values);
-    }
-}
-
-/// The position of a host class among the fourteen.
-pub(crate) fn class_number(class: HostClass) -> u32
-    ensures { result ≡ host_number class }
-{
-    match class {
-        HostClass::Object => 0,
-        HostClass::Class => 1,
-        HostClass::Function => 2,
-        HostClass::Namespace => 3,
-        HostClass::Str => 4,
-        HostClass::Int => 5,
-        HostClass::UInt => 6,
-        HostClass::Number => 7,
-        HostClass::Boolean => 8,
-        HostClass::Error => 9,
-        HostClass::TypeError => 10,
-        HostClass::ReferenceError => 11,
-        HostClass::ArgumentError => 12,
-        HostClass::Array => 13,
     }
 }

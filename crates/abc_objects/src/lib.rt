@@ -6,6 +6,7 @@ mod arena;
 mod counts;
 mod error;
 mod fixed;
+mod hosts;
 mod opening;
 mod sound;
 mod starts;

@@ -9,9 +9,9 @@ ghost use Rattle.abc_program.specs.Slots.{slots_of};
 ghost use Rattle.abc_objects.specs.Opening.{IsOpened, IsUnopened, IsWithin, above_host as above, class_object, entry_of, formula_names as names_of, formula_objects, function_object, function_objects, global_object, global_slots, host_object, host_properties, opened, opening, opening_counts, opening_objects, opening_scopes, property_names as names_with, prototype_id, prototype_object, slot_count, spans_from, with_globals, with_more_properties, with_objects};
 ghost use Rattle.abc_objects.specs.Starts.{StartsExist};
 
-use crate::arena::class_number;
 use crate::counts::test_room;
 use crate::error::OpenError;
+use crate::hosts::class_number;
 use crate::sound::starts_exist;
 use crate::starts::starts_of;
 use crate::texts::{formula_names, part_zero, property_names};
