@@ -13,7 +13,7 @@ pub either_way : {T E : Type 0} (X : Type 0) (r : Result T E) (P : T → Type 0)
 either_way X (Ok x) P Q m f g = f x m
 either_way X (Err e) P Q m f g = g e m
 
-slot_there : {X : Type 0} (xs : List X) (k : ℕ) (x : X) → k < length xs → get_or xs k x ≡ x → slice_get xs k ≡ Some x
+pub slot_there : {X : Type 0} (xs : List X) (k : ℕ) (x : X) → k < length xs → get_or xs k x ≡ x → slice_get xs k ≡ Some x
 slot_there (y ∷ xs) zero x b e = ap Some e
 slot_there (y ∷ xs) (suc k) x b e = slot_there xs k x (omega arith) e
 slot_there [] k x b e = absurd (omega arith)
