@@ -44,12 +44,12 @@ with_both ob n k h = record h { objects = h.objects ++ ob ∷ []; scopes = h.sco
 
 pub both_grow : (h : Heap) (ob : Object) (n : ScopeNode) (k : ℕ) → Grows h (with_both ob n k h)
 both_grow h ob n k = record {
-    objects = λ i b. (omega (arith, b, length-append h.objects (ob ∷ [])), keeps_same (object_at h.objects i) (object_at (h.objects ++ ob ∷ []) i) (object_left h.objects (ob ∷ []) i b));
-    scopes = (n ∷ [], refl);
-    fixed = refl;
-    made = ([], sym (append-nil h.made));
-    formulas = refl;
-  }
+  objects = λ i b. (omega (arith, b, length-append h.objects (ob ∷ [])), keeps_same (object_at h.objects i) (object_at (h.objects ++ ob ∷ []) i) (object_left h.objects (ob ∷ []) i b));
+  scopes = (n ∷ [], refl);
+  fixed = refl;
+  made = ([], sym (append-nil h.made));
+  formulas = refl;
+}
 
 set_there : {X : Type 0} (xs : List X) (k : ℕ) (x : X) → k < length xs → slice_get (set xs k x) k ≡ Some x
 set_there (y ∷ xs) zero x b = refl
@@ -82,32 +82,32 @@ over_both l h ob n k home statics instances s b free w a d =
       hosts = λ c. omega (arith, s.hosts c, ap (λ (x : Object). length x.slots) (object_left h.objects (ob ∷ []) (host_class_number c) (slots_there h.objects (host_class_number c) (s.hosts c))));
       fixed = s.fixed;
       objects = λ i x e. elim (slice_get_more h.objects ob x i e) [
-        inl q ↦ object_grown l h new i x g (s.objects i x q.1)
-      | inr q ↦ subst (λ m. ObjectStands l new m x) (sym q.0) (subst (ObjectStands l new (length h.objects)) q.1 a)
+        | inl q ↦ object_grown l h new i x g (s.objects i x q.1)
+        | inr q ↦ subst (λ m. ObjectStands l new m x) (sym q.0) (subst (ObjectStands l new (length h.objects)) q.1 a)
       ];
       scopes = λ i m e. elim (slice_get_more h.scopes n m i e) [
-        inl q ↦ scope_stands_grown h new i m g (s.scopes i m q.1)
-      | inr q ↦ subst (λ j. ScopeStands new j m) (sym q.0) (subst (ScopeStands new (length h.scopes)) q.1 d)
+        | inl q ↦ scope_stands_grown h new i m g (s.scopes i m q.1)
+        | inr q ↦ subst (λ j. ScopeStands new j m) (sym q.0) (subst (ScopeStands new (length h.scopes)) q.1 d)
       ];
       counted = length-set h.classes k (Some (obj_id (length h.objects))) ∙ s.counted;
       named = λ j o e. elim (set_read h.classes k j (Some (obj_id (length h.objects))) (Some (obj_id o)) e) [
-        inl q ↦
-          let p : ◌≡◌ {A = Option ObjId} (Some (obj_id (length h.objects))) (Some (obj_id o)) = q.1 in
-          let r : obj_id (length h.objects) ≡ obj_id o = cc in
-          let z : length h.objects ≡ o = ap (λ (y : ObjId). y.0) r in
-          let own : IsClassObject new k (length h.objects) = record { object = ob; at = slice_get_seam h.objects ob; home = home; statics = statics; instances = instances; is = w } in
-          subst (λ m. IsClassObject new m o) (sym q.0) (subst (IsClassObject new k) z own)
-      | inr q ↦
-          let c = s.named j o q.1 in
-          record { object = c.object; at = slice_get_left h.objects (ob ∷ []) o (slice_get_within h.objects o c.object c.at) ∙ c.at; home = c.home; statics = c.statics; instances = c.instances; is = c.is }
+        | inl q ↦
+            let p : ◌≡◌ {A = Option ObjId} (Some (obj_id (length h.objects))) (Some (obj_id o)) = q.1 in
+            let r : obj_id (length h.objects) ≡ obj_id o = cc in
+            let z : length h.objects ≡ o = ap (λ (y : ObjId). y.0) r in
+            let own : IsClassObject new k (length h.objects) = record { object = ob; at = slice_get_seam h.objects ob; home = home; statics = statics; instances = instances; is = w } in
+            subst (λ m. IsClassObject new m o) (sym q.0) (subst (IsClassObject new k) z own)
+        | inr q ↦
+            let c = s.named j o q.1 in
+            record { object = c.object; at = slice_get_left h.objects (ob ∷ []) o (slice_get_within h.objects o c.object c.at) ∙ c.at; home = c.home; statics = c.statics; instances = c.instances; is = c.is }
       ];
       classes = λ j o c. elim (slice_get_more h.objects ob c.object o c.at) [
-        inl q ↦
-          let was = s.classes j o (record { object = c.object; at = q.1; home = c.home; statics = c.statics; instances = c.instances; is = c.is }) in
-          set_elsewhere h.classes k j (Some (obj_id (length h.objects))) (λ (z : j ≡ k). taken h.classes k (obj_id o) free (ap (slice_get h.classes) (sym z) ∙ was)) ∙ was
-      | inr q ↦
-          let z : k ≡ j = class_of k j home c.home statics c.statics instances c.instances (sym w ∙ (ap (λ (y : Object). y.what) q.1 ∙ c.is)) in
-          subst (λ m. slice_get new.classes m ≡ Some (Some (obj_id o))) z (set_there h.classes k (Some (obj_id (length h.objects))) b ∙ ap (λ m. Some (Some (obj_id m))) (sym q.0))
+        | inl q ↦
+            let was = s.classes j o (record { object = c.object; at = q.1; home = c.home; statics = c.statics; instances = c.instances; is = c.is }) in
+            set_elsewhere h.classes k j (Some (obj_id (length h.objects))) (λ (z : j ≡ k). taken h.classes k (obj_id o) free (ap (slice_get h.classes) (sym z) ∙ was)) ∙ was
+        | inr q ↦
+            let z : k ≡ j = class_of k j home c.home statics c.statics instances c.instances (sym w ∙ (ap (λ (y : Object). y.what) q.1 ∙ c.is)) in
+            subst (λ m. slice_get new.classes m ≡ Some (Some (obj_id o))) z (set_there h.classes k (Some (obj_id (length h.objects))) b ∙ ap (λ m. Some (Some (obj_id m))) (sym q.0))
       ];
     }
 
@@ -120,12 +120,13 @@ class_layout l t k b =
     let m = host_found l t hosts.Class in
     let below = ap length (slots_are l t (host_layout l hosts.Class) (parts.Host hosts.Class) (parts.Host hosts.Object) m.1 refl) ∙ length-append (slots_of_layout l (host_layout l hosts.Object)) (own_slots l (parts.Host hosts.Class)) in
     let all = ap length (slots_are l t x (parts.ClassObject k) (parts.Host hosts.Class) c.1 refl) ∙ length-append (slots_of_layout l (host_layout l hosts.Class)) (own_slots l (parts.ClassObject k)) in
-    let one : length (own_slots l (parts.Host hosts.Class)) ≡ 1 = refl in
-    (c.0
-    , λ (q : x ≡ array_layout l).
-      let w : ◌≡◌ {A = Part} (parts.ClassObject k) (parts.Host hosts.Array) = sym c.1 ∙ (ap (part_at l.parts) q ∙ a.1) in
-      absurd cc
-    , omega (arith, one, below, all))
+    let one : length (own_slots l (parts.Host hosts.Class)) ≡ 1 = refl in (
+      c.0,
+      λ (q : x ≡ array_layout l).
+          let w : ◌≡◌ {A = Part} (parts.ClassObject k) (parts.Host hosts.Array) = sym c.1 ∙ (ap (part_at l.parts) q ∙ a.1) in
+          absurd cc,
+      omega (arith, one, below, all),
+    )
 
 pub over_class : (l : LinkedFile) (h : Heap) (c : ClassParts) (saved : Option ScopeId) (es : List ScopeEntry) → StandsOver l h → c.class < length l.file.instances → c.home < length l.file.scripts → c.prototype_layout ≡ host_layout l hosts.Object → c.class_layout ≡ (layout_of l (parts.ClassObject c.class)).0 → IsObjectOrNone h c.base_prototype → IsObjectOrNone h c.delegate → IsScope h saved → AreEntries h es → get_or h.classes c.class None ≡ None → StandsOver l (with_class (start_values l c.prototype_layout) (start_values l c.class_layout) c saved es h)
 over_class l h c saved es s bk bh ex ey db dd sc a free =
@@ -137,8 +138,8 @@ over_class l h c saved es s bk bh ex ey db dd sc a free =
     let array = host_found l t hosts.Array in
     let k = class_layout l t c.class bk in
     let plain : x ≢ array_layout l = λ (q : x ≡ array_layout l).
-      let w : ◌≡◌ {A = Part} (parts.Host hosts.Object) (parts.Host hosts.Array) = sym object.1 ∙ (ap (part_at l.parts) (sym ex ∙ q) ∙ array.1) in
-      absurd cc in
+    let w : ◌≡◌ {A = Part} (parts.Host hosts.Object) (parts.Host hosts.Array) = sym object.1 ∙ (ap (part_at l.parts) (sym ex ∙ q) ∙ array.1) in
+    absurd cc in
     let bx : x < length l.parts = subst (λ n. n < length l.parts) (sym ex) object.0 in
     let by : y < length l.parts = subst (λ n. n < length l.parts) (sym ey) k.0 in
     let h1 = with_made (start_values l x) x c.base_prototype whats.Plain h in

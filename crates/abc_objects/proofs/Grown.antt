@@ -36,12 +36,12 @@ grows_self h = record { objects = λ o b. (b, keeps_self (object_at h.objects o)
 
 pub grows_on : (a b c : Heap) → Grows a b → Grows b c → Grows a c
 grows_on a b c p q = record {
-    objects = λ o i. let r = p.objects o i in let s = q.objects o r.0 in (s.0, keeps_on (object_at a.objects o) (object_at b.objects o) (object_at c.objects o) r.1 s.1);
-    scopes = (p.scopes.0 ++ q.scopes.0, q.scopes.1 ∙ (ap (λ m. m ++ q.scopes.0) p.scopes.1 ∙ append_assoc a.scopes p.scopes.0 q.scopes.0));
-    fixed = q.fixed ∙ p.fixed;
-    made = (p.made.0 ++ q.made.0, q.made.1 ∙ (ap (λ m. m ++ q.made.0) p.made.1 ∙ append_assoc a.made p.made.0 q.made.0));
-    formulas = q.formulas ∙ p.formulas;
-  }
+  objects = λ o i. let r = p.objects o i in let s = q.objects o r.0 in (s.0, keeps_on (object_at a.objects o) (object_at b.objects o) (object_at c.objects o) r.1 s.1);
+  scopes = (p.scopes.0 ++ q.scopes.0, q.scopes.1 ∙ (ap (λ m. m ++ q.scopes.0) p.scopes.1 ∙ append_assoc a.scopes p.scopes.0 q.scopes.0));
+  fixed = q.fixed ∙ p.fixed;
+  made = (p.made.0 ++ q.made.0, q.made.1 ∙ (ap (λ m. m ++ q.made.0) p.made.1 ∙ append_assoc a.made p.made.0 q.made.0));
+  formulas = q.formulas ∙ p.formulas;
+}
 
 pub scopes_grown : (a b : Heap) → Grows a b → length a.scopes ≤ length b.scopes
 scopes_grown a b g = omega (arith, ap length g.scopes.1, length-append a.scopes g.scopes.0)
@@ -52,13 +52,13 @@ scope_kept a b s n g e = ap (λ ns. slice_get ns s) g.scopes.1 ∙ (slice_get_le
 -- what the opening made
 pub opening_grown : (l : LinkedFile) (a b : Heap) → Grows a b → HasOpening l a → HasOpening l b
 opening_grown l a b g e = record {
-    objects = λ o ob q.
+  objects = λ o ob q.
       let was = e.objects o ob (ap (λ fs. slice_get (opening_objects l fs) o) (sym g.formulas) ∙ q) in
       let now = g.objects o was.0 in
       (now.0, keeps_on ob (object_at a.objects o) (object_at b.objects o) was.1 now.1);
-    scopes = λ s n q. scope_kept a b s n g (e.scopes s n (ap (λ fs. slice_get (opening_scopes l (length fs)) s) (sym g.formulas) ∙ q));
-    few = omega (arith, e.few, ap length g.formulas);
-  }
+  scopes = λ s n q. scope_kept a b s n g (e.scopes s n (ap (λ fs. slice_get (opening_scopes l (length fs)) s) (sym g.formulas) ∙ q));
+  few = omega (arith, e.few, ap length g.formulas);
+}
 
 -- a text
 part_grown : (l : LinkedFile) (a b : Heap) (p : ℕ) → Grows a b → length (part_of a.fixed a.made l.file.strings p) ≤ length (part_of b.fixed b.made l.file.strings p)
@@ -122,17 +122,17 @@ property_grown l a b (Some p) g e = (text_grown l a b p.0 g e.0, exists_grown l 
 -- an object that is the same
 pub object_grown : (l : LinkedFile) (a b : Heap) (o : ℕ) (ob : Object) → Grows a b → ObjectStands l a o ob → ObjectStands l b o ob
 object_grown l a b o ob g e = record {
-    layout = e.layout;
-    slots = e.slots;
-    delegate = e.delegate;
-    what = names_grown l a b ob.what g e.what;
-    array = e.array;
-    no_array = e.no_array;
-    elements = e.elements;
-    slot_values = λ k v q. exists_grown l a b v g (e.slot_values k v q);
-    properties = λ k p q. property_grown l a b p g (e.properties k p q);
-    element_values = λ k v q. exists_grown l a b v g (e.element_values k v q);
-  }
+  layout = e.layout;
+  slots = e.slots;
+  delegate = e.delegate;
+  what = names_grown l a b ob.what g e.what;
+  array = e.array;
+  no_array = e.no_array;
+  elements = e.elements;
+  slot_values = λ k v q. exists_grown l a b v g (e.slot_values k v q);
+  properties = λ k p q. property_grown l a b p g (e.properties k p q);
+  element_values = λ k v q. exists_grown l a b v g (e.element_values k v q);
+}
 
 pub scope_stands_grown : (a b : Heap) (s : ℕ) (n : ScopeNode) → Grows a b → ScopeStands a s n → ScopeStands b s n
 scope_stands_grown a b s n g e = record { object = (g.objects n.entry.object.0 e.object).0; parent = e.parent }

@@ -56,12 +56,12 @@ slots_kept f (suc o) (ob ∷ obs) (suc i) w = slots_kept f o obs i w
 
 pub changed_grows : (h : Heap) (f : Object → Object) (o : ℕ) → ((ob : Object) → Keeps ob (f ob)) → Grows h (with_object f o h)
 changed_grows h f o w = record {
-    objects = λ i b. (omega (arith, b, length_change f o h.objects), kept_at f o h.objects i w);
-    scopes = ([], sym (append-nil h.scopes));
-    fixed = refl;
-    made = ([], sym (append-nil h.made));
-    formulas = refl;
-  }
+  objects = λ i b. (omega (arith, b, length_change f o h.objects), kept_at f o h.objects i w);
+  scopes = ([], sym (append-nil h.scopes));
+  fixed = refl;
+  made = ([], sym (append-nil h.made));
+  formulas = refl;
+}
 
 -- a change that leaves what an object is, and after which it stands as before
 pub record Reshapes (l : LinkedFile) (h : Heap) (o : ℕ) (f : Object → Object) : Type 0 where
@@ -80,28 +80,28 @@ over_changed l h f o s r =
       hosts = λ c. omega (arith, s.hosts c, slots_kept f o h.objects (host_class_number c) r.slots);
       fixed = s.fixed;
       objects = λ i ob e.
-        let w = was_object f o h.objects i ob e in
-        let old = s.objects i w.0 w.1 in
-        object_grown l h new i ob g (elim w.2 [
-          inl q ↦ subst (ObjectStands l h i) (sym q) old
-        | inr q ↦
-            let at : slice_get h.objects o ≡ Some w.0 = ap (slice_get h.objects) (sym q.0) ∙ w.1 in
-            let fresh : ObjectStands l h o (f w.0) = r.stands w.0 at (s.objects o w.0 at) in
-            subst (λ n. ObjectStands l h n ob) (sym q.0) (subst (ObjectStands l h o) (sym q.1) fresh)
-        ]);
+          let w = was_object f o h.objects i ob e in
+          let old = s.objects i w.0 w.1 in
+          object_grown l h new i ob g (elim w.2 [
+            | inl q ↦ subst (ObjectStands l h i) (sym q) old
+            | inr q ↦
+                let at : slice_get h.objects o ≡ Some w.0 = ap (slice_get h.objects) (sym q.0) ∙ w.1 in
+                let fresh : ObjectStands l h o (f w.0) = r.stands w.0 at (s.objects o w.0 at) in
+                subst (λ n. ObjectStands l h n ob) (sym q.0) (subst (ObjectStands l h o) (sym q.1) fresh)
+          ]);
       scopes = λ i n e. scope_stands_grown h new i n g (s.scopes i n e);
       counted = s.counted;
       named = λ k i e.
-        let c = s.named k i e in
-        let y = now_object f o h.objects i c.object (λ x. (r.keeps x).what) c.at in
-        record { object = y.0; at = y.1; home = c.home; statics = c.statics; instances = c.instances; is = y.2 ∙ c.is };
+          let c = s.named k i e in
+          let y = now_object f o h.objects i c.object (λ x. (r.keeps x).what) c.at in
+          record { object = y.0; at = y.1; home = c.home; statics = c.statics; instances = c.instances; is = y.2 ∙ c.is };
       classes = λ k i c.
-        let w = was_object f o h.objects i c.object c.at in
-        let same : c.object.what ≡ w.0.what = elim w.2 [
-          inl q ↦ ap (λ (z : Object). z.what) q
-        | inr q ↦ ap (λ (z : Object). z.what) q.1 ∙ (r.keeps w.0).what
-        ] in
-        s.classes k i (record { object = w.0; at = w.1; home = c.home; statics = c.statics; instances = c.instances; is = sym same ∙ c.is });
+          let w = was_object f o h.objects i c.object c.at in
+          let same : c.object.what ≡ w.0.what = elim w.2 [
+            | inl q ↦ ap (λ (z : Object). z.what) q
+            | inr q ↦ ap (λ (z : Object). z.what) q.1 ∙ (r.keeps w.0).what
+          ] in
+          s.classes k i (record { object = w.0; at = w.1; home = c.home; statics = c.statics; instances = c.instances; is = sym same ∙ c.is });
     }
 
 -- ---- what is made at the end
@@ -118,12 +118,12 @@ slots_there [] o b = absurd (omega arith)
 
 pub added_grows : (h : Heap) (ob : Object) → Grows h (record h { objects = h.objects ++ ob ∷ [] })
 added_grows h ob = record {
-    objects = λ i b. (omega (arith, b, length-append h.objects (ob ∷ [])), keeps_same (object_at h.objects i) (object_at (h.objects ++ ob ∷ []) i) (object_left h.objects (ob ∷ []) i b));
-    scopes = ([], sym (append-nil h.scopes));
-    fixed = refl;
-    made = ([], sym (append-nil h.made));
-    formulas = refl;
-  }
+  objects = λ i b. (omega (arith, b, length-append h.objects (ob ∷ [])), keeps_same (object_at h.objects i) (object_at (h.objects ++ ob ∷ []) i) (object_left h.objects (ob ∷ []) i b));
+  scopes = ([], sym (append-nil h.scopes));
+  fixed = refl;
+  made = ([], sym (append-nil h.made));
+  formulas = refl;
+}
 
 -- an object that is no class object
 pub over_added : (l : LinkedFile) (h : Heap) (ob : Object) → StandsOver l h → ObjectStands l h (length h.objects) ob → ((k s : ℕ) (c : Option ScopeId) (i : ScopeId) → ob.what ≡ whats.ClassObject k s c i → ⊥) → StandsOver l (record h { objects = h.objects ++ ob ∷ [] })
@@ -137,36 +137,36 @@ over_added l h ob s a other =
       hosts = λ c. omega (arith, s.hosts c, ap (λ (x : Object). length x.slots) (object_left h.objects (ob ∷ []) (host_class_number c) (slots_there h.objects (host_class_number c) (s.hosts c))));
       fixed = s.fixed;
       objects = λ i x e. object_grown l h new i x g (elim (slice_get_more h.objects ob x i e) [
-        inl q ↦ s.objects i x q.1
-      | inr q ↦ subst (λ n. ObjectStands l h n x) (sym q.0) (subst (ObjectStands l h (length h.objects)) q.1 a)
+        | inl q ↦ s.objects i x q.1
+        | inr q ↦ subst (λ n. ObjectStands l h n x) (sym q.0) (subst (ObjectStands l h (length h.objects)) q.1 a)
       ]);
       scopes = λ i n e. scope_stands_grown h new i n g (s.scopes i n e);
       counted = s.counted;
       named = λ k i e.
-        let c = s.named k i e in
-        record { object = c.object; at = slice_get_left h.objects (ob ∷ []) i (slice_get_within h.objects i c.object c.at) ∙ c.at; home = c.home; statics = c.statics; instances = c.instances; is = c.is };
+          let c = s.named k i e in
+          record { object = c.object; at = slice_get_left h.objects (ob ∷ []) i (slice_get_within h.objects i c.object c.at) ∙ c.at; home = c.home; statics = c.statics; instances = c.instances; is = c.is };
       classes = λ k i c. elim (slice_get_more h.objects ob c.object i c.at) [
-        inl q ↦ s.classes k i (record { object = c.object; at = q.1; home = c.home; statics = c.statics; instances = c.instances; is = c.is })
-      | inr q ↦ absurd (other k c.home c.statics c.instances (ap (λ (z : Object). z.what) q.1 ∙ c.is))
+        | inl q ↦ s.classes k i (record { object = c.object; at = q.1; home = c.home; statics = c.statics; instances = c.instances; is = c.is })
+        | inr q ↦ absurd (other k c.home c.statics c.instances (ap (λ (z : Object). z.what) q.1 ∙ c.is))
       ];
     }
 
 -- a heap with the same objects, scopes and classes
 pub over_same : (l : LinkedFile) (h new : Heap) → StandsOver l h → Grows h new → new.objects ≡ h.objects → new.scopes ≡ h.scopes → new.classes ≡ h.classes → StandsOver l new
 over_same l h new s g p q r = record {
-    linked = s.linked;
-    starts = s.starts;
-    opening = opening_grown l h new g s.opening;
-    hosts = λ c. omega (arith, s.hosts c, ap (λ obs. length (slots_of obs (host_class_number c))) p);
-    fixed = (s.fixed.0, g.fixed ∙ s.fixed.1);
-    objects = λ i ob e. object_grown l h new i ob g (s.objects i ob (ap (λ obs. slice_get obs i) (sym p) ∙ e));
-    scopes = λ i n e. scope_stands_grown h new i n g (s.scopes i n (ap (λ ns. slice_get ns i) (sym q) ∙ e));
-    counted = ap length r ∙ s.counted;
-    named = λ k i e.
+  linked = s.linked;
+  starts = s.starts;
+  opening = opening_grown l h new g s.opening;
+  hosts = λ c. omega (arith, s.hosts c, ap (λ obs. length (slots_of obs (host_class_number c))) p);
+  fixed = (s.fixed.0, g.fixed ∙ s.fixed.1);
+  objects = λ i ob e. object_grown l h new i ob g (s.objects i ob (ap (λ obs. slice_get obs i) (sym p) ∙ e));
+  scopes = λ i n e. scope_stands_grown h new i n g (s.scopes i n (ap (λ ns. slice_get ns i) (sym q) ∙ e));
+  counted = ap length r ∙ s.counted;
+  named = λ k i e.
       let c = s.named k i (ap (λ cs. slice_get cs k) (sym r) ∙ e) in
       record { object = c.object; at = ap (λ obs. slice_get obs i) p ∙ c.at; home = c.home; statics = c.statics; instances = c.instances; is = c.is };
-    classes = λ k i c. ap (λ cs. slice_get cs k) r ∙ s.classes k i (record { object = c.object; at = ap (λ obs. slice_get obs i) (sym p) ∙ c.at; home = c.home; statics = c.statics; instances = c.instances; is = c.is });
-  }
+  classes = λ k i c. ap (λ cs. slice_get cs k) r ∙ s.classes k i (record { object = c.object; at = ap (λ obs. slice_get obs i) (sym p) ∙ c.at; home = c.home; statics = c.statics; instances = c.instances; is = c.is });
+}
 
 -- texts made
 pub made_grows : (h : Heap) (more : List ℕ) → Grows h (record h { made = h.made ++ more })
@@ -186,12 +186,12 @@ over_frames l h frames stack s = over_same l h (record h { frames = frames; stac
 
 pub scopes_grow : (h : Heap) (saved : Option ScopeId) (es : List ScopeEntry) → Grows h (with_scopes saved es h)
 scopes_grow h saved es = record {
-    objects = λ i b. (b, keeps_self (object_at h.objects i));
-    scopes = (nodes (length h.scopes) saved es, refl);
-    fixed = refl;
-    made = ([], sym (append-nil h.made));
-    formulas = refl;
-  }
+  objects = λ i b. (b, keeps_self (object_at h.objects i));
+  scopes = (nodes (length h.scopes) saved es, refl);
+  fixed = refl;
+  made = ([], sym (append-nil h.made));
+  formulas = refl;
+}
 
 -- an element of two lists together
 pub in_either : {X : Type 0} (xs ys : List X) (i : ℕ) (y : X) → slice_get (xs ++ ys) i ≡ Some y → ((i < length xs) × (slice_get xs i ≡ Some y)) ⊎ ((j : ℕ) × (i ≡ length xs + j) × (slice_get ys j ≡ Some y))
@@ -228,13 +228,13 @@ over_scopes l h saved es s sc a =
       fixed = s.fixed;
       objects = λ i ob e. object_grown l h new i ob g (s.objects i ob e);
       scopes = λ i n e. scope_stands_grown h new i n g (elim (in_either h.scopes (nodes (length h.scopes) saved es) i n e) [
-        inl q ↦ s.scopes i n q.1
-      | inr q ↦ subst (λ k. ScopeStands h k n) (sym q.1) (nodes_stand h (length h.scopes) saved es q.0 n (beneath h saved sc) a q.2)
+        | inl q ↦ s.scopes i n q.1
+        | inr q ↦ subst (λ k. ScopeStands h k n) (sym q.1) (nodes_stand h (length h.scopes) saved es q.0 n (beneath h saved sc) a q.2)
       ]);
       counted = s.counted;
       named = λ k i e.
-        let c = s.named k i e in
-        record { object = c.object; at = c.at; home = c.home; statics = c.statics; instances = c.instances; is = c.is };
+          let c = s.named k i e in
+          record { object = c.object; at = c.at; home = c.home; statics = c.statics; instances = c.instances; is = c.is };
       classes = λ k i c. s.classes k i (record { object = c.object; at = c.at; home = c.home; statics = c.statics; instances = c.instances; is = c.is });
     }
 
@@ -251,4 +251,4 @@ scope_is h (Some s) b = b
 pub top_is : (h : Heap) (saved : Option ScopeId) (es : List ScopeEntry) → IsScope h saved → IsScope (with_scopes saved es h) (top (length h.scopes) saved es)
 top_is h saved es s =
     scope_is (with_scopes saved es h) (top (length h.scopes) saved es)
-      (top_within (length h.scopes) saved es (length (h.scopes ++ nodes (length h.scopes) saved es)) (omega (arith, length-append h.scopes (nodes (length h.scopes) saved es), nodes_length (length h.scopes) saved es)) (beneath h saved s))
+    (top_within (length h.scopes) saved es (length (h.scopes ++ nodes (length h.scopes) saved es)) (omega (arith, length-append h.scopes (nodes (length h.scopes) saved es), nodes_length (length h.scopes) saved es)) (beneath h saved s))

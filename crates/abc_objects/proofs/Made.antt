@@ -58,12 +58,12 @@ start_there l h x k v s e q = go (slice_get (slots_of l x) k) refl
   where
     go : (i : Option SlotInfo) → slice_get (slots_of l x) k ≡ i → Exists l h v
     go None w =
-      let p : ◌≡◌ {A = Option Value} None (Some v) = ap (option_map (λ (i : SlotInfo). start_value l.file.strings i.start)) (sym w) ∙ (sym (slice_get-map (λ (i : SlotInfo). start_value l.file.strings i.start) (slots_of l x) k) ∙ q) in
-      absurd cc
+        let p : ◌≡◌ {A = Option Value} None (Some v) = ap (option_map (λ (i : SlotInfo). start_value l.file.strings i.start)) (sym w) ∙ (sym (slice_get-map (λ (i : SlotInfo). start_value l.file.strings i.start) (slots_of l x) k) ∙ q) in
+        absurd cc
     go (Some i) w =
-      let p : ◌≡◌ {A = Option Value} (Some (start_value l.file.strings i.start)) (Some v) = ap (option_map (λ (i : SlotInfo). start_value l.file.strings i.start)) (sym w) ∙ (sym (slice_get-map (λ (i : SlotInfo). start_value l.file.strings i.start) (slots_of l x) k) ∙ q) in
-      let r : start_value l.file.strings i.start ≡ v = cc in
-      subst (Exists l h) r (start_exists l h i.start s (e.each k i w))
+        let p : ◌≡◌ {A = Option Value} (Some (start_value l.file.strings i.start)) (Some v) = ap (option_map (λ (i : SlotInfo). start_value l.file.strings i.start)) (sym w) ∙ (sym (slice_get-map (λ (i : SlotInfo). start_value l.file.strings i.start) (slots_of l x) k) ∙ q) in
+        let r : start_value l.file.strings i.start ≡ v = cc in
+        subst (Exists l h) r (start_exists l h i.start s (e.each k i w))
 
 pub older : (h : Heap) (d : Option ObjId) → IsObjectOrNone h d → IsOlder (length h.objects) d
 older h None e = tt
@@ -72,17 +72,17 @@ older h (Some d) e = e
 -- an object with the slots of a layout, at their start values
 pub bare_stands : (l : LinkedFile) (h : Heap) (o x : ℕ) (delegate : Option ObjId) (what : What) → 62 ≤ length h.fixed → StartsExist l → x < length l.parts → IsOlder o delegate → NamesParts l h what → is_array what ≡ false → x ≢ array_layout l → ObjectStands l h o (with_more_slots (start_values l x) (bare x delegate what))
 bare_stands l h o x delegate what f e b d n plain ne = record {
-    layout = b;
-    slots = length-map (slots_of l x) (λ (i : SlotInfo). start_value l.file.strings i.start);
-    delegate = d;
-    what = n;
-    array = λ q. absurd cc;
-    no_array = λ q. ne;
-    elements = λ q. refl;
-    slot_values = λ k v q. start_there l h x k v f (e x b) q;
-    properties = λ k p q. absurd cc;
-    element_values = λ k v q. absurd cc;
-  }
+  layout = b;
+  slots = length-map (slots_of l x) (λ (i : SlotInfo). start_value l.file.strings i.start);
+  delegate = d;
+  what = n;
+  array = λ q. absurd cc;
+  no_array = λ q. ne;
+  elements = λ q. refl;
+  slot_values = λ k v q. start_there l h x k v f (e x b) q;
+  properties = λ k p q. absurd cc;
+  element_values = λ k v q. absurd cc;
+}
 
 -- what an object may be that is made by itself
 pub over_made_object : (l : LinkedFile) (h : Heap) (x : ℕ) (delegate : Option ObjId) (what : What) → StandsOver l h → x < length l.parts → IsObjectOrNone h delegate → NamesParts l h what → is_array what ≡ false → x ≢ array_layout l → ((k s : ℕ) (c : Option ScopeId) (i : ScopeId) → what ≡ whats.ClassObject k s c i → ⊥) → StandsOver l (with_made (start_values l x) x delegate what h)
@@ -111,10 +111,12 @@ host_found l t c = part_found l t (parts.Host c) tt
 pub function_layout : (l : LinkedFile) → IsLinkedFile l → (host_layout l hosts.Function < length l.parts) × (host_layout l hosts.Function ≢ array_layout l)
 function_layout l t =
     let f = host_found l t hosts.Function in
-    let a = host_found l t hosts.Array in
-    (f.0, λ (q : host_layout l hosts.Function ≡ array_layout l).
-      let w : ◌≡◌ {A = Part} (parts.Host hosts.Function) (parts.Host hosts.Array) = sym f.1 ∙ (ap (part_at l.parts) q ∙ a.1) in
-      absurd cc)
+    let a = host_found l t hosts.Array in (
+      f.0,
+      λ (q : host_layout l hosts.Function ≡ array_layout l).
+          let w : ◌≡◌ {A = Part} (parts.Host hosts.Function) (parts.Host hosts.Array) = sym f.1 ∙ (ap (part_at l.parts) q ∙ a.1) in
+          absurd cc,
+    )
 
 -- a function, above the scopes that it keeps
 pub over_function : (l : LinkedFile) (h : Heap) (m s : ℕ) (delegate : Option ObjId) (saved : Option ScopeId) (es : List ScopeEntry) → StandsOver l h → m < length l.file.methods → s < length l.file.scripts → IsObjectOrNone h delegate → IsScope h saved → AreEntries h es → StandsOver l (with_made (start_values l (host_layout l hosts.Function)) (host_layout l hosts.Function) delegate (whats.Closure m s (top (length h.scopes) saved es) None) (with_scopes saved es h))
@@ -122,7 +124,7 @@ over_function l h m s delegate saved es over bm bs d sc a =
     let mid = with_scopes saved es h in
     let f = function_layout l over.linked in
     over_made_object l mid (host_layout l hosts.Function) delegate (whats.Closure m s (top (length h.scopes) saved es) None)
-      (over_scopes l h saved es over sc a) f.0 (bound_grown h mid delegate (scopes_grow h saved es) d) (bm, bs, top_is h saved es sc, tt) refl f.1 (λ k n c i q. absurd cc)
+    (over_scopes l h saved es over sc a) f.0 (bound_grown h mid delegate (scopes_grow h saved es) d) (bm, bs, top_is h saved es sc, tt) refl f.1 (λ k n c i q. absurd cc)
 
 -- an object that is made by itself is no array and no class object
 pub made_alone : (what : What) → IsMadeAlone what → (is_array what ≡ false) × ((k s : ℕ) (c : Option ScopeId) (i : ScopeId) → what ≡ whats.ClassObject k s c i → ⊥)

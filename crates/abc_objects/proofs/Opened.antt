@@ -103,19 +103,21 @@ prototype_opens l h c f t e =
 class_opens : (l : LinkedFile) (h : Heap) (o : ℕ) (c : HostClass) → 62 ≤ length h.fixed → IsLinkedFile l → StartsExist l → 14 ≤ o → 14 ≤ length h.objects → Opens l h o (class_object l c)
 class_opens l h o c f t e b n =
     let s = opened_stands l h o (parts.HostClassObject c) (Some hosts.Class) (whats.HostClass c) f t e tt (λ q. absurd cc) (omega arith) tt refl in
-    let there : host_number c < length h.objects = omega (arith, few_classes c) in
-    (record {
-      layout = s.layout;
-      slots = length-set (map (λ (i : SlotInfo). start_value l.file.strings i.start) (slots_of l (layout_of l (parts.HostClassObject c)).0)) 0 (values.Obj (prototype_id c)) ∙ s.slots;
-      delegate = s.delegate;
-      what = s.what;
-      array = s.array;
-      no_array = s.no_array;
-      elements = s.elements;
-      slot_values = each_set (Exists l h) (map (λ (i : SlotInfo). start_value l.file.strings i.start) (slots_of l (layout_of l (parts.HostClassObject c)).0)) 0 (values.Obj (prototype_id c)) s.slot_values there;
-      properties = s.properties;
-      element_values = s.element_values;
-    }, λ k i m n q. absurd cc)
+    let there : host_number c < length h.objects = omega (arith, few_classes c) in (
+      record {
+        layout = s.layout;
+        slots = length-set (map (λ (i : SlotInfo). start_value l.file.strings i.start) (slots_of l (layout_of l (parts.HostClassObject c)).0)) 0 (values.Obj (prototype_id c)) ∙ s.slots;
+        delegate = s.delegate;
+        what = s.what;
+        array = s.array;
+        no_array = s.no_array;
+        elements = s.elements;
+        slot_values = each_set (Exists l h) (map (λ (i : SlotInfo). start_value l.file.strings i.start) (slots_of l (layout_of l (parts.HostClassObject c)).0)) 0 (values.Obj (prototype_id c)) s.slot_values there;
+        properties = s.properties;
+        element_values = s.element_values;
+      },
+      λ k i m n q. absurd cc,
+    )
 
 function_opens : (l : LinkedFile) (h : Heap) (o : ℕ) (what : What) → 62 ≤ length h.fixed → IsLinkedFile l → StartsExist l → 14 ≤ o → NamesParts l h what → is_array what ≡ false → ((k s : ℕ) (c : Option ScopeId) (i : ScopeId) → what ≡ whats.ClassObject k s c i → ⊥) → Opens l h o (function_object l what)
 function_opens l h o what f t e b names plain other =
@@ -138,19 +140,21 @@ properties_stand l h o at (t ∷ ts) a b (suc k) p q =
 
 host_opens : (l : LinkedFile) (h : Heap) (o : ℕ) (names : List (List ℕ)) → 62 + length (concat names) ≤ length h.fixed → IsLinkedFile l → StartsExist l → 14 ≤ o → 14 + length names ≤ length h.objects → Opens l h o (host_object l names)
 host_opens l h o names f t e b n =
-    let s = opened_stands l h o (parts.Host hosts.Object) (Some hosts.Object) whats.HostObject (omega arith) t e tt (λ q. absurd cc) (omega arith) tt refl in
-    (record {
-      layout = s.layout;
-      slots = s.slots;
-      delegate = s.delegate;
-      what = s.what;
-      array = s.array;
-      no_array = s.no_array;
-      elements = s.elements;
-      slot_values = s.slot_values;
-      properties = properties_stand l h 14 62 names f n;
-      element_values = s.element_values;
-    }, λ k i m j q. absurd cc)
+    let s = opened_stands l h o (parts.Host hosts.Object) (Some hosts.Object) whats.HostObject (omega arith) t e tt (λ q. absurd cc) (omega arith) tt refl in (
+      record {
+        layout = s.layout;
+        slots = s.slots;
+        delegate = s.delegate;
+        what = s.what;
+        array = s.array;
+        no_array = s.no_array;
+        elements = s.elements;
+        slot_values = s.slot_values;
+        properties = properties_stand l h 14 62 names f n;
+        element_values = s.element_values;
+      },
+      λ k i m j q. absurd cc,
+    )
 
 -- ---- all of them
 
@@ -202,27 +206,27 @@ objects_open l h fs f t e same n =
     let q14 : 14 ≤ length h.objects = omega arith in
     let count : length fs ≤ length h.formulas = omega (arith, ap length same) in
     let a : From (Opens l h) 0 (protos l) = λ k x q.
-      let r = at_class (prototype_object l) k x q in
-      let z : host_number r.0 ≡ 0 + k = omega (arith, r.1) in
-      subst (Opens l h (0 + k)) r.2 (subst (λ i. Opens l h i (prototype_object l r.0)) z (prototype_opens l h r.0 q62 t e)) in
+    let r = at_class (prototype_object l) k x q in
+    let z : host_number r.0 ≡ 0 + k = omega (arith, r.1) in
+    subst (Opens l h (0 + k)) r.2 (subst (λ i. Opens l h i (prototype_object l r.0)) z (prototype_opens l h r.0 q62 t e)) in
     let b : From (Opens l h) 14 (natives l) = λ k x q.
-      let r = at_class (class_object l) k x q in
-      subst (Opens l h (14 + k)) r.2 (class_opens l h (14 + k) r.0 q62 t e (omega arith) q14) in
+    let r = at_class (class_object l) k x q in
+    subst (Opens l h (14 + k)) r.2 (class_opens l h (14 + k) r.0 q62 t e (omega arith) q14) in
     let c : From (Opens l h) 28 (function_objects l (length fs)) = functions_open l h (length fs) q62 t e count in
     let d : From (Opens l h) (29 + length fs) (host_object l (property_names fs) ∷ []) = λ k x q. host_at k x q in
     let g : From (Opens l h) (30 + length fs) (map (global_object l) (range_with_len 0 scripts)) = λ k x q.
-      let r = at_range (global_object l) 0 scripts k x q in
-      let low : 0 + k < scripts = omega (arith, r.0) in
-      subst (Opens l h (30 + length fs + k)) r.1 (global_opens l h (30 + length fs + k) (0 + k) q62 t e (omega arith) low) in
+    let r = at_range (global_object l) 0 scripts k x q in
+    let low : 0 + k < scripts = omega (arith, r.0) in
+    subst (Opens l h (30 + length fs + k)) r.1 (global_opens l h (30 + length fs + k) (0 + k) q62 t e (omega arith) low) in
     from_both (Opens l h) 0 (30 + length fs) (protos l ++ natives l ++ function_objects l (length fs) ++ host_object l (property_names fs) ∷ []) (map (global_object l) (range_with_len 0 scripts)) (omega (arith, four_length l fs))
-      (from_both (Opens l h) 0 (29 + length fs) (protos l ++ natives l ++ function_objects l (length fs)) (host_object l (property_names fs) ∷ []) (omega (arith, three_length l (length fs)))
-        (from_both (Opens l h) 0 28 (protos l ++ natives l) (function_objects l (length fs)) (omega (arith, two_length l))
-          (from_both (Opens l h) 0 14 (protos l) (natives l) refl a b) c) d) g
+    (from_both (Opens l h) 0 (29 + length fs) (protos l ++ natives l ++ function_objects l (length fs)) (host_object l (property_names fs) ∷ []) (omega (arith, three_length l (length fs)))
+    (from_both (Opens l h) 0 28 (protos l ++ natives l) (function_objects l (length fs)) (omega (arith, two_length l))
+    (from_both (Opens l h) 0 14 (protos l) (natives l) refl a b) c) d) g
   where
     host_at : (k : ℕ) (x : Object) → slice_get (host_object l (property_names fs) ∷ []) k ≡ Some x → Opens l h (29 + length fs + k) x
     host_at zero x q =
-      let w : host_object l (property_names fs) ≡ x = cc in
-      subst (Opens l h (29 + length fs + zero)) w (host_opens l h (29 + length fs + zero) (property_names fs) f t e (omega arith) (omega (arith, names_length fs)))
+        let w : host_object l (property_names fs) ≡ x = cc in
+        subst (Opens l h (29 + length fs + zero)) w (host_opens l h (29 + length fs + zero) (property_names fs) f t e (omega arith) (omega (arith, names_length fs)))
     host_at (suc k) x q = absurd cc
 
 -- ---- where they stand
@@ -232,14 +236,14 @@ class_there l fs c =
     let scripts = length l.file.scripts in
     let p : length (protos l) ≡ 14 = refl in
     left_at (protos l ++ natives l ++ function_objects l (length fs) ++ host_object l (property_names fs) ∷ []) (map (global_object l) (range_with_len 0 scripts)) (host_class_number c) (class_object l c)
-      (left_at (protos l ++ natives l ++ function_objects l (length fs)) (host_object l (property_names fs) ∷ []) (host_class_number c) (class_object l c)
-        (left_at (protos l ++ natives l) (function_objects l (length fs)) (host_class_number c) (class_object l c)
-          (right_at (protos l) (natives l) (host_number c) (host_class_number c) (omega (arith, p)) ∙ class_at (class_object l) c)))
+    (left_at (protos l ++ natives l ++ function_objects l (length fs)) (host_object l (property_names fs) ∷ []) (host_class_number c) (class_object l c)
+    (left_at (protos l ++ natives l) (function_objects l (length fs)) (host_class_number c) (class_object l c)
+    (right_at (protos l) (natives l) (host_number c) (host_class_number c) (omega (arith, p)) ∙ class_at (class_object l) c)))
 
 pub host_there : (l : LinkedFile) (fs : List (List ℕ)) → slice_get (opening_objects l fs) (host_object_number (length fs)) ≡ Some (host_object l (property_names fs))
 host_there l fs =
     left_at (protos l ++ natives l ++ function_objects l (length fs) ++ host_object l (property_names fs) ∷ []) (map (global_object l) (range_with_len 0 (length l.file.scripts))) (host_object_number (length fs)) (host_object l (property_names fs))
-      (right_at (protos l ++ natives l ++ function_objects l (length fs)) (host_object l (property_names fs) ∷ []) 0 (host_object_number (length fs)) (omega (arith, three_length l (length fs))))
+    (right_at (protos l ++ natives l ++ function_objects l (length fs)) (host_object l (property_names fs) ∷ []) 0 (host_object_number (length fs)) (omega (arith, three_length l (length fs))))
 
 pub global_there : (l : LinkedFile) (fs : List (List ℕ)) (s : ℕ) → s < length l.file.scripts → slice_get (opening_objects l fs) (global_number (length fs) s) ≡ Some (global_object l s)
 global_there l fs s b =
@@ -277,16 +281,16 @@ opening_stands l fs limits t e few =
         few = few;
       };
       hosts = λ c.
-        let some = class_slots l t c in
-        let n = length-set (map (λ (i : SlotInfo). start_value l.file.strings i.start) (slots_of l (layout_of l (parts.HostClassObject c)).0)) 0 (values.Obj (prototype_id c)) in
-        let m = length-map (slots_of l (layout_of l (parts.HostClassObject c)).0) (λ (i : SlotInfo). start_value l.file.strings i.start) in
-        slots_there h.objects (host_class_number c) (class_object l c) (class_there l fs c) (omega (arith, some, n, m));
+          let some = class_slots l t c in
+          let n = length-set (map (λ (i : SlotInfo). start_value l.file.strings i.start) (slots_of l (layout_of l (parts.HostClassObject c)).0)) 0 (values.Obj (prototype_id c)) in
+          let m = length-map (slots_of l (layout_of l (parts.HostClassObject c)).0) (λ (i : SlotInfo). start_value l.file.strings i.start) in
+          slots_there h.objects (host_class_number c) (class_object l c) (class_there l fs c) (omega (arith, some, n, m));
       fixed = (concat (property_names fs), refl);
       objects = λ o ob q. (at_zero o ob (each o ob q)).0;
       scopes = λ s n q.
-        let r = at_range (λ (i : ℕ). entry_of (global_number (length fs) i)) 0 scripts s n q in
-        let own : ScopeStands h s (entry_of (global_number (length fs) (0 + s))) = record { object = omega (arith, r.0, count); parent = tt } in
-        subst (ScopeStands h s) r.1 own;
+          let r = at_range (λ (i : ℕ). entry_of (global_number (length fs) i)) 0 scripts s n q in
+          let own : ScopeStands h s (entry_of (global_number (length fs) (0 + s))) = record { object = omega (arith, r.0, count); parent = tt } in
+          subst (ScopeStands h s) r.1 own;
       counted = length-replicate (length l.file.instances) no_object;
       named = λ k o q. absurd (no_class_named (length l.file.instances) k o q);
       classes = λ k o c. absurd ((at_zero o c.object (each o c.object c.at)).1 k c.home c.statics c.instances c.is);

@@ -25,9 +25,9 @@ From {X = X} Q n xs = (k : ℕ) (x : X) → slice_get xs k ≡ Some x → Q (n +
 
 pub from_both : {X : Type 0} (Q : ℕ → X → Type 0) (n m : ℕ) (xs ys : List X) → m ≡ n + length xs → From Q n xs → From Q m ys → From Q n (xs ++ ys)
 from_both Q n m xs ys e a b = λ k x q. elim (in_either xs ys k x q) [
-    inl r ↦ a k x r.1
+  | inl r ↦ a k x r.1
   | inr r ↦ let z : m + r.0 ≡ n + k = omega (arith, r.1) in subst (λ i. Q i x) z (b r.0 x r.2)
-  ]
+]
 
 -- ---- a function of numbers
 

@@ -24,39 +24,39 @@ each_more P xs x e p = λ i y q. elim (slice_get_more xs x y i q) [ inl r ↦ e 
 
 pub slot_reshapes : (l : LinkedFile) (h : Heap) (o k : ℕ) (v : Value) → Exists l h v → Reshapes l h o (with_slot k v)
 slot_reshapes l h o k v x = record {
-    keeps = λ ob. record { layout = refl; delegate = refl; what = refl };
-    slots = λ ob. length-set ob.slots k v;
-    stands = λ ob at s. record {
-      layout = s.layout;
-      slots = length-set ob.slots k v ∙ s.slots;
-      delegate = s.delegate;
-      what = s.what;
-      array = s.array;
-      no_array = s.no_array;
-      elements = s.elements;
-      slot_values = each_set (Exists l h) ob.slots k v s.slot_values x;
-      properties = s.properties;
-      element_values = s.element_values;
-    };
-  }
+  keeps = λ ob. record { layout = refl; delegate = refl; what = refl };
+  slots = λ ob. length-set ob.slots k v;
+  stands = λ ob at s. record {
+    layout = s.layout;
+    slots = length-set ob.slots k v ∙ s.slots;
+    delegate = s.delegate;
+    what = s.what;
+    array = s.array;
+    no_array = s.no_array;
+    elements = s.elements;
+    slot_values = each_set (Exists l h) ob.slots k v s.slot_values x;
+    properties = s.properties;
+    element_values = s.element_values;
+  };
+}
 
 pub element_reshapes : (l : LinkedFile) (h : Heap) (o k : ℕ) (v : Value) → Exists l h v → Reshapes l h o (with_element k v)
 element_reshapes l h o k v x = record {
-    keeps = λ ob. record { layout = refl; delegate = refl; what = refl };
-    slots = λ ob. refl;
-    stands = λ ob at s. record {
-      layout = s.layout;
-      slots = s.slots;
-      delegate = s.delegate;
-      what = s.what;
-      array = s.array;
-      no_array = s.no_array;
-      elements = λ q. ap (λ es. set es k v) (s.elements q);
-      slot_values = s.slot_values;
-      properties = s.properties;
-      element_values = each_set (Exists l h) ob.elements k v s.element_values x;
-    };
-  }
+  keeps = λ ob. record { layout = refl; delegate = refl; what = refl };
+  slots = λ ob. refl;
+  stands = λ ob at s. record {
+    layout = s.layout;
+    slots = s.slots;
+    delegate = s.delegate;
+    what = s.what;
+    array = s.array;
+    no_array = s.no_array;
+    elements = λ q. ap (λ es. set es k v) (s.elements q);
+    slot_values = s.slot_values;
+    properties = s.properties;
+    element_values = each_set (Exists l h) ob.elements k v s.element_values x;
+  };
+}
 
 pub object_there : (obs : List Object) (o : ℕ) (ob : Object) → slice_get obs o ≡ Some ob → object_at obs o ≡ ob
 object_there (x ∷ obs) zero ob e = cc
@@ -65,23 +65,23 @@ object_there [] o ob e = absurd cc
 
 pub new_element_reshapes : (l : LinkedFile) (h : Heap) (o : ℕ) (v : Value) → is_array (object_at h.objects o).what ≡ true → Exists l h v → Reshapes l h o (with_new_element v)
 new_element_reshapes l h o v w x = record {
-    keeps = λ ob. record { layout = refl; delegate = refl; what = refl };
-    slots = λ ob. refl;
-    stands = λ ob at s. record {
-      layout = s.layout;
-      slots = s.slots;
-      delegate = s.delegate;
-      what = s.what;
-      array = s.array;
-      no_array = s.no_array;
-      elements = λ q.
+  keeps = λ ob. record { layout = refl; delegate = refl; what = refl };
+  slots = λ ob. refl;
+  stands = λ ob at s. record {
+    layout = s.layout;
+    slots = s.slots;
+    delegate = s.delegate;
+    what = s.what;
+    array = s.array;
+    no_array = s.no_array;
+    elements = λ q.
         let t : is_array ob.what ≡ true = ap (λ (z : Object). is_array z.what) (sym (object_there h.objects o ob at)) ∙ w in
         absurd cc;
-      slot_values = s.slot_values;
-      properties = s.properties;
-      element_values = each_more (Exists l h) ob.elements v s.element_values x;
-    };
-  }
+    slot_values = s.slot_values;
+    properties = s.properties;
+    element_values = each_more (Exists l h) ob.elements v s.element_values x;
+  };
+}
 
 -- a write of a property
 valued_stands : (l : LinkedFile) (h : Heap) (ps : List (Option (Span × Value))) (i : ℕ) (v : Value) → Each (IsProperty l h) ps → Exists l h v → IsProperty l h (valued v (filled (slice_get ps i)))
@@ -102,39 +102,39 @@ delete_stands l h ps (Some i) e = each_set (IsProperty l h) ps i None e tt
 
 pub put_reshapes : (l : LinkedFile) (h : Heap) (o : ℕ) (f : Span → List ℕ) (t : List ℕ) (n : Span) (v : Value) → IsText l.file.strings h n → Exists l h v → Reshapes l h o (with_put f t n v)
 put_reshapes l h o f t n v name x = record {
-    keeps = λ ob. record { layout = refl; delegate = refl; what = refl };
-    slots = λ ob. refl;
-    stands = λ ob at s. record {
-      layout = s.layout;
-      slots = s.slots;
-      delegate = s.delegate;
-      what = s.what;
-      array = s.array;
-      no_array = s.no_array;
-      elements = s.elements;
-      slot_values = s.slot_values;
-      properties = put_stands l h ob.properties (place_named f t ob.properties) n v s.properties name x;
-      element_values = s.element_values;
-    };
-  }
+  keeps = λ ob. record { layout = refl; delegate = refl; what = refl };
+  slots = λ ob. refl;
+  stands = λ ob at s. record {
+    layout = s.layout;
+    slots = s.slots;
+    delegate = s.delegate;
+    what = s.what;
+    array = s.array;
+    no_array = s.no_array;
+    elements = s.elements;
+    slot_values = s.slot_values;
+    properties = put_stands l h ob.properties (place_named f t ob.properties) n v s.properties name x;
+    element_values = s.element_values;
+  };
+}
 
 pub delete_reshapes : (l : LinkedFile) (h : Heap) (o : ℕ) (f : Span → List ℕ) (t : List ℕ) → Reshapes l h o (with_delete f t)
 delete_reshapes l h o f t = record {
-    keeps = λ ob. record { layout = refl; delegate = refl; what = refl };
-    slots = λ ob. refl;
-    stands = λ ob at s. record {
-      layout = s.layout;
-      slots = s.slots;
-      delegate = s.delegate;
-      what = s.what;
-      array = s.array;
-      no_array = s.no_array;
-      elements = s.elements;
-      slot_values = s.slot_values;
-      properties = delete_stands l h ob.properties (place_named f t ob.properties) s.properties;
-      element_values = s.element_values;
-    };
-  }
+  keeps = λ ob. record { layout = refl; delegate = refl; what = refl };
+  slots = λ ob. refl;
+  stands = λ ob at s. record {
+    layout = s.layout;
+    slots = s.slots;
+    delegate = s.delegate;
+    what = s.what;
+    array = s.array;
+    no_array = s.no_array;
+    elements = s.elements;
+    slot_values = s.slot_values;
+    properties = delete_stands l h ob.properties (place_named f t ob.properties) s.properties;
+    element_values = s.element_values;
+  };
+}
 
 property_there : (obs : List Object) (o k : ℕ) (p : Option (Span × Value)) → slice_get (object_at obs o).properties k ≡ Some p → (ob : Object) × (slice_get obs o ≡ Some ob) × (slice_get ob.properties k ≡ Some p)
 property_there [] o k p e = absurd cc

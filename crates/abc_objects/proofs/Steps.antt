@@ -190,7 +190,7 @@ property_on h s new o k start object names d b p e w q =
     q ∙ (ap (with_object (with_more_properties (one start object)) o) p
     ∙ (ap (λ obs. record h { objects = obs }) (properties_on ps (one start object) o h.objects)
     ∙ ap (λ xs. with_object (with_more_properties xs) o h)
-        (ap (λ a. ps ++ one a object) e ∙ (ap (λ m. ps ++ one (62 + length (concat (take k names))) m) there ∙ (sym (properties_more 14 62 (take k names) t) ∙ ap (λ ns. host_properties 14 (spans_from 62 ns)) (take_next_or names k d b))))))
+    (ap (λ a. ps ++ one a object) e ∙ (ap (λ m. ps ++ one (62 + length (concat (take k names))) m) there ∙ (sym (properties_more 14 62 (take k names) t) ∙ ap (λ ns. host_properties 14 (spans_from 62 ns)) (take_next_or names k d b))))))
 
 -- the texts so far, and the next, are within all
 pub concat_front : (names : List (List ℕ)) (k : ℕ) (d : List ℕ) → k < length names → length (concat (take (k + 1) names)) ≡ length (concat (take k names)) + length (get_or names k d)
@@ -217,7 +217,7 @@ property_room h s o k n names e b w inside r =
     let ps = host_properties 14 (spans_from 62 (take k names)) in
     let c : length ps ≡ k = omega (arith, properties_count 14 62 (take k names), length-take k names) in
     let own : (o < length (with_object (with_more_properties ps) o h).objects) × HasRoomFor (with_object (with_more_properties ps) o h) 0 1 =
-      (omega (arith, inside, length_change (with_more_properties ps) o h.objects), (omega (arith, r.0, length_change (with_more_properties ps) o h.objects), omega (arith, r.1, c, properties_cells ps o h.objects inside))) in
+    (omega (arith, inside, length_change (with_more_properties ps) o h.objects), (omega (arith, r.0, length_change (with_more_properties ps) o h.objects), omega (arith, r.1, c, properties_cells ps o h.objects inside))) in
     subst (λ (y : Heap). (o < length y.objects) × HasRoomFor y 0 1) (sym e) own
 
 -- ---- the global objects
@@ -243,9 +243,10 @@ globals_count l n = length-map-range_with_len (global_object l) 0 n
 
 pub global_room : (l : LinkedFile) (h s : Heap) (k n : ℕ) → s ≡ with_globals l k h → k < n → HasRoomFor h n (n + sum (slot_counts l n)) → HasRoomFor s 1 (slot_count l k + 1)
 global_room l h s k n e b r =
-    let own : HasRoomFor (with_globals l k h) 1 (slot_count l k + 1) =
-      ( omega (arith, r.0, length-append h.objects (map (global_object l) (range_with_len 0 k)), globals_count l k)
-      , omega (arith, r.1, all_both h.objects (map (global_object l) (range_with_len 0 k)), globals_cells l k, length-append h.scopes (map (λ i. entry_of (length h.objects + i)) (range_with_len 0 k)), entries_count (length h.objects) k, counts_more l k, counts_within l (k + 1) n (omega arith))) in
+    let own : HasRoomFor (with_globals l k h) 1 (slot_count l k + 1) = (
+      omega (arith, r.0, length-append h.objects (map (global_object l) (range_with_len 0 k)), globals_count l k),
+      omega (arith, r.1, all_both h.objects (map (global_object l) (range_with_len 0 k)), globals_cells l k, length-append h.scopes (map (λ i. entry_of (length h.objects + i)) (range_with_len 0 k)), entries_count (length h.objects) k, counts_more l k, counts_within l (k + 1) n (omega arith)),
+    ) in
     subst (λ y. HasRoomFor y 1 (slot_count l k + 1)) (sym e) own
 
 pub no_globals : (l : LinkedFile) (h : Heap) → h ≡ with_globals l 0 h
@@ -278,10 +279,10 @@ pub record Built (old new : Heap) (obs : List Object) (n c : ℕ) : Type 0 where
 
 pub built_more : (old mid new : Heap) (obs more : List Object) (n c m d : ℕ) → Built old mid obs n c → new ≡ with_objects more mid → length more ≡ m → all_cells more ≡ d → Built old new (obs ++ more) (n + m) (c + d)
 built_more old mid new obs more n c m d b e p q = record {
-    heap = e ∙ (ap (with_objects more) b.heap ∙ objects_on old obs more);
-    size = omega (arith, length-append obs more, b.size, p);
-    cells = omega (arith, all_both obs more, b.cells, q);
-  }
+  heap = e ∙ (ap (with_objects more) b.heap ∙ objects_on old obs more);
+  size = omega (arith, length-append obs more, b.size, p);
+  cells = omega (arith, all_both obs more, b.cells, q);
+}
 
 pub built_room : (old new : Heap) (obs : List Object) (n c x y m d : ℕ) → Built old new obs n c → HasRoomFor old x y → n + m ≤ x → c + d ≤ y → HasRoomFor new m d
 built_room old new obs n c x y m d b r p q = room_on old new obs x y m d b.heap r (omega (arith, b.size)) (omega (arith, b.cells))
@@ -323,10 +324,10 @@ opening_ledger l fs limits t =
     let four = host_object l (property_names fs) ∷ [] in
     let five = map (global_object l) (range_with_len 0 scripts) in
     let objects : length (opening_objects l fs) ≡ 30 + length fs + scripts =
-      lengths_sum _ (length one) (length two) (length three) (length four) (length five) (length fs) scripts (joined_length one two three four five) refl refl (functions_count l (length fs)) refl (globals_count l scripts) in
+    lengths_sum _ (length one) (length two) (length three) (length four) (length five) (length fs) scripts (joined_length one two three four five) refl refl (functions_count l (length fs)) refl (globals_count l scripts) in
     let entries = length-map-range_with_len (λ (s : ℕ). entry_of (global_number (length fs) s)) 0 scripts in
     let cells : all_cells (opening_objects l fs) + length (opening_scopes l (length fs)) ≡ 29 + length fs + scripts + global_slots l =
-      cells_sum _ (all_cells one) (all_cells two) (all_cells three) (all_cells four) (all_cells five) _ (length fs) scripts (global_slots l) (joined_cells one two three four five) (prototype_cells l t host_classes) (class_cells l t host_classes) (function_cells l t (length fs)) (host_cells l t (property_names fs) ∙ names_length fs) (globals_cells l scripts) entries in
+    cells_sum _ (all_cells one) (all_cells two) (all_cells three) (all_cells four) (all_cells five) _ (length fs) scripts (global_slots l) (joined_cells one two three four five) (prototype_cells l t host_classes) (class_cells l t host_classes) (function_cells l t (length fs)) (host_cells l t (property_names fs) ∙ names_length fs) (globals_cells l scripts) entries in
     let put : ℕ → ℕ → Limits = λ n m. record { objects = n; cells = m; text = 0; frames = 0; stack = 0 } in
     ap (λ n. put n (all_cells (opening_objects l fs) + length (opening_scopes l (length fs)))) objects ∙ ap (put (30 + length fs + scripts)) cells
 
@@ -353,7 +354,7 @@ opening_four l old mid new names f t n b e =
     let p : (28 + (f + 1)) + 1 ≡ 30 + f = omega arith in
     let q : (14 + 0) + length names ≡ 29 + f = omega (arith, n) in
     built_as old new (obs ++ host_object l names ∷ []) ((28 + (f + 1)) + 1) ((14 + 0) + length names) (30 + f) (29 + f) p q
-      (built_more old mid new obs (host_object l names ∷ []) (28 + (f + 1)) (14 + 0) 1 (length names) b e refl (host_cells l t names))
+    (built_more old mid new obs (host_object l names ∷ []) (28 + (f + 1)) (14 + 0) 1 (length names) b e refl (host_cells l t names))
 
 -- ---- what single calls make
 
@@ -391,9 +392,10 @@ pub property_names_short : (fs : List Formula) → AreFormulas fs → (62 + leng
 property_names_short fs a =
     let n = length-map fs (λ (f : Formula). f.name) in
     let own : length (concat (map class_name host_classes)) ≡ 100 = refl in
-    let trace : length (codes "trace") ≡ 5 = refl in
-    ( omega (arith, n, own, trace, a.few, concat_both (map class_name host_classes) (codes "trace" ∷ formula_names fs), length-append (codes "trace") (concat (formula_names fs)), short fs a.each)
-    , n)
+    let trace : length (codes "trace") ≡ 5 = refl in (
+      omega (arith, n, own, trace, a.few, concat_both (map class_name host_classes) (codes "trace" ∷ formula_names fs), length-append (codes "trace") (concat (formula_names fs)), short fs a.each),
+      n,
+    )
   where
     short : (gs : List Formula) → All IsFormula gs → length (concat (map (λ (f : Formula). f.name) gs)) ≤ 64 * length gs
     short [] e = omega arith

@@ -39,11 +39,11 @@ next_exists l slots k x b e here f j s low q = go (cases_lt j k)
     go : (j < k) ⊎ (k ≤ j) → StartExists l s.start
     go (inl p) = f j s p q
     go (inr p) =
-      let z : j ≡ k = omega arith in
-      let there : slice_get slots j ≡ Some x = ap (slice_get slots) z ∙ slot_there slots k x b e in
-      let w : Some x ≡ Some s = sym there ∙ q in
-      let same : x ≡ s = cc in
-      subst (λ (y : SlotInfo). StartExists l y.start) same here
+        let z : j ≡ k = omega arith in
+        let there : slice_get slots j ≡ Some x = ap (slice_get slots) z ∙ slot_there slots k x b e in
+        let w : Some x ≡ Some s = sym there ∙ q in
+        let same : x ≡ s = cc in
+        subst (λ (y : SlotInfo). StartExists l y.start) same here
 
 pub all_exist : (l : LinkedFile) (slots : List SlotInfo) (n : ℕ) → length slots ≤ n → length slots < 2 ^ 32 → ((j : ℕ) (s : SlotInfo) → j < n → slice_get slots j ≡ Some s → StartExists l s.start) → StartsIn l slots
 all_exist l slots n b few f = record { each = λ k s q. f k s (omega (arith, slice_get_within slots k s q)) q; few = few }

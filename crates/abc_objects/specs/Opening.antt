@@ -120,16 +120,16 @@ opening_scopes l formulas = map (λ s. entry_of (global_number formulas s)) (ran
 
 abbrev pub opening : LinkedFile → List (List ℕ) → Limits → Heap
 opening l formulas limits = record {
-    objects = opening_objects l formulas;
-    scopes = opening_scopes l (length formulas);
-    fixed = part_zero formulas;
-    made = [];
-    formulas = formulas;
-    classes = replicate (length l.file.instances) None;
-    frames = 0;
-    stack = 0;
-    limits = limits;
-  }
+  objects = opening_objects l formulas;
+  scopes = opening_scopes l (length formulas);
+  fixed = part_zero formulas;
+  made = [];
+  formulas = formulas;
+  classes = replicate (length l.file.instances) None;
+  frames = 0;
+  stack = 0;
+  limits = limits;
+}
 
 -- ---- how much there is at opening
 
@@ -146,12 +146,12 @@ global_slots l = sum (slot_counts l (length l.file.scripts))
 
 abbrev pub opening_counts : LinkedFile → ℕ → Limits
 opening_counts l formulas = record {
-    objects = 30 + formulas + length l.file.scripts;
-    cells = 29 + formulas + length l.file.scripts + global_slots l;
-    text = 0;
-    frames = 0;
-    stack = 0;
-  }
+  objects = 30 + formulas + length l.file.scripts;
+  cells = 29 + formulas + length l.file.scripts + global_slots l;
+  text = 0;
+  frames = 0;
+  stack = 0;
+}
 
 -- what there is at opening is within the limits
 abbrev pub IsWithin : Limits → Limits → Type 0
@@ -184,6 +184,6 @@ with_more_properties ps ob = record ob { properties = ob.properties ++ ps }
 -- global objects, each with its entry
 abbrev pub with_globals : LinkedFile → ℕ → Heap → Heap
 with_globals l scripts h = record h {
-    objects = h.objects ++ map (global_object l) (range_with_len 0 scripts);
-    scopes = h.scopes ++ map (λ s. entry_of (length h.objects + s)) (range_with_len 0 scripts);
-  }
+  objects = h.objects ++ map (global_object l) (range_with_len 0 scripts);
+  scopes = h.scopes ++ map (λ s. entry_of (length h.objects + s)) (range_with_len 0 scripts);
+}

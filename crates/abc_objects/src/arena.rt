@@ -47,7 +47,12 @@ impl Arena {
     /// objects, `trace`, the formulas, the host object, and the global objects with their scope entries. It answers
     /// `TooSmall` exactly where there are more objects or, tried next, more cells of these than the limits allow. A start
     /// value that is none of a machine, as no file that bytes spell has one, is answered as want of memory.
-    pub fn open<H: Host>(alloc: Global, l: &Linked, limits: &Limits, host: &H) -> Result<Arena, OpenError>
+    pub fn open<H: Host>(
+        alloc: Global,
+        l: &Linked,
+        limits: &Limits,
+        host: &H,
+    ) -> Result<Arena, OpenError>
         ensures opened { MatchResult result (IsOpened l.now (formula_names (H.formulas host.now)) limits.now) (IsUnopened (opening_counts l.now (length (H.formulas host.now))) limits.now) }
         ensures counts { IfOk result (λ a. ledger a ≡ opening_counts l.now (length (H.formulas host.now))) }
         ensures over { IfOk result (λ a. StandsOver l.now a) }
@@ -66,7 +71,13 @@ impl Arena {
 
     /// Makes an object of a layout, last, with the slots of the layout at their start values. It is a plain object, a
     /// function, an activation or a catch object.
-    pub fn new_object(&mut self, l: &Linked, layout: LayoutId, delegate: Option<ObjId>, what: What) -> Result<ObjId, Full>
+    pub fn new_object(
+        &mut self,
+        l: &Linked,
+        layout: LayoutId,
+        delegate: Option<ObjId>,
+        what: What,
+    ) -> Result<ObjId, Full>
         requires over { StandsOver l.now self.old }
         requires layout { IsLayout l.now layout }
         requires no_array { layout.0 ≢ array_layout l.now }
@@ -81,7 +92,15 @@ impl Arena {
     }
 
     /// Makes an unbound function, last, which keeps scopes above the saved one.
-    pub fn new_function(&mut self, l: &Linked, method: u32, home: u32, delegate: Option<ObjId>, saved: Option<ScopeId>, scopes: &[ScopeEntry]) -> Result<ObjId, Full>
+    pub fn new_function(
+        &mut self,
+        l: &Linked,
+        method: u32,
+        home: u32,
+        delegate: Option<ObjId>,
+        saved: Option<ScopeId>,
+        scopes: &[ScopeEntry],
+    ) -> Result<ObjId, Full>
         requires over { StandsOver l.now self.old }
         requires method { method < length l.now.file.methods }
         requires home { home < length l.now.file.scripts }
@@ -94,7 +113,8 @@ impl Arena {
     {
         let layout = l.layout_of(Part::Host(HostClass::Function));
         let starts = starts_of(l, layout);
-        self.store.new_function(layout.0, method, home, delegate, saved, scopes, &starts)
+        self.store
+            .new_function(layout.0, method, home, delegate, saved, scopes, &starts)
     }
 
     /// The object that the prototype slot of a host class's class object holds, if it holds one.
@@ -146,7 +166,16 @@ impl Arena {
 
     /// Makes a class object and its prototype object, last, which its prototype slot holds. The class keeps scopes above
     /// the saved one for its static methods, and itself above these for those of its instances.
-    pub fn new_class(&mut self, l: &Linked, class: u32, home: u32, base_prototype: Option<ObjId>, delegate: Option<ObjId>, saved: Option<ScopeId>, scopes: &[ScopeEntry]) -> Result<ObjId, Full>
+    pub fn new_class(
+        &mut self,
+        l: &Linked,
+        class: u32,
+        home: u32,
+        base_prototype: Option<ObjId>,
+        delegate: Option<ObjId>,
+        saved: Option<ScopeId>,
+        scopes: &[ScopeEntry],
+    ) -> Result<ObjId, Full>
         requires over { StandsOver l.now self.old }
         requires class { class < length l.now.file.instances }
         requires first { get_or self.old.classes class None ≡ None }
@@ -171,7 +200,8 @@ impl Arena {
             base_prototype,
             delegate,
         };
-        self.store.new_class(parts, saved, scopes, &prototype_starts, &class_starts)
+        self.store
+            .new_class(parts, saved, scopes, &prototype_starts, &class_starts)
     }
 
     /// Makes an array of some values, last. Its delegate is the prototype of Array.

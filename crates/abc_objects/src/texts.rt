@@ -34,11 +34,7 @@ fn push_class_names(
 }
 
 /// Adds copies of some names.
-fn push_copies(
-    alloc: Global,
-    names: &mut Table<Bytes>,
-    more: &[Bytes],
-) -> Result<(), NoMemory>
+fn push_copies(alloc: Global, names: &mut Table<Bytes>, more: &[Bytes]) -> Result<(), NoMemory>
     ensures { OnOk result (names.new ≡ names.old ++ more.now) }
 {
     for name in more {

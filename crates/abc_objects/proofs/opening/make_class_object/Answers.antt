@@ -21,7 +21,7 @@ set_slot-requires c =
     let ob = opened l (parts.HostClassObject c.args.class) (Some hosts.Class) (whats.HostClass c.args.class) in
     let n = ap length (last_slots c.args.store.now ob c.make_part-o.result.0 c.make_part-o.ensures.number) in
     subst (λ (y : Heap). 0 < length (slots_of y.objects c.make_part-o.result.0)) (sym c.make_part-o.ensures.heap)
-      (omega (arith, n, class_slots l c.linked_law.ensures c.args.class, starts_count l (layout_of l (parts.HostClassObject c.args.class)).0))
+    (omega (arith, n, class_slots l c.linked_law.ensures c.args.class, starts_count l (layout_of l (parts.HostClassObject c.args.class)).0))
 
 pub returns : goal.returns
 returns c =
@@ -29,4 +29,4 @@ returns c =
     let ob = opened l (parts.HostClassObject c.args.class) (Some hosts.Class) (whats.HostClass c.args.class) in
     let o = c.make_part-o.result.0 in
     last_changed c.args.store.now _ _ ob (with_slot 0 (values.Obj (prototype_id c.args.class))) o c.make_part-o.ensures.number c.make_part-o.ensures.heap
-      (c.set_slot.ensures ∙ ap (λ (n : ℕ). with_object (with_slot 0 (values.Obj (obj_id n))) o _) c.class_number.ensures)
+    (c.set_slot.ensures ∙ ap (λ (n : ℕ). with_object (with_slot 0 (values.Obj (obj_id n))) o _) c.class_number.ensures)

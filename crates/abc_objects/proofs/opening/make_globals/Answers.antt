@@ -16,7 +16,7 @@ pub make_global-requires-clause-room : goal.make_global-requires-clause-room
 make_global-requires-clause-room c =
     let l = c.args.l.now in
     global_room l c.args.store.now _ c.loop-script.script c.args.scripts c.loop-script.invariant.0 (omega arith)
-      (subst (λ (n : ℕ). HasRoomFor c.args.store.now c.args.scripts (c.args.scripts + sum (slot_counts l n))) (sym c.requires.scripts) c.requires.room)
+    (subst (λ (n : ℕ). HasRoomFor c.args.store.now c.args.scripts (c.args.scripts + sum (slot_counts l n))) (sym c.requires.scripts) c.requires.room)
 
 pub loop-script-preserved : goal.loop-script-preserved
 loop-script-preserved c = (global_on c.args.l.now c.args.store.now _ _ c.loop-script.script c.loop-script.invariant.0 c.make_global.ensures, omega arith)

@@ -21,7 +21,7 @@ add_properties-requires-clause-room c =
     let l = c.args.l.now in
     let ob = opened l (parts.Host hosts.Object) (Some hosts.Object) whats.HostObject in
     room_on c.args.store.now _ (ob ∷ []) 1 (length c.args.names.now) 0 (length c.args.names.now) c.make_part-o.ensures.heap c.requires.room (omega arith)
-      (omega (arith, opened_cells l (parts.Host hosts.Object) (Some hosts.Object) whats.HostObject, plain_slots l c.linked_law.ensures))
+    (omega (arith, opened_cells l (parts.Host hosts.Object) (Some hosts.Object) whats.HostObject, plain_slots l c.linked_law.ensures))
 
 pub returns : goal.returns
 returns c =

@@ -18,7 +18,7 @@ make_class_objects-requires-clause-room c =
     let r = opening_room l old c.args.formulas c.requires.objects c.requires.scopes c.requires.room in
     let b = opening_one l old _ c.as_slice-classes.result.now c.linked_law.ensures c.as_slice-classes.ensures c.make_prototypes.ensures in
     built_room old _ (map (prototype_object l) host_classes) 14 0 (30 + c.args.formulas + length l.file.scripts) (29 + c.args.formulas + length l.file.scripts + global_slots l) (length c.as_slice-classes.result.now) (length c.as_slice-classes.result.now) b r
-      (omega (arith, ap length c.as_slice-classes.ensures)) (omega (arith, ap length c.as_slice-classes.ensures))
+    (omega (arith, ap length c.as_slice-classes.ensures)) (omega (arith, ap length c.as_slice-classes.ensures))
 
 pub make_functions-requires-clause-room : goal.make_functions-requires-clause-room
 make_functions-requires-clause-room c =

@@ -27,5 +27,5 @@ returns-clause-heap c =
     let s = c.starts_of-starts.result in
     let y = c.layout_of-layout.result in
     made_opened l c.args.store.now _ c.args.part c.args.parent c.args.what (map (λ (i : SlotInfo). start_value s.pool.now i.start) s.slots.now) y c.prototype_of.result c.make_object.ensures.heap
-      (starts_are s.pool.now l.file.strings s.slots.now (slots_of l y.0) c.starts_of-starts.ensures.pool c.starts_of-starts.ensures.slots)
-      c.layout_of-layout.ensures c.prototype_of.ensures
+    (starts_are s.pool.now l.file.strings s.slots.now (slots_of l y.0) c.starts_of-starts.ensures.pool c.starts_of-starts.ensures.slots)
+    c.layout_of-layout.ensures c.prototype_of.ensures

@@ -52,5 +52,5 @@ returns-clause-over c =
     let own = map (λ (i : SlotInfo). start_value c.starts_of-class_starts.result.pool.now i.start) c.starts_of-class_starts.result.slots.now in
     let same = ap (λ vs. with_class vs own parts c.args.saved c.args.scopes.now h) ps ∙ ap (λ vs. with_class (start_values l x) vs parts c.args.saved c.args.scopes.now h) cs in
     either_way (StandsOver l c.new_class.new.self) c.new_class.result _ _ c.new_class.ensures
-      (λ r p. subst (StandsOver l) (sym (p.heap ∙ same)) made)
-      (λ e q. subst (StandsOver l) (sym q.0) s)
+    (λ r p. subst (StandsOver l) (sym (p.heap ∙ same)) made)
+    (λ e q. subst (StandsOver l) (sym q.0) s)

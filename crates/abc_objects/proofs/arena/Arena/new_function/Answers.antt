@@ -39,5 +39,5 @@ returns-clause-over c =
     let at = subst (λ (x : LayoutId). StandsOver l (with_made (start_values l x.0) x.0 c.args.delegate what mid)) (sym c.layout_of-layout.ensures) made in
     let vs = starts_are c.starts_of-starts.result.pool.now l.file.strings c.starts_of-starts.result.slots.now (slots_of l c.layout_of-layout.result.0) c.starts_of-starts.ensures.pool c.starts_of-starts.ensures.slots in
     either_way (StandsOver l c.new_function.new.self) c.new_function.result _ _ c.new_function.ensures
-      (λ r p. subst (StandsOver l) (sym (p.heap ∙ ap (λ ws. with_made ws c.layout_of-layout.result.0 c.args.delegate what mid) vs)) at)
-      (λ e q. subst (StandsOver l) (sym q.0) s)
+    (λ r p. subst (StandsOver l) (sym (p.heap ∙ ap (λ ws. with_made ws c.layout_of-layout.result.0 c.args.delegate what mid) vs)) at)
+    (λ e q. subst (StandsOver l) (sym q.0) s)

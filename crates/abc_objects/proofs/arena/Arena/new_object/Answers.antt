@@ -28,5 +28,5 @@ returns-clause-over c =
     let alone = made_alone c.args.what c.requires.what in
     let vs = starts_are c.starts_of-starts.result.pool.now l.file.strings c.starts_of-starts.result.slots.now (slots_of l c.args.layout.0) c.starts_of-starts.ensures.pool c.starts_of-starts.ensures.slots in
     either_way (StandsOver l c.new_object.new.self) c.new_object.result _ _ c.new_object.ensures
-      (λ r p. subst (StandsOver l) (sym (p.heap ∙ ap (λ ws. with_made ws c.args.layout.0 c.args.delegate c.args.what h) vs)) (over_made_object l h c.args.layout.0 c.args.delegate c.args.what s c.requires.layout d n alone.0 c.requires.no_array alone.1))
-      (λ e q. subst (StandsOver l) (sym q.0) s)
+    (λ r p. subst (StandsOver l) (sym (p.heap ∙ ap (λ ws. with_made ws c.args.layout.0 c.args.delegate c.args.what h) vs)) (over_made_object l h c.args.layout.0 c.args.delegate c.args.what s c.requires.layout d n alone.0 c.requires.no_array alone.1))
+    (λ e q. subst (StandsOver l) (sym q.0) s)

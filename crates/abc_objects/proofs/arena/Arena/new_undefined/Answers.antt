@@ -25,5 +25,5 @@ returns-clause-over c =
     let made = over_array l h es (prototype_of h n) s (prototype_is l h n s) (undefined_exist l h c.args.count) in
     let same = ap (λ (x : LayoutId). with_array es x.0 c.prototype-delegate.result h) c.layout_of-layout.ensures ∙ ap (λ o. with_array es (array_layout l) o h) d in
     either_way (StandsOver l c.new_undefined.new.self) c.new_undefined.result _ _ c.new_undefined.ensures
-      (λ r p. subst (StandsOver l) (sym (p.heap ∙ same)) made)
-      (λ e q. subst (StandsOver l) (sym q.0) s)
+    (λ r p. subst (StandsOver l) (sym (p.heap ∙ same)) made)
+    (λ e q. subst (StandsOver l) (sym q.0) s)

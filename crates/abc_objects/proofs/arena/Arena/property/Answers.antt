@@ -23,4 +23,3 @@ property-requires-clause-named c =
     let h = c.self.inside.store in
     let s = subst (StandsOver l) (sym c.self.view_is) c.requires.over in
     subst (λ (a : Abc). AreNamed a.strings h) (sym c.abc.ensures) (are_named l h s)
-

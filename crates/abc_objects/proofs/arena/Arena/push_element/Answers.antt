@@ -24,5 +24,5 @@ returns-clause-over c = λ l old value.
     let x = subst (λ (y : Heap). Exists l y c.args.v) (sym c.self.view_is) value in
     let w = subst (λ (y : Heap). is_array (object_at y.objects c.args.o.0).what ≡ true) (sym c.self.view_is) c.requires.array in
     either_way (StandsOver l c.push_element.new.self) c.push_element.result _ _ c.push_element.ensures
-      (λ r p. subst (StandsOver l) (sym p.1) (over_changed l h (with_new_element c.args.v) c.args.o.0 s (new_element_reshapes l h c.args.o.0 c.args.v w x)))
-      (λ e q. subst (StandsOver l) (sym q.2) s)
+    (λ r p. subst (StandsOver l) (sym p.1) (over_changed l h (with_new_element c.args.v) c.args.o.0 s (new_element_reshapes l h c.args.o.0 c.args.v w x)))
+    (λ e q. subst (StandsOver l) (sym q.2) s)

@@ -33,5 +33,5 @@ returns-clause-over c =
     let t = subst (λ (y : Heap). IsText l.file.strings y c.args.name) (sym c.self.view_is) c.requires.name in
     let pool = c.abc.result.now.strings in
     either_way (StandsOver l c.set_property.new.self) c.set_property.result _ _ c.set_property.ensures
-      (λ r p. subst (StandsOver l) (sym p.1) (over_changed l h (with_put (text_of pool h) (text_of pool h c.args.name) c.args.name c.args.v) c.args.o.0 s (put_reshapes l h c.args.o.0 (text_of pool h) (text_of pool h c.args.name) c.args.name c.args.v t x)))
-      (λ e q. subst (StandsOver l) (sym q.2) s)
+    (λ r p. subst (StandsOver l) (sym p.1) (over_changed l h (with_put (text_of pool h) (text_of pool h c.args.name) c.args.name c.args.v) c.args.o.0 s (put_reshapes l h c.args.o.0 (text_of pool h) (text_of pool h c.args.name) c.args.name c.args.v t x)))
+    (λ e q. subst (StandsOver l) (sym q.2) s)

@@ -22,5 +22,5 @@ returns-clause-over c = λ l old.
     let h = c.self.inside.store in
     let s = subst (StandsOver l) (sym c.self.view_is) old in
     either_way (StandsOver l c.take_frame.new.self) c.take_frame.result _ _ c.take_frame.ensures
-      (λ r p. subst (StandsOver l) (sym p.2) (over_frames l h _ _ s))
-      (λ e q. subst (StandsOver l) (sym q.0) s)
+    (λ r p. subst (StandsOver l) (sym p.2) (over_frames l h _ _ s))
+    (λ e q. subst (StandsOver l) (sym q.0) s)

@@ -23,5 +23,5 @@ returns-clause-over c =
     let h = c.self.inside.store in
     let s = subst (StandsOver l) (sym c.self.view_is) c.requires.over in
     either_way (StandsOver l c.text_join.new.self) c.text_join.result _ _ c.text_join.ensures
-      (λ r p. subst (StandsOver l) (sym p.heap) (over_made l h _ s))
-      (λ e q. subst (StandsOver l) (sym q.2) s)
+    (λ r p. subst (StandsOver l) (sym p.heap) (over_made l h _ s))
+    (λ e q. subst (StandsOver l) (sym q.2) s)

@@ -22,5 +22,5 @@ returns-clause-over c = λ l old.
     let h = c.self.inside.store in
     let s = subst (StandsOver l) (sym c.self.view_is) old in
     either_way (StandsOver l c.text_of_number.new.self) c.text_of_number.result _ _ c.text_of_number.ensures
-      (λ r p. subst (StandsOver l) (sym p.heap) (over_made l h _ s))
-      (λ e q. subst (StandsOver l) (sym q.2) s)
+    (λ r p. subst (StandsOver l) (sym p.heap) (over_made l h _ s))
+    (λ e q. subst (StandsOver l) (sym q.2) s)
