@@ -207,6 +207,21 @@ concat_within [] (suc k) = omega arith
 concat_within (t ∷ ts) zero = omega arith
 concat_within (t ∷ ts) (suc k) = omega (arith, concat_within ts k, length-append t (concat ts), length-append t (concat (take k ts)))
 
+-- the same with what the loop counts
+pub length_small : (names : List (List ℕ)) (k n : ℕ) (d : List ℕ) → k < length names → n ≡ length (get_or names k d) → 62 + length (concat names) < 2 ^ 32 → n < 2 ^ 32
+length_small names k n d b e s = omega (arith, concat_front names k d b, concat_within names (k + 1))
+
+pub start_small : (names : List (List ℕ)) (k start n : ℕ) (d : List ℕ) → k < length names → start ≡ 62 + length (concat (take k names)) → n ≡ length (get_or names k d) → 62 + length (concat names) < 2 ^ 32 → start + n < 2 ^ 32
+start_small names k start n d b e m s = omega (arith, concat_front names k d b, concat_within names (k + 1))
+
+pub start_next : (names : List (List ℕ)) (k start n : ℕ) (d : List ℕ) → k < length names → start ≡ 62 + length (concat (take k names)) → n ≡ length (get_or names k d) → start + n ≡ 62 + length (concat (take (k + 1) names))
+start_next names k start n d b e m = omega (arith, concat_front names k d b)
+
+pub property_next : (h s new : Heap) (o k start object n : ℕ) (names : List (List ℕ)) (d : List ℕ) → k < length names → s ≡ with_object (with_more_properties (host_properties 14 (spans_from 62 (take k names)))) o h → start ≡ 62 + length (concat (take k names)) → object ≡ 14 + k → n ≡ length (get_or names k d) → new ≡ with_object (with_more_properties (Some (in_fixed start n, values.Obj (obj_id object)) ∷ [])) o s → new ≡ with_object (with_more_properties (host_properties 14 (spans_from 62 (take (k + 1) names)))) o h
+property_next h s new o k start object n names d b p e w m q =
+    let one : ℕ → List (Option (Span × Value)) = λ z. Some (in_fixed start z, values.Obj (obj_id object)) ∷ [] in
+    property_on h s new o k start object names d b p e w (q ∙ ap (λ z. with_object (with_more_properties (one z)) o s) m)
+
 properties_cells : (ps : List (Option (Span × Value))) (o : ℕ) (obs : List Object) → o < length obs → all_cells (change (with_more_properties ps) o obs) ≡ all_cells obs + length ps
 properties_cells ps zero (ob ∷ obs) b = omega (arith, length-append ob.properties ps)
 properties_cells ps (suc o) (ob ∷ obs) b = omega (arith, properties_cells ps o obs (omega arith))

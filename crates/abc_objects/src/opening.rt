@@ -162,7 +162,8 @@ fn add_properties(store: &mut Store, o: ObjId, names: &[Bytes])
     let mut start = 62;
     let mut object = 14;
     for name in names {
-        let len = name.len() as u32;
+        let size = name.len();
+        let len = size as u32;
         let span = Span {
             part: 0,
             start,

@@ -19,7 +19,7 @@ make_object-requires c =
     let l = c.args.l.now in
     let s = c.starts_of-starts.result in
     let n = length-map s.slots.now (λ (i : SlotInfo). start_value s.pool.now i.start) in
-    (c.requires.room.0, omega (arith, c.requires.room.1, n, ap length c.starts_of-starts.ensures.slots, ap (λ (x : LayoutId). length (slots_of l x.0)) c.layout_of-layout.ensures))
+    record { room = (c.requires.room.0, omega (arith, c.requires.room.1, n, ap length c.starts_of-starts.ensures.slots, ap (λ (x : LayoutId). length (slots_of l x.0)) c.layout_of-layout.ensures)) }
 
 pub returns-clause-heap : goal.returns-clause-heap
 returns-clause-heap c =
