@@ -27,6 +27,7 @@ use Rattle.abc_heap.specs.declared.records.What.{What}
 use Rattle.abc_heap.specs.declared.records.What.TheVariants as whats
 use Rattle.abc_names.specs.Meaning.{host_classes}
 use Rattle.abc_program.specs.Linked.{LinkedFile, IsLinkedFile, layout_of}
+use Rattle.abc_program.specs.Places.{host_number}
 use Rattle.abc_program.specs.Slots.{slots_of}
 use Rattle.abc_program.specs.declared.part.LayoutId.{LayoutId}
 use Rattle.abc_program.specs.declared.part.Part.{Part}
@@ -148,6 +149,9 @@ last_slots h ob o e =
 -- the last object changed
 pub last_changed : (h s new : Heap) (ob : Object) (f : Object → Object) (o : ℕ) → o ≡ length h.objects → s ≡ with_objects (ob ∷ []) h → new ≡ with_object f o s → new ≡ with_objects (f ob ∷ []) h
 last_changed h s new ob f o e p q = q ∙ (ap (with_object f o) p ∙ ap (λ obs. record h { objects = obs }) (change_last f h.objects ob o e))
+
+pub class_written : (l : LinkedFile) (h s new : Heap) (c : HostClass) (n o : ℕ) → o ≡ length h.objects → s ≡ with_objects (opened l (parts.HostClassObject c) (Some hosts.Class) (whats.HostClass c) ∷ []) h → n ≡ host_number c → new ≡ with_object (with_slot 0 (values.Obj (obj_id n))) o s → new ≡ with_objects (class_object l c ∷ []) h
+class_written l h s new c n o e p w q = last_changed h s new (opened l (parts.HostClassObject c) (Some hosts.Class) (whats.HostClass c)) (with_slot 0 (values.Obj (prototype_id c))) o e p (q ∙ ap (λ i. with_object (with_slot 0 (values.Obj (obj_id i))) o s) w)
 
 -- ---- the properties of the host object
 

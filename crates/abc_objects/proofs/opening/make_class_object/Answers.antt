@@ -8,7 +8,7 @@ use Rattle.abc_program.specs.Linked.{layout_of}
 use Rattle.abc_program.specs.declared.part.Part.TheVariants as parts
 use Rattle.abc_objects.specs.Opening.{opened, prototype_id}
 use Rattle.abc_objects.proofs.Opened.{class_slots}
-use Rattle.abc_objects.proofs.Steps.{last_changed, last_slots, starts_count}
+use Rattle.abc_objects.proofs.Steps.{class_written, last_slots, starts_count}
 use Rattle.abc_objects.proofs.opening.make_class_object.Goals as goal
 use Rattle.std.specs.Prelude.{Some}
 
@@ -24,9 +24,4 @@ set_slot-requires c =
     (omega (arith, n, class_slots l c.linked_law.ensures c.args.class, starts_count l (layout_of l (parts.HostClassObject c.args.class)).0))
 
 pub returns : goal.returns
-returns c =
-    let l = c.args.l.now in
-    let ob = opened l (parts.HostClassObject c.args.class) (Some hosts.Class) (whats.HostClass c.args.class) in
-    let o = c.make_part-o.result.0 in
-    last_changed c.args.store.now _ _ ob (with_slot 0 (values.Obj (prototype_id c.args.class))) o c.make_part-o.ensures.number c.make_part-o.ensures.heap
-    (c.set_slot.ensures ∙ ap (λ (n : ℕ). with_object (with_slot 0 (values.Obj (obj_id n))) o _) c.class_number.ensures)
+returns c = class_written c.args.l.now c.args.store.now _ _ c.args.class c.class_number.result c.make_part-o.result.0 c.make_part-o.ensures.number c.make_part-o.ensures.heap c.class_number.ensures c.set_slot.ensures
