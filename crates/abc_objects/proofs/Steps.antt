@@ -1,7 +1,7 @@
 -- The steps of the opening: what each adds to the heap, and the room that is left.
 use Rattle.std.proofs.Common.{◌≡◌, ℕ, zero, suc, ◌+◌, ◌*◌, ◌<◌, ◌≤◌, List, [], ◌∷◌, ◌++◌, Option, Some, None, length, map, take, get_or, refl, sym, ap, ◌∙◌, subst, arith, length-append, append_assoc, append-nil, false}
 use Rattle.std.specs.List.{concat, range_with_len, sum, sum_by}
-use Rattle.std.specs.Prelude.{◌^◌, All, codes, option_map, slice_get}
+use Rattle.std.specs.Prelude.{◌^◌, All, codes, option_map, replicate, slice_get}
 use Rattle.std.proofs.lemmas.List.{length-map, length-set, length-take, map-append}
 use Rattle.std.proofs.lemmas.List.Elements.{All-head, All-tail}
 use Rattle.std.proofs.lemmas.List.FromFn.{length-map-range_with_len, map-range_with_len_more, take-map-range_with_len}
@@ -34,7 +34,7 @@ use Rattle.abc_program.specs.declared.part.Part.{Part}
 use Rattle.abc_program.specs.declared.part.Part.TheVariants as parts
 use Rattle.abc_program.specs.declared.types.SlotInfo.{SlotInfo}
 use Rattle.abc_objects.specs.Fixed.{fixed_bytes, in_fixed}
-use Rattle.abc_objects.specs.Opening.{IsWithin, above_host, class_object, entry_of, formula_names, formula_objects, function_object, function_objects, global_number, global_object, global_slots, host_object, host_properties, opened, opening, opening_counts, opening_objects, opening_scopes, property_names, prototype_id, prototype_object, slot_count, slot_counts, spans_from, with_globals, with_more_properties, with_objects}
+use Rattle.abc_objects.specs.Opening.{IsWithin, above_host, class_object, entry_of, formula_names, formula_objects, function_object, function_objects, global_number, global_object, global_slots, host_object, host_properties, opened, opening, opening_counts, opening_objects, opening_scopes, part_zero, property_names, prototype_id, prototype_object, slot_count, slot_counts, spans_from, with_globals, with_more_properties, with_objects}
 use Rattle.abc_objects.specs.Starts.{start_value, start_values, StartsExist}
 use Rattle.abc_objects.specs.Stands.{StandsOver, host_layout}
 use Rattle.abc_objects.proofs.Made.{no_slots, object_slots}
@@ -427,3 +427,9 @@ ledger_opened l fs limits h t e = ap ledger e ∙ (opening_ledger l (formula_nam
 pub stands_opened : (l : LinkedFile) (fs : List Formula) (limits : Limits) (h : Heap) → IsLinkedFile l → StartsExist l → length fs ≤ 64 → h ≡ opening l (formula_names fs) limits → StandsOver l h
 stands_opened l fs limits h t s few e =
     subst (StandsOver l) (sym e) (opening_stands l (formula_names fs) limits t s (omega (arith, few, length-map fs (λ (f : Formula). f.name))))
+
+pub opened_by : (l : LinkedFile) (h new : Heap) (fs : List (List ℕ)) (f n : ℕ) (part : List ℕ) (limits : Limits) → h ≡ record { objects = []; scopes = []; fixed = part; made = []; formulas = fs; classes = replicate n None; frames = 0; stack = 0; limits = limits } → part ≡ part_zero fs → n ≡ length l.file.instances → f ≡ length fs → new ≡ record h { objects = opening_objects l h.formulas; scopes = opening_scopes l f } → new ≡ opening l fs limits
+opened_by l h new fs f n part limits e p m w q =
+    let mk : List ℕ → ℕ → ℕ → Heap = λ b k i. record { objects = opening_objects l fs; scopes = opening_scopes l i; fixed = b; made = []; formulas = fs; classes = replicate k None; frames = 0; stack = 0; limits = limits } in
+    q ∙ (ap (λ (y : Heap). record y { objects = opening_objects l y.formulas; scopes = opening_scopes l f }) e
+    ∙ (ap (λ b. mk b n f) p ∙ (ap (λ k. mk (part_zero fs) k f) m ∙ ap (λ i. mk (part_zero fs) (length l.file.instances) i) w)))
