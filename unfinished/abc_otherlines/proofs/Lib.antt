@@ -1,0 +1,3 @@
+pub mod Exact
+pub mod Hexing
+pub mod Marking
