@@ -7,5 +7,5 @@ pub mod Classes
 pub mod FixedTexts
 pub mod Parts
 pub mod Opened
-pub mod Tested
+pub mod Started
 pub mod Steps

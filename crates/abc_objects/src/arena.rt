@@ -45,8 +45,7 @@ impl Model for Arena {
 impl Arena {
     /// Opens an arena over a file, with what every run begins with: the prototypes of the host's classes, their class
     /// objects, `trace`, the formulas, the host object, and the global objects with their scope entries. It answers
-    /// `TooSmall` exactly where there are more objects or, tried next, more cells of these than the limits allow. A start
-    /// value that is none of a machine, as no file that bytes spell has one, is answered as want of memory.
+    /// `TooSmall` exactly where there are more objects or, tried next, more cells of these than the limits allow.
     pub fn open<H: Host>(
         alloc: Global,
         l: &Linked,
@@ -58,6 +57,7 @@ impl Arena {
         ensures over { IfOk result (λ a. StandsOver l.now a) }
     {
         l.linked_law();
+        l.slots_law();
         let store = open_store(alloc, l, limits, host)?;
         Ok(Arena { store })
     }

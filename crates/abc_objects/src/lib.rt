@@ -8,7 +8,6 @@ mod error;
 mod fixed;
 mod hosts;
 mod opening;
-mod sound;
 mod starts;
 mod texts;
 

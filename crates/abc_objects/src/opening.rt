@@ -12,7 +12,6 @@ ghost use Rattle.abc_objects.specs.Starts.{StartsExist};
 use crate::counts::test_room;
 use crate::error::OpenError;
 use crate::hosts::class_number;
-use crate::sound::starts_exist;
 use crate::starts::starts_of;
 use crate::texts::{formula_names, part_zero, property_names};
 use abc_base::{Bytes, Host, HostClass, NoMemory, Table};
@@ -281,12 +280,9 @@ pub(crate) fn open_store<H: Host>(
     limits: &Limits,
     host: &H,
 ) -> Result<Store, OpenError>
-    ensures opened { MatchResult result (IsOpened l.now (names_of (H.formulas host.now)) limits.now) (IsUnopened (opening_counts l.now (length (H.formulas host.now))) limits.now) }
-    ensures starts { IfOk result (λ _. StartsExist l.now) }
+    requires { StartsExist l.now }
+    ensures { MatchResult result (IsOpened l.now (names_of (H.formulas host.now)) limits.now) (IsUnopened (opening_counts l.now (length (H.formulas host.now))) limits.now) }
 {
-    if !starts_exist(l) {
-        return Err(OpenError::NoMemory);
-    }
     let count = host.count();
     test_room(l, limits, count)?;
     let formulas = formula_names(alloc, host)?;

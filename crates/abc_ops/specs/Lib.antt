@@ -1,4 +1,3 @@
-pub mod Names
 pub mod Left
 pub mod Conversions
 pub mod Types

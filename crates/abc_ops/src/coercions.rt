@@ -4,7 +4,6 @@ ghost use Rattle.abc_program.specs.Linked.{LinkedFile};
 ghost use Rattle.abc_objects.specs.Growing.{Grows};
 ghost use Rattle.abc_objects.specs.Stands.{StandsOver};
 ghost use Rattle.abc_objects.specs.Values.{Exists};
-ghost use Rattle.abc_ops.specs.Names.{NamesAreShort};
 ghost use Rattle.abc_ops.specs.Coercions.{Coerces, Keeps, kept_by, undefined_as_null as null_for_undefined};
 
 use crate::conversions::convert;
@@ -50,7 +49,6 @@ fn keep(l: &Linked, a: &Arena, ty: Ty, v: Value) -> Result<Value, OpEnd>
 #[tactic(auto, using(crate::proofs::Staying::grows_itself))]
 pub fn coerce(l: &Linked, a: &mut Arena, ty: Ty, v: Value) -> Result<Value, OpEnd>
     requires over { StandsOver l.now a.old }
-    requires names { NamesAreShort l.now }
     requires value { Exists l.now a.old v }
     ensures left { Coerces l.now a.old a.new ty v result }
     ensures over { StandsOver l.now a.new }

@@ -11,12 +11,12 @@ use abc_objects::{Arena, Span, Value};
 
 /// The texts of an arena over a linked file, and its namespaces.
 #[derive(Clone, Copy)]
-struct Reading<'a, L> {
-    l: &'a L,
+struct Reading<'a> {
+    l: &'a Linked,
     arena: &'a Arena,
 }
 
-impl Texts for Reading<'_, L> {
+impl Texts for Reading<'_> {
     ghost use Rattle.abc_heap.specs.Texts.{IsText, text_of};
     ghost use Rattle.abc_names.specs.Pool.{same_space};
 

@@ -7,9 +7,8 @@ ghost use Rattle.abc_program.specs.Linked.{LinkedFile};
 ghost use Rattle.abc_objects.specs.Growing.{Grows};
 ghost use Rattle.abc_objects.specs.Stands.{StandsOver};
 ghost use Rattle.abc_objects.specs.Starts.{string_span};
-ghost use Rattle.abc_objects.specs.Values.{Exists, IsSpace};
+ghost use Rattle.abc_objects.specs.Values.{Exists};
 ghost use Rattle.abc_ops.specs.Conversions.{converted, objected, spelled, text_or_null as text_or_null_of};
-ghost use Rattle.abc_ops.specs.Names.{NamesAreShort};
 ghost use Rattle.abc_ops.specs.Left.{Leaves, as_value, number_or_fault};
 
 use crate::end::OpEnd;
@@ -22,17 +21,15 @@ use abc_objects::{Arena, FixedText, Span, Value, span_of_string};
 
 /// The text of a namespace: its name.
 fn name_of_space(l: &Linked, space: u32) -> Span
-    requires names { NamesAreShort l.now }
-    requires space { IsSpace l.now space }
     ensures { result ≡ string_span l.now.file.strings (space_in l.now.file space).name }
 {
+    l.linked_law();
     let abc = l.abc();
     span_of_string(&abc.strings, space_name(abc, space))
 }
 
 fn spell_as(l: &Linked, a: &mut Arena, v: Value) -> Result<Span, OpEnd>
-    requires names { NamesAreShort l.now }
-    requires value { Exists l.now a.old v }
+    requires { Exists l.now a.old v }
     ensures { Leaves (spelled l.now a.old v) result a.new }
 {
     match v {
@@ -50,7 +47,6 @@ fn spell_as(l: &Linked, a: &mut Arena, v: Value) -> Result<Span, OpEnd>
 /// The text of a value. That of a number is made, and a namespace has its name.
 pub fn spell(l: &Linked, a: &mut Arena, v: Value) -> Result<Span, OpEnd>
     requires over { StandsOver l.now a.old }
-    requires names { NamesAreShort l.now }
     requires value { Exists l.now a.old v }
     ensures left { Leaves (spelled l.now a.old v) result a.new }
     ensures over { StandsOver l.now a.new }
@@ -63,7 +59,6 @@ pub fn spell(l: &Linked, a: &mut Arena, v: Value) -> Result<Span, OpEnd>
 /// The text of a value, as a value.
 fn to_text(l: &Linked, a: &mut Arena, v: Value) -> Result<Value, OpEnd>
     requires over { StandsOver l.now a.old }
-    requires names { NamesAreShort l.now }
     requires value { Exists l.now a.old v }
     ensures left { Leaves (as_value (spelled l.now a.old v)) result a.new }
     ensures over { StandsOver l.now a.new }
@@ -80,7 +75,6 @@ fn to_text(l: &Linked, a: &mut Arena, v: Value) -> Result<Value, OpEnd>
 #[tactic(auto, using(crate::proofs::Staying::grows_itself))]
 fn text_or_null(l: &Linked, a: &mut Arena, v: Value) -> Result<Value, OpEnd>
     requires over { StandsOver l.now a.old }
-    requires names { NamesAreShort l.now }
     requires value { Exists l.now a.old v }
     ensures left { Leaves (text_or_null_of l.now a.old v) result a.new }
     ensures over { StandsOver l.now a.new }
@@ -120,7 +114,6 @@ pub fn number_value(n: Result<i64, Fault>) -> Result<Value, OpEnd>
 #[tactic(auto, using(crate::proofs::Staying::grows_itself))]
 pub fn convert(l: &Linked, a: &mut Arena, to: Conversion, v: Value) -> Result<Value, OpEnd>
     requires over { StandsOver l.now a.old }
-    requires names { NamesAreShort l.now }
     requires value { Exists l.now a.old v }
     ensures left { Leaves (converted l.now a.old to v) result a.new }
     ensures over { StandsOver l.now a.new }

@@ -4,7 +4,6 @@ ghost use Rattle.abc_objects.specs.Growing.{Grows};
 ghost use Rattle.abc_objects.specs.Stands.{StandsOver};
 ghost use Rattle.abc_objects.specs.Values.{Exists};
 ghost use Rattle.abc_ops.specs.Left.{Leaves};
-ghost use Rattle.abc_ops.specs.Names.{NamesAreShort};
 ghost use Rattle.abc_ops.specs.Operations.{computed, computed_single, joined, name_of_what, type_name as type_name_of};
 
 use crate::conversions::{number_value, spell};
@@ -65,7 +64,6 @@ pub fn unary(l: &Linked, a: &mut Arena, op: u8, v: Value) -> Result<Value, OpEnd
 /// The texts of two values, the left made before the right, one after the other.
 fn join(l: &Linked, a: &mut Arena, x: Value, y: Value) -> Result<Value, OpEnd>
     requires over { StandsOver l.now a.old }
-    requires names { NamesAreShort l.now }
     requires left { Exists l.now a.old x }
     requires right { Exists l.now a.old y }
     ensures left { Leaves (joined l.now a.old x y) result a.new }
@@ -85,7 +83,6 @@ fn join(l: &Linked, a: &mut Arena, x: Value, y: Value) -> Result<Value, OpEnd>
 #[tactic(auto, using(crate::proofs::Staying::grows_itself))]
 pub fn binary(l: &Linked, a: &mut Arena, op: u8, x: Value, y: Value) -> Result<Value, OpEnd>
     requires over { StandsOver l.now a.old }
-    requires names { NamesAreShort l.now }
     requires left { Exists l.now a.old x }
     requires right { Exists l.now a.old y }
     ensures left { Leaves (computed l.now a.old op x y) result a.new }

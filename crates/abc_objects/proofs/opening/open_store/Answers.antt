@@ -16,8 +16,8 @@ opened_store-requires-clause-few g c = omega (arith, (g.met.H.Host.formed c.args
 pub opened_store-requires-clause-short : goal.opened_store-requires-clause-short
 opened_store-requires-clause-short g c = omega (arith, ap (λ fs. length (concat (property_names fs))) c.in_ok-formulas.ensures, (property_names_short (g.H.Host.formulas c.args.host.now) (g.met.H.Host.formed c.args.host.now)).0)
 
-pub returns-clause-opened : goal.returns-clause-opened
-returns-clause-opened g c =
+pub returns : goal.returns
+returns g c =
     let l = c.args.l.now in
     let n = property_names_short (g.H.Host.formulas c.args.host.now) (g.met.H.Host.formed c.args.host.now) in
     ( subst (λ (k : ℕ). IsWithin (opening_counts l k) c.args.limits.now) (c.count-count.ensures ∙ sym n.1) c.in_ok-test_room.ensures

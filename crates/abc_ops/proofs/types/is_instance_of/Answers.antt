@@ -1,8 +1,8 @@
 use Rattle.std.proofs.Common.{◌≡◌, ◌<◌, ◌∙◌, ℕ, ◌↔◌, IsTrue, length, ap, subst, sym}
-use Rattle.abc_heap.specs.Heap.{object_at}
 use Rattle.abc_program.specs.Numbering.{part_at}
 use Rattle.abc_program.specs.Parts.{HasLayout}
 use Rattle.abc_program.specs.declared.part.Part.{Part}
+use Rattle.abc_objects.specs.Values.{Exists}
 use Rattle.abc_ops.specs.Types.{NamesInterface}
 use Rattle.abc_ops.proofs.Parts.{layout_there, part_there}
 use Rattle.abc_ops.proofs.types.is_instance_of.Goals as goal
@@ -10,12 +10,15 @@ use Rattle.abc_ops.proofs.types.is_instance_of.Goals as goal
 pub part_of-requires : goal.part_of-requires
 part_of-requires c =
     let l = c.args.l.now in
-    subst (λ (n : ℕ). n < length l.parts) (sym c.layout.ensures) (layout_there l c.args.a.now c.in-Obj.o.0 c.requires.over (subst _ c.in-Obj.is c.requires.value))
+    let there = subst (Exists l c.args.a.now) c.in-Obj.is c.requires.value in
+    subst (λ (n : ℕ). n < length l.parts) (sym c.layout.ensures) (layout_there l c.args.a.now c.in-Obj.o.0 c.requires.over there)
 
 pub names_interface-requires : goal.names_interface-requires
 names_interface-requires c =
     let l = c.args.l.now in
-    subst (HasLayout l.file) (sym c.part_of.ensures) (part_there l c.layout.result.0 (c.requires.over.linked) (goal.at.names_interface-requires c))
+    let there = subst (Exists l c.args.a.now) c.in-Obj.is c.requires.value in
+    let low = subst (λ (n : ℕ). n < length l.parts) (sym c.layout.ensures) (layout_there l c.args.a.now c.in-Obj.o.0 c.requires.over there) in
+    subst (HasLayout l.file) (sym c.part_of.ensures) (part_there l c.layout.result.0 c.requires.over.linked low)
 
 pub returns-in-Obj : goal.returns-in-Obj
 returns-in-Obj c =
