@@ -30,13 +30,15 @@ use Rattle.abc_names.specs.Pool.{no_space, space}
 use Rattle.abc_names.specs.declared.named.Named.{Named}
 use Rattle.abc_names.specs.declared.named.Named.TheVariants as named
 use Rattle.abc_program.proofs.Finding.{falling}
-use Rattle.abc_program.specs.Linked.{IsLinkedFile, LinkedFile, base}
+use Rattle.abc_program.specs.Linked.{IsLinkedFile, LinkedFile, base, layout_of}
 use Rattle.abc_program.specs.Numbering.{part_at}
 use Rattle.abc_program.specs.Parts.{HasLayout}
 use Rattle.abc_program.specs.Slots.{HasFewSlots, handler_at, own_slots, slots_in, slots_of, traits_of}
+use Rattle.abc_program.specs.Types.{type_in}
 use Rattle.abc_program.specs.declared.part.Part.{Part}
 use Rattle.abc_program.specs.declared.part.Part.TheVariants as parts
 use Rattle.abc_program.specs.declared.types.SlotInfo.{SlotInfo}
+use Rattle.abc_program.specs.declared.types.Ty.TheVariants as types
 use Rattle.abc_rules.specs.Parts.{body_at, class_at, no_body, no_class, no_script, script_at}
 use Rattle.abc_rules.specs.Starts.{coerced, default_of, host_default, int_at, number_of, raw_of, space_value, start_of, to_any, to_boolean, to_class, to_host, to_int, to_namespace, to_number, to_object, to_text, to_uint, to_void, uint_at}
 use Rattle.abc_rules.specs.Traits.{type_or_any}
@@ -224,6 +226,7 @@ any_there l (raws.Space n) s e = e
 any_there l other s e = tt
 
 void_there : (l : LinkedFile) (r : Raw) → OrExists l (to_void r)
+void_there l raws.Undefined = tt
 void_there l other = tt
 
 object_there : (l : LinkedFile) (r : Raw) → Stored l.file → RawExists l r → OrExists l (to_object r)
@@ -257,6 +260,7 @@ to_number_there l (raws.Bool b) e = truth_number b
 to_number_there l other e = tt
 
 boolean_there : (l : LinkedFile) (r : Raw) → OrExists l (to_boolean l.file r)
+boolean_there l raws.Undefined = tt
 boolean_there l other = tt
 
 text_there : (l : LinkedFile) (r : Raw) → Stored l.file → RawExists l r → OrExists l (to_text l.file r)
@@ -269,6 +273,7 @@ namespace_there l (raws.Space n) e = e
 namespace_there l other e = tt
 
 class_there : (l : LinkedFile) (r : Raw) → OrExists l (to_class r)
+class_there l raws.Undefined = tt
 class_there l other = tt
 
 host_there : (l : LinkedFile) (h : HostClass) (r : Raw) → Stored l.file → RawExists l r → OrExists l (to_host l.file h r)
@@ -319,8 +324,9 @@ body_there : (l : LinkedFile) (t : TraitBody) → Stored l.file → FitsTraitFie
 body_there l (traits.Slot id ty value constant) s f =
     let fields = (fields_fit (sizes_of l.file) (traits.Slot id ty value constant)).0 f in
     let t = type_or_any (type_named l.file ty) in
-    each_one (Starts l) _ (or_undefined l (start_of l.file t value) (start_there l t value s fields.2))
-body_there l (traits.Class id k) s f = each_one (Starts l) _ tt
+    let i : SlotInfo = record { ty = type_in l t; constant = constant; start = unwrap_or (start_of l.file t value) starts.Undefined } in
+    each_one (Starts l) i (or_undefined l (start_of l.file t value) (start_there l t value s fields.2))
+body_there l (traits.Class id k) s f = let i : SlotInfo = record { ty = types.Of (layout_of l (parts.ClassObject k)); constant = true; start = starts.Null } in each_one (Starts l) i tt
 body_there l other s f = each_none (Starts l)
 
 traits_there : (l : LinkedFile) (ts : List TraitInfo) → Stored l.file → FitTraits (sizes_of l.file) ts → Each (Starts l) (flat_map (λ (t : TraitInfo). slots_in l t.body) ts)
@@ -330,7 +336,7 @@ traits_there l ts s f =
 
 -- the own slots of a part
 own_there : (l : LinkedFile) (p : Part) → Fits l.file → HasLayout l.file p → Each (Starts l) (own_slots l p)
-own_there l (parts.Host hosts.Class) f has = each_one (Starts l) _ tt
+own_there l (parts.Host hosts.Class) f has = let i : SlotInfo = record { ty = types.Object; constant = true; start = starts.Null } in each_one (Starts l) i tt
 own_there l (parts.Host other) f has = each_none (Starts l)
 own_there l (parts.HostClassObject h) f has = each_none (Starts l)
 own_there l (parts.Instance k) f has =
@@ -350,7 +356,9 @@ own_there l (parts.Activation k) f has =
     let c = body_at l.file k in
     traits_there l c.traits (stored l.file f) ((body_fits (sizes_of l.file) c).0 (b.1 k no_body has.0)).5
 own_there l (parts.Catch k e) f has =
-    each_one (Starts l) _ (default_there l (type_or_any (type_named l.file (handler_at l.file k e).exc_type)))
+    let t = type_or_any (type_named l.file (handler_at l.file k e).exc_type) in
+    let i : SlotInfo = record { ty = type_in l t; constant = false; start = default_of t } in
+    each_one (Starts l) i (default_there l t)
 
 part_has : (l : LinkedFile) (x : ℕ) → IsLinkedFile l → HasLayout l.file (part_at l.parts x)
 part_has l x t = entry (HasLayout l.file) l.parts x (parts.Host hosts.Object) tt t.numbering.only
