@@ -1,7 +1,7 @@
 -- The values with which slots start exist, since some bytes spell a linked file: its numbers are in their ranges, its strings are
 -- short, and its indices are in their pools.
 use Rattle.std.proofs.Common.{◌≡◌, ◌≢◌, ℕ, ℤ, zero, suc, ◌+◌, ◌-◌, ◌%◌, ◌^◌, ◌<◌, ◌≤◌, Bool, true, false, List, [], ◌∷◌, ◌++◌, Option, Some, None, length, get_or, refl, sym, ap, ◌∙◌, subst, arith, inl, inr}
-use Rattle.std.specs.Prelude.{All, if◌then◌else◌, nat_eq, nat_le, pos, slice_get, unwrap_or}
+use Rattle.std.specs.Prelude.{All, if◌then◌else◌, nat_eq, nat_le, negsuc, pos, slice_get, unwrap_or}
 use Rattle.std.specs.Int.{cast_signed, cast_unsigned, w32}
 use Rattle.std.specs.List.{flat_map}
 use Rattle.std.proofs.lemmas.Bool.Decides.{nat_tests}
@@ -216,7 +216,8 @@ low_number : (n : ℕ) → n < 2 ^ 32 → IsNumber (pos n)
 low_number n b = (omega (arith, ints), omega (arith, ints))
 
 bits_number : (z : ℤ) → IsNumber z → IsNumber (pos (cast_unsigned w32 z))
-bits_number z h = (omega (arith, ints), omega (arith, ints))
+bits_number (pos n) h = h
+bits_number (negsuc n) h = low_number (2 ^ 32 - suc n) (omega arith)
 
 any_there : (l : LinkedFile) (r : Raw) → Stored l.file → RawExists l r → OrExists l (to_any r)
 any_there l (raws.Int z) s e = e
