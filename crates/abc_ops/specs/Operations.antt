@@ -1,5 +1,6 @@
 -- What the opcodes compute of one value and of two.
 use Rattle.std.specs.Prelude.{ℕ, ◌||◌, ◌&&◌, not, nat_eq, ◌++◌, if◌then◌else◌}
+use Rattle.abc_cells.specs.declared.values.Span.{Span}
 use Rattle.abc_cells.specs.declared.values.Value.{Value}
 use Rattle.abc_cells.specs.declared.values.Value.TheVariants as values
 use Rattle.abc_conversions.specs.Kinds.{is_text}
@@ -43,12 +44,17 @@ computed_single h op v =
 
 -- ---- two values
 
--- the texts of both, the left made before the right, one after the other
+-- two texts, one after the other
+abbrev pub joined_texts : LinkedFile → Heap → Span → Span → Left Value
+joined_texts l h a b = as_value (text_made h (text_of l.file.strings h a ++ text_of l.file.strings h b))
+
+-- a text, and then that of a value
+abbrev pub joined_to : LinkedFile → Heap → Span → Value → Left Value
+joined_to l h a y = followed (spelled l h y) (λ k b. joined_texts l k a b)
+
+-- the texts of both, the left made before the right
 abbrev pub joined : LinkedFile → Heap → Value → Value → Left Value
-joined l h x y =
-    followed (spelled l h x) (λ g a.
-    followed (spelled l g y) (λ k b.
-    as_value (text_made k (text_of l.file.strings k a ++ text_of l.file.strings k b))))
+joined l h x y = followed (spelled l h x) (λ k a. joined_to l k a y)
 
 abbrev pub computed : LinkedFile → Heap → ℕ → Value → Value → Left Value
 computed l h op x y =

@@ -1,17 +1,18 @@
 ghost use Rattle.std.specs.Prelude.{◌≡◌, IfOk};
+ghost use Rattle.abc_heap.specs.Texts.{IsText};
 ghost use Rattle.abc_program.specs.Linked.{LinkedFile};
 ghost use Rattle.abc_objects.specs.Growing.{Grows};
 ghost use Rattle.abc_objects.specs.Stands.{StandsOver};
 ghost use Rattle.abc_objects.specs.Values.{Exists};
 ghost use Rattle.abc_ops.specs.Left.{Leaves};
-ghost use Rattle.abc_ops.specs.Operations.{computed, computed_single, joined, name_of_what, type_name as type_name_of};
+ghost use Rattle.abc_ops.specs.Operations.{computed, computed_single, joined, joined_texts, joined_to, name_of_what, type_name as type_name_of};
 
 use crate::conversions::{number_value, spell};
 use crate::end::OpEnd;
 use crate::made::make_joined;
 use abc_conversions::{calculate_value, calculate_values, is_text, is_true, operation, single};
 use abc_link::Linked;
-use abc_objects::{Arena, FixedText, Value, What};
+use abc_objects::{Arena, FixedText, Span, Value, What};
 
 fn name_of_object(what: What) -> FixedText
     ensures { result ≡ name_of_what what }
@@ -61,6 +62,38 @@ pub fn unary(l: &Linked, a: &mut Arena, op: u8, v: Value) -> Result<Value, OpEnd
     number_value(calculate_value(single(op), v))
 }
 
+/// Two texts, one after the other.
+fn join_texts(l: &Linked, a: &mut Arena, s: Span, t: Span) -> Result<Value, OpEnd>
+    requires over { StandsOver l.now a.old }
+    requires left { IsText l.now.file.strings a.old s }
+    requires right { IsText l.now.file.strings a.old t }
+    ensures left { Leaves (joined_texts l.now a.old s t) result a.new }
+    ensures over { StandsOver l.now a.new }
+    ensures grows { Grows a.old a.new }
+    ensures there { IfOk result (Exists l.now a.new) }
+{
+    match make_joined(l, a, s, t) {
+        Ok(both) => Ok(Value::Text(both)),
+        Err(end) => Err(end),
+    }
+}
+
+/// A text, and then that of a value.
+fn join_to(l: &Linked, a: &mut Arena, s: Span, y: Value) -> Result<Value, OpEnd>
+    requires over { StandsOver l.now a.old }
+    requires left { IsText l.now.file.strings a.old s }
+    requires right { Exists l.now a.old y }
+    ensures left { Leaves (joined_to l.now a.old s y) result a.new }
+    ensures over { StandsOver l.now a.new }
+    ensures grows { Grows a.old a.new }
+    ensures there { IfOk result (Exists l.now a.new) }
+{
+    match spell(l, a, y) {
+        Ok(t) => join_texts(l, a, s, t),
+        Err(end) => Err(end),
+    }
+}
+
 /// The texts of two values, the left made before the right, one after the other.
 fn join(l: &Linked, a: &mut Arena, x: Value, y: Value) -> Result<Value, OpEnd>
     requires over { StandsOver l.now a.old }
@@ -71,10 +104,8 @@ fn join(l: &Linked, a: &mut Arena, x: Value, y: Value) -> Result<Value, OpEnd>
     ensures grows { Grows a.old a.new }
     ensures there { IfOk result (Exists l.now a.new) }
 {
-    let s = spell(l, a, x)?;
-    let t = spell(l, a, y)?;
-    match make_joined(l, a, s, t) {
-        Ok(both) => Ok(Value::Text(both)),
+    match spell(l, a, x) {
+        Ok(s) => join_to(l, a, s, y),
         Err(end) => Err(end),
     }
 }
