@@ -18,7 +18,8 @@ pub overflow_add-start : goal.overflow_add-start
 overflow_add-start c = omega (arith, start_small c.args.names.now c.loop-name.name-index _ _ _ c.loop-name-test.true c.loop-name.invariant.1 (c.len-size.ensures ∙ ap length c.name-item.is) c.requires.short)
 
 pub loop-name-preserved : goal.loop-name-preserved
-loop-name-preserved c =
-    ( property_next c.args.store.now _ _ c.args.o.0 c.loop-name.name-index _ _ _ c.args.names.now _ c.loop-name-test.true c.loop-name.invariant.0 c.loop-name.invariant.1 c.loop-name.invariant.2 (c.len-size.ensures ∙ ap length c.name-item.is) c.add_property.ensures
-    , start_next c.args.names.now c.loop-name.name-index _ _ _ c.loop-name-test.true c.loop-name.invariant.1 (c.len-size.ensures ∙ ap length c.name-item.is)
-    , omega arith)
+loop-name-preserved c = (
+  property_next c.args.store.now _ _ c.args.o.0 c.loop-name.name-index _ _ _ c.args.names.now _ c.loop-name-test.true c.loop-name.invariant.0 c.loop-name.invariant.1 c.loop-name.invariant.2 (c.len-size.ensures ∙ ap length c.name-item.is) c.add_property.ensures,
+  start_next c.args.names.now c.loop-name.name-index _ _ _ c.loop-name-test.true c.loop-name.invariant.1 (c.len-size.ensures ∙ ap length c.name-item.is),
+  omega arith,
+)

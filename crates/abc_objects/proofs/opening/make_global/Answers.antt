@@ -16,8 +16,10 @@ pub keep_scopes-requires : goal.keep_scopes-requires
 keep_scopes-requires c =
     let l = c.args.l.now in
     let n = length (slots_of l (layout_of l (parts.Global c.args.script)).0) in
-    record { room = room_on c.args.store.now _ (global_object l c.args.script ∷ []) 1 (n + 1) 0 1 c.make_part-object.ensures.heap c.requires.room (omega arith)
-    (omega (arith, opened_cells l (parts.Global c.args.script) (Some hosts.Object) (whats.Global c.args.script))) }
+    record {
+      room = room_on c.args.store.now _ (global_object l c.args.script ∷ []) 1 (n + 1) 0 1 c.make_part-object.ensures.heap c.requires.room (omega arith)
+          (omega (arith, opened_cells l (parts.Global c.args.script) (Some hosts.Object) (whats.Global c.args.script)));
+    }
 
 pub returns : goal.returns
 returns c = global_entered c.args.l.now c.args.store.now _ _ c.args.script c.make_part-object.result c.make_part-object.ensures.number c.make_part-object.ensures.heap c.keep_scopes.ensures.heap

@@ -19,6 +19,7 @@ opened_store-requires-clause-short g c = omega (arith, ap (λ fs. length (concat
 pub returns : goal.returns
 returns g c =
     let l = c.args.l.now in
-    let n = property_names_short (g.H.Host.formulas c.args.host.now) (g.met.H.Host.formed c.args.host.now) in
-    ( subst (λ (k : ℕ). IsWithin (opening_counts l k) c.args.limits.now) (c.count-count.ensures ∙ sym n.1) c.in_ok-test_room.ensures
-    , c.in_ok-store.ensures ∙ ap (λ fs. opening l fs c.args.limits.now) c.in_ok-formulas.ensures)
+    let n = property_names_short (g.H.Host.formulas c.args.host.now) (g.met.H.Host.formed c.args.host.now) in (
+      subst (λ (k : ℕ). IsWithin (opening_counts l k) c.args.limits.now) (c.count-count.ensures ∙ sym n.1) c.in_ok-test_room.ensures,
+      c.in_ok-store.ensures ∙ ap (λ fs. opening l fs c.args.limits.now) c.in_ok-formulas.ensures,
+    )

@@ -13,11 +13,11 @@ returns-in-Ok c =
     let h = c.args.a.now in
     let new = c.text_of_number.new.self in
     made_is h new c.in-Ok.s (signed_decimal c.args.n)
-      (subst (λ (m : ℤ). IsTextMade h new c.in-Ok.s (signed_decimal m)) (to_z-of_z w64 c.args.n c.ranges.n) c.in-Ok.ensures.made)
+    (subst (λ (m : ℤ). IsTextMade h new c.in-Ok.s (signed_decimal m)) (to_z-of_z w64 c.args.n c.ranges.n) c.in-Ok.ensures.made)
 
 pub returns-in-Err : goal.returns-in-Err
 returns-in-Err c =
     let h = c.args.a.now in
     let new = c.text_of_number.new.self in
     full_is h new (signed_decimal c.args.n) (length (signed_decimal c.args.n)) c.in-Err.full refl
-      (subst (λ (m : ℤ). IsFull h new (length h.made) (length (signed_decimal m)) h.limits.text Text c.in-Err.full) (to_z-of_z w64 c.args.n c.ranges.n) c.in-Err.ensures.made)
+    (subst (λ (m : ℤ). IsFull h new (length h.made) (length (signed_decimal m)) h.limits.text Text c.in-Err.full) (to_z-of_z w64 c.args.n c.ranges.n) c.in-Err.ensures.made)
