@@ -361,7 +361,7 @@ own_there l (parts.Catch k e) f has =
     let i : SlotInfo = record { ty = type_in l t; constant = false; start = default_of t } in
     each_one (Starts l) i (default_there l t)
 
-part_has : (l : LinkedFile) (x : ℕ) → IsLinkedFile l → HasLayout l.file (part_at l.parts x)
+pub part_has : (l : LinkedFile) (x : ℕ) → IsLinkedFile l → HasLayout l.file (part_at l.parts x)
 part_has l x t = entry (HasLayout l.file) l.parts x (parts.Host hosts.Object) tt t.numbering.only
 
 -- with what is inherited, which has a lower number

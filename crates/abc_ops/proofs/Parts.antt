@@ -1,12 +1,8 @@
 -- The layouts of objects are those of the file's parts.
 use Rattle.std.proofs.Common.{◌≡◌, ℕ, zero, suc, ◌<◌, List, [], ◌∷◌, Some, length, refl, arith}
 use Rattle.std.specs.Prelude.{slice_get}
-use Rattle.abc_base.specs.declared.names.HostClass.TheVariants as hosts
 use Rattle.abc_heap.specs.Heap.{Heap, Object, object_at}
-use Rattle.abc_program.specs.Linked.{IsLinkedFile, LinkedFile}
-use Rattle.abc_program.specs.Numbering.{part_at}
-use Rattle.abc_program.specs.Parts.{HasLayout}
-use Rattle.abc_program.specs.declared.part.Part.TheVariants as parts
+use Rattle.abc_program.specs.Linked.{LinkedFile}
 use Rattle.abc_objects.specs.Stands.{StandsOver}
 
 -- an object is found at its position
@@ -17,6 +13,3 @@ object_found [] o lt = absurd (omega arith)
 
 pub layout_there : (l : LinkedFile) (h : Heap) (o : ℕ) → StandsOver l h → o < length h.objects → (object_at h.objects o).layout < length l.parts
 layout_there l h o s lt = (s.objects o (object_at h.objects o) (object_found h.objects o lt)).layout
-
-pub part_there : (l : LinkedFile) (x : ℕ) → IsLinkedFile l → x < length l.parts → HasLayout l.file (part_at l.parts x)
-part_there l x t lt = t.numbering.only x (parts.Host hosts.Object) lt

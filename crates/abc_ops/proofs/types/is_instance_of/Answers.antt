@@ -3,9 +3,10 @@ use Rattle.abc_cells.specs.declared.values.Value.{Value}
 use Rattle.abc_program.specs.Numbering.{part_at}
 use Rattle.abc_program.specs.Parts.{HasLayout}
 use Rattle.abc_program.specs.declared.part.Part.{Part}
+use Rattle.abc_objects.proofs.Started.{part_has}
 use Rattle.abc_objects.specs.Values.{Exists}
 use Rattle.abc_ops.specs.Types.{IsInstanceOf, NamesInterface}
-use Rattle.abc_ops.proofs.Parts.{layout_there, part_there}
+use Rattle.abc_ops.proofs.Parts.{layout_there}
 use Rattle.abc_ops.proofs.types.is_instance_of.Goals as goal
 
 pub layout-requires : goal.layout-requires
@@ -20,9 +21,7 @@ part_of-requires c =
 pub names_interface-requires : goal.names_interface-requires
 names_interface-requires c =
     let l = c.args.l.now in
-    let there = subst (Exists l c.args.a.now) c.in-Obj.is c.requires.value in
-    let low = subst (λ (n : ℕ). n < length l.parts) (sym c.layout.ensures) (layout_there l c.args.a.now c.in-Obj.o.0 c.requires.over there) in
-    subst (HasLayout l.file) (sym c.part_of.ensures) (part_there l c.layout.result.0 c.requires.over.linked low)
+    subst (HasLayout l.file) (sym c.part_of.ensures) (part_has l c.layout.result.0 c.requires.over.linked)
 
 pub returns-in-Obj : goal.returns-in-Obj
 returns-in-Obj c =
