@@ -35,10 +35,10 @@ none_above l x le = sym (ap (λ p. unwrap_or (place_under l.parts (parent l.file
 -- ---- how many slots there are
 
 pub no_slots : (lists : List (Listed SlotInfo)) → AreFewSlots lists 0
-no_slots lists = λ x lt. absurd (omega arith)
+no_slots lists = record { each = λ x lt. absurd (omega arith) }
 
 pub more_slots : (lists : List (Listed SlotInfo)) (x : ℕ) → AreFewSlots lists x → length (list_at lists x).values < 2 ^ 32 → AreFewSlots lists (x + 1)
-more_slots lists x h few = below_more (λ (k : ℕ). length (list_at lists k).values < 2 ^ 32) x h few
+more_slots lists x h few = record { each = below_more (λ (k : ℕ). length (list_at lists k).values < 2 ^ 32) x h.each few }
 
 pub few_slots : (l : LinkedFile) (lists : List (Listed SlotInfo)) → HasSlots l lists (length l.parts) → AreFewSlots lists (length l.parts) → HasFewSlots l
-few_slots l lists h few = λ x lt. subst (λ (xs : List SlotInfo). length xs < 2 ^ 32) (slots_found l lists (length l.parts) x h lt) (few x lt)
+few_slots l lists h few = λ x lt. subst (λ (xs : List SlotInfo). length xs < 2 ^ 32) (slots_found l lists (length l.parts) x h lt) (few.each x lt)

@@ -13,8 +13,8 @@ use Rattle.abc_slots.specs.Tables.{HasSlots}
 use Rattle.abc_tables.specs.declared.tables.Abc.{Abc}
 
 -- the first n lists of slots can be counted by 32 bits
-abbrev pub AreFewSlots : List (Listed SlotInfo) → ℕ → Type 0
-AreFewSlots lists n = (x : ℕ) → x < n → length (list_at lists x).values < 2 ^ 32
+pub record AreFewSlots (lists : List (Listed SlotInfo)) (n : ℕ) : Type 0 where
+  pub each : (x : ℕ) → x < n → length (list_at lists x).values < 2 ^ 32
 
 -- owners of methods, layouts, their slots and their own traits, the interfaces of classes
 pub record IsMade (v : Abc) (m : Made) : Type 0 where

@@ -77,10 +77,12 @@ fn check_slots_at(slots: &Heirs<SlotInfo>, x: u32) -> Result<(), NoMemory>
 
 /// Tells the same of each layout.
 #[tactic(auto, using(crate::proofs::Laws::no_slots, crate::proofs::Laws::more_slots))]
-fn check_slots(slots: &Heirs<SlotInfo>, count: u32) -> Result<(), NoMemory>
-    requires { count ≡ length slots.now }
-    ensures { OnOk result (AreFewSlots slots.now count) }
+fn check_slots(slots: &Heirs<SlotInfo>, layouts: &Layouts, count: u32) -> Result<(), NoMemory>
+    requires count { count ≡ length layouts.now.parts }
+    requires all { length slots.now ≡ length layouts.now.parts }
+    ensures { OnOk result (AreFewSlots slots.now (length layouts.now.parts)) }
 {
+    let _layouts = layouts;
     for x in 0..count {
         check_slots_at(slots, x)?;
     }
@@ -98,7 +100,7 @@ fn make(alloc: Global, abc: &Abc, meanings: &Table<Option<Named>>) -> Result<Mad
     let count = layouts.len() as u32;
     let meant = Meanings::new(abc, meanings);
     let slots = slots_of(alloc, &meant, &layouts, count)?;
-    check_slots(&slots, count)?;
+    check_slots(&slots, &layouts, count)?;
     let members = Members::new(alloc, abc, &layouts, count)?;
     let interfaces = Interfaces::new(alloc, &meant)?;
     Ok(Made {
