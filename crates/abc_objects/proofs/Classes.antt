@@ -1,35 +1,30 @@
 -- A class object, its prototype object and the scopes that it keeps.
-use Rattle.std.proofs.Common.{◌≡◌, ◌≢◌, ℕ, zero, suc, ◌+◌, ◌<◌, ◌≤◌, List, [], ◌∷◌, ◌++◌, Option, Some, None, length, map, set, get_or, true, false, refl, sym, ap, ◌∙◌, subst, arith, length-append, append-nil, ◌⊎◌, inl, inr}
+use Rattle.std.proofs.Common.{◌≡◌, ◌≢◌, ℕ, zero, suc, ◌+◌, ◌<◌, List, [], ◌∷◌, ◌++◌, Option, Some, None, length, map, set, get_or, false, refl, sym, ap, ◌∙◌, subst, arith, length-append, append-nil, inl, inr}
 use Rattle.std.specs.Prelude.{slice_get}
 use Rattle.std.proofs.lemmas.Option.{slice_get_within}
 use Rattle.std.proofs.lemmas.List.{length-map, length-set}
 use Rattle.abc_cells.specs.declared.values.ObjId.{ObjId}
-use Rattle.abc_cells.specs.declared.values.Value.{Value}
 use Rattle.abc_cells.specs.declared.values.Value.TheVariants as values
 use Rattle.abc_cells.proofs.Parts.{slice_get_more, slice_get_left, slice_get_seam}
 use Rattle.abc_heap.specs.declared.records.ScopeId.{ScopeId}
 use Rattle.abc_heap.specs.declared.records.ScopeEntry.{ScopeEntry}
 use Rattle.abc_heap.specs.declared.records.ScopeNode.{ScopeNode}
 use Rattle.abc_heap.specs.declared.records.What.TheVariants as whats
-use Rattle.abc_heap.specs.Heap.{Heap, Object, obj_id, object_at, slots_of}
+use Rattle.abc_heap.specs.Heap.{Heap, Object, obj_id, object_at}
 use Rattle.abc_heap.proofs.Growth.{set_read}
 use Rattle.abc_base.specs.declared.names.HostClass.TheVariants as hosts
 use Rattle.abc_heap.specs.declared.store.ClassParts.{ClassParts}
 use Rattle.abc_heap.specs.Changes.{with_class, with_made, with_scopes, with_slot, with_more_slots, bare}
 use Rattle.abc_heap.specs.Scopes.{nodes, top, scope_id}
 use Rattle.abc_heap.proofs.Makes.{change_last, nodes_length}
-use Rattle.abc_heirs.specs.Heirs.{heritage}
-use Rattle.abc_heirs.proofs.Laid.{heritage_some}
-use Rattle.abc_program.specs.Linked.{LinkedFile, IsLinkedFile, base, layout_of}
+use Rattle.abc_program.specs.Linked.{LinkedFile, IsLinkedFile, layout_of}
 use Rattle.abc_program.specs.Numbering.{part_at}
 use Rattle.abc_program.specs.Parts.{parent}
-use Rattle.abc_program.specs.Places.{place_under}
 use Rattle.abc_program.specs.Slots.{own_slots, slots_of as slots_of_layout}
 use Rattle.abc_program.specs.declared.part.Part.{Part}
 use Rattle.abc_program.specs.declared.part.Part.TheVariants as parts
 use Rattle.abc_program.specs.declared.types.SlotInfo.{SlotInfo}
-use Rattle.abc_program.proofs.Finding.{falling}
-use Rattle.abc_objects.specs.Starts.{StartsExist, start_value, start_values}
+use Rattle.abc_objects.specs.Starts.{start_value, start_values}
 use Rattle.abc_objects.specs.Values.{Exists}
 use Rattle.abc_objects.proofs.Made.{fixed_long, part_found, host_found, over_made_object, older, slots_are, start_there}
 use Rattle.abc_objects.proofs.Reshaped.{each_set}

@@ -1,5 +1,5 @@
 -- What holds of values, texts and objects still holds in a heap that grew.
-use Rattle.std.proofs.Common.{◌≡◌, ℕ, zero, suc, ◌+◌, ◌<◌, ◌≤◌, List, [], ◌∷◌, ◌++◌, Option, Some, None, length, refl, sym, ap, ◌∙◌, subst, arith, length-append, append_assoc, append-nil}
+use Rattle.std.proofs.Common.{◌≡◌, ℕ, zero, suc, ◌+◌, ◌≤◌, [], ◌++◌, Option, Some, None, length, refl, sym, ap, ◌∙◌, subst, arith, length-append, append_assoc, append-nil}
 use Rattle.std.specs.Prelude.{slice_get}
 use Rattle.std.proofs.lemmas.Option.{slice_get_within}
 use Rattle.abc_cells.proofs.Parts.{slice_get_left}
@@ -17,7 +17,7 @@ use Rattle.abc_program.specs.Linked.{LinkedFile}
 use Rattle.abc_program.specs.Tree.{IsBelow}
 use Rattle.abc_program.specs.declared.types.Kind.{Kind}
 use Rattle.abc_program.specs.declared.types.Kind.TheVariants as kinds
-use Rattle.abc_objects.specs.Values.{Exists, Holds, IsObject}
+use Rattle.abc_objects.specs.Values.{Exists, Holds}
 use Rattle.abc_objects.specs.Growing.{Grows, Keeps}
 use Rattle.abc_objects.specs.Opening.{opening_objects, opening_scopes}
 use Rattle.abc_objects.specs.Stands.{HasOpening, IsScope, IsObjectOrNone, NamesParts, IsProperty, ObjectStands, ScopeStands}

@@ -1,25 +1,20 @@
 -- Each change keeps an arena over its file.
-use Rattle.std.proofs.Common.{◌≡◌, ℕ, zero, suc, ◌+◌, ◌<◌, ◌≤◌, List, [], ◌∷◌, ◌++◌, Option, Some, None, length, set, true, false, refl, sym, ap, ◌∙◌, subst, arith, length-append, append-nil, ◌⊎◌, inl, inr}
+use Rattle.std.proofs.Common.{◌≡◌, ℕ, zero, suc, ◌+◌, ◌<◌, ◌≤◌, List, [], ◌∷◌, ◌++◌, Option, Some, None, length, refl, sym, ap, ◌∙◌, subst, arith, length-append, append-nil, ◌⊎◌, inl, inr}
 use Rattle.std.specs.Prelude.{slice_get}
 use Rattle.std.proofs.lemmas.Option.{slice_get_within}
-use Rattle.abc_cells.specs.declared.values.Span.{Span}
-use Rattle.abc_cells.specs.declared.values.Value.{Value}
-use Rattle.abc_cells.proofs.Parts.{slice_get_more, slice_get_left, slice_get_seam}
+use Rattle.abc_cells.proofs.Parts.{slice_get_more, slice_get_left}
 use Rattle.abc_heap.specs.declared.records.ScopeId.{ScopeId}
 use Rattle.abc_heap.specs.declared.records.ScopeNode.{ScopeNode}
 use Rattle.abc_heap.specs.declared.records.ScopeEntry.{ScopeEntry}
-use Rattle.abc_heap.specs.declared.records.What.{What}
 use Rattle.abc_heap.specs.declared.records.What.TheVariants as whats
-use Rattle.abc_heap.specs.Heap.{Heap, Object, object_at, obj_id, slots_of}
+use Rattle.abc_heap.specs.Heap.{Heap, Object, object_at, slots_of}
 use Rattle.abc_heap.specs.Changes.{change, with_object, with_scopes}
 use Rattle.abc_heap.specs.Scopes.{nodes, top, scope_id}
 use Rattle.abc_heap.proofs.Arrays.{length_change}
-use Rattle.abc_heap.proofs.Growth.{set_read}
 use Rattle.abc_heap.proofs.Makes.{nodes_length}
 use Rattle.abc_program.specs.Linked.{LinkedFile}
-use Rattle.abc_objects.specs.Values.{Exists, IsObject}
 use Rattle.abc_objects.specs.Growing.{Grows, Keeps}
-use Rattle.abc_objects.specs.Stands.{StandsOver, ObjectStands, ScopeStands, IsClassObject, IsScope, IsBeneath, AreEntries, host_class_number}
+use Rattle.abc_objects.specs.Stands.{StandsOver, ObjectStands, ScopeStands, IsScope, IsBeneath, AreEntries, host_class_number}
 use Rattle.abc_objects.proofs.Grown.{keeps_self, keeps_same, object_grown, opening_grown, scope_stands_grown}
 
 -- ---- one object changed

@@ -1,5 +1,5 @@
 -- The objects of the opening stand over the file.
-use Rattle.std.proofs.Common.{◌≡◌, ◌≢◌, ℕ, zero, suc, ◌+◌, ◌<◌, ◌≤◌, List, [], ◌∷◌, ◌++◌, Option, Some, None, length, map, set, true, false, refl, sym, ap, ◌∙◌, subst, arith, length-append}
+use Rattle.std.proofs.Common.{◌≡◌, ◌≢◌, ℕ, zero, suc, ◌+◌, ◌<◌, ◌≤◌, List, [], ◌∷◌, ◌++◌, Option, Some, None, length, map, set, false, refl, sym, ap, ◌∙◌, subst, arith, length-append}
 use Rattle.std.specs.List.{concat, range_with_len}
 use Rattle.std.specs.Prelude.{codes, slice_get, option_map, replicate}
 use Rattle.std.proofs.lemmas.List.{length-map, length-set, length-replicate}
@@ -12,12 +12,10 @@ use Rattle.abc_cells.specs.declared.values.ObjId.{ObjId}
 use Rattle.abc_cells.specs.declared.values.Span.{Span}
 use Rattle.abc_cells.specs.declared.values.Value.{Value}
 use Rattle.abc_cells.specs.declared.values.Value.TheVariants as values
-use Rattle.abc_heap.specs.Changes.{with_slot}
 use Rattle.abc_heap.specs.Heap.{Heap, Object, obj_id, object_at, slots_of as slots_of_object}
 use Rattle.abc_heap.specs.What.{is_array}
 use Rattle.abc_heap.specs.declared.records.Limits.{Limits}
 use Rattle.abc_heap.specs.declared.records.ScopeId.{ScopeId}
-use Rattle.abc_heap.specs.declared.records.ScopeNode.{ScopeNode}
 use Rattle.abc_heap.specs.declared.records.What.{What}
 use Rattle.abc_heap.specs.declared.records.What.TheVariants as whats
 use Rattle.abc_names.specs.Meaning.{host_classes}
@@ -30,14 +28,13 @@ use Rattle.abc_program.specs.declared.part.Part.{Part}
 use Rattle.abc_program.specs.declared.part.Part.TheVariants as parts
 use Rattle.abc_program.specs.declared.types.SlotInfo.{SlotInfo}
 use Rattle.abc_objects.specs.Fixed.{fixed_bytes}
-use Rattle.abc_objects.specs.Growing.{Keeps}
-use Rattle.abc_objects.specs.Opening.{above_host, class_object, entry_of, function_object, function_objects, global_number, global_object, host_object, host_object_number, host_properties, opened, opening, opening_objects, opening_scopes, property_names, prototype_id, prototype_object, spans_from}
+use Rattle.abc_objects.specs.Opening.{above_host, class_object, entry_of, function_object, function_objects, global_number, global_object, host_object, host_object_number, host_properties, opened, opening, opening_objects, property_names, prototype_id, prototype_object, spans_from}
 use Rattle.abc_objects.specs.Starts.{start_value, StartsExist}
-use Rattle.abc_objects.specs.Stands.{Each, HasOpening, IsClassObject, IsMadeAs, IsOlder, IsProperty, NamesParts, ObjectStands, ScopeStands, StandsOver, array_layout, host_class_number, host_layout}
+use Rattle.abc_objects.specs.Stands.{Each, IsMadeAs, IsOlder, IsProperty, NamesParts, ObjectStands, ScopeStands, StandsOver, array_layout, host_class_number, host_layout}
 use Rattle.abc_objects.specs.Values.{Exists}
 use Rattle.abc_objects.proofs.Grown.{keeps_same}
 use Rattle.abc_objects.proofs.Made.{bare_stands, host_found, part_found, slots_are, object_slots}
-use Rattle.abc_objects.proofs.Parts.{From, at_class, at_range, class_at, concat_both, from_both, left_at, range_at, right_at}
+use Rattle.abc_objects.proofs.Parts.{From, at_class, at_range, class_at, from_both, left_at, range_at, right_at}
 use Rattle.abc_objects.proofs.Reshaped.{each_set, object_there}
 
 -- ---- the slots of what the opening makes

@@ -1,5 +1,5 @@
 -- The changes of one object that leave it standing.
-use Rattle.std.proofs.Common.{◌≡◌, ℕ, zero, suc, ◌+◌, ◌<◌, List, [], ◌∷◌, ◌++◌, Option, Some, None, length, set, true, false, refl, sym, ap, ◌∙◌, subst, arith, ◌⊎◌, inl, inr}
+use Rattle.std.proofs.Common.{◌≡◌, ℕ, zero, suc, ◌+◌, List, [], ◌∷◌, ◌++◌, Option, Some, None, set, true, refl, sym, ap, ◌∙◌, subst, inl, inr}
 use Rattle.std.specs.Prelude.{slice_get}
 use Rattle.std.proofs.lemmas.List.{length-set}
 use Rattle.abc_cells.specs.declared.values.Span.{Span}
@@ -13,7 +13,7 @@ use Rattle.abc_heap.specs.Changes.{with_slot, with_element, with_new_element}
 use Rattle.abc_heap.proofs.Growth.{set_read}
 use Rattle.abc_program.specs.Linked.{LinkedFile}
 use Rattle.abc_objects.specs.Values.{Exists}
-use Rattle.abc_objects.specs.Stands.{StandsOver, ObjectStands, IsProperty, Each}
+use Rattle.abc_objects.specs.Stands.{StandsOver, IsProperty, Each}
 use Rattle.abc_objects.proofs.Kept.{Reshapes}
 
 pub each_set : {X : Type 0} (P : X → Type 0) (xs : List X) (k : ℕ) (x : X) → Each P xs → P x → Each P (set xs k x)

@@ -1,7 +1,7 @@
 -- The values with which slots start exist, since some bytes spell a linked file: its numbers are in their ranges, its strings are
 -- short, and its indices are in their pools.
-use Rattle.std.proofs.Common.{◌≡◌, ◌≢◌, ℕ, ℤ, zero, suc, ◌+◌, ◌-◌, ◌%◌, ◌^◌, ◌<◌, ◌≤◌, Bool, true, false, List, [], ◌∷◌, ◌++◌, Option, Some, None, length, get_or, refl, sym, ap, ◌∙◌, subst, arith, inl, inr}
-use Rattle.std.specs.Prelude.{All, if◌then◌else◌, nat_eq, nat_le, negsuc, pos, slice_get, unwrap_or}
+use Rattle.std.proofs.Common.{◌≡◌, ◌≢◌, ℕ, ℤ, zero, suc, ◌+◌, ◌-◌, ◌%◌, ◌^◌, ◌<◌, ◌≤◌, Bool, true, false, List, [], ◌∷◌, ◌++◌, Option, Some, None, length, get_or, refl, sym, subst, arith, inl, inr}
+use Rattle.std.specs.Prelude.{All, if◌then◌else◌, nat_eq, nat_le, negsuc, pos, unwrap_or}
 use Rattle.std.specs.Int.{cast_signed, cast_unsigned, w32}
 use Rattle.std.specs.List.{flat_map}
 use Rattle.std.proofs.lemmas.Bool.Decides.{nat_tests}
@@ -10,18 +10,16 @@ use Rattle.std.proofs.lemmas.List.Elements.{All-head, All-tail}
 use Rattle.abc_base.specs.Ranges.{IsNumber}
 use Rattle.abc_base.specs.declared.names.HostClass.{HostClass}
 use Rattle.abc_base.specs.declared.names.HostClass.TheVariants as hosts
-use Rattle.abc_fits.specs.Fitting.{FitTraits, FitUints, FitsInstance, FitsInt, FitsNamespace, FitsSlotValue, FitsText, FitsTrait, FitsTraitFields, Spelled}
+use Rattle.abc_fits.specs.Fitting.{FitTraits, FitUints, FitsInt, FitsNamespace, FitsSlotValue, FitsText, FitsTrait, FitsTraitFields, Spelled}
 use Rattle.abc_fits.proofs.BodiesFit.{bodies_fit, body_fits}
 use Rattle.abc_fits.proofs.ClassesFit.{class_fits, instance_fits, script_fits}
 use Rattle.abc_fits.proofs.Combined.{number_fits, pool_index_fits, pool_spelled, text_fits}
-use Rattle.abc_fits.proofs.DefinitionsFit.{AreDefinitions, definitions_fit}
+use Rattle.abc_fits.proofs.DefinitionsFit.{definitions_fit}
 use Rattle.abc_fits.proofs.FileFits.{file_fits, tables_fit}
 use Rattle.abc_fits.proofs.MethodsFit.{option_fits, value_fits}
-use Rattle.abc_fits.proofs.PoolsFit.{ArePools, ints_fit, namespace_fits, namespaces_fit, pools_fit, texts_fit}
+use Rattle.abc_fits.proofs.PoolsFit.{ints_fit, namespace_fits, namespaces_fit, pools_fit, texts_fit}
 use Rattle.abc_fits.proofs.TraitsFit.{fields_fit, trait_fits, traits_fit}
 use Rattle.abc_format.specs.Numbers.{s32, u32}
-use Rattle.abc_graph.specs.Ways.{IsFalling}
-use Rattle.abc_heap.specs.Texts.{pool_text}
 use Rattle.abc_heirs.specs.Heirs.{heritage}
 use Rattle.abc_heirs.proofs.Laid.{heritage_none, heritage_some}
 use Rattle.abc_names.specs.Instances.{instance_at, no_instance}
@@ -33,7 +31,7 @@ use Rattle.abc_program.proofs.Finding.{falling}
 use Rattle.abc_program.specs.Linked.{IsLinkedFile, LinkedFile, base, layout_of}
 use Rattle.abc_program.specs.Numbering.{part_at}
 use Rattle.abc_program.specs.Parts.{HasLayout}
-use Rattle.abc_program.specs.Slots.{HasFewSlots, handler_at, own_slots, slots_in, slots_of, traits_of}
+use Rattle.abc_program.specs.Slots.{HasFewSlots, handler_at, own_slots, slots_in, slots_of}
 use Rattle.abc_program.specs.Types.{type_in}
 use Rattle.abc_program.specs.declared.part.Part.{Part}
 use Rattle.abc_program.specs.declared.part.Part.TheVariants as parts
@@ -49,10 +47,6 @@ use Rattle.abc_rules.specs.declared.start.Start.TheVariants as starts
 use Rattle.abc_tables.specs.Classes.{sizes_of}
 use Rattle.abc_tables.specs.Files.{Fits}
 use Rattle.abc_tables.specs.Methods.{has_value}
-use Rattle.abc_tables.specs.declared.classes.ClassInfo.{ClassInfo}
-use Rattle.abc_tables.specs.declared.classes.Instance.{Instance}
-use Rattle.abc_tables.specs.declared.classes.Script.{Script}
-use Rattle.abc_tables.specs.declared.code.Body.{Body}
 use Rattle.abc_tables.specs.declared.methods.OptionValue.{OptionValue}
 use Rattle.abc_tables.specs.declared.methods.ValueKind.{ValueKind}
 use Rattle.abc_tables.specs.declared.methods.ValueKind.TheVariants as kinds

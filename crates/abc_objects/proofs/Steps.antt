@@ -1,6 +1,6 @@
 -- The steps of the opening: what each adds to the heap, and the room that is left.
 use Rattle.std.proofs.Common.{◌≡◌, ℕ, zero, suc, ◌+◌, ◌*◌, ◌<◌, ◌≤◌, List, [], ◌∷◌, ◌++◌, Option, Some, None, length, map, take, get_or, refl, sym, ap, ◌∙◌, subst, arith, length-append, append_assoc, append-nil, false}
-use Rattle.std.specs.List.{concat, range_with_len, sum, sum_by}
+use Rattle.std.specs.List.{concat, range_with_len, sum}
 use Rattle.std.specs.Prelude.{◌^◌, All, codes, option_map, replicate, slice_get}
 use Rattle.std.proofs.lemmas.List.{length-map, length-set, length-take, map-append}
 use Rattle.std.proofs.lemmas.List.Elements.{All-head, All-tail}
@@ -20,7 +20,7 @@ use Rattle.abc_heap.proofs.Arrays.{length_change}
 use Rattle.abc_heap.proofs.Bytes.{take_next_or}
 use Rattle.abc_heap.proofs.Makes.{change_last}
 use Rattle.abc_heap.specs.Changes.{change, with_made, with_object, with_scopes, with_slot}
-use Rattle.abc_heap.specs.Heap.{Heap, Object, HasRoomFor, all_cells, cells_of, cells_used, ledger, object_at, obj_id, slots_of as slots_of_object}
+use Rattle.abc_heap.specs.Heap.{Heap, Object, HasRoomFor, all_cells, cells_of, ledger, obj_id, slots_of as slots_of_object}
 use Rattle.abc_heap.specs.declared.records.Limits.{Limits}
 use Rattle.abc_heap.specs.declared.records.ScopeNode.{ScopeNode}
 use Rattle.abc_heap.specs.declared.records.What.{What}
@@ -36,7 +36,7 @@ use Rattle.abc_program.specs.declared.types.SlotInfo.{SlotInfo}
 use Rattle.abc_objects.specs.Fixed.{fixed_bytes, in_fixed}
 use Rattle.abc_objects.specs.Opening.{IsWithin, above_host, class_object, entry_of, formula_names, formula_objects, function_object, function_objects, global_number, global_object, global_slots, host_object, host_properties, opened, opening, opening_counts, opening_objects, opening_scopes, part_zero, property_names, prototype_id, prototype_object, slot_count, slot_counts, spans_from, with_globals, with_more_properties, with_objects}
 use Rattle.abc_objects.specs.Starts.{start_value, start_values, StartsExist}
-use Rattle.abc_objects.specs.Stands.{StandsOver, host_layout}
+use Rattle.abc_objects.specs.Stands.{StandsOver}
 use Rattle.abc_objects.proofs.Made.{no_slots, object_slots}
 use Rattle.abc_objects.proofs.Opened.{class_slots, names_length, opening_stands}
 use Rattle.abc_objects.proofs.Parts.{concat_both}

@@ -1,5 +1,5 @@
 -- What the arena's calls on texts leave, as steps.
-use Rattle.std.proofs.Common.{◌≡◌, ℕ, ◌+◌, ◌<◌, ◌≤◌, ◌∙◌, List, ◌++◌, length, take, drop, Bool, true, false, nat_le, refl, sym, ap, subst, arith, length-take, length-drop, length-append}
+use Rattle.std.proofs.Common.{◌≡◌, ℕ, ◌+◌, ◌<◌, ◌≤◌, List, ◌++◌, length, take, drop, Bool, true, false, nat_le, sym, ap, subst, arith, length-take, length-drop, length-append}
 use Rattle.std.proofs.lemmas.Bool.Decides.{nat_tests}
 use Rattle.std.specs.declared.result.Result.{Result}
 use Rattle.std.specs.declared.result.Result.TheVariants.{Ok, Err}
@@ -8,7 +8,7 @@ use Rattle.abc_heap.specs.Heap.{Heap, IsFull}
 use Rattle.abc_heap.specs.Texts.{IsText, IsTextMade, part_of, text_of}
 use Rattle.abc_heap.specs.declared.records.Full.{Full}
 use Rattle.abc_heap.specs.declared.records.Limit.TheVariants as limits
-use Rattle.abc_ops.specs.Left.{Leaves, Left, text_made, text_made_if}
+use Rattle.abc_ops.specs.Left.{Leaves, text_made, text_made_if}
 use Rattle.abc_ops.specs.declared.end.OpEnd.{OpEnd}
 use Rattle.abc_ops.specs.declared.end.OpEnd.TheVariants as ends
 

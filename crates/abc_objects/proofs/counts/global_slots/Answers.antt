@@ -1,4 +1,4 @@
-use Rattle.std.proofs.Common.{◌≡◌, ◌∙◌, arith}
+use Rattle.std.proofs.Common.{arith}
 use Rattle.abc_objects.proofs.Steps.{counts_more}
 use Rattle.abc_objects.proofs.counts.global_slots.Goals as goal
 

@@ -1,6 +1,4 @@
-use Rattle.std.proofs.Common.{◌≡◌, ◌<◌, ap, sym, subst, arith, length}
-use Rattle.abc_program.specs.Linked.{layout_of}
-use Rattle.abc_program.specs.Slots.{slots_of}
+use Rattle.std.proofs.Common.{◌<◌, ap, sym, subst, arith, length}
 use Rattle.abc_program.specs.declared.part.LayoutId.{LayoutId}
 use Rattle.abc_program.specs.declared.part.Part.TheVariants as parts
 use Rattle.abc_objects.proofs.Made.{part_found}

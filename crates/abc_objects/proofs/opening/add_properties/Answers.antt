@@ -1,4 +1,4 @@
-use Rattle.std.proofs.Common.{◌≡◌, ◌∙◌, ap, arith, length, refl, sym}
+use Rattle.std.proofs.Common.{◌∙◌, ap, arith, length, refl, sym}
 use Rattle.abc_objects.proofs.Steps.{length_small, no_properties, property_next, property_room, start_next, start_small}
 use Rattle.abc_objects.proofs.opening.add_properties.Goals as goal
 

@@ -1,12 +1,10 @@
-use Rattle.std.proofs.Common.{◌≡◌, ◌∙◌, ◌∷◌, [], ◌<◌, ap, arith, length, sym, subst, ℕ}
+use Rattle.std.proofs.Common.{◌<◌, ap, arith, length, sym, subst}
 use Rattle.abc_base.specs.declared.names.HostClass.TheVariants as hosts
-use Rattle.abc_cells.specs.declared.values.Value.TheVariants as values
-use Rattle.abc_heap.specs.Changes.{with_object, with_slot}
-use Rattle.abc_heap.specs.Heap.{Heap, obj_id, slots_of}
+use Rattle.abc_heap.specs.Heap.{Heap, slots_of}
 use Rattle.abc_heap.specs.declared.records.What.TheVariants as whats
 use Rattle.abc_program.specs.Linked.{layout_of}
 use Rattle.abc_program.specs.declared.part.Part.TheVariants as parts
-use Rattle.abc_objects.specs.Opening.{opened, prototype_id}
+use Rattle.abc_objects.specs.Opening.{opened}
 use Rattle.abc_objects.proofs.Opened.{class_slots}
 use Rattle.abc_objects.proofs.Steps.{class_written, last_slots, starts_count}
 use Rattle.abc_objects.proofs.opening.make_class_object.Goals as goal

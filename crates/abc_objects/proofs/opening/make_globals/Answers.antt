@@ -1,4 +1,4 @@
-use Rattle.std.proofs.Common.{◌≡◌, ◌+◌, ap, arith, subst, ℕ}
+use Rattle.std.proofs.Common.{◌+◌, arith, subst, ℕ}
 use Rattle.std.specs.List.{sum}
 use Rattle.abc_heap.specs.Heap.{HasRoomFor}
 use Rattle.abc_objects.specs.Opening.{slot_counts}

@@ -1,4 +1,4 @@
-use Rattle.std.proofs.Common.{◌≡◌, ◌∷◌, [], ◌<◌, arith, length, length-append, sym, subst, ap}
+use Rattle.std.proofs.Common.{◌∷◌, [], arith, length, length-append, ap}
 use Rattle.abc_base.specs.declared.names.HostClass.TheVariants as hosts
 use Rattle.abc_heap.specs.Heap.{Heap}
 use Rattle.abc_heap.specs.declared.records.What.TheVariants as whats

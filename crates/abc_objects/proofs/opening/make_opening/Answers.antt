@@ -1,5 +1,4 @@
-use Rattle.std.proofs.Common.{◌≡◌, ◌∙◌, ◌+◌, ◌++◌, ap, arith, length, map, sym, subst, ℕ}
-use Rattle.abc_heap.specs.Heap.{Heap}
+use Rattle.std.proofs.Common.{◌≡◌, ◌∙◌, ◌+◌, ◌++◌, ap, arith, length, map}
 use Rattle.abc_names.specs.Meaning.{host_classes}
 use Rattle.abc_objects.specs.Opening.{class_object, function_objects, global_slots, prototype_object}
 use Rattle.abc_objects.proofs.Opened.{names_length}

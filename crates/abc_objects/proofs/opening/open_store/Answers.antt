@@ -1,6 +1,6 @@
-use Rattle.std.proofs.Common.{◌≡◌, ◌∙◌, ◌≤◌, ◌<◌, ◌+◌, ◌^◌, ap, arith, length, sym, subst, ℕ}
+use Rattle.std.proofs.Common.{◌∙◌, ap, arith, length, sym, subst, ℕ}
 use Rattle.std.specs.List.{concat}
-use Rattle.abc_objects.specs.Opening.{IsUnopened, IsWithin, formula_names, opening, opening_counts, property_names}
+use Rattle.abc_objects.specs.Opening.{IsWithin, opening, opening_counts, property_names}
 use Rattle.abc_objects.proofs.Steps.{property_names_short}
 use Rattle.abc_objects.proofs.opening.open_store.Goals as goal
 

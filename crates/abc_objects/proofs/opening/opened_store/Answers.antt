@@ -1,4 +1,4 @@
-use Rattle.std.proofs.Common.{◌≡◌, ◌∙◌, ◌++◌, ap, length}
+use Rattle.std.proofs.Common.{◌∙◌, ◌++◌, ap}
 use Rattle.std.specs.List.{concat}
 use Rattle.abc_objects.specs.Fixed.{fixed_bytes}
 use Rattle.abc_objects.proofs.Steps.{opened_by}

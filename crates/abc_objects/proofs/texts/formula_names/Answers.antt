@@ -1,4 +1,4 @@
-use Rattle.std.proofs.Common.{◌≡◌, ◌∙◌, arith}
+use Rattle.std.proofs.Common.{◌∙◌, arith}
 use Rattle.abc_objects.proofs.Steps.{name_on}
 use Rattle.abc_objects.proofs.texts.formula_names.Goals as goal
 

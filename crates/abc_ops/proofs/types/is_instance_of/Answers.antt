@@ -1,4 +1,4 @@
-use Rattle.std.proofs.Common.{◌≡◌, ◌<◌, ◌∙◌, ℕ, ◌↔◌, IsTrue, length, ap, subst, sym}
+use Rattle.std.proofs.Common.{◌<◌, ◌∙◌, ℕ, ◌↔◌, IsTrue, length, ap, subst, sym}
 use Rattle.abc_cells.specs.declared.values.Value.{Value}
 use Rattle.abc_program.specs.Numbering.{part_at}
 use Rattle.abc_program.specs.Parts.{HasLayout}

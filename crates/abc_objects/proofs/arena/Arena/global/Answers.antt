@@ -1,4 +1,4 @@
-use Rattle.std.proofs.Common.{◌≡◌, ◌<◌, ℕ, ◌+◌, ap, arith, length, subst}
+use Rattle.std.proofs.Common.{◌≡◌, ℕ, ◌+◌, ap, arith, length, subst}
 use Rattle.abc_heap.specs.Heap.{Heap, obj_id}
 use Rattle.abc_heap.specs.declared.records.Limits.{Limits}
 use Rattle.abc_objects.specs.Opening.{global_number, global_object}

@@ -1,13 +1,11 @@
-use Rattle.std.proofs.Common.{◌≡◌, ◌∙◌, ap, refl, sym, subst}
-use Rattle.std.specs.Prelude.{replicate}
+use Rattle.std.proofs.Common.{◌≡◌, ◌∙◌, ap, sym, subst}
 use Rattle.abc_base.specs.declared.names.HostClass.TheVariants as hosts
-use Rattle.abc_cells.specs.declared.values.Value.TheVariants.{Undefined}
 use Rattle.abc_heap.specs.Heap.{Heap}
 use Rattle.abc_heap.specs.Changes.{with_array}
 use Rattle.abc_program.specs.declared.part.LayoutId.{LayoutId}
 use Rattle.abc_objects.specs.Stands.{StandsOver, Each, array_layout, host_class_number, prototype_of}
 use Rattle.abc_objects.specs.Values.{Exists}
-use Rattle.abc_objects.proofs.Made.{over_array, prototype_is, undefined_exist}
+use Rattle.abc_objects.proofs.Made.{over_array, prototype_is}
 use Rattle.abc_objects.proofs.Ways.{either_way}
 use Rattle.abc_objects.proofs.arena.Arena.new_array.Goals as goal
 

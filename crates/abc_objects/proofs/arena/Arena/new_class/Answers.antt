@@ -1,8 +1,7 @@
-use Rattle.std.proofs.Common.{◌≡◌, ◌<◌, ◌∙◌, ap, refl, sym, subst, arith, length, map, None}
+use Rattle.std.proofs.Common.{◌≡◌, ◌<◌, ◌∙◌, ap, sym, subst, arith, length, map, None}
 use Rattle.std.specs.Prelude.{get_or}
 use Rattle.std.proofs.lemmas.List.{length-map}
 use Rattle.abc_base.specs.declared.names.HostClass.TheVariants as hosts
-use Rattle.abc_tables.specs.declared.tables.Abc.{Abc}
 use Rattle.abc_heap.specs.Heap.{Heap}
 use Rattle.abc_heap.specs.Changes.{with_class}
 use Rattle.abc_heap.specs.declared.store.ClassParts.{ClassParts}
