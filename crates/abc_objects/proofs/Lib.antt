@@ -1,0 +1,11 @@
+pub mod Grown
+pub mod Kept
+pub mod Reshaped
+pub mod Made
+pub mod Ways
+pub mod Classes
+pub mod FixedTexts
+pub mod Parts
+pub mod Opened
+pub mod Started
+pub mod Steps

@@ -1,0 +1,28 @@
+use Rattle.std.proofs.Common.{◌≡◌, ◌∙◌, ap, sym, subst}
+use Rattle.std.specs.Prelude.{replicate}
+use Rattle.abc_base.specs.declared.names.HostClass.TheVariants as hosts
+use Rattle.abc_cells.specs.declared.values.Value.TheVariants.{Undefined}
+use Rattle.abc_heap.specs.Heap.{Heap}
+use Rattle.abc_heap.specs.Changes.{with_array}
+use Rattle.abc_program.specs.declared.part.LayoutId.{LayoutId}
+use Rattle.abc_objects.specs.Stands.{StandsOver, array_layout, host_class_number, prototype_of}
+use Rattle.abc_objects.proofs.Made.{over_array, prototype_is, undefined_exist}
+use Rattle.abc_objects.proofs.Ways.{either_way}
+use Rattle.abc_objects.proofs.arena.Arena.new_undefined.Goals as goal
+
+pub prototype-delegate-requires : goal.prototype-delegate-requires
+prototype-delegate-requires c = c.requires.over.hosts hosts.Array
+
+pub returns-clause-over : goal.returns-clause-over
+returns-clause-over c =
+    let l = c.args.l.now in
+    let h = c.self.inside.store in
+    let s = subst (StandsOver l) (sym c.self.view_is) c.requires.over in
+    let n = host_class_number hosts.Array in
+    let d : c.prototype-delegate.result ≡ prototype_of h n = c.prototype-delegate.ensures ∙ ap (λ (y : Heap). prototype_of y n) (sym c.self.view_is) in
+    let es = (replicate c.args.count Undefined) in
+    let made = over_array l h es (prototype_of h n) s (prototype_is l h n s) (undefined_exist l h c.args.count) in
+    let same = ap (λ (x : LayoutId). with_array es x.0 c.prototype-delegate.result h) c.layout_of-layout.ensures ∙ ap (λ o. with_array es (array_layout l) o h) d in
+    either_way (StandsOver l c.new_undefined.new.self) c.new_undefined.result _ _ c.new_undefined.ensures
+    (λ r p. subst (StandsOver l) (sym (p.heap ∙ same)) made)
+    (λ e q. subst (StandsOver l) (sym q.0) s)

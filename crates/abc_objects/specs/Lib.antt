@@ -1,0 +1,6 @@
+pub mod Values
+pub mod Fixed
+pub mod Starts
+pub mod Growing
+pub mod Opening
+pub mod Stands

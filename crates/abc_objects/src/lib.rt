@@ -1,0 +1,19 @@
+//! The arena of a run over a linked file: objects with their slots, properties and elements, captured scopes, and texts.
+//! What an arena names is there, and each object is what its layout says; each call keeps that.
+#![tactic(auto)]
+
+mod arena;
+mod counts;
+mod error;
+mod fixed;
+mod hosts;
+mod opening;
+mod starts;
+mod texts;
+
+pub use abc_cells::{ObjId, Span, Value};
+pub use abc_heap::{Full, Limit, Limits, ScopeEntry, ScopeId, ScopeNode, What};
+pub use arena::Arena;
+pub use error::OpenError;
+pub use fixed::FixedText;
+pub use starts::span_of_string;
