@@ -1,0 +1,71 @@
+-- Whole numbers modulo 2 ^ 32, shifts and remainders.
+use Rattle.std.proofs.Common.{◌≡◌, ℕ, suc, ◌+◌, ◌-◌, ◌*◌, ◌/◌, ◌%◌, ◌<◌, ◌≤◌, ◌^◌, ℤ, pos, negsuc, ◌+ℤ◌, ◌*ℤ◌, ◌≤ℤ◌, ◌⊎◌, inl, inr, arith}
+use Rattle.std.proofs.Math.Nat.{mod-lt, mod-add-div}
+use Rattle.std.proofs.lemmas.Bool.{cases_lt, le-ltb}
+use Rattle.std.proofs.lemmas.Int.{SFits-int_wrap, ints, quot-rem, rem_below}
+use Rattle.std.specs.Int.{cast_signed, int_wrap, w32}
+use Rattle.std.specs.Prelude.{int_div, int_rem, unsigned_abs}
+use Rattle.abc_arithmetic.specs.Modular.{signed, unsigned}
+
+-- ---- modulo 2 ^ 32
+
+pub unsigned_below : (n : ℤ) → unsigned n < 4294967296
+unfolding unsigned
+unsigned_below (pos a) = mod-lt a (omega arith)
+unsigned_below (negsuc a) = omega arith
+
+pub unsigned_turns : (n : ℤ) → (turns : ℤ) × (n ≡ pos (unsigned n) +ℤ turns *ℤ pos 4294967296)
+unfolding unsigned
+unsigned_turns (pos a) = (pos (a / 4294967296), omega (arith, ints, mod-add-div a 4294967296))
+unsigned_turns (negsuc a) = (negsuc (a / 4294967296), omega (arith, ints, mod-add-div a 4294967296))
+
+low_signed : (n : ℤ) → unsigned n < 2147483648 → signed n ≡ pos (unsigned n)
+unfolding unsigned int_wrap
+low_signed n h = omega (arith, ints)
+
+high_bits : (u : ℕ) → 2147483648 ≤ u → cast_signed w32 u ≡ negsuc (4294967296 - suc u)
+high_bits u h = rw (le-ltb u 2147483648 h)
+
+high_signed : (n : ℤ) → 2147483648 ≤ unsigned n → signed n ≡ negsuc (4294967296 - suc (unsigned n))
+unfolding unsigned int_wrap
+high_signed n h = high_bits (unsigned n) h
+
+one_turn_more : (n m t : ℤ) (u : ℕ) → u < 4294967296 → n ≡ pos u +ℤ t *ℤ pos 4294967296 → m ≡ negsuc (4294967296 - suc u) → n ≡ m +ℤ (t +ℤ pos 1) *ℤ pos 4294967296
+one_turn_more n m t u b p q = omega (arith, ints)
+
+same_turns : (n m t : ℤ) (u : ℕ) → n ≡ pos u +ℤ t *ℤ pos 4294967296 → m ≡ pos u → n ≡ m +ℤ t *ℤ pos 4294967296
+same_turns n m t u p q = omega (arith, ints)
+
+pub signed_turns : (n : ℤ) → (turns : ℤ) × (n ≡ signed n +ℤ turns *ℤ pos 4294967296)
+signed_turns n =
+    let t = unsigned_turns n in
+    elim (cases_lt (unsigned n) 2147483648) [
+      | inl low ↦ (t.0, same_turns n (signed n) t.0 (unsigned n) t.1 (low_signed n low))
+      | inr high ↦ (t.0 +ℤ pos 1, one_turn_more n (signed n) t.0 (unsigned n) (unsigned_below n) t.1 (high_signed n high))
+    ]
+
+pub signed_low : (n : ℤ) → negsuc 2147483647 ≤ℤ signed n
+signed_low n = omega (arith, ints, SFits-int_wrap w32 n)
+
+pub signed_high : (n : ℤ) → signed n ≤ℤ pos 2147483647
+signed_high n = omega (arith, ints, SFits-int_wrap w32 n)
+
+-- ---- shifts
+
+-- a number below 32 is its own distance
+small_distance : (k : ℕ) → k < 32 → unsigned (pos k) % 32 ≡ k
+unfolding unsigned
+small_distance k h = omega arith
+
+pub same_distance : (n : ℤ) → unsigned (pos (unsigned n % 32)) % 32 ≡ unsigned n % 32
+same_distance n = small_distance (unsigned n % 32) (mod-lt (unsigned n) (omega arith))
+
+-- ---- remainders
+
+pub remainder_not_negative : (x y : ℤ) → pos 0 ≤ℤ x → pos 0 ≤ℤ int_rem x y
+remainder_not_negative (pos a) y h = omega (arith, ints)
+remainder_not_negative (negsuc a) y h = absurd (omega (arith, ints))
+
+pub remainder_not_positive : (x y : ℤ) → x ≤ℤ pos 0 → int_rem x y ≤ℤ pos 0
+remainder_not_positive (pos a) y h = omega (arith, ints)
+remainder_not_positive (negsuc a) y h = omega (arith, ints)

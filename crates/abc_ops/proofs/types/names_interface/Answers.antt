@@ -1,0 +1,6 @@
+use Rattle.std.proofs.Common.{subst}
+use Rattle.abc_program.specs.Parts.{HasLayout}
+use Rattle.abc_ops.proofs.types.names_interface.Goals as goal
+
+pub implements-requires : goal.implements-requires
+implements-requires c = subst (HasLayout c.args.l.now.file) c.in-Instance.is c.requires

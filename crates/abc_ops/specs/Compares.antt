@@ -1,0 +1,28 @@
+-- What the comparisons answer.
+use Rattle.std.specs.Prelude.{ℕ, Bool, Ok, Err}
+use Rattle.std.specs.declared.result.Result.{Result}
+use Rattle.abc_base.specs.declared.names.Fault.{Fault}
+use Rattle.abc_cells.specs.declared.values.Value.{Value}
+use Rattle.abc_conversions.specs.Equality.{equal_values, same_values}
+use Rattle.abc_conversions.specs.Opcodes.{comparison_of}
+use Rattle.abc_conversions.specs.Order.{ordered}
+use Rattle.abc_conversions.specs.declared.opcodes.Comparison.{Comparison}
+use Rattle.abc_conversions.specs.declared.opcodes.Comparison.TheVariants.{Equal, StrictlyEqual, Ordered}
+use Rattle.abc_heap.specs.Heap.{Heap}
+use Rattle.abc_heap.specs.Texts.{text_of}
+use Rattle.abc_names.specs.Pool.{same_space}
+use Rattle.abc_program.specs.Linked.{LinkedFile}
+use Rattle.abc_ops.specs.declared.end.OpEnd.{OpEnd}
+use Rattle.abc_ops.specs.declared.end.OpEnd.TheVariants as ends
+
+abbrev pub or_fault : Result Bool Fault → Result Bool OpEnd
+or_fault (Ok b) = Ok b
+or_fault (Err f) = Err (ends.Profile f)
+
+abbrev pub compared_as : LinkedFile → Heap → Comparison → Value → Value → Result Bool OpEnd
+compared_as l h Equal x y = or_fault (equal_values (text_of l.file.strings h) (same_space l.file) x y)
+compared_as l h StrictlyEqual x y = Ok (same_values (text_of l.file.strings h) (same_space l.file) x y)
+compared_as l h (Ordered order) x y = or_fault (ordered (text_of l.file.strings h) order x y)
+
+abbrev pub compared : LinkedFile → Heap → ℕ → Value → Value → Result Bool OpEnd
+compared l h op x y = compared_as l h (comparison_of op) x y

@@ -1,0 +1,87 @@
+-- What a reader would check of the operations.
+use Rattle.std.specs.Prelude.{◌≡◌, ℕ, ◌%◌, ◌<◌, ℤ, pos, negsuc, ◌+ℤ◌, ◌*ℤ◌, ◌≤ℤ◌, unsigned_abs, Bool, false, not, Ok}
+use Rattle.std.specs.Cmp.{IsEquivalence}
+use Rattle.std.specs.declared.result.Result.{Result}
+use Rattle.abc_arithmetic.specs.Modular.{unsigned}
+use Rattle.abc_cells.specs.declared.values.Value.{Value}
+use Rattle.abc_cells.specs.declared.values.Value.TheVariants.{Num, Undefined}
+use Rattle.abc_conversions.specs.Kinds.{is_undefined}
+use Rattle.abc_conversions.specs.declared.numbers.Conversion.TheVariants.{ConvertI, ConvertU}
+use Rattle.abc_conversions.specs.declared.opcodes.Comparison.TheVariants.{Ordered}
+use Rattle.abc_conversions.specs.declared.order.Order.{Order}
+use Rattle.abc_conversions.specs.declared.order.Order.TheVariants.{Less, LessOrEqual, Greater, GreaterOrEqual}
+use Rattle.abc_heap.specs.Heap.{Heap}
+use Rattle.abc_program.specs.Linked.{LinkedFile}
+use Rattle.abc_ops.specs.Compares.{compared, compared_as}
+use Rattle.abc_ops.specs.Conversions.{converted}
+use Rattle.abc_ops.specs.Left.{gives}
+use Rattle.abc_ops.specs.Operations.{computed}
+
+-- ---- convert_i and convert_u: the number in a range of 2 ^ 32 numbers that differs by a multiple of 2 ^ 32
+
+-- m is n modulo 2 ^ 32, from one number up to another
+pub record IsModulo (low high n m : ℤ) : Type 0 where
+  pub above : low ≤ℤ m
+  pub below : m ≤ℤ high
+  pub turns : ℤ
+  pub differs : n ≡ m +ℤ turns *ℤ pos 4294967296
+
+pub record ConvertsModulo (l : LinkedFile) (h : Heap) (n : ℤ) : Type 0 where
+  pub int : ℤ
+  pub int_modulo : IsModulo (negsuc 2147483647) (pos 2147483647) n int
+  pub is_int : converted l h ConvertI (Num n) ≡ gives h (Num int)
+  pub uint : ℤ
+  pub uint_modulo : IsModulo (pos 0) (pos 4294967295) n uint
+  pub is_uint : converted l h ConvertU (Num n) ≡ gives h (Num uint)
+
+abbrev pub IntegersAreModulo : Type 0
+IntegersAreModulo = (l : LinkedFile) (h : Heap) (n : ℤ) → ConvertsModulo l h n
+
+-- ---- lshift, rshift and urshift (A5, A6, A7) use the low five bits of the right operand
+
+abbrev pub low_five : ℤ → ℤ
+low_five n = pos (unsigned n % 32)
+
+-- the opcode computes the same by the low five bits alone
+abbrev pub UsesFiveBits : ℕ → Type 0
+UsesFiveBits op = (l : LinkedFile) (h : Heap) (x : Value) (n : ℤ) → computed l h op x (Num n) ≡ computed l h op x (Num (low_five n))
+
+abbrev pub ShiftsUseFiveBits : Type 0
+ShiftsUseFiveBits = UsesFiveBits 0xA5 × UsesFiveBits 0xA6 × UsesFiveBits 0xA7
+
+-- ---- modulo (A4): what is left of the dividend, with its sign
+
+pub record IsRemainder (x y r : ℤ) : Type 0 where
+  pub quotient : ℤ
+  pub differs : quotient *ℤ y +ℤ r ≡ x
+  pub below : unsigned_abs r < unsigned_abs y
+  pub not_negative : pos 0 ≤ℤ x → pos 0 ≤ℤ r
+  pub not_positive : x ≤ℤ pos 0 → r ≤ℤ pos 0
+
+abbrev pub ModuloHasTheSign : Type 0
+ModuloHasTheSign = (l : LinkedFile) (h : Heap) (x y r : ℤ) → computed l h 0xA4 (Num x) (Num y) ≡ gives h (Num r) → IsRemainder x y r
+
+-- ---- strictequals (AC) answers always, and as an equivalence
+
+pub record IsStrict (l : LinkedFile) (h : Heap) : Type 0 where
+  pub same : Value → Value → Bool
+  pub answers : (x y : Value) → compared l h 0xAC x y ≡ Ok (same x y)
+  pub equivalence : IsEquivalence same
+
+abbrev pub StrictEqualsIsEquivalence : Type 0
+StrictEqualsIsEquivalence = (l : LinkedFile) (h : Heap) → IsStrict l h
+
+-- ---- the orders: lessequals is the opposite of the exchanged lessthan, but for undefined
+
+-- what orders answer of two values, and of the two exchanged
+pub record AreOpposed {E : Type 0} (forth back : Order → Result Bool E) : Type 0 where
+  pub less_or_equal : (r : Bool) → back Less ≡ Ok r → forth LessOrEqual ≡ Ok (not r)
+  pub greater : (r : Bool) → back Less ≡ Ok r → forth Greater ≡ Ok r
+  pub greater_or_equal : (r : Bool) → forth Less ≡ Ok r → forth GreaterOrEqual ≡ Ok (not r)
+
+abbrev pub OrdersAreOpposed : Type 0
+OrdersAreOpposed = (l : LinkedFile) (h : Heap) (x y : Value) → is_undefined x ≡ false → is_undefined y ≡ false → AreOpposed (λ (o : Order). compared_as l h (Ordered o) x y) (λ (o : Order). compared_as l h (Ordered o) y x)
+
+-- with undefined on either side the answer is false, if it is none
+abbrev pub UndefinedIsUnordered : Type 0
+UndefinedIsUnordered = (l : LinkedFile) (h : Heap) (o : Order) (v : Value) (r : Bool) → (compared_as l h (Ordered o) Undefined v ≡ Ok r → r ≡ false) × (compared_as l h (Ordered o) v Undefined ≡ Ok r → r ≡ false)

@@ -1,0 +1,62 @@
+-- What the opcodes compute of one value and of two.
+use Rattle.std.specs.Prelude.{ℕ, ◌||◌, ◌&&◌, not, nat_eq, ◌++◌, if◌then◌else◌}
+use Rattle.abc_cells.specs.declared.values.Span.{Span}
+use Rattle.abc_cells.specs.declared.values.Value.{Value}
+use Rattle.abc_cells.specs.declared.values.Value.TheVariants as values
+use Rattle.abc_conversions.specs.Kinds.{is_text}
+use Rattle.abc_conversions.specs.Numbers.{calculated_of, calculated_single_of, truth_of}
+use Rattle.abc_conversions.specs.Opcodes.{operation_of, single_of}
+use Rattle.abc_heap.specs.Heap.{Heap, object_at}
+use Rattle.abc_heap.specs.Texts.{text_of}
+use Rattle.abc_heap.specs.declared.records.What.{What}
+use Rattle.abc_heap.specs.declared.records.What.TheVariants as whats
+use Rattle.abc_program.specs.Linked.{LinkedFile}
+use Rattle.abc_objects.specs.Fixed.{fixed_span}
+use Rattle.abc_objects.specs.declared.fixed.FixedText.{FixedText}
+use Rattle.abc_objects.specs.declared.fixed.FixedText.TheVariants as fixed
+use Rattle.abc_ops.specs.Conversions.{spelled}
+use Rattle.abc_ops.specs.Left.{Left, as_value, gives, number_or_fault, followed, text_made, unchanged}
+
+-- ---- typeof
+
+abbrev pub name_of_what : What → FixedText
+name_of_what (whats.Closure method home scope bound) = fixed.Function
+name_of_what whats.Trace = fixed.Function
+name_of_what (whats.Formula n) = fixed.Function
+name_of_what what = fixed.Object
+
+abbrev pub type_name : Heap → Value → FixedText
+type_name h values.Undefined = fixed.Undefined
+type_name h values.Null = fixed.Object
+type_name h (values.Num n) = fixed.Number
+type_name h (values.Bool b) = fixed.Boolean
+type_name h (values.Text s) = fixed.Str
+type_name h (values.Space n) = fixed.Object
+type_name h (values.Obj o) = name_of_what (object_at h.objects o.0).what
+
+-- ---- one value
+
+abbrev pub computed_single : Heap → ℕ → Value → Left Value
+computed_single h op v =
+    if nat_eq op 0x95 then gives h (values.Text (fixed_span (type_name h v)))
+    else (if nat_eq op 0x96 then gives h (values.Bool (not (truth_of v)))
+    else unchanged h (number_or_fault (calculated_single_of (single_of op) v)))
+
+-- ---- two values
+
+-- two texts, one after the other
+abbrev pub joined_texts : LinkedFile → Heap → Span → Span → Left Value
+joined_texts l h a b = as_value (text_made h (text_of l.file.strings h a ++ text_of l.file.strings h b))
+
+-- a text, and then that of a value
+abbrev pub joined_to : LinkedFile → Heap → Span → Value → Left Value
+joined_to l h a y = followed (spelled l h y) (λ k b. joined_texts l k a b)
+
+-- the texts of both, the left made before the right
+abbrev pub joined : LinkedFile → Heap → Value → Value → Left Value
+joined l h x y = followed (spelled l h x) (λ k a. joined_to l k a y)
+
+abbrev pub computed : LinkedFile → Heap → ℕ → Value → Value → Left Value
+computed l h op x y =
+    if nat_eq op 0xA0 && (is_text x || is_text y) then joined l h x y
+    else unchanged h (number_or_fault (calculated_of (operation_of op) x y))

@@ -1,0 +1,69 @@
+ghost use Rattle.std.specs.Prelude.{◌≡◌};
+ghost use Rattle.abc_objects.specs.Stands.{StandsOver};
+ghost use Rattle.abc_objects.specs.Values.{Exists};
+ghost use Rattle.abc_ops.specs.Compares.{compared, compared_as, or_fault as or_fault_of};
+
+use crate::end::OpEnd;
+use abc_base::Fault;
+use abc_conversions::{Comparison, Texts, are_ordered, comparison_at, equal, strictly_equal};
+use abc_link::Linked;
+use abc_objects::{Arena, Span, Value};
+
+/// The texts of an arena over a linked file, and its namespaces.
+#[derive(Clone, Copy)]
+struct Reading<'a> {
+    l: &'a Linked,
+    arena: &'a Arena,
+}
+
+impl Texts for Reading<'_> {
+    ghost use Rattle.abc_heap.specs.Texts.{IsText, text_of};
+    ghost use Rattle.abc_names.specs.Pool.{same_space};
+
+    ghost has = { λ r s. IsText r.l.now.file.strings r.arena.now s };
+
+    ghost text = { λ r. text_of r.l.now.file.strings r.arena.now };
+
+    ghost same = { λ r. same_space r.l.now.file };
+
+    fn bytes(&self, s: Span) -> &[u8] {
+        self.arena.text_bytes(self.l, s)
+    }
+
+    fn is_same_space(&self, a: u32, b: u32) -> bool {
+        self.l.is_same_space(a, b)
+    }
+}
+
+fn or_fault(outcome: Result<bool, Fault>) -> Result<bool, OpEnd>
+    ensures { result ≡ or_fault_of outcome }
+{
+    match outcome {
+        Ok(truth) => Ok(truth),
+        Err(fault) => Err(OpEnd::Profile(fault)),
+    }
+}
+
+fn compare_as(l: &Linked, a: &Arena, how: Comparison, x: Value, y: Value) -> Result<bool, OpEnd>
+    requires left { Exists l.now a.now x }
+    requires right { Exists l.now a.now y }
+    ensures { result ≡ compared_as l.now a.now how x y }
+{
+    let texts = Reading { l, arena: a };
+    match how {
+        Comparison::Equal => or_fault(equal(&texts, x, y)),
+        Comparison::StrictlyEqual => Ok(strictly_equal(&texts, x, y)),
+        Comparison::Ordered(order) => or_fault(are_ordered(&texts, order, x, y)),
+    }
+}
+
+/// What a comparison from AB to B0 answers: equals, strictequals, lessthan, lessequals, greaterthan and greaterequals. The
+/// left is converted before the right.
+pub fn compare(l: &Linked, a: &Arena, op: u8, x: Value, y: Value) -> Result<bool, OpEnd>
+    requires over { StandsOver l.now a.now }
+    requires left { Exists l.now a.now x }
+    requires right { Exists l.now a.now y }
+    ensures { result ≡ compared l.now a.now op x y }
+{
+    compare_as(l, a, comparison_at(op), x, y)
+}
