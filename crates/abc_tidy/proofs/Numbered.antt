@@ -21,9 +21,6 @@ use Rattle.abc_tidy.specs.Visited.{AreNumbers, IsAmong, IsNamed, IsPart, IsTreeI
 
 -- ---- nodes that have classes
 
-pub has_one : (classes : List (Option ℕ)) (x c : ℕ) → Some c ≡ class classes x → HasClass classes x
-has_one classes x c e = record { number = c; is = sym e }
-
 pub classed_next : (classes : List (Option ℕ)) (xs : List ℕ) (i : ℕ) → ((k : ℕ) → k < i → HasClass classes (get_or xs k 0)) → HasClass classes (get_or xs i 0) → (k : ℕ) → k < i + 1 → HasClass classes (get_or xs k 0)
 classed_next classes xs i before here k lt = go (cases_lt k i)
   where
@@ -252,13 +249,3 @@ numbered v heads graph keys classes roots seen places met all c n counts e f g s
     numbered_in v keys classes seen places met all n
     (subst (λ hs. AreClasses hs (graph_of v) keys classes) e (subst (λ gr. AreClasses heads gr keys classes) f s)) distinct
     (subst (AllClassed classes) g rooted) classed p (subst (λ k. AreNumbersMet k seen met) counts m) a (many ∙ ap length f)
-
-pub all_of : (classes : List (Option ℕ)) (xs : List ℕ) → All (HasClass classes) xs → AllClassed classes xs
-all_of classes [] h = tt
-all_of classes (x ∷ xs) h = (h 0 0 (omega arith), all_of classes xs (λ k d lt. h (suc k) d (omega arith)))
-
-pub no_class : (classes : List (Option ℕ)) (x : ℕ) → None ≡ class classes x → HasClass classes x → ⊥
-no_class classes x e h = absurd (some_none (sym e) h.is)
-  where
-    some_none : {o : Option ℕ} {n : ℕ} → o ≡ None → o ≡ Some n → ⊥
-    some_none a b = cc

@@ -12,18 +12,13 @@ use Rattle.abc_trees.specs.Effort.{unmarked}
 use Rattle.abc_trees.specs.Trees.{Tree, Leaf, Apply, head, Grows, Done, More, IsTree, AreTrees, NoTrees, OneMore}
 use Rattle.abc_trees.specs.Classes.{Means, MeansLeaf, MeansApply, class, HasTree, HasClass, AllClassed, AreApart, AreClasses, AreDistinct}
 use Rattle.abc_trees.specs.Visits.{is_met, visit, visit_all, visit_parts, IsVisit, IsVisitOf, IsVisited}
-use Rattle.abc_trees.proofs.Efforts.{below_zero, mark_less, unset_within}
+use Rattle.abc_trees.proofs.Efforts.{below_zero, mark_less, other_default, unset_within}
 use Rattle.abc_trees.proofs.Meanings.{drop_cons}
 use Rattle.abc_trees.proofs.TreeLaws.{met_here, met_other, one_class, one_meaning, one_tree}
 
 -- ---- marks
 
-other_default : (marks : List Bool) (i : ℕ) (b c : Bool) → i < length marks → get_or marks i b ≡ get_or marks i c
-other_default [] i b c lt = absurd (below_zero i lt)
-other_default (x ∷ marks) zero b c lt = refl
-other_default (x ∷ marks) (suc i) b c lt = other_default marks i b c (omega arith)
-
-no_marks : (n i : ℕ) → get_or (replicate n false) i false ≡ false
+pub no_marks : (n i : ℕ) → get_or (replicate n false) i false ≡ false
 no_marks zero i = refl
 no_marks (suc n) zero = refl
 no_marks (suc n) (suc i) = no_marks n i
