@@ -3,7 +3,7 @@
 use Rattle.std.proofs.Common.{◌≡◌, ℕ, zero, suc, ◌+◌, ◌-◌, ◌<◌, ◌≤◌, ◌⊎◌, inl, inr, List, [], ◌∷◌, ◌++◌, All, Contains, Bool, true, false, nat_eq, nat_le, if◌then◌else◌, not, ◌&&◌, cond, map, length, get_or, slice_get, Some, None, eqb-true, leb-true, le-leb, refl, sym, ap, subst, ◌∙◌, arith, length-append, true≢false}
 use Rattle.std.proofs.Math.Seq.{get_or-append_right}
 use Rattle.std.proofs.lemmas.Bool.{cases_lt}
-use Rattle.std.proofs.lemmas.List.{get_or_append_left, get_or_past, length-map}
+use Rattle.std.proofs.lemmas.List.{get_or_append_left, get_or_default, length-map}
 use Rattle.abc_graph.specs.Graph.{targets, IsGraph, Leads, Edge, Then, Returns}
 use Rattle.abc_graph.proofs.Searched.{leads_on}
 use Rattle.abc_refs.specs.declared.nodes.Counts.{Counts}
@@ -17,6 +17,7 @@ use Rattle.abc_tables.specs.declared.opcodes.Pool.{Pool}
 use Rattle.abc_tables.specs.declared.opcodes.Pool.TheVariants as pools
 use Rattle.abc_tables.specs.declared.tables.Abc.{Abc}
 use Rattle.abc_trees.specs.Orders.{In, NoneReturns, Reaches, Root, Onward}
+use Rattle.abc_trees.proofs.Walked.{contains_of, in_at}
 use Rattle.abc_tidy.specs.declared.error.TidyRule.TheVariants as rules
 use Rattle.abc_tidy.specs.Entries.{double_places, graph_of, int_places, name_parts, no_parts, set_parts, space_parts, text_places, uint_places, value_graph}
 use Rattle.abc_tidy.specs.NameGraph.{index_of_name, is_name, name_graph, name_indices, name_targets, names_among}
@@ -24,29 +25,7 @@ use Rattle.abc_tidy.specs.Rules.{Holds, IsCyclic}
 use Rattle.abc_tidy.specs.Visited.{roots_of}
 use Rattle.abc_tidy.proofs.Nodes.{node_at_most}
 
-below_zero : (x : ℕ) → x < 0 → ⊥
-below_zero x lt = omega arith
-
 -- ---- lists
-
-in_cases : {A : Type 0} (xs ys : List A) (x : A) → In x (xs ++ ys) → In x xs ⊎ In x ys
-in_cases [] ys x h = inr h
-in_cases (y ∷ xs) ys x (inl e) = inl (inl e)
-in_cases (y ∷ xs) ys x (inr h) = go (in_cases xs ys x h)
-  where
-    go : In x xs ⊎ In x ys → In x (y ∷ xs) ⊎ In x ys
-    go (inl k) = inl (inr k)
-    go (inr k) = inr k
-
-in_at : (xs : List ℕ) (i d : ℕ) → i < length xs → In (get_or xs i d) xs
-in_at [] i d lt = absurd (below_zero i lt)
-in_at (x ∷ xs) zero d lt = inl refl
-in_at (x ∷ xs) (suc i) d lt = inr (in_at xs i d (omega arith))
-
-contains : (xs : List ℕ) (x : ℕ) → In x xs → Contains xs x
-contains [] x h = absurd h
-contains (y ∷ ys) x (inl e) = (0, omega arith, sym e)
-contains (y ∷ ys) x (inr h) = let c = contains ys x h in (suc c.0, omega (arith, c.1), c.2)
 
 contained : (xs : List ℕ) (x : ℕ) → Contains xs x → In x xs
 contained xs x c = subst (λ y. In y xs) c.2 (in_at xs c.0 x c.1)
@@ -294,14 +273,14 @@ names_lead v x y (Edge c) high = go (edge_cases v x y (contained (targets (graph
   where
     go : EdgeCase v x y → NameWay v x y
     go (inl h) = let no_name : ⊥ = omega (arith, h.1, high) in absurd no_name
-    go (inr e) = record { from = e.from; to = e.to; from_is = e.from_is; to_is = e.to_is; way = Edge (contains (targets (name_graph v) e.from) e.to e.edge) }
+    go (inr e) = record { from = e.from; to = e.to; from_is = e.from_is; to_is = e.to_is; way = Edge (contains_of e.to (targets (name_graph v) e.from) e.edge) }
 names_lead v x y (Then {y = z} c l) high = go (edge_cases v x z (contained (targets (graph_of v) x) z c)) (names_lead v z y l high) (falls v z y l)
   where
     go : EdgeCase v x z → NameWay v z y → (z ≤ before_names v → y < z) → NameWay v x y
     go (inl h) w f = let k = f h.1 in let no_name : ⊥ = omega (arith, k, h.1, high) in absurd no_name
     go (inr e) w f =
         let same : w.from ≡ e.to = omega (arith, w.from_is, e.to_is) in
-        record { from = e.from; to = w.to; from_is = e.from_is; to_is = w.to_is; way = Then (contains (targets (name_graph v) e.from) e.to e.edge) (subst (λ n. Leads (name_graph v) n w.to) same w.way) }
+        record { from = e.from; to = w.to; from_is = e.from_is; to_is = w.to_is; way = Then (contains_of e.to (targets (name_graph v) e.from) e.edge) (subst (λ n. Leads (name_graph v) n w.to) same w.way) }
 
 -- ---- what the roots reach
 
@@ -342,7 +321,7 @@ name_reached v x (Root h) high = go (root_cases v (file_refs v) x h)
   where
     go : (x ≤ before_names v) ⊎ NameAmong v x (name_indices (file_refs v)) → NameReached v x
     go (inl l) = let no_name : ⊥ = omega (arith, l, high) in absurd no_name
-    go (inr (i, is, some, most, k)) = record { index = i; is = is; visited = Edge (contains (targets (name_graph v) 0) i k) }
+    go (inr (i, is, some, most, k)) = record { index = i; is = is; visited = Edge (contains_of i (targets (name_graph v) 0) k) }
 name_reached v x (Onward {x = z} r h) high = go (edge_cases v z x h) (name_reached v z r)
   where
     go : EdgeCase v z x → (before_names v < z → NameReached v z) → NameReached v x
@@ -350,7 +329,7 @@ name_reached v x (Onward {x = z} r h) high = go (edge_cases v z x h) (name_reach
     go (inr e) f =
         let w = f (omega (arith, e.from_is, e.some)) in
         let same : w.index ≡ e.from = omega (arith, w.is, e.from_is) in
-        record { index = e.to; is = e.to_is; visited = leads_on (name_graph v) 0 e.from e.to (subst (λ n. Leads (name_graph v) 0 n) same w.visited) (contains (targets (name_graph v) e.from) e.to e.edge) }
+        record { index = e.to; is = e.to_is; visited = leads_on (name_graph v) 0 e.from e.to (subst (λ n. Leads (name_graph v) 0 n) same w.visited) (contains_of e.to (targets (name_graph v) e.from) e.edge) }
 
 none_return : (v : Abc) → Holds v rules.NameCycle → NoneReturns (graph_of v) (roots_of v)
 none_return v holds = record { never = λ x r back. go x r back (cases_lt (before_names v) x) }
@@ -389,14 +368,9 @@ edge_within v x y h = go (edge_cases v x y h)
     go (inl k) = omega (arith, k.1, length_graph v)
     go (inr e) = omega (arith, e.to_is, e.most, length_graph v)
 
-same_default : (graph : List (List ℕ)) (x : ℕ) (d e : List ℕ) → x < length graph → get_or graph x d ≡ get_or graph x e
-same_default [] x d e lt = absurd (below_zero x lt)
-same_default (r ∷ graph) zero d e lt = refl
-same_default (r ∷ graph) (suc x) d e lt = same_default graph x d e (omega arith)
-
 entries_are_graph : (v : Abc) → IsGraph (graph_of v)
 entries_are_graph v x d lt k e l =
-    let same : get_or (graph_of v) x d ≡ targets (graph_of v) x = same_default (graph_of v) x d [] lt in
+    let same : get_or (graph_of v) x d ≡ targets (graph_of v) x = get_or_default (graph_of v) x d [] lt in
     edge_within v x (get_or (get_or (graph_of v) x d) k e) (subst (In (get_or (get_or (graph_of v) x d) k e)) same (in_at (get_or (graph_of v) x d) k e l))
 
 pub is_graph : (v : Abc) (graph : List (List ℕ)) → graph ≡ graph_of v → IsGraph graph

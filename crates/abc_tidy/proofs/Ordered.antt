@@ -4,7 +4,7 @@ use Rattle.abc_graph.specs.Graph.{IsGraph}
 use Rattle.abc_tables.specs.declared.tables.Abc.{Abc}
 use Rattle.abc_trees.specs.Classes.{AllClassed, HasClass}
 use Rattle.abc_trees.specs.Orders.{In, IsBehind, IsOrder, NoneReturns}
-use Rattle.abc_trees.proofs.Walked.{reached_within}
+use Rattle.abc_trees.proofs.Walked.{in_at, reached_within}
 use Rattle.abc_tidy.specs.declared.error.TidyRule.TheVariants as rules
 use Rattle.abc_tidy.specs.Entries.{graph_of}
 use Rattle.abc_tidy.specs.Rules.{Holds}
@@ -15,15 +15,7 @@ all_have : (classes : List (Option ℕ)) (xs : List ℕ) → ((y : ℕ) → In y
 all_have classes [] h = tt
 all_have classes (x ∷ xs) h = (h x (inl refl), all_have classes xs (λ y k. h y (inr k)))
 
-any_default : (xs : List ℕ) (k d : ℕ) → k < length xs → In (get_or xs k d) xs
-any_default [] k d lt = absurd (none k lt)
-  where
-    none : (k : ℕ) → k < 0 → ⊥
-    none k l = omega arith
-any_default (x ∷ xs) zero d lt = inl refl
-any_default (x ∷ xs) (suc k) d lt = inr (any_default xs k d (omega arith))
-
 pub roots_classed : (v : Abc) (graph : List (List ℕ)) (roots order : List ℕ) (classes : List (Option ℕ)) → graph ≡ graph_of v → roots ≡ roots_of v → Holds v rules.NameCycle → (NoneReturns graph roots → IsOrder graph roots order) → (IsBehind graph [] order → All (λ y. y < length graph) order → (y : ℕ) → In y order → HasClass classes y) → AllClassed classes roots
 roots_classed v graph roots order classes e f holds is all =
     let o = is (never_returns v graph roots e f holds) in
-    all_have classes roots (λ y h. all o.behind (λ k d lt. reached_within graph roots (get_or order k d) (is_graph v graph e) (roots_within v graph roots e f) (o.reached (get_or order k d) (any_default order k d lt))) y (o.rooted y h))
+    all_have classes roots (λ y h. all o.behind (λ k d lt. reached_within graph roots (get_or order k d) (is_graph v graph e) (roots_within v graph roots e f) (o.reached (get_or order k d) (in_at order k d lt))) y (o.rooted y h))

@@ -51,8 +51,3 @@ entered_less graph marks marks2 x n m len fresh set_is is =
     let within : x < length marks = unset_within marks x (sym fresh) in
     let lt : x < length graph = omega arith in
     subst (λ ms. unmarked graph ms + n ≤ unmarked graph marks + m) (sym set_is) (entered graph marks x n m len lt (sym fresh) is)
-
-pub other_default : (marks : List Bool) (i : ℕ) (b c : Bool) → i < length marks → get_or marks i b ≡ get_or marks i c
-other_default [] i b c lt = absurd (below_zero i lt)
-other_default (x ∷ marks) zero b c lt = refl
-other_default (x ∷ marks) (suc i) b c lt = other_default marks i b c (omega arith)

@@ -49,7 +49,7 @@ pub settled_next : (graph : List (List ℕ)) (order : List ℕ) (old new : List 
 settled_next graph order old new n x b all s lt at g = record { settled = λ k l m. go k l m (cases_lt k n) }
   where
     part : (k : ℕ) → k < length (targets graph x) → HasClass old (get_or (targets graph x) k 0)
-    part k l = by (behind_at graph [] order n (get_or (targets graph x) k 0) b lt (subst (λ z. In (get_or (targets graph x) k 0) (targets graph z)) at (in_at (targets graph x) k l)))
+    part k l = by (behind_at graph [] order n (get_or (targets graph x) k 0) b lt (subst (λ z. In (get_or (targets graph x) k 0) (targets graph z)) at (in_at (targets graph x) k 0 l)))
       where
         by : In (get_or (targets graph x) k 0) [] ⊎ ((j : ℕ) × (j < n) × (get_or order j 0 ≡ get_or (targets graph x) k 0)) → HasClass old (get_or (targets graph x) k 0)
         by (inl h) = absurd h

@@ -3,25 +3,25 @@ use Rattle.std.proofs.Common.{◌≡◌, ◌≢◌, ℕ, zero, suc, ◌+◌, ◌
 use Rattle.std.proofs.Math.ListN.{set}
 use Rattle.std.proofs.Math.Seq.{take-suc}
 use Rattle.std.proofs.lemmas.Bool.{cases_eq}
-use Rattle.std.proofs.lemmas.List.Elements.{Contains-append_right}
+use Rattle.std.proofs.lemmas.List.{get_or_default}
 use Rattle.abc_graph.specs.Graph.{targets, IsGraph, Leads, Edge, Then, Returns}
 use Rattle.abc_graph.proofs.Searched.{leads_on}
 use Rattle.abc_trees.specs.declared.order.Task.{Task}
 use Rattle.abc_trees.specs.Orders.{In, Reaches, Root, Onward, NoneReturns, IsBehind, IsOrder}
 use Rattle.abc_trees.specs.Walks.{enter, leave, pushed, IsPath, AreReady, IsWalk}
-use Rattle.abc_trees.proofs.Efforts.{below_zero, other_default}
+use Rattle.abc_trees.proofs.Efforts.{below_zero}
 
 -- ---- what stands in a list
 
-contains_of : (x : ℕ) (xs : List ℕ) → In x xs → Contains xs x
+pub contains_of : (x : ℕ) (xs : List ℕ) → In x xs → Contains xs x
 contains_of x [] h = absurd h
 contains_of x (y ∷ ys) (inl e) = (0, omega arith, sym e)
 contains_of x (y ∷ ys) (inr h) = let c = contains_of x ys h in (suc c.0, omega (arith, c.1), c.2)
 
-pub in_at : (xs : List ℕ) (k : ℕ) → k < length xs → In (get_or xs k 0) xs
-in_at [] k lt = absurd (below_zero k lt)
-in_at (x ∷ xs) zero lt = inl refl
-in_at (x ∷ xs) (suc k) lt = inr (in_at xs k (omega arith))
+pub in_at : (xs : List ℕ) (k d : ℕ) → k < length xs → In (get_or xs k d) xs
+in_at [] k d lt = absurd (below_zero k lt)
+in_at (x ∷ xs) zero d lt = inl refl
+in_at (x ∷ xs) (suc k) d lt = inr (in_at xs k d (omega arith))
 
 pub in_append : {A : Type 0} (x : A) (xs ys : List A) → In x (xs ++ ys) → In x xs ⊎ In x ys
 in_append x [] ys h = inr h
@@ -255,7 +255,7 @@ pushed_next xs todo now i x e lt at =
     ∙ ap (λ ys. pushed ys todo) (ap (λ y. take i xs ++ y ∷ []) at ∙ sym (ap (λ n. take n xs) one ∙ take-suc xs i 0 lt))
 
 pub length_pushed : (xs : List ℕ) (todo : List Task) → length (pushed xs todo) ≡ length xs + length todo
-length_pushed [] todo = refl
+length_pushed [] todo = omega arith
 length_pushed (x ∷ xs) todo = let h = length_pushed xs (enter x ∷ todo) in omega arith
 
 enter_is : (t : Task) → t.is_leaving ≡ false → t ≡ enter t.node
@@ -272,7 +272,7 @@ pub step_skips : (graph : List (List ℕ)) (roots : List ℕ) (entered : List Bo
 step_skips graph roots entered order t todo g all len l on never w =
     let within : t.node < length graph = reached_within graph roots t.node g all (w.reach t (inl refl)) in
     let inside : t.node < length entered = omega arith in
-    walk_skips graph roots entered order t.node todo never (other_default entered t.node false true inside ∙ sym on) (subst (λ s. IsWalk graph roots entered order (s ∷ todo)) (enter_is t l) w)
+    walk_skips graph roots entered order t.node todo never (get_or_default entered t.node false true inside ∙ sym on) (subst (λ s. IsWalk graph roots entered order (s ∷ todo)) (enter_is t l) w)
 
 pub step_enters : (graph : List (List ℕ)) (roots : List ℕ) (entered entered2 : List Bool) (order order2 : List ℕ) (t : Task) (todo todo2 : List Task) → t.is_leaving ≡ false → false ≡ get_or entered t.node true → entered2 ≡ set entered t.node true → todo2 ≡ pushed (targets graph t.node) (leave t.node ∷ todo) → order2 ≡ order → NoneReturns graph roots → IsWalk graph roots entered order (t ∷ todo) → IsWalk graph roots entered2 order2 todo2
 step_enters graph roots entered entered2 order order2 t todo todo2 l fresh marked is same never w =

@@ -90,7 +90,6 @@ impl Walk {
 
 /// The nodes that some nodes lead to, and these, in an order in which each stands behind those that it leads to, where none
 /// of them returns to itself.
-#[tactic(auto, using(crate::proofs::Walked::ordered))]
 pub fn parts_first(
     alloc: Global,
     graph: &Table<Table<u32>>,

@@ -2,7 +2,7 @@ use Rattle.std.proofs.Common.{◌≡◌, ℕ, get_or, replicate, true, false, ap
 use Rattle.std.proofs.lemmas.List.{length-replicate}
 use Rattle.abc_trees.specs.Walks.{pushed}
 use Rattle.abc_trees.proofs.Visited.{no_marks}
-use Rattle.abc_trees.proofs.Walked.{walk_begun}
+use Rattle.abc_trees.proofs.Walked.{ordered, walk_begun}
 use Rattle.abc_trees.proofs.order.parts_first.Goals as goal
 
 pub loop-task-init : goal.loop-task-init
@@ -15,3 +15,6 @@ loop-task-init c =
           (λ x e. true≢false (sym e ∙ ap (λ ms. get_or ms x false) marks ∙ no_marks _ x))
           (c.in_ok-add_all.ensures.todo ∙ ap (pushed c.args.roots.now) c.new.ensures));
     }
+
+pub returns : goal.returns
+returns c = ordered c.args.graph.now c.args.roots.now c.loop-task.walk.entered.items c.loop-task.walk.order c.loop-task.walk.todo c.in_default.ensures.0 c.loop-task.invariant.walk
