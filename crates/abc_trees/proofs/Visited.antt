@@ -1,16 +1,15 @@
 -- The visit of nodes goes as the visit of their trees does.
-use Rattle.std.proofs.Common.{◌≡◌, ◌≢◌, ℕ, zero, suc, ◌+◌, ◌<◌, ◌≤◌, ◌⊎◌, inl, inr, List, [], ◌∷◌, ◌++◌, replicate, Bool, true, false, if◌then◌else◌, length, get_or, slice_get, drop, Some, None, refl, sym, ap, subst, ◌∙◌, arith, append_assoc, length-append, get_or-set_other, get_or-set_same, true≢false}
+use Rattle.std.proofs.Common.{◌≡◌, ℕ, zero, suc, ◌+◌, ◌<◌, ◌≤◌, ◌⊎◌, inl, inr, List, [], ◌∷◌, ◌++◌, replicate, Bool, true, false, if◌then◌else◌, length, get_or, slice_get, drop, Some, None, refl, sym, ap, subst, ◌∙◌, arith, length-append, get_or-set_other, get_or-set_same, true≢false}
 use Rattle.std.proofs.Math.ListN.{set, length-set}
 use Rattle.std.specs.declared.option.Option.{Option}
 use Rattle.std.proofs.lemmas.Bool.{cases_eq, cases_lt}
 use Rattle.std.proofs.lemmas.List.{get_or_default, get_or_past, length-replicate}
-use Rattle.std.proofs.lemmas.Option.{get_or_from_slice_get}
 use Rattle.abc_graph.specs.Graph.{targets}
 use Rattle.abc_trees.specs.declared.heads.Head.{Head}
 use Rattle.abc_trees.specs.declared.keys.Key.{Key}
 use Rattle.abc_trees.specs.Effort.{unmarked}
-use Rattle.abc_trees.specs.Trees.{Tree, Leaf, Apply, head, Grows, Done, More, IsTree, AreTrees, NoTrees, OneMore}
-use Rattle.abc_trees.specs.Classes.{Means, MeansLeaf, MeansApply, class, HasTree, HasClass, AllClassed, AreApart, AreClasses, AreDistinct}
+use Rattle.abc_trees.specs.Trees.{Tree, Leaf, head, Grows, Done, More, IsTree, AreTrees, NoTrees, OneMore}
+use Rattle.abc_trees.specs.Classes.{Means, MeansLeaf, MeansApply, class, HasClass, AllClassed, AreApart, AreClasses, AreDistinct}
 use Rattle.abc_trees.specs.Visits.{is_met, visit, visit_all, visit_parts, IsVisit, IsVisitOf, IsVisited}
 use Rattle.abc_trees.proofs.Efforts.{below_zero, mark_less, unset_within}
 use Rattle.abc_trees.proofs.Meanings.{drop_cons}

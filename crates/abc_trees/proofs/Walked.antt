@@ -1,10 +1,10 @@
 -- Where no node returns to itself, a walk leaves each node behind those that it leads to.
-use Rattle.std.proofs.Common.{◌≡◌, ◌≢◌, ℕ, zero, suc, ◌+◌, ◌<◌, ◌≤◌, ◌⊎◌, inl, inr, List, [], ◌∷◌, ◌++◌, All, Contains, Bool, true, false, length, get_or, take, refl, sym, ap, subst, ◌∙◌, arith, get_or-set_other, get_or-set_same, true≢false}
+use Rattle.std.proofs.Common.{◌≡◌, ℕ, zero, suc, ◌+◌, ◌<◌, ◌⊎◌, inl, inr, List, [], ◌∷◌, ◌++◌, All, Contains, Bool, true, false, length, get_or, take, refl, sym, ap, subst, ◌∙◌, arith, get_or-set_other, true≢false}
 use Rattle.std.proofs.Math.ListN.{set}
 use Rattle.std.proofs.Math.Seq.{take-suc}
 use Rattle.std.proofs.lemmas.Bool.{cases_eq}
 use Rattle.std.proofs.lemmas.List.{get_or_default}
-use Rattle.abc_graph.specs.Graph.{targets, IsGraph, Leads, Edge, Then, Returns}
+use Rattle.abc_graph.specs.Graph.{targets, IsGraph, Leads, Edge}
 use Rattle.abc_graph.proofs.Searched.{leads_on}
 use Rattle.abc_trees.specs.declared.order.Task.{Task}
 use Rattle.abc_trees.specs.Orders.{In, Reaches, Root, Onward, NoneReturns, IsBehind, IsOrder}

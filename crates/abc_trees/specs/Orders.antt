@@ -1,5 +1,5 @@
 -- An order of nodes in which each stands behind those that it leads to.
-use Rattle.std.specs.Prelude.{◌≡◌, ℕ, ◌<◌, ◌⊎◌, List, [], ◌∷◌, Contains}
+use Rattle.std.specs.Prelude.{◌≡◌, ℕ, ◌⊎◌, List, [], ◌∷◌}
 use Rattle.abc_graph.specs.Graph.{targets, Returns}
 
 -- the value stands in the list

@@ -1,5 +1,5 @@
 -- For the prover alone: a walk that enters nodes and leaves them.
-use Rattle.std.specs.Prelude.{◌≡◌, ℕ, ◌⊎◌, List, [], ◌∷◌, Bool, true, false, get_or, length}
+use Rattle.std.specs.Prelude.{◌≡◌, ℕ, ◌⊎◌, List, [], ◌∷◌, Bool, true, false, get_or}
 use Rattle.abc_graph.specs.Graph.{targets, Leads}
 use Rattle.abc_trees.specs.declared.order.Task.{Task}
 use Rattle.abc_trees.specs.Orders.{In, IsBehind, Reaches}

@@ -1,4 +1,4 @@
-use Rattle.std.proofs.Common.{◌≡◌, ℕ, get_or, replicate, true, false, ap, ◌∙◌, sym, length, true≢false}
+use Rattle.std.proofs.Common.{get_or, false, ap, ◌∙◌, sym, length, true≢false}
 use Rattle.std.proofs.lemmas.List.{length-replicate}
 use Rattle.abc_trees.specs.Walks.{pushed}
 use Rattle.abc_trees.proofs.Visited.{no_marks}

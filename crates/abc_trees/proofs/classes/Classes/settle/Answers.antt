@@ -1,5 +1,4 @@
-use Rattle.std.proofs.Common.{◌≡◌, ◌<◌, length, Some, MatchOption, sym, ap, subst, ◌∙◌, arith}
-use Rattle.std.proofs.Math.ListN.{set}
+use Rattle.std.proofs.Common.{◌<◌, length, MatchOption, sym, subst, arith}
 use Rattle.abc_trees.specs.Classes.{AreClasses, HasUnclassed, IsClassOf}
 use Rattle.abc_trees.proofs.Meanings.{extended, settled}
 use Rattle.abc_trees.proofs.classes.Classes.settle.Goals as goal

@@ -1,4 +1,4 @@
-use Rattle.std.proofs.Common.{get_or, true, length, ap, ◌∙◌, ◌∷◌, ◌<◌, arith}
+use Rattle.std.proofs.Common.{get_or, true, length, ap, ◌∙◌, ◌∷◌, arith}
 use Rattle.abc_graph.specs.Graph.{targets}
 use Rattle.abc_trees.specs.Walks.{leave}
 use Rattle.abc_trees.proofs.Efforts.{entered_less, unmarked_within}
