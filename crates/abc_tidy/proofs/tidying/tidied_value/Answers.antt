@@ -24,3 +24,9 @@ visit_order-requires-clause-roots c =
     roots_classed c.args.abc.now c.in_ok-entries.entries.graph c.in_ok-roots.roots c.in_ok-order.order c.in_ok-classes.classes.classes c.in_ok-entries.ensures.graph
     (the_roots c.args.abc.now c.args.counts c.args.refs.now c.in_ok-roots.roots c.requires.counts c.requires.refs c.in_ok-roots.ensures)
     c.requires.names c.in_ok-order.ensures c.in_ok-classes.ensures.all
+
+pub numbers_of-requires-clause-roots : goal.numbers_of-requires-clause-roots
+numbers_of-requires-clause-roots c =
+    roots_classed c.args.abc.now c.in_ok-entries.entries.graph c.in_ok-roots.roots c.in_ok-order.order c.in_ok-classes.classes.classes c.in_ok-entries.ensures.graph
+    (the_roots c.args.abc.now c.args.counts c.args.refs.now c.in_ok-roots.roots c.requires.counts c.requires.refs c.in_ok-roots.ensures)
+    c.requires.names c.in_ok-order.ensures c.in_ok-classes.ensures.all
