@@ -1,14 +1,13 @@
 -- The graph of the entries: how its edges run. Those between names are the edges of the graph of names, and all others lead
 -- to lower nodes, which no name is among; so where no name that is visited reaches itself, no entry that is reached does.
-use Rattle.std.proofs.Common.{◌≡◌, ℕ, zero, suc, ◌+◌, ◌-◌, ◌<◌, ◌≤◌, ◌⊎◌, inl, inr, List, [], ◌∷◌, ◌++◌, All, Contains, Bool, true, false, nat_eq, nat_le, if◌then◌else◌, not, ◌&&◌, cond, map, length, get_or, slice_get, Some, None, eqb-true, leb-true, le-leb, refl, sym, ap, subst, ◌∙◌, arith, length-append, true≢false}
+use Rattle.std.proofs.Common.{◌≡◌, ℕ, zero, suc, ◌+◌, ◌-◌, ◌<◌, ◌≤◌, ◌⊎◌, inl, inr, List, [], ◌∷◌, ◌++◌, All, Contains, Bool, true, false, nat_eq, nat_le, if◌then◌else◌, not, ◌&&◌, cond, map, length, get_or, slice_get, Some, eqb-true, leb-true, refl, sym, ap, subst, ◌∙◌, arith, length-append}
 use Rattle.std.proofs.Math.Seq.{get_or-append_right}
 use Rattle.std.proofs.lemmas.Bool.{cases_lt}
 use Rattle.std.proofs.lemmas.List.{get_or_append_left, get_or_default, length-map}
 use Rattle.abc_graph.specs.Graph.{targets, IsGraph, Leads, Edge, Then, Returns}
 use Rattle.abc_graph.proofs.Searched.{leads_on}
-use Rattle.abc_refs.specs.declared.nodes.Counts.{Counts}
 use Rattle.abc_refs.specs.declared.refs.Ref.{Ref}
-use Rattle.abc_refs.specs.Nodes.{counts_of, node_at, node_of, set_node}
+use Rattle.abc_refs.specs.Nodes.{counts_of, node_of, set_node}
 use Rattle.abc_refs.specs.Refs.{file_refs}
 use Rattle.abc_tables.specs.declared.names.Multiname.{Multiname}
 use Rattle.abc_tables.specs.declared.names.Multiname.TheVariants as names
@@ -21,7 +20,7 @@ use Rattle.abc_trees.proofs.Walked.{contains_of, in_at}
 use Rattle.abc_tidy.specs.declared.error.TidyRule.TheVariants as rules
 use Rattle.abc_tidy.specs.Entries.{double_places, graph_of, int_places, name_parts, no_parts, set_parts, space_parts, text_places, uint_places, value_graph}
 use Rattle.abc_tidy.specs.NameGraph.{index_of_name, is_name, name_graph, name_indices, name_targets, names_among}
-use Rattle.abc_tidy.specs.Rules.{Holds, IsCyclic}
+use Rattle.abc_tidy.specs.Rules.{Holds}
 use Rattle.abc_tidy.specs.Visited.{roots_of}
 use Rattle.abc_tidy.proofs.Nodes.{node_at_most}
 

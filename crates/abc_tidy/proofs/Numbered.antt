@@ -1,5 +1,5 @@
 -- The new numbers of nodes.
-use Rattle.std.proofs.Common.{◌≡◌, ◌≢◌, ℕ, zero, suc, ◌+◌, ◌<◌, ◌≤◌, ◌⊎◌, inl, inr, List, [], ◌∷◌, ◌++◌, All, replicate, Bool, true, false, nat_eq, eqb-true, eq-eqb, if◌then◌else◌, length, get_or, take, slice_get, count_by, Some, None, refl, sym, ap, subst, ◌∙◌, arith, length-append, get_or-set_other, get_or-set_same, true≢false}
+use Rattle.std.proofs.Common.{◌≡◌, ◌≢◌, ℕ, zero, suc, ◌+◌, ◌<◌, ◌≤◌, ◌⊎◌, inl, inr, List, [], ◌∷◌, ◌++◌, replicate, Bool, true, false, nat_eq, eqb-true, eq-eqb, if◌then◌else◌, length, get_or, take, count_by, Some, None, refl, sym, ap, subst, ◌∙◌, arith, length-append, get_or-set_other, get_or-set_same}
 use Rattle.std.proofs.Math.ListN.{set, length-set}
 use Rattle.std.specs.declared.option.Option.{Option}
 use Rattle.std.proofs.lemmas.Bool.{cases_eq, cases_lt}
@@ -12,12 +12,12 @@ use Rattle.abc_tables.specs.declared.tables.Abc.{Abc}
 use Rattle.abc_trees.specs.declared.heads.Head.{Head}
 use Rattle.abc_trees.specs.declared.keys.Key.{Key}
 use Rattle.abc_trees.specs.Trees.{Tree}
-use Rattle.abc_trees.specs.Classes.{AllClassed, AreApart, AreClasses, AreDistinct, HasClass, Means, class}
+use Rattle.abc_trees.specs.Classes.{AllClassed, AreApart, AreClasses, AreDistinct, HasClass, class}
 use Rattle.abc_trees.proofs.TreeLaws.{one_class, one_tree}
 use Rattle.abc_trees.proofs.Visited.{class_within}
 use Rattle.abc_tidy.specs.Entries.{graph_of, heads_of}
 use Rattle.abc_tidy.specs.Numbered.{ArePlaces, AreNodeNumbers, AreNumbersMet, IsCounting, next_number, noted, node_number, number_of}
-use Rattle.abc_tidy.specs.Visited.{AreNumbers, IsAmong, IsNamed, IsPart, IsTreeIn, is_of_pool, number_at, pool_index, roots_of}
+use Rattle.abc_tidy.specs.Visited.{AreNumbers, IsAmong, IsNamed, IsTreeIn, is_of_pool, number_at, pool_index, roots_of}
 
 -- ---- nodes that have classes
 

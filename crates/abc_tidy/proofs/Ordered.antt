@@ -1,6 +1,5 @@
 -- The nodes that the definitions and bodies name have classes, where no name that is visited reaches itself.
-use Rattle.std.proofs.Common.{◌≡◌, ℕ, ◌<◌, List, [], ◌∷◌, All, length, get_or, Option, ◌⊎◌, inl, inr, zero, suc, refl, arith}
-use Rattle.abc_graph.specs.Graph.{IsGraph}
+use Rattle.std.proofs.Common.{◌≡◌, ℕ, ◌<◌, List, [], ◌∷◌, All, length, get_or, Option, inl, inr, refl}
 use Rattle.abc_tables.specs.declared.tables.Abc.{Abc}
 use Rattle.abc_trees.specs.Classes.{AllClassed, HasClass}
 use Rattle.abc_trees.specs.Orders.{In, IsBehind, IsOrder, NoneReturns}
