@@ -1,6 +1,7 @@
 -- The first item that is broken.
-use Rattle.std.proofs.Common.{◌≡◌, ℕ, zero, suc, ◌+◌, ◌<◌, ◌≤◌, ◌⊎◌, inl, inr, List, [], ◌∷◌, length, get_or, refl, sym, ap, subst, ◌∙◌, arith}
+use Rattle.std.proofs.Common.{◌≡◌, ℕ, ◌+◌, ◌<◌, ◌≤◌, ◌⊎◌, inl, inr, List, length, get_or, sym, ap, subst, ◌∙◌, arith}
 use Rattle.std.proofs.lemmas.Bool.{cases_lt}
+use Rattle.std.proofs.lemmas.List.{get_or_default}
 use Rattle.abc_tidy.specs.Rules.{IsBroken}
 use Rattle.abc_tidy.specs.Firsts.{HoldBelow, IsFirst}
 use Rattle.std.proofs.Common.{Some, None}
@@ -8,13 +9,8 @@ use Rattle.std.proofs.Common.{Some, None}
 below_zero : (x : ℕ) → x < 0 → ⊥
 below_zero x lt = omega arith
 
-any_default : {A : Type 0} (xs : List A) (i : ℕ) (a b : A) → i < length xs → get_or xs i a ≡ get_or xs i b
-any_default [] i a b lt = absurd (below_zero i lt)
-any_default (x ∷ xs) zero a b lt = refl
-any_default (x ∷ xs) (suc i) a b lt = any_default xs i a b (omega arith)
-
 pub same_item : {A : Type 0} (xs : List A) (i : ℕ) (a b : A) → i < length xs → get_or xs i a ≡ a → get_or xs i b ≡ b → a ≡ b
-same_item xs i a b lt p q = sym p ∙ any_default xs i a b lt ∙ q
+same_item xs i a b lt p q = sym p ∙ get_or_default xs i a b lt ∙ q
 
 pub holds_next : {A : Type 0} (P : A → Type 0) (xs : List A) (i : ℕ) (x : A) → HoldBelow P xs i → i < length xs → get_or xs i x ≡ x → P x → HoldBelow P xs (i + 1)
 holds_next {A} P xs i x before lt at holds = λ j l b. go j l b (cases_lt j i)
@@ -35,4 +31,4 @@ pub none_before : {A : Type 0} (P : A → Type 0) (xs : List A) → HoldBelow P 
 none_before P xs = λ j lt b. below_zero j lt
 
 pub at_zero : (xs : List ℕ) (i r : ℕ) → i < length xs → get_or xs i r ≡ r → r ≡ get_or xs i 0
-at_zero xs i r lt e = sym e ∙ any_default xs i r 0 lt
+at_zero xs i r lt e = sym e ∙ get_or_default xs i r 0 lt

@@ -6,3 +6,5 @@ pub mod Building
 pub mod Numbered
 pub mod Picked
 pub mod Tidied
+pub mod NodeGraph
+pub mod Ordered

@@ -1,5 +1,5 @@
 -- Nodes are below their number.
-use Rattle.std.proofs.Common.{◌≡◌, ℕ, ◌+◌, ◌<◌, ◌≤◌, ◌^◌, Bool, true, false, nat_eq, nat_le, if◌then◌else◌, refl, sym, ap, subst, ◌∙◌, arith}
+use Rattle.std.proofs.Common.{◌≡◌, ℕ, ◌+◌, ◌<◌, ◌≤◌, ◌^◌, Bool, true, false, nat_eq, nat_le, if◌then◌else◌, refl, ap, ◌∙◌, arith}
 use Rattle.abc_refs.specs.declared.nodes.Counts.{Counts}
 use Rattle.abc_refs.specs.Nodes.{node_at, node_count, node_of, set_node}
 use Rattle.abc_tables.specs.declared.opcodes.Pool.{Pool}

@@ -1,5 +1,5 @@
 -- The new numbers of nodes.
-use Rattle.std.proofs.Common.{◌≡◌, ◌≢◌, ℕ, zero, suc, ◌+◌, ◌<◌, ◌≤◌, ◌⊎◌, inl, inr, List, [], ◌∷◌, ◌++◌, All, replicate, Bool, true, false, nat_eq, eqb-true, eq-eqb, if◌then◌else◌, length, get_or, take, slice_get, count_by, Some, None, refl, sym, ap, subst, ◌∙◌, arith, length-append, get_or-set_other, get_or-set_same, true≢false}
+use Rattle.std.proofs.Common.{◌≡◌, ◌≢◌, ℕ, zero, suc, ◌+◌, ◌<◌, ◌≤◌, ◌⊎◌, inl, inr, List, [], ◌∷◌, ◌++◌, replicate, Bool, true, false, nat_eq, eqb-true, eq-eqb, if◌then◌else◌, length, get_or, take, count_by, Some, None, refl, sym, ap, subst, ◌∙◌, arith, length-append, get_or-set_other, get_or-set_same}
 use Rattle.std.proofs.Math.ListN.{set, length-set}
 use Rattle.std.specs.declared.option.Option.{Option}
 use Rattle.std.proofs.lemmas.Bool.{cases_eq, cases_lt}
@@ -12,17 +12,14 @@ use Rattle.abc_tables.specs.declared.tables.Abc.{Abc}
 use Rattle.abc_trees.specs.declared.heads.Head.{Head}
 use Rattle.abc_trees.specs.declared.keys.Key.{Key}
 use Rattle.abc_trees.specs.Trees.{Tree}
-use Rattle.abc_trees.specs.Classes.{AllClassed, AreApart, AreClasses, AreDistinct, HasClass, Means, class}
+use Rattle.abc_trees.specs.Classes.{AllClassed, AreApart, AreClasses, AreDistinct, HasClass, class}
 use Rattle.abc_trees.proofs.TreeLaws.{one_class, one_tree}
 use Rattle.abc_trees.proofs.Visited.{class_within}
 use Rattle.abc_tidy.specs.Entries.{graph_of, heads_of}
 use Rattle.abc_tidy.specs.Numbered.{ArePlaces, AreNodeNumbers, AreNumbersMet, IsCounting, next_number, noted, node_number, number_of}
-use Rattle.abc_tidy.specs.Visited.{AreNumbers, IsAmong, IsNamed, IsPart, IsTreeIn, is_of_pool, number_at, pool_index, roots_of}
+use Rattle.abc_tidy.specs.Visited.{AreNumbers, IsAmong, IsNamed, IsTreeIn, is_of_pool, number_at, pool_index, roots_of}
 
 -- ---- nodes that have classes
-
-pub has_one : (classes : List (Option ℕ)) (x c : ℕ) → Some c ≡ class classes x → HasClass classes x
-has_one classes x c e = record { number = c; is = sym e }
 
 pub classed_next : (classes : List (Option ℕ)) (xs : List ℕ) (i : ℕ) → ((k : ℕ) → k < i → HasClass classes (get_or xs k 0)) → HasClass classes (get_or xs i 0) → (k : ℕ) → k < i + 1 → HasClass classes (get_or xs k 0)
 classed_next classes xs i before here k lt = go (cases_lt k i)
@@ -252,13 +249,3 @@ numbered v heads graph keys classes roots seen places met all c n counts e f g s
     numbered_in v keys classes seen places met all n
     (subst (λ hs. AreClasses hs (graph_of v) keys classes) e (subst (λ gr. AreClasses heads gr keys classes) f s)) distinct
     (subst (AllClassed classes) g rooted) classed p (subst (λ k. AreNumbersMet k seen met) counts m) a (many ∙ ap length f)
-
-pub all_of : (classes : List (Option ℕ)) (xs : List ℕ) → All (HasClass classes) xs → AllClassed classes xs
-all_of classes [] h = tt
-all_of classes (x ∷ xs) h = (h 0 0 (omega arith), all_of classes xs (λ k d lt. h (suc k) d (omega arith)))
-
-pub no_class : (classes : List (Option ℕ)) (x : ℕ) → None ≡ class classes x → HasClass classes x → ⊥
-no_class classes x e h = absurd (some_none (sym e) h.is)
-  where
-    some_none : {o : Option ℕ} {n : ℕ} → o ≡ None → o ≡ Some n → ⊥
-    some_none a b = cc

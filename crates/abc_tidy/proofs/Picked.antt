@@ -1,11 +1,8 @@
 -- The entry that a node is.
-use Rattle.std.proofs.Common.{◌≡◌, ℕ, zero, suc, ◌+◌, ◌-◌, ◌<◌, ◌≤◌, List, [], ◌∷◌, ◌++◌, map, length, take, get_or, slice_get, Some, None, Bool, true, false, nat_lt, if◌then◌else◌, refl, sym, ap, subst, ◌∙◌, arith, append_assoc}
-use Rattle.std.specs.List.{flat_map}
+use Rattle.std.proofs.Common.{◌≡◌, ℕ, ◌-◌, ◌<◌, ◌≤◌, List, [], slice_get, Bool, true, false, nat_lt, if◌then◌else◌, refl, sym, ap, arith}
 use Rattle.std.specs.Option.{option_to_list}
-use Rattle.std.specs.declared.option.Option.{Option}
 use Rattle.std.proofs.lemmas.Bool.{lt-ltb, ltb-true}
-use Rattle.std.proofs.Math.Seq.{take-suc}
-use Rattle.abc_tidy.specs.NewPools.{picked, picked_at}
+use Rattle.abc_tidy.specs.NewPools.{picked_at}
 
 pub no_pick : {A : Type 0} (before x : ℕ) (xs : List A) → x ≤ before → [] ≡ picked_at before xs x
 no_pick before x xs le = by (nat_lt before x) refl

@@ -15,7 +15,7 @@ use Rattle.abc_tables.specs.declared.tables.Abc.{Abc}
 use Rattle.abc_tables.specs.Files.{Fits}
 use Rattle.abc_trees.specs.declared.heads.Head.{Head}
 use Rattle.abc_trees.specs.declared.keys.Key.{Key}
-use Rattle.abc_trees.specs.Classes.{AllClassed, AreClasses, class}
+use Rattle.abc_trees.specs.Classes.{AllClassed, AreClasses}
 use Rattle.abc_trees.specs.Visits.{IsVisited}
 use Rattle.abc_tidy.specs.declared.error.TidyRule.TheVariants as rules
 use Rattle.abc_tidy.specs.Entries.{graph_of, heads_of}

@@ -1,6 +1,6 @@
-ghost use Rattle.std.specs.Prelude.{◌≡◌, ◌↔◌, ◌<◌, ◌+◌, ◌^◌, ℕ, All, Some, get_or, length, map, replicate, set, IfOk, IsTrue, OnOk};
+ghost use Rattle.std.specs.Prelude.{◌≡◌, ◌<◌, ◌+◌, ◌^◌, ℕ, Some, get_or, length, map, replicate, set, IfOk, OnOk};
 ghost use Rattle.abc_refs.specs.Nodes.{counts_of, node_count, node_of};
-ghost use Rattle.abc_trees.specs.Classes.{AllClassed, AreApart, AreClasses, AreDistinct, HasClass};
+ghost use Rattle.abc_trees.specs.Classes.{AllClassed, AreApart, AreClasses, AreDistinct};
 ghost use Rattle.abc_tidy.specs.Entries.{graph_of, heads_of};
 ghost use Rattle.abc_tidy.specs.Numbered.{ArePlaces, AreNodeNumbers, AreNumbersMet, next_number, node_number, noted};
 ghost use Rattle.abc_tidy.specs.Visited.{AreNumbers, pool_index as index_of_pool, roots_of as roots_of_file};
@@ -61,24 +61,6 @@ pub(crate) fn roots_of(
         roots.push(node(counts, index.pool, index.index))?;
     }
     Ok(roots)
-}
-
-/// Whether a node has a class.
-#[tactic(auto, using(crate::proofs::Numbered::has_one, crate::proofs::Numbered::no_class))]
-fn has_class(classes: &Classes, node: u32) -> bool
-    ensures { IsTrue result ↔ HasClass classes.now.classes node }
-{
-    match classes.class(node) {
-        Some(_) => true,
-        None => false,
-    }
-}
-
-/// Whether each of some nodes has a class.
-pub(crate) fn are_classed(classes: &Classes, nodes: &[u32]) -> bool
-    ensures { IsTrue result ↔ All (HasClass classes.now.classes) nodes.now }
-{
-    nodes.iter().all(|node| has_class(classes, *node))
 }
 
 /// So many zeros.

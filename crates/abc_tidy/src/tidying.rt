@@ -9,18 +9,17 @@ use crate::checks::{check_bodies, check_methods};
 use crate::cycles::first_cyclic;
 use crate::entries::entries_of;
 use crate::error::{TidyError, TidyRule};
-use crate::numbering::{are_classed, numbers_of, roots_of};
+use crate::numbering::{numbers_of, roots_of};
 use crate::pools::new_pools;
 use abc_base::{NoMemory, Table};
 use abc_fits::fits;
 use abc_refs::{Counts, Numbers, Ref, refs_of, renumbered};
 use abc_tables::Abc;
-use abc_trees::{classes_of, likely_order, visit_order};
+use abc_trees::{classes_of, parts_first, visit_order};
 use std::alloc::Global;
 
-/// The tidied value of a file. Where the order of the entries is not one in which each stands behind those that it names,
-/// it finds no memory: that comes of no file whose visited names don't reach themselves, which is tried and not proved.
-#[tactic(auto, using(crate::proofs::Tidied::as_many, crate::proofs::Tidied::the_roots, crate::proofs::Numbered::all_of))]
+/// The tidied value of a file of which no name that is visited reaches itself.
+#[tactic(auto, using(crate::proofs::Tidied::as_many, crate::proofs::Tidied::the_roots))]
 fn tidied_value(
     alloc: Global,
     abc: &Abc,
@@ -30,15 +29,13 @@ fn tidied_value(
     requires refs { refs.now ≡ file_refs abc.now }
     requires counts { counts ≡ counts_of abc.now }
     requires few { node_count counts < 2 ^ 32 }
+    requires names { Holds abc.now rules.NameCycle }
     ensures { IfOk result (λ t. IsTidiedValue abc.now t) }
 {
     let entries = entries_of(alloc, abc, &counts)?;
     let roots = roots_of(alloc, &counts, refs)?;
-    let order = likely_order(alloc, &entries.graph, &roots)?;
+    let order = parts_first(alloc, &entries.graph, &roots)?;
     let classes = classes_of(alloc, &entries.heads, &entries.graph, &order)?;
-    if !are_classed(&classes, roots.as_slice()) {
-        return Err(NoMemory);
-    }
     let seen = visit_order(alloc, &entries.heads, &entries.graph, &classes, &roots)?;
     let all = numbers_of(alloc, abc, &counts, &entries, &classes, &roots, &seen)?;
     let numbers = Numbers {

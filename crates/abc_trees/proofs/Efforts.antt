@@ -1,5 +1,5 @@
 -- A mark makes what is left to do smaller.
-use Rattle.std.proofs.Common.{◌≡◌, ℕ, zero, suc, ◌+◌, ◌<◌, ◌≤◌, List, [], ◌∷◌, Bool, true, false, length, get_or, refl, sym, ap, ◌∙◌, arith, true≢false, slice_get, Some, None, ◌⊎◌, inl, inr, subst}
+use Rattle.std.proofs.Common.{◌≡◌, ℕ, zero, suc, ◌+◌, ◌<◌, ◌≤◌, List, [], ◌∷◌, Bool, true, false, length, get_or, refl, sym, ◌∙◌, arith, true≢false, slice_get, Some, None, ◌⊎◌, inl, inr, subst}
 use Rattle.std.proofs.lemmas.Bool.{cases_lt}
 use Rattle.std.proofs.lemmas.List.{get_or_past}
 use Rattle.std.proofs.lemmas.Option.{get_or_from_slice_get}
@@ -22,7 +22,7 @@ mark_less (xs ∷ graph) (true ∷ marks) (suc x) len lt e = mark_less graph mar
 mark_less (xs ∷ graph) (false ∷ marks) (suc x) len lt e = let h = mark_less graph marks x (omega arith) (omega arith) e in omega arith
 
 -- entering a node, which leaves it to be left and those that it leads to to be entered
-pub entered : (graph : List (List ℕ)) (marks : List Bool) (x n m : ℕ) → length marks ≡ length graph → x < length graph → get_or marks x true ≡ false → n ≡ length (targets graph x) + (m + 1) → unmarked graph (set marks x true) + n ≤ unmarked graph marks + m
+pub entered : (graph : List (List ℕ)) (marks : List Bool) (x n m : ℕ) → length marks ≡ length graph → x < length graph → get_or marks x true ≡ false → n ≡ length (targets graph x) + suc m → unmarked graph (set marks x true) + n ≤ unmarked graph marks + m
 entered graph marks x n m len lt e is = let h = mark_less graph marks x len lt e in omega arith
 
 pub marked_length : (graph : List (List ℕ)) (marks : List Bool) (x : ℕ) → length marks ≡ length graph → length (set marks x true) ≡ length graph
@@ -46,7 +46,7 @@ unset_within marks i e = go (cases_lt i (length marks))
 pub unmarked_within : (marks : List Bool) (i : ℕ) → false ≡ get_or marks i true → i < length marks
 unmarked_within marks i e = unset_within marks i (sym e)
 
-pub entered_less : (graph : List (List ℕ)) (marks marks2 : List Bool) (x n m : ℕ) → length marks ≡ length graph → false ≡ get_or marks x true → marks2 ≡ set marks x true → n ≡ length (targets graph x) + (m + 1) → unmarked graph marks2 + n ≤ unmarked graph marks + m
+pub entered_less : (graph : List (List ℕ)) (marks marks2 : List Bool) (x n m : ℕ) → length marks ≡ length graph → false ≡ get_or marks x true → marks2 ≡ set marks x true → n ≡ length (targets graph x) + suc m → unmarked graph marks2 + n ≤ unmarked graph marks + m
 entered_less graph marks marks2 x n m len fresh set_is is =
     let within : x < length marks = unset_within marks x (sym fresh) in
     let lt : x < length graph = omega arith in

@@ -4,3 +4,5 @@ pub mod Keyed
 pub mod Meanings
 pub mod TreeLaws
 pub mod Visited
+pub mod Walked
+pub mod Settled

@@ -1,9 +1,9 @@
 -- What classes stand for, as keys are added.
-use Rattle.std.proofs.Common.{◌≡◌, ◌≢◌, ℕ, zero, suc, ◌+◌, ◌<◌, ◌≤◌, ◌⊎◌, inl, inr, List, [], ◌∷◌, ◌++◌, replicate, length, get_or, slice_get, drop, Some, None, refl, sym, ap, subst, ◌∙◌, arith, get_or-set_other, get_or-set_same}
+use Rattle.std.proofs.Common.{◌≡◌, ◌≢◌, ℕ, zero, suc, ◌+◌, ◌<◌, ◌≤◌, ◌⊎◌, inl, inr, List, [], ◌∷◌, replicate, length, get_or, slice_get, drop, Some, None, refl, sym, ap, subst, ◌∙◌, arith, get_or-set_other, get_or-set_same}
 use Rattle.std.proofs.Math.ListN.{set, length-set}
 use Rattle.std.specs.declared.option.Option.{Option}
 use Rattle.std.proofs.lemmas.Bool.{cases_eq, cases_lt}
-use Rattle.std.proofs.lemmas.List.{get_or-replicate, length-replicate, get_or_past}
+use Rattle.std.proofs.lemmas.List.{length-replicate}
 use Rattle.indexmap.specs.IndexSet.{insert_key}
 use Rattle.abc_graph.specs.Graph.{targets}
 use Rattle.abc_trees.specs.declared.heads.Head.{Head}
@@ -11,7 +11,7 @@ use Rattle.abc_trees.specs.declared.keys.Key.{Key}
 use Rattle.abc_trees.specs.Trees.{Tree, Leaf, Apply, head, Grows, Done, More, IsTree}
 use Rattle.abc_trees.specs.Classes.{leaf_key, apply_key, keys_eq, Means, MeansLeaf, MeansApply, class, HasTree, HasClass, AreClasses, AreDistinct, Extends, IsBuilt, IsClassOf}
 use Rattle.abc_trees.proofs.Efforts.{below_zero}
-use Rattle.abc_trees.proofs.Keyed.{insert_extends, insert_distinct, extends_then, none_distinct}
+use Rattle.abc_trees.proofs.Keyed.{insert_extends, insert_distinct, extends_then}
 
 -- ---- added keys leave what classes stand for
 

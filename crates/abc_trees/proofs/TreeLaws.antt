@@ -1,9 +1,8 @@
 -- Trees are equal exactly where their test says so; a node has one tree, a class stands for one, and a tree has one class.
-use Rattle.std.proofs.Common.{◌≡◌, ◌≢◌, ℕ, ◌⊎◌, inl, inr, List, [], ◌∷◌, ◌++◌, Bool, true, false, ◌&&◌, ◌||◌, nat_eq, eqb-true, eq-eqb, slice_get, Some, refl, sym, ap, subst, ◌∙◌, true≢false, arith}
-use Rattle.std.specs.List.{list_any}
+use Rattle.std.proofs.Common.{◌≡◌, ◌≢◌, ℕ, List, [], ◌∷◌, ◌++◌, Bool, true, false, ◌||◌, nat_eq, eqb-true, eq-eqb, Some, refl, sym, ap, subst, ◌∙◌, true≢false, arith}
 use Rattle.abc_trees.specs.declared.heads.Head.{Head}
 use Rattle.abc_trees.specs.declared.keys.Key.{Key}
-use Rattle.abc_trees.specs.Trees.{Tree, Leaf, Apply, no_head, Grows, Done, More, AreTrees, NoTrees, OneMore, head_eq, tree_eq}
+use Rattle.abc_trees.specs.Trees.{Tree, Leaf, Apply, no_head, Grows, Done, More, head_eq, tree_eq}
 use Rattle.abc_trees.specs.Classes.{leaf_key, apply_key, Means, MeansLeaf, MeansApply, AreDistinct}
 use Rattle.abc_trees.specs.Visits.{is_met}
 use Rattle.abc_trees.proofs.Keyed.{and-left, and-right}

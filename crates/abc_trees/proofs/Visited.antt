@@ -1,16 +1,15 @@
 -- The visit of nodes goes as the visit of their trees does.
-use Rattle.std.proofs.Common.{◌≡◌, ◌≢◌, ℕ, zero, suc, ◌+◌, ◌<◌, ◌≤◌, ◌⊎◌, inl, inr, List, [], ◌∷◌, ◌++◌, replicate, Bool, true, false, if◌then◌else◌, length, get_or, slice_get, drop, Some, None, refl, sym, ap, subst, ◌∙◌, arith, append_assoc, length-append, get_or-set_other, get_or-set_same, true≢false}
+use Rattle.std.proofs.Common.{◌≡◌, ℕ, zero, suc, ◌+◌, ◌<◌, ◌≤◌, ◌⊎◌, inl, inr, List, [], ◌∷◌, ◌++◌, replicate, Bool, true, false, if◌then◌else◌, length, get_or, slice_get, drop, Some, None, refl, sym, ap, subst, ◌∙◌, arith, length-append, get_or-set_other, get_or-set_same, true≢false}
 use Rattle.std.proofs.Math.ListN.{set, length-set}
 use Rattle.std.specs.declared.option.Option.{Option}
 use Rattle.std.proofs.lemmas.Bool.{cases_eq, cases_lt}
-use Rattle.std.proofs.lemmas.List.{get_or_past, length-replicate}
-use Rattle.std.proofs.lemmas.Option.{get_or_from_slice_get}
+use Rattle.std.proofs.lemmas.List.{get_or_default, get_or_past, length-replicate}
 use Rattle.abc_graph.specs.Graph.{targets}
 use Rattle.abc_trees.specs.declared.heads.Head.{Head}
 use Rattle.abc_trees.specs.declared.keys.Key.{Key}
 use Rattle.abc_trees.specs.Effort.{unmarked}
-use Rattle.abc_trees.specs.Trees.{Tree, Leaf, Apply, head, Grows, Done, More, IsTree, AreTrees, NoTrees, OneMore}
-use Rattle.abc_trees.specs.Classes.{Means, MeansLeaf, MeansApply, class, HasTree, HasClass, AllClassed, AreApart, AreClasses, AreDistinct}
+use Rattle.abc_trees.specs.Trees.{Tree, Leaf, head, Grows, Done, More, IsTree, AreTrees, NoTrees, OneMore}
+use Rattle.abc_trees.specs.Classes.{Means, MeansLeaf, MeansApply, class, HasClass, AllClassed, AreApart, AreClasses, AreDistinct}
 use Rattle.abc_trees.specs.Visits.{is_met, visit, visit_all, visit_parts, IsVisit, IsVisitOf, IsVisited}
 use Rattle.abc_trees.proofs.Efforts.{below_zero, mark_less, unset_within}
 use Rattle.abc_trees.proofs.Meanings.{drop_cons}
@@ -18,12 +17,7 @@ use Rattle.abc_trees.proofs.TreeLaws.{met_here, met_other, one_class, one_meanin
 
 -- ---- marks
 
-other_default : (marks : List Bool) (i : ℕ) (b c : Bool) → i < length marks → get_or marks i b ≡ get_or marks i c
-other_default [] i b c lt = absurd (below_zero i lt)
-other_default (x ∷ marks) zero b c lt = refl
-other_default (x ∷ marks) (suc i) b c lt = other_default marks i b c (omega arith)
-
-no_marks : (n i : ℕ) → get_or (replicate n false) i false ≡ false
+pub no_marks : (n i : ℕ) → get_or (replicate n false) i false ≡ false
 no_marks zero i = refl
 no_marks (suc n) zero = refl
 no_marks (suc n) (suc i) = no_marks n i
@@ -137,14 +131,14 @@ skipped heads graph keys classes final met opened seen todo x c s e here v =
 pub skip_met : (heads : List Head) (graph : List (List ℕ)) (keys : List Key) (classes : List (Option ℕ)) (final : List Tree) (met opened : List Bool) (seen todo : List ℕ) (x c : ℕ) → AreClasses heads graph keys classes → Some c ≡ class classes x → true ≡ get_or met c true → IsVisit heads graph keys classes final met opened seen (x ∷ todo) → IsVisit heads graph keys classes final met opened seen todo
 skip_met heads graph keys classes final met opened seen todo x c s e here v =
     let within : c < length met = let l = class_within ((s.tree x c (sym e)).means) in let q = v.classes_len in omega arith in
-    skipped heads graph keys classes final met opened seen todo x c s (sym e) (other_default met c false true within ∙ sym here) v
+    skipped heads graph keys classes final met opened seen todo x c s (sym e) (get_or_default met c false true within ∙ sym here) v
 
 -- the node was met
 pub skip_opened : (heads : List Head) (graph : List (List ℕ)) (keys : List Key) (classes : List (Option ℕ)) (final : List Tree) (met opened : List Bool) (seen todo : List ℕ) (x c : ℕ) → AreClasses heads graph keys classes → Some c ≡ class classes x → true ≡ get_or opened x true → IsVisit heads graph keys classes final met opened seen (x ∷ todo) → IsVisit heads graph keys classes final met opened seen todo
 skip_opened heads graph keys classes final met opened seen todo x c s e here v =
     let inside : x < length classes = class_inside classes x c (sym e) in
     let within : x < length opened = let p = s.len in let q = v.nodes_len in omega arith in
-    skipped heads graph keys classes final met opened seen todo x c s (sym e) (v.opens x c (other_default opened x false true within ∙ sym here) (sym e)) v
+    skipped heads graph keys classes final met opened seen todo x c s (sym e) (v.opens x c (get_or_default opened x false true within ∙ sym here) (sym e)) v
   where
     class_inside : (classes : List (Option ℕ)) (x c : ℕ) → class classes x ≡ Some c → x < length classes
     class_inside classes x c e = go (cases_lt x (length classes))
@@ -193,7 +187,7 @@ met_with heads graph keys classes final met opened seen todo x c coming trees s 
     inside = unset_within opened x unopened
 
     unknown : is_met t trees ≡ false
-    unknown = sym (marks c t means) ∙ other_default met c false true within ∙ unmet
+    unknown = sym (marks c t means) ∙ get_or_default met c false true within ∙ unmet
 
     opens_up : visit t trees ≡ visit_parts t (trees ++ t ∷ [])
     opens_up = ap (λ b. if b then trees else visit_parts t (trees ++ t ∷ [])) unknown
@@ -220,7 +214,7 @@ met_with heads graph keys classes final met opened seen todo x c coming trees s 
         sym (ap (λ n. get_or (set met c true) n false) h) ∙ here
 
     never_again : (i : ℕ) → i < length seen → class classes (get_or seen i 0) ≡ Some c → ⊥
-    never_again i lt f = true≢false (sym (sm i c lt f) ∙ other_default met c false true within ∙ unmet)
+    never_again i lt f = true≢false (sym (sm i c lt f) ∙ get_or_default met c false true within ∙ unmet)
 
     one_then : (i j d : ℕ) → class classes (get_or (seen ++ x ∷ []) i 0) ≡ Some d → class classes (get_or (seen ++ x ∷ []) j 0) ≡ Some d → ((i < length seen) × (get_or (seen ++ x ∷ []) i 0 ≡ get_or seen i 0)) ⊎ ((i ≡ length seen) × (get_or (seen ++ x ∷ []) i 0 ≡ x)) → ((j < length seen) × (get_or (seen ++ x ∷ []) j 0 ≡ get_or seen j 0)) ⊎ ((j ≡ length seen) × (get_or (seen ++ x ∷ []) j 0 ≡ x)) → i ≡ j
     one_then i j d f g (inl (li, p)) (inl (lj, q)) = ap2.one i j d li lj (sym (ap (class classes) p) ∙ f) (sym (ap (class classes) q) ∙ g)

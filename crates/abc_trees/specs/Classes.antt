@@ -71,3 +71,18 @@ pub record IsBuilt (heads : List Head) (graph : List (List ℕ)) (x i : ℕ) (ol
 pub record IsClassOf (heads : List Head) (graph : List (List ℕ)) (x : ℕ) (keys : List Key) (classes : List (Option ℕ)) (c : ℕ) : Type 0 where
   pub tree : HasTree heads graph keys x c
   pub classed : (k : ℕ) → k < length (targets graph x) → HasClass classes (get_or (targets graph x) k 0)
+
+-- For the prover alone: a node leads to one that has no class.
+pub record HasUnclassed (graph : List (List ℕ)) (x : ℕ) (classes : List (Option ℕ)) : Type 0 where
+  pub part : ℕ
+  pub within : part < length (targets graph x)
+  pub none : class classes (get_or (targets graph x) part 0) ≡ None
+
+-- For the prover alone: no class is lost, and a node has one where all that it leads to have.
+pub record Gains (graph : List (List ℕ)) (x : ℕ) (old new : List (Option ℕ)) : Type 0 where
+  pub keeps : (y : ℕ) → HasClass old y → HasClass new y
+  pub gains : x < length graph → ((k : ℕ) → k < length (targets graph x) → HasClass old (get_or (targets graph x) k 0)) → HasClass new x
+
+-- the first n nodes of a list have classes
+pub record AreSettled (classes : List (Option ℕ)) (order : List ℕ) (n : ℕ) : Type 0 where
+  pub settled : (k : ℕ) → k < n → k < length order → HasClass classes (get_or order k 0)

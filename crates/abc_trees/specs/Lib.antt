@@ -2,3 +2,5 @@ pub mod Trees
 pub mod Classes
 pub mod Visits
 pub mod Effort
+pub mod Orders
+pub mod Walks

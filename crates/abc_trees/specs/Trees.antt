@@ -1,6 +1,6 @@
 -- The trees of the nodes of a graph whose nodes have heads: at the root the head of the node, and under it the trees of the
 -- nodes that it leads to, in order.
-use Rattle.std.specs.Prelude.{ℕ, List, [], ◌∷◌, Bool, true, false, nat_eq, ◌&&◌, get_or}
+use Rattle.std.specs.Prelude.{ℕ, List, [], ◌∷◌, Bool, false, nat_eq, ◌&&◌, get_or}
 use Rattle.abc_graph.specs.Graph.{targets}
 use Rattle.abc_trees.specs.declared.heads.Head.{Head}
 

@@ -1,7 +1,8 @@
-ghost use Rattle.std.specs.Prelude.{◌≡◌, ◌<◌, [], length, slice_get, Some, IfOk, OnOk, MatchOption};
-ghost use Rattle.abc_trees.specs.Classes.{AreClasses, AreDistinct, Extends, IsClassOf, class as class_in, keys_eq};
+ghost use Rattle.std.specs.Prelude.{◌≡◌, ◌<◌, All, ℕ, [], length, slice_get, Some, IfOk, OnOk, MatchOption};
+ghost use Rattle.abc_trees.specs.Classes.{AreClasses, AreDistinct, AreSettled, Extends, Gains, HasClass, HasUnclassed, IsClassOf, class as class_in, keys_eq};
 ghost use Rattle.abc_graph.specs.Graph.{targets};
 ghost use Rattle.abc_trees.specs.Trees.{head};
+ghost use Rattle.abc_trees.specs.Orders.{In, IsBehind};
 ghost use Rattle.indexmap.specs.IndexSet.{insert_key};
 
 use crate::heads::Head;
@@ -60,7 +61,7 @@ fn head_of(heads: &Table<Head>, node: u32) -> Head
 
 impl Classes {
     /// The class of a node's tree, if the nodes that it leads to have classes.
-    #[tactic(auto, using(crate::proofs::Meanings::built_leaf, crate::proofs::Meanings::built_all))]
+    #[tactic(auto, using(crate::proofs::Meanings::built_leaf, crate::proofs::Meanings::built_all, crate::proofs::Settled::unclassed))]
     fn class_of(
         &mut self,
         heads: &Table<Head>,
@@ -74,7 +75,7 @@ impl Classes {
         ensures classes { OnOk result (self.new.classes ≡ self.old.classes) }
         ensures distinct { OnOk result (AreDistinct self.new.keys.keys) }
         ensures extends { OnOk result (Extends self.old.keys.keys self.new.keys.keys) }
-        ensures class { IfOk result (λ r. MatchOption r (Unit {0}) (IsClassOf heads.now graph.now node self.new.keys.keys self.new.classes)) }
+        ensures class { IfOk result (λ r. MatchOption r (HasUnclassed graph.now node self.new.classes) (IsClassOf heads.now graph.now node self.new.keys.keys self.new.classes)) }
     {
         let mut class = self.add_key(key_of_leaf(head_of(heads, node)))?;
         for part in parts_of(graph, node).as_slice() {
@@ -89,7 +90,7 @@ impl Classes {
 
 impl Classes {
     /// Gives a node the class of its tree, if the nodes that it leads to have classes.
-    #[tactic(auto, using(crate::proofs::Meanings::settled, crate::proofs::Meanings::extended))]
+    #[tactic(auto, using(crate::proofs::Meanings::settled, crate::proofs::Meanings::extended, crate::proofs::Settled::gains_nothing, crate::proofs::Settled::gains_none, crate::proofs::Settled::gains_one))]
     fn settle(
         &mut self,
         heads: &Table<Head>,
@@ -101,6 +102,7 @@ impl Classes {
         requires heads { length heads.now ≡ length graph.now }
         ensures valid { OnOk result (AreClasses heads.now graph.now self.new.keys.keys self.new.classes) }
         ensures distinct { OnOk result (AreDistinct self.new.keys.keys) }
+        ensures gains { OnOk result (Gains graph.now node self.old.classes self.new.classes) }
     {
         if node as usize >= graph.len() {
             return Ok(());
@@ -135,6 +137,7 @@ fn no_classes(
 
 /// The classes of the nodes of a list in which each stands behind those that it leads to. One that stands before any of
 /// these has no class.
+#[tactic(auto, using(crate::proofs::Settled::none_settled, crate::proofs::Settled::all_settled))]
 pub fn classes_of(
     alloc: Global,
     heads: &Table<Head>,
@@ -144,6 +147,7 @@ pub fn classes_of(
     requires { length heads.now ≡ length graph.now }
     ensures valid { IfOk result (λ c. AreClasses heads.now graph.now c.keys.keys c.classes) }
     ensures distinct { IfOk result (λ c. AreDistinct c.keys.keys) }
+    ensures all { IfOk result (λ c. IsBehind graph.now [] order.now → All (λ y. y < length graph.now) order.now → (y : ℕ) → In y order.now → HasClass c.classes y) }
 {
     let mut classes = no_classes(alloc, heads, graph)?;
     for node in order.as_slice() {

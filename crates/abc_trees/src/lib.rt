@@ -12,5 +12,5 @@ mod visit;
 
 pub use classes::{Classes, classes_of};
 pub use heads::Head;
-pub use order::likely_order;
+pub use order::parts_first;
 pub use visit::visit_order;

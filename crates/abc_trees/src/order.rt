@@ -1,6 +1,8 @@
-ghost use Rattle.std.specs.Prelude.{◌≡◌, ◌<◌, ◌≤◌, ◌+◌, true, length, set, OnOk};
-ghost use Rattle.abc_graph.specs.Graph.{targets};
+ghost use Rattle.std.specs.Prelude.{◌≡◌, ◌<◌, ◌≤◌, ◌+◌, ◌∷◌, All, true, length, set, IfOk, OnOk};
+ghost use Rattle.abc_graph.specs.Graph.{IsGraph, targets};
 ghost use Rattle.abc_trees.specs.Effort.{unmarked};
+ghost use Rattle.abc_trees.specs.Orders.{IsOrder, NoneReturns};
+ghost use Rattle.abc_trees.specs.Walks.{IsWalk, leave, pushed};
 
 use crate::classes::parts_of;
 use crate::marks::has_mark;
@@ -10,10 +12,10 @@ use std::alloc::Global;
 
 /// What is still to be done at a node.
 #[derive(Clone, Copy, Debug)]
-struct Task {
-    node: u32,
+pub(crate) struct Task {
+    pub(crate) node: u32,
     /// Whether the nodes that it leads to were entered.
-    is_leaving: bool,
+    pub(crate) is_leaving: bool,
 }
 
 /// A walk, depth first: a node is left once those that it leads to are left, unless it returns to itself.
@@ -26,9 +28,11 @@ struct Walk {
 
 impl Walk {
     /// Notes that some nodes are to be entered.
+    #[tactic(auto, using(crate::proofs::Walked::pushed_next))]
     fn add_all(&mut self, nodes: &Table<u32>) -> Result<(), NoMemory>
-        ensures more { OnOk result (length self.new.todo ≡ length nodes.now + length self.old.todo) }
-        ensures same { OnOk result (self.new.entered.items ≡ self.old.entered.items) }
+        ensures todo { OnOk result (self.new.todo ≡ pushed nodes.now self.old.todo) }
+        ensures entered { OnOk result (self.new.entered.items ≡ self.old.entered.items) }
+        ensures order { OnOk result (self.new.order ≡ self.old.order) }
     {
         for node in nodes.as_slice() {
             self.todo.push(Task {
@@ -46,7 +50,8 @@ impl Walk {
         requires known { node < length graph.now }
         requires within { node < length self.old.entered.items }
         ensures marks { OnOk result (self.new.entered.items ≡ set self.old.entered.items node true) }
-        ensures more { OnOk result (length self.new.todo ≡ length (targets graph.now node) + (length self.old.todo + 1)) }
+        ensures todo { OnOk result (self.new.todo ≡ pushed (targets graph.now node) (leave node ∷ self.old.todo)) }
+        ensures order { OnOk result (self.new.order ≡ self.old.order) }
     {
         self.entered[node as usize] = true;
         self.todo.push(Task {
@@ -58,13 +63,22 @@ impl Walk {
 
     /// Does what is to be done at a node.
     #[tactic(auto, using(crate::proofs::Efforts::unmarked_within, crate::proofs::Efforts::marked_length))]
-    fn step(&mut self, graph: &Table<Table<u32>>, task: Task) -> Result<(), NoMemory>
+    fn step(
+        &mut self,
+        graph: &Table<Table<u32>>,
+        _roots: &Table<u32>,
+        task: Task,
+    ) -> Result<(), NoMemory>
         requires marks { length self.old.entered.items ≡ length graph.now }
+        requires in_range { IsGraph graph.now }
+        requires roots { All (λ y. y < length graph.now) _roots.now }
         ensures marks { OnOk result (length self.new.entered.items ≡ length graph.now) }
+        ensures walk { OnOk result (NoneReturns graph.now _roots.now → IsWalk graph.now _roots.now self.old.entered.items self.old.order (task ∷ self.old.todo) → IsWalk graph.now _roots.now self.new.entered.items self.new.order self.new.todo) }
         ensures less { OnOk result (unmarked graph.now self.new.entered.items + length self.new.todo ≤ unmarked graph.now self.old.entered.items + length self.old.todo) }
     {
         if task.is_leaving {
-            return self.order.push(task.node);
+            self.order.push(task.node)?;
+            return Ok(());
         }
         if has_mark(&self.entered, task.node as usize) {
             return Ok(());
@@ -74,13 +88,17 @@ impl Walk {
     }
 }
 
-/// The nodes that some nodes lead to, and these, in an order in which each stands behind those that it leads to, unless it
-/// returns to itself. It is a hint: nothing is promised of it.
-pub fn likely_order(
+/// The nodes that some nodes lead to, and these, in an order in which each stands behind those that it leads to, where none
+/// of them returns to itself.
+pub fn parts_first(
     alloc: Global,
     graph: &Table<Table<u32>>,
     roots: &Table<u32>,
-) -> Result<Table<u32>, NoMemory> {
+) -> Result<Table<u32>, NoMemory>
+    requires in_range { IsGraph graph.now }
+    requires roots { All (λ y. y < length graph.now) roots.now }
+    ensures { IfOk result (λ order. NoneReturns graph.now roots.now → IsOrder graph.now roots.now order) }
+{
     let entered = vec![in alloc; false; graph.len()]?;
     let mut walk = Walk {
         entered,
@@ -89,7 +107,7 @@ pub fn likely_order(
     };
     walk.add_all(roots)?;
     while let Some(task) = walk.todo.pop() {
-        walk.step(graph, task)?;
+        walk.step(graph, roots, task)?;
     }
     Ok(walk.order)
 }

@@ -1,4 +1,4 @@
-use Rattle.std.proofs.Common.{◌≡◌, ◌<◌, length, get_or, sym, ap, subst, ◌∙◌}
+use Rattle.std.proofs.Common.{◌<◌, length, get_or, ap, subst}
 use Rattle.abc_tidy.proofs.Numbered.{met_next}
 use Rattle.abc_tidy.proofs.numbering.numbers_met.Goals as goal
 

@@ -1,4 +1,4 @@
-use Rattle.std.proofs.Common.{◌≡◌, ℕ, ◌<◌, length, get_or, Some, sym, ap, subst, ◌∙◌}
+use Rattle.std.proofs.Common.{◌≡◌, ℕ, ◌<◌, length, Some, sym, ap, subst, ◌∙◌}
 use Rattle.abc_trees.specs.Classes.{class}
 use Rattle.abc_tidy.proofs.Firsts.{at_zero}
 use Rattle.abc_tidy.proofs.Numbered.{class_small, noted_length, place_noted, places_begin, replicate_many}

@@ -1,4 +1,4 @@
-use Rattle.std.proofs.Common.{◌≡◌, ◌+◌, length}
+use Rattle.std.proofs.Common.{◌+◌, length}
 use Rattle.abc_trees.specs.Effort.{unmarked}
 use Rattle.abc_trees.specs.Visits.{IsVisitOf}
 use Rattle.abc_trees.proofs.visit.visit_order.Given as goal

@@ -1,6 +1,5 @@
-use Rattle.std.proofs.Common.{◌≡◌, ◌<◌, length, Some, MatchOption, sym, ap, subst, ◌∙◌, arith}
-use Rattle.std.proofs.Math.ListN.{set}
-use Rattle.abc_trees.specs.Classes.{AreClasses, IsClassOf}
+use Rattle.std.proofs.Common.{◌<◌, length, MatchOption, sym, subst, arith}
+use Rattle.abc_trees.specs.Classes.{AreClasses, HasUnclassed, IsClassOf}
 use Rattle.abc_trees.proofs.Meanings.{extended, settled}
 use Rattle.abc_trees.proofs.classes.Classes.settle.Goals as goal
 
@@ -13,7 +12,7 @@ returns-in-Some-clause-valid c =
     subst (AreClasses c.args.heads.now c.args.graph.now keys) (sym c.in_ok-class.ensures.classes)
     (extended c.args.heads.now c.args.graph.now c.args.self.now.keys.keys keys c.args.self.now.classes c.requires.valid c.in_ok-class.ensures.extends) in
     let is : IsClassOf c.args.heads.now c.args.graph.now c.args.node keys classes c.in-Some.class =
-    subst (λ r. MatchOption r (Unit {0}) (IsClassOf c.args.heads.now c.args.graph.now c.args.node keys classes)) c.in-Some.is c.in_ok-class.ensures.class in
+    subst (λ r. MatchOption r (HasUnclassed c.args.graph.now c.args.node classes) (IsClassOf c.args.heads.now c.args.graph.now c.args.node keys classes)) c.in-Some.is c.in_ok-class.ensures.class in
     subst (AreClasses c.args.heads.now c.args.graph.now keys) (sym c.set.ensures) (settled c.args.heads.now c.args.graph.now keys classes c.args.node c.in-Some.class valid within is)
 
 pub returns-in_default-clause-valid : goal.returns-in_default-clause-valid

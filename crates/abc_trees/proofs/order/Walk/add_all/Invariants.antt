@@ -1,5 +1,10 @@
-use Rattle.std.proofs.Common.{◌≡◌, ◌+◌, length}
+use Rattle.std.proofs.Common.{◌≡◌, take}
+use Rattle.abc_trees.specs.Walks.{pushed}
 use Rattle.abc_trees.proofs.order.Walk.add_all.Given as goal
 
 abbrev pub invariant-loop-node : goal.invariant-loop-node
-invariant-loop-node l = (length l.self.todo ≡ l.node-index + length l.initial.self.todo) × (l.self.entered.items ≡ l.initial.self.entered.items)
+invariant-loop-node l = record {
+  todo : l.self.todo ≡ pushed (take l.node-index l.node-items) l.initial.self.todo;
+  entered : l.self.entered.items ≡ l.initial.self.entered.items;
+  order : l.self.order ≡ l.initial.self.order;
+}

@@ -1,0 +1,15 @@
+use Rattle.std.proofs.Common.{◌<◌, length, get_or, ap, subst}
+use Rattle.abc_trees.proofs.Settled.{settled_next}
+use Rattle.abc_trees.proofs.classes.classes_of.Goals as goal
+
+pub loop-node-preserved : goal.loop-node-preserved
+loop-node-preserved c =
+    let inv = c.loop-node.invariant in
+    let i = c.loop-node.node-index in
+    let items = c.as_slice-node-items.ensures in
+    record {
+      valid = c.in_ok-settle.ensures.valid;
+      distinct = c.in_ok-settle.ensures.distinct;
+      settled = λ behind all. settled_next c.args.graph.now c.args.order.now c.loop-node.classes.classes c.settle.new.self.classes i (get_or c.as_slice-node-items.result.now i 0) behind all (inv.settled behind all)
+          (subst (λ ys. i < length ys) items c.loop-node-test.true) (ap (λ ys. get_or ys i 0) items) c.in_ok-settle.ensures.gains;
+    }
