@@ -1,5 +1,5 @@
 -- The laws of the operations.
-use Rattle.std.proofs.Common.{◌≡◌, ℕ, zero, suc, ◌/◌, ◌<◌, ◌^◌, ℤ, pos, negsuc, Bool, true, false, not, if◌then◌else◌, refl, sym, ap, ◌∙◌, subst, arith}
+use Rattle.std.proofs.Common.{◌≡◌, ℕ, zero, suc, ◌/◌, ◌<◌, ◌^◌, ℤ, pos, negsuc, Bool, true, false, if◌then◌else◌, refl, sym, ap, subst, arith}
 use Rattle.std.proofs.lemmas.Bool.{false≢true}
 use Rattle.std.proofs.lemmas.Int.{ints, quot-rem, rem_below}
 use Rattle.std.specs.Int.{int_shl, int_shr, w32}
@@ -16,7 +16,6 @@ use Rattle.abc_cells.specs.declared.values.Value.TheVariants as values
 use Rattle.abc_conversions.specs.Equality.{same_values}
 use Rattle.abc_conversions.specs.Numbers.{and_then, whole_of}
 use Rattle.abc_conversions.specs.Order.{ordered}
-use Rattle.abc_conversions.specs.declared.order.Order.{Order}
 use Rattle.abc_conversions.specs.declared.order.Order.TheVariants as orders
 use Rattle.abc_heap.specs.Heap.{Heap}
 use Rattle.abc_heap.specs.Texts.{text_of}
@@ -24,9 +23,8 @@ use Rattle.abc_names.specs.Pool.{same_space}
 use Rattle.abc_ops.proofs.Spaces.{same_space_equivalence}
 use Rattle.abc_program.specs.Linked.{LinkedFile}
 use Rattle.abc_ops.specs.Compares.{or_fault}
-use Rattle.abc_ops.specs.Laws.{AreOpposed, ConvertsModulo, IntegersAreModulo, IsRemainder, ModuloHasTheSign, OrdersAreOpposed, ShiftsUseFiveBits, StrictEqualsIsEquivalence, UndefinedIsUnordered}
+use Rattle.abc_ops.specs.Laws.{ConvertsModulo, IntegersAreModulo, IsRemainder, ModuloHasTheSign, OrdersAreOpposed, ShiftsUseFiveBits, StrictEqualsIsEquivalence, UndefinedIsUnordered}
 use Rattle.abc_ops.specs.Left.{Left, gives, number_or_fault, unchanged}
-use Rattle.abc_ops.specs.declared.end.OpEnd.{OpEnd}
 use Rattle.abc_ops.proofs.Opposites.{undefined_left, undefined_right, values_opposed}
 use Rattle.abc_ops.proofs.Same.{same_values_equivalence}
 use Rattle.abc_ops.proofs.Wrapped.{remainder_not_negative, remainder_not_positive, same_distance, signed_high, signed_low, signed_turns, unsigned_below, unsigned_turns}

@@ -1,5 +1,5 @@
 -- The four orders by one another, and undefined in them.
-use Rattle.std.proofs.Common.{◌≡◌, ℤ, ℕ, List, Bool, true, false, not, ◌&&◌, ◌||◌, if◌then◌else◌, refl, sym, ◌∙◌}
+use Rattle.std.proofs.Common.{◌≡◌, ℤ, ℕ, List, Bool, true, false, not, ◌&&◌, if◌then◌else◌, refl, sym, ◌∙◌}
 use Rattle.std.proofs.lemmas.Bool.{and_right}
 use Rattle.std.specs.declared.option.Option.{Option}
 use Rattle.std.specs.declared.option.Option.TheVariants.{Some, None}

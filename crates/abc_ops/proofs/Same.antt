@@ -1,9 +1,7 @@
 -- Strict equality, and equality of namespaces, are equivalences.
-use Rattle.std.proofs.Common.{◌≡◌, ℕ, ℤ, List, Bool, true, false, ◌&&◌, cond, nat_eq, refl, sym, ◌∙◌, ap, subst, arith}
-use Rattle.std.proofs.lemmas.Bool.{and_parts, and_from}
-use Rattle.std.proofs.lemmas.Bool.Decides.{nat_tests}
+use Rattle.std.proofs.Common.{◌≡◌, ℕ, List, Bool, true, false, refl, ap}
 use Rattle.std.proofs.lemmas.Slice.Eq.{bytes_eq-Decides}
-use Rattle.std.specs.Cmp.{IsEquivalence, bool_eq_equiv, int_eq_equiv, nat_eq_equiv, signed_Decides, unsigned_Decides}
+use Rattle.std.specs.Cmp.{IsEquivalence, int_eq_equiv, nat_eq_equiv, signed_Decides, unsigned_Decides}
 use Rattle.std.specs.Cmp.Lexicographic.{nat_list_eq_equiv}
 use Rattle.std.specs.Str.{bytes_eq}
 use Rattle.abc_cells.specs.declared.values.Span.{Span}

@@ -1,10 +1,10 @@
 -- Whole numbers modulo 2 ^ 32, shifts and remainders.
-use Rattle.std.proofs.Common.{◌≡◌, ℕ, suc, ◌+◌, ◌-◌, ◌*◌, ◌/◌, ◌%◌, ◌<◌, ◌≤◌, ◌^◌, ℤ, pos, negsuc, ◌+ℤ◌, ◌*ℤ◌, ◌≤ℤ◌, ◌⊎◌, inl, inr, arith}
+use Rattle.std.proofs.Common.{◌≡◌, ℕ, suc, ◌-◌, ◌/◌, ◌%◌, ◌<◌, ◌≤◌, ℤ, pos, negsuc, ◌+ℤ◌, ◌*ℤ◌, ◌≤ℤ◌, inl, inr, arith}
 use Rattle.std.proofs.Math.Nat.{mod-lt, mod-add-div}
 use Rattle.std.proofs.lemmas.Bool.{cases_lt, le-ltb}
-use Rattle.std.proofs.lemmas.Int.{SFits-int_wrap, ints, quot-rem, rem_below}
+use Rattle.std.proofs.lemmas.Int.{SFits-int_wrap, ints}
 use Rattle.std.specs.Int.{cast_signed, int_wrap, w32}
-use Rattle.std.specs.Prelude.{int_div, int_rem, unsigned_abs}
+use Rattle.std.specs.Prelude.{int_rem}
 use Rattle.abc_arithmetic.specs.Modular.{signed, unsigned}
 
 -- ---- modulo 2 ^ 32

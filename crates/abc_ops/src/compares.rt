@@ -58,7 +58,9 @@ fn compare_as(l: &Linked, a: &Arena, how: Comparison, x: Value, y: Value) -> Res
 }
 
 /// What a comparison from AB to B0 answers: equals, strictequals, lessthan, lessequals, greaterthan and greaterequals. The
-/// left is converted before the right.
+/// left is converted before the right. strictequals always answers. equals ends by the fault TextToNumber for a text and a
+/// number or a truth value, and by ObjectToPrimitive for an object and one of these three; the others end by the faults of
+/// numbers, but undefined is none, and by TextOrder for two texts of which one is not ASCII.
 pub fn compare(l: &Linked, a: &Arena, op: u8, x: Value, y: Value) -> Result<bool, OpEnd>
     requires over { StandsOver l.now a.now }
     requires left { Exists l.now a.now x }

@@ -110,7 +110,9 @@ pub fn number_value(n: Result<i64, Fault>) -> Result<Value, OpEnd>
     }
 }
 
-/// The value that a conversion gives. Text conversion of a number makes a text.
+/// The value that a conversion gives. To a number undefined is the fault NotANumber (but 0 for an integer), a text is
+/// TextToNumber, and a namespace or an object ObjectToPrimitive, as is an object to a text. To an object undefined and null
+/// throw a TypeError. The text of a number is made: it ends as `Full` of the texts exactly where there is no room for it.
 #[tactic(auto, using(crate::proofs::Staying::grows_itself))]
 pub fn convert(l: &Linked, a: &mut Arena, to: Conversion, v: Value) -> Result<Value, OpEnd>
     requires over { StandsOver l.now a.old }

@@ -42,7 +42,7 @@ fn type_name(a: &Arena, v: Value) -> FixedText
 }
 
 /// What an opcode computes of a value: 90, 91, 93, 97, C0, C1 and C4 a number, 95 the name of its type, 96 whether it is
-/// false.
+/// false. It ends by a fault alone: where the value is made no number, as `convert` says, or the result is out of range.
 #[tactic(auto, using(crate::proofs::Staying::grows_itself))]
 pub fn unary(l: &Linked, a: &mut Arena, op: u8, v: Value) -> Result<Value, OpEnd>
     requires over { StandsOver l.now a.old }
@@ -110,7 +110,10 @@ fn join(l: &Linked, a: &mut Arena, x: Value, y: Value) -> Result<Value, OpEnd>
     }
 }
 
-/// What an opcode from A0 to AA or from C5 to C7 computes of two values. A0 joins texts where one of them is a text.
+/// What an opcode from A0 to AA or from C5 to C7 computes of two values. A0 joins texts where one of them is a text: each
+/// text that it makes, the left before the right, ends it as `Full` of the texts exactly where there is no room for it. Else
+/// the left is made a number before the right, with the faults of `convert`; a result out of range or a quotient that is not
+/// whole is the fault Range, and a divisor 0 NotANumber.
 #[tactic(auto, using(crate::proofs::Staying::grows_itself))]
 pub fn binary(l: &Linked, a: &mut Arena, op: u8, x: Value, y: Value) -> Result<Value, OpEnd>
     requires over { StandsOver l.now a.old }
