@@ -1,12 +1,8 @@
 //! Tests of what no clause and no row of data says: that calls which allocate find memory where there is enough, generic
-//! calls at a concrete type, adapters over the readers and writers of std, printed text, values that come from outside.
+//! calls at a concrete type, adapters over the readers and writers of std, printed text. What a command does is shown by rows.
 //! It has no items of its own. The other crates have no tests, so that each is proved once.
 #![tactic(auto)]
 
-#[cfg(test)]
-mod files;
-#[cfg(test)]
-mod fitting;
 #[cfg(test)]
 mod formulas;
 #[cfg(test)]
@@ -23,7 +19,5 @@ mod numbers;
 mod streams;
 #[cfg(test)]
 mod texts;
-#[cfg(test)]
-mod unspelled;
 #[cfg(test)]
 mod words;

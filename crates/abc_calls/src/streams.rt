@@ -1,10 +1,6 @@
-//! Streams that never fail, adapters over std's readers and writers, and the program over the former.
+//! Streams that never fail, and adapters over std's readers and writers.
 
-use abc_base::{
-    BuiltinHost, Failed, Sink, Source, Status, StdSink, StdSource, SteadySink, SteadySource, Words,
-    write_all,
-};
-use abc_cli::abc_main;
+use abc_base::{Failed, Sink, Source, StdSink, StdSource, SteadySink, SteadySource, write_all};
 use abc_input::{InputError, read_input};
 use std::test::*;
 
@@ -56,35 +52,6 @@ fn whole_input(rt: HostRuntime) -> Result<(), Fail> {
             }
             Err(e) => assert_eq!(rt; (e, is_short), (InputError::TooLong, false)),
         }
-    }
-    Ok(())
-}
-
-/// The file whose tables are all empty, and a byte after it.
-const EMPTY_AND_MORE: [u8; 17] = [0x10, 0, 0x2e, 0, 0, 0, 0, 0, 0, 0, 0, 0, 0, 0, 0, 0, 0];
-
-#[test]
-fn the_program_over_steady_streams(rt: HostRuntime) -> Result<(), Fail> {
-    for (command, length, status) in [
-        ("canon", 16usize, Status::Done),
-        ("canon", 15, Status::Refused),
-        ("canon", 17, Status::Refused),
-        ("dis", 16, Status::Done),
-        ("check", 16, Status::Refused),
-        ("tidy", 16, Status::Done),
-    ] {
-        let mut words = Words::new(rt.alloc());
-        words.push(command.as_bytes())?;
-        let input = EMPTY_AND_MORE.get(..length).ok_or("a front")?;
-        let got = abc_main(
-            rt.alloc(),
-            &words,
-            &mut SteadySource::new(rt.alloc(), input, 3)?,
-            &mut SteadySink::new(),
-            &mut SteadySink::new(),
-            &BuiltinHost,
-        );
-        assert_eq!(rt; got, status, "{command} of {length} bytes");
     }
     Ok(())
 }
