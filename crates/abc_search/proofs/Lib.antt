@@ -2,3 +2,4 @@ mod Firsts
 mod Hiding
 mod There
 mod Examples
+pub mod Joins

@@ -11,9 +11,10 @@ use Rattle.abc_graph.specs.Ways.{way, before}
 use Rattle.abc_heap.specs.Heap.{Heap, elements_of, object_at, properties_of}
 use Rattle.abc_heap.specs.What.{is_array}
 use Rattle.abc_program.specs.Linked.{LinkedFile, base}
-use Rattle.abc_search.specs.Candidates.{Candidate, OfElement, OfLength, OfProperty, OfTrait, candidates_on, elements, elements_from, fits, found, found_as, holder_of, layout_at, own_things, properties, property_at, skip_for, things_along, traits_after, traits_on, where_public}
+use Rattle.abc_search.specs.Candidates.{Candidate, OfElement, OfLength, OfProperty, OfTrait, candidates_on, elements, elements_from, fits, found, found_as, holder_of, layout_at, own_things, properties, property_at, things_along, traits_after, traits_on, where_public}
 use Rattle.abc_search.specs.Laws.{FindsWhatIsThere, IsThere}
 use Rattle.abc_search.specs.Objects.{delegate_at}
+use Rattle.abc_search.specs.Results.{skip_for}
 use Rattle.abc_search.specs.Searches.{found_on}
 use Rattle.abc_search.specs.Spaces.{holds_public}
 use Rattle.abc_search.specs.Traits.{Trait, own}

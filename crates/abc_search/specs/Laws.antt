@@ -9,7 +9,8 @@ use Rattle.abc_cells.specs.declared.values.Span.{Span}
 use Rattle.abc_heap.specs.declared.records.ScopeEntry.{ScopeEntry}
 use Rattle.abc_heap.specs.declared.records.ScopeId.{ScopeId}
 use Rattle.abc_program.specs.Linked.{LinkedFile}
-use Rattle.abc_search.specs.Candidates.{Candidate, OfTrait, Skip, answer, fits, found, is_answer, skip_for, traits_on}
+use Rattle.abc_search.specs.Candidates.{Candidate, OfTrait, answer, fits, found, is_answer, traits_on}
+use Rattle.abc_search.specs.Results.{skip_for}
 use Rattle.abc_search.specs.Scopes.{Place, has, places, scope_named}
 use Rattle.abc_search.specs.Searches.{declared_found, found_in_scopes, found_on}
 use Rattle.abc_search.specs.Spaces.{holds_public}
@@ -17,6 +18,7 @@ use Rattle.abc_search.specs.Traits.{own}
 use Rattle.abc_search.specs.declared.found.Found.{Found}
 use Rattle.abc_search.specs.declared.found.Found.TheVariants as founds
 use Rattle.abc_search.specs.declared.found.ScopeFound.TheVariants as results
+use Rattle.abc_search.specs.declared.found.Skip.{Skip}
 use Rattle.abc_search.specs.declared.found.Want.{Want}
 use Rattle.abc_search.specs.declared.name.Name.{Name}
 
