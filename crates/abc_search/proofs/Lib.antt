@@ -3,3 +3,4 @@ mod Hiding
 mod There
 mod Examples
 pub mod Joins
+mod Objectless

@@ -9,7 +9,7 @@ use Rattle.abc_cells.specs.declared.values.Span.{Span}
 use Rattle.abc_heap.specs.declared.records.ScopeEntry.{ScopeEntry}
 use Rattle.abc_heap.specs.declared.records.ScopeId.{ScopeId}
 use Rattle.abc_program.specs.Linked.{LinkedFile}
-use Rattle.abc_search.specs.Candidates.{Candidate, OfTrait, answer, fits, found, is_answer, traits_on}
+use Rattle.abc_search.specs.Candidates.{Candidate, OfTrait, answer, fits, found, is_answer, text_in, traits_on}
 use Rattle.abc_search.specs.Results.{skip_for}
 use Rattle.abc_search.specs.Scopes.{Place, has, places, scope_named}
 use Rattle.abc_search.specs.Searches.{declared_found, found_in_scopes, found_on}
@@ -49,6 +49,10 @@ own_candidates l x = map (OfTrait x (x ∷ [])) (own l x)
 
 abbrev pub HidesItsBase : Type 0
 HidesItsBase = (l : LinkedFile) (h : Heap) (x : ℕ) (n : Name) (want : Want) → list_any (is_answer l h n (skip_for want)) (own_candidates l x) ≡ true → declared_found l h x x n want ≡ answer l h n (skip_for want) (own_candidates l x)
+
+-- which declared traits a name finds depends on its text, and on no object
+abbrev pub AsksNoObject : Type 0
+AsksNoObject = (l : LinkedFile) (h k : Heap) (object from : ℕ) (n : Name) (want : Want) → text_in l h n.text ≡ text_in l k n.text → declared_found l h object from n want ≡ declared_found l k object from n want
 
 -- a property, an element or a length that is found is its holder's
 abbrev pub IsThere : Heap → Found → Type 0

@@ -1,4 +1,4 @@
-ghost use Rattle.abc_search.specs.Laws.{AnswersTheFirst, FindsTheFirstPlace, FindsTraitsAlone, FindsWhatIsThere, HidesItsBase};
+ghost use Rattle.abc_search.specs.Laws.{AnswersTheFirst, AsksNoObject, FindsTheFirstPlace, FindsTraitsAlone, FindsWhatIsThere, HidesItsBase};
 
 /// A search answers the first of its candidates that fits and is not passed over. Without one it is `WrongSide` where
 /// another fits, and else `Missing`.
@@ -19,6 +19,12 @@ pub fn properties_are_public()
 /// A trait of a layout that fits hides those of its bases.
 pub fn derived_trait_hides()
     ensures { HidesItsBase }
+{}
+
+/// Which declared traits a name finds depends on the text of the name, and on no object. A write asks for these, and then for
+/// an own property: so what a delegate holds doesn't matter to it.
+pub fn no_object_matters()
+    ensures { AsksNoObject }
 {}
 
 /// A property, an element or a length that is found is its holder's.
