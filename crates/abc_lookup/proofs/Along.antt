@@ -1,9 +1,9 @@
 -- The layouts of a way, one after the other.
-use Rattle.std.proofs.Common.{◌≡◌, ℕ, Bool, true, false, ◌||◌, List, [], ◌∷◌, ◌++◌, map, refl, sym, ap, ◌∙◌, cond, eq-eqb, ne_eqb}
+use Rattle.std.proofs.Common.{◌≡◌, ℕ, ◌<◌, arith, Bool, true, false, ◌||◌, List, [], ◌∷◌, ◌++◌, map, refl, sym, ap, ◌∙◌, cond, eq-eqb, ne_eqb}
 use Rattle.std.specs.Prelude.{Some, None, option_map}
 use Rattle.std.specs.declared.option.Option.{Option}
 use Rattle.std.specs.List.{list_any}
-use Rattle.abc_graph.specs.Ways.{before, way, IsFalling}
+use Rattle.abc_graph.specs.Ways.{before, way, IsBelow, IsFalling}
 use Rattle.abc_graph.proofs.Walks.{way_none, way_some}
 use Rattle.abc_heap.specs.Heap.{Heap}
 use Rattle.abc_program.specs.Linked.{IsLinkedFile, LinkedFile, base}
@@ -96,3 +96,17 @@ pub declared_all : (l : LinkedFile) (h : Heap) (n : Name) (s : Skip) (object fro
 declared_all l h n s object from held t is e =
     ap (λ u. along l u n s held (way (base l) (Some from))) is
     ∙ sym (along_all l h n s held (before from (way (base l) (Some object))) (way (base l) (Some from)) (sym e))
+
+-- a layout that a walk has come to, and what it stands under
+pub walk_in : (at : Option LayoutId) (x : LayoutId) (n : ℕ) → at ≡ Some x → IsBelow (layout_number at) n → x.0 < n
+walk_in None x n e h = cc
+walk_in (Some y) x n e h = let q : y.0 ≡ x.0 = cc in omega (arith, h, q)
+
+pub base_some : (l : LinkedFile) (x : ℕ) (o : Option LayoutId) (b : LayoutId) → o ≡ option_map (λ n. record { 0 = n }) (base l x) → o ≡ Some b → base l x ≡ Some b.0
+base_some l x o b is some = sym (number_back (base l x)) ∙ sym (ap layout_number is) ∙ ap layout_number some
+
+pub base_none : (l : LinkedFile) (x : ℕ) (o : Option LayoutId) → o ≡ option_map (λ n. record { 0 = n }) (base l x) → o ≡ None → base l x ≡ None
+base_none l x o is none = sym (number_back (base l x)) ∙ sym (ap layout_number is) ∙ ap layout_number none
+
+pub base_in : (l : LinkedFile) → IsLinkedFile l → (x b n : ℕ) → base l x ≡ Some b → x < n → b < n
+base_in l f x b n e h = let lt = (bases_fall l f).falls x b e in omega arith

@@ -12,7 +12,7 @@ use Rattle.abc_heap.specs.declared.records.ScopeId.{ScopeId}
 use Rattle.abc_heap.specs.declared.records.What.{What}
 use Rattle.abc_heap.specs.declared.records.What.TheVariants as whats
 use Rattle.abc_program.specs.Linked.{LinkedFile}
-use Rattle.abc_search.specs.Candidates.{answer, own_things}
+use Rattle.abc_search.specs.Candidates.{answer, own_things, things_along}
 use Rattle.abc_search.specs.Scopes.{InHost, InScope, InScript, Place, global_things, node_at, parent_at, places, saved_places, scope_number, scope_things}
 use Rattle.abc_search.specs.declared.found.Found.TheVariants.{Missing}
 use Rattle.abc_search.specs.declared.found.Skip.{Skip}
@@ -38,6 +38,14 @@ pub other_scope : (l : LinkedFile) (h : Heap) (n : Name) (s : Skip) (e : ScopeEn
 other_scope l h n s e f no =
     ap (λ b. answer l h n s (cond b (own_things h e.object.0) (global_things h e.object.0 (object_at h.objects e.object.0).what))) f
     ∙ no_global_things l h n s e.object.0 (object_at h.objects e.object.0).what no
+
+pub with_scope : (l : LinkedFile) (h : Heap) (n : Name) (s : Skip) (e : ScopeEntry) → e.with_flag ≡ true → answer l h n s (scope_things h e) ≡ answer l h n s (own_things h e.object.0)
+with_scope l h n s e f = ap (λ b. answer l h n s (cond b (own_things h e.object.0) (global_things h e.object.0 (object_at h.objects e.object.0).what))) f
+
+pub global_scope : (l : LinkedFile) (h : Heap) (n : Name) (s : Skip) (e : ScopeEntry) (k : ℕ) → e.with_flag ≡ false → (object_at h.objects e.object.0).what ≡ whats.Global k → answer l h n s (scope_things h e) ≡ answer l h n s (things_along h (Some e.object.0))
+global_scope l h n s e k f is =
+    ap (λ b. answer l h n s (cond b (own_things h e.object.0) (global_things h e.object.0 (object_at h.objects e.object.0).what))) f
+    ∙ ap (λ w. answer l h n s (global_things h e.object.0 w)) is
 
 -- ---- local scopes
 

@@ -99,3 +99,12 @@ within h (Some s) is = is
 pub without : (h : Heap) (s : Option ScopeId) → IsBelow (scope_number s) (length h.scopes) → IsScope h s
 without h None is = tt
 without h (Some s) is = is
+
+-- what a walk has come to
+pub object_in : (h : Heap) (at : Option ObjId) (o : ObjId) → at ≡ Some o → IsBelow (number_of at) (length h.objects) → IsObject h o
+object_in h None o e is = cc
+object_in h (Some y) o e is = let q : y.0 ≡ o.0 = cc in omega (arith, is, q)
+
+pub scope_in : (h : Heap) (at : Option ScopeId) (s : ScopeId) → at ≡ Some s → IsBelow (scope_number at) (length h.scopes) → s.0 < length h.scopes
+scope_in h None s e is = cc
+scope_in h (Some y) s e is = let q : y.0 ≡ s.0 = cc in omega (arith, is, q)
