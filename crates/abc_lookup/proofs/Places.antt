@@ -22,22 +22,22 @@ use Rattle.abc_search.proofs.Joins.{answer_none}
 -- ---- what is searched
 
 no_global_things : (l : LinkedFile) (h : Heap) (n : Name) (s : Skip) (o : ℕ) (w : What) → ((k : ℕ) → w ≡ whats.Global k → ⊥) → answer l h n s (global_things h o w) ≡ Missing
-no_global_things l h n s o (whats.Global k) no = absurd (no k refl)
-no_global_things l h n s o whats.Plain no = answer_none l h n s
-no_global_things l h n s o (whats.Closure m i c b) no = answer_none l h n s
-no_global_things l h n s o (whats.ClassObject k i c j) no = answer_none l h n s
-no_global_things l h n s o (whats.HostClass c) no = answer_none l h n s
-no_global_things l h n s o whats.Trace no = answer_none l h n s
-no_global_things l h n s o (whats.Formula k) no = answer_none l h n s
-no_global_things l h n s o whats.HostObject no = answer_none l h n s
-no_global_things l h n s o whats.Activation no = answer_none l h n s
-no_global_things l h n s o whats.Catch no = answer_none l h n s
-no_global_things l h n s o whats.Array no = answer_none l h n s
+no_global_things l h n s o (whats.Global k) never = absurd (never k refl)
+no_global_things l h n s o whats.Plain never = answer_none l h n s
+no_global_things l h n s o (whats.Closure m i c b) never = answer_none l h n s
+no_global_things l h n s o (whats.ClassObject k i c j) never = answer_none l h n s
+no_global_things l h n s o (whats.HostClass c) never = answer_none l h n s
+no_global_things l h n s o whats.Trace never = answer_none l h n s
+no_global_things l h n s o (whats.Formula k) never = answer_none l h n s
+no_global_things l h n s o whats.HostObject never = answer_none l h n s
+no_global_things l h n s o whats.Activation never = answer_none l h n s
+no_global_things l h n s o whats.Catch never = answer_none l h n s
+no_global_things l h n s o whats.Array never = answer_none l h n s
 
 pub other_scope : (l : LinkedFile) (h : Heap) (n : Name) (s : Skip) (e : ScopeEntry) → e.with_flag ≡ false → ((k : ℕ) → (object_at h.objects e.object.0).what ≡ whats.Global k → ⊥) → answer l h n s (scope_things h e) ≡ Missing
-other_scope l h n s e f no =
+other_scope l h n s e f never =
     ap (λ b. answer l h n s (cond b (own_things h e.object.0) (global_things h e.object.0 (object_at h.objects e.object.0).what))) f
-    ∙ no_global_things l h n s e.object.0 (object_at h.objects e.object.0).what no
+    ∙ no_global_things l h n s e.object.0 (object_at h.objects e.object.0).what never
 
 pub with_scope : (l : LinkedFile) (h : Heap) (n : Name) (s : Skip) (e : ScopeEntry) → e.with_flag ≡ true → answer l h n s (scope_things h e) ≡ answer l h n s (own_things h e.object.0)
 with_scope l h n s e f = ap (λ b. answer l h n s (cond b (own_things h e.object.0) (global_things h e.object.0 (object_at h.objects e.object.0).what))) f

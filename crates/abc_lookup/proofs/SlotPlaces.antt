@@ -32,9 +32,9 @@ one_slot l (bodies.Function id m) = refl
 pub slots_counted : (l : LinkedFile) (ts : List TraitInfo) → count_by (λ (t : TraitInfo). has_slot t.body) ts ≡ slot_count l ts
 slots_counted l [] = refl
 slots_counted l (t ∷ ts) =
-    let e = slots_counted l ts in
-    let f = one_slot l t.body in
-    omega (arith, e, f, length-append (slots_in l t.body) (flat_map (λ (u : TraitInfo). slots_in l u.body) ts))
+    ap (λ n. cond (has_slot t.body) 1 0 + n) (slots_counted l ts)
+    ∙ ap (λ n. n + slot_count l ts) (one_slot l t.body)
+    ∙ sym (length-append (slots_in l t.body) (flat_map (λ (u : TraitInfo). slots_in l u.body) ts))
 
 -- the slots of a table are own slots
 own_count : (l : LinkedFile) (p : Part) → slot_count l (traits_of l.file p) ≤ length (own_slots l p)

@@ -71,7 +71,7 @@ text_first_of l h n s x passed held e = text_first l h n s x passed held (own l 
 named_text : (l : LinkedFile) (t : List ℕ) (d : DefiniteName) (ms : List Member) → with_text t (traits_named l d ms) ≡ cond (bytes_eq t (text l.file d.string)) (traits_named l d ms) []
 named_text l t d [] = go (bytes_eq t (text l.file d.string))
   where
-    go : (b : Bool) → [] ≡ cond b [] []
+    go : (b : Bool) → traits_named l d [] ≡ cond b (traits_named l d []) []
     go true = refl
     go false = refl
 named_text l t d (m ∷ ms) = ap (λ us. cond (bytes_eq t (text l.file d.string)) (trait_named l d m ∷ us) us) (named_text l t d ms) ∙ go (bytes_eq t (text l.file d.string))
@@ -84,7 +84,7 @@ placed : (l : LinkedFile) (t : List ℕ) (at : ℕ → List Trait) (i slot : ℕ
     → flat_map at (places_from (bytes_eq t) i (trait_texts l.file ts)) ≡ with_text t (traits_from l slot ts)
 placed l t at i slot [] h = refl
 placed l t at i slot (u ∷ ts) h =
-    go (bytes_eq t (text l.file (qname (name l.file u.name)).string))
+    go (placed l t at (i + 1) (slot + length (slots_in l u.body)) ts (λ j. let e : i + 1 + j ≡ i + suc j = omega arith in ap at e ∙ h (suc j))) (bytes_eq t (text l.file (qname (name l.file u.name)).string))
     ∙ ap (λ us. us ++ with_text t later) (sym (named_text l t (qname (name l.file u.name)) (members_in slot u.body)))
     ∙ sym (filter-append (λ (d : Trait). bytes_eq t d.text) here later)
   where
@@ -94,15 +94,13 @@ placed l t at i slot (u ∷ ts) h =
     later : List Trait
     later = traits_from l (slot + length (slots_in l u.body)) ts
 
-    rest : flat_map at (places_from (bytes_eq t) (i + 1) (trait_texts l.file ts)) ≡ with_text t later
-    rest = placed l t at (i + 1) (slot + length (slots_in l u.body)) ts (λ j. let e : i + 1 + j ≡ i + suc j = omega arith in ap at e ∙ h (suc j))
-
-    first : at i ≡ here
+    first : at i ≡ traits_named l (qname (name l.file u.name)) (members_in slot u.body)
     first = let e : i ≡ i + 0 = omega arith in ap at e ∙ h 0
 
-    go : (b : Bool) → flat_map at (cond b (i ∷ places_from (bytes_eq t) (i + 1) (trait_texts l.file ts)) (places_from (bytes_eq t) (i + 1) (trait_texts l.file ts))) ≡ cond b here [] ++ with_text t later
-    go true = ap (λ us. us ++ flat_map at (places_from (bytes_eq t) (i + 1) (trait_texts l.file ts))) first ∙ ap (λ us. here ++ us) rest
-    go false = rest
+    go : flat_map at (places_from (bytes_eq t) (i + 1) (trait_texts l.file ts)) ≡ with_text t (traits_from l (slot + length (slots_in l u.body)) ts)
+        → (b : Bool) → flat_map at (cond b (i ∷ places_from (bytes_eq t) (i + 1) (trait_texts l.file ts)) (places_from (bytes_eq t) (i + 1) (trait_texts l.file ts))) ≡ cond b (traits_named l (qname (name l.file u.name)) (members_in slot u.body)) [] ++ with_text t (traits_from l (slot + length (slots_in l u.body)) ts)
+    go rest true = ap (λ us. us ++ flat_map at (places_from (bytes_eq t) (i + 1) (trait_texts l.file ts))) first ∙ ap (λ us. traits_named l (qname (name l.file u.name)) (members_in slot u.body) ++ us) rest
+    go rest false = rest
 
 placed_all : (l : LinkedFile) (t : List ℕ) (x : ℕ) → flat_map (own_at l x) (places_of (bytes_eq t) (trait_texts l.file (own_table_of l x))) ≡ with_text t (traits_from l (slots_under l (base l x)) (own_table_of l x))
 placed_all l t x = placed l t (own_at l x) 0 (slots_under l (base l x)) (own_table_of l x) (λ j. let e : 0 + j ≡ j = omega arith in ap (own_at l x) e)

@@ -88,11 +88,11 @@ properties_all l h n s o =
 -- none has the number
 elements_miss : (l : LinkedFile) (h : Heap) (n : Name) (s : Skip) (o k : ℕ) (vs : List Value) → ((i : ℕ) → i < k + length vs → names_element i (text_in l h n.text) ≡ false)
     → answer l h n s (elements_from o k vs) ≡ founds.Missing
-elements_miss l h n s o k [] no = answer_none l h n s
-elements_miss l h n s o k (v ∷ vs) no =
+elements_miss l h n s o k [] never = answer_none l h n s
+elements_miss l h n s o k (v ∷ vs) never =
     answer_more l h n s (OfElement o k) (elements_from o (k + 1) vs)
-    ∙ ap (λ b. or_next (cond b (founds.Element (obj_id o) k) founds.Missing) (answer l h n s (elements_from o (k + 1) vs))) (no k (omega arith))
-    ∙ elements_miss l h n s o (k + 1) vs (λ i lt. no i (omega arith))
+    ∙ ap (λ b. or_next (cond b (founds.Element (obj_id o) k) founds.Missing) (answer l h n s (elements_from o (k + 1) vs))) (never k (omega arith))
+    ∙ elements_miss l h n s o (k + 1) vs (λ i lt. never i (omega arith))
 
 -- one has it
 elements_hit : (l : LinkedFile) (h : Heap) (n : Name) (s : Skip) (o k j : ℕ) (vs : List Value) → k ≤ j → j < k + length vs → ((i : ℕ) → names_element i (text_in l h n.text) ≡ nat_eq i j)
@@ -161,13 +161,13 @@ things_next l h n s x at so_far found next whole f is e gs ns =
 -- ---- values, and names that hold the public namespace
 
 pub no_traits : (l : LinkedFile) (h : Heap) (n : Name) (s : Skip) (v : Value) → ((o : ObjId) → v ≡ values.Obj o → ⊥) → answer l h n s (traits_on l h v) ≡ founds.Missing
-no_traits l h n s (values.Obj o) no = absurd (no o refl)
-no_traits l h n s values.Undefined no = answer_none l h n s
-no_traits l h n s values.Null no = answer_none l h n s
-no_traits l h n s (values.Num k) no = answer_none l h n s
-no_traits l h n s (values.Bool b) no = answer_none l h n s
-no_traits l h n s (values.Text t) no = answer_none l h n s
-no_traits l h n s (values.Space k) no = answer_none l h n s
+no_traits l h n s (values.Obj o) never = absurd (never o refl)
+no_traits l h n s values.Undefined never = answer_none l h n s
+no_traits l h n s values.Null never = answer_none l h n s
+no_traits l h n s (values.Num k) never = answer_none l h n s
+no_traits l h n s (values.Bool b) never = answer_none l h n s
+no_traits l h n s (values.Text t) never = answer_none l h n s
+no_traits l h n s (values.Space k) never = answer_none l h n s
 
 pub public_all : (l : LinkedFile) (h : Heap) (n : Name) (s : Skip) (cs : List Candidate) → holds_public l n.spaces ≡ true → answer l h n s (where_public l n cs) ≡ answer l h n s cs
 public_all l h n s cs e = ap (λ b. answer l h n s (cond b cs [])) e

@@ -1,0 +1,3 @@
+pub mod OwnSlots
+pub mod ScriptTraits
+pub mod SetKeys
