@@ -3,7 +3,7 @@ use Rattle.std.proofs.Common.{◌≡◌, ℕ, ◌<◌, arith, Bool, true, false,
 use Rattle.std.specs.Prelude.{Some, None, option_map}
 use Rattle.std.specs.declared.option.Option.{Option}
 use Rattle.std.specs.List.{list_any}
-use Rattle.abc_graph.specs.Ways.{before, way, IsBelow, IsFalling}
+use Rattle.abc_graph.specs.Ways.{before, left, way, IsBelow, IsFalling}
 use Rattle.abc_graph.proofs.Walks.{way_none, way_some}
 use Rattle.abc_heap.specs.Heap.{Heap}
 use Rattle.abc_program.specs.Linked.{IsLinkedFile, LinkedFile, base}
@@ -110,3 +110,9 @@ base_none l x o is none = sym (number_back (base l x)) ∙ sym (ap layout_number
 
 pub base_in : (l : LinkedFile) → IsLinkedFile l → (x b n : ℕ) → base l x ≡ Some b → x < n → b < n
 base_in l f x b n e h = let lt = (bases_fall l f).falls x b e in omega arith
+
+-- a walk comes to an end
+pub less_left : (next : ℕ → Option ℕ) → IsFalling next → (x : ℕ) (at to : Option ℕ) → at ≡ Some x → to ≡ next x → left to < left at
+less_left next f x None to e is = cc
+less_left next f x (Some z) None e is = omega arith
+less_left next f x (Some z) (Some y) e is = let q : z ≡ x = cc in let lt = f.falls x y (sym is) in omega arith

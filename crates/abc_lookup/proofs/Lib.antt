@@ -5,3 +5,4 @@ pub mod Things
 pub mod Places
 pub mod SlotPlaces
 pub mod Stands
+pub mod Numerals

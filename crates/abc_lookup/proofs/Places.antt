@@ -13,11 +13,14 @@ use Rattle.abc_heap.specs.declared.records.What.{What}
 use Rattle.abc_heap.specs.declared.records.What.TheVariants as whats
 use Rattle.abc_program.specs.Linked.{LinkedFile}
 use Rattle.abc_search.specs.Candidates.{answer, own_things, things_along}
-use Rattle.abc_search.specs.Scopes.{InHost, InScope, InScript, Place, global_things, node_at, parent_at, places, saved_places, scope_number, scope_things}
+use Rattle.abc_search.specs.Scopes.{InHost, InScope, InScript, Place, candidates_at, global_things, has, node_at, parent_at, places, saved_places, scope_number, scope_things}
+use Rattle.abc_search.specs.Results.{is_hit}
+use Rattle.abc_search.specs.declared.found.Found.{Found}
 use Rattle.abc_search.specs.declared.found.Found.TheVariants.{Missing}
 use Rattle.abc_search.specs.declared.found.Skip.{Skip}
+use Rattle.abc_search.specs.declared.found.Skip.TheVariants.{Nothing}
 use Rattle.abc_search.specs.declared.name.Name.{Name}
-use Rattle.abc_search.proofs.Joins.{answer_none}
+use Rattle.abc_search.proofs.Joins.{answer_none, nothing_skipped}
 
 -- ---- what is searched
 
@@ -116,3 +119,7 @@ past_saved p l h scopes saved e f = past_local p l h scopes saved e ∙ none_of 
 pub past_scripts : (p : Place → Bool) (l : LinkedFile) (h : Heap) (scopes : List ScopeEntry) (saved : Option ScopeId) → None ≡ find p (map InScope (reverse scopes)) → None ≡ find p (saved_places h saved)
     → None ≡ find p (map InScript (range_with_len 0 (length l.file.scripts))) → find p (places l h scopes saved) ≡ cond (p InHost) (Some InHost) None
 past_scripts p l h scopes saved e f g = past_saved p l h scopes saved e f ∙ none_of p (map InScript (range_with_len 0 (length l.file.scripts))) (InHost ∷ []) g
+
+-- a search that passes over nothing tells whether a place has the name
+pub has_name : (l : LinkedFile) (h : Heap) (n : Name) (s : Skip) (p : Place) (f : Found) (b : Bool) → s ≡ Nothing → f ≡ answer l h n s (candidates_at l h n p) → b ≡ is_hit f → b ≡ has l h n p
+has_name l h n s p f b is ef eb = eb ∙ ap is_hit ef ∙ ap (λ t. is_hit (answer l h n t (candidates_at l h n p))) is ∙ nothing_skipped l h n (candidates_at l h n p)

@@ -3,7 +3,7 @@ use Rattle.std.proofs.Common.{◌≡◌, ℕ, zero, suc, ◌+◌, ◌<◌, ◌�
 use Rattle.std.specs.Prelude.{Some, None}
 use Rattle.std.specs.declared.option.Option.{Option}
 use Rattle.std.specs.List.{count_by, flat_map}
-use Rattle.std.proofs.lemmas.List.Folds.{length-flat_map-take}
+use Rattle.std.proofs.lemmas.List.Recursion.{is_count_by}
 use Rattle.abc_base.specs.declared.names.HostClass.TheVariants as hosts
 use Rattle.abc_heirs.specs.Heirs.{heritage}
 use Rattle.abc_heirs.proofs.Laid.{heritage_none, heritage_some}
@@ -21,20 +21,18 @@ use Rattle.abc_lookup.specs.Slots.{has_slot, slot_count, slot_of}
 use Rattle.abc_lookup.proofs.Along.{bases_fall}
 
 -- a count of the traits that have slots
-one_slot : (l : LinkedFile) (b : TraitBody) → cond (has_slot b) 1 0 ≡ length (slots_in l b)
-one_slot l (bodies.Slot id ty value constant) = refl
-one_slot l (bodies.Class id k) = refl
-one_slot l (bodies.Method d m) = refl
-one_slot l (bodies.Getter d m) = refl
-one_slot l (bodies.Setter d m) = refl
-one_slot l (bodies.Function id m) = refl
+one_more : (l : LinkedFile) (b : TraitBody) (n : ℕ) → length (slots_in l b) + n ≡ cond (has_slot b) (1 + n) n
+one_more l (bodies.Slot id ty value constant) n = refl
+one_more l (bodies.Class id k) n = refl
+one_more l (bodies.Method d m) n = omega arith
+one_more l (bodies.Getter d m) n = omega arith
+one_more l (bodies.Setter d m) n = omega arith
+one_more l (bodies.Function id m) n = omega arith
 
-pub slots_counted : (l : LinkedFile) (ts : List TraitInfo) → count_by (λ (t : TraitInfo). has_slot t.body) ts ≡ slot_count l ts
-slots_counted l [] = refl
-slots_counted l (t ∷ ts) =
-    ap (λ n. cond (has_slot t.body) 1 0 + n) (slots_counted l ts)
-    ∙ ap (λ n. n + slot_count l ts) (one_slot l t.body)
-    ∙ sym (length-append (slots_in l t.body) (flat_map (λ (u : TraitInfo). slots_in l u.body) ts))
+pub slots_counted : (l : LinkedFile) (ts : List TraitInfo) → slot_count l ts ≡ count_by (λ (t : TraitInfo). has_slot t.body) ts
+slots_counted l ts =
+    is_count_by (slot_count l) (λ (t : TraitInfo). has_slot t.body) refl
+    (λ t us. length-append (slots_in l t.body) (flat_map (λ (u : TraitInfo). slots_in l u.body) us) ∙ one_more l t.body (slot_count l us)) ts
 
 -- the slots of a table are own slots
 own_count : (l : LinkedFile) (p : Part) → slot_count l (traits_of l.file p) ≤ length (own_slots l p)

@@ -1,30 +1,35 @@
 -- Asking the traits of a text finds what asking all traits does.
-use Rattle.std.proofs.Common.{◌≡◌, ℕ, zero, suc, ◌+◌, ◌<◌, Bool, true, false, ◌&&◌, ◌||◌, List, [], ◌∷◌, ◌++◌, length, map, cond, refl, sym, ap, ◌∙◌, arith, get_or, take, drop, add-one, drop-cons}
+use Rattle.std.proofs.Common.{◌≡◌, ℕ, zero, suc, ◌+◌, ◌<◌, Bool, true, false, not, ne_eqb, ◌&&◌, ◌||◌, List, [], ◌∷◌, ◌++◌, length, map, cond, refl, sym, ap, ◌∙◌, arith, get_or, take, drop, add-one, drop-cons}
 use Rattle.std.proofs.lemmas.List.{length-append, length-map}
 use Rattle.std.proofs.lemmas.List.Elements.{filter-append}
-use Rattle.std.specs.Prelude.{Some, None, slice_get}
+use Rattle.std.specs.Prelude.{Some, None, codes, slice_get}
 use Rattle.std.specs.List.{filter, flat_map, list_any}
 use Rattle.std.specs.Str.{bytes_eq}
+use Rattle.abc_base.specs.declared.names.HostClass.TheVariants as hosts
 use Rattle.abc_heap.specs.Heap.{Heap}
 use Rattle.abc_index.specs.Groups.{places_from, places_of, some_places}
 use Rattle.abc_names.specs.Pool.{name, qname, text}
 use Rattle.abc_names.specs.declared.named.DefiniteName.{DefiniteName}
 use Rattle.abc_program.specs.Linked.{LinkedFile, base}
-use Rattle.abc_program.specs.Slots.{slots_in}
+use Rattle.abc_program.specs.Numbering.{part_at}
+use Rattle.abc_program.specs.Slots.{handler_at, slots_in, traits_of}
+use Rattle.abc_program.specs.declared.part.Part.{Part}
+use Rattle.abc_program.specs.declared.part.Part.TheVariants as parts
 use Rattle.abc_program.specs.Traits.{own_table_of, own_traits, trait_texts}
 use Rattle.abc_search.specs.Candidates.{OfTrait, answer, found_as, text_in}
 use Rattle.abc_search.specs.Results.{or_next, passes_over}
 use Rattle.abc_search.specs.Spaces.{holds, holds_protected, is_protected}
-use Rattle.abc_search.specs.Traits.{Trait, members_in, own, slots_under, trait_named, traits_from, traits_named}
+use Rattle.abc_search.specs.Traits.{Trait, caught_trait, members_in, own, own_traits_of, slots_under, trait_named, traits_from, traits_named}
 use Rattle.abc_search.specs.declared.found.Found.{Found}
 use Rattle.abc_search.specs.declared.found.Found.TheVariants.{WrongSide, Missing}
 use Rattle.abc_search.specs.declared.found.Skip.{Skip}
 use Rattle.abc_search.specs.declared.name.Name.{Name}
 use Rattle.abc_search.specs.declared.traits.Declared.{Declared}
 use Rattle.abc_search.specs.declared.traits.Member.{Member}
+use Rattle.abc_search.specs.declared.traits.Member.TheVariants as members
 use Rattle.abc_search.specs.declared.traits.TraitSpace.TheVariants as spaces
 use Rattle.abc_search.proofs.Joins.{one, answer_none, answer_more, or_assoc, or_missing}
-use Rattle.abc_lookup.specs.Slots.{listed, own_at, slot_count, trait_at}
+use Rattle.abc_lookup.specs.Slots.{listed, own_at, slot_count, slot_of, trait_at}
 use Rattle.abc_lookup.specs.Steps.{fits_held, given, gives, member_found, tried, with_text}
 use Rattle.abc_tables.specs.declared.traits.TraitInfo.{TraitInfo}
 
@@ -157,6 +162,12 @@ at_place l slot (u ∷ ts) (suc p) t h e =
     let z : slot + length (slots_in l u.body) + slot_count l (take p ts) ≡ slot + slot_count l (take (suc p) (u ∷ ts)) = omega (arith, length-append (slots_in l u.body) (flat_map (λ (v : TraitInfo). slots_in l v.body) (take p ts))) in
     at_place l (slot + length (slots_in l u.body)) ts p t (omega arith) e ∙ ap (λ k. traits_named l (qname (name l.file t.name)) (members_in k t.body)) z
 
+pub place_is : (l : LinkedFile) (x p : ℕ) (ts : List TraitInfo) (t : TraitInfo) (d : DefiniteName) → ts ≡ own_table_of l x → p < length (own_table_of l x) → t ≡ get_or ts p t → d ≡ qname (name l.file t.name)
+    → own_at l x p ≡ traits_named l d (members_in (slot_of l x p) t.body)
+place_is l x p ts t d is h e ed =
+    at_place l (slots_under l (base l x)) (own_table_of l x) p t h (sym (e ∙ ap (λ (us : List TraitInfo). get_or us p t) is))
+    ∙ ap (λ c. traits_named l c (members_in (slot_of l x p) t.body)) (sym ed)
+
 -- a trait whose namespace doesn't fit, one that fits, and none
 pub unfit : (l : LinkedFile) (n : Name) (s : Skip) (x : ℕ) (held : Bool) (d : DefiniteName) (ms : List Member) → fits_held l n x held (spaces.Pool d.ns) ≡ false → Missing ≡ gives l n s x held (traits_named l d ms)
 unfit l n s x held d [] e = refl
@@ -168,6 +179,55 @@ fit l n s x held d m ms e is =
 
 pub unlisted : (l : LinkedFile) (n : Name) (s : Skip) (x : ℕ) (held : Bool) (d : DefiniteName) (ms : List Member) → listed None ≡ ms → Missing ≡ gives l n s x held (traits_named l d ms)
 unlisted l n s x held d ms is = ap (λ us. gives l n s x held (traits_named l d us)) is
+
+-- ---- one trait of a text
+
+pub named_hit : (l : LinkedFile) (n : Name) (s : Skip) (x : ℕ) (held : Bool) (t named : List ℕ) (d : Declared) → bytes_eq t named ≡ true → tried l n s x held d ≡ gives l n s x held (with_text t (record { text = named; declared = d } ∷ []))
+named_hit l n s x held t named d e = sym (or_missing (tried l n s x held d)) ∙ ap (λ b. gives l n s x held (cond b (record { text = named; declared = d } ∷ []) [])) (sym e)
+
+pub not_false : (b : Bool) → not b ≡ false → b ≡ true
+not_false true e = refl
+not_false false e = cc
+
+-- ---- the layouts without a table
+
+pub prototype_given : (l : LinkedFile) (t : List ℕ) (n : Name) (s : Skip) (x : ℕ) (held : Bool) (slot : ℕ) (f : Found) → part_at l.parts x ≡ parts.Host hosts.Class → slot ≡ slots_under l (base l x)
+    → f ≡ gives l n s x held (with_text t (record { text = codes "prototype"; declared = record { space = spaces.Public; member = members.Slot slot true } } ∷ [])) → f ≡ given l t n s x held
+unfolding given
+prototype_given l t n s x held slot f part is e =
+    e
+    ∙ ap (λ k. gives l n s x held (with_text t (own_traits_of l k (parts.Host hosts.Class)))) is
+    ∙ ap (λ p. gives l n s x held (with_text t (own_traits_of l (slots_under l (base l x)) p))) (sym part)
+
+pub caught_none : (l : LinkedFile) (t : List ℕ) (n : Name) (s : Skip) (x : ℕ) (held : Bool) (b e var : ℕ) → part_at l.parts x ≡ parts.Catch b e → var ≡ (handler_at l.file b e).var_name → var ≡ 0 → Missing ≡ given l t n s x held
+unfolding given
+caught_none l t n s x held b e var part is zero =
+    ap (λ k. gives l n s x held (with_text t (caught_trait l (slots_under l (base l x)) k))) (sym zero ∙ is)
+    ∙ ap (λ p. gives l n s x held (with_text t (own_traits_of l (slots_under l (base l x)) p))) (sym part)
+
+pub caught_given : (l : LinkedFile) (t : List ℕ) (n : Name) (s : Skip) (x : ℕ) (held : Bool) (b e var slot : ℕ) (d : DefiniteName) (named : List ℕ) (f : Found)
+    → part_at l.parts x ≡ parts.Catch b e → var ≡ (handler_at l.file b e).var_name → (var ≡ 0 → ⊥) → slot ≡ slots_under l (base l x) → d ≡ qname (name l.file var) → named ≡ text l.file d.string
+    → f ≡ gives l n s x held (with_text t (record { text = named; declared = record { space = spaces.Pool d.ns; member = members.Slot slot false } } ∷ [])) → f ≡ given l t n s x held
+unfolding given
+caught_given l t n s x held b e var slot d named f part is some is_slot is_name is_text ef =
+    ef
+    ∙ ap (λ u. gives l n s x held (with_text t (record { text = u; declared = record { space = spaces.Pool d.ns; member = members.Slot slot false } } ∷ []))) is_text
+    ∙ ap (λ c. gives l n s x held (with_text t (trait_named l c (members.Slot slot false) ∷ []))) is_name
+    ∙ ap (λ k. gives l n s x held (with_text t (trait_named l (qname (name l.file var)) (members.Slot k false) ∷ []))) is_slot
+    ∙ ap (λ q. gives l n s x held (with_text t (cond q [] (trait_named l (qname (name l.file var)) (members.Slot (slots_under l (base l x)) false) ∷ [])))) (sym (ne_eqb var 0 some))
+    ∙ ap (λ k. gives l n s x held (with_text t (caught_trait l (slots_under l (base l x)) k))) is
+    ∙ ap (λ p. gives l n s x held (with_text t (own_traits_of l (slots_under l (base l x)) p))) (sym part)
+
+-- those with one
+is_table : (l : LinkedFile) (slot : ℕ) (p : Part) → (p ≡ parts.Host hosts.Class → ⊥) → ((b e : ℕ) → p ≡ parts.Catch b e → ⊥) → own_traits_of l slot p ≡ traits_from l slot (traits_of l.file p)
+is_table l slot (parts.Host hosts.Class) no_class no_catch = absurd (no_class refl)
+is_table l slot (parts.Catch b e) no_class no_catch = absurd (no_catch b e refl)
+is_table l slot p no_class no_catch = refl
+
+pub table_given : (l : LinkedFile) (t : List ℕ) (n : Name) (s : Skip) (x : ℕ) (held : Bool) (f : Found) → (part_at l.parts x ≡ parts.Host hosts.Class → ⊥) → ((b e : ℕ) → part_at l.parts x ≡ parts.Catch b e → ⊥)
+    → f ≡ gives l n s x held (with_text t (traits_from l (slots_under l (base l x)) (own_table_of l x))) → f ≡ given l t n s x held
+unfolding given
+table_given l t n s x held f no_class no_catch e = e ∙ ap (λ us. gives l n s x held (with_text t us)) (sym (is_table l (slots_under l (base l x)) (part_at l.parts x) no_class no_catch))
 
 -- ---- the loop over places
 

@@ -1,4 +1,4 @@
-ghost use Rattle.std.specs.Prelude.{◌≡◌, ◌<◌, ◌||◌, ◌∷◌, [], ℕ, Some, get_or, length};
+ghost use Rattle.std.specs.Prelude.{◌≡◌, ◌<◌, ◌^◌, ◌||◌, ◌∷◌, [], ℕ, Some, get_or, length};
 ghost use Rattle.std.specs.List.{flat_map, list_any};
 ghost use Rattle.abc_base.specs.declared.names.HostClass.TheVariants as hosts;
 ghost use Rattle.abc_graph.specs.Ways.{before, way};

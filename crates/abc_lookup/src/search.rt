@@ -1,8 +1,10 @@
-ghost use Rattle.std.specs.Prelude.{◌≡◌};
+ghost use Rattle.std.specs.Prelude.{◌≡◌, false, get_or};
+ghost use Rattle.abc_lookup.specs.Steps.{IsPlace, place_in};
 ghost use Rattle.abc_heap.specs.Texts.{IsText};
 ghost use Rattle.abc_objects.specs.Stands.{AreEntries, IsScope, StandsOver};
 ghost use Rattle.abc_objects.specs.Values.{Exists};
 ghost use Rattle.abc_program.specs.Linked.{IsLayout};
+ghost use Rattle.abc_search.specs.Scopes.{scope_named};
 ghost use Rattle.abc_search.specs.Searches.{declared_found, found_in_scopes, found_on};
 
 use crate::elements::element_number;
@@ -68,6 +70,38 @@ pub fn find_on(l: &Linked, a: &Arena, holder: Value, name: &Name, want: Want) ->
     query.find_on(holder)
 }
 
+/// Whether a script is told as started.
+#[tactic(auto, using(crate::proofs::Past::past_end))]
+fn is_started(started: &Table<bool>, script: u32) -> bool
+    ensures { result ≡ get_or started.now script false }
+{
+    match started.fetch(script as usize) {
+        Some(is_started) => is_started,
+        None => false,
+    }
+}
+
+/// What is found where a place has the name.
+fn place_found(l: &Linked, a: &Arena, started: &Table<bool>, place: Option<Place>) -> ScopeFound
+    requires over { StandsOver l.now a.now }
+    requires place { IsPlace l.now place }
+    ensures { result ≡ scope_named a.now started.now (place_in place) }
+{
+    let _file = l;
+    match place {
+        Some(Place::InScope(entry)) => ScopeFound::Object(entry.object),
+        Some(Place::InScript(script)) => {
+            if is_started(started, script) {
+                ScopeFound::Object(a.global(script))
+            } else {
+                ScopeFound::Start(script)
+            }
+        }
+        Some(Place::InHost) => ScopeFound::Object(a.host_object()),
+        None => ScopeFound::Missing,
+    }
+}
+
 /// The search for a name in local scopes from the top down, in saved scopes down, on the global objects of the scripts in
 /// order, and on the host object. It answers `Start` where a script has the name that `started` does not tell as started,
 /// and `Missing` where no place has the name.
@@ -95,13 +129,5 @@ pub fn find_in_scopes(
         public: holds_public(l, name.spaces),
         element: element_number(text),
     };
-    match query.find_place(scopes, saved) {
-        Some(Place::InScope(entry)) => ScopeFound::Object(entry.object),
-        Some(Place::InScript(script)) => match started.fetch(script as usize) {
-            Some(true) => ScopeFound::Object(a.global(script)),
-            _ => ScopeFound::Start(script),
-        },
-        Some(Place::InHost) => ScopeFound::Object(a.host_object()),
-        None => ScopeFound::Missing,
-    }
+    place_found(l, a, started, query.find_place(scopes, saved))
 }

@@ -1,11 +1,11 @@
-use Rattle.std.proofs.Common.{◌∙◌, sym, ap, length}
+use Rattle.std.proofs.Common.{◌≡◌, ◌∙◌, sym, ap, length}
 use Rattle.abc_graph.specs.Ways.{way}
 use Rattle.abc_graph.proofs.Walks.{step_in}
 use Rattle.abc_program.specs.Linked.{base}
 use Rattle.abc_search.specs.Results.{or_next}
 use Rattle.abc_search.proofs.Joins.{hit_first, or_missing}
 use Rattle.abc_lookup.specs.Steps.{along, layout_number}
-use Rattle.abc_lookup.proofs.Along.{along_end, along_next, bases_fall, number_back, walk_in}
+use Rattle.abc_lookup.proofs.Along.{along_end, along_next, bases_fall, less_left, number_back, walk_in}
 use Rattle.abc_lookup.proofs.query.Query.find_from.Goals as goal
 
 pub holds_up_to-held-requires : goal.holds_up_to-held-requires
@@ -27,6 +27,11 @@ loop-at-preserved c =
           ap (λ o. or_next c.or-so_far.result (along q.l.now q.text.now q.name q.skip c.holds_up_to-held.result (way (base q.l.now) o))) up
           ∙ along_next q.l.now q.text.now q.name q.skip c.loop-at.held c.holds_up_to-held.result c.in-Some.x.0 (layout_number c.loop-at.at) c.loop-at.so_far c.find_in_layout.result c.or-so_far.result _ c.linked_law.ensures (ap layout_number c.in-Some.is) c.loop-at.invariant.same c.holds_up_to-held.ensures c.find_in_layout.ensures c.or-so_far.ensures;
     }
+
+pub loop-at-smaller : goal.loop-at-smaller
+loop-at-smaller c =
+    let q = c.args.self.now in
+    less_left (base q.l.now) (bases_fall q.l.now c.linked_law.ensures) c.in-Some.x.0 (layout_number c.loop-at.at) (layout_number c.base-at.result) (ap layout_number c.in-Some.is) (ap layout_number c.base-at.ensures ∙ number_back (base q.l.now c.in-Some.x.0))
 
 pub returns-then-is_hit : goal.returns-then-is_hit
 returns-then-is_hit c =

@@ -5,7 +5,7 @@ use Rattle.abc_graph.proofs.Walks.{step_in}
 use Rattle.abc_program.specs.Linked.{base}
 use Rattle.abc_search.specs.Spaces.{holds_protected}
 use Rattle.abc_lookup.specs.Steps.{layout_number}
-use Rattle.abc_lookup.proofs.Along.{bases_fall, before_end, before_here, before_more, number_back, walk_in}
+use Rattle.abc_lookup.proofs.Along.{bases_fall, before_end, before_here, before_more, less_left, number_back, walk_in}
 use Rattle.abc_lookup.proofs.query.Query.holds_below.Goals as goal
 
 pub holds_protected-requires : goal.holds_protected-requires
@@ -42,6 +42,11 @@ loop-at-preserved c =
           ∙ ap (λ o. list_any (holds_protected q.l.now q.name.spaces) (before c.args.from.0 (way (base q.l.now) (layout_number o)))) (sym c.in-Some.is)
           ∙ c.loop-at.invariant.same;
     }
+
+pub loop-at-smaller : goal.loop-at-smaller
+loop-at-smaller c =
+    let q = c.args.self.now in
+    less_left (base q.l.now) (bases_fall q.l.now c.linked_law.ensures) c.in-Some.x.0 (layout_number c.loop-at.at) (layout_number c.base-at.result) (ap layout_number c.in-Some.is) (ap layout_number c.base-at.ensures ∙ number_back (base q.l.now c.in-Some.x.0))
 
 pub returns : goal.returns
 returns c =
