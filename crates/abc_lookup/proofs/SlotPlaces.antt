@@ -67,3 +67,9 @@ few_before l f few x p lt =
     let a = own_count l (part_at l.parts x) in
     let b = take_count l (own_table_of l x) p in
     omega arith
+
+-- where a slot stands
+pub slot_is : (l : LinkedFile) (x p under before : ℕ) (ts : List TraitInfo) → ts ≡ own_table_of l x → under ≡ slots_under l (base l x) → before ≡ count_by (λ (t : TraitInfo). has_slot t.body) (take p ts) → under + before ≡ slot_of l x p
+slot_is l x p under before ts is eu eb =
+    ap (λ n. n + before) eu
+    ∙ ap (λ n. slots_under l (base l x) + n) (eb ∙ ap (λ (us : List TraitInfo). count_by (λ (t : TraitInfo). has_slot t.body) (take p us)) is ∙ sym (slots_counted l (take p (own_table_of l x))))

@@ -5,6 +5,7 @@ use Rattle.std.proofs.lemmas.List.Elements.{filter-append}
 use Rattle.std.specs.Prelude.{Some, None, codes, slice_get}
 use Rattle.std.specs.List.{filter, flat_map, list_any}
 use Rattle.std.specs.Str.{bytes_eq}
+use Rattle.abc_base.specs.declared.names.HostClass.{HostClass}
 use Rattle.abc_base.specs.declared.names.HostClass.TheVariants as hosts
 use Rattle.abc_heap.specs.Heap.{Heap}
 use Rattle.abc_index.specs.Groups.{places_from, places_of, some_places}
@@ -201,8 +202,8 @@ prototype_given l t n s x held slot f part is e =
 
 pub caught_none : (l : LinkedFile) (t : List ℕ) (n : Name) (s : Skip) (x : ℕ) (held : Bool) (b e var : ℕ) → part_at l.parts x ≡ parts.Catch b e → var ≡ (handler_at l.file b e).var_name → var ≡ 0 → Missing ≡ given l t n s x held
 unfolding given
-caught_none l t n s x held b e var part is zero =
-    ap (λ k. gives l n s x held (with_text t (caught_trait l (slots_under l (base l x)) k))) (sym zero ∙ is)
+caught_none l t n s x held b e var part is none =
+    ap (λ k. gives l n s x held (with_text t (caught_trait l (slots_under l (base l x)) k))) (sym none ∙ is)
     ∙ ap (λ p. gives l n s x held (with_text t (own_traits_of l (slots_under l (base l x)) p))) (sym part)
 
 pub caught_given : (l : LinkedFile) (t : List ℕ) (n : Name) (s : Skip) (x : ℕ) (held : Bool) (b e var slot : ℕ) (d : DefiniteName) (named : List ℕ) (f : Found)
@@ -228,6 +229,10 @@ pub table_given : (l : LinkedFile) (t : List ℕ) (n : Name) (s : Skip) (x : ℕ
     → f ≡ gives l n s x held (with_text t (traits_from l (slots_under l (base l x)) (own_table_of l x))) → f ≡ given l t n s x held
 unfolding given
 table_given l t n s x held f no_class no_catch e = e ∙ ap (λ us. gives l n s x held (with_text t us)) (sym (is_table l (slots_under l (base l x)) (part_at l.parts x) no_class no_catch))
+
+pub host_table : (l : LinkedFile) (t : List ℕ) (n : Name) (s : Skip) (x : ℕ) (held : Bool) (c : HostClass) (f : Found) → part_at l.parts x ≡ parts.Host c → (c ≡ hosts.Class → ⊥)
+    → f ≡ gives l n s x held (with_text t (traits_from l (slots_under l (base l x)) (own_table_of l x))) → f ≡ given l t n s x held
+host_table l t n s x held c f is other e = table_given l t n s x held f (λ q. let r : parts.Host c ≡ parts.Host hosts.Class = sym is ∙ q in let k : c ≡ hosts.Class = cc in other k) (λ b h q. let r : parts.Host c ≡ parts.Catch b h = sym is ∙ q in cc) e
 
 -- ---- the loop over places
 

@@ -113,12 +113,13 @@ impl Query<'_> {
         requires part { part_at self.now.l.now.parts x.0 ≡ parts.Catch body exception }
         ensures { result ≡ given self.now.l.now self.now.text.now self.now.name self.now.skip x.0 held }
     {
-        let index = caught_name(self.l.abc(), body, exception);
+        let abc = self.l.abc();
+        let index = caught_name(abc, body, exception);
         if index == 0 {
             return Found::Missing;
         }
         let slot = slots_under(self.l, x) as u32;
-        let name = qname_at(self.l.abc(), index);
+        let name = qname_at(abc, index);
         let declared = Declared {
             space: TraitSpace::Pool(name.ns),
             member: Member::Slot {
@@ -126,7 +127,7 @@ impl Query<'_> {
                 constant: false,
             },
         };
-        self.try_named(x, held, text_at(self.l.abc(), name.string), declared)
+        self.try_named(x, held, text_at(abc, name.string), declared)
     }
 
     /// What the trait at a place of a layout's table gives, which has the text.
@@ -173,6 +174,19 @@ impl Query<'_> {
         }
     }
 
+    /// What the traits of a host class's instances give: only class objects have one.
+    fn find_in_host_class(&self, x: LayoutId, held: bool, class: HostClass) -> Found
+        requires layout { IsLayout self.now.l.now x }
+        requires few { slots_below self.now.l.now (base self.now.l.now x.0) < 2 ^ 32 }
+        requires part { part_at self.now.l.now.parts x.0 ≡ parts.Host class }
+        ensures { result ≡ given self.now.l.now self.now.text.now self.now.name self.now.skip x.0 held }
+    {
+        match class {
+            HostClass::Class => self.find_prototype(x, held),
+            _ => self.find_in_table(x, held),
+        }
+    }
+
     /// What the traits of a layout give.
     fn find_in_layout(&self, x: LayoutId, held: bool) -> Found
         requires { IsLayout self.now.l.now x }
@@ -181,7 +195,7 @@ impl Query<'_> {
         self.l.linked_law();
         self.l.slots_law();
         match self.l.part_of(x) {
-            Part::Host(HostClass::Class) => self.find_prototype(x, held),
+            Part::Host(class) => self.find_in_host_class(x, held, class),
             Part::Catch(body, exception) => self.find_caught(x, held, body, exception),
             _ => self.find_in_table(x, held),
         }
