@@ -20,6 +20,8 @@ mod linking;
 #[cfg(test)]
 mod numbers;
 #[cfg(test)]
+mod searches;
+#[cfg(test)]
 mod streams;
 #[cfg(test)]
 mod texts;
