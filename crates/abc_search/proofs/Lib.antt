@@ -4,3 +4,4 @@ mod There
 mod Examples
 pub mod Joins
 mod Objectless
+mod SlotsFound

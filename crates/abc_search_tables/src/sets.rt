@@ -1,7 +1,7 @@
-ghost use Rattle.std.specs.Prelude.{◌≡◌, ◌++◌, ◌<◌, ◌^◌, [], ℕ, length, map, take, IfOk, OnOk};
+ghost use Rattle.std.specs.Prelude.{◌≡◌, ◌++◌, ◌-◌, ◌<◌, ◌^◌, [], ℕ, is_some, length, map, take, IfOk, OnOk};
 ghost use Rattle.std.specs.List.{list_any};
 ghost use Rattle.abc_index.specs.Index.{first};
-ghost use Rattle.abc_names.specs.Pool.{is_public, same_space, set};
+ghost use Rattle.abc_names.specs.Pool.{is_public, same_space, set as set_of};
 ghost use Rattle.abc_search_tables.specs.SetKeys.{HasSets, are_public, set_key as key_of, set_keys, set_keys_eq};
 ghost use Rattle.abc_search_tables.specs.declared.sets.SetKey.{SetKey as SetKeyOf};
 ghost use Rattle.indexmap.specs.IndexMap.{get};
@@ -46,6 +46,13 @@ fn first_places(alloc: Global, keys: &[SetKey]) -> Result<IndexMap<SetKey, u32>,
     ensures { IfOk result (λ m. (k : SetKeyOf) → get set_keys_eq m k ≡ first (set_keys_eq k) keys.now) }
 {
     index_of(alloc, keys)
+}
+
+/// Whether a key is found.
+fn has_key(places: &IndexMap<SetKey, u32>, key: SetKey) -> bool
+    ensures { result ≡ is_some (get set_keys_eq places.now key) }
+{
+    places.contains_key(&key)
 }
 
 /// Adds the namespaces of a set.
@@ -107,16 +114,16 @@ impl SetSpaces {
     /// Whether a set has a namespace that is equal to one of the pool.
     pub fn holds(&self, names: &Names<'_>, set: u32, space: u32) -> bool
         requires { HasSets names.now.abc.now names.now.tables.now.numbers self.now }
-        ensures { result ≡ list_any (same_space names.now.abc.now space) (set names.now.abc.now set) }
+        ensures { result ≡ list_any (same_space names.now.abc.now space) (set_of names.now.abc.now set) }
     {
         names.keys_tell_names();
-        self.places.contains_key(&set_key(names, set, space))
+        has_key(&self.places, set_key(names, set, space))
     }
 
     /// Whether a set has the public namespace.
     pub fn holds_public(&self, names: &Names<'_>, set: u32) -> bool
         requires { HasSets names.now.abc.now names.now.tables.now.numbers self.now }
-        ensures { result ≡ list_any (is_public names.now.abc.now) (set names.now.abc.now set) }
+        ensures { result ≡ list_any (is_public names.now.abc.now) (set_of names.now.abc.now set) }
     {
         let _names = names.abc;
         if set == 0 {
