@@ -1,6 +1,6 @@
 -- The places of a search in scopes.
-use Rattle.std.proofs.Common.{◌≡◌, ℕ, zero, suc, ◌+◌, ◌-◌, ◌<◌, ◌≤◌, Bool, true, false, List, [], ◌∷◌, ◌++◌, length, map, reverse, take, get_or, cond, refl, sym, ap, ◌∙◌, arith}
-use Rattle.std.specs.Prelude.{Some, None, slice_get}
+use Rattle.std.proofs.Common.{◌≡◌, ℕ, suc, ◌+◌, ◌-◌, ◌<◌, ◌≤◌, Bool, true, false, List, [], ◌∷◌, ◌++◌, length, map, reverse, take, get_or, cond, refl, ap, ◌∙◌, arith}
+use Rattle.std.specs.Prelude.{Some, None}
 use Rattle.std.specs.declared.option.Option.{Option}
 use Rattle.std.specs.List.{find, range_with_len}
 use Rattle.std.proofs.lemmas.List.{reverse-append, take_more}
@@ -13,7 +13,7 @@ use Rattle.abc_heap.specs.declared.records.What.{What}
 use Rattle.abc_heap.specs.declared.records.What.TheVariants as whats
 use Rattle.abc_program.specs.Linked.{LinkedFile}
 use Rattle.abc_search.specs.Candidates.{answer, own_things, things_along}
-use Rattle.abc_search.specs.Scopes.{InHost, InScope, InScript, Place, candidates_at, global_things, has, node_at, parent_at, places, saved_places, scope_number, scope_things}
+use Rattle.abc_search.specs.Scopes.{InHost, InScope, InScript, Place, candidates_at, global_things, has, node_at, parent_at, places, saved_places, scope_things}
 use Rattle.abc_search.specs.Results.{is_hit}
 use Rattle.abc_search.specs.declared.found.Found.{Found}
 use Rattle.abc_search.specs.declared.found.Found.TheVariants.{Missing}

@@ -7,7 +7,6 @@ use Rattle.std.proofs.lemmas.List.{get_or_past}
 use Rattle.abc_base.specs.declared.names.HostClass.{HostClass}
 use Rattle.abc_cells.specs.declared.values.ObjId.{ObjId}
 use Rattle.abc_cells.specs.declared.values.Value.{Value}
-use Rattle.abc_cells.specs.declared.values.Value.TheVariants as values
 use Rattle.abc_graph.specs.Ways.{IsBelow, IsFalling}
 use Rattle.abc_heap.specs.Heap.{Heap, Object, object_at, slots_of}
 use Rattle.abc_heap.specs.declared.records.ScopeId.{ScopeId}

@@ -3,7 +3,7 @@ use Rattle.std.proofs.Common.{◌≡◌, ℕ, zero, suc, ◌+◌, ◌<◌, Bool,
 use Rattle.std.proofs.lemmas.List.{length-append, length-map}
 use Rattle.std.proofs.lemmas.List.Elements.{filter-append}
 use Rattle.std.specs.Prelude.{Some, None, codes, slice_get}
-use Rattle.std.specs.List.{filter, flat_map, list_any}
+use Rattle.std.specs.List.{flat_map, list_any}
 use Rattle.std.specs.Str.{bytes_eq}
 use Rattle.abc_base.specs.declared.names.HostClass.{HostClass}
 use Rattle.abc_base.specs.declared.names.HostClass.TheVariants as hosts
@@ -17,12 +17,12 @@ use Rattle.abc_program.specs.Slots.{handler_at, slots_in, traits_of}
 use Rattle.abc_program.specs.declared.part.Part.{Part}
 use Rattle.abc_program.specs.declared.part.Part.TheVariants as parts
 use Rattle.abc_program.specs.Traits.{own_table_of, own_traits, trait_texts}
-use Rattle.abc_search.specs.Candidates.{OfTrait, answer, found_as, text_in}
-use Rattle.abc_search.specs.Results.{or_next, passes_over}
+use Rattle.abc_search.specs.Candidates.{OfTrait, answer, text_in}
+use Rattle.abc_search.specs.Results.{or_next}
 use Rattle.abc_search.specs.Spaces.{holds, holds_protected, is_protected}
 use Rattle.abc_search.specs.Traits.{Trait, caught_trait, members_in, own, own_traits_of, slots_under, trait_named, traits_from, traits_named}
 use Rattle.abc_search.specs.declared.found.Found.{Found}
-use Rattle.abc_search.specs.declared.found.Found.TheVariants.{WrongSide, Missing}
+use Rattle.abc_search.specs.declared.found.Found.TheVariants.{Missing}
 use Rattle.abc_search.specs.declared.found.Skip.{Skip}
 use Rattle.abc_search.specs.declared.name.Name.{Name}
 use Rattle.abc_search.specs.declared.traits.Declared.{Declared}

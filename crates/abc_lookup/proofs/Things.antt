@@ -1,6 +1,6 @@
 -- What an object has of its own.
 use Rattle.std.proofs.Common.{◌≡◌, ℕ, zero, suc, ◌+◌, ◌<◌, ◌≤◌, ◌⊎◌, inl, inr, Bool, true, false, List, [], ◌∷◌, ◌++◌, length, take, reverse, cond, nat_eq, eq-eqb, ne_eqb, get_or, refl, sym, ap, ◌∙◌, arith}
-use Rattle.std.specs.Prelude.{Some, None, slice_get, codes}
+use Rattle.std.specs.Prelude.{Some, None, slice_get}
 use Rattle.std.specs.declared.option.Option.{Option}
 use Rattle.std.specs.List.{flat_map}
 use Rattle.std.specs.Str.{bytes_eq}
@@ -13,11 +13,11 @@ use Rattle.abc_cells.specs.declared.values.Value.TheVariants as values
 use Rattle.abc_graph.specs.Ways.{IsFalling}
 use Rattle.abc_graph.proofs.Walks.{way_none, way_some}
 use Rattle.abc_heap.specs.Heap.{Heap, Object, obj_id, object_at, properties_of}
-use Rattle.abc_heap.specs.Properties.{filled, found as property_at_place, is_named, own_property, place_below, place_named, property_in_heap, the_value}
+use Rattle.abc_heap.specs.Properties.{filled, found as property_at_place, is_named, place_below, property_in_heap, the_value}
 use Rattle.abc_heap.specs.What.{is_array}
 use Rattle.abc_index.proofs.Numbering.{same_bytes}
 use Rattle.abc_program.specs.Linked.{LinkedFile}
-use Rattle.abc_search.specs.Candidates.{Candidate, OfElement, OfLength, OfProperty, answer, elements, elements_from, fits, own_things, properties, property_at, text_in, things_along, traits_on, where_public}
+use Rattle.abc_search.specs.Candidates.{Candidate, OfElement, OfLength, OfProperty, answer, elements, elements_from, own_things, properties, property_at, text_in, things_along, traits_on, where_public}
 use Rattle.abc_search.specs.ElementNames.{element_number, is_length, is_that, names_element}
 use Rattle.abc_search.specs.Objects.{delegate_at}
 use Rattle.abc_search.specs.Results.{or_next}

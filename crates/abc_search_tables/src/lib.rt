@@ -5,7 +5,9 @@
 mod scripts;
 mod sets;
 mod slots;
+mod tables;
 
 pub use scripts::ScriptTraits;
 pub use sets::SetSpaces;
 pub use slots::OwnSlots;
+pub use tables::SearchTables;

@@ -1,5 +1,3 @@
-use Rattle.std.proofs.Common.{◌≡◌, ◌∙◌, sym}
-use Rattle.abc_base.specs.declared.names.HostClass.TheVariants as hosts
 use Rattle.abc_lookup.proofs.TextFirst.{host_table}
 use Rattle.abc_lookup.proofs.query.Query.find_in_host_class.Goals as goal
 

@@ -1,4 +1,4 @@
-use Rattle.std.proofs.Common.{◌∙◌, ℕ, List, sym, ap, arith}
+use Rattle.std.proofs.Common.{◌∙◌, sym, ap, arith}
 use Rattle.abc_heap.specs.Heap.{elements_of}
 use Rattle.abc_search.specs.ElementNames.{element_number}
 use Rattle.abc_lookup.proofs.Things.{no_number, number_hit, number_past}
