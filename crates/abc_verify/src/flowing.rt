@@ -1,0 +1,77 @@
+use abc_base::{NoMemory, Table};
+use abc_flow::{Flow, Merged, Step};
+use abc_frames::{Frame, entry_of};
+use abc_kinds::join;
+use abc_link::Linked;
+use abc_merging::merge;
+use abc_program::Kind;
+use abc_tables::Instr;
+use abc_typing::{Catch, State, VerifyRule};
+use abc_visits::{broken_at, broken_early_at, step_at};
+use std::alloc::Global;
+
+/// A method with its body, and the places where walks begin.
+#[derive(Clone, Copy)]
+pub(crate) struct Flowing<'a> {
+    pub alloc: Global,
+    pub linked: &'a Linked,
+    pub frame: &'a Frame<'a>,
+    pub heads: &'a Table<bool>,
+}
+
+impl Flow for Flowing<'_> {
+    ghost use Rattle.abc_frames.specs.Frames.{routine_in};
+
+    ghost file = { λ f. f.linked.now };
+
+    ghost routine = { λ f. routine_in f.frame.now };
+
+    ghost heads = { λ f. f.heads.now };
+
+    fn alloc(&self) -> Global {
+        self.alloc
+    }
+
+    fn len(&self) -> usize {
+        self.frame.code.len()
+    }
+
+    fn instr(&self, place: u32) -> Option<&Instr> {
+        self.frame.code.find(place as usize)
+    }
+
+    fn handlers(&self) -> &[Catch] {
+        self.frame.handlers.as_slice()
+    }
+
+    fn is_head(&self, place: u32) -> bool {
+        match self.heads.fetch(place as usize) {
+            Some(is_head) => is_head,
+            None => false,
+        }
+    }
+
+    fn broken(&self, place: u32, state: &State, cover: &[Catch]) -> Option<VerifyRule> {
+        broken_at(self.linked, self.frame, place, state, cover)
+    }
+
+    fn broken_early(&self, place: u32, state: &State) -> Option<VerifyRule> {
+        broken_early_at(self.linked, self.frame, place, state)
+    }
+
+    fn step(&self, place: u32, state: &mut State) -> Result<Step, NoMemory> {
+        step_at(self.alloc, self.linked, self.frame, place, state)
+    }
+
+    fn entry(&self) -> Result<State, NoMemory> {
+        entry_of(self.alloc, self.frame)
+    }
+
+    fn join(&self, a: Kind, b: Kind) -> Kind {
+        join(self.linked, a, b)
+    }
+
+    fn merge(&self, old: &State, next: &State) -> Result<Merged, NoMemory> {
+        merge(self.alloc, self.linked, old, next)
+    }
+}

@@ -1,0 +1,4 @@
+pub mod Asking
+pub mod Loops
+pub mod Stepping
+pub mod Takes

@@ -1,0 +1,122 @@
+-- What a step leads to.
+use Rattle.std.proofs.Common.{◌≡◌, ◌≢◌, ℕ, suc, ◌+◌, List, [], ◌∷◌, ◌++◌, Some, None, cond, length, take, drop, map, refl, sym, ap, ◌∙◌, subst, arith, eq-eqb, eqb-true}
+use Rattle.std.specs.Prelude.{Bool, true, false, not, ◌&&◌, ltb, eqb, Option, slice_get}
+use Rattle.abc_flow.specs.Walking.{Steps, Wrote, WroteOne, WroteTwo, landing, leads_of, targets_at, targets_in}
+use Rattle.abc_flow.specs.declared.step.Step.{Step}
+use Rattle.abc_program.specs.Linked.{LinkedFile}
+use Rattle.abc_program.specs.declared.types.Kind.{Kind}
+use Rattle.abc_program.specs.declared.types.Kind.TheVariants as kinds
+use Rattle.abc_shapes.specs.Instructions.{local, opcode, second, targets}
+use Rattle.abc_shapes.specs.Rows.{Shape, row_at}
+use Rattle.abc_shapes.specs.declared.row.RowKind.TheVariants as rows
+use Rattle.abc_shapes.specs.declared.row.Leads.{Leads}
+use Rattle.abc_shapes.specs.declared.row.Leads.TheVariants.{Next, Branches, Jumps, Switches, Ends}
+use Rattle.abc_shapes.specs.declared.row.Locals.{Locals}
+use Rattle.abc_shapes.specs.declared.row.Locals.TheVariants.{Untouched, Reads, Sets, Walks}
+use Rattle.abc_tables.specs.declared.code.Instr.{Instr}
+use Rattle.abc_typing.specs.Effects.{Here, after, depth, fixed, goes_on, kind_at, kind_of, leads, locals_after, needs, next, scope_kind, scopes_after, taken}
+use Rattle.abc_typing.specs.Routines.{Routine}
+use Rattle.abc_typing.specs.Rules.{after_instr, after_row, has_locals}
+use Rattle.abc_typing.specs.Standing.{Stands}
+use Rattle.abc_typing.specs.Typing.{IsFine}
+use Rattle.abc_typing.specs.declared.rule.VerifyRule.TheVariants as rules
+use Rattle.abc_typing.specs.declared.state.Scope.{Scope}
+use Rattle.abc_typing.specs.declared.state.State.{State}
+use Rattle.abc_typing.proofs.Fine.{stands}
+use Rattle.abc_shapes.specs.declared.row.Scoping.{Scoping}
+use Rattle.abc_shapes.specs.declared.row.Scoping.TheVariants.{Stays, Pushes, Pops}
+use Rattle.abc_visits.specs.Visits.{change_of, changed, given_kinds, leads_away, leads_on, scoped, step_by, written_by}
+use Rattle.abc_visits.specs.declared.changes.Change.{Change}
+use Rattle.abc_visits.specs.declared.changes.Given.{Given}
+
+-- ---- a place whose rules a state keeps has an instruction, and that a row
+
+pub no_instr : (p : LinkedFile) (m : Routine) (i : ℕ) (s : State) → IsFine p m i s → slice_get m.code i ≡ None → ⊥
+no_instr p m i s fine e = let at = (stands p m i s fine).at in cc
+
+pub no_row : (p : LinkedFile) (m : Routine) (i : ℕ) (s : State) (instr : Instr) → IsFine p m i s → slice_get m.code i ≡ Some instr → row_at (opcode instr) ≡ None → ⊥
+no_row p m i s instr fine e f =
+    let z = stands p m i s fine in
+    let same : z.instr ≡ instr = let at = z.at in cc in
+    let there : row_at (opcode instr) ≡ Some z.row = ap (λ (x : Instr). row_at (opcode x)) (sym same) ∙ z.is in
+    cc
+
+-- ---- the locals
+
+split : (a b : Bool) → (a && b) ≡ true → b ≡ true
+split true b e = e
+split false b e = absurd cc
+
+apart_by : (x y count : ℕ) → (ltb x count && (ltb y count && not (eqb x y))) ≡ true → x ≢ y
+apart_by x y count e = λ q.
+    let z : not (eqb x y) ≡ true = split (ltb y count) (not (eqb x y)) (split (ltb x count) (ltb y count && not (eqb x y)) e) in
+    let w : eqb x y ≡ true = eq-eqb x y q in
+    let v : not true ≡ true = ap not (sym w) ∙ z in
+    cc
+
+wrote : (h : Here) (s : State) (l : Locals) (count : ℕ) → has_locals l h.instr count ≡ true → Wrote (written_by (change_of h s l)) s.locals (locals_after h s l)
+wrote h s Untouched count e = refl
+wrote h s Reads count e = refl
+wrote h s (Sets source) count e = record { kind = kind_of h s source; is = refl }
+wrote h s Walks count e = record { apart = apart_by (local h.instr) (second h.instr) count e; first = fixed h.file rows.Object; second = kinds.Num; is = refl }
+
+-- the locals that a step keeps by its rules
+kept_locals : (h : Here) (s : State) → IsFine h.file h.method h.place s → slice_get h.method.code h.place ≡ Some h.instr → row_at (opcode h.instr) ≡ Some h.row → has_locals h.row.locals h.instr h.method.local_count ≡ true
+kept_locals h s fine e f =
+    let z = stands h.file h.method h.place s fine in
+    let same : z.instr ≡ h.instr = let at = z.at in cc in
+    let there : row_at (opcode h.instr) ≡ Some z.row = ap (λ (x : Instr). row_at (opcode x)) (sym same) ∙ z.is in
+    let row : z.row ≡ h.row = cc in
+    let kept : has_locals z.row.locals z.instr h.method.local_count ≡ true = z.kept rules.LocalIndex in
+    subst (λ (x : Instr). has_locals h.row.locals x h.method.local_count ≡ true) same (subst (λ (r : Shape). has_locals r.locals z.instr h.method.local_count ≡ true) row kept)
+
+-- ---- where it leads
+
+-- the places that follow, by the row
+leading : (h : Here) (l : Leads) (ts : List ℕ) → ts ≡ targets h.instr → leads h l ≡ cond (leads_on l) (suc h.place ∷ []) [] ++ cond (leads_away l) ts []
+leading h Next ts e = let z : h.place + 1 ≡ suc h.place = omega arith in ap (λ (n : ℕ). n ∷ []) z
+leading h Branches ts e = let z : h.place + 1 ≡ suc h.place = omega arith in ap (λ (n : ℕ). n ∷ targets h.instr) z ∙ ap (λ (us : List ℕ). suc h.place ∷ us) (sym e)
+leading h Jumps ts e = sym e
+leading h Switches ts e = sym e
+leading h Ends ts e = refl
+
+led : (h : Here) (s : State) (goes : Bool) (l : Leads) (ts : List ℕ) → ts ≡ targets h.instr
+    → cond goes (map (λ t. (t, next h s)) (leads h l)) [] ≡ map (landing (next h s)) (cond (goes && leads_on l) (suc h.place ∷ []) [] ++ cond (goes && leads_away l) ts [])
+led h s true l ts e = ap (map (landing (next h s))) (leading h l ts e)
+led h s false l ts e = refl
+
+after_is : (h : Here) (s : State) → slice_get h.method.code h.place ≡ Some h.instr → row_at (opcode h.instr) ≡ Some h.row → after_instr h.file h.method h.place s (slice_get h.method.code h.place) ≡ after h s
+after_is h s e f = ap (after_instr h.file h.method h.place s) e ∙ ap (after_row h.file h.method h.place h.instr s) f
+
+pub stepped : (h : Here) (s n : State) (w : Step) → IsFine h.file h.method h.place s → slice_get h.method.code h.place ≡ Some h.instr → row_at (opcode h.instr) ≡ Some h.row
+    → n ≡ next h s → w ≡ step_by (goes_on (needs h) (taken h s)) h.row.leads (written_by (change_of h s h.row.locals)) → Steps h.file h.method h.place s n w
+stepped h s n w fine e f is leads_is =
+    let goes = goes_on (needs h) (taken h s) in
+    let by = step_by goes h.row.leads (written_by (change_of h s h.row.locals)) in
+    let named : targets_at h.method h.place ≡ targets h.instr = ap targets_in e in
+    let whole : Steps h.file h.method h.place s (next h s) by = record {
+      after = after_is h s e f ∙ led h s goes h.row.leads (targets_at h.method h.place) named;
+      locals = wrote h s h.row.locals h.method.local_count (kept_locals h s fine e f);
+    } in
+    subst (λ (x : Step). Steps h.file h.method h.place s n x) (sym leads_is) (subst (λ (x : State). Steps h.file h.method h.place s x by) (sym is) whole)
+
+-- ---- the state
+
+locals_are : (h : Here) (s : State) (l : Locals) → changed (change_of h s l) s.locals ≡ locals_after h s l
+locals_are h s Untouched = refl
+locals_are h s Reads = refl
+locals_are h s (Sets source) = refl
+locals_are h s Walks = refl
+
+scopes_are : (h : Here) (s : State) (o : Scoping) → scoped o (scope_kind h.file (kind_at (taken h s) 0)) s.scopes ≡ scopes_after h s o
+scopes_are h s Stays = refl
+scopes_are h s (Pushes is_with) = refl
+scopes_are h s Pops = refl
+
+pub next_is : (h : Here) (s n : State) (g : Given) (d : ℕ) (k : Kind) (c : Change) → given_kinds g ≡ map (kind_of h s) h.row.gives → d ≡ depth h → k ≡ scope_kind h.file (kind_at (taken h s) 0) → c ≡ change_of h s h.row.locals
+    → n.stack ≡ given_kinds g ++ drop d s.stack → n.scopes ≡ scoped h.row.scoping k s.scopes → n.locals ≡ changed c s.locals → n ≡ next h s
+next_is h s n g d k c gives deep kind change a b e =
+    let stack : n.stack ≡ map (kind_of h s) h.row.gives ++ drop (depth h) s.stack = a ∙ ap (λ (ks : List Kind). ks ++ drop d s.stack) gives ∙ ap (λ (m : ℕ). map (kind_of h s) h.row.gives ++ drop m s.stack) deep in
+    let scopes : n.scopes ≡ scopes_after h s h.row.scoping = b ∙ ap (λ (x : Kind). scoped h.row.scoping x s.scopes) kind ∙ scopes_are h s h.row.scoping in
+    let locals : n.locals ≡ locals_after h s h.row.locals = e ∙ ap (λ (x : Change). changed x s.locals) change ∙ locals_are h s h.row.locals in
+    λ i. record { stack = stack i; scopes = scopes i; locals = locals i }

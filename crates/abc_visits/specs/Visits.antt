@@ -1,0 +1,80 @@
+-- An instruction at its place, as the code holds it.
+use Rattle.std.specs.Prelude.{ℕ, ◌-◌, List, [], ◌∷◌, ◌++◌, Bool, true, false, ◌&&◌, length, set, take}
+use Rattle.abc_program.specs.declared.types.Kind.{Kind}
+use Rattle.abc_program.specs.declared.types.Kind.TheVariants as kinds
+use Rattle.abc_shapes.specs.Instructions.{local, second}
+use Rattle.abc_shapes.specs.Table.{shape_of}
+use Rattle.abc_shapes.specs.declared.row.Leads.{Leads}
+use Rattle.abc_shapes.specs.declared.row.Leads.TheVariants.{Next, Branches, Jumps, Switches, Ends}
+use Rattle.abc_shapes.specs.declared.row.Locals.{Locals}
+use Rattle.abc_shapes.specs.declared.row.Locals.TheVariants.{Untouched, Reads, Sets, Walks}
+use Rattle.abc_shapes.specs.declared.row.Need.{Need}
+use Rattle.abc_shapes.specs.declared.row.Need.TheVariants.{Slotted}
+use Rattle.abc_shapes.specs.declared.row.RowKind.TheVariants as rows
+use Rattle.abc_shapes.specs.declared.row.Scoping.{Scoping}
+use Rattle.abc_shapes.specs.declared.row.Scoping.TheVariants.{Stays, Pushes, Pops}
+use Rattle.abc_flow.specs.declared.step.Step.{Step}
+use Rattle.abc_flow.specs.declared.step.Written.{Written}
+use Rattle.abc_flow.specs.declared.step.Written.TheVariants as writes
+use Rattle.abc_typing.specs.Effects.{Here, fixed, kind_of}
+use Rattle.abc_typing.specs.declared.state.Scope.{Scope}
+use Rattle.abc_typing.specs.declared.state.State.{State}
+use Rattle.abc_frames.specs.Frames.{routine_in}
+use Rattle.abc_visits.specs.declared.changes.Change.{Change}
+use Rattle.abc_visits.specs.declared.changes.Change.TheVariants as changes
+use Rattle.abc_visits.specs.declared.changes.Given.{Given}
+use Rattle.abc_visits.specs.declared.changes.Given.TheVariants as given
+use Rattle.abc_visits.specs.declared.visit.Visit.{Visit}
+
+abbrev pub here_in : Visit → Here
+here_in v = record { file = v.linked.now; method = routine_in v.frame.now; place = v.place; instr = v.instr.now; row = shape_of v.row }
+
+-- the value at a need that asks for a slot, or else one that stands below
+abbrev pub picked : Need → Kind → Kind → Kind
+picked Slotted here below = here
+picked need here below = below
+
+-- the kinds that are pushed, the top first
+abbrev pub given_kinds : Given → List Kind
+given_kinds given.Nothing = []
+given_kinds (given.One a) = a ∷ []
+given_kinds (given.Two a b) = a ∷ b ∷ []
+
+-- the scopes after a push or a pop
+abbrev pub scoped : Scoping → Kind → List Scope → List Scope
+scoped Stays kind scopes = scopes
+scoped (Pushes is_with) kind scopes = scopes ++ record { kind = kind; is_with = is_with } ∷ []
+scoped Pops kind scopes = take (length scopes - 1) scopes
+
+-- what the locals get
+abbrev pub change_of : Here → State → Locals → Change
+change_of h s Untouched = changes.Nothing
+change_of h s Reads = changes.Nothing
+change_of h s (Sets source) = changes.One (local h.instr) (kind_of h s source)
+change_of h s Walks = changes.Two (local h.instr) (fixed h.file rows.Object) (second h.instr) kinds.Num
+
+-- the locals after a change, and which were written
+abbrev pub changed : Change → List Kind → List Kind
+changed changes.Nothing locals = locals
+changed (changes.One j a) locals = set locals j a
+changed (changes.Two i a j b) locals = set (set locals i a) j b
+
+abbrev pub written_by : Change → Written
+written_by changes.Nothing = writes.Nothing
+written_by (changes.One j a) = writes.One j
+written_by (changes.Two i a j b) = writes.Two i j
+
+-- whether the next place follows, and whether the places that are named do
+abbrev pub leads_on : Leads → Bool
+leads_on Next = true
+leads_on Branches = true
+leads_on leads = false
+
+abbrev pub leads_away : Leads → Bool
+leads_away Branches = true
+leads_away Jumps = true
+leads_away Switches = true
+leads_away leads = false
+
+abbrev pub step_by : Bool → Leads → Written → Step
+step_by goes leads written = record { next = goes && leads_on leads; jumps = goes && leads_away leads; written = written }

@@ -1,0 +1,248 @@
+ghost use Rattle.std.specs.Prelude.{◌≡◌, ◌++◌, ◌+◌, ◌-◌, ◌&&◌, ◌||◌, filter, leb, ltb, length};
+ghost use Rattle.abc_shapes.specs.Instructions.{opcode};
+ghost use Rattle.abc_shapes.specs.Rows.{row_at};
+ghost use Rattle.abc_shapes.specs.Table.{sources};
+ghost use Rattle.abc_typing.specs.Effects.{covering, covers};
+ghost use Rattle.abc_typing.specs.Rules.{at_row, broken, broken_early, early_rules, first_broken, is_here, is_walked, keeps, late_rules, names_scope};
+ghost use Rattle.abc_typing.specs.declared.rule.VerifyRule.TheVariants as variants;
+ghost use Rattle.abc_frames.specs.Frames.{routine_in};
+ghost use Rattle.abc_visits.specs.Visits.{here_in};
+
+use crate::kinds::kind_at;
+use crate::tables::{are_handlers_below, is_covered};
+use crate::visit::Visit;
+use abc_frames::Frame;
+use abc_link::Linked;
+use abc_shapes::{Gives, Locals, Operand, Site, opcode_of, row_of, second_of};
+use abc_steps::{
+    has_good_form, has_good_locals, is_number_kind, layout_of_super, pops_well, pushes_well,
+};
+use abc_tables::Instr;
+use abc_typing::{Catch, State, VerifyRule};
+
+/// The rules before Merge.
+const EARLY: [VerifyRule; 8] = [
+    VerifyRule::PoolIndex,
+    VerifyRule::NameForm,
+    VerifyRule::StackUnder,
+    VerifyRule::StackOver,
+    VerifyRule::ScopeUnder,
+    VerifyRule::ScopeOver,
+    VerifyRule::LocalIndex,
+    VerifyRule::OffEnd,
+];
+
+/// All rules but Merge.
+const RULES: [VerifyRule; 16] = [
+    VerifyRule::PoolIndex,
+    VerifyRule::NameForm,
+    VerifyRule::StackUnder,
+    VerifyRule::StackOver,
+    VerifyRule::ScopeUnder,
+    VerifyRule::ScopeOver,
+    VerifyRule::LocalIndex,
+    VerifyRule::OffEnd,
+    VerifyRule::NotSpace,
+    VerifyRule::NotObject,
+    VerifyRule::SlotIndex,
+    VerifyRule::ScopeIndex,
+    VerifyRule::NotHere,
+    VerifyRule::NotIndex,
+    VerifyRule::Parameters,
+    VerifyRule::Flags,
+];
+
+/// Whether two counts are within a size, together.
+fn fits(kept: usize, more: usize, size: usize) -> bool
+    ensures { result ≡ leb (kept + more) size }
+{
+    more <= size && kept <= size - more
+}
+
+/// How many values are pushed.
+fn gives_count(gives: Gives) -> usize
+    ensures { result ≡ length (sources gives) }
+{
+    match gives {
+        Gives::Nothing => 0,
+        Gives::One(_) => 1,
+        Gives::Two(_, _) => 2,
+    }
+}
+
+impl Visit<'_> {
+    /// Whether the instruction may stand in the method.
+    fn stands_here(&self) -> bool
+        ensures { result ≡ is_here (routine_in self.now.frame.now) self.now.row.site }
+    {
+        match self.row.site {
+            Site::Anywhere => true,
+            Site::WithActivation => self.frame.needs_activation,
+            Site::OnInstance => layout_of_super(Site::OnInstance, self.frame.home).is_some(),
+            Site::InMaker => layout_of_super(Site::InMaker, self.frame.home).is_some(),
+        }
+    }
+
+    /// Whether the local that is an index holds a number.
+    fn walks_well(&self, state: &State) -> bool
+        ensures { result ≡ is_walked (here_in self.now) state.now self.now.row.locals }
+    {
+        match self.row.locals {
+            Locals::Walks => is_number_kind(kind_at(&state.locals, second_of(self.instr))),
+            Locals::Untouched => true,
+            Locals::Reads => true,
+            Locals::Sets(_) => true,
+        }
+    }
+
+    /// Whether the scope that is named is there.
+    fn names_scope(&self, state: &State) -> bool
+        ensures { result ≡ names_scope (here_in self.now) state.now self.now.row.operand }
+    {
+        match self.row.operand {
+            Operand::ScopeAt => (self.operand() as usize) < state.scopes.len(),
+            _ => true,
+        }
+    }
+
+    /// Whether the stack keeps to its size, with a value that is caught.
+    fn fits_stack(&self, state: &State, handlers: &[Catch]) -> bool
+        requires { filter (covers self.now.place) handlers.now ≡ covering (routine_in self.now.frame.now) self.now.place }
+        ensures { result ≡ keeps (here_in self.now) state.now variants.StackOver }
+    {
+        let size = self.frame.max_stack as usize;
+        let kept = state.stack.len().saturating_sub(self.depth());
+        fits(kept, gives_count(self.row.gives), size)
+            && (size > 0 || !is_covered(handlers, self.place))
+    }
+
+    /// Whether a state keeps a rule.
+    fn keeps(&self, state: &State, handlers: &[Catch], rule: VerifyRule) -> bool
+        requires { filter (covers self.now.place) handlers.now ≡ covering (routine_in self.now.frame.now) self.now.place }
+        ensures { result ≡ keeps (here_in self.now) state.now rule }
+    {
+        let frame = self.frame;
+        match rule {
+            VerifyRule::PoolIndex => self.is_in_table(),
+            VerifyRule::NameForm => has_good_form(self.linked, self.row.operand, self.operand()),
+            VerifyRule::StackUnder => self.depth() <= state.stack.len(),
+            VerifyRule::StackOver => self.fits_stack(state, handlers),
+            VerifyRule::ScopeUnder => pops_well(self.row.scoping, state.scopes.len()),
+            VerifyRule::ScopeOver => {
+                pushes_well(
+                    self.row.scoping,
+                    state.scopes.len(),
+                    frame.scope_size as usize,
+                )
+            }
+            VerifyRule::LocalIndex => {
+                has_good_locals(self.row.locals, self.instr, frame.local_count)
+            }
+            VerifyRule::OffEnd => {
+                self.leads_inside() && are_handlers_below(handlers, self.place, frame.code.len())
+            }
+            VerifyRule::NotSpace => self.all_suit(VerifyRule::NotSpace, state),
+            VerifyRule::NotObject => self.all_suit(VerifyRule::NotObject, state),
+            VerifyRule::SlotIndex => self.all_suit(VerifyRule::SlotIndex, state),
+            VerifyRule::ScopeIndex => self.names_scope(state),
+            VerifyRule::NotHere => self.stands_here(),
+            VerifyRule::NotIndex => {
+                self.all_suit(VerifyRule::NotIndex, state) && self.walks_well(state)
+            }
+            VerifyRule::Parameters => {
+                self.place > 0 || frame.filled.len() <= frame.local_count as usize
+            }
+            VerifyRule::Flags => self.place > 0 || !frame.unsupported,
+            VerifyRule::NotRun => true,
+            VerifyRule::Merge => true,
+        }
+    }
+
+    /// The first of some rules that a state breaks.
+    #[tactic(auto, using(crate::proofs::Loops::rule_next, crate::proofs::Loops::rule_stops))]
+    fn first_broken(
+        &self,
+        state: &State,
+        handlers: &[Catch],
+        rules: &[VerifyRule],
+    ) -> Option<VerifyRule>
+        requires { filter (covers self.now.place) handlers.now ≡ covering (routine_in self.now.frame.now) self.now.place }
+        ensures { result ≡ first_broken (keeps (here_in self.now) state.now) rules.now }
+    {
+        for rule in rules {
+            if !self.keeps(state, handlers, *rule) {
+                return Some(*rule);
+            }
+        }
+        None
+    }
+}
+
+/// The first of some rules that a state breaks at an instruction.
+fn broken_in(
+    linked: &Linked,
+    frame: &Frame<'_>,
+    place: u32,
+    instr: &Instr,
+    state: &State,
+    handlers: &[Catch],
+    rules: &[VerifyRule],
+) -> Option<VerifyRule>
+    requires { filter (covers place) handlers.now ≡ covering (routine_in frame.now) place }
+    ensures { result ≡ at_row linked.now (routine_in frame.now) place instr.now rules.now state.now (row_at (opcode instr.now)) }
+{
+    match row_of(opcode_of(instr)) {
+        Some(row) => {
+            let visit = Visit {
+                linked,
+                frame,
+                place,
+                instr,
+                row,
+            };
+            visit.first_broken(state, handlers, rules)
+        }
+        None => Some(VerifyRule::NotRun),
+    }
+}
+
+/// The first rule that a state breaks at a place, Merge left out, where these handlers cover the place.
+#[tactic(auto, using(crate::proofs::Asking::filter_twice))]
+pub fn broken_at(
+    linked: &Linked,
+    frame: &Frame<'_>,
+    place: u32,
+    state: &State,
+    cover: &[Catch],
+) -> Option<VerifyRule>
+    requires { cover.now ≡ covering (routine_in frame.now) place }
+    ensures { result ≡ broken linked.now (routine_in frame.now) place state.now }
+{
+    match frame.code.find(place as usize) {
+        Some(instr) => broken_in(linked, frame, place, instr, state, cover, &RULES),
+        None => Some(VerifyRule::OffEnd),
+    }
+}
+
+/// The first rule before Merge that a state breaks at a place.
+pub fn broken_early_at(
+    linked: &Linked,
+    frame: &Frame<'_>,
+    place: u32,
+    state: &State,
+) -> Option<VerifyRule>
+    ensures { result ≡ broken_early linked.now (routine_in frame.now) place state.now }
+{
+    match frame.code.find(place as usize) {
+        Some(instr) => broken_in(
+            linked,
+            frame,
+            place,
+            instr,
+            state,
+            frame.handlers.as_slice(),
+            &EARLY,
+        ),
+        None => Some(VerifyRule::OffEnd),
+    }
+}

@@ -1,0 +1,182 @@
+ghost use Rattle.std.specs.Prelude.{◌≡◌, IfOk, Some, map, not, slice_get};
+ghost use Rattle.abc_shapes.specs.Instructions.{opcode};
+ghost use Rattle.abc_shapes.specs.Rows.{row_at};
+ghost use Rattle.abc_shapes.specs.Table.{sources};
+ghost use Rattle.abc_flow.specs.Walking.{Steps};
+ghost use Rattle.abc_typing.specs.Effects.{goes_on, is_null as is_null_by, kind_at, kind_of as kind_of_source, needs as needs_of, next as next_state, scope_kind, taken};
+ghost use Rattle.abc_typing.specs.Typing.{IsFine};
+ghost use Rattle.abc_frames.specs.Frames.{routine_in};
+ghost use Rattle.abc_visits.specs.Visits.{change_of, given_kinds, here_in, leads_away as leads_away_by, leads_on as leads_on_by, step_by, written_by};
+
+use crate::changes::{Change, Given, change_locals, change_scopes, change_stack};
+use crate::visit::Visit;
+use abc_base::NoMemory;
+use abc_flow::{Step, Written};
+use abc_frames::Frame;
+use abc_link::Linked;
+use abc_program::Kind;
+use abc_shapes::{Gives, Leads, Locals, RowKind, local_of, opcode_of, row_of, second_of};
+use abc_steps::{fixed_kind, kind_of_scope};
+use abc_tables::Instr;
+use abc_typing::State;
+use std::alloc::Global;
+
+/// Whether a kind is null's alone.
+fn is_null(kind: Kind) -> bool
+    ensures { result ≡ is_null_by kind }
+{
+    match kind {
+        Kind::Null => true,
+        _ => false,
+    }
+}
+
+/// Whether the next place follows.
+fn leads_on(leads: Leads) -> bool
+    ensures { result ≡ leads_on_by leads }
+{
+    match leads {
+        Leads::Next => true,
+        Leads::Branches => true,
+        Leads::Jumps => false,
+        Leads::Switches => false,
+        Leads::Ends => false,
+    }
+}
+
+/// Whether the places that an instruction names follow.
+fn leads_away(leads: Leads) -> bool
+    ensures { result ≡ leads_away_by leads }
+{
+    match leads {
+        Leads::Next => false,
+        Leads::Branches => true,
+        Leads::Jumps => true,
+        Leads::Switches => true,
+        Leads::Ends => false,
+    }
+}
+
+/// Where an instruction leads, if it goes on at all.
+fn step_of(goes: bool, leads: Leads, written: Written) -> Step
+    ensures { result ≡ step_by goes leads written }
+{
+    let on = leads_on(leads);
+    let away = leads_away(leads);
+    Step {
+        next: goes && on,
+        jumps: goes && away,
+        written,
+    }
+}
+
+impl Visit<'_> {
+    /// The kinds that are pushed.
+    fn given(&self, state: &State) -> Given
+        ensures { given_kinds result ≡ map (kind_of_source (here_in self.now) state.now) (sources self.now.row.gives) }
+    {
+        match self.row.gives {
+            Gives::Nothing => Given::Nothing,
+            Gives::One(a) => Given::One(self.kind_of(state, a)),
+            Gives::Two(a, b) => Given::Two(self.kind_of(state, a), self.kind_of(state, b)),
+        }
+    }
+
+    /// What the locals get.
+    fn change(&self, state: &State) -> Change
+        ensures { result ≡ change_of (here_in self.now) state.now self.now.row.locals }
+    {
+        match self.row.locals {
+            Locals::Untouched => Change::Nothing,
+            Locals::Reads => Change::Nothing,
+            Locals::Sets(source) => {
+                Change::One(local_of(self.instr), self.kind_of(state, source))
+            }
+            Locals::Walks => Change::Two(
+                local_of(self.instr),
+                fixed_kind(self.linked, RowKind::Object),
+                second_of(self.instr),
+                Kind::Num,
+            ),
+        }
+    }
+
+    /// The kind of a scope that is pushed.
+    fn scope(&self, state: &State) -> Kind
+        ensures { result ≡ scope_kind self.now.linked.now (kind_at (taken (here_in self.now) state.now) 0) }
+    {
+        kind_of_scope(self.linked, self.taken(state, 0))
+    }
+
+    /// Whether anything follows: nothing does where the value that has to have a slot is null.
+    fn goes_on(&self, state: &State) -> bool
+        ensures { result ≡ goes_on (needs_of (here_in self.now)) (taken (here_in self.now) state.now) }
+    {
+        !is_null(self.receiver(state))
+    }
+
+    /// Does the instruction to a state. Every kind is of the state before.
+    #[tactic(auto, using(crate::proofs::Stepping::next_is))]
+    fn step(&self, alloc: Global, state: &mut State) -> Result<Step, NoMemory>
+        ensures next { IfOk result (λ w. state.new ≡ next_state (here_in self.now) state.old) }
+        ensures leads { IfOk result (λ w. w ≡ step_by (goes_on (needs_of (here_in self.now)) (taken (here_in self.now) state.old)) self.now.row.leads (written_by (change_of (here_in self.now) state.old self.now.row.locals))) }
+    {
+        let goes = self.goes_on(state);
+        let given = self.given(state);
+        let change = self.change(state);
+        let scope = self.scope(state);
+        change_stack(&mut state.stack, self.depth(), given)?;
+        change_scopes(alloc, &mut state.scopes, self.row.scoping, scope)?;
+        let written = change_locals(&mut state.locals, change);
+        Ok(step_of(goes, self.row.leads, written))
+    }
+}
+
+/// Does an instruction to a state that breaks no rule.
+#[tactic(auto, using(crate::proofs::Stepping::stepped, crate::proofs::Stepping::no_row))]
+fn step_in(
+    alloc: Global,
+    linked: &Linked,
+    frame: &Frame<'_>,
+    place: u32,
+    instr: &Instr,
+    state: &mut State,
+) -> Result<Step, NoMemory>
+    requires fine { IsFine linked.now (routine_in frame.now) place state.old }
+    requires here { slice_get frame.now.code.now place ≡ Some instr.now }
+    ensures { IfOk result (λ w. Steps linked.now (routine_in frame.now) place state.old state.new w) }
+{
+    match row_of(opcode_of(instr)) {
+        Some(row) => {
+            let visit = Visit {
+                linked,
+                frame,
+                place,
+                instr,
+                row,
+            };
+            let step = visit.step(alloc, state)?;
+            Ok(step)
+        }
+        None => unreachable!(),
+    }
+}
+
+/// Does the instruction at a place to a state that breaks no rule there. What follows is where the step leads, with the state
+/// as it is then. Where memory runs out the state is of no use.
+#[tactic(auto, using(crate::proofs::Stepping::no_instr))]
+pub fn step_at(
+    alloc: Global,
+    linked: &Linked,
+    frame: &Frame<'_>,
+    place: u32,
+    state: &mut State,
+) -> Result<Step, NoMemory>
+    requires { IsFine linked.now (routine_in frame.now) place state.old }
+    ensures { IfOk result (λ w. Steps linked.now (routine_in frame.now) place state.old state.new w) }
+{
+    match frame.code.find(place as usize) {
+        Some(instr) => step_in(alloc, linked, frame, place, instr, state),
+        None => unreachable!(),
+    }
+}
