@@ -7,7 +7,6 @@ use Rattle.abc_rules.specs.declared.error.LinkError.{LinkError}
 use Rattle.abc_rules.specs.declared.error.LinkError.TheVariants as refusals
 use Rattle.abc_rules.specs.Firsts.{IsRefusal as IsUnlinked}
 use Rattle.abc_rules.specs.Parts.{body_at, no_body}
-use Rattle.abc_tables.specs.Files.{Fits}
 use Rattle.abc_tables.specs.declared.tables.Abc.{Abc}
 use Rattle.abc_typing.specs.Routines.{Routine, routine}
 use Rattle.abc_typing.specs.Typing.{Derivable, Entry, Next, Join, Refutes, Broken, Unmerged}
@@ -60,6 +59,6 @@ pub verify_stops_at : (v : Abc) (starts : List (List ℕ)) (l : LinkedFile) (e :
 verify_stops_at v starts l (errors.Refused m b i r) is linked h = record { answer = λ d. Check.untyped l m b i r is linked h refl; read = λ e. absurd cc }
 verify_stops_at v starts l errors.NoMemory is linked h = memory_stops_at (Check v starts)
 
-pub verified_gives : (v : Abc) (starts : List (List ℕ)) (l : LinkedFile) (bytes : List ℕ) → l.file ≡ v → IsLinkedFile l → (Fits l.file → AllTyped l) → Fits v → bytes ≡ verified_line (length l.file.bodies) → Check v starts (given bytes)
-verified_gives v starts l bytes is linked typed fits e =
-    Check.verified l is linked (typed (subst Fits (sym is) fits)) (ap given (e ∙ ap (λ (a : Abc). verified_line (length a.bodies)) is))
+pub verified_gives : (v : Abc) (starts : List (List ℕ)) (l : LinkedFile) (bytes : List ℕ) → l.file ≡ v → IsLinkedFile l → AllTyped l → bytes ≡ verified_line (length l.file.bodies) → Check v starts (given bytes)
+verified_gives v starts l bytes is linked typed e =
+    Check.verified l is linked typed (ap given (e ∙ ap (λ (a : Abc). verified_line (length a.bodies)) is))
