@@ -112,12 +112,7 @@ pub fn write_place<E: Sink>(
 
 /// Writes the line of an instruction by its method and its offset, and what is wrong there.
 #[tactic(auto, unfolding(crate::specs::Lines::line, crate::specs::Lines::code_text), using(std::proofs::Common::append_assoc))]
-pub fn write_code<E: Sink>(
-    err: &mut E,
-    method: u32,
-    offset: u32,
-    name: &[u8],
-) -> Result<(), Failed>
+pub fn write_code<E: Sink>(err: &mut E, method: u32, offset: u32, name: &[u8]) -> Result<(), Failed>
     ensures bytes { WritesAll (E.written err.old) (E.written err.new) result (line (code_text method offset name.now)) }
     ensures cause { HasCause (E.faults err.old) (E.faults err.new) result }
 {
