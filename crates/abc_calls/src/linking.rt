@@ -1,9 +1,10 @@
-//! A file of one script is read, written and linked.
+//! A file of one script is read, written, linked and verified.
 
 use abc_base::SteadySource;
 use abc_file::{read, write};
 use abc_link::{Owner, Part, link};
 use abc_tables::are_bodies_ready;
+use abc_verify::verify;
 use std::test::*;
 
 /// A script that traces `Hi`.
@@ -31,5 +32,16 @@ fn a_script_is_linked(rt: HostRuntime) -> Result<(), Fail> {
     assert!(rt; layout.0 < linked.layouts());
     assert_eq!(rt; linked.part_of(layout), Part::Global(0));
     assert_eq!(rt; linked.slots(layout).len(), 0);
+    Ok(())
+}
+
+#[test]
+fn a_script_is_verified(rt: HostRuntime) -> Result<(), Fail> {
+    let alloc = rt.alloc();
+    let (abc, _places) = read(alloc, &mut SteadySource::new(alloc, &HI, 7)?)?;
+    let linked = link(alloc, abc)?;
+    let verified = verify(alloc, linked)?;
+    verified.verified_law();
+    assert_eq!(rt; verified.linked().owner(0), Owner::ScriptInit(0));
     Ok(())
 }
