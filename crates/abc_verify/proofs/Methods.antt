@@ -1,5 +1,5 @@
 -- Methods and their bodies.
-use Rattle.std.proofs.Common.{◌≡◌, ℕ, zero, suc, ◌+◌, ◌<◌, ◌≤◌, List, [], ◌∷◌, Some, None, Bool, true, length, map, get_or, nat_eq, refl, sym, ap, ◌∙◌, subst, arith, ◌⊎◌, inl, inr, eq-eqb, eqb-true, below_more}
+use Rattle.std.proofs.Common.{◌≡◌, ℕ, zero, suc, ◌+◌, ◌<◌, List, [], ◌∷◌, Some, None, true, length, map, get_or, nat_eq, refl, sym, ap, ◌∙◌, subst, arith, inl, inr, eq-eqb, eqb-true, below_more}
 use Rattle.std.proofs.lemmas.Bool.{cases_lt}
 use Rattle.std.proofs.lemmas.List.{length-map}
 use Rattle.abc_fits.proofs.BodiesFit.{bodies_fit, methods_below}
@@ -7,7 +7,6 @@ use Rattle.abc_fits.proofs.FileFits.{file_fits, tables_fit}
 use Rattle.abc_flow.specs.Walking.{RefusedBy}
 use Rattle.abc_flow.specs.declared.step.Refusal.{Refusal}
 use Rattle.abc_flow.specs.declared.step.Refusal.TheVariants as flows
-use Rattle.abc_index.specs.Index.{first}
 use Rattle.abc_program.specs.Linked.{IsLinkedFile, LinkedFile}
 use Rattle.abc_program.specs.Owners.{body_of}
 use Rattle.abc_rules.specs.Methods.{methods_with_bodies}

@@ -1,5 +1,5 @@
 -- Needs with the parts of a name opened, one after the other.
-use Rattle.std.proofs.Common.{◌≡◌, ℕ, zero, suc, ◌+◌, ◌*◌, ◌^◌, ◌<◌, ◌≤◌, Bool, true, false, cond, ◌&&◌, List, [], ◌∷◌, ◌++◌, Some, None, length, take, drop, get_or, set, slice_get, refl, sym, ap, ◌∙◌, subst, arith, length-append}
+use Rattle.std.proofs.Common.{◌≡◌, ℕ, zero, suc, ◌+◌, ◌*◌, ◌^◌, ◌<◌, ◌≤◌, Bool, true, false, cond, ◌&&◌, List, [], ◌∷◌, ◌++◌, length, drop, get_or, set, refl, sym, ap, ◌∙◌, arith, length-append}
 use Rattle.std.specs.Prelude.{filter, flat_map}
 use Rattle.abc_program.specs.declared.types.Kind.{Kind}
 use Rattle.abc_program.specs.declared.types.Kind.TheVariants.{Any}
@@ -10,7 +10,6 @@ use Rattle.abc_steps.specs.Needs.{parts_of}
 use Rattle.abc_typing.specs.declared.catch.Catch.{Catch}
 use Rattle.abc_typing.specs.Effects.{Here, kind_at, receiver, unfolded}
 use Rattle.abc_visits.specs.Visits.{picked}
-use Rattle.abc_typing.specs.Routines.{or_any}
 use Rattle.abc_typing.specs.Rules.{all_suit, suits}
 use Rattle.abc_typing.specs.declared.rule.VerifyRule.{VerifyRule}
 

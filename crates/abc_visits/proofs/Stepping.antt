@@ -1,7 +1,7 @@
 -- What a step leads to.
-use Rattle.std.proofs.Common.{◌≡◌, ◌≢◌, ℕ, suc, ◌+◌, List, [], ◌∷◌, ◌++◌, Some, None, cond, length, take, drop, map, refl, sym, ap, ◌∙◌, subst, arith, eq-eqb, eqb-true}
-use Rattle.std.specs.Prelude.{Bool, true, false, not, ◌&&◌, ltb, eqb, Option, slice_get}
-use Rattle.abc_flow.specs.Walking.{Steps, Wrote, WroteOne, WroteTwo, landing, leads_of, targets_at, targets_in}
+use Rattle.std.proofs.Common.{◌≡◌, ◌≢◌, ℕ, suc, ◌+◌, List, [], ◌∷◌, ◌++◌, Some, None, cond, drop, map, refl, sym, ap, ◌∙◌, subst, arith, eq-eqb}
+use Rattle.std.specs.Prelude.{Bool, true, false, not, ◌&&◌, ltb, eqb, slice_get}
+use Rattle.abc_flow.specs.Walking.{Steps, Wrote, landing, targets_at, targets_in}
 use Rattle.abc_flow.specs.declared.step.Step.{Step}
 use Rattle.abc_program.specs.Linked.{LinkedFile}
 use Rattle.abc_program.specs.declared.types.Kind.{Kind}
@@ -17,10 +17,8 @@ use Rattle.abc_tables.specs.declared.code.Instr.{Instr}
 use Rattle.abc_typing.specs.Effects.{Here, after, depth, fixed, goes_on, kind_at, kind_of, leads, locals_after, needs, next, scope_kind, scopes_after, taken}
 use Rattle.abc_typing.specs.Routines.{Routine}
 use Rattle.abc_typing.specs.Rules.{after_instr, after_row, has_locals}
-use Rattle.abc_typing.specs.Standing.{Stands}
 use Rattle.abc_typing.specs.Typing.{IsFine}
 use Rattle.abc_typing.specs.declared.rule.VerifyRule.TheVariants as rules
-use Rattle.abc_typing.specs.declared.state.Scope.{Scope}
 use Rattle.abc_typing.specs.declared.state.State.{State}
 use Rattle.abc_typing.proofs.Fine.{stands}
 use Rattle.abc_shapes.specs.declared.row.Scoping.{Scoping}

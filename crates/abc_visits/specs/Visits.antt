@@ -1,11 +1,11 @@
 -- An instruction at its place, as the code holds it.
-use Rattle.std.specs.Prelude.{ℕ, ◌-◌, List, [], ◌∷◌, ◌++◌, Bool, true, false, ◌&&◌, length, set, take}
+use Rattle.std.specs.Prelude.{◌-◌, List, [], ◌∷◌, ◌++◌, Bool, true, false, ◌&&◌, length, set, take}
 use Rattle.abc_program.specs.declared.types.Kind.{Kind}
 use Rattle.abc_program.specs.declared.types.Kind.TheVariants as kinds
 use Rattle.abc_shapes.specs.Instructions.{local, second}
 use Rattle.abc_shapes.specs.Table.{shape_of}
 use Rattle.abc_shapes.specs.declared.row.Leads.{Leads}
-use Rattle.abc_shapes.specs.declared.row.Leads.TheVariants.{Next, Branches, Jumps, Switches, Ends}
+use Rattle.abc_shapes.specs.declared.row.Leads.TheVariants.{Next, Branches, Jumps, Switches}
 use Rattle.abc_shapes.specs.declared.row.Locals.{Locals}
 use Rattle.abc_shapes.specs.declared.row.Locals.TheVariants.{Untouched, Reads, Sets, Walks}
 use Rattle.abc_shapes.specs.declared.row.Need.{Need}

@@ -1,4 +1,4 @@
-use Rattle.std.proofs.Common.{◌≡◌, ◌<◌, length, arith}
+use Rattle.std.proofs.Common.{arith}
 use Rattle.abc_verify.proofs.Methods.{more_typed, none_typed, whole}
 use Rattle.abc_verify.proofs.checking.check_methods.Goals as goal
 

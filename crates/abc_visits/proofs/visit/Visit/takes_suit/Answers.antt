@@ -1,4 +1,4 @@
-use Rattle.std.proofs.Common.{◌≡◌, ◌∷◌, [], ◌∙◌, ap, drop, flat_map, sym}
+use Rattle.std.proofs.Common.{◌∷◌, [], ◌∙◌, ap, drop, flat_map, sym}
 use Rattle.abc_shapes.specs.Table.{needs}
 use Rattle.abc_shapes.specs.declared.row.Takes.{Takes}
 use Rattle.abc_steps.specs.Needs.{parts_of}
