@@ -107,7 +107,8 @@ fn method_count(linked: &Linked) -> u32
     linked.abc().methods.len() as u32
 }
 
-/// Verifies all methods that have bodies, in the order of their numbers, and so every body of the file. It answers [`VerifyError::Refused`] exactly where a method's body has no typing, with the first such method, and
+/// Verifies all methods that have bodies, in the order of their numbers, and so every body of the file. It answers
+/// [`VerifyError::Refused`] exactly where a method's body has no typing, with the first such method, and
 /// [`VerifyError::NoMemory`] where memory runs out.
 pub fn verify(alloc: Global, linked: Linked) -> Result<Verified, VerifyError>
     ensures { MatchResult result (λ v. (v ≡ linked) × IsVerified linked × AllTyped linked) (IsRefusal linked) }
