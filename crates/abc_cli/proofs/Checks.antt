@@ -1,5 +1,5 @@
 -- What `check` answers about a file that was read.
-use Rattle.std.proofs.Common.{◌≡◌, ℕ, ◌+◌, ◌<◌, ◌≤◌, List, Ok, Err, Some, length, get_or, refl, sym, ap, ◌∙◌, subst, arith}
+use Rattle.std.proofs.Common.{◌≡◌, ℕ, ◌<◌, ◌≤◌, List, length, refl, ap, ◌∙◌, subst, arith}
 use Rattle.std.proofs.lemmas.Option.{slice_get-get_or}
 use Rattle.abc_bodies.specs.Places.{ArePlaces}
 use Rattle.abc_program.specs.Linked.{IsLinkedFile, LinkedFile}
@@ -18,9 +18,8 @@ use Rattle.abc_verify.specs.Typed.{AllTyped}
 use Rattle.abc_verify.specs.declared.error.VerifyError.{VerifyError}
 use Rattle.abc_verify.specs.declared.error.VerifyError.TheVariants as errors
 use Rattle.abc_verify.proofs.Methods.{body_inside}
-use Rattle.abc_cli.specs.declared.stop.Stop.TheVariants as stops
 use Rattle.abc_cli.specs.Lines.{verified_line}
-use Rattle.abc_cli.specs.Outcome.{Answer, Check, given}
+use Rattle.abc_cli.specs.Outcome.{Check, given}
 use Rattle.abc_cli.specs.Stops.{IsPlaced, StopsAt, stop_of_link, stop_of_verify}
 use Rattle.abc_cli.proofs.Ending.{memory_stops_at}
 
