@@ -30,6 +30,7 @@ import linking
 import tables
 import texts
 import tidying
+import verifying
 from spelling import HEAD, SIZE
 
 MAKERS = {
@@ -46,6 +47,10 @@ MAKERS = {
     "forward": tidying.forward,
     "backward": tidying.backward,
     "cycle": tidying.cycle,
+    "functions": verifying.functions,
+    "straight": verifying.straight,
+    "branches": verifying.branches,
+    "handlers": verifying.handlers,
     "labels": texts.labels,
     "long": texts.long_tokens,
 }

@@ -11,6 +11,7 @@ mod definitions;
 mod dis;
 mod fault;
 mod graph;
+mod kinds;
 mod link;
 mod linked_names;
 mod opcodes;
@@ -21,10 +22,12 @@ mod pools;
 mod read_bodies;
 mod read_definitions;
 mod reader;
+mod rows;
 mod tidy;
 mod tokens;
 mod trees;
 mod value;
+mod verify;
 mod visit;
 mod writer;
 
@@ -132,10 +135,25 @@ fn tidy() -> Done {
     write(&file)
 }
 
+/// Where an instruction of a body begins in its code: the file is read once more, since only a refusal asks.
+fn offset(input: &[u8], body: usize, place: u32) -> u32 {
+    let mut reader = Reader::new(input);
+    reader.wanted = Some(body);
+    let read = reader.file();
+    assert!(read.is_ok(), "it was read before");
+    reader.starts[place as usize]
+}
+
 fn check() -> Done {
     let input = read_input(MOST)?;
-    link::link(&read_value(&input)?).map_err(|line| Refusal::new(1, line))?;
-    Err(Refusal::new(11, "not built"))
+    let file = read_value(&input)?;
+    link::link(&file).map_err(|line| Refusal::new(1, line))?;
+    let count = verify::verify(&file).map_err(|refused| {
+        let offset = offset(&input, refused.body, refused.place);
+        let (method, rule) = (refused.method, refused.rule);
+        Refusal::new(1, format!("method {method} offset {offset}: {rule:?}"))
+    })?;
+    write(format!("verified {count}\n").as_bytes())
 }
 
 fn main() -> ExitCode {

@@ -31,6 +31,15 @@ impl Places {
             .filter(|&number| number != NONE)
     }
 
+    /// Where each instruction starts, and the code ends.
+    fn starts(&self) -> Vec<u32> {
+        let places = self.numbers.iter().zip(0..);
+        places
+            .filter(|&(&number, _)| number != NONE)
+            .map(|(_, place)| place)
+            .collect()
+    }
+
     fn target(&self, offset: &Offset) -> Answer<u32> {
         usize::try_from(offset.target)
             .ok()
@@ -188,6 +197,14 @@ impl Reader<'_> {
     pub fn bodies(&mut self, f: &File) -> Answer<Vec<Body>> {
         let mut has_body = vec![false; f.methods.len()];
         let mut places = Places::default();
-        self.counted(|r| r.body(f, &mut has_body, &mut places))
+        let mut number = 0;
+        self.counted(|r| {
+            let body = r.body(f, &mut has_body, &mut places)?;
+            if r.wanted == Some(number) {
+                r.starts = places.starts();
+            }
+            number += 1;
+            Ok(body)
+        })
     }
 }

@@ -9,18 +9,14 @@ use Rattle.abc_base.specs.Faults.{HasCause}
 use Rattle.abc_base.specs.Sinks.{WritesAll}
 use Rattle.abc_base.specs.declared.status.Status.{Status}
 use Rattle.abc_base.specs.declared.status.Status.TheVariants as status
-use Rattle.abc_format.specs.Part.{refusal}
+use Rattle.abc_format.specs.Part.{Refusal, refusal}
 use Rattle.abc_varint.specs.declared.error.ReadError.{ReadError}
 use Rattle.abc_varint.specs.declared.error.ReadError.TheVariants as errors
 use Rattle.abc_file.specs.Reading.{AnswersFile, Canonises, IsCanonicalOf, IsFaultOf, IsUsedUp, OfInput, Refuses}
 use Rattle.abc_tables.specs.declared.tables.Abc.{Abc}
 use Rattle.abc_tables.specs.Bodies.{IsReadyBody}
-use Rattle.abc_tables.specs.Files.{Fits, file_bytes}
+use Rattle.abc_tables.specs.Files.{Fits, IsBadFile, IsFileRead, file_bytes}
 use Rattle.abc_tables.proofs.Whole.{file_ready, read_spelled}
-use Rattle.abc_rules.specs.declared.error.LinkError.{LinkError}
-use Rattle.abc_rules.specs.declared.error.LinkError.TheVariants as refusals
-use Rattle.abc_rules.specs.Firsts.{IsRefusal}
-use Rattle.abc_rules.specs.Rules.{AllHold}
 use Rattle.abc_tidy.specs.declared.error.TidyError.{TidyError}
 use Rattle.abc_tidy.specs.declared.error.TidyError.TheVariants as tidying
 use Rattle.abc_tidy.specs.Rules.{IsTidied, IsTidyError}
@@ -28,9 +24,9 @@ use Rattle.abc_words.specs.declared.command.Command.{Command}
 use Rattle.abc_words.specs.declared.command.Command.TheVariants as commands
 use Rattle.abc_cli.specs.declared.stop.Stop.{Stop}
 use Rattle.abc_cli.specs.declared.stop.Stop.TheVariants as stops
-use Rattle.abc_cli.specs.Lines.{read_fault_text, write_fault_text, no_memory_text}
-use Rattle.abc_cli.specs.Outcome.{Answer, told, given, Check, CommandOutcome, OfFile, OutcomeOf, Tidy}
-use Rattle.abc_cli.specs.Stops.{Gives, Stops, StopsAt, stop_answer, stop_of_link, stop_of_read, stop_of_tidy}
+use Rattle.abc_cli.specs.Lines.{read_fault_text, refusal_text, write_fault_text, no_memory_text}
+use Rattle.abc_cli.specs.Outcome.{Answer, told, given, Canon, Check, CommandOutcome, Dis, OfFile, OfFileRead, OutcomeOf, Tidy}
+use Rattle.abc_cli.specs.Stops.{Gives, Stops, StopsAt, stop_answer, stop_of_read, stop_of_tidy}
 use Rattle.abc_cli.specs.End.{Channel, channel, Got, GotFront, HasFailed, GivesLine, Ends, IsEnd}
 
 -- a line that was written or not
@@ -96,6 +92,7 @@ gave command source out err bytes s g end =
 pub stopped : (command : Command) (source out err : Channel) (stop : Stop) (s : Status) → Stops command source stop → Got out [] → GivesLine err (stop_answer stop) s → Ends (CommandOutcome command) source out err s
 stopped command source out err (stops.File place reason) s x o g = line_ends (CommandOutcome command source.before) (HasFailed source) out err (stop_answer (stops.File place reason)) s (x.outcome tt) o g
 stopped command source out err (stops.Item i rule) s x o g = line_ends (CommandOutcome command source.before) (HasFailed source) out err (stop_answer (stops.Item i rule)) s (x.outcome tt) o g
+stopped command source out err (stops.Code m offset rule) s x o g = line_ends (CommandOutcome command source.before) (HasFailed source) out err (stop_answer (stops.Code m offset rule)) s (x.outcome tt) o g
 stopped command source out err (stops.Tidy rule i) s x o g = line_ends (CommandOutcome command source.before) (HasFailed source) out err (stop_answer (stops.Tidy rule i)) s (x.outcome tt) o g
 stopped command source out err stops.NotBuilt s x o g = line_ends (CommandOutcome command source.before) (HasFailed source) out err (stop_answer stops.NotBuilt) s (x.outcome tt) o g
 stopped command source out err stops.ReadFault s x o g = read_failed (CommandOutcome command source.before) (HasFailed source) out err s (x.cause refl) o g
@@ -104,6 +101,7 @@ stopped command source out err stops.NoMemory s x o g = memory_failed (CommandOu
 stop_not_done : (stop : Stop) → (stop_answer stop).status ≡ status.Done → ⊥
 stop_not_done (stops.File place reason) h = cc
 stop_not_done (stops.Item i rule) h = cc
+stop_not_done (stops.Code m offset rule) h = cc
 stop_not_done (stops.Tidy rule i) h = cc
 stop_not_done stops.NotBuilt h = cc
 stop_not_done stops.ReadFault h = cc
@@ -118,15 +116,38 @@ memory_stops command source = record { outcome = λ d. absurd d; cause = λ h. a
 
 -- ---- commands on a file
 
--- the outcome of a command that is one on a file
-abbrev pub IsOnFile : Command → (Abc → Answer → Type 0) → Type 0
-IsOnFile command Answers = (input : List ℕ) (a : Answer) → OfFile Answers input a → OutcomeOf command input a
+-- the outcome of a command that is one on a file, with the starts of its instructions as they were read
+pub record IsOnFile (command : Command) (Answers : Abc → List (List ℕ) → Answer → Type 0) : Type 0 where
+  pub accepted : (v : Abc) (starts : List (List ℕ)) (input : List ℕ) (a : Answer) → IsFileRead (v, starts) input → Answers v starts a → OutcomeOf command input a
+  pub refused : (r : Refusal) (input : List ℕ) → IsBadFile input r → OutcomeOf command input (told status.Refused (refusal_text r))
 
-pub read_stops : (command : Command) (Answers : Abc → Answer → Type 0) → IsOnFile command Answers → (source : Channel) (e : ReadError) → IsFaultOf source.before e → (e ≡ errors.ReadFault → HasFailed source)
+-- a command that speaks of the file alone
+abbrev pub alone : (Abc → Answer → Type 0) → Abc → List (List ℕ) → Answer → Type 0
+alone Answers v starts a = Answers v a
+
+pub on_file : (command : Command) (Answers : Abc → Answer → Type 0) → ((input : List ℕ) (a : Answer) → OfFile Answers input a → OutcomeOf command input a) → IsOnFile command (alone Answers)
+on_file command Answers on = record {
+  accepted = λ v starts input a r x. on input a (OfFile.accepted v (read_spelled (v, starts) input r.0, r.1) x);
+  refused = λ r input bad. on input (told status.Refused (refusal_text r)) (OfFile.refused r bad refl);
+}
+
+pub on_canon : IsOnFile commands.Canon (alone Canon)
+on_canon = on_file commands.Canon Canon (λ input a o. o)
+
+pub on_dis : IsOnFile commands.Dis (alone Dis)
+on_dis = on_file commands.Dis Dis (λ input a o. o)
+
+pub on_tidy : IsOnFile commands.Tidy (alone Tidy)
+on_tidy = on_file commands.Tidy Tidy (λ input a o. o)
+
+pub on_check : IsOnFile commands.Check Check
+on_check = record { accepted = λ v starts input a r x. OfFileRead.accepted v starts r x; refused = λ r input bad. OfFileRead.refused r bad refl }
+
+pub read_stops : (command : Command) (Answers : Abc → List (List ℕ) → Answer → Type 0) → IsOnFile command Answers → (source : Channel) (e : ReadError) → IsFaultOf source.before e → (e ≡ errors.ReadFault → HasFailed source)
     → Stops command source (stop_of_read e)
 read_stops command Answers on source (errors.Refused place reason) f cause = record {
   outcome = λ d. of_any (Refuses (errors.Refused place reason)) (λ input. OutcomeOf command input (stop_answer (stops.File place reason))) source.before
-      (λ b bad. on b (stop_answer (stops.File place reason)) (OfFile.refused (refusal place reason) bad refl)) f;
+      (λ b bad. on.refused (refusal place reason) b bad) f;
   cause = λ h. absurd cc;
 }
 read_stops command Answers on source errors.ReadFault f cause = record { outcome = λ d. absurd d; cause = λ h. cause refl }
@@ -138,22 +159,22 @@ fault_read errors.ReadFault b x = tt
 fault_read errors.NoMemory b x = tt
 
 -- the same where the file itself was to be read
-pub file_stops : (command : Command) (Answers : Abc → Answer → Type 0) → IsOnFile command Answers → (source : Channel) (e : ReadError) → OfInput source.before (λ b. AnswersFile b (Err e))
+pub file_stops : (command : Command) (Answers : Abc → List (List ℕ) → Answer → Type 0) → IsOnFile command Answers → (source : Channel) (e : ReadError) → OfInput source.before (λ b. AnswersFile b (Err e))
     → (e ≡ errors.ReadFault → HasFailed source) → Stops command source (stop_of_read e)
 file_stops command Answers on source e f cause = read_stops command Answers on source e (of_any (λ b. AnswersFile b (Err e)) (Refuses e) source.before (fault_read e) f) cause
 
 -- what a file that was read is answered with
-pub file_answered : (command : Command) (Answers : Abc → Answer → Type 0) → IsOnFile command Answers → (left : Option (List ℕ)) (v : Abc) (starts : List (List ℕ)) (a : Answer)
-    → OfInput left (λ b. AnswersFile b (Ok (v, starts))) → Answers v a → CommandOutcome command left a
+pub file_answered : (command : Command) (Answers : Abc → List (List ℕ) → Answer → Type 0) → IsOnFile command Answers → (left : Option (List ℕ)) (v : Abc) (starts : List (List ℕ)) (a : Answer)
+    → OfInput left (λ b. AnswersFile b (Ok (v, starts))) → Answers v starts a → CommandOutcome command left a
 file_answered command Answers on left v starts a f x =
-    of_any (λ b. AnswersFile b (Ok (v, starts))) (λ input. OutcomeOf command input a) left (λ b r. on b a (OfFile.accepted v (read_spelled (v, starts) b r.0, r.1) x)) f
+    of_any (λ b. AnswersFile b (Ok (v, starts))) (λ input. OutcomeOf command input a) left (λ b r. on.accepted v starts b a r x) f
 
-pub file_gives : (command : Command) (Answers : Abc → Answer → Type 0) → IsOnFile command Answers → (source : Channel) (v : Abc) (starts : List (List ℕ)) (bytes : List ℕ)
-    → OfInput source.before (λ b. AnswersFile b (Ok (v, starts))) → IsUsedUp source.before source.after → Answers v (given bytes) → Gives command source bytes
+pub file_gives : (command : Command) (Answers : Abc → List (List ℕ) → Answer → Type 0) → IsOnFile command Answers → (source : Channel) (v : Abc) (starts : List (List ℕ)) (bytes : List ℕ)
+    → OfInput source.before (λ b. AnswersFile b (Ok (v, starts))) → IsUsedUp source.before source.after → Answers v starts (given bytes) → Gives command source bytes
 file_gives command Answers on source v starts bytes f used x = record { outcome = file_answered command Answers on source.before v starts (given bytes) f x; used_up = used }
 
-pub file_stops_at : (command : Command) (Answers : Abc → Answer → Type 0) → IsOnFile command Answers → (source : Channel) (v : Abc) (starts : List (List ℕ)) (stop : Stop)
-    → OfInput source.before (λ b. AnswersFile b (Ok (v, starts))) → StopsAt (Answers v) stop → Stops command source stop
+pub file_stops_at : (command : Command) (Answers : Abc → List (List ℕ) → Answer → Type 0) → IsOnFile command Answers → (source : Channel) (v : Abc) (starts : List (List ℕ)) (stop : Stop)
+    → OfInput source.before (λ b. AnswersFile b (Ok (v, starts))) → StopsAt (Answers v starts) stop → Stops command source stop
 file_stops_at command Answers on source v starts stop f x =
     record { outcome = λ d. file_answered command Answers on source.before v starts (stop_answer stop) f (x.answer d); cause = λ e. absurd (x.read e) }
 
@@ -165,15 +186,6 @@ canonical_gives source bytes f used = record {
   outcome = of_any (Canonises bytes) (λ input. OutcomeOf commands.Canon input (given bytes)) source.before (λ b x. OfFile.accepted x.0 x.1 (ap given x.2)) f;
   used_up = used;
 }
-
--- ---- check
-
-pub link_stops_at : (v : Abc) (e : LinkError) → IsRefusal v e → StopsAt (Check v) (stop_of_link e)
-link_stops_at v (refusals.Refused rule i) h = record { answer = λ d. Check.refused rule i h refl; read = λ e. absurd cc }
-link_stops_at v refusals.NoMemory h = memory_stops_at (Check v)
-
-pub links_stop_at : (v : Abc) → AllHold v → StopsAt (Check v) stops.NotBuilt
-links_stop_at v h = record { answer = λ d. Check.links h refl; read = λ e. absurd cc }
 
 -- ---- tidy
 

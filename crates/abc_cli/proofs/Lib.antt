@@ -1,3 +1,4 @@
+pub mod Checks
 pub mod Ending
 pub mod Listings
 pub mod Usages

@@ -1,19 +1,15 @@
 -- What a run of `dis` that ends well leaves in `out`.
-use Rattle.std.proofs.Common.{◌≡◌, ℕ, List, Some, None, Ok, Err, refl, sym, ap, ◌∙◌, subst}
-use Rattle.std.specs.Prelude.{◌↔◌}
-use Rattle.std.specs.declared.option.Option.{Option}
-use Rattle.std.specs.declared.result.Result.{Result}
+use Rattle.std.proofs.Common.{◌≡◌, ℕ, List, ap, subst}
 use Rattle.abc_base.specs.declared.status.Status.{Status}
 use Rattle.abc_base.specs.declared.status.Status.TheVariants as status
-use Rattle.abc_file.specs.Reading.{OfInput}
 use Rattle.abc_lines.specs.Listing.{listing}
 use Rattle.abc_lines.specs.Answers.{IsAssemblyOf}
 use Rattle.abc_tables.specs.declared.tables.Abc.{Abc}
 use Rattle.abc_tables.specs.Files.{IsFile}
 use Rattle.abc_words.specs.declared.command.Command.TheVariants as commands
-use Rattle.abc_cli.specs.Outcome.{Answer, CommandOutcome, Dis, OfFile, OutcomeOf, given, told}
+use Rattle.abc_cli.specs.Outcome.{Answer, CommandOutcome, Dis, OfFile, OutcomeOf}
 use Rattle.abc_cli.specs.End.{Channel, Got, HasFailed, IsEnd, Ends}
-use Rattle.abc_cli.specs.Listed.{AreBytes, IsListed, IsTextOf, Lists}
+use Rattle.abc_cli.specs.Listed.{AreBytes, IsListed, Lists}
 use Rattle.abc_cli.proofs.Ending.{of_any}
 
 -- a run that ended well wrote an answer of its outcome

@@ -12,7 +12,7 @@ use Rattle.abc_words.specs.declared.command.GenOptions.{GenOptions}
 use Rattle.abc_words.specs.declared.command.Usage.{Usage}
 use Rattle.abc_words.specs.declared.command.Usage.TheVariants as usages
 use Rattle.abc_words.specs.Grammar.{IsUsageWord, Says}
-use Rattle.abc_cli.specs.Outcome.{Answer, Canon, Check, CommandOutcome, Dis, OfFile, OutcomeOf, Tidy, UsageOutcome, usage_answer, IsUsage, AsksNoInput, reads_input, not_built}
+use Rattle.abc_cli.specs.Outcome.{Answer, Canon, Check, CommandOutcome, Dis, OfFile, OfFileRead, OutcomeOf, Tidy, UsageOutcome, usage_answer, IsUsage, AsksNoInput, reads_input, not_built}
 use Rattle.abc_tables.specs.declared.tables.Abc.{Abc}
 use Rattle.abc_cli.specs.End.{Channel, IsEnd}
 use Rattle.abc_cli.specs.Stops.{Stops}
@@ -54,9 +54,14 @@ file_not_usage : (Answers : Abc → Answer → Type 0) → ((v : Abc) (a : Answe
 file_not_usage Answers not input a (OfFile.accepted v f x) e = not v a x e
 file_not_usage Answers not input a (OfFile.refused r f x) e = let h = ap (λ (y : Answer). y.status) x in cc
 
-check_not_usage : (v : Abc) (a : Answer) → Check v a → a.status ≡ status.Usage → ⊥
-check_not_usage v a (Check.refused rule i h x) e = let k = ap (λ (y : Answer). y.status) x in cc
-check_not_usage v a (Check.links h x) e = let k = ap (λ (y : Answer). y.status) x in cc
+check_not_usage : (v : Abc) (starts : List (List ℕ)) (a : Answer) → Check v starts a → a.status ≡ status.Usage → ⊥
+check_not_usage v starts a (Check.unlinked rule i h x) e = let k = ap (λ (y : Answer). y.status) x in cc
+check_not_usage v starts a (Check.untyped l m b i rule is linked h x) e = let k = ap (λ (y : Answer). y.status) x in cc
+check_not_usage v starts a (Check.verified l is linked typed x) e = let k = ap (λ (y : Answer). y.status) x in cc
+
+checked_not_usage : (input : List ℕ) (a : Answer) → OfFileRead Check input a → a.status ≡ status.Usage → ⊥
+checked_not_usage input a (OfFileRead.accepted v starts f x) e = check_not_usage v starts a x e
+checked_not_usage input a (OfFileRead.refused r f x) e = let h = ap (λ (y : Answer). y.status) x in cc
 
 tidy_not_usage : (v : Abc) (a : Answer) → Tidy v a → a.status ≡ status.Usage → ⊥
 tidy_not_usage v a (Tidy.tidied t h x) e = let k = ap (λ (y : Answer). y.status) x in cc
@@ -66,7 +71,7 @@ outcome_not_usage : (c : Command) (input : List ℕ) (a : Answer) → OutcomeOf 
 outcome_not_usage commands.Canon input a o e = file_not_usage Canon (λ v b x k. let h = ap (λ (y : Answer). y.status) x in cc) input a o e
 outcome_not_usage commands.Dis input a o e = file_not_usage Dis (λ v b x k. let h = ap (λ (y : Answer). y.status) x in cc) input a o e
 outcome_not_usage commands.Asm input a o e = let h = ap (λ (x : Answer). x.status) o in cc
-outcome_not_usage commands.Check input a o e = file_not_usage Check check_not_usage input a o e
+outcome_not_usage commands.Check input a o e = checked_not_usage input a o e
 outcome_not_usage commands.Tidy input a o e = file_not_usage Tidy tidy_not_usage input a o e
 outcome_not_usage (commands.Run options) input a o e = let h = ap (λ (x : Answer). x.status) o in cc
 outcome_not_usage (commands.Gen options) input a o e = let h = ap (λ (x : Answer). x.status) o in cc

@@ -9,6 +9,8 @@ use Rattle.abc_rules.specs.Items.{kind_name, rule_name}
 use Rattle.abc_tidy.specs.declared.error.TidyRule.{TidyRule}
 use Rattle.abc_tidy.specs.declared.error.TidyRule.TheVariants as tidying
 use Rattle.abc_tidy.specs.Rules.{rule_name as tidy_rule_name}
+use Rattle.abc_typing.specs.RuleNames.{rule_name as verify_rule_name}
+use Rattle.abc_typing.specs.declared.rule.VerifyRule.{VerifyRule}
 
 -- `abc: `, a text, and a line feed
 unfoldable pub line : List ℕ → List ℕ
@@ -43,6 +45,18 @@ kind_of_tidy tidying.TooLarge = codes "file"
 -- a rule of tidying, and where it is broken
 abbrev pub tidy_text : TidyRule → ℕ → List ℕ
 tidy_text rule i = place_text (kind_of_tidy rule) i (tidy_rule_name rule)
+
+-- what is wrong at an instruction of a method, which stands at this offset in its code as it was read
+unfoldable pub code_text : ℕ → ℕ → List ℕ → List ℕ
+code_text m offset name = codes "method " ++ decimal m ++ codes " offset " ++ decimal offset ++ codes ": " ++ name
+
+-- a rule of verifying, and the instruction that breaks it
+abbrev pub untyped_text : ℕ → ℕ → VerifyRule → List ℕ
+untyped_text m offset rule = code_text m offset (verify_rule_name rule)
+
+-- the line of a file that is verified: the number of its bodies
+unfoldable pub verified_line : ℕ → List ℕ
+verified_line n = codes "verified " ++ decimal n ++ 10 ∷ []
 
 unfoldable pub read_fault_text : List ℕ
 read_fault_text = codes "read fault"

@@ -1,12 +1,12 @@
 -- What a command line and an input are answered with.
-use Rattle.std.specs.Prelude.{◌≡◌, ℕ, Bool, true, false, List, [], get_or}
+use Rattle.std.specs.Prelude.{◌≡◌, ℕ, Bool, true, false, List, [], get_or, length}
 use Rattle.std.specs.declared.option.Option.{Option}
 use Rattle.abc_base.specs.declared.status.Status.{Status}
 use Rattle.abc_base.specs.declared.status.Status.TheVariants as status
 use Rattle.abc_format.specs.Part.{Refusal}
 use Rattle.abc_lines.specs.Listing.{listing}
 use Rattle.abc_tables.specs.declared.tables.Abc.{Abc}
-use Rattle.abc_tables.specs.Files.{IsFile, IsBadFile, file_bytes}
+use Rattle.abc_tables.specs.Files.{IsFile, IsFileRead, IsBadFile, file_bytes}
 use Rattle.abc_file.specs.Reading.{OfInput}
 use Rattle.abc_words.specs.declared.command.Command.{Command}
 use Rattle.abc_words.specs.declared.command.Command.TheVariants as commands
@@ -15,10 +15,14 @@ use Rattle.abc_words.specs.declared.command.Usage.TheVariants as usages
 use Rattle.abc_words.specs.Grammar.{Says, IsUsageWord}
 use Rattle.abc_rules.specs.declared.items.Item.{Item}
 use Rattle.abc_rules.specs.declared.items.LinkRule.{LinkRule}
-use Rattle.abc_rules.specs.Rules.{AllHold, IsFirstBroken}
+use Rattle.abc_rules.specs.Rules.{IsFirstBroken}
 use Rattle.abc_tidy.specs.declared.error.TidyRule.{TidyRule}
 use Rattle.abc_tidy.specs.Rules.{IsFirstBroken as IsFirstUntidy, IsTidied}
-use Rattle.abc_cli.specs.Lines.{line, item_text, usage_text, no_command_text, refusal_text, not_built_text, tidy_text}
+use Rattle.abc_program.specs.Linked.{IsLinkedFile, LinkedFile}
+use Rattle.abc_typing.specs.declared.rule.VerifyRule.{VerifyRule}
+use Rattle.abc_verify.specs.Refusing.{IsFirstUntyped}
+use Rattle.abc_verify.specs.Typed.{AllTyped}
+use Rattle.abc_cli.specs.Lines.{line, item_text, usage_text, no_command_text, refusal_text, not_built_text, tidy_text, untyped_text, verified_line}
 
 -- a status, the bytes for `out` and the bytes for `err`
 pub record Answer : Type 0 where
@@ -44,6 +48,11 @@ pub data OfFile (Answers : Abc → Answer → Type 0) (input : List ℕ) (a : An
   accepted : (v : Abc) → IsFile v input → Answers v a → OfFile Answers input a
   refused : (r : Refusal) → IsBadFile input r → a ≡ told status.Refused (refusal_text r) → OfFile Answers input a
 
+-- The same of a command that speaks of code as it was read, by the starts of each body's instructions.
+pub data OfFileRead (Answers : Abc → List (List ℕ) → Answer → Type 0) (input : List ℕ) (a : Answer) : Type 0 where
+  accepted : (v : Abc) (starts : List (List ℕ)) → IsFileRead (v, starts) input → Answers v starts a → OfFileRead Answers input a
+  refused : (r : Refusal) → IsBadFile input r → a ≡ told status.Refused (refusal_text r) → OfFileRead Answers input a
+
 -- `canon` of a file: its canonical bytes
 abbrev pub Canon : Abc → Answer → Type 0
 Canon v a = a ≡ given (file_bytes v)
@@ -52,10 +61,16 @@ Canon v a = a ≡ given (file_bytes v)
 abbrev pub Dis : Abc → Answer → Type 0
 Dis v a = a ≡ given (listing v)
 
--- `check` of a file: its first broken rule of linking, by the first item that breaks it; a file that links is not verified yet
-pub data Check (v : Abc) (a : Answer) : Type 0 where
-  refused : (rule : LinkRule) (i : Item) → IsFirstBroken v rule i → a ≡ told status.Refused (item_text i rule) → Check v a
-  links : AllHold v → a ≡ not_built → Check v a
+-- where an instruction of a body began in its code as it was read
+abbrev pub offset_in : List (List ℕ) → ℕ → ℕ → ℕ
+offset_in starts body index = get_or (get_or starts body []) index 0
+
+-- `check` of a file that was read so: its first broken rule of linking, by the first item that breaks it; or else the first method
+-- without a typing, by a place and a rule that refute each; or else the number of its bodies, each of which has a typing
+pub data Check (v : Abc) (starts : List (List ℕ)) (a : Answer) : Type 0 where
+  unlinked : (rule : LinkRule) (i : Item) → IsFirstBroken v rule i → a ≡ told status.Refused (item_text i rule) → Check v starts a
+  untyped : (l : LinkedFile) (m b i : ℕ) (rule : VerifyRule) → l.file ≡ v → IsLinkedFile l → IsFirstUntyped l m b i rule → a ≡ told status.Refused (untyped_text m (offset_in starts b i) rule) → Check v starts a
+  verified : (l : LinkedFile) → l.file ≡ v → IsLinkedFile l → AllTyped l → a ≡ given (verified_line (length v.bodies)) → Check v starts a
 
 -- `tidy` of a file: the canonical bytes of the tidied file, or the first broken rule of tidying at its least index
 pub data Tidy (v : Abc) (a : Answer) : Type 0 where
@@ -67,7 +82,7 @@ abbrev pub OutcomeOf : Command → List ℕ → Answer → Type 0
 OutcomeOf commands.Canon input a = OfFile Canon input a
 OutcomeOf commands.Dis input a = OfFile Dis input a
 OutcomeOf commands.Asm input a = a ≡ not_built
-OutcomeOf commands.Check input a = OfFile Check input a
+OutcomeOf commands.Check input a = OfFileRead Check input a
 OutcomeOf commands.Tidy input a = OfFile Tidy input a
 OutcomeOf (commands.Run options) input a = a ≡ not_built
 OutcomeOf (commands.Gen options) input a = a ≡ not_built

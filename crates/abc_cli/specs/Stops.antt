@@ -1,6 +1,5 @@
 -- What a command gives, or what it is answered with where it gives nothing.
-use Rattle.std.specs.Prelude.{◌≡◌, ◌≢◌, ℕ, List}
-use Rattle.std.specs.declared.option.Option.{Option}
+use Rattle.std.specs.Prelude.{◌≡◌, ◌≢◌, ◌<◌, ◌×◌, ℕ, List, [], get_or, length}
 use Rattle.abc_base.specs.declared.status.Status.TheVariants as status
 use Rattle.abc_file.specs.Reading.{IsUsedUp}
 use Rattle.abc_format.specs.Part.{refusal}
@@ -10,17 +9,20 @@ use Rattle.abc_rules.specs.declared.error.LinkError.{LinkError}
 use Rattle.abc_rules.specs.declared.error.LinkError.TheVariants as refusals
 use Rattle.abc_tidy.specs.declared.error.TidyError.{TidyError}
 use Rattle.abc_tidy.specs.declared.error.TidyError.TheVariants as tidying
+use Rattle.abc_verify.specs.declared.error.VerifyError.{VerifyError}
+use Rattle.abc_verify.specs.declared.error.VerifyError.TheVariants as untyped
 use Rattle.abc_words.specs.declared.command.Command.{Command}
 use Rattle.abc_cli.specs.declared.stop.Stop.{Stop}
 use Rattle.abc_cli.specs.declared.stop.Stop.TheVariants as stops
 use Rattle.abc_cli.specs.End.{Channel, HasFailed}
-use Rattle.abc_cli.specs.Lines.{item_text, refusal_text, read_fault_text, no_memory_text, tidy_text}
-use Rattle.abc_cli.specs.Outcome.{Answer, CommandOutcome, given, not_built, told}
+use Rattle.abc_cli.specs.Lines.{item_text, refusal_text, read_fault_text, no_memory_text, tidy_text, untyped_text}
+use Rattle.abc_cli.specs.Outcome.{Answer, CommandOutcome, given, not_built, offset_in, told}
 
 -- what is answered where a command gives nothing
 abbrev pub stop_answer : Stop → Answer
 stop_answer (stops.File place reason) = told status.Refused (refusal_text (refusal place reason))
 stop_answer (stops.Item i rule) = told status.Refused (item_text i rule)
+stop_answer (stops.Code m offset rule) = told status.Refused (untyped_text m offset rule)
 stop_answer (stops.Tidy rule i) = told status.Refused (tidy_text rule i)
 stop_answer stops.NotBuilt = not_built
 stop_answer stops.ReadFault = told status.ReadFault read_fault_text
@@ -40,6 +42,16 @@ stop_of_read errors.NoMemory = stops.NoMemory
 abbrev pub stop_of_link : LinkError → Stop
 stop_of_link (refusals.Refused rule i) = stops.Item i rule
 stop_of_link refusals.NoMemory = stops.NoMemory
+
+-- the refusal of a method, whose instructions began so in its code as it was read
+abbrev pub stop_of_verify : List (List ℕ) → VerifyError → Stop
+stop_of_verify starts (untyped.Refused m b i rule) = stops.Code m (offset_in starts b i) rule
+stop_of_verify starts untyped.NoMemory = stops.NoMemory
+
+-- the place of a refusal is one of an instruction, or the end of the code
+abbrev pub IsPlaced : List (List ℕ) → VerifyError → Type 0
+IsPlaced starts (untyped.Refused m b i rule) = (b < length starts) × (i < length (get_or starts b []))
+IsPlaced starts untyped.NoMemory = Unit {0}
 
 abbrev pub stop_of_tidy : TidyError → Stop
 stop_of_tidy (tidying.Refused rule i) = stops.Tidy rule i

@@ -1,34 +1,78 @@
-ghost use Rattle.std.specs.Prelude.{IfErr, IfOk};
+ghost use Rattle.std.specs.Prelude.{◌≡◌, IfErr, IfOk};
+ghost use Rattle.abc_bodies.specs.Places.{ArePlaces};
 ghost use Rattle.abc_cli.specs.End.{stream};
+ghost use Rattle.abc_cli.specs.Lines.{verified_line};
 ghost use Rattle.abc_cli.specs.Outcome.{Check, given};
-ghost use Rattle.abc_cli.specs.Stops.{Gives, Stops, StopsAt};
+ghost use Rattle.abc_cli.specs.Stops.{Gives, IsPlaced, Stops, StopsAt, stop_of_verify};
+ghost use Rattle.abc_tables.specs.Files.{Fits};
 ghost use Rattle.abc_words.specs.declared.command.Command.TheVariants as commands;
 
 use crate::stop::Stop;
-use abc_base::Source;
-use abc_file::read;
-use abc_names::{NameTables, Names, meanings_of};
-use abc_rules::check_rules;
+use abc_base::{NoMemory, Source};
+use abc_file::{Places, read};
+use abc_link::link;
 use abc_tables::Abc;
+use abc_verify::{VerifyError, verify};
+use itoa::Buffer;
 use std::alloc::Global;
 
-/// Why a file doesn't link. What comes after linking is not built yet.
-fn verdict(alloc: Global, abc: &Abc) -> Result<Vec<u8>, Stop>
-    ensures gives { IfOk result (λ bytes. Check abc.now (given bytes.items)) }
-    ensures stops { IfErr result (λ stop. StopsAt (Check abc.now) stop) }
+/// The line of a file that is verified.
+#[tactic(auto, unfolding(crate::specs::Lines::verified_line), using(std::proofs::Common::append_assoc))]
+fn line_of(alloc: Global, count: usize) -> Result<Vec<u8>, NoMemory>
+    ensures { IfOk result (λ bytes. bytes.items ≡ verified_line count) }
 {
-    let tables = NameTables::new(alloc, abc)?;
-    let meanings = meanings_of(alloc, Names::new(abc, &tables))?;
-    check_rules(alloc, abc, &tables, &meanings)?;
-    Err(Stop::NotBuilt)
+    let mut buffer = Buffer::new();
+    let digits = buffer.format(count).as_bytes();
+    let mut bytes = Vec::new(alloc);
+    bytes.extend_from_slice(b"verified ")?;
+    bytes.extend_from_slice(digits)?;
+    bytes.extend_from_slice(b"\n")?;
+    Ok(bytes)
 }
 
-/// What the command `check` gives: the first broken rule of linking.
+/// Why a file that links isn't verified.
+fn stop_of(places: &Places, e: VerifyError) -> Stop
+    requires { IsPlaced places.now e }
+    ensures { result ≡ stop_of_verify places.now e }
+{
+    match e {
+        VerifyError::Refused {
+            method,
+            body,
+            index,
+            rule,
+        } => Stop::Code {
+            method,
+            offset: places.offset(body, index),
+            rule,
+        },
+        VerifyError::NoMemory => Stop::NoMemory,
+    }
+}
+
+/// How many bodies are verified, or why the file isn't.
+fn verdict(alloc: Global, abc: Abc, places: &Places) -> Result<Vec<u8>, Stop>
+    requires fits { Fits abc }
+    requires places { ArePlaces abc.bodies places.now }
+    ensures gives { IfOk result (λ bytes. Check abc places.now (given bytes.items)) }
+    ensures stops { IfErr result (λ stop. StopsAt (Check abc places.now) stop) }
+{
+    let linked = link(alloc, abc)?;
+    match verify(alloc, linked) {
+        Ok(verified) => {
+            let bytes = line_of(alloc, verified.linked().abc().bodies.len())?;
+            Ok(bytes)
+        }
+        Err(e) => Err(stop_of(places, e)),
+    }
+}
+
+/// What the command `check` gives: how many bodies are verified.
 pub fn check<S: Source>(alloc: Global, source: &mut S) -> Result<Vec<u8>, Stop>
     ensures gives { IfOk result (λ bytes. Gives commands.Check (stream S.left S.faults source.old source.new) bytes.items) }
     ensures stops { IfErr result (λ stop. Stops commands.Check (stream S.left S.faults source.old source.new) stop) }
 {
-    let (abc, _) = read(alloc, source)?;
-    let bytes = verdict(alloc, &abc)?;
+    let (abc, places) = read(alloc, source)?;
+    let bytes = verdict(alloc, abc, &places)?;
     Ok(bytes)
 }

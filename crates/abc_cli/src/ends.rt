@@ -6,12 +6,13 @@ ghost use Rattle.abc_cli.specs.Lines.{kind_of_tidy, line, write_fault_text, no_c
 ghost use Rattle.abc_cli.specs.Outcome.{given, told};
 ghost use Rattle.abc_cli.specs.Stops.{stop_answer};
 
-use crate::lines::{write_line, write_place};
+use crate::lines::{write_code, write_line, write_place};
 use crate::stop::Stop;
 use abc_base::{Failed, Sink, Status, write_all};
 use abc_format::Reason;
 use abc_rules::{Item, LinkRule};
 use abc_tidy::TidyRule;
+use abc_typing::VerifyRule;
 
 /// The status where its line was written, and that of a failed write where it wasn't.
 pub fn ended(written: Result<(), Failed>, status: Status) -> Status
@@ -47,6 +48,15 @@ fn give_item<E: Sink>(err: &mut E, item: Item, rule: LinkRule) -> Status
     ensures { GivesLine (stream E.written E.faults err.old err.new) (stop_answer (Stop.Item item rule)) result }
 {
     let written = write_place(err, item.kind.name(), item.index, rule.name());
+    ended(written, Status::Refused)
+}
+
+/// Writes the line of a method that breaks a rule of verifying.
+#[tactic(auto, using(crate::proofs::Ending::gives))]
+fn give_code<E: Sink>(err: &mut E, method: u32, offset: u32, rule: VerifyRule) -> Status
+    ensures { GivesLine (stream E.written E.faults err.old err.new) (stop_answer (Stop.Code method offset rule)) result }
+{
+    let written = write_code(err, method, offset, rule.name());
     ended(written, Status::Refused)
 }
 
@@ -87,6 +97,11 @@ pub fn give_stop<E: Sink>(err: &mut E, stop: Stop) -> Status
     match stop {
         Stop::File { place, reason } => give_file(err, place, reason),
         Stop::Item { item, rule } => give_item(err, item, rule),
+        Stop::Code {
+            method,
+            offset,
+            rule,
+        } => give_code(err, method, offset, rule),
         Stop::Tidy { rule, index } => give_tidy(err, rule, index),
         Stop::NotBuilt => give_line(err, Status::NotBuilt, b"not built"),
         Stop::ReadFault => give_line(err, Status::ReadFault, b"read fault"),

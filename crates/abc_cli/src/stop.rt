@@ -6,6 +6,7 @@ use abc_base::NoMemory;
 use abc_format::Reason;
 use abc_rules::{Item, LinkError, LinkRule};
 use abc_tidy::{TidyError, TidyRule};
+use abc_typing::VerifyRule;
 use abc_varint::ReadError;
 use thiserror::Error;
 
@@ -14,13 +15,29 @@ use thiserror::Error;
 pub enum Stop {
     /// The input is no file.
     #[error("the file is refused at {place}: {reason:?}")]
-    File { place: u32, reason: Reason },
+    File {
+        place: u32,
+        reason: Reason,
+    },
     /// The file breaks a rule of linking.
     #[error("{rule:?} is broken by {item:?}")]
-    Item { item: Item, rule: LinkRule },
+    Item {
+        item: Item,
+        rule: LinkRule,
+    },
+    /// A method breaks a rule of verifying, at an offset in its code as it was read.
+    #[error("{rule:?} is broken by method {method} at {offset}")]
+    Code {
+        method: u32,
+        offset: u32,
+        rule: VerifyRule,
+    },
     /// The file breaks a rule of tidying, at a body, a method or a name.
     #[error("{rule:?} is broken at {index}")]
-    Tidy { rule: TidyRule, index: u32 },
+    Tidy {
+        rule: TidyRule,
+        index: u32,
+    },
     /// The command is not built yet.
     #[error("not built")]
     NotBuilt,
