@@ -1,0 +1,32 @@
+-- The lines of code, as they are read.
+use Rattle.std.specs.Prelude.{◌≡◌, ℕ, List, [], ◌∷◌, ◌++◌, Ok}
+use Rattle.std.specs.declared.result.Result.{Result}
+use Rattle.abc_tables.specs.declared.code.Instr.{Instr}
+use Rattle.abc_text.specs.Reasons.{least}
+use Rattle.abc_rowparts.specs.Lines.{Row}
+use Rattle.abc_rowparts.specs.Rows.{Fault, code_reads, unless, ◌>>=◌}
+use Rattle.abc_lines.specs.File.{faults, instructions}
+use Rattle.abc_asmreader.specs.declared.reader.Reader.{Reader}
+use Rattle.abc_asmreader.specs.Parts.{Item, Part}
+use Rattle.abc_asmreader.specs.Reading.{Goes, rows_left}
+
+-- instructions, and label lines among them
+abbrev pub code_read : Part (List Instr)
+code_read v instances n rows = code_reads (faults v instances) (instructions v instances) rows
+
+-- the line of an instruction
+abbrev pub instruction_read : Item Instr
+instruction_read v instances n row rows = unless (least (faults v instances row rows)) row.number (Ok ((instructions v instances).value row, rows))
+
+-- a label line
+abbrev pub label_read : Item (Unit {0})
+label_read v instances n row rows = unless (least (faults v instances row rows)) row.number (Ok (tt, rows))
+
+-- some instructions before those that are read
+abbrev pub code_front : List Instr → Result (List Instr × List Row) Fault → Result (List Instr × List Row) Fault
+code_front front r = r >>= λ x. Ok (front ++ x.0, x.1)
+
+-- What was read, and what is left, is what is read of all.
+pub record IsCoding (xs : List Instr) (old new : Reader) : Type 0 where
+  pub goes : Goes old new
+  pub reads : code_front xs (code_read old.sizes old.instances 0 (rows_left new)) ≡ code_read old.sizes old.instances 0 (rows_left old)

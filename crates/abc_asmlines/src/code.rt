@@ -1,0 +1,64 @@
+//! The code of a body.
+ghost use Rattle.std.specs.Prelude.{◌≡◌, ◌<◌, ℕ, IfOk, length, Some};
+ghost use Rattle.abc_text.specs.declared.word.Word.TheVariants as words;
+ghost use Rattle.abc_asmreader.specs.Parts.{ReadsItem, ReadsPart};
+ghost use Rattle.abc_asmreader.specs.Reading.{Goes, IsReader, rows_left, word_next};
+ghost use Rattle.abc_asmlines.specs.Coded.{code_read, instruction_read, label_read};
+
+use abc_asmreader::{AsmError, Reader, made, refused};
+use abc_base::Table;
+use abc_codelines::instruction_line;
+use abc_tables::Instr;
+use abc_text::{AsmReason, Word};
+
+/// Reads the instructions of a body, and the label lines among them. `Refused` for the first fault, `NoMemory` where
+/// memory runs out.
+pub fn read_code(reader: &mut Reader<'_>) -> Result<Table<Instr>, AsmError>
+    requires { IsReader reader.old }
+    ensures goes { IfOk result (λ xs. Goes reader.old reader.new) }
+    ensures reads { ReadsPart code_read reader.old reader.new result }
+{
+    let mut code = Table::new(reader.alloc);
+    while let Some(word) = reader.word() {
+        match word {
+            Word::Label => read_label(reader)?,
+            Word::Instruction(op) => {
+                let instr = read_instruction(reader, op)?;
+                code.push(instr)?;
+            }
+            _ => return Ok(code),
+        }
+    }
+    Ok(code)
+}
+
+/// Reads an instruction, which comes next.
+fn read_instruction(reader: &mut Reader<'_>, op: u8) -> Result<Instr, AsmError>
+    requires is { IsReader reader.old }
+    requires next { word_next (rows_left reader.old) ≡ Some (words.Instruction op) }
+    ensures goes { IfOk result (λ x. Goes reader.old reader.new) }
+    ensures ahead { IfOk result (λ x. length (rows_left reader.new) < length (rows_left reader.old)) }
+    ensures reads { ReadsItem instruction_read reader.old reader.new result }
+{
+    let taken = reader.take()?;
+    let instr = instruction_line(reader.alloc, op, reader.operands.as_slice(), &reader.places);
+    made(&taken, instr)
+}
+
+/// Reads a label line, which comes next.
+fn read_label(reader: &mut Reader<'_>) -> Result<(), AsmError>
+    requires is { IsReader reader.old }
+    requires next { word_next (rows_left reader.old) ≡ Some words.Label }
+    ensures goes { IfOk result (λ x. Goes reader.old reader.new) }
+    ensures ahead { IfOk result (λ x. length (rows_left reader.new) < length (rows_left reader.old)) }
+    ensures reads { ReadsItem label_read reader.old reader.new result }
+{
+    let taken = reader.take()?;
+    if !reader.operands.is_empty() {
+        return Err(refused(taken.number, AsmReason::Operands));
+    }
+    if taken.repeated {
+        return Err(refused(taken.number, AsmReason::LabelTwice));
+    }
+    Ok(())
+}
