@@ -69,7 +69,7 @@ pub first_word : (w : Word) → place_of w ≡ 0 → w ≡ words.Abc
 first_word w e = same_word w words.Abc (λ h. absurd (omega arith)) e
 
 pub other_line : (old new : Reader) (w : Word) (d : AsmError) → word_next (rows_left old) ≡ Some w → ¬ (place_of w ≡ 0) → IsMisplaced old d → ReadsVersion old new (Err d)
-other_line old new w (errors.Refused line reason) e other placed next =
+other_line old new w (errors.Refused line reason) e other placed = λ next.
     let f = first_of (rows_left old) w e in
     let told_ = faults old.sizes old.instances in
     let apart : nat_eq (place_of (f.row).word) 0 ≡ false = not_first (f.row).word (λ h. other (ap place_of (sym f.word) ∙ h)) in
@@ -87,7 +87,7 @@ at_version : (told_ : Faults) (row : Row) (rows : List Row) (next : Next) → ro
 at_version told_ row rows next e = ap (λ (w : Word). cond (nat_eq (place_of w) 0) (unless (least (told_ row rows)) row.number (next rows)) (misplaced told_ row rows)) e
 
 pub broken_version : (old new : Reader) (w : Word) (d : AsmError) → word_next (rows_left old) ≡ Some w → place_of w ≡ 0 → IsBroken d (rows_left old) → ReadsVersion old new (Err d)
-broken_version old new w (errors.Refused line reason) e at broken next =
+broken_version old new w (errors.Refused line reason) e at broken = λ next.
     let f = first_of (rows_left old) w e in
     let v = old.sizes in let i = old.instances in
     let row = broken.0 in let after = broken.1 in
@@ -153,7 +153,7 @@ abbrev wrongly : ℕ → AsmReason → Result Abc Fault
 wrongly line reason = Err (fault line reason)
 
 pub misplaced_broken : (old : Reader) (d : AsmError) → IsBroken d (rows_left old) → IsMisplaced old d
-misplaced_broken old (errors.Refused line reason) broken row rows e =
+misplaced_broken old (errors.Refused line reason) broken = λ row rows e.
     let same : row ≡ broken.0 = first_same row broken.0 rows broken.1 (sym e ∙ broken.2) in
     let here : row.broken ≡ true = ap (λ (r : Row). r.broken) same ∙ broken.3 in
     let number : row.number ≡ line = ap (λ (r : Row). r.number) same ∙ broken.4 in

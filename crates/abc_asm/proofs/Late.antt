@@ -14,14 +14,17 @@ use Rattle.abc_tables.specs.declared.opcodes.Form.TheVariants as shapes
 use Rattle.abc_tables.specs.declared.names.MultinameKind.{MultinameKind}
 use Rattle.abc_tables.specs.declared.names.MultinameKind.TheVariants as kinds
 use Rattle.abc_tables.specs.declared.methods.ValueKind.{ValueKind}
+use Rattle.abc_tables.specs.declared.methods.ValueKind.TheVariants as values
+use Rattle.abc_tables.specs.declared.names.NsKind.TheVariants as spaces
 use Rattle.abc_tables.specs.declared.tables.Sizes.{Sizes}
 use Rattle.abc_tables.specs.declared.traits.TraitKind.{TraitKind}
 use Rattle.abc_tables.specs.declared.traits.TraitKind.TheVariants as traits
 use Rattle.abc_tables.specs.Opcodes.{form_at}
 use Rattle.abc_rowparts.specs.Lines.{Label, Row}
+use Rattle.abc_rowparts.specs.Wordlines.{lookup}
 use Rattle.abc_rowparts.specs.Operands.{Operand, Operands, any_number, any_signed, by, checked, eight, eight_in, entry_upto, exactly, found_place, hex_bytes, index_below, index_upto, is_name, is_numeral, kind, kind_of, found_kind, negative, none, number_below, number_of, numeral, place_of_label, reasons_in, reasons_of, seen, several, several_faults, signed_between, signed_of, signed_token, target, tested, text, text_of, u30, unseen, ◌&◌}
 use Rattle.abc_lines.specs.File.{own}
-use Rattle.abc_lines.specs.Kinds.{multiname_kind, space_kind, trait_kind, value_kind}
+use Rattle.abc_lines.specs.Kinds.{multiname_kind, multiname_word, multiname_words, space_kind, space_word, space_words, trait_kind, trait_word, trait_words, value_kind, value_word, value_words}
 use Rattle.abc_lines.specs.Lineforms as forms
 use Rattle.abc_asm.proofs.Known.{IsKnown}
 
@@ -127,19 +130,19 @@ kind-late name named default labels (Quoted bytes) = refl
 
 space-late : Late space_kind
 unfolding space_kind
-space-late labels token = kind-late _ _ _ labels token
+space-late labels token = kind-late space_word (lookup space_words) spaces.Private labels token
 
 multiname-late : Late multiname_kind
 unfolding multiname_kind
-multiname-late labels token = kind-late _ _ _ labels token
+multiname-late labels token = kind-late multiname_word (lookup multiname_words) kinds.TypeName labels token
 
 value-late : Late value_kind
 unfolding value_kind
-value-late labels token = kind-late _ _ _ labels token
+value-late labels token = kind-late value_word (lookup value_words) values.Undefined labels token
 
 trait-late : Late trait_kind
 unfolding trait_kind
-trait-late labels token = kind-late _ _ _ labels token
+trait-late labels token = kind-late trait_word (lookup trait_words) traits.Slot labels token
 
 -- ---- lines
 
@@ -195,11 +198,11 @@ module _ (v : Sizes) where
   multiname_fields-late kinds.TypeName = then-late (entry_upto v.names) (several (index_upto v.names)) (entry_upto-late v.names) (several-late (index_upto v.names) (index_upto-late v.names))
 
   multiname_rest-late : (o : Option MultinameKind) → LateAll (forms.multiname_rest v o)
-  multiname_rest-late (Some kind) = multiname_fields-late kind
-  multiname_rest-late None labels tokens = refl
+  multiname_rest-late (Some k) = multiname_fields-late k
+  multiname_rest-late None = λ labels tokens. refl
 
   option_rest-late : (o : Option ValueKind) → LateAll (forms.option_rest v o)
-  option_rest-late (Some kind) = one-late (forms.value_index v kind) (checked-late _ reasons.Index u30 refl u30-late)
+  option_rest-late (Some k) = one-late (forms.value_index v k) (checked-late _ reasons.Index u30 refl u30-late)
   option_rest-late None = one-late u30 u30-late
 
   slot_rest-late : (o : Option ℕ) → LateAll (forms.slot_rest v o)
@@ -227,8 +230,8 @@ module _ (v : Sizes) where
   trait_fields-late traits.Function = pair_fields-late v.methods
 
   trait_rest-late : (o : Option TraitKind) → LateAll (forms.trait_rest v o)
-  trait_rest-late (Some kind) = then-late (number_below 16) (entry_upto v.names & forms.trait_fields v kind) (number_below-late 16) (then-late (entry_upto v.names) (forms.trait_fields v kind) (entry_upto-late v.names) (trait_fields-late kind))
-  trait_rest-late None labels tokens = refl
+  trait_rest-late (Some k) = then-late (number_below 16) (entry_upto v.names & forms.trait_fields v k) (number_below-late 16) (then-late (entry_upto v.names) (forms.trait_fields v k) (entry_upto-late v.names) (trait_fields-late k))
+  trait_rest-late None = λ labels tokens. refl
 
   fields-late : (op : ℕ) (form : Form) → LateAll (forms.instruction_fields op form)
   fields-late op shapes.Plain = none-late

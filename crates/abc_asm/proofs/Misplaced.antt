@@ -1,5 +1,5 @@
 -- A line that may not stand where it does.
-use Rattle.std.proofs.Common.{◌≡◌, ℕ, ◌^◌, Bool, true, false, cond, ◌&&◌, nat_le, nat_eq, List, [], ◌∷◌, ◌++◌, Ok, Err, Some, None, refl, sym, ap, ◌∙◌, append-nil}
+use Rattle.std.proofs.Common.{◌≡◌, ℕ, ◌^◌, Bool, true, false, cond, ◌&&◌, nat_le, nat_eq, List, [], ◌∷◌, ◌++◌, length, Ok, Err, Some, None, refl, sym, ap, ◌∙◌, append-nil}
 use Rattle.std.specs.declared.option.Option.{Option}
 use Rattle.std.specs.declared.result.Result.{Result}
 use Rattle.abc_text.specs.declared.reason.AsmReason.{AsmReason}
@@ -18,7 +18,7 @@ use Rattle.abc_tables.specs.Opcodes.{form_at}
 use Rattle.abc_rowparts.specs.Assembly.{misplaced}
 use Rattle.abc_rowparts.specs.Lines.{Row}
 use Rattle.abc_rowparts.specs.Rows.{Fault, fault}
-use Rattle.abc_rowparts.specs.Wordlines.{if_none, plain_faults, twice}
+use Rattle.abc_rowparts.specs.Wordlines.{faults_of, if_none, plain_faults, twice}
 use Rattle.abc_lines.specs.File as file
 use Rattle.abc_lines.specs.File.{count_unless, ends_body, extra, faults, long_code, others, own, rules}
 use Rattle.abc_lines.specs.Lineforms as forms
@@ -88,7 +88,7 @@ module _ (v : Sizes) (i : ℕ) where
   long_late (Err f) = refl
 
   extra_late : (w : Word) (row : Row) (after : List Row) → all_late (extra v i row after w) ≡ true
-  extra_late words.Body row after = long_late _
+  extra_late words.Body row after = long_late ((file.body_below v i (faults_of (file.plain_rules v i)) (length after)).reads after)
   extra_late _ row after = refl
 
   faults_late : (row : Row) (after : List Row) → row.broken ≡ false → IsKnown row.word → all_late (faults v i row after) ≡ true

@@ -31,11 +31,11 @@ no_rows (row ∷ rows) e = absurd cc
 
 -- what the program knows of the next line
 pub is_left : (o : Option Word) (b : Bool) → b ≡ is_some o → b ≡ true → IsSome o
-is_left o b e yes = sym e ∙ yes
+is_left o b e is = sym e ∙ is
 
 pub none_is_left : (o : Option Word) (b : Bool) → b ≡ is_some o → b ≡ false → o ≡ None
-none_is_left None b e no = refl
-none_is_left (Some w) b e no = absurd cc
+none_is_left None b e is = refl
+none_is_left (Some w) b e is = absurd cc
 
 some_row : (l : List Row) → IsSome (word_next l) → (row : Row) × (rows : List Row) × (l ≡ row ∷ rows)
 some_row [] some = absurd cc

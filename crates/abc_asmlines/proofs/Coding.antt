@@ -35,11 +35,14 @@ front_more xs x (Err e) = refl
 abbrev read_as : {A : Type 0} → A → List Row → Result (A × List Row) Fault
 read_as a l = Ok (a, l)
 
+same_pair : {A : Type 0} (x y : A × List Row) → read_as x.0 x.1 ≡ read_as y.0 y.1 → x ≡ y
+same_pair x y e = cc
+
 same_rest : {A : Type 0} (a b : A) (xs ys : List Row) → read_as a xs ≡ read_as b ys → xs ≡ ys
-same_rest a b xs ys e = cc
+same_rest {A} a b xs ys e = ap (λ (z : A × List Row). z.1) (same_pair (a, xs) (b, ys) e)
 
 same_value : {A : Type 0} (a b : A) (xs ys : List Row) → read_as a xs ≡ read_as b ys → a ≡ b
-same_value a b xs ys e = cc
+same_value {A} a b xs ys e = ap (λ (z : A × List Row). z.0) (same_pair (a, xs) (b, ys) e)
 
 unless_fails : {A : Type 0} (p : Option AsmReason) (line : ℕ) (x : A) (r : Coded) (f : Fault) → unless p line (Ok x) ≡ Err f → unless p line r ≡ Err f
 unless_fails None line x r f e = absurd cc

@@ -56,15 +56,22 @@ other_err : {A B : Type 0} (f : A → B) (r : Reading A) (d : Fault) → as_othe
 other_err f (Ok x) d e = absurd cc
 other_err {A} f (Err c) d e = let same : c ≡ d = cc in let bad : Fault → Reading A = λ g. Err g in ap bad same
 
+abbrev read_as : {B : Type 0} → B × List Row → Reading B
+read_as x = Ok x
+
 record IsOther {A B : Type 0} (f : A → B) (r : Reading A) (y : B) (left : List Row) : Type 0 where
   value : A
   is : r ≡ Ok (value, left)
   same : f value ≡ y
 
+same_read : {B : Type 0} (a b : B × List Row) → read_as a ≡ read_as b → a ≡ b
+same_read a b e = cc
+
 other_ok : {A B : Type 0} (f : A → B) (r : Reading A) (y : B) (left : List Row) → as_other f r ≡ Ok (y, left) → IsOther f r y left
-other_ok {A} f (Ok x) y left e =
-    let value : f x.0 ≡ y = cc in
-    let rest : x.1 ≡ left = cc in
+other_ok {A} {B} f (Ok x) y left e =
+    let same = same_read (f x.0, x.1) (y, left) e in
+    let value : f x.0 ≡ y = ap (λ (z : B × List Row). z.0) same in
+    let rest : x.1 ≡ left = ap (λ (z : B × List Row). z.1) same in
     let pair : List Row → Reading A = λ l. Ok (x.0, l) in
     record { value = x.0; is = ap pair rest; same = value }
 other_ok f (Err d) y left e = absurd cc

@@ -69,8 +69,14 @@ module _ (v : Sizes) (instances : ℕ) where
   abbrev Same : {A : Type 0} → Word → (Row → List Row → Reading A) → (Row → List Row → Reading A) → Type 0
   Same w f g = (row : Row) (rows : List Row) → nat_eq (place_of row.word) (place_of w) ≡ true → f row rows ≡ g row rows
 
-  then_same : {A : Type 0} (w : Word) (f g : Row → List Row → Reading A) (n : ℕ) → ((rows : List Row) → items_read w f n rows ≡ items_read w g n rows) → (r : Reading A) → (r >>= λ x. items_read w f n x.1 >>= λ xs. Ok (x.0 ∷ xs.0, xs.1)) ≡ (r >>= λ x. items_read w g n x.1 >>= λ xs. Ok (x.0 ∷ xs.0, xs.1))
-  then_same {A} w f g n again (Ok x) = ap (λ (r : Reading (List A)). r >>= λ xs. Ok (x.0 ∷ xs.0, xs.1)) (again x.1)
+  abbrev ahead : {A : Type 0} → A → Reading (List A) → Reading (List A)
+  ahead x r = r >>= λ xs. Ok (x ∷ xs.0, xs.1)
+
+  abbrev then_items : {A : Type 0} → Word → (Row → List Row → Reading A) → ℕ → Reading A → Reading (List A)
+  then_items w f n r = r >>= λ x. ahead x.0 (items_read w f n x.1)
+
+  then_same : {A : Type 0} (w : Word) (f g : Row → List Row → Reading A) (n : ℕ) → ((rows : List Row) → items_read w f n rows ≡ items_read w g n rows) → (r : Reading A) → then_items w f n r ≡ then_items w g n r
+  then_same w f g n again (Ok x) = ap (ahead x.0) (again x.1)
   then_same w f g n again (Err d) = refl
 
   items_same : {A : Type 0} (w : Word) (f g : Row → List Row → Reading A) → Same w f g → (n : ℕ) (rows : List Row) → items_read w f n rows ≡ items_read w g n rows
@@ -78,7 +84,7 @@ module _ (v : Sizes) (instances : ℕ) where
   items_same w f g same (suc n) [] = refl
   items_same {A} w f g same (suc n) (row ∷ rows) =
       elim (split_bool (nat_eq (place_of row.word) (place_of w))) [
-        | inl e ↦ rw e (ap (λ (r : Reading A). r >>= λ x. items_read w f n x.1 >>= λ xs. Ok (x.0 ∷ xs.0, xs.1)) (same row rows e) ∙ then_same w f g n (λ l. items_same w f g same n l) (g row rows))
+        | inl e ↦ rw e (ap (then_items w f n) (same row rows e) ∙ then_same w f g n (λ l. items_same w f g same n l) (g row rows))
         | inr e ↦ rw e refl
       ]
 
