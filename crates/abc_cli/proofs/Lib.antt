@@ -1,3 +1,4 @@
 pub mod Ending
 pub mod Listings
 pub mod Usages
+pub mod Assembling
