@@ -54,7 +54,7 @@ fn read_label(reader: &mut Reader<'_>) -> Result<(), AsmError>
     ensures reads { ReadsItem label_read reader.old reader.new result }
 {
     let taken = reader.take()?;
-    if !reader.operands.is_empty() {
+    if !reader.operands.as_slice().is_empty() {
         return Err(refused(taken.number, AsmReason::Operands));
     }
     if taken.repeated {

@@ -2,6 +2,7 @@
 use Rattle.std.proofs.Common.{◌≡◌, ℕ, suc, ◌+◌, ◌-◌, ◌^◌, ◌<◌, ◌≤◌, min, inl, inr, Bool, true, false, cond, nat_eq, nat_le, List, [], ◌∷◌, ◌++◌, length, take, get_or, append_assoc, Ok, Err, Some, None, refl, sym, ap, subst, ◌∙◌, arith}
 use Rattle.std.proofs.Math.Seq.{take-suc}
 use Rattle.std.proofs.lemmas.Bool.Decides.{nat_tests}
+use Rattle.std.proofs.lemmas.List.{get_or_default}
 use Rattle.std.specs.Prelude.{slice_get}
 use Rattle.std.specs.declared.option.Option.{Option}
 use Rattle.std.specs.declared.result.Result.{Result}
@@ -129,14 +130,19 @@ joined_more : (xs : List (ℕ × ℕ)) (pair : ℕ × ℕ) → joined (xs ++ pai
 joined_more [] pair = refl
 joined_more (x ∷ xs) pair = ap (λ (l : List ℕ). x.0 ∷ x.1 ∷ l) (joined_more xs pair)
 
-pub joined_step : (xs : List (ℕ × ℕ)) (items : List ℕ) (i : ℕ) (e : ℕ × ℕ) → items ≡ joined (take i xs) → i < length xs → e ≡ get_or xs i e → (items ++ e.0 ∷ []) ++ e.1 ∷ [] ≡ joined (take (i + 1) xs)
-joined_step xs items i e is lt at =
+joined_next : (xs : List (ℕ × ℕ)) (items : List ℕ) (i : ℕ) (e : ℕ × ℕ) → items ≡ joined (take i xs) → i < length xs → e ≡ get_or xs i e → (items ++ e.0 ∷ []) ++ e.1 ∷ [] ≡ joined (take (i + 1) xs)
+joined_next xs items i e is lt at =
     let one : i + 1 ≡ suc i = omega arith in
     append_assoc items (e.0 ∷ []) (e.1 ∷ [])
     ∙ ap (λ (l : List ℕ). l ++ e.0 ∷ e.1 ∷ []) is
     ∙ sym (joined_more (take i xs) e)
     ∙ ap (λ (x : ℕ × ℕ). joined (take i xs ++ x ∷ [])) at
     ∙ sym (ap (λ (n : ℕ). joined (take n xs)) one ∙ ap joined (take-suc xs i e lt))
+
+pub joined_step : (xs ys : List (ℕ × ℕ)) (items : List ℕ) (i : ℕ) (d : ℕ × ℕ) → ys ≡ xs → items ≡ joined (take i xs) → i < length ys → (items ++ (get_or ys i d).0 ∷ []) ++ (get_or ys i d).1 ∷ [] ≡ joined (take (i + 1) xs)
+joined_step xs ys items i d same is lt =
+    joined_next ys items i (get_or ys i d) (is ∙ ap (λ (l : List (ℕ × ℕ)). joined (take i l)) (sym same)) lt (get_or_default ys i d (get_or ys i d) lt)
+    ∙ ap (λ (l : List (ℕ × ℕ)). joined (take (i + 1) l)) same
 
 abbrev instance_with : InstanceHead → InstanceBelow → Option ℕ → Instance
 instance_with head below space = record { name = head.name; super_name = head.super_name; flags = head.flags; protected_ns = space; interfaces = below.interfaces; iinit = below.iinit; traits = below.traits }

@@ -33,67 +33,67 @@ returns-in_err-ints-clause-reads c =
 pub returns-in_err-uints-clause-reads : goal.returns-in_err-uints-clause-reads
 returns-in_err-uints-clause-reads c =
     let p = err_from_is_err_and c.from_residual-in_err-uints.result c.from_residual-in_err-uints.ensures.1 in
-    rw (p.1, p.2) (mapped_err pools_made (pair_of ints_read from_uints) c.args.reader.now c.read_flat-in_ok-ints.new.reader _
-    (pair_second ints_read from_uints c.args.reader.now c.read_flat.new.reader c.read_flat-in_ok-ints.new.reader c.in_ok-ints.ints _ c.in_ok-ints.ensures.reads c.in_ok-ints.ensures.goes
-    (pair_first uints_read from_doubles c.read_flat.new.reader c.read_flat.new.reader c.read_flat-in_ok-ints.new.reader _ c.in_err-uints.ensures.reads)))
+    rw (p.1, p.2) (mapped_err pools_made (pair_of ints_read from_uints) c.args.reader.now c.read_flat-2.new.reader _
+    (pair_second ints_read from_uints c.args.reader.now c.read_flat.new.reader c.read_flat-2.new.reader c.in_ok-ints.ints _ c.in_ok-ints.ensures.reads c.in_ok-ints.ensures.goes
+    (pair_first uints_read from_doubles c.read_flat.new.reader c.read_flat.new.reader c.read_flat-2.new.reader _ c.in_err-uints.ensures.reads)))
 
 pub returns-in_err-doubles-clause-reads : goal.returns-in_err-doubles-clause-reads
 returns-in_err-doubles-clause-reads c =
     let p = err_from_is_err_and c.from_residual-in_err-doubles.result c.from_residual-in_err-doubles.ensures.1 in
-    rw (p.1, p.2) (mapped_err pools_made (pair_of ints_read from_uints) c.args.reader.now c.read_flat-in_ok-uints.new.reader _
-    (pair_second ints_read from_uints c.args.reader.now c.read_flat.new.reader c.read_flat-in_ok-uints.new.reader c.in_ok-ints.ints _ c.in_ok-ints.ensures.reads c.in_ok-ints.ensures.goes
-    (pair_second uints_read from_doubles c.read_flat.new.reader c.read_flat-in_ok-ints.new.reader c.read_flat-in_ok-uints.new.reader c.in_ok-uints.uints _ c.in_ok-uints.ensures.reads c.in_ok-uints.ensures.goes
-    (pair_first doubles_read from_strings c.read_flat-in_ok-ints.new.reader c.read_flat-in_ok-ints.new.reader c.read_flat-in_ok-uints.new.reader _ c.in_err-doubles.ensures.reads))))
+    rw (p.1, p.2) (mapped_err pools_made (pair_of ints_read from_uints) c.args.reader.now c.read_flat-3.new.reader _
+    (pair_second ints_read from_uints c.args.reader.now c.read_flat.new.reader c.read_flat-3.new.reader c.in_ok-ints.ints _ c.in_ok-ints.ensures.reads c.in_ok-ints.ensures.goes
+    (pair_second uints_read from_doubles c.read_flat.new.reader c.read_flat-2.new.reader c.read_flat-3.new.reader c.in_ok-uints.uints _ c.in_ok-uints.ensures.reads c.in_ok-uints.ensures.goes
+    (pair_first doubles_read from_strings c.read_flat-2.new.reader c.read_flat-2.new.reader c.read_flat-3.new.reader _ c.in_err-doubles.ensures.reads))))
 
 pub returns-in_err-strings-clause-reads : goal.returns-in_err-strings-clause-reads
 returns-in_err-strings-clause-reads c =
     let p = err_from_is_err_and c.from_residual-in_err-strings.result c.from_residual-in_err-strings.ensures.1 in
-    rw (p.1, p.2) (mapped_err pools_made (pair_of ints_read from_uints) c.args.reader.now c.read_flat-in_ok-doubles.new.reader _
-    (pair_second ints_read from_uints c.args.reader.now c.read_flat.new.reader c.read_flat-in_ok-doubles.new.reader c.in_ok-ints.ints _ c.in_ok-ints.ensures.reads c.in_ok-ints.ensures.goes
-    (pair_second uints_read from_doubles c.read_flat.new.reader c.read_flat-in_ok-ints.new.reader c.read_flat-in_ok-doubles.new.reader c.in_ok-uints.uints _ c.in_ok-uints.ensures.reads c.in_ok-uints.ensures.goes
-    (pair_second doubles_read from_strings c.read_flat-in_ok-ints.new.reader c.read_flat-in_ok-uints.new.reader c.read_flat-in_ok-doubles.new.reader c.in_ok-doubles.doubles _ c.in_ok-doubles.ensures.reads c.in_ok-doubles.ensures.goes
-    (pair_first strings_read from_namespaces c.read_flat-in_ok-uints.new.reader c.read_flat-in_ok-uints.new.reader c.read_flat-in_ok-doubles.new.reader _ c.in_err-strings.ensures.reads)))))
+    rw (p.1, p.2) (mapped_err pools_made (pair_of ints_read from_uints) c.args.reader.now c.read_flat-4.new.reader _
+    (pair_second ints_read from_uints c.args.reader.now c.read_flat.new.reader c.read_flat-4.new.reader c.in_ok-ints.ints _ c.in_ok-ints.ensures.reads c.in_ok-ints.ensures.goes
+    (pair_second uints_read from_doubles c.read_flat.new.reader c.read_flat-2.new.reader c.read_flat-4.new.reader c.in_ok-uints.uints _ c.in_ok-uints.ensures.reads c.in_ok-uints.ensures.goes
+    (pair_second doubles_read from_strings c.read_flat-2.new.reader c.read_flat-3.new.reader c.read_flat-4.new.reader c.in_ok-doubles.doubles _ c.in_ok-doubles.ensures.reads c.in_ok-doubles.ensures.goes
+    (pair_first strings_read from_namespaces c.read_flat-3.new.reader c.read_flat-3.new.reader c.read_flat-4.new.reader _ c.in_err-strings.ensures.reads)))))
 
 pub returns-in_err-namespaces-clause-reads : goal.returns-in_err-namespaces-clause-reads
 returns-in_err-namespaces-clause-reads c =
     let p = err_from_is_err_and c.from_residual-in_err-namespaces.result c.from_residual-in_err-namespaces.ensures.1 in
-    rw (p.1, p.2) (mapped_err pools_made (pair_of ints_read from_uints) c.args.reader.now c.read_flat-in_ok-strings.new.reader _
-    (pair_second ints_read from_uints c.args.reader.now c.read_flat.new.reader c.read_flat-in_ok-strings.new.reader c.in_ok-ints.ints _ c.in_ok-ints.ensures.reads c.in_ok-ints.ensures.goes
-    (pair_second uints_read from_doubles c.read_flat.new.reader c.read_flat-in_ok-ints.new.reader c.read_flat-in_ok-strings.new.reader c.in_ok-uints.uints _ c.in_ok-uints.ensures.reads c.in_ok-uints.ensures.goes
-    (pair_second doubles_read from_strings c.read_flat-in_ok-ints.new.reader c.read_flat-in_ok-uints.new.reader c.read_flat-in_ok-strings.new.reader c.in_ok-doubles.doubles _ c.in_ok-doubles.ensures.reads c.in_ok-doubles.ensures.goes
-    (pair_second strings_read from_namespaces c.read_flat-in_ok-uints.new.reader c.read_flat-in_ok-doubles.new.reader c.read_flat-in_ok-strings.new.reader c.in_ok-strings.strings _ c.in_ok-strings.ensures.reads c.in_ok-strings.ensures.goes
-    (pair_first namespaces_read from_sets c.read_flat-in_ok-doubles.new.reader c.read_flat-in_ok-doubles.new.reader c.read_flat-in_ok-strings.new.reader _ c.in_err-namespaces.ensures.reads))))))
+    rw (p.1, p.2) (mapped_err pools_made (pair_of ints_read from_uints) c.args.reader.now c.read_flat-5.new.reader _
+    (pair_second ints_read from_uints c.args.reader.now c.read_flat.new.reader c.read_flat-5.new.reader c.in_ok-ints.ints _ c.in_ok-ints.ensures.reads c.in_ok-ints.ensures.goes
+    (pair_second uints_read from_doubles c.read_flat.new.reader c.read_flat-2.new.reader c.read_flat-5.new.reader c.in_ok-uints.uints _ c.in_ok-uints.ensures.reads c.in_ok-uints.ensures.goes
+    (pair_second doubles_read from_strings c.read_flat-2.new.reader c.read_flat-3.new.reader c.read_flat-5.new.reader c.in_ok-doubles.doubles _ c.in_ok-doubles.ensures.reads c.in_ok-doubles.ensures.goes
+    (pair_second strings_read from_namespaces c.read_flat-3.new.reader c.read_flat-4.new.reader c.read_flat-5.new.reader c.in_ok-strings.strings _ c.in_ok-strings.ensures.reads c.in_ok-strings.ensures.goes
+    (pair_first namespaces_read from_sets c.read_flat-4.new.reader c.read_flat-4.new.reader c.read_flat-5.new.reader _ c.in_err-namespaces.ensures.reads))))))
 
 pub returns-in_err-sets-clause-reads : goal.returns-in_err-sets-clause-reads
 returns-in_err-sets-clause-reads c =
     let p = err_from_is_err_and c.from_residual-in_err-sets.result c.from_residual-in_err-sets.ensures.1 in
-    rw (p.1, p.2) (mapped_err pools_made (pair_of ints_read from_uints) c.args.reader.now c.read_flat-in_ok-namespaces.new.reader _
-    (pair_second ints_read from_uints c.args.reader.now c.read_flat.new.reader c.read_flat-in_ok-namespaces.new.reader c.in_ok-ints.ints _ c.in_ok-ints.ensures.reads c.in_ok-ints.ensures.goes
-    (pair_second uints_read from_doubles c.read_flat.new.reader c.read_flat-in_ok-ints.new.reader c.read_flat-in_ok-namespaces.new.reader c.in_ok-uints.uints _ c.in_ok-uints.ensures.reads c.in_ok-uints.ensures.goes
-    (pair_second doubles_read from_strings c.read_flat-in_ok-ints.new.reader c.read_flat-in_ok-uints.new.reader c.read_flat-in_ok-namespaces.new.reader c.in_ok-doubles.doubles _ c.in_ok-doubles.ensures.reads c.in_ok-doubles.ensures.goes
-    (pair_second strings_read from_namespaces c.read_flat-in_ok-uints.new.reader c.read_flat-in_ok-doubles.new.reader c.read_flat-in_ok-namespaces.new.reader c.in_ok-strings.strings _ c.in_ok-strings.ensures.reads c.in_ok-strings.ensures.goes
-    (pair_second namespaces_read from_sets c.read_flat-in_ok-doubles.new.reader c.read_flat-in_ok-strings.new.reader c.read_flat-in_ok-namespaces.new.reader c.in_ok-namespaces.namespaces _ c.in_ok-namespaces.ensures.reads c.in_ok-namespaces.ensures.goes
-    (pair_first sets_read names_read c.read_flat-in_ok-strings.new.reader c.read_flat-in_ok-strings.new.reader c.read_flat-in_ok-namespaces.new.reader _ c.in_err-sets.ensures.reads)))))))
+    rw (p.1, p.2) (mapped_err pools_made (pair_of ints_read from_uints) c.args.reader.now c.read_flat-6.new.reader _
+    (pair_second ints_read from_uints c.args.reader.now c.read_flat.new.reader c.read_flat-6.new.reader c.in_ok-ints.ints _ c.in_ok-ints.ensures.reads c.in_ok-ints.ensures.goes
+    (pair_second uints_read from_doubles c.read_flat.new.reader c.read_flat-2.new.reader c.read_flat-6.new.reader c.in_ok-uints.uints _ c.in_ok-uints.ensures.reads c.in_ok-uints.ensures.goes
+    (pair_second doubles_read from_strings c.read_flat-2.new.reader c.read_flat-3.new.reader c.read_flat-6.new.reader c.in_ok-doubles.doubles _ c.in_ok-doubles.ensures.reads c.in_ok-doubles.ensures.goes
+    (pair_second strings_read from_namespaces c.read_flat-3.new.reader c.read_flat-4.new.reader c.read_flat-6.new.reader c.in_ok-strings.strings _ c.in_ok-strings.ensures.reads c.in_ok-strings.ensures.goes
+    (pair_second namespaces_read from_sets c.read_flat-4.new.reader c.read_flat-5.new.reader c.read_flat-6.new.reader c.in_ok-namespaces.namespaces _ c.in_ok-namespaces.ensures.reads c.in_ok-namespaces.ensures.goes
+    (pair_first sets_read names_read c.read_flat-5.new.reader c.read_flat-5.new.reader c.read_flat-6.new.reader _ c.in_err-sets.ensures.reads)))))))
 
 pub returns-in_err-names-clause-reads : goal.returns-in_err-names-clause-reads
 returns-in_err-names-clause-reads c =
     let p = err_from_is_err_and c.from_residual-in_err-names.result c.from_residual-in_err-names.ensures.1 in
-    rw (p.1, p.2) (mapped_err pools_made (pair_of ints_read from_uints) c.args.reader.now c.read_flat-in_ok-sets.new.reader _
-    (pair_second ints_read from_uints c.args.reader.now c.read_flat.new.reader c.read_flat-in_ok-sets.new.reader c.in_ok-ints.ints _ c.in_ok-ints.ensures.reads c.in_ok-ints.ensures.goes
-    (pair_second uints_read from_doubles c.read_flat.new.reader c.read_flat-in_ok-ints.new.reader c.read_flat-in_ok-sets.new.reader c.in_ok-uints.uints _ c.in_ok-uints.ensures.reads c.in_ok-uints.ensures.goes
-    (pair_second doubles_read from_strings c.read_flat-in_ok-ints.new.reader c.read_flat-in_ok-uints.new.reader c.read_flat-in_ok-sets.new.reader c.in_ok-doubles.doubles _ c.in_ok-doubles.ensures.reads c.in_ok-doubles.ensures.goes
-    (pair_second strings_read from_namespaces c.read_flat-in_ok-uints.new.reader c.read_flat-in_ok-doubles.new.reader c.read_flat-in_ok-sets.new.reader c.in_ok-strings.strings _ c.in_ok-strings.ensures.reads c.in_ok-strings.ensures.goes
-    (pair_second namespaces_read from_sets c.read_flat-in_ok-doubles.new.reader c.read_flat-in_ok-strings.new.reader c.read_flat-in_ok-sets.new.reader c.in_ok-namespaces.namespaces _ c.in_ok-namespaces.ensures.reads c.in_ok-namespaces.ensures.goes
-    (pair_second sets_read names_read c.read_flat-in_ok-strings.new.reader c.read_flat-in_ok-namespaces.new.reader c.read_flat-in_ok-sets.new.reader c.in_ok-sets.sets _ c.in_ok-sets.ensures.reads c.in_ok-sets.ensures.goes
+    rw (p.1, p.2) (mapped_err pools_made (pair_of ints_read from_uints) c.args.reader.now c.read_flat-7.new.reader _
+    (pair_second ints_read from_uints c.args.reader.now c.read_flat.new.reader c.read_flat-7.new.reader c.in_ok-ints.ints _ c.in_ok-ints.ensures.reads c.in_ok-ints.ensures.goes
+    (pair_second uints_read from_doubles c.read_flat.new.reader c.read_flat-2.new.reader c.read_flat-7.new.reader c.in_ok-uints.uints _ c.in_ok-uints.ensures.reads c.in_ok-uints.ensures.goes
+    (pair_second doubles_read from_strings c.read_flat-2.new.reader c.read_flat-3.new.reader c.read_flat-7.new.reader c.in_ok-doubles.doubles _ c.in_ok-doubles.ensures.reads c.in_ok-doubles.ensures.goes
+    (pair_second strings_read from_namespaces c.read_flat-3.new.reader c.read_flat-4.new.reader c.read_flat-7.new.reader c.in_ok-strings.strings _ c.in_ok-strings.ensures.reads c.in_ok-strings.ensures.goes
+    (pair_second namespaces_read from_sets c.read_flat-4.new.reader c.read_flat-5.new.reader c.read_flat-7.new.reader c.in_ok-namespaces.namespaces _ c.in_ok-namespaces.ensures.reads c.in_ok-namespaces.ensures.goes
+    (pair_second sets_read names_read c.read_flat-5.new.reader c.read_flat-6.new.reader c.read_flat-7.new.reader c.in_ok-sets.sets _ c.in_ok-sets.ensures.reads c.in_ok-sets.ensures.goes
     c.in_err-names.ensures.reads)))))))
 
 pub returns-clause-reads : goal.returns-clause-reads
 returns-clause-reads c =
-    mapped_ok pools_made (pair_of ints_read from_uints) c.args.reader.now c.read_flat-in_ok-sets.new.reader (c.in_ok-ints.ints, (c.in_ok-uints.uints, (c.in_ok-doubles.doubles, (c.in_ok-strings.strings, (c.in_ok-namespaces.namespaces, (c.in_ok-sets.sets, c.in_ok-names.names)))))) _ refl
-    (pair_ok ints_read from_uints c.args.reader.now c.read_flat.new.reader c.read_flat-in_ok-sets.new.reader c.in_ok-ints.ints (c.in_ok-uints.uints, (c.in_ok-doubles.doubles, (c.in_ok-strings.strings, (c.in_ok-namespaces.namespaces, (c.in_ok-sets.sets, c.in_ok-names.names))))) c.in_ok-ints.ensures.reads c.in_ok-ints.ensures.goes
-    (pair_ok uints_read from_doubles c.read_flat.new.reader c.read_flat-in_ok-ints.new.reader c.read_flat-in_ok-sets.new.reader c.in_ok-uints.uints (c.in_ok-doubles.doubles, (c.in_ok-strings.strings, (c.in_ok-namespaces.namespaces, (c.in_ok-sets.sets, c.in_ok-names.names)))) c.in_ok-uints.ensures.reads c.in_ok-uints.ensures.goes
-    (pair_ok doubles_read from_strings c.read_flat-in_ok-ints.new.reader c.read_flat-in_ok-uints.new.reader c.read_flat-in_ok-sets.new.reader c.in_ok-doubles.doubles (c.in_ok-strings.strings, (c.in_ok-namespaces.namespaces, (c.in_ok-sets.sets, c.in_ok-names.names))) c.in_ok-doubles.ensures.reads c.in_ok-doubles.ensures.goes
-    (pair_ok strings_read from_namespaces c.read_flat-in_ok-uints.new.reader c.read_flat-in_ok-doubles.new.reader c.read_flat-in_ok-sets.new.reader c.in_ok-strings.strings (c.in_ok-namespaces.namespaces, (c.in_ok-sets.sets, c.in_ok-names.names)) c.in_ok-strings.ensures.reads c.in_ok-strings.ensures.goes
-    (pair_ok namespaces_read from_sets c.read_flat-in_ok-doubles.new.reader c.read_flat-in_ok-strings.new.reader c.read_flat-in_ok-sets.new.reader c.in_ok-namespaces.namespaces (c.in_ok-sets.sets, c.in_ok-names.names) c.in_ok-namespaces.ensures.reads c.in_ok-namespaces.ensures.goes
-    (pair_ok sets_read names_read c.read_flat-in_ok-strings.new.reader c.read_flat-in_ok-namespaces.new.reader c.read_flat-in_ok-sets.new.reader c.in_ok-sets.sets c.in_ok-names.names c.in_ok-sets.ensures.reads c.in_ok-sets.ensures.goes
+    mapped_ok pools_made (pair_of ints_read from_uints) c.args.reader.now c.read_flat-7.new.reader (c.in_ok-ints.ints, (c.in_ok-uints.uints, (c.in_ok-doubles.doubles, (c.in_ok-strings.strings, (c.in_ok-namespaces.namespaces, (c.in_ok-sets.sets, c.in_ok-names.names)))))) _ refl
+    (pair_ok ints_read from_uints c.args.reader.now c.read_flat.new.reader c.read_flat-7.new.reader c.in_ok-ints.ints (c.in_ok-uints.uints, (c.in_ok-doubles.doubles, (c.in_ok-strings.strings, (c.in_ok-namespaces.namespaces, (c.in_ok-sets.sets, c.in_ok-names.names))))) c.in_ok-ints.ensures.reads c.in_ok-ints.ensures.goes
+    (pair_ok uints_read from_doubles c.read_flat.new.reader c.read_flat-2.new.reader c.read_flat-7.new.reader c.in_ok-uints.uints (c.in_ok-doubles.doubles, (c.in_ok-strings.strings, (c.in_ok-namespaces.namespaces, (c.in_ok-sets.sets, c.in_ok-names.names)))) c.in_ok-uints.ensures.reads c.in_ok-uints.ensures.goes
+    (pair_ok doubles_read from_strings c.read_flat-2.new.reader c.read_flat-3.new.reader c.read_flat-7.new.reader c.in_ok-doubles.doubles (c.in_ok-strings.strings, (c.in_ok-namespaces.namespaces, (c.in_ok-sets.sets, c.in_ok-names.names))) c.in_ok-doubles.ensures.reads c.in_ok-doubles.ensures.goes
+    (pair_ok strings_read from_namespaces c.read_flat-3.new.reader c.read_flat-4.new.reader c.read_flat-7.new.reader c.in_ok-strings.strings (c.in_ok-namespaces.namespaces, (c.in_ok-sets.sets, c.in_ok-names.names)) c.in_ok-strings.ensures.reads c.in_ok-strings.ensures.goes
+    (pair_ok namespaces_read from_sets c.read_flat-4.new.reader c.read_flat-5.new.reader c.read_flat-7.new.reader c.in_ok-namespaces.namespaces (c.in_ok-sets.sets, c.in_ok-names.names) c.in_ok-namespaces.ensures.reads c.in_ok-namespaces.ensures.goes
+    (pair_ok sets_read names_read c.read_flat-5.new.reader c.read_flat-6.new.reader c.read_flat-7.new.reader c.in_ok-sets.sets c.in_ok-names.names c.in_ok-sets.ensures.reads c.in_ok-sets.ensures.goes
     c.in_ok-names.ensures.reads))))))

@@ -7,17 +7,17 @@ use Rattle.abc_asmparts.proofs.Beneath.{comes_next, finishes, goes_further, item
 use Rattle.abc_asmparts.proofs.bodies.read_bodies.Goals as goal
 
 pub read_body-requires-clause-next : goal.read_body-requires-clause-next
-read_body-requires-clause-next c = comes_next words.Body _ (sym c.comes.ensures ∙ c.loop-comes-test.true)
+read_body-requires-clause-next c = comes_next words.Body _ (sym c.comes.ensures ∙ c.loop-reader-test.true)
 
 pub returns-in_err-body-clause-reads : goal.returns-in_err-body-clause-reads
 returns-in_err-body-clause-reads c =
     let p = err_from_is_err_and c.from_residual.result c.from_residual.ensures.1 in
-    rw (p.1, p.2) (item_fails words.Body body_item c.args.reader.now c.loop-comes.bodies c.loop-comes.reader c.loop-comes.invariant c.read_body.new.reader c.in_err-body.field-0.0 (sym c.comes.ensures ∙ c.loop-comes-test.true) c.in_err-body.ensures.reads)
+    rw (p.1, p.2) (item_fails words.Body body_item c.args.reader.now c.loop-reader.bodies c.loop-reader.reader c.loop-reader.invariant c.read_body.new.reader c.in_err-body.field-0.0 (sym c.comes.ensures ∙ c.loop-reader-test.true) c.in_err-body.ensures.reads)
 
-pub loop-comes-preserved : goal.loop-comes-preserved
-loop-comes-preserved c =
+pub loop-reader-preserved : goal.loop-reader-preserved
+loop-reader-preserved c =
     let e = c.in_ok-body.ensures in
-    rw c.in_ok-push.ensures.ok (goes_further words.Body body_item c.args.reader.now c.loop-comes.bodies c.loop-comes.reader c.loop-comes.invariant c.read_body.new.reader c.in_ok-body.body (sym c.comes.ensures ∙ c.loop-comes-test.true) e.goes e.ahead e.reads)
+    rw c.in_ok-push.ensures.ok (goes_further words.Body body_item c.args.reader.now c.loop-reader.bodies c.loop-reader.reader c.loop-reader.invariant c.read_body.new.reader c.in_ok-body.body (sym c.comes.ensures ∙ c.loop-reader-test.true) e.goes e.ahead e.reads)
 
 pub returns-clause-reads : goal.returns-clause-reads
-returns-clause-reads c = finishes words.Body body_item c.args.reader.now c.loop-comes.bodies c.loop-comes.reader c.loop-comes.invariant (sym c.comes.ensures ∙ c.loop-comes-test.false)
+returns-clause-reads c = finishes words.Body body_item c.args.reader.now c.loop-reader.bodies c.loop-reader.reader c.loop-reader.invariant (sym c.comes.ensures ∙ c.loop-reader-test.false)

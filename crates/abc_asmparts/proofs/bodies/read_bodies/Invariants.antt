@@ -6,8 +6,8 @@ use Rattle.abc_asmreader.specs.Reading.{rows_left}
 use Rattle.abc_asmparts.specs.Below.{body_item}
 use Rattle.abc_asmparts.proofs.bodies.read_bodies.Given as goal
 
-abbrev pub invariant-loop-comes : goal.invariant-loop-comes
-invariant-loop-comes l = Going words.Body body_item l.bodies l.initial.reader l.reader
+abbrev pub invariant-loop-reader : goal.invariant-loop-reader
+invariant-loop-reader l = Going words.Body body_item l.bodies l.initial.reader l.reader
 
-abbrev pub decreases-loop-comes : goal.decreases-loop-comes
-decreases-loop-comes l = length (rows_left l.reader)
+abbrev pub decreases-loop-reader : goal.decreases-loop-reader
+decreases-loop-reader l = length (rows_left l.reader)

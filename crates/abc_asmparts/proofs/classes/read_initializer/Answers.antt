@@ -1,8 +1,12 @@
-use Rattle.std.proofs.Common.{refl, sym, ◌∙◌, []}
+use Rattle.std.proofs.Common.{ℕ, List, [], sym, ap, ◌∙◌}
+use Rattle.abc_tables.specs.declared.traits.TraitInfo.{TraitInfo}
 use Rattle.abc_text.specs.declared.word.Word.TheVariants as words
 use Rattle.abc_asmparts.specs.Below.{initializer_item}
 use Rattle.abc_asmparts.proofs.Beneath.{comes_next, none_reads, one_reads}
 use Rattle.abc_asmparts.proofs.classes.read_initializer.Goals as goal
+
+abbrev without : List TraitInfo → ℕ × List TraitInfo
+without traits = (0, traits)
 
 pub read_item-requires-clause-next : goal.read_item-requires-clause-next
 read_item-requires-clause-next c = comes_next words.Initializer _ (sym c.comes.ensures ∙ c.if-comes.true)
@@ -11,4 +15,4 @@ pub returns-then-comes-clause-reads : goal.returns-then-comes-clause-reads
 returns-then-comes-clause-reads c = one_reads words.Initializer initializer_item (0, []) c.args.reader.now c.read_item.new.reader c.read_item.result (sym c.comes.ensures ∙ c.if-comes.true) c.read_item.ensures.reads
 
 pub returns-else-comes-clause-reads : goal.returns-else-comes-clause-reads
-returns-else-comes-clause-reads c = none_reads words.Initializer initializer_item (0, []) c.args.reader.now _ refl (sym c.comes.ensures ∙ c.if-comes.false)
+returns-else-comes-clause-reads c = none_reads words.Initializer initializer_item (0, []) c.args.reader.now (without c.new.result) (ap without c.new.ensures) (sym c.comes.ensures ∙ c.if-comes.false)
