@@ -27,8 +27,8 @@ returns-then-is_some c =
     let f = c.in_ok-abc.ensures in
     more_fault c.args.text.now c.new-reader.result r.rows r.sizes r.instances c.read_version.new.reader e.reads e.goes c.read_file.new.reader c.in_ok-abc.abc f.reads f.goes c.misplaced.result (subst (λ (o : Option Word). IsSome o) c.word.ensures (is_left c.word.result c.is_some.result c.is_some.ensures c.if-is_some.true)) c.misplaced.ensures
 
-pub returns-then-canon_len-FILE_LIMIT : goal.returns-then-canon_len-FILE_LIMIT
-returns-then-canon_len-FILE_LIMIT c =
+pub returns-then-canon_len-gt-FILE_LIMIT : goal.returns-then-canon_len-gt-FILE_LIMIT
+returns-then-canon_len-gt-FILE_LIMIT c =
     let r = c.new-reader.ensures in
     let e = c.in_ok-read_version.ensures in
     let f = c.in_ok-abc.ensures in
