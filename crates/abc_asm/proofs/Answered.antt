@@ -1,5 +1,5 @@
 -- What is read of a text is its file or its first fault.
-use Rattle.std.proofs.Common.{◌≡◌, ℕ, suc, ◌≤◌, ◌<◌, ◌^◌, ◌⊎◌, inl, inr, Bool, true, false, Some, None, cond, nat_eq, List, [], ◌∷◌, length, map, Ok, Err, refl, sym, ap, subst, ◌∙◌, arith}
+use Rattle.std.proofs.Common.{◌≡◌, ℕ, suc, ◌≤◌, ◌<◌, ◌^◌, inl, inr, Bool, true, false, Some, None, cond, nat_eq, List, [], ◌∷◌, length, map, Ok, Err, refl, sym, ap, subst, ◌∙◌, arith}
 use Rattle.std.specs.declared.option.Option.{Option}
 use Rattle.std.specs.declared.result.Result.{Result}
 use Rattle.abc_text.specs.declared.reason.AsmReason.{AsmReason}
@@ -17,7 +17,7 @@ use Rattle.abc_rowparts.specs.Lines.{Row}
 use Rattle.abc_rowparts.specs.Rows.{Fault, Faults, Rows, fault, unless, ◌>>=◌}
 use Rattle.abc_rowparts.specs.Wordlines.{count_all, shows_operands}
 use Rattle.abc_rowparts.proofs.Determined.{assembled, refused}
-use Rattle.abc_lines.specs.Answers.{IsAssemblyFault, IsAssemblyOf, IsListed, IsTooLong, abc_of, instance_in, metadata_lines, outline_of}
+use Rattle.abc_lines.specs.Answers.{IsAssemblyFault, IsAssemblyOf, IsListed, abc_of, instance_in, metadata_lines, outline_of}
 use Rattle.abc_lines.specs.File.{IsBalanced, Outline, body_below, body_lines, classes, faults, file, instance_below, instance_lines, metadata, method_below, methods, pools, scripts, traits}
 use Rattle.abc_lines.specs.Texts.{instances_in, rows_of, sizes_in}
 use Rattle.abc_lines.proofs.Answering.{text_decided}

@@ -1,6 +1,5 @@
 -- The version's line.
-use Rattle.std.proofs.Common.{◌≡◌, ℕ, inl, inr, Bool, true, false, cond, nat_eq, List, [], ◌∷◌, ◌++◌, Ok, Err, Some, None, refl, sym, ap, subst, ◌∙◌, arith}
-use Rattle.std.specs.Option.{IsSome}
+use Rattle.std.proofs.Common.{◌≡◌, ℕ, inl, inr, Bool, true, false, cond, nat_eq, List, [], ◌∷◌, Ok, Err, Some, None, refl, sym, ap, subst, ◌∙◌, arith}
 use Rattle.std.specs.declared.option.Option.{Option}
 use Rattle.std.specs.declared.result.Result.{Result}
 use Rattle.abc_text.specs.declared.reason.AsmReason.{AsmReason}
@@ -11,7 +10,6 @@ use Rattle.abc_text.specs.Reasons.{least}
 use Rattle.abc_text.specs.Words.{place_of}
 use Rattle.abc_text.proofs.Bools.{split_bool}
 use Rattle.abc_tables.specs.declared.tables.Abc.{Abc}
-use Rattle.abc_tables.specs.declared.tables.Sizes.{Sizes}
 use Rattle.abc_rowparts.specs.Assembly.{misplaced}
 use Rattle.abc_rowparts.specs.Firsts.{told}
 use Rattle.abc_rowparts.specs.Lines.{Label, Row}
@@ -29,10 +27,10 @@ use Rattle.abc_asmreader.specs.declared.error.AsmError.TheVariants as errors
 use Rattle.abc_asmreader.specs.declared.reader.Reader.{Reader}
 use Rattle.abc_asmreader.specs.declared.reader.Taken.{Taken}
 use Rattle.abc_asmreader.specs.Parts.{IsPlain}
-use Rattle.abc_asmreader.specs.Reading.{Goes, IsBroken, labels_now, may_repeat, row_of, rows_left, word_next}
+use Rattle.abc_asmreader.specs.Reading.{IsBroken, labels_now, may_repeat, row_of, rows_left, word_next}
 use Rattle.abc_asmreader.proofs.Lone.{broken_least, lone_faults}
 use Rattle.abc_asm.specs.Whole.{IsMisplaced, ReadsVersion, begun, out_of_order}
-use Rattle.abc_asm.proofs.Known.{IsKnown, decided}
+use Rattle.abc_asm.proofs.Known.{decided}
 use Rattle.abc_asm.proofs.Misplaced.{broken_placed, known_placed, unknown_placed}
 
 abbrev Next : Type 0

@@ -1,7 +1,6 @@
 -- A file is read as the definitions read it.
-use Rattle.std.proofs.Common.{◌≡◌, ℕ, ℤ, inl, inr, Bool, true, false, cond, nat_eq, List, [], ◌∷◌, map, Ok, Err, Some, None, refl, sym, ap, ◌∙◌}
+use Rattle.std.proofs.Common.{◌≡◌, ℕ, inl, inr, nat_eq, List, [], ◌∷◌, map, Ok, Err, Some, None, refl, sym, ap, ◌∙◌}
 use Rattle.std.specs.declared.option.Option.{Option}
-use Rattle.std.specs.declared.result.Result.{Result}
 use Rattle.abc_text.specs.declared.reason.AsmReason.{AsmReason}
 use Rattle.abc_text.specs.declared.word.Word.{Word}
 use Rattle.abc_text.specs.declared.word.Word.TheVariants as words
@@ -14,16 +13,13 @@ use Rattle.abc_tables.specs.declared.classes.Script.{Script}
 use Rattle.abc_tables.specs.declared.code.Body.{Body}
 use Rattle.abc_tables.specs.declared.methods.Metadata.{Metadata}
 use Rattle.abc_tables.specs.declared.methods.Method.{Method}
-use Rattle.abc_tables.specs.declared.names.Multiname.{Multiname}
 use Rattle.abc_tables.specs.declared.names.Namespace.{Namespace}
-use Rattle.abc_tables.specs.declared.tables.Eight.{Eight}
 use Rattle.abc_tables.specs.declared.tables.Abc.{Abc}
-use Rattle.abc_tables.specs.declared.methods.OptionValue.{OptionValue}
 use Rattle.abc_tables.specs.declared.tables.Sizes.{Sizes}
 use Rattle.abc_tables.specs.declared.traits.TraitInfo.{TraitInfo}
 use Rattle.abc_rowparts.specs.Lines.{Row}
 use Rattle.abc_rowparts.specs.Operands.{Operands}
-use Rattle.abc_rowparts.specs.Rows.{Fault, Faults, option_reads, optional, pair_reads, topped, unless, ◌>>=◌}
+use Rattle.abc_rowparts.specs.Rows.{Faults, optional, pair_reads, topped, unless, ◌>>=◌}
 use Rattle.abc_rowparts.specs.Wordlines.{always, flat, line}
 use Rattle.abc_lines.specs.Answers as answers
 use Rattle.abc_lines.specs.Answers.{initializer_in, joined}
@@ -36,11 +32,9 @@ use Rattle.abc_operands.specs.declared.lines.MethodHead.{MethodHead}
 use Rattle.abc_asmreader.specs.Parts.{item_of, items_read, lone}
 use Rattle.abc_asmparts.specs.Below.{body_below, body_made, body_of, class_of, initializer_below, initializer_of, instance_below, instance_made, instance_of, metadata_below, metadata_of, method_below, method_made, method_of, script_of, traits_below}
 use Rattle.abc_asmparts.specs.declared.classes.InstanceBelow.{InstanceBelow}
-use Rattle.abc_asmparts.specs.declared.methods.MethodBelow.{MethodBelow}
 use Rattle.abc_asmparts.proofs.Alike.{Reading, as_other, many_is, pair_is}
 use Rattle.abc_asmparts.proofs.Bodying.{as_same, flat_is, full_below, traits_are}
 use Rattle.abc_asm.specs.declared.assembling.Definitions.{Definitions}
-use Rattle.abc_asm.specs.declared.assembling.Pools.{Pools}
 use Rattle.abc_asm.specs.Whole.{DefinitionLists, abc_of, definitions_made, definitions_read, file_read, pools_made, pools_read}
 
 abbrev IsRead : {A : Type 0} → (List Row → Reading A) → (List Row → Reading A) → Type 0

@@ -1,12 +1,12 @@
 -- No fault of a line's operands comes before Order.
-use Rattle.std.proofs.Common.{◌≡◌, ℕ, zero, suc, ℤ, pos, negsuc, ◌^◌, Bool, true, false, cond, ◌&&◌, nat_le, nat_lt, nat_eq, List, [], ◌∷◌, ◌++◌, length, Ok, Err, Some, None, refl, sym, ap, ◌∙◌, append-nil}
+use Rattle.std.proofs.Common.{◌≡◌, ℕ, zero, suc, ℤ, pos, negsuc, ◌^◌, Bool, true, false, cond, ◌&&◌, nat_le, nat_lt, nat_eq, List, [], ◌∷◌, ◌++◌, length, Ok, Err, Some, None, refl, ap, ◌∙◌}
 use Rattle.std.specs.declared.option.Option.{Option}
 use Rattle.std.specs.declared.result.Result.{Result}
 use Rattle.abc_text.specs.declared.reason.AsmReason.{AsmReason}
 use Rattle.abc_text.specs.declared.reason.AsmReason.TheVariants as reasons
 use Rattle.abc_text.specs.declared.word.Word.{Word}
 use Rattle.abc_text.specs.declared.word.Word.TheVariants as words
-use Rattle.abc_text.specs.Reasons.{least, lesser, rank}
+use Rattle.abc_text.specs.Reasons.{rank}
 use Rattle.abc_text.specs.Tokens.{Token, Bare, Quoted}
 use Rattle.abc_text.proofs.Bools.{and_true}
 use Rattle.abc_tables.specs.declared.opcodes.Form.{Form}
@@ -20,9 +20,9 @@ use Rattle.abc_tables.specs.declared.tables.Sizes.{Sizes}
 use Rattle.abc_tables.specs.declared.traits.TraitKind.{TraitKind}
 use Rattle.abc_tables.specs.declared.traits.TraitKind.TheVariants as traits
 use Rattle.abc_tables.specs.Opcodes.{form_at}
-use Rattle.abc_rowparts.specs.Lines.{Label, Row}
+use Rattle.abc_rowparts.specs.Lines.{Label}
 use Rattle.abc_rowparts.specs.Wordlines.{lookup}
-use Rattle.abc_rowparts.specs.Operands.{Operand, Operands, any_number, any_signed, by, checked, eight, eight_in, entry_upto, exactly, found_place, hex_bytes, index_below, index_upto, is_name, is_numeral, kind, kind_of, found_kind, negative, none, number_below, number_of, numeral, place_of_label, reasons_in, reasons_of, seen, several, several_faults, signed_between, signed_of, signed_token, target, tested, text, text_of, u30, unseen, ◌&◌}
+use Rattle.abc_rowparts.specs.Operands.{Operand, Operands, any_number, any_signed, by, checked, eight, eight_in, entry_upto, exactly, found_place, hex_bytes, index_below, index_upto, is_name, is_numeral, kind, found_kind, negative, none, number_below, number_of, numeral, place_of_label, reasons_in, reasons_of, several, several_faults, signed_between, signed_of, target, tested, text, u30, ◌&◌}
 use Rattle.abc_lines.specs.File.{own}
 use Rattle.abc_lines.specs.Kinds.{multiname_kind, multiname_word, multiname_words, space_kind, space_word, space_words, trait_kind, trait_word, trait_words, value_kind, value_word, value_words}
 use Rattle.abc_lines.specs.Lineforms as forms

@@ -1,6 +1,3 @@
-use Rattle.std.proofs.Common.{sym, ap, subst, ◌∙◌}
-use Rattle.abc_asmreader.specs.declared.error.AsmError.{AsmError}
-use Rattle.abc_asm.specs.Whole.{IsMisplaced}
 use Rattle.abc_asm.proofs.Begun.{misplaced_broken, misplaced_whole}
 use Rattle.abc_asm.proofs.assembling.misplaced.Goals as goal
 

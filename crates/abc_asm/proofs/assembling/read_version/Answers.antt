@@ -1,5 +1,5 @@
 -- No line, another line, a broken one, a good one or a bad one.
-use Rattle.std.proofs.Common.{◌≡◌, ap, sym, ◌∙◌}
+use Rattle.std.proofs.Common.{◌≡◌, sym, ◌∙◌}
 use Rattle.std.proofs.lemmas.Result.{err_from_is_err_and}
 use Rattle.abc_text.specs.Words.{place_of}
 use Rattle.abc_asm.proofs.Begun.{broken_version, no_lines, other_line, taken_is, version_bad, version_read}
