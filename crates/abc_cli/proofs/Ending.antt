@@ -91,6 +91,7 @@ gave command source out err bytes s g end =
 
 pub stopped : (command : Command) (source out err : Channel) (stop : Stop) (s : Status) → Stops command source stop → Got out [] → GivesLine err (stop_answer stop) s → Ends (CommandOutcome command) source out err s
 stopped command source out err (stops.File place reason) s x o g = line_ends (CommandOutcome command source.before) (HasFailed source) out err (stop_answer (stops.File place reason)) s (x.outcome tt) o g
+stopped command source out err (stops.Text line reason) s x o g = line_ends (CommandOutcome command source.before) (HasFailed source) out err (stop_answer (stops.Text line reason)) s (x.outcome tt) o g
 stopped command source out err (stops.Item i rule) s x o g = line_ends (CommandOutcome command source.before) (HasFailed source) out err (stop_answer (stops.Item i rule)) s (x.outcome tt) o g
 stopped command source out err (stops.Code m offset rule) s x o g = line_ends (CommandOutcome command source.before) (HasFailed source) out err (stop_answer (stops.Code m offset rule)) s (x.outcome tt) o g
 stopped command source out err (stops.Tidy rule i) s x o g = line_ends (CommandOutcome command source.before) (HasFailed source) out err (stop_answer (stops.Tidy rule i)) s (x.outcome tt) o g
@@ -100,6 +101,7 @@ stopped command source out err stops.NoMemory s x o g = memory_failed (CommandOu
 
 stop_not_done : (stop : Stop) → (stop_answer stop).status ≡ status.Done → ⊥
 stop_not_done (stops.File place reason) h = cc
+stop_not_done (stops.Text line reason) h = cc
 stop_not_done (stops.Item i rule) h = cc
 stop_not_done (stops.Code m offset rule) h = cc
 stop_not_done (stops.Tidy rule i) h = cc

@@ -1,13 +1,17 @@
 -- What a run of `dis` that ends well leaves in `out`.
-use Rattle.std.proofs.Common.{◌≡◌, ℕ, List, ap, subst}
+use Rattle.std.proofs.Common.{◌≡◌, ℕ, List, ap, subst, ◌≤◌, length, Some, None, Ok, Err, refl, sym, ◌∙◌, arith}
+use Rattle.std.specs.Prelude.{◌↔◌}
+use Rattle.std.specs.declared.option.Option.{Option}
+use Rattle.std.specs.declared.result.Result.{Result}
 use Rattle.abc_base.specs.declared.status.Status.{Status}
 use Rattle.abc_base.specs.declared.status.Status.TheVariants as status
 use Rattle.abc_lines.specs.Listing.{listing}
-use Rattle.abc_lines.specs.Answers.{IsAssemblyOf}
+use Rattle.abc_lines.specs.Answers.{IsAssemblyFault, IsAssemblyOf}
+use Rattle.abc_rowparts.specs.Rows.{Fault}
 use Rattle.abc_tables.specs.declared.tables.Abc.{Abc}
-use Rattle.abc_tables.specs.Files.{IsFile}
+use Rattle.abc_tables.specs.Files.{IsFile, file_bytes}
 use Rattle.abc_words.specs.declared.command.Command.TheVariants as commands
-use Rattle.abc_cli.specs.Outcome.{Answer, CommandOutcome, Dis, OfFile, OutcomeOf}
+use Rattle.abc_cli.specs.Outcome.{Answer, CommandOutcome, Dis, OfFile, OutcomeOf, Asm, given, text_limit, told}
 use Rattle.abc_cli.specs.End.{Channel, Got, HasFailed, IsEnd, Ends}
 use Rattle.abc_cli.specs.Listed.{AreBytes, IsListed, Lists}
 use Rattle.abc_cli.proofs.Ending.{of_any}
@@ -27,20 +31,33 @@ ended_well P F out err s (IsEnd.memory_line_failed y z w) e = absurd cc
 abbrev pub IsReadBack : Type 0
 IsReadBack = (v : Abc) → (b : List ℕ) → AreBytes b → IsFile v b → IsAssemblyOf (listing v) v
 
+abbrev pub IsNoFault : Type 0
+IsNoFault = (v : Abc) → (b : List ℕ) → (f : Fault) → AreBytes b → IsFile v b → IsAssemblyFault (listing v) f → ⊥
+
 abbrev pub IsNoOther : Type 0
 IsNoOther = (v w : Abc) → (b : List ℕ) → AreBytes b → IsFile v b → IsAssemblyOf (listing v) w → w ≡ v
 
-listed : IsReadBack → IsNoOther → (out : Channel) (a : Answer) → Got out a.out → a.status ≡ status.Done → (input : List ℕ) → OutcomeOf commands.Dis input a → IsListed out input
-listed text other out a got done input (OfFile.accepted v f x) = record {
+-- what `asm` of a file's one text gives
+assembled_as : (text : List ℕ) (v : Abc) → ((w : Abc) → IsAssemblyOf text w → w ≡ v) → ((f : Fault) → IsAssemblyFault text f → ⊥) → length text ≤ text_limit → (a : Answer) → Asm text a → a ≡ given (file_bytes v)
+assembled_as text v other fault short a (Asm.assembled w fits is x) = x ∙ ap (λ (u : Abc). given (file_bytes u)) (other w is)
+assembled_as text v other fault short a (Asm.refused f fits is x) = absurd (fault f is)
+assembled_as text v other fault short a (Asm.too_long long x) = absurd (omega arith)
+
+listed : IsReadBack → IsNoOther → IsNoFault → (out : Channel) (a : Answer) → Got out a.out → a.status ≡ status.Done → (input : List ℕ) → OutcomeOf commands.Dis input a → IsListed out input
+listed text other fault out a got done input (OfFile.accepted v f x) = record {
   value = v;
   bytes = listing v;
   read = f;
   got = subst (λ (y : Answer). Got out y.out) x got;
-  text = λ bytes. record { is_text = text v input bytes f; no_other = λ w. other v w input bytes f };
+  text = λ bytes. record {
+    is_text = text v input bytes f;
+    no_other = λ w. other v w input bytes f;
+    assembled = assembled_as (listing v) v (λ w. other v w input bytes f) (λ d. fault v input d bytes f);
+  };
 }
-listed text other out a got done input (OfFile.refused r f x) = let k = ap (λ (y : Answer). y.status) x in absurd cc
+listed text other fault out a got done input (OfFile.refused r f x) = let k = ap (λ (y : Answer). y.status) x in absurd cc
 
-pub lists : IsReadBack → IsNoOther → (source out err : Channel) (s : Status) → Ends (CommandOutcome commands.Dis) source out err s → s ≡ status.Done → Lists source out
-lists text other source out err s end done =
+pub lists : IsReadBack → IsNoOther → IsNoFault → (source out err : Channel) (s : Status) → Ends (CommandOutcome commands.Dis) source out err s → s ≡ status.Done → Lists source out
+lists text other fault source out err s end done =
     let a = ended_well (CommandOutcome commands.Dis source.before) (HasFailed source) out err s end done in
-    of_any (λ input. OutcomeOf commands.Dis input a.0) (IsListed out) source.before (λ input. listed text other out a.0 a.2 a.3 input) a.1
+    of_any (λ input. OutcomeOf commands.Dis input a.0) (IsListed out) source.before (λ input. listed text other fault out a.0 a.2 a.3 input) a.1

@@ -12,7 +12,7 @@ use Rattle.abc_words.specs.declared.command.GenOptions.{GenOptions}
 use Rattle.abc_words.specs.declared.command.Usage.{Usage}
 use Rattle.abc_words.specs.declared.command.Usage.TheVariants as usages
 use Rattle.abc_words.specs.Grammar.{IsUsageWord, Says}
-use Rattle.abc_cli.specs.Outcome.{Answer, Canon, Check, CommandOutcome, Dis, OfFile, OfFileRead, OutcomeOf, Tidy, UsageOutcome, usage_answer, IsUsage, AsksNoInput, reads_input, not_built}
+use Rattle.abc_cli.specs.Outcome.{Answer, Canon, Check, CommandOutcome, Dis, OfFile, OfFileRead, OutcomeOf, Tidy, UsageOutcome, usage_answer, IsUsage, AsksNoInput, reads_input, not_built, Asm}
 use Rattle.abc_tables.specs.declared.tables.Abc.{Abc}
 use Rattle.abc_cli.specs.End.{Channel, IsEnd}
 use Rattle.abc_cli.specs.Stops.{Stops}
@@ -67,10 +67,15 @@ tidy_not_usage : (v : Abc) (a : Answer) → Tidy v a → a.status ≡ status.Usa
 tidy_not_usage v a (Tidy.tidied t h x) e = let k = ap (λ (y : Answer). y.status) x in cc
 tidy_not_usage v a (Tidy.untidy rule i h x) e = let k = ap (λ (y : Answer). y.status) x in cc
 
+asm_not_usage : (text : List ℕ) (a : Answer) → Asm text a → a.status ≡ status.Usage → ⊥
+asm_not_usage text a (Asm.assembled v short is x) e = let k = ap (λ (y : Answer). y.status) x in cc
+asm_not_usage text a (Asm.refused f short is x) e = let k = ap (λ (y : Answer). y.status) x in cc
+asm_not_usage text a (Asm.too_long long x) e = let k = ap (λ (y : Answer). y.status) x in cc
+
 outcome_not_usage : (c : Command) (input : List ℕ) (a : Answer) → OutcomeOf c input a → a.status ≡ status.Usage → ⊥
 outcome_not_usage commands.Canon input a o e = file_not_usage Canon (λ v b x k. let h = ap (λ (y : Answer). y.status) x in cc) input a o e
 outcome_not_usage commands.Dis input a o e = file_not_usage Dis (λ v b x k. let h = ap (λ (y : Answer). y.status) x in cc) input a o e
-outcome_not_usage commands.Asm input a o e = let h = ap (λ (x : Answer). x.status) o in cc
+outcome_not_usage commands.Asm input a o e = asm_not_usage input a o e
 outcome_not_usage commands.Check input a o e = checked_not_usage input a o e
 outcome_not_usage commands.Tidy input a o e = file_not_usage Tidy tidy_not_usage input a o e
 outcome_not_usage (commands.Run options) input a o e = let h = ap (λ (x : Answer). x.status) o in cc
@@ -93,7 +98,6 @@ end_not_usage c input F out err s (IsEnd.memory_line_failed y z w) e = cc
 -- ---- commands that are not built
 
 abbrev pub IsNotBuilt : Command → Type 0
-IsNotBuilt commands.Asm = Unit {0}
 IsNotBuilt (commands.Run options) = Unit {0}
 IsNotBuilt (commands.Gen options) = Unit {0}
 IsNotBuilt _ = ⊥
@@ -101,7 +105,7 @@ IsNotBuilt _ = ⊥
 not_built_outcome : (c : Command) → IsNotBuilt c → (input : List ℕ) → OutcomeOf c input not_built
 not_built_outcome commands.Canon h input = absurd h
 not_built_outcome commands.Dis h input = absurd h
-not_built_outcome commands.Asm h input = refl
+not_built_outcome commands.Asm h input = absurd h
 not_built_outcome commands.Check h input = absurd h
 not_built_outcome commands.Tidy h input = absurd h
 not_built_outcome (commands.Run options) h input = refl
@@ -110,7 +114,6 @@ not_built_outcome (commands.Gen options) h input = refl
 not_built_stops : (c : Command) (source : Channel) → IsNotBuilt c → Stops c source stops.NotBuilt
 not_built_stops c source h = record { outcome = λ d. any_input (λ input. OutcomeOf c input not_built) source.before (not_built_outcome c h); cause = λ e. absurd cc }
 
-pub other_stops : (c : Command) (source : Channel) → ((c ≡ commands.Asm) ⊎ (((o : RunOptions) × (c ≡ commands.Run o)) ⊎ ((o : GenOptions) × (c ≡ commands.Gen o)))) → Stops c source stops.NotBuilt
-other_stops c source (inl e) = rw e (not_built_stops commands.Asm source tt)
-other_stops c source (inr (inl e)) = rw e.1 (not_built_stops (commands.Run e.0) source tt)
-other_stops c source (inr (inr e)) = rw e.1 (not_built_stops (commands.Gen e.0) source tt)
+pub other_stops : (c : Command) (source : Channel) → (((o : RunOptions) × (c ≡ commands.Run o)) ⊎ ((o : GenOptions) × (c ≡ commands.Gen o))) → Stops c source stops.NotBuilt
+other_stops c source (inl e) = rw e.1 (not_built_stops (commands.Run e.0) source tt)
+other_stops c source (inr e) = rw e.1 (not_built_stops (commands.Gen e.0) source tt)

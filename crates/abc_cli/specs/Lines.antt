@@ -3,9 +3,11 @@ use Rattle.std.specs.Prelude.{ℕ, List, [], ◌∷◌, ◌++◌, codes, decimal
 use Rattle.abc_escape.specs.Escapes.{escaped}
 use Rattle.abc_format.specs.Part.{Refusal}
 use Rattle.abc_format.specs.Reasons.{reason_name}
+use Rattle.abc_rowparts.specs.Rows.{Fault}
 use Rattle.abc_rules.specs.declared.items.Item.{Item}
 use Rattle.abc_rules.specs.declared.items.LinkRule.{LinkRule}
 use Rattle.abc_rules.specs.Items.{kind_name, rule_name}
+use Rattle.abc_text.specs.Reasons.{reason_name as asm_reason_name}
 use Rattle.abc_tidy.specs.declared.error.TidyRule.{TidyRule}
 use Rattle.abc_tidy.specs.declared.error.TidyRule.TheVariants as tidying
 use Rattle.abc_tidy.specs.Rules.{rule_name as tidy_rule_name}
@@ -30,6 +32,10 @@ place_text kind n name = kind ++ codes " " ++ decimal n ++ codes ": " ++ name
 -- a refused file: the place and the reason of its first fault
 abbrev pub refusal_text : Refusal → List ℕ
 refusal_text r = place_text (codes "byte") r.place (reason_name r.reason)
+
+-- a refused text: the line of its fault, and the reason
+abbrev pub fault_text : Fault → List ℕ
+fault_text f = place_text (codes "line") f.line (asm_reason_name f.reason)
 
 -- a rule of linking, and the item that breaks it
 abbrev pub item_text : Item → LinkRule → List ℕ

@@ -1,18 +1,20 @@
 -- What stands in `out` after a file was disassembled.
-use Rattle.std.specs.Prelude.{◌≡◌, ◌<◌, ℕ, List, All}
+use Rattle.std.specs.Prelude.{◌≡◌, ◌<◌, ◌≤◌, ℕ, List, All, length}
 use Rattle.abc_file.specs.Reading.{OfInput}
 use Rattle.abc_lines.specs.Answers.{IsAssemblyOf}
 use Rattle.abc_tables.specs.declared.tables.Abc.{Abc}
-use Rattle.abc_tables.specs.Files.{IsFile}
+use Rattle.abc_tables.specs.Files.{IsFile, file_bytes}
 use Rattle.abc_cli.specs.End.{Channel, Got}
+use Rattle.abc_cli.specs.Outcome.{Answer, Asm, given, text_limit}
 
 abbrev pub AreBytes : List ℕ → Type 0
 AreBytes input = All (λ byte. byte < 256) input
 
--- a text of the file, and of no other
+-- A text of the file, and of no other; unless it is too long, `asm` of it gives the canonical bytes of the file.
 pub record IsTextOf (text : List ℕ) (v : Abc) : Type 0 where
   pub is_text : IsAssemblyOf text v
   pub no_other : (w : Abc) → IsAssemblyOf text w → w ≡ v
+  pub assembled : length text ≤ text_limit → (a : Answer) → Asm text a → a ≡ given (file_bytes v)
 
 -- The sink got a text of the file that the input spells, and of no other.
 pub record IsListed (out : Channel) (input : List ℕ) : Type 0 where

@@ -1,10 +1,13 @@
 -- What a command line and an input are answered with.
-use Rattle.std.specs.Prelude.{◌≡◌, ℕ, Bool, true, false, List, [], get_or, length}
+use Rattle.std.specs.Prelude.{◌≡◌, ℕ, Bool, true, false, List, [], get_or, length, ◌<◌, ◌≤◌, ◌^◌}
 use Rattle.std.specs.declared.option.Option.{Option}
 use Rattle.abc_base.specs.declared.status.Status.{Status}
 use Rattle.abc_base.specs.declared.status.Status.TheVariants as status
 use Rattle.abc_format.specs.Part.{Refusal}
+use Rattle.abc_lines.specs.Answers.{IsAssemblyFault, IsAssemblyOf}
 use Rattle.abc_lines.specs.Listing.{listing}
+use Rattle.abc_rowparts.specs.Rows.{Fault, fault}
+use Rattle.abc_text.specs.declared.reason.AsmReason.TheVariants as reasons
 use Rattle.abc_tables.specs.declared.tables.Abc.{Abc}
 use Rattle.abc_tables.specs.Files.{IsFile, IsFileRead, IsBadFile, file_bytes}
 use Rattle.abc_file.specs.Reading.{OfInput}
@@ -22,7 +25,7 @@ use Rattle.abc_program.specs.Linked.{IsLinkedFile, LinkedFile}
 use Rattle.abc_typing.specs.declared.rule.VerifyRule.{VerifyRule}
 use Rattle.abc_verify.specs.Refusing.{IsFirstUntyped}
 use Rattle.abc_verify.specs.Typed.{AllTyped}
-use Rattle.abc_cli.specs.Lines.{line, item_text, usage_text, no_command_text, refusal_text, not_built_text, tidy_text, untyped_text, verified_line}
+use Rattle.abc_cli.specs.Lines.{line, item_text, usage_text, no_command_text, refusal_text, not_built_text, tidy_text, untyped_text, verified_line, fault_text}
 
 -- a status, the bytes for `out` and the bytes for `err`
 pub record Answer : Type 0 where
@@ -72,6 +75,16 @@ pub data Check (v : Abc) (starts : List (List ℕ)) (a : Answer) : Type 0 where
   untyped : (l : LinkedFile) (m b i : ℕ) (rule : VerifyRule) → l.file ≡ v → IsLinkedFile l → IsFirstUntyped l m b i rule → a ≡ told status.Refused (untyped_text m (offset_in starts b i) rule) → Check v starts a
   verified : (l : LinkedFile) → l.file ≡ v → IsLinkedFile l → AllTyped l → a ≡ given (verified_line (length v.bodies)) → Check v starts a
 
+-- how many bytes a text may have
+abbrev pub text_limit : ℕ
+text_limit = 2 ^ 28
+
+-- `asm` of a text: the canonical bytes of the file that it is one of, or its first fault; one that is too long is refused at line 0
+pub data Asm (text : List ℕ) (a : Answer) : Type 0 where
+  assembled : (v : Abc) → length text ≤ text_limit → IsAssemblyOf text v → a ≡ given (file_bytes v) → Asm text a
+  refused : (f : Fault) → length text ≤ text_limit → IsAssemblyFault text f → a ≡ told status.Refused (fault_text f) → Asm text a
+  too_long : text_limit < length text → a ≡ told status.Refused (fault_text (fault 0 reasons.TextTooLong)) → Asm text a
+
 -- `tidy` of a file: the canonical bytes of the tidied file, or the first broken rule of tidying at its least index
 pub data Tidy (v : Abc) (a : Answer) : Type 0 where
   tidied : (t : Abc) → IsTidied v t → a ≡ given (file_bytes t) → Tidy v a
@@ -81,7 +94,7 @@ pub data Tidy (v : Abc) (a : Answer) : Type 0 where
 abbrev pub OutcomeOf : Command → List ℕ → Answer → Type 0
 OutcomeOf commands.Canon input a = OfFile Canon input a
 OutcomeOf commands.Dis input a = OfFile Dis input a
-OutcomeOf commands.Asm input a = a ≡ not_built
+OutcomeOf commands.Asm input a = Asm input a
 OutcomeOf commands.Check input a = OfFileRead Check input a
 OutcomeOf commands.Tidy input a = OfFile Tidy input a
 OutcomeOf (commands.Run options) input a = a ≡ not_built
@@ -95,7 +108,7 @@ CommandOutcome command left a = OfInput left (λ input. OutcomeOf command input 
 abbrev pub reads_input : Command → Bool
 reads_input commands.Canon = true
 reads_input commands.Dis = true
-reads_input commands.Asm = false
+reads_input commands.Asm = true
 reads_input commands.Check = true
 reads_input commands.Tidy = true
 reads_input (commands.Run options) = false

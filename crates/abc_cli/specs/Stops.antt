@@ -1,6 +1,13 @@
 -- What a command gives, or what it is answered with where it gives nothing.
 use Rattle.std.specs.Prelude.{◌≡◌, ◌≢◌, ◌<◌, ◌×◌, ℕ, List, [], get_or, length}
+use Rattle.std.specs.declared.option.Option.{Option}
+use Rattle.abc_asmreader.specs.declared.error.AsmError.{AsmError}
+use Rattle.abc_asmreader.specs.declared.error.AsmError.TheVariants as faults
 use Rattle.abc_base.specs.declared.status.Status.TheVariants as status
+use Rattle.abc_input.specs.declared.error.InputError.{InputError}
+use Rattle.abc_input.specs.declared.error.InputError.TheVariants as inputs
+use Rattle.abc_rowparts.specs.Rows.{fault}
+use Rattle.abc_text.specs.declared.reason.AsmReason.TheVariants as reasons
 use Rattle.abc_file.specs.Reading.{IsUsedUp}
 use Rattle.abc_format.specs.Part.{refusal}
 use Rattle.abc_varint.specs.declared.error.ReadError.{ReadError}
@@ -15,12 +22,13 @@ use Rattle.abc_words.specs.declared.command.Command.{Command}
 use Rattle.abc_cli.specs.declared.stop.Stop.{Stop}
 use Rattle.abc_cli.specs.declared.stop.Stop.TheVariants as stops
 use Rattle.abc_cli.specs.End.{Channel, HasFailed}
-use Rattle.abc_cli.specs.Lines.{item_text, refusal_text, read_fault_text, no_memory_text, tidy_text, untyped_text}
+use Rattle.abc_cli.specs.Lines.{item_text, refusal_text, read_fault_text, no_memory_text, tidy_text, untyped_text, fault_text}
 use Rattle.abc_cli.specs.Outcome.{Answer, CommandOutcome, given, not_built, offset_in, told}
 
 -- what is answered where a command gives nothing
 abbrev pub stop_answer : Stop → Answer
 stop_answer (stops.File place reason) = told status.Refused (refusal_text (refusal place reason))
+stop_answer (stops.Text line reason) = told status.Refused (fault_text (fault line reason))
 stop_answer (stops.Item i rule) = told status.Refused (item_text i rule)
 stop_answer (stops.Code m offset rule) = told status.Refused (untyped_text m offset rule)
 stop_answer (stops.Tidy rule i) = told status.Refused (tidy_text rule i)
@@ -38,6 +46,15 @@ abbrev pub stop_of_read : ReadError → Stop
 stop_of_read (errors.Refused place reason) = stops.File place reason
 stop_of_read errors.ReadFault = stops.ReadFault
 stop_of_read errors.NoMemory = stops.NoMemory
+
+abbrev pub stop_of_asm : AsmError → Stop
+stop_of_asm (faults.Refused line reason) = stops.Text line reason
+stop_of_asm faults.NoMemory = stops.NoMemory
+
+abbrev pub stop_of_input : InputError → Stop
+stop_of_input inputs.TooLong = stops.Text 0 reasons.TextTooLong
+stop_of_input inputs.ReadFault = stops.ReadFault
+stop_of_input inputs.NoMemory = stops.NoMemory
 
 abbrev pub stop_of_link : LinkError → Stop
 stop_of_link (refusals.Refused rule i) = stops.Item i rule

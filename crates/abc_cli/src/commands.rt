@@ -3,6 +3,7 @@ ghost use Rattle.abc_cli.specs.End.{stream};
 ghost use Rattle.abc_cli.specs.Outcome.{reads_input};
 ghost use Rattle.abc_cli.specs.Stops.{Gives, Stops};
 
+use crate::asm::asm;
 use crate::canon::canon;
 use crate::check::check;
 use crate::dis::dis;
@@ -27,6 +28,7 @@ pub fn bytes_of<S: Source>(
         Command::Dis => dis(alloc, source),
         Command::Check => check(alloc, source),
         Command::Tidy => tidy(alloc, source),
-        Command::Asm | Command::Run(_) | Command::Gen(_) => Err(Stop::NotBuilt),
+        Command::Asm => asm(alloc, source),
+        Command::Run(_) | Command::Gen(_) => Err(Stop::NotBuilt),
     }
 }

@@ -11,6 +11,7 @@ use crate::stop::Stop;
 use abc_base::{Failed, Sink, Status, write_all};
 use abc_format::Reason;
 use abc_rules::{Item, LinkRule};
+use abc_text::AsmReason;
 use abc_tidy::TidyRule;
 use abc_typing::VerifyRule;
 
@@ -39,6 +40,15 @@ fn give_file<E: Sink>(err: &mut E, place: u32, reason: Reason) -> Status
     ensures { GivesLine (stream E.written E.faults err.old err.new) (stop_answer (Stop.File place reason)) result }
 {
     let written = write_place(err, b"byte", place, reason.name());
+    ended(written, Status::Refused)
+}
+
+/// Writes the line of a refused text.
+#[tactic(auto, using(crate::proofs::Ending::gives))]
+fn give_text<E: Sink>(err: &mut E, line: u32, reason: AsmReason) -> Status
+    ensures { GivesLine (stream E.written E.faults err.old err.new) (stop_answer (Stop.Text line reason)) result }
+{
+    let written = write_place(err, b"line", line, reason.name());
     ended(written, Status::Refused)
 }
 
@@ -96,6 +106,7 @@ pub fn give_stop<E: Sink>(err: &mut E, stop: Stop) -> Status
 {
     match stop {
         Stop::File { place, reason } => give_file(err, place, reason),
+        Stop::Text { line, reason } => give_text(err, line, reason),
         Stop::Item { item, rule } => give_item(err, item, rule),
         Stop::Code {
             method,

@@ -1,6 +1,7 @@
 //! The top call: what the program does with the words of a command line and an input.
 #![tactic(auto)]
 
+mod asm;
 mod canon;
 mod check;
 mod commands;

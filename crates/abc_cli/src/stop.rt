@@ -1,10 +1,13 @@
 ghost use Rattle.std.specs.Prelude.{◌≡◌};
-ghost use Rattle.abc_cli.specs.Stops.{stop_of_link, stop_of_read, stop_of_tidy};
+ghost use Rattle.abc_cli.specs.Stops.{stop_of_asm, stop_of_input, stop_of_link, stop_of_read, stop_of_tidy};
 ghost use Rattle.abc_cli.specs.declared.stop.Stop.TheVariants as stops;
 
+use abc_asm::AsmError;
 use abc_base::NoMemory;
 use abc_format::Reason;
+use abc_input::InputError;
 use abc_rules::{Item, LinkError, LinkRule};
+use abc_text::AsmReason;
 use abc_tidy::{TidyError, TidyRule};
 use abc_typing::VerifyRule;
 use abc_varint::ReadError;
@@ -18,6 +21,12 @@ pub enum Stop {
     File {
         place: u32,
         reason: Reason,
+    },
+    /// The input is no assembly text.
+    #[error("line {line} is refused: {reason:?}")]
+    Text {
+        line: u32,
+        reason: AsmReason,
     },
     /// The file breaks a rule of linking.
     #[error("{rule:?} is broken by {item:?}")]
@@ -57,6 +66,32 @@ impl From<ReadError> for Stop {
             ReadError::Refused { place, reason } => Stop::File { place, reason },
             ReadError::ReadFault => Stop::ReadFault,
             ReadError::NoMemory => Stop::NoMemory,
+        }
+    }
+}
+
+impl From<AsmError> for Stop {
+    ghost from_gives = { λ e stop. stop ≡ stop_of_asm e };
+
+    fn from(e: AsmError) -> Stop {
+        match e {
+            AsmError::Refused { line, reason } => Stop::Text { line, reason },
+            AsmError::NoMemory => Stop::NoMemory,
+        }
+    }
+}
+
+impl From<InputError> for Stop {
+    ghost from_gives = { λ e stop. stop ≡ stop_of_input e };
+
+    fn from(e: InputError) -> Stop {
+        match e {
+            InputError::TooLong => Stop::Text {
+                line: 0,
+                reason: AsmReason::TextTooLong,
+            },
+            InputError::ReadFault => Stop::ReadFault,
+            InputError::NoMemory => Stop::NoMemory,
         }
     }
 }

@@ -64,7 +64,7 @@ pub fn abc_main<S: Source, K: Sink, E: Sink, H: Host>(
     ensures usage { (a : Answer) → UsageOutcome words.now a → GivesLine (stream E.written E.faults err.old err.new) a result }
     ensures untouched { (a : Answer) → UsageOutcome words.now a → out.new ≡ out.old }
     ensures well_formed { IsWellFormed words.now → result ≡ Status.Usage → ⊥ }
-    // What `dis` writes is a text of the file that was read, and of no other.
+    // What `dis` writes is a text of the file that was read, and of no other; unless it is too long, `asm` of it gives the canonical bytes.
     ensures listed { Says words.now Command.Dis → result ≡ Status.Done → Lists (stream S.left S.faults source.old source.new) (stream K.written K.faults out.old out.new) }
     // Memory is wanted for well-formed words alone.
     ensures memory { result ≡ Status.NoMemory → IsWellFormed words.now }

@@ -56,7 +56,7 @@ returns-in-Ok-clause-listed g c = λ says done.
     let out = stream g.K.Sink.written g.K.Sink.faults c.args.out.now c.run_command.new.out in
     let err = stream g.E.Sink.written g.E.Sink.faults c.args.err.now c.run_command.new.err in
     let is = same_command c.in-Ok.command commands.Dis c.parse.result c.in-Ok.is ((c.parse.ensures.command commands.Dis).1 says) in
-    lists c.listing_is_read_back.ensures.text c.listing_is_read_back.ensures.no_other source out err c.run_command.result
+    lists c.listing_is_read_back.ensures.text c.listing_is_read_back.ensures.no_other c.listing_is_read_back.ensures.no_fault source out err c.run_command.result
     (subst (λ (x : Command). Ends (CommandOutcome x) source out err c.run_command.result) is c.run_command.ensures.end) done
 
 pub returns-in-Err-clause-listed : goal.returns-in-Err-clause-listed

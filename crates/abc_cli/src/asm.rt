@@ -1,0 +1,37 @@
+ghost use Rattle.std.specs.Prelude.{◌≤◌, ◌^◌, IfErr, IfOk, length};
+ghost use Rattle.abc_cli.specs.End.{stream};
+ghost use Rattle.abc_cli.specs.Outcome.{Asm, given};
+ghost use Rattle.abc_cli.specs.Stops.{Gives, Stops, StopsAt};
+ghost use Rattle.abc_words.specs.declared.command.Command.TheVariants as commands;
+
+use crate::stop::Stop;
+use abc_asm::assemble;
+use abc_base::Source;
+use abc_file::write;
+use abc_input::read_input;
+use abc_ranges::texts_have_ready_bodies;
+use std::alloc::Global;
+
+/// The canonical bytes of the file that a text is one of.
+fn assembled(alloc: Global, text: &[u8]) -> Result<Vec<u8>, Stop>
+    requires { length text.now ≤ 2 ^ 28 }
+    ensures gives { IfOk result (λ bytes. Asm text.now (given bytes.items)) }
+    ensures stops { IfErr result (λ stop. StopsAt (Asm text.now) stop) }
+{
+    // A law, which says that the file can be written.
+    texts_have_ready_bodies();
+    let abc = assemble(alloc, text)?;
+    let mut bytes = Vec::new(alloc);
+    write(alloc, &abc, &mut bytes)?;
+    Ok(bytes)
+}
+
+/// What the command `asm` gives: the canonical bytes of the text's file. At most 2^28 + 1 bytes are read.
+pub fn asm<S: Source>(alloc: Global, source: &mut S) -> Result<Vec<u8>, Stop>
+    ensures gives { IfOk result (λ bytes. Gives commands.Asm (stream S.left S.faults source.old source.new) bytes.items) }
+    ensures stops { IfErr result (λ stop. Stops commands.Asm (stream S.left S.faults source.old source.new) stop) }
+{
+    let text = read_input(alloc, source, 1 << 28)?;
+    let bytes = assembled(alloc, text.as_slice())?;
+    Ok(bytes)
+}
