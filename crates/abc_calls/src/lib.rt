@@ -12,12 +12,8 @@ mod heaps;
 #[cfg(test)]
 mod host_tables;
 #[cfg(test)]
-mod linking;
-#[cfg(test)]
 mod numbers;
 #[cfg(test)]
 mod streams;
-#[cfg(test)]
-mod texts;
 #[cfg(test)]
 mod words;

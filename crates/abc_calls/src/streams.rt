@@ -1,7 +1,6 @@
 //! Streams that never fail, and adapters over std's readers and writers.
 
 use abc_base::{Failed, Sink, Source, StdSink, StdSource, SteadySink, SteadySource, write_all};
-use abc_input::{InputError, read_input};
 use std::test::*;
 
 #[test]
@@ -39,19 +38,4 @@ fn std_sink(rt: HostRuntime) {
     assert_eq!(rt; write_all(&mut out, b"abc"), Ok(()));
     assert_eq!(rt; write_all(&mut out, b"def"), Err(Failed));
     assert_eq!(rt; block, *b"abcd");
-}
-
-/// An input of five bytes, in pieces of two, where so many are allowed.
-#[test]
-fn whole_input(rt: HostRuntime) -> Result<(), Fail> {
-    for (most, is_short) in [(6, true), (5, true), (4, false), (0, false)] {
-        let mut source = SteadySource::new(rt.alloc(), b"abcde", 2)?;
-        match read_input(rt.alloc(), &mut source, most) {
-            Ok(bytes) => {
-                assert_eq!(rt; (bytes.as_slice(), is_short), (b"abcde".as_slice(), true));
-            }
-            Err(e) => assert_eq!(rt; (e, is_short), (InputError::TooLong, false)),
-        }
-    }
-    Ok(())
 }
