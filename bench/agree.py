@@ -3,9 +3,10 @@
 
 Use: agree.py 'PROGRAM WORDS' 'PEER WORDS' [--runs N] [--seed N]
 
-The files come from examples/ and from the makers of files.py at a small size. An input on which the programs differ is kept
-beside the temporary files and its name is printed. The last lines count the answers, so that one sees what was tried. This
-is a search for faults by hand, and no test.
+The files come from examples/ and from the makers of files.py at a small size; where the program's last word is `asm`, their
+listings are taken, which the peer makes. An input on which the programs differ is kept beside the temporary files and its
+name is printed. Two refusals of one method are taken as equal: which place is named is free. The last lines count the
+answers, so that one sees what was tried. This is a search for faults by hand, and no test.
 """
 import argparse
 import collections
@@ -17,12 +18,18 @@ import sys
 import tempfile
 
 import bodies
+import compiling
+import linking
 import tables
+import tidying
+import verifying
 from spelling import HEAD
 
 TOP = os.path.dirname(os.path.dirname(os.path.abspath(__file__)))
-SMALL = 4096
+SMALL, MIDDLE = 4096, 1 << 16
 MAKERS = (tables.ints, tables.strings, tables.names, tables.definitions, bodies.small_bodies, bodies.small_bodies, bodies.large_body)
+# These link, and are verified.
+PROGRAMS = (compiling.compiled, compiling.compiled, linking.chain, tidying.forward, verifying.branches, verifying.tries)
 BYTES = bytes.fromhex("00 01 02 07 08 10 1b 25 2f 40 62 7f 80 84 8f ef ff")
 NUMBERS = [bytes.fromhex(spelled) for spelled in ("ff ff ff ff 03", "80 80 80 80 04", "ff ff ff ff 8f", "ff ff ff ff 7f", "80 80 80 04", "80 80 01", "85 80 00")]
 
@@ -87,6 +94,25 @@ def answer(words, data):
     return done.returncode, done.stdout, done.stderr
 
 
+def seeds_for(rng, peer):
+    """Files, or their listings."""
+    seeds = [open(path, "rb").read() for path in sorted(glob.glob(os.path.join(TOP, "examples", "*.abc")))]
+    seeds += [maker(rng, SMALL) for maker in MAKERS] + [maker(rng, MIDDLE) for maker in PROGRAMS] + [TWO_BODIES] * 5
+    if peer[-1] == "asm":
+        return [answer([*peer[:-1], "dis"], seed)[1] for seed in seeds]
+    return seeds
+
+
+def refused_method(one):
+    """The words of a refusal that name a method."""
+    words = one[2].split()
+    return words[:3] if one[0] == 1 and words[1:2] == [b"method"] else None
+
+
+def is_same(one, other):
+    return one == other or refused_method(one) and refused_method(one) == refused_method(other)
+
+
 def main():
     parser = argparse.ArgumentParser()
     parser.add_argument("ours")
@@ -96,14 +122,13 @@ def main():
     given = parser.parse_args()
     ours, peer = given.ours.split(), given.peer.split()
     rng = random.Random(given.seed)
-    seeds = [open(path, "rb").read() for path in sorted(glob.glob(os.path.join(TOP, "examples", "*.abc")))]
-    seeds += [maker(rng, SMALL) for maker in MAKERS] + [TWO_BODIES] * 5
+    seeds = seeds_for(rng, peer)
     counts, differences = collections.Counter(), 0
     for _ in range(given.runs):
         data = mutated(rng, rng.choice(seeds))
         ours_answer, peer_answer = answer(ours, data), answer(peer, data)
         counts[ours_answer[2].decode().rsplit(" ", 1)[-1].strip() or "accepted"] += 1
-        if ours_answer != peer_answer:
+        if not is_same(ours_answer, peer_answer):
             differences += 1
             with tempfile.NamedTemporaryFile(prefix="agree-", suffix=".abc", delete=False) as kept:
                 kept.write(data)

@@ -1,7 +1,7 @@
 """Files of method bodies. Numbers in them have short and long spellings, so that offsets move when they are mended."""
 from itertools import accumulate
 
-from spelling import counted, longer, number, padded, share, slack, varied
+from spelling import HEAD, counted, longer, number, padded, share, slack, varied
 from tables import Pools, method, trait
 
 SWITCH = 0x1B
@@ -131,3 +131,10 @@ def large_body(rng, size):
         return body(rng, v, choices, of, rng.randint(20, slack(size) // 2), rng.randint(0, 3))
 
     return program(rng, size, v, [large], more)
+
+
+def tiny_bodies(rng, size):
+    """2^20 bodies that return at once, of which the last one is that of the script."""
+    count = share(1 << 20, size)
+    spelled = [number(method) + b"\x01\x01\x00\x01\x01\x47\0\0" for method in range(count)]
+    return HEAD + bytes(7) + counted([bytes(4)] * count) + b"\0\0" + counted([number(count - 1) + b"\0"]) + counted(spelled)

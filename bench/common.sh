@@ -1,20 +1,29 @@
-# For text.sh, link.sh and tidy.sh, which are in this folder and name a folder for their files.
+# For the scripts of this folder, which name a folder for their files. ABC names a built program, where it is not that of
+# this repository, and RUNS how many runs there are of each program, where it is not five.
 here=$(cd "$(dirname "${BASH_SOURCE[0]}")" && pwd)
 folder=${1:-/tmp/abc-bench}
-abc=$here/../crates/abc/out/abc
+abc=${ABC:-$here/../crates/abc/out/abc}
 peer=$folder/target/release/baseline
 
 # Makes the files of these kinds, and builds both programs.
 prepare() {
     python3 "$here/files.py" "$folder" "$@"
     CARGO_TARGET_DIR=$folder/target cargo build --offline --quiet --release --manifest-path "$here/baseline/Cargo.toml"
-    "$here/../bin/abc" canon <"$here/../examples/empty.abc" >/dev/null
+    [ -n "${ABC:-}" ] || "$here/../bin/abc" canon <"$here/../examples/empty.abc" >/dev/null
 }
 
-# Measures the command $1 on the kinds and with the options of measure.py that follow.
+# Measures the command $1 on the kinds and with the options of measure.py that follow. The peer's command may have another
+# word, which stands behind a colon.
 measure() {
-    local word=$1
+    local word=${1%:*} peer_word=${1#*:}
     shift
     echo "$word:"
-    python3 "$here/measure.py" "$abc $word" "$peer $word" "$folder" "$@"
+    python3 "$here/measure.py" "$abc $word" "$peer $peer_word" "$folder" "$@" --runs "${RUNS:-5}"
+}
+
+# Whether `abc check` is whole: else it says of a file that links that the rest isn't built.
+is_verifier_built() {
+    local status=0
+    "$abc" check <"$here/../examples/hello.abc" >/dev/null 2>&1 || status=$?
+    [ "$status" -ne 11 ]
 }

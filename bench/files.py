@@ -2,13 +2,15 @@
 """Makes the files that the benchmarks read, by a seed for each.
 
 Use: files.py FOLDER [KIND..]. A file that is there already is left as it is. Each kind has KIND.abc, of 16,777,216 bytes,
-and KIND_half.abc, of 8,388,608; from `chain` on they have at most so many:
+and KIND_half.abc, of 8,388,608; from `tiny` on they have at most so many:
   ints         ints, in short and in long spellings
   strings      strings of 0 to 40 bytes
   names        namespaces, namespace sets and multinames, a fifth of them with 0 to 4 parameters
   definitions  methods, classes and traits
   bodies       method bodies of 20 to 200 bytes of code, as a compiler writes them
   code         a body with 8 MiB less a byte of code (4 MiB less a byte in the half file), and smaller ones after it
+  compiled     classes with methods, as a compiler writes them: the file links and is verified
+  tiny         2^20 bodies of one instruction
   chain        2^18 classes, each with the next one as its base
   interfaces   2^18 edges among 65 rows of 64 interfaces
   traits       2^20 slots of one class, each with a number
@@ -16,9 +18,17 @@ and KIND_half.abc, of 8,388,608; from `chain` on they have at most so many:
   forward      as many type names as fit, each of which names the next
   backward     the same, each of which names the one before
   cycle        the same in one cycle
+  straight     a body with 8 MiB less a byte of code without branches
+  branches     a body with 2^20 branches
+  tries        a body with 2^16 handlers, one behind the other
+  nested       a body with 2^10 handlers, each around the next, over 4 MiB of code
+  handlers     a body with 2^18 writes of locals, each with a branch behind it, under two handlers
+  scopes       a body with 65,000 scopes, of which the last is popped and pushed again in 4 MiB of code
+  locals       a body with 65,535 locals and 2^20 writes of them, and bodies with 1000 locals
 These are texts, KIND.abcasm and KIND_half.abcasm, and have any size:
   labels       a body with 2^20 labels
   long         a label and quoted texts of a megabyte
+  comment      2^28 bytes, of which the second line has all but a few
 FOLDER/huge gets small files, each of which claims 2^30 - 1 entries of one table and then ends.
 """
 import os
@@ -26,6 +36,7 @@ import random
 import sys
 
 import bodies
+import compiling
 import linking
 import tables
 import texts
@@ -40,6 +51,8 @@ MAKERS = {
     "definitions": tables.definitions,
     "bodies": bodies.small_bodies,
     "code": bodies.large_body,
+    "compiled": compiling.compiled,
+    "tiny": bodies.tiny_bodies,
     "chain": linking.chain,
     "interfaces": linking.interfaces,
     "traits": linking.traits,
@@ -47,14 +60,18 @@ MAKERS = {
     "forward": tidying.forward,
     "backward": tidying.backward,
     "cycle": tidying.cycle,
-    "functions": verifying.functions,
     "straight": verifying.straight,
     "branches": verifying.branches,
+    "tries": verifying.tries,
+    "nested": verifying.nested,
     "handlers": verifying.handlers,
+    "scopes": verifying.scopes,
+    "locals": verifying.many_locals,
     "labels": texts.labels,
     "long": texts.long_tokens,
+    "comment": texts.comment,
 }
-TEXTS = ("labels", "long")
+TEXTS = ("labels", "long", "comment")
 HUGE = "ff ff ff ff 03"
 # The bytes between the version and the huge count.
 CLAIMS = {
@@ -95,11 +112,11 @@ def write_new(path, make):
 def main():
     folder, kinds = sys.argv[1], sys.argv[2:] or list(MAKERS)
     os.makedirs(os.path.join(folder, "huge"), exist_ok=True)
-    for seed, (name, maker) in enumerate(MAKERS.items()):
+    for name, maker in MAKERS.items():
         if name in kinds:
             ending = ".abcasm" if name in TEXTS else ".abc"
-            write_new(os.path.join(folder, name + ending), lambda: maker(random.Random(seed), SIZE))
-            write_new(os.path.join(folder, name + "_half" + ending), lambda: maker(random.Random(seed), SIZE // 2))
+            write_new(os.path.join(folder, name + ending), lambda: maker(random.Random(name), SIZE))
+            write_new(os.path.join(folder, name + "_half" + ending), lambda: maker(random.Random(name), SIZE // 2))
     for name, before in CLAIMS.items():
         write_new(os.path.join(folder, "huge", name + ".abc"), lambda: HEAD + bytes.fromhex(before + HUGE))
 

@@ -1,14 +1,14 @@
 #!/usr/bin/env python3
 """Runs two programs on files in turn and compares them: their outputs, times and peak memory.
 
-Use: measure.py 'PROGRAM WORDS' 'PEER WORDS' FOLDER KIND.. [--ending .abc] [--status 0] [--beside 'PROGRAM WORDS'] [--refused FILE..]
+Use: measure.py 'PROGRAM WORDS' 'PEER WORDS' FOLDER KIND.. [--ending .abc] [--status 0] [--beside 'PROGRAM WORDS'] [--alone] [--runs 5] [--refused FILE..]
 
 Each kind has a file KIND.abc and mostly one of half its size, KIND_half.abc, in the folder; --ending names another ending.
-Of five runs each the best time counts: that on the clock, and that of the processor (cpu), which other work on the machine
+Of so many runs each the best time counts: that on the clock, and that of the processor (cpu), which other work on the machine
 disturbs less. Growth is the time of a whole file by that of the half one. The peak of memory comes from one more run under
 GNU time: what the system tells of a direct child counts the memory of this script too. All answers have the status that
---status says. With --beside the times are also told by those of that program, whose answers are its own. Files that are
-refused are told by their peak alone. Where the program's command isn't built yet, the peer is measured alone.
+--status says. With --beside the processor's times are also told by those of that program, whose answers are its own. Files that are
+refused are told by their peak alone. With --alone, and where the program's command isn't built yet, the peer is measured alone.
 """
 import argparse
 import hashlib
@@ -18,7 +18,6 @@ import sys
 import tempfile
 import time
 
-RUNS = 5
 GNU_TIME = "/usr/bin/time"
 NOT_BUILT = 11
 
@@ -55,10 +54,10 @@ def is_built(words):
     return subprocess.run(words, stdin=subprocess.DEVNULL, capture_output=True).returncode != NOT_BUILT
 
 
-def compare(programs, path, wanted):
+def compare(programs, path, wanted, runs):
     """The best of each program on a file; all runs have to give the same answer, with the wanted status."""
     bests = [Best() for _ in programs]
-    for _ in range(RUNS):
+    for _ in range(runs):
         for best, words in zip(bests, programs):
             best.run(words, path)
     answers = set.union(*(best.answers for best in bests))
@@ -82,7 +81,7 @@ class Table:
     def __init__(self, given):
         self.given = given
         self.programs = [given.ours.split(), given.peer.split()]
-        if not is_built(self.programs[0]):
+        if given.alone or not is_built(self.programs[0]):
             print(f"{given.ours}: not built, so these are figures of the peer alone")
             del self.programs[0]
 
@@ -96,14 +95,14 @@ class Table:
     def beside(self, first, path):
         """The time by that of the program beside."""
         other = Best()
-        for _ in range(RUNS):
+        for _ in range(self.given.runs):
             other.run(self.given.beside.split(), path)
-        return first.clock / other.clock
+        return first.cpu / other.cpu
 
     def show(self, name):
         """Prints a file's figures without the line's end, and gives the best runs of the program that is measured."""
         path = self.path(name)
-        bests = compare(self.programs, path, self.given.status)
+        bests = compare(self.programs, path, self.given.status, self.given.runs)
         size = os.path.getsize(path)
         peaks = [peak(words, path) / size for words in self.programs]
         first, peer = bests[0], bests[-1]
@@ -125,7 +124,7 @@ class Table:
     def refused(self):
         paths = self.given.refused
         for path in paths:
-            compare(self.programs, path, 1)
+            compare(self.programs, path, 1, self.given.runs)
         peaks = [max(peak(words, path) for path in paths) for words in self.programs]
         print(f"{len(paths)} small files with huge counts, refused: the greatest peak is {peaks[0]:,} bytes, that of the peer {peaks[-1]:,}")
 
@@ -139,6 +138,8 @@ def main():
     parser.add_argument("--ending", default=".abc")
     parser.add_argument("--status", type=int, default=0)
     parser.add_argument("--beside")
+    parser.add_argument("--alone", action="store_true")
+    parser.add_argument("--runs", type=int, default=5)
     parser.add_argument("--refused", nargs="*", default=[])
     given = parser.parse_args()
     if not os.path.exists(GNU_TIME):

@@ -55,6 +55,7 @@ def slack(size):
 def padded(size, parts):
     """The file, where one more string fills it up: parts(filler) gives its bytes."""
     missing = size - len(parts(b""))
+    assert missing > 0, missing
     filler = b"x" * missing
     while len(parts(filler)) > size:
         filler = filler[:-1]

@@ -22,3 +22,9 @@ def long_tokens(rng, size):
     label = b"L" * length
     code = label + b":\njump " + label + b"\nlookupswitch " + label + b" " + label + b"\n"
     return HEAD + b'string "%s"\nstring "%s"\n' % (plain, escaped) + BODY + code
+
+
+def comment(rng, size):
+    """The longest text: one comment, but for the first line."""
+    length = (1 << 28) * size // SIZE
+    return HEAD + b"; " + b"x" * (length - len(HEAD) - 3) + b"\n"

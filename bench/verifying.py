@@ -1,114 +1,131 @@
-"""Files that link and whose bodies are verified: as a compiler writes them, straight code, branches, and handlers."""
-from linking import METHOD, qname
-from spelling import HEAD, SIZE, counted, number, pool, text
+"""Files that a verifier accepts, and that cost it much. Half versions have half as much code, half as many branches or handlers."""
+from compiling import Program
+from linking import program
+from spelling import SIZE, counted, number
+from statements import Maker, distance
 
-TEXTS = 200
-LOCALS = 12
-# The most that code may have.
-MOST = (1 << 23) - 1
-
-
-def offset(distance):
-    return (distance & 0xFFFFFF).to_bytes(3, "little")
-
-
-def read(rng):
-    """A number on the stack."""
-    return rng.choice((b"\xd1", b"\x62" + bytes([rng.randrange(4, LOCALS)]), b"\x24" + bytes([rng.randrange(128)]), b"\x2d" + number(rng.randint(1, TEXTS))))
+STRING, PACKAGE = b"\x01x", b"\x16\0"
+# getlocal_1, getlocal_2 and their comparison; the first of their ways to go on is the next place.
+TESTS = (b"\xd1\x11", b"\xd2\x12", b"\xd1\xd2\x15", b"\xd1\xd2\x13")
+BETWEEN = (b"", b"", b"\xc2\x01", b"\xd2\xd6", b"\x09")
+POP_AND_RETURN = b"\x29\x47"
+HANDLED = b"\0\0"
 
 
-def assignment(rng):
-    sum_of = b"".join((read(rng), read(rng), bytes([rng.choice(b"\xa0\xa1\xa2\xa8\xa5")]), b"\x73"))
-    return sum_of + b"\x63" + bytes([rng.randrange(4, LOCALS)])
+class Straight(Maker):
+    """Makes code without branches."""
 
+    def __init__(self, rng, pools):
+        super().__init__(rng, pools)
+        self.trees = [tree for tree in self.trees if tree not in (self.either, self.choice)]
 
-def call(rng):
-    name = number(rng.randint(1, TEXTS))
-    return b"\x5d" + name + read(rng) + b"\x2c" + number(rng.randint(1, TEXTS)) + b"\x4f" + name + b"\x02"
-
-
-def access(rng):
-    return b"\xd0\x66" + number(rng.randint(1, TEXTS)) + b"\xd6" + b"\xd2\x80\0" + read(rng) + b"\x61" + number(rng.randint(1, TEXTS))
-
-
-def count(rng):
-    return b"\xc2" + bytes([rng.randrange(4, LOCALS)])
-
-
-def statement(rng):
-    return rng.choice((assignment, assignment, call, access, count))(rng)
-
-
-def choice(rng):
-    block = b"".join(statement(rng) for _ in range(rng.randint(1, 4)))
-    return read(rng) + b"\x12" + offset(len(block)) + block
-
-
-def loop(rng):
-    block = b"\x09" + b"".join(statement(rng) for _ in range(rng.randint(1, 6)))
-    test = read(rng) + read(rng)
-    return b"\x10" + offset(len(block)) + block + test + b"\x15" + offset(-len(block) - len(test) - 4)
-
-
-# All locals but `this` and one more are numbers from the start on, so that the states of loops settle at once.
-OPENING = b"\xd0\x30" + b"\x24\0\xd5" + b"".join(b"\x24\0\x63" + bytes([local]) for local in range(4, LOCALS)) + b"\x21\x82\xd6"
-
-
-def function(rng):
-    """Code as a compiler writes it."""
-    makers = (statement,) * 6 + (choice, choice, loop)
-    return OPENING + b"".join(rng.choice(makers)(rng) for _ in range(rng.randint(1, 30))) + b"\x47"
-
-
-def body(of, code, locals_count=LOCALS, handlers=()):
-    return b"".join(map(number, (of, 4, locals_count, 1, 2, len(code)))) + code + counted(handlers) + b"\0"
-
-
-def program(bodies):
-    """A file with these bodies, each of a method of its own; the last one is that of a script."""
-    strings = [text(b"name%d" % n) for n in range(TEXTS)]
-    names = [qname(1, n + 1) for n in range(TEXTS)]
-    ints = [number(n * n) for n in range(TEXTS)]
-    pools = pool(ints) + b"\0\0" + pool(strings) + pool([b"\x16\0"]) + b"\0" + pool(names)
-    script = number(len(bodies) - 1) + b"\0"
-    made = HEAD + pools + counted([METHOD] * len(bodies)) + b"\0\0" + counted([script]) + counted(bodies)
-    assert len(made) <= SIZE, len(made)
-    return made
-
-
-def functions(rng, size):
-    """Bodies as a compiler writes them."""
-    bodies, made = [], 16384
-    while made < size:
-        one = body(len(bodies), function(rng))
-        made += len(one) + len(METHOD)
-        bodies.append(one)
-    return program(bodies[:-1])
-
-
-def most(size):
-    return MOST * size // SIZE
+    def code(self, length):
+        """So many bytes, and the greatest depth."""
+        stock = [self.statement(0) for _ in range(4000)]
+        made, left, depth = [], length - 1, 1
+        while left > 200:
+            code, need = self.rng.choice(stock)
+            made.append(code)
+            left, depth = left - len(code), max(depth, need)
+        return b"".join(made) + b"\x02" * left + b"\x47", depth
 
 
 def straight(rng, size):
-    """One body of straight code, 8 MiB in a whole file."""
-    parts, made = [OPENING], len(OPENING) + 1
-    while made < most(size) - 32:
-        parts.append(statement(rng))
-        made += len(parts[-1])
-    return program([body(0, b"".join(parts) + b"\x47")])
+    """A body with 8 MiB less a byte of code without branches, as a compiler writes it."""
+    made = Program(rng, size // 64)
+    for _ in range(made.pools.known_classes()):
+        made.add_class()
+    method = made.method(0)
+    code, depth = Straight(rng, made.pools).code(size // 2 - 1)
+    made.put(made.bodies, b"".join(map(number, (method, depth, 18, 0, 1, len(code)))) + code + b"\0\0")
+    return made.finish()(b"")
+
+
+def body(method, max_scope, local_count, code, exceptions):
+    fields = b"".join(map(number, (method, 2, local_count, 0, max_scope, len(code))))
+    assert len(code) < 1 << 23, len(code)
+    return fields + code + counted(exceptions) + b"\0"
+
+
+def of_bodies(*bodies, max_scope=1):
+    """A file with one script, whose bodies are those of its methods in turn."""
+    spelled = [body(method, max_scope, *parts) for method, parts in enumerate(bodies)]
+    return program([STRING], [PACKAGE], [], len(bodies), [], [], [], spelled)
+
+
+def exception(start, end, target):
+    return number(start) + number(end) + number(target) + HANDLED
+
+
+def near(rng, n, count):
+    """A number of a branch: one in 16 any, the others near the n-th."""
+    if rng.random() < 1 / 16:
+        return rng.randrange(count)
+    return rng.randint(max(0, n - 40), min(count - 1, n + 40))
+
+
+def branching(rng, count):
+    """So many branches to each other; local 1 is a number, and stays one."""
+    units = [rng.choice(TESTS) for _ in range(count)]
+    starts, at = [], 3
+    for n, unit in enumerate(units):
+        units[n] = (unit, rng.choice(BETWEEN))
+        starts.append(at)
+        at += len(unit) + 3 + len(units[n][1])
+    code = [b"\x24\x01\xd5"]
+    for n, (unit, between) in enumerate(units):
+        base = starts[n] + len(unit) + 3
+        code.append(unit + distance(starts[near(rng, n, count)] - base) + between)
+    return b"".join(code) + b"\x47"
 
 
 def branches(rng, size):
-    """One body of branches to the place after them, 2^20 in a whole file."""
-    return program([body(0, b"\x26\x12\0\0\0" * ((1 << 20) * size // SIZE) + b"\x47", 1)])
+    """A body with 2^20 branches."""
+    return of_bodies((3, branching(rng, (1 << 20) * size // SIZE), []))
+
+
+def tries(rng, size):
+    """A body with 2^16 handlers, one behind the other: getlocal_1 getlocal_2 add setlocal_1, and a jump over a pop."""
+    count, unit = (1 << 16) * size // SIZE, b"\xd1\xd2\xa0\xd5\x10\x01\x00\x00\x29"
+    exceptions = [exception(at, at + 4, at + 8) for at in range(0, count * len(unit), len(unit))]
+    return of_bodies((3, unit * count + b"\x47", exceptions))
+
+
+def nested(rng, size):
+    """A body with 4 MiB of straight code that writes locals, under 2^10 handlers, each around the next."""
+    count, length = (1 << 10) * size // SIZE, (1 << 22) * size // SIZE
+    step, unit = length // (4 * count), b"\xc2\x01\xd1\xd6"
+    code = b"\x24\x01\xd5\x02" + unit * (length // 4 - 1)
+    exceptions = [exception(4 * step * n, length - 4 * step * n, length + 1 + 2 * n) for n in range(count)]
+    return of_bodies((3, code + b"\x47" + POP_AND_RETURN * count, exceptions))
 
 
 def handlers(rng, size):
-    """One body of 2^18 writes of 64 locals, each with a branch behind it, and two handlers of all its places."""
-    locals_count = 64
-    writes = b"".join(b"\x24\0\x63" + bytes([n]) for n in range(1, locals_count))
-    parts = [b"\x24\x01\x63" + bytes([rng.randrange(1, locals_count)]) + b"\x10\0\0\0" for _ in range((1 << 18) * size // SIZE)]
-    code = writes + b"".join(parts) + b"\x47\x29\x47"
-    handler = b"".join(map(number, (len(writes), len(code) - 2, len(code) - 2, 0, 0)))
-    return program([body(0, code, locals_count, [handler] * 2)])
+    """A body with 2^18 writes of 64 locals, each with a branch to the next, under two handlers."""
+    count = (1 << 18) * size // SIZE
+    code = b"".join(b"\x24\x01\x63" + number(rng.randrange(64)) + b"\x10\0\0\0" for _ in range(count))
+    around = [exception(0, len(code), len(code) + 1)] * 2
+    return of_bodies((64, code + b"\x47" + POP_AND_RETURN, around))
+
+
+def scopes(rng, size):
+    """A body that has 65,000 scopes, and pops and pushes the last one in 4 MiB of code."""
+    most, length = 65000, (1 << 22) * size // SIZE
+    code = b"\xd0\x30" * most + b"\x1d\xd0\x30" * (length // 3) + b"\x47"
+    return of_bodies((3, code, []), max_scope=65535)
+
+
+def written(rng, writes, local_count):
+    """So many writes of any locals under one handler."""
+    code = b"".join(b"\x26\x63" + number(rng.randrange(local_count)) for _ in range(writes))
+    return code + b"\x47" + POP_AND_RETURN, [exception(0, len(code), len(code) + 1)]
+
+
+def many_locals(rng, size):
+    """A body with 65,535 locals and 2^20 writes of them, and 2^12 bodies with 1000 locals, 16 branches and a handler."""
+    code, exceptions = written(rng, (1 << 20) * size // SIZE, 65535)
+    others = []
+    for _ in range((1 << 12) * size // SIZE):
+        one = branching(rng, 16)
+        others.append((1000, one + POP_AND_RETURN, [exception(3, len(one) - 1, len(one))]))
+    return of_bodies((65535, code, exceptions), *others)

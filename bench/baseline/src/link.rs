@@ -1,5 +1,6 @@
 //! The rules of linking.
-use crate::graph;
+use crate::graph::{self, Reached};
+use crate::linked::Linked;
 use crate::linked_names::*;
 use crate::value::*;
 use std::collections::{HashMap, HashSet};
@@ -68,18 +69,32 @@ fn name_kind(f: &File) -> Broken {
 struct Classes<'a> {
     file: &'a File<'a>,
     bases: Vec<Meaning>,
+    by_base: Reached,
     interfaces: Vec<Vec<Meaning>>,
+}
+
+/// The classes in an order that has each behind its base, and which return to themselves.
+fn reach_by_base(bases: &[Meaning]) -> Reached {
+    let classes = bases.len();
+    graph::reach(classes, 0..classes as u32, |class, n| {
+        match bases[class as usize] {
+            Meaning::Class(base) if n == 0 => Some(base),
+            _ => None,
+        }
+    })
 }
 
 impl<'a> Classes<'a> {
     fn new(f: &'a File<'a>, names: &mut Names) -> Self {
+        let bases: Vec<_> = f
+            .instances
+            .iter()
+            .map(|instance| names.meaning(instance.base))
+            .collect();
         Classes {
             file: f,
-            bases: f
-                .instances
-                .iter()
-                .map(|instance| names.meaning(instance.base))
-                .collect(),
+            by_base: reach_by_base(&bases),
+            bases,
             interfaces: f
                 .instances
                 .iter()
@@ -121,10 +136,6 @@ impl<'a> Classes<'a> {
 
     fn base_cycle(&self) -> Broken {
         let classes = self.bases.len();
-        let base = |class: u32, n: usize| match self.bases.get(class as usize) {
-            Some(Meaning::Class(base)) if n == 0 => Some(*base),
-            _ => None,
-        };
         let interface = |class: u32, n: usize| {
             if class as usize == classes {
                 None
@@ -132,7 +143,7 @@ impl<'a> Classes<'a> {
                 self.interface(class, n)
             }
         };
-        let bases = graph::reach(classes, 0..classes as u32, base).is_cyclic;
+        let bases = &self.by_base.is_cyclic;
         let interfaces = graph::reach(classes + 1, 0..classes as u32, interface).is_cyclic;
         (0..classes)
             .find(|&n| bases[n] || interfaces[n])
@@ -322,8 +333,8 @@ fn rule(name: &str, broken: Broken) -> Result<(), String> {
     broken.map_or(Ok(()), |(word, n)| Err(format!("{word} {n}: {name}")))
 }
 
-/// Tries the rules in their order; the line of the first broken one.
-pub fn link(f: &File) -> Result<(), String> {
+/// Tries the rules in their order. The file is linked, or the line names the first broken one.
+pub fn link<'a>(f: &'a File<'a>) -> Result<Linked<'a>, String> {
     rule("NoScript", no_script(f))?;
     rule("NameKind", name_kind(f))?;
     let mut names = Names::new(f);
@@ -342,5 +353,6 @@ pub fn link(f: &File) -> Result<(), String> {
     )?;
     rule("SameSlot", find_table(f, has_same_slot))?;
     rule("TraitNotRun", trait_not_run(f, &mut names))?;
-    rule("TooLarge", too_large(f))
+    rule("TooLarge", too_large(f))?;
+    Ok(Linked::new(f, &mut names, &classes.bases, &classes.by_base))
 }

@@ -7,12 +7,14 @@ mod asm;
 mod bodies;
 mod canon;
 mod code;
+mod covers;
 mod definitions;
 mod dis;
 mod fault;
 mod graph;
 mod kinds;
 mod link;
+mod linked;
 mod linked_names;
 mod opcodes;
 mod operands;
@@ -22,7 +24,10 @@ mod pools;
 mod read_bodies;
 mod read_definitions;
 mod reader;
-mod rows;
+mod routine;
+mod rules;
+mod shapes;
+mod states;
 mod tidy;
 mod tokens;
 mod trees;
@@ -35,6 +40,7 @@ use canon::Canon;
 use fault::{Answer, Fault, Reason};
 use reader::Reader;
 use value::File;
+use verify::Refused;
 
 /// The most bytes that a file has, and a text.
 const MOST: usize = 1 << 24;
@@ -135,25 +141,24 @@ fn tidy() -> Done {
     write(&file)
 }
 
-/// Where an instruction of a body begins in its code: the file is read once more, since only a refusal asks.
-fn offset(input: &[u8], body: usize, place: u32) -> u32 {
-    let mut reader = Reader::new(input);
-    reader.wanted = Some(body);
-    let read = reader.file();
-    assert!(read.is_ok(), "it was read before");
-    reader.starts[place as usize]
+/// The linking part of `check` alone: of a file that links it says that the rest isn't built.
+fn link() -> Done {
+    let input = read_input(MOST)?;
+    link::link(&read_value(&input)?).map_err(|line| Refusal::new(1, line))?;
+    Err(Refusal::new(11, "not built"))
 }
 
 fn check() -> Done {
     let input = read_input(MOST)?;
     let file = read_value(&input)?;
-    link::link(&file).map_err(|line| Refusal::new(1, line))?;
-    let count = verify::verify(&file).map_err(|refused| {
-        let offset = offset(&input, refused.body, refused.place);
-        let (method, rule) = (refused.method, refused.rule);
+    let linked = link::link(&file).map_err(|line| Refusal::new(1, line))?;
+    verify::verify(&linked).map_err(|Refused { body, place, rule }| {
+        let body = &file.bodies[body as usize];
+        let offset = read_bodies::offset_of(&input, &body.code, place);
+        let method = body.method;
         Refusal::new(1, format!("method {method} offset {offset}: {rule:?}"))
     })?;
-    write(format!("verified {count}\n").as_bytes())
+    write(format!("verified {}\n", file.bodies.len()).as_bytes())
 }
 
 fn main() -> ExitCode {
@@ -163,6 +168,7 @@ fn main() -> ExitCode {
         Some("dis") => dis(),
         Some("asm") => asm(),
         Some("tidy") => tidy(),
+        Some("link") => link(),
         Some("check") => check(),
         Some(word) => Err(Refusal::new(2, format!("usage: {word}"))),
     };

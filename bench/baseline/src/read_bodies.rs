@@ -31,15 +31,6 @@ impl Places {
             .filter(|&number| number != NONE)
     }
 
-    /// Where each instruction starts, and the code ends.
-    fn starts(&self) -> Vec<u32> {
-        let places = self.numbers.iter().zip(0..);
-        places
-            .filter(|&(&number, _)| number != NONE)
-            .map(|(_, place)| place)
-            .collect()
-    }
-
     fn target(&self, offset: &Offset) -> Answer<u32> {
         usize::try_from(offset.target)
             .ok()
@@ -76,7 +67,10 @@ impl Reader<'_> {
         if length >= 1 << 23 {
             return Err(Fault::new(start, Reason::CodeLength));
         }
-        let mut code = Code::default();
+        let mut code = Code {
+            at: self.at as u32,
+            ..Code::default()
+        };
         code.instructions = self.instructions(places, length as usize)?;
         places.aim(&mut code)?;
         Ok(code)
@@ -197,14 +191,18 @@ impl Reader<'_> {
     pub fn bodies(&mut self, f: &File) -> Answer<Vec<Body>> {
         let mut has_body = vec![false; f.methods.len()];
         let mut places = Places::default();
-        let mut number = 0;
-        self.counted(|r| {
-            let body = r.body(f, &mut has_body, &mut places)?;
-            if r.wanted == Some(number) {
-                r.starts = places.starts();
-            }
-            number += 1;
-            Ok(body)
-        })
+        self.counted(|r| r.body(f, &mut has_body, &mut places))
     }
+}
+
+/// Where an instruction begins in its code, as it was read from the input.
+pub fn offset_of(input: &[u8], code: &Code, place: u32) -> usize {
+    let first = code.at as usize;
+    let mut reader = Reader::new(input);
+    reader.at = first;
+    for _ in 0..place {
+        let read = reader.instruction(&mut Places::default(), first);
+        read.expect("it was read before");
+    }
+    reader.at - first
 }

@@ -3,14 +3,11 @@ use crate::fault::{Answer, Fault, Reason};
 use crate::value::*;
 use std::borrow::Cow;
 
-/// The input, the place that was read to, and how many classes the file has, once that was read. Where the instructions of a
-/// body begin is told of the one that is wanted.
+/// The input, the place that was read to, and how many classes the file has, once that was read.
 pub struct Reader<'a> {
     pub input: &'a [u8],
     pub at: usize,
     pub classes: usize,
-    pub wanted: Option<usize>,
-    pub starts: Vec<u32>,
 }
 
 impl<'a> Reader<'a> {
@@ -19,8 +16,6 @@ impl<'a> Reader<'a> {
             input,
             at: 0,
             classes: 0,
-            wanted: None,
-            starts: Vec::new(),
         }
     }
 

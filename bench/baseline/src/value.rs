@@ -40,7 +40,11 @@ pub struct Method {
     pub param_names: Vec<u32>,
 }
 
+pub const NEEDS_ARGUMENTS: u8 = 0x01;
+pub const NEEDS_ACTIVATION: u8 = 0x02;
+pub const NEEDS_REST: u8 = 0x04;
 pub const HAS_OPTIONS: u8 = 0x08;
+pub const SETS_DXNS: u8 = 0x40;
 pub const HAS_PARAM_NAMES: u8 = 0x80;
 
 /// Items are pairs, one after the other.
@@ -50,6 +54,7 @@ pub struct Metadata {
 }
 
 pub const SLOT: u8 = 0;
+pub const METHOD: u8 = 1;
 pub const GETTER: u8 = 2;
 pub const SETTER: u8 = 3;
 pub const CLASS: u8 = 4;
@@ -131,6 +136,8 @@ impl Instruction {
 /// Targets are numbers of instructions.
 #[derive(Default)]
 pub struct Code {
+    /// Where it begins in the input, if it was read.
+    pub at: u32,
     pub instructions: Vec<Instruction>,
     pub targets: Vec<u32>,
 }

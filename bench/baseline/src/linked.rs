@@ -1,0 +1,314 @@
+//! What linking gives: the owners of methods, the layouts of objects with their slots, and the kinds of types.
+use crate::graph::Reached;
+use crate::kinds::Kind;
+use crate::linked_names::{HOST_CLASSES, Meaning, Names, is_type_name};
+use crate::value::*;
+
+/// The layouts of the host's instances, in the order of `HOST_CLASSES`. Those of instances, class objects, global objects,
+/// activations and catch objects follow.
+pub mod hosts {
+    pub const OBJECT: u32 = 0;
+    pub const CLASS: u32 = 1;
+    pub const FUNCTION: u32 = 2;
+    pub const ERROR: u32 = 9;
+    pub const ARRAY: u32 = 13;
+    pub const COUNT: u32 = 14;
+}
+use hosts::OBJECT;
+
+/// The three classes under Error.
+const ERRORS: std::ops::RangeInclusive<u32> = 10..=12;
+
+/// No body.
+pub const NONE: u32 = u32::MAX;
+
+/// What names a method.
+#[derive(Clone, Copy)]
+pub enum Owner {
+    Free,
+    Script(u32),
+    ClassObject(u32),
+    /// A method of instances.
+    Instance(u32),
+    /// What makes an instance.
+    Maker(u32),
+}
+
+fn host_base(layout: u32) -> u32 {
+    if ERRORS.contains(&layout) {
+        hosts::ERROR
+    } else {
+        OBJECT
+    }
+}
+
+/// Layouts by numbers, and the slots of each.
+pub struct Layouts {
+    classes: u32,
+    scripts: u32,
+    /// Those of the host and of instances: what they stand under, and how many layouts that is.
+    bases: Vec<u32>,
+    depths: Vec<u32>,
+    /// The first catch object of each body.
+    catches: Vec<u32>,
+    first_catch: u32,
+    catch_kinds: Vec<Kind>,
+    /// The numbers and kinds of own slots, sorted by numbers, layout by layout; and where those of each begin.
+    slots: Vec<(u32, Kind)>,
+    starts: Vec<u32>,
+}
+
+impl Layouts {
+    pub fn instance(&self, class: u32) -> u32 {
+        hosts::COUNT + class
+    }
+
+    pub fn class_object(&self, class: u32) -> u32 {
+        hosts::COUNT + self.classes + class
+    }
+
+    pub fn global(&self, script: u32) -> u32 {
+        hosts::COUNT + 2 * self.classes + script
+    }
+
+    pub fn activation(&self, body: u32) -> u32 {
+        hosts::COUNT + 2 * self.classes + self.scripts + body
+    }
+
+    pub fn catch(&self, body: u32, handler: u32) -> u32 {
+        self.catches[body as usize] + handler
+    }
+
+    pub fn base(&self, layout: u32) -> u32 {
+        let above = || {
+            if layout < self.global(0) {
+                hosts::CLASS
+            } else {
+                OBJECT
+            }
+        };
+        self.bases
+            .get(layout as usize)
+            .copied()
+            .unwrap_or_else(above)
+    }
+
+    pub fn depth(&self, layout: u32) -> u32 {
+        let above = || if layout < self.global(0) { 2 } else { 1 };
+        self.depths
+            .get(layout as usize)
+            .copied()
+            .unwrap_or_else(above)
+    }
+
+    fn own_slot(&self, layout: u32, number: u32) -> Option<Kind> {
+        if layout >= self.first_catch {
+            return (number == 1).then(|| self.catch_kinds[(layout - self.first_catch) as usize]);
+        }
+        let own = self.starts[layout as usize] as usize..self.starts[layout as usize + 1] as usize;
+        let slots = &self.slots[own];
+        let place = slots.binary_search_by_key(&number, |slot| slot.0).ok()?;
+        Some(slots[place].1)
+    }
+
+    /// The kind of the slot of a number. An inherited number wins.
+    pub fn slot(&self, mut layout: u32, number: u32) -> Option<Kind> {
+        let mut found = self.own_slot(layout, number);
+        while layout != OBJECT {
+            layout = self.base(layout);
+            found = self.own_slot(layout, number).or(found);
+        }
+        found
+    }
+}
+
+fn host_kind(place: usize) -> Kind {
+    match HOST_CLASSES[place] {
+        b"Object" => Kind::Any,
+        b"int" | b"uint" | b"Number" => Kind::Num,
+        b"Boolean" => Kind::Bool,
+        b"String" => Kind::Text,
+        b"Namespace" => Kind::Space,
+        _ => Kind::Obj(place as u32),
+    }
+}
+
+fn host_layout(host: &[u8]) -> usize {
+    HOST_CLASSES
+        .iter()
+        .position(|&class| class == host)
+        .expect("it is a class of the host")
+}
+
+/// The kind of a type.
+fn kind_of(f: &File, meaning: Meaning) -> Option<Kind> {
+    match meaning {
+        Meaning::Nothing => None,
+        Meaning::Any => Some(Kind::Any),
+        Meaning::Void => Some(Kind::Undef),
+        Meaning::Host(host) => Some(host_kind(host_layout(host))),
+        Meaning::Class(class) => {
+            let is_interface = f.instances[class as usize].flags & INTERFACE != 0;
+            Some(Kind::Obj(if is_interface {
+                OBJECT
+            } else {
+                hosts::COUNT + class
+            }))
+        }
+    }
+}
+
+/// The kinds of the types that names are, from index 0 on.
+fn types(f: &File, names: &mut Names) -> Vec<Option<Kind>> {
+    let mut kind = |name| is_type_name(f, name).then(|| kind_of(f, names.meaning(name)))?;
+    (0..=f.names.len() as u32).map(&mut kind).collect()
+}
+
+fn own(owners: &mut [Owner], init: (u32, Owner), traits: &[Trait], owner: Owner) {
+    owners[init.0 as usize] = init.1;
+    for one in traits {
+        if matches!(one.kind, METHOD | GETTER | SETTER) {
+            owners[one.target as usize] = owner;
+        }
+    }
+}
+
+fn owners(f: &File) -> Vec<Owner> {
+    let mut owners = vec![Owner::Free; f.methods.len()];
+    for (instance, k) in f.instances.iter().zip(0..) {
+        own(
+            &mut owners,
+            (instance.init, Owner::Maker(k)),
+            &instance.traits,
+            Owner::Instance(k),
+        );
+    }
+    for (class, k) in f.classes.iter().zip(0..) {
+        let owner = Owner::ClassObject(k);
+        own(&mut owners, (class.init, owner), &class.traits, owner);
+    }
+    for (script, k) in f.scripts.iter().zip(0..) {
+        let owner = Owner::Script(k);
+        own(&mut owners, (script.init, owner), &script.traits, owner);
+    }
+    owners
+}
+
+fn bodies_of(f: &File) -> Vec<u32> {
+    let mut bodies = vec![NONE; f.methods.len()];
+    for (body, n) in f.bodies.iter().zip(0..) {
+        bodies[body.method as usize] = n;
+    }
+    bodies
+}
+
+/// A file that keeps the rules of linking.
+pub struct Linked<'a> {
+    pub file: &'a File<'a>,
+    pub owners: Vec<Owner>,
+    /// The body of each method, or `NONE`.
+    pub bodies: Vec<u32>,
+    pub layouts: Layouts,
+    /// The kind of the type that a name is, if it is one, from index 0 on.
+    pub types: Vec<Option<Kind>>,
+}
+
+impl<'a> Linked<'a> {
+    /// The parts of a file that keeps the rules; `bases` are those of its classes, in an order that has each behind its base.
+    pub fn new(f: &'a File<'a>, names: &mut Names, bases: &[Meaning], order: &Reached) -> Self {
+        let types = types(f, names);
+        Linked {
+            file: f,
+            owners: owners(f),
+            bodies: bodies_of(f),
+            layouts: layouts(f, &types, bases, order),
+            types,
+        }
+    }
+}
+
+fn layouts(f: &File, types: &[Option<Kind>], bases: &[Meaning], order: &Reached) -> Layouts {
+    let mut layouts = Layouts {
+        classes: f.instances.len() as u32,
+        scripts: f.scripts.len() as u32,
+        bases: (0..hosts::COUNT).map(host_base).collect(),
+        depths: vec![1; hosts::COUNT as usize],
+        catches: Vec::with_capacity(f.bodies.len()),
+        first_catch: 0,
+        catch_kinds: Vec::new(),
+        slots: Vec::new(),
+        starts: vec![0; hosts::COUNT as usize],
+    };
+    layouts.add_depths(bases, order);
+    layouts.add_catches(f, types);
+    layouts.add_all_slots(f, types);
+    layouts
+}
+
+impl Layouts {
+    fn add_depths(&mut self, bases: &[Meaning], order: &Reached) {
+        self.depths[OBJECT as usize] = 0;
+        for error in ERRORS {
+            self.depths[error as usize] = 2;
+        }
+        self.bases.extend(bases.iter().map(|base| match base {
+            Meaning::Class(class) => hosts::COUNT + class,
+            Meaning::Host(host) => host_layout(host) as u32,
+            _ => OBJECT,
+        }));
+        self.depths.resize(self.bases.len(), 0);
+        for class in &order.order {
+            let layout = (hosts::COUNT + class) as usize;
+            self.depths[layout] = self.depths[self.bases[layout] as usize] + 1;
+        }
+    }
+
+    fn add_catches(&mut self, f: &File, types: &[Option<Kind>]) {
+        self.first_catch = self.activation(f.bodies.len() as u32);
+        for body in &f.bodies {
+            self.catches
+                .push(self.first_catch + self.catch_kinds.len() as u32);
+            let kinds = body
+                .handlers
+                .iter()
+                .map(|handler| types[handler.kind as usize]);
+            self.catch_kinds
+                .extend(kinds.map(|kind| kind.expect("the rules ask for types")));
+        }
+    }
+
+    /// The slots of the next layout.
+    fn add_slots(&mut self, types: &[Option<Kind>], traits: &[Trait]) {
+        let start = self.slots.len();
+        self.starts.push(start as u32);
+        for one in traits.iter().filter(|one| one.id != 0) {
+            match one.kind {
+                SLOT | CONST => {
+                    let kind = types[one.target as usize].expect("the rules ask for types");
+                    self.slots.push((one.id, kind));
+                }
+                CLASS => self
+                    .slots
+                    .push((one.id, Kind::Obj(self.class_object(one.target)))),
+                _ => {}
+            }
+        }
+        self.slots[start..].sort_unstable_by_key(|slot| slot.0);
+    }
+
+    fn add_all_slots(&mut self, f: &File, types: &[Option<Kind>]) {
+        let instances = f.instances.iter().map(|instance| &instance.traits);
+        let owners = f
+            .classes
+            .iter()
+            .chain(&f.scripts)
+            .map(|owner| &owner.traits);
+        for traits in instances.chain(owners) {
+            self.add_slots(types, traits);
+        }
+        for body in &f.bodies {
+            self.add_slots(types, &body.traits);
+        }
+        self.starts.push(self.slots.len() as u32);
+    }
+}
