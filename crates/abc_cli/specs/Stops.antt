@@ -1,5 +1,5 @@
 -- What a command gives, or what it is answered with where it gives nothing.
-use Rattle.std.specs.Prelude.{◌≡◌, ◌≢◌, ◌<◌, ◌×◌, ℕ, List, [], get_or, length}
+use Rattle.std.specs.Prelude.{◌≡◌, ◌≢◌, ◌<◌, ℕ, List, [], get_or, length}
 use Rattle.abc_base.specs.declared.status.Status.TheVariants as status
 use Rattle.abc_file.specs.Reading.{IsUsedUp}
 use Rattle.abc_format.specs.Part.{refusal}
