@@ -2,3 +2,4 @@ pub mod Checks
 pub mod Ending
 pub mod Listings
 pub mod Usages
+pub mod VerifiedLine

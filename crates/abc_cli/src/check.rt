@@ -1,4 +1,4 @@
-ghost use Rattle.std.specs.Prelude.{◌≡◌, IfErr, IfOk, length};
+ghost use Rattle.std.specs.Prelude.{◌≡◌, ◌++◌, IfErr, IfOk, OnOk, length};
 ghost use Rattle.abc_bodies.specs.Places.{ArePlaces};
 ghost use Rattle.abc_cli.specs.End.{stream};
 ghost use Rattle.abc_cli.specs.Lines.{verified_line};
@@ -18,17 +18,25 @@ use abc_verify::{Verified, VerifyError, verify};
 use itoa::Buffer;
 use std::alloc::Global;
 
+/// Appends bytes.
+fn put(out: &mut Vec<u8>, bytes: &[u8]) -> Result<(), NoMemory>
+    ensures { OnOk result (out.new.items ≡ out.old.items ++ bytes.now) }
+{
+    out.extend_from_slice(bytes)?;
+    Ok(())
+}
+
 /// The line of a file that is verified.
-#[tactic(auto, unfolding(crate::specs::Lines::verified_line), using(std::proofs::Common::append_assoc))]
+#[tactic(auto, unfolding(crate::specs::Lines::verified_line), using(crate::proofs::VerifiedLine::line_is, std::proofs::Common::append_assoc))]
 fn line_of(alloc: Global, count: usize) -> Result<Vec<u8>, NoMemory>
     ensures { IfOk result (λ bytes. bytes.items ≡ verified_line count) }
 {
     let mut buffer = Buffer::new();
     let digits = buffer.format(count).as_bytes();
     let mut bytes = Vec::new(alloc);
-    bytes.extend_from_slice(b"verified ")?;
-    bytes.extend_from_slice(digits)?;
-    bytes.extend_from_slice(b"\n")?;
+    put(&mut bytes, b"verified ")?;
+    put(&mut bytes, digits)?;
+    put(&mut bytes, b"\n")?;
     Ok(bytes)
 }
 
