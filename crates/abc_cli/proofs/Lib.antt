@@ -3,3 +3,4 @@ pub mod Ending
 pub mod Listings
 pub mod Usages
 pub mod Assembling
+pub mod VerifiedLine

@@ -1,32 +1,42 @@
-ghost use Rattle.std.specs.Prelude.{◌≡◌, IfErr, IfOk};
+ghost use Rattle.std.specs.Prelude.{◌≡◌, ◌++◌, IfErr, IfOk, OnOk, length};
 ghost use Rattle.abc_bodies.specs.Places.{ArePlaces};
 ghost use Rattle.abc_cli.specs.End.{stream};
 ghost use Rattle.abc_cli.specs.Lines.{verified_line};
 ghost use Rattle.abc_cli.specs.Outcome.{Check, given};
 ghost use Rattle.abc_cli.specs.Stops.{Gives, IsPlaced, Stops, StopsAt, stop_of_verify};
+ghost use Rattle.abc_program.specs.Linked.{IsLinkedFile};
 ghost use Rattle.abc_tables.specs.Files.{Fits};
+ghost use Rattle.abc_verify.specs.Typed.{AllTyped};
 ghost use Rattle.abc_words.specs.declared.command.Command.TheVariants as commands;
 
 use crate::stop::Stop;
 use abc_base::{NoMemory, Source};
 use abc_file::{Places, read};
-use abc_link::link;
+use abc_link::{Linked, link};
 use abc_tables::Abc;
-use abc_verify::{VerifyError, verify};
+use abc_verify::{Verified, VerifyError, verify};
 use itoa::Buffer;
 use std::alloc::Global;
 
+/// Appends bytes.
+fn put(out: &mut Vec<u8>, bytes: &[u8]) -> Result<(), NoMemory>
+    ensures { OnOk result (out.new.items ≡ out.old.items ++ bytes.now) }
+{
+    out.extend_from_slice(bytes)?;
+    Ok(())
+}
+
 /// The line of a file that is verified.
-#[tactic(auto, unfolding(crate::specs::Lines::verified_line), using(std::proofs::Common::append_assoc))]
+#[tactic(auto, unfolding(crate::specs::Lines::verified_line), using(crate::proofs::VerifiedLine::line_is, std::proofs::Common::append_assoc))]
 fn line_of(alloc: Global, count: usize) -> Result<Vec<u8>, NoMemory>
     ensures { IfOk result (λ bytes. bytes.items ≡ verified_line count) }
 {
     let mut buffer = Buffer::new();
     let digits = buffer.format(count).as_bytes();
     let mut bytes = Vec::new(alloc);
-    bytes.extend_from_slice(b"verified ")?;
-    bytes.extend_from_slice(digits)?;
-    bytes.extend_from_slice(b"\n")?;
+    put(&mut bytes, b"verified ")?;
+    put(&mut bytes, digits)?;
+    put(&mut bytes, b"\n")?;
     Ok(bytes)
 }
 
@@ -50,6 +60,27 @@ fn stop_of(places: &Places, e: VerifyError) -> Stop
     }
 }
 
+/// A linked file that is verified, or why it isn't.
+fn verified_file(alloc: Global, linked: Linked, places: &Places) -> Result<Verified, Stop>
+    requires linked { IsLinkedFile linked }
+    requires places { ArePlaces linked.file.bodies places.now }
+    ensures ok { IfOk result (λ v. (v ≡ linked) × AllTyped linked) }
+    ensures stops { IfErr result (λ stop. StopsAt (Check linked.file places.now) stop) }
+{
+    match verify(alloc, linked) {
+        Ok(verified) => Ok(verified),
+        Err(e) => Err(stop_of(places, e)),
+    }
+}
+
+/// The line of a file that is verified, by its number of bodies.
+fn line_of_file(alloc: Global, linked: &Linked) -> Result<Vec<u8>, NoMemory>
+    ensures { IfOk result (λ bytes. bytes.items ≡ verified_line (length linked.now.file.bodies)) }
+{
+    let bytes = line_of(alloc, linked.abc().bodies.len())?;
+    Ok(bytes)
+}
+
 /// How many bodies are verified, or why the file isn't.
 fn verdict(alloc: Global, abc: Abc, places: &Places) -> Result<Vec<u8>, Stop>
     requires fits { Fits abc }
@@ -58,13 +89,9 @@ fn verdict(alloc: Global, abc: Abc, places: &Places) -> Result<Vec<u8>, Stop>
     ensures stops { IfErr result (λ stop. StopsAt (Check abc places.now) stop) }
 {
     let linked = link(alloc, abc)?;
-    match verify(alloc, linked) {
-        Ok(verified) => {
-            let bytes = line_of(alloc, verified.linked().abc().bodies.len())?;
-            Ok(bytes)
-        }
-        Err(e) => Err(stop_of(places, e)),
-    }
+    let verified = verified_file(alloc, linked, places)?;
+    let bytes = line_of_file(alloc, verified.linked())?;
+    Ok(bytes)
 }
 
 /// What the command `check` gives: how many bodies are verified.

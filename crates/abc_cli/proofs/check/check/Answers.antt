@@ -7,7 +7,7 @@ use Rattle.abc_cli.proofs.check.check.Goals as goal
 
 pub returns-clause-gives : goal.returns-clause-gives
 returns-clause-gives g c =
-    file_gives commands.Check Check on_check (stream g.S.Source.left g.S.Source.faults c.args.source.now c.read.new.source) c.in_ok-abc.abc c.in_ok-abc.field-0-1 c.in_ok-bytes.bytes.items c.in_ok-abc.ensures.answers c.in_ok-abc.ensures.end
+    file_gives commands.Check Check on_check (stream g.S.Source.left g.S.Source.faults c.args.source.now c.read.new.source) c.in_ok-abc.abc c.in_ok-abc.places c.in_ok-bytes.bytes.items c.in_ok-abc.ensures.answers c.in_ok-abc.ensures.end
     c.in_ok-bytes.ensures.gives
 
 pub returns-in_err-abc-clause-stops : goal.returns-in_err-abc-clause-stops
@@ -18,5 +18,5 @@ returns-in_err-abc-clause-stops g c =
 pub returns-in_err-bytes-clause-stops : goal.returns-in_err-bytes-clause-stops
 returns-in_err-bytes-clause-stops g c =
     let p = err_from_is_err_and c.from_residual-in_err-bytes.result c.from_residual-in_err-bytes.ensures.1 in
-    rw (p.1, p.2) (file_stops_at commands.Check Check on_check (stream g.S.Source.left g.S.Source.faults c.args.source.now c.read.new.source) c.in_ok-abc.abc c.in_ok-abc.field-0-1 c.in_err-bytes.field-0.0 c.in_ok-abc.ensures.answers
+    rw (p.1, p.2) (file_stops_at commands.Check Check on_check (stream g.S.Source.left g.S.Source.faults c.args.source.now c.read.new.source) c.in_ok-abc.abc c.in_ok-abc.places c.in_err-bytes.field-0.0 c.in_ok-abc.ensures.answers
     c.in_err-bytes.ensures.stops)
