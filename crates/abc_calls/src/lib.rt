@@ -4,16 +4,12 @@
 #![tactic(auto)]
 
 #[cfg(test)]
+mod errors;
+#[cfg(test)]
 mod formulas;
 #[cfg(test)]
 mod graphs;
 #[cfg(test)]
-mod heaps;
-#[cfg(test)]
 mod host_tables;
 #[cfg(test)]
-mod numbers;
-#[cfg(test)]
 mod streams;
-#[cfg(test)]
-mod words;

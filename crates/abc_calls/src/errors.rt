@@ -1,0 +1,14 @@
+//! Printed errors.
+
+use abc_base::NoMemory;
+use abc_varint::ReadError;
+use std::test::*;
+
+#[test]
+fn printed_errors(rt: HostRuntime) -> Result<(), Fail> {
+    let shown = format!(in rt.alloc(); "{}", ReadError::ReadFault)?;
+    assert_eq!(rt; shown.as_str(), "the source failed");
+    let e: ReadError = NoMemory.into();
+    assert_eq!(rt; e, ReadError::NoMemory);
+    Ok(())
+}
