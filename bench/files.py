@@ -27,6 +27,7 @@ and KIND_half.abc, of 8,388,608; from `tiny` on they have at most so many:
   locals       a body with 65,535 locals and 2^20 writes of them, and bodies with 1000 locals
 These are texts, KIND.abcasm and KIND_half.abcasm, and have any size:
   labels       a body with 2^20 labels
+  renewed      a body with 2^20 labels, and then 2^20 - 1 bodies without
   long         a label and quoted texts of a megabyte
   comment      2^28 bytes, of which the second line has all but a few
 FOLDER/huge gets small files, each of which claims 2^30 - 1 entries of one table and then ends.
@@ -68,10 +69,11 @@ MAKERS = {
     "scopes": verifying.scopes,
     "locals": verifying.many_locals,
     "labels": texts.labels,
+    "renewed": texts.bodies,
     "long": texts.long_tokens,
     "comment": texts.comment,
 }
-TEXTS = ("labels", "long", "comment")
+TEXTS = ("labels", "renewed", "long", "comment")
 HUGE = "ff ff ff ff 03"
 # The bytes between the version and the huge count.
 CLAIMS = {

@@ -4,7 +4,7 @@
 set -eu
 . "$(dirname "$0")/common.sh"
 kinds=(ints strings names definitions bodies code compiled tiny)
-texts=(labels long comment)
+texts=(labels renewed long comment)
 prepare "${kinds[@]}" "${texts[@]}"
 for kind in "${kinds[@]}"; do
     for file in "$folder/$kind" "$folder/${kind}_half"; do

@@ -15,6 +15,14 @@ def labels(rng, size):
     return HEAD + BODY + b"".join(lines)
 
 
+def bodies(rng, size):
+    """A body with 2^20 labels, and then bodies of one instruction, 2^20 in all."""
+    count = MEGABYTE * size // SIZE
+    labels = b"".join(b"Label_%x:\n" % n for n in range(count))
+    others = b"".join(b"body %d 1 1 0 1\nreturnvoid\n" % method for method in range(1, count))
+    return HEAD + b"method 0 0 0\n" * count + b"body 0 1 1 0 1\n" + labels + b"returnvoid\n" + others
+
+
 def long_tokens(rng, size):
     """Quoted texts of a megabyte, one of them all escapes, and a label of a megabyte, which is used three times."""
     length = MEGABYTE * size // SIZE

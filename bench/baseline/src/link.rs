@@ -1,9 +1,9 @@
 //! The rules of linking.
 use crate::graph::{self, Reached};
+use crate::hash::{Map, Set};
 use crate::linked::Linked;
 use crate::linked_names::*;
 use crate::value::*;
-use std::collections::{HashMap, HashSet};
 
 /// What breaks a rule: a kind of item and its number.
 type Broken = Option<(&'static str, usize)>;
@@ -257,7 +257,7 @@ fn no_body(f: &File) -> Broken {
 /// Whether two traits of a table have one name and are not a getter and a setter.
 fn has_same_name(names: &Names, traits: &[Trait]) -> bool {
     const ALL: u8 = 3;
-    let mut taken = HashMap::with_capacity(traits.len());
+    let mut taken = Map::default();
     traits.iter().any(|one| {
         let takes = match one.kind {
             GETTER => 1,
@@ -272,7 +272,7 @@ fn has_same_name(names: &Names, traits: &[Trait]) -> bool {
 }
 
 fn has_same_slot(traits: &[Trait]) -> bool {
-    let mut ids = HashSet::new();
+    let mut ids = Set::default();
     let mut numbered = traits
         .iter()
         .filter(|one| one.id != 0 && matches!(one.kind, SLOT | CONST | CLASS | FUNCTION));

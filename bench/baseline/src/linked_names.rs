@@ -1,6 +1,6 @@
 //! What names stand for.
+use crate::hash::Map;
 use crate::value::*;
-use std::collections::HashMap;
 
 pub const HOST_CLASSES: [&[u8]; 14] = [
     b"Object",
@@ -57,15 +57,15 @@ pub struct Names<'a> {
     texts: Vec<Number>,
     spaces: Vec<Number>,
     public: Option<Number>,
-    hosts: HashMap<Number, Meaning>,
+    hosts: Map<Number, Meaning>,
     /// The first class of a namespace and a text, and of a text.
-    classes: HashMap<(Number, Number), u32>,
-    by_text: HashMap<Number, u32>,
+    classes: Map<(Number, Number), u32>,
+    by_text: Map<Number, u32>,
     meanings: Vec<Option<Meaning>>,
 }
 
-fn text_numbers<'a>(f: &'a File) -> (Vec<Number>, HashMap<&'a [u8], Number>) {
-    let mut numbers = HashMap::from([(&[][..], 0)]);
+fn text_numbers<'a>(f: &'a File) -> (Vec<Number>, Map<&'a [u8], Number>) {
+    let mut numbers = Map::from_iter([(&[][..], 0)]);
     let mut texts = vec![0];
     for text in &f.strings {
         let next = numbers.len() as u32;
@@ -76,7 +76,7 @@ fn text_numbers<'a>(f: &'a File) -> (Vec<Number>, HashMap<&'a [u8], Number>) {
 
 /// The numbers of namespaces, and that of the public one.
 fn space_numbers(f: &File, texts: &[Number]) -> (Vec<Number>, Option<Number>) {
-    let mut numbers = HashMap::new();
+    let mut numbers = Map::default();
     let mut spaces = vec![0];
     for (space, n) in f.spaces.iter().zip(1..) {
         let kind = if space.kind == NAMESPACE {
@@ -113,8 +113,8 @@ impl<'a> Names<'a> {
             spaces,
             public,
             hosts,
-            classes: HashMap::new(),
-            by_text: HashMap::new(),
+            classes: Map::default(),
+            by_text: Map::default(),
             meanings,
         };
         names.add_classes();

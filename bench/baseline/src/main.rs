@@ -12,6 +12,7 @@ mod definitions;
 mod dis;
 mod fault;
 mod graph;
+mod hash;
 mod kinds;
 mod link;
 mod linked;

@@ -16,100 +16,44 @@ fn part(names: &[Multiname], name: u32, n: usize) -> Option<u32> {
     }
 }
 
-/// The new numbers of a pool's entries, and which entries stay, in their new order.
-struct Numbers {
-    classes: Vec<u32>,
-    numbers: Vec<u32>,
-    kept: Vec<u32>,
-}
-
-impl Numbers {
-    fn new(classes: Vec<u32>) -> Self {
-        Numbers {
-            numbers: vec![0; classes.len()],
-            classes,
-            kept: Vec::new(),
-        }
-    }
-
-    fn number(&self, n: u32) -> u32 {
-        self.numbers[self.classes[n as usize] as usize]
-    }
-
-    /// Gives an entry the next number, unless it has one or is none.
-    fn take(&mut self, n: u32) -> bool {
-        let is_new = n != 0 && self.number(n) == 0;
-        if is_new {
-            self.kept.push(n);
-            self.numbers[self.classes[n as usize] as usize] = self.kept.len() as u32;
-        }
-        is_new
-    }
-
-    fn select<T, U>(&self, pool: &[T], new: impl FnMut(&T) -> U) -> Vec<U> {
-        self.kept
-            .iter()
-            .map(|&n| &pool[n as usize - 1])
-            .map(new)
-            .collect()
-    }
-}
-
 struct Visit<'a, 'f> {
-    pools: &'a File<'f>,
-    ints: Numbers,
-    uints: Numbers,
-    doubles: Numbers,
-    strings: Numbers,
-    spaces: Numbers,
-    sets: Numbers,
-    names: Numbers,
+    trees: Trees<'a, 'f>,
     /// Type names whose parts are being visited, and the next part of each.
     path: Vec<(u32, usize)>,
 }
 
 impl<'a, 'f> Visit<'a, 'f> {
-    fn new(pools: &'a File<'f>, trees: Trees) -> Self {
-        Visit {
-            pools,
-            ints: Numbers::new(trees.ints),
-            uints: Numbers::new(trees.uints),
-            doubles: Numbers::new(trees.doubles),
-            strings: Numbers::new(trees.strings),
-            spaces: Numbers::new(trees.spaces),
-            sets: Numbers::new(trees.sets),
-            names: Numbers::new(trees.names),
-            path: Vec::new(),
-        }
+    fn pools(&self) -> &'a File<'f> {
+        self.trees.pools
     }
 
     fn space(&mut self, n: u32) {
-        if self.spaces.take(n) {
-            self.strings.take(self.pools.spaces[n as usize - 1].name);
+        if self.trees.take_space(n) {
+            let name = self.pools().spaces[n as usize - 1].name;
+            self.trees.take_string(name);
         }
     }
 
     fn set(&mut self, n: u32) {
-        if self.sets.take(n) {
-            self.pools.sets[n as usize - 1]
-                .iter()
-                .for_each(|&space| self.space(space));
+        if self.trees.take_set(n) {
+            let spaces = self.pools().sets[n as usize - 1].iter();
+            spaces.for_each(|&space| self.space(space));
         }
     }
 
     fn enter(&mut self, n: u32) {
-        if !self.names.take(n) {
+        if !self.trees.take_name(n) {
             return;
         }
-        match self.pools.names[n as usize - 1].name {
+        match self.pools().names[n as usize - 1].name {
             Name::Qualified { space, name } => {
                 self.space(space);
-                self.strings.take(name);
+                self.trees.take_string(name);
             }
-            Name::Runtime { name } => _ = self.strings.take(name),
+            Name::Runtime { name } => _ = self.trees.take_string(name),
             Name::RuntimeLate => {}
             Name::Multi { name, set } => {
-                self.strings.take(name);
+                self.trees.take_string(name);
                 self.set(set);
             }
             Name::MultiLate { set } => self.set(set),
@@ -120,7 +64,7 @@ impl<'a, 'f> Visit<'a, 'f> {
     fn name(&mut self, n: u32) {
         self.enter(n);
         while let Some((name, place)) = self.path.pop() {
-            if let Some(next) = part(&self.pools.names, name, place) {
+            if let Some(next) = part(&self.pools().names, name, place) {
                 self.path.push((name, place + 1));
                 self.enter(next);
             }
@@ -129,45 +73,50 @@ impl<'a, 'f> Visit<'a, 'f> {
 
     /// Visits an index and gives its new number.
     fn visit(&mut self, pool: Pool, n: u32) -> u32 {
-        let numbers = match pool {
+        let trees = &mut self.trees;
+        match pool {
             Pool::Unread => return n,
-            Pool::Ints => &mut self.ints,
-            Pool::Uints => &mut self.uints,
-            Pool::Doubles => &mut self.doubles,
-            Pool::Strings => &mut self.strings,
-            Pool::Spaces => {
-                self.space(n);
-                return self.spaces.number(n);
-            }
-            Pool::Names => {
-                self.name(n);
-                return self.names.number(n);
-            }
-        };
-        numbers.take(n);
-        numbers.number(n)
+            Pool::Ints => _ = trees.take_int(n),
+            Pool::Uints => _ = trees.take_uint(n),
+            Pool::Doubles => _ = trees.take_double(n),
+            Pool::Strings => _ = trees.take_string(n),
+            Pool::Spaces => self.space(n),
+            Pool::Names => self.name(n),
+        }
+        self.number(pool, n)
+    }
+
+    fn number(&self, pool: Pool, n: u32) -> u32 {
+        let trees = &self.trees;
+        match pool {
+            Pool::Unread => n,
+            Pool::Ints => trees.ints.number(n),
+            Pool::Uints => trees.uints.number(n),
+            Pool::Doubles => trees.doubles.number(n),
+            Pool::Strings => trees.strings.number(n),
+            Pool::Spaces => trees.spaces.number(n),
+            Pool::Names => trees.names.number(n),
+        }
     }
 
     fn new_name(&self, old: &Multiname) -> Multiname {
+        let string = |n| self.trees.strings.number(n);
+        let set = |n| self.trees.sets.number(n);
         let name = match old.name {
             Name::Qualified { space, name } => Name::Qualified {
-                space: self.spaces.number(space),
-                name: self.strings.number(name),
+                space: self.trees.spaces.number(space),
+                name: string(name),
             },
-            Name::Runtime { name } => Name::Runtime {
-                name: self.strings.number(name),
-            },
+            Name::Runtime { name } => Name::Runtime { name: string(name) },
             Name::RuntimeLate => Name::RuntimeLate,
-            Name::Multi { name, set } => Name::Multi {
-                name: self.strings.number(name),
-                set: self.sets.number(set),
+            Name::Multi { name, set: spaces } => Name::Multi {
+                name: string(name),
+                set: set(spaces),
             },
-            Name::MultiLate { set } => Name::MultiLate {
-                set: self.sets.number(set),
-            },
+            Name::MultiLate { set: spaces } => Name::MultiLate { set: set(spaces) },
             Name::Type { base, ref params } => Name::Type {
-                base: self.names.number(base),
-                params: params.iter().map(|&n| self.names.number(n)).collect(),
+                base: self.trees.names.number(base),
+                params: params.iter().map(|&n| self.trees.names.number(n)).collect(),
             },
         };
         Multiname {
@@ -178,19 +127,20 @@ impl<'a, 'f> Visit<'a, 'f> {
 
     /// Puts the new pools into a file that has none.
     fn put_pools(&self, f: &mut File<'f>) {
-        let pools = self.pools;
-        f.ints = self.ints.select(&pools.ints, |&value| value);
-        f.uints = self.uints.select(&pools.uints, |&value| value);
-        f.doubles = self.doubles.select(&pools.doubles, |&bytes| bytes);
-        f.strings = self.strings.select(&pools.strings, Cow::clone);
-        f.spaces = self.spaces.select(&pools.spaces, |old| Namespace {
-            name: self.strings.number(old.name),
+        let (trees, pools) = (&self.trees, self.pools());
+        f.ints = trees.ints.select(&pools.ints, |&value| value);
+        f.uints = trees.uints.select(&pools.uints, |&value| value);
+        f.doubles = trees.doubles.select(&pools.doubles, |&bytes| bytes);
+        f.strings = trees.strings.select(&pools.strings, Cow::clone);
+        f.spaces = trees.spaces.select(&pools.spaces, |old| Namespace {
+            name: trees.strings.number(old.name),
             ..*old
         });
-        f.sets = self.sets.select(&pools.sets, |old| {
-            old.iter().map(|&space| self.spaces.number(space)).collect()
+        f.sets = trees.sets.select(&pools.sets, |old| {
+            let spaces = old.iter();
+            spaces.map(|&space| trees.spaces.number(space)).collect()
         });
-        f.names = self.names.select(&pools.names, |old| self.new_name(old));
+        f.names = trees.names.select(&pools.names, |old| self.new_name(old));
     }
 }
 
@@ -252,7 +202,10 @@ pub fn tidy(mut f: File, most: usize) -> Result<Vec<u8>, String> {
     unread_indices(&f)?;
     let order = reached_names(&mut f)?;
     let pools = take_pools(&mut f);
-    let mut visit = Visit::new(&pools, Trees::new(&pools, &order));
+    let mut visit = Visit {
+        trees: Trees::new(&pools, &order),
+        path: Vec::new(),
+    };
     visit_indices(&mut f, &mut |pool, index| {
         *index = visit.visit(pool, *index)
     });
