@@ -8,7 +8,9 @@ use Rattle.std.specs.List.{find, list_any}
 use Rattle.abc_graph.specs.Ways.{before, steps, way}
 use Rattle.abc_heap.specs.Heap.{Heap}
 use Rattle.abc_program.specs.Linked.{LinkedFile, base}
-use Rattle.abc_search.specs.Candidates.{Candidate, Skip, answer, fits, holder_of, is_answer, named, skip_for, things_along, traits, traits_after, traits_on}
+use Rattle.abc_search.specs.Results.{skip_for}
+use Rattle.abc_search.specs.declared.found.Skip.{Skip}
+use Rattle.abc_search.specs.Candidates.{Candidate, answer, fits, holder_of, is_answer, named, things_along, traits, traits_after, traits_on}
 use Rattle.abc_search.specs.Laws.{FindsTraitsAlone, HidesItsBase, own_candidates}
 use Rattle.abc_search.specs.Searches.{declared_found, found_on}
 use Rattle.abc_search.specs.declared.name.Name.{Name}

@@ -2,3 +2,6 @@ mod Firsts
 mod Hiding
 mod There
 mod Examples
+pub mod Joins
+mod Objectless
+mod SlotsFound

@@ -11,9 +11,10 @@ use Rattle.abc_graph.specs.Ways.{way, before}
 use Rattle.abc_heap.specs.Heap.{Heap, elements_of, object_at, properties_of}
 use Rattle.abc_heap.specs.What.{is_array}
 use Rattle.abc_program.specs.Linked.{LinkedFile, base}
-use Rattle.abc_search.specs.Candidates.{Candidate, OfElement, OfLength, OfProperty, OfTrait, candidates_on, elements, elements_from, fits, found, found_as, holder_of, layout_at, own_things, properties, property_at, skip_for, things_along, traits_after, traits_on, where_public}
+use Rattle.abc_search.specs.Candidates.{Candidate, OfElement, OfLength, OfProperty, OfTrait, candidates_on, elements, elements_from, fits, found, found_as, holder_of, layout_at, own_things, properties, property_at, things_along, traits_after, traits_on, where_public}
 use Rattle.abc_search.specs.Laws.{FindsWhatIsThere, IsThere}
 use Rattle.abc_search.specs.Objects.{delegate_at}
+use Rattle.abc_search.specs.Results.{skip_for}
 use Rattle.abc_search.specs.Searches.{found_on}
 use Rattle.abc_search.specs.Spaces.{holds_public}
 use Rattle.abc_search.specs.Traits.{Trait, own}
@@ -25,23 +26,23 @@ use Rattle.abc_search.proofs.Firsts.{answers_the_first}
 
 -- ---- lists
 
-abbrev Each : {X : Type 0} → (X → Type 0) → List X → Type 0
+abbrev pub Each : {X : Type 0} → (X → Type 0) → List X → Type 0
 Each P [] = Unit {0}
 Each P (x ∷ xs) = P x × Each P xs
 
-each_append : {X : Type 0} (P : X → Type 0) (xs ys : List X) → Each P xs → Each P ys → Each P (xs ++ ys)
+pub each_append : {X : Type 0} (P : X → Type 0) (xs ys : List X) → Each P xs → Each P ys → Each P (xs ++ ys)
 each_append P [] ys a b = b
 each_append P (x ∷ xs) ys (p, a) b = (p, each_append P xs ys a b)
 
-each_within : {X : Type 0} (P : X → Type 0) (xs ys : List X) (x : X) → Each P (xs ++ x ∷ ys) → P x
+pub each_within : {X : Type 0} (P : X → Type 0) (xs ys : List X) (x : X) → Each P (xs ++ x ∷ ys) → P x
 each_within P [] ys x (p, a) = p
 each_within P (w ∷ ws) ys x (p, a) = each_within P ws ys x a
 
-each_flat : {X Y : Type 0} (Q : X → Type 0) (P : Y → Type 0) (f : X → List Y) (xs : List X) → Each Q xs → ((x : X) → Q x → Each P (f x)) → Each P (flat_map f xs)
+pub each_flat : {X Y : Type 0} (Q : X → Type 0) (P : Y → Type 0) (f : X → List Y) (xs : List X) → Each Q xs → ((x : X) → Q x → Each P (f x)) → Each P (flat_map f xs)
 each_flat Q P f [] a g = tt
 each_flat Q P f (x ∷ xs) (q, a) g = each_append P (f x) (flat_map f xs) (g x q) (each_flat Q P f xs a g)
 
-each_unit : {X : Type 0} (xs : List X) → Each (λ x. Unit {0}) xs
+pub each_unit : {X : Type 0} (xs : List X) → Each (λ x. Unit {0}) xs
 each_unit [] = tt
 each_unit (x ∷ xs) = (tt, each_unit xs)
 

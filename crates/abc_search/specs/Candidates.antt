@@ -14,12 +14,12 @@ use Rattle.abc_program.specs.Linked.{LinkedFile, base}
 use Rattle.abc_program.specs.Owners.{owner_of}
 use Rattle.abc_search.specs.ElementNames.{is_length, names_element}
 use Rattle.abc_search.specs.Objects.{delegate_at, delegate_of}
+use Rattle.abc_search.specs.Results.{passes_over}
 use Rattle.abc_search.specs.Spaces.{holds, holds_protected, holds_public, is_protected}
 use Rattle.abc_search.specs.Traits.{Trait, own}
 use Rattle.abc_search.specs.declared.found.Found.{Found}
 use Rattle.abc_search.specs.declared.found.Found.TheVariants as founds
-use Rattle.abc_search.specs.declared.found.Want.{Want}
-use Rattle.abc_search.specs.declared.found.Want.TheVariants as wants
+use Rattle.abc_search.specs.declared.found.Skip.{Skip}
 use Rattle.abc_search.specs.declared.name.Name.{Name}
 use Rattle.abc_search.specs.declared.traits.Declared.{Declared}
 use Rattle.abc_search.specs.declared.traits.Member.{Member}
@@ -48,22 +48,6 @@ fits l h n (OfTrait x passed t) = bytes_eq (text_in l h n.text) t.text && fits_s
 fits l h n (OfLength o) = is_length (text_in l h n.text)
 fits l h n (OfElement o k) = names_element k (text_in l h n.text)
 fits l h n (OfProperty o s v) = bytes_eq (text_in l h n.text) (text_in l h s)
-
--- ---- which are passed over: setters by a read, a call or a delete, getters by a write
-
-pub data Skip : Type 0 where
-  Setters : Skip
-  Getters : Skip
-  Nothing : Skip
-
-abbrev pub skip_for : Want → Skip
-skip_for wants.Read = Setters
-skip_for wants.Write = Getters
-
-abbrev pub passes_over : Skip → Member → Bool
-passes_over Setters (members.Setter m) = true
-passes_over Getters (members.Getter m) = true
-passes_over s member = false
 
 abbrev pub is_skipped : Skip → Candidate → Bool
 is_skipped s (OfTrait x passed t) = passes_over s t.declared.member

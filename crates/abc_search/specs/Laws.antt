@@ -1,15 +1,19 @@
 -- What a reader would check of the searches.
-use Rattle.std.specs.Prelude.{◌≡◌, ◌⊎◌, ℕ, List, [], ◌∷◌, ◌++◌, Bool, true, false, map, slice_get, Some, if◌then◌else◌}
+use Rattle.std.specs.Prelude.{◌≡◌, ◌⊎◌, ℕ, ◌<◌, length, List, [], ◌∷◌, ◌++◌, Bool, true, false, map, slice_get, Some, if◌then◌else◌}
 use Rattle.std.specs.declared.option.Option.{Option}
 use Rattle.std.specs.List.{list_any}
+use Rattle.abc_cells.specs.declared.values.ObjId.{ObjId}
 use Rattle.abc_cells.specs.declared.values.Value.{Value}
+use Rattle.abc_cells.specs.declared.values.Value.TheVariants as values
 use Rattle.abc_heap.specs.Heap.{Heap, elements_of, object_at, properties_of}
 use Rattle.abc_heap.specs.What.{is_array}
 use Rattle.abc_cells.specs.declared.values.Span.{Span}
 use Rattle.abc_heap.specs.declared.records.ScopeEntry.{ScopeEntry}
 use Rattle.abc_heap.specs.declared.records.ScopeId.{ScopeId}
-use Rattle.abc_program.specs.Linked.{LinkedFile}
-use Rattle.abc_search.specs.Candidates.{Candidate, OfTrait, Skip, answer, fits, found, is_answer, skip_for, traits_on}
+use Rattle.abc_program.specs.Linked.{IsLinkedFile, LinkedFile}
+use Rattle.abc_program.specs.Slots.{slots_of}
+use Rattle.abc_search.specs.Candidates.{Candidate, OfTrait, answer, fits, found, is_answer, layout_at, text_in, traits_on}
+use Rattle.abc_search.specs.Results.{skip_for}
 use Rattle.abc_search.specs.Scopes.{Place, has, places, scope_named}
 use Rattle.abc_search.specs.Searches.{declared_found, found_in_scopes, found_on}
 use Rattle.abc_search.specs.Spaces.{holds_public}
@@ -17,6 +21,7 @@ use Rattle.abc_search.specs.Traits.{own}
 use Rattle.abc_search.specs.declared.found.Found.{Found}
 use Rattle.abc_search.specs.declared.found.Found.TheVariants as founds
 use Rattle.abc_search.specs.declared.found.ScopeFound.TheVariants as results
+use Rattle.abc_search.specs.declared.found.Skip.{Skip}
 use Rattle.abc_search.specs.declared.found.Want.{Want}
 use Rattle.abc_search.specs.declared.name.Name.{Name}
 
@@ -47,6 +52,22 @@ own_candidates l x = map (OfTrait x (x ∷ [])) (own l x)
 
 abbrev pub HidesItsBase : Type 0
 HidesItsBase = (l : LinkedFile) (h : Heap) (x : ℕ) (n : Name) (want : Want) → list_any (is_answer l h n (skip_for want)) (own_candidates l x) ≡ true → declared_found l h x x n want ≡ answer l h n (skip_for want) (own_candidates l x)
+
+-- which declared traits a name finds depends on its text, and on no object
+abbrev pub AsksNoObject : Type 0
+AsksNoObject = (l : LinkedFile) (h k : Heap) (object from : ℕ) (n : Name) (want : Want) → text_in l h n.text ≡ text_in l k n.text → declared_found l h object from n want ≡ declared_found l k object from n want
+
+-- a slot that is found is one of a layout
+abbrev pub IsSlotOf : LinkedFile → ℕ → Found → Type 0
+IsSlotOf l x (founds.Slot k constant) = k < length (slots_of l x)
+IsSlotOf l x other = Unit {0}
+
+-- among declared traits it is one of the layout from which the search begins; on an object, one of the object's layout
+abbrev pub FindsASlot : Type 0
+FindsASlot = (l : LinkedFile) → IsLinkedFile l → (h : Heap) (object from : ℕ) (n : Name) (want : Want) → IsSlotOf l from (declared_found l h object from n want)
+
+abbrev pub FindsOwnSlots : Type 0
+FindsOwnSlots = (l : LinkedFile) → IsLinkedFile l → (h : Heap) (o : ObjId) (n : Name) (want : Want) → IsSlotOf l (layout_at h o.0) (found_on l h (values.Obj o) n want)
 
 -- a property, an element or a length that is found is its holder's
 abbrev pub IsThere : Heap → Found → Type 0

@@ -1,41 +1,29 @@
--- The objects that every run begins with, by their numbers: the prototypes of the host's classes, their class objects, trace,
--- the formulas, the host object and the global objects. And prototypes and delegates.
-use Rattle.std.specs.Prelude.{ℕ, ◌+◌, length, Some, None, slice_get}
+-- The objects that every run begins with, by their numbers in a heap. And prototypes and delegates.
+use Rattle.std.specs.Prelude.{ℕ, length, Some, None}
 use Rattle.std.specs.declared.option.Option.{Option}
 use Rattle.abc_base.specs.declared.names.HostClass.{HostClass}
 use Rattle.abc_base.specs.declared.names.HostClass.TheVariants as hosts
 use Rattle.abc_cells.specs.declared.values.ObjId.{ObjId}
 use Rattle.abc_cells.specs.declared.values.Value.{Value}
 use Rattle.abc_cells.specs.declared.values.Value.TheVariants as values
-use Rattle.abc_heap.specs.Heap.{Heap, object_at, slots_of}
-use Rattle.abc_program.specs.Places.{host_number}
-
-abbrev pub host_class_number : HostClass → ℕ
-host_class_number c = 14 + host_number c
+use Rattle.abc_heap.specs.Heap.{Heap, object_at}
+use Rattle.abc_objects.specs.Opening as opening
+pub use Rattle.abc_objects.specs.Stands.{host_class_number, object_in, prototype_of}
 
 abbrev pub trace_number : ℕ
 trace_number = 28
 
 abbrev pub host_object_number : Heap → ℕ
-host_object_number h = 29 + length h.formulas
+host_object_number h = opening.host_object_number (length h.formulas)
 
 abbrev pub global_number : Heap → ℕ → ℕ
-global_number h s = 30 + length h.formulas + s
+global_number h s = opening.global_number (length h.formulas) s
 
--- ---- prototypes
+-- ---- prototypes and delegates
 
-abbrev pub object_in : Option Value → Option ObjId
-object_in (Some (values.Obj o)) = Some o
-object_in other = None
-
--- the first slot of a class object holds the prototype of the class, where it holds an object
-abbrev pub prototype_of : Heap → ℕ → Option ObjId
-prototype_of h o = object_in (slice_get (slots_of h.objects o) 0)
-
+-- the prototype of a class of the host: what the first slot of its class object holds, where that is an object
 abbrev pub host_prototype : Heap → HostClass → Option ObjId
 host_prototype h c = prototype_of h (host_class_number c)
-
--- ---- delegates
 
 abbrev pub number_of : Option ObjId → Option ℕ
 number_of None = None

@@ -7,7 +7,8 @@ use Rattle.abc_heap.specs.Heap.{Heap}
 use Rattle.abc_heap.specs.declared.records.ScopeEntry.{ScopeEntry}
 use Rattle.abc_heap.specs.declared.records.ScopeId.{ScopeId}
 use Rattle.abc_program.specs.Linked.{LinkedFile}
-use Rattle.abc_search.specs.Candidates.{answer, candidates_on, skip_for, traits}
+use Rattle.abc_search.specs.Candidates.{answer, candidates_on, traits}
+use Rattle.abc_search.specs.Results.{skip_for}
 use Rattle.abc_search.specs.Scopes.{has, places, scope_named}
 use Rattle.abc_search.specs.declared.found.Found.{Found}
 use Rattle.abc_search.specs.declared.found.ScopeFound.{ScopeFound}

@@ -1,3 +1,7 @@
+ghost use Rattle.std.specs.Prelude.{◌≡◌};
+ghost use Rattle.abc_search.specs.Results.{is_hit, or_next, passes_over, skip_for};
+
+use crate::traits::Member;
 use abc_cells::{ObjId, Value};
 use abc_program::Owner;
 
@@ -6,6 +10,14 @@ use abc_program::Owner;
 pub enum Want {
     Read,
     Write,
+}
+
+/// Which declared traits a search passes over.
+#[derive(Clone, Copy, Debug, PartialEq, Eq)]
+pub enum Skip {
+    Setters,
+    Getters,
+    Nothing,
 }
 
 /// What a name finds on a value.
@@ -35,4 +47,49 @@ pub enum ScopeFound {
     /// On the global object of a script that has to be started first.
     Start(u32),
     Missing,
+}
+
+impl Want {
+    /// What a search for this passes over.
+    pub fn skip(self) -> Skip
+        ensures { result ≡ skip_for self }
+    {
+        match self {
+            Want::Read => Skip::Setters,
+            Want::Write => Skip::Getters,
+        }
+    }
+}
+
+impl Skip {
+    /// Whether a search passes over a declared trait.
+    pub fn passes_over(self, member: Member) -> bool
+        ensures { result ≡ passes_over self member }
+    {
+        matches!(
+            (self, member),
+            (Skip::Setters, Member::Setter(_)) | (Skip::Getters, Member::Getter(_))
+        )
+    }
+}
+
+impl Found {
+    /// Whether something is found.
+    pub fn is_hit(self) -> bool
+        ensures { result ≡ is_hit self }
+    {
+        !matches!(self, Found::WrongSide | Found::Missing)
+    }
+
+    /// What two searches find, one after the other.
+    pub fn or(self, next: Found) -> Found
+        ensures { result ≡ or_next self next }
+    {
+        match (self, next) {
+            (Found::Missing, next) => next,
+            (Found::WrongSide, Found::Missing) => Found::WrongSide,
+            (Found::WrongSide, next) => next,
+            (hit, _) => hit,
+        }
+    }
 }

@@ -1,4 +1,4 @@
-ghost use Rattle.abc_search.specs.Laws.{AnswersTheFirst, FindsTheFirstPlace, FindsTraitsAlone, FindsWhatIsThere, HidesItsBase};
+ghost use Rattle.abc_search.specs.Laws.{AnswersTheFirst, AsksNoObject, FindsASlot, FindsOwnSlots, FindsTheFirstPlace, FindsTraitsAlone, FindsWhatIsThere, HidesItsBase};
 
 /// A search answers the first of its candidates that fits and is not passed over. Without one it is `WrongSide` where
 /// another fits, and else `Missing`.
@@ -21,7 +21,20 @@ pub fn derived_trait_hides()
     ensures { HidesItsBase }
 {}
 
+/// Which declared traits a name finds depends on the text of the name, and on no object. A write asks for these, and then for
+/// an own property: so what a delegate holds doesn't matter to it.
+pub fn no_object_matters()
+    ensures { AsksNoObject }
+{}
+
 /// A property, an element or a length that is found is its holder's.
 pub fn found_is_there()
     ensures { FindsWhatIsThere }
+{}
+
+/// A slot that is found among declared traits is one of the layout from which the search begins. One that is found on an
+/// object is one of the object's layout.
+pub fn found_slot_is_there()
+    ensures declared { FindsASlot }
+    ensures on { FindsOwnSlots }
 {}

@@ -7,10 +7,10 @@ mod laws;
 mod name;
 mod traits;
 
-pub use found::{Found, ScopeFound, Want};
+pub use found::{Found, ScopeFound, Skip, Want};
 pub use laws::{
-    answer_is_the_first, derived_trait_hides, found_is_there, place_is_the_first,
-    properties_are_public,
+    answer_is_the_first, derived_trait_hides, found_is_there, found_slot_is_there,
+    no_object_matters, place_is_the_first, properties_are_public,
 };
 pub use name::{Name, Spaces};
 pub use traits::{Declared, Member, TraitSpace};

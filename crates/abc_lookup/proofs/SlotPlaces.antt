@@ -1,0 +1,75 @@
+-- The slots of layouts can be counted, and so can their parts.
+use Rattle.std.proofs.Common.{◌≡◌, ℕ, zero, suc, ◌+◌, ◌<◌, ◌≤◌, ◌^◌, List, [], ◌∷◌, ◌++◌, length, take, cond, refl, sym, ap, ◌∙◌, arith, length-append}
+use Rattle.std.specs.Prelude.{Some, None}
+use Rattle.std.specs.declared.option.Option.{Option}
+use Rattle.std.specs.List.{count_by, flat_map}
+use Rattle.std.proofs.lemmas.List.Recursion.{is_count_by}
+use Rattle.abc_base.specs.declared.names.HostClass.TheVariants as hosts
+use Rattle.abc_heirs.specs.Heirs.{heritage}
+use Rattle.abc_heirs.proofs.Laid.{heritage_none, heritage_some}
+use Rattle.abc_program.specs.Linked.{IsLinkedFile, LinkedFile, base}
+use Rattle.abc_program.specs.Numbering.{part_at}
+use Rattle.abc_program.specs.Slots.{HasFewSlots, own_slots, slots_in, slots_of, traits_of}
+use Rattle.abc_program.specs.Traits.{own_table_of}
+use Rattle.abc_program.specs.declared.part.Part.{Part}
+use Rattle.abc_program.specs.declared.part.Part.TheVariants as parts
+use Rattle.abc_search.specs.Traits.{slots_under}
+use Rattle.abc_tables.specs.declared.traits.TraitBody.{TraitBody}
+use Rattle.abc_tables.specs.declared.traits.TraitBody.TheVariants as bodies
+use Rattle.abc_tables.specs.declared.traits.TraitInfo.{TraitInfo}
+use Rattle.abc_lookup.specs.Slots.{has_slot, slot_count, slot_of}
+use Rattle.abc_lookup.proofs.Along.{bases_fall}
+
+-- a count of the traits that have slots
+one_more : (l : LinkedFile) (b : TraitBody) (n : ℕ) → length (slots_in l b) + n ≡ cond (has_slot b) (1 + n) n
+one_more l (bodies.Slot id ty value constant) n = refl
+one_more l (bodies.Class id k) n = refl
+one_more l (bodies.Method d m) n = omega arith
+one_more l (bodies.Getter d m) n = omega arith
+one_more l (bodies.Setter d m) n = omega arith
+one_more l (bodies.Function id m) n = omega arith
+
+pub slots_counted : (l : LinkedFile) (ts : List TraitInfo) → slot_count l ts ≡ count_by (λ (t : TraitInfo). has_slot t.body) ts
+slots_counted l ts =
+    is_count_by (slot_count l) (λ (t : TraitInfo). has_slot t.body) refl
+    (λ t us. length-append (slots_in l t.body) (flat_map (λ (u : TraitInfo). slots_in l u.body) us) ∙ one_more l t.body (slot_count l us)) ts
+
+-- the slots of a table are own slots
+own_count : (l : LinkedFile) (p : Part) → slot_count l (traits_of l.file p) ≤ length (own_slots l p)
+own_count l (parts.Host hosts.Class) = omega arith
+own_count l (parts.Catch b e) = omega arith
+own_count l p = omega arith
+
+take_count : (l : LinkedFile) (ts : List TraitInfo) (p : ℕ) → slot_count l (take p ts) ≤ slot_count l ts
+take_count l ts zero = omega arith
+take_count l [] (suc p) = omega arith
+take_count l (t ∷ ts) (suc p) =
+    let h = take_count l ts p in
+    omega (arith, h, length-append (slots_in l t.body) (flat_map (λ (u : TraitInfo). slots_in l u.body) (take p ts)), length-append (slots_in l t.body) (flat_map (λ (u : TraitInfo). slots_in l u.body) ts))
+
+-- the slots of a layout are those under it, and then its own
+under : (l : LinkedFile) → IsLinkedFile l → (x : ℕ) → length (slots_of l x) ≡ slots_under l (base l x) + length (own_slots l (part_at l.parts x))
+under l f x =
+    ap length (heritage_some (base l) (λ y. own_slots l (part_at l.parts y)) (bases_fall l f) x)
+    ∙ go (base l x)
+  where
+    go : (o : Option ℕ) → length (heritage (base l) (λ y. own_slots l (part_at l.parts y)) o ++ own_slots l (part_at l.parts x)) ≡ slots_under l o + length (own_slots l (part_at l.parts x))
+    go None = length-append (heritage (base l) (λ y. own_slots l (part_at l.parts y)) None) (own_slots l (part_at l.parts x)) ∙ ap (λ xs. length xs + length (own_slots l (part_at l.parts x))) (heritage_none (base l) (λ y. own_slots l (part_at l.parts y)))
+    go (Some b) = length-append (slots_of l b) (own_slots l (part_at l.parts x))
+
+pub few_under : (l : LinkedFile) → IsLinkedFile l → HasFewSlots l → (x : ℕ) → x < length l.parts → slots_under l (base l x) < 2 ^ 32
+few_under l f few x lt = let e = under l f x in let h = few x lt in omega arith
+
+pub few_before : (l : LinkedFile) → IsLinkedFile l → HasFewSlots l → (x p : ℕ) → x < length l.parts → slot_of l x p < 2 ^ 32
+few_before l f few x p lt =
+    let e = under l f x in
+    let h = few x lt in
+    let a = own_count l (part_at l.parts x) in
+    let b = take_count l (own_table_of l x) p in
+    omega arith
+
+-- where a slot stands
+pub slot_is : (l : LinkedFile) (x p under before : ℕ) (ts : List TraitInfo) → ts ≡ own_table_of l x → under ≡ slots_under l (base l x) → before ≡ count_by (λ (t : TraitInfo). has_slot t.body) (take p ts) → under + before ≡ slot_of l x p
+slot_is l x p under before ts is eu eb =
+    ap (λ n. n + before) eu
+    ∙ ap (λ n. slots_under l (base l x) + n) (eb ∙ ap (λ (us : List TraitInfo). count_by (λ (t : TraitInfo). has_slot t.body) (take p us)) is ∙ sym (slots_counted l (take p (own_table_of l x))))

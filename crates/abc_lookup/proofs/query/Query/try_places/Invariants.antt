@@ -1,0 +1,11 @@
+use Rattle.std.proofs.Common.{◌≡◌, drop}
+use Rattle.std.specs.List.{flat_map}
+use Rattle.abc_search.specs.Results.{or_next}
+use Rattle.abc_lookup.specs.Slots.{own_at}
+use Rattle.abc_lookup.specs.Steps.{gives}
+use Rattle.abc_lookup.proofs.query.Query.try_places.Given as goal
+
+abbrev pub invariant-loop-place : goal.invariant-loop-place
+invariant-loop-place l =
+    or_next l.so_far (gives l.self.l.now l.self.name l.self.skip l.x.0 l.held (flat_map (own_at l.self.l.now l.x.0) (drop l.place-index l.places)))
+    ≡ gives l.self.l.now l.self.name l.self.skip l.x.0 l.held (flat_map (own_at l.self.l.now l.x.0) l.places)

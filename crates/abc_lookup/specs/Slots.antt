@@ -1,0 +1,40 @@
+-- Where the slots of traits stand, and the trait at a place of a layout's table.
+use Rattle.std.specs.Prelude.{ℕ, zero, suc, ◌+◌, List, [], ◌∷◌, Bool, true, false, Some, None, length, take}
+use Rattle.std.specs.declared.option.Option.{Option}
+use Rattle.std.specs.List.{flat_map}
+use Rattle.abc_names.specs.Pool.{name, qname}
+use Rattle.abc_program.specs.Linked.{LinkedFile, base}
+use Rattle.abc_program.specs.Slots.{slots_in}
+use Rattle.abc_program.specs.Traits.{own_table_of}
+use Rattle.abc_search.specs.Traits.{Trait, members_in, slots_under, traits_named}
+use Rattle.abc_search.specs.declared.traits.Member.{Member}
+use Rattle.abc_tables.specs.declared.traits.TraitBody.{TraitBody}
+use Rattle.abc_tables.specs.declared.traits.TraitBody.TheVariants as bodies
+use Rattle.abc_tables.specs.declared.traits.TraitInfo.{TraitInfo}
+
+abbrev pub has_slot : TraitBody → Bool
+has_slot (bodies.Slot id ty value constant) = true
+has_slot (bodies.Class id k) = true
+has_slot other = false
+
+-- how many slots some traits have
+abbrev pub slot_count : LinkedFile → List TraitInfo → ℕ
+slot_count l ts = length (flat_map (λ (t : TraitInfo). slots_in l t.body) ts)
+
+-- where the slot of a trait of a layout stands: behind the base's and those of the traits before it
+abbrev pub slot_of : LinkedFile → ℕ → ℕ → ℕ
+slot_of l x p = slots_under l (base l x) + slot_count l (take p (own_table_of l x))
+
+-- what the trait at a place of a table is, whose slots stand from a place on
+abbrev pub trait_at : LinkedFile → ℕ → List TraitInfo → ℕ → List Trait
+trait_at l slot [] p = []
+trait_at l slot (t ∷ ts) zero = traits_named l (qname (name l.file t.name)) (members_in slot t.body)
+trait_at l slot (t ∷ ts) (suc p) = trait_at l (slot + length (slots_in l t.body)) ts p
+
+-- the same of a layout's own table
+abbrev pub own_at : LinkedFile → ℕ → ℕ → List Trait
+own_at l x p = trait_at l (slots_under l (base l x)) (own_table_of l x) p
+
+abbrev pub listed : Option Member → List Member
+listed None = []
+listed (Some m) = m ∷ []

@@ -1,0 +1,16 @@
+//! What a name finds: among the declared traits of a layout, on a value, and in scopes. No search takes memory.
+#![tactic(auto)]
+
+mod declared;
+mod elements;
+mod on;
+mod own;
+mod place;
+mod query;
+mod scopes;
+mod search;
+mod spaces;
+mod tables;
+
+pub use abc_search::{Found, Name, ScopeFound, Spaces, Want};
+pub use search::{find_declared, find_in_scopes, find_on};

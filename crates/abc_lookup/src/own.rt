@@ -1,0 +1,94 @@
+ghost use Rattle.std.specs.Prelude.{◌≡◌, ◌∷◌};
+ghost use Rattle.abc_heap.specs.Heap.{elements_of, object_at};
+ghost use Rattle.abc_objects.specs.Stands.{IsObjectOrNone, StandsOver};
+ghost use Rattle.abc_objects.specs.Values.{IsObject};
+ghost use Rattle.abc_search.specs.Candidates.{OfLength, answer, elements, elements_from, own_things, properties, things_along};
+ghost use Rattle.abc_search.specs.Objects.{number_of};
+
+use crate::query::Query;
+use abc_cells::ObjId;
+use abc_search::Found;
+
+impl Query<'_> {
+    /// What an array's elements give.
+    fn find_numbered(&self, o: ObjId) -> Found
+        requires { IsObject self.now.a.now o }
+        ensures { result ≡ answer self.now.l.now self.now.a.now self.now.name self.now.skip (elements_from o.0 0 (elements_of self.now.a.now.objects o.0)) }
+    {
+        match self.element {
+            Some(index) => {
+                if index < self.a.length(o) {
+                    Found::Element { holder: o, index }
+                } else {
+                    Found::Missing
+                }
+            }
+            None => Found::Missing,
+        }
+    }
+
+    /// What an array's length and elements give.
+    fn find_in_array(&self, o: ObjId) -> Found
+        requires { IsObject self.now.a.now o }
+        ensures { result ≡ answer self.now.l.now self.now.a.now self.now.name self.now.skip (OfLength o.0 ∷ elements_from o.0 0 (elements_of self.now.a.now.objects o.0)) }
+    {
+        if self.text == b"length".as_slice() {
+            return Found::Length(o);
+        }
+        self.find_numbered(o)
+    }
+
+    /// What the length and elements of an array give, and of another object nothing.
+    fn find_element(&self, o: ObjId) -> Found
+        requires { IsObject self.now.a.now o }
+        ensures { result ≡ answer self.now.l.now self.now.a.now self.now.name self.now.skip (elements o.0 (object_at self.now.a.now.objects o.0)) }
+    {
+        if !self.a.what(o).is_array() {
+            return Found::Missing;
+        }
+        self.find_in_array(o)
+    }
+
+    /// What an object's dynamic properties give.
+    pub(crate) fn find_property(&self, o: ObjId) -> Found
+        requires over { StandsOver self.now.l.now self.now.a.now }
+        requires inside { IsObject self.now.a.now o }
+        ensures { result ≡ answer self.now.l.now self.now.a.now self.now.name self.now.skip (properties o.0 (object_at self.now.a.now.objects o.0)) }
+    {
+        match self.a.property(self.l, o, self.name.text) {
+            Some(value) => Found::Property { holder: o, value },
+            None => Found::Missing,
+        }
+    }
+
+    /// What an object has of its own gives, elements first.
+    pub(crate) fn find_own(&self, o: ObjId) -> Found
+        requires over { StandsOver self.now.l.now self.now.a.now }
+        requires inside { IsObject self.now.a.now o }
+        ensures { result ≡ answer self.now.l.now self.now.a.now self.now.name self.now.skip (own_things self.now.a.now o.0) }
+    {
+        let element = self.find_element(o);
+        if element.is_hit() {
+            return element;
+        }
+        element.or(self.find_property(o))
+    }
+
+    /// What an object and its delegates have of their own gives.
+    pub(crate) fn find_along(&self, holder: Option<ObjId>) -> Found
+        requires over { StandsOver self.now.l.now self.now.a.now }
+        requires inside { IsObjectOrNone self.now.a.now holder }
+        ensures { result ≡ answer self.now.l.now self.now.a.now self.now.name self.now.skip (things_along self.now.a.now (number_of holder)) }
+    {
+        let mut so_far = Found::Missing;
+        let mut at = holder;
+        while let Some(o) = at {
+            so_far = so_far.or(self.find_own(o));
+            if so_far.is_hit() {
+                break;
+            }
+            at = self.a.delegate(o);
+        }
+        so_far
+    }
+}

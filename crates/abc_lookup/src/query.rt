@@ -1,0 +1,27 @@
+ghost use Rattle.std.specs.Prelude.{◌≡◌};
+ghost use Rattle.abc_heap.specs.Texts.{IsText, text_of};
+ghost use Rattle.abc_search.specs.ElementNames.{element_number};
+ghost use Rattle.abc_search.specs.Spaces.{holds_public};
+
+use abc_link::Linked;
+use abc_objects::Arena;
+use abc_search::{Name, Skip};
+
+/// A search for a name, of which is known what does not change from place to place.
+#[derive(Clone, Copy)]
+pub(crate) struct Query<'a> {
+    pub l: &'a Linked,
+    pub a: &'a Arena,
+    pub name: Name,
+    pub skip: Skip,
+    /// The text of the name.
+    pub text: &'a [u8],
+    /// Whether the name holds the public namespace or any.
+    pub public: bool,
+    /// The element that the text names.
+    pub element: Option<u32>,
+    ghost named: { IsText l.now.file.strings a.now name.text },
+    ghost texted: { text.now ≡ text_of l.now.file.strings a.now name.text },
+    ghost held: { holds_public l.now name.spaces ≡ public },
+    ghost numbered: { element_number text.now ≡ element },
+}

@@ -1,0 +1,133 @@
+ghost use Rattle.std.specs.Prelude.{◌≡◌, false, get_or};
+ghost use Rattle.abc_lookup.specs.Steps.{IsPlace, place_in};
+ghost use Rattle.abc_heap.specs.Texts.{IsText};
+ghost use Rattle.abc_objects.specs.Stands.{AreEntries, IsScope, StandsOver};
+ghost use Rattle.abc_objects.specs.Values.{Exists};
+ghost use Rattle.abc_program.specs.Linked.{IsLayout};
+ghost use Rattle.abc_search.specs.Scopes.{scope_named};
+ghost use Rattle.abc_search.specs.Searches.{declared_found, found_in_scopes, found_on};
+
+use crate::elements::element_number;
+use crate::place::Place;
+use crate::query::Query;
+use crate::spaces::holds_public;
+use abc_base::Table;
+use abc_cells::Value;
+use abc_heap::{ScopeEntry, ScopeId};
+use abc_link::{LayoutId, Linked};
+use abc_objects::Arena;
+use abc_search::{Found, Name, ScopeFound, Skip, Want};
+
+/// The search for a name among the declared traits of the layout `from` and of its bases, derived before base and in the
+/// order of the file, for an object of the layout `object`, which is `from` or stands under it. It answers `WrongSide`
+/// where nothing fits but traits that were passed over, and else `Missing` where nothing fits.
+pub fn find_declared(
+    l: &Linked,
+    a: &Arena,
+    object: LayoutId,
+    from: LayoutId,
+    name: &Name,
+    want: Want,
+) -> Found
+    requires object { IsLayout l.now object }
+    requires from { IsLayout l.now from }
+    requires name { IsText l.now.file.strings a.now name.now.text }
+    ensures { result ≡ declared_found l.now a.now object.0 from.0 name.now want }
+{
+    let text = a.text_bytes(l, name.text);
+    let query = Query {
+        l,
+        a,
+        name: *name,
+        skip: want.skip(),
+        text,
+        public: holds_public(l, name.spaces),
+        element: element_number(text),
+    };
+    query.find_declared(object, from)
+}
+
+/// The search for a name on a value that is not null or undefined: among the declared traits, and then, where the name
+/// holds the public namespace or any, among the elements and dynamic properties of the object and of its delegates in
+/// turn. It answers `WrongSide` where nothing fits but traits that were passed over, and else `Missing` where nothing
+/// fits.
+pub fn find_on(l: &Linked, a: &Arena, holder: Value, name: &Name, want: Want) -> Found
+    requires over { StandsOver l.now a.now }
+    requires holder { Exists l.now a.now holder }
+    requires name { IsText l.now.file.strings a.now name.now.text }
+    ensures { result ≡ found_on l.now a.now holder name.now want }
+{
+    let text = a.text_bytes(l, name.text);
+    let query = Query {
+        l,
+        a,
+        name: *name,
+        skip: want.skip(),
+        text,
+        public: holds_public(l, name.spaces),
+        element: element_number(text),
+    };
+    query.find_on(holder)
+}
+
+/// Whether a script is told as started.
+#[tactic(auto, using(crate::proofs::Past::past_end))]
+fn is_started(started: &Table<bool>, script: u32) -> bool
+    ensures { result ≡ get_or started.now script false }
+{
+    match started.fetch(script as usize) {
+        Some(is_started) => is_started,
+        None => false,
+    }
+}
+
+/// What is found where a place has the name.
+fn place_found(l: &Linked, a: &Arena, started: &Table<bool>, place: Option<Place>) -> ScopeFound
+    requires over { StandsOver l.now a.now }
+    requires place { IsPlace l.now place }
+    ensures { result ≡ scope_named a.now started.now (place_in place) }
+{
+    let _file = l;
+    match place {
+        Some(Place::InScope(entry)) => ScopeFound::Object(entry.object),
+        Some(Place::InScript(script)) => {
+            if is_started(started, script) {
+                ScopeFound::Object(a.global(script))
+            } else {
+                ScopeFound::Start(script)
+            }
+        }
+        Some(Place::InHost) => ScopeFound::Object(a.host_object()),
+        None => ScopeFound::Missing,
+    }
+}
+
+/// The search for a name in local scopes from the top down, in saved scopes down, on the global objects of the scripts in
+/// order, and on the host object. It answers `Start` where a script has the name that `started` does not tell as started,
+/// and `Missing` where no place has the name.
+pub fn find_in_scopes(
+    l: &Linked,
+    a: &Arena,
+    scopes: &[ScopeEntry],
+    saved: Option<ScopeId>,
+    started: &Table<bool>,
+    name: &Name,
+) -> ScopeFound
+    requires over { StandsOver l.now a.now }
+    requires scopes { AreEntries a.now scopes.now }
+    requires saved { IsScope a.now saved }
+    requires name { IsText l.now.file.strings a.now name.now.text }
+    ensures { result ≡ found_in_scopes l.now a.now scopes.now saved started.now name.now }
+{
+    let text = a.text_bytes(l, name.text);
+    let query = Query {
+        l,
+        a,
+        name: *name,
+        skip: Skip::Nothing,
+        text,
+        public: holds_public(l, name.spaces),
+        element: element_number(text),
+    };
+    place_found(l, a, started, query.find_place(scopes, saved))
+}

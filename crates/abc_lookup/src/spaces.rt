@@ -1,0 +1,127 @@
+ghost use Rattle.std.specs.Prelude.{◌≡◌};
+ghost use Rattle.std.specs.List.{list_any};
+ghost use Rattle.abc_names.specs.Instances.{instance_at};
+ghost use Rattle.abc_names.specs.Pool.{is_public, same_space, set};
+ghost use Rattle.abc_program.specs.Linked.{IsLayout};
+ghost use Rattle.abc_search.specs.Spaces.{above_zero as above_none, holds as does_hold, holds_pooled as does_hold_pooled, holds_public as does_hold_public, is_protected as does_protect, protected_of as protected_in};
+
+use abc_link::{LayoutId, Linked, Part};
+use abc_search::{Spaces, TraitSpace};
+use abc_tables::Abc;
+
+/// A set of namespaces of the pool, by its index; 0 is none.
+#[tactic(auto, using(crate::proofs::Past::past_end))]
+fn set_at(abc: &Abc, index: u32) -> &[u32]
+    ensures { result.now ≡ set abc.now index }
+{
+    if index == 0 {
+        return &[];
+    }
+    match abc.sets.find(index as usize - 1) {
+        Some(set) => set.as_slice(),
+        None => &[],
+    }
+}
+
+/// Whether one of several namespaces is equal to a namespace of the pool.
+fn is_among(l: &Linked, space: u32, spaces: &[u32]) -> bool
+    ensures { result ≡ list_any (same_space l.now.file space) spaces.now }
+{
+    for one in spaces {
+        if l.is_same_space(space, *one) {
+            return true;
+        }
+    }
+    false
+}
+
+/// Whether one of several namespaces is public.
+fn is_any_public(l: &Linked, spaces: &[u32]) -> bool
+    ensures { result ≡ list_any (is_public l.now.file) spaces.now }
+{
+    for space in spaces {
+        if l.is_public(*space) {
+            return true;
+        }
+    }
+    false
+}
+
+/// Whether a name holds the public namespace or any.
+pub(crate) fn holds_public(l: &Linked, spaces: Spaces) -> bool
+    ensures { result ≡ does_hold_public l.now spaces }
+{
+    match spaces {
+        Spaces::Any | Spaces::Public => true,
+        Spaces::One(space) => l.is_public(space),
+        Spaces::Set(index) => is_any_public(l, set_at(l.abc(), index)),
+    }
+}
+
+/// Whether a name holds a namespace of the pool.
+pub(crate) fn holds_pooled(l: &Linked, spaces: Spaces, space: u32) -> bool
+    ensures { result ≡ does_hold_pooled l.now spaces space }
+{
+    match spaces {
+        Spaces::Any => true,
+        Spaces::Public => l.is_public(space),
+        Spaces::One(one) => l.is_same_space(space, one),
+        Spaces::Set(index) => is_among(l, space, set_at(l.abc(), index)),
+    }
+}
+
+/// Whether a name holds the namespace of a trait.
+pub(crate) fn holds(l: &Linked, spaces: Spaces, space: TraitSpace) -> bool
+    ensures { result ≡ does_hold l.now spaces space }
+{
+    match space {
+        TraitSpace::Public => holds_public(l, spaces),
+        TraitSpace::Pool(space) => holds_pooled(l, spaces, space),
+    }
+}
+
+/// A namespace, where index 0 is none.
+fn above_zero(space: Option<u32>) -> Option<u32>
+    ensures { result ≡ above_none space }
+{
+    match space {
+        Some(0) | None => None,
+        Some(space) => Some(space),
+    }
+}
+
+/// The protected namespace of a class of the file, as the file has it.
+#[tactic(auto, using(crate::proofs::Past::past_end))]
+fn protected_ns(abc: &Abc, class: u32) -> Option<u32>
+    ensures { result ≡ (instance_at abc.now class).protected_ns }
+{
+    match abc.instances.find(class as usize) {
+        Some(instance) => instance.protected_ns,
+        None => None,
+    }
+}
+
+/// The protected namespace of a layout's class, which a class of the file may have for its instances.
+pub(crate) fn protected_of(l: &Linked, x: LayoutId) -> Option<u32>
+    requires { IsLayout l.now x }
+    ensures { result ≡ protected_in l.now x.0 }
+{
+    match l.part_of(x) {
+        Part::Instance(class) => above_zero(protected_ns(l.abc(), class)),
+        _ => None,
+    }
+}
+
+/// Whether the namespace of a trait is the protected one of its layout's class.
+pub(crate) fn is_protected(l: &Linked, x: LayoutId, space: TraitSpace) -> bool
+    requires { IsLayout l.now x }
+    ensures { result ≡ does_protect l.now x.0 space }
+{
+    match protected_of(l, x) {
+        Some(protected) => match space {
+            TraitSpace::Public => l.is_public(protected),
+            TraitSpace::Pool(space) => l.is_same_space(protected, space),
+        },
+        None => false,
+    }
+}

@@ -1,0 +1,101 @@
+ghost use Rattle.std.specs.Prelude.{◌≡◌, ◌<◌, ◌≤◌, count_by, length, take};
+ghost use Rattle.abc_lookup.specs.Slots.{has_slot as does_have_slot, listed, slot_of};
+ghost use Rattle.abc_program.specs.Linked.{IsLayout, base};
+ghost use Rattle.abc_program.specs.Slots.{handler_at};
+ghost use Rattle.abc_program.specs.Traits.{own_table_of};
+ghost use Rattle.abc_rules.specs.Parts.{body_at};
+ghost use Rattle.abc_search.specs.Traits.{members_in, slots_under as slots_below};
+
+use abc_link::{LayoutId, Linked};
+use abc_search::Member;
+use abc_slots::traits_of;
+use abc_tables::{Abc, Handler, TraitBody, TraitInfo};
+
+#[tactic(auto, using(crate::proofs::Past::past_end))]
+fn handlers(abc: &Abc, body: u32) -> &[Handler]
+    ensures { result.now ≡ (body_at abc.now body).handlers }
+{
+    match abc.bodies.find(body as usize) {
+        Some(body) => body.handlers.as_slice(),
+        None => &[],
+    }
+}
+
+/// The name of a caught value, by its index; 0 is none.
+#[tactic(auto, using(crate::proofs::Past::past_end))]
+pub(crate) fn caught_name(abc: &Abc, body: u32, exception: u32) -> u32
+    ensures { result ≡ (handler_at abc.now body exception).var_name }
+{
+    match handlers(abc, body).get(exception as usize) {
+        Some(handler) => handler.var_name,
+        None => 0,
+    }
+}
+
+/// The own traits of a layout.
+pub(crate) fn own_table(l: &Linked, x: LayoutId) -> &[TraitInfo]
+    requires { IsLayout l.now x }
+    ensures { result.now ≡ own_table_of l.now x.0 }
+{
+    traits_of(l.abc(), l.part_of(x))
+}
+
+/// Whether a trait has a slot.
+fn has_slot(body: TraitBody) -> bool
+    ensures { result ≡ does_have_slot body }
+{
+    matches!(body, TraitBody::Slot { .. } | TraitBody::Class { .. })
+}
+
+/// How many of some traits have slots.
+fn count_slots(traits: &[TraitInfo]) -> usize
+    ensures { result ≡ count_by (λ t. does_have_slot t.body) traits.now }
+{
+    traits.iter().filter(|info| has_slot(info.body)).count()
+}
+
+/// How many slots of a layout stand before its own.
+pub(crate) fn slots_under(l: &Linked, x: LayoutId) -> usize
+    requires { IsLayout l.now x }
+    ensures { result ≡ slots_below l.now (base l.now x.0) }
+{
+    l.linked_law();
+    match l.base(x) {
+        Some(base) => l.slots(base).len(),
+        None => 0,
+    }
+}
+
+/// Where the slot of a trait of a layout stands.
+pub(crate) fn slot_at(l: &Linked, x: LayoutId, place: u32) -> u32
+    requires layout { IsLayout l.now x }
+    requires place { place < length (own_table_of l.now x.0) }
+    ensures { result ≡ slot_of l.now x.0 place }
+{
+    l.linked_law();
+    l.slots_law();
+    let before = count_slots(&own_table(l, x)[..place as usize]);
+    (slots_under(l, x) + before) as u32
+}
+
+/// What a trait of a layout is. The traits of functions are not run.
+pub(crate) fn member_at(l: &Linked, x: LayoutId, place: u32, body: TraitBody) -> Option<Member>
+    requires layout { IsLayout l.now x }
+    requires place { place < length (own_table_of l.now x.0) }
+    ensures { listed result ≡ members_in (slot_of l.now x.0 place) body }
+{
+    match body {
+        TraitBody::Slot { constant, .. } => Some(Member::Slot {
+            slot: slot_at(l, x, place),
+            constant,
+        }),
+        TraitBody::Class { .. } => Some(Member::Slot {
+            slot: slot_at(l, x, place),
+            constant: true,
+        }),
+        TraitBody::Method { method, .. } => Some(Member::Method(method)),
+        TraitBody::Getter { method, .. } => Some(Member::Getter(method)),
+        TraitBody::Setter { method, .. } => Some(Member::Setter(method)),
+        TraitBody::Function { .. } => None,
+    }
+}
