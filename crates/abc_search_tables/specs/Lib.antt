@@ -1,0 +1,4 @@
+pub mod OwnSlots
+pub mod ScriptTraits
+pub mod SetKeys
+pub mod Made

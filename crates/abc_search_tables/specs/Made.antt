@@ -1,0 +1,14 @@
+-- All tables of a file.
+use Rattle.std.specs.Prelude.{ℕ, List}
+use Rattle.abc_index.specs.declared.texts.Texts.{Texts}
+use Rattle.abc_program.specs.declared.part.Part.{Part}
+use Rattle.abc_search_tables.specs.OwnSlots.{HasOwnSlots}
+use Rattle.abc_search_tables.specs.ScriptTraits.{HasScripts}
+use Rattle.abc_search_tables.specs.SetKeys.{HasSets}
+use Rattle.abc_search_tables.specs.declared.tables.SearchTables.{SearchTables}
+use Rattle.abc_tables.specs.declared.tables.Abc.{Abc}
+
+pub record AreSearchTables (v : Abc) (parts : List Part) (t : Texts) (numbers : List ℕ) (s : SearchTables) : Type 0 where
+  pub slots : HasOwnSlots v parts s.slots
+  pub scripts : HasScripts v t s.scripts
+  pub sets : HasSets v numbers s.sets
