@@ -49,6 +49,9 @@ live h w vs ss b = omega (arith, length_living h (reverse w.items) vs.items ss.i
 pub depth_is : (h : Head) (w : Filling Below) (vs : Filling Value) (ss : Filling ScopeEntry) → length (frames_in h w vs ss).living ≡ length w.items
 depth_is h w vs ss = length_living h (reverse w.items) vs.items ss.items ∙ length-reverse w.items
 
+pub same_depth : (h : Head) (w : Filling Below) (vs us : Filling Value) (ss ts : Filling ScopeEntry) → length (frames_in h w us ts).living ≡ length (frames_in h w vs ss).living
+same_depth h w vs us ss ts = depth_is h w us ts ∙ sym (depth_is h w vs ss)
+
 -- ---- operands
 
 pub push_room : (h : Head) (w : Filling Below) (vs : Filling Value) (ss : Filling ScopeEntry) → IsLaid h.marks w vs ss → length (newest (frames_in h w vs ss)).stack < (newest_size (frames_in h w vs ss)).stack → length vs.items + 1 ≤ vs.limit

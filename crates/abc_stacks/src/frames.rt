@@ -125,7 +125,8 @@ impl Frames {
     #[inline]
     pub fn pop(&mut self) -> Value
         requires { 0 < length (newest self.old).stack }
-        ensures { self.old ≡ with_newest (pushed result) self.new }
+        ensures popped { self.old ≡ with_newest (pushed result) self.new }
+        ensures depth { length self.new.living ≡ length self.old.living }
     {
         self.values.pop()
     }
@@ -220,7 +221,8 @@ impl Frames {
     #[inline]
     pub fn pop_scope(&mut self) -> ScopeEntry
         requires { 0 < length (newest self.old).scopes }
-        ensures { self.old ≡ with_newest (with_scope result) self.new }
+        ensures popped { self.old ≡ with_newest (with_scope result) self.new }
+        ensures depth { length self.new.living ≡ length self.old.living }
     {
         self.scopes.pop()
     }
