@@ -37,11 +37,11 @@ setlocal_1 = instrs.Plain 0xd5
 abbrev pub setlocal_2 : Instr
 setlocal_2 = instrs.Plain 0xd6
 
-abbrev pub pushbyte : ℕ → Instr
-pushbyte n = instrs.Byte (pos n)
+abbrev pub pushbyte : ℤ → Instr
+pushbyte z = instrs.Byte z
 
-abbrev pub pushshort : ℕ → Instr
-pushshort n = instrs.Short (pos n)
+abbrev pub pushshort : ℤ → Instr
+pushshort z = instrs.Short z
 
 abbrev pub ifgt : ℕ → Instr
 ifgt target = instrs.Branch 0x17 target
@@ -66,7 +66,7 @@ call_of i = getlocal_0 ∷ getlocal_1 ∷ callproperty (i + 2) 1 ∷ convert_i �
 
 abbrev pub first_code : ℕ → List Instr
 first_code m =
-    (getlocal_0 ∷ pushscope ∷ pushbyte 1 ∷ setlocal_1 ∷ [])
+    (getlocal_0 ∷ pushscope ∷ pushbyte (pos 1) ∷ setlocal_1 ∷ [])
     ++ flat_map call_of (range_with_len 1 m)
     ++ (findpropstrict 1 ∷ getlocal_1 ∷ callpropvoid 1 1 ∷ returnvoid ∷ [])
 
@@ -79,12 +79,13 @@ operation_of 1 = 0xc6
 operation_of 2 = 0xc7
 operation_of n = 0xaa
 
-abbrev pub repeated : ℕ → ℕ → ℕ → List Instr
+abbrev pub repeated : ℤ → ℤ → ℕ → List Instr
 repeated rounds operand op =
     getlocal_1 ∷ convert_i ∷ setlocal_2 ∷ pushbyte rounds ∷ setlocal_1
     ∷ label ∷ getlocal_2 ∷ pushshort operand ∷ instrs.Plain op ∷ setlocal_2
-    ∷ declocal_i 1 ∷ getlocal_1 ∷ pushbyte 0 ∷ ifgt 5 ∷ getlocal_2 ∷ returnvalue ∷ []
+    ∷ declocal_i 1 ∷ getlocal_1 ∷ pushbyte (pos 0) ∷ ifgt 5 ∷ getlocal_2 ∷ returnvalue ∷ []
 
 -- the code for which three draws are made from this number on
 abbrev pub drawn_code : ℕ → List Instr
-drawn_code x = repeated (given_by (after x 1) % 8 + 1) (given_by (after x 2) % 32768) (operation_of (given_by (after x 3) % 4))
+drawn_code x =
+    repeated (pos (given_by (after x 1) % 8 + 1)) (pos (given_by (after x 2) % 32768)) (operation_of (given_by (after x 3) % 4))
