@@ -1,5 +1,5 @@
 -- The code of the generated file.
-use Rattle.std.specs.Prelude.{ℕ, ℤ, ◌+◌, ◌%◌, pos, List, [], ◌∷◌, ◌++◌}
+use Rattle.std.specs.Prelude.{ℕ, ℤ, ◌+◌, ◌%◌, pos, nat_eq, if◌then◌else◌, List, [], ◌∷◌, ◌++◌}
 use Rattle.std.specs.List.{flat_map, range_with_len}
 use Rattle.abc_tables.specs.declared.code.Instr.{Instr}
 use Rattle.abc_tables.specs.declared.code.Instr.TheVariants as instrs
@@ -74,10 +74,7 @@ first_code m =
 
 -- add_i, subtract_i, multiply_i or bitxor
 abbrev pub operation_of : ℕ → ℕ
-operation_of 0 = 0xc5
-operation_of 1 = 0xc6
-operation_of 2 = 0xc7
-operation_of n = 0xaa
+operation_of n = if nat_eq n 0 then 0xc5 else if nat_eq n 1 then 0xc6 else if nat_eq n 2 then 0xc7 else 0xaa
 
 abbrev pub repeated : ℤ → ℤ → ℕ → List Instr
 repeated rounds operand op =

@@ -1,4 +1,4 @@
-ghost use Rattle.std.specs.Prelude.{◌≡◌, ◌<◌, ◌≤◌, ◌++◌, ◌%◌, ◌+◌, ◌^◌, IfOk, OnOk};
+ghost use Rattle.std.specs.Prelude.{◌≡◌, ◌<◌, ◌++◌, ◌%◌, ◌+◌, ◌^◌, pos, IfOk, OnOk};
 ghost use Rattle.abc_gen.specs.Codes.{call_of, drawn_code, first_code as code_of_first, operation_of, repeated as code_of};
 ghost use Rattle.abc_gen.specs.Draws.{after};
 
@@ -51,7 +51,6 @@ fn push_call(code: &mut Table<Instr>, function: u32) -> Result<(), NoMemory>
 }
 
 /// The code of the script: it calls so many functions and traces what the last gave.
-#[tactic(auto, using(crate::proofs::Listed::joined_next, std::proofs::Common::append_assoc))]
 pub(crate) fn first_code(alloc: Global, functions: u32) -> Result<Table<Instr>, NoMemory>
     requires { functions < 2 ^ 30 }
     ensures { IfOk result (λ code. code ≡ code_of_first functions) }
@@ -107,13 +106,27 @@ fn repeated(alloc: Global, rounds: i8, operand: i16, op: u8) -> Result<Table<Ins
     Ok(code)
 }
 
+/// How often an operation is done, by a draw: 1 to 8 times.
+fn rounds(draw: u32) -> i8
+    ensures { result ≡ pos (draw % 8 + 1) }
+{
+    (draw % 8 + 1) as i8
+}
+
+/// The operand of an operation, by a draw: below 32,768.
+fn operand(draw: u32) -> i16
+    ensures { result ≡ pos (draw % 32768) }
+{
+    (draw % 32_768) as i16
+}
+
 /// The code of a function, by three draws.
 pub(crate) fn drawn_code_of(alloc: Global, draws: &mut Draws) -> Result<Table<Instr>, NoMemory>
     ensures code { IfOk result (λ code. code ≡ drawn_code draws.old.number) }
     ensures draws { draws.new.number ≡ after draws.old.number 3 }
 {
-    let rounds = (draws.draw() % 8 + 1) as i8;
-    let operand = (draws.draw() % 32_768) as i16;
+    let rounds = rounds(draws.draw());
+    let operand = operand(draws.draw());
     let op = operation(draws.draw() % 4);
     repeated(alloc, rounds, operand, op)
 }

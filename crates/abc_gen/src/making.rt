@@ -23,7 +23,6 @@ fn function_name(alloc: Global, function: u32) -> Result<Bytes, NoMemory>
 }
 
 /// The pool of strings.
-#[tactic(auto, using(crate::proofs::Listed::listed_next))]
 fn texts(alloc: Global, functions: u32) -> Result<Table<Bytes>, NoMemory>
     requires { functions < 2 ^ 30 }
     ensures { IfOk result (λ texts. texts ≡ all_texts functions) }
@@ -38,7 +37,6 @@ fn texts(alloc: Global, functions: u32) -> Result<Table<Bytes>, NoMemory>
 }
 
 /// The pool of names: one for each string.
-#[tactic(auto, using(crate::proofs::Listed::listed_next))]
 fn names(alloc: Global, count: u32) -> Result<Table<Multiname>, NoMemory>
     requires { count < 2 ^ 30 }
     ensures { IfOk result (λ names. names ≡ map public_name (one_to count)) }
@@ -69,7 +67,6 @@ fn signature(alloc: Global, ret: u32, params: Table<u32>) -> Method
 }
 
 /// The signatures: that of the script, and of each function of an int that gives an int.
-#[tactic(auto, using(crate::proofs::Listed::listed_next))]
 fn signatures(alloc: Global, functions: u32) -> Result<Table<Method>, NoMemory>
     requires { functions < 2 ^ 30 }
     ensures { IfOk result (λ methods. methods ≡ signature_of 0 [] ∷ map function_signature (one_to functions)) }
@@ -85,7 +82,6 @@ fn signatures(alloc: Global, functions: u32) -> Result<Table<Method>, NoMemory>
 }
 
 /// The traits of the script: its functions by their names.
-#[tactic(auto, using(crate::proofs::Listed::listed_next))]
 fn function_traits(alloc: Global, functions: u32) -> Result<Table<TraitInfo>, NoMemory>
     requires { functions < 2 ^ 30 }
     ensures { IfOk result (λ traits. traits ≡ map trait_of (one_to functions)) }
@@ -122,7 +118,6 @@ fn body(method: u32, local_count: u32, max_scope: u32, code: Table<Instr>, alloc
 }
 
 /// The bodies, in the order of their methods.
-#[tactic(auto, using(crate::proofs::Listed::listed_next, crate::proofs::Listed::three_more))]
 fn bodies(alloc: Global, seed: u32, functions: u32) -> Result<Table<Body>, NoMemory>
     requires { functions < 2 ^ 30 }
     ensures { IfOk result (λ bodies. bodies ≡ first_body functions ∷ map (function_body seed) (one_to functions)) }
