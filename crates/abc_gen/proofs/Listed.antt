@@ -1,5 +1,5 @@
 -- Lists of what is made of the numbers from 1 on.
-use Rattle.std.proofs.Common.{◌≡◌, ℕ, suc, zero, ◌+◌, ◌*◌, List, [], ◌∷◌, ◌++◌, map, refl, sym, ap, ap₂, ◌∙◌, append_assoc, arith}
+use Rattle.std.proofs.Common.{◌≡◌, ℕ, suc, zero, ◌+◌, ◌*◌, List, [], ◌∷◌, ◌++◌, map, refl, sym, ap, ap₂, ◌∙◌, append_assoc, append-nil, arith}
 use Rattle.std.specs.List.{flat_map, range_with_len}
 use Rattle.std.proofs.lemmas.List.FromFn.{map-range_with_len_more}
 use Rattle.abc_gen.specs.Draws.{after}
@@ -11,7 +11,7 @@ one_more f n front xs ys x e i l =
     ∙ ap (λ zs. front ++ zs) (sym (map-range_with_len_more f 1 n (n + 1) (omega arith)))
 
 joined_more : {A : Type 0} (f : ℕ → List A) (a n j : ℕ) → a + n ≡ j → flat_map f (range_with_len a (n + 1)) ≡ flat_map f (range_with_len a n) ++ f j
-joined_more f a zero j e = cc
+joined_more f a zero j e = append-nil (f a) ∙ ap f (omega arith)
 joined_more f a (suc n) j e = ap (λ xs. f a ++ xs) (joined_more f (a + 1) n j (omega arith)) ∙ sym (append_assoc (f a) (flat_map f (range_with_len (a + 1) n)) (f j))
 
 -- the same for lists that are joined

@@ -10,6 +10,6 @@ abbrev pub given_by : ℕ → ℕ
 given_by x = x / 65536
 
 -- the generator's number after so many draws
-pub after : ℕ → ℕ → ℕ
+abbrev pub after : ℕ → ℕ → ℕ
 after seed zero = seed
 after seed (suc n) = next_of (after seed n)
