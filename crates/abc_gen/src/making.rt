@@ -1,5 +1,6 @@
 ghost use Rattle.std.specs.Prelude.{◌≡◌, ◌<◌, ◌≤◌, ◌^◌, ◌∷◌, [], map, codes, IfOk};
 ghost use Rattle.std.specs.List.{range_with_len};
+ghost use Rattle.abc_tables.specs.Files.{Fits};
 ghost use Rattle.abc_gen.specs.Generated.{first_body, function_body, body_of, function_name as name_of, function_signature, function_trait as trait_of, generated, one_to, public_name, public_space, script_of, signature as signature_of, texts as all_texts};
 
 use crate::codes::{drawn_code_of, first_code};
@@ -157,9 +158,11 @@ fn scripts(alloc: Global, functions: u32) -> Result<Table<Script>, NoMemory>
 
 /// The file of so many functions, 1 to 10,000, whose operations are drawn from a seed: a script that calls them one after
 /// the other, each with what the one before gave, and traces what the last gave. An Err is want of memory.
+#[tactic(auto, using(crate::proofs::Fitting::generated_fits))]
 pub fn make_abc(alloc: Global, seed: u32, methods: u32) -> Result<Abc, NoMemory>
     requires { methods ≤ 10000 }
-    ensures { IfOk result (λ abc. abc ≡ generated seed methods) }
+    ensures is { IfOk result (λ abc. abc ≡ generated seed methods) }
+    ensures fits { IfOk result (λ abc. Fits abc) }
 {
     let strings = texts(alloc, methods)?;
     let namespaces = namespaces(alloc)?;
