@@ -76,7 +76,6 @@ operation_form : (n : ℕ) → form_at (operation_of n) ≡ Some forms.Plain
 unfolding form_at info_at
 operation_form n = chosen (nat_eq n 0) (nat_eq n 1) (nat_eq n 2) where
   chosen : (a b c : Bool) → form_at (if a then 0xc5 else if b then 0xc6 else if c then 0xc7 else 0xaa) ≡ Some forms.Plain
-  unfolding form_at info_at
   chosen true b c = refl
   chosen false true c = refl
   chosen false false true = refl
