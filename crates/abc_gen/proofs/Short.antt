@@ -4,10 +4,14 @@ use Rattle.std.specs.Prelude.{All}
 use Rattle.std.specs.List.{range_with_len, sum_by}
 use Rattle.std.proofs.lemmas.Fmt.{length-decimal-le}
 use Rattle.std.proofs.lemmas.List.{length-append}
-use Rattle.std.proofs.lemmas.List.Elements.{All-cons, All-nil}
+use Rattle.std.proofs.lemmas.List.Elements.{All-cons}
 use Rattle.std.proofs.lemmas.List.FromFn.{get_or-map-range_with_len, length-map-range_with_len}
 use Rattle.std.proofs.lemmas.List.Sums.{sum_by-cons, sum_by-le}
 use Rattle.abc_format.specs.Canonical.{pool_count}
+use Rattle.abc_tables.specs.declared.code.Body.{Body}
+use Rattle.abc_tables.specs.declared.methods.Method.{Method}
+use Rattle.abc_tables.specs.declared.names.Multiname.{Multiname}
+use Rattle.abc_tables.specs.declared.traits.TraitInfo.{TraitInfo}
 use Rattle.abc_tables.specs.CodeBytes.{code_len, number_len}
 use Rattle.abc_tables.proofs.Lengths.{number_most}
 use Rattle.abc_fits.specs.Lengths.{body_len, definitions_len, file_len, method_len, multiname_len, namespace_len, pools_len, script_len, text_len, trait_len}
@@ -36,12 +40,16 @@ text_short b few = omega (arith, number_most (length b), few)
 
 texts_short : (m : ℕ) → m ≤ 10000 → sum_by text_len (texts m) ≤ (m + 2) * 11
 texts_short m few =
+    let short : List ℕ → Type 0 = λ b. text_len b ≤ 11 in
     sum_below text_len 11 (m + 2) (texts m) (omega (arith, made_length function_name m))
-    (All-cons _ _ _ (text_short (codes "trace") (omega arith)) (All-cons _ _ _ (text_short (codes "int") (omega arith)) (all_made _ function_name m (λ i low high. text_short (function_name i) (name_length i (omega arith))))))
+    (All-cons short (codes "trace") (codes "int" ∷ map function_name (one_to m)) (text_short (codes "trace") (omega arith))
+    (All-cons short (codes "int") (map function_name (one_to m)) (text_short (codes "int") (omega arith))
+    (all_made short function_name m (λ i low high. text_short (function_name i) (name_length i (omega arith))))))
 
 names_short : (m : ℕ) → sum_by multiname_len (map public_name (one_to (m + 2))) ≤ (m + 2) * 11
 names_short m =
-    sum_below multiname_len 11 (m + 2) _ (made_length public_name (m + 2)) (all_made _ public_name (m + 2) (λ i low high. omega (arith, number_most 1, number_most i)))
+    sum_below multiname_len 11 (m + 2) (map public_name (one_to (m + 2))) (made_length public_name (m + 2))
+    (all_made (λ (x : Multiname). multiname_len x ≤ 11) public_name (m + 2) (λ i low high. omega (arith, number_most 1, number_most i)))
 
 pub pools_short : (m seed : ℕ) → m ≤ 10000 → pools_len (generated seed m) ≤ (m + 2) * 22 + 60
 unfolding pools_len
@@ -51,13 +59,16 @@ pools_short m seed few =
 methods_short : (m : ℕ) → sum_by method_len (signature 0 [] ∷ map function_signature (one_to m)) ≤ (m + 1) * 21
 unfolding method_len
 methods_short m =
-    sum_below method_len 21 (m + 1) _ (omega (arith, made_length function_signature m))
-    (All-cons _ _ _ (omega (arith, number_most 0)) (all_made _ function_signature m (λ i low high. omega (arith, number_most 0, number_most 1, number_most 2))))
+    let short : Method → Type 0 = λ x. method_len x ≤ 21 in
+    sum_below method_len 21 (m + 1) (signature 0 [] ∷ map function_signature (one_to m)) (omega (arith, made_length function_signature m))
+    (All-cons short (signature 0 []) (map function_signature (one_to m)) (omega (arith, number_most 0))
+    (all_made short function_signature m (λ i low high. omega (arith, number_most 0, number_most 1, number_most 2))))
 
 traits_short : (m : ℕ) → sum_by trait_len (map function_trait (one_to m)) ≤ m * 16
 unfolding trait_len
 traits_short m =
-    sum_below trait_len 16 m _ (made_length function_trait m) (all_made _ function_trait m (λ i low high. omega (arith, number_most (i + 2), number_most 0, number_most i)))
+    sum_below trait_len 16 m (map function_trait (one_to m)) (made_length function_trait m)
+    (all_made (λ (x : TraitInfo). trait_len x ≤ 16) function_trait m (λ i low high. omega (arith, number_most (i + 2), number_most 0, number_most i)))
 
 script_short : (m : ℕ) → script_len (script_of m) ≤ m * 16 + 10
 unfolding script_len
@@ -78,7 +89,9 @@ function_short seed i =
     let code = drawn_code (after seed (3 * (i - 1))) in omega (arith, drawn_len (after seed (3 * (i - 1))), number_most i, number_most 0, number_most 2, number_most 3, number_most (code_len code))
 
 bodies_short : (m seed : ℕ) → sum_by body_len (map (function_body seed) (one_to m)) ≤ m * 100
-bodies_short m seed = sum_below body_len 100 m _ (made_length (function_body seed) m) (all_made _ (function_body seed) m (λ i low high. function_short seed i))
+bodies_short m seed =
+    sum_below body_len 100 m (map (function_body seed) (one_to m)) (made_length (function_body seed) m)
+    (all_made (λ (x : Body). body_len x ≤ 100) (function_body seed) m (λ i low high. function_short seed i))
 
 pub file_short : (m seed : ℕ) → m ≤ 10000 → file_len (generated seed m) ≤ 2 ^ 24
 unfolding file_len
