@@ -5,12 +5,13 @@ use Rattle.std.proofs.lemmas.List.Elements.{All-cons, All-nil}
 use Rattle.std.proofs.lemmas.List.FromFn.{get_or-map-range_with_len}
 use Rattle.abc_tables.specs.declared.code.Body.{Body}
 use Rattle.abc_tables.specs.declared.tables.Sizes.{Sizes}
-use Rattle.abc_tables.specs.Bodies.{IsReadyBody}
+use Rattle.abc_tables.specs.declared.names.Namespace.{Namespace}
+use Rattle.abc_tables.specs.Bodies.{IsReadyBody, IsWithin}
 use Rattle.abc_tables.specs.Classes.{sizes_of}
 use Rattle.abc_tables.specs.Files.{Fits}
 use Rattle.abc_tables.specs.Ready.{IsReady}
 use Rattle.abc_fits.specs.Distinct.{Differ}
-use Rattle.abc_fits.specs.Fitting.{FitBodies, FitDefinitions, FitPools, FitTraits, FitsBody, FitsMethod, FitsMultiname, FitsScript, FitsText, FitsTrait}
+use Rattle.abc_fits.specs.Fitting.{FitBodies, FitDefinitions, FitPools, FitTraits, FitsBody, FitsClass, FitsDouble, FitsInstance, FitsInt, FitsMetadata, FitsMethod, FitsMultiname, FitsNamespace, FitsNamespaceSet, FitsScript, FitsText, FitsTrait, HasNames}
 use Rattle.abc_fits.proofs.BodiesFit.{bodies_fit, body_fits}
 use Rattle.abc_fits.proofs.ClassesFit.{script_fits}
 use Rattle.abc_fits.proofs.Combined.{entry_index_fits, number_fits, pool_index_fits, position_fits, text_fits}
@@ -39,23 +40,26 @@ module _ (seed m : ℕ) (few : m ≤ 10000) where
 
   texts_all : All FitsText (texts m)
   texts_all =
-      All-cons FitsText _ _ ((text_fits (codes "trace")).1 (omega arith))
-      (All-cons FitsText _ _ ((text_fits (codes "int")).1 (omega arith))
+      All-cons FitsText (codes "trace") (codes "int" ∷ map function_name (one_to m)) ((text_fits (codes "trace")).1 (omega arith))
+      (All-cons FitsText (codes "int") (map function_name (one_to m)) ((text_fits (codes "int")).1 (omega arith))
       (all_made FitsText function_name m (λ i low high. (text_fits (function_name i)).1 (omega (arith, name_length i (omega arith))))))
 
   name_at : (i : ℕ) → 0 < i → i ≤ m + 2 → FitsMultiname sizes (public_name i)
   name_at i low high =
       (multiname_fits sizes (public_name i)).1 ((pool_index_fits _ 1).1 (omega arith, omega arith), (pool_index_fits _ i).1 (omega (arith, strings_are), omega arith))
 
+  abbrev FitsSpace : Namespace → Type 0
+  FitsSpace = FitsNamespace (length (texts m))
+
   pools_are : FitPools (generated seed m)
   pools_are = (pools_fit (generated seed m)).1 (record {
-    ints = (ints_fit []).1 (omega arith, All-nil _);
+    ints = (ints_fit []).1 (omega arith, All-nil FitsInt);
     uints = (uints_fit [] (λ i. omega arith)).1 (omega arith);
-    doubles = (doubles_fit []).1 (omega arith, All-nil _);
+    doubles = (doubles_fit []).1 (omega arith, All-nil FitsDouble);
     strings = (texts_fit (texts m)).1 (omega (arith, strings_are), texts_all);
-    namespaces = (namespaces_fit _ _).1 (omega arith, All-cons _ _ _ ((namespace_fits _ public_space).1 ((pool_index_fits _ 0).1 (omega arith, omega arith))) (All-nil _));
-    sets = (namespace_sets_fit _ []).1 (omega arith, All-nil _);
-    names = (multinames_fit sizes _ refl).1 (omega (arith, names_are), all_made _ public_name (m + 2) name_at);
+    namespaces = (namespaces_fit (length (texts m)) (public_space ∷ [])).1 (omega arith, All-cons FitsSpace public_space [] ((namespace_fits (length (texts m)) public_space).1 ((pool_index_fits (length (texts m)) 0).1 (omega arith, omega arith))) (All-nil FitsSpace));
+    sets = (namespace_sets_fit 1 []).1 (omega arith, All-nil (FitsNamespaceSet 1));
+    names = (multinames_fit sizes (map public_name (one_to (m + 2))) refl).1 (omega (arith, names_are), all_made (FitsMultiname sizes) public_name (m + 2) name_at);
   })
 
   signature_fits : (type : ℕ) (parameters : List ℕ) → type ≤ m + 2 → length parameters < 2 ^ 30 → All (λ x. x ≤ m + 2) parameters → FitsMethod sizes (signature type parameters)
@@ -82,23 +86,23 @@ module _ (seed m : ℕ) (few : m ≤ 10000) where
   script_at =
       (script_fits sizes (script_of m)).1 (
         (position_fits _ 0).1 (omega (arith, methods_are), omega arith),
-        (traits_fit sizes _).1 (omega (arith, made_length function_trait m), all_made _ function_trait m trait_at),
+        (traits_fit sizes (map function_trait (one_to m))).1 (omega (arith, made_length function_trait m), all_made (FitsTrait sizes) function_trait m trait_at),
       )
 
   definitions_are : FitDefinitions (generated seed m)
   definitions_are = (definitions_fit (generated seed m)).1 (record {
     method_count = omega (arith, methods_are);
     methods =
-        All-cons _ _ _ (signature_fits 0 [] (omega arith) (omega arith) (All-nil _))
-        (all_made _ function_signature m (λ i low high. signature_fits 2 (2 ∷ []) (omega arith) (omega arith) (All-cons _ _ _ (omega arith) (All-nil _))));
+        All-cons (FitsMethod sizes) (signature 0 []) (map function_signature (one_to m)) (signature_fits 0 [] (omega arith) (omega arith) (All-nil (λ x. x ≤ m + 2)))
+        (all_made (FitsMethod sizes) function_signature m (λ i low high. signature_fits 2 (2 ∷ []) (omega arith) (omega arith) (All-cons (λ x. x ≤ m + 2) 2 [] (omega arith) (All-nil (λ x. x ≤ m + 2)))));
     metadata_count = omega arith;
-    metadata = All-nil _;
+    metadata = All-nil (FitsMetadata sizes);
     class_count = omega arith;
     instance_count = refl;
-    instances = All-nil _;
-    classes = All-nil _;
+    instances = All-nil (FitsInstance sizes);
+    classes = All-nil (FitsClass sizes);
     script_count = omega arith;
-    scripts = All-cons _ _ _ script_at (All-nil _);
+    scripts = All-cons (FitsScript sizes) (script_of m) [] script_at (All-nil (FitsScript sizes));
   })
 
   body_at : (i locals scopes : ℕ) (b : Body) → i ≤ m → locals < 2 ^ 30 → scopes < 2 ^ 30 → b ≡ body_of i locals scopes b.code → IsReady b.code → FitsBody sizes b
@@ -111,10 +115,10 @@ module _ (seed m : ℕ) (few : m ≤ 10000) where
           init_scope = (number_fits 0).1 (omega arith);
           max_scope = (number_fits scopes).1 few_scopes;
         },
-        record { code = ready; places = All-nil _ },
+        record { code = ready; places = All-nil (IsWithin (length b.code)) },
         omega arith,
-        All-nil _,
-        (traits_fit sizes []).1 (omega arith, All-nil _),
+        All-nil (HasNames sizes),
+        (traits_fit sizes []).1 (omega arith, All-nil (FitsTrait sizes)),
       ))
 
   abbrev all_bodies : List Body
@@ -132,8 +136,8 @@ module _ (seed m : ℕ) (few : m ≤ 10000) where
   bodies_are : FitBodies (generated seed m)
   bodies_are = (bodies_fit (generated seed m)).1 (
     omega (arith, made_length (function_body seed) m),
-    All-cons _ _ _ (body_at 0 2 1 (first_body m) (omega arith) (omega arith) (omega arith) refl (first_ready m few))
-        (all_made _ (function_body seed) m (λ i low high. body_at i 3 0 (function_body seed i) high (omega arith) (omega arith) refl (drawn_ready (after seed (3 * (i - 1)))))),
+    All-cons (FitsBody sizes) (first_body m) (map (function_body seed) (one_to m)) (body_at 0 2 1 (first_body m) (omega arith) (omega arith) (omega arith) refl (first_ready m few))
+        (all_made (FitsBody sizes) (function_body seed) m (λ i low high. body_at i 3 0 (function_body seed i) high (omega arith) (omega arith) refl (drawn_ready (after seed (3 * (i - 1)))))),
     different,
   )
 
