@@ -1,3 +1,4 @@
+pub mod Past
 pub mod Formulas
 pub mod Spelling
 pub mod Writing

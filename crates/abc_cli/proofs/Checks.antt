@@ -3,10 +3,10 @@ use Rattle.std.proofs.Common.{◌≡◌, ℕ, ◌<◌, ◌≤◌, List, length, 
 use Rattle.std.proofs.lemmas.Option.{slice_get-get_or}
 use Rattle.abc_bodies.specs.Places.{ArePlaces}
 use Rattle.abc_program.specs.Linked.{IsLinkedFile, LinkedFile}
-use Rattle.abc_rules.specs.declared.error.LinkError.{LinkError}
-use Rattle.abc_rules.specs.declared.error.LinkError.TheVariants as refusals
-use Rattle.abc_rules.specs.Firsts.{IsRefusal as IsUnlinked}
-use Rattle.abc_rules.specs.Parts.{body_at, no_body}
+use Rattle.abc_items.specs.declared.error.LinkError.{LinkError}
+use Rattle.abc_items.specs.declared.error.LinkError.TheVariants as refusals
+use Rattle.abc_items.specs.Firsts.{IsRefusal as IsUnlinked}
+use Rattle.abc_items.specs.Parts.{body_at, no_body}
 use Rattle.abc_tables.specs.declared.tables.Abc.{Abc}
 use Rattle.abc_typing.specs.Routines.{Routine, routine}
 use Rattle.abc_typing.specs.Typing.{Derivable, Entry, Next, Join, Refutes, Broken, Unmerged}

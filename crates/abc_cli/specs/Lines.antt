@@ -4,9 +4,9 @@ use Rattle.abc_escape.specs.Escapes.{escaped}
 use Rattle.abc_format.specs.Part.{Refusal}
 use Rattle.abc_format.specs.Reasons.{reason_name}
 use Rattle.abc_rowparts.specs.Rows.{Fault}
-use Rattle.abc_rules.specs.declared.items.Item.{Item}
-use Rattle.abc_rules.specs.declared.items.LinkRule.{LinkRule}
-use Rattle.abc_rules.specs.Items.{kind_name, rule_name}
+use Rattle.abc_items.specs.declared.items.Item.{Item}
+use Rattle.abc_items.specs.declared.items.LinkRule.{LinkRule}
+use Rattle.abc_items.specs.Items.{kind_name, rule_name}
 use Rattle.abc_text.specs.Reasons.{reason_name as asm_reason_name}
 use Rattle.abc_tidy.specs.declared.error.TidyRule.{TidyRule}
 use Rattle.abc_tidy.specs.declared.error.TidyRule.TheVariants as tidying

@@ -16,9 +16,9 @@ use Rattle.abc_words.specs.declared.command.Command.TheVariants as commands
 use Rattle.abc_words.specs.declared.command.Usage.{Usage}
 use Rattle.abc_words.specs.declared.command.Usage.TheVariants as usages
 use Rattle.abc_words.specs.Grammar.{Says, IsUsageWord}
-use Rattle.abc_rules.specs.declared.items.Item.{Item}
-use Rattle.abc_rules.specs.declared.items.LinkRule.{LinkRule}
-use Rattle.abc_rules.specs.Rules.{IsFirstBroken}
+use Rattle.abc_items.specs.declared.items.Item.{Item}
+use Rattle.abc_items.specs.declared.items.LinkRule.{LinkRule}
+use Rattle.abc_items.specs.Rules.{IsFirstBroken}
 use Rattle.abc_tidy.specs.declared.error.TidyRule.{TidyRule}
 use Rattle.abc_tidy.specs.Rules.{IsFirstBroken as IsFirstUntidy, IsTidied}
 use Rattle.abc_program.specs.Linked.{IsLinkedFile, LinkedFile}

@@ -12,8 +12,8 @@ use Rattle.abc_file.specs.Reading.{IsUsedUp}
 use Rattle.abc_format.specs.Part.{refusal}
 use Rattle.abc_varint.specs.declared.error.ReadError.{ReadError}
 use Rattle.abc_varint.specs.declared.error.ReadError.TheVariants as errors
-use Rattle.abc_rules.specs.declared.error.LinkError.{LinkError}
-use Rattle.abc_rules.specs.declared.error.LinkError.TheVariants as refusals
+use Rattle.abc_items.specs.declared.error.LinkError.{LinkError}
+use Rattle.abc_items.specs.declared.error.LinkError.TheVariants as refusals
 use Rattle.abc_tidy.specs.declared.error.TidyError.{TidyError}
 use Rattle.abc_tidy.specs.declared.error.TidyError.TheVariants as tidying
 use Rattle.abc_verify.specs.declared.error.VerifyError.{VerifyError}

@@ -10,7 +10,7 @@ use crate::lines::{write_code, write_line, write_place};
 use crate::stop::Stop;
 use abc_base::{Failed, Sink, Status, write_all};
 use abc_format::Reason;
-use abc_rules::{Item, LinkRule};
+use abc_items::{Item, LinkRule};
 use abc_text::AsmReason;
 use abc_tidy::TidyRule;
 use abc_typing::VerifyRule;

@@ -6,7 +6,7 @@ use abc_asm::AsmError;
 use abc_base::NoMemory;
 use abc_format::Reason;
 use abc_input::InputError;
-use abc_rules::{Item, LinkError, LinkRule};
+use abc_items::{Item, LinkError, LinkRule};
 use abc_text::AsmReason;
 use abc_tidy::{TidyError, TidyRule};
 use abc_typing::VerifyRule;

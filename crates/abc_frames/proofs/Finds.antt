@@ -4,11 +4,6 @@ use Rattle.std.specs.Prelude.{slice_get}
 use Rattle.std.proofs.lemmas.List.{append-nil, map-append}
 use Rattle.std.proofs.lemmas.Option.{get_or_from_slice_get}
 
-pub past_end : {A : Type 0} (xs : List A) (i : ℕ) (d : A) → slice_get xs i ≡ None → d ≡ get_or xs i d
-past_end [] i d e = refl
-past_end (x ∷ xs) zero d e = cc
-past_end (x ∷ xs) (suc i) d e = past_end xs i d e
-
 pub found : {A : Type 0} (xs : List A) (i : ℕ) (d x : A) → Some x ≡ slice_get xs i → x ≡ get_or xs i d
 found xs i d x e = sym (get_or_from_slice_get xs i x d (sym e))
 

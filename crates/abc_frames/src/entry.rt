@@ -10,7 +10,7 @@ use abc_typing::{Stack, State};
 use std::alloc::Global;
 
 /// What a local holds as a method begins.
-#[tactic(auto, using(crate::proofs::Finds::past_end, crate::proofs::Finds::found))]
+#[tactic(auto, using(abc_base::proofs::Past::past_end, crate::proofs::Finds::found))]
 fn first_kind(filled: &Table<Kind>, place: u32) -> Kind
     ensures { result ≡ get_or filled.now place kinds.Undef }
 {

@@ -1,6 +1,6 @@
 ghost use Rattle.std.specs.Prelude.{◌≡◌, ◌++◌, IfOk, OnOk, map};
 ghost use Rattle.abc_program.specs.Owners.{owner_of};
-ghost use Rattle.abc_rules.specs.Parts.{method_at};
+ghost use Rattle.abc_items.specs.Parts.{method_at};
 ghost use Rattle.abc_typing.specs.Routines.{arrays, filled_by, object_of, or_any, takes_array as takes_array_by, this_kind, type_at};
 
 use abc_base::{HostClass, NoMemory, Table};
@@ -33,7 +33,7 @@ fn kind_of_this(linked: &Linked, owner: Owner) -> Kind
 }
 
 /// The flags of a method.
-#[tactic(auto, using(crate::proofs::Finds::past_end))]
+#[tactic(auto, using(abc_base::proofs::Past::past_end))]
 pub(crate) fn flags_of(linked: &Linked, method: u32) -> u8
     ensures { result ≡ (method_at linked.now.file method).flags }
 {
@@ -44,7 +44,7 @@ pub(crate) fn flags_of(linked: &Linked, method: u32) -> u8
 }
 
 /// The types of a method's parameters.
-#[tactic(auto, using(crate::proofs::Finds::past_end))]
+#[tactic(auto, using(abc_base::proofs::Past::past_end))]
 fn parameters_of(linked: &Linked, method: u32) -> &[u32]
     ensures { result.now ≡ (method_at linked.now.file method).params }
 {

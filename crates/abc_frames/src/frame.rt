@@ -1,6 +1,6 @@
 ghost use Rattle.std.specs.Prelude.{◌≡◌, ◌<◌, ◌-◌, IfOk, if◌then◌else◌, length};
 ghost use Rattle.abc_program.specs.Owners.{owner_of};
-ghost use Rattle.abc_rules.specs.Parts.{body_at, method_at};
+ghost use Rattle.abc_items.specs.Parts.{body_at, method_at};
 ghost use Rattle.abc_typing.specs.Routines.{has_base, home_of, is_unsupported as is_unsupported_by, routine, routine_of};
 ghost use Rattle.abc_typing.specs.declared.home.Home.TheVariants as homes;
 ghost use Rattle.abc_names.specs.Instances.{instance_at};
@@ -35,7 +35,7 @@ pub struct Frame<'a> {
 }
 
 /// The name of the base of a class; 0 is none.
-#[tactic(auto, using(crate::proofs::Finds::past_end))]
+#[tactic(auto, using(abc_base::proofs::Past::past_end))]
 fn base_name(linked: &Linked, class: u32) -> u32
     ensures { result ≡ (instance_at linked.now.file class).super_name }
 {

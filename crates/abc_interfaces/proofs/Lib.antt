@@ -1,4 +1,3 @@
-pub mod Past
 pub mod Adding
 pub mod Visiting
 pub mod Graphs

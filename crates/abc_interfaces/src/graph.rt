@@ -3,7 +3,7 @@ ghost use Rattle.std.specs.List.{flat_map};
 ghost use Rattle.abc_names.specs.Instances.{instance_at};
 ghost use Rattle.abc_names.specs.Meaning.{resolve};
 ghost use Rattle.abc_program.specs.Interfaces.{above_class as above_class_of, class_graph as class_graph_of};
-ghost use Rattle.abc_rules.specs.Bases.{classes_named, interfaces_named, is_interface as is_interface_class};
+ghost use Rattle.abc_items.specs.Bases.{classes_named, interfaces_named, is_interface as is_interface_class};
 
 use abc_base::{NoMemory, Table};
 use abc_names::{Meanings, Named};
@@ -11,7 +11,7 @@ use abc_tables::{Abc, Instance, has_flag};
 use std::alloc::Global;
 
 /// The flags of a class.
-#[tactic(auto, using(crate::proofs::Past::past_end))]
+#[tactic(auto, using(abc_base::proofs::Past::past_end))]
 fn class_flags(abc: &Abc, class: u32) -> u8
     ensures { result ≡ (instance_at abc.now class).flags }
 {

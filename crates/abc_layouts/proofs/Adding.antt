@@ -16,8 +16,8 @@ use Rattle.abc_layouts.specs.Forest.{class_bases, class_in}
 use Rattle.abc_layouts.specs.Numbering.{AddsBodies, AddsBody, AddsEach, AddsParts, HasHosts}
 use Rattle.abc_program.specs.Numbering.{IsBehind, part_at}
 use Rattle.abc_program.specs.Parts.{HasLayout, base_part, has_activation, parent}
-use Rattle.abc_rules.specs.Bases.{base_named}
-use Rattle.abc_rules.specs.Parts.{body_at}
+use Rattle.abc_items.specs.Bases.{base_named}
+use Rattle.abc_items.specs.Parts.{body_at}
 use Rattle.abc_tables.specs.declared.classes.Instance.{Instance}
 use Rattle.abc_program.specs.declared.part.Part.{Part}
 use Rattle.abc_program.specs.declared.part.Part.TheVariants as parts

@@ -2,5 +2,4 @@ pub mod Rooted
 pub mod Adding
 pub mod Hosts
 pub mod Numbered
-pub mod Past
 pub mod Finding

@@ -6,7 +6,7 @@ use Rattle.abc_base.specs.declared.names.HostClass.{HostClass}
 use Rattle.abc_graph.specs.Orders.{IsOrder}
 use Rattle.abc_names.specs.Meaning.{host_classes}
 use Rattle.abc_tables.specs.declared.tables.Abc.{Abc}
-use Rattle.abc_rules.specs.Parts.{body_at}
+use Rattle.abc_items.specs.Parts.{body_at}
 use Rattle.abc_names.specs.declared.named.Named.{Named}
 use Rattle.abc_names.specs.Meaning.{resolve}
 use Rattle.abc_tables.specs.declared.classes.Instance.{Instance}

@@ -12,11 +12,11 @@ use Rattle.abc_names.specs.declared.named.Named.{Named}
 use Rattle.abc_names.specs.declared.named.Named.TheVariants as named
 use Rattle.abc_tables.specs.declared.classes.Instance.{Instance}
 use Rattle.abc_tables.specs.declared.tables.Abc.{Abc}
-use Rattle.abc_rules.specs.Bases.{base_graph, classes_named}
-use Rattle.abc_rules.specs.Rules.{AllHold}
-use Rattle.abc_rules.specs.declared.items.Item.{Item}
-use Rattle.abc_rules.specs.declared.items.ItemKind.TheVariants as kinds
-use Rattle.abc_rules.specs.declared.items.LinkRule.TheVariants as rules
+use Rattle.abc_items.specs.Bases.{base_graph, classes_named}
+use Rattle.abc_items.specs.Rules.{AllHold}
+use Rattle.abc_items.specs.declared.items.Item.{Item}
+use Rattle.abc_items.specs.declared.items.ItemKind.TheVariants as kinds
+use Rattle.abc_items.specs.declared.items.LinkRule.TheVariants as rules
 use Rattle.abc_rules.proofs.Within.{resolve_within}
 use Rattle.abc_layouts.specs.Forest.{class_bases, class_in}
 

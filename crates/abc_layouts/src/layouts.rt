@@ -7,8 +7,8 @@ ghost use Rattle.abc_program.specs.Parts.{HasLayout, base_part as base_part_of, 
 ghost use Rattle.abc_program.specs.Places.{base_of, place_of};
 ghost use Rattle.abc_program.specs.declared.part.Part.{Part as AnyPart};
 ghost use Rattle.abc_names.specs.Instances.{instance_at};
-ghost use Rattle.abc_rules.specs.Bases.{base_named};
-ghost use Rattle.abc_rules.specs.Rules.{AllHold};
+ghost use Rattle.abc_items.specs.Bases.{base_named};
+ghost use Rattle.abc_items.specs.Rules.{AllHold};
 
 use crate::key::places_of;
 use crate::numbering::number_parts;
@@ -52,7 +52,7 @@ fn base_part(named: Option<Named>) -> Part
 }
 
 /// The name of a class's base; 0 is none.
-#[tactic(auto, using(crate::proofs::Past::past_end))]
+#[tactic(auto, using(abc_base::proofs::Past::past_end))]
 fn super_name(abc: &Abc, class: u32) -> u32
     ensures { result ≡ (instance_at abc.now class).super_name }
 {

@@ -4,8 +4,8 @@ ghost use Rattle.abc_layouts.specs.Forest.{class_bases};
 ghost use Rattle.abc_layouts.specs.Numbering.{AddsBodies, AddsBody, AddsEach, AddsParts};
 ghost use Rattle.abc_program.specs.Numbering.{IsNumbering};
 ghost use Rattle.abc_program.specs.Parts.{has_activation as activates};
-ghost use Rattle.abc_rules.specs.Parts.{body_at, method_at};
-ghost use Rattle.abc_rules.specs.Rules.{AllHold};
+ghost use Rattle.abc_items.specs.Parts.{body_at, method_at};
+ghost use Rattle.abc_items.specs.Rules.{AllHold};
 
 use crate::forest::class_order;
 use abc_base::{HostClass, NoMemory, Table};
@@ -91,7 +91,7 @@ fn push_catches(abc: &Abc, parts: &mut Table<Part>, body: u32, count: u32) -> Re
 }
 
 /// The flags of the method of a body.
-#[tactic(auto, using(crate::proofs::Past::past_end))]
+#[tactic(auto, using(abc_base::proofs::Past::past_end))]
 fn body_method(abc: &Abc, body: u32) -> u32
     ensures { result ≡ (body_at abc.now body).method }
 {
@@ -102,7 +102,7 @@ fn body_method(abc: &Abc, body: u32) -> u32
 }
 
 /// How many exceptions a body has.
-#[tactic(auto, using(crate::proofs::Past::past_end))]
+#[tactic(auto, using(abc_base::proofs::Past::past_end))]
 fn handler_count(abc: &Abc, body: u32) -> usize
     ensures { result ≡ length (body_at abc.now body).handlers }
 {
@@ -113,7 +113,7 @@ fn handler_count(abc: &Abc, body: u32) -> usize
 }
 
 /// The flags of a method.
-#[tactic(auto, using(crate::proofs::Past::past_end))]
+#[tactic(auto, using(abc_base::proofs::Past::past_end))]
 fn method_flags(abc: &Abc, method: u32) -> u8
     ensures { result ≡ (method_at abc.now method).flags }
 {

@@ -4,8 +4,8 @@ use Rattle.abc_link.specs.declared.linked.Linked.TheInside.{Inside}
 use Rattle.abc_names.specs.Meanings.{AreMeanings}
 use Rattle.abc_names.specs.Numbers.{AreNames}
 use Rattle.abc_program.specs.Linked.{LinkedFile}
-use Rattle.abc_rules.specs.Firsts.{IsFew}
-use Rattle.abc_rules.specs.Rules.{AllHold}
+use Rattle.abc_items.specs.Firsts.{IsFew}
+use Rattle.abc_items.specs.Rules.{AllHold}
 use Rattle.abc_slots.specs.Files.{linked}
 use Rattle.abc_tables.specs.Files.{Fits}
 

@@ -5,7 +5,8 @@
 mod linked;
 mod linking;
 
+pub use abc_items::{Item, ItemKind, LinkError, LinkRule};
 pub use abc_program::{Kind, LayoutId, Owner, Part, SlotInfo, Ty};
-pub use abc_rules::{Item, ItemKind, LinkError, LinkRule, Start};
+pub use abc_starts::Start;
 pub use linked::{Linked, kind_of_type};
 pub use linking::link;

@@ -71,7 +71,7 @@ pub fn find_on(l: &Linked, a: &Arena, holder: Value, name: &Name, want: Want) ->
 }
 
 /// Whether a script is told as started.
-#[tactic(auto, using(crate::proofs::Past::past_end))]
+#[tactic(auto, using(abc_base::proofs::Past::past_end))]
 fn is_started(started: &Table<bool>, script: u32) -> bool
     ensures { result ≡ get_or started.now script false }
 {

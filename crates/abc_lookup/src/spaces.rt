@@ -10,7 +10,7 @@ use abc_search::{Spaces, TraitSpace};
 use abc_tables::Abc;
 
 /// A set of namespaces of the pool, by its index; 0 is none.
-#[tactic(auto, using(crate::proofs::Past::past_end))]
+#[tactic(auto, using(abc_base::proofs::Past::past_end))]
 fn set_at(abc: &Abc, index: u32) -> &[u32]
     ensures { result.now ≡ set abc.now index }
 {
@@ -91,7 +91,7 @@ fn above_zero(space: Option<u32>) -> Option<u32>
 }
 
 /// The protected namespace of a class of the file, as the file has it.
-#[tactic(auto, using(crate::proofs::Past::past_end))]
+#[tactic(auto, using(abc_base::proofs::Past::past_end))]
 fn protected_ns(abc: &Abc, class: u32) -> Option<u32>
     ensures { result ≡ (instance_at abc.now class).protected_ns }
 {

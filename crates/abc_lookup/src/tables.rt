@@ -3,7 +3,7 @@ ghost use Rattle.abc_lookup.specs.Slots.{has_slot as does_have_slot, listed, slo
 ghost use Rattle.abc_program.specs.Linked.{IsLayout, base};
 ghost use Rattle.abc_program.specs.Slots.{handler_at};
 ghost use Rattle.abc_program.specs.Traits.{own_table_of};
-ghost use Rattle.abc_rules.specs.Parts.{body_at};
+ghost use Rattle.abc_items.specs.Parts.{body_at};
 ghost use Rattle.abc_search.specs.Traits.{members_in, slots_under as slots_below};
 
 use abc_link::{LayoutId, Linked};
@@ -11,7 +11,7 @@ use abc_search::Member;
 use abc_slots::traits_of;
 use abc_tables::{Abc, Handler, TraitBody, TraitInfo};
 
-#[tactic(auto, using(crate::proofs::Past::past_end))]
+#[tactic(auto, using(abc_base::proofs::Past::past_end))]
 fn handlers(abc: &Abc, body: u32) -> &[Handler]
     ensures { result.now ≡ (body_at abc.now body).handlers }
 {
@@ -22,7 +22,7 @@ fn handlers(abc: &Abc, body: u32) -> &[Handler]
 }
 
 /// The name of a caught value, by its index; 0 is none.
-#[tactic(auto, using(crate::proofs::Past::past_end))]
+#[tactic(auto, using(abc_base::proofs::Past::past_end))]
 pub(crate) fn caught_name(abc: &Abc, body: u32, exception: u32) -> u32
     ensures { result ≡ (handler_at abc.now body exception).var_name }
 {

@@ -1,11 +1,6 @@
 -- What stands at a place of a list.
 use Rattle.std.proofs.Common.{◌≡◌, ℕ, zero, suc, ◌<◌, List, [], ◌∷◌, Some, None, length, get_or, slice_get, refl, ap, arith}
 
-pub past_end : {A : Type 0} (xs : List A) (i : ℕ) (d : A) → slice_get xs i ≡ None → d ≡ get_or xs i d
-past_end [] i d e = refl
-past_end (x ∷ xs) zero d e = cc
-past_end (x ∷ xs) (suc i) d e = past_end xs i d e
-
 -- what is read at a place with itself as default stands there
 pub there : {X : Type 0} (xs : List X) (i : ℕ) (x : X) → i < length xs → get_or xs i x ≡ x → slice_get xs i ≡ Some x
 there [] i x h e = absurd (omega arith)

@@ -35,7 +35,7 @@ pub(crate) fn numbers_of(
 }
 
 /// The number of the text of a string.
-#[tactic(auto, using(crate::proofs::Reading::past_end))]
+#[tactic(auto, using(abc_base::proofs::Past::past_end))]
 fn number_at(numbers: &Table<u32>, string: u32) -> u32
     ensures { result ≡ get_or numbers.now string 0 }
 {

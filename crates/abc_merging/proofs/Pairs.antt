@@ -8,11 +8,6 @@ use Rattle.abc_typing.specs.declared.state.Scope.{Scope}
 use Rattle.abc_typing.specs.declared.state.State.{State}
 use Rattle.abc_typing.proofs.Lists.{Each2-length}
 
-pub past_end : {X : Type 0} (xs : List X) (k : ℕ) (d : X) → slice_get xs k ≡ None → d ≡ get_or xs k d
-past_end [] k d e = refl
-past_end (x ∷ xs) zero d e = cc
-past_end (x ∷ xs) (suc k) d e = past_end xs k d e
-
 pub found : {X : Type 0} (xs : List X) (k : ℕ) (d x : X) → Some x ≡ slice_get xs k → x ≡ get_or xs k d
 found xs k d x e = sym (get_or_from_slice_get xs k x d (sym e))
 

@@ -14,7 +14,7 @@ pub(crate) const NO_SCOPE: Scope = Scope {
 };
 
 /// The value at a place, or another where the list ends before it.
-#[tactic(auto, using(crate::proofs::Pairs::past_end, crate::proofs::Pairs::found))]
+#[tactic(auto, using(abc_base::proofs::Past::past_end, crate::proofs::Pairs::found))]
 pub(crate) fn at_or<T: Copy + Drop>(items: &Table<T>, place: usize, other: T) -> T
     ensures { result ≡ get_or items.now place other }
 {

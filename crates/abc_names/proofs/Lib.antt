@@ -1,4 +1,3 @@
-pub mod Past
 pub mod Numbering
 pub mod InGroups
 pub mod Meant

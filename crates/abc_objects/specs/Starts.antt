@@ -11,8 +11,8 @@ use Rattle.abc_objects.specs.Values.{IsSpace}
 use Rattle.abc_program.specs.Linked.{LinkedFile}
 use Rattle.abc_program.specs.Slots.{slots_of}
 use Rattle.abc_program.specs.declared.types.SlotInfo.{SlotInfo}
-use Rattle.abc_rules.specs.declared.start.Start.{Start}
-use Rattle.abc_rules.specs.declared.start.Start.TheVariants as starts
+use Rattle.abc_starts.specs.declared.start.Start.{Start}
+use Rattle.abc_starts.specs.declared.start.Start.TheVariants as starts
 
 -- a string of the pool; that of index 0 is the fixed empty text
 abbrev pub string_span : List (List ℕ) → ℕ → Span

@@ -12,7 +12,7 @@ use Rattle.abc_program.specs.Slots.{slots_of}
 use Rattle.abc_program.specs.Tree.{IsBelow}
 use Rattle.abc_program.specs.Types.{kind_of_type}
 use Rattle.abc_program.specs.declared.types.Ty.TheVariants as types
-use Rattle.abc_rules.specs.declared.start.Start.TheVariants as starts
+use Rattle.abc_starts.specs.declared.start.Start.TheVariants as starts
 use Rattle.abc_program.specs.declared.types.Kind.{Kind}
 use Rattle.abc_program.specs.declared.types.Kind.TheVariants as kinds
 

@@ -7,15 +7,10 @@ use Rattle.abc_index.specs.Index.{Finds, Map, first, first_from}
 use Rattle.abc_program.specs.Owners.{body_of, namings, owner_at, owner_of}
 use Rattle.abc_program.specs.declared.types.Naming.{Naming}
 use Rattle.abc_program.specs.declared.types.Owner.{Owner}
-use Rattle.abc_rules.specs.Methods.{methods_with_bodies}
+use Rattle.abc_items.specs.Methods.{methods_with_bodies}
 use Rattle.abc_tables.specs.declared.tables.Abc.{Abc}
 use Rattle.abc_owners.specs.Owning.{AreOwners}
 use Rattle.abc_owners.specs.declared.owners.Owners.{Owners}
-
-pub past_end : {A : Type 0} (xs : List A) (i : ℕ) (d : A) → slice_get xs i ≡ None → d ≡ get_or xs i d
-past_end [] i d e = refl
-past_end (x ∷ xs) zero d e = cc
-past_end (x ∷ xs) (suc i) d e = past_end xs i d e
 
 pub finds_in : (m : Map ℕ) (given keys : List ℕ) → given ≡ keys → Finds nat_eq m given → Finds nat_eq m keys
 finds_in m given keys e f = subst (λ (ks : List ℕ). Finds nat_eq m ks) e f

@@ -1,7 +1,7 @@
 ghost use Rattle.std.specs.Prelude.{◌≡◌, ◌<◌, ◌^◌, length, map, nat_eq, IfOk};
 ghost use Rattle.abc_index.specs.Index.{Finds, first};
 ghost use Rattle.abc_program.specs.Owners.{body_of, owner_at as owner_at_of, owner_of};
-ghost use Rattle.abc_rules.specs.Methods.{methods_with_bodies as all_with_bodies};
+ghost use Rattle.abc_items.specs.Methods.{methods_with_bodies as all_with_bodies};
 ghost use Rattle.abc_owners.specs.Owning.{AreOwners};
 
 use crate::namings::namings;
@@ -73,7 +73,7 @@ fn bodies_of(alloc: Global, abc: &Abc) -> Result<IndexMap<u32, u32>, NoMemory>
 }
 
 /// What a place of a list names as the owner, if there is one.
-#[tactic(auto, using(crate::proofs::Found::past_end))]
+#[tactic(auto, using(abc_base::proofs::Past::past_end))]
 fn owner_at(list: &Table<Naming>, place: Option<u32>) -> Owner
     ensures { result ≡ owner_at_of list.now place }
 {

@@ -3,7 +3,7 @@
 use Rattle.std.specs.Prelude.{ℕ, List, [], ◌++◌, IsTrue, if◌then◌else◌, map}
 use Rattle.abc_graph.specs.Graph.{Leads}
 use Rattle.abc_names.specs.Meaning.{resolve}
-use Rattle.abc_rules.specs.Bases.{classes_named, interfaces_of, is_interface}
+use Rattle.abc_items.specs.Bases.{classes_named, interfaces_of, is_interface}
 use Rattle.abc_tables.specs.Methods.{has_flag}
 use Rattle.abc_tables.specs.declared.classes.Instance.{Instance}
 use Rattle.abc_tables.specs.declared.tables.Abc.{Abc}

@@ -7,8 +7,8 @@ use Rattle.abc_names.specs.declared.named.Named.{Named}
 use Rattle.abc_names.specs.declared.named.Named.TheVariants as named
 use Rattle.abc_tables.specs.Methods.{has_flag}
 use Rattle.abc_tables.specs.declared.tables.Abc.{Abc}
-use Rattle.abc_rules.specs.Bases.{base_named}
-use Rattle.abc_rules.specs.Parts.{body_at, method_at}
+use Rattle.abc_items.specs.Bases.{base_named}
+use Rattle.abc_items.specs.Parts.{body_at, method_at}
 use Rattle.abc_program.specs.declared.part.Part.{Part}
 use Rattle.abc_program.specs.declared.part.Part.TheVariants as parts
 

@@ -10,10 +10,10 @@ use Rattle.abc_program.specs.declared.part.Part.{Part}
 use Rattle.abc_program.specs.declared.part.Part.TheVariants as parts
 use Rattle.abc_names.specs.Instances.{instance_at}
 use Rattle.abc_names.specs.Meaning.{type_named}
-use Rattle.abc_rules.specs.Parts.{body_at, class_at, script_at}
-use Rattle.abc_rules.specs.Starts.{default_of, start_of}
-use Rattle.abc_rules.specs.Traits.{type_or_any}
-use Rattle.abc_rules.specs.declared.start.Start.TheVariants as starts
+use Rattle.abc_items.specs.Parts.{body_at, class_at, script_at}
+use Rattle.abc_starts.specs.Starts.{default_of, start_of}
+use Rattle.abc_items.specs.Traits.{type_or_any}
+use Rattle.abc_starts.specs.declared.start.Start.TheVariants as starts
 use Rattle.abc_tables.specs.declared.code.Handler.{Handler}
 use Rattle.abc_tables.specs.declared.tables.Abc.{Abc}
 use Rattle.abc_tables.specs.declared.traits.TraitBody.{TraitBody}

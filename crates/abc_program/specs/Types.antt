@@ -8,7 +8,7 @@ use Rattle.abc_program.specs.declared.part.Part.TheVariants as parts
 use Rattle.abc_names.specs.Meaning.{type_named}
 use Rattle.abc_names.specs.declared.named.Named.{Named}
 use Rattle.abc_names.specs.declared.named.Named.TheVariants as named
-use Rattle.abc_rules.specs.Bases.{is_interface}
+use Rattle.abc_items.specs.Bases.{is_interface}
 use Rattle.abc_program.specs.declared.types.Kind.{Kind}
 use Rattle.abc_program.specs.declared.types.Kind.TheVariants as kinds
 use Rattle.abc_program.specs.declared.types.Ty.{Ty}

@@ -4,7 +4,7 @@ use Rattle.std.proofs.Math.ListN.{set, length-set}
 use Rattle.std.proofs.lemmas.Bool.{cases_eq}
 use Rattle.std.proofs.lemmas.List.{get_or-replicate, length-replicate, take_all, length-take}
 use Rattle.std.proofs.lemmas.List.Sums.{count_by_more_no, count_by_more_yes, count_by-le-length}
-use Rattle.abc_rules.specs.Methods.{times_named}
+use Rattle.abc_items.specs.Methods.{times_named}
 use Rattle.abc_rules.specs.Times.{AreTimes}
 
 differ : (m n : ℕ) → (m ≡ n → ⊥) → nat_eq m n ≡ false

@@ -5,16 +5,16 @@ use Rattle.std.proofs.lemmas.Bool.{cases_lt, false≢true}
 use Rattle.std.proofs.lemmas.List.{length-map}
 use Rattle.abc_graph.specs.Graph.{Returns, IsFirstReturn}
 use Rattle.abc_tables.specs.declared.tables.Abc.{Abc}
-use Rattle.abc_rules.specs.declared.items.LinkRule.TheVariants as rules
-use Rattle.abc_rules.specs.declared.items.ItemKind.{ItemKind}
-use Rattle.abc_rules.specs.declared.items.ItemKind.TheVariants as kinds
-use Rattle.abc_rules.specs.declared.items.Item.{Item}
-use Rattle.abc_rules.specs.Items.{IsItem, StandsBefore, count_of, kind_number}
-use Rattle.abc_rules.specs.Bases.{base_graph, interface_graph}
-use Rattle.abc_rules.specs.Rules.{Breaks, AllHoldBefore, IsFirstBroken, is_class}
-use Rattle.abc_rules.specs.Firsts.{item}
+use Rattle.abc_items.specs.declared.items.LinkRule.TheVariants as rules
+use Rattle.abc_items.specs.declared.items.ItemKind.{ItemKind}
+use Rattle.abc_items.specs.declared.items.ItemKind.TheVariants as kinds
+use Rattle.abc_items.specs.declared.items.Item.{Item}
+use Rattle.abc_items.specs.Items.{IsItem, StandsBefore, count_of, kind_number}
+use Rattle.abc_items.specs.Bases.{base_graph, interface_graph}
+use Rattle.abc_items.specs.Rules.{Breaks, AllHoldBefore, IsFirstBroken, is_class}
+use Rattle.abc_items.specs.Firsts.{item}
 use Rattle.abc_rules.specs.Cycles.{earlier}
-use Rattle.abc_rules.proofs.Order.{one_more}
+use Rattle.abc_items.proofs.Order.{one_more}
 
 -- the first class that returns over one graph or the other
 abbrev pub IsFirstOfTwo : List (List ℕ) → List (List ℕ) → Option ℕ → Type 0

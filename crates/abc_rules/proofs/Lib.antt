@@ -1,5 +1,3 @@
-pub mod Past
-pub mod Order
 pub mod Pairs
 pub mod SlotRepeats
 pub mod SidedRepeats

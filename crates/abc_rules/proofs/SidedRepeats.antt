@@ -19,7 +19,7 @@ use Rattle.abc_tables.specs.declared.traits.TraitInfo.{TraitInfo}
 use Rattle.abc_rules.specs.declared.same_name.SidedKey.{SidedKey}
 use Rattle.abc_rules.specs.Clashes.{is_clash_of}
 use Rattle.abc_rules.specs.Repeats.{side_of, opposite, sided_key, sided_eq, keys_clash, no_key, no_sided, clashes_with, is_elsewhere, clashes_at}
-use Rattle.abc_rules.specs.Traits.{any_pair, are_accessors, names_clash}
+use Rattle.abc_items.specs.Traits.{any_pair, are_accessors, names_clash}
 use Rattle.abc_rules.proofs.Pairs.{first_found, first_hit, first_low, pair_found, pair_makes, pair_map}
 
 both : (a b : Bool) → (a && b) ≡ true → (a ≡ true) × (b ≡ true)

@@ -19,7 +19,7 @@ use Rattle.abc_names.specs.declared.named.PlainName.{PlainName}
 use Rattle.abc_tables.specs.declared.classes.Instance.{Instance}
 use Rattle.abc_tables.specs.declared.tables.Abc.{Abc}
 use Rattle.abc_tables.specs.Methods.{has_flag}
-use Rattle.abc_rules.specs.Bases.{base_graph, classes_named, interface_graph, interfaces_named, interfaces_of, is_interface, targets_of}
+use Rattle.abc_items.specs.Bases.{base_graph, classes_named, interface_graph, interfaces_named, interfaces_of, is_interface, targets_of}
 use Rattle.abc_rules.proofs.Pairs.{first_hit}
 
 -- the host has no class of the file

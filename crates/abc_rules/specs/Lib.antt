@@ -1,11 +1,3 @@
-pub mod Items
-pub mod Parts
-pub mod Starts
-pub mod Traits
-pub mod Methods
-pub mod Bases
-pub mod Rules
-pub mod Firsts
 pub mod Repeats
 pub mod Clashes
 pub mod Times

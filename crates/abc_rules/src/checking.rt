@@ -1,22 +1,21 @@
 ghost use Rattle.std.specs.Prelude.{◌≡◌, ◌<◌, ◌^◌, length, IsTrue, MatchResult};
 ghost use Rattle.abc_names.specs.Meanings.{AreMeanings};
 ghost use Rattle.abc_names.specs.Numbers.{AreNames};
-ghost use Rattle.abc_rules.specs.Rules.{AllHold, AllHoldBefore};
-ghost use Rattle.abc_rules.specs.Firsts.{IsFew, IsRefusal};
+ghost use Rattle.abc_items.specs.Rules.{AllHold, AllHoldBefore};
+ghost use Rattle.abc_items.specs.Firsts.{IsFew, IsRefusal};
 
 use crate::bases::{BaseIsInterface, FinalBase, UnknownBase, UnknownInterface};
 use crate::cycles::check_cycles;
-use crate::error::LinkError;
 use crate::graphs::{base_graph, interface_graph};
 use crate::methods::{methods_named, methods_run, methods_with_bodies};
 use crate::name_kind::NameKind;
 use crate::owners::{NoBody, OwnedTwice};
-use crate::rule::check;
 use crate::same_name::SameName;
 use crate::same_slot::SameSlot;
 use crate::simple::{NoScript, TooLarge, TraitNotRun, UnknownType};
 use crate::times::times_of;
 use abc_base::Table;
+use abc_items::{LinkError, check};
 use abc_names::{Meanings, NameTables, Named, Names};
 use abc_tables::Abc;
 use std::alloc::Global;
@@ -32,7 +31,7 @@ fn are_few(abc: &Abc) -> bool
 }
 
 /// Tries the rules from NoScript to UnknownBase.
-#[tactic(auto, using(crate::proofs::Order::none_before))]
+#[tactic(auto, using(abc_items::proofs::Order::none_before))]
 fn check_names(alloc: Global, meanings: &Meanings<'_>) -> Result<(), LinkError>
     requires { IsFew meanings.now.abc.now }
     ensures { MatchResult result (λ _. AllHoldBefore meanings.now.abc.now 4) (IsRefusal meanings.now.abc.now) }

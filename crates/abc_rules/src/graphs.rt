@@ -1,7 +1,7 @@
 ghost use Rattle.std.specs.Prelude.{◌≡◌, ◌++◌, IfOk, OnOk};
 ghost use Rattle.std.specs.List.{flat_map};
 ghost use Rattle.abc_names.specs.Meaning.{resolve};
-ghost use Rattle.abc_rules.specs.Bases.{base_graph as base_graph_of, classes_named as classes_of, interface_graph as interface_graph_of, interfaces_named as interfaces_in, targets_of as targets_in};
+ghost use Rattle.abc_items.specs.Bases.{base_graph as base_graph_of, classes_named as classes_of, interface_graph as interface_graph_of, interfaces_named as interfaces_in, targets_of as targets_in};
 
 use crate::bases::is_interface;
 use abc_base::{NoMemory, Table};

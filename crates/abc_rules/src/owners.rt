@@ -1,11 +1,10 @@
 ghost use Rattle.std.specs.Prelude.{◌≡◌, ◌<◌, length};
-ghost use Rattle.abc_rules.specs.Methods.{breaks_no_body, breaks_owned_twice, methods_named as named_in, methods_run as run_in, methods_with_bodies as bodies_in};
+ghost use Rattle.abc_items.specs.Methods.{breaks_no_body, breaks_owned_twice, methods_named as named_in, methods_run as run_in, methods_with_bodies as bodies_in};
 ghost use Rattle.abc_rules.specs.Times.{AreTimes};
-ghost use Rattle.abc_rules.specs.declared.items.LinkRule.TheVariants as rules;
+ghost use Rattle.abc_items.specs.declared.items.LinkRule.TheVariants as rules;
 
-use crate::items::{Item, ItemKind, LinkRule};
-use crate::rule::Rule;
 use abc_base::NoMemory;
+use abc_items::{Item, ItemKind, LinkRule, Rule};
 use abc_tables::Abc;
 use std::alloc::Global;
 

@@ -2,14 +2,12 @@ ghost use Rattle.std.specs.Prelude.{◌≡◌, ◌<◌, ◌^◌, length, map, na
 ghost use Rattle.std.specs.Option.{option_copied};
 ghost use Rattle.indexmap.specs.IndexMap.{get};
 ghost use Rattle.abc_rules.specs.Repeats.{is_repeat as repeats_at};
-ghost use Rattle.abc_rules.specs.Traits.{any_pair, any_table, slot_id as id_of, slots_clash};
-ghost use Rattle.abc_rules.specs.declared.items.LinkRule.TheVariants as rules;
+ghost use Rattle.abc_items.specs.Traits.{any_pair, any_table, slot_id as id_of, slots_clash};
+ghost use Rattle.abc_items.specs.declared.items.LinkRule.TheVariants as rules;
 
-use crate::items::{Item, LinkRule};
-use crate::parts::{instance_table, own_table};
-use crate::rule::Rule;
 use abc_base::NoMemory;
 use abc_index::index_of;
+use abc_items::{Item, LinkRule, Rule, instance_table, own_table};
 use abc_tables::{Abc, TraitBody, TraitInfo};
 use indexmap::IndexMap;
 use std::alloc::Global;

@@ -1,5 +1,5 @@
 ghost use Rattle.std.specs.Prelude.{◌≡◌, ◌<◌, ◌+◌, ◌^◌, [], length, replicate, set, slice_index, IfOk, take};
-ghost use Rattle.abc_rules.specs.Methods.{times_named};
+ghost use Rattle.abc_items.specs.Methods.{times_named};
 ghost use Rattle.abc_rules.specs.Times.{AreTimes};
 
 use abc_base::NoMemory;

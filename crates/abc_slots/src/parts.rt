@@ -1,14 +1,14 @@
 ghost use Rattle.std.specs.Prelude.{◌≡◌};
 ghost use Rattle.abc_names.specs.Instances.{instance_at};
 ghost use Rattle.abc_program.specs.Slots.{handler_at, traits_of as traits_in};
-ghost use Rattle.abc_rules.specs.Bases.{is_interface as is_interface_class};
-ghost use Rattle.abc_rules.specs.Parts.{body_at, class_at, script_at};
+ghost use Rattle.abc_items.specs.Bases.{is_interface as is_interface_class};
+ghost use Rattle.abc_items.specs.Parts.{body_at, class_at, script_at};
 
 use abc_program::Part;
 use abc_tables::{Abc, Handler, TraitInfo, has_flag};
 
 /// The flags of a class.
-#[tactic(auto, using(crate::proofs::Past::past_end))]
+#[tactic(auto, using(abc_base::proofs::Past::past_end))]
 fn class_flags(abc: &Abc, class: u32) -> u8
     ensures { result ≡ (instance_at abc.now class).flags }
 {
@@ -25,7 +25,7 @@ pub(crate) fn is_interface(abc: &Abc, class: u32) -> bool
     has_flag(class_flags(abc, class), 0x04)
 }
 
-#[tactic(auto, using(crate::proofs::Past::past_end))]
+#[tactic(auto, using(abc_base::proofs::Past::past_end))]
 fn instance_traits(abc: &Abc, class: u32) -> &[TraitInfo]
     ensures { result.now ≡ (instance_at abc.now class).traits }
 {
@@ -35,7 +35,7 @@ fn instance_traits(abc: &Abc, class: u32) -> &[TraitInfo]
     }
 }
 
-#[tactic(auto, using(crate::proofs::Past::past_end))]
+#[tactic(auto, using(abc_base::proofs::Past::past_end))]
 fn class_traits(abc: &Abc, class: u32) -> &[TraitInfo]
     ensures { result.now ≡ (class_at abc.now class).traits }
 {
@@ -45,7 +45,7 @@ fn class_traits(abc: &Abc, class: u32) -> &[TraitInfo]
     }
 }
 
-#[tactic(auto, using(crate::proofs::Past::past_end))]
+#[tactic(auto, using(abc_base::proofs::Past::past_end))]
 fn script_traits(abc: &Abc, script: u32) -> &[TraitInfo]
     ensures { result.now ≡ (script_at abc.now script).traits }
 {
@@ -55,7 +55,7 @@ fn script_traits(abc: &Abc, script: u32) -> &[TraitInfo]
     }
 }
 
-#[tactic(auto, using(crate::proofs::Past::past_end))]
+#[tactic(auto, using(abc_base::proofs::Past::past_end))]
 fn body_traits(abc: &Abc, body: u32) -> &[TraitInfo]
     ensures { result.now ≡ (body_at abc.now body).traits }
 {
@@ -78,7 +78,7 @@ pub fn traits_of(abc: &Abc, part: Part) -> &[TraitInfo]
     }
 }
 
-#[tactic(auto, using(crate::proofs::Past::past_end))]
+#[tactic(auto, using(abc_base::proofs::Past::past_end))]
 fn handlers(abc: &Abc, body: u32) -> &[Handler]
     ensures { result.now ≡ (body_at abc.now body).handlers }
 {
@@ -89,7 +89,7 @@ fn handlers(abc: &Abc, body: u32) -> &[Handler]
 }
 
 /// The type of an exception, as the name of it.
-#[tactic(auto, using(crate::proofs::Past::past_end))]
+#[tactic(auto, using(abc_base::proofs::Past::past_end))]
 pub(crate) fn exception_type(abc: &Abc, body: u32, exception: u32) -> u32
     ensures { result ≡ (handler_at abc.now body exception).exc_type }
 {

@@ -6,8 +6,8 @@ ghost use Rattle.abc_names.specs.Meaning.{type_named};
 ghost use Rattle.abc_program.specs.Numbering.{part_at};
 ghost use Rattle.abc_program.specs.Slots.{numbers_in, own_numbers as own_numbers_of, own_slots as own_slots_of, slots_in};
 ghost use Rattle.abc_program.specs.Types.{type_in as type_of_named};
-ghost use Rattle.abc_rules.specs.Starts.{default_of, start_of as starts_at};
-ghost use Rattle.abc_rules.specs.Traits.{type_or_any};
+ghost use Rattle.abc_starts.specs.Starts.{default_of, start_of as starts_at};
+ghost use Rattle.abc_items.specs.Traits.{type_or_any};
 ghost use Rattle.abc_slots.specs.Files.{linked};
 ghost use Rattle.abc_slots.specs.Tables.{HasSlots};
 
@@ -18,7 +18,7 @@ use abc_heirs::Heirs;
 use abc_layouts::Layouts;
 use abc_names::{Meanings, Named};
 use abc_program::{LayoutId, Part, SlotInfo, Ty};
-use abc_rules::{Start, start_of};
+use abc_starts::{Start, start_of};
 use abc_tables::{Abc, OptionValue, TraitBody, TraitInfo};
 use std::alloc::Global;
 

@@ -7,7 +7,7 @@ use Rattle.abc_tables.specs.declared.code.Handler.{Handler}
 use Rattle.abc_tables.specs.declared.code.Instr.{Instr}
 use Rattle.abc_tables.specs.declared.code.Body.{Body}
 use Rattle.abc_tables.specs.declared.methods.Method.{Method}
-use Rattle.abc_rules.specs.Parts.{body_at, method_at}
+use Rattle.abc_items.specs.Parts.{body_at, method_at}
 use Rattle.abc_program.specs.Linked.{LinkedFile, layout_of}
 use Rattle.abc_program.specs.Owners.{owner_of}
 use Rattle.abc_program.specs.Types.{kind_of_type, type_of}

@@ -9,8 +9,8 @@ use Rattle.abc_flow.specs.declared.step.Refusal.{Refusal}
 use Rattle.abc_flow.specs.declared.step.Refusal.TheVariants as flows
 use Rattle.abc_program.specs.Linked.{IsLinkedFile, LinkedFile}
 use Rattle.abc_program.specs.Owners.{body_of}
-use Rattle.abc_rules.specs.Methods.{methods_with_bodies}
-use Rattle.abc_rules.specs.Parts.{body_at, no_body}
+use Rattle.abc_items.specs.Methods.{methods_with_bodies}
+use Rattle.abc_items.specs.Parts.{body_at, no_body}
 use Rattle.abc_rules.proofs.Pairs.{first_found, first_hit}
 use Rattle.abc_tables.specs.Classes.{sizes_of}
 use Rattle.abc_tables.specs.Files.{Fits}

@@ -1,5 +1,5 @@
 use Rattle.abc_program.specs.Owners.{owner_of}
-use Rattle.abc_rules.specs.Parts.{method_at}
+use Rattle.abc_items.specs.Parts.{method_at}
 use Rattle.abc_frames.proofs.Starts.{filled_all}
 use Rattle.abc_frames.proofs.filled.filled_of.Goals as goal
 

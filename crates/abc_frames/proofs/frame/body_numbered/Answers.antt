@@ -1,5 +1,5 @@
 use Rattle.std.proofs.Common.{◌≡◌, ◌<◌, ◌∙◌, ap, length, subst, sym}
-use Rattle.abc_rules.specs.Parts.{body_at, no_body}
+use Rattle.abc_items.specs.Parts.{body_at, no_body}
 use Rattle.abc_tables.specs.declared.tables.Abc.{Abc}
 use Rattle.abc_frames.proofs.Finds.{at_any}
 use Rattle.abc_frames.proofs.frame.body_numbered.Goals as goal

@@ -1,5 +1,5 @@
 use Rattle.abc_program.specs.Owners.{owner_of}
-use Rattle.abc_rules.specs.Parts.{method_at}
+use Rattle.abc_items.specs.Parts.{method_at}
 use Rattle.abc_frames.proofs.Starts.{framed}
 use Rattle.abc_frames.proofs.frame.frame_in.Goals as goal
 

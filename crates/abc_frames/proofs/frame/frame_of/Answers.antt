@@ -1,6 +1,6 @@
 use Rattle.std.proofs.Common.{◌∙◌, ap}
 use Rattle.abc_program.specs.Owners.{owner_of}
-use Rattle.abc_rules.specs.Parts.{method_at}
+use Rattle.abc_items.specs.Parts.{method_at}
 use Rattle.abc_tables.specs.declared.code.Body.{Body}
 use Rattle.abc_typing.specs.Routines.{routine_of}
 use Rattle.abc_frames.proofs.frame.frame_of.Goals as goal

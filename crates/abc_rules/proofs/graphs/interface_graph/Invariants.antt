@@ -1,5 +1,5 @@
 use Rattle.std.proofs.Common.{◌≡◌, map, take}
-use Rattle.abc_rules.specs.Bases.{targets_of}
+use Rattle.abc_items.specs.Bases.{targets_of}
 use Rattle.abc_rules.proofs.graphs.interface_graph.Given as goal
 
 abbrev pub invariant-loop-instance : goal.invariant-loop-instance

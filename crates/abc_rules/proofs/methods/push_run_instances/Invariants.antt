@@ -1,6 +1,6 @@
 use Rattle.std.proofs.Common.{◌≡◌, ◌++◌, take}
 use Rattle.std.specs.List.{flat_map}
-use Rattle.abc_rules.specs.Methods.{run_of_instance}
+use Rattle.abc_items.specs.Methods.{run_of_instance}
 use Rattle.abc_rules.proofs.methods.push_run_instances.Given as goal
 
 abbrev pub invariant-loop-instance : goal.invariant-loop-instance

@@ -1,5 +1,5 @@
 use Rattle.std.proofs.Common.{◌≡◌, ◌++◌, take}
-use Rattle.abc_rules.specs.Methods.{methods_among}
+use Rattle.abc_items.specs.Methods.{methods_among}
 use Rattle.abc_rules.proofs.methods.push_table.Given as goal
 
 abbrev pub invariant-loop-info : goal.invariant-loop-info

@@ -1,6 +1,6 @@
 use Rattle.std.proofs.Common.{◌∙◌, ap}
 use Rattle.abc_rules.specs.Repeats.{keys_clash}
-use Rattle.abc_rules.specs.Traits.{any_pair}
+use Rattle.abc_items.specs.Traits.{any_pair}
 use Rattle.abc_rules.proofs.SidedRepeats.{of_traits, if_ok_same}
 use Rattle.abc_rules.proofs.same_name.SameName.has_same_name.Goals as goal
 

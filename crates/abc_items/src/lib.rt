@@ -1,0 +1,17 @@
+//! The items of a file, when one breaks a rule of linking, and the first that does.
+#![tactic(auto)]
+
+mod error;
+mod items;
+mod parts;
+mod rule;
+mod types;
+
+pub use error::LinkError;
+pub use items::{Item, ItemKind, LinkRule};
+pub use parts::{
+    class_flags, class_name, handlers, instance_table, interface_names, own_table, parameters,
+    return_type, super_name,
+};
+pub use rule::{Rule, check};
+pub use types::{TypeTest, any_type};
