@@ -1,5 +1,5 @@
 ghost use Rattle.std.specs.Prelude.{◌≡◌, ◌<◌, ◌++◌, ◌∷◌, [], List, ℕ, length, get_or, OnOk, OnErr, slice_get, MatchOption, None, Some, IfOk};
-ghost use Rattle.std.specs.Prelude.{set};
+ghost use Rattle.std.specs.Prelude.{set, take};
 
 use crate::memory::NoMemory;
 use std::alloc::Global;
@@ -66,6 +66,13 @@ impl<T: Drop> Table<T> {
         ensures { self.new ≡ set self.old i x }
     {
         self.items[i] = x;
+    }
+
+    /// Keeps so many values from the start, or all where there are no more.
+    pub fn truncate(&mut self, count: usize)
+        ensures { self.new ≡ take count self.old }
+    {
+        self.items.truncate(count);
     }
 
     /// All values, in order.

@@ -10,6 +10,9 @@ use Rattle.abc_tables.specs.declared.tables.Abc.{Abc}
 use Rattle.abc_tables.specs.declared.tables.Sizes.{Sizes}
 use Rattle.abc_tables.specs.Methods.{method, method_bytes, metadata, metadata_bytes}
 use Rattle.abc_tables.specs.Classes.{instance, instance_bytes, class_info, class_bytes, script, script_bytes}
+use Rattle.abc_tables.specs.declared.classes.Instance.{Instance}
+use Rattle.abc_tables.specs.declared.classes.ClassInfo.{ClassInfo}
+use Rattle.abc_tables.specs.declared.classes.Script.{Script}
 use Rattle.abc_traits.specs.declared.definitions.Definitions.{Definitions}
 
 -- an Abc whose later tables are these
@@ -19,14 +22,20 @@ with_definitions abc d = record abc { methods = d.methods; metadata = d.metadata
 abbrev pub sizes_within : Sizes → ℕ → ℕ → ℕ → Sizes
 sizes_within pools methods metadata classes = record pools { methods = methods; metadata = metadata; classes = classes }
 
+-- so many instances, as many class infos, and the scripts
+abbrev pub class_tables : Sizes → ℕ → Part (List Instance × (List ClassInfo × List Script))
+class_tables v n = both (times n (instance v)) (both (times n (class_info v)) (counted (script v)))
+
+abbrev pub class_tables_bytes : List Instance × (List ClassInfo × List Script) → List ℕ
+class_tables_bytes x = flat_map instance_bytes x.0 ++ flat_map class_bytes x.1.0 ++ counted_bytes script_bytes x.1.1
+
 -- the five tables, beside pools of these sizes
 unfoldable pub tables : Sizes → Part Definitions
 tables pools =
     image (λ x. record { methods = x.0; metadata = x.1.0; instances = x.1.1.1.0; classes = x.1.1.1.1.0; scripts = x.1.1.1.1.1 })
     (then_by (counted (method pools)) (λ methods.
     then_by (counted (metadata pools)) (λ metadata.
-    then_by u30 (λ classes. let v = sizes_within pools (length methods) (length metadata) classes in
-    both (times classes (instance v)) (both (times classes (class_info v)) (counted (script v)))))))
+    then_by u30 (λ classes. class_tables (sizes_within pools (length methods) (length metadata) classes) classes))))
 
 -- the bytes of the five tables
 abbrev pub tables_bytes : Definitions → List ℕ

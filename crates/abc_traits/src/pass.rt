@@ -1,10 +1,5 @@
 ghost use Rattle.std.specs.Prelude.{◌≡◌, ◌≤◌, ℕ, [], ◌∷◌, ◌++◌, None, Some, Err, IfOk, length};
-ghost use Rattle.std.specs.List.{flat_map};
-ghost use Rattle.abc_format.specs.Canonical.{counted_bytes};
-ghost use Rattle.abc_format.specs.Lists.{times, counted};
-ghost use Rattle.abc_format.specs.Part.{both};
-ghost use Rattle.abc_tables.specs.Classes.{instance, instance_bytes, class_info, class_bytes, script, script_bytes};
-ghost use Rattle.abc_traits.specs.Definitions.{tables, tables_bytes, sizes_beside};
+ghost use Rattle.abc_traits.specs.Definitions.{class_tables, class_tables_bytes, tables, tables_bytes, sizes_beside};
 ghost use Rattle.abc_varint.specs.Passes.{Passes, PassesPart};
 ghost use Rattle.abc_varint.specs.Reads.{Reads, ReadsPart};
 
@@ -25,7 +20,7 @@ fn pass_classes<S: Source>(
     out: &mut Vec<u8>,
 ) -> Result<u32, ReadError>
     requires { w.old.kept ≡ None }
-    ensures value { PassesPart S.left S.faults (both (times count (instance sizes.now)) (both (times count (class_info sizes.now)) (counted (script sizes.now)))) (λ x. flat_map instance_bytes x.0 ++ flat_map class_bytes x.1.0 ++ counted_bytes script_bytes x.1.1) (λ x. length x.1.0) w.old source.old w.new source.new out.old.items out.new.items result }
+    ensures value { PassesPart S.left S.faults (class_tables sizes.now count) class_tables_bytes (λ x. length x.1.0) w.old source.old w.new source.new out.old.items out.new.items result }
     ensures count { IfOk result (λ n. n ≡ count) }
 {
     pass_times(&InstanceCodec(*sizes), alloc, w, source, count, out)?;

@@ -60,7 +60,7 @@ impl Flow for Flowing<'_> {
     }
 
     fn step(&self, place: u32, state: &mut State) -> Result<Step, NoMemory> {
-        step_at(self.alloc, self.linked, self.frame, place, state)
+        step_at(self.linked, self.frame, place, state)
     }
 
     fn entry(&self) -> Result<State, NoMemory> {

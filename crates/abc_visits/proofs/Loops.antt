@@ -11,14 +11,6 @@ use Rattle.abc_typing.specs.declared.rule.VerifyRule.{VerifyRule}
 drop_next : {X : Type 0} (xs : List X) (k : ℕ) (d : X) → k < length xs → drop k xs ≡ get_or xs k d ∷ drop (k + 1) xs
 drop_next {X} xs k d h = let next : suc k ≡ k + 1 = omega arith in drop-cons xs k d h ∙ ap (λ (n : ℕ). get_or xs k d ∷ drop n xs) next
 
-pub take_next : {X : Type 0} (xs : List X) (k : ℕ) (x : X) → k < length xs → get_or xs k x ≡ x → take (k + 1) xs ≡ take k xs ++ x ∷ []
-take_next {X} xs k x h e = let next : k + 1 ≡ suc k = omega arith in ap (λ (n : ℕ). take n xs) next ∙ go xs k h ∙ ap (λ (y : X). take k xs ++ y ∷ []) e
-  where
-    go : (ys : List X) (j : ℕ) → j < length ys → take (suc j) ys ≡ take j ys ++ get_or ys j x ∷ []
-    go [] j h = absurd (omega arith)
-    go (y ∷ ys) zero h = refl
-    go (y ∷ ys) (suc j) h = ap (λ (zs : List X). y ∷ zs) (go ys j (omega arith))
-
 -- ---- places
 
 pub below_next : (xs : List ℕ) (k e : ℕ) → k < length xs → get_or xs k 0 < e → all_below (drop k xs) e ≡ all_below (drop (k + 1) xs) e

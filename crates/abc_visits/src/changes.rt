@@ -1,4 +1,4 @@
-ghost use Rattle.std.specs.Prelude.{◌≡◌, ◌++◌, ◌≤◌, IfOk, OnOk, drop, length, set, take};
+ghost use Rattle.std.specs.Prelude.{◌≡◌, ◌++◌, OnOk, drop, set};
 ghost use Rattle.abc_visits.specs.Visits.{changed, given_kinds, scoped, written_by};
 
 use abc_base::{NoMemory, Table};
@@ -6,7 +6,6 @@ use abc_flow::Written;
 use abc_program::Kind;
 use abc_shapes::Scoping;
 use abc_typing::{Scope, Stack};
-use std::alloc::Global;
 
 /// The kinds of the values that are pushed, the top first.
 #[derive(Clone, Copy, Debug)]
@@ -57,26 +56,8 @@ fn set_kind(kinds: &mut Table<Kind>, place: u32, kind: Kind)
     }
 }
 
-/// So many scopes, from the bottom.
-#[tactic(auto, using(crate::proofs::Loops::take_next))]
-fn first_scopes(
-    alloc: Global,
-    scopes: &Table<Scope>,
-    count: usize,
-) -> Result<Table<Scope>, NoMemory>
-    requires { count ≤ length scopes.now }
-    ensures { IfOk result (λ t. t ≡ take count scopes.now) }
-{
-    let mut kept = Table::new(alloc);
-    for place in 0..count {
-        kept.push(*scopes.get(place))?;
-    }
-    Ok(kept)
-}
-
 /// Pushes or pops a scope.
 pub(crate) fn change_scopes(
-    alloc: Global,
     scopes: &mut Table<Scope>,
     scoping: Scoping,
     kind: Kind,
@@ -90,8 +71,7 @@ pub(crate) fn change_scopes(
             Ok(())
         }
         Scoping::Pops => {
-            let count = scopes.len().saturating_sub(1);
-            *scopes = first_scopes(alloc, scopes, count)?;
+            scopes.truncate(scopes.len().saturating_sub(1));
             Ok(())
         }
     }

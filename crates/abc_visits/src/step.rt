@@ -19,7 +19,6 @@ use abc_shapes::{Gives, Leads, Locals, RowKind, local_of, opcode_of, row_of, sec
 use abc_steps::{fixed_kind, kind_of_scope};
 use abc_tables::Instr;
 use abc_typing::State;
-use std::alloc::Global;
 
 /// Whether a kind is null's alone.
 fn is_null(kind: Kind) -> bool
@@ -117,7 +116,7 @@ impl Visit<'_> {
 
     /// Does the instruction to a state. Every kind is of the state before.
     #[tactic(auto, using(crate::proofs::Stepping::next_is))]
-    fn step(&self, alloc: Global, state: &mut State) -> Result<Step, NoMemory>
+    fn step(&self, state: &mut State) -> Result<Step, NoMemory>
         ensures next { IfOk result (λ w. state.new ≡ next_state (here_in self.now) state.old) }
         ensures leads { IfOk result (λ w. w ≡ step_by (goes_on (needs_of (here_in self.now)) (taken (here_in self.now) state.old)) self.now.row.leads (written_by (change_of (here_in self.now) state.old self.now.row.locals))) }
     {
@@ -126,7 +125,7 @@ impl Visit<'_> {
         let change = self.change(state);
         let scope = self.scope(state);
         change_stack(&mut state.stack, self.depth(), given)?;
-        change_scopes(alloc, &mut state.scopes, self.row.scoping, scope)?;
+        change_scopes(&mut state.scopes, self.row.scoping, scope)?;
         let written = change_locals(&mut state.locals, change);
         Ok(step_of(goes, self.row.leads, written))
     }
@@ -135,7 +134,6 @@ impl Visit<'_> {
 /// Does an instruction to a state that breaks no rule.
 #[tactic(auto, using(crate::proofs::Stepping::stepped, crate::proofs::Stepping::no_row))]
 fn step_in(
-    alloc: Global,
     linked: &Linked,
     frame: &Frame<'_>,
     place: u32,
@@ -155,7 +153,7 @@ fn step_in(
                 instr,
                 row,
             };
-            let step = visit.step(alloc, state)?;
+            let step = visit.step(state)?;
             Ok(step)
         }
         None => unreachable!(),
@@ -166,7 +164,6 @@ fn step_in(
 /// as it is then. Where memory runs out the state is of no use.
 #[tactic(auto, using(crate::proofs::Stepping::no_instr))]
 pub fn step_at(
-    alloc: Global,
     linked: &Linked,
     frame: &Frame<'_>,
     place: u32,
@@ -176,7 +173,7 @@ pub fn step_at(
     ensures { IfOk result (λ w. Steps linked.now (routine_in frame.now) place state.old state.new w) }
 {
     match frame.code.find(place as usize) {
-        Some(instr) => step_in(alloc, linked, frame, place, instr, state),
+        Some(instr) => step_in(linked, frame, place, instr, state),
         None => unreachable!(),
     }
 }
