@@ -6,12 +6,12 @@ use Rattle.std.proofs.lemmas.List.FromFn.{get_or-map-range_with_len}
 use Rattle.abc_tables.specs.declared.code.Body.{Body}
 use Rattle.abc_tables.specs.declared.tables.Sizes.{Sizes}
 use Rattle.abc_tables.specs.declared.names.Namespace.{Namespace}
-use Rattle.abc_tables.specs.Bodies.{IsReadyBody, IsWithin}
+use Rattle.abc_tables.specs.Bodies.{IsWithin}
 use Rattle.abc_tables.specs.Classes.{sizes_of}
 use Rattle.abc_tables.specs.Files.{Fits}
 use Rattle.abc_tables.specs.Ready.{IsReady}
 use Rattle.abc_fits.specs.Distinct.{Differ}
-use Rattle.abc_fits.specs.Fitting.{FitBodies, FitDefinitions, FitPools, FitTraits, FitsBody, FitsClass, FitsDouble, FitsInstance, FitsInt, FitsMetadata, FitsMethod, FitsMultiname, FitsNamespace, FitsNamespaceSet, FitsScript, FitsText, FitsTrait, HasNames}
+use Rattle.abc_fits.specs.Fitting.{FitBodies, FitDefinitions, FitPools, FitsBody, FitsClass, FitsDouble, FitsInstance, FitsInt, FitsMetadata, FitsMethod, FitsMultiname, FitsNamespace, FitsNamespaceSet, FitsScript, FitsText, FitsTrait, HasNames}
 use Rattle.abc_fits.proofs.BodiesFit.{bodies_fit, body_fits}
 use Rattle.abc_fits.proofs.ClassesFit.{script_fits}
 use Rattle.abc_fits.proofs.Combined.{entry_index_fits, number_fits, pool_index_fits, position_fits, text_fits}

@@ -6,11 +6,11 @@ use Rattle.std.proofs.lemmas.List.{length-append}
 use Rattle.std.specs.List.{flat_map, range_with_len}
 use Rattle.abc_tables.specs.declared.code.Instr.{Instr}
 use Rattle.abc_tables.specs.declared.opcodes.Form.TheVariants as forms
-use Rattle.abc_tables.specs.CodeBytes.{code_len, instr_len, number_len}
+use Rattle.abc_tables.specs.CodeBytes.{code_len}
 use Rattle.abc_tables.specs.Opcodes.{form_at, info_at}
-use Rattle.abc_tables.specs.Ready.{AllCanSpell, CanSpell, IsReady}
+use Rattle.abc_tables.specs.Ready.{AllCanSpell, IsReady}
 use Rattle.abc_tables.proofs.Lengths.{number_most}
-use Rattle.abc_gen.specs.Codes.{call_of, callproperty, callpropvoid, convert_i, drawn_code, findpropstrict, first_code, getlocal_0, getlocal_1, operation_of, pushbyte, pushscope, repeated, returnvoid, setlocal_1}
+use Rattle.abc_gen.specs.Codes.{call_of, callpropvoid, drawn_code, findpropstrict, first_code, getlocal_0, getlocal_1, operation_of, pushbyte, pushscope, repeated, returnvoid, setlocal_1}
 use Rattle.abc_gen.specs.Draws.{after, given_by}
 
 -- ---- code in parts

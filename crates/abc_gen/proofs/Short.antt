@@ -1,7 +1,7 @@
 -- The canonical bytes of the generated file are few.
-use Rattle.std.proofs.Common.{◌≡◌, ℕ, ◌+◌, ◌-◌, ◌*◌, ◌^◌, ◌≤◌, ◌<◌, List, [], ◌∷◌, ◌++◌, codes, decimal, length, get_or, map, sym, subst, arith}
+use Rattle.std.proofs.Common.{◌≡◌, ℕ, ◌+◌, ◌-◌, ◌*◌, ◌^◌, ◌≤◌, ◌<◌, List, [], ◌∷◌, codes, decimal, length, map, sym, subst, arith}
 use Rattle.std.specs.Prelude.{All}
-use Rattle.std.specs.List.{range_with_len, sum_by}
+use Rattle.std.specs.List.{sum_by}
 use Rattle.std.proofs.lemmas.Fmt.{length-decimal-le}
 use Rattle.std.proofs.lemmas.List.{length-append}
 use Rattle.std.proofs.lemmas.List.Elements.{All-cons}
@@ -12,12 +12,12 @@ use Rattle.abc_tables.specs.declared.code.Body.{Body}
 use Rattle.abc_tables.specs.declared.methods.Method.{Method}
 use Rattle.abc_tables.specs.declared.names.Multiname.{Multiname}
 use Rattle.abc_tables.specs.declared.traits.TraitInfo.{TraitInfo}
-use Rattle.abc_tables.specs.CodeBytes.{code_len, number_len}
+use Rattle.abc_tables.specs.CodeBytes.{code_len}
 use Rattle.abc_tables.proofs.Lengths.{number_most}
-use Rattle.abc_fits.specs.Lengths.{body_len, definitions_len, file_len, method_len, multiname_len, namespace_len, pools_len, script_len, text_len, trait_len}
+use Rattle.abc_fits.specs.Lengths.{body_len, definitions_len, file_len, method_len, multiname_len, pools_len, script_len, text_len, trait_len}
 use Rattle.abc_gen.specs.Codes.{drawn_code, first_code}
 use Rattle.abc_gen.specs.Draws.{after}
-use Rattle.abc_gen.specs.Generated.{first_body, function_body, function_name, function_signature, function_trait, generated, one_to, public_name, public_space, script_of, signature, texts}
+use Rattle.abc_gen.specs.Generated.{first_body, function_body, function_name, function_signature, function_trait, generated, one_to, public_name, script_of, signature, texts}
 use Rattle.abc_gen.proofs.Ready.{drawn_len, first_len}
 
 -- what holds of what is made of each number holds of the list

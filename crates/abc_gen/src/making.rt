@@ -156,13 +156,10 @@ fn scripts(alloc: Global, functions: u32) -> Result<Table<Script>, NoMemory>
     Ok(scripts)
 }
 
-/// The file of so many functions, 1 to 10,000, whose operations are drawn from a seed: a script that calls them one after
-/// the other, each with what the one before gave, and traces what the last gave. An Err is want of memory.
-#[tactic(auto, using(crate::proofs::Fitting::generated_fits))]
-pub fn make_abc(alloc: Global, seed: u32, methods: u32) -> Result<Abc, NoMemory>
-    requires { methods ≤ 10000 }
-    ensures is { IfOk result (λ abc. abc ≡ generated seed methods) }
-    ensures fits { IfOk result (λ abc. Fits abc) }
+/// The file of so many functions whose operations are drawn from a seed.
+fn made(alloc: Global, seed: u32, methods: u32) -> Result<Abc, NoMemory>
+    requires { methods < 2 ^ 29 }
+    ensures { IfOk result (λ abc. abc ≡ generated seed methods) }
 {
     let strings = texts(alloc, methods)?;
     let namespaces = namespaces(alloc)?;
@@ -179,4 +176,15 @@ pub fn make_abc(alloc: Global, seed: u32, methods: u32) -> Result<Abc, NoMemory>
         bodies,
         ..Abc::new(alloc)
     })
+}
+
+/// The file of so many functions, 1 to 10,000, whose operations are drawn from a seed: a script that calls them one after
+/// the other, each with what the one before gave, and traces what the last gave. An Err is want of memory.
+pub fn make_abc(alloc: Global, seed: u32, methods: u32) -> Result<Abc, NoMemory>
+    requires { methods ≤ 10000 }
+    ensures is { IfOk result (λ abc. abc ≡ generated seed methods) }
+    ensures fits { IfOk result (λ abc. Fits abc) }
+{
+    let abc = made(alloc, seed, methods)?;
+    Ok(abc)
 }

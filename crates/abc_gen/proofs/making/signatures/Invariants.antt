@@ -1,4 +1,4 @@
-use Rattle.std.proofs.Common.{◌≡◌, [], ◌∷◌, map, codes}
+use Rattle.std.proofs.Common.{◌≡◌, [], ◌∷◌, map}
 use Rattle.std.specs.List.{range_with_len}
 use Rattle.abc_gen.specs.Generated.{function_signature, signature}
 use Rattle.abc_gen.proofs.making.signatures.Given as goal
