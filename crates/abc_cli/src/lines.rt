@@ -1,4 +1,4 @@
-ghost use Rattle.std.specs.Prelude.{◌++◌, ◌∷◌, [], codes};
+ghost use Rattle.std.specs.Prelude.{◌++◌, ◌∷◌, []};
 ghost use Rattle.abc_escape.specs.Escapes.{escaped};
 ghost use Rattle.abc_base.specs.Faults.{HasCause};
 ghost use Rattle.abc_base.specs.Sinks.{WritesAll};
@@ -66,16 +66,6 @@ fn write_six_and_end<E: Sink>(
     write_all(err, b"\n")
 }
 
-/// Writes what stands behind `offset` in the line of an instruction.
-#[tactic(auto, using(abc_base::proofs::Writing::writing))]
-fn write_two_and_end<E: Sink>(err: &mut E, digits: &[u8], name: &[u8]) -> Result<(), Failed>
-    ensures bytes { WritesAll (E.written err.old) (E.written err.new) result ((digits.now ++ codes ": " ++ name.now) ++ 10 ∷ []) }
-    ensures cause { HasCause (E.faults err.old) (E.faults err.new) result }
-{
-    write_three(err, digits, b": ", name)?;
-    write_all(err, b"\n")
-}
-
 /// Writes a line: `abc: `, a text, and a line feed.
 #[tactic(auto, unfolding(crate::specs::Lines::line))]
 pub fn write_line<E: Sink>(err: &mut E, text: &[u8]) -> Result<(), Failed>
@@ -116,10 +106,17 @@ pub fn write_code<E: Sink>(err: &mut E, method: u32, offset: u32, name: &[u8]) -
     ensures bytes { WritesAll (E.written err.old) (E.written err.new) result (line (code_text method offset name.now)) }
     ensures cause { HasCause (E.faults err.old) (E.faults err.new) result }
 {
-    let mut buffer = Buffer::new();
-    let digits = buffer.format(method).as_bytes();
-    write_three(err, b"abc: method ", digits, b" offset ")?;
-    let mut buffer = Buffer::new();
-    let digits = buffer.format(offset).as_bytes();
-    write_two_and_end(err, digits, name)
+    let mut method_buffer = Buffer::new();
+    let method_digits = method_buffer.format(method).as_bytes();
+    let mut offset_buffer = Buffer::new();
+    let offset_digits = offset_buffer.format(offset).as_bytes();
+    write_six_and_end(
+        err,
+        b"abc: method ",
+        method_digits,
+        b" offset ",
+        offset_digits,
+        b": ",
+        name,
+    )
 }
