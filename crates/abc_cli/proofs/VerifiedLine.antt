@@ -1,7 +1,7 @@
--- The line of a file that is verified, piece by piece.
-use Rattle.std.proofs.Common.{◌≡◌, ℕ, ◌++◌, ◌∷◌, [], List, ap, ◌∙◌}
+-- Lines of `check`, piece by piece.
+use Rattle.std.proofs.Common.{◌≡◌, ℕ, ◌++◌, ◌∷◌, [], List, ap, ap₂, sym, ◌∙◌, append_assoc}
 use Rattle.std.specs.Prelude.{codes, decimal}
-use Rattle.abc_cli.specs.Lines.{verified_line}
+use Rattle.abc_cli.specs.Lines.{code_text, line, verified_line}
 
 pub line_is : (a b c d digits : List ℕ) (n : ℕ) → a ≡ [] → b ≡ a ++ codes "verified " → c ≡ b ++ digits → digits ≡ decimal n → d ≡ c ++ 10 ∷ [] → d ≡ verified_line n
 unfolding verified_line
@@ -11,3 +11,15 @@ line_is a b c d digits n none first more number last =
     (more
     ∙ ap (λ (x : List ℕ). x ++ digits) (first ∙ ap (λ (x : List ℕ). x ++ codes "verified ") none)
     ∙ ap (λ (x : List ℕ). codes "verified " ++ x) number)
+
+-- the line of an instruction, piece by piece
+pub code_line : (m o : ℕ) (first second name : List ℕ) → first ≡ decimal m → second ≡ decimal o
+    → ((codes "abc: method " ++ first ++ codes " offset ") ++ (second ++ codes ": " ++ name)) ++ 10 ∷ [] ≡ line (code_text m o name)
+unfolding line code_text
+code_line m o first second name e f =
+    let front = first ++ codes " offset " in
+    ap (λ (xs : List ℕ). (codes "abc: method " ++ xs) ++ (10 ∷ []))
+    (ap (λ (xs : List ℕ). front ++ xs) (append_assoc second (codes ": ") name)
+    ∙ sym (append_assoc front second (codes ": " ++ name))
+    ∙ sym (append_assoc (front ++ second) (codes ": ") name)
+    ∙ ap₂ (λ (a b : List ℕ). (((a ++ codes " offset ") ++ b) ++ codes ": ") ++ name) e f)

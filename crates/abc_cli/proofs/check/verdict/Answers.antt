@@ -7,6 +7,7 @@ use Rattle.abc_cli.specs.Lines.{verified_line}
 use Rattle.abc_cli.specs.Outcome.{Check}
 use Rattle.abc_cli.specs.Stops.{StopsAt}
 use Rattle.abc_cli.proofs.Checks.{link_stops_at, verified_gives}
+use Rattle.abc_cli.proofs.Ending.{memory_stops_at}
 use Rattle.abc_cli.proofs.check.verdict.Goals as goal
 
 pub verified_file-requires : goal.verified_file-requires
@@ -29,3 +30,8 @@ pub returns-in_err-verified-clause-stops : goal.returns-in_err-verified-clause-s
 returns-in_err-verified-clause-stops c =
     let p = err_from_is_err_and c.from_residual-in_err-verified.result c.from_residual-in_err-verified.ensures.1 in
     rw (p.1, p.2) (subst (λ (v : Abc). StopsAt (Check v c.args.places.now) c.in_err-verified.field-0.0) c.in_ok-linked.ensures.0 c.in_err-verified.ensures.stops)
+
+pub returns-in_err-bytes-clause-stops : goal.returns-in_err-bytes-clause-stops
+returns-in_err-bytes-clause-stops c =
+    let p = err_from_is_err_and c.from_residual-in_err-bytes.result c.from_residual-in_err-bytes.ensures.1 in
+    rw (p.1, p.2) (memory_stops_at (Check c.args.abc c.args.places.now))
