@@ -23,6 +23,7 @@ and KIND_half.abc, of 8,388,608; from `tiny` on they have at most so many:
   tries        a body with 2^16 handlers, one behind the other
   nested       a body with 2^10 handlers, each around the next, over 4 MiB of code
   handlers     a body with 2^18 writes of locals, each with a branch behind it, under two handlers
+  deep         a chain of 2^17 classes, and a body with 2^17 branches behind which a local is of the lowest or the highest
   scopes       a body with 65,000 scopes, of which the last is popped and pushed again in 4 MiB of code
   locals       a body with 65,535 locals and 2^20 writes of them, and bodies with 1000 locals
 These are texts, KIND.abcasm and KIND_half.abcasm, and have any size:
@@ -66,6 +67,7 @@ MAKERS = {
     "tries": verifying.tries,
     "nested": verifying.nested,
     "handlers": verifying.handlers,
+    "deep": verifying.deep,
     "scopes": verifying.scopes,
     "locals": verifying.many_locals,
     "labels": texts.labels,

@@ -29,8 +29,9 @@ def program(strings, spaces, names, methods, instances, classes, script_traits, 
     return made
 
 
-def class_file(bases, flags, interfaces, traits=()):
-    """Classes by the numbers of their bases' names and of their interfaces' names; the first one has the traits."""
+def class_file(bases, flags, interfaces, traits=(), code=None):
+    """Classes by the numbers of their bases' names and of their interfaces' names; the first one has the traits. The body of
+    the script may be another than one that returns at once."""
     count = len(bases)
     strings = [text(b"%x" % n) for n in range(count)]
     names = [qname(1, n + 1) for n in range(count)]
@@ -42,6 +43,7 @@ def class_file(bases, flags, interfaces, traits=()):
     classes = [number(2 * n + 1) + b"\0" for n in range(count)]
     methods = 2 * count + 1
     bodies = [body(of) for of in range(methods) if not flags & INTERFACE or of % 2 or of == methods - 1]
+    bodies[-1] = code or bodies[-1]
     return program(strings, [PACKAGE + b"\0"], names, methods, instances, classes, [], bodies)
 
 

@@ -1,6 +1,6 @@
 """Files that a verifier accepts, and that cost it much. Half versions have half as much code, half as many branches or handlers."""
 from compiling import Program
-from linking import program
+from linking import class_file, program
 from spelling import SIZE, counted, number
 from statements import Maker, distance
 
@@ -106,6 +106,15 @@ def handlers(rng, size):
     code = b"".join(b"\x24\x01\x63" + number(rng.randrange(64)) + b"\x10\0\0\0" for _ in range(count))
     around = [exception(0, len(code), len(code) + 1)] * 2
     return of_bodies((64, code + b"\x47" + POP_AND_RETURN, around))
+
+
+def deep(rng, size):
+    """A chain of 2^17 classes, and 2^17 branches behind which a local is of the lowest class or of the highest."""
+    classes, branches = (1 << 17) * size // SIZE, (1 << 17) * size // SIZE
+    low, high = (b"\x20\x80" + number(name) + b"\xd5" for name in (1, classes))
+    unit = low + b"\x26\x11" + distance(len(high)) + high
+    bases = [n + 2 for n in range(classes - 1)] + [0]
+    return class_file(bases, 0, [[]] * classes, code=body(2 * classes, 1, 2, unit * branches + b"\x47", []))
 
 
 def scopes(rng, size):

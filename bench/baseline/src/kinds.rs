@@ -32,23 +32,16 @@ impl Layouts {
         }
     }
 
-    /// The lowest layout above both.
-    fn common(&self, mut a: u32, mut b: u32) -> u32 {
-        while a != b {
-            if self.depth(a) >= self.depth(b) {
-                a = self.base(a);
+    /// The lowest layout above both, in a number of steps that grows with the logarithm of the depth.
+    fn common(&self, mut a: u32, b: u32) -> u32 {
+        while !self.is_under(b, a) {
+            let far = self.jump(a);
+            a = if self.is_under(b, far) {
+                self.base(a)
             } else {
-                b = self.base(b);
-            }
+                far
+            };
         }
         a
-    }
-
-    /// Whether a layout is another or stands under it.
-    pub fn is_under(&self, mut layout: u32, above: u32) -> bool {
-        while self.depth(layout) > self.depth(above) {
-            layout = self.base(layout);
-        }
-        layout == above
     }
 }

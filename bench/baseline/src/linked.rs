@@ -3,6 +3,7 @@ use crate::graph::Reached;
 use crate::kinds::Kind;
 use crate::linked_names::{HOST_CLASSES, Meaning, Names, is_type_name};
 use crate::value::*;
+use std::ops::{Range, RangeInclusive};
 
 /// The layouts of the host's instances, in the order of `HOST_CLASSES`. Those of instances, class objects, global objects,
 /// activations and catch objects follow.
@@ -17,7 +18,7 @@ pub mod hosts {
 use hosts::OBJECT;
 
 /// The three classes under Error.
-const ERRORS: std::ops::RangeInclusive<u32> = 10..=12;
+const ERRORS: RangeInclusive<u32> = 10..=12;
 
 /// No body.
 pub const NONE: u32 = u32::MAX;
@@ -46,9 +47,12 @@ fn host_base(layout: u32) -> u32 {
 pub struct Layouts {
     classes: u32,
     scripts: u32,
-    /// Those of the host and of instances: what they stand under, and how many layouts that is.
+    /// Those of the host and of instances: what they stand under, and the places of what stands under them, themselves
+    /// first, where all stand in an order of depth first.
     bases: Vec<u32>,
-    depths: Vec<u32>,
+    ranges: Vec<Range<u32>>,
+    /// For each of them one far above, so that a few such jumps lead to any that it stands under.
+    jumps: Vec<u32>,
     /// The first catch object of each body.
     catches: Vec<u32>,
     first_catch: u32,
@@ -93,12 +97,20 @@ impl Layouts {
             .unwrap_or_else(above)
     }
 
-    pub fn depth(&self, layout: u32) -> u32 {
-        let above = || if layout < self.global(0) { 2 } else { 1 };
-        self.depths
-            .get(layout as usize)
-            .copied()
-            .unwrap_or_else(above)
+    /// A layout above, far away where it may be.
+    pub fn jump(&self, layout: u32) -> u32 {
+        let jump = self.jumps.get(layout as usize);
+        jump.copied().unwrap_or_else(|| self.base(layout))
+    }
+
+    /// Whether a layout is another or stands under it. It is told at once.
+    pub fn is_under(&self, layout: u32, above: u32) -> bool {
+        let range = |layout: u32| self.ranges.get(layout as usize);
+        match (range(layout), range(above)) {
+            (Some(layout), Some(above)) => above.contains(&layout.start),
+            (None, Some(_)) => self.is_under(self.base(layout), above),
+            (_, None) => layout == above,
+        }
     }
 
     fn own_slot(&self, layout: u32, number: u32) -> Option<Kind> {
@@ -232,34 +244,56 @@ fn layouts(f: &File, types: &[Option<Kind>], bases: &[Meaning], order: &Reached)
         classes: f.instances.len() as u32,
         scripts: f.scripts.len() as u32,
         bases: (0..hosts::COUNT).map(host_base).collect(),
-        depths: vec![1; hosts::COUNT as usize],
+        ranges: Vec::new(),
+        jumps: Vec::new(),
         catches: Vec::with_capacity(f.bodies.len()),
         first_catch: 0,
         catch_kinds: Vec::new(),
         slots: Vec::new(),
         starts: vec![0; hosts::COUNT as usize],
     };
-    layouts.add_depths(bases, order);
+    layouts.add_ranges(bases, order);
     layouts.add_catches(f, types);
     layouts.add_all_slots(f, types);
     layouts
 }
 
 impl Layouts {
-    fn add_depths(&mut self, bases: &[Meaning], order: &Reached) {
-        self.depths[OBJECT as usize] = 0;
-        for error in ERRORS {
-            self.depths[error as usize] = 2;
-        }
+    fn add_ranges(&mut self, bases: &[Meaning], order: &Reached) {
         self.bases.extend(bases.iter().map(|base| match base {
             Meaning::Class(class) => hosts::COUNT + class,
             Meaning::Host(host) => host_layout(host) as u32,
             _ => OBJECT,
         }));
-        self.depths.resize(self.bases.len(), 0);
-        for class in &order.order {
-            let layout = (hosts::COUNT + class) as usize;
-            self.depths[layout] = self.depths[self.bases[layout] as usize] + 1;
+        let instances = order.order.iter().map(|class| hosts::COUNT + class);
+        let falling: Vec<u32> = (1..hosts::COUNT).chain(instances).collect();
+        self.add_jumps(&falling);
+        let mut sizes = vec![1; self.bases.len()];
+        for &layout in falling.iter().rev() {
+            sizes[self.base(layout) as usize] += sizes[layout as usize];
+        }
+        // Where what stands under a layout goes on.
+        let mut next = vec![1; self.bases.len()];
+        self.ranges = vec![0..sizes[OBJECT as usize]; self.bases.len()];
+        for &layout in &falling {
+            let start = next[self.base(layout) as usize];
+            next[self.base(layout) as usize] += sizes[layout as usize];
+            next[layout as usize] = start + 1;
+            self.ranges[layout as usize] = start..start + sizes[layout as usize];
+        }
+    }
+
+    /// The layouts stand behind their bases. A jump of a base that is as long as the next one is joined with it.
+    fn add_jumps(&mut self, falling: &[u32]) {
+        let mut depths = vec![0u32; self.bases.len()];
+        self.jumps = vec![OBJECT; self.bases.len()];
+        for &layout in falling {
+            let base = self.bases[layout as usize] as usize;
+            let far = self.jumps[base] as usize;
+            let farther = self.jumps[far] as usize;
+            depths[layout as usize] = depths[base] + 1;
+            let is_joined = depths[base] - depths[far] == depths[far] - depths[farther];
+            self.jumps[layout as usize] = if is_joined { farther } else { base } as u32;
         }
     }
 
