@@ -1,0 +1,4 @@
+pub mod Listed
+pub mod Ready
+pub mod Short
+pub mod Fitting

@@ -1,0 +1,15 @@
+-- The numbers that the generator draws.
+use Rattle.std.specs.Prelude.{ℕ, suc, zero, ◌+◌, ◌*◌, ◌/◌, ◌%◌, ◌^◌}
+
+-- the generator's number after a draw
+abbrev pub next_of : ℕ → ℕ
+next_of x = (x * 1664525 + 1013904223) % 2 ^ 32
+
+-- what a draw gives that leaves this number
+abbrev pub given_by : ℕ → ℕ
+given_by x = x / 65536
+
+-- the generator's number after so many draws
+abbrev pub after : ℕ → ℕ → ℕ
+after seed zero = seed
+after seed (suc n) = next_of (after seed n)

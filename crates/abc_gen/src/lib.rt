@@ -1,0 +1,8 @@
+//! The file that `gen` makes, checks and runs: a script that calls functions of drawn operations one after the other.
+#![tactic(auto)]
+
+mod codes;
+mod draws;
+mod making;
+
+pub use making::make_abc;
