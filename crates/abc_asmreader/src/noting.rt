@@ -32,9 +32,9 @@ pub fn method_of<'a>(operands: &[Token<'a>]) -> Option<&'a [u8]>
     }
 }
 
-/// Puts the labels of another body in the place of some.
-pub fn renew<'a>(places: &mut IndexMap<&'a [u8], u32>, labels: IndexMap<&'a [u8], u32>)
-    ensures { places.new ≡ labels.entry }
+/// Puts a map in the place of another. To clear one would go over all the room that it ever had.
+pub fn renew<'a, T: Drop>(old: &mut IndexMap<&'a [u8], T>, new: IndexMap<&'a [u8], T>)
+    ensures { old.new ≡ new.entry }
 {
-    let _old = mem::replace(places, labels);
+    let _old = mem::replace(old, new);
 }

@@ -168,7 +168,7 @@ impl<'a> Reader<'a> {
         let labels = labels_of(self.alloc, self.vocabulary, line)?;
         renew(&mut self.places, labels);
         self.body = Some(*line);
-        self.set.clear();
+        renew(&mut self.set, IndexMap::new(self.alloc));
         match method_of(self.operands.as_slice()) {
             Some(method) => add(&mut self.bodied, method),
             None => Ok(false),
