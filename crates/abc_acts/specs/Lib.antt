@@ -1,0 +1,10 @@
+pub mod At
+pub mod Names
+pub mod Simple
+pub mod Walking
+pub mod Scopes
+pub mod Supers
+pub mod Newing
+pub mod Late
+pub mod Table
+pub mod Agreement

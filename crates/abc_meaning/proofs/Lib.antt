@@ -1,0 +1,3 @@
+pub mod ValueKinds
+pub mod Unwinding
+mod Examples

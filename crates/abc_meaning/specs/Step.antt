@@ -1,0 +1,108 @@
+-- One step: the start of the last script, or the instruction of the newest frame.
+use Rattle.std.specs.Prelude.{ℕ, ◌+◌, List, [], ◌∷◌, Bool, true, false, length, take, drop, reverse, slice_get, Some, None}
+use Rattle.std.specs.declared.option.Option.{Option}
+use Rattle.abc_cells.specs.declared.values.Value.{Value}
+use Rattle.abc_heap.specs.declared.records.Limit.TheVariants.{Frames, Stack}
+use Rattle.abc_shapes.specs.Instructions.{opcode}
+use Rattle.abc_shapes.specs.Rows.{Shape, row_at}
+use Rattle.abc_tables.specs.declared.code.Instr.{Instr}
+use Rattle.abc_typing.specs.Effects.{Here}
+use Rattle.abc_typing.specs.Routines.{Routine}
+use Rattle.abc_world.specs.Entering.{starts}
+use Rattle.abc_stacks.specs.Frame.{Frame}
+use Rattle.abc_world.specs.Making.{new}
+use Rattle.abc_world.specs.Setting.{Setting, routine_of, size_of}
+use Rattle.abc_world.specs.World.{Outcome, Run, Stopped, Went, World, done, room, see, stuck, ◌>>=◌, ◌>>◌}
+use Rattle.abc_stacks.specs.declared.records.Wait.{Wait}
+use Rattle.abc_stacks.specs.declared.records.Wait.TheVariants as waits
+use Rattle.abc_acts.specs.At.{Above, Act, Doing, Goes, Returns, Stays, Top, next, pushed, pushing, waiting}
+use Rattle.abc_acts.specs.Table.{act_of}
+use Rattle.abc_meaning.specs.Tests.{at_frame, can_run}
+use Rattle.abc_meaning.specs.Throwing.{Done, Ends, Machine, Stepped, goes_on, last_script, stops}
+
+-- ---- an instruction: its row, the tests, and then its act
+
+abbrev pub tested : Bool → Run Act → Run Act
+tested true m = m
+tested false m = stuck
+
+abbrev pub does : Setting → Here → Frame → Option Doing → Run Act
+does p h f None = stuck
+does p h f (Some act) = see (can_run p h f) >>= λ b. tested b (act (at_frame p h f))
+
+abbrev pub does_row : Setting → Routine → Frame → Instr → Option Shape → Run Act
+does_row p r f i None = stuck
+does_row p r f i (Some row) = does p (record { file = p.linked; method = r; place = f.place; instr = i; row = row }) f (act_of (opcode i))
+
+abbrev pub does_instr : Setting → Routine → Frame → Option Instr → Run Act
+does_instr p r f None = stuck
+does_instr p r f (Some i) = does_row p r f i (row_at (opcode i))
+
+abbrev pub runs : Setting → Frame → Option Routine → Run Act
+runs p f None = stuck
+runs p f (Some r) = does_instr p r f (slice_get r.code f.place)
+
+-- ---- the room of frames: one for each that lives, and the values that it may keep
+
+abbrev pub values_kept : Option Routine → ℕ
+values_kept None = 0
+values_kept (Some r) = size_of r
+
+abbrev pub size_of_frame : Setting → Frame → ℕ
+size_of_frame p f = values_kept (routine_of p f.method)
+
+abbrev pub size_of_frames : Setting → List Frame → ℕ
+size_of_frames p [] = 0
+size_of_frames p (f ∷ fs) = size_of_frame p f + size_of_frames p fs
+
+-- a new frame takes its room last of all, frames first, and is put on top
+abbrev pub room_for_frame : Setting → Frame → List Frame → Run (Unit {0})
+room_for_frame p g fs w = (room Frames (length fs) 1 w.heap.limits.frames >> room Stack (size_of_frames p fs) (size_of_frame p g) w.heap.limits.stack) w
+
+abbrev pub put_on : Setting → Frame → List Frame → Outcome (Unit {0}) → Stepped
+put_on p g fs (Went w u) = goes_on w (g ∷ fs)
+put_on p g fs (Stopped w why) = stops p w fs why
+
+abbrev pub puts : Setting → World → Frame → List Frame → Stepped
+puts p w g fs = put_on p g fs (room_for_frame p g fs w)
+
+abbrev pub settles : Setting → World → List Frame → Top → Stepped
+settles p w fs (Stays f) = goes_on w (f ∷ fs)
+settles p w fs (Above g f) = puts p w g (f ∷ fs)
+
+-- ---- a return, by the way in which the frame below waits
+
+abbrev pub resumes : Setting → Frame → Wait → Value → Run Top
+resumes p f waits.Push v = done (Stays (pushed (v ∷ []) f))
+resumes p f waits.Drop v = done (Stays (next f))
+resumes p f (waits.Keep kept) v = done (Stays (pushed (kept ∷ []) f))
+resumes p f waits.Again v = done (Stays f)
+resumes p f (waits.New n) v = new p v (reverse (take n f.stack)) >>= λ c. done (pushing (record f { stack = drop n f.stack }) c)
+resumes p f waits.Not v = stuck
+
+abbrev pub resumed : Setting → Frame → List Frame → Outcome Top → Stepped
+resumed p f fs (Went w top) = settles p w fs top
+resumed p f fs (Stopped w why) = stops p w (f ∷ fs) why
+
+-- the run is done when the last frame returns
+abbrev pub gives_back : Setting → World → Value → List Frame → Stepped
+gives_back p w v [] = Ends w Done
+gives_back p w v (f ∷ fs) = resumed p f fs (resumes p (waiting waits.Not f) f.wait v w)
+
+-- ---- what an instruction comes to
+
+abbrev pub acted : Setting → Frame → List Frame → Outcome Act → Stepped
+acted p f fs (Went w (Goes top)) = settles p w fs top
+acted p f fs (Went w (Returns v)) = gives_back p w v fs
+acted p f fs (Stopped w why) = stops p w (f ∷ fs) why
+
+abbrev pub started : Setting → Outcome Frame → Stepped
+started p (Went w f) = puts p w f []
+started p (Stopped w why) = stops p w [] why
+
+abbrev pub step_of : Setting → World → List Frame → Stepped
+step_of p w [] = started p (starts p (last_script p) w)
+step_of p w (f ∷ fs) = acted p f fs (runs p f (routine_of p f.method) w)
+
+abbrev pub step : Setting → Machine → Stepped
+step p q = step_of p q.world q.frames

@@ -1,0 +1,5 @@
+pub mod Settled
+pub mod Tests
+pub mod Shapes
+pub mod Taking
+pub mod Stepping

@@ -1,0 +1,5 @@
+pub mod Makers
+pub mod Starting
+pub mod Holders
+pub mod Searched
+pub mod Never

@@ -1,0 +1,10 @@
+pub mod World
+pub mod Setting
+pub mod Types
+pub mod Ops
+pub mod Objects
+pub mod Entering
+pub mod Calling
+pub mod Making
+pub mod Members
+pub mod Laws
