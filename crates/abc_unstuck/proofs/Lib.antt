@@ -3,3 +3,4 @@ pub mod Starting
 pub mod Holders
 pub mod Searched
 pub mod Never
+pub mod Witness

@@ -1,5 +1,5 @@
 ghost use Rattle.abc_meaning.specs.Laws.{BeginsSound, IsNeverStuck, StaysSound};
-ghost use Rattle.abc_unstuck.specs.Laws.{BasesHaveMakers, SearchesFindWhatIsThere};
+ghost use Rattle.abc_unstuck.specs.Laws.{BasesHaveMakers, SearchesFindWhatIsThere, SomeAreVerified};
 
 /// What is found on an object or in scopes is there, with all that its owner keeps.
 pub fn searches_find_what_is_there()
@@ -24,4 +24,9 @@ pub fn steps_stay_sound()
 /// A run of a verified file is never stuck, with any fuel, limits and host.
 pub fn verified_files_never_stick()
     ensures { IsNeverStuck }
+{}
+
+/// There is a verified file: all that is asked of one can be met together.
+pub fn some_files_are_verified()
+    ensures { SomeAreVerified }
 {}

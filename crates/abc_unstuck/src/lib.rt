@@ -5,6 +5,6 @@
 mod laws;
 
 pub use laws::{
-    bases_have_makers, runs_begin_sound, searches_find_what_is_there, steps_stay_sound,
-    verified_files_never_stick,
+    bases_have_makers, runs_begin_sound, searches_find_what_is_there, some_files_are_verified,
+    steps_stay_sound, verified_files_never_stick,
 };
