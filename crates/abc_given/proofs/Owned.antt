@@ -2,6 +2,7 @@
 use Rattle.std.proofs.Common.{◌≡◌, ◌≢◌, inl, inr, ℕ, zero, suc, ◌+◌, ◌<◌, ◌≤◌, List, [], ◌∷◌, ◌++◌, length, map, get_or, refl, sym, ap, ◌∙◌, subst, arith}
 use Rattle.std.proofs.lemmas.Bool.{eq-eqb, lt-ltb, ltb-false}
 use Rattle.std.proofs.lemmas.List.{map-append}
+use Rattle.std.proofs.lemmas.List.Sums.{sum_by-append, sum_by-cons}
 use Rattle.std.specs.Prelude.{Bool, true, false, ◌&&◌, cond, count_by, nat_eq, nat_lt, slice_get, Some, if◌then◌else◌}
 use Rattle.std.specs.List.{flat_map}
 use Rattle.abc_fits.proofs.ClassesFit.{class_fits, instance_fits, script_fits}
@@ -34,28 +35,28 @@ use Rattle.abc_given.proofs.Filed.{definitions}
 
 -- ---- counts
 
-count_map : (m : ℕ) (ns : List Naming) → count_by (nat_eq m) (map (λ (n : Naming). n.method) ns) ≡ count_by (λ (n : Naming). nat_eq m n.method) ns
-count_map m [] = refl
-count_map m (n ∷ ns) = ap (λ (k : ℕ). cond (nat_eq m n.method) 1 0 + k) (count_map m ns)
+count_cons : {X : Type 0} (test : X → Bool) (x : X) (xs : List X) → count_by test (x ∷ xs) ≡ cond (test x) 1 0 + count_by test xs
+count_cons test x xs = sum_by-cons (λ y. cond (test y) 1 0) x xs
 
 count_append : {X : Type 0} (test : X → Bool) (xs ys : List X) → count_by test (xs ++ ys) ≡ count_by test xs + count_by test ys
-count_append test [] ys = refl
-count_append test (x ∷ xs) ys =
-    let e = count_append test xs ys in
-    let sum : cond (test x) 1 0 + count_by test (xs ++ ys) ≡ (cond (test x) 1 0 + count_by test xs) + count_by test ys = omega (arith, e) in
-    sum
+count_append test xs ys = sum_by-append (λ y. cond (test y) 1 0) xs ys
+
+count_map : (m : ℕ) (ns : List Naming) → count_by (nat_eq m) (map (λ (n : Naming). n.method) ns) ≡ count_by (λ (n : Naming). nat_eq m n.method) ns
+count_map m [] = refl
+count_map m (n ∷ ns) =
+    count_cons (nat_eq m) n.method (map (λ (x : Naming). x.method) ns) ∙ ap (λ (k : ℕ). cond (nat_eq m n.method) 1 0 + k) (count_map m ns) ∙ sym (count_cons (λ (x : Naming). nat_eq m x.method) n ns)
 
 one_counted : {X : Type 0} (test : X → Bool) (xs : List X) (i : ℕ) (x : X) → slice_get xs i ≡ Some x → test x ≡ true → 1 ≤ count_by test xs
 one_counted test [] i x e t = absurd cc
 one_counted test (y ∷ ys) zero x e t =
     let same : y ≡ x = cc in
     let u : cond (test y) 1 0 ≡ 1 = ap (λ z. cond (test z) 1 0) same ∙ ap (λ (b : Bool). cond b 1 0) t in
-    let sum : 1 ≤ cond (test y) 1 0 + count_by test ys = omega (arith, u) in
-    sum
+    let c = count_cons test y ys in
+    omega (arith, u, c)
 one_counted test (y ∷ ys) (suc i) x e t =
     let h = one_counted test ys i x e t in
-    let sum : 1 ≤ cond (test y) 1 0 + count_by test ys = omega (arith, h) in
-    sum
+    let c = count_cons test y ys in
+    omega (arith, h, c)
 
 -- what passes a test once passes it at one place
 same_place : {X : Type 0} (test : X → Bool) (xs : List X) (i j : ℕ) (x y : X) → count_by test xs ≤ 1 → slice_get xs i ≡ Some x → test x ≡ true → slice_get xs j ≡ Some y → test y ≡ true → i ≡ j
@@ -65,17 +66,17 @@ same_place test (z ∷ zs) zero (suc j) x y c e t f u =
     let h = one_counted test zs j y f u in
     let same : z ≡ x = cc in
     let p : cond (test z) 1 0 ≡ 1 = ap (λ w. cond (test w) 1 0) same ∙ ap (λ (b : Bool). cond b 1 0) t in
-    let d : cond (test z) 1 0 + count_by test zs ≤ 1 = c in
-    absurd (omega (arith, h, p, d))
+    let d = count_cons test z zs in
+    absurd (omega (arith, c, h, p, d))
 same_place test (z ∷ zs) (suc i) zero x y c e t f u =
     let h = one_counted test zs i x e t in
     let same : z ≡ y = cc in
     let p : cond (test z) 1 0 ≡ 1 = ap (λ w. cond (test w) 1 0) same ∙ ap (λ (b : Bool). cond b 1 0) u in
-    let d : cond (test z) 1 0 + count_by test zs ≤ 1 = c in
-    absurd (omega (arith, h, p, d))
+    let d = count_cons test z zs in
+    absurd (omega (arith, c, h, p, d))
 same_place test (z ∷ zs) (suc i) (suc j) x y c e t f u =
-    let d : cond (test z) 1 0 + count_by test zs ≤ 1 = c in
-    ap suc (same_place test zs i j x y (omega (arith, d)) e t f u)
+    let d = count_cons test z zs in
+    ap suc (same_place test zs i j x y (omega (arith, c, d)) e t f u)
 
 counted_first : {X : Type 0} (test : X → Bool) (xs : List X) (n : ℕ) → count_by test xs ≢ 0 → (k : ℕ) × (first_from test n xs ≡ Some k)
 counted_first test [] n c = absurd (c refl)
@@ -85,7 +86,8 @@ counted_first {X = X} test (x ∷ xs) n c = go (λ d. counted_first test xs (n +
     go more true t = (n, refl)
     go more false t =
         let u : cond (test x) 1 0 ≡ 0 = ap (λ (b : Bool). cond b 1 0) t in
-        more (λ z. c (let sum : cond (test x) 1 0 + count_by test xs ≡ 0 = omega (arith, u, z) in sum))
+        let s = count_cons test x xs in
+        more (λ z. c (omega (arith, s, u, z)))
 
 -- ---- members
 
@@ -162,14 +164,14 @@ count_named v m =
     let cs = flat_map rule.of_script v.scripts in
     let ds = flat_map of_body v.bodies in
     let test = λ (n : Naming). nat_eq m n.method in
-    let p : count_by (λ (n : Naming). nat_eq m n.method) (namings v) ≡ count_by test a + count_by test (b ++ c) = count_append test a (b ++ c) in
-    let q = count_append test b c in
+    let p : count_by (λ (n : Naming). nat_eq m n.method) (namings v) ≡ count_by test (a ++ b) + count_by test c = count_append test (a ++ b) c in
+    let q = count_append test a b in
     let x : count_by test a ≡ count_by (nat_eq m) is = sym (count_map m a) ∙ ap (λ (ms : List ℕ). count_by (nat_eq m) ms) (of_instances v) in
     let y : count_by test b ≡ count_by (nat_eq m) bs = sym (count_map m b) ∙ ap (λ (ms : List ℕ). count_by (nat_eq m) ms) (of_classes v) in
     let z : count_by test c ≡ count_by (nat_eq m) cs = sym (count_map m c) ∙ ap (λ (ms : List ℕ). count_by (nat_eq m) ms) (of_scripts v) in
-    let r : times_named m (methods_named v) ≡ count_by (nat_eq m) is + count_by (nat_eq m) (bs ++ cs ++ ds) = count_append (nat_eq m) is (bs ++ cs ++ ds) in
-    let s = count_append (nat_eq m) bs (cs ++ ds) in
-    let t = count_append (nat_eq m) cs ds in
+    let r : times_named m (methods_named v) ≡ count_by (nat_eq m) (is ++ bs ++ cs) + count_by (nat_eq m) ds = count_append (nat_eq m) (is ++ bs ++ cs) ds in
+    let s = count_append (nat_eq m) (is ++ bs) cs in
+    let t = count_append (nat_eq m) is bs in
     omega (arith, p, q, x, y, z, r, s, t)
 
 module _ (p : Setting) (linked : IsLinkedFile p.linked) where
@@ -215,34 +217,35 @@ module _ (p : Setting) (linked : IsLinkedFile p.linked) where
   -- ---- what is named among the scripts, the classes and the instances
 
   pub of_script_named : (s : ℕ) (n : Naming) → s < length v.scripts → In n (of_script s (script_at v s)) → In n (namings v)
-  of_script_named s n low h =
-      in_right n (namings_from of_instance 0 v.instances) (namings_from of_class 0 v.classes ++ namings_from of_script 0 v.scripts)
-      (in_right n (namings_from of_class 0 v.classes) (namings_from of_script 0 v.scripts) (in_from_first n of_script v.scripts s (script_at v s) (is_at v.scripts s no_script low) h))
+  of_script_named s n low h = in_right n (namings_from of_instance 0 v.instances ++ namings_from of_class 0 v.classes) (namings_from of_script 0 v.scripts) (in_from_first n of_script v.scripts s (script_at v s) (is_at v.scripts s no_script low) h)
 
   pub of_class_named : (k : ℕ) (n : Naming) → k < length v.classes → In n (of_class k (class_at v k)) → In n (namings v)
   of_class_named k n low h =
-      in_right n (namings_from of_instance 0 v.instances) (namings_from of_class 0 v.classes ++ namings_from of_script 0 v.scripts)
-      (in_left n (namings_from of_class 0 v.classes) (namings_from of_script 0 v.scripts) (in_from_first n of_class v.classes k (class_at v k) (is_at v.classes k no_class low) h))
+      in_left n (namings_from of_instance 0 v.instances ++ namings_from of_class 0 v.classes) (namings_from of_script 0 v.scripts)
+      (in_right n (namings_from of_instance 0 v.instances) (namings_from of_class 0 v.classes) (in_from_first n of_class v.classes k (class_at v k) (is_at v.classes k no_class low) h))
 
   pub of_instance_named : (k : ℕ) (n : Naming) → k < length v.instances → In n (of_instance k (instance_at v k)) → In n (namings v)
   of_instance_named k n low h =
-      in_left n (namings_from of_instance 0 v.instances) (namings_from of_class 0 v.classes ++ namings_from of_script 0 v.scripts) (in_from_first n of_instance v.instances k (instance_at v k) (is_at v.instances k no_instance low) h)
+      in_left n (namings_from of_instance 0 v.instances ++ namings_from of_class 0 v.classes) (namings_from of_script 0 v.scripts)
+      (in_left n (namings_from of_instance 0 v.instances) (namings_from of_class 0 v.classes) (in_from_first n of_instance v.instances k (instance_at v k) (is_at v.instances k no_instance low) h))
 
   pub of_script_run : (s m : ℕ) → s < length v.scripts → In m (rule.of_script (script_at v s)) → In m (methods_run v)
   of_script_run s m low h =
-      in_right m (flat_map run_of_instance v.instances) (flat_map rule.of_class v.classes ++ flat_map rule.of_script v.scripts ++ flat_map of_body v.bodies)
-      (in_right m (flat_map rule.of_class v.classes) (flat_map rule.of_script v.scripts ++ flat_map of_body v.bodies)
-      (in_left m (flat_map rule.of_script v.scripts) (flat_map of_body v.bodies) (in_flat m rule.of_script v.scripts s (script_at v s) (is_at v.scripts s no_script low) h)))
+      in_left m (flat_map run_of_instance v.instances ++ flat_map rule.of_class v.classes ++ flat_map rule.of_script v.scripts) (flat_map of_body v.bodies)
+      (in_right m (flat_map run_of_instance v.instances ++ flat_map rule.of_class v.classes) (flat_map rule.of_script v.scripts) (in_flat m rule.of_script v.scripts s (script_at v s) (is_at v.scripts s no_script low) h))
 
   pub of_class_run : (k m : ℕ) → k < length v.classes → In m (rule.of_class (class_at v k)) → In m (methods_run v)
   of_class_run k m low h =
-      in_right m (flat_map run_of_instance v.instances) (flat_map rule.of_class v.classes ++ flat_map rule.of_script v.scripts ++ flat_map of_body v.bodies)
-      (in_left m (flat_map rule.of_class v.classes) (flat_map rule.of_script v.scripts ++ flat_map of_body v.bodies) (in_flat m rule.of_class v.classes k (class_at v k) (is_at v.classes k no_class low) h))
+      in_left m (flat_map run_of_instance v.instances ++ flat_map rule.of_class v.classes ++ flat_map rule.of_script v.scripts) (flat_map of_body v.bodies)
+      (in_left m (flat_map run_of_instance v.instances ++ flat_map rule.of_class v.classes) (flat_map rule.of_script v.scripts)
+      (in_right m (flat_map run_of_instance v.instances) (flat_map rule.of_class v.classes) (in_flat m rule.of_class v.classes k (class_at v k) (is_at v.classes k no_class low) h)))
 
   pub of_instance_run : (k m : ℕ) → k < length v.instances → is_interface v k ≡ false → In m (rule.of_instance (instance_at v k)) → In m (methods_run v)
   of_instance_run k m low plain h =
-      in_left m (flat_map run_of_instance v.instances) (flat_map rule.of_class v.classes ++ flat_map rule.of_script v.scripts ++ flat_map of_body v.bodies)
-      (in_flat m run_of_instance v.instances k (instance_at v k) (is_at v.instances k no_instance low) (subst (λ (b : Bool). In m (if b then [] else rule.of_instance (instance_at v k))) (sym plain) h))
+      in_left m (flat_map run_of_instance v.instances ++ flat_map rule.of_class v.classes ++ flat_map rule.of_script v.scripts) (flat_map of_body v.bodies)
+      (in_left m (flat_map run_of_instance v.instances ++ flat_map rule.of_class v.classes) (flat_map rule.of_script v.scripts)
+      (in_left m (flat_map run_of_instance v.instances) (flat_map rule.of_class v.classes)
+      (in_flat m run_of_instance v.instances k (instance_at v k) (is_at v.instances k no_instance low) (subst (λ (b : Bool). In m (if b then [] else rule.of_instance (instance_at v k))) (sym plain) h))))
 
   -- ---- initializers
 

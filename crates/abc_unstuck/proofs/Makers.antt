@@ -195,11 +195,11 @@ module _ (v : Abc) where
 
   all_low : Each Low (namings v)
   all_low =
-      Each-append Low (namings_from of_instance 0 v.instances) (namings_from of_class 0 v.classes ++ namings_from of_script 0 v.scripts)
+      Each-append Low (namings_from of_instance 0 v.instances ++ namings_from of_class 0 v.classes) (namings_from of_script 0 v.scripts)
+      (Each-append Low (namings_from of_instance 0 v.instances) (namings_from of_class 0 v.classes)
       (all_from of_instance 0 v.instances (λ j a b. (λ k e. let same : j ≡ k = cc in omega (arith, b, same), none_among (owners.Instance j) a.traits (λ k e. cc))))
-      (Each-append Low (namings_from of_class 0 v.classes) (namings_from of_script 0 v.scripts)
-      (all_from of_class 0 v.classes (λ j a b. (λ k e. absurd cc, none_among (owners.Static j) a.traits (λ k e. cc))))
-      (all_from of_script 0 v.scripts (λ j a b. (λ k e. absurd cc, none_among (owners.ScriptMethod j) a.traits (λ k e. cc)))))
+      (all_from of_class 0 v.classes (λ j a b. (λ k e. absurd cc, none_among (owners.Static j) a.traits (λ k e. cc)))))
+      (all_from of_script 0 v.scripts (λ j a b. (λ k e. absurd cc, none_among (owners.ScriptMethod j) a.traits (λ k e. cc))))
 
   pub iinit_low : (n k : ℕ) → owner_of v n ≡ owners.Iinit k → k < length v.instances
   iinit_low n k e = go (first (λ (x : Naming). nat_eq n x.method) (namings v)) refl e

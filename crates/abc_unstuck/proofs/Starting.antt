@@ -103,13 +103,17 @@ module _ (p : Setting) (linked : IsLinkedFile p.linked) (few : HasFewSlots p.lin
       let host = host_object l (property_names fs) in
       let natives = map (class_object l) host_classes in
       let plain = opened_sound (parts.Host hosts.Object) (Some hosts.Object) whats.HostObject tt tt tt in
-      Each-append (ObjectSound p h) (map (prototype_object l) host_classes) (natives ++ function_objects l (length fs) ++ host ∷ [] ++ globals)
+      let prototypes = map (prototype_object l) host_classes in
+      let functions = function_objects l (length fs) in
+      Each-append (ObjectSound p h) (prototypes ++ natives ++ functions ++ host ∷ []) globals
+      (Each-append (ObjectSound p h) (prototypes ++ natives ++ functions) (host ∷ [])
+      (Each-append (ObjectSound p h) (prototypes ++ natives) functions
+      (Each-append (ObjectSound p h) prototypes natives
       (each_mapped (prototype_object l) host_classes (λ c. opened_sound (parts.Host hosts.Object) (above_host c) whats.Plain tt tt tt))
-      (Each-append (ObjectSound p h) natives (function_objects l (length fs) ++ host ∷ [] ++ globals)
-      (each_mapped (class_object l) host_classes (λ c. class_sound c b))
-      (Each-append (ObjectSound p h) (function_objects l (length fs)) (host ∷ [] ++ globals)
-      (opened_sound (parts.Host hosts.Function) (Some hosts.Function) whats.Trace tt tt tt, each_mapped (λ (k : ℕ). function_object l (whats.Formula k)) (range_with_len 0 (length fs)) (λ k. opened_sound (parts.Host hosts.Function) (Some hosts.Function) (whats.Formula k) tt tt tt))
-      (record { slots = plain.slots; what = plain.what; part = plain.part; first_of = plain.first_of }, each_ranged (global_object l) 0 n (λ s low. opened_sound (parts.Global s) (Some hosts.Object) (whats.Global s) (let inner : s < n = omega (arith, low) in inner) tt tt))))
+      (each_mapped (class_object l) host_classes (λ c. class_sound c b)))
+      (opened_sound (parts.Host hosts.Function) (Some hosts.Function) whats.Trace tt tt tt, each_mapped (λ (k : ℕ). function_object l (whats.Formula k)) (range_with_len 0 (length fs)) (λ k. opened_sound (parts.Host hosts.Function) (Some hosts.Function) (whats.Formula k) tt tt tt)))
+      (record { slots = plain.slots; what = plain.what; part = plain.part; first_of = plain.first_of }, tt))
+      (each_ranged (global_object l) 0 n (λ s low. opened_sound (parts.Global s) (Some hosts.Object) (whats.Global s) (let inner : s < n = omega (arith, low) in inner) tt tt))
 
 -- ---- the first state
 

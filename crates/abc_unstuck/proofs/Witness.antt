@@ -44,7 +44,7 @@ use Rattle.abc_tables.specs.declared.code.Instr.TheVariants.{Plain}
 use Rattle.abc_tables.specs.declared.tables.Abc.{Abc}
 use Rattle.abc_tables.proofs.Whole.{file-exact}
 use Rattle.abc_typing.specs.Lists.{Each}
-use Rattle.abc_typing.specs.Routines.{Routine, routine}
+use Rattle.abc_typing.specs.Routines.{object_of, routine}
 use Rattle.abc_typing.specs.Typing.{Follows, HasTyping, IsFine, StateLe, entry}
 use Rattle.abc_typing.specs.declared.state.State.{State}
 use Rattle.abc_typing.proofs.Member.{and_left, and_right}
@@ -167,21 +167,21 @@ each_all P (x ∷ xs) h zero d low = h.0
 each_all P (x ∷ xs) h (suc k) d low = each_all P xs h.1 k d (omega (arith, low))
 
 -- what each stands under is among those before it
+abbrev IsAmong : List Part → Option Part → Type 0
+IsAmong front None = Unit {0}
+IsAmong front (Some q) = Contains front q
+
 abbrev Behind : List Part → List Part → Type 0
 Behind front [] = Unit {0}
-Behind front (x ∷ xs) = ((q : Part) → parent least x ≡ Some q → Contains front q) × Behind (front ++ x ∷ []) xs
+Behind front (x ∷ xs) = IsAmong front (parent least x) × Behind (front ++ x ∷ []) xs
 
 behind_at : (front xs : List Part) (x : ℕ) (q : Part) → Behind front xs → x < length xs → parent least (part_at xs x) ≡ Some q → Contains (front ++ take x xs) q
 behind_at front [] x q h low e = absurd (omega (arith, low))
-behind_at front (y ∷ ys) zero q h low e = subst (λ (zs : List Part). Contains zs q) (sym (append-nil front)) (h.0 q e)
+behind_at front (y ∷ ys) zero q h low e = subst (λ (zs : List Part). Contains zs q) (sym (append-nil front)) (subst (IsAmong front) e h.0)
 behind_at front (y ∷ ys) (suc x) q h low e = subst (λ (zs : List Part). Contains zs q) (append_assoc front (y ∷ []) (take x ys)) (behind_at (front ++ y ∷ []) ys x q h.1 (omega (arith, low)) e)
 
--- a part that stands in front, by its place
-at_place : (front : List Part) (k : ℕ) (x q : Part) → k < length front → get_or front k x ≡ x → Some x ≡ Some q → Contains front q
-at_place front k x q low at e = let same : x ≡ q = cc in subst (Contains front) same (k, low, at)
-
 all_behind : Behind [] all
-all_behind = ((λ q e. absurd cc), ((λ q e. at_place _ 0 (parts.Host hosts.Object) q (omega arith) refl e), ((λ q e. at_place _ 0 (parts.Host hosts.Object) q (omega arith) refl e), ((λ q e. at_place _ 0 (parts.Host hosts.Object) q (omega arith) refl e), ((λ q e. at_place _ 0 (parts.Host hosts.Object) q (omega arith) refl e), ((λ q e. at_place _ 0 (parts.Host hosts.Object) q (omega arith) refl e), ((λ q e. at_place _ 0 (parts.Host hosts.Object) q (omega arith) refl e), ((λ q e. at_place _ 0 (parts.Host hosts.Object) q (omega arith) refl e), ((λ q e. at_place _ 0 (parts.Host hosts.Object) q (omega arith) refl e), ((λ q e. at_place _ 0 (parts.Host hosts.Object) q (omega arith) refl e), ((λ q e. at_place _ 9 (parts.Host hosts.Error) q (omega arith) refl e), ((λ q e. at_place _ 9 (parts.Host hosts.Error) q (omega arith) refl e), ((λ q e. at_place _ 9 (parts.Host hosts.Error) q (omega arith) refl e), ((λ q e. at_place _ 0 (parts.Host hosts.Object) q (omega arith) refl e), ((λ q e. at_place _ 1 (parts.Host hosts.Class) q (omega arith) refl e), ((λ q e. at_place _ 1 (parts.Host hosts.Class) q (omega arith) refl e), ((λ q e. at_place _ 1 (parts.Host hosts.Class) q (omega arith) refl e), ((λ q e. at_place _ 1 (parts.Host hosts.Class) q (omega arith) refl e), ((λ q e. at_place _ 1 (parts.Host hosts.Class) q (omega arith) refl e), ((λ q e. at_place _ 1 (parts.Host hosts.Class) q (omega arith) refl e), ((λ q e. at_place _ 1 (parts.Host hosts.Class) q (omega arith) refl e), ((λ q e. at_place _ 1 (parts.Host hosts.Class) q (omega arith) refl e), ((λ q e. at_place _ 1 (parts.Host hosts.Class) q (omega arith) refl e), ((λ q e. at_place _ 1 (parts.Host hosts.Class) q (omega arith) refl e), ((λ q e. at_place _ 1 (parts.Host hosts.Class) q (omega arith) refl e), ((λ q e. at_place _ 1 (parts.Host hosts.Class) q (omega arith) refl e), ((λ q e. at_place _ 1 (parts.Host hosts.Class) q (omega arith) refl e), ((λ q e. at_place _ 1 (parts.Host hosts.Class) q (omega arith) refl e), ((λ q e. at_place _ 0 (parts.Host hosts.Object) q (omega arith) refl e), tt)))))))))))))))))))))))))))))
+all_behind = (tt, ((0, omega arith, refl), ((0, omega arith, refl), ((0, omega arith, refl), ((0, omega arith, refl), ((0, omega arith, refl), ((0, omega arith, refl), ((0, omega arith, refl), ((0, omega arith, refl), ((0, omega arith, refl), ((9, omega arith, refl), ((9, omega arith, refl), ((9, omega arith, refl), ((0, omega arith, refl), ((1, omega arith, refl), ((1, omega arith, refl), ((1, omega arith, refl), ((1, omega arith, refl), ((1, omega arith, refl), ((1, omega arith, refl), ((1, omega arith, refl), ((1, omega arith, refl), ((1, omega arith, refl), ((1, omega arith, refl), ((1, omega arith, refl), ((1, omega arith, refl), ((1, omega arith, refl), ((1, omega arith, refl), ((0, omega arith, refl), tt)))))))))))))))))))))))))))))
 
 all_have : Each (HasLayout least) all
 all_have = (tt, (tt, (tt, (tt, (tt, (tt, (tt, (tt, (tt, (tt, (tt, (tt, (tt, (tt, (tt, (tt, (tt, (tt, (tt, (tt, (tt, (tt, (tt, (tt, (tt, (tt, (tt, (tt, (omega arith, tt)))))))))))))))))))))))))))))
@@ -238,7 +238,7 @@ typing : HasTyping linked (routine linked 0)
 typing = (
   states,
   record {
-    start = (entry (routine linked 0), refl, record { stack = tt; scopes = tt; locals = (kind_self linked _, tt) });
+    start = (entry (routine linked 0), refl, record { stack = tt; scopes = tt; locals = (kind_self linked (object_of linked (parts.Global 0)), tt) });
     fine = λ i s e. fine_at i s e;
     follows = λ i s t n e h. follows_at i s t n e h;
   },
