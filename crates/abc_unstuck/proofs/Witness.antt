@@ -1,20 +1,17 @@
 -- A verified file: its one script's init returns at once. So all that is asked of a verified file can be met together.
-use Rattle.std.proofs.Common.{◌≡◌, ℕ, zero, suc, ◌+◌, ◌<◌, ◌≤◌, ◌^◌, List, [], ◌∷◌, ◌++◌, length, take, map, get_or, inl, inr, refl, sym, subst, append_assoc, arith}
+use Rattle.std.proofs.Common.{◌≡◌, ℕ, zero, suc, ◌+◌, ◌<◌, ◌≤◌, List, [], ◌∷◌, ◌++◌, length, take, map, inl, inr, refl, sym, subst, append_assoc, arith}
 use Rattle.std.proofs.lemmas.Bool.{cases_lt, ltb-true}
 use Rattle.std.proofs.lemmas.List.{append-nil}
-use Rattle.std.specs.Prelude.{Bool, true, false, ◌||◌, All, Contains, Ok, Some, None, nat_lt, unwrap_or}
+use Rattle.std.specs.Prelude.{Bool, true, false, ◌||◌, All, Contains, Ok, Some, None, nat_lt}
 use Rattle.std.specs.List.{list_all, range_with_len}
 use Rattle.std.specs.declared.option.Option.{Option}
-use Rattle.abc_base.specs.Hosts.{AreFormulas}
-use Rattle.abc_base.specs.declared.names.HostClass.{HostClass}
 use Rattle.abc_base.specs.declared.names.HostClass.TheVariants as hosts
 use Rattle.abc_format.specs.Lists.{counted, pool, pool_by, text}
 use Rattle.abc_format.specs.Numbers.{entry_index, index_below, pool_index, s24, s32, u8, u16, u30, u32}
 use Rattle.abc_format.specs.Part.{at, further, when}
 use Rattle.abc_graph.specs.Ways.{way}
-use Rattle.abc_items.specs.Items.{IsItem, count_of}
+use Rattle.abc_items.specs.Items.{count_of}
 use Rattle.abc_items.specs.Rules.{AllHold, breaks_any, breaks_of_kind, is_class}
-use Rattle.abc_items.specs.declared.items.Item.{Item}
 use Rattle.abc_items.specs.declared.items.ItemKind.{ItemKind}
 use Rattle.abc_items.specs.declared.items.ItemKind.TheVariants as items
 use Rattle.abc_items.specs.declared.items.LinkRule.{LinkRule}

@@ -6,8 +6,6 @@ use Rattle.abc_base.specs.declared.names.HostClass.TheVariants as hosts
 use Rattle.abc_cells.specs.declared.values.Value.{Value}
 use Rattle.abc_cells.specs.declared.values.Value.TheVariants.{Undefined, Obj}
 use Rattle.abc_heap.specs.Heap.{obj_id}
-use Rattle.abc_heap.specs.declared.records.ScopeEntry.{ScopeEntry}
-use Rattle.abc_heap.specs.declared.records.ScopeId.{ScopeId}
 use Rattle.abc_program.specs.Types.{type_of}
 use Rattle.abc_search.specs.Objects.{global_number}
 use Rattle.abc_tables.specs.Methods.{has_flag}
@@ -21,7 +19,6 @@ use Rattle.abc_world.specs.Ops.{coerces}
 use Rattle.abc_world.specs.Setting.{Setting, may_take, method_of, options_of, routine_of, value_of_option}
 use Rattle.abc_world.specs.World.{Run, Went, World, done, fails, stuck, throws, ◌>>=◌, ◌>>◌, some, must, see}
 use Rattle.abc_stacks.specs.Frame.{Frame}
-use Rattle.abc_stacks.specs.declared.records.Wait.{Wait}
 use Rattle.abc_stacks.specs.declared.records.Wait.TheVariants as waits
 
 -- ---- arguments: coerced to their types in order; for those that are missing the values of options, coerced
