@@ -50,7 +50,7 @@ one_counted : {X : Type 0} (test : X → Bool) (xs : List X) (i : ℕ) (x : X) �
 one_counted test [] i x e t = absurd cc
 one_counted test (y ∷ ys) zero x e t =
     let same : y ≡ x = cc in
-    let u : cond (test y) 1 0 ≡ 1 = ap (λ z. cond (test z) 1 0) same ∙ ap (λ (b : Bool). cond b 1 0) t in
+    let u : cond {A = ℕ} (test y) 1 0 ≡ 1 = ap (λ z. cond {A = ℕ} (test z) 1 0) same ∙ ap (λ (b : Bool). cond {A = ℕ} b 1 0) t in
     let c = count_cons test y ys in
     omega (arith, u, c)
 one_counted test (y ∷ ys) (suc i) x e t =
@@ -65,13 +65,13 @@ same_place test (z ∷ zs) zero zero x y c e t f u = refl
 same_place test (z ∷ zs) zero (suc j) x y c e t f u =
     let h = one_counted test zs j y f u in
     let same : z ≡ x = cc in
-    let p : cond (test z) 1 0 ≡ 1 = ap (λ w. cond (test w) 1 0) same ∙ ap (λ (b : Bool). cond b 1 0) t in
+    let p : cond {A = ℕ} (test z) 1 0 ≡ 1 = ap (λ w. cond {A = ℕ} (test w) 1 0) same ∙ ap (λ (b : Bool). cond {A = ℕ} b 1 0) t in
     let d = count_cons test z zs in
     absurd (omega (arith, c, h, p, d))
 same_place test (z ∷ zs) (suc i) zero x y c e t f u =
     let h = one_counted test zs i x e t in
     let same : z ≡ y = cc in
-    let p : cond (test z) 1 0 ≡ 1 = ap (λ w. cond (test w) 1 0) same ∙ ap (λ (b : Bool). cond b 1 0) u in
+    let p : cond {A = ℕ} (test z) 1 0 ≡ 1 = ap (λ w. cond {A = ℕ} (test w) 1 0) same ∙ ap (λ (b : Bool). cond {A = ℕ} b 1 0) u in
     let d = count_cons test z zs in
     absurd (omega (arith, c, h, p, d))
 same_place test (z ∷ zs) (suc i) (suc j) x y c e t f u =
@@ -85,7 +85,7 @@ counted_first {X = X} test (x ∷ xs) n c = go (λ d. counted_first test xs (n +
     go : ((count_by test xs ≢ 0) → (k : ℕ) × (first_from test (n + 1) xs ≡ Some k)) → (b : Bool) → test x ≡ b → (k : ℕ) × ((if b then Some n else first_from test (n + 1) xs) ≡ Some k)
     go more true t = (n, refl)
     go more false t =
-        let u : cond (test x) 1 0 ≡ 0 = ap (λ (b : Bool). cond b 1 0) t in
+        let u : cond {A = ℕ} (test x) 1 0 ≡ 0 = ap (λ (b : Bool). cond {A = ℕ} b 1 0) t in
         let s = count_cons test x xs in
         more (λ z. c (omega (arith, s, u, z)))
 
