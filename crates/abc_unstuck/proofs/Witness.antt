@@ -10,6 +10,7 @@ use Rattle.abc_format.specs.Lists.{counted, pool, pool_by, text}
 use Rattle.abc_format.specs.Numbers.{entry_index, index_below, pool_index, s24, s32, u8, u16, u30, u32}
 use Rattle.abc_format.specs.Part.{at, further, when}
 use Rattle.abc_graph.specs.Ways.{way}
+use Rattle.abc_heap.specs.declared.records.Limits.{Limits}
 use Rattle.abc_items.specs.Items.{count_of}
 use Rattle.abc_items.specs.Rules.{AllHold, breaks_any, breaks_of_kind, is_class}
 use Rattle.abc_items.specs.declared.items.ItemKind.{ItemKind}
@@ -47,6 +48,8 @@ use Rattle.abc_typing.specs.declared.state.State.{State}
 use Rattle.abc_typing.proofs.Member.{and_left, and_right}
 use Rattle.abc_world.specs.Setting.{Setting}
 use Rattle.abc_meaning.specs.Laws.{IsVerified}
+use Rattle.abc_meaning.specs.Meaning.{first_world, too_small}
+use Rattle.abc_unstuck.specs.Laws.{SomeAreVerified}
 
 -- ---- the file, and bytes that spell it
 
@@ -253,14 +256,26 @@ typed : (b : ℕ) → b < 1 → HasTyping linked (routine linked b)
 typed zero low = typing
 typed (suc b) low = absurd (omega (arith, low))
 
-pub some_verified : (p : Setting) × IsVerified p
-some_verified = (
-  record { linked = linked; formulas = [] },
-  record {
-    fits = fits;
-    linked = is_linked;
-    few = few;
-    typed = typed;
-    host = record { few = omega arith; each = λ k d low. absurd (omega (arith, low)); distinct = λ i j d low high. absurd (omega (arith, low, high)) };
-  },
-)
+abbrev setting : Setting
+setting = record { linked = linked; formulas = [] }
+
+verified : IsVerified setting
+verified = record {
+  fits = fits;
+  linked = is_linked;
+  few = few;
+  typed = typed;
+  host = record { few = omega arith; each = λ k d low. absurd (omega (arith, low)); distinct = λ i j d low high. absurd (omega (arith, low, high)) };
+}
+
+-- ---- its run begins
+
+abbrev limits : Limits
+limits = record { objects = 100; cells = 100; text = 100; frames = 10; stack = 100 }
+
+begins : too_small (first_world setting limits).heap ≡ None
+unfolding way
+begins = refl
+
+pub some_verified : SomeAreVerified
+some_verified = (setting, limits, verified, omega arith, begins)

@@ -26,7 +26,7 @@ pub fn verified_files_never_stick()
     ensures { IsNeverStuck }
 {}
 
-/// There is a verified file: all that is asked of one can be met together.
+/// There is a verified file whose run begins: all that is asked can be met together.
 pub fn some_files_are_verified()
     ensures { SomeAreVerified }
 {}
