@@ -10,7 +10,7 @@ use Rattle.abc_search.specs.declared.found.ScopeFound.TheVariants.{Object, Start
 use Rattle.abc_search.specs.declared.name.Name.{Name}
 use Rattle.abc_world.specs.Entering.{global, starts}
 use Rattle.abc_world.specs.Members.{reads}
-use Rattle.abc_world.specs.World.{Run, World, done, see, throws, ◌>>=◌, ◌>>◌}
+use Rattle.abc_world.specs.World.{Run, World, done, see, throws, ◌>>=◌}
 use Rattle.abc_stacks.specs.declared.records.Wait.TheVariants.{Again}
 use Rattle.abc_acts.specs.At.{Above, Act, At, Doing, Goes, gives_came, goes, pushed, waiting}
 use Rattle.abc_acts.specs.Names.{name_of}

@@ -13,7 +13,7 @@ use Rattle.abc_world.specs.Making.{new}
 use Rattle.abc_world.specs.Members.{calls_name, deletes, reads, writes_to}
 use Rattle.abc_world.specs.Ops.{compares, computes_one, computes_two}
 use Rattle.abc_world.specs.Setting.{string_of}
-use Rattle.abc_world.specs.World.{Throws, done, fails, see, stop, ◌>>=◌, ◌>>◌}
+use Rattle.abc_world.specs.World.{Throws, done, fails, see, stop, ◌>>=◌}
 use Rattle.abc_acts.specs.At.{Doing, drops_came, gives, gives_came, goes, makes_of, nothing, number, one, op, pushed, two}
 use Rattle.abc_acts.specs.Late.{coerces_to_operand, has_name, instance_test, kept_as, late_type, reads_slot, tested_as, writes_slot}
 use Rattle.abc_acts.specs.Names.{name_of, type_of_operand}

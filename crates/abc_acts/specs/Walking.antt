@@ -13,7 +13,7 @@ use Rattle.abc_search.specs.Objects.{delegate_at}
 use Rattle.abc_graph.specs.Ways.{way}
 use Rattle.abc_shapes.specs.Instructions.{local, second}
 use Rattle.abc_world.specs.Ops.{operates}
-use Rattle.abc_world.specs.World.{Run, World, done, some, see, object, ◌>>=◌, ◌>>◌}
+use Rattle.abc_world.specs.World.{Run, World, done, some, see, object, ◌>>=◌}
 use Rattle.abc_acts.specs.At.{Act, At, Doing, goes, pushed, with_local}
 
 -- a position to go on from, which is none below 0

@@ -40,7 +40,7 @@ use Rattle.abc_world.specs.Entering.{global}
 use Rattle.abc_world.specs.Making.{new}
 use Rattle.abc_world.specs.Members.{calls_name, deletes, reads, write_slot, writes_to}
 use Rattle.abc_world.specs.Setting.{Setting}
-use Rattle.abc_world.specs.World.{Errs, Run, World, object, see, some, ◌>>=◌, ◌>>◌}
+use Rattle.abc_world.specs.World.{Errs, Run, World, object, see, some, ◌>>=◌}
 use Rattle.abc_stacks.specs.declared.records.Wait.TheVariants as waits
 use Rattle.abc_acts.specs.At.{Act, Doing, drops_came, gives, gives_came, makes_of, next, one, pushed, two, waiting, with_args as with_arguments}
 use Rattle.abc_acts.specs.Late.{on_slot, reads_slot, writes_slot}

@@ -1,5 +1,5 @@
 -- An instruction of a row, wherever it stands; and the shapes of acts, each once.
-use Rattle.std.proofs.Common.{◌≡◌, inl, inr, ℕ, ◌+◌, ◌-◌, List, [], ◌∷◌, ◌++◌, drop, set, refl, sym, subst}
+use Rattle.std.proofs.Common.{◌≡◌, inl, inr, ℕ, ◌+◌, List, [], ◌∷◌, ◌++◌, drop, set, refl, sym, subst}
 use Rattle.std.specs.Prelude.{Bool, true, false, map, Some, if◌then◌else◌}
 use Rattle.abc_cells.specs.declared.values.Value.{Value}
 use Rattle.abc_objects.specs.Values.{Exists}

@@ -1,5 +1,5 @@
 -- A step from a sound state leaves a sound state, or ends, and is never stuck: from what the groups show.
-use Rattle.std.proofs.Common.{◌≡◌, ℕ, zero, suc, ◌+◌, ◌-◌, ◌≤◌, List, [], ◌∷◌, length, refl, sym, ◌∙◌, subst, arith, eqb-true}
+use Rattle.std.proofs.Common.{◌≡◌, ℕ, zero, suc, ◌+◌, ◌≤◌, List, [], ◌∷◌, length, refl, sym, ◌∙◌, subst, arith, eqb-true}
 use Rattle.std.specs.Prelude.{Bool, true, false, ◌&&◌, cond, is_some, nat_eq, Some, None, if◌then◌else◌}
 use Rattle.std.specs.declared.option.Option.{Option}
 use Rattle.abc_shapes.specs.Instructions.{opcode}

@@ -37,7 +37,6 @@ use Rattle.abc_tables.specs.Places.{instruction_place}
 use Rattle.abc_tables.specs.Pools.{double, multiname, multinames, namespace, namespace_set, pools}
 use Rattle.abc_tables.specs.Targets.{resolve}
 use Rattle.abc_tables.specs.Traits.{slot_value, trait_info}
-use Rattle.abc_tables.specs.declared.code.Body.{Body}
 use Rattle.abc_tables.specs.declared.code.Instr.TheVariants.{Plain}
 use Rattle.abc_tables.specs.declared.tables.Abc.{Abc}
 use Rattle.abc_tables.proofs.Whole.{file-exact}
