@@ -1,5 +1,6 @@
-//! Tests of what no clause and no row of data says: that calls which allocate find memory where there is enough, generic
-//! calls at a concrete type, adapters over the readers and writers of std, printed text. What a command does is shown by rows.
+//! Tests of what no clause and no row of data says: printed errors, the formulas that are built in, ranks of nodes, stored
+//! closures and what is refused of them, streams that never fail, and adapters over the readers and writers of std. What a
+//! command does is shown by rows.
 //! It has no items of its own. The other crates have no tests, so that each is proved once.
 #![tactic(auto)]
 
