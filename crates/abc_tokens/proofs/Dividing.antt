@@ -1,5 +1,5 @@
 -- Dividing a text into its lines.
-use Rattle.std.proofs.Common.{◌≡◌, ℕ, ◌+◌, ◌<◌, ◌≤◌, true, false, nat_eq, List, [], ◌∷◌, ◌++◌, length, take, drop, get_or, ◌==◌, refl, sym, ap, ◌∙◌, append-nil, append_assoc, arith, inl, inr}
+use Rattle.std.proofs.Common.{◌≡◌, ℕ, zero, suc, Bool, ◌+◌, ◌<◌, ◌≤◌, true, false, nat_eq, List, [], ◌∷◌, ◌++◌, length, take, drop, get_or, ◌==◌, refl, sym, ap, ◌∙◌, append-nil, append_assoc, arith, inl, inr}
 use Rattle.std.proofs.lemmas.List.{drop_all, take_all}
 use Rattle.abc_text.proofs.Bools.{split_bool}
 use Rattle.abc_text.specs.Scanning.{Between, Scan, scan, scanned}
@@ -34,6 +34,19 @@ lines_step text i lt other =
     ap (λ (l : List ℕ). led (take i text) (lines_in l)) (drop_at text i lt)
     ∙ (let n = other in rw n (led_first (take i text) (get_or text i 0) (lines_in (drop (i + 1) text))))
     ∙ ap (λ (l : List ℕ). led l (lines_in (drop (i + 1) text))) (sym (take_at text i lt))
+
+not_true : (b : Bool) → (b ≡ true → ⊥) → b ≡ false
+not_true true never = absurd (never refl)
+not_true false never = refl
+
+-- no line feed stands before a place
+pub no_feed : (text : List ℕ) (i : ℕ) → i ≤ length text → ((k : ℕ) → k < i → nat_eq (get_or text k 0) 0x0a ≡ true → ⊥) → lines_in text ≡ led (take i text) (lines_in (drop i text))
+no_feed text zero le none = lines_begin text
+no_feed text (suc i) le none =
+    let lt : i < length text = omega arith in
+    let other : nat_eq (get_or text i 0) 0x0a ≡ false = not_true (nat_eq (get_or text i 0) 0x0a) (none i (omega arith)) in
+    let s : i + 1 ≡ suc i = omega arith in
+    no_feed text i (omega arith) (λ k less. none k (omega arith)) ∙ lines_step text i lt other ∙ ap (λ (n : ℕ). led (take n text) (lines_in (drop n text))) s
 
 pub splits_at : (text : List ℕ) (i : ℕ) → i < length text → nat_eq (get_or text i 0) 0x0a ≡ true → lines_in text ≡ led (take i text) (lines_in (drop i text)) → Splits text (take i text) (drop (i + 1) text)
 splits_at text i lt is e number =

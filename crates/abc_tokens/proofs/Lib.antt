@@ -1,4 +1,5 @@
 pub mod Dividing
+pub mod Entering
 pub mod Keeping
 pub mod Naming
 pub mod Quoting

@@ -1,9 +1,9 @@
 -- Finding the word of a line.
-use Rattle.std.proofs.Common.{◌≡◌, ℕ, suc, ◌+◌, ◌-◌, ◌<◌, ◌≤◌, Bool, true, false, cond, List, [], ◌∷◌, length, map, drop, get_or, Some, None, refl, sym, ap, ◌∙◌, inl, inr, add-one, arith}
+use Rattle.std.proofs.Common.{◌≡◌, ℕ, suc, ◌+◌, ◌-◌, ◌<◌, ◌≤◌, Bool, true, false, cond, List, [], ◌∷◌, length, map, drop, take, nat_eq, get_or, Some, None, refl, sym, ap, ◌∙◌, inl, inr, add-one, arith}
 use Rattle.std.proofs.Math.Seq.{drop-cons}
 use Rattle.std.proofs.lemmas.Slice.Eq.{bytes_eq-Decides}
-use Rattle.std.specs.List.{list_all}
-use Rattle.std.specs.Option.{is_none}
+use Rattle.std.specs.List.{list_all, position_or_len}
+use Rattle.std.specs.Option.{is_none, unwrap_or}
 use Rattle.std.specs.Str.{bytes_eq}
 use Rattle.std.specs.declared.option.Option.{Option}
 use Rattle.abc_text.specs.declared.word.Word.{Word}
@@ -26,6 +26,20 @@ pub this_row : {K : Type 0} (rows : List (List ℕ × K)) (i : ℕ) (word : List
 this_row {K} rows i word d lt same =
     let cut : drop i rows ≡ get_or rows i d ∷ drop (i + 1) rows = rw add-one (drop-cons rows i d lt) in
     ap (λ (l : List (List ℕ × K)). lookup (map unpadded l) word) cut ∙ rw same refl
+
+-- a row whose first byte is another
+pub first_differs : (row word : List ℕ) → 0 < length row → 0 < length word → nat_eq (get_or row 0 0) (get_or word 0 0) ≡ false → bytes_eq (before_blank row) word ≡ false
+first_differs [] word lt some e = absurd (omega arith)
+first_differs (x ∷ row) [] lt some e = absurd (omega arith)
+first_differs (x ∷ row) (b ∷ word) lt some e =
+    elim (split_bool (nat_eq x 0x20)) [
+      | inl t ↦ rw t refl
+      | inr t ↦
+          let n = position_or_len (λ c. nat_eq c 0x20) row in
+          let len : position_or_len (λ c. nat_eq c 0x20) (x ∷ row) ≡ 1 + n = rw t refl in
+          let s : 1 + n ≡ suc n = omega arith in
+          ap (λ (k : ℕ). bytes_eq (take k (x ∷ row)) (b ∷ word)) (len ∙ s) ∙ (let d = e in rw d refl)
+    ]
 
 -- ---- opcodes
 
@@ -90,7 +104,7 @@ instruction_none (row ∷ rows) name e =
 apart : list_all (λ (row : List ℕ × Word). is_none (opcode_in named row.0)) line_words ≡ true
 apart = refl
 
-none_is : (o : Option ℕ) (n : ℕ) → is_none o ≡ true → o ≡ Some n → ⊥
+none_is : {A : Type 0} (o : Option A) (n : A) → is_none o ≡ true → o ≡ Some n → ⊥
 none_is (Some m) n e f = absurd cc
 none_is None n e f = absurd cc
 
@@ -110,3 +124,44 @@ word_of_opcode word op is = let none = apart_from line_words word op apart is in
 pub word_of_other : (word : List ℕ) → opcode_in named word ≡ None → word_of word ≡ or_else (lookup line_words word) (if_name (before_colon word))
 unfolding word_of
 word_of_other word absent = let none = instruction_none named word absent in rw none refl
+
+-- ---- words with a colon at their end
+
+line_words_plain : list_all (λ (row : List ℕ × Word). is_none (before_colon row.0)) line_words ≡ true
+line_words_plain = refl
+
+named_plain : list_all (λ (row : ℕ × List ℕ). is_none (before_colon row.1)) named ≡ true
+named_plain = refl
+
+no_line_word : (rows : List (List ℕ × Word)) (word name : List ℕ) → list_all (λ (row : List ℕ × Word). is_none (before_colon row.0)) rows ≡ true → before_colon word ≡ Some name → lookup rows word ≡ None
+no_line_word [] word name all is = refl
+no_line_word (row ∷ rows) word name all is =
+    let both = and_true (is_none (before_colon row.0)) (list_all (λ (r : List ℕ × Word). is_none (before_colon r.0)) rows) all in
+    elim (split_bool (bytes_eq row.0 word)) [
+      | inl t ↦ absurd (none_is (before_colon row.0) name both.0 (ap before_colon ((bytes_eq-Decides row.0 word).0 t) ∙ is))
+      | inr t ↦ rw t (no_line_word rows word name both.1 is)
+    ]
+
+no_instruction : (rows : List (ℕ × List ℕ)) (word name : List ℕ) → list_all (λ (row : ℕ × List ℕ). is_none (before_colon row.1)) rows ≡ true → before_colon word ≡ Some name → instruction_in rows word ≡ None
+no_instruction [] word name all is = refl
+no_instruction (row ∷ rows) word name all is =
+    let both = and_true (is_none (before_colon row.1)) (list_all (λ (r : ℕ × List ℕ). is_none (before_colon r.1)) rows) all in
+    elim (split_bool (bytes_eq row.1 word)) [
+      | inl t ↦ absurd (none_is (before_colon row.1) name both.0 (ap before_colon ((bytes_eq-Decides row.1 word).0 t) ∙ is))
+      | inr t ↦ rw t (no_instruction rows word name both.1 is)
+    ]
+
+pub word_of_label : (word name : List ℕ) → before_colon word ≡ Some name → word_of word ≡ if_name (Some name)
+unfolding word_of
+word_of_label word name is = let line = no_line_word line_words word name line_words_plain is in let none = no_instruction named word name named_plain is in rw (line, none, is) refl
+
+or_unwrap : (o : Option Word) (d : Word) → or_else o d ≡ unwrap_or o d
+or_unwrap (Some w) d = refl
+or_unwrap None d = refl
+
+pub word_of_plain : (word : List ℕ) → opcode_in named word ≡ None → before_colon word ≡ None → word_of word ≡ unwrap_or (lookup line_words word) words.Unknown
+word_of_plain word absent plain = word_of_other word absent ∙ ap (λ (o : Option (List ℕ)). or_else (lookup line_words word) (if_name o)) plain ∙ or_unwrap (lookup line_words word) words.Unknown
+
+pub no_word : word_of [] ≡ words.Unknown
+unfolding word_of
+no_word = refl

@@ -3,12 +3,14 @@
 #![tactic(auto)]
 
 mod bytes;
+mod entries;
 mod kinds;
 mod line;
 mod names;
 mod next;
 mod noting;
 mod quoted;
+mod searching;
 mod token;
 mod vocabulary;
 

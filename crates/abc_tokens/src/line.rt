@@ -7,6 +7,7 @@ use crate::next::next_token;
 use crate::token::{Next, Token};
 use crate::vocabulary::Vocabulary;
 use abc_text::Word;
+use memchr::memchr;
 
 /// A line of a text that has tokens, up to its first token.
 #[derive(Clone, Copy, Debug)]
@@ -42,12 +43,10 @@ fn split_line(text: &[u8]) -> (&[u8], &[u8])
     ensures lines { Splits text.now result.0.now result.1.now }
     ensures short { length result.1.now < length text.now }
 {
-    for i in 0..text.len() {
-        if text[i] == b'\n' {
-            return (&text[..i], &text[i + 1..]);
-        }
+    match memchr(b'\n', text) {
+        Some(end) => (&text[..end], &text[end + 1..]),
+        None => (text, &[]),
     }
-    (text, &[])
 }
 
 /// The name of a token at the head of a line.

@@ -1,9 +1,22 @@
-use Rattle.std.proofs.Common.{arith}
-use Rattle.abc_tokens.proofs.Dividing.{lines_begin, splits_end}
+-- The first line feed, or none.
+use Rattle.std.proofs.Common.{◌+◌, ◌<◌, ℕ, List, take, length, sym, ap, ◌∙◌, arith}
+use Rattle.memchr.specs.Find.{NoneBefore}
+use Rattle.abc_lines.specs.Texts.{lines_in, raw_of, raws_from}
+use Rattle.abc_text.specs.Scanning.{Between, scan}
+use Rattle.abc_tokens.proofs.Dividing.{no_feed, splits_at, splits_end}
+use Rattle.abc_tokens.proofs.Walking.{tail_is}
 use Rattle.abc_tokens.proofs.line.split_line.Goals as goal
 
-pub loop-i-init : goal.loop-i-init
-loop-i-init c = lines_begin c.args.text.now
+pub returns-in-Some-clause-lines : goal.returns-in-Some-clause-lines
+returns-in-Some-clause-lines c =
+    let text = c.args.text.now in
+    let end = c.in-Some.end in
+    let first = c.in-Some.ensures.0 in
+    let lt : end < length text = first.high in
+    let lines = no_feed text end (omega (arith, lt)) (λ k less. first.before k (omega arith) less) in λ number.
+    splits_at text end lt c.in-Some.ensures.1 lines number ∙ ap (λ (l : List ℕ). raw_of number (scan (take end text) Between) (raws_from (number + 1) (lines_in l))) (sym (tail_is text (end + 1)))
 
-pub returns-clause-lines : goal.returns-clause-lines
-returns-clause-lines c = splits_end c.args.text.now c.loop-i.i (omega (arith, c.loop-i-test.false)) c.loop-i.invariant
+pub returns-in-None-clause-lines : goal.returns-in-None-clause-lines
+returns-in-None-clause-lines c =
+    let text = c.args.text.now in
+    splits_end text (length text) (omega arith) (no_feed text (length text) (omega arith) (λ k less. c.in-None.ensures k (omega arith) less))

@@ -4,8 +4,8 @@ use Rattle.std.specs.Borrow.{Bor}
 use Rattle.std.specs.Map.{lookup}
 use Rattle.abc_tokens.specs.Names.{NameMap, either_of, found, is_named, opcode_from}
 use Rattle.abc_tokens.proofs.Wording.{all_opcodes, opcode_end, opcode_named, opcode_unnamed}
-use Rattle.abc_tokens.proofs.vocabulary.opcodes_by_name.Goals as goal
-use Rattle.abc_tokens.proofs.vocabulary.opcodes_by_name.Goals.{in-Some+in_ok-note-in-Some, in-None}
+use Rattle.abc_tokens.proofs.searching.opcodes_by_name.Goals as goal
+use Rattle.abc_tokens.proofs.searching.opcodes_by_name.Goals.{in-Some+in_ok-note-in-Some, in-None}
 
 pub loop-op-init : goal.loop-op-init
 loop-op-init c name = ap (λ (es : List (Bor (List ℕ) × ℕ)). either_of (lookup (is_named name) es) (opcode_from 256 0 name)) c.new-opcodes.ensures.empty ∙ all_opcodes name
