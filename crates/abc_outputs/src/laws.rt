@@ -1,0 +1,11 @@
+ghost use Rattle.abc_outputs.specs.Laws.{RunsAppend, StepsAppend};
+
+/// What was written before a step stays in front of what is written after it.
+pub fn steps_append()
+    ensures { StepsAppend }
+{}
+
+/// What was written stays in front of what a run writes, with any fuel.
+pub fn runs_append()
+    ensures { RunsAppend }
+{}
