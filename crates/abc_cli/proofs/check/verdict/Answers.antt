@@ -35,20 +35,5 @@ returns-in_err-bytes-clause-stops c =
     let p = err_from_is_err_and c.from_residual-in_err-bytes.result c.from_residual-in_err-bytes.ensures.1 in
     rw (p.1, p.2) (memory_stops_at (Check c.args.abc c.args.places.now))
 
-pub returns-in_err-linked-clause-gives : goal.returns-in_err-linked-clause-gives
-returns-in_err-linked-clause-gives c =
-    let p = err_from_is_err_and c.from_residual.result c.from_residual.ensures.1 in
-    rw (p.1, p.2) tt
-
-pub returns-in_err-count-clause-gives : goal.returns-in_err-count-clause-gives
-returns-in_err-count-clause-gives c =
-    let p = err_from_is_err_and c.from_residual-in_err-count.result c.from_residual-in_err-count.ensures.1 in
-    rw (p.1, p.2) tt
-
-pub returns-in_err-bytes-clause-gives : goal.returns-in_err-bytes-clause-gives
-returns-in_err-bytes-clause-gives c =
-    let p = err_from_is_err_and c.from_residual-in_err-bytes.result c.from_residual-in_err-bytes.ensures.1 in
-    rw (p.1, p.2) tt
-
 pub returns-clause-stops : goal.returns-clause-stops
 returns-clause-stops c = tt
