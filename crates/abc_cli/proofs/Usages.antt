@@ -14,7 +14,7 @@ use Rattle.abc_words.specs.declared.command.Usage.TheVariants as usages
 use Rattle.abc_words.specs.Grammar.{IsUsageWord, Says}
 use Rattle.abc_cli.specs.Outcome.{Answer, Canon, Check, CommandOutcome, Dis, OfFile, OfFileRead, OutcomeOf, Tidy, UsageOutcome, usage_answer, IsUsage, AsksNoInput, reads_input, not_built, Asm}
 use Rattle.abc_tables.specs.declared.tables.Abc.{Abc}
-use Rattle.abc_cli.specs.End.{Channel, IsEnd}
+use Rattle.abc_cli.specs.End.{Channel, GivesLine, IsEnd}
 use Rattle.abc_cli.specs.Stops.{Stops}
 use Rattle.abc_cli.specs.declared.stop.Stop.TheVariants as stops
 use Rattle.abc_cli.proofs.Ending.{any_input}
@@ -32,6 +32,15 @@ is_usage words r (usages.Word i) none word e = (word i).0 e
 pub usage_outcome : (words : List (List ℕ)) (u : Usage) → IsUsage words u → UsageOutcome words (usage_answer words u)
 usage_outcome words usages.NoCommand h = UsageOutcome.no_command h
 usage_outcome words (usages.Word i) h = UsageOutcome.word i h
+
+-- the line of such words ends with a status of its own, or with that of a failed write
+pub usage_not_done : (err : Channel) (words : List (List ℕ)) (u : Usage) (s : Status) → GivesLine err (usage_answer words u) s → s ≡ status.Done → ⊥
+usage_not_done err words u s (inl g) e = let k : s ≡ status.Usage = g.1 in cc
+usage_not_done err words u s (inr g) e = let k : s ≡ status.WriteFault = g.2 in cc
+
+pub usage_not_memory : (err : Channel) (words : List (List ℕ)) (u : Usage) (s : Status) → GivesLine err (usage_answer words u) s → s ≡ status.NoMemory → ⊥
+usage_not_memory err words u s (inl g) e = let k : s ≡ status.Usage = g.1 in cc
+usage_not_memory err words u s (inr g) e = let k : s ≡ status.WriteFault = g.2 in cc
 
 pub same_usage : (u v : Usage) (r : Result Command Usage) → r ≡ Err u → r ≡ Err v → u ≡ v
 same_usage u v r e f = cc

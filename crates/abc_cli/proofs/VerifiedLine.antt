@@ -1,7 +1,7 @@
 -- Lines of `check`, piece by piece.
 use Rattle.std.proofs.Common.{◌≡◌, ℕ, ◌++◌, ◌∷◌, [], List, ap, ap₂, sym, ◌∙◌, append_assoc}
 use Rattle.std.specs.Prelude.{codes, decimal}
-use Rattle.abc_cli.specs.Lines.{code_text, line, verified_line}
+use Rattle.abc_cli.specs.Lines.{code_text, line, place_text, verified_line}
 
 pub line_is : (a b c d digits : List ℕ) (n : ℕ) → a ≡ [] → b ≡ a ++ codes "verified " → c ≡ b ++ digits → digits ≡ decimal n → d ≡ c ++ 10 ∷ [] → d ≡ verified_line n
 unfolding verified_line
@@ -23,3 +23,15 @@ code_line m o first second name e f =
     ∙ sym (append_assoc front second (codes ": " ++ name))
     ∙ sym (append_assoc (front ++ second) (codes ": ") name)
     ∙ ap₂ (λ (a b : List ℕ). (((a ++ codes " offset ") ++ b) ++ codes ": ") ++ name) e f)
+
+-- the line of a place, piece by piece
+pub place_line : (n : ℕ) (kind digits name : List ℕ) → digits ≡ decimal n
+    → ((codes "abc: " ++ kind ++ codes " ") ++ (digits ++ codes ": " ++ name)) ++ 10 ∷ [] ≡ line (place_text kind n name)
+unfolding line place_text
+place_line n kind digits name e =
+    let front = kind ++ codes " " in
+    ap (λ (xs : List ℕ). (codes "abc: " ++ xs) ++ (10 ∷ []))
+    (ap (λ (xs : List ℕ). front ++ xs) (append_assoc digits (codes ": ") name)
+    ∙ sym (append_assoc front digits (codes ": " ++ name))
+    ∙ sym (append_assoc (front ++ digits) (codes ": ") name)
+    ∙ ap (λ (xs : List ℕ). ((front ++ xs) ++ codes ": ") ++ name) e)

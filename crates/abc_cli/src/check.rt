@@ -14,7 +14,7 @@ use abc_base::{NoMemory, Source};
 use abc_file::{Places, read};
 use abc_link::{Linked, link};
 use abc_tables::Abc;
-use abc_verify::{Verified, VerifyError, verify};
+use abc_verify::{VerifyError, verify};
 use itoa::Buffer;
 use std::alloc::Global;
 
@@ -60,28 +60,20 @@ fn stop_of(places: &Places, e: VerifyError) -> Stop
     }
 }
 
-/// A linked file that is verified, or why it isn't.
-fn verified_file(alloc: Global, linked: Linked, places: &Places) -> Result<Verified, Stop>
+/// How many bodies a linked file has, where all are verified, or why they aren't.
+fn verified_bodies(alloc: Global, linked: Linked, places: &Places) -> Result<usize, Stop>
     requires linked { IsLinkedFile linked }
     requires places { ArePlaces linked.file.bodies places.now }
-    ensures ok { IfOk result (λ v. (v ≡ linked) × AllTyped linked) }
+    ensures ok { IfOk result (λ count. (count ≡ length linked.file.bodies) × AllTyped linked) }
     ensures stops { IfErr result (λ stop. StopsAt (Check linked.file places.now) stop) }
 {
     match verify(alloc, linked) {
-        Ok(verified) => Ok(verified),
+        Ok(verified) => Ok(verified.linked().abc().bodies.len()),
         Err(e) => Err(stop_of(places, e)),
     }
 }
 
-/// The line of a file that is verified, by its number of bodies.
-fn line_of_file(alloc: Global, linked: &Linked) -> Result<Vec<u8>, NoMemory>
-    ensures { IfOk result (λ bytes. bytes.items ≡ verified_line (length linked.now.file.bodies)) }
-{
-    let bytes = line_of(alloc, linked.abc().bodies.len())?;
-    Ok(bytes)
-}
-
-/// How many bodies are verified, or why the file isn't.
+/// The line of a file that is verified, or why the file isn't.
 fn verdict(alloc: Global, abc: Abc, places: &Places) -> Result<Vec<u8>, Stop>
     requires fits { Fits abc }
     requires places { ArePlaces abc.bodies places.now }
@@ -89,8 +81,8 @@ fn verdict(alloc: Global, abc: Abc, places: &Places) -> Result<Vec<u8>, Stop>
     ensures stops { IfErr result (λ stop. StopsAt (Check abc places.now) stop) }
 {
     let linked = link(alloc, abc)?;
-    let verified = verified_file(alloc, linked, places)?;
-    let bytes = line_of_file(alloc, verified.linked())?;
+    let count = verified_bodies(alloc, linked, places)?;
+    let bytes = line_of(alloc, count)?;
     Ok(bytes)
 }
 

@@ -85,7 +85,6 @@ pub fn write_usage<E: Sink>(err: &mut E, word: &[u8]) -> Result<(), Failed>
 }
 
 /// Writes the line of a place by its kind, its number, and what is wrong there.
-#[tactic(auto, unfolding(crate::specs::Lines::line, crate::specs::Lines::place_text), using(std::proofs::Common::append_assoc))]
 pub fn write_place<E: Sink>(
     err: &mut E,
     kind: &[u8],
@@ -101,7 +100,6 @@ pub fn write_place<E: Sink>(
 }
 
 /// Writes the line of an instruction by its method and its offset, and what is wrong there.
-#[tactic(auto, unfolding(crate::specs::Lines::line, crate::specs::Lines::code_text), using(std::proofs::Common::append_assoc))]
 pub fn write_code<E: Sink>(err: &mut E, method: u32, offset: u32, name: &[u8]) -> Result<(), Failed>
     ensures bytes { WritesAll (E.written err.old) (E.written err.new) result (line (code_text method offset name.now)) }
     ensures cause { HasCause (E.faults err.old) (E.faults err.new) result }

@@ -14,7 +14,7 @@ use abc_varint::ReadError;
 use thiserror::Error;
 
 /// Why a command gives no bytes.
-#[derive(Clone, Copy, Debug, PartialEq, Eq, Error)]
+#[derive(Clone, Copy, Debug, Error)]
 pub enum Stop {
     /// The input is no file.
     #[error("the file is refused at {place}: {reason:?}")]

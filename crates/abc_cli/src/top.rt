@@ -31,6 +31,7 @@ fn run_command<S: Source, K: Sink, E: Sink>(
 }
 
 /// Writes the line of words outside the grammar.
+#[tactic(auto, using(crate::proofs::Ending::gives))]
 fn give_usage<E: Sink>(words: &Words, usage: Usage, err: &mut E) -> Status
     requires { IsUsage words.now usage }
     ensures { GivesLine (stream E.written E.faults err.old err.new) (usage_answer words.now usage) result }

@@ -1,7 +1,6 @@
-use Rattle.std.proofs.Common.{◌∙◌, ap, length, subst, sym}
+use Rattle.std.proofs.Common.{◌∙◌, ap, subst, sym}
 use Rattle.std.proofs.lemmas.Result.{err_from_is_err_and}
 use Rattle.abc_bodies.specs.Places.{ArePlaces}
-use Rattle.abc_program.specs.Linked.{LinkedFile}
 use Rattle.abc_tables.specs.declared.tables.Abc.{Abc}
 use Rattle.abc_cli.specs.Lines.{verified_line}
 use Rattle.abc_cli.specs.Outcome.{Check}
@@ -10,28 +9,31 @@ use Rattle.abc_cli.proofs.Checks.{link_stops_at, verified_gives}
 use Rattle.abc_cli.proofs.Ending.{memory_stops_at}
 use Rattle.abc_cli.proofs.check.verdict.Goals as goal
 
-pub verified_file-requires : goal.verified_file-requires
-verified_file-requires c = record {
+pub verified_bodies-requires : goal.verified_bodies-requires
+verified_bodies-requires c = record {
   linked = c.in_ok-linked.ensures.1;
   places = subst (λ (v : Abc). ArePlaces v.bodies c.args.places.now) (sym c.in_ok-linked.ensures.0) c.requires.places;
 }
 
 pub returns-clause-gives : goal.returns-clause-gives
 returns-clause-gives c =
-    verified_gives c.args.abc c.args.places.now c.in_ok-linked.linked c.in_ok-bytes.bytes.items c.in_ok-linked.ensures.0 c.in_ok-linked.ensures.1 c.in_ok-verified.ensures.ok.1
-    (c.in_ok-bytes.ensures ∙ ap (λ (l : LinkedFile). verified_line (length l.file.bodies)) (c.linked.ensures ∙ c.in_ok-verified.ensures.ok.0))
+    verified_gives c.args.abc c.args.places.now c.in_ok-linked.linked c.in_ok-bytes.bytes.items c.in_ok-linked.ensures.0 c.in_ok-linked.ensures.1 c.in_ok-count.ensures.ok.1
+    (c.in_ok-bytes.ensures ∙ ap verified_line c.in_ok-count.ensures.ok.0)
 
 pub returns-in_err-linked-clause-stops : goal.returns-in_err-linked-clause-stops
 returns-in_err-linked-clause-stops c =
     let p = err_from_is_err_and c.from_residual.result c.from_residual.ensures.1 in
     rw (p.1, p.2) (link_stops_at c.args.abc c.args.places.now c.in_err-linked.field-0.0 c.in_err-linked.ensures)
 
-pub returns-in_err-verified-clause-stops : goal.returns-in_err-verified-clause-stops
-returns-in_err-verified-clause-stops c =
-    let p = err_from_is_err_and c.from_residual-in_err-verified.result c.from_residual-in_err-verified.ensures.1 in
-    rw (p.1, p.2) (subst (λ (v : Abc). StopsAt (Check v c.args.places.now) c.in_err-verified.field-0.0) c.in_ok-linked.ensures.0 c.in_err-verified.ensures.stops)
+pub returns-in_err-count-clause-stops : goal.returns-in_err-count-clause-stops
+returns-in_err-count-clause-stops c =
+    let p = err_from_is_err_and c.from_residual-in_err-count.result c.from_residual-in_err-count.ensures.1 in
+    rw (p.1, p.2) (subst (λ (v : Abc). StopsAt (Check v c.args.places.now) c.in_err-count.field-0.0) c.in_ok-linked.ensures.0 c.in_err-count.ensures.stops)
 
 pub returns-in_err-bytes-clause-stops : goal.returns-in_err-bytes-clause-stops
 returns-in_err-bytes-clause-stops c =
     let p = err_from_is_err_and c.from_residual-in_err-bytes.result c.from_residual-in_err-bytes.ensures.1 in
     rw (p.1, p.2) (memory_stops_at (Check c.args.abc c.args.places.now))
+
+pub returns-clause-stops : goal.returns-clause-stops
+returns-clause-stops c = tt

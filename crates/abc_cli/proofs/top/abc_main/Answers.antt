@@ -1,11 +1,11 @@
-use Rattle.std.proofs.Common.{sym, ap, subst, ◌∙◌}
+use Rattle.std.proofs.Common.{refl, sym, ap, subst, ◌∙◌}
 use Rattle.abc_words.specs.declared.command.Usage.{Usage}
 use Rattle.abc_words.specs.declared.command.Command.{Command}
 use Rattle.abc_words.specs.declared.command.Command.TheVariants as commands
 use Rattle.abc_cli.specs.End.{Ends, GivesLine, stream}
 use Rattle.abc_cli.specs.Outcome.{Answer, CommandOutcome, IsOutcome, usage_answer}
 use Rattle.abc_cli.proofs.Ending.{line_ends, nothing, weaker}
-use Rattle.abc_cli.proofs.Usages.{usage_found, is_usage, usage_outcome, same_command, same_usage, not_ok, end_not_usage, unread_command}
+use Rattle.abc_cli.proofs.Usages.{usage_found, is_usage, usage_not_done, usage_not_memory, usage_outcome, same_command, same_usage, not_ok, end_not_usage, unread_command}
 use Rattle.abc_cli.proofs.Listings.{lists}
 use Rattle.abc_cli.proofs.top.abc_main.Goals as goal
 
@@ -61,3 +61,21 @@ returns-in-Ok-clause-listed g c = λ says done.
 
 pub returns-in-Err-clause-listed : goal.returns-in-Err-clause-listed
 returns-in-Err-clause-listed g c = λ says done. absurd (not_ok commands.Dis c.in-Err.usage c.parse.result ((c.parse.ensures.command commands.Dis).1 says) c.in-Err.is)
+
+pub returns-in-Ok-clause-used_up : goal.returns-in-Ok-clause-used_up
+returns-in-Ok-clause-used_up g c = c.run_command.ensures.used_up
+
+pub returns-in-Ok-clause-memory : goal.returns-in-Ok-clause-memory
+returns-in-Ok-clause-memory g c = λ e. (c.in-Ok.command, (c.parse.ensures.command c.in-Ok.command).0 c.in-Ok.is)
+
+pub returns-in-Err-clause-used_up : goal.returns-in-Err-clause-used_up
+returns-in-Err-clause-used_up g c = λ e. absurd (usage_not_done (stream g.E.Sink.written g.E.Sink.faults c.args.err.now c.give_usage.new.err) c.args.words.now c.in-Err.usage c.give_usage.result c.give_usage.ensures e)
+
+pub returns-in-Err-clause-unread : goal.returns-in-Err-clause-unread
+returns-in-Err-clause-unread g c = λ asks. refl
+
+pub returns-in-Err-clause-untouched : goal.returns-in-Err-clause-untouched
+returns-in-Err-clause-untouched g c = λ a u. refl
+
+pub returns-in-Err-clause-memory : goal.returns-in-Err-clause-memory
+returns-in-Err-clause-memory g c = λ e. absurd (usage_not_memory (stream g.E.Sink.written g.E.Sink.faults c.args.err.now c.give_usage.new.err) c.args.words.now c.in-Err.usage c.give_usage.result c.give_usage.ensures e)

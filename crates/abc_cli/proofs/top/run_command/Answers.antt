@@ -18,3 +18,12 @@ returns-in-Err-clause-end g c =
 
 pub returns-in-Err-clause-used_up : goal.returns-in-Err-clause-used_up
 returns-in-Err-clause-used_up g c = λ h. absurd (not_done (stream g.E.Sink.written g.E.Sink.faults c.args.err.now c.give_stop.new.err) c.in-Err.stop c.give_stop.result c.give_stop.ensures h)
+
+pub returns-in-Ok-clause-used_up : goal.returns-in-Ok-clause-used_up
+returns-in-Ok-clause-used_up g c = λ e. c.in-Ok.ensures.gives.used_up
+
+pub returns-in-Ok-clause-unread : goal.returns-in-Ok-clause-unread
+returns-in-Ok-clause-unread g c = c.bytes_of.ensures.unread
+
+pub returns-in-Err-clause-unread : goal.returns-in-Err-clause-unread
+returns-in-Err-clause-unread g c = c.bytes_of.ensures.unread
