@@ -1,5 +1,5 @@
 -- A reader at the first line of a text.
-use Rattle.std.proofs.Common.{◌≡◌, ℕ, ◌+◌, ◌≤◌, ◌<◌, ◌^◌, Bool, List, [], ◌∷◌, length, map, Some, None, refl, sym, ap, subst, ◌∙◌, arith}
+use Rattle.std.proofs.Common.{◌≡◌, ℕ, ◌+◌, ◌≤◌, ◌<◌, ◌^◌, Bool, List, [], ◌∷◌, length, drop, map, Some, None, refl, sym, ap, subst, ◌∙◌, arith}
 use Rattle.std.specs.Borrow.{Bor}
 use Rattle.std.specs.Map.{lookup}
 use Rattle.std.specs.declared.option.Option.{Option}
@@ -8,6 +8,7 @@ use Rattle.abc_rowparts.specs.Lines.{Label, Row}
 use Rattle.abc_rowparts.specs.Operands.{place_of_label}
 use Rattle.abc_rowparts.specs.Wordlines.{count_all}
 use Rattle.abc_lines.specs.Texts.{Raw, instances_in, lines_in, raws_from, rows_from, rows_of, sizes_in}
+use Rattle.abc_labels.specs.Ahead.{Follows}
 use Rattle.abc_labels.specs.Counts.{count_all_raws}
 use Rattle.abc_labels.proofs.Counted.{all_counted, comes_raws, fewer, stay_numbered}
 use Rattle.abc_operands.specs.Places.{Places}
@@ -47,8 +48,8 @@ module _ (text : List ℕ) (next : Option Line) (comes : Comes (raws_from 1 (lin
         ∙ ap (λ (o : Option Line). rows_from [] [] [] (raws_at o)) here
         ∙ first_rows
 
-    pub fresh_reader : length text < 2 ^ 32 → r.instances_left ≡ r.instances → r.classes_left ≡ r.sizes.classes → ((labels : List Label) (set taken : List (List ℕ)) → r.sizes ≡ sizes_in (rows_from labels set taken (raws_at next))) → ((labels : List Label) (set taken : List (List ℕ)) → r.instances ≡ instances_in (rows_from labels set taken (raws_at next))) → IsReader r
-    fresh_reader short instances classes sizes_are instances_are =
+    pub fresh_reader : length text < 2 ^ 32 → r.instances_left ≡ r.instances → r.classes_left ≡ r.sizes.classes → ((labels : List Label) (set taken : List (List ℕ)) → r.sizes ≡ sizes_in (rows_from labels set taken (raws_at next))) → ((labels : List Label) (set taken : List (List ℕ)) → r.instances ≡ instances_in (rows_from labels set taken (raws_at next))) → r.ahead.items ≡ [] → r.place ≡ 0 → IsReader r
+    fresh_reader short instances classes sizes_are instances_are ahead place =
         let comes_here : Comes (raws_from 1 (lines_in text)) 1 (length text) r.next = subst (λ (o : Option Line). Comes (raws_from 1 (lines_in text)) 1 (length text) o) (sym here) comes in
         let most = fewer (raws_from 1 (lines_in text)) 1 (length text) r.next comes_here in
         let classes_count : r.sizes.classes ≡ count_all_raws 20 (raws_at next) = ap (λ (s : Sizes). s.classes) (sizes_are [] [] []) ∙ all_counted 20 [] [] [] (raws_at next) in
@@ -57,6 +58,7 @@ module _ (text : List ℕ) (next : Option Line) (comes : Comes (raws_from 1 (lin
           places = subst (λ (o : Option Line). Places r.places (labels_now o)) (sym body) (no_places r.places places);
           numbered = stay_numbered (raws_from 1 (lines_in text)) 1 (length text) r.next (omega arith) comes_here;
           few = omega arith;
+          ahead = subst (λ (n : ℕ). Follows r.next (drop n r.ahead.items)) (sym place) (subst (λ (lines : List Line). Follows r.next lines) (sym ahead) tt);
           instances = instances ∙ instances_count ∙ ap (λ (o : Option Line). count_all_raws 14 (raws_at o)) (sym here);
           some_instances = omega arith;
           classes = classes ∙ classes_count ∙ ap (λ (o : Option Line). count_all_raws 20 (raws_at o)) (sym here);

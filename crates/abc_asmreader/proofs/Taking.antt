@@ -1,5 +1,5 @@
 -- A line is taken.
-use Rattle.std.proofs.Common.{◌≡◌, ℕ, zero, suc, ◌+◌, ◌≤◌, ◌<◌, ◌^◌, inl, inr, Bool, true, false, cond, ◌||◌, nat_eq, List, [], ◌∷◌, ◌++◌, length, Ok, Err, Some, None, refl, sym, ap, subst, ◌∙◌, arith}
+use Rattle.std.proofs.Common.{◌≡◌, ℕ, zero, suc, ◌+◌, ◌≤◌, ◌<◌, ◌^◌, inl, inr, Bool, true, false, cond, ◌||◌, nat_eq, List, [], ◌∷◌, ◌++◌, length, drop, Ok, Err, Some, None, refl, sym, ap, subst, ◌∙◌, arith}
 use Rattle.std.specs.Option.{IsSome}
 use Rattle.std.specs.Result.{IfOk}
 use Rattle.std.specs.declared.result.Result.{Result}
@@ -16,7 +16,9 @@ use Rattle.abc_rowparts.specs.Lines.{Label, Row}
 use Rattle.abc_rowparts.proofs.Many.{eq_refl, eq_true}
 use Rattle.abc_rowparts.proofs.Wordlines.{same_word}
 use Rattle.abc_lines.specs.Texts.{Counts, Ends, Raw, Sets, Skips, Step, by_step, is_among, is_taken, labels_set, method_in, row, rows_from, step_of}
+use Rattle.abc_labels.specs.Ahead.{Follows}
 use Rattle.abc_labels.specs.Counts.{count_all_raws}
+use Rattle.abc_labels.specs.Labels.{Leads}
 use Rattle.abc_labels.proofs.Counted.{comes_raws, fewer, stay_numbered}
 use Rattle.abc_operands.specs.Places.{Places}
 use Rattle.abc_tokens.specs.Cursor.{AreNumbered, Comes, most_lines, raw_of, raws_after, raws_at}
@@ -133,10 +135,11 @@ opens_body old new line repeated word noted broken =
     ∙ ap (λ (o : Option Line). row raw (labels_now o) repeated ∷ rows_from (labels_now o) (names_in new.set) (names_in new.bodied) raws) e
 
 -- a line of another word
-pub noted_other : (old new : Reader) (line : Line) → Places old.places (labels_now old.body) → may_repeat line.word ≡ false → new.next ≡ old.next → new.operands.items ≡ old.operands.items → new.sizes ≡ old.sizes → new.instances ≡ old.instances → new.places ≡ old.places → new.body ≡ old.body → new.set ≡ old.set → new.bodied ≡ old.bodied → new.instances_left + one_at 14 line.word ≡ old.instances_left → new.classes_left + one_at 20 line.word ≡ old.classes_left → Noted old new line false
-noted_other old new line places plain next operands sizes all same_places body set bodied instances classes =
+pub noted_other : (old new : Reader) (line : Line) → Places old.places (labels_now old.body) → may_repeat line.word ≡ false → new.next ≡ old.next → new.operands.items ≡ old.operands.items → new.sizes ≡ old.sizes → new.instances ≡ old.instances → new.places ≡ old.places → new.body ≡ old.body → new.set ≡ old.set → new.bodied ≡ old.bodied → new.instances_left + one_at 14 line.word ≡ old.instances_left → new.classes_left + one_at 20 line.word ≡ old.classes_left → Follows new.next (drop new.place new.ahead.items) → Noted old new line false
+noted_other old new line places plain next operands sizes all same_places body set bodied instances classes ahead =
     record {
       next = next;
+      ahead = ahead;
       operands = operands;
       sizes = sizes;
       all = all;
@@ -148,12 +151,13 @@ noted_other old new line places plain next operands sizes all same_places body s
     }
 
 -- a label line
-pub noted_label : {E : Type 0} (old new : Reader) (line : Line) (r : Result Bool E) → Places old.places (labels_now old.body) → line.word ≡ words.Label → new.next ≡ old.next → new.operands.items ≡ old.operands.items → new.sizes ≡ old.sizes → new.instances ≡ old.instances → new.places ≡ old.places → new.body ≡ old.body → new.bodied ≡ old.bodied → new.instances_left ≡ old.instances_left → new.classes_left ≡ old.classes_left → IfOk r (λ known. known ≡ is_among line.name.now (names_in old.set)) → IfOk r (λ known. Same (names_in new.set) (line.name.now ∷ names_in old.set)) → IfOk r (λ repeated. Noted old new line repeated)
-noted_label old new line (Ok known) places word next operands sizes all same_places body bodied instances classes was same =
+pub noted_label : {E : Type 0} (old new : Reader) (line : Line) (r : Result Bool E) → Places old.places (labels_now old.body) → line.word ≡ words.Label → new.next ≡ old.next → new.operands.items ≡ old.operands.items → new.sizes ≡ old.sizes → new.instances ≡ old.instances → new.places ≡ old.places → new.body ≡ old.body → new.bodied ≡ old.bodied → new.instances_left ≡ old.instances_left → new.classes_left ≡ old.classes_left → IfOk r (λ known. known ≡ is_among line.name.now (names_in old.set)) → Follows new.next (drop new.place new.ahead.items) → IfOk r (λ known. Same (names_in new.set) (line.name.now ∷ names_in old.set)) → IfOk r (λ repeated. Noted old new line repeated)
+noted_label old new line (Ok known) places word next operands sizes all same_places body bodied instances classes was ahead same =
     let no_instance : one_at 14 line.word ≡ 0 = ap (one_at 14) word in
     let no_class : one_at 20 line.word ≡ 0 = ap (one_at 20) word in
     record {
       next = next;
+      ahead = ahead;
       operands = operands;
       sizes = sizes;
       all = all;
@@ -163,7 +167,11 @@ noted_label old new line (Ok known) places word next operands sizes all same_pla
       instances = omega arith;
       classes = omega arith;
     }
-noted_label old new line (Err d) places word next operands sizes all same_places body bodied instances classes was same = tt
+noted_label old new line (Err d) places word next operands sizes all same_places body bodied instances classes was ahead same = tt
+
+-- the labels of the lines that come are those of the body
+pub noted_places : (m : NameMap ℕ) (line : Line) (next : Option Line) → raws_after line ≡ raws_at next → Leads m (labels_set 0 (raws_at next)) → Places m (labels_now (Some line))
+noted_places m line next e leads = subst (λ (raws : List Raw). Places m (labels_set 0 raws)) (sym e) leads
 
 -- a body's line
 pub noted_body : {E : Type 0} (old new : Reader) (line : Line) (r : Result Bool E) → line.word ≡ words.Body → IfOk r (λ repeated. NotedBody old new line repeated) → IfOk r (λ repeated. Noted old new line repeated)
@@ -173,6 +181,7 @@ noted_body old new line (Ok repeated) word noted =
     let i = noted.instances in let c = noted.classes in
     record {
       next = noted.next;
+      ahead = noted.ahead;
       operands = noted.operands;
       sizes = noted.sizes;
       all = noted.all;
@@ -250,6 +259,7 @@ still_reads old mid new line repeated noted is next sizes all instances classes 
       places = noted.places;
       numbered = stay_numbered (raws_after line) (line.number + 1) (length line.rest.now) new.next numbered here;
       few = omega arith;
+      ahead = noted.ahead;
       instances = instances_are;
       some_instances = omega arith;
       classes = classes_are;

@@ -1,5 +1,5 @@
 -- The lines that a reader has still to give, and what it does as it gives one.
-use Rattle.std.specs.Prelude.{◌≡◌, ℕ, ◌+◌, ◌≤◌, ◌<◌, ◌^◌, Bool, true, false, nat_eq, List, [], ◌∷◌, ◌++◌, length, Some, None, if◌then◌else◌}
+use Rattle.std.specs.Prelude.{◌≡◌, ℕ, ◌+◌, ◌≤◌, ◌<◌, ◌^◌, Bool, true, false, nat_eq, List, [], ◌∷◌, ◌++◌, length, drop, Some, None, if◌then◌else◌}
 use Rattle.std.specs.declared.option.Option.{Option}
 use Rattle.abc_text.specs.declared.reason.AsmReason.TheVariants as reasons
 use Rattle.abc_text.specs.declared.word.Word.{Word}
@@ -7,6 +7,7 @@ use Rattle.abc_text.specs.declared.word.Word.TheVariants as words
 use Rattle.abc_text.specs.Words.{place_of}
 use Rattle.abc_rowparts.specs.Lines.{Label, Row}
 use Rattle.abc_lines.specs.Texts.{Raw, is_taken, labels_set, method_in, row, rows_from}
+use Rattle.abc_labels.specs.Ahead.{Follows}
 use Rattle.abc_labels.specs.Counts.{count_all_raws}
 use Rattle.abc_operands.specs.Places.{Places}
 use Rattle.abc_tokens.specs.Cursor.{AreNumbered, most_lines, raws_after, raws_at}
@@ -49,6 +50,7 @@ pub record IsReader (r : Reader) : Type 0 where
   pub places : Places r.places (labels_now r.body)
   pub numbered : AreNumbered r.next
   pub few : most_lines r.next < 2 ^ 32
+  pub ahead : Follows r.next (drop r.place r.ahead.items)
   pub instances : r.instances_left ≡ count_all_raws 14 (raws_at r.next)
   pub some_instances : r.instances_left ≤ r.instances
   pub classes : r.classes_left ≡ count_all_raws 20 (raws_at r.next)
@@ -84,6 +86,7 @@ Opens old new line repeated =
 -- what is noted of a line
 pub record Noted (old new : Reader) (line : Line) (repeated : Bool) : Type 0 where
   pub next : new.next ≡ old.next
+  pub ahead : Follows new.next (drop new.place new.ahead.items)
   pub operands : new.operands.items ≡ old.operands.items
   pub sizes : new.sizes ≡ old.sizes
   pub all : new.instances ≡ old.instances
@@ -93,9 +96,24 @@ pub record Noted (old new : Reader) (line : Line) (repeated : Bool) : Type 0 whe
   pub instances : new.instances_left + one_at 14 line.word ≡ old.instances_left
   pub classes : new.classes_left + one_at 20 line.word ≡ old.classes_left
 
+-- a reader went into the body of a line
+pub record Entered (old new : Reader) (line : Line) : Type 0 where
+  pub next : new.next ≡ old.next
+  pub ahead : Follows new.next (drop new.place new.ahead.items)
+  pub operands : new.operands.items ≡ old.operands.items
+  pub sizes : new.sizes ≡ old.sizes
+  pub all : new.instances ≡ old.instances
+  pub instances : new.instances_left ≡ old.instances_left
+  pub classes : new.classes_left ≡ old.classes_left
+  pub places : Places new.places (labels_now new.body)
+  pub body : new.body ≡ Some line
+  pub set : names_in new.set ≡ []
+  pub bodied : new.bodied ≡ old.bodied
+
 -- what is noted of a body's line
 pub record NotedBody (old new : Reader) (line : Line) (repeated : Bool) : Type 0 where
   pub next : new.next ≡ old.next
+  pub ahead : Follows new.next (drop new.place new.ahead.items)
   pub operands : new.operands.items ≡ old.operands.items
   pub sizes : new.sizes ≡ old.sizes
   pub all : new.instances ≡ old.instances

@@ -1,14 +1,15 @@
-ghost use Rattle.std.specs.Prelude.{◌≡◌, ◌<◌, ◌≤◌, ◌-◌, ◌^◌, ◌∷◌, [], false, true, ℕ, Some, IfOk, IfErr, IsSome, length};
+ghost use Rattle.std.specs.Prelude.{◌≡◌, ◌<◌, ◌≤◌, ◌-◌, ◌^◌, ◌∷◌, [], drop, false, true, ℕ, Some, IfOk, IfErr, OnOk, IsSome, length};
+ghost use Rattle.abc_labels.specs.Ahead.{Follows};
 ghost use Rattle.abc_lines.specs.Texts.{instances_in, rows_of, sizes_in};
 ghost use Rattle.abc_operands.specs.Places.{Places};
 ghost use Rattle.abc_rowparts.specs.Wordlines.{count_all, count_lines as lines_counted};
 ghost use Rattle.abc_text.specs.Words.{place_of};
-ghost use Rattle.abc_tokens.specs.Cursor.{IsNumbered};
+ghost use Rattle.abc_tokens.specs.Cursor.{AreNumbered, most_lines, raws_after, raws_at};
 
 use crate::error::{AsmError, refused};
 use crate::noting::{add, method_of, renew};
 use abc_base::NoMemory;
-use abc_labels::{TableSizes, count_lines, labels_of, sizes_of};
+use abc_labels::{TableSizes, count_lines, labels_of, line_after, meet, sizes_of};
 use abc_tables::Sizes;
 use abc_text::{AsmReason, Word};
 use abc_tokens::{Line, Token, Vocabulary, next_line, put_tokens};
@@ -31,6 +32,9 @@ pub struct Reader<'a> {
     vocabulary: &'a Vocabulary,
     /// The next line.
     next: Option<Line<'a>>,
+    /// Lines after it that were met ahead: those from the place on.
+    ahead: Vec<Line<'a>>,
+    place: usize,
     /// The operands of the line that was taken last.
     pub operands: Vec<Token<'a>>,
     /// The line of the body that the reader is in.
@@ -51,7 +55,7 @@ pub struct Reader<'a> {
 }
 
 impl<'a> Reader<'a> {
-    ghost use Rattle.abc_asmreader.specs.Reading.{Goes, IsBroken, IsReader, Noted, NotedBody, Opens, may_repeat, row_of, rows_left, word_next};
+    ghost use Rattle.abc_asmreader.specs.Reading.{Entered, Goes, IsBroken, IsReader, Noted, NotedBody, Opens, may_repeat, row_of, rows_left, word_next};
     ghost use Rattle.abc_asmreader.specs.Reading.{labels_now};
 
     /// A reader at the first line of a text of less than 2^32 bytes. `NoMemory` where memory runs out.
@@ -68,6 +72,8 @@ impl<'a> Reader<'a> {
             alloc,
             vocabulary,
             next,
+            ahead: Vec::new(alloc),
+            place: 0,
             operands: Vec::new(alloc),
             body: None,
             places: IndexMap::new(alloc),
@@ -130,7 +136,9 @@ impl<'a> Reader<'a> {
         };
         let unclosed = put_tokens(line.tail, &mut self.operands)?;
         let broken = line.broken || unclosed;
-        self.next = line.after(self.vocabulary);
+        let (next, place) = line_after(self.vocabulary, &line, self.ahead.as_slice(), self.place);
+        self.next = next;
+        self.place = place;
         let repeated = self.note_line(&line)?;
         if broken {
             return Err(refused(line.number, AsmReason::Text));
@@ -144,7 +152,10 @@ impl<'a> Reader<'a> {
 
     /// What a line changes for those that follow, and whether it repeats another.
     fn note_line(&mut self, line: &Line<'a>) -> Result<bool, NoMemory>
-        requires numbered { IsNumbered line.now }
+        requires next { raws_after line.now ≡ raws_at self.old.next }
+        requires numbered { AreNumbered self.old.next }
+        requires few { most_lines self.old.next < 2 ^ 32 }
+        requires ahead { Follows self.old.next (drop self.old.place self.old.ahead.items) }
         requires places { Places self.old.places (labels_now self.old.body) }
         requires instances { place_of line.now.word ≡ 14 → 1 ≤ self.old.instances_left }
         requires classes { place_of line.now.word ≡ 20 → 1 ≤ self.old.classes_left }
@@ -162,16 +173,36 @@ impl<'a> Reader<'a> {
 
     /// Goes into a body, and tells whether its method has one already.
     fn note_body(&mut self, line: &Line<'a>) -> Result<bool, NoMemory>
-        requires { IsNumbered line.now }
+        requires next { raws_after line.now ≡ raws_at self.old.next }
+        requires numbered { AreNumbered self.old.next }
+        requires few { most_lines self.old.next < 2 ^ 32 }
         ensures { IfOk result (λ repeated. NotedBody self.old self.new line.now repeated) }
     {
-        let labels = labels_of(self.alloc, self.vocabulary, line)?;
-        renew(&mut self.places, labels);
-        self.body = Some(*line);
-        renew(&mut self.set, IndexMap::new(self.alloc));
+        self.enter(line)?;
         match method_of(self.operands.as_slice()) {
             Some(method) => add(&mut self.bodied, method),
             None => Ok(false),
         }
+    }
+
+    /// Finds the labels of a body, and forgets those that stood in the one before. The lines that are met are kept.
+    fn enter(&mut self, line: &Line<'a>) -> Result<(), NoMemory>
+        requires next { raws_after line.now ≡ raws_at self.old.next }
+        requires numbered { AreNumbered self.old.next }
+        requires few { most_lines self.old.next < 2 ^ 32 }
+        ensures { OnOk result (Entered self.old self.new line.now) }
+    {
+        meet(self.vocabulary, self.next, &mut self.ahead)?;
+        self.place = 0;
+        let labels = labels_of(
+            self.alloc,
+            self.vocabulary,
+            self.next,
+            self.ahead.as_slice(),
+        )?;
+        renew(&mut self.places, labels);
+        self.body = Some(*line);
+        renew(&mut self.set, IndexMap::new(self.alloc));
+        Ok(())
     }
 }

@@ -2,11 +2,13 @@
 //! each table has. Each is one walk over the lines, ahead of reading them.
 #![tactic(auto)]
 
+mod ahead;
 mod counting;
 mod labels;
 mod places;
 mod sizes;
 
+pub use ahead::{line_after, meet};
 pub use counting::count_lines;
 pub use labels::labels_of;
 pub use places::place_of;

@@ -1,0 +1,54 @@
+//! Lines that are met ahead of reading them, so that they need not be found again.
+ghost use Rattle.std.specs.Prelude.{◌+◌, drop, length, OnOk};
+ghost use Rattle.abc_labels.specs.Ahead.{Follows};
+ghost use Rattle.abc_tokens.specs.Cursor.{AreNumbered, Comes, IsNumbered, raws_after};
+
+use abc_base::NoMemory;
+use abc_text::Word;
+use abc_tokens::{Line, Vocabulary};
+
+/// The most lines that are met ahead: enough for nearly all bodies, and few beside a text.
+const MOST: usize = 4096;
+
+/// Puts the lines after the first one into a list, in place of what it has, up to the next body's line and no more than
+/// [`MOST`]. `NoMemory` where memory runs out.
+pub fn meet<'a>(
+    vocabulary: &Vocabulary,
+    first: Option<Line<'a>>,
+    ahead: &mut Vec<Line<'a>>,
+) -> Result<(), NoMemory>
+    requires { AreNumbered first }
+    ensures { OnOk result (Follows first.entry ahead.new.items) }
+{
+    ahead.clear();
+    let mut next = first;
+    while let Some(line) = next {
+        if matches!(line.word, Word::Body) || ahead.len() >= MOST {
+            return Ok(());
+        }
+        next = line.after(vocabulary);
+        if let Some(line) = next {
+            ahead.push(line)?;
+        }
+    }
+    Ok(())
+}
+
+/// The line after a line, and the place behind it among those that were met ahead: the one at the place, if there is one.
+pub fn line_after<'a>(
+    vocabulary: &Vocabulary,
+    line: &Line<'a>,
+    ahead: &[Line<'a>],
+    place: usize,
+) -> (Option<Line<'a>>, usize)
+    requires numbered { IsNumbered line.now }
+    requires ahead { Follows (Some line.now) (drop place ahead.now) }
+    ensures comes { Comes (raws_after line.now) (line.now.number + 1) (length line.now.rest.now) result.0 }
+    ensures ahead { Follows result.0 (drop result.1 ahead.now) }
+{
+    if place < ahead.len() {
+        (Some(ahead[place]), place + 1)
+    } else {
+        (line.after(vocabulary), place)
+    }
+}
