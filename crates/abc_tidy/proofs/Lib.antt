@@ -8,3 +8,5 @@ pub mod Picked
 pub mod Tidied
 pub mod NodeGraph
 pub mod Ordered
+pub mod Operands
+pub mod Acyclic

@@ -7,7 +7,7 @@ use crate::places::{double_places, int_places, text_places, uint_places};
 use abc_base::{NoMemory, Table};
 use abc_refs::Counts;
 use abc_tables::{Abc, Multiname, Namespace, NsKind, Pool};
-use abc_trees::Head;
+use abc_trees::{Head, Rows};
 use std::alloc::Global;
 
 const INTS: u8 = 1;
@@ -25,7 +25,7 @@ const SETS: u8 = 6;
 #[derive(Debug, Drop)]
 pub(crate) struct Entries {
     pub(crate) heads: Table<Head>,
-    pub(crate) graph: Table<Table<u32>>,
+    pub(crate) graph: Rows,
 }
 
 /// The kind byte of a namespace.
@@ -101,36 +101,35 @@ fn add_nodes(
     Ok(())
 }
 
-/// The nodes of the entries that a name's indices name.
-fn name_parts(alloc: Global, counts: &Counts, name: &Multiname) -> Result<Table<u32>, NoMemory>
+/// Puts the nodes of the entries that a name's indices name in the place of those that there are.
+fn put_parts(parts: &mut Table<u32>, counts: &Counts, name: &Multiname) -> Result<(), NoMemory>
     requires { node_count counts.now < 2 ^ 32 }
-    ensures { IfOk result (λ t. t ≡ parts_of_name counts.now name.now) }
+    ensures { OnOk result (parts.new ≡ parts_of_name counts.now name.now) }
 {
-    let mut parts = Table::new(alloc);
+    parts.truncate(0);
     match name {
         Multiname::QName { ns, name, .. } => {
             parts.push(node(counts, Pool::Space, *ns))?;
-            parts.push(node(counts, Pool::Text, *name))?;
+            parts.push(node(counts, Pool::Text, *name))
         }
-        Multiname::Rt { name, .. } => parts.push(node(counts, Pool::Text, *name))?,
-        Multiname::RtL { .. } => {}
+        Multiname::Rt { name, .. } => parts.push(node(counts, Pool::Text, *name)),
+        Multiname::RtL { .. } => Ok(()),
         Multiname::Multi { name, set, .. } => {
             parts.push(node(counts, Pool::Text, *name))?;
-            parts.push(node_of_set(counts, *set))?;
+            parts.push(node_of_set(counts, *set))
         }
-        Multiname::MultiL { set, .. } => parts.push(node_of_set(counts, *set))?,
+        Multiname::MultiL { set, .. } => parts.push(node_of_set(counts, *set)),
         Multiname::TypeName { base, params } => {
             parts.push(node(counts, Pool::Name, *base))?;
-            add_nodes(&mut parts, counts, Pool::Name, params)?;
+            add_nodes(parts, counts, Pool::Name, params)
         }
     }
-    Ok(parts)
 }
 
 impl Entries {
-    fn push(&mut self, kind: u8, value: u32, parts: Table<u32>) -> Result<(), NoMemory>
+    fn push(&mut self, kind: u8, value: u32, parts: &[u32]) -> Result<(), NoMemory>
         ensures heads { OnOk result (self.new.heads ≡ self.old.heads ++ value_head kind value ∷ []) }
-        ensures graph { OnOk result (self.new.graph ≡ self.old.graph ++ parts ∷ []) }
+        ensures graph { OnOk result (self.new.graph ≡ self.old.graph ++ parts.now ∷ []) }
     {
         self.heads.push(Head { kind, value })?;
         self.graph.push(parts)
@@ -139,31 +138,24 @@ impl Entries {
 
 impl Entries {
     /// Adds values, told by the places of the first of equal ones.
-    fn add_values(&mut self, alloc: Global, kind: u8, places: &Table<u32>) -> Result<(), NoMemory>
+    fn add_values(&mut self, kind: u8, places: &Table<u32>) -> Result<(), NoMemory>
         ensures heads { OnOk result (self.new.heads ≡ self.old.heads ++ map (value_head kind) places.now) }
         ensures graph { OnOk result (self.new.graph ≡ self.old.graph ++ no_parts places.now) }
     {
         for place in places.as_slice() {
-            self.push(kind, *place, Table::new(alloc))?;
+            self.push(kind, *place, &[])?;
         }
         Ok(())
     }
 
-    fn add_space(
-        &mut self,
-        alloc: Global,
-        counts: &Counts,
-        space: &Namespace,
-        place: u32,
-    ) -> Result<(), NoMemory>
+    fn add_space(&mut self, counts: &Counts, space: &Namespace, place: u32) -> Result<(), NoMemory>
         requires { node_count counts.now < 2 ^ 32 }
         ensures heads { OnOk result (self.new.heads ≡ self.old.heads ++ space_head space.now place ∷ []) }
         ensures graph { OnOk result (self.new.graph ≡ self.old.graph ++ parts_of_space counts.now space.now ∷ []) }
     {
-        let mut parts = Table::new(alloc);
-        parts.push(node(counts, Pool::Text, space.name))?;
         let value = space_value(space.kind, place);
-        self.push(space_code(space.kind), value, parts)
+        let name = node(counts, Pool::Text, space.name);
+        self.push(space_code(space.kind), value, &[name])
     }
 
     fn add_sets(
@@ -176,10 +168,11 @@ impl Entries {
         ensures heads { OnOk result (self.new.heads ≡ self.old.heads ++ map (λ s. value_head sets_kind 0) sets.now) }
         ensures graph { OnOk result (self.new.graph ≡ self.old.graph ++ map (parts_of_set counts.now) sets.now) }
     {
+        let mut parts = Table::new(alloc);
         for set in sets.as_slice() {
-            let mut parts = Table::new(alloc);
+            parts.truncate(0);
             add_nodes(&mut parts, counts, Pool::Space, set)?;
-            self.push(SETS, 0, parts)?;
+            self.push(SETS, 0, parts.as_slice())?;
         }
         Ok(())
     }
@@ -194,28 +187,24 @@ impl Entries {
         ensures heads { OnOk result (self.new.heads ≡ self.old.heads ++ map head_of_name names.now) }
         ensures graph { OnOk result (self.new.graph ≡ self.old.graph ++ map (parts_of_name counts.now) names.now) }
     {
+        let mut parts = Table::new(alloc);
         for name in names.as_slice() {
-            let parts = name_parts(alloc, counts, name)?;
-            self.push(name_kind(name), 0, parts)?;
+            put_parts(&mut parts, counts, name)?;
+            self.push(name_kind(name), 0, parts.as_slice())?;
         }
         Ok(())
     }
 }
 
 impl Entries {
-    fn add_spaces(
-        &mut self,
-        alloc: Global,
-        counts: &Counts,
-        spaces: &Table<Namespace>,
-    ) -> Result<(), NoMemory>
+    fn add_spaces(&mut self, counts: &Counts, spaces: &Table<Namespace>) -> Result<(), NoMemory>
         requires few { node_count counts.now < 2 ^ 32 }
         requires spaces { length spaces.now < 2 ^ 32 }
         ensures heads { OnOk result (self.new.heads ≡ self.old.heads ++ space_heads 0 spaces.now) }
         ensures graph { OnOk result (self.new.graph ≡ self.old.graph ++ map (parts_of_space counts.now) spaces.now) }
     {
         for i in 0..spaces.len() {
-            self.add_space(alloc, counts, spaces.get(i), i as u32)?;
+            self.add_space(counts, spaces.get(i), i as u32)?;
         }
         Ok(())
     }
@@ -233,13 +222,13 @@ fn values_of(alloc: Global, abc: &Abc) -> Result<Entries, NoMemory>
     let texts = text_places(alloc, abc)?;
     let mut entries = Entries {
         heads: Table::new(alloc),
-        graph: Table::new(alloc),
+        graph: Rows::new(alloc),
     };
-    entries.push(0, 0, Table::new(alloc))?;
-    entries.add_values(alloc, INTS, &ints)?;
-    entries.add_values(alloc, UINTS, &uints)?;
-    entries.add_values(alloc, DOUBLES, &doubles)?;
-    entries.add_values(alloc, TEXTS, &texts)?;
+    entries.push(0, 0, &[])?;
+    entries.add_values(INTS, &ints)?;
+    entries.add_values(UINTS, &uints)?;
+    entries.add_values(DOUBLES, &doubles)?;
+    entries.add_values(TEXTS, &texts)?;
     Ok(entries)
 }
 
@@ -252,7 +241,7 @@ pub(crate) fn entries_of(alloc: Global, abc: &Abc, counts: &Counts) -> Result<En
     ensures graph { IfOk result (λ e. e.graph ≡ graph_of abc.now) }
 {
     let mut entries = values_of(alloc, abc)?;
-    entries.add_spaces(alloc, counts, &abc.namespaces)?;
+    entries.add_spaces(counts, &abc.namespaces)?;
     entries.add_sets(alloc, counts, &abc.sets)?;
     entries.add_names(alloc, counts, &abc.names)?;
     Ok(entries)

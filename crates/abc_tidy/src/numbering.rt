@@ -10,7 +10,7 @@ use crate::entries::{Entries, node};
 use abc_base::{NoMemory, Table};
 use abc_refs::{Counts, Ref};
 use abc_tables::Abc;
-use abc_trees::{Classes, Head};
+use abc_trees::{Classes, Head, Rows};
 use std::alloc::Global;
 
 /// How many pools there are, and one for node 0.
@@ -113,7 +113,7 @@ fn places_of(
     classes: &Classes,
     seen: &Table<u32>,
     _heads: &Table<Head>,
-    _graph: &Table<Table<u32>>,
+    _graph: &Rows,
 ) -> Result<Table<usize>, NoMemory>
     requires valid { AreClasses _heads.now _graph.now classes.now.keys.keys classes.now.classes }
     requires apart { AreApart classes.now.classes seen.now }

@@ -6,3 +6,5 @@ pub mod TreeLaws
 pub mod Visited
 pub mod Walked
 pub mod Settled
+pub mod InRows
+pub mod Sizes

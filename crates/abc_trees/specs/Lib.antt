@@ -4,3 +4,4 @@ pub mod Visits
 pub mod Effort
 pub mod Orders
 pub mod Walks
+pub mod Rows
