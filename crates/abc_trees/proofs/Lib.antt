@@ -8,3 +8,4 @@ pub mod Walked
 pub mod Settled
 pub mod InRows
 pub mod Sizes
+pub mod Alike

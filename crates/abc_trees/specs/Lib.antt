@@ -5,3 +5,4 @@ pub mod Effort
 pub mod Orders
 pub mod Walks
 pub mod Rows
+pub mod Alike

@@ -1,4 +1,4 @@
-ghost use Rattle.std.specs.Prelude.{◌≡◌, ◌<◌, ◌++◌, ◌∷◌, [], get_or, length, OnErr, OnOk};
+ghost use Rattle.std.specs.Prelude.{◌≡◌, ◌-◌, ◌<◌, ◌≤◌, ◌++◌, ◌∷◌, [], drop, get_or, length, take, OnErr, OnOk};
 ghost use Rattle.abc_trees.specs.Rows.{begin_of};
 
 use abc_base::NoMemory;
@@ -28,6 +28,7 @@ impl Model for Rows {
 
 /// Where a list begins.
 #[tactic(auto, using(crate::proofs::InRows::begins_first, crate::proofs::InRows::begins_later))]
+#[inline]
 fn begin(ends: &[usize], i: usize) -> usize
     requires { i < length ends.now }
     ensures { result ≡ begin_of i 0 ends.now }
@@ -36,6 +37,25 @@ fn begin(ends: &[usize], i: usize) -> usize
         return 0;
     }
     ends[i - 1]
+}
+
+/// Where a list ends.
+#[inline]
+fn end(ends: &[usize], i: usize) -> usize
+    requires { i < length ends.now }
+    ensures { result ≡ get_or ends.now i 0 }
+{
+    ends[i]
+}
+
+/// The numbers between two places.
+#[inline]
+fn part(items: &[u32], begin: usize, end: usize) -> &[u32]
+    requires order { begin ≤ end }
+    requires within { end ≤ length items.now }
+    ensures { result.now ≡ take (end - begin) (drop begin items.now) }
+{
+    &items[begin..end]
 }
 
 impl Rows {
@@ -56,7 +76,8 @@ impl Rows {
     {
         self.ends.reserve(1)?;
         self.items.extend_from_slice(row)?;
-        self.ends.push_reserved(self.items.len());
+        let end = self.items.as_slice().len();
+        self.ends.push_reserved(end);
         Ok(())
     }
 
@@ -75,6 +96,7 @@ impl Rows {
         ensures { result.now ≡ get_or self.now i [] }
     {
         let begin = begin(&self.ends, i);
-        &self.items[begin..self.ends[i]]
+        let end = end(&self.ends, i);
+        part(&self.items, begin, end)
     }
 }
