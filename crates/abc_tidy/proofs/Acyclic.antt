@@ -12,13 +12,14 @@ use Rattle.abc_tables.specs.declared.names.Multiname.TheVariants as names
 use Rattle.abc_tables.specs.declared.opcodes.Pool.{Pool}
 use Rattle.abc_tables.specs.declared.opcodes.Pool.TheVariants as pools
 use Rattle.abc_tables.specs.declared.tables.Abc.{Abc}
+use Rattle.abc_trees.specs.declared.heads.Head.{Head}
 use Rattle.abc_trees.specs.declared.keys.Key.{Key}
 use Rattle.abc_trees.specs.Classes.{AllClassed, AreClasses, HasClass}
 use Rattle.abc_trees.specs.Orders.{In}
 use Rattle.abc_trees.proofs.Sizes.{never_returns}
 use Rattle.abc_trees.proofs.Walked.{contains_of, in_append}
 use Rattle.abc_tidy.specs.declared.error.TidyRule.TheVariants as rules
-use Rattle.abc_tidy.specs.Entries.{graph_of, heads_of, name_parts, set_parts, space_parts, value_graph}
+use Rattle.abc_tidy.specs.Entries.{graph_of, name_parts, set_parts, space_parts, value_graph}
 use Rattle.abc_tidy.specs.NameGraph.{index_of_name, is_name, name_graph, name_indices, name_targets, names_among}
 use Rattle.abc_tidy.specs.Rules.{Holds, IsCyclic}
 use Rattle.abc_tidy.specs.Visited.{roots_of}
@@ -149,29 +150,29 @@ classed_in classes [] x all h = absurd h
 classed_in classes (y ∷ xs) x all (inl e) = subst (HasClass classes) (sym e) all.0
 classed_in classes (y ∷ xs) x all (inr h) = classed_in classes xs x all.1 h
 
-class_on : (v : Abc) (keys : List Key) (classes : List (Option ℕ)) (x y : ℕ) → AreClasses (heads_of v) (graph_of v) keys classes → HasClass classes x → In y (targets (graph_of v) x) → HasClass classes y
-class_on v keys classes x y valid h k =
+class_on : (v : Abc) (heads : List Head) (keys : List Key) (classes : List (Option ℕ)) (x y : ℕ) → AreClasses heads (graph_of v) keys classes → HasClass classes x → In y (targets (graph_of v) x) → HasClass classes y
+class_on v heads keys classes x y valid h k =
     let c = contains_of y (targets (graph_of v) x) k in
     subst (HasClass classes) (get_or_default (targets (graph_of v) x) c.0 0 y c.1 ∙ c.2) (valid.closed x h.number h.is c.0 c.1)
 
-way_on : (v : Abc) (keys : List Key) (classes : List (Option ℕ)) (x y : ℕ) → AreClasses (heads_of v) (graph_of v) keys classes → is_name (length v.names) x ≡ true → HasClass classes (before_names v + x) → Leads (name_graph v) x y → HasClass classes (before_names v + y)
-way_on v keys classes x y valid e h (Edge c) =
-    class_on v keys classes (before_names v + x) (before_names v + y) valid h ((edge_to v x y e (contained (targets (name_graph v) x) y c)).1)
-way_on v keys classes x y valid e h (Then {y = z} c l) =
+way_on : (v : Abc) (heads : List Head) (keys : List Key) (classes : List (Option ℕ)) (x y : ℕ) → AreClasses heads (graph_of v) keys classes → is_name (length v.names) x ≡ true → HasClass classes (before_names v + x) → Leads (name_graph v) x y → HasClass classes (before_names v + y)
+way_on v heads keys classes x y valid e h (Edge c) =
+    class_on v heads keys classes (before_names v + x) (before_names v + y) valid h ((edge_to v x y e (contained (targets (name_graph v) x) y c)).1)
+way_on v heads keys classes x y valid e h (Then {y = z} c l) =
     let t = edge_to v x z e (contained (targets (name_graph v) x) z c) in
-    way_on v keys classes z y valid t.0 (class_on v keys classes (before_names v + x) (before_names v + z) valid h t.1) l
+    way_on v heads keys classes z y valid t.0 (class_on v heads keys classes (before_names v + x) (before_names v + z) valid h t.1) l
 
-visited_has : (v : Abc) (keys : List Key) (classes : List (Option ℕ)) (y : ℕ) → AreClasses (heads_of v) (graph_of v) keys classes → AllClassed classes (roots_of v) → Leads (name_graph v) 0 y → HasClass classes (before_names v + y)
-visited_has v keys classes y valid all (Edge c) = classed_in classes (roots_of v) (before_names v + y) all ((root_to v y (contained (targets (name_graph v) 0) y c)).1)
-visited_has v keys classes y valid all (Then {y = z} c l) =
+visited_has : (v : Abc) (heads : List Head) (keys : List Key) (classes : List (Option ℕ)) (y : ℕ) → AreClasses heads (graph_of v) keys classes → AllClassed classes (roots_of v) → Leads (name_graph v) 0 y → HasClass classes (before_names v + y)
+visited_has v heads keys classes y valid all (Edge c) = classed_in classes (roots_of v) (before_names v + y) all ((root_to v y (contained (targets (name_graph v) 0) y c)).1)
+visited_has v heads keys classes y valid all (Then {y = z} c l) =
     let t = root_to v z (contained (targets (name_graph v) 0) z c) in
-    way_on v keys classes z y valid t.0 (classed_in classes (roots_of v) (before_names v + z) all t.1) l
+    way_on v heads keys classes z y valid t.0 (classed_in classes (roots_of v) (before_names v + z) all t.1) l
 
-none_cyclic : (v : Abc) (keys : List Key) (classes : List (Option ℕ)) (i : ℕ) → AreClasses (heads_of v) (graph_of v) keys classes → AllClassed classes (roots_of v) → IsCyclic v i → ⊥
-none_cyclic v keys classes i valid all k =
-    let h = visited_has v keys classes i valid all k.visited in
+none_cyclic : (v : Abc) (heads : List Head) (keys : List Key) (classes : List (Option ℕ)) (i : ℕ) → AreClasses heads (graph_of v) keys classes → AllClassed classes (roots_of v) → IsCyclic v i → ⊥
+none_cyclic v heads keys classes i valid all k =
+    let h = visited_has v heads keys classes i valid all k.visited in
     let t = valid.tree (before_names v + i) h.number h.is in
-    never_returns (heads_of v) (graph_of v) (before_names v + i) t.tree t.is (names_lead v i i (is_lead v 0 i k.visited) k.returns)
+    never_returns heads (graph_of v) (before_names v + i) t.tree t.is (names_lead v i i (is_lead v 0 i k.visited) k.returns)
 
-pub acyclic : (v : Abc) (keys : List Key) (classes : List (Option ℕ)) (roots : List ℕ) → roots ≡ roots_of v → AreClasses (heads_of v) (graph_of v) keys classes → AllClassed classes roots → Holds v rules.NameCycle
-acyclic v keys classes roots e valid all = λ i k. none_cyclic v keys classes i valid (subst (AllClassed classes) e all) k
+pub acyclic : (v : Abc) (heads : List Head) (keys : List Key) (classes : List (Option ℕ)) (roots : List ℕ) → roots ≡ roots_of v → AreClasses heads (graph_of v) keys classes → AllClassed classes roots → Holds v rules.NameCycle
+acyclic v heads keys classes roots e valid all = λ i k. none_cyclic v heads keys classes i valid (subst (AllClassed classes) e all) k

@@ -5,7 +5,7 @@ ghost use Rattle.abc_tidy.specs.declared.error.TidyRule.TheVariants as rules;
 ghost use Rattle.abc_tidy.specs.Rules.{Holds, IsTidied, IsTidyError};
 ghost use Rattle.abc_trees.specs.Classes.{AllClassed, AreClasses};
 ghost use Rattle.abc_tidy.specs.Classed.{AreClassed};
-ghost use Rattle.abc_tidy.specs.Entries.{graph_of, heads_of};
+ghost use Rattle.abc_tidy.specs.Entries.{graph_of};
 ghost use Rattle.abc_tidy.specs.Visited.{IsTidiedValue, roots_of};
 
 use crate::checks::{check_bodies, check_methods};
@@ -18,7 +18,7 @@ use abc_base::{NoMemory, Table};
 use abc_fits::fits;
 use abc_refs::{Counts, Numbers, Ref, refs_of, renumbered};
 use abc_tables::Abc;
-use abc_trees::{Classes, classes_of, parts_first, visit_order};
+use abc_trees::{Classes, Head, classes_of, parts_first, visit_order};
 use std::alloc::Global;
 
 /// Tries that no name that is visited reaches itself. The first that does is refused.
@@ -45,6 +45,7 @@ fn check_classes(
     alloc: Global,
     abc: &Abc,
     refs: &Table<Ref>,
+    _heads: &Table<Head>,
     classes: &Classes,
     roots: &Table<u32>,
 ) -> Result<(), TidyError>
@@ -53,7 +54,7 @@ fn check_classes(
     requires operands { Holds abc.now rules.Operand }
     requires param_names { Holds abc.now rules.ParamName }
     requires rooted { roots.now ≡ roots_of abc.now }
-    requires valid { AreClasses (heads_of abc.now) (graph_of abc.now) classes.now.keys.keys classes.now.classes }
+    requires valid { AreClasses _heads.now (graph_of abc.now) classes.now.keys.keys classes.now.classes }
     requires ordered { Holds abc.now rules.NameCycle → AllClassed classes.now.classes roots.now }
     ensures { MatchResult result (λ _. Holds abc.now rules.NameCycle × AllClassed classes.now.classes roots.now) (IsTidyError abc.now) }
 {
@@ -90,7 +91,7 @@ fn class_entries(
     let roots = roots_of(alloc, counts, refs)?;
     let order = parts_first(alloc, &entries.graph, &roots)?;
     let classes = classes_of(alloc, &entries.heads, &entries.graph, &order)?;
-    check_classes(alloc, abc, refs, &classes, &roots)?;
+    check_classes(alloc, abc, refs, &entries.heads, &classes, &roots)?;
     Ok(Classed {
         entries,
         roots,

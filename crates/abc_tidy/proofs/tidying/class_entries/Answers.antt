@@ -1,6 +1,5 @@
 use Rattle.std.proofs.Common.{subst}
 use Rattle.abc_trees.specs.Classes.{AreClasses}
-use Rattle.abc_tidy.specs.Entries.{graph_of}
 use Rattle.abc_tidy.proofs.Building.{few_names}
 use Rattle.abc_tidy.proofs.NodeGraph.{is_graph, roots_within}
 use Rattle.abc_tidy.proofs.Ordered.{roots_classed}
@@ -26,8 +25,7 @@ check_classes-requires-clause-rooted c = the_roots c.args.abc.now c.args.counts.
 
 pub check_classes-requires-clause-valid : goal.check_classes-requires-clause-valid
 check_classes-requires-clause-valid c =
-    subst (λ hs. AreClasses hs (graph_of c.args.abc.now) c.in_ok-classes.classes.keys.keys c.in_ok-classes.classes.classes) c.in_ok-entries.ensures.heads
-    (subst (λ g. AreClasses c.in_ok-entries.entries.heads g c.in_ok-classes.classes.keys.keys c.in_ok-classes.classes.classes) c.in_ok-entries.ensures.graph c.in_ok-classes.ensures.valid)
+    subst (λ g. AreClasses c.in_ok-entries.entries.heads g c.in_ok-classes.classes.keys.keys c.in_ok-classes.classes.classes) c.in_ok-entries.ensures.graph c.in_ok-classes.ensures.valid
 
 pub check_classes-requires-clause-ordered : goal.check_classes-requires-clause-ordered
 check_classes-requires-clause-ordered c = λ holds.
