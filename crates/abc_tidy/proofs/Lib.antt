@@ -10,3 +10,7 @@ pub mod NodeGraph
 pub mod Ordered
 pub mod Operands
 pub mod Acyclic
+pub mod Found
+pub mod Placing
+pub mod Telling
+pub mod Marked

@@ -347,7 +347,7 @@ never_returns v graph roots e f holds = subst (λ g. NoneReturns g roots) (sym e
 
 -- ---- each edge leads to a node
 
-length_graph : (v : Abc) → length (graph_of v) ≡ suc (before_names v + length v.names)
+pub length_graph : (v : Abc) → length (graph_of v) ≡ suc (before_names v + length v.names)
 length_graph v =
     omega (
       arith,

@@ -7,3 +7,4 @@ pub mod Firsts
 pub mod Kept
 pub mod Numbered
 pub mod Classed
+pub mod Heads

@@ -10,15 +10,17 @@ ghost use Rattle.abc_tidy.specs.Visited.{IsTidiedValue, roots_of};
 
 use crate::checks::{check_bodies, check_methods};
 use crate::cycles::first_cyclic;
-use crate::entries::{Entries, entries_of};
+use crate::entries::entries_of;
 use crate::error::{TidyError, TidyRule};
+use crate::heads::heads_of;
+use crate::marks::marks_of;
 use crate::numbering::{numbers_of, roots_of};
 use crate::pools::new_pools;
 use abc_base::{NoMemory, Table};
 use abc_fits::fits;
 use abc_refs::{Counts, Numbers, Ref, refs_of, renumbered};
 use abc_tables::Abc;
-use abc_trees::{Classes, Head, classes_of, parts_first, visit_order};
+use abc_trees::{Classes, Head, Rows, classes_of, parts_first, visit_order};
 use std::alloc::Global;
 
 /// Tries that no name that is visited reaches itself. The first that does is refused.
@@ -68,7 +70,8 @@ fn check_classes(
 /// The entries of a file with their classes, and those that the definitions and bodies name, of which each has a class.
 #[derive(Drop)]
 struct Classed {
-    entries: Entries,
+    heads: Table<Head>,
+    graph: Rows,
     roots: Table<u32>,
     classes: Classes,
 }
@@ -85,15 +88,18 @@ fn class_entries(
     requires few { node_count counts.now < 2 ^ 32 }
     requires operands { Holds abc.now rules.Operand }
     requires param_names { Holds abc.now rules.ParamName }
-    ensures { MatchResult result (λ k. AreClassed abc.now k.entries.heads k.entries.graph k.roots k.classes.keys.keys k.classes.classes) (IsTidyError abc.now) }
+    ensures { MatchResult result (λ k. AreClassed abc.now k.heads k.graph k.roots k.classes.keys.keys k.classes.classes) (IsTidyError abc.now) }
 {
-    let entries = entries_of(alloc, abc, counts)?;
+    let graph = entries_of(alloc, abc, counts)?;
     let roots = roots_of(alloc, counts, refs)?;
-    let order = parts_first(alloc, &entries.graph, &roots)?;
-    let classes = classes_of(alloc, &entries.heads, &entries.graph, &order)?;
-    check_classes(alloc, abc, refs, &entries.heads, &classes, &roots)?;
+    let order = parts_first(alloc, &graph, &roots)?;
+    let marks = marks_of(alloc, graph.len(), &order)?;
+    let heads = heads_of(alloc, abc, marks.as_slice())?;
+    let classes = classes_of(alloc, &heads, &graph, &order)?;
+    check_classes(alloc, abc, refs, &heads, &classes, &roots)?;
     Ok(Classed {
-        entries,
+        heads,
+        graph,
         roots,
         classes,
     })
@@ -107,14 +113,15 @@ fn tidied_value(
     classed: &Classed,
 ) -> Result<Abc, NoMemory>
     requires counts { counts ≡ counts_of abc.now }
-    requires classed { AreClassed abc.now classed.now.entries.heads classed.now.entries.graph classed.now.roots classed.now.classes.keys.keys classed.now.classes.classes }
+    requires classed { AreClassed abc.now classed.now.heads classed.now.graph classed.now.roots classed.now.classes.keys.keys classed.now.classes.classes }
     ensures { IfOk result (λ t. IsTidiedValue abc.now t) }
 {
-    let entries = &classed.entries;
+    let heads = &classed.heads;
+    let graph = &classed.graph;
     let classes = &classed.classes;
     let roots = &classed.roots;
-    let seen = visit_order(alloc, &entries.heads, &entries.graph, classes, roots)?;
-    let all = numbers_of(alloc, abc, &counts, entries, classes, roots, &seen)?;
+    let seen = visit_order(alloc, heads, graph, classes, roots)?;
+    let all = numbers_of(alloc, abc, &counts, heads, graph, classes, roots, &seen)?;
     let numbers = Numbers {
         counts,
         numbers: all,

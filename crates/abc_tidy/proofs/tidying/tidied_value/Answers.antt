@@ -13,7 +13,7 @@ visit_order-requires-clause-roots c = c.requires.classed.classed
 pub numbers_of-requires : goal.numbers_of-requires
 numbers_of-requires c = record {
   counts = c.requires.counts;
-  heads = c.requires.classed.heads_are;
+  heads = c.requires.classed.alike;
   graph = c.requires.classed.graph_is;
   rooted = c.requires.classed.roots_are;
   valid = c.requires.classed.valid;
@@ -26,7 +26,7 @@ numbers_of-requires c = record {
 pub returns : goal.returns
 returns c =
     let k = c.requires.classed in
-    tidied_value c.args.abc.now c.in_ok-pools.pools c.in_ok-tidied.tidied c.args.counts c.args.classed.now.entries.heads c.args.classed.now.entries.graph c.args.classed.now.roots c.in_ok-seen.seen c.in_ok-all.all
-    c.requires.counts k.heads_are k.graph_is k.roots_are
-    c.args.classed.now.classes.keys.keys c.args.classed.now.classes.classes k.valid c.in_ok-seen.ensures.classed
+    tidied_value c.args.abc.now c.in_ok-pools.pools c.in_ok-tidied.tidied c.args.counts c.args.classed.now.heads c.args.classed.now.graph c.args.classed.now.roots c.in_ok-seen.seen c.in_ok-all.all
+    c.requires.counts k.graph_is k.roots_are
+    c.args.classed.now.classes.keys.keys c.args.classed.now.classes.classes k.alike k.valid k.classed c.in_ok-seen.ensures.classed
     c.in_ok-seen.ensures.visited c.in_ok-all.ensures c.in_ok-pools.ensures c.in_ok-tidied.ensures
