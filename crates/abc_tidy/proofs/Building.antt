@@ -100,3 +100,8 @@ pub heads_built : (v : Abc) (a b c d : List ℕ) (h0 h1 h2 h3 h4 h5 h6 h7 h8 : L
 heads_built v a b c d h0 h1 h2 h3 h4 h5 h6 h7 h8 e0 e1 e2 e3 e4 e5 e6 e7 e8 =
     e8 ∙ ap (λ h. h ++ map name_head v.names) (e7 ∙ ap (λ h. h ++ map (λ s. value_head sets_kind 0) v.sets) (e6 ∙ ap (λ h. h ++ space_heads 0 v.namespaces) (e5 ∙ ap (λ h. h ++ map (value_head texts_kind) d)
     (e4 ∙ ap (λ h. h ++ map (value_head doubles_kind) c) (e3 ∙ ap (λ h. h ++ map (value_head uints_kind) b) (e2 ∙ ap (λ h. h ++ map (value_head ints_kind) a) (e1 ∙ ap (λ h. h ++ no_head ∷ []) e0)))))))
+
+pub entries_built : (v : Abc) (c : Counts) (g1 g2 g3 g4 : List (List ℕ)) → c ≡ counts_of v → g1 ≡ value_graph v → g2 ≡ g1 ++ map (space_parts c) v.namespaces → g3 ≡ g2 ++ map (set_parts c) v.sets → g4 ≡ g3 ++ map (name_parts c) v.names → g4 ≡ graph_of v
+entries_built v c g1 g2 g3 g4 counts e1 e2 e3 e4 =
+    e4 ∙ ap (λ g. g ++ map (name_parts c) v.names) (e3 ∙ ap (λ g. g ++ map (set_parts c) v.sets) (e2 ∙ ap (λ g. g ++ map (space_parts c) v.namespaces) e1))
+    ∙ ap (λ k. value_graph v ++ map (space_parts k) v.namespaces ++ map (set_parts k) v.sets ++ map (name_parts k) v.names) counts

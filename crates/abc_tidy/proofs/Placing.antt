@@ -3,6 +3,7 @@ use Rattle.std.proofs.Common.{◌≡◌, ℕ, zero, suc, ◌+◌, ◌<◌, ◌�
 use Rattle.std.proofs.lemmas.Bool.{cases_lt}
 use Rattle.std.proofs.lemmas.List.{get_or_append_left, get_or_default, get_or-map, get_or_push, length-map}
 use Rattle.abc_graph.specs.Graph.{Has}
+use Rattle.abc_tables.specs.declared.tables.Abc.{Abc}
 use Rattle.abc_trees.specs.Orders.{In}
 use Rattle.abc_tidy.specs.Entries.{place_among}
 use Rattle.abc_tidy.specs.Heads.{ArePlaced, HasPlaces, HoldsMarked, TellApart}
@@ -35,9 +36,16 @@ holds_none marks begin values chosen = record { holds = λ i d l m h. absurd (no
     none : (i : ℕ) → i < 0 → ⊥
     none i l = omega arith
 
-pub holds_next : {A : Type 0} (marks : List Bool) (begin : ℕ) (values kept kept2 : List A) (i : ℕ) (x : A) (b : Bool) → HoldsMarked marks begin values i kept → i < length values → x ≡ get_or values i x → b ≡ get_or marks (begin + i) false → kept2 ≡ (if b then kept ++ x ∷ [] else kept) → HoldsMarked marks begin values (i + 1) kept2
-holds_next {A} marks begin values kept kept2 i x b s lt at mark is = record { holds = λ k d l m h. go k d m h (cases_lt k i) l }
+pub holds_next : {A : Type 0} (marks : List Bool) (begin : ℕ) (values kept kept2 : List A) (i : ℕ) (x : A) (b : Bool) → HoldsMarked marks begin values i kept → i < length values → x ≡ get_or values i x → b ≡ get_or marks (begin + i) false → (b ≡ true → kept2 ≡ kept ++ x ∷ []) → (b ≡ false → kept2 ≡ kept) → HoldsMarked marks begin values (i + 1) kept2
+holds_next {A} marks begin values kept kept2 i x b s lt at mark yes no = record { holds = λ k d l m h. go k d m h (cases_lt k i) l }
   where
+    is : kept2 ≡ (if b then kept ++ x ∷ [] else kept)
+    is = by b refl
+      where
+        by : (c : Bool) → b ≡ c → kept2 ≡ (if b then kept ++ x ∷ [] else kept)
+        by true e = yes e ∙ sym (ap (λ c. if c then kept ++ x ∷ [] else kept) e)
+        by false e = no e ∙ sym (ap (λ c. if c then kept ++ x ∷ [] else kept) e)
+
     still : (c : Bool) (y : A) → Contains kept y → Contains (if c then kept ++ x ∷ [] else kept) y
     still true y c = contains_left kept (x ∷ []) y c
     still false y c = c
@@ -53,9 +61,9 @@ holds_next {A} marks begin values kept kept2 i x b s lt at mark is = record { ho
         let e : x ≡ get_or values k d = at ∙ get_or_default values i x d lt ∙ ap (λ n. get_or values n d) q in
         subst (Contains kept2) e (subst (λ ys. Contains ys x) (sym is) (here b (mark ∙ ap (λ n. get_or marks (begin + n) false) q ∙ h.marked)))
 
-pub many_next : {A : Type 0} (kept kept2 : List A) (i : ℕ) (x : A) (b : Bool) → length kept ≤ i → kept2 ≡ (if b then kept ++ x ∷ [] else kept) → length kept2 ≤ i + 1
-many_next kept kept2 i x true le is = omega (arith, le, ap length is, length-append kept (x ∷ []))
-many_next kept kept2 i x false le is = omega (arith, le, ap length is)
+pub many_next : {A : Type 0} (kept kept2 : List A) (i : ℕ) (x : A) (b : Bool) → length kept ≤ i → (b ≡ true → kept2 ≡ kept ++ x ∷ []) → (b ≡ false → kept2 ≡ kept) → length kept2 ≤ i + 1
+many_next kept kept2 i x true le yes no = omega (arith, le, ap length (yes refl), length-append kept (x ∷ []))
+many_next kept kept2 i x false le yes no = omega (arith, le, ap length (no refl))
 
 -- the same where one that is always there comes first
 pub holds_after : {A : Type 0} (marks : List Bool) (begin : ℕ) (values kept : List A) (n : ℕ) (x : A) → HoldsMarked marks begin values n kept → HoldsMarked marks begin values n (x ∷ kept)
@@ -125,3 +133,7 @@ placed_all eq marks begin values chosen kept places i holds e has low high = rec
 
 pub held_all : {A : Type 0} (marks : List Bool) (begin : ℕ) (values kept : List A) (i : ℕ) → HoldsMarked marks begin values i kept → length values ≤ i → HoldsMarked marks begin values (length values) kept
 held_all marks begin values kept i s le = record { holds = λ k d l m h. s.holds k d (omega (arith, l, le)) m h }
+
+-- the doubles that are read are as many
+pub as_many_doubles : (v : Abc) (doubles read : List (List ℕ)) → doubles ≡ map (λ d. d.0) v.doubles → read ≡ doubles → length read ≡ length v.doubles
+as_many_doubles v doubles read e f = ap length f ∙ ap length e ∙ length-map v.doubles _

@@ -20,9 +20,10 @@ fn no_marks(alloc: Global, count: usize) -> Result<Table<bool>, NoMemory>
 fn mark(marks: &mut Table<bool>, place: usize)
     ensures { marks.new ≡ set marks.old place true }
 {
-    if place < marks.len() {
-        marks.set(place, true);
+    if place >= marks.len() {
+        return;
     }
+    marks.set(place, true);
 }
 
 /// A mark for each of so many nodes, which is set for those of a list.

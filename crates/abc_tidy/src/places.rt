@@ -1,4 +1,4 @@
-ghost use Rattle.std.specs.Prelude.{◌≡◌, ◌<◌, ◌≤◌, ◌+◌, ◌++◌, ◌∷◌, ◌^◌, [], false, get_or, map, length, if◌then◌else◌, IfOk, IsTrue, OnOk};
+ghost use Rattle.std.specs.Prelude.{◌≡◌, ◌<◌, ◌≤◌, ◌+◌, ◌++◌, ◌∷◌, ◌^◌, [], false, get_or, map, length, IfOk, IsFalse, IsTrue, OnOk};
 ghost use Rattle.std.specs.Str.{bytes_eq};
 ghost use Rattle.abc_index.specs.Index.{Finds};
 ghost use Rattle.abc_index.specs.Texts.{HasTexts, number_among, texts_of};
@@ -15,11 +15,13 @@ use std::hash::Hash;
 
 /// Adds a value, if it is marked.
 fn keep<K: Copy + Drop>(kept: &mut Table<K>, value: K, is_marked: bool) -> Result<(), NoMemory>
-    ensures { OnOk result (kept.new ≡ (if is_marked then kept.old ++ value ∷ [] else kept.old)) }
+    ensures added { OnOk result (IsTrue is_marked → kept.new ≡ kept.old ++ value ∷ []) }
+    ensures same { OnOk result (IsFalse is_marked → kept.new ≡ kept.old) }
 {
-    if is_marked {
-        return kept.push(value);
+    if !is_marked {
+        return Ok(());
     }
+    kept.push(value)?;
     Ok(())
 }
 
@@ -52,10 +54,10 @@ fn place_of<K: Eq + Hash + Copy>(
     requires { Finds K.eq index.now _chosen.now }
     ensures { IsTrue is_marked → result ≡ place_among K.eq _chosen.now value }
 {
-    if is_marked {
-        return index.get(&value).copied().unwrap_or(0);
+    if !is_marked {
+        return 0;
     }
-    0
+    index.get(&value).copied().unwrap_or(0)
 }
 
 /// For each value that is marked the place of the first marked one that is equal to it, among those that are marked. The
@@ -97,12 +99,14 @@ fn keep_text(
     text: &[u8],
     is_marked: bool,
 ) -> Result<(), NoMemory>
-    ensures { OnOk result (kept.new ≡ (if is_marked then kept.old ++ text.now ∷ [] else kept.old)) }
+    ensures added { OnOk result (IsTrue is_marked → kept.new ≡ kept.old ++ text.now ∷ []) }
+    ensures same { OnOk result (IsFalse is_marked → kept.new ≡ kept.old) }
 {
-    if is_marked {
-        let copy = Bytes::from_slice(alloc, text)?;
-        return kept.push(copy);
+    if !is_marked {
+        return Ok(());
     }
+    let copy = Bytes::from_slice(alloc, text)?;
+    kept.push(copy)?;
     Ok(())
 }
 
@@ -130,10 +134,10 @@ fn place_of_text(texts: &Texts, _chosen: &Table<Bytes>, text: &[u8], is_marked: 
     requires { HasTexts texts.now (texts_of _chosen.now) }
     ensures { IsTrue is_marked → result ≡ number_among (texts_of _chosen.now) text.now }
 {
-    if is_marked {
-        return texts.number_of(text).unwrap_or(0);
+    if !is_marked {
+        return 0;
     }
-    0
+    texts.number_of(text).unwrap_or(0)
 }
 
 /// The same for texts, among which the empty one comes first.
