@@ -32,15 +32,15 @@ some_name count e = true≢false (sym e)
 
 among_in : (count i : ℕ) (xs : List ℕ) → In i (names_among count xs) → In i xs × (is_name count i ≡ true)
 among_in count i [] h = absurd h
-among_in count i (x ∷ xs) h = by (is_name count x) refl h
+among_in count i (x ∷ xs) h = by (is_name count x) refl h (among_in count i xs)
   where
     later : In i xs × (is_name count i ≡ true) → In i (x ∷ xs) × (is_name count i ≡ true)
-    later (a, b) = (inr a, b)
+    later r = (inr r.0, r.1)
 
-    by : (b : Bool) → is_name count x ≡ b → In i (cond b (x ∷ names_among count xs) (names_among count xs)) → In i (x ∷ xs) × (is_name count i ≡ true)
-    by true e (inl q) = (inl q, ap (is_name count) q ∙ e)
-    by true e (inr k) = later (among_in count i xs k)
-    by false e k = later (among_in count i xs k)
+    by : (b : Bool) → is_name count x ≡ b → In i (cond b (x ∷ names_among count xs) (names_among count xs)) → (In i (names_among count xs) → In i xs × (is_name count i ≡ true)) → In i (x ∷ xs) × (is_name count i ≡ true)
+    by true e (inl q) rest = (inl q, ap (is_name count) q ∙ e)
+    by true e (inr k) rest = later (rest k)
+    by false e k rest = later (rest k)
 
 node_is : (v : Abc) (i : ℕ) → is_name (length v.names) i ≡ true → node_of (counts_of v) pools.Name i ≡ before_names v + i
 node_is v i e = by (nat_eq i 0) (nat_le i (length v.names)) refl refl
@@ -113,11 +113,11 @@ index_in v r i e h = go r.pool refl h
 
 indices_in : (v : Abc) (rs : List Ref) (i : ℕ) → is_name (length v.names) i ≡ true → In i (name_indices rs) → In (before_names v + i) (map (λ r. node_of (counts_of v) r.pool r.index) rs)
 indices_in v [] i e h = absurd h
-indices_in v (r ∷ rs) i e h = go (in_append i (index_of_name r.pool r.index) (name_indices rs) h)
+indices_in v (r ∷ rs) i e h = go (in_append i (index_of_name r.pool r.index) (name_indices rs) h) (indices_in v rs i e)
   where
-    go : In i (index_of_name r.pool r.index) ⊎ In i (name_indices rs) → In (before_names v + i) (map (λ r. node_of (counts_of v) r.pool r.index) (r ∷ rs))
-    go (inl k) = inl (index_in v r i e k)
-    go (inr k) = inr (indices_in v rs i e k)
+    go : In i (index_of_name r.pool r.index) ⊎ In i (name_indices rs) → (In i (name_indices rs) → In (before_names v + i) (map (λ r. node_of (counts_of v) r.pool r.index) rs)) → In (before_names v + i) (map (λ r. node_of (counts_of v) r.pool r.index) (r ∷ rs))
+    go (inl k) rest = inl (index_in v r i e k)
+    go (inr k) rest = inr (rest k)
 
 root_to : (v : Abc) (y : ℕ) → In y (targets (name_graph v) zero) → IsTarget v y (roots_of v)
 root_to v y h =

@@ -37,14 +37,14 @@ holds_none marks begin values chosen = record { holds = λ i d l m h. absurd (no
     none i l = omega arith
 
 pub holds_next : {A : Type 0} (marks : List Bool) (begin : ℕ) (values kept kept2 : List A) (i : ℕ) (x : A) (b : Bool) → HoldsMarked marks begin values i kept → i < length values → x ≡ get_or values i x → b ≡ get_or marks (begin + i) false → (b ≡ true → kept2 ≡ kept ++ x ∷ []) → (b ≡ false → kept2 ≡ kept) → HoldsMarked marks begin values (i + 1) kept2
-holds_next {A} marks begin values kept kept2 i x b s lt at mark yes no = record { holds = λ k d l m h. go k d m h (cases_lt k i) l }
+holds_next {A} marks begin values kept kept2 i x b s lt at mark adds stays = record { holds = λ k d l m h. go k d m h (cases_lt k i) l }
   where
     is : kept2 ≡ (if b then kept ++ x ∷ [] else kept)
     is = by b refl
       where
         by : (c : Bool) → b ≡ c → kept2 ≡ (if b then kept ++ x ∷ [] else kept)
-        by true e = yes e ∙ sym (ap (λ c. if c then kept ++ x ∷ [] else kept) e)
-        by false e = no e ∙ sym (ap (λ c. if c then kept ++ x ∷ [] else kept) e)
+        by true e = adds e ∙ sym (ap (λ c. if c then kept ++ x ∷ [] else kept) e)
+        by false e = stays e ∙ sym (ap (λ c. if c then kept ++ x ∷ [] else kept) e)
 
     still : (c : Bool) (y : A) → Contains kept y → Contains (if c then kept ++ x ∷ [] else kept) y
     still true y c = contains_left kept (x ∷ []) y c
@@ -62,8 +62,8 @@ holds_next {A} marks begin values kept kept2 i x b s lt at mark yes no = record 
         subst (Contains kept2) e (subst (λ ys. Contains ys x) (sym is) (here b (mark ∙ ap (λ n. get_or marks (begin + n) false) q ∙ h.marked)))
 
 pub many_next : {A : Type 0} (kept kept2 : List A) (i : ℕ) (x : A) (b : Bool) → length kept ≤ i → (b ≡ true → kept2 ≡ kept ++ x ∷ []) → (b ≡ false → kept2 ≡ kept) → length kept2 ≤ i + 1
-many_next kept kept2 i x true le yes no = omega (arith, le, ap length (yes refl), length-append kept (x ∷ []))
-many_next kept kept2 i x false le yes no = omega (arith, le, ap length (no refl))
+many_next kept kept2 i x true le adds stays = omega (arith, le, ap length (adds refl), length-append kept (x ∷ []))
+many_next kept kept2 i x false le adds stays = omega (arith, le, ap length (stays refl))
 
 -- the same where one that is always there comes first
 pub holds_after : {A : Type 0} (marks : List Bool) (begin : ℕ) (values kept : List A) (n : ℕ) (x : A) → HoldsMarked marks begin values n kept → HoldsMarked marks begin values n (x ∷ kept)
