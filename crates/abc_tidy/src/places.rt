@@ -3,7 +3,7 @@ ghost use Rattle.std.specs.Str.{bytes_eq};
 ghost use Rattle.abc_index.specs.Index.{Finds};
 ghost use Rattle.abc_index.specs.Texts.{HasTexts, number_among, texts_of};
 ghost use Rattle.abc_refs.specs.Nodes.{counts_of, node_count};
-ghost use Rattle.abc_tidy.specs.Entries.{double_places as places_of_doubles, int_places as places_of_ints, place_among, text_places as places_of_texts, uint_places as places_of_uints};
+ghost use Rattle.abc_tidy.specs.Entries.{double_places as places_of_doubles, int_places as places_of_ints, place_among, text_places as places_of_strings, uint_places as places_of_uints};
 ghost use Rattle.abc_tidy.specs.Heads.{ArePlaced, HasPlaces, HoldsMarked, TellApart};
 
 use abc_base::{Bytes, NoMemory, Table};
@@ -140,6 +140,28 @@ fn place_of_text(texts: &Texts, _chosen: &Table<Bytes>, text: &[u8], is_marked: 
     texts.number_of(text).unwrap_or(0)
 }
 
+/// For each text that is marked its place among those that are.
+fn places_of_texts(
+    alloc: Global,
+    strings: &Table<Bytes>,
+    chosen: &Table<Bytes>,
+    texts: &Texts,
+    marks: &[bool],
+    begin: usize,
+) -> Result<Table<u32>, NoMemory>
+    requires texts { HasTexts texts.now (texts_of chosen.now) }
+    requires marks { begin + length strings.now ≤ length marks.now }
+    ensures { IfOk result (λ t. HasPlaces bytes_eq marks.now begin strings.now (texts_of chosen.now) (length strings.now) t) }
+{
+    let mut places = Table::new(alloc);
+    for i in 0..strings.len() {
+        let is_marked = has_mark(marks, begin + i);
+        let place = place_of_text(texts, chosen, strings.get(i).as_slice(), is_marked);
+        places.push(place)?;
+    }
+    Ok(places)
+}
+
 /// The same for texts, among which the empty one comes first.
 fn first_texts(
     alloc: Global,
@@ -153,12 +175,7 @@ fn first_texts(
 {
     let chosen = marked_texts(alloc, strings, marks, begin)?;
     let texts = Texts::new(alloc, &chosen)?;
-    let mut places = Table::new(alloc);
-    for i in 0..strings.len() {
-        let is_marked = has_mark(marks, begin + i);
-        let place = place_of_text(&texts, &chosen, strings.get(i).as_slice(), is_marked);
-        places.push(place)?;
-    }
+    let places = places_of_texts(alloc, strings, &chosen, &texts, marks, begin)?;
     Ok(places)
 }
 
@@ -210,7 +227,7 @@ pub(crate) fn double_places(
 pub(crate) fn text_places(alloc: Global, abc: &Abc, marks: &[bool]) -> Result<Table<u32>, NoMemory>
     requires few { node_count (counts_of abc.now) < 2 ^ 32 }
     requires marks { length marks.now ≡ node_count (counts_of abc.now) }
-    ensures { IfOk result (λ t. TellApart marks.now (1 + length (abc.now).ints + length (abc.now).uints + length (abc.now).doubles) t (places_of_texts abc.now)) }
+    ensures { IfOk result (λ t. TellApart marks.now (1 + length (abc.now).ints + length (abc.now).uints + length (abc.now).doubles) t (places_of_strings abc.now)) }
 {
     let begin = 1 + abc.ints.len() + abc.uints.len() + abc.doubles.len();
     let places = first_texts(alloc, &abc.strings, marks, begin)?;
