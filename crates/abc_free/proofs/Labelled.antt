@@ -4,7 +4,6 @@ use Rattle.std.specs.Cmp.Lexicographic.{pointwise}
 use Rattle.std.specs.Cmp.{signed_Decides}
 use Rattle.std.specs.declared.option.Option.{Option}
 use Rattle.std.proofs.lemmas.Slice.Eq.{bytes_eq-Decides}
-use Rattle.abc_index.specs.Index.{first, first_from}
 use Rattle.abc_index.specs.Texts.{number_among, texts_of}
 use Rattle.abc_tables.specs.declared.names.Multiname.{Multiname}
 use Rattle.abc_tables.specs.declared.names.Multiname.TheVariants as names
@@ -19,32 +18,10 @@ use Rattle.abc_tables.specs.Pools.{is_namespace_kind, multiname_code, multiname_
 use Rattle.abc_trees.specs.declared.heads.Head.{Head}
 use Rattle.abc_trees.specs.Trees.{no_head}
 use Rattle.abc_tidy.specs.Entries.{doubles_kind, ints_kind, name_head, place_among, sets_kind, space_head, space_value, texts_kind, uints_kind, value_head}
+use Rattle.abc_tidy.proofs.Found.{place_found}
 use Rattle.abc_free.specs.Things.{Entry, NoEntry, IntEntry, UIntEntry, DoubleEntry, TextEntry, SpaceEntry, SetEntry, NameEntry, Label, Zero, Int, UInt, Double, Text, Space, Set, Name, entries, entry_at, kind_of, label, space_entries}
 use Rattle.abc_free.proofs.Entered.{double_bits, entry_head}
 use Rattle.abc_free.proofs.Lists.{Each, In, each_append, each_at, each_map}
-
--- ---- the value at the place of a value
-
-found_from : {A : Type 0} (eq : A → A → Bool) → ((x y : A) → Decides (eq x y) (x ≡ y)) → (x d : A) (xs : List A) (i : ℕ) → In x xs → (k : ℕ) × (first_from (eq x) i xs ≡ Some (i + k)) × (get_or xs k d ≡ x)
-found_from eq ok x d [] i h = absurd h
-found_from {A} eq ok x d (y ∷ ys) i h = by (eq x y) refl h (found_from eq ok x d ys (i + 1))
-  where
-    step : (b : Bool) → eq x y ≡ b → first_from (eq x) i (y ∷ ys) ≡ (if b then Some i else first_from (eq x) (i + 1) ys)
-    step b e = ap (λ b. if b then Some i else first_from (eq x) (i + 1) ys) e
-
-    later : (k : ℕ) × (first_from (eq x) (i + 1) ys ≡ Some (i + 1 + k)) × (get_or ys k d ≡ x) → eq x y ≡ false → (k : ℕ) × (first_from (eq x) i (y ∷ ys) ≡ Some (i + k)) × (get_or (y ∷ ys) k d ≡ x)
-    later r e = let q : i + 1 + r.0 ≡ i + suc r.0 = omega arith in (suc r.0, step false e ∙ r.1 ∙ ap Some q, r.2)
-
-    by : (b : Bool) → eq x y ≡ b → In x (y ∷ ys) → (In x ys → (k : ℕ) × (first_from (eq x) (i + 1) ys ≡ Some (i + 1 + k)) × (get_or ys k d ≡ x)) → (k : ℕ) × (first_from (eq x) i (y ∷ ys) ≡ Some (i + k)) × (get_or (y ∷ ys) k d ≡ x)
-    by true e h rest = let q : i ≡ i + zero = omega arith in (zero, step true e ∙ ap Some q, sym ((ok x y).0 e))
-    by false e (inl same) rest = absurd (true≢false (sym ((ok x y).1 same) ∙ e))
-    by false e (inr h) rest = later (rest h) e
-
-pub place_found : {A : Type 0} (eq : A → A → Bool) → ((x y : A) → Decides (eq x y) (x ≡ y)) → (x d : A) (xs : List A) → In x xs → get_or xs (place_among eq xs x) d ≡ x
-place_found eq ok x d xs h =
-    let r = found_from eq ok x d xs 0 h in
-    let q : 0 + r.0 ≡ r.0 = omega arith in
-    ap (λ k. get_or xs k d) (ap (λ o. unwrap_or o 0) r.1 ∙ q) ∙ r.2
 
 pub nat_decides : (x y : ℕ) → Decides (nat_eq x y) (x ≡ y)
 nat_decides x y = (eqb-true x y, eq-eqb x y)

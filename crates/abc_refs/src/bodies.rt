@@ -1,3 +1,5 @@
+ghost use Rattle.std.specs.Prelude.{◌≡◌};
+ghost use Rattle.std.specs.Option.{option_to_list};
 ghost use Rattle.abc_refs.specs.Refs.{body_refs, handler_refs, instr_refs};
 ghost use Rattle.abc_refs.specs.Renumbered.{new_body, new_handler, new_instr};
 
@@ -8,17 +10,31 @@ use abc_base::{NoMemory, Table};
 use abc_tables::{Body, Handler, Instr, Pool};
 use std::alloc::Global;
 
+/// The index of an instruction that names an entry of a pool, or a number in its place; `None` where it has none.
+pub fn instr_ref(instr: &Instr) -> Option<Ref>
+    ensures { option_to_list result ≡ instr_refs instr.now }
+{
+    let (op, index) = match instr {
+        Instr::One(op, n) => (*op, *n),
+        Instr::Two(op, n, _) => (*op, *n),
+        Instr::Debug { name, .. } => (DEBUG, *name),
+        _ => return None,
+    };
+    Some(Ref {
+        pool: operand_pool(op),
+        index,
+    })
+}
+
 impl Indexed for Instr {
     ghost refs = { instr_refs };
 
     ghost renumbered = { new_instr };
 
     fn note_refs(&self, found: &mut Table<Ref>) -> Result<(), NoMemory> {
-        match self {
-            Instr::One(op, n) => note(operand_pool(*op), *n, found),
-            Instr::Two(op, n, _) => note(operand_pool(*op), *n, found),
-            Instr::Debug { name, .. } => note(operand_pool(DEBUG), *name, found),
-            _ => Ok(()),
+        match instr_ref(self) {
+            Some(index) => found.push(index),
+            None => Ok(()),
         }
     }
 

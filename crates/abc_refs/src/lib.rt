@@ -10,6 +10,7 @@ mod nodes;
 mod refs;
 mod traits;
 
+pub use bodies::instr_ref;
 pub use files::{refs_of, renumbered};
 pub use indexed::{Indexed, renumber_all};
 pub use nodes::{Counts, Numbers};

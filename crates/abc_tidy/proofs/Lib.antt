@@ -8,3 +8,9 @@ pub mod Picked
 pub mod Tidied
 pub mod NodeGraph
 pub mod Ordered
+pub mod Operands
+pub mod Acyclic
+pub mod Found
+pub mod Placing
+pub mod Telling
+pub mod Marked

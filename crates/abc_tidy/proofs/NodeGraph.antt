@@ -26,7 +26,7 @@ use Rattle.abc_tidy.proofs.Nodes.{node_at_most}
 
 -- ---- lists
 
-contained : (xs : List ℕ) (x : ℕ) → Contains xs x → In x xs
+pub contained : (xs : List ℕ) (x : ℕ) → Contains xs x → In x xs
 contained xs x c = subst (λ y. In y xs) c.2 (in_at xs c.0 x c.1)
 
 -- ---- rows of a graph
@@ -78,7 +78,7 @@ parted a b x = go (cases_lt x (length a))
     go (inl l) = inl (l, get_or_append_left a b [] x l)
     go (inr le) = let at : x ≡ length a + (x - length a) = omega arith in inr (x - length a, at, get_or-append_right a b x [] le)
 
-got : {A : Type 0} (f : A → List ℕ) (xs : List A) (j y : ℕ) → In y (get_or (map f xs) j []) → (a : A) × (j < length xs) × In y (f a) × (get_or (map f xs) j [] ≡ f a) × (slice_get xs j ≡ Some a)
+pub got : {A : Type 0} (f : A → List ℕ) (xs : List A) (j y : ℕ) → In y (get_or (map f xs) j []) → (a : A) × (j < length xs) × In y (f a) × (get_or (map f xs) j [] ≡ f a) × (slice_get xs j ≡ Some a)
 got f [] j y h = absurd h
 got f (x ∷ xs) zero y h = (x, omega arith, h, refl, refl)
 got f (x ∷ xs) (suc j) y h = let r = got f xs j y h in (r.0, omega (arith, r.1), r.2, r.3, r.4)
@@ -86,7 +86,7 @@ got f (x ∷ xs) (suc j) y h = let r = got f xs j y h in (r.0, omega (arith, r.1
 -- ---- nodes of names
 
 -- how many nodes there are before those of the names, without node 0
-abbrev before_names : Abc → ℕ
+abbrev pub before_names : Abc → ℕ
 before_names v = length v.ints + length v.uints + length v.doubles + length v.strings + length v.namespaces + length v.sets
 
 not_zero : (j : ℕ) → nat_eq (suc j) 0 ≡ false
@@ -202,15 +202,15 @@ set_edge v (n ∷ s) x y l (inl e) =
     (omega (arith, l, e, h), omega (arith, e, h))
 set_edge v (n ∷ s) x y l (inr h) = set_edge v s x y l h
 
+spaces_many : (v : Abc) → length (value_graph v ++ map (space_parts (counts_of v)) v.namespaces) ≡ suc (length v.ints + length v.uints + length v.doubles + length v.strings + length v.namespaces)
+spaces_many v = omega (arith, length_values v, length-append (value_graph v) (map (space_parts (counts_of v)) v.namespaces), length-map v.namespaces (space_parts (counts_of v)))
+
+pub sets_many : (v : Abc) → length (value_graph v ++ map (space_parts (counts_of v)) v.namespaces ++ map (set_parts (counts_of v)) v.sets) ≡ suc (before_names v)
+sets_many v = omega (arith, spaces_many v, length-append (value_graph v ++ map (space_parts (counts_of v)) v.namespaces) (map (set_parts (counts_of v)) v.sets), length-map v.sets (set_parts (counts_of v)))
+
 edge_cases : (v : Abc) (x y : ℕ) → In y (targets (graph_of v) x) → EdgeCase v x y
 edge_cases v x y h = names_or (parted (value_graph v ++ map (space_parts (counts_of v)) v.namespaces ++ map (set_parts (counts_of v)) v.sets) (map (name_parts (counts_of v)) v.names) x)
   where
-    spaces_many : length (value_graph v ++ map (space_parts (counts_of v)) v.namespaces) ≡ suc (length v.ints + length v.uints + length v.doubles + length v.strings + length v.namespaces)
-    spaces_many = omega (arith, length_values v, length-append (value_graph v) (map (space_parts (counts_of v)) v.namespaces), length-map v.namespaces (space_parts (counts_of v)))
-
-    sets_many : length (value_graph v ++ map (space_parts (counts_of v)) v.namespaces ++ map (set_parts (counts_of v)) v.sets) ≡ suc (before_names v)
-    sets_many = omega (arith, spaces_many, length-append (value_graph v ++ map (space_parts (counts_of v)) v.namespaces) (map (set_parts (counts_of v)) v.sets), length-map v.sets (set_parts (counts_of v)))
-
     in_spaces : In y (get_or (value_graph v ++ map (space_parts (counts_of v)) v.namespaces) x []) → ((x < length (value_graph v)) × (get_or (value_graph v ++ map (space_parts (counts_of v)) v.namespaces) x [] ≡ get_or (value_graph v) x [])) ⊎ ((j : ℕ) × (x ≡ length (value_graph v) + j) × (get_or (value_graph v ++ map (space_parts (counts_of v)) v.namespaces) x [] ≡ get_or (map (space_parts (counts_of v)) v.namespaces) j [])) → EdgeCase v x y
     in_spaces k (inl (l, e)) = absurd (subst (In y) (e ∙ values_empty v x) k)
     in_spaces k (inr (j, at, e)) =
@@ -221,7 +221,7 @@ edge_cases v x y h = names_or (parted (value_graph v ++ map (space_parts (counts
     in_sets k (inl (l, e)) = in_spaces (subst (In y) e k) (parted (value_graph v) (map (space_parts (counts_of v)) v.namespaces) x)
     in_sets k (inr (j, at, e)) =
         let r = got (set_parts (counts_of v)) v.sets j y (subst (In y) e k) in
-        inl (set_edge v r.0 x y (omega (arith, at, spaces_many)) r.2)
+        inl (set_edge v r.0 x y (omega (arith, at, spaces_many v)) r.2)
 
     name_edge : (j : ℕ) (m : Multiname) → x ≡ before_names v + suc j → get_or (map (name_targets (length v.names)) v.names) j [] ≡ name_targets (length v.names) m → (y ≤ before_names v) ⊎ ToName v y m → EdgeCase v x y
     name_edge j m at row (inl l) = inl (omega (arith, at, l), l)
@@ -231,7 +231,7 @@ edge_cases v x y h = names_or (parted (value_graph v ++ map (space_parts (counts
     names_or (inl (l, e)) = in_sets (subst (In y) e h) (parted (value_graph v ++ map (space_parts (counts_of v)) v.namespaces) (map (set_parts (counts_of v)) v.sets) x)
     names_or (inr (j, at, e)) =
         let r = got (name_parts (counts_of v)) v.names j y (subst (In y) e h) in
-        name_edge j r.0 (omega (arith, at, sets_many)) (row_of v.names j r.0 r.4) (of_name v r.0 y r.2)
+        name_edge j r.0 (omega (arith, at, sets_many v)) (row_of v.names j r.0 r.4) (of_name v r.0 y r.2)
       where
         row_of : (ms : List Multiname) (j : ℕ) (m : Multiname) → slice_get ms j ≡ Some m → get_or (map (name_targets (length v.names)) ms) j [] ≡ name_targets (length v.names) m
         row_of [] j m e = absurd (none e)
@@ -347,7 +347,7 @@ never_returns v graph roots e f holds = subst (λ g. NoneReturns g roots) (sym e
 
 -- ---- each edge leads to a node
 
-length_graph : (v : Abc) → length (graph_of v) ≡ suc (before_names v + length v.names)
+pub length_graph : (v : Abc) → length (graph_of v) ≡ suc (before_names v + length v.names)
 length_graph v =
     omega (
       arith,

@@ -11,9 +11,11 @@ use Rattle.abc_refs.specs.Nodes.{counts_of}
 use Rattle.abc_tables.specs.declared.tables.Abc.{Abc}
 use Rattle.abc_trees.specs.declared.heads.Head.{Head}
 use Rattle.abc_trees.specs.declared.keys.Key.{Key}
+use Rattle.abc_trees.specs.Alike.{AreAlike}
 use Rattle.abc_trees.specs.Trees.{Tree}
 use Rattle.abc_trees.specs.Classes.{AllClassed, AreApart, AreClasses, AreDistinct, HasClass, class}
-use Rattle.abc_trees.proofs.TreeLaws.{one_class, one_tree}
+use Rattle.abc_trees.proofs.Alike.{trees_alike}
+use Rattle.abc_trees.proofs.TreeLaws.{one_class}
 use Rattle.abc_trees.proofs.Visited.{class_within}
 use Rattle.abc_tidy.specs.Entries.{graph_of, heads_of}
 use Rattle.abc_tidy.specs.Numbered.{ArePlaces, AreNodeNumbers, AreNumbersMet, IsCounting, next_number, noted, node_number, number_of}
@@ -215,8 +217,8 @@ classed_at classes (x ∷ xs) (suc k) h lt = classed_at classes xs k h.1 (omega 
 among_classed : (classes : List (Option ℕ)) (xs : List ℕ) (y : ℕ) → ((k : ℕ) → k < length xs → HasClass classes (get_or xs k 0)) → IsAmong xs y → HasClass classes y
 among_classed classes xs y h a = subst (HasClass classes) a.is (h a.place a.within)
 
-numbered_in : (v : Abc) (keys : List Key) (classes : List (Option ℕ)) (seen places met all : List ℕ) (n : ℕ) → AreClasses (heads_of v) (graph_of v) keys classes → AreDistinct keys → AllClassed classes (roots_of v) → AllClassed classes seen → ArePlaces classes seen (length seen) places → AreNumbersMet (counts_of v) seen met → AreNodeNumbers classes places met n all → n ≡ length (graph_of v) → AreNumbers v seen all
-numbered_in v keys classes seen places met all n s distinct roots classed p m a many = record { numbers_of = go }
+numbered_in : (v : Abc) (heads : List Head) (keys : List Key) (classes : List (Option ℕ)) (seen places met all : List ℕ) (n : ℕ) → AreAlike classes heads (heads_of v) → AreClasses heads (graph_of v) keys classes → AreDistinct keys → AllClassed classes (roots_of v) → AllClassed classes seen → ArePlaces classes seen (length seen) places → AreNumbersMet (counts_of v) seen met → AreNodeNumbers classes places met n all → n ≡ length (graph_of v) → AreNumbers v seen all
+numbered_in v heads keys classes seen places met all n alike s distinct roots classed p m a many = record { numbers_of = go }
   where
     named : (y : ℕ) → IsNamed v seen y → HasClass classes y
     named y (inl h) = among_classed classes (roots_of v) y (λ k lt. classed_at classes (roots_of v) k roots lt) h
@@ -240,12 +242,12 @@ numbered_in v keys classes seen places met all n s distinct roots classed p m a 
         let ci = classed_at classes seen i classed lt in
         let hy = s.tree y cy.number cy.is in
         let hi = s.tree (get_or seen i 0) ci.number ci.is in
-        let same : cy.number ≡ ci.number = one_class distinct hy.means hi.means (one_tree hy.is here ∙ sym (one_tree hi.is at)) in
+        let same : cy.number ≡ ci.number = one_class distinct hy.means hi.means (trees_alike classes heads (heads_of v) (graph_of v) y (get_or seen i 0) t hy.tree hi.tree alike (λ z h. s.closed z h.number h.is) cy ci here at hy.is hi.is) in
         let e : class classes (get_or seen i 0) ≡ Some cy.number = ci.is ∙ ap Some (sym same) in
         a.numbers_are y (inside y cy.number cy.is) ∙ ap (number_of places met) cy.is ∙ ap (λ k. get_or met k 0) (p.places_are i cy.number lt e) ∙ m.numbers_are i lt
 
-pub numbered : (v : Abc) (heads : List Head) (graph : List (List ℕ)) (keys : List Key) (classes : List (Option ℕ)) (roots seen places met all : List ℕ) (c : Counts) (n : ℕ) → c ≡ counts_of v → heads ≡ heads_of v → graph ≡ graph_of v → roots ≡ roots_of v → AreClasses heads graph keys classes → AreDistinct keys → AllClassed classes roots → AllClassed classes seen → ArePlaces classes seen (length seen) places → AreNumbersMet c seen met → AreNodeNumbers classes places met n all → n ≡ length graph → AreNumbers v seen all
+pub numbered : (v : Abc) (heads : List Head) (graph : List (List ℕ)) (keys : List Key) (classes : List (Option ℕ)) (roots seen places met all : List ℕ) (c : Counts) (n : ℕ) → c ≡ counts_of v → AreAlike classes heads (heads_of v) → graph ≡ graph_of v → roots ≡ roots_of v → AreClasses heads graph keys classes → AreDistinct keys → AllClassed classes roots → AllClassed classes seen → ArePlaces classes seen (length seen) places → AreNumbersMet c seen met → AreNodeNumbers classes places met n all → n ≡ length graph → AreNumbers v seen all
 numbered v heads graph keys classes roots seen places met all c n counts e f g s distinct rooted classed p m a many =
-    numbered_in v keys classes seen places met all n
-    (subst (λ hs. AreClasses hs (graph_of v) keys classes) e (subst (λ gr. AreClasses heads gr keys classes) f s)) distinct
+    numbered_in v heads keys classes seen places met all n e
+    (subst (λ gr. AreClasses heads gr keys classes) f s) distinct
     (subst (AllClassed classes) g rooted) classed p (subst (λ k. AreNumbersMet k seen met) counts m) a (many ∙ ap length f)

@@ -15,18 +15,16 @@ use Rattle.abc_tables.specs.declared.tables.Abc.{Abc}
 use Rattle.abc_tables.specs.Files.{Fits}
 use Rattle.abc_trees.specs.declared.heads.Head.{Head}
 use Rattle.abc_trees.specs.declared.keys.Key.{Key}
+use Rattle.abc_trees.specs.Alike.{AreAlike}
 use Rattle.abc_trees.specs.Classes.{AllClassed, AreClasses}
 use Rattle.abc_trees.specs.Visits.{IsVisited}
+use Rattle.abc_trees.proofs.Alike.{visited_alike}
 use Rattle.abc_tidy.specs.declared.error.TidyRule.TheVariants as rules
 use Rattle.abc_tidy.specs.Entries.{graph_of, heads_of}
 use Rattle.abc_tidy.specs.Firsts.{HoldBelow, IsFirstCyclic}
 use Rattle.abc_tidy.specs.NewPools.{new_pools}
 use Rattle.abc_tidy.specs.Rules.{BodyHolds, Holds, IsFirstBroken, IsTidied, MethodHolds}
 use Rattle.abc_tidy.specs.Visited.{AreNumbers, IsTidiedValue, roots_of}
-use Rattle.abc_tidy.proofs.Building.{same_count}
-
-pub as_many : (v : Abc) (heads : List Head) (graph : List (List ℕ)) → heads ≡ heads_of v → graph ≡ graph_of v → length heads ≡ length graph
-as_many v heads graph e f = ap length e ∙ same_count v ∙ sym (ap length f)
 
 pub the_roots : (v : Abc) (c : Counts) (refs : List Ref) (roots : List ℕ) → c ≡ counts_of v → refs ≡ file_refs v → roots ≡ map (λ r. node_of c r.pool r.index) refs → roots ≡ roots_of v
 the_roots v c refs roots e f is = is ∙ (λ i. map (λ r. node_of (e i) r.pool r.index) (f i))
@@ -50,12 +48,12 @@ all_nodes graph classes (x ∷ xs) len h (suc k) d lt = all_nodes graph classes 
 abbrev with_numbers : Counts → List ℕ → Numbers
 with_numbers c numbers = record { counts = c; numbers = numbers }
 
-pub tidied_value : (v pools t : Abc) (c : Counts) (heads : List Head) (graph : List (List ℕ)) (roots seen numbers : List ℕ) → c ≡ counts_of v → heads ≡ heads_of v → graph ≡ graph_of v → roots ≡ roots_of v → (keys : List Key) (classes : List (Option ℕ)) → AreClasses heads graph keys classes → AllClassed classes seen → IsVisited heads graph roots seen → AreNumbers v seen numbers → pools ≡ new_pools (with_numbers c numbers) v seen → t ≡ beside (new_file (number_in (with_numbers c numbers)) v) pools → IsTidiedValue v t
-tidied_value v pools t c heads graph roots seen numbers counts e f g keys classes valid classed visited numbered made is = record {
+pub tidied_value : (v pools t : Abc) (c : Counts) (heads : List Head) (graph : List (List ℕ)) (roots seen numbers : List ℕ) → c ≡ counts_of v → graph ≡ graph_of v → roots ≡ roots_of v → (keys : List Key) (classes : List (Option ℕ)) → AreAlike classes heads (heads_of v) → AreClasses heads graph keys classes → AllClassed classes roots → AllClassed classes seen → IsVisited heads graph roots seen → AreNumbers v seen numbers → pools ≡ new_pools (with_numbers c numbers) v seen → t ≡ beside (new_file (number_in (with_numbers c numbers)) v) pools → IsTidiedValue v t
+tidied_value v pools t c heads graph roots seen numbers counts f g keys classes alike valid rooted classed visited numbered made is = record {
   seen = seen;
   numbers = numbers;
   nodes = subst (λ gr. All (λ x. x < length gr) seen) f (all_nodes graph classes seen valid.len classed);
-  visited = subst (λ hs. IsVisited hs (graph_of v) (roots_of v) seen) e (subst (λ gr. IsVisited heads gr (roots_of v) seen) f (subst (λ rs. IsVisited heads graph rs seen) g visited));
+  visited = subst (λ gr. IsVisited (heads_of v) gr (roots_of v) seen) f (subst (λ rs. IsVisited (heads_of v) graph rs seen) g (visited_alike classes heads (heads_of v) graph roots seen alike (λ x h. valid.closed x h.number h.is) rooted classed visited));
   numbered = numbered;
   is = is ∙ ap (beside (new_file (number_in (with_numbers c numbers)) v)) made ∙ ap (λ k. beside (new_file (number_in (with_numbers k numbers)) v) (new_pools (with_numbers k numbers) v seen)) counts;
 }

@@ -6,3 +6,5 @@ pub mod Rules
 pub mod Firsts
 pub mod Kept
 pub mod Numbered
+pub mod Classed
+pub mod Heads

@@ -5,6 +5,7 @@ use Rattle.abc_graph.specs.Graph.{Leads, Returns}
 use Rattle.abc_refs.specs.declared.refs.Ref.{Ref}
 use Rattle.abc_refs.specs.Refs.{instr_refs}
 use Rattle.abc_tables.specs.declared.code.Body.{Body}
+use Rattle.abc_tables.specs.declared.code.Instr.{Instr}
 use Rattle.abc_tables.specs.declared.methods.Method.{Method}
 use Rattle.abc_tables.specs.declared.opcodes.Pool.{Pool}
 use Rattle.abc_tables.specs.declared.opcodes.Pool.TheVariants as pools
@@ -45,6 +46,9 @@ names_pool pools.Name = true
 -- the index names an entry, or nothing
 abbrev pub IsThere : Abc → Ref → Type 0
 IsThere v r = names_pool r.pool ≡ true → r.index ≤ pool_size v r.pool
+
+abbrev pub InstrHolds : Abc → Instr → Type 0
+InstrHolds v i = All (IsThere v) (instr_refs i)
 
 abbrev pub BodyHolds : Abc → Body → Type 0
 BodyHolds v b = All (IsThere v) (flat_map instr_refs b.code)

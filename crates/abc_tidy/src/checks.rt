@@ -1,12 +1,11 @@
 ghost use Rattle.std.specs.Prelude.{◌≡◌, ◌↔◌, ◌≤◌, All, IfOk, IsTrue, MatchResult};
 ghost use Rattle.abc_tidy.specs.declared.error.TidyRule.TheVariants as rules;
-ghost use Rattle.abc_tidy.specs.Rules.{BodyHolds, Holds, IsTidyError, IsThere, MethodHolds, names_pool as is_named, pool_size as size_of_pool};
+ghost use Rattle.abc_tidy.specs.Rules.{BodyHolds, Holds, InstrHolds, IsTidyError, IsThere, MethodHolds, names_pool as is_named, pool_size as size_of_pool};
 
 use crate::error::{TidyError, TidyRule};
-use abc_base::{NoMemory, Table};
-use abc_refs::{Indexed, Ref};
-use abc_tables::{Abc, Body, Method, Pool};
-use std::alloc::Global;
+use abc_base::NoMemory;
+use abc_refs::{Ref, instr_ref};
+use abc_tables::{Abc, Body, Instr, Method, Pool};
 
 /// How many entries a pool has.
 fn pool_size(abc: &Abc, pool: Pool) -> usize
@@ -40,19 +39,27 @@ fn is_there(abc: &Abc, index: Ref) -> bool
     !names_pool(index.pool) || index.index as usize <= pool_size(abc, index.pool)
 }
 
-fn are_there(abc: &Abc, indices: &[Ref]) -> bool
-    ensures { IsTrue result ↔ All (IsThere abc.now) indices.now }
+/// Whether the operand of an instruction names an entry, or nothing.
+fn instr_holds(abc: &Abc, instr: &Instr) -> bool
+    ensures { IsTrue result ↔ InstrHolds abc.now instr.now }
 {
-    indices.iter().all(|index| is_there(abc, *index))
+    match instr_ref(instr) {
+        Some(index) => is_there(abc, index),
+        None => true,
+    }
+}
+
+fn all_hold(abc: &Abc, code: &[Instr]) -> bool
+    ensures { IsTrue result ↔ All (InstrHolds abc.now) code.now }
+{
+    code.iter().all(|instr| instr_holds(abc, instr))
 }
 
 /// Whether each operand of a body's instructions names an entry, or nothing.
-fn body_holds(alloc: Global, abc: &Abc, body: &Body) -> Result<bool, NoMemory>
-    ensures { IfOk result (λ b. IsTrue b ↔ BodyHolds abc.now body.now) }
+fn body_holds(abc: &Abc, body: &Body) -> bool
+    ensures { IsTrue result ↔ BodyHolds abc.now body.now }
 {
-    let mut refs = Table::new(alloc);
-    body.code.note_refs(&mut refs)?;
-    Ok(are_there(abc, refs.as_slice()))
+    all_hold(abc, body.code.as_slice())
 }
 
 fn are_at_most(numbers: &[u32], count: usize) -> bool
@@ -80,12 +87,12 @@ pub(crate) fn count_of(len: usize) -> Result<u32, NoMemory>
 
 /// Tries that each operand names an entry, or nothing. The first body where one does not is refused.
 #[tactic(auto, using(crate::proofs::Firsts::holds_next, crate::proofs::Tidied::refused_body, crate::proofs::Firsts::none_found))]
-pub(crate) fn check_bodies(alloc: Global, abc: &Abc) -> Result<(), TidyError>
+pub(crate) fn check_bodies(abc: &Abc) -> Result<(), TidyError>
     ensures { MatchResult result (λ _. Holds abc.now rules.Operand) (IsTidyError abc.now) }
 {
     let count = count_of(abc.bodies.len())?;
     for i in 0..count {
-        if !body_holds(alloc, abc, abc.bodies.get(i as usize))? {
+        if !body_holds(abc, abc.bodies.get(i as usize)) {
             return Err(TidyError::Refused {
                 rule: TidyRule::Operand,
                 index: i,

@@ -1,71 +1,12 @@
-ghost use Rattle.std.specs.Prelude.{◌≡◌, ◌<◌, ◌+◌, ◌++◌, ◌∷◌, ◌^◌, [], length, map, IfOk, OnOk};
+ghost use Rattle.std.specs.Prelude.{◌≡◌, ◌<◌, ◌++◌, ◌^◌, [], map, replicate, IfOk, OnOk};
 ghost use Rattle.abc_refs.specs.Nodes.{counts_of, node_count, node_of, set_node};
-ghost use Rattle.abc_tidy.specs.Entries.{graph_of, heads_of, name_head as head_of_name, name_kind as kind_of_name, name_parts as parts_of_name, no_parts, set_parts as parts_of_set, sets_kind, space_head, space_heads, space_parts as parts_of_space, space_value as value_of_space, value_graph, value_head, value_heads};
-ghost use Rattle.abc_tables.specs.Pools.{namespace_code};
+ghost use Rattle.abc_tidy.specs.Entries.{graph_of, name_parts as parts_of_name, set_parts, space_parts, value_graph};
 
-use crate::places::{double_places, int_places, text_places, uint_places};
 use abc_base::{NoMemory, Table};
 use abc_refs::Counts;
-use abc_tables::{Abc, Multiname, Namespace, NsKind, Pool};
-use abc_trees::Head;
+use abc_tables::{Abc, Multiname, Namespace, Pool};
+use abc_trees::Rows;
 use std::alloc::Global;
-
-const INTS: u8 = 1;
-
-const UINTS: u8 = 2;
-
-const DOUBLES: u8 = 3;
-
-const TEXTS: u8 = 4;
-
-const SETS: u8 = 6;
-
-/// The entries of a file's pools as nodes, in file order after node 0: what each is by itself, and the nodes of the entries
-/// that its indices name.
-#[derive(Debug, Drop)]
-pub(crate) struct Entries {
-    pub(crate) heads: Table<Head>,
-    pub(crate) graph: Table<Table<u32>>,
-}
-
-/// The kind byte of a namespace.
-fn space_code(kind: NsKind) -> u8
-    ensures { result ≡ namespace_code kind }
-{
-    match kind {
-        NsKind::Private => 0x05,
-        NsKind::Namespace => 0x08,
-        NsKind::Package => 0x16,
-        NsKind::PackageInternal => 0x17,
-        NsKind::Protected => 0x18,
-        NsKind::Explicit => 0x19,
-        NsKind::StaticProtected => 0x1a,
-    }
-}
-
-/// Which of its kind and name a namespace is: a Private one is told by its place.
-fn space_value(kind: NsKind, place: u32) -> u32
-    ensures { result ≡ value_of_space kind place }
-{
-    match kind {
-        NsKind::Private => place,
-        _ => 0,
-    }
-}
-
-/// The kind byte of a multiname.
-fn name_kind(name: &Multiname) -> u8
-    ensures { result ≡ kind_of_name name.now }
-{
-    match name {
-        Multiname::QName { attr, .. } => if *attr { 0x0d } else { 0x07 },
-        Multiname::Rt { attr, .. } => if *attr { 0x10 } else { 0x0f },
-        Multiname::RtL { attr } => if *attr { 0x12 } else { 0x11 },
-        Multiname::Multi { attr, .. } => if *attr { 0x0e } else { 0x09 },
-        Multiname::MultiL { attr, .. } => if *attr { 0x1c } else { 0x1b },
-        Multiname::TypeName { .. } => 0x1d,
-    }
-}
 
 /// The node of an index of a pool.
 #[tactic(auto, using(crate::proofs::Nodes::node_small))]
@@ -101,159 +42,109 @@ fn add_nodes(
     Ok(())
 }
 
-/// The nodes of the entries that a name's indices name.
-fn name_parts(alloc: Global, counts: &Counts, name: &Multiname) -> Result<Table<u32>, NoMemory>
+/// Puts the nodes of the entries that a name's indices name in the place of those that there are.
+fn put_parts(parts: &mut Table<u32>, counts: &Counts, name: &Multiname) -> Result<(), NoMemory>
     requires { node_count counts.now < 2 ^ 32 }
-    ensures { IfOk result (λ t. t ≡ parts_of_name counts.now name.now) }
+    ensures { OnOk result (parts.new ≡ parts_of_name counts.now name.now) }
 {
-    let mut parts = Table::new(alloc);
+    parts.truncate(0);
     match name {
         Multiname::QName { ns, name, .. } => {
             parts.push(node(counts, Pool::Space, *ns))?;
-            parts.push(node(counts, Pool::Text, *name))?;
+            parts.push(node(counts, Pool::Text, *name))
         }
-        Multiname::Rt { name, .. } => parts.push(node(counts, Pool::Text, *name))?,
-        Multiname::RtL { .. } => {}
+        Multiname::Rt { name, .. } => parts.push(node(counts, Pool::Text, *name)),
+        Multiname::RtL { .. } => Ok(()),
         Multiname::Multi { name, set, .. } => {
             parts.push(node(counts, Pool::Text, *name))?;
-            parts.push(node_of_set(counts, *set))?;
+            parts.push(node_of_set(counts, *set))
         }
-        Multiname::MultiL { set, .. } => parts.push(node_of_set(counts, *set))?,
+        Multiname::MultiL { set, .. } => parts.push(node_of_set(counts, *set)),
         Multiname::TypeName { base, params } => {
             parts.push(node(counts, Pool::Name, *base))?;
-            add_nodes(&mut parts, counts, Pool::Name, params)?;
+            add_nodes(parts, counts, Pool::Name, params)
         }
-    }
-    Ok(parts)
-}
-
-impl Entries {
-    fn push(&mut self, kind: u8, value: u32, parts: Table<u32>) -> Result<(), NoMemory>
-        ensures heads { OnOk result (self.new.heads ≡ self.old.heads ++ value_head kind value ∷ []) }
-        ensures graph { OnOk result (self.new.graph ≡ self.old.graph ++ parts ∷ []) }
-    {
-        self.heads.push(Head { kind, value })?;
-        self.graph.push(parts)
     }
 }
 
-impl Entries {
-    /// Adds values, told by the places of the first of equal ones.
-    fn add_values(&mut self, alloc: Global, kind: u8, places: &Table<u32>) -> Result<(), NoMemory>
-        ensures heads { OnOk result (self.new.heads ≡ self.old.heads ++ map (value_head kind) places.now) }
-        ensures graph { OnOk result (self.new.graph ≡ self.old.graph ++ no_parts places.now) }
-    {
-        for place in places.as_slice() {
-            self.push(kind, *place, Table::new(alloc))?;
-        }
-        Ok(())
-    }
-
-    fn add_space(
-        &mut self,
-        alloc: Global,
-        counts: &Counts,
-        space: &Namespace,
-        place: u32,
-    ) -> Result<(), NoMemory>
-        requires { node_count counts.now < 2 ^ 32 }
-        ensures heads { OnOk result (self.new.heads ≡ self.old.heads ++ space_head space.now place ∷ []) }
-        ensures graph { OnOk result (self.new.graph ≡ self.old.graph ++ parts_of_space counts.now space.now ∷ []) }
-    {
-        let mut parts = Table::new(alloc);
-        parts.push(node(counts, Pool::Text, space.name))?;
-        let value = space_value(space.kind, place);
-        self.push(space_code(space.kind), value, parts)
-    }
-
-    fn add_sets(
-        &mut self,
-        alloc: Global,
-        counts: &Counts,
-        sets: &Table<Table<u32>>,
-    ) -> Result<(), NoMemory>
-        requires { node_count counts.now < 2 ^ 32 }
-        ensures heads { OnOk result (self.new.heads ≡ self.old.heads ++ map (λ s. value_head sets_kind 0) sets.now) }
-        ensures graph { OnOk result (self.new.graph ≡ self.old.graph ++ map (parts_of_set counts.now) sets.now) }
-    {
-        for set in sets.as_slice() {
-            let mut parts = Table::new(alloc);
-            add_nodes(&mut parts, counts, Pool::Space, set)?;
-            self.push(SETS, 0, parts)?;
-        }
-        Ok(())
-    }
-
-    fn add_names(
-        &mut self,
-        alloc: Global,
-        counts: &Counts,
-        names: &Table<Multiname>,
-    ) -> Result<(), NoMemory>
-        requires { node_count counts.now < 2 ^ 32 }
-        ensures heads { OnOk result (self.new.heads ≡ self.old.heads ++ map head_of_name names.now) }
-        ensures graph { OnOk result (self.new.graph ≡ self.old.graph ++ map (parts_of_name counts.now) names.now) }
-    {
-        for name in names.as_slice() {
-            let parts = name_parts(alloc, counts, name)?;
-            self.push(name_kind(name), 0, parts)?;
-        }
-        Ok(())
-    }
-}
-
-impl Entries {
-    fn add_spaces(
-        &mut self,
-        alloc: Global,
-        counts: &Counts,
-        spaces: &Table<Namespace>,
-    ) -> Result<(), NoMemory>
-        requires few { node_count counts.now < 2 ^ 32 }
-        requires spaces { length spaces.now < 2 ^ 32 }
-        ensures heads { OnOk result (self.new.heads ≡ self.old.heads ++ space_heads 0 spaces.now) }
-        ensures graph { OnOk result (self.new.graph ≡ self.old.graph ++ map (parts_of_space counts.now) spaces.now) }
-    {
-        for i in 0..spaces.len() {
-            self.add_space(alloc, counts, spaces.get(i), i as u32)?;
-        }
-        Ok(())
-    }
-}
-
-/// Node 0, and the entries that have no indices.
-fn values_of(alloc: Global, abc: &Abc) -> Result<Entries, NoMemory>
-    requires { node_count (counts_of abc.now) < 2 ^ 32 }
-    ensures heads { IfOk result (λ e. e.heads ≡ value_heads abc.now) }
-    ensures graph { IfOk result (λ e. e.graph ≡ value_graph abc.now) }
+/// Adds so many values, which lead to nothing.
+fn add_values(graph: &mut Rows, count: usize) -> Result<(), NoMemory>
+    ensures { OnOk result (graph.new ≡ graph.old ++ replicate count []) }
 {
-    let ints = int_places(alloc, abc)?;
-    let uints = uint_places(alloc, abc)?;
-    let doubles = double_places(alloc, abc)?;
-    let texts = text_places(alloc, abc)?;
-    let mut entries = Entries {
-        heads: Table::new(alloc),
-        graph: Table::new(alloc),
-    };
-    entries.push(0, 0, Table::new(alloc))?;
-    entries.add_values(alloc, INTS, &ints)?;
-    entries.add_values(alloc, UINTS, &uints)?;
-    entries.add_values(alloc, DOUBLES, &doubles)?;
-    entries.add_values(alloc, TEXTS, &texts)?;
-    Ok(entries)
+    for _i in 0..count {
+        graph.push(&[])?;
+    }
+    Ok(())
 }
 
-/// All entries of a file.
-#[tactic(auto, using(crate::proofs::Building::few_counts, crate::proofs::Building::few_spaces))]
-pub(crate) fn entries_of(alloc: Global, abc: &Abc, counts: &Counts) -> Result<Entries, NoMemory>
+fn add_spaces(graph: &mut Rows, counts: &Counts, spaces: &Table<Namespace>) -> Result<(), NoMemory>
+    requires { node_count counts.now < 2 ^ 32 }
+    ensures { OnOk result (graph.new ≡ graph.old ++ map (space_parts counts.now) spaces.now) }
+{
+    for space in spaces.as_slice() {
+        let name = node(counts, Pool::Text, space.name);
+        graph.push(&[name])?;
+    }
+    Ok(())
+}
+
+fn add_sets(
+    alloc: Global,
+    graph: &mut Rows,
+    counts: &Counts,
+    sets: &Table<Table<u32>>,
+) -> Result<(), NoMemory>
+    requires { node_count counts.now < 2 ^ 32 }
+    ensures { OnOk result (graph.new ≡ graph.old ++ map (set_parts counts.now) sets.now) }
+{
+    let mut parts = Table::new(alloc);
+    for set in sets.as_slice() {
+        parts.truncate(0);
+        add_nodes(&mut parts, counts, Pool::Space, set)?;
+        graph.push(parts.as_slice())?;
+    }
+    Ok(())
+}
+
+fn add_names(
+    alloc: Global,
+    graph: &mut Rows,
+    counts: &Counts,
+    names: &Table<Multiname>,
+) -> Result<(), NoMemory>
+    requires { node_count counts.now < 2 ^ 32 }
+    ensures { OnOk result (graph.new ≡ graph.old ++ map (parts_of_name counts.now) names.now) }
+{
+    let mut parts = Table::new(alloc);
+    for name in names.as_slice() {
+        put_parts(&mut parts, counts, name)?;
+        graph.push(parts.as_slice())?;
+    }
+    Ok(())
+}
+
+/// What node 0 and the entries that have no indices lead to.
+fn value_rows(alloc: Global, abc: &Abc) -> Result<Rows, NoMemory>
+    ensures { IfOk result (λ g. g ≡ value_graph abc.now) }
+{
+    let mut graph = Rows::new(alloc);
+    graph.push(&[])?;
+    add_values(&mut graph, abc.ints.len())?;
+    add_values(&mut graph, abc.uints.len())?;
+    add_values(&mut graph, abc.doubles.len())?;
+    add_values(&mut graph, abc.strings.len())?;
+    Ok(graph)
+}
+
+/// The entries of a file's pools as nodes, in file order after node 0: for each the nodes of those that its indices name.
+pub(crate) fn entries_of(alloc: Global, abc: &Abc, counts: &Counts) -> Result<Rows, NoMemory>
     requires counts { counts.now ≡ counts_of abc.now }
     requires few { node_count counts.now < 2 ^ 32 }
-    ensures heads { IfOk result (λ e. e.heads ≡ heads_of abc.now) }
-    ensures graph { IfOk result (λ e. e.graph ≡ graph_of abc.now) }
+    ensures { IfOk result (λ g. g ≡ graph_of abc.now) }
 {
-    let mut entries = values_of(alloc, abc)?;
-    entries.add_spaces(alloc, counts, &abc.namespaces)?;
-    entries.add_sets(alloc, counts, &abc.sets)?;
-    entries.add_names(alloc, counts, &abc.names)?;
-    Ok(entries)
+    let mut graph = value_rows(alloc, abc)?;
+    add_spaces(&mut graph, counts, &abc.namespaces)?;
+    add_sets(alloc, &mut graph, counts, &abc.sets)?;
+    add_names(alloc, &mut graph, counts, &abc.names)?;
+    Ok(graph)
 }

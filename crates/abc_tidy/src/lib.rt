@@ -5,6 +5,8 @@ mod checks;
 mod cycles;
 mod entries;
 mod error;
+mod heads;
+mod marks;
 mod numbering;
 mod places;
 mod pools;

@@ -1,16 +1,17 @@
 ghost use Rattle.std.specs.Prelude.{◌≡◌, ◌<◌, ◌+◌, ◌^◌, ℕ, Some, get_or, length, map, replicate, set, IfOk, OnOk};
 ghost use Rattle.abc_refs.specs.Nodes.{counts_of, node_count, node_of};
+ghost use Rattle.abc_trees.specs.Alike.{AreAlike};
 ghost use Rattle.abc_trees.specs.Classes.{AllClassed, AreApart, AreClasses, AreDistinct};
 ghost use Rattle.abc_tidy.specs.Entries.{graph_of, heads_of};
 ghost use Rattle.abc_tidy.specs.Numbered.{ArePlaces, AreNodeNumbers, AreNumbersMet, next_number, node_number, noted};
 ghost use Rattle.abc_tidy.specs.Visited.{AreNumbers, pool_index as index_of_pool, roots_of as roots_of_file};
 
 use crate::checks::count_of;
-use crate::entries::{Entries, node};
+use crate::entries::node;
 use abc_base::{NoMemory, Table};
 use abc_refs::{Counts, Ref};
 use abc_tables::Abc;
-use abc_trees::{Classes, Head};
+use abc_trees::{Classes, Head, Rows};
 use std::alloc::Global;
 
 /// How many pools there are, and one for node 0.
@@ -113,7 +114,7 @@ fn places_of(
     classes: &Classes,
     seen: &Table<u32>,
     _heads: &Table<Head>,
-    _graph: &Table<Table<u32>>,
+    _graph: &Rows,
 ) -> Result<Table<usize>, NoMemory>
     requires valid { AreClasses _heads.now _graph.now classes.now.keys.keys classes.now.classes }
     requires apart { AreApart classes.now.classes seen.now }
@@ -221,24 +222,25 @@ pub(crate) fn numbers_of(
     alloc: Global,
     _abc: &Abc,
     counts: &Counts,
-    entries: &Entries,
+    heads: &Table<Head>,
+    graph: &Rows,
     classes: &Classes,
     _roots: &Table<u32>,
     seen: &Table<u32>,
 ) -> Result<Table<u32>, NoMemory>
     requires counts { counts.now ≡ counts_of _abc.now }
-    requires heads { entries.now.heads ≡ heads_of _abc.now }
-    requires graph { entries.now.graph ≡ graph_of _abc.now }
+    requires heads { AreAlike classes.now.classes heads.now (heads_of _abc.now) }
+    requires graph { graph.now ≡ graph_of _abc.now }
     requires rooted { _roots.now ≡ roots_of_file _abc.now }
-    requires valid { AreClasses entries.now.heads entries.now.graph classes.now.keys.keys classes.now.classes }
+    requires valid { AreClasses heads.now graph.now classes.now.keys.keys classes.now.classes }
     requires distinct { AreDistinct classes.now.keys.keys }
     requires roots { AllClassed classes.now.classes _roots.now }
     requires classed { AllClassed classes.now.classes seen.now }
     requires apart { AreApart classes.now.classes seen.now }
     ensures { IfOk result (λ t. AreNumbers _abc.now seen.now t) }
 {
-    let count = count_of(entries.graph.len())?;
-    let places = places_of(alloc, classes, seen, &entries.heads, &entries.graph)?;
+    let count = count_of(graph.len())?;
+    let places = places_of(alloc, classes, seen, heads, graph)?;
     let numbers = numbers_met(alloc, counts, seen)?;
     let all = node_numbers(alloc, count, classes, &places, &numbers)?;
     Ok(all)

@@ -3,49 +3,25 @@ ghost use Rattle.abc_refs.specs.Nodes.{counts_of, node_count};
 ghost use Rattle.abc_refs.specs.Refs.{file_refs};
 ghost use Rattle.abc_tidy.specs.declared.error.TidyRule.TheVariants as rules;
 ghost use Rattle.abc_tidy.specs.Rules.{Holds, IsTidied, IsTidyError};
-ghost use Rattle.abc_tidy.specs.Visited.{IsTidiedValue};
+ghost use Rattle.abc_trees.specs.Classes.{AllClassed, AreClasses};
+ghost use Rattle.abc_tidy.specs.Classed.{AreClassed};
+ghost use Rattle.abc_tidy.specs.Entries.{graph_of};
+ghost use Rattle.abc_tidy.specs.Visited.{IsTidiedValue, roots_of};
 
 use crate::checks::{check_bodies, check_methods};
 use crate::cycles::first_cyclic;
 use crate::entries::entries_of;
 use crate::error::{TidyError, TidyRule};
+use crate::heads::heads_of;
+use crate::marks::marks_of;
 use crate::numbering::{numbers_of, roots_of};
 use crate::pools::new_pools;
 use abc_base::{NoMemory, Table};
 use abc_fits::fits;
 use abc_refs::{Counts, Numbers, Ref, refs_of, renumbered};
 use abc_tables::Abc;
-use abc_trees::{classes_of, parts_first, visit_order};
+use abc_trees::{Classes, Head, Rows, classes_of, parts_first, visit_order};
 use std::alloc::Global;
-
-/// The tidied value of a file of which no name that is visited reaches itself.
-#[tactic(auto, using(crate::proofs::Tidied::as_many, crate::proofs::Tidied::the_roots))]
-fn tidied_value(
-    alloc: Global,
-    abc: &Abc,
-    counts: Counts,
-    refs: &Table<Ref>,
-) -> Result<Abc, NoMemory>
-    requires refs { refs.now ≡ file_refs abc.now }
-    requires counts { counts ≡ counts_of abc.now }
-    requires few { node_count counts < 2 ^ 32 }
-    requires names { Holds abc.now rules.NameCycle }
-    ensures { IfOk result (λ t. IsTidiedValue abc.now t) }
-{
-    let entries = entries_of(alloc, abc, &counts)?;
-    let roots = roots_of(alloc, &counts, refs)?;
-    let order = parts_first(alloc, &entries.graph, &roots)?;
-    let classes = classes_of(alloc, &entries.heads, &entries.graph, &order)?;
-    let seen = visit_order(alloc, &entries.heads, &entries.graph, &classes, &roots)?;
-    let all = numbers_of(alloc, abc, &counts, &entries, &classes, &roots, &seen)?;
-    let numbers = Numbers {
-        counts,
-        numbers: all,
-    };
-    let pools = new_pools(alloc, abc, &numbers, &seen)?;
-    let tidied = renumbered(alloc, abc, &numbers, pools)?;
-    Ok(tidied)
-}
 
 /// Tries that no name that is visited reaches itself. The first that does is refused.
 #[tactic(auto, using(crate::proofs::Tidied::refused_name, crate::proofs::Tidied::no_name))]
@@ -65,6 +41,96 @@ fn check_names(alloc: Global, abc: &Abc, refs: &Table<Ref>) -> Result<(), TidyEr
     }
 }
 
+/// The same, where it is known which entries have classes: if all that are named have, no name reaches itself, and the
+/// graph of names is not made.
+fn check_classes(
+    alloc: Global,
+    abc: &Abc,
+    refs: &Table<Ref>,
+    _heads: &Table<Head>,
+    classes: &Classes,
+    roots: &Table<u32>,
+) -> Result<(), TidyError>
+    requires refs { refs.now ≡ file_refs abc.now }
+    requires few { length (abc.now).names + 1 < 2 ^ 32 }
+    requires operands { Holds abc.now rules.Operand }
+    requires param_names { Holds abc.now rules.ParamName }
+    requires rooted { roots.now ≡ roots_of abc.now }
+    requires valid { AreClasses _heads.now (graph_of abc.now) classes.now.keys.keys classes.now.classes }
+    requires ordered { Holds abc.now rules.NameCycle → AllClassed classes.now.classes roots.now }
+    ensures { MatchResult result (λ _. Holds abc.now rules.NameCycle × AllClassed classes.now.classes roots.now) (IsTidyError abc.now) }
+{
+    if classes.have(roots.as_slice()) {
+        return Ok(());
+    }
+    check_names(alloc, abc, refs)?;
+    Ok(())
+}
+
+/// The entries of a file with their classes, and those that the definitions and bodies name, of which each has a class.
+#[derive(Drop)]
+struct Classed {
+    heads: Table<Head>,
+    graph: Rows,
+    roots: Table<u32>,
+    classes: Classes,
+}
+
+/// The classes of the entries of a file, unless a name that is visited reaches itself.
+fn class_entries(
+    alloc: Global,
+    abc: &Abc,
+    counts: &Counts,
+    refs: &Table<Ref>,
+) -> Result<Classed, TidyError>
+    requires refs { refs.now ≡ file_refs abc.now }
+    requires counts { counts.now ≡ counts_of abc.now }
+    requires few { node_count counts.now < 2 ^ 32 }
+    requires operands { Holds abc.now rules.Operand }
+    requires param_names { Holds abc.now rules.ParamName }
+    ensures { MatchResult result (λ k. AreClassed abc.now k.heads k.graph k.roots k.classes.keys.keys k.classes.classes) (IsTidyError abc.now) }
+{
+    let graph = entries_of(alloc, abc, counts)?;
+    let roots = roots_of(alloc, counts, refs)?;
+    let order = parts_first(alloc, &graph, &roots)?;
+    let marks = marks_of(alloc, graph.len(), &order)?;
+    let heads = heads_of(alloc, abc, marks.as_slice())?;
+    let classes = classes_of(alloc, &heads, &graph, &order)?;
+    check_classes(alloc, abc, refs, &heads, &classes, &roots)?;
+    Ok(Classed {
+        heads,
+        graph,
+        roots,
+        classes,
+    })
+}
+
+/// The tidied value of a file whose entries have these classes.
+fn tidied_value(
+    alloc: Global,
+    abc: &Abc,
+    counts: Counts,
+    classed: &Classed,
+) -> Result<Abc, NoMemory>
+    requires counts { counts ≡ counts_of abc.now }
+    requires classed { AreClassed abc.now classed.now.heads classed.now.graph classed.now.roots classed.now.classes.keys.keys classed.now.classes.classes }
+    ensures { IfOk result (λ t. IsTidiedValue abc.now t) }
+{
+    let heads = &classed.heads;
+    let graph = &classed.graph;
+    let classes = &classed.classes;
+    let roots = &classed.roots;
+    let seen = visit_order(alloc, heads, graph, classes, roots)?;
+    let all = numbers_of(alloc, abc, &counts, heads, graph, classes, roots, &seen)?;
+    let numbers = Numbers {
+        counts,
+        numbers: all,
+    };
+    let pools = new_pools(alloc, abc, &numbers, &seen)?;
+    let tidied = renumbered(alloc, abc, &numbers, pools)?;
+    Ok(tidied)
+}
+
 /// A file that means the same, without the entries of its pools that nothing names and those that are doubled, and with the
 /// others in the order of first use. A file whose pools have 2^32 entries finds no memory.
 ///
@@ -74,7 +140,7 @@ fn check_names(alloc: Global, abc: &Abc, refs: &Table<Ref>) -> Result<(), TidyEr
 /// It is `Refused` where a rule is broken, by the first of them and the least index: an operand of an instruction names an
 /// entry that is not there, a name of a parameter is above the strings, a name that is visited reaches itself, or the
 /// tidied file is not spelled by any bytes of at most 2^24.
-#[tactic(auto, using(crate::proofs::Building::few_names, crate::proofs::Tidied::done, crate::proofs::Tidied::too_large))]
+#[tactic(auto, using(crate::proofs::Tidied::done, crate::proofs::Tidied::too_large))]
 pub fn tidy(alloc: Global, abc: &Abc) -> Result<Abc, TidyError>
     ensures { MatchResult result (IsTidied abc.now) (IsTidyError abc.now) }
 {
@@ -82,11 +148,11 @@ pub fn tidy(alloc: Global, abc: &Abc) -> Result<Abc, TidyError>
         Some(counts) => counts,
         None => return Err(TidyError::NoMemory),
     };
-    check_bodies(alloc, abc)?;
+    check_bodies(abc)?;
     check_methods(abc)?;
     let refs = refs_of(alloc, abc)?;
-    check_names(alloc, abc, &refs)?;
-    let tidied = tidied_value(alloc, abc, counts, &refs)?;
+    let classed = class_entries(alloc, abc, &counts, &refs)?;
+    let tidied = tidied_value(alloc, abc, counts, &classed)?;
     if fits(&tidied) {
         return Ok(tidied);
     }

@@ -6,3 +6,6 @@ pub mod TreeLaws
 pub mod Visited
 pub mod Walked
 pub mod Settled
+pub mod InRows
+pub mod Sizes
+pub mod Alike

@@ -43,13 +43,13 @@ part_same t u v w e = ap part_in e
 
 -- ---- the test
 
-heads_same : (a b : Head) → head_eq a b ≡ true → a ≡ b
+pub heads_same : (a b : Head) → head_eq a b ≡ true → a ≡ b
 heads_same a b e =
     let kind : a.kind ≡ b.kind = eqb-true _ _ (and-left _ _ e) in
     let value : a.value ≡ b.value = eqb-true _ _ (and-right (nat_eq a.kind b.kind) _ e) in
     λ i. record { kind = kind i; value = value i }
 
-heads_refl : (a : Head) → head_eq a a ≡ true
+pub heads_refl : (a : Head) → head_eq a a ≡ true
 heads_refl a =
     let kind = eq-eqb a.kind a.kind refl in
     let value = eq-eqb a.value a.value refl in

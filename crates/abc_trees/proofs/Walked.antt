@@ -32,12 +32,12 @@ in_append x (y ∷ xs) ys (inr h) = go (in_append x xs ys h)
     go (inl a) = inl (inr a)
     go (inr b) = inr b
 
-in_left : {A : Type 0} (x : A) (xs ys : List A) → In x xs → In x (xs ++ ys)
+pub in_left : {A : Type 0} (x : A) (xs ys : List A) → In x xs → In x (xs ++ ys)
 in_left x [] ys h = absurd h
 in_left x (y ∷ xs) ys (inl e) = inl e
 in_left x (y ∷ xs) ys (inr h) = inr (in_left x xs ys h)
 
-in_last : {A : Type 0} (x : A) (xs : List A) → In x (xs ++ x ∷ [])
+pub in_last : {A : Type 0} (x : A) (xs : List A) → In x (xs ++ x ∷ [])
 in_last x [] = inl refl
 in_last x (y ∷ xs) = inr (in_last x xs)
 

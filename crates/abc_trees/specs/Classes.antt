@@ -1,6 +1,6 @@
 -- Classes of nodes: those that have equal trees have equal numbers. A class is the place of a key, and a key names the
 -- classes of the parts of a tree.
-use Rattle.std.specs.Prelude.{◌≡◌, ℕ, ◌<◌, List, [], ◌∷◌, Bool, nat_eq, ◌&&◌, slice_get, Some, None, get_or, length, drop}
+use Rattle.std.specs.Prelude.{◌≡◌, ℕ, ◌<◌, ◌⊎◌, List, [], ◌∷◌, Bool, nat_eq, ◌&&◌, slice_get, Some, None, get_or, length, drop}
 use Rattle.std.specs.declared.option.Option.{Option}
 use Rattle.abc_graph.specs.Graph.{targets}
 use Rattle.abc_trees.specs.declared.heads.Head.{Head}
@@ -78,10 +78,11 @@ pub record HasUnclassed (graph : List (List ℕ)) (x : ℕ) (classes : List (Opt
   pub within : part < length (targets graph x)
   pub none : class classes (get_or (targets graph x) part 0) ≡ None
 
--- For the prover alone: no class is lost, and a node has one where all that it leads to have.
+-- For the prover alone: no class is lost, a node has one where all that it leads to have, and no other gets one.
 pub record Gains (graph : List (List ℕ)) (x : ℕ) (old new : List (Option ℕ)) : Type 0 where
   pub keeps : (y : ℕ) → HasClass old y → HasClass new y
   pub gains : x < length graph → ((k : ℕ) → k < length (targets graph x) → HasClass old (get_or (targets graph x) k 0)) → HasClass new x
+  pub only : (y : ℕ) → HasClass new y → HasClass old y ⊎ (y ≡ x)
 
 -- the first n nodes of a list have classes
 pub record AreSettled (classes : List (Option ℕ)) (order : List ℕ) (n : ℕ) : Type 0 where

@@ -4,3 +4,5 @@ pub mod Visits
 pub mod Effort
 pub mod Orders
 pub mod Walks
+pub mod Rows
+pub mod Alike

@@ -1,5 +1,5 @@
-ghost use Rattle.std.specs.Prelude.{◌≡◌, ◌<◌, All, ℕ, [], length, slice_get, Some, IfOk, OnOk, MatchOption};
-ghost use Rattle.abc_trees.specs.Classes.{AreClasses, AreDistinct, AreSettled, Extends, Gains, HasClass, HasUnclassed, IsClassOf, class as class_in, keys_eq};
+ghost use Rattle.std.specs.Prelude.{◌≡◌, ◌<◌, ◌↔◌, All, ℕ, [], length, slice_get, Some, IfOk, OnOk, IsTrue, MatchOption};
+ghost use Rattle.abc_trees.specs.Classes.{AllClassed, AreClasses, AreDistinct, AreSettled, Extends, Gains, HasClass, HasUnclassed, IsClassOf, class as class_in, keys_eq};
 ghost use Rattle.abc_graph.specs.Graph.{targets};
 ghost use Rattle.abc_trees.specs.Trees.{head};
 ghost use Rattle.abc_trees.specs.Orders.{In, IsBehind};
@@ -7,6 +7,7 @@ ghost use Rattle.indexmap.specs.IndexSet.{insert_key};
 
 use crate::heads::Head;
 use crate::keys::{Key, key_of_apply, key_of_leaf};
+use crate::rows::Rows;
 use abc_base::{NoMemory, Table};
 use indexmap::IndexSet;
 use std::alloc::Global;
@@ -32,6 +33,7 @@ impl Classes {
     }
 
     /// The class of a node, if it has one.
+    #[inline]
     #[tactic(auto, using(crate::proofs::Reading::no_entry, crate::proofs::Reading::an_entry))]
     pub fn class(&self, node: u32) -> Option<usize>
         ensures { result ≡ class_in self.now.classes node }
@@ -43,8 +45,24 @@ impl Classes {
     }
 }
 
+impl Classes {
+    /// Whether some nodes all have classes.
+    #[tactic(auto, using(crate::proofs::Settled::classed_next, crate::proofs::Settled::unclassed_at, crate::proofs::Settled::classed_whole))]
+    pub fn have(&self, nodes: &[u32]) -> bool
+        ensures { IsTrue result ↔ AllClassed self.now.classes nodes.now }
+    {
+        for node in nodes {
+            match self.class(*node) {
+                Some(_class) => {}
+                None => return false,
+            }
+        }
+        true
+    }
+}
+
 /// The nodes that a node leads to.
-pub(crate) fn parts_of(graph: &Table<Table<u32>>, node: u32) -> &Table<u32>
+pub(crate) fn parts_of(graph: &Rows, node: u32) -> &[u32]
     requires { node < length graph.now }
     ensures { result.now ≡ targets graph.now node }
 {
@@ -65,7 +83,7 @@ impl Classes {
     fn class_of(
         &mut self,
         heads: &Table<Head>,
-        graph: &Table<Table<u32>>,
+        graph: &Rows,
         node: u32,
     ) -> Result<Option<usize>, NoMemory>
         requires valid { AreClasses heads.now graph.now self.old.keys.keys self.old.classes }
@@ -78,7 +96,7 @@ impl Classes {
         ensures class { IfOk result (λ r. MatchOption r (HasUnclassed graph.now node self.new.classes) (IsClassOf heads.now graph.now node self.new.keys.keys self.new.classes)) }
     {
         let mut class = self.add_key(key_of_leaf(head_of(heads, node)))?;
-        for part in parts_of(graph, node).as_slice() {
+        for part in parts_of(graph, node) {
             match self.class(*part) {
                 Some(part_class) => class = self.add_key(key_of_apply(class, part_class))?,
                 None => return Ok(None),
@@ -91,12 +109,7 @@ impl Classes {
 impl Classes {
     /// Gives a node the class of its tree, if the nodes that it leads to have classes.
     #[tactic(auto, using(crate::proofs::Meanings::settled, crate::proofs::Meanings::extended, crate::proofs::Settled::gains_nothing, crate::proofs::Settled::gains_none, crate::proofs::Settled::gains_one))]
-    fn settle(
-        &mut self,
-        heads: &Table<Head>,
-        graph: &Table<Table<u32>>,
-        node: u32,
-    ) -> Result<(), NoMemory>
+    fn settle(&mut self, heads: &Table<Head>, graph: &Rows, node: u32) -> Result<(), NoMemory>
         requires valid { AreClasses heads.now graph.now self.old.keys.keys self.old.classes }
         requires distinct { AreDistinct self.old.keys.keys }
         requires heads { length heads.now ≡ length graph.now }
@@ -115,14 +128,11 @@ impl Classes {
 }
 
 /// No classes as yet.
-#[tactic(auto, using(crate::proofs::Meanings::none_classed))]
-fn no_classes(
-    alloc: Global,
-    heads: &Table<Head>,
-    graph: &Table<Table<u32>>,
-) -> Result<Classes, NoMemory>
+#[tactic(auto, using(crate::proofs::Meanings::none_classed, crate::proofs::Settled::none_has))]
+fn no_classes(alloc: Global, heads: &Table<Head>, graph: &Rows) -> Result<Classes, NoMemory>
     ensures valid { IfOk result (λ c. AreClasses heads.now graph.now c.keys.keys c.classes) }
     ensures distinct { IfOk result (λ c. AreDistinct c.keys.keys) }
+    ensures none { IfOk result (λ c. (y : ℕ) → HasClass c.classes y → ⊥) }
 {
     let _heads = heads;
     let mut classes = Table::new(alloc);
@@ -137,16 +147,17 @@ fn no_classes(
 
 /// The classes of the nodes of a list in which each stands behind those that it leads to. One that stands before any of
 /// these has no class.
-#[tactic(auto, using(crate::proofs::Settled::none_settled, crate::proofs::Settled::all_settled))]
+#[tactic(auto, using(crate::proofs::Settled::none_settled, crate::proofs::Settled::all_settled, crate::proofs::Settled::only_all))]
 pub fn classes_of(
     alloc: Global,
     heads: &Table<Head>,
-    graph: &Table<Table<u32>>,
+    graph: &Rows,
     order: &Table<u32>,
 ) -> Result<Classes, NoMemory>
     requires { length heads.now ≡ length graph.now }
     ensures valid { IfOk result (λ c. AreClasses heads.now graph.now c.keys.keys c.classes) }
     ensures distinct { IfOk result (λ c. AreDistinct c.keys.keys) }
+    ensures only { IfOk result (λ c. (y : ℕ) → HasClass c.classes y → In y order.now) }
     ensures all { IfOk result (λ c. IsBehind graph.now [] order.now → All (λ y. y < length graph.now) order.now → (y : ℕ) → In y order.now → HasClass c.classes y) }
 {
     let mut classes = no_classes(alloc, heads, graph)?;

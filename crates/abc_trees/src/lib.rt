@@ -7,10 +7,12 @@ mod heads;
 mod keys;
 mod marks;
 mod order;
+mod rows;
 mod stack;
 mod visit;
 
 pub use classes::{Classes, classes_of};
 pub use heads::Head;
 pub use order::parts_first;
+pub use rows::Rows;
 pub use visit::visit_order;

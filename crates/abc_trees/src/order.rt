@@ -6,6 +6,7 @@ ghost use Rattle.abc_trees.specs.Walks.{IsWalk, leave, pushed};
 
 use crate::classes::parts_of;
 use crate::marks::has_mark;
+use crate::rows::Rows;
 use crate::stack::Stack;
 use abc_base::{NoMemory, Table};
 use std::alloc::Global;
@@ -29,12 +30,12 @@ struct Walk {
 impl Walk {
     /// Notes that some nodes are to be entered.
     #[tactic(auto, using(crate::proofs::Walked::pushed_next))]
-    fn add_all(&mut self, nodes: &Table<u32>) -> Result<(), NoMemory>
+    fn add_all(&mut self, nodes: &[u32]) -> Result<(), NoMemory>
         ensures todo { OnOk result (self.new.todo ≡ pushed nodes.now self.old.todo) }
         ensures entered { OnOk result (self.new.entered.items ≡ self.old.entered.items) }
         ensures order { OnOk result (self.new.order ≡ self.old.order) }
     {
-        for node in nodes.as_slice() {
+        for node in nodes {
             self.todo.push(Task {
                 node: *node,
                 is_leaving: false,
@@ -46,7 +47,7 @@ impl Walk {
 
 impl Walk {
     /// Enters a node for the first time.
-    fn enter(&mut self, graph: &Table<Table<u32>>, node: u32) -> Result<(), NoMemory>
+    fn enter(&mut self, graph: &Rows, node: u32) -> Result<(), NoMemory>
         requires known { node < length graph.now }
         requires within { node < length self.old.entered.items }
         ensures marks { OnOk result (self.new.entered.items ≡ set self.old.entered.items node true) }
@@ -63,12 +64,7 @@ impl Walk {
 
     /// Does what is to be done at a node.
     #[tactic(auto, using(crate::proofs::Efforts::unmarked_within, crate::proofs::Efforts::marked_length))]
-    fn step(
-        &mut self,
-        graph: &Table<Table<u32>>,
-        _roots: &Table<u32>,
-        task: Task,
-    ) -> Result<(), NoMemory>
+    fn step(&mut self, graph: &Rows, _roots: &Table<u32>, task: Task) -> Result<(), NoMemory>
         requires marks { length self.old.entered.items ≡ length graph.now }
         requires in_range { IsGraph graph.now }
         requires roots { All (λ y. y < length graph.now) _roots.now }
@@ -90,11 +86,7 @@ impl Walk {
 
 /// The nodes that some nodes lead to, and these, in an order in which each stands behind those that it leads to, where none
 /// of them returns to itself.
-pub fn parts_first(
-    alloc: Global,
-    graph: &Table<Table<u32>>,
-    roots: &Table<u32>,
-) -> Result<Table<u32>, NoMemory>
+pub fn parts_first(alloc: Global, graph: &Rows, roots: &Table<u32>) -> Result<Table<u32>, NoMemory>
     requires in_range { IsGraph graph.now }
     requires roots { All (λ y. y < length graph.now) roots.now }
     ensures { IfOk result (λ order. NoneReturns graph.now roots.now → IsOrder graph.now roots.now order) }
@@ -105,7 +97,7 @@ pub fn parts_first(
         todo: Stack::new(alloc),
         order: Table::new(alloc),
     };
-    walk.add_all(roots)?;
+    walk.add_all(roots.as_slice())?;
     while let Some(task) = walk.todo.pop() {
         walk.step(graph, roots, task)?;
     }

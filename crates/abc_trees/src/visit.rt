@@ -8,6 +8,7 @@ ghost use Rattle.abc_trees.specs.Visits.{IsVisit, IsVisited};
 use crate::classes::{Classes, parts_of};
 use crate::heads::Head;
 use crate::marks::has_mark;
+use crate::rows::Rows;
 use crate::stack::Stack;
 use abc_base::{NoMemory, Table};
 use std::alloc::Global;
@@ -27,14 +28,14 @@ struct Visit {
 impl Visit {
     /// Puts some nodes on the stack, the first on top.
     #[tactic(auto, using(crate::proofs::Visited::pushed_before, crate::proofs::Visited::pushed_all))]
-    fn add_all(&mut self, nodes: &Table<u32>) -> Result<(), NoMemory>
+    fn add_all(&mut self, nodes: &[u32]) -> Result<(), NoMemory>
         ensures todo { OnOk result (self.new.todo ≡ nodes.now ++ self.old.todo) }
         ensures met { OnOk result (self.new.met.items ≡ self.old.met.items) }
         ensures opened { OnOk result (self.new.opened.items ≡ self.old.opened.items) }
         ensures seen { OnOk result (self.new.seen ≡ self.old.seen) }
     {
         for i in (0..nodes.len()).rev() {
-            self.todo.push(*nodes.get(i))?;
+            self.todo.push(nodes[i])?;
         }
         Ok(())
     }
@@ -42,7 +43,7 @@ impl Visit {
 
 impl Visit {
     /// Meets a node, and puts those that it leads to on the stack.
-    fn meet(&mut self, graph: &Table<Table<u32>>, node: u32, class: usize) -> Result<(), NoMemory>
+    fn meet(&mut self, graph: &Rows, node: u32, class: usize) -> Result<(), NoMemory>
         requires unmet { get_or self.old.met.items class true ≡ false }
         requires unopened { get_or self.old.opened.items node true ≡ false }
         requires known { node < length graph.now }
@@ -61,7 +62,7 @@ impl Visit {
     fn step(
         &mut self,
         _heads: &Table<Head>,
-        graph: &Table<Table<u32>>,
+        graph: &Rows,
         classes: &Classes,
         node: u32,
     ) -> Result<(), NoMemory>
@@ -94,7 +95,7 @@ impl Visit {
 pub fn visit_order(
     alloc: Global,
     heads: &Table<Head>,
-    graph: &Table<Table<u32>>,
+    graph: &Rows,
     classes: &Classes,
     roots: &Table<u32>,
 ) -> Result<Table<u32>, NoMemory>
@@ -113,7 +114,7 @@ pub fn visit_order(
         seen: Table::new(alloc),
         todo: Stack::new(alloc),
     };
-    visit.add_all(roots)?;
+    visit.add_all(roots.as_slice())?;
     while let Some(node) = visit.todo.pop() {
         visit.step(heads, graph, classes, node)?;
     }

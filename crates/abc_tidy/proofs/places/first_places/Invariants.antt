@@ -1,6 +1,5 @@
-use Rattle.std.proofs.Common.{◌≡◌, map, take}
-use Rattle.abc_tidy.specs.Entries.{place_among}
+use Rattle.abc_tidy.specs.Heads.{HasPlaces}
 use Rattle.abc_tidy.proofs.places.first_places.Given as goal
 
-abbrev pub invariant-loop-value : goal.invariant-loop-value
-invariant-loop-value g l = l.places ≡ map (place_among g.K.PartialEq.eq l.values) (take l.value-index l.values)
+abbrev pub invariant-loop-i : goal.invariant-loop-i
+invariant-loop-i g l = HasPlaces g.K.PartialEq.eq l.marks l.begin l.values l.kept l.i l.places

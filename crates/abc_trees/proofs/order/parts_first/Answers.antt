@@ -13,7 +13,7 @@ loop-task-init c =
       walk = λ never. rw (c.in_ok-add_all.ensures.order ∙ c.new-2.ensures)
           (walk_begun c.args.graph.now c.args.roots.now c.add_all.new.self.entered.items c.add_all.new.self.todo
           (λ x e. true≢false (sym e ∙ ap (λ ms. get_or ms x false) marks ∙ no_marks _ x))
-          (c.in_ok-add_all.ensures.todo ∙ ap (pushed c.args.roots.now) c.new.ensures));
+          (c.in_ok-add_all.ensures.todo ∙ (λ i. pushed (c.as_slice.ensures i) (c.new.ensures i))));
     }
 
 pub returns : goal.returns

@@ -8,4 +8,4 @@ loop-node-init c =
     c.requires.valid c.requires.roots
     (c.in_ok-add_all.ensures.met ∙ c.in_ok-met.ensures.items_if_clones_equal (λ y e. e) ∙ ap (λ n. replicate n false) c.len.ensures.len)
     (c.in_ok-add_all.ensures.opened ∙ c.in_ok-opened.ensures.items_if_clones_equal (λ y e. e) ∙ ap (λ n. replicate n false) c.len-2.ensures)
-    (c.in_ok-add_all.ensures.todo ∙ ap (λ ts. c.args.roots.now ++ ts) c.new-2.ensures) (c.in_ok-add_all.ensures.seen ∙ c.new.ensures)
+    (c.in_ok-add_all.ensures.todo ∙ (λ i. c.as_slice.ensures i ++ c.new-2.ensures i)) (c.in_ok-add_all.ensures.seen ∙ c.new.ensures)
