@@ -42,26 +42,170 @@ converting_adds to w a = gives_adds w a _ (take_one_adds w a.values _ (λ v. con
 
 -- ---- the groups of the table
 
+-- an act, and those behind it
+also : {d : Doing} {R : Type 0} → ((w : World) (a : At) → Adds w (d a w)) → R → ActAdds d × R
+also f more = (record { adds = f }, more)
+
 jumping_add : (rest : List (ℕ × Doing)) → AllAdd rest → AllAdd (jumping_acts rest)
-jumping_add rest more = (record { adds = nothing_adds }, (record { adds = nothing_adds }, (record { adds = nothing_adds }, (record { adds = nothing_adds }, (record { adds = nothing_adds }, (record { adds = λ w a. take_one_adds w a.values _ (λ v. stop_adds w (Throws v)) }, (record { adds = λ w a. returns_adds w a.setting a.frame values.Undefined }, (record { adds = λ w a. take_one_adds w a.values _ (λ v. returns_adds w a.setting a.frame v) }, (record { adds = (not_adds 0xAD) }, (record { adds = (not_adds 0xAE) }, (record { adds = (not_adds 0xAF) }, (record { adds = (not_adds 0xB0) }, (record { adds = λ w a. done_adds w _ }, (record { adds = λ w a. then_adds w _ _ (take_one_adds w a.values _ (λ v. done_adds w _)) (λ n b. done_adds n _) }, (record { adds = λ w a. then_adds w _ _ (take_one_adds w a.values _ (λ v. done_adds w _)) (λ n b. done_adds n _) }, (record { adds = (so_adds 0xAB) }, (record { adds = (not_adds 0xAB) }, (record { adds = (so_adds 0xAD) }, (record { adds = (so_adds 0xAE) }, (record { adds = (so_adds 0xAF) }, (record { adds = (so_adds 0xB0) }, (record { adds = (so_adds 0xAC) }, (record { adds = (not_adds 0xAC) }, (record { adds = switches_adds }, more))))))))))))))))))))))))
+jumping_add rest more =
+    also nothing_adds
+    (also nothing_adds
+    (also nothing_adds
+    (also nothing_adds
+    (also nothing_adds
+    (also (λ w a. take_one_adds w a.values _ (λ v. stop_adds w (Throws v)))
+    (also (λ w a. returns_adds w a.setting a.frame values.Undefined)
+    (also (λ w a. take_one_adds w a.values _ (λ v. returns_adds w a.setting a.frame v))
+    (also (not_adds 0xAD)
+    (also (not_adds 0xAE)
+    (also (not_adds 0xAF)
+    (also (not_adds 0xB0)
+    (also (λ w a. done_adds w _)
+    (also (λ w a. then_adds w _ _ (take_one_adds w a.values _ (λ v. done_adds w _)) (λ n b. done_adds n _))
+    (also (λ w a. then_adds w _ _ (take_one_adds w a.values _ (λ v. done_adds w _)) (λ n b. done_adds n _))
+    (also (so_adds 0xAB)
+    (also (not_adds 0xAB)
+    (also (so_adds 0xAD)
+    (also (so_adds 0xAE)
+    (also (so_adds 0xAF)
+    (also (so_adds 0xB0)
+    (also (so_adds 0xAC)
+    (also (not_adds 0xAC)
+    (also switches_adds
+    more)))))))))))))))))))))))
 
 plain_add : (rest : List (ℕ × Doing)) → AllAdd rest → AllAdd (plain_acts rest)
-plain_add rest more = (record { adds = λ w a. take_one_adds w a.values _ (λ v. scoped_adds w true a.rest v) }, (record { adds = λ w a. take_one_adds w a.values _ (λ v. scoped_adds w false a.rest v) }, (record { adds = λ w a. done_adds w _ }, (record { adds = λ w a. gives_adds w a _ (done_adds w _) }, (record { adds = λ w a. gives_adds w a _ (done_adds w _) }, (record { adds = λ w a. gives_adds w a _ (done_adds w _) }, (record { adds = λ w a. gives_adds w a _ (done_adds w _) }, (record { adds = λ w a. gives_adds w a _ (done_adds w _) }, (record { adds = λ w a. gives_adds w a _ (done_adds w _) }, (record { adds = λ w a. stop_adds w (Faults faults.NotANumber) }, (record { adds = λ w a. stop_adds w (Faults faults.Double) }, (record { adds = λ w a. gives_adds w a _ (done_adds w _) }, (record { adds = λ w a. gives_adds w a _ (done_adds w _) }, (record { adds = λ w a. gives_adds w a _ (done_adds w _) }, (record { adds = λ w a. gives_adds w a _ (done_adds w _) }, (record { adds = nothing_adds }, (record { adds = λ w a. take_one_adds w a.values _ (λ v. done_adds w _) }, (record { adds = λ w a. take_two_adds w a.values _ (λ x y. done_adds w _) }, (record { adds = λ w a. gives_adds w a _ (local_adds w a) }, (record { adds = λ w a. gives_adds w a _ (local_adds w a) }, (record { adds = λ w a. gives_adds w a _ (local_adds w a) }, (record { adds = λ w a. gives_adds w a _ (local_adds w a) }, (record { adds = λ w a. gives_adds w a _ (local_adds w a) }, (record { adds = λ w a. take_one_adds w a.values _ (λ v. done_adds w _) }, (record { adds = λ w a. take_one_adds w a.values _ (λ v. done_adds w _) }, (record { adds = λ w a. take_one_adds w a.values _ (λ v. done_adds w _) }, (record { adds = λ w a. take_one_adds w a.values _ (λ v. done_adds w _) }, (record { adds = λ w a. take_one_adds w a.values _ (λ v. done_adds w _) }, (record { adds = λ w a. done_adds w _ }, (record { adds = λ w a. gives_adds w a _ (done_adds w _) }, (record { adds = λ w a. gives_adds w a _ (scope_object_adds w a) }, more)))))))))))))))))))))))))))))))
+plain_add rest more =
+    also (λ w a. take_one_adds w a.values _ (λ v. scoped_adds w true a.rest v))
+    (also (λ w a. take_one_adds w a.values _ (λ v. scoped_adds w false a.rest v))
+    (also (λ w a. done_adds w _)
+    (also (λ w a. gives_adds w a _ (done_adds w _))
+    (also (λ w a. gives_adds w a _ (done_adds w _))
+    (also (λ w a. gives_adds w a _ (done_adds w _))
+    (also (λ w a. gives_adds w a _ (done_adds w _))
+    (also (λ w a. gives_adds w a _ (done_adds w _))
+    (also (λ w a. gives_adds w a _ (done_adds w _))
+    (also (λ w a. stop_adds w (Faults faults.NotANumber))
+    (also (λ w a. stop_adds w (Faults faults.Double))
+    (also (λ w a. gives_adds w a _ (done_adds w _))
+    (also (λ w a. gives_adds w a _ (done_adds w _))
+    (also (λ w a. gives_adds w a _ (done_adds w _))
+    (also (λ w a. gives_adds w a _ (done_adds w _))
+    (also nothing_adds
+    (also (λ w a. take_one_adds w a.values _ (λ v. done_adds w _))
+    (also (λ w a. take_two_adds w a.values _ (λ x y. done_adds w _))
+    (also (λ w a. gives_adds w a _ (local_adds w a))
+    (also (λ w a. gives_adds w a _ (local_adds w a))
+    (also (λ w a. gives_adds w a _ (local_adds w a))
+    (also (λ w a. gives_adds w a _ (local_adds w a))
+    (also (λ w a. gives_adds w a _ (local_adds w a))
+    (also (λ w a. take_one_adds w a.values _ (λ v. done_adds w _))
+    (also (λ w a. take_one_adds w a.values _ (λ v. done_adds w _))
+    (also (λ w a. take_one_adds w a.values _ (λ v. done_adds w _))
+    (also (λ w a. take_one_adds w a.values _ (λ v. done_adds w _))
+    (also (λ w a. take_one_adds w a.values _ (λ v. done_adds w _))
+    (also (λ w a. done_adds w _)
+    (also (λ w a. gives_adds w a _ (done_adds w _))
+    (also (λ w a. gives_adds w a _ (scope_object_adds w a))
+    more))))))))))))))))))))))))))))))
 
 operation_add : (rest : List (ℕ × Doing)) → AllAdd rest → AllAdd (operation_acts rest)
-operation_add rest more = (record { adds = (converting_adds ConvertS) }, (record { adds = (converting_adds ConvertI) }, (record { adds = (converting_adds ConvertU) }, (record { adds = (converting_adds ConvertD) }, (record { adds = (converting_adds ConvertB) }, (record { adds = (converting_adds ConvertO) }, (record { adds = (converting_adds CoerceS) }, (record { adds = λ w a. gives_adds w a _ (coerces_operand_adds w a) }, (record { adds = λ w a. gives_adds w a _ (take_one_adds w a.values _ (λ v. done_adds w v)) }, (record { adds = λ w a. gives_adds w a _ (take_one_adds w a.values _ (λ v. then_adds w _ _ (type_adds w a) (λ n t. done_adds n _))) }, (record { adds = λ w a. gives_adds w a _ (take_one_adds w a.values _ (λ v. then_adds w _ _ (type_adds w a) (λ n t. done_adds n _))) }, (record { adds = λ w a. gives_adds w a _ (take_two_adds w a.values _ (λ v c. then_adds w _ _ (late_adds w a.setting c) (λ n t. done_adds n _))) }, (record { adds = λ w a. gives_adds w a _ (take_two_adds w a.values _ (λ v c. then_adds w _ _ (late_adds w a.setting c) (λ n t. done_adds n _))) }, (record { adds = λ w a. gives_adds w a _ (instance_adds w a) }, (record { adds = λ w a. gives_adds w a _ (has_name_adds w a) }, (record { adds = λ w a. gives_adds w a _ (take_one_adds w a.values _ (λ v. one_adds a.setting w (op a) v)) }, (record { adds = λ w a. gives_adds w a _ (take_one_adds w a.values _ (λ v. one_adds a.setting w (op a) v)) }, (record { adds = λ w a. gives_adds w a _ (take_one_adds w a.values _ (λ v. one_adds a.setting w (op a) v)) }, (record { adds = λ w a. gives_adds w a _ (take_one_adds w a.values _ (λ v. one_adds a.setting w (op a) v)) }, (record { adds = λ w a. gives_adds w a _ (take_one_adds w a.values _ (λ v. one_adds a.setting w (op a) v)) }, (record { adds = λ w a. gives_adds w a _ (take_one_adds w a.values _ (λ v. one_adds a.setting w (op a) v)) }, (record { adds = λ w a. gives_adds w a _ (take_one_adds w a.values _ (λ v. one_adds a.setting w (op a) v)) }, (record { adds = λ w a. gives_adds w a _ (take_one_adds w a.values _ (λ v. one_adds a.setting w (op a) v)) }, (record { adds = λ w a. gives_adds w a _ (take_one_adds w a.values _ (λ v. one_adds a.setting w (op a) v)) }, (record { adds = λ w a. counts_adds w 0x91 a }, (record { adds = λ w a. counts_adds w 0x93 a }, (record { adds = λ w a. counts_adds w 0xC0 a }, (record { adds = λ w a. counts_adds w 0xC1 a }, (record { adds = λ w a. gives_adds w a _ (take_two_adds w a.values _ (λ x y. two_adds a.setting w (op a) x y)) }, (record { adds = λ w a. gives_adds w a _ (take_two_adds w a.values _ (λ x y. two_adds a.setting w (op a) x y)) }, (record { adds = λ w a. gives_adds w a _ (take_two_adds w a.values _ (λ x y. two_adds a.setting w (op a) x y)) }, (record { adds = λ w a. gives_adds w a _ (take_two_adds w a.values _ (λ x y. two_adds a.setting w (op a) x y)) }, (record { adds = λ w a. gives_adds w a _ (take_two_adds w a.values _ (λ x y. two_adds a.setting w (op a) x y)) }, (record { adds = λ w a. gives_adds w a _ (take_two_adds w a.values _ (λ x y. two_adds a.setting w (op a) x y)) }, (record { adds = λ w a. gives_adds w a _ (take_two_adds w a.values _ (λ x y. two_adds a.setting w (op a) x y)) }, (record { adds = λ w a. gives_adds w a _ (take_two_adds w a.values _ (λ x y. two_adds a.setting w (op a) x y)) }, (record { adds = λ w a. gives_adds w a _ (take_two_adds w a.values _ (λ x y. two_adds a.setting w (op a) x y)) }, (record { adds = λ w a. gives_adds w a _ (take_two_adds w a.values _ (λ x y. two_adds a.setting w (op a) x y)) }, (record { adds = λ w a. gives_adds w a _ (take_two_adds w a.values _ (λ x y. two_adds a.setting w (op a) x y)) }, (record { adds = λ w a. gives_adds w a _ (take_two_adds w a.values _ (λ x y. two_adds a.setting w (op a) x y)) }, (record { adds = λ w a. gives_adds w a _ (take_two_adds w a.values _ (λ x y. two_adds a.setting w (op a) x y)) }, (record { adds = λ w a. gives_adds w a _ (take_two_adds w a.values _ (λ x y. two_adds a.setting w (op a) x y)) }, (record { adds = λ w a. gives_adds w a _ (flag_adds w _ (take_two_adds w a.values _ (λ x y. compares_adds a.setting w (op a) x y))) }, (record { adds = λ w a. gives_adds w a _ (flag_adds w _ (take_two_adds w a.values _ (λ x y. compares_adds a.setting w (op a) x y))) }, (record { adds = λ w a. gives_adds w a _ (flag_adds w _ (take_two_adds w a.values _ (λ x y. compares_adds a.setting w (op a) x y))) }, (record { adds = λ w a. gives_adds w a _ (flag_adds w _ (take_two_adds w a.values _ (λ x y. compares_adds a.setting w (op a) x y))) }, (record { adds = λ w a. gives_adds w a _ (flag_adds w _ (take_two_adds w a.values _ (λ x y. compares_adds a.setting w (op a) x y))) }, (record { adds = λ w a. gives_adds w a _ (flag_adds w _ (take_two_adds w a.values _ (λ x y. compares_adds a.setting w (op a) x y))) }, more))))))))))))))))))))))))))))))))))))))))))))))))
+operation_add rest more =
+    also (converting_adds ConvertS)
+    (also (converting_adds ConvertI)
+    (also (converting_adds ConvertU)
+    (also (converting_adds ConvertD)
+    (also (converting_adds ConvertB)
+    (also (converting_adds ConvertO)
+    (also (converting_adds CoerceS)
+    (also (λ w a. gives_adds w a _ (coerces_operand_adds w a))
+    (also (λ w a. gives_adds w a _ (take_one_adds w a.values _ (λ v. done_adds w v)))
+    (also (λ w a. gives_adds w a _ (take_one_adds w a.values _ (λ v. then_adds w _ _ (type_adds w a) (λ n t. done_adds n _))))
+    (also (λ w a. gives_adds w a _ (take_one_adds w a.values _ (λ v. then_adds w _ _ (type_adds w a) (λ n t. done_adds n _))))
+    (also (λ w a. gives_adds w a _ (take_two_adds w a.values _ (λ v c. then_adds w _ _ (late_adds w a.setting c) (λ n t. done_adds n _))))
+    (also (λ w a. gives_adds w a _ (take_two_adds w a.values _ (λ v c. then_adds w _ _ (late_adds w a.setting c) (λ n t. done_adds n _))))
+    (also (λ w a. gives_adds w a _ (instance_adds w a))
+    (also (λ w a. gives_adds w a _ (has_name_adds w a))
+    (also (λ w a. gives_adds w a _ (take_one_adds w a.values _ (λ v. one_adds a.setting w (op a) v)))
+    (also (λ w a. gives_adds w a _ (take_one_adds w a.values _ (λ v. one_adds a.setting w (op a) v)))
+    (also (λ w a. gives_adds w a _ (take_one_adds w a.values _ (λ v. one_adds a.setting w (op a) v)))
+    (also (λ w a. gives_adds w a _ (take_one_adds w a.values _ (λ v. one_adds a.setting w (op a) v)))
+    (also (λ w a. gives_adds w a _ (take_one_adds w a.values _ (λ v. one_adds a.setting w (op a) v)))
+    (also (λ w a. gives_adds w a _ (take_one_adds w a.values _ (λ v. one_adds a.setting w (op a) v)))
+    (also (λ w a. gives_adds w a _ (take_one_adds w a.values _ (λ v. one_adds a.setting w (op a) v)))
+    (also (λ w a. gives_adds w a _ (take_one_adds w a.values _ (λ v. one_adds a.setting w (op a) v)))
+    (also (λ w a. gives_adds w a _ (take_one_adds w a.values _ (λ v. one_adds a.setting w (op a) v)))
+    (also (λ w a. counts_adds w 0x91 a)
+    (also (λ w a. counts_adds w 0x93 a)
+    (also (λ w a. counts_adds w 0xC0 a)
+    (also (λ w a. counts_adds w 0xC1 a)
+    (also (λ w a. gives_adds w a _ (take_two_adds w a.values _ (λ x y. two_adds a.setting w (op a) x y)))
+    (also (λ w a. gives_adds w a _ (take_two_adds w a.values _ (λ x y. two_adds a.setting w (op a) x y)))
+    (also (λ w a. gives_adds w a _ (take_two_adds w a.values _ (λ x y. two_adds a.setting w (op a) x y)))
+    (also (λ w a. gives_adds w a _ (take_two_adds w a.values _ (λ x y. two_adds a.setting w (op a) x y)))
+    (also (λ w a. gives_adds w a _ (take_two_adds w a.values _ (λ x y. two_adds a.setting w (op a) x y)))
+    (also (λ w a. gives_adds w a _ (take_two_adds w a.values _ (λ x y. two_adds a.setting w (op a) x y)))
+    (also (λ w a. gives_adds w a _ (take_two_adds w a.values _ (λ x y. two_adds a.setting w (op a) x y)))
+    (also (λ w a. gives_adds w a _ (take_two_adds w a.values _ (λ x y. two_adds a.setting w (op a) x y)))
+    (also (λ w a. gives_adds w a _ (take_two_adds w a.values _ (λ x y. two_adds a.setting w (op a) x y)))
+    (also (λ w a. gives_adds w a _ (take_two_adds w a.values _ (λ x y. two_adds a.setting w (op a) x y)))
+    (also (λ w a. gives_adds w a _ (take_two_adds w a.values _ (λ x y. two_adds a.setting w (op a) x y)))
+    (also (λ w a. gives_adds w a _ (take_two_adds w a.values _ (λ x y. two_adds a.setting w (op a) x y)))
+    (also (λ w a. gives_adds w a _ (take_two_adds w a.values _ (λ x y. two_adds a.setting w (op a) x y)))
+    (also (λ w a. gives_adds w a _ (take_two_adds w a.values _ (λ x y. two_adds a.setting w (op a) x y)))
+    (also (λ w a. gives_adds w a _ (flag_adds w _ (take_two_adds w a.values _ (λ x y. compares_adds a.setting w (op a) x y))))
+    (also (λ w a. gives_adds w a _ (flag_adds w _ (take_two_adds w a.values _ (λ x y. compares_adds a.setting w (op a) x y))))
+    (also (λ w a. gives_adds w a _ (flag_adds w _ (take_two_adds w a.values _ (λ x y. compares_adds a.setting w (op a) x y))))
+    (also (λ w a. gives_adds w a _ (flag_adds w _ (take_two_adds w a.values _ (λ x y. compares_adds a.setting w (op a) x y))))
+    (also (λ w a. gives_adds w a _ (flag_adds w _ (take_two_adds w a.values _ (λ x y. compares_adds a.setting w (op a) x y))))
+    (also (λ w a. gives_adds w a _ (flag_adds w _ (take_two_adds w a.values _ (λ x y. compares_adds a.setting w (op a) x y))))
+    more)))))))))))))))))))))))))))))))))))))))))))))))
 
 walking_add : (rest : List (ℕ × Doing)) → AllAdd rest → AllAdd (walking_acts rest)
-walking_add rest more = (record { adds = λ w a. gives_adds w a _ (take_two_adds w a.values _ (λ o i. name_in_adds w (walked o w) (position i))) }, (record { adds = λ w a. gives_adds w a _ (take_two_adds w a.values _ (λ o i. done_adds w _)) }, (record { adds = λ w a. gives_adds w a _ (take_two_adds w a.values _ (λ o i. done_adds w _)) }, (record { adds = has_next2_adds }, more))))
+walking_add rest more =
+    also (λ w a. gives_adds w a _ (take_two_adds w a.values _ (λ o i. name_in_adds w (walked o w) (position i))))
+    (also (λ w a. gives_adds w a _ (take_two_adds w a.values _ (λ o i. done_adds w _)))
+    (also (λ w a. gives_adds w a _ (take_two_adds w a.values _ (λ o i. done_adds w _)))
+    (also has_next2_adds
+    more)))
 
 object_add : (rest : List (ℕ × Doing)) → AllAdd rest → AllAdd (object_acts rest)
-object_add rest more = (record { adds = λ w a. gives_adds w a _ (object_adds w a) }, (record { adds = λ w a. gives_adds w a _ (array_adds w a) }, (record { adds = strictly_adds }, (record { adds = or_global_adds }, (record { adds = and_reads_adds }, (record { adds = λ w a. came_adds w a _ (take_one_adds w a.values _ (λ o. then_adds w _ _ (name_adds w a) (λ n name. reads_adds a.setting n o name))) }, (record { adds = λ w a. drops_adds w a _ (take_two_adds w a.values _ (λ o v. then_adds w _ _ (name_adds w a) (λ n name. writes_to_adds a.setting n o name v false))) }, (record { adds = λ w a. drops_adds w a _ (take_two_adds w a.values _ (λ o v. then_adds w _ _ (name_adds w a) (λ n name. writes_to_adds a.setting n o name v true))) }, (record { adds = λ w a. gives_adds w a _ (flag_adds w _ (take_one_adds w a.values _ (λ o. then_adds w _ _ (name_adds w a) (λ n name. deletes_adds a.setting n o name)))) }, (record { adds = λ w a. gives_adds w a _ (reads_slot_adds w a) }, (record { adds = writes_slot_adds }, more)))))))))))
+object_add rest more =
+    also (λ w a. gives_adds w a _ (object_adds w a))
+    (also (λ w a. gives_adds w a _ (array_adds w a))
+    (also strictly_adds
+    (also or_global_adds
+    (also and_reads_adds
+    (also (λ w a. came_adds w a _ (take_one_adds w a.values _ (λ o. then_adds w _ _ (name_adds w a) (λ n name. reads_adds a.setting n o name))))
+    (also (λ w a. drops_adds w a _ (take_two_adds w a.values _ (λ o v. then_adds w _ _ (name_adds w a) (λ n name. writes_to_adds a.setting n o name v false))))
+    (also (λ w a. drops_adds w a _ (take_two_adds w a.values _ (λ o v. then_adds w _ _ (name_adds w a) (λ n name. writes_to_adds a.setting n o name v true))))
+    (also (λ w a. gives_adds w a _ (flag_adds w _ (take_one_adds w a.values _ (λ o. then_adds w _ _ (name_adds w a) (λ n name. deletes_adds a.setting n o name)))))
+    (also (λ w a. gives_adds w a _ (reads_slot_adds w a))
+    (also writes_slot_adds
+    more))))))))))
 
 call_add : (rest : List (ℕ × Doing)) → AllAdd rest → AllAdd (call_acts rest)
-call_add rest more = (record { adds = λ w a. came_adds w a _ (take_two_adds w a.values _ (λ f r. calls_adds a.setting w f r a.args)) }, (record { adds = λ w a. came_adds w a _ (take_one_adds w a.values _ (λ c. new_adds a.setting w c a.args)) }, (record { adds = λ w a. came_adds w a _ (take_one_adds w a.values _ (λ o. then_adds w _ _ (name_adds w a) (λ n name. calls_name_adds a.setting n o o name a.args))) }, (record { adds = λ w a. came_adds w a _ (take_one_adds w a.values _ (λ o. then_adds w _ _ (name_adds w a) (λ n name. calls_name_adds a.setting n o values.Null name a.args))) }, (record { adds = λ w a. drops_adds w a _ (take_one_adds w a.values _ (λ o. then_adds w _ _ (name_adds w a) (λ n name. calls_name_adds a.setting n o o name a.args))) }, (record { adds = λ w a. take_one_adds w a.values _ (λ o. then_adds w _ _ (then_adds w _ _ (name_adds w a) (λ n name. reads_adds a.setting n o name)) (λ i c. makes_of_adds i a _ (λ j v. new_adds a.setting j v a.args) c)) }, more))))))
+call_add rest more =
+    also (λ w a. came_adds w a _ (take_two_adds w a.values _ (λ f r. calls_adds a.setting w f r a.args)))
+    (also (λ w a. came_adds w a _ (take_one_adds w a.values _ (λ c. new_adds a.setting w c a.args)))
+    (also (λ w a. came_adds w a _ (take_one_adds w a.values _ (λ o. then_adds w _ _ (name_adds w a) (λ n name. calls_name_adds a.setting n o o name a.args))))
+    (also (λ w a. came_adds w a _ (take_one_adds w a.values _ (λ o. then_adds w _ _ (name_adds w a) (λ n name. calls_name_adds a.setting n o values.Null name a.args))))
+    (also (λ w a. drops_adds w a _ (take_one_adds w a.values _ (λ o. then_adds w _ _ (name_adds w a) (λ n name. calls_name_adds a.setting n o o name a.args))))
+    (also (λ w a. take_one_adds w a.values _ (λ o. then_adds w _ _ (then_adds w _ _ (name_adds w a) (λ n name. reads_adds a.setting n o name)) (λ i c. makes_of_adds i a _ (λ j v. new_adds a.setting j v a.args) c)))
+    more)))))
 
 class_add : (rest : List (ℕ × Doing)) → AllAdd rest → AllAdd (class_acts rest)
-class_add rest more = (record { adds = λ w a. came_adds w a _ (reads_super_adds w a) }, (record { adds = λ w a. drops_adds w a _ (writes_super_adds w a) }, (record { adds = λ w a. came_adds w a _ (calls_super_adds w a) }, (record { adds = λ w a. drops_adds w a _ (calls_super_adds w a) }, (record { adds = λ w a. drops_adds w a _ (constructs_adds w a) }, (record { adds = λ w a. gives_adds w a _ (function_adds w a) }, (record { adds = λ w a. gives_adds w a _ (activation_adds w a) }, (record { adds = class_adds }, (record { adds = λ w a. gives_adds w a _ (catch_adds w a) }, more)))))))))
+class_add rest more =
+    also (λ w a. came_adds w a _ (reads_super_adds w a))
+    (also (λ w a. drops_adds w a _ (writes_super_adds w a))
+    (also (λ w a. came_adds w a _ (calls_super_adds w a))
+    (also (λ w a. drops_adds w a _ (calls_super_adds w a))
+    (also (λ w a. drops_adds w a _ (constructs_adds w a))
+    (also (λ w a. gives_adds w a _ (function_adds w a))
+    (also (λ w a. gives_adds w a _ (activation_adds w a))
+    (also class_adds
+    (also (λ w a. gives_adds w a _ (catch_adds w a))
+    more))))))))
 
 all_add : AllAdd acts
 unfolding acts

@@ -1,0 +1,4 @@
+pub mod Formed
+pub mod Named
+pub mod Sounded
+pub mod Typed
