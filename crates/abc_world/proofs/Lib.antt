@@ -1,3 +1,3 @@
 mod Reaching
-mod TypeTests
-mod Coercing
+pub mod TypeTests
+pub mod Coercing
