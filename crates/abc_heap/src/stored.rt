@@ -1,6 +1,6 @@
 ghost use Rattle.std.specs.Prelude.{◌≡◌};
 ghost use Rattle.abc_heap.specs.What.{what_in};
-ghost use Rattle.abc_heap.specs.declared.records.What.TheVariants.{Closure};
+ghost use Rattle.abc_heap.specs.declared.records.What.TheVariants.{ClassObject, Closure};
 
 use crate::records::{ScopeId, What};
 use abc_base::HostClass;
@@ -120,6 +120,30 @@ pub fn stored(what: What) -> StoredWhat
     }
 }
 
+/// A closure.
+fn closure(method: u32, home: u32, scope: Option<ScopeId>, bound: Option<ObjId>) -> What
+    ensures { result ≡ Closure method home scope bound }
+{
+    What::Closure {
+        method,
+        home,
+        scope,
+        bound,
+    }
+}
+
+/// A class object.
+fn class_object(class: u32, home: u32, statics: Option<ScopeId>, instances: ScopeId) -> What
+    ensures { result ≡ ClassObject class home statics instances }
+{
+    What::ClassObject {
+        class,
+        home,
+        statics,
+        instances,
+    }
+}
+
 /// What an object is, from what is kept.
 pub fn restored(kept: StoredWhat) -> What
     ensures { result ≡ what_in kept }
@@ -130,54 +154,29 @@ pub fn restored(kept: StoredWhat) -> What
             method,
             home,
             scope,
-        } => What::Closure {
-            method,
-            home,
-            scope,
-            bound: None,
-        },
+        } => closure(method, home, scope, None),
         StoredWhat::Bound {
             method,
             home,
             bound,
-        } => What::Closure {
-            method,
-            home,
-            scope: None,
-            bound: Some(bound),
-        },
+        } => closure(method, home, None, Some(bound)),
         StoredWhat::BoundWithin {
             method,
             home,
             scope,
             bound,
-        } => What::Closure {
-            method,
-            home,
-            scope: Some(scope),
-            bound: Some(bound),
-        },
+        } => closure(method, home, Some(scope), Some(bound)),
         StoredWhat::OuterClass {
             class,
             home,
             instances,
-        } => What::ClassObject {
-            class,
-            home,
-            statics: None,
-            instances,
-        },
+        } => class_object(class, home, None, instances),
         StoredWhat::InnerClass {
             class,
             home,
             statics,
             instances,
-        } => What::ClassObject {
-            class,
-            home,
-            statics: Some(statics),
-            instances,
-        },
+        } => class_object(class, home, Some(statics), instances),
         StoredWhat::HostClass(class) => What::HostClass(class),
         StoredWhat::Trace => What::Trace,
         StoredWhat::Formula(number) => What::Formula(number),
