@@ -31,6 +31,9 @@ clash_merge p m t old n d dn ne e = Unmerged old n d dn ne e
 pub is_derived : (p : LinkedFile) (m : Routine) (a : List (Option State)) (t : ℕ) (old : State) → IsOpen p m a → slice_get a t ≡ Some (Some old) → Derivable p m t old
 is_derived p m a t old o e = o.derived t old (ap flat e)
 
+pub is_derived_copy : (p : LinkedFile) (m : Routine) (a : List (Option State)) (t : ℕ) (old n : State) → IsOpen p m a → slice_get a t ≡ Some (Some old) → n ≡ old → Derivable p m t n
+is_derived_copy p m a t old n o e same = subst (λ (x : State). Derivable p m t x) (sym same) (is_derived p m a t old o e)
+
 reach_one : (p : LinkedFile) (m : Routine) (heads : List Bool) (t : ℕ) (n : State) (a c : List (Option State)) (v w : List ℕ) → IsOpen p m a → Reaches p m (rank (layouts p)) (top (layouts p) m) (is_head heads) t n a v c w → AllReach p m heads ((t, n) ∷ []) a v c w
 reach_one p m heads t n a c v w o r = record { advances = r.advances; landed = landed; whole = record { long = r.advances.long ∙ o.long; derived = r.derived } }
   where

@@ -27,7 +27,7 @@ use Rattle.abc_flow.specs.declared.step.Written.{Written}
 use Rattle.abc_flow.specs.declared.step.Written.TheVariants as writes
 use Rattle.abc_flow.specs.declared.step.Onward.{Onward}
 use Rattle.abc_flow.specs.declared.step.Onward.TheVariants.{Stops, GoesOn}
-use Rattle.abc_flow.specs.Walking.{AllReach, AreHeads, AreReady, AreTold, ArrivesAt, First, HasPaced, HasTurned, HasWalked, IsOnward, IsOpen, IsPending, IsReady, IsSeen, IsStopped, IsWalking, Later, MayGoOn, Moves, Noted, Passed, PassesTo, Steps, Wrote, caught_with, is_head, landing, leads_of, targets_at}
+use Rattle.abc_flow.specs.Walking.{AllReach, AreHeads, AreReady, AreSeen, AreTold, ArrivesAt, First, HasPaced, HasTurned, HasWalked, IsOnward, IsOpen, IsPending, IsReady, IsSeen, IsSeenFirst, IsStopped, IsWalking, Later, MayGoOn, Moves, Noted, Passed, PassesTo, Steps, Wrote, caught_with, is_head, landing, leads_of, targets_at}
 use Rattle.abc_flow.proofs.Seen.{Joins, caught_join, joins_left, joins_right, noted_joins}
 
 in_filter : (f : Catch → Bool) (h : Catch) (hs : List Catch) → In h (filter f hs) → In h hs
@@ -74,34 +74,48 @@ covering_next m heads i hs inside off = filter_same (covers i) (covers (suc i)) 
 seen_up : (p : LinkedFile) (a b : List Kind) (h : Catch) → Each2 (IsAtMost p) a b → StateLe p (caught_with a h).1 (caught_with b h).1
 seen_up p a b h le = record { stack = (kind_self p h.kind, tt); scopes = tt; locals = le }
 
-told_down : (p : LinkedFile) (d : List (Option State)) (cover : List Catch) (a b : List Kind) → Each2 (IsAtMost p) a b → AreTold p d cover b → AreTold p d cover a
-told_down p d cover a b le told h k = let l = told h k in (l.0, l.1, state_trans p (caught_with a h).1 (caught_with b h).1 l.0 (seen_up p a b h le) l.2)
+told_down : (p : LinkedFile) (d : List (Option State)) (cover : List Catch) (a b : List Kind) → AreSeen p cover a b → AreTold p d cover b → AreTold p d cover a
+told_down p d cover a b le told h k = let l = told h k in (l.0, l.1, state_trans p (caught_with a h).1 (caught_with b h).1 l.0 (seen_up p a b h (le h k)) l.2)
 
 -- what handlers get has landed
-caught_lands : (p : LinkedFile) (d : List (Option State)) (cover : List Catch) (s : State) (seen : List Kind) (t : ℕ) (u : State) → Each2 (IsAtMost p) s.locals seen → AreTold p d cover seen → In (t, u) (map (caught s) cover) → Landed p d t u
+caught_lands : (p : LinkedFile) (d : List (Option State)) (cover : List Catch) (s : State) (seen : List Kind) (t : ℕ) (u : State) → AreSeen p cover s.locals seen → AreTold p d cover seen → In (t, u) (map (caught s) cover) → Landed p d t u
 caught_lands p d cover s seen t u most told k =
     let r = in_map (caught s) (t, u) cover k in
     let l = told_down p d cover s.locals seen most told r.0 r.1 in
     subst (λ (y : ℕ × State). Landed p d y.0 y.1) (sym r.2) l
 
+-- where no handler covers a walk nothing is kept for one
+pub none_cover : (cover : List Catch) (seen locals : List Kind) → length cover ≡ 0 → IsSeenFirst cover seen locals
+none_cover [] seen locals e h k = absurd k
+none_cover (x ∷ cover) seen locals e h k = absurd (omega arith)
+
+pub all_seen : (cover : List Catch) (seen locals : List Kind) → seen ≡ locals → IsSeenFirst cover seen locals
+all_seen cover seen locals e h k = e
+
+-- what is ready for each handler
+each_handler : (p : LinkedFile) (m : Routine) (heads : List Bool) (cover : List Catch) (seen : List Kind) → ((h : Catch) → In h cover → IsReady p m heads h.target (caught_with seen h).1) → AreReady p m heads (map (caught_with seen) cover)
+each_handler p m heads cover seen f t n k = let r = in_map (caught_with seen) (t, n) cover k in subst (λ (y : ℕ × State). IsReady p m heads y.0 y.1) (sym r.2) (f r.0 r.1)
+
 pub record HasNoted (p : LinkedFile) (m : Routine) (heads : List Bool) (cover : List Catch) (old seen locals : List Kind) : Type 0 where
   pub seen_is : IsSeen p m heads cover seen locals
-  pub rises : Each2 (IsAtMost p) old seen
+  pub rises : AreSeen p cover old seen
 
 pub now_seen : (p : LinkedFile) (m : Routine) (heads : List Bool) (cover : List Catch) (i : ℕ) (s : State) (old seen : List Kind) (w : Written) → AreHeads m heads → Derivable p m i s → IsFine p m i s → cover ≡ covering m i → IsPending p m heads cover old s.locals w → Noted p w old s.locals seen → HasNoted p m heads cover old seen s.locals
 now_seen p m heads cover i s old seen w hs d fine is (First same none) noted =
     let still : seen ≡ old = subst (λ (x : Written). Noted p x old s.locals seen) none noted in
     let all : AreReady p m heads (map (caught_with s.locals) cover) = subst (λ (xs : List Catch). AreReady p m heads (map (caught_with s.locals) xs)) (sym is) (caught_ready p m heads i s hs d fine) in
-    let q : seen ≡ s.locals = still ∙ same in
     record {
-      seen_is = record { ready = subst (λ (xs : List Kind). AreReady p m heads (map (caught_with xs) cover)) (sym q) all; most = subst (λ (xs : List Kind). Each2 (IsAtMost p) s.locals xs) (sym q) (Each2-self (IsAtMost p) (kind_self p) s.locals) };
-      rises = subst (λ (xs : List Kind). Each2 (IsAtMost p) old xs) (sym still) (Each2-self (IsAtMost p) (kind_self p) old);
+      seen_is = record {
+        ready = each_handler p m heads cover seen (λ h k. subst (λ (xs : List Kind). IsReady p m heads h.target (caught_with xs h).1) (sym (still ∙ same h k)) (all h.target (caught_with s.locals h).1 (map_in (caught_with s.locals) h cover k)));
+        most = λ h k. subst (λ (xs : List Kind). Each2 (IsAtMost p) s.locals xs) (sym (still ∙ same h k)) (Each2-self (IsAtMost p) (kind_self p) s.locals);
+      };
+      rises = λ h k. subst (λ (xs : List Kind). Each2 (IsAtMost p) old xs) (sym still) (Each2-self (IsAtMost p) (kind_self p) old);
     }
 now_seen p m heads cover i s old seen w hs d fine is (Later before ready most wrote) noted =
-    record { seen_is = record { ready = all; most = joins_right p old s.locals seen joins }; rises = joins_left p old s.locals seen joins }
+    record { seen_is = record { ready = each_handler p m heads cover seen one; most = λ h k. joins_right p old s.locals seen (joins h k) }; rises = λ h k. joins_left p old s.locals seen (joins h k) }
   where
-    joins : Joins p old s.locals seen
-    joins = noted_joins p w before s.locals old seen wrote most noted
+    joins : (h : Catch) → In h cover → Joins p old s.locals seen
+    joins h k = noted_joins p w before s.locals old seen wrote (most h k) noted
 
     now : AreReady p m heads (map (caught_with s.locals) cover)
     now = subst (λ (xs : List Catch). AreReady p m heads (map (caught_with s.locals) xs)) (sym is) (caught_ready p m heads i s hs d fine)
@@ -110,10 +124,7 @@ now_seen p m heads cover i s old seen w hs d fine is (Later before ready most wr
     one h k =
         let a = ready h.target (caught_with old h).1 (map_in (caught_with old) h cover k) in
         let b = now h.target (caught_with s.locals h).1 (map_in (caught_with s.locals) h cover k) in
-        record { derived = Join h.target (caught_with old h).1 (caught_with s.locals h).1 (caught_with seen h).1 a.derived b.derived (caught_join p old s.locals seen h joins); inside = a.inside; head = a.head }
-
-    all : AreReady p m heads (map (caught_with seen) cover)
-    all t n k = let r = in_map (caught_with seen) (t, n) cover k in subst (λ (y : ℕ × State). IsReady p m heads y.0 y.1) (sym r.2) (one r.0 r.1)
+        record { derived = Join h.target (caught_with old h).1 (caught_with s.locals h).1 (caught_with seen h).1 a.derived b.derived (caught_join p old s.locals seen h (joins h k)); inside = a.inside; head = a.head }
 
 module _ (p : LinkedFile) (m : Routine) (heads : List Bool) where
   -- a step leads to what follows, and to nothing else but handlers
@@ -181,7 +192,7 @@ module _ (p : LinkedFile) (m : Routine) (heads : List Bool) where
       ]
 
   -- walks
-  pub walk_init : (cover : List Catch) (start : ℕ) (s : State) (seen : List Kind) (a : List (Option State)) (v : List ℕ) → IsOpen p m a → start < length m.code → Derivable p m start s → cover ≡ covering m start → seen ≡ s.locals → IsWalking p m heads cover start s start s seen writes.Nothing a v a v
+  pub walk_init : (cover : List Catch) (start : ℕ) (s : State) (seen : List Kind) (a : List (Option State)) (v : List ℕ) → IsOpen p m a → start < length m.code → Derivable p m start s → cover ≡ covering m start → IsSeenFirst cover seen s.locals → IsWalking p m heads cover start s start s seen writes.Nothing a v a v
   walk_init cover start s seen a v o inside d is same = record { advances = advance_self p _ _ (is_head heads) a v; whole = o; inside = inside; derived = d; covers = is; pending = First same refl; back = λ c x g told r. r }
 
   pub walk_step : (cover : List Catch) (start : ℕ) (s : State) (i : ℕ) (n u : State) (old seen : List Kind) (w next : Written) (a c d : List (Option State)) (v x y : List ℕ) → AreHeads m heads → IsWalking p m heads cover start s i n old w a v c x → Passed p m heads cover i n u old seen c x d y (GoesOn next) → IsWalking p m heads cover start s (i + 1) u seen next a v d y
@@ -226,8 +237,8 @@ module _ (p : LinkedFile) (m : Routine) (heads : List Bool) where
   pub visit_none : (a : List (Option State)) (i : ℕ) (v : List ℕ) → IsUnderWay p m (is_head heads) a (i ∷ v) → at a i ≡ None → HasTurned p m heads a v a v
   visit_none a i v u e = record { under_way = turn p m (rank (layouts p)) (top (layouts p) m) (is_head heads) a a i v v u (advance_self p _ _ (is_head heads) a v) (λ s q. absurd cc) u.derived; falls = omega arith }
 
-  pub visit_walked : (a c : List (Option State)) (i : ℕ) (s : State) (v w : List ℕ) → IsUnderWay p m (is_head heads) a (i ∷ v) → at a i ≡ Some s → HasWalked p m heads i s a v c w → HasTurned p m heads a v c w
-  visit_walked a c i s v w u e r = record { under_way = turn p m (rank (layouts p)) (top (layouts p) m) (is_head heads) a c i v w u r.advances (λ q f. let z : s ≡ q = (let y : Some s ≡ Some q = sym e ∙ f in cc) in subst (λ x. Runs p m (is_head heads) c i x) z r.runs) r.whole.derived; falls = r.advances.falls }
+  pub visit_walked : (a c : List (Option State)) (i : ℕ) (s n : State) (v w : List ℕ) → IsUnderWay p m (is_head heads) a (i ∷ v) → at a i ≡ Some s → n ≡ s → HasWalked p m heads i n a v c w → HasTurned p m heads a v c w
+  visit_walked a c i s n v w u e same r = record { under_way = turn p m (rank (layouts p)) (top (layouts p) m) (is_head heads) a c i v w u r.advances (λ q f. let z : n ≡ q = (let y : Some s ≡ Some q = sym e ∙ f in let x : s ≡ q = cc in same ∙ x) in subst (λ x. Runs p m (is_head heads) c i x) z r.runs) r.whole.derived; falls = r.advances.falls }
 
   pub is_whole : (a : List (Option State)) (v : List ℕ) → IsUnderWay p m (is_head heads) a v → IsOpen p m a
   is_whole a v u = record { long = u.long; derived = u.derived }

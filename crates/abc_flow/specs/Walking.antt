@@ -135,15 +135,23 @@ Noted p writes.Nothing old locals new = new ≡ old
 Noted p (writes.One j) old locals new = NotedAt p old locals j new
 Noted p (writes.Two i j) old locals new = NotedTwo p old locals i j new
 
+-- what is seen as a walk begins: the locals, if a handler covers it
+abbrev pub IsSeenFirst : List Catch → List Kind → List Kind → Type 0
+IsSeenFirst cover seen locals = (h : Catch) → In h cover → seen ≡ locals
+
+-- each is at most what was seen, if a handler covers the walk
+abbrev pub AreSeen : LinkedFile → List Catch → List Kind → List Kind → Type 0
+AreSeen p cover locals seen = (h : Catch) → In h cover → Each2 (IsAtMost p) locals seen
+
 -- what was seen so far: nothing but the locals as the walk begins, or what handlers may get, and a step after that
 pub data IsPending (p : LinkedFile) (m : Routine) (heads : List Bool) (cover : List Catch) (seen locals : List Kind) (w : Written) : Type 0 where
-  First : seen ≡ locals → w ≡ writes.Nothing → IsPending p m heads cover seen locals w
-  Later : (old : List Kind) → AreReady p m heads (map (caught_with seen) cover) → Each2 (IsAtMost p) old seen → Wrote w old locals → IsPending p m heads cover seen locals w
+  First : IsSeenFirst cover seen locals → w ≡ writes.Nothing → IsPending p m heads cover seen locals w
+  Later : (old : List Kind) → AreReady p m heads (map (caught_with seen) cover) → AreSeen p cover old seen → Wrote w old locals → IsPending p m heads cover seen locals w
 
 -- what handlers may get, and the locals are at most that
 pub record IsSeen (p : LinkedFile) (m : Routine) (heads : List Bool) (cover : List Catch) (seen locals : List Kind) : Type 0 where
   pub ready : AreReady p m heads (map (caught_with seen) cover)
-  pub most : Each2 (IsAtMost p) locals seen
+  pub most : AreSeen p cover locals seen
 
 abbrev pub AreTold : LinkedFile → List (Option State) → List Catch → List Kind → Type 0
 AreTold p states cover seen = (h : Catch) → In h cover → Landed p states h.target (caught_with seen h).1
@@ -177,7 +185,7 @@ pub record Passed (p : LinkedFile) (m : Routine) (heads : List Bool) (cover : Li
   pub advances : Moves p m heads a v c w
   pub whole : IsOpen p m c
   pub seen_is : IsSeen p m heads cover seen s.locals
-  pub rises : Each2 (IsAtMost p) old seen
+  pub rises : AreSeen p cover old seen
   pub passes : PassesTo p m heads i s n c o
 
 -- a walk, from a head on

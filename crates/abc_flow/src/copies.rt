@@ -1,11 +1,45 @@
-ghost use Rattle.std.specs.Prelude.{◌≡◌, ◌∷◌, [], filter, IfOk};
-ghost use Rattle.abc_typing.specs.Effects.{covers};
+ghost use Rattle.std.specs.Prelude.{◌≡◌, IfOk, OnOk};
 ghost use Rattle.abc_flow.specs.Walking.{caught_with};
 
 use abc_base::{NoMemory, Table};
 use abc_program::Kind;
 use abc_typing::{Catch, Scope, Stack, State};
 use std::alloc::Global;
+
+/// Copies a list over another, whose memory is used again.
+pub(crate) fn copy_over<T: Copy + Drop>(copy: &mut Table<T>, items: &[T]) -> Result<(), NoMemory>
+    ensures { OnOk result (copy.new ≡ items.now) }
+{
+    copy.truncate(0);
+    for item in items {
+        copy.push(*item)?;
+    }
+    Ok(())
+}
+
+/// Copies a stack over another, whose memory is used again.
+#[tactic(auto, using(crate::proofs::Copied::more_stack, crate::proofs::Copied::no_stack))]
+fn copy_stack(copy: &mut Stack<Kind>, stack: &Stack<Kind>) -> Result<(), NoMemory>
+    ensures { OnOk result (copy.new ≡ stack.now) }
+{
+    copy.clear();
+    let mut depth = stack.len();
+    while depth > 0 {
+        depth -= 1;
+        copy.push(stack.get_or(depth, Kind::Any))?;
+    }
+    Ok(())
+}
+
+/// Copies a state over another, whose memory is used again.
+pub(crate) fn copy_state_over(copy: &mut State, state: &State) -> Result<(), NoMemory>
+    ensures { OnOk result (copy.new ≡ state.now) }
+{
+    copy_stack(&mut copy.stack, &state.stack)?;
+    copy_over(&mut copy.scopes, state.scopes.as_slice())?;
+    copy_over(&mut copy.locals, state.locals.as_slice())?;
+    Ok(())
+}
 
 /// A copy of a list.
 pub(crate) fn copy_table<T: Copy + Drop>(alloc: Global, items: &[T]) -> Result<Table<T>, NoMemory>
@@ -48,29 +82,4 @@ pub(crate) fn caught_state(
         scopes: Table::new(alloc),
         locals,
     })
-}
-
-/// Whether a handler covers a place.
-fn covers_place(handler: &Catch, place: u32) -> bool
-    ensures { result ≡ covers place handler.now }
-{
-    handler.from <= place && place < handler.to
-}
-
-/// The handlers that cover a place.
-#[tactic(auto, using(crate::proofs::Places::filter_kept, crate::proofs::Places::filter_left))]
-pub(crate) fn covering_of(
-    alloc: Global,
-    handlers: &[Catch],
-    place: u32,
-) -> Result<Table<Catch>, NoMemory>
-    ensures { IfOk result (λ t. t ≡ filter (covers place) handlers.now) }
-{
-    let mut cover = Table::new(alloc);
-    for handler in handlers {
-        if covers_place(handler, place) {
-            cover.push(*handler)?;
-        }
-    }
-    Ok(cover)
 }

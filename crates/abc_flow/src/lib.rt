@@ -7,9 +7,11 @@ mod copies;
 mod flow;
 mod merging;
 mod notes;
+mod spans;
+mod states;
 mod step;
 mod walk;
 
 pub use flow::Flow;
 pub use step::{Merged, Onward, Refusal, Step, Written};
-pub use walk::check_flow;
+pub use walk::{Memory, check_flow};

@@ -7,6 +7,7 @@ ghost use Rattle.abc_flow.specs.declared.step.Refusal.TheVariants as refusals;
 
 use crate::copies::{caught_state, copy_state};
 use crate::flow::Flow;
+use crate::states::States;
 use crate::step::{Merged, Refusal};
 use abc_base::Table;
 use abc_program::Kind;
@@ -15,7 +16,7 @@ use abc_typing::{Catch, Stack, State, VerifyRule};
 
 /// A place gets a state, and work.
 pub(crate) fn raise(
-    states: &mut Table<Option<State>>,
+    states: &mut States,
     work: &mut Stack<u32>,
     place: u32,
     state: State,
@@ -23,7 +24,7 @@ pub(crate) fn raise(
     requires { place < length states.old }
     ensures { MatchResult result (λ _. (states.new ≡ set states.old place (Some state)) × (work.new ≡ place ∷ work.old)) (λ e. e ≡ refusals.NoMemory) }
 {
-    states.set(place as usize, Some(state));
+    states.set(place, state)?;
     work.push(place)?;
     Ok(())
 }
@@ -46,7 +47,7 @@ fn refuse<F: Flow>(flow: &F, place: u32, old: &State, next: &State) -> VerifyRul
 #[tactic(auto, using(crate::proofs::Places::merge_same, crate::proofs::Places::merge_joined, crate::proofs::Places::merge_first, crate::proofs::Places::is_derived, crate::proofs::Places::in_states))]
 pub(crate) fn merge_at<F: Flow>(
     flow: &F,
-    states: &mut Table<Option<State>>,
+    states: &mut States,
     work: &mut Stack<u32>,
     place: u32,
     next: &State,
@@ -56,20 +57,20 @@ pub(crate) fn merge_at<F: Flow>(
     requires ready { IsReady (F.file flow.now) (F.routine flow.now) (F.heads flow.now) place next.now }
     ensures { MatchResult result (λ _. AllReach (F.file flow.now) (F.routine flow.now) (F.heads flow.now) ((place, next.now) ∷ []) states.old work.old states.new work.new) (λ e. RefusedBy (F.file flow.now) (F.routine flow.now) e) }
 {
-    match states.find(place as usize) {
-        Some(Some(old)) => match flow.merge(old, next)? {
+    match states.find(place) {
+        Some(old) => match flow.merge(old, next)? {
             Merged::Same => Ok(()),
             Merged::Joined(joined) => raise(states, work, place, joined),
             Merged::Unequal => Err(Refusal::Refused(place, refuse(flow, place, old, next))),
         },
-        _ => raise(states, work, place, copy_state(flow.alloc(), next)?),
+        None => raise(states, work, place, copy_state(flow.alloc(), next)?),
     }
 }
 
 /// A handler gets the locals that were seen.
 fn catch_one<F: Flow>(
     flow: &F,
-    states: &mut Table<Option<State>>,
+    states: &mut States,
     work: &mut Stack<u32>,
     seen: &Table<Kind>,
     handler: &Catch,
@@ -86,7 +87,7 @@ fn catch_one<F: Flow>(
 /// Handlers get the locals that were seen.
 pub(crate) fn catch_all<F: Flow>(
     flow: &F,
-    states: &mut Table<Option<State>>,
+    states: &mut States,
     work: &mut Stack<u32>,
     seen: &Table<Kind>,
     cover: &[Catch],
@@ -105,7 +106,7 @@ pub(crate) fn catch_all<F: Flow>(
 /// A state flows to a place that an instruction names.
 fn jump_to<F: Flow>(
     flow: &F,
-    states: &mut Table<Option<State>>,
+    states: &mut States,
     work: &mut Stack<u32>,
     place: u32,
     state: &State,
@@ -121,7 +122,7 @@ fn jump_to<F: Flow>(
 /// A state flows to the cases of a switch.
 fn jump_cases<F: Flow>(
     flow: &F,
-    states: &mut Table<Option<State>>,
+    states: &mut States,
     work: &mut Stack<u32>,
     state: &State,
     cases: &[u32],
@@ -141,7 +142,7 @@ fn jump_cases<F: Flow>(
 #[tactic(auto, using(crate::proofs::Places::reach_none, crate::proofs::Places::one_ready, crate::proofs::Places::first_ready, crate::proofs::Places::rest_ready, crate::proofs::Places::reach_rest))]
 fn jump_along<F: Flow>(
     flow: &F,
-    states: &mut Table<Option<State>>,
+    states: &mut States,
     work: &mut Stack<u32>,
     instr: &Instr,
     state: &State,
@@ -172,7 +173,7 @@ fn jump_along<F: Flow>(
 #[tactic(auto, using(crate::proofs::Places::reach_none))]
 pub(crate) fn jump<F: Flow>(
     flow: &F,
-    states: &mut Table<Option<State>>,
+    states: &mut States,
     work: &mut Stack<u32>,
     place: u32,
     state: &State,

@@ -1,25 +1,34 @@
 //! The order of kinds over the layouts of a linked file, and the least kind above two.
 #![tactic(auto)]
 
-ghost use Rattle.std.specs.Prelude.{◌≡◌, ◌↔◌, IsTrue};
+mod ladder;
+
+ghost use Rattle.std.specs.Prelude.{◌≡◌, ◌<◌, ◌↔◌, IsTrue};
 ghost use Rattle.abc_program.specs.Kinds.{IsAtMost, IsJoin};
 ghost use Rattle.abc_program.specs.Linked.{IsLinkedFile};
 ghost use Rattle.abc_program.specs.Tree.{IsBelow, IsCommon};
+ghost use Rattle.abc_kinds.specs.Steps.{ClimbsTo, NearsTo};
 
 use abc_link::Linked;
 pub use abc_link::kind_of_type;
 pub use abc_program::{Kind, LayoutId};
+pub use ladder::Ladder;
 
 /// What tells which layout each layout stands under.
 pub trait Tree {
     ghost use Rattle.std.specs.Prelude.{◌≡◌};
     ghost use Rattle.abc_program.specs.Linked.{LinkedFile, above};
+    ghost use Rattle.abc_program.specs.Tree.{IsBelow};
 
     ghost file: { Self → LinkedFile };
 
     /// The layout that a layout stands under. Object's is above itself, and above what is no layout.
     fn above(&self, layout: LayoutId) -> LayoutId
         ensures { result.0 ≡ above (file self.now) layout.0 };
+
+    /// A layout that a layout is or stands under: one far above, where such a one is known.
+    fn far_above(&self, layout: LayoutId) -> LayoutId
+        ensures { IsBelow (file self.now) layout.0 result.0 };
 }
 
 impl Tree for Linked {
@@ -28,37 +37,65 @@ impl Tree for Linked {
     fn above(&self, layout: LayoutId) -> LayoutId {
         Linked::above(self, layout)
     }
+
+    #[tactic(auto, using(abc_program::proofs::Tree::below_self))]
+    fn far_above(&self, layout: LayoutId) -> LayoutId {
+        layout
+    }
+}
+
+/// The next layout on the way up to another, or to where that would be.
+#[tactic(auto, using(crate::proofs::Climbing::climbs_far))]
+fn climbed<T: Tree>(tree: &T, at: LayoutId, other: LayoutId) -> LayoutId
+    requires linked { IsLinkedFile (T.file tree.now) }
+    requires higher { other.0 < at.0 }
+    ensures { ClimbsTo (T.file tree.now) at.0 other.0 result.0 }
+{
+    let far = tree.far_above(at);
+    if other.0 <= far.0 && far.0 < at.0 {
+        return far;
+    }
+    tree.above(at)
 }
 
 /// Whether a layout is another or stands under it.
-#[tactic(auto, using(crate::proofs::Climbing::climb_on, crate::proofs::Climbing::climbs_less, crate::proofs::Climbing::climbed))]
+#[tactic(auto, using(crate::proofs::Climbing::climb_on, crate::proofs::Climbing::reached))]
 pub fn is_below<T: Tree>(tree: &T, layout: LayoutId, other: LayoutId) -> bool
     requires { IsLinkedFile (T.file tree.now) }
     ensures { IsTrue result ↔ IsBelow (T.file tree.now) layout.0 other.0 }
 {
     let mut at = layout;
     while at.0 > other.0 {
-        at = tree.above(at);
+        at = climbed(tree, at, other);
     }
     at.0 == other.0
 }
 
+/// The next layout on the way up to one that another stands under.
+#[tactic(auto, using(crate::proofs::Climbing::nears_far))]
+fn nearer<T: Tree>(tree: &T, at: LayoutId, other: LayoutId) -> LayoutId
+    requires linked { IsLinkedFile (T.file tree.now) }
+    requires apart { IsBelow (T.file tree.now) other.0 at.0 → ⊥ }
+    ensures { NearsTo (T.file tree.now) at.0 other.0 result.0 }
+{
+    let far = tree.far_above(at);
+    if far.0 < at.0 && !is_below(tree, other, far) {
+        return far;
+    }
+    tree.above(at)
+}
+
 /// The lowest layout that is above both.
-#[tactic(auto, using(crate::proofs::Climbing::climbs_less, crate::proofs::Climbing::meeting_starts, crate::proofs::Climbing::left_climbs, crate::proofs::Climbing::right_climbs, crate::proofs::Climbing::meet))]
+#[tactic(auto, using(crate::proofs::Climbing::meeting_starts, crate::proofs::Climbing::meet))]
 pub fn common<T: Tree>(tree: &T, a: LayoutId, b: LayoutId) -> LayoutId
     requires { IsLinkedFile (T.file tree.now) }
     ensures { IsCommon (T.file tree.now) a.0 b.0 result.0 }
 {
-    let mut x = a;
-    let mut y = b;
-    while x.0 != y.0 {
-        if x.0 > y.0 {
-            x = tree.above(x);
-        } else {
-            y = tree.above(y);
-        }
+    let mut at = a;
+    while !is_below(tree, b, at) {
+        at = nearer(tree, at, b);
     }
-    x
+    at
 }
 
 /// Whether a kind is another or below it.

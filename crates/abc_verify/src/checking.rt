@@ -1,4 +1,4 @@
-ghost use Rattle.std.specs.Prelude.{◌≡◌, ◌<◌, ◌^◌, Some, MatchResult, length};
+ghost use Rattle.std.specs.Prelude.{◌≡◌, ◌<◌, ◌^◌, Some, IfOk, MatchResult, length};
 ghost use Rattle.abc_frames.specs.Frames.{routine_in};
 ghost use Rattle.abc_program.specs.Linked.{IsLinkedFile};
 ghost use Rattle.abc_program.specs.Owners.{body_of as body_of_method};
@@ -11,38 +11,58 @@ ghost use Rattle.abc_verify.specs.Typed.{AllTyped, AreTyped, IsTyped, IsVerified
 use crate::checked::Verified;
 use crate::error::VerifyError;
 use crate::flowing::Flowing;
-use abc_flow::{Refusal, check_flow};
+use abc_base::NoMemory;
+use abc_flow::{Memory, Refusal, check_flow};
 use abc_frames::{Frame, frame_of};
 use abc_heads::heads_of;
+use abc_kinds::Ladder;
 use abc_link::Linked;
 use std::alloc::Global;
 
 /// Verifies a body with its method.
-fn check_frame(alloc: Global, linked: &Linked, frame: &Frame<'_>) -> Result<(), Refusal>
-    requires linked { IsLinkedFile linked.now }
+fn check_frame(
+    alloc: Global,
+    ladder: &Ladder<'_>,
+    memory: &mut Memory,
+    frame: &Frame<'_>,
+) -> Result<(), Refusal>
+    requires linked { IsLinkedFile ladder.now }
     requires short { length frame.now.code.now < 2 ^ 31 }
-    ensures { MatchResult result (λ _. HasTyping linked.now (routine_in frame.now)) (λ e. RefusedBy linked.now (routine_in frame.now) e) }
+    ensures { MatchResult result (λ _. HasTyping ladder.now (routine_in frame.now)) (λ e. RefusedBy ladder.now (routine_in frame.now) e) }
 {
     let code = frame.code.as_slice();
     let handlers = frame.handlers.as_slice();
     let heads = heads_of(alloc, code, handlers)?;
     let flow = Flowing {
         alloc,
-        linked,
+        ladder,
         frame,
         heads: &heads,
     };
-    check_flow(&flow)
+    check_flow(&flow, memory)
+}
+
+/// A body, by its number, with its method.
+fn frame_in<'a>(alloc: Global, ladder: &Ladder<'a>, body: u32) -> Result<Frame<'a>, NoMemory>
+    requires { body < length ladder.now.file.bodies }
+    ensures { IfOk result (λ f. routine_in f ≡ routine ladder.now body) }
+{
+    frame_of(alloc, ladder.linked(), body)
 }
 
 /// Verifies a body.
-fn check_body(alloc: Global, linked: &Linked, body: u32) -> Result<(), Refusal>
-    requires linked { IsLinkedFile linked.now }
-    requires inside { body < length linked.now.file.bodies }
-    ensures { MatchResult result (λ _. HasTyping linked.now (routine linked.now body)) (λ e. RefusedBy linked.now (routine linked.now body) e) }
+fn check_body(
+    alloc: Global,
+    ladder: &Ladder<'_>,
+    memory: &mut Memory,
+    body: u32,
+) -> Result<(), Refusal>
+    requires linked { IsLinkedFile ladder.now }
+    requires inside { body < length ladder.now.file.bodies }
+    ensures { MatchResult result (λ _. HasTyping ladder.now (routine ladder.now body)) (λ e. RefusedBy ladder.now (routine ladder.now body) e) }
 {
-    let frame = frame_of(alloc, linked, body)?;
-    check_frame(alloc, linked, &frame)
+    let frame = frame_in(alloc, ladder, body)?;
+    check_frame(alloc, ladder, memory, &frame)
 }
 
 /// The refusal of a method with this body.
@@ -61,42 +81,76 @@ fn refusal_of(method: u32, body: u32, refusal: Refusal) -> VerifyError
 }
 
 /// Verifies a method that has this body, where those before have typings.
-fn check_numbered(alloc: Global, linked: &Linked, method: u32, body: u32) -> Result<(), VerifyError>
-    requires linked { IsLinkedFile linked.now }
-    requires inside { method < length linked.now.file.methods }
-    requires before { AreTyped linked.now method }
-    requires of_method { body_of_method linked.now.file method ≡ Some body }
-    ensures { MatchResult result (λ _. IsTyped linked.now method) (IsRefusal linked.now) }
+fn check_numbered(
+    alloc: Global,
+    ladder: &Ladder<'_>,
+    memory: &mut Memory,
+    method: u32,
+    body: u32,
+) -> Result<(), VerifyError>
+    requires linked { IsLinkedFile ladder.now }
+    requires inside { method < length ladder.now.file.methods }
+    requires before { AreTyped ladder.now method }
+    requires of_method { body_of_method ladder.now.file method ≡ Some body }
+    ensures { MatchResult result (λ _. IsTyped ladder.now method) (IsRefusal ladder.now) }
 {
-    match check_body(alloc, linked, body) {
+    match check_body(alloc, ladder, memory, body) {
         Ok(()) => Ok(()),
         Err(refusal) => Err(refusal_of(method, body, refusal)),
     }
 }
 
-/// Verifies a method, if it has a body, where those before have typings.
-fn check_method(alloc: Global, linked: &Linked, method: u32) -> Result<(), VerifyError>
-    requires linked { IsLinkedFile linked.now }
-    requires inside { method < length linked.now.file.methods }
-    requires before { AreTyped linked.now method }
-    ensures { MatchResult result (λ _. IsTyped linked.now method) (IsRefusal linked.now) }
+/// The body of a method, if it has one.
+fn body_of(ladder: &Ladder<'_>, method: u32) -> Option<u32>
+    ensures { result ≡ body_of_method ladder.now.file method }
 {
-    match linked.body_of(method) {
-        Some(body) => check_numbered(alloc, linked, method, body),
+    ladder.linked().body_of(method)
+}
+
+/// Verifies a method, if it has a body, where those before have typings.
+fn check_method(
+    alloc: Global,
+    ladder: &Ladder<'_>,
+    memory: &mut Memory,
+    method: u32,
+) -> Result<(), VerifyError>
+    requires linked { IsLinkedFile ladder.now }
+    requires inside { method < length ladder.now.file.methods }
+    requires before { AreTyped ladder.now method }
+    ensures { MatchResult result (λ _. IsTyped ladder.now method) (IsRefusal ladder.now) }
+{
+    match body_of(ladder, method) {
+        Some(body) => check_numbered(alloc, ladder, memory, method, body),
         None => Ok(()),
     }
 }
 
 /// Verifies all methods, in the order of their numbers.
-fn check_methods(alloc: Global, linked: &Linked, count: u32) -> Result<(), VerifyError>
+fn check_methods(
+    alloc: Global,
+    ladder: &Ladder<'_>,
+    memory: &mut Memory,
+    count: u32,
+) -> Result<(), VerifyError>
+    requires linked { IsLinkedFile ladder.now }
+    requires all { count ≡ length ladder.now.file.methods }
+    ensures { MatchResult result (λ _. IsVerified ladder.now) (IsRefusal ladder.now) }
+{
+    for method in 0..count {
+        check_method(alloc, ladder, memory, method)?;
+    }
+    Ok(())
+}
+
+/// Verifies all methods of a linked file.
+fn check_file(alloc: Global, linked: &Linked, count: u32) -> Result<(), VerifyError>
     requires linked { IsLinkedFile linked.now }
     requires all { count ≡ length linked.now.file.methods }
     ensures { MatchResult result (λ _. IsVerified linked.now) (IsRefusal linked.now) }
 {
-    for method in 0..count {
-        check_method(alloc, linked, method)?;
-    }
-    Ok(())
+    let ladder = Ladder::new(alloc, linked)?;
+    let mut memory = Memory::new(alloc);
+    check_methods(alloc, &ladder, &mut memory, count)
 }
 
 /// How many methods a file has.
@@ -115,7 +169,7 @@ pub fn verify(alloc: Global, linked: Linked) -> Result<Verified, VerifyError>
 {
     linked.linked_law();
     let count = method_count(&linked);
-    check_methods(alloc, &linked, count)?;
+    check_file(alloc, &linked, count)?;
     let verified = Verified::of(linked);
     Ok(verified)
 }

@@ -1,3 +1,4 @@
+use abc_base::NoMemory;
 use abc_typing::VerifyRule;
 use thiserror::Error;
 
@@ -16,4 +17,15 @@ pub enum VerifyError {
     /// Memory ran out.
     #[error("memory ran out")]
     NoMemory,
+}
+
+impl From<NoMemory> for VerifyError {
+    ghost use Rattle.abc_verify.specs.declared.error.VerifyError.TheVariants as errors;
+    ghost use Rattle.std.specs.Prelude.{◌≡◌};
+
+    ghost from_gives = { λ _ e. e ≡ errors.NoMemory };
+
+    fn from(_e: NoMemory) -> VerifyError {
+        VerifyError::NoMemory
+    }
 }

@@ -1,8 +1,7 @@
 use abc_base::{NoMemory, Table};
 use abc_flow::{Flow, Merged, Step};
 use abc_frames::{Frame, entry_of};
-use abc_kinds::join;
-use abc_link::Linked;
+use abc_kinds::{Ladder, join};
 use abc_merging::merge;
 use abc_program::Kind;
 use abc_tables::Instr;
@@ -14,7 +13,7 @@ use std::alloc::Global;
 #[derive(Clone, Copy)]
 pub(crate) struct Flowing<'a> {
     pub alloc: Global,
-    pub linked: &'a Linked,
+    pub ladder: &'a Ladder<'a>,
     pub frame: &'a Frame<'a>,
     pub heads: &'a Table<bool>,
 }
@@ -22,7 +21,7 @@ pub(crate) struct Flowing<'a> {
 impl Flow for Flowing<'_> {
     ghost use Rattle.abc_frames.specs.Frames.{routine_in};
 
-    ghost file = { λ f. f.linked.now };
+    ghost file = { λ f. f.ladder.now };
 
     ghost routine = { λ f. routine_in f.frame.now };
 
@@ -52,15 +51,15 @@ impl Flow for Flowing<'_> {
     }
 
     fn broken(&self, place: u32, state: &State, cover: &[Catch]) -> Option<VerifyRule> {
-        broken_at(self.linked, self.frame, place, state, cover)
+        broken_at(self.ladder.linked(), self.frame, place, state, cover)
     }
 
     fn broken_early(&self, place: u32, state: &State) -> Option<VerifyRule> {
-        broken_early_at(self.linked, self.frame, place, state)
+        broken_early_at(self.ladder.linked(), self.frame, place, state)
     }
 
     fn step(&self, place: u32, state: &mut State) -> Result<Step, NoMemory> {
-        step_at(self.linked, self.frame, place, state)
+        step_at(self.ladder.linked(), self.frame, place, state)
     }
 
     fn entry(&self) -> Result<State, NoMemory> {
@@ -68,10 +67,10 @@ impl Flow for Flowing<'_> {
     }
 
     fn join(&self, a: Kind, b: Kind) -> Kind {
-        join(self.linked, a, b)
+        join(self.ladder, a, b)
     }
 
     fn merge(&self, old: &State, next: &State) -> Result<Merged, NoMemory> {
-        merge(self.alloc, self.linked, old, next)
+        merge(self.alloc, self.ladder, old, next)
     }
 }

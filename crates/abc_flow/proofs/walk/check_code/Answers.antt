@@ -6,14 +6,16 @@ use Rattle.abc_typing.specs.declared.state.State.{State}
 use Rattle.abc_worklist.specs.Work.{IsUnderWay, walked}
 use Rattle.abc_worklist.proofs.Turn.{begins}
 use Rattle.abc_worklist.proofs.Heads.{heads_typing}
+use Rattle.abc_flow.specs.Ranges.{AreSpans}
 use Rattle.abc_flow.specs.Walking.{is_head}
+use Rattle.abc_typing.specs.declared.catch.Catch.{Catch}
 use Rattle.abc_flow.proofs.walk.check_code.Goals as goal
 
 pub raise-requires : goal.raise-requires
 raise-requires g c =
     let m = g.F.Flow.routine c.args.flow.now in
     let blank : List (Option State) = replicate (length m.code) None in
-    let n : c.in_ok-states.states ≡ blank = cc (c.in_ok-states.ensures, c.len.ensures) in
+    let n : c.renew.new.self ≡ blank = cc (c.in_ok-renew.ensures, c.len.ensures) in
     let long : length blank ≡ length m.code = length-replicate (length m.code) None in
     subst (λ (xs : List (Option State)). 0 < length xs) (sym n) (omega (arith, c.requires.some, long))
 
@@ -22,10 +24,13 @@ loop-place-init g c =
     let p = g.F.Flow.file c.args.flow.now in
     let m = g.F.Flow.routine c.args.flow.now in
     let h = is_head (g.F.Flow.heads c.args.flow.now) in
-    let n : c.in_ok-states.states ≡ replicate (length m.code) None = cc (c.in_ok-states.ensures, c.len.ensures) in
+    let n : c.renew.new.self ≡ replicate (length m.code) None = cc (c.in_ok-renew.ensures, c.len.ensures) in
     let e : c.raise.new.states ≡ set (replicate (length m.code) None) 0 (Some (entry m)) = cc (c.in_ok-raise.ensures.0, n, c.in_ok-entry.ensures) in
-    let w : c.raise.new.work ≡ 0 ∷ [] = cc (c.in_ok-raise.ensures.1, c.new-work.ensures) in
+    let w : c.raise.new.work ≡ 0 ∷ [] = cc (c.in_ok-raise.ensures.1, c.clear.ensures) in
     subst (λ (x : List (Option State)). IsUnderWay p m h x c.raise.new.work) (sym e) (subst (λ (x : List ℕ). IsUnderWay p m h (set (replicate (length m.code) None) 0 (Some (entry m))) x) (sym w) (begins p m h c.requires.some c.requires.heads.first))
+
+pub visit-requires-clause-spans : goal.visit-requires-clause-spans
+visit-requires-clause-spans g c = subst (λ (hs : List Catch). AreSpans hs c.in_ok-spans.spans) c.handlers.ensures c.in_ok-spans.ensures
 
 pub returns : goal.returns
 returns g c =

@@ -1,0 +1,190 @@
+-- The states of places by their numbers.
+use Rattle.std.proofs.Common.{◌≡◌, ◌≢◌, ℕ, zero, suc, ◌+◌, ◌-◌, ◌≤◌, ◌<◌, ◌^◌, List, [], ◌∷◌, ◌++◌, Option, Some, None, length, set, map, get_or, replicate, take, refl, sym, ap, ◌∙◌, subst, arith, ◌⊎◌, inl, inr}
+use Rattle.std.specs.Prelude.{slice_get}
+use Rattle.std.proofs.lemmas.List.{length-append, length-replicate, map-set}
+use Rattle.std.proofs.Math.ListN.{length-set}
+use Rattle.std.proofs.lemmas.Option.{slice_get-get_or, slice_get-map}
+use Rattle.abc_typing.proofs.Lists.{slice_get-last, slice_get-push, slice_get-set}
+use Rattle.abc_worklist.specs.Work.{at, flat}
+use Rattle.abc_flow.specs.Kept.{AreNumbers, count_of, known_at, numbered}
+
+pub numbered_none : {X : Type 0} (known : List X) (n : ℕ) → (1 ≤ n → ⊥) → numbered known n ≡ None
+numbered_none known zero h = refl
+numbered_none known (suc n) h = absurd (h (omega arith))
+
+pub numbered_next : {X : Type 0} (known : List X) (n i : ℕ) → 1 ≤ n → n - 1 ≡ i → numbered known n ≡ slice_get known i
+numbered_next known zero i h e = absurd (omega arith)
+numbered_next known (suc n) i h e = let q : n ≡ i = omega arith in ap (slice_get known) q
+
+-- ---- places
+
+count_most : (ns : List ℕ) → count_of ns ≤ length ns
+count_most [] = omega arith
+count_most (zero ∷ ns) = omega (arith, count_most ns)
+count_most (suc n ∷ ns) = omega (arith, count_most ns)
+
+count_less : (ns : List ℕ) (i : ℕ) → slice_get ns i ≡ Some 0 → count_of ns < length ns
+count_less [] i e = absurd cc
+count_less (zero ∷ ns) i e = omega (arith, count_most ns)
+count_less (suc n ∷ ns) zero e = absurd (let q : suc n ≡ 0 = cc in omega arith)
+count_less (suc n ∷ ns) (suc i) e = omega (arith, count_less ns i e)
+
+count_set : (ns : List ℕ) (i m : ℕ) → slice_get ns i ≡ Some 0 → count_of (set ns i (suc m)) ≡ suc (count_of ns)
+count_set [] i m e = absurd cc
+count_set (zero ∷ ns) zero m e = refl
+count_set (suc n ∷ ns) zero m e = absurd (let q : suc n ≡ 0 = cc in omega arith)
+count_set (zero ∷ ns) (suc i) m e = count_set ns i m e
+count_set (suc n ∷ ns) (suc i) m e = ap suc (count_set ns i m e)
+
+count_blank : (n : ℕ) → count_of (replicate n 0) ≡ 0
+count_blank zero = refl
+count_blank (suc n) = count_blank n
+
+get_blank : (n i k : ℕ) → slice_get (replicate n 0) i ≡ Some (suc k) → ⊥
+get_blank zero i k e = cc
+get_blank (suc n) zero k e = let q : 0 ≡ suc k = cc in omega arith
+get_blank (suc n) (suc i) k e = get_blank n i k e
+
+pub blank_numbers : (n : ℕ) → n < 2 ^ 32 → AreNumbers (replicate n 0) 0
+blank_numbers n small = record {
+  inside = λ i k e. absurd (get_blank n i k e);
+  apart = λ i j k e f. absurd (get_blank n i k e);
+  counted = count_blank n;
+  few = let long : length (replicate {A = ℕ} n 0) ≡ n = length-replicate {A = ℕ} n 0 in omega (arith, long);
+}
+
+pub blank_known : {X : Type 0} (n : ℕ) → known_at {X = X} (replicate n 0) [] ≡ replicate n None
+blank_known zero = refl
+blank_known {X} (suc n) = ap (λ (xs : List (Option X)). None ∷ xs) (blank_known n)
+
+nothing : (n : ℕ) (zs : List ℕ) → take n [] ++ zs ≡ zs
+nothing zero zs = refl
+nothing (suc n) zs = refl
+
+pub renewed_numbers : (n m : ℕ) (xs ys : List ℕ) → xs ≡ [] → m ≡ 0 → ys ≡ take n xs ++ replicate (n - m) 0 → ys ≡ replicate n 0
+renewed_numbers n m xs ys e z q =
+    let w : n - m ≡ n = omega arith in
+    q
+    ∙ ap (λ (zs : List ℕ). take n zs ++ replicate (n - m) 0) e
+    ∙ nothing n (replicate (n - m) 0)
+    ∙ ap (λ (k : ℕ). replicate {A = ℕ} k 0) w
+
+got_more : {X : Type 0} (ks : List X) (k : X) (n : ℕ) → n < length ks → slice_get (ks ++ k ∷ []) n ≡ slice_get ks n
+got_more [] k n h = absurd (omega arith)
+got_more (a ∷ ks) k zero h = refl
+got_more (a ∷ ks) k (suc n) h = got_more ks k n (omega arith)
+
+pub has_room : (ns : List ℕ) (c i : ℕ) → AreNumbers ns c → slice_get ns i ≡ Some 0 → c + 1 < 2 ^ 32
+has_room ns c i h e = let a = count_less ns i e in let b = h.counted in let d = h.few in omega arith
+
+-- ---- a place gets its first state
+
+none_set : {X : Type 0} (xs : List X) (i j : ℕ) (x y : X) → slice_get xs j ≡ None → slice_get (set xs i x) j ≡ Some y → ⊥
+none_set [] i j x y g f = cc
+none_set (a ∷ xs) zero zero x y g f = cc
+none_set (a ∷ xs) zero (suc j) x y g f = cc
+none_set (a ∷ xs) (suc i) zero x y g f = cc
+none_set (a ∷ xs) (suc i) (suc j) x y g f = none_set xs i j x y g f
+
+pub first_numbers : (ns : List ℕ) (c i m : ℕ) → AreNumbers ns c → slice_get ns i ≡ Some 0 → m ≡ c + 1 → AreNumbers (set ns i m) (c + 1)
+first_numbers ns c i m h e q = subst (λ (k : ℕ). AreNumbers (set ns i k) (c + 1)) (let z : suc c ≡ m = omega arith in z) record {
+  inside = inside;
+  apart = apart;
+  counted = let a = count_set ns i c e in let b = h.counted in omega arith;
+  few = let a : length (set ns i (suc c)) ≡ length ns = length-set ns i (suc c) in let b = h.few in omega arith;
+}
+  where
+    old : (j n : ℕ) → slice_get (set ns i (suc c)) j ≡ Some (suc n) → (slice_get ns j ≡ Some (suc n)) ⊎ ((n ≡ c) × (i ≡ j))
+    old j n f = go (slice_get ns j) refl
+      where
+        go : (o : Option ℕ) → slice_get ns j ≡ o → (slice_get ns j ≡ Some (suc n)) ⊎ ((n ≡ c) × (i ≡ j))
+        go None g = absurd (none_set ns i j (suc c) (suc n) g f)
+        go (Some y) g = elim (slice_get-set ns i j (suc c) y 0 e g) [
+          | inl k ↦ inl (let z : y ≡ suc n = cc in g ∙ ap Some z)
+          | inr k ↦ inr (let z : Some (suc c) ≡ Some (suc n) = sym k.0 ∙ f in let w : suc c ≡ suc n = cc in omega arith, k.1)
+        ]
+
+    inside : (j n : ℕ) → slice_get (set ns i (suc c)) j ≡ Some (suc n) → n < c + 1
+    inside j n f = elim (old j n f) [ inl g ↦ (let z = h.inside j n g in omega arith) | inr z ↦ (let y = z.0 in omega arith) ]
+
+    apart : (j k n : ℕ) → slice_get (set ns i (suc c)) j ≡ Some (suc n) → slice_get (set ns i (suc c)) k ≡ Some (suc n) → j ≡ k
+    apart j k n f g = elim (old j n f) [
+      | inl a ↦ elim (old k n g) [ inl b ↦ h.apart j k n a b | inr b ↦ absurd (let z = h.inside j n a in let y = b.0 in omega arith) ]
+      | inr a ↦ elim (old k n g) [ inl b ↦ absurd (let z = h.inside k n b in let y = a.0 in omega arith) | inr b ↦ sym a.1 ∙ b.1 ]
+    ]
+
+-- what is known is not changed by one more state
+known_more : {X : Type 0} (ns : List ℕ) (ks : List X) (k : X) → ((i n : ℕ) → slice_get ns i ≡ Some (suc n) → n < length ks) → known_at ns (ks ++ k ∷ []) ≡ known_at ns ks
+known_more [] ks k h = refl
+known_more {X} (zero ∷ ns) ks k h = ap (λ (xs : List (Option X)). None ∷ xs) (known_more ns ks k (λ i n e. h (suc i) n e))
+known_more {X} (suc n ∷ ns) ks k h =
+    let low : n < length ks = h 0 n refl in
+    let e : slice_get (ks ++ k ∷ []) n ≡ slice_get ks n = got_more ks k n low in
+    ap (λ (x : Option X). x ∷ known_at ns (ks ++ k ∷ [])) e ∙ ap (λ (xs : List (Option X)). slice_get ks n ∷ xs) (known_more ns ks k (λ i m f. h (suc i) m f))
+
+pub first_known : {X : Type 0} (ns : List ℕ) (ks : List X) (i m : ℕ) (k : X) → AreNumbers ns (length ks) → m ≡ length ks + 1 → known_at (set ns i m) (ks ++ k ∷ []) ≡ set (known_at ns ks) i (Some k)
+first_known {X} ns ks i m k h q =
+    let z : m ≡ suc (length ks) = omega arith in
+    let one : numbered (ks ++ k ∷ []) m ≡ Some k = ap (numbered (ks ++ k ∷ [])) z ∙ slice_get-last ks k in
+    map-set (numbered (ks ++ k ∷ [])) ns i m
+    ∙ ap (λ (xs : List (Option X)). set xs i (numbered (ks ++ k ∷ []) m)) (known_more ns ks k h.inside)
+    ∙ ap (λ (x : Option X). set (known_at ns ks) i x) one
+
+-- ---- and another
+
+got_other : {X : Type 0} (ks : List X) (i j : ℕ) (k : X) → i ≢ j → slice_get (set ks i k) j ≡ slice_get ks j
+got_other [] i j k ne = refl
+got_other (a ∷ ks) zero zero k ne = absurd (ne refl)
+got_other (a ∷ ks) zero (suc j) k ne = refl
+got_other (a ∷ ks) (suc i) zero k ne = refl
+got_other (a ∷ ks) (suc i) (suc j) k ne = got_other ks i j k (λ e. ne (ap suc e))
+
+got_same : {X : Type 0} (ks : List X) (i : ℕ) (k : X) → i < length ks → slice_get (set ks i k) i ≡ Some k
+got_same [] i k h = absurd (omega arith)
+got_same (a ∷ ks) zero k h = refl
+got_same (a ∷ ks) (suc i) k h = got_same ks i k (omega arith)
+
+known_other : {X : Type 0} (ns : List ℕ) (ks : List X) (n : ℕ) (k : X) → ((i : ℕ) → slice_get ns i ≡ Some (suc n) → ⊥) → known_at ns (set ks n k) ≡ known_at ns ks
+known_other [] ks n k h = refl
+known_other {X} (zero ∷ ns) ks n k h = ap (λ (xs : List (Option X)). None ∷ xs) (known_other ns ks n k (λ i e. h (suc i) e))
+known_other {X} (suc m ∷ ns) ks n k h =
+    let ne : n ≢ m = λ e. h 0 (ap (λ (j : ℕ). Some (suc j)) (sym e)) in
+    ap (λ (x : Option X). x ∷ known_at ns (set ks n k)) (got_other ks n m k ne) ∙ ap (λ (xs : List (Option X)). slice_get ks m ∷ xs) (known_other ns ks n k (λ i e. h (suc i) e))
+
+known_again : {X : Type 0} (ns : List ℕ) (ks : List X) (i n : ℕ) (k : X) → n < length ks → slice_get ns i ≡ Some (suc n) → ((j : ℕ) → slice_get ns j ≡ Some (suc n) → i ≡ j) → known_at ns (set ks n k) ≡ set (known_at ns ks) i (Some k)
+known_again [] ks i n k low e one = absurd cc
+known_again {X} (zero ∷ ns) ks zero n k low e one = absurd (let q : 0 ≡ suc n = cc in omega arith)
+known_again {X} (zero ∷ ns) ks (suc i) n k low e one = ap (λ (xs : List (Option X)). None ∷ xs) (known_again ns ks i n k low e (λ j f. let q = one (suc j) f in omega arith))
+known_again {X} (suc m ∷ ns) ks zero n k low e one =
+    let q : n ≡ m = let z : suc m ≡ suc n = cc in omega arith in
+    let head : slice_get (set ks n k) m ≡ Some k = subst (λ (j : ℕ). slice_get (set ks n k) j ≡ Some k) q (got_same ks n k low) in
+    ap (λ (x : Option X). x ∷ known_at ns (set ks n k)) head ∙ ap (λ (xs : List (Option X)). Some k ∷ xs) (known_other ns ks n k (λ j f. let z = one (suc j) f in omega arith))
+known_again {X} (suc m ∷ ns) ks (suc i) n k low e one =
+    let ne : n ≢ m = λ q. let z = one 0 (ap (λ (j : ℕ). Some (suc j)) (sym q)) in omega arith in
+    ap (λ (x : Option X). x ∷ known_at ns (set ks n k)) (got_other ks n m k ne) ∙ ap (λ (xs : List (Option X)). slice_get ks m ∷ xs) (known_again ns ks i n k low e (λ j f. let z = one (suc j) f in omega arith))
+
+pub again_known : {X : Type 0} (ns : List ℕ) (ks : List X) (i n m : ℕ) (k : X) → AreNumbers ns (length ks) → slice_get ns i ≡ Some n → 1 ≤ n → m ≡ n - 1 → known_at ns (set ks m k) ≡ set (known_at ns ks) i (Some k)
+again_known ns ks i zero m k h e lt q = absurd (omega arith)
+again_known {X} ns ks i (suc n) m k h e lt q =
+    let z : n ≡ m = omega arith in
+    subst (λ (j : ℕ). known_at ns (set ks j k) ≡ set (known_at ns ks) i (Some k)) z (known_again ns ks i n k (h.inside i n e) e (λ j f. h.apart i j n e f))
+
+pub number_inside : (ns : List ℕ) (c i n m : ℕ) → AreNumbers ns c → slice_get ns i ≡ Some n → 1 ≤ n → m ≡ n - 1 → m < c
+number_inside ns c i zero m h e lt q = absurd (omega arith)
+number_inside ns c i (suc n) m h e lt q = let z = h.inside i n e in omega arith
+
+-- ---- what is read
+
+pub at_number : {X : Type 0} (ns : List ℕ) (ks : List X) (i n : ℕ) → slice_get ns i ≡ Some n → slice_get (known_at ns ks) i ≡ Some (numbered ks n)
+at_number [] ks i n e = absurd cc
+at_number (m ∷ ns) ks zero n e = let q : m ≡ n = cc in ap (λ (j : ℕ). Some (numbered ks j)) q
+at_number (m ∷ ns) ks (suc i) n e = at_number ns ks i n e
+
+pub at_none : {X : Type 0} (ns : List ℕ) (ks : List X) (i : ℕ) → slice_get ns i ≡ None → slice_get (known_at ns ks) i ≡ None
+at_none [] ks i e = refl
+at_none (m ∷ ns) ks zero e = absurd cc
+at_none (m ∷ ns) ks (suc i) e = at_none ns ks i e
+
+pub known_length : {X : Type 0} (ns : List ℕ) (ks : List X) → length (known_at ns ks) ≡ length ns
+known_length [] ks = refl
+known_length (n ∷ ns) ks = ap suc (known_length ns ks)
