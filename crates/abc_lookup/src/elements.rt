@@ -1,6 +1,22 @@
 ghost use Rattle.std.specs.Prelude.{◌≡◌, ◌≤◌, Some, None, if◌then◌else◌, nat_le};
 ghost use Rattle.std.specs.List.{list_all};
-ghost use Rattle.abc_search.specs.ElementNames.{element_number as number_named, is_digit as does_digit, is_numeral as does_numeral, number_from};
+ghost use Rattle.abc_heap.specs.Texts.{IsText};
+ghost use Rattle.abc_lookup.specs.Named.{element_in, element_on};
+ghost use Rattle.abc_objects.specs.Values.{IsObject};
+ghost use Rattle.abc_search.specs.ElementNames.{element_name, element_number as number_named, is_digit as does_digit, is_numeral as does_numeral, number_from};
+
+use abc_cells::{ObjId, Span};
+use abc_link::Linked;
+use abc_objects::Arena;
+
+/// The name of an array's element, or of its length.
+#[derive(Clone, Copy)]
+pub enum ElementName {
+    /// `length`.
+    Length,
+    /// The number of an element, from 0 to 4294967294, whether the array has it or not.
+    Number(u32),
+}
 
 /// The greatest number of an element.
 const GREATEST: u64 = 4294967294;
@@ -50,4 +66,30 @@ pub(crate) fn element_number(text: &[u8]) -> Option<u32>
         return None;
     }
     number_of(text)
+}
+
+/// The element name that a text is.
+fn name_of(text: &[u8]) -> Option<ElementName>
+    ensures { element_in result ≡ element_name text.now }
+{
+    if text == b"length".as_slice() {
+        return Some(ElementName::Length);
+    }
+    match element_number(text) {
+        Some(number) => Some(ElementName::Number(number)),
+        None => None,
+    }
+}
+
+/// The element name that a text is on an object. It answers `None` where the object is no array, or the text neither `length`
+/// nor the decimal text of a number.
+pub fn element_named(l: &Linked, a: &Arena, o: ObjId, text: Span) -> Option<ElementName>
+    requires object { IsObject a.now o }
+    requires text { IsText l.now.file.strings a.now text }
+    ensures { element_in result ≡ element_on l.now a.now o text }
+{
+    if !a.what(o).is_array() {
+        return None;
+    }
+    name_of(a.text_bytes(l, text))
 }

@@ -13,4 +13,6 @@ mod spaces;
 mod tables;
 
 pub use abc_search::{Found, Name, ScopeFound, Spaces, Want};
+pub use elements::{ElementName, element_named};
 pub use search::{find_declared, find_in_scopes, find_on};
+pub use spaces::holds_public;

@@ -48,7 +48,7 @@ fn is_any_public(l: &Linked, spaces: &[u32]) -> bool
 }
 
 /// Whether a name holds the public namespace or any.
-pub(crate) fn holds_public(l: &Linked, spaces: Spaces) -> bool
+pub fn holds_public(l: &Linked, spaces: Spaces) -> bool
     ensures { result ≡ does_hold_public l.now spaces }
 {
     match spaces {
