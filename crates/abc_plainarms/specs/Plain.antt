@@ -1,10 +1,8 @@
 -- What instructions that compute do with the newest frame: so many operands are taken.
 use Rattle.std.specs.Prelude.{ℕ, List, ◌∷◌, Bool, not, if◌then◌else◌}
-use Rattle.abc_cells.specs.declared.values.Value.{Value}
 use Rattle.abc_cells.specs.declared.values.Value.TheVariants.{Bool as Truth}
 use Rattle.abc_conversions.specs.declared.numbers.Conversion.{Conversion}
 use Rattle.abc_program.specs.Types.{type_of}
-use Rattle.abc_program.specs.declared.types.Ty.{Ty}
 use Rattle.abc_stacks.specs.Frame.{Frame, dropped, with_local}
 use Rattle.abc_world.specs.Ops.{coerces, compares, computes_one, computes_two, converts}
 use Rattle.abc_world.specs.Setting.{Setting}
