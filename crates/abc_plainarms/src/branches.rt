@@ -1,0 +1,115 @@
+ghost use Rattle.std.specs.Prelude.{◌≡◌, ◌∷◌, not};
+ghost use Rattle.abc_acts.specs.Simple.{switched};
+ghost use Rattle.abc_cells.specs.declared.values.Value.TheVariants.{Num};
+ghost use Rattle.abc_conversions.specs.Numbers.{truth_of};
+ghost use Rattle.abc_moves.specs.Ready.{IsReady};
+ghost use Rattle.abc_stacks.specs.Frame.{newest};
+ghost use Rattle.abc_states.specs.Operands.{operand_at};
+ghost use Rattle.abc_states.specs.Outer.{Outer, setting, world};
+ghost use Rattle.abc_states.specs.Standing.{IsSet};
+ghost use Rattle.abc_states.specs.Stops.{IsOpen};
+ghost use Rattle.abc_states.specs.Turns.{Runs};
+ghost use Rattle.abc_world.specs.World.{Went, World, done};
+ghost use Rattle.abc_plainarms.specs.Plain.{branches_on, compares_both, opposite, switches_on};
+
+use abc_cells::Value;
+use abc_conversions::is_true;
+use abc_link::Linked;
+use abc_moves::branch;
+use abc_states::{State, Stop, compare, operand};
+
+/// Branches where a comparison of the two top operands is true.
+pub fn branch_so(linked: &Linked, s: &mut State, op: u8, target: u32) -> Result<(), Stop>
+    ghost out: { Outer }
+    requires set { IsSet linked.now s.old }
+    requires ready { IsReady 2 0 s.old.frames }
+    ensures runs { Runs linked.now out (branches_on 2 target (newest s.old.frames) (compares_both (setting linked.now out) op (newest s.old.frames))) s.old result s.new }
+    ensures limit { s.new.given.limit ≡ s.old.given.limit }
+{
+    let x = operand(&s.frames, 1);
+    let y = operand(&s.frames, 0);
+    let is = compare(linked, s, op, x, y)?;
+    s.frames.drop_operands(2);
+    branch(&mut s.frames, is, target);
+    Ok(())
+}
+
+/// Branches where a comparison of the two top operands is false.
+pub fn branch_not(linked: &Linked, s: &mut State, op: u8, target: u32) -> Result<(), Stop>
+    ghost out: { Outer }
+    requires set { IsSet linked.now s.old }
+    requires ready { IsReady 2 0 s.old.frames }
+    ensures runs { Runs linked.now out (branches_on 2 target (newest s.old.frames) (opposite (compares_both (setting linked.now out) op (newest s.old.frames)))) s.old result s.new }
+    ensures limit { s.new.given.limit ≡ s.old.given.limit }
+{
+    let x = operand(&s.frames, 1);
+    let y = operand(&s.frames, 0);
+    let is = compare(linked, s, op, x, y)?;
+    s.frames.drop_operands(2);
+    branch(&mut s.frames, !is, target);
+    Ok(())
+}
+
+/// Branches where the top operand is true.
+pub fn branch_if(linked: &Linked, s: &mut State, target: u32) -> Result<(), Stop>
+    ghost out: { Outer }
+    requires { IsReady 1 0 s.old.frames }
+    ensures runs { Runs linked.now out (branches_on 1 target (newest s.old.frames) (done (truth_of (operand_at 0 (newest s.old.frames))))) s.old result s.new }
+    ensures limit { s.new.given.limit ≡ s.old.given.limit }
+{
+    let v = operand(&s.frames, 0);
+    let is = is_true(v);
+    s.frames.drop_operands(1);
+    branch(&mut s.frames, is, target);
+    Ok(())
+}
+
+/// Branches where the top operand is not true.
+pub fn branch_unless(linked: &Linked, s: &mut State, target: u32) -> Result<(), Stop>
+    ghost out: { Outer }
+    requires { IsReady 1 0 s.old.frames }
+    ensures runs { Runs linked.now out (branches_on 1 target (newest s.old.frames) (done (not (truth_of (operand_at 0 (newest s.old.frames)))))) s.old result s.new }
+    ensures limit { s.new.given.limit ≡ s.old.given.limit }
+{
+    let v = operand(&s.frames, 0);
+    let is = is_true(v);
+    s.frames.drop_operands(1);
+    branch(&mut s.frames, !is, target);
+    Ok(())
+}
+
+/// The case of a number, or the default.
+fn case_of(n: i64, default: u32, cases: &[u32]) -> u32
+    ensures { (w : World) → switched (default ∷ cases.now) (Num n) w ≡ Went w result }
+{
+    if n >= 0 && (n as u64) < cases.len() as u64 {
+        cases[n as usize]
+    } else {
+        default
+    }
+}
+
+/// Where the number on top of the operands leads.
+fn target_of(v: Value, default: u32, cases: &[u32]) -> u32
+    ensures { (w : World) → IsOpen (switched (default ∷ cases.now) v w) → switched (default ∷ cases.now) v w ≡ Went w result }
+{
+    match v {
+        Value::Num(n) => case_of(n, default, cases),
+        _ => default,
+    }
+}
+
+/// `lookupswitch`: the case of the number on top, or the default.
+pub fn switch(linked: &Linked, s: &mut State, default: u32, cases: &[u32]) -> Result<(), Stop>
+    ghost out: { Outer }
+    requires ready { IsReady 1 0 s.old.frames }
+    requires free { IsOpen (switches_on default cases.now (newest s.old.frames) (world s.old out)) }
+    ensures runs { Runs linked.now out (switches_on default cases.now (newest s.old.frames)) s.old result s.new }
+    ensures limit { s.new.given.limit ≡ s.old.given.limit }
+{
+    let v = operand(&s.frames, 0);
+    let target = target_of(v, default, cases);
+    s.frames.drop_operands(1);
+    s.frames.go(target);
+    Ok(())
+}
