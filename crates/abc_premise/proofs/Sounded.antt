@@ -90,7 +90,7 @@ as_long (i ∷ is) = omega (arith, one_long i, as_long is)
 code_short : (b : Body) → IsReadyBody b → length b.code < 2 ^ 23
 code_short b ready = omega (arith, as_long b.code, ready.code.short)
 
-place_counted : (p : Setting) (n i : ℕ) (r : Routine) (instr : Instr) → IsVerified p → routine_of p n ≡ Some r → slice_get r.code i ≡ Some instr → i + 1 < 2 ^ 32
+pub place_counted : (p : Setting) (n i : ℕ) (r : Routine) (instr : Instr) → IsVerified p → routine_of p n ≡ Some r → slice_get r.code i ≡ Some instr → i + 1 < 2 ^ 32
 place_counted p n i r instr v e at =
     let b = routine_found p v.linked n r e in
     let short = code_short (body_at p.linked.file b.body) b.is.ready in
