@@ -40,7 +40,7 @@ module _ (p : Setting) (v : IsVerified p) where
   states_of None low = λ place. None
   states_of (Some b) low = (v.typed b (low b refl)).0
 
-  body_low : (n b : ℕ) → body_of p.linked.file n ≡ Some b → b < length p.linked.file.bodies
+  pub body_low : (n b : ℕ) → body_of p.linked.file n ≡ Some b → b < length p.linked.file.bodies
   body_low n b e = (body_is p.linked v.linked n b e).low
 
   abbrev pub typings : Typings
