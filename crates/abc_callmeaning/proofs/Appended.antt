@@ -1,5 +1,5 @@
 -- What was written stays in front.
-use Rattle.std.proofs.Common.{◌≡◌, ℕ, zero, suc, refl}
+use Rattle.std.proofs.Common.{zero, suc, refl}
 use Rattle.abc_cells.specs.declared.values.Value.{Value}
 use Rattle.abc_outputs.specs.Front.{IsFront, left_by}
 use Rattle.abc_outputs.proofs.Adding.{front_on, same_front}

@@ -1,7 +1,6 @@
 -- The state with which a call begins.
-use Rattle.std.proofs.Common.{◌≡◌, ℕ, ℤ, List, [], ◌∷◌, map}
+use Rattle.std.proofs.Common.{ℕ, ℤ, List, [], ◌∷◌}
 use Rattle.abc_base.specs.Ranges.{IsNumber}
-use Rattle.abc_cells.specs.declared.values.Value.TheVariants.{Num}
 use Rattle.abc_heap.specs.Heap.{obj_id}
 use Rattle.abc_objects.specs.Values.{Exists}
 use Rattle.abc_search.specs.Objects.{global_number}
@@ -9,7 +8,6 @@ use Rattle.abc_stacks.specs.Frame.{Frame}
 use Rattle.abc_typing.specs.Lists.{Each}
 use Rattle.abc_world.specs.Setting.{Setting}
 use Rattle.abc_world.specs.World.{Errs, Faults, Fills, Outcome, Sticks, Stop, Stopped, Throws, Went, World}
-use Rattle.abc_meaning.specs.Laws.{IsVerified}
 use Rattle.abc_meaning.specs.Sound.{AreTypings, FrameSound, SteppedSound, Typings, WorldSound}
 use Rattle.abc_meaning.specs.Throwing.{last_script}
 use Rattle.abc_objectacts.specs.Laws.{Given}
@@ -17,8 +15,8 @@ use Rattle.abc_settles.proofs.Settled.{ends_sound, puts_sound}
 use Rattle.abc_sound.specs.Keeping.{Fares, StopSound}
 use Rattle.abc_sound.proofs.Entered.{owned_fares}
 use Rattle.abc_unstuck.proofs.Never.{given}
-use Rattle.abc_callmeaning.specs.Calls.{begins_call, enters_call, entered_call, numbers, stops_call}
-use Rattle.abc_callmeaning.specs.Laws.{CallsBeginSound, IsScriptMethod}
+use Rattle.abc_callmeaning.specs.Calls.{enters_call, entered_call, numbers, stops_call}
+use Rattle.abc_callmeaning.specs.Laws.{CallsBeginSound}
 use Rattle.abc_callmeaning.proofs.Exported.{owned_by_script}
 
 numbers_exist : (p : Setting) (w : World) (ns : List ℤ) → Each IsNumber ns → Each (Exists p.linked w.heap) (numbers ns)
@@ -40,4 +38,4 @@ module _ (p : Setting) (typings : Typings) (typed : AreTypings p typings) (g : G
 pub call_begins : CallsBeginSound
 call_begins p typings w m args v typed z exported ns =
     let g = given p v in
-    entered_sound p typings typed g m w (enters_call p m args w) (owned_fares p g.file g.ops typings typed w m (obj_id (global_number w.heap (last_script p))) (numbers args) z (owned_by_script p g.file m exported w z) (numbers_exist p w args ns))
+    entered_sound p typings typed g m w (enters_call p m args w) (owned_fares p g.file g.ops typings typed w m (obj_id (global_number w.heap (last_script p))) (numbers args) z (owned_by_script p g.file g.ops typings typed m exported w z) (numbers_exist p w args ns))

@@ -1,5 +1,5 @@
 -- A method trait of the last script: its method has a body, and runs on the script's global object.
-use Rattle.std.proofs.Common.{◌≡◌, inl, inr, ℕ, ◌-◌, ◌<◌, List, [], ◌∷◌, length, refl, sym, ap, subst, arith}
+use Rattle.std.proofs.Common.{◌≡◌, inl, inr, ℕ, ◌<◌, List, [], ◌∷◌, length, refl, sym, ap, ◌∙◌, subst, arith}
 use Rattle.std.specs.Prelude.{Some}
 use Rattle.abc_fits.proofs.ClassesFit.{script_fits}
 use Rattle.abc_fits.proofs.Combined.{position_fits}
@@ -28,7 +28,7 @@ use Rattle.abc_typing.proofs.Member.{in_left, in_right}
 use Rattle.abc_world.specs.Entering.{global}
 use Rattle.abc_world.specs.Objects.{place, place_of_owner}
 use Rattle.abc_world.specs.Setting.{Setting}
-use Rattle.abc_world.specs.World.{Went, World}
+use Rattle.abc_world.specs.World.{World}
 use Rattle.abc_meaning.specs.Sound.{AreTypings, IsOfKind, Typings, WorldSound}
 use Rattle.abc_meaning.specs.Throwing.{last_script}
 use Rattle.abc_sound.specs.Given.{FileGiven, OpsGiven, OwnedSound}
@@ -62,7 +62,7 @@ naming_among o (x ∷ xs) t disp m h e = elim h [
   | inr more ↦ in_right (naming o m) (namings_in o x.body) (namings_among o xs) (naming_among o xs t disp m more e)
 ]
 
-module _ (p : Setting) (file : FileGiven p) (m : ℕ) (exported : IsScriptMethod p m) where
+module _ (p : Setting) (file : FileGiven p) (ops : OpsGiven p) (typings : Typings) (typed : AreTypings p typings) (m : ℕ) (exported : IsScriptMethod p m) where
   abbrev s : ℕ
   s = last_script p
 
@@ -89,5 +89,5 @@ module _ (p : Setting) (file : FileGiven p) (m : ℕ) (exported : IsScriptMethod
     kept = ap (λ (o : Owner). place_of_owner o w) owner_is;
     home = there;
     saved = inside w.heap.scopes s _ (scope_made p.linked w.heap s z.stands there);
-    this = subst (λ (o : Owner). IsOfKind p.linked w.heap (this_kind p.linked o) (global s w)) (sym owner_is) (global_kind p file w s z there);
+    this = subst (λ (o : Owner). IsOfKind p.linked w.heap (this_kind p.linked o) (global s w)) (sym owner_is) (global_kind p file ops typings typed w s z there);
   }

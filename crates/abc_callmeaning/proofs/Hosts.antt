@@ -1,14 +1,12 @@
 -- A sound world knows the names of the host's formulas alone.
-use Rattle.std.proofs.Common.{◌≡◌, ℕ, List, refl, sym, ◌∙◌}
-use Rattle.std.specs.Prelude.{slice_get, Some, None}
-use Rattle.std.specs.declared.option.Option.{Option}
+use Rattle.std.proofs.Common.{ℕ, List, ◌∙◌}
 use Rattle.abc_base.specs.declared.formula.Formula.{Formula}
 use Rattle.abc_heap.specs.Heap.{Heap, Object}
 use Rattle.abc_heap.specs.declared.records.What.{What}
 use Rattle.abc_heap.specs.declared.records.What.TheVariants as whats
 use Rattle.abc_program.specs.Linked.{LinkedFile}
 use Rattle.abc_world.specs.Setting.{Setting}
-use Rattle.abc_meaning.specs.Sound.{ObjectSound, WhatSound, WorldSound}
+use Rattle.abc_meaning.specs.Sound.{ObjectSound, WhatSound}
 use Rattle.abc_callmeaning.specs.Laws.{NamesAloneMatter}
 
 module _ (l : LinkedFile) (fs gs : List Formula) where

@@ -1,9 +1,7 @@
 -- What a run, or a call, leaves is sound.
-use Rattle.std.proofs.Common.{◌≡◌, ◌≢◌, ℕ, ℤ, zero, suc, List}
-use Rattle.abc_base.specs.Ranges.{IsNumber}
+use Rattle.std.proofs.Common.{◌≢◌, ℕ, zero, suc, refl}
 use Rattle.abc_cells.specs.declared.values.Value.{Value}
 use Rattle.abc_cells.specs.declared.values.Value.TheVariants.{Undefined}
-use Rattle.abc_typing.specs.Lists.{Each}
 use Rattle.abc_world.specs.Setting.{Setting}
 use Rattle.abc_world.specs.World.{World}
 use Rattle.abc_meaning.specs.Laws.{IsVerified}
@@ -12,8 +10,8 @@ use Rattle.abc_meaning.specs.Sound.{AreTypings, IsSound, SteppedSound, Typings, 
 use Rattle.abc_meaning.specs.Step.{step}
 use Rattle.abc_meaning.specs.Throwing.{Done, End, Ends, FuelSpent, Full, Machine, Profile, Stepped, Steps, Stuck, Uncaught}
 use Rattle.abc_unstuck.proofs.Never.{stays_sound}
-use Rattle.abc_callmeaning.specs.Calls.{EndsAs, Replied, Reply, begins_call, call_meaning, replies_for, returned, silent, then_replies}
-use Rattle.abc_callmeaning.specs.Laws.{CallsLeaveSound, IsScriptMethod, RunsLeaveSound}
+use Rattle.abc_callmeaning.specs.Calls.{EndsAs, Replied, begins_call, call_meaning, replies_for, returned, silent, then_replies}
+use Rattle.abc_callmeaning.specs.Laws.{CallsLeaveSound, RunsLeaveSound}
 use Rattle.abc_callmeaning.proofs.Called.{call_begins}
 
 module _ (p : Setting) (typings : Typings) (v : IsVerified p) (typed : AreTypings p typings) where

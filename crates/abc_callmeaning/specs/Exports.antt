@@ -1,5 +1,5 @@
 -- The functions that a file exports: the method traits of its last script whose names are public.
-use Rattle.std.specs.Prelude.{ℕ, List, Bool, false, ◌&&◌, Some, None}
+use Rattle.std.specs.Prelude.{ℕ, List, Bool, true, false, ◌&&◌, Some, None}
 use Rattle.std.specs.declared.option.Option.{Option}
 use Rattle.std.specs.List.{find}
 use Rattle.std.specs.Str.{bytes_eq}
@@ -22,7 +22,7 @@ has_public_name v s d = bytes_eq (text v d.string) s && is_public v d.ns
 
 abbrev pub is_method : Option ℕ → Bool
 is_method None = false
-is_method (Some m) = Rattle.std.specs.Prelude.true
+is_method (Some m) = true
 
 abbrev pub is_export : Abc → List ℕ → TraitInfo → Bool
 is_export v s t = is_method (method_in t.body) && has_public_name v s (qname (name v t.name))
