@@ -22,7 +22,7 @@ use Rattle.abc_unstuck.proofs.Searched.{search_given}
 use Rattle.abc_unstuck.proofs.Starting.{begins_sound}
 use Rattle.abc_given.proofs.Verified.{file_given}
 
-given : (p : Setting) → IsVerified p → Given p
+pub given : (p : Setting) → IsVerified p → Given p
 given p v =
     let file = file_given p v.linked in
     let scopes = scopes_given p v.linked in
@@ -40,13 +40,13 @@ module _ (p : Setting) (v : IsVerified p) where
   states_of None low = λ place. None
   states_of (Some b) low = (v.typed b (low b refl)).0
 
-  body_low : (n b : ℕ) → body_of p.linked.file n ≡ Some b → b < length p.linked.file.bodies
+  pub body_low : (n b : ℕ) → body_of p.linked.file n ≡ Some b → b < length p.linked.file.bodies
   body_low n b e = (body_is p.linked v.linked n b e).low
 
-  abbrev typings : Typings
+  abbrev pub typings : Typings
   typings n = states_of (body_of p.linked.file n) (body_low n)
 
-  are_typings : AreTypings p typings
+  pub are_typings : AreTypings p typings
   are_typings n r e = go (body_of p.linked.file n) (body_low n) e
     where
       go : (o : Option ℕ) (low : (b : ℕ) → o ≡ Some b → b < length p.linked.file.bodies) → routine_in p o ≡ Some r → IsTyping p.linked r (states_of o low)

@@ -1,0 +1,5 @@
+pub mod Exported
+pub mod Called
+pub mod Left
+pub mod Appended
+pub mod Hosts
