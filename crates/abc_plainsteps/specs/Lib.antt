@@ -1,0 +1,5 @@
+pub mod Here
+pub mod Spelled
+pub mod Ready
+pub mod Groups
+pub mod Reads
