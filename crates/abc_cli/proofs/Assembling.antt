@@ -15,11 +15,11 @@ use Rattle.abc_rowparts.specs.Rows.{fault}
 use Rattle.abc_tables.specs.declared.tables.Abc.{Abc}
 use Rattle.abc_tables.specs.Files.{file_bytes}
 use Rattle.abc_text.specs.declared.reason.AsmReason.TheVariants as reasons
-use Rattle.abc_words.specs.declared.command.Command.TheVariants as commands
 use Rattle.abc_cli.specs.declared.stop.Stop.{Stop}
 use Rattle.abc_cli.specs.declared.stop.Stop.TheVariants as stops
 use Rattle.abc_cli.specs.End.{Channel, HasFailed}
-use Rattle.abc_cli.specs.Outcome.{Asm, CommandOutcome, OutcomeOf, given, text_limit}
+use Rattle.abc_cli.specs.Answers.{given}
+use Rattle.abc_cli.specs.Outcome.{Asm, On, text_limit}
 use Rattle.abc_cli.specs.Stops.{Gives, Stops, StopsAt, stop_answer, stop_of_asm, stop_of_input}
 use Rattle.abc_cli.proofs.Ending.{memory_stops, memory_stops_at}
 
@@ -52,14 +52,14 @@ zeros_length (suc n) = ap suc (zeros_length n)
 longer : (n : ℕ) → n < length (zeros (n + 1))
 longer n = let e = zeros_length (n + 1) in omega arith
 
-too_long : (a : Option (List ℕ)) → IfSome a (λ input. text_limit < length input) → CommandOutcome commands.Asm a (stop_answer (stops.Text 0 reasons.TextTooLong))
+too_long : (a : Option (List ℕ)) → IfSome a (λ input. text_limit < length input) → On Asm a (stop_answer (stops.Text 0 reasons.TextTooLong))
 too_long None h = (zeros (text_limit + 1), Asm.too_long (longer text_limit) refl)
 too_long (Some x) h = Asm.too_long h refl
 
-pub input_stops : (source : Channel) (e : InputError) → (e ≡ inputs.TooLong → IfSome source.before (λ input. text_limit < length input)) → (e ≡ inputs.ReadFault → HasFailed source) → Stops commands.Asm source (stop_of_input e)
+pub input_stops : (source : Channel) (e : InputError) → (e ≡ inputs.TooLong → IfSome source.before (λ input. text_limit < length input)) → (e ≡ inputs.ReadFault → HasFailed source) → Stops Asm source (stop_of_input e)
 input_stops source inputs.TooLong long cause = record { outcome = λ d. too_long source.before (long refl); cause = λ h. absurd cc }
 input_stops source inputs.ReadFault long cause = record { outcome = λ d. absurd d; cause = λ h. cause refl }
-input_stops source inputs.NoMemory long cause = memory_stops commands.Asm source
+input_stops source inputs.NoMemory long cause = memory_stops Asm source
 
 -- ---- a text
 
@@ -72,14 +72,14 @@ assembled_gives text bytes v short is e = Asm.assembled v short is (ap given e)
 
 -- ---- the command
 
-pub text_gives : (source : Channel) (text bytes : List ℕ) → Consumes source.before source.after text → IsAtEnd source.after → Asm text (given bytes) → Gives commands.Asm source bytes
+pub text_gives : (source : Channel) (text bytes : List ℕ) → Consumes source.before source.after text → IsAtEnd source.after → Asm text (given bytes) → Gives Asm source bytes
 text_gives source text bytes taken end x = record {
-  outcome = held (λ input. OutcomeOf commands.Asm input (given bytes)) source.before source.after text taken end x;
+  outcome = held (λ input. Asm input (given bytes)) source.before source.after text taken end x;
   used_up = held_whole source.before source.after text taken end;
 }
 
-pub text_stops : (source : Channel) (text : List ℕ) (stop : Stop) → Consumes source.before source.after text → IsAtEnd source.after → StopsAt (Asm text) stop → Stops commands.Asm source stop
+pub text_stops : (source : Channel) (text : List ℕ) (stop : Stop) → Consumes source.before source.after text → IsAtEnd source.after → StopsAt (Asm text) stop → Stops Asm source stop
 text_stops source text stop taken end x = record {
-  outcome = λ d. held (λ input. OutcomeOf commands.Asm input (stop_answer stop)) source.before source.after text taken end (x.answer d);
+  outcome = λ d. held (λ input. Asm input (stop_answer stop)) source.before source.after text taken end (x.answer d);
   cause = λ e. absurd (x.read e);
 }

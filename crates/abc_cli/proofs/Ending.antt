@@ -1,9 +1,11 @@
 -- How the ways to end follow from what was written.
 use Rattle.std.proofs.Common.{◌≡◌, ℕ, All, inl, inr, List, [], Some, None, Ok, Err, refl, sym, ap, ◌∙◌, subst}
-use Rattle.std.specs.Prelude.{is_ok, if◌then◌else◌, IsSome}
+use Rattle.std.specs.Prelude.{is_ok, if◌then◌else◌, IfErr, IfOk, IsSome}
 use Rattle.std.proofs.lemmas.List.{append-nil}
 use Rattle.std.specs.declared.option.Option.{Option}
+use Rattle.std.specs.declared.alloc.Global.{Global}
 use Rattle.std.specs.declared.result.Result.{Result}
+use Rattle.std.specs.declared.vec.Vec.{Vec}
 use Rattle.std.specs.Io.KnownBytes.{append_known}
 use Rattle.abc_base.specs.Faults.{HasCause}
 use Rattle.abc_base.specs.Sinks.{WritesAll}
@@ -20,14 +22,13 @@ use Rattle.abc_tables.proofs.Whole.{file_ready, read_spelled}
 use Rattle.abc_tidy.specs.declared.error.TidyError.{TidyError}
 use Rattle.abc_tidy.specs.declared.error.TidyError.TheVariants as tidying
 use Rattle.abc_tidy.specs.Rules.{IsTidied, IsTidyError}
-use Rattle.abc_words.specs.declared.command.Command.{Command}
-use Rattle.abc_words.specs.declared.command.Command.TheVariants as commands
 use Rattle.abc_cli.specs.declared.stop.Stop.{Stop}
 use Rattle.abc_cli.specs.declared.stop.Stop.TheVariants as stops
 use Rattle.abc_cli.specs.Lines.{read_fault_text, refusal_text, write_fault_text, no_memory_text}
-use Rattle.abc_cli.specs.Outcome.{Answer, told, given, Canon, Check, CommandOutcome, Dis, OfFile, OfFileRead, OutcomeOf, Tidy}
-use Rattle.abc_cli.specs.Stops.{Gives, Stops, StopsAt, stop_answer, stop_of_read, stop_of_tidy}
-use Rattle.abc_cli.specs.End.{Channel, channel, Got, GotFront, HasFailed, GivesLine, Ends, IsEnd}
+use Rattle.abc_cli.specs.Answers.{Answer, told, given, OfFile, OfFileRead}
+use Rattle.abc_cli.specs.Outcome.{Canon, On, Tidy}
+use Rattle.abc_cli.specs.Stops.{Gives, IsGiven, Stops, StopsAt, stop_answer, stop_of_read, stop_of_tidy}
+use Rattle.abc_cli.specs.End.{Channel, channel, Got, GotFront, HasFailed, GivesBytes, GivesLine, Ends, IsEnd, UsesUp}
 
 -- a line that was written or not
 pub gives : {T E : Type 0} (before after : Option (List ℕ)) (n m : ℕ) (a : Answer) (written : Result T E) (s : Status)
@@ -84,20 +85,23 @@ pub any_input : (P : List ℕ → Type 0) (left : Option (List ℕ)) → ((b : L
 any_input P None f = ([], f [])
 any_input P (Some b) f = f b
 
-pub gave : (command : Command) (source out err : Channel) (bytes : List ℕ) (s : Status) → Gives command source bytes → IsEnd (λ a. a ≡ given bytes) ⊥ out err s → Ends (CommandOutcome command) source out err s
-gave command source out err bytes s g end =
-    weaker (λ a. a ≡ given bytes) (CommandOutcome command source.before) ⊥ (HasFailed source) out err s
-    (λ a e. subst (λ (x : Answer). CommandOutcome command source.before x) (sym e) g.outcome) (λ h. absurd h) end
+-- bytes of an answer without a line
+pub bytes_end : (P : Answer → Type 0) (F : Type 0) (out err : Channel) (bytes : List ℕ) (s : Status) → P (given bytes) → GivesBytes out err bytes s → IsEnd P F out err s
+bytes_end P F out err bytes s p (inl g) = at_status P F out err s status.Done g.2 (IsEnd.defined (given bytes) p g.0 g.1)
+bytes_end P F out err bytes s p (inr g) = bytes_failed P F out err (given bytes) s p g.0 g.1 g.2
 
-pub stopped : (command : Command) (source out err : Channel) (stop : Stop) (s : Status) → Stops command source stop → Got out [] → GivesLine err (stop_answer stop) s → Ends (CommandOutcome command) source out err s
-stopped command source out err (stops.File place reason) s x o g = line_ends (CommandOutcome command source.before) (HasFailed source) out err (stop_answer (stops.File place reason)) s (x.outcome tt) o g
-stopped command source out err (stops.Text line reason) s x o g = line_ends (CommandOutcome command source.before) (HasFailed source) out err (stop_answer (stops.Text line reason)) s (x.outcome tt) o g
-stopped command source out err (stops.Item i rule) s x o g = line_ends (CommandOutcome command source.before) (HasFailed source) out err (stop_answer (stops.Item i rule)) s (x.outcome tt) o g
-stopped command source out err (stops.Code m offset rule) s x o g = line_ends (CommandOutcome command source.before) (HasFailed source) out err (stop_answer (stops.Code m offset rule)) s (x.outcome tt) o g
-stopped command source out err (stops.Tidy rule i) s x o g = line_ends (CommandOutcome command source.before) (HasFailed source) out err (stop_answer (stops.Tidy rule i)) s (x.outcome tt) o g
-stopped command source out err stops.NotBuilt s x o g = line_ends (CommandOutcome command source.before) (HasFailed source) out err (stop_answer stops.NotBuilt) s (x.outcome tt) o g
-stopped command source out err stops.ReadFault s x o g = read_failed (CommandOutcome command source.before) (HasFailed source) out err s (x.cause refl) o g
-stopped command source out err stops.NoMemory s x o g = memory_failed (CommandOutcome command source.before) (HasFailed source) out err s o g
+pub gave : (Outcome : List ℕ → Answer → Type 0) (source out err : Channel) (bytes : List ℕ) (s : Status) → Gives Outcome source bytes → GivesBytes out err bytes s → Ends (On Outcome) source out err s
+gave Outcome source out err bytes s g end = bytes_end (On Outcome source.before) (HasFailed source) out err bytes s g.outcome end
+
+pub stopped : (Outcome : List ℕ → Answer → Type 0) (source out err : Channel) (stop : Stop) (s : Status) → Stops Outcome source stop → Got out [] → GivesLine err (stop_answer stop) s → Ends (On Outcome) source out err s
+stopped Outcome source out err (stops.File place reason) s x o g = line_ends (On Outcome source.before) (HasFailed source) out err (stop_answer (stops.File place reason)) s (x.outcome tt) o g
+stopped Outcome source out err (stops.Text line reason) s x o g = line_ends (On Outcome source.before) (HasFailed source) out err (stop_answer (stops.Text line reason)) s (x.outcome tt) o g
+stopped Outcome source out err (stops.Item i rule) s x o g = line_ends (On Outcome source.before) (HasFailed source) out err (stop_answer (stops.Item i rule)) s (x.outcome tt) o g
+stopped Outcome source out err (stops.Code m offset rule) s x o g = line_ends (On Outcome source.before) (HasFailed source) out err (stop_answer (stops.Code m offset rule)) s (x.outcome tt) o g
+stopped Outcome source out err (stops.Tidy rule i) s x o g = line_ends (On Outcome source.before) (HasFailed source) out err (stop_answer (stops.Tidy rule i)) s (x.outcome tt) o g
+stopped Outcome source out err stops.NotBuilt s x o g = line_ends (On Outcome source.before) (HasFailed source) out err (stop_answer stops.NotBuilt) s (x.outcome tt) o g
+stopped Outcome source out err stops.ReadFault s x o g = read_failed (On Outcome source.before) (HasFailed source) out err s (x.cause refl) o g
+stopped Outcome source out err stops.NoMemory s x o g = memory_failed (On Outcome source.before) (HasFailed source) out err s o g
 
 stop_not_done : (stop : Stop) → (stop_answer stop).status ≡ status.Done → ⊥
 stop_not_done (stops.File place reason) h = cc
@@ -113,47 +117,56 @@ pub not_done : (err : Channel) (stop : Stop) (s : Status) → GivesLine err (sto
 not_done err stop s (inl g) h = stop_not_done stop (sym g.1 ∙ h)
 not_done err stop s (inr g) h = let k = g.2 in cc
 
-pub memory_stops : (command : Command) (source : Channel) → Stops command source stops.NoMemory
-memory_stops command source = record { outcome = λ d. absurd d; cause = λ h. absurd cc }
+-- what a command gives is written, or the line that says why it gives nothing
+pub finished : (Outcome : List ℕ → Answer → Type 0) (source out err : Channel) (done : Result (Vec ℕ Global) Stop) (s : Status)
+    → IfOk done (λ bytes. Gives Outcome source bytes.items) → IfErr done (λ stop. Stops Outcome source stop) → IsGiven done out err s → Ends (On Outcome) source out err s
+finished Outcome source out err (Ok bytes) s g x end = gave Outcome source out err bytes.items s g end
+finished Outcome source out err (Err stop) s g x end = stopped Outcome source out err stop s x end.0 end.1
 
--- ---- commands on a file
+pub finished_used_up : (Outcome : List ℕ → Answer → Type 0) (source out err : Channel) (done : Result (Vec ℕ Global) Stop) (s : Status)
+    → IfOk done (λ bytes. Gives Outcome source bytes.items) → IsGiven done out err s → UsesUp source s
+finished_used_up Outcome source out err (Ok bytes) s g end = λ e. g.used_up
+finished_used_up Outcome source out err (Err stop) s g end = λ e. absurd (not_done err stop s end.1 e)
 
--- the outcome of a command that is one on a file, with the starts of its instructions as they were read
-pub record IsOnFile (command : Command) (Answers : Abc → List (List ℕ) → Answer → Type 0) : Type 0 where
-  pub accepted : (v : Abc) (starts : List (List ℕ)) (input : List ℕ) (a : Answer) → IsFileRead (v, starts) input → Answers v starts a → OutcomeOf command input a
-  pub refused : (r : Refusal) (input : List ℕ) → IsBadFile input r → OutcomeOf command input (told status.Refused (refusal_text r))
+pub memory_stops : (Outcome : List ℕ → Answer → Type 0) (source : Channel) → Stops Outcome source stops.NoMemory
+memory_stops Outcome source = record { outcome = λ d. absurd d; cause = λ h. absurd cc }
 
--- a command that speaks of the file alone
+-- more may be the outcome
+pub stops_as : (P Q : List ℕ → Answer → Type 0) (source : Channel) (stop : Stop) → ((input : List ℕ) (a : Answer) → P input a → Q input a) → Stops P source stop → Stops Q source stop
+stops_as P Q source stop f x = record {
+  outcome = λ d. of_any (λ input. P input (stop_answer stop)) (λ input. Q input (stop_answer stop)) source.before (λ input. f input (stop_answer stop)) (x.outcome d);
+  cause = x.cause;
+}
+
+-- ---- outcomes on a file
+
+-- the outcome is one on a file, with the starts of its instructions as they were read
+pub record IsOnFile (Outcome : List ℕ → Answer → Type 0) (Answers : Abc → List (List ℕ) → Answer → Type 0) : Type 0 where
+  pub accepted : (v : Abc) (starts : List (List ℕ)) (input : List ℕ) (a : Answer) → IsFileRead (v, starts) input → Answers v starts a → Outcome input a
+  pub refused : (r : Refusal) (input : List ℕ) → IsBadFile input r → Outcome input (told status.Refused (refusal_text r))
+
+-- one that speaks of the file alone
 abbrev pub alone : (Abc → Answer → Type 0) → Abc → List (List ℕ) → Answer → Type 0
 alone Answers v starts a = Answers v a
 
-pub on_file : (command : Command) (Answers : Abc → Answer → Type 0) → ((input : List ℕ) (a : Answer) → OfFile Answers input a → OutcomeOf command input a) → IsOnFile command (alone Answers)
-on_file command Answers on = record {
-  accepted = λ v starts input a r x. on input a (OfFile.accepted v (read_spelled (v, starts) input r.0, r.1) x);
-  refused = λ r input bad. on input (told status.Refused (refusal_text r)) (OfFile.refused r bad refl);
+pub on_file : (Answers : Abc → Answer → Type 0) → IsOnFile (OfFile Answers) (alone Answers)
+on_file Answers = record {
+  accepted = λ v starts input a r x. OfFile.accepted v (read_spelled (v, starts) input r.0, r.1) x;
+  refused = λ r input bad. OfFile.refused r bad refl;
 }
 
-pub on_canon : IsOnFile commands.Canon (alone Canon)
-on_canon = on_file commands.Canon Canon (λ input a o. o)
+pub on_file_read : (Answers : Abc → List (List ℕ) → Answer → Type 0) → IsOnFile (OfFileRead Answers) Answers
+on_file_read Answers = record { accepted = λ v starts input a r x. OfFileRead.accepted v starts r x; refused = λ r input bad. OfFileRead.refused r bad refl }
 
-pub on_dis : IsOnFile commands.Dis (alone Dis)
-on_dis = on_file commands.Dis Dis (λ input a o. o)
-
-pub on_tidy : IsOnFile commands.Tidy (alone Tidy)
-on_tidy = on_file commands.Tidy Tidy (λ input a o. o)
-
-pub on_check : IsOnFile commands.Check Check
-on_check = record { accepted = λ v starts input a r x. OfFileRead.accepted v starts r x; refused = λ r input bad. OfFileRead.refused r bad refl }
-
-pub read_stops : (command : Command) (Answers : Abc → List (List ℕ) → Answer → Type 0) → IsOnFile command Answers → (source : Channel) (e : ReadError) → IsFaultOf source.before e → (e ≡ errors.ReadFault → HasFailed source)
-    → Stops command source (stop_of_read e)
-read_stops command Answers on source (errors.Refused place reason) f cause = record {
-  outcome = λ d. of_any (Refuses (errors.Refused place reason)) (λ input. OutcomeOf command input (stop_answer (stops.File place reason))) source.before
+pub read_stops : (Outcome : List ℕ → Answer → Type 0) (Answers : Abc → List (List ℕ) → Answer → Type 0) → IsOnFile Outcome Answers → (source : Channel) (e : ReadError) → IsFaultOf source.before e → (e ≡ errors.ReadFault → HasFailed source)
+    → Stops Outcome source (stop_of_read e)
+read_stops Outcome Answers on source (errors.Refused place reason) f cause = record {
+  outcome = λ d. of_any (Refuses (errors.Refused place reason)) (λ input. Outcome input (stop_answer (stops.File place reason))) source.before
       (λ b bad. on.refused (refusal place reason) b bad) f;
   cause = λ h. absurd cc;
 }
-read_stops command Answers on source errors.ReadFault f cause = record { outcome = λ d. absurd d; cause = λ h. cause refl }
-read_stops command Answers on source errors.NoMemory f cause = memory_stops command source
+read_stops Outcome Answers on source errors.ReadFault f cause = record { outcome = λ d. absurd d; cause = λ h. cause refl }
+read_stops Outcome Answers on source errors.NoMemory f cause = memory_stops Outcome source
 
 fault_read : (e : ReadError) (b : List ℕ) → AnswersFile b (Err e) → Refuses e b
 fault_read (errors.Refused place reason) b x = x
@@ -161,31 +174,31 @@ fault_read errors.ReadFault b x = tt
 fault_read errors.NoMemory b x = tt
 
 -- the same where the file itself was to be read
-pub file_stops : (command : Command) (Answers : Abc → List (List ℕ) → Answer → Type 0) → IsOnFile command Answers → (source : Channel) (e : ReadError) → OfInput source.before (λ b. AnswersFile b (Err e))
-    → (e ≡ errors.ReadFault → HasFailed source) → Stops command source (stop_of_read e)
-file_stops command Answers on source e f cause = read_stops command Answers on source e (of_any (λ b. AnswersFile b (Err e)) (Refuses e) source.before (fault_read e) f) cause
+pub file_stops : (Outcome : List ℕ → Answer → Type 0) (Answers : Abc → List (List ℕ) → Answer → Type 0) → IsOnFile Outcome Answers → (source : Channel) (e : ReadError) → OfInput source.before (λ b. AnswersFile b (Err e))
+    → (e ≡ errors.ReadFault → HasFailed source) → Stops Outcome source (stop_of_read e)
+file_stops Outcome Answers on source e f cause = read_stops Outcome Answers on source e (of_any (λ b. AnswersFile b (Err e)) (Refuses e) source.before (fault_read e) f) cause
 
 -- what a file that was read is answered with
-pub file_answered : (command : Command) (Answers : Abc → List (List ℕ) → Answer → Type 0) → IsOnFile command Answers → (left : Option (List ℕ)) (v : Abc) (starts : List (List ℕ)) (a : Answer)
-    → OfInput left (λ b. AnswersFile b (Ok (v, starts))) → Answers v starts a → CommandOutcome command left a
-file_answered command Answers on left v starts a f x =
-    of_any (λ b. AnswersFile b (Ok (v, starts))) (λ input. OutcomeOf command input a) left (λ b r. on.accepted v starts b a r x) f
+pub file_answered : (Outcome : List ℕ → Answer → Type 0) (Answers : Abc → List (List ℕ) → Answer → Type 0) → IsOnFile Outcome Answers → (left : Option (List ℕ)) (v : Abc) (starts : List (List ℕ)) (a : Answer)
+    → OfInput left (λ b. AnswersFile b (Ok (v, starts))) → Answers v starts a → On Outcome left a
+file_answered Outcome Answers on left v starts a f x =
+    of_any (λ b. AnswersFile b (Ok (v, starts))) (λ input. Outcome input a) left (λ b r. on.accepted v starts b a r x) f
 
-pub file_gives : (command : Command) (Answers : Abc → List (List ℕ) → Answer → Type 0) → IsOnFile command Answers → (source : Channel) (v : Abc) (starts : List (List ℕ)) (bytes : List ℕ)
-    → OfInput source.before (λ b. AnswersFile b (Ok (v, starts))) → IsUsedUp source.before source.after → Answers v starts (given bytes) → Gives command source bytes
-file_gives command Answers on source v starts bytes f used x = record { outcome = file_answered command Answers on source.before v starts (given bytes) f x; used_up = used }
+pub file_gives : (Outcome : List ℕ → Answer → Type 0) (Answers : Abc → List (List ℕ) → Answer → Type 0) → IsOnFile Outcome Answers → (source : Channel) (v : Abc) (starts : List (List ℕ)) (bytes : List ℕ)
+    → OfInput source.before (λ b. AnswersFile b (Ok (v, starts))) → IsUsedUp source.before source.after → Answers v starts (given bytes) → Gives Outcome source bytes
+file_gives Outcome Answers on source v starts bytes f used x = record { outcome = file_answered Outcome Answers on source.before v starts (given bytes) f x; used_up = used }
 
-pub file_stops_at : (command : Command) (Answers : Abc → List (List ℕ) → Answer → Type 0) → IsOnFile command Answers → (source : Channel) (v : Abc) (starts : List (List ℕ)) (stop : Stop)
-    → OfInput source.before (λ b. AnswersFile b (Ok (v, starts))) → StopsAt (Answers v starts) stop → Stops command source stop
-file_stops_at command Answers on source v starts stop f x =
-    record { outcome = λ d. file_answered command Answers on source.before v starts (stop_answer stop) f (x.answer d); cause = λ e. absurd (x.read e) }
+pub file_stops_at : (Outcome : List ℕ → Answer → Type 0) (Answers : Abc → List (List ℕ) → Answer → Type 0) → IsOnFile Outcome Answers → (source : Channel) (v : Abc) (starts : List (List ℕ)) (stop : Stop)
+    → OfInput source.before (λ b. AnswersFile b (Ok (v, starts))) → StopsAt (Answers v starts) stop → Stops Outcome source stop
+file_stops_at Outcome Answers on source v starts stop f x =
+    record { outcome = λ d. file_answered Outcome Answers on source.before v starts (stop_answer stop) f (x.answer d); cause = λ e. absurd (x.read e) }
 
 pub memory_stops_at : (Answers : Answer → Type 0) → StopsAt Answers stops.NoMemory
 memory_stops_at Answers = record { answer = λ d. absurd d; read = λ e. absurd cc }
 
-pub canonical_gives : (source : Channel) (bytes : List ℕ) → IsCanonicalOf source.before bytes → IsUsedUp source.before source.after → Gives commands.Canon source bytes
+pub canonical_gives : (source : Channel) (bytes : List ℕ) → IsCanonicalOf source.before bytes → IsUsedUp source.before source.after → Gives (OfFile Canon) source bytes
 canonical_gives source bytes f used = record {
-  outcome = of_any (Canonises bytes) (λ input. OutcomeOf commands.Canon input (given bytes)) source.before (λ b x. OfFile.accepted x.0 x.1 (ap given x.2)) f;
+  outcome = of_any (Canonises bytes) (λ input. OfFile Canon input (given bytes)) source.before (λ b x. OfFile.accepted x.0 x.1 (ap given x.2)) f;
   used_up = used;
 }
 

@@ -1,8 +1,10 @@
 -- What the reading of the words says of the outcome.
-use Rattle.std.proofs.Common.{◌≡◌, ℕ, false, inl, inr, ◌⊎◌, Some, None, List, [], Ok, Err, refl, ap, subst}
-use Rattle.std.specs.Prelude.{◌↔◌}
+use Rattle.std.proofs.Common.{◌≡◌, ℕ, false, inl, inr, ◌⊎◌, Some, None, List, [], Ok, Err, refl, sym, ap, subst}
+use Rattle.std.specs.Prelude.{◌↔◌, IfErr, IfOk}
 use Rattle.std.specs.declared.option.Option.{Option}
+use Rattle.std.specs.declared.alloc.Global.{Global}
 use Rattle.std.specs.declared.result.Result.{Result}
+use Rattle.std.specs.declared.vec.Vec.{Vec}
 use Rattle.abc_base.specs.declared.status.Status.{Status}
 use Rattle.abc_base.specs.declared.status.Status.TheVariants as status
 use Rattle.abc_words.specs.declared.command.Command.{Command}
@@ -12,12 +14,14 @@ use Rattle.abc_words.specs.declared.command.GenOptions.{GenOptions}
 use Rattle.abc_words.specs.declared.command.Usage.{Usage}
 use Rattle.abc_words.specs.declared.command.Usage.TheVariants as usages
 use Rattle.abc_words.specs.Grammar.{IsUsageWord, Says}
-use Rattle.abc_cli.specs.Outcome.{Answer, Canon, Check, CommandOutcome, Dis, OfFile, OfFileRead, OutcomeOf, Tidy, UsageOutcome, usage_answer, IsUsage, AsksNoInput, reads_input, not_built, Asm}
+use Rattle.abc_cli.specs.Answers.{Answer, OfFile, OfFileRead, Unverified}
+use Rattle.abc_cli.specs.Outcome.{Canon, Check, CommandOutcome, Dis, OutcomeOf, Tidy, UsageOutcome, usage_answer, IsUsage, AsksNoInput, reads_input, not_built, Asm}
 use Rattle.abc_tables.specs.declared.tables.Abc.{Abc}
-use Rattle.abc_cli.specs.End.{Channel, GivesLine, IsEnd}
-use Rattle.abc_cli.specs.Stops.{Stops}
+use Rattle.abc_cli.specs.End.{Channel, Ends, GivesLine, IsEnd}
+use Rattle.abc_cli.specs.Stops.{Gives, IsGiven, Stops}
+use Rattle.abc_cli.specs.declared.stop.Stop.{Stop}
 use Rattle.abc_cli.specs.declared.stop.Stop.TheVariants as stops
-use Rattle.abc_cli.proofs.Ending.{any_input}
+use Rattle.abc_cli.proofs.Ending.{any_input, finished}
 
 -- the answers of words outside the grammar are those that reading the words finds
 pub usage_found : (words : List (List ℕ)) (r : Result Command Usage) → ((r ≡ Err usages.NoCommand) ↔ (words ≡ [])) → ((i : ℕ) → (r ≡ Err (usages.Word i)) ↔ IsUsageWord words i)
@@ -63,10 +67,13 @@ file_not_usage : (Answers : Abc → Answer → Type 0) → ((v : Abc) (a : Answe
 file_not_usage Answers not input a (OfFile.accepted v f x) e = not v a x e
 file_not_usage Answers not input a (OfFile.refused r f x) e = let h = ap (λ (y : Answer). y.status) x in cc
 
+unverified_not_usage : (v : Abc) (starts : List (List ℕ)) (a : Answer) → Unverified v starts a → a.status ≡ status.Usage → ⊥
+unverified_not_usage v starts a (Unverified.unlinked rule i h x) e = let k = ap (λ (y : Answer). y.status) x in cc
+unverified_not_usage v starts a (Unverified.untyped l m b i rule is linked h x) e = let k = ap (λ (y : Answer). y.status) x in cc
+
 check_not_usage : (v : Abc) (starts : List (List ℕ)) (a : Answer) → Check v starts a → a.status ≡ status.Usage → ⊥
-check_not_usage v starts a (Check.unlinked rule i h x) e = let k = ap (λ (y : Answer). y.status) x in cc
-check_not_usage v starts a (Check.untyped l m b i rule is linked h x) e = let k = ap (λ (y : Answer). y.status) x in cc
-check_not_usage v starts a (Check.verified l is linked typed x) e = let k = ap (λ (y : Answer). y.status) x in cc
+check_not_usage v starts a (Check.unverified u) e = unverified_not_usage v starts a u e
+check_not_usage v starts a (Check.verified l is x) e = let k = ap (λ (y : Answer). y.status) x in cc
 
 checked_not_usage : (input : List ℕ) (a : Answer) → OfFileRead Check input a → a.status ≡ status.Usage → ⊥
 checked_not_usage input a (OfFileRead.accepted v starts f x) e = check_not_usage v starts a x e
@@ -104,25 +111,17 @@ end_not_usage c input F out err s (IsEnd.line_failed a x y z w) e = cc
 end_not_usage c input F out err s (IsEnd.read_line_failed x y z w) e = cc
 end_not_usage c input F out err s (IsEnd.memory_line_failed y z w) e = cc
 
--- ---- commands that are not built
+-- ---- commands
 
-abbrev pub IsNotBuilt : Command → Type 0
-IsNotBuilt (commands.Run options) = Unit {0}
-IsNotBuilt (commands.Gen options) = Unit {0}
-IsNotBuilt _ = ⊥
+pub command_ends : (command c : Command) (source out err : Channel) (done : Result (Vec ℕ Global) Stop) (s : Status) → command ≡ c → IfOk done (λ bytes. Gives (OutcomeOf c) source bytes.items)
+    → IfErr done (λ stop. Stops (OutcomeOf c) source stop) → IsGiven done out err s → Ends (CommandOutcome command) source out err s
+command_ends command c source out err done s e g x end =
+    subst (λ (d : Command). Ends (CommandOutcome d) source out err s) (sym e) (finished (OutcomeOf c) source out err done s g x end)
 
-not_built_outcome : (c : Command) → IsNotBuilt c → (input : List ℕ) → OutcomeOf c input not_built
-not_built_outcome commands.Canon h input = absurd h
-not_built_outcome commands.Dis h input = absurd h
-not_built_outcome commands.Asm h input = absurd h
-not_built_outcome commands.Check h input = absurd h
-not_built_outcome commands.Tidy h input = absurd h
-not_built_outcome (commands.Run options) h input = refl
-not_built_outcome (commands.Gen options) h input = refl
+not_built_stops : (source : Channel) → Stops (λ input a. a ≡ not_built) source stops.NotBuilt
+not_built_stops source = record { outcome = λ d. any_input (λ input. not_built ≡ not_built) source.before (λ input. refl); cause = λ e. absurd cc }
 
-not_built_stops : (c : Command) (source : Channel) → IsNotBuilt c → Stops c source stops.NotBuilt
-not_built_stops c source h = record { outcome = λ d. any_input (λ input. OutcomeOf c input not_built) source.before (not_built_outcome c h); cause = λ e. absurd cc }
-
-pub other_stops : (c : Command) (source : Channel) → (((o : RunOptions) × (c ≡ commands.Run o)) ⊎ ((o : GenOptions) × (c ≡ commands.Gen o))) → Stops c source stops.NotBuilt
-other_stops c source (inl e) = rw e.1 (not_built_stops (commands.Run e.0) source tt)
-other_stops c source (inr e) = rw e.1 (not_built_stops (commands.Gen e.0) source tt)
+pub not_built_ends : (command : Command) (source out err : Channel) (s : Status) → (((o : RunOptions) × (command ≡ commands.Run o)) ⊎ ((o : GenOptions) × (command ≡ commands.Gen o))) → IsGiven (Err stops.NotBuilt) out err s
+    → Ends (CommandOutcome command) source out err s
+not_built_ends command source out err s (inl e) end = command_ends command (commands.Run e.0) source out err (Err stops.NotBuilt) s e.1 tt (not_built_stops source) end
+not_built_ends command source out err s (inr e) end = command_ends command (commands.Gen e.0) source out err (Err stops.NotBuilt) s e.1 tt (not_built_stops source) end

@@ -8,7 +8,7 @@ use Rattle.abc_base.specs.declared.status.Status.{Status}
 use Rattle.abc_base.specs.declared.status.Status.TheVariants as status
 use Rattle.abc_file.specs.Reading.{IsUsedUp}
 use Rattle.abc_cli.specs.Lines.{line, read_fault_text, write_fault_text, no_memory_text}
-use Rattle.abc_cli.specs.Outcome.{Answer}
+use Rattle.abc_cli.specs.Answers.{Answer, told}
 
 -- A stream before and after: the bytes that a source has left, or that were written to a sink, where it tells them, and its count of faults.
 pub record Channel : Type 0 where
@@ -39,6 +39,10 @@ HasFailed c = Rose c.faults_before c.faults_after
 -- the line was written, and the status is its own; or writing it failed
 abbrev pub GivesLine : Channel → Answer → Status → Type 0
 GivesLine err a s = (Got err a.err × (s ≡ a.status)) ⊎ (HasFailed err × GotFront err a.err × (s ≡ status.WriteFault))
+
+-- the bytes were written and nothing else; or writing them failed, and the line says so
+abbrev pub GivesBytes : Channel → Channel → List ℕ → Status → Type 0
+GivesBytes out err bytes s = (Got out bytes × Got err [] × (s ≡ status.Done)) ⊎ (HasFailed out × GotFront out bytes × GivesLine err (told status.WriteFault write_fault_text) s)
 
 -- The run ends with an answer of the outcome, written whole; or with a fault of the source, of a sink or of memory, each with its cause and with what stands.
 pub data IsEnd (Outcome : Answer → Type 0) (SourceFailed : Type 0) (out err : Channel) : Status → Type 0 where

@@ -1,4 +1,5 @@
 pub mod Lines
+pub mod Answers
 pub mod Outcome
 pub mod End
 pub mod Listed

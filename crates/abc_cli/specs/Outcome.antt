@@ -1,60 +1,29 @@
 -- What a command line and an input are answered with.
 use Rattle.std.specs.Prelude.{◌≡◌, ℕ, Bool, true, false, List, [], get_or, length, ◌<◌, ◌≤◌, ◌^◌}
 use Rattle.std.specs.declared.option.Option.{Option}
-use Rattle.abc_base.specs.declared.status.Status.{Status}
 use Rattle.abc_base.specs.declared.status.Status.TheVariants as status
-use Rattle.abc_format.specs.Part.{Refusal}
+use Rattle.abc_file.specs.Reading.{OfInput}
 use Rattle.abc_lines.specs.Answers.{IsAssemblyFault, IsAssemblyOf}
 use Rattle.abc_lines.specs.Listing.{listing}
+use Rattle.abc_program.specs.Linked.{LinkedFile}
 use Rattle.abc_rowparts.specs.Rows.{Fault, fault}
-use Rattle.abc_text.specs.declared.reason.AsmReason.TheVariants as reasons
 use Rattle.abc_tables.specs.declared.tables.Abc.{Abc}
-use Rattle.abc_tables.specs.Files.{IsFile, IsFileRead, IsBadFile, file_bytes}
-use Rattle.abc_file.specs.Reading.{OfInput}
+use Rattle.abc_tables.specs.Files.{file_bytes}
+use Rattle.abc_text.specs.declared.reason.AsmReason.TheVariants as reasons
+use Rattle.abc_tidy.specs.Rules.{IsFirstBroken as IsFirstUntidy, IsTidied}
+use Rattle.abc_tidy.specs.declared.error.TidyRule.{TidyRule}
+use Rattle.abc_words.specs.Grammar.{IsUsageWord, Says}
 use Rattle.abc_words.specs.declared.command.Command.{Command}
 use Rattle.abc_words.specs.declared.command.Command.TheVariants as commands
 use Rattle.abc_words.specs.declared.command.Usage.{Usage}
 use Rattle.abc_words.specs.declared.command.Usage.TheVariants as usages
-use Rattle.abc_words.specs.Grammar.{Says, IsUsageWord}
-use Rattle.abc_items.specs.declared.items.Item.{Item}
-use Rattle.abc_items.specs.declared.items.LinkRule.{LinkRule}
-use Rattle.abc_items.specs.Rules.{IsFirstBroken}
-use Rattle.abc_tidy.specs.declared.error.TidyRule.{TidyRule}
-use Rattle.abc_tidy.specs.Rules.{IsFirstBroken as IsFirstUntidy, IsTidied}
-use Rattle.abc_program.specs.Linked.{IsLinkedFile, LinkedFile}
-use Rattle.abc_typing.specs.declared.rule.VerifyRule.{VerifyRule}
-use Rattle.abc_verify.specs.Refusing.{IsFirstUntyped}
-use Rattle.abc_verify.specs.Typed.{AllTyped}
-use Rattle.abc_cli.specs.Lines.{line, item_text, usage_text, no_command_text, refusal_text, not_built_text, tidy_text, untyped_text, verified_line, fault_text}
-
--- a status, the bytes for `out` and the bytes for `err`
-pub record Answer : Type 0 where
-  pub status : Status
-  pub out : List ℕ
-  pub err : List ℕ
-
--- an answer that writes bytes and no line
-abbrev pub given : List ℕ → Answer
-given bytes = record { status = status.Done; out = bytes; err = [] }
-
--- an answer that writes a line and nothing else
-abbrev pub told : Status → List ℕ → Answer
-told s text = record { status = s; out = []; err = line text }
+use Rattle.abc_cli.specs.Answers.{Answer, IsVerifiedOf, OfFile, OfFileRead, Unverified, given, told}
+use Rattle.abc_cli.specs.Lines.{fault_text, no_command_text, not_built_text, tidy_text, usage_text, verified_line}
 
 abbrev pub not_built : Answer
 not_built = told status.NotBuilt not_built_text
 
 -- ---- commands
-
--- A command on a file: what the file is answered with that the input spells, or the input's first fault.
-pub data OfFile (Answers : Abc → Answer → Type 0) (input : List ℕ) (a : Answer) : Type 0 where
-  accepted : (v : Abc) → IsFile v input → Answers v a → OfFile Answers input a
-  refused : (r : Refusal) → IsBadFile input r → a ≡ told status.Refused (refusal_text r) → OfFile Answers input a
-
--- The same of a command that speaks of code as it was read, by the starts of each body's instructions.
-pub data OfFileRead (Answers : Abc → List (List ℕ) → Answer → Type 0) (input : List ℕ) (a : Answer) : Type 0 where
-  accepted : (v : Abc) (starts : List (List ℕ)) → IsFileRead (v, starts) input → Answers v starts a → OfFileRead Answers input a
-  refused : (r : Refusal) → IsBadFile input r → a ≡ told status.Refused (refusal_text r) → OfFileRead Answers input a
 
 -- `canon` of a file: its canonical bytes
 abbrev pub Canon : Abc → Answer → Type 0
@@ -64,16 +33,10 @@ Canon v a = a ≡ given (file_bytes v)
 abbrev pub Dis : Abc → Answer → Type 0
 Dis v a = a ≡ given (listing v)
 
--- where an instruction of a body began in its code as it was read
-abbrev pub offset_in : List (List ℕ) → ℕ → ℕ → ℕ
-offset_in starts body index = get_or (get_or starts body []) index 0
-
--- `check` of a file that was read so: its first broken rule of linking, by the first item that breaks it; or else the first method
--- without a typing, by a place and a rule that refute each; or else the number of its bodies, each of which has a typing
+-- `check` of a file that was read so: why it isn't verified, or else the number of its bodies
 pub data Check (v : Abc) (starts : List (List ℕ)) (a : Answer) : Type 0 where
-  unlinked : (rule : LinkRule) (i : Item) → IsFirstBroken v rule i → a ≡ told status.Refused (item_text i rule) → Check v starts a
-  untyped : (l : LinkedFile) (m b i : ℕ) (rule : VerifyRule) → l.file ≡ v → IsLinkedFile l → IsFirstUntyped l m b i rule → a ≡ told status.Refused (untyped_text m (offset_in starts b i) rule) → Check v starts a
-  verified : (l : LinkedFile) → l.file ≡ v → IsLinkedFile l → AllTyped l → a ≡ given (verified_line (length v.bodies)) → Check v starts a
+  unverified : Unverified v starts a → Check v starts a
+  verified : (l : LinkedFile) → IsVerifiedOf v l → a ≡ given (verified_line (length v.bodies)) → Check v starts a
 
 -- how many bytes a text may have
 abbrev pub text_limit : ℕ
@@ -100,9 +63,12 @@ OutcomeOf commands.Tidy input a = OfFile Tidy input a
 OutcomeOf (commands.Run options) input a = a ≡ not_built
 OutcomeOf (commands.Gen options) input a = a ≡ not_built
 
--- a command on the input that a source tells, or else on some input
+-- an outcome on the input that a source tells, or else on some input
+abbrev pub On : (List ℕ → Answer → Type 0) → Option (List ℕ) → Answer → Type 0
+On Outcome left a = OfInput left (λ input. Outcome input a)
+
 abbrev pub CommandOutcome : Command → Option (List ℕ) → Answer → Type 0
-CommandOutcome command left a = OfInput left (λ input. OutcomeOf command input a)
+CommandOutcome command = On (OutcomeOf command)
 
 -- whether a command reads its input: `gen` never does, and neither do commands that are not built
 abbrev pub reads_input : Command → Bool

@@ -1,14 +1,19 @@
 -- What a command gives, or what it is answered with where it gives nothing.
-use Rattle.std.specs.Prelude.{◌≡◌, ◌≢◌, ◌<◌, ℕ, List, [], get_or, length}
-use Rattle.std.specs.declared.option.Option.{Option}
+use Rattle.std.specs.Prelude.{◌≡◌, ◌≢◌, ◌<◌, ℕ, List, [], Ok, Err, get_or, length}
+use Rattle.std.specs.declared.alloc.Global.{Global}
+use Rattle.std.specs.declared.result.Result.{Result}
+use Rattle.std.specs.declared.vec.Vec.{Vec}
 use Rattle.abc_asmreader.specs.declared.error.AsmError.{AsmError}
 use Rattle.abc_asmreader.specs.declared.error.AsmError.TheVariants as faults
+use Rattle.abc_base.specs.declared.status.Status.{Status}
 use Rattle.abc_base.specs.declared.status.Status.TheVariants as status
 use Rattle.abc_input.specs.declared.error.InputError.{InputError}
 use Rattle.abc_input.specs.declared.error.InputError.TheVariants as inputs
 use Rattle.abc_rowparts.specs.Rows.{fault}
 use Rattle.abc_text.specs.declared.reason.AsmReason.TheVariants as reasons
 use Rattle.abc_file.specs.Reading.{IsUsedUp}
+use Rattle.abc_program.specs.Linked.{LinkedFile}
+use Rattle.abc_tables.specs.Files.{IsFileRead}
 use Rattle.abc_format.specs.Part.{refusal}
 use Rattle.abc_varint.specs.declared.error.ReadError.{ReadError}
 use Rattle.abc_varint.specs.declared.error.ReadError.TheVariants as errors
@@ -18,12 +23,12 @@ use Rattle.abc_tidy.specs.declared.error.TidyError.{TidyError}
 use Rattle.abc_tidy.specs.declared.error.TidyError.TheVariants as tidying
 use Rattle.abc_verify.specs.declared.error.VerifyError.{VerifyError}
 use Rattle.abc_verify.specs.declared.error.VerifyError.TheVariants as untyped
-use Rattle.abc_words.specs.declared.command.Command.{Command}
 use Rattle.abc_cli.specs.declared.stop.Stop.{Stop}
 use Rattle.abc_cli.specs.declared.stop.Stop.TheVariants as stops
-use Rattle.abc_cli.specs.End.{Channel, HasFailed}
+use Rattle.abc_cli.specs.End.{Channel, Got, GivesBytes, GivesLine, HasFailed}
 use Rattle.abc_cli.specs.Lines.{item_text, refusal_text, read_fault_text, no_memory_text, tidy_text, untyped_text, fault_text}
-use Rattle.abc_cli.specs.Outcome.{Answer, CommandOutcome, given, not_built, offset_in, told}
+use Rattle.abc_cli.specs.Answers.{Answer, IsVerifiedOf, given, offset_in, told}
+use Rattle.abc_cli.specs.Outcome.{On, not_built}
 
 -- what is answered where a command gives nothing
 abbrev pub stop_answer : Stop → Answer
@@ -74,17 +79,27 @@ abbrev pub stop_of_tidy : TidyError → Stop
 stop_of_tidy (tidying.Refused rule i) = stops.Tidy rule i
 stop_of_tidy tidying.NoMemory = stops.NoMemory
 
--- The bytes are those of the command's outcome, and nothing of the input is left.
-pub record Gives (command : Command) (source : Channel) (bytes : List ℕ) : Type 0 where
-  pub outcome : CommandOutcome command source.before (given bytes)
+-- The bytes are those of an outcome, and nothing of the input is left.
+pub record Gives (Outcome : List ℕ → Answer → Type 0) (source : Channel) (bytes : List ℕ) : Type 0 where
+  pub outcome : On Outcome source.before (given bytes)
   pub used_up : IsUsedUp source.before source.after
 
--- A stop is the command's outcome, or a failed read that has its cause; want of memory is free.
-pub record Stops (command : Command) (source : Channel) (stop : Stop) : Type 0 where
-  pub outcome : IsDefined stop → CommandOutcome command source.before (stop_answer stop)
+-- A stop is the outcome, or a failed read that has its cause; want of memory is free.
+pub record Stops (Outcome : List ℕ → Answer → Type 0) (source : Channel) (stop : Stop) : Type 0 where
+  pub outcome : IsDefined stop → On Outcome source.before (stop_answer stop)
   pub cause : stop ≡ stops.ReadFault → HasFailed source
 
 -- A stop after the input was read is one of the answers, and no failed read; want of memory is free.
 pub record StopsAt (Answers : Answer → Type 0) (stop : Stop) : Type 0 where
   pub answer : IsDefined stop → Answers (stop_answer stop)
   pub read : stop ≢ stops.ReadFault
+
+-- a file that was read with the starts of its instructions, linked and verified
+pub record IsReadVerified (l : LinkedFile) (starts : List (List ℕ)) (input : List ℕ) : Type 0 where
+  pub read : IsFileRead (l.file, starts) input
+  pub verified : IsVerifiedOf l.file l
+
+-- what was written of bytes that are given, or of why there are none: a line, and nothing to `out`
+abbrev pub IsGiven : Result (Vec ℕ Global) Stop → Channel → Channel → Status → Type 0
+IsGiven (Ok bytes) out err s = GivesBytes out err bytes.items s
+IsGiven (Err stop) out err s = Got out [] × GivesLine err (stop_answer stop) s

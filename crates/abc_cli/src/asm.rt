@@ -1,8 +1,8 @@
 ghost use Rattle.std.specs.Prelude.{◌≤◌, ◌^◌, IfErr, IfOk, length};
 ghost use Rattle.abc_cli.specs.End.{stream};
-ghost use Rattle.abc_cli.specs.Outcome.{Asm, given};
+ghost use Rattle.abc_cli.specs.Answers.{given};
+ghost use Rattle.abc_cli.specs.Outcome.{Asm};
 ghost use Rattle.abc_cli.specs.Stops.{Gives, Stops, StopsAt};
-ghost use Rattle.abc_words.specs.declared.command.Command.TheVariants as commands;
 
 use crate::stop::Stop;
 use abc_asm::assemble;
@@ -28,8 +28,8 @@ fn assembled(alloc: Global, text: &[u8]) -> Result<Vec<u8>, Stop>
 
 /// What the command `asm` gives: the canonical bytes of the text's file. At most 2^28 + 1 bytes are read.
 pub fn asm<S: Source>(alloc: Global, source: &mut S) -> Result<Vec<u8>, Stop>
-    ensures gives { IfOk result (λ bytes. Gives commands.Asm (stream S.left S.faults source.old source.new) bytes.items) }
-    ensures stops { IfErr result (λ stop. Stops commands.Asm (stream S.left S.faults source.old source.new) stop) }
+    ensures gives { IfOk result (λ bytes. Gives Asm (stream S.left S.faults source.old source.new) bytes.items) }
+    ensures stops { IfErr result (λ stop. Stops Asm (stream S.left S.faults source.old source.new) stop) }
 {
     let text = read_input(alloc, source, 1 << 28)?;
     let bytes = assembled(alloc, text.as_slice())?;

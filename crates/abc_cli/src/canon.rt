@@ -1,7 +1,8 @@
 ghost use Rattle.std.specs.Prelude.{IfErr, IfOk};
 ghost use Rattle.abc_cli.specs.End.{stream};
+ghost use Rattle.abc_cli.specs.Answers.{OfFile};
+ghost use Rattle.abc_cli.specs.Outcome.{Canon};
 ghost use Rattle.abc_cli.specs.Stops.{Gives, Stops};
-ghost use Rattle.abc_words.specs.declared.command.Command.TheVariants as commands;
 
 use crate::stop::Stop;
 use abc_base::Source;
@@ -10,8 +11,8 @@ use std::alloc::Global;
 
 /// What the command `canon` gives: the canonical bytes of the file.
 pub fn canon<S: Source>(alloc: Global, source: &mut S) -> Result<Vec<u8>, Stop>
-    ensures gives { IfOk result (λ bytes. Gives commands.Canon (stream S.left S.faults source.old source.new) bytes.items) }
-    ensures stops { IfErr result (λ stop. Stops commands.Canon (stream S.left S.faults source.old source.new) stop) }
+    ensures gives { IfOk result (λ bytes. Gives (OfFile Canon) (stream S.left S.faults source.old source.new) bytes.items) }
+    ensures stops { IfErr result (λ stop. Stops (OfFile Canon) (stream S.left S.faults source.old source.new) stop) }
 {
     let bytes = canonical(alloc, source)?;
     Ok(bytes)

@@ -1,9 +1,9 @@
 ghost use Rattle.std.specs.Prelude.{All, IfErr, IfOk};
 ghost use Rattle.abc_cli.specs.End.{stream};
-ghost use Rattle.abc_cli.specs.Outcome.{Dis, given};
+ghost use Rattle.abc_cli.specs.Answers.{OfFile, given};
+ghost use Rattle.abc_cli.specs.Outcome.{Dis};
 ghost use Rattle.abc_cli.specs.Stops.{Gives, Stops, StopsAt};
 ghost use Rattle.abc_tables.specs.Bodies.{IsReadyBody};
-ghost use Rattle.abc_words.specs.declared.command.Command.TheVariants as commands;
 
 use crate::stop::Stop;
 use abc_base::Source;
@@ -25,8 +25,8 @@ fn text_of(alloc: Global, abc: &Abc) -> Result<Vec<u8>, Stop>
 
 /// What the command `dis` gives: the text of the file.
 pub fn dis<S: Source>(alloc: Global, source: &mut S) -> Result<Vec<u8>, Stop>
-    ensures gives { IfOk result (λ bytes. Gives commands.Dis (stream S.left S.faults source.old source.new) bytes.items) }
-    ensures stops { IfErr result (λ stop. Stops commands.Dis (stream S.left S.faults source.old source.new) stop) }
+    ensures gives { IfOk result (λ bytes. Gives (OfFile Dis) (stream S.left S.faults source.old source.new) bytes.items) }
+    ensures stops { IfErr result (λ stop. Stops (OfFile Dis) (stream S.left S.faults source.old source.new) stop) }
 {
     let (abc, _) = read(alloc, source)?;
     let text = text_of(alloc, &abc)?;

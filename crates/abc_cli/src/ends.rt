@@ -1,10 +1,10 @@
 ghost use Rattle.std.specs.Prelude.{◌≡◌, is_ok, if◌then◌else◌};
 ghost use Rattle.abc_base.specs.Sinks.{WritesAll};
 ghost use Rattle.abc_base.specs.Faults.{HasCause};
-ghost use Rattle.abc_cli.specs.End.{GivesLine, IsEnd, stream};
+ghost use Rattle.abc_cli.specs.End.{GivesBytes, GivesLine, stream};
 ghost use Rattle.abc_cli.specs.Lines.{kind_of_tidy, line, write_fault_text, no_command_text};
-ghost use Rattle.abc_cli.specs.Outcome.{given, told};
-ghost use Rattle.abc_cli.specs.Stops.{stop_answer};
+ghost use Rattle.abc_cli.specs.Answers.{told};
+ghost use Rattle.abc_cli.specs.Stops.{IsGiven, stop_answer};
 
 use crate::lines::{write_code, write_line, write_place};
 use crate::stop::Stop;
@@ -123,10 +123,20 @@ pub fn give_stop<E: Sink>(err: &mut E, stop: Stop) -> Status
 /// Writes bytes to `out`, and where that fails the line that says so to `err`.
 #[tactic(auto, unfolding(crate::specs::Lines::write_fault_text))]
 pub fn give_bytes<K: Sink, E: Sink>(out: &mut K, err: &mut E, bytes: &[u8]) -> Status
-    ensures end { IsEnd (λ a. a ≡ given bytes.now) ⊥ (stream K.written K.faults out.old out.new) (stream E.written E.faults err.old err.new) result }
+    ensures { GivesBytes (stream K.written K.faults out.old out.new) (stream E.written E.faults err.old err.new) bytes.now result }
 {
     match write_all(out, bytes) {
         Ok(()) => Status::Done,
         Err(_) => give_line(err, Status::WriteFault, b"write fault"),
+    }
+}
+
+/// Writes what a command gives to `out`, or the line that says why it gives nothing to `err`.
+pub fn give<K: Sink, E: Sink>(done: Result<Vec<u8>, Stop>, out: &mut K, err: &mut E) -> Status
+    ensures { IsGiven done (stream K.written K.faults out.old out.new) (stream E.written E.faults err.old err.new) result }
+{
+    match done {
+        Ok(bytes) => give_bytes(out, err, bytes.as_slice()),
+        Err(stop) => give_stop(err, stop),
     }
 }

@@ -4,12 +4,12 @@
 mod asm;
 mod canon;
 mod check;
-mod commands;
 mod dis;
 mod ends;
 mod lines;
 mod stop;
 mod tidy;
 mod top;
+mod verified;
 
 pub use top::abc_main;

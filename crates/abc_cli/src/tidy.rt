@@ -1,8 +1,8 @@
 ghost use Rattle.std.specs.Prelude.{IfErr, IfOk};
 ghost use Rattle.abc_cli.specs.End.{stream};
-ghost use Rattle.abc_cli.specs.Outcome.{Tidy, given};
+ghost use Rattle.abc_cli.specs.Answers.{OfFile, given};
+ghost use Rattle.abc_cli.specs.Outcome.{Tidy};
 ghost use Rattle.abc_cli.specs.Stops.{Gives, Stops, StopsAt};
-ghost use Rattle.abc_words.specs.declared.command.Command.TheVariants as commands;
 
 use crate::stop::Stop;
 use abc_base::Source;
@@ -24,8 +24,8 @@ fn tidied(alloc: Global, abc: &Abc) -> Result<Vec<u8>, Stop>
 
 /// What the command `tidy` gives: the canonical bytes of the tidied file.
 pub fn tidy<S: Source>(alloc: Global, source: &mut S) -> Result<Vec<u8>, Stop>
-    ensures gives { IfOk result (λ bytes. Gives commands.Tidy (stream S.left S.faults source.old source.new) bytes.items) }
-    ensures stops { IfErr result (λ stop. Stops commands.Tidy (stream S.left S.faults source.old source.new) stop) }
+    ensures gives { IfOk result (λ bytes. Gives (OfFile Tidy) (stream S.left S.faults source.old source.new) bytes.items) }
+    ensures stops { IfErr result (λ stop. Stops (OfFile Tidy) (stream S.left S.faults source.old source.new) stop) }
 {
     let (abc, _) = read(alloc, source)?;
     let bytes = tidied(alloc, &abc)?;

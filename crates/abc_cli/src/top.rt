@@ -1,12 +1,18 @@
 ghost use Rattle.std.specs.Prelude.{◌≡◌, ◌<◌, false, length};
 ghost use Rattle.abc_cli.specs.End.{Ends, GivesLine, UsesUp, stream};
-ghost use Rattle.abc_cli.specs.Outcome.{Answer, AsksNoInput, CommandOutcome, IsOutcome, IsUsage, UsageOutcome, reads_input, usage_answer};
+ghost use Rattle.abc_cli.specs.Answers.{Answer};
+ghost use Rattle.abc_cli.specs.Outcome.{AsksNoInput, CommandOutcome, IsOutcome, IsUsage, UsageOutcome, reads_input, usage_answer};
 ghost use Rattle.abc_cli.specs.Listed.{Lists};
 ghost use Rattle.abc_words.specs.Grammar.{IsWellFormed, Says};
 
-use crate::commands::bytes_of;
-use crate::ends::{ended, give_bytes, give_no_command, give_stop};
+use crate::asm::asm;
+use crate::canon::canon;
+use crate::check::check;
+use crate::dis::dis;
+use crate::ends::{ended, give, give_no_command};
 use crate::lines::write_usage;
+use crate::stop::Stop;
+use crate::tidy::tidy;
 use abc_base::{Host, Sink, Source, Status, Words};
 use abc_roundtrip::listing_is_read_back;
 use abc_words::{Command, Usage, parse};
@@ -24,9 +30,13 @@ fn run_command<S: Source, K: Sink, E: Sink>(
     ensures used_up { UsesUp (stream S.left S.faults source.old source.new) result }
     ensures unread { reads_input command.now ≡ false → source.new ≡ source.old }
 {
-    match bytes_of(alloc, command, source) {
-        Ok(bytes) => give_bytes(out, err, &bytes),
-        Err(stop) => give_stop(err, stop),
+    match command {
+        Command::Canon => give(canon(alloc, source), out, err),
+        Command::Dis => give(dis(alloc, source), out, err),
+        Command::Check => give(check(alloc, source), out, err),
+        Command::Tidy => give(tidy(alloc, source), out, err),
+        Command::Asm => give(asm(alloc, source), out, err),
+        Command::Run(_) | Command::Gen(_) => give(Err(Stop::NotBuilt), out, err),
     }
 }
 

@@ -2,3 +2,4 @@ pub mod Listed
 pub mod Ready
 pub mod Short
 pub mod Fitting
+pub mod Measuring

@@ -1,3 +1,4 @@
 pub mod Draws
 pub mod Codes
 pub mod Generated
+pub mod Measured

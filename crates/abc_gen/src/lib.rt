@@ -4,5 +4,7 @@
 mod codes;
 mod draws;
 mod making;
+mod measures;
 
 pub use making::make_abc;
+pub use measures::{Made, make};

@@ -1,8 +1,8 @@
 use Rattle.std.proofs.lemmas.Result.{err_from_is_err_and}
-use Rattle.abc_words.specs.declared.command.Command.TheVariants as commands
 use Rattle.abc_cli.specs.End.{stream}
+use Rattle.abc_cli.specs.Answers.{OfFile}
 use Rattle.abc_cli.specs.Outcome.{Canon}
-use Rattle.abc_cli.proofs.Ending.{alone, canonical_gives, on_canon, read_stops}
+use Rattle.abc_cli.proofs.Ending.{alone, canonical_gives, on_file, read_stops}
 use Rattle.abc_cli.proofs.canon.canon.Goals as goal
 
 pub returns-clause-gives : goal.returns-clause-gives
@@ -11,5 +11,5 @@ returns-clause-gives g c = canonical_gives (stream g.S.Source.left g.S.Source.fa
 pub returns-in_err-bytes-clause-stops : goal.returns-in_err-bytes-clause-stops
 returns-in_err-bytes-clause-stops g c =
     let p = err_from_is_err_and c.from_residual.result c.from_residual.ensures.1 in
-    rw (p.1, p.2) (read_stops commands.Canon (alone Canon) on_canon (stream g.S.Source.left g.S.Source.faults c.args.source.now c.canonical.new.source) c.in_err-bytes.field-0.0 c.in_err-bytes.ensures.fault
+    rw (p.1, p.2) (read_stops (OfFile Canon) (alone Canon) (on_file Canon) (stream g.S.Source.left g.S.Source.faults c.args.source.now c.canonical.new.source) c.in_err-bytes.field-0.0 c.in_err-bytes.ensures.fault
     (λ e. c.in_err-bytes.ensures.cause cc))

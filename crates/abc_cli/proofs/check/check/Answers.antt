@@ -1,22 +1,17 @@
 use Rattle.std.proofs.lemmas.Result.{err_from_is_err_and}
-use Rattle.abc_words.specs.declared.command.Command.TheVariants as commands
+use Rattle.abc_cli.specs.Answers.{OfFileRead, Unverified}
 use Rattle.abc_cli.specs.End.{stream}
 use Rattle.abc_cli.specs.Outcome.{Check}
-use Rattle.abc_cli.proofs.Ending.{file_gives, file_stops, file_stops_at, on_check}
+use Rattle.abc_cli.proofs.Checks.{unverified_checked, verified_gives}
+use Rattle.abc_cli.proofs.Ending.{stops_as}
 use Rattle.abc_cli.proofs.check.check.Goals as goal
+
+pub returns-in_err-verified-clause-stops : goal.returns-in_err-verified-clause-stops
+returns-in_err-verified-clause-stops g c =
+    let p = err_from_is_err_and c.from_residual.result c.from_residual.ensures.1 in
+    rw (p.1, p.2) (stops_as (OfFileRead Unverified) (OfFileRead Check) (stream g.S.Source.left g.S.Source.faults c.args.source.now c.read_verified.new.source) c.in_err-verified.field-0.0 unverified_checked c.in_err-verified.ensures.stops)
 
 pub returns-clause-gives : goal.returns-clause-gives
 returns-clause-gives g c =
-    file_gives commands.Check Check on_check (stream g.S.Source.left g.S.Source.faults c.args.source.now c.read.new.source) c.in_ok-abc.abc c.in_ok-abc.places c.in_ok-bytes.bytes.items c.in_ok-abc.ensures.answers c.in_ok-abc.ensures.end
-    c.in_ok-bytes.ensures.gives
-
-pub returns-in_err-abc-clause-stops : goal.returns-in_err-abc-clause-stops
-returns-in_err-abc-clause-stops g c =
-    let p = err_from_is_err_and c.from_residual.result c.from_residual.ensures.1 in
-    rw (p.1, p.2) (file_stops commands.Check Check on_check (stream g.S.Source.left g.S.Source.faults c.args.source.now c.read.new.source) c.in_err-abc.field-0.0 c.in_err-abc.ensures.answers (λ e. c.in_err-abc.ensures.cause cc))
-
-pub returns-in_err-bytes-clause-stops : goal.returns-in_err-bytes-clause-stops
-returns-in_err-bytes-clause-stops g c =
-    let p = err_from_is_err_and c.from_residual-in_err-bytes.result c.from_residual-in_err-bytes.ensures.1 in
-    rw (p.1, p.2) (file_stops_at commands.Check Check on_check (stream g.S.Source.left g.S.Source.faults c.args.source.now c.read.new.source) c.in_ok-abc.abc c.in_ok-abc.places c.in_err-bytes.field-0.0 c.in_ok-abc.ensures.answers
-    c.in_err-bytes.ensures.stops)
+    verified_gives (stream g.S.Source.left g.S.Source.faults c.args.source.now c.read_verified.new.source) c.in_ok-verified.verified c.in_ok-verified.field-0-1 c.in_ok-bytes.bytes.items c.body_count-count.result c.in_ok-verified.ensures.ok
+    c.in_ok-verified.ensures.end c.in_ok-bytes.ensures c.body_count-count.ensures

@@ -3,7 +3,8 @@ use Rattle.abc_words.specs.declared.command.Usage.{Usage}
 use Rattle.abc_words.specs.declared.command.Command.{Command}
 use Rattle.abc_words.specs.declared.command.Command.TheVariants as commands
 use Rattle.abc_cli.specs.End.{Ends, GivesLine, stream}
-use Rattle.abc_cli.specs.Outcome.{Answer, CommandOutcome, IsOutcome, usage_answer}
+use Rattle.abc_cli.specs.Answers.{Answer}
+use Rattle.abc_cli.specs.Outcome.{CommandOutcome, IsOutcome, usage_answer}
 use Rattle.abc_cli.proofs.Ending.{line_ends, nothing, weaker}
 use Rattle.abc_cli.proofs.Usages.{usage_found, is_usage, usage_not_done, usage_not_memory, usage_outcome, same_command, same_usage, not_ok, end_not_usage, unread_command}
 use Rattle.abc_cli.proofs.Listings.{lists}

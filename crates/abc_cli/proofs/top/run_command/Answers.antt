@@ -1,29 +1,34 @@
-use Rattle.std.proofs.Common.{ℕ, List, sym, subst}
+use Rattle.abc_words.specs.declared.command.Command.TheVariants as commands
 use Rattle.abc_cli.specs.End.{stream}
-use Rattle.abc_cli.specs.Stops.{Gives}
-use Rattle.abc_cli.proofs.Ending.{gave, not_done, nothing, stopped}
+use Rattle.abc_cli.proofs.Usages.{command_ends, not_built_ends}
 use Rattle.abc_cli.proofs.top.run_command.Goals as goal
 
-pub returns-in-Ok-clause-end : goal.returns-in-Ok-clause-end
-returns-in-Ok-clause-end g c =
-    let source = stream g.S.Source.left g.S.Source.faults c.args.source.now c.bytes_of.new.source in
-    let gives = subst (λ (bytes : List ℕ). Gives c.args.command.now source bytes) (sym c.deref.ensures.value) c.in-Ok.ensures.gives in
-    gave c.args.command.now source (stream g.K.Sink.written g.K.Sink.faults c.args.out.now c.give_bytes.new.out) (stream g.E.Sink.written g.E.Sink.faults c.args.err.now c.give_bytes.new.err) c.deref.result.now c.give_bytes.result gives
-    c.give_bytes.ensures.end
+pub returns-in-Canon-clause-end : goal.returns-in-Canon-clause-end
+returns-in-Canon-clause-end g c =
+    command_ends c.args.command.now commands.Canon (stream g.S.Source.left g.S.Source.faults c.args.source.now c.canon.new.source) (stream g.K.Sink.written g.K.Sink.faults c.args.out.now c.give.new.out)
+    (stream g.E.Sink.written g.E.Sink.faults c.args.err.now c.give.new.err) c.canon.result c.give.result c.in-Canon.is c.canon.ensures.gives c.canon.ensures.stops c.give.ensures
 
-pub returns-in-Err-clause-end : goal.returns-in-Err-clause-end
-returns-in-Err-clause-end g c =
-    stopped c.args.command.now (stream g.S.Source.left g.S.Source.faults c.args.source.now c.bytes_of.new.source) (stream g.K.Sink.written g.K.Sink.faults c.args.out.now c.args.out.now)
-    (stream g.E.Sink.written g.E.Sink.faults c.args.err.now c.give_stop.new.err) c.in-Err.stop c.give_stop.result c.in-Err.ensures.stops (nothing (g.K.Sink.written c.args.out.now)) c.give_stop.ensures
+pub returns-in-Dis-clause-end : goal.returns-in-Dis-clause-end
+returns-in-Dis-clause-end g c =
+    command_ends c.args.command.now commands.Dis (stream g.S.Source.left g.S.Source.faults c.args.source.now c.dis.new.source) (stream g.K.Sink.written g.K.Sink.faults c.args.out.now c.give-in-Dis.new.out)
+    (stream g.E.Sink.written g.E.Sink.faults c.args.err.now c.give-in-Dis.new.err) c.dis.result c.give-in-Dis.result c.in-Dis.is c.dis.ensures.gives c.dis.ensures.stops c.give-in-Dis.ensures
 
-pub returns-in-Err-clause-used_up : goal.returns-in-Err-clause-used_up
-returns-in-Err-clause-used_up g c = λ h. absurd (not_done (stream g.E.Sink.written g.E.Sink.faults c.args.err.now c.give_stop.new.err) c.in-Err.stop c.give_stop.result c.give_stop.ensures h)
+pub returns-in-Check-clause-end : goal.returns-in-Check-clause-end
+returns-in-Check-clause-end g c =
+    command_ends c.args.command.now commands.Check (stream g.S.Source.left g.S.Source.faults c.args.source.now c.check.new.source) (stream g.K.Sink.written g.K.Sink.faults c.args.out.now c.give-in-Check.new.out)
+    (stream g.E.Sink.written g.E.Sink.faults c.args.err.now c.give-in-Check.new.err) c.check.result c.give-in-Check.result c.in-Check.is c.check.ensures.gives c.check.ensures.stops c.give-in-Check.ensures
 
-pub returns-in-Ok-clause-used_up : goal.returns-in-Ok-clause-used_up
-returns-in-Ok-clause-used_up g c = λ e. c.in-Ok.ensures.gives.used_up
+pub returns-in-Tidy-clause-end : goal.returns-in-Tidy-clause-end
+returns-in-Tidy-clause-end g c =
+    command_ends c.args.command.now commands.Tidy (stream g.S.Source.left g.S.Source.faults c.args.source.now c.tidy.new.source) (stream g.K.Sink.written g.K.Sink.faults c.args.out.now c.give-in-Tidy.new.out)
+    (stream g.E.Sink.written g.E.Sink.faults c.args.err.now c.give-in-Tidy.new.err) c.tidy.result c.give-in-Tidy.result c.in-Tidy.is c.tidy.ensures.gives c.tidy.ensures.stops c.give-in-Tidy.ensures
 
-pub returns-in-Ok-clause-unread : goal.returns-in-Ok-clause-unread
-returns-in-Ok-clause-unread g c = c.bytes_of.ensures.unread
+pub returns-in-Asm-clause-end : goal.returns-in-Asm-clause-end
+returns-in-Asm-clause-end g c =
+    command_ends c.args.command.now commands.Asm (stream g.S.Source.left g.S.Source.faults c.args.source.now c.asm.new.source) (stream g.K.Sink.written g.K.Sink.faults c.args.out.now c.give-in-Asm.new.out)
+    (stream g.E.Sink.written g.E.Sink.faults c.args.err.now c.give-in-Asm.new.err) c.asm.result c.give-in-Asm.result c.in-Asm.is c.asm.ensures.gives c.asm.ensures.stops c.give-in-Asm.ensures
 
-pub returns-in-Err-clause-unread : goal.returns-in-Err-clause-unread
-returns-in-Err-clause-unread g c = c.bytes_of.ensures.unread
+pub returns-in-Run-clause-end : goal.returns-in-Run-clause-end
+returns-in-Run-clause-end g c =
+    not_built_ends c.args.command.now (stream g.S.Source.left g.S.Source.faults c.args.source.now c.args.source.now) (stream g.K.Sink.written g.K.Sink.faults c.args.out.now c.give-in-Run.new.out)
+    (stream g.E.Sink.written g.E.Sink.faults c.args.err.now c.give-in-Run.new.err) c.give-in-Run.result c.in-Run.is c.give-in-Run.ensures
