@@ -12,6 +12,7 @@ and KIND_half.abc, of 8,388,608; from `tiny` on they have at most so many:
   compiled     classes with methods, as a compiler writes them: the file links and is verified
   tiny         2^20 bodies of one instruction
   chain        2^18 classes, each with the next one as its base
+  ladder       11 classes in a chain, each with 1000 slots
   interfaces   2^18 edges among 65 rows of 64 interfaces
   traits       2^20 slots of one class, each with a number
   one_text     2^20 slots of one text in as many namespaces
@@ -56,6 +57,7 @@ MAKERS = {
     "compiled": compiling.compiled,
     "tiny": bodies.tiny_bodies,
     "chain": linking.chain,
+    "ladder": linking.ladder,
     "interfaces": linking.interfaces,
     "traits": linking.traits,
     "one_text": linking.one_text,
