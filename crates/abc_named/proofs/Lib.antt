@@ -1,0 +1,9 @@
+pub mod Forms
+pub mod Naming
+pub mod Receiving
+pub mod Coercing
+pub mod Slotted
+pub mod Amongst
+pub mod Walks
+pub mod Typed
+pub mod Removed

@@ -1,0 +1,16 @@
+//! Names of instructions, slots by numbers, types at run time, `in`, and walking: instructions that enter no method.
+#![tactic(auto)]
+
+mod deleting;
+mod late;
+mod names;
+mod receivers;
+mod slots;
+mod walking;
+
+pub use deleting::{delete_property, is_dynamic};
+pub use late::{as_late, has_name, is_instance_of, is_late};
+pub use names::{name_of, parts_of};
+pub use receivers::{is_holder, receiver};
+pub use slots::{get_slot, set_slot, write_slot};
+pub use walking::{next_name, next_value, walk_on, walk_one};
