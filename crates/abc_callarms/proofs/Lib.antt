@@ -1,0 +1,5 @@
+pub mod Alone
+pub mod Called
+pub mod Instances
+pub mod Settled
+pub mod Told
