@@ -6,8 +6,8 @@ use Rattle.abc_acts.specs.At.{Above, Act, Doing, Goes, Returns, Stays}
 use Rattle.abc_acts.specs.Table.{act_of, acts, call_acts, class_acts, find_act, object_acts, operation_acts, plain_acts, walking_acts}
 use Rattle.abc_base.specs.declared.names.HostClass.{HostClass}
 use Rattle.abc_base.specs.declared.names.HostClass.TheVariants as hosts
-use Rattle.abc_given.proofs.Scoped.{scopes_given}
-use Rattle.abc_given.proofs.Verified.{file_given}
+use Rattle.abc_unstuck.proofs.GivenScoped.{scopes_given}
+use Rattle.abc_unstuck.proofs.GivenVerified.{file_given}
 use Rattle.abc_meaning.specs.Laws.{IsVerified}
 use Rattle.abc_meaning.specs.Sound.{AreTypings, FrameSound, IsOfKind, ScopeHolds, Typings, WorldSound, put_by, taken_by}
 use Rattle.abc_meaning.specs.Step.{does, does_instr, does_row, runs, tested}
@@ -16,20 +16,20 @@ use Rattle.abc_meaning.specs.Throwing.{last_script}
 use Rattle.abc_cells.specs.declared.values.Value.{Value}
 use Rattle.abc_objects.specs.Stands.{Each as EachAt}
 use Rattle.abc_objects.specs.Values.{Exists}
-use Rattle.abc_objectacts.specs.Laws.{Given}
-use Rattle.abc_objectacts.proofs.Named.{calls_hold, objects_hold}
-use Rattle.abc_objectacts.proofs.Supers.{classes_hold}
-use Rattle.abc_objectacts.proofs.Walked.{walking_hold}
-use Rattle.abc_opsound.proofs.Operated.{ops_given}
-use Rattle.abc_plainacts.proofs.Calls.{new_fares}
-use Rattle.abc_plainacts.proofs.Computing.{operations_hold}
-use Rattle.abc_plainacts.proofs.Jumping.{jumping_hold}
-use Rattle.abc_plainacts.proofs.Plainly.{plain_hold}
-use Rattle.abc_settles.proofs.Tests.{runs_on}
+use Rattle.abc_unstuck.specs.ObjectactsLaws.{Given}
+use Rattle.abc_unstuck.proofs.ObjectactsNamed.{calls_hold, objects_hold}
+use Rattle.abc_unstuck.proofs.ObjectactsSupers.{classes_hold}
+use Rattle.abc_unstuck.proofs.ObjectactsWalked.{walking_hold}
+use Rattle.abc_unstuck.proofs.OpsoundOperated.{ops_given}
+use Rattle.abc_unstuck.proofs.PlainactsCalls.{new_fares}
+use Rattle.abc_unstuck.proofs.PlainactsComputing.{operations_hold}
+use Rattle.abc_unstuck.proofs.PlainactsJumping.{jumping_hold}
+use Rattle.abc_unstuck.proofs.PlainactsPlainly.{plain_hold}
+use Rattle.abc_unstuck.proofs.SettlesTests.{runs_on}
 use Rattle.abc_shapes.specs.Instructions.{opcode}
 use Rattle.abc_shapes.specs.Rows.{Shape, row_at}
-use Rattle.abc_sound.specs.Keeping.{ActSound, EntrySound, Fares, GroupsHold, IsError, Leaves, Ready, StopSound}
-use Rattle.abc_sound.proofs.Entered.{starts_fares}
+use Rattle.abc_unstuck.specs.SoundKeeping.{ActSound, EntrySound, Fares, GroupsHold, IsError, Leaves, Ready, StopSound}
+use Rattle.abc_unstuck.proofs.SoundEntered.{starts_fares}
 use Rattle.abc_stacks.specs.Frame.{Frame}
 use Rattle.abc_tables.specs.declared.code.Instr.{Instr}
 use Rattle.abc_typing.specs.Lists.{Each}
@@ -43,7 +43,7 @@ use Rattle.abc_world.specs.Entering.{starts}
 use Rattle.abc_world.specs.Making.{new}
 use Rattle.abc_world.specs.Setting.{Setting, routine_of}
 use Rattle.abc_world.specs.World.{Errs, Faults, Fills, Outcome, Sticks, Stop, Stopped, Throws, Went, World}
-use Rattle.abc_premise.proofs.Sounded.{frames_run}
+use Rattle.abc_fair.proofs.Sounded.{frames_run}
 use Rattle.abc_fair.specs.Fair.{IsFairAs, IsFairPart, IsFairStop, IsLeft}
 use Rattle.abc_fair.specs.Laws.{ActsAreFair, NewsAreFair, StartsAreFair}
 use Rattle.abc_fair.proofs.Waited.{receiver_there}

@@ -3,16 +3,16 @@ use Rattle.std.proofs.Common.{◌≡◌, ℕ, zero, suc, ◌<◌, ◌≤◌, Lis
 use Rattle.std.specs.Prelude.{Some}
 use Rattle.std.proofs.lemmas.Bool.{leb-true}
 use Rattle.abc_cells.specs.declared.values.Value.{Value}
-use Rattle.abc_given.proofs.Filed.{routine_found}
+use Rattle.abc_unstuck.proofs.GivenFiled.{routine_found}
 use Rattle.abc_heap.specs.Heap.{Heap}
 use Rattle.abc_heap.specs.declared.records.ScopeEntry.{ScopeEntry}
 use Rattle.abc_meaning.specs.Laws.{IsVerified}
 use Rattle.abc_meaning.specs.Sound.{AreTypings, FrameSound, IsOfKind, ScopeHolds, Typings, WaitSound, WaitingSound}
 use Rattle.abc_objects.specs.Values.{Exists, IsObject}
-use Rattle.abc_premise.proofs.Sounded.{place_counted}
+use Rattle.abc_fair.proofs.Sounded.{place_counted}
 use Rattle.abc_program.specs.Linked.{LinkedFile}
 use Rattle.abc_program.specs.declared.types.Kind.{Kind}
-use Rattle.abc_sound.proofs.Lists.{each_at}
+use Rattle.abc_unstuck.proofs.SoundLists.{each_at}
 use Rattle.abc_stacks.specs.Frame.{Frame}
 use Rattle.abc_stacks.specs.declared.records.Wait.{Wait}
 use Rattle.abc_stacks.specs.declared.records.Wait.TheVariants as waits

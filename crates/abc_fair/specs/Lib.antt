@@ -1,2 +1,4 @@
 pub mod Fair
+pub mod Running
+pub mod Premise
 pub mod Laws

@@ -61,8 +61,8 @@ use Rattle.abc_typing.proofs.Lists.{Each-append, Each-map}
 use Rattle.abc_typing.proofs.Member.{and_left, and_right}
 use Rattle.abc_world.specs.Setting.{Setting, raw_value, routine_in, routine_of, string_of}
 use Rattle.abc_acts.specs.Simple.{whole}
-use Rattle.abc_sound.specs.Given.{HasTarget, IsFormed, IsMethod, IsType, OptionExists}
-use Rattle.abc_sound.proofs.Lists.{inside}
+use Rattle.abc_opsound.specs.SoundGiven.{HasTarget, IsFormed, IsMethod, IsType, OptionExists}
+use Rattle.abc_opsound.proofs.SoundLists.{inside}
 use Rattle.abc_given.proofs.Indexed.{all_each, first_passed, got, is_at, map_at, no_break, none_passes, or_left, or_right}
 use Rattle.abc_opsound.proofs.Numbers.{cast_number}
 

@@ -4,7 +4,7 @@ use Rattle.std.specs.Prelude.{Bool, true, false, ◌||◌, All, slice_get, Some,
 use Rattle.std.specs.List.{list_any}
 use Rattle.abc_index.specs.Index.{first_from}
 use Rattle.abc_typing.specs.Lists.{Each}
-use Rattle.abc_sound.proofs.Lists.{inside}
+use Rattle.abc_opsound.proofs.SoundLists.{inside}
 
 pub got : {X : Type 0} (xs : List X) (i : ℕ) (x d : X) → slice_get xs i ≡ Some x → get_or xs i d ≡ x
 got [] i x d e = absurd cc

@@ -29,7 +29,7 @@ use Rattle.abc_typing.specs.Routines.{routine}
 use Rattle.abc_typing.specs.Typing.{In}
 use Rattle.abc_typing.proofs.Member.{in_left, in_right}
 use Rattle.abc_world.specs.Setting.{Setting, routine_in}
-use Rattle.abc_sound.specs.Given.{HasBody, IsOwned}
+use Rattle.abc_opsound.specs.SoundGiven.{HasBody, IsOwned}
 use Rattle.abc_given.proofs.Indexed.{first_passed, first_there, got, is_at, no_break}
 use Rattle.abc_given.proofs.Filed.{definitions}
 

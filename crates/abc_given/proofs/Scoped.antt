@@ -35,9 +35,9 @@ use Rattle.abc_typing.specs.Routines.{Routine, catches}
 use Rattle.abc_typing.specs.declared.catch.Catch.{Catch}
 use Rattle.abc_world.specs.Setting.{Setting, routine_of}
 use Rattle.abc_meaning.specs.Sound.{PartSound}
-use Rattle.abc_sound.specs.Given.{BaseKnown, IsScopeLayout, ScopesGiven}
-use Rattle.abc_sound.proofs.Growing.{first_is}
-use Rattle.abc_sound.proofs.Lists.{inside}
+use Rattle.abc_opsound.specs.SoundGiven.{BaseKnown, IsScopeLayout, ScopesGiven}
+use Rattle.abc_opsound.proofs.SoundGrowing.{first_is}
+use Rattle.abc_opsound.proofs.SoundLists.{inside}
 use Rattle.abc_given.proofs.Indexed.{first_passed, no_break}
 use Rattle.abc_given.proofs.Filed.{routine_found}
 

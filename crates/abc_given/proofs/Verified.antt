@@ -2,7 +2,7 @@
 use Rattle.abc_objects.proofs.Started.{stored}
 use Rattle.abc_program.specs.Linked.{IsLinkedFile}
 use Rattle.abc_world.specs.Setting.{Setting}
-use Rattle.abc_sound.specs.Given.{FileGiven}
+use Rattle.abc_opsound.specs.SoundGiven.{FileGiven}
 use Rattle.abc_given.proofs.Begun.{starts_hold}
 use Rattle.abc_given.proofs.Filed.{formed, int_there, method_is, some_script, uint_there}
 use Rattle.abc_given.proofs.Owned.{cinits, iinits, inits}

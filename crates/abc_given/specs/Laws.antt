@@ -1,6 +1,6 @@
 -- What is proved of a linked file.
 use Rattle.abc_program.specs.Linked.{IsLinkedFile}
-use Rattle.abc_sound.specs.Given.{FileGiven, ScopesGiven}
+use Rattle.abc_opsound.specs.SoundGiven.{FileGiven, ScopesGiven}
 use Rattle.abc_world.specs.Setting.{Setting}
 
 abbrev pub FilesGive : Type 0

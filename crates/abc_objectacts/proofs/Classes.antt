@@ -37,12 +37,12 @@ use Rattle.abc_world.specs.Setting.{Setting}
 use Rattle.abc_world.specs.World.{Errs, Went, World, and_then, object, some}
 use Rattle.abc_acts.specs.Newing.{base_prototype, is_none, is_that}
 use Rattle.abc_meaning.specs.Sound.{AreMade, IsMade, IsWithin, ObjectSound, PartSound, SlotHolds, WhatSound, WorldSound}
-use Rattle.abc_sound.specs.Given.{BaseKnown, FileGiven, ScopesGiven}
-use Rattle.abc_sound.specs.Keeping.{Evolves, Fares, Leaves}
-use Rattle.abc_sound.proofs.Faring.{cells_then, done_fares, if_fares, objects_then, stop_fares, went_fares}
-use Rattle.abc_sound.proofs.Growing.{any_kind, first_is, object_on}
-use Rattle.abc_sound.proofs.Lists.{cells_append, change_at, change_cells, change_long, each2_put}
-use Rattle.abc_sound.proofs.Made.{heap_leaves, prototype_there}
+use Rattle.abc_plainacts.specs.SoundGiven.{BaseKnown, FileGiven, ScopesGiven}
+use Rattle.abc_plainacts.specs.SoundKeeping.{Evolves, Fares, Leaves}
+use Rattle.abc_plainacts.proofs.SoundFaring.{cells_then, done_fares, if_fares, objects_then, stop_fares, went_fares}
+use Rattle.abc_plainacts.proofs.SoundGrowing.{any_kind, first_is, object_on}
+use Rattle.abc_plainacts.proofs.SoundLists.{cells_append, change_at, change_cells, change_long, each2_put}
+use Rattle.abc_plainacts.proofs.SoundMade.{heap_leaves, prototype_there}
 
 set_here : {X : Type 0} (xs : List X) (k : ℕ) (x : X) → k < length xs → slice_get (set xs k x) k ≡ Some x
 set_here [] k x b = absurd (omega (arith, b))
@@ -98,7 +98,7 @@ module _ (p : Setting) (file : FileGiven p) (scopes : ScopesGiven p) where
       let sound = z.objects o.0 c.object c.at in
       let layout : c.object.layout ≡ (layout_of p.linked (parts.ClassObject k)).0 = subst (WhatSound p w.heap c.object.layout) c.is sound.what in
       let part : part_at p.linked.parts c.object.layout ≡ parts.ClassObject k = ap (part_at p.linked.parts) layout ∙ (part_found p.linked file.linked (parts.ClassObject k) b).1 in
-      record { inside = Rattle.abc_sound.proofs.Lists.inside w.heap.objects o.0 c.object c.at; home = c.home; statics = c.statics; instances = c.instances; what = ap (λ (x : Object). x.what) same ∙ c.is; made = subst (PartSound p.linked w.heap) part sound.part }
+      record { inside = Rattle.abc_plainacts.proofs.SoundLists.inside w.heap.objects o.0 c.object c.at; home = c.home; statics = c.statics; instances = c.instances; what = ap (λ (x : Object). x.what) same ∙ c.is; made = subst (PartSound p.linked w.heap) part sound.part }
 
   -- ---- the base
 
@@ -284,4 +284,4 @@ module _ (p : Setting) (file : FileGiven p) (scopes : ScopesGiven p) where
       let there_is = object_there (with_it h k home base d saved es).objects (length h.objects + 1) (put s) at in
       let count = z.stands.counted in
       went_fares p w _ _ _ (class_leaves w k home base saved es z b hh none hb hs he bases a c)
-      (record { inside = Rattle.abc_sound.proofs.Lists.inside (with_it h k home base d saved es).objects (length h.objects + 1) (put s) at; is = ap flat (set_here h.classes k (Some (obj_id (length h.objects + 1))) (omega (arith, b, count))); statics = place_is h k home base d saved es; instances = scope_id (length h.scopes + length es); what = ap (λ (x : Object). x.what) there_is; layout = ap (λ (x : Object). x.layout) there_is })))
+      (record { inside = Rattle.abc_plainacts.proofs.SoundLists.inside (with_it h k home base d saved es).objects (length h.objects + 1) (put s) at; is = ap flat (set_here h.classes k (Some (obj_id (length h.objects + 1))) (omega (arith, b, count))); statics = place_is h k home base d saved es; instances = scope_id (length h.scopes + length es); what = ap (λ (x : Object). x.what) there_is; layout = ap (λ (x : Object). x.layout) there_is })))

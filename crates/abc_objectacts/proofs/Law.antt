@@ -3,14 +3,14 @@ use Rattle.std.proofs.Common.{[]}
 use Rattle.abc_world.specs.Setting.{Setting}
 use Rattle.abc_acts.specs.Table.{acts, call_acts, class_acts, object_acts, operation_acts, plain_acts, walking_acts}
 use Rattle.abc_meaning.specs.Sound.{AreTypings, Typings}
-use Rattle.abc_sound.specs.Keeping.{GroupsHold}
+use Rattle.abc_plainacts.specs.SoundKeeping.{GroupsHold}
 use Rattle.abc_objectacts.specs.Laws.{Given, RunsNeverStick, StepsStaySound}
 use Rattle.abc_plainacts.proofs.Calls.{new_fares}
 use Rattle.abc_plainacts.proofs.Computing.{operations_hold}
 use Rattle.abc_plainacts.proofs.Jumping.{jumping_hold}
 use Rattle.abc_objectacts.proofs.Named.{calls_hold, objects_hold}
 use Rattle.abc_plainacts.proofs.Plainly.{plain_hold}
-use Rattle.abc_settles.proofs.Stepping.{run_sound, step_sound}
+use Rattle.abc_plainacts.proofs.SettlesStepping.{run_sound, step_sound}
 use Rattle.abc_objectacts.proofs.Supers.{classes_hold}
 use Rattle.abc_objectacts.proofs.Walked.{walking_hold}
 

@@ -52,21 +52,21 @@ use Rattle.abc_acts.specs.Table.{call_acts, object_acts}
 use Rattle.abc_meaning.specs.Sound.{AreTypings, IsOfKind, ScopeHolds, SlotHolds, Stands, Typings, WaitingSound, WorldSound}
 use Rattle.abc_meaning.specs.Tests.{parts_count}
 use Rattle.abc_meaning.proofs.ValueKinds.{below_object}
-use Rattle.abc_sound.specs.Given.{FileGiven, OpsGiven, ScopeFoundSound, SearchGiven}
-use Rattle.abc_sound.specs.Keeping.{ActSound, EntrySound, Fares, Leaves}
+use Rattle.abc_plainacts.specs.SoundGiven.{FileGiven, OpsGiven, ScopeFoundSound, SearchGiven}
+use Rattle.abc_plainacts.specs.SoundKeeping.{ActSound, EntrySound, Fares, Leaves}
 use Rattle.abc_plainacts.proofs.Calls.{calls_fares, new_fares, object_sound}
 use Rattle.abc_plainacts.proofs.Cases.{Case, Sound, at_of, by_case, comes, drops, gives_one, given_args, here_of, taking_one, taking_two, entry}
-use Rattle.abc_sound.proofs.Changed.{set_property_fares, write_slot_fares}
-use Rattle.abc_sound.proofs.Entered.{global_kind, starts_fares}
-use Rattle.abc_sound.proofs.Faring.{done_fares, leaves_trans, some_fares, some_then, stop_fares, then_fares, weaker}
-use Rattle.abc_sound.proofs.Growing.{typed_on, value_on, values_on}
-use Rattle.abc_sound.proofs.Lists.{each2_some, there}
-use Rattle.abc_sound.proofs.Made.{new_array_fares, new_of_host_fares}
+use Rattle.abc_plainacts.proofs.SoundChanged.{set_property_fares, write_slot_fares}
+use Rattle.abc_plainacts.proofs.SoundEntered.{global_kind, starts_fares}
+use Rattle.abc_plainacts.proofs.SoundFaring.{done_fares, leaves_trans, some_fares, some_then, stop_fares, then_fares, weaker}
+use Rattle.abc_plainacts.proofs.SoundGrowing.{typed_on, value_on, values_on}
+use Rattle.abc_plainacts.proofs.SoundLists.{each2_some, there}
+use Rattle.abc_plainacts.proofs.SoundMade.{new_array_fares, new_of_host_fares}
 use Rattle.abc_plainacts.proofs.Members.{Reads, calls_name_fares, deletes_fares, read_comes, reads_fares, writes_fares}
-use Rattle.abc_settles.proofs.Settled.{pushing_sound, with_wait}
-use Rattle.abc_settles.proofs.Shapes.{came_at, catching_left, goes_plain, locals_left, moves_to, rest_pushed, rest_stands, scopes_left, stack_left}
-use Rattle.abc_settles.proofs.Taking.{name_fares, plain_name_fares, plain_of}
-use Rattle.abc_settles.proofs.Tests.{slotted}
+use Rattle.abc_plainacts.proofs.SettlesSettled.{pushing_sound, with_wait}
+use Rattle.abc_plainacts.proofs.SettlesShapes.{came_at, catching_left, goes_plain, locals_left, moves_to, rest_pushed, rest_stands, scopes_left, stack_left}
+use Rattle.abc_plainacts.proofs.SettlesTaking.{name_fares, plain_name_fares, plain_of}
+use Rattle.abc_plainacts.proofs.SettlesTests.{slotted}
 
 module _ (p : Setting) (file : FileGiven p) (ops : OpsGiven p) (search : SearchGiven p) (typings : Typings) (typed : AreTypings p typings) where
   abbrev E : ℕ × Doing → Type 0
@@ -173,11 +173,11 @@ module _ (p : Setting) (file : FileGiven p) (ops : OpsGiven p) (search : SearchG
 
   -- ---- by a name
 
-  naming_one : {X : Type 0} (op : ℕ) (r : Shape) → Rattle.abc_settles.proofs.Taking.plain_count r.takes ≡ 1 → r.operand ≡ NameAt → Rattle.abc_settles.proofs.Taking.has_parts r.takes ≡ true → (c : Case p typings op r) → (m : Value → Name → Run X) (R : World → X → Type 0) → ((n : World) (v : Value) (name : Name) → Leaves p c.world n → Exists p.linked n.heap v → IsText p.linked.file.strings n.heap name.text → Fares p n (m v name n) R) → Fares p c.world (one (at_of c) (λ v. name_of (at_of c) >>= m v) c.world) R
+  naming_one : {X : Type 0} (op : ℕ) (r : Shape) → Rattle.abc_plainacts.proofs.SettlesTaking.plain_count r.takes ≡ 1 → r.operand ≡ NameAt → Rattle.abc_plainacts.proofs.SettlesTaking.has_parts r.takes ≡ true → (c : Case p typings op r) → (m : Value → Name → Run X) (R : World → X → Type 0) → ((n : World) (v : Value) (name : Name) → Leaves p c.world n → Exists p.linked n.heap v → IsText p.linked.file.strings n.heap name.text → Fares p n (m v name n) R) → Fares p c.world (one (at_of c) (λ v. name_of (at_of c) >>= m v) c.world) R
   naming_one op r e o has c m R g = taking_one p file ops typings typed op r e c _ R (λ k v q hv.
       then_fares p c.world _ _ _ _ (name_fares p file ops typings typed c.world c.frame c.routine c.state c.instr r c.ready o has) (λ n name l u. g n v name l (value_on p c.world.heap n.heap l.grows v hv.exists) u))
 
-  naming_two : {X : Type 0} (op : ℕ) (r : Shape) → Rattle.abc_settles.proofs.Taking.plain_count r.takes ≡ 2 → r.operand ≡ NameAt → Rattle.abc_settles.proofs.Taking.has_parts r.takes ≡ true → (c : Case p typings op r) → (m : Value → Value → Name → Run X) (R : World → X → Type 0) → ((n : World) (x y : Value) (name : Name) → Leaves p c.world n → Exists p.linked n.heap x → Exists p.linked n.heap y → IsText p.linked.file.strings n.heap name.text → Fares p n (m x y name n) R) → Fares p c.world (two (at_of c) (λ x y. name_of (at_of c) >>= m x y) c.world) R
+  naming_two : {X : Type 0} (op : ℕ) (r : Shape) → Rattle.abc_plainacts.proofs.SettlesTaking.plain_count r.takes ≡ 2 → r.operand ≡ NameAt → Rattle.abc_plainacts.proofs.SettlesTaking.has_parts r.takes ≡ true → (c : Case p typings op r) → (m : Value → Value → Name → Run X) (R : World → X → Type 0) → ((n : World) (x y : Value) (name : Name) → Leaves p c.world n → Exists p.linked n.heap x → Exists p.linked n.heap y → IsText p.linked.file.strings n.heap name.text → Fares p n (m x y name n) R) → Fares p c.world (two (at_of c) (λ x y. name_of (at_of c) >>= m x y) c.world) R
   naming_two op r e o has c m R g = taking_two p file ops typings typed op r e c _ R (λ k l x y q hx hy.
       then_fares p c.world _ _ _ _ (name_fares p file ops typings typed c.world c.frame c.routine c.state c.instr r c.ready o has) (λ n name l' u. g n x y name l' (value_on p c.world.heap n.heap l'.grows x hx.exists) (value_on p c.world.heap n.heap l'.grows y hy.exists) u))
 

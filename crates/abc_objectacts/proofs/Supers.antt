@@ -67,21 +67,21 @@ use Rattle.abc_acts.specs.Supers.{base_of_maker, calls_super, constructs_super, 
 use Rattle.abc_acts.specs.Table.{class_acts}
 use Rattle.abc_meaning.specs.Sound.{AreMade, AreTypings, IsMade, IsOfKind, Typings, WaitingSound, WhatSound, WorldSound}
 use Rattle.abc_meaning.specs.Tests.{parts_count}
-use Rattle.abc_sound.specs.Given.{BaseRuns, FileGiven, FoundSound, HasBody, IsScopeLayout, MakersGiven, OpsGiven, OwnedSound, ScopesGiven, SearchGiven, base_of}
-use Rattle.abc_sound.specs.Keeping.{ActSound, CameSound, EntrySound, Fares, Leaves}
+use Rattle.abc_plainacts.specs.SoundGiven.{BaseRuns, FileGiven, FoundSound, HasBody, IsScopeLayout, MakersGiven, OpsGiven, OwnedSound, ScopesGiven, SearchGiven, base_of}
+use Rattle.abc_plainacts.specs.SoundKeeping.{ActSound, CameSound, EntrySound, Fares, Leaves}
 use Rattle.abc_plainacts.proofs.Calls.{host_arguments_fares, set_message_fares}
 use Rattle.abc_plainacts.proofs.Cases.{Case, OfSource, Sound, at_of, by_case, comes, drops, entry, gives_one, given_args, here_of, taking_one, taking_two}
 use Rattle.abc_objectacts.proofs.Classes.{BaseMade, ClassMade, base_fares, kept_is, new_class_fares}
-use Rattle.abc_sound.proofs.Entered.{owned_fares}
-use Rattle.abc_sound.proofs.Faring.{done_fares, leaves_trans, some_then, stop_fares, then_fares, weaker}
-use Rattle.abc_sound.proofs.Growing.{kind_on, value_on, values_on}
-use Rattle.abc_sound.proofs.Lists.{each_at, there}
-use Rattle.abc_sound.proofs.Made.{new_function_fares, new_object_fares}
+use Rattle.abc_plainacts.proofs.SoundEntered.{owned_fares}
+use Rattle.abc_plainacts.proofs.SoundFaring.{done_fares, leaves_trans, some_then, stop_fares, then_fares, weaker}
+use Rattle.abc_plainacts.proofs.SoundGrowing.{kind_on, value_on, values_on}
+use Rattle.abc_plainacts.proofs.SoundLists.{each_at, there}
+use Rattle.abc_plainacts.proofs.SoundMade.{new_function_fares, new_object_fares}
 use Rattle.abc_plainacts.proofs.Members.{call_found_fares, read_comes, read_found_fares, write_found_fares}
 use Rattle.abc_objectacts.proofs.Named.{entries_there}
-use Rattle.abc_settles.proofs.Settled.{with_wait}
-use Rattle.abc_settles.proofs.Shapes.{catching_left, rest_stands, scopes_left}
-use Rattle.abc_settles.proofs.Taking.{has_parts, name_fares, plain_count, plain_of}
+use Rattle.abc_plainacts.proofs.SettlesSettled.{with_wait}
+use Rattle.abc_plainacts.proofs.SettlesShapes.{catching_left, rest_stands, scopes_left}
+use Rattle.abc_plainacts.proofs.SettlesTaking.{has_parts, name_fares, plain_count, plain_of}
 
 -- the need of an instance among those that an instruction has
 last_suits : (h : Here) (parts : List Need) (rule : VerifyRule) (n : ℕ) (ks : List Kind) (k : Kind) → n ≡ length parts → plain_of (needed.Runtime ∷ needed.Instance ∷ []) n ks ≡ k ∷ [] → all_suit h rule (parts ++ needed.Instance ∷ []) ks ≡ true → suits h rule needed.Instance k ≡ true
@@ -141,7 +141,7 @@ module _ (p : Setting) (file : FileGiven p) (ops : OpsGiven p) (search : SearchG
   super_fares op r c n m o name want l is h b =
       some_then p n (object o n) (object_at n.heap.objects o.0) _ _ (there n.heap.objects o.0 h)
       (some_then p n (super_layout r.site c.routine.home) m _ _ is
-      (done_fares p n _ _ l.sound (strict_sound n want _ (Obj o) (search.declared n o (above p.linked m.0) name want l.sound h (below_above p.linked _ m.0 b)), Rattle.abc_sound.proofs.Faring.leaves_self p n l.sound)))
+      (done_fares p n _ _ l.sound (strict_sound n want _ (Obj o) (search.declared n o (above p.linked m.0) name want l.sound h (below_above p.linked _ m.0 b)), Rattle.abc_plainacts.proofs.SoundFaring.leaves_self p n l.sound)))
 
   abbrev get_row : Shape
   get_row = only OnInstance (naming NameAt (makes (needed.Runtime ∷ needed.Instance ∷ []) rows.Any))
@@ -277,7 +277,7 @@ module _ (p : Setting) (file : FileGiven p) (ops : OpsGiven p) (search : SearchG
           let low = ltb-true n (length p.linked.file.methods) (and_left _ _ test) in
           let free = free_is (owner_of p.linked.file n) (and_left _ _ (and_right (ltb n (length p.linked.file.methods)) _ test)) in
           let body = body_there n (and_right (is_free (owner_of p.linked.file n)) _ (and_right (ltb n (length p.linked.file.methods)) _ test)) in
-          then_fares p w _ _ _ _ (new_function_fares p file w n c.frame.home c.frame.saved c.frame.scopes c.ready.world low c.ready.home c.ready.saved (entries_at 0x40 function_row c w (Rattle.abc_sound.proofs.Faring.leaves_self p w c.ready.world)) (λ h. record { routine = body.routine; body = body.body; bound_to = free })) (λ i o l ho.
+          then_fares p w _ _ _ _ (new_function_fares p file w n c.frame.home c.frame.saved c.frame.scopes c.ready.world low c.ready.home c.ready.saved (entries_at 0x40 function_row c w (Rattle.abc_plainacts.proofs.SoundFaring.leaves_self p w c.ready.world)) (λ h. record { routine = body.routine; body = body.body; bound_to = free })) (λ i o l ho.
           done_fares p i (Obj o) _ l.sound (record { exists = ho.0; kind = (ho.0, subst (λ x. IsBelow p.linked x (host_layout p.linked hosts.Function)) (sym ho.1) (below_self p.linked (host_layout p.linked hosts.Function))) }))
 
   -- ---- activations and catch objects
@@ -335,7 +335,7 @@ module _ (p : Setting) (file : FileGiven p) (ops : OpsGiven p) (search : SearchG
   -- the frame keeps the class object
   class_kept : (c : Case p typings 0x58 (naming ClassAt (row value (ClassObjectKind ∷ [])))) (n : World) (o : ObjId) → Leaves p c.world n → IsOfKind p.linked n.heap (object_of p.linked (parts.ClassObject (operand c.instr))) (Obj o) → WaitingSound p typings n.heap (waiting (waits.Keep (Obj o)) (at_of c).rest)
   class_kept c n o l ho =
-      let g = Rattle.abc_settles.proofs.Shapes.goes_plain p file typings typed c.world c.frame c.routine c.state c.instr class_row c.ready (record { keeps = record { unslotted = refl; scoping = refl; locals = λ t. refl }; leads = refl }) n l (Obj o ∷ []) (ho, tt) in
+      let g = Rattle.abc_plainacts.proofs.SettlesShapes.goes_plain p file typings typed c.world c.frame c.routine c.state c.instr class_row c.ready (record { keeps = record { unslotted = refl; scoping = refl; locals = λ t. refl }; leads = refl }) n l (Obj o ∷ []) (ho, tt) in
       let rest = rest_stands p file typings typed c.world c.frame c.routine c.state c.instr class_row c.ready ClassObjectKind refl (record { unslotted = refl; scoping = refl; locals = λ t. refl }) n l in
       with_wait p file typings typed n.heap (at_of c).rest (waits.Keep (Obj o)) (record { routine = rest.routine; body = rest.body; home = rest.home; saved = rest.saved; locals = rest.locals; stack = rest.stack; scopes = rest.scopes }) (catching_left p file typings typed c.world c.frame c.routine c.state c.instr class_row c.ready n l) g.typed
 

@@ -37,14 +37,14 @@ use Rattle.abc_acts.specs.At.{Doing, gives, goes, pushed, two, with_local}
 use Rattle.abc_acts.specs.Walking.{Position, element_text, first_along, has_next, has_next2, name_in, next_along, next_in, number_or_zero, object_number, or_later, position, position_at, text_or_null, value_in, value_or_undefined, walked, walks_to}
 use Rattle.abc_meaning.specs.Sound.{AreTypings, IsOfKind, Typings, WorldSound}
 use Rattle.abc_meaning.proofs.ValueKinds.{below_object}
-use Rattle.abc_sound.specs.Given.{FileGiven, OpsGiven}
-use Rattle.abc_sound.specs.Keeping.{ActSound, EntrySound, Fares}
+use Rattle.abc_plainacts.specs.SoundGiven.{FileGiven, OpsGiven}
+use Rattle.abc_plainacts.specs.SoundKeeping.{ActSound, EntrySound, Fares}
 use Rattle.abc_plainacts.proofs.Cases.{Case, Sound, at_of, by_case, here_of, two_give, entry}
-use Rattle.abc_sound.proofs.Faring.{done_fares, leaves_self, some_then, then_fares}
-use Rattle.abc_sound.proofs.Growing.{any_kind}
+use Rattle.abc_plainacts.proofs.SoundFaring.{done_fares, leaves_self, some_then, then_fares}
+use Rattle.abc_plainacts.proofs.SoundGrowing.{any_kind}
 use Rattle.abc_plainacts.proofs.Plainly.{local_there}
-use Rattle.abc_settles.proofs.Shapes.{moves_to, scopes_left, stack_left, unslotted_left}
-use Rattle.abc_settles.proofs.Tests.{local_at}
+use Rattle.abc_plainacts.proofs.SettlesShapes.{moves_to, scopes_left, stack_left, unslotted_left}
+use Rattle.abc_plainacts.proofs.SettlesTests.{local_at}
 
 -- ---- positions
 

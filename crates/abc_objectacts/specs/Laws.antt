@@ -5,7 +5,7 @@ use Rattle.abc_meaning.specs.Meaning.{runs_for}
 use Rattle.abc_meaning.specs.Sound.{AreTypings, IsSound, SteppedSound, Typings}
 use Rattle.abc_meaning.specs.Step.{step}
 use Rattle.abc_meaning.specs.Throwing.{Machine, Stuck}
-use Rattle.abc_sound.specs.Given.{FileGiven, MakersGiven, OpsGiven, ScopesGiven, SearchGiven}
+use Rattle.abc_plainacts.specs.SoundGiven.{FileGiven, MakersGiven, OpsGiven, ScopesGiven, SearchGiven}
 
 -- what is given of the file, the operations and the searches
 pub record Given (p : Setting) : Type 0 where

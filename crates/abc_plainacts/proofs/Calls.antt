@@ -42,14 +42,14 @@ use Rattle.abc_world.specs.Ops.{coerces, converts}
 use Rattle.abc_world.specs.Setting.{Setting, method_of, type_of_class, type_of_host}
 use Rattle.abc_world.specs.World.{Errs, Faults, Run, World, and_then, each_of, object, throws}
 use Rattle.abc_meaning.specs.Sound.{AreMade, AreTypings, FunctionSound, IsBound, IsOfKind, ObjectSound, PartSound, Typings, WhatSound, WorldSound}
-use Rattle.abc_sound.specs.Given.{FileGiven, HasBody, OpsGiven}
-use Rattle.abc_sound.specs.Keeping.{CameSound, Fares, Leaves}
-use Rattle.abc_sound.proofs.Changed.{set_property_fares}
-use Rattle.abc_sound.proofs.Entered.{arguments_fares, enters_fares, framed_fares, global_kind}
-use Rattle.abc_sound.proofs.Faring.{done_fares, if_fares, some_then, stop_fares, then_fares, weaker, went_fares}
-use Rattle.abc_sound.proofs.Growing.{all_made_on, any_kind, evolves_self, first_is, kinds_on, value_on, values_on}
-use Rattle.abc_sound.proofs.Lists.{there}
-use Rattle.abc_sound.proofs.Made.{IsFresh, host_fresh, new_array_fares, new_object_fares}
+use Rattle.abc_settles.specs.SoundGiven.{FileGiven, HasBody, OpsGiven}
+use Rattle.abc_settles.specs.SoundKeeping.{CameSound, Fares, Leaves}
+use Rattle.abc_settles.proofs.SoundChanged.{set_property_fares}
+use Rattle.abc_settles.proofs.SoundEntered.{arguments_fares, enters_fares, framed_fares, global_kind}
+use Rattle.abc_settles.proofs.SoundFaring.{done_fares, if_fares, some_then, stop_fares, then_fares, weaker, went_fares}
+use Rattle.abc_settles.proofs.SoundGrowing.{all_made_on, any_kind, evolves_self, first_is, kinds_on, value_on, values_on}
+use Rattle.abc_settles.proofs.SoundLists.{there}
+use Rattle.abc_settles.proofs.SoundMade.{IsFresh, host_fresh, new_array_fares, new_object_fares}
 
 -- ---- numbers
 
@@ -244,7 +244,7 @@ module _ (p : Setting) (file : FileGiven p) (ops : OpsGiven p) (typings : Typing
       (then_fares p w _ _ _ _ (arguments_fares p file ops w n r i args z es) (λ m vs l hv.
       then_fares p m _ _ _ _ (new_object_fares p file m (layout_of p.linked (parts.Instance k)).0 (prototype_in o m) whats.Plain l.sound (instance_fresh m.heap k (prototype_in o m) b ni (all_made_on p w.heap m.heap l.grows k made) (prototype_is p.linked m.heap o.0 l.sound.stands))) (λ j x l' k'.
       let this : IsOfKind p.linked j.heap (this_kind p.linked (owner_of p.linked.file n)) (Obj x) = subst (λ q. IsOfKind p.linked j.heap (this_kind p.linked q) (Obj x)) (sym maker.owner_is) (record { exists = k'.0; kind = (k'.0, subst (λ y. IsBelow p.linked y (layout_of p.linked (parts.Instance k)).0) (sym k'.1) (below_self p.linked (layout_of p.linked (parts.Instance k)).0)) }) in
-      let grows = Rattle.abc_sound.proofs.Growing.evolves_on w.heap m.heap j.heap l.grows l'.grows in
+      let grows = Rattle.abc_settles.proofs.SoundGrowing.evolves_on w.heap m.heap j.heap l.grows l'.grows in
       then_fares p j _ _ _ _ (framed_fares p file ops typings typed j n r i (Obj x) (place home (Some instances)) args vs l'.sound maker.body.body this hh (Rattle.abc_objects.proofs.Grown.scope_grown w.heap j.heap (Some instances) grows.grows hs) (values_on p w.heap j.heap grows args es) (kinds_on p m.heap j.heap l'.grows _ _ hv))
       (λ q f l'' hf. done_fares p q _ _ l''.sound (hf, value_on p j.heap q.heap l''.grows (Obj x) k'.0)))))
 

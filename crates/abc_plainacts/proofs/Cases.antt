@@ -32,9 +32,9 @@ use Rattle.abc_acts.specs.At.{Act, At, Doing, drops_came, gives, gives_came, goe
 use Rattle.abc_acts.specs.Simple.{branches, first_of, sets_local}
 use Rattle.abc_meaning.specs.Sound.{AreTypings, IsOfKind, Typings}
 use Rattle.abc_meaning.specs.Tests.{at_frame, parts_count}
-use Rattle.abc_sound.specs.Given.{FileGiven, HasTarget, OpsGiven}
-use Rattle.abc_sound.specs.Keeping.{ActSound, CameSound, DoingSound, EntrySound, Fares, Leaves, Ready}
-use Rattle.abc_sound.proofs.Faring.{done_fares, then_fares}
+use Rattle.abc_settles.specs.SoundGiven.{FileGiven, HasTarget, OpsGiven}
+use Rattle.abc_settles.specs.SoundKeeping.{ActSound, CameSound, DoingSound, EntrySound, Fares, Leaves, Ready}
+use Rattle.abc_settles.proofs.SoundFaring.{done_fares, then_fares}
 use Rattle.abc_settles.proofs.Shapes.{IsPlainRow, KeepsRow, args_exist, came_sound, dropped_sound, gives_sound, goes_to, locals_left, moves_to, nothing_sound, scopes_left, stack_left, unslotted, unslotted_left, unslotted_unfolded}
 use Rattle.abc_settles.proofs.Stepping.{entry_sound}
 use Rattle.abc_settles.proofs.Taking.{one_then, plain_count, plain_of, two_then}

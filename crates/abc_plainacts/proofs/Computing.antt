@@ -38,12 +38,12 @@ use Rattle.abc_acts.specs.Table.{operation_acts}
 use Rattle.abc_meaning.specs.Sound.{AreTypings, IsOfKind, Typings, WorldSound}
 use Rattle.abc_meaning.specs.Tests.{parts_count}
 use Rattle.abc_meaning.proofs.ValueKinds.{type_holds}
-use Rattle.abc_sound.specs.Given.{FileGiven, OpsGiven, single_kind}
-use Rattle.abc_sound.specs.Keeping.{EntrySound, Fares}
+use Rattle.abc_settles.specs.SoundGiven.{FileGiven, OpsGiven, single_kind}
+use Rattle.abc_settles.specs.SoundKeeping.{EntrySound, Fares}
 use Rattle.abc_plainacts.proofs.Cases.{Case, OfSource, Sound, at_of, by_case, gives_one, here_of, one_gives, sets, taking_two, two_give, entry}
-use Rattle.abc_sound.proofs.Faring.{done_fares, some_then, stop_fares, then_fares, weaker}
-use Rattle.abc_sound.proofs.Growing.{any_kind, kind_on, value_on}
-use Rattle.abc_sound.proofs.Lists.{there}
+use Rattle.abc_settles.proofs.SoundFaring.{done_fares, some_then, stop_fares, then_fares, weaker}
+use Rattle.abc_settles.proofs.SoundGrowing.{any_kind, kind_on, value_on}
+use Rattle.abc_settles.proofs.SoundLists.{there}
 use Rattle.abc_plainacts.proofs.Plainly.{local_there}
 use Rattle.abc_settles.proofs.Taking.{first_kind, two_kinds}
 
@@ -56,7 +56,7 @@ module _ (p : Setting) (file : FileGiven p) (ops : OpsGiven p) (typings : Typing
 
   -- ---- conversions
 
-  converts_so : (o : ℕ) (k : RowKind) (to : Conversion) → Rattle.abc_sound.specs.Given.conversion_kind to ≡ fixed p.linked k → row_at o ≡ Some (makes value k) → E (o, converting to)
+  converts_so : (o : ℕ) (k : RowKind) (to : Conversion) → Rattle.abc_settles.specs.SoundGiven.conversion_kind to ≡ fixed p.linked k → row_at o ≡ Some (makes value k) → E (o, converting to)
   converts_so o k to same e = entry p typings o (makes value k) (converting to) e (one_gives p file ops typings typed o (makes value k) (Fixed k) (λ a. converts a.setting to) (record { unslotted_is = refl; scoping = refl; locals = λ h t. refl; leads_is = refl }) refl refl
       (λ c i v q hv. subst (λ x. Fares p c.world (converts p to v c.world) (λ n z. IsOfKind p.linked n.heap x z)) same (ops.convert c.world to v c.ready.world hv.exists)))
 

@@ -25,11 +25,11 @@ use Rattle.abc_acts.specs.Simple.{branches, first_of, returns, switched, switche
 use Rattle.abc_acts.specs.Table.{jumping_acts}
 use Rattle.abc_meaning.specs.Sound.{AreTypings, IsOfKind, Typings}
 use Rattle.abc_meaning.specs.Tests.{parts_count}
-use Rattle.abc_sound.specs.Given.{FileGiven, HasTarget, OpsGiven}
-use Rattle.abc_sound.specs.Keeping.{ActSound, EntrySound, Fares}
+use Rattle.abc_settles.specs.SoundGiven.{FileGiven, HasTarget, OpsGiven}
+use Rattle.abc_settles.specs.SoundKeeping.{ActSound, EntrySound, Fares}
 use Rattle.abc_plainacts.proofs.Cases.{Case, Sound, at_of, branches_so, by_case, gives_nothing, goes_there, here_of, one_suits, taking_one, taking_two, target_of, entry}
-use Rattle.abc_sound.proofs.Entered.{coerces_to_fares}
-use Rattle.abc_sound.proofs.Faring.{done_fares, leaves_self, some_then, stop_fares, then_fares}
+use Rattle.abc_settles.proofs.SoundEntered.{coerces_to_fares}
+use Rattle.abc_settles.proofs.SoundFaring.{done_fares, leaves_self, some_then, stop_fares, then_fares}
 
 in_get : (ts : List ℕ) (n d : ℕ) → In (get_or ts n d) (d ∷ ts)
 in_get [] n d = inl refl

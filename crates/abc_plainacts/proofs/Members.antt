@@ -33,15 +33,15 @@ use Rattle.abc_world.specs.Objects.{new_of_host, own_place, without_property}
 use Rattle.abc_world.specs.Setting.{Setting, is_dynamic_layout}
 use Rattle.abc_world.specs.World.{Errs, Faults, Run, Went, World, and_then, changes, object}
 use Rattle.abc_meaning.specs.Sound.{AreTypings, FrameSound, SlotHolds, Typings, WorldSound}
-use Rattle.abc_sound.specs.Given.{FileGiven, FoundSound, OpsGiven, OwnedSound, SearchGiven}
-use Rattle.abc_sound.specs.Keeping.{CameSound, Fares}
+use Rattle.abc_settles.specs.SoundGiven.{FileGiven, FoundSound, OpsGiven, OwnedSound, SearchGiven}
+use Rattle.abc_settles.specs.SoundKeeping.{CameSound, Fares}
 use Rattle.abc_plainacts.proofs.Calls.{calls_fares, object_sound}
-use Rattle.abc_sound.proofs.Changed.{element_leaves, set_property_fares, without_property_fares, write_element_fares, write_slot_fares}
-use Rattle.abc_sound.proofs.Entered.{owned_fares}
-use Rattle.abc_sound.proofs.Faring.{done_fares, if_fares, some_fares, some_then, stop_fares, then_fares, went_fares}
-use Rattle.abc_sound.proofs.Growing.{value_on, values_on}
-use Rattle.abc_sound.proofs.Lists.{each2_some, inside, there}
-use Rattle.abc_sound.proofs.Made.{new_of_host_fares}
+use Rattle.abc_settles.proofs.SoundChanged.{element_leaves, set_property_fares, without_property_fares, write_element_fares, write_slot_fares}
+use Rattle.abc_settles.proofs.SoundEntered.{owned_fares}
+use Rattle.abc_settles.proofs.SoundFaring.{done_fares, if_fares, some_fares, some_then, stop_fares, then_fares, went_fares}
+use Rattle.abc_settles.proofs.SoundGrowing.{value_on, values_on}
+use Rattle.abc_settles.proofs.SoundLists.{each2_some, inside, there}
+use Rattle.abc_settles.proofs.SoundMade.{new_of_host_fares}
 
 -- an object's elements are cells
 elements_counted : (obs : List Object) (o : ℕ) → o < length obs → length (object_at obs o).elements ≤ all_cells obs

@@ -37,11 +37,11 @@ use Rattle.abc_acts.specs.Table.{plain_acts}
 use Rattle.abc_meaning.specs.Sound.{AreTypings, IsOfKind, ScopeHolds, Typings}
 use Rattle.abc_meaning.specs.Tests.{parts_count}
 use Rattle.abc_meaning.proofs.ValueKinds.{below_object}
-use Rattle.abc_sound.specs.Given.{FileGiven, OpsGiven}
-use Rattle.abc_sound.specs.Keeping.{ActSound, EntrySound, Fares}
+use Rattle.abc_settles.specs.SoundGiven.{FileGiven, OpsGiven}
+use Rattle.abc_settles.specs.SoundKeeping.{ActSound, EntrySound, Fares}
 use Rattle.abc_plainacts.proofs.Cases.{Case, OfSource, Sound, at_of, by_case, gives_nothing, gives_one, here_of, sets, taking_one, taking_two, entry}
-use Rattle.abc_sound.proofs.Entered.{global_kind}
-use Rattle.abc_sound.proofs.Faring.{done_fares, leaves_self, some_fares, some_then, stop_fares}
+use Rattle.abc_settles.proofs.SoundEntered.{global_kind}
+use Rattle.abc_settles.proofs.SoundFaring.{done_fares, leaves_self, some_fares, some_then, stop_fares}
 use Rattle.abc_settles.proofs.Shapes.{goes_plain, moves_to, stack_left, unslotted_left}
 use Rattle.abc_settles.proofs.Taking.{first_kind, string_there, two_kinds}
 use Rattle.abc_settles.proofs.Tests.{local_at}

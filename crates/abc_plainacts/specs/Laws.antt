@@ -2,8 +2,8 @@
 use Rattle.std.specs.Prelude.{[]}
 use Rattle.abc_acts.specs.Table.{jumping_acts, operation_acts, plain_acts}
 use Rattle.abc_meaning.specs.Sound.{AreTypings, Typings}
-use Rattle.abc_sound.specs.Given.{FileGiven, OpsGiven}
-use Rattle.abc_sound.specs.Keeping.{EntrySound}
+use Rattle.abc_settles.specs.SoundGiven.{FileGiven, OpsGiven}
+use Rattle.abc_settles.specs.SoundKeeping.{EntrySound}
 use Rattle.abc_typing.specs.Lists.{Each}
 use Rattle.abc_world.specs.Setting.{Setting}
 

@@ -64,9 +64,9 @@ use Rattle.abc_world.specs.Objects.{Place, place, place_of_owner}
 use Rattle.abc_world.specs.Setting.{Setting}
 use Rattle.abc_world.specs.World.{Went, World}
 use Rattle.abc_meaning.specs.Sound.{IsFirstOf, IsMade, IsOfKind, PartSound, WorldSound}
-use Rattle.abc_sound.specs.Given.{BaseKnown, FileGiven, HasBody, OwnedSound, ScopesGiven}
-use Rattle.abc_sound.proofs.Growing.{first_is}
-use Rattle.abc_sound.proofs.Lists.{inside, there}
+use Rattle.abc_given.specs.SoundGiven.{BaseKnown, FileGiven, HasBody, OwnedSound, ScopesGiven}
+use Rattle.abc_given.proofs.SoundGrowing.{first_is}
+use Rattle.abc_given.proofs.SoundLists.{inside, there}
 use Rattle.abc_given.proofs.Filed.{definitions, traits_run}
 use Rattle.abc_given.proofs.Indexed.{all_each, none_passes, or_right}
 use Rattle.abc_unstuck.proofs.Makers.{above_at, class_keeps, plain_base, under_class}

@@ -49,9 +49,9 @@ use Rattle.abc_world.specs.Objects.{Place, flat, instances_of, kept_by, place, p
 use Rattle.abc_world.specs.Setting.{Setting}
 use Rattle.abc_world.specs.World.{Went, World}
 use Rattle.abc_meaning.specs.Sound.{AreMade, IsMade, IsOfKind, PartSound, WorldSound}
-use Rattle.abc_sound.specs.Given.{BaseKnown, BaseRuns, FileGiven, MakersGiven, ScopesGiven, base_of as base_maker}
+use Rattle.abc_given.specs.SoundGiven.{BaseKnown, BaseRuns, FileGiven, MakersGiven, ScopesGiven, base_of as base_maker}
 use Rattle.abc_objectacts.proofs.Classes.{class_there, kept_is}
-use Rattle.abc_sound.proofs.Lists.{there}
+use Rattle.abc_given.proofs.SoundLists.{there}
 use Rattle.abc_given.proofs.Filed.{routine_found}
 use Rattle.abc_given.proofs.Indexed.{first_passed, got, no_break}
 use Rattle.abc_given.proofs.Owned.{iinits}

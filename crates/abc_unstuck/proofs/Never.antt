@@ -16,7 +16,7 @@ use Rattle.abc_objectacts.specs.Laws.{Given}
 use Rattle.abc_objectacts.proofs.Law.{runs_never_stick, steps_stay_sound}
 use Rattle.abc_given.proofs.Filed.{body_is}
 use Rattle.abc_unstuck.proofs.Makers.{makers_given}
-use Rattle.abc_opsound.proofs.Operated.{ops_given}
+use Rattle.abc_given.proofs.OpsoundOperated.{ops_given}
 use Rattle.abc_given.proofs.Scoped.{scopes_given}
 use Rattle.abc_unstuck.proofs.Searched.{search_given}
 use Rattle.abc_unstuck.proofs.Starting.{begins_sound}

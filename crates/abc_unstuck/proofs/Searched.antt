@@ -41,8 +41,8 @@ use Rattle.abc_typing.proofs.Member.{and_right}
 use Rattle.abc_world.specs.Setting.{Setting}
 use Rattle.abc_world.specs.World.{World}
 use Rattle.abc_meaning.specs.Sound.{WorldSound}
-use Rattle.abc_sound.specs.Given.{FileGiven, FoundSound, ScopeFoundSound, ScopesGiven, SearchGiven}
-use Rattle.abc_sound.proofs.Lists.{there}
+use Rattle.abc_given.specs.SoundGiven.{FileGiven, FoundSound, ScopeFoundSound, ScopesGiven, SearchGiven}
+use Rattle.abc_given.proofs.SoundLists.{there}
 use Rattle.abc_unstuck.proofs.Holders.{CandidateSound, MemberSound, traits_sound}
 use Rattle.abc_given.proofs.Indexed.{is_at}
 

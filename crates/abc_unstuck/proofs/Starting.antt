@@ -36,8 +36,8 @@ use Rattle.abc_world.specs.Setting.{Setting}
 use Rattle.abc_meaning.specs.Laws.{AreCounted, IsVerified}
 use Rattle.abc_meaning.specs.Meaning.{first_state, first_world, too_small}
 use Rattle.abc_meaning.specs.Sound.{IsSound, ObjectSound, PartSound, SlotHolds, Typings, WhatSound}
-use Rattle.abc_sound.proofs.Growing.{first_is}
-use Rattle.abc_sound.proofs.Lists.{each2_put}
+use Rattle.abc_given.proofs.SoundGrowing.{first_is}
+use Rattle.abc_given.proofs.SoundLists.{each2_put}
 use Rattle.abc_given.proofs.Begun.{starts_hold}
 
 module _ (p : Setting) (linked : IsLinkedFile p.linked) (few : HasFewSlots p.linked) (limits : Limits) (h : Heap) (z : StandsOver p.linked h) where

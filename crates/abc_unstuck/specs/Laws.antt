@@ -2,7 +2,7 @@
 -- specs/Laws.
 use Rattle.std.specs.Prelude.{◌≡◌, None}
 use Rattle.abc_heap.specs.declared.records.Limits.{Limits}
-use Rattle.abc_sound.specs.Given.{FileGiven, MakersGiven, ScopesGiven, SearchGiven}
+use Rattle.abc_given.specs.SoundGiven.{FileGiven, MakersGiven, ScopesGiven, SearchGiven}
 use Rattle.abc_world.specs.Setting.{Setting}
 use Rattle.abc_meaning.specs.Laws.{AreCounted, IsVerified}
 use Rattle.abc_meaning.specs.Meaning.{first_world, too_small}

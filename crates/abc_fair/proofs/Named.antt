@@ -3,7 +3,7 @@ use Rattle.std.proofs.Common.{ℕ, List, [], length, ap}
 use Rattle.abc_meaning.specs.Throwing.{Machine}
 use Rattle.abc_objects.specs.Opening.{opening}
 use Rattle.std.specs.Prelude.{false, replicate}
-use Rattle.abc_premise.specs.Laws.{FirstByNames}
+use Rattle.abc_fair.specs.Premise.{FirstByNames}
 
 pub same_first : FirstByNames
 same_first l fs gs limits e =

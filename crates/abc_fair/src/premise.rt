@@ -1,4 +1,4 @@
-ghost use Rattle.abc_premise.specs.Laws.{FirstByNames, SoundFramesRun, VerifiedHaveTypings};
+ghost use Rattle.abc_fair.specs.Premise.{FirstByNames, SoundFramesRun, VerifiedHaveTypings};
 
 /// In a sound state of a verified file, what the newest frame names is there, and an instruction stands at its place, of which
 /// no test fails.

@@ -10,7 +10,7 @@ use Rattle.abc_program.specs.Linked.{LinkedFile}
 use Rattle.abc_stacks.specs.Frame.{Frame}
 use Rattle.abc_world.specs.Setting.{Setting}
 use Rattle.abc_world.specs.World.{World}
-use Rattle.abc_premise.specs.Running.{IsRunning}
+use Rattle.abc_fair.specs.Running.{IsRunning}
 
 -- in a sound state of a verified file, the newest frame has an instruction that can be done
 abbrev pub SoundFramesRun : Type 0

@@ -26,12 +26,12 @@ use Rattle.abc_meaning.specs.Sound.{AreTypings, FrameSound, IsOfKind, IsSound, S
 use Rattle.abc_meaning.specs.Step.{acted, runs, step}
 use Rattle.abc_meaning.specs.Throwing.{Ends, Machine, Stepped, Stuck}
 use Rattle.abc_typing.proofs.Fine.{stands}
-use Rattle.abc_given.proofs.Filed.{routine_found}
-use Rattle.abc_sound.proofs.Lists.{each_at, inside}
+use Rattle.abc_unstuck.proofs.GivenFiled.{routine_found}
+use Rattle.abc_unstuck.proofs.SoundLists.{each_at, inside}
 use Rattle.abc_unstuck.proofs.Never.{stays_sound}
-use Rattle.abc_premise.specs.Laws.{SoundFramesRun}
-use Rattle.abc_premise.specs.Running.{HasInstruction, IsThere}
-use Rattle.abc_premise.proofs.Formed.{row_low}
+use Rattle.abc_fair.specs.Premise.{SoundFramesRun}
+use Rattle.abc_fair.specs.Running.{HasInstruction, IsThere}
+use Rattle.abc_fair.proofs.Formed.{row_low}
 
 -- ---- what a frame names is there
 

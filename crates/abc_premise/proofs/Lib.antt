@@ -1,4 +1,0 @@
-pub mod Formed
-pub mod Named
-pub mod Sounded
-pub mod Typed
