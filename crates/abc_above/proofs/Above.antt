@@ -18,7 +18,7 @@ use Rattle.abc_search.specs.declared.found.Want.{Want}
 use Rattle.abc_search.specs.declared.name.Name.{Name}
 use Rattle.abc_search.specs.declared.traits.Member.{Member}
 use Rattle.abc_search.specs.declared.traits.Member.TheVariants as members
-use Rattle.abc_acts.specs.Supers.{strict}
+use Rattle.abc_states.specs.ActsSupers.{strict}
 use Rattle.abc_above.specs.Found.{IsDeclared, found_above}
 
 member_there : (l : LinkedFile) (m : Member) → IsDeclared l (found_as l m)

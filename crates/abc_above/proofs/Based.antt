@@ -23,10 +23,10 @@ use Rattle.abc_program.specs.declared.part.Part.{Part}
 use Rattle.abc_program.specs.declared.part.Part.TheVariants as parts
 use Rattle.abc_sound.specs.Given.{BaseKnown}
 use Rattle.abc_stacks.specs.Frame.{Frame}
-use Rattle.abc_acts.specs.Newing.{is_that, unmade}
-use Rattle.abc_world.specs.Setting.{Setting}
-use Rattle.abc_world.specs.Making.{prototype_in}
-use Rattle.abc_world.specs.World.{Errs, Outcome, Run, Stopped, Went, World, and_then, see, throws}
+use Rattle.abc_states.specs.ActsNewing.{is_that, unmade}
+use Rattle.abc_states.specs.WorldSetting.{Setting}
+use Rattle.abc_states.specs.WorldMaking.{prototype_in}
+use Rattle.abc_states.specs.World.{Errs, Outcome, Run, Stopped, Went, World, and_then, see, throws}
 use Rattle.abc_above.specs.declared.bases.Base.{Base}
 use Rattle.abc_above.specs.declared.bases.Base.TheVariants as bases
 use Rattle.abc_above.specs.Based.{IsBase, IsClassPart, named_of}

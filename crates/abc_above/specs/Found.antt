@@ -13,9 +13,9 @@ use Rattle.abc_search.specs.declared.found.ScopeFound.TheVariants.{Missing, Obje
 use Rattle.abc_search.specs.declared.found.Want.{Want}
 use Rattle.abc_search.specs.declared.name.Name.{Name}
 use Rattle.abc_stacks.specs.Frame.{Frame}
-use Rattle.abc_acts.specs.Supers.{strict}
-use Rattle.abc_world.specs.Setting.{Setting}
-use Rattle.abc_world.specs.World.{World}
+use Rattle.abc_states.specs.ActsSupers.{strict}
+use Rattle.abc_states.specs.WorldSetting.{Setting}
+use Rattle.abc_states.specs.World.{World}
 
 abbrev pub find_in_scopes : Setting → Frame → Name → World → ScopeFound
 find_in_scopes p f name w = found_in_scopes p.linked w.heap f.scopes f.saved w.started name

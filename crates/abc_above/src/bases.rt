@@ -3,10 +3,10 @@ ghost use Rattle.abc_items.specs.Bases.{base_named, is_some_class};
 ghost use Rattle.abc_objects.specs.Stands.{IsObjectOrNone, StandsOver};
 ghost use Rattle.abc_objects.specs.Values.{Exists};
 ghost use Rattle.abc_program.specs.Parts.{base_part};
-ghost use Rattle.abc_acts.specs.Newing.{base_prototype as base_prototype_so, is_none, is_that};
+ghost use Rattle.abc_states.specs.ActsNewing.{base_prototype as base_prototype_so, is_none, is_that};
 ghost use Rattle.abc_states.specs.Outer.{Outer, world};
 ghost use Rattle.abc_states.specs.Stops.{answer};
-ghost use Rattle.abc_world.specs.World.{World};
+ghost use Rattle.abc_states.specs.World.{World};
 ghost use Rattle.abc_above.specs.Based.{IsBase, IsClassPart, named_of};
 
 use abc_base::HostClass;

@@ -3,7 +3,7 @@ ghost use Rattle.abc_heap.specs.Texts.{IsText};
 ghost use Rattle.abc_objects.specs.Stands.{StandsOver};
 ghost use Rattle.abc_objects.specs.Values.{IsObject};
 ghost use Rattle.abc_program.specs.Linked.{IsLayout};
-ghost use Rattle.abc_acts.specs.Supers.{strict};
+ghost use Rattle.abc_states.specs.ActsSupers.{strict};
 ghost use Rattle.abc_above.specs.Found.{IsDeclared, found_above};
 
 use abc_cells::ObjId;

@@ -12,12 +12,12 @@ use Rattle.abc_heap.specs.declared.records.What.{What}
 use Rattle.abc_heap.specs.declared.records.What.TheVariants as whats
 use Rattle.abc_program.specs.Slots.{slot_numbered}
 use Rattle.abc_program.specs.declared.types.Ty.{Ty}
-use Rattle.abc_search.specs.Objects.{delegate_at, delegate_of, prototype_of}
-use Rattle.abc_search.specs.Searches.{found_on}
-use Rattle.abc_search.specs.declared.found.Found.{Found}
-use Rattle.abc_search.specs.declared.found.Found.TheVariants.{Missing}
-use Rattle.abc_search.specs.declared.found.Want.TheVariants.{Read}
-use Rattle.abc_search.specs.declared.name.Spaces.TheVariants.{Public}
+use Rattle.abc_world.specs.SearchObjects.{delegate_at, delegate_of, prototype_of}
+use Rattle.abc_world.specs.Searches.{found_on}
+use Rattle.abc_world.specs.SearchFoundType.{Found}
+use Rattle.abc_world.specs.SearchFoundType.TheVariants.{Missing}
+use Rattle.abc_world.specs.SearchWantType.TheVariants.{Read}
+use Rattle.abc_world.specs.SearchSpacesType.TheVariants.{Public}
 use Rattle.abc_world.specs.Members.{with_holder, write_slot}
 use Rattle.abc_world.specs.Ops.{coerces, spells}
 use Rattle.abc_world.specs.Setting.{Setting, type_of_class, type_of_host}

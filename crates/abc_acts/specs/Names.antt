@@ -6,9 +6,9 @@ use Rattle.abc_cells.specs.declared.values.Value.{Value}
 use Rattle.abc_cells.specs.declared.values.Value.TheVariants.{Null, Space}
 use Rattle.abc_program.specs.Types.{type_of}
 use Rattle.abc_program.specs.declared.types.Ty.{Ty}
-use Rattle.abc_search.specs.declared.name.Name.{Name}
-use Rattle.abc_search.specs.declared.name.Spaces.{Spaces}
-use Rattle.abc_search.specs.declared.name.Spaces.TheVariants as spaces
+use Rattle.abc_world.specs.SearchNameType.{Name}
+use Rattle.abc_world.specs.SearchSpacesType.{Spaces}
+use Rattle.abc_world.specs.SearchSpacesType.TheVariants as spaces
 use Rattle.abc_tables.specs.declared.names.Multiname.{Multiname}
 use Rattle.abc_typing.specs.Effects.{name_at}
 use Rattle.abc_world.specs.Ops.{spells}

@@ -14,7 +14,7 @@ use Rattle.abc_names.specs.declared.named.Named.TheVariants as named
 use Rattle.abc_program.specs.declared.part.LayoutId.{LayoutId}
 use Rattle.abc_items.specs.Bases.{base_named}
 use Rattle.abc_items.specs.Parts.{class_at}
-use Rattle.abc_search.specs.Objects.{host_class_number}
+use Rattle.abc_world.specs.SearchObjects.{host_class_number}
 use Rattle.abc_world.specs.Entering.{enters_owned}
 use Rattle.abc_world.specs.Making.{prototype_in}
 use Rattle.abc_world.specs.Objects.{class_object, new_array, new_class, new_function, new_object, new_of_host, prototype_for, set_property}

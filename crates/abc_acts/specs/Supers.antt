@@ -13,12 +13,12 @@ use Rattle.abc_program.specs.Owners.{owner_of}
 use Rattle.abc_program.specs.declared.types.Owner.{Owner}
 use Rattle.abc_program.specs.declared.types.Owner.TheVariants as owners
 use Rattle.abc_items.specs.Bases.{base_named}
-use Rattle.abc_search.specs.Searches.{declared_found}
-use Rattle.abc_search.specs.declared.found.Found.{Found}
-use Rattle.abc_search.specs.declared.found.Found.TheVariants.{Missing, WrongSide}
-use Rattle.abc_search.specs.declared.found.Want.{Want}
-use Rattle.abc_search.specs.declared.found.Want.TheVariants.{Read, Write}
-use Rattle.abc_search.specs.declared.name.Name.{Name}
+use Rattle.abc_world.specs.Searches.{declared_found}
+use Rattle.abc_world.specs.SearchFoundType.{Found}
+use Rattle.abc_world.specs.SearchFoundType.TheVariants.{Missing, WrongSide}
+use Rattle.abc_world.specs.SearchWantType.{Want}
+use Rattle.abc_world.specs.SearchWantType.TheVariants.{Read, Write}
+use Rattle.abc_world.specs.SearchNameType.{Name}
 use Rattle.abc_typing.specs.Rules.{super_layout}
 use Rattle.abc_world.specs.Calling.{Came, entered, got}
 use Rattle.abc_world.specs.Entering.{enters_owned}

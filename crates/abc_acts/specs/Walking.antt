@@ -7,9 +7,9 @@ use Rattle.abc_cells.specs.declared.values.Value.TheVariants.{Undefined, Null, N
 use Rattle.abc_heap.specs.Heap.{Heap, Object, object_at, obj_id}
 use Rattle.abc_heap.specs.Properties.{at_position, element_at, place_after, the_name, walked_next, walked_value}
 use Rattle.abc_heap.specs.What.{is_array}
-use Rattle.abc_ops.specs.Left.{text_made}
+use Rattle.abc_world.specs.OpsLeft.{text_made}
 use Rattle.abc_cells.specs.declared.values.Span.{Span}
-use Rattle.abc_search.specs.Objects.{delegate_at}
+use Rattle.abc_world.specs.SearchObjects.{delegate_at}
 use Rattle.abc_graph.specs.Ways.{way}
 use Rattle.abc_shapes.specs.Instructions.{local, second}
 use Rattle.abc_world.specs.Ops.{operates}

@@ -3,8 +3,8 @@ use Rattle.std.proofs.Common.{◌≡◌, ℕ, ◌≤◌, List, [], ◌∷◌, le
 use Rattle.abc_base.specs.declared.names.HostClass.TheVariants.{ArgumentError}
 use Rattle.abc_cells.specs.declared.values.Value.{Value}
 use Rattle.abc_stacks.specs.Frame.{Frame, arguments}
-use Rattle.abc_world.specs.Calling.{Came, only}
-use Rattle.abc_world.specs.World.{Errs, Run, Stopped, World}
+use Rattle.abc_states.specs.WorldCalling.{Came, only}
+use Rattle.abc_states.specs.World.{Errs, Run, Stopped, World}
 use Rattle.abc_entering.proofs.Operands.{count_given}
 
 refused : (vs : List Value) (g : Value → Run Came) (w : World) → (length vs ≡ 1 → ⊥) → only vs g w ≡ Stopped w (Errs ArgumentError)

@@ -15,11 +15,11 @@ use Rattle.abc_program.specs.Linked.{LinkedFile}
 use Rattle.abc_program.specs.declared.types.Ty.{Ty}
 use Rattle.abc_stacks.specs.Frame.{Frame}
 use Rattle.abc_states.specs.declared.state.How.{How}
-use Rattle.abc_world.specs.Calling.{calls, calls_what, this_of}
-use Rattle.abc_world.specs.Making.{new, new_what}
-use Rattle.abc_world.specs.Objects.{place}
-use Rattle.abc_world.specs.Setting.{Setting, type_of_host}
-use Rattle.abc_world.specs.World.{World, object}
+use Rattle.abc_states.specs.WorldCalling.{calls, calls_what, this_of}
+use Rattle.abc_states.specs.WorldMaking.{new, new_what}
+use Rattle.abc_states.specs.WorldObjects.{place}
+use Rattle.abc_states.specs.WorldSetting.{Setting, type_of_host}
+use Rattle.abc_states.specs.World.{World, object}
 use Rattle.abc_entering.proofs.Opened.{some_is}
 use Rattle.abc_callarms.specs.Calls.{calls_object, coerces_only, enters_settled}
 

@@ -19,13 +19,13 @@ use Rattle.abc_states.specs.declared.state.How.{How}
 use Rattle.abc_tables.specs.declared.classes.Instance.{Instance}
 use Rattle.abc_tables.specs.declared.methods.Method.{Method}
 use Rattle.abc_tables.specs.declared.tables.Abc.{Abc}
-use Rattle.abc_world.specs.Calling.{Came, Makes}
-use Rattle.abc_world.specs.Entering.{arguments, framed}
-use Rattle.abc_world.specs.Making.{prototype_in}
-use Rattle.abc_world.specs.Objects.{new_object, place}
-use Rattle.abc_world.specs.Setting.{Setting, method_of}
-use Rattle.abc_world.specs.World.{Outcome, Run, Stop, Stopped, Went, World, and_then, done, see, some, ◌>>=◌}
-use Rattle.abc_acts.specs.At.{Act}
+use Rattle.abc_states.specs.WorldCalling.{Came, Makes}
+use Rattle.abc_states.specs.WorldEntering.{arguments, framed}
+use Rattle.abc_states.specs.WorldMaking.{prototype_in}
+use Rattle.abc_states.specs.WorldObjects.{new_object, place}
+use Rattle.abc_states.specs.WorldSetting.{Setting, method_of}
+use Rattle.abc_states.specs.World.{Outcome, Run, Stop, Stopped, Went, World, and_then, done, see, some, ◌>>=◌}
+use Rattle.abc_states.specs.ActsAt.{Act}
 use Rattle.abc_entering.specs.Arguments.{makes_arguments, receiver}
 use Rattle.abc_entering.specs.Entering.{above, puts_on}
 use Rattle.abc_callarms.specs.Calls.{makes_instance}

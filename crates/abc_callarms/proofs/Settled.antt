@@ -7,11 +7,11 @@ use Rattle.abc_states.specs.Settling.{settles, taken_by, wait_of, wait_with}
 use Rattle.abc_states.specs.Turns.{Halts, bared, turned}
 use Rattle.abc_states.specs.declared.state.How.{How}
 use Rattle.abc_states.specs.declared.state.How.TheVariants.{Push, Drop}
-use Rattle.abc_world.specs.Calling.{Came, Makes, entered}
-use Rattle.abc_world.specs.Entering.{enters}
-use Rattle.abc_world.specs.Objects.{Place}
-use Rattle.abc_world.specs.Setting.{Setting}
-use Rattle.abc_world.specs.World.{Outcome, Run, Stop, Stopped, Went, World, and_then, done}
+use Rattle.abc_states.specs.WorldCalling.{Came, Makes, entered}
+use Rattle.abc_states.specs.WorldEntering.{enters}
+use Rattle.abc_states.specs.WorldObjects.{Place}
+use Rattle.abc_states.specs.WorldSetting.{Setting}
+use Rattle.abc_states.specs.World.{Outcome, Run, Stop, Stopped, Went, World, and_then, done}
 use Rattle.abc_entering.specs.Entering.{above, enters_above}
 use Rattle.abc_callarms.specs.Calls.{enters_settled, settled_by}
 

@@ -23,12 +23,12 @@ use Rattle.abc_stacks.specs.Frame.{Frame, arguments}
 use Rattle.abc_states.specs.Operands.{operand_at}
 use Rattle.abc_states.specs.Settling.{settles}
 use Rattle.abc_states.specs.declared.state.How.{How}
-use Rattle.abc_world.specs.Calling.{Came, got}
-use Rattle.abc_world.specs.Making.{host_arguments, message_of, most_arguments, new_plain, prototype_in, set_message}
-use Rattle.abc_world.specs.Objects.{new_object}
-use Rattle.abc_world.specs.Ops.{as_text, outcome, spells}
-use Rattle.abc_world.specs.Setting.{Setting}
-use Rattle.abc_world.specs.World.{Outcome, Run, Stop, Stopped, Went, World, and_then, done, see, throws, ◌>>=◌, ◌>>◌}
+use Rattle.abc_states.specs.WorldCalling.{Came, got}
+use Rattle.abc_states.specs.WorldMaking.{host_arguments, message_of, most_arguments, new_plain, prototype_in, set_message}
+use Rattle.abc_states.specs.WorldObjects.{new_object}
+use Rattle.abc_states.specs.WorldOps.{as_text, outcome, spells}
+use Rattle.abc_states.specs.WorldSetting.{Setting}
+use Rattle.abc_states.specs.World.{Outcome, Run, Stop, Stopped, Went, World, and_then, done, see, throws, ◌>>=◌, ◌>>◌}
 use Rattle.abc_entering.proofs.Operands.{count_given, given_at}
 use Rattle.abc_callarms.specs.Calls.{makes_of_class, makes_plain, plain_object, settled_by}
 

@@ -25,14 +25,14 @@ use Rattle.abc_states.specs.declared.state.State.{State}
 use Rattle.abc_states.specs.declared.state.Stop.{Stop}
 use Rattle.abc_states.specs.Settling.{given_by, settles, taken_by}
 use Rattle.abc_states.specs.Standing.{IsSet}
-use Rattle.abc_world.specs.Calling.{Came, calls, calls_what, entered, got, only}
-use Rattle.abc_world.specs.Entering.{enters}
-use Rattle.abc_world.specs.Making.{host_arguments, new, new_elements, new_instance, new_of_class, new_what, prototype_in, set_message}
-use Rattle.abc_world.specs.Objects.{Place, new_object}
-use Rattle.abc_world.specs.Ops.{coerces, converts}
-use Rattle.abc_world.specs.Setting.{Setting}
-use Rattle.abc_world.specs.World.{Run, done, see, ◌>>=◌, ◌>>◌}
-use Rattle.abc_acts.specs.At.{Act}
+use Rattle.abc_states.specs.WorldCalling.{Came, calls, calls_what, entered, got, only}
+use Rattle.abc_states.specs.WorldEntering.{enters}
+use Rattle.abc_states.specs.WorldMaking.{host_arguments, new, new_elements, new_instance, new_of_class, new_what, prototype_in, set_message}
+use Rattle.abc_states.specs.WorldObjects.{Place, new_object}
+use Rattle.abc_states.specs.WorldOps.{coerces, converts}
+use Rattle.abc_states.specs.WorldSetting.{Setting}
+use Rattle.abc_states.specs.World.{Run, done, see, ◌>>=◌, ◌>>◌}
+use Rattle.abc_states.specs.ActsAt.{Act}
 
 -- what came of it settles
 abbrev pub settled_by : How → Frame → Run Came → Run Act

@@ -10,7 +10,7 @@ ghost use Rattle.abc_states.specs.Settling.{given_by, taken_by, wait_of};
 ghost use Rattle.abc_states.specs.Standing.{IsSet};
 ghost use Rattle.abc_states.specs.Stops.{IsOpen};
 ghost use Rattle.abc_states.specs.Turns.{Leaves, Runs};
-ghost use Rattle.abc_world.specs.Calling.{this_of as this_so};
+ghost use Rattle.abc_states.specs.WorldCalling.{this_of as this_so};
 ghost use Rattle.abc_callarms.specs.Calls.{CanFinish, calls_object, calls_value, enters_settled};
 
 use crate::hosts::call_class;

@@ -7,7 +7,7 @@ ghost use Rattle.abc_states.specs.Settling.{given_by, taken_by};
 ghost use Rattle.abc_states.specs.Standing.{IsSet, Stays};
 ghost use Rattle.abc_states.specs.Stops.{answer};
 ghost use Rattle.abc_states.specs.Turns.{Runs};
-ghost use Rattle.abc_world.specs.Making.{new_elements};
+ghost use Rattle.abc_states.specs.WorldMaking.{new_elements};
 ghost use Rattle.abc_callarms.specs.Calls.{makes_elements};
 
 use abc_base::Fault;

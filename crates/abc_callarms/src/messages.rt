@@ -5,7 +5,7 @@ ghost use Rattle.abc_stacks.specs.Frame.{arguments, newest};
 ghost use Rattle.abc_states.specs.Outer.{Outer, setting, world};
 ghost use Rattle.abc_states.specs.Standing.{IsSet, Stays};
 ghost use Rattle.abc_states.specs.Stops.{answer};
-ghost use Rattle.abc_world.specs.Making.{host_arguments, most_arguments, set_message as set_message_so};
+ghost use Rattle.abc_states.specs.WorldMaking.{host_arguments, most_arguments, set_message as set_message_so};
 ghost use Rattle.abc_callarms.specs.Calls.{IsMessage, messaged, texts};
 
 use abc_base::HostClass;

@@ -20,13 +20,13 @@ use Rattle.abc_program.specs.Linked.{LinkedFile}
 use Rattle.abc_program.specs.Types.{type_of}
 use Rattle.abc_program.specs.declared.types.Ty.{Ty}
 use Rattle.abc_heap.specs.Heap.{Heap}
-use Rattle.abc_world.specs.Types.{is_of}
+use Rattle.abc_states.specs.WorldTypes.{is_of}
 use Rattle.abc_states.specs.Turns.{kept, size_for}
 use Rattle.abc_tables.specs.declared.code.Handler.{Handler}
 use Rattle.abc_throws.specs.Throws.{CanCatch, MayKeep, lands as lands_on, sizes_from, sizes_left, unwound}
 use Rattle.abc_typing.specs.Routines.{Routine}
-use Rattle.abc_world.specs.Setting.{Setting, routine_of}
-use Rattle.abc_world.specs.World.{Outcome, Stopped, Went, World}
+use Rattle.abc_states.specs.WorldSetting.{Setting, routine_of}
+use Rattle.abc_states.specs.World.{Outcome, Stopped, Went, World}
 
 -- on goes what is left over, and where nothing is the run ends
 abbrev pub left_over : Setting → World → Value → List Frame → Stepped

@@ -5,8 +5,8 @@ use Rattle.abc_heap.specs.declared.records.Limits.{Limits}
 use Rattle.abc_meaning.specs.Throwing.{Done, End, Ends, Full, Profile, Stepped, Stuck, Uncaught, goes_on}
 use Rattle.abc_stacks.specs.Frame.{Frames}
 use Rattle.abc_states.specs.Turns.{size_for}
-use Rattle.abc_world.specs.Setting.{Setting}
-use Rattle.abc_world.specs.World.{World}
+use Rattle.abc_states.specs.WorldSetting.{Setting}
+use Rattle.abc_states.specs.World.{World}
 use Rattle.abc_base.specs.declared.names.HostClass.TheVariants as hosts
 use Rattle.abc_heap.specs.Heap.{Heap}
 use Rattle.abc_objects.specs.Values.{Exists}

@@ -10,7 +10,7 @@ use Rattle.abc_program.specs.Owners.{body_of}
 use Rattle.abc_program.specs.Types.{type_of}
 use Rattle.abc_program.specs.declared.types.Ty.{Ty}
 use Rattle.abc_tables.specs.declared.code.Handler.{Handler}
-use Rattle.abc_world.specs.Types.{is_of}
+use Rattle.abc_states.specs.WorldTypes.{is_of}
 
 -- a value that is thrown in a file
 pub record Held : Type 0 where

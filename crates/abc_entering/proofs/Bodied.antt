@@ -11,7 +11,7 @@ use Rattle.abc_states.specs.Turns.{kept}
 use Rattle.abc_tables.specs.declared.classes.Script.{Script}
 use Rattle.abc_tables.specs.declared.code.Body.{Body}
 use Rattle.abc_tables.specs.declared.tables.Abc.{Abc}
-use Rattle.abc_world.specs.Setting.{Setting, routine_in, routine_of}
+use Rattle.abc_states.specs.WorldSetting.{Setting, routine_in, routine_of}
 
 pub body_inside : (v : Abc) (n b : ℕ) → body_of v n ≡ Some b → b < length v.bodies
 body_inside v n b e =

@@ -17,9 +17,9 @@ use Rattle.abc_tables.specs.declared.methods.OptionValue.{OptionValue}
 use Rattle.abc_entering.specs.Arguments.{Makes, coerces_first, receiver}
 use Rattle.abc_states.specs.Stops.{IsOpen}
 use Rattle.abc_states.proofs.Turning.{and_then_is, and_then_same, open_first}
-use Rattle.abc_world.specs.Entering.{coerced, coerces_to, gives_option}
-use Rattle.abc_world.specs.Setting.{Setting, options_of}
-use Rattle.abc_world.specs.World.{Outcome, Run, Stop, Stopped, Went, World, and_then, done, ◌>>=◌}
+use Rattle.abc_states.specs.WorldEntering.{coerced, coerces_to, gives_option}
+use Rattle.abc_states.specs.WorldSetting.{Setting, options_of}
+use Rattle.abc_states.specs.World.{Outcome, Run, Stop, Stopped, Went, World, and_then, done, ◌>>=◌}
 
 -- what follows the first
 abbrev rest_of : Setting → List ℕ → List (Option OptionValue) → List Value → Value → Run (List Value)

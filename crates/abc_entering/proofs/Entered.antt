@@ -9,11 +9,11 @@ use Rattle.abc_stacks.specs.declared.records.Wait.TheVariants.{Again}
 use Rattle.abc_states.specs.Turns.{Turned, turned}
 use Rattle.abc_tables.specs.declared.methods.Method.{Method}
 use Rattle.abc_items.specs.Parts.{script_at}
-use Rattle.abc_world.specs.Entering.{arguments, framed, global}
-use Rattle.abc_world.specs.Objects.{Place, place}
-use Rattle.abc_world.specs.Setting.{Setting, method_of}
-use Rattle.abc_world.specs.World.{Outcome, Run, Went, World, and_then, some, ◌>>=◌}
-use Rattle.abc_acts.specs.At.{Act}
+use Rattle.abc_states.specs.WorldEntering.{arguments, framed, global}
+use Rattle.abc_states.specs.WorldObjects.{Place, place}
+use Rattle.abc_states.specs.WorldSetting.{Setting, method_of}
+use Rattle.abc_states.specs.World.{Outcome, Run, Went, World, and_then, some, ◌>>=◌}
+use Rattle.abc_states.specs.ActsAt.{Act}
 use Rattle.abc_entering.specs.Arguments.{makes_arguments, receiver}
 use Rattle.abc_entering.specs.Entering.{above, enters_above, puts_on, starts_above}
 

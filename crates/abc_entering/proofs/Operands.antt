@@ -10,9 +10,9 @@ use Rattle.abc_stacks.specs.Frame.{Frame, arguments}
 use Rattle.abc_states.specs.Operands.{operand_at}
 use Rattle.abc_tables.specs.Methods.{has_flag}
 use Rattle.abc_tables.specs.declared.methods.Method.{Method}
-use Rattle.abc_world.specs.Entering.{array_of, extra}
-use Rattle.abc_world.specs.Setting.{Setting}
-use Rattle.abc_world.specs.World.{World, done}
+use Rattle.abc_states.specs.WorldEntering.{array_of, extra}
+use Rattle.abc_states.specs.WorldSetting.{Setting}
+use Rattle.abc_states.specs.World.{World, done}
 
 pub count_given : (f : Frame) (n : ℕ) → n ≤ length f.stack → length (arguments n f) ≡ n
 count_given f n h = length-reverse (take n f.stack) ∙ length-take-le n f.stack h

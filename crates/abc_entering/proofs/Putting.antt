@@ -14,11 +14,11 @@ use Rattle.abc_states.specs.Turns.{GoesOn, Halts, Turned, bared, entered_if, kep
 use Rattle.abc_states.proofs.Turning.{open_first}
 use Rattle.abc_tables.specs.declared.methods.Method.{Method}
 use Rattle.abc_typing.specs.Routines.{Routine}
-use Rattle.abc_world.specs.Entering.{extra, framed}
-use Rattle.abc_world.specs.Objects.{Place}
-use Rattle.abc_world.specs.Setting.{Setting, method_of, routine_of}
-use Rattle.abc_world.specs.World.{Fills, Outcome, Run, Stop, Stopped, Went, World, and_then, done, must, some, ◌>>=◌, ◌>>◌}
-use Rattle.abc_acts.specs.At.{Above, Act, Goes}
+use Rattle.abc_states.specs.WorldEntering.{extra, framed}
+use Rattle.abc_states.specs.WorldObjects.{Place}
+use Rattle.abc_states.specs.WorldSetting.{Setting, method_of, routine_of}
+use Rattle.abc_states.specs.World.{Fills, Outcome, Run, Stop, Stopped, Went, World, and_then, done, must, some, ◌>>=◌, ◌>>◌}
+use Rattle.abc_states.specs.ActsAt.{Above, Act, Goes}
 use Rattle.abc_entering.specs.Arguments.{receiver}
 use Rattle.abc_entering.specs.Entering.{above, entry_for, puts_on}
 use Rattle.abc_entering.proofs.Opened.{some_goes, some_is, then_is}

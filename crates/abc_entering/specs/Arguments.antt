@@ -14,9 +14,9 @@ use Rattle.abc_tables.specs.declared.methods.Method.{Method}
 use Rattle.abc_tables.specs.declared.methods.OptionValue.{OptionValue}
 use Rattle.abc_states.specs.declared.state.State.{State}
 use Rattle.abc_states.specs.declared.state.Stop.{Stop}
-use Rattle.abc_world.specs.Entering.{arguments, coerces_to, gives_option}
-use Rattle.abc_world.specs.Setting.{Setting, method_of, value_of_option}
-use Rattle.abc_world.specs.World.{Run, done, some, stuck, ◌>>=◌}
+use Rattle.abc_states.specs.WorldEntering.{arguments, coerces_to, gives_option}
+use Rattle.abc_states.specs.WorldSetting.{Setting, method_of, value_of_option}
+use Rattle.abc_states.specs.World.{Run, done, some, stuck, ◌>>=◌}
 
 -- what is given first, or the value of its option
 abbrev pub first_of : Setting → List (Option OptionValue) → List Value → Run Value

@@ -5,9 +5,9 @@ ghost use Rattle.abc_stacks.specs.Frame.{arguments as operands, newest};
 ghost use Rattle.abc_states.specs.Outer.{Outer, setting, world};
 ghost use Rattle.abc_states.specs.Standing.{IsSet, Stays};
 ghost use Rattle.abc_states.specs.Stops.{IsOpen, answer};
-ghost use Rattle.abc_world.specs.Entering.{array_of as array_so, coerced, extra};
-ghost use Rattle.abc_world.specs.Setting.{may_take as may_take_so, options_of};
-ghost use Rattle.abc_world.specs.World.{World};
+ghost use Rattle.abc_states.specs.WorldEntering.{array_of as array_so, coerced, extra};
+ghost use Rattle.abc_states.specs.WorldSetting.{may_take as may_take_so, options_of};
+ghost use Rattle.abc_states.specs.World.{World};
 ghost use Rattle.abc_entering.specs.Arguments.{HasOptions, Makes, coerces_first, first_of, list_of, listed, receiver, with_values};
 
 use crate::methods::{ARGUMENTS, REST};

@@ -3,7 +3,7 @@ ghost use Rattle.abc_program.specs.Owners.{body_of};
 ghost use Rattle.abc_states.specs.Outer.{Outer, setting};
 ghost use Rattle.abc_states.specs.Turns.{kept};
 ghost use Rattle.abc_typing.specs.Routines.{takes_array as takes_array_so};
-ghost use Rattle.abc_world.specs.Setting.{may_take as may_take_so, routine_of};
+ghost use Rattle.abc_states.specs.WorldSetting.{may_take as may_take_so, routine_of};
 ghost use Rattle.abc_entering.specs.Entering.{entry_for, placed};
 
 use abc_link::Linked;

@@ -2,9 +2,9 @@ ghost use Rattle.std.specs.Prelude.{◌≡◌, ◌<◌, ◌^◌, Some};
 ghost use Rattle.abc_starts.specs.Starts.{space_value as space_value_so};
 ghost use Rattle.abc_states.specs.Outer.{Outer, setting};
 ghost use Rattle.abc_states.specs.Stops.{answer};
-ghost use Rattle.abc_world.specs.Entering.{gives_option};
-ghost use Rattle.abc_world.specs.Setting.{Setting, raw_value, value_of_option};
-ghost use Rattle.abc_world.specs.World.{World};
+ghost use Rattle.abc_states.specs.WorldEntering.{gives_option};
+ghost use Rattle.abc_states.specs.WorldSetting.{Setting, raw_value, value_of_option};
+ghost use Rattle.abc_states.specs.World.{World};
 
 use abc_base::Fault;
 use abc_cells::Value;

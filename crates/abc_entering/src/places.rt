@@ -3,9 +3,9 @@ ghost use Rattle.abc_objects.specs.Stands.{StandsOver};
 ghost use Rattle.abc_objects.specs.Values.{Exists};
 ghost use Rattle.abc_states.specs.Outer.{Outer, world};
 ghost use Rattle.abc_states.specs.Stops.{IsOpen};
-ghost use Rattle.abc_world.specs.Entering.{global};
-ghost use Rattle.abc_world.specs.Objects.{kept_by, instances_of, place_of_owner as owner_place, statics_of};
-ghost use Rattle.abc_world.specs.World.{Went};
+ghost use Rattle.abc_states.specs.WorldEntering.{global};
+ghost use Rattle.abc_states.specs.WorldObjects.{kept_by, instances_of, place_of_owner as owner_place, statics_of};
+ghost use Rattle.abc_states.specs.World.{Went};
 ghost use Rattle.abc_entering.specs.Entering.{placed};
 
 use abc_cells::Value;

@@ -32,9 +32,9 @@ use Rattle.abc_program.specs.declared.part.Part.{Part}
 use Rattle.abc_program.specs.declared.part.Part.TheVariants as parts
 use Rattle.abc_search.specs.Objects.{host_prototype}
 use Rattle.abc_states.specs.Outer.{at_heap}
-use Rattle.abc_world.specs.Objects.{new_array, new_class, new_function, new_id, new_object, own_place, prototype_for, set_property, with_function, with_property}
-use Rattle.abc_world.specs.Setting.{Setting}
-use Rattle.abc_world.specs.World.{Fills, Stopped, Went, World, changes, see, ◌>>=◌}
+use Rattle.abc_states.specs.WorldObjects.{new_array, new_class, new_function, new_id, new_object, own_place, prototype_for, set_property, with_function, with_property}
+use Rattle.abc_states.specs.WorldSetting.{Setting}
+use Rattle.abc_states.specs.World.{Fills, Stopped, Went, World, changes, see, ◌>>=◌}
 use Rattle.abc_makers.proofs.Rooms.{cells_full, cells_ok, changes_to, made_full, made_ok}
 
 -- a class object is made behind its prototype

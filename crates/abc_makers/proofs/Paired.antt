@@ -12,11 +12,11 @@ use Rattle.abc_heap.specs.Heap.{Heap}
 use Rattle.abc_heap.specs.Texts.{IsText}
 use Rattle.abc_objects.specs.Values.{Exists}
 use Rattle.abc_program.specs.Linked.{LinkedFile}
-use Rattle.abc_acts.specs.Newing.{entries_of, set_all}
-use Rattle.abc_world.specs.Objects.{new_of_host, set_property}
-use Rattle.abc_world.specs.Ops.{spells}
-use Rattle.abc_world.specs.Setting.{Setting}
-use Rattle.abc_world.specs.World.{Outcome, Run, Stop, Stopped, Went, World, and_then, done, ◌>>=◌, ◌>>◌}
+use Rattle.abc_states.specs.ActsNewing.{entries_of, set_all}
+use Rattle.abc_states.specs.WorldObjects.{new_of_host, set_property}
+use Rattle.abc_states.specs.WorldOps.{spells}
+use Rattle.abc_states.specs.WorldSetting.{Setting}
+use Rattle.abc_states.specs.World.{Outcome, Run, Stop, Stopped, Went, World, and_then, done, ◌>>=◌, ◌>>◌}
 use Rattle.abc_makers.specs.Makers.{makes_object}
 use Rattle.abc_makers.specs.Pairs.{entries_at, name_at, pairs_of, spelled, text_in, value_at, with_name}
 

@@ -3,14 +3,14 @@ use Rattle.std.proofs.Common.{◌≡◌, ℕ, ◌+◌, List, ◌∷◌, drop, re
 use Rattle.abc_cells.specs.declared.values.ObjId.{ObjId}
 use Rattle.abc_cells.specs.declared.values.Value.{Value}
 use Rattle.abc_cells.specs.declared.values.Value.TheVariants.{Obj}
-use Rattle.abc_acts.specs.Newing.{object_value}
+use Rattle.abc_states.specs.ActsNewing.{object_value}
 use Rattle.abc_moves.specs.Moves.{finished}
 use Rattle.abc_stacks.specs.Frame.{Frames, newest, under, with_newest}
 use Rattle.abc_states.specs.Stops.{why}
 use Rattle.abc_states.specs.Turns.{GoesOn, Halts, bared, turned}
 use Rattle.abc_states.specs.declared.state.Stop.{Stop}
-use Rattle.abc_world.specs.Setting.{Setting}
-use Rattle.abc_world.specs.World.{Run, Stopped, Went, World, and_then, done}
+use Rattle.abc_states.specs.WorldSetting.{Setting}
+use Rattle.abc_states.specs.World.{Run, Stopped, Went, World, and_then, done}
 use Rattle.abc_states.specs.Settling.{pushes}
 use Rattle.abc_makers.specs.Pairs.{with_operands}
 

@@ -6,7 +6,7 @@ use Rattle.abc_heap.specs.declared.records.Full.{Full}
 use Rattle.abc_heap.specs.declared.records.Limit.{Limit}
 use Rattle.abc_heap.specs.declared.records.Limit.TheVariants as limits
 use Rattle.abc_states.specs.Outer.{at_heap}
-use Rattle.abc_world.specs.World.{Fills, Run, Stopped, Went, World, and_then, changes, done, room, room_for_cells, room_for_objects, stop, ◌>>◌}
+use Rattle.abc_states.specs.World.{Fills, Run, Stopped, Went, World, and_then, changes, done, room, room_for_cells, room_for_objects, stop, ◌>>◌}
 
 le_true : (a b : ℕ) → a ≤ b → nat_le a b ≡ true
 le_true a b h = grind (arith, nat_tests)

@@ -8,12 +8,12 @@ use Rattle.abc_heap.specs.declared.records.What.TheVariants as whats
 use Rattle.abc_program.specs.Linked.{layout_of}
 use Rattle.abc_program.specs.declared.part.Part.TheVariants as parts
 use Rattle.abc_stacks.specs.Frame.{Frame, arguments}
-use Rattle.abc_acts.specs.At.{Act}
-use Rattle.abc_acts.specs.Newing.{entries_of, object_value, set_all}
+use Rattle.abc_states.specs.ActsAt.{Act}
+use Rattle.abc_states.specs.ActsNewing.{entries_of, object_value, set_all}
 use Rattle.abc_states.specs.Settling.{pushes}
-use Rattle.abc_world.specs.Objects.{new_array, new_function, new_object, new_of_host, prototype_for}
-use Rattle.abc_world.specs.Setting.{Setting}
-use Rattle.abc_world.specs.World.{Run, done, see, ◌>>=◌, ◌>>◌}
+use Rattle.abc_states.specs.WorldObjects.{new_array, new_function, new_object, new_of_host, prototype_for}
+use Rattle.abc_states.specs.WorldSetting.{Setting}
+use Rattle.abc_states.specs.World.{Run, done, see, ◌>>=◌, ◌>>◌}
 
 -- newarray
 abbrev pub pushes_array : Setting → ℕ → Frame → Run Act

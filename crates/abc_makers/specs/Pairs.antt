@@ -4,9 +4,9 @@ use Rattle.abc_cells.specs.declared.values.Span.{Span}
 use Rattle.abc_cells.specs.declared.values.Value.{Value}
 use Rattle.abc_cells.specs.declared.values.Value.TheVariants.{Undefined, Null, Num, Bool as Truth, Text, Space, Obj}
 use Rattle.abc_stacks.specs.Frame.{Frames, with_newest}
-use Rattle.abc_world.specs.Ops.{spells}
-use Rattle.abc_world.specs.Setting.{Setting}
-use Rattle.abc_world.specs.World.{Run, done, ◌>>=◌}
+use Rattle.abc_states.specs.WorldOps.{spells}
+use Rattle.abc_states.specs.WorldSetting.{Setting}
+use Rattle.abc_states.specs.World.{Run, done, ◌>>=◌}
 
 -- the name and the value of pair n, where the top pair is pair 0
 abbrev pub name_at : ℕ → List Value → Value

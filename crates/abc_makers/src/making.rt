@@ -9,7 +9,7 @@ ghost use Rattle.abc_stacks.specs.Frame.{arguments, newest};
 ghost use Rattle.abc_states.specs.Outer.{Outer, setting, world};
 ghost use Rattle.abc_states.specs.Standing.{IsSet, Stays};
 ghost use Rattle.abc_states.specs.Stops.{answer};
-ghost use Rattle.abc_world.specs.Objects.{new_array, new_class, new_function, new_object, new_of_host, set_property};
+ghost use Rattle.abc_states.specs.WorldObjects.{new_array, new_class, new_function, new_object, new_of_host, set_property};
 
 use crate::prototypes::prototype_for;
 use abc_base::HostClass;

@@ -1,5 +1,5 @@
 ghost use Rattle.std.specs.Prelude.{◌≡◌, ◌<◌, ◌≤◌, ◌*◌, ◌^◌, MatchResult, length};
-ghost use Rattle.abc_acts.specs.Newing.{set_all};
+ghost use Rattle.abc_states.specs.ActsNewing.{set_all};
 ghost use Rattle.abc_moves.specs.Ready.{IsReady};
 ghost use Rattle.abc_objects.specs.Growing.{Grows};
 ghost use Rattle.abc_objects.specs.Stands.{StandsOver};
@@ -9,7 +9,7 @@ ghost use Rattle.abc_states.specs.Outer.{Outer, setting, world};
 ghost use Rattle.abc_states.specs.Standing.{IsSet, Stays};
 ghost use Rattle.abc_states.specs.Stops.{answer, why};
 ghost use Rattle.abc_states.specs.Turns.{Runs};
-ghost use Rattle.abc_world.specs.World.{Stopped, Went};
+ghost use Rattle.abc_states.specs.World.{Stopped, Went};
 ghost use Rattle.abc_makers.specs.Makers.{pushes_object};
 ghost use Rattle.abc_makers.specs.Pairs.{entries_at, spelled, text_in, with_operands};
 

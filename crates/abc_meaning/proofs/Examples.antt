@@ -10,8 +10,8 @@ use Rattle.abc_heap.specs.declared.records.Limits.{Limits}
 use Rattle.abc_names.specs.Meaning.{host_classes}
 use Rattle.abc_program.specs.declared.part.Part.{Part}
 use Rattle.abc_program.specs.declared.part.Part.TheVariants as parts
-use Rattle.abc_search.specs.Candidates.{answer}
-use Rattle.abc_search.specs.Searches.{declared_found, found_in_scopes, found_on}
+use Rattle.abc_acts.specs.SearchCandidates.{answer}
+use Rattle.abc_acts.specs.Searches.{declared_found, found_in_scopes, found_on}
 use Rattle.abc_shapes.specs.Rows.{row_at, table}
 use Rattle.abc_tables.specs.declared.classes.ClassInfo.{ClassInfo}
 use Rattle.abc_tables.specs.declared.classes.Instance.{Instance}
@@ -28,7 +28,7 @@ use Rattle.abc_tables.specs.declared.tables.Abc.{Abc}
 use Rattle.abc_tables.specs.declared.traits.TraitBody.{TraitBody}
 use Rattle.abc_tables.specs.declared.traits.TraitBody.TheVariants as traits
 use Rattle.abc_tables.specs.declared.traits.TraitInfo.{TraitInfo}
-use Rattle.abc_world.specs.Setting.{Setting}
+use Rattle.abc_acts.specs.WorldSetting.{Setting}
 use Rattle.abc_acts.specs.Table.{act_of, acts}
 use Rattle.abc_meaning.specs.Meaning.{Ran, TooSmall, meaning}
 use Rattle.abc_meaning.specs.Throwing.{Done, FuelSpent, Full, Profile, Uncaught}

@@ -7,7 +7,7 @@ use Rattle.std.proofs.lemmas.Bool.{false≢true, ltb-true}
 use Rattle.abc_cells.specs.declared.values.Value.{Value}
 use Rattle.abc_heap.specs.Heap.{Heap}
 use Rattle.abc_heap.specs.declared.records.Limits.{Limits}
-use Rattle.abc_objects.specs.Values.{Exists}
+use Rattle.abc_acts.specs.ObjectsValues.{Exists}
 use Rattle.abc_program.specs.Linked.{IsLinkedFile, LinkedFile, layout_of}
 use Rattle.abc_program.specs.Owners.{body_of}
 use Rattle.abc_program.specs.Types.{type_of}
@@ -26,8 +26,8 @@ use Rattle.abc_typing.specs.declared.state.Scope.{Scope}
 use Rattle.abc_typing.proofs.Fine.{stands}
 use Rattle.abc_typing.proofs.Member.{and_left, and_right, in_right, map_in}
 use Rattle.abc_stacks.specs.Frame.{Frame}
-use Rattle.abc_world.specs.Setting.{Setting, routine_in, routine_of}
-use Rattle.abc_world.specs.World.{World}
+use Rattle.abc_acts.specs.WorldSetting.{Setting, routine_in, routine_of}
+use Rattle.abc_acts.specs.World.{World}
 use Rattle.abc_meaning.specs.Laws.{ThrowsStaySound}
 use Rattle.abc_meaning.specs.Sound.{AreTypings, FrameSound, FramesFit, FramesSound, IsCatching, IsOfKind, ScopeHolds, SteppedSound, Stands, Typings, WaitingSound, WorldSound}
 use Rattle.abc_meaning.specs.Throwing.{Ends, Stuck, catcher, catches, caught_at, goes_on, handlers_in, has_stack, is_caught_as, lands, unwinds}

@@ -5,7 +5,7 @@ use Rattle.abc_base.specs.declared.names.HostClass.TheVariants as hosts
 use Rattle.abc_cells.specs.declared.values.Value.{Value}
 use Rattle.abc_cells.specs.declared.values.Value.TheVariants as values
 use Rattle.abc_heap.specs.Heap.{Heap, object_at}
-use Rattle.abc_objects.specs.Values.{Exists, Holds}
+use Rattle.abc_acts.specs.ObjectsValues.{Exists, Holds}
 use Rattle.abc_program.specs.Kinds.{IsAtMost}
 use Rattle.abc_program.specs.Linked.{IsLinkedFile, LinkedFile, above, layout_of}
 use Rattle.abc_program.specs.Tree.{IsBelow}
@@ -20,7 +20,7 @@ use Rattle.abc_program.proofs.Tree.{above_le, below_trans, below_up}
 use Rattle.abc_typing.specs.Lists.{Each2}
 use Rattle.abc_typing.proofs.Good.{good}
 use Rattle.abc_typing.proofs.Reaching.{below_reached}
-use Rattle.abc_world.specs.Types.{is_of}
+use Rattle.abc_acts.specs.WorldTypes.{is_of}
 use Rattle.abc_meaning.specs.Sound.{IsOfKind}
 
 -- ---- a value of a kind is of the kinds above it

@@ -3,13 +3,13 @@ use Rattle.std.specs.Prelude.{◌≡◌, ◌≢◌, ℕ, ◌<◌, ◌^◌, List,
 use Rattle.abc_base.specs.Hosts.{AreFormulas}
 use Rattle.abc_cells.specs.declared.values.Value.{Value}
 use Rattle.abc_heap.specs.declared.records.Limits.{Limits}
-use Rattle.abc_objects.specs.Values.{Exists}
+use Rattle.abc_acts.specs.ObjectsValues.{Exists}
 use Rattle.abc_program.specs.Linked.{IsLinkedFile}
 use Rattle.abc_program.specs.Slots.{HasFewSlots}
 use Rattle.abc_tables.specs.Files.{Fits}
 use Rattle.abc_typing.specs.Routines.{routine}
 use Rattle.abc_typing.specs.Typing.{HasTyping}
-use Rattle.abc_world.specs.Setting.{Setting}
+use Rattle.abc_acts.specs.WorldSetting.{Setting}
 use Rattle.abc_meaning.specs.Meaning.{Ran, first_state, first_world, meaning, too_small}
 use Rattle.abc_meaning.specs.Sound.{AreTypings, IsSound, SteppedSound, Typings}
 use Rattle.abc_meaning.specs.Step.{step}

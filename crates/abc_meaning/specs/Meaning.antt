@@ -5,9 +5,9 @@ use Rattle.abc_heap.specs.Heap.{Heap, cells_used}
 use Rattle.abc_heap.specs.declared.records.Limit.{Limit}
 use Rattle.abc_heap.specs.declared.records.Limit.TheVariants.{Objects, Cells}
 use Rattle.abc_heap.specs.declared.records.Limits.{Limits}
-use Rattle.abc_objects.specs.Opening.{formula_names, opening}
-use Rattle.abc_world.specs.Setting.{Setting}
-use Rattle.abc_world.specs.World.{World}
+use Rattle.abc_acts.specs.ObjectsOpening.{formula_names, opening}
+use Rattle.abc_acts.specs.WorldSetting.{Setting}
+use Rattle.abc_acts.specs.World.{World}
 use Rattle.abc_meaning.specs.Step.{step}
 use Rattle.abc_meaning.specs.Throwing.{End, Ends, FuelSpent, Machine, Stepped, Steps}
 

@@ -9,9 +9,9 @@ use Rattle.abc_heap.specs.declared.records.Limits.{Limits}
 use Rattle.abc_heap.specs.declared.records.ScopeEntry.{ScopeEntry}
 use Rattle.abc_heap.specs.declared.records.What.{What}
 use Rattle.abc_heap.specs.declared.records.What.TheVariants as whats
-use Rattle.abc_objects.specs.Opening.{formula_names}
-use Rattle.abc_objects.specs.Stands.{IsScope, StandsOver}
-use Rattle.abc_objects.specs.Values.{Exists, Holds}
+use Rattle.abc_acts.specs.ObjectsOpening.{formula_names}
+use Rattle.abc_acts.specs.ObjectsStands.{IsScope, StandsOver}
+use Rattle.abc_acts.specs.ObjectsValues.{Exists, Holds}
 use Rattle.abc_program.specs.Kinds.{IsAtMost}
 use Rattle.abc_program.specs.Linked.{LinkedFile, layout_of}
 use Rattle.abc_program.specs.Numbering.{part_at}
@@ -31,8 +31,8 @@ use Rattle.abc_typing.specs.Typing.{IsTyping}
 use Rattle.abc_typing.specs.declared.state.Scope.{Scope}
 use Rattle.abc_typing.specs.declared.state.State.{State}
 use Rattle.abc_stacks.specs.Frame.{Frame}
-use Rattle.abc_world.specs.Setting.{Setting, routine_of}
-use Rattle.abc_world.specs.World.{World}
+use Rattle.abc_acts.specs.WorldSetting.{Setting, routine_of}
+use Rattle.abc_acts.specs.World.{World}
 use Rattle.abc_stacks.specs.declared.records.Wait.{Wait}
 use Rattle.abc_stacks.specs.declared.records.Wait.TheVariants as waits
 use Rattle.abc_acts.specs.At.{next, pushed}

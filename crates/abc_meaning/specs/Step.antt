@@ -8,11 +8,11 @@ use Rattle.abc_shapes.specs.Rows.{Shape, row_at}
 use Rattle.abc_tables.specs.declared.code.Instr.{Instr}
 use Rattle.abc_typing.specs.Effects.{Here}
 use Rattle.abc_typing.specs.Routines.{Routine}
-use Rattle.abc_world.specs.Entering.{starts}
+use Rattle.abc_acts.specs.WorldEntering.{starts}
 use Rattle.abc_stacks.specs.Frame.{Frame}
-use Rattle.abc_world.specs.Making.{new}
-use Rattle.abc_world.specs.Setting.{Setting, routine_of, size_of}
-use Rattle.abc_world.specs.World.{Outcome, Run, Stopped, Went, World, done, room, see, stuck, ◌>>=◌, ◌>>◌}
+use Rattle.abc_acts.specs.WorldMaking.{new}
+use Rattle.abc_acts.specs.WorldSetting.{Setting, routine_of, size_of}
+use Rattle.abc_acts.specs.World.{Outcome, Run, Stopped, Went, World, done, room, see, stuck, ◌>>=◌, ◌>>◌}
 use Rattle.abc_stacks.specs.declared.records.Wait.{Wait}
 use Rattle.abc_stacks.specs.declared.records.Wait.TheVariants as waits
 use Rattle.abc_acts.specs.At.{Above, Act, Doing, Goes, Returns, Stays, Top, next, pushed, pushing, waiting}

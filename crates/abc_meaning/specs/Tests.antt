@@ -18,8 +18,8 @@ use Rattle.abc_tables.specs.declared.code.Instr.{Instr}
 use Rattle.abc_typing.specs.Effects.{Here, args, depth, name_at, needs, runtime}
 use Rattle.abc_typing.specs.Rules.{has_form, has_locals, in_table, is_here, may_pop, may_push, reaches, super_layout}
 use Rattle.abc_stacks.specs.Frame.{Frame}
-use Rattle.abc_world.specs.Setting.{Setting}
-use Rattle.abc_world.specs.World.{World, object}
+use Rattle.abc_acts.specs.WorldSetting.{Setting}
+use Rattle.abc_acts.specs.World.{World, object}
 use Rattle.abc_acts.specs.At.{At}
 
 -- ---- how an instruction finds its values: its arguments on top, then the others, with the parts of the name among them

@@ -20,10 +20,10 @@ use Rattle.abc_items.specs.Parts.{body_at, script_at}
 use Rattle.abc_tables.specs.declared.code.Handler.{Handler}
 use Rattle.abc_typing.specs.Routines.{Routine}
 use Rattle.abc_stacks.specs.Frame.{Frame}
-use Rattle.abc_world.specs.Objects.{new_of_host}
-use Rattle.abc_world.specs.Setting.{Setting, routine_of}
-use Rattle.abc_world.specs.Types.{is_of}
-use Rattle.abc_world.specs.World.{Errs, Faults, Fills, Outcome, Sticks, Stop, Stopped, Throws, Went, World}
+use Rattle.abc_acts.specs.WorldObjects.{new_of_host}
+use Rattle.abc_acts.specs.WorldSetting.{Setting, routine_of}
+use Rattle.abc_acts.specs.WorldTypes.{is_of}
+use Rattle.abc_acts.specs.World.{Errs, Faults, Fills, Outcome, Sticks, Stop, Stopped, Throws, Went, World}
 use Rattle.abc_stacks.specs.declared.records.Wait.TheVariants as waits
 use Rattle.abc_meaning.specs.declared.thrown.Thrown.{Thrown}
 use Rattle.abc_meaning.specs.declared.thrown.Thrown.TheVariants as thrown

@@ -23,10 +23,10 @@ use Rattle.abc_program.specs.declared.types.Kind.TheVariants as kinds
 use Rattle.abc_program.specs.declared.types.Ty.{Ty}
 use Rattle.abc_program.specs.declared.types.Ty.TheVariants as types
 use Rattle.abc_states.specs.Outer.{at_heap}
-use Rattle.abc_world.specs.Ops.{coerced, coerces, outcome}
-use Rattle.abc_world.specs.Setting.{Setting}
-use Rattle.abc_world.specs.Types.{is_of}
-use Rattle.abc_world.specs.World.{Went, World}
+use Rattle.abc_states.specs.WorldOps.{coerced, coerces, outcome}
+use Rattle.abc_states.specs.WorldSetting.{Setting}
+use Rattle.abc_states.specs.WorldTypes.{is_of}
+use Rattle.abc_states.specs.World.{Went, World}
 
 -- what is answered, in the heap that is left
 abbrev LeftHolds : LinkedFile → Kind → Left Value → Type 0

@@ -5,13 +5,13 @@ use Rattle.abc_stacks.specs.Frame.{Frame}
 use Rattle.abc_search.specs.Searches.{found_on}
 use Rattle.abc_search.specs.declared.found.Want.TheVariants.{Read}
 use Rattle.abc_search.specs.declared.name.Spaces.TheVariants.{Public}
-use Rattle.abc_acts.specs.At.{Act}
-use Rattle.abc_acts.specs.Late.{is_found, is_instance, kept_as, late_type, tested_as}
+use Rattle.abc_states.specs.ActsAt.{Act}
+use Rattle.abc_states.specs.ActsLate.{is_found, is_instance, kept_as, late_type, tested_as}
 use Rattle.abc_states.specs.Operands.{operand_at}
-use Rattle.abc_world.specs.Members.{with_holder}
-use Rattle.abc_world.specs.Ops.{spells}
-use Rattle.abc_world.specs.Setting.{Setting}
-use Rattle.abc_world.specs.World.{Run, done, see, ◌>>=◌}
+use Rattle.abc_states.specs.WorldMembers.{with_holder}
+use Rattle.abc_states.specs.WorldOps.{spells}
+use Rattle.abc_states.specs.WorldSetting.{Setting}
+use Rattle.abc_states.specs.World.{Run, done, see, ◌>>=◌}
 use Rattle.abc_states.specs.Settling.{pushes}
 
 -- astypelate, istypelate, instanceof

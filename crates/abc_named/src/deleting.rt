@@ -12,10 +12,10 @@ ghost use Rattle.abc_states.specs.Outer.{Outer, setting, world};
 ghost use Rattle.abc_states.specs.Standing.{IsSet, Stays};
 ghost use Rattle.abc_states.specs.Stops.{IsOpen, answer};
 ghost use Rattle.abc_states.specs.Turns.{Runs};
-ghost use Rattle.abc_world.specs.Members.{delete_found as found_deleted, deletes, deletes_own, is_dynamic as is_dynamic_value};
-ghost use Rattle.abc_world.specs.Objects.{without_property};
-ghost use Rattle.abc_world.specs.Setting.{is_dynamic_part as is_dynamic_of};
-ghost use Rattle.abc_world.specs.World.{Went, changes};
+ghost use Rattle.abc_states.specs.WorldMembers.{delete_found as found_deleted, deletes, deletes_own, is_dynamic as is_dynamic_value};
+ghost use Rattle.abc_states.specs.WorldObjects.{without_property};
+ghost use Rattle.abc_states.specs.WorldSetting.{is_dynamic_part as is_dynamic_of};
+ghost use Rattle.abc_states.specs.World.{Went, changes};
 ghost use Rattle.abc_named.specs.Deleted.{deletes_named};
 ghost use Rattle.abc_named.specs.Named.{form_at, parts_count};
 

@@ -1,5 +1,5 @@
 ghost use Rattle.std.specs.Prelude.{◌≡◌, Some};
-ghost use Rattle.abc_acts.specs.Late.{is_among as is_among_delegates, is_found as is_found_value, is_instance as is_instance_value, late_type as type_late, type_of_what as type_of_kept};
+ghost use Rattle.abc_states.specs.ActsLate.{is_among as is_among_delegates, is_found as is_found_value, is_instance as is_instance_value, late_type as type_late, type_of_what as type_of_kept};
 ghost use Rattle.abc_cells.specs.declared.values.Value.TheVariants.{Obj};
 ghost use Rattle.abc_heap.specs.Texts.{IsText};
 ghost use Rattle.abc_moves.specs.Ready.{IsReady};
@@ -14,7 +14,7 @@ ghost use Rattle.abc_states.specs.Outer.{Outer, setting, world};
 ghost use Rattle.abc_states.specs.Standing.{IsSet};
 ghost use Rattle.abc_states.specs.Stops.{answer};
 ghost use Rattle.abc_states.specs.Turns.{Runs};
-ghost use Rattle.abc_world.specs.World.{World};
+ghost use Rattle.abc_states.specs.World.{World};
 ghost use Rattle.abc_named.specs.Late.{keeps_late, tests_instance, tests_late, tests_name};
 
 use crate::receivers::is_holder;

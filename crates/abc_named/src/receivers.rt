@@ -1,8 +1,8 @@
 ghost use Rattle.std.specs.Prelude.{◌≡◌, IfOk};
 ghost use Rattle.abc_cells.specs.declared.values.Value.TheVariants.{Obj};
 ghost use Rattle.abc_states.specs.Stops.{answer};
-ghost use Rattle.abc_world.specs.Members.{with_holder};
-ghost use Rattle.abc_world.specs.World.{World, done};
+ghost use Rattle.abc_states.specs.WorldMembers.{with_holder};
+ghost use Rattle.abc_states.specs.World.{World, done};
 ghost use Rattle.abc_named.specs.Receivers.{IsReceiver, receiver_of};
 
 use abc_base::HostClass;

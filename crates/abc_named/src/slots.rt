@@ -9,7 +9,7 @@ ghost use Rattle.abc_states.specs.Outer.{Outer, setting, world};
 ghost use Rattle.abc_states.specs.Standing.{IsSet, Stays};
 ghost use Rattle.abc_states.specs.Stops.{IsOpen, answer};
 ghost use Rattle.abc_states.specs.Turns.{Runs};
-ghost use Rattle.abc_world.specs.Members.{write_slot as slot_written};
+ghost use Rattle.abc_states.specs.WorldMembers.{write_slot as slot_written};
 ghost use Rattle.abc_named.specs.Numbered.{reads_numbered, slot_type, writes_numbered};
 
 use crate::receivers::receiver;

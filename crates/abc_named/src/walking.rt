@@ -1,5 +1,5 @@
 ghost use Rattle.std.specs.Prelude.{◌≡◌, ◌<◌, length};
-ghost use Rattle.abc_acts.specs.Walking.{next_along as next_along_of, object_number, position};
+ghost use Rattle.abc_states.specs.ActsWalking.{next_along as next_along_of, object_number, position};
 ghost use Rattle.abc_moves.specs.Ready.{IsReady};
 ghost use Rattle.abc_objects.specs.Stands.{StandsOver};
 ghost use Rattle.abc_objects.specs.Values.{Exists};

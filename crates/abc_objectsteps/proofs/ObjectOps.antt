@@ -1,9 +1,9 @@
 -- What instructions on objects do, by their opcodes.
 use Rattle.std.proofs.Common.{◌≡◌, ℕ, List, [], ◌∷◌, refl, ap, ◌∙◌}
 use Rattle.std.specs.Prelude.{slice_get}
-use Rattle.abc_acts.specs.At.{At, gives, goes, next, number, pushed}
-use Rattle.abc_acts.specs.Late.{on_slot, reads_slot, writes_slot}
-use Rattle.abc_acts.specs.Table.{act_of, acts}
+use Rattle.abc_states.specs.ActsAt.{At, gives, goes, next, number, pushed}
+use Rattle.abc_states.specs.ActsLate.{on_slot, reads_slot, writes_slot}
+use Rattle.abc_states.specs.ActsTable.{act_of, acts}
 use Rattle.abc_cells.specs.declared.values.ObjId.{ObjId}
 use Rattle.abc_cells.specs.declared.values.Value.{Value}
 use Rattle.abc_cells.specs.declared.values.Value.TheVariants as values
@@ -23,9 +23,9 @@ use Rattle.abc_states.specs.Operands.{operand_at}
 use Rattle.abc_states.specs.Outer.{Outer, setting, world}
 use Rattle.abc_states.specs.declared.state.State.{State}
 use Rattle.abc_tables.specs.declared.code.Instr.TheVariants.{One, Plain}
-use Rattle.abc_world.specs.Members.{write_slot}
-use Rattle.abc_world.specs.Setting.{Setting}
-use Rattle.abc_world.specs.World.{Outcome, Run, World, and_then, some}
+use Rattle.abc_states.specs.WorldMembers.{write_slot}
+use Rattle.abc_states.specs.WorldSetting.{Setting}
+use Rattle.abc_states.specs.World.{Outcome, Run, World, and_then, some}
 
 -- ---- a slot by its number
 

@@ -43,8 +43,8 @@ use Rattle.abc_world.specs.Ops.{coerced, kept_of, operates, outcome}
 use Rattle.abc_world.specs.Setting.{Setting}
 use Rattle.abc_world.specs.Types.{is_of}
 use Rattle.abc_world.specs.World.{World}
-use Rattle.abc_meaning.specs.Sound.{IsOfKind, WorldSound}
-use Rattle.abc_meaning.proofs.ValueKinds.{type_holds}
+use Rattle.abc_sound.specs.MeaningSound.{IsOfKind, WorldSound}
+use Rattle.abc_sound.proofs.MeaningValueKinds.{type_holds}
 use Rattle.abc_sound.specs.Given.{OpsGiven, conversion_kind, double_kind, single_kind}
 use Rattle.abc_sound.specs.Keeping.{Fares, IsError, Leaves}
 use Rattle.abc_sound.proofs.Faring.{leaves_self, leaves_trans}

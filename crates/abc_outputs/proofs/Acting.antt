@@ -17,36 +17,36 @@ use Rattle.abc_items.specs.Parts.{class_at}
 use Rattle.abc_names.specs.Instances.{instance_at}
 use Rattle.abc_names.specs.declared.named.Named.{Named}
 use Rattle.abc_names.specs.declared.named.Named.TheVariants as named
-use Rattle.abc_ops.specs.Left.{text_made}
+use Rattle.abc_meaning.specs.OpsLeft.{text_made}
 use Rattle.abc_program.specs.Linked.{above}
 use Rattle.abc_program.specs.Owners.{owner_of}
 use Rattle.abc_program.specs.Slots.{slot_numbered}
 use Rattle.abc_program.specs.declared.part.LayoutId.{LayoutId}
-use Rattle.abc_search.specs.Objects.{host_class_number}
-use Rattle.abc_search.specs.Searches.{declared_found}
-use Rattle.abc_search.specs.declared.found.ScopeFound.{ScopeFound}
-use Rattle.abc_search.specs.declared.found.ScopeFound.TheVariants.{Object as InObject, Start, Missing}
-use Rattle.abc_search.specs.declared.found.Found.{Found}
-use Rattle.abc_search.specs.declared.found.Want.{Want}
-use Rattle.abc_search.specs.declared.found.Want.TheVariants.{Read, Write}
-use Rattle.abc_search.specs.declared.name.Name.{Name}
+use Rattle.abc_meaning.specs.SearchObjects.{host_class_number}
+use Rattle.abc_meaning.specs.Searches.{declared_found}
+use Rattle.abc_meaning.specs.SearchScopeFoundType.{ScopeFound}
+use Rattle.abc_meaning.specs.SearchScopeFoundType.TheVariants.{Object as InObject, Start, Missing}
+use Rattle.abc_meaning.specs.SearchFoundType.{Found}
+use Rattle.abc_meaning.specs.SearchWantType.{Want}
+use Rattle.abc_meaning.specs.SearchWantType.TheVariants.{Read, Write}
+use Rattle.abc_meaning.specs.SearchNameType.{Name}
 use Rattle.abc_shapes.specs.Instructions.{local, second, targets}
-use Rattle.abc_world.specs.Calling.{Came, Calls, Got, Makes}
-use Rattle.abc_world.specs.Setting.{NameForm, NoPart, NoSpace, NoText, Setting, Whole, method_of}
-use Rattle.abc_world.specs.World.{Errs, Outcome, Run, Sticks, World, and_then, done, object}
+use Rattle.abc_meaning.specs.WorldCalling.{Came, Calls, Got, Makes}
+use Rattle.abc_meaning.specs.WorldSetting.{NameForm, NoPart, NoSpace, NoText, Setting, Whole, method_of}
+use Rattle.abc_meaning.specs.World.{Errs, Outcome, Run, Sticks, World, and_then, done, object}
 use Rattle.abc_stacks.specs.Frame.{Frame}
 use Rattle.abc_tables.specs.declared.methods.Method.{Method}
 use Rattle.abc_typing.specs.Rules.{super_layout}
-use Rattle.abc_world.specs.Objects.{class_object}
-use Rattle.abc_acts.specs.At.{Act, At, Goes, Returns, dropping, goes, makes_of, number, pushed, pushing, take_one, take_two}
-use Rattle.abc_acts.specs.Late.{coerces_to_operand, has_name, instance_test, late_type, on_slot, reads_slot, type_of_what, writes_slot}
-use Rattle.abc_acts.specs.Names.{name_of, space_of, type_of_operand}
-use Rattle.abc_acts.specs.Names.{named as named_by}
-use Rattle.abc_acts.specs.Newing.{base_prototype, entries_of, is_none, is_that, makes_activation, makes_array, makes_catch, makes_class, makes_function, makes_object, new_scope_object, set_all, unmade}
-use Rattle.abc_acts.specs.Scopes.{find_in_scopes, finds_and_reads, finds_or_global, finds_strictly, found_in}
-use Rattle.abc_acts.specs.Simple.{counts, local_value, returns, scope_object, scoped, switched, switches}
-use Rattle.abc_acts.specs.Supers.{base_of_maker, calls_super, constructs_super, on_receiver, on_super, reads_super, runs_base, strict, super_found, writes_super}
-use Rattle.abc_acts.specs.Walking.{Position, element_text, has_next2, name_in, next_along, object_number, position, walks_to}
+use Rattle.abc_meaning.specs.WorldObjects.{class_object}
+use Rattle.abc_meaning.specs.ActsAt.{Act, At, Goes, Returns, dropping, goes, makes_of, number, pushed, pushing, take_one, take_two}
+use Rattle.abc_meaning.specs.ActsLate.{coerces_to_operand, has_name, instance_test, late_type, on_slot, reads_slot, type_of_what, writes_slot}
+use Rattle.abc_meaning.specs.ActsNames.{name_of, space_of, type_of_operand}
+use Rattle.abc_meaning.specs.ActsNames.{named as named_by}
+use Rattle.abc_meaning.specs.ActsNewing.{base_prototype, entries_of, is_none, is_that, makes_activation, makes_array, makes_catch, makes_class, makes_function, makes_object, new_scope_object, set_all, unmade}
+use Rattle.abc_meaning.specs.ActsScopes.{find_in_scopes, finds_and_reads, finds_or_global, finds_strictly, found_in}
+use Rattle.abc_meaning.specs.ActsSimple.{counts, local_value, returns, scope_object, scoped, switched, switches}
+use Rattle.abc_meaning.specs.ActsSupers.{base_of_maker, calls_super, constructs_super, on_receiver, on_super, reads_super, runs_base, strict, super_found, writes_super}
+use Rattle.abc_meaning.specs.ActsWalking.{Position, element_text, has_next2, name_in, next_along, object_number, position, walks_to}
 use Rattle.abc_outputs.proofs.Adding.{Adds, done_adds, if_adds, operates_adds, some_adds, stop_adds, then_adds}
 use Rattle.abc_outputs.proofs.Entering.{coerces_adds, coerces_to_adds, new_array_adds, new_class_adds, new_function_adds, new_object_adds, new_of_host_adds, one_adds as computes_adds, owned_adds, set_property_adds, spells_adds, starts_adds}
 use Rattle.abc_outputs.proofs.Members.{call_adds, holder_adds, read_adds, reads_adds, write_adds, write_slot_adds}

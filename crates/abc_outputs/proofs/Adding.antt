@@ -7,10 +7,10 @@ use Rattle.std.specs.declared.result.Result.{Result}
 use Rattle.abc_heap.specs.Heap.{Heap, cells_used}
 use Rattle.abc_heap.specs.declared.records.Limit.{Limit}
 use Rattle.abc_heap.specs.declared.records.Limit.TheVariants.{Objects, Cells}
-use Rattle.abc_ops.specs.Left.{Left}
-use Rattle.abc_ops.specs.declared.end.OpEnd.{OpEnd}
-use Rattle.abc_world.specs.Ops.{operates, outcome}
-use Rattle.abc_world.specs.World.{Fills, Outcome, Run, Stop, Stopped, Went, World, and_then, done, each_of, must, room, room_for_cells, room_for_objects, some, stop, with_heap}
+use Rattle.abc_meaning.specs.OpsLeft.{Left}
+use Rattle.abc_meaning.specs.OpsOpEndType.{OpEnd}
+use Rattle.abc_meaning.specs.WorldOps.{operates, outcome}
+use Rattle.abc_meaning.specs.World.{Fills, Outcome, Run, Stop, Stopped, Went, World, and_then, done, each_of, must, room, room_for_cells, room_for_objects, some, stop, with_heap}
 use Rattle.abc_outputs.specs.Front.{IsFront}
 
 abbrev pub world_of : {X : Type 0} → Outcome X → World

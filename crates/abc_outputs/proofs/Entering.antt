@@ -14,10 +14,10 @@ use Rattle.abc_heap.specs.declared.records.ScopeEntry.{ScopeEntry}
 use Rattle.abc_heap.specs.declared.records.ScopeId.{ScopeId}
 use Rattle.abc_heap.specs.declared.records.What.{What}
 use Rattle.abc_items.specs.Parts.{script_at}
-use Rattle.abc_objects.specs.Stands.{host_layout}
-use Rattle.abc_ops.specs.Compares.{compared}
-use Rattle.abc_ops.specs.Conversions.{converted, spelled}
-use Rattle.abc_ops.specs.Operations.{computed, computed_single}
+use Rattle.abc_meaning.specs.ObjectsStands.{host_layout}
+use Rattle.abc_meaning.specs.OpsCompares.{compared}
+use Rattle.abc_meaning.specs.OpsConversions.{converted, spelled}
+use Rattle.abc_meaning.specs.OpsOperations.{computed, computed_single}
 use Rattle.abc_program.specs.Owners.{owner_of}
 use Rattle.abc_program.specs.Types.{type_of}
 use Rattle.abc_program.specs.declared.types.Owner.{Owner}
@@ -26,11 +26,11 @@ use Rattle.abc_program.specs.declared.types.Ty.{Ty}
 use Rattle.abc_tables.specs.Methods.{has_flag}
 use Rattle.abc_tables.specs.declared.methods.Method.{Method}
 use Rattle.abc_tables.specs.declared.methods.OptionValue.{OptionValue}
-use Rattle.abc_world.specs.Entering.{arguments, array_of, coerced, coerces_to, enters, enters_owned, extra, framed, gives_option, global, notes_start, or_double, starts}
-use Rattle.abc_world.specs.Objects.{Place, class_object, instances_of, kept_by, new_array, new_class, new_function, new_object, new_of_host, place, place_of_owner, prototype_for, set_property, statics_of}
-use Rattle.abc_world.specs.Ops.{coerced as coerced_to, coerces, compares, computes_one, computes_two, converts, spells}
-use Rattle.abc_world.specs.Setting.{Setting, may_take, options_of, value_of_option}
-use Rattle.abc_world.specs.World.{Errs, Faults, Sticks, World, done, object, throws}
+use Rattle.abc_meaning.specs.WorldEntering.{arguments, array_of, coerced, coerces_to, enters, enters_owned, extra, framed, gives_option, global, notes_start, or_double, starts}
+use Rattle.abc_meaning.specs.WorldObjects.{Place, class_object, instances_of, kept_by, new_array, new_class, new_function, new_object, new_of_host, place, place_of_owner, prototype_for, set_property, statics_of}
+use Rattle.abc_meaning.specs.WorldOps.{coerced as coerced_to, coerces, compares, computes_one, computes_two, converts, spells}
+use Rattle.abc_meaning.specs.WorldSetting.{Setting, may_take, options_of, value_of_option}
+use Rattle.abc_meaning.specs.World.{Errs, Faults, Sticks, World, done, object, throws}
 use Rattle.abc_outputs.proofs.Adding.{Adds, cells_adds, done_adds, heap_adds, if_adds, must_adds, objects_adds, operates_adds, outcome_adds, same_front, some_adds, stop_adds, then_adds}
 
 module _ (p : Setting) where

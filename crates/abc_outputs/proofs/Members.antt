@@ -12,18 +12,18 @@ use Rattle.abc_heap.specs.Changes.{with_element, with_object}
 use Rattle.abc_heap.specs.Heap.{Object}
 use Rattle.abc_program.specs.declared.types.Owner.{Owner}
 use Rattle.abc_program.specs.declared.types.SlotInfo.{SlotInfo}
-use Rattle.abc_search.specs.ElementNames.{ElementName, IsLength, IsNumber}
-use Rattle.abc_search.specs.Searches.{declared_found}
-use Rattle.abc_search.specs.Spaces.{holds_public}
-use Rattle.abc_search.specs.declared.found.Found.{Found}
-use Rattle.abc_search.specs.declared.found.Found.TheVariants.{Slot, Method, Getter, Setter, Property, Element, Length, WrongSide, Missing}
-use Rattle.abc_search.specs.declared.found.Want.TheVariants.{Write}
-use Rattle.abc_search.specs.declared.name.Name.{Name}
-use Rattle.abc_world.specs.Members.{at_place, bound_function, call_found, calls_name, delete_found, deletes, deletes_own, element_of, find_on, is_dynamic, may_hold, read_found, reads, slot_info, undefined_if, value_found, with_holder, write_element, write_found, write_own, write_property, write_slot, writes_to}
-use Rattle.abc_world.specs.Calling.{calls, got}
-use Rattle.abc_world.specs.Objects.{own_place, set_property, without_property}
-use Rattle.abc_world.specs.Setting.{Setting, is_dynamic_layout}
-use Rattle.abc_world.specs.World.{Errs, Faults, Run, Sticks, World, and_then, changes, done, object, throws}
+use Rattle.abc_meaning.specs.SearchElementNames.{ElementName, IsLength, IsNumber}
+use Rattle.abc_meaning.specs.Searches.{declared_found}
+use Rattle.abc_meaning.specs.SearchSpaces.{holds_public}
+use Rattle.abc_meaning.specs.SearchFoundType.{Found}
+use Rattle.abc_meaning.specs.SearchFoundType.TheVariants.{Slot, Method, Getter, Setter, Property, Element, Length, WrongSide, Missing}
+use Rattle.abc_meaning.specs.SearchWantType.TheVariants.{Write}
+use Rattle.abc_meaning.specs.SearchNameType.{Name}
+use Rattle.abc_meaning.specs.WorldMembers.{at_place, bound_function, call_found, calls_name, delete_found, deletes, deletes_own, element_of, find_on, is_dynamic, may_hold, read_found, reads, slot_info, undefined_if, value_found, with_holder, write_element, write_found, write_own, write_property, write_slot, writes_to}
+use Rattle.abc_meaning.specs.WorldCalling.{calls, got}
+use Rattle.abc_meaning.specs.WorldObjects.{own_place, set_property, without_property}
+use Rattle.abc_meaning.specs.WorldSetting.{Setting, is_dynamic_layout}
+use Rattle.abc_meaning.specs.World.{Errs, Faults, Run, Sticks, World, and_then, changes, done, object, throws}
 use Rattle.abc_outputs.proofs.Adding.{Adds, cells_adds, done_adds, heap_adds, if_adds, some_adds, stop_adds, then_adds}
 use Rattle.abc_outputs.proofs.Entering.{coerces_adds, new_of_host_adds, owned_adds, place_adds, set_property_adds}
 use Rattle.abc_outputs.proofs.Values.{calls_adds}

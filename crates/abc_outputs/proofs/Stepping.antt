@@ -16,10 +16,10 @@ use Rattle.abc_tables.specs.declared.code.Handler.{Handler}
 use Rattle.abc_tables.specs.declared.code.Instr.{Instr}
 use Rattle.abc_typing.specs.Effects.{Here}
 use Rattle.abc_typing.specs.Routines.{Routine}
-use Rattle.abc_world.specs.Setting.{Setting, routine_of}
-use Rattle.abc_world.specs.World.{Errs, Faults, Fills, Outcome, Run, Sticks, Stop, Stopped, Throws, Went, World}
-use Rattle.abc_acts.specs.At.{Above, Act, Doing, Goes, Returns, Stays, Top, waiting}
-use Rattle.abc_acts.specs.Table.{act_of}
+use Rattle.abc_meaning.specs.WorldSetting.{Setting, routine_of}
+use Rattle.abc_meaning.specs.World.{Errs, Faults, Fills, Outcome, Run, Sticks, Stop, Stopped, Throws, Went, World}
+use Rattle.abc_meaning.specs.ActsAt.{Above, Act, Doing, Goes, Returns, Stays, Top, waiting}
+use Rattle.abc_meaning.specs.ActsTable.{act_of}
 use Rattle.abc_meaning.specs.Meaning.{Ended, runs_for, then_runs}
 use Rattle.abc_meaning.specs.Step.{acted, does, does_instr, does_row, gives_back, put_on, puts, resumed, resumes, room_for_frame, runs, settles, size_of_frame, size_of_frames, started, step, step_of, tested}
 use Rattle.abc_meaning.specs.Tests.{at_frame, can_run}

@@ -6,11 +6,11 @@ use Rattle.abc_cells.specs.declared.values.Value.TheVariants as values
 use Rattle.abc_conversions.specs.declared.numbers.Conversion.TheVariants.{ConvertS, ConvertI, ConvertU, ConvertD, ConvertB, ConvertO, CoerceS}
 use Rattle.abc_conversions.specs.declared.numbers.Conversion.{Conversion}
 use Rattle.abc_typing.specs.Lists.{Each}
-use Rattle.abc_world.specs.World.{Faults, Throws, World}
-use Rattle.abc_acts.specs.At.{At, Doing, nothing, op}
-use Rattle.abc_acts.specs.Simple.{converting, where_not, where_so}
-use Rattle.abc_acts.specs.Table.{act_of, acts, call_acts, class_acts, find_act, jumping_acts, object_acts, operation_acts, plain_acts, walking_acts}
-use Rattle.abc_acts.specs.Walking.{position, walked}
+use Rattle.abc_meaning.specs.World.{Faults, Throws, World}
+use Rattle.abc_meaning.specs.ActsAt.{At, Doing, nothing, op}
+use Rattle.abc_meaning.specs.ActsSimple.{converting, where_not, where_so}
+use Rattle.abc_meaning.specs.ActsTable.{act_of, acts, call_acts, class_acts, find_act, jumping_acts, object_acts, operation_acts, plain_acts, walking_acts}
+use Rattle.abc_meaning.specs.ActsWalking.{position, walked}
 use Rattle.abc_outputs.proofs.Acting.{activation_adds, and_reads_adds, array_adds, calls_super_adds, came_adds, catch_adds, class_adds, coerces_operand_adds, constructs_adds, counts_adds, drops_adds, flag_adds, function_adds, gives_adds, has_name_adds, has_next2_adds, instance_adds, late_adds, local_adds, makes_of_adds, name_adds, name_in_adds, object_adds, or_global_adds, reads_slot_adds, reads_super_adds, returns_adds, scope_object_adds, scoped_adds, strictly_adds, switches_adds, take_one_adds, take_two_adds, type_adds, writes_slot_adds, writes_super_adds}
 use Rattle.abc_outputs.proofs.Adding.{Adds, done_adds, stop_adds, then_adds}
 use Rattle.abc_outputs.proofs.Entering.{compares_adds, converts_adds, one_adds, two_adds}

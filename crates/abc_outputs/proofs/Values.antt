@@ -16,15 +16,15 @@ use Rattle.abc_heap.specs.declared.records.ScopeId.{ScopeId}
 use Rattle.abc_heap.specs.declared.records.What.{What}
 use Rattle.abc_heap.specs.declared.records.What.TheVariants as whats
 use Rattle.abc_items.specs.Bases.{is_interface}
-use Rattle.abc_objects.specs.Fixed.{fixed_span}
-use Rattle.abc_objects.specs.declared.fixed.FixedText.TheVariants.{Message}
+use Rattle.abc_meaning.specs.ObjectsFixed.{fixed_span}
+use Rattle.abc_meaning.specs.ObjectsFixedTextType.TheVariants.{Message}
 use Rattle.abc_program.specs.declared.types.Ty.{Ty}
-use Rattle.abc_world.specs.Calling.{Came, Got, calls, calls_formula, calls_what, got, in_range, line, number_in, only, this_of, trace}
-use Rattle.abc_world.specs.Making.{host_arguments, message_of, most_arguments, new, new_elements, new_instance, new_of_class, new_plain, new_what, set_message}
-use Rattle.abc_world.specs.Objects.{place}
-use Rattle.abc_world.specs.Ops.{as_boolean, as_int, as_number, as_text, as_uint, coerces}
-use Rattle.abc_world.specs.Setting.{Setting, type_of_class, type_of_host}
-use Rattle.abc_world.specs.World.{Errs, Faults, Run, Went, World, and_then, object, throws}
+use Rattle.abc_meaning.specs.WorldCalling.{Came, Got, calls, calls_formula, calls_what, got, in_range, line, number_in, only, this_of, trace}
+use Rattle.abc_meaning.specs.WorldMaking.{host_arguments, message_of, most_arguments, new, new_elements, new_instance, new_of_class, new_plain, new_what, set_message}
+use Rattle.abc_meaning.specs.WorldObjects.{place}
+use Rattle.abc_meaning.specs.WorldOps.{as_boolean, as_int, as_number, as_text, as_uint, coerces}
+use Rattle.abc_meaning.specs.WorldSetting.{Setting, type_of_class, type_of_host}
+use Rattle.abc_meaning.specs.World.{Errs, Faults, Run, Went, World, and_then, object, throws}
 use Rattle.abc_outputs.proofs.Adding.{Adds, done_adds, each_adds, if_adds, some_adds, stop_adds, then_adds}
 use Rattle.abc_outputs.proofs.Entering.{arguments_adds, coerces_adds, converts_adds, enters_adds, framed_adds, new_array_adds, new_object_adds, set_property_adds}
 

@@ -1,6 +1,6 @@
 -- What was written stays in front of what is written after it.
 use Rattle.std.specs.Prelude.{◌≡◌, ℕ, List, ◌++◌}
-use Rattle.abc_world.specs.World.{World}
+use Rattle.abc_meaning.specs.World.{World}
 use Rattle.abc_meaning.specs.Throwing.{Ends, Stepped, Steps}
 
 pub record IsFront (old new : World) : Type 0 where

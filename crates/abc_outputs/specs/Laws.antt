@@ -3,7 +3,7 @@ use Rattle.std.specs.Prelude.{ℕ}
 use Rattle.abc_meaning.specs.Meaning.{runs_for}
 use Rattle.abc_meaning.specs.Step.{step}
 use Rattle.abc_meaning.specs.Throwing.{Machine}
-use Rattle.abc_world.specs.Setting.{Setting}
+use Rattle.abc_meaning.specs.WorldSetting.{Setting}
 use Rattle.abc_outputs.specs.Front.{IsFront, left_by}
 
 -- in a step

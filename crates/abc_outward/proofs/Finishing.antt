@@ -30,10 +30,10 @@ use Rattle.abc_states.specs.Turns.{GoesOn, Halts, Turned, asked, bared, on_top, 
 use Rattle.abc_states.specs.declared.state.How.{How}
 use Rattle.abc_states.specs.declared.state.How.TheVariants.{Push, Drop}
 use Rattle.abc_trace.specs.Lines as lines
-use Rattle.abc_world.specs.Calling.{Came, Got, bytes_of, calls_formula, got, in_range, line, number_in}
-use Rattle.abc_world.specs.Ops.{as_number, as_text}
-use Rattle.abc_world.specs.Setting.{Setting}
-use Rattle.abc_world.specs.World.{Errs, Faults, Outcome, Run, Stop, Stopped, Went, World, and_then, done, each_of, see, some, throws, writes, ◌>>=◌, ◌>>◌}
+use Rattle.abc_states.specs.WorldCalling.{Came, Got, bytes_of, calls_formula, got, in_range, line, number_in}
+use Rattle.abc_states.specs.WorldOps.{as_number, as_text}
+use Rattle.abc_states.specs.WorldSetting.{Setting}
+use Rattle.abc_states.specs.World.{Errs, Faults, Outcome, Run, Stop, Stopped, Went, World, and_then, done, each_of, see, some, throws, writes, ◌>>=◌, ◌>>◌}
 
 -- ---- a value settles in the place of what is taken, whatever the arguments became
 

@@ -5,7 +5,7 @@ use Rattle.std.proofs.lemmas.List.{drop-set, drop-set-lt, length-set, reverse-ap
 use Rattle.abc_cells.specs.declared.values.Value.{Value}
 use Rattle.abc_cells.specs.declared.values.Value.TheVariants.{Undefined}
 use Rattle.abc_outward.specs.Turned.{turned_at}
-use Rattle.abc_world.specs.World.{Outcome, Run, Stop, Stopped, Went, World, and_then, done, each_of, ◌>>=◌}
+use Rattle.abc_states.specs.World.{Outcome, Run, Stop, Stopped, Went, World, and_then, done, each_of, ◌>>=◌}
 
 -- ---- what is made leaves the deeper ones as they are
 

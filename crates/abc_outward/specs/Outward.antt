@@ -13,7 +13,7 @@ use Rattle.abc_states.specs.Stops.{why}
 use Rattle.abc_states.specs.Turns.{GoesOn, Halts, bared, traced}
 use Rattle.abc_states.specs.declared.state.How.{How}
 use Rattle.abc_states.specs.declared.state.State.{State}
-use Rattle.abc_world.specs.World.{World}
+use Rattle.abc_states.specs.World.{World}
 
 abbrev pub adding : List ℕ → Outer → Outer
 adding bytes out = record out { wrote = out.wrote ++ bytes }

@@ -2,7 +2,7 @@
 use Rattle.std.specs.Prelude.{ℕ, zero, suc, List, get_or, set}
 use Rattle.abc_cells.specs.declared.values.Value.{Value}
 use Rattle.abc_cells.specs.declared.values.Value.TheVariants.{Undefined}
-use Rattle.abc_world.specs.World.{Run, done, ◌>>=◌}
+use Rattle.abc_states.specs.World.{Run, done, ◌>>=◌}
 
 abbrev pub turned_at : (Value → Run Value) → ℕ → List Value → Run (List Value)
 turned_at f zero vs = done vs

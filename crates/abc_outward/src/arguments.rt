@@ -5,8 +5,8 @@ ghost use Rattle.abc_stacks.specs.Frame.{newest};
 ghost use Rattle.abc_states.specs.Outer.{Outer, setting, world};
 ghost use Rattle.abc_states.specs.Standing.{IsSet};
 ghost use Rattle.abc_states.specs.Stops.{why};
-ghost use Rattle.abc_world.specs.Ops.{converts};
-ghost use Rattle.abc_world.specs.World.{Stopped, Went};
+ghost use Rattle.abc_states.specs.WorldOps.{converts};
+ghost use Rattle.abc_states.specs.World.{Stopped, Went};
 
 use abc_link::Linked;
 use abc_ops::Conversion;

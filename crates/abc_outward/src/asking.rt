@@ -8,7 +8,7 @@ ghost use Rattle.abc_states.specs.Outer.{Outer, setting, world};
 ghost use Rattle.abc_states.specs.Settling.{given_by, taken_by};
 ghost use Rattle.abc_states.specs.Standing.{IsSet};
 ghost use Rattle.abc_states.specs.Turns.{asked, went};
-ghost use Rattle.abc_world.specs.Calling.{number_in};
+ghost use Rattle.abc_states.specs.WorldCalling.{number_in};
 
 use crate::arguments::convert_arguments;
 use abc_base::{Fault, Host, HostClass, Plain};

@@ -6,8 +6,8 @@ use Rattle.abc_heap.specs.Heap.{Heap}
 use Rattle.abc_ops.specs.Types.{IsOf}
 use Rattle.abc_program.specs.Linked.{IsLinkedFile, LinkedFile}
 use Rattle.abc_program.specs.declared.types.Ty.{Ty}
-use Rattle.abc_world.specs.Types.{is_of}
-use Rattle.abc_world.proofs.TypeTests.{decides_types}
+use Rattle.abc_states.specs.WorldTypes.{is_of}
+use Rattle.abc_states.proofs.WorldTypeTests.{decides_types}
 
 same_test : {P : Type 0} (a b : Bool) → (IsTrue a ↔ P) → (IsTrue b ↔ P) → a ≡ b
 same_test true true f g = refl

@@ -4,12 +4,12 @@ use Rattle.abc_cells.specs.declared.values.Value.TheVariants.{Bool as Truth}
 use Rattle.abc_conversions.specs.declared.numbers.Conversion.{Conversion}
 use Rattle.abc_program.specs.Types.{type_of}
 use Rattle.abc_stacks.specs.Frame.{Frame, dropped, with_local}
-use Rattle.abc_world.specs.Ops.{coerces, compares, computes_one, computes_two, converts}
-use Rattle.abc_world.specs.Setting.{Setting}
-use Rattle.abc_world.specs.World.{Run, done, some, ◌>>=◌}
-use Rattle.abc_acts.specs.At.{Act, goes, jumps, next}
-use Rattle.abc_acts.specs.Late.{kept_as, tested_as}
-use Rattle.abc_acts.specs.Simple.{switched}
+use Rattle.abc_states.specs.WorldOps.{coerces, compares, computes_one, computes_two, converts}
+use Rattle.abc_states.specs.WorldSetting.{Setting}
+use Rattle.abc_states.specs.World.{Run, done, some, ◌>>=◌}
+use Rattle.abc_states.specs.ActsAt.{Act, goes, jumps, next}
+use Rattle.abc_states.specs.ActsLate.{kept_as, tested_as}
+use Rattle.abc_states.specs.ActsSimple.{switched}
 use Rattle.abc_states.specs.Operands.{local_at, operand_at}
 use Rattle.abc_states.specs.Settling.{pushes}
 

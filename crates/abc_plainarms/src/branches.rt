@@ -1,5 +1,5 @@
 ghost use Rattle.std.specs.Prelude.{◌≡◌, ◌∷◌, not};
-ghost use Rattle.abc_acts.specs.Simple.{switched};
+ghost use Rattle.abc_states.specs.ActsSimple.{switched};
 ghost use Rattle.abc_cells.specs.declared.values.Value.TheVariants.{Num};
 ghost use Rattle.abc_conversions.specs.Numbers.{truth_of};
 ghost use Rattle.abc_moves.specs.Ready.{IsReady};
@@ -9,7 +9,7 @@ ghost use Rattle.abc_states.specs.Outer.{Outer, setting, world};
 ghost use Rattle.abc_states.specs.Standing.{IsSet};
 ghost use Rattle.abc_states.specs.Stops.{IsOpen};
 ghost use Rattle.abc_states.specs.Turns.{Runs};
-ghost use Rattle.abc_world.specs.World.{Went, World, done};
+ghost use Rattle.abc_states.specs.World.{Went, World, done};
 ghost use Rattle.abc_plainarms.specs.Plain.{branches_on, compares_both, opposite, switches_on};
 
 use abc_cells::Value;

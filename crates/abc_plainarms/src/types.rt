@@ -1,5 +1,5 @@
 ghost use Rattle.std.specs.Prelude.{◌≡◌, IsSome, Some};
-ghost use Rattle.abc_acts.specs.Late.{or_null};
+ghost use Rattle.abc_states.specs.ActsLate.{or_null};
 ghost use Rattle.abc_program.specs.Types.{type_of};
 ghost use Rattle.abc_moves.specs.Ready.{IsReady};
 ghost use Rattle.abc_objects.specs.Stands.{StandsOver};
@@ -8,7 +8,7 @@ ghost use Rattle.abc_stacks.specs.Frame.{newest};
 ghost use Rattle.abc_states.specs.Outer.{Outer, setting};
 ghost use Rattle.abc_states.specs.Standing.{IsSet};
 ghost use Rattle.abc_states.specs.Turns.{Runs};
-ghost use Rattle.abc_world.specs.Types.{is_of as is_of_type};
+ghost use Rattle.abc_states.specs.WorldTypes.{is_of as is_of_type};
 ghost use Rattle.abc_plainarms.specs.Plain.{coerces_named, keeps_named, tests_named};
 
 use abc_cells::Value;

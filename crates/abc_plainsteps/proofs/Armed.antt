@@ -2,8 +2,8 @@
 use Rattle.std.proofs.Common.{◌≡◌, ℕ, ◌≤◌, List, [], ◌∷◌, ◌++◌, drop, length, refl, ap, ◌∙◌, subst, arith}
 use Rattle.std.specs.Prelude.{Some}
 use Rattle.std.specs.List.{flat_map}
-use Rattle.abc_acts.specs.At.{At, Doing}
-use Rattle.abc_acts.specs.Table.{act_of}
+use Rattle.abc_states.specs.ActsAt.{At, Doing}
+use Rattle.abc_states.specs.ActsTable.{act_of}
 use Rattle.abc_cells.specs.declared.values.Value.{Value}
 use Rattle.abc_meaning.specs.Tests.{name_parts, parts_count, values_of}
 use Rattle.abc_moves.specs.Ready.{IsReady}
@@ -19,8 +19,8 @@ use Rattle.abc_states.specs.declared.state.State.{State}
 use Rattle.abc_tables.specs.declared.code.Instr.{Instr}
 use Rattle.abc_typing.specs.Effects.{Here, args, depth, name_at, runtime, unfolded}
 use Rattle.abc_typing.specs.Routines.{Routine}
-use Rattle.abc_world.specs.Setting.{Setting, routine_of}
-use Rattle.abc_world.specs.World.{World}
+use Rattle.abc_states.specs.WorldSetting.{Setting, routine_of}
+use Rattle.abc_states.specs.World.{World}
 use Rattle.abc_plainsteps.specs.Here.{act_here}
 use Rattle.abc_plainsteps.specs.Ready.{CanRun}
 use Rattle.abc_plainsteps.proofs.Making.{ready_for}

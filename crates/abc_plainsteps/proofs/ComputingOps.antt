@@ -1,7 +1,7 @@
 -- What plain instructions that compute do, by their opcodes.
 use Rattle.std.proofs.Common.{[], ◌∷◌, refl}
-use Rattle.abc_acts.specs.At.{goes, next}
-use Rattle.abc_acts.specs.Table.{act_of, acts}
+use Rattle.abc_states.specs.ActsAt.{goes, next}
+use Rattle.abc_states.specs.ActsTable.{act_of, acts}
 use Rattle.abc_conversions.specs.declared.numbers.Conversion.TheVariants.{CoerceS, ConvertB, ConvertD, ConvertI, ConvertO, ConvertS, ConvertU}
 use Rattle.abc_plainarms.specs.Plain.{computes_both, computes_top, converts_top, pushes_test}
 use Rattle.abc_plainsteps.proofs.Armed.{armed, one_taken, two_taken}

@@ -4,7 +4,7 @@ use Rattle.std.specs.Prelude.{IsSome, None, Some, ◌||◌, is_some, nat_eq, nat
 use Rattle.std.specs.declared.option.Option.{Option}
 use Rattle.std.proofs.lemmas.Bool.{ltb-true}
 use Rattle.std.proofs.lemmas.Option.{slice_get-get_or}
-use Rattle.abc_acts.specs.At.{Act, Goes, Stays, goes, next, pushed}
+use Rattle.abc_states.specs.ActsAt.{Act, Goes, Stays, goes, next, pushed}
 use Rattle.abc_cells.specs.declared.values.Value.{Value}
 use Rattle.abc_cells.specs.declared.values.Value.TheVariants.{Obj, Undefined}
 use Rattle.abc_moves.specs.Ready.{IsReady}
@@ -26,9 +26,9 @@ use Rattle.abc_states.specs.Stops.{IsOpen}
 use Rattle.abc_tables.specs.Opcodes.{is_in}
 use Rattle.abc_tables.specs.declared.code.Instr.{Instr}
 use Rattle.abc_typing.specs.Routines.{Routine, kind_if}
-use Rattle.abc_world.specs.Setting.{Setting, routine_of}
-use Rattle.abc_world.specs.World.{Outcome, Run, Went, and_then, done, some, ◌>>=◌}
-use Rattle.abc_world.specs.Ops.{computes_one}
+use Rattle.abc_states.specs.WorldSetting.{Setting, routine_of}
+use Rattle.abc_states.specs.World.{Outcome, Run, Went, and_then, done, some, ◌>>=◌}
+use Rattle.abc_states.specs.WorldOps.{computes_one}
 
 pub record Does (l : LinkedFile) (out : Outer) (s : State) (i : Instr) (n g : ℕ) (m : Run Act) : Type 0 where
   pub ready : IsReady n g s.frames

@@ -1,7 +1,7 @@
 -- From an instruction that isn't stuck to what its code relies on.
 use Rattle.std.proofs.Common.{◌≡◌, ℕ, ◌+◌, ◌<◌, ◌^◌, length, ap, ◌∙◌, arith}
 use Rattle.std.specs.declared.option.Option.{Option}
-use Rattle.abc_acts.specs.At.{Doing}
+use Rattle.abc_states.specs.ActsAt.{Doing}
 use Rattle.abc_moves.specs.Ready.{IsReady}
 use Rattle.abc_shapes.specs.Rows.{Shape}
 use Rattle.abc_stacks.specs.Frame.{Frames, newest, newest_size}
@@ -12,8 +12,8 @@ use Rattle.abc_plainsteps.proofs.Shaped.{tested_is}
 use Rattle.abc_tables.specs.declared.code.Instr.{Instr}
 use Rattle.abc_typing.specs.Effects.{depth}
 use Rattle.abc_typing.specs.Routines.{Routine}
-use Rattle.abc_world.specs.Setting.{Setting}
-use Rattle.abc_world.specs.World.{World}
+use Rattle.abc_states.specs.WorldSetting.{Setting}
+use Rattle.abc_states.specs.World.{World}
 
 pub ready_for : (p : Setting) (q : Frames) (i : Instr) (w : World) (row : Shape) (act : Doing) (n g : ℕ) (o : IsOpened p (newest q) i w row act) → 0 < length q.living → (newest q).place + 1 < 2 ^ 32 → newest_size q ≡ size_for p (newest q) → depth (here_of p o.routine (newest q) i row) ≡ n → length row.gives ≡ g → IsReady n g q
 ready_for p q i w row act n g o live place size d e =

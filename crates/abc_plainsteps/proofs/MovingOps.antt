@@ -1,9 +1,9 @@
 -- What plain instructions that move values do, by their opcodes.
 use Rattle.std.proofs.Common.{◌-◌, ◌<◌, [], ◌∷◌, length, take, true, false, refl}
 use Rattle.std.proofs.lemmas.Bool.{ltb-true}
-use Rattle.abc_acts.specs.At.{goes, next, pushed}
-use Rattle.abc_acts.specs.Simple.{returns, scoped}
-use Rattle.abc_acts.specs.Table.{act_of, acts}
+use Rattle.abc_states.specs.ActsAt.{goes, next, pushed}
+use Rattle.abc_states.specs.ActsSimple.{returns, scoped}
+use Rattle.abc_states.specs.ActsTable.{act_of, acts}
 use Rattle.abc_base.specs.declared.names.Fault.TheVariants as faults
 use Rattle.abc_cells.specs.declared.values.Value.TheVariants.{Null, Undefined, Bool as Truth}
 use Rattle.abc_plainsteps.proofs.Armed.{armed, none_taken, one_taken, two_taken}
@@ -18,7 +18,7 @@ use Rattle.abc_states.specs.Operands.{operand_at}
 use Rattle.abc_states.specs.Outer.{Outer, setting}
 use Rattle.abc_states.specs.declared.state.State.{State}
 use Rattle.abc_tables.specs.declared.code.Instr.TheVariants.{Plain}
-use Rattle.abc_world.specs.World.{Throws, fails, stop}
+use Rattle.abc_states.specs.World.{Throws, fails, stop}
 
 pub op_02 : (l : LinkedFile) (out : Outer) (s : State) → CanRun l out s (Plain 0x02) → Does l out s (Plain 0x02) 0 0 (goes (next (newest s.frames)))
 unfolding row_at table act_of acts

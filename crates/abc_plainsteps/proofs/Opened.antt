@@ -2,8 +2,8 @@
 use Rattle.std.proofs.Common.{◌≡◌, Bool, true, false, refl, ap, ◌∙◌, subst}
 use Rattle.std.specs.Prelude.{None, Some}
 use Rattle.std.specs.declared.option.Option.{Option}
-use Rattle.abc_acts.specs.At.{Act, Doing}
-use Rattle.abc_acts.specs.Table.{act_of}
+use Rattle.abc_states.specs.ActsAt.{Act, Doing}
+use Rattle.abc_states.specs.ActsTable.{act_of}
 use Rattle.abc_meaning.specs.Step.{does, does_row, tested}
 use Rattle.abc_meaning.specs.Tests.{at_frame, can_run}
 use Rattle.abc_shapes.specs.Instructions.{opcode}
@@ -13,8 +13,8 @@ use Rattle.abc_states.specs.Stops.{IsOpen}
 use Rattle.abc_tables.specs.declared.code.Instr.{Instr}
 use Rattle.abc_typing.specs.Effects.{Here}
 use Rattle.abc_typing.specs.Routines.{Routine}
-use Rattle.abc_world.specs.Setting.{Setting, routine_of}
-use Rattle.abc_world.specs.World.{Outcome, World}
+use Rattle.abc_states.specs.WorldSetting.{Setting, routine_of}
+use Rattle.abc_states.specs.World.{Outcome, World}
 use Rattle.abc_plainsteps.specs.Here.{act_here, act_in}
 
 abbrev pub here_of : Setting → Routine → Frame → Instr → Shape → Here

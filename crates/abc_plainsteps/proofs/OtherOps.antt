@@ -2,8 +2,8 @@
 use Rattle.std.proofs.Common.{ℕ, ◌<◌, List, [], ◌∷◌, length, not, refl}
 use Rattle.std.specs.Prelude.{IsSome, ℤ, pos}
 use Rattle.std.proofs.lemmas.Bool.{ltb-true}
-use Rattle.abc_acts.specs.At.{goes, jumps, next, pushed}
-use Rattle.abc_acts.specs.Table.{act_of, acts}
+use Rattle.abc_states.specs.ActsAt.{goes, jumps, next, pushed}
+use Rattle.abc_states.specs.ActsTable.{act_of, acts}
 use Rattle.abc_base.specs.declared.names.Fault.TheVariants as faults
 use Rattle.abc_cells.specs.declared.values.Value.TheVariants.{Num, Space, Text, Undefined}
 use Rattle.abc_conversions.specs.Numbers.{truth_of}
@@ -23,7 +23,7 @@ use Rattle.abc_states.specs.Operands.{operand_at}
 use Rattle.abc_states.specs.Outer.{Outer, setting}
 use Rattle.abc_states.specs.declared.state.State.{State}
 use Rattle.abc_tables.specs.declared.code.Instr.TheVariants.{Branch, Byte, Debug, One, ScopeObject, Short, Switch}
-use Rattle.abc_world.specs.World.{done, fails}
+use Rattle.abc_states.specs.World.{done, fails}
 
 pub op_08 : (l : LinkedFile) (out : Outer) (s : State) (n : ℕ) → CanRun l out s (One 0x08 n) → Does l out s (One 0x08 n) 0 0 (goes (next (with_local n Undefined (newest s.frames)))) × (n < length (newest s.frames).locals)
 unfolding row_at table act_of acts

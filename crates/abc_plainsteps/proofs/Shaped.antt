@@ -1,7 +1,7 @@
 -- What the tests of an instruction say, and where it finds its values, by the values that its row takes.
 use Rattle.std.proofs.Common.{◌≡◌, ℕ, ◌+◌, ◌-◌, ◌≤◌, List, [], ◌∷◌, length, drop, take, reverse, true, nat_le, get_or, refl, ap, ◌∙◌, arith}
 use Rattle.std.proofs.lemmas.Bool.{and_parts, leb-true}
-use Rattle.abc_acts.specs.At.{At}
+use Rattle.abc_states.specs.ActsAt.{At}
 use Rattle.abc_cells.specs.declared.values.Value.{Value}
 use Rattle.abc_cells.specs.declared.values.Value.TheVariants.{Undefined}
 use Rattle.abc_meaning.specs.Tests.{all_meet, at_frame, can_run, has_scope, name_parts, parts_count, values_of, walks_number}
@@ -9,8 +9,8 @@ use Rattle.abc_shapes.specs.Instructions.{operand}
 use Rattle.abc_stacks.specs.Frame.{Frame, dropped}
 use Rattle.abc_typing.specs.Effects.{Here, args, depth, needs}
 use Rattle.abc_typing.specs.Rules.{has_form, has_locals, in_table, is_here, may_pop, may_push}
-use Rattle.abc_world.specs.Setting.{Setting}
-use Rattle.abc_world.specs.World.{World}
+use Rattle.abc_states.specs.WorldSetting.{Setting}
+use Rattle.abc_states.specs.World.{World}
 
 -- ---- the tests
 

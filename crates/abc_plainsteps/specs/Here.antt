@@ -6,9 +6,9 @@ use Rattle.abc_shapes.specs.Rows.{row_at}
 use Rattle.abc_stacks.specs.Frame.{Frame}
 use Rattle.abc_tables.specs.declared.code.Instr.{Instr}
 use Rattle.abc_typing.specs.Routines.{Routine}
-use Rattle.abc_world.specs.Setting.{Setting, routine_of}
-use Rattle.abc_world.specs.World.{Run, stuck}
-use Rattle.abc_acts.specs.At.{Act}
+use Rattle.abc_states.specs.WorldSetting.{Setting, routine_of}
+use Rattle.abc_states.specs.World.{Run, stuck}
+use Rattle.abc_states.specs.ActsAt.{Act}
 use Rattle.abc_meaning.specs.Step.{does_row}
 
 abbrev pub act_in : Setting → Frame → Instr → Option Routine → Run Act

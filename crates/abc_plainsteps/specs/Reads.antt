@@ -1,9 +1,9 @@
 -- What is read of the newest frame and pushed.
 use Rattle.std.specs.Prelude.{ℕ, [], ◌∷◌, slice_get}
-use Rattle.abc_acts.specs.At.{Act, goes, pushed}
+use Rattle.abc_states.specs.ActsAt.{Act, goes, pushed}
 use Rattle.abc_cells.specs.declared.values.Value.TheVariants.{Obj}
 use Rattle.abc_stacks.specs.Frame.{Frame}
-use Rattle.abc_world.specs.World.{Run, some, ◌>>=◌}
+use Rattle.abc_states.specs.World.{Run, some, ◌>>=◌}
 
 abbrev pub reads_local : ℕ → Frame → Run Act
 reads_local n f = some (slice_get f.locals n) >>= λ v. goes (pushed (v ∷ []) f)

@@ -1,6 +1,6 @@
 ghost use Rattle.std.specs.Prelude.{◌≡◌, ◌<◌, ◌-◌, [], ◌∷◌, length, take};
-ghost use Rattle.abc_acts.specs.At.{goes, jumps, next, pushed};
-ghost use Rattle.abc_acts.specs.Simple.{scoped};
+ghost use Rattle.abc_states.specs.ActsAt.{goes, jumps, next, pushed};
+ghost use Rattle.abc_states.specs.ActsSimple.{scoped};
 ghost use Rattle.abc_cells.specs.declared.values.Value.TheVariants.{Undefined};
 ghost use Rattle.abc_moves.specs.Ready.{IsReady};
 ghost use Rattle.abc_plainsteps.specs.Reads.{reads_local, reads_scope};
@@ -8,7 +8,7 @@ ghost use Rattle.abc_stacks.specs.Frame.{dropped, newest, newest_size, with_loca
 ghost use Rattle.abc_states.specs.Operands.{operand_at};
 ghost use Rattle.abc_states.specs.Outer.{Outer};
 ghost use Rattle.abc_states.specs.Turns.{Runs};
-ghost use Rattle.abc_world.specs.World.{Throws, stop};
+ghost use Rattle.abc_states.specs.World.{Throws, stop};
 
 use abc_base::HostClass;
 use abc_cells::Value;

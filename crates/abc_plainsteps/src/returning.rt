@@ -1,5 +1,5 @@
 ghost use Rattle.std.specs.Prelude.{◌≡◌, ◌<◌, length, true};
-ghost use Rattle.abc_acts.specs.Simple.{returns};
+ghost use Rattle.abc_states.specs.ActsSimple.{returns};
 ghost use Rattle.abc_cells.specs.declared.values.Value.{Value};
 ghost use Rattle.abc_objects.specs.Stands.{StandsOver};
 ghost use Rattle.abc_objects.specs.Values.{Exists};

@@ -28,11 +28,11 @@ use Rattle.abc_world.specs.World.{Errs, Faults, Fills, Outcome, Run, Sticks, Sto
 use Rattle.abc_stacks.specs.declared.records.Wait.{Wait}
 use Rattle.abc_stacks.specs.declared.records.Wait.TheVariants as waits
 use Rattle.abc_acts.specs.At.{Above, Act, Goes, Returns, Stays, Top, dropping, next, pushed, pushing, waiting}
-use Rattle.abc_meaning.specs.Sound.{AreTypings, FrameSound, FramesFit, IsCatching, IsOfKind, IsOfState, IsTyped, IsTypedPushed, Stands, SteppedSound, Typings, WaitSound, WaitingSound, WorldSound}
-use Rattle.abc_meaning.specs.Step.{acted, gives_back, put_on, puts, resumed, resumes, settles, size_of_frame, size_of_frames, started, values_kept}
-use Rattle.abc_meaning.specs.Throwing.{stops, throws_made}
-use Rattle.abc_meaning.proofs.Unwinding.{CanCatch, unwinding}
-use Rattle.abc_meaning.proofs.ValueKinds.{kind_up}
+use Rattle.abc_sound.specs.MeaningSound.{AreTypings, FrameSound, FramesFit, IsCatching, IsOfKind, IsOfState, IsTyped, IsTypedPushed, Stands, SteppedSound, Typings, WaitSound, WaitingSound, WorldSound}
+use Rattle.abc_sound.specs.MeaningStep.{acted, gives_back, put_on, puts, resumed, resumes, settles, size_of_frame, size_of_frames, started, values_kept}
+use Rattle.abc_sound.specs.MeaningThrowing.{stops, throws_made}
+use Rattle.abc_sound.proofs.MeaningUnwinding.{CanCatch, unwinding}
+use Rattle.abc_sound.proofs.MeaningValueKinds.{kind_up}
 use Rattle.abc_sound.specs.Given.{FileGiven}
 use Rattle.abc_sound.specs.Keeping.{ActSound, CameSound, Fares, IsError, Leaves, StopSound, TopSound}
 use Rattle.abc_sound.proofs.Faring.{done_fares, then_fares, weaker}
@@ -87,7 +87,7 @@ value_pushed p typings h v f e t = record { state = t.state; typed = t.typed; is
 pub pushed_stands : (p : Setting) (h : Heap) (v : Value) (f : Frame) → f.wait ≡ waits.Not → Stands p h (waiting waits.Push f) → Stands p h (pushed (v ∷ []) f)
 pushed_stands p h v f idle s =
     let room = s.stack in
-    record { routine = s.routine; body = s.body; home = s.home; saved = s.saved; locals = s.locals; stack = subst (λ x. suc (length f.stack) + Rattle.abc_meaning.specs.Sound.put_by x ≤ s.routine.max_stack + Rattle.abc_meaning.specs.Sound.taken_by x) (sym idle) (omega (arith, room)); scopes = s.scopes }
+    record { routine = s.routine; body = s.body; home = s.home; saved = s.saved; locals = s.locals; stack = subst (λ x. suc (length f.stack) + Rattle.abc_sound.specs.MeaningSound.put_by x ≤ s.routine.max_stack + Rattle.abc_sound.specs.MeaningSound.taken_by x) (sym idle) (omega (arith, room)); scopes = s.scopes }
 
 module _ (p : Setting) (file : FileGiven p) (typings : Typings) (typed : AreTypings p typings) where
   pub with_wait : (h : Heap) (f : Frame) (x : Wait) → Stands p h (waiting x f) → IsCatching p typings h f → WaitSound p typings h f x → WaitingSound p typings h (waiting x f)

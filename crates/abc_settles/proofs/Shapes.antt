@@ -40,9 +40,9 @@ use Rattle.abc_world.specs.Setting.{Setting}
 use Rattle.abc_world.specs.World.{Run, World}
 use Rattle.abc_stacks.specs.declared.records.Wait.TheVariants as waits
 use Rattle.abc_acts.specs.At.{At, drops_came, gives, gives_came, goes, jumps, next, nothing, pushed, waiting}
-use Rattle.abc_meaning.specs.Sound.{AreTypings, FrameSound, IsCatching, IsOfKind, IsOfState, IsTypedPushed, ScopeHolds, Stands, Typings}
-use Rattle.abc_meaning.specs.Tests.{at_frame}
-use Rattle.abc_meaning.proofs.ValueKinds.{kinds_up}
+use Rattle.abc_sound.specs.MeaningSound.{AreTypings, FrameSound, IsCatching, IsOfKind, IsOfState, IsTypedPushed, ScopeHolds, Stands, Typings}
+use Rattle.abc_sound.specs.MeaningTests.{at_frame}
+use Rattle.abc_sound.proofs.MeaningValueKinds.{kinds_up}
 use Rattle.abc_sound.specs.Given.{FileGiven}
 use Rattle.abc_sound.specs.Keeping.{ActSound, CameSound, Fares, Leaves, Ready}
 use Rattle.abc_sound.proofs.Faring.{done_fares, leaves_self, leaves_trans, then_fares}
@@ -140,7 +140,7 @@ module _ (p : Setting) (file : FileGiven p) (typings : Typings) (typed : AreTypi
           home = subst (λ i. i < length p.linked.file.scripts) (sym same.home) ready.home;
           saved = subst (IsScope n.heap) (sym same.saved) (saved_left n l);
           locals = sym (Each2-length (IsOfKind p.linked n.heap) (next_state h s).locals g.locals is.locals) ∙ z.locals;
-          stack = subst (λ x. length g.stack + Rattle.abc_meaning.specs.Sound.put_by x ≤ r.max_stack + Rattle.abc_meaning.specs.Sound.taken_by x) (sym idle) (omega (arith, deep, stack));
+          stack = subst (λ x. length g.stack + Rattle.abc_sound.specs.MeaningSound.put_by x ≤ r.max_stack + Rattle.abc_sound.specs.MeaningSound.taken_by x) (sym idle) (omega (arith, deep, stack));
           scopes = omega (arith, high, scopes);
         };
         idle = idle;
@@ -247,5 +247,5 @@ module _ (p : Setting) (file : FileGiven p) (typings : Typings) (typed : AreTypi
       let room = g.stands.stack in
       done_fares p n _ _ l.sound (dropping_sound p file typings typed n a.rest x ready.idle
       (record { routine = g.stands.routine; body = g.stands.body; home = g.stands.home; saved = g.stands.saved; locals = g.stands.locals; stack = room; scopes = g.stands.scopes })
-      (record { routine = g.stands.routine; body = g.stands.body; home = g.stands.home; saved = g.stands.saved; locals = g.stands.locals; stack = subst (λ x. length (drop (depth h) f.stack) + Rattle.abc_meaning.specs.Sound.put_by x ≤ g.stands.routine.max_stack + Rattle.abc_meaning.specs.Sound.taken_by x) ready.idle room; scopes = g.stands.scopes })
+      (record { routine = g.stands.routine; body = g.stands.body; home = g.stands.home; saved = g.stands.saved; locals = g.stands.locals; stack = subst (λ x. length (drop (depth h) f.stack) + Rattle.abc_sound.specs.MeaningSound.put_by x ≤ g.stands.routine.max_stack + Rattle.abc_sound.specs.MeaningSound.taken_by x) ready.idle room; scopes = g.stands.scopes })
       (catching_left n l) g.typed hx))

@@ -15,12 +15,12 @@ use Rattle.abc_world.specs.Setting.{Setting, routine_of}
 use Rattle.abc_world.specs.World.{World}
 use Rattle.abc_acts.specs.At.{Doing}
 use Rattle.abc_acts.specs.Table.{act_of, acts, find_act}
-use Rattle.abc_meaning.specs.Meaning.{runs_for, then_runs}
-use Rattle.abc_meaning.specs.Sound.{AreTypings, FrameSound, FramesFit, FramesSound, IsOfKind, IsSound, ScopeHolds, SteppedSound, Typings, WorldSound}
-use Rattle.abc_meaning.specs.Step.{does, does_instr, does_row, runs, step, step_of, tested}
-use Rattle.abc_meaning.specs.Tests.{at_frame}
-use Rattle.abc_meaning.specs.Throwing.{Ends, Machine, Stepped, Steps, Stuck, last_script}
-use Rattle.abc_meaning.proofs.Unwinding.{newest}
+use Rattle.abc_sound.specs.Meaning.{runs_for, then_runs}
+use Rattle.abc_sound.specs.MeaningSound.{AreTypings, FrameSound, FramesFit, FramesSound, IsOfKind, IsSound, ScopeHolds, SteppedSound, Typings, WorldSound}
+use Rattle.abc_sound.specs.MeaningStep.{does, does_instr, does_row, runs, step, step_of, tested}
+use Rattle.abc_sound.specs.MeaningTests.{at_frame}
+use Rattle.abc_sound.specs.MeaningThrowing.{Ends, Machine, Stepped, Steps, Stuck, last_script}
+use Rattle.abc_sound.proofs.MeaningUnwinding.{newest}
 use Rattle.abc_sound.specs.Given.{FileGiven, OpsGiven}
 use Rattle.abc_sound.specs.Keeping.{ActSound, DoingSound, EntrySound, Fares, GroupsHold, Ready}
 use Rattle.abc_sound.proofs.Entered.{starts_fares}
@@ -75,7 +75,7 @@ module _ (p : Setting) (file : FileGiven p) (ops : OpsGiven p) (typings : Typing
       let r = h.stands.routine in
       let state = h.typed.state in
       let st = stands p.linked r f.place state ((typed f.method r h.stands.body).fine f.place state h.typed.typed) in
-      let deep = subst (λ x. length f.stack + Rattle.abc_meaning.specs.Sound.put_by x ≤ r.max_stack + Rattle.abc_meaning.specs.Sound.taken_by x) h.idle h.stands.stack in
+      let deep = subst (λ x. length f.stack + Rattle.abc_sound.specs.MeaningSound.put_by x ≤ r.max_stack + Rattle.abc_sound.specs.MeaningSound.taken_by x) h.idle h.stands.stack in
       let stack = Each2-length (IsOfKind p.linked w.heap) state.stack f.stack h.typed.is.stack in
       let high = h.stands.scopes in
       let scopes = Each2-length (ScopeHolds p.linked w.heap) state.scopes f.scopes h.typed.is.scopes in

@@ -34,8 +34,8 @@ use Rattle.abc_world.specs.Setting.{NameForm as Form, NoPart, NoSpace, NoText, S
 use Rattle.abc_world.specs.World.{Run, World}
 use Rattle.abc_acts.specs.At.{At, one, take_one, take_two, two}
 use Rattle.abc_acts.specs.Names.{form_in, name_of, named, space_of}
-use Rattle.abc_meaning.specs.Sound.{AreTypings, IsOfKind, Typings, WorldSound}
-use Rattle.abc_meaning.specs.Tests.{at_frame, name_parts, parts_count, values_of}
+use Rattle.abc_sound.specs.MeaningSound.{AreTypings, IsOfKind, Typings, WorldSound}
+use Rattle.abc_sound.specs.MeaningTests.{at_frame, name_parts, parts_count, values_of}
 use Rattle.abc_sound.specs.Given.{FileGiven, OpsGiven}
 use Rattle.abc_sound.specs.Keeping.{Fares, Ready}
 use Rattle.abc_sound.proofs.Faring.{done_fares, stop_fares, then_fares}

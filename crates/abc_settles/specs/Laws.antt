@@ -1,9 +1,9 @@
 -- What is proved: where the acts of the instructions are sound, and so is `new`, a step from a sound state leaves one.
 use Rattle.std.specs.Prelude.{List}
 use Rattle.abc_cells.specs.declared.values.Value.{Value}
-use Rattle.abc_meaning.specs.Sound.{AreTypings, IsSound, SteppedSound, Typings, WorldSound}
-use Rattle.abc_meaning.specs.Step.{step}
-use Rattle.abc_meaning.specs.Throwing.{Machine}
+use Rattle.abc_sound.specs.MeaningSound.{AreTypings, IsSound, SteppedSound, Typings, WorldSound}
+use Rattle.abc_sound.specs.MeaningStep.{step}
+use Rattle.abc_sound.specs.MeaningThrowing.{Machine}
 use Rattle.abc_objects.specs.Values.{Exists}
 use Rattle.abc_sound.specs.Given.{FileGiven, OpsGiven}
 use Rattle.abc_sound.specs.Keeping.{CameSound, Fares, GroupsHold}

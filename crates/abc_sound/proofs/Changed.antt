@@ -11,15 +11,15 @@ use Rattle.abc_heap.specs.Heap.{Object, cells_used, object_at}
 use Rattle.abc_heap.specs.Properties.{cells_to_put, delete_at, filled, place_named, put_at, valued, with_delete, with_put}
 use Rattle.abc_heap.specs.Texts.{IsText, text_of}
 use Rattle.abc_heap.specs.What.{is_array}
-use Rattle.abc_objects.specs.Values.{Exists, IsObject}
-use Rattle.abc_objects.proofs.Reshaped.{delete_reshapes, element_reshapes, new_element_reshapes, object_there, put_reshapes, slot_reshapes}
+use Rattle.abc_meaning.specs.ObjectsValues.{Exists, IsObject}
+use Rattle.abc_meaning.proofs.ObjectsReshaped.{delete_reshapes, element_reshapes, new_element_reshapes, object_there, put_reshapes, slot_reshapes}
 use Rattle.abc_program.specs.Slots.{slots_of}
 use Rattle.abc_program.specs.Types.{kind_of_type}
 use Rattle.abc_program.specs.declared.types.SlotInfo.{SlotInfo}
-use Rattle.abc_world.specs.Members.{slot_info, write_element, write_slot}
-use Rattle.abc_world.specs.Objects.{own_place, set_property, without_property}
-use Rattle.abc_world.specs.Setting.{Setting}
-use Rattle.abc_world.specs.World.{Faults, World, changes, object}
+use Rattle.abc_meaning.specs.WorldMembers.{slot_info, write_element, write_slot}
+use Rattle.abc_meaning.specs.WorldObjects.{own_place, set_property, without_property}
+use Rattle.abc_meaning.specs.WorldSetting.{Setting}
+use Rattle.abc_meaning.specs.World.{Faults, World, changes, object}
 use Rattle.abc_meaning.specs.Sound.{IsOfKind, SlotHolds, WorldSound}
 use Rattle.abc_sound.specs.Given.{OpsGiven}
 use Rattle.abc_sound.specs.Keeping.{Fares, Leaves}

@@ -9,10 +9,10 @@ use Rattle.abc_base.specs.declared.names.HostClass.TheVariants as hosts
 use Rattle.abc_cells.specs.declared.values.Value.{Value}
 use Rattle.abc_cells.specs.declared.values.Value.TheVariants.{Undefined, Obj}
 use Rattle.abc_heap.specs.Heap.{Heap}
-use Rattle.abc_objects.specs.Stands.{IsScope}
-use Rattle.abc_objects.specs.Values.{Exists}
-use Rattle.abc_objects.proofs.Grown.{scope_grown}
-use Rattle.abc_objects.proofs.Opened.{global_made}
+use Rattle.abc_meaning.specs.ObjectsStands.{IsScope}
+use Rattle.abc_meaning.specs.ObjectsValues.{Exists}
+use Rattle.abc_meaning.proofs.ObjectsGrown.{scope_grown}
+use Rattle.abc_meaning.proofs.ObjectsOpened.{global_made}
 use Rattle.abc_program.specs.Linked.{LinkedFile, layout_of}
 use Rattle.abc_program.specs.Owners.{owner_of}
 use Rattle.abc_program.specs.Tree.{IsBelow}
@@ -32,11 +32,11 @@ use Rattle.abc_typing.specs.declared.rule.VerifyRule.TheVariants.{Parameters}
 use Rattle.abc_typing.proofs.Fine.{stands}
 use Rattle.abc_typing.proofs.Lists.{Each2-append, Each2-length, Each2-take}
 use Rattle.abc_typing.proofs.Member.{and_left}
-use Rattle.abc_world.specs.Entering.{arguments, array_of, coerced, coerces_to, enters, enters_owned, extra, framed, gives_option, global, or_double, starts}
+use Rattle.abc_meaning.specs.WorldEntering.{arguments, array_of, coerced, coerces_to, enters, enters_owned, extra, framed, gives_option, global, or_double, starts}
 use Rattle.abc_stacks.specs.Frame.{Frame}
-use Rattle.abc_world.specs.Objects.{Place, place}
-use Rattle.abc_world.specs.Setting.{Setting, may_take, method_of, options_of, routine_of, value_of_option}
-use Rattle.abc_world.specs.World.{Errs, Faults, World, and_then, done, throws}
+use Rattle.abc_meaning.specs.WorldObjects.{Place, place}
+use Rattle.abc_meaning.specs.WorldSetting.{Setting, may_take, method_of, options_of, routine_of, value_of_option}
+use Rattle.abc_meaning.specs.World.{Errs, Faults, World, and_then, done, throws}
 use Rattle.abc_meaning.specs.Sound.{AreTypings, FrameSound, IsOfKind, Typings, WorldSound}
 use Rattle.abc_sound.specs.Given.{FileGiven, HasBody, IsMethod, IsType, OptionExists, OpsGiven, OwnedSound}
 use Rattle.abc_sound.specs.Keeping.{Fares, Leaves}
@@ -96,7 +96,7 @@ module _ (p : Setting) (file : FileGiven p) (ops : OpsGiven p) where
 
   pub coerces_to_fares : (w : World) (t : ℕ) (v : Value) → IsType p.linked t → WorldSound p w → Exists p.linked w.heap v → Fares p w (coerces_to p t v w) (λ n x. IsOfKind p.linked n.heap (param_kind t) x)
   coerces_to_fares w t v i s e =
-      some_then p w (type_of p.linked t) i.ty _ _ i.is (subst (λ k. Fares p w (Rattle.abc_world.specs.Ops.coerces p i.ty v w) (λ n x. IsOfKind p.linked n.heap k x)) (sym (kind_is t i)) (ops.coerce w i.ty v s e))
+      some_then p w (type_of p.linked t) i.ty _ _ i.is (subst (λ k. Fares p w (Rattle.abc_meaning.specs.WorldOps.coerces p i.ty v w) (λ n x. IsOfKind p.linked n.heap k x)) (sym (kind_is t i)) (ops.coerce w i.ty v s e))
 
   option_fares : (w : World) (o : Option OptionValue) → WorldSound p w → OptionExists p o → IsOption o → Fares p w (gives_option p o w) (λ n v. Exists p.linked n.heap v)
   option_fares w None s h i = absurd i

@@ -6,8 +6,8 @@ use Rattle.std.proofs.lemmas.Bool.{leb-true}
 use Rattle.abc_heap.specs.Heap.{cells_used}
 use Rattle.abc_heap.specs.declared.records.Limit.{Limit}
 use Rattle.abc_heap.specs.declared.records.Limit.TheVariants.{Cells, Objects}
-use Rattle.abc_world.specs.Setting.{Setting}
-use Rattle.abc_world.specs.World.{Fills, Outcome, Run, Stop, Stopped, Went, World, and_then, done, must, room, room_for_cells, room_for_objects, some, stop}
+use Rattle.abc_meaning.specs.WorldSetting.{Setting}
+use Rattle.abc_meaning.specs.World.{Fills, Outcome, Run, Stop, Stopped, Went, World, and_then, done, must, room, room_for_cells, room_for_objects, some, stop}
 use Rattle.abc_meaning.specs.Sound.{WorldSound}
 use Rattle.abc_sound.specs.Keeping.{Fares, Leaves, StopSound}
 use Rattle.abc_sound.proofs.Growing.{evolves_on, evolves_self}

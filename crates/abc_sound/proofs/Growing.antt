@@ -9,8 +9,8 @@ use Rattle.abc_heap.specs.Heap.{Heap, Object}
 use Rattle.abc_heap.specs.declared.records.ScopeEntry.{ScopeEntry}
 use Rattle.abc_heap.specs.declared.records.What.{What}
 use Rattle.abc_heap.specs.declared.records.What.TheVariants as whats
-use Rattle.abc_objects.specs.Values.{Exists}
-use Rattle.abc_objects.proofs.Grown.{exists_grown, grows_on, grows_self, holds_grown, scope_grown}
+use Rattle.abc_meaning.specs.ObjectsValues.{Exists}
+use Rattle.abc_meaning.proofs.ObjectsGrown.{exists_grown, grows_on, grows_self, holds_grown, scope_grown}
 use Rattle.abc_program.specs.Linked.{LinkedFile, layout_of}
 use Rattle.abc_program.specs.Numbering.{part_at}
 use Rattle.abc_program.specs.declared.part.Part.{Part}
@@ -24,10 +24,10 @@ use Rattle.abc_typing.specs.declared.state.Scope.{Scope}
 use Rattle.abc_typing.specs.declared.state.State.{State}
 use Rattle.abc_typing.proofs.Lists.{Each-map, Each2-map}
 use Rattle.abc_stacks.specs.Frame.{Frame}
-use Rattle.abc_world.specs.Setting.{Setting}
+use Rattle.abc_meaning.specs.WorldSetting.{Setting}
 use Rattle.abc_stacks.specs.declared.records.Wait.{Wait}
 use Rattle.abc_stacks.specs.declared.records.Wait.TheVariants as waits
-use Rattle.abc_acts.specs.At.{next, pushed}
+use Rattle.abc_meaning.specs.ActsAt.{next, pushed}
 use Rattle.abc_meaning.specs.Sound.{AreMade, FrameSound, IsBound, IsCatching, IsFirstOf, IsMade, IsOfKind, IsOfState, IsTyped, IsTypedPushed, ObjectSound, PartSound, ScopeHolds, SlotHolds, Stands, Typings, WaitSound, WaitingSound, WhatSound}
 use Rattle.abc_meaning.proofs.ValueKinds.{kind_up, kinds_up}
 use Rattle.abc_sound.specs.Keeping.{Evolves}

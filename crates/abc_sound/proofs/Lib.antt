@@ -5,3 +5,5 @@ pub mod Made
 pub mod Changed
 pub mod Entered
 pub mod Frames
+pub use Rattle.abc_meaning.proofs.Unwinding as MeaningUnwinding
+pub use Rattle.abc_meaning.proofs.ValueKinds as MeaningValueKinds

@@ -15,12 +15,12 @@ use Rattle.abc_heap.specs.declared.records.ScopeId.{ScopeId}
 use Rattle.abc_heap.specs.declared.records.What.{What}
 use Rattle.abc_heap.specs.declared.records.What.TheVariants as whats
 use Rattle.abc_heap.proofs.Makes.{nodes_length}
-use Rattle.abc_objects.specs.Stands.{AreEntries, IsMadeAlone, IsObjectOrNone, IsScope, NamesParts, StandsOver, array_layout, host_layout}
-use Rattle.abc_objects.specs.Starts.{start_values}
-use Rattle.abc_objects.specs.Values.{Exists, IsObject}
-use Rattle.abc_objects.proofs.Grown.{bound_grown}
-use Rattle.abc_objects.proofs.Kept.{Reshapes, added_grows, changed_grows, made_grows, over_changed, over_made, over_scopes, scopes_grow, top_is}
-use Rattle.abc_objects.proofs.Made.{host_found, made_alone, no_slots, over_array, over_made_object, prototype_is}
+use Rattle.abc_meaning.specs.ObjectsStands.{AreEntries, IsMadeAlone, IsObjectOrNone, IsScope, NamesParts, StandsOver, array_layout, host_layout}
+use Rattle.abc_meaning.specs.ObjectsStarts.{start_values}
+use Rattle.abc_meaning.specs.ObjectsValues.{Exists, IsObject}
+use Rattle.abc_meaning.proofs.ObjectsGrown.{bound_grown}
+use Rattle.abc_meaning.proofs.ObjectsKept.{Reshapes, added_grows, changed_grows, made_grows, over_changed, over_made, over_scopes, scopes_grow, top_is}
+use Rattle.abc_meaning.proofs.ObjectsMade.{host_found, made_alone, no_slots, over_array, over_made_object, prototype_is}
 use Rattle.abc_program.specs.Linked.{layout_of}
 use Rattle.abc_program.specs.Numbering.{part_at}
 use Rattle.abc_program.specs.Tree.{IsBelow}
@@ -29,9 +29,9 @@ use Rattle.abc_program.specs.declared.types.Kind.TheVariants as kinds
 use Rattle.abc_program.proofs.Tree.{below_self}
 use Rattle.abc_typing.specs.Lists.{Each, Each2}
 use Rattle.abc_typing.proofs.Lists.{slice_get-pushed}
-use Rattle.abc_world.specs.Objects.{new_array, new_function, new_object, new_of_host, prototype_for, top_scope}
-use Rattle.abc_world.specs.Setting.{Setting}
-use Rattle.abc_world.specs.World.{World}
+use Rattle.abc_meaning.specs.WorldObjects.{new_array, new_function, new_object, new_of_host, prototype_for, top_scope}
+use Rattle.abc_meaning.specs.WorldSetting.{Setting}
+use Rattle.abc_meaning.specs.World.{World}
 use Rattle.abc_meaning.specs.Sound.{IsFirstOf, IsOfKind, IsWithin, ObjectSound, PartSound, SlotHolds, WhatSound, WorldSound}
 use Rattle.abc_sound.specs.Given.{FileGiven}
 use Rattle.abc_sound.specs.Keeping.{Evolves, Fares, Leaves}
@@ -154,7 +154,7 @@ module _ (p : Setting) where
     pub not_array : (c : HostClass) → (parts.Host c ≡ parts.Host hosts.Array → ⊥) → host_layout p.linked c ≢ array_layout p.linked
     not_array c ne q = ne (sym (part_of_host c) ∙ ap (part_at p.linked.parts) q ∙ part_of_host hosts.Array)
 
-    pub prototype_there : (h : Heap) (o : ℕ) → StandsOver p.linked h → IsObjectOrNone h (Rattle.abc_objects.specs.Stands.prototype_of h o)
+    pub prototype_there : (h : Heap) (o : ℕ) → StandsOver p.linked h → IsObjectOrNone h (Rattle.abc_meaning.specs.ObjectsStands.prototype_of h o)
     prototype_there h o s = prototype_is p.linked h o s
 
     pub host_fresh : (h : Heap) (c : HostClass) (d : Option ObjId) (what : What) → StandsOver p.linked h → (parts.Host c ≡ parts.Host hosts.Array → ⊥) → IsObjectOrNone h d → IsMadeAlone what → NamesParts p.linked h what → WhatSound p h (host_layout p.linked c) what → IsFresh h (host_layout p.linked c) d what

@@ -14,9 +14,9 @@ use Rattle.abc_heap.specs.declared.records.ScopeId.{ScopeId}
 use Rattle.abc_graph.specs.Graph.{Leads}
 use Rattle.abc_names.specs.declared.named.Named.{Named}
 use Rattle.abc_names.specs.declared.named.Named.TheVariants as named
-use Rattle.abc_objects.specs.Stands.{IsScope, StandsOver, array_layout}
-use Rattle.abc_objects.specs.Starts.{start_values}
-use Rattle.abc_objects.specs.Values.{Exists, IsObject}
+use Rattle.abc_meaning.specs.ObjectsStands.{IsScope, StandsOver, array_layout}
+use Rattle.abc_meaning.specs.ObjectsStarts.{start_values}
+use Rattle.abc_meaning.specs.ObjectsValues.{Exists, IsObject}
 use Rattle.abc_program.specs.Linked.{IsLinkedFile, LinkedFile}
 use Rattle.abc_program.specs.Numbering.{part_at}
 use Rattle.abc_program.specs.Owners.{owner_of}
@@ -38,14 +38,14 @@ use Rattle.abc_shapes.specs.declared.row.Leads.{Leads as Leading}
 use Rattle.abc_shapes.specs.declared.row.Leads.TheVariants.{Branches, Jumps, Switches}
 use Rattle.abc_tables.specs.declared.code.Instr.{Instr}
 use Rattle.abc_names.specs.Instances.{instance_at}
-use Rattle.abc_search.specs.Searches.{declared_found, found_in_scopes, found_on}
-use Rattle.abc_search.specs.declared.found.Found.{Found}
-use Rattle.abc_search.specs.declared.found.Found.TheVariants as founds
-use Rattle.abc_search.specs.declared.found.ScopeFound.{ScopeFound}
-use Rattle.abc_search.specs.declared.found.ScopeFound.TheVariants as results
-use Rattle.abc_search.specs.declared.found.Want.{Want}
-use Rattle.abc_search.specs.declared.found.Want.TheVariants as wants
-use Rattle.abc_search.specs.declared.name.Name.{Name}
+use Rattle.abc_meaning.specs.Searches.{declared_found, found_in_scopes, found_on}
+use Rattle.abc_meaning.specs.SearchFoundType.{Found}
+use Rattle.abc_meaning.specs.SearchFoundType.TheVariants as founds
+use Rattle.abc_meaning.specs.SearchScopeFoundType.{ScopeFound}
+use Rattle.abc_meaning.specs.SearchScopeFoundType.TheVariants as results
+use Rattle.abc_meaning.specs.SearchWantType.{Want}
+use Rattle.abc_meaning.specs.SearchWantType.TheVariants as wants
+use Rattle.abc_meaning.specs.SearchNameType.{Name}
 use Rattle.abc_tables.specs.declared.methods.Method.{Method}
 use Rattle.abc_tables.specs.declared.methods.OptionValue.{OptionValue}
 use Rattle.abc_typing.specs.Effects.{sum_kind}
@@ -53,12 +53,12 @@ use Rattle.abc_typing.specs.Lists.{Each, Each2}
 use Rattle.abc_typing.specs.Routines.{Routine, arrays, or_any, this_kind, type_at}
 use Rattle.abc_typing.specs.declared.catch.Catch.{Catch}
 use Rattle.abc_typing.specs.declared.home.Home.TheVariants.{MakesInstances}
-use Rattle.abc_world.specs.Objects.{Place, place_of_owner}
-use Rattle.abc_ops.specs.Left.{text_made}
-use Rattle.abc_world.specs.Ops.{coerces, compares, computes_one, computes_two, converts, operates, spells}
-use Rattle.abc_world.specs.Setting.{Setting, method_of, options_of, routine_of, value_of_option}
-use Rattle.abc_world.specs.World.{Went, World}
-use Rattle.abc_acts.specs.Simple.{whole}
+use Rattle.abc_meaning.specs.WorldObjects.{Place, place_of_owner}
+use Rattle.abc_meaning.specs.OpsLeft.{text_made}
+use Rattle.abc_meaning.specs.WorldOps.{coerces, compares, computes_one, computes_two, converts, operates, spells}
+use Rattle.abc_meaning.specs.WorldSetting.{Setting, method_of, options_of, routine_of, value_of_option}
+use Rattle.abc_meaning.specs.World.{Went, World}
+use Rattle.abc_meaning.specs.ActsSimple.{whole}
 use Rattle.abc_meaning.specs.Sound.{IsFirstOf, IsOfKind, PartSound, SlotHolds, WorldSound}
 use Rattle.abc_sound.specs.Keeping.{Fares}
 

@@ -4,9 +4,9 @@ use Rattle.abc_base.specs.declared.names.HostClass.{HostClass}
 use Rattle.abc_base.specs.declared.names.HostClass.TheVariants as hosts
 use Rattle.abc_cells.specs.declared.values.ObjId.{ObjId}
 use Rattle.abc_heap.specs.Heap.{Heap}
-use Rattle.abc_objects.specs.Growing.{Grows}
-use Rattle.abc_objects.specs.Stands.{IsScope}
-use Rattle.abc_objects.specs.Values.{Exists}
+use Rattle.abc_meaning.specs.ObjectsGrowing.{Grows}
+use Rattle.abc_meaning.specs.ObjectsStands.{IsScope}
+use Rattle.abc_meaning.specs.ObjectsValues.{Exists}
 use Rattle.abc_shapes.specs.Instructions.{opcode}
 use Rattle.abc_shapes.specs.Rows.{Shape, row_at}
 use Rattle.abc_tables.specs.declared.code.Instr.{Instr}
@@ -16,13 +16,13 @@ use Rattle.abc_typing.specs.Rules.{keeps}
 use Rattle.abc_typing.specs.Standing.{IsSized, here}
 use Rattle.abc_typing.specs.declared.rule.VerifyRule.{VerifyRule}
 use Rattle.abc_typing.specs.declared.state.State.{State}
-use Rattle.abc_world.specs.Calling.{Came, Calls, Got, Makes}
+use Rattle.abc_meaning.specs.WorldCalling.{Came, Calls, Got, Makes}
 use Rattle.abc_stacks.specs.Frame.{Frame}
-use Rattle.abc_world.specs.Setting.{Setting, routine_of}
-use Rattle.abc_world.specs.World.{Errs, Outcome, Sticks, Stop, Stopped, Throws, Went, World}
+use Rattle.abc_meaning.specs.WorldSetting.{Setting, routine_of}
+use Rattle.abc_meaning.specs.World.{Errs, Outcome, Sticks, Stop, Stopped, Throws, Went, World}
 use Rattle.abc_stacks.specs.declared.records.Wait.TheVariants as waits
-use Rattle.abc_acts.specs.At.{Above, Act, Doing, Goes, Returns, Stays, Top}
-use Rattle.abc_acts.specs.Table.{acts}
+use Rattle.abc_meaning.specs.ActsAt.{Above, Act, Doing, Goes, Returns, Stays, Top}
+use Rattle.abc_meaning.specs.ActsTable.{acts}
 use Rattle.abc_meaning.specs.Sound.{FrameSound, IsOfState, Typings, WaitingSound, WorldSound}
 use Rattle.abc_meaning.specs.Tests.{at_frame}
 

@@ -4,7 +4,7 @@ use Rattle.abc_heap.specs.Heap.{Heap}
 use Rattle.abc_meaning.specs.Sound.{FramesSound, Typings}
 use Rattle.abc_sound.specs.Keeping.{Evolves}
 use Rattle.abc_stacks.specs.Frame.{Frame}
-use Rattle.abc_world.specs.Setting.{Setting}
+use Rattle.abc_meaning.specs.WorldSetting.{Setting}
 
 abbrev pub FramesStaySound : Type 0
 FramesStaySound = (p : Setting) (typings : Typings) (old new : Heap) (fs : List Frame) → Evolves old new → FramesSound p typings old fs → FramesSound p typings new fs

@@ -17,7 +17,7 @@ use Rattle.abc_ops.specs.declared.end.OpEnd.{OpEnd}
 use Rattle.abc_program.specs.Linked.{LinkedFile}
 use Rattle.abc_program.specs.declared.types.Ty.{Ty}
 use Rattle.abc_program.specs.declared.types.Ty.TheVariants as types
-use Rattle.abc_world.specs.Ops.{coerced}
+use Rattle.abc_acts.specs.WorldOps.{coerced}
 
 made_limits : (b : Bool) (h : Heap) (bytes : List ℕ) → (text_made_if b h bytes).heap.limits ≡ h.limits
 made_limits true h bytes = refl

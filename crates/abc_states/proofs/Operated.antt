@@ -15,9 +15,9 @@ use Rattle.abc_program.specs.declared.types.Ty.{Ty}
 use Rattle.abc_states.specs.Outer.{at_heap}
 use Rattle.abc_states.specs.Stops.{answer, stop_of_end, why}
 use Rattle.abc_states.specs.declared.state.Stop.{Stop}
-use Rattle.abc_world.specs.Ops.{coerced, operates, outcome, stop_of}
-use Rattle.abc_world.specs.World.{Outcome, Stopped, Went, World}
-use Rattle.abc_world.proofs.Coercing.{computes_coercion}
+use Rattle.abc_acts.specs.WorldOps.{coerced, operates, outcome, stop_of}
+use Rattle.abc_acts.specs.World.{Outcome, Stopped, Went, World}
+use Rattle.abc_acts.proofs.WorldCoercing.{computes_coercion}
 
 pub why_of_end : (e : OpEnd) → stop_of e ≡ why (stop_of_end e)
 why_of_end (ends.Profile fault) = refl

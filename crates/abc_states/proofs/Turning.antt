@@ -5,8 +5,8 @@ use Rattle.abc_acts.specs.At.{Act}
 use Rattle.abc_stacks.specs.Frame.{Frame, Frames, newest}
 use Rattle.abc_states.specs.Stops.{IsOpen}
 use Rattle.abc_states.specs.Turns.{GoesOn, Halts, bared, on_top, turned}
-use Rattle.abc_world.specs.Setting.{Setting}
-use Rattle.abc_world.specs.World.{Outcome, Run, Stop, Stopped, Went, World, and_then, ◌>>=◌}
+use Rattle.abc_acts.specs.WorldSetting.{Setting}
+use Rattle.abc_acts.specs.World.{Outcome, Run, Stop, Stopped, Went, World, and_then, ◌>>=◌}
 
 -- ---- parts that aren't stuck
 

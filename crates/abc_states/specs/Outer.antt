@@ -4,8 +4,8 @@ use Rattle.abc_base.specs.declared.formula.Formula.{Formula}
 use Rattle.abc_heap.specs.Heap.{Heap}
 use Rattle.abc_program.specs.Linked.{LinkedFile}
 use Rattle.abc_states.specs.declared.state.State.{State}
-use Rattle.abc_world.specs.Setting.{Setting}
-use Rattle.abc_world.specs.World.{World}
+use Rattle.abc_acts.specs.WorldSetting.{Setting}
+use Rattle.abc_acts.specs.World.{World}
 
 pub record Outer : Type 0 where
   pub formulas : List Formula

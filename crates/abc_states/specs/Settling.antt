@@ -7,8 +7,8 @@ use Rattle.abc_stacks.specs.declared.records.Wait.{Wait}
 use Rattle.abc_stacks.specs.declared.records.Wait.TheVariants as waits
 use Rattle.abc_states.specs.declared.state.How.{How}
 use Rattle.abc_states.specs.declared.state.How.TheVariants.{Push, Drop}
-use Rattle.abc_world.specs.Calling.{Came}
-use Rattle.abc_world.specs.World.{Run, done, ◌>>=◌}
+use Rattle.abc_acts.specs.WorldCalling.{Came}
+use Rattle.abc_acts.specs.World.{Run, done, ◌>>=◌}
 use Rattle.abc_acts.specs.At.{Act, Goes, Top, dropping, goes, pushed, pushing}
 
 abbrev pub taken_by : How → ℕ

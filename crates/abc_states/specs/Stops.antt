@@ -4,7 +4,7 @@ use Rattle.abc_ops.specs.declared.end.OpEnd.{OpEnd}
 use Rattle.abc_ops.specs.declared.end.OpEnd.TheVariants as ends
 use Rattle.abc_states.specs.declared.state.Stop.{Stop}
 use Rattle.abc_states.specs.declared.state.Stop.TheVariants as stops
-use Rattle.abc_world.specs.World.{Errs, Faults, Fills, Outcome, Sticks, Stopped, Throws, Went, World, Stop as Why}
+use Rattle.abc_acts.specs.World.{Errs, Faults, Fills, Outcome, Sticks, Stopped, Throws, Went, World, Stop as Why}
 use Rattle.std.specs.Prelude.{Ok, Err}
 use Rattle.std.specs.declared.result.Result.{Result}
 

@@ -11,9 +11,9 @@ use Rattle.abc_stacks.specs.Frame.{Frame, Frames, arguments, newest, no_size, ro
 use Rattle.abc_stacks.specs.declared.records.Size.{Size}
 use Rattle.abc_stacks.specs.declared.records.Wait.TheVariants as waits
 use Rattle.abc_typing.specs.Routines.{Routine}
-use Rattle.abc_world.specs.Calling.{calls_what, trace}
-use Rattle.abc_world.specs.Setting.{Setting, routine_of}
-use Rattle.abc_world.specs.World.{Fills, Outcome, Run, Stopped, Went, World, and_then, Stop as Why}
+use Rattle.abc_acts.specs.WorldCalling.{calls_what, trace}
+use Rattle.abc_acts.specs.WorldSetting.{Setting, routine_of}
+use Rattle.abc_acts.specs.World.{Fills, Outcome, Run, Stopped, Went, World, and_then, Stop as Why}
 use Rattle.abc_acts.specs.At.{Above, Act, Goes, Returns, Stays, Top}
 use Rattle.abc_states.specs.declared.state.How.{How}
 use Rattle.abc_states.specs.declared.state.Left.{Left}

@@ -4,7 +4,7 @@ ghost use Rattle.abc_objects.specs.Stands.{StandsOver};
 ghost use Rattle.abc_objects.specs.Values.{Exists};
 ghost use Rattle.abc_objects.specs.Growing.{Grows};
 ghost use Rattle.abc_ops.specs.Left.{Leaves};
-ghost use Rattle.abc_world.specs.Ops.{coerced, coerces, compares, computes_one, computes_two, converts, spells};
+ghost use Rattle.abc_acts.specs.WorldOps.{coerced, coerces, compares, computes_one, computes_two, converts, spells};
 ghost use Rattle.abc_states.specs.Outer.{Outer, setting, world};
 ghost use Rattle.abc_states.specs.Standing.{Stays};
 ghost use Rattle.abc_states.specs.Stops.{answer, stop_of_end};

@@ -10,9 +10,9 @@ use Rattle.abc_heap.specs.declared.records.ScopeId.{ScopeId}
 use Rattle.abc_heap.specs.declared.records.What.{What}
 use Rattle.abc_heap.specs.declared.records.What.TheVariants as whats
 use Rattle.abc_names.specs.Instances.{instance_at}
-use Rattle.abc_objects.specs.Fixed.{fixed_span}
-use Rattle.abc_objects.specs.Stands.{host_layout}
-use Rattle.abc_objects.specs.declared.fixed.FixedText.TheVariants.{Message}
+use Rattle.abc_search.specs.ObjectsFixed.{fixed_span}
+use Rattle.abc_search.specs.ObjectsStands.{host_layout}
+use Rattle.abc_search.specs.ObjectsFixedTextType.TheVariants.{Message}
 use Rattle.abc_program.specs.Linked.{layout_of}
 use Rattle.abc_program.specs.declared.part.Part.TheVariants as parts
 use Rattle.abc_items.specs.Bases.{is_interface}

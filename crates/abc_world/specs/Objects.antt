@@ -15,8 +15,8 @@ use Rattle.abc_heap.specs.declared.records.ScopeEntry.{ScopeEntry}
 use Rattle.abc_heap.specs.declared.records.ScopeId.{ScopeId}
 use Rattle.abc_heap.specs.declared.records.What.{What}
 use Rattle.abc_heap.specs.declared.records.What.TheVariants as whats
-use Rattle.abc_objects.specs.Stands.{class_parts, host_layout}
-use Rattle.abc_objects.specs.Starts.{start_values}
+use Rattle.abc_search.specs.ObjectsStands.{class_parts, host_layout}
+use Rattle.abc_search.specs.ObjectsStarts.{start_values}
 use Rattle.abc_program.specs.declared.types.Owner.{Owner}
 use Rattle.abc_program.specs.declared.types.Owner.TheVariants as owners
 use Rattle.abc_search.specs.Objects.{host_prototype}

@@ -8,7 +8,7 @@ use Rattle.abc_cells.specs.declared.values.Value.{Value}
 use Rattle.abc_cells.specs.declared.values.Value.TheVariants as values
 use Rattle.abc_names.specs.Instances.{instance_at}
 use Rattle.abc_names.specs.declared.named.Named.TheVariants as named
-use Rattle.abc_objects.specs.Starts.{string_span}
+use Rattle.abc_search.specs.ObjectsStarts.{string_span}
 use Rattle.abc_program.specs.Linked.{LinkedFile}
 use Rattle.abc_program.specs.Numbering.{part_at}
 use Rattle.abc_program.specs.Owners.{body_of}

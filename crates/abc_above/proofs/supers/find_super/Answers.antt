@@ -2,7 +2,7 @@ use Rattle.std.proofs.Common.{◌≡◌, ◌∙◌, ℕ, ◌<◌, ap, length, su
 use Rattle.abc_heap.specs.Heap.{object_at}
 use Rattle.abc_search.specs.Searches.{declared_found}
 use Rattle.abc_search.specs.declared.found.Found.{Found}
-use Rattle.abc_acts.specs.Supers.{strict}
+use Rattle.abc_states.specs.ActsSupers.{strict}
 use Rattle.abc_makers.proofs.Things.{layout_there}
 use Rattle.abc_above.specs.Found.{IsDeclared, found_above}
 use Rattle.abc_above.proofs.Above.{above_layout, above_there}

@@ -1,11 +1,11 @@
 use Rattle.std.proofs.Common.{◌≤◌, ◌∙◌, length, ap, subst, arith}
-use Rattle.abc_acts.specs.At.{Act}
+use Rattle.abc_states.specs.ActsAt.{Act}
 use Rattle.abc_entering.specs.Entering.{placed}
 use Rattle.abc_stacks.specs.Frame.{newest}
 use Rattle.abc_states.specs.Outer.{setting, world}
 use Rattle.abc_states.specs.Stops.{IsOpen}
 use Rattle.abc_states.specs.Turns.{turned}
-use Rattle.abc_world.specs.World.{Outcome}
+use Rattle.abc_states.specs.World.{Outcome}
 use Rattle.abc_callarms.proofs.Settled.{enters_settled_is}
 use Rattle.abc_callarms.proofs.calling.call_function.Goals as goal
 

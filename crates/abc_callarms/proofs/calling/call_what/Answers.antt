@@ -1,13 +1,13 @@
 use Rattle.std.proofs.Common.{◌∙◌, ap, subst}
 use Rattle.std.proofs.lemmas.Result.{err_from_is_err_and}
-use Rattle.abc_acts.specs.At.{Act}
+use Rattle.abc_states.specs.ActsAt.{Act}
 use Rattle.abc_heap.specs.declared.records.What.{What}
 use Rattle.abc_objects.specs.Stands.{NamesParts}
 use Rattle.abc_stacks.specs.Frame.{newest}
 use Rattle.abc_states.specs.Outer.{setting, world}
 use Rattle.abc_states.specs.Stops.{IsOpen}
 use Rattle.abc_states.specs.Turns.{turned}
-use Rattle.abc_world.specs.World.{Outcome}
+use Rattle.abc_states.specs.World.{Outcome}
 use Rattle.abc_callarms.proofs.Called.{function_called, host_called}
 use Rattle.abc_callarms.proofs.calling.call_what.Goals as goal
 

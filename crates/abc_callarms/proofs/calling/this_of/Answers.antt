@@ -1,6 +1,6 @@
 use Rattle.std.proofs.Common.{◌∙◌, None, ap, sym}
 use Rattle.abc_states.specs.Outer.{world}
-use Rattle.abc_world.specs.Calling.{this_of as this_so}
+use Rattle.abc_states.specs.WorldCalling.{this_of as this_so}
 use Rattle.abc_callarms.proofs.calling.this_of.Goals as goal
 
 pub returns-in-Undefined : goal.returns-in-Undefined

@@ -2,9 +2,9 @@ use Rattle.std.proofs.Common.{◌≤◌, length, arith}
 use Rattle.abc_base.specs.declared.names.HostClass.TheVariants.{ArgumentError}
 use Rattle.abc_stacks.specs.Frame.{arguments, newest}
 use Rattle.abc_states.specs.Outer.{setting, world}
-use Rattle.abc_world.specs.Calling.{got, only}
-use Rattle.abc_world.specs.Ops.{converts}
-use Rattle.abc_world.specs.World.{Errs, ◌>>=◌}
+use Rattle.abc_states.specs.WorldCalling.{got, only}
+use Rattle.abc_states.specs.WorldOps.{converts}
+use Rattle.abc_states.specs.World.{Errs, ◌>>=◌}
 use Rattle.abc_callarms.proofs.Alone.{only_refused}
 use Rattle.abc_callarms.proofs.Settled.{none_came}
 use Rattle.abc_callarms.proofs.hosts.convert_only.Goals as goal

@@ -1,12 +1,12 @@
 use Rattle.std.proofs.Common.{◌∙◌, ap, subst}
-use Rattle.abc_acts.specs.At.{Act}
+use Rattle.abc_states.specs.ActsAt.{Act}
 use Rattle.abc_objects.specs.Values.{Exists}
 use Rattle.abc_stacks.specs.Frame.{arguments, newest}
 use Rattle.abc_states.specs.Outer.{setting, world}
 use Rattle.abc_states.specs.Settling.{settles}
 use Rattle.abc_states.specs.Stops.{IsOpen}
 use Rattle.abc_states.specs.Turns.{turned}
-use Rattle.abc_world.specs.World.{Outcome, and_then}
+use Rattle.abc_states.specs.World.{Outcome, and_then}
 use Rattle.abc_callarms.proofs.Called.{made_of_is, what_names}
 use Rattle.abc_callarms.proofs.making.make.Goals as goal
 

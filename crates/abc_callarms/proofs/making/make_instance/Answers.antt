@@ -1,7 +1,7 @@
 use Rattle.std.proofs.Common.{◌≡◌, ◌≢◌, ◌<◌, ◌≤◌, ◌∙◌, List, length, set, drop, get_or, ap, subst, sym, arith}
 use Rattle.std.proofs.lemmas.List.{length-set}
 use Rattle.std.proofs.lemmas.Result.{err_from_is_err_and}
-use Rattle.abc_acts.specs.At.{Act}
+use Rattle.abc_states.specs.ActsAt.{Act}
 use Rattle.abc_cells.specs.Filling.{Filling}
 use Rattle.abc_cells.specs.declared.values.Value.{Value}
 use Rattle.abc_cells.specs.declared.values.Value.TheVariants.{Obj}
@@ -19,7 +19,7 @@ use Rattle.abc_states.specs.Stops.{IsOpen, why}
 use Rattle.abc_states.specs.Turns.{Halts, bared, turned}
 use Rattle.abc_states.specs.declared.state.State.{State}
 use Rattle.abc_tables.specs.declared.tables.Abc.{Abc}
-use Rattle.abc_world.specs.World.{Outcome}
+use Rattle.abc_states.specs.World.{Outcome}
 use Rattle.abc_callarms.proofs.Instances.{instance_full, instance_puts, maker_is, object_by}
 use Rattle.abc_callarms.proofs.making.make_instance.Goals as goal
 

@@ -4,7 +4,7 @@ use Rattle.abc_cells.specs.declared.values.Value.{Value}
 use Rattle.abc_stacks.specs.Frame.{newest}
 use Rattle.abc_states.specs.Outer.{setting, world}
 use Rattle.abc_states.specs.Stops.{why}
-use Rattle.abc_world.specs.Ops.{spells}
+use Rattle.abc_states.specs.WorldOps.{spells}
 use Rattle.abc_callarms.proofs.Told.{message_made, message_stops}
 use Rattle.abc_callarms.proofs.messages.message_of.Goals as goal
 

@@ -6,7 +6,7 @@ use Rattle.abc_meaning.specs.Throwing.{stops}
 use Rattle.abc_states.specs.Outer.{setting, world}
 use Rattle.abc_states.specs.Stops.{why}
 use Rattle.abc_states.specs.declared.state.Stop.{Stop}
-use Rattle.abc_world.specs.Objects.{new_of_host}
+use Rattle.abc_states.specs.WorldObjects.{new_of_host}
 use Rattle.abc_ends.proofs.stopping.stopped.Goals as goal
 
 pub limit_of-requires : goal.limit_of-requires

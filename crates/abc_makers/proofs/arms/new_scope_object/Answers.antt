@@ -2,11 +2,11 @@ use Rattle.std.proofs.Common.{◌∙◌, ap, sym}
 use Rattle.std.proofs.lemmas.Result.{err_from_is_err_and}
 use Rattle.abc_cells.specs.declared.values.Value.TheVariants.{Obj}
 use Rattle.abc_stacks.specs.Frame.{newest}
-use Rattle.abc_acts.specs.Newing.{object_value}
+use Rattle.abc_states.specs.ActsNewing.{object_value}
 use Rattle.abc_states.specs.Outer.{setting, world}
 use Rattle.abc_states.specs.Settling.{pushes}
 use Rattle.abc_states.specs.Turns.{turned}
-use Rattle.abc_world.specs.Objects.{new_object}
+use Rattle.abc_states.specs.WorldObjects.{new_object}
 use Rattle.abc_makers.proofs.Pushing.{object_stopped, object_went, pushes_on, pushes_stopped}
 use Rattle.abc_makers.proofs.arms.new_scope_object.Goals as goal
 

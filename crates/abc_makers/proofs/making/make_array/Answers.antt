@@ -1,7 +1,7 @@
 use Rattle.std.proofs.Common.{◌∙◌, refl, ap, sym}
 use Rattle.abc_heap.specs.Heap.{Heap}
 use Rattle.abc_states.specs.Outer.{setting, world}
-use Rattle.abc_world.specs.Objects.{new_array}
+use Rattle.abc_states.specs.WorldObjects.{new_array}
 use Rattle.abc_makers.proofs.Made.{array_full, array_grows, array_made, array_there, same_grows}
 use Rattle.abc_makers.proofs.making.make_array.Goals as goal
 

@@ -3,7 +3,7 @@ use Rattle.abc_objects.specs.Stands.{array_layout, host_layout}
 use Rattle.abc_program.specs.declared.part.LayoutId.{LayoutId}
 use Rattle.abc_program.specs.declared.part.Part.TheVariants as parts
 use Rattle.abc_states.specs.Outer.{setting, world}
-use Rattle.abc_world.specs.Objects.{new_object}
+use Rattle.abc_states.specs.WorldObjects.{new_object}
 use Rattle.abc_makers.proofs.Made.{no_array, other_class, part_is}
 use Rattle.abc_makers.proofs.making.make_of_host.Goals as goal
 

@@ -2,7 +2,7 @@ use Rattle.std.proofs.Common.{◌≡◌, ◌∙◌, ◌*◌, length, ap, arith, 
 use Rattle.std.proofs.lemmas.Result.{err_from_is_err_and}
 use Rattle.abc_cells.specs.declared.values.Value.TheVariants.{Obj}
 use Rattle.abc_stacks.specs.Frame.{Frames, arguments, newest}
-use Rattle.abc_acts.specs.Newing.{set_all}
+use Rattle.abc_states.specs.ActsNewing.{set_all}
 use Rattle.abc_states.specs.Outer.{setting, world}
 use Rattle.abc_states.specs.Stops.{why}
 use Rattle.abc_makers.specs.Makers.{makes_object}

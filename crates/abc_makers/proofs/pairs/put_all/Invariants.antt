@@ -1,5 +1,5 @@
 use Rattle.std.proofs.Common.{◌≡◌, ◌≤◌}
-use Rattle.abc_acts.specs.Newing.{set_all}
+use Rattle.abc_states.specs.ActsNewing.{set_all}
 use Rattle.abc_stacks.specs.Frame.{newest}
 use Rattle.abc_states.specs.Outer.{Outer, setting, world}
 use Rattle.abc_states.specs.Standing.{Stays}

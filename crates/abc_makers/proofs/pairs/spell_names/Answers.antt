@@ -6,7 +6,7 @@ use Rattle.abc_cells.specs.declared.values.Value.TheVariants.{Text}
 use Rattle.abc_stacks.specs.Frame.{Frames, newest}
 use Rattle.abc_states.specs.Outer.{setting, world}
 use Rattle.abc_states.specs.Stops.{why}
-use Rattle.abc_world.specs.Ops.{spells}
+use Rattle.abc_states.specs.WorldOps.{spells}
 use Rattle.abc_makers.specs.Pairs.{spelled}
 use Rattle.abc_makers.proofs.Keeping.{operands_on, operands_same, same_operands, set_operand_set, set_stays}
 use Rattle.abc_makers.proofs.Paired.{spelled_step, spelled_stops}

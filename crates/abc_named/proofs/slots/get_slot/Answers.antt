@@ -10,7 +10,7 @@ use Rattle.abc_makers.proofs.Pushing.{pushes_on, pushes_stopped}
 use Rattle.abc_states.specs.Operands.{operand_at}
 use Rattle.abc_states.specs.Outer.{setting, world}
 use Rattle.abc_states.specs.Stops.{IsOpen, why}
-use Rattle.abc_world.specs.World.{Run, some}
+use Rattle.abc_states.specs.World.{Run, some}
 use Rattle.abc_named.specs.Numbered.{on_numbered}
 use Rattle.abc_named.proofs.Receiving.{pushes_open}
 use Rattle.abc_named.proofs.Slotted.{has_number, held_within, numbered_at, numbered_stopped, open_receiver}

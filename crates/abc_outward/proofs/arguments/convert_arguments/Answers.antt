@@ -5,7 +5,7 @@ use Rattle.abc_cells.specs.declared.values.Value.{Value}
 use Rattle.abc_stacks.specs.Frame.{Frames, newest}
 use Rattle.abc_states.specs.Outer.{setting, world}
 use Rattle.abc_states.specs.Stops.{why}
-use Rattle.abc_world.specs.Ops.{converts}
+use Rattle.abc_states.specs.WorldOps.{converts}
 use Rattle.abc_makers.proofs.Keeping.{operands_on, operands_same, same_operands, set_operand_set, set_stays}
 use Rattle.abc_outward.specs.Turned.{turned_at}
 use Rattle.abc_outward.proofs.Turning.{turned_step, turned_stops}

@@ -4,7 +4,7 @@ use Rattle.abc_outward.specs.Turned.{turned_at}
 use Rattle.abc_stacks.specs.Frame.{newest}
 use Rattle.abc_states.specs.Outer.{setting, world}
 use Rattle.abc_states.specs.Standing.{IsSet}
-use Rattle.abc_world.specs.Ops.{converts}
+use Rattle.abc_states.specs.WorldOps.{converts}
 use Rattle.abc_outward.proofs.arguments.convert_arguments.Given as goal
 
 abbrev pub invariant-loop-left : goal.invariant-loop-left

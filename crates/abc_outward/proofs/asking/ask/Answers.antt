@@ -16,9 +16,9 @@ use Rattle.abc_states.specs.Outer.{setting, world}
 use Rattle.abc_states.specs.Settling.{given_by, settled, taken_by}
 use Rattle.abc_states.specs.Stops.{why}
 use Rattle.abc_states.specs.Turns.{GoesOn, Halts, bared, on_top}
-use Rattle.abc_world.specs.Calling.{number_in}
-use Rattle.abc_world.specs.Ops.{as_number}
-use Rattle.abc_world.specs.World.{Faults}
+use Rattle.abc_states.specs.WorldCalling.{number_in}
+use Rattle.abc_states.specs.WorldOps.{as_number}
+use Rattle.abc_states.specs.World.{Faults}
 use Rattle.abc_outward.proofs.asking.ask.Goals as goal
 
 pub arguments-values-requires : goal.arguments-values-requires

@@ -6,7 +6,7 @@ use Rattle.abc_states.specs.Settling.{given_by, taken_by}
 use Rattle.abc_states.specs.Stops.{why}
 use Rattle.abc_states.specs.Turns.{Halts, bared}
 use Rattle.abc_trace.specs.Lines as lines
-use Rattle.abc_world.specs.Ops.{as_text}
+use Rattle.abc_states.specs.WorldOps.{as_text}
 use Rattle.abc_outward.proofs.tracing.trace.Goals as goal
 
 pub returns-in-Err-clause-traces : goal.returns-in-Err-clause-traces

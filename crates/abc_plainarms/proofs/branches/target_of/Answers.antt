@@ -2,10 +2,10 @@ use Rattle.std.proofs.Common.{◌≡◌, ◌∷◌, ℤ, rules, arith, subst, sy
 use Rattle.std.proofs.lemmas.Int.{ints, to_z-of_z}
 use Rattle.std.specs.Int.{w64}
 use Rattle.std.specs.Prelude.{FitsSigned}
-use Rattle.abc_acts.specs.Simple.{switched}
+use Rattle.abc_states.specs.ActsSimple.{switched}
 use Rattle.abc_cells.specs.declared.values.Value.{Value}
 use Rattle.abc_cells.specs.declared.values.Value.TheVariants.{Num}
-use Rattle.abc_world.specs.World.{Went, World}
+use Rattle.abc_states.specs.World.{Went, World}
 use Rattle.abc_plainarms.proofs.branches.target_of.Goals as goal
 
 pub returns-in-Num : goal.returns-in-Num

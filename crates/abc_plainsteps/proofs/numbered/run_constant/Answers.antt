@@ -1,5 +1,5 @@
 use Rattle.std.proofs.Common.{[], ◌∷◌, refl, subst, sym}
-use Rattle.abc_acts.specs.At.{goes, pushed}
+use Rattle.abc_states.specs.ActsAt.{goes, pushed}
 use Rattle.abc_cells.specs.declared.values.Span.{Span}
 use Rattle.abc_cells.specs.declared.values.Value.{Value}
 use Rattle.abc_cells.specs.declared.values.Value.TheVariants.{Text}

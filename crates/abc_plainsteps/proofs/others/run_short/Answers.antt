@@ -1,7 +1,7 @@
 use mir.Syntax.{w16}
 use Rattle.std.proofs.Common.{[], ◌∷◌, ◌∙◌, ap, subst, sym}
 use Rattle.std.proofs.lemmas.Int.{to_z-of_z}
-use Rattle.abc_acts.specs.At.{goes, pushed}
+use Rattle.abc_states.specs.ActsAt.{goes, pushed}
 use Rattle.abc_cells.specs.declared.values.Value.{Value}
 use Rattle.abc_cells.specs.declared.values.Value.TheVariants.{Num}
 use Rattle.abc_stacks.specs.Frame.{newest}

@@ -1,5 +1,5 @@
 use Rattle.std.proofs.Common.{◌≡◌, arith, subst, sym}
-use Rattle.abc_acts.specs.Simple.{returns}
+use Rattle.abc_states.specs.ActsSimple.{returns}
 use Rattle.abc_cells.specs.declared.values.Value.{Value}
 use Rattle.abc_plainsteps.proofs.Doing.{Does, can_at, open_as, runs_at}
 use Rattle.abc_plainsteps.proofs.MovingOps.{op_47, op_48}

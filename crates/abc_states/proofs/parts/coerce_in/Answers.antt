@@ -1,4 +1,4 @@
-use Rattle.abc_world.proofs.Coercing.{computes_coercion}
+use Rattle.abc_acts.proofs.WorldCoercing.{computes_coercion}
 use Rattle.abc_states.proofs.parts.coerce_in.Goals as goal
 
 pub returns-clause-left : goal.returns-clause-left
