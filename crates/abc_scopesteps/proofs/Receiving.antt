@@ -31,7 +31,7 @@ use Rattle.abc_states.specs.WorldCalling.{Came}
 use Rattle.abc_states.specs.WorldMembers.{call_found, read_found, write_found}
 use Rattle.abc_states.specs.WorldSetting.{Setting}
 use Rattle.abc_states.specs.World.{Outcome, Run, World, and_then, done, object, see, some, the, ◌>>=◌}
-use Rattle.abc_superarms.specs.Supers.{calls_super, constructs_super, gets_super, reads_super, runs_base, sets_super, super_found, writes_super}
+use Rattle.abc_superarms.specs.Supers.{calls_super, constructs_super, gets_super, runs_base, sets_super, super_found}
 use Rattle.abc_taking.proofs.Taken.{taking_at}
 use Rattle.abc_typing.specs.Effects.{Here}
 use Rattle.abc_typing.specs.Rules.{super_layout}
