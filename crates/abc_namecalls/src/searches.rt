@@ -92,7 +92,7 @@ const CAUGHT: ObjId = ObjId(42);
 
 const ACTIVATION: ObjId = ObjId(43);
 
-/// A function that keeps the scopes DERIVED and, above it, BASE, above the global object of script 0.
+/// A function that keeps the scopes DERIVED, with the flag, and above it BASE, above the global object of script 0.
 const FUNCTION: ObjId = ObjId(44);
 
 fn make_objects(l: &Linked, a: &mut Arena) -> Result<(), Full>
@@ -140,7 +140,7 @@ fn make_function(l: &Linked, a: &mut Arena) -> Result<(), Full>
     requires { StandsOver l.now a.old }
     ensures { StandsOver l.now a.new }
 {
-    let (lower, upper) = (entry(Plain(DERIVED)), entry(Plain(BASE)));
+    let (lower, upper) = (entry(With(DERIVED)), entry(Plain(BASE)));
     let under = a.global_scope(0);
     if !is_script(l, 0) || !is_method(l, 0) {
         return Err(Full(Limit::Stack));
@@ -493,7 +493,7 @@ fn declared(
 }
 
 /// Names among the traits of a class and its bases, for an instance of a class, which is told first.
-const DECLARED: [(u32, u32, Spaces, &str, Want, Wanted); 8] = [
+const DECLARED: [(u32, u32, Spaces, &str, Want, Wanted); 10] = [
     (1, 1, Spaces::Public, "x", Want::Read, Wanted::Slot(6)),
     (1, 0, Spaces::Public, "x", Want::Read, Wanted::Slot(0)),
     (1, 0, Spaces::One(3), "p", Want::Read, Wanted::Method(0)),
@@ -501,6 +501,9 @@ const DECLARED: [(u32, u32, Spaces, &str, Want, Wanted); 8] = [
     (1, 0, Spaces::One(3), "y", Want::Read, Wanted::Missing),
     (1, 1, Spaces::Public, "t", Want::Write, Wanted::Setter(5)),
     (1, 0, Spaces::Public, "t", Want::Write, Wanted::Slot(2)),
+    (0, 0, Spaces::Public, "g", Want::Write, Wanted::WrongSide),
+    (1, 0, Spaces::Public, "s", Want::Read, Wanted::WrongSide),
+    // and nothing else, though the object has it
     (1, 1, Spaces::Public, "d", Want::Read, Wanted::Missing),
 ];
 
@@ -568,7 +571,7 @@ fn scripts(alloc: Global, started: bool) -> Result<Table<bool>, NoMemory> {
 }
 
 /// Names in two scopes, the second above the first, where all scripts are started, and the objects on which they are found.
-const IN_SCOPES: [(Scope, Scope, Spaces, &str, Option<ObjId>); 17] = [
+const IN_SCOPES: [(Scope, Scope, Spaces, &str, Option<ObjId>); 21] = [
     // from the top down
     (
         Plain(BASE),
@@ -597,8 +600,22 @@ const IN_SCOPES: [(Scope, Scope, Spaces, &str, Option<ObjId>); 17] = [
     (Plain(OTHER), With(ARRAY), Spaces::Public, "0", Some(ARRAY)),
     (Plain(OTHER), With(HEIR), Spaces::Public, "0", None),
     (Plain(OTHER), With(HEIR), Spaces::Public, "z", None),
+    (
+        Plain(OTHER),
+        With(GLOBAL),
+        Spaces::Public,
+        "d",
+        Some(GLOBAL),
+    ),
     (Plain(OTHER), With(GLOBAL), Spaces::Public, "z", None),
-    // a global object without the flag: delegates too
+    // a global object without the flag: declared traits, properties and those of delegates
+    (
+        Plain(OTHER),
+        Plain(GLOBAL),
+        Spaces::Public,
+        "m",
+        Some(GLOBAL),
+    ),
     (
         Plain(OTHER),
         Plain(GLOBAL),
@@ -618,6 +635,8 @@ const IN_SCOPES: [(Scope, Scope, Spaces, &str, Option<ObjId>); 17] = [
     (Plain(OTHER), Plain(ARRAY), Spaces::Public, "0", None),
     // properties by names that hold the Spaces::Public namespace or any
     (Plain(OTHER), With(DERIVED), Spaces::One(5), "d", None),
+    (Plain(OTHER), With(ARRAY), Spaces::One(5), "0", None),
+    (Plain(OTHER), Plain(GLOBAL), Spaces::One(5), "z", None),
     (Plain(OTHER), With(DERIVED), Spaces::Any, "d", Some(DERIVED)),
     // nothing is skipped
     (
@@ -654,7 +673,7 @@ fn wrong_in_scopes(l: &Linked, a: &Arena, started: &Table<bool>) -> Option<usize
 }
 
 /// Names in one scope, and below it in those that a function keeps, on scripts that are started or not, and on the host object.
-const BELOW_SCOPES: [(ObjId, ObjId, bool, Spaces, &str, ScopeFound); 15] = [
+const BELOW_SCOPES: [(ObjId, ObjId, bool, Spaces, &str, ScopeFound); 16] = [
     // saved scopes from the top down
     (
         FUNCTION,
@@ -666,6 +685,7 @@ const BELOW_SCOPES: [(ObjId, ObjId, bool, Spaces, &str, ScopeFound); 15] = [
     ),
     (FUNCTION, OTHER, true, Spaces::Public, "x", Object(BASE)),
     (FUNCTION, OTHER, true, Spaces::One(3), "y", Object(DERIVED)),
+    (FUNCTION, OTHER, true, Spaces::Public, "d", Object(DERIVED)),
     (FUNCTION, OTHER, false, Spaces::Public, "m", Object(FIRST)),
     // then the scripts in order, for declared traits
     (HOST, OTHER, true, Spaces::Public, "m", Object(FIRST)),
