@@ -725,6 +725,40 @@ fn wrong_below_scopes(
     None
 }
 
+/// The own traits of a part that have a text, as their places in its table.
+fn own_places<'a>(l: &'a Linked, part: Part, text: &str) -> &'a [u32] {
+    let layout = l.layout_of(part);
+    if layout.0 >= l.layouts() {
+        return &[];
+    }
+    match l.own_traits(layout, text.as_bytes()) {
+        Some(places) => places.as_slice(),
+        None => &[],
+    }
+}
+
+/// Texts among the own traits of parts, and their places there.
+const OWN: [(Part, &str, &[u32]); 6] = [
+    (Part::Global(0), "m", &[0]),
+    (Part::Global(0), "trace", &[]),
+    (Part::Global(1), "k", &[1]),
+    // in file order
+    (Part::Instance(0), "f", &[9, 10]),
+    // whatever a base has
+    (Part::Instance(1), "x", &[0]),
+    (Part::Instance(1), "p", &[]),
+];
+
+/// The first of these that is wrong.
+fn wrong_own(l: &Linked) -> Option<usize> {
+    for (row, (part, text, places)) in OWN.iter().enumerate() {
+        if own_places(l, *part, text) != *places {
+            return Some(row);
+        }
+    }
+    None
+}
+
 /// The name of a table that is wrong, and a row of it.
 fn wrong_names(
     l: &Linked,
@@ -734,6 +768,9 @@ fn wrong_names(
 ) -> Option<(&'static str, usize)>
     requires { StandsOver l.now a.now }
 {
+    if let Some(row) = wrong_own(l) {
+        return Some(("own traits", row));
+    }
     if let Some(row) = wrong_on_object(l, a) {
         return Some(("objects", row));
     }
