@@ -1,0 +1,7 @@
+//! The instruction of the newest frame, by its opcode: it does what the table of acts says.
+#![tactic(auto)]
+
+mod dispatch;
+mod groups;
+
+pub use dispatch::run_newest;
