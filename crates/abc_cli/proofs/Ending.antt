@@ -71,7 +71,7 @@ read_failed : (P : Answer → Type 0) (F : Type 0) (out err : Channel) (s : Stat
 read_failed P F out err s f o (inl g) = at_status P F out err s status.ReadFault g.1 (IsEnd.read_fault f o g.0)
 read_failed P F out err s f o (inr g) = at_status P F out err s status.WriteFault g.2 (IsEnd.read_line_failed f g.0 o g.1)
 
-memory_failed : (P : Answer → Type 0) (F : Type 0) (out err : Channel) (s : Status) → Got out [] → GivesLine err (told status.NoMemory no_memory_text) s → IsEnd P F out err s
+pub memory_failed : (P : Answer → Type 0) (F : Type 0) (out err : Channel) (s : Status) → Got out [] → GivesLine err (told status.NoMemory no_memory_text) s → IsEnd P F out err s
 memory_failed P F out err s o (inl g) = at_status P F out err s status.NoMemory g.1 (IsEnd.no_memory o g.0)
 memory_failed P F out err s o (inr g) = at_status P F out err s status.WriteFault g.2 (IsEnd.memory_line_failed g.0 o g.1)
 

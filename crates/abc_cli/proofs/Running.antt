@@ -15,7 +15,7 @@ use Rattle.abc_file.specs.Reading.{IsUsedUp, OfInput}
 use Rattle.abc_heap.specs.declared.records.Limit.{Limit}
 use Rattle.abc_heap.specs.declared.records.Limits.{Limits}
 use Rattle.abc_items.specs.Parts.{body_at, no_body}
-use Rattle.abc_machine.specs.Begun.{IsRefused}
+use Rattle.abc_machine.specs.OpeningsBegun.{IsRefused}
 use Rattle.abc_machine.specs.Ended.{HasRun, IsEndOf, RunsAs}
 use Rattle.abc_machine.specs.Machines.{IsOpened, Opened}
 use Rattle.abc_machine.specs.declared.ends.End.{End}
@@ -31,7 +31,7 @@ use Rattle.abc_program.specs.Owners.{body_of}
 use Rattle.abc_program.specs.Slots.{HasFewSlots}
 use Rattle.abc_tables.specs.declared.tables.Abc.{Abc}
 use Rattle.abc_words.specs.declared.command.RunOptions.{RunOptions}
-use Rattle.abc_world.specs.Setting.{Setting}
+use Rattle.abc_meaning.specs.WorldSetting.{Setting}
 use Rattle.abc_cli.specs.declared.stop.Stop.{Stop}
 use Rattle.abc_cli.specs.Answers.{Answer, IsVerifiedOf, OfFileRead, Unverified, given, told}
 use Rattle.abc_cli.specs.End.{Channel, channel, Ends, Got, GivesLine, HasFailed, IsEnd, IsRead, RunsTo, UsesUp}

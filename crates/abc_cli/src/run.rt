@@ -4,7 +4,7 @@ ghost use Rattle.abc_cli.specs.Answers.{IsVerifiedOf, OfFileRead};
 ghost use Rattle.abc_cli.specs.End.{HasFailed, RunsTo, UsesUp, stream};
 ghost use Rattle.abc_cli.specs.Outcome.{On};
 ghost use Rattle.abc_cli.specs.Runs.{IsMeant, Run, limits_of as limits_in};
-ghost use Rattle.abc_machine.specs.Begun.{setting};
+ghost use Rattle.abc_machine.specs.OpeningsBegun.{setting};
 ghost use Rattle.abc_meaning.specs.Laws.{AreCounted, IsVerified};
 ghost use Rattle.abc_meaning.specs.Meaning.{meaning};
 ghost use Rattle.abc_objects.specs.Opening.{formula_names};
@@ -13,11 +13,10 @@ use crate::endings::{give_end, give_unopened};
 use crate::ends::give_stop;
 use crate::verified::read_verified;
 use abc_base::{Host, Sink, Source, Status};
-use abc_faults::faults_are_placed;
+use abc_faults::ends_can_be_told;
 use abc_file::Places;
 use abc_heap::Limits;
 use abc_machine::Machine;
-use abc_unstuck::verified_files_never_stick;
 use abc_verify::Verified;
 use abc_words::RunOptions;
 use std::alloc::Global;
@@ -54,8 +53,7 @@ fn run_machine<K: Sink, E: Sink, H: Host>(
     ensures later { K.faults out.old ≤ K.faults out.new }
     ensures quiet { result ≡ Status.Done → err.new ≡ err.old }
 {
-    faults_are_placed();
-    verified_files_never_stick();
+    ends_can_be_told();
     let end = machine.run(fuel, out, host);
     give_end(err, machine.linked(), places, &end)
 }

@@ -25,8 +25,7 @@ use Rattle.abc_meaning.specs.Throwing.{Ends, Machine, Profile, Stepped, Steps, f
 use Rattle.abc_unstuck.proofs.GivenFiled.{body_is}
 use Rattle.abc_unstuck.proofs.GivenVerified.{file_given}
 use Rattle.abc_unstuck.proofs.SoundLists.{inside}
-use Rattle.abc_unstuck.proofs.Never.{stays_sound, the_first_is_sound}
-use Rattle.abc_fair.proofs.Typed.{has_typings}
+use Rattle.abc_unstuck.proofs.Never.{are_typings, stays_sound, the_first_is_sound, typings}
 use Rattle.abc_faults.specs.Placed.{FaultsArePlaced, IsInstruction}
 use Rattle.abc_faults.proofs.Stopping.{TellsAt, puts_tells, settles_tells, stops_tells}
 

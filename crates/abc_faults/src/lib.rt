@@ -3,4 +3,4 @@
 
 mod laws;
 
-pub use laws::faults_are_placed;
+pub use laws::ends_can_be_told;

@@ -1,3 +1,3 @@
 pub mod Ended
 pub mod Machines
-pub mod Begun
+pub use Rattle.abc_openings.specs.Begun as OpeningsBegun

@@ -6,7 +6,7 @@ use Rattle.abc_heap.specs.declared.records.Limits.{Limits}
 use Rattle.abc_machine.specs.declared.ends.End.{End}
 use Rattle.abc_meaning.specs.Meaning.{first_world, too_small}
 use Rattle.abc_objects.specs.Opening.{formula_names}
-use Rattle.abc_machine.specs.Begun.{setting}
+use Rattle.abc_openings.specs.Begun.{setting}
 use Rattle.abc_program.specs.Linked.{LinkedFile}
 
 -- what it runs, the names of its host's formulas, in order, its limits, and how its run ended, if one was

@@ -4,7 +4,7 @@ ghost use Rattle.abc_machine.specs.Machines.{IsOpened};
 ghost use Rattle.abc_machine.specs.declared.ends.End.{End};
 ghost use Rattle.abc_meaning.specs.Meaning.{meaning};
 ghost use Rattle.abc_objects.specs.Opening.{formula_names};
-ghost use Rattle.abc_machine.specs.Begun.{IsRefused, setting};
+ghost use Rattle.abc_openings.specs.Begun.{IsRefused, setting};
 
 use crate::ends::End;
 use abc_base::{Bytes, Host, Sink, Table};
