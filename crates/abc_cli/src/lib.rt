@@ -1,4 +1,4 @@
-//! The top call: what the program does with the words of a command line and an input.
+//! The top call: what the program does with the words of a command line and an input; and the generator of `gen`.
 #![tactic(auto)]
 
 mod asm;
@@ -15,4 +15,5 @@ mod tidy;
 mod top;
 mod verified;
 
+pub use abc_gen::make_abc;
 pub use top::abc_main;
