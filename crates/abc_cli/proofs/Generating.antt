@@ -43,9 +43,9 @@ memory_quiet err s line d = told_quiet err status.NoMemory no_memory_text s (λ 
 -- ---- one piece after the other
 
 some_known : (old mid : Option (List ℕ)) (xs : List ℕ) → mid ≡ append_known old xs → IsSome old → IsSome mid
-some_known None mid xs e s = absurd s
+some_known None mid xs e s = absurd cc
 some_known (Some ys) None xs e s = absurd cc
-some_known (Some ys) (Some zs) xs e s = tt
+some_known (Some ys) (Some zs) xs e s = refl
 
 got_both : (old mid new : Option (List ℕ)) (xs ys : List ℕ) → (IsSome old → mid ≡ append_known old xs) → (IsSome mid → new ≡ append_known mid ys) → IsSome old → new ≡ append_known old (xs ++ ys)
 got_both old mid new xs ys f g s =
