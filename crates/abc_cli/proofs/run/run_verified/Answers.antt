@@ -4,6 +4,7 @@ use Rattle.abc_heap.specs.declared.records.Limits.{Limits}
 use Rattle.abc_machine.specs.Machines.{Opened}
 use Rattle.abc_meaning.specs.Laws.{AreCounted}
 use Rattle.abc_program.specs.Linked.{LinkedFile}
+use Rattle.abc_program.specs.Slots.{HasFewSlots}
 use Rattle.abc_cli.specs.End.{stream}
 use Rattle.abc_cli.proofs.Ending.{nothing}
 use Rattle.abc_cli.proofs.Running.{machine_verified, opened_runs, unopened_quiet, unopened_runs}
@@ -16,7 +17,7 @@ run_machine-requires g c =
     record {
       begun = ap (λ (m : Opened). m.ended) is;
       names = sym (ap (λ (m : Opened). m.names) is);
-      verified = machine_verified c.args.verified fs c.limits_of-limits.result c.in-Ok.machine c.in-Ok.ensures c.requires.verified c.slots_law.ensures (g.H.Host.formed c.args.host.now);
+      verified = machine_verified c.args.verified fs c.limits_of-limits.result c.in-Ok.machine c.in-Ok.ensures c.requires.verified (subst (λ (x : LinkedFile). HasFewSlots x) c.linked.ensures c.slots_law.ensures) (g.H.Host.formed c.args.host.now);
       counted = subst AreCounted (sym (ap (λ (m : Opened). m.limits) is)) c.limits_of-limits.ensures.counted;
       places = subst (λ (l : LinkedFile). ArePlaces l.file.bodies c.args.places.now) (sym (ap (λ (m : Opened). m.linked) is)) c.requires.places;
     }
