@@ -1,4 +1,4 @@
-ghost use Rattle.std.specs.Prelude.{◌++◌, ◌∷◌, []};
+ghost use Rattle.std.specs.Prelude.{◌≡◌, ◌++◌, ◌∷◌, []};
 ghost use Rattle.abc_escape.specs.Escapes.{escaped};
 ghost use Rattle.abc_base.specs.Faults.{HasCause};
 ghost use Rattle.abc_base.specs.Sinks.{WritesAll};
