@@ -116,6 +116,6 @@ faults_placed p limits fuel wrote m i fault v counted e = go (too_small (first_w
     go : (o : Option Limit) → too_small (first_world p limits).heap ≡ o → meaning_if o (runs_for p fuel (first_state p limits)) ≡ Ran wrote (Profile m i fault) → IsInstruction p.linked.file m i
     go (Some limit) q f = absurd cc
     go None q f =
-        let ty = has_typings p v in
+        let all = are_typings p v in
         let end : (runs_for p fuel (first_state p limits)).end ≡ Profile m i fault = cc in
-        run_placed p ty.0 v ty.1 m i fault fuel (first_state p limits) (the_first_is_sound p ty.0 limits v ty.1 counted q) end
+        run_placed p (typings p v) v all m i fault fuel (first_state p limits) (the_first_is_sound p (typings p v) limits v all counted q) end
