@@ -74,7 +74,7 @@ module _ (o : GenOptions) (fs : List Formula) where
   lines = measured (generated o.seed o.methods)
 
   -- a run that isn't done
-  pub undone : (out err : Channel) (s : Status) → RunsTo Ran ⊥ out err s → s ≢ status.Done → IsEnd (Gen o fs) ⊥ out err s
+  undone : (out err : Channel) (s : Status) → RunsTo Ran ⊥ out err s → s ≢ status.Done → IsEnd (Gen o fs) ⊥ out err s
   undone out err s (RunsTo.done a x d got e is) not = absurd (not is)
   undone out err s (RunsTo.other end) not = weaker (λ a. Ran a × (a.status ≢ status.Done)) (Gen o fs) ⊥ ⊥ out err s (λ a x. Gen.not_done x.0 x.1) (λ h. h) end
   undone out err s (RunsTo.cut a x rose front line) not = go (done_or a.status)
@@ -107,7 +107,7 @@ module _ (o : GenOptions) (fs : List Formula) where
   is_done out err s (RunsTo.cut a x rose front (inr line)) f = let k : s ≡ status.WriteFault = line.2 in absurd cc
 
   -- and then the lines are given
-  pub then_lines : (old mid new : Option (List ℕ)) (n m k : ℕ) (before err : Channel) (r s : Status) → RunsTo Ran ⊥ (channel old mid n m) before r → r ≡ status.Done → n ≤ m → GivesBytes (channel mid new m k) err lines s
+  then_lines : (old mid new : Option (List ℕ)) (n m k : ℕ) (before err : Channel) (r s : Status) → RunsTo Ran ⊥ (channel old mid n m) before r → r ≡ status.Done → n ≤ m → GivesBytes (channel mid new m k) err lines s
       → IsEnd (Gen o fs) ⊥ (channel old new n k) err s
   then_lines old mid new n m k before err r s x d le (inl g) =
       let b = is_done (channel old mid n m) before r x d in
@@ -116,3 +116,15 @@ module _ (o : GenOptions) (fs : List Formula) where
   then_lines old mid new n m k before err r s x d le (inr g) =
       let b = is_done (channel old mid n m) before r x d in
       bytes_failed (Gen o fs) ⊥ (channel old new n k) err (given (b.answer.out ++ lines)) s (Gen.done b.answer b.ran b.is refl) (rose_later n m k le g.0) (front_both old mid new b.answer.out lines b.got g.1) g.2
+
+-- ---- the bytes and the lines that were made
+
+pub made_undone : (o : GenOptions) (fs : List Formula) (bytes : List ℕ) (out err : Channel) (s : Status) → bytes ≡ file_bytes (generated o.seed o.methods) → RunsTo (OfFileRead (Run default_options fs) bytes) ⊥ out err s → s ≢ status.Done
+    → IsEnd (Gen o fs) ⊥ out err s
+made_undone o fs bytes out err s e x not = undone o fs out err s (subst (λ (b : List ℕ). RunsTo (OfFileRead (Run default_options fs) b) ⊥ out err s) e x) not
+
+pub made_done : (o : GenOptions) (fs : List Formula) (bytes made : List ℕ) (old mid new : Option (List ℕ)) (n m k : ℕ) (before err : Channel) (r s : Status) → bytes ≡ file_bytes (generated o.seed o.methods) → made ≡ measured (generated o.seed o.methods)
+    → RunsTo (OfFileRead (Run default_options fs) bytes) ⊥ (channel old mid n m) before r → r ≡ status.Done → n ≤ m → GivesBytes (channel mid new m k) err made s → IsEnd (Gen o fs) ⊥ (channel old new n k) err s
+made_done o fs bytes made old mid new n m k before err r s e f x d le given_lines =
+    then_lines o fs old mid new n m k before err r s (subst (λ (b : List ℕ). RunsTo (OfFileRead (Run default_options fs) b) ⊥ (channel old mid n m) before r) e x) d le
+    (subst (λ (l : List ℕ). GivesBytes (channel mid new m k) err l s) f given_lines)
