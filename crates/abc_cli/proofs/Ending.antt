@@ -1,5 +1,5 @@
 -- How the ways to end follow from what was written.
-use Rattle.std.proofs.Common.{◌≡◌, ℕ, All, inl, inr, List, [], Some, None, Ok, Err, refl, sym, ap, ◌∙◌, subst}
+use Rattle.std.proofs.Common.{◌≡◌, ◌≢◌, ℕ, All, inl, inr, List, [], Some, None, Ok, Err, refl, sym, ap, ◌∙◌, subst}
 use Rattle.std.specs.Prelude.{is_ok, if◌then◌else◌, IfErr, IfOk, IsSome}
 use Rattle.std.proofs.lemmas.List.{append-nil}
 use Rattle.std.specs.declared.option.Option.{Option}
@@ -28,7 +28,7 @@ use Rattle.abc_cli.specs.Lines.{read_fault_text, refusal_text, write_fault_text,
 use Rattle.abc_cli.specs.Answers.{Answer, told, given, OfFile, OfFileRead}
 use Rattle.abc_cli.specs.Outcome.{Canon, On, Tidy}
 use Rattle.abc_cli.specs.Stops.{Gives, IsGiven, Stops, StopsAt, stop_answer, stop_of_read, stop_of_tidy}
-use Rattle.abc_cli.specs.End.{Channel, channel, Got, GotFront, HasFailed, GivesBytes, GivesLine, Ends, IsEnd, UsesUp}
+use Rattle.abc_cli.specs.End.{Channel, channel, Got, GotFront, HasFailed, GivesBytes, GivesLine, Ends, IsEnd, IsRead, UsesUp}
 
 -- a line that was written or not
 pub gives : {T E : Type 0} (before after : Option (List ℕ)) (n m : ℕ) (a : Answer) (written : Result T E) (s : Status)
@@ -71,7 +71,7 @@ read_failed : (P : Answer → Type 0) (F : Type 0) (out err : Channel) (s : Stat
 read_failed P F out err s f o (inl g) = at_status P F out err s status.ReadFault g.1 (IsEnd.read_fault f o g.0)
 read_failed P F out err s f o (inr g) = at_status P F out err s status.WriteFault g.2 (IsEnd.read_line_failed f g.0 o g.1)
 
-memory_failed : (P : Answer → Type 0) (F : Type 0) (out err : Channel) (s : Status) → Got out [] → GivesLine err (told status.NoMemory no_memory_text) s → IsEnd P F out err s
+pub memory_failed : (P : Answer → Type 0) (F : Type 0) (out err : Channel) (s : Status) → Got out [] → GivesLine err (told status.NoMemory no_memory_text) s → IsEnd P F out err s
 memory_failed P F out err s o (inl g) = at_status P F out err s status.NoMemory g.1 (IsEnd.no_memory o g.0)
 memory_failed P F out err s o (inr g) = at_status P F out err s status.WriteFault g.2 (IsEnd.memory_line_failed g.0 o g.1)
 
@@ -93,29 +93,45 @@ bytes_end P F out err bytes s p (inr g) = bytes_failed P F out err (given bytes)
 pub gave : (Outcome : List ℕ → Answer → Type 0) (source out err : Channel) (bytes : List ℕ) (s : Status) → Gives Outcome source bytes → GivesBytes out err bytes s → Ends (On Outcome) source out err s
 gave Outcome source out err bytes s g end = bytes_end (On Outcome source.before) (HasFailed source) out err bytes s g.outcome end
 
-pub stopped : (Outcome : List ℕ → Answer → Type 0) (source out err : Channel) (stop : Stop) (s : Status) → Stops Outcome source stop → Got out [] → GivesLine err (stop_answer stop) s → Ends (On Outcome) source out err s
-stopped Outcome source out err (stops.File place reason) s x o g = line_ends (On Outcome source.before) (HasFailed source) out err (stop_answer (stops.File place reason)) s (x.outcome tt) o g
-stopped Outcome source out err (stops.Text line reason) s x o g = line_ends (On Outcome source.before) (HasFailed source) out err (stop_answer (stops.Text line reason)) s (x.outcome tt) o g
-stopped Outcome source out err (stops.Item i rule) s x o g = line_ends (On Outcome source.before) (HasFailed source) out err (stop_answer (stops.Item i rule)) s (x.outcome tt) o g
-stopped Outcome source out err (stops.Code m offset rule) s x o g = line_ends (On Outcome source.before) (HasFailed source) out err (stop_answer (stops.Code m offset rule)) s (x.outcome tt) o g
-stopped Outcome source out err (stops.Tidy rule i) s x o g = line_ends (On Outcome source.before) (HasFailed source) out err (stop_answer (stops.Tidy rule i)) s (x.outcome tt) o g
-stopped Outcome source out err stops.NotBuilt s x o g = line_ends (On Outcome source.before) (HasFailed source) out err (stop_answer stops.NotBuilt) s (x.outcome tt) o g
-stopped Outcome source out err stops.ReadFault s x o g = read_failed (On Outcome source.before) (HasFailed source) out err s (x.cause refl) o g
-stopped Outcome source out err stops.NoMemory s x o g = memory_failed (On Outcome source.before) (HasFailed source) out err s o g
-
 stop_not_done : (stop : Stop) → (stop_answer stop).status ≡ status.Done → ⊥
 stop_not_done (stops.File place reason) h = cc
 stop_not_done (stops.Text line reason) h = cc
 stop_not_done (stops.Item i rule) h = cc
 stop_not_done (stops.Code m offset rule) h = cc
 stop_not_done (stops.Tidy rule i) h = cc
-stop_not_done stops.NotBuilt h = cc
 stop_not_done stops.ReadFault h = cc
 stop_not_done stops.NoMemory h = cc
 
 pub not_done : (err : Channel) (stop : Stop) (s : Status) → GivesLine err (stop_answer stop) s → s ≡ status.Done → ⊥
 not_done err stop s (inl g) h = stop_not_done stop (sym g.1 ∙ h)
 not_done err stop s (inr g) h = let k = g.2 in cc
+
+stop_unread : (stop : Stop) → IsRead (stop_answer stop).status → ⊥
+stop_unread (stops.File place reason) h = h
+stop_unread (stops.Text line reason) h = h
+stop_unread (stops.Item i rule) h = h
+stop_unread (stops.Code m offset rule) h = h
+stop_unread (stops.Tidy rule i) h = h
+stop_unread stops.ReadFault h = h
+stop_unread stops.NoMemory h = h
+
+pub stop_not_read : (err : Channel) (stop : Stop) (s : Status) → GivesLine err (stop_answer stop) s → IsRead s → ⊥
+stop_not_read err stop s (inl g) h = stop_unread stop (subst IsRead g.1 h)
+stop_not_read err stop s (inr g) h = subst IsRead g.2 h
+
+-- a stop is no success
+pub stopped_undone : (Outcome : List ℕ → Answer → Type 0) (source out err : Channel) (stop : Stop) (s : Status) → Stops Outcome source stop → Got out [] → GivesLine err (stop_answer stop) s → IsEnd (λ a. On Outcome source.before a × (a.status ≢ status.Done)) (HasFailed source) out err s
+stopped_undone Outcome source out err (stops.File place reason) s x o g = line_ends (λ a. On Outcome source.before a × (a.status ≢ status.Done)) (HasFailed source) out err (stop_answer (stops.File place reason)) s (x.outcome tt, stop_not_done (stops.File place reason)) o g
+stopped_undone Outcome source out err (stops.Text line reason) s x o g = line_ends (λ a. On Outcome source.before a × (a.status ≢ status.Done)) (HasFailed source) out err (stop_answer (stops.Text line reason)) s (x.outcome tt, stop_not_done (stops.Text line reason)) o g
+stopped_undone Outcome source out err (stops.Item i rule) s x o g = line_ends (λ a. On Outcome source.before a × (a.status ≢ status.Done)) (HasFailed source) out err (stop_answer (stops.Item i rule)) s (x.outcome tt, stop_not_done (stops.Item i rule)) o g
+stopped_undone Outcome source out err (stops.Code m offset rule) s x o g = line_ends (λ a. On Outcome source.before a × (a.status ≢ status.Done)) (HasFailed source) out err (stop_answer (stops.Code m offset rule)) s (x.outcome tt, stop_not_done (stops.Code m offset rule)) o g
+stopped_undone Outcome source out err (stops.Tidy rule i) s x o g = line_ends (λ a. On Outcome source.before a × (a.status ≢ status.Done)) (HasFailed source) out err (stop_answer (stops.Tidy rule i)) s (x.outcome tt, stop_not_done (stops.Tidy rule i)) o g
+stopped_undone Outcome source out err stops.ReadFault s x o g = read_failed (λ a. On Outcome source.before a × (a.status ≢ status.Done)) (HasFailed source) out err s (x.cause refl) o g
+stopped_undone Outcome source out err stops.NoMemory s x o g = memory_failed (λ a. On Outcome source.before a × (a.status ≢ status.Done)) (HasFailed source) out err s o g
+
+pub stopped : (Outcome : List ℕ → Answer → Type 0) (source out err : Channel) (stop : Stop) (s : Status) → Stops Outcome source stop → Got out [] → GivesLine err (stop_answer stop) s → Ends (On Outcome) source out err s
+stopped Outcome source out err stop s x o g =
+    weaker (λ a. On Outcome source.before a × (a.status ≢ status.Done)) (On Outcome source.before) (HasFailed source) (HasFailed source) out err s (λ a y. y.0) (λ h. h) (stopped_undone Outcome source out err stop s x o g)
 
 -- what a command gives is written, or the line that says why it gives nothing
 pub finished : (Outcome : List ℕ → Answer → Type 0) (source out err : Channel) (done : Result (Vec ℕ Global) Stop) (s : Status)
@@ -125,8 +141,8 @@ finished Outcome source out err (Err stop) s g x end = stopped Outcome source ou
 
 pub finished_used_up : (Outcome : List ℕ → Answer → Type 0) (source out err : Channel) (done : Result (Vec ℕ Global) Stop) (s : Status)
     → IfOk done (λ bytes. Gives Outcome source bytes.items) → IsGiven done out err s → UsesUp source s
-finished_used_up Outcome source out err (Ok bytes) s g end = λ e. g.used_up
-finished_used_up Outcome source out err (Err stop) s g end = λ e. absurd (not_done err stop s end.1 e)
+finished_used_up Outcome source out err (Ok bytes) s g end = λ h. g.used_up
+finished_used_up Outcome source out err (Err stop) s g end = λ h. absurd (stop_not_read err stop s end.1 h)
 
 pub memory_stops : (Outcome : List ℕ → Answer → Type 0) (source : Channel) → Stops Outcome source stops.NoMemory
 memory_stops Outcome source = record { outcome = λ d. absurd d; cause = λ h. absurd cc }

@@ -1,5 +1,9 @@
 -- What a run of `dis` that ends well leaves in `out`.
-use Rattle.std.proofs.Common.{◌≡◌, ℕ, List, ap, subst, ◌≤◌, length, ◌∙◌, arith}
+use Rattle.std.proofs.Common.{◌≡◌, ℕ, List, ap, subst, ◌≤◌, length, Some, None, Ok, Err, refl, sym, ◌∙◌, arith}
+use Rattle.std.specs.Prelude.{◌↔◌}
+use Rattle.std.specs.declared.option.Option.{Option}
+use Rattle.std.specs.declared.result.Result.{Result}
+use Rattle.abc_base.specs.declared.formula.Formula.{Formula}
 use Rattle.abc_base.specs.declared.status.Status.{Status}
 use Rattle.abc_base.specs.declared.status.Status.TheVariants as status
 use Rattle.abc_lines.specs.Listing.{listing}
@@ -8,8 +12,8 @@ use Rattle.abc_rowparts.specs.Rows.{Fault}
 use Rattle.abc_tables.specs.declared.tables.Abc.{Abc}
 use Rattle.abc_tables.specs.Files.{IsFile, file_bytes}
 use Rattle.abc_words.specs.declared.command.Command.TheVariants as commands
-use Rattle.abc_cli.specs.Answers.{Answer, OfFile, given}
-use Rattle.abc_cli.specs.Outcome.{CommandOutcome, OutcomeOf, Asm, text_limit}
+use Rattle.abc_cli.specs.Answers.{Answer, OfFile, given, told}
+use Rattle.abc_cli.specs.Outcome.{CommandOutcome, Dis, OutcomeOf, Asm, text_limit}
 use Rattle.abc_cli.specs.End.{Channel, Got, HasFailed, IsEnd, Ends}
 use Rattle.abc_cli.specs.Listed.{AreBytes, IsListed, Lists}
 use Rattle.abc_cli.proofs.Ending.{of_any}
@@ -41,8 +45,8 @@ assembled_as text v other fault short a (Asm.assembled w fits is x) = x ∙ ap (
 assembled_as text v other fault short a (Asm.refused f fits is x) = absurd (fault f is)
 assembled_as text v other fault short a (Asm.too_long long x) = absurd (omega arith)
 
-listed : IsReadBack → IsNoOther → IsNoFault → (out : Channel) (a : Answer) → Got out a.out → a.status ≡ status.Done → (input : List ℕ) → OutcomeOf commands.Dis input a → IsListed out input
-listed text other fault out a got done input (OfFile.accepted v f x) = record {
+listed : IsReadBack → IsNoOther → IsNoFault → (fs : List Formula) (out : Channel) (a : Answer) → Got out a.out → a.status ≡ status.Done → (input : List ℕ) → OutcomeOf fs commands.Dis input a → IsListed out input
+listed text other fault fs out a got done input (OfFile.accepted v f x) = record {
   value = v;
   bytes = listing v;
   read = f;
@@ -53,9 +57,9 @@ listed text other fault out a got done input (OfFile.accepted v f x) = record {
     assembled = assembled_as (listing v) v (λ w. other v w input bytes f) (λ d. fault v input d bytes f);
   };
 }
-listed text other fault out a got done input (OfFile.refused r f x) = let k = ap (λ (y : Answer). y.status) x in absurd cc
+listed text other fault fs out a got done input (OfFile.refused r f x) = let k = ap (λ (y : Answer). y.status) x in absurd cc
 
-pub lists : IsReadBack → IsNoOther → IsNoFault → (source out err : Channel) (s : Status) → Ends (CommandOutcome commands.Dis) source out err s → s ≡ status.Done → Lists source out
-lists text other fault source out err s end done =
-    let a = ended_well (CommandOutcome commands.Dis source.before) (HasFailed source) out err s end done in
-    of_any (λ input. OutcomeOf commands.Dis input a.0) (IsListed out) source.before (λ input. listed text other fault out a.0 a.2 a.3 input) a.1
+pub lists : IsReadBack → IsNoOther → IsNoFault → (fs : List Formula) (source out err : Channel) (s : Status) → Ends (CommandOutcome fs commands.Dis) source out err s → s ≡ status.Done → Lists source out
+lists text other fault fs source out err s end done =
+    let a = ended_well (CommandOutcome fs commands.Dis source.before) (HasFailed source) out err s end done in
+    of_any (λ input. OutcomeOf fs commands.Dis input a.0) (IsListed out) source.before (λ input. listed text other fault fs out a.0 a.2 a.3 input) a.1

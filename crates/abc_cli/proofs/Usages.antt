@@ -1,6 +1,6 @@
 -- What the reading of the words says of the outcome.
-use Rattle.std.proofs.Common.{◌≡◌, ℕ, false, inl, inr, ◌⊎◌, Some, None, List, [], Ok, Err, refl, sym, ap, subst}
-use Rattle.std.specs.Prelude.{◌↔◌, IfErr, IfOk}
+use Rattle.std.proofs.Common.{◌≡◌, ◌≤◌, ℕ, suc, Bool, true, false, inl, inr, ◌⊎◌, Some, None, List, [], ◌∷◌, Ok, Err, refl, sym, ap, subst, arith}
+use Rattle.std.specs.Prelude.{◌↔◌, All, IfErr, IfOk}
 use Rattle.std.specs.declared.option.Option.{Option}
 use Rattle.std.specs.declared.alloc.Global.{Global}
 use Rattle.std.specs.declared.result.Result.{Result}
@@ -13,15 +13,22 @@ use Rattle.abc_words.specs.declared.command.RunOptions.{RunOptions}
 use Rattle.abc_words.specs.declared.command.GenOptions.{GenOptions}
 use Rattle.abc_words.specs.declared.command.Usage.{Usage}
 use Rattle.abc_words.specs.declared.command.Usage.TheVariants as usages
-use Rattle.abc_words.specs.Grammar.{IsUsageWord, Says}
+use Rattle.abc_words.specs.Commands.{Setting}
+use Rattle.abc_words.specs.Grammar.{GiveAll, GivesOne, IsDefault, IsUsageWord, Says}
 use Rattle.abc_cli.specs.Answers.{Answer, OfFile, OfFileRead, Unverified}
-use Rattle.abc_cli.specs.Outcome.{Canon, Check, CommandOutcome, Dis, OutcomeOf, Tidy, UsageOutcome, usage_answer, IsUsage, AsksNoInput, reads_input, not_built, Asm}
+use Rattle.abc_cli.specs.Outcome.{Asm, AsksNoInput, Canon, Check, CommandOutcome, Dis, Gen, IsUsage, On, OutcomeOf, Tidy, UsageOutcome, reads_input, usage_answer}
+use Rattle.abc_cli.specs.Runs.{IsEnded, IsMeant, Run, default_options, limits_of}
+use Rattle.abc_base.specs.declared.formula.Formula.{Formula}
+use Rattle.abc_gen.specs.Generated.{generated}
+use Rattle.abc_meaning.specs.Meaning.{Meaning, Ran, TooSmall, meaning}
+use Rattle.abc_meaning.specs.Throwing.{Done, End, FuelSpent, Full, Profile, Stuck, Uncaught}
 use Rattle.abc_tables.specs.declared.tables.Abc.{Abc}
-use Rattle.abc_cli.specs.End.{Channel, Ends, GivesLine, IsEnd}
+use Rattle.abc_tables.specs.Files.{file_bytes}
+use Rattle.abc_cli.specs.End.{Channel, Ends, GivesLine, HasFailed, IsEnd, RunsTo}
 use Rattle.abc_cli.specs.Stops.{Gives, IsGiven, Stops}
 use Rattle.abc_cli.specs.declared.stop.Stop.{Stop}
-use Rattle.abc_cli.specs.declared.stop.Stop.TheVariants as stops
-use Rattle.abc_cli.proofs.Ending.{any_input, finished}
+use Rattle.abc_cli.proofs.Ending.{any_input, finished, weaker}
+use Rattle.abc_cli.proofs.Running.{runs_end, runs_on_quiet}
 
 -- the answers of words outside the grammar are those that reading the words finds
 pub usage_found : (words : List (List ℕ)) (r : Result Command Usage) → ((r ≡ Err usages.NoCommand) ↔ (words ≡ [])) → ((i : ℕ) → (r ≡ Err (usages.Word i)) ↔ IsUsageWord words i)
@@ -37,11 +44,7 @@ pub usage_outcome : (words : List (List ℕ)) (u : Usage) → IsUsage words u �
 usage_outcome words usages.NoCommand h = UsageOutcome.no_command h
 usage_outcome words (usages.Word i) h = UsageOutcome.word i h
 
--- the line of such words ends with a status of its own, or with that of a failed write
-pub usage_not_done : (err : Channel) (words : List (List ℕ)) (u : Usage) (s : Status) → GivesLine err (usage_answer words u) s → s ≡ status.Done → ⊥
-usage_not_done err words u s (inl g) e = let k : s ≡ status.Usage = g.1 in cc
-usage_not_done err words u s (inr g) e = let k : s ≡ status.WriteFault = g.2 in cc
-
+-- the line of such words doesn't say that there was no memory
 pub usage_not_memory : (err : Channel) (words : List (List ℕ)) (u : Usage) (s : Status) → GivesLine err (usage_answer words u) s → s ≡ status.NoMemory → ⊥
 usage_not_memory err words u s (inl g) e = let k : s ≡ status.Usage = g.1 in cc
 usage_not_memory err words u s (inr g) e = let k : s ≡ status.WriteFault = g.2 in cc
@@ -60,6 +63,14 @@ pub unread_command : (words : List (List ℕ)) (r : Result Command Usage) (c : C
     → ((d : Command) → (r ≡ Ok d) ↔ Says words d) → r ≡ Ok c → AsksNoInput words → reads_input c ≡ false
 unread_command words r c word none command e (AsksNoInput.usage a u) = let f = usage_found words r none word a u in absurd (not_ok c f.0 r e f.1)
 unread_command words r c word none command e (AsksNoInput.command d says silent) = let f = (command d).1 says in subst (λ (x : Command). reads_input x ≡ false) (same_command d c r f e) silent
+
+-- words that say a command ask for the input, unless the command doesn't read it
+pub asking : (words : List (List ℕ)) (c : Command) → Says words c → ¬ AsksNoInput words → reads_input c ≡ true
+asking words c says asks = go (reads_input c) refl
+  where
+    go : (b : Bool) → reads_input c ≡ b → reads_input c ≡ true
+    go true e = e
+    go false e = absurd (asks (AsksNoInput.command c says e))
 
 -- ---- what a command's answer is not
 
@@ -88,40 +99,92 @@ asm_not_usage text a (Asm.assembled v short is x) e = let k = ap (λ (y : Answer
 asm_not_usage text a (Asm.refused f short is x) e = let k = ap (λ (y : Answer). y.status) x in cc
 asm_not_usage text a (Asm.too_long long x) e = let k = ap (λ (y : Answer). y.status) x in cc
 
-outcome_not_usage : (c : Command) (input : List ℕ) (a : Answer) → OutcomeOf c input a → a.status ≡ status.Usage → ⊥
-outcome_not_usage commands.Canon input a o e = file_not_usage Canon (λ v b x k. let h = ap (λ (y : Answer). y.status) x in cc) input a o e
-outcome_not_usage commands.Dis input a o e = file_not_usage Dis (λ v b x k. let h = ap (λ (y : Answer). y.status) x in cc) input a o e
-outcome_not_usage commands.Asm input a o e = asm_not_usage input a o e
-outcome_not_usage commands.Check input a o e = checked_not_usage input a o e
-outcome_not_usage commands.Tidy input a o e = file_not_usage Tidy tidy_not_usage input a o e
-outcome_not_usage (commands.Run options) input a o e = let h = ap (λ (x : Answer). x.status) o in cc
-outcome_not_usage (commands.Gen options) input a o e = let h = ap (λ (x : Answer). x.status) o in cc
+ended_not_usage : (v : Abc) (starts : List (List ℕ)) (wrote : List ℕ) (e : End) (a : Answer) → IsEnded v starts wrote e a → a.status ≡ status.Usage → ⊥
+ended_not_usage v starts wrote Done a x e = let k = ap (λ (y : Answer). y.status) x in cc
+ended_not_usage v starts wrote (Uncaught t) a x e = let k = ap (λ (y : Answer). y.status) x in cc
+ended_not_usage v starts wrote (Profile m i fault) a x e = let k = ap (λ (y : Answer). y.status) x in cc
+ended_not_usage v starts wrote FuelSpent a x e = let k = ap (λ (y : Answer). y.status) x in cc
+ended_not_usage v starts wrote (Full limit) a x e = let k = ap (λ (y : Answer). y.status) x in cc
+ended_not_usage v starts wrote Stuck a x e = x
 
-command_not_usage : (c : Command) (input : Option (List ℕ)) (a : Answer) → CommandOutcome c input a → a.status ≡ status.Usage → ⊥
-command_not_usage c (Some b) a o e = outcome_not_usage c b a o e
-command_not_usage c None a o e = outcome_not_usage c o.0 a o.1 e
+meant_not_usage : (v : Abc) (starts : List (List ℕ)) (m : Meaning) (a : Answer) → IsMeant v starts m a → a.status ≡ status.Usage → ⊥
+meant_not_usage v starts (TooSmall limit) a x e = let k = ap (λ (y : Answer). y.status) x in cc
+meant_not_usage v starts (Ran wrote end) a x e = ended_not_usage v starts wrote end a x e
 
-pub end_not_usage : (c : Command) (input : Option (List ℕ)) (F : Type 0) (out err : Channel) (s : Status) → IsEnd (CommandOutcome c input) F out err s → s ≡ status.Usage → ⊥
-end_not_usage c input F out err s (IsEnd.defined a x y z) e = command_not_usage c input a x e
-end_not_usage c input F out err s (IsEnd.read_fault x y z) e = cc
-end_not_usage c input F out err s (IsEnd.no_memory y z) e = cc
-end_not_usage c input F out err s (IsEnd.out_failed a x y z w) e = cc
-end_not_usage c input F out err s (IsEnd.both_failed a x y z w v) e = cc
-end_not_usage c input F out err s (IsEnd.line_failed a x y z w) e = cc
-end_not_usage c input F out err s (IsEnd.read_line_failed x y z w) e = cc
-end_not_usage c input F out err s (IsEnd.memory_line_failed y z w) e = cc
+run_not_usage : (o : RunOptions) (fs : List Formula) (v : Abc) (starts : List (List ℕ)) (a : Answer) → Run o fs v starts a → a.status ≡ status.Usage → ⊥
+run_not_usage o fs v starts a (Run.unverified u) e = unverified_not_usage v starts a u e
+run_not_usage o fs v starts a (Run.ran l is x) e = meant_not_usage v starts (meaning (record { linked = l; formulas = fs }) (limits_of o) o.fuel) a x e
+
+runs_not_usage : (o : RunOptions) (fs : List Formula) (input : List ℕ) (a : Answer) → OfFileRead (Run o fs) input a → a.status ≡ status.Usage → ⊥
+runs_not_usage o fs input a (OfFileRead.accepted v starts f x) e = run_not_usage o fs v starts a x e
+runs_not_usage o fs input a (OfFileRead.refused r f x) e = let h = ap (λ (y : Answer). y.status) x in cc
+
+gen_not_usage : (o : GenOptions) (fs : List Formula) (a : Answer) → Gen o fs a → a.status ≡ status.Usage → ⊥
+gen_not_usage o fs a (Gen.done b x d is) e = let h = ap (λ (y : Answer). y.status) is in cc
+gen_not_usage o fs a (Gen.not_done x d) e = runs_not_usage default_options fs (file_bytes (generated o.seed o.methods)) a x e
+
+outcome_not_usage : (fs : List Formula) (c : Command) (input : List ℕ) (a : Answer) → OutcomeOf fs c input a → a.status ≡ status.Usage → ⊥
+outcome_not_usage fs commands.Canon input a o e = file_not_usage Canon (λ v b x k. let h = ap (λ (y : Answer). y.status) x in cc) input a o e
+outcome_not_usage fs commands.Dis input a o e = file_not_usage Dis (λ v b x k. let h = ap (λ (y : Answer). y.status) x in cc) input a o e
+outcome_not_usage fs commands.Asm input a o e = asm_not_usage input a o e
+outcome_not_usage fs commands.Check input a o e = checked_not_usage input a o e
+outcome_not_usage fs commands.Tidy input a o e = file_not_usage Tidy tidy_not_usage input a o e
+outcome_not_usage fs (commands.Run options) input a o e = runs_not_usage options fs input a o e
+outcome_not_usage fs (commands.Gen options) input a o e = gen_not_usage options fs a o e
+
+command_not_usage : (fs : List Formula) (c : Command) (input : Option (List ℕ)) (a : Answer) → CommandOutcome fs c input a → a.status ≡ status.Usage → ⊥
+command_not_usage fs c (Some b) a o e = outcome_not_usage fs c b a o e
+command_not_usage fs c None a o e = outcome_not_usage fs c o.0 a o.1 e
+
+pub end_not_usage : (fs : List Formula) (c : Command) (input : Option (List ℕ)) (F : Type 0) (out err : Channel) (s : Status) → IsEnd (CommandOutcome fs c input) F out err s → s ≡ status.Usage → ⊥
+end_not_usage fs c input F out err s (IsEnd.defined a x y z) e = command_not_usage fs c input a x e
+end_not_usage fs c input F out err s (IsEnd.read_fault x y z) e = cc
+end_not_usage fs c input F out err s (IsEnd.no_memory y z) e = cc
+end_not_usage fs c input F out err s (IsEnd.out_failed a x y z w) e = cc
+end_not_usage fs c input F out err s (IsEnd.both_failed a x y z w v) e = cc
+end_not_usage fs c input F out err s (IsEnd.line_failed a x y z w) e = cc
+end_not_usage fs c input F out err s (IsEnd.read_line_failed x y z w) e = cc
+end_not_usage fs c input F out err s (IsEnd.memory_line_failed y z w) e = cc
 
 -- ---- commands
 
-pub command_ends : (command c : Command) (source out err : Channel) (done : Result (Vec ℕ Global) Stop) (s : Status) → command ≡ c → IfOk done (λ bytes. Gives (OutcomeOf c) source bytes.items)
-    → IfErr done (λ stop. Stops (OutcomeOf c) source stop) → IsGiven done out err s → Ends (CommandOutcome command) source out err s
-command_ends command c source out err done s e g x end =
-    subst (λ (d : Command). Ends (CommandOutcome d) source out err s) (sym e) (finished (OutcomeOf c) source out err done s g x end)
+pub command_ends : (fs : List Formula) (command c : Command) (source out err : Channel) (done : Result (Vec ℕ Global) Stop) (s : Status) → command ≡ c → IfOk done (λ bytes. Gives (OutcomeOf fs c) source bytes.items)
+    → IfErr done (λ stop. Stops (OutcomeOf fs c) source stop) → IsGiven done out err s → Ends (CommandOutcome fs command) source out err s
+command_ends fs command c source out err done s e g x end =
+    subst (λ (d : Command). Ends (CommandOutcome fs d) source out err s) (sym e) (finished (OutcomeOf fs c) source out err done s g x end)
 
-not_built_stops : (source : Channel) → Stops (λ input a. a ≡ not_built) source stops.NotBuilt
-not_built_stops source = record { outcome = λ d. any_input (λ input. not_built ≡ not_built) source.before (λ input. refl); cause = λ e. absurd cc }
+pub run_ends : (fs : List Formula) (command : Command) (o : RunOptions) (source out err : Channel) (s : Status) → command ≡ commands.Run o → RunsTo (On (OfFileRead (Run o fs)) source.before) (HasFailed source) out err s
+    → Ends (CommandOutcome fs command) source out err s
+run_ends fs command o source out err s e end =
+    subst (λ (d : Command). Ends (CommandOutcome fs d) source out err s) (sym e) (runs_end (On (OfFileRead (Run o fs)) source.before) (HasFailed source) out err s (runs_on_quiet o fs source.before) end)
 
-pub not_built_ends : (command : Command) (source out err : Channel) (s : Status) → (((o : RunOptions) × (command ≡ commands.Run o)) ⊎ ((o : GenOptions) × (command ≡ commands.Gen o))) → IsGiven (Err stops.NotBuilt) out err s
-    → Ends (CommandOutcome command) source out err s
-not_built_ends command source out err s (inl e) end = command_ends command (commands.Run e.0) source out err (Err stops.NotBuilt) s e.1 tt (not_built_stops source) end
-not_built_ends command source out err s (inr e) end = command_ends command (commands.Gen e.0) source out err (Err stops.NotBuilt) s e.1 tt (not_built_stops source) end
+pub gen_ends : (fs : List Formula) (command : Command) (o : GenOptions) (source out err : Channel) (s : Status) → command ≡ commands.Gen o → IsEnd (Gen o fs) ⊥ out err s → Ends (CommandOutcome fs command) source out err s
+gen_ends fs command o source out err s e end =
+    subst (λ (d : Command). Ends (CommandOutcome fs d) source out err s) (sym e)
+    (weaker (Gen o fs) (On (OutcomeOf fs (commands.Gen o)) source.before) ⊥ (HasFailed source) out err s (λ a x. any_input (λ input. Gen o fs a) source.before (λ input. x)) (λ h. absurd h) end)
+
+-- ---- numbers of options
+
+-- an option has its default, or a number in its range
+abbrev AreWithin : List Setting → Type 0
+AreWithin [] = Unit {0}
+AreWithin (x ∷ xs) = ((x.number ≡ x.option.default) ⊎ (x.number ≤ x.option.greatest)) × AreWithin xs
+
+defaults_within : (xs : List Setting) → All IsDefault xs → AreWithin xs
+defaults_within [] all = tt
+defaults_within (x ∷ xs) all = (inl (all 0 x (omega arith)), defaults_within xs (λ k d low. all (suc k) d (omega (arith, low))))
+
+one_within : {word : List ℕ} {xs left : List Setting} → GivesOne word xs left → AreWithin left → AreWithin xs
+one_within (GivesOne.first g) h = (inr g.greatest, h)
+one_within (GivesOne.later g) h = (h.0, one_within g h.1)
+
+all_within : {words : List (List ℕ)} {xs : List Setting} → GiveAll words xs → AreWithin xs
+all_within (GiveAll.none all) = defaults_within _ all
+all_within (GiveAll.word one more) = one_within one (all_within more)
+
+pub few_methods : (words : List (List ℕ)) (o : GenOptions) → Says words (commands.Gen o) → o.methods ≤ 10000
+few_methods words o says = go (all_within says.settings).1.0
+  where
+    go : (o.methods ≡ 100) ⊎ (o.methods ≤ 10000) → o.methods ≤ 10000
+    go (inl e) = omega (arith, e)
+    go (inr le) = le

@@ -1,5 +1,5 @@
 -- How a run ends: what the sinks got, and when a status but the defined one is answered.
-use Rattle.std.specs.Prelude.{◌≡◌, ◌⊎◌, ℕ, List, [], IsSome}
+use Rattle.std.specs.Prelude.{◌≡◌, ◌≢◌, ◌⊎◌, ℕ, List, [], IsSome}
 use Rattle.std.specs.Io.KnownBytes.{append_known}
 use Rattle.std.specs.declared.option.Option.{Option}
 use Rattle.abc_base.specs.Faults.{Rose}
@@ -64,6 +64,24 @@ pub data IsEnd (Outcome : Answer → Type 0) (SourceFailed : Type 0) (out err : 
 abbrev pub Ends : (Option (List ℕ) → Answer → Type 0) → Channel → Channel → Channel → Status → Type 0
 Ends Outcome source out err = IsEnd (Outcome source.before) (HasFailed source) out err
 
--- the run ended well only where nothing of the input is left
+-- the statuses of a run, which begins where the input was read to its end, and that of success
+abbrev pub IsRead : Status → Type 0
+IsRead status.Done = Unit {0}
+IsRead status.Uncaught = Unit {0}
+IsRead status.Profile = Unit {0}
+IsRead status.Fuel = Unit {0}
+IsRead status.Limit = Unit {0}
+IsRead other = ⊥
+
+-- with these, nothing of the input is left
 abbrev pub UsesUp : Channel → Status → Type 0
-UsesUp source s = s ≡ status.Done → IsUsedUp source.before source.after
+UsesUp source s = IsRead s → IsUsedUp source.before source.after
+
+-- ---- runs, whose output is written as it comes
+
+-- A run ends with an answer of the outcome that is done, its bytes written and no line; or with another answer or a fault, as any
+-- command; or writing the bytes of an answer failed.
+pub data RunsTo (Outcome : Answer → Type 0) (SourceFailed : Type 0) (out err : Channel) (s : Status) : Type 0 where
+  done : (a : Answer) → Outcome a → a.status ≡ status.Done → Got out a.out → Got err [] → s ≡ status.Done → RunsTo Outcome SourceFailed out err s
+  other : IsEnd (λ a. Outcome a × (a.status ≢ status.Done)) SourceFailed out err s → RunsTo Outcome SourceFailed out err s
+  cut : (a : Answer) → Outcome a → HasFailed out → GotFront out a.out → GivesLine err (told status.WriteFault write_fault_text) s → RunsTo Outcome SourceFailed out err s

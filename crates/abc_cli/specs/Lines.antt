@@ -3,6 +3,8 @@ use Rattle.std.specs.Prelude.{ℕ, List, [], ◌∷◌, ◌++◌, codes, decimal
 use Rattle.abc_escape.specs.Escapes.{escaped}
 use Rattle.abc_format.specs.Part.{Refusal}
 use Rattle.abc_format.specs.Reasons.{reason_name}
+use Rattle.abc_heap.specs.declared.records.Limit.{Limit}
+use Rattle.abc_heap.specs.declared.records.Limit.TheVariants as limits
 use Rattle.abc_rowparts.specs.Rows.{Fault}
 use Rattle.abc_items.specs.declared.items.Item.{Item}
 use Rattle.abc_items.specs.declared.items.LinkRule.{LinkRule}
@@ -73,5 +75,20 @@ write_fault_text = codes "write fault"
 unfoldable pub no_memory_text : List ℕ
 no_memory_text = codes "no memory"
 
-unfoldable pub not_built_text : List ℕ
-not_built_text = codes "not built"
+-- ---- how a run ends
+
+unfoldable pub uncaught_text : List ℕ → List ℕ
+uncaught_text name = codes "uncaught " ++ escaped name
+
+unfoldable pub fuel_spent_text : List ℕ
+fuel_spent_text = codes "fuel spent"
+
+abbrev pub limit_name : Limit → List ℕ
+limit_name limits.Objects = codes "Objects"
+limit_name limits.Cells = codes "Cells"
+limit_name limits.Text = codes "Text"
+limit_name limits.Frames = codes "Frames"
+limit_name limits.Stack = codes "Stack"
+
+unfoldable pub limit_text : Limit → List ℕ
+limit_text limit = codes "limit " ++ limit_name limit

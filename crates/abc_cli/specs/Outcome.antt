@@ -1,8 +1,12 @@
 -- What a command line and an input are answered with.
-use Rattle.std.specs.Prelude.{◌≡◌, ℕ, Bool, true, false, List, [], get_or, length, ◌<◌, ◌≤◌, ◌^◌}
+use Rattle.std.specs.Prelude.{◌≡◌, ◌≢◌, ℕ, Bool, true, false, List, [], ◌++◌, get_or, length, ◌<◌, ◌≤◌, ◌^◌}
 use Rattle.std.specs.declared.option.Option.{Option}
+use Rattle.abc_base.specs.declared.formula.Formula.{Formula}
+use Rattle.abc_base.specs.declared.status.Status.{Status}
 use Rattle.abc_base.specs.declared.status.Status.TheVariants as status
 use Rattle.abc_file.specs.Reading.{OfInput}
+use Rattle.abc_gen.specs.Generated.{generated}
+use Rattle.abc_gen.specs.Measured.{measured}
 use Rattle.abc_lines.specs.Answers.{IsAssemblyFault, IsAssemblyOf}
 use Rattle.abc_lines.specs.Listing.{listing}
 use Rattle.abc_program.specs.Linked.{LinkedFile}
@@ -15,13 +19,12 @@ use Rattle.abc_tidy.specs.declared.error.TidyRule.{TidyRule}
 use Rattle.abc_words.specs.Grammar.{IsUsageWord, Says}
 use Rattle.abc_words.specs.declared.command.Command.{Command}
 use Rattle.abc_words.specs.declared.command.Command.TheVariants as commands
+use Rattle.abc_words.specs.declared.command.GenOptions.{GenOptions}
 use Rattle.abc_words.specs.declared.command.Usage.{Usage}
 use Rattle.abc_words.specs.declared.command.Usage.TheVariants as usages
 use Rattle.abc_cli.specs.Answers.{Answer, IsVerifiedOf, OfFile, OfFileRead, Unverified, given, told}
-use Rattle.abc_cli.specs.Lines.{fault_text, no_command_text, not_built_text, tidy_text, usage_text, verified_line}
-
-abbrev pub not_built : Answer
-not_built = told status.NotBuilt not_built_text
+use Rattle.abc_cli.specs.Lines.{fault_text, no_command_text, tidy_text, usage_text, verified_line}
+use Rattle.abc_cli.specs.Runs.{Run, default_options}
 
 -- ---- commands
 
@@ -53,31 +56,36 @@ pub data Tidy (v : Abc) (a : Answer) : Type 0 where
   tidied : (t : Abc) → IsTidied v t → a ≡ given (file_bytes t) → Tidy v a
   untidy : (rule : TidyRule) (i : ℕ) → IsFirstUntidy v rule i → a ≡ told status.Refused (tidy_text rule i) → Tidy v a
 
--- a command on an input
-abbrev pub OutcomeOf : Command → List ℕ → Answer → Type 0
-OutcomeOf commands.Canon input a = OfFile Canon input a
-OutcomeOf commands.Dis input a = OfFile Dis input a
-OutcomeOf commands.Asm input a = Asm input a
-OutcomeOf commands.Check input a = OfFileRead Check input a
-OutcomeOf commands.Tidy input a = OfFile Tidy input a
-OutcomeOf (commands.Run options) input a = a ≡ not_built
-OutcomeOf (commands.Gen options) input a = a ≡ not_built
+-- `gen`: as `run` of the canonical bytes of the generated file with the defaults, and where that is done, the lines on the file
+pub data Gen (options : GenOptions) (formulas : List Formula) (a : Answer) : Type 0 where
+  done : (b : Answer) → OfFileRead (Run default_options formulas) (file_bytes (generated options.seed options.methods)) b → b.status ≡ status.Done → a ≡ given (b.out ++ measured (generated options.seed options.methods)) → Gen options formulas a
+  not_done : OfFileRead (Run default_options formulas) (file_bytes (generated options.seed options.methods)) a → a.status ≢ status.Done → Gen options formulas a
+
+-- a command on an input, with the formulas of a host
+abbrev pub OutcomeOf : List Formula → Command → List ℕ → Answer → Type 0
+OutcomeOf formulas commands.Canon input a = OfFile Canon input a
+OutcomeOf formulas commands.Dis input a = OfFile Dis input a
+OutcomeOf formulas commands.Asm input a = Asm input a
+OutcomeOf formulas commands.Check input a = OfFileRead Check input a
+OutcomeOf formulas commands.Tidy input a = OfFile Tidy input a
+OutcomeOf formulas (commands.Run options) input a = OfFileRead (Run options formulas) input a
+OutcomeOf formulas (commands.Gen options) input a = Gen options formulas a
 
 -- an outcome on the input that a source tells, or else on some input
 abbrev pub On : (List ℕ → Answer → Type 0) → Option (List ℕ) → Answer → Type 0
 On Outcome left a = OfInput left (λ input. Outcome input a)
 
-abbrev pub CommandOutcome : Command → Option (List ℕ) → Answer → Type 0
-CommandOutcome command = On (OutcomeOf command)
+abbrev pub CommandOutcome : List Formula → Command → Option (List ℕ) → Answer → Type 0
+CommandOutcome formulas command = On (OutcomeOf formulas command)
 
--- whether a command reads its input: `gen` never does, and neither do commands that are not built
+-- whether a command reads its input: only `gen` doesn't
 abbrev pub reads_input : Command → Bool
 reads_input commands.Canon = true
 reads_input commands.Dis = true
 reads_input commands.Asm = true
 reads_input commands.Check = true
 reads_input commands.Tidy = true
-reads_input (commands.Run options) = false
+reads_input (commands.Run options) = true
 reads_input (commands.Gen options) = false
 
 -- ---- words outside the grammar
@@ -101,10 +109,10 @@ IsUsage words (usages.Word i) = IsUsageWord words i
 
 -- ---- all words
 
--- The defined outcome of words and an input: that of the command that they say, or their usage word.
-pub data IsOutcome (words : List (List ℕ)) (input : Option (List ℕ)) (a : Answer) : Type 0 where
-  usage : UsageOutcome words a → IsOutcome words input a
-  command : (c : Command) → Says words c → CommandOutcome c input a → IsOutcome words input a
+-- The defined outcome of words and an input, with the formulas of a host: that of the command that they say, or their usage word.
+pub data IsOutcome (words : List (List ℕ)) (formulas : List Formula) (input : Option (List ℕ)) (a : Answer) : Type 0 where
+  usage : UsageOutcome words a → IsOutcome words formulas input a
+  command : (c : Command) → Says words c → CommandOutcome formulas c input a → IsOutcome words formulas input a
 
 -- the words ask for nothing of the input: they are outside the grammar, or say a command that doesn't read it
 pub data AsksNoInput (words : List (List ℕ)) : Type 0 where

@@ -28,7 +28,7 @@ use Rattle.abc_cli.specs.declared.stop.Stop.TheVariants as stops
 use Rattle.abc_cli.specs.End.{Channel, Got, GivesBytes, GivesLine, HasFailed}
 use Rattle.abc_cli.specs.Lines.{item_text, refusal_text, read_fault_text, no_memory_text, tidy_text, untyped_text, fault_text}
 use Rattle.abc_cli.specs.Answers.{Answer, IsVerifiedOf, given, offset_in, told}
-use Rattle.abc_cli.specs.Outcome.{On, not_built}
+use Rattle.abc_cli.specs.Outcome.{On}
 
 -- what is answered where a command gives nothing
 abbrev pub stop_answer : Stop → Answer
@@ -37,7 +37,6 @@ stop_answer (stops.Text line reason) = told status.Refused (fault_text (fault li
 stop_answer (stops.Item i rule) = told status.Refused (item_text i rule)
 stop_answer (stops.Code m offset rule) = told status.Refused (untyped_text m offset rule)
 stop_answer (stops.Tidy rule i) = told status.Refused (tidy_text rule i)
-stop_answer stops.NotBuilt = not_built
 stop_answer stops.ReadFault = told status.ReadFault read_fault_text
 stop_answer stops.NoMemory = told status.NoMemory no_memory_text
 

@@ -27,7 +27,7 @@ pub fn ended(written: Result<(), Failed>, status: Status) -> Status
 
 /// Writes the line of a status that has a fixed one.
 #[tactic(auto, using(crate::proofs::Ending::gives))]
-fn give_line<E: Sink>(err: &mut E, status: Status, text: &[u8]) -> Status
+pub fn give_line<E: Sink>(err: &mut E, status: Status, text: &[u8]) -> Status
     ensures { GivesLine (stream E.written E.faults err.old err.new) (told status text.now) result }
 {
     let written = write_line(err, text);
@@ -100,7 +100,7 @@ pub fn give_no_command<E: Sink>(err: &mut E) -> Status
 }
 
 /// Writes the line that says why there are no bytes.
-#[tactic(auto, unfolding(crate::specs::Lines::read_fault_text, crate::specs::Lines::no_memory_text, crate::specs::Lines::not_built_text))]
+#[tactic(auto, unfolding(crate::specs::Lines::read_fault_text, crate::specs::Lines::no_memory_text))]
 pub fn give_stop<E: Sink>(err: &mut E, stop: Stop) -> Status
     ensures { GivesLine (stream E.written E.faults err.old err.new) (stop_answer stop) result }
 {
@@ -114,7 +114,6 @@ pub fn give_stop<E: Sink>(err: &mut E, stop: Stop) -> Status
             rule,
         } => give_code(err, method, offset, rule),
         Stop::Tidy { rule, index } => give_tidy(err, rule, index),
-        Stop::NotBuilt => give_line(err, Status::NotBuilt, b"not built"),
         Stop::ReadFault => give_line(err, Status::ReadFault, b"read fault"),
         Stop::NoMemory => give_line(err, Status::NoMemory, b"no memory"),
     }

@@ -1,15 +1,19 @@
-//! The top call: what the program does with the words of a command line and an input.
+//! The top call: what the program does with the words of a command line and an input; and the generator of `gen`.
 #![tactic(auto)]
 
 mod asm;
 mod canon;
 mod check;
 mod dis;
+mod endings;
 mod ends;
+mod generate;
 mod lines;
+mod run;
 mod stop;
 mod tidy;
 mod top;
 mod verified;
 
+pub use abc_gen::make_abc;
 pub use top::abc_main;

@@ -1,11 +1,12 @@
-ghost use Rattle.std.specs.Prelude.{◌++◌, ◌∷◌, []};
+ghost use Rattle.std.specs.Prelude.{◌≡◌, ◌++◌, ◌∷◌, []};
 ghost use Rattle.abc_escape.specs.Escapes.{escaped};
 ghost use Rattle.abc_base.specs.Faults.{HasCause};
 ghost use Rattle.abc_base.specs.Sinks.{WritesAll};
-ghost use Rattle.abc_cli.specs.Lines.{code_text, line, place_text, usage_text};
+ghost use Rattle.abc_cli.specs.Lines.{code_text, limit_name as name_of_limit, limit_text, line, place_text, uncaught_text, usage_text};
 
 use abc_base::{Failed, Sink, write_all};
 use abc_escape::write_escaped;
+use abc_heap::Limit;
 use itoa::Buffer;
 
 /// Writes three pieces in a row.
@@ -82,6 +83,37 @@ pub fn write_usage<E: Sink>(err: &mut E, word: &[u8]) -> Result<(), Failed>
     ensures cause { HasCause (E.faults err.old) (E.faults err.new) result }
 {
     write_with_escapes(err, b"abc: usage: ", word, b"\n")
+}
+
+/// Writes the line of what nothing caught, by a name.
+#[tactic(auto, unfolding(crate::specs::Lines::line, crate::specs::Lines::uncaught_text))]
+pub fn write_uncaught<E: Sink>(err: &mut E, name: &[u8]) -> Result<(), Failed>
+    ensures bytes { WritesAll (E.written err.old) (E.written err.new) result (line (uncaught_text name.now)) }
+    ensures cause { HasCause (E.faults err.old) (E.faults err.new) result }
+{
+    write_with_escapes(err, b"abc: uncaught ", name, b"\n")
+}
+
+/// The name of a limit.
+fn limit_name(limit: Limit) -> &'static [u8]
+    ensures { result.now ≡ name_of_limit limit }
+{
+    match limit {
+        Limit::Objects => b"Objects",
+        Limit::Cells => b"Cells",
+        Limit::Text => b"Text",
+        Limit::Frames => b"Frames",
+        Limit::Stack => b"Stack",
+    }
+}
+
+/// Writes the line of a limit that is reached, or below what every run begins with.
+#[tactic(auto, unfolding(crate::specs::Lines::line, crate::specs::Lines::limit_text))]
+pub fn write_limit<E: Sink>(err: &mut E, limit: Limit) -> Result<(), Failed>
+    ensures bytes { WritesAll (E.written err.old) (E.written err.new) result (line (limit_text limit)) }
+    ensures cause { HasCause (E.faults err.old) (E.faults err.new) result }
+{
+    write_three(err, b"abc: limit ", limit_name(limit), b"\n")
 }
 
 /// Writes the line of a place by its kind, its number, and what is wrong there.

@@ -47,9 +47,6 @@ pub enum Stop {
         rule: TidyRule,
         index: u32,
     },
-    /// The command is not built yet.
-    #[error("not built")]
-    NotBuilt,
     /// A read failed.
     #[error("a read failed")]
     ReadFault,

@@ -1,4 +1,5 @@
-ghost use Rattle.std.specs.Prelude.{◌≡◌, ◌<◌, false, length};
+ghost use Rattle.std.specs.Prelude.{◌≡◌, ◌<◌, ◌≤◌, false, true, length};
+ghost use Rattle.abc_words.specs.declared.command.GenOptions.{GenOptions};
 ghost use Rattle.abc_cli.specs.End.{Ends, GivesLine, UsesUp, stream};
 ghost use Rattle.abc_cli.specs.Answers.{Answer};
 ghost use Rattle.abc_cli.specs.Outcome.{AsksNoInput, CommandOutcome, IsOutcome, IsUsage, UsageOutcome, reads_input, usage_answer};
@@ -10,8 +11,9 @@ use crate::canon::canon;
 use crate::check::check;
 use crate::dis::dis;
 use crate::ends::{ended, give, give_no_command};
+use crate::generate::generate;
 use crate::lines::write_usage;
-use crate::stop::Stop;
+use crate::run::run;
 use crate::tidy::tidy;
 use abc_base::{Host, Sink, Source, Status, Words};
 use abc_roundtrip::listing_is_read_back;
@@ -19,15 +21,17 @@ use abc_words::{Command, Usage, parse};
 use std::alloc::Global;
 
 /// Does a command.
-fn run_command<S: Source, K: Sink, E: Sink>(
+fn run_command<S: Source, K: Sink, E: Sink, H: Host>(
     alloc: Global,
     command: &Command,
     source: &mut S,
     out: &mut K,
     err: &mut E,
+    host: &H,
 ) -> Status
-    ensures end { Ends (CommandOutcome command.now) (stream S.left S.faults source.old source.new) (stream K.written K.faults out.old out.new) (stream E.written E.faults err.old err.new) result }
-    ensures used_up { UsesUp (stream S.left S.faults source.old source.new) result }
+    requires { (options : GenOptions) → command.now ≡ Command.Gen options → options.methods ≤ 10000 }
+    ensures end { Ends (CommandOutcome (H.formulas host.now) command.now) (stream S.left S.faults source.old source.new) (stream K.written K.faults out.old out.new) (stream E.written E.faults err.old err.new) result }
+    ensures used_up { reads_input command.now ≡ true → UsesUp (stream S.left S.faults source.old source.new) result }
     ensures unread { reads_input command.now ≡ false → source.new ≡ source.old }
 {
     match command {
@@ -36,7 +40,8 @@ fn run_command<S: Source, K: Sink, E: Sink>(
         Command::Check => give(check(alloc, source), out, err),
         Command::Tidy => give(tidy(alloc, source), out, err),
         Command::Asm => give(asm(alloc, source), out, err),
-        Command::Run(_) | Command::Gen(_) => give(Err(Stop::NotBuilt), out, err),
+        Command::Run(options) => run(alloc, options, source, out, err, host),
+        Command::Gen(options) => generate(alloc, options, out, err, host),
     }
 }
 
@@ -63,12 +68,12 @@ pub fn abc_main<S: Source, K: Sink, E: Sink, H: Host>(
     source: &mut S,
     out: &mut K,
     err: &mut E,
-    _host: &H,
+    host: &H,
 ) -> Status
     // The run ends with the defined outcome, or with a fault that has its cause.
-    ensures end { Ends (IsOutcome words.now) (stream S.left S.faults source.old source.new) (stream K.written K.faults out.old out.new) (stream E.written E.faults err.old err.new) result }
-    // On status 0 nothing of the input is left.
-    ensures used_up { UsesUp (stream S.left S.faults source.old source.new) result }
+    ensures end { Ends (IsOutcome words.now (H.formulas host.now)) (stream S.left S.faults source.old source.new) (stream K.written K.faults out.old out.new) (stream E.written E.faults err.old err.new) result }
+    // Where the words ask for the input, nothing of it is left on status 0 and where a run ended.
+    ensures used_up { ¬ AsksNoInput words.now → UsesUp (stream S.left S.faults source.old source.new) result }
     // Nothing is read where the words ask for nothing of the input.
     ensures unread { AsksNoInput words.now → source.new ≡ source.old }
     // Words outside the grammar are answered by their line, whatever the input is, and other words never are.
@@ -82,7 +87,7 @@ pub fn abc_main<S: Source, K: Sink, E: Sink, H: Host>(
 {
     listing_is_read_back();
     match parse(words) {
-        Ok(command) => run_command(alloc, &command, source, out, err),
+        Ok(command) => run_command(alloc, &command, source, out, err, host),
         Err(usage) => give_usage(words, usage, err),
     }
 }

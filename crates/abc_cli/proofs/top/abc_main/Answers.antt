@@ -1,12 +1,13 @@
 use Rattle.std.proofs.Common.{refl, sym, ap, subst, ◌∙◌}
+use Rattle.abc_words.specs.Grammar.{Says}
 use Rattle.abc_words.specs.declared.command.Usage.{Usage}
 use Rattle.abc_words.specs.declared.command.Command.{Command}
 use Rattle.abc_words.specs.declared.command.Command.TheVariants as commands
 use Rattle.abc_cli.specs.End.{Ends, GivesLine, stream}
 use Rattle.abc_cli.specs.Answers.{Answer}
-use Rattle.abc_cli.specs.Outcome.{CommandOutcome, IsOutcome, usage_answer}
+use Rattle.abc_cli.specs.Outcome.{AsksNoInput, CommandOutcome, IsOutcome, usage_answer}
 use Rattle.abc_cli.proofs.Ending.{line_ends, nothing, weaker}
-use Rattle.abc_cli.proofs.Usages.{usage_found, is_usage, usage_not_done, usage_not_memory, usage_outcome, same_command, same_usage, not_ok, end_not_usage, unread_command}
+use Rattle.abc_cli.proofs.Usages.{usage_found, is_usage, usage_not_memory, usage_outcome, same_command, same_usage, not_ok, end_not_usage, unread_command, asking, few_methods}
 use Rattle.abc_cli.proofs.Listings.{lists}
 use Rattle.abc_cli.proofs.top.abc_main.Goals as goal
 
@@ -32,7 +33,7 @@ returns-in-Ok-clause-untouched g c = λ a u.
     absurd (not_ok c.in-Ok.command f.0 c.parse.result c.in-Ok.is f.1)
 
 pub returns-in-Ok-clause-well_formed : goal.returns-in-Ok-clause-well_formed
-returns-in-Ok-clause-well_formed g c = λ w e. end_not_usage c.in-Ok.command (g.S.Source.left c.args.source.now) _ _ _ c.run_command.result c.run_command.ensures.end e
+returns-in-Ok-clause-well_formed g c = λ w e. end_not_usage (g.H.Host.formulas c.args.host.now) c.in-Ok.command (g.S.Source.left c.args.source.now) _ _ _ c.run_command.result c.run_command.ensures.end e
 
 pub returns-in-Err-clause-end : goal.returns-in-Err-clause-end
 returns-in-Err-clause-end g c =
@@ -57,20 +58,23 @@ returns-in-Ok-clause-listed g c = λ says done.
     let out = stream g.K.Sink.written g.K.Sink.faults c.args.out.now c.run_command.new.out in
     let err = stream g.E.Sink.written g.E.Sink.faults c.args.err.now c.run_command.new.err in
     let is = same_command c.in-Ok.command commands.Dis c.parse.result c.in-Ok.is ((c.parse.ensures.command commands.Dis).1 says) in
-    lists c.listing_is_read_back.ensures.text c.listing_is_read_back.ensures.no_other c.listing_is_read_back.ensures.no_fault source out err c.run_command.result
-    (subst (λ (x : Command). Ends (CommandOutcome x) source out err c.run_command.result) is c.run_command.ensures.end) done
+    lists c.listing_is_read_back.ensures.text c.listing_is_read_back.ensures.no_other c.listing_is_read_back.ensures.no_fault (g.H.Host.formulas c.args.host.now) source out err c.run_command.result
+    (subst (λ (x : Command). Ends (CommandOutcome (g.H.Host.formulas c.args.host.now) x) source out err c.run_command.result) is c.run_command.ensures.end) done
 
 pub returns-in-Err-clause-listed : goal.returns-in-Err-clause-listed
 returns-in-Err-clause-listed g c = λ says done. absurd (not_ok commands.Dis c.in-Err.usage c.parse.result ((c.parse.ensures.command commands.Dis).1 says) c.in-Err.is)
 
+pub run_command-requires : goal.run_command-requires
+run_command-requires g c = λ o e. few_methods c.args.words.now o (subst (λ (x : Command). Says c.args.words.now x) e ((c.parse.ensures.command c.in-Ok.command).0 c.in-Ok.is))
+
 pub returns-in-Ok-clause-used_up : goal.returns-in-Ok-clause-used_up
-returns-in-Ok-clause-used_up g c = c.run_command.ensures.used_up
+returns-in-Ok-clause-used_up g c = λ asks. c.run_command.ensures.used_up (asking c.args.words.now c.in-Ok.command ((c.parse.ensures.command c.in-Ok.command).0 c.in-Ok.is) asks)
 
 pub returns-in-Ok-clause-memory : goal.returns-in-Ok-clause-memory
 returns-in-Ok-clause-memory g c = λ e. (c.in-Ok.command, (c.parse.ensures.command c.in-Ok.command).0 c.in-Ok.is)
 
 pub returns-in-Err-clause-used_up : goal.returns-in-Err-clause-used_up
-returns-in-Err-clause-used_up g c = λ e. absurd (usage_not_done (stream g.E.Sink.written g.E.Sink.faults c.args.err.now c.give_usage.new.err) c.args.words.now c.in-Err.usage c.give_usage.result c.give_usage.ensures e)
+returns-in-Err-clause-used_up g c = λ asks. absurd (asks (AsksNoInput.usage (usage_answer c.args.words.now c.in-Err.usage) (usage_outcome c.args.words.now c.in-Err.usage (is_usage c.args.words.now c.parse.result c.in-Err.usage c.parse.ensures.none c.parse.ensures.word c.in-Err.is))))
 
 pub returns-in-Err-clause-unread : goal.returns-in-Err-clause-unread
 returns-in-Err-clause-unread g c = λ asks. refl

@@ -1,34 +1,39 @@
 use Rattle.abc_words.specs.declared.command.Command.TheVariants as commands
 use Rattle.abc_cli.specs.End.{stream}
-use Rattle.abc_cli.proofs.Usages.{command_ends, not_built_ends}
+use Rattle.abc_cli.proofs.Usages.{command_ends, gen_ends, run_ends}
 use Rattle.abc_cli.proofs.top.run_command.Goals as goal
 
 pub returns-in-Canon-clause-end : goal.returns-in-Canon-clause-end
 returns-in-Canon-clause-end g c =
-    command_ends c.args.command.now commands.Canon (stream g.S.Source.left g.S.Source.faults c.args.source.now c.canon.new.source) (stream g.K.Sink.written g.K.Sink.faults c.args.out.now c.give.new.out)
+    command_ends (g.H.Host.formulas c.args.host.now) c.args.command.now commands.Canon (stream g.S.Source.left g.S.Source.faults c.args.source.now c.canon.new.source) (stream g.K.Sink.written g.K.Sink.faults c.args.out.now c.give.new.out)
     (stream g.E.Sink.written g.E.Sink.faults c.args.err.now c.give.new.err) c.canon.result c.give.result c.in-Canon.is c.canon.ensures.gives c.canon.ensures.stops c.give.ensures
 
 pub returns-in-Dis-clause-end : goal.returns-in-Dis-clause-end
 returns-in-Dis-clause-end g c =
-    command_ends c.args.command.now commands.Dis (stream g.S.Source.left g.S.Source.faults c.args.source.now c.dis.new.source) (stream g.K.Sink.written g.K.Sink.faults c.args.out.now c.give-in-Dis.new.out)
+    command_ends (g.H.Host.formulas c.args.host.now) c.args.command.now commands.Dis (stream g.S.Source.left g.S.Source.faults c.args.source.now c.dis.new.source) (stream g.K.Sink.written g.K.Sink.faults c.args.out.now c.give-in-Dis.new.out)
     (stream g.E.Sink.written g.E.Sink.faults c.args.err.now c.give-in-Dis.new.err) c.dis.result c.give-in-Dis.result c.in-Dis.is c.dis.ensures.gives c.dis.ensures.stops c.give-in-Dis.ensures
 
 pub returns-in-Check-clause-end : goal.returns-in-Check-clause-end
 returns-in-Check-clause-end g c =
-    command_ends c.args.command.now commands.Check (stream g.S.Source.left g.S.Source.faults c.args.source.now c.check.new.source) (stream g.K.Sink.written g.K.Sink.faults c.args.out.now c.give-in-Check.new.out)
+    command_ends (g.H.Host.formulas c.args.host.now) c.args.command.now commands.Check (stream g.S.Source.left g.S.Source.faults c.args.source.now c.check.new.source) (stream g.K.Sink.written g.K.Sink.faults c.args.out.now c.give-in-Check.new.out)
     (stream g.E.Sink.written g.E.Sink.faults c.args.err.now c.give-in-Check.new.err) c.check.result c.give-in-Check.result c.in-Check.is c.check.ensures.gives c.check.ensures.stops c.give-in-Check.ensures
 
 pub returns-in-Tidy-clause-end : goal.returns-in-Tidy-clause-end
 returns-in-Tidy-clause-end g c =
-    command_ends c.args.command.now commands.Tidy (stream g.S.Source.left g.S.Source.faults c.args.source.now c.tidy.new.source) (stream g.K.Sink.written g.K.Sink.faults c.args.out.now c.give-in-Tidy.new.out)
+    command_ends (g.H.Host.formulas c.args.host.now) c.args.command.now commands.Tidy (stream g.S.Source.left g.S.Source.faults c.args.source.now c.tidy.new.source) (stream g.K.Sink.written g.K.Sink.faults c.args.out.now c.give-in-Tidy.new.out)
     (stream g.E.Sink.written g.E.Sink.faults c.args.err.now c.give-in-Tidy.new.err) c.tidy.result c.give-in-Tidy.result c.in-Tidy.is c.tidy.ensures.gives c.tidy.ensures.stops c.give-in-Tidy.ensures
 
 pub returns-in-Asm-clause-end : goal.returns-in-Asm-clause-end
 returns-in-Asm-clause-end g c =
-    command_ends c.args.command.now commands.Asm (stream g.S.Source.left g.S.Source.faults c.args.source.now c.asm.new.source) (stream g.K.Sink.written g.K.Sink.faults c.args.out.now c.give-in-Asm.new.out)
+    command_ends (g.H.Host.formulas c.args.host.now) c.args.command.now commands.Asm (stream g.S.Source.left g.S.Source.faults c.args.source.now c.asm.new.source) (stream g.K.Sink.written g.K.Sink.faults c.args.out.now c.give-in-Asm.new.out)
     (stream g.E.Sink.written g.E.Sink.faults c.args.err.now c.give-in-Asm.new.err) c.asm.result c.give-in-Asm.result c.in-Asm.is c.asm.ensures.gives c.asm.ensures.stops c.give-in-Asm.ensures
 
 pub returns-in-Run-clause-end : goal.returns-in-Run-clause-end
 returns-in-Run-clause-end g c =
-    not_built_ends c.args.command.now (stream g.S.Source.left g.S.Source.faults c.args.source.now c.args.source.now) (stream g.K.Sink.written g.K.Sink.faults c.args.out.now c.give-in-Run.new.out)
-    (stream g.E.Sink.written g.E.Sink.faults c.args.err.now c.give-in-Run.new.err) c.give-in-Run.result c.in-Run.is c.give-in-Run.ensures
+    run_ends (g.H.Host.formulas c.args.host.now) c.args.command.now c.in-Run.options.now (stream g.S.Source.left g.S.Source.faults c.args.source.now c.run.new.source) (stream g.K.Sink.written g.K.Sink.faults c.args.out.now c.run.new.out)
+    (stream g.E.Sink.written g.E.Sink.faults c.args.err.now c.run.new.err) c.run.result c.in-Run.is c.run.ensures.end
+
+pub returns-in-Gen-clause-end : goal.returns-in-Gen-clause-end
+returns-in-Gen-clause-end g c =
+    gen_ends (g.H.Host.formulas c.args.host.now) c.args.command.now c.in-Gen.options.now (stream g.S.Source.left g.S.Source.faults c.args.source.now c.args.source.now) (stream g.K.Sink.written g.K.Sink.faults c.args.out.now c.generate.new.out)
+    (stream g.E.Sink.written g.E.Sink.faults c.args.err.now c.generate.new.err) c.generate.result c.in-Gen.is c.generate.ensures

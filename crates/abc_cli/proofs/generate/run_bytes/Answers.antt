@@ -1,0 +1,21 @@
+use Rattle.std.proofs.Common.{refl}
+use Rattle.abc_cli.specs.Answers.{OfFileRead}
+use Rattle.abc_cli.specs.End.{HasFailed, stream}
+use Rattle.abc_cli.specs.Outcome.{On}
+use Rattle.abc_cli.specs.Runs.{Run, default_options}
+use Rattle.abc_cli.proofs.Ending.{nothing}
+use Rattle.abc_cli.proofs.Generating.{memory_bytes, memory_quiet, steady_runs}
+use Rattle.abc_cli.proofs.generate.run_bytes.Goals as goal
+
+pub returns-in-Ok-clause-end : goal.returns-in-Ok-clause-end
+returns-in-Ok-clause-end g c =
+    steady_runs (g.H.Host.formulas c.args.host.now) c.args.bytes.now c.in-Ok.source (stream g.K.Sink.written g.K.Sink.faults c.args.out.now c.run.new.out) (stream g.E.Sink.written g.E.Sink.faults c.args.err.now c.run.new.err) c.run.result c.in-Ok.ensures
+    c.run.ensures.end
+
+pub returns-in-Err-clause-end : goal.returns-in-Err-clause-end
+returns-in-Err-clause-end g c =
+    memory_bytes (OfFileRead (Run default_options (g.H.Host.formulas c.args.host.now)) c.args.bytes.now) (stream g.K.Sink.written g.K.Sink.faults c.args.out.now c.args.out.now)
+    (stream g.E.Sink.written g.E.Sink.faults c.args.err.now c.give_stop.new.err) c.give_stop.result (nothing (g.K.Sink.written c.args.out.now)) c.give_stop.ensures
+
+pub returns-in-Err-clause-quiet : goal.returns-in-Err-clause-quiet
+returns-in-Err-clause-quiet g c = λ d. absurd (memory_quiet (stream g.E.Sink.written g.E.Sink.faults c.args.err.now c.give_stop.new.err) c.give_stop.result c.give_stop.ensures d)

@@ -1,0 +1,8 @@
+use Rattle.abc_meaning.specs.Meaning.{first_state}
+use Rattle.abc_openings.specs.Begun.{setting}
+use Rattle.abc_machine.proofs.machine.Machine.run.Given as goal
+
+abbrev pub ghost-run_for : goal.ghost-run_for
+ghost-run_for g a =
+    let formulas = g.H.Host.formulas a.host.now in
+    record { formulas = formulas; first = first_state (setting a.linked.now formulas) a.s.now.arena.limits; fuel = a.fuel }

@@ -1,0 +1,97 @@
+-- From a state that a run reaches to what the code of its newest frame's instruction relies on.
+use Rattle.std.proofs.Common.{◌≡◌, ◌≢◌, ℕ, ◌<◌, ◌^◌, List, ◌∷◌, length, map, refl, ap, ◌∙◌, subst, arith}
+use Rattle.abc_dispatch.proofs.Led.{runs_here}
+use Rattle.abc_dispatch.specs.Ready.{CanStep, IsEquipped}
+use Rattle.abc_fair.proofs.Sounded.{frames_run}
+use Rattle.abc_fair.specs.Running.{IsRunning}
+use Rattle.abc_finishing.proofs.Turned.{living_is}
+use Rattle.abc_finishing.specs.Steps.{IsReached}
+use Rattle.abc_meaning.specs.Sound.{IsSound}
+use Rattle.abc_meaning.specs.Step.{runs}
+use Rattle.abc_meaning.specs.Throwing.{Machine}
+use Rattle.abc_plainsteps.specs.Spelled.{IsSpelled}
+use Rattle.abc_program.specs.Linked.{LinkedFile}
+use Rattle.abc_shapes.specs.Instructions.{opcode}
+use Rattle.abc_stacks.specs.Frame.{Frame, first_size, newest, newest_size, under}
+use Rattle.abc_states.specs.ActsAt.{Act}
+use Rattle.abc_states.specs.Outer.{Outer, setting, world}
+use Rattle.abc_states.specs.Standing.{IsSet}
+use Rattle.abc_states.specs.Stops.{IsOpen}
+use Rattle.abc_states.specs.Turns.{size_for}
+use Rattle.abc_states.specs.World.{Errs, Faults, Fills, Outcome, Sticks, Stopped, Throws, Went, World}
+use Rattle.abc_states.specs.WorldSetting.{Setting, routine_of}
+use Rattle.abc_states.specs.declared.state.State.{State}
+use Rattle.abc_stepping.proofs.Counted.{few_scopes}
+use Rattle.abc_tables.specs.Ready.{CanSpell}
+use Rattle.abc_tables.specs.declared.code.Instr.{Instr}
+use Rattle.abc_tables.specs.declared.code.Instr.TheVariants as instrs
+
+spelled : (n : ℕ) (i : Instr) → CanSpell n i → opcode i < 2 ^ 8 → IsSpelled i
+spelled n (instrs.Plain op) s b = record { is = s; low = b }
+spelled n (instrs.One op x) s b = (record { is = s.0; low = b }, s.1)
+spelled n (instrs.Two op x y) s b = (record { is = s.0; low = b }, s.1, s.2)
+spelled n (instrs.Branch op t) s b = record { is = s.0; low = b }
+spelled n (instrs.Switch t ts) s b = tt
+spelled n (instrs.Byte z) s b = tt
+spelled n (instrs.Short z) s b = tt
+spelled n (instrs.ScopeObject x) s b = tt
+spelled n (instrs.Debug kind name reg extra) s b = tt
+
+open_of : (o : Outcome Act) → ((n : World) → o ≢ Stopped n Sticks) → IsOpen o
+open_of (Went n act) h = tt
+open_of (Stopped n (Throws v)) h = tt
+open_of (Stopped n (Errs c)) h = tt
+open_of (Stopped n (Faults fault)) h = tt
+open_of (Stopped n (Fills limit)) h = tt
+open_of (Stopped n Sticks) h = h n refl
+
+module _ (l : LinkedFile) (out : Outer) (s : State) (reached : IsReached l out s) (live : 0 < length s.frames.living) where
+  abbrev p : Setting
+  p = setting l out
+
+  abbrev here : World
+  here = world s out
+
+  abbrev top : Frame
+  top = newest s.frames
+
+  sound : IsSound p reached.typings (record { world = here; frames = top ∷ under s.frames.living })
+  sound =
+      let q : List Frame → Machine = λ fs. record { world = here; frames = fs } in
+      subst (λ (fs : List Frame). IsSound p reached.typings (q fs)) (living_is s.frames live) reached.sound
+
+  size_is : newest_size s.frames ≡ size_for p top
+  size_is = ap first_size (reached.sized.sizes ∙ ap (map (size_for p)) (living_is s.frames live))
+
+  running : IsRunning p here top
+  running = frames_run p reached.typings here top (under s.frames.living) reached.verified reached.typed sound
+
+  set_here : IsSet l s
+  set_here = (let t = running.there in record { over = reached.sound.world.stands; frame = record { stack = t.stack; locals = t.locals; scopes = t.scopes; saved = t.saved; home = t.home } })
+
+  -- an instruction stands at its place, and can be run
+  pub can_step : CanStep l out s
+  can_step =
+      let k = running.instruction in
+      let free = open_of (runs p top (routine_of p top.method) here) running.free in
+      record {
+        routine = k.routine;
+        body = k.body;
+        instr = k.instr;
+        at = k.at;
+        run = record {
+          set = set_here;
+          live = live;
+          place = k.next;
+          size = size_is;
+          spelled = spelled (length k.routine.code) k.instr k.can k.byte;
+          free = subst (λ (o : Outcome Act). IsOpen o) (runs_here p here top k.routine k.instr k.body k.at) free;
+        };
+      }
+
+  pub equipped : IsEquipped l s
+  equipped =
+      let stands = sound.frames.0.stands in
+      let fit = stands.scopes in
+      let low = few_scopes p reached.verified.linked top.method stands.routine stands.body in
+      record { known = reached.known; few = omega (arith, fit, low); started = reached.sound.world.scripts }

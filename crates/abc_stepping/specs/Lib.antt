@@ -1,0 +1,1 @@
+pub use Rattle.abc_finishing.specs.Steps

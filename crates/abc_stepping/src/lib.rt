@@ -1,0 +1,6 @@
+//! A step of a run: the start of the last script, or the instruction of the newest frame and what it leaves to be done.
+#![tactic(auto)]
+
+mod stepping;
+
+pub use stepping::step;
