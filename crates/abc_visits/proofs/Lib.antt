@@ -1,4 +1,5 @@
 pub mod Asking
 pub mod Loops
 pub mod Stepping
-pub mod Takes
+pub mod Plain
+pub mod Kept

@@ -2,9 +2,10 @@ ghost use Rattle.std.specs.Prelude.{◌≡◌, ◌<◌, ◌^◌, drop, flat_map,
 ghost use Rattle.abc_shapes.specs.Table.{needs};
 ghost use Rattle.abc_steps.specs.Needs.{parts_of};
 ghost use Rattle.abc_typing.specs.Effects.{catch_object, kind_at as kind_in, kind_of as kind_of_source, needs as needs_of, receiver as receiver_of, scope_of, taken, unfolded};
+ghost use Rattle.abc_visits.specs.Asking.{IsAsked};
 ghost use Rattle.abc_visits.specs.Visits.{here_in, picked as picked_by};
 
-use crate::visit::{Visit, need_count};
+use crate::visit::{Asked, Visit, need_count};
 use abc_base::Table;
 use abc_program::{Kind, Part};
 use abc_shapes::{Need, Source, Takes, local_of};
@@ -78,31 +79,44 @@ fn receiver_at(takes: Takes, parts: Parts, stack: &Stack<Kind>, at: usize) -> Ki
 impl Visit<'_> {
     /// The kind of the value so deep below the arguments; any kind where there is none.
     #[tactic(auto, using(crate::proofs::Asking::taken_at))]
-    pub(crate) fn taken(&self, state: &State, depth: u8) -> Kind
+    pub(crate) fn taken(&self, asked: Asked, state: &State, depth: u8) -> Kind
+        requires { IsAsked (here_in self.now) asked }
         ensures { result ≡ kind_in (taken (here_in self.now) state.now) depth }
     {
-        state.stack.get_or(self.args() + depth as usize, Kind::Any)
+        state.stack.get_or(asked.args + depth as usize, Kind::Any)
     }
 
     /// The kind of the value that has to have the slot; any kind where none has to.
-    #[tactic(auto, using(crate::proofs::Takes::needs_receiver))]
-    pub(crate) fn receiver(&self, state: &State) -> Kind
+    #[tactic(auto, using(crate::proofs::Plain::plain_receiver, crate::proofs::Plain::asked_receiver))]
+    pub(crate) fn receiver(&self, asked: Asked, state: &State) -> Kind
+        requires { IsAsked (here_in self.now) asked }
         ensures { result ≡ receiver_of (needs_of (here_in self.now)) (taken (here_in self.now) state.now) }
     {
-        receiver_at(self.row.takes, self.parts(), &state.stack, self.args())
+        if asked.is_plain {
+            return Kind::Any;
+        }
+        receiver_at(self.row.takes, asked.parts, &state.stack, asked.args)
     }
 
     /// The kind that comes from a source.
-    pub(crate) fn kind_of(&self, state: &State, source: Source) -> Kind
+    pub(crate) fn kind_of(&self, asked: Asked, state: &State, source: Source) -> Kind
+        requires { IsAsked (here_in self.now) asked }
         ensures { result ≡ kind_of_source (here_in self.now) state.now source }
     {
         match source {
             Source::Fixed(kind) => fixed_kind(self.linked, kind),
-            Source::Taken(depth) => self.taken(state, depth),
+            Source::Taken(depth) => self.taken(asked, state, depth),
             Source::LocalKind => kind_at(&state.locals, local_of(self.instr)),
             Source::ScopeKind => scope_at(&state.scopes, self.operand()),
-            Source::SlotKind => kind_of_slot(self.linked, self.operand(), self.receiver(state)),
-            Source::SumKind => kind_of_sum(self.taken(state, 1), self.taken(state, 0)),
+            Source::SlotKind => kind_of_slot(
+                self.linked,
+                self.operand(),
+                self.receiver(asked, state),
+            ),
+            Source::SumKind => kind_of_sum(
+                self.taken(asked, state, 1),
+                self.taken(asked, state, 0),
+            ),
             Source::TypeKind => type_or_any(self.linked, self.operand()),
             Source::AsTypeKind => nullable_kind(type_or_any(self.linked, self.operand())),
             Source::ActivationKind => Kind::Obj(self.frame.activation),

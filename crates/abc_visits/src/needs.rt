@@ -3,9 +3,10 @@ ghost use Rattle.abc_shapes.specs.Table.{needs};
 ghost use Rattle.abc_typing.specs.Effects.{needs as needs_of, taken, unfolded};
 ghost use Rattle.abc_typing.specs.Rules.{all_suit, suits};
 ghost use Rattle.abc_steps.specs.Needs.{parts_of};
+ghost use Rattle.abc_visits.specs.Asking.{IsAsked};
 ghost use Rattle.abc_visits.specs.Visits.{here_in};
 
-use crate::visit::{Visit, need_count};
+use crate::visit::{Asked, Visit, need_count};
 use abc_program::Kind;
 use abc_shapes::{Need, Takes};
 use abc_steps::{
@@ -128,16 +129,14 @@ impl Visit<'_> {
     }
 
     /// Whether the values that are taken are what a rule asks.
-    #[tactic(auto, using(crate::proofs::Takes::needs_suit))]
-    pub(crate) fn all_suit(&self, rule: VerifyRule, state: &State) -> bool
+    #[tactic(auto, using(crate::proofs::Plain::plain_suits, crate::proofs::Plain::asked_suits))]
+    pub(crate) fn all_suit(&self, asked: Asked, rule: VerifyRule, state: &State) -> bool
+        requires { IsAsked (here_in self.now) asked }
         ensures { result ≡ all_suit (here_in self.now) rule (needs_of (here_in self.now)) (taken (here_in self.now) state.now) }
     {
-        self.takes_suit(
-            rule,
-            self.row.takes,
-            self.parts(),
-            &state.stack,
-            self.args(),
-        )
+        if asked.is_plain {
+            return true;
+        }
+        self.takes_suit(rule, self.row.takes, asked.parts, &state.stack, asked.args)
     }
 }

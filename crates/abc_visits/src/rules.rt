@@ -1,4 +1,5 @@
-ghost use Rattle.std.specs.Prelude.{◌≡◌, ◌++◌, ◌+◌, ◌-◌, ◌&&◌, ◌||◌, filter, leb, ltb, length};
+ghost use Rattle.std.specs.Prelude.{◌≡◌, ◌++◌, ◌∷◌, [], ◌+◌, ◌-◌, ◌&&◌, ◌||◌, filter, leb, ltb, length};
+ghost use Rattle.std.specs.Bool.{OnTrue};
 ghost use Rattle.abc_shapes.specs.Instructions.{opcode};
 ghost use Rattle.abc_shapes.specs.Rows.{row_at};
 ghost use Rattle.abc_shapes.specs.Table.{sources};
@@ -6,11 +7,12 @@ ghost use Rattle.abc_typing.specs.Effects.{covering, covers};
 ghost use Rattle.abc_typing.specs.Rules.{at_row, broken, broken_early, early_rules, first_broken, is_here, is_walked, keeps, late_rules, names_scope};
 ghost use Rattle.abc_typing.specs.declared.rule.VerifyRule.TheVariants as variants;
 ghost use Rattle.abc_frames.specs.Frames.{routine_in};
+ghost use Rattle.abc_visits.specs.Asking.{AreKept, IsAsked};
 ghost use Rattle.abc_visits.specs.Visits.{here_in};
 
 use crate::kinds::kind_at;
 use crate::tables::{are_handlers_below, is_covered};
-use crate::visit::Visit;
+use crate::visit::{Asked, Visit};
 use abc_frames::Frame;
 use abc_link::Linked;
 use abc_shapes::{Gives, Locals, Operand, Site, opcode_of, row_of, second_of};
@@ -106,27 +108,30 @@ impl Visit<'_> {
     }
 
     /// Whether the stack keeps to its size, with a value that is caught.
-    fn fits_stack(&self, state: &State, handlers: &[Catch]) -> bool
-        requires { filter (covers self.now.place) handlers.now ≡ covering (routine_in self.now.frame.now) self.now.place }
+    fn fits_stack(&self, asked: Asked, state: &State, handlers: &[Catch]) -> bool
+        requires asked { IsAsked (here_in self.now) asked }
+        requires cover { filter (covers self.now.place) handlers.now ≡ covering (routine_in self.now.frame.now) self.now.place }
         ensures { result ≡ keeps (here_in self.now) state.now variants.StackOver }
     {
         let size = self.frame.max_stack as usize;
-        let kept = state.stack.len().saturating_sub(self.depth());
+        let kept = state.stack.len().saturating_sub(asked.depth);
         fits(kept, gives_count(self.row.gives), size)
             && (size > 0 || !is_covered(handlers, self.place))
     }
 
     /// Whether a state keeps a rule.
-    fn keeps(&self, state: &State, handlers: &[Catch], rule: VerifyRule) -> bool
-        requires { filter (covers self.now.place) handlers.now ≡ covering (routine_in self.now.frame.now) self.now.place }
+    #[inline(always)]
+    fn keeps(&self, asked: Asked, state: &State, handlers: &[Catch], rule: VerifyRule) -> bool
+        requires asked { IsAsked (here_in self.now) asked }
+        requires cover { filter (covers self.now.place) handlers.now ≡ covering (routine_in self.now.frame.now) self.now.place }
         ensures { result ≡ keeps (here_in self.now) state.now rule }
     {
         let frame = self.frame;
         match rule {
             VerifyRule::PoolIndex => self.is_in_table(),
             VerifyRule::NameForm => has_good_form(self.linked, self.row.operand, self.operand()),
-            VerifyRule::StackUnder => self.depth() <= state.stack.len(),
-            VerifyRule::StackOver => self.fits_stack(state, handlers),
+            VerifyRule::StackUnder => asked.depth <= state.stack.len(),
+            VerifyRule::StackOver => self.fits_stack(asked, state, handlers),
             VerifyRule::ScopeUnder => pops_well(self.row.scoping, state.scopes.len()),
             VerifyRule::ScopeOver => {
                 pushes_well(
@@ -141,13 +146,13 @@ impl Visit<'_> {
             VerifyRule::OffEnd => {
                 self.leads_inside() && are_handlers_below(handlers, self.place, frame.code.len())
             }
-            VerifyRule::NotSpace => self.all_suit(VerifyRule::NotSpace, state),
-            VerifyRule::NotObject => self.all_suit(VerifyRule::NotObject, state),
-            VerifyRule::SlotIndex => self.all_suit(VerifyRule::SlotIndex, state),
+            VerifyRule::NotSpace => self.all_suit(asked, VerifyRule::NotSpace, state),
+            VerifyRule::NotObject => self.all_suit(asked, VerifyRule::NotObject, state),
+            VerifyRule::SlotIndex => self.all_suit(asked, VerifyRule::SlotIndex, state),
             VerifyRule::ScopeIndex => self.names_scope(state),
             VerifyRule::NotHere => self.stands_here(),
             VerifyRule::NotIndex => {
-                self.all_suit(VerifyRule::NotIndex, state) && self.walks_well(state)
+                self.all_suit(asked, VerifyRule::NotIndex, state) && self.walks_well(state)
             }
             VerifyRule::Parameters => {
                 self.place > 0 || frame.filled.len() <= frame.local_count as usize
@@ -158,27 +163,138 @@ impl Visit<'_> {
         }
     }
 
+    /// Whether two rules are kept.
+    #[inline(always)]
+    #[tactic(auto, using(crate::proofs::Kept::two_kept))]
+    fn keeps_two(
+        &self,
+        asked: Asked,
+        state: &State,
+        handlers: &[Catch],
+        first: VerifyRule,
+        second: VerifyRule,
+    ) -> bool
+        requires asked { IsAsked (here_in self.now) asked }
+        requires cover { filter (covers self.now.place) handlers.now ≡ covering (routine_in self.now.frame.now) self.now.place }
+        ensures { OnTrue result (AreKept (here_in self.now) state.now (first ∷ second ∷ [])) }
+    {
+        self.keeps(asked, state, handlers, first) && self.keeps(asked, state, handlers, second)
+    }
+
+    /// Whether the rules before Merge are kept.
+    #[tactic(auto, using(crate::proofs::Kept::four_kept))]
+    fn keeps_early(&self, asked: Asked, state: &State, handlers: &[Catch]) -> bool
+        requires asked { IsAsked (here_in self.now) asked }
+        requires cover { filter (covers self.now.place) handlers.now ≡ covering (routine_in self.now.frame.now) self.now.place }
+        ensures { OnTrue result (AreKept (here_in self.now) state.now early_rules) }
+    {
+        self.keeps_two(
+            asked,
+            state,
+            handlers,
+            VerifyRule::PoolIndex,
+            VerifyRule::NameForm,
+        ) && self.keeps_two(
+            asked,
+            state,
+            handlers,
+            VerifyRule::StackUnder,
+            VerifyRule::StackOver,
+        ) && self.keeps_two(
+            asked,
+            state,
+            handlers,
+            VerifyRule::ScopeUnder,
+            VerifyRule::ScopeOver,
+        ) && self.keeps_two(
+            asked,
+            state,
+            handlers,
+            VerifyRule::LocalIndex,
+            VerifyRule::OffEnd,
+        )
+    }
+
+    /// Whether the rules after Merge are kept.
+    #[tactic(auto, using(crate::proofs::Kept::four_kept))]
+    fn keeps_late(&self, asked: Asked, state: &State, handlers: &[Catch]) -> bool
+        requires asked { IsAsked (here_in self.now) asked }
+        requires cover { filter (covers self.now.place) handlers.now ≡ covering (routine_in self.now.frame.now) self.now.place }
+        ensures { OnTrue result (AreKept (here_in self.now) state.now late_rules) }
+    {
+        self.keeps_two(
+            asked,
+            state,
+            handlers,
+            VerifyRule::NotSpace,
+            VerifyRule::NotObject,
+        ) && self.keeps_two(
+            asked,
+            state,
+            handlers,
+            VerifyRule::SlotIndex,
+            VerifyRule::ScopeIndex,
+        ) && self.keeps_two(
+            asked,
+            state,
+            handlers,
+            VerifyRule::NotHere,
+            VerifyRule::NotIndex,
+        ) && self.keeps_two(
+            asked,
+            state,
+            handlers,
+            VerifyRule::Parameters,
+            VerifyRule::Flags,
+        )
+    }
+
+    /// Whether all rules are kept. It is asked first: which rule is broken is told by going over them once more.
+    #[tactic(auto, using(crate::proofs::Kept::all_kept))]
+    fn keeps_all(&self, asked: Asked, state: &State, handlers: &[Catch]) -> bool
+        requires asked { IsAsked (here_in self.now) asked }
+        requires cover { filter (covers self.now.place) handlers.now ≡ covering (routine_in self.now.frame.now) self.now.place }
+        ensures { OnTrue result (AreKept (here_in self.now) state.now (early_rules ++ late_rules)) }
+    {
+        self.keeps_early(asked, state, handlers) && self.keeps_late(asked, state, handlers)
+    }
+
     /// The first of some rules that a state breaks.
     #[tactic(auto, using(crate::proofs::Loops::rule_next, crate::proofs::Loops::rule_stops))]
     fn first_broken(
         &self,
+        asked: Asked,
         state: &State,
         handlers: &[Catch],
         rules: &[VerifyRule],
     ) -> Option<VerifyRule>
-        requires { filter (covers self.now.place) handlers.now ≡ covering (routine_in self.now.frame.now) self.now.place }
+        requires asked { IsAsked (here_in self.now) asked }
+        requires cover { filter (covers self.now.place) handlers.now ≡ covering (routine_in self.now.frame.now) self.now.place }
         ensures { result ≡ first_broken (keeps (here_in self.now) state.now) rules.now }
     {
         for rule in rules {
-            if !self.keeps(state, handlers, *rule) {
+            if !self.keeps(asked, state, handlers, *rule) {
                 return Some(*rule);
             }
         }
         None
     }
+
+    /// The first rule that a state breaks, Merge left out.
+    #[tactic(auto, using(crate::proofs::Kept::none_broken))]
+    fn broken(&self, asked: Asked, state: &State, handlers: &[Catch]) -> Option<VerifyRule>
+        requires asked { IsAsked (here_in self.now) asked }
+        requires cover { filter (covers self.now.place) handlers.now ≡ covering (routine_in self.now.frame.now) self.now.place }
+        ensures { result ≡ first_broken (keeps (here_in self.now) state.now) (early_rules ++ late_rules) }
+    {
+        if self.keeps_all(asked, state, handlers) {
+            return None;
+        }
+        self.first_broken(asked, state, handlers, &RULES)
+    }
 }
 
-/// The first of some rules that a state breaks at an instruction.
+/// The first rule that a state breaks at an instruction, Merge left out.
 fn broken_in(
     linked: &Linked,
     frame: &Frame<'_>,
@@ -186,10 +302,9 @@ fn broken_in(
     instr: &Instr,
     state: &State,
     handlers: &[Catch],
-    rules: &[VerifyRule],
 ) -> Option<VerifyRule>
     requires { filter (covers place) handlers.now ≡ covering (routine_in frame.now) place }
-    ensures { result ≡ at_row linked.now (routine_in frame.now) place instr.now rules.now state.now (row_at (opcode instr.now)) }
+    ensures { result ≡ at_row linked.now (routine_in frame.now) place instr.now (early_rules ++ late_rules) state.now (row_at (opcode instr.now)) }
 {
     match row_of(opcode_of(instr)) {
         Some(row) => {
@@ -200,7 +315,32 @@ fn broken_in(
                 instr,
                 row,
             };
-            visit.first_broken(state, handlers, rules)
+            visit.broken(visit.asked(), state, handlers)
+        }
+        None => Some(VerifyRule::NotRun),
+    }
+}
+
+/// The first rule before Merge that a state breaks at an instruction.
+fn broken_early_in(
+    linked: &Linked,
+    frame: &Frame<'_>,
+    place: u32,
+    instr: &Instr,
+    state: &State,
+) -> Option<VerifyRule>
+    ensures { result ≡ at_row linked.now (routine_in frame.now) place instr.now early_rules state.now (row_at (opcode instr.now)) }
+{
+    match row_of(opcode_of(instr)) {
+        Some(row) => {
+            let visit = Visit {
+                linked,
+                frame,
+                place,
+                instr,
+                row,
+            };
+            visit.first_broken(visit.asked(), state, frame.handlers.as_slice(), &EARLY)
         }
         None => Some(VerifyRule::NotRun),
     }
@@ -219,7 +359,7 @@ pub fn broken_at(
     ensures { result ≡ broken linked.now (routine_in frame.now) place state.now }
 {
     match frame.code.find(place as usize) {
-        Some(instr) => broken_in(linked, frame, place, instr, state, cover, &RULES),
+        Some(instr) => broken_in(linked, frame, place, instr, state, cover),
         None => Some(VerifyRule::OffEnd),
     }
 }
@@ -234,15 +374,7 @@ pub fn broken_early_at(
     ensures { result ≡ broken_early linked.now (routine_in frame.now) place state.now }
 {
     match frame.code.find(place as usize) {
-        Some(instr) => broken_in(
-            linked,
-            frame,
-            place,
-            instr,
-            state,
-            frame.handlers.as_slice(),
-            &EARLY,
-        ),
+        Some(instr) => broken_early_in(linked, frame, place, instr, state),
         None => Some(VerifyRule::OffEnd),
     }
 }

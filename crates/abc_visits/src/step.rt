@@ -6,10 +6,11 @@ ghost use Rattle.abc_flow.specs.Walking.{Steps};
 ghost use Rattle.abc_typing.specs.Effects.{goes_on, is_null as is_null_by, kind_at, kind_of as kind_of_source, needs as needs_of, next as next_state, scope_kind, taken};
 ghost use Rattle.abc_typing.specs.Typing.{IsFine};
 ghost use Rattle.abc_frames.specs.Frames.{routine_in};
+ghost use Rattle.abc_visits.specs.Asking.{IsAsked};
 ghost use Rattle.abc_visits.specs.Visits.{change_of, given_kinds, here_in, leads_away as leads_away_by, leads_on as leads_on_by, step_by, written_by};
 
 use crate::changes::{Change, Given, change_locals, change_scopes, change_stack};
-use crate::visit::Visit;
+use crate::visit::{Asked, Visit};
 use abc_base::NoMemory;
 use abc_flow::{Step, Written};
 use abc_frames::Frame;
@@ -71,25 +72,30 @@ fn step_of(goes: bool, leads: Leads, written: Written) -> Step
 
 impl Visit<'_> {
     /// The kinds that are pushed.
-    fn given(&self, state: &State) -> Given
+    fn given(&self, asked: Asked, state: &State) -> Given
+        requires { IsAsked (here_in self.now) asked }
         ensures { given_kinds result ≡ map (kind_of_source (here_in self.now) state.now) (sources self.now.row.gives) }
     {
         match self.row.gives {
             Gives::Nothing => Given::Nothing,
-            Gives::One(a) => Given::One(self.kind_of(state, a)),
-            Gives::Two(a, b) => Given::Two(self.kind_of(state, a), self.kind_of(state, b)),
+            Gives::One(a) => Given::One(self.kind_of(asked, state, a)),
+            Gives::Two(a, b) => Given::Two(
+                self.kind_of(asked, state, a),
+                self.kind_of(asked, state, b),
+            ),
         }
     }
 
     /// What the locals get.
-    fn change(&self, state: &State) -> Change
+    fn change(&self, asked: Asked, state: &State) -> Change
+        requires { IsAsked (here_in self.now) asked }
         ensures { result ≡ change_of (here_in self.now) state.now self.now.row.locals }
     {
         match self.row.locals {
             Locals::Untouched => Change::Nothing,
             Locals::Reads => Change::Nothing,
             Locals::Sets(source) => {
-                Change::One(local_of(self.instr), self.kind_of(state, source))
+                Change::One(local_of(self.instr), self.kind_of(asked, state, source))
             }
             Locals::Walks => Change::Two(
                 local_of(self.instr),
@@ -101,17 +107,19 @@ impl Visit<'_> {
     }
 
     /// The kind of a scope that is pushed.
-    fn scope(&self, state: &State) -> Kind
+    fn scope(&self, asked: Asked, state: &State) -> Kind
+        requires { IsAsked (here_in self.now) asked }
         ensures { result ≡ scope_kind self.now.linked.now (kind_at (taken (here_in self.now) state.now) 0) }
     {
-        kind_of_scope(self.linked, self.taken(state, 0))
+        kind_of_scope(self.linked, self.taken(asked, state, 0))
     }
 
     /// Whether anything follows: nothing does where the value that has to have a slot is null.
-    fn goes_on(&self, state: &State) -> bool
+    fn goes_on(&self, asked: Asked, state: &State) -> bool
+        requires { IsAsked (here_in self.now) asked }
         ensures { result ≡ goes_on (needs_of (here_in self.now)) (taken (here_in self.now) state.now) }
     {
-        !is_null(self.receiver(state))
+        !is_null(self.receiver(asked, state))
     }
 
     /// Does the instruction to a state. Every kind is of the state before.
@@ -120,11 +128,12 @@ impl Visit<'_> {
         ensures next { IfOk result (λ w. state.new ≡ next_state (here_in self.now) state.old) }
         ensures leads { IfOk result (λ w. w ≡ step_by (goes_on (needs_of (here_in self.now)) (taken (here_in self.now) state.old)) self.now.row.leads (written_by (change_of (here_in self.now) state.old self.now.row.locals))) }
     {
-        let goes = self.goes_on(state);
-        let given = self.given(state);
-        let change = self.change(state);
-        let scope = self.scope(state);
-        change_stack(&mut state.stack, self.depth(), given)?;
+        let asked = self.asked();
+        let goes = self.goes_on(asked, state);
+        let given = self.given(asked, state);
+        let change = self.change(asked, state);
+        let scope = self.scope(asked, state);
+        change_stack(&mut state.stack, asked.depth, given)?;
         change_scopes(&mut state.scopes, self.row.scoping, scope)?;
         let written = change_locals(&mut state.locals, change);
         Ok(step_of(goes, self.row.leads, written))

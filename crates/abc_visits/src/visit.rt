@@ -1,8 +1,10 @@
-ghost use Rattle.std.specs.Prelude.{◌≡◌, ◌<◌, ◌*◌, ◌^◌, ◌≤◌, flat_map, length};
+ghost use Rattle.std.specs.Prelude.{◌≡◌, ◌<◌, ◌*◌, ◌^◌, ◌≤◌, ◌∷◌, [], flat_map, length};
+ghost use Rattle.std.specs.Bool.{OnFalse, OnTrue};
 ghost use Rattle.abc_shapes.specs.Instructions.{operand as operand_in};
 ghost use Rattle.abc_shapes.specs.Table.{needs};
-ghost use Rattle.abc_typing.specs.Effects.{args as args_of, depth as depth_of, name_at, runtime, unfolded};
+ghost use Rattle.abc_typing.specs.Effects.{args as args_of, needs as needs_of, unfolded};
 ghost use Rattle.abc_steps.specs.Needs.{parts_of};
+ghost use Rattle.abc_visits.specs.Asking.{AreClosed, AreValues, IsAsked};
 ghost use Rattle.abc_visits.specs.Visits.{here_in};
 
 use abc_frames::Frame;
@@ -19,6 +21,19 @@ pub(crate) struct Visit<'a> {
     pub place: u32,
     pub instr: &'a Instr,
     pub row: Row,
+}
+
+/// What is worked out once of an instruction at its place.
+#[derive(Clone, Copy)]
+pub(crate) struct Asked {
+    /// The parts that the name takes at run time; none where no need is for them.
+    pub parts: Parts,
+    /// How many arguments stand on top of what the row takes.
+    pub args: usize,
+    /// How many values are taken.
+    pub depth: usize,
+    /// Whether each value that is taken may be any.
+    pub is_plain: bool,
 }
 
 /// How many parts a name takes.
@@ -65,6 +80,92 @@ fn takes_count(takes: Takes, parts: Parts) -> usize
     }
 }
 
+/// Whether a need is for the parts of a name.
+fn is_opened_need(need: Need) -> bool
+    ensures { OnFalse result (AreClosed (need ∷ [])) }
+{
+    match need {
+        Need::Runtime => true,
+        Need::Value => false,
+        Need::Namespace => false,
+        Need::Index => false,
+        Need::Slotted => false,
+        Need::Instance => false,
+    }
+}
+
+/// Whether one of two needs is for the parts of a name.
+#[tactic(auto, using(crate::proofs::Plain::more_closed))]
+fn are_opened_two(a: Need, b: Need) -> bool
+    ensures { OnFalse result (AreClosed (a ∷ b ∷ [])) }
+{
+    is_opened_need(a) || is_opened_need(b)
+}
+
+/// Whether one of three needs is for the parts of a name.
+#[tactic(auto, using(crate::proofs::Plain::more_closed))]
+fn are_opened_three(a: Need, b: Need, c: Need) -> bool
+    ensures { OnFalse result (AreClosed (a ∷ b ∷ c ∷ [])) }
+{
+    is_opened_need(a) || are_opened_two(b, c)
+}
+
+/// Whether one of the needs is for the parts of a name.
+fn are_opened(takes: Takes) -> bool
+    ensures { OnFalse result (AreClosed (needs takes)) }
+{
+    match takes {
+        Takes::Nothing => false,
+        Takes::One(a) => is_opened_need(a),
+        Takes::Two(a, b) => are_opened_two(a, b),
+        Takes::Three(a, b, c) => are_opened_three(a, b, c),
+    }
+}
+
+/// Whether the values of a need may be any.
+#[tactic(auto, using(crate::proofs::Plain::parts_plain))]
+fn is_plain_need(need: Need, parts: Parts) -> bool
+    ensures { OnTrue result (AreValues (unfolded (parts_of parts) need)) }
+{
+    match need {
+        Need::Value => true,
+        Need::Runtime => !parts.space,
+        Need::Namespace => false,
+        Need::Index => false,
+        Need::Slotted => false,
+        Need::Instance => false,
+    }
+}
+
+/// Whether the values of two needs may be any.
+#[tactic(auto, using(crate::proofs::Plain::two_plain))]
+fn are_plain_two(a: Need, b: Need, parts: Parts) -> bool
+    ensures { OnTrue result (AreValues (flat_map (unfolded (parts_of parts)) (a ∷ b ∷ []))) }
+{
+    is_plain_need(a, parts) && is_plain_need(b, parts)
+}
+
+/// Whether the values of three needs may be any.
+#[tactic(auto, using(crate::proofs::Plain::three_plain))]
+fn are_plain_three(a: Need, b: Need, c: Need, parts: Parts) -> bool
+    ensures { OnTrue result (AreValues (flat_map (unfolded (parts_of parts)) (a ∷ b ∷ c ∷ []))) }
+{
+    is_plain_need(a, parts) && are_plain_two(b, c, parts)
+}
+
+/// Whether the values of needs may be any.
+#[tactic(auto, using(crate::proofs::Plain::one_plain))]
+fn are_plain(takes: Takes, parts: Parts) -> bool
+    ensures { OnTrue result (AreValues (flat_map (unfolded (parts_of parts)) (needs takes))) }
+{
+    match takes {
+        Takes::Nothing => true,
+        Takes::One(a) => is_plain_need(a, parts),
+        Takes::Two(a, b) => are_plain_two(a, b, parts),
+        Takes::Three(a, b, c) => are_plain_three(a, b, c, parts),
+    }
+}
+
 /// What a row takes for each argument, times the arguments.
 #[tactic(auto, using(crate::proofs::Asking::product_fits))]
 fn product(factor: u8, count: u32) -> usize
@@ -82,27 +183,42 @@ impl Visit<'_> {
         operand_of(self.instr)
     }
 
-    /// The parts that the name takes at run time.
-    pub(crate) fn parts(&self) -> Parts
-        ensures { parts_of result ≡ runtime (name_at self.now.linked.now (operand_in self.now.instr.now)) }
+    /// The parts that the name takes at run time; none where no need is for them.
+    #[tactic(auto, using(crate::proofs::Plain::closed_parts, crate::proofs::Plain::named_parts))]
+    fn parts(&self) -> Parts
+        ensures { flat_map (unfolded (parts_of result)) (needs self.now.row.takes) ≡ needs_of (here_in self.now) }
     {
-        parts_of_name(self.linked, self.operand())
+        if are_opened(self.row.takes) {
+            return parts_of_name(self.linked, self.operand());
+        }
+        Parts {
+            name: false,
+            space: false,
+        }
     }
 
     /// How many arguments stand on top of what the row takes.
-    pub(crate) fn args(&self) -> usize
+    fn args(&self) -> usize
         ensures args { result ≡ args_of (here_in self.now) }
         ensures fits { result < 2 ^ 40 }
     {
         product(self.row.args, arguments_of(self.instr))
     }
 
-    /// How many values are taken.
-    #[tactic(auto, using(crate::proofs::Takes::depth_is))]
-    pub(crate) fn depth(&self) -> usize
-        ensures depth { result ≡ depth_of (here_in self.now) }
-        ensures fits { result < 2 ^ 41 }
+    /// What the rules and the step ask of the instruction.
+    #[tactic(auto, using(crate::proofs::Plain::asked_is))]
+    pub(crate) fn asked(&self) -> Asked
+        ensures { IsAsked (here_in self.now) result }
     {
-        self.args() + takes_count(self.row.takes, self.parts())
+        let parts = self.parts();
+        let args = self.args();
+        let count = takes_count(self.row.takes, parts);
+        let is_plain = are_plain(self.row.takes, parts);
+        Asked {
+            parts,
+            args,
+            depth: args + count,
+            is_plain,
+        }
     }
 }
