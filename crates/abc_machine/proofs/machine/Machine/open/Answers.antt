@@ -4,7 +4,8 @@ use Rattle.abc_machine.specs.Machines.{Opened}
 use Rattle.abc_objects.specs.Opening.{formula_names}
 use Rattle.abc_openings.specs.Begun.{IsBegun, setting}
 use Rattle.abc_program.specs.Linked.{LinkedFile}
-use Rattle.abc_machine.proofs.Opening.{can_begin, limits_kept, names_kept}
+use Rattle.abc_machine.proofs.Opening.{can_begin, names_kept}
+use Rattle.abc_reached.proofs.Beginning.{limits_kept}
 use Rattle.abc_machine.proofs.machine.Machine.open.Goals as goal
 
 pub invariant_of-result : goal.invariant_of-result
