@@ -1,5 +1,5 @@
 -- The runtime parts of a name whose form is tested are as many as its form says, and stand on the stack.
-use Rattle.std.proofs.Common.{◌≡◌, ℕ, suc, ◌+◌, ◌<◌, ◌≤◌, List, [], ◌∷◌, drop, length, take, true, false, refl, sym, ap, ◌∙◌, add-one, drop-cons, arith}
+use Rattle.std.proofs.Common.{◌≡◌, ℕ, ◌+◌, ◌<◌, ◌≤◌, List, [], ◌∷◌, drop, length, take, true, false, refl, sym, ap, ◌∙◌, add-one, drop-cons, arith}
 use Rattle.std.specs.Prelude.{None, Some}
 use Rattle.std.specs.declared.option.Option.{Option}
 use Rattle.abc_cells.specs.declared.values.Value.{Value}

@@ -1,5 +1,5 @@
 -- Rows by what they take: nothing, one value, two, the parts of a name, and these with values under and over them.
-use Rattle.std.proofs.Common.{◌≡◌, ℕ, ◌*◌, ◌+◌, ◌<◌, ◌≤◌, List, [], ◌∷◌, ◌++◌, drop, length, true, refl, sym, ap, ◌∙◌, subst, arith}
+use Rattle.std.proofs.Common.{◌≡◌, ℕ, ◌*◌, ◌+◌, List, [], ◌∷◌, ◌++◌, drop, length, true, sym, ap, ◌∙◌, subst, arith}
 use Rattle.std.specs.List.{flat_map}
 use Rattle.std.proofs.lemmas.List.{drop-drop, length-append}
 use Rattle.abc_cells.specs.declared.values.Value.{Value}
