@@ -6,3 +6,4 @@ pub use Rattle.abc_world.proofs.ObjectsOpened
 pub use Rattle.abc_world.proofs.ObjectsReshaped
 pub use Rattle.abc_world.proofs.Coercing as WorldCoercing
 pub use Rattle.abc_world.proofs.TypeTests as WorldTypeTests
+pub use Rattle.abc_world.proofs.Started

@@ -3,7 +3,7 @@ use Rattle.std.specs.Prelude.{ℕ, ◌+◌, List, [], ◌∷◌, ◌++◌, lengt
 use Rattle.abc_cells.specs.declared.values.Value.{Value}
 use Rattle.abc_heap.specs.declared.records.ScopeEntry.{ScopeEntry}
 use Rattle.abc_shapes.specs.Instructions.{opcode, operand}
-use Rattle.abc_typing.specs.Effects.{Here}
+use Rattle.abc_world.specs.Effects.{Here}
 use Rattle.abc_world.specs.Calling.{Came, Calls, Got, Makes}
 use Rattle.abc_stacks.specs.Frame.{Frame}
 use Rattle.abc_world.specs.Setting.{Setting}

@@ -14,7 +14,7 @@ pub use Rattle.abc_world.specs.ObjectsValues
 pub use Rattle.abc_world.specs.ObjectsOpening
 pub use Rattle.abc_world.specs.ObjectsStands
 pub use Rattle.abc_world.specs.Setting as WorldSetting
-pub use Rattle.abc_world.specs.World as World
+pub use Rattle.abc_world.specs.World
 pub use Rattle.abc_world.specs.Types as WorldTypes
 pub use Rattle.abc_world.specs.Entering as WorldEntering
 pub use Rattle.abc_world.specs.Making as WorldMaking
@@ -38,3 +38,6 @@ pub use Rattle.abc_world.specs.Calling as WorldCalling
 pub use Rattle.abc_world.specs.Ops as WorldOps
 pub use Rattle.abc_world.specs.ObjectsStarts
 pub use Rattle.abc_world.specs.ObjectsGrowing
+pub use Rattle.abc_world.specs.Coercions
+pub use Rattle.abc_world.specs.OpsTypes as Types
+pub use Rattle.abc_world.specs.Routines

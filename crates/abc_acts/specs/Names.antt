@@ -10,7 +10,7 @@ use Rattle.abc_world.specs.SearchNameType.{Name}
 use Rattle.abc_world.specs.SearchSpacesType.{Spaces}
 use Rattle.abc_world.specs.SearchSpacesType.TheVariants as spaces
 use Rattle.abc_tables.specs.declared.names.Multiname.{Multiname}
-use Rattle.abc_typing.specs.Effects.{name_at}
+use Rattle.abc_world.specs.Effects.{name_at}
 use Rattle.abc_world.specs.Ops.{spells}
 use Rattle.abc_world.specs.Setting.{NameForm, NoPart, NoSpace, NoText, Setting, Whole, name_form}
 use Rattle.abc_world.specs.World.{Run, done, some, stuck, throws, ◌>>=◌}

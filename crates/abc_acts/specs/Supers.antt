@@ -19,7 +19,7 @@ use Rattle.abc_world.specs.SearchFoundType.TheVariants.{Missing, WrongSide}
 use Rattle.abc_world.specs.SearchWantType.{Want}
 use Rattle.abc_world.specs.SearchWantType.TheVariants.{Read, Write}
 use Rattle.abc_world.specs.SearchNameType.{Name}
-use Rattle.abc_typing.specs.Rules.{super_layout}
+use Rattle.abc_world.specs.Rules.{super_layout}
 use Rattle.abc_world.specs.Calling.{Came, entered, got}
 use Rattle.abc_world.specs.Entering.{enters_owned}
 use Rattle.abc_world.specs.Making.{host_arguments, set_message}

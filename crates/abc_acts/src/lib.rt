@@ -4,4 +4,8 @@
 
 mod laws;
 
+pub use abc_world::{
+    Arena, Conversion, Linked, OpEnd, Ty, binary, coerce, compare, convert, is_of, span_of_string,
+    unary,
+};
 pub use laws::every_row_has_its_act;

@@ -7,11 +7,11 @@ use Rattle.abc_items.specs.Parts.{body_at, no_body, no_script, script_at}
 use Rattle.abc_program.specs.Owners.{body_of}
 use Rattle.abc_rules.proofs.Pairs.{first_hit}
 use Rattle.abc_stacks.specs.declared.records.Size.{Size}
-use Rattle.abc_states.specs.Turns.{kept}
+use Rattle.abc_makers.specs.Turns.{kept}
 use Rattle.abc_tables.specs.declared.classes.Script.{Script}
 use Rattle.abc_tables.specs.declared.code.Body.{Body}
 use Rattle.abc_tables.specs.declared.tables.Abc.{Abc}
-use Rattle.abc_states.specs.WorldSetting.{Setting, routine_in, routine_of}
+use Rattle.abc_makers.specs.Setting.{Setting, routine_in, routine_of}
 
 pub body_inside : (v : Abc) (n b : ℕ) → body_of v n ≡ Some b → b < length v.bodies
 body_inside v n b e =

@@ -7,19 +7,19 @@ use Rattle.abc_makers.proofs.Keeping.{set_stays}
 use Rattle.abc_objects.proofs.Grown.{grows_on, grows_self}
 use Rattle.abc_program.specs.Linked.{LinkedFile}
 use Rattle.abc_stacks.specs.Frame.{Frames, arguments as operands, newest}
-use Rattle.abc_states.specs.Outer.{Outer, setting, world}
-use Rattle.abc_states.specs.Standing.{IsSet, IsThere, Stays}
-use Rattle.abc_states.specs.declared.state.State.{State}
+use Rattle.abc_makers.specs.Outer.{Outer, setting, world}
+use Rattle.abc_makers.specs.Standing.{IsSet, IsThere, Stays}
+use Rattle.abc_makers.specs.State.{State}
 use Rattle.abc_tables.specs.declared.methods.Method.{Method}
 use Rattle.std.specs.declared.option.Option.{Option}
 use Rattle.abc_cells.specs.declared.values.Value.{Value}
 use Rattle.abc_tables.specs.declared.methods.OptionValue.{OptionValue}
 use Rattle.abc_entering.specs.Arguments.{Makes, coerces_first, receiver}
-use Rattle.abc_states.specs.Stops.{IsOpen}
-use Rattle.abc_states.proofs.Turning.{and_then_is, and_then_same, open_first}
-use Rattle.abc_states.specs.WorldEntering.{coerced, coerces_to, gives_option}
-use Rattle.abc_states.specs.WorldSetting.{Setting, options_of}
-use Rattle.abc_states.specs.World.{Outcome, Run, Stop, Stopped, Went, World, and_then, done, ◌>>=◌}
+use Rattle.abc_makers.specs.Stops.{IsOpen}
+use Rattle.abc_makers.proofs.Turning.{and_then_is, and_then_same, open_first}
+use Rattle.abc_makers.specs.Entering.{coerced, coerces_to, gives_option}
+use Rattle.abc_makers.specs.Setting.{Setting, options_of}
+use Rattle.abc_makers.specs.World.{Outcome, Run, Stop, Stopped, Went, World, and_then, done, ◌>>=◌}
 
 -- what follows the first
 abbrev rest_of : Setting → List ℕ → List (Option OptionValue) → List Value → Value → Run (List Value)

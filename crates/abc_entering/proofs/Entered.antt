@@ -6,14 +6,14 @@ use Rattle.abc_cells.specs.declared.values.Value.{Value}
 use Rattle.abc_stacks.specs.Frame.{Frame, Frames, arguments as operands, newest}
 use Rattle.abc_stacks.specs.declared.records.Wait.{Wait}
 use Rattle.abc_stacks.specs.declared.records.Wait.TheVariants.{Again}
-use Rattle.abc_states.specs.Turns.{Turned, turned}
+use Rattle.abc_makers.specs.Turns.{Turned, turned}
 use Rattle.abc_tables.specs.declared.methods.Method.{Method}
 use Rattle.abc_items.specs.Parts.{script_at}
-use Rattle.abc_states.specs.WorldEntering.{arguments, framed, global}
-use Rattle.abc_states.specs.WorldObjects.{Place, place}
-use Rattle.abc_states.specs.WorldSetting.{Setting, method_of}
-use Rattle.abc_states.specs.World.{Outcome, Run, Went, World, and_then, some, ◌>>=◌}
-use Rattle.abc_states.specs.ActsAt.{Act}
+use Rattle.abc_makers.specs.Entering.{arguments, framed, global}
+use Rattle.abc_makers.specs.Objects.{Place, place}
+use Rattle.abc_makers.specs.Setting.{Setting, method_of}
+use Rattle.abc_makers.specs.World.{Outcome, Run, Went, World, and_then, some, ◌>>=◌}
+use Rattle.abc_makers.specs.At.{Act}
 use Rattle.abc_entering.specs.Arguments.{makes_arguments, receiver}
 use Rattle.abc_entering.specs.Entering.{above, enters_above, puts_on, starts_above}
 

@@ -6,11 +6,11 @@ use Rattle.abc_heap.specs.Heap.{Heap}
 use Rattle.abc_objects.specs.Stands.{StandsOver}
 use Rattle.abc_objects.specs.Values.{Exists}
 use Rattle.abc_program.specs.Linked.{LinkedFile}
-use Rattle.abc_states.specs.Outer.{Outer, setting}
-use Rattle.abc_states.specs.Stops.{answer}
-use Rattle.abc_states.specs.declared.state.Stop.{Stop}
-use Rattle.abc_states.specs.WorldEntering.{gives_option, or_double}
-use Rattle.abc_states.specs.World.{Went, World}
+use Rattle.abc_makers.specs.Outer.{Outer, setting}
+use Rattle.abc_makers.specs.Stops.{answer}
+use Rattle.abc_makers.specs.Stop.{Stop}
+use Rattle.abc_makers.specs.Entering.{gives_option, or_double}
+use Rattle.abc_makers.specs.World.{Went, World}
 use Rattle.abc_entering.specs.Arguments.{IsOptionOf, first_of}
 use Rattle.std.specs.declared.option.Option.{Option}
 use Rattle.std.proofs.lemmas.Bool.{leb-true}
@@ -18,7 +18,7 @@ use Rattle.abc_cells.specs.declared.values.Value.{Value}
 use Rattle.abc_tables.specs.declared.methods.Method.{Method}
 use Rattle.abc_tables.specs.declared.methods.OptionValue.{OptionValue}
 use Rattle.abc_typing.proofs.Member.{and_left}
-use Rattle.abc_states.specs.WorldSetting.{Setting, may_take, options_of, value_of_option}
+use Rattle.abc_makers.specs.Setting.{Setting, may_take, options_of, value_of_option}
 
 -- how many parameters have none
 abbrev pub unoffered : Method → ℕ

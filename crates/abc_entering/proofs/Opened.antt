@@ -2,8 +2,8 @@
 use Rattle.std.proofs.Common.{◌≡◌, refl, ap, subst}
 use Rattle.std.specs.Prelude.{None, Some, IsSome}
 use Rattle.std.specs.declared.option.Option.{Option}
-use Rattle.abc_states.specs.Stops.{IsOpen}
-use Rattle.abc_states.specs.World.{Outcome, Run, Went, World, and_then, some}
+use Rattle.abc_makers.specs.Stops.{IsOpen}
+use Rattle.abc_makers.specs.World.{Outcome, Run, Went, World, and_then, some}
 
 -- it is there
 pub some_open : {X Y : Type 0} (x : Option X) (k : X → Run Y) (w : World) → IsOpen (and_then (some x w) k) → IsSome x

@@ -7,12 +7,12 @@ use Rattle.std.proofs.lemmas.List.{drop_all, drop_at, get_or-reverse, get_or-tak
 use Rattle.abc_cells.specs.declared.values.Value.{Value}
 use Rattle.abc_cells.specs.declared.values.Value.TheVariants.{Undefined}
 use Rattle.abc_stacks.specs.Frame.{Frame, arguments}
-use Rattle.abc_states.specs.Operands.{operand_at}
+use Rattle.abc_makers.specs.Operands.{operand_at}
 use Rattle.abc_tables.specs.Methods.{has_flag}
 use Rattle.abc_tables.specs.declared.methods.Method.{Method}
-use Rattle.abc_states.specs.WorldEntering.{array_of, extra}
-use Rattle.abc_states.specs.WorldSetting.{Setting}
-use Rattle.abc_states.specs.World.{World, done}
+use Rattle.abc_makers.specs.Entering.{array_of, extra}
+use Rattle.abc_makers.specs.Setting.{Setting}
+use Rattle.abc_makers.specs.World.{World, done}
 
 pub count_given : (f : Frame) (n : ℕ) → n ≤ length f.stack → length (arguments n f) ≡ n
 count_given f n h = length-reverse (take n f.stack) ∙ length-take-le n f.stack h

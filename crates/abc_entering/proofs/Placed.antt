@@ -11,9 +11,9 @@ use Rattle.abc_heap.specs.declared.records.ScopeId.{ScopeId}
 use Rattle.abc_heap.specs.declared.records.What.{What}
 use Rattle.abc_heap.specs.declared.records.What.TheVariants as whats
 use Rattle.abc_objects.proofs.Reshaped.{object_there}
-use Rattle.abc_states.specs.Stops.{IsOpen}
-use Rattle.abc_states.specs.WorldObjects.{Place, class_object, flat, instances_of, kept_by, statics_of}
-use Rattle.abc_states.specs.World.{Outcome, Run, World, and_then, object, some, the, ◌>>=◌}
+use Rattle.abc_makers.specs.Stops.{IsOpen}
+use Rattle.abc_makers.specs.Objects.{Place, class_object, flat, instances_of, kept_by, statics_of}
+use Rattle.abc_makers.specs.World.{Outcome, Run, World, and_then, object, some, the, ◌>>=◌}
 use Rattle.abc_entering.proofs.Opened.{some_is}
 
 abbrev Keeps : Type 0

@@ -9,16 +9,16 @@ use Rattle.abc_heap.specs.declared.records.Full.{Full}
 use Rattle.abc_stacks.specs.Frame.{Frame, Frames, arguments as operands, begun, dropped, entered, newest, room_for, waiting}
 use Rattle.abc_stacks.specs.declared.records.Entry.{Entry}
 use Rattle.abc_stacks.specs.declared.records.Wait.{Wait}
-use Rattle.abc_states.specs.Stops.{IsOpen}
-use Rattle.abc_states.specs.Turns.{GoesOn, Halts, Turned, bared, entered_if, kept, turned}
-use Rattle.abc_states.proofs.Turning.{open_first}
+use Rattle.abc_makers.specs.Stops.{IsOpen}
+use Rattle.abc_makers.specs.Turns.{GoesOn, Halts, Turned, bared, entered_if, kept, turned}
+use Rattle.abc_makers.proofs.Turning.{open_first}
 use Rattle.abc_tables.specs.declared.methods.Method.{Method}
 use Rattle.abc_typing.specs.Routines.{Routine}
-use Rattle.abc_states.specs.WorldEntering.{extra, framed}
-use Rattle.abc_states.specs.WorldObjects.{Place}
-use Rattle.abc_states.specs.WorldSetting.{Setting, method_of, routine_of}
-use Rattle.abc_states.specs.World.{Fills, Outcome, Run, Stop, Stopped, Went, World, and_then, done, must, some, ◌>>=◌, ◌>>◌}
-use Rattle.abc_states.specs.ActsAt.{Above, Act, Goes}
+use Rattle.abc_makers.specs.Entering.{extra, framed}
+use Rattle.abc_makers.specs.Objects.{Place}
+use Rattle.abc_makers.specs.Setting.{Setting, method_of, routine_of}
+use Rattle.abc_makers.specs.World.{Fills, Outcome, Run, Stop, Stopped, Went, World, and_then, done, must, some, ◌>>=◌, ◌>>◌}
+use Rattle.abc_makers.specs.At.{Above, Act, Goes}
 use Rattle.abc_entering.specs.Arguments.{receiver}
 use Rattle.abc_entering.specs.Entering.{above, entry_for, puts_on}
 use Rattle.abc_entering.proofs.Opened.{some_goes, some_is, then_is}

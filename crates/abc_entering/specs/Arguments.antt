@@ -12,11 +12,11 @@ use Rattle.abc_objects.specs.Values.{Exists}
 use Rattle.abc_program.specs.Linked.{LinkedFile}
 use Rattle.abc_tables.specs.declared.methods.Method.{Method}
 use Rattle.abc_tables.specs.declared.methods.OptionValue.{OptionValue}
-use Rattle.abc_states.specs.declared.state.State.{State}
-use Rattle.abc_states.specs.declared.state.Stop.{Stop}
-use Rattle.abc_states.specs.WorldEntering.{arguments, coerces_to, gives_option}
-use Rattle.abc_states.specs.WorldSetting.{Setting, method_of, value_of_option}
-use Rattle.abc_states.specs.World.{Run, done, some, stuck, ◌>>=◌}
+use Rattle.abc_makers.specs.State.{State}
+use Rattle.abc_makers.specs.Stop.{Stop}
+use Rattle.abc_makers.specs.Entering.{arguments, coerces_to, gives_option}
+use Rattle.abc_makers.specs.Setting.{Setting, method_of, value_of_option}
+use Rattle.abc_makers.specs.World.{Run, done, some, stuck, ◌>>=◌}
 
 -- what is given first, or the value of its option
 abbrev pub first_of : Setting → List (Option OptionValue) → List Value → Run Value

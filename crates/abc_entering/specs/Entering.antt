@@ -5,13 +5,13 @@ use Rattle.abc_stacks.specs.Frame.{Frame, arguments, dropped, waiting}
 use Rattle.abc_stacks.specs.declared.records.Entry.{Entry}
 use Rattle.abc_stacks.specs.declared.records.Wait.{Wait}
 use Rattle.abc_stacks.specs.declared.records.Wait.TheVariants.{Again}
-use Rattle.abc_states.specs.Turns.{kept}
-use Rattle.abc_states.specs.declared.state.Place.{Place as Where}
-use Rattle.abc_states.specs.WorldEntering.{enters, enters_owned, framed, starts}
-use Rattle.abc_states.specs.WorldObjects.{Place, place}
-use Rattle.abc_states.specs.WorldSetting.{Setting, method_of, routine_of}
-use Rattle.abc_states.specs.World.{Run, done, some, ◌>>=◌}
-use Rattle.abc_states.specs.ActsAt.{Above, Act, Goes}
+use Rattle.abc_makers.specs.Turns.{kept}
+use Rattle.abc_makers.specs.Place.{Place as Where}
+use Rattle.abc_makers.specs.Entering.{enters, enters_owned, framed, starts}
+use Rattle.abc_makers.specs.Objects.{Place, place}
+use Rattle.abc_makers.specs.Setting.{Setting, method_of, routine_of}
+use Rattle.abc_makers.specs.World.{Run, done, some, ◌>>=◌}
+use Rattle.abc_makers.specs.At.{Above, Act, Goes}
 
 -- in the words of the meaning
 abbrev pub placed : Where → Place

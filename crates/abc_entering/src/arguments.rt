@@ -2,21 +2,20 @@ ghost use Rattle.std.specs.Prelude.{◌≡◌, ◌+◌, ◌<◌, ◌≤◌, ◌+
 ghost use Rattle.abc_cells.specs.Filling.{HasRoom};
 ghost use Rattle.abc_objects.specs.Values.{Exists};
 ghost use Rattle.abc_stacks.specs.Frame.{arguments as operands, newest};
-ghost use Rattle.abc_states.specs.Outer.{Outer, setting, world};
-ghost use Rattle.abc_states.specs.Standing.{IsSet, Stays};
-ghost use Rattle.abc_states.specs.Stops.{IsOpen, answer};
-ghost use Rattle.abc_states.specs.WorldEntering.{array_of as array_so, coerced, extra};
-ghost use Rattle.abc_states.specs.WorldSetting.{may_take as may_take_so, options_of};
-ghost use Rattle.abc_states.specs.World.{World};
+ghost use Rattle.abc_makers.specs.Outer.{Outer, setting, world};
+ghost use Rattle.abc_makers.specs.Standing.{IsSet, Stays};
+ghost use Rattle.abc_makers.specs.Stops.{IsOpen, answer};
+ghost use Rattle.abc_makers.specs.Entering.{array_of as array_so, coerced, extra};
+ghost use Rattle.abc_makers.specs.Setting.{may_take as may_take_so, options_of};
+ghost use Rattle.abc_makers.specs.World.{World};
 ghost use Rattle.abc_entering.specs.Arguments.{HasOptions, Makes, coerces_first, first_of, list_of, listed, receiver, with_values};
 
 use crate::methods::{ARGUMENTS, REST};
 use crate::options::option_given;
 use abc_cells::Value;
 use abc_link::Linked;
-use abc_makers::make_array;
+use abc_makers::{State, Stop, coerce, make_array, operand};
 use abc_stacks::Pile;
-use abc_states::{State, Stop, coerce, operand};
 use abc_tables::{Method, has_flag};
 
 /// The k-th argument of so many on top of the operands, the first the one that was pushed first; past them the value of the

@@ -1,9 +1,9 @@
 ghost use Rattle.std.specs.Prelude.{◌≡◌, ◌<◌, ◌≤◌, ◌∷◌, length, drop, OnOk};
 ghost use Rattle.abc_stacks.specs.Frame.{arguments as operands, newest};
-ghost use Rattle.abc_states.specs.Outer.{Outer, setting, world};
-ghost use Rattle.abc_states.specs.Standing.{IsSet};
-ghost use Rattle.abc_states.specs.Stops.{IsOpen, answer};
-ghost use Rattle.abc_states.specs.Turns.{Runs};
+ghost use Rattle.abc_makers.specs.Outer.{Outer, setting, world};
+ghost use Rattle.abc_makers.specs.Standing.{IsSet};
+ghost use Rattle.abc_makers.specs.Stops.{IsOpen, answer};
+ghost use Rattle.abc_makers.specs.Turns.{Runs};
 ghost use Rattle.abc_entering.specs.Arguments.{IsKnown, Makes, makes_arguments, receiver, with_values};
 ghost use Rattle.abc_entering.specs.Entering.{enters_above, enters_owned_above, placed, puts_on, starts_above};
 
@@ -13,9 +13,9 @@ use crate::places::{global_of, place_of_owner};
 use abc_base::HostClass;
 use abc_cells::Value;
 use abc_link::Linked;
+use abc_makers::{Place, State, Stop};
 use abc_moves::try_enter_with;
 use abc_stacks::Wait;
-use abc_states::{Place, State, Stop};
 
 /// Makes the first locals of a method: its receiver, and its arguments, of which so many are given on top of the operands.
 pub fn prepare(

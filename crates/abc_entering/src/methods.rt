@@ -1,14 +1,14 @@
 ghost use Rattle.std.specs.Prelude.{◌≡◌, IsSome, Some, slice_get};
 ghost use Rattle.abc_program.specs.Owners.{body_of};
-ghost use Rattle.abc_states.specs.Outer.{Outer, setting};
-ghost use Rattle.abc_states.specs.Turns.{kept};
+ghost use Rattle.abc_makers.specs.Outer.{Outer, setting};
+ghost use Rattle.abc_makers.specs.Turns.{kept};
 ghost use Rattle.abc_typing.specs.Routines.{takes_array as takes_array_so};
-ghost use Rattle.abc_states.specs.WorldSetting.{may_take as may_take_so, routine_of};
+ghost use Rattle.abc_makers.specs.Setting.{may_take as may_take_so, routine_of};
 ghost use Rattle.abc_entering.specs.Entering.{entry_for, placed};
 
 use abc_link::Linked;
+use abc_makers::Place;
 use abc_stacks::{Entry, Size};
-use abc_states::Place;
 use abc_tables::{Method, has_flag};
 
 /// The flag of a method that takes an array of all arguments.

@@ -1,15 +1,15 @@
 ghost use Rattle.std.specs.Prelude.{◌≡◌, ◌<◌, ◌^◌, Some};
 ghost use Rattle.abc_starts.specs.Starts.{space_value as space_value_so};
-ghost use Rattle.abc_states.specs.Outer.{Outer, setting};
-ghost use Rattle.abc_states.specs.Stops.{answer};
-ghost use Rattle.abc_states.specs.WorldEntering.{gives_option};
-ghost use Rattle.abc_states.specs.WorldSetting.{Setting, raw_value, value_of_option};
-ghost use Rattle.abc_states.specs.World.{World};
+ghost use Rattle.abc_makers.specs.Outer.{Outer, setting};
+ghost use Rattle.abc_makers.specs.Stops.{answer};
+ghost use Rattle.abc_makers.specs.Entering.{gives_option};
+ghost use Rattle.abc_makers.specs.Setting.{Setting, raw_value, value_of_option};
+ghost use Rattle.abc_makers.specs.World.{World};
 
 use abc_base::Fault;
 use abc_cells::Value;
 use abc_link::Linked;
-use abc_states::{Stop, int_value, string_at, uint_value};
+use abc_makers::{Stop, int_value, string_at, uint_value};
 use abc_tables::{OptionValue, ValueKind};
 
 /// A namespace of the pool; 0 is null.

@@ -1,17 +1,17 @@
 ghost use Rattle.std.specs.Prelude.{◌≡◌, ◌<◌, length};
 ghost use Rattle.abc_objects.specs.Stands.{StandsOver};
 ghost use Rattle.abc_objects.specs.Values.{Exists};
-ghost use Rattle.abc_states.specs.Outer.{Outer, world};
-ghost use Rattle.abc_states.specs.Stops.{IsOpen};
-ghost use Rattle.abc_states.specs.WorldEntering.{global};
-ghost use Rattle.abc_states.specs.WorldObjects.{kept_by, instances_of, place_of_owner as owner_place, statics_of};
-ghost use Rattle.abc_states.specs.World.{Went};
+ghost use Rattle.abc_makers.specs.Outer.{Outer, world};
+ghost use Rattle.abc_makers.specs.Stops.{IsOpen};
+ghost use Rattle.abc_makers.specs.Entering.{global};
+ghost use Rattle.abc_makers.specs.Objects.{kept_by, instances_of, place_of_owner as owner_place, statics_of};
+ghost use Rattle.abc_makers.specs.World.{Went};
 ghost use Rattle.abc_entering.specs.Entering.{placed};
 
 use abc_cells::Value;
 use abc_heap::What;
 use abc_link::{Linked, Owner};
-use abc_states::{Place, State};
+use abc_makers::{Place, State};
 
 /// The global object of a script.
 pub fn global_of(linked: &Linked, s: &State, script: u32) -> Value

@@ -4,3 +4,7 @@ pub mod Sounded
 pub mod Typed
 pub mod Waited
 pub mod Fared
+pub use Rattle.abc_unstuck.proofs.SoundLists as Lists
+pub use Rattle.abc_unstuck.proofs.GivenFiled as Filed
+pub use Rattle.abc_unstuck.proofs.Never
+pub use Rattle.abc_unstuck.proofs.Witness

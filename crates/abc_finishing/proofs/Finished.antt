@@ -19,7 +19,7 @@ use Rattle.abc_states.specs.WorldSetting.{Setting}
 use Rattle.abc_states.specs.World.{World, and_then, some}
 use Rattle.abc_states.specs.declared.state.How.{How}
 use Rattle.abc_states.specs.declared.state.State.{State}
-use Rattle.abc_unstuck.proofs.SoundLists.{inside}
+use Rattle.abc_fair.proofs.Lists.{inside}
 use Rattle.abc_finishing.specs.Fairly.{IsFairTurn, IsHeldTurn}
 use Rattle.abc_finishing.specs.Steps.{FailsIn, GoesOnIn, StepsIn, halted_as, stepped}
 use Rattle.abc_finishing.specs.declared.halting.Halt.TheVariants as halts

@@ -4,3 +4,7 @@ pub mod Returned
 pub mod Started
 pub mod Finished
 pub mod Sounding
+pub use Rattle.abc_fair.proofs.Sounded
+pub use Rattle.abc_fair.proofs.Typed
+pub use Rattle.abc_fair.proofs.Never
+pub use Rattle.abc_fair.proofs.Witness

@@ -28,9 +28,9 @@ use Rattle.abc_states.specs.World.{Outcome, Stopped, Went, World, and_then, done
 use Rattle.abc_states.specs.declared.state.State.{State}
 use Rattle.abc_typing.proofs.Lists.{Each-reverse}
 use Rattle.abc_typing.specs.Lists.{Each}
-use Rattle.abc_unstuck.proofs.GivenFiled.{definitions, some_script}
-use Rattle.abc_unstuck.proofs.Never.{stays_sound}
-use Rattle.abc_unstuck.proofs.SoundLists.{each_at}
+use Rattle.abc_fair.proofs.Filed.{definitions, some_script}
+use Rattle.abc_fair.proofs.Never.{stays_sound}
+use Rattle.abc_fair.proofs.Lists.{each_at}
 use Rattle.abc_finishing.specs.Fairly.{CanStart, FirstCanTake, HasArguments, IsFairTurn}
 use Rattle.abc_finishing.specs.Steps.{IsReached, machine, step_here, stepped}
 use Rattle.abc_finishing.proofs.Stepped.{free_of}

@@ -1,3 +1,4 @@
 pub mod Starting
 pub mod Steps
 pub mod Fairly
+pub use Rattle.abc_fair.specs.Running

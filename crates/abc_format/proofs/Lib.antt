@@ -6,3 +6,4 @@ pub mod Canon
 pub mod Least
 pub mod Determined
 pub mod Fixed
+pub use Rattle.abc_base.proofs.Spelling

@@ -5,3 +5,4 @@ pub mod Ends
 pub mod Law
 pub mod Canonical
 pub mod Reasons
+pub use Rattle.abc_base.specs.Numbers as BaseNumbers

@@ -5,4 +5,5 @@
 
 mod reason;
 
+pub use abc_base::{Bytes, NoMemory, Table, len_u30, len_u32};
 pub use reason::Reason;

@@ -2,3 +2,4 @@ pub mod Searched
 pub mod Ranked
 pub mod Placing
 pub mod Walks
+pub use Rattle.abc_base.proofs.Past

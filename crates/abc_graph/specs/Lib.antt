@@ -3,3 +3,5 @@ pub mod Searching
 pub mod Ranks
 pub mod Orders
 pub mod Ways
+pub use Rattle.abc_base.specs.declared.names.HostClass
+pub use Rattle.abc_base.specs.Names

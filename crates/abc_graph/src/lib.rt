@@ -9,6 +9,7 @@ mod search;
 mod stack;
 mod ways;
 
+pub use abc_base::{HostClass, NoMemory, Table};
 pub use cycles::first_return;
 pub use order::{Order, order_of};
 pub use ranks::ranks_of;

@@ -4,7 +4,7 @@ ghost use Rattle.abc_heirs.specs.Heirs.{inherited, list_at};
 ghost use Rattle.abc_heirs.specs.Listed.{joined};
 
 use crate::keyed::Keyed;
-use abc_base::{NoMemory, Table};
+use abc_graph::{NoMemory, Table};
 use std::alloc::Global;
 use std::marker::Model;
 

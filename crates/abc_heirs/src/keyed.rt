@@ -2,7 +2,7 @@ ghost use Rattle.std.specs.Prelude.{◌≡◌, ◌<◌, ◌++◌, ◌^◌, [], l
 ghost use Rattle.abc_index.specs.Index.{Finds, first};
 ghost use Rattle.abc_heirs.specs.Listed.{empty, joined as joined_of};
 
-use abc_base::{NoMemory, Table};
+use abc_graph::{NoMemory, Table};
 use abc_index::index_of;
 use indexmap::IndexMap;
 use std::alloc::Global;

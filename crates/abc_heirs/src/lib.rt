@@ -5,4 +5,5 @@
 mod heirs;
 mod keyed;
 
+pub use abc_graph::HostClass;
 pub use heirs::Heirs;

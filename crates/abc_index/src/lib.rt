@@ -6,6 +6,7 @@ mod groups;
 mod index;
 mod texts;
 
+pub use abc_base::{HostClass, NoMemory, Table};
 pub use by_text::places_by_text;
 pub use groups::groups_of;
 pub use index::index_of;

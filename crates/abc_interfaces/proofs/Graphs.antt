@@ -5,13 +5,13 @@ use Rattle.std.specs.List.{flat_map}
 use Rattle.std.proofs.lemmas.List.{get_or-map, length-map}
 use Rattle.std.proofs.lemmas.List.Elements.{All-append, All-cons}
 use Rattle.abc_graph.specs.Graph.{IsGraph}
-use Rattle.abc_names.specs.Instances.{no_instance}
-use Rattle.abc_names.specs.Meaning.{resolve}
-use Rattle.abc_names.specs.declared.named.Named.{Named}
-use Rattle.abc_names.specs.declared.named.Named.TheVariants as named
+use Rattle.abc_program.specs.Instances.{no_instance}
+use Rattle.abc_program.specs.Meaning.{resolve}
+use Rattle.abc_program.specs.Named.{Named}
+use Rattle.abc_program.specs.Named.TheVariants as named
 use Rattle.abc_program.specs.Interfaces.{above_class, class_graph}
-use Rattle.abc_rules.proofs.Within.{resolve_within}
-use Rattle.abc_items.specs.Bases.{classes_named, interfaces_named, interfaces_of, is_interface}
+use Rattle.abc_program.proofs.Within.{resolve_within}
+use Rattle.abc_program.specs.Bases.{classes_named, interfaces_named, interfaces_of, is_interface}
 use Rattle.abc_tables.specs.Methods.{has_flag}
 use Rattle.abc_tables.specs.declared.classes.Instance.{Instance}
 use Rattle.abc_tables.specs.declared.tables.Abc.{Abc}

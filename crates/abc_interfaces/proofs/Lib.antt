@@ -4,3 +4,4 @@ pub mod Graphs
 pub mod Uniting
 pub mod Marking
 pub mod Settling
+pub use Rattle.abc_program.proofs.Finding

@@ -5,7 +5,7 @@ use Rattle.std.proofs.lemmas.List.{get_or_default, get_or_past}
 use Rattle.std.proofs.lemmas.List.Elements.{Contains-append_left, Contains-push, Contains-push_cases}
 use Rattle.abc_graph.specs.Graph.{Has, IsReached}
 use Rattle.abc_program.specs.Interfaces.{class_graph}
-use Rattle.abc_items.specs.Bases.{is_interface}
+use Rattle.abc_program.specs.Bases.{is_interface}
 use Rattle.abc_tables.specs.declared.tables.Abc.{Abc}
 use Rattle.abc_interfaces.specs.Sets.{AddsEach, IsAbove, IsSetOf, ListsMarked}
 

@@ -1,1 +1,25 @@
 pub mod Sets
+pub use Rattle.abc_program.specs.Interfaces as ProgramInterfaces
+pub use Rattle.abc_program.specs.Linked
+pub use Rattle.abc_program.specs.Owners
+pub use Rattle.abc_program.specs.Slots
+pub use Rattle.abc_program.specs.Traits
+pub use Rattle.abc_program.specs.Types
+pub use Rattle.abc_program.specs.Parts
+pub use Rattle.abc_program.specs.Places
+pub use Rattle.abc_program.specs.declared.part.Part
+pub use Rattle.abc_program.specs.declared.types.SlotInfo
+pub use Rattle.abc_program.specs.Numbering
+pub use Rattle.abc_program.specs.Tree
+pub use Rattle.abc_program.specs.declared.types.Kind
+pub use Rattle.abc_program.specs.declared.types.Ty
+pub use Rattle.abc_program.specs.declared.part.LayoutId
+pub use Rattle.abc_program.specs.Firsts
+pub use Rattle.abc_program.specs.Rules
+pub use Rattle.abc_program.specs.ItemsParts
+pub use Rattle.abc_program.specs.ItemsTraits
+pub use Rattle.abc_program.specs.Pool
+pub use Rattle.abc_program.specs.Meanings
+pub use Rattle.abc_program.specs.Numbers
+pub use Rattle.abc_program.specs.Heirs
+pub use Rattle.abc_program.specs.Listed

@@ -6,7 +6,7 @@ use Rattle.std.specs.declared.hash.BuildHasherDefault.{BuildHasherDefault}
 use Rattle.indexmap.specs.IndexSet.{IndexSet}
 use Rattle.abc_graph.specs.Graph.{Leads}
 use Rattle.abc_program.specs.Interfaces.{class_graph}
-use Rattle.abc_items.specs.Bases.{is_interface}
+use Rattle.abc_program.specs.Bases.{is_interface}
 use Rattle.abc_tables.specs.declared.tables.Abc.{Abc}
 
 abbrev pub Set : Type 0

@@ -1,12 +1,12 @@
 ghost use Rattle.std.specs.Prelude.{◌≡◌, ◌++◌, IfOk, OnOk};
 ghost use Rattle.std.specs.List.{flat_map};
-ghost use Rattle.abc_names.specs.Instances.{instance_at};
-ghost use Rattle.abc_names.specs.Meaning.{resolve};
+ghost use Rattle.abc_program.specs.Instances.{instance_at};
+ghost use Rattle.abc_program.specs.Meaning.{resolve};
 ghost use Rattle.abc_program.specs.Interfaces.{above_class as above_class_of, class_graph as class_graph_of};
-ghost use Rattle.abc_items.specs.Bases.{classes_named, interfaces_named, is_interface as is_interface_class};
+ghost use Rattle.abc_program.specs.Bases.{classes_named, interfaces_named, is_interface as is_interface_class};
 
 use abc_base::{NoMemory, Table};
-use abc_names::{Meanings, Named};
+use abc_program::{Meanings, Named};
 use abc_tables::{Abc, Instance, has_flag};
 use std::alloc::Global;
 

@@ -5,7 +5,7 @@ use crate::graph::class_graph;
 use crate::sets::{has, sets_of};
 use crate::visits::visits;
 use abc_base::{NoMemory, Table};
-use abc_names::Meanings;
+use abc_program::Meanings;
 use abc_tables::Abc;
 use indexmap::IndexSet;
 use std::alloc::Global;

@@ -7,4 +7,8 @@ mod set;
 mod sets;
 mod visits;
 
+pub use abc_program::{
+    Heirs, Item, ItemKind, Kind, LayoutId, LinkError, LinkRule, Meanings, NameTables, Named, Names,
+    Owner, Part, SlotInfo, Start, Ty, check_rules, meanings_of, part_key,
+};
 pub use interfaces::Interfaces;

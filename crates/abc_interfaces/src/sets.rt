@@ -3,7 +3,7 @@ ghost use Rattle.std.specs.List.{flat_map, list_any};
 ghost use Rattle.abc_graph.specs.Graph.{IsGraph, targets};
 ghost use Rattle.abc_interfaces.specs.Sets.{AreSets, AreUnset, HasSets, IsSetOf, ListsBelow, ListsMarked, Settles, SettlesEach, given_by, is_settled as is_settled_in, keys_at as keys_in_sets};
 ghost use Rattle.abc_program.specs.Interfaces.{class_graph};
-ghost use Rattle.abc_items.specs.Bases.{is_interface as is_interface_class};
+ghost use Rattle.abc_program.specs.Bases.{is_interface as is_interface_class};
 
 use crate::graph::is_interface;
 use crate::set::set_of;

@@ -2,7 +2,7 @@
 use Rattle.std.proofs.Common.{◌≡◌, ℕ, ◌+◌, ◌<◌, ◌≤◌, ◌⊎◌, inl, inr, Some, None, nat_eq, if◌then◌else◌, ◌∙◌, refl, sym, ap, subst, arith}
 use Rattle.std.specs.declared.option.Option.{Option}
 use Rattle.std.proofs.lemmas.Bool.{cases_lt}
-use Rattle.abc_tables.specs.declared.tables.Abc.{Abc}
+use Rattle.abc_starts.specs.Abc.{Abc}
 use Rattle.abc_items.specs.declared.items.LinkRule.{LinkRule}
 use Rattle.abc_items.specs.declared.items.LinkRule.TheVariants as rules
 use Rattle.abc_items.specs.declared.items.ItemKind.{ItemKind}

@@ -2,15 +2,15 @@
 use Rattle.std.specs.Prelude.{ℕ, List, [], ◌∷◌, Bool, true, false, nat_eq, not, ◌&&◌, Some, if◌then◌else◌, map}
 use Rattle.std.specs.declared.option.Option.{Option}
 use Rattle.std.specs.List.{list_any, flat_map}
-use Rattle.abc_base.specs.declared.names.HostClass.{HostClass}
-use Rattle.abc_base.specs.declared.names.HostClass.TheVariants as hosts
-use Rattle.abc_names.specs.Instances.{instance_at}
-use Rattle.abc_names.specs.Meaning.{resolve}
-use Rattle.abc_names.specs.declared.named.Named.{Named}
-use Rattle.abc_names.specs.declared.named.Named.TheVariants as named
-use Rattle.abc_tables.specs.Methods.{has_flag}
-use Rattle.abc_tables.specs.declared.classes.Instance.{Instance}
-use Rattle.abc_tables.specs.declared.tables.Abc.{Abc}
+use Rattle.abc_graph.specs.HostClass.{HostClass}
+use Rattle.abc_graph.specs.HostClass.TheVariants as hosts
+use Rattle.abc_starts.specs.Instances.{instance_at}
+use Rattle.abc_starts.specs.Meaning.{resolve}
+use Rattle.abc_starts.specs.Named.{Named}
+use Rattle.abc_starts.specs.Named.TheVariants as named
+use Rattle.abc_starts.specs.Methods.{has_flag}
+use Rattle.abc_starts.specs.Instance.{Instance}
+use Rattle.abc_starts.specs.Abc.{Abc}
 
 abbrev pub is_interface : Abc → ℕ → Bool
 is_interface v k = has_flag (instance_at v k).flags 0x04

@@ -1,7 +1,7 @@
 -- The first items that break a rule.
 use Rattle.std.specs.Prelude.{◌≡◌, ℕ, ◌<◌, ◌^◌, Some, None, length}
 use Rattle.std.specs.declared.option.Option.{Option}
-use Rattle.abc_tables.specs.declared.tables.Abc.{Abc}
+use Rattle.abc_starts.specs.Abc.{Abc}
 use Rattle.abc_items.specs.declared.error.LinkError.{LinkError}
 use Rattle.abc_items.specs.declared.error.LinkError.TheVariants as errors
 use Rattle.abc_items.specs.declared.items.LinkRule.{LinkRule}

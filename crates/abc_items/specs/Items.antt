@@ -1,6 +1,6 @@
 -- The items of a file, and their order.
 use Rattle.std.specs.Prelude.{◌≡◌, ℕ, ◌<◌, ◌⊎◌, List, codes, length}
-use Rattle.abc_tables.specs.declared.tables.Abc.{Abc}
+use Rattle.abc_starts.specs.Abc.{Abc}
 use Rattle.abc_items.specs.declared.items.LinkRule.{LinkRule}
 use Rattle.abc_items.specs.declared.items.LinkRule.TheVariants as rules
 use Rattle.abc_items.specs.declared.items.ItemKind.{ItemKind}

@@ -1,15 +1,15 @@
 -- The methods that a file names.
 use Rattle.std.specs.Prelude.{ℕ, List, [], ◌∷◌, ◌++◌, Bool, nat_eq, nat_lt, ◌&&◌, if◌then◌else◌, count_by, map}
 use Rattle.std.specs.List.{flat_map}
-use Rattle.abc_tables.specs.Methods.{has_flag}
-use Rattle.abc_tables.specs.declared.classes.ClassInfo.{ClassInfo}
-use Rattle.abc_tables.specs.declared.classes.Instance.{Instance}
-use Rattle.abc_tables.specs.declared.classes.Script.{Script}
-use Rattle.abc_tables.specs.declared.code.Body.{Body}
-use Rattle.abc_tables.specs.declared.tables.Abc.{Abc}
-use Rattle.abc_tables.specs.declared.traits.TraitBody.{TraitBody}
-use Rattle.abc_tables.specs.declared.traits.TraitBody.TheVariants as traits
-use Rattle.abc_tables.specs.declared.traits.TraitInfo.{TraitInfo}
+use Rattle.abc_starts.specs.Methods.{has_flag}
+use Rattle.abc_starts.specs.ClassInfo.{ClassInfo}
+use Rattle.abc_starts.specs.Instance.{Instance}
+use Rattle.abc_starts.specs.Script.{Script}
+use Rattle.abc_starts.specs.Body.{Body}
+use Rattle.abc_starts.specs.Abc.{Abc}
+use Rattle.abc_starts.specs.TraitBody.{TraitBody}
+use Rattle.abc_starts.specs.TraitBody.TheVariants as traits
+use Rattle.abc_starts.specs.TraitInfo.{TraitInfo}
 
 abbrev pub methods_in : TraitBody → List ℕ
 methods_in (traits.Slot id ty value constant) = []

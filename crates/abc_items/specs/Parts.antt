@@ -1,12 +1,12 @@
 -- The parts of a file by their numbers; no number past the end is asked for.
 use Rattle.std.specs.Prelude.{ℕ, List, [], get_or}
-use Rattle.abc_names.specs.Instances.{instance_at}
-use Rattle.abc_tables.specs.declared.methods.Method.{Method}
-use Rattle.abc_tables.specs.declared.traits.TraitInfo.{TraitInfo}
-use Rattle.abc_tables.specs.declared.classes.ClassInfo.{ClassInfo}
-use Rattle.abc_tables.specs.declared.classes.Script.{Script}
-use Rattle.abc_tables.specs.declared.code.Body.{Body}
-use Rattle.abc_tables.specs.declared.tables.Abc.{Abc}
+use Rattle.abc_starts.specs.Instances.{instance_at}
+use Rattle.abc_starts.specs.Method.{Method}
+use Rattle.abc_starts.specs.TraitInfo.{TraitInfo}
+use Rattle.abc_starts.specs.ClassInfo.{ClassInfo}
+use Rattle.abc_starts.specs.Script.{Script}
+use Rattle.abc_starts.specs.Body.{Body}
+use Rattle.abc_starts.specs.Abc.{Abc}
 use Rattle.abc_items.specs.declared.items.ItemKind.{ItemKind}
 use Rattle.abc_items.specs.declared.items.ItemKind.TheVariants as kinds
 

@@ -1,8 +1,8 @@
 -- When an item of a file breaks a rule of linking, and the first broken rule.
 use Rattle.std.specs.Prelude.{ℕ, ◌<◌, ◌⊎◌, Bool, true, false, nat_eq, nat_lt, ◌||◌, IsTrue, length}
 use Rattle.abc_graph.specs.Graph.{Returns}
-use Rattle.abc_tables.specs.declared.code.Body.{Body}
-use Rattle.abc_tables.specs.declared.tables.Abc.{Abc}
+use Rattle.abc_starts.specs.Body.{Body}
+use Rattle.abc_starts.specs.Abc.{Abc}
 use Rattle.abc_items.specs.declared.items.LinkRule.{LinkRule}
 use Rattle.abc_items.specs.declared.items.LinkRule.TheVariants as rules
 use Rattle.abc_items.specs.declared.items.ItemKind.{ItemKind}

@@ -2,17 +2,17 @@
 use Rattle.std.specs.Prelude.{ℕ, List, [], ◌∷◌, Bool, true, false, nat_eq, not, ◌||◌, ◌&&◌, Some, None, is_some}
 use Rattle.std.specs.declared.option.Option.{Option}
 use Rattle.std.specs.List.{list_any}
-use Rattle.abc_names.specs.Instances.{instance_at}
-use Rattle.abc_names.specs.Keys.{same_name}
-use Rattle.abc_names.specs.Meaning.{type_named}
-use Rattle.abc_names.specs.Pool.{definite_name, is_plain, name, qname}
-use Rattle.abc_names.specs.declared.named.Named.{Named}
-use Rattle.abc_names.specs.declared.named.Named.TheVariants as named
-use Rattle.abc_tables.specs.declared.code.Handler.{Handler}
-use Rattle.abc_tables.specs.declared.tables.Abc.{Abc}
-use Rattle.abc_tables.specs.declared.traits.TraitBody.{TraitBody}
-use Rattle.abc_tables.specs.declared.traits.TraitBody.TheVariants as traits
-use Rattle.abc_tables.specs.declared.traits.TraitInfo.{TraitInfo}
+use Rattle.abc_starts.specs.Instances.{instance_at}
+use Rattle.abc_starts.specs.Keys.{same_name}
+use Rattle.abc_starts.specs.Meaning.{type_named}
+use Rattle.abc_starts.specs.Pool.{definite_name, is_plain, name, qname}
+use Rattle.abc_starts.specs.Named.{Named}
+use Rattle.abc_starts.specs.Named.TheVariants as named
+use Rattle.abc_starts.specs.Handler.{Handler}
+use Rattle.abc_starts.specs.Abc.{Abc}
+use Rattle.abc_starts.specs.TraitBody.{TraitBody}
+use Rattle.abc_starts.specs.TraitBody.TheVariants as traits
+use Rattle.abc_starts.specs.TraitInfo.{TraitInfo}
 use Rattle.abc_items.specs.Parts.{method_at, body_at, own_table, instance_table}
 use Rattle.abc_starts.specs.Starts.{start_of}
 use Rattle.abc_items.specs.declared.items.ItemKind.{ItemKind}

@@ -2,7 +2,7 @@ ghost use Rattle.std.specs.Prelude.{◌≡◌};
 ghost use Rattle.abc_items.specs.declared.error.LinkError.TheVariants as errors;
 
 use crate::items::{Item, LinkRule};
-use abc_base::NoMemory;
+use abc_graph::NoMemory;
 use thiserror::Error;
 
 /// Why a file is not linked.

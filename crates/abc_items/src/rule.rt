@@ -5,13 +5,13 @@ ghost use Rattle.abc_items.specs.Firsts.{IsFirstOfKind, IsFirstItem, IsFirstBelo
 
 use crate::error::LinkError;
 use crate::items::{Item, ItemKind, LinkRule};
-use abc_base::NoMemory;
-use abc_tables::Abc;
+use abc_graph::NoMemory;
+use abc_starts::Abc;
 use std::alloc::Global;
 
 /// A rule of linking over a file, as a test of each item.
 pub trait Rule {
-    ghost use Rattle.abc_tables.specs.declared.tables.Abc.{Abc};
+    ghost use Rattle.abc_starts.specs.Abc.{Abc};
     ghost use Rattle.abc_items.specs.declared.items.LinkRule.{LinkRule};
 
     ghost file: { Self → Abc };

@@ -4,7 +4,7 @@ ghost use Rattle.abc_items.specs.Traits.{any_type as any_of, own_type_fails as o
 
 use crate::items::{Item, ItemKind};
 use crate::parts::{handlers, instance_table, own_table, parameters, return_type};
-use abc_tables::{Abc, TraitBody, TraitInfo};
+use abc_starts::{Abc, TraitBody, TraitInfo};
 
 /// A test of the name of a type.
 pub trait TypeTest {

@@ -9,8 +9,7 @@ ghost use Rattle.abc_program.specs.Linked.{IsLinkedFile};
 ghost use Rattle.abc_program.specs.Tree.{IsBelow, IsCommon};
 ghost use Rattle.abc_kinds.specs.Steps.{ClimbsTo, NearsTo};
 
-use abc_link::Linked;
-pub use abc_link::kind_of_type;
+pub use abc_link::{Linked, Part, Ty, kind_of_type};
 pub use abc_program::{Kind, LayoutId};
 pub use ladder::Ladder;
 

@@ -7,17 +7,17 @@ use Rattle.std.proofs.lemmas.List.Elements.{All-append, All-cons, Contains-appen
 use Rattle.abc_base.specs.declared.names.HostClass.{HostClass}
 use Rattle.abc_base.specs.declared.names.HostClass.TheVariants as hosts
 use Rattle.abc_graph.specs.Orders.{IsOrder, base, place}
-use Rattle.abc_names.specs.Instances.{instance_at}
-use Rattle.abc_names.specs.Meaning.{resolve}
-use Rattle.abc_names.specs.declared.named.Named.{Named}
-use Rattle.abc_names.specs.declared.named.Named.TheVariants as named
+use Rattle.abc_program.specs.Instances.{instance_at}
+use Rattle.abc_program.specs.Meaning.{resolve}
+use Rattle.abc_program.specs.Named.{Named}
+use Rattle.abc_program.specs.Named.TheVariants as named
 use Rattle.abc_tables.specs.declared.tables.Abc.{Abc}
 use Rattle.abc_layouts.specs.Forest.{class_bases, class_in}
 use Rattle.abc_layouts.specs.Numbering.{AddsBodies, AddsBody, AddsEach, AddsParts, HasHosts}
 use Rattle.abc_program.specs.Numbering.{IsBehind, part_at}
 use Rattle.abc_program.specs.Parts.{HasLayout, base_part, has_activation, parent}
-use Rattle.abc_items.specs.Bases.{base_named}
-use Rattle.abc_items.specs.Parts.{body_at}
+use Rattle.abc_program.specs.Bases.{base_named}
+use Rattle.abc_program.specs.ItemsParts.{body_at}
 use Rattle.abc_tables.specs.declared.classes.Instance.{Instance}
 use Rattle.abc_program.specs.declared.part.Part.{Part}
 use Rattle.abc_program.specs.declared.part.Part.TheVariants as parts

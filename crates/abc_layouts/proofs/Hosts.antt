@@ -3,7 +3,7 @@ use Rattle.std.proofs.Common.{◌≡◌, ℕ, zero, suc, ◌<◌, List, [], ◌�
 use Rattle.std.proofs.lemmas.List.{get_or-map, length-map}
 use Rattle.abc_base.specs.declared.names.HostClass.{HostClass}
 use Rattle.abc_base.specs.declared.names.HostClass.TheVariants as hosts
-use Rattle.abc_names.specs.Meaning.{host_classes}
+use Rattle.abc_program.specs.Meaning.{host_classes}
 use Rattle.abc_tables.specs.declared.tables.Abc.{Abc}
 use Rattle.abc_layouts.specs.Numbering.{HasHosts}
 use Rattle.abc_program.specs.Numbering.{IsBehind, part_at}

@@ -4,11 +4,11 @@ use Rattle.std.specs.declared.option.Option.{Option}
 use Rattle.std.proofs.lemmas.List.Elements.{Contains-append_right}
 use Rattle.abc_base.specs.declared.names.HostClass.{HostClass}
 use Rattle.abc_graph.specs.Orders.{IsOrder}
-use Rattle.abc_names.specs.Meaning.{host_classes}
+use Rattle.abc_program.specs.Meaning.{host_classes}
 use Rattle.abc_tables.specs.declared.tables.Abc.{Abc}
-use Rattle.abc_items.specs.Parts.{body_at}
-use Rattle.abc_names.specs.declared.named.Named.{Named}
-use Rattle.abc_names.specs.Meaning.{resolve}
+use Rattle.abc_program.specs.ItemsParts.{body_at}
+use Rattle.abc_program.specs.Named.{Named}
+use Rattle.abc_program.specs.Meaning.{resolve}
 use Rattle.abc_tables.specs.declared.classes.Instance.{Instance}
 use Rattle.std.proofs.lemmas.List.{length-map}
 use Rattle.abc_layouts.specs.Forest.{class_bases, class_in}

@@ -6,18 +6,18 @@ use Rattle.std.proofs.lemmas.Bool.{cases_lt}
 use Rattle.std.proofs.lemmas.List.{get_or-map, get_or_past, length-map}
 use Rattle.abc_graph.specs.Graph.{Leads, Edge, Then, Returns, targets}
 use Rattle.abc_graph.specs.Orders.{IsForest, IsOrder, base}
-use Rattle.abc_names.specs.Instances.{instance_at, no_instance}
-use Rattle.abc_names.specs.Meaning.{resolve}
-use Rattle.abc_names.specs.declared.named.Named.{Named}
-use Rattle.abc_names.specs.declared.named.Named.TheVariants as named
+use Rattle.abc_program.specs.Instances.{instance_at, no_instance}
+use Rattle.abc_program.specs.Meaning.{resolve}
+use Rattle.abc_program.specs.Named.{Named}
+use Rattle.abc_program.specs.Named.TheVariants as named
 use Rattle.abc_tables.specs.declared.classes.Instance.{Instance}
 use Rattle.abc_tables.specs.declared.tables.Abc.{Abc}
-use Rattle.abc_items.specs.Bases.{base_graph, classes_named}
-use Rattle.abc_items.specs.Rules.{AllHold}
-use Rattle.abc_items.specs.declared.items.Item.{Item}
-use Rattle.abc_items.specs.declared.items.ItemKind.TheVariants as kinds
-use Rattle.abc_items.specs.declared.items.LinkRule.TheVariants as rules
-use Rattle.abc_rules.proofs.Within.{resolve_within}
+use Rattle.abc_program.specs.Bases.{base_graph, classes_named}
+use Rattle.abc_program.specs.Rules.{AllHold}
+use Rattle.abc_program.specs.Item.{Item}
+use Rattle.abc_program.specs.ItemKind.TheVariants as kinds
+use Rattle.abc_program.specs.LinkRule.TheVariants as rules
+use Rattle.abc_program.proofs.Within.{resolve_within}
 use Rattle.abc_layouts.specs.Forest.{class_bases, class_in}
 
 as_list : (o : Option Named) → option_to_list (class_in o) ≡ classes_named o

@@ -1,9 +1,9 @@
 -- The classes of the file by their bases, as far as these are classes of the file.
 use Rattle.std.specs.Prelude.{ℕ, List, Some, None, map}
 use Rattle.std.specs.declared.option.Option.{Option}
-use Rattle.abc_names.specs.Meaning.{resolve}
-use Rattle.abc_names.specs.declared.named.Named.{Named}
-use Rattle.abc_names.specs.declared.named.Named.TheVariants as named
+use Rattle.abc_program.specs.Meaning.{resolve}
+use Rattle.abc_program.specs.Named.{Named}
+use Rattle.abc_program.specs.Named.TheVariants as named
 use Rattle.abc_tables.specs.declared.tables.Abc.{Abc}
 
 abbrev pub class_in : Option Named → Option ℕ

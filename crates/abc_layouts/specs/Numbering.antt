@@ -5,7 +5,7 @@ use Rattle.abc_base.specs.declared.names.HostClass.TheVariants as hosts
 use Rattle.abc_tables.specs.declared.tables.Abc.{Abc}
 use Rattle.abc_program.specs.Parts.{HasLayout, has_activation}
 use Rattle.abc_program.specs.Numbering.{IsBehind}
-use Rattle.abc_items.specs.Parts.{body_at}
+use Rattle.abc_program.specs.ItemsParts.{body_at}
 use Rattle.abc_program.specs.declared.part.Part.{Part}
 use Rattle.abc_program.specs.declared.part.Part.TheVariants as parts
 

@@ -1,11 +1,11 @@
 ghost use Rattle.std.specs.Prelude.{◌≡◌, ◌<◌, ◌^◌, length, IfOk};
 ghost use Rattle.abc_graph.specs.Orders.{IsOrder};
 ghost use Rattle.abc_layouts.specs.Forest.{class_bases as bases_of, class_in as class_named};
-ghost use Rattle.abc_items.specs.Rules.{AllHold};
+ghost use Rattle.abc_program.specs.Rules.{AllHold};
 
 use abc_base::{NoMemory, Table};
 use abc_graph::{Order, order_of};
-use abc_names::{Meanings, Named};
+use abc_program::{Meanings, Named};
 use std::alloc::Global;
 
 /// The class of the file that a name stands for, if it is one.

@@ -6,5 +6,8 @@ mod key;
 mod layouts;
 mod numbering;
 
+pub use abc_program::{
+    Heirs, LayoutId, Meanings, Named, Part, SlotInfo, Start, Ty, qname_at, start_of,
+};
 pub use layouts::Layouts;
 pub use numbering::number_parts;

@@ -4,14 +4,13 @@ ghost use Rattle.abc_layouts.specs.Forest.{class_bases};
 ghost use Rattle.abc_layouts.specs.Numbering.{AddsBodies, AddsBody, AddsEach, AddsParts};
 ghost use Rattle.abc_program.specs.Numbering.{IsNumbering};
 ghost use Rattle.abc_program.specs.Parts.{has_activation as activates};
-ghost use Rattle.abc_items.specs.Parts.{body_at, method_at};
-ghost use Rattle.abc_items.specs.Rules.{AllHold};
+ghost use Rattle.abc_program.specs.ItemsParts.{body_at, method_at};
+ghost use Rattle.abc_program.specs.Rules.{AllHold};
 
 use crate::forest::class_order;
 use abc_base::{HostClass, NoMemory, Table};
 use abc_graph::Order;
-use abc_names::{HOST_CLASSES, Meanings};
-use abc_program::Part;
+use abc_program::{HOST_CLASSES, Meanings, Part};
 use abc_tables::{Abc, has_flag};
 use std::alloc::Global;
 

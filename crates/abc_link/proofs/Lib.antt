@@ -1,1 +1,2 @@
 pub mod Laws
+pub use Rattle.abc_interfaces.proofs.Finding

@@ -1,15 +1,15 @@
 -- What is made of a file that keeps the rules of linking.
 use Rattle.std.specs.Prelude.{ℕ, ◌<◌, ◌^◌, List, length}
-use Rattle.abc_heirs.specs.Heirs.{list_at}
-use Rattle.abc_heirs.specs.Listed.{Listed}
+use Rattle.abc_interfaces.specs.Heirs.{list_at}
+use Rattle.abc_interfaces.specs.Listed.{Listed}
 use Rattle.abc_interfaces.specs.Sets.{HasSets}
-use Rattle.abc_layouts.specs.Laid.{AreLayouts}
+use Rattle.abc_members.specs.Laid.{AreLayouts}
 use Rattle.abc_link.specs.declared.linked.Made.{Made}
 use Rattle.abc_members.specs.Grouped.{HasGroups}
 use Rattle.abc_owners.specs.Owning.{AreOwners}
-use Rattle.abc_slots.specs.Files.{linked}
-use Rattle.abc_program.specs.declared.types.SlotInfo.{SlotInfo}
-use Rattle.abc_slots.specs.Tables.{HasSlots}
+use Rattle.abc_members.specs.Files.{linked}
+use Rattle.abc_interfaces.specs.SlotInfo.{SlotInfo}
+use Rattle.abc_members.specs.Tables.{HasSlots}
 use Rattle.abc_tables.specs.declared.tables.Abc.{Abc}
 
 -- the first n lists of slots can be counted by 32 bits

@@ -1,12 +1,12 @@
 -- A linked file, as the tables that say it.
 use Rattle.abc_link.specs.Made.{IsMade}
 use Rattle.abc_link.specs.declared.linked.Linked.TheInside.{Inside}
-use Rattle.abc_names.specs.Meanings.{AreMeanings}
-use Rattle.abc_names.specs.Numbers.{AreNames}
-use Rattle.abc_program.specs.Linked.{LinkedFile}
-use Rattle.abc_items.specs.Firsts.{IsFew}
-use Rattle.abc_items.specs.Rules.{AllHold}
-use Rattle.abc_slots.specs.Files.{linked}
+use Rattle.abc_interfaces.specs.Meanings.{AreMeanings}
+use Rattle.abc_interfaces.specs.Numbers.{AreNames}
+use Rattle.abc_interfaces.specs.Linked.{LinkedFile}
+use Rattle.abc_interfaces.specs.Firsts.{IsFew}
+use Rattle.abc_interfaces.specs.Rules.{AllHold}
+use Rattle.abc_members.specs.Files.{linked}
 use Rattle.abc_tables.specs.Files.{Fits}
 
 abbrev pub file_of : Inside → LinkedFile

@@ -5,8 +5,8 @@
 mod linked;
 mod linking;
 
-pub use abc_items::{Item, ItemKind, LinkError, LinkRule};
-pub use abc_program::{Kind, LayoutId, Owner, Part, SlotInfo, Ty};
-pub use abc_starts::Start;
+pub use abc_interfaces::{
+    Item, ItemKind, Kind, LayoutId, LinkError, LinkRule, Owner, Part, SlotInfo, Start, Ty, part_key,
+};
 pub use linked::{Linked, kind_of_type};
 pub use linking::link;

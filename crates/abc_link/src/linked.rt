@@ -1,23 +1,21 @@
 ghost use Rattle.std.specs.Prelude.{◌≡◌, ◌<◌, ◌↔◌, IsTrue, length};
 ghost use Rattle.std.specs.Option.{option_copied, option_map};
 ghost use Rattle.abc_index.specs.Texts.{number_in};
-ghost use Rattle.abc_names.specs.Pool.{is_public as is_public_in, same_space};
-ghost use Rattle.abc_program.specs.Interfaces.{Implements};
-ghost use Rattle.abc_program.specs.Linked.{IsLayout, IsLinkedFile, above as above_of, base as base_of, layout_of as layout_of_part, part_of as part_of_layout};
-ghost use Rattle.abc_program.specs.Owners.{body_of as body_of_method, owner_of};
-ghost use Rattle.abc_program.specs.Slots.{HasFewSlots, slot_numbered as slot_with, slots_of};
-ghost use Rattle.abc_program.specs.Traits.{own_traits as own_traits_of};
-ghost use Rattle.abc_program.specs.Types.{kind_of_type as kind_of, type_of as type_of_name};
+ghost use Rattle.abc_interfaces.specs.Pool.{is_public as is_public_in, same_space};
+ghost use Rattle.abc_interfaces.specs.ProgramInterfaces.{Implements};
+ghost use Rattle.abc_interfaces.specs.Linked.{IsLayout, IsLinkedFile, above as above_of, base as base_of, layout_of as layout_of_part, part_of as part_of_layout};
+ghost use Rattle.abc_interfaces.specs.Owners.{body_of as body_of_method, owner_of};
+ghost use Rattle.abc_interfaces.specs.Slots.{HasFewSlots, slot_numbered as slot_with, slots_of};
+ghost use Rattle.abc_interfaces.specs.Traits.{own_traits as own_traits_of};
+ghost use Rattle.abc_interfaces.specs.Types.{kind_of_type as kind_of, type_of as type_of_name};
 
 use abc_base::{HostClass, Table};
-use abc_heirs::Heirs;
-use abc_interfaces::Interfaces;
-use abc_layouts::Layouts;
-use abc_members::Members;
-use abc_names::{Meanings, NameTables, Named, Names};
+use abc_interfaces::{
+    Heirs, Interfaces, Kind, LayoutId, Meanings, NameTables, Named, Names, Owner, Part, SlotInfo,
+    Ty,
+};
+use abc_members::{Layouts, Members, type_in};
 use abc_owners::Owners;
-use abc_program::{Kind, LayoutId, Owner, Part, SlotInfo, Ty};
-use abc_slots::type_in;
 use abc_tables::Abc;
 use std::marker::Model;
 
@@ -41,7 +39,7 @@ pub struct Linked {
 }
 
 impl Model for Linked {
-    ghost use Rattle.abc_program.specs.Linked.{LinkedFile};
+    ghost use Rattle.abc_interfaces.specs.Linked.{LinkedFile};
 
     ghost Value = { LinkedFile };
 

@@ -1,26 +1,22 @@
 ghost use Rattle.std.specs.Prelude.{◌≡◌, ◌<◌, ◌^◌, length, IfOk, IsTrue, MatchResult, OnOk};
-ghost use Rattle.abc_heirs.specs.Heirs.{list_at};
-ghost use Rattle.abc_layouts.specs.Laid.{AreLayouts};
+ghost use Rattle.abc_interfaces.specs.Heirs.{list_at};
+ghost use Rattle.abc_members.specs.Laid.{AreLayouts};
 ghost use Rattle.abc_link.specs.Made.{AreFewSlots, IsMade};
-ghost use Rattle.abc_names.specs.Meanings.{AreMeanings};
-ghost use Rattle.abc_names.specs.Numbers.{AreNames};
-ghost use Rattle.abc_program.specs.Linked.{IsLinkedFile};
-ghost use Rattle.abc_items.specs.Firsts.{IsFew, IsRefusal};
-ghost use Rattle.abc_items.specs.Rules.{AllHold};
+ghost use Rattle.abc_interfaces.specs.Meanings.{AreMeanings};
+ghost use Rattle.abc_interfaces.specs.Numbers.{AreNames};
+ghost use Rattle.abc_interfaces.specs.Linked.{IsLinkedFile};
+ghost use Rattle.abc_interfaces.specs.Firsts.{IsFew, IsRefusal};
+ghost use Rattle.abc_interfaces.specs.Rules.{AllHold};
 ghost use Rattle.abc_tables.specs.Files.{Fits};
 
 use crate::linked::{Linked, Made};
 use abc_base::{NoMemory, Table};
-use abc_heirs::Heirs;
-use abc_interfaces::Interfaces;
-use abc_items::LinkError;
-use abc_layouts::Layouts;
-use abc_members::Members;
-use abc_names::{Meanings, NameTables, Named, Names, meanings_of};
+use abc_interfaces::{
+    Heirs, Interfaces, LinkError, Meanings, NameTables, Named, Names, SlotInfo, check_rules,
+    meanings_of,
+};
+use abc_members::{Layouts, Members, slots_of};
 use abc_owners::Owners;
-use abc_program::SlotInfo;
-use abc_rules::check_rules;
-use abc_slots::slots_of;
 use abc_tables::Abc;
 use std::alloc::Global;
 

@@ -22,7 +22,7 @@ use Rattle.abc_program.specs.Slots.{HasFewSlots}
 use Rattle.abc_reached.proofs.Beginning.{limits_kept, machine_first, reached_first}
 use Rattle.abc_states.specs.Outer.{Outer}
 use Rattle.abc_states.specs.declared.state.State.{State}
-use Rattle.abc_finishing.specs.Steps.{IsReached, machine}
+use Rattle.abc_reached.specs.Steps.{IsReached, machine}
 use Rattle.abc_verify.proofs.Methods.{all_typed}
 use Rattle.abc_verify.specs.Typed.{AllTyped, IsVerified as IsChecked}
 use Rattle.abc_states.specs.WorldSetting.{Setting}

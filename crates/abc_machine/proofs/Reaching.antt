@@ -21,7 +21,7 @@ use Rattle.abc_outward.specs.Outward.{adding}
 use Rattle.abc_program.specs.Linked.{LinkedFile}
 use Rattle.abc_states.specs.Outer.{Outer, setting, world}
 use Rattle.abc_states.specs.declared.state.State.{State}
-use Rattle.abc_finishing.specs.Steps.{EndsAs, FailsAs, GoesOnAs, IsReached, machine, step_here}
+use Rattle.abc_reached.specs.Steps.{EndsAs, FailsAs, GoesOnAs, IsReached, machine, step_here}
 use Rattle.abc_states.specs.WorldSetting.{Setting}
 use Rattle.abc_states.specs.World.{World}
 

@@ -17,9 +17,9 @@ use Rattle.abc_program.specs.Linked.{LinkedFile}
 use Rattle.abc_reached.proofs.Staying.{reached_on}
 use Rattle.abc_states.specs.Outer.{Outer, setting}
 use Rattle.abc_states.specs.declared.state.State.{State}
-use Rattle.abc_finishing.specs.Steps.{GoesOnAs, IsReached, StepsAs}
-use Rattle.abc_finishing.specs.declared.halting.Halt.{Halt}
-use Rattle.abc_finishing.specs.declared.halting.Halt.TheVariants as halts
+use Rattle.abc_reached.specs.Steps.{GoesOnAs, IsReached, StepsAs}
+use Rattle.abc_reached.specs.Halt.{Halt}
+use Rattle.abc_reached.specs.Halt.TheVariants as halts
 
 some_left : (n : ℕ) → (n ≡ 0 → ⊥) → n ≡ suc (n - 1)
 some_left zero h = absurd (h refl)

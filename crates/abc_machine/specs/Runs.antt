@@ -9,7 +9,7 @@ use Rattle.abc_meaning.specs.Throwing.{Ends, Machine, Stepped, Steps}
 use Rattle.abc_program.specs.Linked.{LinkedFile}
 use Rattle.abc_states.specs.Outer.{Outer, setting}
 use Rattle.abc_states.specs.declared.state.State.{State}
-use Rattle.abc_finishing.specs.Steps.{IsReached, machine}
+use Rattle.abc_reached.specs.Steps.{IsReached, machine}
 use Rattle.abc_states.specs.WorldSetting.{Setting}
 
 -- a step that goes on

@@ -11,9 +11,9 @@ use Rattle.abc_outward.specs.Outward.{adding}
 use Rattle.abc_program.specs.Linked.{LinkedFile}
 use Rattle.abc_states.specs.Outer.{Outer}
 use Rattle.abc_states.specs.declared.state.State.{State}
-use Rattle.abc_finishing.specs.Steps.{EndsAs, FailsAs, GoesOnAs, IsReached}
-use Rattle.abc_finishing.specs.declared.halting.Halt.{Halt}
-use Rattle.abc_finishing.specs.declared.halting.Halt.TheVariants as halts
+use Rattle.abc_reached.specs.Steps.{EndsAs, FailsAs, GoesOnAs, IsReached}
+use Rattle.abc_reached.specs.Halt.{Halt}
+use Rattle.abc_reached.specs.Halt.TheVariants as halts
 
 -- how a run ends where a step does
 abbrev pub end_for : Halt → End

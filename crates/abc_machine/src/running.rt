@@ -6,14 +6,14 @@ ghost use Rattle.abc_machine.specs.declared.ends.End.TheVariants.{WriteFault};
 ghost use Rattle.abc_meaning.specs.Meaning.{ran, runs_for};
 ghost use Rattle.abc_openings.specs.Begun.{setting};
 ghost use Rattle.abc_states.specs.Outer.{Outer};
-ghost use Rattle.abc_finishing.specs.Steps.{IsReached, StepsAs};
+ghost use Rattle.abc_reached.specs.Steps.{IsReached, StepsAs};
 ghost use Rattle.abc_machine.specs.Spent.{SpendsAs, end_for as end_of};
 
 use crate::ends::End;
 use abc_base::{Host, Sink};
 use abc_ends::Ended;
-use abc_finishing::Halt;
 use abc_link::Linked;
+use abc_reached::Halt;
 use abc_states::State;
 use abc_stepping::step;
 

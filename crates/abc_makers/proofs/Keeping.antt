@@ -3,11 +3,11 @@ use Rattle.std.proofs.Common.{◌≡◌, ◌∙◌, ℕ, ◌<◌, List, length, 
 use Rattle.abc_cells.specs.declared.values.Value.{Value}
 use Rattle.abc_heap.specs.Heap.{Heap}
 use Rattle.abc_moves.specs.Ready.{IsReady}
-use Rattle.abc_objects.specs.Growing.{Grows}
-use Rattle.abc_objects.specs.Stands.{Each}
-use Rattle.abc_objects.specs.Values.{Exists}
-use Rattle.abc_objects.proofs.Grown.{exists_grown, grows_on, grows_self, scope_grown}
-use Rattle.abc_objects.proofs.Reshaped.{each_set}
+use Rattle.abc_states.specs.Growing.{Grows}
+use Rattle.abc_states.specs.Stands.{Each}
+use Rattle.abc_states.specs.Values.{Exists}
+use Rattle.abc_states.proofs.Grown.{exists_grown, grows_on, grows_self, scope_grown}
+use Rattle.abc_states.proofs.Reshaped.{each_set}
 use Rattle.abc_program.specs.Linked.{LinkedFile}
 use Rattle.abc_stacks.proofs.Living.{living_is}
 use Rattle.abc_stacks.specs.Frame.{Frame, Frames, newest, with_newest, with_operand}

@@ -4,3 +4,5 @@ pub mod Made
 pub mod Pushing
 pub mod Paired
 pub mod Keeping
+pub use Rattle.abc_states.proofs.Turning
+pub use Rattle.abc_states.proofs.Operated

@@ -18,19 +18,19 @@ use Rattle.abc_heap.specs.declared.records.ScopeId.{ScopeId}
 use Rattle.abc_heap.specs.declared.records.What.{What}
 use Rattle.abc_heap.specs.declared.records.What.TheVariants as whats
 use Rattle.abc_heap.specs.declared.store.ClassParts.{ClassParts}
-use Rattle.abc_objects.specs.Growing.{Grows}
-use Rattle.abc_objects.specs.Stands.{array_layout, array_prototype, class_object_layout, class_parts, host_layout}
-use Rattle.abc_objects.specs.Starts.{start_values}
-use Rattle.abc_objects.specs.Values.{IsObject}
-use Rattle.abc_objects.proofs.Grown.{grows_on, grows_self}
-use Rattle.abc_objects.proofs.Kept.{added_grows, changed_grows, scopes_grow}
-use Rattle.abc_objects.proofs.Made.{host_found, part_found}
+use Rattle.abc_states.specs.Growing.{Grows}
+use Rattle.abc_states.specs.Stands.{array_layout, array_prototype, class_object_layout, class_parts, host_layout}
+use Rattle.abc_states.specs.Starts.{start_values}
+use Rattle.abc_states.specs.Values.{IsObject}
+use Rattle.abc_states.proofs.Grown.{grows_on, grows_self}
+use Rattle.abc_states.proofs.Kept.{added_grows, changed_grows, scopes_grow}
+use Rattle.abc_states.proofs.Made.{host_found, part_found}
 use Rattle.abc_program.specs.Linked.{IsLinkedFile, LinkedFile, layout_of}
 use Rattle.abc_program.specs.Numbering.{part_at}
 use Rattle.abc_program.specs.Parts.{HasLayout}
 use Rattle.abc_program.specs.declared.part.Part.{Part}
 use Rattle.abc_program.specs.declared.part.Part.TheVariants as parts
-use Rattle.abc_search.specs.Objects.{host_prototype}
+use Rattle.abc_states.specs.Objects.{host_prototype}
 use Rattle.abc_states.specs.Outer.{at_heap}
 use Rattle.abc_states.specs.WorldObjects.{new_array, new_class, new_function, new_id, new_object, own_place, prototype_for, set_property, with_function, with_property}
 use Rattle.abc_states.specs.WorldSetting.{Setting}

@@ -10,7 +10,7 @@ use Rattle.abc_cells.specs.declared.values.ObjId.{ObjId}
 use Rattle.abc_heap.specs.declared.records.What.TheVariants as whats
 use Rattle.abc_heap.specs.Heap.{Heap}
 use Rattle.abc_heap.specs.Texts.{IsText}
-use Rattle.abc_objects.specs.Values.{Exists}
+use Rattle.abc_states.specs.Values.{Exists}
 use Rattle.abc_program.specs.Linked.{LinkedFile}
 use Rattle.abc_states.specs.ActsNewing.{entries_of, set_all}
 use Rattle.abc_states.specs.WorldObjects.{new_of_host, set_property}

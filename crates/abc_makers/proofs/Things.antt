@@ -3,7 +3,7 @@ use Rattle.std.proofs.Common.{◌≡◌, ℕ, zero, suc, ◌<◌, List, [], ◌�
 use Rattle.std.specs.Prelude.{Some, None, slice_get}
 use Rattle.abc_cells.specs.declared.values.Value.{Value}
 use Rattle.abc_heap.specs.Heap.{Heap, Object, object_at, slots_of as slots_of_object}
-use Rattle.abc_objects.specs.Stands.{StandsOver, object_in}
+use Rattle.abc_states.specs.Stands.{StandsOver, object_in}
 use Rattle.abc_program.specs.Linked.{LinkedFile}
 use Rattle.abc_program.specs.Slots.{slots_of}
 

@@ -1,6 +1,6 @@
 ghost use Rattle.std.specs.Prelude.{◌≡◌, ◌≢◌, ◌<◌, ◌^◌, length};
 ghost use Rattle.abc_moves.specs.Ready.{IsReady};
-ghost use Rattle.abc_objects.specs.Stands.{IsMadeAlone, NamesParts, StandsOver, array_layout};
+ghost use Rattle.abc_states.specs.Stands.{IsMadeAlone, NamesParts, StandsOver, array_layout};
 ghost use Rattle.abc_program.specs.Linked.{IsLayout};
 ghost use Rattle.abc_program.specs.Parts.{HasLayout};
 ghost use Rattle.abc_program.specs.declared.part.Part.TheVariants as parts;

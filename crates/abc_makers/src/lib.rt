@@ -8,6 +8,9 @@ mod pairs;
 mod prototypes;
 mod types;
 
+pub use abc_states::{
+    Place, State, Stop, coerce, int_value, local, operand, spell, string_at, uint_value,
+};
 pub use arms::{new_activation, new_array, new_catch, new_function};
 pub use making::{
     make_array, make_class, make_function, make_object, make_of_host, make_undefined, put_property,

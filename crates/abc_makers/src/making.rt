@@ -2,8 +2,8 @@ ghost use Rattle.std.specs.Prelude.{◌≡◌, ◌≢◌, ◌<◌, ◌≤◌, �
 ghost use Rattle.abc_base.specs.declared.names.HostClass.TheVariants.{Array};
 ghost use Rattle.abc_cells.specs.declared.values.Value.TheVariants.{Undefined};
 ghost use Rattle.abc_heap.specs.Texts.{IsText};
-ghost use Rattle.abc_objects.specs.Stands.{Each, IsMadeAlone, IsObjectOrNone, NamesParts, StandsOver, array_layout};
-ghost use Rattle.abc_objects.specs.Values.{Exists, IsObject};
+ghost use Rattle.abc_states.specs.Stands.{Each, IsMadeAlone, IsObjectOrNone, NamesParts, StandsOver, array_layout};
+ghost use Rattle.abc_states.specs.Values.{Exists, IsObject};
 ghost use Rattle.abc_program.specs.Linked.{IsLayout};
 ghost use Rattle.abc_stacks.specs.Frame.{arguments, newest};
 ghost use Rattle.abc_states.specs.Outer.{Outer, setting, world};

@@ -1,9 +1,9 @@
 ghost use Rattle.std.specs.Prelude.{◌≡◌, ◌<◌, ◌≤◌, ◌*◌, ◌^◌, MatchResult, length};
 ghost use Rattle.abc_states.specs.ActsNewing.{set_all};
 ghost use Rattle.abc_moves.specs.Ready.{IsReady};
-ghost use Rattle.abc_objects.specs.Growing.{Grows};
-ghost use Rattle.abc_objects.specs.Stands.{StandsOver};
-ghost use Rattle.abc_objects.specs.Values.{IsObject};
+ghost use Rattle.abc_states.specs.Growing.{Grows};
+ghost use Rattle.abc_states.specs.Stands.{StandsOver};
+ghost use Rattle.abc_states.specs.Values.{IsObject};
 ghost use Rattle.abc_stacks.specs.Frame.{newest};
 ghost use Rattle.abc_states.specs.Outer.{Outer, setting, world};
 ghost use Rattle.abc_states.specs.Standing.{IsSet, Stays};

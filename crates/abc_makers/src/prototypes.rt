@@ -1,8 +1,8 @@
 ghost use Rattle.std.specs.Prelude.{◌≡◌, ◌<◌, length};
 ghost use Rattle.abc_heap.specs.Heap.{slots_of};
-ghost use Rattle.abc_objects.specs.Stands.{IsObjectOrNone, StandsOver, prototype_of as prototype_in};
-ghost use Rattle.abc_objects.specs.Values.{IsObject};
-ghost use Rattle.abc_search.specs.Objects.{host_prototype};
+ghost use Rattle.abc_states.specs.Stands.{IsObjectOrNone, StandsOver, prototype_of as prototype_in};
+ghost use Rattle.abc_states.specs.Values.{IsObject};
+ghost use Rattle.abc_states.specs.Objects.{host_prototype};
 
 use abc_base::HostClass;
 use abc_cells::{ObjId, Value};

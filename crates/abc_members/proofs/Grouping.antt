@@ -10,15 +10,15 @@ use Rattle.abc_index.specs.ByText.{GroupsTexts, names_of}
 use Rattle.abc_index.specs.Texts.{HasTexts, number_among, number_in, texts_of}
 use Rattle.abc_index.specs.declared.texts.Texts.{Texts}
 use Rattle.abc_index.proofs.ByTexts.{no_places, same_places}
-use Rattle.abc_names.specs.Pool.{text}
+use Rattle.abc_slots.specs.Pool.{text}
 use Rattle.abc_tables.specs.declared.tables.Abc.{Abc}
 use Rattle.abc_tables.specs.declared.traits.TraitInfo.{TraitInfo}
 use Rattle.abc_members.specs.Grouped.{HasGroups}
 use Rattle.abc_members.specs.Strings.{numbers_in, trait_strings}
-use Rattle.abc_program.specs.Linked.{LinkedFile}
-use Rattle.abc_program.specs.Numbering.{part_at}
-use Rattle.abc_program.specs.Slots.{traits_of}
-use Rattle.abc_program.specs.Traits.{own_table_of, own_traits, trait_name, trait_texts}
+use Rattle.abc_slots.specs.Linked.{LinkedFile}
+use Rattle.abc_slots.specs.Numbering.{part_at}
+use Rattle.abc_slots.specs.ProgramSlots.{traits_of}
+use Rattle.abc_slots.specs.Traits.{own_table_of, own_traits, trait_name, trait_texts}
 
 -- ---- numbers of texts
 

@@ -4,8 +4,8 @@ use Rattle.abc_index.specs.ByText.{GroupsTexts}
 use Rattle.abc_index.specs.Groups.{GroupMap}
 use Rattle.abc_index.specs.declared.texts.Texts.{Texts}
 use Rattle.abc_members.specs.Strings.{trait_strings}
-use Rattle.abc_program.specs.Linked.{LinkedFile}
-use Rattle.abc_program.specs.Traits.{own_table_of}
+use Rattle.abc_slots.specs.Linked.{LinkedFile}
+use Rattle.abc_slots.specs.Traits.{own_table_of}
 
 -- those of the first n layouts
 pub record HasGroups (l : LinkedFile) (t : Texts) (groups : List GroupMap) (n : ℕ) : Type 0 where

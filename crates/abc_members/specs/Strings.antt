@@ -2,7 +2,7 @@
 use Rattle.std.specs.Prelude.{ℕ, List, ◌∷◌, map, unwrap_or}
 use Rattle.abc_index.specs.Texts.{number_in}
 use Rattle.abc_index.specs.declared.texts.Texts.{Texts}
-use Rattle.abc_program.specs.Traits.{trait_name}
+use Rattle.abc_slots.specs.Traits.{trait_name}
 use Rattle.abc_tables.specs.declared.tables.Abc.{Abc}
 use Rattle.abc_tables.specs.declared.traits.TraitInfo.{TraitInfo}
 

@@ -4,4 +4,5 @@
 mod members;
 mod numbers;
 
+pub use abc_slots::{Layouts, slots_of, type_in};
 pub use members::Members;

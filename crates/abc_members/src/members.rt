@@ -3,15 +3,13 @@ ghost use Rattle.std.specs.Option.{option_copied};
 ghost use Rattle.abc_index.specs.Texts.{HasTexts, number_in, texts_of};
 ghost use Rattle.abc_members.specs.Grouped.{HasGroups};
 ghost use Rattle.abc_members.specs.Strings.{numbers_in};
-ghost use Rattle.abc_program.specs.Traits.{own_traits as own_traits_of};
+ghost use Rattle.abc_slots.specs.Traits.{own_traits as own_traits_of};
 ghost use Rattle.abc_slots.specs.Files.{linked};
 
 use crate::numbers::{group, numbers_of};
 use abc_base::{NoMemory, Table};
 use abc_index::Texts;
-use abc_layouts::Layouts;
-use abc_program::LayoutId;
-use abc_slots::traits_of;
+use abc_slots::{LayoutId, Layouts, traits_of};
 use abc_tables::Abc;
 use indexmap::IndexMap;
 use std::alloc::Global;

@@ -2,11 +2,11 @@ ghost use Rattle.std.specs.Prelude.{◌≡◌, ◌∷◌, ◌<◌, ◌^◌, get_
 ghost use Rattle.abc_index.specs.Texts.{HasTexts, number_in, texts_of};
 ghost use Rattle.abc_index.specs.ByText.{GroupsTexts};
 ghost use Rattle.abc_members.specs.Strings.{numbers_in, trait_strings};
-ghost use Rattle.abc_program.specs.Traits.{trait_name};
+ghost use Rattle.abc_slots.specs.Traits.{trait_name};
 
 use abc_base::{Bytes, NoMemory, Table};
 use abc_index::{Texts, groups_of};
-use abc_names::qname_at;
+use abc_slots::qname_at;
 use abc_tables::{Abc, TraitInfo};
 use indexmap::IndexMap;
 use std::alloc::Global;

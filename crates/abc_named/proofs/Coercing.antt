@@ -22,11 +22,11 @@ use Rattle.abc_program.specs.declared.types.Kind.{Kind}
 use Rattle.abc_program.specs.declared.types.Kind.TheVariants as kinds
 use Rattle.abc_program.specs.declared.types.Ty.{Ty}
 use Rattle.abc_program.specs.declared.types.Ty.TheVariants as types
-use Rattle.abc_states.specs.Outer.{at_heap}
-use Rattle.abc_states.specs.WorldOps.{coerced, coerces, outcome}
-use Rattle.abc_states.specs.WorldSetting.{Setting}
-use Rattle.abc_states.specs.WorldTypes.{is_of}
-use Rattle.abc_states.specs.World.{Went, World}
+use Rattle.abc_makers.specs.Outer.{at_heap}
+use Rattle.abc_makers.specs.Ops.{coerced, coerces, outcome}
+use Rattle.abc_makers.specs.Setting.{Setting}
+use Rattle.abc_makers.specs.WorldTypes.{is_of}
+use Rattle.abc_makers.specs.World.{Went, World}
 
 -- what is answered, in the heap that is left
 abbrev LeftHolds : LinkedFile → Kind → Left Value → Type 0

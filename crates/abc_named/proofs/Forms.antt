@@ -20,8 +20,8 @@ use Rattle.abc_tables.specs.declared.names.Multiname.{Multiname}
 use Rattle.abc_tables.specs.declared.names.Multiname.TheVariants as names
 use Rattle.abc_tables.specs.declared.tables.Sizes.{Sizes}
 use Rattle.abc_typing.specs.Effects.{name_at}
-use Rattle.abc_states.specs.ActsNames.{form_in}
-use Rattle.abc_states.specs.WorldSetting.{NameForm, NoPart, NoSpace, NoText, Setting, Whole, name_form, spaces_of, string_of}
+use Rattle.abc_makers.specs.Names.{form_in}
+use Rattle.abc_makers.specs.Setting.{NameForm, NoPart, NoSpace, NoText, Setting, Whole, name_form, spaces_of, string_of}
 use Rattle.abc_named.specs.declared.names.Form.{Form}
 use Rattle.abc_named.specs.declared.names.Form.TheVariants as forms
 use Rattle.abc_named.specs.Form.{HasString, HasText, forms_of}

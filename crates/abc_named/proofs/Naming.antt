@@ -8,12 +8,12 @@ use Rattle.abc_cells.specs.declared.values.Value.TheVariants.{Undefined, Null, N
 use Rattle.abc_search.specs.declared.name.Name.{Name}
 use Rattle.abc_search.specs.declared.name.Spaces.{Spaces}
 use Rattle.abc_stacks.specs.Frame.{Frame}
-use Rattle.abc_states.specs.ActsNames.{named, space_of}
-use Rattle.abc_states.specs.Stops.{IsOpen}
-use Rattle.abc_states.proofs.Turning.{open_first}
-use Rattle.abc_states.specs.WorldOps.{spells}
-use Rattle.abc_states.specs.WorldSetting.{NameForm, NoPart, NoSpace, NoText, Setting}
-use Rattle.abc_states.specs.World.{Outcome, Run, Stop, Stopped, Went, World, and_then, done, ◌>>=◌}
+use Rattle.abc_makers.specs.Names.{named, space_of}
+use Rattle.abc_makers.specs.Stops.{IsOpen}
+use Rattle.abc_makers.proofs.Turning.{open_first}
+use Rattle.abc_makers.specs.Ops.{spells}
+use Rattle.abc_makers.specs.Setting.{NameForm, NoPart, NoSpace, NoText, Setting}
+use Rattle.abc_makers.specs.World.{Outcome, Run, Stop, Stopped, Went, World, and_then, done, ◌>>=◌}
 use Rattle.abc_named.specs.Named.{IsSpaceOrNull, parts_for}
 
 abbrev name_with : Spaces → Span → Name

@@ -2,13 +2,13 @@
 use Rattle.std.proofs.Common.{◌≡◌, ℕ, [], ◌∷◌, refl}
 use Rattle.abc_cells.specs.declared.values.Value.{Value}
 use Rattle.abc_cells.specs.declared.values.Value.TheVariants.{Undefined, Null, Num, Bool as Truth, Text, Space, Obj}
-use Rattle.abc_states.specs.ActsAt.{goes, pushed}
+use Rattle.abc_makers.specs.At.{goes, pushed}
 use Rattle.abc_stacks.specs.Frame.{Frame, dropped}
-use Rattle.abc_states.specs.Settling.{pushes}
-use Rattle.abc_states.specs.Stops.{IsOpen}
-use Rattle.abc_states.proofs.Turning.{open_first}
-use Rattle.abc_states.specs.WorldMembers.{with_holder}
-use Rattle.abc_states.specs.World.{Run, World, and_then, done}
+use Rattle.abc_makers.specs.Settling.{pushes}
+use Rattle.abc_makers.specs.Stops.{IsOpen}
+use Rattle.abc_makers.proofs.Turning.{open_first}
+use Rattle.abc_makers.specs.Members.{with_holder}
+use Rattle.abc_makers.specs.World.{Run, World, and_then, done}
 use Rattle.abc_named.specs.Receivers.{IsReceiver, receiver_of}
 
 pub receiver_open : (v : Value) (w : World) → IsOpen (receiver_of v w) → IsReceiver v

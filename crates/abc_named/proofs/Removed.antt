@@ -8,15 +8,15 @@ use Rattle.abc_program.specs.Numbering.{part_at}
 use Rattle.abc_search.specs.declared.found.Found.{Found}
 use Rattle.abc_search.specs.declared.name.Name.{Name}
 use Rattle.abc_stacks.specs.Frame.{Frame}
-use Rattle.abc_states.specs.ActsSimple.{flag}
+use Rattle.abc_makers.specs.Simple.{flag}
 use Rattle.abc_makers.proofs.Things.{object_is}
-use Rattle.abc_states.specs.Operands.{operand_at}
-use Rattle.abc_states.specs.Outer.{at_heap}
-use Rattle.abc_states.specs.Stops.{IsOpen}
-use Rattle.abc_states.proofs.Turning.{open_first}
-use Rattle.abc_states.specs.WorldMembers.{delete_found, deletes, deletes_own, dynamic_in, find_on, is_dynamic}
-use Rattle.abc_states.specs.WorldSetting.{Setting, is_dynamic_part}
-use Rattle.abc_states.specs.World.{Outcome, Run, Stop, Stopped, Went, World, and_then, changes, done, ◌>>=◌, ◌>>◌}
+use Rattle.abc_makers.specs.Operands.{operand_at}
+use Rattle.abc_makers.specs.Outer.{at_heap}
+use Rattle.abc_makers.specs.Stops.{IsOpen}
+use Rattle.abc_makers.proofs.Turning.{open_first}
+use Rattle.abc_makers.specs.Members.{delete_found, deletes, deletes_own, dynamic_in, find_on, is_dynamic}
+use Rattle.abc_makers.specs.Setting.{Setting, is_dynamic_part}
+use Rattle.abc_makers.specs.World.{Outcome, Run, Stop, Stopped, Went, World, and_then, changes, done, ◌>>=◌, ◌>>◌}
 use Rattle.abc_named.specs.Deleted.{deletes_named}
 use Rattle.abc_named.specs.Named.{form_at, named_here, parts_count}
 use Rattle.abc_named.proofs.Receiving.{pushes_open}

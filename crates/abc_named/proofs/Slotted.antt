@@ -22,17 +22,17 @@ use Rattle.abc_program.specs.declared.types.Ty.{Ty}
 use Rattle.abc_program.specs.declared.types.Ty.TheVariants as types
 use Rattle.abc_stacks.specs.Frame.{Frame, Frames, dropped, newest, with_newest}
 use Rattle.abc_starts.specs.declared.start.Start.TheVariants as starts
-use Rattle.abc_states.specs.ActsAt.{Act, goes, next}
+use Rattle.abc_makers.specs.At.{Act, goes, next}
 use Rattle.abc_makers.proofs.Things.{object_is, slots_counted}
-use Rattle.abc_states.specs.Outer.{at_heap}
-use Rattle.abc_states.specs.Stops.{IsOpen, why}
-use Rattle.abc_states.specs.Turns.{GoesOn, Halts, bared, turned}
-use Rattle.abc_states.specs.declared.state.Stop.{Stop as Why}
-use Rattle.abc_states.proofs.Turning.{open_first}
-use Rattle.abc_states.specs.WorldMembers.{slot_info, write_slot}
-use Rattle.abc_states.specs.WorldOps.{coerces}
-use Rattle.abc_states.specs.WorldSetting.{Setting}
-use Rattle.abc_states.specs.World.{Outcome, Run, Stop, Stopped, Went, World, and_then, changes, some, ◌>>=◌, ◌>>◌}
+use Rattle.abc_makers.specs.Outer.{at_heap}
+use Rattle.abc_makers.specs.Stops.{IsOpen, why}
+use Rattle.abc_makers.specs.Turns.{GoesOn, Halts, bared, turned}
+use Rattle.abc_makers.specs.Stop.{Stop as Why}
+use Rattle.abc_makers.proofs.Turning.{open_first}
+use Rattle.abc_makers.specs.Members.{slot_info, write_slot}
+use Rattle.abc_makers.specs.Ops.{coerces}
+use Rattle.abc_makers.specs.Setting.{Setting}
+use Rattle.abc_makers.specs.World.{Outcome, Run, Stop, Stopped, Went, World, and_then, changes, some, ◌>>=◌, ◌>>◌}
 use Rattle.abc_named.specs.Numbered.{on_numbered, slot_type}
 use Rattle.abc_named.specs.Receivers.{IsReceiver, receiver_of}
 use Rattle.abc_named.proofs.Receiving.{receiver_open}

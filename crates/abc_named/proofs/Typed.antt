@@ -11,13 +11,13 @@ use Rattle.abc_search.specs.Searches.{found_on}
 use Rattle.abc_search.specs.declared.found.Found.{Found}
 use Rattle.abc_search.specs.declared.found.Want.TheVariants.{Read}
 use Rattle.abc_search.specs.declared.name.Spaces.TheVariants.{Public}
-use Rattle.abc_states.specs.ActsLate.{is_found, is_instance, kept_as, late_type, or_null, tested_as, type_of_what}
+use Rattle.abc_makers.specs.Late.{is_found, is_instance, kept_as, late_type, or_null, tested_as, type_of_what}
 use Rattle.abc_makers.proofs.Things.{object_is}
-use Rattle.abc_states.specs.WorldMembers.{with_holder}
-use Rattle.abc_states.specs.WorldOps.{spells}
-use Rattle.abc_states.specs.WorldSetting.{Setting}
-use Rattle.abc_states.specs.WorldTypes.{is_of}
-use Rattle.abc_states.specs.World.{Outcome, Run, Stop, Stopped, Went, World, and_then, done, see, some, ◌>>=◌}
+use Rattle.abc_makers.specs.Members.{with_holder}
+use Rattle.abc_makers.specs.Ops.{spells}
+use Rattle.abc_makers.specs.Setting.{Setting}
+use Rattle.abc_makers.specs.WorldTypes.{is_of}
+use Rattle.abc_makers.specs.World.{Outcome, Run, Stop, Stopped, Went, World, and_then, done, see, some, ◌>>=◌}
 use Rattle.abc_named.specs.Late.{name_is_in}
 use Rattle.abc_named.proofs.Receiving.{holder_first, passed}
 

@@ -19,16 +19,16 @@ use Rattle.abc_ops.specs.declared.end.OpEnd.{OpEnd}
 use Rattle.abc_program.specs.Linked.{LinkedFile}
 use Rattle.abc_search.specs.Objects.{delegate_at}
 use Rattle.abc_stacks.specs.Frame.{Frames, newest, with_local, with_newest}
-use Rattle.abc_states.specs.ActsAt.{pushed}
-use Rattle.abc_states.specs.ActsWalking as acts
-use Rattle.abc_states.specs.Operands.{local_at}
-use Rattle.abc_states.specs.Outer.{at_heap}
-use Rattle.abc_states.specs.Turns.{GoesOn, on_top, turned}
+use Rattle.abc_makers.specs.At.{pushed}
+use Rattle.abc_makers.specs.Walking as acts
+use Rattle.abc_makers.specs.Operands.{local_at}
+use Rattle.abc_makers.specs.Outer.{at_heap}
+use Rattle.abc_makers.specs.Turns.{GoesOn, on_top, turned}
 use Rattle.abc_walks.specs.Walking.{CanWalk, IsPlace, element_named, first_position, named_in, next_along_from, next_in, number_or_zero, or_later, position_at, position_of, text_or_null, value_in, value_or_undefined, walked}
 use Rattle.abc_walks.specs.declared.positions.Position.{Position as At}
-use Rattle.abc_states.specs.WorldOps.{operates, outcome}
-use Rattle.abc_states.specs.WorldSetting.{Setting}
-use Rattle.abc_states.specs.World.{World, and_then, done}
+use Rattle.abc_makers.specs.Ops.{operates, outcome}
+use Rattle.abc_makers.specs.Setting.{Setting}
+use Rattle.abc_makers.specs.World.{World, and_then, done}
 use Rattle.abc_named.specs.Walked.{holder_in, position_in, positions_of, walked_to, walks_on}
 
 pub walked_is : (v : Value) (w : World) → acts.walked v w ≡ walked w.heap v

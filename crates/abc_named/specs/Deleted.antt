@@ -1,13 +1,13 @@
 -- deleteproperty.
 use Rattle.std.specs.Prelude.{ℕ, ◌+◌}
 use Rattle.abc_stacks.specs.Frame.{Frame}
-use Rattle.abc_states.specs.ActsAt.{Act}
-use Rattle.abc_states.specs.ActsSimple.{flag}
-use Rattle.abc_states.specs.Operands.{operand_at}
-use Rattle.abc_states.specs.Settling.{pushes}
-use Rattle.abc_states.specs.WorldMembers.{deletes}
-use Rattle.abc_states.specs.WorldSetting.{Setting}
-use Rattle.abc_states.specs.World.{Run, ◌>>=◌}
+use Rattle.abc_makers.specs.At.{Act}
+use Rattle.abc_makers.specs.Simple.{flag}
+use Rattle.abc_makers.specs.Operands.{operand_at}
+use Rattle.abc_makers.specs.Settling.{pushes}
+use Rattle.abc_makers.specs.Members.{deletes}
+use Rattle.abc_makers.specs.Setting.{Setting}
+use Rattle.abc_makers.specs.World.{Run, ◌>>=◌}
 use Rattle.abc_named.specs.Named.{form_at, named_here, parts_count}
 
 abbrev pub deletes_named : Setting → ℕ → Frame → Run Act

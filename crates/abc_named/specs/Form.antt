@@ -7,7 +7,7 @@ use Rattle.abc_tables.specs.declared.names.Multiname.{Multiname}
 use Rattle.abc_tables.specs.declared.names.Multiname.TheVariants as names
 use Rattle.abc_named.specs.declared.names.Form.{Form}
 use Rattle.abc_named.specs.declared.names.Form.TheVariants as forms
-use Rattle.abc_states.specs.WorldSetting.{NameForm, NoPart, NoSpace, NoText, Whole}
+use Rattle.abc_makers.specs.Setting.{NameForm, NoPart, NoSpace, NoText, Whole}
 
 abbrev pub form_of : Form → NameForm
 form_of (forms.Whole name) = Whole name

@@ -5,14 +5,14 @@ use Rattle.abc_stacks.specs.Frame.{Frame}
 use Rattle.abc_search.specs.Searches.{found_on}
 use Rattle.abc_search.specs.declared.found.Want.TheVariants.{Read}
 use Rattle.abc_search.specs.declared.name.Spaces.TheVariants.{Public}
-use Rattle.abc_states.specs.ActsAt.{Act}
-use Rattle.abc_states.specs.ActsLate.{is_found, is_instance, kept_as, late_type, tested_as}
-use Rattle.abc_states.specs.Operands.{operand_at}
-use Rattle.abc_states.specs.WorldMembers.{with_holder}
-use Rattle.abc_states.specs.WorldOps.{spells}
-use Rattle.abc_states.specs.WorldSetting.{Setting}
-use Rattle.abc_states.specs.World.{Run, done, see, ◌>>=◌}
-use Rattle.abc_states.specs.Settling.{pushes}
+use Rattle.abc_makers.specs.At.{Act}
+use Rattle.abc_makers.specs.Late.{is_found, is_instance, kept_as, late_type, tested_as}
+use Rattle.abc_makers.specs.Operands.{operand_at}
+use Rattle.abc_makers.specs.Members.{with_holder}
+use Rattle.abc_makers.specs.Ops.{spells}
+use Rattle.abc_makers.specs.Setting.{Setting}
+use Rattle.abc_makers.specs.World.{Run, done, see, ◌>>=◌}
+use Rattle.abc_makers.specs.Settling.{pushes}
 
 -- astypelate, istypelate, instanceof
 abbrev pub keeps_late : Setting → Frame → Run Act

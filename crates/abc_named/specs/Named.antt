@@ -6,10 +6,10 @@ use Rattle.abc_cells.specs.declared.values.Value.TheVariants.{Undefined, Null, N
 use Rattle.abc_search.specs.declared.name.Name.{Name}
 use Rattle.abc_stacks.specs.Frame.{Frame}
 use Rattle.abc_typing.specs.Effects.{name_at}
-use Rattle.abc_states.specs.ActsNames.{form_in, named}
-use Rattle.abc_states.specs.Operands.{operand_at}
-use Rattle.abc_states.specs.WorldSetting.{NameForm, NoPart, NoSpace, NoText, Setting, Whole}
-use Rattle.abc_states.specs.World.{Run}
+use Rattle.abc_makers.specs.Names.{form_in, named}
+use Rattle.abc_makers.specs.Operands.{operand_at}
+use Rattle.abc_makers.specs.Setting.{NameForm, NoPart, NoSpace, NoText, Setting, Whole}
+use Rattle.abc_makers.specs.World.{Run}
 
 abbrev pub form_at : Setting → ℕ → Option NameForm
 form_at p n = form_in p (name_at p.linked n)

@@ -11,12 +11,12 @@ use Rattle.abc_program.specs.declared.types.Ty.{Ty}
 use Rattle.abc_program.specs.declared.types.Ty.TheVariants as types
 use Rattle.abc_starts.specs.declared.start.Start.TheVariants as starts
 use Rattle.abc_stacks.specs.Frame.{Frame, dropped}
-use Rattle.abc_states.specs.ActsAt.{Act, goes, next}
-use Rattle.abc_states.specs.Operands.{operand_at}
-use Rattle.abc_states.specs.WorldMembers.{write_slot}
-use Rattle.abc_states.specs.WorldSetting.{Setting}
-use Rattle.abc_states.specs.World.{Run, object, some, stuck, the, throws, ◌>>=◌, ◌>>◌}
-use Rattle.abc_states.specs.Settling.{pushes}
+use Rattle.abc_makers.specs.At.{Act, goes, next}
+use Rattle.abc_makers.specs.Operands.{operand_at}
+use Rattle.abc_makers.specs.Members.{write_slot}
+use Rattle.abc_makers.specs.Setting.{Setting}
+use Rattle.abc_makers.specs.World.{Run, object, some, stuck, the, throws, ◌>>=◌, ◌>>◌}
+use Rattle.abc_makers.specs.Settling.{pushes}
 
 abbrev pub on_numbered : {X : Type 0} → Setting → ℕ → Value → (ObjId → Object → ℕ → Run X) → Run X
 on_numbered p n (Obj o) f = the (object o) >>= λ ob. some (slot_numbered p.linked ob.layout n) >>= λ k. f o ob k

@@ -3,7 +3,7 @@ use Rattle.abc_base.specs.declared.names.HostClass.TheVariants as hosts
 use Rattle.abc_cells.specs.declared.values.ObjId.{ObjId}
 use Rattle.abc_cells.specs.declared.values.Value.{Value}
 use Rattle.abc_cells.specs.declared.values.Value.TheVariants.{Undefined, Null, Num, Bool as Truth, Text, Space, Obj}
-use Rattle.abc_states.specs.World.{Run, done, stuck, throws}
+use Rattle.abc_makers.specs.World.{Run, done, stuck, throws}
 
 -- null throws, and no other value comes
 abbrev pub receiver_of : Value → Run ObjId

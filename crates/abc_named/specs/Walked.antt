@@ -5,12 +5,12 @@ use Rattle.abc_cells.specs.declared.values.Value.{Value}
 use Rattle.abc_cells.specs.declared.values.Value.TheVariants.{Null, Num, Bool as Truth, Obj}
 use Rattle.abc_heap.specs.Heap.{obj_id}
 use Rattle.abc_stacks.specs.Frame.{Frame}
-use Rattle.abc_states.specs.ActsAt.{Act, goes, pushed, with_local}
-use Rattle.abc_states.specs.ActsWalking.{Position, has_next, name_in, next_along, object_number, position, value_in, walked}
+use Rattle.abc_makers.specs.At.{Act, goes, pushed, with_local}
+use Rattle.abc_makers.specs.Walking.{Position, has_next, name_in, next_along, object_number, position, value_in, walked}
 use Rattle.abc_walks.specs.declared.positions.Position.{Position as At}
-use Rattle.abc_states.specs.Operands.{local_at, operand_at}
-use Rattle.abc_states.specs.World.{Run, done, see, ◌>>=◌}
-use Rattle.abc_states.specs.Settling.{pushes}
+use Rattle.abc_makers.specs.Operands.{local_at, operand_at}
+use Rattle.abc_makers.specs.World.{Run, done, see, ◌>>=◌}
+use Rattle.abc_makers.specs.Settling.{pushes}
 
 -- hasnext, nextname, nextvalue
 abbrev pub pushes_next : Frame → Run Act

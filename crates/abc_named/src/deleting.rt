@@ -8,14 +8,14 @@ ghost use Rattle.abc_objects.specs.Stands.{StandsOver};
 ghost use Rattle.abc_objects.specs.Values.{Exists, IsObject};
 ghost use Rattle.abc_search.specs.Laws.{IsThere};
 ghost use Rattle.abc_stacks.specs.Frame.{newest};
-ghost use Rattle.abc_states.specs.Outer.{Outer, setting, world};
-ghost use Rattle.abc_states.specs.Standing.{IsSet, Stays};
-ghost use Rattle.abc_states.specs.Stops.{IsOpen, answer};
-ghost use Rattle.abc_states.specs.Turns.{Runs};
-ghost use Rattle.abc_states.specs.WorldMembers.{delete_found as found_deleted, deletes, deletes_own, is_dynamic as is_dynamic_value};
-ghost use Rattle.abc_states.specs.WorldObjects.{without_property};
-ghost use Rattle.abc_states.specs.WorldSetting.{is_dynamic_part as is_dynamic_of};
-ghost use Rattle.abc_states.specs.World.{Went, changes};
+ghost use Rattle.abc_makers.specs.Outer.{Outer, setting, world};
+ghost use Rattle.abc_makers.specs.Standing.{IsSet, Stays};
+ghost use Rattle.abc_makers.specs.Stops.{IsOpen, answer};
+ghost use Rattle.abc_makers.specs.Turns.{Runs};
+ghost use Rattle.abc_makers.specs.Members.{delete_found as found_deleted, deletes, deletes_own, is_dynamic as is_dynamic_value};
+ghost use Rattle.abc_makers.specs.Objects.{without_property};
+ghost use Rattle.abc_makers.specs.Setting.{is_dynamic_part as is_dynamic_of};
+ghost use Rattle.abc_makers.specs.World.{Went, changes};
 ghost use Rattle.abc_named.specs.Deleted.{deletes_named};
 ghost use Rattle.abc_named.specs.Named.{form_at, parts_count};
 
@@ -25,9 +25,9 @@ use abc_cells::{ObjId, Span, Value};
 use abc_items::class_flags;
 use abc_link::{Linked, Part};
 use abc_lookup::{Found, Name, Want, find_on};
+use abc_makers::{State, Stop, operand};
 use abc_moves::finish;
 use abc_search::found_is_there;
-use abc_states::{State, Stop, operand};
 use abc_tables::has_flag;
 
 /// All objects are dynamic but activations, catch objects and instances of sealed classes.

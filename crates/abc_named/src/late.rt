@@ -1,5 +1,5 @@
 ghost use Rattle.std.specs.Prelude.{◌≡◌, Some};
-ghost use Rattle.abc_states.specs.ActsLate.{is_among as is_among_delegates, is_found as is_found_value, is_instance as is_instance_value, late_type as type_late, type_of_what as type_of_kept};
+ghost use Rattle.abc_makers.specs.Late.{is_among as is_among_delegates, is_found as is_found_value, is_instance as is_instance_value, late_type as type_late, type_of_what as type_of_kept};
 ghost use Rattle.abc_cells.specs.declared.values.Value.TheVariants.{Obj};
 ghost use Rattle.abc_heap.specs.Texts.{IsText};
 ghost use Rattle.abc_moves.specs.Ready.{IsReady};
@@ -10,11 +10,11 @@ ghost use Rattle.abc_search.specs.Searches.{found_on};
 ghost use Rattle.abc_search.specs.declared.found.Want.TheVariants.{Read};
 ghost use Rattle.abc_search.specs.declared.name.Spaces.TheVariants.{Public};
 ghost use Rattle.abc_stacks.specs.Frame.{newest};
-ghost use Rattle.abc_states.specs.Outer.{Outer, setting, world};
-ghost use Rattle.abc_states.specs.Standing.{IsSet};
-ghost use Rattle.abc_states.specs.Stops.{answer};
-ghost use Rattle.abc_states.specs.Turns.{Runs};
-ghost use Rattle.abc_states.specs.World.{World};
+ghost use Rattle.abc_makers.specs.Outer.{Outer, setting, world};
+ghost use Rattle.abc_makers.specs.Standing.{IsSet};
+ghost use Rattle.abc_makers.specs.Stops.{answer};
+ghost use Rattle.abc_makers.specs.Turns.{Runs};
+ghost use Rattle.abc_makers.specs.World.{World};
 ghost use Rattle.abc_named.specs.Late.{keeps_late, tests_instance, tests_late, tests_name};
 
 use crate::receivers::is_holder;
@@ -23,10 +23,9 @@ use abc_cells::{ObjId, Span, Value};
 use abc_heap::What;
 use abc_link::{Linked, Ty};
 use abc_lookup::{Found, Name, Spaces, Want, find_on};
-use abc_makers::{class_type, host_type, prototype_for, prototype_of};
+use abc_makers::{State, Stop, class_type, host_type, operand, prototype_for, prototype_of, spell};
 use abc_moves::finish;
 use abc_plainarms::{is_it, value_or_null};
-use abc_states::{State, Stop, operand, spell};
 
 /// The type that a class object is of; what is none throws.
 fn type_of_what(linked: &Linked, what: What) -> Result<Ty, Stop>

@@ -3,20 +3,20 @@ ghost use Rattle.abc_heap.specs.Texts.{IsText};
 ghost use Rattle.abc_objects.specs.Stands.{StandsOver};
 ghost use Rattle.abc_objects.specs.Values.{Exists};
 ghost use Rattle.abc_stacks.specs.Frame.{newest};
-ghost use Rattle.abc_states.specs.ActsNames.{named, space_of};
-ghost use Rattle.abc_states.specs.Outer.{Outer, setting, world};
-ghost use Rattle.abc_states.specs.Standing.{IsSet, Stays};
-ghost use Rattle.abc_states.specs.Stops.{IsOpen, answer};
-ghost use Rattle.abc_states.specs.WorldSetting.{NoPart, NoSpace, NoText, Setting, name_form, spaces_of as spaces_named};
+ghost use Rattle.abc_makers.specs.Names.{named, space_of};
+ghost use Rattle.abc_makers.specs.Outer.{Outer, setting, world};
+ghost use Rattle.abc_makers.specs.Standing.{IsSet, Stays};
+ghost use Rattle.abc_makers.specs.Stops.{IsOpen, answer};
+ghost use Rattle.abc_makers.specs.Setting.{NoPart, NoSpace, NoText, Setting, name_form, spaces_of as spaces_named};
 ghost use Rattle.abc_named.specs.Form.{HasString, HasText, form_of as form_in, forms_of};
-ghost use Rattle.abc_states.specs.World.{World};
+ghost use Rattle.abc_makers.specs.World.{World};
 ghost use Rattle.abc_named.specs.Named.{HasParts, IsSpaceOrNull, form_at, named_here, parts_count, parts_for};
 
 use abc_base::HostClass;
 use abc_cells::{Span, Value};
 use abc_link::Linked;
+use abc_makers::{State, Stop, operand, spell, string_at};
 use abc_search::{Name, Spaces};
-use abc_states::{State, Stop, operand, spell, string_at};
 use abc_tables::Multiname;
 
 /// What a name of the pool leaves to be taken from the stack.

@@ -1,13 +1,13 @@
 ghost use Rattle.std.specs.Prelude.{◌≡◌, IfOk};
 ghost use Rattle.abc_cells.specs.declared.values.Value.TheVariants.{Obj};
-ghost use Rattle.abc_states.specs.Stops.{answer};
-ghost use Rattle.abc_states.specs.WorldMembers.{with_holder};
-ghost use Rattle.abc_states.specs.World.{World, done};
+ghost use Rattle.abc_makers.specs.Stops.{answer};
+ghost use Rattle.abc_makers.specs.Members.{with_holder};
+ghost use Rattle.abc_makers.specs.World.{World, done};
 ghost use Rattle.abc_named.specs.Receivers.{IsReceiver, receiver_of};
 
 use abc_base::HostClass;
 use abc_cells::{ObjId, Value};
-use abc_states::Stop;
+use abc_makers::Stop;
 
 /// Null and undefined have nothing.
 pub fn is_holder(v: Value) -> Result<(), Stop>

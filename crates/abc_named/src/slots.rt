@@ -5,18 +5,18 @@ ghost use Rattle.abc_objects.specs.Stands.{StandsOver};
 ghost use Rattle.abc_objects.specs.Values.{Exists, IsObject};
 ghost use Rattle.abc_program.specs.Slots.{slot_numbered};
 ghost use Rattle.abc_stacks.specs.Frame.{newest};
-ghost use Rattle.abc_states.specs.Outer.{Outer, setting, world};
-ghost use Rattle.abc_states.specs.Standing.{IsSet, Stays};
-ghost use Rattle.abc_states.specs.Stops.{IsOpen, answer};
-ghost use Rattle.abc_states.specs.Turns.{Runs};
-ghost use Rattle.abc_states.specs.WorldMembers.{write_slot as slot_written};
+ghost use Rattle.abc_makers.specs.Outer.{Outer, setting, world};
+ghost use Rattle.abc_makers.specs.Standing.{IsSet, Stays};
+ghost use Rattle.abc_makers.specs.Stops.{IsOpen, answer};
+ghost use Rattle.abc_makers.specs.Turns.{Runs};
+ghost use Rattle.abc_makers.specs.Members.{write_slot as slot_written};
 ghost use Rattle.abc_named.specs.Numbered.{reads_numbered, slot_type, writes_numbered};
 
 use crate::receivers::receiver;
 use abc_cells::{ObjId, Value};
 use abc_link::{Linked, Ty};
+use abc_makers::{State, Stop, coerce, operand};
 use abc_moves::{drop_and_go, finish};
-use abc_states::{State, Stop, coerce, operand};
 
 /// The type of a slot of an object.
 fn type_of_slot(linked: &Linked, s: &State, o: ObjId, k: u32) -> Ty

@@ -1,18 +1,18 @@
 ghost use Rattle.std.specs.Prelude.{◌≡◌, ◌<◌, length};
-ghost use Rattle.abc_states.specs.ActsWalking.{next_along as next_along_of, object_number, position};
+ghost use Rattle.abc_makers.specs.Walking.{next_along as next_along_of, object_number, position};
 ghost use Rattle.abc_moves.specs.Ready.{IsReady};
 ghost use Rattle.abc_objects.specs.Stands.{StandsOver};
 ghost use Rattle.abc_objects.specs.Values.{Exists};
 ghost use Rattle.abc_stacks.specs.Frame.{newest};
-ghost use Rattle.abc_states.specs.Outer.{Outer};
-ghost use Rattle.abc_states.specs.Standing.{IsSet};
-ghost use Rattle.abc_states.specs.Turns.{Runs};
+ghost use Rattle.abc_makers.specs.Outer.{Outer};
+ghost use Rattle.abc_makers.specs.Standing.{IsSet};
+ghost use Rattle.abc_makers.specs.Turns.{Runs};
 ghost use Rattle.abc_named.specs.Walked.{holder_in, position_in, positions_of, pushes_name, pushes_next, pushes_value, walks_on};
 
 use abc_cells::Value;
 use abc_link::Linked;
+use abc_makers::{State, Stop, local, operand};
 use abc_moves::{finish, push};
-use abc_states::{State, Stop, local, operand};
 use abc_walks::{Position, has_next, name_at, next_along, value_at};
 
 /// `hasnext`.

@@ -9,7 +9,7 @@ use Rattle.abc_names.specs.declared.named.Named.{Named}
 use Rattle.abc_names.specs.Pool.{name, no_name, plain_name}
 use Rattle.abc_names.specs.Meaning.{meant, resolve}
 use Rattle.abc_names.specs.Meanings.{AreMeanings, MeansBelow}
-use Rattle.abc_base.proofs.Past.{past_end}
+use Rattle.abc_index.proofs.Past.{past_end}
 
 pub means_none : (v : Abc) → MeansBelow v [] 0
 means_none v = record { len = refl; means = λ n lt. absurd (omega arith) }

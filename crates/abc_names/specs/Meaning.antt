@@ -3,9 +3,9 @@ use Rattle.std.specs.Prelude.{ℕ, List, [], ◌∷◌, Bool, true, false, nat_e
 use Rattle.std.specs.declared.option.Option.{Option}
 use Rattle.std.specs.List.{list_any}
 use Rattle.std.specs.Str.{bytes_eq}
-use Rattle.abc_base.specs.Names.{class_name}
-use Rattle.abc_base.specs.declared.names.HostClass.{HostClass}
-use Rattle.abc_base.specs.declared.names.HostClass.TheVariants as hosts
+use Rattle.abc_index.specs.Names.{class_name}
+use Rattle.abc_index.specs.HostClass.{HostClass}
+use Rattle.abc_index.specs.HostClass.TheVariants as hosts
 use Rattle.abc_index.specs.Index.{first}
 use Rattle.abc_tables.specs.declared.classes.Instance.{Instance}
 use Rattle.abc_tables.specs.declared.tables.Abc.{Abc}

@@ -2,7 +2,7 @@ ghost use Rattle.std.specs.Prelude.{◌≡◌};
 ghost use Rattle.abc_names.specs.Meaning.{host_among as among, host_named as host_of};
 
 use crate::named::Named;
-use abc_base::HostClass;
+use abc_index::HostClass;
 
 /// The classes of the host.
 pub const HOST_CLASSES: [HostClass; 14] = [

@@ -8,8 +8,7 @@ ghost use Rattle.abc_names.specs.Keys.{keys_eq, name_key, same_name};
 use crate::named::DefiniteName;
 use crate::names::Names;
 use crate::pool::{shared_code, space_at};
-use abc_base::NoMemory;
-use abc_index::index_of;
+use abc_index::{NoMemory, index_of};
 use indexmap::IndexMap;
 use std::alloc::Global;
 

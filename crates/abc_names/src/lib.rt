@@ -10,6 +10,10 @@ mod pool;
 mod resolving;
 mod tables;
 
+pub use abc_index::{HostClass, index_of};
+pub use abc_tables::{
+    Abc, Body, Handler, Instance, OptionValue, TraitBody, TraitInfo, ValueKind, has_flag,
+};
 pub use hosts::HOST_CLASSES;
 pub use keys::{NameKey, are_equal, first_places};
 pub use meanings::{Meanings, meanings_of};

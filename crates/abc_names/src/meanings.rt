@@ -4,7 +4,7 @@ ghost use Rattle.abc_names.specs.Meanings.{AreMeanings, MeansBelow};
 
 use crate::named::Named;
 use crate::names::Names;
-use abc_base::{NoMemory, Table};
+use abc_index::{NoMemory, Table};
 use abc_tables::Abc;
 use std::alloc::Global;
 

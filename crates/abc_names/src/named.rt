@@ -1,4 +1,4 @@
-use abc_base::HostClass;
+use abc_index::HostClass;
 
 /// What a name of a type, a base or an interface stands for.
 #[derive(Clone, Copy, Debug, PartialEq, Eq)]

@@ -9,7 +9,7 @@ ghost use Rattle.abc_names.specs.Numbers.{AreNames, number};
 use crate::named::{DefiniteName, PlainName, Spaces};
 use crate::pool::{definite_name_at, set_at, shared_code, space_at, text_at};
 use crate::tables::{NameTables, number_of};
-use abc_base::Table;
+use abc_index::Table;
 use abc_tables::Abc;
 
 /// A file with the tables of its names.

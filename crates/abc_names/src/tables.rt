@@ -3,8 +3,7 @@ ghost use Rattle.abc_names.specs.Pool.{definite_name, name as name_of};
 ghost use Rattle.abc_names.specs.Numbers.{AreNames, number as number_in, key_of as key_in, class_keys as keys_of};
 
 use crate::pool::definite_name_at;
-use abc_base::{NoMemory, Table};
-use abc_index::{Texts, groups_of};
+use abc_index::{NoMemory, Table, Texts, groups_of};
 use abc_tables::Abc;
 use indexmap::IndexMap;
 use std::alloc::Global;
@@ -20,7 +19,7 @@ pub struct NameTables {
 }
 
 /// The number of the text of a string.
-#[tactic(auto, using(abc_base::proofs::Past::past_end))]
+#[tactic(auto, using(abc_index::proofs::Past::past_end))]
 pub(crate) fn number_of(numbers: &Table<u32>, string: u32) -> u32
     ensures { result ≡ number_in numbers.now string }
 {

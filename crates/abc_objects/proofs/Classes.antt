@@ -17,13 +17,13 @@ use Rattle.abc_heap.specs.declared.store.ClassParts.{ClassParts}
 use Rattle.abc_heap.specs.Changes.{with_class, with_made, with_scopes, with_slot, with_more_slots, bare}
 use Rattle.abc_heap.specs.Scopes.{nodes, top, scope_id}
 use Rattle.abc_heap.proofs.Makes.{change_last, nodes_length}
-use Rattle.abc_program.specs.Linked.{LinkedFile, IsLinkedFile, layout_of}
-use Rattle.abc_program.specs.Numbering.{part_at}
-use Rattle.abc_program.specs.Parts.{parent}
-use Rattle.abc_program.specs.Slots.{own_slots, slots_of as slots_of_layout}
-use Rattle.abc_program.specs.declared.part.Part.{Part}
-use Rattle.abc_program.specs.declared.part.Part.TheVariants as parts
-use Rattle.abc_program.specs.declared.types.SlotInfo.{SlotInfo}
+use Rattle.abc_link.specs.ProgramLinked.{LinkedFile, IsLinkedFile, layout_of}
+use Rattle.abc_link.specs.Numbering.{part_at}
+use Rattle.abc_link.specs.Parts.{parent}
+use Rattle.abc_link.specs.Slots.{own_slots, slots_of as slots_of_layout}
+use Rattle.abc_link.specs.Part.{Part}
+use Rattle.abc_link.specs.Part.TheVariants as parts
+use Rattle.abc_link.specs.SlotInfo.{SlotInfo}
 use Rattle.abc_objects.specs.Starts.{start_value, start_values}
 use Rattle.abc_objects.specs.Values.{Exists}
 use Rattle.abc_objects.proofs.Made.{fixed_long, part_found, host_found, over_made_object, older, slots_are, start_there}

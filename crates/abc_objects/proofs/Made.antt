@@ -17,17 +17,17 @@ use Rattle.abc_heap.specs.Scopes.{top}
 use Rattle.abc_heap.specs.declared.records.ScopeEntry.{ScopeEntry}
 use Rattle.abc_base.specs.declared.names.HostClass.{HostClass}
 use Rattle.abc_base.specs.declared.names.HostClass.TheVariants as hosts
-use Rattle.abc_program.specs.Linked.{LinkedFile, IsLinkedFile, base, layout_of}
-use Rattle.abc_program.specs.Parts.{HasLayout, parent}
-use Rattle.abc_program.specs.Places.{place_under}
+use Rattle.abc_link.specs.ProgramLinked.{LinkedFile, IsLinkedFile, base, layout_of}
+use Rattle.abc_link.specs.Parts.{HasLayout, parent}
+use Rattle.abc_link.specs.Places.{place_under}
 use Rattle.abc_heirs.specs.Heirs.{heritage}
 use Rattle.abc_heirs.proofs.Laid.{heritage_none, heritage_some}
-use Rattle.abc_program.specs.Numbering.{part_at}
-use Rattle.abc_program.specs.declared.part.Part.{Part}
-use Rattle.abc_program.specs.declared.part.Part.TheVariants as parts
-use Rattle.abc_program.proofs.Finding.{place_low, falling}
-use Rattle.abc_program.specs.Slots.{slots_of, own_slots}
-use Rattle.abc_program.specs.declared.types.SlotInfo.{SlotInfo}
+use Rattle.abc_link.specs.Numbering.{part_at}
+use Rattle.abc_link.specs.Part.{Part}
+use Rattle.abc_link.specs.Part.TheVariants as parts
+use Rattle.abc_link.proofs.Finding.{place_low, falling}
+use Rattle.abc_link.specs.Slots.{slots_of, own_slots}
+use Rattle.abc_link.specs.SlotInfo.{SlotInfo}
 use Rattle.abc_starts.specs.declared.start.Start.{Start}
 use Rattle.abc_starts.specs.declared.start.Start.TheVariants as starts
 use Rattle.abc_objects.specs.Fixed.{fixed_bytes}

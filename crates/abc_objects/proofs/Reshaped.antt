@@ -11,7 +11,7 @@ use Rattle.abc_heap.specs.What.{is_array}
 use Rattle.abc_heap.specs.Properties.{with_put, with_delete, put_at, delete_at, place_named, valued, filled, AreNamed}
 use Rattle.abc_heap.specs.Changes.{with_slot, with_element, with_new_element}
 use Rattle.abc_heap.proofs.Growth.{set_read}
-use Rattle.abc_program.specs.Linked.{LinkedFile}
+use Rattle.abc_link.specs.ProgramLinked.{LinkedFile}
 use Rattle.abc_objects.specs.Values.{Exists}
 use Rattle.abc_objects.specs.Stands.{StandsOver, IsProperty, Each}
 use Rattle.abc_objects.proofs.Kept.{Reshapes}

@@ -8,9 +8,9 @@ use Rattle.abc_heap.specs.Texts.{pool_text}
 use Rattle.abc_objects.specs.Fixed.{fixed_span}
 use Rattle.abc_objects.specs.declared.fixed.FixedText.TheVariants as fixed
 use Rattle.abc_objects.specs.Values.{IsSpace}
-use Rattle.abc_program.specs.Linked.{LinkedFile}
-use Rattle.abc_program.specs.Slots.{slots_of}
-use Rattle.abc_program.specs.declared.types.SlotInfo.{SlotInfo}
+use Rattle.abc_link.specs.ProgramLinked.{LinkedFile}
+use Rattle.abc_link.specs.Slots.{slots_of}
+use Rattle.abc_link.specs.SlotInfo.{SlotInfo}
 use Rattle.abc_starts.specs.declared.start.Start.{Start}
 use Rattle.abc_starts.specs.declared.start.Start.TheVariants as starts
 

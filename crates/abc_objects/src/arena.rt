@@ -9,7 +9,7 @@ ghost use Rattle.abc_heap.specs.Properties.{place_in, property_in_heap, with_put
 ghost use Rattle.abc_heap.specs.Changes.{with_object, with_slot, with_element, with_new_element, IsMade, IsFunctionMade, IsClassMade, IsArrayMade};
 ghost use Rattle.abc_heap.specs.declared.records.Limit.TheVariants.{Cells, Text};
 ghost use Rattle.abc_base.specs.declared.names.HostClass.TheVariants.{Function, Object};
-ghost use Rattle.abc_program.specs.Linked.{LinkedFile, IsLayout};
+ghost use Rattle.abc_link.specs.ProgramLinked.{LinkedFile, IsLayout};
 ghost use Rattle.abc_objects.specs.Fixed.{fixed_span, fixed_name};
 ghost use Rattle.abc_objects.specs.Opening.{IsOpened, IsUnopened, class_object as class_object_of, entry_of, formula_names, global_number, global_object, host_object as host_object_of, host_object_number, opening_counts, property_names};
 ghost use Rattle.abc_objects.specs.Stands.{StandsOver, IsMadeAs, IsObjectOrNone, IsScope, NamesParts, IsMadeAlone, AreEntries, Each, array_layout, array_prototype, class_object_layout, class_parts, host_class_number, host_layout, prototype_of};

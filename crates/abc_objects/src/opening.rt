@@ -3,9 +3,9 @@ ghost use Rattle.std.specs.List.{concat};
 ghost use Rattle.std.specs.Option.{option_map};
 ghost use Rattle.abc_heap.specs.Changes.{with_object};
 ghost use Rattle.abc_heap.specs.Heap.{HasRoomFor};
-ghost use Rattle.abc_program.specs.Linked.{layout_of};
-ghost use Rattle.abc_program.specs.Parts.{HasLayout};
-ghost use Rattle.abc_program.specs.Slots.{slots_of};
+ghost use Rattle.abc_link.specs.ProgramLinked.{layout_of};
+ghost use Rattle.abc_link.specs.Parts.{HasLayout};
+ghost use Rattle.abc_link.specs.Slots.{slots_of};
 ghost use Rattle.abc_objects.specs.Opening.{IsOpened, IsUnopened, IsWithin, above_host as above, class_object, entry_of, formula_names as names_of, formula_objects, function_object, function_objects, global_object, global_slots, host_object, host_properties, opened, opening, opening_counts, opening_objects, opening_scopes, property_names as names_with, prototype_id, prototype_object, slot_count, spans_from, with_globals, with_more_properties, with_objects};
 ghost use Rattle.abc_objects.specs.Starts.{StartsExist};
 

@@ -1,7 +1,7 @@
 ghost use Rattle.std.specs.Prelude.{◌≡◌, length, map};
 ghost use Rattle.abc_heap.specs.Texts.{pool_text};
-ghost use Rattle.abc_program.specs.Linked.{IsLayout};
-ghost use Rattle.abc_program.specs.Slots.{slots_of};
+ghost use Rattle.abc_link.specs.ProgramLinked.{IsLayout};
+ghost use Rattle.abc_link.specs.Slots.{slots_of};
 ghost use Rattle.abc_objects.specs.Starts.{CanStart, IsShort, IsShortStart, StartsExist, start_value, string_span};
 
 use crate::fixed::FixedText;

@@ -11,7 +11,7 @@ use crate::end::OpEnd;
 use crate::types::is_of;
 use abc_base::HostClass;
 use abc_conversions::{Conversion, is_nothing, is_undefined};
-use abc_link::{Linked, Ty};
+use abc_kinds::{Linked, Ty};
 use abc_objects::{Arena, Value};
 
 fn undefined_as_null(v: Value) -> Value

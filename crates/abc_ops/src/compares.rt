@@ -6,7 +6,7 @@ ghost use Rattle.abc_ops.specs.Compares.{compared, compared_as, or_fault as or_f
 use crate::end::OpEnd;
 use abc_base::Fault;
 use abc_conversions::{Comparison, Texts, are_ordered, comparison_at, equal, strictly_equal};
-use abc_link::Linked;
+use abc_kinds::Linked;
 use abc_objects::{Arena, Span, Value};
 
 /// The texts of an arena over a linked file, and its namespaces.

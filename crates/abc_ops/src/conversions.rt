@@ -15,7 +15,7 @@ use crate::end::OpEnd;
 use crate::made::make_number;
 use abc_base::{Fault, HostClass};
 use abc_conversions::{Conversion, is_nothing, is_true, to_int, to_number, to_uint};
-use abc_link::Linked;
+use abc_kinds::Linked;
 use abc_names::space_name;
 use abc_objects::{Arena, FixedText, Span, Value, span_of_string};
 

@@ -12,6 +12,8 @@ mod operations;
 mod types;
 
 pub use abc_conversions::Conversion;
+pub use abc_kinds::{Linked, Ty};
+pub use abc_objects::{Arena, span_of_string};
 pub use coercions::coerce;
 pub use compares::compare;
 pub use conversions::convert;

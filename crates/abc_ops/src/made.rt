@@ -7,7 +7,7 @@ ghost use Rattle.abc_objects.specs.Stands.{StandsOver};
 ghost use Rattle.abc_ops.specs.Left.{Leaves, text_made};
 
 use crate::end::OpEnd;
-use abc_link::Linked;
+use abc_kinds::Linked;
 use abc_objects::{Arena, Span};
 
 /// Makes the text of a number.

@@ -11,7 +11,7 @@ use crate::conversions::{number_value, spell};
 use crate::end::OpEnd;
 use crate::made::make_joined;
 use abc_conversions::{calculate_value, calculate_values, is_text, is_true, operation, single};
-use abc_link::Linked;
+use abc_kinds::Linked;
 use abc_objects::{Arena, FixedText, Span, Value, What};
 
 fn name_of_object(what: What) -> FixedText

@@ -4,8 +4,7 @@ ghost use Rattle.abc_objects.specs.Stands.{StandsOver};
 ghost use Rattle.abc_objects.specs.Values.{Exists};
 ghost use Rattle.abc_ops.specs.Types.{IsBool, IsInstanceOf, IsInt, IsNum, IsObjectOf, IsOf, IsSomething, IsSpaceValue, IsTextValue, IsUInt, IsUndefined, NamesInterface};
 
-use abc_kinds::is_below;
-use abc_link::{LayoutId, Linked, Part, Ty};
+use abc_kinds::{LayoutId, Linked, Part, Ty, is_below};
 use abc_objects::{Arena, Value};
 
 fn is_undefined(v: Value) -> bool

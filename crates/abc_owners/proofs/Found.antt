@@ -7,7 +7,7 @@ use Rattle.abc_index.specs.Index.{Finds, Map, first, first_from}
 use Rattle.abc_program.specs.Owners.{body_of, namings, owner_at, owner_of}
 use Rattle.abc_program.specs.declared.types.Naming.{Naming}
 use Rattle.abc_program.specs.declared.types.Owner.{Owner}
-use Rattle.abc_items.specs.Methods.{methods_with_bodies}
+use Rattle.abc_program.specs.Methods.{methods_with_bodies}
 use Rattle.abc_tables.specs.declared.tables.Abc.{Abc}
 use Rattle.abc_owners.specs.Owning.{AreOwners}
 use Rattle.abc_owners.specs.declared.owners.Owners.{Owners}

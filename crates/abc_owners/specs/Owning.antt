@@ -2,7 +2,7 @@
 use Rattle.std.specs.Prelude.{◌≡◌, map, nat_eq}
 use Rattle.abc_index.specs.Index.{Finds}
 use Rattle.abc_program.specs.Owners.{namings}
-use Rattle.abc_items.specs.Methods.{methods_with_bodies}
+use Rattle.abc_program.specs.Methods.{methods_with_bodies}
 use Rattle.abc_tables.specs.declared.tables.Abc.{Abc}
 use Rattle.abc_owners.specs.declared.owners.Owners.{Owners}
 

@@ -1,7 +1,7 @@
 ghost use Rattle.std.specs.Prelude.{◌≡◌, ◌<◌, ◌^◌, length, map, nat_eq, IfOk};
 ghost use Rattle.abc_index.specs.Index.{Finds, first};
 ghost use Rattle.abc_program.specs.Owners.{body_of, owner_at as owner_at_of, owner_of};
-ghost use Rattle.abc_items.specs.Methods.{methods_with_bodies as all_with_bodies};
+ghost use Rattle.abc_program.specs.Methods.{methods_with_bodies as all_with_bodies};
 ghost use Rattle.abc_owners.specs.Owning.{AreOwners};
 
 use crate::namings::namings;

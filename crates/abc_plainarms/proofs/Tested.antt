@@ -3,7 +3,7 @@ use Rattle.std.proofs.Common.{◌≡◌, Bool, true, false, refl, sym}
 use Rattle.std.specs.Prelude.{◌↔◌, IsTrue}
 use Rattle.abc_cells.specs.declared.values.Value.{Value}
 use Rattle.abc_heap.specs.Heap.{Heap}
-use Rattle.abc_ops.specs.Types.{IsOf}
+use Rattle.abc_states.specs.Types.{IsOf}
 use Rattle.abc_program.specs.Linked.{IsLinkedFile, LinkedFile}
 use Rattle.abc_program.specs.declared.types.Ty.{Ty}
 use Rattle.abc_states.specs.WorldTypes.{is_of}

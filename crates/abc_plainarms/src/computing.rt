@@ -9,8 +9,9 @@ ghost use Rattle.abc_plainarms.specs.Plain.{computes_both, computes_top, convert
 use abc_cells::Value;
 use abc_link::Linked;
 use abc_moves::{finish, go_on};
-use abc_ops::Conversion;
-use abc_states::{State, Stop, compare, compute_one, compute_two, convert, local, operand};
+use abc_states::{
+    Conversion, State, Stop, compare, compute_one, compute_two, convert, local, operand,
+};
 
 /// Converts the top operand.
 pub fn convert_top(linked: &Linked, s: &mut State, to: Conversion) -> Result<(), Stop>

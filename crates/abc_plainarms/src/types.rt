@@ -14,8 +14,7 @@ ghost use Rattle.abc_plainarms.specs.Plain.{coerces_named, keeps_named, tests_na
 use abc_cells::Value;
 use abc_link::{Linked, Ty};
 use abc_moves::finish;
-use abc_ops::is_of;
-use abc_states::{State, Stop, coerce, operand};
+use abc_states::{State, Stop, coerce, is_of, operand};
 
 /// The type that a name is, where the meaning knows one.
 fn type_named(linked: &Linked, name: u32) -> Ty

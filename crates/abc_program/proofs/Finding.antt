@@ -4,10 +4,10 @@ use Rattle.std.specs.declared.option.Option.{Option}
 use Rattle.std.specs.Prelude.{if◌then◌else◌}
 use Rattle.std.proofs.lemmas.Bool.{cases_lt, false≢true}
 use Rattle.std.proofs.lemmas.List.{get_or-map, get_or-take, get_or_default, get_or_past, length-map, length-take}
-use Rattle.abc_base.specs.declared.names.HostClass.{HostClass}
-use Rattle.abc_base.specs.declared.names.HostClass.TheVariants as hosts
-use Rattle.abc_graph.specs.Ways.{IsFalling}
-use Rattle.abc_tables.specs.declared.tables.Abc.{Abc}
+use Rattle.abc_heirs.specs.HostClass.{HostClass}
+use Rattle.abc_heirs.specs.HostClass.TheVariants as hosts
+use Rattle.abc_heirs.specs.Ways.{IsFalling}
+use Rattle.abc_rules.specs.Abc.{Abc}
 use Rattle.abc_rules.proofs.Pairs.{first_found, first_hit}
 use Rattle.abc_program.specs.Numbering.{IsNumbering, part_at}
 use Rattle.abc_program.specs.Parts.{HasLayout, parent}

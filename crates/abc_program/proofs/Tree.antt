@@ -1,7 +1,7 @@
 -- Going up the tree of layouts.
 use Rattle.std.proofs.Common.{◌≡◌, ℕ, zero, suc, ◌+◌, ◌-◌, ◌≤◌, ◌<◌, ◌≢◌, Some, None, refl, ap, ◌∙◌, arith, unwrap_or}
 use Rattle.std.specs.declared.option.Option.{Option}
-use Rattle.abc_graph.specs.Ways.{IsFalling}
+use Rattle.abc_heirs.specs.Ways.{IsFalling}
 use Rattle.abc_program.specs.Linked.{IsLinkedFile, LinkedFile, above, base}
 use Rattle.abc_program.specs.Tree.{IsBelow, up}
 use Rattle.abc_program.proofs.Finding.{falling}

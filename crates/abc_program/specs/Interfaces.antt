@@ -1,12 +1,12 @@
 -- Which interfaces a class names: itself, through its bases, or through the interfaces of interfaces. The base of an
 -- interface is not followed.
 use Rattle.std.specs.Prelude.{ℕ, List, [], ◌++◌, IsTrue, if◌then◌else◌, map}
-use Rattle.abc_graph.specs.Graph.{Leads}
-use Rattle.abc_names.specs.Meaning.{resolve}
-use Rattle.abc_items.specs.Bases.{classes_named, interfaces_of, is_interface}
-use Rattle.abc_tables.specs.Methods.{has_flag}
-use Rattle.abc_tables.specs.declared.classes.Instance.{Instance}
-use Rattle.abc_tables.specs.declared.tables.Abc.{Abc}
+use Rattle.abc_heirs.specs.Graph.{Leads}
+use Rattle.abc_rules.specs.Meaning.{resolve}
+use Rattle.abc_rules.specs.ItemsBases.{classes_named, interfaces_of, is_interface}
+use Rattle.abc_rules.specs.TablesMethods.{has_flag}
+use Rattle.abc_rules.specs.Instance.{Instance}
+use Rattle.abc_rules.specs.Abc.{Abc}
 use Rattle.abc_program.specs.Linked.{LinkedFile}
 
 -- the interfaces of a class's own list, and its base

@@ -2,10 +2,10 @@
 -- the two.
 use Rattle.std.specs.Prelude.{ℕ, ◌<◌, ◌^◌, List, length, unwrap_or}
 use Rattle.std.specs.declared.option.Option.{Option}
-use Rattle.abc_tables.specs.Files.{Fits}
-use Rattle.abc_tables.specs.declared.tables.Abc.{Abc}
-use Rattle.abc_items.specs.Firsts.{IsFew}
-use Rattle.abc_items.specs.Rules.{AllHold}
+use Rattle.abc_rules.specs.Files.{Fits}
+use Rattle.abc_rules.specs.Abc.{Abc}
+use Rattle.abc_rules.specs.Firsts.{IsFew}
+use Rattle.abc_rules.specs.Rules.{AllHold}
 use Rattle.abc_program.specs.Numbering.{IsNumbering, part_at}
 use Rattle.abc_program.specs.Places.{base_of, place_of}
 use Rattle.abc_program.specs.declared.part.LayoutId.{LayoutId}

@@ -1,7 +1,7 @@
 -- Layouts by their numbers: a list of the parts that have one.
 use Rattle.std.specs.Prelude.{◌≡◌, ℕ, ◌<◌, List, Some, All, Contains, length, take, get_or}
-use Rattle.abc_base.specs.declared.names.HostClass.TheVariants as hosts
-use Rattle.abc_tables.specs.declared.tables.Abc.{Abc}
+use Rattle.abc_heirs.specs.HostClass.TheVariants as hosts
+use Rattle.abc_rules.specs.Abc.{Abc}
 use Rattle.abc_program.specs.Parts.{HasLayout, parent}
 use Rattle.abc_program.specs.declared.part.Part.{Part}
 use Rattle.abc_program.specs.declared.part.Part.TheVariants as parts

@@ -2,15 +2,15 @@
 use Rattle.std.specs.Prelude.{ℕ, ◌+◌, List, [], ◌∷◌, ◌++◌, Some, None, get_or, nat_eq}
 use Rattle.std.specs.declared.option.Option.{Option}
 use Rattle.std.specs.List.{flat_map}
-use Rattle.abc_index.specs.Index.{first}
-use Rattle.abc_items.specs.Methods.{methods_with_bodies}
-use Rattle.abc_tables.specs.declared.classes.ClassInfo.{ClassInfo}
-use Rattle.abc_tables.specs.declared.classes.Instance.{Instance}
-use Rattle.abc_tables.specs.declared.classes.Script.{Script}
-use Rattle.abc_tables.specs.declared.tables.Abc.{Abc}
-use Rattle.abc_tables.specs.declared.traits.TraitBody.{TraitBody}
-use Rattle.abc_tables.specs.declared.traits.TraitBody.TheVariants as traits
-use Rattle.abc_tables.specs.declared.traits.TraitInfo.{TraitInfo}
+use Rattle.abc_heirs.specs.Index.{first}
+use Rattle.abc_rules.specs.ItemsMethods.{methods_with_bodies}
+use Rattle.abc_rules.specs.ClassInfo.{ClassInfo}
+use Rattle.abc_rules.specs.Instance.{Instance}
+use Rattle.abc_rules.specs.Script.{Script}
+use Rattle.abc_rules.specs.Abc.{Abc}
+use Rattle.abc_rules.specs.TraitBody.{TraitBody}
+use Rattle.abc_rules.specs.TraitBody.TheVariants as traits
+use Rattle.abc_rules.specs.TraitInfo.{TraitInfo}
 use Rattle.abc_program.specs.declared.types.Naming.{Naming}
 use Rattle.abc_program.specs.declared.types.Owner.{Owner}
 use Rattle.abc_program.specs.declared.types.Owner.TheVariants as owners

@@ -1,14 +1,14 @@
 -- What has a layout, and what stands under what.
 use Rattle.std.specs.Prelude.{ℕ, ◌<◌, Bool, Some, None, IsTrue, length}
 use Rattle.std.specs.declared.option.Option.{Option}
-use Rattle.abc_base.specs.declared.names.HostClass.{HostClass}
-use Rattle.abc_base.specs.declared.names.HostClass.TheVariants as hosts
-use Rattle.abc_names.specs.declared.named.Named.{Named}
-use Rattle.abc_names.specs.declared.named.Named.TheVariants as named
-use Rattle.abc_tables.specs.Methods.{has_flag}
-use Rattle.abc_tables.specs.declared.tables.Abc.{Abc}
-use Rattle.abc_items.specs.Bases.{base_named}
-use Rattle.abc_items.specs.Parts.{body_at, method_at}
+use Rattle.abc_heirs.specs.HostClass.{HostClass}
+use Rattle.abc_heirs.specs.HostClass.TheVariants as hosts
+use Rattle.abc_rules.specs.Named.{Named}
+use Rattle.abc_rules.specs.Named.TheVariants as named
+use Rattle.abc_rules.specs.TablesMethods.{has_flag}
+use Rattle.abc_rules.specs.Abc.{Abc}
+use Rattle.abc_rules.specs.ItemsBases.{base_named}
+use Rattle.abc_rules.specs.Parts.{body_at, method_at}
 use Rattle.abc_program.specs.declared.part.Part.{Part}
 use Rattle.abc_program.specs.declared.part.Part.TheVariants as parts
 

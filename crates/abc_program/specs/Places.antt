@@ -1,10 +1,10 @@
 -- Layouts found by their parts, and the layout that one stands under.
 use Rattle.std.specs.Prelude.{ℕ, List, Bool, nat_eq, ◌&&◌, Some, None, map, unwrap_or}
 use Rattle.std.specs.declared.option.Option.{Option}
-use Rattle.abc_base.specs.declared.names.HostClass.{HostClass}
-use Rattle.abc_base.specs.declared.names.HostClass.TheVariants as hosts
-use Rattle.abc_index.specs.Index.{first}
-use Rattle.abc_tables.specs.declared.tables.Abc.{Abc}
+use Rattle.abc_heirs.specs.HostClass.{HostClass}
+use Rattle.abc_heirs.specs.HostClass.TheVariants as hosts
+use Rattle.abc_heirs.specs.Index.{first}
+use Rattle.abc_rules.specs.Abc.{Abc}
 use Rattle.abc_program.specs.Numbering.{part_at}
 use Rattle.abc_program.specs.Parts.{parent}
 use Rattle.abc_program.specs.declared.key.PartKey.{PartKey}

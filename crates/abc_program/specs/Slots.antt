@@ -2,23 +2,23 @@
 use Rattle.std.specs.Prelude.{ℕ, ◌<◌, ◌^◌, List, [], ◌∷◌, true, false, Some, None, if◌then◌else◌, get_or, length, nat_eq, unwrap_or}
 use Rattle.std.specs.declared.option.Option.{Option}
 use Rattle.std.specs.List.{flat_map}
-use Rattle.abc_base.specs.declared.names.HostClass.TheVariants as hosts
+use Rattle.abc_heirs.specs.HostClass.TheVariants as hosts
 use Rattle.abc_heirs.specs.Heirs.{heritage}
-use Rattle.abc_index.specs.Index.{first}
+use Rattle.abc_heirs.specs.Index.{first}
 use Rattle.abc_program.specs.Numbering.{part_at}
 use Rattle.abc_program.specs.declared.part.Part.{Part}
 use Rattle.abc_program.specs.declared.part.Part.TheVariants as parts
-use Rattle.abc_names.specs.Instances.{instance_at}
-use Rattle.abc_names.specs.Meaning.{type_named}
-use Rattle.abc_items.specs.Parts.{body_at, class_at, script_at}
-use Rattle.abc_starts.specs.Starts.{default_of, start_of}
-use Rattle.abc_items.specs.Traits.{type_or_any}
-use Rattle.abc_starts.specs.declared.start.Start.TheVariants as starts
-use Rattle.abc_tables.specs.declared.code.Handler.{Handler}
-use Rattle.abc_tables.specs.declared.tables.Abc.{Abc}
-use Rattle.abc_tables.specs.declared.traits.TraitBody.{TraitBody}
-use Rattle.abc_tables.specs.declared.traits.TraitBody.TheVariants as traits
-use Rattle.abc_tables.specs.declared.traits.TraitInfo.{TraitInfo}
+use Rattle.abc_rules.specs.Instances.{instance_at}
+use Rattle.abc_rules.specs.Meaning.{type_named}
+use Rattle.abc_rules.specs.Parts.{body_at, class_at, script_at}
+use Rattle.abc_rules.specs.Starts.{default_of, start_of}
+use Rattle.abc_rules.specs.Traits.{type_or_any}
+use Rattle.abc_rules.specs.Start.TheVariants as starts
+use Rattle.abc_rules.specs.Handler.{Handler}
+use Rattle.abc_rules.specs.Abc.{Abc}
+use Rattle.abc_rules.specs.TraitBody.{TraitBody}
+use Rattle.abc_rules.specs.TraitBody.TheVariants as traits
+use Rattle.abc_rules.specs.TraitInfo.{TraitInfo}
 use Rattle.abc_program.specs.Linked.{LinkedFile, base, layout_of}
 use Rattle.abc_program.specs.Types.{type_in}
 use Rattle.abc_program.specs.declared.types.SlotInfo.{SlotInfo}

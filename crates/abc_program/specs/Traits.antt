@@ -2,11 +2,11 @@
 use Rattle.std.specs.Prelude.{ℕ, List, map}
 use Rattle.std.specs.declared.option.Option.{Option}
 use Rattle.std.specs.Str.{bytes_eq}
-use Rattle.abc_index.specs.Groups.{places_of, some_places}
-use Rattle.abc_names.specs.Pool.{name, qname, text}
-use Rattle.abc_names.specs.declared.named.DefiniteName.{DefiniteName}
-use Rattle.abc_tables.specs.declared.tables.Abc.{Abc}
-use Rattle.abc_tables.specs.declared.traits.TraitInfo.{TraitInfo}
+use Rattle.abc_heirs.specs.Groups.{places_of, some_places}
+use Rattle.abc_rules.specs.Pool.{name, qname, text}
+use Rattle.abc_rules.specs.DefiniteName.{DefiniteName}
+use Rattle.abc_rules.specs.Abc.{Abc}
+use Rattle.abc_rules.specs.TraitInfo.{TraitInfo}
 use Rattle.abc_program.specs.Linked.{LinkedFile}
 use Rattle.abc_program.specs.Numbering.{part_at}
 use Rattle.abc_program.specs.Slots.{traits_of}

@@ -1,14 +1,14 @@
 -- Types of names, over the numbers of layouts.
 use Rattle.std.specs.Prelude.{ℕ, Some, None, if◌then◌else◌}
 use Rattle.std.specs.declared.option.Option.{Option}
-use Rattle.abc_base.specs.declared.names.HostClass.{HostClass}
-use Rattle.abc_base.specs.declared.names.HostClass.TheVariants as hosts
+use Rattle.abc_heirs.specs.HostClass.{HostClass}
+use Rattle.abc_heirs.specs.HostClass.TheVariants as hosts
 use Rattle.abc_program.specs.Linked.{LinkedFile, layout_of}
 use Rattle.abc_program.specs.declared.part.Part.TheVariants as parts
-use Rattle.abc_names.specs.Meaning.{type_named}
-use Rattle.abc_names.specs.declared.named.Named.{Named}
-use Rattle.abc_names.specs.declared.named.Named.TheVariants as named
-use Rattle.abc_items.specs.Bases.{is_interface}
+use Rattle.abc_rules.specs.Meaning.{type_named}
+use Rattle.abc_rules.specs.Named.{Named}
+use Rattle.abc_rules.specs.Named.TheVariants as named
+use Rattle.abc_rules.specs.ItemsBases.{is_interface}
 use Rattle.abc_program.specs.declared.types.Kind.{Kind}
 use Rattle.abc_program.specs.declared.types.Kind.TheVariants as kinds
 use Rattle.abc_program.specs.declared.types.Ty.{Ty}

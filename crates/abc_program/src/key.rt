@@ -2,7 +2,7 @@ ghost use Rattle.std.specs.Prelude.{◌≡◌};
 ghost use Rattle.abc_program.specs.Places.{host_number as number_of_host, key_with, part_key as key_of};
 
 use crate::part::Part;
-use abc_base::HostClass;
+use abc_heirs::HostClass;
 
 /// A part as numbers, by which it is found.
 #[derive(Clone, Copy, Debug, PartialEq, Eq, Hash)]

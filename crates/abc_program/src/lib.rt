@@ -6,6 +6,11 @@ mod key;
 mod part;
 mod types;
 
+pub use abc_heirs::Heirs;
+pub use abc_rules::{
+    HOST_CLASSES, Item, ItemKind, LinkError, LinkRule, Meanings, NameTables, Named, Names, Start,
+    check_rules, meanings_of, qname_at, start_of,
+};
 pub use key::{PartKey, part_key};
 pub use part::{LayoutId, Part};
 pub use types::{Kind, Naming, Owner, SlotInfo, Ty};

@@ -1,4 +1,4 @@
-use abc_base::HostClass;
+use abc_heirs::HostClass;
 
 /// The number of a layout. A base has a lower number than what stands under it; that of Object's instances is 0.
 #[derive(Clone, Copy, Debug, PartialEq, Eq)]

@@ -1,5 +1,5 @@
 use crate::part::LayoutId;
-use abc_starts::Start;
+use abc_rules::Start;
 
 /// Whose method a method is.
 #[derive(Clone, Copy, Debug, PartialEq, Eq)]

@@ -1,7 +1,7 @@
 -- The state that a run of a verified file begins with is one that a run reaches.
 use Rattle.std.proofs.Common.{◌≡◌, List, [], Bool, map, sym, ap, ◌∙◌, subst}
 use Rattle.abc_ends.specs.Ending.{IsSized}
-use Rattle.abc_fair.proofs.Typed.{has_typings}
+use Rattle.abc_finishing.proofs.Typed.{has_typings}
 use Rattle.abc_finishing.specs.Steps.{machine}
 use Rattle.abc_heap.specs.Heap.{Heap}
 use Rattle.abc_heap.specs.declared.records.Limits.{Limits}
@@ -14,7 +14,7 @@ use Rattle.abc_stacks.specs.Frame.{Frames}
 use Rattle.abc_states.specs.Turns.{size_for}
 use Rattle.abc_states.specs.WorldSetting.{Setting}
 use Rattle.abc_states.specs.declared.state.State.{State}
-use Rattle.abc_unstuck.proofs.Never.{the_first_is_sound}
+use Rattle.abc_finishing.proofs.Never.{the_first_is_sound}
 
 pub limits_kept : (p : Setting) (limits : Limits) (s : State) → IsBegun p limits s → s.arena.limits ≡ limits
 limits_kept p limits s b = ap (λ (h : Heap). h.limits) b.heap

@@ -9,7 +9,7 @@ use Rattle.abc_reached.proofs.Beginning.{reached_first}
 use Rattle.abc_stacks.specs.Frame.{no_frames}
 use Rattle.abc_states.specs.WorldSetting.{Setting}
 use Rattle.abc_states.specs.declared.state.State.{State}
-use Rattle.abc_unstuck.proofs.Witness.{some_verified}
+use Rattle.abc_finishing.proofs.Witness.{some_verified}
 
 -- a number that is enough for each of some things, of so many each
 enough : {X : Type 0} → List X → (X → ℕ) → ℕ

@@ -5,7 +5,7 @@ use Rattle.abc_finishing.specs.Steps.{machine}
 use Rattle.abc_meaning.specs.Sound.{SteppedSound}
 use Rattle.abc_reached.specs.Laws.{StepsStayReached}
 use Rattle.abc_states.specs.Outer.{setting}
-use Rattle.abc_unstuck.proofs.Never.{stays_sound}
+use Rattle.abc_finishing.proofs.Never.{stays_sound}
 
 pub reached_on : StepsStayReached
 reached_on l out old new before now r g sized limit = record {

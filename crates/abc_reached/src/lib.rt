@@ -4,4 +4,5 @@
 
 mod laws;
 
+pub use abc_finishing::Halt;
 pub use laws::{runs_begin_reached, some_runs_begin, steps_stay_reached};

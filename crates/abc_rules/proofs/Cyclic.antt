@@ -3,8 +3,8 @@ use Rattle.std.proofs.Common.{◌≡◌, ℕ, ◌<◌, ◌≤◌, ◌⊎◌, inl
 use Rattle.std.specs.declared.option.Option.{Option}
 use Rattle.std.proofs.lemmas.Bool.{cases_lt, false≢true}
 use Rattle.std.proofs.lemmas.List.{length-map}
-use Rattle.abc_graph.specs.Graph.{Returns, IsFirstReturn}
-use Rattle.abc_tables.specs.declared.tables.Abc.{Abc}
+use Rattle.abc_items.specs.Graph.{Returns, IsFirstReturn}
+use Rattle.abc_items.specs.Abc.{Abc}
 use Rattle.abc_items.specs.declared.items.LinkRule.TheVariants as rules
 use Rattle.abc_items.specs.declared.items.ItemKind.{ItemKind}
 use Rattle.abc_items.specs.declared.items.ItemKind.TheVariants as kinds

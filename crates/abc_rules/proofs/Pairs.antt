@@ -2,7 +2,7 @@
 use Rattle.std.proofs.Common.{◌≡◌, ℕ, zero, suc, ◌+◌, ◌<◌, ◌≤◌, Bool, true, false, List, [], ◌∷◌, ◌||◌, Some, cond, map, length, get_or, refl, ap, ◌∙◌, arith}
 use Rattle.std.specs.List.{list_any}
 use Rattle.std.proofs.lemmas.Bool.{false≢true}
-use Rattle.abc_index.specs.Index.{first_from, first}
+use Rattle.abc_items.specs.Index.{first_from, first}
 use Rattle.abc_items.specs.Traits.{any_pair}
 
 -- ---- some value passes a test

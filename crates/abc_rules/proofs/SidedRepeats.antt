@@ -7,15 +7,15 @@ use Rattle.std.proofs.lemmas.List.{get_or-map, length-map}
 use Rattle.std.specs.declared.hash.FoldHasher.{FoldHasher}
 use Rattle.std.specs.declared.hash.BuildHasherDefault.{BuildHasherDefault}
 use Rattle.indexmap.specs.IndexMap.{get, IndexMap}
-use Rattle.abc_index.specs.Index.{first}
-use Rattle.abc_names.specs.Keys.{keys_eq, name_key, same_name}
-use Rattle.abc_names.specs.Pool.{name, qname}
-use Rattle.abc_names.specs.declared.keys.NameKey.{NameKey}
-use Rattle.abc_names.specs.declared.named.DefiniteName.{DefiniteName}
-use Rattle.abc_tables.specs.declared.tables.Abc.{Abc}
-use Rattle.abc_tables.specs.declared.traits.TraitBody.{TraitBody}
-use Rattle.abc_tables.specs.declared.traits.TraitBody.TheVariants as traits
-use Rattle.abc_tables.specs.declared.traits.TraitInfo.{TraitInfo}
+use Rattle.abc_items.specs.Index.{first}
+use Rattle.abc_items.specs.Keys.{keys_eq, name_key, same_name}
+use Rattle.abc_items.specs.Pool.{name, qname}
+use Rattle.abc_items.specs.NameKey.{NameKey}
+use Rattle.abc_items.specs.DefiniteName.{DefiniteName}
+use Rattle.abc_items.specs.Abc.{Abc}
+use Rattle.abc_items.specs.TraitBody.{TraitBody}
+use Rattle.abc_items.specs.TraitBody.TheVariants as traits
+use Rattle.abc_items.specs.TraitInfo.{TraitInfo}
 use Rattle.abc_rules.specs.declared.same_name.SidedKey.{SidedKey}
 use Rattle.abc_rules.specs.Clashes.{is_clash_of}
 use Rattle.abc_rules.specs.Repeats.{side_of, opposite, sided_key, sided_eq, keys_clash, no_key, no_sided, clashes_with, is_elsewhere, clashes_at}

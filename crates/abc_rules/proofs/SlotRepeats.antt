@@ -2,8 +2,8 @@
 use Rattle.std.proofs.Common.{◌≡◌, ℕ, ◌<◌, ◌≤◌, Bool, true, false, ◌&&◌, not, List, Some, None, map, length, get_or, nat_eq, eq-eqb, eqb-true, refl, sym, ap, ◌∙◌, arith}
 use Rattle.std.specs.declared.option.Option.{Option}
 use Rattle.std.proofs.lemmas.Bool.{false≢true}
-use Rattle.abc_index.specs.Index.{first}
-use Rattle.abc_tables.specs.declared.traits.TraitInfo.{TraitInfo}
+use Rattle.abc_items.specs.Index.{first}
+use Rattle.abc_items.specs.TraitInfo.{TraitInfo}
 use Rattle.abc_rules.specs.Repeats.{is_repeat}
 use Rattle.abc_items.specs.Traits.{any_pair, slot_id, slots_clash}
 use Rattle.abc_rules.proofs.Pairs.{first_found, first_hit, first_low, pair_found, pair_makes, pair_map}

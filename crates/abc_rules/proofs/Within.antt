@@ -6,19 +6,19 @@ use Rattle.std.specs.Str.{bytes_eq}
 use Rattle.std.specs.Prelude.{codes}
 use Rattle.std.proofs.lemmas.List.{get_or-map, length-map}
 use Rattle.std.proofs.lemmas.List.Elements.{All-append, All-cons}
-use Rattle.abc_base.specs.Names.{class_name}
-use Rattle.abc_base.specs.declared.names.HostClass.{HostClass}
-use Rattle.abc_graph.specs.Graph.{IsGraph}
-use Rattle.abc_index.specs.Index.{first}
-use Rattle.abc_names.specs.Instances.{no_instance}
-use Rattle.abc_names.specs.Meaning.{class_or_host, holds_public, host_among, host_classes, host_named, is_class_named, meant, resolve}
-use Rattle.abc_names.specs.Pool.{name, plain_name, text}
-use Rattle.abc_names.specs.declared.named.Named.{Named}
-use Rattle.abc_names.specs.declared.named.Named.TheVariants as named
-use Rattle.abc_names.specs.declared.named.PlainName.{PlainName}
-use Rattle.abc_tables.specs.declared.classes.Instance.{Instance}
-use Rattle.abc_tables.specs.declared.tables.Abc.{Abc}
-use Rattle.abc_tables.specs.Methods.{has_flag}
+use Rattle.abc_items.specs.Names.{class_name}
+use Rattle.abc_items.specs.HostClass.{HostClass}
+use Rattle.abc_items.specs.Graph.{IsGraph}
+use Rattle.abc_items.specs.Index.{first}
+use Rattle.abc_items.specs.Instances.{no_instance}
+use Rattle.abc_items.specs.Meaning.{class_or_host, holds_public, host_among, host_classes, host_named, is_class_named, meant, resolve}
+use Rattle.abc_items.specs.Pool.{name, plain_name, text}
+use Rattle.abc_items.specs.Named.{Named}
+use Rattle.abc_items.specs.Named.TheVariants as named
+use Rattle.abc_items.specs.PlainName.{PlainName}
+use Rattle.abc_items.specs.Instance.{Instance}
+use Rattle.abc_items.specs.Abc.{Abc}
+use Rattle.abc_items.specs.TablesMethods.{has_flag}
 use Rattle.abc_items.specs.Bases.{base_graph, classes_named, interface_graph, interfaces_named, interfaces_of, is_interface, targets_of}
 use Rattle.abc_rules.proofs.Pairs.{first_hit}
 

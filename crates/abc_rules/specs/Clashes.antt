@@ -3,8 +3,8 @@ use Rattle.std.specs.Prelude.{ℕ, List, Bool, get_or}
 use Rattle.std.specs.declared.hash.FoldHasher.{FoldHasher}
 use Rattle.std.specs.declared.hash.BuildHasherDefault.{BuildHasherDefault}
 use Rattle.indexmap.specs.IndexMap.{get, IndexMap}
-use Rattle.abc_names.specs.Keys.{keys_eq}
-use Rattle.abc_names.specs.declared.keys.NameKey.{NameKey}
+use Rattle.abc_items.specs.Keys.{keys_eq}
+use Rattle.abc_items.specs.NameKey.{NameKey}
 use Rattle.abc_rules.specs.declared.same_name.SidedKey.{SidedKey}
 use Rattle.abc_rules.specs.Repeats.{clashes_at, no_sided, sided_eq}
 

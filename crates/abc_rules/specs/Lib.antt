@@ -2,3 +2,30 @@ pub mod Repeats
 pub mod Clashes
 pub mod Times
 pub mod Cycles
+pub use Rattle.abc_items.specs.Bases as ItemsBases
+pub use Rattle.abc_items.specs.Firsts
+pub use Rattle.abc_items.specs.Rules
+pub use Rattle.abc_items.specs.Methods as ItemsMethods
+pub use Rattle.abc_items.specs.Parts
+pub use Rattle.abc_items.specs.Traits
+pub use Rattle.abc_items.specs.Starts
+pub use Rattle.abc_items.specs.Start
+pub use Rattle.abc_items.specs.Meaning
+pub use Rattle.abc_items.specs.Named
+pub use Rattle.abc_items.specs.Instances
+pub use Rattle.abc_items.specs.Pool
+pub use Rattle.abc_items.specs.DefiniteName
+pub use Rattle.abc_items.specs.Abc
+pub use Rattle.abc_items.specs.TablesMethods
+pub use Rattle.abc_items.specs.Instance
+pub use Rattle.abc_items.specs.Files
+pub use Rattle.abc_items.specs.ClassInfo
+pub use Rattle.abc_items.specs.Script
+pub use Rattle.abc_items.specs.TraitBody
+pub use Rattle.abc_items.specs.TraitInfo
+pub use Rattle.abc_items.specs.Handler
+pub use Rattle.abc_items.specs.declared.items.Item
+pub use Rattle.abc_items.specs.declared.items.ItemKind
+pub use Rattle.abc_items.specs.declared.items.LinkRule
+pub use Rattle.abc_items.specs.Meanings
+pub use Rattle.abc_items.specs.Numbers

@@ -1,13 +1,13 @@
 -- Where keys of one table of traits stand first, and whether one stands twice.
 use Rattle.std.specs.Prelude.{ℕ, List, Bool, false, nat_eq, not, ◌||◌, ◌&&◌, Some, None, get_or}
 use Rattle.std.specs.declared.option.Option.{Option}
-use Rattle.abc_names.specs.Keys.{keys_eq, name_key}
-use Rattle.abc_names.specs.Pool.{name, qname}
-use Rattle.abc_names.specs.declared.keys.NameKey.{NameKey}
-use Rattle.abc_tables.specs.declared.tables.Abc.{Abc}
-use Rattle.abc_tables.specs.declared.traits.TraitBody.{TraitBody}
-use Rattle.abc_tables.specs.declared.traits.TraitBody.TheVariants as traits
-use Rattle.abc_tables.specs.declared.traits.TraitInfo.{TraitInfo}
+use Rattle.abc_items.specs.Keys.{keys_eq, name_key}
+use Rattle.abc_items.specs.Pool.{name, qname}
+use Rattle.abc_items.specs.NameKey.{NameKey}
+use Rattle.abc_items.specs.Abc.{Abc}
+use Rattle.abc_items.specs.TraitBody.{TraitBody}
+use Rattle.abc_items.specs.TraitBody.TheVariants as traits
+use Rattle.abc_items.specs.TraitInfo.{TraitInfo}
 use Rattle.abc_rules.specs.declared.same_name.SidedKey.{SidedKey}
 
 -- a number above 0 that stands first elsewhere

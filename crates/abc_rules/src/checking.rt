@@ -1,6 +1,6 @@
 ghost use Rattle.std.specs.Prelude.{◌≡◌, ◌<◌, ◌^◌, length, IsTrue, MatchResult};
-ghost use Rattle.abc_names.specs.Meanings.{AreMeanings};
-ghost use Rattle.abc_names.specs.Numbers.{AreNames};
+ghost use Rattle.abc_items.specs.Meanings.{AreMeanings};
+ghost use Rattle.abc_items.specs.Numbers.{AreNames};
 ghost use Rattle.abc_items.specs.Rules.{AllHold, AllHoldBefore};
 ghost use Rattle.abc_items.specs.Firsts.{IsFew, IsRefusal};
 
@@ -14,10 +14,7 @@ use crate::same_name::SameName;
 use crate::same_slot::SameSlot;
 use crate::simple::{NoScript, TooLarge, TraitNotRun, UnknownType};
 use crate::times::times_of;
-use abc_base::Table;
-use abc_items::{LinkError, check};
-use abc_names::{Meanings, NameTables, Named, Names};
-use abc_tables::Abc;
+use abc_items::{Abc, LinkError, Meanings, NameTables, Named, Names, Table, check};
 use std::alloc::Global;
 
 /// Whether the tables of a file can be counted by 32 bits.

@@ -1,14 +1,11 @@
 ghost use Rattle.std.specs.Prelude.{◌≡◌, ◌^◌, ◌<◌, length, MatchResult};
-ghost use Rattle.abc_graph.specs.Graph.{IsGraph};
+ghost use Rattle.abc_items.specs.Graph.{IsGraph};
 ghost use Rattle.abc_rules.specs.Cycles.{earlier as earlier_of};
 ghost use Rattle.abc_items.specs.Bases.{base_graph, interface_graph};
 ghost use Rattle.abc_items.specs.Rules.{AllHoldBefore};
 ghost use Rattle.abc_items.specs.Firsts.{IsRefusal, IsFew};
 
-use abc_base::Table;
-use abc_graph::first_return;
-use abc_items::{Item, ItemKind, LinkError, LinkRule};
-use abc_tables::Abc;
+use abc_items::{Abc, Item, ItemKind, LinkError, LinkRule, Table, first_return};
 use std::alloc::Global;
 
 /// The lower of two numbers, as far as there are two.

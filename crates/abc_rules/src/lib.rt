@@ -13,4 +13,8 @@ mod same_slot;
 mod simple;
 mod times;
 
+pub use abc_items::{
+    HOST_CLASSES, Item, ItemKind, LinkError, LinkRule, Meanings, NameTables, Named, Names, Start,
+    meanings_of, qname_at, start_of,
+};
 pub use checking::check_rules;

@@ -2,8 +2,7 @@ ghost use Rattle.std.specs.Prelude.{◌≡◌, ◌++◌, ◌∷◌, [], length, 
 ghost use Rattle.std.specs.List.{flat_map};
 ghost use Rattle.abc_items.specs.Methods.{methods_among, methods_in, methods_named as all_named, methods_run as all_run, methods_with_bodies as all_with_bodies, of_body, of_class, of_instance, of_script, run_of_instance};
 
-use abc_base::NoMemory;
-use abc_tables::{Abc, Instance, TraitBody, TraitInfo, has_flag};
+use abc_items::{Abc, Instance, NoMemory, TraitBody, TraitInfo, has_flag};
 use std::alloc::Global;
 
 /// Adds the method that a trait names, if it names one.

@@ -3,13 +3,11 @@ ghost use Rattle.std.specs.List.{list_any};
 ghost use Rattle.abc_items.specs.Traits.{breaks_name_kind, has_bad_name as has_bad, has_bad_variable as is_bad_variable, is_definite as is_definite_name, is_type_name as is_type};
 ghost use Rattle.abc_items.specs.declared.items.LinkRule.TheVariants as rules;
 
-use abc_base::NoMemory;
 use abc_items::{
-    Item, ItemKind, LinkRule, Rule, TypeTest, any_type, class_name, handlers, instance_table,
-    interface_names, own_table, super_name,
+    Abc, Handler, Item, ItemKind, LinkRule, NoMemory, Rule, TraitInfo, TypeTest, any_type,
+    class_name, definite_name_at, handlers, instance_table, interface_names, is_plain_at,
+    own_table, super_name,
 };
-use abc_names::{definite_name_at, is_plain_at};
-use abc_tables::{Abc, Handler, TraitInfo};
 use std::alloc::Global;
 
 /// Every name is of a kind that its place takes.

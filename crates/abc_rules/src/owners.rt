@@ -3,9 +3,7 @@ ghost use Rattle.abc_items.specs.Methods.{breaks_no_body, breaks_owned_twice, me
 ghost use Rattle.abc_rules.specs.Times.{AreTimes};
 ghost use Rattle.abc_items.specs.declared.items.LinkRule.TheVariants as rules;
 
-use abc_base::NoMemory;
-use abc_items::{Item, ItemKind, LinkRule, Rule};
-use abc_tables::Abc;
+use abc_items::{Abc, Item, ItemKind, LinkRule, NoMemory, Rule};
 use std::alloc::Global;
 
 /// No method is named twice.

@@ -1,19 +1,18 @@
 ghost use Rattle.std.specs.Prelude.{◌≡◌, ◌<◌, ◌^◌, get_or, length, map, IfOk};
-ghost use Rattle.abc_index.specs.Index.{first};
-ghost use Rattle.abc_names.specs.Keys.{keys_eq};
+ghost use Rattle.abc_items.specs.Index.{first};
+ghost use Rattle.abc_items.specs.Keys.{keys_eq};
 ghost use Rattle.indexmap.specs.IndexMap.{get};
 ghost use Rattle.abc_rules.specs.Repeats.{clashes_at as clash_at, clashes_with as clash_with, is_elsewhere as stands_elsewhere, keys_clash, no_sided, opposite as are_opposite, side_of as side_in, sided_eq, sided_key as sided_of};
 ghost use Rattle.abc_rules.specs.Clashes.{is_clash_of};
 ghost use Rattle.abc_items.specs.Traits.{any_pair, any_table, names_clash};
 ghost use Rattle.abc_items.specs.declared.items.LinkRule.TheVariants as rules;
-ghost use Rattle.abc_names.specs.declared.keys.NameKey.{NameKey as AnyNameKey};
+ghost use Rattle.abc_items.specs.NameKey.{NameKey as AnyNameKey};
 ghost use Rattle.abc_rules.specs.declared.same_name.SidedKey.{SidedKey as AnySidedKey};
 
-use abc_base::NoMemory;
-use abc_index::index_of;
-use abc_items::{Item, LinkRule, Rule, instance_table, own_table};
-use abc_names::{NameKey, Names, first_places, qname_at};
-use abc_tables::{Abc, TraitBody, TraitInfo};
+use abc_items::{
+    Abc, Item, LinkRule, NameKey, Names, NoMemory, Rule, TraitBody, TraitInfo, first_places,
+    index_of, instance_table, own_table, qname_at,
+};
 use indexmap::IndexMap;
 use std::alloc::Global;
 

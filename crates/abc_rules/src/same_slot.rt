@@ -5,10 +5,9 @@ ghost use Rattle.abc_rules.specs.Repeats.{is_repeat as repeats_at};
 ghost use Rattle.abc_items.specs.Traits.{any_pair, any_table, slot_id as id_of, slots_clash};
 ghost use Rattle.abc_items.specs.declared.items.LinkRule.TheVariants as rules;
 
-use abc_base::NoMemory;
-use abc_index::index_of;
-use abc_items::{Item, LinkRule, Rule, instance_table, own_table};
-use abc_tables::{Abc, TraitBody, TraitInfo};
+use abc_items::{
+    Abc, Item, LinkRule, NoMemory, Rule, TraitBody, TraitInfo, index_of, instance_table, own_table,
+};
 use indexmap::IndexMap;
 use std::alloc::Global;
 

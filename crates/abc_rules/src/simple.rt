@@ -1,16 +1,15 @@
 ghost use Rattle.std.specs.Prelude.{◌≡◌, ◌&&◌, ◌||◌, is_some, not};
 ghost use Rattle.std.specs.List.{list_any};
-ghost use Rattle.abc_names.specs.Meaning.{type_named};
+ghost use Rattle.abc_items.specs.Meaning.{type_named};
 ghost use Rattle.abc_items.specs.Parts.{body_at};
 ghost use Rattle.abc_items.specs.Rules.{is_too_large};
 ghost use Rattle.abc_items.specs.Traits.{breaks_trait_not_run, is_body, is_no_slot as is_other, is_not_run as is_not_run_in, type_or_any};
 ghost use Rattle.abc_items.specs.declared.items.LinkRule.TheVariants as rules;
 
-use abc_base::NoMemory;
-use abc_items::{Item, ItemKind, LinkRule, Rule, TypeTest, any_type, instance_table, own_table};
-use abc_names::{Meanings, Named};
-use abc_starts::start_of;
-use abc_tables::{Abc, Body, TraitBody, TraitInfo};
+use abc_items::{
+    Abc, Body, Item, ItemKind, LinkRule, Meanings, Named, NoMemory, Rule, TraitBody, TraitInfo,
+    TypeTest, any_type, instance_table, own_table, start_of,
+};
 use std::alloc::Global;
 
 /// There is a script.
@@ -172,7 +171,7 @@ fn is_body_too_large(body: &Body) -> bool
 }
 
 /// Whether a body of a file has a size above 65,535.
-#[tactic(auto, using(abc_base::proofs::Past::past_end))]
+#[tactic(auto, using(abc_items::proofs::Past::past_end))]
 fn is_too_large_at(abc: &Abc, body: u32) -> bool
     ensures { result ≡ is_too_large (body_at abc.now body) }
 {

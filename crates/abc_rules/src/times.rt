@@ -2,7 +2,7 @@ ghost use Rattle.std.specs.Prelude.{◌≡◌, ◌<◌, ◌+◌, ◌^◌, [], le
 ghost use Rattle.abc_items.specs.Methods.{times_named};
 ghost use Rattle.abc_rules.specs.Times.{AreTimes};
 
-use abc_base::NoMemory;
+use abc_items::NoMemory;
 use std::alloc::Global;
 
 /// Counts a method once more, if it is in the table.

@@ -5,19 +5,19 @@ use Rattle.std.specs.List.{flat_map}
 use Rattle.std.specs.Option.{IfSome}
 use Rattle.abc_base.specs.declared.names.HostClass.TheVariants as hosts
 use Rattle.abc_graph.specs.Ways.{IsFalling}
-use Rattle.abc_heirs.specs.Heirs.{AreHeirs, inherited}
-use Rattle.abc_heirs.specs.Listed.{Listed, joined}
-use Rattle.abc_heirs.proofs.Laid.{heirs_next, no_heirs}
+use Rattle.abc_layouts.specs.Heirs.{AreHeirs, inherited}
+use Rattle.abc_layouts.specs.Listed.{Listed, joined}
+use Rattle.abc_layouts.proofs.Laid.{heirs_next, no_heirs}
 use Rattle.abc_tables.specs.declared.traits.TraitBody.{TraitBody}
 use Rattle.abc_tables.specs.declared.traits.TraitBody.TheVariants as traits
 use Rattle.abc_tables.specs.declared.traits.TraitInfo.{TraitInfo}
-use Rattle.abc_program.specs.Linked.{LinkedFile, base}
-use Rattle.abc_program.specs.Numbering.{IsNumbering, part_at}
-use Rattle.abc_program.specs.Slots.{numbers_in, own_numbers, own_slots, slots_in, traits_of}
-use Rattle.abc_program.specs.declared.part.Part.{Part}
-use Rattle.abc_program.specs.declared.part.Part.TheVariants as parts
-use Rattle.abc_program.specs.declared.types.SlotInfo.{SlotInfo}
-use Rattle.abc_program.proofs.Finding.{falling}
+use Rattle.abc_layouts.specs.Linked.{LinkedFile, base}
+use Rattle.abc_layouts.specs.ProgramNumbering.{IsNumbering, part_at}
+use Rattle.abc_layouts.specs.Slots.{numbers_in, own_numbers, own_slots, slots_in, traits_of}
+use Rattle.abc_layouts.specs.Part.{Part}
+use Rattle.abc_layouts.specs.Part.TheVariants as parts
+use Rattle.abc_layouts.specs.SlotInfo.{SlotInfo}
+use Rattle.abc_layouts.proofs.ProgramFinding.{falling}
 use Rattle.abc_slots.specs.Tables.{HasSlots}
 
 pub slots_none : (l : LinkedFile) → IsNumbering l.file l.parts → HasSlots l [] 0

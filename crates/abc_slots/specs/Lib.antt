@@ -1,2 +1,8 @@
 pub mod Files
 pub mod Tables
+pub use Rattle.abc_layouts.specs.Laid
+pub use Rattle.abc_layouts.specs.Traits
+pub use Rattle.abc_layouts.specs.Linked
+pub use Rattle.abc_layouts.specs.ProgramNumbering as Numbering
+pub use Rattle.abc_layouts.specs.Slots as ProgramSlots
+pub use Rattle.abc_layouts.specs.Pool

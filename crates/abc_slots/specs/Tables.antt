@@ -1,11 +1,11 @@
 -- The slots of layouts, as a table.
 use Rattle.std.specs.Prelude.{◌≡◌, ℕ, List, length}
-use Rattle.abc_heirs.specs.Heirs.{AreHeirs}
-use Rattle.abc_heirs.specs.Listed.{Listed}
-use Rattle.abc_program.specs.Linked.{LinkedFile, base}
-use Rattle.abc_program.specs.Numbering.{part_at}
-use Rattle.abc_program.specs.Slots.{own_numbers, own_slots}
-use Rattle.abc_program.specs.declared.types.SlotInfo.{SlotInfo}
+use Rattle.abc_layouts.specs.Heirs.{AreHeirs}
+use Rattle.abc_layouts.specs.Listed.{Listed}
+use Rattle.abc_layouts.specs.Linked.{LinkedFile, base}
+use Rattle.abc_layouts.specs.ProgramNumbering.{part_at}
+use Rattle.abc_layouts.specs.Slots.{own_numbers, own_slots}
+use Rattle.abc_layouts.specs.SlotInfo.{SlotInfo}
 
 -- the slots of the first n layouts, and their numbers
 pub record HasSlots (l : LinkedFile) (lists : List (Listed SlotInfo)) (n : ℕ) : Type 0 where

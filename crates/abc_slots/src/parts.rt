@@ -1,10 +1,10 @@
 ghost use Rattle.std.specs.Prelude.{◌≡◌};
-ghost use Rattle.abc_names.specs.Instances.{instance_at};
-ghost use Rattle.abc_program.specs.Slots.{handler_at, traits_of as traits_in};
-ghost use Rattle.abc_items.specs.Bases.{is_interface as is_interface_class};
-ghost use Rattle.abc_items.specs.Parts.{body_at, class_at, script_at};
+ghost use Rattle.abc_layouts.specs.Instances.{instance_at};
+ghost use Rattle.abc_layouts.specs.Slots.{handler_at, traits_of as traits_in};
+ghost use Rattle.abc_layouts.specs.Bases.{is_interface as is_interface_class};
+ghost use Rattle.abc_layouts.specs.Parts.{body_at, class_at, script_at};
 
-use abc_program::Part;
+use abc_layouts::Part;
 use abc_tables::{Abc, Handler, TraitInfo, has_flag};
 
 /// The flags of a class.

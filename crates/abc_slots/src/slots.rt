@@ -1,24 +1,20 @@
 ghost use Rattle.std.specs.Prelude.{◌≡◌, ◌++◌, ◌∷◌, ◌+◌, ◌<◌, ◌^◌, [], false, true, length, unwrap_or, IfOk, OnOk};
 ghost use Rattle.std.specs.List.{flat_map};
-ghost use Rattle.abc_heirs.specs.Heirs.{AreHeirs};
+ghost use Rattle.abc_layouts.specs.Heirs.{AreHeirs};
 ghost use Rattle.abc_layouts.specs.Laid.{AreLayouts, HasPlaces};
-ghost use Rattle.abc_names.specs.Meaning.{type_named};
-ghost use Rattle.abc_program.specs.Numbering.{part_at};
-ghost use Rattle.abc_program.specs.Slots.{numbers_in, own_numbers as own_numbers_of, own_slots as own_slots_of, slots_in};
-ghost use Rattle.abc_program.specs.Types.{type_in as type_of_named};
-ghost use Rattle.abc_starts.specs.Starts.{default_of, start_of as starts_at};
-ghost use Rattle.abc_items.specs.Traits.{type_or_any};
+ghost use Rattle.abc_layouts.specs.Meaning.{type_named};
+ghost use Rattle.abc_layouts.specs.ProgramNumbering.{part_at};
+ghost use Rattle.abc_layouts.specs.Slots.{numbers_in, own_numbers as own_numbers_of, own_slots as own_slots_of, slots_in};
+ghost use Rattle.abc_layouts.specs.Types.{type_in as type_of_named};
+ghost use Rattle.abc_layouts.specs.Starts.{default_of, start_of as starts_at};
+ghost use Rattle.abc_layouts.specs.ItemsTraits.{type_or_any};
 ghost use Rattle.abc_slots.specs.Files.{linked};
 ghost use Rattle.abc_slots.specs.Tables.{HasSlots};
 
 use crate::parts::{exception_type, traits_of};
 use crate::types::type_in;
 use abc_base::{HostClass, NoMemory, Table};
-use abc_heirs::Heirs;
-use abc_layouts::Layouts;
-use abc_names::{Meanings, Named};
-use abc_program::{LayoutId, Part, SlotInfo, Ty};
-use abc_starts::{Start, start_of};
+use abc_layouts::{Heirs, LayoutId, Layouts, Meanings, Named, Part, SlotInfo, Start, Ty, start_of};
 use abc_tables::{Abc, OptionValue, TraitBody, TraitInfo};
 use std::alloc::Global;
 

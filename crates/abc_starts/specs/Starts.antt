@@ -3,15 +3,15 @@ use Rattle.std.specs.Prelude.{ℕ, ℤ, ◌-◌, pos, List, [], ◌∷◌, Bool,
 use Rattle.std.specs.Ordering.{int_eq}
 use Rattle.std.specs.Int.{cast_signed, cast_unsigned, w32}
 use Rattle.std.specs.declared.option.Option.{Option}
-use Rattle.abc_base.specs.declared.names.HostClass.{HostClass}
-use Rattle.abc_base.specs.declared.names.HostClass.TheVariants as hosts
+use Rattle.abc_names.specs.HostClass.{HostClass}
+use Rattle.abc_names.specs.HostClass.TheVariants as hosts
 use Rattle.abc_names.specs.Pool.{text, space}
 use Rattle.abc_names.specs.declared.named.Named.{Named}
 use Rattle.abc_names.specs.declared.named.Named.TheVariants as named
-use Rattle.abc_tables.specs.declared.methods.ValueKind.{ValueKind}
-use Rattle.abc_tables.specs.declared.methods.ValueKind.TheVariants as kinds
-use Rattle.abc_tables.specs.declared.methods.OptionValue.{OptionValue}
-use Rattle.abc_tables.specs.declared.tables.Abc.{Abc}
+use Rattle.abc_names.specs.ValueKind.{ValueKind}
+use Rattle.abc_names.specs.ValueKind.TheVariants as kinds
+use Rattle.abc_names.specs.OptionValue.{OptionValue}
+use Rattle.abc_names.specs.Abc.{Abc}
 use Rattle.abc_starts.specs.declared.start.Raw.{Raw}
 use Rattle.abc_starts.specs.declared.start.Raw.TheVariants as raws
 use Rattle.abc_starts.specs.declared.start.Start.{Start}

@@ -2,12 +2,10 @@ ghost use Rattle.std.specs.Prelude.{◌≡◌};
 ghost use Rattle.abc_starts.specs.Starts.{coerced, default_of, host_default as default_in, int_at as int_in, raw_of, space_value as space_of, start_of as starts_at, to_any as any_of, to_boolean as boolean_of, to_class as class_of, to_host as host_of, to_int as int_of, to_namespace as namespace_of, to_number as number_from, to_object as object_of, to_text as text_of, to_uint as uint_of, to_void as void_of, uint_at as uint_in};
 
 use crate::start::{Raw, Start};
-use abc_base::HostClass;
-use abc_names::{Named, space_name, text_at};
-use abc_tables::{Abc, OptionValue, ValueKind};
+use abc_names::{Abc, HostClass, Named, OptionValue, ValueKind, space_name, text_at};
 
 /// An entry of the pool of ints; 0 is 0.
-#[tactic(auto, using(abc_base::proofs::Past::past_end))]
+#[tactic(auto, using(abc_names::proofs::Past::past_end))]
 fn int_at(abc: &Abc, index: u32) -> i32
     ensures { result ≡ int_in abc.now index }
 {
@@ -21,7 +19,7 @@ fn int_at(abc: &Abc, index: u32) -> i32
 }
 
 /// An entry of the pool of uints; 0 is 0.
-#[tactic(auto, using(abc_base::proofs::Past::past_end))]
+#[tactic(auto, using(abc_names::proofs::Past::past_end))]
 fn uint_at(abc: &Abc, index: u32) -> u32
     ensures { result ≡ uint_in abc.now index }
 {

@@ -10,10 +10,10 @@ use Rattle.abc_conversions.specs.declared.numbers.Conversion.{Conversion}
 use Rattle.abc_conversions.specs.declared.numbers.Conversion.TheVariants as conversions
 use Rattle.abc_heap.specs.Heap.{Heap}
 use Rattle.abc_heap.specs.Texts.{text_of}
-use Rattle.abc_ops.specs.Conversions.{converted, spelled, text_or_null}
-use Rattle.abc_ops.specs.Left.{Left, as_value, followed, followed_by, gives, text_made, text_made_if, text_value}
-use Rattle.abc_ops.specs.Operations.{computed, computed_single, joined, joined_texts, joined_to}
-use Rattle.abc_ops.specs.declared.end.OpEnd.{OpEnd}
+use Rattle.abc_acts.specs.OpsConversions.{converted, spelled, text_or_null}
+use Rattle.abc_acts.specs.OpsLeft.{Left, as_value, followed, followed_by, gives, text_made, text_made_if, text_value}
+use Rattle.abc_acts.specs.OpsOperations.{computed, computed_single, joined, joined_texts, joined_to}
+use Rattle.abc_acts.specs.OpsOpEndType.{OpEnd}
 use Rattle.abc_program.specs.Linked.{LinkedFile}
 use Rattle.abc_program.specs.declared.types.Ty.{Ty}
 use Rattle.abc_program.specs.declared.types.Ty.TheVariants as types

@@ -6,10 +6,10 @@ use Rattle.abc_cells.specs.declared.values.Span.{Span}
 use Rattle.abc_cells.specs.declared.values.Value.{Value}
 use Rattle.abc_cells.specs.declared.values.Value.TheVariants as values
 use Rattle.abc_heap.specs.Heap.{Heap}
-use Rattle.abc_ops.specs.Coercions.{Coerces}
-use Rattle.abc_ops.specs.Left.{Leaves, Left, as_value}
-use Rattle.abc_ops.specs.declared.end.OpEnd.{OpEnd}
-use Rattle.abc_ops.specs.declared.end.OpEnd.TheVariants as ends
+use Rattle.abc_acts.specs.Coercions.{Coerces}
+use Rattle.abc_acts.specs.OpsLeft.{Leaves, Left, as_value}
+use Rattle.abc_acts.specs.OpsOpEndType.{OpEnd}
+use Rattle.abc_acts.specs.OpsOpEndType.TheVariants as ends
 use Rattle.abc_program.specs.Linked.{IsLinkedFile, LinkedFile}
 use Rattle.abc_program.specs.declared.types.Ty.{Ty}
 use Rattle.abc_states.specs.Outer.{at_heap}

@@ -21,3 +21,9 @@ pub use Rattle.abc_acts.specs.WorldMaking
 pub use Rattle.abc_acts.specs.WorldCalling
 pub use Rattle.abc_acts.specs.Supers as ActsSupers
 pub use Rattle.abc_acts.specs.Table as ActsTable
+pub use Rattle.abc_acts.specs.SearchObjects as Objects
+pub use Rattle.abc_acts.specs.ObjectsStands as Stands
+pub use Rattle.abc_acts.specs.ObjectsValues as Values
+pub use Rattle.abc_acts.specs.ObjectsGrowing as Growing
+pub use Rattle.abc_acts.specs.ObjectsStarts as Starts
+pub use Rattle.abc_acts.specs.Types

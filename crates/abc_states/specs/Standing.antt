@@ -1,9 +1,9 @@
 -- What the code of an instruction may rely on: what a frame names is there.
 use Rattle.std.specs.Prelude.{◌≡◌, ℕ, ◌<◌, length}
 use Rattle.abc_heap.specs.Heap.{Heap}
-use Rattle.abc_objects.specs.Growing.{Grows}
-use Rattle.abc_objects.specs.Stands.{AreEntries, Each, IsScope, StandsOver}
-use Rattle.abc_objects.specs.Values.{Exists}
+use Rattle.abc_acts.specs.ObjectsGrowing.{Grows}
+use Rattle.abc_acts.specs.ObjectsStands.{AreEntries, Each, IsScope, StandsOver}
+use Rattle.abc_acts.specs.ObjectsValues.{Exists}
 use Rattle.abc_program.specs.Linked.{LinkedFile}
 use Rattle.abc_stacks.specs.Frame.{Frame, newest}
 use Rattle.abc_states.specs.declared.state.State.{State}

@@ -1,7 +1,7 @@
 -- Why a step goes no further, as code answers it.
 use Rattle.abc_heap.specs.declared.records.Full.{Full}
-use Rattle.abc_ops.specs.declared.end.OpEnd.{OpEnd}
-use Rattle.abc_ops.specs.declared.end.OpEnd.TheVariants as ends
+use Rattle.abc_acts.specs.OpsOpEndType.{OpEnd}
+use Rattle.abc_acts.specs.OpsOpEndType.TheVariants as ends
 use Rattle.abc_states.specs.declared.state.Stop.{Stop}
 use Rattle.abc_states.specs.declared.state.Stop.TheVariants as stops
 use Rattle.abc_acts.specs.World.{Errs, Faults, Fills, Outcome, Sticks, Stopped, Throws, Went, World, Stop as Why}

@@ -10,7 +10,7 @@ use Rattle.abc_program.specs.Linked.{LinkedFile}
 use Rattle.abc_stacks.specs.Frame.{Frame, Frames, arguments, newest, no_size, room_for, under}
 use Rattle.abc_stacks.specs.declared.records.Size.{Size}
 use Rattle.abc_stacks.specs.declared.records.Wait.TheVariants as waits
-use Rattle.abc_typing.specs.Routines.{Routine}
+use Rattle.abc_acts.specs.Routines.{Routine}
 use Rattle.abc_acts.specs.WorldCalling.{calls_what, trace}
 use Rattle.abc_acts.specs.WorldSetting.{Setting, routine_of}
 use Rattle.abc_acts.specs.World.{Fills, Outcome, Run, Stopped, Went, World, and_then, Stop as Why}

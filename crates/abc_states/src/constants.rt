@@ -1,11 +1,10 @@
 ghost use Rattle.std.specs.Prelude.{◌≡◌, ◌<◌, ◌^◌, pos};
 ghost use Rattle.abc_cells.specs.declared.values.Value.TheVariants.{Num};
-ghost use Rattle.abc_objects.specs.Starts.{string_span};
+ghost use Rattle.abc_acts.specs.ObjectsStarts.{string_span};
 ghost use Rattle.abc_starts.specs.Starts.{int_at as int_in, uint_at as uint_in};
 
+use abc_acts::{Linked, span_of_string};
 use abc_cells::{Span, Value};
-use abc_link::Linked;
-use abc_objects::span_of_string;
 use abc_tables::Abc;
 
 /// An entry of the pool of ints; 0 is 0.

@@ -9,6 +9,7 @@ mod parts;
 mod settling;
 mod state;
 
+pub use abc_acts::{Conversion, is_of};
 pub use constants::{int_value, string_at, uint_value};
 pub use operands::{local, operand};
 pub use parts::{coerce, compare, compute_one, compute_two, convert, spell};

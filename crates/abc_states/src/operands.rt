@@ -1,7 +1,7 @@
 ghost use Rattle.std.specs.Prelude.{◌≡◌, ◌<◌, length};
 ghost use Rattle.abc_heap.specs.Heap.{Heap};
-ghost use Rattle.abc_objects.specs.Stands.{Each};
-ghost use Rattle.abc_objects.specs.Values.{Exists};
+ghost use Rattle.abc_acts.specs.ObjectsStands.{Each};
+ghost use Rattle.abc_acts.specs.ObjectsValues.{Exists};
 ghost use Rattle.abc_program.specs.Linked.{LinkedFile};
 ghost use Rattle.abc_stacks.specs.Frame.{newest};
 ghost use Rattle.abc_states.specs.Operands.{local_at, operand_at};

@@ -1,19 +1,17 @@
 ghost use Rattle.std.specs.Prelude.{◌≡◌, IfOk};
 ghost use Rattle.abc_heap.specs.Texts.{IsText};
-ghost use Rattle.abc_objects.specs.Stands.{StandsOver};
-ghost use Rattle.abc_objects.specs.Values.{Exists};
-ghost use Rattle.abc_objects.specs.Growing.{Grows};
-ghost use Rattle.abc_ops.specs.Left.{Leaves};
+ghost use Rattle.abc_acts.specs.ObjectsStands.{StandsOver};
+ghost use Rattle.abc_acts.specs.ObjectsValues.{Exists};
+ghost use Rattle.abc_acts.specs.ObjectsGrowing.{Grows};
+ghost use Rattle.abc_acts.specs.OpsLeft.{Leaves};
 ghost use Rattle.abc_acts.specs.WorldOps.{coerced, coerces, compares, computes_one, computes_two, converts, spells};
 ghost use Rattle.abc_states.specs.Outer.{Outer, setting, world};
 ghost use Rattle.abc_states.specs.Standing.{Stays};
 ghost use Rattle.abc_states.specs.Stops.{answer, stop_of_end};
 
 use crate::state::{State, Stop};
+use abc_acts::{Arena, Conversion, Linked, OpEnd, Ty};
 use abc_cells::{Span, Value};
-use abc_link::{Linked, Ty};
-use abc_objects::Arena;
-use abc_ops::{Conversion, OpEnd};
 
 /// Why a step goes no further where an operation has no value.
 fn stop_for(end: OpEnd) -> Stop
@@ -35,7 +33,7 @@ pub fn convert(linked: &Linked, s: &mut State, to: Conversion, v: Value) -> Resu
     ensures stays { Stays linked.now s.old s.new }
     ensures there { IfOk result (Exists linked.now s.new.arena) }
 {
-    match abc_ops::convert(linked, &mut s.arena, to, v) {
+    match abc_acts::convert(linked, &mut s.arena, to, v) {
         Ok(made) => Ok(made),
         Err(end) => Err(stop_for(end)),
     }
@@ -50,7 +48,7 @@ fn coerce_in(linked: &Linked, a: &mut Arena, ty: Ty, v: Value) -> Result<Value, 
     ensures grows { Grows a.old a.new }
     ensures there { IfOk result (Exists linked.now a.new) }
 {
-    abc_ops::coerce(linked, a, ty, v)
+    abc_acts::coerce(linked, a, ty, v)
 }
 
 /// A value coerced to a type.
@@ -77,7 +75,7 @@ pub fn compute_one(linked: &Linked, s: &mut State, op: u8, v: Value) -> Result<V
     ensures stays { Stays linked.now s.old s.new }
     ensures there { IfOk result (Exists linked.now s.new.arena) }
 {
-    match abc_ops::unary(linked, &mut s.arena, op, v) {
+    match abc_acts::unary(linked, &mut s.arena, op, v) {
         Ok(made) => Ok(made),
         Err(end) => Err(stop_for(end)),
     }
@@ -99,7 +97,7 @@ pub fn compute_two(
     ensures stays { Stays linked.now s.old s.new }
     ensures there { IfOk result (Exists linked.now s.new.arena) }
 {
-    match abc_ops::binary(linked, &mut s.arena, op, x, y) {
+    match abc_acts::binary(linked, &mut s.arena, op, x, y) {
         Ok(made) => Ok(made),
         Err(end) => Err(stop_for(end)),
     }
@@ -113,7 +111,7 @@ pub fn compare(linked: &Linked, s: &State, op: u8, x: Value, y: Value) -> Result
     requires right { Exists linked.now s.now.arena y }
     ensures { compares (setting linked.now out) op x y (world s.now out) ≡ answer result (world s.now out) }
 {
-    match abc_ops::compare(linked, &s.arena, op, x, y) {
+    match abc_acts::compare(linked, &s.arena, op, x, y) {
         Ok(is) => Ok(is),
         Err(end) => Err(stop_for(end)),
     }
@@ -128,7 +126,7 @@ pub fn spell(linked: &Linked, s: &mut State, v: Value) -> Result<Span, Stop>
     ensures stays { Stays linked.now s.old s.new }
     ensures there { IfOk result (IsText linked.now.file.strings s.new.arena) }
 {
-    match abc_ops::convert(linked, &mut s.arena, Conversion::ConvertS, v) {
+    match abc_acts::convert(linked, &mut s.arena, Conversion::ConvertS, v) {
         Ok(Value::Text(text)) => Ok(text),
         Ok(_) => unreachable!(),
         Err(end) => Err(stop_for(end)),

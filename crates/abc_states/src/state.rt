@@ -1,8 +1,7 @@
+use abc_acts::{Arena, OpEnd};
 use abc_base::{Fault, HostClass, Table};
 use abc_cells::Value;
 use abc_heap::{Full, Limit, ScopeId};
-use abc_objects::Arena;
-use abc_ops::OpEnd;
 use abc_stacks::{Frames, Pile};
 
 /// What a run changes: the heap, the frames, which scripts were started, and the first locals of a method that is entered,

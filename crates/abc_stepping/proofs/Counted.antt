@@ -8,7 +8,7 @@ use Rattle.abc_items.specs.Parts.{body_at}
 use Rattle.abc_items.specs.Rules.{is_too_large, size_limit}
 use Rattle.abc_items.specs.declared.items.ItemKind.TheVariants as items
 use Rattle.abc_items.specs.declared.items.LinkRule.TheVariants as rules
-use Rattle.abc_newsteps.proofs.Bodied.{routine_is}
+use Rattle.abc_dispatch.proofs.Bodied.{routine_is}
 use Rattle.abc_program.specs.Linked.{IsLinkedFile, LinkedFile}
 use Rattle.abc_program.specs.Owners.{body_of}
 use Rattle.abc_states.specs.WorldSetting.{Setting, routine_in, routine_of}

@@ -2,8 +2,8 @@
 use Rattle.std.proofs.Common.{◌≡◌, ◌≢◌, ℕ, ◌<◌, ◌^◌, List, ◌∷◌, length, map, refl, ap, ◌∙◌, subst, arith}
 use Rattle.abc_dispatch.proofs.Led.{runs_here}
 use Rattle.abc_dispatch.specs.Ready.{CanStep, IsEquipped}
-use Rattle.abc_fair.proofs.Sounded.{frames_run}
-use Rattle.abc_fair.specs.Running.{IsRunning}
+use Rattle.abc_finishing.proofs.Sounded.{frames_run}
+use Rattle.abc_finishing.specs.Running.{IsRunning}
 use Rattle.abc_finishing.proofs.Turned.{living_is}
 use Rattle.abc_finishing.specs.Steps.{IsReached}
 use Rattle.abc_meaning.specs.Sound.{IsSound}

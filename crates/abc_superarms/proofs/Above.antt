@@ -15,7 +15,7 @@ use Rattle.abc_search.specs.declared.name.Name.{Name}
 use Rattle.abc_stacks.specs.Frame.{Frame, arguments}
 use Rattle.abc_states.specs.ActsSupers.{on_receiver, strict}
 use Rattle.abc_memberarms.proofs.MakersThings.{object_is}
-use Rattle.abc_above.specs.Found.{IsDeclared, found_above}
+use Rattle.abc_scopearms.specs.Found.{IsDeclared, found_above}
 use Rattle.abc_memberarms.specs.CallarmsCalls.{settled_by}
 use Rattle.abc_memberarms.specs.Members.{IsFoundThere, parts_at}
 use Rattle.abc_memberarms.specs.Named.{named_here}

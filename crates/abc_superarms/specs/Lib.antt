@@ -4,4 +4,4 @@ pub use Rattle.abc_memberarms.specs.CallarmsCalls
 pub use Rattle.abc_memberarms.specs.EnteringArguments
 pub use Rattle.abc_memberarms.specs.Named
 pub use Rattle.abc_scopearms.specs.Scoped as ScopearmsScoped
-pub use Rattle.abc_above.specs.Found as AboveFound
+pub use Rattle.abc_scopearms.specs.Found as AboveFound

@@ -8,15 +8,15 @@ ghost use Rattle.abc_states.specs.Outer.{Outer, setting, world};
 ghost use Rattle.abc_states.specs.Standing.{IsSet};
 ghost use Rattle.abc_states.specs.Stops.{IsOpen};
 ghost use Rattle.abc_states.specs.Turns.{Runs};
-ghost use Rattle.abc_above.specs.Found.{IsScopeThere};
+ghost use Rattle.abc_scopearms.specs.Found.{IsScopeThere};
 ghost use Rattle.abc_superarms.specs.Supers.{finds_and_reads, reads_in};
 
-use abc_above::find_here;
 use abc_base::HostClass;
 use abc_cells::Value;
 use abc_link::Linked;
 use abc_lookup::{Name, ScopeFound};
 use abc_memberarms::{name_of, parts_of, read_on, start_above};
+use abc_scopearms::find_here;
 use abc_states::{How, State, Stop};
 
 /// What was found is read by the name; a script that is to be started first is entered, and what comes takes the place of the parts of the name.

@@ -9,14 +9,14 @@ ghost use Rattle.abc_states.specs.Standing.{IsSet};
 ghost use Rattle.abc_states.specs.Stops.{IsOpen};
 ghost use Rattle.abc_states.specs.Turns.{Runs};
 ghost use Rattle.abc_states.specs.declared.state.How.TheVariants.{Drop};
-ghost use Rattle.abc_above.specs.Based.{IsBase, named_of};
+ghost use Rattle.abc_scopearms.specs.Based.{IsBase, named_of};
 ghost use Rattle.abc_superarms.specs.Supers.{constructs_super, runs_base, tells_base};
 
-use abc_above::{Base, base_of};
 use abc_base::HostClass;
 use abc_cells::{ObjId, Value};
 use abc_link::Linked;
 use abc_memberarms::{enter_owned, message_of, receiver, set_message};
+use abc_scopearms::{Base, base_of};
 use abc_stacks::Wait;
 use abc_states::{How, State, Stop, operand, settle};
 

@@ -15,11 +15,11 @@ ghost use Rattle.abc_states.specs.Stops.{IsOpen};
 ghost use Rattle.abc_states.specs.Turns.{Leaves, Runs};
 ghost use Rattle.abc_superarms.specs.Supers.{calls_super, calls_super_on, gets_super, reads_super, sets_super, writes_super};
 
-use abc_above::find_super;
 use abc_cells::Value;
 use abc_link::{LayoutId, Linked};
 use abc_lookup::{Name, Want};
 use abc_memberarms::{call_found, name_of, parts_of, read_found, receiver, write_found};
+use abc_scopearms::find_super;
 use abc_states::{How, Left, State, Stop, operand};
 
 /// Reads by a name on a receiver, from the base of a layout on.

@@ -10,8 +10,8 @@ use Rattle.std.proofs.lemmas.List.Folds.{flat_map-map}
 use Rattle.std.proofs.lemmas.List.{length-map}
 use Rattle.std.proofs.lemmas.List.Quantifiers.{position-Some}
 use Rattle.std.proofs.lemmas.Simd.{map-map}
-use Rattle.abc_base.specs.Numbers.{number_bytes}
-use Rattle.abc_base.proofs.Spelling.{number_grows}
+use Rattle.abc_format.specs.BaseNumbers.{number_bytes}
+use Rattle.abc_format.proofs.Spelling.{number_grows}
 use Rattle.abc_format.specs.Canonical.{IsCanonical, counted_bytes}
 use Rattle.abc_format.specs.Ends.{Pieces}
 use Rattle.abc_format.specs.Lists.{chain, counted}

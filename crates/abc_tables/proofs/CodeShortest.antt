@@ -6,8 +6,8 @@ use Rattle.std.specs.List.{flat_map}
 use Rattle.std.specs.declared.option.Option.{Option}
 use Rattle.std.proofs.lemmas.Int.{ints}
 use Rattle.std.proofs.lemmas.Bool.{cases_lt, le-ltb, lt-ltb, ltb-true}
-use Rattle.abc_base.specs.Numbers.{number_bytes}
-use Rattle.abc_base.proofs.Spelling.{number_fits, number_grows}
+use Rattle.abc_format.specs.BaseNumbers.{number_bytes}
+use Rattle.abc_format.proofs.Spelling.{number_fits, number_grows}
 use Rattle.abc_format.specs.Canonical.{IsCanonical, s24_bytes, FitsS24}
 use Rattle.abc_format.specs.Ends.{Pieces}
 use Rattle.abc_format.specs.Lists.{times}

@@ -4,7 +4,7 @@ use Rattle.std.specs.List.{All, flat_map}
 use Rattle.std.proofs.lemmas.List.Concat.{flat_map-append}
 use Rattle.std.proofs.lemmas.Bool.{cases_lt, lt-ltb, le-ltb}
 use Rattle.std.proofs.lemmas.List.{take_more, append-nil}
-use Rattle.abc_base.specs.Numbers.{groups_of, number_bytes}
+use Rattle.abc_format.specs.BaseNumbers.{groups_of, number_bytes}
 use Rattle.abc_tables.specs.declared.code.Instr.{Instr}
 use Rattle.abc_tables.specs.Starts.{start}
 use Rattle.abc_tables.specs.CodeBytes.{instr_len, sized, instr_bytes, instrs_bytes, canonical_starts, code_len}

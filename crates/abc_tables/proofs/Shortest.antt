@@ -4,7 +4,7 @@ use Rattle.std.proofs.Common.{◌≡◌, ℕ, ◌+◌, ◌*◌, ◌%◌, ◌/◌
 use Rattle.std.specs.Prelude.{nat_eq, nat_le}
 use Rattle.std.specs.List.{flat_map}
 use Rattle.std.proofs.lemmas.Bool.Decides.{nat_tests}
-use Rattle.abc_base.specs.Numbers.{number_bytes}
+use Rattle.abc_format.specs.BaseNumbers.{number_bytes}
 use Rattle.abc_format.specs.Part.{image, when}
 use Rattle.abc_format.specs.Numbers.{u8, pool_index}
 use Rattle.abc_format.specs.Canonical.{IsCanonical, counted_bytes, pool_bytes, text_bytes}

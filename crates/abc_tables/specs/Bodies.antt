@@ -1,7 +1,7 @@
 -- Method bodies: their sizes, code, exceptions and traits.
 use Rattle.std.specs.Prelude.{ℕ, ◌≤◌, List, [], ◌++◌, All, length, map, not, nat_eq, get_or}
 use Rattle.std.specs.List.{list_any}
-use Rattle.abc_base.specs.Numbers.{number_bytes}
+use Rattle.abc_format.specs.BaseNumbers.{number_bytes}
 use Rattle.abc_format.specs.declared.reason.Reason.TheVariants as reasons
 use Rattle.abc_format.specs.Part.{Part, then_by, both, image, checked}
 use Rattle.abc_format.specs.Numbers.{u30, index_below, pool_index}

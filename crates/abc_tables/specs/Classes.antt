@@ -2,7 +2,7 @@
 use Rattle.std.specs.Prelude.{ℕ, List, [], ◌∷◌, ◌++◌, length, Some, None}
 use Rattle.std.specs.declared.option.Option.{Option}
 use Rattle.std.specs.List.{flat_map}
-use Rattle.abc_base.specs.Numbers.{number_bytes}
+use Rattle.abc_format.specs.BaseNumbers.{number_bytes}
 use Rattle.abc_format.specs.Part.{Part, then_by, both, image, when}
 use Rattle.abc_format.specs.Numbers.{u8, u30, index_below, pool_index, entry_index}
 use Rattle.abc_format.specs.Lists.{times, counted}

@@ -2,7 +2,7 @@
 use Rattle.std.specs.Prelude.{ℕ, ℤ, pos, ◌-ℤ◌, ◌+◌, ◌-◌, ◌*◌, List, [], ◌∷◌, ◌++◌, length, get_or}
 use Rattle.std.specs.Int.{w8, w16, cast_unsigned}
 use Rattle.std.specs.List.{flat_map}
-use Rattle.abc_base.specs.Numbers.{number_bytes}
+use Rattle.abc_format.specs.BaseNumbers.{number_bytes}
 use Rattle.abc_format.specs.Canonical.{s24_bytes}
 use Rattle.abc_tables.specs.declared.code.Instr.{Instr}
 use Rattle.abc_tables.specs.declared.code.Instr.TheVariants as instrs

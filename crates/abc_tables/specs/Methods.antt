@@ -1,7 +1,7 @@
 -- Methods with their optional values, and metadata.
 use Rattle.std.specs.Prelude.{ℕ, ◌*◌, ◌/◌, List, [], ◌∷◌, ◌++◌, length, Bool, true, nat_eq, nat_le, not, ◌||◌, bit_and, if◌then◌else◌}
 use Rattle.std.specs.List.{flat_map}
-use Rattle.abc_base.specs.Numbers.{number_bytes}
+use Rattle.abc_format.specs.BaseNumbers.{number_bytes}
 use Rattle.abc_format.specs.declared.reason.Reason.TheVariants as reasons
 use Rattle.abc_format.specs.Part.{Part, then_by, both, image, checked, when}
 use Rattle.abc_format.specs.Numbers.{u8, u30, pool_index}

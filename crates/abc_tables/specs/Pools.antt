@@ -1,6 +1,6 @@
 -- The constant pools: numbers, texts, namespaces, sets of namespaces and multinames.
 use Rattle.std.specs.Prelude.{ℕ, ℤ, List, [], ◌∷◌, ◌++◌, length, Bool, true, false, nat_eq, ◌||◌, ◌&&◌, if◌then◌else◌}
-use Rattle.abc_base.specs.Numbers.{number_bytes}
+use Rattle.abc_format.specs.BaseNumbers.{number_bytes}
 use Rattle.abc_format.specs.declared.reason.Reason.TheVariants as reasons
 use Rattle.abc_format.specs.Part.{Part, done, then_by, both, image, checked}
 use Rattle.abc_format.specs.Numbers.{u8, u32, s32, pool_index, entry_index}

@@ -1,5 +1,5 @@
 use crate::traits::TraitInfo;
-use abc_base::Table;
+use abc_format::Table;
 
 /// What the instances of a class are (Overview, chapter 4, "Instance"). The class of the same number has the rest.
 #[derive(Debug, Drop)]

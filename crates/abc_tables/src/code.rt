@@ -1,5 +1,5 @@
 use crate::traits::TraitInfo;
-use abc_base::Table;
+use abc_format::Table;
 
 /// An instruction (Overview, chapter 5). The first number of most forms is the opcode; targets are numbers of
 /// instructions, counted from 0, and the number of all instructions is the code's end.

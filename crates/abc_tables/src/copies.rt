@@ -7,7 +7,7 @@ mod methods;
 mod names;
 
 use crate::tables::{Abc, Eight};
-use abc_base::{Bytes, NoMemory, Table};
+use abc_format::{Bytes, NoMemory, Table};
 use std::alloc::Global;
 
 /// Values that are compared and copied whole.

@@ -2,7 +2,7 @@ ghost use Rattle.std.specs.Prelude.{◌≡◌, ◌≤◌, ◌-◌, ◌^◌, min}
 ghost use Rattle.abc_tables.specs.CodeBytes.{code_len as total, instr_len as len_of, number_len};
 
 use crate::code::Instr;
-use abc_base::{Table, len_u30, len_u32};
+use abc_format::{Table, len_u30, len_u32};
 
 /// Code as it was read.
 #[derive(Debug, Drop)]

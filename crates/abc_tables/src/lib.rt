@@ -15,7 +15,7 @@ mod sizes;
 mod tables;
 mod traits;
 
-pub use abc_base::{Bytes, Table};
+pub use abc_format::{Bytes, Table};
 pub use classes::{ClassInfo, Instance, Script};
 pub use code::{Body, Handler, Instr};
 pub use copies::same;

@@ -1,4 +1,4 @@
-use abc_base::Table;
+use abc_format::Table;
 
 /// The kind of an optional value or of a slot's value (Overview, chapter 4, "Optional parameters").
 #[derive(Clone, Copy, Debug, PartialEq, Eq)]

@@ -1,4 +1,4 @@
-use abc_base::Table;
+use abc_format::Table;
 
 /// What a namespace is for (Overview, chapter 4, "Namespace").
 #[derive(Clone, Copy, Debug, PartialEq, Eq)]

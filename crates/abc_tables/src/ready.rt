@@ -8,7 +8,7 @@ use crate::instructions::code_len;
 use crate::opcodes::{Form, opcode};
 use crate::sizes::U30_LIMIT;
 use crate::tables::Abc;
-use abc_base::Table;
+use abc_format::Table;
 
 /// The least length that no code has.
 const CODE_LIMIT: u64 = 1 << 23;

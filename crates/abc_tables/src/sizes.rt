@@ -5,7 +5,7 @@ ghost use Rattle.abc_tables.specs.Sizes.{capped};
 
 use crate::methods::ValueKind;
 use crate::tables::{Abc, Sizes};
-use abc_base::Table;
+use abc_format::Table;
 
 /// The least number that no operand, count or index has.
 pub const U30_LIMIT: u32 = 1 << 30;

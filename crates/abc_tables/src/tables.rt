@@ -5,7 +5,7 @@ use crate::classes::{ClassInfo, Instance, Script};
 use crate::code::Body;
 use crate::methods::{Metadata, Method};
 use crate::names::{Multiname, Namespace};
-use abc_base::{Bytes, Table};
+use abc_format::{Bytes, Table};
 use std::alloc::Global;
 
 /// The eight bytes of a double, as they stand in the file.

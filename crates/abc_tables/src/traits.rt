@@ -1,5 +1,5 @@
 use crate::methods::OptionValue;
-use abc_base::Table;
+use abc_format::Table;
 
 /// The low four bits of a trait's kind byte.
 #[derive(Clone, Copy, Debug, PartialEq, Eq)]

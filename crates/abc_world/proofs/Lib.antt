@@ -6,3 +6,4 @@ pub use Rattle.abc_search.proofs.ObjectsKept
 pub use Rattle.abc_search.proofs.ObjectsMade
 pub use Rattle.abc_search.proofs.ObjectsOpened
 pub use Rattle.abc_search.proofs.ObjectsReshaped
+pub use Rattle.abc_ops.proofs.Started

@@ -30,3 +30,8 @@ pub use Rattle.abc_ops.specs.Operations as OpsOperations
 pub use Rattle.abc_ops.specs.declared.end.OpEnd as OpsOpEndType
 pub use Rattle.abc_search.specs.ObjectsStarts
 pub use Rattle.abc_search.specs.ObjectsGrowing
+pub use Rattle.abc_ops.specs.Coercions
+pub use Rattle.abc_typing.specs.Effects
+pub use Rattle.abc_typing.specs.Rules
+pub use Rattle.abc_ops.specs.Types as OpsTypes
+pub use Rattle.abc_typing.specs.Routines

@@ -4,4 +4,8 @@
 
 mod laws;
 
+pub use abc_ops::{
+    Arena, Conversion, Linked, OpEnd, Ty, binary, coerce, compare, convert, is_of, span_of_string,
+    unary,
+};
 pub use laws::{coercion_is_computed, type_test_decides};

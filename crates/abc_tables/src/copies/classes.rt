@@ -2,7 +2,7 @@ ghost use Rattle.std.specs.Prelude.{◌≡◌, ◌↔◌, IsTrue};
 
 use super::Whole;
 use crate::classes::{ClassInfo, Instance, Script};
-use abc_base::NoMemory;
+use abc_format::NoMemory;
 use std::alloc::Global;
 
 /// Whether two optional namespaces are equal.

@@ -1,6 +1,6 @@
 use super::Whole;
 use crate::code::{Body, Handler, Instr};
-use abc_base::NoMemory;
+use abc_format::NoMemory;
 use std::alloc::Global;
 
 impl Whole for Handler {

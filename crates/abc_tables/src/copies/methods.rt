@@ -3,7 +3,7 @@ ghost use Rattle.std.specs.Prelude.{◌≡◌, ◌↔◌, IsTrue};
 use super::Whole;
 use crate::methods::{Metadata, Method, OptionValue};
 use crate::traits::{TraitBody, TraitInfo};
-use abc_base::NoMemory;
+use abc_format::NoMemory;
 use std::alloc::Global;
 
 impl Whole for OptionValue {

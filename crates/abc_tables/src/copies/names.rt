@@ -1,6 +1,6 @@
 use super::Whole;
 use crate::names::{Multiname, Namespace};
-use abc_base::NoMemory;
+use abc_format::NoMemory;
 use std::alloc::Global;
 
 impl Whole for Namespace {

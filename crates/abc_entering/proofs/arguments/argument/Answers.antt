@@ -3,10 +3,10 @@ use Rattle.std.specs.Prelude.{slice_get}
 use Rattle.std.specs.declared.option.Option.{Option}
 use Rattle.abc_cells.proofs.Parts.{slice_get_some}
 use Rattle.abc_stacks.specs.Frame.{arguments as operands, newest}
-use Rattle.abc_states.specs.Outer.{setting}
+use Rattle.abc_makers.specs.Outer.{setting}
 use Rattle.abc_tables.specs.declared.methods.OptionValue.{OptionValue}
-use Rattle.abc_states.specs.WorldSetting.{options_of}
-use Rattle.abc_states.specs.World.{Went}
+use Rattle.abc_makers.specs.Setting.{options_of}
+use Rattle.abc_makers.specs.World.{Went}
 use Rattle.abc_entering.specs.Arguments.{first_of}
 use Rattle.abc_entering.proofs.Offered.{argument_first, enough_given, option_exists, option_first, option_within, unoffered}
 use Rattle.abc_entering.proofs.Operands.{given_at, none_given}

@@ -1,6 +1,6 @@
 use Rattle.std.proofs.Common.{◌≡◌, ◌-◌, ◌∙◌, length, sym, arith}
 use Rattle.abc_stacks.specs.Frame.{newest}
-use Rattle.abc_states.specs.Outer.{setting, world}
+use Rattle.abc_makers.specs.Outer.{setting, world}
 use Rattle.abc_entering.proofs.Operands.{rest_is}
 use Rattle.abc_entering.proofs.arguments.array_of.Goals as goal
 

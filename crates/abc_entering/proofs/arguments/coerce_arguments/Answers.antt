@@ -3,8 +3,8 @@ use Rattle.std.proofs.lemmas.Result.{err_from_is_err_and}
 use Rattle.abc_cells.specs.Filling.{Filling}
 use Rattle.abc_cells.specs.declared.values.Value.{Value}
 use Rattle.abc_stacks.specs.Frame.{Frames, newest}
-use Rattle.abc_states.specs.Outer.{world}
-use Rattle.abc_states.specs.Stops.{why}
+use Rattle.abc_makers.specs.Outer.{world}
+use Rattle.abc_makers.specs.Stops.{why}
 use Rattle.abc_entering.proofs.Coerced.{is_set, makes_on, next_made, next_open, next_stops, none_left, none_made, type_next}
 use Rattle.abc_entering.proofs.arguments.coerce_arguments.Goals as goal
 

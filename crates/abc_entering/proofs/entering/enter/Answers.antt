@@ -1,12 +1,12 @@
 use Rattle.std.proofs.Common.{◌<◌, ◌≤◌, List, length, ap, subst, sym, arith}
-use Rattle.abc_states.specs.ActsAt.{Act}
+use Rattle.abc_makers.specs.At.{Act}
 use Rattle.abc_cells.specs.declared.values.Value.{Value}
 use Rattle.abc_makers.proofs.Keeping.{there_grown}
 use Rattle.abc_stacks.specs.Frame.{Frames, newest}
-use Rattle.abc_states.specs.Outer.{setting, world}
-use Rattle.abc_states.specs.Standing.{IsSet, IsThere}
-use Rattle.abc_states.specs.Stops.{IsOpen}
-use Rattle.abc_states.specs.World.{Outcome}
+use Rattle.abc_makers.specs.Outer.{setting, world}
+use Rattle.abc_makers.specs.Standing.{IsSet, IsThere}
+use Rattle.abc_makers.specs.Stops.{IsOpen}
+use Rattle.abc_makers.specs.World.{Outcome}
 use Rattle.abc_entering.specs.Entering.{placed}
 use Rattle.abc_entering.proofs.Entered.{entered_is}
 use Rattle.abc_entering.proofs.entering.enter.Goals as goal

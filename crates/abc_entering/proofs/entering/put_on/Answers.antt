@@ -4,9 +4,9 @@ use Rattle.abc_cells.specs.Filling.{Filling}
 use Rattle.abc_cells.specs.declared.values.Value.{Value}
 use Rattle.abc_stacks.specs.Frame.{newest}
 use Rattle.abc_stacks.specs.declared.records.Entry.{Entry}
-use Rattle.abc_states.specs.Outer.{setting, world}
-use Rattle.abc_states.specs.Stops.{why}
-use Rattle.abc_states.specs.Turns.{Halts, bared, turned}
+use Rattle.abc_makers.specs.Outer.{setting, world}
+use Rattle.abc_makers.specs.Stops.{why}
+use Rattle.abc_makers.specs.Turns.{Halts, bared, turned}
 use Rattle.abc_entering.specs.Arguments.{list_of, receiver}
 use Rattle.abc_entering.specs.Entering.{placed, puts_on}
 use Rattle.abc_entering.proofs.Putting.{puts_fits, puts_is, puts_stops, split_first, topped_full, topped_on}

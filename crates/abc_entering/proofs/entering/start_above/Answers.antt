@@ -1,13 +1,13 @@
 use Rattle.std.proofs.Common.{◌≤◌, ◌∙◌, length, get_or, ap, subst, sym, arith}
-use Rattle.abc_states.specs.ActsAt.{Act}
+use Rattle.abc_makers.specs.At.{Act}
 use Rattle.abc_stacks.specs.Frame.{newest}
-use Rattle.abc_states.specs.Outer.{setting, world}
-use Rattle.abc_states.specs.Standing.{IsSet}
-use Rattle.abc_states.specs.Stops.{IsOpen}
-use Rattle.abc_states.specs.declared.state.State.{State}
-use Rattle.abc_states.specs.Turns.{turned}
+use Rattle.abc_makers.specs.Outer.{setting, world}
+use Rattle.abc_makers.specs.Standing.{IsSet}
+use Rattle.abc_makers.specs.Stops.{IsOpen}
+use Rattle.abc_makers.specs.State.{State}
+use Rattle.abc_makers.specs.Turns.{turned}
 use Rattle.abc_tables.specs.declared.tables.Abc.{Abc}
-use Rattle.abc_states.specs.World.{Outcome}
+use Rattle.abc_makers.specs.World.{Outcome}
 use Rattle.abc_entering.proofs.Bodied.{init_is}
 use Rattle.abc_entering.proofs.Entered.{starts_is}
 use Rattle.abc_entering.proofs.entering.start_above.Goals as goal

@@ -1,5 +1,5 @@
 use Rattle.std.proofs.Common.{◌<◌, ◌∙◌, length, get_or, ap, subst, sym}
-use Rattle.abc_states.specs.Outer.{setting}
+use Rattle.abc_makers.specs.Outer.{setting}
 use Rattle.abc_tables.specs.declared.tables.Abc.{Abc}
 use Rattle.abc_entering.proofs.Bodied.{body_inside, size_is, sized}
 use Rattle.abc_entering.proofs.methods.size_of.Goals as goal

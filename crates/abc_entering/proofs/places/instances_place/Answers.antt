@@ -1,8 +1,8 @@
 use Rattle.std.proofs.Common.{◌∙◌, ap, subst, sym}
-use Rattle.abc_states.specs.Outer.{world}
-use Rattle.abc_states.specs.Stops.{IsOpen}
-use Rattle.abc_states.specs.WorldObjects.{Place, instances_of}
-use Rattle.abc_states.specs.World.{Outcome, some}
+use Rattle.abc_makers.specs.Outer.{world}
+use Rattle.abc_makers.specs.Stops.{IsOpen}
+use Rattle.abc_makers.specs.Objects.{Place, instances_of}
+use Rattle.abc_makers.specs.World.{Outcome, some}
 use Rattle.abc_entering.proofs.Placed.{class_inside, kept_is, no_instances}
 use Rattle.abc_entering.proofs.places.instances_place.Goals as goal
 

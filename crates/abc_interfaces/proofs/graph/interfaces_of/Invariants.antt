@@ -1,7 +1,7 @@
 use Rattle.std.proofs.Common.{◌≡◌, take}
 use Rattle.std.specs.List.{flat_map}
-use Rattle.abc_names.specs.Meaning.{resolve}
-use Rattle.abc_items.specs.Bases.{interfaces_named}
+use Rattle.abc_program.specs.Meaning.{resolve}
+use Rattle.abc_program.specs.Bases.{interfaces_named}
 use Rattle.abc_interfaces.proofs.graph.interfaces_of.Given as goal
 
 abbrev pub invariant-loop-name : goal.invariant-loop-name

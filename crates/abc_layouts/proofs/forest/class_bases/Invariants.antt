@@ -1,5 +1,5 @@
 use Rattle.std.proofs.Common.{◌≡◌, map, take}
-use Rattle.abc_names.specs.Meaning.{resolve}
+use Rattle.abc_program.specs.Meaning.{resolve}
 use Rattle.abc_layouts.specs.Forest.{class_in}
 use Rattle.abc_layouts.proofs.forest.class_bases.Given as goal
 

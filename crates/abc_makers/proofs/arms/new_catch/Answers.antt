@@ -1,6 +1,6 @@
 use Rattle.abc_program.specs.declared.part.LayoutId.{LayoutId}
 use Rattle.abc_program.specs.declared.part.Part.TheVariants as parts
-use Rattle.abc_objects.specs.Stands.{array_layout}
+use Rattle.abc_states.specs.Stands.{array_layout}
 use Rattle.std.proofs.Common.{◌≢◌, ◌<◌, length, subst, sym}
 use Rattle.abc_makers.proofs.Made.{no_array, part_is}
 use Rattle.abc_makers.proofs.arms.new_catch.Goals as goal

@@ -1,5 +1,5 @@
 use Rattle.std.proofs.Common.{◌∙◌, ◌≢◌, ◌<◌, ap, length, subst, sym}
-use Rattle.abc_objects.specs.Stands.{array_layout, host_layout}
+use Rattle.abc_states.specs.Stands.{array_layout, host_layout}
 use Rattle.abc_program.specs.declared.part.LayoutId.{LayoutId}
 use Rattle.abc_program.specs.declared.part.Part.TheVariants as parts
 use Rattle.abc_states.specs.Outer.{setting, world}

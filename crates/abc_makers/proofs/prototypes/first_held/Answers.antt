@@ -1,7 +1,7 @@
 use Rattle.std.proofs.Common.{◌≡◌, ◌∙◌, Some, ap, subst}
 use Rattle.abc_cells.specs.declared.values.Value.{Value}
-use Rattle.abc_objects.specs.Stands.{IsObjectOrNone, object_in, prototype_of as prototype_in}
-use Rattle.abc_objects.proofs.Made.{prototype_is}
+use Rattle.abc_states.specs.Stands.{IsObjectOrNone, object_in, prototype_of as prototype_in}
+use Rattle.abc_states.proofs.Made.{prototype_is}
 use Rattle.abc_makers.proofs.prototypes.first_held.Goals as goal
 
 pub returns-in-Obj-clause-there : goal.returns-in-Obj-clause-there

@@ -1,5 +1,5 @@
 use Rattle.std.proofs.Common.{ap, ◌∙◌}
-use Rattle.abc_program.specs.Slots.{traits_of}
+use Rattle.abc_slots.specs.ProgramSlots.{traits_of}
 use Rattle.abc_slots.specs.Files.{linked}
 use Rattle.abc_members.proofs.Grouping.{groups_next}
 use Rattle.abc_members.proofs.members.push_group.Goals as goal

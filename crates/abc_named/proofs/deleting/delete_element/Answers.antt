@@ -5,8 +5,8 @@ use Rattle.abc_heap.specs.Heap.{Heap, elements_of}
 use Rattle.abc_objects.specs.Growing.{Grows}
 use Rattle.abc_objects.proofs.Grown.{grows_self}
 use Rattle.abc_objects.proofs.Kept.{changed_grows}
-use Rattle.abc_states.specs.Outer.{world}
-use Rattle.abc_states.specs.World.{changes}
+use Rattle.abc_makers.specs.Outer.{world}
+use Rattle.abc_makers.specs.World.{changes}
 use Rattle.abc_named.proofs.Removed.{deleted_own, kept_there}
 use Rattle.abc_named.proofs.deleting.delete_element.Goals as goal
 

@@ -1,7 +1,7 @@
 use Rattle.std.proofs.Common.{◌∙◌, ap}
 use Rattle.abc_search.specs.declared.found.Found.{Found}
-use Rattle.abc_states.specs.Outer.{setting, world}
-use Rattle.abc_states.specs.WorldMembers.{delete_found}
+use Rattle.abc_makers.specs.Outer.{setting, world}
+use Rattle.abc_makers.specs.Members.{delete_found}
 use Rattle.abc_named.proofs.deleting.delete_found.Goals as goal
 
 pub returns-in-Property-clause-part : goal.returns-in-Property-clause-part

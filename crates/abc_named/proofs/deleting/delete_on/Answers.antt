@@ -4,7 +4,7 @@ use Rattle.abc_objects.proofs.Grown.{grows_self}
 use Rattle.abc_search.specs.Laws.{IsThere}
 use Rattle.abc_search.specs.declared.found.Found.{Found}
 use Rattle.abc_search.specs.declared.found.Want.TheVariants.{Read}
-use Rattle.abc_states.specs.Outer.{setting, world}
+use Rattle.abc_makers.specs.Outer.{setting, world}
 use Rattle.abc_named.proofs.Removed.{decided, sealed}
 use Rattle.abc_named.proofs.deleting.delete_on.Goals as goal
 

@@ -5,9 +5,9 @@ use Rattle.abc_heap.specs.Texts.{text_of}
 use Rattle.abc_objects.specs.Growing.{Grows}
 use Rattle.abc_objects.proofs.Grown.{grows_self}
 use Rattle.abc_objects.proofs.Kept.{changed_grows}
-use Rattle.abc_states.specs.Outer.{setting, world}
-use Rattle.abc_states.specs.WorldObjects.{without_property}
-use Rattle.abc_states.specs.World.{changes}
+use Rattle.abc_makers.specs.Outer.{setting, world}
+use Rattle.abc_makers.specs.Objects.{without_property}
+use Rattle.abc_makers.specs.World.{changes}
 use Rattle.abc_named.proofs.Removed.{deleted_own, kept_there}
 use Rattle.abc_named.proofs.deleting.delete_own.Goals as goal
 

@@ -5,9 +5,9 @@ use Rattle.abc_moves.specs.Ready.{IsReady}
 use Rattle.abc_objects.proofs.Grown.{exists_grown}
 use Rattle.abc_stacks.specs.Frame.{newest}
 use Rattle.abc_makers.proofs.Pushing.{pushes_on, pushes_stopped}
-use Rattle.abc_states.specs.Operands.{operand_at}
-use Rattle.abc_states.specs.Outer.{setting, world}
-use Rattle.abc_states.specs.Stops.{why}
+use Rattle.abc_makers.specs.Operands.{operand_at}
+use Rattle.abc_makers.specs.Outer.{setting, world}
+use Rattle.abc_makers.specs.Stops.{why}
 use Rattle.abc_named.specs.Named.{form_at, parts_count}
 use Rattle.abc_named.proofs.Forms.{has_parts}
 use Rattle.abc_named.proofs.Removed.{open_named, remove_named, remove_stopped, removed, removing}

@@ -1,8 +1,8 @@
 use Rattle.std.proofs.Common.{◌∙◌, ℕ, ◌<◌, ap, length, subst, sym}
 use Rattle.abc_program.specs.Numbering.{part_at}
 use Rattle.abc_makers.proofs.Things.{layout_there}
-use Rattle.abc_states.specs.Outer.{setting, world}
-use Rattle.abc_states.specs.WorldSetting.{is_dynamic_part}
+use Rattle.abc_makers.specs.Outer.{setting, world}
+use Rattle.abc_makers.specs.Setting.{is_dynamic_part}
 use Rattle.abc_named.proofs.Removed.{dynamic_is}
 use Rattle.abc_named.proofs.deleting.is_dynamic_object.Goals as goal
 

@@ -1,12 +1,12 @@
 use Rattle.std.proofs.Common.{refl}
 use Rattle.std.proofs.lemmas.Result.{err_from_is_err_and}
 use Rattle.abc_stacks.specs.Frame.{newest}
-use Rattle.abc_states.specs.ActsLate.{kept_as, late_type}
+use Rattle.abc_makers.specs.Late.{kept_as, late_type}
 use Rattle.abc_makers.proofs.Pushing.{pushes_on, pushes_stopped}
-use Rattle.abc_states.specs.Operands.{operand_at}
-use Rattle.abc_states.specs.Outer.{setting, world}
-use Rattle.abc_states.specs.Stops.{why}
-use Rattle.abc_states.specs.World.{◌>>=◌}
+use Rattle.abc_makers.specs.Operands.{operand_at}
+use Rattle.abc_makers.specs.Outer.{setting, world}
+use Rattle.abc_makers.specs.Stops.{why}
+use Rattle.abc_makers.specs.World.{◌>>=◌}
 use Rattle.abc_named.proofs.Typed.{late_kept, late_stops}
 use Rattle.abc_named.proofs.late.as_late.Goals as goal
 

@@ -5,9 +5,9 @@ use Rattle.abc_moves.specs.Ready.{IsReady}
 use Rattle.abc_objects.proofs.Grown.{exists_grown}
 use Rattle.abc_stacks.specs.Frame.{newest}
 use Rattle.abc_makers.proofs.Pushing.{pushes_on, pushes_stopped}
-use Rattle.abc_states.specs.Operands.{operand_at}
-use Rattle.abc_states.specs.Outer.{setting, world}
-use Rattle.abc_states.specs.Stops.{why}
+use Rattle.abc_makers.specs.Operands.{operand_at}
+use Rattle.abc_makers.specs.Outer.{setting, world}
+use Rattle.abc_makers.specs.Stops.{why}
 use Rattle.abc_named.specs.Late.{name_is_in}
 use Rattle.abc_named.proofs.Typed.{in_found, in_refused, in_stops}
 use Rattle.abc_named.proofs.late.has_name.Goals as goal

@@ -4,12 +4,12 @@ use Rattle.abc_cells.specs.declared.values.Value.{Value}
 use Rattle.abc_cells.specs.declared.values.Value.TheVariants.{Bool as Truth}
 use Rattle.abc_program.specs.declared.types.Ty.{Ty}
 use Rattle.abc_stacks.specs.Frame.{newest}
-use Rattle.abc_states.specs.ActsLate.{is_instance, late_type}
+use Rattle.abc_makers.specs.Late.{is_instance, late_type}
 use Rattle.abc_makers.proofs.Pushing.{pushes_on, pushes_stopped}
-use Rattle.abc_states.specs.Operands.{operand_at}
-use Rattle.abc_states.specs.Outer.{setting, world}
-use Rattle.abc_states.specs.Stops.{why}
-use Rattle.abc_states.specs.World.{Run, done, see, ◌>>=◌}
+use Rattle.abc_makers.specs.Operands.{operand_at}
+use Rattle.abc_makers.specs.Outer.{setting, world}
+use Rattle.abc_makers.specs.Stops.{why}
+use Rattle.abc_makers.specs.World.{Run, done, see, ◌>>=◌}
 use Rattle.abc_named.proofs.Typed.{late_instance, late_stops}
 use Rattle.abc_named.proofs.late.is_instance_of.Goals as goal
 

@@ -2,12 +2,12 @@ use Rattle.std.proofs.Common.{refl}
 use Rattle.std.proofs.lemmas.Result.{err_from_is_err_and}
 use Rattle.abc_cells.specs.declared.values.Value.TheVariants.{Bool as Truth}
 use Rattle.abc_stacks.specs.Frame.{newest}
-use Rattle.abc_states.specs.ActsLate.{tested_as, late_type}
+use Rattle.abc_makers.specs.Late.{tested_as, late_type}
 use Rattle.abc_makers.proofs.Pushing.{pushes_on, pushes_stopped}
-use Rattle.abc_states.specs.Operands.{operand_at}
-use Rattle.abc_states.specs.Outer.{setting, world}
-use Rattle.abc_states.specs.Stops.{why}
-use Rattle.abc_states.specs.World.{◌>>=◌}
+use Rattle.abc_makers.specs.Operands.{operand_at}
+use Rattle.abc_makers.specs.Outer.{setting, world}
+use Rattle.abc_makers.specs.Stops.{why}
+use Rattle.abc_makers.specs.World.{◌>>=◌}
 use Rattle.abc_named.proofs.Typed.{late_tested, late_stops}
 use Rattle.abc_named.proofs.late.is_late.Goals as goal
 

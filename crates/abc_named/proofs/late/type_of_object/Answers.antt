@@ -1,7 +1,7 @@
 use Rattle.std.proofs.Common.{◌∙◌, ap, sym}
 use Rattle.abc_heap.specs.declared.records.What.{What}
-use Rattle.abc_states.specs.ActsLate.{type_of_what}
-use Rattle.abc_states.specs.Outer.{setting, world}
+use Rattle.abc_makers.specs.Late.{type_of_what}
+use Rattle.abc_makers.specs.Outer.{setting, world}
 use Rattle.abc_named.proofs.Typed.{late_object}
 use Rattle.abc_named.proofs.late.type_of_object.Goals as goal
 

@@ -1,7 +1,7 @@
 use Rattle.std.proofs.Common.{◌∙◌, ◌-◌, ap, arith, sym}
 use Rattle.std.specs.Prelude.{slice_get}
 use Rattle.abc_tables.specs.declared.tables.Abc.{Abc}
-use Rattle.abc_states.specs.Outer.{setting}
+use Rattle.abc_makers.specs.Outer.{setting}
 use Rattle.abc_named.proofs.Forms.{form_found, form_none, form_past, string_small}
 use Rattle.abc_named.proofs.names.form_named.Goals as goal
 

@@ -1,4 +1,4 @@
-use Rattle.abc_states.specs.Outer.{setting}
+use Rattle.abc_makers.specs.Outer.{setting}
 use Rattle.abc_named.proofs.Forms.{multi_is, multil_is, qname_is, rt_is, rtl_is}
 use Rattle.abc_named.proofs.names.form_of.Goals as goal
 

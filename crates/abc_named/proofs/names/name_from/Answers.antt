@@ -5,13 +5,13 @@ use Rattle.abc_cells.specs.declared.values.Span.{Span}
 use Rattle.abc_cells.specs.declared.values.Value.{Value}
 use Rattle.abc_heap.specs.Texts.{IsText}
 use Rattle.abc_stacks.specs.Frame.{newest}
-use Rattle.abc_states.specs.ActsNames.{named}
+use Rattle.abc_makers.specs.Names.{named}
 use Rattle.abc_makers.proofs.Keeping.{stays_self}
 use Rattle.abc_search.specs.declared.name.Name.{Name}
-use Rattle.abc_states.specs.Operands.{operand_at}
-use Rattle.abc_states.specs.Outer.{setting, world}
-use Rattle.abc_states.specs.Stops.{IsOpen}
-use Rattle.abc_states.specs.WorldSetting.{NoSpace, NoText}
+use Rattle.abc_makers.specs.Operands.{operand_at}
+use Rattle.abc_makers.specs.Outer.{setting, world}
+use Rattle.abc_makers.specs.Stops.{IsOpen}
+use Rattle.abc_makers.specs.Setting.{NoSpace, NoText}
 use Rattle.abc_named.specs.declared.names.Form.{Form}
 use Rattle.abc_named.specs.Form.{HasText, form_of}
 use Rattle.abc_named.specs.Named.{HasParts, IsSpaceOrNull, parts_for}

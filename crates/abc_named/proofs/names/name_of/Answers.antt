@@ -1,10 +1,10 @@
 use Rattle.std.proofs.Common.{◌∙◌, ap, subst, sym}
 use Rattle.std.specs.declared.option.Option.{Option}
 use Rattle.abc_stacks.specs.Frame.{newest}
-use Rattle.abc_states.specs.ActsNames.{named}
-use Rattle.abc_states.specs.Outer.{setting, world}
-use Rattle.abc_states.specs.Stops.{IsOpen}
-use Rattle.abc_states.specs.WorldSetting.{NameForm}
+use Rattle.abc_makers.specs.Names.{named}
+use Rattle.abc_makers.specs.Outer.{setting, world}
+use Rattle.abc_makers.specs.Stops.{IsOpen}
+use Rattle.abc_makers.specs.Setting.{NameForm}
 use Rattle.abc_named.specs.Form.{HasText}
 use Rattle.abc_named.specs.Named.{HasParts, form_at, parts_for}
 use Rattle.abc_named.proofs.Forms.{form_text}

@@ -1,5 +1,5 @@
 use Rattle.std.proofs.lemmas.Result.{err_from_is_err_and}
-use Rattle.abc_states.specs.Stops.{why}
+use Rattle.abc_makers.specs.Stops.{why}
 use Rattle.abc_named.proofs.Naming.{spaced_stopped, spaced_went}
 use Rattle.abc_named.proofs.names.with_space.Goals as goal
 

@@ -1,6 +1,6 @@
 use Rattle.std.proofs.lemmas.Result.{err_from_is_err_and}
-use Rattle.abc_states.specs.Outer.{setting, world}
-use Rattle.abc_states.specs.Stops.{why}
+use Rattle.abc_makers.specs.Outer.{setting, world}
+use Rattle.abc_makers.specs.Stops.{why}
 use Rattle.abc_named.proofs.Naming.{texted_stopped, texted_went}
 use Rattle.abc_named.proofs.names.with_text.Goals as goal
 

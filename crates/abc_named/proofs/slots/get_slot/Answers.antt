@@ -7,10 +7,10 @@ use Rattle.abc_heap.specs.Heap.{Object, slots_of}
 use Rattle.abc_objects.specs.Values.{Exists}
 use Rattle.abc_stacks.specs.Frame.{newest}
 use Rattle.abc_makers.proofs.Pushing.{pushes_on, pushes_stopped}
-use Rattle.abc_states.specs.Operands.{operand_at}
-use Rattle.abc_states.specs.Outer.{setting, world}
-use Rattle.abc_states.specs.Stops.{IsOpen, why}
-use Rattle.abc_states.specs.World.{Run, some}
+use Rattle.abc_makers.specs.Operands.{operand_at}
+use Rattle.abc_makers.specs.Outer.{setting, world}
+use Rattle.abc_makers.specs.Stops.{IsOpen, why}
+use Rattle.abc_makers.specs.World.{Run, some}
 use Rattle.abc_named.specs.Numbered.{on_numbered}
 use Rattle.abc_named.proofs.Receiving.{pushes_open}
 use Rattle.abc_named.proofs.Slotted.{has_number, held_within, numbered_at, numbered_stopped, open_receiver}

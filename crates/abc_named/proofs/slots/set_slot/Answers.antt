@@ -6,14 +6,14 @@ use Rattle.abc_heap.specs.Heap.{Object}
 use Rattle.abc_moves.specs.Ready.{IsReady}
 use Rattle.abc_objects.specs.Values.{Exists}
 use Rattle.abc_stacks.specs.Frame.{Frame, dropped, newest}
-use Rattle.abc_states.specs.ActsAt.{goes, next}
-use Rattle.abc_states.specs.Operands.{operand_at}
-use Rattle.abc_states.specs.Outer.{setting, world}
-use Rattle.abc_states.specs.Stops.{IsOpen, why}
-use Rattle.abc_states.proofs.Turning.{open_first}
-use Rattle.abc_states.specs.WorldMembers.{write_slot}
-use Rattle.abc_states.specs.WorldSetting.{Setting}
-use Rattle.abc_states.specs.World.{Run, World}
+use Rattle.abc_makers.specs.At.{goes, next}
+use Rattle.abc_makers.specs.Operands.{operand_at}
+use Rattle.abc_makers.specs.Outer.{setting, world}
+use Rattle.abc_makers.specs.Stops.{IsOpen, why}
+use Rattle.abc_makers.proofs.Turning.{open_first}
+use Rattle.abc_makers.specs.Members.{write_slot}
+use Rattle.abc_makers.specs.Setting.{Setting}
+use Rattle.abc_makers.specs.World.{Run, World}
 use Rattle.abc_named.specs.Numbered.{on_numbered, writes_numbered}
 use Rattle.abc_named.proofs.Slotted.{drops_on, drops_stopped, has_number, numbered_at, numbered_stopped, open_receiver, write_within}
 use Rattle.abc_named.proofs.slots.set_slot.Goals as goal

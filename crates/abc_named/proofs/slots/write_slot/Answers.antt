@@ -8,8 +8,8 @@ use Rattle.abc_objects.proofs.Grown.{grows_on}
 use Rattle.abc_objects.proofs.Kept.{changed_grows}
 use Rattle.abc_program.specs.Types.{kind_of_type}
 use Rattle.abc_program.specs.declared.types.Kind.{Kind}
-use Rattle.abc_states.specs.Outer.{setting, world}
-use Rattle.abc_states.specs.Stops.{why}
+use Rattle.abc_makers.specs.Outer.{setting, world}
+use Rattle.abc_makers.specs.Stops.{why}
 use Rattle.abc_named.proofs.Coercing.{coercion_holds}
 use Rattle.abc_named.proofs.Slotted.{holder_there, slot_kept, slot_stopped, slot_written, type_kept}
 use Rattle.abc_named.proofs.slots.write_slot.Goals as goal

@@ -1,7 +1,7 @@
 use Rattle.std.proofs.Common.{◌∙◌, ap, subst, sym}
 use Rattle.abc_cells.specs.declared.values.Value.{Value}
 use Rattle.abc_objects.specs.Values.{Exists}
-use Rattle.abc_states.specs.ActsWalking.{next_along, object_number, position}
+use Rattle.abc_makers.specs.Walking.{next_along, object_number, position}
 use Rattle.abc_named.proofs.Walks.{along_is}
 use Rattle.abc_named.proofs.walking.next_from.Goals as goal
 

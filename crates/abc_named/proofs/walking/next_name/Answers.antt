@@ -2,15 +2,15 @@ use Rattle.std.proofs.Common.{◌∙◌, ap, refl, sym}
 use Rattle.abc_cells.specs.declared.values.Value.{Value}
 use Rattle.abc_heap.specs.Heap.{Heap}
 use Rattle.abc_stacks.specs.Frame.{newest}
-use Rattle.abc_states.specs.ActsWalking.{name_in, position, walked}
+use Rattle.abc_makers.specs.Walking.{name_in, position, walked}
 use Rattle.abc_makers.proofs.Pushing.{pushes_on, pushes_stopped}
-use Rattle.abc_states.specs.Operands.{operand_at}
-use Rattle.abc_states.specs.Outer.{world, setting}
-use Rattle.abc_states.specs.Stops.{stop_of_end, why}
-use Rattle.abc_states.specs.Turns.{Halts, bared}
-use Rattle.abc_states.proofs.Operated.{operated_err, operated_ok}
+use Rattle.abc_makers.specs.Operands.{operand_at}
+use Rattle.abc_makers.specs.Outer.{world, setting}
+use Rattle.abc_makers.specs.Stops.{stop_of_end, why}
+use Rattle.abc_makers.specs.Turns.{Halts, bared}
+use Rattle.abc_makers.proofs.Operated.{operated_err, operated_ok}
 use Rattle.abc_walks.specs.Walking.{named_in, position_of, walked as walked_in}
-use Rattle.abc_states.specs.World.{see, ◌>>=◌}
+use Rattle.abc_makers.specs.World.{see, ◌>>=◌}
 use Rattle.abc_named.proofs.Walks.{can_walk, is_place, name_at_is}
 use Rattle.abc_named.proofs.walking.next_name.Goals as goal
 

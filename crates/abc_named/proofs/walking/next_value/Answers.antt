@@ -1,11 +1,11 @@
 use Rattle.std.proofs.Common.{◌∙◌, ap, refl, sym}
 use Rattle.abc_cells.specs.declared.values.Value.{Value}
 use Rattle.abc_stacks.specs.Frame.{newest}
-use Rattle.abc_states.specs.ActsWalking.{position, value_in, walked}
+use Rattle.abc_makers.specs.Walking.{position, value_in, walked}
 use Rattle.abc_makers.proofs.Pushing.{pushes_on}
-use Rattle.abc_states.specs.Operands.{operand_at}
-use Rattle.abc_states.specs.Outer.{world, setting}
-use Rattle.abc_states.specs.World.{Went, done, see, ◌>>=◌}
+use Rattle.abc_makers.specs.Operands.{operand_at}
+use Rattle.abc_makers.specs.Outer.{world, setting}
+use Rattle.abc_makers.specs.World.{Went, done, see, ◌>>=◌}
 use Rattle.abc_named.proofs.Walks.{can_walk, is_place, value_is}
 use Rattle.abc_named.proofs.walking.next_value.Goals as goal
 

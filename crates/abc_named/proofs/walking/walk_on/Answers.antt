@@ -2,7 +2,7 @@ use Rattle.std.proofs.Common.{◌∙◌, ◌∷◌, [], ap, arith}
 use Rattle.abc_cells.specs.declared.values.Value.TheVariants.{Bool as Truth}
 use Rattle.abc_moves.specs.Moves.{next_with}
 use Rattle.abc_stacks.specs.Frame.{with_local, with_newest}
-use Rattle.abc_states.specs.Outer.{setting, world}
+use Rattle.abc_makers.specs.Outer.{setting, world}
 use Rattle.abc_named.proofs.Walks.{locals_long, ready_local, walked_on}
 use Rattle.abc_named.proofs.walking.walk_on.Goals as goal
 

@@ -1,11 +1,11 @@
 use Rattle.std.proofs.Common.{◌∙◌, ap, refl, sym}
 use Rattle.abc_cells.specs.declared.values.Value.{Value}
 use Rattle.abc_stacks.specs.Frame.{newest}
-use Rattle.abc_states.specs.ActsWalking.{has_next}
+use Rattle.abc_makers.specs.Walking.{has_next}
 use Rattle.abc_makers.proofs.Pushing.{pushes_on}
-use Rattle.abc_states.specs.Operands.{operand_at}
-use Rattle.abc_states.specs.Outer.{world, setting}
-use Rattle.abc_states.specs.World.{Went, see}
+use Rattle.abc_makers.specs.Operands.{operand_at}
+use Rattle.abc_makers.specs.Outer.{world, setting}
+use Rattle.abc_makers.specs.World.{Went, see}
 use Rattle.abc_named.proofs.Walks.{can_walk, next_is}
 use Rattle.abc_named.proofs.walking.walk_one.Goals as goal
 

@@ -1,5 +1,5 @@
 use Rattle.std.proofs.Common.{◌∙◌, ap, List}
-use Rattle.abc_base.specs.declared.names.HostClass.{HostClass}
+use Rattle.abc_index.specs.HostClass.{HostClass}
 use Rattle.abc_names.specs.Meaning.{host_among}
 use Rattle.abc_names.proofs.hosts.host_named.Goals as goal
 

@@ -1,5 +1,5 @@
 use Rattle.std.proofs.Common.{◌≡◌, map, take}
-use Rattle.abc_names.specs.Meaning.{resolve}
+use Rattle.abc_items.specs.Meaning.{resolve}
 use Rattle.abc_items.specs.Bases.{classes_named}
 use Rattle.abc_rules.proofs.graphs.base_graph.Given as goal
 

@@ -1,6 +1,6 @@
 use Rattle.std.proofs.Common.{◌≡◌, take}
 use Rattle.std.specs.List.{flat_map}
-use Rattle.abc_names.specs.Meaning.{resolve}
+use Rattle.abc_items.specs.Meaning.{resolve}
 use Rattle.abc_items.specs.Bases.{interfaces_named}
 use Rattle.abc_rules.proofs.graphs.interfaces_of.Given as goal
 

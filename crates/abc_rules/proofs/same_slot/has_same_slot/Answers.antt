@@ -1,6 +1,6 @@
 use Rattle.std.proofs.Common.{◌∙◌, sym, ap, arith, ◌<◌, length, nat_eq}
 use Rattle.std.proofs.lemmas.List.{get_or_default}
-use Rattle.abc_index.specs.Index.{first}
+use Rattle.abc_items.specs.Index.{first}
 use Rattle.abc_rules.proofs.SlotRepeats.{slots_repeat}
 use Rattle.abc_rules.proofs.same_slot.has_same_slot.Goals as goal
 

@@ -1,5 +1,5 @@
 use Rattle.std.proofs.Common.{◌≡◌, ℕ, ◌<◌, false, get_or, nat_eq}
-use Rattle.abc_index.specs.Index.{first}
+use Rattle.abc_items.specs.Index.{first}
 use Rattle.abc_rules.specs.Repeats.{is_repeat}
 use Rattle.abc_rules.proofs.same_slot.has_same_slot.Given as goal
 

@@ -1,6 +1,6 @@
 use Rattle.std.proofs.Common.{◌≡◌, take}
 use Rattle.std.specs.List.{flat_map}
-use Rattle.abc_program.specs.Slots.{numbers_in}
+use Rattle.abc_layouts.specs.Slots.{numbers_in}
 use Rattle.abc_slots.proofs.slots.numbers_among.Given as goal
 
 abbrev pub invariant-loop-info : goal.invariant-loop-info

@@ -1,6 +1,6 @@
 use Rattle.std.proofs.Common.{ap, length, sym, ◌∙◌}
-use Rattle.abc_program.specs.Linked.{LinkedFile}
-use Rattle.abc_program.specs.Slots.{own_numbers, own_slots}
+use Rattle.abc_layouts.specs.Linked.{LinkedFile}
+use Rattle.abc_layouts.specs.Slots.{own_numbers, own_slots}
 use Rattle.abc_slots.specs.Files.{linked}
 use Rattle.abc_slots.proofs.Slotted.{base_known, own_paired, slots_next}
 use Rattle.abc_slots.proofs.slots.push_layout.Goals as goal

@@ -1,6 +1,6 @@
 use Rattle.std.proofs.Common.{◌≡◌, take}
 use Rattle.std.specs.List.{flat_map}
-use Rattle.abc_program.specs.Slots.{slots_in}
+use Rattle.abc_layouts.specs.Slots.{slots_in}
 use Rattle.abc_slots.specs.Files.{linked}
 use Rattle.abc_slots.proofs.slots.slots_among.Given as goal
 

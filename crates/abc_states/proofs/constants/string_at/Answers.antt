@@ -1,6 +1,6 @@
 use Rattle.std.proofs.Common.{◌≡◌, subst, sym}
-use Rattle.abc_objects.specs.Starts.{IsShort}
-use Rattle.abc_objects.proofs.Started.{stored, string_short}
+use Rattle.abc_acts.specs.ObjectsStarts.{IsShort}
+use Rattle.abc_acts.proofs.Started.{stored, string_short}
 use Rattle.abc_tables.specs.declared.tables.Abc.{Abc}
 use Rattle.abc_states.proofs.constants.string_at.Goals as goal
 

@@ -4,7 +4,7 @@ use Rattle.abc_cells.specs.declared.values.ObjId.{ObjId}
 use Rattle.abc_cells.specs.declared.values.Value.TheVariants.{Obj}
 use Rattle.abc_search.specs.declared.found.ScopeFound.{ScopeFound}
 use Rattle.abc_stacks.specs.Frame.{newest}
-use Rattle.abc_above.specs.Found.{IsScopeThere}
+use Rattle.abc_scopearms.specs.Found.{IsScopeThere}
 use Rattle.abc_states.specs.ActsAt.{Act}
 use Rattle.abc_memberarms.specs.CallarmsCalls.{settled_by}
 use Rattle.abc_scopearms.proofs.Pushed.{nothing_is, object_is, script_is}

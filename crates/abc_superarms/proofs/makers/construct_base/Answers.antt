@@ -11,8 +11,8 @@ use Rattle.abc_states.specs.Outer.{setting, world}
 use Rattle.abc_states.specs.Stops.{IsOpen}
 use Rattle.abc_states.specs.Turns.{turned}
 use Rattle.abc_states.specs.declared.state.How.TheVariants.{Drop}
-use Rattle.abc_above.specs.declared.bases.Base.{Base}
-use Rattle.abc_above.specs.Based.{IsBase, named_of}
+use Rattle.abc_scopearms.specs.Base.{Base}
+use Rattle.abc_scopearms.specs.Based.{IsBase, named_of}
 use Rattle.abc_superarms.specs.Supers.{runs_base}
 use Rattle.abc_superarms.proofs.Made.{maker_is}
 use Rattle.abc_superarms.proofs.makers.construct_base.Goals as goal

@@ -16,7 +16,7 @@ use Rattle.abc_states.specs.Stops.{IsOpen, why}
 use Rattle.abc_states.specs.Turns.{went}
 use Rattle.abc_states.specs.declared.state.How.TheVariants.{Drop}
 use Rattle.abc_states.proofs.Turning.{open_first}
-use Rattle.abc_above.specs.Based.{named_of}
+use Rattle.abc_scopearms.specs.Based.{named_of}
 use Rattle.abc_superarms.specs.Supers.{runs_base}
 use Rattle.abc_superarms.proofs.Above.{receives_object, receives_open, receives_stopped}
 use Rattle.abc_superarms.proofs.makers.construct_super.Goals as goal

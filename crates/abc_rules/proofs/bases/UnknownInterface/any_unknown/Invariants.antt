@@ -1,6 +1,6 @@
 use Rattle.std.proofs.Common.{◌≡◌, false, not, take}
 use Rattle.std.specs.List.{list_any}
-use Rattle.abc_names.specs.Meaning.{resolve}
+use Rattle.abc_items.specs.Meaning.{resolve}
 use Rattle.abc_items.specs.Bases.{is_interface_named}
 use Rattle.abc_rules.proofs.bases.UnknownInterface.any_unknown.Given as goal
 
