@@ -10,8 +10,8 @@ use Rattle.abc_program.specs.Linked.{LinkedFile}
 use Rattle.abc_meaning.specs.WorldSetting.{Setting}
 use Rattle.abc_cli.proofs.run.run_machine.Goals as goal
 
-pub run-requires : goal.run-requires
-run-requires g c = λ begun. c.requires.names
+pub run-end-requires : goal.run-requires
+run-end-requires g c = λ begun. c.requires.names
 
 pub give_end-requires : goal.give_end-requires
 give_end-requires g c =
