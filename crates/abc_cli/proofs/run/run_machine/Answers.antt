@@ -10,7 +10,7 @@ use Rattle.abc_program.specs.Linked.{LinkedFile}
 use Rattle.abc_meaning.specs.WorldSetting.{Setting}
 use Rattle.abc_cli.proofs.run.run_machine.Goals as goal
 
-pub run-end-requires : goal.run-requires
+pub run-end-requires : goal.run-end-requires
 run-end-requires g c = λ begun. c.requires.names
 
 pub give_end-requires : goal.give_end-requires
