@@ -2,6 +2,7 @@ ghost use Rattle.std.specs.Prelude.{◌≡◌, ◌≤◌, None};
 ghost use Rattle.abc_bodies.specs.Places.{ArePlaces};
 ghost use Rattle.abc_cli.specs.Answers.{IsVerifiedOf, OfFileRead};
 ghost use Rattle.abc_cli.specs.End.{HasFailed, RunsTo, UsesUp, stream};
+ghost use Rattle.abc_cli.specs.Endings.{CanBeTold};
 ghost use Rattle.abc_cli.specs.Outcome.{On};
 ghost use Rattle.abc_cli.specs.Runs.{IsMeant, Run, limits_of as limits_in};
 ghost use Rattle.abc_machine.specs.OpeningsBegun.{setting};
@@ -35,6 +36,16 @@ fn limits_of(options: &RunOptions) -> Limits
     }
 }
 
+/// How a run of this machine ends can be told.
+#[tactic(none)]
+fn end_can_be_told<H: Host>(machine: &Machine, fuel: u32, host: &H)
+    requires verified { IsVerified (setting (machine.now).linked (H.formulas host.now)) }
+    requires counted { AreCounted (machine.now).limits }
+    ensures { CanBeTold (machine.now).linked.file (meaning (setting (machine.now).linked (H.formulas host.now)) (machine.now).limits fuel) }
+{
+    ends_can_be_told();
+}
+
 /// Runs an opened machine, and writes the line of its end.
 fn run_machine<K: Sink, E: Sink, H: Host>(
     mut machine: Machine,
@@ -53,7 +64,7 @@ fn run_machine<K: Sink, E: Sink, H: Host>(
     ensures later { K.faults out.old ≤ K.faults out.new }
     ensures quiet { result ≡ Status.Done → err.new ≡ err.old }
 {
-    ends_can_be_told();
+    end_can_be_told(&machine, fuel, host);
     let end = machine.run(fuel, out, host);
     give_end(err, machine.linked(), places, &end)
 }
