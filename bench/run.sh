@@ -1,6 +1,6 @@
 #!/usr/bin/env bash
 # Measures `abc run` beside its peer on programs that go around one loop many times, over locals, calls, properties and
-# elements of an array, and on the program of `gen --methods=10000`; then `abc gen` itself. Prints what canon.sh does.
+# elements of an array, and on the program of `gen --methods=10000`; then `gen` itself, which reads nothing. Prints what canon.sh does.
 # Use: bench/run.sh [FOLDER]
 set -eu
 . "$(dirname "$0")/common.sh"
@@ -15,7 +15,5 @@ done
 room="--fuel=4294967295 --text=16777216"
 measure "run $room:run $room" "${loops[@]}"
 measure run generated
-echo "gen --methods=10000:"
-for _ in $(seq "${RUNS:-5}"); do
-    /usr/bin/time -f "%U %S" "$abc" gen --methods=10000 2>&1 >/dev/null
-done | awk '{ print $1 + $2 " s of the processor" }' | sort -n | head -n 1
+: >"$folder/nothing.abc"
+measure "gen --methods=10000:gen --methods=10000" nothing

@@ -11,6 +11,7 @@ mod covers;
 mod definitions;
 mod dis;
 mod fault;
+mod generate;
 mod graph;
 mod hash;
 mod heap;
@@ -196,14 +197,25 @@ fn why(end: End) -> Refusal {
 }
 
 /// Runs a file, after `check`.
-fn run() -> Done {
-    let input = read_input(MOST)?;
-    let file = read_value(&input)?;
+fn run_file(input: &[u8]) -> Done {
+    let file = read_value(input)?;
     let linked = link::link(&file).map_err(|line| Refusal::new(1, line))?;
     verify::verify(&linked).map_err(|_| Refusal::new(1, "a rule is broken"))?;
     let mut out = io::stdout().lock();
     run::run(&linked, limits(), &mut out).map_err(why)?;
     out.flush().map_err(write_fault)
+}
+
+fn run() -> Done {
+    run_file(&read_input(MOST)?)
+}
+
+fn generate() -> Done {
+    let methods = option("--methods", 100);
+    let made = generate::generate(option("--seed", 1), methods);
+    run_file(&made.bytes)?;
+    let (bytes, methods, instructions) = (made.bytes.len(), methods + 1, made.instructions);
+    write(format!("bytes {bytes}\nmethods {methods}\ninstructions {instructions}\n").as_bytes())
 }
 
 fn main() -> ExitCode {
@@ -216,6 +228,7 @@ fn main() -> ExitCode {
         Some("link") => link(),
         Some("check") => check(),
         Some("run") => run(),
+        Some("gen") => generate(),
         Some(word) => Err(Refusal::new(2, format!("usage: {word}"))),
     };
     match done {

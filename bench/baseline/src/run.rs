@@ -409,9 +409,7 @@ impl<W: Write> Machine<'_, W> {
                 let (y, x) = (self.pop(), self.pop());
                 self.stack.extend([y, x]);
             }
-            0x2c => self
-                .stack
-                .push(Value::Text(self.texts[one.first as usize])),
+            0x2c => self.stack.push(Value::Text(self.texts[one.first as usize])),
             0x2d => {
                 let n = entry(&self.linked.file.ints, one.first).map_or(0, |&n| n as i32);
                 self.stack.push(Value::Number(n.into()));
