@@ -15,5 +15,5 @@ done
 room="--fuel=4294967295 --text=16777216"
 measure "run $room:run $room" "${loops[@]}"
 measure run generated
-: >"$folder/nothing.abc"
+echo >"$folder/nothing.abc"
 measure "gen --methods=10000:gen --methods=10000" nothing
