@@ -27,9 +27,10 @@ fn limits_of(options: &RunOptions) -> Limits
     ensures is { result ≡ limits_in options.now }
     ensures counted { AreCounted result }
 {
+    let cells = options.cells;
     Limits {
         objects: options.objects,
-        cells: options.cells,
+        cells,
         text: options.text,
         frames: options.frames,
         stack: options.stack,
