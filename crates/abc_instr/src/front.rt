@@ -130,7 +130,7 @@ fn put_front(bytes: &[u8], plain: &mut Vec<u8>) -> Result<Option<Front>, NoMemor
 /// Puts the next instruction straight from the bytes that the window holds, or gives it where it has targets, and goes on
 /// past it. `None`, and nothing changed, where that can't be done.
 #[inline(always)]
-pub fn take_front(w: &mut Window, plain: &mut Vec<u8>) -> Result<Option<Front>, NoMemory>
+pub(crate) fn take_front(w: &mut Window, plain: &mut Vec<u8>) -> Result<Option<Front>, NoMemory>
     ensures taken { IfOk result (λ f. TakesFront f w.old w.new plain.old.items plain.new.items) }
     ensures same { OnErr result (w.new ≡ w.old) }
 {

@@ -1,14 +1,15 @@
-ghost use Rattle.std.specs.Prelude.{◌≡◌, ◌≤◌, ◌<◌, ◌^◌, IfOk, length};
+ghost use Rattle.std.specs.Prelude.{◌≡◌, ◌≤◌, ◌<◌, ◌^◌, Err, IfOk, length};
 ghost use Rattle.abc_tables.specs.Places.{instruction_place};
 ghost use Rattle.abc_tables.specs.Starts.{IsRising};
 ghost use Rattle.abc_varint.specs.Reads.{ReadsPart};
+ghost use Rattle.abc_varint.specs.declared.error.ReadError.{ReadError};
 
 use crate::resolve::number_of;
 use abc_base::Source;
 use abc_varint::{ReadError, Reason, Window, read_u30};
 
 /// The number of the instruction that starts at a place in the code as it was read, or of the end, as an exception names
-/// it. It is refused by `HandlerRange` at its first byte where no instruction starts there.
+/// it. It is refused by `HandlerRange` at its first byte where no instruction starts there. It takes no memory.
 #[tactic(auto, unfolding(abc_tables::specs::Places::instruction_place))]
 pub fn read_place<S: Source>(
     w: &mut Window,
@@ -19,6 +20,7 @@ pub fn read_place<S: Source>(
     requires few { length offsets.now < 2 ^ 32 }
     ensures value { ReadsPart S.left S.faults (instruction_place offsets.now) w.old source.old w.new source.new result }
     ensures within { IfOk result (λ n. n < length offsets.now) }
+    ensures no_memory { result ≡ Err ReadError.NoMemory → ⊥ }
 {
     let place = w.place();
     let x = read_u30(w, source)?;

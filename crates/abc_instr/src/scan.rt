@@ -44,7 +44,12 @@ pub struct Scan {
 
 impl Scan {
     /// A scan of nothing. It takes no memory.
-    pub fn new(alloc: Global) -> Scan {
+    pub fn new(alloc: Global) -> Scan
+        ensures marks { (p : ℕ) → mark_at result.marks p ≡ None }
+        ensures plain { result.plain.items ≡ [] }
+        ensures jumps { result.jumps.items ≡ [] }
+        ensures len { result.len ≡ 0 }
+    {
         Scan {
             marks: Marks::new(alloc),
             plain: Vec::new(alloc),

@@ -1,5 +1,6 @@
 -- Numbers and bytes that are read straight from those that a window holds.
 use Rattle.std.proofs.Common.{◌≡◌, ℕ, ℤ, ◌+◌, ◌*◌, ◌%◌, ◌<◌, ◌≤◌, List, [], ◌∷◌, ◌++◌, get_or, length, take, drop, length-take, Ok, None, Some, refl, sym, ap, ◌∙◌, append_assoc, arith}
+use Rattle.std.specs.List.{AllByRecursion}
 use Rattle.std.specs.declared.option.Option.{Option}
 use Rattle.std.proofs.lemmas.List.{drop-drop, take-append-drop, take-append-le}
 use Rattle.abc_base.specs.Numbers.{SpellsNumber, number_bytes, signed24}
@@ -47,6 +48,17 @@ spells_5 (a2 ∷ b2 ∷ c2 ∷ []) a b c d f x le ea eb ec ed ef ha hb hc hd lt 
 spells_5 (a2 ∷ b2 ∷ c2 ∷ d2 ∷ []) a b c d f x le ea eb ec ed ef ha hb hc hd lt e = absurd (omega arith)
 spells_5 (a2 ∷ b2 ∷ c2 ∷ d2 ∷ f2 ∷ r) a b c d f x le ea eb ec ed ef ha hb hc hd lt e =
     groups_number x (a2 ∷ b2 ∷ c2 ∷ d2 ∷ f2 ∷ []) (omega arith, (omega arith, (omega arith, (omega arith, omega arith)))) (omega arith) (omega arith)
+
+-- five that spell none
+pub all_high : (bs : List ℕ) (a b c d f : ℕ) → 5 ≤ length bs → a ≡ get_or bs 0 0 → b ≡ get_or bs 1 0 → c ≡ get_or bs 2 0 → d ≡ get_or bs 3 0 → f ≡ get_or bs 4 0 → 128 ≤ a → 128 ≤ b → 128 ≤ c → 128 ≤ d → 128 ≤ f
+    → AllByRecursion (λ n. 128 ≤ n) (take 5 bs)
+all_high [] a b c d f le ea eb ec ed ef ha hb hc hd hf = absurd (omega arith)
+all_high (a2 ∷ []) a b c d f le ea eb ec ed ef ha hb hc hd hf = absurd (omega arith)
+all_high (a2 ∷ b2 ∷ []) a b c d f le ea eb ec ed ef ha hb hc hd hf = absurd (omega arith)
+all_high (a2 ∷ b2 ∷ c2 ∷ []) a b c d f le ea eb ec ed ef ha hb hc hd hf = absurd (omega arith)
+all_high (a2 ∷ b2 ∷ c2 ∷ d2 ∷ []) a b c d f le ea eb ec ed ef ha hb hc hd hf = absurd (omega arith)
+all_high (a2 ∷ b2 ∷ c2 ∷ d2 ∷ f2 ∷ r) a b c d f le ea eb ec ed ef ha hb hc hd hf =
+    (omega arith, (omega arith, (omega arith, (omega arith, (omega arith, tt)))))
 
 -- three bytes, whatever they are
 pub three_bytes : (bs : List ℕ) (z : ℤ) → 3 ≤ length bs → z ≡ signed24 (get_or bs 0 0 % 256 + 256 * (get_or bs 1 0 % 256) + 65536 * (get_or bs 2 0 % 256)) → s24.spells z (take 3 bs)

@@ -1,5 +1,6 @@
 ghost use Rattle.std.specs.Prelude.{◌≡◌, ◌+◌, ◌-◌, ◌∷◌, ◌++◌, ◌<◌, ◌≤◌, ◌^◌, ◌⊎◌, List, ℕ, None, Some, IfSome, IfOk, OnOk, OnErr, IfErr, [], true, is_some, length, take, drop, Result, Ok, Err, IsTrue, ◌↔◌};
 ghost use Rattle.std.specs.Io.{ReadsAtMost};
+ghost use Rattle.std.specs.List.{AllByRecursion};
 ghost use Rattle.std.specs.Io.KnownBytes.{ReadConsumes};
 ghost use Rattle.abc_base.specs.Faults.{HasCause, Rose};
 ghost use Rattle.abc_base.specs.Numbers.{SpellsNumber};
@@ -240,7 +241,7 @@ impl Window {
 
     /// Moves bytes that are held to the end of `out`, and answers how many: at most `count`, and none that stands at
     /// the end or after it, or past the longest file. Where memory runs out nothing changes.
-    pub fn take_held(&mut self, count: u32, out: &mut Bytes) -> Result<u32, NoMemory>
+    pub(crate) fn take_held(&mut self, count: u32, out: &mut Bytes) -> Result<u32, NoMemory>
         ensures few { IfOk result (λ n. (n ≤ count) × (n ≤ length (held self.old))) }
         ensures room { IfOk result (λ n. (0 < n → self.old.place + n ≤ self.old.end) × (self.old.place + n ≤ 2 ^ 24)) }
         ensures window { IfOk result (λ n. self.new ≡ onward n self.old) }
@@ -260,7 +261,8 @@ impl Window {
     /// the longest file, since at most one byte past it is ever held.
     #[inline]
     pub fn is_ready(&self, count: u32) -> bool
-        ensures { IsTrue result → IsReady count self.now }
+        ensures ready { IsTrue result → IsReady count self.now }
+        ensures always { self.now.kept ≡ None → count < length (held self.now) → self.now.place + count ≤ self.now.end → IsTrue result }
     {
         self.kept.is_none()
             && self.to - self.from > count as usize
@@ -342,13 +344,15 @@ impl Window {
     }
 }
 
-/// The number that the first bytes spell, and how many they are, one to five. `None` where the first five spell none.
+/// The number that the first bytes spell, and how many they are, one to five. `None` where the first five spell none: each
+/// says that another byte follows.
 #[inline(always)]
 pub fn front_number(bytes: &[u8]) -> Option<(u64, usize)>
     requires { 5 ≤ length bytes.now }
     ensures spelled { IfSome result (λ p. SpellsNumber p.0 (take p.1 bytes.now)) }
     ensures few { IfSome result (λ p. (0 < p.1) × (p.1 ≤ 5)) }
     ensures bound { IfSome result (λ p. p.0 < 2 ^ 35) }
+    ensures none { result ≡ None → AllByRecursion (λ b. 128 ≤ b) (take 5 bytes.now) }
 {
     let a = bytes[0] as u64;
     if a < 128 {

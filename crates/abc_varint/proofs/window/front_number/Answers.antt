@@ -1,5 +1,5 @@
 use Rattle.std.proofs.Common.{refl}
-use Rattle.abc_varint.proofs.Front.{spells_1, spells_2, spells_3, spells_4, spells_5}
+use Rattle.abc_varint.proofs.Front.{all_high, spells_1, spells_2, spells_3, spells_4, spells_5}
 use Rattle.abc_varint.proofs.window.front_number.Goals as goal
 
 pub returns-then-a-lt128-clause-spelled : goal.returns-then-a-lt128-clause-spelled
@@ -16,3 +16,6 @@ returns-then-d-lt128-clause-spelled c = spells_4 c.args.bytes.now _ _ _ _ _ c.re
 
 pub returns-then-e-lt128-clause-spelled : goal.returns-then-e-lt128-clause-spelled
 returns-then-e-lt128-clause-spelled c = spells_5 c.args.bytes.now _ _ _ _ _ _ c.requires refl refl refl refl refl c.if-a-lt128.false c.if-b-lt128.false c.if-c-lt128.false c.if-d-lt128.false c.if-e-lt128.true refl
+
+pub returns-clause-none : goal.returns-clause-none
+returns-clause-none c = λ h. all_high c.args.bytes.now _ _ _ _ _ c.requires refl refl refl refl refl c.if-a-lt128.false c.if-b-lt128.false c.if-c-lt128.false c.if-d-lt128.false c.if-e-lt128.false
