@@ -1,4 +1,4 @@
-ghost use Rattle.std.specs.Prelude.{◌≡◌, ◌≤◌, None};
+ghost use Rattle.std.specs.Prelude.{◌≡◌, ◌≤◌, ◌<◌, ◌^◌, None};
 ghost use Rattle.abc_bodies.specs.Places.{ArePlaces};
 ghost use Rattle.abc_cli.specs.Answers.{IsVerifiedOf, OfFileRead};
 ghost use Rattle.abc_cli.specs.End.{HasFailed, RunsTo, UsesUp, stream};
@@ -22,6 +22,14 @@ use abc_verify::Verified;
 use abc_words::RunOptions;
 use std::alloc::Global;
 
+/// A limit of cells, which 32 bits count.
+fn counted(cells: u32) -> u32
+    ensures is { result ≡ cells }
+    ensures low { result < 2 ^ 32 }
+{
+    cells
+}
+
 /// The limits of a run.
 fn limits_of(options: &RunOptions) -> Limits
     ensures is { result ≡ limits_in options.now }
@@ -29,7 +37,7 @@ fn limits_of(options: &RunOptions) -> Limits
 {
     Limits {
         objects: options.objects,
-        cells: options.cells,
+        cells: counted(options.cells),
         text: options.text,
         frames: options.frames,
         stack: options.stack,

@@ -33,12 +33,12 @@ returns-in-Asm-clause-end g c =
 
 pub returns-in-Run-clause-end : goal.returns-in-Run-clause-end
 returns-in-Run-clause-end g c =
-    run_ends (g.H.Host.formulas c.args.host.now) c.args.command.now c.in-Run.options.now (stream g.S.Source.left g.S.Source.faults c.args.source.now c.run.new.source) (stream g.K.Sink.written g.K.Sink.faults c.args.out.now c.run.new.out)
+    run_ends (g.H.Host.formulas c.args.host.now) c.args.command.now c.in-Run.options (stream g.S.Source.left g.S.Source.faults c.args.source.now c.run.new.source) (stream g.K.Sink.written g.K.Sink.faults c.args.out.now c.run.new.out)
     (stream g.E.Sink.written g.E.Sink.faults c.args.err.now c.run.new.err) c.run.result c.in-Run.is c.run.ensures.end
 
 pub returns-in-Gen-clause-end : goal.returns-in-Gen-clause-end
 returns-in-Gen-clause-end g c =
-    gen_ends (g.H.Host.formulas c.args.host.now) c.args.command.now c.in-Gen.options.now (stream g.S.Source.left g.S.Source.faults c.args.source.now c.args.source.now) (stream g.K.Sink.written g.K.Sink.faults c.args.out.now c.generate.new.out)
+    gen_ends (g.H.Host.formulas c.args.host.now) c.args.command.now c.in-Gen.options (stream g.S.Source.left g.S.Source.faults c.args.source.now c.args.source.now) (stream g.K.Sink.written g.K.Sink.faults c.args.out.now c.generate.new.out)
     (stream g.E.Sink.written g.E.Sink.faults c.args.err.now c.generate.new.err) c.generate.result c.in-Gen.is c.generate.ensures
 
 pub returns-in-Canon-clause-used_up : goal.returns-in-Canon-clause-used_up
@@ -85,10 +85,10 @@ pub returns-in-Run-clause-used_up : goal.returns-in-Run-clause-used_up
 returns-in-Run-clause-used_up g c = λ reads. c.run.ensures.used_up
 
 pub returns-in-Run-clause-unread : goal.returns-in-Run-clause-unread
-returns-in-Run-clause-unread g c = λ silent. absurd (reading c.args.command.now (commands.Run c.in-Run.options.now) c.in-Run.is refl silent)
+returns-in-Run-clause-unread g c = λ silent. absurd (reading c.args.command.now (commands.Run c.in-Run.options) c.in-Run.is refl silent)
 
 pub returns-in-Gen-clause-used_up : goal.returns-in-Gen-clause-used_up
-returns-in-Gen-clause-used_up g c = λ reads. absurd (unreading c.args.command.now (commands.Gen c.in-Gen.options.now) c.in-Gen.is refl reads)
+returns-in-Gen-clause-used_up g c = λ reads. absurd (unreading c.args.command.now (commands.Gen c.in-Gen.options) c.in-Gen.is refl reads)
 
 pub returns-in-Gen-clause-unread : goal.returns-in-Gen-clause-unread
 returns-in-Gen-clause-unread g c = λ silent. refl
