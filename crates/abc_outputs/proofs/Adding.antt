@@ -1,7 +1,7 @@
--- Parts of a step that only append to what was written, and how they are put together.
-use Rattle.std.proofs.Common.{◌≡◌, ℕ, ◌+◌, List, [], ◌∷◌, ◌++◌, length, refl, sym, ap, ◌∙◌, append_assoc}
+-- Parts of a step that write nothing and start no script, or do one of both once, and how they are put together.
+use Rattle.std.proofs.Common.{◌≡◌, ℕ, ◌+◌, List, [], ◌∷◌, ◌++◌, length, refl, sym, ap, ◌∙◌, append_assoc, inl, inr}
 use Rattle.std.proofs.lemmas.List.{append-nil}
-use Rattle.std.specs.Prelude.{Bool, true, false, nat_le, Ok, Err, Some, None, if◌then◌else◌}
+use Rattle.std.specs.Prelude.{Bool, true, false, set, nat_le, Ok, Err, Some, None, if◌then◌else◌}
 use Rattle.std.specs.declared.option.Option.{Option}
 use Rattle.std.specs.declared.result.Result.{Result}
 use Rattle.abc_heap.specs.Heap.{Heap, cells_used}
@@ -11,15 +11,23 @@ use Rattle.abc_meaning.specs.OpsLeft.{Left}
 use Rattle.abc_meaning.specs.OpsOpEndType.{OpEnd}
 use Rattle.abc_meaning.specs.WorldOps.{operates, outcome}
 use Rattle.abc_meaning.specs.World.{Fills, Outcome, Run, Stop, Stopped, Went, World, and_then, done, each_of, must, room, room_for_cells, room_for_objects, some, stop, with_heap}
-use Rattle.abc_outputs.specs.Front.{IsFront}
+use Rattle.abc_outputs.specs.Front.{Changes, IsFront, Keeps, Starts}
 
 abbrev pub world_of : {X : Type 0} → Outcome X → World
 world_of (Went n x) = n
 world_of (Stopped n why) = n
 
--- what was written stays in front
-pub record Adds {X : Type 0} (w : World) (o : Outcome X) : Type 0 where
-  pub front : IsFront w (world_of o)
+-- nothing is written, and no script is started
+pub record Quiet {X : Type 0} (w : World) (o : Outcome X) : Type 0 where
+  pub kept : Keeps w (world_of o)
+
+-- something is written or a script is started, and not both
+pub record Once {X : Type 0} (w : World) (o : Outcome X) : Type 0 where
+  pub one : Changes w (world_of o)
+
+-- a script is started, and nothing is written
+pub record Starting {X : Type 0} (w : World) (o : Outcome X) : Type 0 where
+  pub starts : Starts w (world_of o)
 
 pub same_front : (w n : World) → n.wrote ≡ w.wrote → IsFront w n
 same_front w n e = record { more = []; is = e ∙ sym (append-nil w.wrote) }
@@ -27,51 +35,92 @@ same_front w n e = record { more = []; is = e ∙ sym (append-nil w.wrote) }
 pub front_on : (u w n : World) → IsFront u w → IsFront w n → IsFront u n
 front_on u w n a b = record { more = a.more ++ b.more; is = b.is ∙ ap (λ (xs : List ℕ). xs ++ b.more) a.is ∙ append_assoc u.wrote a.more b.more }
 
-pub then_adds : {X Y : Type 0} (w : World) (o : Outcome X) (f : X → Run Y) → Adds w o → ((n : World) (x : X) → Adds n (f x n)) → Adds w (and_then o f)
-then_adds w (Went n x) f a g = record { front = front_on w n (world_of (f x n)) a.front (g n x).front }
-then_adds w (Stopped n why) f a g = record { front = a.front }
+pub front_of : (w n : World) → Changes w n → IsFront w n
+front_of w n (inl a) = record { more = a.more; is = a.is }
+front_of w n (inr a) = same_front w n a.wrote
 
-pub done_adds : {X : Type 0} (w : World) (x : X) → Adds w (Went w x)
-done_adds w x = record { front = same_front w w refl }
+-- ---- one after the other
 
-pub stop_adds : {X : Type 0} (w : World) (why : Stop) → Adds {X = X} w (Stopped w why)
-stop_adds w why = record { front = same_front w w refl }
+pub keeps_self : (w : World) → Keeps w w
+keeps_self w = record { wrote = refl; started = refl }
 
-pub some_adds : {X : Type 0} (w : World) (o : Option X) → Adds w (some o w)
-some_adds w None = record { front = same_front w w refl }
-some_adds w (Some x) = done_adds w x
+pub keeps_on : (u w n : World) → Keeps u w → Keeps w n → Keeps u n
+keeps_on u w n a b = record { wrote = b.wrote ∙ a.wrote; started = b.started ∙ a.started }
 
-pub must_adds : (w : World) (b : Bool) → Adds w (must b w)
-must_adds w true = done_adds w tt
-must_adds w false = record { front = same_front w w refl }
+pub changes_none : (w n : World) → Keeps w n → Changes w n
+changes_none w n a = inl (record { more = []; is = a.wrote ∙ sym (append-nil w.wrote); started = a.started })
 
-pub if_adds : {X : Type 0} (w : World) (b : Bool) (m k : Run X) → Adds w (m w) → Adds w (k w) → Adds w ((if b then m else k) w)
-if_adds w true m k f g = f
-if_adds w false m k f g = g
+pub changes_first : (u w n : World) → Changes u w → Keeps w n → Changes u n
+changes_first u w n (inl a) b = inl (record { more = a.more; is = b.wrote ∙ a.is; started = b.started ∙ a.started })
+changes_first u w n (inr a) b = inr (record { script = a.script; is = b.started ∙ a.is; wrote = b.wrote ∙ a.wrote })
 
-pub each_adds : {X Y : Type 0} (f : X → Run Y) → ((w : World) (x : X) → Adds w (f x w)) → (w : World) (xs : List X) → Adds w (each_of f xs w)
-each_adds f g w [] = done_adds w []
-each_adds f g w (x ∷ xs) = then_adds w _ _ (g w x) (λ n y. then_adds n _ _ (each_adds f g n xs) (λ m ys. done_adds m (y ∷ ys)))
+pub changes_last : (u w n : World) → Keeps u w → Changes w n → Changes u n
+changes_last u w n a (inl b) = inl (record { more = b.more; is = b.is ∙ ap (λ (xs : List ℕ). xs ++ b.more) a.wrote; started = b.started ∙ a.started })
+changes_last u w n a (inr b) = inr (record { script = b.script; is = b.is ∙ ap (λ (xs : List Bool). set xs b.script true) a.started; wrote = b.wrote ∙ a.wrote })
+
+pub starts_on : (u w n : World) → Starts u w → Keeps w n → Starts u n
+starts_on u w n a b = record { script = a.script; is = b.started ∙ a.is; wrote = b.wrote ∙ a.wrote }
+
+pub starting_then : {X Y : Type 0} (w : World) (o : Outcome X) (f : X → Run Y) → Starting w o → ((n : World) (x : X) → Quiet n (f x n)) → Starting w (and_then o f)
+starting_then w (Went n x) f a g = record { starts = starts_on w n (world_of (f x n)) a.starts (g n x).kept }
+starting_then w (Stopped n why) f a g = record { starts = a.starts }
+
+pub once : {X : Type 0} (w : World) (o : Outcome X) → Quiet w o → Once w o
+once w o a = record { one = changes_none w (world_of o) a.kept }
+
+pub then_quiet : {X Y : Type 0} (w : World) (o : Outcome X) (f : X → Run Y) → Quiet w o → ((n : World) (x : X) → Quiet n (f x n)) → Quiet w (and_then o f)
+then_quiet w (Went n x) f a g = record { kept = keeps_on w n (world_of (f x n)) a.kept (g n x).kept }
+then_quiet w (Stopped n why) f a g = record { kept = a.kept }
+
+pub then_once : {X Y : Type 0} (w : World) (o : Outcome X) (f : X → Run Y) → Quiet w o → ((n : World) (x : X) → Once n (f x n)) → Once w (and_then o f)
+then_once w (Went n x) f a g = record { one = changes_last w n (world_of (f x n)) a.kept (g n x).one }
+then_once w (Stopped n why) f a g = record { one = changes_none w n a.kept }
+
+pub once_then : {X Y : Type 0} (w : World) (o : Outcome X) (f : X → Run Y) → Once w o → ((n : World) (x : X) → Quiet n (f x n)) → Once w (and_then o f)
+once_then w (Went n x) f a g = record { one = changes_first w n (world_of (f x n)) a.one (g n x).kept }
+once_then w (Stopped n why) f a g = record { one = a.one }
+
+pub done_quiet : {X : Type 0} (w : World) (x : X) → Quiet w (Went w x)
+done_quiet w x = record { kept = keeps_self w }
+
+pub stop_quiet : {X : Type 0} (w : World) (why : Stop) → Quiet {X = X} w (Stopped w why)
+stop_quiet w why = record { kept = keeps_self w }
+
+pub some_quiet : {X : Type 0} (w : World) (o : Option X) → Quiet w (some o w)
+some_quiet w None = record { kept = keeps_self w }
+some_quiet w (Some x) = done_quiet w x
+
+pub must_quiet : (w : World) (b : Bool) → Quiet w (must b w)
+must_quiet w true = done_quiet w tt
+must_quiet w false = record { kept = keeps_self w }
+
+pub if_quiet : {X : Type 0} (w : World) (b : Bool) (m k : Run X) → Quiet w (m w) → Quiet w (k w) → Quiet w ((if b then m else k) w)
+if_quiet w true m k f g = f
+if_quiet w false m k f g = g
+
+pub each_quiet : {X Y : Type 0} (f : X → Run Y) → ((w : World) (x : X) → Quiet w (f x w)) → (w : World) (xs : List X) → Quiet w (each_of f xs w)
+each_quiet f g w [] = done_quiet w []
+each_quiet f g w (x ∷ xs) = then_quiet w _ _ (g w x) (λ n y. then_quiet n _ _ (each_quiet f g n xs) (λ m ys. done_quiet m (y ∷ ys)))
 
 -- ---- room, and changes of the heap
 
-pub room_adds : (w : World) (which : Limit) (used need limit : ℕ) → Adds w (room which used need limit w)
-room_adds w which used need limit = if_adds w (nat_le (used + need) limit) (done tt) (stop (Fills which)) (done_adds w tt) (stop_adds w (Fills which))
+pub room_quiet : (w : World) (which : Limit) (used need limit : ℕ) → Quiet w (room which used need limit w)
+room_quiet w which used need limit = if_quiet w (nat_le (used + need) limit) (done tt) (stop (Fills which)) (done_quiet w tt) (stop_quiet w (Fills which))
 
-pub objects_adds : (w : World) (need : ℕ) → Adds w (room_for_objects need w)
-objects_adds w need = room_adds w Objects (length w.heap.objects) need w.heap.limits.objects
+pub objects_quiet : (w : World) (need : ℕ) → Quiet w (room_for_objects need w)
+objects_quiet w need = room_quiet w Objects (length w.heap.objects) need w.heap.limits.objects
 
-pub cells_adds : (w : World) (need : ℕ) → Adds w (room_for_cells need w)
-cells_adds w need = room_adds w Cells (cells_used w.heap) need w.heap.limits.cells
+pub cells_quiet : (w : World) (need : ℕ) → Quiet w (room_for_cells need w)
+cells_quiet w need = room_quiet w Cells (cells_used w.heap) need w.heap.limits.cells
 
-pub heap_adds : {X : Type 0} (w : World) (h : Heap) (x : X) → Adds w (Went (record w { heap = h }) x)
-heap_adds w h x = record { front = same_front w (record w { heap = h }) refl }
+pub heap_quiet : {X : Type 0} (w : World) (h : Heap) (x : X) → Quiet w (Went (record w { heap = h }) x)
+heap_quiet w h x = record { kept = record { wrote = refl; started = refl } }
 
 -- ---- operations
 
-pub outcome_adds : {X : Type 0} (w n : World) (r : Result X OpEnd) → n.wrote ≡ w.wrote → Adds w (outcome n r)
-outcome_adds w n (Ok x) e = record { front = same_front w n e }
-outcome_adds w n (Err end) e = record { front = same_front w n e }
+pub outcome_quiet : {X : Type 0} (w n : World) (r : Result X OpEnd) → Keeps w n → Quiet w (outcome n r)
+outcome_quiet w n (Ok x) k = record { kept = k }
+outcome_quiet w n (Err end) k = record { kept = k }
 
-pub operates_adds : {X : Type 0} (f : Heap → Left X) (w : World) → Adds w (operates f w)
-operates_adds f w = outcome_adds w (with_heap (λ h. (f h).heap) w) (f w.heap).answer refl
+pub operates_quiet : {X : Type 0} (f : Heap → Left X) (w : World) → Quiet w (operates f w)
+operates_quiet f w = outcome_quiet w (with_heap (λ h. (f h).heap) w) (f w.heap).answer (record { wrote = refl; started = refl })

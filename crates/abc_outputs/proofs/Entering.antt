@@ -1,6 +1,6 @@
 -- Objects, operations and methods that are entered.
-use Rattle.std.proofs.Common.{ℕ, List, [], ◌∷◌, length, drop, refl}
-use Rattle.std.specs.Prelude.{true, Some, None, set, if◌then◌else◌}
+use Rattle.std.proofs.Common.{ℕ, List, [], ◌∷◌, length, drop, refl, inr}
+use Rattle.std.specs.Prelude.{Some, None, if◌then◌else◌}
 use Rattle.std.specs.declared.option.Option.{Option}
 use Rattle.abc_base.specs.declared.names.Fault.TheVariants as faults
 use Rattle.abc_base.specs.declared.names.HostClass.{HostClass}
@@ -31,105 +31,108 @@ use Rattle.abc_meaning.specs.WorldObjects.{Place, class_object, instances_of, ke
 use Rattle.abc_meaning.specs.WorldOps.{coerced as coerced_to, coerces, compares, computes_one, computes_two, converts, spells}
 use Rattle.abc_meaning.specs.WorldSetting.{Setting, may_take, options_of, value_of_option}
 use Rattle.abc_meaning.specs.World.{Errs, Faults, Sticks, World, done, object, throws}
-use Rattle.abc_outputs.proofs.Adding.{Adds, cells_adds, done_adds, heap_adds, if_adds, must_adds, objects_adds, operates_adds, outcome_adds, same_front, some_adds, stop_adds, then_adds}
+use Rattle.abc_outputs.proofs.Adding.{Once, Quiet, Starting, cells_quiet, done_quiet, heap_quiet, if_quiet, keeps_self, must_quiet, objects_quiet, operates_quiet, outcome_quiet, some_quiet, starting_then, stop_quiet, then_quiet}
 
 module _ (p : Setting) where
   -- ---- objects
 
-  pub new_object_adds : (w : World) (x : ℕ) (d : Option ObjId) (what : What) → Adds w (new_object p x d what w)
-  new_object_adds w x d what = then_adds w _ _ (objects_adds w 1) (λ n u. then_adds n _ _ (cells_adds n _) (λ m v. heap_adds m _ _))
+  pub new_object_quiet : (w : World) (x : ℕ) (d : Option ObjId) (what : What) → Quiet w (new_object p x d what w)
+  new_object_quiet w x d what = then_quiet w _ _ (objects_quiet w 1) (λ n u. then_quiet n _ _ (cells_quiet n _) (λ m v. heap_quiet m _ _))
 
-  pub new_of_host_adds : (w : World) (c : HostClass) (what : What) → Adds w (new_of_host p c what w)
-  new_of_host_adds w c what = new_object_adds w (host_layout p.linked c) (prototype_for c w) what
+  pub new_of_host_quiet : (w : World) (c : HostClass) (what : What) → Quiet w (new_of_host p c what w)
+  new_of_host_quiet w c what = new_object_quiet w (host_layout p.linked c) (prototype_for c w) what
 
-  pub new_array_adds : (w : World) (vs : List Value) → Adds w (new_array p vs w)
-  new_array_adds w vs = then_adds w _ _ (objects_adds w 1) (λ n u. then_adds n _ _ (cells_adds n _) (λ m v. heap_adds m _ _))
+  pub new_array_quiet : (w : World) (vs : List Value) → Quiet w (new_array p vs w)
+  new_array_quiet w vs = then_quiet w _ _ (objects_quiet w 1) (λ n u. then_quiet n _ _ (cells_quiet n _) (λ m v. heap_quiet m _ _))
 
-  pub new_function_adds : (w : World) (method home : ℕ) (saved : Option ScopeId) (es : List ScopeEntry) → Adds w (new_function p method home saved es w)
-  new_function_adds w method home saved es = then_adds w _ _ (objects_adds w 1) (λ n u. then_adds n _ _ (cells_adds n _) (λ m v. heap_adds m _ _))
+  pub new_function_quiet : (w : World) (method home : ℕ) (saved : Option ScopeId) (es : List ScopeEntry) → Quiet w (new_function p method home saved es w)
+  new_function_quiet w method home saved es = then_quiet w _ _ (objects_quiet w 1) (λ n u. then_quiet n _ _ (cells_quiet n _) (λ m v. heap_quiet m _ _))
 
-  pub set_property_adds : (w : World) (o : ObjId) (name : Span) (v : Value) → Adds w (set_property p o name v w)
-  set_property_adds w o name v = then_adds w _ _ (cells_adds w _) (λ n u. heap_adds n _ _)
+  pub set_property_quiet : (w : World) (o : ObjId) (name : Span) (v : Value) → Quiet w (set_property p o name v w)
+  set_property_quiet w o name v = then_quiet w _ _ (cells_quiet w _) (λ n u. heap_quiet n _ _)
 
-  pub new_class_adds : (w : World) (k home : ℕ) (base : Option ObjId) (saved : Option ScopeId) (es : List ScopeEntry) → Adds w (new_class p k home base saved es w)
-  new_class_adds w k home base saved es = then_adds w _ _ (objects_adds w 2) (λ n u. then_adds n _ _ (cells_adds n _) (λ m v. heap_adds m _ _))
+  pub new_class_quiet : (w : World) (k home : ℕ) (base : Option ObjId) (saved : Option ScopeId) (es : List ScopeEntry) → Quiet w (new_class p k home base saved es w)
+  new_class_quiet w k home base saved es = then_quiet w _ _ (objects_quiet w 2) (λ n u. then_quiet n _ _ (cells_quiet n _) (λ m v. heap_quiet m _ _))
 
-  kept_adds : (w : World) (which : What → Option Place) (k : ℕ) → Adds w (kept_by which k w)
-  kept_adds w which k = then_adds w _ _ (some_adds w (class_object k w)) (λ n o. then_adds n _ _ (some_adds n (object o n)) (λ (m : World) (ob : Object). some_adds m (which ob.what)))
+  kept_quiet : (w : World) (which : What → Option Place) (k : ℕ) → Quiet w (kept_by which k w)
+  kept_quiet w which k = then_quiet w _ _ (some_quiet w (class_object k w)) (λ n o. then_quiet n _ _ (some_quiet n (object o n)) (λ (m : World) (ob : Object). some_quiet m (which ob.what)))
 
-  pub place_adds : (w : World) (o : Owner) → Adds w (place_of_owner o w)
-  place_adds w owners.Free = stop_adds w Sticks
-  place_adds w (owners.ScriptInit s) = done_adds w _
-  place_adds w (owners.ScriptMethod s) = done_adds w _
-  place_adds w (owners.ClassInit k) = kept_adds w statics_of k
-  place_adds w (owners.Static k) = kept_adds w statics_of k
-  place_adds w (owners.Iinit k) = kept_adds w instances_of k
-  place_adds w (owners.Instance k) = kept_adds w instances_of k
+  pub place_quiet : (w : World) (o : Owner) → Quiet w (place_of_owner o w)
+  place_quiet w owners.Free = stop_quiet w Sticks
+  place_quiet w (owners.ScriptInit s) = done_quiet w _
+  place_quiet w (owners.ScriptMethod s) = done_quiet w _
+  place_quiet w (owners.ClassInit k) = kept_quiet w statics_of k
+  place_quiet w (owners.Static k) = kept_quiet w statics_of k
+  place_quiet w (owners.Iinit k) = kept_quiet w instances_of k
+  place_quiet w (owners.Instance k) = kept_quiet w instances_of k
 
   -- ---- operations
 
-  pub converts_adds : (w : World) (to : Conversion) (v : Value) → Adds w (converts p to v w)
-  converts_adds w to v = operates_adds (λ h. converted p.linked h to v) w
+  pub converts_quiet : (w : World) (to : Conversion) (v : Value) → Quiet w (converts p to v w)
+  converts_quiet w to v = operates_quiet (λ h. converted p.linked h to v) w
 
-  pub spells_adds : (w : World) (v : Value) → Adds w (spells p v w)
-  spells_adds w v = operates_adds (λ h. spelled p.linked h v) w
+  pub spells_quiet : (w : World) (v : Value) → Quiet w (spells p v w)
+  spells_quiet w v = operates_quiet (λ h. spelled p.linked h v) w
 
-  pub coerces_adds : (w : World) (t : Ty) (v : Value) → Adds w (coerces p t v w)
-  coerces_adds w t v = operates_adds (λ h. coerced_to p.linked h t v) w
+  pub coerces_quiet : (w : World) (t : Ty) (v : Value) → Quiet w (coerces p t v w)
+  coerces_quiet w t v = operates_quiet (λ h. coerced_to p.linked h t v) w
 
-  pub one_adds : (w : World) (op : ℕ) (v : Value) → Adds w (computes_one op v w)
-  one_adds w op v = operates_adds (λ h. computed_single h op v) w
+  pub one_quiet : (w : World) (op : ℕ) (v : Value) → Quiet w (computes_one op v w)
+  one_quiet w op v = operates_quiet (λ h. computed_single h op v) w
 
-  pub two_adds : (w : World) (op : ℕ) (x y : Value) → Adds w (computes_two p op x y w)
-  two_adds w op x y = operates_adds (λ h. computed p.linked h op x y) w
+  pub two_quiet : (w : World) (op : ℕ) (x y : Value) → Quiet w (computes_two p op x y w)
+  two_quiet w op x y = operates_quiet (λ h. computed p.linked h op x y) w
 
-  pub compares_adds : (w : World) (op : ℕ) (x y : Value) → Adds w (compares p op x y w)
-  compares_adds w op x y = outcome_adds w w (compared p.linked w.heap op x y) refl
+  pub compares_quiet : (w : World) (op : ℕ) (x y : Value) → Quiet w (compares p op x y w)
+  compares_quiet w op x y = outcome_quiet w w (compared p.linked w.heap op x y) (keeps_self w)
 
   -- ---- arguments
 
-  pub coerces_to_adds : (w : World) (t : ℕ) (v : Value) → Adds w (coerces_to p t v w)
-  coerces_to_adds w t v = then_adds w _ _ (some_adds w (type_of p.linked t)) (λ n ty. coerces_adds n ty v)
+  pub coerces_to_quiet : (w : World) (t : ℕ) (v : Value) → Quiet w (coerces_to p t v w)
+  coerces_to_quiet w t v = then_quiet w _ _ (some_quiet w (type_of p.linked t)) (λ n ty. coerces_quiet n ty v)
 
-  or_double_adds : (w : World) (v : Option Value) → Adds w (or_double v w)
-  or_double_adds w None = stop_adds w (Faults faults.Double)
-  or_double_adds w (Some v) = done_adds w v
+  or_double_quiet : (w : World) (v : Option Value) → Quiet w (or_double v w)
+  or_double_quiet w None = stop_quiet w (Faults faults.Double)
+  or_double_quiet w (Some v) = done_quiet w v
 
-  option_adds : (w : World) (o : Option OptionValue) → Adds w (gives_option p o w)
-  option_adds w None = stop_adds w Sticks
-  option_adds w (Some o) = or_double_adds w (value_of_option p o)
+  option_quiet : (w : World) (o : Option OptionValue) → Quiet w (gives_option p o w)
+  option_quiet w None = stop_quiet w Sticks
+  option_quiet w (Some o) = or_double_quiet w (value_of_option p o)
 
-  coerced_adds : (w : World) (ts : List ℕ) (os : List (Option OptionValue)) (vs : List Value) → Adds w (coerced p ts os vs w)
-  coerced_adds w [] os vs = done_adds w []
-  coerced_adds w (t ∷ ts) [] vs = stop_adds w Sticks
-  coerced_adds w (t ∷ ts) (o ∷ os) [] = then_adds w _ _ (option_adds w o) (λ n v. then_adds n _ _ (coerces_to_adds n t v) (λ m c. then_adds m _ _ (coerced_adds m ts os []) (λ i cs. done_adds i (c ∷ cs))))
-  coerced_adds w (t ∷ ts) (o ∷ os) (v ∷ vs) = then_adds w _ _ (coerces_to_adds w t v) (λ m c. then_adds m _ _ (coerced_adds m ts os vs) (λ i cs. done_adds i (c ∷ cs)))
+  coerced_quiet : (w : World) (ts : List ℕ) (os : List (Option OptionValue)) (vs : List Value) → Quiet w (coerced p ts os vs w)
+  coerced_quiet w [] os vs = done_quiet w []
+  coerced_quiet w (t ∷ ts) [] vs = stop_quiet w Sticks
+  coerced_quiet w (t ∷ ts) (o ∷ os) [] = then_quiet w _ _ (option_quiet w o) (λ n v. then_quiet n _ _ (coerces_to_quiet n t v) (λ m c. then_quiet m _ _ (coerced_quiet m ts os []) (λ i cs. done_quiet i (c ∷ cs))))
+  coerced_quiet w (t ∷ ts) (o ∷ os) (v ∷ vs) = then_quiet w _ _ (coerces_to_quiet w t v) (λ m c. then_quiet m _ _ (coerced_quiet m ts os vs) (λ i cs. done_quiet i (c ∷ cs)))
 
-  pub arguments_adds : (w : World) (m : Method) (vs : List Value) → Adds w (arguments p m vs w)
-  arguments_adds w m vs = if_adds w (may_take m (length vs)) (coerced p m.params (options_of m) vs) (throws hosts.ArgumentError) (coerced_adds w m.params (options_of m) vs) (stop_adds w (Errs hosts.ArgumentError))
+  pub arguments_quiet : (w : World) (m : Method) (vs : List Value) → Quiet w (arguments p m vs w)
+  arguments_quiet w m vs = if_quiet w (may_take m (length vs)) (coerced p m.params (options_of m) vs) (throws hosts.ArgumentError) (coerced_quiet w m.params (options_of m) vs) (stop_quiet w (Errs hosts.ArgumentError))
 
-  array_of_adds : (w : World) (vs : List Value) → Adds w (array_of p vs w)
-  array_of_adds w vs = then_adds w _ _ (new_array_adds w vs) (λ n o. done_adds n _)
+  array_of_quiet : (w : World) (vs : List Value) → Quiet w (array_of p vs w)
+  array_of_quiet w vs = then_quiet w _ _ (new_array_quiet w vs) (λ n o. done_quiet n _)
 
-  extra_adds : (w : World) (m : Method) (vs : List Value) → Adds w (extra p m vs w)
-  extra_adds w m vs =
-      if_adds w (has_flag m.flags 0x04) (array_of p (drop (length m.params) vs)) (if has_flag m.flags 0x01 then array_of p vs else done [])
-      (array_of_adds w (drop (length m.params) vs))
-      (if_adds w (has_flag m.flags 0x01) (array_of p vs) (done []) (array_of_adds w vs) (done_adds w []))
+  extra_quiet : (w : World) (m : Method) (vs : List Value) → Quiet w (extra p m vs w)
+  extra_quiet w m vs =
+      if_quiet w (has_flag m.flags 0x04) (array_of p (drop (length m.params) vs)) (if has_flag m.flags 0x01 then array_of p vs else done [])
+      (array_of_quiet w (drop (length m.params) vs))
+      (if_quiet w (has_flag m.flags 0x01) (array_of p vs) (done []) (array_of_quiet w vs) (done_quiet w []))
 
   -- ---- frames
 
-  pub framed_adds : (w : World) (n : ℕ) (m : Method) (this : Value) (at : Place) (given vs : List Value) → Adds w (framed p n m this at given vs w)
-  framed_adds w n m this at given vs = then_adds w _ _ (some_adds w _) (λ i r. then_adds i _ _ (extra_adds i m given) (λ j array. then_adds j _ _ (must_adds j _) (λ k u. done_adds k _)))
+  pub framed_quiet : (w : World) (n : ℕ) (m : Method) (this : Value) (at : Place) (given vs : List Value) → Quiet w (framed p n m this at given vs w)
+  framed_quiet w n m this at given vs = then_quiet w _ _ (some_quiet w _) (λ i r. then_quiet i _ _ (extra_quiet i m given) (λ j array. then_quiet j _ _ (must_quiet j _) (λ k u. done_quiet k _)))
 
-  pub enters_adds : (w : World) (n : ℕ) (this : Value) (at : Place) (given : List Value) → Adds w (enters p n this at given w)
-  enters_adds w n this at given = then_adds w _ _ (some_adds w _) (λ i m. then_adds i _ _ (arguments_adds i m given) (λ j vs. framed_adds j n m this at given vs))
+  pub enters_quiet : (w : World) (n : ℕ) (this : Value) (at : Place) (given : List Value) → Quiet w (enters p n this at given w)
+  enters_quiet w n this at given = then_quiet w _ _ (some_quiet w _) (λ i m. then_quiet i _ _ (arguments_quiet i m given) (λ j vs. framed_quiet j n m this at given vs))
 
-  pub owned_adds : (w : World) (n : ℕ) (this : Value) (given : List Value) → Adds w (enters_owned p n this given w)
-  owned_adds w n this given = then_adds w _ _ (place_adds w (owner_of p.linked.file n)) (λ i at. enters_adds i n this at given)
+  pub owned_quiet : (w : World) (n : ℕ) (this : Value) (given : List Value) → Quiet w (enters_owned p n this given w)
+  owned_quiet w n this given = then_quiet w _ _ (place_quiet w (owner_of p.linked.file n)) (λ i at. enters_quiet i n this at given)
 
-  started_adds : (w : World) (s : ℕ) → Adds w (notes_start s w)
-  started_adds w s = record { front = same_front w (record w { started = set w.started s true }) refl }
+  notes_starting : (w : World) (s : ℕ) → Starting w (notes_start s w)
+  notes_starting w s = record { starts = record { script = s; is = refl; wrote = refl } }
 
-  pub starts_adds : (w : World) (s : ℕ) → Adds w (starts p s w)
-  starts_adds w s = then_adds w _ _ (started_adds w s) (λ n u. enters_adds n (script_at p.linked.file s).init (global s n) (place s None) [])
+  pub starts_starting : (w : World) (s : ℕ) → Starting w (starts p s w)
+  starts_starting w s = starting_then w _ _ (notes_starting w s) (λ n u. enters_quiet n (script_at p.linked.file s).init (global s n) (place s None) [])
+
+  pub starts_once : (w : World) (s : ℕ) → Once w (starts p s w)
+  starts_once w s = record { one = inr (starts_starting w s).starts }

@@ -1,5 +1,5 @@
 -- Steps and runs.
-use Rattle.std.proofs.Common.{◌≡◌, zero, suc, List, [], ◌∷◌, length, refl}
+use Rattle.std.proofs.Common.{◌≡◌, zero, suc, List, [], ◌∷◌, length, refl, inr}
 use Rattle.std.specs.Prelude.{Bool, true, false, Some, None, reverse, slice_get, take, if◌then◌else◌}
 use Rattle.std.specs.declared.option.Option.{Option}
 use Rattle.abc_cells.specs.declared.values.ObjId.{ObjId}
@@ -24,119 +24,132 @@ use Rattle.abc_meaning.specs.Meaning.{Ended, runs_for, then_runs}
 use Rattle.abc_meaning.specs.Step.{acted, does, does_instr, does_row, gives_back, put_on, puts, resumed, resumes, room_for_frame, runs, settles, size_of_frame, size_of_frames, started, step, step_of, tested}
 use Rattle.abc_meaning.specs.Tests.{at_frame, can_run}
 use Rattle.abc_meaning.specs.Throwing.{Ends, Machine, Stepped, Steps, Stuck, catcher, caught_at, goes_on, has_stack, lands, last_script, stops, throws_made, unwinds}
-use Rattle.abc_outputs.specs.Front.{IsFront, left_by}
-use Rattle.abc_outputs.specs.Laws.{RunsAppend, StepsAppend}
-use Rattle.abc_outputs.proofs.Adding.{Adds, done_adds, front_on, room_adds, same_front, stop_adds, then_adds}
-use Rattle.abc_outputs.proofs.Entering.{new_of_host_adds, starts_adds}
-use Rattle.abc_outputs.proofs.Tabled.{ActAdds, act_adds}
-use Rattle.abc_outputs.proofs.Values.{new_adds}
+use Rattle.abc_outputs.specs.Front.{Changes, IsFront, Keeps, Starts, left_by}
+use Rattle.abc_outputs.specs.Laws.{RunsAppend, StepsAppend, StepsChangeOnce}
+use Rattle.abc_outputs.proofs.Adding.{Once, Quiet, Starting, changes_first, done_quiet, front_of, front_on, keeps_on, keeps_self, once, room_quiet, same_front, starts_on, stop_quiet, then_quiet}
+use Rattle.abc_outputs.proofs.Entering.{new_of_host_quiet, starts_starting}
+use Rattle.abc_outputs.proofs.Tabled.{ActOnce, act_once}
+use Rattle.abc_outputs.proofs.Values.{new_quiet}
 
 -- ---- an instruction
 
 module _ (p : Setting) where
-  tested_adds : (w : World) (b : Bool) (m : Run Act) → Adds w (m w) → Adds w (tested b m w)
-  tested_adds w true m a = a
-  tested_adds w false m a = stop_adds w Sticks
+  tested_once : (w : World) (b : Bool) (m : Run Act) → Once w (m w) → Once w (tested b m w)
+  tested_once w true m a = a
+  tested_once w false m a = once w _ (stop_quiet w Sticks)
 
-  does_adds : (w : World) (h : Here) (f : Frame) (d : Option Doing) → ((x : Doing) → d ≡ Some x → ActAdds x) → Adds w (does p h f d w)
-  does_adds w h f None g = stop_adds w Sticks
-  does_adds w h f (Some d) g = tested_adds w (can_run p h f w) (d (at_frame p h f)) ((g d refl).adds w (at_frame p h f))
+  does_once : (w : World) (h : Here) (f : Frame) (d : Option Doing) → ((x : Doing) → d ≡ Some x → ActOnce x) → Once w (does p h f d w)
+  does_once w h f None g = once w _ (stop_quiet w Sticks)
+  does_once w h f (Some d) g = tested_once w (can_run p h f w) (d (at_frame p h f)) ((g d refl).is w (at_frame p h f))
 
-  row_adds : (w : World) (r : Routine) (f : Frame) (i : Instr) (row : Option Shape) → Adds w (does_row p r f i row w)
-  row_adds w r f i None = stop_adds w Sticks
-  row_adds w r f i (Some row) = does_adds w (record { file = p.linked; method = r; place = f.place; instr = i; row = row }) f (act_of (opcode i)) (λ d e. act_adds (opcode i) d e)
+  row_once : (w : World) (r : Routine) (f : Frame) (i : Instr) (row : Option Shape) → Once w (does_row p r f i row w)
+  row_once w r f i None = once w _ (stop_quiet w Sticks)
+  row_once w r f i (Some row) = does_once w (record { file = p.linked; method = r; place = f.place; instr = i; row = row }) f (act_of (opcode i)) (λ d e. act_once (opcode i) d e)
 
-  instr_adds : (w : World) (r : Routine) (f : Frame) (i : Option Instr) → Adds w (does_instr p r f i w)
-  instr_adds w r f None = stop_adds w Sticks
-  instr_adds w r f (Some i) = row_adds w r f i (row_at (opcode i))
+  instr_once : (w : World) (r : Routine) (f : Frame) (i : Option Instr) → Once w (does_instr p r f i w)
+  instr_once w r f None = once w _ (stop_quiet w Sticks)
+  instr_once w r f (Some i) = row_once w r f i (row_at (opcode i))
 
-  runs_adds : (w : World) (f : Frame) (r : Option Routine) → Adds w (runs p f r w)
-  runs_adds w f None = stop_adds w Sticks
-  runs_adds w f (Some r) = instr_adds w r f (slice_get r.code f.place)
+  runs_once : (w : World) (f : Frame) (r : Option Routine) → Once w (runs p f r w)
+  runs_once w f None = once w _ (stop_quiet w Sticks)
+  runs_once w f (Some r) = instr_once w r f (slice_get r.code f.place)
 
   -- ---- what a step leaves
 
-  pub record Appends (w : World) (s : Stepped) : Type 0 where
-    pub front : IsFront w (left_by s)
+  record Leaves (w : World) (s : Stepped) : Type 0 where
+    kept : Keeps w (left_by s)
 
-  self : (w : World) → IsFront w w
-  self w = same_front w w refl
+  record LeavesOnce (w : World) (s : Stepped) : Type 0 where
+    one : Changes w (left_by s)
 
-  appends_on : (u w : World) (s : Stepped) → IsFront u w → Appends w s → Appends u s
-  appends_on u w s a b = record { front = front_on u w (left_by s) a b.front }
+  self : (w : World) → Keeps w w
+  self w = keeps_self w
 
-  landed : (w : World) (b : Bool) (v : Value) (f : Frame) (fs : List Frame) (h : Handler) → Appends w (if b then goes_on w (caught_at v h.target f ∷ fs) else Ends w Stuck)
-  landed w true v f fs h = record { front = self w }
-  landed w false v f fs h = record { front = self w }
+  leaves_on : (u w : World) (s : Stepped) → Keeps u w → Leaves w s → Leaves u s
+  leaves_on u w s a b = record { kept = keeps_on u w (left_by s) a b.kept }
 
-  lands_append : (w : World) (v : Value) (f : Frame) (fs : List Frame) (h : Option Handler) (otherwise : Stepped) → Appends w otherwise → Appends w (lands p w v f fs h otherwise)
-  lands_append w v f fs None otherwise a = a
-  lands_append w v f fs (Some h) otherwise a = landed w (has_stack (routine_of p f.method)) v f fs h
+  once_on : (u w : World) (s : Stepped) → Changes u w → Leaves w s → LeavesOnce u s
+  once_on u w s a b = record { one = changes_first u w (left_by s) a b.kept }
 
-  unwinds_append : (w : World) (v : Value) (fs : List Frame) → Appends w (unwinds p w v fs)
-  unwinds_append w v [] = record { front = self w }
-  unwinds_append w v (f ∷ fs) = lands_append w v f fs (catcher p w v f) (unwinds p w v fs) (unwinds_append w v fs)
+  landed : (w : World) (b : Bool) (v : Value) (f : Frame) (fs : List Frame) (h : Handler) → Leaves w (if b then goes_on w (caught_at v h.target f ∷ fs) else Ends w Stuck)
+  landed w true v f fs h = record { kept = self w }
+  landed w false v f fs h = record { kept = self w }
 
-  made_append : (u : World) (fs : List Frame) (o : Outcome ObjId) → Adds u o → Appends u (throws_made p fs o)
-  made_append u fs (Went w o) a = appends_on u w (unwinds p w (Obj o) fs) a.front (unwinds_append w (Obj o) fs)
-  made_append u fs (Stopped w (Fills limit)) a = record { front = a.front }
-  made_append u fs (Stopped w (Throws v)) a = record { front = a.front }
-  made_append u fs (Stopped w (Errs c)) a = record { front = a.front }
-  made_append u fs (Stopped w (Faults fault)) a = record { front = a.front }
-  made_append u fs (Stopped w Sticks) a = record { front = a.front }
+  lands_leave : (w : World) (v : Value) (f : Frame) (fs : List Frame) (h : Option Handler) (otherwise : Stepped) → Leaves w otherwise → Leaves w (lands p w v f fs h otherwise)
+  lands_leave w v f fs None otherwise a = a
+  lands_leave w v f fs (Some h) otherwise a = landed w (has_stack (routine_of p f.method)) v f fs h
 
-  stops_append : (w : World) (fs : List Frame) (why : Stop) → Appends w (stops p w fs why)
-  stops_append w fs (Throws v) = unwinds_append w v fs
-  stops_append w fs (Errs c) = made_append w fs _ (new_of_host_adds p w c Plain)
-  stops_append w fs (Faults fault) = record { front = self w }
-  stops_append w fs (Fills limit) = record { front = self w }
-  stops_append w fs Sticks = record { front = self w }
+  unwinds_leave : (w : World) (v : Value) (fs : List Frame) → Leaves w (unwinds p w v fs)
+  unwinds_leave w v [] = record { kept = self w }
+  unwinds_leave w v (f ∷ fs) = lands_leave w v f fs (catcher p w v f) (unwinds p w v fs) (unwinds_leave w v fs)
 
-  room_for_adds : (w : World) (g : Frame) (fs : List Frame) → Adds w (room_for_frame p g fs w)
-  room_for_adds w g fs = then_adds w _ _ (room_adds w Frames (length fs) 1 w.heap.limits.frames) (λ n u. room_adds n Stack (size_of_frames p fs) (size_of_frame p g) w.heap.limits.stack)
+  made_leave : (u : World) (fs : List Frame) (o : Outcome ObjId) → Quiet u o → Leaves u (throws_made p fs o)
+  made_leave u fs (Went w o) a = leaves_on u w (unwinds p w (Obj o) fs) a.kept (unwinds_leave w (Obj o) fs)
+  made_leave u fs (Stopped w (Fills limit)) a = record { kept = a.kept }
+  made_leave u fs (Stopped w (Throws v)) a = record { kept = a.kept }
+  made_leave u fs (Stopped w (Errs c)) a = record { kept = a.kept }
+  made_leave u fs (Stopped w (Faults fault)) a = record { kept = a.kept }
+  made_leave u fs (Stopped w Sticks) a = record { kept = a.kept }
 
-  put_append : (u : World) (g : Frame) (fs : List Frame) (o : Outcome (Unit {0})) → Adds u o → Appends u (put_on p g fs o)
-  put_append u g fs (Went w x) a = record { front = a.front }
-  put_append u g fs (Stopped w why) a = appends_on u w (stops p w fs why) a.front (stops_append w fs why)
+  stops_leave : (w : World) (fs : List Frame) (why : Stop) → Leaves w (stops p w fs why)
+  stops_leave w fs (Throws v) = unwinds_leave w v fs
+  stops_leave w fs (Errs c) = made_leave w fs _ (new_of_host_quiet p w c Plain)
+  stops_leave w fs (Faults fault) = record { kept = self w }
+  stops_leave w fs (Fills limit) = record { kept = self w }
+  stops_leave w fs Sticks = record { kept = self w }
 
-  puts_append : (w : World) (g : Frame) (fs : List Frame) → Appends w (puts p w g fs)
-  puts_append w g fs = put_append w g fs (room_for_frame p g fs w) (room_for_adds w g fs)
+  room_for_quiet : (w : World) (g : Frame) (fs : List Frame) → Quiet w (room_for_frame p g fs w)
+  room_for_quiet w g fs = then_quiet w _ _ (room_quiet w Frames (length fs) 1 w.heap.limits.frames) (λ n u. room_quiet n Stack (size_of_frames p fs) (size_of_frame p g) w.heap.limits.stack)
 
-  settles_append : (w : World) (fs : List Frame) (top : Top) → Appends w (settles p w fs top)
-  settles_append w fs (Stays f) = record { front = self w }
-  settles_append w fs (Above g f) = puts_append w g (f ∷ fs)
+  put_leave : (u : World) (g : Frame) (fs : List Frame) (o : Outcome (Unit {0})) → Quiet u o → Leaves u (put_on p g fs o)
+  put_leave u g fs (Went w x) a = record { kept = a.kept }
+  put_leave u g fs (Stopped w why) a = leaves_on u w (stops p w fs why) a.kept (stops_leave w fs why)
 
-  resumes_adds : (w : World) (f : Frame) (wait : Wait) (v : Value) → Adds w (resumes p f wait v w)
-  resumes_adds w f waits.Push v = done_adds w _
-  resumes_adds w f waits.Drop v = done_adds w _
-  resumes_adds w f (waits.Keep kept) v = done_adds w _
-  resumes_adds w f waits.Again v = done_adds w _
-  resumes_adds w f (waits.New n) v = then_adds w _ _ (new_adds p w v (reverse (take n f.stack))) (λ i c. done_adds i _)
-  resumes_adds w f waits.Not v = stop_adds w Sticks
+  puts_leave : (w : World) (g : Frame) (fs : List Frame) → Leaves w (puts p w g fs)
+  puts_leave w g fs = put_leave w g fs (room_for_frame p g fs w) (room_for_quiet w g fs)
 
-  resumed_append : (u : World) (f : Frame) (fs : List Frame) (o : Outcome Top) → Adds u o → Appends u (resumed p f fs o)
-  resumed_append u f fs (Went w top) a = appends_on u w (settles p w fs top) a.front (settles_append w fs top)
-  resumed_append u f fs (Stopped w why) a = appends_on u w (stops p w (f ∷ fs) why) a.front (stops_append w (f ∷ fs) why)
+  settles_leave : (w : World) (fs : List Frame) (top : Top) → Leaves w (settles p w fs top)
+  settles_leave w fs (Stays f) = record { kept = self w }
+  settles_leave w fs (Above g f) = puts_leave w g (f ∷ fs)
 
-  gives_back_append : (w : World) (v : Value) (fs : List Frame) → Appends w (gives_back p w v fs)
-  gives_back_append w v [] = record { front = self w }
-  gives_back_append w v (f ∷ fs) = resumed_append w f fs (resumes p (waiting waits.Not f) f.wait v w) (resumes_adds w (waiting waits.Not f) f.wait v)
+  resumes_quiet : (w : World) (f : Frame) (wait : Wait) (v : Value) → Quiet w (resumes p f wait v w)
+  resumes_quiet w f waits.Push v = done_quiet w _
+  resumes_quiet w f waits.Drop v = done_quiet w _
+  resumes_quiet w f (waits.Keep kept) v = done_quiet w _
+  resumes_quiet w f waits.Again v = done_quiet w _
+  resumes_quiet w f (waits.New n) v = then_quiet w _ _ (new_quiet p w v (reverse (take n f.stack))) (λ i c. done_quiet i _)
+  resumes_quiet w f waits.Not v = stop_quiet w Sticks
 
-  acted_append : (u : World) (f : Frame) (fs : List Frame) (o : Outcome Act) → Adds u o → Appends u (acted p f fs o)
-  acted_append u f fs (Went w (Goes top)) a = appends_on u w (settles p w fs top) a.front (settles_append w fs top)
-  acted_append u f fs (Went w (Returns v)) a = appends_on u w (gives_back p w v fs) a.front (gives_back_append w v fs)
-  acted_append u f fs (Stopped w why) a = appends_on u w (stops p w (f ∷ fs) why) a.front (stops_append w (f ∷ fs) why)
+  resumed_leave : (u : World) (f : Frame) (fs : List Frame) (o : Outcome Top) → Quiet u o → Leaves u (resumed p f fs o)
+  resumed_leave u f fs (Went w top) a = leaves_on u w (settles p w fs top) a.kept (settles_leave w fs top)
+  resumed_leave u f fs (Stopped w why) a = leaves_on u w (stops p w (f ∷ fs) why) a.kept (stops_leave w (f ∷ fs) why)
 
-  started_append : (u : World) (o : Outcome Frame) → Adds u o → Appends u (started p o)
-  started_append u (Went w f) a = appends_on u w (puts p w f []) a.front (puts_append w f [])
-  started_append u (Stopped w why) a = appends_on u w (stops p w [] why) a.front (stops_append w [] why)
+  gives_back_leave : (w : World) (v : Value) (fs : List Frame) → Leaves w (gives_back p w v fs)
+  gives_back_leave w v [] = record { kept = self w }
+  gives_back_leave w v (f ∷ fs) = resumed_leave w f fs (resumes p (waiting waits.Not f) f.wait v w) (resumes_quiet w (waiting waits.Not f) f.wait v)
 
-  step_append : (w : World) (fs : List Frame) → Appends w (step_of p w fs)
-  step_append w [] = started_append w _ (starts_adds p w (last_script p))
-  step_append w (f ∷ fs) = acted_append w f fs _ (runs_adds w f (routine_of p f.method))
+  acted_once : (u : World) (f : Frame) (fs : List Frame) (o : Outcome Act) → Once u o → LeavesOnce u (acted p f fs o)
+  acted_once u f fs (Went w (Goes top)) a = once_on u w (settles p w fs top) a.one (settles_leave w fs top)
+  acted_once u f fs (Went w (Returns v)) a = once_on u w (gives_back p w v fs) a.one (gives_back_leave w v fs)
+  acted_once u f fs (Stopped w why) a = once_on u w (stops p w (f ∷ fs) why) a.one (stops_leave w (f ∷ fs) why)
+
+  started_starts : (u : World) (o : Outcome Frame) → Starting u o → Starts u (left_by (started p o))
+  started_starts u (Went w f) a = starts_on u w (left_by (puts p w f [])) a.starts (puts_leave w f []).kept
+  started_starts u (Stopped w why) a = starts_on u w (left_by (stops p w [] why)) a.starts (stops_leave w [] why).kept
+
+  -- the step that begins a run
+  pub first_starts : (w : World) → Starts w (left_by (step_of p w []))
+  first_starts w = started_starts w _ (starts_starting p w (last_script p))
+
+  step_once : (w : World) (fs : List Frame) → LeavesOnce w (step_of p w fs)
+  step_once w [] = record { one = inr (first_starts w) }
+  step_once w (f ∷ fs) = acted_once w f fs _ (runs_once w f (routine_of p f.method))
+
+pub steps_change : StepsChangeOnce
+steps_change p q = (step_once p q.world q.frames).one
 
 pub steps_append : StepsAppend
-steps_append p q = (step_append p q.world q.frames).front
+steps_append p q = front_of q.world (left_by (step p q)) (steps_change p q)
 
 -- ---- runs
 

@@ -11,219 +11,223 @@ use Rattle.abc_meaning.specs.ActsAt.{At, Doing, nothing, op}
 use Rattle.abc_meaning.specs.ActsSimple.{converting, where_not, where_so}
 use Rattle.abc_meaning.specs.ActsTable.{act_of, acts, call_acts, class_acts, find_act, jumping_acts, object_acts, operation_acts, plain_acts, walking_acts}
 use Rattle.abc_meaning.specs.ActsWalking.{position, walked}
-use Rattle.abc_outputs.proofs.Acting.{activation_adds, and_reads_adds, array_adds, calls_super_adds, came_adds, catch_adds, class_adds, coerces_operand_adds, constructs_adds, counts_adds, drops_adds, flag_adds, function_adds, gives_adds, has_name_adds, has_next2_adds, instance_adds, late_adds, local_adds, makes_of_adds, name_adds, name_in_adds, object_adds, or_global_adds, reads_slot_adds, reads_super_adds, returns_adds, scope_object_adds, scoped_adds, strictly_adds, switches_adds, take_one_adds, take_two_adds, type_adds, writes_slot_adds, writes_super_adds}
-use Rattle.abc_outputs.proofs.Adding.{Adds, done_adds, stop_adds, then_adds}
-use Rattle.abc_outputs.proofs.Entering.{compares_adds, converts_adds, one_adds, two_adds}
-use Rattle.abc_outputs.proofs.Members.{calls_name_adds, deletes_adds, reads_adds, writes_to_adds}
-use Rattle.abc_outputs.proofs.Values.{calls_adds, new_adds}
+use Rattle.abc_outputs.proofs.Acting.{activation_quiet, and_reads_once, array_quiet, calls_super_once, came_once, came_quiet, catch_quiet, class_quiet, coerces_operand_quiet, constructs_quiet, counts_quiet, drops_once, drops_quiet, flag_quiet, function_quiet, gives_quiet, has_name_quiet, has_next2_quiet, instance_quiet, late_quiet, local_quiet, makes_of_quiet, name_quiet, name_in_quiet, object_quiet, or_global_once, reads_slot_quiet, reads_super_quiet, returns_quiet, scope_object_quiet, scoped_quiet, strictly_once, switches_quiet, take_one_once, take_one_quiet, take_two_once, take_two_quiet, type_quiet, writes_slot_quiet, writes_super_quiet}
+use Rattle.abc_outputs.proofs.Adding.{Once, Quiet, done_quiet, once, stop_quiet, then_once, then_quiet}
+use Rattle.abc_outputs.proofs.Entering.{compares_quiet, converts_quiet, one_quiet, two_quiet}
+use Rattle.abc_outputs.proofs.Members.{calls_name_once, deletes_quiet, reads_quiet, writes_to_quiet}
+use Rattle.abc_outputs.proofs.Values.{calls_once, new_quiet}
 
-pub record ActAdds (d : Doing) : Type 0 where
-  pub adds : (w : World) (a : At) → Adds w (d a w)
+pub record ActOnce (d : Doing) : Type 0 where
+  pub is : (w : World) (a : At) → Once w (d a w)
 
-abbrev EntryAdds : ℕ × Doing → Type 0
-EntryAdds e = ActAdds e.1
+abbrev EntryOnce : ℕ × Doing → Type 0
+EntryOnce e = ActOnce e.1
 
-abbrev AllAdd : List (ℕ × Doing) → Type 0
-AllAdd ds = Each EntryAdds ds
+abbrev AllOnce : List (ℕ × Doing) → Type 0
+AllOnce ds = Each EntryOnce ds
 
 -- ---- acts of one shape
 
-nothing_adds : (w : World) (a : At) → Adds w (nothing a w)
-nothing_adds w a = done_adds w _
+nothing_quiet : (w : World) (a : At) → Quiet w (nothing a w)
+nothing_quiet w a = done_quiet w _
 
-so_adds : (comparison : ℕ) (w : World) (a : At) → Adds w (where_so comparison a w)
-so_adds comparison w a = then_adds w _ _ (take_two_adds w a.values _ (λ x y. compares_adds a.setting w comparison x y)) (λ n b. done_adds n _)
+so_quiet : (comparison : ℕ) (w : World) (a : At) → Quiet w (where_so comparison a w)
+so_quiet comparison w a = then_quiet w _ _ (take_two_quiet w a.values _ (λ x y. compares_quiet a.setting w comparison x y)) (λ n b. done_quiet n _)
 
-not_adds : (comparison : ℕ) (w : World) (a : At) → Adds w (where_not comparison a w)
-not_adds comparison w a = then_adds w _ _ (then_adds w _ _ (take_two_adds w a.values _ (λ x y. compares_adds a.setting w comparison x y)) (λ n b. done_adds n _)) (λ n b. done_adds n _)
+not_quiet : (comparison : ℕ) (w : World) (a : At) → Quiet w (where_not comparison a w)
+not_quiet comparison w a = then_quiet w _ _ (then_quiet w _ _ (take_two_quiet w a.values _ (λ x y. compares_quiet a.setting w comparison x y)) (λ n b. done_quiet n _)) (λ n b. done_quiet n _)
 
-converting_adds : (to : Conversion) (w : World) (a : At) → Adds w (converting to a w)
-converting_adds to w a = gives_adds w a _ (take_one_adds w a.values _ (λ v. converts_adds a.setting w to v))
+converting_quiet : (to : Conversion) (w : World) (a : At) → Quiet w (converting to a w)
+converting_quiet to w a = gives_quiet w a _ (take_one_quiet w a.values _ (λ v. converts_quiet a.setting w to v))
 
 -- ---- the groups of the table
 
 -- an act, and those behind it
-also : {d : Doing} {R : Type 0} → ((w : World) (a : At) → Adds w (d a w)) → R → ActAdds d × R
-also f more = (record { adds = f }, more)
+also : {d : Doing} {R : Type 0} → ((w : World) (a : At) → Quiet w (d a w)) → R → ActOnce d × R
+also f more = (record { is = λ w a. once w _ (f w a) }, more)
 
-jumping_add : (rest : List (ℕ × Doing)) → AllAdd rest → AllAdd (jumping_acts rest)
-jumping_add rest more =
-    also nothing_adds
-    (also nothing_adds
-    (also nothing_adds
-    (also nothing_adds
-    (also nothing_adds
-    (also (λ w a. take_one_adds w a.values _ (λ v. stop_adds w (Throws v)))
-    (also (λ w a. returns_adds w a.setting a.frame values.Undefined)
-    (also (λ w a. take_one_adds w a.values _ (λ v. returns_adds w a.setting a.frame v))
-    (also (not_adds 0xAD)
-    (also (not_adds 0xAE)
-    (also (not_adds 0xAF)
-    (also (not_adds 0xB0)
-    (also (λ w a. done_adds w _)
-    (also (λ w a. then_adds w _ _ (take_one_adds w a.values _ (λ v. done_adds w _)) (λ n b. done_adds n _))
-    (also (λ w a. then_adds w _ _ (take_one_adds w a.values _ (λ v. done_adds w _)) (λ n b. done_adds n _))
-    (also (so_adds 0xAB)
-    (also (not_adds 0xAB)
-    (also (so_adds 0xAD)
-    (also (so_adds 0xAE)
-    (also (so_adds 0xAF)
-    (also (so_adds 0xB0)
-    (also (so_adds 0xAC)
-    (also (not_adds 0xAC)
-    (also switches_adds
+-- one that may write, or start a script
+also_once : {d : Doing} {R : Type 0} → ((w : World) (a : At) → Once w (d a w)) → R → ActOnce d × R
+also_once f more = (record { is = f }, more)
+
+jumping_once : (rest : List (ℕ × Doing)) → AllOnce rest → AllOnce (jumping_acts rest)
+jumping_once rest more =
+    also nothing_quiet
+    (also nothing_quiet
+    (also nothing_quiet
+    (also nothing_quiet
+    (also nothing_quiet
+    (also (λ w a. take_one_quiet w a.values _ (λ v. stop_quiet w (Throws v)))
+    (also (λ w a. returns_quiet w a.setting a.frame values.Undefined)
+    (also (λ w a. take_one_quiet w a.values _ (λ v. returns_quiet w a.setting a.frame v))
+    (also (not_quiet 0xAD)
+    (also (not_quiet 0xAE)
+    (also (not_quiet 0xAF)
+    (also (not_quiet 0xB0)
+    (also (λ w a. done_quiet w _)
+    (also (λ w a. then_quiet w _ _ (take_one_quiet w a.values _ (λ v. done_quiet w _)) (λ n b. done_quiet n _))
+    (also (λ w a. then_quiet w _ _ (take_one_quiet w a.values _ (λ v. done_quiet w _)) (λ n b. done_quiet n _))
+    (also (so_quiet 0xAB)
+    (also (not_quiet 0xAB)
+    (also (so_quiet 0xAD)
+    (also (so_quiet 0xAE)
+    (also (so_quiet 0xAF)
+    (also (so_quiet 0xB0)
+    (also (so_quiet 0xAC)
+    (also (not_quiet 0xAC)
+    (also switches_quiet
     more)))))))))))))))))))))))
 
-plain_add : (rest : List (ℕ × Doing)) → AllAdd rest → AllAdd (plain_acts rest)
-plain_add rest more =
-    also (λ w a. take_one_adds w a.values _ (λ v. scoped_adds w true a.rest v))
-    (also (λ w a. take_one_adds w a.values _ (λ v. scoped_adds w false a.rest v))
-    (also (λ w a. done_adds w _)
-    (also (λ w a. gives_adds w a _ (done_adds w _))
-    (also (λ w a. gives_adds w a _ (done_adds w _))
-    (also (λ w a. gives_adds w a _ (done_adds w _))
-    (also (λ w a. gives_adds w a _ (done_adds w _))
-    (also (λ w a. gives_adds w a _ (done_adds w _))
-    (also (λ w a. gives_adds w a _ (done_adds w _))
-    (also (λ w a. stop_adds w (Faults faults.NotANumber))
-    (also (λ w a. stop_adds w (Faults faults.Double))
-    (also (λ w a. gives_adds w a _ (done_adds w _))
-    (also (λ w a. gives_adds w a _ (done_adds w _))
-    (also (λ w a. gives_adds w a _ (done_adds w _))
-    (also (λ w a. gives_adds w a _ (done_adds w _))
-    (also nothing_adds
-    (also (λ w a. take_one_adds w a.values _ (λ v. done_adds w _))
-    (also (λ w a. take_two_adds w a.values _ (λ x y. done_adds w _))
-    (also (λ w a. gives_adds w a _ (local_adds w a))
-    (also (λ w a. gives_adds w a _ (local_adds w a))
-    (also (λ w a. gives_adds w a _ (local_adds w a))
-    (also (λ w a. gives_adds w a _ (local_adds w a))
-    (also (λ w a. gives_adds w a _ (local_adds w a))
-    (also (λ w a. take_one_adds w a.values _ (λ v. done_adds w _))
-    (also (λ w a. take_one_adds w a.values _ (λ v. done_adds w _))
-    (also (λ w a. take_one_adds w a.values _ (λ v. done_adds w _))
-    (also (λ w a. take_one_adds w a.values _ (λ v. done_adds w _))
-    (also (λ w a. take_one_adds w a.values _ (λ v. done_adds w _))
-    (also (λ w a. done_adds w _)
-    (also (λ w a. gives_adds w a _ (done_adds w _))
-    (also (λ w a. gives_adds w a _ (scope_object_adds w a))
+plain_once : (rest : List (ℕ × Doing)) → AllOnce rest → AllOnce (plain_acts rest)
+plain_once rest more =
+    also (λ w a. take_one_quiet w a.values _ (λ v. scoped_quiet w true a.rest v))
+    (also (λ w a. take_one_quiet w a.values _ (λ v. scoped_quiet w false a.rest v))
+    (also (λ w a. done_quiet w _)
+    (also (λ w a. gives_quiet w a _ (done_quiet w _))
+    (also (λ w a. gives_quiet w a _ (done_quiet w _))
+    (also (λ w a. gives_quiet w a _ (done_quiet w _))
+    (also (λ w a. gives_quiet w a _ (done_quiet w _))
+    (also (λ w a. gives_quiet w a _ (done_quiet w _))
+    (also (λ w a. gives_quiet w a _ (done_quiet w _))
+    (also (λ w a. stop_quiet w (Faults faults.NotANumber))
+    (also (λ w a. stop_quiet w (Faults faults.Double))
+    (also (λ w a. gives_quiet w a _ (done_quiet w _))
+    (also (λ w a. gives_quiet w a _ (done_quiet w _))
+    (also (λ w a. gives_quiet w a _ (done_quiet w _))
+    (also (λ w a. gives_quiet w a _ (done_quiet w _))
+    (also nothing_quiet
+    (also (λ w a. take_one_quiet w a.values _ (λ v. done_quiet w _))
+    (also (λ w a. take_two_quiet w a.values _ (λ x y. done_quiet w _))
+    (also (λ w a. gives_quiet w a _ (local_quiet w a))
+    (also (λ w a. gives_quiet w a _ (local_quiet w a))
+    (also (λ w a. gives_quiet w a _ (local_quiet w a))
+    (also (λ w a. gives_quiet w a _ (local_quiet w a))
+    (also (λ w a. gives_quiet w a _ (local_quiet w a))
+    (also (λ w a. take_one_quiet w a.values _ (λ v. done_quiet w _))
+    (also (λ w a. take_one_quiet w a.values _ (λ v. done_quiet w _))
+    (also (λ w a. take_one_quiet w a.values _ (λ v. done_quiet w _))
+    (also (λ w a. take_one_quiet w a.values _ (λ v. done_quiet w _))
+    (also (λ w a. take_one_quiet w a.values _ (λ v. done_quiet w _))
+    (also (λ w a. done_quiet w _)
+    (also (λ w a. gives_quiet w a _ (done_quiet w _))
+    (also (λ w a. gives_quiet w a _ (scope_object_quiet w a))
     more))))))))))))))))))))))))))))))
 
-operation_add : (rest : List (ℕ × Doing)) → AllAdd rest → AllAdd (operation_acts rest)
-operation_add rest more =
-    also (converting_adds ConvertS)
-    (also (converting_adds ConvertI)
-    (also (converting_adds ConvertU)
-    (also (converting_adds ConvertD)
-    (also (converting_adds ConvertB)
-    (also (converting_adds ConvertO)
-    (also (converting_adds CoerceS)
-    (also (λ w a. gives_adds w a _ (coerces_operand_adds w a))
-    (also (λ w a. gives_adds w a _ (take_one_adds w a.values _ (λ v. done_adds w v)))
-    (also (λ w a. gives_adds w a _ (take_one_adds w a.values _ (λ v. then_adds w _ _ (type_adds w a) (λ n t. done_adds n _))))
-    (also (λ w a. gives_adds w a _ (take_one_adds w a.values _ (λ v. then_adds w _ _ (type_adds w a) (λ n t. done_adds n _))))
-    (also (λ w a. gives_adds w a _ (take_two_adds w a.values _ (λ v c. then_adds w _ _ (late_adds w a.setting c) (λ n t. done_adds n _))))
-    (also (λ w a. gives_adds w a _ (take_two_adds w a.values _ (λ v c. then_adds w _ _ (late_adds w a.setting c) (λ n t. done_adds n _))))
-    (also (λ w a. gives_adds w a _ (instance_adds w a))
-    (also (λ w a. gives_adds w a _ (has_name_adds w a))
-    (also (λ w a. gives_adds w a _ (take_one_adds w a.values _ (λ v. one_adds a.setting w (op a) v)))
-    (also (λ w a. gives_adds w a _ (take_one_adds w a.values _ (λ v. one_adds a.setting w (op a) v)))
-    (also (λ w a. gives_adds w a _ (take_one_adds w a.values _ (λ v. one_adds a.setting w (op a) v)))
-    (also (λ w a. gives_adds w a _ (take_one_adds w a.values _ (λ v. one_adds a.setting w (op a) v)))
-    (also (λ w a. gives_adds w a _ (take_one_adds w a.values _ (λ v. one_adds a.setting w (op a) v)))
-    (also (λ w a. gives_adds w a _ (take_one_adds w a.values _ (λ v. one_adds a.setting w (op a) v)))
-    (also (λ w a. gives_adds w a _ (take_one_adds w a.values _ (λ v. one_adds a.setting w (op a) v)))
-    (also (λ w a. gives_adds w a _ (take_one_adds w a.values _ (λ v. one_adds a.setting w (op a) v)))
-    (also (λ w a. gives_adds w a _ (take_one_adds w a.values _ (λ v. one_adds a.setting w (op a) v)))
-    (also (λ w a. counts_adds w 0x91 a)
-    (also (λ w a. counts_adds w 0x93 a)
-    (also (λ w a. counts_adds w 0xC0 a)
-    (also (λ w a. counts_adds w 0xC1 a)
-    (also (λ w a. gives_adds w a _ (take_two_adds w a.values _ (λ x y. two_adds a.setting w (op a) x y)))
-    (also (λ w a. gives_adds w a _ (take_two_adds w a.values _ (λ x y. two_adds a.setting w (op a) x y)))
-    (also (λ w a. gives_adds w a _ (take_two_adds w a.values _ (λ x y. two_adds a.setting w (op a) x y)))
-    (also (λ w a. gives_adds w a _ (take_two_adds w a.values _ (λ x y. two_adds a.setting w (op a) x y)))
-    (also (λ w a. gives_adds w a _ (take_two_adds w a.values _ (λ x y. two_adds a.setting w (op a) x y)))
-    (also (λ w a. gives_adds w a _ (take_two_adds w a.values _ (λ x y. two_adds a.setting w (op a) x y)))
-    (also (λ w a. gives_adds w a _ (take_two_adds w a.values _ (λ x y. two_adds a.setting w (op a) x y)))
-    (also (λ w a. gives_adds w a _ (take_two_adds w a.values _ (λ x y. two_adds a.setting w (op a) x y)))
-    (also (λ w a. gives_adds w a _ (take_two_adds w a.values _ (λ x y. two_adds a.setting w (op a) x y)))
-    (also (λ w a. gives_adds w a _ (take_two_adds w a.values _ (λ x y. two_adds a.setting w (op a) x y)))
-    (also (λ w a. gives_adds w a _ (take_two_adds w a.values _ (λ x y. two_adds a.setting w (op a) x y)))
-    (also (λ w a. gives_adds w a _ (take_two_adds w a.values _ (λ x y. two_adds a.setting w (op a) x y)))
-    (also (λ w a. gives_adds w a _ (take_two_adds w a.values _ (λ x y. two_adds a.setting w (op a) x y)))
-    (also (λ w a. gives_adds w a _ (take_two_adds w a.values _ (λ x y. two_adds a.setting w (op a) x y)))
-    (also (λ w a. gives_adds w a _ (flag_adds w _ (take_two_adds w a.values _ (λ x y. compares_adds a.setting w (op a) x y))))
-    (also (λ w a. gives_adds w a _ (flag_adds w _ (take_two_adds w a.values _ (λ x y. compares_adds a.setting w (op a) x y))))
-    (also (λ w a. gives_adds w a _ (flag_adds w _ (take_two_adds w a.values _ (λ x y. compares_adds a.setting w (op a) x y))))
-    (also (λ w a. gives_adds w a _ (flag_adds w _ (take_two_adds w a.values _ (λ x y. compares_adds a.setting w (op a) x y))))
-    (also (λ w a. gives_adds w a _ (flag_adds w _ (take_two_adds w a.values _ (λ x y. compares_adds a.setting w (op a) x y))))
-    (also (λ w a. gives_adds w a _ (flag_adds w _ (take_two_adds w a.values _ (λ x y. compares_adds a.setting w (op a) x y))))
+operation_once : (rest : List (ℕ × Doing)) → AllOnce rest → AllOnce (operation_acts rest)
+operation_once rest more =
+    also (converting_quiet ConvertS)
+    (also (converting_quiet ConvertI)
+    (also (converting_quiet ConvertU)
+    (also (converting_quiet ConvertD)
+    (also (converting_quiet ConvertB)
+    (also (converting_quiet ConvertO)
+    (also (converting_quiet CoerceS)
+    (also (λ w a. gives_quiet w a _ (coerces_operand_quiet w a))
+    (also (λ w a. gives_quiet w a _ (take_one_quiet w a.values _ (λ v. done_quiet w v)))
+    (also (λ w a. gives_quiet w a _ (take_one_quiet w a.values _ (λ v. then_quiet w _ _ (type_quiet w a) (λ n t. done_quiet n _))))
+    (also (λ w a. gives_quiet w a _ (take_one_quiet w a.values _ (λ v. then_quiet w _ _ (type_quiet w a) (λ n t. done_quiet n _))))
+    (also (λ w a. gives_quiet w a _ (take_two_quiet w a.values _ (λ v c. then_quiet w _ _ (late_quiet w a.setting c) (λ n t. done_quiet n _))))
+    (also (λ w a. gives_quiet w a _ (take_two_quiet w a.values _ (λ v c. then_quiet w _ _ (late_quiet w a.setting c) (λ n t. done_quiet n _))))
+    (also (λ w a. gives_quiet w a _ (instance_quiet w a))
+    (also (λ w a. gives_quiet w a _ (has_name_quiet w a))
+    (also (λ w a. gives_quiet w a _ (take_one_quiet w a.values _ (λ v. one_quiet a.setting w (op a) v)))
+    (also (λ w a. gives_quiet w a _ (take_one_quiet w a.values _ (λ v. one_quiet a.setting w (op a) v)))
+    (also (λ w a. gives_quiet w a _ (take_one_quiet w a.values _ (λ v. one_quiet a.setting w (op a) v)))
+    (also (λ w a. gives_quiet w a _ (take_one_quiet w a.values _ (λ v. one_quiet a.setting w (op a) v)))
+    (also (λ w a. gives_quiet w a _ (take_one_quiet w a.values _ (λ v. one_quiet a.setting w (op a) v)))
+    (also (λ w a. gives_quiet w a _ (take_one_quiet w a.values _ (λ v. one_quiet a.setting w (op a) v)))
+    (also (λ w a. gives_quiet w a _ (take_one_quiet w a.values _ (λ v. one_quiet a.setting w (op a) v)))
+    (also (λ w a. gives_quiet w a _ (take_one_quiet w a.values _ (λ v. one_quiet a.setting w (op a) v)))
+    (also (λ w a. gives_quiet w a _ (take_one_quiet w a.values _ (λ v. one_quiet a.setting w (op a) v)))
+    (also (λ w a. counts_quiet w 0x91 a)
+    (also (λ w a. counts_quiet w 0x93 a)
+    (also (λ w a. counts_quiet w 0xC0 a)
+    (also (λ w a. counts_quiet w 0xC1 a)
+    (also (λ w a. gives_quiet w a _ (take_two_quiet w a.values _ (λ x y. two_quiet a.setting w (op a) x y)))
+    (also (λ w a. gives_quiet w a _ (take_two_quiet w a.values _ (λ x y. two_quiet a.setting w (op a) x y)))
+    (also (λ w a. gives_quiet w a _ (take_two_quiet w a.values _ (λ x y. two_quiet a.setting w (op a) x y)))
+    (also (λ w a. gives_quiet w a _ (take_two_quiet w a.values _ (λ x y. two_quiet a.setting w (op a) x y)))
+    (also (λ w a. gives_quiet w a _ (take_two_quiet w a.values _ (λ x y. two_quiet a.setting w (op a) x y)))
+    (also (λ w a. gives_quiet w a _ (take_two_quiet w a.values _ (λ x y. two_quiet a.setting w (op a) x y)))
+    (also (λ w a. gives_quiet w a _ (take_two_quiet w a.values _ (λ x y. two_quiet a.setting w (op a) x y)))
+    (also (λ w a. gives_quiet w a _ (take_two_quiet w a.values _ (λ x y. two_quiet a.setting w (op a) x y)))
+    (also (λ w a. gives_quiet w a _ (take_two_quiet w a.values _ (λ x y. two_quiet a.setting w (op a) x y)))
+    (also (λ w a. gives_quiet w a _ (take_two_quiet w a.values _ (λ x y. two_quiet a.setting w (op a) x y)))
+    (also (λ w a. gives_quiet w a _ (take_two_quiet w a.values _ (λ x y. two_quiet a.setting w (op a) x y)))
+    (also (λ w a. gives_quiet w a _ (take_two_quiet w a.values _ (λ x y. two_quiet a.setting w (op a) x y)))
+    (also (λ w a. gives_quiet w a _ (take_two_quiet w a.values _ (λ x y. two_quiet a.setting w (op a) x y)))
+    (also (λ w a. gives_quiet w a _ (take_two_quiet w a.values _ (λ x y. two_quiet a.setting w (op a) x y)))
+    (also (λ w a. gives_quiet w a _ (flag_quiet w _ (take_two_quiet w a.values _ (λ x y. compares_quiet a.setting w (op a) x y))))
+    (also (λ w a. gives_quiet w a _ (flag_quiet w _ (take_two_quiet w a.values _ (λ x y. compares_quiet a.setting w (op a) x y))))
+    (also (λ w a. gives_quiet w a _ (flag_quiet w _ (take_two_quiet w a.values _ (λ x y. compares_quiet a.setting w (op a) x y))))
+    (also (λ w a. gives_quiet w a _ (flag_quiet w _ (take_two_quiet w a.values _ (λ x y. compares_quiet a.setting w (op a) x y))))
+    (also (λ w a. gives_quiet w a _ (flag_quiet w _ (take_two_quiet w a.values _ (λ x y. compares_quiet a.setting w (op a) x y))))
+    (also (λ w a. gives_quiet w a _ (flag_quiet w _ (take_two_quiet w a.values _ (λ x y. compares_quiet a.setting w (op a) x y))))
     more)))))))))))))))))))))))))))))))))))))))))))))))
 
-walking_add : (rest : List (ℕ × Doing)) → AllAdd rest → AllAdd (walking_acts rest)
-walking_add rest more =
-    also (λ w a. gives_adds w a _ (take_two_adds w a.values _ (λ o i. name_in_adds w (walked o w) (position i))))
-    (also (λ w a. gives_adds w a _ (take_two_adds w a.values _ (λ o i. done_adds w _)))
-    (also (λ w a. gives_adds w a _ (take_two_adds w a.values _ (λ o i. done_adds w _)))
-    (also has_next2_adds
+walking_once : (rest : List (ℕ × Doing)) → AllOnce rest → AllOnce (walking_acts rest)
+walking_once rest more =
+    also (λ w a. gives_quiet w a _ (take_two_quiet w a.values _ (λ o i. name_in_quiet w (walked o w) (position i))))
+    (also (λ w a. gives_quiet w a _ (take_two_quiet w a.values _ (λ o i. done_quiet w _)))
+    (also (λ w a. gives_quiet w a _ (take_two_quiet w a.values _ (λ o i. done_quiet w _)))
+    (also has_next2_quiet
     more)))
 
-object_add : (rest : List (ℕ × Doing)) → AllAdd rest → AllAdd (object_acts rest)
-object_add rest more =
-    also (λ w a. gives_adds w a _ (object_adds w a))
-    (also (λ w a. gives_adds w a _ (array_adds w a))
-    (also strictly_adds
-    (also or_global_adds
-    (also and_reads_adds
-    (also (λ w a. came_adds w a _ (take_one_adds w a.values _ (λ o. then_adds w _ _ (name_adds w a) (λ n name. reads_adds a.setting n o name))))
-    (also (λ w a. drops_adds w a _ (take_two_adds w a.values _ (λ o v. then_adds w _ _ (name_adds w a) (λ n name. writes_to_adds a.setting n o name v false))))
-    (also (λ w a. drops_adds w a _ (take_two_adds w a.values _ (λ o v. then_adds w _ _ (name_adds w a) (λ n name. writes_to_adds a.setting n o name v true))))
-    (also (λ w a. gives_adds w a _ (flag_adds w _ (take_one_adds w a.values _ (λ o. then_adds w _ _ (name_adds w a) (λ n name. deletes_adds a.setting n o name)))))
-    (also (λ w a. gives_adds w a _ (reads_slot_adds w a))
-    (also writes_slot_adds
+object_once : (rest : List (ℕ × Doing)) → AllOnce rest → AllOnce (object_acts rest)
+object_once rest more =
+    also (λ w a. gives_quiet w a _ (object_quiet w a))
+    (also (λ w a. gives_quiet w a _ (array_quiet w a))
+    (also_once strictly_once
+    (also_once or_global_once
+    (also_once and_reads_once
+    (also (λ w a. came_quiet w a _ (take_one_quiet w a.values _ (λ o. then_quiet w _ _ (name_quiet w a) (λ n name. reads_quiet a.setting n o name))))
+    (also (λ w a. drops_quiet w a _ (take_two_quiet w a.values _ (λ o v. then_quiet w _ _ (name_quiet w a) (λ n name. writes_to_quiet a.setting n o name v false))))
+    (also (λ w a. drops_quiet w a _ (take_two_quiet w a.values _ (λ o v. then_quiet w _ _ (name_quiet w a) (λ n name. writes_to_quiet a.setting n o name v true))))
+    (also (λ w a. gives_quiet w a _ (flag_quiet w _ (take_one_quiet w a.values _ (λ o. then_quiet w _ _ (name_quiet w a) (λ n name. deletes_quiet a.setting n o name)))))
+    (also (λ w a. gives_quiet w a _ (reads_slot_quiet w a))
+    (also writes_slot_quiet
     more))))))))))
 
-call_add : (rest : List (ℕ × Doing)) → AllAdd rest → AllAdd (call_acts rest)
-call_add rest more =
-    also (λ w a. came_adds w a _ (take_two_adds w a.values _ (λ f r. calls_adds a.setting w f r a.args)))
-    (also (λ w a. came_adds w a _ (take_one_adds w a.values _ (λ c. new_adds a.setting w c a.args)))
-    (also (λ w a. came_adds w a _ (take_one_adds w a.values _ (λ o. then_adds w _ _ (name_adds w a) (λ n name. calls_name_adds a.setting n o o name a.args))))
-    (also (λ w a. came_adds w a _ (take_one_adds w a.values _ (λ o. then_adds w _ _ (name_adds w a) (λ n name. calls_name_adds a.setting n o values.Null name a.args))))
-    (also (λ w a. drops_adds w a _ (take_one_adds w a.values _ (λ o. then_adds w _ _ (name_adds w a) (λ n name. calls_name_adds a.setting n o o name a.args))))
-    (also (λ w a. take_one_adds w a.values _ (λ o. then_adds w _ _ (then_adds w _ _ (name_adds w a) (λ n name. reads_adds a.setting n o name)) (λ i c. makes_of_adds i a _ (λ j v. new_adds a.setting j v a.args) c)))
+call_once : (rest : List (ℕ × Doing)) → AllOnce rest → AllOnce (call_acts rest)
+call_once rest more =
+    also_once (λ w a. came_once w a _ (take_two_once w a.values _ (λ f r. calls_once a.setting w f r a.args)))
+    (also (λ w a. came_quiet w a _ (take_one_quiet w a.values _ (λ c. new_quiet a.setting w c a.args)))
+    (also_once (λ w a. came_once w a _ (take_one_once w a.values _ (λ o. then_once w _ _ (name_quiet w a) (λ n name. calls_name_once a.setting n o o name a.args))))
+    (also_once (λ w a. came_once w a _ (take_one_once w a.values _ (λ o. then_once w _ _ (name_quiet w a) (λ n name. calls_name_once a.setting n o values.Null name a.args))))
+    (also_once (λ w a. drops_once w a _ (take_one_once w a.values _ (λ o. then_once w _ _ (name_quiet w a) (λ n name. calls_name_once a.setting n o o name a.args))))
+    (also (λ w a. take_one_quiet w a.values _ (λ o. then_quiet w _ _ (then_quiet w _ _ (name_quiet w a) (λ n name. reads_quiet a.setting n o name)) (λ i c. makes_of_quiet i a _ (λ j v. new_quiet a.setting j v a.args) c)))
     more)))))
 
-class_add : (rest : List (ℕ × Doing)) → AllAdd rest → AllAdd (class_acts rest)
-class_add rest more =
-    also (λ w a. came_adds w a _ (reads_super_adds w a))
-    (also (λ w a. drops_adds w a _ (writes_super_adds w a))
-    (also (λ w a. came_adds w a _ (calls_super_adds w a))
-    (also (λ w a. drops_adds w a _ (calls_super_adds w a))
-    (also (λ w a. drops_adds w a _ (constructs_adds w a))
-    (also (λ w a. gives_adds w a _ (function_adds w a))
-    (also (λ w a. gives_adds w a _ (activation_adds w a))
-    (also class_adds
-    (also (λ w a. gives_adds w a _ (catch_adds w a))
+class_once : (rest : List (ℕ × Doing)) → AllOnce rest → AllOnce (class_acts rest)
+class_once rest more =
+    also (λ w a. came_quiet w a _ (reads_super_quiet w a))
+    (also (λ w a. drops_quiet w a _ (writes_super_quiet w a))
+    (also_once (λ w a. came_once w a _ (calls_super_once w a))
+    (also_once (λ w a. drops_once w a _ (calls_super_once w a))
+    (also (λ w a. drops_quiet w a _ (constructs_quiet w a))
+    (also (λ w a. gives_quiet w a _ (function_quiet w a))
+    (also (λ w a. gives_quiet w a _ (activation_quiet w a))
+    (also class_quiet
+    (also (λ w a. gives_quiet w a _ (catch_quiet w a))
     more))))))))
 
-all_add : AllAdd acts
+all_once : AllOnce acts
 unfolding acts
-all_add =
+all_once =
     let calls = call_acts (class_acts []) in
     let walks = walking_acts (object_acts calls) in
-    jumping_add (plain_acts (operation_acts walks))
-    (plain_add (operation_acts walks) (operation_add walks (walking_add (object_acts calls) (object_add calls (call_add (class_acts []) (class_add [] tt))))))
+    jumping_once (plain_acts (operation_acts walks))
+    (plain_once (operation_acts walks) (operation_once walks (walking_once (object_acts calls) (object_once calls (call_once (class_acts []) (class_once [] tt))))))
 
-found_adds : (o : ℕ) (ds : List (ℕ × Doing)) (d : Doing) → AllAdd ds → find_act o ds ≡ Some d → ActAdds d
-found_adds o [] d a e = absurd cc
-found_adds o (x ∷ ds) d a e = go (λ q. found_adds o ds d a.1 q) (nat_eq o x.0) e
+found_once : (o : ℕ) (ds : List (ℕ × Doing)) (d : Doing) → AllOnce ds → find_act o ds ≡ Some d → ActOnce d
+found_once o [] d a e = absurd cc
+found_once o (x ∷ ds) d a e = go (λ q. found_once o ds d a.1 q) (nat_eq o x.0) e
   where
-    go : (find_act o ds ≡ Some d → ActAdds d) → (b : Bool) → (if b then Some x.1 else find_act o ds) ≡ Some d → ActAdds d
-    go more true q = let same : x.1 ≡ d = cc in subst ActAdds same a.0
+    go : (find_act o ds ≡ Some d → ActOnce d) → (b : Bool) → (if b then Some x.1 else find_act o ds) ≡ Some d → ActOnce d
+    go more true q = let same : x.1 ≡ d = cc in subst ActOnce same a.0
     go more false q = more q
 
 -- whatever the opcode
-pub act_adds : (o : ℕ) (d : Doing) → act_of o ≡ Some d → ActAdds d
+pub act_once : (o : ℕ) (d : Doing) → act_of o ≡ Some d → ActOnce d
 unfolding act_of
-act_adds o d e = found_adds o acts d all_add e
+act_once o d e = found_once o acts d all_once e
