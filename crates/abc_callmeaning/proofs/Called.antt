@@ -19,7 +19,7 @@ use Rattle.abc_callmeaning.specs.Calls.{enters_call, entered_call, numbers, stop
 use Rattle.abc_callmeaning.specs.Laws.{CallsBeginSound}
 use Rattle.abc_callmeaning.proofs.Exported.{owned_by_script}
 
-numbers_exist : (p : Setting) (w : World) (ns : List ℤ) → Each IsNumber ns → Each (Exists p.linked w.heap) (numbers ns)
+pub numbers_exist : (p : Setting) (w : World) (ns : List ℤ) → Each IsNumber ns → Each (Exists p.linked w.heap) (numbers ns)
 numbers_exist p w [] a = tt
 numbers_exist p w (n ∷ ns) a = (a.0, numbers_exist p w ns a.1)
 

@@ -47,7 +47,7 @@ pub runs_left : RunsLeaveSound
 runs_left p typings fuel q v typed h = run_left p typings v typed fuel q h
 
 -- that nothing is written yet doesn't matter
-silent_sound : (p : Setting) (w : World) → WorldSound p w → WorldSound p (silent w)
+pub silent_sound : (p : Setting) (w : World) → WorldSound p w → WorldSound p (silent w)
 silent_sound p w z = record { stands = z.stands; objects = z.objects; formulas = z.formulas; scripts = z.scripts; within = z.within }
 
 pub calls_left : CallsLeaveSound

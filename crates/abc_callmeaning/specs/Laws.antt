@@ -2,8 +2,11 @@
 use Rattle.std.specs.Prelude.{◌≡◌, ◌≢◌, ℕ, ℤ, List}
 use Rattle.abc_base.specs.Ranges.{IsNumber}
 use Rattle.abc_base.specs.declared.formula.Formula.{Formula}
+use Rattle.abc_cells.specs.declared.values.Value.{Value}
+use Rattle.abc_fair.specs.Fair.{IsFairPart}
 use Rattle.abc_items.specs.Parts.{script_at}
 use Rattle.abc_objects.specs.Opening.{formula_names}
+use Rattle.abc_objects.specs.Values.{Exists}
 use Rattle.abc_outputs.specs.Front.{IsFront}
 use Rattle.abc_program.specs.Linked.{LinkedFile}
 use Rattle.abc_tables.specs.declared.traits.TraitBody.TheVariants.{Method}
@@ -16,7 +19,7 @@ use Rattle.abc_meaning.specs.Laws.{IsVerified}
 use Rattle.abc_meaning.specs.Meaning.{runs_for}
 use Rattle.abc_meaning.specs.Sound.{AreTypings, IsSound, SteppedSound, Typings, WorldSound}
 use Rattle.abc_meaning.specs.Throwing.{Machine, Stuck, last_script}
-use Rattle.abc_callmeaning.specs.Calls.{EndsAs, begins_call, call_meaning, replies_for}
+use Rattle.abc_callmeaning.specs.Calls.{EndsAs, Gives, begins_call, call_meaning, enters_call, replies_for}
 
 -- a method trait of the last script, which is what is exported
 pub record IsScriptMethod (p : Setting) (m : ℕ) : Type 0 where
@@ -36,6 +39,14 @@ CallsBeginSound = (p : Setting) (typings : Typings) (w : World) (m : ℕ) (args 
 -- what a call leaves is sound, and it doesn't end as Stuck
 abbrev pub CallsLeaveSound : Type 0
 CallsLeaveSound = (p : Setting) (typings : Typings) (fuel : ℕ) (w : World) (m : ℕ) (args : List ℤ) → IsVerified p → AreTypings p typings → WorldSound p w → IsScriptMethod p m → Each IsNumber args → WorldSound p (call_meaning p fuel w m args).world × ((call_meaning p fuel w m args).reply ≢ EndsAs Stuck)
+
+-- to enter a call on a sound world leaves one, which grew, and what is thrown there is there
+abbrev pub CallsAreFair : Type 0
+CallsAreFair = (p : Setting) (typings : Typings) (w : World) (m : ℕ) (args : List ℤ) → IsVerified p → AreTypings p typings → WorldSound p w → IsScriptMethod p m → Each IsNumber args → IsFairPart p w (enters_call p m args w)
+
+-- a value that a call gives is there
+abbrev pub CallsGiveThere : Type 0
+CallsGiveThere = (p : Setting) (fuel : ℕ) (w : World) (m : ℕ) (args : List ℤ) (v : Value) → IsVerified p → WorldSound p w → IsScriptMethod p m → Each IsNumber args → (call_meaning p fuel w m args).reply ≡ Gives v → Exists p.linked (call_meaning p fuel w m args).world.heap v
 
 -- with any fuel, what was written stays in front
 abbrev pub CallsAppend : Type 0

@@ -5,5 +5,6 @@
 mod laws;
 
 pub use laws::{
-    calls_append, calls_begin_sound, calls_leave_sound, names_alone_matter, runs_leave_sound,
+    calls_append, calls_are_fair, calls_begin_sound, calls_give_there, calls_leave_sound,
+    names_alone_matter, runs_leave_sound,
 };
