@@ -48,5 +48,3 @@ status_code statuses.Limit = 6
 status_code statuses.ReadFault = 7
 status_code statuses.WriteFault = 8
 status_code statuses.NoMemory = 9
-status_code statuses.Stuck = 10
-status_code statuses.NotBuilt = 11

@@ -24,14 +24,10 @@ pub enum Status {
     WriteFault,
     /// Memory ran out.
     NoMemory,
-    /// A step could not be taken.
-    Stuck,
-    /// What was asked for is not built yet.
-    NotBuilt,
 }
 
 impl Status {
-    /// The exit code, 0 to 11, in the order of the variants.
+    /// The exit code, 0 to 9, in the order of the variants.
     pub fn code(&self) -> u8
         ensures { result ≡ status_code self.now }
     {
@@ -46,8 +42,6 @@ impl Status {
             Status::ReadFault => 7,
             Status::WriteFault => 8,
             Status::NoMemory => 9,
-            Status::Stuck => 10,
-            Status::NotBuilt => 11,
         }
     }
 }

@@ -4,6 +4,10 @@ ghost use Rattle.std.specs.Prelude.{set, take};
 use crate::memory::NoMemory;
 use std::alloc::Global;
 use std::marker::Model;
+use std::mem;
+
+/// So many values are moved with their memory.
+const MANY: usize = 1 << 12;
 
 /// A list of values, which contracts see as that list.
 #[derive(Debug, Drop)]
@@ -38,6 +42,22 @@ impl<T: Drop> Table<T> {
         Ok(())
     }
 
+    /// Moves all values to a list of their own, and leaves none. The list has memory for no more than they need, and this
+    /// one keeps its memory for others; where there are many, the memory goes with them. Where memory runs out, the
+    /// values stay.
+    pub fn move_out(&mut self, alloc: Global) -> Result<Table<T>, NoMemory>
+        ensures ok { IfOk result (λ t. (t ≡ self.old) × (self.new ≡ [])) }
+        ensures err { OnErr result (self.new ≡ self.old) }
+    {
+        if self.items.len() >= MANY {
+            let items = mem::replace(&mut self.items, Vec::new(alloc));
+            return Ok(Table { items });
+        }
+        let mut items = Vec::with_capacity(alloc, self.items.len())?;
+        items.append(&mut self.items)?;
+        Ok(Table { items })
+    }
+
     /// How many values there are.
     pub fn len(&self) -> usize
         ensures { result ≡ length self.now }
@@ -66,6 +86,15 @@ impl<T: Drop> Table<T> {
         ensures { self.new ≡ set self.old i x }
     {
         self.items[i] = x;
+    }
+
+    /// Replaces the value at a position, and gives the one that stood there.
+    pub fn replace(&mut self, i: usize, x: T) -> T
+        requires { i < length self.old }
+        ensures is { get_or self.old i result ≡ result }
+        ensures list { self.new ≡ set self.old i x }
+    {
+        mem::replace(&mut self.items[i], x)
     }
 
     /// Keeps so many values from the start, or all where there are no more.
