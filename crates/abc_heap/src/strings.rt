@@ -1,0 +1,60 @@
+ghost use Rattle.std.specs.Prelude.{◌≡◌, [], length, get_or, IfOk};
+
+use abc_base::{Bytes, NoMemory, Table};
+use std::alloc::Global;
+use std::marker::Model;
+
+/// A copy of the strings of a file, one after the other in one block, each with its end there.
+#[derive(Debug, Drop)]
+pub struct Strings {
+    bytes: Vec<u8>,
+    ends: Vec<u32>,
+}
+
+impl Model for Strings {
+    ghost use Rattle.std.specs.Prelude.{List, ℕ, length};
+    ghost use Rattle.abc_heap.specs.Strings.{pieces, AreEnds};
+
+    ghost Value = { List (List ℕ) };
+
+    ghost view = { λ s. pieces 0 s.ends.items s.bytes.items };
+
+    ghost invariant = { λ s. AreEnds 0 s.ends.items (length s.bytes.items) };
+}
+
+/// The end of some bytes. Where it has more than 32 bits, memory is said to run out.
+fn end_of(bytes: &[u8]) -> Result<u32, NoMemory>
+    ensures { IfOk result (λ e. e ≡ length bytes.now) }
+{
+    match u32::try_from(bytes.len()) {
+        Ok(end) => Ok(end),
+        Err(_) => Err(NoMemory),
+    }
+}
+
+impl Strings {
+    /// A copy of some strings.
+    pub fn copy(alloc: Global, pool: &Table<Bytes>) -> Result<Strings, NoMemory>
+        ensures { IfOk result (λ s. s ≡ pool.now) }
+    {
+        let mut bytes = Vec::new(alloc);
+        let mut ends = Vec::with_capacity(alloc, pool.len())?;
+        for text in pool.as_slice() {
+            bytes.extend_from_slice(text.as_slice())?;
+            let end = end_of(bytes.as_slice())?;
+            ends.push(end)?;
+        }
+        Ok(Strings { bytes, ends })
+    }
+
+    /// A string, by its position, or no bytes past the last.
+    pub fn find(&self, i: usize) -> &[u8]
+        ensures { result.now ≡ get_or self.now i [] }
+    {
+        if i >= self.ends.len() {
+            return &[];
+        }
+        let start = if i == 0 { 0 } else { self.ends[i - 1] };
+        &self.bytes[start as usize..self.ends[i] as usize]
+    }
+}
