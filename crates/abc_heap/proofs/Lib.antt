@@ -1,7 +1,11 @@
 pub mod Flat
 pub mod Writes
-pub mod Searches
+pub mod Strings
+pub mod Buckets
 pub mod Growth
+pub mod Indexed
+pub mod Searches
+pub mod Stored
 pub mod Ledger
 pub mod Calls
 pub mod Makes

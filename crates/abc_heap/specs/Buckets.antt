@@ -37,7 +37,7 @@ last_in ks b (suc n) = if is_in b (get_or ks n None) then suc n else last_in ks 
 -- what is known of each bucket and of each place in one
 pub record AreBuckets (ks : List (Option ℕ)) (lasts : List ℕ) (befores : List ℕ) : Type 0 where
   pub lasts : (b : ℕ) → b < length lasts → get_or lasts b 0 ≡ last_in ks b (length ks)
-  pub befores : (p b : ℕ) → slice_get ks p ≡ Some (Some b) → get_or befores p 0 ≡ last_in ks b p
+  pub befores : (p b : ℕ) → get_or ks p None ≡ Some b → get_or befores p 0 ≡ last_in ks b p
   pub room : length ks ≤ length befores
 
 -- each property's name is a text
@@ -50,3 +50,7 @@ pub record IsIndexed (fixed : List ℕ) (made : List ℕ) (strings : List (List 
   pub buckets : AreBuckets (buckets_of (length b.lasts.items) (text_in fixed made strings) cells.items) b.lasts.items b.befores.items
   pub some : 0 < length b.lasts.items
   pub room : cells.limit ≤ length b.befores.items
+
+-- what changes no property keeps them there
+abbrev pub KeepsIndex : Filling Cell → Filling Cell → Type 0
+KeepsIndex old new = (fixed made : List ℕ) (strings : List (List ℕ)) (b : Buckets) → IsIndexed fixed made strings old b → IsIndexed fixed made strings new b

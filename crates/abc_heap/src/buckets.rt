@@ -1,4 +1,4 @@
-ghost use Rattle.std.specs.Prelude.{◌≡◌, ◌<◌, ◌≤◌, ◌+◌, ◌^◌, ◌++◌, ◌∷◌, [], List, Option, ℕ, length, Some, None, slice_get, get_or, set, replicate, IfOk};
+ghost use Rattle.std.specs.Prelude.{◌≡◌, ◌<◌, ◌≤◌, ◌+◌, ◌^◌, ◌++◌, ◌∷◌, [], List, Option, ℕ, length, Some, None, get_or, set, replicate, IfOk};
 ghost use Rattle.abc_heap.specs.Buckets.{hashed as the_hash, bucket as the_bucket, AreBuckets};
 
 use abc_base::NoMemory;
@@ -74,8 +74,8 @@ impl Buckets {
     /// The place in a bucket that a place is the one before of.
     fn above(&self, bucket: usize, place: u32) -> u32
         requires bucket { bucket < length self.now.lasts.items }
-        requires place { (ks : List (Option ℕ)) × AreBuckets ks self.now.lasts.items self.now.befores.items × (slice_get ks place ≡ Some (Some bucket)) × (place + 1 < get_or self.now.lasts.items bucket 0) }
-        ensures { (ks : List (Option ℕ)) → AreBuckets ks self.now.lasts.items self.now.befores.items → slice_get ks place ≡ Some (Some bucket) → (slice_get ks result ≡ Some (Some bucket)) × (get_or self.now.befores.items result 0 ≡ place + 1) }
+        requires place { (ks : List (Option ℕ)) × AreBuckets ks self.now.lasts.items self.now.befores.items × (get_or ks place None ≡ Some bucket) × (place + 1 < get_or self.now.lasts.items bucket 0) }
+        ensures { (ks : List (Option ℕ)) → AreBuckets ks self.now.lasts.items self.now.befores.items → get_or ks place None ≡ Some bucket → (get_or ks result None ≡ Some bucket) × (get_or self.now.befores.items result 0 ≡ place + 1) }
     {
         let mut above = self.lasts[bucket] - 1;
         while self.befores[above as usize] - 1 != place {
@@ -87,8 +87,8 @@ impl Buckets {
     /// Takes a place out of its bucket.
     pub fn remove(&mut self, bucket: usize, place: u32)
         requires bucket { bucket < length self.old.lasts.items }
-        requires place { (ks : List (Option ℕ)) × AreBuckets ks self.old.lasts.items self.old.befores.items × (slice_get ks place ≡ Some (Some bucket)) }
-        ensures removed { (ks : List (Option ℕ)) → AreBuckets ks self.old.lasts.items self.old.befores.items → slice_get ks place ≡ Some (Some bucket) → AreBuckets (set ks place None) self.new.lasts.items self.new.befores.items }
+        requires place { (ks : List (Option ℕ)) × AreBuckets ks self.old.lasts.items self.old.befores.items × (get_or ks place None ≡ Some bucket) }
+        ensures removed { (ks : List (Option ℕ)) → AreBuckets ks self.old.lasts.items self.old.befores.items → get_or ks place None ≡ Some bucket → AreBuckets (set ks place None) self.new.lasts.items self.new.befores.items }
         ensures sizes { (length self.new.lasts.items ≡ length self.old.lasts.items) × (length self.new.befores.items ≡ length self.old.befores.items) }
     {
         let before = self.befores[place as usize];

@@ -1,8 +1,10 @@
 ghost use Rattle.std.specs.Prelude.{◌≡◌, ◌<◌, ◌≤◌, ◌+◌, ◌^◌, ℕ, length, Some, None, slice_get, is_some, [], ◌∷◌, ◌++◌};
 ghost use Rattle.abc_cells.specs.Lanes.{value_in, property_in, lane_of};
-ghost use Rattle.abc_cells.specs.Links.{links, IsAt};
+ghost use Rattle.abc_cells.specs.Links.{links, IsAt, IsAdded};
+ghost use Rattle.abc_cells.specs.declared.cell.Held.TheVariants.{Property};
 ghost use Rattle.abc_cells.specs.declared.cell.Lane.TheVariants.{Slots, Properties, Elements};
 ghost use Rattle.abc_cells.specs.Filling.{HasRoom};
+ghost use Rattle.abc_heap.specs.Buckets.{KeepsIndex};
 ghost use Rattle.abc_heap.specs.What.{what_in};
 ghost use Rattle.abc_heap.specs.Heap.{slots_of, properties_of, elements_of};
 ghost use Rattle.abc_heap.specs.Properties.{at_position, the_value, the_name, valued, next_filled};
@@ -117,6 +119,7 @@ pub fn add_property(
     requires room { HasRoom cells.old 1 }
     ensures objects { objects cells.new.items 0 heads.new.items ≡ change (with_new_property name v) o (objects cells.old.items 0 heads.old.items) }
     ensures heads { AreHeads (links cells.new.items) heads.new.items }
+    ensures added { IsAdded cells.old.items cells.new.items o (Property name v) }
     ensures sizes { IsGrown heads.old heads.new cells.old cells.new }
 {
     let head = head_at(heads, o);
@@ -131,6 +134,7 @@ pub fn add_element(heads: &mut Reserved<Head>, cells: &mut Reserved<Cell>, o: u3
     requires room { HasRoom cells.old 1 }
     ensures objects { objects cells.new.items 0 heads.new.items ≡ change (with_new_element v) o (objects cells.old.items 0 heads.old.items) }
     ensures heads { AreHeads (links cells.new.items) heads.new.items }
+    ensures index { KeepsIndex cells.old cells.new }
     ensures sizes { IsGrown heads.old heads.new cells.old cells.new }
 {
     let head = head_at(heads, o);
@@ -213,6 +217,7 @@ fn add_slot(
     ensures objects { objects cells.new.items 0 heads.now.items ≡ change (with_more_slots (v ∷ [])) o (objects cells.old.items 0 heads.now.items) }
     ensures heads { AreHeads (links cells.new.items) heads.now.items }
     ensures next { IsFilling cells.new.items heads.now.items o result }
+    ensures index { KeepsIndex cells.old cells.new }
     ensures sizes { (length cells.new.items ≡ length cells.old.items + 1) × (cells.new.limit ≡ cells.old.limit) }
 {
     append(cells, chain, o, Held::Slot(v))
@@ -226,6 +231,7 @@ pub fn fill_slots<S: Starts>(heads: &Reserved<Head>, cells: &mut Reserved<Cell>,
     requires next { IsFilling cells.old.items heads.now.items o (record { last = 0; count = 0 }) }
     ensures objects { objects cells.new.items 0 heads.now.items ≡ change (with_more_slots (S.values starts.now)) o (objects cells.old.items 0 heads.now.items) }
     ensures heads { AreHeads (links cells.new.items) heads.now.items }
+    ensures index { KeepsIndex cells.old cells.new }
     ensures sizes { (length cells.new.items ≡ length cells.old.items + length (S.values starts.now)) × (cells.new.limit ≡ cells.old.limit) }
 {
     let mut chain = Chain { last: 0, count: 0 };

@@ -25,14 +25,7 @@ pub struct Spot {
 }
 
 /// Whether a cell holds a property of the object whose name has this text.
-fn has_name(
-    fixed: &[u8],
-    made: &[u8],
-    strings: &Strings,
-    cell: Cell,
-    o: u32,
-    text: &[u8],
-) -> bool
+fn has_name(fixed: &[u8], made: &[u8], strings: &Strings, cell: Cell, o: u32, text: &[u8]) -> bool
     requires { (n : Span) (v : Value) → property_in cell.held ≡ Some (n, v) → IsTextIn fixed.now made.now strings.now n }
     ensures { result ≡ nat_eq cell.owner o && is_named (text_in fixed.now made.now strings.now) text.now (Some (property_in cell.held)) }
 {

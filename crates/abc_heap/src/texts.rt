@@ -42,12 +42,7 @@ impl Pool for Strings {
 }
 
 /// A part, in which texts lie.
-pub fn part_bytes<'a, P: Pool>(
-    fixed: &'a [u8],
-    made: &'a [u8],
-    pool: &'a P,
-    part: u32,
-) -> &'a [u8]
+pub fn part_bytes<'a, P: Pool>(fixed: &'a [u8], made: &'a [u8], pool: &'a P, part: u32) -> &'a [u8]
     ensures { result.now ≡ part_of fixed.now made.now (P.strings pool.now) part }
 {
     if part == 0 {

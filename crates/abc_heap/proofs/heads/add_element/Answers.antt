@@ -1,9 +1,11 @@
-use Rattle.std.proofs.Common.{◌∙◌, ap, sym, subst, length}
+use Rattle.std.proofs.Common.{◌∙◌, ap, sym, refl, subst, length}
 use Rattle.std.proofs.lemmas.List.{length-set}
 use Rattle.abc_cells.specs.Filling.{Filling}
 use Rattle.abc_cells.specs.Links.{links}
 use Rattle.abc_heap.specs.declared.heads.Head.{Head}
 use Rattle.abc_heap.specs.View.{objects, AreHeads}
+use Rattle.abc_cells.specs.declared.cell.Held.TheVariants.{Element}
+use Rattle.abc_heap.proofs.Indexed.{added_keeps}
 use Rattle.abc_heap.proofs.Growth.{element_grown}
 use Rattle.abc_heap.proofs.heads.add_element.Goals as goal
 
@@ -14,6 +16,7 @@ returns c =
     record {
       objects = ap (objects c.append-elements.new.cells.items 0) e ∙ g.0;
       heads = subst (AreHeads (links c.append-elements.new.cells.items)) (sym e) g.1;
+      index = added_keeps c.args.cells.now c.append-elements.new.cells c.args.o (Element c.args.v) c.append-elements.ensures.added c.append-elements.ensures.limit c.requires.room refl;
       sizes = record {
         heads = ap length e ∙ length-set c.args.heads.now.items c.args.o _;
         heads_limit = ap (λ (f : Filling Head). f.limit) c.set.ensures;

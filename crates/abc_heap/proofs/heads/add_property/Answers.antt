@@ -14,6 +14,7 @@ returns c =
     record {
       objects = ap (objects c.append-properties.new.cells.items 0) e ∙ g.0;
       heads = subst (AreHeads (links c.append-properties.new.cells.items)) (sym e) g.1;
+      added = c.append-properties.ensures.added;
       sizes = record {
         heads = ap length e ∙ length-set c.args.heads.now.items c.args.o _;
         heads_limit = ap (λ (f : Filling Head). f.limit) c.set.ensures;

@@ -9,6 +9,6 @@ pub returns-in-Some : goal.returns-in-Some
 returns-in-Some c =
     let cells = c.self.inside.cells.items in
     let heads = c.self.inside.heads.items in
-    let f = text_in c.self.inside.fixed c.self.inside.made.items c.args.pool.now in
+    let f = text_in c.self.inside.fixed c.self.inside.made.items c.self.inside.strings in
     let b = object_in cells heads c.args.self.now c.args.o.0 (ap (λ (h : Heap). h.objects) c.self.view_is) c.requires.inside in
-    subst (λ (h : Heap). c.property_value.result ≡ property_in_heap c.args.pool.now h c.args.o.0 c.args.name) c.self.view_is (c.property_value.ensures ∙ property_found cells heads c.args.o.0 f (f c.args.name) _ _ c.self.invariant.0 b c.in-Some.ensures c.cell_at.ensures)
+    subst (λ (h : Heap). c.property_value.result ≡ property_in_heap h.strings h c.args.o.0 c.args.name) c.self.view_is (c.property_value.ensures ∙ property_found cells heads c.args.o.0 f (f c.args.name) _ _ c.self.invariant.heads b c.in-Some.ensures c.cell_at.ensures)
