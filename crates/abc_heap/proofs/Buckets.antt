@@ -202,14 +202,14 @@ last_gone ks lasts befores d p a i e was = record {
   ];
   befores = λ q b w.
       let s = left_in ks p q b w in
-      a.befores q b s.1 ∙ sym (elim (decide b d) [
+      let stays : last_in (set ks p None) b q ≡ last_in ks b q = elim (decide b d) [
         | inl t ↦
             let c = last_covers ks d (length ks) q (within ks q b s.1) (s.1 ∙ ap Some t) in
             let u = a.lasts d i in
-            let n = s.0 in
-            gone_below ks p b q (omega (arith, c, u, was, n))
+            gone_below ks p b q (omega (arith, c, u, was))
         | inr t ↦ gone_other ks p d b q e (λ z. t (sym z))
-      ]);
+      ] in
+      a.befores q b s.1 ∙ sym stays;
   room = omega (arith, a.room, gone_long ks p);
 }
 
@@ -229,11 +229,11 @@ other_gone ks lasts befores d p x a i e ex was = record {
             ∙ (get_or-set_same befores x (get_or befores p 0) 0 (omega (arith, a.room, within ks x d ex))
                 ∙ (a.befores p d e ∙ sym (ap (λ k. last_in (set ks p None) k q) same ∙ (ap (last_in (set ks p None) d) t ∙ (gone_above ks p d x e over).0 before))))
         | inr t ↦
-            get_or-set_other befores x q (get_or befores p 0) 0 t
-            ∙ (a.befores q b s.1 ∙ sym (elim (decide b d) [
-                    | inl u ↦ ap (λ k. last_in (set ks p None) k q) u ∙ (in_d q s.0 t (s.1 ∙ ap Some u) ∙ ap (λ k. last_in ks k q) (sym u))
-                    | inr u ↦ gone_other ks p d b q e (λ z. u (sym z))
-                  ]))
+            let stays : last_in (set ks p None) b q ≡ last_in ks b q = elim (decide b d) [
+              | inl u ↦ ap (λ k. last_in (set ks p None) k q) u ∙ (in_d q s.0 t (s.1 ∙ ap Some u) ∙ ap (λ k. last_in ks k q) (sym u))
+              | inr u ↦ gone_other ks p d b q e (λ z. u (sym z))
+            ] in
+            get_or-set_other befores x q (get_or befores p 0) 0 t ∙ (a.befores q b s.1 ∙ sym stays)
       ];
   room = omega (arith, a.room, gone_long ks p, length-set befores x (get_or befores p 0));
 }

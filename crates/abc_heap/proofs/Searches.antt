@@ -232,3 +232,18 @@ search_found cells heads n o f t left c a b s more e h =
       where
         same_link : (x : Link) → slice_get (links cells) place ≡ Some (link_of c) → slice_get (links cells) place ≡ Some x → link_of c ≡ x
         same_link x p q = cc
+
+-- the search falls
+pub search_falls : (fixed made : List ℕ) (strings : List (List ℕ)) (cs : Filling Cell) (b : Buckets) (o : ℕ) (t : List ℕ) (left next : ℕ) → IsIndexed fixed made strings cs b → IsSearched cs.items (length b.lasts.items) o (text_in fixed made strings) t left → 0 < left → next ≡ get_or b.befores.items (left - 1) 0 → next < left
+search_falls fixed made strings cs b o t left next x s more e =
+    let n = length b.lasts.items in
+    let f = text_in fixed made strings in
+    let here = x.buckets.befores (left - 1) (bucket n o t) (s.own more) in
+    omega (arith, e, here, last_le (buckets_of n f cs.items) (bucket n o t) (left - 1))
+
+pub search_within : (fixed made : List ℕ) (strings : List (List ℕ)) (cs : Filling Cell) (b : Buckets) (i : ℕ) → IsIndexed fixed made strings cs b → i < length cs.items → i < length b.befores.items
+search_within fixed made strings cs b i x w = omega (arith, w, x.buckets.room, buckets_long (length b.lasts.items) (text_in fixed made strings) cs.items)
+
+-- an object without properties
+pub search_empty : (f : Span → List ℕ) (t : List ℕ) (ps : List (Option (Span × Value))) → length ps ≡ 0 → place_named f t ps ≡ None
+search_empty f t ps e = ap (place_below f t ps) e

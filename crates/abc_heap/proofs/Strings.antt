@@ -13,10 +13,7 @@ ends_more at (x ∷ ends) n e h b = (h.0, ends_more x ends n e h.1 b)
 
 pub front : (at k : ℕ) (bytes t : List ℕ) → at + k ≤ length bytes → take k (drop at (bytes ++ t)) ≡ take k (drop at bytes)
 front zero k bytes t b = take-append-le k bytes t (omega arith)
-front (suc at) k [] t b = ap (λ n. take n (drop (suc at) t)) none ∙ sym (ap (λ n. take n (drop (suc at) [])) none)
-  where
-    none : k ≡ 0
-    none = omega arith
+front (suc at) k [] t b = absurd (omega arith)
 front (suc at) k (x ∷ bytes) t b = front at k bytes t (omega arith)
 
 -- one more text at the end

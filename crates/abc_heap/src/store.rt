@@ -298,7 +298,7 @@ impl Store {
         if self.cells.len() + self.scopes.len() == self.limits.cells {
             return Err(Full(Limit::Cells));
         }
-        add_element(&mut self.heads, &mut self.cells, o.0, v);
+        self.add_element(o, v);
         Ok(())
     }
 
