@@ -109,7 +109,7 @@ one_added ks lasts befores d n a e r i = record {
     | inl q ↦
         ap (λ k. get_or (set lasts d (n + 1)) k 0) q
         ∙ (get_or-set_same lasts d (n + 1) 0 i
-            ∙ (n_more ∙ sym (ap (λ k. last_in (ks ++ Some d ∷ []) k (length (ks ++ Some d ∷ []))) q ∙ (ap (last_in (ks ++ Some d ∷ []) d) (more_long ks (Some d)) ∙ last_own (ks ++ Some d ∷ []) d (length ks) (in_own d _ (get_or-append_seam ks (Some d) [] None))))))
+        ∙ (n_more ∙ sym (ap (λ k. last_in (ks ++ Some d ∷ []) k (length (ks ++ Some d ∷ []))) q ∙ (ap (last_in (ks ++ Some d ∷ []) d) (more_long ks (Some d)) ∙ last_own (ks ++ Some d ∷ []) d (length ks) (in_own d _ (get_or-append_seam ks (Some d) [] None))))))
     | inr q ↦
         let l : b < length lasts = omega (arith, h, length-set lasts d (n + 1)) in
         get_or-set_other lasts d b (n + 1) 0 q ∙ (a.lasts b l ∙ sym (last_seam ks (Some d) b (in_other b d (Some d) refl (λ z. q (sym z)))))
@@ -120,7 +120,7 @@ one_added ks lasts befores d n a e r i = record {
         let t : b ≡ d = cc in
         ap (λ k. get_or (set befores n (get_or lasts d 0)) k 0) q
         ∙ (get_or-set_same befores n (get_or lasts d 0) 0 r
-            ∙ (a.lasts d i ∙ (sym (last_front ks (Some d) d (length ks) (omega arith)) ∙ (ap (λ k. last_in (ks ++ Some d ∷ []) k (length ks)) (sym t) ∙ ap (last_in (ks ++ Some d ∷ []) b) (sym (q ∙ e))))))
+        ∙ (a.lasts d i ∙ (sym (last_front ks (Some d) d (length ks) (omega arith)) ∙ (ap (λ k. last_in (ks ++ Some d ∷ []) k (length ks)) (sym t) ∙ ap (last_in (ks ++ Some d ∷ []) b) (sym (q ∙ e))))))
     | inr q ↦
         let v = within (ks ++ Some d ∷ []) p b w in
         let l : p < length ks = omega (arith, more_long ks (Some d), v) in
@@ -168,6 +168,7 @@ gone_above ks p d (suc n) e l = elim (decide p n) [
   where
     next : (p n : ℕ) → p ≡ n → suc n ≡ p + 1
     next p n q = omega arith
+
     clash : (p n : ℕ) → p ≢ n → suc n ≡ p + 1 → ⊥
     clash p n q h = absurd (omega arith)
 
@@ -195,7 +196,7 @@ last_gone ks lasts befores d p a i e was = record {
     | inl q ↦
         ap (λ k. get_or (set lasts d (get_or befores p 0)) k 0) q
         ∙ (get_or-set_same lasts d (get_or befores p 0) 0 i
-            ∙ (a.befores p d e ∙ sym (ap (λ k. last_in (set ks p None) k (length (set ks p None))) q ∙ (ap (last_in (set ks p None) d) (gone_long ks p) ∙ (gone_above ks p d (length ks) e (within ks p d e)).0 (sym (a.lasts d i) ∙ was)))))
+        ∙ (a.befores p d e ∙ sym (ap (λ k. last_in (set ks p None) k (length (set ks p None))) q ∙ (ap (last_in (set ks p None) d) (gone_long ks p) ∙ (gone_above ks p d (length ks) e (within ks p d e)).0 (sym (a.lasts d i) ∙ was)))))
     | inr q ↦
         let l : b < length lasts = omega (arith, h, length-set lasts d (get_or befores p 0)) in
         get_or-set_other lasts d b (get_or befores p 0) 0 q ∙ (a.lasts b l ∙ sym (ap (last_in (set ks p None) b) (gone_long ks p) ∙ gone_other ks p d b (length ks) e (λ z. q (sym z))))
@@ -227,7 +228,7 @@ other_gone ks lasts befores d p x a i e ex was = record {
             let same : b ≡ d = some_same b d (sym s.1 ∙ (ap (λ k. get_or ks k None) t ∙ ex)) in
             ap (λ k. get_or (set befores x (get_or befores p 0)) k 0) t
             ∙ (get_or-set_same befores x (get_or befores p 0) 0 (omega (arith, a.room, within ks x d ex))
-                ∙ (a.befores p d e ∙ sym (ap (λ k. last_in (set ks p None) k q) same ∙ (ap (last_in (set ks p None) d) t ∙ (gone_above ks p d x e over).0 before))))
+            ∙ (a.befores p d e ∙ sym (ap (λ k. last_in (set ks p None) k q) same ∙ (ap (last_in (set ks p None) d) t ∙ (gone_above ks p d x e over).0 before))))
         | inr t ↦
             let stays : last_in (set ks p None) b q ≡ last_in ks b q = elim (decide b d) [
               | inl u ↦ ap (λ k. last_in (set ks p None) k q) u ∙ (in_d q s.0 t (s.1 ∙ ap Some u) ∙ ap (λ k. last_in ks k q) (sym u))
@@ -240,12 +241,16 @@ other_gone ks lasts befores d p x a i e ex was = record {
   where
     before : last_in ks d x ≡ p + 1
     before = sym (a.befores x d ex) ∙ was
+
     over : p < x
     over = omega (arith, before, last_le ks d x)
+
     not_last : (n : ℕ) → x < n → last_in ks d n ≢ p + 1
     not_last n l h = absurd (omega (arith, last_covers ks d n x l ex, over))
+
     some_same : (b d : ℕ) → Some b ≡ Some d → b ≡ d
     some_same b d h = cc
+
     -- another place of the bucket keeps the one before it
     in_d : (q : ℕ) → q ≢ p → q ≢ x → get_or ks q None ≡ Some d → last_in (set ks p None) d q ≡ last_in ks d q
     in_d q np nx h = elim (either (nat_le q p)) [

@@ -172,6 +172,7 @@ index_empty fixed strings cs b n m none limit some lasts befores = record {
   where
     no_cell : {X Y : Type 0} {p : X} → ◌≡◌ {A = Option X} None (Some p) → Y
     no_cell e = absurd cc
+
     nothing : AreBuckets [] b.lasts.items b.befores.items
     nothing = record {
       lasts = λ d h. ap (λ xs. get_or xs d 0) lasts ∙ get_or-replicate n d 0 0 (omega (arith, h, ap length lasts, length-replicate n 0));

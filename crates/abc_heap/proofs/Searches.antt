@@ -116,6 +116,7 @@ below_last f t ps k (suc n) b e h = elim (either (is_named f t (slice_get ps n))
   where
     same : (n k : ℕ) → n ≤ k → k < suc n → n ≡ k
     same n k p q = omega arith
+
     less : (n : ℕ) → k ≢ n → k < n
     less n d = omega arith
 
@@ -145,6 +146,7 @@ named_at cells heads o f t j b e =
   where
     past : (ps : List (Option (Span × Value))) (j : ℕ) → length ps ≤ j → is_named f t (slice_get ps j) ≡ true → ⊥
     past ps j l e = clash (sym e ∙ ap (is_named f t) (slice_get_past ps j l))
+
     is_there : (ps : List (Option (Span × Value))) (j : ℕ) → is_named f t (slice_get ps j) ≡ true → j < length ps
     is_there ps j e = elim (either (nat_lt j (length ps))) [
       | inl l ↦ ltb-true j (length ps) l
@@ -199,6 +201,7 @@ search_on fixed made strings cs b o t left next c x s more at no e =
   where
     fewer : (i : ℕ) → i < left → i ≢ left - 1 → i < left - 1
     fewer i p q = omega arith
+
     one_cell : (i : ℕ) (d : Cell) → i ≡ left - 1 → slice_get cs.items i ≡ Some d → d ≡ c
     one_cell i d q here = let r = ap (slice_get cs.items) q in cc
 

@@ -8,7 +8,7 @@ use Rattle.abc_cells.specs.Links.{Link, links, count, AreLinked, IsChain, IsAt}
 use Rattle.abc_heap.specs.declared.heads.Head.{Head}
 use Rattle.abc_heap.specs.declared.records.ScopeNode.{ScopeNode}
 use Rattle.abc_heap.specs.declared.records.Limits.{Limits}
-use Rattle.abc_heap.specs.What.{what_in}
+use Rattle.abc_heap.specs.What.{what_in, elements_in}
 use Rattle.abc_heap.specs.Heap.{Object}
 use Rattle.abc_heap.specs.Buckets.{IsIndexed}
 use Rattle.abc_heap.specs.declared.buckets.Buckets.{Buckets}
@@ -24,7 +24,7 @@ objects cells o (h ∷ hs) = object cells o h ∷ objects cells (o + 1) hs
 pub record IsHead (xs : List Link) (o : ℕ) (h : Head) : Type 0 where
   pub slots : (k : ℕ) → k < count o Slots xs → IsAt xs (h.slots + k) o Slots k
   pub properties : IsChain xs o Properties h.properties
-  pub elements : IsChain xs o Elements h.elements
+  pub elements : IsChain xs o Elements (elements_in h.what)
 
 pub record AreHeads (xs : List Link) (hs : List Head) : Type 0 where
   pub linked : AreLinked xs

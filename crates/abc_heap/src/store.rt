@@ -1,4 +1,4 @@
-ghost use Rattle.std.specs.Prelude.{◌≡◌, ◌<◌, ◌≤◌, ◌+◌, ◌-◌, ◌++◌, ◌∷◌, [], ◌^◌, ℕ, length, Some, None, slice_get, set, replicate, get_or, is_some, MatchResult, IfOk};
+ghost use Rattle.std.specs.Prelude.{◌≡◌, ◌<◌, ◌≤◌, ◌+◌, ◌-◌, ◌++◌, ◌∷◌, [], ◌^◌, ℕ, length, Some, None, slice_get, set, replicate, get_or, is_some, true, MatchResult, IfOk};
 ghost use Rattle.std.specs.Fmt.{signed_decimal};
 ghost use Rattle.abc_cells.specs.declared.values.Value.TheVariants.{Undefined};
 ghost use Rattle.abc_heap.specs.What.{is_array};
@@ -289,10 +289,11 @@ impl Store {
         hold(&mut self.cells, place, Held::Element(v));
     }
 
-    /// Adds an element at the end.
+    /// Adds an element to an array at the end.
     #[tactic(auto, using(crate::proofs::Flat::length_objects))]
     pub fn push_element(&mut self, o: ObjId, v: Value) -> Result<(), Full>
-        requires { o.0 < length self.old.objects }
+        requires inside { o.0 < length self.old.objects }
+        requires array { is_array (object_at self.old.objects o.0).what ≡ true }
         ensures { MatchResult result (λ _. Fits self.old self.new 1 (with_object (with_new_element v) o.0 self.old)) (λ e. IsFull self.old self.new (cells_used self.old) 1 self.old.limits.cells Cells e) }
     {
         if self.cells.len() + self.scopes.len() == self.limits.cells {
@@ -441,19 +442,21 @@ impl Store {
         self.classes[class as usize] = Some(o);
     }
 
-    /// Adds an element at the end, where there is room.
+    /// Adds an element to an array at the end, where there is room.
     #[tactic(auto, using(crate::proofs::Flat::length_objects))]
     fn add_element(&mut self, o: ObjId, v: Value)
         requires inside { o.0 < length self.old.objects }
+        requires array { is_array (object_at self.old.objects o.0).what ≡ true }
         requires room { HasRoomFor self.old 0 1 }
         ensures { self.new ≡ with_object (with_new_element v) o.0 self.old }
     {
         add_element(&mut self.heads, &mut self.cells, o.0, v);
     }
 
-    /// Adds elements at the end, where there is room.
+    /// Adds elements to an array at the end, where there is room.
     fn add_elements(&mut self, o: ObjId, elements: &[Value])
         requires inside { o.0 < length self.old.objects }
+        requires array { is_array (object_at self.old.objects o.0).what ≡ true }
         requires room { HasRoomFor self.old 0 (length elements.now) }
         ensures { self.new ≡ with_object (with_more_elements elements.now) o.0 self.old }
     {
@@ -462,9 +465,10 @@ impl Store {
         }
     }
 
-    /// Adds elements that are undefined at the end, where there is room.
+    /// Adds elements that are undefined to an array at the end, where there is room.
     fn add_undefined(&mut self, o: ObjId, count: u32)
         requires inside { o.0 < length self.old.objects }
+        requires array { is_array (object_at self.old.objects o.0).what ≡ true }
         requires room { HasRoomFor self.old 0 count }
         ensures { self.new ≡ with_object (with_more_elements (replicate count Undefined)) o.0 self.old }
     {

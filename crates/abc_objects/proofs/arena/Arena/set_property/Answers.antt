@@ -24,8 +24,8 @@ returns-clause-put c =
     let n = c.args.name in
     let s = subst (StandsOver c.args.l.now) (sym c.self.view_is) c.requires.over in
     let put : List (List ℕ) → Heap → Type 0 = λ ps y. MatchResult c.set_property.result
-        (λ _. Fits y c.set_property.new.self (cells_to_put (place_in ps y o n)) (with_object (with_put (text_of ps y) (text_of ps y n) n c.args.v) o y))
-        (λ e. IsFull y c.set_property.new.self (cells_used y) (cells_to_put (place_in ps y o n)) y.limits.cells Cells e) in
+    (λ _. Fits y c.set_property.new.self (cells_to_put (place_in ps y o n)) (with_object (with_put (text_of ps y) (text_of ps y n) n c.args.v) o y))
+    (λ e. IsFull y c.set_property.new.self (cells_used y) (cells_to_put (place_in ps y o n)) y.limits.cells Cells e) in
     subst (put c.args.l.now.file.strings) c.self.view_is (subst (λ ps. put ps h) s.strings c.set_property.ensures)
 
 pub returns-clause-over : goal.returns-clause-over
