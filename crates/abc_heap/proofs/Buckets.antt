@@ -262,3 +262,49 @@ other_gone ks lasts befores d p x a i e ex was = record {
             | inr m ↦ let o = leb-false q x m in absurd (omega (arith, last_covers ks d q x (omega (arith, o)) ex, z, over))
           ])
     ]
+
+-- ---- the place above another in their bucket
+
+pub top_above : (ks : List (Option ℕ)) (lasts befores : List ℕ) (d p : ℕ) → AreBuckets ks lasts befores → d < length lasts → get_or ks p None ≡ Some d → (p + 1 ≤ get_or lasts d 0) × (get_or ks (get_or lasts d 0 - 1) None ≡ Some d) × (get_or lasts d 0 - 1 < length befores) × (p < length befores)
+top_above ks lasts befores d p a i e =
+    let last = a.lasts d i in
+    let n = within ks p d e in
+    let c = last_covers ks d (length ks) p n e in
+    let l = last_le ks d (length ks) in
+    let r = a.room in
+    (omega (arith, last, c), ap (λ k. get_or ks (k - 1) None) last ∙ last_hit ks d (length ks) (omega (arith, c)), omega (arith, last, c, l, r), omega (arith, n, r))
+
+-- place x is above p, and place y is the one before it
+pub record IsAbove (ks : List (Option ℕ)) (befores : List ℕ) (d : ℕ) (p : ℕ) (x : ℕ) (y : ℕ) : Type 0 where
+  pub own : get_or ks x None ≡ Some d
+  pub over : p < x
+  pub next : y + 1 ≡ get_or befores x 0
+
+pub before_above : (ks : List (Option ℕ)) (lasts befores : List ℕ) (d p x : ℕ) → AreBuckets ks lasts befores → get_or ks p None ≡ Some d → get_or ks x None ≡ Some d → p < x → (p + 1 ≤ get_or befores x 0) × (get_or befores x 0 ≤ x) × (x < length befores)
+before_above ks lasts befores d p x a e ex l =
+    let b = a.befores x d ex in
+    (omega (arith, b, last_covers ks d x p l e), omega (arith, b, last_le ks d x), omega (arith, within ks x d ex, a.room))
+
+pub above_first : (ks : List (Option ℕ)) (lasts befores : List ℕ) (d p x y : ℕ) → AreBuckets ks lasts befores → d < length lasts → get_or ks p None ≡ Some d → p + 1 < get_or lasts d 0 → x ≡ get_or lasts d 0 - 1 → y ≡ get_or befores x 0 - 1 → IsAbove ks befores d p x y
+above_first ks lasts befores d p x y a i e more ex ey =
+    let own : get_or ks x None ≡ Some d = ap (λ k. get_or ks k None) ex ∙ (top_above ks lasts befores d p a i e).1 in
+    let over : p < x = omega arith in
+    let b = before_above ks lasts befores d p x a e own over in
+    record { own = own; over = over; next = omega (arith, b) }
+
+pub next_above : (ks : List (Option ℕ)) (lasts befores : List ℕ) (d p x y : ℕ) → AreBuckets ks lasts befores → get_or ks p None ≡ Some d → IsAbove ks befores d p x y → y ≢ p → (get_or ks y None ≡ Some d) × (p < y) × (y < x) × (y < length befores) × (0 < get_or befores y 0)
+next_above ks lasts befores d p x y a e s n =
+    let b = before_above ks lasts befores d p x a e s.own s.over in
+    let next = s.next in
+    let here = a.befores x d s.own in
+    let q : y ≡ last_in ks d x - 1 = omega (arith, next, here) in
+    let own : get_or ks y None ≡ Some d = ap (λ k. get_or ks k None) q ∙ last_hit ks d x (omega (arith, next, here)) in
+    let over : p < y = omega (arith, next, b, n) in
+    let w = before_above ks lasts befores d p y a e own over in
+    (own, over, omega (arith, next, b), w.2, omega (arith, w))
+
+pub above_next : (ks : List (Option ℕ)) (lasts befores : List ℕ) (d p x y z : ℕ) → AreBuckets ks lasts befores → get_or ks p None ≡ Some d → IsAbove ks befores d p x y → y ≢ p → z ≡ get_or befores y 0 - 1 → IsAbove ks befores d p y z
+above_next ks lasts befores d p x y z a e s n ez =
+    let w = next_above ks lasts befores d p x y a e s n in
+    let some = w.4 in
+    record { own = w.0; over = w.1; next = omega (arith, some, ez) }

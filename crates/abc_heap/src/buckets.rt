@@ -78,8 +78,10 @@ impl Buckets {
         ensures { (ks : List (Option ℕ)) → AreBuckets ks self.now.lasts.items self.now.befores.items → get_or ks place None ≡ Some bucket → (get_or ks result None ≡ Some bucket) × (get_or self.now.befores.items result 0 ≡ place + 1) }
     {
         let mut above = self.lasts[bucket] - 1;
-        while self.befores[above as usize] - 1 != place {
-            above = self.befores[above as usize] - 1;
+        let mut before = self.befores[above as usize] - 1;
+        while before != place {
+            above = before;
+            before = self.befores[above as usize] - 1;
         }
         above
     }
@@ -92,7 +94,8 @@ impl Buckets {
         ensures sizes { (length self.new.lasts.items ≡ length self.old.lasts.items) × (length self.new.befores.items ≡ length self.old.befores.items) }
     {
         let before = self.befores[place as usize];
-        if self.lasts[bucket] - 1 == place {
+        let top = self.lasts[bucket] - 1;
+        if top == place {
             self.lasts[bucket] = before;
             return;
         }

@@ -1,0 +1,5 @@
+use Rattle.abc_heap.proofs.Buckets.{one_added}
+use Rattle.abc_heap.proofs.buckets.Buckets.add.Goals as goal
+
+pub returns-clause-added : goal.returns-clause-added
+returns-clause-added c = λ ks e a. one_added ks c.args.self.now.lasts.items c.args.self.now.befores.items c.args.bucket c.args.place a e c.requires.place c.requires.bucket
