@@ -17,9 +17,9 @@ use Rattle.abc_cells.proofs.Grows.{set_held}
 use Rattle.abc_heap.specs.Buckets.{bucket, bucket_of, buckets_of, AreBuckets, AreNamesIn, IsIndexed, KeepsIndex}
 use Rattle.abc_heap.specs.declared.buckets.Buckets.{Buckets}
 use Rattle.abc_heap.specs.Texts.{part_of, text_in, IsTextIn}
-use Rattle.abc_heap.proofs.Buckets.{none_added}
+use Rattle.abc_heap.proofs.Lasts.{none_added}
 use Rattle.abc_heap.proofs.Growth.{set_read}
-use Rattle.abc_heap.proofs.Strings.{front}
+use Rattle.abc_heap.proofs.Pieces.{front}
 
 pub key_at : (n : ℕ) (f : Span → List ℕ) (cells : List Cell) (i : ℕ) (c : Cell) → slice_get cells i ≡ Some c → get_or (buckets_of n f cells) i None ≡ bucket_of n f c.owner (property_in c.held)
 key_at n f (x ∷ cells) zero c e = let q : x ≡ c = cc in ap (λ (y : Cell). bucket_of n f y.owner (property_in y.held)) q

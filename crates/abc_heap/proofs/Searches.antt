@@ -24,7 +24,7 @@ use Rattle.abc_heap.specs.Texts.{text_in}
 use Rattle.abc_heap.specs.Properties.{is_named, place_below, place_named}
 use Rattle.abc_heap.specs.View.{objects, AreHeads}
 use Rattle.abc_heap.specs.Spots.{IsSpot}
-use Rattle.abc_heap.proofs.Buckets.{chosen, skipped, last_le, last_hit, last_covers}
+use Rattle.abc_heap.proofs.Lasts.{chosen, skipped, last_le, last_hit, last_covers}
 use Rattle.abc_heap.proofs.Flat.{properties_are, property_read}
 use Rattle.abc_heap.proofs.Indexed.{key_at, buckets_long}
 
@@ -68,17 +68,17 @@ filter_no : {X : Type 0} (p : X → Bool) (x : X) (xs : List X) → p x ≡ fals
 filter_no p x xs e = ap (λ b. cond b (x ∷ filter p xs) (filter p xs)) e
 
 -- where an item of a part of a list stands in the whole
-record IsFrom {X : Type 0} (p : X → Bool) (xs : List X) (j : ℕ) : Type 0 where
+record IsFrom (X : Type 0) (p : X → Bool) (xs : List X) (j : ℕ) : Type 0 where
   place : ℕ
   item : X
   at : slice_get xs place ≡ Some item
   is : p item ≡ true
   rank : length (filter p (take place xs)) ≡ j
 
-further : {X : Type 0} (p : X → Bool) (x : X) (xs : List X) (j k : ℕ) → IsFrom p xs j → ((ys : List X) → length (filter p ys) ≡ j → length (filter p (x ∷ ys)) ≡ k) → IsFrom p (x ∷ xs) k
+further : {X : Type 0} (p : X → Bool) (x : X) (xs : List X) (j k : ℕ) → IsFrom X p xs j → ((ys : List X) → length (filter p ys) ≡ j → length (filter p (x ∷ ys)) ≡ k) → IsFrom X p (x ∷ xs) k
 further p x xs j k r f = record { place = suc r.place; item = r.item; at = r.at; is = r.is; rank = f (take r.place xs) r.rank }
 
-from : {X : Type 0} (p : X → Bool) (xs : List X) (j : ℕ) → j < length (filter p xs) → IsFrom p xs j
+from : {X : Type 0} (p : X → Bool) (xs : List X) (j : ℕ) → j < length (filter p xs) → IsFrom X p xs j
 from p [] j b = absurd (omega arith)
 from p (x ∷ xs) zero b = elim (either (p x)) [
   | inl e ↦ record { place = 0; item = x; at = refl; is = e; rank = refl }

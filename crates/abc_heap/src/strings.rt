@@ -1,4 +1,4 @@
-ghost use Rattle.std.specs.Prelude.{◌≡◌, [], length, get_or, IfOk};
+ghost use Rattle.std.specs.Prelude.{◌≡◌, ◌<◌, ◌-◌, [], length, get_or, IfOk};
 
 use abc_base::{Bytes, NoMemory, Table};
 use std::alloc::Global;
@@ -32,6 +32,18 @@ fn end_of(bytes: &[u8]) -> Result<u32, NoMemory>
     }
 }
 
+/// Where a string starts: where the one before it ends.
+fn start_of(ends: &[u32], i: usize) -> u32
+    requires { i < length ends.now }
+    ensures first { i ≡ 0 → result ≡ 0 }
+    ensures other { 0 < i → result ≡ get_or ends.now (i - 1) 0 }
+{
+    if i == 0 {
+        return 0;
+    }
+    ends[i - 1]
+}
+
 impl Strings {
     /// A copy of some strings.
     pub fn copy(alloc: Global, pool: &Table<Bytes>) -> Result<Strings, NoMemory>
@@ -54,7 +66,8 @@ impl Strings {
         if i >= self.ends.len() {
             return &[];
         }
-        let start = if i == 0 { 0 } else { self.ends[i - 1] };
-        &self.bytes[start as usize..self.ends[i] as usize]
+        let start = start_of(self.ends.as_slice(), i);
+        let end = self.ends[i];
+        &self.bytes[start as usize..end as usize]
     }
 }

@@ -1,5 +1,5 @@
 use Rattle.std.proofs.Common.{◌∙◌, arith}
-use Rattle.abc_heap.proofs.Buckets.{top_above, before_above, above_first, next_above, above_next}
+use Rattle.abc_heap.proofs.Lasts.{top_above, before_above, above_first, next_above, above_next}
 use Rattle.abc_heap.proofs.buckets.Buckets.above.Goals as goal
 
 pub loop-before-init : goal.loop-before-init

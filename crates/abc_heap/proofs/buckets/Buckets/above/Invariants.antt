@@ -1,6 +1,6 @@
 use Rattle.std.proofs.Common.{◌≡◌, ℕ, List, Option, Some, None, get_or}
 use Rattle.abc_heap.specs.Buckets.{AreBuckets}
-use Rattle.abc_heap.proofs.Buckets.{IsAbove}
+use Rattle.abc_heap.proofs.Lasts.{IsAbove}
 use Rattle.abc_heap.proofs.buckets.Buckets.above.Given as goal
 
 abbrev pub invariant-loop-before : goal.invariant-loop-before

@@ -1,4 +1,4 @@
-use Rattle.abc_heap.proofs.Buckets.{one_added}
+use Rattle.abc_heap.proofs.Lasts.{one_added}
 use Rattle.abc_heap.proofs.buckets.Buckets.add.Goals as goal
 
 pub returns-clause-added : goal.returns-clause-added

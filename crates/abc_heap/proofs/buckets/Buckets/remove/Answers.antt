@@ -1,5 +1,5 @@
 use Rattle.std.proofs.Common.{arith}
-use Rattle.abc_heap.proofs.Buckets.{top_above, last_gone, other_gone}
+use Rattle.abc_heap.proofs.Lasts.{top_above, last_gone, other_gone}
 use Rattle.abc_heap.proofs.buckets.Buckets.remove.Goals as goal
 
 pub returns-then-top-place-clause-removed : goal.returns-then-top-place-clause-removed

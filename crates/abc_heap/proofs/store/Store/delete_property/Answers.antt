@@ -8,7 +8,7 @@ use Rattle.abc_heap.specs.Texts.{text_in, text_of}
 use Rattle.abc_heap.specs.Properties.{with_delete, place_in}
 use Rattle.abc_heap.specs.View.{objects}
 use Rattle.abc_heap.proofs.Calls.{deleted, not_deleted, object_in, changed_by}
-use Rattle.abc_heap.proofs.Stored.{hold_gone, spot_bucket}
+use Rattle.abc_heap.proofs.Stands.{hold_gone, spot_bucket}
 use Rattle.abc_heap.proofs.store.Store.delete_property.Goals as goal
 
 pub invariant_of-self : goal.invariant_of-self

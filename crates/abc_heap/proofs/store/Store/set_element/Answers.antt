@@ -7,7 +7,7 @@ use Rattle.abc_heap.specs.Heap.{Heap, elements_of}
 use Rattle.abc_heap.specs.Changes.{with_element, change}
 use Rattle.abc_heap.specs.View.{objects}
 use Rattle.abc_heap.proofs.Flat.{elements_past}
-use Rattle.abc_heap.proofs.Stored.{hold_element}
+use Rattle.abc_heap.proofs.Stands.{hold_element}
 use Rattle.abc_heap.proofs.Writes.{element_written, changed, inside}
 use Rattle.abc_heap.proofs.store.Store.set_element.Goals as goal
 

@@ -7,7 +7,7 @@ use Rattle.abc_heap.specs.Texts.{text_in, text_of}
 use Rattle.abc_heap.specs.Properties.{with_put, place_in, cells_to_put}
 use Rattle.abc_heap.specs.View.{objects}
 use Rattle.abc_heap.proofs.Calls.{put_over, put_new, object_in, changed_by, used_is}
-use Rattle.abc_heap.proofs.Stored.{hold_put}
+use Rattle.abc_heap.proofs.Stands.{hold_put}
 use Rattle.abc_heap.proofs.store.Store.set_property.Goals as goal
 
 pub invariant_of-self : goal.invariant_of-self

@@ -7,7 +7,7 @@ use Rattle.abc_heap.specs.Heap.{Heap, slots_of}
 use Rattle.abc_heap.specs.Changes.{with_slot, change}
 use Rattle.abc_heap.specs.View.{objects}
 use Rattle.abc_heap.proofs.Flat.{slots_past}
-use Rattle.abc_heap.proofs.Stored.{hold_slot}
+use Rattle.abc_heap.proofs.Stands.{hold_slot}
 use Rattle.abc_heap.proofs.Writes.{slot_written, changed, inside}
 use Rattle.abc_heap.proofs.store.Store.set_slot.Goals as goal
 

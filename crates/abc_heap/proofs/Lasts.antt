@@ -1,8 +1,8 @@
 -- The last place in a bucket, as places come and go.
-use Rattle.std.proofs.Common.{◌≡◌, ◌≢◌, ℕ, zero, suc, ◌+◌, ◌-◌, ◌<◌, ◌≤◌, Bool, true, false, List, [], ◌∷◌, ◌++◌, Option, Some, None, length, set, get_or, refl, sym, ap, ◌∙◌, arith, ◌⊎◌, inl, inr, length-append, length-set, get_or-set_same, get_or-set_other, eqb-true, eq-eqb, ne_eqb, true≢false, nat_eq, nat_le, leb-true, leb-false, if◌then◌else◌}
+use Rattle.std.proofs.Common.{◌≡◌, ◌≢◌, ℕ, zero, suc, ◌+◌, ◌-◌, ◌<◌, ◌≤◌, Bool, true, false, List, [], ◌∷◌, ◌++◌, Option, Some, None, length, set, get_or, refl, sym, ap, ◌∙◌, arith, ◌⊎◌, inl, inr, length-append, length-set, get_or-set_same, get_or-set_other, drop, drop-cons, drop_of_length-le, ◌*◌, ◌%◌, eqb-true, eq-eqb, ne_eqb, true≢false, nat_eq, nat_le, leb-true, leb-false, if◌then◌else◌}
 use lib.ListN.{get_or-append, get_or-eq_default}
 use lib.Seq.{get_or-append_seam}
-use Rattle.abc_heap.specs.Buckets.{is_in, last_in, AreBuckets}
+use Rattle.abc_heap.specs.Buckets.{hashed, is_in, last_in, AreBuckets}
 
 pub chosen : {X : Type 0} (b : Bool) (x y : X) → b ≡ true → (if b then x else y) ≡ x
 chosen true x y e = refl
@@ -308,3 +308,15 @@ above_next ks lasts befores d p x y z a e s n ez =
     let w = next_above ks lasts befores d p x y a e s n in
     let some = w.4 in
     record { own = w.0; over = w.1; next = omega (arith, some, ez) }
+
+-- ---- the hash, byte by byte
+
+pub hash_next : (h i : ℕ) (t : List ℕ) → i < length t → hashed ((h * 65599 + get_or t i 0) % 4294967296) (drop (i + 1) t) ≡ hashed h (drop i t)
+unfolding hashed
+hash_next h i t b =
+    let n : i + 1 ≡ suc i = omega arith in
+    ap (λ k. hashed ((h * 65599 + get_or t i 0) % 4294967296) (drop k t)) n ∙ sym (ap (hashed h) (drop-cons t i 0 b))
+
+pub hash_done : (h i : ℕ) (t : List ℕ) → length t ≤ i → hashed h (drop i t) ≡ h
+unfolding hashed
+hash_done h i t b = ap (hashed h) (drop_of_length-le t b)

@@ -1,7 +1,8 @@
 -- Texts in one block.
-use Rattle.std.proofs.Common.{◌≡◌, ℕ, zero, suc, ◌+◌, ◌-◌, ◌<◌, ◌≤◌, List, [], ◌∷◌, ◌++◌, length, take, drop, get_or, refl, sym, ap, ◌∙◌, arith, length-append, take_all, drop_at}
+use Rattle.std.proofs.Common.{◌≡◌, ℕ, zero, suc, ◌+◌, ◌-◌, ◌<◌, ◌≤◌, List, [], ◌∷◌, ◌++◌, length, take, drop, get_or, refl, sym, ap, ◌∙◌, subst, arith, length-append, take_all, drop_at}
 use Rattle.std.proofs.lemmas.List.{take-append-le}
 use Rattle.abc_heap.specs.Strings.{pieces, AreEnds}
+use Rattle.abc_heap.proofs.Bytes.{take_next_or}
 
 pub ends_le : (at : ℕ) (ends : List ℕ) (n : ℕ) → AreEnds at ends n → at ≤ n
 ends_le at [] n h = omega arith
@@ -54,3 +55,16 @@ end_rises at (e ∷ ends) n (suc i) h b =
     let r = end_rises e ends n i h.1 (omega arith) in
     let s = ap (λ k. get_or (e ∷ ends) k 0) q in
     omega (arith, r, s)
+
+-- a text is copied
+pub copied_on : (pool : List (List ℕ)) (ends bytes ends' bytes' t : List ℕ) (e i : ℕ) → AreEnds 0 ends (length bytes) × (pieces 0 ends bytes ≡ take i pool) → bytes' ≡ bytes ++ t → e ≡ length bytes' → ends' ≡ ends ++ e ∷ [] → t ≡ get_or pool i t → i < length pool → AreEnds 0 ends' (length bytes') × (pieces 0 ends' bytes' ≡ take (i + 1) pool)
+copied_on pool ends bytes ends' bytes' t e i h b n q s l =
+    let long : e ≡ length (bytes ++ t) = n ∙ ap length b in
+    let more : AreEnds 0 (ends ++ e ∷ []) e = ends_more 0 ends (length bytes) e h.0 (omega (arith, long, length-append bytes t)) in (
+      subst (λ xs. AreEnds 0 xs (length bytes')) (sym q) (subst (AreEnds 0 (ends ++ e ∷ [])) n more),
+      ap (λ xs. pieces 0 xs bytes') q
+          ∙ (ap (pieces 0 (ends ++ e ∷ [])) b
+          ∙ (ap (λ k. pieces 0 (ends ++ k ∷ []) (bytes ++ t)) long
+          ∙ (pieces_more 0 ends bytes t h.0
+          ∙ (ap (λ ps. ps ++ t ∷ []) h.1 ∙ (ap (λ x. take i pool ++ x ∷ []) s ∙ take_next_or pool i t l))))),
+    )
