@@ -141,7 +141,7 @@ gone_other ks p d b n e f = last_same ks (set ks p None) b n (λ q h. elim (deci
 ])
 
 gone_below : (ks : List (Option ℕ)) (p b n : ℕ) → n ≤ p → last_in (set ks p None) b n ≡ last_in ks b n
-gone_below ks p b n l = last_same ks (set ks p None) b n (λ q h. let t : q ≢ p = omega arith in ap (is_in b) (get_or-set_other ks p q None None t))
+gone_below ks p b n l = last_same ks (set ks p None) b n (λ q h. ap (is_in b) (get_or-set_other ks p q None None (λ (z : q ≡ p). absurd (omega arith))))
 
 -- above it, the last is what was below it where it was the last, and else stays
 gone_above : (ks : List (Option ℕ)) (p d n : ℕ) → get_or ks p None ≡ Some d → p < n → (last_in ks d n ≡ p + 1 → last_in (set ks p None) d n ≡ last_in ks d p) × (last_in ks d n ≢ p + 1 → last_in (set ks p None) d n ≡ last_in ks d n)

@@ -1,5 +1,5 @@
 -- The flat lists stand for a heap, also after a call.
-use Rattle.std.proofs.Common.{◌≡◌, ℕ, ◌+◌, ◌<◌, ◌≤◌, true, List, Option, Some, None, length, set, get_or, refl, sym, ap, ◌∙◌, subst, arith}
+use Rattle.std.proofs.Common.{◌≡◌, ℕ, ◌+◌, ◌<◌, ◌≤◌, ◌^◌, true, List, [], Option, Some, None, length, replicate, set, get_or, refl, sym, ap, ◌∙◌, subst, arith}
 use Rattle.std.specs.Prelude.{slice_get}
 use Rattle.abc_cells.specs.Filling.{Filling}
 use Rattle.abc_cells.specs.declared.cell.Cell.{Cell}
@@ -24,7 +24,7 @@ use Rattle.abc_heap.specs.Properties.{valued, is_named}
 use Rattle.abc_heap.specs.Spots.{IsSpot}
 use Rattle.abc_heap.specs.View.{objects, AreHeads, IsStored}
 use Rattle.abc_heap.proofs.Flat.{property_read}
-use Rattle.abc_heap.proofs.Indexed.{IsNameIn, index_held, index_gone, key_at}
+use Rattle.abc_heap.proofs.Indexed.{IsNameIn, index_held, index_gone, index_empty, key_at}
 use Rattle.abc_heap.proofs.Searches.{found_named, named_bucket}
 use Rattle.abc_heap.proofs.Writes.{hold_keeps, inside, cell_in}
 
@@ -107,3 +107,26 @@ hold_gone hs cs new ss fixed ts strings b b' m o d t x s in_heads spot key e goe
       limits = kept.1;
       index = index_gone fixed ts.items strings cs new b b' x.place d w.0 Deleted s.index w.1 e refl (sym (key_at n f cs.items x.place w.0 w.1) ∙ (spot_bucket hs.items cs.items o n f t x s.heads in_heads spot ∙ ap Some (sym key))) goes sizes;
     }
+
+-- at first there is nothing
+pub empty_stored : (hs : Filling Head) (cs : Filling Cell) (ss : Filling ScopeNode) (fixed : List ℕ) (ts : Filling ℕ) (strings : List (List ℕ)) (b : Buckets) (m : Limits) (n : ℕ) → hs ≡ record { items = []; limit = m.objects } → cs ≡ record { items = []; limit = m.cells } → ss ≡ record { items = []; limit = m.cells } → ts ≡ record { items = []; limit = m.text } → m.cells < 2 ^ 32 → 0 < n → b.lasts.items ≡ replicate n 0 → b.befores.items ≡ replicate m.cells 0 → IsStored hs cs ss fixed ts strings b m
+empty_stored hs cs ss fixed ts strings b m n eh ec es et small some lasts befores =
+    let no_heads : hs.items ≡ [] = ap (λ (f : Filling Head). f.items) eh in
+    let no_cells : cs.items ≡ [] = ap (λ (f : Filling Cell). f.items) ec in
+    let no_texts : ts.items ≡ [] = ap (λ (f : Filling ℕ). f.items) et in
+    let limit : cs.limit ≡ m.cells = ap (λ (f : Filling Cell). f.limit) ec in
+    record {
+      heads = subst (λ xs. AreHeads (links xs) hs.items) (sym no_cells) (subst (AreHeads []) (sym no_heads) nothing);
+      limits = record {
+        objects = ap (λ (f : Filling Head). f.limit) eh;
+        cells = limit;
+        scopes = ap (λ (f : Filling ScopeNode). f.limit) es;
+        text = ap (λ (f : Filling ℕ). f.limit) et;
+        within = omega (arith, ap length no_cells, ap (λ (f : Filling ScopeNode). length f.items) es);
+        small = small;
+      };
+      index = subst (λ t. IsIndexed fixed t strings cs b) (sym no_texts) (index_empty fixed strings cs b n m.cells no_cells (omega (arith, limit)) some lasts befores);
+    }
+  where
+    nothing : AreHeads [] []
+    nothing = record { linked = λ i x e. absurd cc; heads = λ o h e. absurd cc; owners = λ i x e. absurd cc }

@@ -54,7 +54,8 @@ pub fn place_of_name(
     requires inside { o < length heads.now.items }
     ensures { MatchOption result (place_named (text_in fixed.now made.now strings.now) text.now (properties_of (objects cells.now.items 0 heads.now.items) o) ≡ None) (λ s. IsSpot (text_in fixed.now made.now strings.now) text.now cells.now.items heads.now.items o s) }
 {
-    if head_at(heads, o).properties.count == 0 {
+    let count = head_at(heads, o).properties.count;
+    if count == 0 {
         return None;
     }
     let mut left = buckets.last(buckets.of(o, text));

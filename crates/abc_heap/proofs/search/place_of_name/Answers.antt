@@ -2,6 +2,7 @@ use Rattle.std.proofs.Common.{sym, length, arith, ◌∙◌, ◌-◌}
 use Rattle.abc_heap.specs.Heap.{properties_of}
 use Rattle.abc_heap.specs.View.{objects}
 use Rattle.abc_heap.specs.Texts.{text_in}
+use Rattle.abc_heap.proofs.Calls.{properties_counted}
 use Rattle.abc_heap.proofs.Searches.{search_start, search_on, search_found, search_none, search_falls, search_within, search_empty}
 use Rattle.abc_heap.proofs.search.place_of_name.Goals as goal
 
@@ -22,3 +23,11 @@ loop-left-preserved c = search_on c.args.fixed.now c.args.made.now c.args.string
 
 pub loop-left-smaller : goal.loop-left-smaller
 loop-left-smaller c = search_falls c.args.fixed.now c.args.made.now c.args.strings.now c.args.cells.now c.args.buckets.now c.args.o c.args.text.now c.loop-left.left _ c.requires.index c.loop-left.invariant c.loop-left-test.true c.before.ensures
+
+pub returns-then-count-eq0 : goal.returns-then-count-eq0
+returns-then-count-eq0 c =
+    let n = properties_counted c.args.cells.now.items c.args.heads.now.items c.args.o _ c.requires.heads c.head_at.ensures in
+    search_empty (text_in c.args.fixed.now c.args.made.now c.args.strings.now) c.args.text.now (properties_of (objects c.args.cells.now.items 0 c.args.heads.now.items) c.args.o) (sym n ∙ c.if-count-eq0.true)
+
+pub returns : goal.returns
+returns c = search_none c.args.cells.now.items c.args.heads.now.items (length c.args.buckets.now.lasts.items) c.args.o (text_in c.args.fixed.now c.args.made.now c.args.strings.now) c.args.text.now c.loop-left.left c.requires.inside c.loop-left.invariant (omega arith)
