@@ -246,7 +246,7 @@ impl Store {
     pub fn add_property(&mut self, o: ObjId, name: Span, v: Value)
         requires inside { o.0 < length self.old.objects }
         requires name { IsText self.old.strings self.old name }
-        requires room { HasRoomFor self.old 0 1 }
+        requires room { cells_used self.old + 1 ≤ self.old.limits.cells }
         ensures { self.new ≡ with_object (with_new_property name v) o.0 self.old }
     {
         let bucket = bucket_of_name(
@@ -447,7 +447,7 @@ impl Store {
     fn add_element(&mut self, o: ObjId, v: Value)
         requires inside { o.0 < length self.old.objects }
         requires array { is_array (object_at self.old.objects o.0).what ≡ true }
-        requires room { HasRoomFor self.old 0 1 }
+        requires room { cells_used self.old + 1 ≤ self.old.limits.cells }
         ensures { self.new ≡ with_object (with_new_element v) o.0 self.old }
     {
         add_element(&mut self.heads, &mut self.cells, o.0, v);

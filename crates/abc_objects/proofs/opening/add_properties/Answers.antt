@@ -13,7 +13,7 @@ pub add_property-requires-clause-inside : goal.add_property-requires-clause-insi
 add_property-requires-clause-inside c = (property_room c.args.store.now _ c.args.o.0 c.loop-name.name-index (length c.args.names.now) c.args.names.now c.loop-name.invariant.0 c.loop-name-test.true refl c.requires.inside c.requires.room).0
 
 pub add_property-requires-clause-room : goal.add_property-requires-clause-room
-add_property-requires-clause-room c = (property_room c.args.store.now _ c.args.o.0 c.loop-name.name-index (length c.args.names.now) c.args.names.now c.loop-name.invariant.0 c.loop-name-test.true refl c.requires.inside c.requires.room).1
+add_property-requires-clause-room c = (property_room c.args.store.now _ c.args.o.0 c.loop-name.name-index (length c.args.names.now) c.args.names.now c.loop-name.invariant.0 c.loop-name-test.true refl c.requires.inside c.requires.room).1.1
 
 pub add_property-requires-clause-name : goal.add_property-requires-clause-name
 add_property-requires-clause-name c = start_within c.args.names.now c.loop-name.name-index _ _ _ _ c.loop-name-test.true c.loop-name.invariant.1 (c.len-size.ensures ∙ ap length c.name-item.is) (omega (arith, c.requires.bytes, ap (λ (h : Heap). length h.fixed) c.loop-name.invariant.0))

@@ -11,7 +11,7 @@ pub add_element-requires-clause-inside : goal.add_element-requires-clause-inside
 add_element-requires-clause-inside c = (element_fits c.args.self.now _ (take c.loop-element.element-index c.args.elements.now) c.args.o.0 c.loop-element.element-index (length c.args.elements.now) c.requires.inside c.requires.room c.loop-element-test.true (omega (arith, length-take c.loop-element.element-index c.args.elements.now, c.loop-element-test.true)) c.loop-element.invariant).0
 
 pub add_element-requires-clause-room : goal.add_element-requires-clause-room
-add_element-requires-clause-room c = (element_fits c.args.self.now _ (take c.loop-element.element-index c.args.elements.now) c.args.o.0 c.loop-element.element-index (length c.args.elements.now) c.requires.inside c.requires.room c.loop-element-test.true (omega (arith, length-take c.loop-element.element-index c.args.elements.now, c.loop-element-test.true)) c.loop-element.invariant).1
+add_element-requires-clause-room c = (element_fits c.args.self.now _ (take c.loop-element.element-index c.args.elements.now) c.args.o.0 c.loop-element.element-index (length c.args.elements.now) c.requires.inside c.requires.room c.loop-element-test.true (omega (arith, length-take c.loop-element.element-index c.args.elements.now, c.loop-element-test.true)) c.loop-element.invariant).1.1
 
 pub add_element-requires-clause-array : goal.add_element-requires-clause-array
 add_element-requires-clause-array c = array_stays c.args.self.now _ (take c.loop-element.element-index c.args.elements.now) c.args.o.0 c.requires.array c.loop-element.invariant

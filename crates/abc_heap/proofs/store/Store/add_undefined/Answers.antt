@@ -12,7 +12,7 @@ pub add_element-requires-clause-inside : goal.add_element-requires-clause-inside
 add_element-requires-clause-inside c = (element_fits c.args.self.now _ (replicate c.loop.counter Undefined) c.args.o.0 c.loop.counter c.args.count c.requires.inside c.requires.room (omega arith) (length-replicate c.loop.counter Undefined) c.loop.invariant.1).0
 
 pub add_element-requires-clause-room : goal.add_element-requires-clause-room
-add_element-requires-clause-room c = (element_fits c.args.self.now _ (replicate c.loop.counter Undefined) c.args.o.0 c.loop.counter c.args.count c.requires.inside c.requires.room (omega arith) (length-replicate c.loop.counter Undefined) c.loop.invariant.1).1
+add_element-requires-clause-room c = (element_fits c.args.self.now _ (replicate c.loop.counter Undefined) c.args.o.0 c.loop.counter c.args.count c.requires.inside c.requires.room (omega arith) (length-replicate c.loop.counter Undefined) c.loop.invariant.1).1.1
 
 pub add_element-requires-clause-array : goal.add_element-requires-clause-array
 add_element-requires-clause-array c = array_stays c.args.self.now _ (replicate c.loop.counter Undefined) c.args.o.0 c.requires.array c.loop.invariant.1

@@ -32,6 +32,11 @@ returns-then-len-self c =
     let used = used_is _ c.args.self.now c.self.inside.cells.items c.self.inside.heads.items c.self.view_is refl c.self.invariant.heads in
     (refl, omega (arith, used, ap cells_to_put none, c.len.ensures.len, c.len-in-None.ensures.len, ap (λ (h : Heap). h.limits.cells) c.self.view_is), refl)
 
+pub add_property-requires-clause-room : goal.add_property-requires-clause-room
+add_property-requires-clause-room c =
+    let used = used_is _ c.args.self.now c.self.inside.cells.items c.self.inside.heads.items c.self.view_is refl c.self.invariant.heads in
+    omega (arith, used, c.self.invariant.limits.within, c.len.ensures.len, c.len-in-None.ensures.len, ap (λ (h : Heap). h.limits.cells) c.self.view_is)
+
 pub returns-else-len-self : goal.returns-else-len-self
 returns-else-len-self c =
     let f = text_of c.args.self.now.strings c.args.self.now in
