@@ -35,10 +35,10 @@ last_in ks b zero = 0
 last_in ks b (suc n) = if is_in b (get_or ks n None) then suc n else last_in ks b n
 
 -- what is known of each bucket and of each place in one
-pub record AreBuckets (ks : List (Option ℕ)) (lasts : List ℕ) (befores : List ℕ) : Type 0 where
-  pub lasts : (b : ℕ) → b < length lasts → get_or lasts b 0 ≡ last_in ks b (length ks)
-  pub befores : (p b : ℕ) → get_or ks p None ≡ Some b → get_or befores p 0 ≡ last_in ks b p
-  pub room : length ks ≤ length befores
+pub record AreBuckets (ks : List (Option ℕ)) (ls : List ℕ) (bs : List ℕ) : Type 0 where
+  pub lasts : (b : ℕ) → b < length ls → get_or ls b 0 ≡ last_in ks b (length ks)
+  pub befores : (p b : ℕ) → get_or ks p None ≡ Some b → get_or bs p 0 ≡ last_in ks b p
+  pub room : length ks ≤ length bs
 
 -- each property's name is a text
 abbrev pub AreNamesIn : List ℕ → List ℕ → List (List ℕ) → List Cell → Type 0

@@ -3,7 +3,7 @@ ghost use Rattle.abc_cells.specs.Lanes.{property_in};
 ghost use Rattle.abc_cells.specs.Links.{links};
 ghost use Rattle.abc_cells.specs.declared.values.Span.{Span};
 ghost use Rattle.abc_cells.specs.declared.values.Value.{Value};
-ghost use Rattle.abc_heap.specs.Buckets.{IsIndexed, bucket};
+ghost use Rattle.abc_heap.specs.Buckets.{IsIndexed, bucket as the_bucket};
 ghost use Rattle.abc_heap.specs.Heap.{properties_of};
 ghost use Rattle.abc_heap.specs.Texts.{text_in, IsTextIn};
 ghost use Rattle.abc_heap.specs.Properties.{place_named, is_named};
@@ -107,7 +107,7 @@ pub fn bucket_of_name(
 ) -> usize
     requires some { 0 < length buckets.now.lasts.items }
     requires name { IsTextIn fixed.now made.now.items strings.now name }
-    ensures bucket { result ≡ bucket (length buckets.now.lasts.items) o (text_in fixed.now made.now.items strings.now name) }
+    ensures bucket { result ≡ the_bucket (length buckets.now.lasts.items) o (text_in fixed.now made.now.items strings.now name) }
     ensures inside { result < length buckets.now.lasts.items }
 {
     let text = bytes_in(fixed.as_slice(), made.as_slice(), strings, name);
