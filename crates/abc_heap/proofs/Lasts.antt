@@ -320,3 +320,6 @@ hash_next h i t b =
 pub hash_done : (h i : ℕ) (t : List ℕ) → length t ≤ i → hashed h (drop i t) ≡ h
 unfolding hashed
 hash_done h i t b = ap (hashed h) (drop_of_length-le t b)
+
+pub in_befores : (ks : List (Option ℕ)) (lasts befores : List ℕ) (d x : ℕ) → AreBuckets ks lasts befores → get_or ks x None ≡ Some d → x < length befores
+in_befores ks lasts befores d x a e = omega (arith, within ks x d e, a.room)

@@ -15,7 +15,7 @@ pub invariant_of-self : goal.invariant_of-self
 invariant_of-self c =
     let inside = c.self.inside in
     let b = object_in inside.cells.items inside.heads.items c.args.self.now c.args.o.0 (ap (λ (h : Heap). h.objects) c.self.view_is) c.requires.inside in
-    hold_gone inside.heads inside.cells _ inside.scopes inside.fixed inside.made inside.strings inside.buckets c.remove.new.buckets inside.limits c.args.o.0 c.bucket_of_name-bucket.result (text_in inside.fixed inside.made.items inside.strings c.args.name) c.in-Some.spot c.self.invariant b c.in-Some.ensures c.bucket_of_name-bucket.ensures.bucket c.hold.ensures c.remove.ensures.removed c.remove.ensures.sizes
+    hold_gone inside.heads inside.cells _ inside.scopes inside.fixed inside.made inside.strings inside.buckets c.remove.new.self inside.limits c.args.o.0 c.bucket_of_name-bucket.result (text_in inside.fixed inside.made.items inside.strings c.args.name) c.in-Some.spot c.self.invariant b c.in-Some.ensures c.bucket_of_name-bucket.ensures.bucket c.hold.ensures c.remove.ensures.removed c.remove.ensures.sizes
 
 pub remove-requires-clause-place : goal.remove-requires-clause-place
 remove-requires-clause-place c =
