@@ -57,8 +57,8 @@ end_rises at (e ∷ ends) n (suc i) h b =
     omega (arith, r, s)
 
 -- a text is copied
-pub copied_on : (pool : List (List ℕ)) (ends bytes ends' bytes' t : List ℕ) (e i : ℕ) → AreEnds 0 ends (length bytes) × (pieces 0 ends bytes ≡ take i pool) → bytes' ≡ bytes ++ t → e ≡ length bytes' → ends' ≡ ends ++ e ∷ [] → t ≡ get_or pool i t → i < length pool → AreEnds 0 ends' (length bytes') × (pieces 0 ends' bytes' ≡ take (i + 1) pool)
-copied_on pool ends bytes ends' bytes' t e i h b n q s l =
+pub copied_on : (pool : List (List ℕ)) (ends bytes ends' bytes' t d : List ℕ) (e i : ℕ) → AreEnds 0 ends (length bytes) × (pieces 0 ends bytes ≡ take i pool) → bytes' ≡ bytes ++ t → e ≡ length bytes' → ends' ≡ ends ++ e ∷ [] → t ≡ get_or pool i d → i < length pool → AreEnds 0 ends' (length bytes') × (pieces 0 ends' bytes' ≡ take (i + 1) pool)
+copied_on pool ends bytes ends' bytes' t d e i h b n q s l =
     let long : e ≡ length (bytes ++ t) = n ∙ ap length b in
     let more : AreEnds 0 (ends ++ e ∷ []) e = ends_more 0 ends (length bytes) e h.0 (omega (arith, long, length-append bytes t)) in (
       subst (λ xs. AreEnds 0 xs (length bytes')) (sym q) (subst (AreEnds 0 (ends ++ e ∷ [])) n more),
@@ -66,5 +66,5 @@ copied_on pool ends bytes ends' bytes' t e i h b n q s l =
           ∙ (ap (pieces 0 (ends ++ e ∷ [])) b
           ∙ (ap (λ k. pieces 0 (ends ++ k ∷ []) (bytes ++ t)) long
           ∙ (pieces_more 0 ends bytes t h.0
-          ∙ (ap (λ ps. ps ++ t ∷ []) h.1 ∙ (ap (λ x. take i pool ++ x ∷ []) s ∙ take_next_or pool i t l))))),
+          ∙ (ap (λ ps. ps ++ t ∷ []) h.1 ∙ (ap (λ x. take i pool ++ x ∷ []) s ∙ take_next_or pool i d l))))),
     )

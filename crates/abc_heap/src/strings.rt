@@ -7,7 +7,7 @@ use std::marker::Model;
 /// A copy of the strings of a file, one after the other in one block, each with its end there.
 #[derive(Debug, Drop)]
 pub struct Strings {
-    bytes: Vec<u8>,
+    bytes: Bytes,
     ends: Vec<u32>,
 }
 
@@ -17,19 +17,33 @@ impl Model for Strings {
 
     ghost Value = { List (List ℕ) };
 
-    ghost view = { λ s. pieces 0 s.ends.items s.bytes.items };
+    ghost view = { λ s. pieces 0 s.ends.items s.bytes };
 
-    ghost invariant = { λ s. AreEnds 0 s.ends.items (length s.bytes.items) };
+    ghost invariant = { λ s. AreEnds 0 s.ends.items (length s.bytes) };
 }
 
 /// The end of some bytes. Where it has more than 32 bits, memory is said to run out.
-fn end_of(bytes: &[u8]) -> Result<u32, NoMemory>
+fn end_of(bytes: &Bytes) -> Result<u32, NoMemory>
     ensures { IfOk result (λ e. e ≡ length bytes.now) }
 {
     match u32::try_from(bytes.len()) {
         Ok(end) => Ok(end),
         Err(_) => Err(NoMemory),
     }
+}
+
+/// A copy of some texts.
+fn copied(alloc: Global, texts: &[Bytes]) -> Result<Strings, NoMemory>
+    ensures { IfOk result (λ s. s ≡ texts.now) }
+{
+    let mut bytes = Bytes::new(alloc);
+    let mut ends = Vec::with_capacity(alloc, texts.len())?;
+    for text in texts {
+        bytes.extend_from_slice(text.as_slice())?;
+        let end = end_of(&bytes)?;
+        ends.push(end)?;
+    }
+    Ok(Strings { bytes, ends })
 }
 
 /// Where a string starts: where the one before it ends.
@@ -49,14 +63,7 @@ impl Strings {
     pub fn copy(alloc: Global, pool: &Table<Bytes>) -> Result<Strings, NoMemory>
         ensures { IfOk result (λ s. s ≡ pool.now) }
     {
-        let mut bytes = Vec::new(alloc);
-        let mut ends = Vec::with_capacity(alloc, pool.len())?;
-        for text in pool.as_slice() {
-            bytes.extend_from_slice(text.as_slice())?;
-            let end = end_of(bytes.as_slice())?;
-            ends.push(end)?;
-        }
-        Ok(Strings { bytes, ends })
+        copied(alloc, pool.as_slice())
     }
 
     /// A string, by its position, or no bytes past the last.
@@ -68,6 +75,6 @@ impl Strings {
         }
         let start = start_of(self.ends.as_slice(), i);
         let end = self.ends[i];
-        &self.bytes[start as usize..end as usize]
+        &self.bytes.as_slice()[start as usize..end as usize]
     }
 }
