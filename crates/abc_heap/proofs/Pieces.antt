@@ -68,3 +68,13 @@ copied_on pool ends bytes ends' bytes' t d e i h b n q s l =
           ∙ (pieces_more 0 ends bytes t h.0
           ∙ (ap (λ ps. ps ++ t ∷ []) h.1 ∙ (ap (λ x. take i pool ++ x ∷ []) s ∙ take_next_or pool i d l))))),
     )
+
+-- where a text lies in the block
+pub start_in : (ends : List ℕ) (n i start : ℕ) → AreEnds 0 ends n → i < length ends → (i ≡ 0 → start ≡ 0) → (0 < i → start ≡ get_or ends (i - 1) 0) → (start ≤ get_or ends i 0) × (get_or ends i 0 ≤ n)
+start_in ends n zero start h b first other = let r = end_in 0 ends n 0 h b in (omega (arith, first refl, r.0), r.1)
+start_in ends n (suc i) start h b first other =
+    let q : suc i - 1 ≡ i = omega arith in
+    let s : start ≡ get_or ends i 0 = other (omega arith) ∙ ap (λ k. get_or ends k 0) q in
+    let z : suc i ≡ i + 1 = omega arith in
+    let r = end_rises 0 ends n i h (omega arith) in
+    (omega (arith, s, r, ap (λ k. get_or ends k 0) z), (end_in 0 ends n (suc i) h b).1)

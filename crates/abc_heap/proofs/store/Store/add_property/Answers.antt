@@ -38,3 +38,6 @@ invariant_of-self c =
       };
       index = index_one c.self.inside.fixed c.self.inside.made.items c.self.inside.strings c.self.inside.cells c.add_property.new.cells c.self.inside.buckets c.add.new.self c.args.o.0 c.len-place.result c.bucket_of_name-bucket.result (Property c.args.name c.args.v) c.args.name c.args.v c.self.invariant.index c.add_property.ensures.added refl sizes.cells_limit (subst (λ (h : Heap). IsText h.strings h c.args.name) (sym c.self.view_is) c.requires.name) c.len-place.ensures.len c.bucket_of_name-bucket.ensures.bucket c.add.ensures.added c.add.ensures.sizes;
     }
+
+pub bucket_of_name-bucket-requires-clause-name : goal.bucket_of_name-bucket-requires-clause-name
+bucket_of_name-bucket-requires-clause-name c = subst (λ (h : Heap). IsText h.strings h c.args.name) (sym c.self.view_is) c.requires.name

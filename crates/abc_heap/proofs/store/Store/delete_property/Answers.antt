@@ -1,10 +1,10 @@
-use Rattle.std.proofs.Common.{◌≡◌, ◌∙◌, ap, refl, sym, subst, length, None, Some}
+use Rattle.std.proofs.Common.{◌≡◌, ◌∙◌, ap, refl, sym, subst, length, is_some, None, Some}
 use Rattle.abc_cells.specs.Filling.{Filling}
 use Rattle.abc_cells.specs.declared.cell.Cell.{Cell}
 use Rattle.abc_cells.specs.declared.cell.Held.TheVariants.{Deleted}
 use Rattle.abc_heap.specs.Buckets.{buckets_of}
 use Rattle.abc_heap.specs.Heap.{Heap}
-use Rattle.abc_heap.specs.Texts.{text_in, text_of}
+use Rattle.abc_heap.specs.Texts.{text_in, text_of, IsText}
 use Rattle.abc_heap.specs.Properties.{with_delete, place_in}
 use Rattle.abc_heap.specs.View.{objects}
 use Rattle.abc_heap.proofs.Calls.{deleted, not_deleted, object_in, changed_by}
@@ -38,3 +38,18 @@ returns-in-None-clause-heap c =
     let f = text_of c.args.self.now.strings c.args.self.now in
     let none : place_in c.args.self.now.strings c.args.self.now c.args.o.0 c.args.name ≡ None = subst (λ (h : Heap). place_in h.strings h c.args.o.0 c.args.name ≡ None) c.self.view_is c.in-None.ensures in
     sym (ap (λ obs. record c.args.self.now { objects = obs }) (not_deleted c.args.self.now.objects c.args.o.0 f (f c.args.name) none))
+
+pub find-requires-clause-name : goal.find-requires-clause-name
+find-requires-clause-name c = subst (λ (h : Heap). IsText h.strings h c.args.name) (sym c.self.view_is) c.requires.name
+
+pub bucket_of_name-bucket-requires-clause-name : goal.bucket_of_name-bucket-requires-clause-name
+bucket_of_name-bucket-requires-clause-name c = subst (λ (h : Heap). IsText h.strings h c.args.name) (sym c.self.view_is) c.requires.name
+
+pub find-requires-clause-index : goal.find-requires-clause-index
+find-requires-clause-index c = c.self.invariant.index
+
+pub returns-in-Some-clause-was : goal.returns-in-Some-clause-was
+returns-in-Some-clause-was c = sym (ap is_some (subst (λ (h : Heap). place_in h.strings h c.args.o.0 c.args.name ≡ Some c.in-Some.spot.position) c.self.view_is c.in-Some.ensures.is))
+
+pub returns-in-None-clause-was : goal.returns-in-None-clause-was
+returns-in-None-clause-was c = sym (ap is_some (subst (λ (h : Heap). place_in h.strings h c.args.o.0 c.args.name ≡ None) c.self.view_is c.in-None.ensures))

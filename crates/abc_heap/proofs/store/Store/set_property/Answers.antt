@@ -1,9 +1,9 @@
-use Rattle.std.proofs.Common.{◌≡◌, ◌∙◌, ap, refl, subst, None, Some, arith}
+use Rattle.std.proofs.Common.{◌≡◌, ◌∙◌, ap, refl, sym, subst, None, Some, arith}
 use Rattle.abc_cells.specs.Filling.{Filling}
 use Rattle.abc_cells.specs.declared.cell.Cell.{Cell}
 use Rattle.abc_cells.specs.declared.cell.Lane.TheVariants.{Properties}
 use Rattle.abc_heap.specs.Heap.{Heap}
-use Rattle.abc_heap.specs.Texts.{text_in, text_of}
+use Rattle.abc_heap.specs.Texts.{text_in, text_of, IsText}
 use Rattle.abc_heap.specs.Properties.{with_put, place_in, cells_to_put}
 use Rattle.abc_heap.specs.View.{objects}
 use Rattle.abc_heap.proofs.Calls.{put_over, put_new, object_in, changed_by, used_is}
@@ -45,3 +45,9 @@ returns-else-len-self c =
       omega (arith, used, ap cells_to_put none, c.self.invariant.limits.within, c.len.ensures.len, c.len-in-None.ensures.len, ap (λ (h : Heap). h.limits.cells) c.self.view_is),
       c.add_property.ensures ∙ ap (λ obs. record c.args.self.now { objects = obs }) (put_new c.args.self.now.objects c.args.o.0 f (f c.args.name) c.args.name c.args.v none),
     )
+
+pub find-requires-clause-name : goal.find-requires-clause-name
+find-requires-clause-name c = subst (λ (h : Heap). IsText h.strings h c.args.name) (sym c.self.view_is) c.requires.name
+
+pub find-requires-clause-index : goal.find-requires-clause-index
+find-requires-clause-index c = c.self.invariant.index
