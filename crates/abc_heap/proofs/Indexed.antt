@@ -21,6 +21,10 @@ use Rattle.abc_heap.proofs.Lasts.{none_added}
 use Rattle.abc_heap.proofs.Growth.{set_read}
 use Rattle.abc_heap.proofs.Pieces.{front}
 
+-- what two options hold that are equal
+pub same_some : {X : Type 0} (x y : X) → ◌≡◌ {A = Option X} (Some x) (Some y) → x ≡ y
+same_some x y e = cc
+
 pub key_at : (n : ℕ) (f : Span → List ℕ) (cells : List Cell) (i : ℕ) (c : Cell) → slice_get cells i ≡ Some c → get_or (buckets_of n f cells) i None ≡ bucket_of n f c.owner (property_in c.held)
 key_at n f (x ∷ cells) zero c e = let q : x ≡ c = cc in ap (λ (y : Cell). bucket_of n f y.owner (property_in y.held)) q
 key_at n f (x ∷ cells) (suc i) c e = key_at n f cells i c e
@@ -128,7 +132,7 @@ index_one fixed made strings cs new b b' o place d h name v x (c, is, own, held)
     }
   where
     the_text : (m : Span) (w : Value) → ◌≡◌ {A = Option (Span × Value)} (Some (name, v)) (Some (m, w)) → IsTextIn fixed made strings m
-    the_text m w e = let q : name ≡ m = cc in subst (IsTextIn fixed made strings) q text
+    the_text m w e = subst (IsTextIn fixed made strings) (ap (λ (p : Span × Value). p.0) (same_some (name, v) (m, w) e)) text
 
 -- more texts are made
 pub text_more : (fixed made more : List ℕ) (strings : List (List ℕ)) (p start n : ℕ) → start + n ≤ length (part_of fixed made strings p) → take n (drop start (part_of fixed (made ++ more) strings p)) ≡ take n (drop start (part_of fixed made strings p))
@@ -166,8 +170,8 @@ pub index_empty : (fixed : List ℕ) (strings : List (List ℕ)) (cs : Filling C
 index_empty fixed strings cs b n m none limit some lasts befores = record {
   names = λ i c s v e p. no_cell (sym (ap (λ xs. slice_get xs i) none) ∙ e);
   buckets = subst (λ ks. AreBuckets ks b.lasts.items b.befores.items) (sym (ap (buckets_of (length b.lasts.items) (text_in fixed [] strings)) none)) nothing;
-  some = omega (arith, ap length lasts, length-replicate n 0);
-  room = omega (arith, ap length befores, length-replicate m 0);
+  some = omega (arith, ap length lasts, length-replicate {A = ℕ} n 0);
+  room = omega (arith, ap length befores, length-replicate {A = ℕ} m 0);
 }
   where
     no_cell : {X Y : Type 0} {p : X} → ◌≡◌ {A = Option X} None (Some p) → Y
@@ -175,7 +179,7 @@ index_empty fixed strings cs b n m none limit some lasts befores = record {
 
     nothing : AreBuckets [] b.lasts.items b.befores.items
     nothing = record {
-      lasts = λ d h. ap (λ xs. get_or xs d 0) lasts ∙ get_or-replicate n d 0 0 (omega (arith, h, ap length lasts, length-replicate n 0));
+      lasts = λ d h. ap (λ xs. get_or xs d 0) lasts ∙ get_or-replicate n d 0 0 (omega (arith, h, ap length lasts, length-replicate {A = ℕ} n 0));
       befores = λ p d e. no_cell e;
       room = omega arith;
     }

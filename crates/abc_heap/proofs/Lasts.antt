@@ -285,12 +285,20 @@ before_above ks lasts befores d p x a e ex l =
     let b = a.befores x d ex in
     (omega (arith, b, last_covers ks d x p l e), omega (arith, b, last_le ks d x), omega (arith, within ks x d ex, a.room))
 
-pub above_first : (ks : List (Option ℕ)) (lasts befores : List ℕ) (d p x y : ℕ) → AreBuckets ks lasts befores → d < length lasts → get_or ks p None ≡ Some d → p + 1 < get_or lasts d 0 → x ≡ get_or lasts d 0 - 1 → y ≡ get_or befores x 0 - 1 → IsAbove ks befores d p x y
+pub above_first : (ks : List (Option ℕ)) (lasts befores : List ℕ) (d p x y : ℕ) → AreBuckets ks lasts befores → d < length lasts → get_or ks p None ≡ Some d → p + 1 < get_or lasts d 0 → x + 1 ≡ get_or lasts d 0 → y + 1 ≡ get_or befores x 0 → IsAbove ks befores d p x y
 above_first ks lasts befores d p x y a i e more ex ey =
-    let own : get_or ks x None ≡ Some d = ap (λ k. get_or ks k None) ex ∙ (top_above ks lasts befores d p a i e).1 in
+    let q : x ≡ get_or lasts d 0 - 1 = omega arith in
+    let own : get_or ks x None ≡ Some d = ap (λ k. get_or ks k None) q ∙ (top_above ks lasts befores d p a i e).1 in
+    let over : p < x = omega arith in
+    record { own = own; over = over; next = ey }
+
+pub first_in : (ks : List (Option ℕ)) (lasts befores : List ℕ) (d p x : ℕ) → AreBuckets ks lasts befores → d < length lasts → get_or ks p None ≡ Some d → p + 1 < get_or lasts d 0 → x + 1 ≡ get_or lasts d 0 → (x < length befores) × (0 < get_or befores x 0)
+first_in ks lasts befores d p x a i e more ex =
+    let q : x ≡ get_or lasts d 0 - 1 = omega arith in
+    let own : get_or ks x None ≡ Some d = ap (λ k. get_or ks k None) q ∙ (top_above ks lasts befores d p a i e).1 in
     let over : p < x = omega arith in
     let b = before_above ks lasts befores d p x a e own over in
-    record { own = own; over = over; next = omega (arith, b) }
+    (b.2, omega (arith, b))
 
 pub next_above : (ks : List (Option ℕ)) (lasts befores : List ℕ) (d p x y : ℕ) → AreBuckets ks lasts befores → get_or ks p None ≡ Some d → IsAbove ks befores d p x y → y ≢ p → (get_or ks y None ≡ Some d) × (p < y) × (y < x) × (y < length befores) × (0 < get_or befores y 0)
 next_above ks lasts befores d p x y a e s n =
@@ -303,19 +311,18 @@ next_above ks lasts befores d p x y a e s n =
     let w = before_above ks lasts befores d p y a e own over in
     (own, over, omega (arith, next, b), w.2, omega (arith, w))
 
-pub above_next : (ks : List (Option ℕ)) (lasts befores : List ℕ) (d p x y z : ℕ) → AreBuckets ks lasts befores → get_or ks p None ≡ Some d → IsAbove ks befores d p x y → y ≢ p → z ≡ get_or befores y 0 - 1 → IsAbove ks befores d p y z
+pub above_next : (ks : List (Option ℕ)) (lasts befores : List ℕ) (d p x y z : ℕ) → AreBuckets ks lasts befores → get_or ks p None ≡ Some d → IsAbove ks befores d p x y → y ≢ p → z + 1 ≡ get_or befores y 0 → IsAbove ks befores d p y z
 above_next ks lasts befores d p x y z a e s n ez =
     let w = next_above ks lasts befores d p x y a e s n in
-    let some = w.4 in
-    record { own = w.0; over = w.1; next = omega (arith, some, ez) }
+    record { own = w.0; over = w.1; next = ez }
 
 -- ---- the hash, byte by byte
 
-pub hash_next : (h i : ℕ) (t : List ℕ) → i < length t → hashed ((h * 65599 + get_or t i 0) % 4294967296) (drop (i + 1) t) ≡ hashed h (drop i t)
+pub hash_next : (h i d : ℕ) (t : List ℕ) → i < length t → hashed ((h * 65599 + get_or t i d) % 4294967296) (drop (i + 1) t) ≡ hashed h (drop i t)
 unfolding hashed
-hash_next h i t b =
+hash_next h i d t b =
     let n : i + 1 ≡ suc i = omega arith in
-    ap (λ k. hashed ((h * 65599 + get_or t i 0) % 4294967296) (drop k t)) n ∙ sym (ap (hashed h) (drop-cons t i 0 b))
+    ap (λ k. hashed ((h * 65599 + get_or t i d) % 4294967296) (drop k t)) n ∙ sym (ap (hashed h) (drop-cons t i d b))
 
 pub hash_done : (h i : ℕ) (t : List ℕ) → length t ≤ i → hashed h (drop i t) ≡ h
 unfolding hashed

@@ -24,7 +24,7 @@ use Rattle.abc_heap.specs.Texts.{text_in}
 use Rattle.abc_heap.specs.Properties.{is_named, place_below, place_named}
 use Rattle.abc_heap.specs.View.{objects, AreHeads}
 use Rattle.abc_heap.specs.Spots.{IsSpot}
-use Rattle.abc_heap.proofs.Lasts.{chosen, skipped, last_le, last_hit, last_covers}
+use Rattle.abc_heap.proofs.Lasts.{chosen, skipped, decide, last_le, last_hit, last_covers}
 use Rattle.abc_heap.proofs.Flat.{properties_are, property_read}
 use Rattle.abc_heap.proofs.Indexed.{key_at, buckets_long}
 
@@ -111,14 +111,14 @@ below_last : (f : Span → List ℕ) (t : List ℕ) (ps : List (Option (Span × 
 below_last f t ps k zero b e h = absurd (omega arith)
 below_last f t ps k (suc n) b e h = elim (either (is_named f t (slice_get ps n))) [
   | inl q ↦ let s : n ≡ k = same n k (h n q) b in chosen (is_named f t (slice_get ps n)) (Some n) (place_below f t ps n) q ∙ ap Some s
-  | inr q ↦ skipped (is_named f t (slice_get ps n)) (Some n) (place_below f t ps n) q ∙ below_last f t ps k n (less n (λ (s : k ≡ n). clash (sym e ∙ (ap (λ m. is_named f t (slice_get ps m)) s ∙ q)))) e h
+  | inr q ↦ skipped (is_named f t (slice_get ps n)) (Some n) (place_below f t ps n) q ∙ below_last f t ps k n (less n b (λ (s : k ≡ n). clash (sym e ∙ (ap (λ m. is_named f t (slice_get ps m)) s ∙ q)))) e h
 ]
   where
     same : (n k : ℕ) → n ≤ k → k < suc n → n ≡ k
     same n k p q = omega arith
 
-    less : (n : ℕ) → k ≢ n → k < n
-    less n d = omega arith
+    less : (n : ℕ) → k < suc n → k ≢ n → k < n
+    less n p d = omega arith
 
 -- a property of the text stands in a cell
 record IsNamedAt (cells : List Cell) (o : ℕ) (f : Span → List ℕ) (t : List ℕ) (j : ℕ) : Type 0 where
@@ -193,17 +193,22 @@ search_start fixed made strings cs b o t d left x key inside e =
     let f = text_in fixed made strings in
     last_searched cs.items n o (length (buckets_of n f cs.items)) f t left (e ∙ (x.buckets.lasts d inside ∙ ap (λ k. last_in (buckets_of n f cs.items) k (length (buckets_of n f cs.items))) key)) (omega (arith, buckets_long n f cs.items)) (λ i c at h. let w = slice_get_within cs.items i c at in omega (arith, w, buckets_long n f cs.items))
 
+one_cell : (cells : List Cell) (i j : ℕ) (d c : Cell) → i ≡ j → slice_get cells i ≡ Some d → slice_get cells j ≡ Some c → d ≡ c
+one_cell cells i j d c q ed ec = let r : slice_get cells i ≡ slice_get cells j = ap (slice_get cells) q in cc
+
+fewer : (i left : ℕ) → i < left → (i ≡ left - 1 → ⊥) → i < left - 1
+fewer i left p q = elim (decide i (left - 1)) [ inl e ↦ absurd (q e) | inr e ↦ omega arith ]
+
+below_on : (cells : List Cell) (o : ℕ) (f : Span → List ℕ) (t : List ℕ) (left : ℕ) (c : Cell) → slice_get cells (left - 1) ≡ Some c → fits f t o c ≡ false → ((i : ℕ) (d : Cell) → slice_get cells i ≡ Some d → fits f t o d ≡ true → i < left) → (i : ℕ) (d : Cell) → slice_get cells i ≡ Some d → fits f t o d ≡ true → i < left - 1
+below_on cells o f t left c at no below i d here h = fewer i left (below i d here h) (λ (q : i ≡ left - 1). clash (sym h ∙ (ap (fits f t o) (one_cell cells i (left - 1) d c q here at) ∙ no)))
+
 pub search_on : (fixed made : List ℕ) (strings : List (List ℕ)) (cs : Filling Cell) (b : Buckets) (o : ℕ) (t : List ℕ) (left next : ℕ) (c : Cell) → IsIndexed fixed made strings cs b → IsSearched cs.items (length b.lasts.items) o (text_in fixed made strings) t left → 0 < left → slice_get cs.items (left - 1) ≡ Some c → fits (text_in fixed made strings) t o c ≡ false → next ≡ get_or b.befores.items (left - 1) 0 → IsSearched cs.items (length b.lasts.items) o (text_in fixed made strings) t next
 search_on fixed made strings cs b o t left next c x s more at no e =
     let n = length b.lasts.items in
     let f = text_in fixed made strings in
-    last_searched cs.items n o (left - 1) f t next (e ∙ x.buckets.befores (left - 1) (bucket n o t) (s.own more)) (omega (arith, s.inside)) (λ i d here h. fewer i (s.below i d here h) (λ (q : i ≡ left - 1). clash (sym h ∙ (ap (fits f t o) (one_cell i d q here) ∙ no))))
-  where
-    fewer : (i : ℕ) → i < left → i ≢ left - 1 → i < left - 1
-    fewer i p q = omega arith
-
-    one_cell : (i : ℕ) (d : Cell) → i ≡ left - 1 → slice_get cs.items i ≡ Some d → d ≡ c
-    one_cell i d q here = let r = ap (slice_get cs.items) q in cc
+    let here : next ≡ last_in (buckets_of n f cs.items) (bucket n o t) (left - 1) = e ∙ x.buckets.befores (left - 1) (bucket n o t) (s.own more) in
+    let inside : left - 1 ≤ length cs.items = omega (arith, s.inside) in
+    last_searched cs.items n o (left - 1) f t next here inside (below_on cs.items o f t left c at no s.below)
 
 pub search_none : (cells : List Cell) (heads : List Head) (n o : ℕ) (f : Span → List ℕ) (t : List ℕ) (left : ℕ) → o < length heads → IsSearched cells n o f t left → left ≡ 0 → place_named f t (properties_of (objects cells 0 heads) o) ≡ None
 search_none cells heads n o f t left b s e =

@@ -24,7 +24,7 @@ use Rattle.abc_heap.specs.Properties.{valued, is_named}
 use Rattle.abc_heap.specs.Spots.{IsSpot}
 use Rattle.abc_heap.specs.View.{objects, AreHeads, IsStored}
 use Rattle.abc_heap.proofs.Flat.{property_read}
-use Rattle.abc_heap.proofs.Indexed.{IsNameIn, index_held, index_gone, index_empty, key_at}
+use Rattle.abc_heap.proofs.Indexed.{IsNameIn, index_held, index_gone, index_empty, key_at, same_some}
 use Rattle.abc_heap.proofs.Searches.{found_named, named_bucket}
 use Rattle.abc_heap.proofs.Writes.{hold_keeps, inside, cell_in}
 
@@ -71,7 +71,7 @@ valued_bucket n o f v (Some p) = refl
 
 valued_name : (fixed made : List ℕ) (strings : List (List ℕ)) (v : Value) (p : Option (Span × Value)) → ((n : Span) (w : Value) → p ≡ Some (n, w) → IsTextIn fixed made strings n) → (n : Span) (w : Value) → valued v p ≡ Some (n, w) → IsTextIn fixed made strings n
 valued_name fixed made strings v None g n w e = absurd cc
-valued_name fixed made strings v (Some p) g n w e = let q : p.0 ≡ n = cc in subst (IsTextIn fixed made strings) q (g p.0 p.1 refl)
+valued_name fixed made strings v (Some p) g n w e = subst (IsTextIn fixed made strings) (ap (λ (q : Span × Value). q.0) (same_some (p.0, v) (n, w) e)) (g p.0 p.1 refl)
 
 pub hold_put : (hs : Filling Head) (cs new : Filling Cell) (ss : Filling ScopeNode) (fixed : List ℕ) (ts : Filling ℕ) (strings : List (List ℕ)) (b : Buckets) (m : Limits) (p o k : ℕ) (c : Cell) (h : Held) (v : Value) → IsStored hs cs ss fixed ts strings b m → IsAt (links cs.items) p o Properties k → slice_get cs.items p ≡ Some c → lane_of h ≡ Properties → property_in h ≡ valued v (property_in c.held) → new ≡ record { items = held_at cs.items p h; limit = cs.limit } → IsStored hs new ss fixed ts strings b m
 hold_put hs cs new ss fixed ts strings b m p o k c h v s at is lane put e =

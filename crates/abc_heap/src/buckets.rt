@@ -1,4 +1,4 @@
-ghost use Rattle.std.specs.Prelude.{◌≡◌, ◌<◌, ◌≤◌, ◌+◌, ◌^◌, ◌++◌, ◌∷◌, [], List, Option, ℕ, length, Some, None, get_or, set, replicate, IfOk};
+ghost use Rattle.std.specs.Prelude.{◌≡◌, ◌<◌, ◌≤◌, ◌+◌, ◌*◌, ◌%◌, ◌^◌, ◌++◌, ◌∷◌, [], List, Option, ℕ, length, Some, None, get_or, set, replicate, IfOk};
 ghost use Rattle.abc_heap.specs.Buckets.{hashed as the_hash, bucket as the_bucket, AreBuckets};
 
 use abc_base::NoMemory;
@@ -12,13 +12,22 @@ pub struct Buckets {
     befores: Vec<u32>,
 }
 
+/// A hash goes on over a byte.
+fn mixed(hash: u64, byte: u8) -> u64
+    requires { hash < 4294967296 }
+    ensures hash { result ≡ (hash * 65599 + byte) % 4294967296 }
+    ensures small { result < 4294967296 }
+{
+    (hash * 65599 + u64::from(byte)) % 4294967296
+}
+
 /// The hash of a text on an object.
 fn hashed(owner: u32, text: &[u8]) -> u64
     ensures { result ≡ the_hash owner text.now }
 {
     let mut hash = u64::from(owner);
     for byte in text {
-        hash = (hash * 65599 + u64::from(*byte)) % 4294967296;
+        hash = mixed(hash, *byte);
     }
     hash
 }
@@ -59,6 +68,26 @@ impl Buckets {
         self.befores[place as usize]
     }
 
+    /// The place before a place in its bucket, where there is one, counted from 0.
+    fn place_before(&self, place: u32) -> u32
+        requires place { place < length self.now.befores.items }
+        requires some { 0 < get_or self.now.befores.items place 0 }
+        ensures { result + 1 ≡ get_or self.now.befores.items place 0 }
+    {
+        let before = self.before(place);
+        before - 1
+    }
+
+    /// The last place in a bucket, where there is one, counted from 0.
+    fn last_place(&self, bucket: usize) -> u32
+        requires bucket { bucket < length self.now.lasts.items }
+        requires some { 0 < get_or self.now.lasts.items bucket 0 }
+        ensures { result + 1 ≡ get_or self.now.lasts.items bucket 0 }
+    {
+        let last = self.last(bucket);
+        last - 1
+    }
+
     /// Adds the next place to a bucket.
     pub fn add(&mut self, bucket: usize, place: u32)
         requires bucket { bucket < length self.old.lasts.items }
@@ -67,7 +96,8 @@ impl Buckets {
         ensures added { (ks : List (Option ℕ)) → place ≡ length ks → AreBuckets ks self.old.lasts.items self.old.befores.items → AreBuckets (ks ++ Some bucket ∷ []) self.new.lasts.items self.new.befores.items }
         ensures sizes { (length self.new.lasts.items ≡ length self.old.lasts.items) × (length self.new.befores.items ≡ length self.old.befores.items) }
     {
-        self.befores[place as usize] = self.lasts[bucket];
+        let last = self.last(bucket);
+        self.befores[place as usize] = last;
         self.lasts[bucket] = place + 1;
     }
 
@@ -77,11 +107,11 @@ impl Buckets {
         requires place { (ks : List (Option ℕ)) × AreBuckets ks self.now.lasts.items self.now.befores.items × (get_or ks place None ≡ Some bucket) × (place + 1 < get_or self.now.lasts.items bucket 0) }
         ensures { (ks : List (Option ℕ)) → AreBuckets ks self.now.lasts.items self.now.befores.items → get_or ks place None ≡ Some bucket → (get_or ks result None ≡ Some bucket) × (get_or self.now.befores.items result 0 ≡ place + 1) }
     {
-        let mut above = self.lasts[bucket] - 1;
-        let mut before = self.befores[above as usize] - 1;
+        let mut above = self.last_place(bucket);
+        let mut before = self.place_before(above);
         while before != place {
             above = before;
-            before = self.befores[above as usize] - 1;
+            before = self.place_before(above);
         }
         above
     }
@@ -93,8 +123,8 @@ impl Buckets {
         ensures removed { (ks : List (Option ℕ)) → AreBuckets ks self.old.lasts.items self.old.befores.items → get_or ks place None ≡ Some bucket → AreBuckets (set ks place None) self.new.lasts.items self.new.befores.items }
         ensures sizes { (length self.new.lasts.items ≡ length self.old.lasts.items) × (length self.new.befores.items ≡ length self.old.befores.items) }
     {
-        let before = self.befores[place as usize];
-        let top = self.lasts[bucket] - 1;
+        let before = self.before(place);
+        let top = self.last_place(bucket);
         if top == place {
             self.lasts[bucket] = before;
             return;

@@ -11,7 +11,7 @@ ghost use Rattle.abc_heap.specs.View.{objects, AreHeads};
 ghost use Rattle.abc_heap.specs.Spots.{IsSpot};
 
 use crate::buckets::Buckets;
-use crate::heads::{Head, head_at};
+use crate::heads::{Head, property_count};
 use crate::strings::Strings;
 use crate::texts::bytes_in;
 use abc_base::Bytes;
@@ -54,7 +54,7 @@ pub fn place_of_name(
     requires inside { o < length heads.now.items }
     ensures { MatchOption result (place_named (text_in fixed.now made.now strings.now) text.now (properties_of (objects cells.now.items 0 heads.now.items) o) ≡ None) (λ s. IsSpot (text_in fixed.now made.now strings.now) text.now cells.now.items heads.now.items o s) }
 {
-    let count = head_at(heads, o).properties.count;
+    let count = property_count(heads, cells, o);
     if count == 0 {
         return None;
     }
