@@ -1,4 +1,4 @@
-ghost use Rattle.std.specs.Prelude.{◌≡◌, ◌<◌, ◌-◌, [], length, get_or, IfOk};
+ghost use Rattle.std.specs.Prelude.{◌≡◌, ◌<◌, ◌≤◌, ◌-◌, [], length, get_or, take, drop, IfOk};
 
 use abc_base::{Bytes, NoMemory, Table};
 use std::alloc::Global;
@@ -47,15 +47,32 @@ fn copied(alloc: Global, texts: &[Bytes]) -> Result<Strings, NoMemory>
 }
 
 /// Where a string starts: where the one before it ends.
-fn start_of(ends: &[u32], i: usize) -> u32
-    requires { i < length ends.now }
+fn start_of(ends: &Vec<u32>, i: usize) -> u32
+    requires { i < length ends.now.items }
     ensures first { i ≡ 0 → result ≡ 0 }
-    ensures other { 0 < i → result ≡ get_or ends.now (i - 1) 0 }
+    ensures other { 0 < i → result ≡ get_or ends.now.items (i - 1) 0 }
 {
     if i == 0 {
         return 0;
     }
     ends[i - 1]
+}
+
+/// Where a string ends.
+fn end_at(ends: &Vec<u32>, i: usize) -> u32
+    requires { i < length ends.now.items }
+    ensures { result ≡ get_or ends.now.items i 0 }
+{
+    ends[i]
+}
+
+/// The bytes between two places.
+fn between(bytes: &[u8], start: usize, end: usize) -> &[u8]
+    requires rises { start ≤ end }
+    requires within { end ≤ length bytes.now }
+    ensures { result.now ≡ take (end - start) (drop start bytes.now) }
+{
+    &bytes[start..end]
 }
 
 impl Strings {
@@ -73,8 +90,8 @@ impl Strings {
         if i >= self.ends.len() {
             return &[];
         }
-        let start = start_of(self.ends.as_slice(), i);
-        let end = self.ends[i];
-        &self.bytes.as_slice()[start as usize..end as usize]
+        let start = start_of(&self.ends, i);
+        let end = end_at(&self.ends, i);
+        between(self.bytes.as_slice(), start as usize, end as usize)
     }
 }
