@@ -1,9 +1,10 @@
 -- Elements that are added one after the other.
-use Rattle.std.proofs.Common.{◌≡◌, ℕ, zero, suc, ◌+◌, ◌<◌, List, [], ◌∷◌, ◌++◌, Option, length, refl, ap, ◌∙◌, arith, length-append, append_assoc, append-nil}
+use Rattle.std.proofs.Common.{◌≡◌, ℕ, true, zero, suc, ◌+◌, ◌<◌, List, [], ◌∷◌, ◌++◌, Option, length, refl, ap, ◌∙◌, arith, length-append, append_assoc, append-nil}
 use Rattle.abc_cells.specs.declared.values.ObjId.{ObjId}
 use Rattle.abc_cells.specs.declared.values.Value.{Value}
 use Rattle.abc_heap.specs.declared.records.What.TheVariants.{Array}
-use Rattle.abc_heap.specs.Heap.{Heap, Object, all_cells, HasRoomFor}
+use Rattle.abc_heap.specs.What.{is_array}
+use Rattle.abc_heap.specs.Heap.{Heap, Object, object_at, all_cells, HasRoomFor}
 use Rattle.abc_heap.specs.Changes.{change, with_object, with_more_elements, with_array, bare}
 use Rattle.abc_heap.proofs.Makes.{change_last}
 use Rattle.abc_heap.proofs.Steps.{all_more}
@@ -60,3 +61,22 @@ array_begun h new layout delegate o n r q e =
 pub array_filled : (h h1 h2 : Heap) (es : List Value) (layout : ℕ) (delegate : Option ObjId) (o : ℕ) → o ≡ length h.objects → h1 ≡ with_array [] layout delegate h → h2 ≡ with_object (with_more_elements es) o h1 → h2 ≡ with_array es layout delegate h
 array_filled h h1 h2 es layout delegate o q e f =
     f ∙ (ap (with_object (with_more_elements es) o) e ∙ ap (λ obs. record h { objects = obs }) (change_last (with_more_elements es) h.objects (with_more_elements [] (bare layout delegate Array)) o q))
+
+-- an array stays one while elements are added
+what_stays : (vs : List Value) (o : ℕ) (obs : List Object) → (object_at (change (with_more_elements vs) o obs) o).what ≡ (object_at obs o).what
+what_stays vs o [] = refl
+what_stays vs zero (ob ∷ obs) = refl
+what_stays vs (suc o) (ob ∷ obs) = what_stays vs o obs
+
+pub array_stays : (h now : Heap) (vs : List Value) (o : ℕ) → is_array (object_at h.objects o).what ≡ true → now ≡ with_object (with_more_elements vs) o h → is_array (object_at now.objects o).what ≡ true
+array_stays h now vs o a e = ap (λ (x : Heap). is_array (object_at x.objects o).what) e ∙ (ap is_array (what_stays vs o h.objects) ∙ a)
+
+last_object : (obs : List Object) (ob : Object) → object_at (obs ++ ob ∷ []) (length obs) ≡ ob
+last_object [] ob = refl
+last_object (x ∷ obs) ob = last_object obs ob
+
+pub array_is_made : (h new : Heap) (layout : ℕ) (delegate : Option ObjId) (o : ℕ) → o ≡ length h.objects → new ≡ with_array [] layout delegate h → is_array (object_at new.objects o).what ≡ true
+array_is_made h new layout delegate o q e =
+    let ob = with_more_elements [] (bare layout delegate Array) in
+    ap (λ (x : Heap). is_array (object_at x.objects o).what) e
+    ∙ (ap (λ n. is_array (object_at (h.objects ++ ob ∷ []) n).what) q ∙ ap (λ (x : Object). is_array x.what) (last_object h.objects ob))

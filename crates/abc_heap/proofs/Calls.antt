@@ -13,6 +13,7 @@ use Rattle.abc_cells.specs.Lanes.{lane_of, owned, property_in, value_in}
 use Rattle.abc_cells.specs.Links.{links, IsAt, held_at}
 use Rattle.abc_heap.specs.declared.heads.Head.{Head}
 use Rattle.abc_heap.specs.declared.search.Spot.{Spot}
+use Rattle.abc_heap.specs.What.{elements_in}
 use Rattle.abc_heap.specs.Heap.{Object, object_at, Heap, properties_of, elements_of, cells_used, all_cells, ledger as the_ledger}
 use Rattle.abc_heap.specs.Changes.{change, with_property, with_object, with_new_property}
 use Rattle.abc_heap.specs.Properties.{with_delete, with_put, at_position, place_named, found, filled, the_value, valued, put_at, delete_at}
@@ -86,7 +87,7 @@ pub properties_counted : (cells : List Cell) (hs : List Head) (o : ℕ) (h : Hea
 properties_counted cells hs o h a e =
     (a.heads o h e).properties.counted ∙ (count_owned o Properties cells ∙ (sym (length-map (owned o Properties cells) (λ (c : Cell). property_in c.held)) ∙ ap length (sym (properties_are cells o hs (slice_get_within hs o h e)))))
 
-pub elements_counted : (cells : List Cell) (hs : List Head) (o : ℕ) (h : Head) → AreHeads (links cells) hs → slice_get hs o ≡ Some h → h.elements.count ≡ length (elements_of (objects cells 0 hs) o)
+pub elements_counted : (cells : List Cell) (hs : List Head) (o : ℕ) (h : Head) → AreHeads (links cells) hs → slice_get hs o ≡ Some h → (elements_in h.what).count ≡ length (elements_of (objects cells 0 hs) o)
 elements_counted cells hs o h a e =
     (a.heads o h e).elements.counted ∙ (count_owned o Elements cells ∙ (sym (length-map (owned o Elements cells) (λ (c : Cell). value_in c.held)) ∙ ap length (sym (elements_are cells o hs (slice_get_within hs o h e)))))
 

@@ -1,5 +1,5 @@
 -- The records of flat lists.
-use Rattle.std.proofs.Common.{◌≡◌, ℕ, zero, suc, ◌+◌, ◌<◌, ◌≤◌, List, [], ◌∷◌, Some, length, set, refl, sym, ap, ◌∙◌, subst, arith}
+use Rattle.std.proofs.Common.{◌≡◌, ℕ, true, zero, suc, ◌+◌, ◌<◌, ◌≤◌, List, [], ◌∷◌, Some, length, set, refl, sym, ap, ◌∙◌, subst, arith}
 use Rattle.std.specs.Prelude.{slice_get, option_map}
 use Rattle.std.proofs.lemmas.List.{length-map}
 use Rattle.std.proofs.lemmas.Option.{slice_get-map, slice_get_within}
@@ -13,6 +13,9 @@ use Rattle.abc_cells.proofs.Parts.{slice_get_some}
 use Rattle.abc_cells.proofs.Walks.{link_at}
 use Rattle.abc_cells.proofs.Owned.{count_owned, owned_at}
 use Rattle.abc_heap.specs.declared.heads.Head.{Head}
+use Rattle.abc_heap.specs.What.{is_array, what_in}
+use Rattle.abc_heap.specs.declared.records.What.{What}
+use Rattle.abc_heap.specs.declared.records.What.TheVariants.{Plain, Closure, ClassObject, HostClass, Trace, Formula, HostObject, Global, Activation, Catch, Array}
 use Rattle.abc_heap.specs.Heap.{Object, object_at, slots_of, properties_of, elements_of}
 use Rattle.abc_heap.specs.Changes.{change}
 use Rattle.abc_heap.specs.View.{object, objects, AreHeads}
@@ -101,6 +104,20 @@ element_read cells hs i o k c a w at e = ap (λ xs. slice_get xs k) (elements_ar
 pub property_read : (cells : List Cell) (hs : List Head) (i o k : ℕ) (c : Cell) → AreHeads (links cells) hs → o < length hs → IsAt (links cells) i o Properties k → slice_get cells i ≡ Some c → slice_get (properties_of (objects cells 0 hs) o) k ≡ Some (property_in c.held)
 property_read cells hs i o k c a w at e = ap (λ xs. slice_get xs k) (properties_are cells o hs w) ∙ (slice_get-map (λ (c : Cell). property_in c.held) (owned o Properties cells) k ∙ ap (option_map (λ (c : Cell). property_in c.held)) (owned_at cells i o Properties k c a.linked at e))
 
+-- what an array is
+pub array_is : (w : What) → is_array w ≡ true → w ≡ Array
+array_is Array e = refl
+array_is Plain e = absurd cc
+array_is (Closure m h s b) e = absurd cc
+array_is (ClassObject c h s i) e = absurd cc
+array_is (HostClass c) e = absurd cc
+array_is Trace e = absurd cc
+array_is (Formula n) e = absurd cc
+array_is HostObject e = absurd cc
+array_is (Global s) e = absurd cc
+array_is Activation e = absurd cc
+array_is Catch e = absurd cc
+
 -- one object changed, and no other
 pub all_same : (cells new : List Cell) (m : ℕ) (hs : List Head) → ((i : ℕ) (x : Head) → m ≤ i → object new i x ≡ object cells i x) → objects new m hs ≡ objects cells m hs
 all_same cells new m [] f = refl
@@ -131,3 +148,7 @@ pub object_is : (cells : List Cell) (m o : ℕ) (hs : List Head) (h : Head) → 
 object_is cells m zero (x ∷ hs) h e = let q : x ≡ h = cc in ap (λ n. object cells n x) (omega arith) ∙ ap (object cells (m + 0)) q
 object_is cells m (suc o) (x ∷ hs) h e = object_is cells (m + 1) o hs h e ∙ ap (λ n. object cells n h) (omega arith)
 object_is cells m o [] h e = absurd cc
+
+-- an array's head
+pub array_head : (cells : List Cell) (hs : List Head) (o : ℕ) (h : Head) → slice_get hs o ≡ Some h → is_array (object_at (objects cells 0 hs) o).what ≡ true → what_in h.what ≡ Array
+array_head cells hs o h e a = array_is (what_in h.what) (sym (ap (λ (ob : Object). is_array ob.what) (object_is cells 0 o hs h e)) ∙ a)

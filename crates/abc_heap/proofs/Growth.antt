@@ -16,6 +16,9 @@ use Rattle.abc_cells.proofs.Parts.{slice_get_more}
 use Rattle.abc_cells.proofs.Grows.{count_out, chain_other, at_more, is_in_own, links_more}
 use Rattle.abc_cells.proofs.Owned.{owned_more, owned_past, is_of_other, is_of_lane}
 use Rattle.abc_heap.specs.declared.heads.Head.{Head}
+use Rattle.abc_heap.specs.declared.stored.StoredWhat.TheVariants as kept
+use Rattle.abc_heap.specs.declared.records.What.TheVariants.{Array}
+use Rattle.abc_heap.specs.What.{what_in, elements_in}
 use Rattle.abc_heap.specs.Heap.{Object}
 use Rattle.abc_heap.specs.Changes.{change, with_new_property, with_new_element}
 use Rattle.abc_heap.specs.View.{object, objects, IsHead, AreHeads}
@@ -42,7 +45,7 @@ head_other : (xs : List Link) (x : Link) (i : ℕ) (h : Head) → IsHead xs i h 
 head_other xs x i h a f = record {
   slots = slots_stay xs x i h a.slots (f Slots);
   properties = chain_other xs x i Properties h.properties (f Properties) a.properties;
-  elements = chain_other xs x i Elements h.elements (f Elements) a.elements;
+  elements = chain_other xs x i Elements (elements_in h.what) (f Elements) a.elements;
 }
 
 pub grown_heads : (xs : List Link) (x : Link) (hs : List Head) (o : ℕ) (h : Head) → AreHeads xs hs → AreLinked (xs ++ x ∷ []) → x.owner ≡ o → o < length hs → IsHead (xs ++ x ∷ []) o h → AreHeads (xs ++ x ∷ []) (set hs o h)
@@ -84,16 +87,18 @@ property_added cells c hs o x d n v w q e b =
     ∙ (ap (λ p. record (object cells o x) { properties = (object cells o x).properties ++ p ∷ [] }) (ap property_in q)
     ∙ ap (λ (y : Head). with_new_property n v (object cells o y)) same)))
 
-pub element_added : (cells : List Cell) (c : Cell) (hs : List Head) (o : ℕ) (x : Head) (d : Chain) (v : Value) → c.owner ≡ o → c.held ≡ Element v → slice_get hs o ≡ Some x → o < length hs → objects (cells ++ c ∷ []) 0 (set hs o (record x { elements = d })) ≡ change (with_new_element v) o (objects cells 0 hs)
-element_added cells c hs o x d v w q e b =
+pub element_added : (cells : List Cell) (c : Cell) (hs : List Head) (o : ℕ) (x : Head) (d : Chain) (v : Value) → c.owner ≡ o → c.held ≡ Element v → slice_get hs o ≡ Some x → o < length hs → what_in x.what ≡ Array → objects (cells ++ c ∷ []) 0 (set hs o (record x { what = kept.Array d })) ≡ change (with_new_element v) o (objects cells 0 hs)
+element_added cells c hs o x d v w q e b array =
     let lane : lane_of c.held ≡ Elements = ap lane_of q in
-    grown_objects cells c hs o (record x { elements = d }) (with_new_element v) w b (λ y ey.
+    let h : Head = record x { what = kept.Array d } in
+    grown_objects cells c hs o h (with_new_element v) w b (λ y ey.
     let same : x ≡ y = cc in
-    built x (owned o Slots (cells ++ c ∷ [])) (owned o Slots cells) (owned o Properties (cells ++ c ∷ [])) (owned o Properties cells) (owned o Elements (cells ++ c ∷ [])) (owned o Elements cells ++ c ∷ [])
+    built h (owned o Slots (cells ++ c ∷ [])) (owned o Slots cells) (owned o Properties (cells ++ c ∷ [])) (owned o Properties cells) (owned o Elements (cells ++ c ∷ [])) (owned o Elements cells ++ c ∷ [])
     (past cells c o Slots (is_of_lane c o Slots (ap (λ m. same_lane m Slots) lane))) (past cells c o Properties (is_of_lane c o Properties (ap (λ m. same_lane m Properties) lane))) (owned_more cells c o Elements (is_in_own (link_of c) o Elements w lane))
-    ∙ (ap (λ ps. record (object cells o x) { elements = ps }) (map-append (λ (c : Cell). value_in c.held) (owned o Elements cells) (c ∷ []))
-    ∙ (ap (λ p. record (object cells o x) { elements = (object cells o x).elements ++ p ∷ [] }) (ap value_in q)
-    ∙ ap (λ (y : Head). with_new_element v (object cells o y)) same)))
+    ∙ (ap (λ ps. record (object cells o h) { elements = ps }) (map-append (λ (c : Cell). value_in c.held) (owned o Elements cells) (c ∷ []))
+    ∙ (ap (λ p. record (object cells o h) { elements = (object cells o x).elements ++ p ∷ [] }) (ap value_in q)
+    ∙ (ap (λ k. record (with_new_element v (object cells o x)) { what = k }) (sym array)
+    ∙ ap (λ (y : Head). with_new_element v (object cells o y)) same))))
 
 pub lane_off : (x : Link) (o : ℕ) (l m : Lane) → x.lane ≡ l → same_lane l m ≡ false → is_in o m x ≡ false
 lane_off x o l m e f = and_right (nat_eq x.owner o) (same_lane x.lane m) (ap (λ n. same_lane n m) e ∙ f)
@@ -103,10 +108,10 @@ pub property_head : (xs : List Link) (x : Link) (o : ℕ) (h : Head) (d : Chain)
 property_head xs x o h d a e c = record {
   slots = slots_stay xs x o h a.slots (lane_off x o Properties Slots e refl);
   properties = c;
-  elements = chain_other xs x o Elements h.elements (lane_off x o Properties Elements e refl) a.elements;
+  elements = chain_other xs x o Elements (elements_in h.what) (lane_off x o Properties Elements e refl) a.elements;
 }
 
-pub element_head : (xs : List Link) (x : Link) (o : ℕ) (h : Head) (d : Chain) → IsHead xs o h → x.lane ≡ Elements → IsChain (xs ++ x ∷ []) o Elements d → IsHead (xs ++ x ∷ []) o (record h { elements = d })
+pub element_head : (xs : List Link) (x : Link) (o : ℕ) (h : Head) (d : Chain) → IsHead xs o h → x.lane ≡ Elements → IsChain (xs ++ x ∷ []) o Elements d → IsHead (xs ++ x ∷ []) o (record h { what = kept.Array d })
 element_head xs x o h d a e c = record {
   slots = slots_stay xs x o h a.slots (lane_off x o Elements Slots e refl);
   properties = chain_other xs x o Properties h.properties (lane_off x o Elements Properties e refl) a.properties;
@@ -124,12 +129,12 @@ property_grown cells new hs o x d n v a e b (c, q, w, h) l k =
       ap length q ∙ length-append cells (c ∷ []),
     )
 
-pub element_grown : (cells new : List Cell) (hs : List Head) (o : ℕ) (x : Head) (d : Chain) (v : Value) → AreHeads (links cells) hs → slice_get hs o ≡ Some x → o < length hs → IsAdded cells new o (Element v) → AreLinked (links new) → IsChain (links new) o Elements d → (objects new 0 (set hs o (record x { elements = d })) ≡ change (with_new_element v) o (objects cells 0 hs)) × AreHeads (links new) (set hs o (record x { elements = d })) × (length new ≡ length cells + 1)
-element_grown cells new hs o x d v a e b (c, q, w, h) l k =
+pub element_grown : (cells new : List Cell) (hs : List Head) (o : ℕ) (x : Head) (d : Chain) (v : Value) → AreHeads (links cells) hs → slice_get hs o ≡ Some x → o < length hs → what_in x.what ≡ Array → IsAdded cells new o (Element v) → AreLinked (links new) → IsChain (links new) o Elements d → (objects new 0 (set hs o (record x { what = kept.Array d })) ≡ change (with_new_element v) o (objects cells 0 hs)) × AreHeads (links new) (set hs o (record x { what = kept.Array d })) × (length new ≡ length cells + 1)
+element_grown cells new hs o x d v a e b array (c, q, w, h) l k =
     let more : links new ≡ links cells ++ link_of c ∷ [] = ap links q ∙ links_more cells c in
     let l' : AreLinked (links cells ++ link_of c ∷ []) = subst AreLinked more l in
     let k' : IsChain (links cells ++ link_of c ∷ []) o Elements d = subst (λ xs. IsChain xs o Elements d) more k in (
-      ap (λ cs. objects cs 0 (set hs o (record x { elements = d }))) q ∙ element_added cells c hs o x d v w h e b,
-      subst (λ xs. AreHeads xs (set hs o (record x { elements = d }))) (sym more) (grown_heads (links cells) (link_of c) hs o (record x { elements = d }) a l' w b (element_head (links cells) (link_of c) o x d (a.heads o x e) (ap lane_of h) k')),
+      ap (λ cs. objects cs 0 (set hs o (record x { what = kept.Array d }))) q ∙ element_added cells c hs o x d v w h e b array,
+      subst (λ xs. AreHeads xs (set hs o (record x { what = kept.Array d }))) (sym more) (grown_heads (links cells) (link_of c) hs o (record x { what = kept.Array d }) a l' w b (element_head (links cells) (link_of c) o x d (a.heads o x e) (ap lane_of h) k')),
       ap length q ∙ length-append cells (c ∷ []),
     )

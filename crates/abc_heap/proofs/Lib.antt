@@ -1,11 +1,15 @@
 pub mod Flat
 pub mod Writes
-pub mod Searches
+pub mod Lasts
 pub mod Growth
+pub mod Indexed
+pub mod Searches
+pub mod Stands
 pub mod Ledger
 pub mod Calls
 pub mod Makes
 pub mod Bytes
+pub mod Pieces
 pub mod Positions
 pub mod Steps
 pub mod Arrays

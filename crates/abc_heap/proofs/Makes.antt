@@ -20,7 +20,7 @@ use Rattle.abc_heap.specs.Scopes.{nodes, scope_id}
 use Rattle.abc_heap.specs.Heap.{Object, Heap}
 use Rattle.abc_heap.specs.Changes.{change, with_more_slots, bare}
 use Rattle.abc_heap.specs.declared.records.ScopeId.{ScopeId}
-use Rattle.abc_heap.specs.What.{what_in}
+use Rattle.abc_heap.specs.What.{what_in, elements_in}
 use Rattle.abc_heap.specs.View.{object, objects, IsHead, AreHeads}
 use Rattle.abc_heap.specs.Spots.{IsFilling}
 use Rattle.abc_heap.proofs.Writes.{built}
@@ -52,7 +52,7 @@ count_none cells hs l a = count_owned (length hs) l cells ∙ ap length (none_ow
 pub empty_chain : (cells : List Cell) (hs : List Head) (l : Lane) → AreHeads (links cells) hs → IsChain (links cells) (length hs) l (record { last = 0; count = 0 })
 empty_chain cells hs l a = record { counted = sym (count_none cells hs l a); last = λ b. absurd (omega arith) }
 
-pub head_added : (cells : List Cell) (hs : List Head) (h : Head) → AreHeads (links cells) hs → h.properties ≡ record { last = 0; count = 0 } → h.elements ≡ record { last = 0; count = 0 } → AreHeads (links cells) (hs ++ h ∷ [])
+pub head_added : (cells : List Cell) (hs : List Head) (h : Head) → AreHeads (links cells) hs → h.properties ≡ record { last = 0; count = 0 } → elements_in h.what ≡ record { last = 0; count = 0 } → AreHeads (links cells) (hs ++ h ∷ [])
 head_added cells hs h a p e = record {
   linked = a.linked;
   heads = λ o x q. elim (slice_get_more hs h x o q) [
@@ -105,7 +105,7 @@ slot_head xs x o n h a w e p c s = record {
         }
   ];
   properties = chain_other xs x o Properties h.properties (lane_off x o Slots Properties e refl) a.properties;
-  elements = chain_other xs x o Elements h.elements (lane_off x o Slots Elements e refl) a.elements;
+  elements = chain_other xs x o Elements (elements_in h.what) (lane_off x o Slots Elements e refl) a.elements;
 }
   where
     omega_count : (xs : List Link) (x : Link) (o n k : ℕ) → k < count o Slots (xs ++ x ∷ []) → x.owner ≡ o → x.lane ≡ Slots → count o Slots xs ≡ n → k < n + 1

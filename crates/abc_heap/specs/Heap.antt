@@ -28,6 +28,8 @@ pub record Heap : Type 0 where
   pub fixed : List ℕ
   pub made : List ℕ
   pub formulas : List (List ℕ)
+  -- the strings of the file that the heap was made over
+  pub strings : List (List ℕ)
   -- the class object of each class of the file
   pub classes : List (Option ObjId)
   pub frames : ℕ

@@ -2,6 +2,8 @@ pub mod What
 pub mod Scopes
 pub mod Heap
 pub mod Texts
+pub mod Strings
+pub mod Buckets
 pub mod Properties
 pub mod Changes
 pub mod View

@@ -103,7 +103,3 @@ walked_value ob p = if is_array ob.what then element_at ob.elements p else the_v
 
 abbrev pub walked_next : Object → ℕ → Option ℕ
 walked_next ob k = if is_array ob.what then next_element (length ob.elements) k else next_filled ob.properties k
-
--- each property's name is a text
-abbrev pub AreNamed : List (List ℕ) → Heap → Type 0
-AreNamed pool h = (o k : ℕ) (n : Span) (v : Value) → slice_get (properties_of h.objects o) k ≡ Some (Some (n, v)) → IsText pool h n

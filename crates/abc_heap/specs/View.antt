@@ -4,12 +4,14 @@ use Rattle.abc_cells.specs.Filling.{Filling}
 use Rattle.abc_cells.specs.declared.cell.Cell.{Cell}
 use Rattle.abc_cells.specs.declared.cell.Lane.TheVariants.{Slots, Properties, Elements}
 use Rattle.abc_cells.specs.Lanes.{slots, properties, elements}
-use Rattle.abc_cells.specs.Links.{Link, count, AreLinked, IsChain, IsAt}
+use Rattle.abc_cells.specs.Links.{Link, links, count, AreLinked, IsChain, IsAt}
 use Rattle.abc_heap.specs.declared.heads.Head.{Head}
 use Rattle.abc_heap.specs.declared.records.ScopeNode.{ScopeNode}
 use Rattle.abc_heap.specs.declared.records.Limits.{Limits}
-use Rattle.abc_heap.specs.What.{what_in}
+use Rattle.abc_heap.specs.What.{what_in, elements_in}
 use Rattle.abc_heap.specs.Heap.{Object}
+use Rattle.abc_heap.specs.Buckets.{IsIndexed}
+use Rattle.abc_heap.specs.declared.buckets.Buckets.{Buckets}
 
 abbrev pub object : List Cell → ℕ → Head → Object
 object cells o h = record { layout = h.layout; delegate = h.delegate; slots = slots o cells; properties = properties o cells; elements = elements o cells; what = what_in h.what }
@@ -22,7 +24,7 @@ objects cells o (h ∷ hs) = object cells o h ∷ objects cells (o + 1) hs
 pub record IsHead (xs : List Link) (o : ℕ) (h : Head) : Type 0 where
   pub slots : (k : ℕ) → k < count o Slots xs → IsAt xs (h.slots + k) o Slots k
   pub properties : IsChain xs o Properties h.properties
-  pub elements : IsChain xs o Elements h.elements
+  pub elements : IsChain xs o Elements (elements_in h.what)
 
 pub record AreHeads (xs : List Link) (hs : List Head) : Type 0 where
   pub linked : AreLinked xs
@@ -36,3 +38,9 @@ pub record HasLimits (hs : Filling Head) (cs : Filling Cell) (ss : Filling Scope
   pub text : ts.limit ≡ m.text
   pub within : length cs.items + length ss.items ≤ m.cells
   pub small : m.cells < 2 ^ 32
+
+-- the flat lists stand for a heap
+pub record IsStored (hs : Filling Head) (cs : Filling Cell) (ss : Filling ScopeNode) (fixed : List ℕ) (ts : Filling ℕ) (strings : List (List ℕ)) (b : Buckets) (m : Limits) : Type 0 where
+  pub heads : AreHeads (links cs.items) hs.items
+  pub limits : HasLimits hs cs ss ts m
+  pub index : IsIndexed fixed ts.items strings cs b

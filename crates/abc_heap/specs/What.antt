@@ -1,5 +1,6 @@
 -- What an object is.
 use Rattle.std.specs.Prelude.{Bool, true, false, Some, None}
+use Rattle.abc_cells.specs.declared.chain.Chain.{Chain}
 use Rattle.abc_heap.specs.declared.records.What.{What}
 use Rattle.abc_heap.specs.declared.records.What.TheVariants as whats
 use Rattle.abc_heap.specs.declared.stored.StoredWhat.{StoredWhat}
@@ -24,4 +25,9 @@ what_in kept.HostObject = whats.HostObject
 what_in (kept.Global s) = whats.Global s
 what_in kept.Activation = whats.Activation
 what_in kept.Catch = whats.Catch
-what_in kept.Array = whats.Array
+what_in (kept.Array c) = whats.Array
+
+-- the list of its elements, which an array alone has
+abbrev pub elements_in : StoredWhat → Chain
+elements_in (kept.Array c) = c
+elements_in other = record { last = 0; count = 0 }

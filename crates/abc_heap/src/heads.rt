@@ -1,17 +1,19 @@
-ghost use Rattle.std.specs.Prelude.{◌≡◌, ◌<◌, ◌≤◌, ◌+◌, ◌^◌, ℕ, length, Some, None, slice_get, is_some, [], ◌∷◌, ◌++◌};
+ghost use Rattle.std.specs.Prelude.{◌≡◌, ◌<◌, ◌≤◌, ◌+◌, ◌^◌, ℕ, length, Some, None, slice_get, is_some, true, [], ◌∷◌, ◌++◌};
 ghost use Rattle.abc_cells.specs.Lanes.{value_in, property_in, lane_of};
-ghost use Rattle.abc_cells.specs.Links.{links, IsAt};
+ghost use Rattle.abc_cells.specs.Links.{links, IsAt, IsAdded};
+ghost use Rattle.abc_cells.specs.declared.cell.Held.TheVariants.{Property};
 ghost use Rattle.abc_cells.specs.declared.cell.Lane.TheVariants.{Slots, Properties, Elements};
 ghost use Rattle.abc_cells.specs.Filling.{HasRoom};
-ghost use Rattle.abc_heap.specs.What.{what_in};
-ghost use Rattle.abc_heap.specs.Heap.{slots_of, properties_of, elements_of};
+ghost use Rattle.abc_heap.specs.Buckets.{KeepsIndex};
+ghost use Rattle.abc_heap.specs.What.{what_in, elements_in, is_array};
+ghost use Rattle.abc_heap.specs.Heap.{object_at, slots_of, properties_of, elements_of};
 ghost use Rattle.abc_heap.specs.Properties.{at_position, the_value, the_name, valued, next_filled};
 ghost use Rattle.abc_heap.specs.Changes.{change, with_new_property, with_new_element, with_more_slots, bare};
 ghost use Rattle.abc_heap.specs.View.{objects, AreHeads};
 ghost use Rattle.abc_heap.specs.Spots.{IsGrown, IsFilling};
 
 use crate::starts::Starts;
-use crate::stored::StoredWhat;
+use crate::stored::{StoredWhat, elements_kept};
 use abc_cells::{Cell, Chain, Held, ObjId, Reserved, Span, Value, append, cell_at, place_of};
 
 /// An object, but for what its cells hold. Its slots lie one after the other from `slots` on.
@@ -21,7 +23,6 @@ pub struct Head {
     pub delegate: Option<ObjId>,
     pub slots: u32,
     pub properties: Chain,
-    pub elements: Chain,
     pub what: StoredWhat,
 }
 
@@ -61,7 +62,8 @@ pub fn element_place(heads: &Reserved<Head>, cells: &Reserved<Cell>, o: u32, k: 
     requires element { k < length (elements_of (objects cells.now.items 0 heads.now.items) o) }
     ensures { IsAt (links cells.now.items) result o Elements k }
 {
-    place_of(cells, head_at(heads, o).elements.last, k)
+    let elements = elements_kept(head_at(heads, o).what);
+    place_of(cells, elements.last, k)
 }
 
 /// The place of a property, by its place in the list.
@@ -117,6 +119,7 @@ pub fn add_property(
     requires room { HasRoom cells.old 1 }
     ensures objects { objects cells.new.items 0 heads.new.items ≡ change (with_new_property name v) o (objects cells.old.items 0 heads.old.items) }
     ensures heads { AreHeads (links cells.new.items) heads.new.items }
+    ensures added { IsAdded cells.old.items cells.new.items o (Property name v) }
     ensures sizes { IsGrown heads.old heads.new cells.old cells.new }
 {
     let head = head_at(heads, o);
@@ -124,18 +127,22 @@ pub fn add_property(
     heads.set(o, Head { properties, ..head });
 }
 
-/// Adds an element to an object, as its last.
+/// Adds an element to an array, as its last.
 pub fn add_element(heads: &mut Reserved<Head>, cells: &mut Reserved<Cell>, o: u32, v: Value)
     requires heads { AreHeads (links cells.old.items) heads.old.items }
     requires inside { o < length heads.old.items }
+    requires array { is_array (object_at (objects cells.old.items 0 heads.old.items) o).what ≡ true }
     requires room { HasRoom cells.old 1 }
     ensures objects { objects cells.new.items 0 heads.new.items ≡ change (with_new_element v) o (objects cells.old.items 0 heads.old.items) }
     ensures heads { AreHeads (links cells.new.items) heads.new.items }
+    ensures index { KeepsIndex cells.old cells.new }
     ensures sizes { IsGrown heads.old heads.new cells.old cells.new }
 {
     let head = head_at(heads, o);
-    let elements = append(cells, head.elements, o, Held::Element(v));
-    heads.set(o, Head { elements, ..head });
+    let before = elements_kept(head.what);
+    let elements = append(cells, before, o, Held::Element(v));
+    let what = StoredWhat::Array(elements);
+    heads.set(o, Head { what, ..head });
 }
 
 /// What stands at a position, which counts from 1.
@@ -166,7 +173,7 @@ pub fn element_count(heads: &Reserved<Head>, cells: &Reserved<Cell>, o: u32) -> 
     ensures { result ≡ length (elements_of (objects cells.now.items 0 heads.now.items) o) }
 {
     let _ = cells;
-    head_at(heads, o).elements.count
+    elements_kept(head_at(heads, o).what).count
 }
 
 /// Adds an object with no cells, and gives its number.
@@ -179,6 +186,7 @@ pub fn add_object(
 ) -> u32
     requires heads { AreHeads (links cells.now.items) heads.old.items }
     requires room { HasRoom heads.old 1 }
+    requires what { elements_in what ≡ record { last = 0; count = 0 } }
     ensures number { result ≡ length heads.old.items }
     ensures objects { objects cells.now.items 0 heads.new.items ≡ objects cells.now.items 0 heads.old.items ++ bare layout delegate (what_in what) ∷ [] }
     ensures heads { AreHeads (links cells.now.items) heads.new.items }
@@ -192,7 +200,6 @@ pub fn add_object(
         delegate,
         slots: cells.len(),
         properties: none,
-        elements: none,
         what,
     });
     o
@@ -213,6 +220,7 @@ fn add_slot(
     ensures objects { objects cells.new.items 0 heads.now.items ≡ change (with_more_slots (v ∷ [])) o (objects cells.old.items 0 heads.now.items) }
     ensures heads { AreHeads (links cells.new.items) heads.now.items }
     ensures next { IsFilling cells.new.items heads.now.items o result }
+    ensures index { KeepsIndex cells.old cells.new }
     ensures sizes { (length cells.new.items ≡ length cells.old.items + 1) × (cells.new.limit ≡ cells.old.limit) }
 {
     append(cells, chain, o, Held::Slot(v))
@@ -226,6 +234,7 @@ pub fn fill_slots<S: Starts>(heads: &Reserved<Head>, cells: &mut Reserved<Cell>,
     requires next { IsFilling cells.old.items heads.now.items o (record { last = 0; count = 0 }) }
     ensures objects { objects cells.new.items 0 heads.now.items ≡ change (with_more_slots (S.values starts.now)) o (objects cells.old.items 0 heads.now.items) }
     ensures heads { AreHeads (links cells.new.items) heads.now.items }
+    ensures index { KeepsIndex cells.old cells.new }
     ensures sizes { (length cells.new.items ≡ length cells.old.items + length (S.values starts.now)) × (cells.new.limit ≡ cells.old.limit) }
 {
     let mut chain = Chain { last: 0, count: 0 };

@@ -2,6 +2,7 @@
 //! captured scopes, and the texts made. Contracts see records.
 #![tactic(auto)]
 
+mod buckets;
 mod heads;
 mod records;
 mod scopes;
@@ -9,6 +10,7 @@ mod search;
 mod starts;
 mod store;
 mod stored;
+mod strings;
 mod texts;
 
 pub use records::{Full, Limit, Limits, ScopeEntry, ScopeId, ScopeNode, What};

@@ -1,17 +1,20 @@
-ghost use Rattle.std.specs.Prelude.{◌≡◌, ◌<◌, ◌≤◌, ℕ, length, Some, None, slice_get, MatchOption};
+ghost use Rattle.std.specs.Prelude.{◌≡◌, ◌<◌, ◌≤◌, ◌^◌, ◌&&◌, ℕ, length, Some, None, slice_get, nat_eq, MatchOption};
 ghost use Rattle.abc_cells.specs.Lanes.{property_in};
 ghost use Rattle.abc_cells.specs.Links.{links};
 ghost use Rattle.abc_cells.specs.declared.values.Span.{Span};
 ghost use Rattle.abc_cells.specs.declared.values.Value.{Value};
+ghost use Rattle.abc_heap.specs.Buckets.{IsIndexed, bucket as the_bucket};
 ghost use Rattle.abc_heap.specs.Heap.{properties_of};
 ghost use Rattle.abc_heap.specs.Texts.{text_in, IsTextIn};
 ghost use Rattle.abc_heap.specs.Properties.{place_named, is_named};
 ghost use Rattle.abc_heap.specs.View.{objects, AreHeads};
 ghost use Rattle.abc_heap.specs.Spots.{IsSpot};
 
-use crate::heads::{Head, head_at};
+use crate::buckets::Buckets;
+use crate::heads::{Head, property_count};
+use crate::strings::Strings;
 use crate::texts::bytes_in;
-use abc_base::{Bytes, Table};
+use abc_base::Bytes;
 use abc_cells::{Cell, Held, Reserved, Span, cell_at};
 
 /// A cell's place, and its position in its list.
@@ -21,45 +24,51 @@ pub struct Spot {
     pub position: u32,
 }
 
-/// Whether a cell holds a property whose name has this text.
-fn has_name(fixed: &[u8], made: &[u8], pool: &Table<Bytes>, held: Held, text: &[u8]) -> bool
-    requires { (n : Span) (v : Value) → property_in held ≡ Some (n, v) → IsTextIn fixed.now made.now pool.now n }
-    ensures { result ≡ is_named (text_in fixed.now made.now pool.now) text.now (Some (property_in held)) }
+/// Whether a cell holds a property of the object whose name has this text.
+fn has_name(fixed: &[u8], made: &[u8], strings: &Strings, cell: Cell, o: u32, text: &[u8]) -> bool
+    requires { (n : Span) (v : Value) → property_in cell.held ≡ Some (n, v) → IsTextIn fixed.now made.now strings.now n }
+    ensures { result ≡ nat_eq cell.owner o && is_named (text_in fixed.now made.now strings.now) text.now (Some (property_in cell.held)) }
 {
-    match held {
-        Held::Property(name, _value) => bytes_in(fixed, made, pool, name) == text,
+    if cell.owner != o {
+        return false;
+    }
+    match cell.held {
+        Held::Property(name, _value) => bytes_in(fixed, made, strings, name) == text,
         _ => false,
     }
 }
 
-/// Where the object has a property of this text.
+/// Where the object has a property of this text: the last of its bucket that fits.
 pub fn place_of_name(
     fixed: &[u8],
     made: &[u8],
-    pool: &Table<Bytes>,
+    strings: &Strings,
+    buckets: &Buckets,
     heads: &Reserved<Head>,
     cells: &Reserved<Cell>,
     o: u32,
     text: &[u8],
 ) -> Option<Spot>
     requires heads { AreHeads (links cells.now.items) heads.now.items }
+    requires index { IsIndexed fixed.now made.now strings.now cells.now buckets.now }
     requires inside { o < length heads.now.items }
-    requires names { (k : ℕ) (n : Span) (v : Value) → slice_get (properties_of (objects cells.now.items 0 heads.now.items) o) k ≡ Some (Some (n, v)) → IsTextIn fixed.now made.now pool.now n }
-    ensures { MatchOption result (place_named (text_in fixed.now made.now pool.now) text.now (properties_of (objects cells.now.items 0 heads.now.items) o) ≡ None) (λ s. IsSpot (text_in fixed.now made.now pool.now) text.now cells.now.items heads.now.items o s) }
+    ensures { MatchOption result (place_named (text_in fixed.now made.now strings.now) text.now (properties_of (objects cells.now.items 0 heads.now.items) o) ≡ None) (λ s. IsSpot (text_in fixed.now made.now strings.now) text.now cells.now.items heads.now.items o s) }
 {
-    let chain = head_at(heads, o).properties;
-    let mut left = chain.count;
-    let mut place = chain.last;
+    let count = property_count(heads, cells, o);
+    if count == 0 {
+        return None;
+    }
+    let mut left = buckets.last(buckets.of(o, text));
     while left > 0 {
-        left -= 1;
+        let place = left - 1;
         let here = cell_at(cells, place);
-        if has_name(fixed, made, pool, here.held, text) {
+        if has_name(fixed, made, strings, here, o, text) {
             return Some(Spot {
                 place,
-                position: left,
+                position: here.position,
             });
         }
-        place = here.before;
+        left = buckets.before(place);
     }
     None
 }
@@ -68,20 +77,39 @@ pub fn place_of_name(
 pub fn find(
     fixed: &Bytes,
     made: &Reserved<u8>,
-    pool: &Table<Bytes>,
+    strings: &Strings,
+    buckets: &Buckets,
     heads: &Reserved<Head>,
     cells: &Reserved<Cell>,
     o: u32,
     name: Span,
 ) -> Option<Spot>
     requires heads { AreHeads (links cells.now.items) heads.now.items }
+    requires index { IsIndexed fixed.now made.now.items strings.now cells.now buckets.now }
     requires inside { o < length heads.now.items }
-    requires name { IsTextIn fixed.now made.now.items pool.now name }
-    requires names { (k : ℕ) (n : Span) (v : Value) → slice_get (properties_of (objects cells.now.items 0 heads.now.items) o) k ≡ Some (Some (n, v)) → IsTextIn fixed.now made.now.items pool.now n }
-    ensures { MatchOption result (place_named (text_in fixed.now made.now.items pool.now) (text_in fixed.now made.now.items pool.now name) (properties_of (objects cells.now.items 0 heads.now.items) o) ≡ None) (λ s. IsSpot (text_in fixed.now made.now.items pool.now) (text_in fixed.now made.now.items pool.now name) cells.now.items heads.now.items o s) }
+    requires name { IsTextIn fixed.now made.now.items strings.now name }
+    ensures { MatchOption result (place_named (text_in fixed.now made.now.items strings.now) (text_in fixed.now made.now.items strings.now name) (properties_of (objects cells.now.items 0 heads.now.items) o) ≡ None) (λ s. IsSpot (text_in fixed.now made.now.items strings.now) (text_in fixed.now made.now.items strings.now name) cells.now.items heads.now.items o s) }
 {
     let fixed = fixed.as_slice();
     let made = made.as_slice();
-    let text = bytes_in(fixed, made, pool, name);
-    place_of_name(fixed, made, pool, heads, cells, o, text)
+    let text = bytes_in(fixed, made, strings, name);
+    place_of_name(fixed, made, strings, buckets, heads, cells, o, text)
+}
+
+/// The bucket of the text of a name on an object.
+pub fn bucket_of_name(
+    fixed: &Bytes,
+    made: &Reserved<u8>,
+    strings: &Strings,
+    buckets: &Buckets,
+    o: u32,
+    name: Span,
+) -> usize
+    requires some { 0 < length buckets.now.lasts.items }
+    requires name { IsTextIn fixed.now made.now.items strings.now name }
+    ensures bucket { result ≡ the_bucket (length buckets.now.lasts.items) o (text_in fixed.now made.now.items strings.now name) }
+    ensures inside { result < length buckets.now.lasts.items }
+{
+    let text = bytes_in(fixed.as_slice(), made.as_slice(), strings, name);
+    buckets.of(o, text)
 }

@@ -1,14 +1,15 @@
-ghost use Rattle.std.specs.Prelude.{◌≡◌, ◌<◌, ◌≤◌, ◌+◌, ◌-◌, ◌++◌, ◌∷◌, [], ◌^◌, ℕ, length, Some, None, slice_get, set, replicate, get_or, is_some, MatchResult, IfOk};
+ghost use Rattle.std.specs.Prelude.{◌≡◌, ◌<◌, ◌≤◌, ◌+◌, ◌-◌, ◌++◌, ◌∷◌, [], ◌^◌, ℕ, length, Some, None, slice_get, set, replicate, get_or, is_some, true, MatchResult, IfOk};
 ghost use Rattle.std.specs.Fmt.{signed_decimal};
 ghost use Rattle.abc_cells.specs.declared.values.Value.TheVariants.{Undefined};
 ghost use Rattle.abc_heap.specs.What.{is_array};
 ghost use Rattle.abc_heap.specs.Heap.{object_at, slots_of, properties_of, elements_of, cells_used, ledger, IsFull, IsFullOf, Fits, HasRoomFor, PassesLimit, PassesFrames};
 ghost use Rattle.abc_heap.specs.Texts.{IsText, text_of, IsTextMade};
-ghost use Rattle.abc_heap.specs.Properties.{AreNamed, place_in, property_in_heap, with_put, with_delete, cells_to_put, the_name, at_position, place_after, walked_value, walked_next, element_at, next_element, next_filled, the_value};
+ghost use Rattle.abc_heap.specs.Properties.{place_in, property_in_heap, with_put, with_delete, cells_to_put, the_name, at_position, place_after, walked_value, walked_next, element_at, next_element, next_filled, the_value};
 ghost use Rattle.abc_heap.specs.Changes.{with_object, with_slot, with_element, with_new_element, with_more_elements, with_new_property, with_made, with_scopes, IsMade, IsFunctionMade, IsClassMade, IsArrayMade, with_array};
 ghost use Rattle.abc_heap.specs.Scopes.{top};
 ghost use Rattle.abc_heap.specs.declared.records.Limit.TheVariants.{Cells, Text};
 
+use crate::buckets::Buckets;
 use crate::heads::{
     Head, add_element, add_object, add_property, element_count, element_place, fill_slots, head_at,
     held_at_position, next_from, property_count, property_name, property_value, revalued,
@@ -16,9 +17,10 @@ use crate::heads::{
 };
 use crate::records::{Full, Limit, Limits, ScopeEntry, ScopeId, ScopeNode, What};
 use crate::scopes::capture;
-use crate::search::find;
+use crate::search::{bucket_of_name, find};
 use crate::starts::Starts;
 use crate::stored::{restored, stored};
+use crate::strings::Strings;
 use crate::texts::{bytes_in, join, push_bytes};
 use abc_base::{Bytes, NoMemory, Table};
 use abc_cells::{Cell, Held, ObjId, Reserved, Span, Value, cell_at, hold};
@@ -48,6 +50,8 @@ pub struct Store {
     made: Reserved<u8>,
     fixed: Bytes,
     formulas: Table<Bytes>,
+    strings: Strings,
+    buckets: Buckets,
     classes: Vec<Option<ObjId>>,
     frames: u32,
     stack: u32,
@@ -55,28 +59,28 @@ pub struct Store {
 }
 
 impl Model for Store {
-    ghost use Rattle.std.specs.Prelude.{◌≤◌};
     ghost use Rattle.abc_heap.specs.Heap.{Heap};
-    ghost use Rattle.abc_heap.specs.View.{objects, AreHeads, HasLimits};
-    ghost use Rattle.abc_cells.specs.Links.{links};
+    ghost use Rattle.abc_heap.specs.View.{objects, IsStored};
 
     ghost Value = { Heap };
 
-    ghost view = { λ a. record { objects = objects a.cells.items 0 a.heads.items; scopes = a.scopes.items; fixed = a.fixed; made = a.made.items; formulas = a.formulas; classes = a.classes.items; frames = a.frames; stack = a.stack; limits = a.limits } };
+    ghost view = { λ a. record { objects = objects a.cells.items 0 a.heads.items; scopes = a.scopes.items; fixed = a.fixed; made = a.made.items; formulas = a.formulas; strings = a.strings; classes = a.classes.items; frames = a.frames; stack = a.stack; limits = a.limits } };
 
-    ghost invariant = { λ a. AreHeads (links a.cells.items) a.heads.items × HasLimits a.heads a.cells a.scopes a.made a.limits };
+    ghost invariant = { λ a. IsStored a.heads a.cells a.scopes a.fixed a.made a.strings a.buckets a.limits };
 }
 
 impl Store {
-    /// A store with no objects, which holds the memory for its limits, and room for the class objects of some classes.
+    /// A store with no objects, which holds the memory for its limits, the strings of a file, and room for the class
+    /// objects of some classes.
     pub fn empty(
         alloc: Global,
         limits: Limits,
         fixed: Bytes,
         formulas: Table<Bytes>,
+        pool: &Table<Bytes>,
         classes: u32,
     ) -> Result<Store, NoMemory>
-        ensures { IfOk result (λ a. a ≡ record { objects = []; scopes = []; fixed = fixed; made = []; formulas = formulas; classes = replicate classes None; frames = 0; stack = 0; limits = limits }) }
+        ensures { IfOk result (λ a. a ≡ record { objects = []; scopes = []; fixed = fixed; made = []; formulas = formulas; strings = pool.now; classes = replicate classes None; frames = 0; stack = 0; limits = limits }) }
     {
         Ok(Store {
             heads: Reserved::new(alloc, limits.objects)?,
@@ -85,6 +89,8 @@ impl Store {
             made: Reserved::new(alloc, limits.text)?,
             fixed,
             formulas,
+            strings: Strings::copy(alloc, pool)?,
+            buckets: Buckets::empty(alloc, limits.cells / 4 + 1, limits.cells)?,
             classes: vec![in alloc; None; classes as usize]?,
             frames: 0,
             stack: 0,
@@ -149,16 +155,16 @@ impl Store {
 
     /// The value of an own property.
     #[tactic(auto, using(crate::proofs::Flat::length_objects))]
-    pub fn property(&self, pool: &Table<Bytes>, o: ObjId, name: Span) -> Option<Value>
-        requires named { AreNamed pool.now self.now }
+    pub fn property(&self, o: ObjId, name: Span) -> Option<Value>
         requires inside { o.0 < length self.now.objects }
-        requires name { IsText pool.now self.now name }
-        ensures { result ≡ property_in_heap pool.now self.now o.0 name }
+        requires name { IsText self.now.strings self.now name }
+        ensures { result ≡ property_in_heap self.now.strings self.now o.0 name }
     {
         match find(
             &self.fixed,
             &self.made,
-            pool,
+            &self.strings,
+            &self.buckets,
             &self.heads,
             &self.cells,
             o.0,
@@ -171,23 +177,32 @@ impl Store {
 
     /// Deletes an own property, and tells whether there was one.
     #[tactic(auto, using(crate::proofs::Flat::length_objects))]
-    pub fn delete_property(&mut self, pool: &Table<Bytes>, o: ObjId, name: Span) -> bool
-        requires named { AreNamed pool.now self.old }
+    pub fn delete_property(&mut self, o: ObjId, name: Span) -> bool
         requires inside { o.0 < length self.old.objects }
-        requires name { IsText pool.now self.old name }
-        ensures was { result ≡ is_some (place_in pool.now self.old o.0 name) }
-        ensures heap { self.new ≡ with_object (with_delete (text_of pool.now self.old) (text_of pool.now self.old name)) o.0 self.old }
+        requires name { IsText self.old.strings self.old name }
+        ensures was { result ≡ is_some (place_in self.old.strings self.old o.0 name) }
+        ensures heap { self.new ≡ with_object (with_delete (text_of self.old.strings self.old) (text_of self.old.strings self.old name)) o.0 self.old }
     {
         match find(
             &self.fixed,
             &self.made,
-            pool,
+            &self.strings,
+            &self.buckets,
             &self.heads,
             &self.cells,
             o.0,
             name,
         ) {
             Some(spot) => {
+                let bucket = bucket_of_name(
+                    &self.fixed,
+                    &self.made,
+                    &self.strings,
+                    &self.buckets,
+                    o.0,
+                    name,
+                );
+                self.buckets.remove(bucket, spot.place);
                 hold(&mut self.cells, spot.place, Held::Deleted);
                 true
             }
@@ -197,22 +212,16 @@ impl Store {
 
     /// Writes a property: an own one takes the value, else a new one is made, last.
     #[tactic(auto, using(crate::proofs::Flat::length_objects))]
-    pub fn set_property(
-        &mut self,
-        pool: &Table<Bytes>,
-        o: ObjId,
-        name: Span,
-        v: Value,
-    ) -> Result<(), Full>
-        requires named { AreNamed pool.now self.old }
+    pub fn set_property(&mut self, o: ObjId, name: Span, v: Value) -> Result<(), Full>
         requires inside { o.0 < length self.old.objects }
-        requires name { IsText pool.now self.old name }
-        ensures { MatchResult result (λ _. Fits self.old self.new (cells_to_put (place_in pool.now self.old o.0 name)) (with_object (with_put (text_of pool.now self.old) (text_of pool.now self.old name) name v) o.0 self.old)) (λ e. IsFull self.old self.new (cells_used self.old) (cells_to_put (place_in pool.now self.old o.0 name)) self.old.limits.cells Cells e) }
+        requires name { IsText self.old.strings self.old name }
+        ensures { MatchResult result (λ _. Fits self.old self.new (cells_to_put (place_in self.old.strings self.old o.0 name)) (with_object (with_put (text_of self.old.strings self.old) (text_of self.old.strings self.old name) name v) o.0 self.old)) (λ e. IsFull self.old self.new (cells_used self.old) (cells_to_put (place_in self.old.strings self.old o.0 name)) self.old.limits.cells Cells e) }
     {
         match find(
             &self.fixed,
             &self.made,
-            pool,
+            &self.strings,
+            &self.buckets,
             &self.heads,
             &self.cells,
             o.0,
@@ -226,7 +235,7 @@ impl Store {
                 if self.cells.len() + self.scopes.len() == self.limits.cells {
                     return Err(Full(Limit::Cells));
                 }
-                add_property(&mut self.heads, &mut self.cells, o.0, name, v);
+                self.add_property(o, name, v);
             }
         }
         Ok(())
@@ -236,9 +245,20 @@ impl Store {
     #[tactic(auto, using(crate::proofs::Flat::length_objects))]
     pub fn add_property(&mut self, o: ObjId, name: Span, v: Value)
         requires inside { o.0 < length self.old.objects }
-        requires room { HasRoomFor self.old 0 1 }
+        requires name { IsText self.old.strings self.old name }
+        requires room { cells_used self.old + 1 ≤ self.old.limits.cells }
         ensures { self.new ≡ with_object (with_new_property name v) o.0 self.old }
     {
+        let bucket = bucket_of_name(
+            &self.fixed,
+            &self.made,
+            &self.strings,
+            &self.buckets,
+            o.0,
+            name,
+        );
+        let place = self.cells.len();
+        self.buckets.add(bucket, place);
         add_property(&mut self.heads, &mut self.cells, o.0, name, v);
     }
 
@@ -269,16 +289,17 @@ impl Store {
         hold(&mut self.cells, place, Held::Element(v));
     }
 
-    /// Adds an element at the end.
+    /// Adds an element to an array at the end.
     #[tactic(auto, using(crate::proofs::Flat::length_objects))]
     pub fn push_element(&mut self, o: ObjId, v: Value) -> Result<(), Full>
-        requires { o.0 < length self.old.objects }
+        requires inside { o.0 < length self.old.objects }
+        requires array { is_array (object_at self.old.objects o.0).what ≡ true }
         ensures { MatchResult result (λ _. Fits self.old self.new 1 (with_object (with_new_element v) o.0 self.old)) (λ e. IsFull self.old self.new (cells_used self.old) 1 self.old.limits.cells Cells e) }
     {
         if self.cells.len() + self.scopes.len() == self.limits.cells {
             return Err(Full(Limit::Cells));
         }
-        add_element(&mut self.heads, &mut self.cells, o.0, v);
+        self.add_element(o, v);
         Ok(())
     }
 
@@ -421,19 +442,21 @@ impl Store {
         self.classes[class as usize] = Some(o);
     }
 
-    /// Adds an element at the end, where there is room.
+    /// Adds an element to an array at the end, where there is room.
     #[tactic(auto, using(crate::proofs::Flat::length_objects))]
     fn add_element(&mut self, o: ObjId, v: Value)
         requires inside { o.0 < length self.old.objects }
-        requires room { HasRoomFor self.old 0 1 }
+        requires array { is_array (object_at self.old.objects o.0).what ≡ true }
+        requires room { cells_used self.old + 1 ≤ self.old.limits.cells }
         ensures { self.new ≡ with_object (with_new_element v) o.0 self.old }
     {
         add_element(&mut self.heads, &mut self.cells, o.0, v);
     }
 
-    /// Adds elements at the end, where there is room.
+    /// Adds elements to an array at the end, where there is room.
     fn add_elements(&mut self, o: ObjId, elements: &[Value])
         requires inside { o.0 < length self.old.objects }
+        requires array { is_array (object_at self.old.objects o.0).what ≡ true }
         requires room { HasRoomFor self.old 0 (length elements.now) }
         ensures { self.new ≡ with_object (with_more_elements elements.now) o.0 self.old }
     {
@@ -442,9 +465,10 @@ impl Store {
         }
     }
 
-    /// Adds elements that are undefined at the end, where there is room.
+    /// Adds elements that are undefined to an array at the end, where there is room.
     fn add_undefined(&mut self, o: ObjId, count: u32)
         requires inside { o.0 < length self.old.objects }
+        requires array { is_array (object_at self.old.objects o.0).what ≡ true }
         requires room { HasRoomFor self.old 0 count }
         ensures { self.new ≡ with_object (with_more_elements (replicate count Undefined)) o.0 self.old }
     {

@@ -1,12 +1,13 @@
 ghost use Rattle.std.specs.Prelude.{◌≡◌};
-ghost use Rattle.abc_heap.specs.What.{what_in};
+ghost use Rattle.abc_heap.specs.What.{what_in, elements_in};
 ghost use Rattle.abc_heap.specs.declared.records.What.TheVariants.{ClassObject, Closure};
 
 use crate::records::{ScopeId, What};
 use abc_base::HostClass;
-use abc_cells::ObjId;
+use abc_cells::{Chain, ObjId};
 
-/// What an object is, in at most 20 bytes: what may be missing makes a variant of its own.
+/// What an object is, in at most 20 bytes: what may be missing makes a variant of its own. An array keeps the list of its
+/// elements here.
 #[derive(Clone, Copy, Debug)]
 pub enum StoredWhat {
     Plain,
@@ -44,7 +45,7 @@ pub enum StoredWhat {
     Global(u32),
     Activation,
     Catch,
-    Array,
+    Array(Chain),
 }
 
 /// A closure, as it is kept.
@@ -54,7 +55,8 @@ fn stored_closure(
     scope: Option<ScopeId>,
     bound: Option<ObjId>,
 ) -> StoredWhat
-    ensures { what_in result ≡ Closure method home scope bound }
+    ensures what { what_in result ≡ Closure method home scope bound }
+    ensures elements { elements_in result ≡ record { last = 0; count = 0 } }
 {
     match (bound, scope) {
         (None, scope) => StoredWhat::Free {
@@ -76,9 +78,10 @@ fn stored_closure(
     }
 }
 
-/// What an object is, as it is kept.
+/// What an object is, as it is kept, where it has no elements.
 pub fn stored(what: What) -> StoredWhat
-    ensures { what_in result ≡ what }
+    ensures what { what_in result ≡ what }
+    ensures elements { elements_in result ≡ record { last = 0; count = 0 } }
 {
     match what {
         What::Plain => StoredWhat::Plain,
@@ -116,7 +119,7 @@ pub fn stored(what: What) -> StoredWhat
         What::Global(script) => StoredWhat::Global(script),
         What::Activation => StoredWhat::Activation,
         What::Catch => StoredWhat::Catch,
-        What::Array => StoredWhat::Array,
+        What::Array => StoredWhat::Array(Chain { last: 0, count: 0 }),
     }
 }
 
@@ -184,6 +187,16 @@ pub fn restored(kept: StoredWhat) -> What
         StoredWhat::Global(script) => What::Global(script),
         StoredWhat::Activation => What::Activation,
         StoredWhat::Catch => What::Catch,
-        StoredWhat::Array => What::Array,
+        StoredWhat::Array(_elements) => What::Array,
+    }
+}
+
+/// The list of an object's elements.
+pub fn elements_kept(what: StoredWhat) -> Chain
+    ensures { result ≡ elements_in what }
+{
+    match what {
+        StoredWhat::Array(elements) => elements,
+        _ => Chain { last: 0, count: 0 },
     }
 }

@@ -1,32 +1,49 @@
-ghost use Rattle.std.specs.Prelude.{◌≡◌, ◌<◌, ◌+◌, ◌++◌, ℕ, length, Some, slice_get};
+ghost use Rattle.std.specs.Prelude.{◌≡◌, ◌<◌, ◌+◌, ◌++◌, List, ℕ, length, Some, slice_get};
 ghost use Rattle.abc_heap.specs.Texts.{text_in, IsTextIn, part_of, pool_text};
 ghost use Rattle.abc_cells.specs.Filling.{HasRoom};
 
+use crate::strings::Strings;
 use abc_base::{Bytes, Table};
 use abc_cells::{Reserved, Span};
 
-/// A text of the pool, whose text 0 is empty.
-#[tactic(auto, using(crate::proofs::Bytes::past_pool))]
-fn pool_bytes(pool: &Table<Bytes>, i: u32) -> &[u8]
-    ensures { result.now ≡ pool_text pool.now i }
-{
-    if i == 0 {
-        return &[];
+/// The strings of a file.
+pub trait Pool {
+    ghost strings: { Self → List (List ℕ) };
+
+    /// A string, by its index. That of index 0 is empty, and so are those past the last.
+    fn string(&self, i: u32) -> &[u8]
+        ensures { result.now ≡ pool_text (strings self.now) i };
+}
+
+impl Pool for Table<Bytes> {
+    ghost strings = { λ t. t };
+
+    #[tactic(auto, using(crate::proofs::Bytes::past_pool))]
+    fn string(&self, i: u32) -> &[u8] {
+        if i == 0 {
+            return &[];
+        }
+        match self.find(i as usize - 1) {
+            Some(text) => text.as_slice(),
+            None => &[],
+        }
     }
-    match pool.find(i as usize - 1) {
-        Some(text) => text.as_slice(),
-        None => &[],
+}
+
+impl Pool for Strings {
+    ghost strings = { λ s. s };
+
+    fn string(&self, i: u32) -> &[u8] {
+        if i == 0 {
+            return &[];
+        }
+        self.find(i as usize - 1)
     }
 }
 
 /// A part, in which texts lie.
-pub fn part_bytes<'a>(
-    fixed: &'a [u8],
-    made: &'a [u8],
-    pool: &'a Table<Bytes>,
-    part: u32,
-) -> &'a [u8]
-    ensures { result.now ≡ part_of fixed.now made.now pool.now part }
+pub fn part_bytes<'a, P: Pool>(fixed: &'a [u8], made: &'a [u8], pool: &'a P, part: u32) -> &'a [u8]
+    ensures { result.now ≡ part_of fixed.now made.now (P.strings pool.now) part }
 {
     if part == 0 {
         return fixed;
@@ -34,13 +51,13 @@ pub fn part_bytes<'a>(
     if part == 1 {
         return made;
     }
-    pool_bytes(pool, part - 2)
+    pool.string(part - 2)
 }
 
 /// The bytes of a text.
-pub fn bytes_in<'a>(fixed: &'a [u8], made: &'a [u8], pool: &'a Table<Bytes>, s: Span) -> &'a [u8]
-    requires { IsTextIn fixed.now made.now pool.now s }
-    ensures { result.now ≡ text_in fixed.now made.now pool.now s }
+pub fn bytes_in<'a, P: Pool>(fixed: &'a [u8], made: &'a [u8], pool: &'a P, s: Span) -> &'a [u8]
+    requires { IsTextIn fixed.now made.now (P.strings pool.now) s }
+    ensures { result.now ≡ text_in fixed.now made.now (P.strings pool.now) s }
 {
     let part = part_bytes(fixed, made, pool, s.part);
     let start = s.start as usize;

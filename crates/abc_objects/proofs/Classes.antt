@@ -75,6 +75,7 @@ over_both l h ob n k home statics instances s b free w a d =
       starts = s.starts;
       opening = opening_grown l h new g s.opening;
       hosts = λ c. omega (arith, s.hosts c, ap (λ (x : Object). length x.slots) (object_left h.objects (ob ∷ []) (host_class_number c) (slots_there h.objects (host_class_number c) (s.hosts c))));
+      strings = s.strings;
       fixed = s.fixed;
       objects = λ i x e. elim (slice_get_more h.objects ob x i e) [
         | inl q ↦ object_grown l h new i x g (s.objects i x q.1)

@@ -73,6 +73,7 @@ over_changed l h f o s r =
       starts = s.starts;
       opening = opening_grown l h new g s.opening;
       hosts = λ c. omega (arith, s.hosts c, slots_kept f o h.objects (host_class_number c) r.slots);
+      strings = s.strings;
       fixed = s.fixed;
       objects = λ i ob e.
           let w = was_object f o h.objects i ob e in
@@ -130,6 +131,7 @@ over_added l h ob s a other =
       starts = s.starts;
       opening = opening_grown l h new g s.opening;
       hosts = λ c. omega (arith, s.hosts c, ap (λ (x : Object). length x.slots) (object_left h.objects (ob ∷ []) (host_class_number c) (slots_there h.objects (host_class_number c) (s.hosts c))));
+      strings = s.strings;
       fixed = s.fixed;
       objects = λ i x e. object_grown l h new i x g (elim (slice_get_more h.objects ob x i e) [
         | inl q ↦ s.objects i x q.1
@@ -147,12 +149,13 @@ over_added l h ob s a other =
     }
 
 -- a heap with the same objects, scopes and classes
-pub over_same : (l : LinkedFile) (h new : Heap) → StandsOver l h → Grows h new → new.objects ≡ h.objects → new.scopes ≡ h.scopes → new.classes ≡ h.classes → StandsOver l new
-over_same l h new s g p q r = record {
+pub over_same : (l : LinkedFile) (h new : Heap) → StandsOver l h → Grows h new → new.objects ≡ h.objects → new.scopes ≡ h.scopes → new.classes ≡ h.classes → new.strings ≡ h.strings → StandsOver l new
+over_same l h new s g p q r same = record {
   linked = s.linked;
   starts = s.starts;
   opening = opening_grown l h new g s.opening;
   hosts = λ c. omega (arith, s.hosts c, ap (λ obs. length (slots_of obs (host_class_number c))) p);
+  strings = same ∙ s.strings;
   fixed = (s.fixed.0, g.fixed ∙ s.fixed.1);
   objects = λ i ob e. object_grown l h new i ob g (s.objects i ob (ap (λ obs. slice_get obs i) (sym p) ∙ e));
   scopes = λ i n e. scope_stands_grown h new i n g (s.scopes i n (ap (λ ns. slice_get ns i) (sym q) ∙ e));
@@ -168,14 +171,14 @@ pub made_grows : (h : Heap) (more : List ℕ) → Grows h (record h { made = h.m
 made_grows h more = record { objects = λ i b. (b, keeps_self (object_at h.objects i)); scopes = ([], sym (append-nil h.scopes)); fixed = refl; made = (more, refl); formulas = refl }
 
 pub over_made : (l : LinkedFile) (h : Heap) (more : List ℕ) → StandsOver l h → StandsOver l (record h { made = h.made ++ more })
-over_made l h more s = over_same l h (record h { made = h.made ++ more }) s (made_grows h more) refl refl refl
+over_made l h more s = over_same l h (record h { made = h.made ++ more }) s (made_grows h more) refl refl refl refl
 
 -- frames
 frames_grow : (h : Heap) (frames stack : ℕ) → Grows h (record h { frames = frames; stack = stack })
 frames_grow h frames stack = record { objects = λ i b. (b, keeps_self (object_at h.objects i)); scopes = ([], sym (append-nil h.scopes)); fixed = refl; made = ([], sym (append-nil h.made)); formulas = refl }
 
 pub over_frames : (l : LinkedFile) (h : Heap) (frames stack : ℕ) → StandsOver l h → StandsOver l (record h { frames = frames; stack = stack })
-over_frames l h frames stack s = over_same l h (record h { frames = frames; stack = stack }) s (frames_grow h frames stack) refl refl refl
+over_frames l h frames stack s = over_same l h (record h { frames = frames; stack = stack }) s (frames_grow h frames stack) refl refl refl refl
 
 -- ---- captured scopes
 
@@ -220,6 +223,7 @@ over_scopes l h saved es s sc a =
       starts = s.starts;
       opening = opening_grown l h new g s.opening;
       hosts = s.hosts;
+      strings = s.strings;
       fixed = s.fixed;
       objects = λ i ob e. object_grown l h new i ob g (s.objects i ob e);
       scopes = λ i n e. scope_stands_grown h new i n g (elim (in_either h.scopes (nodes (length h.scopes) saved es) i n e) [

@@ -282,6 +282,7 @@ opening_stands l fs limits t e few =
           let n = length-set (map (λ (i : SlotInfo). start_value l.file.strings i.start) (slots_of l (layout_of l (parts.HostClassObject c)).0)) 0 (values.Obj (prototype_id c)) in
           let m = length-map (slots_of l (layout_of l (parts.HostClassObject c)).0) (λ (i : SlotInfo). start_value l.file.strings i.start) in
           slots_there h.objects (host_class_number c) (class_object l c) (class_there l fs c) (omega (arith, some, n, m));
+      strings = refl;
       fixed = (concat (property_names fs), refl);
       objects = λ o ob q. (at_zero o ob (each o ob q)).0;
       scopes = λ s n q.

@@ -8,7 +8,7 @@ use Rattle.abc_cells.proofs.Parts.{slice_get_more}
 use Rattle.abc_heap.specs.Heap.{Heap, Object, object_at}
 use Rattle.abc_heap.specs.Texts.{IsText}
 use Rattle.abc_heap.specs.What.{is_array}
-use Rattle.abc_heap.specs.Properties.{with_put, with_delete, put_at, delete_at, place_named, valued, filled, AreNamed}
+use Rattle.abc_heap.specs.Properties.{with_put, with_delete, put_at, delete_at, place_named, valued, filled}
 use Rattle.abc_heap.specs.Changes.{with_slot, with_element, with_new_element}
 use Rattle.abc_heap.proofs.Growth.{set_read}
 use Rattle.abc_link.specs.ProgramLinked.{LinkedFile}
@@ -135,14 +135,3 @@ delete_reshapes l h o f t = record {
     element_values = s.element_values;
   };
 }
-
-property_there : (obs : List Object) (o k : ℕ) (p : Option (Span × Value)) → slice_get (object_at obs o).properties k ≡ Some p → (ob : Object) × (slice_get obs o ≡ Some ob) × (slice_get ob.properties k ≡ Some p)
-property_there [] o k p e = absurd cc
-property_there (ob ∷ obs) zero k p e = (ob, refl, e)
-property_there (ob ∷ obs) (suc o) k p e = property_there obs o k p e
-
--- the names of properties are texts
-pub are_named : (l : LinkedFile) (h : Heap) → StandsOver l h → AreNamed l.file.strings h
-are_named l h s = λ o k n v e.
-    let w = property_there h.objects o k (Some (n, v)) e in
-    ((s.objects o w.0 w.1).properties k (Some (n, v)) w.2).0

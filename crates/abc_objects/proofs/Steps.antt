@@ -218,6 +218,9 @@ length_small names k n d b e s = omega (arith, concat_front names k d b, concat_
 pub start_small : (names : List (List ℕ)) (k start n : ℕ) (d : List ℕ) → k < length names → start ≡ 62 + length (concat (take k names)) → n ≡ length (get_or names k d) → 62 + length (concat names) < 2 ^ 32 → start + n < 2 ^ 32
 start_small names k start n d b e m s = omega (arith, concat_front names k d b, concat_within names (k + 1))
 
+pub start_within : (names : List (List ℕ)) (k start n m : ℕ) (d : List ℕ) → k < length names → start ≡ 62 + length (concat (take k names)) → n ≡ length (get_or names k d) → 62 + length (concat names) ≤ m → start + n ≤ m
+start_within names k start n m d b e w s = omega (arith, concat_front names k d b, concat_within names (k + 1))
+
 pub start_next : (names : List (List ℕ)) (k start n : ℕ) (d : List ℕ) → k < length names → start ≡ 62 + length (concat (take k names)) → n ≡ length (get_or names k d) → start + n ≡ 62 + length (concat (take (k + 1) names))
 start_next names k start n d b e m = omega (arith, concat_front names k d b)
 
@@ -428,8 +431,8 @@ pub stands_opened : (l : LinkedFile) (fs : List Formula) (limits : Limits) (h : 
 stands_opened l fs limits h t s few e =
     subst (StandsOver l) (sym e) (opening_stands l (formula_names fs) limits t s (omega (arith, few, length-map fs (λ (f : Formula). f.name))))
 
-pub opened_by : (l : LinkedFile) (h new : Heap) (fs : List (List ℕ)) (f n : ℕ) (part : List ℕ) (limits : Limits) → h ≡ record { objects = []; scopes = []; fixed = part; made = []; formulas = fs; classes = replicate n None; frames = 0; stack = 0; limits = limits } → part ≡ part_zero fs → n ≡ length l.file.instances → f ≡ length fs → new ≡ record h { objects = opening_objects l h.formulas; scopes = opening_scopes l f } → new ≡ opening l fs limits
-opened_by l h new fs f n part limits e p m w q =
-    let mk : List ℕ → ℕ → ℕ → Heap = λ b k i. record { objects = opening_objects l fs; scopes = opening_scopes l i; fixed = b; made = []; formulas = fs; classes = replicate k None; frames = 0; stack = 0; limits = limits } in
+pub opened_by : (l : LinkedFile) (h new : Heap) (fs ps : List (List ℕ)) (f n : ℕ) (part : List ℕ) (limits : Limits) → h ≡ record { objects = []; scopes = []; fixed = part; made = []; formulas = fs; strings = ps; classes = replicate n None; frames = 0; stack = 0; limits = limits } → part ≡ part_zero fs → ps ≡ l.file.strings → n ≡ length l.file.instances → f ≡ length fs → new ≡ record h { objects = opening_objects l h.formulas; scopes = opening_scopes l f } → new ≡ opening l fs limits
+opened_by l h new fs ps f n part limits e p same m w q =
+    let mk : List ℕ → List (List ℕ) → ℕ → ℕ → Heap = λ b xs k i. record { objects = opening_objects l fs; scopes = opening_scopes l i; fixed = b; made = []; formulas = fs; strings = xs; classes = replicate k None; frames = 0; stack = 0; limits = limits } in
     q ∙ (ap (λ (y : Heap). record y { objects = opening_objects l y.formulas; scopes = opening_scopes l f }) e
-    ∙ (ap (λ b. mk b n f) p ∙ (ap (λ k. mk (part_zero fs) k f) m ∙ ap (λ i. mk (part_zero fs) (length l.file.instances) i) w)))
+    ∙ (ap (λ b. mk b ps n f) p ∙ (ap (λ xs. mk (part_zero fs) xs n f) same ∙ (ap (λ k. mk (part_zero fs) l.file.strings k f) m ∙ ap (λ i. mk (part_zero fs) l.file.strings (length l.file.instances) i) w))))

@@ -125,6 +125,7 @@ opening l formulas limits = record {
   fixed = part_zero formulas;
   made = [];
   formulas = formulas;
+  strings = l.file.strings;
   classes = replicate (length l.file.instances) None;
   frames = 0;
   stack = 0;

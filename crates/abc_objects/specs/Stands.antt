@@ -149,6 +149,8 @@ pub record StandsOver (l : LinkedFile) (h : Heap) : Type 0 where
   pub starts : StartsExist l
   pub opening : HasOpening l h
   pub hosts : HasPrototypes h
+  -- the strings are those of the file
+  pub strings : h.strings ≡ l.file.strings
   -- the fixed texts stand first
   pub fixed : (names : List ℕ) × (h.fixed ≡ fixed_bytes ++ names)
   pub objects : (o : ℕ) (ob : Object) → slice_get h.objects o ≡ Some ob → ObjectStands l h o ob

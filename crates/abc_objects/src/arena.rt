@@ -279,7 +279,8 @@ impl Arena {
         requires name { IsText l.now.file.strings self.now name }
         ensures { result ≡ property_in_heap l.now.file.strings self.now o.0 name }
     {
-        self.store.property(&l.abc().strings, o, name)
+        let _ = l;
+        self.store.property(o, name)
     }
 
     /// Writes a property: an own one takes the value, else a new one is made, last.
@@ -291,7 +292,8 @@ impl Arena {
         ensures put { MatchResult result (λ _. Fits self.old self.new (cells_to_put (place_in l.now.file.strings self.old o.0 name)) (with_object (with_put (text_of l.now.file.strings self.old) (text_of l.now.file.strings self.old name) name v) o.0 self.old)) (λ e. IsFull self.old self.new (cells_used self.old) (cells_to_put (place_in l.now.file.strings self.old o.0 name)) self.old.limits.cells Cells e) }
         ensures over { StandsOver l.now self.new }
     {
-        self.store.set_property(&l.abc().strings, o, name, v)
+        let _ = l;
+        self.store.set_property(o, name, v)
     }
 
     /// Deletes an own property, and tells whether there was one. Its position stays empty.
@@ -303,7 +305,8 @@ impl Arena {
         ensures heap { self.new ≡ with_object (with_delete (text_of l.now.file.strings self.old) (text_of l.now.file.strings self.old name)) o.0 self.old }
         ensures over { StandsOver l.now self.new }
     {
-        self.store.delete_property(&l.abc().strings, o, name)
+        let _ = l;
+        self.store.delete_property(o, name)
     }
 
     /// The least filled position above one, or above 0 where that is negative, or `None` where there is none.

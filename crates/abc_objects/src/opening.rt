@@ -156,6 +156,7 @@ fn add_properties(store: &mut Store, o: ObjId, names: &[Bytes])
     requires room { HasRoomFor store.old 0 (length names.now) }
     requires short { 62 + length (concat names.now) < 2 ^ 32 }
     requires few { 14 + length names.now < 2 ^ 32 }
+    requires bytes { 62 + length (concat names.now) ≤ length store.old.fixed }
     ensures { store.new ≡ with_object (with_more_properties (host_properties 14 (spans_from 62 names.now))) o.0 store.old }
 {
     let mut start = 62;
@@ -180,6 +181,7 @@ fn make_host_object(store: &mut Store, l: &Linked, names: &[Bytes])
     requires room { HasRoomFor store.old 1 (length names.now) }
     requires short { 62 + length (concat names.now) < 2 ^ 32 }
     requires few { 14 + length names.now < 2 ^ 32 }
+    requires bytes { 62 + length (concat names.now) ≤ length store.old.fixed }
     ensures { store.new ≡ with_objects (host_object l.now names.now ∷ []) store.old }
 {
     l.linked_law();
@@ -236,6 +238,7 @@ fn make_opening(store: &mut Store, l: &Linked, names: &[Bytes], formulas: u32, s
     requires few { formulas ≤ 64 }
     requires names { names.now ≡ names_with store.old.formulas }
     requires short { 62 + length (concat names.now) < 2 ^ 32 }
+    requires bytes { 62 + length (concat names.now) ≤ length store.old.fixed }
     requires room { IsWithin (opening_counts l.now formulas) store.old.limits }
     ensures { store.new ≡ record store.old { objects = opening_objects l.now store.old.formulas; scopes = opening_scopes l.now formulas } }
 {
@@ -268,7 +271,8 @@ fn opened_store(
     let fixed = part_zero(alloc, names.as_slice())?;
     let classes = l.abc().instances.len() as u32;
     let scripts = l.abc().scripts.len() as u32;
-    let mut store = Store::empty(alloc, limits, fixed, formulas, classes)?;
+    let pool = &l.abc().strings;
+    let mut store = Store::empty(alloc, limits, fixed, formulas, pool, classes)?;
     make_opening(&mut store, l, names.as_slice(), count, scripts);
     Ok(store)
 }

@@ -10,7 +10,7 @@ pub returns-clause-objects : goal.returns-clause-objects
 returns-clause-objects c = ap (λ (f : Filling Head). objects c.args.cells.now.items 0 f.items) c.push.ensures ∙ object_added c.args.cells.now.items c.args.heads.now.items _ c.requires.heads
 
 pub returns-clause-heads : goal.returns-clause-heads
-returns-clause-heads c = subst (λ (f : Filling Head). AreHeads (links c.args.cells.now.items) f.items) (sym c.push.ensures) (head_added c.args.cells.now.items c.args.heads.now.items _ c.requires.heads refl refl)
+returns-clause-heads c = subst (λ (f : Filling Head). AreHeads (links c.args.cells.now.items) f.items) (sym c.push.ensures) (head_added c.args.cells.now.items c.args.heads.now.items _ c.requires.heads refl c.requires.what)
 
 pub returns-clause-next : goal.returns-clause-next
 returns-clause-next c = filling_begins c.args.cells.now.items c.args.heads.now.items c.push.new.self.items _ c.len-o.result c.requires.heads (ap (λ (f : Filling Head). f.items) c.push.ensures) c.len-o.ensures.len c.len.ensures.len

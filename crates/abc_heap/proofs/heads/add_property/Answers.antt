@@ -7,6 +7,9 @@ use Rattle.abc_heap.specs.View.{objects, AreHeads}
 use Rattle.abc_heap.proofs.Growth.{property_grown}
 use Rattle.abc_heap.proofs.heads.add_property.Goals as goal
 
+pub append-properties-requires-clause-chain : goal.append-properties-requires-clause-chain
+append-properties-requires-clause-chain c = (c.requires.heads.heads _ _ c.head_at-head.ensures).properties
+
 pub returns : goal.returns
 returns c =
     let g = property_grown c.args.cells.now.items c.append-properties.new.cells.items c.args.heads.now.items c.args.o c.head_at-head.result c.append-properties.result c.args.name c.args.v c.requires.heads c.head_at-head.ensures c.requires.inside c.append-properties.ensures.added c.append-properties.ensures.linked c.append-properties.ensures.chain in
@@ -14,6 +17,7 @@ returns c =
     record {
       objects = ap (objects c.append-properties.new.cells.items 0) e ∙ g.0;
       heads = subst (AreHeads (links c.append-properties.new.cells.items)) (sym e) g.1;
+      added = c.append-properties.ensures.added;
       sizes = record {
         heads = ap length e ∙ length-set c.args.heads.now.items c.args.o _;
         heads_limit = ap (λ (f : Filling Head). f.limit) c.set.ensures;

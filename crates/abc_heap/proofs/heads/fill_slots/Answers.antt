@@ -3,11 +3,12 @@ use Rattle.std.specs.Prelude.{◌∷◌, []}
 use Rattle.abc_heap.specs.Changes.{change, with_more_slots}
 use Rattle.abc_heap.specs.View.{objects}
 use Rattle.abc_heap.proofs.Bytes.{take_next}
+use Rattle.abc_heap.proofs.Indexed.{keeps_on}
 use Rattle.abc_heap.proofs.Makes.{slots_on, no_slots}
 use Rattle.abc_heap.proofs.heads.fill_slots.Goals as goal
 
 pub loop-k-init : goal.loop-k-init
-loop-k-init g c = (c.requires.heads, c.requires.next, omega arith, refl, sym (no_slots c.args.o (objects c.args.cells.now.items 0 c.args.heads.now.items)), omega arith)
+loop-k-init g c = (c.requires.heads, c.requires.next, omega arith, refl, sym (no_slots c.args.o (objects c.args.cells.now.items 0 c.args.heads.now.items)), omega arith, λ fixed made strings b x. x)
 
 pub loop-k-preserved : goal.loop-k-preserved
 loop-k-preserved g c =
@@ -26,4 +27,5 @@ loop-k-preserved g c =
           ∙ (ap (λ ws. change (with_more_slots ws) c.args.o before) (take_next vs c.loop-k.k c.start.result c.start.ensures)
           ∙ ap (λ n. change (with_more_slots (take n vs)) c.args.o before) next))),
       omega arith,
+      keeps_on c.args.cells.now c.loop-k.cells _ was.6 made.index,
     )

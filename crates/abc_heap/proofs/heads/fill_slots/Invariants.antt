@@ -1,5 +1,6 @@
 use Rattle.std.proofs.Common.{◌≡◌, ◌≤◌, ◌+◌, length, take}
 use Rattle.abc_cells.specs.Links.{links}
+use Rattle.abc_heap.specs.Buckets.{KeepsIndex}
 use Rattle.abc_heap.specs.Changes.{change, with_more_slots}
 use Rattle.abc_heap.specs.View.{objects, AreHeads}
 use Rattle.abc_heap.specs.Spots.{IsFilling}
@@ -13,3 +14,4 @@ invariant-loop-k g l =
     × (l.cells.limit ≡ l.initial.cells.limit)
     × (objects l.cells.items 0 l.heads.items ≡ change (with_more_slots (take l.k (g.S.Starts.values l.starts))) l.o (objects l.initial.cells.items 0 l.heads.items))
     × (l.k ≤ l.count)
+    × KeepsIndex l.initial.cells l.cells

@@ -23,6 +23,9 @@ add_properties-requires-clause-room c =
     room_on c.args.store.now _ (ob ∷ []) 1 (length c.args.names.now) 0 (length c.args.names.now) c.make_part-o.ensures.heap c.requires.room (omega arith)
     (omega (arith, opened_cells l (parts.Host hosts.Object) (Some hosts.Object) whats.HostObject, plain_slots l c.linked_law.ensures))
 
+pub add_properties-requires-clause-bytes : goal.add_properties-requires-clause-bytes
+add_properties-requires-clause-bytes c = omega (arith, c.requires.bytes, ap (λ (y : Heap). length y.fixed) c.make_part-o.ensures.heap)
+
 pub returns : goal.returns
 returns c =
     let ob = opened c.args.l.now (parts.Host hosts.Object) (Some hosts.Object) whats.HostObject in

@@ -1,4 +1,5 @@
-use Rattle.std.proofs.Common.{◌≡◌, ◌∙◌, ◌+◌, ◌++◌, ap, arith, length, map}
+use Rattle.std.proofs.Common.{◌≡◌, ◌∙◌, ℕ, ◌+◌, ◌++◌, ap, arith, length, map}
+use Rattle.abc_heap.specs.Heap.{Heap}
 use Rattle.abc_names.specs.Meaning.{host_classes}
 use Rattle.abc_objects.specs.Opening.{class_object, function_objects, global_slots, prototype_object}
 use Rattle.abc_objects.proofs.Opened.{names_length}
@@ -41,6 +42,11 @@ make_host_object-requires-clause-room c =
 
 pub make_host_object-requires-clause-few : goal.make_host_object-requires-clause-few
 make_host_object-requires-clause-few c = omega (arith, ap length c.requires.names, names_length c.args.store.now.formulas, c.requires.formulas, c.requires.few)
+
+pub make_host_object-requires-clause-bytes : goal.make_host_object-requires-clause-bytes
+make_host_object-requires-clause-bytes c =
+    let fixed : Heap → ℕ = λ h. length h.fixed in
+    omega (arith, c.requires.bytes, ap fixed c.make_prototypes.ensures, ap fixed c.make_class_objects.ensures, ap fixed c.make_functions.ensures)
 
 pub make_globals-requires-clause-room : goal.make_globals-requires-clause-room
 make_globals-requires-clause-room c =

@@ -7,15 +7,17 @@ use Rattle.abc_heap.proofs.store.Store.keep_above.Goals as goal
 
 pub invariant_of-self : goal.invariant_of-self
 invariant_of-self c =
-    let s = sizes_are _ c.args.self.now c.self.inside.cells.items c.self.inside.heads.items c.self.view_is refl c.self.invariant.0 in
-    let l = c.self.invariant.1 in (
-      c.self.invariant.0,
-      record {
+    let s = sizes_are _ c.args.self.now c.self.inside.cells.items c.self.inside.heads.items c.self.view_is refl c.self.invariant.heads in
+    let l = c.self.invariant.limits in
+    record {
+      heads = c.self.invariant.heads;
+      limits = record {
         objects = l.objects;
         cells = l.cells;
         scopes = ap (λ (f : Filling ScopeNode). f.limit) c.push.ensures ∙ l.scopes;
         text = l.text;
         within = omega (arith, s, c.requires, ap (λ (f : Filling ScopeNode). length f.items) c.push.ensures, length-append c.self.inside.scopes.items ((record { entry = c.args.entry; parent = c.args.below }) ∷ []));
         small = l.small;
-      },
-    )
+      };
+      index = c.self.invariant.index;
+    }

@@ -9,16 +9,18 @@ use Rattle.abc_heap.proofs.store.Store.keep_scopes.Goals as goal
 
 pub invariant_of-self : goal.invariant_of-self
 invariant_of-self c =
-    let s = sizes_are _ c.args.self.now c.self.inside.cells.items c.self.inside.heads.items c.self.view_is refl c.self.invariant.0 in
-    let l = c.self.invariant.1 in
-    let n = length c.self.inside.scopes.items in (
-      c.self.invariant.0,
-      record {
+    let s = sizes_are _ c.args.self.now c.self.inside.cells.items c.self.inside.heads.items c.self.view_is refl c.self.invariant.heads in
+    let l = c.self.invariant.limits in
+    let n = length c.self.inside.scopes.items in
+    record {
+      heads = c.self.invariant.heads;
+      limits = record {
         objects = l.objects;
         cells = l.cells;
         scopes = ap (λ (f : Filling ScopeNode). f.limit) c.capture.ensures.scopes ∙ l.scopes;
         text = l.text;
         within = omega (arith, s, c.requires, ap (λ (f : Filling ScopeNode). length f.items) c.capture.ensures.scopes, length-append c.self.inside.scopes.items (nodes n c.args.saved c.args.scopes.now), nodes_length n c.args.saved c.args.scopes.now);
         small = l.small;
-      },
-    )
+      };
+      index = c.self.invariant.index;
+    }

@@ -1,5 +1,5 @@
 use Rattle.std.proofs.Common.{arith}
-use Rattle.abc_heap.proofs.Arrays.{array_begun, array_filled}
+use Rattle.abc_heap.proofs.Arrays.{array_begun, array_filled, array_is_made}
 use Rattle.abc_heap.proofs.store.Store.new_array.Goals as goal
 
 pub add_elements-requires-clause-inside : goal.add_elements-requires-clause-inside
@@ -7,6 +7,9 @@ add_elements-requires-clause-inside c = (array_begun c.args.self.now _ _ _ _ _ c
 
 pub add_elements-requires-clause-room : goal.add_elements-requires-clause-room
 add_elements-requires-clause-room c = (array_begun c.args.self.now _ _ _ _ _ c.in_ok-room.ensures c.make_array-o.ensures.number c.make_array-o.ensures.heap).1
+
+pub add_elements-requires-clause-array : goal.add_elements-requires-clause-array
+add_elements-requires-clause-array c = array_is_made c.args.self.now _ _ _ _ c.make_array-o.ensures.number c.make_array-o.ensures.heap
 
 pub returns : goal.returns
 returns c = record {
