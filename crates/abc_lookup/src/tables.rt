@@ -3,23 +3,13 @@ ghost use Rattle.abc_lookup.specs.Slots.{has_slot as does_have_slot, listed, slo
 ghost use Rattle.abc_program.specs.Linked.{IsLayout, base};
 ghost use Rattle.abc_program.specs.Slots.{handler_at};
 ghost use Rattle.abc_program.specs.Traits.{own_table_of};
-ghost use Rattle.abc_items.specs.Parts.{body_at};
 ghost use Rattle.abc_search.specs.Traits.{members_in, slots_under as slots_below};
 
+use abc_items::handlers;
 use abc_link::{LayoutId, Linked};
 use abc_search::Member;
 use abc_slots::traits_of;
-use abc_tables::{Abc, Handler, TraitBody, TraitInfo};
-
-#[tactic(auto, using(abc_base::proofs::Past::past_end))]
-fn handlers(abc: &Abc, body: u32) -> &[Handler]
-    ensures { result.now ≡ (body_at abc.now body).handlers }
-{
-    match abc.bodies.find(body as usize) {
-        Some(body) => body.handlers.as_slice(),
-        None => &[],
-    }
-}
+use abc_tables::{Abc, TraitBody, TraitInfo};
 
 /// The name of a caught value, by its index; 0 is none.
 #[tactic(auto, using(abc_base::proofs::Past::past_end))]

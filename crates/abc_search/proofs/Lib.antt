@@ -5,3 +5,4 @@ mod Examples
 pub mod Joins
 mod Objectless
 mod SlotsFound
+mod MethodsFound
