@@ -1,5 +1,5 @@
-ghost use Rattle.std.specs.Prelude.{◌≡◌, ◌<◌, ◌≤◌, count_by, length, take};
-ghost use Rattle.abc_lookup.specs.Slots.{has_slot as does_have_slot, listed, slot_of};
+ghost use Rattle.std.specs.Prelude.{◌≡◌, ◌<◌, length};
+ghost use Rattle.abc_lookup.specs.Slots.{listed, slot_of};
 ghost use Rattle.abc_program.specs.Linked.{IsLayout, base};
 ghost use Rattle.abc_program.specs.Slots.{handler_at};
 ghost use Rattle.abc_program.specs.Traits.{own_table_of};
@@ -30,20 +30,6 @@ pub(crate) fn own_table(l: &Linked, x: LayoutId) -> &[TraitInfo]
     traits_of(l.abc(), l.part_of(x))
 }
 
-/// Whether a trait has a slot.
-fn has_slot(body: TraitBody) -> bool
-    ensures { result ≡ does_have_slot body }
-{
-    matches!(body, TraitBody::Slot { .. } | TraitBody::Class { .. })
-}
-
-/// How many of some traits have slots.
-fn count_slots(traits: &[TraitInfo]) -> usize
-    ensures { result ≡ count_by (λ t. does_have_slot t.body) traits.now }
-{
-    traits.iter().filter(|info| has_slot(info.body)).count()
-}
-
 /// How many slots of a layout stand before its own.
 pub(crate) fn slots_under(l: &Linked, x: LayoutId) -> usize
     requires { IsLayout l.now x }
@@ -64,8 +50,7 @@ pub(crate) fn slot_at(l: &Linked, x: LayoutId, place: u32) -> u32
 {
     l.linked_law();
     l.slots_law();
-    let before = count_slots(&own_table(l, x)[..place as usize]);
-    (slots_under(l, x) + before) as u32
+    (slots_under(l, x) + l.slots_before(x, place) as usize) as u32
 }
 
 /// What a trait of a layout is. The traits of functions are not run.

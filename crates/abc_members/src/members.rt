@@ -70,7 +70,8 @@ impl Members {
     /// The own traits of all layouts of a file.
     pub fn new(alloc: Global, abc: &Abc, layouts: &Layouts, count: u32) -> Result<Members, NoMemory>
         requires { count ≡ length layouts.now.parts }
-        ensures { IfOk result (λ m. HasGroups (linked abc.now layouts.now) m.texts m.groups (length layouts.now.parts)) }
+        ensures groups { IfOk result (λ m. HasGroups (linked abc.now layouts.now) m.texts m.groups (length layouts.now.parts)) }
+        ensures texts { IfOk result (λ m. HasTexts m.texts (texts_of abc.now.strings)) }
     {
         if abc.strings.len() >= u32::MAX as usize {
             return Err(NoMemory);
@@ -78,6 +79,13 @@ impl Members {
         let texts = Texts::new(alloc, &abc.strings)?;
         let groups = groups_of_layouts(alloc, abc, layouts, &texts, count)?;
         Ok(Members { texts, groups })
+    }
+
+    /// The texts by whose numbers traits are grouped.
+    pub fn texts(&self) -> &Texts
+        ensures { result.now ≡ self.now.texts }
+    {
+        &self.texts
     }
 
     /// The number of a text, if it is the empty one or a string of the file.
