@@ -8,8 +8,8 @@ use Rattle.abc_lookup.proofs.query.Query.find_owner.Goals as goal
 pub loop-place-init : goal.loop-place-init
 loop-place-init c = let q = c.args.self.now in record { rest = some_owners q.l.now q.a.now q.name q.text.now c.args.places.now c.requires.over q.texted c.requires.places; tried = tt }
 
-pub script_of-requires : goal.script_of-requires
-script_of-requires c = let q = c.args.self.now in owners_there q.l.now q.text.now c.args.places.now c.requires.places c.loop-place.place-index c.loop-place-test.true
+pub script_of-script-requires : goal.script_of-script-requires
+script_of-script-requires c = let q = c.args.self.now in owners_there q.l.now q.text.now c.args.places.now c.requires.places c.loop-place.place-index c.loop-place-test.true
 
 pub try_script-requires-clause-script : goal.try_script-requires-clause-script
 try_script-requires-clause-script c = let q = c.args.self.now in let h = owner_below 0 q.l.now.file.scripts _ c.script_of-script.result c.script_of-script.ensures in omega (arith, h)
