@@ -1,7 +1,6 @@
 -- What the tables of a linked file say.
 use Rattle.std.proofs.Common.{◌≡◌, ℕ, zero, ◌+◌, ◌<◌, ◌≤◌, ◌^◌, List, length, nat_eq, unwrap_or, ap, subst, sym, arith, below_more}
 use Rattle.std.proofs.lemmas.List.{get_or_past}
-use Rattle.std.specs.Str.{bytes_eq}
 use Rattle.abc_base.specs.declared.names.HostClass.TheVariants as hosts
 use Rattle.abc_program.specs.Parts.{parent}
 use Rattle.abc_program.specs.Places.{place_under}
@@ -9,8 +8,6 @@ use Rattle.abc_program.specs.declared.part.Part.TheVariants as parts
 use Rattle.abc_heirs.specs.Heirs.{list_at}
 use Rattle.abc_heirs.specs.Listed.{Listed}
 use Rattle.abc_index.specs.Index.{first}
-use Rattle.abc_index.specs.Texts.{HasTexts, number_in}
-use Rattle.abc_index.specs.declared.texts.Texts.{Texts}
 use Rattle.abc_link.specs.Made.{AreFewSlots}
 use Rattle.abc_link.specs.Tables.{AreTables, file_of}
 use Rattle.abc_link.specs.declared.linked.Linked.TheInside.{Inside}
@@ -45,8 +42,3 @@ more_slots lists x h few = record { each = below_more (λ (k : ℕ). length (lis
 
 pub few_slots : (l : LinkedFile) (lists : List (Listed SlotInfo)) → HasSlots l lists (length l.parts) → AreFewSlots lists (length l.parts) → HasFewSlots l
 few_slots l lists h few = λ x lt. subst (λ (xs : List SlotInfo). length xs < 2 ^ 32) (slots_found l lists (length l.parts) x h lt) (few.each x lt)
-
--- ---- the numbers of texts
-
-pub number_found : (t : Texts) (texts : List (List ℕ)) (text : List ℕ) → HasTexts t texts → number_in t text ≡ first (bytes_eq text) texts
-number_found t texts text h = h.has text

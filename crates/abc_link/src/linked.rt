@@ -217,7 +217,6 @@ impl Linked {
 
 impl Linked {
     /// The number of a text, if it is the empty one or a string of the file. Equal texts have equal numbers.
-    #[tactic(auto, using(crate::proofs::Laws::number_found))]
     pub fn text_number(&self, text: &[u8]) -> Option<u32>
         ensures { result ≡ first (bytes_eq text.now) (texts_of self.now.file.strings) }
     {
