@@ -254,7 +254,7 @@ impl Linked {
         self.made
             .search
             .scripts
-            .numbered(&self.abc, self.made.members.texts(), number)
+            .numbered(&self.abc, &self.made.members.texts, number)
     }
 
     /// The script of a trait by its place among those of all scripts.
@@ -265,7 +265,7 @@ impl Linked {
         self.made
             .search
             .scripts
-            .script_of(&self.abc, self.made.members.texts(), place)
+            .script_of(&self.abc, &self.made.members.texts, place)
     }
 
     /// Whether a set of the pool has a namespace that is equal to one of the pool.

@@ -19,7 +19,8 @@ use std::alloc::Global;
 /// The own traits of layouts, by the numbers of the texts of their names.
 #[derive(Drop)]
 pub struct Members {
-    pub(crate) texts: Texts,
+    /// The texts by whose numbers traits are grouped.
+    pub texts: Texts,
     pub(crate) groups: Table<IndexMap<u32, Table<u32>>>,
 }
 
@@ -79,13 +80,6 @@ impl Members {
         let texts = Texts::new(alloc, &abc.strings)?;
         let groups = groups_of_layouts(alloc, abc, layouts, &texts, count)?;
         Ok(Members { texts, groups })
-    }
-
-    /// The texts by whose numbers traits are grouped.
-    pub fn texts(&self) -> &Texts
-        ensures { result.now ≡ self.now.texts }
-    {
-        &self.texts
     }
 
     /// The number of a text, if it is the empty one or a string of the file.
