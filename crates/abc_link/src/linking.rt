@@ -20,6 +20,7 @@ use abc_names::{Meanings, NameTables, Named, Names, meanings_of};
 use abc_owners::Owners;
 use abc_program::SlotInfo;
 use abc_rules::check_rules;
+use abc_search_tables::SearchTables;
 use abc_slots::slots_of;
 use abc_tables::Abc;
 use std::alloc::Global;
@@ -91,10 +92,17 @@ fn check_slots(slots: &Heirs<SlotInfo>, layouts: &Layouts, count: u32) -> Result
 }
 
 /// What is made of a file that keeps the rules.
-fn make(alloc: Global, abc: &Abc, meanings: &Table<Option<Named>>) -> Result<Made, NoMemory>
+fn make(
+    alloc: Global,
+    abc: &Abc,
+    names: &NameTables,
+    meanings: &Table<Option<Named>>,
+) -> Result<Made, NoMemory>
+    requires names { AreNames abc.now names.now }
     requires meanings { AreMeanings abc.now meanings.now }
     requires rules { AllHold abc.now }
-    ensures { IfOk result (λ m. IsMade abc.now m) }
+    requires few { IsFew abc.now }
+    ensures { IfOk result (λ m. IsMade abc.now names.now.numbers m) }
 {
     let owners = Owners::new(alloc, abc)?;
     let layouts = layouts_in(alloc, abc, meanings)?;
@@ -104,12 +112,15 @@ fn make(alloc: Global, abc: &Abc, meanings: &Table<Option<Named>>) -> Result<Mad
     check_slots(&slots, &layouts, count)?;
     let members = Members::new(alloc, abc, &layouts, count)?;
     let interfaces = Interfaces::new(alloc, &meant)?;
+    let named = Names { abc, tables: names };
+    let search = SearchTables::new(alloc, &named, &layouts, count, &members.texts)?;
     Ok(Made {
         owners,
         layouts,
         slots,
         members,
         interfaces,
+        search,
     })
 }
 
@@ -139,7 +150,7 @@ pub fn link(alloc: Global, abc: Abc) -> Result<Linked, LinkError>
     let names = NameTables::new(alloc, &abc)?;
     let meanings = meanings_in(alloc, &abc, &names)?;
     check(alloc, &abc, &names, &meanings)?;
-    let made = make(alloc, &abc, &meanings)?;
+    let made = make(alloc, &abc, &names, &meanings)?;
     let linked = Linked {
         abc,
         names,

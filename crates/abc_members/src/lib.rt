@@ -5,3 +5,4 @@ mod members;
 mod numbers;
 
 pub use members::Members;
+pub use numbers::{number_at, numbers_of};

@@ -19,7 +19,8 @@ use std::alloc::Global;
 /// The own traits of layouts, by the numbers of the texts of their names.
 #[derive(Drop)]
 pub struct Members {
-    pub(crate) texts: Texts,
+    /// The texts by whose numbers traits are grouped.
+    pub texts: Texts,
     pub(crate) groups: Table<IndexMap<u32, Table<u32>>>,
 }
 
@@ -70,7 +71,8 @@ impl Members {
     /// The own traits of all layouts of a file.
     pub fn new(alloc: Global, abc: &Abc, layouts: &Layouts, count: u32) -> Result<Members, NoMemory>
         requires { count ≡ length layouts.now.parts }
-        ensures { IfOk result (λ m. HasGroups (linked abc.now layouts.now) m.texts m.groups (length layouts.now.parts)) }
+        ensures groups { IfOk result (λ m. HasGroups (linked abc.now layouts.now) m.texts m.groups (length layouts.now.parts)) }
+        ensures texts { IfOk result (λ m. HasTexts m.texts (texts_of abc.now.strings)) }
     {
         if abc.strings.len() >= u32::MAX as usize {
             return Err(NoMemory);

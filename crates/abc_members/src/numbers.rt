@@ -19,7 +19,7 @@ fn number_or_first(texts: &Texts, text: &[u8]) -> u32
 }
 
 /// The number of the text of each string, from index 0, the empty text, on.
-pub(crate) fn numbers_of(
+pub fn numbers_of(
     alloc: Global,
     texts: &Texts,
     strings: &Table<Bytes>,
@@ -34,9 +34,9 @@ pub(crate) fn numbers_of(
     Ok(numbers)
 }
 
-/// The number of the text of a string.
+/// The number of the text of a string, or 0 past the end.
 #[tactic(auto, using(abc_base::proofs::Past::past_end))]
-fn number_at(numbers: &Table<u32>, string: u32) -> u32
+pub fn number_at(numbers: &Table<u32>, string: u32) -> u32
     ensures { result ≡ get_or numbers.now string 0 }
 {
     match numbers.fetch(string as usize) {

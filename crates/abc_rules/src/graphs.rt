@@ -3,8 +3,8 @@ ghost use Rattle.std.specs.List.{flat_map};
 ghost use Rattle.abc_names.specs.Meaning.{resolve};
 ghost use Rattle.abc_items.specs.Bases.{base_graph as base_graph_of, classes_named as classes_of, interface_graph as interface_graph_of, interfaces_named as interfaces_in, targets_of as targets_in};
 
-use crate::bases::is_interface;
 use abc_base::{NoMemory, Table};
+use abc_items::is_interface;
 use abc_names::{Meanings, Named};
 use abc_tables::{Abc, Instance, has_flag};
 use std::alloc::Global;

@@ -1,11 +1,11 @@
-ghost use Rattle.std.specs.Prelude.{◌≡◌, ◌++◌, ◌<◌, ◌^◌, [], ℕ, List, Some, get_or, length, map, slice_get, unwrap_or, IfOk, OnOk};
+ghost use Rattle.std.specs.Prelude.{◌≡◌, ◌++◌, ◌<◌, ◌^◌, [], ℕ, List, Some, length, map, slice_get, IfOk, OnOk};
 ghost use Rattle.std.specs.Option.{option_copied};
 ghost use Rattle.abc_index.specs.Texts.{HasTexts, number_in, texts_of};
-ghost use Rattle.abc_members.specs.Strings.{numbers_in};
 ghost use Rattle.abc_search_tables.specs.ScriptTraits.{HasScripts, keys_of, owners_of, script_traits, traits_of_scripts};
 
-use abc_base::{Bytes, NoMemory, Table};
+use abc_base::{NoMemory, Table};
 use abc_index::{Texts, groups_of};
+use abc_members::{number_at, numbers_of};
 use abc_names::qname_at;
 use abc_tables::{Abc, TraitInfo};
 use indexmap::IndexMap;
@@ -16,36 +16,6 @@ use std::alloc::Global;
 pub struct ScriptTraits {
     pub(crate) owners: Table<u32>,
     pub(crate) groups: IndexMap<u32, Table<u32>>,
-}
-
-/// The number of a text, or 0 for one that has none.
-fn number_or_first(texts: &Texts, text: &[u8]) -> u32
-    ensures { result ≡ unwrap_or (number_in texts.now text.now) 0 }
-{
-    texts.number_of(text).unwrap_or(0)
-}
-
-/// The number of the text of each string, from index 0, the empty text, on.
-fn numbers_of(alloc: Global, texts: &Texts, strings: &Table<Bytes>) -> Result<Table<u32>, NoMemory>
-    ensures { IfOk result (λ t. t ≡ numbers_in texts.now strings.now) }
-{
-    let mut numbers = Table::new(alloc);
-    numbers.push(0)?;
-    for string in strings.as_slice() {
-        numbers.push(number_or_first(texts, string.as_slice()))?;
-    }
-    Ok(numbers)
-}
-
-/// The number of the text of a string.
-#[tactic(auto, using(abc_base::proofs::Past::past_end))]
-fn number_at(numbers: &Table<u32>, string: u32) -> u32
-    ensures { result ≡ get_or numbers.now string 0 }
-{
-    match numbers.fetch(string as usize) {
-        Some(number) => number,
-        None => 0,
-    }
 }
 
 /// Adds the traits of a script, with the numbers of their texts.

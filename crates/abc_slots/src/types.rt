@@ -3,8 +3,8 @@ ghost use Rattle.abc_layouts.specs.Laid.{HasPlaces};
 ghost use Rattle.abc_program.specs.Types.{host_type as type_of_host, type_in as type_of_named};
 ghost use Rattle.abc_slots.specs.Files.{linked};
 
-use crate::parts::is_interface;
 use abc_base::HostClass;
+use abc_items::is_interface;
 use abc_layouts::Layouts;
 use abc_names::Named;
 use abc_program::{Part, Ty};
