@@ -6,7 +6,7 @@ use Rattle.std.proofs.lemmas.List.{get_or_default}
 use Rattle.std.proofs.lemmas.List.Elements.{Contains-append_left, Contains-push, Contains-push_cases}
 use Rattle.std.proofs.Common.{eqb-true}
 use Rattle.indexmap.specs.IndexSet.{insert_key}
-use Rattle.abc_rules.proofs.Pairs.{any_found}
+use Rattle.abc_program.proofs.RulesPairs.{any_found}
 use Rattle.abc_interfaces.specs.Sets.{AddsEach}
 
 contains_one : (x y : ℕ) → x ≡ y → Contains (x ∷ []) y

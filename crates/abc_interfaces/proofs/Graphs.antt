@@ -10,7 +10,7 @@ use Rattle.abc_names.specs.Meaning.{resolve}
 use Rattle.abc_names.specs.declared.named.Named.{Named}
 use Rattle.abc_names.specs.declared.named.Named.TheVariants as named
 use Rattle.abc_program.specs.Interfaces.{above_class, class_graph}
-use Rattle.abc_rules.proofs.Within.{resolve_within}
+use Rattle.abc_program.proofs.RulesWithin.{resolve_within}
 use Rattle.abc_items.specs.Bases.{classes_named, interfaces_named, interfaces_of, is_interface}
 use Rattle.abc_tables.specs.Methods.{has_flag}
 use Rattle.abc_tables.specs.declared.classes.Instance.{Instance}

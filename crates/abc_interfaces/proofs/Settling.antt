@@ -9,7 +9,7 @@ use Rattle.abc_program.specs.Interfaces.{class_graph}
 use Rattle.abc_tables.specs.declared.tables.Abc.{Abc}
 use Rattle.abc_interfaces.specs.Sets.{AreSets, AreUnset, HasSets, IsAbove, IsSetOf, ListsBelow, Set, Settles, SettlesEach, is_settled, is_there, keys_at}
 use Rattle.abc_interfaces.proofs.Uniting.{known_set}
-use Rattle.abc_rules.proofs.Pairs.{any_found, any_makes}
+use Rattle.abc_program.proofs.RulesPairs.{any_found, any_makes}
 use Rattle.abc_interfaces.proofs.Graphs.{as_many}
 
 -- ---- one set

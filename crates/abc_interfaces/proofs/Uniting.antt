@@ -6,7 +6,7 @@ use Rattle.std.proofs.lemmas.List.{get_or_default}
 use Rattle.std.proofs.lemmas.List.Elements.{Contains-append_cases, Contains-append_left, Contains-append_right}
 use Rattle.abc_graph.specs.Graph.{Edge, Leads, Then, targets}
 use Rattle.abc_program.specs.Interfaces.{class_graph}
-use Rattle.abc_rules.proofs.Pairs.{any_makes}
+use Rattle.abc_program.proofs.RulesPairs.{any_makes}
 use Rattle.abc_items.specs.Bases.{is_interface}
 use Rattle.abc_tables.specs.declared.tables.Abc.{Abc}
 use Rattle.abc_interfaces.specs.Sets.{AddsEach, AreSets, IsAbove, IsSetOf, Set, given_by, is_settled, is_there, keys_at, keys_in}

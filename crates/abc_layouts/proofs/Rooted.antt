@@ -17,7 +17,7 @@ use Rattle.abc_items.specs.Rules.{AllHold}
 use Rattle.abc_items.specs.declared.items.Item.{Item}
 use Rattle.abc_items.specs.declared.items.ItemKind.TheVariants as kinds
 use Rattle.abc_items.specs.declared.items.LinkRule.TheVariants as rules
-use Rattle.abc_rules.proofs.Within.{resolve_within}
+use Rattle.abc_program.proofs.RulesWithin.{resolve_within}
 use Rattle.abc_layouts.specs.Forest.{class_bases, class_in}
 
 as_list : (o : Option Named) → option_to_list (class_in o) ≡ classes_named o

@@ -3,7 +3,7 @@ use Rattle.std.specs.Prelude.{ℕ, ◌<◌, ◌^◌, List, length}
 use Rattle.abc_heirs.specs.Heirs.{list_at}
 use Rattle.abc_heirs.specs.Listed.{Listed}
 use Rattle.abc_interfaces.specs.Sets.{HasSets}
-use Rattle.abc_layouts.specs.Laid.{AreLayouts}
+use Rattle.abc_slots.specs.LayoutsLaid.{AreLayouts}
 use Rattle.abc_index.specs.Texts.{HasTexts, texts_of}
 use Rattle.abc_link.specs.declared.linked.Made.{Made}
 use Rattle.abc_members.specs.Grouped.{HasGroups}

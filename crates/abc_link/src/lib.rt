@@ -7,6 +7,7 @@ mod linking;
 
 pub use abc_items::{Item, ItemKind, LinkError, LinkRule};
 pub use abc_program::{Kind, LayoutId, Owner, Part, SlotInfo, Ty};
+pub use abc_slots::traits_of;
 pub use abc_starts::Start;
 pub use linked::{Linked, kind_of_type};
 pub use linking::link;

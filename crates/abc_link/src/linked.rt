@@ -17,13 +17,12 @@ ghost use Rattle.abc_program.specs.Types.{kind_of_type as kind_of, type_of as ty
 use abc_base::{HostClass, Table};
 use abc_heirs::Heirs;
 use abc_interfaces::Interfaces;
-use abc_layouts::Layouts;
 use abc_members::Members;
 use abc_names::{Meanings, NameTables, Named, Names};
 use abc_owners::Owners;
 use abc_program::{Kind, LayoutId, Owner, Part, SlotInfo, Ty};
 use abc_search_tables::SearchTables;
-use abc_slots::type_in;
+use abc_slots::{Layouts, type_in};
 use abc_tables::Abc;
 use std::marker::Model;
 

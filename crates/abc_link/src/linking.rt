@@ -1,6 +1,6 @@
 ghost use Rattle.std.specs.Prelude.{◌≡◌, ◌<◌, ◌^◌, length, IfOk, IsTrue, MatchResult, OnOk};
 ghost use Rattle.abc_heirs.specs.Heirs.{list_at};
-ghost use Rattle.abc_layouts.specs.Laid.{AreLayouts};
+ghost use Rattle.abc_slots.specs.LayoutsLaid.{AreLayouts};
 ghost use Rattle.abc_link.specs.Made.{AreFewSlots, IsMade};
 ghost use Rattle.abc_names.specs.Meanings.{AreMeanings};
 ghost use Rattle.abc_names.specs.Numbers.{AreNames};
@@ -14,14 +14,13 @@ use abc_base::{NoMemory, Table};
 use abc_heirs::Heirs;
 use abc_interfaces::Interfaces;
 use abc_items::LinkError;
-use abc_layouts::Layouts;
 use abc_members::Members;
 use abc_names::{Meanings, NameTables, Named, Names, meanings_of};
 use abc_owners::Owners;
 use abc_program::SlotInfo;
 use abc_rules::check_rules;
 use abc_search_tables::SearchTables;
-use abc_slots::slots_of;
+use abc_slots::{Layouts, slots_of};
 use abc_tables::Abc;
 use std::alloc::Global;
 

@@ -30,7 +30,7 @@ use Rattle.abc_search.specs.Scopes.{InScript, Place, has}
 use Rattle.abc_search.specs.Traits.{Trait, members_in, own, own_traits_of, slots_under, traits_from, traits_named}
 use Rattle.abc_search.specs.declared.name.Name.{Name}
 use Rattle.abc_search.specs.declared.traits.Member.{Member}
-use Rattle.abc_search_tables.specs.ScriptTraits.{owners_from, owners_of, script_traits, traits_of_scripts}
+use Rattle.abc_link.specs.SearchTablesScriptTraits.{owners_from, owners_of, script_traits, traits_of_scripts}
 use Rattle.abc_tables.specs.declared.classes.Script.{Script}
 use Rattle.abc_tables.specs.declared.tables.Abc.{Abc}
 use Rattle.abc_tables.specs.declared.traits.TraitInfo.{TraitInfo}

@@ -16,7 +16,7 @@ use Rattle.abc_search.specs.Traits.{slots_under}
 use Rattle.abc_tables.specs.declared.traits.TraitBody.{TraitBody}
 use Rattle.abc_tables.specs.declared.traits.TraitBody.TheVariants as bodies
 use Rattle.abc_tables.specs.declared.traits.TraitInfo.{TraitInfo}
-use Rattle.abc_search_tables.specs.OwnSlots.{has_slot, slots_before, slots_from}
+use Rattle.abc_link.specs.SearchTablesOwnSlots.{has_slot, slots_before, slots_from}
 use Rattle.abc_lookup.specs.Slots.{slot_count, slot_of}
 use Rattle.abc_lookup.proofs.Along.{bases_fall}
 

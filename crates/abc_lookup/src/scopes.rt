@@ -8,7 +8,7 @@ ghost use Rattle.abc_search.specs.Candidates.{answer, where_public};
 ghost use Rattle.abc_search.specs.Scopes as search;
 ghost use Rattle.abc_search.specs.Scopes.{candidates_at, has, places, saved_places, scope_things};
 ghost use Rattle.abc_search.specs.declared.found.Skip.TheVariants as skips;
-ghost use Rattle.abc_search_tables.specs.ScriptTraits.{script_traits};
+ghost use Rattle.abc_link.specs.SearchTablesScriptTraits.{script_traits};
 
 use crate::place::Place;
 use crate::query::Query;

@@ -6,9 +6,8 @@ ghost use Rattle.abc_program.specs.Traits.{own_table_of};
 ghost use Rattle.abc_search.specs.Traits.{members_in, slots_under as slots_below};
 
 use abc_items::handlers;
-use abc_link::{LayoutId, Linked};
+use abc_link::{LayoutId, Linked, traits_of};
 use abc_search::Member;
-use abc_slots::traits_of;
 use abc_tables::{Abc, TraitBody, TraitInfo};
 
 /// The name of a caught value, by its index; 0 is none.

@@ -4,5 +4,6 @@
 mod members;
 mod numbers;
 
+pub use abc_slots::{Layouts, traits_of};
 pub use members::Members;
 pub use numbers::{number_at, numbers_of};

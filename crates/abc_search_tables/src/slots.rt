@@ -4,9 +4,8 @@ ghost use Rattle.abc_program.specs.Slots.{traits_of as traits_in};
 ghost use Rattle.abc_search_tables.specs.OwnSlots.{HasOwnSlots, has_slot as does_have_slot, own_slots_before, slots_before};
 
 use abc_base::{NoMemory, Table};
-use abc_layouts::Layouts;
+use abc_members::{Layouts, traits_of};
 use abc_program::LayoutId;
-use abc_slots::traits_of;
 use abc_tables::{Abc, TraitBody, TraitInfo};
 use std::alloc::Global;
 

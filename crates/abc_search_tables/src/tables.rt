@@ -7,7 +7,7 @@ use crate::sets::SetSpaces;
 use crate::slots::OwnSlots;
 use abc_base::NoMemory;
 use abc_index::Texts;
-use abc_layouts::Layouts;
+use abc_members::Layouts;
 use abc_names::Names;
 use std::alloc::Global;
 

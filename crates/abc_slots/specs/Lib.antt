@@ -1,2 +1,3 @@
 pub mod Files
 pub mod Tables
+pub use Rattle.abc_layouts.specs.Laid as LayoutsLaid

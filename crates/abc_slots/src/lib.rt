@@ -5,6 +5,7 @@ mod parts;
 mod slots;
 mod types;
 
+pub use abc_layouts::Layouts;
 pub use parts::traits_of;
 pub use slots::slots_of;
 pub use types::type_in;
