@@ -1,5 +1,5 @@
 -- Asking the scripts that have a trait of the text finds what asking all scripts does.
-use Rattle.std.proofs.Common.{◌≡◌, ℕ, zero, suc, ◌+◌, ◌<◌, Bool, true, false, ◌&&◌, ◌||◌, List, [], ◌∷◌, ◌++◌, length, map, cond, get_or, drop, drop-cons, add-one, refl, sym, ap, ◌∙◌, subst, arith, append_assoc}
+use Rattle.std.proofs.Common.{◌≡◌, ℕ, zero, suc, ◌+◌, ◌<◌, Bool, true, false, ◌&&◌, ◌||◌, List, [], ◌∷◌, ◌++◌, length, map, cond, get_or, drop, drop-cons, add-one, refl, sym, ap, ◌∙◌, arith, append_assoc}
 use Rattle.std.proofs.lemmas.List.{length-append, length-map}
 use Rattle.std.specs.Prelude.{Some, None, slice_get}
 use Rattle.std.specs.declared.option.Option.{Option}
@@ -9,9 +9,9 @@ use Rattle.abc_base.specs.declared.names.HostClass.TheVariants as hosts
 use Rattle.abc_graph.proofs.Walks.{way_none, way_some}
 use Rattle.abc_graph.specs.Ways.{before, way}
 use Rattle.abc_heap.specs.Heap.{Heap}
-use Rattle.abc_index.specs.Groups.{places_from, places_of, some_places}
+use Rattle.abc_index.specs.Groups.{places_from, places_of}
 use Rattle.abc_items.specs.Parts.{no_script, script_at}
-use Rattle.abc_names.specs.Pool.{name, qname, text}
+use Rattle.abc_names.specs.Pool.{text}
 use Rattle.abc_names.specs.declared.named.DefiniteName.{DefiniteName}
 use Rattle.abc_objects.proofs.Opened.{global_made}
 use Rattle.abc_objects.specs.Stands.{StandsOver}
@@ -24,7 +24,7 @@ use Rattle.abc_program.specs.Slots.{slots_in}
 use Rattle.abc_program.specs.Traits.{trait_name, trait_texts}
 use Rattle.abc_program.specs.declared.part.Part.{Part}
 use Rattle.abc_program.specs.declared.part.Part.TheVariants as parts
-use Rattle.abc_search.specs.Candidates.{Candidate, OfTrait, fits, fits_space, layout_at, text_in, traits_after}
+use Rattle.abc_search.specs.Candidates.{OfTrait, fits, fits_space, layout_at, text_in, traits_after}
 use Rattle.abc_search.specs.Objects.{global_number}
 use Rattle.abc_search.specs.Scopes.{InScript, Place, has}
 use Rattle.abc_search.specs.Traits.{Trait, members_in, own, own_traits_of, slots_under, traits_from, traits_named}
@@ -32,7 +32,6 @@ use Rattle.abc_search.specs.declared.name.Name.{Name}
 use Rattle.abc_search.specs.declared.traits.Member.{Member}
 use Rattle.abc_link.specs.SearchTablesScriptTraits.{owners_from, owners_of, script_traits, traits_of_scripts}
 use Rattle.abc_tables.specs.declared.classes.Script.{Script}
-use Rattle.abc_tables.specs.declared.tables.Abc.{Abc}
 use Rattle.abc_tables.specs.declared.traits.TraitInfo.{TraitInfo}
 use Rattle.abc_lookup.specs.Scripts.{HasNot}
 use Rattle.abc_lookup.proofs.TextFirst.{none_none, places_below, some_at, some_some}

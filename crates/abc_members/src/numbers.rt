@@ -1,4 +1,4 @@
-ghost use Rattle.std.specs.Prelude.{◌≡◌, ◌∷◌, ◌<◌, ◌^◌, get_or, length, map, unwrap_or, IfOk};
+ghost use Rattle.std.specs.Prelude.{◌≡◌, ◌<◌, get_or, map, unwrap_or, IfOk};
 ghost use Rattle.abc_index.specs.Texts.{HasTexts, number_in, texts_of};
 ghost use Rattle.abc_index.specs.ByText.{GroupsTexts};
 ghost use Rattle.abc_members.specs.Strings.{numbers_in, trait_strings};

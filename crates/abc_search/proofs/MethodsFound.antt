@@ -4,7 +4,6 @@ use Rattle.std.specs.Prelude.{Some, None, slice_get}
 use Rattle.std.specs.declared.option.Option.{Option}
 use Rattle.std.specs.List.{list_any}
 use Rattle.abc_base.specs.declared.names.HostClass.TheVariants as hosts
-use Rattle.abc_cells.specs.declared.values.ObjId.{ObjId}
 use Rattle.abc_cells.specs.declared.values.Span.{Span}
 use Rattle.abc_cells.specs.declared.values.Value.{Value}
 use Rattle.abc_cells.specs.declared.values.Value.TheVariants as values
@@ -22,7 +21,7 @@ use Rattle.abc_program.specs.declared.part.Part.{Part}
 use Rattle.abc_program.specs.declared.part.Part.TheVariants as parts
 use Rattle.abc_program.proofs.Tree.{below_self, below_trans}
 use Rattle.abc_search.specs.Candidates.{Candidate, OfElement, OfLength, OfProperty, OfTrait, answer, candidates_on, elements, elements_from, fits, found, found_as, layout_at, own_things, properties, property_at, things_along, traits_after, traits_on, where_public}
-use Rattle.abc_search.specs.Laws.{FindsAMethod, FindsOwnMethods, HasMethod, HasMethodAbove, IsMethodOf, method_in}
+use Rattle.abc_search.specs.Laws.{FindsAMethod, FindsOwnMethods, HasMethod, IsMethodOf, method_in}
 use Rattle.abc_search.specs.Objects.{delegate_at}
 use Rattle.abc_search.specs.Results.{skip_for}
 use Rattle.abc_search.specs.Searches.{declared_found, found_on}
