@@ -112,7 +112,14 @@ fn make(
     let members = Members::new(alloc, abc, &layouts, count)?;
     let interfaces = Interfaces::new(alloc, &meant)?;
     let named = Names { abc, tables: names };
-    let search = SearchTables::new(alloc, &named, &layouts, count, &members.texts)?;
+    let search = SearchTables::new(
+        alloc,
+        &named,
+        &layouts,
+        count,
+        &members.texts,
+        &members.numbers,
+    )?;
     Ok(Made {
         owners,
         layouts,

@@ -6,4 +6,4 @@ mod numbers;
 
 pub use abc_slots::{Layouts, traits_of};
 pub use members::Members;
-pub use numbers::{number_at, numbers_of};
+pub use numbers::number_at;

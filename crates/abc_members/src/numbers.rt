@@ -19,7 +19,7 @@ fn number_or_first(texts: &Texts, text: &[u8]) -> u32
 }
 
 /// The number of the text of each string, from index 0, the empty text, on.
-pub fn numbers_of(
+pub(crate) fn numbers_of(
     alloc: Global,
     texts: &Texts,
     strings: &Table<Bytes>,

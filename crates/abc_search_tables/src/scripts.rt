@@ -1,11 +1,12 @@
 ghost use Rattle.std.specs.Prelude.{◌≡◌, ◌++◌, ◌<◌, ◌^◌, [], ℕ, List, Some, length, map, slice_get, IfOk, OnOk};
 ghost use Rattle.std.specs.Option.{option_copied};
 ghost use Rattle.abc_index.specs.Texts.{HasTexts, number_in, texts_of};
+ghost use Rattle.abc_members.specs.Strings.{numbers_in};
 ghost use Rattle.abc_search_tables.specs.ScriptTraits.{HasScripts, keys_of, owners_of, script_traits, traits_of_scripts};
 
 use abc_base::{NoMemory, Table};
 use abc_index::{Texts, groups_of};
-use abc_members::{number_at, numbers_of};
+use abc_members::number_at;
 use abc_names::qname_at;
 use abc_tables::{Abc, TraitInfo};
 use indexmap::IndexMap;
@@ -64,16 +65,23 @@ fn push_scripts(
 }
 
 impl ScriptTraits {
-    /// The traits of the scripts of a file. Of 2^32 traits or more there is never room for all.
-    pub fn new(alloc: Global, abc: &Abc, texts: &Texts) -> Result<ScriptTraits, NoMemory>
+    /// The traits of the scripts of a file, by the numbers of the texts of its strings. Of 2^32 traits or more there is never
+    /// room for all.
+    pub fn new(
+        alloc: Global,
+        abc: &Abc,
+        texts: &Texts,
+        numbers: &Table<u32>,
+    ) -> Result<ScriptTraits, NoMemory>
         requires texts { HasTexts texts.now (texts_of abc.now.strings) }
+        requires numbers { numbers.now ≡ numbers_in texts.now abc.now.strings }
         requires few { length abc.now.scripts < 2 ^ 32 }
         ensures { IfOk result (λ s. HasScripts abc.now texts.now s) }
     {
-        let numbers = numbers_of(alloc, texts, &abc.strings)?;
+        let _texts = texts;
         let mut keys = Vec::new(alloc);
         let mut owners = Table::new(alloc);
-        push_scripts(abc, &numbers, &mut keys, &mut owners)?;
+        push_scripts(abc, numbers, &mut keys, &mut owners)?;
         if keys.len() > u32::MAX as usize {
             return Err(NoMemory);
         }
