@@ -14,7 +14,8 @@ use Rattle.abc_plainacts.proofs.SettlesStepping.{run_sound, step_sound}
 use Rattle.abc_objectacts.proofs.Supers.{classes_hold}
 use Rattle.abc_objectacts.proofs.Walked.{walking_hold}
 
-groups_hold : (p : Setting) (typings : Typings) → Given p → AreTypings p typings → GroupsHold p typings
+-- each act of the table is sound
+pub groups_hold : (p : Setting) (typings : Typings) → Given p → AreTypings p typings → GroupsHold p typings
 unfolding acts
 groups_hold p typings g typed =
     let calls = call_acts (class_acts []) in

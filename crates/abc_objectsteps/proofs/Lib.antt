@@ -1,1 +1,2 @@
 pub mod ObjectOps
+pub mod Walked

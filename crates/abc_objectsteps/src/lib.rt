@@ -4,6 +4,8 @@
 
 mod slots;
 mod values;
+mod walking;
 
 pub use slots::run_slot;
 pub use values::{run_late, run_walk};
+pub use walking::run_next;

@@ -3,3 +3,4 @@ pub mod Spelled
 pub mod Ready
 pub mod Groups
 pub mod Reads
+pub mod Returned

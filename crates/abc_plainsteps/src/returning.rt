@@ -6,6 +6,7 @@ ghost use Rattle.abc_objects.specs.Values.{Exists};
 ghost use Rattle.abc_plainsteps.specs.Groups.{return_ops};
 ghost use Rattle.abc_plainsteps.specs.Here.{act_here};
 ghost use Rattle.abc_plainsteps.specs.Ready.{CanRun};
+ghost use Rattle.abc_plainsteps.specs.Returned.{IsReturned};
 ghost use Rattle.abc_stacks.specs.Frame.{newest};
 ghost use Rattle.abc_states.specs.Outer.{Outer, setting, world};
 ghost use Rattle.abc_states.specs.Stops.{IsOpen};
@@ -25,6 +26,7 @@ fn return_value(linked: &Linked, s: &mut State, v: Value) -> Result<Left, Stop>
     requires live { 0 < length s.old.frames.living }
     requires free { IsOpen (returns (setting linked.now out) (newest s.old.frames) v (world s.old out)) }
     ensures leaves { Leaves linked.now out (returns (setting linked.now out) (newest s.old.frames) v) s.old result s.new }
+    ensures returns { IsReturned result }
     ensures limit { s.new.given.limit ≡ s.old.given.limit }
 {
     let Some(method) = linked.abc().methods.find(s.frames.method() as usize) else {
@@ -43,6 +45,7 @@ pub fn run_return(linked: &Linked, s: &mut State, op: u8) -> Result<Left, Stop>
     requires run { CanRun linked.now out s.old (Plain op) }
     requires among { is_in op return_ops ≡ true }
     ensures leaves { Leaves linked.now out (act_here (setting linked.now out) (newest s.old.frames) (Plain op)) s.old result s.new }
+    ensures returns { IsReturned result }
     ensures limit { s.new.given.limit ≡ s.old.given.limit }
 {
     match op {

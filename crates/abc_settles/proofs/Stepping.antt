@@ -70,7 +70,7 @@ all_sound p typings h o x d e q = entry_found p typings o acts d h q x e
 
 module _ (p : Setting) (file : FileGiven p) (ops : OpsGiven p) (typings : Typings) (typed : AreTypings p typings) (groups : GroupsHold p typings) (news : NewSound p file typings typed) where
   -- an instruction
-  runs_fares : (w : World) (f : Frame) → WorldSound p w → FrameSound p typings w.heap f → Fares p w (runs p f (routine_of p f.method) w) (ActSound p typings f)
+  pub runs_fares : (w : World) (f : Frame) → WorldSound p w → FrameSound p typings w.heap f → Fares p w (runs p f (routine_of p f.method) w) (ActSound p typings f)
   runs_fares w f s h =
       let r = h.stands.routine in
       let state = h.typed.state in

@@ -1,0 +1,13 @@
+ghost use Rattle.abc_faults.specs.Placed.{FaultsArePlaced};
+ghost use Rattle.abc_meaning.specs.Laws.{IsNeverStuck};
+
+use abc_unstuck::verified_files_never_stick;
+
+/// The end of a run of a verified file can be told: it is never stuck, and where it is a fault of the profile, its method has a
+/// body, and its place is the number of one of the instructions of that body.
+pub fn ends_can_be_told()
+    ensures never_stuck { IsNeverStuck }
+    ensures placed { FaultsArePlaced }
+{
+    verified_files_never_stick();
+}

@@ -1,0 +1,64 @@
+-- From what is left to be done to the step of the meaning.
+use Rattle.std.proofs.Common.{◌≡◌, ◌≢◌, ℕ, ◌<◌, List, [], length, refl, sym, ap, ◌∙◌, append-nil}
+use Rattle.std.specs.Prelude.{None, Some, Ok, Err, OnOk, slice_get}
+use Rattle.std.specs.Io.KnownBytes.{append_known}
+use Rattle.std.specs.declared.option.Option.{Option}
+use Rattle.std.specs.declared.result.Result.{Result}
+use Rattle.abc_base.specs.declared.formula.Formula.{Formula}
+use Rattle.abc_ends.specs.Ending.{stepped_by}
+use Rattle.abc_ends.specs.declared.ended.Ended.{Ended}
+use Rattle.abc_meaning.specs.Throwing.{Stepped, goes_on}
+use Rattle.abc_outward.specs.Outward.{Fails, Writes}
+use Rattle.abc_program.specs.Linked.{LinkedFile}
+use Rattle.abc_stacks.specs.Frame.{Frames, arguments, newest}
+use Rattle.abc_states.specs.Outer.{Outer, setting, world}
+use Rattle.abc_states.specs.Settling.{settles}
+use Rattle.abc_states.specs.Turns.{asked, traced, turned}
+use Rattle.abc_states.specs.WorldCalling.{calls_formula}
+use Rattle.abc_states.specs.WorldSetting.{Setting}
+use Rattle.abc_states.specs.World.{World, and_then, some}
+use Rattle.abc_states.specs.declared.state.How.{How}
+use Rattle.abc_states.specs.declared.state.State.{State}
+use Rattle.abc_unstuck.proofs.SoundLists.{inside}
+use Rattle.abc_finishing.specs.Fairly.{IsFairTurn, IsHeldTurn}
+use Rattle.abc_finishing.specs.Steps.{FailsIn, GoesOnIn, StepsIn, halted_as, stepped}
+use Rattle.abc_finishing.specs.declared.halting.Halt.TheVariants as halts
+
+-- ---- nothing was written
+
+nothing_more : (known : Option (List ℕ)) → append_known known [] ≡ known
+nothing_more None = refl
+nothing_more (Some bytes) = ap Some (append-nil bytes)
+
+pub ended_in : (r : Stepped) (out : Outer) (result : Result Unit Ended) (new : State) (before now : Option (List ℕ)) → r ≡ stepped_by result (world new out) new.frames → now ≡ before → StepsIn r out (halted_as result) new before now
+ended_in r out (Ok u) new before now e same = record {
+  bytes = [];
+  goes = e ∙ ap (λ (bytes : List ℕ). goes_on (record { heap = new.arena; started = new.started; wrote = bytes }) new.frames.living) (sym (append-nil out.wrote));
+  sink = λ some. same ∙ sym (nothing_more before);
+}
+ended_in r out (Err end) new before now e same = record { left = world new out; ends = e; wrote = refl; sink = same }
+
+pub no_failure : (r : Result Unit Ended) → halted_as r ≢ Err halts.Fails
+no_failure (Ok u) e = cc
+no_failure (Err end) e = cc
+
+pub if_ok : {X E : Type 0} (r : Result X E) (P : Type 0) → P → OnOk r P
+if_ok (Ok x) P h = h
+if_ok (Err e) P h = tt
+
+-- ---- a line was written, or the front of it
+
+pub wrote_in : (l : LinkedFile) (out : Outer) (count : ℕ) (how : How) (old new : State) (before now : Option (List ℕ)) → Writes l out count how old new before now → GoesOnIn (stepped (setting l out) (traced (setting l out) count how (world old out) old.frames)) out new before now
+wrote_in l out count how old new before now w = record { bytes = w.bytes; goes = ap (stepped (setting l out)) w.goes; sink = w.sink }
+
+pub failed_in : (l : LinkedFile) (out : Outer) (count : ℕ) (how : How) (old : State) (before now : Option (List ℕ)) → Fails l out count how old before now → FailsIn (stepped (setting l out) (traced (setting l out) count how (world old out) old.frames)) out before now
+failed_in l out count how old before now f = record { bytes = f.bytes; next = record { world = f.world_then; frames = f.frames_then.living }; goes = ap (stepped (setting l out)) f.goes; wrote = f.wrote; sink = f.sink }
+
+-- ---- a formula that is asked is one of the host
+
+pub formula_there : (p : Setting) (n count : ℕ) (how : How) (w : World) (q : Frames) → IsFairTurn p (asked p n count how w q) → n < length p.formulas
+formula_there p n count how w q fair = go (slice_get p.formulas n) refl fair.held
+  where
+    go : (o : Option Formula) → slice_get p.formulas n ≡ o → IsHeldTurn p (turned p q (and_then (and_then (some o w) (λ f. calls_formula p f (arguments count (newest q)))) (settles how (newest q)))) → n < length p.formulas
+    go None e h = absurd h.fair
+    go (Some f) e h = inside p.formulas n f e

@@ -1,0 +1,8 @@
+use Rattle.std.proofs.Common.{◌∙◌, sym}
+use Rattle.abc_states.specs.Outer.{setting, world}
+use Rattle.abc_finishing.proofs.Started.{array_rest}
+use Rattle.abc_finishing.proofs.starting.array_for.Goals as goal
+
+pub returns-then-has_flag-clause-part : goal.returns-then-has_flag-clause-part
+returns-then-has_flag-clause-part c = λ out.
+    array_rest (setting c.args.linked.now out) c.args.method.now (world c.args.s.now out) (sym c.has_flag.ensures ∙ c.if-has_flag.true) ∙ c.no_arguments.ensures.part out

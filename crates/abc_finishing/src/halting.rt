@@ -1,0 +1,23 @@
+ghost use Rattle.std.specs.Prelude.{◌≡◌};
+ghost use Rattle.abc_finishing.specs.Steps.{halted_as};
+
+use abc_ends::Ended;
+
+/// Why a run goes no further.
+#[derive(Clone, Copy)]
+pub enum Halt {
+    /// It ends.
+    Ends(Ended),
+    /// The sink failed.
+    Fails,
+}
+
+/// How a step ends, if it does.
+pub(crate) fn halted(ended: Result<(), Ended>) -> Result<(), Halt>
+    ensures { result ≡ halted_as ended }
+{
+    match ended {
+        Ok(()) => Ok(()),
+        Err(ended) => Err(Halt::Ends(ended)),
+    }
+}

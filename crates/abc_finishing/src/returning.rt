@@ -1,0 +1,93 @@
+ghost use Rattle.std.specs.Prelude.{◌≡◌, ◌<◌, length};
+ghost use Rattle.abc_ends.specs.Ending.{IsFree, IsSized, stepped_by};
+ghost use Rattle.abc_entering.specs.Arguments.{IsKnown};
+ghost use Rattle.abc_fair.specs.Fair.{IsFairPart};
+ghost use Rattle.abc_meaning.specs.Step.{gives_back, resumes};
+ghost use Rattle.abc_moves.specs.Ready.{IsReady};
+ghost use Rattle.abc_objects.specs.Values.{Exists};
+ghost use Rattle.abc_stacks.specs.Frame.{newest, under};
+ghost use Rattle.abc_stacks.specs.declared.records.Wait.TheVariants.{New};
+ghost use Rattle.abc_states.specs.Outer.{Outer, setting, world};
+ghost use Rattle.abc_states.specs.Standing.{IsSet};
+ghost use Rattle.abc_states.specs.Turns.{Gives, bared};
+ghost use Rattle.abc_finishing.specs.Fairly.{CanTake, IsFairTurn, IsHeld, made_of};
+
+use abc_callarms::make;
+use abc_cells::Value;
+use abc_ends::{Ended, stopped};
+use abc_link::Linked;
+use abc_moves::{go_on, push};
+use abc_stacks::Wait;
+use abc_states::{How, State};
+
+/// An object is made of what returned, with so many arguments. It takes their place.
+fn make_of(linked: &Linked, s: &mut State, v: Value, count: u32) -> Result<(), Ended>
+    ghost out: { Outer }
+    requires known { IsKnown linked.now s.old.given.limit }
+    requires scripts { 0 < length linked.now.file.scripts }
+    requires set { IsSet linked.now s.old }
+    requires ready { IsReady count 1 s.old.frames }
+    requires held { IsHeld (setting linked.now out) (world s.old out) s.old.frames }
+    requires value { Exists linked.now s.old.arena v }
+    requires this { 0 < length (newest s.old.frames).locals }
+    requires fair { IsFairPart (setting linked.now out) (world s.old out) (resumes (setting linked.now out) (newest s.old.frames) (New count) v (world s.old out)) }
+    requires free { IsFree (made_of (setting linked.now out) (world s.old out) s.old.frames v count) }
+    ensures step { made_of (setting linked.now out) (world s.old out) s.old.frames v count ≡ stepped_by result (world s.new out) s.new.frames }
+    ensures sized { IsSized (setting linked.now out) s.new.arena.limits s.new.frames }
+    ensures limit { s.new.given.limit ≡ s.old.given.limit }
+{
+    match make(linked, s, v, count, How::Push(count)) {
+        Ok(()) => Ok(()),
+        Err(stop) => stopped(linked, s, stop),
+    }
+}
+
+/// The newest frame goes on with what returns, by the way in which it waited.
+fn resume(linked: &Linked, s: &mut State, v: Value) -> Result<(), Ended>
+    ghost out: { Outer }
+    requires known { IsKnown linked.now s.old.given.limit }
+    requires scripts { 0 < length linked.now.file.scripts }
+    requires live { 0 < length s.old.frames.living }
+    requires held { IsHeld (setting linked.now out) (world s.old out) s.old.frames }
+    requires value { Exists linked.now s.old.arena v }
+    requires takes { CanTake (setting linked.now out) (world s.old out) v (newest s.old.frames) }
+    requires free { IsFree (gives_back (setting linked.now out) (world s.old out) v s.old.frames.living) }
+    ensures step { gives_back (setting linked.now out) (world s.old out) v s.old.frames.living ≡ stepped_by result (world s.new out) s.new.frames }
+    ensures sized { IsSized (setting linked.now out) s.new.arena.limits s.new.frames }
+    ensures limit { s.new.given.limit ≡ s.old.given.limit }
+{
+    match s.frames.take_wait() {
+        Wait::Push => {
+            push(&mut s.frames, v);
+            Ok(())
+        }
+        Wait::Keep(kept) => {
+            push(&mut s.frames, kept);
+            Ok(())
+        }
+        Wait::Drop => {
+            go_on(&mut s.frames);
+            Ok(())
+        }
+        Wait::Again => Ok(()),
+        Wait::New(count) => make_of(linked, s, v, count),
+        Wait::Not => unreachable!(),
+    }
+}
+
+/// The newest frame is left, and the one under it goes on as it waited. Under the last the run is done.
+pub(crate) fn give_back(linked: &Linked, s: &mut State, v: Value) -> Result<(), Ended>
+    ghost out: { Outer }
+    requires known { IsKnown linked.now s.old.given.limit }
+    requires scripts { 0 < length linked.now.file.scripts }
+    requires fair { IsFairTurn (setting linked.now out) (Gives (world s.old out) (bared s.old.frames) v) }
+    ensures step { gives_back (setting linked.now out) (world s.old out) v (under s.old.frames.living) ≡ stepped_by result (world s.new out) s.new.frames }
+    ensures sized { IsSized (setting linked.now out) s.new.arena.limits s.new.frames }
+    ensures limit { s.new.given.limit ≡ s.old.given.limit }
+{
+    s.frames.leave();
+    if s.frames.depth() == 0 {
+        return Err(Ended::Done);
+    }
+    resume(linked, s, v)
+}

@@ -1,0 +1,2 @@
+pub mod Groups
+pub use Rattle.abc_memberarms.specs.CallarmsCalls

@@ -1,0 +1,52 @@
+ghost use Rattle.std.specs.Prelude.{◌≡◌, true};
+ghost use Rattle.abc_memberarms.specs.CallarmsCalls.{CanFinish};
+ghost use Rattle.abc_memberarms.specs.EnteringArguments.{IsKnown};
+ghost use Rattle.abc_taking.specs.PlainstepsHere.{act_here};
+ghost use Rattle.abc_taking.specs.PlainstepsReady.{CanRun};
+ghost use Rattle.abc_stacks.specs.Frame.{newest};
+ghost use Rattle.abc_states.specs.Outer.{Outer, setting};
+ghost use Rattle.abc_states.specs.Turns.{Leaves};
+ghost use Rattle.abc_tables.specs.Opcodes.{is_in};
+ghost use Rattle.abc_tables.specs.declared.code.Instr.TheVariants.{One, Two};
+ghost use Rattle.abc_membersteps.specs.Groups.{property_call_ops};
+
+use abc_link::Linked;
+use abc_memberarms::{call_property, call_value, parts_of};
+use abc_states::{How, Left, State, Stop};
+
+/// `call`, with so many arguments.
+pub fn run_call_value(linked: &Linked, s: &mut State, count: u32) -> Result<Left, Stop>
+    ghost out: { Outer }
+    requires run { CanRun linked.now out s.old (One 0x41 count) }
+    requires known { IsKnown linked.now s.old.given.limit }
+    ensures leaves { Leaves linked.now out (act_here (setting linked.now out) (newest s.old.frames) (One 0x41 count)) s.old result s.new }
+    ensures finishes { CanFinish linked.now result s.new }
+    ensures limit { s.new.given.limit ≡ s.old.given.limit }
+{
+    call_value(linked, s, count)
+}
+
+/// What is found by a name is called, with so many arguments.
+pub fn run_property_call(
+    linked: &Linked,
+    s: &mut State,
+    op: u8,
+    n: u32,
+    count: u32,
+) -> Result<Left, Stop>
+    ghost out: { Outer }
+    requires run { CanRun linked.now out s.old (Two op n count) }
+    requires known { IsKnown linked.now s.old.given.limit }
+    requires among { is_in op property_call_ops ≡ true }
+    ensures leaves { Leaves linked.now out (act_here (setting linked.now out) (newest s.old.frames) (Two op n count)) s.old result s.new }
+    ensures finishes { CanFinish linked.now result s.new }
+    ensures limit { s.new.given.limit ≡ s.old.given.limit }
+{
+    let taken = count + parts_of(linked, n) + 1;
+    match op {
+        0x46 => call_property(linked, s, n, count, false, How::Push(taken)),
+        0x4C => call_property(linked, s, n, count, true, How::Push(taken)),
+        0x4F => call_property(linked, s, n, count, false, How::Drop(taken)),
+        _ => unreachable!(),
+    }
+}

@@ -1,0 +1,33 @@
+ghost use Rattle.std.specs.Prelude.{◌≡◌, true};
+ghost use Rattle.abc_memberarms.specs.EnteringArguments.{IsKnown};
+ghost use Rattle.abc_taking.specs.PlainstepsHere.{act_here};
+ghost use Rattle.abc_taking.specs.PlainstepsReady.{CanRun};
+ghost use Rattle.abc_stacks.specs.Frame.{newest};
+ghost use Rattle.abc_states.specs.Outer.{Outer, setting};
+ghost use Rattle.abc_states.specs.Turns.{Runs};
+ghost use Rattle.abc_tables.specs.Opcodes.{is_in};
+ghost use Rattle.abc_tables.specs.declared.code.Instr.TheVariants.{One};
+ghost use Rattle.abc_membersteps.specs.Groups.{property_ops};
+
+use abc_link::Linked;
+use abc_memberarms::{get_property, set_property};
+use abc_states::{State, Stop};
+use abc_taking::run_delete;
+
+/// What reads, writes and deletes a property.
+pub fn run_property(linked: &Linked, s: &mut State, op: u8, n: u32) -> Result<(), Stop>
+    ghost out: { Outer }
+    requires run { CanRun linked.now out s.old (One op n) }
+    requires known { IsKnown linked.now s.old.given.limit }
+    requires among { is_in op property_ops ≡ true }
+    ensures runs { Runs linked.now out (act_here (setting linked.now out) (newest s.old.frames) (One op n)) s.old result s.new }
+    ensures limit { s.new.given.limit ≡ s.old.given.limit }
+{
+    match op {
+        0x61 => set_property(linked, s, n, false),
+        0x66 => get_property(linked, s, n),
+        0x68 => set_property(linked, s, n, true),
+        0x6A => run_delete(linked, s, n),
+        _ => unreachable!(),
+    }
+}

@@ -1,0 +1,2 @@
+pub mod Groups
+pub use Rattle.abc_entering.specs.Arguments as EnteringArguments
