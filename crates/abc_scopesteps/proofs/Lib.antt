@@ -1,0 +1,5 @@
+pub mod Homes
+pub mod Searching
+pub mod Receiving
+pub mod ScopeOps
+pub mod SuperOps
