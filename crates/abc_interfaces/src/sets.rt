@@ -5,10 +5,10 @@ ghost use Rattle.abc_interfaces.specs.Sets.{AreSets, AreUnset, HasSets, IsSetOf,
 ghost use Rattle.abc_program.specs.Interfaces.{class_graph};
 ghost use Rattle.abc_program.specs.Bases.{is_interface as is_interface_class};
 
-use crate::graph::is_interface;
 use crate::set::set_of;
 use abc_base::{NoMemory, Table};
 use abc_graph::reached;
+use abc_program::is_interface;
 use abc_tables::Abc;
 use indexmap::IndexSet;
 use std::alloc::Global;

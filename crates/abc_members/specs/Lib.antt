@@ -3,3 +3,10 @@ pub mod Grouped
 pub use Rattle.abc_slots.specs.Tables
 pub use Rattle.abc_slots.specs.Files
 pub use Rattle.abc_slots.specs.Laid
+pub use Rattle.abc_slots.specs.Numbering
+pub use Rattle.abc_slots.specs.ProgramSlots as Slots
+pub use Rattle.abc_slots.specs.Part
+pub use Rattle.abc_slots.specs.Traits
+pub use Rattle.abc_slots.specs.Pool
+pub use Rattle.abc_slots.specs.Keys
+pub use Rattle.abc_slots.specs.DefiniteName
