@@ -9,9 +9,9 @@ mod types;
 
 pub use abc_graph::{HostClass, NoMemory, Table, first_return};
 pub use abc_starts::{
-    Abc, Body, DefiniteName, HOST_CLASSES, Handler, Instance, Meanings, NameKey, NameTables, Named,
-    Names, Spaces, Start, TraitBody, TraitInfo, definite_name_at, first_places, has_flag, index_of,
-    is_plain_at, meanings_of, qname_at, start_of,
+    Abc, Body, HOST_CLASSES, Handler, Instance, Meanings, NameKey, NameTables, Named, Names, Start,
+    TraitBody, TraitInfo, definite_name_at, first_places, has_flag, index_of, is_plain_at,
+    meanings_of, qname_at, start_of,
 };
 pub use error::LinkError;
 pub use items::{Item, ItemKind, LinkRule};

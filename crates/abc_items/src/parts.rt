@@ -10,7 +10,7 @@ use abc_starts::{Abc, Handler, TraitInfo, has_flag};
 const INTERFACE: u8 = 0x04;
 
 /// The name of a class.
-#[tactic(auto, using(abc_graph::proofs::Past::past_end))]
+#[tactic(auto, using(abc_base::proofs::Past::past_end))]
 pub fn class_name(abc: &Abc, class: u32) -> u32
     ensures { result ≡ (instance_at abc.now class).name }
 {
@@ -21,7 +21,7 @@ pub fn class_name(abc: &Abc, class: u32) -> u32
 }
 
 /// The name of a class's base; 0 is none.
-#[tactic(auto, using(abc_graph::proofs::Past::past_end))]
+#[tactic(auto, using(abc_base::proofs::Past::past_end))]
 pub fn super_name(abc: &Abc, class: u32) -> u32
     ensures { result ≡ (instance_at abc.now class).super_name }
 {
@@ -32,7 +32,7 @@ pub fn super_name(abc: &Abc, class: u32) -> u32
 }
 
 /// The flags of a class.
-#[tactic(auto, using(abc_graph::proofs::Past::past_end))]
+#[tactic(auto, using(abc_base::proofs::Past::past_end))]
 pub fn class_flags(abc: &Abc, class: u32) -> u8
     ensures { result ≡ (instance_at abc.now class).flags }
 {
@@ -50,7 +50,7 @@ pub fn is_interface(abc: &Abc, class: u32) -> bool
 }
 
 /// The names of a class's interfaces.
-#[tactic(auto, using(abc_graph::proofs::Past::past_end))]
+#[tactic(auto, using(abc_base::proofs::Past::past_end))]
 pub fn interface_names(abc: &Abc, class: u32) -> &[u32]
     ensures { result.now ≡ (instance_at abc.now class).interfaces }
 {
@@ -61,7 +61,7 @@ pub fn interface_names(abc: &Abc, class: u32) -> &[u32]
 }
 
 /// The traits of a class's instances.
-#[tactic(auto, using(abc_graph::proofs::Past::past_end))]
+#[tactic(auto, using(abc_base::proofs::Past::past_end))]
 pub fn instance_traits(abc: &Abc, class: u32) -> &[TraitInfo]
     ensures { result.now ≡ (instance_at abc.now class).traits }
 {
@@ -72,7 +72,7 @@ pub fn instance_traits(abc: &Abc, class: u32) -> &[TraitInfo]
 }
 
 /// The traits of a class itself.
-#[tactic(auto, using(abc_graph::proofs::Past::past_end))]
+#[tactic(auto, using(abc_base::proofs::Past::past_end))]
 pub fn class_traits(abc: &Abc, class: u32) -> &[TraitInfo]
     ensures { result.now ≡ (class_at abc.now class).traits }
 {
@@ -83,7 +83,7 @@ pub fn class_traits(abc: &Abc, class: u32) -> &[TraitInfo]
 }
 
 /// The traits of a script.
-#[tactic(auto, using(abc_graph::proofs::Past::past_end))]
+#[tactic(auto, using(abc_base::proofs::Past::past_end))]
 pub fn script_traits(abc: &Abc, script: u32) -> &[TraitInfo]
     ensures { result.now ≡ (script_at abc.now script).traits }
 {
@@ -94,7 +94,7 @@ pub fn script_traits(abc: &Abc, script: u32) -> &[TraitInfo]
 }
 
 /// The traits of a body's activation.
-#[tactic(auto, using(abc_graph::proofs::Past::past_end))]
+#[tactic(auto, using(abc_base::proofs::Past::past_end))]
 pub fn body_traits(abc: &Abc, body: u32) -> &[TraitInfo]
     ensures { result.now ≡ (body_at abc.now body).traits }
 {
@@ -105,7 +105,7 @@ pub fn body_traits(abc: &Abc, body: u32) -> &[TraitInfo]
 }
 
 /// The exceptions of a body.
-#[tactic(auto, using(abc_graph::proofs::Past::past_end))]
+#[tactic(auto, using(abc_base::proofs::Past::past_end))]
 pub fn handlers(abc: &Abc, body: u32) -> &[Handler]
     ensures { result.now ≡ (body_at abc.now body).handlers }
 {
@@ -116,7 +116,7 @@ pub fn handlers(abc: &Abc, body: u32) -> &[Handler]
 }
 
 /// The return type of a method; 0 is any type.
-#[tactic(auto, using(abc_graph::proofs::Past::past_end))]
+#[tactic(auto, using(abc_base::proofs::Past::past_end))]
 pub fn return_type(abc: &Abc, method: u32) -> u32
     ensures { result ≡ (method_at abc.now method).ret }
 {
@@ -127,7 +127,7 @@ pub fn return_type(abc: &Abc, method: u32) -> u32
 }
 
 /// The types of a method's parameters.
-#[tactic(auto, using(abc_graph::proofs::Past::past_end))]
+#[tactic(auto, using(abc_base::proofs::Past::past_end))]
 pub fn parameters(abc: &Abc, method: u32) -> &[u32]
     ensures { result.now ≡ (method_at abc.now method).params }
 {

@@ -17,5 +17,3 @@ pub use Rattle.abc_program.specs.Meaning
 pub use Rattle.abc_program.specs.Pool
 pub use Rattle.abc_program.specs.Heirs
 pub use Rattle.abc_program.specs.Listed
-pub use Rattle.abc_program.specs.Keys
-pub use Rattle.abc_program.specs.DefiniteName

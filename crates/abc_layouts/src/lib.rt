@@ -7,9 +7,8 @@ mod layouts;
 mod numbering;
 
 pub use abc_program::{
-    DefiniteName, Heirs, LayoutId, Meanings, NameKey, Named, Names, Part, SlotInfo, Spaces, Start,
-    Ty, body_traits, class_traits, handlers, instance_traits, is_interface, qname_at,
-    script_traits, start_of,
+    Heirs, LayoutId, Meanings, Named, Part, SlotInfo, Start, Ty, body_traits, class_traits,
+    handlers, instance_traits, is_interface, qname_at, script_traits, start_of,
 };
 pub use layouts::Layouts;
 pub use numbering::number_parts;

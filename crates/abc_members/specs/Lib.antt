@@ -7,6 +7,3 @@ pub use Rattle.abc_slots.specs.Numbering
 pub use Rattle.abc_slots.specs.ProgramSlots as Slots
 pub use Rattle.abc_slots.specs.Part
 pub use Rattle.abc_slots.specs.Traits
-pub use Rattle.abc_slots.specs.Pool
-pub use Rattle.abc_slots.specs.Keys
-pub use Rattle.abc_slots.specs.DefiniteName

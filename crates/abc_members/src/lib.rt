@@ -4,8 +4,6 @@
 mod members;
 mod numbers;
 
-pub use abc_slots::{
-    DefiniteName, LayoutId, Layouts, NameKey, Names, Spaces, qname_at, slots_of, traits_of, type_in,
-};
+pub use abc_slots::{LayoutId, Layouts, qname_at, slots_of, traits_of, type_in};
 pub use members::Members;
 pub use numbers::number_at;

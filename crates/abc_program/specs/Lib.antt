@@ -27,5 +27,3 @@ pub use Rattle.abc_rules.specs.Meanings
 pub use Rattle.abc_rules.specs.Numbers
 pub use Rattle.abc_heirs.specs.Heirs
 pub use Rattle.abc_heirs.specs.Listed
-pub use Rattle.abc_rules.specs.Keys
-pub use Rattle.abc_rules.specs.DefiniteName

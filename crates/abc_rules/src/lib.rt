@@ -14,8 +14,8 @@ mod simple;
 mod times;
 
 pub use abc_items::{
-    DefiniteName, HOST_CLASSES, Item, ItemKind, LinkError, LinkRule, Meanings, NameKey, NameTables,
-    Named, Names, Spaces, Start, body_traits, class_traits, handlers, instance_traits,
-    is_interface, meanings_of, qname_at, script_traits, start_of, super_name,
+    HOST_CLASSES, Item, ItemKind, LinkError, LinkRule, Meanings, NameTables, Named, Names, Start,
+    body_traits, class_traits, handlers, instance_traits, is_interface, meanings_of, qname_at,
+    script_traits, start_of, super_name,
 };
 pub use checking::check_rules;

@@ -5,9 +5,9 @@ use Rattle.std.specs.List.{list_any}
 use Rattle.std.proofs.lemmas.Bool.{cases_eq}
 use Rattle.std.proofs.lemmas.List.{append-nil, length-take, take_more}
 use Rattle.abc_index.specs.Index.{first, first_from}
-use Rattle.abc_members.specs.Keys.{keys_eq, name_key, same_name}
-use Rattle.abc_members.specs.Pool.{is_public, same_space, set}
-use Rattle.abc_members.specs.DefiniteName.{DefiniteName}
+use Rattle.abc_names.specs.Keys.{keys_eq, name_key, same_name}
+use Rattle.abc_names.specs.Pool.{is_public, same_space, set}
+use Rattle.abc_names.specs.declared.named.DefiniteName.{DefiniteName}
 use Rattle.abc_search_tables.specs.SetKeys.{are_public, keys_from, set_key, set_keys, set_keys_eq}
 use Rattle.abc_search_tables.specs.declared.sets.SetKey.{SetKey}
 use Rattle.abc_tables.specs.declared.tables.Abc.{Abc}

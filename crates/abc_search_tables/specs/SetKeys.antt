@@ -2,8 +2,8 @@
 use Rattle.std.specs.Prelude.{◌≡◌, ℕ, ◌+◌, List, [], ◌∷◌, ◌++◌, Bool, ◌&&◌, map, nat_eq}
 use Rattle.std.specs.List.{list_any}
 use Rattle.abc_index.specs.Index.{first}
-use Rattle.abc_members.specs.Keys.{keys_eq, name_key}
-use Rattle.abc_members.specs.Pool.{is_public}
+use Rattle.abc_names.specs.Keys.{keys_eq, name_key}
+use Rattle.abc_names.specs.Pool.{is_public}
 use Rattle.abc_search_tables.specs.declared.sets.SetKey.{SetKey}
 use Rattle.abc_search_tables.specs.declared.sets.SetSpaces.{SetSpaces}
 use Rattle.abc_tables.specs.declared.tables.Abc.{Abc}

@@ -1,14 +1,14 @@
 ghost use Rattle.std.specs.Prelude.{◌≡◌, ◌++◌, ◌-◌, ◌<◌, ◌^◌, is_some, length, map, IfOk, OnOk};
 ghost use Rattle.std.specs.List.{list_any};
 ghost use Rattle.abc_index.specs.Index.{first};
-ghost use Rattle.abc_members.specs.Pool.{is_public, same_space, set as set_of};
+ghost use Rattle.abc_names.specs.Pool.{is_public, same_space, set as set_of};
 ghost use Rattle.abc_search_tables.specs.SetKeys.{HasSets, are_public, set_key as key_of, set_keys, set_keys_eq};
 ghost use Rattle.abc_search_tables.specs.declared.sets.SetKey.{SetKey as SetKeyOf};
 ghost use Rattle.indexmap.specs.IndexMap.{get};
 
 use abc_base::{NoMemory, Table};
 use abc_index::index_of;
-use abc_members::{DefiniteName, NameKey, Names, Spaces};
+use abc_names::{DefiniteName, NameKey, Names, Spaces};
 use indexmap::IndexMap;
 use std::alloc::Global;
 

@@ -8,7 +8,8 @@ use crate::sets::SetSpaces;
 use crate::slots::OwnSlots;
 use abc_base::{NoMemory, Table};
 use abc_index::Texts;
-use abc_members::{Layouts, Names};
+use abc_members::Layouts;
+use abc_names::Names;
 use std::alloc::Global;
 
 /// All tables of a file.

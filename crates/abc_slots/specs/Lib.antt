@@ -7,5 +7,3 @@ pub use Rattle.abc_layouts.specs.ProgramNumbering as Numbering
 pub use Rattle.abc_layouts.specs.Slots as ProgramSlots
 pub use Rattle.abc_layouts.specs.Pool
 pub use Rattle.abc_layouts.specs.Part
-pub use Rattle.abc_layouts.specs.Keys
-pub use Rattle.abc_layouts.specs.DefiniteName

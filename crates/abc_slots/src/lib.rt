@@ -5,7 +5,7 @@ mod parts;
 mod slots;
 mod types;
 
-pub use abc_layouts::{DefiniteName, LayoutId, Layouts, NameKey, Names, Spaces, qname_at};
+pub use abc_layouts::{LayoutId, Layouts, qname_at};
 pub use parts::traits_of;
 pub use slots::slots_of;
 pub use types::type_in;

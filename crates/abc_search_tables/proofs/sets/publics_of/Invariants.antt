@@ -1,6 +1,6 @@
 use Rattle.std.proofs.Common.{◌≡◌, map, take}
 use Rattle.std.specs.List.{list_any}
-use Rattle.abc_members.specs.Pool.{is_public}
+use Rattle.abc_names.specs.Pool.{is_public}
 use Rattle.abc_search_tables.proofs.sets.publics_of.Given as goal
 
 abbrev pub invariant-loop-i : goal.invariant-loop-i
