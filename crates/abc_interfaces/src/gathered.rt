@@ -76,10 +76,10 @@ fn push_interface(
 ) -> Result<(), NoMemory>
     ensures list { OnOk result (AddsAll list.old.items list.new.items (if is_interface_class abc.now class then class ∷ [] else [])) }
 {
-    if is_interface(abc, class) {
-        push_new(list, places, class)?;
+    if !is_interface(abc, class) {
+        return Ok(());
     }
-    Ok(())
+    push_new(list, places, class)
 }
 
 /// Adds what a class has of one that it leads to.
