@@ -1,25 +1,29 @@
 -- Numbers that are gathered without repeats.
-use Rattle.std.proofs.Common.{◌≡◌, ℕ, ◌+◌, ◌<◌, ◌≤◌, ◌⊎◌, inl, inr, true, false, cond, List, [], ◌∷◌, ◌++◌, Contains, get_or, length, sym, ap, subst, ◌∙◌, arith}
+use Rattle.std.proofs.Common.{◌≡◌, ℕ, ◌+◌, ◌<◌, ◌≤◌, ◌⊎◌, inl, inr, Bool, true, false, cond, List, [], ◌∷◌, ◌++◌, Contains, IsTrue, eqb-true, get_or, length, nat_eq, sym, ap, subst, ◌∙◌, arith}
 use Rattle.std.specs.declared.option.Option.{Option}
 use Rattle.std.proofs.lemmas.Bool.{cases_lt}
 use Rattle.std.proofs.lemmas.List.{get_or_default}
 use Rattle.std.proofs.lemmas.List.Elements.{Contains-append_cases, Contains-append_left, Contains-append_right}
 use Rattle.abc_program.specs.Bases.{is_interface}
 use Rattle.abc_tables.specs.declared.tables.Abc.{Abc}
+use Rattle.abc_interfaces.proofs.Adding.{one_more}
 use Rattle.abc_interfaces.specs.Sets.{AddsAll, AddsEach, Gathers, Set, given_by, keys_at}
 
-pub stands : (list : List ℕ) (place x : ℕ) → place < length list → get_or list place 0 ≡ x → Contains list x
-stands list place x lt e = (place, lt, get_or_default list place x 0 lt ∙ e)
+pub stands : (list : List ℕ) (place x y : ℕ) → place < length list → y ≡ get_or list place y → IsTrue (nat_eq y x) → Contains list x
+stands list place x y lt e is = subst (Contains list) (eqb-true y x is) (place, lt, sym e)
 
 -- ---- one list
 
 -- a number that is listed is added by adding nothing
-pub listed : (list : List ℕ) (x : ℕ) → Contains list x → AddsEach list list (x ∷ []) 1
-listed list x c = record {
+pub listed : (list : List ℕ) (x : ℕ) (b : Bool) → (IsTrue b → Contains list x) → b ≡ true → AddsEach list list (x ∷ []) 1
+listed list x b h is = record {
   keeps = λ y d. d;
-  each = λ j lt. let z : 0 ≡ j = omega arith in subst (λ (n : ℕ). Contains list (get_or (x ∷ []) n 0)) z c;
+  each = λ j lt. let z : 0 ≡ j = omega arith in subst (λ (n : ℕ). Contains list (get_or (x ∷ []) n 0)) z (h is);
   only = λ y d. inl d;
 }
+
+pub pushed : (old new : List ℕ) (x : ℕ) → new ≡ old ++ x ∷ [] → AddsEach old new (x ∷ []) 1
+pushed old new x e = subst (λ (ks : List ℕ). AddsEach old ks (x ∷ []) 1) (sym e) (one_more old x)
 
 pub nothing : (list numbers : List ℕ) → AddsEach list list numbers 0
 nothing list numbers = record { keeps = λ y c. c; each = λ j lt. absurd (omega arith); only = λ y c. inl c }
@@ -55,7 +59,7 @@ both_added old mid new xs ys a b = record {
 
 -- ---- what a class gives
 
-pub interface_added : (v : Abc) (k : ℕ) (old new : List ℕ) → is_interface v k ≡ true → AddsEach old new (k ∷ []) 1 → AddsAll old new (cond (is_interface v k) (k ∷ []) [])
+pub interface_added : (v : Abc) (k : ℕ) (old new : List ℕ) → IsTrue (is_interface v k) → AddsEach old new (k ∷ []) 1 → AddsAll old new (cond (is_interface v k) (k ∷ []) [])
 interface_added v k old new is a = subst (λ b. AddsAll old new (cond b (k ∷ []) [])) (sym is) (all_added old new (k ∷ []) a)
 
 pub class_passed : (v : Abc) (k : ℕ) (list : List ℕ) → is_interface v k ≡ false → AddsAll list list (cond (is_interface v k) (k ∷ []) [])

@@ -13,7 +13,10 @@ use std::alloc::Global;
 fn stands_at(list: &Vec<u32>, place: usize, x: u32) -> bool
     ensures { IsTrue result → Contains list.now.items x }
 {
-    place < list.len() && list[place] == x
+    if place >= list.len() {
+        return false;
+    }
+    list[place] == x
 }
 
 /// Whether a number stands at the place that is noted for it.
@@ -21,7 +24,10 @@ fn is_listed(list: &Vec<u32>, places: &Vec<u32>, x: u32) -> bool
     ensures { IsTrue result → Contains list.now.items x }
 {
     let at = x as usize;
-    at < places.len() && stands_at(list, places[at] as usize, x)
+    if at >= places.len() {
+        return false;
+    }
+    stands_at(list, places[at] as usize, x)
 }
 
 /// Notes the place of a number. It is a hint: with any places a list would have the same numbers.
@@ -33,7 +39,7 @@ fn note(places: &mut Vec<u32>, x: u32, place: usize) {
 }
 
 /// Adds a number to a list, unless it stands at the place that is noted for it.
-#[tactic(auto, using(crate::proofs::Gathering::listed, crate::proofs::Adding::one_more))]
+#[tactic(auto, using(crate::proofs::Gathering::listed, crate::proofs::Gathering::pushed))]
 fn push_new(list: &mut Vec<u32>, places: &mut Vec<u32>, x: u32) -> Result<(), NoMemory>
     ensures list { OnOk result (AddsEach list.old.items list.new.items (x ∷ []) 1) }
 {
