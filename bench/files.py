@@ -32,6 +32,9 @@ These are texts, KIND.abcasm and KIND_half.abcasm, and have any size:
   renewed      a body with 2^20 labels, and then 2^20 - 1 bodies without
   long         a label and quoted texts of a megabyte
   comment      2^28 bytes, of which the second line has all but a few
+  loop_locals, loop_calls, loop_properties, loop_arrays
+               programs that go around one loop five or ten million times
+  generated    the program of `gen --methods=10000`, that of the half file with 5000
 FOLDER/huge gets small files, each of which claims 2^30 - 1 entries of one table and then ends.
 """
 import os
@@ -41,6 +44,7 @@ import sys
 import bodies
 import compiling
 import linking
+import running
 import tables
 import texts
 import tidying
@@ -76,8 +80,14 @@ MAKERS = {
     "renewed": texts.bodies,
     "long": texts.long_tokens,
     "comment": texts.comment,
+    "loop_locals": running.loop_locals,
+    "loop_calls": running.loop_calls,
+    "loop_properties": running.loop_properties,
+    "loop_arrays": running.loop_arrays,
+    "generated": running.generated,
 }
-TEXTS = ("labels", "renewed", "long", "comment")
+RUNS = ("loop_locals", "loop_calls", "loop_properties", "loop_arrays", "generated")
+TEXTS = ("labels", "renewed", "long", "comment", *RUNS)
 HUGE = "ff ff ff ff 03"
 # The bytes between the version and the huge count.
 CLAIMS = {

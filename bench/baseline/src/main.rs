@@ -11,8 +11,10 @@ mod covers;
 mod definitions;
 mod dis;
 mod fault;
+mod generate;
 mod graph;
 mod hash;
+mod heap;
 mod kinds;
 mod link;
 mod linked;
@@ -27,6 +29,7 @@ mod read_definitions;
 mod reader;
 mod routine;
 mod rules;
+mod run;
 mod shapes;
 mod states;
 mod tidy;
@@ -39,7 +42,9 @@ mod writer;
 
 use canon::Canon;
 use fault::{Answer, Fault, Reason};
+use heap::Limits;
 use reader::Reader;
+use run::End;
 use value::File;
 use verify::Refused;
 
@@ -162,6 +167,57 @@ fn check() -> Done {
     write(format!("verified {}\n", file.bodies.len()).as_bytes())
 }
 
+/// The number that an option gives, or else the default.
+fn option(name: &str, default: u32) -> u32 {
+    let given = |word: String| word.strip_prefix(name)?.strip_prefix('=')?.parse().ok();
+    std::env::args().find_map(given).unwrap_or(default)
+}
+
+/// The limits of a run.
+fn limits() -> Limits {
+    Limits {
+        fuel: option("--fuel", 10_000_000),
+        objects: option("--objects", 100_000) as usize,
+        cells: option("--cells", 1_000_000) as usize,
+        text: option("--text", 4_000_000) as usize,
+        frames: option("--frames", 1_000) as usize,
+        stack: option("--stack", 100_000) as usize,
+    }
+}
+
+fn why(end: End) -> Refusal {
+    match end {
+        End::Uncaught(name) => Refusal::new(3, format!("uncaught {name}")),
+        End::Fault(name) => Refusal::new(4, format!("a place: {name}")),
+        End::FuelSpent => Refusal::new(5, "fuel spent"),
+        End::Full(limit) => Refusal::new(6, format!("limit {limit}")),
+        End::WriteFault => Refusal::new(8, "write fault"),
+        End::Unknown(opcode) => Refusal::new(11, format!("the peer doesn't know {opcode:02x}")),
+    }
+}
+
+/// Runs a file, after `check`.
+fn run_file(input: &[u8]) -> Done {
+    let file = read_value(input)?;
+    let linked = link::link(&file).map_err(|line| Refusal::new(1, line))?;
+    verify::verify(&linked).map_err(|_| Refusal::new(1, "a rule is broken"))?;
+    let mut out = io::stdout().lock();
+    run::run(&linked, limits(), &mut out).map_err(why)?;
+    out.flush().map_err(write_fault)
+}
+
+fn run() -> Done {
+    run_file(&read_input(MOST)?)
+}
+
+fn generate() -> Done {
+    let methods = option("--methods", 100);
+    let made = generate::generate(option("--seed", 1), methods);
+    run_file(&made.bytes)?;
+    let (bytes, methods, instructions) = (made.bytes.len(), methods + 1, made.instructions);
+    write(format!("bytes {bytes}\nmethods {methods}\ninstructions {instructions}\n").as_bytes())
+}
+
 fn main() -> ExitCode {
     let word = std::env::args().nth(1);
     let done = match word.as_deref() {
@@ -171,6 +227,8 @@ fn main() -> ExitCode {
         Some("tidy") => tidy(),
         Some("link") => link(),
         Some("check") => check(),
+        Some("run") => run(),
+        Some("gen") => generate(),
         Some(word) => Err(Refusal::new(2, format!("usage: {word}"))),
     };
     match done {

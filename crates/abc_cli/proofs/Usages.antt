@@ -64,6 +64,13 @@ pub unread_command : (words : List (List ℕ)) (r : Result Command Usage) (c : C
 unread_command words r c word none command e (AsksNoInput.usage a u) = let f = usage_found words r none word a u in absurd (not_ok c f.0 r e f.1)
 unread_command words r c word none command e (AsksNoInput.command d says silent) = let f = (command d).1 says in subst (λ (x : Command). reads_input x ≡ false) (same_command d c r f e) silent
 
+-- a command reads its input or it doesn't
+pub reading : (command c : Command) → command ≡ c → reads_input c ≡ true → reads_input command ≡ false → ⊥
+reading command c e reads silent = let k : reads_input c ≡ false = subst (λ (x : Command). reads_input x ≡ false) e silent in cc
+
+pub unreading : (command c : Command) → command ≡ c → reads_input c ≡ false → reads_input command ≡ true → ⊥
+unreading command c e silent reads = let k : reads_input c ≡ true = subst (λ (x : Command). reads_input x ≡ true) e reads in cc
+
 -- words that say a command ask for the input, unless the command doesn't read it
 pub asking : (words : List (List ℕ)) (c : Command) → Says words c → ¬ AsksNoInput words → reads_input c ≡ true
 asking words c says asks = go (reads_input c) refl

@@ -1,7 +1,8 @@
-ghost use Rattle.std.specs.Prelude.{◌≡◌, ◌≤◌, None};
+ghost use Rattle.std.specs.Prelude.{◌≡◌, ◌≤◌, ◌<◌, ◌^◌, None};
 ghost use Rattle.abc_bodies.specs.Places.{ArePlaces};
 ghost use Rattle.abc_cli.specs.Answers.{IsVerifiedOf, OfFileRead};
 ghost use Rattle.abc_cli.specs.End.{HasFailed, RunsTo, UsesUp, stream};
+ghost use Rattle.abc_cli.specs.Endings.{CanBeTold};
 ghost use Rattle.abc_cli.specs.Outcome.{On};
 ghost use Rattle.abc_cli.specs.Runs.{IsMeant, Run, limits_of as limits_in};
 ghost use Rattle.abc_machine.specs.OpeningsBegun.{setting};
@@ -21,6 +22,14 @@ use abc_verify::Verified;
 use abc_words::RunOptions;
 use std::alloc::Global;
 
+/// A limit of cells, which 32 bits count.
+fn counted(cells: u32) -> u32
+    ensures is { result ≡ cells }
+    ensures low { result < 2 ^ 32 }
+{
+    cells
+}
+
 /// The limits of a run.
 fn limits_of(options: &RunOptions) -> Limits
     ensures is { result ≡ limits_in options.now }
@@ -28,11 +37,21 @@ fn limits_of(options: &RunOptions) -> Limits
 {
     Limits {
         objects: options.objects,
-        cells: options.cells,
+        cells: counted(options.cells),
         text: options.text,
         frames: options.frames,
         stack: options.stack,
     }
+}
+
+/// How a run of this machine ends can be told.
+#[tactic(none)]
+fn end_can_be_told<H: Host>(machine: &Machine, fuel: u32, host: &H)
+    requires verified { IsVerified (setting (machine.now).linked (H.formulas host.now)) }
+    requires counted { AreCounted (machine.now).limits }
+    ensures { CanBeTold (machine.now).linked.file (meaning (setting (machine.now).linked (H.formulas host.now)) (machine.now).limits fuel) }
+{
+    ends_can_be_told();
 }
 
 /// Runs an opened machine, and writes the line of its end.
@@ -53,7 +72,7 @@ fn run_machine<K: Sink, E: Sink, H: Host>(
     ensures later { K.faults out.old ≤ K.faults out.new }
     ensures quiet { result ≡ Status.Done → err.new ≡ err.old }
 {
-    ends_can_be_told();
+    end_can_be_told(&machine, fuel, host);
     let end = machine.run(fuel, out, host);
     give_end(err, machine.linked(), places, &end)
 }

@@ -10,8 +10,8 @@ use Rattle.abc_program.specs.Linked.{LinkedFile}
 use Rattle.abc_meaning.specs.WorldSetting.{Setting}
 use Rattle.abc_cli.proofs.run.run_machine.Goals as goal
 
-pub run-requires : goal.run-requires
-run-requires g c = λ begun. c.requires.names
+pub run-end-requires : goal.run-end-requires
+run-end-requires g c = λ begun. c.requires.names
 
 pub give_end-requires : goal.give_end-requires
 give_end-requires g c =
@@ -19,7 +19,7 @@ give_end-requires g c =
     let p : Setting = record { linked = l; formulas = g.H.Host.formulas c.args.host.now } in
     let same = c.linked.ensures ∙ c.run-end.ensures.linked in
     let placed = run_placed l.file c.args.places.now (meaning p c.args.machine.limits c.args.fuel) _ _ c.run-end.result c.requires.places
-    (λ wrote m i fault e. c.ends_can_be_told.ensures.placed p c.args.machine.limits c.args.fuel wrote m i fault c.requires.verified c.requires.counted e) (c.run-end.ensures.ends c.requires.begun) in
+    c.end_can_be_told.ensures.placed (c.run-end.ensures.ends c.requires.begun) in
     subst (λ (x : LinkedFile). IsPlacedEnd x.file c.args.places.now c.run-end.result) (sym same) placed
 
 pub returns-clause-end : goal.returns-clause-end
@@ -31,7 +31,7 @@ returns-clause-end g c =
     let line = subst (λ (x : LinkedFile). GivesLine err (end_answer x.file c.args.places.now c.run-end.result) c.give_end.result) same c.give_end.ensures.line in
     run_ends l.file c.args.places.now (meaning p c.args.machine.limits c.args.fuel) (g.K.Sink.written c.args.out.now) (g.K.Sink.written c.run-end.new.out) (g.K.Sink.faults c.args.out.now) (g.K.Sink.faults c.run-end.new.out) err
     c.run-end.result c.give_end.result
-    (λ wrote e. c.ends_can_be_told.ensures.never_stuck p c.args.machine.limits c.args.fuel wrote c.requires.verified c.requires.counted e)
+    c.end_can_be_told.ensures.unstuck
     (c.run-end.ensures.ends c.requires.begun) (c.run-end.ensures.cause c.requires.begun) line
     (λ h. let d = c.give_end.ensures.done h in
     (d.0, subst (λ x. IsSome (g.E.Sink.written c.args.err.now) → g.E.Sink.written x ≡ append_known (g.E.Sink.written c.args.err.now) []) (sym d.1) (nothing (g.E.Sink.written c.args.err.now))))

@@ -17,7 +17,7 @@ run_machine-requires g c =
     record {
       begun = ap (λ (m : Opened). m.ended) is;
       names = sym (ap (λ (m : Opened). m.names) is);
-      verified = machine_verified c.args.verified fs c.limits_of-limits.result c.in-Ok.machine c.in-Ok.ensures c.requires.verified (subst (λ (x : LinkedFile). HasFewSlots x) c.linked.ensures c.slots_law.ensures) (g.H.Host.formed c.args.host.now);
+      verified = machine_verified c.args.verified fs c.limits_of-limits.result c.in-Ok.machine c.in-Ok.ensures c.requires.verified (subst (λ (x : LinkedFile). HasFewSlots x) c.linked.ensures c.slots_law.ensures) (g.met.H.Host.formed c.args.host.now);
       counted = subst AreCounted (sym (ap (λ (m : Opened). m.limits) is)) c.limits_of-limits.ensures.counted;
       places = subst (λ (l : LinkedFile). ArePlaces l.file.bodies c.args.places.now) (sym (ap (λ (m : Opened). m.linked) is)) c.requires.places;
     }

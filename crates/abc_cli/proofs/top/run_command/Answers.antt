@@ -1,6 +1,9 @@
+use Rattle.std.proofs.Common.{refl}
 use Rattle.abc_words.specs.declared.command.Command.TheVariants as commands
 use Rattle.abc_cli.specs.End.{stream}
-use Rattle.abc_cli.proofs.Usages.{command_ends, gen_ends, run_ends}
+use Rattle.abc_cli.specs.Outcome.{OutcomeOf}
+use Rattle.abc_cli.proofs.Ending.{finished_used_up}
+use Rattle.abc_cli.proofs.Usages.{command_ends, gen_ends, reading, run_ends, unreading}
 use Rattle.abc_cli.proofs.top.run_command.Goals as goal
 
 pub returns-in-Canon-clause-end : goal.returns-in-Canon-clause-end
@@ -30,10 +33,62 @@ returns-in-Asm-clause-end g c =
 
 pub returns-in-Run-clause-end : goal.returns-in-Run-clause-end
 returns-in-Run-clause-end g c =
-    run_ends (g.H.Host.formulas c.args.host.now) c.args.command.now c.in-Run.options.now (stream g.S.Source.left g.S.Source.faults c.args.source.now c.run.new.source) (stream g.K.Sink.written g.K.Sink.faults c.args.out.now c.run.new.out)
+    run_ends (g.H.Host.formulas c.args.host.now) c.args.command.now c.in-Run.options (stream g.S.Source.left g.S.Source.faults c.args.source.now c.run.new.source) (stream g.K.Sink.written g.K.Sink.faults c.args.out.now c.run.new.out)
     (stream g.E.Sink.written g.E.Sink.faults c.args.err.now c.run.new.err) c.run.result c.in-Run.is c.run.ensures.end
 
 pub returns-in-Gen-clause-end : goal.returns-in-Gen-clause-end
 returns-in-Gen-clause-end g c =
-    gen_ends (g.H.Host.formulas c.args.host.now) c.args.command.now c.in-Gen.options.now (stream g.S.Source.left g.S.Source.faults c.args.source.now c.args.source.now) (stream g.K.Sink.written g.K.Sink.faults c.args.out.now c.generate.new.out)
+    gen_ends (g.H.Host.formulas c.args.host.now) c.args.command.now c.in-Gen.options (stream g.S.Source.left g.S.Source.faults c.args.source.now c.args.source.now) (stream g.K.Sink.written g.K.Sink.faults c.args.out.now c.generate.new.out)
     (stream g.E.Sink.written g.E.Sink.faults c.args.err.now c.generate.new.err) c.generate.result c.in-Gen.is c.generate.ensures
+
+pub returns-in-Canon-clause-used_up : goal.returns-in-Canon-clause-used_up
+returns-in-Canon-clause-used_up g c = λ reads.
+    finished_used_up (OutcomeOf (g.H.Host.formulas c.args.host.now) commands.Canon) (stream g.S.Source.left g.S.Source.faults c.args.source.now c.canon.new.source) (stream g.K.Sink.written g.K.Sink.faults c.args.out.now c.give.new.out)
+    (stream g.E.Sink.written g.E.Sink.faults c.args.err.now c.give.new.err) c.canon.result c.give.result c.canon.ensures.gives c.give.ensures
+
+pub returns-in-Canon-clause-unread : goal.returns-in-Canon-clause-unread
+returns-in-Canon-clause-unread g c = λ silent. absurd (reading c.args.command.now commands.Canon c.in-Canon.is refl silent)
+
+pub returns-in-Dis-clause-used_up : goal.returns-in-Dis-clause-used_up
+returns-in-Dis-clause-used_up g c = λ reads.
+    finished_used_up (OutcomeOf (g.H.Host.formulas c.args.host.now) commands.Dis) (stream g.S.Source.left g.S.Source.faults c.args.source.now c.dis.new.source) (stream g.K.Sink.written g.K.Sink.faults c.args.out.now c.give-in-Dis.new.out)
+    (stream g.E.Sink.written g.E.Sink.faults c.args.err.now c.give-in-Dis.new.err) c.dis.result c.give-in-Dis.result c.dis.ensures.gives c.give-in-Dis.ensures
+
+pub returns-in-Dis-clause-unread : goal.returns-in-Dis-clause-unread
+returns-in-Dis-clause-unread g c = λ silent. absurd (reading c.args.command.now commands.Dis c.in-Dis.is refl silent)
+
+pub returns-in-Check-clause-used_up : goal.returns-in-Check-clause-used_up
+returns-in-Check-clause-used_up g c = λ reads.
+    finished_used_up (OutcomeOf (g.H.Host.formulas c.args.host.now) commands.Check) (stream g.S.Source.left g.S.Source.faults c.args.source.now c.check.new.source) (stream g.K.Sink.written g.K.Sink.faults c.args.out.now c.give-in-Check.new.out)
+    (stream g.E.Sink.written g.E.Sink.faults c.args.err.now c.give-in-Check.new.err) c.check.result c.give-in-Check.result c.check.ensures.gives c.give-in-Check.ensures
+
+pub returns-in-Check-clause-unread : goal.returns-in-Check-clause-unread
+returns-in-Check-clause-unread g c = λ silent. absurd (reading c.args.command.now commands.Check c.in-Check.is refl silent)
+
+pub returns-in-Tidy-clause-used_up : goal.returns-in-Tidy-clause-used_up
+returns-in-Tidy-clause-used_up g c = λ reads.
+    finished_used_up (OutcomeOf (g.H.Host.formulas c.args.host.now) commands.Tidy) (stream g.S.Source.left g.S.Source.faults c.args.source.now c.tidy.new.source) (stream g.K.Sink.written g.K.Sink.faults c.args.out.now c.give-in-Tidy.new.out)
+    (stream g.E.Sink.written g.E.Sink.faults c.args.err.now c.give-in-Tidy.new.err) c.tidy.result c.give-in-Tidy.result c.tidy.ensures.gives c.give-in-Tidy.ensures
+
+pub returns-in-Tidy-clause-unread : goal.returns-in-Tidy-clause-unread
+returns-in-Tidy-clause-unread g c = λ silent. absurd (reading c.args.command.now commands.Tidy c.in-Tidy.is refl silent)
+
+pub returns-in-Asm-clause-used_up : goal.returns-in-Asm-clause-used_up
+returns-in-Asm-clause-used_up g c = λ reads.
+    finished_used_up (OutcomeOf (g.H.Host.formulas c.args.host.now) commands.Asm) (stream g.S.Source.left g.S.Source.faults c.args.source.now c.asm.new.source) (stream g.K.Sink.written g.K.Sink.faults c.args.out.now c.give-in-Asm.new.out)
+    (stream g.E.Sink.written g.E.Sink.faults c.args.err.now c.give-in-Asm.new.err) c.asm.result c.give-in-Asm.result c.asm.ensures.gives c.give-in-Asm.ensures
+
+pub returns-in-Asm-clause-unread : goal.returns-in-Asm-clause-unread
+returns-in-Asm-clause-unread g c = λ silent. absurd (reading c.args.command.now commands.Asm c.in-Asm.is refl silent)
+
+pub returns-in-Run-clause-used_up : goal.returns-in-Run-clause-used_up
+returns-in-Run-clause-used_up g c = λ reads. c.run.ensures.used_up
+
+pub returns-in-Run-clause-unread : goal.returns-in-Run-clause-unread
+returns-in-Run-clause-unread g c = λ silent. absurd (reading c.args.command.now (commands.Run c.in-Run.options) c.in-Run.is refl silent)
+
+pub returns-in-Gen-clause-used_up : goal.returns-in-Gen-clause-used_up
+returns-in-Gen-clause-used_up g c = λ reads. absurd (unreading c.args.command.now (commands.Gen c.in-Gen.options) c.in-Gen.is refl reads)
+
+pub returns-in-Gen-clause-unread : goal.returns-in-Gen-clause-unread
+returns-in-Gen-clause-unread g c = λ silent. refl

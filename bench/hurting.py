@@ -1,0 +1,102 @@
+"""Programs that want to hurt: each makes as much of one thing as the limits of a run allow, or makes the verifier work as much as
+the bytes of a file can. As assembly texts and as files."""
+from spelling import number
+from statements import distance
+from verifying import HANDLED, of_bodies
+
+CODE = (1 << 23) - 1
+LAST = b"\x47"
+
+
+def text(code, more="", strings=(), names=(), method="method 0 0 0", script="script 0", scopes=1, begin=("getlocal_0", "pushscope")):
+    """A program whose script has this code, behind those of `more`."""
+    lines = ["abc 16 46", *(f'string "{s}"' for s in ("trace", "next", *strings)), "ns Package 0", "set 1"]
+    lines += ["name QName 1 1", "name QName 1 2", "name MultinameL 1", *names, method, script]
+    lines += [f"body 0 8 4 0 {scopes}", *begin, *code.split("; "), more]
+    return "\n".join(lines) + "\n"
+
+
+LOOP = "Again:; label; {}; jump Again"
+COUNTED = "pushbyte 0; convert_i; setlocal_2; " + LOOP.format("{}; inclocal_i 2")
+FUNCTION = "body 1 1 1 0 0\nreturnvoid"
+TWO = "method 0 0 0\nmethod 0 0 0"
+ITSELF = "script 0\ntrait method 0 2 0 1"
+
+
+def frames(then):
+    """A method that calls itself, as deep as frames go; what stands there goes on in each."""
+    return text("findpropstrict 2; callproperty 2 0; pop; returnvoid", f"body 1 4 2 0 0\ngetlocal_0\ncallproperty 2 0\n{then}", method=TWO, script=ITSELF)
+
+
+def throwing():
+    """Calls 900 deep, each in a frame whose handler doesn't fit, and a throw that goes through all of them; the script takes what is
+    thrown, and begins again."""
+    code = "Again:; label; getlocal_0; pushscope; getlocal_0; pushbyte 0; callproperty 2 1; pop; End:; returnvoid; Caught:; pop; jump Again; catch Again End Caught 0 0"
+    deep = "body 1 3 2 0 0\nBegin:\ngetlocal_1\nincrement\nsetlocal_1\ngetlocal_1\npushshort 900\nifge Deep\ngetlocal_0\ngetlocal_1\ncallproperty 2 1\nreturnvalue"
+    deep += "\nDeep:\npushstring 1\nthrow\nEnd:\npop\npushnull\nreturnvalue\ncatch Begin End End 4 0"
+    return text(code, deep, strings=("Error",), names=("name QName 1 3",), method="method 0 0 0\nmethod 0 0 0\nparam 0", script=ITSELF, begin=())
+
+
+RUNS = {
+    "properties": text("newobject 0; setlocal_1; " + COUNTED.format("getlocal_1; getlocal_2; getlocal_2; setproperty 3")),
+    "deleted": text("newobject 0; setlocal_1; " + COUNTED.format("getlocal_1; getlocal_2; getlocal_2; setproperty 3; getlocal_1; getlocal_2; deleteproperty 3; pop")),
+    "elements": text("newarray 0; setlocal_1; " + COUNTED.format("getlocal_1; getlocal_2; getlocal_2; setproperty 3")),
+    "objects": text(LOOP.format("newobject 0; pop")),
+    "closures": text(LOOP.format("newfunction 1; pop"), FUNCTION, method=TWO),
+    "scopes": text("; ".join(["getlocal_0; pushscope"] * 65000) + "; " + LOOP.format("newfunction 1; pop"), FUNCTION, method=TWO, scopes=65535),
+    "texts": text("pushstring 1; setlocal_1; " + LOOP.format("getlocal_1; dup; add; setlocal_1")),
+    "joined": text("pushstring 1; setlocal_1; " + LOOP.format("getlocal_1; pushstring 2; add; setlocal_1")),
+    "frames": frames("returnvalue"),
+    "throws": throwing(),
+    "lines": text(LOOP.format("findpropstrict 1; pushstring 1; callpropvoid 1 1")),
+    "missing": text(LOOP.format("findproperty 2; pop")),
+}
+
+
+def scripts(count):
+    """Scripts of which each names what the one before it has: the last one starts all."""
+    lines = ["abc 16 46", *(f'string "s{n}"' for n in range(count)), "ns Package 0", *(f"name QName 1 {n + 1}" for n in range(count))]
+    lines += ["method 0 0 0"] * count
+    for n in range(count):
+        lines += [f"script {n}", f"trait slot 0 {n + 1} 0 0 0"]
+    for n in range(count):
+        lines += [f"body {n} 2 1 0 1", "getlocal_0", "pushscope", *([f"findpropstrict {n}", "pop"] if n else []), "returnvoid"]
+    return "\n".join(lines) + "\n"
+
+
+RUNS["scripts"] = scripts(900)
+
+
+def nops():
+    return of_bodies((1, b"\x02" * (CODE - 1) + LAST, []))
+
+
+def to_one_place():
+    """Branches that all lead to the first place."""
+    code = bytearray(b"\x09")
+    while len(code) + 5 < CODE:
+        code += b"\x26\x11" + distance(-(len(code) + 5))
+    return of_bodies((1, bytes(code) + LAST, []))
+
+
+def switches():
+    """Switches of 100 cases each, which lead to the places behind them."""
+    cases = 100
+    unit = 2 + 1 + 3 + 1 + 3 * (cases + 1)
+    code = bytearray()
+    while len(code) + unit < CODE:
+        base = len(code) + 2
+        code += b"\x24\x01\x1b" + distance(unit - 2) + number(cases) + distance(unit - 2) * (cases + 1)
+    return of_bodies((1, bytes(code) + LAST, []))
+
+
+def covered():
+    """2^16 handlers over all of a body that writes 64 locals."""
+    unit = b"".join(b"\x24\x01\x63" + number(n % 64) for n in range(1024))
+    code = unit * 256
+    end = len(code)
+    exceptions = [b"".join(map(number, (0, end, end + 1))) + HANDLED] * (1 << 16)
+    return of_bodies((64, code + LAST + b"\x29" + LAST, exceptions))
+
+
+FILES = {"nops": nops, "to_one_place": to_one_place, "switches": switches, "covered": covered}
