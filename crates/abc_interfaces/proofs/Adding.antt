@@ -22,7 +22,7 @@ one_same old x e =
       only = λ y c. inl c;
     }
 
-one_more : (old : List ℕ) (x : ℕ) → AddsEach old (old ++ x ∷ []) (x ∷ []) 1
+pub one_more : (old : List ℕ) (x : ℕ) → AddsEach old (old ++ x ∷ []) (x ∷ []) 1
 one_more old x = record {
   keeps = λ y c. Contains-append_left old (x ∷ []) y c;
   each = λ j lt. let z : 0 ≡ j = omega arith in subst (λ (n : ℕ). Contains (old ++ x ∷ []) (get_or (x ∷ []) n 0)) z (Contains-push old x);

@@ -1,4 +1,5 @@
 pub mod Adding
+pub mod Gathering
 pub mod Visiting
 pub mod Graphs
 pub mod Uniting

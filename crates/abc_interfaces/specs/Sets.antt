@@ -18,6 +18,12 @@ pub record AddsEach (old new numbers : List ℕ) (n : ℕ) : Type 0 where
   pub each : (j : ℕ) → j < n → Contains new (get_or numbers j 0)
   pub only : (y : ℕ) → Contains new y → Contains old y ⊎ Contains numbers y
 
+-- some numbers were added to others, and nothing else
+pub record AddsAll (old new numbers : List ℕ) : Type 0 where
+  pub keeps : (y : ℕ) → Contains old y → Contains new y
+  pub adds : (y : ℕ) → Contains numbers y → Contains new y
+  pub only : (y : ℕ) → Contains new y → Contains old y ⊎ Contains numbers y
+
 -- an interface that a class leads to
 abbrev pub IsAbove : Abc → ℕ → ℕ → Type 0
 IsAbove v k i = IsTrue (is_interface v i) × Leads (class_graph v) k i
@@ -52,6 +58,11 @@ keys_at sets k = keys_in (slice_get sets k)
 -- what a class has of one that it leads to: that one itself, if it is an interface, and what that one has
 abbrev pub given_by : Abc → List (Option Set) → ℕ → List ℕ
 given_by v sets t = (if is_interface v t then t ∷ [] else []) ++ keys_at sets t
+
+-- the numbers are what the first n of several classes give, or some of what all of them give
+pub record Gathers (v : Abc) (sets : List (Option Set)) (classes list : List ℕ) (n : ℕ) : Type 0 where
+  pub sound : (y : ℕ) → Contains list y → (t : ℕ) × Contains classes t × Contains (given_by v sets t) y
+  pub complete : (j y : ℕ) → j < n → Contains (given_by v sets (get_or classes j 0)) y → Contains list y
 
 -- no set is there
 pub record AreUnset (sets : List (Option Set)) (n : ℕ) : Type 0 where

@@ -1,32 +1,13 @@
 ghost use Rattle.std.specs.Prelude.{◌≡◌, ◌++◌, IfOk, OnOk};
 ghost use Rattle.std.specs.List.{flat_map};
-ghost use Rattle.abc_program.specs.Instances.{instance_at};
 ghost use Rattle.abc_program.specs.Meaning.{resolve};
 ghost use Rattle.abc_program.specs.Interfaces.{above_class as above_class_of, class_graph as class_graph_of};
-ghost use Rattle.abc_program.specs.Bases.{classes_named, interfaces_named, is_interface as is_interface_class};
+ghost use Rattle.abc_program.specs.Bases.{classes_named, interfaces_named};
 
 use abc_base::{NoMemory, Table};
-use abc_program::{Meanings, Named};
+use abc_program::{Meanings, Named, is_interface};
 use abc_tables::{Abc, Instance, has_flag};
 use std::alloc::Global;
-
-/// The flags of a class.
-#[tactic(auto, using(abc_base::proofs::Past::past_end))]
-fn class_flags(abc: &Abc, class: u32) -> u8
-    ensures { result ≡ (instance_at abc.now class).flags }
-{
-    match abc.instances.find(class as usize) {
-        Some(instance) => instance.flags,
-        None => 0,
-    }
-}
-
-/// Whether a class is an interface.
-pub(crate) fn is_interface(abc: &Abc, class: u32) -> bool
-    ensures { result ≡ is_interface_class abc.now class }
-{
-    has_flag(class_flags(abc, class), 0x04)
-}
 
 /// Adds the interface of the file that a name stands for, if it is one.
 fn push_interface(list: &mut Table<u32>, abc: &Abc, named: Option<Named>) -> Result<(), NoMemory>

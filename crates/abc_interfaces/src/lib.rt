@@ -1,6 +1,7 @@
 //! The interfaces of classes: those of a class's own list, of its bases and of the interfaces' interfaces.
 #![tactic(auto)]
 
+mod gathered;
 mod graph;
 mod interfaces;
 mod set;

@@ -1,14 +1,14 @@
-ghost use Rattle.std.specs.Prelude.{◌≡◌, ◌++◌, ◌∷◌, ◌+◌, ◌<◌, ◌^◌, [], false, if◌then◌else◌, length, nat_eq, not, IfOk, OnOk};
-ghost use Rattle.std.specs.List.{flat_map, list_any};
+ghost use Rattle.std.specs.Prelude.{◌≡◌, ◌+◌, ◌<◌, ◌^◌, false, length, nat_eq, not, IfOk, OnOk};
+ghost use Rattle.std.specs.List.{list_any};
 ghost use Rattle.abc_graph.specs.Graph.{IsGraph, targets};
-ghost use Rattle.abc_interfaces.specs.Sets.{AreSets, AreUnset, HasSets, IsSetOf, ListsBelow, ListsMarked, Settles, SettlesEach, given_by, is_settled as is_settled_in, keys_at as keys_in_sets};
+ghost use Rattle.abc_interfaces.specs.Sets.{AreSets, AreUnset, HasSets, IsSetOf, ListsBelow, ListsMarked, Settles, SettlesEach, is_settled as is_settled_in, keys_at as keys_in_sets};
 ghost use Rattle.abc_program.specs.Interfaces.{class_graph};
-ghost use Rattle.abc_program.specs.Bases.{is_interface as is_interface_class};
 
-use crate::graph::is_interface;
+use crate::gathered::given;
 use crate::set::set_of;
 use abc_base::{NoMemory, Table};
 use abc_graph::reached;
+use abc_program::is_interface;
 use abc_tables::Abc;
 use indexmap::IndexSet;
 use std::alloc::Global;
@@ -23,16 +23,6 @@ fn is_settled(sets: &Table<Option<IndexSet<u32>>>, class: u32) -> bool
     }
 }
 
-/// The set of a class, as far as it is there.
-fn keys_at(sets: &Table<Option<IndexSet<u32>>>, class: u32) -> &[u32]
-    ensures { result.now ≡ keys_in_sets sets.now class }
-{
-    match sets.find(class as usize) {
-        Some(Some(set)) => set.as_slice(),
-        _ => &[],
-    }
-}
-
 /// Whether the set of one of several classes is missing.
 fn any_missing(sets: &Table<Option<IndexSet<u32>>>, classes: &[u32]) -> bool
     ensures { result ≡ list_any (λ t. not (is_settled_in sets.now t)) classes.now }
@@ -43,56 +33,6 @@ fn any_missing(sets: &Table<Option<IndexSet<u32>>>, classes: &[u32]) -> bool
         }
     }
     false
-}
-
-/// Adds some numbers to a list.
-fn push_all(list: &mut Vec<u32>, numbers: &[u32]) -> Result<(), NoMemory>
-    ensures { OnOk result (list.new.items ≡ list.old.items ++ numbers.now) }
-{
-    for number in numbers {
-        list.push(*number)?;
-    }
-    Ok(())
-}
-
-/// Adds a class, if it is an interface.
-fn push_interface(list: &mut Vec<u32>, abc: &Abc, class: u32) -> Result<(), NoMemory>
-    ensures { OnOk result (list.new.items ≡ list.old.items ++ (if is_interface_class abc.now class then class ∷ [] else [])) }
-{
-    if is_interface(abc, class) {
-        list.push(class)?;
-    }
-    Ok(())
-}
-
-/// Adds what a class has of one that it leads to.
-fn push_given(
-    list: &mut Vec<u32>,
-    abc: &Abc,
-    sets: &Table<Option<IndexSet<u32>>>,
-    class: u32,
-) -> Result<(), NoMemory>
-    ensures { OnOk result (list.new.items ≡ list.old.items ++ given_by abc.now sets.now class) }
-{
-    push_interface(list, abc, class)?;
-    push_all(list, keys_at(sets, class))?;
-    Ok(())
-}
-
-/// What a class has of all that it leads to.
-fn given(
-    alloc: Global,
-    abc: &Abc,
-    sets: &Table<Option<IndexSet<u32>>>,
-    classes: &[u32],
-) -> Result<Vec<u32>, NoMemory>
-    ensures { IfOk result (λ list. list.items ≡ flat_map (given_by abc.now sets.now) classes.now) }
-{
-    let mut list = Vec::new(alloc);
-    for class in classes {
-        push_given(&mut list, abc, sets, *class)?;
-    }
-    Ok(list)
 }
 
 /// Adds a class, if it is marked and an interface.
@@ -132,6 +72,7 @@ fn united(
     abc: &Abc,
     graph: &Table<Table<u32>>,
     sets: &Table<Option<IndexSet<u32>>>,
+    places: &mut Vec<u32>,
     class: u32,
 ) -> Result<IndexSet<u32>, NoMemory>
     requires graph { graph.now ≡ class_graph abc.now }
@@ -139,7 +80,7 @@ fn united(
     requires there { list_any (λ t. not (is_settled_in sets.now t)) (targets graph.now class) ≡ false }
     ensures { IfOk result (λ s. IsSetOf abc.now class s.keys) }
 {
-    let list = given(alloc, abc, sets, targets_of(graph, class))?;
+    let list = given(alloc, abc, sets, places, targets_of(graph, class))?;
     let set = set_of(alloc, list.as_slice())?;
     Ok(set)
 }
@@ -180,6 +121,7 @@ fn set_for(
     abc: &Abc,
     graph: &Table<Table<u32>>,
     sets: &Table<Option<IndexSet<u32>>>,
+    places: &mut Vec<u32>,
     class: u32,
 ) -> Result<IndexSet<u32>, NoMemory>
     requires graph { graph.now ≡ class_graph abc.now }
@@ -192,7 +134,7 @@ fn set_for(
     if any_missing(sets, targets_of(graph, class)) {
         return searched(alloc, abc, graph, class);
     }
-    united(alloc, abc, graph, sets, class)
+    united(alloc, abc, graph, sets, places, class)
 }
 
 /// Puts the set of a class there, unless it is there or the number is that of no class.
@@ -202,6 +144,7 @@ fn settle(
     abc: &Abc,
     graph: &Table<Table<u32>>,
     sets: &mut Table<Option<IndexSet<u32>>>,
+    places: &mut Vec<u32>,
     class: u32,
 ) -> Result<(), NoMemory>
     requires graph { graph.now ≡ class_graph abc.now }
@@ -217,7 +160,7 @@ fn settle(
     if class as usize >= sets.len() {
         return Ok(());
     }
-    let set = set_for(alloc, abc, graph, sets, class)?;
+    let set = set_for(alloc, abc, graph, sets, places, class)?;
     sets.set(class as usize, Some(set));
     Ok(())
 }
@@ -248,8 +191,9 @@ fn settle_each(
     ensures { IfOk result (λ sets. SettlesEach abc.now (length graph.now) sets nodes.now (length nodes.now)) }
 {
     let mut sets = unset(alloc, graph.len())?;
+    let mut places = vec![in alloc; 0u32; graph.len()]?;
     for class in nodes {
-        settle(alloc, abc, graph, &mut sets, *class)?;
+        settle(alloc, abc, graph, &mut sets, &mut places, *class)?;
     }
     Ok(sets)
 }

@@ -16,8 +16,8 @@ pub use abc_starts::{
 pub use error::LinkError;
 pub use items::{Item, ItemKind, LinkRule};
 pub use parts::{
-    class_flags, class_name, handlers, instance_table, interface_names, own_table, parameters,
-    return_type, super_name,
+    body_traits, class_flags, class_name, class_traits, handlers, instance_table, instance_traits,
+    interface_names, is_interface, own_table, parameters, return_type, script_traits, super_name,
 };
 pub use rule::{Rule, check};
 pub use types::{TypeTest, any_type};

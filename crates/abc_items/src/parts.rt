@@ -1,9 +1,13 @@
 ghost use Rattle.std.specs.Prelude.{◌≡◌};
 ghost use Rattle.abc_starts.specs.Instances.{instance_at};
+ghost use Rattle.abc_items.specs.Bases.{is_interface as is_interface_class};
 ghost use Rattle.abc_items.specs.Parts.{body_at, class_at, instance_table as instance_table_of, method_at, own_table as own_table_of, script_at};
 
 use crate::items::{Item, ItemKind};
-use abc_starts::{Abc, Handler, TraitInfo};
+use abc_starts::{Abc, Handler, TraitInfo, has_flag};
+
+/// The flag of an interface.
+const INTERFACE: u8 = 0x04;
 
 /// The name of a class.
 #[tactic(auto, using(abc_base::proofs::Past::past_end))]
@@ -38,6 +42,13 @@ pub fn class_flags(abc: &Abc, class: u32) -> u8
     }
 }
 
+/// Whether a class is an interface.
+pub fn is_interface(abc: &Abc, class: u32) -> bool
+    ensures { result ≡ is_interface_class abc.now class }
+{
+    has_flag(class_flags(abc, class), INTERFACE)
+}
+
 /// The names of a class's interfaces.
 #[tactic(auto, using(abc_base::proofs::Past::past_end))]
 pub fn interface_names(abc: &Abc, class: u32) -> &[u32]
@@ -49,8 +60,9 @@ pub fn interface_names(abc: &Abc, class: u32) -> &[u32]
     }
 }
 
+/// The traits of a class's instances.
 #[tactic(auto, using(abc_base::proofs::Past::past_end))]
-fn instance_traits(abc: &Abc, class: u32) -> &[TraitInfo]
+pub fn instance_traits(abc: &Abc, class: u32) -> &[TraitInfo]
     ensures { result.now ≡ (instance_at abc.now class).traits }
 {
     match abc.instances.find(class as usize) {
@@ -59,8 +71,9 @@ fn instance_traits(abc: &Abc, class: u32) -> &[TraitInfo]
     }
 }
 
+/// The traits of a class itself.
 #[tactic(auto, using(abc_base::proofs::Past::past_end))]
-fn class_traits(abc: &Abc, class: u32) -> &[TraitInfo]
+pub fn class_traits(abc: &Abc, class: u32) -> &[TraitInfo]
     ensures { result.now ≡ (class_at abc.now class).traits }
 {
     match abc.classes.find(class as usize) {
@@ -69,8 +82,9 @@ fn class_traits(abc: &Abc, class: u32) -> &[TraitInfo]
     }
 }
 
+/// The traits of a script.
 #[tactic(auto, using(abc_base::proofs::Past::past_end))]
-fn script_traits(abc: &Abc, script: u32) -> &[TraitInfo]
+pub fn script_traits(abc: &Abc, script: u32) -> &[TraitInfo]
     ensures { result.now ≡ (script_at abc.now script).traits }
 {
     match abc.scripts.find(script as usize) {
@@ -79,8 +93,9 @@ fn script_traits(abc: &Abc, script: u32) -> &[TraitInfo]
     }
 }
 
+/// The traits of a body's activation.
 #[tactic(auto, using(abc_base::proofs::Past::past_end))]
-fn body_traits(abc: &Abc, body: u32) -> &[TraitInfo]
+pub fn body_traits(abc: &Abc, body: u32) -> &[TraitInfo]
     ensures { result.now ≡ (body_at abc.now body).traits }
 {
     match abc.bodies.find(body as usize) {

@@ -6,14 +6,13 @@ ghost use Rattle.abc_program.specs.Numbering.{part_at};
 ghost use Rattle.abc_program.specs.Parts.{HasLayout, base_part as base_part_of, host_parent as host_parent_of, parent as parent_of};
 ghost use Rattle.abc_program.specs.Places.{base_of, place_of};
 ghost use Rattle.abc_program.specs.declared.part.Part.{Part as AnyPart};
-ghost use Rattle.abc_program.specs.Instances.{instance_at};
 ghost use Rattle.abc_program.specs.Bases.{base_named};
 ghost use Rattle.abc_program.specs.Rules.{AllHold};
 
 use crate::key::places_of;
 use crate::numbering::number_parts;
 use abc_base::{HostClass, NoMemory, Table};
-use abc_program::{LayoutId, Meanings, Named, Part, PartKey, part_key};
+use abc_program::{LayoutId, Meanings, Named, Part, PartKey, part_key, super_name};
 use abc_tables::Abc;
 use indexmap::IndexMap;
 use std::alloc::Global;
@@ -47,17 +46,6 @@ fn base_part(named: Option<Named>) -> Part
         Some(Named::Class(class)) => Part::Instance(class),
         Some(Named::Host(host)) => Part::Host(host),
         _ => Part::Host(HostClass::Object),
-    }
-}
-
-/// The name of a class's base; 0 is none.
-#[tactic(auto, using(abc_base::proofs::Past::past_end))]
-fn super_name(abc: &Abc, class: u32) -> u32
-    ensures { result ≡ (instance_at abc.now class).super_name }
-{
-    match abc.instances.find(class as usize) {
-        Some(instance) => instance.super_name,
-        None => 0,
     }
 }
 

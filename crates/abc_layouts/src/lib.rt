@@ -7,7 +7,8 @@ mod layouts;
 mod numbering;
 
 pub use abc_program::{
-    Heirs, LayoutId, Meanings, Named, Part, SlotInfo, Start, Ty, qname_at, start_of,
+    Heirs, LayoutId, Meanings, Named, Part, SlotInfo, Start, Ty, body_traits, class_traits,
+    handlers, instance_traits, is_interface, qname_at, script_traits, start_of,
 };
 pub use layouts::Layouts;
 pub use numbering::number_parts;

@@ -10,7 +10,7 @@ ghost use Rattle.abc_program.specs.Rules.{AllHold};
 use crate::forest::class_order;
 use abc_base::{HostClass, NoMemory, Table};
 use abc_graph::Order;
-use abc_program::{HOST_CLASSES, Meanings, Part};
+use abc_program::{HOST_CLASSES, Meanings, Part, handlers};
 use abc_tables::{Abc, has_flag};
 use std::alloc::Global;
 
@@ -101,14 +101,10 @@ fn body_method(abc: &Abc, body: u32) -> u32
 }
 
 /// How many exceptions a body has.
-#[tactic(auto, using(abc_base::proofs::Past::past_end))]
 fn handler_count(abc: &Abc, body: u32) -> usize
     ensures { result ≡ length (body_at abc.now body).handlers }
 {
-    match abc.bodies.find(body as usize) {
-        Some(body) => body.handlers.len(),
-        None => 0,
-    }
+    handlers(abc, body).len()
 }
 
 /// The flags of a method.

@@ -14,3 +14,5 @@ pub use Rattle.abc_interfaces.specs.Ty
 pub use Rattle.abc_interfaces.specs.LayoutId
 pub use Rattle.abc_interfaces.specs.ItemsParts
 pub use Rattle.abc_interfaces.specs.ItemsTraits as Traits
+pub use Rattle.abc_search_tables.specs.ScriptTraits
+pub use Rattle.abc_search_tables.specs.OwnSlots

@@ -6,7 +6,7 @@ use Rattle.abc_interfaces.specs.Numbers.{AreNames}
 use Rattle.abc_interfaces.specs.Linked.{LinkedFile}
 use Rattle.abc_interfaces.specs.Firsts.{IsFew}
 use Rattle.abc_interfaces.specs.Rules.{AllHold}
-use Rattle.abc_members.specs.Files.{linked}
+use Rattle.abc_search_tables.specs.Files.{linked}
 use Rattle.abc_tables.specs.Files.{Fits}
 
 abbrev pub file_of : Inside → LinkedFile
@@ -18,4 +18,4 @@ pub record AreTables (a : Inside) : Type 0 where
   pub tables : IsFew a.abc
   pub names_are : AreNames a.abc a.names
   pub meanings_are : AreMeanings a.abc a.meanings
-  pub made_of : IsMade a.abc a.made
+  pub made_of : IsMade a.abc a.names.numbers a.made

@@ -8,5 +8,6 @@ mod linking;
 pub use abc_interfaces::{
     Item, ItemKind, Kind, LayoutId, LinkError, LinkRule, Owner, Part, SlotInfo, Start, Ty, part_key,
 };
+pub use abc_search_tables::traits_of;
 pub use linked::{Linked, kind_of_type};
 pub use linking::link;

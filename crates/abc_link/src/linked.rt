@@ -1,12 +1,17 @@
-ghost use Rattle.std.specs.Prelude.{◌≡◌, ◌<◌, ◌↔◌, IsTrue, length};
+ghost use Rattle.std.specs.Prelude.{◌≡◌, ◌<◌, ◌↔◌, ℕ, IsTrue, List, Some, length, slice_get};
+ghost use Rattle.std.specs.List.{list_any};
 ghost use Rattle.std.specs.Option.{option_copied, option_map};
-ghost use Rattle.abc_index.specs.Texts.{number_in};
-ghost use Rattle.abc_interfaces.specs.Pool.{is_public as is_public_in, same_space};
+ghost use Rattle.std.specs.Str.{bytes_eq};
+ghost use Rattle.abc_index.specs.Index.{first};
+ghost use Rattle.abc_index.specs.Texts.{texts_of};
+ghost use Rattle.abc_interfaces.specs.Pool.{is_public as is_public_in, same_space, set as set_of};
 ghost use Rattle.abc_interfaces.specs.ProgramInterfaces.{Implements};
 ghost use Rattle.abc_interfaces.specs.Linked.{IsLayout, IsLinkedFile, above as above_of, base as base_of, layout_of as layout_of_part, part_of as part_of_layout};
 ghost use Rattle.abc_interfaces.specs.Owners.{body_of as body_of_method, owner_of};
 ghost use Rattle.abc_interfaces.specs.Slots.{HasFewSlots, slot_numbered as slot_with, slots_of};
-ghost use Rattle.abc_interfaces.specs.Traits.{own_traits as own_traits_of};
+ghost use Rattle.abc_interfaces.specs.Traits.{own_table_of, own_traits as own_traits_of};
+ghost use Rattle.abc_search_tables.specs.OwnSlots.{slots_before as slots_before_of};
+ghost use Rattle.abc_search_tables.specs.ScriptTraits.{owners_of, script_traits as script_traits_of};
 ghost use Rattle.abc_interfaces.specs.Types.{kind_of_type as kind_of, type_of as type_of_name};
 
 use abc_base::{HostClass, Table};
@@ -14,8 +19,8 @@ use abc_interfaces::{
     Heirs, Interfaces, Kind, LayoutId, Meanings, NameTables, Named, Names, Owner, Part, SlotInfo,
     Ty,
 };
-use abc_members::{Layouts, Members, type_in};
 use abc_owners::Owners;
+use abc_search_tables::{Layouts, Members, SearchTables, type_in};
 use abc_tables::Abc;
 use std::marker::Model;
 
@@ -27,6 +32,7 @@ pub(crate) struct Made {
     pub slots: Heirs<SlotInfo>,
     pub members: Members,
     pub interfaces: Interfaces,
+    pub search: SearchTables,
 }
 
 /// A linked file: whose method each method is, the layouts of objects and their slots, the types of names.
@@ -203,6 +209,82 @@ impl Linked {
     {
         let names = Names::new(&self.abc, &self.names);
         names.is_public(space)
+    }
+}
+
+impl Linked {
+    /// The number of a text, if it is the empty one or a string of the file. Equal texts have equal numbers.
+    pub fn text_number(&self, text: &[u8]) -> Option<u32>
+        ensures { result ≡ first (bytes_eq text.now) (texts_of self.now.file.strings) }
+    {
+        self.made.members.text_number(text)
+    }
+
+    /// The own traits of a layout that have the text of a number, as their places in its table, in file order. It answers
+    /// none where no own trait has the text.
+    pub fn own_numbered(&self, layout: LayoutId, number: Option<u32>) -> Option<&Table<u32>>
+        requires { IsLayout self.now layout }
+        ensures { (t : List ℕ) → first (bytes_eq t) (texts_of self.now.file.strings) ≡ number → option_copied result ≡ own_traits_of self.now layout.0 t }
+    {
+        self.made
+            .members
+            .own_numbered(&self.abc, &self.made.layouts, layout.0, number)
+    }
+
+    /// How many of a layout's own traits before the one at a place of its table have slots.
+    pub fn slots_before(&self, layout: LayoutId, place: u32) -> u32
+        requires layout { IsLayout self.now layout }
+        requires place { place < length (own_table_of self.now layout.0) }
+        ensures { slice_get (slots_before_of (own_table_of self.now layout.0)) place ≡ Some result }
+    {
+        self.made
+            .search
+            .slots
+            .before(&self.abc, &self.made.layouts, layout.0, place)
+    }
+
+    /// The traits of all scripts that have the text of a number, as their places among these, in order. It answers none
+    /// where no trait of a script has the text.
+    pub fn script_traits(&self, number: Option<u32>) -> Option<&Table<u32>>
+        ensures { (t : List ℕ) → first (bytes_eq t) (texts_of self.now.file.strings) ≡ number → option_copied result ≡ script_traits_of self.now.file t }
+    {
+        self.made
+            .search
+            .scripts
+            .numbered(&self.abc, &self.made.members.texts, number)
+    }
+
+    /// The script of a trait by its place among those of all scripts.
+    pub fn script_of(&self, place: u32) -> u32
+        requires { place < length (owners_of self.now.file) }
+        ensures { slice_get (owners_of self.now.file) place ≡ Some result }
+    {
+        self.made
+            .search
+            .scripts
+            .script_of(&self.abc, &self.made.members.texts, place)
+    }
+
+    /// Whether a set of the pool has a namespace that is equal to one of the pool.
+    pub fn set_holds(&self, set: u32, space: u32) -> bool
+        ensures { result ≡ list_any (same_space self.now.file space) (set_of self.now.file set) }
+    {
+        let names = Names {
+            abc: &self.abc,
+            tables: &self.names,
+        };
+        self.made.search.sets.holds(&names, set, space)
+    }
+
+    /// Whether a set of the pool has the public namespace.
+    pub fn set_holds_public(&self, set: u32) -> bool
+        ensures { result ≡ list_any (is_public_in self.now.file) (set_of self.now.file set) }
+    {
+        let names = Names {
+            abc: &self.abc,
+            tables: &self.names,
+        };
+        self.made.search.sets.holds_public(&names, set)
     }
 }
 

@@ -1,6 +1,6 @@
 ghost use Rattle.std.specs.Prelude.{◌≡◌, ◌<◌, ◌^◌, length, IfOk, IsTrue, MatchResult, OnOk};
 ghost use Rattle.abc_interfaces.specs.Heirs.{list_at};
-ghost use Rattle.abc_members.specs.Laid.{AreLayouts};
+ghost use Rattle.abc_search_tables.specs.Laid.{AreLayouts};
 ghost use Rattle.abc_link.specs.Made.{AreFewSlots, IsMade};
 ghost use Rattle.abc_interfaces.specs.Meanings.{AreMeanings};
 ghost use Rattle.abc_interfaces.specs.Numbers.{AreNames};
@@ -15,8 +15,8 @@ use abc_interfaces::{
     Heirs, Interfaces, LinkError, Meanings, NameTables, Named, Names, SlotInfo, check_rules,
     meanings_of,
 };
-use abc_members::{Layouts, Members, slots_of};
 use abc_owners::Owners;
+use abc_search_tables::{Layouts, Members, SearchTables, slots_of};
 use abc_tables::Abc;
 use std::alloc::Global;
 
@@ -87,10 +87,17 @@ fn check_slots(slots: &Heirs<SlotInfo>, layouts: &Layouts, count: u32) -> Result
 }
 
 /// What is made of a file that keeps the rules.
-fn make(alloc: Global, abc: &Abc, meanings: &Table<Option<Named>>) -> Result<Made, NoMemory>
+fn make(
+    alloc: Global,
+    abc: &Abc,
+    names: &NameTables,
+    meanings: &Table<Option<Named>>,
+) -> Result<Made, NoMemory>
+    requires names { AreNames abc.now names.now }
     requires meanings { AreMeanings abc.now meanings.now }
     requires rules { AllHold abc.now }
-    ensures { IfOk result (λ m. IsMade abc.now m) }
+    requires few { IsFew abc.now }
+    ensures { IfOk result (λ m. IsMade abc.now names.now.numbers m) }
 {
     let owners = Owners::new(alloc, abc)?;
     let layouts = layouts_in(alloc, abc, meanings)?;
@@ -100,12 +107,22 @@ fn make(alloc: Global, abc: &Abc, meanings: &Table<Option<Named>>) -> Result<Mad
     check_slots(&slots, &layouts, count)?;
     let members = Members::new(alloc, abc, &layouts, count)?;
     let interfaces = Interfaces::new(alloc, &meant)?;
+    let named = Names { abc, tables: names };
+    let search = SearchTables::new(
+        alloc,
+        &named,
+        &layouts,
+        count,
+        &members.texts,
+        &members.numbers,
+    )?;
     Ok(Made {
         owners,
         layouts,
         slots,
         members,
         interfaces,
+        search,
     })
 }
 
@@ -135,7 +152,7 @@ pub fn link(alloc: Global, abc: Abc) -> Result<Linked, LinkError>
     let names = NameTables::new(alloc, &abc)?;
     let meanings = meanings_in(alloc, &abc, &names)?;
     check(alloc, &abc, &names, &meanings)?;
-    let made = make(alloc, &abc, &meanings)?;
+    let made = make(alloc, &abc, &names, &meanings)?;
     let linked = Linked {
         abc,
         names,

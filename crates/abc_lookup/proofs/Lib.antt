@@ -6,3 +6,4 @@ pub mod Places
 pub mod SlotPlaces
 pub mod Stands
 pub mod Numerals
+pub mod ScriptsFirst

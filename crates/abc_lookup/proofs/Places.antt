@@ -1,5 +1,5 @@
 -- The places of a search in scopes.
-use Rattle.std.proofs.Common.{◌≡◌, ℕ, suc, ◌+◌, ◌-◌, ◌<◌, ◌≤◌, Bool, true, false, List, [], ◌∷◌, ◌++◌, length, map, reverse, take, get_or, cond, refl, ap, ◌∙◌, arith}
+use Rattle.std.proofs.Common.{◌≡◌, ℕ, ◌+◌, ◌-◌, ◌<◌, Bool, true, false, List, [], ◌∷◌, ◌++◌, length, map, reverse, take, get_or, cond, refl, ap, ◌∙◌}
 use Rattle.std.specs.Prelude.{Some, None}
 use Rattle.std.specs.declared.option.Option.{Option}
 use Rattle.std.specs.List.{find, range_with_len}
@@ -68,18 +68,7 @@ saved_next p h s f = ap (λ ss. find p (map (λ s. InScope (node_at h s).entry) 
 pub saved_end : (p : Place → Bool) (h : Heap) → find p (saved_places h None) ≡ None
 saved_end p h = ap (λ ss. find p (map (λ s. InScope (node_at h s).entry) ss)) (way_none (parent_at h))
 
--- ---- scripts
-
-pub script_next : (p : Place → Bool) (i n : ℕ) → i < n
-    → find p (map InScript (range_with_len i (n - i))) ≡ cond (p (InScript i)) (Some (InScript i)) (find p (map InScript (range_with_len (i + 1) (n - (i + 1)))))
-script_next p i n h =
-    let e : n - i ≡ suc (n - (i + 1)) = omega arith in
-    ap (λ m. find p (map InScript (range_with_len i m))) e
-
-pub script_end : (p : Place → Bool) (i n : ℕ) → n ≤ i → find p (map InScript (range_with_len i (n - i))) ≡ None
-script_end p i n h =
-    let e : n - i ≡ 0 = omega arith in
-    ap (λ m. find p (map InScript (range_with_len i m))) e
+-- ---- one place
 
 pub first_here : (b : Bool) (x : Place) (o : Option Place) → b ≡ true → Some x ≡ cond b (Some x) o
 first_here true x o e = refl

@@ -1,9 +1,8 @@
 -- The slots of layouts can be counted, and so can their parts.
-use Rattle.std.proofs.Common.{◌≡◌, ℕ, zero, suc, ◌+◌, ◌<◌, ◌≤◌, ◌^◌, List, [], ◌∷◌, ◌++◌, length, take, cond, refl, sym, ap, ◌∙◌, arith, length-append}
-use Rattle.std.specs.Prelude.{Some, None}
+use Rattle.std.proofs.Common.{◌≡◌, ℕ, zero, suc, ◌+◌, ◌<◌, ◌≤◌, ◌^◌, List, [], ◌∷◌, ◌++◌, length, take, cond, refl, ap, ◌∙◌, arith, length-append}
+use Rattle.std.specs.Prelude.{Bool, true, false, Some, None, slice_get}
 use Rattle.std.specs.declared.option.Option.{Option}
-use Rattle.std.specs.List.{count_by, flat_map}
-use Rattle.std.proofs.lemmas.List.Recursion.{is_count_by}
+use Rattle.std.specs.List.{flat_map}
 use Rattle.abc_base.specs.declared.names.HostClass.TheVariants as hosts
 use Rattle.abc_heirs.specs.Heirs.{heritage}
 use Rattle.abc_heirs.proofs.Laid.{heritage_none, heritage_some}
@@ -17,7 +16,8 @@ use Rattle.abc_search.specs.Traits.{slots_under}
 use Rattle.abc_tables.specs.declared.traits.TraitBody.{TraitBody}
 use Rattle.abc_tables.specs.declared.traits.TraitBody.TheVariants as bodies
 use Rattle.abc_tables.specs.declared.traits.TraitInfo.{TraitInfo}
-use Rattle.abc_lookup.specs.Slots.{has_slot, slot_count, slot_of}
+use Rattle.abc_link.specs.OwnSlots.{has_slot, slots_before, slots_from}
+use Rattle.abc_lookup.specs.Slots.{slot_count, slot_of}
 use Rattle.abc_lookup.proofs.Along.{bases_fall}
 
 -- a count of the traits that have slots
@@ -29,10 +29,17 @@ one_more l (bodies.Getter d m) n = omega arith
 one_more l (bodies.Setter d m) n = omega arith
 one_more l (bodies.Function id m) n = omega arith
 
-pub slots_counted : (l : LinkedFile) (ts : List TraitInfo) → slot_count l ts ≡ count_by (λ (t : TraitInfo). has_slot t.body) ts
-slots_counted l ts =
-    is_count_by (slot_count l) (λ (t : TraitInfo). has_slot t.body) refl
-    (λ t us. length-append (slots_in l t.body) (flat_map (λ (u : TraitInfo). slots_in l u.body) us) ∙ one_more l t.body (slot_count l us)) ts
+one_step : (b : Bool) (n m k c : ℕ) → n ≡ cond b (m + 1) m + k → c ≡ cond b (1 + k) k → n ≡ m + c
+one_step true n m k c h e = omega (arith, h, e)
+one_step false n m k c h e = omega (arith, h, e)
+
+-- what stands before a trait is counted so
+before_from : (l : LinkedFile) (ts : List TraitInfo) (m p n : ℕ) → slice_get (slots_from m ts) p ≡ Some n → n ≡ m + slot_count l (take p ts)
+before_from l [] m p n e = cc
+before_from l (t ∷ ts) m zero n e = let q : m ≡ n = cc in omega (arith, q)
+before_from l (t ∷ ts) m (suc p) n e =
+    one_step (has_slot t.body) n m (slot_count l (take p ts)) (slot_count l (t ∷ take p ts)) (before_from l ts (cond (has_slot t.body) (m + 1) m) p n e)
+    (length-append (slots_in l t.body) (flat_map (λ (u : TraitInfo). slots_in l u.body) (take p ts)) ∙ one_more l t.body (slot_count l (take p ts)))
 
 -- the slots of a table are own slots
 own_count : (l : LinkedFile) (p : Part) → slot_count l (traits_of l.file p) ≤ length (own_slots l p)
@@ -69,7 +76,5 @@ few_before l f few x p lt =
     omega arith
 
 -- where a slot stands
-pub slot_is : (l : LinkedFile) (x p under before : ℕ) (ts : List TraitInfo) → ts ≡ own_table_of l x → under ≡ slots_under l (base l x) → before ≡ count_by (λ (t : TraitInfo). has_slot t.body) (take p ts) → under + before ≡ slot_of l x p
-slot_is l x p under before ts is eu eb =
-    ap (λ n. n + before) eu
-    ∙ ap (λ n. slots_under l (base l x) + n) (eb ∙ ap (λ (us : List TraitInfo). count_by (λ (t : TraitInfo). has_slot t.body) (take p us)) is ∙ sym (slots_counted l (take p (own_table_of l x))))
+pub slot_is : (l : LinkedFile) (x p under before : ℕ) → under ≡ slots_under l (base l x) → slice_get (slots_before (own_table_of l x)) p ≡ Some before → under + before ≡ slot_of l x p
+slot_is l x p under before eu eb = let h = before_from l (own_table_of l x) 0 p before eb in omega (arith, eu, h)

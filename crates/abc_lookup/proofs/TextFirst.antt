@@ -111,11 +111,11 @@ placed l t at i slot (u ∷ ts) h =
 placed_all : (l : LinkedFile) (t : List ℕ) (x : ℕ) → flat_map (own_at l x) (places_of (bytes_eq t) (trait_texts l.file (own_table_of l x))) ≡ with_text t (traits_from l (slots_under l (base l x)) (own_table_of l x))
 placed_all l t x = placed l t (own_at l x) 0 (slots_under l (base l x)) (own_table_of l x) (λ j. let e : 0 + j ≡ j = omega arith in ap (own_at l x) e)
 
-some_some : (ps qs : List ℕ) → Some ps ≡ some_places qs → ps ≡ qs
+pub some_some : (ps qs : List ℕ) → Some ps ≡ some_places qs → ps ≡ qs
 some_some ps [] e = cc
 some_some ps (q ∷ qs) e = cc
 
-none_none : (qs : List ℕ) → None ≡ some_places qs → qs ≡ []
+pub none_none : (qs : List ℕ) → None ≡ some_places qs → qs ≡ []
 none_none [] e = refl
 none_none (q ∷ qs) e = cc
 
@@ -129,7 +129,7 @@ pub none_there : (l : LinkedFile) (n : Name) (s : Skip) (x : ℕ) (held : Bool) 
 none_there l n s x held t e = ap (λ qs. gives l n s x held (flat_map (own_at l x) qs)) (sym (none_none _ e)) ∙ ap (gives l n s x held) (placed_all l t x)
 
 -- each place is one of a trait
-places_below : {K : Type 0} (t : K → Bool) (n : ℕ) (ks : List K) (i p : ℕ) → slice_get (places_from t n ks) i ≡ Some p → p < n + length ks
+pub places_below : {K : Type 0} (t : K → Bool) (n : ℕ) (ks : List K) (i p : ℕ) → slice_get (places_from t n ks) i ≡ Some p → p < n + length ks
 places_below t n [] i p e = cc
 places_below t n (k ∷ ks) i p e = go (λ j h. let lt = places_below t (n + 1) ks j p h in omega (arith, lt)) (t k) i e
   where

@@ -1,5 +1,5 @@
 -- Where the slots of traits stand, and the trait at a place of a layout's table.
-use Rattle.std.specs.Prelude.{ℕ, zero, suc, ◌+◌, List, [], ◌∷◌, Bool, true, false, Some, None, length, take}
+use Rattle.std.specs.Prelude.{ℕ, zero, suc, ◌+◌, List, [], ◌∷◌, Some, None, length, take}
 use Rattle.std.specs.declared.option.Option.{Option}
 use Rattle.std.specs.List.{flat_map}
 use Rattle.abc_names.specs.Pool.{name, qname}
@@ -8,14 +8,7 @@ use Rattle.abc_program.specs.Slots.{slots_in}
 use Rattle.abc_program.specs.Traits.{own_table_of}
 use Rattle.abc_search.specs.Traits.{Trait, members_in, slots_under, traits_named}
 use Rattle.abc_search.specs.declared.traits.Member.{Member}
-use Rattle.abc_tables.specs.declared.traits.TraitBody.{TraitBody}
-use Rattle.abc_tables.specs.declared.traits.TraitBody.TheVariants as bodies
 use Rattle.abc_tables.specs.declared.traits.TraitInfo.{TraitInfo}
-
-abbrev pub has_slot : TraitBody → Bool
-has_slot (bodies.Slot id ty value constant) = true
-has_slot (bodies.Class id k) = true
-has_slot other = false
 
 -- how many slots some traits have
 abbrev pub slot_count : LinkedFile → List TraitInfo → ℕ

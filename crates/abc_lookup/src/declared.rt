@@ -168,7 +168,7 @@ impl Query<'_> {
         requires { IsLayout self.now.l.now x }
         ensures { result ≡ gives self.now.l.now self.now.name self.now.skip x.0 held (with_text self.now.text.now (traits_from self.now.l.now (slots_below self.now.l.now (base self.now.l.now x.0)) (own_table_of self.now.l.now x.0))) }
     {
-        match self.l.own_traits(x, self.text) {
+        match self.l.own_numbered(x, self.number) {
             Some(places) => self.try_places(x, held, places.as_slice()),
             None => Found::Missing,
         }

@@ -1,5 +1,6 @@
-ghost use Rattle.std.specs.Prelude.{◌≡◌, ◌<◌, length, map, reverse};
+ghost use Rattle.std.specs.Prelude.{◌≡◌, ◌<◌, Some, length, map, reverse, true};
 ghost use Rattle.std.specs.List.{find, range_with_len};
+ghost use Rattle.abc_lookup.specs.Scripts.{HasNot};
 ghost use Rattle.abc_lookup.specs.Steps.{IsPlace, place_in};
 ghost use Rattle.abc_objects.specs.Stands.{AreEntries, IsScope, StandsOver};
 ghost use Rattle.abc_objects.specs.Values.{IsObject};
@@ -7,11 +8,22 @@ ghost use Rattle.abc_search.specs.Candidates.{answer, where_public};
 ghost use Rattle.abc_search.specs.Scopes as search;
 ghost use Rattle.abc_search.specs.Scopes.{candidates_at, has, places, saved_places, scope_things};
 ghost use Rattle.abc_search.specs.declared.found.Skip.TheVariants as skips;
+ghost use Rattle.abc_link.specs.ScriptTraits.{script_traits};
 
 use crate::place::Place;
 use crate::query::Query;
 use abc_heap::{ScopeEntry, ScopeId, What};
 use abc_search::Found;
+
+/// Whether a script is the one that was tried last.
+fn is_tried(tried: Option<u32>, script: u32) -> bool
+    ensures { result ≡ true → tried ≡ Some script }
+{
+    match tried {
+        Some(last) => last == script,
+        None => false,
+    }
+}
 
 impl Query<'_> {
     /// What a scope's object has of its own gives, and what a global object's delegates have.
@@ -130,21 +142,50 @@ impl Query<'_> {
         None
     }
 
-    /// The first script whose global object has a declared trait of the name.
+    /// Whether a script has the name, where another, or the same one, was tried before and has it not.
+    fn try_script(&self, tried: Option<u32>, script: u32) -> bool
+        requires over { StandsOver self.now.l.now self.now.a.now }
+        requires script { script < length self.now.l.now.file.scripts }
+        requires nothing { self.now.skip ≡ skips.Nothing }
+        requires tried { HasNot (has self.now.l.now self.now.a.now self.now.name) tried }
+        ensures { result ≡ has self.now.l.now self.now.a.now self.now.name (search.InScript script) }
+    {
+        if is_tried(tried, script) {
+            return false;
+        }
+        self.script_has(script)
+    }
+
+    /// The first script among the owners of some traits whose global object has a declared trait of the name.
+    fn find_owner(&self, places: &[u32]) -> Option<Place>
+        requires over { StandsOver self.now.l.now self.now.a.now }
+        requires nothing { self.now.skip ≡ skips.Nothing }
+        requires places { Some places.now ≡ script_traits self.now.l.now.file self.now.text.now }
+        ensures inside { IsPlace self.now.l.now result }
+        ensures first { place_in result ≡ find (has self.now.l.now self.now.a.now self.now.name) (map search.InScript (range_with_len 0 (length self.now.l.now.file.scripts))) }
+    {
+        let mut tried = None;
+        for place in places {
+            let script = self.l.script_of(*place);
+            if self.try_script(tried, script) {
+                return Some(Place::InScript(script));
+            }
+            tried = Some(script);
+        }
+        None
+    }
+
+    /// The first script whose global object has a declared trait of the name: one of those that have a trait of its text.
     fn find_script(&self) -> Option<Place>
         requires over { StandsOver self.now.l.now self.now.a.now }
         requires nothing { self.now.skip ≡ skips.Nothing }
         ensures inside { IsPlace self.now.l.now result }
         ensures first { place_in result ≡ find (has self.now.l.now self.now.a.now self.now.name) (map search.InScript (range_with_len 0 (length self.now.l.now.file.scripts))) }
     {
-        self.l.linked_law();
-        let scripts = self.l.abc().scripts.len() as u32;
-        for script in 0..scripts {
-            if self.script_has(script) {
-                return Some(Place::InScript(script));
-            }
+        match self.l.script_traits(self.number) {
+            Some(places) => self.find_owner(places.as_slice()),
+            None => None,
         }
-        None
     }
 
     /// The first place that has the name: local scopes from the top down, saved ones down, the scripts, and the host

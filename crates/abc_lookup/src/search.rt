@@ -41,6 +41,7 @@ pub fn find_declared(
         name: *name,
         skip: want.skip(),
         text,
+        number: l.text_number(text),
         public: holds_public(l, name.spaces),
         element: element_number(text),
     };
@@ -64,6 +65,7 @@ pub fn find_on(l: &Linked, a: &Arena, holder: Value, name: &Name, want: Want) ->
         name: *name,
         skip: want.skip(),
         text,
+        number: l.text_number(text),
         public: holds_public(l, name.spaces),
         element: element_number(text),
     };
@@ -126,6 +128,7 @@ pub fn find_in_scopes(
         name: *name,
         skip: Skip::Nothing,
         text,
+        number: l.text_number(text),
         public: holds_public(l, name.spaces),
         element: element_number(text),
     };

@@ -1,51 +1,11 @@
 ghost use Rattle.std.specs.Prelude.{◌≡◌};
-ghost use Rattle.std.specs.List.{list_any};
 ghost use Rattle.abc_names.specs.Instances.{instance_at};
-ghost use Rattle.abc_names.specs.Pool.{is_public, same_space, set};
 ghost use Rattle.abc_program.specs.Linked.{IsLayout};
 ghost use Rattle.abc_search.specs.Spaces.{above_zero as above_none, holds as does_hold, holds_pooled as does_hold_pooled, holds_public as does_hold_public, is_protected as does_protect, protected_of as protected_in};
 
 use abc_link::{LayoutId, Linked, Part};
 use abc_search::{Spaces, TraitSpace};
 use abc_tables::Abc;
-
-/// A set of namespaces of the pool, by its index; 0 is none.
-#[tactic(auto, using(abc_base::proofs::Past::past_end))]
-fn set_at(abc: &Abc, index: u32) -> &[u32]
-    ensures { result.now ≡ set abc.now index }
-{
-    if index == 0 {
-        return &[];
-    }
-    match abc.sets.find(index as usize - 1) {
-        Some(set) => set.as_slice(),
-        None => &[],
-    }
-}
-
-/// Whether one of several namespaces is equal to a namespace of the pool.
-fn is_among(l: &Linked, space: u32, spaces: &[u32]) -> bool
-    ensures { result ≡ list_any (same_space l.now.file space) spaces.now }
-{
-    for one in spaces {
-        if l.is_same_space(space, *one) {
-            return true;
-        }
-    }
-    false
-}
-
-/// Whether one of several namespaces is public.
-fn is_any_public(l: &Linked, spaces: &[u32]) -> bool
-    ensures { result ≡ list_any (is_public l.now.file) spaces.now }
-{
-    for space in spaces {
-        if l.is_public(*space) {
-            return true;
-        }
-    }
-    false
-}
 
 /// Whether a name holds the public namespace or any.
 pub fn holds_public(l: &Linked, spaces: Spaces) -> bool
@@ -54,7 +14,7 @@ pub fn holds_public(l: &Linked, spaces: Spaces) -> bool
     match spaces {
         Spaces::Any | Spaces::Public => true,
         Spaces::One(space) => l.is_public(space),
-        Spaces::Set(index) => is_any_public(l, set_at(l.abc(), index)),
+        Spaces::Set(index) => l.set_holds_public(index),
     }
 }
 
@@ -66,7 +26,7 @@ pub(crate) fn holds_pooled(l: &Linked, spaces: Spaces, space: u32) -> bool
         Spaces::Any => true,
         Spaces::Public => l.is_public(space),
         Spaces::One(one) => l.is_same_space(space, one),
-        Spaces::Set(index) => is_among(l, space, set_at(l.abc(), index)),
+        Spaces::Set(index) => l.set_holds(index, space),
     }
 }
 

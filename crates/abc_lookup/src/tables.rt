@@ -1,25 +1,14 @@
-ghost use Rattle.std.specs.Prelude.{◌≡◌, ◌<◌, ◌≤◌, count_by, length, take};
-ghost use Rattle.abc_lookup.specs.Slots.{has_slot as does_have_slot, listed, slot_of};
+ghost use Rattle.std.specs.Prelude.{◌≡◌, ◌<◌, length};
+ghost use Rattle.abc_lookup.specs.Slots.{listed, slot_of};
 ghost use Rattle.abc_program.specs.Linked.{IsLayout, base};
 ghost use Rattle.abc_program.specs.Slots.{handler_at};
 ghost use Rattle.abc_program.specs.Traits.{own_table_of};
-ghost use Rattle.abc_items.specs.Parts.{body_at};
 ghost use Rattle.abc_search.specs.Traits.{members_in, slots_under as slots_below};
 
-use abc_link::{LayoutId, Linked};
+use abc_items::handlers;
+use abc_link::{LayoutId, Linked, traits_of};
 use abc_search::Member;
-use abc_slots::traits_of;
-use abc_tables::{Abc, Handler, TraitBody, TraitInfo};
-
-#[tactic(auto, using(abc_base::proofs::Past::past_end))]
-fn handlers(abc: &Abc, body: u32) -> &[Handler]
-    ensures { result.now ≡ (body_at abc.now body).handlers }
-{
-    match abc.bodies.find(body as usize) {
-        Some(body) => body.handlers.as_slice(),
-        None => &[],
-    }
-}
+use abc_tables::{Abc, TraitBody, TraitInfo};
 
 /// The name of a caught value, by its index; 0 is none.
 #[tactic(auto, using(abc_base::proofs::Past::past_end))]
@@ -38,20 +27,6 @@ pub(crate) fn own_table(l: &Linked, x: LayoutId) -> &[TraitInfo]
     ensures { result.now ≡ own_table_of l.now x.0 }
 {
     traits_of(l.abc(), l.part_of(x))
-}
-
-/// Whether a trait has a slot.
-fn has_slot(body: TraitBody) -> bool
-    ensures { result ≡ does_have_slot body }
-{
-    matches!(body, TraitBody::Slot { .. } | TraitBody::Class { .. })
-}
-
-/// How many of some traits have slots.
-fn count_slots(traits: &[TraitInfo]) -> usize
-    ensures { result ≡ count_by (λ t. does_have_slot t.body) traits.now }
-{
-    traits.iter().filter(|info| has_slot(info.body)).count()
 }
 
 /// How many slots of a layout stand before its own.
@@ -74,8 +49,7 @@ pub(crate) fn slot_at(l: &Linked, x: LayoutId, place: u32) -> u32
 {
     l.linked_law();
     l.slots_law();
-    let before = count_slots(&own_table(l, x)[..place as usize]);
-    (slots_under(l, x) + before) as u32
+    (slots_under(l, x) + l.slots_before(x, place) as usize) as u32
 }
 
 /// What a trait of a layout is. The traits of functions are not run.

@@ -4,5 +4,6 @@
 mod members;
 mod numbers;
 
-pub use abc_slots::{Layouts, slots_of, type_in};
+pub use abc_slots::{LayoutId, Layouts, qname_at, slots_of, traits_of, type_in};
 pub use members::Members;
+pub use numbers::number_at;

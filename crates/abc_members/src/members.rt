@@ -1,4 +1,4 @@
-ghost use Rattle.std.specs.Prelude.{◌≡◌, ◌<◌, ◌+◌, ◌^◌, ℕ, List, Some, length, slice_get, IfOk, IsTrue, OnOk};
+ghost use Rattle.std.specs.Prelude.{◌≡◌, ◌<◌, ◌+◌, ℕ, List, Some, length, slice_get, IfOk, OnOk};
 ghost use Rattle.std.specs.Option.{option_copied};
 ghost use Rattle.abc_index.specs.Texts.{HasTexts, number_in, texts_of};
 ghost use Rattle.abc_members.specs.Grouped.{HasGroups};
@@ -17,7 +17,10 @@ use std::alloc::Global;
 /// The own traits of layouts, by the numbers of the texts of their names.
 #[derive(Drop)]
 pub struct Members {
-    pub(crate) texts: Texts,
+    /// The texts by whose numbers traits are grouped.
+    pub texts: Texts,
+    /// The number of the text of each string, from index 0, the empty text, on.
+    pub numbers: Table<u32>,
     pub(crate) groups: Table<IndexMap<u32, Table<u32>>>,
 }
 
@@ -50,16 +53,17 @@ fn groups_of_layouts(
     abc: &Abc,
     layouts: &Layouts,
     texts: &Texts,
+    numbers: &Table<u32>,
     count: u32,
 ) -> Result<Table<IndexMap<u32, Table<u32>>>, NoMemory>
     requires texts { HasTexts texts.now (texts_of abc.now.strings) }
+    requires numbers { numbers.now ≡ numbers_in texts.now abc.now.strings }
     requires count { count ≡ length layouts.now.parts }
     ensures { IfOk result (λ g. HasGroups (linked abc.now layouts.now) texts.now g (length layouts.now.parts)) }
 {
-    let numbers = numbers_of(alloc, texts, &abc.strings)?;
     let mut groups = Table::new(alloc);
     for x in 0..count {
-        push_group(alloc, &mut groups, abc, layouts, texts, &numbers, x)?;
+        push_group(alloc, &mut groups, abc, layouts, texts, numbers, x)?;
     }
     Ok(groups)
 }
@@ -68,14 +72,21 @@ impl Members {
     /// The own traits of all layouts of a file.
     pub fn new(alloc: Global, abc: &Abc, layouts: &Layouts, count: u32) -> Result<Members, NoMemory>
         requires { count ≡ length layouts.now.parts }
-        ensures { IfOk result (λ m. HasGroups (linked abc.now layouts.now) m.texts m.groups (length layouts.now.parts)) }
+        ensures groups { IfOk result (λ m. HasGroups (linked abc.now layouts.now) m.texts m.groups (length layouts.now.parts)) }
+        ensures texts { IfOk result (λ m. HasTexts m.texts (texts_of abc.now.strings)) }
+        ensures numbers { IfOk result (λ m. m.numbers ≡ numbers_in m.texts abc.now.strings) }
     {
         if abc.strings.len() >= u32::MAX as usize {
             return Err(NoMemory);
         }
         let texts = Texts::new(alloc, &abc.strings)?;
-        let groups = groups_of_layouts(alloc, abc, layouts, &texts, count)?;
-        Ok(Members { texts, groups })
+        let numbers = numbers_of(alloc, &texts, &abc.strings)?;
+        let groups = groups_of_layouts(alloc, abc, layouts, &texts, &numbers, count)?;
+        Ok(Members {
+            texts,
+            numbers,
+            groups,
+        })
     }
 
     /// The number of a text, if it is the empty one or a string of the file.

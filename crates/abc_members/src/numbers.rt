@@ -1,4 +1,4 @@
-ghost use Rattle.std.specs.Prelude.{◌≡◌, ◌∷◌, ◌<◌, ◌^◌, get_or, length, map, unwrap_or, IfOk};
+ghost use Rattle.std.specs.Prelude.{◌≡◌, ◌<◌, get_or, map, unwrap_or, IfOk};
 ghost use Rattle.abc_index.specs.Texts.{HasTexts, number_in, texts_of};
 ghost use Rattle.abc_index.specs.ByText.{GroupsTexts};
 ghost use Rattle.abc_members.specs.Strings.{numbers_in, trait_strings};
@@ -34,9 +34,9 @@ pub(crate) fn numbers_of(
     Ok(numbers)
 }
 
-/// The number of the text of a string.
+/// The number of the text of a string, or 0 past the end.
 #[tactic(auto, using(abc_base::proofs::Past::past_end))]
-fn number_at(numbers: &Table<u32>, string: u32) -> u32
+pub fn number_at(numbers: &Table<u32>, string: u32) -> u32
     ensures { result ≡ get_or numbers.now string 0 }
 {
     match numbers.fetch(string as usize) {

@@ -9,7 +9,8 @@ mod types;
 pub use abc_heirs::Heirs;
 pub use abc_rules::{
     HOST_CLASSES, Item, ItemKind, LinkError, LinkRule, Meanings, NameTables, Named, Names, Start,
-    check_rules, meanings_of, qname_at, start_of,
+    body_traits, check_rules, class_traits, handlers, instance_traits, is_interface, meanings_of,
+    qname_at, script_traits, start_of, super_name,
 };
 pub use key::{PartKey, part_key};
 pub use part::{LayoutId, Part};

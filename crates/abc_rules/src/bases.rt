@@ -1,27 +1,17 @@
 ghost use Rattle.std.specs.Prelude.{◌≡◌, not};
 ghost use Rattle.std.specs.List.{list_any};
 ghost use Rattle.abc_items.specs.Meaning.{resolve};
-ghost use Rattle.abc_items.specs.Bases.{base_named, breaks_unknown_base, breaks_unknown_interface, is_final as is_final_class, is_final_base as is_final_named, is_interface as is_interface_class, is_interface_named as is_interface_of, is_some_class as is_class_named, may_be_base as may_be};
+ghost use Rattle.abc_items.specs.Bases.{base_named, breaks_unknown_base, breaks_unknown_interface, is_final as is_final_class, is_final_base as is_final_named, is_interface_named as is_interface_of, is_some_class as is_class_named, may_be_base as may_be};
 ghost use Rattle.abc_items.specs.declared.items.LinkRule.TheVariants as rules;
 
 use abc_items::{
     Abc, HostClass, Item, ItemKind, LinkRule, Meanings, Named, NoMemory, Rule, class_flags,
-    has_flag, interface_names, super_name,
+    has_flag, interface_names, is_interface, super_name,
 };
 use std::alloc::Global;
 
 /// The flag of a class that is no base.
 const FINAL: u8 = 0x02;
-
-/// The flag of an interface.
-const INTERFACE: u8 = 0x04;
-
-/// Whether a class is an interface.
-pub(crate) fn is_interface(abc: &Abc, class: u32) -> bool
-    ensures { result ≡ is_interface_class abc.now class }
-{
-    has_flag(class_flags(abc, class), INTERFACE)
-}
 
 /// Whether a class is final.
 fn is_final(abc: &Abc, class: u32) -> bool

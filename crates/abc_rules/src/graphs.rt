@@ -3,8 +3,7 @@ ghost use Rattle.std.specs.List.{flat_map};
 ghost use Rattle.abc_items.specs.Meaning.{resolve};
 ghost use Rattle.abc_items.specs.Bases.{base_graph as base_graph_of, classes_named as classes_of, interface_graph as interface_graph_of, interfaces_named as interfaces_in, targets_of as targets_in};
 
-use crate::bases::is_interface;
-use abc_items::{Abc, Instance, Meanings, Named, NoMemory, Table, has_flag};
+use abc_items::{Abc, Instance, Meanings, Named, NoMemory, Table, has_flag, is_interface};
 use std::alloc::Global;
 
 /// The class of the file that a name stands for, if it is one.

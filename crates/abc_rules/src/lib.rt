@@ -15,6 +15,7 @@ mod times;
 
 pub use abc_items::{
     HOST_CLASSES, Item, ItemKind, LinkError, LinkRule, Meanings, NameTables, Named, Names, Start,
-    meanings_of, qname_at, start_of,
+    body_traits, class_traits, handlers, instance_traits, is_interface, meanings_of, qname_at,
+    script_traits, start_of, super_name,
 };
 pub use checking::check_rules;

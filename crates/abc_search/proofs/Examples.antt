@@ -201,6 +201,44 @@ nowhere : found_in_scopes linked heap [] None (true ∷ []) (the (spaces.One 3) 
 unfolding trait slot class file linked thing string heap the fixed scope found_in_scopes way
 nowhere = refl
 
+-- ---- another heap: object 0 has the properties v and B; it is the prototype of Boolean, and the delegate of the global object;
+-- a scope is saved above that of the global object; the fixed text is `prototype`
+
+world : Heap
+world = record heap {
+  objects = record (thing 0 whats.Plain) { properties = Some (string 8, values.Num (pos 7)) ∷ Some (string 6, values.Null) ∷ [] } ∷ replicate 21 (thing 0 whats.Plain) ++ record (thing 0 (whats.HostClass hosts.Boolean)) { slots = values.Obj (obj_id 0) ∷ [] } ∷ replicate 6 (thing 0 whats.Plain) ++ thing 0 whats.HostObject ∷ record (thing 4 (whats.Global 0)) { delegate = Some (obj_id 0) } ∷ [];
+  scopes = record { entry = scope 30 false; parent = None } ∷ record { entry = scope 0 false; parent = Some (record { 0 = 0 }) } ∷ [];
+  fixed = 112 ∷ 114 ∷ 111 ∷ 116 ∷ 111 ∷ 116 ∷ 121 ∷ 112 ∷ 101 ∷ [];
+}
+
+-- a truth value has what the prototype of its class has; a class without a prototype has none to give
+of_boolean : found_on linked world (values.Bool true) (the spaces.Public 6) Read ≡ founds.Property (obj_id 0) (values.Num (pos 7))
+unfolding trait slot class file linked thing string heap the scope world found_on answer way
+of_boolean = refl
+
+of_number : found_on linked world (values.Num (pos 1)) (the spaces.Public 6) Read ≡ founds.Missing
+unfolding trait slot class file linked thing string heap the scope world found_on answer way
+of_number = refl
+
+-- every class object has the public constant slot `prototype`
+class_object : declared_found linked world 1 1 (fixed 0 9) Read ≡ founds.Slot 0 true
+unfolding trait slot class file linked thing string heap the fixed scope world declared_found answer way
+class_object = refl
+
+-- the delegates of a global object in a scope are searched, by public names
+global_delegate : found_in_scopes linked world (scope 30 false ∷ []) None (true ∷ []) (the spaces.Public 4) ≡ results.Object (obj_id 30)
+unfolding trait slot class file linked thing string heap the scope world found_in_scopes way
+global_delegate = refl
+
+no_delegate : found_in_scopes linked world (scope 30 false ∷ []) None (true ∷ []) (the (spaces.One 3) 4) ≡ results.Missing
+unfolding trait slot class file linked thing string heap the scope world found_in_scopes way
+no_delegate = refl
+
+-- saved scopes are searched down, before the scripts
+saved : found_in_scopes linked world [] (Some (record { 0 = 1 })) (false ∷ []) (the spaces.Public 6) ≡ results.Object (obj_id 30)
+unfolding trait slot class file linked thing string heap the scope world found_in_scopes way
+saved = refl
+
 -- ---- element names
 
 zero_length : element_name (108 ∷ 101 ∷ 110 ∷ 103 ∷ 116 ∷ 104 ∷ []) ≡ Some IsLength

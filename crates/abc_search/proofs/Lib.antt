@@ -10,3 +10,4 @@ pub use Rattle.abc_objects.proofs.Kept as ObjectsKept
 pub use Rattle.abc_objects.proofs.Made as ObjectsMade
 pub use Rattle.abc_objects.proofs.Opened as ObjectsOpened
 pub use Rattle.abc_objects.proofs.Reshaped as ObjectsReshaped
+mod MethodsFound

@@ -1,5 +1,5 @@
 -- What a reader would check of the searches.
-use Rattle.std.specs.Prelude.{◌≡◌, ◌⊎◌, ℕ, ◌<◌, length, List, [], ◌∷◌, ◌++◌, Bool, true, false, map, slice_get, Some, if◌then◌else◌}
+use Rattle.std.specs.Prelude.{◌≡◌, ◌⊎◌, ℕ, ◌<◌, length, List, [], ◌∷◌, ◌++◌, Bool, true, false, map, slice_get, Some, None, if◌then◌else◌}
 use Rattle.std.specs.declared.option.Option.{Option}
 use Rattle.std.specs.List.{list_any}
 use Rattle.abc_cells.specs.declared.values.ObjId.{ObjId}
@@ -11,7 +11,13 @@ use Rattle.abc_cells.specs.declared.values.Span.{Span}
 use Rattle.abc_heap.specs.declared.records.ScopeEntry.{ScopeEntry}
 use Rattle.abc_heap.specs.declared.records.ScopeId.{ScopeId}
 use Rattle.abc_program.specs.Linked.{IsLinkedFile, LinkedFile}
+use Rattle.abc_program.specs.Owners.{owner_of}
 use Rattle.abc_program.specs.Slots.{slots_of}
+use Rattle.abc_program.specs.Traits.{own_table_of}
+use Rattle.abc_program.specs.Tree.{IsBelow}
+use Rattle.abc_tables.specs.declared.traits.TraitBody.{TraitBody}
+use Rattle.abc_tables.specs.declared.traits.TraitBody.TheVariants as bodies
+use Rattle.abc_tables.specs.declared.traits.TraitInfo.{TraitInfo}
 use Rattle.abc_search.specs.Candidates.{Candidate, OfTrait, answer, fits, found, is_answer, layout_at, text_in, traits_on}
 use Rattle.abc_search.specs.Results.{skip_for}
 use Rattle.abc_search.specs.Scopes.{Place, has, places, scope_named}
@@ -68,6 +74,37 @@ FindsASlot = (l : LinkedFile) → IsLinkedFile l → (h : Heap) (object from : �
 
 abbrev pub FindsOwnSlots : Type 0
 FindsOwnSlots = (l : LinkedFile) → IsLinkedFile l → (h : Heap) (o : ObjId) (n : Name) (want : Want) → IsSlotOf l (layout_at h o.0) (found_on l h (values.Obj o) n want)
+
+-- the method that a trait names, where it is run
+abbrev pub method_in : TraitBody → Option ℕ
+method_in (bodies.Method disp m) = Some m
+method_in (bodies.Getter disp m) = Some m
+method_in (bodies.Setter disp m) = Some m
+method_in other = None
+
+-- a trait of a layout's own table names the method
+pub record HasMethod (l : LinkedFile) (x m : ℕ) : Type 0 where
+  pub place : ℕ
+  pub trait : TraitInfo
+  pub at : slice_get (own_table_of l x) place ≡ Some trait
+  pub names : method_in trait.body ≡ Some m
+
+-- so does one of a layout, or of one above it
+abbrev pub HasMethodAbove : LinkedFile → ℕ → ℕ → Type 0
+HasMethodAbove l x m = (y : ℕ) × IsBelow l x y × HasMethod l y m
+
+-- a method that is found is named by a trait of the layout or of one above it
+abbrev pub IsMethodOf : LinkedFile → ℕ → Found → Type 0
+IsMethodOf l x (founds.Method owner m) = (owner ≡ owner_of l.file m) × HasMethodAbove l x m
+IsMethodOf l x (founds.Getter m) = HasMethodAbove l x m
+IsMethodOf l x (founds.Setter m) = HasMethodAbove l x m
+IsMethodOf l x other = Unit {0}
+
+abbrev pub FindsAMethod : Type 0
+FindsAMethod = (l : LinkedFile) (h : Heap) (object from : ℕ) (n : Name) (want : Want) → IsMethodOf l from (declared_found l h object from n want)
+
+abbrev pub FindsOwnMethods : Type 0
+FindsOwnMethods = (l : LinkedFile) (h : Heap) (o : ObjId) (n : Name) (want : Want) → IsMethodOf l (layout_at h o.0) (found_on l h (values.Obj o) n want)
 
 -- a property, an element or a length that is found is its holder's
 abbrev pub IsThere : Heap → Found → Type 0

@@ -1,4 +1,4 @@
-ghost use Rattle.abc_search.specs.Laws.{AnswersTheFirst, AsksNoObject, FindsASlot, FindsOwnSlots, FindsTheFirstPlace, FindsTraitsAlone, FindsWhatIsThere, HidesItsBase};
+ghost use Rattle.abc_search.specs.Laws.{AnswersTheFirst, AsksNoObject, FindsAMethod, FindsASlot, FindsOwnMethods, FindsOwnSlots, FindsTheFirstPlace, FindsTraitsAlone, FindsWhatIsThere, HidesItsBase};
 
 /// A search answers the first of its candidates that fits and is not passed over. Without one it is `WrongSide` where
 /// another fits, and else `Missing`.
@@ -37,4 +37,11 @@ pub fn found_is_there()
 pub fn found_slot_is_there()
     ensures declared { FindsASlot }
     ensures on { FindsOwnSlots }
+{}
+
+/// A method, a getter or a setter that is found is named by a trait of the layout from which the search begins, or of one
+/// above it; so it is on an object, by the object's layout.
+pub fn found_method_is_there()
+    ensures declared { FindsAMethod }
+    ensures on { FindsOwnMethods }
 {}

@@ -9,8 +9,8 @@ mod traits;
 
 pub use found::{Found, ScopeFound, Skip, Want};
 pub use laws::{
-    answer_is_the_first, derived_trait_hides, found_is_there, found_slot_is_there,
-    no_object_matters, place_is_the_first, properties_are_public,
+    answer_is_the_first, derived_trait_hides, found_is_there, found_method_is_there,
+    found_slot_is_there, no_object_matters, place_is_the_first, properties_are_public,
 };
 pub use name::{Name, Spaces};
 pub use traits::{Declared, Member, TraitSpace};

@@ -3,10 +3,10 @@ use Rattle.std.proofs.Common.{◌≡◌, ℕ, zero, suc, ◌+◌, ◌<◌, List,
 use Rattle.std.specs.Prelude.{slice_get}
 use Rattle.std.proofs.lemmas.List.{take_more}
 use Rattle.abc_base.specs.declared.names.HostClass.TheVariants as hosts
-use Rattle.abc_program.specs.Numbering.{part_at}
-use Rattle.abc_program.specs.Slots.{traits_of}
-use Rattle.abc_program.specs.declared.part.Part.{Part}
-use Rattle.abc_program.specs.declared.part.Part.TheVariants as parts
+use Rattle.abc_members.specs.Numbering.{part_at}
+use Rattle.abc_members.specs.Slots.{traits_of}
+use Rattle.abc_members.specs.Part.{Part}
+use Rattle.abc_members.specs.Part.TheVariants as parts
 use Rattle.abc_search_tables.specs.OwnSlots.{has_slot, own_slots_before, slots_before, slots_from}
 use Rattle.abc_tables.specs.declared.tables.Abc.{Abc}
 use Rattle.abc_tables.specs.declared.traits.TraitInfo.{TraitInfo}

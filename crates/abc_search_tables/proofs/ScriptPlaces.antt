@@ -9,7 +9,7 @@ use Rattle.abc_index.specs.declared.texts.Texts.{Texts}
 use Rattle.abc_index.proofs.ByTexts.{no_places, same_places}
 use Rattle.abc_members.specs.Strings.{trait_strings}
 use Rattle.abc_names.specs.Pool.{text}
-use Rattle.abc_program.specs.Traits.{trait_name, trait_texts}
+use Rattle.abc_members.specs.Traits.{trait_name, trait_texts}
 use Rattle.abc_search_tables.specs.ScriptTraits.{HasScripts, keys_of, owners_from, script_traits, traits_of_scripts}
 use Rattle.abc_search_tables.specs.declared.scripts.ScriptTraits.{ScriptTraits}
 use Rattle.abc_tables.specs.declared.classes.Script.{Script}

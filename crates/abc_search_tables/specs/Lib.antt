@@ -2,3 +2,7 @@ pub mod OwnSlots
 pub mod ScriptTraits
 pub mod SetKeys
 pub mod Made
+pub use Rattle.abc_members.specs.Laid
+pub use Rattle.abc_members.specs.Tables as SlotsTables
+pub use Rattle.abc_members.specs.Grouped
+pub use Rattle.abc_members.specs.Files

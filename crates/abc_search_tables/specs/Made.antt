@@ -1,7 +1,7 @@
 -- All tables of a file.
 use Rattle.std.specs.Prelude.{ℕ, List}
 use Rattle.abc_index.specs.declared.texts.Texts.{Texts}
-use Rattle.abc_program.specs.declared.part.Part.{Part}
+use Rattle.abc_members.specs.Part.{Part}
 use Rattle.abc_search_tables.specs.OwnSlots.{HasOwnSlots}
 use Rattle.abc_search_tables.specs.ScriptTraits.{HasScripts}
 use Rattle.abc_search_tables.specs.SetKeys.{HasSets}

@@ -1,7 +1,7 @@
 -- How many slots stand before those of each trait of a table.
 use Rattle.std.specs.Prelude.{◌≡◌, ℕ, ◌+◌, List, [], ◌∷◌, Bool, true, false, if◌then◌else◌, map}
-use Rattle.abc_program.specs.Slots.{traits_of}
-use Rattle.abc_program.specs.declared.part.Part.{Part}
+use Rattle.abc_members.specs.Slots.{traits_of}
+use Rattle.abc_members.specs.Part.{Part}
 use Rattle.abc_search_tables.specs.declared.slots.OwnSlots.{OwnSlots}
 use Rattle.abc_tables.specs.declared.tables.Abc.{Abc}
 use Rattle.abc_tables.specs.declared.traits.TraitBody.{TraitBody}

@@ -6,7 +6,7 @@ use Rattle.abc_index.specs.ByText.{GroupsTexts}
 use Rattle.abc_index.specs.Groups.{places_of, some_places}
 use Rattle.abc_index.specs.declared.texts.Texts.{Texts}
 use Rattle.abc_members.specs.Strings.{trait_strings}
-use Rattle.abc_program.specs.Traits.{trait_name, trait_texts}
+use Rattle.abc_members.specs.Traits.{trait_name, trait_texts}
 use Rattle.abc_search_tables.specs.declared.scripts.ScriptTraits.{ScriptTraits}
 use Rattle.abc_tables.specs.declared.classes.Script.{Script}
 use Rattle.abc_tables.specs.declared.tables.Abc.{Abc}

@@ -1,12 +1,12 @@
-ghost use Rattle.std.specs.Prelude.{◌≡◌, ◌++◌, ◌<◌, ◌^◌, [], ℕ, List, Some, get_or, length, map, slice_get, unwrap_or, IfOk, OnOk};
+ghost use Rattle.std.specs.Prelude.{◌≡◌, ◌++◌, ◌<◌, ◌^◌, [], ℕ, List, Some, length, map, slice_get, IfOk, OnOk};
 ghost use Rattle.std.specs.Option.{option_copied};
 ghost use Rattle.abc_index.specs.Texts.{HasTexts, number_in, texts_of};
 ghost use Rattle.abc_members.specs.Strings.{numbers_in};
 ghost use Rattle.abc_search_tables.specs.ScriptTraits.{HasScripts, keys_of, owners_of, script_traits, traits_of_scripts};
 
-use abc_base::{Bytes, NoMemory, Table};
+use abc_base::{NoMemory, Table};
 use abc_index::{Texts, groups_of};
-use abc_names::qname_at;
+use abc_members::{number_at, qname_at};
 use abc_tables::{Abc, TraitInfo};
 use indexmap::IndexMap;
 use std::alloc::Global;
@@ -16,36 +16,6 @@ use std::alloc::Global;
 pub struct ScriptTraits {
     pub(crate) owners: Table<u32>,
     pub(crate) groups: IndexMap<u32, Table<u32>>,
-}
-
-/// The number of a text, or 0 for one that has none.
-fn number_or_first(texts: &Texts, text: &[u8]) -> u32
-    ensures { result ≡ unwrap_or (number_in texts.now text.now) 0 }
-{
-    texts.number_of(text).unwrap_or(0)
-}
-
-/// The number of the text of each string, from index 0, the empty text, on.
-fn numbers_of(alloc: Global, texts: &Texts, strings: &Table<Bytes>) -> Result<Table<u32>, NoMemory>
-    ensures { IfOk result (λ t. t ≡ numbers_in texts.now strings.now) }
-{
-    let mut numbers = Table::new(alloc);
-    numbers.push(0)?;
-    for string in strings.as_slice() {
-        numbers.push(number_or_first(texts, string.as_slice()))?;
-    }
-    Ok(numbers)
-}
-
-/// The number of the text of a string.
-#[tactic(auto, using(abc_base::proofs::Past::past_end))]
-fn number_at(numbers: &Table<u32>, string: u32) -> u32
-    ensures { result ≡ get_or numbers.now string 0 }
-{
-    match numbers.fetch(string as usize) {
-        Some(number) => number,
-        None => 0,
-    }
 }
 
 /// Adds the traits of a script, with the numbers of their texts.
@@ -94,16 +64,23 @@ fn push_scripts(
 }
 
 impl ScriptTraits {
-    /// The traits of the scripts of a file. Of 2^32 traits or more there is never room for all.
-    pub fn new(alloc: Global, abc: &Abc, texts: &Texts) -> Result<ScriptTraits, NoMemory>
+    /// The traits of the scripts of a file, by the numbers of the texts of its strings. Of 2^32 traits or more there is never
+    /// room for all.
+    pub fn new(
+        alloc: Global,
+        abc: &Abc,
+        texts: &Texts,
+        numbers: &Table<u32>,
+    ) -> Result<ScriptTraits, NoMemory>
         requires texts { HasTexts texts.now (texts_of abc.now.strings) }
+        requires numbers { numbers.now ≡ numbers_in texts.now abc.now.strings }
         requires few { length abc.now.scripts < 2 ^ 32 }
         ensures { IfOk result (λ s. HasScripts abc.now texts.now s) }
     {
-        let numbers = numbers_of(alloc, texts, &abc.strings)?;
+        let _texts = texts;
         let mut keys = Vec::new(alloc);
         let mut owners = Table::new(alloc);
-        push_scripts(abc, &numbers, &mut keys, &mut owners)?;
+        push_scripts(abc, numbers, &mut keys, &mut owners)?;
         if keys.len() > u32::MAX as usize {
             return Err(NoMemory);
         }

@@ -1,12 +1,10 @@
 ghost use Rattle.std.specs.Prelude.{◌≡◌, ◌<◌, Some, length, slice_get, IfOk};
-ghost use Rattle.abc_program.specs.Numbering.{part_at};
-ghost use Rattle.abc_program.specs.Slots.{traits_of as traits_in};
+ghost use Rattle.abc_members.specs.Numbering.{part_at};
+ghost use Rattle.abc_members.specs.Slots.{traits_of as traits_in};
 ghost use Rattle.abc_search_tables.specs.OwnSlots.{HasOwnSlots, has_slot as does_have_slot, own_slots_before, slots_before};
 
 use abc_base::{NoMemory, Table};
-use abc_layouts::Layouts;
-use abc_program::LayoutId;
-use abc_slots::traits_of;
+use abc_members::{LayoutId, Layouts, traits_of};
 use abc_tables::{Abc, TraitBody, TraitInfo};
 use std::alloc::Global;
 

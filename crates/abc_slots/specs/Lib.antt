@@ -6,3 +6,4 @@ pub use Rattle.abc_layouts.specs.Linked
 pub use Rattle.abc_layouts.specs.ProgramNumbering as Numbering
 pub use Rattle.abc_layouts.specs.Slots as ProgramSlots
 pub use Rattle.abc_layouts.specs.Pool
+pub use Rattle.abc_layouts.specs.Part

@@ -3,9 +3,8 @@ ghost use Rattle.abc_layouts.specs.Laid.{HasPlaces};
 ghost use Rattle.abc_layouts.specs.Types.{host_type as type_of_host, type_in as type_of_named};
 ghost use Rattle.abc_slots.specs.Files.{linked};
 
-use crate::parts::is_interface;
 use abc_base::HostClass;
-use abc_layouts::{Layouts, Named, Part, Ty};
+use abc_layouts::{Layouts, Named, Part, Ty, is_interface};
 use abc_tables::Abc;
 
 /// The type of a class of the host.

@@ -1,0 +1,11 @@
+use Rattle.std.proofs.Common.{◌∙◌, ap}
+use Rattle.std.specs.Str.{bytes_eq}
+use Rattle.abc_index.specs.Index.{first}
+use Rattle.abc_index.specs.Texts.{texts_of}
+use Rattle.abc_interfaces.specs.Linked.{LinkedFile}
+use Rattle.abc_search_tables.specs.ScriptTraits.{script_traits}
+use Rattle.abc_link.proofs.linked.Linked.script_traits.Goals as goal
+
+pub returns : goal.returns
+returns c = λ t e.
+    c.numbered.ensures t (c.self.invariant.made_of.texts_are.has t ∙ ap (λ (l : LinkedFile). first (bytes_eq t) (texts_of l.file.strings)) c.self.view_is ∙ e) ∙ ap (λ (l : LinkedFile). script_traits l.file t) c.self.view_is

@@ -1,0 +1,9 @@
+use Rattle.std.proofs.Common.{◌∙◌, ap}
+use Rattle.std.specs.Str.{bytes_eq}
+use Rattle.abc_index.specs.Index.{first}
+use Rattle.abc_index.specs.Texts.{texts_of}
+use Rattle.abc_interfaces.specs.Linked.{LinkedFile}
+use Rattle.abc_link.proofs.linked.Linked.text_number.Goals as goal
+
+pub returns : goal.returns
+returns c = c.text_number.ensures ∙ c.self.invariant.made_of.texts_are.has c.args.text.now ∙ ap (λ (l : LinkedFile). first (bytes_eq c.args.text.now) (texts_of l.file.strings)) c.self.view_is
