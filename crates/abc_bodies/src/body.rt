@@ -5,7 +5,7 @@ ghost use Rattle.abc_varint.specs.Reads.{Reads, ReadsPart};
 
 use crate::handlers::read_handlers;
 use abc_base::{Source, Table};
-use abc_instr::read_code;
+use abc_instr::{Reading, read_code_within};
 use abc_tables::{Body, Sizes};
 use abc_traits::TraitCodec;
 use abc_varint::{ReadError, Reason, Window, read_counted, read_index_below, read_u30};
@@ -33,7 +33,7 @@ pub fn read_method<S: Source>(
     }
 }
 
-/// A body of a method whose flag is down, and where its instructions began.
+/// A body of a method whose flag is down, and where its instructions began. The memory of a reading is used again.
 #[tactic(auto, unfolding(crate::specs::Reading::free_body, abc_tables::specs::Bodies::body_with))]
 pub fn read_body<S: Source>(
     alloc: Global,
@@ -41,6 +41,7 @@ pub fn read_body<S: Source>(
     source: &mut S,
     sizes: &Sizes,
     flags: &Table<bool>,
+    reading: &mut Reading,
 ) -> Result<(Body, Table<u32>), ReadError>
     requires { w.old.end ≡ 2 ^ 25 }
     ensures value { ReadsPart S.left S.faults (free_body sizes.now flags.now) w.old source.old w.new source.new result }
@@ -53,7 +54,7 @@ pub fn read_body<S: Source>(
     let local_count = read_u30(w, source)?;
     let init_scope = read_u30(w, source)?;
     let max_scope = read_u30(w, source)?;
-    let code = read_code(alloc, w, source)?;
+    let code = read_code_within(alloc, w, source, reading)?;
     let handlers = read_handlers(alloc, w, source, sizes, &code.offsets)?;
     let traits = read_counted(&TraitCodec(*sizes), alloc, w, source)?;
     let body = Body {

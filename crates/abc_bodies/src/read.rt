@@ -10,6 +10,7 @@ ghost use Rattle.abc_varint.specs.Reads.{Reads, ReadsPart};
 use crate::body::read_body;
 use crate::places::Places;
 use abc_base::{NoMemory, Source, Table};
+use abc_instr::Reading;
 use abc_tables::{Abc, Body, Sizes, sizes_of};
 use abc_varint::{ReadError, Window, read_u30};
 use std::alloc::Global;
@@ -42,8 +43,9 @@ fn read_each_body<S: Source>(
     let mut has_body = flags_down(alloc, sizes.methods)?;
     let mut bodies = Table::new(alloc);
     let mut places = Table::new(alloc);
+    let mut reading = Reading::new(alloc);
     for _ in 0..count {
-        let (body, starts) = read_body(alloc, w, source, sizes, &has_body)?;
+        let (body, starts) = read_body(alloc, w, source, sizes, &has_body, &mut reading)?;
         has_body.set(body.method as usize, true);
         bodies.push(body)?;
         places.push(starts)?;

@@ -1,17 +1,20 @@
-ghost use Rattle.std.specs.Prelude.{◌≡◌, ◌≤◌, ◌<◌, ◌^◌, ◌+◌, None, IfOk, length};
+ghost use Rattle.std.specs.Prelude.{◌≡◌, ◌≤◌, ◌<◌, ◌^◌, ◌+◌, None, All, IfOk, length};
 ghost use Rattle.abc_tables.specs.Code.{code as code_part};
 ghost use Rattle.abc_tables.specs.Instructions.{code_length};
 ghost use Rattle.abc_tables.specs.Ready.{IsReady};
 ghost use Rattle.abc_tables.specs.Starts.{IsRising};
 ghost use Rattle.abc_varint.specs.Answers.{Answers};
 ghost use Rattle.abc_varint.specs.Reads.{ReadsPart};
+ghost use Rattle.abc_instr.specs.Reading.{IsAim, aimed, with_starts};
+ghost use Rattle.abc_instr.specs.Resolving.{Resolves};
 
-use crate::pieces::{Pieces, read_pieces};
+use crate::reading::{Reading, read_pieces};
 use crate::resolve::{Missed, resolve_all};
-use abc_base::Source;
+use abc_base::{Source, Table};
 use abc_tables::Code;
 use abc_varint::{ReadError, Reason, Window, read_u30};
 use std::alloc::Global;
+use std::mem;
 
 /// The length of code is below it.
 const LENGTH_END: u32 = 1 << 23;
@@ -33,9 +36,27 @@ pub fn read_length<S: Source>(w: &mut Window, source: &mut S) -> Result<u32, Rea
     Ok(length)
 }
 
-/// Code, as `read_code` reads it.
+/// Takes the code out of what was read, its targets as numbers.
+#[tactic(auto, using(crate::proofs::Aiming::still_missed, crate::proofs::Aiming::taken_out))]
+fn take_code(alloc: Global, reading: &mut Reading) -> Result<Code, Missed>
+    requires { All (IsAim (length (reading.old).instrs)) (reading.old).aims.items }
+    ensures { Resolves (with_starts (reading.old).starts (aimed (reading.old).starts (reading.old).aims.items (reading.old).instrs)) result }
+{
+    resolve_all(alloc, &reading.starts, &reading.aims, &mut reading.instrs)?;
+    let instrs = mem::replace(&mut reading.instrs, Table::new(alloc));
+    let offsets = reading.starts.take(alloc);
+    Ok(Code { instrs, offsets })
+}
+
+/// Reads code, as `read_code` does, in memory that serves one code after the other.
 #[tactic(auto, unfolding(abc_tables::specs::Code::code, abc_tables::specs::Code::code_body, abc_tables::specs::Targets::resolve))]
-fn read_whole<S: Source>(alloc: Global, w: &mut Window, source: &mut S) -> Result<Code, ReadError>
+pub fn read_code_within<S: Source>(
+    alloc: Global,
+    w: &mut Window,
+    source: &mut S,
+    reading: &mut Reading,
+) -> Result<Code, ReadError>
+    // The window has no end.
     requires { w.old.end ≡ 2 ^ 25 }
     ensures value { ReadsPart S.left S.faults code_part w.old source.old w.new source.new result }
     ensures rising { IfOk result (λ c. IsRising c.offsets) }
@@ -45,16 +66,9 @@ fn read_whole<S: Source>(alloc: Global, w: &mut Window, source: &mut S) -> Resul
 {
     let length = read_length(w, source)?;
     let first = w.place();
-    let pieces = read_pieces(alloc, w, source, length)?;
-    let Pieces {
-        instrs: raws,
-        starts,
-    } = pieces;
-    match resolve_all(alloc, &starts, raws) {
-        Ok(instrs) => Ok(Code {
-            instrs,
-            offsets: starts,
-        }),
+    read_pieces(alloc, w, source, length, reading)?;
+    match take_code(alloc, reading) {
+        Ok(code) => Ok(code),
         Err(Missed::Target(at)) => Err(ReadError::Refused {
             place: first + at,
             reason: Reason::Target,
@@ -83,5 +97,6 @@ pub fn read_code<S: Source>(
     ensures ready { IfOk result (λ c. IsReady c.instrs) }
 {
     let _place = w.place();
-    read_whole(alloc, w, source)
+    let mut reading = Reading::new(alloc);
+    read_code_within(alloc, w, source, &mut reading)
 }
