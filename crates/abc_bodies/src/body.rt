@@ -1,5 +1,5 @@
 ghost use Rattle.std.specs.Prelude.{◌≡◌, ◌≤◌, ◌<◌, ◌+◌, ◌^◌, None, Some, Err, false, IfOk, length, slice_get};
-ghost use Rattle.abc_bodies.specs.Reading.{free_method, free_body};
+ghost use Rattle.abc_bodies.specs.Reading.{free_method, free_body, with_starts};
 ghost use Rattle.abc_tables.specs.Bodies.{body_with, IsReadyBody};
 ghost use Rattle.abc_varint.specs.Reads.{Reads, ReadsPart};
 
@@ -33,7 +33,7 @@ pub fn read_method<S: Source>(
     }
 }
 
-/// A body of a method whose flag is down, and where its instructions began. The memory of a reading is used again.
+/// A body of a method whose flag is down. Where its instructions began is left in the reading, whose memory is used again.
 #[tactic(auto, unfolding(crate::specs::Reading::free_body, abc_tables::specs::Bodies::body_with))]
 pub fn read_body<S: Source>(
     alloc: Global,
@@ -42,12 +42,12 @@ pub fn read_body<S: Source>(
     sizes: &Sizes,
     flags: &Table<bool>,
     reading: &mut Reading,
-) -> Result<(Body, Table<u32>), ReadError>
+) -> Result<Body, ReadError>
     requires { w.old.end ≡ 2 ^ 25 }
-    ensures value { ReadsPart S.left S.faults (free_body sizes.now flags.now) w.old source.old w.new source.new result }
-    ensures free { IfOk result (λ x. slice_get flags.now (x.0).method ≡ Some false) }
-    ensures count { IfOk result (λ x. length x.1 ≡ length (x.0).code + 1) }
-    ensures ready { IfOk result (λ x. IsReadyBody x.0) }
+    ensures value { ReadsPart S.left S.faults (free_body sizes.now flags.now) w.old source.old w.new source.new (with_starts result (reading.new).starts) }
+    ensures free { IfOk result (λ b. slice_get flags.now b.method ≡ Some false) }
+    ensures count { IfOk result (λ b. length (reading.new).starts ≡ length b.code + 1) }
+    ensures ready { IfOk result IsReadyBody }
 {
     let method = read_method(w, source, sizes, flags)?;
     let max_stack = read_u30(w, source)?;
@@ -55,17 +55,16 @@ pub fn read_body<S: Source>(
     let init_scope = read_u30(w, source)?;
     let max_scope = read_u30(w, source)?;
     let code = read_code_within(alloc, w, source, reading)?;
-    let handlers = read_handlers(alloc, w, source, sizes, &code.offsets)?;
+    let handlers = read_handlers(alloc, w, source, sizes, reading.places())?;
     let traits = read_counted(&TraitCodec(*sizes), alloc, w, source)?;
-    let body = Body {
+    Ok(Body {
         method,
         max_stack,
         local_count,
         init_scope,
         max_scope,
-        code: code.instrs,
+        code,
         handlers,
         traits,
-    };
-    Ok((body, code.offsets))
+    })
 }

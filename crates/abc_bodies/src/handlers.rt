@@ -25,16 +25,16 @@ fn read_handler<S: Source>(
     w: &mut Window,
     source: &mut S,
     sizes: &Sizes,
-    starts: &Table<u32>,
+    starts: &[u32],
 ) -> Result<Handler, ReadError>
     requires rising { IsRising starts.now }
     requires few { length starts.now < 2 ^ 32 }
     ensures value { ReadsPart S.left S.faults (handler_part sizes.now starts.now) w.old source.old w.new source.new result }
     ensures within { IfOk result (IsWithin (length starts.now - 1)) }
 {
-    let from = read_place(w, source, starts.as_slice())?;
-    let to = read_place(w, source, starts.as_slice())?;
-    let target = read_place(w, source, starts.as_slice())?;
+    let from = read_place(w, source, starts)?;
+    let to = read_place(w, source, starts)?;
+    let target = read_place(w, source, starts)?;
     let exc_type = read_pool_index(w, source, sizes.names)?;
     let var_name = read_pool_index(w, source, sizes.names)?;
     Ok(Handler {
@@ -52,7 +52,7 @@ fn read_each_handler<S: Source>(
     w: &mut Window,
     source: &mut S,
     sizes: &Sizes,
-    starts: &Table<u32>,
+    starts: &[u32],
     count: u32,
 ) -> Result<Table<Handler>, ReadError>
     requires rising { IsRising starts.now }
@@ -76,7 +76,7 @@ pub fn read_handlers<S: Source>(
     w: &mut Window,
     source: &mut S,
     sizes: &Sizes,
-    starts: &Table<u32>,
+    starts: &[u32],
 ) -> Result<Table<Handler>, ReadError>
     requires rising { IsRising starts.now }
     requires few { length starts.now < 2 ^ 32 }

@@ -6,7 +6,6 @@ use Rattle.std.proofs.Math.Seq.{set-append_seam}
 use Rattle.std.proofs.lemmas.List.{append-nil, map-append}
 use Rattle.std.proofs.lemmas.List.Elements.{All-append, All-nil, All-push}
 use Rattle.abc_format.specs.Part.{At, Refusal, refusal, ◌>>=◌}
-use Rattle.abc_format.proofs.Exact.{bind_err, bind_ok, ok_is}
 use Rattle.abc_tables.specs.declared.code.Instr.{Instr}
 use Rattle.abc_tables.specs.declared.code.Instr.TheVariants as variants
 use Rattle.abc_tables.specs.declared.instructions.Code.{Code}
@@ -198,21 +197,13 @@ blank_is (raws.Switch z zs) e = refl
 
 -- ---- code
 
--- what was read, with its targets
-abbrev code_in : Reading → Result Code Refusal
-code_in r = with_starts r.starts (aimed r.starts r.aims.items r.instrs)
+-- the instructions that were read, with their targets
+abbrev pub made_in : Reading → Result (List Instr) Refusal
+made_in r = aimed r.starts r.aims.items r.instrs
 
-pub resolved : (xs : List (Raw × ℕ)) (r : Reading) → IsRead xs r → resolve (raws_in xs) ≡ code_in r
+pub resolved : (xs : List (Raw × ℕ)) (r : Reading) → IsRead xs r → resolve (raws_in xs) ≡ with_starts r.starts (made_in r)
 unfolding resolve
 resolved xs r is = rw (aimed_is xs r is, is.starts, raws_starts 0 xs) refl
-
--- taking the code out finds what resolving found, and misses what it missed
-pub taken_out : (ss : List ℕ) (read : Result (List Instr) Refusal) (is : List Instr) → read ≡ Ok is → with_starts ss read ≡ Ok (code_from ss is)
-taken_out ss read is e = rw e refl
-
-pub still_missed : (ss : List ℕ) (read : Result (List Instr) Refusal) (e : Missed) → Resolves read (Err e) → Resolves (with_starts ss read) (Err e)
-still_missed ss read (missed.Target place) h = rw h refl
-still_missed ss read missed.NoMemory h = tt
 
 pub code_read : (n : ℕ) (from a b : At) (xs : List (Raw × ℕ)) (c : Code) → code_length.reads from ≡ Ok (n, a) → (pieces n).reads a ≡ Ok (raws_in xs, b) → resolve (raws_in xs) ≡ Ok c → code.reads from ≡ Ok (c, b)
 unfolding code code_body
@@ -222,35 +213,27 @@ pub code_refused : (n : ℕ) (from a b : At) (xs : List (Raw × ℕ)) (d : Refus
 unfolding code code_body
 code_refused n from a b xs d e f g = rw (e, f, g) refl
 
--- what is known of the code that was taken out
-pub record CodeOf (xs : List (Raw × ℕ)) (c : Code) : Type 0 where
-  pub starts_are : c.offsets ≡ starts 0 xs
-  pub rising : IsRising c.offsets
-  pub few : length c.offsets < 2 ^ 32
-  pub count : length c.offsets ≡ length c.instrs + 1
-  pub ready : IsReady c.instrs
+-- what is known of the instructions that were taken out, beside their starts
+pub record CodeOf (xs : List (Raw × ℕ)) (ss : List ℕ) (is : List Instr) : Type 0 where
+  pub starts_are : ss ≡ starts 0 xs
+  pub rising : IsRising ss
+  pub few : length ss < 2 ^ 32
+  pub count : length ss ≡ length is + 1
+  pub ready : IsReady is
 
-pub code_of : (n : ℕ) (xs : List (Raw × ℕ)) (r : Reading) (c : Code) → n < 2 ^ 23 → IsRead xs r → AreRead n xs → code_in r ≡ Ok c → CodeOf xs c
-code_of n xs r c small is read e =
-    let a = bind_ok (aimed r.starts r.aims.items r.instrs) (λ is. Ok (code_from r.starts is)) c e in
-    let made = code_from r.starts a.0 in
-    let same : made ≡ c = ok_is made c a.2 in
-    let offsets : c.offsets ≡ starts 0 xs = sym (ap (λ (x : Code). x.offsets) same) ∙ is.starts in
-    let instrs : a.0 ≡ c.instrs = ap (λ (x : Code). x.instrs) same in
+pub code_of : (n : ℕ) (xs : List (Raw × ℕ)) (r : Reading) (is : List Instr) → n < 2 ^ 23 → IsRead xs r → AreRead n xs → made_in r ≡ Ok is → CodeOf xs r.starts is
+code_of n xs r js small is read e =
     let count = length-starts 0 xs in
-    let found : instrs_of (starts 0 xs) 0 (raws_in xs) ≡ Ok c.instrs = sym (aimed_is xs r is) ∙ a.1 ∙ ap (λ (l : List Instr). Ok l) instrs in
-    let ready = resolved_ready (starts 0 xs) xs c.instrs (omega (arith, count)) found read.raw (omega (arith, read.few)) in
+    let found : instrs_of (starts 0 xs) 0 (raws_in xs) ≡ Ok js = sym (aimed_is xs r is) ∙ e in
+    let ready = resolved_ready (starts 0 xs) xs js (omega (arith, count)) found read.raw (omega (arith, read.few)) in
     record {
-      starts_are = offsets;
-      rising = subst IsRising (sym offsets) (starts_rising xs read.some);
-      few = omega (arith, ap length offsets, few_starts xs read.some (omega (arith, read.size)));
-      count = omega (arith, ap length offsets, count, ready.number);
+      starts_are = is.starts;
+      rising = subst IsRising (sym is.starts) (starts_rising xs read.some);
+      few = omega (arith, ap length is.starts, few_starts xs read.some (omega (arith, read.size)));
+      count = omega (arith, ap length is.starts, count, ready.number);
       ready = ready.ready;
     }
 
 -- where the target stands that leads nowhere
-pub missed_near : (xs : List (Raw × ℕ)) (r : Reading) (d : Refusal) → IsRead xs r → All (λ x. 0 < x.1) xs → code_in r ≡ Err d → d.place ≤ size xs
-missed_near xs r d is some e = elim (bind_err (aimed r.starts r.aims.items r.instrs) (λ is. Ok (code_from r.starts is)) d e) [
-  | inl h ↦ omega (arith, missed_within (starts 0 xs) 0 (raws_in xs) d (raws_some xs some) (sym (aimed_is xs r is) ∙ h), raws_size xs)
-  | inr b ↦ absurd (let f = b.2 in cc)
-]
+pub missed_near : (xs : List (Raw × ℕ)) (r : Reading) (d : Refusal) → IsRead xs r → All (λ x. 0 < x.1) xs → made_in r ≡ Err d → d.place ≤ size xs
+missed_near xs r d is some e = omega (arith, missed_within (starts 0 xs) 0 (raws_in xs) d (raws_some xs some) (sym (aimed_is xs r is) ∙ e), raws_size xs)

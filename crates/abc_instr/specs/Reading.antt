@@ -109,3 +109,8 @@ code_from ss is = record { instrs = is; offsets = ss }
 -- the instructions with their starts
 abbrev pub with_starts : List ℕ → Result (List Instr) Refusal → Result Code Refusal
 with_starts ss read = read >>= λ is. Ok (code_from ss is)
+
+-- the instructions that a reader gives, with the starts that it leaves in its reading
+abbrev pub with_offsets : {E : Type 0} → Result (List Instr) E → List ℕ → Result Code E
+with_offsets (Ok is) ss = Ok (code_from ss is)
+with_offsets (Err e) ss = Err e

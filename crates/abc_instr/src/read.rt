@@ -1,17 +1,17 @@
-ghost use Rattle.std.specs.Prelude.{◌≡◌, ◌≤◌, ◌<◌, ◌^◌, ◌+◌, None, All, IfOk, length};
+ghost use Rattle.std.specs.Prelude.{◌≡◌, ◌≤◌, ◌<◌, ◌^◌, ◌+◌, None, All, IfOk, OnOk, length};
 ghost use Rattle.abc_tables.specs.Code.{code as code_part};
 ghost use Rattle.abc_tables.specs.Instructions.{code_length};
 ghost use Rattle.abc_tables.specs.Ready.{IsReady};
 ghost use Rattle.abc_tables.specs.Starts.{IsRising};
 ghost use Rattle.abc_varint.specs.Answers.{Answers};
 ghost use Rattle.abc_varint.specs.Reads.{ReadsPart};
-ghost use Rattle.abc_instr.specs.Reading.{IsAim, aimed, with_starts};
+ghost use Rattle.abc_instr.specs.Reading.{IsAim, aimed, with_offsets};
 ghost use Rattle.abc_instr.specs.Resolving.{Resolves};
 
 use crate::reading::{Reading, read_pieces};
 use crate::resolve::{Missed, resolve_all};
 use abc_base::{Source, Table};
-use abc_tables::Code;
+use abc_tables::{Code, Instr};
 use abc_varint::{ReadError, Reason, Window, read_u30};
 use std::alloc::Global;
 use std::mem;
@@ -36,39 +36,38 @@ pub fn read_length<S: Source>(w: &mut Window, source: &mut S) -> Result<u32, Rea
     Ok(length)
 }
 
-/// Takes the code out of what was read, its targets as numbers.
-#[tactic(auto, using(crate::proofs::Aiming::still_missed, crate::proofs::Aiming::taken_out))]
-fn take_code(alloc: Global, reading: &mut Reading) -> Result<Code, Missed>
+/// Gives the instructions that were read their targets, and takes them out. The starts stay.
+fn take_instrs(alloc: Global, reading: &mut Reading) -> Result<Table<Instr>, Missed>
     requires { All (IsAim (length (reading.old).instrs)) (reading.old).aims.items }
-    ensures { Resolves (with_starts (reading.old).starts (aimed (reading.old).starts (reading.old).aims.items (reading.old).instrs)) result }
+    ensures value { Resolves (aimed (reading.old).starts (reading.old).aims.items (reading.old).instrs) result }
+    ensures starts { (reading.new).starts ≡ (reading.old).starts }
 {
     resolve_all(alloc, &reading.starts, &reading.aims, &mut reading.instrs)?;
-    let instrs = mem::replace(&mut reading.instrs, Table::new(alloc));
-    let offsets = reading.starts.take(alloc);
-    Ok(Code { instrs, offsets })
+    Ok(mem::replace(&mut reading.instrs, Table::new(alloc)))
 }
 
-/// Reads code, as `read_code` does, in memory that serves one code after the other.
+/// Reads code, as `read_code` does, in memory that serves one code after the other. Gives the instructions, and leaves
+/// their starts in the reading.
 #[tactic(auto, unfolding(abc_tables::specs::Code::code, abc_tables::specs::Code::code_body, abc_tables::specs::Targets::resolve))]
 pub fn read_code_within<S: Source>(
     alloc: Global,
     w: &mut Window,
     source: &mut S,
     reading: &mut Reading,
-) -> Result<Code, ReadError>
+) -> Result<Table<Instr>, ReadError>
     // The window has no end.
     requires { w.old.end ≡ 2 ^ 25 }
-    ensures value { ReadsPart S.left S.faults code_part w.old source.old w.new source.new result }
-    ensures rising { IfOk result (λ c. IsRising c.offsets) }
-    ensures count { IfOk result (λ c. length c.offsets ≡ length c.instrs + 1) }
-    ensures few { IfOk result (λ c. length c.offsets < 2 ^ 32) }
-    ensures ready { IfOk result (λ c. IsReady c.instrs) }
+    ensures value { ReadsPart S.left S.faults code_part w.old source.old w.new source.new (with_offsets result (reading.new).starts) }
+    ensures rising { OnOk result (IsRising (reading.new).starts) }
+    ensures count { IfOk result (λ is. length (reading.new).starts ≡ length is + 1) }
+    ensures few { OnOk result (length (reading.new).starts < 2 ^ 32) }
+    ensures ready { IfOk result IsReady }
 {
     let length = read_length(w, source)?;
     let first = w.place();
     read_pieces(alloc, w, source, length, reading)?;
-    match take_code(alloc, reading) {
-        Ok(code) => Ok(code),
+    match take_instrs(alloc, reading) {
+        Ok(instrs) => Ok(instrs),
         Err(Missed::Target(at)) => Err(ReadError::Refused {
             place: first + at,
             reason: Reason::Target,
@@ -98,5 +97,11 @@ pub fn read_code<S: Source>(
 {
     let _place = w.place();
     let mut reading = Reading::new(alloc);
-    read_code_within(alloc, w, source, &mut reading)
+    match read_code_within(alloc, w, source, &mut reading) {
+        Ok(instrs) => Ok(Code {
+            instrs,
+            offsets: reading.starts.take(alloc),
+        }),
+        Err(e) => Err(e),
+    }
 }

@@ -74,6 +74,13 @@ impl Starts {
         self.numbers.get(place)
     }
 
+    /// All starts, in order.
+    pub(crate) fn as_slice(&self) -> &[u32]
+        ensures { result.now ≡ self.now }
+    {
+        self.places.as_slice()
+    }
+
     /// Takes the starts out, and leaves none.
     pub(crate) fn take(&mut self, alloc: Global) -> Table<u32>
         ensures { result ≡ self.old }
