@@ -4,6 +4,10 @@ ghost use Rattle.std.specs.Prelude.{set, take};
 use crate::memory::NoMemory;
 use std::alloc::Global;
 use std::marker::Model;
+use std::mem;
+
+/// So many values are moved with their memory.
+const MANY: usize = 1 << 12;
 
 /// A list of values, which contracts see as that list.
 #[derive(Debug, Drop)]
@@ -36,6 +40,22 @@ impl<T: Drop> Table<T> {
     {
         self.items.push(x)?;
         Ok(())
+    }
+
+    /// Moves all values to a list of their own, and leaves none. The list has memory for no more than they need, and this
+    /// one keeps its memory for others; where there are many, the memory goes with them. Where memory runs out, the
+    /// values stay.
+    pub fn move_out(&mut self, alloc: Global) -> Result<Table<T>, NoMemory>
+        ensures ok { IfOk result (λ t. (t ≡ self.old) × (self.new ≡ [])) }
+        ensures err { OnErr result (self.new ≡ self.old) }
+    {
+        if self.items.len() >= MANY {
+            let items = mem::replace(&mut self.items, Vec::new(alloc));
+            return Ok(Table { items });
+        }
+        let mut items = Vec::with_capacity(alloc, self.items.len())?;
+        items.append(&mut self.items)?;
+        Ok(Table { items })
     }
 
     /// How many values there are.

@@ -14,7 +14,6 @@ use abc_base::{Source, Table};
 use abc_tables::{Code, Instr};
 use abc_varint::{ReadError, Reason, Window, read_u30};
 use std::alloc::Global;
-use std::mem;
 
 /// The length of code is below it.
 const LENGTH_END: u32 = 1 << 23;
@@ -43,7 +42,8 @@ fn take_instrs(alloc: Global, reading: &mut Reading) -> Result<Table<Instr>, Mis
     ensures starts { (reading.new).starts ≡ (reading.old).starts }
 {
     resolve_all(alloc, &reading.starts, &reading.aims, &mut reading.instrs)?;
-    Ok(mem::replace(&mut reading.instrs, Table::new(alloc)))
+    let instrs = reading.instrs.move_out(alloc)?;
+    Ok(instrs)
 }
 
 /// Reads code, as `read_code` does, in memory that serves one code after the other. Gives the instructions, and leaves
