@@ -55,7 +55,7 @@ pub fn read_body<S: Source>(
     let init_scope = read_u30(w, source)?;
     let max_scope = read_u30(w, source)?;
     let code = read_code_within(alloc, w, source, reading)?;
-    let handlers = read_handlers(alloc, w, source, sizes, reading.places())?;
+    let handlers = read_handlers(alloc, w, source, sizes, &reading.starts)?;
     let traits = read_counted(&TraitCodec(*sizes), alloc, w, source)?;
     Ok(Body {
         method,

@@ -48,7 +48,7 @@ fn read_each_body<S: Source>(
         let body = read_body(alloc, w, source, sizes, &has_body, &mut reading)?;
         has_body.set(body.method as usize, true);
         bodies.push(body)?;
-        places.push(reading.places())?;
+        places.push(reading.starts.as_slice())?;
     }
     Ok((bodies, places))
 }

@@ -25,3 +25,4 @@ pub use put::{offset_at, put_code, starts_of};
 pub use read::{read_code, read_code_within};
 pub use reading::Reading;
 pub use scan::Scan;
+pub use starts::Starts;

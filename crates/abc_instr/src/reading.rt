@@ -50,13 +50,6 @@ impl Reading {
         }
     }
 
-    /// Where each instruction starts, and where the last one ends.
-    pub fn places(&self) -> &[u32]
-        ensures { result.now ≡ (self.now).starts }
-    {
-        self.starts.as_slice()
-    }
-
     /// Begins again.
     fn begin(&mut self)
         ensures starts { (self.new).starts ≡ [] }

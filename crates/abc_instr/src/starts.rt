@@ -75,7 +75,7 @@ impl Starts {
     }
 
     /// All starts, in order.
-    pub(crate) fn as_slice(&self) -> &[u32]
+    pub fn as_slice(&self) -> &[u32]
         ensures { result.now ≡ self.now }
     {
         self.places.as_slice()
