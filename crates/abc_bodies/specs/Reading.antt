@@ -31,6 +31,11 @@ free_body v flags = body_with v (free_method v flags)
 abbrev pub halves : List (Body × List ℕ) → List Body × List (List ℕ)
 halves xs = (map (λ x. x.0) xs, map (λ x. x.1) xs)
 
+-- the result of a reader that gives a body, and leaves the starts of its instructions in its reading
+abbrev pub with_starts : {E : Type 0} → Result Body E → List ℕ → Result (Body × List ℕ) E
+with_starts (Ok body) starts = Ok (body, starts)
+with_starts (Err e) starts = Err e
+
 -- the result of a reader that leaves the bodies in place, and gives the starts of their instructions
 abbrev pub with_places : {E : Type 0} → Result (List (List ℕ)) E → Abc → Result (Abc × List (List ℕ)) E
 with_places (Ok starts) abc = Ok (abc, starts)

@@ -1,11 +1,11 @@
 ghost use Rattle.std.specs.Prelude.{◌≡◌, ◌≤◌, ◌<◌, ◌+◌, ◌^◌, None, Some, Err, false, IfOk, length, slice_get};
-ghost use Rattle.abc_bodies.specs.Reading.{free_method, free_body};
+ghost use Rattle.abc_bodies.specs.Reading.{free_method, free_body, with_starts};
 ghost use Rattle.abc_tables.specs.Bodies.{body_with, IsReadyBody};
 ghost use Rattle.abc_varint.specs.Reads.{Reads, ReadsPart};
 
 use crate::handlers::read_handlers;
 use abc_base::{Source, Table};
-use abc_instr::read_code;
+use abc_instr::{Reading, read_code_within};
 use abc_tables::{Body, Sizes};
 use abc_traits::TraitCodec;
 use abc_varint::{ReadError, Reason, Window, read_counted, read_index_below, read_u30};
@@ -33,7 +33,7 @@ pub fn read_method<S: Source>(
     }
 }
 
-/// A body of a method whose flag is down, and where its instructions began.
+/// A body of a method whose flag is down. Where its instructions began is left in the reading, whose memory is used again.
 #[tactic(auto, unfolding(crate::specs::Reading::free_body, abc_tables::specs::Bodies::body_with))]
 pub fn read_body<S: Source>(
     alloc: Global,
@@ -41,30 +41,30 @@ pub fn read_body<S: Source>(
     source: &mut S,
     sizes: &Sizes,
     flags: &Table<bool>,
-) -> Result<(Body, Table<u32>), ReadError>
+    reading: &mut Reading,
+) -> Result<Body, ReadError>
     requires { w.old.end ≡ 2 ^ 25 }
-    ensures value { ReadsPart S.left S.faults (free_body sizes.now flags.now) w.old source.old w.new source.new result }
-    ensures free { IfOk result (λ x. slice_get flags.now (x.0).method ≡ Some false) }
-    ensures count { IfOk result (λ x. length x.1 ≡ length (x.0).code + 1) }
-    ensures ready { IfOk result (λ x. IsReadyBody x.0) }
+    ensures value { ReadsPart S.left S.faults (free_body sizes.now flags.now) w.old source.old w.new source.new (with_starts result (reading.new).starts) }
+    ensures free { IfOk result (λ b. slice_get flags.now b.method ≡ Some false) }
+    ensures count { IfOk result (λ b. length (reading.new).starts ≡ length b.code + 1) }
+    ensures ready { IfOk result IsReadyBody }
 {
     let method = read_method(w, source, sizes, flags)?;
     let max_stack = read_u30(w, source)?;
     let local_count = read_u30(w, source)?;
     let init_scope = read_u30(w, source)?;
     let max_scope = read_u30(w, source)?;
-    let code = read_code(alloc, w, source)?;
-    let handlers = read_handlers(alloc, w, source, sizes, &code.offsets)?;
+    let code = read_code_within(alloc, w, source, reading)?;
+    let handlers = read_handlers(alloc, w, source, sizes, &reading.starts)?;
     let traits = read_counted(&TraitCodec(*sizes), alloc, w, source)?;
-    let body = Body {
+    Ok(Body {
         method,
         max_stack,
         local_count,
         init_scope,
         max_scope,
-        code: code.instrs,
+        code,
         handlers,
         traits,
-    };
-    Ok((body, code.offsets))
+    })
 }

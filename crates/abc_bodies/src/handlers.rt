@@ -12,7 +12,7 @@ ghost use Rattle.abc_varint.specs.Puts.{Puts};
 ghost use Rattle.abc_varint.specs.Reads.{Reads, ReadsPart};
 
 use abc_base::{NoMemory, Source, Table};
-use abc_instr::{Marks, read_place};
+use abc_instr::{Marks, Starts, read_place};
 use abc_tables::{Handler, Sizes};
 use abc_varint::{
     Codec, PoolIndex, ReadError, Reason, Window, put_count, put_u30, read_pool_index, read_u30,
@@ -25,7 +25,7 @@ fn read_handler<S: Source>(
     w: &mut Window,
     source: &mut S,
     sizes: &Sizes,
-    starts: &Table<u32>,
+    starts: &Starts,
 ) -> Result<Handler, ReadError>
     requires rising { IsRising starts.now }
     requires few { length starts.now < 2 ^ 32 }
@@ -52,7 +52,7 @@ fn read_each_handler<S: Source>(
     w: &mut Window,
     source: &mut S,
     sizes: &Sizes,
-    starts: &Table<u32>,
+    starts: &Starts,
     count: u32,
 ) -> Result<Table<Handler>, ReadError>
     requires rising { IsRising starts.now }
@@ -76,7 +76,7 @@ pub fn read_handlers<S: Source>(
     w: &mut Window,
     source: &mut S,
     sizes: &Sizes,
-    starts: &Table<u32>,
+    starts: &Starts,
 ) -> Result<Table<Handler>, ReadError>
     requires rising { IsRising starts.now }
     requires few { length starts.now < 2 ^ 32 }

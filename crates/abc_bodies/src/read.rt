@@ -10,6 +10,7 @@ ghost use Rattle.abc_varint.specs.Reads.{Reads, ReadsPart};
 use crate::body::read_body;
 use crate::places::Places;
 use abc_base::{NoMemory, Source, Table};
+use abc_instr::Reading;
 use abc_tables::{Abc, Body, Sizes, sizes_of};
 use abc_varint::{ReadError, Window, read_u30};
 use std::alloc::Global;
@@ -32,7 +33,7 @@ fn read_each_body<S: Source>(
     source: &mut S,
     sizes: &Sizes,
     count: u32,
-) -> Result<(Table<Body>, Table<Table<u32>>), ReadError>
+) -> Result<(Table<Body>, Places), ReadError>
     requires fresh { w.old.kept ≡ None }
     requires end { w.old.end ≡ 2 ^ 25 }
     ensures value { ReadsPart S.left S.faults (image halves (chain count (λ before. body sizes.now (methods_of before)) [])) w.old source.old w.new source.new result }
@@ -41,12 +42,13 @@ fn read_each_body<S: Source>(
 {
     let mut has_body = flags_down(alloc, sizes.methods)?;
     let mut bodies = Table::new(alloc);
-    let mut places = Table::new(alloc);
+    let mut places = Places::new(alloc);
+    let mut reading = Reading::new(alloc);
     for _ in 0..count {
-        let (body, starts) = read_body(alloc, w, source, sizes, &has_body)?;
+        let body = read_body(alloc, w, source, sizes, &has_body, &mut reading)?;
         has_body.set(body.method as usize, true);
         bodies.push(body)?;
-        places.push(starts)?;
+        places.push(reading.starts.as_slice())?;
     }
     Ok((bodies, places))
 }
@@ -58,7 +60,7 @@ fn read_all<S: Source>(
     w: &mut Window,
     source: &mut S,
     sizes: &Sizes,
-) -> Result<(Table<Body>, Table<Table<u32>>), ReadError>
+) -> Result<(Table<Body>, Places), ReadError>
     requires { w.old.end ≡ 2 ^ 25 }
     ensures value { ReadsPart S.left S.faults (image halves (body_list sizes.now)) w.old source.old w.new source.new result }
     ensures places { IfOk result (λ x. ArePlaces x.0 x.1) }
@@ -97,7 +99,7 @@ pub fn read_bodies<S: Source>(
     match read_all(alloc, w, source, &sizes) {
         Ok((found, places)) => {
             abc.bodies = found;
-            Ok(Places::new(places))
+            Ok(places)
         }
         Err(e) => Err(e),
     }

@@ -5,3 +5,4 @@ pub mod Pairs
 pub mod Readiness
 pub mod Rendering
 pub mod Shown
+pub mod Digits

@@ -1,5 +1,5 @@
 -- One more number that is named.
-use Rattle.std.proofs.Common.{◌≡◌, ℕ, zero, suc, ◌+◌, take, ◌<◌, ◌≤◌, ◌⊎◌, inl, inr, Bool, true, false, cond, nat_eq, List, [], ◌∷◌, ◌++◌, length, get_or, refl, sym, ap, ◌∙◌, get_or-set_same, get_or-set_other, length-set, arith, append_assoc, append-nil}
+use Rattle.std.proofs.Common.{◌≡◌, ℕ, zero, suc, ◌+◌, take, ◌<◌, ◌≤◌, ◌⊎◌, inl, inr, Bool, true, false, cond, nat_eq, List, [], ◌∷◌, ◌++◌, length, get_or, refl, sym, ap, subst, ◌∙◌, get_or-set_same, get_or-set_other, length-set, arith, append_assoc, append-nil}
 use Rattle.std.specs.List.{flat_map}
 use Rattle.std.proofs.Math.ListN.{replicate, set}
 use Rattle.std.proofs.lemmas.List.{take_all, take_more}
@@ -57,3 +57,10 @@ pub none_marked : (n : ℕ) → AreMarks (replicate n false) []
 none_marked zero k lt = refl
 none_marked (suc n) zero lt = refl
 none_marked (suc n) (suc k) lt = none_marked n k (omega (arith, lt))
+
+-- what is left of other marks once all are taken away and blank ones added
+pub cleared : (n k : ℕ) (ms old : List Bool) → old ≡ [] → ms ≡ take n old ++ replicate k false → AreMarks ms []
+cleared n k ms old e h =
+    let blank : List Bool → List Bool = λ l. l ++ replicate k false in
+    let same : ms ≡ replicate k false = h ∙ ap (λ (l : List Bool). blank (take n l)) e ∙ ap blank (take_all {A = Bool} n [] (omega arith)) in
+    subst (λ (l : List Bool). AreMarks l []) (sym same) (none_marked k)

@@ -9,7 +9,7 @@ ghost use Rattle.abc_varint.specs.Puts.{Puts};
 
 use crate::instrs::put_instr;
 use crate::listed::{Listed, put_all};
-use crate::marks::marks_of;
+use crate::marks::mark_body;
 use crate::tokens::{put, put_label, put_number, put_target};
 use abc_base::{NoMemory, Table};
 use abc_tables::{Abc, Body, Handler};
@@ -85,13 +85,18 @@ fn put_code(body: &Body, marks: &[bool], abc: &Abc, out: &mut Vec<u8>) -> Result
     Ok(())
 }
 
-/// A body and the lines below it.
+/// A body and the lines below it. The memory of the marks is used again.
 #[tactic(auto, using(abc_varint::proofs::Putting::stays, abc_varint::proofs::Putting::stays_whole, std::proofs::Common::append_assoc, crate::proofs::Readiness::shown, crate::proofs::Readiness::short))]
-fn put_body(alloc: Global, body: &Body, abc: &Abc, out: &mut Vec<u8>) -> Result<(), NoMemory>
+fn put_body(
+    marks: &mut Vec<bool>,
+    body: &Body,
+    abc: &Abc,
+    out: &mut Vec<u8>,
+) -> Result<(), NoMemory>
     requires { IsReadyBody (body.now) }
     ensures { Puts out.old.items out.new.items result (whole_body abc.now (body.now)) }
 {
-    let marks = marks_of(alloc, body)?;
+    mark_body(marks, body)?;
     put_body_line(body, abc, out)?;
     put_code(body, marks.as_slice(), abc, out)?;
     put_all(&body.handlers, abc, out)?;
@@ -110,8 +115,9 @@ pub fn put_bodies(
     requires { All IsReadyBody bodies.now }
     ensures { Puts out.old.items out.new.items result (flat_map (whole_body abc.now) bodies.now) }
 {
+    let mut marks = Vec::new(alloc);
     for body in bodies.as_slice() {
-        put_body(alloc, body, abc, out)?;
+        put_body(&mut marks, body, abc, out)?;
     }
     Ok(())
 }

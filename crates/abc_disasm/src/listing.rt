@@ -56,7 +56,7 @@ fn put_file(alloc: Global, abc: &Abc, out: &mut Vec<u8>) -> Result<(), NoMemory>
 }
 
 /// Appends the one text of a file, of which some bytes spell each body's code. Where memory runs out, the bytes stay as
-/// they were. It takes a byte for each instruction of one body, and time that grows with the value and the text.
+/// they were. It takes a byte for each instruction of the longest body, and time that grows with the value and the text.
 #[tactic(auto, using(crate::proofs::Rendering::listing_is))]
 pub fn disassemble(alloc: Global, abc: &Abc, out: &mut Vec<u8>) -> Result<(), NoMemory>
     requires { All IsReadyBody (abc.now).bodies }

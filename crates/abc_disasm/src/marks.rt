@@ -1,12 +1,11 @@
 //! Which instructions of a body, and whether its end, are named by its branches, switches and handlers.
-ghost use Rattle.std.specs.Prelude.{◌≡◌, ◌+◌, ◌++◌, ◌∷◌, ◌<◌, ◌^◌, [], ℕ, List, IfOk, length, vec_len};
+ghost use Rattle.std.specs.Prelude.{◌≡◌, ◌+◌, ◌++◌, ◌∷◌, ◌<◌, ◌^◌, [], ℕ, List, OnOk, length, vec_len};
 ghost use Rattle.std.specs.List.{flat_map};
 ghost use Rattle.abc_disasm.specs.Texts.{body_targets, handler_targets, instr_targets};
 ghost use Rattle.abc_disasm.specs.Marks.{AreMarks};
 
 use abc_base::NoMemory;
 use abc_tables::{Body, Handler, Instr};
-use std::alloc::Global;
 
 /// Marks a number.
 fn mark(marks: &mut Vec<bool>, n: u32)
@@ -69,14 +68,16 @@ fn mark_handlers(marks: &mut Vec<bool>, handlers: &[Handler])
     }
 }
 
-/// For each number of an instruction of the body, and for that of the end, whether it is named.
-pub fn marks_of(alloc: Global, body: &Body) -> Result<Vec<bool>, NoMemory>
+/// Marks, for each number of an instruction of the body, and for that of the end, whether it is named. The memory of the
+/// marks of another body is used again.
+pub fn mark_body(marks: &mut Vec<bool>, body: &Body) -> Result<(), NoMemory>
     requires { length (body.now).code < 2 ^ 23 }
-    ensures len { IfOk result (λ marks. vec_len marks ≡ length (body.now).code + 1) }
-    ensures marked { IfOk result (λ marks. AreMarks marks.items (body_targets body.now)) }
+    ensures len { OnOk result (vec_len marks.new ≡ length (body.now).code + 1) }
+    ensures marked { OnOk result (AreMarks marks.new.items (body_targets body.now)) }
 {
-    let mut marks = vec![in alloc; false; body.code.len() + 1]?;
-    mark_code(&mut marks, body.code.as_slice());
-    mark_handlers(&mut marks, body.handlers.as_slice());
-    Ok(marks)
+    marks.clear();
+    marks.resize(body.code.len() + 1, false)?;
+    mark_code(marks, body.code.as_slice());
+    mark_handlers(marks, body.handlers.as_slice());
+    Ok(())
 }

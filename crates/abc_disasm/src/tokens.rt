@@ -1,5 +1,5 @@
 //! What a line is made of. Each of these appends its bytes; where memory runs out, the old bytes are still the front.
-ghost use Rattle.std.specs.Prelude.{◌≡◌, ◌∷◌, ◌++◌, ◌<◌, ◌/◌, ◌%◌, [], ℕ, codes, decimal, length};
+ghost use Rattle.std.specs.Prelude.{◌≡◌, ◌∷◌, ◌++◌, ◌<◌, ◌/◌, ◌%◌, [], ℕ, IsTrue, codes, decimal, length};
 ghost use Rattle.std.specs.Fmt.{signed_decimal};
 ghost use Rattle.std.specs.List.{flat_map};
 ghost use Rattle.abc_escape.specs.Escapes.{escape_of, escaped, hex_digit as hex_digit_of, is_plain as is_plain_byte};
@@ -28,13 +28,41 @@ pub fn put_word(word: &[u8], out: &mut Vec<u8>) -> Result<(), NoMemory>
     Ok(())
 }
 
+/// A number of any length.
+#[inline(never)]
+fn put_any_digits(n: u32, out: &mut Vec<u8>) -> Result<(), NoMemory>
+    ensures { PutsWhole out.old.items out.new.items result (decimal n) }
+{
+    let mut buffer = Buffer::new();
+    put(buffer.format(n).as_bytes(), out)
+}
+
+/// A number. Most have one digit or two.
+#[inline(always)]
+#[tactic(auto, using(crate::proofs::Digits::one, crate::proofs::Digits::two))]
+fn put_digits(n: u32, out: &mut Vec<u8>) -> Result<(), NoMemory>
+    ensures { PutsWhole out.old.items out.new.items result (decimal n) }
+{
+    if n < 10 {
+        put(&[b'0' + n as u8], out)?;
+        return Ok(());
+    }
+    if n < 100 {
+        put(&[b'0' + (n / 10) as u8, b'0' + (n % 10) as u8], out)?;
+        return Ok(());
+    }
+    put_any_digits(n, out)
+}
+
 /// A space and a number.
 #[inline(always)]
+#[tactic(auto, using(abc_varint::proofs::Putting::stays, std::proofs::Common::append_assoc))]
 pub fn put_number(n: u32, out: &mut Vec<u8>) -> Result<(), NoMemory>
     ensures { Puts out.old.items out.new.items result (0x20 ∷ decimal n) }
 {
-    let mut buffer = Buffer::new();
-    put_word(buffer.format(n).as_bytes(), out)
+    put(b" ", out)?;
+    put_digits(n, out)?;
+    Ok(())
 }
 
 /// A space and a signed number.
@@ -51,9 +79,8 @@ pub fn put_signed(n: i32, out: &mut Vec<u8>) -> Result<(), NoMemory>
 pub fn put_label(n: u32, out: &mut Vec<u8>) -> Result<(), NoMemory>
     ensures { Puts out.old.items out.new.items result (label_of n) }
 {
-    let mut buffer = Buffer::new();
     put(b"L", out)?;
-    put(buffer.format(n).as_bytes(), out)?;
+    put_digits(n, out)?;
     Ok(())
 }
 
@@ -89,9 +116,36 @@ fn put_escape(byte: u8, out: &mut Vec<u8>) -> Result<(), NoMemory>
     }
 }
 
+/// Whether the bytes are shown as they are.
+#[tactic(auto, unfolding(abc_escape::specs::Escapes::escaped))]
+fn are_plain(bytes: &[u8]) -> bool
+    ensures { IsTrue result → escaped bytes.now ≡ bytes.now }
+{
+    for byte in bytes {
+        if !is_plain(*byte) {
+            return false;
+        }
+    }
+    true
+}
+
 /// Bytes as they are shown.
-#[tactic(auto, unfolding(abc_escape::specs::Escapes::escaped), using(abc_varint::proofs::Putting::stays, abc_varint::proofs::Putting::stays_whole))]
+#[inline(always)]
+#[tactic(auto, using(abc_varint::proofs::Putting::stays_whole))]
 pub fn put_escaped(bytes: &[u8], out: &mut Vec<u8>) -> Result<(), NoMemory>
+    ensures { Puts out.old.items out.new.items result (escaped bytes.now) }
+{
+    if are_plain(bytes) {
+        put(bytes, out)?;
+        return Ok(());
+    }
+    put_each_escaped(bytes, out)
+}
+
+/// Bytes as they are shown, one by one.
+#[inline(never)]
+#[tactic(auto, unfolding(abc_escape::specs::Escapes::escaped), using(abc_varint::proofs::Putting::stays, abc_varint::proofs::Putting::stays_whole))]
+fn put_each_escaped(bytes: &[u8], out: &mut Vec<u8>) -> Result<(), NoMemory>
     ensures { Puts out.old.items out.new.items result (escaped bytes.now) }
 {
     for byte in bytes {

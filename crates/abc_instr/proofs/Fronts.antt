@@ -3,10 +3,10 @@ use Rattle.std.specs.Prelude.{◌≤ℤ◌, ◌<ℤ◌, negsuc}
 use Rattle.std.proofs.Common.{◌≡◌, ℕ, ℤ, suc, pos, ◌%◌, ◌+◌, ◌-◌, ◌<◌, ◌≤◌, ◌^◌, List, [], ◌∷◌, ◌++◌, length, length-take, length-drop, take, drop, get_or, Some, Ok, refl, sym, ap, ◌∙◌, append_assoc, unwrap_or, is_some, true, arith}
 use Rattle.std.specs.declared.option.Option.{Option}
 use Rattle.std.proofs.lemmas.Bool.{lt-ltb}
-use Rattle.std.specs.Int.{w8, cast_signed, cast_unsigned}
+use Rattle.std.specs.Int.{w8, cast_signed}
 use Rattle.std.proofs.lemmas.List.{append-nil, take_all}
 use Rattle.std.proofs.Math.Seq.{take-add}
-use Rattle.abc_base.specs.Numbers.{SpellsNumber, number_bytes}
+use Rattle.abc_base.specs.Numbers.{SpellsNumber}
 use Rattle.abc_base.proofs.Spelling.{number_shortest}
 use Rattle.abc_format.specs.Ends.{blamed}
 use Rattle.abc_format.specs.Part.{limit}
@@ -56,9 +56,13 @@ after_one j op rest = let e : 1 + j ≡ suc j = omega arith in rw e refl
 pub all_after : {A : Type 0} (spells : A → List ℕ → Type 0) (k n : ℕ) (x : A) (bytes : List ℕ) → spells x (take n (take (length bytes - k) (drop k bytes))) → spells x (take n (drop k bytes))
 all_after spells k n x bytes s = let all : take (length bytes - k) (drop k bytes) ≡ drop k bytes = take_all (length bytes - k) (drop k bytes) (omega (arith, length-drop k bytes)) in rw all at s
 
-pub plain_front : (bytes old new : List ℕ) → 11 ≤ length bytes → form_at (get_or bytes 0 0) ≡ Some forms.Plain → new ≡ old ++ get_or bytes 0 0 ∷ [] → IsFront (fronts.Put 1) bytes old new
-plain_front [] old new len form put = absurd (omega arith)
-plain_front (op ∷ rest) old new len form put = record {
+-- what is put in two goes
+pub put_after : {A : Type 0} (old mid new a b : List A) → mid ≡ old ++ a → new ≡ mid ++ b → new ≡ old ++ (a ++ b)
+put_after old mid new a b first put = put ∙ rw first (append_assoc old a b)
+
+pub plain_front : {A : Type 0} (puts : Raw → List A) (bytes : List ℕ) (old new : List A) → 11 ≤ length bytes → form_at (get_or bytes 0 0) ≡ Some forms.Plain → new ≡ old ++ puts (raws.Same (instrs.Plain (get_or bytes 0 0))) → IsFront puts (fronts.Put 1) bytes old new
+plain_front puts [] old new len form put = absurd (omega arith)
+plain_front puts (op ∷ rest) old new len form put = record {
   instr = raws.Same (instrs.Plain op);
   spelled = spelled op forms.Plain (Same (instrs.Plain op)) [] form (refl, refl);
   some = omega arith;
@@ -69,10 +73,10 @@ plain_front (op ∷ rest) old new len form put = record {
   put = put;
 }
 
-pub one_front : (bytes : List ℕ) (n k : ℕ) (old mid new : List ℕ) → 11 ≤ length bytes → form_at (get_or bytes 0 0) ≡ Some forms.One → SpellsNumber n (take k (drop 1 bytes)) → 0 < k → k ≤ 5 → n < 2 ^ 30
-    → mid ≡ old ++ get_or bytes 0 0 ∷ [] → new ≡ mid ++ number_bytes n → IsFront (fronts.Put (1 + k)) bytes old new
-one_front [] n k old mid new len form s some few lt first put = absurd (omega arith)
-one_front (op ∷ rest) n k old mid new len form s some few lt first put =
+pub one_front : {A : Type 0} (puts : Raw → List A) (bytes : List ℕ) (n k : ℕ) (old new : List A) → 11 ≤ length bytes → form_at (get_or bytes 0 0) ≡ Some forms.One → SpellsNumber n (take k (drop 1 bytes)) → 0 < k → k ≤ 5 → n < 2 ^ 30
+    → new ≡ old ++ puts (raws.Same (instrs.One (get_or bytes 0 0) n)) → IsFront puts (fronts.Put (1 + k)) bytes old new
+one_front puts [] n k old new len form s some few lt put = absurd (omega arith)
+one_front puts (op ∷ rest) n k old new len form s some few lt put =
     let count : length (take k rest) ≡ k = omega (arith, length-take k rest) in
     record {
       instr = raws.Same (instrs.One op n);
@@ -82,14 +86,14 @@ one_front (op ∷ rest) n k old mid new len form s some few lt first put =
       told = refl;
       raw = ((form, lt), refl);
       short = omega (arith, number_shortest n (take k rest) s, count);
-      put = put ∙ rw first (append_assoc old (op ∷ []) (number_bytes n));
+      put = put;
     }
 
-pub two_front : (bytes : List ℕ) (n m j k : ℕ) (old mid last new : List ℕ) → 11 ≤ length bytes → form_at (get_or bytes 0 0) ≡ Some forms.Two
+pub two_front : {A : Type 0} (puts : Raw → List A) (bytes : List ℕ) (n m j k : ℕ) (old new : List A) → 11 ≤ length bytes → form_at (get_or bytes 0 0) ≡ Some forms.Two
     → SpellsNumber n (take j (drop 1 bytes)) → 0 < j → j ≤ 5 → n < 2 ^ 30 → SpellsNumber m (take k (drop (1 + j) bytes)) → 0 < k → k ≤ 5 → m < 2 ^ 30
-    → mid ≡ old ++ get_or bytes 0 0 ∷ [] → last ≡ mid ++ number_bytes n → new ≡ last ++ number_bytes m → IsFront (fronts.Put (1 + j + k)) bytes old new
-two_front [] n m j k old mid last new len form s some few lt s2 some2 few2 lt2 first second put = absurd (omega arith)
-two_front (op ∷ rest) n m j k old mid last new len form s some few lt s2 some2 few2 lt2 first second put =
+    → new ≡ old ++ puts (raws.Same (instrs.Two (get_or bytes 0 0) n m)) → IsFront puts (fronts.Put (1 + j + k)) bytes old new
+two_front puts [] n m j k old new len form s some few lt s2 some2 few2 lt2 put = absurd (omega arith)
+two_front puts (op ∷ rest) n m j k old new len form s some few lt s2 some2 few2 lt2 put =
     let one : length (take j rest) ≡ j = omega (arith, length-take j rest) in
     let t = rw (after_one j op rest) at s2 in
     let two : length (take k (drop j rest)) ≡ k = omega (arith, length-take k (drop j rest), length-drop j rest) in
@@ -101,15 +105,15 @@ two_front (op ∷ rest) n m j k old mid last new len form s some few lt s2 some2
       told = refl;
       raw = ((form, lt, lt2), refl);
       short = omega (arith, number_shortest n (take j rest) s, number_shortest m (take k (drop j rest)) t, one, two);
-      put = put ∙ rw (second, first) (append_assoc (old ++ op ∷ []) (number_bytes n) (number_bytes m) ∙ append_assoc old (op ∷ []) (number_bytes n ++ number_bytes m));
+      put = put;
     }
 
-pub byte_front : (bytes : List ℕ) (z : ℤ) (old mid new : List ℕ) → 11 ≤ length bytes → form_at (get_or bytes 0 0) ≡ Some forms.Byte → negsuc 127 ≤ℤ z → z <ℤ pos 128 → z ≡ cast_signed w8 (get_or bytes 1 0) → get_or bytes 1 0 < 256
-    → mid ≡ old ++ 0x24 ∷ [] → new ≡ mid ++ cast_unsigned w8 z ∷ [] → IsFront (fronts.Put 2) bytes old new
+pub byte_front : {A : Type 0} (puts : Raw → List A) (bytes : List ℕ) (z : ℤ) (old new : List A) → 11 ≤ length bytes → form_at (get_or bytes 0 0) ≡ Some forms.Byte → negsuc 127 ≤ℤ z → z <ℤ pos 128 → z ≡ cast_signed w8 (get_or bytes 1 0) → get_or bytes 1 0 < 256
+    → new ≡ old ++ puts (raws.Same (instrs.Byte z)) → IsFront puts (fronts.Put 2) bytes old new
 unfolding signed_byte u8
-byte_front [] z old mid new len form low high is lt first put = absurd (omega arith)
-byte_front (op ∷ []) z old mid new len form low high is lt first put = absurd (omega arith)
-byte_front (op ∷ x ∷ rest) z old mid new len form low high is lt first put =
+byte_front puts [] z old new len form low high is lt put = absurd (omega arith)
+byte_front puts (op ∷ []) z old new len form low high is lt put = absurd (omega arith)
+byte_front puts (op ∷ x ∷ rest) z old new len form low high is lt put =
     let same : z ≡ cast_signed w8 (x % 256) = let e : x % 256 ≡ x = omega arith in rw e is in
     record {
       instr = raws.Same (instrs.Byte z);
@@ -119,13 +123,13 @@ byte_front (op ∷ x ∷ rest) z old mid new len form low high is lt first put =
       raw = ((low, high), refl);
       short = omega arith;
       told = refl;
-      put = put ∙ rw first (append_assoc old (0x24 ∷ []) (cast_unsigned w8 z ∷ []));
+      put = put;
     }
 
-pub branch_front : (bytes : List ℕ) (z : ℤ) (old : List ℕ) → 11 ≤ length bytes → form_at (get_or bytes 0 0) ≡ Some forms.Branch → s24.spells z (take 3 (take (length bytes - 1) (drop 1 bytes)))
-    → IsFront (fronts.Branch (get_or bytes 0 0) z) bytes old old
-branch_front [] z old len form s = absurd (omega arith)
-branch_front (op ∷ rest) z old len form s =
+pub branch_front : {A : Type 0} (puts : Raw → List A) (bytes : List ℕ) (z : ℤ) (old : List A) → 11 ≤ length bytes → form_at (get_or bytes 0 0) ≡ Some forms.Branch → s24.spells z (take 3 (take (length bytes - 1) (drop 1 bytes)))
+    → puts (raws.Branch (get_or bytes 0 0) z) ≡ [] → IsFront puts (fronts.Branch (get_or bytes 0 0) z) bytes old old
+branch_front puts [] z old len form s none = absurd (omega arith)
+branch_front {A = A} puts (op ∷ rest) z old len form s none =
     record {
       instr = raws.Branch op z;
       spelled = spelled op forms.Branch (Branch op z) (take 3 rest) form (z, all_after s24.spells 1 3 z (op ∷ rest) s, refl);
@@ -134,19 +138,19 @@ branch_front (op ∷ rest) z old len form s =
       raw = form;
       short = omega arith;
       told = refl;
-      put = sym (append-nil old);
+      put = sym (append-nil old) ∙ ap (λ (l : List A). old ++ l) (sym none);
     }
 
 -- what was taken was read
-pub taken : (f : Front) (w w2 : View) (s : Option (List ℕ)) (old new : List ℕ) → IsReady (count_of f) w → w2 ≡ onward (count_of f) w → (i : IsFront f (held w) old new) → Reads (blamed instruction).reads w s w2 s (Ok (raw_of i.instr))
-taken f w w2 s old new ready is i = front_taken (blamed instruction) (raw_of i.instr) (count_of f) w w2 s instruction-exact (omega (arith, among w (count_of f) i.some ready.held)) ready i.spelled is
+pub taken : {A : Type 0} (puts : Raw → List A) (f : Front) (w w2 : View) (s : Option (List ℕ)) (old new : List A) → IsReady (count_of f) w → w2 ≡ onward (count_of f) w → (i : IsFront puts f (held w) old new) → Reads (blamed instruction).reads w s w2 s (Ok (raw_of i.instr))
+taken puts f w w2 s old new ready is i = front_taken (blamed instruction) (raw_of i.instr) (count_of f) w w2 s instruction-exact (omega (arith, among w (count_of f) i.some ready.held)) ready i.spelled is
 
 pub record Moves (i : Raw) (w w2 : View) : Type 0 where
   pub moves : w.place < w2.place
   pub passes : GoesOver (raw_len i) w w2
   pub room : w2.place ≤ limit
 
-pub passed : (f : Front) (w w2 : View) (old new : List ℕ) → IsReady (count_of f) w → w2 ≡ onward (count_of f) w → (i : IsFront f (held w) old new) → Moves i.instr w w2
-passed f w w2 old new ready is i =
+pub passed : {A : Type 0} (puts : Raw → List A) (f : Front) (w w2 : View) (old new : List A) → IsReady (count_of f) w → w2 ≡ onward (count_of f) w → (i : IsFront puts f (held w) old new) → Moves i.instr w w2
+passed puts f w w2 old new ready is i =
     let at : w2.place ≡ w.place + count_of f = ap (λ (v : View). v.place) is in
     record { moves = omega (arith, i.some); passes = (omega (arith, i.short), omega (arith, ready.before)); room = omega (arith, ready.within) }

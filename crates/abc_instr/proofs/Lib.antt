@@ -1,8 +1,8 @@
 pub mod Fronts
 pub mod Marking
-pub mod Growing
-pub mod Finding
+pub mod Numbering
 pub mod Resolved
 pub mod Weaving
 pub mod Scanned
+pub mod Aiming
 pub mod Passing

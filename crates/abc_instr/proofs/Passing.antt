@@ -29,7 +29,7 @@ use Rattle.abc_instr.proofs.Weaving.{woven_is}
 abbrev moved_starts : List (Raw × ℕ) → List ℕ
 moved_starts xs = starts 0 (raws_sized (instrs_in xs))
 
-raws_starts : (at : ℕ) (xs : List (Raw × ℕ)) → starts at (raws_in xs) ≡ starts at xs
+pub raws_starts : (at : ℕ) (xs : List (Raw × ℕ)) → starts at (raws_in xs) ≡ starts at xs
 raws_starts at [] = refl
 raws_starts at (x ∷ xs) = ap (λ (l : List ℕ). at ∷ l) (raws_starts (at + x.1) xs)
 

@@ -1,5 +1,6 @@
 -- What was read and got its targets can be put.
 use Rattle.std.proofs.Common.{◌≡◌, ℕ, suc, ℤ, pos, negsuc, ◌+◌, ◌-◌, ◌*◌, ◌^◌, ◌<◌, ◌≤◌, List, [], ◌∷◌, ◌++◌, length, nat_eq, false, Ok, Some, None, refl, ap, subst, ◌∙◌, arith}
+use Rattle.std.proofs.lemmas.List.{length-map}
 use Rattle.std.proofs.lemmas.List.Quantifiers.{position-Some}
 use Rattle.std.specs.declared.option.Option.{Option}
 use Rattle.abc_format.specs.Part.{◌>>=◌}
@@ -11,7 +12,8 @@ use Rattle.abc_tables.specs.Ready.{AllCanSpell, AllUpTo, CanSpell, IsReady}
 use Rattle.abc_tables.specs.Targets.{at_start, cases_of, found, instr_of, instrs_of, target_of}
 use Rattle.abc_instr.specs.declared.raw.RawInstr.{RawInstr as Raw}
 use Rattle.abc_instr.specs.declared.raw.RawInstr.TheVariants as raws
-use Rattle.abc_instr.specs.Offsets.{AreRaw, IsRaw, has_targets, pieces_of, raw_len, raw_of, raws_len}
+use Rattle.abc_instr.specs.Offsets.{AreRaw, IsRaw, has_targets, raw_len, raw_of, raws_len}
+use Rattle.abc_instr.specs.Scanning.{instrs_in, raws_in}
 
 -- ---- targets
 
@@ -80,25 +82,30 @@ instr_set ss here next n (raws.Switch z zs) j count e raw =
 record AllSet (n : ℕ) (is : List Raw) (js : List Instr) : Type 0 where
   can : AllCanSpell n js
   len : code_len js ≡ raws_len is
+  number : length js ≡ length is
 
-instrs_set : (ss : List ℕ) (here n : ℕ) (is : List Raw) (os : List ℕ) (js : List Instr) → length ss ≡ suc n → length os ≡ suc (length is) → instrs_of ss here (pieces_of is os) ≡ Ok js → AreRaw is → AllSet n is js
-instrs_set ss here n [] os js count even e raw = let same : [] ≡ js = cc in subst (AllSet n []) same (record { can = tt; len = refl })
-instrs_set ss here n (i ∷ is) [] js count even e raw = absurd (omega arith)
-instrs_set ss here n (i ∷ is) (o ∷ []) js count even e raw = absurd (omega arith)
-instrs_set ss here n (i ∷ is) (o ∷ p ∷ os) js count even e raw =
-    let next = here + (p - o) in
-    let more = instrs_of ss next (pieces_of is (p ∷ os)) in
-    let a = bind_ok (instr_of ss here next (raw_of i)) (λ x. more >>= λ xs. Ok (x ∷ xs)) js e in
-    let b = bind_ok more (λ xs. Ok (a.0 ∷ xs)) js a.2 in
-    let one = instr_set ss here next n i a.0 count a.1 raw.0 in
-    let rest = instrs_set ss next n is (p ∷ os) b.0 count (omega arith) b.1 raw.1 in
+instrs_set : (ss : List ℕ) (here n : ℕ) (xs : List (Raw × ℕ)) (js : List Instr) → length ss ≡ suc n → instrs_of ss here (raws_in xs) ≡ Ok js → AreRaw (instrs_in xs) → AllSet n (instrs_in xs) js
+instrs_set ss here n [] js count e raw = let same : [] ≡ js = cc in subst (AllSet n []) same (record { can = tt; len = refl; number = refl })
+instrs_set ss here n (x ∷ xs) js count e raw =
+    let next = here + x.1 in
+    let more = instrs_of ss next (raws_in xs) in
+    let a = bind_ok (instr_of ss here next (raw_of x.0)) (λ y. more >>= λ ys. Ok (y ∷ ys)) js e in
+    let b = bind_ok more (λ ys. Ok (a.0 ∷ ys)) js a.2 in
+    let one = instr_set ss here next n x.0 a.0 count a.1 raw.0 in
+    let rest = instrs_set ss next n xs b.0 count b.1 raw.1 in
     let same : a.0 ∷ b.0 ≡ js = let h = b.2 in cc in
-    subst (AllSet n (i ∷ is)) same (record { can = (one.can, rest.can); len = omega (arith, one.len, rest.len) })
+    subst (AllSet n (x.0 ∷ instrs_in xs)) same (record { can = (one.can, rest.can); len = omega (arith, one.len, rest.len); number = ap suc rest.number })
 
-pub resolved_ready : (ss : List ℕ) (is : List Raw) (js : List Instr) → length ss ≡ length is + 1 → length js ≡ length is → instrs_of ss 0 (pieces_of is ss) ≡ Ok js → AreRaw is → raws_len is < 2 ^ 23 → IsReady js
-resolved_ready ss is js count even e raw short =
-    let a = instrs_set ss 0 (length js) is ss js (omega arith) (omega arith) e raw in
-    record { can = a.can; short = omega (arith, a.len) }
+-- ready to be put, and as many as before
+pub record AreReady (xs : List (Raw × ℕ)) (js : List Instr) : Type 0 where
+  pub ready : IsReady js
+  pub number : length js ≡ length xs
+
+pub resolved_ready : (ss : List ℕ) (xs : List (Raw × ℕ)) (js : List Instr) → length ss ≡ length xs + 1 → instrs_of ss 0 (raws_in xs) ≡ Ok js → AreRaw (instrs_in xs) → raws_len (instrs_in xs) < 2 ^ 23 → AreReady xs js
+resolved_ready ss xs js count e raw short =
+    let a = instrs_set ss 0 (length xs) xs js (omega arith) e raw in
+    let n : length js ≡ length xs = a.number ∙ length-map xs (λ (x : Raw × ℕ). x.0) in
+    record { ready = record { can = rw n a.can; short = omega (arith, a.len) }; number = n }
 
 -- ---- one more, as a loop reads it
 

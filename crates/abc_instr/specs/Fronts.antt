@@ -9,7 +9,7 @@ use Rattle.abc_instr.specs.declared.front.Front.TheVariants as fronts
 use Rattle.abc_instr.specs.declared.raw.RawInstr.{RawInstr as Raw}
 use Rattle.abc_instr.specs.declared.raw.RawInstr.TheVariants as raws
 use Rattle.abc_instr.specs.Offsets.{IsRaw, raw_len, raw_of}
-use Rattle.abc_instr.specs.Scanning.{jump_in, plain_bytes}
+use Rattle.abc_instr.specs.Scanning.{jump_in}
 
 -- how many bytes spell it
 abbrev pub count_of : Front → ℕ
@@ -21,8 +21,8 @@ abbrev pub branch_in : Front → Option Raw
 branch_in (fronts.Put n) = None
 branch_in (fronts.Branch op z) = Some (raws.Branch op z)
 
--- The first bytes, at most 11, spell an instruction: it is told where it has targets, and was put where it has none.
-pub record IsFront (f : Front) (bytes old new : List ℕ) : Type 0 where
+-- The first bytes, at most 11, spell an instruction: it is told where it has targets, and was put, as `puts` says, where it has none.
+pub record IsFront {A : Type 0} (puts : Raw → List A) (f : Front) (bytes : List ℕ) (old new : List A) : Type 0 where
   pub instr : Raw
   pub spelled : instruction.spells (raw_of instr) (take (count_of f) bytes)
   pub some : 0 < count_of f
@@ -30,14 +30,14 @@ pub record IsFront (f : Front) (bytes old new : List ℕ) : Type 0 where
   pub raw : IsRaw instr
   pub short : raw_len instr ≤ count_of f
   pub told : branch_in f ≡ jump_in instr
-  pub put : new ≡ old ++ plain_bytes instr
+  pub put : new ≡ old ++ puts instr
 
 -- the instruction at the front, or nothing
-abbrev pub PutsFront : Option Front → List ℕ → List ℕ → List ℕ → Type 0
-PutsFront (Some f) bytes old new = IsFront f bytes old new
-PutsFront None bytes old new = new ≡ old
+abbrev pub PutsFront : {A : Type 0} → (Raw → List A) → Option Front → List ℕ → List A → List A → Type 0
+PutsFront puts (Some f) bytes old new = IsFront puts f bytes old new
+PutsFront puts None bytes old new = new ≡ old
 
 -- the instruction at hand was passed by, or nothing changed
-abbrev pub TakesFront : Option Front → View → View → List ℕ → List ℕ → Type 0
-TakesFront (Some f) w w2 old new = IsReady (count_of f) w × (w2 ≡ onward (count_of f) w) × IsFront f (held w) old new
-TakesFront None w w2 old new = (w2 ≡ w) × (new ≡ old)
+abbrev pub TakesFront : {A : Type 0} → (Raw → List A) → Option Front → View → View → List A → List A → Type 0
+TakesFront puts (Some f) w w2 old new = IsReady (count_of f) w × (w2 ≡ onward (count_of f) w) × IsFront puts f (held w) old new
+TakesFront puts None w w2 old new = (w2 ≡ w) × (new ≡ old)

@@ -9,7 +9,6 @@ use Rattle.abc_tables.specs.Instructions.{RawInstr, Same, Branch, Switch}
 use Rattle.abc_tables.specs.Opcodes.{form_at}
 use Rattle.abc_tables.specs.Ready.{CanSpell}
 use Rattle.abc_tables.specs.Starts.{size}
-use Rattle.abc_instr.specs.declared.pieces.Pieces.{Pieces}
 use Rattle.abc_instr.specs.declared.raw.RawInstr.{RawInstr as Raw}
 use Rattle.abc_instr.specs.declared.raw.RawInstr.TheVariants as raws
 
@@ -54,16 +53,6 @@ IsRaw (raws.Switch z zs) = (0 < length zs) × (length zs ≤ 2 ^ 30)
 abbrev pub AreRaw : List Raw → Type 0
 AreRaw [] = Unit {0}
 AreRaw (i ∷ is) = IsRaw i × AreRaw is
-
--- each with its length, the difference of two starts
-abbrev pub pieces_of : List Raw → List ℕ → List (RawInstr × ℕ)
-pieces_of [] ss = []
-pieces_of (i ∷ is) [] = []
-pieces_of (i ∷ is) (s ∷ []) = []
-pieces_of (i ∷ is) (s ∷ t ∷ ss) = (raw_of i, t - s) ∷ pieces_of is (t ∷ ss)
-
-abbrev pub pieces_in : Pieces → List (RawInstr × ℕ)
-pieces_in p = pieces_of p.instrs.items p.starts
 
 -- a result whose value is seen as another
 abbrev pub seen : {A B E : Type 0} → (A → B) → Result A E → Result B E

@@ -1,6 +1,9 @@
 ghost use Rattle.std.specs.Prelude.{◌≡◌, ◌≤◌, ℕ, List, None, Some, IfOk, OnErr, get_or, length};
 ghost use Rattle.abc_tables.specs.Opcodes.{form_at};
+ghost use Rattle.abc_tables.specs.declared.code.Instr.{Instr};
 ghost use Rattle.abc_instr.specs.Fronts.{IsFront, PutsFront, TakesFront, count_of};
+ghost use Rattle.abc_instr.specs.Reading.{done_in};
+ghost use Rattle.abc_instr.specs.Scanning.{plain_bytes};
 
 use crate::put::BYTE;
 use abc_base::NoMemory;
@@ -8,7 +11,7 @@ use abc_tables::{Form, U30_LIMIT, opcode};
 use abc_varint::{Window, front_number, front_s24, put_u8, put_u30};
 
 /// How many bytes have to be at hand: an opcode, and two numbers of five bytes.
-const ROOM: u32 = 11;
+pub(crate) const ROOM: u32 = 11;
 
 /// An instruction at the front of some bytes.
 #[derive(Clone, Copy, Debug)]
@@ -22,7 +25,7 @@ pub enum Front {
 impl Front {
     /// How many bytes spell it.
     #[inline(always)]
-    fn count(self) -> usize
+    pub fn count(self) -> usize
         ensures { result ≡ count_of self }
     {
         match self {
@@ -37,7 +40,7 @@ impl Front {
 fn put_plain_front(bytes: &[u8], plain: &mut Vec<u8>) -> Result<Option<Front>, NoMemory>
     requires room { 11 ≤ length bytes.now }
     requires form { form_at (get_or bytes.now 0 0) ≡ Some Form.Plain }
-    ensures { IfOk result (λ f. PutsFront f bytes.now plain.old.items plain.new.items) }
+    ensures { IfOk result (λ f. PutsFront plain_bytes f bytes.now plain.old.items plain.new.items) }
 {
     put_u8(bytes[0], plain)?;
     Ok(Some(Front::Put(1)))
@@ -48,7 +51,7 @@ fn put_plain_front(bytes: &[u8], plain: &mut Vec<u8>) -> Result<Option<Front>, N
 fn put_one_front(bytes: &[u8], plain: &mut Vec<u8>) -> Result<Option<Front>, NoMemory>
     requires room { 11 ≤ length bytes.now }
     requires form { form_at (get_or bytes.now 0 0) ≡ Some Form.One }
-    ensures { IfOk result (λ f. PutsFront f bytes.now plain.old.items plain.new.items) }
+    ensures { IfOk result (λ f. PutsFront plain_bytes f bytes.now plain.old.items plain.new.items) }
 {
     let Some((n, count)) = front_number(&bytes[1..]) else {
         return Ok(None);
@@ -66,7 +69,7 @@ fn put_one_front(bytes: &[u8], plain: &mut Vec<u8>) -> Result<Option<Front>, NoM
 fn put_two_front(bytes: &[u8], plain: &mut Vec<u8>) -> Result<Option<Front>, NoMemory>
     requires room { 11 ≤ length bytes.now }
     requires form { form_at (get_or bytes.now 0 0) ≡ Some Form.Two }
-    ensures { IfOk result (λ f. PutsFront f bytes.now plain.old.items plain.new.items) }
+    ensures { IfOk result (λ f. PutsFront plain_bytes f bytes.now plain.old.items plain.new.items) }
 {
     let Some((n, first)) = front_number(&bytes[1..]) else {
         return Ok(None);
@@ -88,7 +91,7 @@ fn put_two_front(bytes: &[u8], plain: &mut Vec<u8>) -> Result<Option<Front>, NoM
 fn put_byte_front(bytes: &[u8], plain: &mut Vec<u8>) -> Result<Option<Front>, NoMemory>
     requires room { 11 ≤ length bytes.now }
     requires form { form_at (get_or bytes.now 0 0) ≡ Some Form.Byte }
-    ensures { IfOk result (λ f. PutsFront f bytes.now plain.old.items plain.new.items) }
+    ensures { IfOk result (λ f. PutsFront plain_bytes f bytes.now plain.old.items plain.new.items) }
 {
     let x = bytes[1].cast_signed();
     put_u8(BYTE, plain)?;
@@ -98,10 +101,11 @@ fn put_byte_front(bytes: &[u8], plain: &mut Vec<u8>) -> Result<Option<Front>, No
 
 /// Gives a branch.
 #[inline(always)]
-fn branch_front(bytes: &[u8]) -> Front
+pub fn branch_front(bytes: &[u8]) -> Front
     requires room { 11 ≤ length bytes.now }
     requires form { form_at (get_or bytes.now 0 0) ≡ Some Form.Branch }
-    ensures { (old : List ℕ) → IsFront result bytes.now old old }
+    ensures put { (old : List ℕ) → IsFront plain_bytes result bytes.now old old }
+    ensures done { (old : List Instr) → IsFront done_in result bytes.now old old }
 {
     Front::Branch(bytes[0], front_s24(&bytes[1..]))
 }
@@ -112,7 +116,7 @@ fn branch_front(bytes: &[u8]) -> Front
 #[tactic(auto, unfolding(abc_tables::specs::Opcodes::form_at))]
 fn put_front(bytes: &[u8], plain: &mut Vec<u8>) -> Result<Option<Front>, NoMemory>
     requires { 11 ≤ length bytes.now }
-    ensures { IfOk result (λ f. PutsFront f bytes.now plain.old.items plain.new.items) }
+    ensures { IfOk result (λ f. PutsFront plain_bytes f bytes.now plain.old.items plain.new.items) }
 {
     let Some(info) = opcode(bytes[0]) else {
         return Ok(None);
@@ -131,7 +135,7 @@ fn put_front(bytes: &[u8], plain: &mut Vec<u8>) -> Result<Option<Front>, NoMemor
 /// past it. `None`, and nothing changed, where that can't be done.
 #[inline(always)]
 pub(crate) fn take_front(w: &mut Window, plain: &mut Vec<u8>) -> Result<Option<Front>, NoMemory>
-    ensures taken { IfOk result (λ f. TakesFront f w.old w.new plain.old.items plain.new.items) }
+    ensures taken { IfOk result (λ f. TakesFront plain_bytes f w.old w.new plain.old.items plain.new.items) }
     ensures same { OnErr result (w.new ≡ w.old) }
 {
     if !w.is_ready(ROOM) {

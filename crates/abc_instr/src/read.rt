@@ -1,15 +1,17 @@
-ghost use Rattle.std.specs.Prelude.{◌≡◌, ◌≤◌, ◌<◌, ◌^◌, ◌+◌, None, IfOk, length};
+ghost use Rattle.std.specs.Prelude.{◌≡◌, ◌≤◌, ◌<◌, ◌^◌, ◌+◌, None, All, IfOk, OnOk, length};
 ghost use Rattle.abc_tables.specs.Code.{code as code_part};
 ghost use Rattle.abc_tables.specs.Instructions.{code_length};
 ghost use Rattle.abc_tables.specs.Ready.{IsReady};
 ghost use Rattle.abc_tables.specs.Starts.{IsRising};
 ghost use Rattle.abc_varint.specs.Answers.{Answers};
 ghost use Rattle.abc_varint.specs.Reads.{ReadsPart};
+ghost use Rattle.abc_instr.specs.Reading.{IsAim, aimed, with_offsets};
+ghost use Rattle.abc_instr.specs.Resolving.{Resolves};
 
-use crate::pieces::{Pieces, read_pieces};
+use crate::reading::{Reading, read_pieces};
 use crate::resolve::{Missed, resolve_all};
-use abc_base::Source;
-use abc_tables::Code;
+use abc_base::{Source, Table};
+use abc_tables::{Code, Instr};
 use abc_varint::{ReadError, Reason, Window, read_u30};
 use std::alloc::Global;
 
@@ -33,28 +35,39 @@ pub fn read_length<S: Source>(w: &mut Window, source: &mut S) -> Result<u32, Rea
     Ok(length)
 }
 
-/// Code, as `read_code` reads it.
+/// Gives the instructions that were read their targets, and takes them out. The starts stay.
+fn take_instrs(alloc: Global, reading: &mut Reading) -> Result<Table<Instr>, Missed>
+    requires { All (IsAim (length (reading.old).instrs)) (reading.old).aims.items }
+    ensures value { Resolves (aimed (reading.old).starts (reading.old).aims.items (reading.old).instrs) result }
+    ensures starts { (reading.new).starts ≡ (reading.old).starts }
+{
+    resolve_all(alloc, &reading.starts, &reading.aims, &mut reading.instrs)?;
+    let instrs = reading.instrs.move_out(alloc)?;
+    Ok(instrs)
+}
+
+/// Reads code, as `read_code` does, in memory that serves one code after the other. Gives the instructions, and leaves
+/// their starts in the reading.
 #[tactic(auto, unfolding(abc_tables::specs::Code::code, abc_tables::specs::Code::code_body, abc_tables::specs::Targets::resolve))]
-fn read_whole<S: Source>(alloc: Global, w: &mut Window, source: &mut S) -> Result<Code, ReadError>
+pub fn read_code_within<S: Source>(
+    alloc: Global,
+    w: &mut Window,
+    source: &mut S,
+    reading: &mut Reading,
+) -> Result<Table<Instr>, ReadError>
+    // The window has no end.
     requires { w.old.end ≡ 2 ^ 25 }
-    ensures value { ReadsPart S.left S.faults code_part w.old source.old w.new source.new result }
-    ensures rising { IfOk result (λ c. IsRising c.offsets) }
-    ensures count { IfOk result (λ c. length c.offsets ≡ length c.instrs + 1) }
-    ensures few { IfOk result (λ c. length c.offsets < 2 ^ 32) }
-    ensures ready { IfOk result (λ c. IsReady c.instrs) }
+    ensures value { ReadsPart S.left S.faults code_part w.old source.old w.new source.new (with_offsets result (reading.new).starts) }
+    ensures rising { OnOk result (IsRising (reading.new).starts) }
+    ensures count { IfOk result (λ is. length (reading.new).starts ≡ length is + 1) }
+    ensures few { OnOk result (length (reading.new).starts < 2 ^ 32) }
+    ensures ready { IfOk result IsReady }
 {
     let length = read_length(w, source)?;
     let first = w.place();
-    let pieces = read_pieces(alloc, w, source, length)?;
-    let Pieces {
-        instrs: raws,
-        starts,
-    } = pieces;
-    match resolve_all(alloc, &starts, raws) {
-        Ok(instrs) => Ok(Code {
-            instrs,
-            offsets: starts,
-        }),
+    read_pieces(alloc, w, source, length, reading)?;
+    match take_instrs(alloc, reading) {
+        Ok(instrs) => Ok(instrs),
         Err(Missed::Target(at)) => Err(ReadError::Refused {
             place: first + at,
             reason: Reason::Target,
@@ -83,5 +96,12 @@ pub fn read_code<S: Source>(
     ensures ready { IfOk result (λ c. IsReady c.instrs) }
 {
     let _place = w.place();
-    read_whole(alloc, w, source)
+    let mut reading = Reading::new(alloc);
+    match read_code_within(alloc, w, source, &mut reading) {
+        Ok(instrs) => Ok(Code {
+            instrs,
+            offsets: reading.starts.take(alloc),
+        }),
+        Err(e) => Err(e),
+    }
 }

@@ -1,12 +1,17 @@
-ghost use Rattle.std.specs.Prelude.{◌≡◌, ◌≤◌, ◌<◌, ◌+◌, ◌^◌, All, IfOk, get_or, length, nat_eq};
+ghost use Rattle.std.specs.Prelude.{◌≡◌, ◌≤◌, ◌<◌, ◌+◌, ◌^◌, All, Some, length, nat_eq};
 ghost use Rattle.std.specs.List.{position};
 ghost use Rattle.abc_tables.specs.Starts.{IsRising};
-ghost use Rattle.abc_tables.specs.Targets.{target_of, found, cases_of, instr_of, instrs_of};
-ghost use Rattle.abc_instr.specs.Offsets.{raw_of, pieces_of};
+ghost use Rattle.abc_tables.specs.Targets.{target_of, found, cases_of, instr_of};
+ghost use Rattle.abc_varint.specs.Reads.{stored};
+ghost use Rattle.abc_instr.specs.Offsets.{raw_of};
+ghost use Rattle.abc_instr.specs.Reading.{IsAim, aimed};
 ghost use Rattle.abc_instr.specs.Resolving.{Resolves};
+ghost use Rattle.abc_instr.specs.Scanning.{jump_in};
 ghost use Rattle.abc_instr.specs.declared.resolve.Missed.TheVariants as missed;
 
 use crate::raw::RawInstr;
+use crate::reading::Aim;
+use crate::starts::Starts;
 use abc_base::{NoMemory, Table};
 use abc_tables::Instr;
 use std::alloc::Global;
@@ -40,24 +45,20 @@ pub fn number_of(starts: &[u32], place: u32) -> Option<u32>
 }
 
 /// The number of the instruction, or of the end, at an offset from a base.
-fn target_at(starts: &[u32], base: u32, offset: i32) -> Option<u32>
-    requires rising { IsRising starts.now }
-    requires few { length starts.now < 2 ^ 32 }
-    requires base { base ≤ 2 ^ 24 }
+fn target_at(starts: &Starts, base: u32, offset: i32) -> Option<u32>
+    requires { base ≤ 2 ^ 24 }
     ensures { result ≡ target_of starts.now base offset }
 {
     let place = base as i64 + offset as i64;
     if place < 0 {
         return None;
     }
-    number_of(starts, place as u32)
+    starts.number_of(place as u32)
 }
 
 /// The number of the instruction, or of the end, at an offset from a base, which stands at a place.
-fn resolve_at(starts: &[u32], base: u32, offset: i32, place: u32) -> Result<u32, Missed>
-    requires rising { IsRising starts.now }
-    requires few { length starts.now < 2 ^ 32 }
-    requires base { base ≤ 2 ^ 24 }
+fn resolve_at(starts: &Starts, base: u32, offset: i32, place: u32) -> Result<u32, Missed>
+    requires { base ≤ 2 ^ 24 }
     ensures { Resolves (found place (target_of starts.now base offset)) result }
 {
     match target_at(starts, base, offset) {
@@ -69,14 +70,12 @@ fn resolve_at(starts: &[u32], base: u32, offset: i32, place: u32) -> Result<u32,
 /// The numbers for the offsets of the cases, the last of which stands just before `next`.
 fn resolve_cases(
     alloc: Global,
-    starts: &[u32],
+    starts: &Starts,
     base: u32,
     next: u32,
     cases: &Table<i32>,
 ) -> Result<Table<u32>, Missed>
-    requires rising { IsRising starts.now }
-    requires few { length starts.now < 2 ^ 32 }
-    requires base { base ≤ 2 ^ 24 }
+    requires { base ≤ 2 ^ 24 }
     ensures { Resolves (cases_of starts.now base next cases.now) result }
 {
     let mut targets = Table::new(alloc);
@@ -90,54 +89,42 @@ fn resolve_cases(
     Ok(targets)
 }
 
-/// The instruction from `here` to `next`, with numbers for its offsets.
-fn resolve_instr(
-    alloc: Global,
-    starts: &[u32],
-    here: u32,
-    next: u32,
-    raw: RawInstr,
-) -> Result<Instr, Missed>
-    requires rising { IsRising starts.now }
-    requires few { length starts.now < 2 ^ 32 }
-    requires here { here ≤ 2 ^ 24 }
-    requires next { next ≤ 2 ^ 24 }
-    ensures { Resolves (instr_of starts.now here next (raw_of raw)) result }
+/// An instruction with targets, with numbers for its offsets.
+fn resolve_instr(alloc: Global, starts: &Starts, aim: &Aim) -> Result<Instr, Missed>
+    requires waits { jump_in (aim.now).instr ≡ Some (aim.now).instr }
+    requires here { (aim.now).here ≤ 2 ^ 24 }
+    requires next { (aim.now).next ≤ 2 ^ 24 }
+    ensures { Resolves (instr_of starts.now (aim.now).here (aim.now).next (raw_of (aim.now).instr)) result }
 {
-    match raw {
-        RawInstr::Same(instr) => Ok(instr),
+    let here = aim.here;
+    let next = aim.next;
+    match &aim.instr {
+        RawInstr::Same(_) => Ok(Instr::Plain(0)),
         RawInstr::Branch(op, offset) => {
-            let target = resolve_at(starts, next, offset, here + 1)?;
-            Ok(Instr::Branch(op, target))
+            let target = resolve_at(starts, next, *offset, here + 1)?;
+            Ok(Instr::Branch(*op, target))
         }
         RawInstr::Switch { default, cases } => {
-            let default = resolve_at(starts, here, default, here + 1)?;
-            let cases = resolve_cases(alloc, starts, here, next, &cases)?;
+            let default = resolve_at(starts, here, *default, here + 1)?;
+            let cases = resolve_cases(alloc, starts, here, next, cases)?;
             Ok(Instr::Switch { default, cases })
         }
     }
 }
 
-/// The instructions that start so, with numbers for all offsets.
+/// Puts each instruction with targets, with numbers for its offsets, in the place of its blank.
 pub fn resolve_all(
     alloc: Global,
-    starts: &Table<u32>,
-    raws: Vec<RawInstr>,
-) -> Result<Table<Instr>, Missed>
-    requires rising { IsRising starts.now }
-    requires few { length starts.now < 2 ^ 32 }
-    requires count { length starts.now ≡ length raws.items + 1 }
-    requires first { get_or starts.now 0 0 ≡ 0 }
-    requires small { All (λ s. s ≤ 2 ^ 24) starts.now }
-    ensures value { Resolves (instrs_of starts.now 0 (pieces_of raws.items starts.now)) result }
-    ensures count { IfOk result (λ is. length is ≡ length raws.items) }
+    starts: &Starts,
+    aims: &[Aim],
+    instrs: &mut Table<Instr>,
+) -> Result<(), Missed>
+    requires { All (IsAim (length instrs.old)) aims.now }
+    ensures { Resolves (aimed starts.now aims.now instrs.old) (stored result instrs.new) }
 {
-    let mut instrs = Table::new(alloc);
-    for raw in raws {
-        let here = *starts.get(instrs.len());
-        let next = *starts.get(instrs.len() + 1);
-        let instr = resolve_instr(alloc, starts.as_slice(), here, next, raw)?;
-        instrs.push(instr)?;
+    for aim in aims {
+        let instr = resolve_instr(alloc, starts, aim)?;
+        instrs.set(aim.index, instr);
     }
-    Ok(instrs)
+    Ok(())
 }

@@ -1,4 +1,4 @@
-ghost use Rattle.std.specs.Prelude.{◌≡◌, ◌≤◌, ◌-◌, ◌^◌, min};
+ghost use Rattle.std.specs.Prelude.{◌≡◌, ◌≤◌, ◌+◌, ◌-◌, ◌*◌, ◌^◌, min};
 ghost use Rattle.abc_tables.specs.CodeBytes.{code_len as total, instr_len as len_of, number_len};
 
 use crate::code::Instr;
@@ -23,8 +23,17 @@ pub fn count_len(n: usize) -> u64
     len_u30(n as u32) as u64
 }
 
+/// How many bytes a switch of so many cases has in the canonical code. It is 2^64 - 1 where that is greater.
+fn switch_len(count: usize) -> u64
+    ensures { result ≡ min (1 + 3 + number_len (count - 1) + 3 * count) (2 ^ 64 - 1) }
+{
+    let rest = 4 + count_len(count.saturating_sub(1));
+    rest.saturating_add((count as u64).saturating_mul(3))
+}
+
 /// How many bytes the instruction has in the canonical code: one for its opcode, and the fewest for each operand, where
 /// a number of 2^30 or more counts five. It is 2^64 - 1 where that is greater.
+#[inline(always)]
 pub fn instr_len(instr: &Instr) -> u64
     ensures { result ≡ min (len_of instr.now) (2 ^ 64 - 1) }
 {
@@ -33,11 +42,7 @@ pub fn instr_len(instr: &Instr) -> u64
         Instr::One(_, n) => 1 + len_u30(*n) as u64,
         Instr::Two(_, n, m) => 1 + len_u30(*n) as u64 + len_u30(*m) as u64,
         Instr::Branch(_, _) => 4,
-        Instr::Switch { cases, .. } => {
-            let count = cases.len();
-            let rest = 4 + count_len(count.saturating_sub(1));
-            rest.saturating_add((count as u64).saturating_mul(3))
-        }
+        Instr::Switch { cases, .. } => switch_len(cases.len()),
         Instr::Byte(_) => 2,
         Instr::Short(x) => 1 + len_u32(x.cast_unsigned() as u32) as u64,
         Instr::ScopeObject(_) => 2,

@@ -10,10 +10,9 @@ use Rattle.abc_text.specs.declared.word.Word.{Word}
 use Rattle.abc_text.specs.declared.word.Word.TheVariants as words
 use Rattle.abc_text.proofs.Bools.{and_true, if_is, split_bool}
 use Rattle.abc_tables.specs.Opcodes.{name_at, named}
-use Rattle.abc_tables.specs.Rows.{before_blank}
 use Rattle.abc_rowparts.specs.Wordlines.{lookup}
 use Rattle.abc_lines.specs.Texts.{before_colon, if_name, instruction_in, line_words, or_else, word_of}
-use Rattle.abc_tokens.specs.Names.{either_of, first_named, opcode_from, opcode_in, unpadded}
+use Rattle.abc_tokens.specs.Names.{before_blank, either_of, first_named, opcode_from, opcode_in, unpadded}
 
 -- ---- a table of kinds
 

@@ -1,13 +1,13 @@
 -- Finding a name among some.
-use Rattle.std.specs.Prelude.{◌≡◌, ℕ, zero, suc, Bool, List, [], ◌∷◌, Some, None, if◌then◌else◌}
+use Rattle.std.specs.Prelude.{◌≡◌, ℕ, zero, suc, Bool, List, [], ◌∷◌, Some, None, nat_eq, take, if◌then◌else◌}
 use Rattle.std.specs.declared.option.Option.{Option}
 use Rattle.std.specs.declared.hash.FoldHasher.{FoldHasher}
 use Rattle.std.specs.declared.hash.BuildHasherDefault.{BuildHasherDefault}
 use Rattle.std.specs.Borrow.{Bor}
+use Rattle.std.specs.List.{position_or_len}
 use Rattle.std.specs.Str.{bytes_eq}
 use Rattle.indexmap.specs.IndexMap.{IndexMap, get_by}
 use Rattle.abc_tables.specs.Opcodes.{name_at, named}
-use Rattle.abc_tables.specs.Rows.{before_blank}
 
 abbrev pub is_named : List ℕ → Bor (List ℕ) → Bool
 is_named name key = bytes_eq key.now name
@@ -46,6 +46,10 @@ opcode_from zero op name = None
 opcode_from (suc k) op name = first_named (name_at op) op name (opcode_from k (suc op) name)
 
 -- ---- words in a table, padded with blanks
+
+-- the bytes before the first blank, or all
+abbrev pub before_blank : List ℕ → List ℕ
+before_blank name = take (position_or_len (λ b. nat_eq b 0x20) name) name
 
 -- the row's word and its kind
 abbrev pub unpadded : {K : Type 0} → List ℕ × K → List ℕ × K

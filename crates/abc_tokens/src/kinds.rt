@@ -1,7 +1,7 @@
 ghost use Rattle.std.specs.Prelude.{◌≡◌, map};
 ghost use Rattle.std.specs.Str.{bytes_eq};
 ghost use Rattle.abc_rowparts.specs.Wordlines.{lookup};
-ghost use Rattle.abc_tables.specs.Rows.{before_blank as unblanked};
+ghost use Rattle.abc_tokens.specs.Names.{before_blank as unblanked};
 ghost use Rattle.abc_tokens.specs.Names.{unpadded};
 
 /// The front up to the first blank.

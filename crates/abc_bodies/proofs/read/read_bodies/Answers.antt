@@ -12,8 +12,7 @@ use Rattle.abc_bodies.proofs.read.read_bodies.Goals as goal
 
 pub returns-in-Ok-clause-value : goal.returns-in-Ok-clause-value
 returns-in-Ok-clause-value g c =
-    let e = c.in-Ok.ensures.value in
-    rw c.new.ensures (
+    let e = c.in-Ok.ensures.value in (
       fills_ok c.args.abc.now c.sizes_of-sizes.result c.sizes_of-sizes.ensures c.args.w.now (g.S.Source.left c.args.source.now) c.read_all.new.w (g.S.Source.left c.read_all.new.source) (c.in-Ok.found, c.in-Ok.places) e.0,
       λ err k. absurd (let h = e.1 err k in cc),
       e.2,
@@ -29,7 +28,6 @@ returns-in-Ok-clause-answers g c =
     let w2 = c.read_all.new.w in
     let s2 = g.S.Source.left c.read_all.new.source in
     let r : Result (Abc × List (List ℕ)) ReadError = Ok (with_bodies abc (c.in-Ok.found, c.in-Ok.places)) in
-    rw c.new.ensures
     (answers (bodies abc) (bodies-exact abc) w w2 s s2 r (omega (arith, c.place.ensures.is, c.place.ensures.bound))
     (fills_ok abc c.sizes_of-sizes.result c.sizes_of-sizes.ensures w s w2 s2 (c.in-Ok.found, c.in-Ok.places) c.in-Ok.ensures.value.0))
 

@@ -30,9 +30,9 @@ pub loop-preserved : goal.loop-preserved
 loop-preserved g c =
     let e = c.in_ok-body.ensures.value in
     record {
-      collecting = rw (c.set.ensures, c.in_ok-push.ensures.ok, c.in_ok-push-2.ensures.ok)
+      collecting = rw (c.set.ensures, c.in_ok-push.ensures.ok, c.in_ok-push-2.ensures.ok, c.as_slice.ensures)
           (collects c.args.sizes.now c.args.count c.args.w.now (g.S.Source.left c.args.source.now) (c.args.count - c.loop.counter) (c.args.count - (c.loop.counter + 1)) c.loop.has_body c.loop.bodies c.loop.places
-          c.loop.w (g.S.Source.left c.loop.source) c.read_body.new.w (g.S.Source.left c.read_body.new.source) (c.in_ok-body.body, c.in_ok-body.starts) (omega arith) c.loop.invariant.collecting e.0 c.in_ok-body.ensures.free c.in_ok-body.ensures.count);
+          c.loop.w (g.S.Source.left c.loop.source) c.read_body.new.w (g.S.Source.left c.read_body.new.source) (c.in_ok-body.body, c.read_body.new.reading.starts) (omega arith) c.loop.invariant.collecting e.0 c.in_ok-body.ensures.free c.in_ok-body.ensures.count);
       later = omega (arith, e.2, c.loop.invariant.later);
       ready = rw c.in_ok-push.ensures.ok (All-push IsReadyBody c.loop.bodies c.in_ok-body.body c.loop.invariant.ready c.in_ok-body.ensures.ready);
     }

@@ -18,7 +18,7 @@ returns-in-Some-Put-clause-value g c =
     let t = rw c.in-Some-Put.is at c.in_ok-take_front.ensures.taken in
     let front = t.2 in
     let none : jump_in front.instr ≡ None = sym front.told ∙ ap branch_in c.in-Some-Put.field-0-is in
-    let moves = passed f _ _ _ _ t.0 t.1 front in
+    let moves = passed plain_bytes f _ _ _ _ t.0 t.1 front in
     record {
       instr = front.instr;
       moves = moves.moves;
@@ -28,7 +28,7 @@ returns-in-Some-Put-clause-value g c =
       adds = record { plain = front.put; jumps = rw none (sym (append-nil c.args.self.now.jumps.items)) };
       marks = refl;
       end_is = omega (arith, c.len.ensures, c.len-before.ensures, ap length front.put, length-append c.args.self.now.plain.items (plain_bytes front.instr), plain_len front.instr front.raw none);
-      says_so = taken f _ _ _ _ _ t.0 t.1 front;
+      says_so = taken plain_bytes f _ _ _ _ _ t.0 t.1 front;
     }
 
 pub returns-in_ok-keep-in-Some-Branch-clause-value : goal.returns-in_ok-keep-in-Some-Branch-clause-value
@@ -42,7 +42,7 @@ returns-in_ok-keep-in-Some-Branch-clause-value g c =
     let fits : SFits w32 c.in-Some-Branch.offset = search rules in
     let bits = to_z-of_z w32 c.in-Some-Branch.offset fits in
     let same : front.instr ≡ jump = (kept front.instr jump some).same in
-    let moves = passed f _ _ _ _ t.0 t.1 front in
+    let moves = passed plain_bytes f _ _ _ _ t.0 t.1 front in
     record {
       instr = front.instr;
       moves = moves.moves;
@@ -55,5 +55,5 @@ returns-in_ok-keep-in-Some-Branch-clause-value g c =
       };
       marks = keep.marks;
       end_is = keep.end ∙ ap (λ (i : Raw). c.args.moved + raw_len i) (sym same);
-      says_so = taken f _ _ _ _ _ t.0 t.1 front;
+      says_so = taken plain_bytes f _ _ _ _ _ t.0 t.1 front;
     }
