@@ -8,3 +8,4 @@ pub mod Kept
 pub mod Numbered
 pub mod Classed
 pub mod Heads
+pub mod Planned

@@ -1,5 +1,8 @@
-use Rattle.abc_tidy.proofs.Tidied.{tidied_value}
-use Rattle.abc_tidy.proofs.tidying.tidied_value.Goals as goal
+use Rattle.std.proofs.Common.{refl}
+use Rattle.abc_refs.specs.Nodes.{number_in}
+use Rattle.abc_refs.specs.Renumbered.{beside, new_file}
+use Rattle.abc_tidy.proofs.Tidied.{tidied_value, with_numbers}
+use Rattle.abc_tidy.proofs.tidying.plan_of.Goals as goal
 
 pub visit_order-requires-clause-valid : goal.visit_order-requires-clause-valid
 visit_order-requires-clause-valid c = c.requires.classed.valid
@@ -26,7 +29,7 @@ numbers_of-requires c = record {
 pub returns : goal.returns
 returns c =
     let k = c.requires.classed in
-    tidied_value c.args.abc.now c.in_ok-pools.pools c.in_ok-tidied.tidied c.args.counts c.args.classed.now.heads c.args.classed.now.graph c.args.classed.now.roots c.in_ok-seen.seen c.in_ok-all.all
+    tidied_value c.args.abc.now c.in_ok-pools.pools (beside (new_file (number_in (with_numbers c.args.counts c.in_ok-all.all)) c.args.abc.now) c.in_ok-pools.pools) c.args.counts c.args.classed.now.heads c.args.classed.now.graph c.args.classed.now.roots c.in_ok-seen.seen c.in_ok-all.all
     c.requires.counts k.graph_is k.roots_are
     c.args.classed.now.classes.keys.keys c.args.classed.now.classes.classes k.alike k.valid k.classed c.in_ok-seen.ensures.classed
-    c.in_ok-seen.ensures.visited c.in_ok-all.ensures c.in_ok-pools.ensures c.in_ok-tidied.ensures
+    c.in_ok-seen.ensures.visited c.in_ok-all.ensures c.in_ok-pools.ensures refl
