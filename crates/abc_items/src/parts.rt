@@ -6,7 +6,7 @@ use crate::items::{Item, ItemKind};
 use abc_starts::{Abc, Handler, TraitInfo};
 
 /// The name of a class.
-#[tactic(auto, using(abc_graph::proofs::Past::past_end))]
+#[tactic(auto, using(abc_base::proofs::Past::past_end))]
 pub fn class_name(abc: &Abc, class: u32) -> u32
     ensures { result ≡ (instance_at abc.now class).name }
 {
@@ -17,7 +17,7 @@ pub fn class_name(abc: &Abc, class: u32) -> u32
 }
 
 /// The name of a class's base; 0 is none.
-#[tactic(auto, using(abc_graph::proofs::Past::past_end))]
+#[tactic(auto, using(abc_base::proofs::Past::past_end))]
 pub fn super_name(abc: &Abc, class: u32) -> u32
     ensures { result ≡ (instance_at abc.now class).super_name }
 {
@@ -28,7 +28,7 @@ pub fn super_name(abc: &Abc, class: u32) -> u32
 }
 
 /// The flags of a class.
-#[tactic(auto, using(abc_graph::proofs::Past::past_end))]
+#[tactic(auto, using(abc_base::proofs::Past::past_end))]
 pub fn class_flags(abc: &Abc, class: u32) -> u8
     ensures { result ≡ (instance_at abc.now class).flags }
 {
@@ -39,7 +39,7 @@ pub fn class_flags(abc: &Abc, class: u32) -> u8
 }
 
 /// The names of a class's interfaces.
-#[tactic(auto, using(abc_graph::proofs::Past::past_end))]
+#[tactic(auto, using(abc_base::proofs::Past::past_end))]
 pub fn interface_names(abc: &Abc, class: u32) -> &[u32]
     ensures { result.now ≡ (instance_at abc.now class).interfaces }
 {
@@ -49,7 +49,7 @@ pub fn interface_names(abc: &Abc, class: u32) -> &[u32]
     }
 }
 
-#[tactic(auto, using(abc_graph::proofs::Past::past_end))]
+#[tactic(auto, using(abc_base::proofs::Past::past_end))]
 fn instance_traits(abc: &Abc, class: u32) -> &[TraitInfo]
     ensures { result.now ≡ (instance_at abc.now class).traits }
 {
@@ -59,7 +59,7 @@ fn instance_traits(abc: &Abc, class: u32) -> &[TraitInfo]
     }
 }
 
-#[tactic(auto, using(abc_graph::proofs::Past::past_end))]
+#[tactic(auto, using(abc_base::proofs::Past::past_end))]
 fn class_traits(abc: &Abc, class: u32) -> &[TraitInfo]
     ensures { result.now ≡ (class_at abc.now class).traits }
 {
@@ -69,7 +69,7 @@ fn class_traits(abc: &Abc, class: u32) -> &[TraitInfo]
     }
 }
 
-#[tactic(auto, using(abc_graph::proofs::Past::past_end))]
+#[tactic(auto, using(abc_base::proofs::Past::past_end))]
 fn script_traits(abc: &Abc, script: u32) -> &[TraitInfo]
     ensures { result.now ≡ (script_at abc.now script).traits }
 {
@@ -79,7 +79,7 @@ fn script_traits(abc: &Abc, script: u32) -> &[TraitInfo]
     }
 }
 
-#[tactic(auto, using(abc_graph::proofs::Past::past_end))]
+#[tactic(auto, using(abc_base::proofs::Past::past_end))]
 fn body_traits(abc: &Abc, body: u32) -> &[TraitInfo]
     ensures { result.now ≡ (body_at abc.now body).traits }
 {
@@ -90,7 +90,7 @@ fn body_traits(abc: &Abc, body: u32) -> &[TraitInfo]
 }
 
 /// The exceptions of a body.
-#[tactic(auto, using(abc_graph::proofs::Past::past_end))]
+#[tactic(auto, using(abc_base::proofs::Past::past_end))]
 pub fn handlers(abc: &Abc, body: u32) -> &[Handler]
     ensures { result.now ≡ (body_at abc.now body).handlers }
 {
@@ -101,7 +101,7 @@ pub fn handlers(abc: &Abc, body: u32) -> &[Handler]
 }
 
 /// The return type of a method; 0 is any type.
-#[tactic(auto, using(abc_graph::proofs::Past::past_end))]
+#[tactic(auto, using(abc_base::proofs::Past::past_end))]
 pub fn return_type(abc: &Abc, method: u32) -> u32
     ensures { result ≡ (method_at abc.now method).ret }
 {
@@ -112,7 +112,7 @@ pub fn return_type(abc: &Abc, method: u32) -> u32
 }
 
 /// The types of a method's parameters.
-#[tactic(auto, using(abc_graph::proofs::Past::past_end))]
+#[tactic(auto, using(abc_base::proofs::Past::past_end))]
 pub fn parameters(abc: &Abc, method: u32) -> &[u32]
     ensures { result.now ≡ (method_at abc.now method).params }
 {

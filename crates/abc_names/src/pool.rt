@@ -5,7 +5,7 @@ use crate::named::{DefiniteName, PlainName, Spaces};
 use abc_tables::{Abc, Multiname, Namespace, NsKind};
 
 /// A string of the pool, by its index; 0 is the empty text.
-#[tactic(auto, using(abc_index::proofs::Past::past_end))]
+#[tactic(auto, using(abc_base::proofs::Past::past_end))]
 pub fn text_at(abc: &Abc, index: u32) -> &[u8]
     ensures { result.now ≡ text abc.now index }
 {
@@ -19,7 +19,7 @@ pub fn text_at(abc: &Abc, index: u32) -> &[u8]
 }
 
 /// A namespace of the pool, by its index; 0 is none.
-#[tactic(auto, using(abc_index::proofs::Past::past_end))]
+#[tactic(auto, using(abc_base::proofs::Past::past_end))]
 pub(crate) fn space_at(abc: &Abc, index: u32) -> Namespace
     ensures { result ≡ space abc.now index }
 {
@@ -37,7 +37,7 @@ pub(crate) fn space_at(abc: &Abc, index: u32) -> Namespace
 }
 
 /// A set of namespaces of the pool, by its index; 0 is none.
-#[tactic(auto, using(abc_index::proofs::Past::past_end))]
+#[tactic(auto, using(abc_base::proofs::Past::past_end))]
 pub(crate) fn set_at(abc: &Abc, index: u32) -> &[u32]
     ensures { result.now ≡ set abc.now index }
 {
@@ -138,7 +138,7 @@ fn is_plain_name(multiname: &Multiname) -> bool
 }
 
 /// A name of the pool, by its index, if there is one; 0 is none.
-#[tactic(auto, using(abc_index::proofs::Past::past_end))]
+#[tactic(auto, using(abc_base::proofs::Past::past_end))]
 fn name_at(abc: &Abc, index: u32) -> Option<&Multiname>
     ensures { MatchOption result (name abc.now index ≡ no_name) (λ n. name abc.now index ≡ n.now) }
 {

@@ -11,7 +11,7 @@ use abc_index::Table;
 
 impl Names<'_> {
     /// The name of a class.
-    #[tactic(auto, using(abc_index::proofs::Past::past_end))]
+    #[tactic(auto, using(abc_base::proofs::Past::past_end))]
     fn class_name(&self, class: u32) -> Option<DefiniteName>
         ensures { result ≡ class_name_of self.now.abc.now (instance_at self.now.abc.now class) }
     {

@@ -19,7 +19,7 @@ pub struct NameTables {
 }
 
 /// The number of the text of a string.
-#[tactic(auto, using(abc_index::proofs::Past::past_end))]
+#[tactic(auto, using(abc_base::proofs::Past::past_end))]
 pub(crate) fn number_of(numbers: &Table<u32>, string: u32) -> u32
     ensures { result ≡ number_in numbers.now string }
 {

@@ -171,7 +171,7 @@ fn is_body_too_large(body: &Body) -> bool
 }
 
 /// Whether a body of a file has a size above 65,535.
-#[tactic(auto, using(abc_items::proofs::Past::past_end))]
+#[tactic(auto, using(abc_base::proofs::Past::past_end))]
 fn is_too_large_at(abc: &Abc, body: u32) -> bool
     ensures { result ≡ is_too_large (body_at abc.now body) }
 {

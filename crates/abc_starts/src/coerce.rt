@@ -5,7 +5,7 @@ use crate::start::{Raw, Start};
 use abc_names::{Abc, HostClass, Named, OptionValue, ValueKind, space_name, text_at};
 
 /// An entry of the pool of ints; 0 is 0.
-#[tactic(auto, using(abc_names::proofs::Past::past_end))]
+#[tactic(auto, using(abc_base::proofs::Past::past_end))]
 fn int_at(abc: &Abc, index: u32) -> i32
     ensures { result ≡ int_in abc.now index }
 {
@@ -19,7 +19,7 @@ fn int_at(abc: &Abc, index: u32) -> i32
 }
 
 /// An entry of the pool of uints; 0 is 0.
-#[tactic(auto, using(abc_names::proofs::Past::past_end))]
+#[tactic(auto, using(abc_base::proofs::Past::past_end))]
 fn uint_at(abc: &Abc, index: u32) -> u32
     ensures { result ≡ uint_in abc.now index }
 {
