@@ -10,7 +10,7 @@ ghost use Rattle.abc_tidy.specs.Entries.{graph_of};
 ghost use Rattle.abc_tidy.specs.Planned.{IsPlan};
 ghost use Rattle.abc_tidy.specs.Visited.{IsTidiedValue, roots_of};
 
-use crate::checks::{check_bodies, check_methods};
+use crate::checks::check_indices;
 use crate::cycles::first_cyclic;
 use crate::entries::entries_of;
 use crate::error::{TidyError, TidyRule};
@@ -115,12 +115,7 @@ struct Plan {
 }
 
 /// The plan of a file whose entries have these classes.
-fn plan_of(
-    alloc: Global,
-    abc: &Abc,
-    counts: Counts,
-    classed: &Classed,
-) -> Result<Plan, NoMemory>
+fn plan_of(alloc: Global, abc: &Abc, counts: Counts, classed: &Classed) -> Result<Plan, NoMemory>
     requires counts { counts ≡ counts_of abc.now }
     requires classed { AreClassed abc.now classed.now.heads classed.now.graph classed.now.roots classed.now.classes.keys.keys classed.now.classes.classes }
     ensures { IfOk result (λ p. IsTidiedValue abc.now (beside (new_file (number_in p.numbers) abc.now) p.pools)) }
@@ -147,9 +142,8 @@ fn plan(alloc: Global, abc: &Abc) -> Result<Plan, TidyError>
         Some(counts) => counts,
         None => return Err(TidyError::NoMemory),
     };
-    check_bodies(abc)?;
-    check_methods(abc)?;
     let refs = refs_of(alloc, abc)?;
+    check_indices(abc, &refs)?;
     let classed = class_entries(alloc, abc, &counts, &refs)?;
     let plan = plan_of(alloc, abc, counts, &classed)?;
     Ok(plan)
