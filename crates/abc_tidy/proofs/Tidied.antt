@@ -23,12 +23,13 @@ use Rattle.abc_tidy.specs.declared.error.TidyRule.TheVariants as rules
 use Rattle.abc_tidy.specs.Entries.{graph_of, heads_of}
 use Rattle.abc_tidy.specs.Firsts.{HoldBelow, IsFirstCyclic}
 use Rattle.abc_tidy.specs.NewPools.{new_pools}
+use Rattle.abc_tidy.specs.Once.{once}
 use Rattle.abc_tidy.specs.Planned.{IsPlan}
 use Rattle.abc_tidy.specs.Rules.{BodyHolds, Holds, IsFirstBroken, IsTidied, MethodHolds}
 use Rattle.abc_tidy.specs.Visited.{AreNumbers, IsTidiedValue, roots_of}
 
-pub the_roots : (v : Abc) (c : Counts) (refs : List Ref) (roots : List ℕ) → c ≡ counts_of v → refs ≡ file_refs v → roots ≡ map (λ r. node_of c r.pool r.index) refs → roots ≡ roots_of v
-the_roots v c refs roots e f is = is ∙ (λ i. map (λ r. node_of (e i) r.pool r.index) (f i))
+pub the_roots : (v : Abc) (c : Counts) (refs : List Ref) (roots : List ℕ) → c ≡ counts_of v → refs ≡ file_refs v → roots ≡ once (map (λ r. node_of c r.pool r.index) refs) → roots ≡ once (roots_of v)
+the_roots v c refs roots e f is = is ∙ (λ i. once (map (λ r. node_of (e i) r.pool r.index) (f i)))
 
 -- those that have classes are nodes
 all_nodes : (graph : List (List ℕ)) (classes : List (Option ℕ)) (xs : List ℕ) → length classes ≡ length graph → AllClassed classes xs → All (λ x. x < length graph) xs

@@ -9,3 +9,4 @@ pub mod Numbered
 pub mod Classed
 pub mod Heads
 pub mod Planned
+pub mod Once

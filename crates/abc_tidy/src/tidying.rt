@@ -7,6 +7,7 @@ ghost use Rattle.abc_tidy.specs.Rules.{Holds, IsTidied, IsTidyError};
 ghost use Rattle.abc_trees.specs.Classes.{AllClassed, AreClasses};
 ghost use Rattle.abc_tidy.specs.Classed.{AreClassed};
 ghost use Rattle.abc_tidy.specs.Entries.{graph_of};
+ghost use Rattle.abc_tidy.specs.Once.{once};
 ghost use Rattle.abc_tidy.specs.Planned.{IsPlan};
 ghost use Rattle.abc_tidy.specs.Visited.{IsTidiedValue, roots_of};
 
@@ -57,10 +58,10 @@ fn check_classes(
     requires few { length (abc.now).names + 1 < 2 ^ 32 }
     requires operands { Holds abc.now rules.Operand }
     requires param_names { Holds abc.now rules.ParamName }
-    requires rooted { roots.now ≡ roots_of abc.now }
+    requires rooted { roots.now ≡ once (roots_of abc.now) }
     requires valid { AreClasses _heads.now (graph_of abc.now) classes.now.keys.keys classes.now.classes }
-    requires ordered { Holds abc.now rules.NameCycle → AllClassed classes.now.classes roots.now }
-    ensures { MatchResult result (λ _. Holds abc.now rules.NameCycle × AllClassed classes.now.classes roots.now) (IsTidyError abc.now) }
+    requires ordered { Holds abc.now rules.NameCycle → AllClassed classes.now.classes (roots_of abc.now) }
+    ensures { MatchResult result (λ _. Holds abc.now rules.NameCycle × AllClassed classes.now.classes (roots_of abc.now)) (IsTidyError abc.now) }
 {
     if classes.have(roots.as_slice()) {
         return Ok(());
@@ -125,7 +126,7 @@ fn plan_of(alloc: Global, abc: &Abc, counts: Counts, classed: &Classed) -> Resul
     let classes = &classed.classes;
     let roots = &classed.roots;
     let seen = visit_order(alloc, heads, graph, classes, roots)?;
-    let all = numbers_of(alloc, abc, &counts, heads, graph, classes, roots, &seen)?;
+    let all = numbers_of(alloc, abc, &counts, heads, graph, classes, &seen)?;
     let numbers = Numbers {
         counts,
         numbers: all,
