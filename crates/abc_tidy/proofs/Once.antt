@@ -34,8 +34,8 @@ no_numbers n marks e = record { marks_are = λ y lt. ap (λ ms. get_or ms y fals
 pub kept : (ys : List ℕ) (x : ℕ) → is_in x ys ≡ true → ys ≡ with_one ys x
 kept ys x e = sym (ap (λ b. if b then ys else ys ++ x ∷ []) e)
 
-pub added : (ys : List ℕ) (x : ℕ) → is_in x ys ≡ false → ys ++ x ∷ [] ≡ with_one ys x
-added ys x e = sym (ap (λ b. if b then ys else ys ++ x ∷ []) e)
+pub added : (ys zs : List ℕ) (x : ℕ) → is_in x ys ≡ false → zs ≡ ys ++ x ∷ [] → zs ≡ with_one ys x
+added ys zs x e is = is ∙ sym (ap (λ b. if b then ys else ys ++ x ∷ []) e)
 
 or_none : (b : Bool) → (b || false) ≡ b
 or_none true = refl
@@ -55,12 +55,15 @@ not_equal y x ne = by (nat_eq y x) refl
     by true e = absurd (ne (eqb-true y x e))
     by false e = e
 
-pub marked_one : (marks : List Bool) (ys : List ℕ) (x : ℕ) → AreMarks marks ys → x < length marks → AreMarks (set marks x true) (ys ++ x ∷ [])
-marked_one marks ys x m lt = record { marks_are = λ y l. go y (subst (λ k. y < k) (length-set marks x true) l) (cases_eq y x) }
+marked_more : (marks : List Bool) (ys : List ℕ) (x : ℕ) → AreMarks marks ys → x < length marks → AreMarks (set marks x true) (ys ++ x ∷ [])
+marked_more marks ys x m lt = record { marks_are = λ y l. go y (subst (λ k. y < k) (length-set marks x true) l) (cases_eq y x) }
   where
     go : (y : ℕ) → y < length marks → (y ≡ x) ⊎ (y ≡ x → ⊥) → get_or (set marks x true) y false ≡ is_in y (ys ++ x ∷ [])
     go y l (inl e) = ap (λ z. get_or (set marks x true) z false) e ∙ get_or-set_same marks x true false lt ∙ sym (in_push y x ys ∙ ap (λ b. is_in y ys || b) (eq-eqb y x e) ∙ or_some (is_in y ys))
     go y l (inr ne) = get_or-set_other marks x y true false ne ∙ m.marks_are y l ∙ sym (in_push y x ys ∙ ap (λ b. is_in y ys || b) (not_equal y x ne) ∙ or_none (is_in y ys))
+
+pub marked_one : (marks marks2 : List Bool) (ys zs : List ℕ) (x : ℕ) → AreMarks marks ys → x < length marks → marks2 ≡ set marks x true → zs ≡ ys ++ x ∷ [] → AreMarks marks2 zs
+marked_one marks marks2 ys zs x m lt e f = subst (λ ms. AreMarks ms zs) (sym e) (subst (AreMarks (set marks x true)) (sym f) (marked_more marks ys x m lt))
 
 pub is_marked : (marks : List Bool) (ys : List ℕ) (x : ℕ) (b : Bool) → AreMarks marks ys → x < length marks → get_or marks x b ≡ b → is_in x ys ≡ b
 is_marked marks ys x b m lt at = sym (m.marks_are x lt) ∙ sym (get_or_default marks x b false lt) ∙ at
