@@ -50,14 +50,14 @@ fn pool_index(counts: &Counts, node: u32) -> usize
     }
 }
 
-/// Some nodes, each once, and which they are.
+/// Nodes, each once, with a mark for each that is there.
 #[derive(Drop)]
-struct Once {
+struct Distinct {
     marks: Table<bool>,
     nodes: Table<u32>,
 }
 
-impl Once {
+impl Distinct {
     /// Adds a node at the end, unless it is there.
     #[tactic(auto, using(crate::proofs::Once::is_marked, crate::proofs::Once::kept, crate::proofs::Once::added, crate::proofs::Once::marked_one))]
     fn add(&mut self, node: u32) -> Result<(), NoMemory>
@@ -88,7 +88,7 @@ pub(crate) fn roots_of(
     let count = counts.nodes();
     let marks = no_marks(alloc, count)?;
     let none = Table::new(alloc);
-    let mut roots = Once { marks, nodes: none };
+    let mut roots = Distinct { marks, nodes: none };
     for i in 0..refs.len() {
         let index = refs.get(i);
         roots.add(node(counts, index.pool, index.index))?;
