@@ -4,6 +4,7 @@ ghost use Rattle.std.specs.Prelude.{set, take};
 use crate::memory::NoMemory;
 use std::alloc::Global;
 use std::marker::Model;
+use std::mem;
 
 /// A list of values, which contracts see as that list.
 #[derive(Debug, Drop)]
@@ -66,6 +67,15 @@ impl<T: Drop> Table<T> {
         ensures { self.new ≡ set self.old i x }
     {
         self.items[i] = x;
+    }
+
+    /// Replaces the value at a position, and gives the one that stood there.
+    pub fn replace(&mut self, i: usize, x: T) -> T
+        requires { i < length self.old }
+        ensures is { get_or self.old i result ≡ result }
+        ensures list { self.new ≡ set self.old i x }
+    {
+        mem::replace(&mut self.items[i], x)
     }
 
     /// Keeps so many values from the start, or all where there are no more.

@@ -27,3 +27,12 @@ put_next f xs ys zs i x y e lt at is put = put ∙ ap (set ys i) is ∙ map_over
 
 pub put_all : {A : Type 0} (f : A → A) (xs ys : List A) (i : ℕ) → ys ≡ map f (take i xs) ++ drop i xs → length xs ≤ i → ys ≡ map f xs
 put_all f xs ys i e le = e ∙ (λ j. map f (take_all i xs le j) ++ drop_of_length-le xs le j) ∙ append-nil (map f xs)
+
+-- what is put twice at a place is what was put last
+set_twice : {A : Type 0} (xs : List A) (i : ℕ) (x y : A) → set (set xs i x) i y ≡ set xs i y
+set_twice [] i x y = refl
+set_twice (z ∷ xs) zero x y = refl
+set_twice (z ∷ xs) (suc i) x y = ap (λ s. z ∷ s) (set_twice xs i x y)
+
+pub set_again : {A : Type 0} (xs ys zs : List A) (i : ℕ) (x y : A) → ys ≡ set xs i x → zs ≡ set ys i y → zs ≡ set xs i y
+set_again xs ys zs i x y e f = f ∙ ap (λ s. set s i y) e ∙ set_twice xs i x y

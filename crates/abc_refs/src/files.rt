@@ -1,4 +1,4 @@
-ghost use Rattle.std.specs.Prelude.{◌≡◌, map, IfOk, OnOk};
+ghost use Rattle.std.specs.Prelude.{◌≡◌, IfOk};
 ghost use Rattle.abc_refs.specs.Nodes.{number_in};
 ghost use Rattle.abc_refs.specs.Refs.{file_refs};
 ghost use Rattle.abc_refs.specs.Renumbered.{new_file};
@@ -24,30 +24,14 @@ pub fn refs_of(alloc: Global, abc: &Abc) -> Result<Table<Ref>, NoMemory>
     Ok(found)
 }
 
-/// Puts items with new numbers in the place of those that there are, one after the other, so that the memory of one serves
-/// the next.
-fn renumber_each<T: Indexed>(
-    alloc: Global,
-    items: &mut Table<T>,
-    numbers: &Numbers,
-) -> Result<(), NoMemory>
-    ensures { OnOk result (items.new ≡ map (T.renumbered (number_in numbers.now)) items.old) }
+/// Puts new numbers in the place of the indices of a file's definitions and bodies. Its pools stay. It takes no memory.
+pub fn renumber(alloc: Global, abc: &mut Abc, numbers: &Numbers)
+    ensures { abc.new ≡ new_file (number_in numbers.now) abc.old }
 {
-    for i in 0..items.len() {
-        let item = items.get(i).renumber(alloc, numbers)?;
-        items.set(i, item);
-    }
-    Ok(())
-}
-
-/// Puts new numbers in the place of the indices of a file's definitions and bodies. Its pools stay.
-pub fn renumber(alloc: Global, abc: &mut Abc, numbers: &Numbers) -> Result<(), NoMemory>
-    ensures { OnOk result (abc.new ≡ new_file (number_in numbers.now) abc.old) }
-{
-    renumber_each(alloc, &mut abc.methods, numbers)?;
-    renumber_each(alloc, &mut abc.metadata, numbers)?;
-    renumber_each(alloc, &mut abc.instances, numbers)?;
-    renumber_each(alloc, &mut abc.classes, numbers)?;
-    renumber_each(alloc, &mut abc.scripts, numbers)?;
-    renumber_each(alloc, &mut abc.bodies, numbers)
+    abc.methods.renumber(alloc, numbers);
+    abc.metadata.renumber(alloc, numbers);
+    abc.instances.renumber(alloc, numbers);
+    abc.classes.renumber(alloc, numbers);
+    abc.scripts.renumber(alloc, numbers);
+    abc.bodies.renumber(alloc, numbers);
 }

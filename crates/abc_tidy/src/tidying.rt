@@ -172,7 +172,7 @@ pub fn tidy_owned(alloc: Global, abc: Abc) -> Result<Abc, TidyError>
 {
     let planned = plan(alloc, &abc)?;
     let mut renumbered = abc;
-    renumber(alloc, &mut renumbered, &planned.numbers)?;
+    renumber(alloc, &mut renumbered, &planned.numbers);
     let tidied = put_beside(renumbered, planned.pools);
     if fits(&tidied) {
         return Ok(tidied);
