@@ -2,6 +2,7 @@ ghost use Rattle.std.specs.Prelude.{◌≡◌, ◌<◌, ◌^◌, length};
 ghost use Rattle.abc_base.specs.Numbers.{IsFewest, SpellsU30, SpellsU32, number_bytes};
 
 /// How many bytes a u30 takes in its canonical spelling, 1 to 5. A number of 2^30 or more counts as a u32.
+#[inline]
 pub fn len_u30(v: u32) -> u32
     ensures is { result ≡ length (number_bytes v) }
     ensures fewest { v < 2 ^ 30 → IsFewest (SpellsU30 v) result }
@@ -10,6 +11,7 @@ pub fn len_u30(v: u32) -> u32
 }
 
 /// How many bytes a u32 takes in its canonical spelling, 1 to 5.
+#[inline]
 pub fn len_u32(v: u32) -> u32
     ensures is { result ≡ length (number_bytes v) }
     ensures fewest { IsFewest (SpellsU32 v) result }

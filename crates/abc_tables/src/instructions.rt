@@ -13,6 +13,7 @@ pub struct Code {
 }
 
 /// How many bytes spell a count in its canonical spelling, 1 to 5.
+#[inline]
 pub fn count_len(n: usize) -> u64
     ensures is { result ≡ number_len n }
     ensures bound { result ≤ 5 }
@@ -25,6 +26,7 @@ pub fn count_len(n: usize) -> u64
 
 /// How many bytes the instruction has in the canonical code: one for its opcode, and the fewest for each operand, where
 /// a number of 2^30 or more counts five. It is 2^64 - 1 where that is greater.
+#[inline]
 pub fn instr_len(instr: &Instr) -> u64
     ensures { result ≡ min (len_of instr.now) (2 ^ 64 - 1) }
 {
