@@ -246,7 +246,7 @@ record Spread (heads : List Head) (graph : List (List ℕ)) (zs : List ℕ) (ts 
 -- a number that stood before may stand again
 again : {heads : List Head} {graph : List (List ℕ)} (ys xs : List ℕ) (x : ℕ) {ts : List Tree} → In x ys → Spread heads graph (ys ++ xs) ts → Spread heads graph (ys ++ x ∷ xs) ts
 again {heads} {graph} ys xs x {ts} h s =
-    let p = split {heads} {graph} ys xs s.are in
+    let p = split ys xs s.are in
     let t = tree_in x p.left h in
     let met : List Tree = visit_all p.firsts [] in
     let known : visit t.tree met ≡ met = ap (λ b. if b then met else visit_parts t.tree (met ++ t.tree ∷ [])) (met_among t.tree p.firsts [] t.among) in
