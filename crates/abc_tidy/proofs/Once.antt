@@ -31,11 +31,11 @@ use Rattle.abc_tidy.proofs.Ordered.{all_have}
 pub no_numbers : (n : ℕ) (marks : List Bool) → marks ≡ replicate n false → AreMarks marks []
 no_numbers n marks e = record { marks_are = λ y lt. ap (λ ms. get_or ms y false) e ∙ no_marks n y }
 
-pub kept : (ys : List ℕ) (x : ℕ) → is_in x ys ≡ true → ys ≡ with_one ys x
-kept ys x e = sym (ap (λ b. if b then ys else ys ++ x ∷ []) e)
+pub kept : (ys : List ℕ) (x : ℕ) → true ≡ is_in x ys → ys ≡ with_one ys x
+kept ys x e = ap (λ b. if b then ys else ys ++ x ∷ []) e
 
-pub added : (ys zs : List ℕ) (x : ℕ) → is_in x ys ≡ false → zs ≡ ys ++ x ∷ [] → zs ≡ with_one ys x
-added ys zs x e is = is ∙ sym (ap (λ b. if b then ys else ys ++ x ∷ []) e)
+pub added : (ys zs : List ℕ) (x : ℕ) → false ≡ is_in x ys → zs ≡ ys ++ x ∷ [] → zs ≡ with_one ys x
+added ys zs x e is = is ∙ ap (λ b. if b then ys else ys ++ x ∷ []) e
 
 or_none : (b : Bool) → (b || false) ≡ b
 or_none true = refl
@@ -65,8 +65,8 @@ marked_more marks ys x m lt = record { marks_are = λ y l. go y (subst (λ k. y 
 pub marked_one : (marks marks2 : List Bool) (ys zs : List ℕ) (x : ℕ) → AreMarks marks ys → x < length marks → marks2 ≡ set marks x true → zs ≡ ys ++ x ∷ [] → AreMarks marks2 zs
 marked_one marks marks2 ys zs x m lt e f = subst (λ ms. AreMarks ms zs) (sym e) (subst (AreMarks (set marks x true)) (sym f) (marked_more marks ys x m lt))
 
-pub is_marked : (marks : List Bool) (ys : List ℕ) (x : ℕ) (b : Bool) → AreMarks marks ys → x < length marks → get_or marks x b ≡ b → is_in x ys ≡ b
-is_marked marks ys x b m lt at = sym (m.marks_are x lt) ∙ sym (get_or_default marks x b false lt) ∙ at
+pub is_marked : (marks : List Bool) (ys : List ℕ) (x : ℕ) (b : Bool) → AreMarks marks ys → x < length marks → get_or marks x b ≡ b → b ≡ is_in x ys
+is_marked marks ys x b m lt at = sym at ∙ get_or_default marks x b false lt ∙ m.marks_are x lt
 
 -- one more index: what is left is one less
 pub with_next : (c : Counts) (refs : List Ref) (ys zs whole : List ℕ) (i x : ℕ) (r : Ref) → with_all ys (map (λ r. node_of c r.pool r.index) (drop i refs)) ≡ whole → i < length refs → get_or refs i r ≡ r → x ≡ node_of c r.pool r.index → zs ≡ with_one ys x → with_all zs (map (λ r. node_of c r.pool r.index) (drop (i + 1) refs)) ≡ whole
@@ -246,7 +246,7 @@ record Spread (heads : List Head) (graph : List (List ℕ)) (zs : List ℕ) (ts 
 -- a number that stood before may stand again
 again : {heads : List Head} {graph : List (List ℕ)} (ys xs : List ℕ) (x : ℕ) {ts : List Tree} → In x ys → Spread heads graph (ys ++ xs) ts → Spread heads graph (ys ++ x ∷ xs) ts
 again {heads} {graph} ys xs x {ts} h s =
-    let p = split {heads} {graph} ys xs s.are in
+    let p = split ys xs s.are in
     let t = tree_in x p.left h in
     let met : List Tree = visit_all p.firsts [] in
     let known : visit t.tree met ≡ met = ap (λ b. if b then met else visit_parts t.tree (met ++ t.tree ∷ [])) (met_among t.tree p.firsts [] t.among) in

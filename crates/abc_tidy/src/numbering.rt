@@ -3,7 +3,7 @@ ghost use Rattle.abc_refs.specs.Nodes.{counts_of, node_count, node_of};
 ghost use Rattle.abc_trees.specs.Alike.{AreAlike};
 ghost use Rattle.abc_trees.specs.Classes.{AllClassed, AreApart, AreClasses, AreDistinct};
 ghost use Rattle.abc_tidy.specs.Entries.{graph_of, heads_of};
-ghost use Rattle.abc_tidy.specs.Once.{AreMarks, once, with_one};
+ghost use Rattle.abc_tidy.specs.Once.{AreMarks, is_in, once, with_one};
 ghost use Rattle.abc_tidy.specs.Numbered.{ArePlaces, AreNodeNumbers, AreNumbersMet, next_number, node_number, noted};
 ghost use Rattle.abc_tidy.specs.Visited.{AreNumbers, pool_index as index_of_pool, roots_of as roots_of_file};
 
@@ -58,8 +58,18 @@ struct Distinct {
 }
 
 impl Distinct {
+    /// Whether a node is there.
+    #[tactic(auto, using(crate::proofs::Once::is_marked))]
+    fn has(&self, node: u32) -> bool
+        requires known { node < length self.now.marks }
+        requires marked { AreMarks self.now.marks self.now.nodes }
+        ensures { result ≡ is_in node self.now.nodes }
+    {
+        *self.marks.get(node as usize)
+    }
+
     /// Adds a node at the end, unless it is there.
-    #[tactic(auto, using(crate::proofs::Once::is_marked, crate::proofs::Once::kept, crate::proofs::Once::added, crate::proofs::Once::marked_one))]
+    #[tactic(auto, using(crate::proofs::Once::kept, crate::proofs::Once::added, crate::proofs::Once::marked_one))]
     fn add(&mut self, node: u32) -> Result<(), NoMemory>
         requires known { node < length self.old.marks }
         requires marked { AreMarks self.old.marks self.old.nodes }
@@ -67,7 +77,7 @@ impl Distinct {
         ensures marked { OnOk result (AreMarks self.new.marks self.new.nodes) }
         ensures many { OnOk result (length self.new.marks ≡ length self.old.marks) }
     {
-        if *self.marks.get(node as usize) {
+        if self.has(node) {
             return Ok(());
         }
         self.nodes.push(node)?;

@@ -136,7 +136,7 @@ fn plan_of(alloc: Global, abc: &Abc, counts: Counts, classed: &Classed) -> Resul
 }
 
 /// The plan of a file, unless a rule is broken. What it was made from is let go.
-fn plan(alloc: Global, abc: &Abc) -> Result<Plan, TidyError>
+fn make_plan(alloc: Global, abc: &Abc) -> Result<Plan, TidyError>
     ensures { MatchResult result (λ p. IsPlan abc.now p.numbers p.pools) (IsTidyError abc.now) }
 {
     let counts = match Counts::of(abc) {
@@ -170,7 +170,7 @@ fn put_beside(abc: Abc, pools: Abc) -> Abc
 pub fn tidy_owned(alloc: Global, abc: Abc) -> Result<Abc, TidyError>
     ensures { MatchResult result (IsTidied abc) (IsTidyError abc) }
 {
-    let planned = plan(alloc, &abc)?;
+    let planned = make_plan(alloc, &abc)?;
     let mut renumbered = abc;
     renumber(alloc, &mut renumbered, &planned.numbers);
     let tidied = put_beside(renumbered, planned.pools);

@@ -1,7 +1,7 @@
 use Rattle.std.proofs.Common.{◌<◌, ◌≤◌, ap, false, length, map, subst, sym, ◌∙◌, arith}
 use Rattle.abc_refs.specs.Nodes.{node_of}
 use Rattle.abc_tidy.specs.Once.{AreMarks, once, with_all}
-use Rattle.abc_tidy.proofs.Numbered.{replicate_many}
+use Rattle.std.proofs.lemmas.List.{length-replicate}
 use Rattle.abc_tidy.proofs.Nodes.{node_within}
 use Rattle.abc_tidy.proofs.Once.{no_numbers, with_next, with_none}
 use Rattle.abc_tidy.proofs.numbering.roots_of.Goals as goal
@@ -10,7 +10,7 @@ pub loop-i-init : goal.loop-i-init
 loop-i-init c = record {
   nodes = ap (λ ys. with_all ys (map (λ r. node_of c.args.counts.now r.pool r.index) c.args.refs.now)) c.new-none.ensures;
   marked = subst (AreMarks c.in_ok-marks.marks) (sym c.new-none.ensures) (no_numbers c.nodes-count.result c.in_ok-marks.marks c.in_ok-marks.ensures);
-  many = ap length c.in_ok-marks.ensures ∙ replicate_many c.nodes-count.result false ∙ c.nodes-count.ensures;
+  many = ap length c.in_ok-marks.ensures ∙ length-replicate c.nodes-count.result false ∙ c.nodes-count.ensures;
 }
 
 pub add-requires-clause-known : goal.add-requires-clause-known

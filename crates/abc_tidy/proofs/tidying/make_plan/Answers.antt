@@ -1,4 +1,4 @@
-use Rattle.abc_tidy.proofs.tidying.plan.Goals as goal
+use Rattle.abc_tidy.proofs.tidying.make_plan.Goals as goal
 
 pub class_entries-requires-clause-operands : goal.class_entries-requires-clause-operands
 class_entries-requires-clause-operands c = c.in_ok-check_indices.ensures.0
