@@ -8,15 +8,15 @@ use crate::stop::Stop;
 use abc_base::Source;
 use abc_file::{read, write};
 use abc_tables::Abc;
-use abc_tidy::tidy as tidy_file;
+use abc_tidy::tidy_owned;
 use std::alloc::Global;
 
 /// The canonical bytes of the tidied file.
-fn tidied(alloc: Global, abc: &Abc) -> Result<Vec<u8>, Stop>
-    ensures gives { IfOk result (λ bytes. Tidy abc.now (given bytes.items)) }
-    ensures stops { IfErr result (λ stop. StopsAt (Tidy abc.now) stop) }
+fn tidied(alloc: Global, abc: Abc) -> Result<Vec<u8>, Stop>
+    ensures gives { IfOk result (λ bytes. Tidy abc (given bytes.items)) }
+    ensures stops { IfErr result (λ stop. StopsAt (Tidy abc) stop) }
 {
-    let tidied = tidy_file(alloc, abc)?;
+    let tidied = tidy_owned(alloc, abc)?;
     let mut bytes = Vec::new(alloc);
     write(alloc, &tidied, &mut bytes)?;
     Ok(bytes)
@@ -28,6 +28,6 @@ pub fn tidy<S: Source>(alloc: Global, source: &mut S) -> Result<Vec<u8>, Stop>
     ensures stops { IfErr result (λ stop. Stops (OfFile Tidy) (stream S.left S.faults source.old source.new) stop) }
 {
     let (abc, _) = read(alloc, source)?;
-    let bytes = tidied(alloc, &abc)?;
+    let bytes = tidied(alloc, abc)?;
     Ok(bytes)
 }

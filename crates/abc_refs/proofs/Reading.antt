@@ -1,7 +1,9 @@
 -- Reading a number at a place, or 0 past the end.
-use Rattle.std.proofs.Common.{◌≡◌, ℕ, zero, suc, ◌+◌, ◌<◌, List, [], ◌∷◌, ◌++◌, Some, None, get_or, slice_get, length, map, take, refl, sym, ap, ◌∙◌, arith}
+use Rattle.std.proofs.Common.{◌≡◌, ℕ, zero, suc, ◌+◌, ◌<◌, ◌≤◌, List, [], ◌∷◌, ◌++◌, Some, None, get_or, slice_get, length, drop, map, take, refl, sym, ap, ◌∙◌, arith}
+use Rattle.std.proofs.Math.ListN.{drop_of_length-le, set}
 use Rattle.std.proofs.Math.Seq.{take-suc}
-use Rattle.std.proofs.lemmas.List.{map_push}
+use Rattle.std.proofs.lemmas.List.{append-nil, map_push, take_all}
+use Rattle.std.proofs.lemmas.List.Edits.{map_over_more}
 use Rattle.std.proofs.lemmas.Option.{get_or_from_slice_get}
 
 pub no_number : (xs : List ℕ) (i : ℕ) → slice_get xs i ≡ None → 0 ≡ get_or xs i 0
@@ -18,3 +20,19 @@ push_mapped f xs ys i x y e lt at is =
     let one : i + 1 ≡ suc i = omega arith in
     ap (λ s. s ++ y ∷ []) e ∙ ap (λ b. map f (take i xs) ++ b ∷ []) (is ∙ ap f at) ∙ sym (map_push f (take i xs) (get_or xs i x))
     ∙ sym (ap (map f) (ap (λ n. take n xs) one ∙ take-suc xs i x lt))
+
+-- the same in place
+pub put_next : {A : Type 0} (f : A → A) (xs ys zs : List A) (i : ℕ) (x y : A) → ys ≡ map f (take i xs) ++ drop i xs → i < length xs → get_or ys i x ≡ x → y ≡ f x → zs ≡ set ys i y → zs ≡ map f (take (i + 1) xs) ++ drop (i + 1) xs
+put_next f xs ys zs i x y e lt at is put = put ∙ ap (set ys i) is ∙ map_over_more f xs ys i x lt e (sym at)
+
+pub put_all : {A : Type 0} (f : A → A) (xs ys : List A) (i : ℕ) → ys ≡ map f (take i xs) ++ drop i xs → length xs ≤ i → ys ≡ map f xs
+put_all f xs ys i e le = e ∙ (λ j. map f (take_all i xs le j) ++ drop_of_length-le xs le j) ∙ append-nil (map f xs)
+
+-- what is put twice at a place is what was put last
+set_twice : {A : Type 0} (xs : List A) (i : ℕ) (x y : A) → set (set xs i x) i y ≡ set xs i y
+set_twice [] i x y = refl
+set_twice (z ∷ xs) zero x y = refl
+set_twice (z ∷ xs) (suc i) x y = ap (λ s. z ∷ s) (set_twice xs i x y)
+
+pub set_again : {A : Type 0} (xs ys zs : List A) (i : ℕ) (x y : A) → ys ≡ set xs i x → zs ≡ set ys i y → zs ≡ set xs i y
+set_again xs ys zs i x y e f = f ∙ ap (λ s. set s i y) e ∙ set_twice xs i x y

@@ -3,7 +3,7 @@ ghost use Rattle.std.specs.Option.{option_to_list};
 ghost use Rattle.abc_refs.specs.Refs.{body_refs, handler_refs, instr_refs};
 ghost use Rattle.abc_refs.specs.Renumbered.{new_body, new_handler, new_instr};
 
-use crate::indexed::{Indexed, copy_of, note};
+use crate::indexed::{Indexed, note};
 use crate::nodes::Numbers;
 use crate::refs::{DEBUG, Ref, operand_pool};
 use abc_base::{NoMemory, Table};
@@ -38,8 +38,12 @@ impl Indexed for Instr {
         }
     }
 
-    fn renumber(&self, alloc: Global, numbers: &Numbers) -> Result<Instr, NoMemory> {
-        Ok(match self {
+    fn blank(_alloc: Global) -> Instr {
+        Instr::Plain(0)
+    }
+
+    fn renumber(&mut self, _alloc: Global, numbers: &Numbers) {
+        let new = match self {
             Instr::One(op, n) => Instr::One(*op, numbers.number(operand_pool(*op), *n)),
             Instr::Two(op, n, m) => Instr::Two(*op, numbers.number(operand_pool(*op), *n), *m),
             Instr::Debug {
@@ -53,16 +57,9 @@ impl Indexed for Instr {
                 reg: *reg,
                 extra: *extra,
             },
-            Instr::Plain(op) => Instr::Plain(*op),
-            Instr::Branch(op, target) => Instr::Branch(*op, *target),
-            Instr::Switch { default, cases } => Instr::Switch {
-                default: *default,
-                cases: copy_of(alloc, cases)?,
-            },
-            Instr::Byte(x) => Instr::Byte(*x),
-            Instr::Short(x) => Instr::Short(*x),
-            Instr::ScopeObject(x) => Instr::ScopeObject(*x),
-        })
+            _ => return,
+        };
+        *self = new;
     }
 }
 
@@ -76,14 +73,19 @@ impl Indexed for Handler {
         note(Pool::Name, self.var_name, found)
     }
 
-    fn renumber(&self, _alloc: Global, numbers: &Numbers) -> Result<Handler, NoMemory> {
-        Ok(Handler {
-            from: self.from,
-            to: self.to,
-            target: self.target,
-            exc_type: numbers.number(Pool::Name, self.exc_type),
-            var_name: numbers.number(Pool::Name, self.var_name),
-        })
+    fn blank(_alloc: Global) -> Handler {
+        Handler {
+            from: 0,
+            to: 0,
+            target: 0,
+            exc_type: 0,
+            var_name: 0,
+        }
+    }
+
+    fn renumber(&mut self, _alloc: Global, numbers: &Numbers) {
+        self.exc_type = numbers.number(Pool::Name, self.exc_type);
+        self.var_name = numbers.number(Pool::Name, self.var_name);
     }
 }
 
@@ -98,19 +100,22 @@ impl Indexed for Body {
         self.traits.note_refs(found)
     }
 
-    fn renumber(&self, alloc: Global, numbers: &Numbers) -> Result<Body, NoMemory> {
-        let code = self.code.renumber(alloc, numbers)?;
-        let handlers = self.handlers.renumber(alloc, numbers)?;
-        let traits = self.traits.renumber(alloc, numbers)?;
-        Ok(Body {
-            method: self.method,
-            max_stack: self.max_stack,
-            local_count: self.local_count,
-            init_scope: self.init_scope,
-            max_scope: self.max_scope,
-            code,
-            handlers,
-            traits,
-        })
+    fn blank(alloc: Global) -> Body {
+        Body {
+            method: 0,
+            max_stack: 0,
+            local_count: 0,
+            init_scope: 0,
+            max_scope: 0,
+            code: Table::new(alloc),
+            handlers: Table::new(alloc),
+            traits: Table::new(alloc),
+        }
+    }
+
+    fn renumber(&mut self, alloc: Global, numbers: &Numbers) {
+        self.code.renumber(alloc, numbers);
+        self.handlers.renumber(alloc, numbers);
+        self.traits.renumber(alloc, numbers);
     }
 }

@@ -1,11 +1,11 @@
 ghost use Rattle.abc_refs.specs.Refs.{metadata_refs, method_refs, option_refs};
 ghost use Rattle.abc_refs.specs.Renumbered.{new_metadata, new_method, new_option};
 
-use crate::indexed::{Indexed, note, note_each, renumber_all};
+use crate::indexed::{Indexed, note, note_each, renumber_each};
 use crate::nodes::Numbers;
 use crate::refs::{Ref, value_pool};
 use abc_base::{NoMemory, Table};
-use abc_tables::{Metadata, Method, OptionValue, Pool};
+use abc_tables::{Metadata, Method, OptionValue, Pool, ValueKind};
 use std::alloc::Global;
 
 impl Indexed for OptionValue {
@@ -17,11 +17,15 @@ impl Indexed for OptionValue {
         note(value_pool(self.kind), self.value, found)
     }
 
-    fn renumber(&self, _alloc: Global, numbers: &Numbers) -> Result<OptionValue, NoMemory> {
-        Ok(OptionValue {
-            kind: self.kind,
-            value: numbers.number(value_pool(self.kind), self.value),
-        })
+    fn blank(_alloc: Global) -> OptionValue {
+        OptionValue {
+            kind: ValueKind::Undefined,
+            value: 0,
+        }
+    }
+
+    fn renumber(&mut self, _alloc: Global, numbers: &Numbers) {
+        self.value = numbers.number(value_pool(self.kind), self.value);
     }
 }
 
@@ -38,18 +42,23 @@ impl Indexed for Method {
         note_each(Pool::Text, &self.param_names, found)
     }
 
-    fn renumber(&self, alloc: Global, numbers: &Numbers) -> Result<Method, NoMemory> {
-        let params = renumber_all(alloc, Pool::Name, &self.params, numbers)?;
-        let options = self.options.renumber(alloc, numbers)?;
-        let param_names = renumber_all(alloc, Pool::Text, &self.param_names, numbers)?;
-        Ok(Method {
-            ret: numbers.number(Pool::Name, self.ret),
-            params,
-            name: numbers.number(Pool::Text, self.name),
-            flags: self.flags,
-            options,
-            param_names,
-        })
+    fn blank(alloc: Global) -> Method {
+        Method {
+            ret: 0,
+            params: Table::new(alloc),
+            name: 0,
+            flags: 0,
+            options: Table::new(alloc),
+            param_names: Table::new(alloc),
+        }
+    }
+
+    fn renumber(&mut self, alloc: Global, numbers: &Numbers) {
+        self.ret = numbers.number(Pool::Name, self.ret);
+        renumber_each(Pool::Name, &mut self.params, numbers);
+        self.name = numbers.number(Pool::Text, self.name);
+        self.options.renumber(alloc, numbers);
+        renumber_each(Pool::Text, &mut self.param_names, numbers);
     }
 }
 
@@ -63,11 +72,15 @@ impl Indexed for Metadata {
         note_each(Pool::Text, &self.items, found)
     }
 
-    fn renumber(&self, alloc: Global, numbers: &Numbers) -> Result<Metadata, NoMemory> {
-        let items = renumber_all(alloc, Pool::Text, &self.items, numbers)?;
-        Ok(Metadata {
-            name: numbers.number(Pool::Text, self.name),
-            items,
-        })
+    fn blank(alloc: Global) -> Metadata {
+        Metadata {
+            name: 0,
+            items: Table::new(alloc),
+        }
+    }
+
+    fn renumber(&mut self, _alloc: Global, numbers: &Numbers) {
+        self.name = numbers.number(Pool::Text, self.name);
+        renumber_each(Pool::Text, &mut self.items, numbers);
     }
 }

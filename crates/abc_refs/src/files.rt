@@ -1,7 +1,7 @@
 ghost use Rattle.std.specs.Prelude.{◌≡◌, IfOk};
 ghost use Rattle.abc_refs.specs.Nodes.{number_in};
 ghost use Rattle.abc_refs.specs.Refs.{file_refs};
-ghost use Rattle.abc_refs.specs.Renumbered.{beside, new_file};
+ghost use Rattle.abc_refs.specs.Renumbered.{new_file};
 
 use crate::indexed::Indexed;
 use crate::nodes::Numbers;
@@ -24,23 +24,14 @@ pub fn refs_of(alloc: Global, abc: &Abc) -> Result<Table<Ref>, NoMemory>
     Ok(found)
 }
 
-/// The definitions and bodies of a file with new numbers in place of their indices, beside these pools.
-pub fn renumbered(alloc: Global, abc: &Abc, numbers: &Numbers, pools: Abc) -> Result<Abc, NoMemory>
-    ensures { IfOk result (λ t. t ≡ beside (new_file (number_in numbers.now) abc.now) pools) }
+/// Puts new numbers in the place of the indices of a file's definitions and bodies. Its pools stay. It takes no memory.
+pub fn renumber(alloc: Global, abc: &mut Abc, numbers: &Numbers)
+    ensures { abc.new ≡ new_file (number_in numbers.now) abc.old }
 {
-    let methods = abc.methods.renumber(alloc, numbers)?;
-    let metadata = abc.metadata.renumber(alloc, numbers)?;
-    let instances = abc.instances.renumber(alloc, numbers)?;
-    let classes = abc.classes.renumber(alloc, numbers)?;
-    let scripts = abc.scripts.renumber(alloc, numbers)?;
-    let bodies = abc.bodies.renumber(alloc, numbers)?;
-    Ok(Abc {
-        methods,
-        metadata,
-        instances,
-        classes,
-        scripts,
-        bodies,
-        ..pools
-    })
+    abc.methods.renumber(alloc, numbers);
+    abc.metadata.renumber(alloc, numbers);
+    abc.instances.renumber(alloc, numbers);
+    abc.classes.renumber(alloc, numbers);
+    abc.scripts.renumber(alloc, numbers);
+    abc.bodies.renumber(alloc, numbers);
 }

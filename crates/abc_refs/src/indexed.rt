@@ -25,9 +25,12 @@ pub trait Indexed: Drop {
     fn note_refs(&self, found: &mut Table<Ref>) -> Result<(), NoMemory>
         ensures { OnOk result (found.new ≡ found.old ++ refs self.now) };
 
-    /// The value with new numbers in place of its indices.
-    fn renumber(&self, alloc: Global, numbers: &Numbers) -> Result<Self, NoMemory>
-        ensures { IfOk result (λ x. x ≡ renumbered (number_in numbers.now) self.now) };
+    /// A value that stands in the place of one that is being renumbered. It takes no memory.
+    fn blank(alloc: Global) -> Self;
+
+    /// Puts new numbers in the place of the indices.
+    fn renumber(&mut self, alloc: Global, numbers: &Numbers)
+        ensures { self.new ≡ renumbered (number_in numbers.now) self.old };
 }
 
 impl<T: Indexed> Indexed for Table<T> {
@@ -42,12 +45,16 @@ impl<T: Indexed> Indexed for Table<T> {
         Ok(())
     }
 
-    fn renumber(&self, alloc: Global, numbers: &Numbers) -> Result<Table<T>, NoMemory> {
-        let mut items = Table::new(alloc);
-        for item in self.as_slice() {
-            items.push(item.renumber(alloc, numbers)?)?;
+    fn blank(alloc: Global) -> Table<T> {
+        Table::new(alloc)
+    }
+
+    fn renumber(&mut self, alloc: Global, numbers: &Numbers) {
+        for i in 0..self.len() {
+            let mut item = self.replace(i, T::blank(alloc));
+            item.renumber(alloc, numbers);
+            self.set(i, item);
         }
-        Ok(items)
     }
 }
 
@@ -72,6 +79,16 @@ pub(crate) fn note_each(
     Ok(())
 }
 
+/// Puts new numbers in the place of indices of one pool.
+pub(crate) fn renumber_each(pool: Pool, indices: &mut Table<u32>, numbers: &Numbers)
+    ensures { indices.new ≡ map (number_in numbers.now pool) indices.old }
+{
+    for i in 0..indices.len() {
+        let index = *indices.get(i);
+        indices.set(i, numbers.number(pool, index));
+    }
+}
+
 /// The new numbers for indices of one pool.
 pub fn renumber_all(
     alloc: Global,
@@ -86,15 +103,4 @@ pub fn renumber_all(
         new.push(numbers.number(pool, *index))?;
     }
     Ok(new)
-}
-
-/// A copy of numbers that name no entry of a pool.
-pub(crate) fn copy_of(alloc: Global, numbers: &Table<u32>) -> Result<Table<u32>, NoMemory>
-    ensures { IfOk result (λ t. t ≡ numbers.now) }
-{
-    let mut copy = Table::new(alloc);
-    for n in numbers.as_slice() {
-        copy.push(*n)?;
-    }
-    Ok(copy)
 }

@@ -11,7 +11,7 @@ mod refs;
 mod traits;
 
 pub use bodies::instr_ref;
-pub use files::{refs_of, renumbered};
+pub use files::{refs_of, renumber};
 pub use indexed::{Indexed, renumber_all};
 pub use nodes::{Counts, Numbers};
 pub use refs::{Ref, operand_pool};

@@ -4,7 +4,7 @@ ghost use Rattle.abc_refs.specs.Refs.{class_refs, instance_refs, protected_refs,
 ghost use Rattle.abc_refs.specs.Renumbered.{new_class, new_instance, new_option, new_script, new_trait, new_trait_body};
 ghost use Rattle.abc_tables.specs.declared.opcodes.Pool.TheVariants as pools;
 
-use crate::indexed::{Indexed, copy_of, note, note_each, renumber_all};
+use crate::indexed::{Indexed, note, note_each, renumber_each};
 use crate::nodes::Numbers;
 use crate::refs::{Ref, value_pool};
 use abc_base::{NoMemory, Table};
@@ -73,14 +73,18 @@ impl Indexed for TraitInfo {
         note_body(self.body, found)
     }
 
-    fn renumber(&self, alloc: Global, numbers: &Numbers) -> Result<TraitInfo, NoMemory> {
-        let metadata = copy_of(alloc, &self.metadata)?;
-        Ok(TraitInfo {
-            name: numbers.number(Pool::Name, self.name),
-            attrs: self.attrs,
-            body: new_body(self.body, numbers),
-            metadata,
-        })
+    fn blank(alloc: Global) -> TraitInfo {
+        TraitInfo {
+            name: 0,
+            attrs: 0,
+            body: TraitBody::Method { disp: 0, method: 0 },
+            metadata: Table::new(alloc),
+        }
+    }
+
+    fn renumber(&mut self, _alloc: Global, numbers: &Numbers) {
+        self.name = numbers.number(Pool::Name, self.name);
+        self.body = new_body(self.body, numbers);
     }
 }
 
@@ -115,18 +119,24 @@ impl Indexed for Instance {
         self.traits.note_refs(found)
     }
 
-    fn renumber(&self, alloc: Global, numbers: &Numbers) -> Result<Instance, NoMemory> {
-        let interfaces = renumber_all(alloc, Pool::Name, &self.interfaces, numbers)?;
-        let traits = self.traits.renumber(alloc, numbers)?;
-        Ok(Instance {
-            name: numbers.number(Pool::Name, self.name),
-            super_name: numbers.number(Pool::Name, self.super_name),
-            flags: self.flags,
-            protected_ns: new_protected(self.protected_ns, numbers),
-            interfaces,
-            iinit: self.iinit,
-            traits,
-        })
+    fn blank(alloc: Global) -> Instance {
+        Instance {
+            name: 0,
+            super_name: 0,
+            flags: 0,
+            protected_ns: None,
+            interfaces: Table::new(alloc),
+            iinit: 0,
+            traits: Table::new(alloc),
+        }
+    }
+
+    fn renumber(&mut self, alloc: Global, numbers: &Numbers) {
+        self.name = numbers.number(Pool::Name, self.name);
+        self.super_name = numbers.number(Pool::Name, self.super_name);
+        self.protected_ns = new_protected(self.protected_ns, numbers);
+        renumber_each(Pool::Name, &mut self.interfaces, numbers);
+        self.traits.renumber(alloc, numbers);
     }
 }
 
@@ -139,12 +149,15 @@ impl Indexed for ClassInfo {
         self.traits.note_refs(found)
     }
 
-    fn renumber(&self, alloc: Global, numbers: &Numbers) -> Result<ClassInfo, NoMemory> {
-        let traits = self.traits.renumber(alloc, numbers)?;
-        Ok(ClassInfo {
-            cinit: self.cinit,
-            traits,
-        })
+    fn blank(alloc: Global) -> ClassInfo {
+        ClassInfo {
+            cinit: 0,
+            traits: Table::new(alloc),
+        }
+    }
+
+    fn renumber(&mut self, alloc: Global, numbers: &Numbers) {
+        self.traits.renumber(alloc, numbers);
     }
 }
 
@@ -157,11 +170,14 @@ impl Indexed for Script {
         self.traits.note_refs(found)
     }
 
-    fn renumber(&self, alloc: Global, numbers: &Numbers) -> Result<Script, NoMemory> {
-        let traits = self.traits.renumber(alloc, numbers)?;
-        Ok(Script {
-            init: self.init,
-            traits,
-        })
+    fn blank(alloc: Global) -> Script {
+        Script {
+            init: 0,
+            traits: Table::new(alloc),
+        }
+    }
+
+    fn renumber(&mut self, alloc: Global, numbers: &Numbers) {
+        self.traits.renumber(alloc, numbers);
     }
 }

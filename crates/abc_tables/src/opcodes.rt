@@ -318,6 +318,7 @@ pub const OPCODES: [Option<Row>; 256] = [
 ];
 
 /// The row of an opcode.
+#[inline]
 fn row_at<'a>(rows: &'a [Option<Row>; 256], op: u8) -> &'a Option<Row>
     requires { rows.now ≡ rows_of_code }
     ensures info { info_in result.now ≡ info_at op }
@@ -327,6 +328,7 @@ fn row_at<'a>(rows: &'a [Option<Row>; 256], op: u8) -> &'a Option<Row>
 }
 
 /// What follows the opcode, and the pool that its operand names, or `None` where no instruction has the opcode.
+#[inline]
 pub fn opcode(op: u8) -> Option<OpInfo>
     ensures { result ≡ info_at op }
 {

@@ -145,7 +145,7 @@ names_lead v x y e (Then {y = z} c l) =
 
 -- ---- classes
 
-classed_in : (classes : List (Option ℕ)) (xs : List ℕ) (x : ℕ) → AllClassed classes xs → In x xs → HasClass classes x
+pub classed_in : (classes : List (Option ℕ)) (xs : List ℕ) (x : ℕ) → AllClassed classes xs → In x xs → HasClass classes x
 classed_in classes [] x all h = absurd h
 classed_in classes (y ∷ xs) x all (inl e) = subst (HasClass classes) (sym e) all.0
 classed_in classes (y ∷ xs) x all (inr h) = classed_in classes xs x all.1 h

@@ -14,3 +14,4 @@ pub mod Found
 pub mod Placing
 pub mod Telling
 pub mod Marked
+pub mod Once

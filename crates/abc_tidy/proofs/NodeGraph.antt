@@ -375,7 +375,7 @@ entries_are_graph v x d lt k e l =
 pub is_graph : (v : Abc) (graph : List (List ℕ)) → graph ≡ graph_of v → IsGraph graph
 is_graph v graph e = subst IsGraph (sym e) (entries_are_graph v)
 
-root_within : (v : Abc) (y : ℕ) → In y (roots_of v) → y < length (graph_of v)
+pub root_within : (v : Abc) (y : ℕ) → In y (roots_of v) → y < length (graph_of v)
 root_within v y h = go (root_cases v (file_refs v) y h)
   where
     go : (y ≤ before_names v) ⊎ NameAmong v y (name_indices (file_refs v)) → y < length (graph_of v)

@@ -30,3 +30,12 @@ node_small c pools.Name i few = let h = node_at_most (c.ints + c.uints + c.doubl
 
 pub set_node_small : (c : Counts) (i : ℕ) → node_count c < 2 ^ 32 → set_node c i < 2 ^ 32
 set_node_small c i few = let h = node_at_most (c.ints + c.uints + c.doubles + c.strings + c.namespaces) c.sets i in omega arith
+
+pub node_within : (c : Counts) (p : Pool) (i : ℕ) → node_of c p i < node_count c
+node_within c pools.NoPool i = omega arith
+node_within c pools.Int i = let h = node_at_most 0 c.ints i in omega arith
+node_within c pools.UInt i = let h = node_at_most c.ints c.uints i in omega arith
+node_within c pools.Double i = let h = node_at_most (c.ints + c.uints) c.doubles i in omega arith
+node_within c pools.Text i = let h = node_at_most (c.ints + c.uints + c.doubles) c.strings i in omega arith
+node_within c pools.Space i = let h = node_at_most (c.ints + c.uints + c.doubles + c.strings) c.namespaces i in omega arith
+node_within c pools.Name i = let h = node_at_most (c.ints + c.uints + c.doubles + c.strings + c.namespaces + c.sets) c.names i in omega arith

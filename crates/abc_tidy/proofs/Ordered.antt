@@ -10,7 +10,7 @@ use Rattle.abc_tidy.specs.Rules.{Holds}
 use Rattle.abc_tidy.specs.Visited.{roots_of}
 use Rattle.abc_tidy.proofs.NodeGraph.{is_graph, never_returns, roots_within}
 
-all_have : (classes : List (Option ℕ)) (xs : List ℕ) → ((y : ℕ) → In y xs → HasClass classes y) → AllClassed classes xs
+pub all_have : (classes : List (Option ℕ)) (xs : List ℕ) → ((y : ℕ) → In y xs → HasClass classes y) → AllClassed classes xs
 all_have classes [] h = tt
 all_have classes (x ∷ xs) h = (h x (inl refl), all_have classes xs (λ y k. h y (inr k)))
 

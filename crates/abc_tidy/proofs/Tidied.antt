@@ -23,11 +23,13 @@ use Rattle.abc_tidy.specs.declared.error.TidyRule.TheVariants as rules
 use Rattle.abc_tidy.specs.Entries.{graph_of, heads_of}
 use Rattle.abc_tidy.specs.Firsts.{HoldBelow, IsFirstCyclic}
 use Rattle.abc_tidy.specs.NewPools.{new_pools}
+use Rattle.abc_tidy.specs.Once.{once}
+use Rattle.abc_tidy.specs.Planned.{IsPlan}
 use Rattle.abc_tidy.specs.Rules.{BodyHolds, Holds, IsFirstBroken, IsTidied, MethodHolds}
 use Rattle.abc_tidy.specs.Visited.{AreNumbers, IsTidiedValue, roots_of}
 
-pub the_roots : (v : Abc) (c : Counts) (refs : List Ref) (roots : List ℕ) → c ≡ counts_of v → refs ≡ file_refs v → roots ≡ map (λ r. node_of c r.pool r.index) refs → roots ≡ roots_of v
-the_roots v c refs roots e f is = is ∙ (λ i. map (λ r. node_of (e i) r.pool r.index) (f i))
+pub the_roots : (v : Abc) (c : Counts) (refs : List Ref) (roots : List ℕ) → c ≡ counts_of v → refs ≡ file_refs v → roots ≡ once (map (λ r. node_of c r.pool r.index) refs) → roots ≡ once (roots_of v)
+the_roots v c refs roots e f is = is ∙ (λ i. once (map (λ r. node_of (e i) r.pool r.index) (f i)))
 
 -- those that have classes are nodes
 all_nodes : (graph : List (List ℕ)) (classes : List (Option ℕ)) (xs : List ℕ) → length classes ≡ length graph → AllClassed classes xs → All (λ x. x < length graph) xs
@@ -45,7 +47,7 @@ all_nodes graph classes (x ∷ xs) len h zero d lt = go (cases_lt x (length clas
         some_none a b = cc
 all_nodes graph classes (x ∷ xs) len h (suc k) d lt = all_nodes graph classes xs len h.1 k d (omega arith)
 
-abbrev with_numbers : Counts → List ℕ → Numbers
+abbrev pub with_numbers : Counts → List ℕ → Numbers
 with_numbers c numbers = record { counts = c; numbers = numbers }
 
 pub tidied_value : (v pools t : Abc) (c : Counts) (heads : List Head) (graph : List (List ℕ)) (roots seen numbers : List ℕ) → c ≡ counts_of v → graph ≡ graph_of v → roots ≡ roots_of v → (keys : List Key) (classes : List (Option ℕ)) → AreAlike classes heads (heads_of v) → AreClasses heads graph keys classes → AllClassed classes roots → AllClassed classes seen → IsVisited heads graph roots seen → AreNumbers v seen numbers → pools ≡ new_pools (with_numbers c numbers) v seen → t ≡ beside (new_file (number_in (with_numbers c numbers)) v) pools → IsTidiedValue v t
@@ -72,13 +74,17 @@ refused_name v i a b f = record { before = (a, b); broken = f.0; least = f.1 }
 pub no_name : (v : Abc) → IsFirstCyclic v None → Holds v rules.NameCycle
 no_name v f = f
 
-pub done : (v t : Abc) → Holds v rules.Operand → Holds v rules.ParamName → Holds v rules.NameCycle → IsTidiedValue v t → Fits t → IsTidied v t
-done v t a b c is fits = record { operands = a; param_names = b; names = c; value = is; fits = fits }
+-- the file that the plan makes
+pub planned : (v new t pools : Abc) (f : Numbers) → IsPlan v f pools → new ≡ new_file (number_in f) v → t ≡ beside new pools → IsTidiedValue v t
+planned v new t pools f p e is = subst (IsTidiedValue v) (sym (is ∙ ap (λ w. beside w pools) e)) p.value
 
-pub too_large : (v t : Abc) → Holds v rules.Operand → Holds v rules.ParamName → Holds v rules.NameCycle → IsTidiedValue v t → (Fits t → ⊥) → IsFirstBroken v rules.TooLarge 0
-too_large v t a b c is unfit = record {
-  before = (a, b, c);
-  broken = record { zero = refl; tidied = t; is = is; unfit = unfit };
+pub done : (v new t pools : Abc) (f : Numbers) → IsPlan v f pools → new ≡ new_file (number_in f) v → t ≡ beside new pools → Fits t → IsTidied v t
+done v new t pools f p e is fits = record { operands = p.operands; param_names = p.param_names; names = p.names; value = planned v new t pools f p e is; fits = fits }
+
+pub too_large : (v new t pools : Abc) (f : Numbers) → IsPlan v f pools → new ≡ new_file (number_in f) v → t ≡ beside new pools → (Fits t → ⊥) → IsFirstBroken v rules.TooLarge 0
+too_large v new t pools f p e is unfit = record {
+  before = (p.operands, p.param_names, p.names);
+  broken = record { zero = refl; tidied = t; is = planned v new t pools f p e is; unfit = unfit };
   least = λ j lt h. none j lt;
 }
   where

@@ -8,14 +8,15 @@ use Rattle.abc_trees.specs.Alike.{AreAlike}
 use Rattle.abc_trees.specs.Classes.{AllClassed, AreClasses, AreDistinct}
 use Rattle.abc_tidy.specs.declared.error.TidyRule.TheVariants as rules
 use Rattle.abc_tidy.specs.Entries.{graph_of, heads_of}
+use Rattle.abc_tidy.specs.Once.{once}
 use Rattle.abc_tidy.specs.Rules.{Holds}
 use Rattle.abc_tidy.specs.Visited.{roots_of}
 
 pub record AreClassed (v : Abc) (heads : List Head) (graph : List (List ℕ)) (roots : List ℕ) (keys : List Key) (classes : List (Option ℕ)) : Type 0 where
   pub alike : AreAlike classes heads (heads_of v)
   pub graph_is : graph ≡ graph_of v
-  pub roots_are : roots ≡ roots_of v
+  pub roots_are : roots ≡ once (roots_of v)
   pub valid : AreClasses heads graph keys classes
   pub distinct : AreDistinct keys
   pub names : Holds v rules.NameCycle
-  pub classed : AllClassed classes roots
+  pub classed : AllClassed classes (roots_of v)

@@ -8,3 +8,5 @@ pub mod Kept
 pub mod Numbered
 pub mod Classed
 pub mod Heads
+pub mod Planned
+pub mod Once

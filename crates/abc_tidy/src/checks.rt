@@ -1,9 +1,10 @@
 ghost use Rattle.std.specs.Prelude.{◌≡◌, ◌↔◌, ◌≤◌, All, IfOk, IsTrue, MatchResult};
+ghost use Rattle.abc_refs.specs.Refs.{file_refs};
 ghost use Rattle.abc_tidy.specs.declared.error.TidyRule.TheVariants as rules;
 ghost use Rattle.abc_tidy.specs.Rules.{BodyHolds, Holds, InstrHolds, IsTidyError, IsThere, MethodHolds, names_pool as is_named, pool_size as size_of_pool};
 
 use crate::error::{TidyError, TidyRule};
-use abc_base::NoMemory;
+use abc_base::{NoMemory, Table};
 use abc_refs::{Ref, instr_ref};
 use abc_tables::{Abc, Body, Instr, Method, Pool};
 
@@ -87,7 +88,7 @@ pub(crate) fn count_of(len: usize) -> Result<u32, NoMemory>
 
 /// Tries that each operand names an entry, or nothing. The first body where one does not is refused.
 #[tactic(auto, using(crate::proofs::Firsts::holds_next, crate::proofs::Tidied::refused_body, crate::proofs::Firsts::none_found))]
-pub(crate) fn check_bodies(abc: &Abc) -> Result<(), TidyError>
+fn check_bodies(abc: &Abc) -> Result<(), TidyError>
     ensures { MatchResult result (λ _. Holds abc.now rules.Operand) (IsTidyError abc.now) }
 {
     let count = count_of(abc.bodies.len())?;
@@ -104,7 +105,7 @@ pub(crate) fn check_bodies(abc: &Abc) -> Result<(), TidyError>
 
 /// Tries that no name of a parameter is above the strings. The first method where one is is refused.
 #[tactic(auto, using(crate::proofs::Firsts::holds_next, crate::proofs::Tidied::refused_method, crate::proofs::Firsts::none_found))]
-pub(crate) fn check_methods(abc: &Abc) -> Result<(), TidyError>
+fn check_methods(abc: &Abc) -> Result<(), TidyError>
     requires { Holds abc.now rules.Operand }
     ensures { MatchResult result (λ _. Holds abc.now rules.ParamName) (IsTidyError abc.now) }
 {
@@ -117,5 +118,26 @@ pub(crate) fn check_methods(abc: &Abc) -> Result<(), TidyError>
             });
         }
     }
+    Ok(())
+}
+
+/// Whether each index names an entry, or nothing.
+fn are_there(abc: &Abc, refs: &[Ref]) -> bool
+    ensures { IsTrue result ↔ All (IsThere abc.now) refs.now }
+{
+    refs.iter().all(|index| is_there(abc, *index))
+}
+
+/// Tries the operands and the names of parameters. Where each index of the file is there, as it is in a file that was read,
+/// the bodies and methods are not gone over.
+pub(crate) fn check_indices(abc: &Abc, refs: &Table<Ref>) -> Result<(), TidyError>
+    requires { refs.now ≡ file_refs abc.now }
+    ensures { MatchResult result (λ _. Holds abc.now rules.Operand × Holds abc.now rules.ParamName) (IsTidyError abc.now) }
+{
+    if are_there(abc, refs.as_slice()) {
+        return Ok(());
+    }
+    check_bodies(abc)?;
+    check_methods(abc)?;
     Ok(())
 }

@@ -13,4 +13,4 @@ mod pools;
 mod tidying;
 
 pub use error::{TidyError, TidyRule};
-pub use tidying::tidy;
+pub use tidying::{tidy, tidy_owned};

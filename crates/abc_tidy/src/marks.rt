@@ -5,7 +5,8 @@ ghost use Rattle.abc_trees.specs.Orders.{In};
 use abc_base::{NoMemory, Table};
 use std::alloc::Global;
 
-fn no_marks(alloc: Global, count: usize) -> Result<Table<bool>, NoMemory>
+/// So many marks, none of which is set.
+pub(crate) fn no_marks(alloc: Global, count: usize) -> Result<Table<bool>, NoMemory>
     ensures { IfOk result (λ t. t ≡ replicate count false) }
 {
     let mut marks = Table::new(alloc);

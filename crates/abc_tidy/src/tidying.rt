@@ -1,14 +1,17 @@
 ghost use Rattle.std.specs.Prelude.{◌≡◌, ◌<◌, ◌+◌, ◌^◌, length, IfOk, MatchResult};
-ghost use Rattle.abc_refs.specs.Nodes.{counts_of, node_count};
+ghost use Rattle.abc_refs.specs.Nodes.{counts_of, node_count, number_in};
 ghost use Rattle.abc_refs.specs.Refs.{file_refs};
+ghost use Rattle.abc_refs.specs.Renumbered.{beside, new_file};
 ghost use Rattle.abc_tidy.specs.declared.error.TidyRule.TheVariants as rules;
 ghost use Rattle.abc_tidy.specs.Rules.{Holds, IsTidied, IsTidyError};
 ghost use Rattle.abc_trees.specs.Classes.{AllClassed, AreClasses};
 ghost use Rattle.abc_tidy.specs.Classed.{AreClassed};
 ghost use Rattle.abc_tidy.specs.Entries.{graph_of};
+ghost use Rattle.abc_tidy.specs.Once.{once};
+ghost use Rattle.abc_tidy.specs.Planned.{IsPlan};
 ghost use Rattle.abc_tidy.specs.Visited.{IsTidiedValue, roots_of};
 
-use crate::checks::{check_bodies, check_methods};
+use crate::checks::check_indices;
 use crate::cycles::first_cyclic;
 use crate::entries::entries_of;
 use crate::error::{TidyError, TidyRule};
@@ -18,7 +21,7 @@ use crate::numbering::{numbers_of, roots_of};
 use crate::pools::new_pools;
 use abc_base::{NoMemory, Table};
 use abc_fits::fits;
-use abc_refs::{Counts, Numbers, Ref, refs_of, renumbered};
+use abc_refs::{Counts, Numbers, Ref, refs_of, renumber};
 use abc_tables::Abc;
 use abc_trees::{Classes, Head, Rows, classes_of, parts_first, visit_order};
 use std::alloc::Global;
@@ -55,10 +58,10 @@ fn check_classes(
     requires few { length (abc.now).names + 1 < 2 ^ 32 }
     requires operands { Holds abc.now rules.Operand }
     requires param_names { Holds abc.now rules.ParamName }
-    requires rooted { roots.now ≡ roots_of abc.now }
+    requires rooted { roots.now ≡ once (roots_of abc.now) }
     requires valid { AreClasses _heads.now (graph_of abc.now) classes.now.keys.keys classes.now.classes }
-    requires ordered { Holds abc.now rules.NameCycle → AllClassed classes.now.classes roots.now }
-    ensures { MatchResult result (λ _. Holds abc.now rules.NameCycle × AllClassed classes.now.classes roots.now) (IsTidyError abc.now) }
+    requires ordered { Holds abc.now rules.NameCycle → AllClassed classes.now.classes (roots_of abc.now) }
+    ensures { MatchResult result (λ _. Holds abc.now rules.NameCycle × AllClassed classes.now.classes (roots_of abc.now)) (IsTidyError abc.now) }
 {
     if classes.have(roots.as_slice()) {
         return Ok(());
@@ -105,30 +108,79 @@ fn class_entries(
     })
 }
 
-/// The tidied value of a file whose entries have these classes.
-fn tidied_value(
-    alloc: Global,
-    abc: &Abc,
-    counts: Counts,
-    classed: &Classed,
-) -> Result<Abc, NoMemory>
+/// The new numbers of a file's entries, and the pools of those that stay.
+#[derive(Drop)]
+struct Plan {
+    numbers: Numbers,
+    pools: Abc,
+}
+
+/// The plan of a file whose entries have these classes.
+fn plan_of(alloc: Global, abc: &Abc, counts: Counts, classed: &Classed) -> Result<Plan, NoMemory>
     requires counts { counts ≡ counts_of abc.now }
     requires classed { AreClassed abc.now classed.now.heads classed.now.graph classed.now.roots classed.now.classes.keys.keys classed.now.classes.classes }
-    ensures { IfOk result (λ t. IsTidiedValue abc.now t) }
+    ensures { IfOk result (λ p. IsTidiedValue abc.now (beside (new_file (number_in p.numbers) abc.now) p.pools)) }
 {
     let heads = &classed.heads;
     let graph = &classed.graph;
     let classes = &classed.classes;
     let roots = &classed.roots;
     let seen = visit_order(alloc, heads, graph, classes, roots)?;
-    let all = numbers_of(alloc, abc, &counts, heads, graph, classes, roots, &seen)?;
+    let all = numbers_of(alloc, abc, &counts, heads, graph, classes, &seen)?;
     let numbers = Numbers {
         counts,
         numbers: all,
     };
     let pools = new_pools(alloc, abc, &numbers, &seen)?;
-    let tidied = renumbered(alloc, abc, &numbers, pools)?;
-    Ok(tidied)
+    Ok(Plan { numbers, pools })
+}
+
+/// The plan of a file, unless a rule is broken. What it was made from is let go.
+fn make_plan(alloc: Global, abc: &Abc) -> Result<Plan, TidyError>
+    ensures { MatchResult result (λ p. IsPlan abc.now p.numbers p.pools) (IsTidyError abc.now) }
+{
+    let counts = match Counts::of(abc) {
+        Some(counts) => counts,
+        None => return Err(TidyError::NoMemory),
+    };
+    let refs = refs_of(alloc, abc)?;
+    check_indices(abc, &refs)?;
+    let classed = class_entries(alloc, abc, &counts, &refs)?;
+    let plan = plan_of(alloc, abc, counts, &classed)?;
+    Ok(plan)
+}
+
+/// The definitions and bodies of a file beside the pools of another.
+fn put_beside(abc: Abc, pools: Abc) -> Abc
+    ensures { result ≡ beside abc pools }
+{
+    Abc {
+        methods: abc.methods,
+        metadata: abc.metadata,
+        instances: abc.instances,
+        classes: abc.classes,
+        scripts: abc.scripts,
+        bodies: abc.bodies,
+        ..pools
+    }
+}
+
+/// As `tidy`, for a file that serves nothing else: its definitions and bodies are renumbered where they stand.
+#[tactic(auto, using(crate::proofs::Tidied::done, crate::proofs::Tidied::too_large))]
+pub fn tidy_owned(alloc: Global, abc: Abc) -> Result<Abc, TidyError>
+    ensures { MatchResult result (IsTidied abc) (IsTidyError abc) }
+{
+    let planned = make_plan(alloc, &abc)?;
+    let mut renumbered = abc;
+    renumber(alloc, &mut renumbered, &planned.numbers);
+    let tidied = put_beside(renumbered, planned.pools);
+    if fits(&tidied) {
+        return Ok(tidied);
+    }
+    Err(TidyError::Refused {
+        rule: TidyRule::TooLarge,
+        index: 0,
+    })
 }
 
 /// A file that means the same, without the entries of its pools that nothing names and those that are doubled, and with the
@@ -140,24 +192,9 @@ fn tidied_value(
 /// It is `Refused` where a rule is broken, by the first of them and the least index: an operand of an instruction names an
 /// entry that is not there, a name of a parameter is above the strings, a name that is visited reaches itself, or the
 /// tidied file is not spelled by any bytes of at most 2^24.
-#[tactic(auto, using(crate::proofs::Tidied::done, crate::proofs::Tidied::too_large))]
 pub fn tidy(alloc: Global, abc: &Abc) -> Result<Abc, TidyError>
     ensures { MatchResult result (IsTidied abc.now) (IsTidyError abc.now) }
 {
-    let counts = match Counts::of(abc) {
-        Some(counts) => counts,
-        None => return Err(TidyError::NoMemory),
-    };
-    check_bodies(abc)?;
-    check_methods(abc)?;
-    let refs = refs_of(alloc, abc)?;
-    let classed = class_entries(alloc, abc, &counts, &refs)?;
-    let tidied = tidied_value(alloc, abc, counts, &classed)?;
-    if fits(&tidied) {
-        return Ok(tidied);
-    }
-    Err(TidyError::Refused {
-        rule: TidyRule::TooLarge,
-        index: 0,
-    })
+    let copy = abc.copy(alloc)?;
+    tidy_owned(alloc, copy)
 }

@@ -127,9 +127,14 @@ impl Classes {
     }
 }
 
-/// No classes as yet.
+/// No classes as yet, with room for so many.
 #[tactic(auto, using(crate::proofs::Meanings::none_classed, crate::proofs::Settled::none_has))]
-fn no_classes(alloc: Global, heads: &Table<Head>, graph: &Rows) -> Result<Classes, NoMemory>
+fn no_classes(
+    alloc: Global,
+    heads: &Table<Head>,
+    graph: &Rows,
+    room: usize,
+) -> Result<Classes, NoMemory>
     ensures valid { IfOk result (λ c. AreClasses heads.now graph.now c.keys.keys c.classes) }
     ensures distinct { IfOk result (λ c. AreDistinct c.keys.keys) }
     ensures none { IfOk result (λ c. (y : ℕ) → HasClass c.classes y → ⊥) }
@@ -139,10 +144,8 @@ fn no_classes(alloc: Global, heads: &Table<Head>, graph: &Rows) -> Result<Classe
     for _node in 0..graph.len() {
         classes.push(None)?;
     }
-    Ok(Classes {
-        keys: IndexSet::new(alloc),
-        classes,
-    })
+    let keys = IndexSet::with_capacity(alloc, room)?;
+    Ok(Classes { keys, classes })
 }
 
 /// The classes of the nodes of a list in which each stands behind those that it leads to. One that stands before any of
@@ -160,7 +163,7 @@ pub fn classes_of(
     ensures only { IfOk result (λ c. (y : ℕ) → HasClass c.classes y → In y order.now) }
     ensures all { IfOk result (λ c. IsBehind graph.now [] order.now → All (λ y. y < length graph.now) order.now → (y : ℕ) → In y order.now → HasClass c.classes y) }
 {
-    let mut classes = no_classes(alloc, heads, graph)?;
+    let mut classes = no_classes(alloc, heads, graph, order.len())?;
     for node in order.as_slice() {
         classes.settle(heads, graph, *node)?;
     }

@@ -1,10 +1,12 @@
-use Rattle.std.proofs.Common.{ap, length, subst, ◌∙◌}
+use Rattle.std.proofs.Common.{ap, length, refl, subst, ◌∙◌}
 use Rattle.abc_trees.specs.Classes.{AreClasses}
 use Rattle.abc_tidy.specs.Entries.{heads_of}
 use Rattle.abc_tidy.specs.Heads.{TellHeads}
+use Rattle.abc_tidy.specs.Visited.{roots_of}
 use Rattle.abc_tidy.proofs.Building.{few_counts, few_names}
 use Rattle.abc_tidy.proofs.Marked.{heads_many, marks_many, told_alike}
-use Rattle.abc_tidy.proofs.NodeGraph.{is_graph, roots_within}
+use Rattle.abc_tidy.proofs.NodeGraph.{is_graph}
+use Rattle.abc_tidy.proofs.Once.{all_within, ordered_all}
 use Rattle.abc_tidy.proofs.Ordered.{roots_classed}
 use Rattle.abc_tidy.proofs.Tidied.{the_roots}
 use Rattle.abc_tidy.proofs.tidying.class_entries.Goals as goal
@@ -14,7 +16,7 @@ parts_first-requires-clause-in_range c = is_graph c.args.abc.now c.in_ok-graph.g
 
 pub parts_first-requires-clause-roots : goal.parts_first-requires-clause-roots
 parts_first-requires-clause-roots c =
-    roots_within c.args.abc.now c.in_ok-graph.graph c.in_ok-roots.roots c.in_ok-graph.ensures
+    all_within c.args.abc.now c.in_ok-graph.graph c.in_ok-roots.roots c.in_ok-graph.ensures
     (the_roots c.args.abc.now c.args.counts.now c.args.refs.now c.in_ok-roots.roots c.requires.counts c.requires.refs c.in_ok-roots.ensures)
 
 pub heads_of-requires-clause-few : goal.heads_of-requires-clause-few
@@ -39,9 +41,9 @@ check_classes-requires-clause-valid c =
 
 pub check_classes-requires-clause-ordered : goal.check_classes-requires-clause-ordered
 check_classes-requires-clause-ordered c = λ holds.
-    roots_classed c.args.abc.now c.in_ok-graph.graph c.in_ok-roots.roots c.in_ok-order.order c.in_ok-classes.classes.classes c.in_ok-graph.ensures
-    (the_roots c.args.abc.now c.args.counts.now c.args.refs.now c.in_ok-roots.roots c.requires.counts c.requires.refs c.in_ok-roots.ensures)
-    holds c.in_ok-order.ensures c.in_ok-classes.ensures.all
+    let roots = the_roots c.args.abc.now c.args.counts.now c.args.refs.now c.in_ok-roots.roots c.requires.counts c.requires.refs c.in_ok-roots.ensures in
+    roots_classed c.args.abc.now c.in_ok-graph.graph (roots_of c.args.abc.now) c.in_ok-order.order c.in_ok-classes.classes.classes c.in_ok-graph.ensures refl
+    holds (ordered_all c.in_ok-graph.graph c.in_ok-roots.roots (roots_of c.args.abc.now) c.in_ok-order.order roots c.in_ok-order.ensures) c.in_ok-classes.ensures.all
 
 pub returns : goal.returns
 returns c = record {
