@@ -46,36 +46,52 @@ pub(crate) enum Paired {
 pub(crate) fn group_alone(op: u8) -> Alone
     ensures { result ≡ alone_at op }
 {
-    if op < 0x1E {
-        Alone::Control
-    } else if op < 0x20 {
-        Alone::Walk
-    } else if op < 0x22 {
-        Alone::Push
-    } else if op < 0x24 {
-        Alone::Walk
-    } else if op < 0x30 {
-        Alone::Push
-    } else if op < 0x40 {
-        Alone::Control
-    } else if op < 0x50 {
-        Alone::Return
-    } else if op < 0x70 {
-        Alone::Scope
-    } else if op < 0x86 {
-        Alone::Convert
-    } else if op < 0x90 {
-        Alone::Late
-    } else if op < 0xA0 {
-        Alone::Single
-    } else if op < 0xAB {
-        Alone::Double
+    if op < 0x86 {
+        if op < 0x30 {
+            if op < 0x22 {
+                if op < 0x20 {
+                    if op < 0x1E {
+                        Alone::Control
+                    } else {
+                        Alone::Walk
+                    }
+                } else {
+                    Alone::Push
+                }
+            } else if op < 0x24 {
+                Alone::Walk
+            } else {
+                Alone::Push
+            }
+        } else if op < 0x50 {
+            if op < 0x40 {
+                Alone::Control
+            } else {
+                Alone::Return
+            }
+        } else if op < 0x70 {
+            Alone::Scope
+        } else {
+            Alone::Convert
+        }
     } else if op < 0xB1 {
-        Alone::Comparison
-    } else if op < 0xC0 {
-        Alone::Late
+        if op < 0xA0 {
+            if op < 0x90 {
+                Alone::Late
+            } else {
+                Alone::Single
+            }
+        } else if op < 0xAB {
+            Alone::Double
+        } else {
+            Alone::Comparison
+        }
     } else if op < 0xC5 {
-        Alone::Single
+        if op < 0xC0 {
+            Alone::Late
+        } else {
+            Alone::Single
+        }
     } else if op < 0xD0 {
         Alone::Double
     } else {
@@ -87,40 +103,60 @@ pub(crate) fn group_alone(op: u8) -> Alone
 pub(crate) fn group_numbered(op: u8) -> Numbered
     ensures { result ≡ numbered_at op }
 {
-    if op < 0x08 {
-        Numbered::Super
-    } else if op < 0x40 {
-        Numbered::Constant
-    } else if op < 0x41 {
-        Numbered::New
-    } else if op < 0x42 {
-        Numbered::Call
-    } else if op < 0x43 {
-        Numbered::Construct
-    } else if op < 0x50 {
-        Numbered::Super
-    } else if op < 0x58 {
-        Numbered::New
-    } else if op < 0x59 {
-        Numbered::Class
-    } else if op < 0x5C {
-        Numbered::New
-    } else if op < 0x61 {
-        Numbered::Find
-    } else if op < 0x62 {
-        Numbered::Property
-    } else if op < 0x64 {
-        Numbered::Constant
-    } else if op < 0x6B {
-        Numbered::Property
-    } else if op < 0x70 {
-        Numbered::Slot
+    if op < 0x61 {
+        if op < 0x43 {
+            if op < 0x41 {
+                if op < 0x40 {
+                    if op < 0x08 {
+                        Numbered::Super
+                    } else {
+                        Numbered::Constant
+                    }
+                } else {
+                    Numbered::New
+                }
+            } else if op < 0x42 {
+                Numbered::Call
+            } else {
+                Numbered::Construct
+            }
+        } else if op < 0x59 {
+            if op < 0x58 {
+                if op < 0x50 {
+                    Numbered::Super
+                } else {
+                    Numbered::New
+                }
+            } else {
+                Numbered::Class
+            }
+        } else if op < 0x5C {
+            Numbered::New
+        } else {
+            Numbered::Find
+        }
     } else if op < 0x90 {
-        Numbered::Typed
-    } else if op < 0xB0 {
-        Numbered::Count
+        if op < 0x6B {
+            if op < 0x64 {
+                if op < 0x62 {
+                    Numbered::Property
+                } else {
+                    Numbered::Constant
+                }
+            } else {
+                Numbered::Property
+            }
+        } else if op < 0x70 {
+            Numbered::Slot
+        } else {
+            Numbered::Typed
+        }
     } else if op < 0xC0 {
-        Numbered::Typed
+        if op < 0xB0 {
+            Numbered::Count
+        } else {
+            Numbered::Typed
+        }
     } else if op < 0xE0 {
         Numbered::Count
     } else {
