@@ -120,9 +120,11 @@ module _ (l : LinkedFile) (out : Outer) (s : State) (reached : IsReached l out s
         subst (λ (x : Stepped). StepsIn x out r last before now) (sym same)
 
   -- where it left nothing, the step is done
-  module _ (new : State) (leaves : Leaves l out (runs p top (routine_of p top.method)) s (Ok lefts.Goes) new) where
+  module _ (left : Result Left Stop) (new : State) (leaves : Leaves l out (runs p top (routine_of p top.method)) s left new) (goes : left ≡ Ok lefts.Goes) where
     pub goes_sized : IsSized p new.arena.limits new.frames
-    goes_sized = (fair_left (Ok lefts.Goes) new leaves).held.sized
+    goes_sized = (subst (λ (x : Result Left Stop). IsFairTurn p (answered p x (world new out) new.frames)) goes (fair_left left new leaves)).held.sized
 
     pub goes_step : (before : Option (List ℕ)) → StepsAs l out s (Ok tt) new before before
-    goes_step before = steps_left (Ok lefts.Goes) new leaves (Ok tt) new before before (ended_in (left_here l out new (Ok lefts.Goes)) out (Ok tt) new before before refl refl)
+    goes_step before =
+        let done : StepsIn (left_here l out new (Ok lefts.Goes)) out (Ok tt) new before before = ended_in (left_here l out new (Ok lefts.Goes)) out (Ok tt) new before before refl refl in
+        steps_left left new leaves (Ok tt) new before before (subst (λ (x : Result Left Stop). StepsIn (left_here l out new x) out (Ok tt) new before before) (sym goes) done)

@@ -1,7 +1,9 @@
-use Rattle.std.proofs.Common.{◌≡◌, ◌≢◌, ℕ, ◌<◌, List, [], ◌∷◌, length, refl, sym, subst, arith}
+use Rattle.std.proofs.Common.{◌≡◌, ◌≢◌, ℕ, ◌<◌, List, [], ◌∷◌, length, refl, sym, ap, ◌∙◌, subst, arith}
+use Rattle.std.specs.Prelude.{Ok}
 use Rattle.abc_entering.specs.Arguments.{IsKnown}
 use Rattle.abc_finishing.proofs.Sounding.{can_start, scripts_there}
 use Rattle.abc_stacks.specs.Frame.{Frame}
+use Rattle.abc_states.specs.declared.state.Left.{Left}
 use Rattle.abc_stepping.proofs.Reached.{can_step, equipped, fair_left, goes_sized, goes_step, steps_left}
 use Rattle.abc_stepping.proofs.stepping.step.Goals as goal
 
@@ -40,10 +42,10 @@ pub returns-in-Ok-Goes-clause-step : goal.returns-in-Ok-Goes-clause-step
 returns-in-Ok-Goes-clause-step g c =
     let s = c.args.s.now in
     let live = some_left s.frames.living c.depth.result c.depth.ensures c.if-depth-eq0.false in
-    goes_step c.args.linked.now g.out s c.requires.1.1.0 live c.run_newest-left.new.s c.in-Ok-Goes.ensures.leaves (g.K.Sink.written c.args.sink.now)
+    goes_step c.args.linked.now g.out s c.requires.1.1.0 live c.run_newest-left.result c.run_newest-left.new.s c.run_newest-left.ensures.leaves (c.in-Ok-Goes.is ∙ ap (λ (x : Left). Ok x) c.in-Ok-Goes.field-0-is) (g.K.Sink.written c.args.sink.now)
 
 pub returns-in-Ok-Goes-clause-sized : goal.returns-in-Ok-Goes-clause-sized
 returns-in-Ok-Goes-clause-sized g c =
     let s = c.args.s.now in
     let live = some_left s.frames.living c.depth.result c.depth.ensures c.if-depth-eq0.false in
-    goes_sized c.args.linked.now g.out s c.requires.1.1.0 live c.run_newest-left.new.s c.in-Ok-Goes.ensures.leaves
+    goes_sized c.args.linked.now g.out s c.requires.1.1.0 live c.run_newest-left.result c.run_newest-left.new.s c.run_newest-left.ensures.leaves (c.in-Ok-Goes.is ∙ ap (λ (x : Left). Ok x) c.in-Ok-Goes.field-0-is)
