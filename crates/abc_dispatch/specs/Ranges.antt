@@ -14,25 +14,41 @@ use Rattle.abc_dispatch.specs.declared.groups.Paired.TheVariants as pairs
 
 -- ---- that stand alone
 
-abbrev pub alone_at : ℕ → Alone
-alone_at op =
+-- below 0x30
+abbrev pub first_alone_at : ℕ → Alone
+first_alone_at op =
     if nat_lt op 0x1E then alones.Control
     else if nat_lt op 0x20 then alones.Walk
     else if nat_lt op 0x22 then alones.Push
     else if nat_lt op 0x24 then alones.Walk
-    else if nat_lt op 0x30 then alones.Push
-    else if nat_lt op 0x40 then alones.Control
+    else alones.Push
+
+-- from 0x30 to 0x85
+abbrev pub second_alone_at : ℕ → Alone
+second_alone_at op =
+    if nat_lt op 0x40 then alones.Control
     else if nat_lt op 0x50 then alones.Return
     else if nat_lt op 0x70 then alones.Scope
-    else if nat_lt op 0x86 then alones.Convert
-    else if nat_lt op 0x90 then alones.Late
+    else alones.Convert
+
+-- from 0x86 to 0xB0
+abbrev pub third_alone_at : ℕ → Alone
+third_alone_at op =
+    if nat_lt op 0x90 then alones.Late
     else if nat_lt op 0xA0 then alones.Single
     else if nat_lt op 0xAB then alones.Double
-    else if nat_lt op 0xB1 then alones.Comparison
-    else if nat_lt op 0xC0 then alones.Late
+    else alones.Comparison
+
+-- from 0xB1 on
+abbrev pub last_alone_at : ℕ → Alone
+last_alone_at op =
+    if nat_lt op 0xC0 then alones.Late
     else if nat_lt op 0xC5 then alones.Single
     else if nat_lt op 0xD0 then alones.Double
     else alones.Local
+
+abbrev pub alone_at : ℕ → Alone
+alone_at op = if nat_lt op 0x86 then (if nat_lt op 0x30 then first_alone_at op else second_alone_at op) else (if nat_lt op 0xB1 then third_alone_at op else last_alone_at op)
 
 abbrev pub ops_alone : Alone → List ℕ
 ops_alone alones.Control = control_ops
@@ -49,27 +65,43 @@ ops_alone alones.Local = local_ops
 
 -- ---- with one number
 
-abbrev pub numbered_at : ℕ → Numbered
-numbered_at op =
+-- below 0x43
+abbrev pub first_numbered_at : ℕ → Numbered
+first_numbered_at op =
     if nat_lt op 0x08 then numbereds.Super
     else if nat_lt op 0x40 then numbereds.Constant
     else if nat_lt op 0x41 then numbereds.New
     else if nat_lt op 0x42 then numbereds.Call
-    else if nat_lt op 0x43 then numbereds.Construct
-    else if nat_lt op 0x50 then numbereds.Super
+    else numbereds.Construct
+
+-- from 0x43 to 0x60
+abbrev pub second_numbered_at : ℕ → Numbered
+second_numbered_at op =
+    if nat_lt op 0x50 then numbereds.Super
     else if nat_lt op 0x58 then numbereds.New
     else if nat_lt op 0x59 then numbereds.Class
     else if nat_lt op 0x5C then numbereds.New
-    else if nat_lt op 0x61 then numbereds.Find
-    else if nat_lt op 0x62 then numbereds.Property
+    else numbereds.Find
+
+-- from 0x61 to 0x6F
+abbrev pub third_numbered_at : ℕ → Numbered
+third_numbered_at op =
+    if nat_lt op 0x62 then numbereds.Property
     else if nat_lt op 0x64 then numbereds.Constant
     else if nat_lt op 0x6B then numbereds.Property
-    else if nat_lt op 0x70 then numbereds.Slot
-    else if nat_lt op 0x90 then numbereds.Typed
+    else numbereds.Slot
+
+-- from 0x70 on
+abbrev pub last_numbered_at : ℕ → Numbered
+last_numbered_at op =
+    if nat_lt op 0x90 then numbereds.Typed
     else if nat_lt op 0xB0 then numbereds.Count
     else if nat_lt op 0xC0 then numbereds.Typed
     else if nat_lt op 0xE0 then numbereds.Count
     else numbereds.Constant
+
+abbrev pub numbered_at : ℕ → Numbered
+numbered_at op = if nat_lt op 0x61 then (if nat_lt op 0x43 then first_numbered_at op else second_numbered_at op) else (if nat_lt op 0x70 then third_numbered_at op else last_numbered_at op)
 
 abbrev pub ops_numbered : Numbered → List ℕ
 ops_numbered numbereds.Super = super_ops

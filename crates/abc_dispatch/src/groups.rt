@@ -1,5 +1,6 @@
 ghost use Rattle.std.specs.Prelude.{◌≡◌};
-ghost use Rattle.abc_dispatch.specs.Ranges.{alone_at, numbered_at, paired_at};
+ghost use Rattle.abc_dispatch.specs.Ranges.{alone_at, first_alone_at, last_alone_at, second_alone_at, third_alone_at};
+ghost use Rattle.abc_dispatch.specs.Ranges.{first_numbered_at, last_numbered_at, numbered_at, paired_at, second_numbered_at, third_numbered_at};
 
 /// The groups of opcodes that stand alone.
 #[derive(Clone, Copy)]
@@ -42,9 +43,9 @@ pub(crate) enum Paired {
     Construct,
 }
 
-/// The group of an opcode that stands alone.
-pub(crate) fn group_alone(op: u8) -> Alone
-    ensures { result ≡ alone_at op }
+/// The group of an opcode below 0x30.
+fn first_alone(op: u8) -> Alone
+    ensures { result ≡ first_alone_at op }
 {
     if op < 0x1E {
         Alone::Control
@@ -54,25 +55,46 @@ pub(crate) fn group_alone(op: u8) -> Alone
         Alone::Push
     } else if op < 0x24 {
         Alone::Walk
-    } else if op < 0x30 {
+    } else {
         Alone::Push
-    } else if op < 0x40 {
+    }
+}
+
+/// The group of an opcode from 0x30 to 0x85.
+fn second_alone(op: u8) -> Alone
+    ensures { result ≡ second_alone_at op }
+{
+    if op < 0x40 {
         Alone::Control
     } else if op < 0x50 {
         Alone::Return
     } else if op < 0x70 {
         Alone::Scope
-    } else if op < 0x86 {
+    } else {
         Alone::Convert
-    } else if op < 0x90 {
+    }
+}
+
+/// The group of an opcode from 0x86 to 0xB0.
+fn third_alone(op: u8) -> Alone
+    ensures { result ≡ third_alone_at op }
+{
+    if op < 0x90 {
         Alone::Late
     } else if op < 0xA0 {
         Alone::Single
     } else if op < 0xAB {
         Alone::Double
-    } else if op < 0xB1 {
+    } else {
         Alone::Comparison
-    } else if op < 0xC0 {
+    }
+}
+
+/// The group of an opcode from 0xB1 on.
+fn last_alone(op: u8) -> Alone
+    ensures { result ≡ last_alone_at op }
+{
+    if op < 0xC0 {
         Alone::Late
     } else if op < 0xC5 {
         Alone::Single
@@ -83,9 +105,26 @@ pub(crate) fn group_alone(op: u8) -> Alone
     }
 }
 
-/// The group of an opcode with one number.
-pub(crate) fn group_numbered(op: u8) -> Numbered
-    ensures { result ≡ numbered_at op }
+/// The group of an opcode that stands alone.
+pub(crate) fn group_alone(op: u8) -> Alone
+    ensures { result ≡ alone_at op }
+{
+    if op < 0x86 {
+        if op < 0x30 {
+            first_alone(op)
+        } else {
+            second_alone(op)
+        }
+    } else if op < 0xB1 {
+        third_alone(op)
+    } else {
+        last_alone(op)
+    }
+}
+
+/// The group of an opcode below 0x43.
+fn first_numbered(op: u8) -> Numbered
+    ensures { result ≡ first_numbered_at op }
 {
     if op < 0x08 {
         Numbered::Super
@@ -95,9 +134,16 @@ pub(crate) fn group_numbered(op: u8) -> Numbered
         Numbered::New
     } else if op < 0x42 {
         Numbered::Call
-    } else if op < 0x43 {
+    } else {
         Numbered::Construct
-    } else if op < 0x50 {
+    }
+}
+
+/// The group of an opcode from 0x43 to 0x60.
+fn second_numbered(op: u8) -> Numbered
+    ensures { result ≡ second_numbered_at op }
+{
+    if op < 0x50 {
         Numbered::Super
     } else if op < 0x58 {
         Numbered::New
@@ -105,17 +151,31 @@ pub(crate) fn group_numbered(op: u8) -> Numbered
         Numbered::Class
     } else if op < 0x5C {
         Numbered::New
-    } else if op < 0x61 {
+    } else {
         Numbered::Find
-    } else if op < 0x62 {
+    }
+}
+
+/// The group of an opcode from 0x61 to 0x6F.
+fn third_numbered(op: u8) -> Numbered
+    ensures { result ≡ third_numbered_at op }
+{
+    if op < 0x62 {
         Numbered::Property
     } else if op < 0x64 {
         Numbered::Constant
     } else if op < 0x6B {
         Numbered::Property
-    } else if op < 0x70 {
+    } else {
         Numbered::Slot
-    } else if op < 0x90 {
+    }
+}
+
+/// The group of an opcode from 0x70 on.
+fn last_numbered(op: u8) -> Numbered
+    ensures { result ≡ last_numbered_at op }
+{
+    if op < 0x90 {
         Numbered::Typed
     } else if op < 0xB0 {
         Numbered::Count
@@ -125,6 +185,23 @@ pub(crate) fn group_numbered(op: u8) -> Numbered
         Numbered::Count
     } else {
         Numbered::Constant
+    }
+}
+
+/// The group of an opcode with one number.
+pub(crate) fn group_numbered(op: u8) -> Numbered
+    ensures { result ≡ numbered_at op }
+{
+    if op < 0x61 {
+        if op < 0x43 {
+            first_numbered(op)
+        } else {
+            second_numbered(op)
+        }
+    } else if op < 0x70 {
+        third_numbered(op)
+    } else {
+        last_numbered(op)
     }
 }
 

@@ -1,6 +1,7 @@
 -- The first naming of a method is found by its place.
 use Rattle.std.proofs.Common.{◌≡◌, ℕ, zero, suc, ◌+◌, Bool, true, false, List, [], ◌∷◌, Some, None, map, get_or, slice_get, nat_eq, refl, sym, ap, subst, ◌∙◌}
-use Rattle.std.specs.Prelude.{if◌then◌else◌}
+use Rattle.std.specs.Prelude.{if◌then◌else◌, unwrap_or}
+use Rattle.std.proofs.lemmas.Option.{unwrap_or-slice_get}
 use Rattle.std.specs.declared.option.Option.{Option}
 use Rattle.indexmap.specs.IndexMap.{get}
 use Rattle.abc_index.specs.Index.{Finds, Map, first, first_from}
@@ -25,5 +26,5 @@ owner_found v o m place r a e is =
     ∙ ap (owner_at o.namings) (e ∙ a.places_are.finds m ∙ first_map (λ (n : Naming). n.method) m 0 o.namings)
     ∙ ap (λ (ns : List Naming). owner_at ns (first (λ (n : Naming). nat_eq m n.method) ns)) a.namings_are
 
-pub body_found : (v : Abc) (o : Owners) (m : ℕ) → AreOwners v o → get nat_eq o.bodies m ≡ body_of v m
-body_found v o m a = a.bodies_are.finds m
+pub body_found : (v : Abc) (o : Owners) (m : ℕ) → AreOwners v o → unwrap_or (slice_get o.bodies m) None ≡ body_of v m
+body_found v o m a = unwrap_or-slice_get o.bodies m None ∙ a.bodies_are.finds m

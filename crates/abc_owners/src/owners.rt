@@ -1,8 +1,8 @@
-ghost use Rattle.std.specs.Prelude.{◌≡◌, ◌<◌, ◌^◌, length, map, nat_eq, IfOk};
+ghost use Rattle.std.specs.Prelude.{◌≡◌, ◌<◌, ◌^◌, length, map, nat_eq, IfOk, OnOk};
 ghost use Rattle.abc_index.specs.Index.{Finds, first};
 ghost use Rattle.abc_program.specs.Owners.{body_of, owner_at as owner_at_of, owner_of};
 ghost use Rattle.abc_program.specs.Methods.{methods_with_bodies as all_with_bodies};
-ghost use Rattle.abc_owners.specs.Owning.{AreOwners};
+ghost use Rattle.abc_owners.specs.Owning.{AreOwners, HasFirsts, Puts, Reaches};
 
 use crate::namings::namings;
 use abc_base::{NoMemory, Table};
@@ -18,8 +18,8 @@ pub struct Owners {
     pub(crate) namings: Table<Naming>,
     /// The first place where each method is named.
     pub(crate) places: IndexMap<u32, u32>,
-    /// The first body of each method.
-    pub(crate) bodies: IndexMap<u32, u32>,
+    /// The first body of each method, up to the last method that has one. Each step of a run asks for one.
+    pub(crate) bodies: Table<Option<u32>>,
 }
 
 /// The first place of each key. Of 2^32 keys or more there is never room for the places.
@@ -63,13 +63,49 @@ fn methods_with_bodies(alloc: Global, abc: &Abc) -> Result<Vec<u32>, NoMemory>
     Ok(list)
 }
 
+/// Makes a table long enough for a number.
+#[tactic(auto, using(crate::proofs::Firsts::pushed_none))]
+fn reach(table: &mut Table<Option<u32>>, number: u32) -> Result<(), NoMemory>
+    ensures { OnOk result (Reaches table.old table.new number) }
+{
+    for _place in table.len()..number as usize + 1 {
+        table.push(None)?;
+    }
+    Ok(())
+}
+
+/// Puts a place at a number.
+#[tactic(auto, using(crate::proofs::Firsts::put_at))]
+fn put(table: &mut Table<Option<u32>>, number: u32, place: u32) -> Result<(), NoMemory>
+    ensures { OnOk result (Puts table.old table.new number place) }
+{
+    reach(table, number)?;
+    table.set(number as usize, Some(place));
+    Ok(())
+}
+
+/// The first place of each number. Of 2^32 numbers or more there is never room for the places.
+#[tactic(auto, using(crate::proofs::Firsts::firsts_next))]
+fn first_bodies(alloc: Global, methods: &[u32]) -> Result<Table<Option<u32>>, NoMemory>
+    ensures { IfOk result (λ t. HasFirsts t methods.now) }
+{
+    if methods.len() > u32::MAX as usize {
+        return Err(NoMemory);
+    }
+    let mut table = Table::new(alloc);
+    for i in (0..methods.len()).rev() {
+        put(&mut table, methods[i], i as u32)?;
+    }
+    Ok(table)
+}
+
 /// The first body of each method.
-#[tactic(auto, using(crate::proofs::Found::finds_in))]
-fn bodies_of(alloc: Global, abc: &Abc) -> Result<IndexMap<u32, u32>, NoMemory>
-    ensures { IfOk result (λ m. Finds nat_eq m (all_with_bodies abc.now)) }
+#[tactic(auto, using(crate::proofs::Firsts::firsts_in))]
+fn bodies_of(alloc: Global, abc: &Abc) -> Result<Table<Option<u32>>, NoMemory>
+    ensures { IfOk result (λ t. HasFirsts t (all_with_bodies abc.now)) }
 {
     let methods = methods_with_bodies(alloc, abc)?;
-    first_places(alloc, methods.as_slice())
+    first_bodies(alloc, methods.as_slice())
 }
 
 /// What a place of a list names as the owner, if there is one.
@@ -118,6 +154,6 @@ impl Owners {
         ensures { result ≡ body_of abc.now method }
     {
         let _file = abc;
-        self.bodies.get(&method).copied()
+        self.bodies.fetch(method as usize).unwrap_or(None)
     }
 }

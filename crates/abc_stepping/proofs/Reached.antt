@@ -1,14 +1,22 @@
--- From a state that a run reaches to what the code of its newest frame's instruction relies on.
-use Rattle.std.proofs.Common.{◌≡◌, ◌≢◌, ℕ, ◌<◌, ◌^◌, List, ◌∷◌, length, map, refl, ap, ◌∙◌, subst, arith}
+-- From a state that a run reaches to what the code of its newest frame's instruction relies on, and from what that leaves to the step.
+use Rattle.std.proofs.Common.{◌≡◌, ◌≢◌, ℕ, ◌<◌, ◌^◌, List, ◌∷◌, length, map, refl, sym, ap, ◌∙◌, subst, arith}
+use Rattle.std.specs.Prelude.{Ok}
+use Rattle.std.specs.declared.option.Option.{Option}
+use Rattle.std.specs.declared.result.Result.{Result}
 use Rattle.abc_dispatch.proofs.Led.{runs_here}
 use Rattle.abc_dispatch.specs.Ready.{CanStep, IsEquipped}
+use Rattle.abc_ends.specs.Ending.{IsSized}
+use Rattle.abc_finishing.proofs.Finished.{ended_in}
 use Rattle.abc_finishing.proofs.Sounded.{frames_run}
 use Rattle.abc_finishing.specs.Running.{IsRunning}
+use Rattle.abc_finishing.proofs.Sounding.{step_is, turn_fair}
 use Rattle.abc_finishing.proofs.Turned.{living_is}
-use Rattle.abc_finishing.specs.Steps.{IsReached}
+use Rattle.abc_finishing.specs.Fairly.{IsFairTurn}
+use Rattle.abc_finishing.specs.Steps.{IsReached, StepsAs, StepsIn, left_here, stepped}
+use Rattle.abc_finishing.specs.declared.halting.Halt.{Halt}
 use Rattle.abc_meaning.specs.Sound.{IsSound}
 use Rattle.abc_meaning.specs.Step.{runs}
-use Rattle.abc_meaning.specs.Throwing.{Machine}
+use Rattle.abc_meaning.specs.Throwing.{Machine, Stepped}
 use Rattle.abc_plainsteps.specs.Spelled.{IsSpelled}
 use Rattle.abc_program.specs.Linked.{LinkedFile}
 use Rattle.abc_shapes.specs.Instructions.{opcode}
@@ -17,10 +25,13 @@ use Rattle.abc_states.specs.ActsAt.{Act}
 use Rattle.abc_states.specs.Outer.{Outer, setting, world}
 use Rattle.abc_states.specs.Standing.{IsSet}
 use Rattle.abc_states.specs.Stops.{IsOpen}
-use Rattle.abc_states.specs.Turns.{size_for}
+use Rattle.abc_states.specs.Turns.{Leaves, Turned, answered, size_for}
 use Rattle.abc_states.specs.World.{Errs, Faults, Fills, Outcome, Sticks, Stopped, Throws, Went, World}
 use Rattle.abc_states.specs.WorldSetting.{Setting, routine_of}
+use Rattle.abc_states.specs.declared.state.Left.{Left}
+use Rattle.abc_states.specs.declared.state.Left.TheVariants as lefts
 use Rattle.abc_states.specs.declared.state.State.{State}
+use Rattle.abc_states.specs.declared.state.Stop.{Stop}
 use Rattle.abc_stepping.proofs.Counted.{few_scopes}
 use Rattle.abc_tables.specs.Ready.{CanSpell}
 use Rattle.abc_tables.specs.declared.code.Instr.{Instr}
@@ -95,3 +106,25 @@ module _ (l : LinkedFile) (out : Outer) (s : State) (reached : IsReached l out s
       let fit = stands.scopes in
       let low = few_scopes p reached.verified.linked top.method stands.routine stands.body in
       record { known = reached.known; few = omega (arith, fit, low); started = reached.sound.world.scripts }
+
+  -- ---- what the instruction left
+
+  module _ (left : Result Left Stop) (new : State) (leaves : Leaves l out (runs p top (routine_of p top.method)) s left new) where
+    pub fair_left : IsFairTurn p (answered p left (world new out) new.frames)
+    fair_left = subst (IsFairTurn p) leaves (turn_fair l out s reached live)
+
+    -- what is done with it is the step
+    pub steps_left : (r : Result Unit Halt) (last : State) (before now : Option (List ℕ)) → StepsIn (left_here l out new left) out r last before now → StepsAs l out s r last before now
+    steps_left r last before now =
+        let same = step_is l out s reached live ∙ ap (λ (t : Turned). stepped p t) leaves in
+        subst (λ (x : Stepped). StepsIn x out r last before now) (sym same)
+
+  -- where it left nothing, the step is done
+  module _ (left : Result Left Stop) (new : State) (leaves : Leaves l out (runs p top (routine_of p top.method)) s left new) (goes : left ≡ Ok lefts.Goes) where
+    pub goes_sized : IsSized p new.arena.limits new.frames
+    goes_sized = (subst (λ (x : Result Left Stop). IsFairTurn p (answered p x (world new out) new.frames)) goes (fair_left left new leaves)).held.sized
+
+    pub goes_step : (before : Option (List ℕ)) → StepsAs l out s (Ok tt) new before before
+    goes_step before =
+        let done : StepsIn (left_here l out new (Ok lefts.Goes)) out (Ok tt) new before before = ended_in (left_here l out new (Ok lefts.Goes)) out (Ok tt) new before before refl refl in
+        steps_left left new leaves (Ok tt) new before before (subst (λ (x : Result Left Stop). StepsIn (left_here l out new x) out (Ok tt) new before before) (sym goes) done)

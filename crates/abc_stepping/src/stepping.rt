@@ -9,7 +9,7 @@ use abc_base::{Host, Sink};
 use abc_dispatch::run_newest;
 use abc_finishing::{Halt, finish, start_last};
 use abc_link::Linked;
-use abc_states::State;
+use abc_states::{Left, State};
 
 /// One step: where no frame lives the last script is started, else the instruction of the newest frame is run. A line goes to the
 /// sink, and a formula is the host's. It answers `Ends` where the run ends, and why, and `Fails` where the sink failed, after a
@@ -33,5 +33,9 @@ pub fn step<K: Sink, H: Host>(
         return start_last(linked, s);
     }
     let left = run_newest(linked, s);
+    // (most instructions leave nothing: then what they left isn't read whole)
+    if let Ok(Left::Goes) = left {
+        return Ok(());
+    }
     finish(linked, s, sink, host, left)
 }

@@ -1,13 +1,10 @@
 use Rattle.std.proofs.Common.{◌≡◌, ◌≢◌, ℕ, ◌<◌, List, [], ◌∷◌, length, refl, sym, ap, ◌∙◌, subst, arith}
+use Rattle.std.specs.Prelude.{Ok}
 use Rattle.abc_entering.specs.Arguments.{IsKnown}
-use Rattle.abc_finishing.proofs.Sounding.{can_start, scripts_there, step_is, turn_fair}
-use Rattle.abc_finishing.specs.Fairly.{IsFairTurn}
-use Rattle.abc_finishing.specs.Steps.{StepsIn, stepped}
-use Rattle.abc_meaning.specs.Throwing.{Stepped}
+use Rattle.abc_finishing.proofs.Sounding.{can_start, scripts_there}
 use Rattle.abc_stacks.specs.Frame.{Frame}
-use Rattle.abc_states.specs.Outer.{setting}
-use Rattle.abc_states.specs.Turns.{Turned}
-use Rattle.abc_stepping.proofs.Reached.{can_step, equipped}
+use Rattle.abc_states.specs.declared.state.Left.{Left}
+use Rattle.abc_stepping.proofs.Reached.{can_step, equipped, fair_left, goes_sized, goes_step, steps_left}
 use Rattle.abc_stepping.proofs.stepping.step.Goals as goal
 
 none_left : (fs : List Frame) (n : ℕ) → n ≡ length fs → n ≡ 0 → fs ≡ []
@@ -31,13 +28,24 @@ finish-requires g c =
     let s = c.args.s.now in
     let live = some_left s.frames.living c.depth.result c.depth.ensures c.if-depth-eq0.false in
     let known = subst (IsKnown l) (sym c.run_newest-left.ensures.limit) c.requires.1.1.0.known in
-    let fair = subst (IsFairTurn (setting l g.out)) c.run_newest-left.ensures.leaves (turn_fair l g.out s c.requires.1.1.0 live) in
+    let fair = fair_left l g.out s c.requires.1.1.0 live c.run_newest-left.result c.run_newest-left.new.s c.run_newest-left.ensures.leaves in
     λ κs among. (among.0, (among.1, (known, (scripts_there l g.out s c.requires.1.1.0, (c.requires.1.1.1, (c.run_newest-left.ensures.finishes, fair))))))
 
 pub returns-clause-step : goal.returns-clause-step
 returns-clause-step g c =
-    let l = c.args.linked.now in
     let s = c.args.s.now in
     let live = some_left s.frames.living c.depth.result c.depth.ensures c.if-depth-eq0.false in
-    let left = step_is l g.out s c.requires.1.1.0 live ∙ ap (λ (t : Turned). stepped (setting l g.out) t) c.run_newest-left.ensures.leaves in
-    subst (λ (r : Stepped). StepsIn r g.out c.finish.result c.finish.new.s (g.K.Sink.written c.args.sink.now) (g.K.Sink.written c.finish.new.sink)) (sym left) c.finish.ensures.step
+    steps_left c.args.linked.now g.out s c.requires.1.1.0 live c.run_newest-left.result c.run_newest-left.new.s c.run_newest-left.ensures.leaves c.finish.result c.finish.new.s (g.K.Sink.written c.args.sink.now) (g.K.Sink.written c.finish.new.sink) c.finish.ensures.step
+
+-- (the names of the arm are guessed)
+pub returns-in-Ok-Goes-clause-step : goal.returns-in-Ok-Goes-clause-step
+returns-in-Ok-Goes-clause-step g c =
+    let s = c.args.s.now in
+    let live = some_left s.frames.living c.depth.result c.depth.ensures c.if-depth-eq0.false in
+    goes_step c.args.linked.now g.out s c.requires.1.1.0 live c.run_newest-left.result c.run_newest-left.new.s c.run_newest-left.ensures.leaves (c.in-Ok-Goes.is ∙ ap (λ (x : Left). Ok x) c.in-Ok-Goes.field-0-is) (g.K.Sink.written c.args.sink.now)
+
+pub returns-in-Ok-Goes-clause-sized : goal.returns-in-Ok-Goes-clause-sized
+returns-in-Ok-Goes-clause-sized g c =
+    let s = c.args.s.now in
+    let live = some_left s.frames.living c.depth.result c.depth.ensures c.if-depth-eq0.false in
+    goes_sized c.args.linked.now g.out s c.requires.1.1.0 live c.run_newest-left.result c.run_newest-left.new.s c.run_newest-left.ensures.leaves (c.in-Ok-Goes.is ∙ ap (λ (x : Left). Ok x) c.in-Ok-Goes.field-0-is)
