@@ -9,6 +9,7 @@ use abc_cli::abc_main;
 use abc_host::{Entry, HostTable};
 use std::alloc::Global;
 use std::env;
+use std::io::ErrorKind;
 use std::process::ExitCode;
 use std::rt::Env;
 
@@ -22,6 +23,7 @@ fn words_of<R: Env + AllocGlobal>(rt: &R) -> Result<Words, NoMemory> {
                 words.push(arg.as_str().as_bytes())?;
             }
         }
+        Err(e) if e.kind() == ErrorKind::OutOfMemory => return Err(NoMemory),
         Err(_) => words.push(b"")?,
     }
     Ok(words)
