@@ -1,6 +1,5 @@
 use Rattle.std.proofs.Common.{ap, subst, sym}
 use Rattle.abc_bodies.specs.Places.{ArePlaces}
-use Rattle.abc_heap.specs.declared.records.Limits.{Limits}
 use Rattle.abc_machine.specs.Machines.{Opened}
 use Rattle.abc_meaning.specs.Laws.{AreCounted}
 use Rattle.abc_program.specs.Linked.{LinkedFile}
