@@ -1,5 +1,5 @@
 -- How `gen` ends: a run of the generated file, and then the lines on it.
-use Rattle.std.proofs.Common.{◌≡◌, ◌≢◌, ◌⊎◌, ℕ, ◌+◌, ◌-◌, ◌^◌, ◌≤◌, min, inl, inr, List, [], ◌++◌, Some, None, refl, sym, ap, ◌∙◌, subst, arith}
+use Rattle.std.proofs.Common.{◌≡◌, ◌≢◌, ◌⊎◌, ℕ, ◌+◌, ◌≤◌, inl, inr, List, [], ◌++◌, Some, None, refl, sym, ap, ◌∙◌, subst, arith}
 use Rattle.std.specs.Prelude.{IsSome}
 use Rattle.std.specs.declared.option.Option.{Option}
 use Rattle.std.specs.Io.KnownBytes.{append_known}
@@ -19,7 +19,7 @@ use Rattle.abc_cli.specs.End.{Channel, channel, Got, GivesBytes, GivesLine, IsEn
 use Rattle.abc_cli.specs.Lines.{no_memory_text}
 use Rattle.abc_cli.specs.Outcome.{Gen, On}
 use Rattle.abc_cli.specs.Runs.{Run, default_options}
-use Rattle.abc_cli.proofs.Ending.{bytes_failed, nothing, weaker}
+use Rattle.abc_cli.proofs.Ending.{bytes_failed, weaker}
 use Rattle.abc_cli.proofs.Running.{memory_runs, runs_weaker, told_quiet}
 
 -- a source that never fails

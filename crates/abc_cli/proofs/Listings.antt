@@ -1,8 +1,5 @@
 -- What a run of `dis` that ends well leaves in `out`.
-use Rattle.std.proofs.Common.{◌≡◌, ℕ, List, ap, subst, ◌≤◌, length, Some, None, Ok, Err, refl, sym, ◌∙◌, arith}
-use Rattle.std.specs.Prelude.{◌↔◌}
-use Rattle.std.specs.declared.option.Option.{Option}
-use Rattle.std.specs.declared.result.Result.{Result}
+use Rattle.std.proofs.Common.{◌≡◌, ℕ, List, ap, subst, ◌≤◌, length, ◌∙◌, arith}
 use Rattle.abc_base.specs.declared.formula.Formula.{Formula}
 use Rattle.abc_base.specs.declared.status.Status.{Status}
 use Rattle.abc_base.specs.declared.status.Status.TheVariants as status
@@ -12,7 +9,7 @@ use Rattle.abc_rowparts.specs.Rows.{Fault}
 use Rattle.abc_tables.specs.declared.tables.Abc.{Abc}
 use Rattle.abc_tables.specs.Files.{IsFile, file_bytes}
 use Rattle.abc_words.specs.declared.command.Command.TheVariants as commands
-use Rattle.abc_cli.specs.Answers.{Answer, OfFile, given, told}
+use Rattle.abc_cli.specs.Answers.{Answer, OfFile, given}
 use Rattle.abc_cli.specs.Outcome.{CommandOutcome, Dis, OutcomeOf, Asm, text_limit}
 use Rattle.abc_cli.specs.End.{Channel, Got, HasFailed, IsEnd, Ends}
 use Rattle.abc_cli.specs.Listed.{AreBytes, IsListed, Lists}

@@ -1,9 +1,8 @@
 -- How a run ends follows from its meaning and from what the machine answers.
-use Rattle.std.proofs.Common.{◌≡◌, ◌≢◌, ℕ, ◌+◌, ◌<◌, ◌≤◌, inl, inr, List, [], ◌++◌, length, get_or, Some, None, refl, sym, ap, ◌∙◌, subst, arith}
-use Rattle.std.specs.Prelude.{IsSome, slice_get, unwrap_or}
+use Rattle.std.proofs.Common.{◌≡◌, ◌≢◌, ℕ, ◌<◌, inl, inr, List, [], length, get_or, Some, None, refl, sym, ap, ◌∙◌, subst, arith}
+use Rattle.std.specs.Prelude.{unwrap_or}
 use Rattle.std.proofs.lemmas.Option.{slice_get-get_or}
 use Rattle.std.specs.declared.option.Option.{Option}
-use Rattle.std.specs.Io.KnownBytes.{append_known}
 use Rattle.abc_base.specs.Sinks.{GrowsByFront}
 use Rattle.abc_base.specs.declared.formula.Formula.{Formula}
 use Rattle.abc_base.specs.declared.names.Fault.{Fault}
@@ -11,7 +10,7 @@ use Rattle.abc_base.specs.declared.status.Status.{Status}
 use Rattle.abc_base.specs.declared.status.Status.TheVariants as status
 use Rattle.abc_bodies.specs.Places.{ArePlaces}
 use Rattle.abc_faults.specs.Placed.{IsInstruction}
-use Rattle.abc_file.specs.Reading.{IsUsedUp, OfInput}
+use Rattle.abc_file.specs.Reading.{OfInput}
 use Rattle.abc_heap.specs.declared.records.Limit.{Limit}
 use Rattle.abc_heap.specs.declared.records.Limits.{Limits}
 use Rattle.abc_items.specs.Parts.{body_at, no_body}
@@ -27,18 +26,17 @@ use Rattle.abc_meaning.specs.Throwing as meant
 use Rattle.abc_objects.specs.declared.error.OpenError.{OpenError}
 use Rattle.abc_objects.specs.declared.error.OpenError.TheVariants as errors
 use Rattle.abc_program.specs.Linked.{LinkedFile}
-use Rattle.abc_program.specs.Owners.{body_of}
 use Rattle.abc_program.specs.Slots.{HasFewSlots}
 use Rattle.abc_tables.specs.declared.tables.Abc.{Abc}
 use Rattle.abc_words.specs.declared.command.RunOptions.{RunOptions}
 use Rattle.abc_meaning.specs.WorldSetting.{Setting}
 use Rattle.abc_cli.specs.declared.stop.Stop.{Stop}
 use Rattle.abc_cli.specs.Answers.{Answer, IsVerifiedOf, OfFileRead, Unverified, given, told}
-use Rattle.abc_cli.specs.End.{Channel, channel, Ends, Got, GivesLine, HasFailed, IsEnd, IsRead, RunsTo, UsesUp}
+use Rattle.abc_cli.specs.End.{Channel, channel, Got, GivesLine, HasFailed, IsEnd, RunsTo, UsesUp}
 use Rattle.abc_cli.specs.Endings.{HasPlace, IsPlacedEnd, end_answer, open_answer}
-use Rattle.abc_cli.specs.Lines.{code_text, fuel_spent_text, limit_text, no_memory_text, uncaught_text}
+use Rattle.abc_cli.specs.Lines.{fuel_spent_text, limit_text, no_memory_text, uncaught_text}
 use Rattle.abc_cli.specs.Outcome.{On}
-use Rattle.abc_cli.specs.Runs.{IsEnded, IsMeant, Run, ended, limits_of, place_of, thrown_name}
+use Rattle.abc_cli.specs.Runs.{IsEnded, IsMeant, Run, ended, limits_of, thrown_name}
 use Rattle.abc_cli.specs.Stops.{IsReadVerified, Stops, stop_answer}
 use Rattle.abc_cli.proofs.Ending.{bytes_failed, line_ends, memory_failed, of_any, stop_not_read, stopped_undone, stops_as, weaker}
 

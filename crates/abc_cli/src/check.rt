@@ -35,11 +35,14 @@ fn line_of(alloc: Global, count: usize) -> Result<Vec<u8>, NoMemory>
 }
 
 /// How many bodies a verified file has.
-fn body_count(verified: Verified) -> usize
-    ensures { result ≡ length verified.file.bodies }
+fn body_count(verified: &Verified) -> usize
+    ensures { result ≡ length verified.now.file.bodies }
 {
     verified.linked().abc().bodies.len()
 }
+
+/// Gives back the memory of a verified file. Alone, since to drop what is large takes long to prove where much else is live.
+fn close(_verified: Verified) {}
 
 /// What the command `check` gives: how many bodies are verified.
 pub fn check<S: Source>(alloc: Global, source: &mut S) -> Result<Vec<u8>, Stop>
@@ -47,7 +50,8 @@ pub fn check<S: Source>(alloc: Global, source: &mut S) -> Result<Vec<u8>, Stop>
     ensures stops { IfErr result (λ stop. Stops (OfFileRead Check) (stream S.left S.faults source.old source.new) stop) }
 {
     let (verified, _) = read_verified(alloc, source)?;
-    let count = body_count(verified);
+    let count = body_count(&verified);
+    close(verified);
     let bytes = line_of(alloc, count)?;
     Ok(bytes)
 }

@@ -54,25 +54,28 @@ fn end_can_be_told<H: Host>(machine: &Machine, fuel: u32, host: &H)
     ends_can_be_told();
 }
 
+/// Gives back the memory of a machine. Alone, since to drop what is large takes long to prove where much else is live.
+fn close(_machine: Machine) {}
+
 /// Runs an opened machine, and writes the line of its end.
 fn run_machine<K: Sink, E: Sink, H: Host>(
-    mut machine: Machine,
+    machine: &mut Machine,
     places: &Places,
     fuel: u32,
     out: &mut K,
     err: &mut E,
     host: &H,
 ) -> Status
-    requires begun { machine.ended ≡ None }
-    requires names { formula_names (H.formulas host.now) ≡ machine.names }
-    requires verified { IsVerified (setting machine.linked (H.formulas host.now)) }
-    requires counted { AreCounted machine.limits }
-    requires places { ArePlaces machine.linked.file.bodies places.now }
-    ensures end { RunsTo (IsMeant machine.linked.file places.now (meaning (setting machine.linked (H.formulas host.now)) machine.limits fuel)) ⊥ (stream K.written K.faults out.old out.new) (stream E.written E.faults err.old err.new) result }
+    requires begun { machine.old.ended ≡ None }
+    requires names { formula_names (H.formulas host.now) ≡ machine.old.names }
+    requires verified { IsVerified (setting machine.old.linked (H.formulas host.now)) }
+    requires counted { AreCounted machine.old.limits }
+    requires places { ArePlaces machine.old.linked.file.bodies places.now }
+    ensures end { RunsTo (IsMeant machine.old.linked.file places.now (meaning (setting machine.old.linked (H.formulas host.now)) machine.old.limits fuel)) ⊥ (stream K.written K.faults out.old out.new) (stream E.written E.faults err.old err.new) result }
     ensures later { K.faults out.old ≤ K.faults out.new }
     ensures quiet { result ≡ Status.Done → err.new ≡ err.old }
 {
-    end_can_be_told(&machine, fuel, host);
+    end_can_be_told(machine, fuel, host);
     let end = machine.run(fuel, out, host);
     give_end(err, machine.linked(), places, &end)
 }
@@ -96,7 +99,11 @@ fn run_verified<K: Sink, E: Sink, H: Host>(
     verified.linked().slots_law();
     let limits = limits_of(options);
     match Machine::open(alloc, verified, &limits, host) {
-        Ok(machine) => run_machine(machine, places, options.fuel, out, err, host),
+        Ok(mut machine) => {
+            let status = run_machine(&mut machine, places, options.fuel, out, err, host);
+            close(machine);
+            status
+        }
         Err(e) => give_unopened(err, e),
     }
 }

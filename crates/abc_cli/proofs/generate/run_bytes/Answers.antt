@@ -1,7 +1,5 @@
-use Rattle.std.proofs.Common.{refl}
 use Rattle.abc_cli.specs.Answers.{OfFileRead}
-use Rattle.abc_cli.specs.End.{HasFailed, stream}
-use Rattle.abc_cli.specs.Outcome.{On}
+use Rattle.abc_cli.specs.End.{stream}
 use Rattle.abc_cli.specs.Runs.{Run, default_options}
 use Rattle.abc_cli.proofs.Ending.{nothing}
 use Rattle.abc_cli.proofs.Generating.{memory_bytes, memory_quiet, steady_runs}

@@ -1,6 +1,5 @@
 use Rattle.std.proofs.Common.{ap, subst, sym}
 use Rattle.abc_bodies.specs.Places.{ArePlaces}
-use Rattle.abc_heap.specs.declared.records.Limits.{Limits}
 use Rattle.abc_machine.specs.Machines.{Opened}
 use Rattle.abc_meaning.specs.Laws.{AreCounted}
 use Rattle.abc_program.specs.Linked.{LinkedFile}
@@ -10,8 +9,8 @@ use Rattle.abc_cli.proofs.Ending.{nothing}
 use Rattle.abc_cli.proofs.Running.{machine_verified, opened_runs, unopened_quiet, unopened_runs}
 use Rattle.abc_cli.proofs.run.run_verified.Goals as goal
 
-pub run_machine-requires : goal.run_machine-requires
-run_machine-requires g c =
+pub run_machine-status-requires : goal.run_machine-status-requires
+run_machine-status-requires g c =
     let is = c.in-Ok.ensures.is in
     let fs = g.H.Host.formulas c.args.host.now in
     record {
@@ -24,8 +23,8 @@ run_machine-requires g c =
 
 pub returns-in-Ok-clause-end : goal.returns-in-Ok-clause-end
 returns-in-Ok-clause-end g c =
-    opened_runs c.args.verified (g.H.Host.formulas c.args.host.now) c.limits_of-limits.result c.args.options.now c.in-Ok.machine c.args.places.now (stream g.K.Sink.written g.K.Sink.faults c.args.out.now c.run_machine.new.out)
-    (stream g.E.Sink.written g.E.Sink.faults c.args.err.now c.run_machine.new.err) c.run_machine.result c.in-Ok.ensures c.limits_of-limits.ensures.is c.run_machine.ensures.end
+    opened_runs c.args.verified (g.H.Host.formulas c.args.host.now) c.limits_of-limits.result c.args.options.now c.in-Ok.machine c.args.places.now (stream g.K.Sink.written g.K.Sink.faults c.args.out.now c.run_machine-status.new.out)
+    (stream g.E.Sink.written g.E.Sink.faults c.args.err.now c.run_machine-status.new.err) c.run_machine-status.result c.in-Ok.ensures c.limits_of-limits.ensures.is c.run_machine-status.ensures.end
 
 pub returns-in-Err-clause-end : goal.returns-in-Err-clause-end
 returns-in-Err-clause-end g c =
