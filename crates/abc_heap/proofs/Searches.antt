@@ -200,15 +200,15 @@ fewer : (i left : ℕ) → i < left → (i ≡ left - 1 → ⊥) → i < left - 
 fewer i left p q = elim (decide i (left - 1)) [ inl e ↦ absurd (q e) | inr e ↦ omega arith ]
 
 below_on : (cells : List Cell) (o : ℕ) (f : Span → List ℕ) (t : List ℕ) (left : ℕ) (c : Cell) → slice_get cells (left - 1) ≡ Some c → fits f t o c ≡ false → ((i : ℕ) (d : Cell) → slice_get cells i ≡ Some d → fits f t o d ≡ true → i < left) → (i : ℕ) (d : Cell) → slice_get cells i ≡ Some d → fits f t o d ≡ true → i < left - 1
-below_on cells o f t left c at no below i d here h = fewer i left (below i d here h) (λ (q : i ≡ left - 1). clash (sym h ∙ (ap (fits f t o) (one_cell cells i (left - 1) d c q here at) ∙ no)))
+below_on cells o f t left c at other below i d here h = fewer i left (below i d here h) (λ (q : i ≡ left - 1). clash (sym h ∙ (ap (fits f t o) (one_cell cells i (left - 1) d c q here at) ∙ other)))
 
 pub search_on : (fixed made : List ℕ) (strings : List (List ℕ)) (cs : Filling Cell) (b : Buckets) (o : ℕ) (t : List ℕ) (left next : ℕ) (c : Cell) → IsIndexed fixed made strings cs b → IsSearched cs.items (length b.lasts.items) o (text_in fixed made strings) t left → 0 < left → slice_get cs.items (left - 1) ≡ Some c → fits (text_in fixed made strings) t o c ≡ false → next ≡ get_or b.befores.items (left - 1) 0 → IsSearched cs.items (length b.lasts.items) o (text_in fixed made strings) t next
-search_on fixed made strings cs b o t left next c x s more at no e =
+search_on fixed made strings cs b o t left next c x s more at other e =
     let n = length b.lasts.items in
     let f = text_in fixed made strings in
     let here : next ≡ last_in (buckets_of n f cs.items) (bucket n o t) (left - 1) = e ∙ x.buckets.befores (left - 1) (bucket n o t) (s.own more) in
     let inside : left - 1 ≤ length cs.items = omega (arith, s.inside) in
-    last_searched cs.items n o (left - 1) f t next here inside (below_on cs.items o f t left c at no s.below)
+    last_searched cs.items n o (left - 1) f t next here inside (below_on cs.items o f t left c at other s.below)
 
 pub search_none : (cells : List Cell) (heads : List Head) (n o : ℕ) (f : Span → List ℕ) (t : List ℕ) (left : ℕ) → o < length heads → IsSearched cells n o f t left → left ≡ 0 → place_named f t (properties_of (objects cells 0 heads) o) ≡ None
 search_none cells heads n o f t left b s e =

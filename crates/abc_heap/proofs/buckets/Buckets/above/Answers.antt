@@ -22,13 +22,13 @@ loop-before-smaller c =
     let r = c.requires.place in
     (next_above r.0 c.args.self.now.lasts.items c.args.self.now.befores.items c.args.bucket c.args.place c.loop-before.above c.loop-before.before r.1 r.2 (c.loop-before.invariant r.0 r.1 r.2) c.loop-before-test.true).2
 
-pub place_before-before-in-loop-before-requires-clause-place : goal.place_before-before-in-loop-before-requires-clause-place
-place_before-before-in-loop-before-requires-clause-place c =
+pub place_before-before-requires-in-loop-before-clause-place : goal.place_before-before-requires-in-loop-before-clause-place
+place_before-before-requires-in-loop-before-clause-place c =
     let r = c.requires.place in
     (next_above r.0 c.args.self.now.lasts.items c.args.self.now.befores.items c.args.bucket c.args.place c.loop-before.above c.loop-before.before r.1 r.2 (c.loop-before.invariant r.0 r.1 r.2) c.loop-before-test.true).3
 
-pub place_before-before-in-loop-before-requires-clause-some : goal.place_before-before-in-loop-before-requires-clause-some
-place_before-before-in-loop-before-requires-clause-some c =
+pub place_before-before-requires-in-loop-before-clause-some : goal.place_before-before-requires-in-loop-before-clause-some
+place_before-before-requires-in-loop-before-clause-some c =
     let r = c.requires.place in
     (next_above r.0 c.args.self.now.lasts.items c.args.self.now.befores.items c.args.bucket c.args.place c.loop-before.above c.loop-before.before r.1 r.2 (c.loop-before.invariant r.0 r.1 r.2) c.loop-before-test.true).4
 
