@@ -3,7 +3,7 @@ use Rattle.std.proofs.Common.{◌≡◌, ℕ, suc, ◌+◌, ◌-◌, ◌≤◌, 
 use Rattle.std.proofs.Math.Logic.{∥∥₁_map}
 use Rattle.std.proofs.Math.Seq.{take-append_seam, drop-append_seam}
 use Rattle.std.proofs.lemmas.Bool.{eq-eqb, eqb-true}
-use Rattle.std.proofs.KnownBytes.{Consumes-trans}
+use Rattle.std.proofs.KnownBytes.{Consumes-nil, Consumes-trans}
 use Rattle.std.specs.Prelude.{Bool, true, false, ◌⊎◌, nat_eq, IfSome, Ok, Err, if◌then◌else◌}
 use Rattle.std.specs.Io.KnownBytes.{Consumes}
 use Rattle.std.specs.declared.option.Option.{Option}
@@ -11,7 +11,7 @@ use Rattle.std.specs.declared.result.Result.{Result}
 use Rattle.abc_base.specs.Faults.{Rose}
 use Rattle.abc_base.specs.declared.source.Failed.{Failed}
 use Rattle.abc_compare.specs.Compared.{Agrees, ComparesAs, Parts, PartsFrom}
-use Rattle.abc_compare.specs.Followed.{EndsApart, Follows, bytes_in, coded, decoded, number_in, parts_from, told}
+use Rattle.abc_compare.specs.Followed.{EndsApart, Follows, bytes_in, coded, decoded, first_bytes, first_number, name_in, noted, number_in, parts_from, told}
 use Rattle.abc_compare.specs.Views.{CompareView}
 use Rattle.abc_compare.specs.declared.compare.Verdict.{Verdict}
 use Rattle.abc_compare.specs.declared.compare.Verdict.TheVariants.{Differs, ReadFault, Same}
@@ -36,6 +36,15 @@ told_bytes s t a b e =
 pub decoded_coded : (o : Option (List ℕ)) → decoded (coded o) ≡ o
 decoded_coded None = refl
 decoded_coded (Some bytes) = refl
+
+pub name_noted : (name : List ℕ) (n : ℕ) (o : Option (List ℕ)) → name_in (noted name n o) ≡ name
+name_noted name n o = take-append_seam name (n ∷ coded o)
+
+pub number_noted : (name : List ℕ) (n : ℕ) (o : Option (List ℕ)) → number_in (noted name n o) ≡ n
+number_noted name n o = ap first_number (drop-append_seam name (n ∷ coded o))
+
+pub bytes_noted : (name : List ℕ) (n : ℕ) (o : Option (List ℕ)) → bytes_in (noted name n o) ≡ o
+bytes_noted name n o = ap first_bytes (drop-append_seam name (n ∷ coded o)) ∙ decoded_coded o
 
 -- ---- where bytes part
 
@@ -96,6 +105,22 @@ module _ {S : Type 0} (left : S → Option (List ℕ)) (faults : S → ℕ) (sta
   next_follows (Ok count) f a = subst Next (sym a.verdict) (agrees_next count f a)
   next_follows (Err e) f p = why_next f p p.why
 
+-- where all agreed no write failed
+other_verdict : (v : Verdict) (n : ℕ) → v ≡ Differs n → v ≡ Same → ⊥
+other_verdict v n e same = cc
+
+fault_verdict : (v : Verdict) → v ≡ ReadFault → v ≡ Same → ⊥
+fault_verdict v e same = cc
+
+module _ {S : Type 0} (left : S → Option (List ℕ)) (faults : S → ℕ) (w : ℕ) (old new : CompareView S) where
+  never_same : ((new.verdict ≡ ReadFault) × Rose (faults old.source) (faults new.source)) ⊎ ((new.verdict ≡ Differs old.agreed) × PartsFrom w (left old.source)) → new.verdict ≡ Same → ⊥
+  never_same (inl q) same = fault_verdict new.verdict q.0 same
+  never_same (inr q) same = other_verdict new.verdict old.agreed q.0 same
+
+  pub quiet_next : (r : Result ℕ Failed) → old.faults ≡ 0 → ComparesAs left faults w old r new → new.verdict ≡ Same → new.faults ≡ 0
+  quiet_next (Ok count) none a same = a.kept ∙ none
+  quiet_next (Err e) none p same = absurd (never_same p.why same)
+
 -- a byte that is written is put behind those before it, whether it agrees or not
 pub lenient_next : {S : Type 0} (left : S → Option (List ℕ)) (faults : S → ℕ) (start bytes new_start new_bytes : List ℕ) (w v : ℕ) (old new : CompareView S) (r : Result ℕ Failed)
     → new_start ≡ start → new_bytes ≡ bytes ++ w ∷ [] → v ≡ w → old.verdict ≡ Same
@@ -108,3 +133,11 @@ lenient_next {S = S} left faults start bytes new_start new_bytes w v old new r a
     let after : Follows (bytes_in start) (number_in start) (bytes ++ w ∷ []) (left new.source) (faults new.source) new.agreed new.verdict = next_follows left faults (bytes_in start) (number_in start) bytes w old new r before compared in
     subst (λ (s : List ℕ). Follows (bytes_in s) (number_in s) new_bytes (left new.source) (faults new.source) new.agreed new.verdict) (sym at)
     (subst (λ (b : List ℕ). Follows (bytes_in start) (number_in start) b (left new.source) (faults new.source) new.agreed new.verdict) (sym more) after))
+
+-- nothing is written yet
+pub begun : (start name : List ℕ) (n : ℕ) (o : Option (List ℕ)) → start ≡ noted name n o → ∥ Follows (bytes_in start) (number_in start) [] o n 0 Same ∥₁
+begun start name n o e =
+    let bytes : bytes_in start ≡ o = ap bytes_in e ∙ bytes_noted name n o in
+    let number : number_in start ≡ n = ap number_in e ∙ number_noted name n o in
+    let none : Follows o n [] o n 0 Same = record { later = omega arith; is = (Consumes-nil o, omega arith) } in
+    ∣ subst (λ (x : Option (List ℕ)). Follows x (number_in start) [] o n 0 Same) (sym bytes) (subst (λ (k : ℕ). Follows o k [] o n 0 Same) (sym number) none) ∣₁

@@ -1,5 +1,5 @@
 -- What was written against what a source had.
-use Rattle.std.specs.Prelude.{◌≡◌, ℕ, suc, ◌-◌, ◌^◌, ◌<◌, ◌≤◌, List, [], ◌∷◌, ◌++◌, length, min, nat_eq, Some, None, IfSome, if◌then◌else◌}
+use Rattle.std.specs.Prelude.{◌≡◌, ℕ, suc, ◌-◌, ◌^◌, ◌<◌, ◌≤◌, List, [], ◌∷◌, ◌++◌, drop, length, min, nat_eq, take, Some, None, IfSome, if◌then◌else◌}
 use Rattle.std.specs.Io.KnownBytes.{Consumes}
 use Rattle.std.specs.declared.option.Option.{Option}
 use Rattle.abc_base.specs.Faults.{Rose}
@@ -19,17 +19,31 @@ abbrev pub decoded : List ℕ → Option (List ℕ)
 decoded [] = None
 decoded (n ∷ bytes) = Some bytes
 
--- a number, and bytes where they are told
-abbrev pub noted : ℕ → Option (List ℕ) → List ℕ
-noted n bytes = n ∷ coded bytes
+-- a list, a number, and bytes where they are told
+abbrev pub noted : (name : List ℕ) → ℕ → Option (List ℕ) → List ℕ
+noted name n bytes = length name ∷ (name ++ n ∷ coded bytes)
+
+abbrev pub name_in : List ℕ → List ℕ
+name_in [] = []
+name_in (k ∷ rest) = take k rest
+
+abbrev pub behind_name : List ℕ → List ℕ
+behind_name [] = []
+behind_name (k ∷ rest) = drop k rest
+
+abbrev pub first_number : List ℕ → ℕ
+first_number [] = 0
+first_number (n ∷ code) = n
+
+abbrev pub first_bytes : List ℕ → Option (List ℕ)
+first_bytes [] = None
+first_bytes (n ∷ code) = decoded code
 
 abbrev pub number_in : List ℕ → ℕ
-number_in [] = 0
-number_in (n ∷ code) = n
+number_in start = first_number (behind_name start)
 
 abbrev pub bytes_in : List ℕ → Option (List ℕ)
-bytes_in [] = None
-bytes_in (n ∷ code) = decoded code
+bytes_in start = first_bytes (behind_name start)
 
 -- where bytes part from others, from place i on: at the first that differs, is missing or is too much
 abbrev pub parts_from : ℕ → (found wanted : List ℕ) → Option ℕ

@@ -82,6 +82,7 @@ impl<S: Source> Compare<S> {
     fn compare(&mut self, wanted: u8) -> Result<usize, Failed>
         requires { self.old.verdict ≡ Same }
         ensures compares { ComparesAs S.left S.faults wanted self.old result self.new }
+        ensures same { S.name self.new.source ≡ S.name self.old.source }
         ensures cause { HasCause self.old.faults self.new.faults result }
     {
         let mut byte = [0];
@@ -110,6 +111,7 @@ impl<S: Source> Sink for Compare<S> {
         ensures cause { HasCause self.old.faults self.new.faults result }
         ensures nothing { length piece.now ≡ 0 → (result ≡ Ok 0) × (self.new ≡ self.old) }
         ensures again { 0 < length piece.now → self.old.verdict ≢ Same → (result ≡ Err (record {})) × (self.new ≡ record self.old { faults = one_more self.old.faults }) }
+        ensures same { S.name self.new.source ≡ S.name self.old.source }
         ensures compares { 0 < length piece.now → self.old.verdict ≡ Same → ComparesAs S.left S.faults (slice_index piece.now 0) self.old result self.new }
     {
         if piece.len() == 0 {

@@ -2,7 +2,8 @@ ghost use Rattle.std.specs.Prelude.{◌≡◌, ◌<◌, [], Some, Ok, IfOk, leng
 ghost use Rattle.std.specs.Io.{WritesAtMost};
 ghost use Rattle.std.specs.Io.KnownBytes.{WriteAppends};
 ghost use Rattle.abc_base.specs.Faults.{HasCause};
-ghost use Rattle.abc_compare.specs.Followed.{Follows, bytes_in, noted, number_in, told};
+ghost use Rattle.abc_compare.specs.Followed.{Follows, bytes_in, name_in, noted, number_in, told};
+ghost use Rattle.abc_compare.specs.declared.compare.Verdict.TheVariants.{Same};
 
 use crate::compare::{Compare, Verdict};
 use crate::history::History;
@@ -14,6 +15,8 @@ use abc_base::{Failed, Sink, Source};
 pub struct Lenient<S: Source> {
     compare: Compare<S>,
     history: History,
+    ghost named: { S.name compare.source ≡ name_in history.start },
+    ghost quiet: { compare.verdict ≡ Same → compare.faults ≡ 0 },
     ghost follows: { ∥ Follows (bytes_in history.start) (number_in history.start) history.bytes (S.left compare.source) (S.faults compare.source) compare.agreed compare.verdict ∥₁ },
 }
 
@@ -22,8 +25,9 @@ impl<S: Source> Lenient<S> {
 
     /// Nothing is written yet.
     pub fn new(source: S) -> Lenient<S>
-        ensures start { start_of result ≡ noted (S.faults source) (S.left source) }
+        ensures start { start_of result ≡ noted (S.name source) (S.faults source) (S.left source) }
         ensures bytes { bytes_of result ≡ [] }
+        ensures verdict { inner_verdict result ≡ Same }
     {
         let history = History::new(&source);
         Lenient {
