@@ -176,18 +176,22 @@ done_is (raws.Switch z zs) e = absurd cc
 
 same_waits : (i j : Raw) (here next here2 next2 : ℕ) (old mid new : Reading) → i ≡ j → mid.instrs ≡ old.instrs → new.instrs ≡ mid.instrs ++ blank j ∷ []
     → new.aims.items ≡ mid.aims.items ++ aims_in (jump_in j) (length mid.instrs) here next → new.starts ≡ mid.starts → mid.aims.items ≡ old.aims.items → mid.starts ≡ old.starts → here ≡ here2 → next ≡ next2 → Takes i here2 next2 old new
-same_waits i j here next here2 next2 old mid new e same instrs aims starts a s h n = record {
+same_waits i j here next here2 next2 old mid new e same instrs aims begun a s h n = record {
   instrs = instrs ∙ rw (same, e) refl;
   aims = aims ∙ rw (a, same, e, h, n) refl;
-  starts = starts ∙ s;
+  starts = begun ∙ s;
 }
 
 -- one with targets waits
 pub waited : (i j : Raw) (here next here2 next2 : ℕ) (old mid new : Reading) → Some j ≡ jump_in i → mid.instrs ≡ old.instrs ++ done_in i → new.instrs ≡ mid.instrs ++ blank j ∷ []
     → new.aims.items ≡ mid.aims.items ++ aims_in (jump_in j) (length mid.instrs) here next → new.starts ≡ mid.starts → mid.aims.items ≡ old.aims.items → mid.starts ≡ old.starts → here ≡ here2 → next ≡ next2 → Takes i here2 next2 old new
-waited (raws.Same i) j here next here2 next2 old mid new e done instrs aims starts a s h n = absurd cc
-waited (raws.Branch op z) j here next here2 next2 old mid new e done instrs aims starts a s h n = same_waits (raws.Branch op z) j here next here2 next2 old mid new cc (done ∙ append-nil old.instrs) instrs aims starts a s h n
-waited (raws.Switch z zs) j here next here2 next2 old mid new e done instrs aims starts a s h n = same_waits (raws.Switch z zs) j here next here2 next2 old mid new cc (done ∙ append-nil old.instrs) instrs aims starts a s h n
+waited (raws.Same i) j here next here2 next2 old mid new e done instrs aims begun a s h n = absurd cc
+waited (raws.Branch op z) j here next here2 next2 old mid new e done instrs aims begun a s h n =
+    let one : raws.Branch op z ≡ j = cc in
+    same_waits (raws.Branch op z) j here next here2 next2 old mid new one (done ∙ append-nil old.instrs) instrs aims begun a s h n
+waited (raws.Switch z zs) j here next here2 next2 old mid new e done instrs aims begun a s h n =
+    let one : raws.Switch z zs ≡ j = cc in
+    same_waits (raws.Switch z zs) j here next here2 next2 old mid new one (done ∙ append-nil old.instrs) instrs aims begun a s h n
 
 -- an instruction with targets is a blank
 pub blank_is : (i : Raw) → jump_in i ≡ Some i → blank i ≡ variants.Plain 0

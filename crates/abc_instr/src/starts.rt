@@ -48,7 +48,6 @@ impl Starts {
 
     /// Adds a start behind the others.
     #[inline(always)]
-    #[tactic(auto, using(crate::proofs::Numbering::still_numbered))]
     pub(crate) fn push(&mut self, place: u32) -> Result<(), NoMemory>
         requires later { All (λ s. s < place) self.old }
         requires few { length self.old < 2 ^ 23 }

@@ -11,5 +11,5 @@ returns-in-Ok-clause-value g c = rw c.take.ensures c.in-Ok.ensures.value
 pub returns-in-Ok-clause-answers : goal.returns-in-Ok-clause-answers
 returns-in-Ok-clause-answers g c = rw c.take.ensures (answers code code-exact _ _ _ _ (Ok (code_from c.read_code_within.new.reading.starts c.in-Ok.instrs)) (omega arith) c.in-Ok.ensures.value.0)
 
-pub returns-in-Err-clause-answers : goal.returns-in-Err-clause-answers
-returns-in-Err-clause-answers g c = answers code code-exact _ _ _ _ (Err c.in-Err.e) (omega arith) c.in-Err.ensures.value.0
+pub returns-clause-answers : goal.returns-clause-answers
+returns-clause-answers g c = answers code code-exact _ _ _ _ (Err c.in-Err.e) (omega arith) c.in-Err.ensures.value.0
