@@ -6,7 +6,7 @@ use Rattle.abc_refs.proofs.indexed.renumber_each.Goals as goal
 pub loop-i-preserved : goal.loop-i-preserved
 loop-i-preserved c =
     let lt : c.loop-i.i < length c.args.indices.now = subst (λ n. c.loop-i.i < n) c.len-i-end.ensures c.loop-i-test.true in
-    put_next (number_in c.args.numbers.now c.args.pool) c.args.indices.now c.loop-i.indices c.set.new.self c.loop-i.i c.get.result.now c.number.result c.loop-i.invariant lt c.get.ensures c.number.ensures c.set.ensures
+    put_next (number_in c.args.numbers.now c.args.pool) c.args.indices.now c.loop-i.indices c.set.new.self c.loop-i.i c.get-index.result.now c.number.result c.loop-i.invariant lt c.get-index.ensures c.number.ensures c.set.ensures
 
 pub returns : goal.returns
 returns c =

@@ -1,5 +1,4 @@
-use Rattle.std.proofs.Common.{◌≡◌, ◌<◌, ◌≤◌, length, subst, ◌∙◌, arith}
-use Rattle.std.proofs.Math.ListN.{set}
+use Rattle.std.proofs.Common.{◌<◌, ◌≤◌, length, subst, arith}
 use Rattle.abc_refs.specs.Nodes.{number_in}
 use Rattle.abc_refs.proofs.Reading.{put_all, put_next, set_again}
 use Rattle.abc_refs.proofs.indexed.TableIndexed.renumber.Goals as goal
