@@ -76,6 +76,7 @@ heap = record {
   fixed = 49 ∷ 48 ∷ 108 ∷ 101 ∷ 110 ∷ 103 ∷ 116 ∷ 104 ∷ [];
   made = [];
   formulas = [];
+  strings = file.strings;
   classes = [];
   frames = 0;
   stack = 0;
