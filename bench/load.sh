@@ -18,7 +18,7 @@ best() {
     done | awk '{ print $1 + $2, $3 }' | sort -n | head -n 1
 }
 
-for load in "elements 500000" "elements 1000000" "properties 10000" "properties 20000" "names 100000" "names 1000000"; do
+for load in "elements 500000" "elements 1000000" "properties 100000" "properties 200000" "names 100000" "names 1000000"; do
     # shellcheck disable=SC2086
     if [ "$("$abc" $load <"$folder/ladder.abc")" != "$("$peer" $load)" ]; then
         echo "$load: the sums differ" >&2
