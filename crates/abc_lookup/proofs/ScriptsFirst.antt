@@ -53,10 +53,10 @@ picked_places test [] pre os e = refl
 picked_places test (t ∷ ts) pre [] e = absurd (omega (arith, e))
 picked_places test (t ∷ ts) pre (o ∷ os) e =
     go
-        (test t)
-        (ap (λ (all : List ℕ). map (λ p. get_or all p 0) (places_from test (length pre + 1) ts)) (sym (append_assoc pre (o ∷ []) os))
-        ∙ ap (λ n. map (λ p. get_or ((pre ++ o ∷ []) ++ os) p 0) (places_from test n ts)) (sym (length-append pre (o ∷ [])))
-        ∙ picked_places test ts (pre ++ o ∷ []) os (omega (arith, e)))
+    (test t)
+    (ap (λ (all : List ℕ). map (λ p. get_or all p 0) (places_from test (length pre + 1) ts)) (sym (append_assoc pre (o ∷ []) os))
+    ∙ ap (λ n. map (λ p. get_or ((pre ++ o ∷ []) ++ os) p 0) (places_from test n ts)) (sym (length-append pre (o ∷ [])))
+    ∙ picked_places test ts (pre ++ o ∷ []) os (omega (arith, e)))
   where
     go : (b : Bool) → map (λ p. get_or (pre ++ o ∷ os) p 0) (places_from test (length pre + 1) ts) ≡ picked test ts os
         → map (λ p. get_or (pre ++ o ∷ os) p 0) (cond b (length pre ∷ places_from test (length pre + 1) ts) (places_from test (length pre + 1) ts)) ≡ cond b (o ∷ picked test ts os) (picked test ts os)
