@@ -1,9 +1,9 @@
 -- Where all entries that the definitions and bodies name have classes, no name that is visited reaches itself: each edge
 -- between names is one between entries, and what has a class has a tree.
-use Rattle.std.proofs.Common.{◌≡◌, ℕ, zero, suc, ◌+◌, ◌⊎◌, inl, inr, List, [], ◌∷◌, ◌++◌, Bool, true, false, ◌&&◌, not, cond, nat_eq, nat_le, if◌then◌else◌, map, length, get_or, slice_get, Some, refl, sym, ap, subst, ◌∙◌, arith, true≢false}
+use Rattle.std.proofs.Common.{◌≡◌, ℕ, zero, suc, ◌+◌, ◌<◌, ◌≤◌, ◌⊎◌, inl, inr, List, [], ◌∷◌, ◌++◌, Contains, Bool, true, false, ◌&&◌, not, cond, nat_eq, nat_le, if◌then◌else◌, map, length, get_or, slice_get, Some, refl, sym, ap, subst, ◌∙◌, arith, length-append, true≢false}
 use Rattle.std.specs.declared.option.Option.{Option}
-use Rattle.std.proofs.lemmas.List.{get_or-append-add, get_or_default}
-use Rattle.abc_graph.specs.Graph.{targets, Leads, Edge, Then}
+use Rattle.std.proofs.lemmas.List.{get_or-append-add, get_or_default, length-map}
+use Rattle.abc_graph.specs.Graph.{targets, Leads, Edge, Then, Returns}
 use Rattle.abc_refs.specs.declared.refs.Ref.{Ref}
 use Rattle.abc_refs.specs.Nodes.{counts_of, node_of}
 use Rattle.abc_refs.specs.Refs.{file_refs}

@@ -1,5 +1,5 @@
 -- The value at the place of a value.
-use Rattle.std.proofs.Common.{◌≡◌, ℕ, zero, suc, ◌+◌, inl, inr, List, [], ◌∷◌, get_or, Bool, true, false, if◌then◌else◌, Some, unwrap_or, Decides, refl, sym, ap, ◌∙◌, arith, true≢false}
+use Rattle.std.proofs.Common.{◌≡◌, ℕ, zero, suc, ◌+◌, ◌<◌, inl, inr, List, [], ◌∷◌, Contains, get_or, length, Bool, true, false, if◌then◌else◌, Some, unwrap_or, Decides, refl, sym, ap, subst, ◌∙◌, arith, true≢false}
 use Rattle.abc_index.specs.Index.{first_from}
 use Rattle.abc_tidy.specs.Entries.{place_among}
 use Rattle.abc_trees.specs.Orders.{In}

@@ -1,5 +1,5 @@
 -- The marks of the nodes of a list; and what tells marked nodes apart does so for those that have classes.
-use Rattle.std.proofs.Common.{◌≡◌, ℕ, ◌+◌, ◌<◌, ◌≤◌, ◌⊎◌, inl, inr, List, [], ◌∷◌, Bool, true, false, get_or, length, take, Some, None, sym, ap, subst, ◌∙◌, arith, get_or-set_other, get_or-set_same}
+use Rattle.std.proofs.Common.{◌≡◌, ℕ, zero, suc, ◌+◌, ◌<◌, ◌≤◌, ◌⊎◌, inl, inr, List, [], ◌∷◌, ◌++◌, Bool, true, false, get_or, length, take, Some, None, refl, sym, ap, subst, ◌∙◌, arith, get_or-set_other, get_or-set_same}
 use Rattle.std.specs.declared.option.Option.{Option}
 use Rattle.std.proofs.Math.ListN.{set, length-set}
 use Rattle.std.proofs.lemmas.Bool.{cases_eq, cases_lt}
@@ -9,7 +9,7 @@ use Rattle.abc_refs.specs.Nodes.{counts_of, node_count}
 use Rattle.abc_tables.specs.declared.tables.Abc.{Abc}
 use Rattle.abc_trees.specs.declared.heads.Head.{Head}
 use Rattle.abc_trees.specs.Alike.{AreAlike}
-use Rattle.abc_trees.specs.Classes.{HasClass}
+use Rattle.abc_trees.specs.Classes.{HasClass, class}
 use Rattle.abc_trees.specs.Orders.{In}
 use Rattle.abc_trees.proofs.Walked.{in_append}
 use Rattle.abc_tidy.specs.Entries.{graph_of, heads_of}

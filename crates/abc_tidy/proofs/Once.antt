@@ -1,17 +1,18 @@
 -- The numbers of a list, each once: they reach what all of them do, and the visit of their trees is that of all.
-use Rattle.std.proofs.Common.{◌≡◌, ℕ, suc, ◌+◌, ◌<◌, ◌≤◌, ◌⊎◌, inl, inr, All, List, [], ◌∷◌, ◌++◌, Bool, true, false, ◌||◌, if◌then◌else◌, nat_eq, eqb-true, eq-eqb, get_or, length, drop, map, replicate, refl, sym, ap, subst, ◌∙◌, add-one, append_assoc, true≢false, get_or-set_other, get_or-set_same}
+use Rattle.std.proofs.Common.{◌≡◌, ℕ, suc, ◌+◌, ◌<◌, ◌≤◌, ◌⊎◌, inl, inr, All, List, [], ◌∷◌, ◌++◌, Bool, true, false, ◌||◌, if◌then◌else◌, nat_eq, eqb-true, eq-eqb, get_or, length, drop, map, replicate, refl, sym, ap, subst, ◌∙◌, arith, add-one, append_assoc, true≢false, get_or-set_other, get_or-set_same}
 use Rattle.std.specs.declared.option.Option.{Option}
 use Rattle.std.proofs.Math.ListN.{drop_of_length-le, set, length-set}
 use Rattle.std.proofs.Math.Seq.{drop-cons}
 use Rattle.std.proofs.lemmas.Bool.{cases_eq}
 use Rattle.std.proofs.lemmas.List.{append-nil, get_or_default}
 use Rattle.std.proofs.lemmas.List.Folds.{list_any-append}
+use Rattle.abc_graph.specs.Graph.{targets}
 use Rattle.abc_refs.specs.declared.nodes.Counts.{Counts}
 use Rattle.abc_refs.specs.declared.refs.Ref.{Ref}
 use Rattle.abc_refs.specs.Nodes.{node_of}
 use Rattle.abc_tables.specs.declared.tables.Abc.{Abc}
 use Rattle.abc_trees.specs.declared.heads.Head.{Head}
-use Rattle.abc_trees.specs.Classes.{AllClassed}
+use Rattle.abc_trees.specs.Classes.{AllClassed, HasClass}
 use Rattle.abc_trees.specs.Orders.{In, IsOrder, NoneReturns, Onward, Reaches, Root}
 use Rattle.abc_trees.specs.Trees.{Apply, AreTrees, IsTree, Leaf, NoTrees, OneMore, Tree, tree_eq}
 use Rattle.abc_trees.specs.Visits.{IsVisited, is_met, visit, visit_all, visit_parts}

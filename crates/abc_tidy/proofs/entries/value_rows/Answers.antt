@@ -1,3 +1,4 @@
+use Rattle.std.proofs.Common.{◌∙◌}
 use Rattle.abc_tidy.proofs.Building.{values_are}
 use Rattle.abc_tidy.proofs.entries.value_rows.Goals as goal
 
