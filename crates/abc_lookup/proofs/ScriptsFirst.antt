@@ -51,17 +51,17 @@ here (x ∷ pre) o os = here pre o os
 picked_places : (test : List ℕ → Bool) (ts : List (List ℕ)) (pre os : List ℕ) → length os ≡ length ts → map (λ p. get_or (pre ++ os) p 0) (places_from test (length pre) ts) ≡ picked test ts os
 picked_places test [] pre os e = refl
 picked_places test (t ∷ ts) pre [] e = absurd (omega (arith, e))
-picked_places test (t ∷ ts) pre (o ∷ os) e = go (test t)
+picked_places test (t ∷ ts) pre (o ∷ os) e =
+    go
+    (test t)
+    (ap (λ (all : List ℕ). map (λ p. get_or all p 0) (places_from test (length pre + 1) ts)) (sym (append_assoc pre (o ∷ []) os))
+    ∙ ap (λ n. map (λ p. get_or ((pre ++ o ∷ []) ++ os) p 0) (places_from test n ts)) (sym (length-append pre (o ∷ [])))
+    ∙ picked_places test ts (pre ++ o ∷ []) os (omega (arith, e)))
   where
-    rest : map (λ p. get_or (pre ++ o ∷ os) p 0) (places_from test (length pre + 1) ts) ≡ picked test ts os
-    rest =
-        ap (λ (all : List ℕ). map (λ p. get_or all p 0) (places_from test (length pre + 1) ts)) (sym (append_assoc pre (o ∷ []) os))
-        ∙ ap (λ n. map (λ p. get_or ((pre ++ o ∷ []) ++ os) p 0) (places_from test n ts)) (sym (length-append pre (o ∷ [])))
-        ∙ picked_places test ts (pre ++ o ∷ []) os (omega (arith, e))
-
-    go : (b : Bool) → map (λ p. get_or (pre ++ o ∷ os) p 0) (cond b (length pre ∷ places_from test (length pre + 1) ts) (places_from test (length pre + 1) ts)) ≡ cond b (o ∷ picked test ts os) (picked test ts os)
-    go true = ap (λ x. x ∷ map (λ p. get_or (pre ++ o ∷ os) p 0) (places_from test (length pre + 1) ts)) (here pre o os) ∙ ap (λ (xs : List ℕ). o ∷ xs) rest
-    go false = rest
+    go : (b : Bool) → map (λ p. get_or (pre ++ o ∷ os) p 0) (places_from test (length pre + 1) ts) ≡ picked test ts os
+        → map (λ p. get_or (pre ++ o ∷ os) p 0) (cond b (length pre ∷ places_from test (length pre + 1) ts) (places_from test (length pre + 1) ts)) ≡ cond b (o ∷ picked test ts os) (picked test ts os)
+    go true rest = ap (λ x. x ∷ map (λ p. get_or (pre ++ o ∷ os) p 0) (places_from test (length pre + 1) ts)) (here pre o os) ∙ ap (λ (xs : List ℕ). o ∷ xs) rest
+    go false rest = rest
 
 -- those of one script, and then those of the others
 picked_append : (test : List ℕ → Bool) (g : TraitInfo → List ℕ) (n : ℕ) (ts us : List TraitInfo) (os : List ℕ)
@@ -123,12 +123,12 @@ owners_length n (s ∷ ss) =
 -- each owner is a script
 pub owner_below : (n : ℕ) (ss : List Script) (i o : ℕ) → slice_get (owners_from n ss) i ≡ Some o → o < n + length ss
 owner_below n [] i o e = cc
-owner_below n (s ∷ ss) i o e = go s.traits i e
+owner_below n (s ∷ ss) i o e = go s.traits i (λ j f. owner_below (n + 1) ss j o f) e
   where
-    go : (ts : List TraitInfo) (i : ℕ) → slice_get (map (λ (t : TraitInfo). n) ts ++ owners_from (n + 1) ss) i ≡ Some o → o < n + length (s ∷ ss)
-    go [] i e = let h = owner_below (n + 1) ss i o e in omega (arith, h)
-    go (t ∷ ts) zero e = let q : n ≡ o = cc in omega (arith, q)
-    go (t ∷ ts) (suc i) e = go ts i e
+    go : (ts : List TraitInfo) (i : ℕ) → ((j : ℕ) → slice_get (owners_from (n + 1) ss) j ≡ Some o → o < n + 1 + length ss) → slice_get (map (λ (t : TraitInfo). n) ts ++ owners_from (n + 1) ss) i ≡ Some o → o < n + length (s ∷ ss)
+    go [] i ih e = let h = ih i e in omega (arith, h)
+    go (t ∷ ts) zero ih e = let q : n ≡ o = cc in omega (arith, q)
+    go (t ∷ ts) (suc i) ih e = go ts i ih e
 
 -- ---- the traits of a global object
 
@@ -173,11 +173,11 @@ any_nothing false = refl
 
 any_append : {A : Type 0} (p : A → Bool) (xs ys : List A) → list_any p (xs ++ ys) ≡ (list_any p xs || list_any p ys)
 any_append p [] ys = refl
-any_append p (x ∷ xs) ys = go (p x)
+any_append p (x ∷ xs) ys = go (p x) (any_append p xs ys)
   where
-    go : (b : Bool) → (b || list_any p (xs ++ ys)) ≡ ((b || list_any p xs) || list_any p ys)
-    go true = refl
-    go false = any_append p xs ys
+    go : (b : Bool) → list_any p (xs ++ ys) ≡ (list_any p xs || list_any p ys) → (b || list_any p (xs ++ ys)) ≡ ((b || list_any p xs) || list_any p ys)
+    go true ih = refl
+    go false ih = ih
 
 -- a global object has the traits of its script alone
 global_traits : (l : LinkedFile) (h : Heap) (n : Name) (x s : ℕ) (passed : List ℕ) → IsLinkedFile l → part_at l.parts x ≡ parts.Global s

@@ -166,7 +166,7 @@ fn put_beside(abc: Abc, pools: Abc) -> Abc
 }
 
 /// As `tidy`, for a file that serves nothing else: its definitions and bodies are renumbered where they stand.
-#[tactic(auto, using(crate::proofs::Tidied::done, crate::proofs::Tidied::too_large))]
+#[tactic(auto, using(crate::proofs::Tidied::done))]
 pub fn tidy_owned(alloc: Global, abc: Abc) -> Result<Abc, TidyError>
     ensures { MatchResult result (IsTidied abc) (IsTidyError abc) }
 {

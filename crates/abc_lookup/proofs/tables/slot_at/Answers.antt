@@ -9,8 +9,8 @@ overflow_add-result c =
     let f = few_before c.args.l.now c.linked_law.ensures c.slots_law.ensures c.args.x.0 c.args.place c.requires.layout in
     omega (arith, e, f)
 
-pub overflow_cast-result : goal.overflow_cast-result
-overflow_cast-result c =
+pub overflow_cast-result-2 : goal.overflow_cast-result-2
+overflow_cast-result-2 c =
     let e : c.slots_under.result + c.slots_before.result ≡ slot_of c.args.l.now c.args.x.0 c.args.place = slot_is c.args.l.now c.args.x.0 c.args.place c.slots_under.result c.slots_before.result c.slots_under.ensures c.slots_before.ensures in
     let f = few_before c.args.l.now c.linked_law.ensures c.slots_law.ensures c.args.x.0 c.args.place c.requires.layout in
     omega (arith, e, f)
