@@ -42,10 +42,10 @@ pub returns-in-Ok-Goes-clause-step : goal.returns-in-Ok-Goes-clause-step
 returns-in-Ok-Goes-clause-step g c =
     let s = c.args.s.now in
     let live = some_left s.frames.living c.depth.result c.depth.ensures c.if-depth-eq0.false in
-    goes_step c.args.linked.now g.out s c.requires.1.1.0 live c.run_newest-left.result c.run_newest-left.new.s c.run_newest-left.ensures.leaves (c.in-Ok-Goes.is ∙ ap (λ (x : Left). Ok x) c.in-Ok-Goes.field-0-is) (g.K.Sink.written c.args.sink.now)
+    goes_step c.args.linked.now g.out s c.requires.1.1.0 live c.run_newest-left.result c.run_newest-left.new.s c.run_newest-left.ensures.leaves (c.in-Ok-Goes.is ∙ ap (λ (x : Left). Ok x) (rw c.in-Ok-Goes.is at c.in-Ok-Goes.field-0-is)) (g.K.Sink.written c.args.sink.now)
 
 pub returns-in-Ok-Goes-clause-sized : goal.returns-in-Ok-Goes-clause-sized
 returns-in-Ok-Goes-clause-sized g c =
     let s = c.args.s.now in
     let live = some_left s.frames.living c.depth.result c.depth.ensures c.if-depth-eq0.false in
-    goes_sized c.args.linked.now g.out s c.requires.1.1.0 live c.run_newest-left.result c.run_newest-left.new.s c.run_newest-left.ensures.leaves (c.in-Ok-Goes.is ∙ ap (λ (x : Left). Ok x) c.in-Ok-Goes.field-0-is)
+    goes_sized c.args.linked.now g.out s c.requires.1.1.0 live c.run_newest-left.result c.run_newest-left.new.s c.run_newest-left.ensures.leaves (c.in-Ok-Goes.is ∙ ap (λ (x : Left). Ok x) (rw c.in-Ok-Goes.is at c.in-Ok-Goes.field-0-is))
