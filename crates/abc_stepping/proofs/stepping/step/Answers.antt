@@ -37,7 +37,7 @@ returns-clause-step g c =
     let live = some_left s.frames.living c.depth.result c.depth.ensures c.if-depth-eq0.false in
     steps_left c.args.linked.now g.out s c.requires.1.1.0 live c.run_newest-left.result c.run_newest-left.new.s c.run_newest-left.ensures.leaves c.finish.result c.finish.new.s (g.K.Sink.written c.args.sink.now) (g.K.Sink.written c.finish.new.sink) c.finish.ensures.step
 
--- (the names of the arm are guessed)
+-- where most instructions leave nothing
 pub returns-in-Ok-Goes-clause-step : goal.returns-in-Ok-Goes-clause-step
 returns-in-Ok-Goes-clause-step g c =
     let s = c.args.s.now in
