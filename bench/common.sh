@@ -20,10 +20,3 @@ measure() {
     echo "$word:"
     python3 "$here/measure.py" "$abc $word" "$peer $peer_word" "$folder" "$@" --runs "${RUNS:-5}"
 }
-
-# Whether `abc check` is whole: else it says of a file that links that the rest isn't built.
-is_verifier_built() {
-    local status=0
-    "$abc" check <"$here/../examples/hello.abc" >/dev/null 2>&1 || status=$?
-    [ "$status" -ne 11 ]
-}
