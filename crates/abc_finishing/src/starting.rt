@@ -1,6 +1,7 @@
 ghost use Rattle.std.specs.Prelude.{◌≡◌, ◌≢◌, ◌<◌, ◌++◌, ℕ, List, [], Err, IsSome, Some, drop, length, slice_get};
 ghost use Rattle.std.specs.declared.option.Option.{Option};
 ghost use Rattle.abc_cells.specs.Filling.{HasRoom};
+ghost use Rattle.abc_cells.specs.declared.values.Value.{Value};
 ghost use Rattle.abc_ends.specs.Ending.{IsSized, stepped_by};
 ghost use Rattle.abc_entering.specs.Arguments.{IsKnown, list_of, listed, receiver};
 ghost use Rattle.abc_entering.specs.Entering.{placed};
@@ -12,7 +13,7 @@ ghost use Rattle.abc_states.specs.WorldEntering.{array_of, extra, starts};
 ghost use Rattle.abc_finishing.specs.Fairly.{CanStart};
 ghost use Rattle.abc_finishing.specs.Starting.{begins, frames_alone, went_alone};
 ghost use Rattle.abc_finishing.specs.Steps.{StepsAs, step_here};
-ghost use Rattle.abc_finishing.specs.declared.halting.Halt.TheVariants.{Fails};
+ghost use Rattle.abc_finishing.specs.declared.halting.Halt.TheVariants.{Fails, Returns};
 
 use crate::halting::{Halt, halted};
 use abc_cells::Value;
@@ -139,6 +140,7 @@ pub fn start_last(linked: &Linked, s: &mut State) -> Result<(), Halt>
     requires { CanStart linked.now out s.old }
     ensures step { (before : Option (List ℕ)) → StepsAs linked.now out s.old result s.new before before }
     ensures ends { result ≢ Err Fails }
+    ensures none { (v : Value) → result ≢ Err (Returns v) }
     ensures sized { IsSized (setting linked.now out) s.new.arena.limits s.new.frames }
     ensures limit { s.new.given.limit ≡ s.old.given.limit }
 {
