@@ -46,5 +46,9 @@ pub(crate) fn export(linked: &Linked, text: &[u8]) -> Option<u32>
 {
     linked.linked_law();
     let scripts = &linked.abc().scripts;
-    export_among(linked, scripts.get(scripts.len() - 1).traits.as_slice(), text)
+    export_among(
+        linked,
+        scripts.get(scripts.len() - 1).traits.as_slice(),
+        text,
+    )
 }
