@@ -2,6 +2,7 @@
 #![tactic(auto)]
 
 mod asm;
+mod calls;
 mod canon;
 mod check;
 mod dis;
@@ -11,6 +12,7 @@ mod generate;
 mod lines;
 mod run;
 mod stop;
+mod ticks;
 mod tidy;
 mod top;
 mod verified;

@@ -31,7 +31,7 @@ fn counted(cells: u32) -> u32
 }
 
 /// The limits of a run.
-fn limits_of(options: &RunOptions) -> Limits
+pub(crate) fn limits_of(options: &RunOptions) -> Limits
     ensures is { result ≡ limits_in options.now }
     ensures counted { AreCounted result }
 {
