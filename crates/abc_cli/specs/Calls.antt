@@ -82,9 +82,9 @@ calls_meaning p limits fuel times method = then_follows (runs_for p fuel (first_
 -- `calls` of a verified file: a limit is too small to open it; or it doesn't export `tick`, which is told before anything runs; or it
 -- runs, and its `tick` is called
 pub data IsCalled (o : CallsOptions) (p : Setting) (starts : List (List ℕ)) (a : Answer) : Type 0 where
-  too_small : (limit : Limit) → too_small (first_world p (limits_of o.run)).heap ≡ Some limit → a ≡ told status.Limit (limit_text limit) → IsCalled o p starts a
-  no_export : too_small (first_world p (limits_of o.run)).heap ≡ None → export p (codes "tick") ≡ None → a ≡ told status.Refused no_export_text → IsCalled o p starts a
-  called : (method : ℕ) → too_small (first_world p (limits_of o.run)).heap ≡ None → export p (codes "tick") ≡ Some method → IsMeant p.linked.file starts (calls_meaning p (limits_of o.run) o.run.fuel o.times method) a → IsCalled o p starts a
+  unopened : (limit : Limit) → too_small (first_world p (limits_of o.run)).heap ≡ Some limit → a ≡ told status.Limit (limit_text limit) → IsCalled o p starts a
+  unexported : too_small (first_world p (limits_of o.run)).heap ≡ None → export p (codes "tick") ≡ None → a ≡ told status.Refused no_export_text → IsCalled o p starts a
+  ran : (method : ℕ) → too_small (first_world p (limits_of o.run)).heap ≡ None → export p (codes "tick") ≡ Some method → IsMeant p.linked.file starts (calls_meaning p (limits_of o.run) o.run.fuel o.times method) a → IsCalled o p starts a
 
 -- `calls` of a file that was read so, with the formulas of a host: why it isn't verified, or else the above
 pub data Calls (o : CallsOptions) (formulas : List Formula) (v : Abc) (starts : List (List ℕ)) (a : Answer) : Type 0 where
