@@ -18,7 +18,8 @@ use Rattle.abc_words.specs.Commands.{Setting}
 use Rattle.abc_words.specs.Grammar.{GiveAll, GivesOne, IsDefault, IsUsageWord, Says}
 use Rattle.abc_cli.specs.Answers.{Answer, OfFile, OfFileRead, Unverified}
 use Rattle.abc_cli.specs.Outcome.{Asm, AsksNoInput, Canon, Check, CommandOutcome, Dis, Gen, IsUsage, On, OutcomeOf, Tidy, UsageOutcome, reads_input, usage_answer}
-use Rattle.abc_cli.specs.Calls.{Calls, IsCalled, calls_meaning}
+use Rattle.abc_ticks.specs.Ticks.{calls_meaning}
+use Rattle.abc_cli.specs.Calls.{Calls, IsCalled}
 use Rattle.abc_cli.specs.Runs.{IsEnded, IsMeant, Run, default_options, limits_of}
 use Rattle.abc_base.specs.declared.formula.Formula.{Formula}
 use Rattle.abc_gen.specs.Generated.{generated}

@@ -2,7 +2,6 @@ pub mod Lines
 pub mod Answers
 pub mod Runs
 pub mod Calls
-pub mod Ticks
 pub mod Outcome
 pub mod End
 pub mod Listed

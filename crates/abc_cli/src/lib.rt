@@ -12,7 +12,6 @@ mod generate;
 mod lines;
 mod run;
 mod stop;
-mod ticks;
 mod tidy;
 mod top;
 mod verified;

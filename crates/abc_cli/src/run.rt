@@ -2,9 +2,9 @@ ghost use Rattle.std.specs.Prelude.{◌≡◌, ◌≤◌, ◌<◌, ◌^◌, None
 ghost use Rattle.abc_bodies.specs.Places.{ArePlaces};
 ghost use Rattle.abc_cli.specs.Answers.{IsVerifiedOf, OfFileRead};
 ghost use Rattle.abc_cli.specs.End.{HasFailed, RunsTo, UsesUp, stream};
-ghost use Rattle.abc_cli.specs.Endings.{CanBeTold};
 ghost use Rattle.abc_cli.specs.Outcome.{On};
 ghost use Rattle.abc_cli.specs.Runs.{IsMeant, Run, limits_of as limits_in};
+ghost use Rattle.abc_faults.specs.Placed.{CanBeTold};
 ghost use Rattle.abc_machine.specs.OpeningsBegun.{setting};
 ghost use Rattle.abc_meaning.specs.Laws.{AreCounted, IsVerified};
 ghost use Rattle.abc_meaning.specs.Meaning.{meaning};

@@ -20,7 +20,7 @@ use Rattle.abc_meaning.specs.Throwing.{Done, End, Ends, FuelSpent, Full, Machine
 use Rattle.abc_meaning.specs.World.{Errs, Faults, Fills, Outcome, Sticks, Stop, Stopped, Throws, Went, World}
 use Rattle.abc_meaning.specs.WorldSetting.{Setting}
 use Rattle.abc_unstuck.proofs.Never.{are_typings, given, stays_sound, the_first_is_sound, typings}
-use Rattle.abc_faults.specs.Placed.{CanBeTold, CallsCanBeTold, IsInstruction, RunsEndSound}
+use Rattle.abc_faults.specs.Placed.{CallsCanBeTold, IsInstruction, RunsEndSound}
 use Rattle.abc_faults.proofs.Placing.{init_placed, placed, step_placed, there}
 use Rattle.abc_faults.proofs.Stopping.{TellsAt, puts_tells, stops_tells}
 

@@ -1,4 +1,4 @@
--- What the code of `calls` answers to one call, and what it leaves.
+-- What comes of one call, as code tells it, and what it leaves.
 use Rattle.std.specs.Prelude.{◌≡◌, ◌≢◌, ℕ, ◌≤◌, List, ◌∷◌, ◌++◌, Ok, Err, IsSome}
 use Rattle.std.specs.Io.KnownBytes.{append_known}
 use Rattle.std.specs.declared.option.Option.{Option}
@@ -19,7 +19,7 @@ use Rattle.abc_machine.specs.declared.replies.Reply.TheVariants as replies
 use Rattle.abc_session.specs.declared.replies.SessionReply.{SessionReply}
 use Rattle.abc_session.specs.declared.replies.SessionReply.TheVariants as answers
 use Rattle.abc_tables.specs.declared.tables.Abc.{Abc}
-use Rattle.abc_cli.specs.Calls.{calls_run, value_line}
+use Rattle.abc_ticks.specs.Ticks.{calls_run, value_line}
 
 -- a text that a value tells stands in the heap
 abbrev pub HasText : Opened → PlainValue → Type 0

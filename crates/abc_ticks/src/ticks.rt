@@ -2,8 +2,8 @@ ghost use Rattle.std.specs.Prelude.{◌≡◌, ◌∷◌, [], Err, None, pos};
 ghost use Rattle.abc_base.specs.Faults.{HasCause};
 ghost use Rattle.abc_base.specs.Hosts.{arguments};
 ghost use Rattle.abc_base.specs.Sinks.{WritesAll};
-ghost use Rattle.abc_cli.specs.Calls.{calls_meaning, tick, ticks_run, value_line};
-ghost use Rattle.abc_cli.specs.Ticks.{GoesOnAs, HasText, TellsAs, Tried, value_or_end as value_of_reply};
+ghost use Rattle.abc_ticks.specs.Ticks.{calls_meaning, tick, ticks_run, value_line};
+ghost use Rattle.abc_ticks.specs.Told.{GoesOnAs, HasText, TellsAs, Tried, value_or_end as value_of_reply};
 ghost use Rattle.abc_faults.specs.Calls.{answers_call};
 ghost use Rattle.abc_faults.specs.CallsLaws.{IsScriptMethod};
 ghost use Rattle.abc_machine.specs.Ended.{HasRun, RunsAs};
@@ -76,7 +76,7 @@ fn write_number<K: Sink>(out: &mut K, number: i64) -> Result<(), Failed>
 }
 
 /// Writes the line of a value.
-#[tactic(auto, unfolding(crate::specs::Calls::value_line))]
+#[tactic(auto, unfolding(crate::specs::Ticks::value_line))]
 fn write_value<K: Sink>(session: &Session, value: PlainValue, out: &mut K) -> Result<(), Failed>
     requires { HasText session.now value }
     ensures bytes { WritesAll (K.written out.old) (K.written out.new) result (value_line (session.now).linked.file (session.now).world.heap value) }

@@ -1,4 +1,4 @@
--- How `calls` ends follows from its meaning and from what the session answers.
+-- What calls come to follows from what the session answers to each.
 use Rattle.std.proofs.Common.{◌≡◌, ◌≢◌, ℕ, zero, suc, ◌+◌, ◌-◌, ◌≤◌, ◌<◌, List, [], ◌∷◌, ◌++◌, Some, None, Ok, Err, refl, sym, ap, ◌∙◌, subst, arith}
 use Rattle.std.specs.Prelude.{IsSome, false, true, pos}
 use Rattle.std.specs.Io.KnownBytes.{append_known}
@@ -28,9 +28,9 @@ use Rattle.abc_session.specs.Sessions.{AnswersIn, HasCalled}
 use Rattle.abc_session.specs.declared.replies.SessionReply.{SessionReply}
 use Rattle.abc_session.specs.declared.replies.SessionReply.TheVariants as answers
 use Rattle.abc_tables.specs.declared.tables.Abc.{Abc}
-use Rattle.abc_cli.specs.Calls.{after, calls_run, then_follows, then_goes, tick, ticks, ticks_run, value_line}
-use Rattle.abc_cli.specs.Ticks.{GoesOn, Told, Tried, value_or_end}
-use Rattle.abc_cli.proofs.Generating.{front_both, got_both}
+use Rattle.abc_ticks.specs.Ticks.{after, calls_run, then_follows, then_goes, tick, ticks, ticks_run, value_line}
+use Rattle.abc_ticks.specs.Told.{GoesOn, Told, Tried, value_or_end}
+use Rattle.abc_ticks.proofs.Pieces.{front_both, got_both}
 
 -- ---- what was written before
 
