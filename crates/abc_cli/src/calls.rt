@@ -1,28 +1,28 @@
 ghost use Rattle.std.specs.Prelude.{◌≡◌, ◌≤◌, None};
 ghost use Rattle.abc_bodies.specs.Places.{ArePlaces};
 ghost use Rattle.abc_cli.specs.Answers.{IsVerifiedOf, OfFileRead, told};
-ghost use Rattle.abc_cli.specs.Calls.{Calls, IsCalled, calls_meaning};
+ghost use Rattle.abc_cli.specs.Calls.{Calls, IsCalled};
 ghost use Rattle.abc_cli.specs.End.{GivesLine, HasFailed, RunsTo, UsesUp, stream};
-ghost use Rattle.abc_cli.specs.Endings.{CanBeTold};
 ghost use Rattle.abc_cli.specs.Lines.{no_export_text};
 ghost use Rattle.abc_cli.specs.Outcome.{On};
 ghost use Rattle.abc_cli.specs.Runs.{IsMeant, limits_of as limits_in};
 ghost use Rattle.abc_faults.specs.CallsLaws.{IsScriptMethod};
+ghost use Rattle.abc_faults.specs.Placed.{CanBeTold};
 ghost use Rattle.abc_machine.specs.Machines.{IsOpened};
 ghost use Rattle.abc_machine.specs.OpeningsBegun.{setting};
 ghost use Rattle.abc_meaning.specs.Laws.{AreCounted, IsVerified};
 ghost use Rattle.abc_meaning.specs.Meaning.{first_world, too_small};
+ghost use Rattle.abc_ticks.specs.Ticks.{calls_meaning};
 
 use crate::endings::{give_end, give_unopened};
 use crate::ends::{ended, give_stop};
 use crate::lines::write_place;
 use crate::run::limits_of;
-use crate::ticks::run_and_call;
 use crate::verified::read_verified;
 use abc_base::{Host, Sink, Source, Status};
-use abc_faults::{calls_can_be_told, ends_can_be_told};
 use abc_file::Places;
 use abc_session::Session;
+use abc_ticks::{run_and_call, ticks_can_be_told};
 use abc_verify::Verified;
 use abc_words::CallsOptions;
 use std::alloc::Global;
@@ -38,15 +38,14 @@ fn give_no_export<E: Sink>(err: &mut E) -> Status
 
 /// How the run of this session and the calls after it end can be told.
 #[tactic(none)]
-fn calls_end_can_be_told<H: Host>(session: &Session, method: u32, options: &CallsOptions, host: &H)
+fn calls_end_can_be_told<H: Host>(session: &Session, method: u32, fuel: u32, times: u32, host: &H)
     requires verified { IsVerified (setting (session.now).linked (H.formulas host.now)) }
     requires counted { AreCounted (session.now).limits }
     requires fits { too_small (first_world (setting (session.now).linked (H.formulas host.now)) (session.now).limits).heap ≡ None }
     requires method { IsScriptMethod (setting (session.now).linked (H.formulas host.now)) method }
-    ensures { CanBeTold (session.now).linked.file (calls_meaning (setting (session.now).linked (H.formulas host.now)) (session.now).limits (options.now).run.fuel (options.now).times method) }
+    ensures { CanBeTold (session.now).linked.file (calls_meaning (setting (session.now).linked (H.formulas host.now)) (session.now).limits fuel times method) }
 {
-    ends_can_be_told();
-    calls_can_be_told();
+    ticks_can_be_told();
 }
 
 /// Gives back the memory of a session. Alone, since to drop what is large takes long to prove where much else is live.
@@ -69,8 +68,10 @@ fn call_method<K: Sink, E: Sink, H: Host>(
     requires method { IsScriptMethod (setting session.old.linked (H.formulas host.now)) method }
     ensures { RunsTo (IsMeant session.old.linked.file places.now (calls_meaning (setting session.old.linked (H.formulas host.now)) session.old.limits (options.now).run.fuel (options.now).times method)) ⊥ (stream K.written K.faults out.old out.new) (stream E.written E.faults err.old err.new) result }
 {
-    calls_end_can_be_told(session, method, options, host);
-    let end = run_and_call(session, method, options, out, host);
+    let fuel = options.run.fuel;
+    let times = options.times;
+    calls_end_can_be_told(session, method, fuel, times, host);
+    let end = run_and_call(session, method, fuel, times, out, host);
     give_end(err, session.linked(), places, &end)
 }
 

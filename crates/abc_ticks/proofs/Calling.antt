@@ -1,13 +1,13 @@
 -- What calls come to follows from what the session answers to each.
 use Rattle.std.proofs.Common.{◌≡◌, ◌≢◌, ℕ, zero, suc, ◌+◌, ◌-◌, ◌≤◌, ◌<◌, List, [], ◌∷◌, ◌++◌, Some, None, Ok, Err, refl, sym, ap, ◌∙◌, subst, arith}
-use Rattle.std.specs.Prelude.{IsSome, false, true, pos}
+use Rattle.std.specs.Prelude.{IfErr, IsSome, false, true, pos}
 use Rattle.std.specs.Io.KnownBytes.{append_known}
 use Rattle.std.specs.declared.option.Option.{Option}
 use Rattle.std.specs.declared.result.Result.{Result}
 use Rattle.std.proofs.lemmas.List.{append-nil, append_assoc}
 use Rattle.abc_base.proofs.Writing.{front_first}
-use Rattle.abc_base.specs.Faults.{Rose}
-use Rattle.abc_base.specs.Sinks.{GrowsByFront}
+use Rattle.abc_base.specs.Faults.{HasCause, Rose}
+use Rattle.abc_base.specs.Sinks.{GrowsByFront, WritesAll}
 use Rattle.abc_base.specs.declared.formula.Formula.{Formula}
 use Rattle.abc_cells.specs.declared.values.Value.{Value}
 use Rattle.abc_faults.specs.Calls.{Call, EndsAs, Gives, Replied, Reply, answers_call, call_meaning, session, silent}
@@ -29,7 +29,7 @@ use Rattle.abc_session.specs.declared.replies.SessionReply.{SessionReply}
 use Rattle.abc_session.specs.declared.replies.SessionReply.TheVariants as answers
 use Rattle.abc_tables.specs.declared.tables.Abc.{Abc}
 use Rattle.abc_ticks.specs.Ticks.{after, calls_run, then_follows, then_goes, tick, ticks, ticks_run, value_line}
-use Rattle.abc_ticks.specs.Told.{GoesOn, Told, Tried, value_or_end}
+use Rattle.abc_ticks.specs.Told.{GoesOn, GoesOnAs, TellsAs, Told, Tried, value_or_end}
 use Rattle.abc_ticks.proofs.Pieces.{front_both, got_both}
 
 -- ---- what was written before
@@ -150,7 +150,7 @@ module _ (old new : Opened) (c : Call) (ready : IsReady old) where
         ∙ ap (λ (w : World). value_line old.linked.file w.heap value) left
         ∙ ap (value_line old.linked.file r.world.heap) (sym tells.0.told)
 
-    pub is_told : (now : Option (List ℕ)) → (IsSome mid → now ≡ append_known mid (value_line new.linked.file new.world.heap value)) → Told old.linked.file r before now
+    is_told : (now : Option (List ℕ)) → (IsSome mid → now ≡ append_known mid (value_line new.linked.file new.world.heap value)) → Told old.linked.file r before now
     is_told now wrote = record {
       value = tells.0.value;
       gives = tells.0.gives;
@@ -158,7 +158,7 @@ module _ (old new : Opened) (c : Call) (ready : IsReady old) where
           (subst (λ (l : List ℕ). IsSome mid → now ≡ append_known mid l) line_is wrote);
     }
 
-    pub goes_on : GoesOn old new r
+    goes_on : GoesOn old new r
     goes_on = record {
       ready = record { done = given.ended ∙ ready.done; still = given.closed };
       linked = given.linked;
@@ -166,10 +166,19 @@ module _ (old new : Opened) (c : Call) (ready : IsReady old) where
       world = left;
     }
 
-    pub not_told : (now : Option (List ℕ)) (rest : List Replied) → (IsSome mid → GrowsByFront mid now (value_line new.linked.file new.world.heap value)) → RunsAs (calls_run old.linked.file (r ∷ rest)) before now ends.WriteFault
+    not_told : (now : Option (List ℕ)) (rest : List Replied) → (IsSome mid → GrowsByFront mid now (value_line new.linked.file new.world.heap value)) → RunsAs (calls_run old.linked.file (r ∷ rest)) before now ends.WriteFault
     not_told now rest front =
         line_failed old.linked.file r rest before mid now tells.0.value tells.0.gives tells.1
         (subst (λ (l : List ℕ). IsSome mid → GrowsByFront mid now l) line_is front)
+
+    -- its line was written, or not all of it
+    pub told_as : (now : Option (List ℕ)) (result : Result Unit End) → WritesAll mid now result (value_line new.linked.file new.world.heap value) → IfErr result (λ (end : End). end ≡ ends.WriteFault) → TellsAs old.linked.file r before now result
+    told_as now (Ok u) wrote fault = is_told now wrote
+    told_as now (Err end) wrote fault = λ rest. subst (λ (x : End). RunsAs (calls_run old.linked.file (r ∷ rest)) before now x) (sym fault) (not_told now rest wrote)
+
+    pub goes_on_as : (result : Result Unit End) → GoesOnAs old new r result
+    goes_on_as (Ok u) = goes_on
+    goes_on_as (Err end) = tt
 
   pub stays_linked : (before now : Option (List ℕ)) (answer : SessionReply) → AnswersIn old new c before now answer → new.linked ≡ old.linked
   stays_linked before now (answers.Reply reply) a = a.answers.linked
@@ -192,6 +201,10 @@ tried_end old new c before now n k answer end ready a h e = record {
   later = h.later;
   failed = λ f. let g : end ≡ ends.WriteFault = cc in h.failed (answer_fault answer (e ∙ ap (λ (x : End). Err x) g) old new c before now ready a);
 }
+
+pub tried_told : (n m k : ℕ) (answer : SessionReply) (result : Result Unit End) → HasCalled n m answer → HasCause m k result → Tried n k result
+tried_told n m k answer (Ok u) h c = let first = h.later in let second = c.later in record { later = omega (arith, first, second); failed = λ f. absurd cc }
+tried_told n m k answer (Err end) h c = let first = h.later in let second = c.later in let rose = c.failed in record { later = omega (arith, first, second); failed = λ f. omega (arith, first, rose) }
 
 -- ---- calls one after the other
 

@@ -1,20 +1,19 @@
-ghost use Rattle.std.specs.Prelude.{◌≡◌, ◌∷◌, [], Err, None, pos};
+ghost use Rattle.std.specs.Prelude.{◌≡◌, ◌++◌, ◌∷◌, [], IfErr, pos};
+ghost use Rattle.std.specs.Fmt.{signed_decimal};
 ghost use Rattle.abc_base.specs.Faults.{HasCause};
 ghost use Rattle.abc_base.specs.Hosts.{arguments};
 ghost use Rattle.abc_base.specs.Sinks.{WritesAll};
-ghost use Rattle.abc_ticks.specs.Ticks.{calls_meaning, tick, ticks_run, value_line};
-ghost use Rattle.abc_ticks.specs.Told.{GoesOnAs, HasText, TellsAs, Tried, value_or_end as value_of_reply};
 ghost use Rattle.abc_faults.specs.Calls.{answers_call};
 ghost use Rattle.abc_faults.specs.CallsLaws.{IsScriptMethod};
 ghost use Rattle.abc_machine.specs.Ended.{HasRun, RunsAs};
 ghost use Rattle.abc_machine.specs.Machines.{IsOpened, IsReady};
 ghost use Rattle.abc_machine.specs.OpeningsBegun.{setting};
 ghost use Rattle.abc_objects.specs.Opening.{formula_names};
+ghost use Rattle.abc_ticks.specs.Ticks.{calls_meaning, tick, ticks_run, value_line};
+ghost use Rattle.abc_ticks.specs.Told.{GoesOnAs, HasText, TellsAs, Tried, value_or_end as value_of_reply};
 
 use abc_base::{Failed, Host, Plain, Sink, write_all};
-use abc_machine::End;
-use abc_session::{PlainValue, Reply, Session, SessionReply};
-use abc_words::CallsOptions;
+use abc_session::{End, PlainValue, Reply, Session, SessionReply};
 use itoa::Buffer;
 
 /// One number, as an exported function takes it.
@@ -93,6 +92,19 @@ fn write_value<K: Sink>(session: &Session, value: PlainValue, out: &mut K) -> Re
     }
 }
 
+/// Writes the line of a value; where that fails, all ends so.
+fn tell<K: Sink>(session: &Session, value: PlainValue, out: &mut K) -> Result<(), End>
+    requires { HasText session.now value }
+    ensures bytes { WritesAll (K.written out.old) (K.written out.new) result (value_line (session.now).linked.file (session.now).world.heap value) }
+    ensures cause { HasCause (K.faults out.old) (K.faults out.new) result }
+    ensures fault { IfErr result (λ end. end ≡ End.WriteFault) }
+{
+    match write_value(session, value, out) {
+        Ok(()) => Ok(()),
+        Err(_) => Err(End::WriteFault),
+    }
+}
+
 /// Calls a method with a number, and writes the line of the value that it gives.
 fn call_once<K: Sink, H: Host>(
     session: &mut Session,
@@ -111,10 +123,9 @@ fn call_once<K: Sink, H: Host>(
     ensures cause { Tried (K.faults out.old) (K.faults out.new) result }
 {
     let args = one_number(number);
-    let value = value_or_end(session.call(method, &args, fuel, out, host))?;
-    match write_value(session, value, out) {
-        Ok(()) => Ok(()),
-        Err(_) => Err(End::WriteFault),
+    match value_or_end(session.call(method, &args, fuel, out, host)) {
+        Ok(value) => tell(session, value, out),
+        Err(end) => Err(end),
     }
 }
 
@@ -123,8 +134,8 @@ fn call_once<K: Sink, H: Host>(
 fn call_each<K: Sink, H: Host>(
     session: &mut Session,
     method: u32,
-    times: u32,
     fuel: u32,
+    times: u32,
     out: &mut K,
     host: &H,
 ) -> End
@@ -143,23 +154,25 @@ fn call_each<K: Sink, H: Host>(
     End::Done
 }
 
-/// Runs an opened session, and calls a method after that where the run is done.
+/// Runs an opened session, at most `fuel` steps, and where the run is done calls a method with 0, 1 and so on, `times` times, each at
+/// most `fuel` steps and on what the one before left. It writes what they mean as one run, each value with its line, and answers how
+/// that ends, or `WriteFault` after a front of that output, only where the sink's count of faults rose.
 pub fn run_and_call<K: Sink, H: Host>(
     session: &mut Session,
     method: u32,
-    options: &CallsOptions,
+    fuel: u32,
+    times: u32,
     out: &mut K,
     host: &H,
 ) -> End
     requires opened { IsOpened session.old.linked (H.formulas host.now) session.old.limits session.old }
     requires method { IsScriptMethod (setting session.old.linked (H.formulas host.now)) method }
-    ensures runs { RunsAs (calls_meaning (setting session.old.linked (H.formulas host.now)) session.old.limits (options.now).run.fuel (options.now).times method) (K.written out.old) (K.written out.new) result }
+    ensures runs { RunsAs (calls_meaning (setting session.old.linked (H.formulas host.now)) session.old.limits fuel times method) (K.written out.old) (K.written out.new) result }
     ensures cause { HasRun (K.faults out.old) (K.faults out.new) result }
     ensures linked { session.new.linked ≡ session.old.linked }
 {
-    let fuel = options.run.fuel;
     match session.start(fuel, out, host) {
-        End::Done => call_each(session, method, options.times, fuel, out, host),
+        End::Done => call_each(session, method, fuel, times, out, host),
         end => end,
     }
 }
