@@ -90,15 +90,15 @@ module _ (v : Abc) (r : Replied) (rest : List Replied) (old : Option (List ℕ))
       let line = value_line v r.world.heap (plain_value x) in
       subst (λ (y : Reply). With y new ends.WriteFault) (sym is) (fails_after (r.world.wrote ++ line) (calls_run v rest) old new (calls_are_run v rest) (front_both old mid new r.world.wrote line got front))
 
-  told_end : (new : Option (List ℕ)) (e : meant.End) (x end : End) → r.reply ≡ EndsAs e → IsEndOf e x → Err {PlainValue} x ≡ Err end → (IsSome old → new ≡ append_known old r.world.wrote) → RunsAs (calls_run v (r ∷ rest)) old new end
-  told_end new e x end is so same got = let f : x ≡ end = cc in subst (λ (y : End). RunsAs (calls_run v (r ∷ rest)) old new y) f (call_ended new e x is so got)
+  told_end : (new : Option (List ℕ)) (e : meant.End) (x end : End) → r.reply ≡ EndsAs e → IsEndOf e x → x ≡ end → (IsSome old → new ≡ append_known old r.world.wrote) → RunsAs (calls_run v (r ∷ rest)) old new end
+  told_end new e x end is so same got = subst (λ (y : End). RunsAs (calls_run v (r ∷ rest)) old new y) same (call_ended new e x is so got)
 
   reply_ends : (new : Option (List ℕ)) (reply : code.Reply) (end : End) → IsReplyOf r.reply reply → (IsSome old → new ≡ append_known old r.world.wrote) → value_or_end (answers.Reply reply) ≡ Err end → RunsAs (calls_run v (r ∷ rest)) old new end
   reply_ends new (replies.Value x) end is got e = absurd cc
-  reply_ends new (replies.Uncaught t) end is got e = told_end new (meant.Uncaught t) (ends.Uncaught t) end is refl e got
-  reply_ends new (replies.Profile m i fault) end is got e = told_end new (meant.Profile m i fault) (ends.Profile m i fault) end is refl e got
-  reply_ends new replies.FuelSpent end is got e = told_end new meant.FuelSpent ends.FuelSpent end is refl e got
-  reply_ends new (replies.Full limit) end is got e = told_end new (meant.Full limit) (ends.Full limit) end is refl e got
+  reply_ends new (replies.Uncaught t) end is got e = told_end new (meant.Uncaught t) (ends.Uncaught t) end is refl cc got
+  reply_ends new (replies.Profile m i fault) end is got e = told_end new (meant.Profile m i fault) (ends.Profile m i fault) end is refl cc got
+  reply_ends new replies.FuelSpent end is got e = told_end new meant.FuelSpent ends.FuelSpent end is refl cc got
+  reply_ends new (replies.Full limit) end is got e = told_end new (meant.Full limit) (ends.Full limit) end is refl cc got
   reply_ends new replies.WriteFault end is got e = absurd is
 
 replied_ends : (v : Abc) (r : Replied) (rest : List Replied) (old new : Option (List ℕ)) (reply : code.Reply) (end : End) → RepliesAs r old new reply → value_or_end (answers.Reply reply) ≡ Err end → RunsAs (calls_run v (r ∷ rest)) old new end

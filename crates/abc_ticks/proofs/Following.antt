@@ -1,19 +1,25 @@
 -- The run and the calls after it as one run: what comes of all follows from what comes of each.
-use Rattle.std.proofs.Common.{◌≡◌, ◌≢◌, ℕ, ◌≤◌, List, None, Err, refl, sym, ap, ◌∙◌, subst, arith}
+use Rattle.std.proofs.Common.{◌≡◌, ◌≢◌, ℕ, ◌≤◌, List, None, Some, Err, refl, sym, ap, ◌∙◌, subst, arith}
 use Rattle.std.specs.Prelude.{IsSome}
 use Rattle.std.specs.Io.KnownBytes.{append_known}
 use Rattle.std.specs.declared.option.Option.{Option}
 use Rattle.abc_base.specs.Sinks.{GrowsByFront}
+use Rattle.abc_base.specs.declared.formula.Formula.{Formula}
 use Rattle.abc_faults.specs.Calls.{session, silent}
+use Rattle.abc_faults.specs.CallsLaws.{IsScriptMethod}
 use Rattle.abc_heap.specs.declared.records.Limit.{Limit}
 use Rattle.abc_heap.specs.declared.records.Limits.{Limits}
-use Rattle.abc_machine.specs.Ended.{IsEndOf, RunsAs}
+use Rattle.abc_machine.specs.Ended.{HasRun, IsEndOf, RunsAs}
+use Rattle.abc_machine.specs.Machines.{IsOpened, IsReady, Opened, world_run}
 use Rattle.abc_machine.specs.declared.ends.End.{End}
 use Rattle.abc_machine.specs.declared.ends.End.TheVariants as ends
 use Rattle.abc_meaning.specs.Meaning.{Ended, Meaning, Ran, first_state, first_world, meaning, meaning_if, ran, runs_for, too_small}
 use Rattle.abc_meaning.specs.Throwing as meant
 use Rattle.abc_meaning.specs.World.{World}
 use Rattle.abc_meaning.specs.WorldSetting.{Setting}
+use Rattle.abc_objects.specs.Opening.{formula_names}
+use Rattle.abc_program.specs.Linked.{LinkedFile}
+use Rattle.abc_ticks.specs.Told.{Tried}
 use Rattle.abc_ticks.specs.Ticks.{after, calls_meaning, calls_run, then_follows, ticks, ticks_run}
 use Rattle.abc_ticks.proofs.Calling.{IsRun, calls_are_run, fails_after, kept_session, runs_after}
 
@@ -88,3 +94,53 @@ module _ (p : Setting) (limits : Limits) (fuel times method : ℕ) (fits : too_s
       let y = subst (λ (m : Meaning). RunsAs m mid new end) same more in
       let follows = ap (λ (e : meant.End). then_follows run.world e (ticks_run p method fuel times)) d.1 in
       subst (λ (m : Meaning). RunsAs m old new end) (sym follows) (runs_after (ticks_run p method fuel times run.world) run.world.wrote old mid new end d.0 y)
+
+-- ---- counts of faults
+
+pub causes : (n m k : ℕ) (e end : End) → HasRun n m e → HasRun m k end → HasRun n k end
+causes n m k e end h i =
+    let first = h.later in
+    let second = i.later in
+    record { later = omega (arith, first, second); failed = λ f. let rose = i.failed f in omega (arith, first, rose) }
+
+pub no_fault : (n m : ℕ) → n ≤ m → HasRun n m ends.Done
+no_fault n m le = record { later = le; failed = λ f. absurd cc }
+
+pub tried_fault : (n m k : ℕ) (end : End) → n ≤ m → Tried m k (Err end) → HasRun n k end
+tried_fault n m k end le t =
+    let later = t.later in
+    record { later = omega (arith, le, later); failed = λ f. let rose = t.failed (ap (λ (x : End). Err x) f) in omega (arith, le, rose) }
+
+-- ---- the session between the run and the calls
+
+module _ (old new : Opened) (fs : List Formula) (fuel : ℕ) (method : ℕ) (result : End) (opened : IsOpened old.linked fs old.limits old) where
+  pub not_run : old.ended ≡ None
+  not_run = ap (λ (m : Opened). m.ended) opened.is
+
+  pub same_names : formula_names fs ≡ old.names
+  same_names = sym (ap (λ (m : Opened). m.names) opened.is)
+
+  pub gets_ready : new.ended ≡ Some result → result ≡ ends.Done → new.closed ≡ old.closed → IsReady new
+  gets_ready ended done same = record { done = ended ∙ ap (λ (x : End). Some x) done; still = same ∙ ap (λ (m : Opened). m.closed) opened.is }
+
+  not_fault : result ≡ ends.Done → result ≢ ends.WriteFault
+  not_fault done f = let g : ends.Done ≡ ends.WriteFault = sym done ∙ f in cc
+
+  pub names_stay : result ≡ ends.Done → (old.ended ≡ None → result ≢ ends.WriteFault → new.names ≡ old.names) → formula_names fs ≡ new.names
+  names_stay done keep = same_names ∙ sym (keep not_run (not_fault done))
+
+  pub method_stays : new.linked ≡ old.linked → IsScriptMethod (record { linked = old.linked; formulas = fs }) method → IsScriptMethod (record { linked = new.linked; formulas = fs }) method
+  method_stays same exported = subst (λ (l : LinkedFile). IsScriptMethod (record { linked = l; formulas = fs }) method) (sym same) exported
+
+  pub run_then_calls : (times : ℕ) (before mid now : Option (List ℕ)) (end : End) → result ≡ ends.Done → new.linked ≡ old.linked
+      → (old.ended ≡ None → RunsAs (meaning (record { linked = old.linked; formulas = fs }) old.limits fuel) before mid result) → (old.ended ≡ None → result ≢ ends.WriteFault → new.world ≡ silent (world_run old fs fuel))
+      → RunsAs (ticks_run (record { linked = new.linked; formulas = fs }) method fuel times new.world) mid now end → RunsAs (calls_meaning (record { linked = old.linked; formulas = fs }) old.limits fuel times method) before now end
+  run_then_calls times before mid now end done same ran left more =
+      let p : Setting = record { linked = old.linked; formulas = fs } in
+      let first = subst (λ (x : End). RunsAs (meaning p old.limits fuel) before mid x) done (ran not_run) in
+      let then = subst (λ (l : LinkedFile). RunsAs (ticks_run (record { linked = l; formulas = fs }) method fuel times new.world) mid now end) same more in
+      run_goes_on p old.limits fuel times method opened.fits before mid now new.world end (left not_run (not_fault done)) first then
+
+  pub run_only : (times : ℕ) (before now : Option (List ℕ)) → result ≢ ends.Done → (old.ended ≡ None → RunsAs (meaning (record { linked = old.linked; formulas = fs }) old.limits fuel) before now result)
+      → RunsAs (calls_meaning (record { linked = old.linked; formulas = fs }) old.limits fuel times method) before now result
+  run_only times before now not ran = run_stops (record { linked = old.linked; formulas = fs }) old.limits fuel times method opened.fits before now result not (ran not_run)

@@ -1,5 +1,5 @@
 -- How a run and the calls after it end can be told.
-use Rattle.std.proofs.Common.{◌≡◌, ◌≢◌, ℕ, zero, suc, ◌+◌, ◌≤◌, List, [], ◌∷◌, ◌++◌, None, ap, ◌∙◌, arith}
+use Rattle.std.proofs.Common.{◌≡◌, ◌≢◌, ℕ, zero, suc, ◌+◌, ◌≤◌, List, [], ◌∷◌, ◌++◌, None, ap, ◌∙◌, arith, ints}
 use Rattle.std.specs.Prelude.{pos}
 use Rattle.abc_base.specs.Ranges.{IsNumber}
 use Rattle.abc_base.specs.declared.names.Fault.{Fault}
@@ -45,7 +45,7 @@ told_is v (Ran xs e) t = record {
 }
 
 number_fits : (n : ℕ) → n ≤ 4294967295 → IsNumber (pos n)
-number_fits n low = omega (arith, low)
+number_fits n low = (omega (arith, ints), omega (arith, ints, low))
 
 reply_told : (v : Abc) (w : World) (r : Reply) (more : Meaning) → (r ≢ EndsAs meant.Stuck) → ((n i : ℕ) (fault : Fault) → r ≡ EndsAs (meant.Profile n i fault) → IsInstruction v n i) → IsToldRun v more → IsToldRun v (then_goes v w r more)
 reply_told v w (Gives x) more unstuck placed t = told_after v (w.wrote ++ value_line v w.heap (plain_value x)) more t
