@@ -1,5 +1,5 @@
 -- What calls come to follows from what the session answers to each.
-use Rattle.std.proofs.Common.{◌≡◌, ◌≢◌, ℕ, zero, suc, ◌+◌, ◌-◌, ◌≤◌, ◌<◌, List, [], ◌∷◌, ◌++◌, Some, None, Ok, Err, refl, sym, ap, ◌∙◌, subst, arith}
+use Rattle.std.proofs.Common.{◌≡◌, ◌≢◌, ℕ, ℤ, zero, suc, ◌+◌, ◌-◌, ◌≤◌, ◌<◌, List, [], ◌∷◌, ◌++◌, Some, None, Ok, Err, refl, sym, ap, ◌∙◌, subst, arith}
 use Rattle.std.specs.Prelude.{IfErr, IsSome, false, true, pos}
 use Rattle.std.specs.Io.KnownBytes.{append_known}
 use Rattle.std.specs.declared.option.Option.{Option}
@@ -7,12 +7,14 @@ use Rattle.std.specs.declared.result.Result.{Result}
 use Rattle.std.proofs.lemmas.List.{append-nil, append_assoc}
 use Rattle.abc_base.proofs.Writing.{front_first}
 use Rattle.abc_base.specs.Faults.{HasCause, Rose}
+use Rattle.abc_base.specs.Hosts.{arguments}
 use Rattle.abc_base.specs.Sinks.{GrowsByFront, WritesAll}
 use Rattle.abc_base.specs.declared.formula.Formula.{Formula}
+use Rattle.abc_base.specs.declared.plain.Plain.{Plain}
 use Rattle.abc_cells.specs.declared.values.Value.{Value}
 use Rattle.abc_faults.specs.Calls.{Call, EndsAs, Gives, Replied, Reply, answers_call, call_meaning, session, silent}
 use Rattle.abc_machine.specs.Ended.{HasRun, IsEndOf, RunsAs}
-use Rattle.abc_machine.specs.Invoked.{Answers}
+use Rattle.abc_machine.specs.Invoked.{Answers, call_of}
 use Rattle.abc_machine.specs.Machines.{IsReady, Opened}
 use Rattle.abc_machine.specs.Replied.{IsReplyOf, RepliesAs, Tells, plain_value}
 use Rattle.abc_machine.specs.declared.ends.End.{End}
@@ -122,6 +124,11 @@ answer_value (answers.Reply (replies.Full limit)) value e = absurd cc
 answer_value (answers.Reply replies.WriteFault) value e = absurd cc
 answer_value answers.NotReady value e = absurd cc
 answer_value answers.Closed value e = absurd cc
+
+-- a call with one number is one of these
+pub as_tick : (old new : Opened) (method fuel : ℕ) (fs : List Formula) (number : ℕ) (args : Plain) (before now : Option (List ℕ)) (answer : SessionReply) → arguments args ≡ pos number ∷ [] → AnswersIn old new (call_of method args fuel fs) before now answer
+    → AnswersIn old new (tick method fuel fs number) before now answer
+as_tick old new method fuel fs number args before now answer e a = subst (λ (x : List ℤ). AnswersIn old new (record { method = method; args = x; fuel = fuel; formulas = fs }) before now answer) e a
 
 module _ (old new : Opened) (c : Call) (ready : IsReady old) where
   abbrev r : Replied

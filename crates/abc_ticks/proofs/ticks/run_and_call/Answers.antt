@@ -3,7 +3,7 @@ use Rattle.abc_ticks.proofs.Following.{causes, gets_ready, method_stays, names_s
 use Rattle.abc_ticks.proofs.ticks.run_and_call.Goals as goal
 
 pub start-requires : goal.start-requires
-start-requires g c = λ begun. same_names c.args.session.now c.args.session.now (g.H.Host.formulas c.args.host.now) c.args.fuel c.args.method c.start.result c.requires.opened
+start-requires g c = λ begun. same_names c.args.session.now (g.H.Host.formulas c.args.host.now) c.requires.opened
 
 pub call_each-requires : goal.call_each-requires
 call_each-requires g c =
@@ -22,7 +22,7 @@ returns-in-Done-clause-runs g c =
 pub returns-in-Done-clause-cause : goal.returns-in-Done-clause-cause
 returns-in-Done-clause-cause g c =
     causes (g.K.Sink.faults c.args.out.now) (g.K.Sink.faults c.start.new.out) (g.K.Sink.faults c.call_each.new.out) c.start.result c.call_each.result
-    (c.start.ensures.cause (not_run c.args.session.now c.args.session.now (g.H.Host.formulas c.args.host.now) c.args.fuel c.args.method c.start.result c.requires.opened)) c.call_each.ensures.cause
+    (c.start.ensures.cause (not_run c.args.session.now (g.H.Host.formulas c.args.host.now) c.requires.opened)) c.call_each.ensures.cause
 
 pub returns-in-Done-clause-linked : goal.returns-in-Done-clause-linked
 returns-in-Done-clause-linked g c = c.call_each.ensures.linked ∙ c.start.ensures.linked
@@ -33,4 +33,4 @@ returns-in_default-clause-runs g c =
     c.start.ensures.ends
 
 pub returns-in_default-clause-cause : goal.returns-in_default-clause-cause
-returns-in_default-clause-cause g c = c.start.ensures.cause (not_run c.args.session.now c.args.session.now (g.H.Host.formulas c.args.host.now) c.args.fuel c.args.method c.start.result c.requires.opened)
+returns-in_default-clause-cause g c = c.start.ensures.cause (not_run c.args.session.now (g.H.Host.formulas c.args.host.now) c.requires.opened)
