@@ -2,7 +2,7 @@
 use Rattle.std.specs.Prelude.{◌≡◌, ◌≢◌, map, Ok, Err}
 use Rattle.std.specs.declared.result.Result.{Result}
 use Rattle.abc_heap.specs.declared.records.Limits.{Limits}
-use Rattle.abc_meaning.specs.Throwing.{Done, End, Ends, Full, Profile, Stepped, Stuck, Uncaught, goes_on}
+use Rattle.abc_meaning.specs.Throwing.{End, Ends, Full, Profile, Stepped, Stuck, Uncaught, goes_on}
 use Rattle.abc_stacks.specs.Frame.{Frames}
 use Rattle.abc_states.specs.Turns.{size_for}
 use Rattle.abc_states.specs.WorldSetting.{Setting}
@@ -17,7 +17,6 @@ use Rattle.abc_ends.specs.declared.ended.Ended.{Ended}
 use Rattle.abc_ends.specs.declared.ended.Ended.TheVariants as ended
 
 abbrev pub end_of : Ended → End
-end_of ended.Done = Done
 end_of (ended.Uncaught thrown) = Uncaught thrown
 end_of (ended.Profile method index fault) = Profile method index fault
 end_of (ended.Full limit) = Full limit

@@ -2,11 +2,9 @@ use abc_base::Fault;
 use abc_heap::Limit;
 use abc_meaning::Thrown;
 
-/// How a run ends in a step.
+/// How a run ends in a step, where the last frame doesn't return.
 #[derive(Clone, Copy)]
 pub enum Ended {
-    /// The last frame returned.
-    Done,
     /// This was thrown, and nothing caught it.
     Uncaught(Thrown),
     /// The profile leaves it out: the method and the number of the instruction.

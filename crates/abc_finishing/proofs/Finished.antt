@@ -1,10 +1,11 @@
 -- From what is left to be done to the step of the meaning.
 use Rattle.std.proofs.Common.{◌≡◌, ◌≢◌, ℕ, ◌<◌, List, [], length, refl, sym, ap, ◌∙◌, append-nil}
-use Rattle.std.specs.Prelude.{None, Some, Ok, Err, OnOk, slice_get}
+use Rattle.std.specs.Prelude.{None, Some, Ok, Err, slice_get}
 use Rattle.std.specs.Io.KnownBytes.{append_known}
 use Rattle.std.specs.declared.option.Option.{Option}
 use Rattle.std.specs.declared.result.Result.{Result}
 use Rattle.abc_base.specs.declared.formula.Formula.{Formula}
+use Rattle.abc_cells.specs.declared.values.Value.{Value}
 use Rattle.abc_ends.specs.Ending.{stepped_by}
 use Rattle.abc_ends.specs.declared.ended.Ended.{Ended}
 use Rattle.abc_meaning.specs.Throwing.{Stepped, goes_on}
@@ -36,15 +37,15 @@ ended_in r out (Ok u) new before now e same = record {
   goes = e ∙ ap (λ (bytes : List ℕ). goes_on (record { heap = new.arena; started = new.started; wrote = bytes }) new.frames.living) (sym (append-nil out.wrote));
   sink = λ some. same ∙ sym (nothing_more before);
 }
-ended_in r out (Err end) new before now e same = record { left = world new out; ends = e; wrote = refl; sink = same }
+ended_in r out (Err end) new before now e same = record { ends = e; sink = same }
 
 pub no_failure : (r : Result Unit Ended) → halted_as r ≢ Err halts.Fails
 no_failure (Ok u) e = cc
 no_failure (Err end) e = cc
 
-pub if_ok : {X E : Type 0} (r : Result X E) (P : Type 0) → P → OnOk r P
-if_ok (Ok x) P h = h
-if_ok (Err e) P h = tt
+pub no_return : (r : Result Unit Ended) (v : Value) → halted_as r ≢ Err (halts.Returns v)
+no_return (Ok u) v e = cc
+no_return (Err end) v e = cc
 
 -- ---- a line was written, or the front of it
 

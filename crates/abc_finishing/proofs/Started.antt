@@ -1,5 +1,5 @@
 -- A method that is put over no frame, and the start of a script over none.
-use Rattle.std.proofs.Common.{◌≡◌, ℕ, zero, suc, ◌+◌, ◌<◌, ◌≤◌, List, [], ◌∷◌, ◌++◌, Bool, true, false, nat_le, if◌then◌else◌, length, map, drop, set, refl, sym, ap, ◌∙◌, subst, arith}
+use Rattle.std.proofs.Common.{◌≡◌, ℕ, ◌+◌, ◌<◌, ◌≤◌, List, [], ◌∷◌, ◌++◌, Bool, true, false, nat_le, if◌then◌else◌, length, map, drop, set, refl, sym, ap, ◌∙◌, subst, arith}
 use Rattle.std.specs.Prelude.{None, Some, Ok, Err}
 use Rattle.std.specs.declared.option.Option.{Option}
 use Rattle.std.specs.declared.result.Result.{Result}
@@ -39,17 +39,12 @@ use Rattle.abc_finishing.specs.Steps.{stepped}
 use Rattle.abc_finishing.proofs.Stepped.{throwable}
 use Rattle.abc_finishing.proofs.Turned.{answer_by, frame_total, room_by}
 
--- ---- the array of no arguments
+-- ---- the array of those behind the parameters
 
--- behind parameters there is none either
-none_behind : (n : ℕ) → drop {A = Value} n [] ≡ []
-none_behind zero = refl
-none_behind (suc n) = refl
-
-pub array_rest : (p : Setting) (m : Method) (w : World) → has_flag m.flags 0x04 ≡ true → extra p m [] w ≡ array_of p [] w
-array_rest p m w e =
-    ap (λ (b : Bool). (if b then array_of p (drop (length m.params) []) else (if has_flag m.flags 0x01 then array_of p [] else done [])) w) e
-    ∙ ap (λ (vs : List Value). array_of p vs w) (none_behind (length m.params))
+pub array_rest : (p : Setting) (m : Method) (given rest : List Value) (w : World) → has_flag m.flags 0x04 ≡ true → rest ≡ drop (length m.params) given → extra p m given w ≡ array_of p rest w
+array_rest p m given rest w e is =
+    ap (λ (b : Bool). (if b then array_of p (drop (length m.params) given) else (if has_flag m.flags 0x01 then array_of p given else done [])) w) e
+    ∙ ap (λ (vs : List Value). array_of p vs w) (sym is)
 
 -- ---- tests
 
@@ -61,7 +56,7 @@ must_hold : {X : Type 0} (b : Bool) (m : Run X) (w : World) → IsOpen (and_then
 must_hold true m w h = refl
 must_hold false m w h = absurd h
 
--- ---- the frame of a method without arguments, by its routine
+-- ---- the frame of a method to which some arguments were given, by its routine
 
 abbrev frame_with : ℕ → Place → Option Routine → List Value → Frame
 frame_with n at x vs = begun (record { method = n; home = at.home; saved = at.saved; size = kept x }) vs
@@ -69,41 +64,41 @@ frame_with n at x vs = begun (record { method = n; home = at.home; saved = at.sa
 abbrev fits_in : (n : ℕ) → Place → (this : Value) → List Value → Routine → List Value → Run Frame
 fits_in n at this vs r array = must (nat_le (length (this ∷ vs ++ array)) r.local_count) >> done (frame_with n at (Some r) (this ∷ vs ++ array))
 
-abbrev framing : Setting → (n : ℕ) → Method → Value → Place → List Value → Routine → Run Frame
-framing p n m this at vs r = extra p m [] >>= fits_in n at this vs r
+abbrev framing : Setting → (n : ℕ) → Method → Value → Place → (given vs : List Value) → Routine → Run Frame
+framing p n m this at given vs r = extra p m given >>= fits_in n at this vs r
 
-framed_with : (p : Setting) (n : ℕ) (m : Method) (this : Value) (at : Place) (vs array : List Value) (w after : World) (x : Option Routine) → extra p m [] w ≡ Went after array → IsOpen (and_then (some x w) (framing p n m this at vs))
-    → (and_then (some x w) (framing p n m this at vs) ≡ Went after (frame_with n at x (this ∷ vs ++ array))) × (length (this ∷ vs ++ array) ≤ (kept x).locals)
-framed_with p n m this at vs array w after None e h = absurd h
-framed_with p n m this at vs array w after (Some r) e h =
+framed_with : (p : Setting) (n : ℕ) (m : Method) (this : Value) (at : Place) (given vs array : List Value) (w after : World) (x : Option Routine) → extra p m given w ≡ Went after array → IsOpen (and_then (some x w) (framing p n m this at given vs))
+    → (and_then (some x w) (framing p n m this at given vs) ≡ Went after (frame_with n at x (this ∷ vs ++ array))) × (length (this ∷ vs ++ array) ≤ (kept x).locals)
+framed_with p n m this at given vs array w after None e h = absurd h
+framed_with p n m this at given vs array w after (Some r) e h =
     let test = nat_le (length (this ∷ vs ++ array)) r.local_count in
     let frame : Run Frame = done (frame_with n at (Some r) (this ∷ vs ++ array)) in
-    let first : framing p n m this at vs r w ≡ and_then (must test after) (λ u. frame) = ap (λ o. and_then o (fits_in n at this vs r)) e in
+    let first : framing p n m this at given vs r w ≡ and_then (must test after) (λ u. frame) = ap (λ o. and_then o (fits_in n at this vs r)) e in
     let free : IsOpen (and_then (must test after) (λ u. frame)) = subst (λ (o : Outcome Frame). IsOpen o) first h in
     (first ∙ must_is test frame after free, leb-true (length (this ∷ vs ++ array)) r.local_count (must_hold test frame after free))
 
-framed_stops : (p : Setting) (n : ℕ) (m : Method) (this : Value) (at : Place) (vs : List Value) (w after : World) (why : Stop) (x : Option Routine) → extra p m [] w ≡ Stopped after why → IsOpen (and_then (some x w) (framing p n m this at vs))
-    → and_then (some x w) (framing p n m this at vs) ≡ Stopped after why
-framed_stops p n m this at vs w after why None e h = absurd h
-framed_stops p n m this at vs w after why (Some r) e h = ap (λ o. and_then o (fits_in n at this vs r)) e
+framed_stops : (p : Setting) (n : ℕ) (m : Method) (this : Value) (at : Place) (given vs : List Value) (w after : World) (why : Stop) (x : Option Routine) → extra p m given w ≡ Stopped after why → IsOpen (and_then (some x w) (framing p n m this at given vs))
+    → and_then (some x w) (framing p n m this at given vs) ≡ Stopped after why
+framed_stops p n m this at given vs w after why None e h = absurd h
+framed_stops p n m this at given vs w after why (Some r) e h = ap (λ o. and_then o (fits_in n at this vs r)) e
 
 -- ---- the method that is put over none
 
-module _ (p : Setting) (n : ℕ) (at : Place) (this : Value) (vs : List Value) (m : Method) (w : World) (e : method_of p n ≡ Some m) (h : IsOpen (frames_alone p n at this vs w)) where
-  alone_first : frames_alone p n at this vs w ≡ framed p n m this at [] vs w
-  alone_first = ap (λ (o : Option Method). and_then (some o w) (λ k. framed p n k this at [] vs)) e
+module _ (p : Setting) (n : ℕ) (at : Place) (this : Value) (vs given : List Value) (m : Method) (w : World) (e : method_of p n ≡ Some m) (h : IsOpen (frames_alone p n at this vs given w)) where
+  alone_first : frames_alone p n at this vs given w ≡ framed p n m this at given vs w
+  alone_first = ap (λ (o : Option Method). and_then (some o w) (λ k. framed p n k this at given vs)) e
 
-  alone_open : IsOpen (framed p n m this at [] vs w)
+  alone_open : IsOpen (framed p n m this at given vs w)
   alone_open = subst (λ (o : Outcome Frame). IsOpen o) alone_first h
 
-  pub alone_is : (array : List Value) (after : World) → extra p m [] w ≡ Went after array → frames_alone p n at this vs w ≡ Went after (begun (entry_for p n at) (this ∷ vs ++ array))
-  alone_is array after x = alone_first ∙ (framed_with p n m this at vs array w after (routine_of p n) x alone_open).0
+  pub alone_is : (array : List Value) (after : World) → extra p m given w ≡ Went after array → frames_alone p n at this vs given w ≡ Went after (begun (entry_for p n at) (this ∷ vs ++ array))
+  alone_is array after x = alone_first ∙ (framed_with p n m this at given vs array w after (routine_of p n) x alone_open).0
 
-  pub alone_fits : (array : List Value) (after : World) → extra p m [] w ≡ Went after array → length (this ∷ vs ++ array) ≤ (entry_for p n at).size.locals
-  alone_fits array after x = (framed_with p n m this at vs array w after (routine_of p n) x alone_open).1
+  pub alone_fits : (array : List Value) (after : World) → extra p m given w ≡ Went after array → length (this ∷ vs ++ array) ≤ (entry_for p n at).size.locals
+  alone_fits array after x = (framed_with p n m this at given vs array w after (routine_of p n) x alone_open).1
 
-  pub alone_stops : (after : World) (why : Stop) → extra p m [] w ≡ Stopped after why → frames_alone p n at this vs w ≡ Stopped after why
-  alone_stops after why x = alone_first ∙ framed_stops p n m this at vs w after why (routine_of p n) x alone_open
+  pub alone_stops : (after : World) (why : Stop) → extra p m given w ≡ Stopped after why → frames_alone p n at this vs given w ≡ Stopped after why
+  alone_stops after why x = alone_first ∙ framed_stops p n m this at given vs w after why (routine_of p n) x alone_open
 
 -- ---- the frames: `q` before, `mid` when the first locals are made, `r` after
 
@@ -132,32 +127,32 @@ pub split_first : (xs ys : List Value) → 0 < length xs → xs ++ ys ≡ receiv
 split_first [] ys h = absurd (omega arith)
 split_first (x ∷ xs) ys h = refl
 
--- ---- a method without arguments
+-- ---- a method to which some arguments were given
 
-entered_first : (p : Setting) (n : ℕ) (this : Value) (at : Place) (vs : List Value) (w after : World) → makes_arguments p n [] w ≡ Went after vs → enters p n this at [] w ≡ frames_alone p n at this vs after
-entered_first p n this at vs w after = go (method_of p n)
+entered_first : (p : Setting) (n : ℕ) (this : Value) (at : Place) (vs given : List Value) (w after : World) → makes_arguments p n given w ≡ Went after vs → enters p n this at given w ≡ frames_alone p n at this vs given after
+entered_first p n this at vs given w after = go (method_of p n)
   where
-    go : (x : Option Method) → and_then (some x w) (λ m. arguments p m []) ≡ Went after vs → and_then (some x w) (λ m. arguments p m [] >>= framed p n m this at []) ≡ and_then (some x after) (λ m. framed p n m this at [] vs)
+    go : (x : Option Method) → and_then (some x w) (λ m. arguments p m given) ≡ Went after vs → and_then (some x w) (λ m. arguments p m given >>= framed p n m this at given) ≡ and_then (some x after) (λ m. framed p n m this at given vs)
     go None e = absurd cc
-    go (Some m) e = ap (λ o. and_then o (framed p n m this at [])) e
+    go (Some m) e = ap (λ o. and_then o (framed p n m this at given)) e
 
-entered_stops : (p : Setting) (n : ℕ) (this : Value) (at : Place) (w after : World) (why : Stop) → makes_arguments p n [] w ≡ Stopped after why → enters p n this at [] w ≡ Stopped after why
-entered_stops p n this at w after why = go (method_of p n)
+pub entered_stops : (p : Setting) (n : ℕ) (this : Value) (at : Place) (given : List Value) (w after : World) (why : Stop) → makes_arguments p n given w ≡ Stopped after why → enters p n this at given w ≡ Stopped after why
+entered_stops p n this at given w after why = go (method_of p n)
   where
-    go : (x : Option Method) → and_then (some x w) (λ m. arguments p m []) ≡ Stopped after why → and_then (some x w) (λ m. arguments p m [] >>= framed p n m this at []) ≡ Stopped after why
+    go : (x : Option Method) → and_then (some x w) (λ m. arguments p m given) ≡ Stopped after why → and_then (some x w) (λ m. arguments p m given >>= framed p n m this at given) ≡ Stopped after why
     go None e = let same : w ≡ after = cc in let reason : Sticks ≡ why = cc in ap (λ (x : World). Stopped x Sticks) same ∙ ap (Stopped after) reason
-    go (Some m) e = ap (λ o. and_then o (framed p n m this at [])) e
+    go (Some m) e = ap (λ o. and_then o (framed p n m this at given)) e
 
-entered_is : (p : Setting) (n : ℕ) (this : Value) (at : Place) (items : List Value) (w after : World) → items ≡ this ∷ drop 1 items → makes_arguments p n [] w ≡ Went after (drop 1 items) → enters p n this at [] w ≡ frames_alone p n at (receiver items) (drop 1 items) after
-entered_is p n this at items w after first e =
-    entered_first p n this at (drop 1 items) w after e ∙ ap (λ (v : Value). frames_alone p n at v (drop 1 items) after) (sym (ap receiver first))
+pub entered_is : (p : Setting) (n : ℕ) (this : Value) (at : Place) (items given : List Value) (w after : World) → items ≡ this ∷ drop 1 items → makes_arguments p n given w ≡ Went after (drop 1 items) → enters p n this at given w ≡ frames_alone p n at (receiver items) (drop 1 items) given after
+entered_is p n this at items given w after first e =
+    entered_first p n this at (drop 1 items) given w after e ∙ ap (λ (v : Value). frames_alone p n at v (drop 1 items) given after) (sym (ap receiver first))
 
-arguments_open : (p : Setting) (n : ℕ) (this : Value) (at : Place) (w : World) → IsOpen (enters p n this at [] w) → IsOpen (makes_arguments p n [] w)
-arguments_open p n this at w = go (method_of p n)
+pub arguments_open : (p : Setting) (n : ℕ) (this : Value) (at : Place) (given : List Value) (w : World) → IsOpen (enters p n this at given w) → IsOpen (makes_arguments p n given w)
+arguments_open p n this at given w = go (method_of p n)
   where
-    go : (x : Option Method) → IsOpen (and_then (some x w) (λ m. arguments p m [] >>= framed p n m this at [])) → IsOpen (and_then (some x w) (λ m. arguments p m []))
+    go : (x : Option Method) → IsOpen (and_then (some x w) (λ m. arguments p m given >>= framed p n m this at given)) → IsOpen (and_then (some x w) (λ m. arguments p m given))
     go None h = h
-    go (Some m) h = open_first (arguments p m [] w) (framed p n m this at []) h
+    go (Some m) h = open_first (arguments p m given w) (framed p n m this at given) h
 
 -- ---- a script that is started: `mid` is the world in which it counts as started, `after` that in which its first locals are made
 
@@ -172,13 +167,13 @@ module _ (p : Setting) (s : ℕ) (w : World) (marks : List Bool) (this : Value) 
       ∙ ap (λ (n : ℕ). enters p n this (place s None) [] mid) (sym ei)
 
   pub start_open : IsOpen (starts p s w) → IsOpen (makes_arguments p init [] mid)
-  start_open h = arguments_open p init this (place s None) mid (subst (λ (o : Outcome Frame). IsOpen o) started_is h)
+  start_open h = arguments_open p init this (place s None) [] mid (subst (λ (o : Outcome Frame). IsOpen o) started_is h)
 
-  pub start_is : (items : List Value) (after : World) → items ≡ this ∷ drop 1 items → makes_arguments p init [] mid ≡ Went after (drop 1 items) → starts p s w ≡ frames_alone p init (place s None) (receiver items) (drop 1 items) after
-  start_is items after first e = started_is ∙ entered_is p init this (place s None) items mid after first e
+  pub start_is : (items : List Value) (after : World) → items ≡ this ∷ drop 1 items → makes_arguments p init [] mid ≡ Went after (drop 1 items) → starts p s w ≡ frames_alone p init (place s None) (receiver items) (drop 1 items) [] after
+  start_is items after first e = started_is ∙ entered_is p init this (place s None) items [] mid after first e
 
   pub start_stops : (after : World) (why : Stop) → makes_arguments p init [] mid ≡ Stopped after why → starts p s w ≡ Stopped after why
-  start_stops after why e = started_is ∙ entered_stops p init this (place s None) mid after why e
+  start_stops after why e = started_is ∙ entered_stops p init this (place s None) [] mid after why e
 
 -- ---- what a part that comes with no frame relies on
 
@@ -200,7 +195,7 @@ first_by p w g q size true true = refl
 first_by p w g q size true false = refl
 first_by p w g q size false b = refl
 
-first_put : (p : Setting) (w : World) (g : Frame) (q : Frames) → IsSized p w.heap.limits q → q.living ≡ [] → puts p w g [] ≡ stepped p (alone_if (room_for q (size_for p g)) (size_for p g) w g q)
+pub first_put : (p : Setting) (w : World) (g : Frame) (q : Frames) → IsSized p w.heap.limits q → q.living ≡ [] → puts p w g [] ≡ stepped p (alone_if (room_for q (size_for p g)) (size_for p g) w g q)
 first_put p w g q s none =
     let long = ap (λ (fs : List Frame). length fs) none in
     let kept_by = ap total_of_all (s.sizes ∙ ap (map (size_for p)) none) in

@@ -1,8 +1,9 @@
 -- What the meaning makes of an act is what becomes of the frames.
-use Rattle.std.proofs.Common.{◌≡◌, ℕ, suc, ◌+◌, ◌<◌, List, [], ◌∷◌, length, map, refl, sym, ap, ◌∙◌, subst, arith, nat_le, Bool, true, false, if◌then◌else◌}
+use Rattle.std.proofs.Common.{◌≡◌, ◌≢◌, ℕ, suc, ◌+◌, ◌<◌, List, [], ◌∷◌, length, map, refl, sym, ap, ◌∙◌, subst, arith, nat_le, Bool, true, false, if◌then◌else◌}
 use Rattle.std.specs.Prelude.{None, Some, Ok, Err}
 use Rattle.std.specs.declared.option.Option.{Option}
 use Rattle.std.specs.declared.result.Result.{Result}
+use Rattle.abc_cells.specs.declared.values.Value.{Value}
 use Rattle.abc_ends.specs.Ending.{IsSized}
 use Rattle.abc_fair.specs.Fair.{IsFairAs, IsLeft}
 use Rattle.abc_heap.specs.declared.records.Full.{Full}
@@ -13,7 +14,7 @@ use Rattle.abc_meaning.specs.Throwing.{stops}
 use Rattle.abc_stacks.specs.Frame.{Frame, Frames, newest, newest_of, room_for, total, total_of_all, under}
 use Rattle.abc_stacks.specs.declared.records.Size.{Size}
 use Rattle.abc_states.specs.ActsAt.{Above, Act, Goes, Returns, Stays}
-use Rattle.abc_states.specs.Turns.{above, bare, bared, entered_if, kept, on_top, size_for, turned}
+use Rattle.abc_states.specs.Turns.{Gives, above, bare, bared, entered_if, kept, on_top, size_for, turned}
 use Rattle.abc_states.specs.WorldSetting.{Setting, routine_of}
 use Rattle.abc_states.specs.World.{Errs, Faults, Fills, Outcome, Run, Sticks, Stop, Stopped, Throws, Went, World, and_then, done, stop}
 use Rattle.abc_typing.specs.Routines.{Routine}
@@ -117,6 +118,11 @@ above_held p n q g h = record { sound = h.sound; sized = record { sizes = ap (λ
 entered_held : (p : Setting) (n : World) (g f : Frame) (q : Frames) (r : Result Unit Full) → IsHeld p n (on_top f q) → IsHeld p n (bared q) → 0 < length (newest q).locals → IsHeldTurn p (entered_if r (size_for p g) n g f q)
 entered_held p n g f q (Ok u) h b this = above_held p n (on_top f q) g h
 entered_held p n g f q (Err full) h b this = record { held = b; fair = tt; this = this }
+
+-- a frame that is entered gives nothing back
+pub entered_gives_none : (r : Result Unit Full) (size : Size) (w : World) (g f : Frame) (q : Frames) (n : World) (k : Frames) (v : Value) → entered_if r size w g f q ≢ Gives n k v
+entered_gives_none (Ok u) size w g f q n k v e = cc
+entered_gives_none (Err full) size w g f q n k v e = cc
 
 -- where it returns, the frame below can go on
 abbrev pub MayReturn : Setting → Frames → Outcome Act → Type 0

@@ -31,6 +31,6 @@ abbrev pub went_alone : Result Unit Stop → World → Frames → Turned
 went_alone (Ok u) w q = GoesOn w q
 went_alone (Err e) w q = Halts w q (why e)
 
--- the frame of a method without arguments, whose first locals are made: a receiver, and what stands for its parameters
-abbrev pub frames_alone : Setting → (method : ℕ) → Place → (this : Value) → List Value → Run Frame
-frames_alone p n at this vs = some (method_of p n) >>= λ m. framed p n m this at [] vs
+-- the frame of a method whose first locals are made: a receiver, and what stands for its parameters; these arguments were given
+abbrev pub frames_alone : Setting → (method : ℕ) → Place → (this : Value) → List Value → (given : List Value) → Run Frame
+frames_alone p n at this vs given = some (method_of p n) >>= λ m. framed p n m this at given vs

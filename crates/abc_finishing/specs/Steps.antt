@@ -10,14 +10,13 @@ use Rattle.abc_entering.specs.Arguments.{IsKnown}
 use Rattle.abc_meaning.specs.Laws.{IsVerified}
 use Rattle.abc_meaning.specs.Sound.{AreTypings, IsSound, Typings}
 use Rattle.abc_meaning.specs.Step.{gives_back, step_of}
-use Rattle.abc_meaning.specs.Throwing.{End, Ends, Machine, Stepped, Steps, goes_on, stops}
+use Rattle.abc_meaning.specs.Throwing.{Done, End, Ends, Machine, Stepped, Steps, goes_on, stops}
 use Rattle.abc_outward.specs.Outward.{adding}
 use Rattle.abc_program.specs.Linked.{LinkedFile}
 use Rattle.abc_stacks.specs.Frame.{under}
 use Rattle.abc_states.specs.Outer.{Outer, setting, world}
 use Rattle.abc_states.specs.Turns.{GoesOn, Gives, Halts, Turned, answered}
 use Rattle.abc_states.specs.WorldSetting.{Setting}
-use Rattle.abc_states.specs.World.{World}
 use Rattle.abc_states.specs.declared.state.Left.{Left}
 use Rattle.abc_states.specs.declared.state.State.{State}
 use Rattle.abc_states.specs.declared.state.Stop.{Stop}
@@ -53,11 +52,9 @@ pub record GoesOnIn (r : Stepped) (out : Outer) (new : State) (before now : Opti
   pub goes : r ≡ goes_on (world new (adding bytes out)) new.frames.living
   pub sink : IsSome before → now ≡ append_known before bytes
 
--- it ends, having written nothing
-pub record EndsIn (r : Stepped) (out : Outer) (end : End) (before now : Option (List ℕ)) : Type 0 where
-  pub left : World
-  pub ends : r ≡ Ends left end
-  pub wrote : left.wrote ≡ out.wrote
+-- it ends in this state, having written nothing
+pub record EndsIn (r : Stepped) (out : Outer) (new : State) (end : End) (before now : Option (List ℕ)) : Type 0 where
+  pub ends : r ≡ Ends (world new out) end
   pub sink : now ≡ before
 
 -- it goes on, but writing its bytes failed
@@ -70,15 +67,16 @@ pub record FailsIn (r : Stepped) (out : Outer) (before now : Option (List ℕ)) 
 
 abbrev pub StepsIn : Stepped → Outer → Result Unit Halt → (new : State) → (before now : Option (List ℕ)) → Type 0
 StepsIn r out (Ok u) new before now = GoesOnIn r out new before now
-StepsIn r out (Err (halts.Ends e)) new before now = EndsIn r out (end_of e) before now
+StepsIn r out (Err (halts.Returns v)) new before now = EndsIn r out new Done before now
+StepsIn r out (Err (halts.Ends e)) new before now = EndsIn r out new (end_of e) before now
 StepsIn r out (Err halts.Fails) new before now = FailsIn r out before now
 
 -- the step of a state
 abbrev pub GoesOnAs : LinkedFile → Outer → (old new : State) → (before now : Option (List ℕ)) → Type 0
 GoesOnAs l out old new before now = GoesOnIn (step_here l out old) out new before now
 
-abbrev pub EndsAs : LinkedFile → Outer → (old : State) → End → (before now : Option (List ℕ)) → Type 0
-EndsAs l out old end before now = EndsIn (step_here l out old) out end before now
+abbrev pub EndsAs : LinkedFile → Outer → (old new : State) → End → (before now : Option (List ℕ)) → Type 0
+EndsAs l out old new end before now = EndsIn (step_here l out old) out new end before now
 
 abbrev pub FailsAs : LinkedFile → Outer → (old : State) → (before now : Option (List ℕ)) → Type 0
 FailsAs l out old before now = FailsIn (step_here l out old) out before now

@@ -1,13 +1,14 @@
-ghost use Rattle.std.specs.Prelude.{◌≡◌, ◌<◌, ◌≤◌, Err, OnOk, length};
+ghost use Rattle.std.specs.Prelude.{◌≡◌, ◌≢◌, ◌<◌, ◌≤◌, Err, Ok, length};
 ghost use Rattle.abc_base.specs.Faults.{Rose};
 ghost use Rattle.abc_callarms.specs.Calls.{CanFinish, Finishes};
+ghost use Rattle.abc_cells.specs.declared.values.Value.{Value};
 ghost use Rattle.abc_ends.specs.Ending.{IsSized, stepped_by};
 ghost use Rattle.abc_entering.specs.Arguments.{IsKnown};
 ghost use Rattle.abc_states.specs.Outer.{Outer, setting, world};
 ghost use Rattle.abc_states.specs.Turns.{answered, asked, traced};
 ghost use Rattle.abc_finishing.specs.Fairly.{IsFairTurn};
 ghost use Rattle.abc_finishing.specs.Steps.{StepsIn, left_here, stepped};
-ghost use Rattle.abc_finishing.specs.declared.halting.Halt.TheVariants.{Fails};
+ghost use Rattle.abc_finishing.specs.declared.halting.Halt.TheVariants.{Fails, Returns};
 
 use crate::halting::{Halt, halted};
 use crate::returning::give_back;
@@ -30,7 +31,8 @@ fn write<K: Sink>(
     requires finishes { Finishes linked.now count how s.old }
     requires fair { IsFairTurn (setting linked.now out) (traced (setting linked.now out) count how (world s.old out) s.old.frames) }
     ensures step { StepsIn (stepped (setting linked.now out) (traced (setting linked.now out) count how (world s.old out) s.old.frames)) out result s.new (K.written sink.old) (K.written sink.new) }
-    ensures sized { OnOk result (IsSized (setting linked.now out) s.new.arena.limits s.new.frames) }
+    ensures none { (v : Value) → result ≢ Err (Returns v) }
+    ensures sized { result ≢ Err Fails → IsSized (setting linked.now out) s.new.arena.limits s.new.frames }
     ensures later { K.faults sink.old ≤ K.faults sink.new }
     ensures cause { result ≡ Err Fails → Rose (K.faults sink.old) (K.faults sink.new) }
     ensures limit { s.new.given.limit ≡ s.old.given.limit }
@@ -67,8 +69,8 @@ fn consult<H: Host>(
 }
 
 /// What an instruction leaves to be done: what returns is given back, a line is written, a formula asked, and a throw caught. It
-/// answers how the run ends, if it does, and `Fails` where the sink failed, after a front of the line; then nothing is told of
-/// the state.
+/// answers how the run ends, if it does, with what returned where the last frame did, and `Fails` where the sink failed, after a
+/// front of the line; then nothing is told of the state.
 pub fn finish<K: Sink, H: Host>(
     linked: &Linked,
     s: &mut State,
@@ -83,14 +85,15 @@ pub fn finish<K: Sink, H: Host>(
     requires left { CanFinish linked.now left s.old }
     requires fair { IsFairTurn (setting linked.now out) (answered (setting linked.now out) left (world s.old out) s.old.frames) }
     ensures step { StepsIn (left_here linked.now out s.old left) out result s.new (K.written sink.old) (K.written sink.new) }
-    ensures sized { OnOk result (IsSized (setting linked.now out) s.new.arena.limits s.new.frames) }
+    ensures value { (v : Value) → result ≡ Err (Returns v) → left ≡ Ok (Left.Returns v) }
+    ensures sized { result ≢ Err Fails → IsSized (setting linked.now out) s.new.arena.limits s.new.frames }
     ensures later { K.faults sink.old ≤ K.faults sink.new }
     ensures cause { result ≡ Err Fails → Rose (K.faults sink.old) (K.faults sink.new) }
     ensures limit { s.new.given.limit ≡ s.old.given.limit }
 {
     match left {
         Ok(Left::Goes) => Ok(()),
-        Ok(Left::Returns(v)) => halted(give_back(linked, s, v)),
+        Ok(Left::Returns(v)) => give_back(linked, s, v),
         Ok(Left::Traces { count, how }) => write(linked, s, sink, count, how),
         Ok(
             Left::Asks {

@@ -1,18 +1,21 @@
 ghost use Rattle.std.specs.Prelude.{◌≡◌};
 ghost use Rattle.abc_finishing.specs.Steps.{halted_as};
 
+use abc_cells::Value;
 use abc_ends::Ended;
 
 /// Why a run goes no further.
 #[derive(Clone, Copy)]
 pub enum Halt {
-    /// It ends.
+    /// The last frame returned this: the run is done.
+    Returns(Value),
+    /// It ends otherwise.
     Ends(Ended),
     /// The sink failed.
     Fails,
 }
 
-/// How a step ends, if it does.
+/// How a step ends that doesn't return, if it does.
 pub(crate) fn halted(ended: Result<(), Ended>) -> Result<(), Halt>
     ensures { result ≡ halted_as ended }
 {

@@ -1,4 +1,6 @@
-ghost use Rattle.std.specs.Prelude.{◌≡◌, ◌<◌, length};
+ghost use Rattle.std.specs.Prelude.{◌≡◌, ◌≢◌, ◌<◌, ℕ, List, Err, length};
+ghost use Rattle.std.specs.declared.option.Option.{Option};
+ghost use Rattle.abc_cells.specs.declared.values.Value.{Value};
 ghost use Rattle.abc_ends.specs.Ending.{IsFree, IsSized, stepped_by};
 ghost use Rattle.abc_entering.specs.Arguments.{IsKnown};
 ghost use Rattle.abc_fair.specs.Fair.{IsFairPart};
@@ -11,7 +13,10 @@ ghost use Rattle.abc_states.specs.Outer.{Outer, setting, world};
 ghost use Rattle.abc_states.specs.Standing.{IsSet};
 ghost use Rattle.abc_states.specs.Turns.{Gives, bared};
 ghost use Rattle.abc_finishing.specs.Fairly.{CanTake, IsFairTurn, IsHeld, made_of};
+ghost use Rattle.abc_finishing.specs.Steps.{StepsIn};
+ghost use Rattle.abc_finishing.specs.declared.halting.Halt.TheVariants.{Fails, Returns};
 
+use crate::halting::{Halt, halted};
 use abc_callarms::make;
 use abc_cells::Value;
 use abc_ends::{Ended, stopped};
@@ -75,19 +80,21 @@ fn resume(linked: &Linked, s: &mut State, v: Value) -> Result<(), Ended>
     }
 }
 
-/// The newest frame is left, and the one under it goes on as it waited. Under the last the run is done.
-pub(crate) fn give_back(linked: &Linked, s: &mut State, v: Value) -> Result<(), Ended>
+/// The newest frame is left, and the one under it goes on as it waited. Under the last the run is done, and it answers what returned.
+pub(crate) fn give_back(linked: &Linked, s: &mut State, v: Value) -> Result<(), Halt>
     ghost out: { Outer }
     requires known { IsKnown linked.now s.old.given.limit }
     requires scripts { 0 < length linked.now.file.scripts }
     requires fair { IsFairTurn (setting linked.now out) (Gives (world s.old out) (bared s.old.frames) v) }
-    ensures step { gives_back (setting linked.now out) (world s.old out) v (under s.old.frames.living) ≡ stepped_by result (world s.new out) s.new.frames }
+    ensures step { (before : Option (List ℕ)) → StepsIn (gives_back (setting linked.now out) (world s.old out) v (under s.old.frames.living)) out result s.new before before }
+    ensures ends { result ≢ Err Fails }
+    ensures value { (x : Value) → result ≡ Err (Returns x) → x ≡ v }
     ensures sized { IsSized (setting linked.now out) s.new.arena.limits s.new.frames }
     ensures limit { s.new.given.limit ≡ s.old.given.limit }
 {
     s.frames.leave();
     if s.frames.depth() == 0 {
-        return Err(Ended::Done);
+        return Err(Halt::Returns(v));
     }
-    resume(linked, s, v)
+    halted(resume(linked, s, v))
 }

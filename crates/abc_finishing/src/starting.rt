@@ -1,10 +1,12 @@
 ghost use Rattle.std.specs.Prelude.{◌≡◌, ◌≢◌, ◌<◌, ◌++◌, ℕ, List, [], Err, IsSome, Some, drop, length, slice_get};
 ghost use Rattle.std.specs.declared.option.Option.{Option};
 ghost use Rattle.abc_cells.specs.Filling.{HasRoom};
+ghost use Rattle.abc_cells.specs.declared.values.Value.{Value};
 ghost use Rattle.abc_ends.specs.Ending.{IsSized, stepped_by};
 ghost use Rattle.abc_entering.specs.Arguments.{IsKnown, list_of, listed, receiver};
 ghost use Rattle.abc_entering.specs.Entering.{placed};
-ghost use Rattle.abc_objects.specs.Stands.{StandsOver};
+ghost use Rattle.abc_objects.specs.Stands.{Each, StandsOver};
+ghost use Rattle.abc_objects.specs.Values.{Exists};
 ghost use Rattle.abc_states.specs.Outer.{Outer, setting, world};
 ghost use Rattle.abc_states.specs.Standing.{Stays};
 ghost use Rattle.abc_states.specs.Stops.{IsOpen, answer};
@@ -12,14 +14,13 @@ ghost use Rattle.abc_states.specs.WorldEntering.{array_of, extra, starts};
 ghost use Rattle.abc_finishing.specs.Fairly.{CanStart};
 ghost use Rattle.abc_finishing.specs.Starting.{begins, frames_alone, went_alone};
 ghost use Rattle.abc_finishing.specs.Steps.{StepsAs, step_here};
-ghost use Rattle.abc_finishing.specs.declared.halting.Halt.TheVariants.{Fails};
+ghost use Rattle.abc_finishing.specs.declared.halting.Halt.TheVariants.{Fails, Returns};
 
 use crate::halting::{Halt, halted};
 use abc_cells::Value;
 use abc_ends::{Ended, stopped};
 use abc_entering::{entry_of, global_of, prepare};
 use abc_link::Linked;
-use abc_makers::make_undefined;
 use abc_moves::try_start;
 use abc_stacks::Pile;
 use abc_states::{Place, State, Stop};
@@ -32,7 +33,7 @@ const ARGUMENTS: u8 = 0x01;
 const REST: u8 = 0x04;
 
 /// A method of the file.
-fn method_at(linked: &Linked, method: u32) -> &Method
+pub fn method_at(linked: &Linked, method: u32) -> &Method
     requires { IsSome (slice_get linked.now.file.methods method) }
     ensures { slice_get linked.now.file.methods method ≡ Some result.now }
 {
@@ -42,27 +43,47 @@ fn method_at(linked: &Linked, method: u32) -> &Method
     }
 }
 
-/// The array of no arguments.
-fn no_arguments(linked: &Linked, s: &mut State) -> Result<Option<Value>, Stop>
-    requires { StandsOver linked.now s.old.arena }
-    ensures part { (out : Outer) → array_of (setting linked.now out) [] (world s.old out) ≡ answer (listed result) (world s.new out) }
+/// The array of some arguments.
+fn array_with(linked: &Linked, s: &mut State, args: &[Value]) -> Result<Option<Value>, Stop>
+    requires over { StandsOver linked.now s.old.arena }
+    requires there { Each (Exists linked.now s.old.arena) args.now }
+    ensures part { (out : Outer) → array_of (setting linked.now out) args.now (world s.old out) ≡ answer (listed result) (world s.new out) }
     ensures stays { Stays linked.now s.old s.new }
 {
-    let made = make_undefined(linked, s, 0)?;
-    Ok(Some(Value::Obj(made)))
+    match s.arena.new_array(linked, args) {
+        Ok(made) => Ok(Some(Value::Obj(made))),
+        Err(full) => Err(Stop::Fills(full.0)),
+    }
 }
 
-/// The array of the arguments, of which there are none, where a method takes one.
-fn array_for(linked: &Linked, s: &mut State, method: &Method) -> Result<Option<Value>, Stop>
-    requires { StandsOver linked.now s.old.arena }
-    ensures part { (out : Outer) → extra (setting linked.now out) method.now [] (world s.old out) ≡ answer (listed result) (world s.new out) }
+/// The arguments behind so many parameters.
+fn behind(args: &[Value], params: usize) -> &[Value]
+    ensures { result.now ≡ drop params args.now }
+{
+    if params < args.len() {
+        &args[params..]
+    } else {
+        &[]
+    }
+}
+
+/// The array of the arguments behind the parameters, or of all, as they were given, where a method takes one.
+fn array_for(
+    linked: &Linked,
+    s: &mut State,
+    method: &Method,
+    args: &[Value],
+) -> Result<Option<Value>, Stop>
+    requires over { StandsOver linked.now s.old.arena }
+    requires there { Each (Exists linked.now s.old.arena) args.now }
+    ensures part { (out : Outer) → extra (setting linked.now out) method.now args.now (world s.old out) ≡ answer (listed result) (world s.new out) }
     ensures stays { Stays linked.now s.old s.new }
 {
     if has_flag(method.flags, REST) {
-        return no_arguments(linked, s);
+        return array_with(linked, s, behind(args, method.params.len()));
     }
     if has_flag(method.flags, ARGUMENTS) {
-        return no_arguments(linked, s);
+        return array_with(linked, s, args);
     }
     Ok(None)
 }
@@ -77,18 +98,26 @@ fn give(given: &mut Pile<Value>, more: Option<Value>)
     }
 }
 
-/// A method whose first locals are made is put over no frame, with the array that it may take. Its room is taken last of all.
-fn put_alone(linked: &Linked, s: &mut State, method: u32, at: Place) -> Result<(), Stop>
+/// A method whose first locals are made is put over no frame, with the array that it may take of the arguments that were given.
+/// Its room is taken last of all.
+pub fn put_alone(
+    linked: &Linked,
+    s: &mut State,
+    method: u32,
+    at: Place,
+    args: &[Value],
+) -> Result<(), Stop>
     ghost out: { Outer }
     requires over { StandsOver linked.now s.old.arena }
+    requires there { Each (Exists linked.now s.old.arena) args.now }
     requires none { s.old.frames.living ≡ [] }
     requires given { 0 < length s.old.given.items }
     requires room { length s.old.given.items < s.old.given.limit }
-    requires free { IsOpen (frames_alone (setting linked.now out) method (placed at) (receiver s.old.given.items) (drop 1 s.old.given.items) (world s.old out)) }
-    ensures begins { begins (setting linked.now out) s.old.frames (frames_alone (setting linked.now out) method (placed at) (receiver s.old.given.items) (drop 1 s.old.given.items) (world s.old out)) ≡ went_alone result (world s.new out) s.new.frames }
+    requires free { IsOpen (frames_alone (setting linked.now out) method (placed at) (receiver s.old.given.items) (drop 1 s.old.given.items) args.now (world s.old out)) }
+    ensures begins { begins (setting linked.now out) s.old.frames (frames_alone (setting linked.now out) method (placed at) (receiver s.old.given.items) (drop 1 s.old.given.items) args.now (world s.old out)) ≡ went_alone result (world s.new out) s.new.frames }
     ensures limit { s.new.given.limit ≡ s.old.given.limit }
 {
-    let array = array_for(linked, s, method_at(linked, method))?;
+    let array = array_for(linked, s, method_at(linked, method), args)?;
     give(&mut s.given, array);
     let entry = entry_of(linked, method, at);
     try_start(&mut s.frames, entry, s.given.as_slice())?;
@@ -115,7 +144,7 @@ fn start_alone(linked: &Linked, s: &mut State, script: u32) -> Result<(), Stop>
         home: script,
         saved: None,
     };
-    put_alone(linked, s, init, at)
+    put_alone(linked, s, init, at, &[])
 }
 
 /// The last script is started over no frame, and what it throws is not caught.
@@ -139,6 +168,7 @@ pub fn start_last(linked: &Linked, s: &mut State) -> Result<(), Halt>
     requires { CanStart linked.now out s.old }
     ensures step { (before : Option (List ℕ)) → StepsAs linked.now out s.old result s.new before before }
     ensures ends { result ≢ Err Fails }
+    ensures none { (v : Value) → result ≢ Err (Returns v) }
     ensures sized { IsSized (setting linked.now out) s.new.arena.limits s.new.frames }
     ensures limit { s.new.given.limit ≡ s.old.given.limit }
 {

@@ -100,14 +100,14 @@ module _ (l : LinkedFile) (b : Begun) where
       go : IsAt l b 0 s x y → RunsAs (ran (runs_for p b.fuel b.first)) x z ends.FuelSpent
       go a = ran_as (runs_for p 0 (at 0)) FuelSpent ends.FuelSpent x z (at 0).world.wrote a.goes refl refl refl (λ some. same ∙ a.sink some)
 
-  pub ends_at : (s : State) (x y z : Option (List ℕ)) (fuel left : ℕ) (end : End) → fuel ≡ suc left → IsAt l b fuel s x y → EndsWith l (outer l b fuel) s end y z → RunsAs (ran (runs_for p b.fuel b.first)) x z end
-  ends_at s x y z fuel left end f a e = go (subst (λ (n : ℕ). IsAt l b n s x y) f a) (subst (λ (n : ℕ). EndsWith l (outer l b n) s end y z) f e)
+  pub ends_at : (s new : State) (x y z : Option (List ℕ)) (fuel left : ℕ) (end : End) → fuel ≡ suc left → IsAt l b fuel s x y → EndsWith l (outer l b fuel) s new end y z → RunsAs (ran (runs_for p b.fuel b.first)) x z end
+  ends_at s new x y z fuel left end f a e = go (subst (λ (n : ℕ). IsAt l b n s x y) f a) (subst (λ (n : ℕ). EndsWith l (outer l b n) s new end y z) f e)
     where
-      go : IsAt l b (suc left) s x y → EndsWith l (outer l b (suc left)) s end y z → RunsAs (ran (runs_for p b.fuel b.first)) x z end
+      go : IsAt l b (suc left) s x y → EndsWith l (outer l b (suc left)) s new end y z → RunsAs (ran (runs_for p b.fuel b.first)) x z end
       go a e =
           let out = outer l b (suc left) in
-          let r : Ended = record { world = e.ends.left; end = e.end } in
-          ran_as r e.end end x z out.wrote (a.goes ∙ ap (λ (q : Stepped). then_runs q (runs_for p left)) (stepped left s x y a ∙ e.ends.ends)) refl e.ends.wrote e.is (λ some. e.ends.sink ∙ a.sink some)
+          let r : Ended = record { world = world new out; end = e.end } in
+          ran_as r e.end end x z out.wrote (a.goes ∙ ap (λ (q : Stepped). then_runs q (runs_for p left)) (stepped left s x y a ∙ e.ends.ends)) refl refl e.is (λ some. e.ends.sink ∙ a.sink some)
 
   pub fails_at : (s : State) (x y z : Option (List ℕ)) (fuel left : ℕ) → fuel ≡ suc left → IsAt l b fuel s x y → FailsAs l (outer l b fuel) s y z → RunsAs (ran (runs_for p b.fuel b.first)) x z ends.WriteFault
   fails_at s x y z fuel left f a e = go (subst (λ (n : ℕ). IsAt l b n s x y) f a) (subst (λ (n : ℕ). FailsAs l (outer l b n) s y z) f e)

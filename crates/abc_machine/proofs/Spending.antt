@@ -1,6 +1,6 @@
 -- One step more, where there is fuel for it.
-use Rattle.std.proofs.Common.{◌≡◌, ℕ, zero, suc, ◌-◌, List, refl, sym, subst, arith}
-use Rattle.std.specs.Prelude.{Ok, Err, OnOk}
+use Rattle.std.proofs.Common.{◌≡◌, ◌≢◌, ℕ, zero, suc, ◌-◌, List, refl, sym, subst, arith}
+use Rattle.std.specs.Prelude.{Ok, Err}
 use Rattle.std.specs.declared.option.Option.{Option}
 use Rattle.std.specs.declared.result.Result.{Result}
 use Rattle.abc_ends.specs.Ending.{IsSized}
@@ -28,7 +28,7 @@ some_left (suc n) h = omega arith
 -- a step that ends
 spends : (l : LinkedFile) (out : Outer) (old new : State) (fuel left : ℕ) (h : Halt) (before now : Option (List ℕ)) → fuel ≡ suc left → StepsAs l out old (Err h) new before now → SpendsAs l out old fuel (Err (end_for h)) new left before now
 spends l out old new fuel left halts.Fails before now f a = (f, a)
-spends l out old new fuel left (halts.Ends ended.Done) before now f a = (f, record { end = meant.Done; is = refl; ends = a })
+spends l out old new fuel left (halts.Returns v) before now f a = (f, record { end = meant.Done; is = refl; ends = a })
 spends l out old new fuel left (halts.Ends (ended.Uncaught thrown)) before now f a = (f, record { end = meant.Uncaught thrown; is = refl; ends = a })
 spends l out old new fuel left (halts.Ends (ended.Profile method index fault)) before now f a = (f, record { end = meant.Profile method index fault; is = refl; ends = a })
 spends l out old new fuel left (halts.Ends (ended.Full limit)) before now f a = (f, record { end = meant.Full limit; is = refl; ends = a })
@@ -37,9 +37,9 @@ pub ended_as : (l : LinkedFile) (out : Outer) (old new : State) (fuel : ℕ) (r 
 ended_as l out old new fuel r h e before now is q f a = subst (λ (x : End). SpendsAs l out old fuel (Err x) new (fuel - 1) before now) (sym q) (spends l out old new fuel (fuel - 1) h before now (some_left fuel f) (subst (λ (x : Result Unit Halt). StepsAs l out old x new before now) is a))
 
 -- a step that goes on
-pub went_as : (l : LinkedFile) (out : Outer) (old new : State) (fuel : ℕ) (r : Result Unit Halt) (u : Unit) (before now : Option (List ℕ)) → IsReached l out old → r ≡ Ok u → (fuel ≡ 0 → ⊥) → StepsAs l out old r new before now → OnOk r (IsSized (setting l out) new.arena.limits new.frames) → new.given.limit ≡ old.given.limit → SpendsAs l out old fuel (Ok u) new (fuel - 1) before now
+pub went_as : (l : LinkedFile) (out : Outer) (old new : State) (fuel : ℕ) (r : Result Unit Halt) (u : Unit) (before now : Option (List ℕ)) → IsReached l out old → r ≡ Ok u → (fuel ≡ 0 → ⊥) → StepsAs l out old r new before now → (r ≢ Err halts.Fails → IsSized (setting l out) new.arena.limits new.frames) → new.given.limit ≡ old.given.limit → SpendsAs l out old fuel (Ok u) new (fuel - 1) before now
 went_as l out old new fuel r u before now reach e f a there limit =
-    let sized = subst (λ (x : Result Unit Halt). OnOk x (IsSized (setting l out) new.arena.limits new.frames)) e there in
+    let sized = there (λ fails. cc) in
     let g : GoesOnAs l out old new before now = subst (λ (x : Result Unit Halt). StepsAs l out old x new before now) e a in
     (some_left fuel f, record { goes = g; reached = reached_on l out old new before now reach g sized limit })
 
@@ -51,11 +51,11 @@ went_on l b s new x y z fuel left r u a e spent =
 
 -- the run ends with it
 spent_as : (l : LinkedFile) (b : Begun) (s new : State) (x y z : Option (List ℕ)) (fuel left : ℕ) (e : End) → IsAt l b fuel s x y → SpendsAs l (outer l b fuel) s fuel (Err e) new left y z → RunsAs (ran (runs_for (record { linked = l; formulas = b.formulas }) b.fuel b.first)) x z e
-spent_as l b s new x y z fuel left ends.Done a r = ends_at l b s x y z fuel left ends.Done r.0 a r.1
-spent_as l b s new x y z fuel left (ends.Uncaught thrown) a r = ends_at l b s x y z fuel left (ends.Uncaught thrown) r.0 a r.1
-spent_as l b s new x y z fuel left (ends.Profile method index fault) a r = ends_at l b s x y z fuel left (ends.Profile method index fault) r.0 a r.1
+spent_as l b s new x y z fuel left ends.Done a r = ends_at l b s new x y z fuel left ends.Done r.0 a r.1
+spent_as l b s new x y z fuel left (ends.Uncaught thrown) a r = ends_at l b s new x y z fuel left (ends.Uncaught thrown) r.0 a r.1
+spent_as l b s new x y z fuel left (ends.Profile method index fault) a r = ends_at l b s new x y z fuel left (ends.Profile method index fault) r.0 a r.1
 spent_as l b s new x y z fuel left ends.FuelSpent a r = spent_at l b s x y z fuel r.0 a r.1
-spent_as l b s new x y z fuel left (ends.Full limit) a r = ends_at l b s x y z fuel left (ends.Full limit) r.0 a r.1
+spent_as l b s new x y z fuel left (ends.Full limit) a r = ends_at l b s new x y z fuel left (ends.Full limit) r.0 a r.1
 spent_as l b s new x y z fuel left ends.WriteFault a r = fails_at l b s x y z fuel left r.0 a r.1
 
 pub ended_on : (l : LinkedFile) (b : Begun) (s new : State) (x y z : Option (List ℕ)) (whole fuel left : ℕ) (r : Result Unit End) (e : End) → b.fuel ≡ whole → IsAt l b fuel s x y → r ≡ Err e → SpendsAs l (outer l b fuel) s fuel r new left y z → RunsAs (ran (runs_for (record { linked = l; formulas = b.formulas }) whole b.first)) x z e

@@ -18,16 +18,16 @@ use Rattle.abc_reached.specs.Halt.TheVariants as halts
 -- how a run ends where a step does
 abbrev pub end_for : Halt → End
 end_for halts.Fails = ends.WriteFault
-end_for (halts.Ends ended.Done) = ends.Done
+end_for (halts.Returns v) = ends.Done
 end_for (halts.Ends (ended.Uncaught thrown)) = ends.Uncaught thrown
 end_for (halts.Ends (ended.Profile method index fault)) = ends.Profile method index fault
 end_for (halts.Ends (ended.Full limit)) = ends.Full limit
 
--- a step ended as the code says
-pub record EndsWith (l : LinkedFile) (out : Outer) (old : State) (e : End) (before now : Option (List ℕ)) : Type 0 where
+-- a step ended as the code says, in the state that it leaves
+pub record EndsWith (l : LinkedFile) (out : Outer) (old new : State) (e : End) (before now : Option (List ℕ)) : Type 0 where
   pub end : meant.End
   pub is : IsEndOf end e
-  pub ends : EndsAs l out old end before now
+  pub ends : EndsAs l out old new end before now
 
 -- a step went on, to a state that a run reaches
 pub record GoesTo (l : LinkedFile) (out : Outer) (old new : State) (before now : Option (List ℕ)) : Type 0 where
@@ -38,7 +38,7 @@ abbrev pub SpendsAs : LinkedFile → Outer → (old : State) → (fuel : ℕ) �
 SpendsAs l out old fuel (Ok u) new left before now = (fuel ≡ suc left) × GoesTo l out old new before now
 SpendsAs l out old fuel (Err ends.FuelSpent) new left before now = (fuel ≡ 0) × (now ≡ before)
 SpendsAs l out old fuel (Err ends.WriteFault) new left before now = (fuel ≡ suc left) × FailsAs l out old before now
-SpendsAs l out old fuel (Err ends.Done) new left before now = (fuel ≡ suc left) × EndsWith l out old ends.Done before now
-SpendsAs l out old fuel (Err (ends.Uncaught thrown)) new left before now = (fuel ≡ suc left) × EndsWith l out old (ends.Uncaught thrown) before now
-SpendsAs l out old fuel (Err (ends.Profile method index fault)) new left before now = (fuel ≡ suc left) × EndsWith l out old (ends.Profile method index fault) before now
-SpendsAs l out old fuel (Err (ends.Full limit)) new left before now = (fuel ≡ suc left) × EndsWith l out old (ends.Full limit) before now
+SpendsAs l out old fuel (Err ends.Done) new left before now = (fuel ≡ suc left) × EndsWith l out old new ends.Done before now
+SpendsAs l out old fuel (Err (ends.Uncaught thrown)) new left before now = (fuel ≡ suc left) × EndsWith l out old new (ends.Uncaught thrown) before now
+SpendsAs l out old fuel (Err (ends.Profile method index fault)) new left before now = (fuel ≡ suc left) × EndsWith l out old new (ends.Profile method index fault) before now
+SpendsAs l out old fuel (Err (ends.Full limit)) new left before now = (fuel ≡ suc left) × EndsWith l out old new (ends.Full limit) before now

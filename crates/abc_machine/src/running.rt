@@ -23,7 +23,7 @@ fn end_for(halt: Halt) -> End
 {
     match halt {
         Halt::Fails => End::WriteFault,
-        Halt::Ends(Ended::Done) => End::Done,
+        Halt::Returns(_) => End::Done,
         Halt::Ends(Ended::Uncaught(thrown)) => End::Uncaught(thrown),
         Halt::Ends(
             Ended::Profile {

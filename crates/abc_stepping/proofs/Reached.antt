@@ -3,6 +3,8 @@ use Rattle.std.proofs.Common.{◌≡◌, ◌≢◌, ℕ, ◌<◌, ◌^◌, List,
 use Rattle.std.specs.Prelude.{Ok}
 use Rattle.std.specs.declared.option.Option.{Option}
 use Rattle.std.specs.declared.result.Result.{Result}
+use Rattle.abc_callmeaning.specs.Calls.{returned, value_returned}
+use Rattle.abc_cells.specs.declared.values.Value.{Value}
 use Rattle.abc_dispatch.proofs.Led.{runs_here}
 use Rattle.abc_dispatch.specs.Ready.{CanStep, IsEquipped}
 use Rattle.abc_ends.specs.Ending.{IsSized}
@@ -10,7 +12,7 @@ use Rattle.abc_finishing.proofs.Finished.{ended_in}
 use Rattle.abc_finishing.proofs.Sounded.{frames_run}
 use Rattle.abc_finishing.specs.Running.{IsRunning}
 use Rattle.abc_finishing.proofs.Sounding.{step_is, turn_fair}
-use Rattle.abc_finishing.proofs.Turned.{living_is}
+use Rattle.abc_finishing.proofs.Turned.{entered_gives_none, living_is}
 use Rattle.abc_finishing.specs.Fairly.{IsFairTurn}
 use Rattle.abc_finishing.specs.Steps.{IsReached, StepsAs, StepsIn, left_here, stepped}
 use Rattle.abc_finishing.specs.declared.halting.Halt.{Halt}
@@ -20,12 +22,12 @@ use Rattle.abc_meaning.specs.Throwing.{Machine, Stepped}
 use Rattle.abc_plainsteps.specs.Spelled.{IsSpelled}
 use Rattle.abc_program.specs.Linked.{LinkedFile}
 use Rattle.abc_shapes.specs.Instructions.{opcode}
-use Rattle.abc_stacks.specs.Frame.{Frame, first_size, newest, newest_size, under}
-use Rattle.abc_states.specs.ActsAt.{Act}
+use Rattle.abc_stacks.specs.Frame.{Frame, Frames, first_size, newest, newest_size, room_for, under}
+use Rattle.abc_states.specs.ActsAt.{Above, Act, Goes, Returns, Stays}
 use Rattle.abc_states.specs.Outer.{Outer, setting, world}
 use Rattle.abc_states.specs.Standing.{IsSet}
 use Rattle.abc_states.specs.Stops.{IsOpen}
-use Rattle.abc_states.specs.Turns.{Leaves, Turned, answered, size_for}
+use Rattle.abc_states.specs.Turns.{Gives, Leaves, Turned, answered, bared, size_for, turned}
 use Rattle.abc_states.specs.World.{Errs, Faults, Fills, Outcome, Sticks, Stopped, Throws, Went, World}
 use Rattle.abc_states.specs.WorldSetting.{Setting, routine_of}
 use Rattle.abc_states.specs.declared.state.Left.{Left}
@@ -55,6 +57,14 @@ open_of (Stopped n (Errs c)) h = tt
 open_of (Stopped n (Faults fault)) h = tt
 open_of (Stopped n (Fills limit)) h = tt
 open_of (Stopped n Sticks) h = h n refl
+
+-- ---- an act that gives a value back returned it
+
+gives_returned : (p : Setting) (q : Frames) (o : Outcome Act) (n : World) (k : Frames) (v : Value) → turned p q o ≡ Gives n k v → value_returned o ≡ v
+gives_returned p q (Went w (Goes (Stays f))) n k v e = cc
+gives_returned p q (Went w (Goes (Above g f))) n k v e = absurd (entered_gives_none (room_for q (size_for p g)) (size_for p g) w g f q n k v e)
+gives_returned p q (Went w (Returns x)) n k v e = cc
+gives_returned p q (Stopped w why) n k v e = cc
 
 module _ (l : LinkedFile) (out : Outer) (s : State) (reached : IsReached l out s) (live : 0 < length s.frames.living) where
   abbrev p : Setting
@@ -118,6 +128,13 @@ module _ (l : LinkedFile) (out : Outer) (s : State) (reached : IsReached l out s
     steps_left r last before now =
         let same = step_is l out s reached live ∙ ap (λ (t : Turned). stepped p t) leaves in
         subst (λ (x : Stepped). StepsIn x out r last before now) (sym same)
+
+    -- what it left to be given back is what it returned
+    pub returned_left : (v : Value) → left ≡ Ok (lefts.Returns v) → returned p here s.frames.living ≡ v
+    returned_left v is =
+        let o = runs p top (routine_of p top.method) here in
+        let gives : turned p s.frames o ≡ Gives (world new out) (bared new.frames) v = leaves ∙ ap (λ (x : Result Left Stop). answered p x (world new out) new.frames) is in
+        ap (λ (fs : List Frame). returned p here fs) (living_is s.frames live) ∙ gives_returned p s.frames o (world new out) (bared new.frames) v gives
 
   -- where it left nothing, the step is done
   module _ (left : Result Left Stop) (new : State) (leaves : Leaves l out (runs p top (routine_of p top.method)) s left new) (goes : left ≡ Ok lefts.Goes) where

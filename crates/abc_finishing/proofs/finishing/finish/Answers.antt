@@ -1,16 +1,43 @@
-use Rattle.std.proofs.Common.{◌∙◌, refl, subst, sym}
-use Rattle.std.specs.Prelude.{Err}
+use Rattle.std.proofs.Common.{◌∙◌, refl, ap, subst, sym}
+use Rattle.std.specs.Prelude.{Ok, Err}
 use Rattle.std.specs.declared.result.Result.{Result}
+use Rattle.abc_cells.specs.declared.values.Value.{Value}
 use Rattle.abc_states.specs.Outer.{setting, world}
 use Rattle.abc_states.specs.Turns.{answered}
 use Rattle.abc_states.specs.declared.state.Left.{Left}
+use Rattle.abc_states.specs.declared.state.Left.TheVariants as lefts
 use Rattle.abc_states.specs.declared.state.Stop.{Stop}
 use Rattle.abc_finishing.specs.Fairly.{IsFairTurn}
 use Rattle.abc_finishing.specs.Steps.{StepsIn, left_here}
 use Rattle.abc_finishing.specs.declared.halting.Halt.{Halt}
-use Rattle.abc_finishing.proofs.Finished.{ended_in}
+use Rattle.abc_finishing.proofs.Finished.{ended_in, no_return}
 use Rattle.abc_finishing.proofs.Stepped.{can_stop}
 use Rattle.abc_finishing.proofs.finishing.finish.Goals as goal
+
+pub returns-in-Ok-Returns-clause-step : goal.returns-in-Ok-Returns-clause-step
+returns-in-Ok-Returns-clause-step g c =
+    let l = c.args.linked.now in
+    let s = c.args.s.now in
+    let sink = g.K.Sink.written c.args.sink.now in
+    let is = c.in-Ok-Returns.is ∙ ap (λ (x : Left). Ok x) (rw c.in-Ok-Returns.is at c.in-Ok-Returns.field-0-is) in
+    subst (λ (x : Result Left Stop). StepsIn (left_here l g.out s x) g.out c.give_back.result c.give_back.new.s sink sink) (sym is) (c.give_back.ensures.step sink)
+
+pub returns-in-Ok-Returns-clause-value : goal.returns-in-Ok-Returns-clause-value
+returns-in-Ok-Returns-clause-value g c = λ x e.
+    let is = c.in-Ok-Returns.is ∙ ap (λ (k : Left). Ok k) (rw c.in-Ok-Returns.is at c.in-Ok-Returns.field-0-is) in
+    is ∙ ap (λ (v : Value). Ok (lefts.Returns v)) (sym (c.give_back.ensures.value x e))
+
+pub returns-in-Ok-Returns-clause-cause : goal.returns-in-Ok-Returns-clause-cause
+returns-in-Ok-Returns-clause-cause g c = λ e. absurd (c.give_back.ensures.ends e)
+
+pub returns-in-Ok-Traces-clause-value : goal.returns-in-Ok-Traces-clause-value
+returns-in-Ok-Traces-clause-value g c = λ x e. absurd (c.write.ensures.none x e)
+
+pub returns-in-Ok-Asks-clause-value : goal.returns-in-Ok-Asks-clause-value
+returns-in-Ok-Asks-clause-value g c = λ x e. absurd (no_return c.consult.result x (sym c.halted.ensures ∙ e))
+
+pub returns-in-Err-clause-value : goal.returns-in-Err-clause-value
+returns-in-Err-clause-value g c = λ x e. absurd (no_return c.stopped.result x (sym c.halted-in-Err.ensures ∙ e))
 
 pub returns-in-Err-clause-step : goal.returns-in-Err-clause-step
 returns-in-Err-clause-step g c =

@@ -1,7 +1,6 @@
 use Rattle.std.proofs.Common.{◌∙◌, ap, subst, sym}
 use Rattle.std.specs.Prelude.{Err}
 use Rattle.std.specs.declared.result.Result.{Result}
-use Rattle.abc_ends.specs.Ending.{IsSized}
 use Rattle.abc_outward.specs.Outward.{TracesAs}
 use Rattle.abc_outward.specs.declared.halting.Unwritten.{Unwritten}
 use Rattle.abc_states.specs.Outer.{setting, world}
@@ -9,7 +8,7 @@ use Rattle.abc_states.specs.Turns.{Turned, traced}
 use Rattle.abc_finishing.specs.Fairly.{IsFairTurn}
 use Rattle.abc_finishing.specs.Steps.{StepsIn, stepped}
 use Rattle.abc_finishing.specs.declared.halting.Halt.{Halt}
-use Rattle.abc_finishing.proofs.Finished.{ended_in, failed_in, if_ok, wrote_in}
+use Rattle.abc_finishing.proofs.Finished.{ended_in, failed_in, no_return, wrote_in}
 use Rattle.abc_finishing.proofs.Stepped.{can_stop}
 use Rattle.abc_finishing.proofs.finishing.write.Goals as goal
 
@@ -19,7 +18,7 @@ returns-in-Ok-clause-step g c = wrote_in c.args.linked.now g.out c.args.count c.
 pub returns-in-Ok-clause-sized : goal.returns-in-Ok-clause-sized
 returns-in-Ok-clause-sized g c =
     let p = setting c.args.linked.now g.out in
-    (subst (λ (t : Turned). IsFairTurn p t) c.in-Ok.ensures.traces.goes c.requires.1.1.1).held.sized
+    λ h. (subst (λ (t : Turned). IsFairTurn p t) c.in-Ok.ensures.traces.goes c.requires.1.1.1).held.sized
 
 pub stopped-requires : goal.stopped-requires
 stopped-requires g c =
@@ -46,7 +45,10 @@ returns-in-Err-Stops-clause-step g c =
     (ended_in left g.out c.stopped.result new before now (ap (stepped p) told.0 ∙ can.is ∙ c.stopped.ensures.step) told.1)
 
 pub returns-in-Err-Stops-clause-sized : goal.returns-in-Err-Stops-clause-sized
-returns-in-Err-Stops-clause-sized g c = if_ok c.halted.result (IsSized (setting c.args.linked.now g.out) c.stopped.new.s.arena.limits c.stopped.new.s.frames) c.stopped.ensures.sized
+returns-in-Err-Stops-clause-sized g c = λ h. c.stopped.ensures.sized
+
+pub returns-in-Err-Stops-clause-none : goal.returns-in-Err-Stops-clause-none
+returns-in-Err-Stops-clause-none g c = λ v e. no_return c.stopped.result v (sym c.halted.ensures ∙ e)
 
 pub returns-in-Err-Fails-clause-step : goal.returns-in-Err-Fails-clause-step
 returns-in-Err-Fails-clause-step g c =

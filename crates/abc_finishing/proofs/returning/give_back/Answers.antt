@@ -1,8 +1,12 @@
-use Rattle.std.proofs.Common.{◌≡◌, ◌<◌, ◌∙◌, [], length, sym, ap, subst, arith}
+use Rattle.std.proofs.Common.{◌≡◌, ◌<◌, ◌∙◌, [], length, refl, sym, ap, subst, arith}
+use Rattle.std.specs.declared.result.Result.{Result}
 use Rattle.abc_ends.specs.Ending.{IsFree}
 use Rattle.abc_meaning.specs.Step.{gives_back}
 use Rattle.abc_stacks.specs.Frame.{Frames, under}
 use Rattle.abc_states.specs.Outer.{setting, world}
+use Rattle.abc_finishing.specs.Steps.{StepsIn}
+use Rattle.abc_finishing.specs.declared.halting.Halt.{Halt}
+use Rattle.abc_finishing.proofs.Finished.{ended_in, no_failure, no_return}
 use Rattle.abc_finishing.proofs.Returned.{first_takes, left_held, none_by}
 use Rattle.abc_finishing.proofs.Turned.{live_by}
 use Rattle.abc_finishing.proofs.returning.give_back.Goals as goal
@@ -15,7 +19,7 @@ returns-then-depth-eq0-clause-step g c =
     let p = setting c.args.linked.now g.out in
     let s = c.args.s.now in
     let none : under s.frames.living ≡ [] = sym (ap (λ (k : Frames). k.living) c.leave.ensures) ∙ none_by c.leave.new.self.living (sym c.depth.ensures ∙ c.if-depth-eq0.true) in
-    ap (gives_back p (world s g.out) c.args.v) none
+    λ before. record { ends = ap (gives_back p (world s g.out) c.args.v) none; sink = refl }
 
 pub returns-then-depth-eq0-clause-sized : goal.returns-then-depth-eq0-clause-sized
 returns-then-depth-eq0-clause-sized g c =
@@ -38,4 +42,13 @@ pub returns-clause-step : goal.returns-clause-step
 returns-clause-step g c =
     let p = setting c.args.linked.now g.out in
     let s = c.args.s.now in
-    ap (λ (k : Frames). gives_back p (world s g.out) c.args.v k.living) (sym c.leave.ensures) ∙ c.resume.ensures.step
+    let w = world s g.out in
+    let gives = gives_back p w c.args.v (under s.frames.living) in
+    λ before. subst (λ (r : Result Unit Halt). StepsIn gives g.out r c.resume.new.s before before) (sym c.halted.ensures)
+    (ended_in gives g.out c.resume.result c.resume.new.s before before (ap (λ (k : Frames). gives_back p w c.args.v k.living) (sym c.leave.ensures) ∙ c.resume.ensures.step) refl)
+
+pub returns-clause-ends : goal.returns-clause-ends
+returns-clause-ends g c = λ e. no_failure c.resume.result (sym c.halted.ensures ∙ e)
+
+pub returns-clause-value : goal.returns-clause-value
+returns-clause-value g c = λ x e. absurd (no_return c.resume.result x (sym c.halted.ensures ∙ e))

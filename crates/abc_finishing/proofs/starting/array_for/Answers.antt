@@ -1,8 +1,11 @@
-use Rattle.std.proofs.Common.{◌∙◌, sym}
+use Rattle.std.proofs.Common.{◌≡◌, ◌∙◌, List, length, drop, ap, sym}
+use Rattle.abc_cells.specs.declared.values.Value.{Value}
 use Rattle.abc_states.specs.Outer.{setting, world}
 use Rattle.abc_finishing.proofs.Started.{array_rest}
 use Rattle.abc_finishing.proofs.starting.array_for.Goals as goal
 
 pub returns-then-has_flag-clause-part : goal.returns-then-has_flag-clause-part
 returns-then-has_flag-clause-part c = λ out.
-    array_rest (setting c.args.linked.now out) c.args.method.now (world c.args.s.now out) (sym c.has_flag.ensures ∙ c.if-has_flag.true) ∙ c.no_arguments.ensures.part out
+    let given = c.args.args.now in
+    array_rest (setting c.args.linked.now out) c.args.method.now given c.behind.result.now (world c.args.s.now out) (sym c.has_flag.ensures ∙ c.if-has_flag.true) (c.behind.ensures ∙ ap (λ n. drop n given) c.len.ensures)
+    ∙ c.array_with.ensures.part out

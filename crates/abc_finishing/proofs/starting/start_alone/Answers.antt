@@ -1,4 +1,4 @@
-use Rattle.std.proofs.Common.{◌<◌, ◌≤◌, ◌∙◌, List, length, drop, get_or, ap, subst, sym, arith}
+use Rattle.std.proofs.Common.{◌<◌, ◌≤◌, ◌∙◌, List, [], length, drop, get_or, ap, subst, sym, arith}
 use Rattle.std.specs.Prelude.{None}
 use Rattle.std.proofs.lemmas.Result.{err_from_is_err_and}
 use Rattle.abc_cells.specs.declared.values.Value.{Value}
@@ -58,7 +58,7 @@ put_alone-requires g c =
     let given : 0 < length mid.given.items = omega (arith, many) in
     let init = init_is l.file c.args.script c.get.result.now c.requires.1.1.1.0 (ap (λ (v : Abc). get_or v.scripts c.args.script c.get.result.now) (sym c.abc.ensures) ∙ c.get.ensures) in
     let is = start_is p c.args.script w c.set.new.self c.global_of-this.result c.get.result.now.init c.set.ensures (c.global_of-this.ensures.is g.out) init mid.given.items (world mid g.out) first c.in_ok-prepare.ensures.part in
-    (makes.over, (ap (λ (k : Frames). k.living) makes.frames ∙ c.requires.1.0, (given, (c.in_ok-prepare.ensures.given.1, subst (λ (o : Outcome Frame). IsOpen o) is c.requires.1.1.1.1.1))))
+    (makes.over, (λ k v at. absurd cc, (ap (λ (k : Frames). k.living) makes.frames ∙ c.requires.1.0, (given, (c.in_ok-prepare.ensures.given.1, subst (λ (o : Outcome Frame). IsOpen o) is c.requires.1.1.1.1.1)))))
 
 pub returns-clause-begins : goal.returns-clause-begins
 returns-clause-begins g c =
@@ -71,5 +71,5 @@ returns-clause-begins g c =
     let first = c.in_ok-prepare.ensures.given.0 in
     let init = init_is l.file c.args.script c.get.result.now c.requires.1.1.1.0 (ap (λ (v : Abc). get_or v.scripts c.args.script c.get.result.now) (sym c.abc.ensures) ∙ c.get.ensures) in
     let is = start_is p c.args.script w c.set.new.self c.global_of-this.result c.get.result.now.init c.set.ensures (c.global_of-this.ensures.is g.out) init items (world mid g.out) first c.in_ok-prepare.ensures.part in
-    let o : Outcome Frame = frames_alone p c.get.result.now.init (place c.args.script None) (receiver items) (drop 1 items) (world mid g.out) in
+    let o : Outcome Frame = frames_alone p c.get.result.now.init (place c.args.script None) (receiver items) (drop 1 items) [] (world mid g.out) in
     ap (begins p s.frames) is ∙ ap (λ (k : Frames). begins p k o) (sym c.in_ok-prepare.ensures.makes.frames) ∙ c.put_alone.ensures.begins

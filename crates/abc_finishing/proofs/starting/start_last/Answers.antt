@@ -1,6 +1,6 @@
 use Rattle.std.proofs.Common.{◌∙◌, refl, subst, sym}
 use Rattle.std.specs.declared.result.Result.{Result}
-use Rattle.abc_finishing.proofs.Finished.{ended_in, no_failure}
+use Rattle.abc_finishing.proofs.Finished.{ended_in, no_failure, no_return}
 use Rattle.abc_finishing.specs.Steps.{StepsAs, step_here}
 use Rattle.abc_finishing.specs.declared.halting.Halt.{Halt}
 use Rattle.abc_finishing.proofs.starting.start_last.Goals as goal
@@ -12,3 +12,6 @@ returns-clause-step g c = λ before.
 
 pub returns-clause-ends : goal.returns-clause-ends
 returns-clause-ends g c = λ e. no_failure c.start_or_end.result (sym c.halted.ensures ∙ e)
+
+pub returns-clause-none : goal.returns-clause-none
+returns-clause-none g c = λ v e. no_return c.start_or_end.result v (sym c.halted.ensures ∙ e)

@@ -4,7 +4,7 @@ use Rattle.abc_entering.specs.Arguments.{IsKnown}
 use Rattle.abc_finishing.proofs.Sounding.{can_start, scripts_there}
 use Rattle.abc_stacks.specs.Frame.{Frame}
 use Rattle.abc_states.specs.declared.state.Left.{Left}
-use Rattle.abc_stepping.proofs.Reached.{can_step, equipped, fair_left, goes_sized, goes_step, steps_left}
+use Rattle.abc_stepping.proofs.Reached.{can_step, equipped, fair_left, goes_sized, goes_step, returned_left, steps_left}
 use Rattle.abc_stepping.proofs.stepping.step.Goals as goal
 
 none_left : (fs : List Frame) (n : ℕ) → n ≡ length fs → n ≡ 0 → fs ≡ []
@@ -37,6 +37,15 @@ returns-clause-step g c =
     let live = some_left s.frames.living c.depth.result c.depth.ensures c.if-depth-eq0.false in
     steps_left c.args.linked.now g.out s c.requires.1.1.0 live c.run_newest-left.result c.run_newest-left.new.s c.run_newest-left.ensures.leaves c.finish.result c.finish.new.s (g.K.Sink.written c.args.sink.now) (g.K.Sink.written c.finish.new.sink) c.finish.ensures.step
 
+pub returns-clause-value : goal.returns-clause-value
+returns-clause-value g c = λ v e.
+    let s = c.args.s.now in
+    let live = some_left s.frames.living c.depth.result c.depth.ensures c.if-depth-eq0.false in
+    returned_left c.args.linked.now g.out s c.requires.1.1.0 live c.run_newest-left.result c.run_newest-left.new.s c.run_newest-left.ensures.leaves v (c.finish.ensures.value v e)
+
+pub returns-then-depth-eq0-clause-value : goal.returns-then-depth-eq0-clause-value
+returns-then-depth-eq0-clause-value g c = λ v e. absurd (c.start_last.ensures.none v e)
+
 -- where most instructions leave nothing
 pub returns-in-Ok-Goes-clause-step : goal.returns-in-Ok-Goes-clause-step
 returns-in-Ok-Goes-clause-step g c =
@@ -48,4 +57,4 @@ pub returns-in-Ok-Goes-clause-sized : goal.returns-in-Ok-Goes-clause-sized
 returns-in-Ok-Goes-clause-sized g c =
     let s = c.args.s.now in
     let live = some_left s.frames.living c.depth.result c.depth.ensures c.if-depth-eq0.false in
-    goes_sized c.args.linked.now g.out s c.requires.1.1.0 live c.run_newest-left.result c.run_newest-left.new.s c.run_newest-left.ensures.leaves (c.in-Ok-Goes.is ∙ ap (λ (x : Left). Ok x) (rw c.in-Ok-Goes.is at c.in-Ok-Goes.field-0-is))
+    λ h. goes_sized c.args.linked.now g.out s c.requires.1.1.0 live c.run_newest-left.result c.run_newest-left.new.s c.run_newest-left.ensures.leaves (c.in-Ok-Goes.is ∙ ap (λ (x : Left). Ok x) (rw c.in-Ok-Goes.is at c.in-Ok-Goes.field-0-is))
