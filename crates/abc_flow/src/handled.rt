@@ -29,7 +29,7 @@ fn leads_inside(handler: &Catch, end: usize) -> bool
 }
 
 /// Whether handlers lead to places before the code's end.
-#[tactic(auto, using(crate::proofs::Handled::inside_next, crate::proofs::Handled::inside_stops))]
+#[tactic(auto, using(crate::proofs::Inside::inside_next, crate::proofs::Inside::inside_stops))]
 fn lead_inside(handlers: &[Catch], end: usize) -> bool
     ensures { result ≡ all_below (map handler_target handlers.now) end }
 {
