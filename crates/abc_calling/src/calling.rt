@@ -1,4 +1,4 @@
-ghost use Rattle.std.specs.Prelude.{◌≡◌, ◌<◌, ◌^◌, [], ◌∷◌, List, length, map, OnOk};
+ghost use Rattle.std.specs.Prelude.{◌≡◌, ◌<◌, ◌^◌, [], ◌∷◌, length, take, OnOk};
 ghost use Rattle.abc_base.specs.Hosts.{arguments};
 ghost use Rattle.abc_calling.specs.Calling.{CanCall, enters_last};
 ghost use Rattle.abc_callmeaning.specs.Calls.{begins_call, numbers, stops_call};
@@ -64,6 +64,13 @@ fn four_values(args: &Plain) -> [Value; 4]
     ]
 }
 
+/// The values of a call: the first so many of the four.
+fn first_values<'a>(values: &'a [Value; 4], args: &Plain) -> &'a [Value]
+    ensures { result.now ≡ take args.now.count values.now }
+{
+    &values[..args.count as usize]
+}
+
 /// Where a call goes no further: no frame catches an error, and a fault is at the method's first instruction.
 fn call_stopped(linked: &Linked, s: &mut State, method: u32, stop: Stop) -> Result<(), Ended>
     ghost out: { Outer }
@@ -100,7 +107,8 @@ pub fn begin_call(linked: &Linked, s: &mut State, method: u32, args: &Plain) -> 
     ensures limit { s.new.given.limit ≡ s.old.given.limit }
 {
     let values = four_values(args);
-    match enter_alone(linked, s, method, &values[..args.count as usize]) {
+    let given = first_values(&values, args);
+    match enter_alone(linked, s, method, given) {
         Ok(()) => Ok(()),
         Err(stop) => call_stopped(linked, s, method, stop),
     }
