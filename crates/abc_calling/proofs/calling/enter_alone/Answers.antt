@@ -16,8 +16,8 @@ use Rattle.abc_calling.proofs.Begun.{last_alone, last_open, last_stops, place_op
 use Rattle.abc_calling.specs.Calling.{enters_last}
 use Rattle.abc_calling.proofs.calling.enter_alone.Goals as goal
 
-pub place_of_owner-requires : goal.place_of_owner-requires
-place_of_owner-requires g c =
+pub place_of_owner-at-requires : goal.place_of_owner-at-requires
+place_of_owner-at-requires g c =
     let p = setting c.args.linked.now g.out in
     let w = world c.args.s.now g.out in
     (c.requires.0, subst (λ (o : Owner). IsOpen (place_of_owner o w)) (sym c.owner.ensures) (place_open p c.args.method c.args.args.now w c.requires.1.1.1.1.1.1))
