@@ -1,0 +1,140 @@
+ghost use Rattle.std.specs.Prelude.{◌≡◌, ◌+◌, ◌<◌, ◌≤◌, ◌∷◌, true, length, drop, IfOk, OnOk};
+ghost use Rattle.abc_entering.specs.Arguments.{HasOptions, IsKnown, Makes, coerces_first, first_of, makes_arguments, receiver, with_values};
+ghost use Rattle.abc_heap.specs.Heap.{Heap};
+ghost use Rattle.abc_makers.specs.Entering.{coerced};
+ghost use Rattle.abc_makers.specs.Outer.{Outer, setting, world};
+ghost use Rattle.abc_makers.specs.Setting.{may_take as may_take_so, options_of};
+ghost use Rattle.abc_makers.specs.Standing.{Stays};
+ghost use Rattle.abc_makers.specs.Stops.{IsOpen, answer};
+ghost use Rattle.abc_makers.specs.World.{World};
+ghost use Rattle.abc_objects.specs.Stands.{Each, StandsOver};
+ghost use Rattle.abc_objects.specs.Values.{Exists};
+ghost use Rattle.abc_typing.specs.Routines.{takes_array as takes_array_so};
+
+use crate::options::option_given;
+use abc_base::HostClass;
+use abc_cells::Value;
+use abc_finishing::method_at;
+use abc_link::Linked;
+use abc_makers::{State, Stop, coerce};
+use abc_tables::{Method, has_flag};
+
+/// The flag of a method that takes an array of all arguments.
+const ARGUMENTS: u8 = 0x01;
+
+/// The flag of a method that takes an array of the arguments behind its parameters.
+const REST: u8 = 0x04;
+
+/// Whether a method takes an array.
+fn takes_array(flags: u8) -> bool
+    ensures { result ≡ takes_array_so flags }
+{
+    has_flag(flags, ARGUMENTS) || has_flag(flags, REST)
+}
+
+/// Whether a method takes so many arguments: those that are missing have options, and there are too many only where an array
+/// takes them.
+fn may_take(method: &Method, count: usize) -> bool
+    ensures { result ≡ may_take_so method.now count }
+{
+    let params = method.params.len();
+    let least = params.saturating_sub(method.options.len());
+    least <= count && (count <= params || takes_array(method.flags))
+}
+
+/// The k-th argument; past them the value of the parameter's option.
+fn argument(linked: &Linked, method: &Method, args: &[Value], k: usize) -> Result<Value, Stop>
+    requires takes { may_take_so method.now (length args.now) ≡ true }
+    requires parameter { k < length method.now.params }
+    requires options { HasOptions linked.now method.now }
+    ensures part { (out : Outer) (w : World) → first_of (setting linked.now out) (drop k (options_of method.now)) (drop k args.now) w ≡ answer result w }
+    ensures there { (h : Heap) → StandsOver linked.now h → Each (Exists linked.now h) args.now → IfOk result (Exists linked.now h) }
+{
+    if k < args.len() {
+        return Ok(args[k]);
+    }
+    let first = method.params.len().saturating_sub(method.options.len());
+    match method.options.fetch(k - first) {
+        Some(option) => option_given(linked, option),
+        None => unreachable!(),
+    }
+}
+
+/// The k-th argument, coerced to a type.
+fn coerce_argument(
+    linked: &Linked,
+    s: &mut State,
+    method: &Method,
+    args: &[Value],
+    k: usize,
+    ty: u32,
+) -> Result<Value, Stop>
+    ghost out: { Outer }
+    requires over { StandsOver linked.now s.old.arena }
+    requires there { Each (Exists linked.now s.old.arena) args.now }
+    requires takes { may_take_so method.now (length args.now) ≡ true }
+    requires parameter { k < length method.now.params }
+    requires options { HasOptions linked.now method.now }
+    requires free { IsOpen (coerces_first (setting linked.now out) ty (drop k (options_of method.now)) (drop k args.now) (world s.old out)) }
+    ensures part { coerces_first (setting linked.now out) ty (drop k (options_of method.now)) (drop k args.now) (world s.old out) ≡ answer result (world s.new out) }
+    ensures stays { Stays linked.now s.old s.new }
+{
+    let v = argument(linked, method, args, k)?;
+    match linked.type_of(ty) {
+        Some(found) => coerce(linked, s, found, v),
+        None => unreachable!(),
+    }
+}
+
+/// The arguments are coerced to the types of the parameters, in order, behind the receiver, which is given alone before.
+fn coerce_arguments(
+    linked: &Linked,
+    s: &mut State,
+    method: &Method,
+    args: &[Value],
+) -> Result<(), Stop>
+    ghost out: { Outer }
+    requires over { StandsOver linked.now s.old.arena }
+    requires there { Each (Exists linked.now s.old.arena) args.now }
+    requires takes { may_take_so method.now (length args.now) ≡ true }
+    requires options { HasOptions linked.now method.now }
+    requires room { length method.now.params + 2 ≤ s.old.given.limit }
+    requires alone { length s.old.given.items ≡ 1 }
+    requires free { IsOpen (coerced (setting linked.now out) method.now.params (options_of method.now) args.now (world s.old out)) }
+    ensures part { coerced (setting linked.now out) method.now.params (options_of method.now) args.now (world s.old out) ≡ answer (with_values result (drop 1 s.new.given.items)) (world s.new out) }
+    ensures makes { Makes linked.now s.old s.new }
+    ensures given { OnOk result ((receiver s.new.given.items ≡ receiver s.old.given.items) × (length s.new.given.items ≡ length method.now.params + 1)) }
+{
+    let types = method.params.as_slice();
+    for (k, ty) in types.iter().enumerate() {
+        let v = coerce_argument(linked, s, method, args, k, *ty)?;
+        s.given.push(v);
+    }
+    Ok(())
+}
+
+/// Makes the first locals of a method: its receiver, and its arguments.
+pub(crate) fn prepare(
+    linked: &Linked,
+    s: &mut State,
+    method: u32,
+    this: Value,
+    args: &[Value],
+) -> Result<(), Stop>
+    ghost out: { Outer }
+    requires over { StandsOver linked.now s.old.arena }
+    requires there { Each (Exists linked.now s.old.arena) args.now }
+    requires known { IsKnown linked.now s.old.given.limit }
+    requires free { IsOpen (makes_arguments (setting linked.now out) method args.now (world s.old out)) }
+    ensures part { makes_arguments (setting linked.now out) method args.now (world s.old out) ≡ answer (with_values result (drop 1 s.new.given.items)) (world s.new out) }
+    ensures makes { Makes linked.now s.old s.new }
+    ensures given { OnOk result ((s.new.given.items ≡ this ∷ drop 1 s.new.given.items) × (length s.new.given.items < s.new.given.limit)) }
+{
+    let signature = method_at(linked, method);
+    if !may_take(signature, args.len()) {
+        return Err(Stop::Errs(HostClass::ArgumentError));
+    }
+    s.given.cut(0);
+    s.given.push(this);
+    coerce_arguments(linked, s, signature, args)
+}
