@@ -1,0 +1,4 @@
+pub mod Begun
+pub mod Coercing
+pub mod Dropped
+pub mod Listed

@@ -1,8 +1,8 @@
-ghost use Rattle.std.specs.Prelude.{◌≡◌, ◌<◌, ◌^◌, [], ◌∷◌, List, length, map, OnOk};
+ghost use Rattle.std.specs.Prelude.{◌≡◌, ◌<◌, ◌^◌, [], ◌∷◌, length, take, OnOk};
 ghost use Rattle.abc_base.specs.Hosts.{arguments};
 ghost use Rattle.abc_calling.specs.Calling.{CanCall, enters_last};
-ghost use Rattle.abc_callmeaning.specs.Calls.{begins_call, numbers};
-ghost use Rattle.abc_ends.specs.Ending.{IsSized, stepped_by};
+ghost use Rattle.abc_callmeaning.specs.Calls.{begins_call, numbers, stops_call};
+ghost use Rattle.abc_ends.specs.Ending.{IsFree, IsSized, IsThrowable, stepped_by};
 ghost use Rattle.abc_entering.specs.Arguments.{IsKnown};
 ghost use Rattle.abc_finishing.specs.Starting.{begins, went_alone};
 ghost use Rattle.abc_finishing.specs.Steps.{IsReached};
@@ -10,7 +10,7 @@ ghost use Rattle.abc_meaning.specs.Throwing.{last_script};
 ghost use Rattle.abc_objects.specs.Stands.{Each, StandsOver};
 ghost use Rattle.abc_objects.specs.Values.{Exists};
 ghost use Rattle.abc_states.specs.Outer.{Outer, setting, world};
-ghost use Rattle.abc_states.specs.Stops.{IsOpen};
+ghost use Rattle.abc_states.specs.Stops.{IsOpen, why};
 ghost use Rattle.abc_states.specs.WorldEntering.{global};
 
 use crate::arguments::prepare;
@@ -64,15 +64,35 @@ fn four_values(args: &Plain) -> [Value; 4]
     ]
 }
 
-/// Where a call goes no further, no frame catches an error, and a fault is at the method's first instruction.
-fn call_stopped(linked: &Linked, s: &mut State, method: u32, stop: Stop) -> Result<(), Ended> {
+/// The values of a call: the first so many of the four.
+fn first_values<'a>(values: &'a [Value; 4], args: &Plain) -> &'a [Value]
+    ensures { result.now ≡ take args.now.count values.now }
+{
+    &values[..args.count as usize]
+}
+
+/// Where a call goes no further: no frame catches an error, and a fault is at the method's first instruction.
+fn call_stopped(linked: &Linked, s: &mut State, method: u32, stop: Stop) -> Result<(), Ended>
+    ghost out: { Outer }
+    requires over { StandsOver linked.now s.old.arena }
+    requires scripts { 0 < length linked.now.file.scripts }
+    requires none { s.old.frames.living ≡ [] }
+    requires value { IsThrowable linked.now s.old.arena stop }
+    requires sized { IsSized (setting linked.now out) s.old.arena.limits s.old.frames }
+    requires free { IsFree (stops_call (setting linked.now out) method (world s.old out) (why stop)) }
+    ensures step { stops_call (setting linked.now out) method (world s.old out) (why stop) ≡ stepped_by result (world s.new out) s.new.frames }
+    ensures sized { IsSized (setting linked.now out) s.new.arena.limits s.new.frames }
+    ensures limit { s.new.given.limit ≡ s.old.given.limit }
+{
     match stop {
+        Stop::Throws(v) => stopped(linked, s, Stop::Throws(v)),
+        Stop::Errs(class) => stopped(linked, s, Stop::Errs(class)),
         Stop::Faults(fault) => Err(Ended::Profile {
             method,
             index: 0,
             fault,
         }),
-        other => stopped(linked, s, other),
+        Stop::Fills(limit) => Err(Ended::Full(limit)),
     }
 }
 
@@ -87,7 +107,8 @@ pub fn begin_call(linked: &Linked, s: &mut State, method: u32, args: &Plain) -> 
     ensures limit { s.new.given.limit ≡ s.old.given.limit }
 {
     let values = four_values(args);
-    match enter_alone(linked, s, method, &values[..args.count as usize]) {
+    let given = first_values(&values, args);
+    match enter_alone(linked, s, method, given) {
         Ok(()) => Ok(()),
         Err(stop) => call_stopped(linked, s, method, stop),
     }

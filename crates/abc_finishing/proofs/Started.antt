@@ -1,5 +1,5 @@
 -- A method that is put over no frame, and the start of a script over none.
-use Rattle.std.proofs.Common.{◌≡◌, ℕ, ◌+◌, ◌<◌, ◌≤◌, List, [], ◌∷◌, ◌++◌, Bool, true, false, nat_le, if◌then◌else◌, length, map, drop, set, refl, sym, ap, ◌∙◌, subst, arith}
+use Rattle.std.proofs.Common.{◌≡◌, ℕ, zero, suc, ◌+◌, ◌<◌, ◌≤◌, List, [], ◌∷◌, ◌++◌, Bool, true, false, nat_le, if◌then◌else◌, length, map, drop, set, refl, sym, ap, ◌∙◌, subst, arith}
 use Rattle.std.specs.Prelude.{None, Some, Ok, Err}
 use Rattle.std.specs.declared.option.Option.{Option}
 use Rattle.std.specs.declared.result.Result.{Result}
@@ -15,7 +15,7 @@ use Rattle.abc_heap.specs.declared.records.Limits.{Limits}
 use Rattle.abc_items.specs.Parts.{script_at}
 use Rattle.abc_meaning.specs.Step.{put_on, puts, size_of_frame, started as begun_by, step_of}
 use Rattle.abc_meaning.specs.Throwing.{last_script, stops}
-use Rattle.abc_objects.specs.Stands.{StandsOver}
+use Rattle.abc_objects.specs.Stands.{Each, StandsOver}
 use Rattle.abc_program.specs.Linked.{LinkedFile}
 use Rattle.abc_stacks.specs.Frame.{Frame, Frames, begun, newest, newest_of, room_for, started, total, total_of_all}
 use Rattle.abc_stacks.specs.declared.records.Entry.{Entry}
@@ -45,6 +45,12 @@ pub array_rest : (p : Setting) (m : Method) (given rest : List Value) (w : World
 array_rest p m given rest w e is =
     ap (λ (b : Bool). (if b then array_of p (drop (length m.params) given) else (if has_flag m.flags 0x01 then array_of p given else done [])) w) e
     ∙ ap (λ (vs : List Value). array_of p vs w) (sym is)
+
+-- what is so of each is so of those behind some
+pub each_behind : {X : Type 0} (P : X → Type 0) (n : ℕ) (xs : List X) → Each P xs → Each P (drop n xs)
+each_behind P zero xs h = h
+each_behind P (suc n) [] h = λ k x e. absurd cc
+each_behind P (suc n) (x ∷ xs) h = each_behind P n xs (λ k y e. h (suc k) y e)
 
 -- ---- tests
 
