@@ -6,8 +6,7 @@ use abc_states::State;
 
 /// Leaves all frames.
 fn leave_all(frames: &mut Frames)
-    requires { length frames.old.sizes ≡ length frames.old.living }
-    ensures { frames.new ≡ no_frames frames.old.frame_limit frames.old.value_limit }
+    ensures { length frames.old.sizes ≡ length frames.old.living → frames.new ≡ no_frames frames.old.frame_limit frames.old.value_limit }
 {
     for k in 0..frames.depth() {
         let _ = k;
@@ -17,8 +16,7 @@ fn leave_all(frames: &mut Frames)
 
 /// Drops all frames, and gives back their room. Nothing else changes.
 pub fn drop_frames(s: &mut State)
-    requires { length s.old.frames.sizes ≡ length s.old.frames.living }
-    ensures { s.new ≡ record s.old { frames = no_frames s.old.frames.frame_limit s.old.frames.value_limit } }
+    ensures { length s.old.frames.sizes ≡ length s.old.frames.living → s.new ≡ record s.old { frames = no_frames s.old.frames.frame_limit s.old.frames.value_limit } }
 {
     leave_all(&mut s.frames);
 }

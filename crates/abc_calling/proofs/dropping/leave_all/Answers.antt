@@ -3,7 +3,7 @@ use Rattle.abc_calling.proofs.Dropped.{all_left, fewer, left_on}
 use Rattle.abc_calling.proofs.dropping.leave_all.Goals as goal
 
 pub loop-k-init : goal.loop-k-init
-loop-k-init c = record { left = record { many = c.requires; frames = refl; values = refl }; many = omega arith }
+loop-k-init c = record { left = record { many = λ so. so; frames = refl; values = refl }; many = omega arith }
 
 pub leave-requires : goal.leave-requires
 leave-requires c =
@@ -20,4 +20,4 @@ loop-k-preserved c =
 pub returns : goal.returns
 returns c =
     let many = c.loop-k.invariant.many in
-    all_left c.args.frames.now c.loop-k.frames (omega (arith, many, c.loop-k-test.false, c.depth.ensures)) c.loop-k.invariant.left
+    λ so. all_left c.args.frames.now c.loop-k.frames (omega (arith, many, c.loop-k-test.false, c.depth.ensures)) c.loop-k.invariant.left so
