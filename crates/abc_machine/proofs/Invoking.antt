@@ -65,8 +65,8 @@ told_text (values.Space n) s e = absurd cc
 told_text (values.Obj o) s e = absurd cc
 
 replied_so : (r : Replied) (x z : Option (List ℕ)) (reply : Reply) → RepliesAs r x z reply → reply ≢ replies.WriteFault → IsReplyOf r.reply reply
-replied_so r x z reply (replied r reply is got) f = is
-replied_so r x z replies.WriteFault (failed r front) f = absurd (f refl)
+replied_so r x z reply (replied q answer is got) f = is
+replied_so r x z reply (failed q front) f = absurd (f refl)
 
 -- the text that a call gives is there, in the heap that it leaves
 text_there : (p : LinkedFile) (r : Replied) (x z : Option (List ℕ)) (s : Span) → RepliesAs r x z (replies.Value (plains.Text s)) → ((v : Value) → r.reply ≡ Gives v → Exists p r.world.heap v) → IsText p.file.strings r.world.heap s

@@ -49,8 +49,8 @@ end_is r (replies.Full limit) is = ap end_of is
 end_is r replies.WriteFault is = absurd is
 
 ends_as : (r : Replied) (x z : Option (List ℕ)) (reply : Reply) → RepliesAs r x z reply → RunsAs (ran (ended_of r)) x z (end_for reply)
-ends_as r x z reply (replied r reply is got) = ended r.world.wrote (end_of r.reply) (end_for reply) (end_is r.reply reply is) got
-ends_as r x z replies.WriteFault (failed r front) = runs.failed r.world.wrote (end_of r.reply) front
+ends_as r x z reply (replied q answer is got) = ended q.world.wrote (end_of q.reply) (end_for answer) (end_is q.reply answer is) got
+ends_as r x z reply (failed q front) = runs.failed q.world.wrote (end_of q.reply) front
 
 pub run_replied : (p : Setting) (fuel : ℕ) (q : Machine) (x z : Option (List ℕ)) (reply : Reply) → RepliesAs (replies_for p fuel q) x z reply → RunsAs (ran (runs_for p fuel q)) x z (end_for reply)
 run_replied p fuel q x z reply r = subst (λ (e : Ended). RunsAs (ran e) x z (end_for reply)) (sym (runs_are p fuel q)) (ends_as (replies_for p fuel q) x z reply r)

@@ -39,7 +39,7 @@ closed_on old new c x z answers.Closed shut a = (refl, subst IsShut (sym a.rests
 
 stay_closed : (m : Opened) (ds : List Made) → IsShut m → AreMade m ds → All (λ d. d.reply ≡ answers.Closed) ds
 stay_closed m [] shut a = All-nil (λ (e : Made). e.reply ≡ answers.Closed)
-stay_closed m (d ∷ ds) shut (made.more old new d ds first rest) = (let x = closed_on m new d.call d.before d.now d.reply shut first in All-cons (λ (e : Made). e.reply ≡ answers.Closed) d ds x.0 (stay_closed new ds x.1 rest))
+stay_closed m (d ∷ ds) shut (made.more old new e es first rest) = (let x = closed_on old new e.call e.before e.now e.reply shut first in All-cons (λ (a : Made). a.reply ≡ answers.Closed) e es x.0 (stay_closed new es x.1 rest))
 
 -- ---- a session that is ready
 
@@ -81,4 +81,4 @@ follow_first old new d ds answers.Closed told ready a rest follows = absurd (let
 
 pub calls_follow : CallsFollow
 calls_follow m [] ready a = made.none
-calls_follow m (d ∷ ds) ready (made.more old new d ds first rest) = follow_first m new d ds d.reply refl ready first rest (λ next. calls_follow new ds next rest)
+calls_follow m (d ∷ ds) ready (made.more old new e es first rest) = follow_first old new e es e.reply refl ready first rest (λ next. calls_follow new es next rest)
