@@ -1,4 +1,4 @@
-ghost use Rattle.std.specs.Prelude.{◌≡◌, ◌≢◌, List};
+ghost use Rattle.std.specs.Prelude.{◌≡◌, ◌≢◌, List, []};
 ghost use Rattle.abc_base.specs.Hosts.{arguments};
 ghost use Rattle.abc_base.specs.declared.formula.Formula.{Formula};
 ghost use Rattle.abc_callmeaning.specs.Calls.{call_meaning};
@@ -43,7 +43,7 @@ pub(crate) fn call_for<K: Sink, H: Host>(
     host: &H,
 ) -> Reply
     ghost formulas: { List Formula }
-    requires can { CanCall linked.now (record { formulas = formulas; wrote = [] }) method (arguments args.now) s.old }
+    requires can { CanCall linked.now (record { formulas = formulas; wrote = [] }) method s.old }
     requires host { formulas ≡ H.formulas host.now }
     ensures replies { RepliesAs (call_meaning (setting linked.now formulas) fuel (kept_world s.old) method (arguments args.now)) (K.written sink.old) (K.written sink.new) result }
     ensures cause { HasReplied (K.faults sink.old) (K.faults sink.new) result }

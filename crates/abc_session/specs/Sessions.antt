@@ -53,7 +53,7 @@ pub record Made : Type 0 where
 
 -- a session was asked these, one after the other
 pub data AreMade : Opened → List Made → Type 0 where
-  none : (m : Opened) → AreMade m []
+  nothing : (m : Opened) → AreMade m []
   more : (old new : Opened) (d : Made) (ds : List Made) → AnswersIn old new d.call d.before d.now d.reply → AreMade new ds → AreMade old (d ∷ ds)
 
 -- each is answered by its meaning, until writing fails; after that the session is closed
