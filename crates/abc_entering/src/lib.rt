@@ -9,5 +9,6 @@ mod options;
 mod places;
 
 pub use entering::{enter, enter_owned, prepare, put_on, start_above};
-pub use methods::entry_of;
+pub use methods::{entry_of, may_take, method_at};
+pub use options::option_given;
 pub use places::{global_of, place_of_owner};

@@ -18,7 +18,7 @@ pub(crate) const ARGUMENTS: u8 = 0x01;
 pub(crate) const REST: u8 = 0x04;
 
 /// A method of the file.
-pub(crate) fn method_at(linked: &Linked, method: u32) -> &Method
+pub fn method_at(linked: &Linked, method: u32) -> &Method
     requires { IsSome (slice_get linked.now.file.methods method) }
     ensures { slice_get linked.now.file.methods method ≡ Some result.now }
 {
@@ -37,7 +37,7 @@ fn takes_array(flags: u8) -> bool
 
 /// Whether a method takes so many arguments: those that are missing have options, and there are too many only where an array
 /// takes them.
-pub(crate) fn may_take(method: &Method, count: u32) -> bool
+pub fn may_take(method: &Method, count: u32) -> bool
     ensures { result ≡ may_take_so method.now count }
 {
     let params = method.params.len();

@@ -48,7 +48,7 @@ fn value_of(linked: &Linked, option: OptionValue) -> Option<Value>
 }
 
 /// What an option gives; one that is a double is the fault.
-pub(crate) fn option_given(linked: &Linked, option: OptionValue) -> Result<Value, Stop>
+pub fn option_given(linked: &Linked, option: OptionValue) -> Result<Value, Stop>
     requires { option.value < 2 ^ 30 }
     ensures { (out : Outer) (w : World) → gives_option (setting linked.now out) (Some option) w ≡ answer result w }
 {

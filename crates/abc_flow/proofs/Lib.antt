@@ -4,3 +4,4 @@ pub mod Walks
 pub mod Covered
 pub mod Numbers
 pub mod Copied
+pub mod Inside

@@ -1,3 +1,4 @@
+use crate::handled::Cover;
 use crate::step::{Merged, Step};
 use abc_base::NoMemory;
 use abc_program::Kind;
@@ -10,10 +11,10 @@ pub trait Flow {
     ghost use Rattle.std.specs.Prelude.{◌≡◌, Bool, IfOk, List, MatchOption, None, Some, length, slice_get};
     ghost use Rattle.abc_program.specs.Kinds.{IsJoin};
     ghost use Rattle.abc_program.specs.Linked.{IsLinkedFile, LinkedFile};
-    ghost use Rattle.abc_typing.specs.Effects.{covering};
     ghost use Rattle.abc_typing.specs.Routines.{Routine};
     ghost use Rattle.abc_typing.specs.Rules.{broken, broken_early};
     ghost use Rattle.abc_typing.specs.Typing.{IsFine, entry};
+    ghost use Rattle.abc_flow.specs.Handled.{IsCoverAt};
     ghost use Rattle.abc_flow.specs.Walking.{MergesTo, Steps, is_head};
 
     ghost file: { Self → LinkedFile };
@@ -39,10 +40,10 @@ pub trait Flow {
     fn is_head(&self, place: u32) -> bool
         ensures { result ≡ is_head (heads self.now) place };
 
-    /// The first rule that a state breaks, where these handlers cover the place.
-    fn broken(&self, place: u32, state: &State, cover: &[Catch]) -> Option<VerifyRule>
+    /// The first rule that a state breaks; of the handlers that cover the place this is what the rules ask.
+    fn broken(&self, place: u32, state: &State, cover: Cover) -> Option<VerifyRule>
         requires linked { IsLinkedFile (file self.now) }
-        requires cover { cover.now ≡ covering (routine self.now) place }
+        requires cover { IsCoverAt (routine self.now) place cover }
         ensures { result ≡ broken (file self.now) (routine self.now) place state.now };
 
     /// The first rule before Merge that a state breaks.

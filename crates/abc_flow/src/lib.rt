@@ -5,6 +5,7 @@
 
 mod copies;
 mod flow;
+mod handled;
 mod merging;
 mod notes;
 mod spans;
@@ -13,5 +14,6 @@ mod step;
 mod walk;
 
 pub use flow::Flow;
+pub use handled::Cover;
 pub use step::{Merged, Onward, Refusal, Step, Written};
 pub use walk::{Memory, check_flow};

@@ -3,11 +3,13 @@ ghost use Rattle.abc_program.specs.Linked.{IsLinkedFile};
 ghost use Rattle.abc_typing.specs.Effects.{covering};
 ghost use Rattle.abc_typing.specs.Typing.{Derivable, HasTyping};
 ghost use Rattle.abc_worklist.specs.Work.{IsUnderWay};
+ghost use Rattle.abc_flow.specs.Handled.{IsCover};
 ghost use Rattle.abc_flow.specs.Ranges.{AreSpans};
 ghost use Rattle.abc_flow.specs.Walking.{AllReach, AreHeads, AreReady, ArrivesAt, HasPaced, HasTurned, HasWalked, IsOpen, IsPending, IsSeenFirst, MayGoOn, Passed, RefusedBy, is_head, landing, targets_at};
 
 use crate::copies::{copy_over, copy_state_over};
 use crate::flow::Flow;
+use crate::handled::{Handled, cover_of};
 use crate::merging::{catch_all, jump, merge_at, raise};
 use crate::notes::note;
 use crate::spans::{Span, covering_of, spans_of};
@@ -73,7 +75,7 @@ fn pass<F: Flow>(
     flow: &F,
     states: &mut States,
     work: &mut Stack<u32>,
-    cover: &[Catch],
+    cover: &Handled,
     seen: &mut Table<Kind>,
     written: Written,
     place: u32,
@@ -85,11 +87,12 @@ fn pass<F: Flow>(
     requires opened { IsOpen (F.file flow.now) (F.routine flow.now) states.old }
     requires place { place < length (F.routine flow.now).code }
     requires derived { Derivable (F.file flow.now) (F.routine flow.now) place now.old }
-    requires covers { cover.now ≡ covering (F.routine flow.now) place }
-    requires pending { IsPending (F.file flow.now) (F.routine flow.now) (F.heads flow.now) cover.now seen.old now.old.locals written }
-    ensures { MatchResult result (λ o. Passed (F.file flow.now) (F.routine flow.now) (F.heads flow.now) cover.now place now.old now.new seen.old seen.new states.old work.old states.new work.new o) (λ e. RefusedBy (F.file flow.now) (F.routine flow.now) e) }
+    requires cover { IsCover cover.now.handlers (length (F.routine flow.now).code) cover.now.cover }
+    requires covers { cover.now.handlers ≡ covering (F.routine flow.now) place }
+    requires pending { IsPending (F.file flow.now) (F.routine flow.now) (F.heads flow.now) cover.now.handlers seen.old now.old.locals written }
+    ensures { MatchResult result (λ o. Passed (F.file flow.now) (F.routine flow.now) (F.heads flow.now) cover.now.handlers place now.old now.new seen.old seen.new states.old work.old states.new work.new o) (λ e. RefusedBy (F.file flow.now) (F.routine flow.now) e) }
 {
-    if let Some(rule) = flow.broken(place, now, cover) {
+    if let Some(rule) = flow.broken(place, now, cover.cover) {
         return Err(Refusal::Refused(place, rule));
     }
     note(flow, seen, &now.locals, written);
@@ -105,7 +108,7 @@ fn pace<F: Flow>(
     flow: &F,
     states: &mut States,
     work: &mut Stack<u32>,
-    cover: &[Catch],
+    cover: &Handled,
     seen: &mut Table<Kind>,
     start: u32,
     now: &mut State,
@@ -116,9 +119,10 @@ fn pace<F: Flow>(
     requires opened { IsOpen (F.file flow.now) (F.routine flow.now) states.old }
     requires place { start < length (F.routine flow.now).code }
     requires derived { Derivable (F.file flow.now) (F.routine flow.now) start now.old }
-    requires covers { cover.now ≡ covering (F.routine flow.now) start }
-    requires seen_is { IsSeenFirst cover.now seen.old now.old.locals }
-    ensures { MatchResult result (λ _. HasPaced (F.file flow.now) (F.routine flow.now) (F.heads flow.now) cover.now start now.old seen.new states.old work.old states.new work.new) (λ e. RefusedBy (F.file flow.now) (F.routine flow.now) e) }
+    requires cover { IsCover cover.now.handlers (length (F.routine flow.now).code) cover.now.cover }
+    requires covers { cover.now.handlers ≡ covering (F.routine flow.now) start }
+    requires seen_is { IsSeenFirst cover.now.handlers seen.old now.old.locals }
+    ensures { MatchResult result (λ _. HasPaced (F.file flow.now) (F.routine flow.now) (F.heads flow.now) cover.now.handlers start now.old seen.new states.old work.old states.new work.new) (λ e. RefusedBy (F.file flow.now) (F.routine flow.now) e) }
 {
     let mut place = start;
     let mut written = Written::Nothing;
@@ -137,7 +141,7 @@ fn walk_covered<F: Flow>(
     flow: &F,
     states: &mut States,
     work: &mut Stack<u32>,
-    cover: &[Catch],
+    cover: &Handled,
     seen: &mut Table<Kind>,
     start: u32,
     now: &mut State,
@@ -148,12 +152,13 @@ fn walk_covered<F: Flow>(
     requires opened { IsOpen (F.file flow.now) (F.routine flow.now) states.old }
     requires place { start < length (F.routine flow.now).code }
     requires derived { Derivable (F.file flow.now) (F.routine flow.now) start now.old }
-    requires covers { cover.now ≡ covering (F.routine flow.now) start }
-    requires seen_is { IsSeenFirst cover.now seen.old now.old.locals }
+    requires cover { IsCover cover.now.handlers (length (F.routine flow.now).code) cover.now.cover }
+    requires covers { cover.now.handlers ≡ covering (F.routine flow.now) start }
+    requires seen_is { IsSeenFirst cover.now.handlers seen.old now.old.locals }
     ensures { MatchResult result (λ _. HasWalked (F.file flow.now) (F.routine flow.now) (F.heads flow.now) start now.old states.old work.old states.new work.new) (λ e. RefusedBy (F.file flow.now) (F.routine flow.now) e) }
 {
     pace(flow, states, work, cover, seen, start, now)?;
-    catch_all(flow, states, work, seen, cover)?;
+    catch_all(flow, states, work, seen, cover.handlers.as_slice())?;
     Ok(())
 }
 
@@ -192,9 +197,18 @@ fn walk_from<F: Flow>(
     requires derived { Derivable (F.file flow.now) (F.routine flow.now) start now.old }
     ensures { MatchResult result (λ _. HasWalked (F.file flow.now) (F.routine flow.now) (F.heads flow.now) start now.old states.old work.old states.new work.new) (λ e. RefusedBy (F.file flow.now) (F.routine flow.now) e) }
 {
-    let cover = covering_of(flow.alloc(), flow.handlers(), spans, start)?;
-    see_first(seen, &cover, &now.locals)?;
-    walk_covered(flow, states, work, cover.as_slice(), seen, start, now)
+    let handlers = covering_of(flow.alloc(), flow.handlers(), spans, start)?;
+    see_first(seen, &handlers, &now.locals)?;
+    let cover = cover_of(handlers.as_slice(), flow.len());
+    walk_covered(
+        flow,
+        states,
+        work,
+        &Handled { handlers, cover },
+        seen,
+        start,
+        now,
+    )
 }
 
 /// What a walk has: its state, and what it saw of the locals.

@@ -1,5 +1,5 @@
 use abc_base::{NoMemory, Table};
-use abc_flow::{Flow, Merged, Step};
+use abc_flow::{Cover, Flow, Merged, Step};
 use abc_frames::{Frame, entry_of};
 use abc_kinds::{Ladder, join};
 use abc_merging::merge;
@@ -50,7 +50,7 @@ impl Flow for Flowing<'_> {
         }
     }
 
-    fn broken(&self, place: u32, state: &State, cover: &[Catch]) -> Option<VerifyRule> {
+    fn broken(&self, place: u32, state: &State, cover: Cover) -> Option<VerifyRule> {
         broken_at(self.ladder.linked(), self.frame, place, state, cover)
     }
 

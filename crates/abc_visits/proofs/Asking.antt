@@ -218,9 +218,3 @@ pub set_past : {X : Type 0} (xs : List X) (k : ℕ) (x : X) → length xs ≤ k 
 set_past [] k x h = refl
 set_past (y ∷ xs) zero x h = absurd (omega arith)
 set_past {X} (y ∷ xs) (suc k) x h = ap (λ (ys : List X). y ∷ ys) (set_past xs k x (omega arith))
-
--- ---- handlers
-
-pub filter_twice : (test : Catch → Bool) (hs : List Catch) → filter test (filter test hs) ≡ filter test hs
-filter_twice test [] = refl
-filter_twice test (h ∷ hs) = let z = filter_twice test hs in grind (arith, z)

@@ -1,9 +1,9 @@
-ghost use Rattle.std.specs.Prelude.{◌≡◌, ◌++◌, ◌∷◌, [], ◌+◌, ◌-◌, ◌&&◌, ◌||◌, filter, leb, ltb, length};
+ghost use Rattle.std.specs.Prelude.{◌≡◌, ◌++◌, ◌∷◌, [], ◌+◌, ◌-◌, ◌&&◌, ◌||◌, leb, ltb, length};
 ghost use Rattle.std.specs.Bool.{OnTrue};
 ghost use Rattle.abc_shapes.specs.Instructions.{opcode};
 ghost use Rattle.abc_shapes.specs.Rows.{row_at};
 ghost use Rattle.abc_shapes.specs.Table.{sources};
-ghost use Rattle.abc_typing.specs.Effects.{covering, covers};
+ghost use Rattle.abc_flow.specs.Handled.{IsCoverAt};
 ghost use Rattle.abc_typing.specs.Rules.{at_row, broken, broken_early, early_rules, first_broken, is_here, is_walked, keeps, late_rules, names_scope};
 ghost use Rattle.abc_typing.specs.declared.rule.VerifyRule.TheVariants as variants;
 ghost use Rattle.abc_frames.specs.Frames.{routine_in};
@@ -11,8 +11,9 @@ ghost use Rattle.abc_visits.specs.Asking.{AreKept, IsAsked};
 ghost use Rattle.abc_visits.specs.Visits.{here_in};
 
 use crate::kinds::kind_at;
-use crate::tables::{are_handlers_below, is_covered};
+use crate::tables::cover_at;
 use crate::visit::{Asked, Visit};
+use abc_flow::Cover;
 use abc_frames::Frame;
 use abc_link::Linked;
 use abc_shapes::{Gives, Locals, Operand, Site, opcode_of, row_of, second_of};
@@ -20,7 +21,7 @@ use abc_steps::{
     has_good_form, has_good_locals, is_number_kind, layout_of_super, pops_well, pushes_well,
 };
 use abc_tables::Instr;
-use abc_typing::{Catch, State, VerifyRule};
+use abc_typing::{State, VerifyRule};
 
 /// The rules before Merge.
 const EARLY: [VerifyRule; 8] = [
@@ -108,22 +109,21 @@ impl Visit<'_> {
     }
 
     /// Whether the stack keeps to its size, with a value that is caught.
-    fn fits_stack(&self, asked: Asked, state: &State, handlers: &[Catch]) -> bool
+    fn fits_stack(&self, asked: Asked, state: &State, cover: Cover) -> bool
         requires asked { IsAsked (here_in self.now) asked }
-        requires cover { filter (covers self.now.place) handlers.now ≡ covering (routine_in self.now.frame.now) self.now.place }
+        requires cover { IsCoverAt (routine_in self.now.frame.now) self.now.place cover }
         ensures { result ≡ keeps (here_in self.now) state.now variants.StackOver }
     {
         let size = self.frame.max_stack as usize;
         let kept = state.stack.len().saturating_sub(asked.depth);
-        fits(kept, gives_count(self.row.gives), size)
-            && (size > 0 || !is_covered(handlers, self.place))
+        fits(kept, gives_count(self.row.gives), size) && (size > 0 || cover.is_empty)
     }
 
     /// Whether a state keeps a rule.
     #[inline(always)]
-    fn keeps(&self, asked: Asked, state: &State, handlers: &[Catch], rule: VerifyRule) -> bool
+    fn keeps(&self, asked: Asked, state: &State, cover: Cover, rule: VerifyRule) -> bool
         requires asked { IsAsked (here_in self.now) asked }
-        requires cover { filter (covers self.now.place) handlers.now ≡ covering (routine_in self.now.frame.now) self.now.place }
+        requires cover { IsCoverAt (routine_in self.now.frame.now) self.now.place cover }
         ensures { result ≡ keeps (here_in self.now) state.now rule }
     {
         let frame = self.frame;
@@ -131,7 +131,7 @@ impl Visit<'_> {
             VerifyRule::PoolIndex => self.is_in_table(),
             VerifyRule::NameForm => has_good_form(self.linked, self.row.operand, self.operand()),
             VerifyRule::StackUnder => asked.depth <= state.stack.len(),
-            VerifyRule::StackOver => self.fits_stack(asked, state, handlers),
+            VerifyRule::StackOver => self.fits_stack(asked, state, cover),
             VerifyRule::ScopeUnder => pops_well(self.row.scoping, state.scopes.len()),
             VerifyRule::ScopeOver => {
                 pushes_well(
@@ -143,9 +143,7 @@ impl Visit<'_> {
             VerifyRule::LocalIndex => {
                 has_good_locals(self.row.locals, self.instr, frame.local_count)
             }
-            VerifyRule::OffEnd => {
-                self.leads_inside() && are_handlers_below(handlers, self.place, frame.code.len())
-            }
+            VerifyRule::OffEnd => self.leads_inside() && cover.is_inside,
             VerifyRule::NotSpace => self.all_suit(asked, VerifyRule::NotSpace, state),
             VerifyRule::NotObject => self.all_suit(asked, VerifyRule::NotObject, state),
             VerifyRule::SlotIndex => self.all_suit(asked, VerifyRule::SlotIndex, state),
@@ -170,46 +168,46 @@ impl Visit<'_> {
         &self,
         asked: Asked,
         state: &State,
-        handlers: &[Catch],
+        cover: Cover,
         first: VerifyRule,
         second: VerifyRule,
     ) -> bool
         requires asked { IsAsked (here_in self.now) asked }
-        requires cover { filter (covers self.now.place) handlers.now ≡ covering (routine_in self.now.frame.now) self.now.place }
+        requires cover { IsCoverAt (routine_in self.now.frame.now) self.now.place cover }
         ensures { OnTrue result (AreKept (here_in self.now) state.now (first ∷ second ∷ [])) }
     {
-        self.keeps(asked, state, handlers, first) && self.keeps(asked, state, handlers, second)
+        self.keeps(asked, state, cover, first) && self.keeps(asked, state, cover, second)
     }
 
     /// Whether the rules before Merge are kept.
     #[tactic(auto, using(crate::proofs::Kept::four_kept))]
-    fn keeps_early(&self, asked: Asked, state: &State, handlers: &[Catch]) -> bool
+    fn keeps_early(&self, asked: Asked, state: &State, cover: Cover) -> bool
         requires asked { IsAsked (here_in self.now) asked }
-        requires cover { filter (covers self.now.place) handlers.now ≡ covering (routine_in self.now.frame.now) self.now.place }
+        requires cover { IsCoverAt (routine_in self.now.frame.now) self.now.place cover }
         ensures { OnTrue result (AreKept (here_in self.now) state.now early_rules) }
     {
         self.keeps_two(
             asked,
             state,
-            handlers,
+            cover,
             VerifyRule::PoolIndex,
             VerifyRule::NameForm,
         ) && self.keeps_two(
             asked,
             state,
-            handlers,
+            cover,
             VerifyRule::StackUnder,
             VerifyRule::StackOver,
         ) && self.keeps_two(
             asked,
             state,
-            handlers,
+            cover,
             VerifyRule::ScopeUnder,
             VerifyRule::ScopeOver,
         ) && self.keeps_two(
             asked,
             state,
-            handlers,
+            cover,
             VerifyRule::LocalIndex,
             VerifyRule::OffEnd,
         )
@@ -217,33 +215,33 @@ impl Visit<'_> {
 
     /// Whether the rules after Merge are kept.
     #[tactic(auto, using(crate::proofs::Kept::four_kept))]
-    fn keeps_late(&self, asked: Asked, state: &State, handlers: &[Catch]) -> bool
+    fn keeps_late(&self, asked: Asked, state: &State, cover: Cover) -> bool
         requires asked { IsAsked (here_in self.now) asked }
-        requires cover { filter (covers self.now.place) handlers.now ≡ covering (routine_in self.now.frame.now) self.now.place }
+        requires cover { IsCoverAt (routine_in self.now.frame.now) self.now.place cover }
         ensures { OnTrue result (AreKept (here_in self.now) state.now late_rules) }
     {
         self.keeps_two(
             asked,
             state,
-            handlers,
+            cover,
             VerifyRule::NotSpace,
             VerifyRule::NotObject,
         ) && self.keeps_two(
             asked,
             state,
-            handlers,
+            cover,
             VerifyRule::SlotIndex,
             VerifyRule::ScopeIndex,
         ) && self.keeps_two(
             asked,
             state,
-            handlers,
+            cover,
             VerifyRule::NotHere,
             VerifyRule::NotIndex,
         ) && self.keeps_two(
             asked,
             state,
-            handlers,
+            cover,
             VerifyRule::Parameters,
             VerifyRule::Flags,
         )
@@ -251,12 +249,12 @@ impl Visit<'_> {
 
     /// Whether all rules are kept. It is asked first: which rule is broken is told by going over them once more.
     #[tactic(auto, using(crate::proofs::Kept::all_kept))]
-    fn keeps_all(&self, asked: Asked, state: &State, handlers: &[Catch]) -> bool
+    fn keeps_all(&self, asked: Asked, state: &State, cover: Cover) -> bool
         requires asked { IsAsked (here_in self.now) asked }
-        requires cover { filter (covers self.now.place) handlers.now ≡ covering (routine_in self.now.frame.now) self.now.place }
+        requires cover { IsCoverAt (routine_in self.now.frame.now) self.now.place cover }
         ensures { OnTrue result (AreKept (here_in self.now) state.now (early_rules ++ late_rules)) }
     {
-        self.keeps_early(asked, state, handlers) && self.keeps_late(asked, state, handlers)
+        self.keeps_early(asked, state, cover) && self.keeps_late(asked, state, cover)
     }
 
     /// The first of some rules that a state breaks.
@@ -265,15 +263,15 @@ impl Visit<'_> {
         &self,
         asked: Asked,
         state: &State,
-        handlers: &[Catch],
+        cover: Cover,
         rules: &[VerifyRule],
     ) -> Option<VerifyRule>
         requires asked { IsAsked (here_in self.now) asked }
-        requires cover { filter (covers self.now.place) handlers.now ≡ covering (routine_in self.now.frame.now) self.now.place }
+        requires cover { IsCoverAt (routine_in self.now.frame.now) self.now.place cover }
         ensures { result ≡ first_broken (keeps (here_in self.now) state.now) rules.now }
     {
         for rule in rules {
-            if !self.keeps(asked, state, handlers, *rule) {
+            if !self.keeps(asked, state, cover, *rule) {
                 return Some(*rule);
             }
         }
@@ -282,15 +280,15 @@ impl Visit<'_> {
 
     /// The first rule that a state breaks, Merge left out.
     #[tactic(auto, using(crate::proofs::Kept::none_broken))]
-    fn broken(&self, asked: Asked, state: &State, handlers: &[Catch]) -> Option<VerifyRule>
+    fn broken(&self, asked: Asked, state: &State, cover: Cover) -> Option<VerifyRule>
         requires asked { IsAsked (here_in self.now) asked }
-        requires cover { filter (covers self.now.place) handlers.now ≡ covering (routine_in self.now.frame.now) self.now.place }
+        requires cover { IsCoverAt (routine_in self.now.frame.now) self.now.place cover }
         ensures { result ≡ first_broken (keeps (here_in self.now) state.now) (early_rules ++ late_rules) }
     {
-        if self.keeps_all(asked, state, handlers) {
+        if self.keeps_all(asked, state, cover) {
             return None;
         }
-        self.first_broken(asked, state, handlers, &RULES)
+        self.first_broken(asked, state, cover, &RULES)
     }
 }
 
@@ -301,9 +299,9 @@ fn broken_in(
     place: u32,
     instr: &Instr,
     state: &State,
-    handlers: &[Catch],
+    cover: Cover,
 ) -> Option<VerifyRule>
-    requires { filter (covers place) handlers.now ≡ covering (routine_in frame.now) place }
+    requires { IsCoverAt (routine_in frame.now) place cover }
     ensures { result ≡ at_row linked.now (routine_in frame.now) place instr.now (early_rules ++ late_rules) state.now (row_at (opcode instr.now)) }
 {
     match row_of(opcode_of(instr)) {
@@ -315,7 +313,7 @@ fn broken_in(
                 instr,
                 row,
             };
-            visit.broken(visit.asked(), state, handlers)
+            visit.broken(visit.asked(), state, cover)
         }
         None => Some(VerifyRule::NotRun),
     }
@@ -340,22 +338,21 @@ fn broken_early_in(
                 instr,
                 row,
             };
-            visit.first_broken(visit.asked(), state, frame.handlers.as_slice(), &EARLY)
+            visit.first_broken(visit.asked(), state, cover_at(frame, place), &EARLY)
         }
         None => Some(VerifyRule::NotRun),
     }
 }
 
-/// The first rule that a state breaks at a place, Merge left out, where these handlers cover the place.
-#[tactic(auto, using(crate::proofs::Asking::filter_twice))]
+/// The first rule that a state breaks at a place, Merge left out, where this is what the rules ask of the handlers that cover it.
 pub fn broken_at(
     linked: &Linked,
     frame: &Frame<'_>,
     place: u32,
     state: &State,
-    cover: &[Catch],
+    cover: Cover,
 ) -> Option<VerifyRule>
-    requires { cover.now ≡ covering (routine_in frame.now) place }
+    requires { IsCoverAt (routine_in frame.now) place cover }
     ensures { result ≡ broken linked.now (routine_in frame.now) place state.now }
 {
     match frame.code.find(place as usize) {

@@ -2,10 +2,13 @@ ghost use Rattle.std.specs.Prelude.{◌≡◌, ◌||◌, filter, length, ltb, ma
 ghost use Rattle.abc_shapes.specs.Instructions.{operand as operand_in, targets};
 ghost use Rattle.abc_typing.specs.Effects.{covers, leads as leads_of};
 ghost use Rattle.abc_typing.specs.Rules.{all_below, handler_target, in_table, is_empty};
+ghost use Rattle.abc_flow.specs.Handled.{IsCoverAt};
 ghost use Rattle.abc_frames.specs.Frames.{routine_in};
 ghost use Rattle.abc_visits.specs.Visits.{here_in};
 
 use crate::visit::Visit;
+use abc_flow::Cover;
+use abc_frames::Frame;
 use abc_shapes::{Leads, Operand};
 use abc_steps::is_function_method;
 use abc_tables::Instr;
@@ -52,7 +55,7 @@ fn covers_place(handler: &Catch, place: u32) -> bool
 
 /// Whether one of some handlers covers a place.
 #[tactic(auto, using(crate::proofs::Loops::uncovered, crate::proofs::Loops::covered))]
-pub(crate) fn is_covered(handlers: &[Catch], place: u32) -> bool
+fn is_covered(handlers: &[Catch], place: u32) -> bool
     ensures { not result ≡ is_empty (filter (covers place) handlers.now) }
 {
     for handler in handlers {
@@ -72,7 +75,7 @@ fn is_inside(handler: &Catch, place: u32, end: usize) -> bool
 
 /// Whether the targets of the handlers that cover a place are below the code's end.
 #[tactic(auto, using(crate::proofs::Loops::inside_next, crate::proofs::Loops::inside_stops))]
-pub(crate) fn are_handlers_below(handlers: &[Catch], place: u32, end: usize) -> bool
+fn are_handlers_below(handlers: &[Catch], place: u32, end: usize) -> bool
     ensures { result ≡ all_below (map handler_target (filter (covers place) handlers.now)) end }
 {
     for handler in handlers {
@@ -81,6 +84,17 @@ pub(crate) fn are_handlers_below(handlers: &[Catch], place: u32, end: usize) -> 
         }
     }
     true
+}
+
+/// What the rules ask of the handlers of a method that cover a place.
+pub(crate) fn cover_at(frame: &Frame<'_>, place: u32) -> Cover
+    ensures { IsCoverAt (routine_in frame.now) place result }
+{
+    let handlers = frame.handlers.as_slice();
+    Cover {
+        is_empty: !is_covered(handlers, place),
+        is_inside: are_handlers_below(handlers, place, frame.code.len()),
+    }
 }
 
 impl Visit<'_> {

@@ -11,14 +11,14 @@ stops Stops h = refl
 stops (GoesOn w) h = absurd (h w refl)
 
 pub passing-init : goal.passing-init
-passing-init g c = walk_init _ _ _ c.args.cover.now c.args.start c.args.now.now c.args.seen.now _ _ c.requires.opened c.requires.place c.requires.derived c.requires.covers c.requires.seen_is
+passing-init g c = walk_init _ _ _ c.args.cover.now.handlers c.args.start c.args.now.now c.args.seen.now _ _ c.requires.opened c.requires.place c.requires.derived c.requires.covers c.requires.seen_is
 
 pub passing-preserved : goal.passing-preserved
 passing-preserved g c =
-    walk_step _ _ _ c.args.cover.now c.args.start c.args.now.now c.passing.place c.passing.now c.pass.new.now c.passing.seen c.pass.new.seen c.passing.written c.in-GoesOn.next _ _ _ _ _ _ c.requires.heads c.passing.invariant
-    (subst (λ (o : Onward). Passed (g.F.Flow.file c.args.flow.now) (g.F.Flow.routine c.args.flow.now) (g.F.Flow.heads c.args.flow.now) c.args.cover.now c.passing.place c.passing.now c.pass.new.now c.passing.seen c.pass.new.seen c.passing.states c.passing.work c.pass.new.states c.pass.new.work o) c.in-GoesOn.is c.in_ok-next.ensures)
+    walk_step _ _ _ c.args.cover.now.handlers c.args.start c.args.now.now c.passing.place c.passing.now c.pass.new.now c.passing.seen c.pass.new.seen c.passing.written c.in-GoesOn.next _ _ _ _ _ _ c.requires.heads c.passing.invariant
+    (subst (λ (o : Onward). Passed (g.F.Flow.file c.args.flow.now) (g.F.Flow.routine c.args.flow.now) (g.F.Flow.heads c.args.flow.now) c.args.cover.now.handlers c.passing.place c.passing.now c.pass.new.now c.passing.seen c.pass.new.seen c.passing.states c.passing.work c.pass.new.states c.pass.new.work o) c.in-GoesOn.is c.in_ok-next.ensures)
 
 pub returns : goal.returns
 returns g c =
-    walk_stop _ _ _ c.args.cover.now c.args.start c.args.now.now c.passing.place c.passing.now c.pass.new.now c.passing.seen c.pass.new.seen c.passing.written _ _ _ _ _ _ c.passing.invariant
-    (subst (λ (o : Onward). Passed (g.F.Flow.file c.args.flow.now) (g.F.Flow.routine c.args.flow.now) (g.F.Flow.heads c.args.flow.now) c.args.cover.now c.passing.place c.passing.now c.pass.new.now c.passing.seen c.pass.new.seen c.passing.states c.passing.work c.pass.new.states c.pass.new.work o) (stops c.in_ok-next.field-0 c.in_default.not-GoesOn) c.in_ok-next.ensures)
+    walk_stop _ _ _ c.args.cover.now.handlers c.args.start c.args.now.now c.passing.place c.passing.now c.pass.new.now c.passing.seen c.pass.new.seen c.passing.written _ _ _ _ _ _ c.passing.invariant
+    (subst (λ (o : Onward). Passed (g.F.Flow.file c.args.flow.now) (g.F.Flow.routine c.args.flow.now) (g.F.Flow.heads c.args.flow.now) c.args.cover.now.handlers c.passing.place c.passing.now c.pass.new.now c.passing.seen c.pass.new.seen c.passing.states c.passing.work c.pass.new.states c.pass.new.work o) (stops c.in_ok-next.field-0 c.in_default.not-GoesOn) c.in_ok-next.ensures)
