@@ -1,15 +1,14 @@
-use Rattle.std.proofs.Common.{◌≡◌, ◌-◌, ◌<◌, ◌≤◌, ◌∙◌, [], Some, None, drop, length, suc, refl, ap, sym, arith}
+use Rattle.std.proofs.Common.{◌≡◌, ◌-◌, ◌≤◌, ◌∙◌, [], Some, None, drop, length, suc, ap, sym, arith}
 use Rattle.std.specs.Prelude.{slice_get}
 use Rattle.std.specs.declared.option.Option.{Option}
 use Rattle.std.proofs.Math.Seq.{drop-cons}
 use Rattle.std.proofs.lemmas.List.{drop_all}
-use Rattle.std.proofs.lemmas.Option.{slice_get_read}
 use Rattle.abc_cells.proofs.Parts.{slice_get_some}
+use Rattle.abc_cells.specs.declared.values.Value.TheVariants.{Undefined}
 use Rattle.abc_entering.proofs.Offered.{argument_first, enough_given, option_exists, option_first, option_within, unoffered}
 use Rattle.abc_entering.specs.Arguments.{first_of}
 use Rattle.abc_makers.specs.Outer.{setting}
 use Rattle.abc_makers.specs.Setting.{options_of}
-use Rattle.abc_makers.specs.World.{Went}
 use Rattle.abc_tables.specs.declared.methods.OptionValue.{OptionValue}
 use Rattle.abc_calling.proofs.arguments.argument.Goals as goal
 
@@ -18,15 +17,8 @@ returns-then-k-args-clause-part c = λ out w.
     let p = setting c.args.linked.now out in
     let os = drop c.args.k (options_of c.args.method.now) in
     let args = c.args.args.now in
-    let lt : c.args.k < length args = omega (arith, c.if-k-args.true) in
-    ap (λ vs. first_of p os vs w) (drop-cons args c.args.k c.index-args-k.result lt)
+    ap (λ vs. first_of p os vs w) (drop-cons args c.args.k Undefined c.if-k-args.true)
     ∙ argument_first p os _ (drop (suc c.args.k) args) w
-    ∙ ap (Went w) (sym c.index-args-k.is)
-
-pub returns-then-k-args-clause-there : goal.returns-then-k-args-clause-there
-returns-then-k-args-clause-there c = λ h over there.
-    let args = c.args.args.now in
-    there c.args.k c.index-args-k.result (slice_get_read args (length args) c.args.k c.index-args-k.result refl (omega (arith, c.if-k-args.true)) c.index-args-k.is)
 
 pub unreachable-requires : goal.unreachable-requires
 unreachable-requires c =
