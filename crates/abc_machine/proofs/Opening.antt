@@ -1,20 +1,28 @@
--- A machine that is opened is in the first state of the meaning, for all formulas of the same names, and its run begins there.
-use Rattle.std.proofs.Common.{◌≡◌, ℕ, ◌+◌, ◌-◌, ◌<◌, ◌≤◌, ◌^◌, List, [], ◌++◌, length, map, Bool, refl, sym, ap, ◌∙◌, subst, arith}
+-- A machine that is opened is in the first state of the meaning, for all formulas of the same names, and its run begins there; then
+-- it can be called, where it is done.
+use Rattle.std.proofs.Common.{◌≡◌, ◌≢◌, ℕ, ◌+◌, ◌-◌, ◌<◌, ◌≤◌, ◌^◌, List, [], ◌++◌, length, map, Bool, false, refl, sym, ap, ◌∙◌, subst, arith}
 use Rattle.std.proofs.lemmas.List.{append-nil}
 use Rattle.std.specs.Prelude.{IsSome, None, Some}
 use Rattle.std.specs.Io.KnownBytes.{append_known}
 use Rattle.std.specs.declared.option.Option.{Option}
 use Rattle.abc_base.specs.Hosts.{AreFormulas}
 use Rattle.abc_base.specs.declared.formula.Formula.{Formula}
+use Rattle.abc_callmeaning.proofs.Left.{runs_left}
+use Rattle.abc_callmeaning.specs.Calls.{replies_for, silent}
+use Rattle.abc_entering.specs.Arguments.{IsKnown}
 use Rattle.abc_heap.specs.Heap.{Heap}
 use Rattle.abc_heap.specs.declared.records.Limit.{Limit}
 use Rattle.abc_heap.specs.declared.records.Limits.{Limits}
 use Rattle.abc_machine.specs.Ended.{RunsAs}
-use Rattle.abc_machine.specs.Machines.{CanBegin, Opened}
-use Rattle.abc_machine.specs.Runs.{Begun, IsAt, outer, reached}
+use Rattle.abc_machine.specs.Machines.{CanBegin, CanGoOn, IsOpened, Keeps, Opened, kept_world, world_run}
+use Rattle.abc_machine.specs.Runs.{Begun, IsAt, Leaves, outer, reached}
 use Rattle.abc_machine.specs.declared.ends.End.{End}
+use Rattle.abc_machine.specs.declared.ends.End.TheVariants as ends
+use Rattle.abc_machine.proofs.Keeping.{Drops, can_go_on, kept_is}
 use Rattle.abc_meaning.specs.Laws.{IsVerified}
 use Rattle.abc_meaning.specs.Meaning.{Meaning, first_state, first_world, meaning, meaning_if, ran, runs_for, too_small}
+use Rattle.abc_meaning.specs.Sound.{WorldSound}
+use Rattle.abc_meaning.specs.Throwing.{Machine}
 use Rattle.abc_objects.specs.Opening.{formula_names, opening}
 use Rattle.abc_openings.specs.Begun.{IsBegun, setting}
 use Rattle.abc_program.specs.Linked.{IsLinkedFile, LinkedFile}
@@ -25,6 +33,7 @@ use Rattle.abc_states.specs.declared.state.State.{State}
 use Rattle.abc_reached.specs.Steps.{IsReached, machine}
 use Rattle.abc_verify.proofs.Methods.{all_typed}
 use Rattle.abc_verify.specs.Typed.{AllTyped, IsVerified as IsChecked}
+use Rattle.abc_states.specs.World.{World}
 use Rattle.abc_states.specs.WorldSetting.{Setting}
 
 begun_for : (l : LinkedFile) (fs gs : List Formula) (limits : Limits) (s : State) → formula_names fs ≡ formula_names gs → IsBegun (setting l fs) limits s → IsBegun (setting l gs) limits s
@@ -45,27 +54,32 @@ can_begin l fs limits s b gs e = subst (λ (x : Limits). IsBegun (setting l gs) 
 
 -- ---- the state that a run begins with is reached
 
-append_none : (known : Option (List ℕ)) → known ≡ append_known known []
+pub append_none : (known : Option (List ℕ)) → known ≡ append_known known []
 append_none None = refl
 append_none (Some bs) = ap Some (sym (append-nil bs))
 
 pub verified_setting : (l : LinkedFile) (fs : List Formula) → IsLinkedFile l → HasFewSlots l → AllTyped l → AreFormulas fs → IsVerified (setting l fs)
 verified_setting l fs linked few typed host = record { fits = linked.fits; linked = linked; few = few; typed = typed; host = host }
 
-pub at_first : (l : LinkedFile) (fs : List Formula) (limits : Limits) (s : State) (fuel : ℕ) (x : Option (List ℕ)) → IsVerified (setting l fs) → limits.cells < 2 ^ 32 → IsBegun (setting l fs) limits s → IsAt l (record { formulas = fs; first = first_state (setting l fs) limits; fuel = fuel }) fuel s x x
-at_first l fs limits s fuel x v counted b =
+-- no step was taken
+pub at_start : (l : LinkedFile) (fs : List Formula) (s : State) (fuel : ℕ) (x : Option (List ℕ)) → IsReached l (record { formulas = fs; wrote = [] }) s → IsAt l (record { formulas = fs; first = machine s (record { formulas = fs; wrote = [] }); fuel = fuel }) fuel s x x
+at_start l fs s fuel x r =
     let p = setting l fs in
-    let first = first_state p limits in
+    let first = machine s (record { formulas = fs; wrote = [] }) in
     let none : fuel - fuel ≡ 0 = omega arith in
     let out : outer l (record { formulas = fs; first = first; fuel = fuel }) fuel ≡ record { formulas = fs; wrote = [] } = ap (λ (n : ℕ). record { formulas = fs; wrote = (reached p n first).world.wrote }) none in
     let there : reached p (fuel - fuel) first ≡ first = ap (λ (n : ℕ). reached p n first) none in
     record {
       few = omega arith;
-      is = ap (machine s) out ∙ machine_first p limits s b ∙ sym there;
-      goes = ap (runs_for p fuel) (sym there);
+      is = ap (machine s) out ∙ sym there;
+      goes = ap (replies_for p fuel) (sym there);
       sink = λ some. append_none x ∙ ap (λ (o : Outer). append_known x o.wrote) (sym out);
-      can = subst (λ (o : Outer). IsReached l o s) (sym out) (reached_first l fs limits s v counted b);
+      can = subst (λ (o : Outer). IsReached l o s) (sym out) r;
     }
+
+at_first : (l : LinkedFile) (fs : List Formula) (limits : Limits) (s : State) (fuel : ℕ) (x : Option (List ℕ)) → IsVerified (setting l fs) → limits.cells < 2 ^ 32 → IsBegun (setting l fs) limits s → IsAt l (record { formulas = fs; first = first_state (setting l fs) limits; fuel = fuel }) fuel s x x
+at_first l fs limits s fuel x v counted b =
+    subst (λ (q : Machine). IsAt l (record { formulas = fs; first = q; fuel = fuel }) fuel s x x) (machine_first (setting l fs) limits s b) (at_start l fs s fuel x (reached_first l fs limits s v counted b))
 
 -- ---- what a first run comes to
 
@@ -74,22 +88,74 @@ unfolding meaning
 ran_is p limits fuel e = ap (λ (o : Option Limit). meaning_if o (runs_for p fuel (first_state p limits))) e
 
 -- a machine that keeps these shows this
-abbrev viewed : LinkedFile → State → Option End → Opened
-viewed l s e = record { linked = l; names = s.arena.formulas; limits = s.arena.limits; ended = e }
+abbrev pub viewed : LinkedFile → State → Option End → Bool → Opened
+viewed l s e closed = record { linked = l; names = s.arena.formulas; limits = s.arena.limits; ended = e; closed = closed; world = kept_world s }
 
-module _ (l k : LinkedFile) (fs : List Formula) (s : State) (fuel : ℕ) (e : Option End) (m : Opened) (same : l ≡ k) (shown : viewed k s e ≡ m) (fresh : e ≡ None) (can : e ≡ None → CanBegin k s × (s.arena.limits.cells < 2 ^ 32)) (named : m.ended ≡ None → formula_names fs ≡ m.names) where
+module _ (l k : LinkedFile) (fs : List Formula) (s : State) (fuel : ℕ) (e : Option End) (closed : Bool) (m : Opened) (same : l ≡ k) (shown : viewed k s e closed ≡ m) (fresh : e ≡ None) (keeps : Keeps k s e closed) (named : m.ended ≡ None → formula_names fs ≡ m.names) where
   names : formula_names fs ≡ s.arena.formulas
   names = named (ap (λ (o : Opened). o.ended) (sym shown) ∙ fresh) ∙ ap (λ (o : Opened). o.names) (sym shown)
 
   is_first : IsBegun (setting l fs) s.arena.limits s
-  is_first = subst (λ (i : LinkedFile). IsBegun (setting i fs) s.arena.limits s) (sym same) ((can fresh).0 fs names)
+  is_first = subst (λ (i : LinkedFile). IsBegun (setting i fs) s.arena.limits s) (sym same) ((keeps.begins fresh).0 fs names)
 
-  pub begins_at : (x : Option (List ℕ)) → IsLinkedFile l → HasFewSlots l → IsChecked k → AreFormulas fs → IsAt l (record { formulas = fs; first = first_state (setting l fs) s.arena.limits; fuel = fuel }) fuel s x x
-  begins_at x linked few typed host =
-      let v = verified_setting l fs linked few (all_typed l linked (subst IsChecked (sym same) typed)) host in
-      at_first l fs s.arena.limits s fuel x v (can fresh).1 is_first
+  -- what the run comes to
+  abbrev left_world : World
+  left_world = (runs_for (setting l fs) fuel (first_state (setting l fs) s.arena.limits)).world
 
   pub run_as : (x z : Option (List ℕ)) (end : End) → RunsAs (ran (runs_for (setting l fs) fuel (first_state (setting l fs) s.arena.limits))) x z end → RunsAs (meaning (setting m.linked fs) m.limits fuel) x z end
   run_as x z end r =
       let here : RunsAs (meaning (setting l fs) s.arena.limits fuel) x z end = subst (λ (q : Meaning). RunsAs q x z end) (sym (ran_is (setting l fs) s.arena.limits fuel is_first.fits)) r in
       subst (λ (o : Opened). RunsAs (meaning (setting o.linked fs) o.limits fuel) x z end) shown (subst (λ (i : LinkedFile). RunsAs (meaning (setting i fs) s.arena.limits fuel) x z end) same here)
+
+  module _ (linked : IsLinkedFile l) (few : HasFewSlots l) (typed : IsChecked k) (host : AreFormulas fs) where
+    verified : IsVerified (setting l fs)
+    verified = verified_setting l fs linked few (all_typed l linked (subst IsChecked (sym same) typed)) host
+
+    first_reached : IsReached l (record { formulas = fs; wrote = [] }) s
+    first_reached = reached_first l fs s.arena.limits s verified (keeps.begins fresh).1 is_first
+
+    pub begins_at : (x : Option (List ℕ)) → IsAt l (record { formulas = fs; first = first_state (setting l fs) s.arena.limits; fuel = fuel }) fuel s x x
+    begins_at x = at_first l fs s.arena.limits s fuel x verified (keeps.begins fresh).1 is_first
+
+    -- what it leaves is sound
+    left_sound : WorldSound (setting l fs) left_world
+    left_sound =
+        subst (λ (q : Machine). WorldSound (setting l fs) (runs_for (setting l fs) fuel q).world) (machine_first (setting l fs) s.arena.limits s is_first) (runs_left (setting l fs) first_reached.typings fuel (machine s (record { formulas = fs; wrote = [] })) verified first_reached.typed first_reached.sound)
+
+    -- ---- the state after the run, and that without its frames
+
+    module _ (t u : State) (end : End) (leaves : end ≢ ends.WriteFault → Leaves (setting l fs) left_world t) (drops : Drops t u) (limit : t.given.limit ≡ s.given.limit) where
+      pub run_keeps : Keeps k u (Some end) closed
+      run_keeps = record {
+        begins = λ q. absurd cc;
+        goes_on = λ q still.
+          let done : end ≡ ends.Done = cc in
+          let there = leaves (λ f. absurd (let two : ends.Done ≡ ends.WriteFault = sym done ∙ f in cc)) in
+          subst (λ (i : LinkedFile). CanGoOn i u) same (can_go_on l fs left_world t u left_sound there drops (subst (IsKnown l) (sym limit) first_reached.known));
+      }
+
+      pub run_world : end ≢ ends.WriteFault → kept_world u ≡ silent (world_run m fs fuel)
+      run_world f =
+          let here : kept_world u ≡ silent left_world = kept_is (setting l fs) left_world t u (leaves f) drops in
+          let there : kept_world u ≡ silent (world_run (viewed k s e closed) fs fuel) = here ∙ ap (λ (i : LinkedFile). silent (world_run (viewed i s e closed) fs fuel)) same in
+          there ∙ ap (λ (o : Opened). silent (world_run o fs fuel)) shown
+
+      pub run_names : end ≢ ends.WriteFault → u.arena.formulas ≡ m.names
+      run_names f = ap (λ (w : World). w.heap.formulas) (kept_is (setting l fs) left_world t u (leaves f) drops) ∙ left_sound.formulas ∙ names ∙ ap (λ (o : Opened). o.names) shown
+
+-- ---- a machine that is opened
+
+pub open_keeps : (l : LinkedFile) (fs : List Formula) (limits : Limits) (s : State) → IsBegun (setting l fs) limits s → limits.cells < 2 ^ 32 → Keeps l s None false
+open_keeps l fs limits s b counted = record {
+  begins = λ e. (can_begin l fs limits s b, subst (λ (x : Limits). x.cells < 2 ^ 32) (sym (limits_kept (setting l fs) limits s b)) counted);
+  goes_on = λ e still. absurd cc;
+}
+
+pub opened_as : (l : LinkedFile) (fs : List Formula) (limits : Limits) (s : State) → IsBegun (setting l fs) limits s → IsOpened l fs limits (viewed l s None false)
+opened_as l fs limits s b =
+    let first = first_world (setting l fs) limits in
+    let shown : Heap → List Bool → Opened = λ h started. record { linked = l; names = h.formulas; limits = h.limits; ended = None; closed = false; world = record { heap = h; started = started; wrote = [] } } in
+    record {
+      is = ap (λ (h : Heap). shown h s.started) b.heap ∙ ap (λ (started : List Bool). shown first.heap started) b.started;
+      fits = b.fits;
+    }

@@ -1,4 +1,4 @@
--- From step to step of a run.
+-- From step to step.
 use Rattle.std.proofs.Common.{◌≡◌, ℕ, zero, suc, ◌+◌, ◌-◌, ◌<◌, ◌≤◌, List, [], ◌∷◌, ◌++◌, length, take, min, refl, sym, ap, ◌∙◌, subst, arith, append_assoc}
 use Rattle.std.proofs.lemmas.List.{append-nil}
 use Rattle.std.specs.Prelude.{IsSome, None, Ok, Err, Some, is_some, option_map}
@@ -6,17 +6,16 @@ use Rattle.std.specs.Io.KnownBytes.{append_known}
 use Rattle.std.specs.declared.option.Option.{Option}
 use Rattle.abc_base.specs.Sinks.{GrowsByFront}
 use Rattle.abc_base.specs.declared.formula.Formula.{Formula}
-use Rattle.abc_machine.specs.Ended.{IsEndOf, RunsAs, ended, failed}
-use Rattle.abc_machine.specs.Runs.{Begun, IsAt, on, outer, reached}
-use Rattle.abc_machine.specs.Spent.{EndsWith, GoesTo}
-use Rattle.abc_machine.specs.declared.ends.End.{End}
-use Rattle.abc_machine.specs.declared.ends.End.TheVariants as ends
-use Rattle.abc_meaning.specs.Meaning.{Ended, Meaning, Ran, ran, runs_for, then_runs}
+use Rattle.abc_callmeaning.proofs.Appended.{calls_append}
+use Rattle.abc_callmeaning.specs.Calls.{EndsAs as RepliesEnd, Replied, replies, replies_for, returned, then_replies}
+use Rattle.abc_cells.specs.declared.values.Value.{Value}
+use Rattle.abc_machine.specs.Replied.{IsReplyOf, RepliesAs, failed, replied}
+use Rattle.abc_machine.specs.Runs.{Begun, IsAt, Leaves, on, outer, reached}
+use Rattle.abc_machine.specs.Spent.{EndsWith, GoesTo, Rests, reply_by}
+use Rattle.abc_machine.specs.declared.replies.Reply.{Reply}
+use Rattle.abc_machine.specs.declared.replies.Reply.TheVariants.{FuelSpent as Spent, WriteFault}
 use Rattle.abc_meaning.specs.Step.{step}
-use Rattle.abc_meaning.specs.Throwing as meant
-use Rattle.abc_meaning.specs.Throwing.{Ends, FuelSpent, Machine, Stepped, Steps, goes_on}
-use Rattle.abc_outputs.specs.Front.{IsFront}
-use Rattle.abc_outputs.proofs.Stepping.{runs_append}
+use Rattle.abc_meaning.specs.Throwing.{Done, End, Ends, FuelSpent, Full, Machine, Profile, Stepped, Steps, Stuck, Uncaught, goes_on}
 use Rattle.abc_outward.specs.Outward.{adding}
 use Rattle.abc_program.specs.Linked.{LinkedFile}
 use Rattle.abc_states.specs.Outer.{Outer, setting, world}
@@ -51,7 +50,22 @@ front_behind known now xs bytes more g = record {
   front = g.front ∙ append_more known xs (take g.count bytes) ∙ ap (append_known known) (taken_front more xs bytes g.count);
 }
 
+
 -- ---- one step more
+
+-- what comes of a step that ends
+pub then_is : (v : Value) (w : World) (e : End) (go : Machine → Replied) → then_replies v (Ends w e) go ≡ replies w (reply_by v e)
+then_is v w Done go = refl
+then_is v w (Uncaught thrown) go = refl
+then_is v w (Profile method index fault) go = refl
+then_is v w FuelSpent go = refl
+then_is v w (Full limit) go = refl
+then_is v w Stuck go = refl
+
+-- what comes of all steps from a state on: what is answered and written, and the state that is left
+pub record Comes (p : Setting) (r : Replied) (x z : Option (List ℕ)) (reply : Reply) (new : State) : Type 0 where
+  pub answer : RepliesAs r x z reply
+  pub leaves : reply ≢ WriteFault → Leaves p r.world new
 
 module _ (l : LinkedFile) (b : Begun) where
   abbrev p : Setting
@@ -59,6 +73,10 @@ module _ (l : LinkedFile) (b : Begun) where
 
   abbrev at : ℕ → Machine
   at left = reached p (b.fuel - left) b.first
+
+  -- what comes of all steps
+  abbrev pub in_all : Replied
+  in_all = replies_for p b.fuel b.first
 
   fewer : (left : ℕ) → suc left ≤ b.fuel → b.fuel - left ≡ suc (b.fuel - suc left)
   fewer left h = omega (arith, h)
@@ -69,6 +87,14 @@ module _ (l : LinkedFile) (b : Begun) where
 
   next_is : (left : ℕ) (s : State) (x y : Option (List ℕ)) (r : Stepped) → IsAt l b (suc left) s x y → step_here l (outer l b (suc left)) s ≡ r → at left ≡ on r
   next_is left s x y r a e = ap (λ (n : ℕ). reached p n b.first) (fewer left a.few) ∙ ap on (stepped left s x y a ∙ e)
+
+  -- what its frame would return
+  abbrev value_at : ℕ → Value
+  value_at left = returned p (at left).world (at left).frames
+
+  -- what comes of all steps, by the one from there
+  meant_by : (left : ℕ) (s : State) (x y : Option (List ℕ)) (r : Stepped) → IsAt l b (suc left) s x y → step_here l (outer l b (suc left)) s ≡ r → in_all ≡ then_replies (value_at (suc left)) r (replies_for p left)
+  meant_by left s x y r a e = a.goes ∙ ap (λ (q : Stepped). then_replies (value_at (suc left)) q (replies_for p left)) (stepped left s x y a ∙ e)
 
   pub goes_at : (fuel left : ℕ) (s new : State) (x y z : Option (List ℕ)) → fuel ≡ suc left → IsAt l b fuel s x y → GoesTo l (outer l b fuel) s new y z → IsAt l b left new x z
   goes_at fuel left s new x y z f a g = go (subst (λ (n : ℕ). IsAt l b n s x y) f a) (subst (λ (n : ℕ). GoesTo l (outer l b n) s new y z) f g)
@@ -82,42 +108,44 @@ module _ (l : LinkedFile) (b : Begun) where
           record {
             few = (let few = a.few in omega (arith, few));
             is = ap (machine new) same ∙ sym next;
-            goes = a.goes ∙ ap (λ (r : Stepped). then_runs r (runs_for p left)) (stepped left s x y a ∙ g.goes.goes) ∙ ap (runs_for p left) (sym next);
+            goes = meant_by left s x y (Steps q) a g.goes.goes ∙ ap (replies_for p left) (sym next);
             sink = λ some. g.goes.sink (subst IsSome (sym (a.sink some)) (append_some x out.wrote some)) ∙ ap (λ (o : Option (List ℕ)). append_known o g.goes.bytes) (a.sink some) ∙ append_more x out.wrote g.goes.bytes ∙ ap (λ (o : Outer). append_known x o.wrote) (sym same);
             can = subst (λ (o : Outer). IsReached l o new) (sym same) g.reached;
           }
 
-  -- ---- the run ends
+  -- ---- no step more is taken
 
-  ran_as : (r : Ended) (e : meant.End) (end : End) (x z : Option (List ℕ)) (wrote : List ℕ) → runs_for p b.fuel b.first ≡ r → r.end ≡ e → r.world.wrote ≡ wrote → IsEndOf e end → (IsSome x → z ≡ append_known x wrote) → RunsAs (ran (runs_for p b.fuel b.first)) x z end
-  ran_as r e end x z wrote g i w is k =
-      let same : ran (runs_for p b.fuel b.first) ≡ Ran wrote e = ap ran g ∙ ap (λ (bs : List ℕ). Ran bs r.end) w ∙ ap (Ran wrote) i in
-      subst (λ (m : Meaning). RunsAs m x z end) (sym same) (ended wrote e end is k)
+  came : (r : Replied) (reply : Reply) (x z : Option (List ℕ)) (new : State) → in_all ≡ r → IsReplyOf r.reply reply → (IsSome x → z ≡ append_known x r.world.wrote) → Leaves p r.world new → Comes p in_all x z reply new
+  came r reply x z new g is sink leaves = subst (λ (q : Replied). Comes p q x z reply new) (sym g) (record { answer = replied r reply is sink; leaves = λ f. leaves })
 
-  pub spent_at : (s : State) (x y z : Option (List ℕ)) (fuel : ℕ) → fuel ≡ 0 → IsAt l b fuel s x y → z ≡ y → RunsAs (ran (runs_for p b.fuel b.first)) x z ends.FuelSpent
-  spent_at s x y z fuel f a same = go (subst (λ (n : ℕ). IsAt l b n s x y) f a)
+  pub spent_at : (s new : State) (x y z : Option (List ℕ)) (fuel : ℕ) → fuel ≡ 0 → IsAt l b fuel s x y → Rests s new y z → Comes p in_all x z Spent new
+  spent_at s new x y z fuel f a rests = go (subst (λ (n : ℕ). IsAt l b n s x y) f a)
     where
-      go : IsAt l b 0 s x y → RunsAs (ran (runs_for p b.fuel b.first)) x z ends.FuelSpent
-      go a = ran_as (runs_for p 0 (at 0)) FuelSpent ends.FuelSpent x z (at 0).world.wrote a.goes refl refl refl (λ some. same ∙ a.sink some)
+      go : IsAt l b 0 s x y → Comes p in_all x z Spent new
+      go a =
+          let here : Leaves p (at 0).world s = record { heap = ap (λ (m : Machine). m.world.heap) a.is; started = ap (λ (m : Machine). m.world.started) a.is; sized = a.can.sized } in
+          came (replies (at 0).world (RepliesEnd FuelSpent)) Spent x z new a.goes refl (λ some. rests.sink ∙ a.sink some) (subst (Leaves p (at 0).world) (sym rests.state) here)
 
-  pub ends_at : (s new : State) (x y z : Option (List ℕ)) (fuel left : ℕ) (end : End) → fuel ≡ suc left → IsAt l b fuel s x y → EndsWith l (outer l b fuel) s new end y z → RunsAs (ran (runs_for p b.fuel b.first)) x z end
-  ends_at s new x y z fuel left end f a e = go (subst (λ (n : ℕ). IsAt l b n s x y) f a) (subst (λ (n : ℕ). EndsWith l (outer l b n) s new end y z) f e)
+  pub ends_at : (s new : State) (x y z : Option (List ℕ)) (fuel left : ℕ) (reply : Reply) → fuel ≡ suc left → IsAt l b fuel s x y → EndsWith l (outer l b fuel) s new reply y z → Comes p in_all x z reply new
+  ends_at s new x y z fuel left reply f a e = go (subst (λ (n : ℕ). IsAt l b n s x y) f a) (subst (λ (n : ℕ). EndsWith l (outer l b n) s new reply y z) f e)
     where
-      go : IsAt l b (suc left) s x y → EndsWith l (outer l b (suc left)) s new end y z → RunsAs (ran (runs_for p b.fuel b.first)) x z end
+      go : IsAt l b (suc left) s x y → EndsWith l (outer l b (suc left)) s new reply y z → Comes p in_all x z reply new
       go a e =
           let out = outer l b (suc left) in
-          let r : Ended = record { world = world new out; end = e.end } in
-          ran_as r e.end end x z out.wrote (a.goes ∙ ap (λ (q : Stepped). then_runs q (runs_for p left)) (stepped left s x y a ∙ e.ends.ends)) refl refl e.is (λ some. e.ends.sink ∙ a.sink some)
+          let value : returned p (world s out) s.frames.living ≡ value_at (suc left) = ap (λ (m : Machine). returned p m.world m.frames) a.is in
+          let is : IsReplyOf (reply_by (value_at (suc left)) e.end) reply = subst (λ (v : Value). IsReplyOf (reply_by v e.end) reply) value e.is in
+          let g : in_all ≡ replies (world new out) (reply_by (value_at (suc left)) e.end) = meant_by left s x y (Ends (world new out) e.end) a e.ends.ends ∙ then_is (value_at (suc left)) (world new out) e.end (replies_for p left) in
+          came (replies (world new out) (reply_by (value_at (suc left)) e.end)) reply x z new g is (λ some. e.ends.sink ∙ a.sink some) (record { heap = refl; started = refl; sized = e.sized })
 
-  pub fails_at : (s : State) (x y z : Option (List ℕ)) (fuel left : ℕ) → fuel ≡ suc left → IsAt l b fuel s x y → FailsAs l (outer l b fuel) s y z → RunsAs (ran (runs_for p b.fuel b.first)) x z ends.WriteFault
-  fails_at s x y z fuel left f a e = go (subst (λ (n : ℕ). IsAt l b n s x y) f a) (subst (λ (n : ℕ). FailsAs l (outer l b n) s y z) f e)
+  pub fails_at : (s new : State) (x y z : Option (List ℕ)) (fuel left : ℕ) → fuel ≡ suc left → IsAt l b fuel s x y → FailsAs l (outer l b fuel) s y z → Comes p in_all x z WriteFault new
+  fails_at s new x y z fuel left f a e = go (subst (λ (n : ℕ). IsAt l b n s x y) f a) (subst (λ (n : ℕ). FailsAs l (outer l b n) s y z) f e)
     where
-      go : IsAt l b (suc left) s x y → FailsAs l (outer l b (suc left)) s y z → RunsAs (ran (runs_for p b.fuel b.first)) x z ends.WriteFault
+      go : IsAt l b (suc left) s x y → FailsAs l (outer l b (suc left)) s y z → Comes p in_all x z WriteFault new
       go a e =
           let out = outer l b (suc left) in
-          let r = runs_for p left e.next in
-          let front = runs_append p left e.next in
-          let g : runs_for p b.fuel b.first ≡ r = a.goes ∙ ap (λ (q : Stepped). then_runs q (runs_for p left)) (stepped left s x y a ∙ e.goes) in
+          let r = replies_for p left e.next in
+          let front = calls_append p left e.next in
+          let g : in_all ≡ r = meant_by left s x y (Steps e.next) a e.goes in
           let wrote : r.world.wrote ≡ (out.wrote ++ e.bytes) ++ front.more = front.is ∙ ap (λ (bs : List ℕ). bs ++ front.more) e.wrote in
-          let same : ran (runs_for p b.fuel b.first) ≡ Ran ((out.wrote ++ e.bytes) ++ front.more) r.end = ap ran g ∙ ap (λ (bs : List ℕ). Ran bs r.end) wrote in
-          subst (λ (m : Meaning). RunsAs m x z ends.WriteFault) (sym same) (failed ((out.wrote ++ e.bytes) ++ front.more) r.end (λ some. front_behind x z out.wrote e.bytes front.more (subst (λ (o : Option (List ℕ)). GrowsByFront o z e.bytes) (a.sink some) (e.sink (subst IsSome (sym (a.sink some)) (append_some x out.wrote some))))))
+          let grows : IsSome x → GrowsByFront x z ((out.wrote ++ e.bytes) ++ front.more) = λ some. front_behind x z out.wrote e.bytes front.more (subst (λ (o : Option (List ℕ)). GrowsByFront o z e.bytes) (a.sink some) (e.sink (subst IsSome (sym (a.sink some)) (append_some x out.wrote some)))) in
+          subst (λ (q : Replied). Comes p q x z WriteFault new) (sym g) (record { answer = failed r (λ some. subst (GrowsByFront x z) (sym wrote) (grows some)); leaves = λ f. absurd (f refl) })

@@ -1,21 +1,23 @@
 -- One step more, where there is fuel for it.
-use Rattle.std.proofs.Common.{◌≡◌, ◌≢◌, ℕ, zero, suc, ◌-◌, List, refl, sym, subst, arith}
+use Rattle.std.proofs.Common.{◌≡◌, ◌≢◌, ℕ, zero, suc, ◌-◌, List, refl, sym, ap, subst, arith}
 use Rattle.std.specs.Prelude.{Ok, Err}
 use Rattle.std.specs.declared.option.Option.{Option}
 use Rattle.std.specs.declared.result.Result.{Result}
+use Rattle.abc_callmeaning.specs.Calls.{replies_for, returned}
+use Rattle.abc_cells.specs.declared.values.Value.{Value}
 use Rattle.abc_ends.specs.Ending.{IsSized}
 use Rattle.abc_ends.specs.declared.ended.Ended.TheVariants as ended
-use Rattle.abc_machine.specs.Ended.{RunsAs}
+use Rattle.abc_machine.specs.Replied.{plain_value}
 use Rattle.abc_machine.specs.Runs.{Begun, IsAt, outer}
-use Rattle.abc_machine.specs.Spent.{SpendsAs, end_for}
-use Rattle.abc_machine.specs.declared.ends.End.{End}
-use Rattle.abc_machine.specs.declared.ends.End.TheVariants as ends
-use Rattle.abc_machine.proofs.Reaching.{ends_at, fails_at, goes_at, spent_at}
-use Rattle.abc_meaning.specs.Meaning.{ran, runs_for}
+use Rattle.abc_machine.specs.Spent.{SpendsAs, reply_for}
+use Rattle.abc_machine.specs.declared.replies.Reply.{Reply}
+use Rattle.abc_machine.specs.declared.replies.Reply.TheVariants as replies
+use Rattle.abc_machine.proofs.Reaching.{Comes, ends_at, fails_at, goes_at, spent_at}
 use Rattle.abc_meaning.specs.Throwing as meant
+use Rattle.abc_openings.specs.Begun.{setting as setting_of}
 use Rattle.abc_program.specs.Linked.{LinkedFile}
 use Rattle.abc_reached.proofs.Staying.{reached_on}
-use Rattle.abc_states.specs.Outer.{Outer, setting}
+use Rattle.abc_states.specs.Outer.{Outer, setting, world}
 use Rattle.abc_states.specs.declared.state.State.{State}
 use Rattle.abc_reached.specs.Steps.{GoesOnAs, IsReached, StepsAs}
 use Rattle.abc_reached.specs.Halt.{Halt}
@@ -25,40 +27,51 @@ some_left : (n : ℕ) → (n ≡ 0 → ⊥) → n ≡ suc (n - 1)
 some_left zero h = absurd (h refl)
 some_left (suc n) h = omega arith
 
--- a step that ends
-spends : (l : LinkedFile) (out : Outer) (old new : State) (fuel left : ℕ) (h : Halt) (before now : Option (List ℕ)) → fuel ≡ suc left → StepsAs l out old (Err h) new before now → SpendsAs l out old fuel (Err (end_for h)) new left before now
-spends l out old new fuel left halts.Fails before now f a = (f, a)
-spends l out old new fuel left (halts.Returns v) before now f a = (f, record { end = meant.Done; is = refl; ends = a })
-spends l out old new fuel left (halts.Ends (ended.Uncaught thrown)) before now f a = (f, record { end = meant.Uncaught thrown; is = refl; ends = a })
-spends l out old new fuel left (halts.Ends (ended.Profile method index fault)) before now f a = (f, record { end = meant.Profile method index fault; is = refl; ends = a })
-spends l out old new fuel left (halts.Ends (ended.Full limit)) before now f a = (f, record { end = meant.Full limit; is = refl; ends = a })
+-- what a step answers is what its frame would return
+abbrev IsReturned : LinkedFile → Outer → State → Result Unit Halt → Type 0
+IsReturned l out old r = (v : Value) → r ≡ Err (halts.Returns v) → returned (setting l out) (world old out) old.frames.living ≡ v
 
-pub ended_as : (l : LinkedFile) (out : Outer) (old new : State) (fuel : ℕ) (r : Result Unit Halt) (h : Halt) (e : End) (before now : Option (List ℕ)) → r ≡ Err h → e ≡ end_for h → (fuel ≡ 0 → ⊥) → StepsAs l out old r new before now → SpendsAs l out old fuel (Err e) new (fuel - 1) before now
-ended_as l out old new fuel r h e before now is q f a = subst (λ (x : End). SpendsAs l out old fuel (Err x) new (fuel - 1) before now) (sym q) (spends l out old new fuel (fuel - 1) h before now (some_left fuel f) (subst (λ (x : Result Unit Halt). StepsAs l out old x new before now) is a))
+-- where writing didn't fail, the frames may keep what their routines say
+abbrev IsSizedBut : LinkedFile → Outer → State → Result Unit Halt → Type 0
+IsSizedBut l out new r = r ≢ Err halts.Fails → IsSized (setting l out) new.arena.limits new.frames
+
+-- a step that ends
+spends : (l : LinkedFile) (out : Outer) (old new : State) (fuel left : ℕ) (h : Halt) (before now : Option (List ℕ)) → fuel ≡ suc left → StepsAs l out old (Err h) new before now → IsReturned l out old (Err h) → IsSizedBut l out new (Err h) → SpendsAs l out old fuel (Err (reply_for h)) new left before now
+spends l out old new fuel left halts.Fails before now f a value sized = (f, a)
+spends l out old new fuel left (halts.Returns v) before now f a value sized =
+    (f, record { end = meant.Done; is = record { value = returned (setting l out) (world old out) old.frames.living; gives = refl; told = ap plain_value (value v refl) }; ends = a; sized = sized (λ q. absurd cc) })
+spends l out old new fuel left (halts.Ends (ended.Uncaught thrown)) before now f a value sized = (f, record { end = meant.Uncaught thrown; is = refl; ends = a; sized = sized (λ q. absurd cc) })
+spends l out old new fuel left (halts.Ends (ended.Profile method index fault)) before now f a value sized = (f, record { end = meant.Profile method index fault; is = refl; ends = a; sized = sized (λ q. absurd cc) })
+spends l out old new fuel left (halts.Ends (ended.Full limit)) before now f a value sized = (f, record { end = meant.Full limit; is = refl; ends = a; sized = sized (λ q. absurd cc) })
+
+pub ended_as : (l : LinkedFile) (out : Outer) (old new : State) (fuel : ℕ) (r : Result Unit Halt) (h : Halt) (e : Reply) (before now : Option (List ℕ)) → r ≡ Err h → e ≡ reply_for h → (fuel ≡ 0 → ⊥) → StepsAs l out old r new before now → IsReturned l out old r → IsSizedBut l out new r → SpendsAs l out old fuel (Err e) new (fuel - 1) before now
+ended_as l out old new fuel r h e before now is q f a value sized =
+    let done = spends l out old new fuel (fuel - 1) h before now (some_left fuel f) (subst (λ (x : Result Unit Halt). StepsAs l out old x new before now) is a) (subst (IsReturned l out old) is value) (subst (IsSizedBut l out new) is sized) in
+    subst (λ (x : Reply). SpendsAs l out old fuel (Err x) new (fuel - 1) before now) (sym q) done
 
 -- a step that goes on
-pub went_as : (l : LinkedFile) (out : Outer) (old new : State) (fuel : ℕ) (r : Result Unit Halt) (u : Unit) (before now : Option (List ℕ)) → IsReached l out old → r ≡ Ok u → (fuel ≡ 0 → ⊥) → StepsAs l out old r new before now → (r ≢ Err halts.Fails → IsSized (setting l out) new.arena.limits new.frames) → new.given.limit ≡ old.given.limit → SpendsAs l out old fuel (Ok u) new (fuel - 1) before now
+pub went_as : (l : LinkedFile) (out : Outer) (old new : State) (fuel : ℕ) (r : Result Unit Halt) (u : Unit) (before now : Option (List ℕ)) → IsReached l out old → r ≡ Ok u → (fuel ≡ 0 → ⊥) → StepsAs l out old r new before now → IsSizedBut l out new r → new.given.limit ≡ old.given.limit → SpendsAs l out old fuel (Ok u) new (fuel - 1) before now
 went_as l out old new fuel r u before now reach e f a there limit =
-    let sized = there (λ fails. cc) in
+    let sized = (subst (IsSizedBut l out new) e there) (λ q. absurd cc) in
     let g : GoesOnAs l out old new before now = subst (λ (x : Result Unit Halt). StepsAs l out old x new before now) e a in
     (some_left fuel f, record { goes = g; reached = reached_on l out old new before now reach g sized limit })
 
--- the run goes on from there
-pub went_on : (l : LinkedFile) (b : Begun) (s new : State) (x y z : Option (List ℕ)) (fuel left : ℕ) (r : Result Unit End) (u : Unit) → IsAt l b fuel s x y → r ≡ Ok u → SpendsAs l (outer l b fuel) s fuel r new left y z → IsAt l b left new x z
+-- the steps go on from there
+pub went_on : (l : LinkedFile) (b : Begun) (s new : State) (x y z : Option (List ℕ)) (fuel left : ℕ) (r : Result Unit Reply) (u : Unit) → IsAt l b fuel s x y → r ≡ Ok u → SpendsAs l (outer l b fuel) s fuel r new left y z → IsAt l b left new x z
 went_on l b s new x y z fuel left r u a e spent =
-    let d = subst (λ (q : Result Unit End). SpendsAs l (outer l b fuel) s fuel q new left y z) e spent in
+    let d = subst (λ (q : Result Unit Reply). SpendsAs l (outer l b fuel) s fuel q new left y z) e spent in
     goes_at l b fuel left s new x y z d.0 a d.1
 
--- the run ends with it
-spent_as : (l : LinkedFile) (b : Begun) (s new : State) (x y z : Option (List ℕ)) (fuel left : ℕ) (e : End) → IsAt l b fuel s x y → SpendsAs l (outer l b fuel) s fuel (Err e) new left y z → RunsAs (ran (runs_for (record { linked = l; formulas = b.formulas }) b.fuel b.first)) x z e
-spent_as l b s new x y z fuel left ends.Done a r = ends_at l b s new x y z fuel left ends.Done r.0 a r.1
-spent_as l b s new x y z fuel left (ends.Uncaught thrown) a r = ends_at l b s new x y z fuel left (ends.Uncaught thrown) r.0 a r.1
-spent_as l b s new x y z fuel left (ends.Profile method index fault) a r = ends_at l b s new x y z fuel left (ends.Profile method index fault) r.0 a r.1
-spent_as l b s new x y z fuel left ends.FuelSpent a r = spent_at l b s x y z fuel r.0 a r.1
-spent_as l b s new x y z fuel left (ends.Full limit) a r = ends_at l b s new x y z fuel left (ends.Full limit) r.0 a r.1
-spent_as l b s new x y z fuel left ends.WriteFault a r = fails_at l b s x y z fuel left r.0 a r.1
+-- what comes of them
+spent_as : (l : LinkedFile) (b : Begun) (s new : State) (x y z : Option (List ℕ)) (fuel left : ℕ) (e : Reply) → IsAt l b fuel s x y → SpendsAs l (outer l b fuel) s fuel (Err e) new left y z → Comes (setting_of l b.formulas) (replies_for (setting_of l b.formulas) b.fuel b.first) x z e new
+spent_as l b s new x y z fuel left (replies.Value v) a r = ends_at l b s new x y z fuel left (replies.Value v) r.0 a r.1
+spent_as l b s new x y z fuel left (replies.Uncaught thrown) a r = ends_at l b s new x y z fuel left (replies.Uncaught thrown) r.0 a r.1
+spent_as l b s new x y z fuel left (replies.Profile method index fault) a r = ends_at l b s new x y z fuel left (replies.Profile method index fault) r.0 a r.1
+spent_as l b s new x y z fuel left replies.FuelSpent a r = spent_at l b s new x y z fuel r.0 a r.1
+spent_as l b s new x y z fuel left (replies.Full limit) a r = ends_at l b s new x y z fuel left (replies.Full limit) r.0 a r.1
+spent_as l b s new x y z fuel left replies.WriteFault a r = fails_at l b s new x y z fuel left r.0 a r.1
 
-pub ended_on : (l : LinkedFile) (b : Begun) (s new : State) (x y z : Option (List ℕ)) (whole fuel left : ℕ) (r : Result Unit End) (e : End) → b.fuel ≡ whole → IsAt l b fuel s x y → r ≡ Err e → SpendsAs l (outer l b fuel) s fuel r new left y z → RunsAs (ran (runs_for (record { linked = l; formulas = b.formulas }) whole b.first)) x z e
+pub ended_on : (l : LinkedFile) (b : Begun) (s new : State) (x y z : Option (List ℕ)) (whole fuel left : ℕ) (r : Result Unit Reply) (e : Reply) → b.fuel ≡ whole → IsAt l b fuel s x y → r ≡ Err e → SpendsAs l (outer l b fuel) s fuel r new left y z → Comes (setting_of l b.formulas) (replies_for (setting_of l b.formulas) whole b.first) x z e new
 ended_on l b s new x y z whole fuel left r e same a is spent =
-    let d = subst (λ (q : Result Unit End). SpendsAs l (outer l b fuel) s fuel q new left y z) is spent in
-    subst (λ (n : ℕ). RunsAs (ran (runs_for (record { linked = l; formulas = b.formulas }) n b.first)) x z e) same (spent_as l b s new x y z fuel left e a d)
+    let d = subst (λ (q : Result Unit Reply). SpendsAs l (outer l b fuel) s fuel q new left y z) is spent in
+    subst (λ (n : ℕ). Comes (setting_of l b.formulas) (replies_for (setting_of l b.formulas) n b.first) x z e new) same (spent_as l b s new x y z fuel left e a d)

@@ -1,5 +1,7 @@
 pub mod Ended
+pub mod Replied
 pub mod Machines
+pub mod Invoked
 pub mod Runs
 pub mod Spent
 pub use Rattle.abc_openings.specs.Begun as OpeningsBegun

@@ -1,27 +1,59 @@
 -- A machine, as its users see it.
-use Rattle.std.specs.Prelude.{◌≡◌, ℕ, ◌<◌, ◌^◌, List, None}
+use Rattle.std.specs.Prelude.{◌≡◌, ℕ, ◌<◌, ◌^◌, List, [], Bool, false, None, Some}
 use Rattle.std.specs.declared.option.Option.{Option}
 use Rattle.abc_base.specs.declared.formula.Formula.{Formula}
+use Rattle.abc_ends.specs.Ending.{IsSized}
 use Rattle.abc_heap.specs.declared.records.Limits.{Limits}
 use Rattle.abc_machine.specs.declared.ends.End.{End}
-use Rattle.abc_meaning.specs.Meaning.{first_world, too_small}
+use Rattle.abc_machine.specs.declared.ends.End.TheVariants.{Done}
+use Rattle.abc_meaning.specs.Meaning.{first_state, first_world, runs_for, too_small}
+use Rattle.abc_meaning.specs.Sound.{WorldSound}
 use Rattle.abc_objects.specs.Opening.{formula_names}
 use Rattle.abc_openings.specs.Begun.{IsBegun, setting}
 use Rattle.abc_program.specs.Linked.{LinkedFile}
+use Rattle.abc_entering.specs.Arguments.{IsKnown}
+use Rattle.abc_states.specs.World.{World}
 use Rattle.abc_states.specs.declared.state.State.{State}
 
--- what it runs, the names of its host's formulas, in order, its limits, and how its run ended, if one was
+-- what it runs, the names of its host's formulas, in order, its limits, how its run ended, if one was, whether a call failed to
+-- write, which closes it, and the heap and the started scripts: the world in which a call begins, with nothing written
 pub record Opened : Type 0 where
   pub linked : LinkedFile
   pub names : List (List ℕ)
   pub limits : Limits
   pub ended : Option End
+  pub closed : Bool
+  pub world : World
 
 -- a machine that was opened: no limit is too small, and nothing was run
 pub record IsOpened (l : LinkedFile) (formulas : List Formula) (limits : Limits) (m : Opened) : Type 0 where
-  pub is : m ≡ record { linked = l; names = formula_names formulas; limits = limits; ended = None }
+  pub is : m ≡ record { linked = l; names = formula_names formulas; limits = limits; ended = None; closed = false; world = first_world (setting l formulas) limits }
   pub fits : too_small (first_world (setting l formulas) limits).heap ≡ None
+
+-- the world that the run of a machine leaves, beside a host of these formulas
+abbrev pub world_run : Opened → List Formula → (fuel : ℕ) → World
+world_run m formulas fuel = (runs_for (setting m.linked formulas) fuel (first_state (setting m.linked formulas) m.limits)).world
+
+-- its run was done, and no call failed to write
+pub record IsReady (m : Opened) : Type 0 where
+  pub done : m.ended ≡ Some Done
+  pub still : m.closed ≡ false
 
 -- before its run, a machine is in the first state of the meaning, with any formulas of these names
 abbrev pub CanBegin : LinkedFile → State → Type 0
 CanBegin l s = (formulas : List Formula) → formula_names formulas ≡ s.arena.formulas → IsBegun (setting l formulas) s.arena.limits s
+
+abbrev pub kept_world : State → World
+kept_world s = record { heap = s.arena; started = s.started; wrote = [] }
+
+-- between calls its world is sound with any formulas of these names, and no frame lives
+pub record CanGoOn (l : LinkedFile) (s : State) : Type 0 where
+  pub sound : (formulas : List Formula) → formula_names formulas ≡ s.arena.formulas → WorldSound (setting l formulas) (kept_world s)
+  pub sized : (formulas : List Formula) → IsSized (setting l formulas) s.arena.limits s.frames
+  pub none : s.frames.living ≡ []
+  pub known : IsKnown l s.given.limit
+
+-- what a machine keeps, by how its run ended and whether it is closed
+pub record Keeps (l : LinkedFile) (s : State) (ended : Option End) (closed : Bool) : Type 0 where
+  pub begins : ended ≡ None → CanBegin l s × (s.arena.limits.cells < 2 ^ 32)
+  pub goes_on : ended ≡ Some Done → closed ≡ false → CanGoOn l s

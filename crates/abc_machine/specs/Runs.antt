@@ -1,15 +1,17 @@
--- A run that went so many steps.
+-- Steps that went so far, and what they leave.
 use Rattle.std.specs.Prelude.{◌≡◌, ℕ, zero, suc, ◌-◌, ◌≤◌, List, [], IsSome}
 use Rattle.std.specs.Io.KnownBytes.{append_known}
 use Rattle.std.specs.declared.option.Option.{Option}
 use Rattle.abc_base.specs.declared.formula.Formula.{Formula}
-use Rattle.abc_meaning.specs.Meaning.{runs_for}
+use Rattle.abc_callmeaning.specs.Calls.{replies_for}
+use Rattle.abc_ends.specs.Ending.{IsSized}
 use Rattle.abc_meaning.specs.Step.{step}
 use Rattle.abc_meaning.specs.Throwing.{Ends, Machine, Stepped, Steps}
 use Rattle.abc_program.specs.Linked.{LinkedFile}
 use Rattle.abc_states.specs.Outer.{Outer, setting}
 use Rattle.abc_states.specs.declared.state.State.{State}
 use Rattle.abc_reached.specs.Steps.{IsReached, machine}
+use Rattle.abc_states.specs.World.{World}
 use Rattle.abc_states.specs.WorldSetting.{Setting}
 
 -- a step that goes on
@@ -22,7 +24,7 @@ abbrev pub reached : Setting → ℕ → Machine → Machine
 reached p zero q = q
 reached p (suc n) q = on (step p (reached p n q))
 
--- what a run began with: a state, and how many steps it may take
+-- what steps began with: a state, and how many there may be
 pub record Begun : Type 0 where
   pub formulas : List Formula
   pub first : Machine
@@ -32,10 +34,16 @@ pub record Begun : Type 0 where
 abbrev pub outer : LinkedFile → Begun → (left : ℕ) → Outer
 outer l b left = record { formulas = b.formulas; wrote = (reached (record { linked = l; formulas = b.formulas }) (b.fuel - left) b.first).world.wrote }
 
--- all but so many steps were taken, and the run goes on from there
+-- all but so many steps were taken, and they go on from there
 pub record IsAt (l : LinkedFile) (b : Begun) (left : ℕ) (s : State) (before now : Option (List ℕ)) : Type 0 where
   pub few : left ≤ b.fuel
   pub is : machine s (outer l b left) ≡ reached (setting l (outer l b left)) (b.fuel - left) b.first
-  pub goes : runs_for (setting l (outer l b left)) b.fuel b.first ≡ runs_for (setting l (outer l b left)) left (reached (setting l (outer l b left)) (b.fuel - left) b.first)
+  pub goes : replies_for (setting l (outer l b left)) b.fuel b.first ≡ replies_for (setting l (outer l b left)) left (reached (setting l (outer l b left)) (b.fuel - left) b.first)
   pub sink : IsSome before → now ≡ append_known before (outer l b left).wrote
   pub can : IsReached l (outer l b left) s
+
+-- the state that steps leave, where writing didn't fail: the world of the meaning, and frames that may keep what their routines say
+pub record Leaves (p : Setting) (w : World) (s : State) : Type 0 where
+  pub heap : s.arena ≡ w.heap
+  pub started : s.started ≡ w.started
+  pub sized : IsSized p s.arena.limits s.frames

@@ -1,44 +1,74 @@
--- One step more of a run, where there is fuel for it.
+-- One step more, where there is fuel for it.
 use Rattle.std.specs.Prelude.{◌≡◌, ℕ, suc, List, Ok, Err}
 use Rattle.std.specs.declared.option.Option.{Option}
 use Rattle.std.specs.declared.result.Result.{Result}
+use Rattle.abc_callmeaning.specs.Calls as calls
+use Rattle.abc_callmeaning.specs.Calls.{returned}
+use Rattle.abc_cells.specs.declared.values.Value.{Value}
+use Rattle.abc_ends.specs.Ending.{IsSized}
 use Rattle.abc_ends.specs.declared.ended.Ended.TheVariants as ended
-use Rattle.abc_machine.specs.Ended.{IsEndOf}
+use Rattle.abc_machine.specs.Replied.{IsReplyOf, plain_value}
 use Rattle.abc_machine.specs.declared.ends.End.{End}
 use Rattle.abc_machine.specs.declared.ends.End.TheVariants as ends
+use Rattle.abc_machine.specs.declared.replies.Reply.{Reply}
+use Rattle.abc_machine.specs.declared.replies.Reply.TheVariants as replies
 use Rattle.abc_meaning.specs.Throwing as meant
 use Rattle.abc_outward.specs.Outward.{adding}
 use Rattle.abc_program.specs.Linked.{LinkedFile}
-use Rattle.abc_states.specs.Outer.{Outer}
+use Rattle.abc_states.specs.Outer.{Outer, setting, world}
 use Rattle.abc_states.specs.declared.state.State.{State}
 use Rattle.abc_reached.specs.Steps.{EndsAs, FailsAs, GoesOnAs, IsReached}
 use Rattle.abc_reached.specs.Halt.{Halt}
 use Rattle.abc_reached.specs.Halt.TheVariants as halts
 
--- how a run ends where a step does
-abbrev pub end_for : Halt → End
-end_for halts.Fails = ends.WriteFault
-end_for (halts.Returns v) = ends.Done
-end_for (halts.Ends (ended.Uncaught thrown)) = ends.Uncaught thrown
-end_for (halts.Ends (ended.Profile method index fault)) = ends.Profile method index fault
-end_for (halts.Ends (ended.Full limit)) = ends.Full limit
+-- what comes of a call where a step ends
+abbrev pub reply_for : Halt → Reply
+reply_for halts.Fails = replies.WriteFault
+reply_for (halts.Returns v) = replies.Value (plain_value v)
+reply_for (halts.Ends (ended.Uncaught thrown)) = replies.Uncaught thrown
+reply_for (halts.Ends (ended.Profile method index fault)) = replies.Profile method index fault
+reply_for (halts.Ends (ended.Full limit)) = replies.Full limit
+
+-- a run ends as a call would, whose value is not told
+abbrev pub end_for : Reply → End
+end_for (replies.Value v) = ends.Done
+end_for (replies.Uncaught thrown) = ends.Uncaught thrown
+end_for (replies.Profile method index fault) = ends.Profile method index fault
+end_for replies.FuelSpent = ends.FuelSpent
+end_for (replies.Full limit) = ends.Full limit
+end_for replies.WriteFault = ends.WriteFault
+
+-- what comes of a call where a step of the meaning ends, and its frame would return this
+abbrev pub reply_by : Value → meant.End → calls.Reply
+reply_by v meant.Done = calls.Gives v
+reply_by v (meant.Uncaught thrown) = calls.EndsAs (meant.Uncaught thrown)
+reply_by v (meant.Profile method index fault) = calls.EndsAs (meant.Profile method index fault)
+reply_by v meant.FuelSpent = calls.EndsAs meant.FuelSpent
+reply_by v (meant.Full limit) = calls.EndsAs (meant.Full limit)
+reply_by v meant.Stuck = calls.EndsAs meant.Stuck
 
 -- a step ended as the code says, in the state that it leaves
-pub record EndsWith (l : LinkedFile) (out : Outer) (old new : State) (e : End) (before now : Option (List ℕ)) : Type 0 where
+pub record EndsWith (l : LinkedFile) (out : Outer) (old new : State) (reply : Reply) (before now : Option (List ℕ)) : Type 0 where
   pub end : meant.End
-  pub is : IsEndOf end e
+  pub is : IsReplyOf (reply_by (returned (setting l out) (world old out) old.frames.living) end) reply
   pub ends : EndsAs l out old new end before now
+  pub sized : IsSized (setting l out) new.arena.limits new.frames
 
 -- a step went on, to a state that a run reaches
 pub record GoesTo (l : LinkedFile) (out : Outer) (old new : State) (before now : Option (List ℕ)) : Type 0 where
   pub goes : GoesOnAs l out old new before now
   pub reached : IsReached l (adding goes.bytes out) new
 
-abbrev pub SpendsAs : LinkedFile → Outer → (old : State) → (fuel : ℕ) → Result Unit End → (new : State) → (left : ℕ) → (before now : Option (List ℕ)) → Type 0
+-- no step was taken
+pub record Rests (old new : State) (before now : Option (List ℕ)) : Type 0 where
+  pub state : new ≡ old
+  pub sink : now ≡ before
+
+abbrev pub SpendsAs : LinkedFile → Outer → (old : State) → (fuel : ℕ) → Result Unit Reply → (new : State) → (left : ℕ) → (before now : Option (List ℕ)) → Type 0
 SpendsAs l out old fuel (Ok u) new left before now = (fuel ≡ suc left) × GoesTo l out old new before now
-SpendsAs l out old fuel (Err ends.FuelSpent) new left before now = (fuel ≡ 0) × (now ≡ before)
-SpendsAs l out old fuel (Err ends.WriteFault) new left before now = (fuel ≡ suc left) × FailsAs l out old before now
-SpendsAs l out old fuel (Err ends.Done) new left before now = (fuel ≡ suc left) × EndsWith l out old new ends.Done before now
-SpendsAs l out old fuel (Err (ends.Uncaught thrown)) new left before now = (fuel ≡ suc left) × EndsWith l out old new (ends.Uncaught thrown) before now
-SpendsAs l out old fuel (Err (ends.Profile method index fault)) new left before now = (fuel ≡ suc left) × EndsWith l out old new (ends.Profile method index fault) before now
-SpendsAs l out old fuel (Err (ends.Full limit)) new left before now = (fuel ≡ suc left) × EndsWith l out old new (ends.Full limit) before now
+SpendsAs l out old fuel (Err replies.FuelSpent) new left before now = (fuel ≡ 0) × Rests old new before now
+SpendsAs l out old fuel (Err replies.WriteFault) new left before now = (fuel ≡ suc left) × FailsAs l out old before now
+SpendsAs l out old fuel (Err (replies.Value v)) new left before now = (fuel ≡ suc left) × EndsWith l out old new (replies.Value v) before now
+SpendsAs l out old fuel (Err (replies.Uncaught thrown)) new left before now = (fuel ≡ suc left) × EndsWith l out old new (replies.Uncaught thrown) before now
+SpendsAs l out old fuel (Err (replies.Profile method index fault)) new left before now = (fuel ≡ suc left) × EndsWith l out old new (replies.Profile method index fault) before now
+SpendsAs l out old fuel (Err (replies.Full limit)) new left before now = (fuel ≡ suc left) × EndsWith l out old new (replies.Full limit) before now

@@ -1,9 +1,11 @@
-//! The machine: it runs a verified file within stated fuel and limits, just as the meaning says. A run takes no memory once it has
-//! begun.
+//! The machine: it runs a verified file within stated fuel and limits, just as the meaning says, and then calls methods of its last
+//! script on the heap that the run and the calls before left. Neither a run nor a call takes memory.
 #![tactic(auto)]
 
+mod calling;
 mod ends;
 mod machine;
+mod replies;
 mod running;
 
 pub use abc_ends::Thrown;
@@ -11,3 +13,4 @@ pub use abc_heap::Limits;
 pub use abc_objects::OpenError;
 pub use ends::End;
 pub use machine::Machine;
+pub use replies::{PlainValue, Reply};

@@ -1,14 +1,24 @@
-ghost use Rattle.std.specs.Prelude.{◌≡◌, None, Some, MatchResult};
+ghost use Rattle.std.specs.Prelude.{◌≡◌, ◌≢◌, None, Some, MatchResult};
+ghost use Rattle.abc_callmeaning.specs.Calls.{silent};
+ghost use Rattle.abc_callmeaning.specs.Laws.{IsScriptMethod};
+ghost use Rattle.abc_cells.specs.declared.values.Span.{Span};
+ghost use Rattle.abc_heap.specs.Texts.{IsText, text_of};
 ghost use Rattle.abc_machine.specs.Ended.{HasRun, RunsAs};
-ghost use Rattle.abc_machine.specs.Machines.{IsOpened};
+ghost use Rattle.abc_machine.specs.Invoked.{Answers, call_of};
+ghost use Rattle.abc_machine.specs.Machines.{IsOpened, IsReady, world_run};
+ghost use Rattle.abc_machine.specs.Replied.{HasReplied};
 ghost use Rattle.abc_machine.specs.declared.ends.End.{End};
 ghost use Rattle.abc_meaning.specs.Meaning.{meaning};
 ghost use Rattle.abc_objects.specs.Opening.{formula_names};
 ghost use Rattle.abc_openings.specs.Begun.{IsRefused, setting};
 
+use crate::calling::{call_for, is_write_fault};
 use crate::ends::End;
+use crate::replies::Reply;
 use crate::running::run_for;
-use abc_base::{Host, Sink};
+use abc_base::{Host, Plain, Sink};
+use abc_calling::drop_frames;
+use abc_cells::Span;
 use abc_heap::Limits;
 use abc_link::Linked;
 use abc_objects::OpenError;
@@ -18,23 +28,23 @@ use abc_verify::Verified;
 use std::alloc::Global;
 use std::marker::Model;
 
-/// A verified file with all the memory that a run of it may fill, and how its run ended.
+/// A verified file with all the memory that it may fill, how its run ended, and whether a call failed to write.
 #[derive(Drop)]
 pub struct Machine {
     verified: Verified,
     state: State,
     ended: Option<End>,
+    closed: bool,
 }
 
 impl Model for Machine {
-    ghost use Rattle.std.specs.Prelude.{◌≡◌, ◌<◌, ◌^◌, None};
-    ghost use Rattle.abc_machine.specs.Machines.{CanBegin, Opened};
+    ghost use Rattle.abc_machine.specs.Machines.{Keeps, Opened, kept_world};
 
     ghost Value = { Opened };
 
-    ghost view = { λ m. record { linked = m.verified; names = m.state.arena.formulas; limits = m.state.arena.limits; ended = m.ended } };
+    ghost view = { λ m. record { linked = m.verified; names = m.state.arena.formulas; limits = m.state.arena.limits; ended = m.ended; closed = m.closed; world = kept_world m.state } };
 
-    ghost invariant = { λ m. m.ended ≡ None → CanBegin m.verified m.state × (m.state.arena.limits.cells < 2 ^ 32) };
+    ghost invariant = { λ m. Keeps m.verified m.state m.ended m.closed };
 }
 
 impl Machine {
@@ -54,6 +64,7 @@ impl Machine {
             verified,
             state,
             ended: None,
+            closed: false,
         })
     }
 
@@ -64,8 +75,11 @@ impl Machine {
         requires { self.old.ended ≡ None → formula_names (H.formulas host.now) ≡ self.old.names }
         ensures ends { self.old.ended ≡ None → RunsAs (meaning (setting self.old.linked (H.formulas host.now)) self.old.limits fuel) (K.written out.old) (K.written out.new) result }
         ensures cause { self.old.ended ≡ None → HasRun (K.faults out.old) (K.faults out.new) result }
-        ensures again { (end : End) → self.old.ended ≡ Some end → (result ≡ end) × (out.new ≡ out.old) }
+        ensures world { self.old.ended ≡ None → result ≢ End.WriteFault → self.new.world ≡ silent (world_run self.old (H.formulas host.now) fuel) }
+        ensures names { self.old.ended ≡ None → result ≢ End.WriteFault → self.new.names ≡ self.old.names }
+        ensures again { (end : End) → self.old.ended ≡ Some end → (result ≡ end) × (out.new ≡ out.old) × (self.new ≡ self.old) }
         ensures ended { self.new.ended ≡ Some result }
+        ensures closed { self.new.closed ≡ self.old.closed }
         ensures linked { self.new.linked ≡ self.old.linked }
     {
         match self.ended {
@@ -76,10 +90,62 @@ impl Machine {
                 linked.slots_law();
                 self.verified.verified_law();
                 let end = run_for(linked, &mut self.state, fuel, out, host);
+                drop_frames(&mut self.state);
                 self.ended = Some(end);
                 end
             }
         }
+    }
+
+    /// Calls a method trait of the last script with numbers, on the heap that the run and the calls before left, at most `fuel`
+    /// steps. It writes the output of the call's meaning, with the formulas of the host given here, and answers what comes of it,
+    /// or `WriteFault` after a front of that output, only where the sink's count of faults rose; then no other call may follow. It
+    /// takes no memory.
+    pub fn invoke<K: Sink, H: Host>(
+        &mut self,
+        method: u32,
+        args: &Plain,
+        fuel: u32,
+        out: &mut K,
+        host: &H,
+    ) -> Reply
+        requires ready { IsReady self.old }
+        requires names { formula_names (H.formulas host.now) ≡ self.old.names }
+        requires method { IsScriptMethod (setting self.old.linked (H.formulas host.now)) method }
+        ensures answers { Answers self.old self.new (call_of method args.now fuel (H.formulas host.now)) (K.written out.old) (K.written out.new) result }
+        ensures cause { HasReplied (K.faults out.old) (K.faults out.new) result }
+        ensures text { (s : Span) → result ≡ Reply.Value (PlainValue.Text s) → IsText self.new.linked.file.strings self.new.world.heap s }
+    {
+        let linked = self.verified.linked();
+        linked.linked_law();
+        linked.slots_law();
+        self.verified.verified_law();
+        let reply = call_for(linked, &mut self.state, method, args, fuel, out, host);
+        drop_frames(&mut self.state);
+        self.closed = is_write_fault(&reply);
+        reply
+    }
+
+    /// How its run ended, if it was run.
+    pub fn ended(&self) -> Option<End>
+        ensures { result ≡ self.now.ended }
+    {
+        self.ended
+    }
+
+    /// Whether a call failed to write. Then no other may follow.
+    pub fn is_closed(&self) -> bool
+        ensures { result ≡ self.now.closed }
+    {
+        self.closed
+    }
+
+    /// The bytes of a text that a call gave.
+    pub fn text(&self, s: Span) -> &[u8]
+        requires { IsText self.now.linked.file.strings self.now.world.heap s }
+        ensures { result.now ≡ text_of self.now.linked.file.strings self.now.world.heap s }
+    {
+        self.state.arena.text_bytes(self.verified.linked(), s)
     }
 
     /// The linked file that it runs.

@@ -1,42 +1,83 @@
-ghost use Rattle.std.specs.Prelude.{◌≡◌, ◌≤◌, []};
+ghost use Rattle.std.specs.Prelude.{◌≡◌, ◌≢◌, ◌≤◌};
 ghost use Rattle.abc_base.specs.Faults.{Rose};
+ghost use Rattle.abc_callmeaning.specs.Calls.{replies_for};
 ghost use Rattle.abc_machine.specs.Ended.{HasRun, RunsAs};
-ghost use Rattle.abc_machine.specs.Runs.{Begun, IsAt};
-ghost use Rattle.abc_machine.specs.declared.ends.End.TheVariants.{WriteFault};
+ghost use Rattle.abc_machine.specs.Replied.{HasReplied, RepliesAs, plain_value};
+ghost use Rattle.abc_machine.specs.Runs.{Begun, IsAt, Leaves};
+ghost use Rattle.abc_machine.specs.Spent.{SpendsAs, end_for as end_of, reply_for as reply_of};
+ghost use Rattle.abc_machine.specs.declared.ends.End.TheVariants.{WriteFault as FailedRun};
+ghost use Rattle.abc_machine.specs.declared.replies.Reply.TheVariants.{WriteFault};
 ghost use Rattle.abc_meaning.specs.Meaning.{ran, runs_for};
 ghost use Rattle.abc_openings.specs.Begun.{setting};
-ghost use Rattle.abc_states.specs.Outer.{Outer};
 ghost use Rattle.abc_reached.specs.Steps.{IsReached, StepsAs};
-ghost use Rattle.abc_machine.specs.Spent.{SpendsAs, end_for as end_of};
+ghost use Rattle.abc_states.specs.Outer.{Outer};
 
 use crate::ends::End;
+use crate::replies::{PlainValue, Reply};
 use abc_base::{Host, Sink};
+use abc_cells::Value;
 use abc_ends::Ended;
 use abc_link::Linked;
 use abc_reached::Halt;
 use abc_states::State;
 use abc_stepping::step;
 
-/// How a run ends where a step does.
-fn end_for(halt: Halt) -> End
-    ensures { result ≡ end_of halt }
+/// A value as the caller sees it.
+fn plain(value: Value) -> PlainValue
+    ensures { result ≡ plain_value value }
+{
+    match value {
+        Value::Undefined => PlainValue::Undefined,
+        Value::Null => PlainValue::Null,
+        Value::Num(n) => PlainValue::Num(n),
+        Value::Bool(b) => PlainValue::Bool(b),
+        Value::Text(s) => PlainValue::Text(s),
+        Value::Space(_) | Value::Obj(_) => PlainValue::Other,
+    }
+}
+
+/// What comes of a call where a step ends.
+pub(crate) fn reply_for(halt: Halt) -> Reply
+    ensures { result ≡ reply_of halt }
 {
     match halt {
-        Halt::Fails => End::WriteFault,
-        Halt::Returns(_) => End::Done,
-        Halt::Ends(Ended::Uncaught(thrown)) => End::Uncaught(thrown),
+        Halt::Fails => Reply::WriteFault,
+        Halt::Returns(v) => Reply::Value(plain(v)),
+        Halt::Ends(Ended::Uncaught(thrown)) => Reply::Uncaught(thrown),
         Halt::Ends(
             Ended::Profile {
                 method,
                 index,
                 fault,
             },
-        ) => End::Profile {
+        ) => Reply::Profile {
             method,
             index,
             fault,
         },
-        Halt::Ends(Ended::Full(limit)) => End::Full(limit),
+        Halt::Ends(Ended::Full(limit)) => Reply::Full(limit),
+    }
+}
+
+/// How a run ends: as a call would, whose value is not told.
+fn end_for(reply: Reply) -> End
+    ensures { result ≡ end_of reply }
+{
+    match reply {
+        Reply::Value(_) => End::Done,
+        Reply::Uncaught(thrown) => End::Uncaught(thrown),
+        Reply::Profile {
+            method,
+            index,
+            fault,
+        } => End::Profile {
+            method,
+            index,
+            fault,
+        },
+        Reply::FuelSpent => End::FuelSpent,
+        Reply::Full(limit) => End::Full(limit),
+        Reply::WriteFault => End::WriteFault,
     }
 }
 
@@ -47,25 +88,51 @@ fn spend<K: Sink, H: Host>(
     fuel: &mut u32,
     sink: &mut K,
     host: &H,
-) -> Result<(), End>
+) -> Result<(), Reply>
     ghost out: { Outer }
     requires reached { IsReached linked.now out s.old }
     requires host { out.formulas ≡ H.formulas host.now }
     ensures spends { SpendsAs linked.now out s.old fuel.old result s.new fuel.new (K.written sink.old) (K.written sink.new) }
     ensures later { K.faults sink.old ≤ K.faults sink.new }
     ensures cause { result ≡ Err WriteFault → Rose (K.faults sink.old) (K.faults sink.new) }
+    ensures limit { s.new.given.limit ≡ s.old.given.limit }
 {
     if *fuel == 0 {
-        return Err(End::FuelSpent);
+        return Err(Reply::FuelSpent);
     }
     *fuel -= 1;
     match step(linked, s, sink, host) {
         Ok(()) => Ok(()),
-        Err(halt) => Err(end_for(halt)),
+        Err(halt) => Err(reply_for(halt)),
     }
 }
 
 /// Steps, at most `fuel`, until one ends.
+pub(crate) fn take_steps<K: Sink, H: Host>(
+    linked: &Linked,
+    s: &mut State,
+    fuel: u32,
+    sink: &mut K,
+    host: &H,
+) -> Reply
+    ghost begun: { Begun }
+    requires at { IsAt linked.now begun fuel s.old (K.written sink.old) (K.written sink.old) }
+    requires host { begun.formulas ≡ H.formulas host.now }
+    requires whole { begun.fuel ≡ fuel }
+    ensures replies { RepliesAs (replies_for (setting linked.now begun.formulas) fuel begun.first) (K.written sink.old) (K.written sink.new) result }
+    ensures cause { HasReplied (K.faults sink.old) (K.faults sink.new) result }
+    ensures leaves { result ≢ WriteFault → Leaves (setting linked.now begun.formulas) (replies_for (setting linked.now begun.formulas) fuel begun.first).world s.new }
+    ensures limit { s.new.given.limit ≡ s.old.given.limit }
+{
+    let mut left = fuel;
+    loop {
+        if let Err(reply) = spend(linked, s, &mut left, sink, host) {
+            return reply;
+        }
+    }
+}
+
+/// Runs from a state on, at most `fuel` steps.
 pub(crate) fn run_for<K: Sink, H: Host>(
     linked: &Linked,
     s: &mut State,
@@ -77,14 +144,10 @@ pub(crate) fn run_for<K: Sink, H: Host>(
     requires at { IsAt linked.now begun fuel s.old (K.written sink.old) (K.written sink.old) }
     requires host { begun.formulas ≡ H.formulas host.now }
     requires whole { begun.fuel ≡ fuel }
-    requires fresh { begun.first.world.wrote ≡ [] }
     ensures runs { RunsAs (ran (runs_for (setting linked.now begun.formulas) fuel begun.first)) (K.written sink.old) (K.written sink.new) result }
     ensures cause { HasRun (K.faults sink.old) (K.faults sink.new) result }
+    ensures leaves { result ≢ FailedRun → Leaves (setting linked.now begun.formulas) (runs_for (setting linked.now begun.formulas) fuel begun.first).world s.new }
+    ensures limit { s.new.given.limit ≡ s.old.given.limit }
 {
-    let mut left = fuel;
-    loop {
-        if let Err(end) = spend(linked, s, &mut left, sink, host) {
-            return end;
-        }
-    }
+    end_for(take_steps(linked, s, fuel, sink, host))
 }

@@ -1,15 +1,23 @@
-use Rattle.std.proofs.Common.{arith}
-use Rattle.abc_machine.proofs.Spending.{ended_on, went_on}
+use Rattle.std.proofs.Common.{◌≢◌, sym, subst}
+use Rattle.abc_base.specs.declared.formula.Formula.{Formula}
+use Rattle.abc_machine.specs.Ended.{HasRun, RunsAs}
+use Rattle.abc_machine.specs.Runs.{Leaves}
+use Rattle.abc_machine.specs.declared.ends.End.{End}
+use Rattle.abc_machine.specs.declared.ends.End.TheVariants.{WriteFault}
+use Rattle.abc_meaning.specs.Meaning.{ran, runs_for}
+use Rattle.abc_openings.specs.Begun.{setting}
+use Rattle.abc_machine.proofs.Untold.{has_run, run_leaves, run_replied}
 use Rattle.abc_machine.proofs.running.run_for.Goals as goal
 
-pub spend-requires : goal.spend-requires
-spend-requires g c = λ κs among. (among.0, (among.1, (c.loop-end.invariant.0.can, c.requires.1.1.1.0)))
+pub returns-clause-runs : goal.returns-clause-runs
+returns-clause-runs g c =
+    let p = setting c.args.linked.now g.begun.formulas in
+    subst (λ (e : End). RunsAs (ran (runs_for p c.args.fuel g.begun.first)) (g.K.Sink.written c.args.sink.now) (g.K.Sink.written c.take_steps.new.sink) e) (sym c.end_for.ensures) (run_replied p c.args.fuel g.begun.first (g.K.Sink.written c.args.sink.now) (g.K.Sink.written c.take_steps.new.sink) c.take_steps.result c.take_steps.ensures.replies)
 
-pub loop-end-preserved : goal.loop-end-preserved
-loop-end-preserved g c =
-    let more = c.loop-end.invariant.1 in
-    let later = c.spend.ensures.later in
-    (went_on c.args.linked.now g.begun c.loop-end.s c.spend.new.s (g.K.Sink.written c.args.sink.now) (g.K.Sink.written c.loop-end.sink) (g.K.Sink.written c.spend.new.sink) c.loop-end.left c.spend.new.fuel c.spend.result c.in_default.field-0 c.loop-end.invariant.0 c.in_default.is c.spend.ensures.spends, omega (arith, more, later))
+pub returns-clause-cause : goal.returns-clause-cause
+returns-clause-cause g c = subst (HasRun (g.K.Sink.faults c.args.sink.now) (g.K.Sink.faults c.take_steps.new.sink)) (sym c.end_for.ensures) (has_run (g.K.Sink.faults c.args.sink.now) (g.K.Sink.faults c.take_steps.new.sink) c.take_steps.result c.take_steps.ensures.cause)
 
-pub returns-in-Err-clause-runs : goal.returns-in-Err-clause-runs
-returns-in-Err-clause-runs g c = ended_on c.args.linked.now g.begun c.loop-end.s c.spend.new.s (g.K.Sink.written c.args.sink.now) (g.K.Sink.written c.loop-end.sink) (g.K.Sink.written c.spend.new.sink) c.args.fuel c.loop-end.left c.spend.new.fuel c.spend.result c.in-Err.end c.requires.1.1.1.1.0 c.loop-end.invariant.0 c.in-Err.is c.spend.ensures.spends
+pub returns-clause-leaves : goal.returns-clause-leaves
+returns-clause-leaves g c =
+    let p = setting c.args.linked.now g.begun.formulas in
+    subst (λ (e : End). e ≢ WriteFault → Leaves p (runs_for p c.args.fuel g.begun.first).world c.take_steps.new.s) (sym c.end_for.ensures) (run_leaves p c.args.fuel g.begun.first c.take_steps.result c.take_steps.new.s c.take_steps.ensures.leaves)

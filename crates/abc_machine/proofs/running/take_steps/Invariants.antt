@@ -1,0 +1,12 @@
+use Rattle.std.proofs.Common.{◌≡◌, ◌≤◌}
+use Rattle.abc_machine.specs.Runs.{IsAt, outer}
+use Rattle.abc_machine.proofs.running.take_steps.Given as goal
+
+abbrev pub ghost-spend : goal.ghost-spend
+ghost-spend g a = outer a.linked.now g.begun a.fuel.now
+
+abbrev pub invariant-loop-reply : goal.invariant-loop-reply
+invariant-loop-reply g l = IsAt l.linked g.begun l.left l.s (g.K.Sink.written l.initial.sink) (g.K.Sink.written l.sink) × (g.K.Sink.faults l.initial.sink ≤ g.K.Sink.faults l.sink) × (l.s.given.limit ≡ l.initial.s.given.limit)
+
+abbrev pub decreases-loop-reply : goal.decreases-loop-reply
+decreases-loop-reply g l = l.left

@@ -1,0 +1,67 @@
+-- What a session answers to one call, and to calls one after the other.
+use Rattle.std.specs.Prelude.{◌≡◌, ◌≢◌, ℕ, ◌≤◌, List, [], ◌∷◌, true, Some, map, All}
+use Rattle.std.specs.declared.option.Option.{Option}
+use Rattle.abc_base.specs.Faults.{Rose}
+use Rattle.abc_callmeaning.specs.Calls.{Call, Replied, session}
+use Rattle.abc_machine.specs.Invoked.{Answers}
+use Rattle.abc_machine.specs.Machines.{IsReady, Opened}
+use Rattle.abc_machine.specs.Replied.{RepliesAs}
+use Rattle.abc_machine.specs.declared.ends.End.TheVariants.{Done}
+use Rattle.abc_machine.specs.declared.replies.Reply.{Reply}
+use Rattle.abc_machine.specs.declared.replies.Reply.TheVariants.{WriteFault}
+use Rattle.abc_session.specs.declared.replies.SessionReply.{SessionReply}
+use Rattle.abc_session.specs.declared.replies.SessionReply.TheVariants as answers
+
+-- nothing was done
+pub record Rests (old new : Opened) (before now : Option (List ℕ)) : Type 0 where
+  pub same : new ≡ old
+  pub sink : now ≡ before
+
+-- a session that no start made ready, one that a failed call closed, and one that does the call
+pub record IsUnready (old new : Opened) (before now : Option (List ℕ)) : Type 0 where
+  pub unready : old.ended ≢ Some Done
+  pub rests : Rests old new before now
+
+pub record IsClosed (old new : Opened) (before now : Option (List ℕ)) : Type 0 where
+  pub done : old.ended ≡ Some Done
+  pub closed : old.closed ≡ true
+  pub rests : Rests old new before now
+
+pub record DoesCall (old new : Opened) (c : Call) (before now : Option (List ℕ)) (reply : Reply) : Type 0 where
+  pub ready : IsReady old
+  pub answers : Answers old new c before now reply
+
+-- what a session answers to a call, and what it leaves
+abbrev pub AnswersIn : (old new : Opened) → Call → (before now : Option (List ℕ)) → SessionReply → Type 0
+AnswersIn old new c before now (answers.Reply reply) = DoesCall old new c before now reply
+AnswersIn old new c before now answers.NotReady = IsUnready old new before now
+AnswersIn old new c before now answers.Closed = IsClosed old new before now
+
+-- the sink's count of faults never falls, and it rose where writing failed
+pub record HasCalled (before now : ℕ) (reply : SessionReply) : Type 0 where
+  pub later : before ≤ now
+  pub failed : reply ≡ answers.Reply WriteFault → Rose before now
+
+-- ---- calls one after the other
+
+-- a call that was made, what was answered, and what the sink had before and after it, where it tells that
+pub record Made : Type 0 where
+  pub call : Call
+  pub reply : SessionReply
+  pub before : Option (List ℕ)
+  pub now : Option (List ℕ)
+
+-- a session was asked these, one after the other
+pub data AreMade : Opened → List Made → Type 0 where
+  nothing : (m : Opened) → AreMade m []
+  more : (old new : Opened) (d : Made) (ds : List Made) → AnswersIn old new d.call d.before d.now d.reply → AreMade new ds → AreMade old (d ∷ ds)
+
+-- each is answered by its meaning, until writing fails; after that the session is closed
+pub data Follow : List Replied → List Made → Type 0 where
+  none : Follow [] []
+  replied : (r : Replied) (rs : List Replied) (d : Made) (ds : List Made) (reply : Reply) → d.reply ≡ answers.Reply reply → reply ≢ WriteFault → RepliesAs r d.before d.now reply → Follow rs ds → Follow (r ∷ rs) (d ∷ ds)
+  failed : (r : Replied) (rs : List Replied) (d : Made) (ds : List Made) → d.reply ≡ answers.Reply WriteFault → RepliesAs r d.before d.now WriteFault → All (λ e. e.reply ≡ answers.Closed) ds → Follow (r ∷ rs) (d ∷ ds)
+
+-- every list of calls that a ready session is asked is answered by the calls' meanings, each in the world that the one before left
+abbrev pub CallsFollow : Type 0
+CallsFollow = (m : Opened) (ds : List Made) → IsReady m → AreMade m ds → Follow (session m.linked m.world (map (λ d. d.call) ds)) ds

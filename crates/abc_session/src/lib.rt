@@ -1,0 +1,13 @@
+//! Sessions: a verified file is opened once, its last script is run, and its exported functions are called again and again on the heap
+//! that the calls before left. Only to open one takes memory.
+#![tactic(auto)]
+
+mod exports;
+mod laws;
+mod replies;
+mod session;
+
+pub use abc_machine::{End, OpenError, PlainValue, Reply, Thrown};
+pub use laws::calls_follow;
+pub use replies::SessionReply;
+pub use session::Session;

@@ -1,0 +1,12 @@
+use abc_machine::Reply;
+
+/// What a session answers to a call.
+#[derive(Clone, Copy)]
+pub enum SessionReply {
+    /// What came of the call.
+    Reply(Reply),
+    /// No start answered `Done`.
+    NotReady,
+    /// A call before answered `WriteFault`.
+    Closed,
+}
