@@ -1,14 +1,11 @@
 -- How `gen` ends: a run of the generated file, and then the lines on it.
 use Rattle.std.proofs.Common.{◌≡◌, ◌≢◌, ◌⊎◌, ℕ, ◌+◌, ◌≤◌, inl, inr, List, [], ◌++◌, Some, None, refl, sym, ap, ◌∙◌, subst, arith}
-use Rattle.std.specs.Prelude.{IsSome}
 use Rattle.std.specs.declared.option.Option.{Option}
-use Rattle.std.specs.Io.KnownBytes.{append_known}
 use Rattle.abc_base.specs.Faults.{Rose}
-use Rattle.abc_base.specs.Sinks.{GrowsByFront}
 use Rattle.abc_base.specs.declared.formula.Formula.{Formula}
 use Rattle.abc_base.specs.declared.status.Status.{Status}
 use Rattle.abc_base.specs.declared.status.Status.TheVariants as status
-use Rattle.abc_base.proofs.Writing.{front_first, front_second, known_twice}
+use Rattle.abc_base.proofs.Writing.{front_first}
 use Rattle.abc_gen.specs.Generated.{generated}
 use Rattle.abc_gen.specs.Measured.{measured}
 use Rattle.abc_tables.specs.Files.{file_bytes}
@@ -19,6 +16,7 @@ use Rattle.abc_cli.specs.End.{Channel, channel, Got, GivesBytes, GivesLine, IsEn
 use Rattle.abc_cli.specs.Lines.{no_memory_text}
 use Rattle.abc_cli.specs.Outcome.{Gen, On}
 use Rattle.abc_cli.specs.Runs.{Run, default_options}
+use Rattle.abc_ticks.proofs.Pieces.{front_both, got_both}
 use Rattle.abc_cli.proofs.Ending.{bytes_failed, weaker}
 use Rattle.abc_cli.proofs.Running.{memory_runs, runs_weaker, told_quiet}
 
@@ -41,21 +39,6 @@ pub memory_quiet : (err : Channel) (s : Status) → GivesLine err (told status.N
 memory_quiet err s line d = told_quiet err status.NoMemory no_memory_text s (λ h. cc) line d
 
 -- ---- one piece after the other
-
-some_known : (old mid : Option (List ℕ)) (xs : List ℕ) → mid ≡ append_known old xs → IsSome old → IsSome mid
-some_known None mid xs e s = absurd cc
-some_known (Some ys) None xs e s = absurd cc
-some_known (Some ys) (Some zs) xs e s = refl
-
-got_both : (old mid new : Option (List ℕ)) (xs ys : List ℕ) → (IsSome old → mid ≡ append_known old xs) → (IsSome mid → new ≡ append_known mid ys) → IsSome old → new ≡ append_known old (xs ++ ys)
-got_both old mid new xs ys f g s =
-    let e = f s in
-    g (some_known old mid xs e s) ∙ ap (λ (o : Option (List ℕ)). append_known o ys) e ∙ known_twice old xs ys
-
-front_both : (old mid new : Option (List ℕ)) (xs ys : List ℕ) → (IsSome old → mid ≡ append_known old xs) → (IsSome mid → GrowsByFront mid new ys) → IsSome old → GrowsByFront old new (xs ++ ys)
-front_both old mid new xs ys f g s =
-    let e = f s in
-    front_second old new xs ys (subst (λ (o : Option (List ℕ)). GrowsByFront o new ys) e (g (some_known old mid xs e s)))
 
 rose_later : (n m k : ℕ) → n ≤ m → Rose m k → Rose n k
 rose_later n m k le r = omega (arith, le, r)

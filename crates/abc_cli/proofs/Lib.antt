@@ -4,5 +4,6 @@ pub mod Listings
 pub mod Usages
 pub mod Running
 pub mod Generating
+pub mod Called
 pub mod Assembling
 pub mod VerifiedLine

@@ -194,11 +194,11 @@ ended_quiet v starts wrote meant.FuelSpent a is d = let k = ap (λ (x : Answer).
 ended_quiet v starts wrote (meant.Full limit) a is d = let k = ap (λ (x : Answer). x.status) is in absurd cc
 ended_quiet v starts wrote meant.Stuck a is d = absurd is
 
-meant_quiet : (v : Abc) (starts : List (List ℕ)) (m : Meaning) (a : Answer) → IsMeant v starts m a → a.status ≡ status.Done → a.err ≡ []
+pub meant_quiet : (v : Abc) (starts : List (List ℕ)) (m : Meaning) (a : Answer) → IsMeant v starts m a → a.status ≡ status.Done → a.err ≡ []
 meant_quiet v starts (TooSmall limit) a is d = let k = ap (λ (x : Answer). x.status) is in absurd cc
 meant_quiet v starts (Ran wrote e) a is d = ended_quiet v starts wrote e a is d
 
-unverified_quiet : (v : Abc) (starts : List (List ℕ)) (a : Answer) → Unverified v starts a → a.status ≡ status.Done → a.err ≡ []
+pub unverified_quiet : (v : Abc) (starts : List (List ℕ)) (a : Answer) → Unverified v starts a → a.status ≡ status.Done → a.err ≡ []
 unverified_quiet v starts a (Unverified.unlinked rule i h x) d = let k = ap (λ (y : Answer). y.status) x in absurd cc
 unverified_quiet v starts a (Unverified.untyped l m b i rule is linked h x) d = let k = ap (λ (y : Answer). y.status) x in absurd cc
 

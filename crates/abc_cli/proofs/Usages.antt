@@ -10,6 +10,7 @@ use Rattle.abc_base.specs.declared.status.Status.TheVariants as status
 use Rattle.abc_words.specs.declared.command.Command.{Command}
 use Rattle.abc_words.specs.declared.command.Command.TheVariants as commands
 use Rattle.abc_words.specs.declared.command.RunOptions.{RunOptions}
+use Rattle.abc_words.specs.declared.command.CallsOptions.{CallsOptions}
 use Rattle.abc_words.specs.declared.command.GenOptions.{GenOptions}
 use Rattle.abc_words.specs.declared.command.Usage.{Usage}
 use Rattle.abc_words.specs.declared.command.Usage.TheVariants as usages
@@ -17,16 +18,20 @@ use Rattle.abc_words.specs.Commands.{Setting}
 use Rattle.abc_words.specs.Grammar.{GiveAll, GivesOne, IsDefault, IsUsageWord, Says}
 use Rattle.abc_cli.specs.Answers.{Answer, OfFile, OfFileRead, Unverified}
 use Rattle.abc_cli.specs.Outcome.{Asm, AsksNoInput, Canon, Check, CommandOutcome, Dis, Gen, IsUsage, On, OutcomeOf, Tidy, UsageOutcome, reads_input, usage_answer}
+use Rattle.abc_ticks.specs.Ticks.{calls_meaning}
+use Rattle.abc_cli.specs.Calls.{Calls, IsCalled}
 use Rattle.abc_cli.specs.Runs.{IsEnded, IsMeant, Run, default_options, limits_of}
 use Rattle.abc_base.specs.declared.formula.Formula.{Formula}
 use Rattle.abc_gen.specs.Generated.{generated}
 use Rattle.abc_meaning.specs.Meaning.{Meaning, Ran, TooSmall, meaning}
+use Rattle.abc_meaning.specs.WorldSetting.{Setting}
 use Rattle.abc_meaning.specs.Throwing.{Done, End, FuelSpent, Full, Profile, Stuck, Uncaught}
 use Rattle.abc_tables.specs.declared.tables.Abc.{Abc}
 use Rattle.abc_tables.specs.Files.{file_bytes}
 use Rattle.abc_cli.specs.End.{Channel, Ends, GivesLine, HasFailed, IsEnd, RunsTo}
 use Rattle.abc_cli.specs.Stops.{Gives, IsGiven, Stops}
 use Rattle.abc_cli.specs.declared.stop.Stop.{Stop}
+use Rattle.abc_cli.proofs.Called.{calls_on_quiet}
 use Rattle.abc_cli.proofs.Ending.{any_input, finished, weaker}
 use Rattle.abc_cli.proofs.Running.{runs_end, runs_on_quiet}
 
@@ -126,6 +131,19 @@ runs_not_usage : (o : RunOptions) (fs : List Formula) (input : List ℕ) (a : An
 runs_not_usage o fs input a (OfFileRead.accepted v starts f x) e = run_not_usage o fs v starts a x e
 runs_not_usage o fs input a (OfFileRead.refused r f x) e = let h = ap (λ (y : Answer). y.status) x in cc
 
+called_not_usage : (o : CallsOptions) (p : Setting) (starts : List (List ℕ)) (a : Answer) → IsCalled o p starts a → a.status ≡ status.Usage → ⊥
+called_not_usage o p starts a (IsCalled.unopened limit small is) e = let h = ap (λ (y : Answer). y.status) is in cc
+called_not_usage o p starts a (IsCalled.unexported fits exports is) e = let h = ap (λ (y : Answer). y.status) is in cc
+called_not_usage o p starts a (IsCalled.ran method fits exports is) e = meant_not_usage p.linked.file starts (calls_meaning p (limits_of o.run) o.run.fuel o.times method) a is e
+
+call_not_usage : (o : CallsOptions) (fs : List Formula) (v : Abc) (starts : List (List ℕ)) (a : Answer) → Calls o fs v starts a → a.status ≡ status.Usage → ⊥
+call_not_usage o fs v starts a (Calls.unverified u) e = unverified_not_usage v starts a u e
+call_not_usage o fs v starts a (Calls.verified l is x) e = called_not_usage o (record { linked = l; formulas = fs }) starts a x e
+
+calls_not_usage : (o : CallsOptions) (fs : List Formula) (input : List ℕ) (a : Answer) → OfFileRead (Calls o fs) input a → a.status ≡ status.Usage → ⊥
+calls_not_usage o fs input a (OfFileRead.accepted v starts f x) e = call_not_usage o fs v starts a x e
+calls_not_usage o fs input a (OfFileRead.refused r f x) e = let h = ap (λ (y : Answer). y.status) x in cc
+
 gen_not_usage : (o : GenOptions) (fs : List Formula) (a : Answer) → Gen o fs a → a.status ≡ status.Usage → ⊥
 gen_not_usage o fs a (Gen.done b x d is) e = let h = ap (λ (y : Answer). y.status) is in cc
 gen_not_usage o fs a (Gen.not_done x d) e = runs_not_usage default_options fs (file_bytes (generated o.seed o.methods)) a x e
@@ -138,6 +156,7 @@ outcome_not_usage fs commands.Check input a o e = checked_not_usage input a o e
 outcome_not_usage fs commands.Tidy input a o e = file_not_usage Tidy tidy_not_usage input a o e
 outcome_not_usage fs (commands.Run options) input a o e = runs_not_usage options fs input a o e
 outcome_not_usage fs (commands.Gen options) input a o e = gen_not_usage options fs a o e
+outcome_not_usage fs (commands.Calls options) input a o e = calls_not_usage options fs input a o e
 
 command_not_usage : (fs : List Formula) (c : Command) (input : Option (List ℕ)) (a : Answer) → CommandOutcome fs c input a → a.status ≡ status.Usage → ⊥
 command_not_usage fs c (Some b) a o e = outcome_not_usage fs c b a o e
@@ -164,6 +183,11 @@ pub run_ends : (fs : List Formula) (command : Command) (o : RunOptions) (source 
     → Ends (CommandOutcome fs command) source out err s
 run_ends fs command o source out err s e end =
     subst (λ (d : Command). Ends (CommandOutcome fs d) source out err s) (sym e) (runs_end (On (OfFileRead (Run o fs)) source.before) (HasFailed source) out err s (runs_on_quiet o fs source.before) end)
+
+pub calls_ends : (fs : List Formula) (command : Command) (o : CallsOptions) (source out err : Channel) (s : Status) → command ≡ commands.Calls o → RunsTo (On (OfFileRead (Calls o fs)) source.before) (HasFailed source) out err s
+    → Ends (CommandOutcome fs command) source out err s
+calls_ends fs command o source out err s e end =
+    subst (λ (d : Command). Ends (CommandOutcome fs d) source out err s) (sym e) (runs_end (On (OfFileRead (Calls o fs)) source.before) (HasFailed source) out err s (calls_on_quiet o fs source.before) end)
 
 pub gen_ends : (fs : List Formula) (command : Command) (o : GenOptions) (source out err : Channel) (s : Status) → command ≡ commands.Gen o → IsEnd (Gen o fs) ⊥ out err s → Ends (CommandOutcome fs command) source out err s
 gen_ends fs command o source out err s e end =

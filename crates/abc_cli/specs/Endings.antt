@@ -1,13 +1,9 @@
 -- What is answered of an end that the machine answers, and of a machine that isn't opened.
-use Rattle.std.specs.Prelude.{◌≡◌, ◌≢◌, ℕ, ◌<◌, List, [], get_or, length, unwrap_or}
+use Rattle.std.specs.Prelude.{ℕ, ◌<◌, List, [], get_or, length, unwrap_or}
 use Rattle.abc_base.specs.Names.{fault_name}
-use Rattle.abc_base.specs.declared.names.Fault.{Fault}
 use Rattle.abc_base.specs.declared.status.Status.TheVariants as status
 use Rattle.abc_machine.specs.declared.ends.End.{End}
 use Rattle.abc_machine.specs.declared.ends.End.TheVariants as ends
-use Rattle.abc_faults.specs.Placed.{IsInstruction}
-use Rattle.abc_meaning.specs.Meaning.{Meaning, Ran}
-use Rattle.abc_meaning.specs.Throwing.{Profile, Stuck}
 use Rattle.abc_objects.specs.declared.error.OpenError.{OpenError}
 use Rattle.abc_objects.specs.declared.error.OpenError.TheVariants as errors
 use Rattle.abc_program.specs.Owners.{body_of}
@@ -32,11 +28,6 @@ HasPlace v starts m i = (unwrap_or (body_of v m) 0 < length starts) × (i < leng
 abbrev pub IsPlacedEnd : Abc → List (List ℕ) → End → Type 0
 IsPlacedEnd v starts (ends.Profile m i fault) = HasPlace v starts m i
 IsPlacedEnd v starts other = Unit {0}
-
--- how a run ends can be told: it is never stuck, and a fault has its place at an instruction
-pub record CanBeTold (v : Abc) (m : Meaning) : Type 0 where
-  pub unstuck : (wrote : List ℕ) → m ≢ Ran wrote Stuck
-  pub placed : (wrote : List ℕ) (n i : ℕ) (fault : Fault) → m ≡ Ran wrote (Profile n i fault) → IsInstruction v n i
 
 -- what is answered where no machine is opened
 abbrev pub open_answer : OpenError → Answer

@@ -1,6 +1,7 @@
 pub mod Lines
 pub mod Answers
 pub mod Runs
+pub mod Calls
 pub mod Outcome
 pub mod End
 pub mod Listed

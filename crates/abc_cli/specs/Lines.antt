@@ -66,6 +66,10 @@ untyped_text m offset rule = code_text m offset (verify_rule_name rule)
 unfoldable pub verified_line : ℕ → List ℕ
 verified_line n = codes "verified " ++ decimal n ++ 10 ∷ []
 
+-- a file that doesn't export the function that is called
+unfoldable pub no_export_text : List ℕ
+no_export_text = place_text (codes "file") 0 (codes "NoExport")
+
 unfoldable pub read_fault_text : List ℕ
 read_fault_text = codes "read fault"
 

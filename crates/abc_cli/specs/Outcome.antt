@@ -23,6 +23,7 @@ use Rattle.abc_words.specs.declared.command.Usage.{Usage}
 use Rattle.abc_words.specs.declared.command.Usage.TheVariants as usages
 use Rattle.abc_cli.specs.Answers.{Answer, IsVerifiedOf, OfFile, OfFileRead, Unverified, given, told}
 use Rattle.abc_cli.specs.Lines.{fault_text, no_command_text, tidy_text, usage_text, verified_line}
+use Rattle.abc_cli.specs.Calls.{Calls}
 use Rattle.abc_cli.specs.Runs.{Run, default_options}
 
 -- ---- commands
@@ -69,6 +70,7 @@ OutcomeOf formulas commands.Check input a = OfFileRead Check input a
 OutcomeOf formulas commands.Tidy input a = OfFile Tidy input a
 OutcomeOf formulas (commands.Run options) input a = OfFileRead (Run options formulas) input a
 OutcomeOf formulas (commands.Gen options) input a = Gen options formulas a
+OutcomeOf formulas (commands.Calls options) input a = OfFileRead (Calls options formulas) input a
 
 -- an outcome on the input that a source tells, or else on some input
 abbrev pub On : (List ℕ → Answer → Type 0) → Option (List ℕ) → Answer → Type 0
@@ -86,6 +88,7 @@ reads_input commands.Check = true
 reads_input commands.Tidy = true
 reads_input (commands.Run options) = true
 reads_input (commands.Gen options) = false
+reads_input (commands.Calls options) = true
 
 -- ---- words outside the grammar
 

@@ -2,6 +2,7 @@
 #![tactic(auto)]
 
 mod asm;
+mod calls;
 mod canon;
 mod check;
 mod dis;

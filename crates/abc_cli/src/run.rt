@@ -2,9 +2,9 @@ ghost use Rattle.std.specs.Prelude.{◌≡◌, ◌≤◌, ◌<◌, ◌^◌, None
 ghost use Rattle.abc_bodies.specs.Places.{ArePlaces};
 ghost use Rattle.abc_cli.specs.Answers.{IsVerifiedOf, OfFileRead};
 ghost use Rattle.abc_cli.specs.End.{HasFailed, RunsTo, UsesUp, stream};
-ghost use Rattle.abc_cli.specs.Endings.{CanBeTold};
 ghost use Rattle.abc_cli.specs.Outcome.{On};
 ghost use Rattle.abc_cli.specs.Runs.{IsMeant, Run, limits_of as limits_in};
+ghost use Rattle.abc_faults.specs.Placed.{CanBeTold};
 ghost use Rattle.abc_machine.specs.OpeningsBegun.{setting};
 ghost use Rattle.abc_meaning.specs.Laws.{AreCounted, IsVerified};
 ghost use Rattle.abc_meaning.specs.Meaning.{meaning};
@@ -31,7 +31,7 @@ fn counted(cells: u32) -> u32
 }
 
 /// The limits of a run.
-fn limits_of(options: &RunOptions) -> Limits
+pub(crate) fn limits_of(options: &RunOptions) -> Limits
     ensures is { result ≡ limits_in options.now }
     ensures counted { AreCounted result }
 {

@@ -7,6 +7,7 @@ ghost use Rattle.abc_cli.specs.Listed.{Lists};
 ghost use Rattle.abc_words.specs.Grammar.{IsWellFormed, Says};
 
 use crate::asm::asm;
+use crate::calls::calls;
 use crate::canon::canon;
 use crate::check::check;
 use crate::dis::dis;
@@ -42,6 +43,7 @@ fn run_command<S: Source, K: Sink, E: Sink, H: Host>(
         Command::Asm => give(asm(alloc, source), out, err),
         Command::Run(options) => run(alloc, options, source, out, err, host),
         Command::Gen(options) => generate(alloc, options, out, err, host),
+        Command::Calls(options) => calls(alloc, options, source, out, err, host),
     }
 }
 

@@ -31,7 +31,7 @@ use Rattle.abc_faults.proofs.Stopping.{TellsAt, puts_tells, settles_tells, stops
 
 module _ (p : Setting) (typings : Typings) (v : IsVerified p) (typed : AreTypings p typings) where
   -- a place that has a state is an instruction
-  placed : (n i : ℕ) (r : Routine) (s : State) → routine_of p n ≡ Some r → typings n i ≡ Some s → IsInstruction p.linked.file n i
+  pub placed : (n i : ℕ) (r : Routine) (s : State) → routine_of p n ≡ Some r → typings n i ≡ Some s → IsInstruction p.linked.file n i
   placed n i r s e at = go (body_of p.linked.file n) refl e
     where
       go : (o : Option ℕ) → body_of p.linked.file n ≡ o → routine_in p o ≡ Some r → IsInstruction p.linked.file n i
@@ -53,7 +53,7 @@ module _ (p : Setting) (typings : Typings) (v : IsVerified p) (typed : AreTyping
   below_placed w f s = placed f.method f.place s.stands.routine s.catches.state s.stands.body s.catches.typed
 
   -- the init of the last script, at its first instruction
-  init_placed : IsInstruction p.linked.file (script_at p.linked.file (last_script p)).init 0
+  pub init_placed : IsInstruction p.linked.file (script_at p.linked.file (last_script p)).init 0
   init_placed =
       let given = file_given p v.linked in
       let some = given.one_script in
@@ -66,7 +66,7 @@ module _ (p : Setting) (typings : Typings) (v : IsVerified p) (typed : AreTyping
   -- ---- a step
 
   module _ (m i : ℕ) (fault : Fault) where
-    there : (n j : ℕ) (x : Fault) → IsInstruction p.linked.file n j → Profile n j x ≡ Profile m i fault → IsInstruction p.linked.file m i
+    pub there : (n j : ℕ) (x : Fault) → IsInstruction p.linked.file n j → Profile n j x ≡ Profile m i fault → IsInstruction p.linked.file m i
     there n j x is e =
         let a : n ≡ m = cc in
         let b : j ≡ i = cc in
@@ -95,7 +95,7 @@ module _ (p : Setting) (typings : Typings) (v : IsVerified p) (typed : AreTyping
         let k = stops_tells p m i fault n (f ∷ fs) why t in
         there f.method f.place k.0 (newest_placed w f s.0) k.1
 
-    step_placed : (w : World) (fs : List Frame) → FramesSound p typings w.heap fs → TellsAt (step_of p w fs) m i fault → IsInstruction p.linked.file m i
+    pub step_placed : (w : World) (fs : List Frame) → FramesSound p typings w.heap fs → TellsAt (step_of p w fs) m i fault → IsInstruction p.linked.file m i
     step_placed w [] s t = first_placed (starts p (last_script p) w) t
     step_placed w (f ∷ fs) s t = acted_placed w f fs (runs p f (routine_of p f.method) w) s t
 

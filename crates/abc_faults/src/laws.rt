@@ -1,6 +1,7 @@
-ghost use Rattle.abc_faults.specs.Placed.{FaultsArePlaced};
+ghost use Rattle.abc_faults.specs.Placed.{CallsCanBeTold, FaultsArePlaced, RunsEndSound};
 ghost use Rattle.abc_meaning.specs.Laws.{IsNeverStuck};
 
+use abc_callmeaning::{calls_leave_sound, runs_leave_sound};
 use abc_unstuck::verified_files_never_stick;
 
 /// The end of a run of a verified file can be told: it is never stuck, and where it is a fault of the profile, its method has a
@@ -10,4 +11,13 @@ pub fn ends_can_be_told()
     ensures placed { FaultsArePlaced }
 {
     verified_files_never_stick();
+}
+
+/// What comes of a call of a verified file can be told in the same way, on what its run and the calls before left.
+pub fn calls_can_be_told()
+    ensures runs { RunsEndSound }
+    ensures calls { CallsCanBeTold }
+{
+    runs_leave_sound();
+    calls_leave_sound();
 }

@@ -15,10 +15,11 @@ use Rattle.abc_words.specs.declared.command.Usage.TheVariants as usages
 use Rattle.abc_words.specs.declared.given.GivenRun.{GivenRun}
 use Rattle.abc_words.specs.declared.given.GivenGen.{GivenGen}
 use Rattle.abc_words.specs.declared.given.GivenNone.{GivenNone}
-use Rattle.abc_words.specs.Commands.{CommandOption, Setting, setting, word_of, settings_of, fuel, objects, cells, text, frames, stack, seed, methods}
+use Rattle.abc_words.specs.declared.given.GivenCalls.{GivenCalls}
+use Rattle.abc_words.specs.Commands.{CommandOption, Setting, setting, word_of, settings_of, fuel, objects, cells, text, frames, stack, seed, methods, times}
 use Rattle.abc_words.specs.Grammar.{GiveAll, Says, IsWellFormed, CanBegin, IsUsageWord, IsDefault}
 use Rattle.abc_words.specs.Grammar.GiveAll.{none}
-use Rattle.abc_words.specs.Reading.{after_words, as_command, command_of, plain, run_with, gen_with, none_with, run_start, gen_start, run_options_of, gen_options_of, can_take, some_if}
+use Rattle.abc_words.specs.Reading.{after_words, as_command, command_of, plain, run_with, gen_with, none_with, calls_with, run_start, gen_start, calls_start, run_options_of, gen_options_of, calls_options_of, can_take, some_if}
 use Rattle.abc_words.proofs.Places.{Place, place, Agree, agrees, left_of, put, have_own_names}
 use Rattle.abc_words.proofs.Steps.{IsRefused, words_taken, words_again, words_refused}
 
@@ -245,6 +246,38 @@ IsAnswer-gen : (words : List (List ℕ)) → IsAnswer (codes "gen" ∷ words) (a
 IsAnswer-gen words =
     IsAnswer-one GivenGen gen_with gen_places gen_same (λ g. refl) gen_start (codes "gen") (λ g. commands.Gen (gen_options_of g)) (λ g. refl) (λ g. refl) gen_begins gen_back gen_again words
 
+abbrev calls_places : GivenCalls → List Place
+calls_places g = place times g.times ∷ run_places g.run
+
+-- what the options of the run change
+calls_run : (g : GivenCalls) (o : Option GivenRun) → option_map calls_places (option_map (λ run. record g { run = run }) o) ≡ option_map (λ (l : List Place). place times g.times ∷ l) (option_map run_places o)
+calls_run g None = refl
+calls_run g (Some run) = refl
+
+calls_same : (g : GivenCalls) (name : List ℕ) (n : ℕ) → option_map calls_places (calls_with g name n) ≡ put (calls_places g) name n
+calls_same g name n =
+    let rest = calls_run g (run_with g.run name n) ∙ ap (option_map (λ (l : List Place). place times g.times ∷ l)) (run_same g.run name n) in
+    let first = choice calls_places (λ l. l) (place times g.times) (bytes_eq name times.name) (can_take times g.times n) (record g { times = Some n }) (place times (Some n) ∷ run_places g.run) _ (put (run_places g.run) name n) refl rest in
+    first ∙ option_map_id (put (calls_places g) name n)
+
+abbrev calls_back : List Setting → Command
+calls_back l = commands.Calls (record {
+  run = record { fuel = number_at l 1; objects = number_at l 2; cells = number_at l 3; text = number_at l 4; frames = number_at l 5; stack = number_at l 6 };
+  times = number_at l 0;
+})
+
+calls_begins : (c : Command) → word_of c ≡ codes "calls" → Agree (calls_places calls_start) (settings_of c) × (left_of (calls_places calls_start) (settings_of c) ≡ settings_of c)
+calls_begins (commands.Calls o) e = ((refl, tt, (refl, tt, (refl, tt, (refl, tt, (refl, tt, (refl, tt, (refl, tt, tt))))))), refl)
+calls_begins c e = absurd (apart (word_of c) (codes "calls") refl e)
+
+calls_again : (c : Command) → word_of c ≡ codes "calls" → calls_back (settings_of c) ≡ c
+calls_again (commands.Calls o) e = refl
+calls_again c e = absurd (apart (word_of c) (codes "calls") refl e)
+
+IsAnswer-calls : (words : List (List ℕ)) → IsAnswer (codes "calls" ∷ words) (as_command (λ g. commands.Calls (calls_options_of g)) (after_words calls_with calls_start 1 words))
+IsAnswer-calls words =
+    IsAnswer-one GivenCalls calls_with calls_places calls_same (λ g. refl) calls_start (codes "calls") (λ g. commands.Calls (calls_options_of g)) (λ g. refl) (λ g. refl) calls_begins calls_back calls_again words
+
 -- ---- all commands
 
 IsAnswer-if : (w literal : List ℕ) (words : List (List ℕ)) (b : Bool) (x y : Result Command Usage) → bytes_eq w literal ≡ b → IsAnswer (literal ∷ words) x → (w ≢ literal → IsAnswer (w ∷ words) y) → IsAnswer (w ∷ words) (cond b x y)
@@ -256,14 +289,15 @@ IsAnswer-if w literal words false x y is here later = later (λ e. let same = (b
 begin_with_nothing : CanBegin []
 begin_with_nothing = (codes "canon" ∷ [], (commands.Canon, record { options = []; parts = refl; settings = none (λ k d lt. absurd (omega arith)) }))
 
-no_word_of : (w : List ℕ) → w ≢ codes "canon" → w ≢ codes "dis" → w ≢ codes "asm" → w ≢ codes "check" → w ≢ codes "tidy" → w ≢ codes "run" → w ≢ codes "gen" → (c : Command) → w ≢ word_of c
-no_word_of w canon dis asm check tidy run gen commands.Canon e = canon e
-no_word_of w canon dis asm check tidy run gen commands.Dis e = dis e
-no_word_of w canon dis asm check tidy run gen commands.Asm e = asm e
-no_word_of w canon dis asm check tidy run gen commands.Check e = check e
-no_word_of w canon dis asm check tidy run gen commands.Tidy e = tidy e
-no_word_of w canon dis asm check tidy run gen (commands.Run o) e = run e
-no_word_of w canon dis asm check tidy run gen (commands.Gen o) e = gen e
+no_word_of : (w : List ℕ) → w ≢ codes "canon" → w ≢ codes "dis" → w ≢ codes "asm" → w ≢ codes "check" → w ≢ codes "tidy" → w ≢ codes "run" → w ≢ codes "gen" → w ≢ codes "calls" → (c : Command) → w ≢ word_of c
+no_word_of w canon dis asm check tidy run gen calls commands.Canon e = canon e
+no_word_of w canon dis asm check tidy run gen calls commands.Dis e = dis e
+no_word_of w canon dis asm check tidy run gen calls commands.Asm e = asm e
+no_word_of w canon dis asm check tidy run gen calls commands.Check e = check e
+no_word_of w canon dis asm check tidy run gen calls commands.Tidy e = tidy e
+no_word_of w canon dis asm check tidy run gen calls (commands.Run o) e = run e
+no_word_of w canon dis asm check tidy run gen calls (commands.Gen o) e = gen e
+no_word_of w canon dis asm check tidy run gen calls (commands.Calls o) e = calls e
 
 IsAnswer-other : (w : List ℕ) (words : List (List ℕ)) → ((c : Command) → w ≢ word_of c) → IsAnswer (w ∷ words) (Err (usages.Word 0))
 IsAnswer-other w words other = record {
@@ -291,7 +325,8 @@ IsAnswer-command (w ∷ words) =
     IsAnswer-if w (codes "tidy") words (bytes_eq w (codes "tidy")) _ _ refl (IsAnswer-plain commands.Tidy refl tidy_only words) (λ tidy.
     IsAnswer-if w (codes "run") words (bytes_eq w (codes "run")) _ _ refl (IsAnswer-run words) (λ run.
     IsAnswer-if w (codes "gen") words (bytes_eq w (codes "gen")) _ _ refl (IsAnswer-gen words) (λ gen.
-    IsAnswer-other w words (no_word_of w canon dis asm check tidy run gen))))))))
+    IsAnswer-if w (codes "calls") words (bytes_eq w (codes "calls")) _ _ refl (IsAnswer-calls words) (λ calls.
+    IsAnswer-other w words (no_word_of w canon dis asm check tidy run gen calls)))))))))
 
 -- ---- never two answers
 

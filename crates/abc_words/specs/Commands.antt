@@ -2,6 +2,7 @@
 use Rattle.std.specs.Prelude.{ℕ, List, [], ◌∷◌, codes}
 use Rattle.abc_words.specs.declared.command.Command.{Command}
 use Rattle.abc_words.specs.declared.command.Command.TheVariants as commands
+use Rattle.abc_words.specs.declared.command.RunOptions.{RunOptions}
 
 -- an option: its name, the least number and the greatest that it takes, and the number that stands where it is not given
 pub record CommandOption : Type 0 where
@@ -34,6 +35,9 @@ seed = record { name = codes "seed"; least = 0; greatest = 4294967295; default =
 abbrev pub methods : CommandOption
 methods = record { name = codes "methods"; least = 1; greatest = 10000; default = 100 }
 
+abbrev pub times : CommandOption
+times = record { name = codes "times"; least = 0; greatest = 10000; default = 1 }
+
 -- an option with its number
 pub record Setting : Type 0 where
   pub option : CommandOption
@@ -51,6 +55,10 @@ word_of commands.Check = codes "check"
 word_of commands.Tidy = codes "tidy"
 word_of (commands.Run _) = codes "run"
 word_of (commands.Gen _) = codes "gen"
+word_of (commands.Calls _) = codes "calls"
+
+abbrev pub run_settings : RunOptions → List Setting
+run_settings o = setting fuel o.fuel ∷ setting objects o.objects ∷ setting cells o.cells ∷ setting text o.text ∷ setting frames o.frames ∷ setting stack o.stack ∷ []
 
 -- the options of a command, each with its number
 abbrev pub settings_of : Command → List Setting
@@ -59,5 +67,6 @@ settings_of commands.Dis = []
 settings_of commands.Asm = []
 settings_of commands.Check = []
 settings_of commands.Tidy = []
-settings_of (commands.Run o) = setting fuel o.fuel ∷ setting objects o.objects ∷ setting cells o.cells ∷ setting text o.text ∷ setting frames o.frames ∷ setting stack o.stack ∷ []
+settings_of (commands.Run o) = run_settings o
 settings_of (commands.Gen o) = setting seed o.seed ∷ setting methods o.methods ∷ []
+settings_of (commands.Calls o) = setting times o.times ∷ run_settings o.run

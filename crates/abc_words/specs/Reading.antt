@@ -8,12 +8,14 @@ use Rattle.abc_words.specs.declared.command.Command.{Command}
 use Rattle.abc_words.specs.declared.command.Command.TheVariants as commands
 use Rattle.abc_words.specs.declared.command.RunOptions.{RunOptions}
 use Rattle.abc_words.specs.declared.command.GenOptions.{GenOptions}
+use Rattle.abc_words.specs.declared.command.CallsOptions.{CallsOptions}
 use Rattle.abc_words.specs.declared.command.Usage.{Usage}
 use Rattle.abc_words.specs.declared.command.Usage.TheVariants as usages
 use Rattle.abc_words.specs.declared.given.GivenRun.{GivenRun}
 use Rattle.abc_words.specs.declared.given.GivenGen.{GivenGen}
+use Rattle.abc_words.specs.declared.given.GivenCalls.{GivenCalls}
 use Rattle.abc_words.specs.declared.given.GivenNone.{GivenNone}
-use Rattle.abc_words.specs.Commands.{CommandOption, fuel, objects, cells, text, frames, stack, seed, methods}
+use Rattle.abc_words.specs.Commands.{CommandOption, fuel, objects, cells, text, frames, stack, seed, methods, times}
 use Rattle.abc_words.specs.Grammar.{decimal}
 
 abbrev pub is_digit : ℕ → Bool
@@ -58,6 +60,11 @@ gen_with g name n =
     if bytes_eq name seed.name then some_if (can_take seed g.seed n) (record g { seed = Some n }) else (
     if bytes_eq name methods.name then some_if (can_take methods g.methods n) (record g { methods = Some n }) else None)
 
+abbrev pub calls_with : GivenCalls → List ℕ → ℕ → Option GivenCalls
+calls_with g name n =
+    if bytes_eq name times.name then some_if (can_take times g.times n) (record g { times = Some n }) else
+    option_map (λ run. record g { run = run }) (run_with g.run name n)
+
 abbrev pub none_with : GivenNone → List ℕ → ℕ → Option GivenNone
 none_with g name n = None
 
@@ -66,6 +73,9 @@ run_start = record { fuel = None; objects = None; cells = None; text = None; fra
 
 abbrev pub gen_start : GivenGen
 gen_start = record { seed = None; methods = None }
+
+abbrev pub calls_start : GivenCalls
+calls_start = record { run = run_start; times = None }
 
 -- the number of an option, or its default
 abbrev pub number_of : CommandOption → Option ℕ → ℕ
@@ -76,6 +86,9 @@ run_options_of g = record { fuel = number_of fuel g.fuel; objects = number_of ob
 
 abbrev pub gen_options_of : GivenGen → GenOptions
 gen_options_of g = record { seed = number_of seed g.seed; methods = number_of methods g.methods }
+
+abbrev pub calls_options_of : GivenCalls → CallsOptions
+calls_options_of g = record { run = run_options_of g.run; times = number_of times g.times }
 
 -- the options once the word was read
 abbrev pub after_word : {G : Type 0} → (G → List ℕ → ℕ → Option G) → G → List ℕ → Option G
@@ -107,5 +120,6 @@ command_of (word ∷ words) =
     if bytes_eq word (codes "check") then plain commands.Check words else (
     if bytes_eq word (codes "tidy") then plain commands.Tidy words else (
     if bytes_eq word (codes "run") then as_command (λ g. commands.Run (run_options_of g)) (after_words run_with run_start 1 words) else (
-    if bytes_eq word (codes "gen") then as_command (λ g. commands.Gen (gen_options_of g)) (after_words gen_with gen_start 1 words) else
-    Err (usages.Word 0)))))))
+    if bytes_eq word (codes "gen") then as_command (λ g. commands.Gen (gen_options_of g)) (after_words gen_with gen_start 1 words) else (
+    if bytes_eq word (codes "calls") then as_command (λ g. commands.Calls (calls_options_of g)) (after_words calls_with calls_start 1 words) else
+    Err (usages.Word 0))))))))

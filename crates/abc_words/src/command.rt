@@ -15,6 +15,8 @@ pub enum Command {
     Run(RunOptions),
     /// A run of a generated file.
     Gen(GenOptions),
+    /// Calls of a function that a file exports, on what its run left.
+    Calls(CallsOptions),
 }
 
 /// How far a run may go: its fuel, and how much of each thing there may be.
@@ -33,6 +35,13 @@ pub struct RunOptions {
 pub struct GenOptions {
     pub seed: u32,
     pub methods: u32,
+}
+
+/// How far a run and each call after it may go, and how many calls there are.
+#[derive(Clone, Copy, Debug, PartialEq, Eq)]
+pub struct CallsOptions {
+    pub run: RunOptions,
+    pub times: u32,
 }
 
 /// Why the words ask for nothing.

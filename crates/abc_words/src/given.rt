@@ -1,7 +1,7 @@
 ghost use Rattle.std.specs.Prelude.{◌≡◌, ◌<◌, ◌^◌, if◌then◌else◌, None, Some, is_none, ◌&&◌, nat_le};
 ghost use Rattle.std.specs.Bool.{OnTrue, OnFalse};
 
-use crate::command::{GenOptions, RunOptions};
+use crate::command::{CallsOptions, GenOptions, RunOptions};
 
 /// The options of a command that were given so far.
 pub trait Given {
@@ -133,6 +133,50 @@ impl Given for GivenGen {
             b"seed" => fill(&mut self.seed, number, 0, 4294967295),
             b"methods" => fill(&mut self.methods, number, 1, 10000),
             _ => false,
+        }
+    }
+}
+
+/// The options of calls.
+#[derive(Clone, Copy, Debug)]
+pub struct GivenCalls {
+    pub run: GivenRun,
+    pub times: Option<u32>,
+}
+
+impl GivenCalls {
+    ghost use Rattle.abc_words.specs.Reading.{calls_options_of, calls_start};
+
+    /// No option is given yet.
+    pub fn new() -> GivenCalls
+        ensures { result ≡ calls_start }
+    {
+        GivenCalls {
+            run: GivenRun::new(),
+            times: None,
+        }
+    }
+
+    /// The numbers that were given, and the defaults.
+    pub fn options(&self) -> CallsOptions
+        ensures { result ≡ calls_options_of self.now }
+    {
+        CallsOptions {
+            run: self.run.options(),
+            times: self.times.unwrap_or(1),
+        }
+    }
+}
+
+impl Given for GivenCalls {
+    ghost use Rattle.abc_words.specs.Reading.{calls_with};
+
+    ghost with = { calls_with };
+
+    fn give(&mut self, name: &[u8], number: u64) -> bool {
+        match name {
+            b"times" => fill(&mut self.times, number, 0, 10000),
+            _ => self.run.give(name, number),
         }
     }
 }

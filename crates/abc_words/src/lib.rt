@@ -7,6 +7,6 @@ mod laws;
 mod option_word;
 mod read;
 
-pub use command::{Command, GenOptions, RunOptions, Usage};
+pub use command::{CallsOptions, Command, GenOptions, RunOptions, Usage};
 pub use laws::words_are_one_of_three;
 pub use read::parse;

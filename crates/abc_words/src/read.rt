@@ -5,7 +5,7 @@ ghost use Rattle.abc_words.specs.Grammar.{Says, IsUsageWord};
 ghost use Rattle.abc_words.specs.Reading.{command_of, after_word, after_words, plain};
 
 use crate::command::{Command, Usage};
-use crate::given::{Given, GivenGen, GivenNone, GivenRun};
+use crate::given::{Given, GivenCalls, GivenGen, GivenNone, GivenRun};
 use crate::option_word::read_option_word;
 use abc_base::Words;
 
@@ -38,6 +38,10 @@ fn read_command(words: &Words) -> Result<Command, Usage>
         b"gen" => {
             let given = read_options(words, GivenGen::new())?;
             Ok(Command::Gen(given.options()))
+        }
+        b"calls" => {
+            let given = read_options(words, GivenCalls::new())?;
+            Ok(Command::Calls(given.options()))
         }
         _ => Err(Usage::Word(0)),
     }

@@ -3,7 +3,7 @@ use Rattle.abc_words.specs.declared.command.Command.TheVariants as commands
 use Rattle.abc_cli.specs.End.{stream}
 use Rattle.abc_cli.specs.Outcome.{OutcomeOf}
 use Rattle.abc_cli.proofs.Ending.{finished_used_up}
-use Rattle.abc_cli.proofs.Usages.{command_ends, gen_ends, reading, run_ends, unreading}
+use Rattle.abc_cli.proofs.Usages.{calls_ends, command_ends, gen_ends, reading, run_ends, unreading}
 use Rattle.abc_cli.proofs.top.run_command.Goals as goal
 
 pub returns-in-Canon-clause-end : goal.returns-in-Canon-clause-end
@@ -92,3 +92,14 @@ returns-in-Gen-clause-used_up g c = λ reads. absurd (unreading c.args.command.n
 
 pub returns-in-Gen-clause-unread : goal.returns-in-Gen-clause-unread
 returns-in-Gen-clause-unread g c = λ silent. refl
+
+pub returns-in-Calls-clause-end : goal.returns-in-Calls-clause-end
+returns-in-Calls-clause-end g c =
+    calls_ends (g.H.Host.formulas c.args.host.now) c.args.command.now c.in-Calls.options (stream g.S.Source.left g.S.Source.faults c.args.source.now c.calls.new.source) (stream g.K.Sink.written g.K.Sink.faults c.args.out.now c.calls.new.out)
+    (stream g.E.Sink.written g.E.Sink.faults c.args.err.now c.calls.new.err) c.calls.result c.in-Calls.is c.calls.ensures.end
+
+pub returns-in-Calls-clause-used_up : goal.returns-in-Calls-clause-used_up
+returns-in-Calls-clause-used_up g c = λ reads. c.calls.ensures.used_up
+
+pub returns-in-Calls-clause-unread : goal.returns-in-Calls-clause-unread
+returns-in-Calls-clause-unread g c = λ silent. absurd (reading c.args.command.now (commands.Calls c.in-Calls.options) c.in-Calls.is refl silent)

@@ -1,0 +1,4 @@
+pub mod Pieces
+pub mod Calling
+pub mod Following
+pub mod Telling

@@ -1,0 +1,14 @@
+-- How a run and the calls after it end can be told.
+use Rattle.std.specs.Prelude.{◌≡◌, ℕ, ◌≤◌, None}
+use Rattle.abc_faults.specs.CallsLaws.{IsScriptMethod}
+use Rattle.abc_faults.specs.Placed.{CanBeTold}
+use Rattle.abc_heap.specs.declared.records.Limits.{Limits}
+use Rattle.abc_meaning.specs.Laws.{AreCounted, IsVerified}
+use Rattle.abc_meaning.specs.Meaning.{first_world, too_small}
+use Rattle.abc_meaning.specs.WorldSetting.{Setting}
+use Rattle.abc_ticks.specs.Ticks.{calls_meaning}
+
+-- it can be told of every verified file that exports the method, where no limit is below what every run begins with
+abbrev pub TicksCanBeTold : Type 0
+TicksCanBeTold = (p : Setting) (limits : Limits) (fuel times method : ℕ) → IsVerified p → AreCounted limits → too_small (first_world p limits).heap ≡ None → times ≤ 4294967295 → IsScriptMethod p method
+    → CanBeTold p.linked.file (calls_meaning p limits fuel times method)
