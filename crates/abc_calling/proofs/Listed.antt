@@ -1,6 +1,6 @@
 -- The numbers of a call, as a list of values.
-use Rattle.std.proofs.Common.{◌≡◌, List, [], ◌∷◌, take, sym, ap, ◌∙◌, subst}
-use Rattle.std.proofs.lemmas.List.{take-map}
+use Rattle.std.proofs.Common.{◌≡◌, ◌<◌, ◌^◌, List, [], ◌∷◌, length, take, sym, ap, ◌∙◌, subst, arith}
+use Rattle.std.proofs.lemmas.List.{length-map, length-take, take-map}
 use Rattle.abc_base.specs.Hosts.{arguments}
 use Rattle.abc_base.specs.Ranges.{IsNumber}
 use Rattle.abc_base.specs.declared.plain.Plain.{Plain}
@@ -26,3 +26,11 @@ pub given_exist : (p : Setting) (w : World) (args : Plain) (given : List Value) 
 given_exist p w args given e =
     subst (λ (vs : List Value). EachAt (Exists p.linked w.heap) vs) (sym e)
     (each_at (Exists p.linked w.heap) (numbers (arguments args)) (numbers_exist p w (arguments args) (each_number args)))
+
+pub few_given : (args : Plain) (given : List Value) → given ≡ numbers (arguments args) → length given < 2 ^ 32
+few_given args given e =
+    let long = ap (λ (vs : List Value). length vs) e in
+    let same = length-map (arguments args) Num in
+    let taken = length-take args.count (args.a ∷ args.b ∷ args.c ∷ args.d ∷ []) in
+    let few = args.few in
+    omega (arith, long, same, taken, few)

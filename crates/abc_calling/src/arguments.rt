@@ -1,4 +1,4 @@
-ghost use Rattle.std.specs.Prelude.{◌≡◌, ◌+◌, ◌<◌, ◌≤◌, ◌∷◌, true, length, drop, IfOk, OnOk};
+ghost use Rattle.std.specs.Prelude.{◌≡◌, ◌+◌, ◌<◌, ◌≤◌, ◌^◌, ◌∷◌, true, length, drop, IfOk, OnOk};
 ghost use Rattle.abc_entering.specs.Arguments.{HasOptions, IsKnown, Makes, coerces_first, first_of, makes_arguments, receiver, with_values};
 ghost use Rattle.abc_heap.specs.Heap.{Heap};
 ghost use Rattle.abc_makers.specs.Entering.{coerced};
@@ -9,38 +9,13 @@ ghost use Rattle.abc_makers.specs.Stops.{IsOpen, answer};
 ghost use Rattle.abc_makers.specs.World.{World};
 ghost use Rattle.abc_objects.specs.Stands.{Each, StandsOver};
 ghost use Rattle.abc_objects.specs.Values.{Exists};
-ghost use Rattle.abc_typing.specs.Routines.{takes_array as takes_array_so};
 
-use crate::options::option_given;
 use abc_base::HostClass;
 use abc_cells::Value;
-use abc_finishing::method_at;
+use abc_entering::{may_take, method_at, option_given};
 use abc_link::Linked;
 use abc_makers::{State, Stop, coerce};
-use abc_tables::{Method, has_flag};
-
-/// The flag of a method that takes an array of all arguments.
-const ARGUMENTS: u8 = 0x01;
-
-/// The flag of a method that takes an array of the arguments behind its parameters.
-const REST: u8 = 0x04;
-
-/// Whether a method takes an array.
-fn takes_array(flags: u8) -> bool
-    ensures { result ≡ takes_array_so flags }
-{
-    has_flag(flags, ARGUMENTS) || has_flag(flags, REST)
-}
-
-/// Whether a method takes so many arguments: those that are missing have options, and there are too many only where an array
-/// takes them.
-fn may_take(method: &Method, count: usize) -> bool
-    ensures { result ≡ may_take_so method.now count }
-{
-    let params = method.params.len();
-    let least = params.saturating_sub(method.options.len());
-    least <= count && (count <= params || takes_array(method.flags))
-}
+use abc_tables::Method;
 
 /// The k-th argument; past them the value of the parameter's option.
 fn argument(linked: &Linked, method: &Method, args: &[Value], k: usize) -> Result<Value, Stop>
@@ -124,6 +99,7 @@ pub(crate) fn prepare(
     ghost out: { Outer }
     requires over { StandsOver linked.now s.old.arena }
     requires there { Each (Exists linked.now s.old.arena) args.now }
+    requires few { length args.now < 2 ^ 32 }
     requires known { IsKnown linked.now s.old.given.limit }
     requires free { IsOpen (makes_arguments (setting linked.now out) method args.now (world s.old out)) }
     ensures part { makes_arguments (setting linked.now out) method args.now (world s.old out) ≡ answer (with_values result (drop 1 s.new.given.items)) (world s.new out) }
@@ -131,7 +107,7 @@ pub(crate) fn prepare(
     ensures given { OnOk result ((s.new.given.items ≡ this ∷ drop 1 s.new.given.items) × (length s.new.given.items < s.new.given.limit)) }
 {
     let signature = method_at(linked, method);
-    if !may_take(signature, args.len()) {
+    if !may_take(signature, args.len() as u32) {
         return Err(Stop::Errs(HostClass::ArgumentError));
     }
     s.given.cut(0);

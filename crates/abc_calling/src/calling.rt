@@ -38,6 +38,7 @@ fn enter_alone(linked: &Linked, s: &mut State, method: u32, args: &[Value]) -> R
     ghost out: { Outer }
     requires over { StandsOver linked.now s.old.arena }
     requires there { Each (Exists linked.now s.old.arena) args.now }
+    requires short { length args.now < 2 ^ 32 }
     requires none { s.old.frames.living ≡ [] }
     requires known { IsKnown linked.now s.old.given.limit }
     requires scripts { 0 < length linked.now.file.scripts }

@@ -6,7 +6,6 @@
 mod arguments;
 mod calling;
 mod dropping;
-mod options;
 
 pub use calling::begin_call;
 pub use dropping::drop_frames;

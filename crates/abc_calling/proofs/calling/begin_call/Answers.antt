@@ -5,7 +5,7 @@ use Rattle.abc_cells.specs.declared.values.Value.{Value}
 use Rattle.abc_states.specs.Outer.{setting, world}
 use Rattle.abc_states.specs.Stops.{why}
 use Rattle.abc_calling.proofs.Begun.{call_open, can_end, goes_is, goes_reached, goes_sized, scripts_few, scripts_there, stops_is}
-use Rattle.abc_calling.proofs.Listed.{each_number, first_listed, given_exist}
+use Rattle.abc_calling.proofs.Listed.{each_number, few_given, first_listed, given_exist}
 use Rattle.abc_calling.proofs.calling.begin_call.Goals as goal
 
 pub enter_alone-requires : goal.enter_alone-requires
@@ -19,7 +19,7 @@ enter_alone-requires g c =
     let ns = arguments args in
     let is = first_listed args c.four_values-values.result given c.four_values-values.ensures c.first_values-given.ensures in
     let number = each_number args in
-    (can.sound.stands, (given_exist (setting l g.out) (world s g.out) args given is, (can.none, (can.known, (scripts_there l g.out m s ns given can number is, (scripts_few l g.out m s ns given can number is, call_open l g.out m s ns given can number is))))))
+    (can.sound.stands, (given_exist (setting l g.out) (world s g.out) args given is, (few_given args given is, (can.none, (can.known, (scripts_there l g.out m s ns given can number is, (scripts_few l g.out m s ns given can number is, call_open l g.out m s ns given can number is)))))))
 
 pub returns-in-Ok-clause-step : goal.returns-in-Ok-clause-step
 returns-in-Ok-clause-step g c =

@@ -20,7 +20,7 @@ pub place_of_owner-at-requires : goal.place_of_owner-at-requires
 place_of_owner-at-requires g c =
     let p = setting c.args.linked.now g.out in
     let w = world c.args.s.now g.out in
-    (c.requires.0, subst (λ (o : Owner). IsOpen (place_of_owner o w)) (sym c.owner.ensures) (place_open p c.args.method c.args.args.now w c.requires.1.1.1.1.1.1))
+    (c.requires.0, subst (λ (o : Owner). IsOpen (place_of_owner o w)) (sym c.owner.ensures) (place_open p c.args.method c.args.args.now w c.requires.1.1.1.1.1.1.1))
 
 pub prepare-requires : goal.prepare-requires
 prepare-requires g c =
@@ -28,7 +28,7 @@ prepare-requires g c =
     let w = world c.args.s.now g.out in
     let at = placed c.place_of_owner-at.result in
     let place = ap (λ (o : Owner). place_of_owner o w) (sym c.owner.ensures) ∙ c.place_of_owner-at.ensures in
-    (c.requires.0, (c.requires.1.0, (c.requires.1.1.1.0, last_open p c.args.method c.args.args.now w c.last_global-this.result at (c.last_global-this.ensures g.out) place c.requires.1.1.1.1.1.1)))
+    (c.requires.0, (c.requires.1.0, (c.requires.1.1.0, (c.requires.1.1.1.1.0, last_open p c.args.method c.args.args.now w c.last_global-this.result at (c.last_global-this.ensures g.out) place c.requires.1.1.1.1.1.1.1))))
 
 pub returns-in_err-prepare-clause-begins : goal.returns-in_err-prepare-clause-begins
 returns-in_err-prepare-clause-begins g c =
@@ -62,7 +62,7 @@ put_alone-requires g c =
     let many = ap (λ (vs : List Value). length vs) first in
     let some : 0 < length mid.given.items = omega (arith, many) in
     let is = last_alone p m given w c.last_global-this.result at (c.last_global-this.ensures g.out) place mid.given.items (world mid g.out) first c.in_ok-prepare.ensures.part in
-    (makes.over, (each_grown l s.arena mid.arena given makes.grows c.requires.1.0, (ap (λ (k : Frames). k.living) makes.frames ∙ c.requires.1.1.0, (some, (c.in_ok-prepare.ensures.given.1, subst (λ (o : Outcome Frame). IsOpen o) is c.requires.1.1.1.1.1.1)))))
+    (makes.over, (each_grown l s.arena mid.arena given makes.grows c.requires.1.0, (ap (λ (k : Frames). k.living) makes.frames ∙ c.requires.1.1.1.0, (some, (c.in_ok-prepare.ensures.given.1, subst (λ (o : Outcome Frame). IsOpen o) is c.requires.1.1.1.1.1.1.1)))))
 
 pub returns-clause-begins : goal.returns-clause-begins
 returns-clause-begins g c =
