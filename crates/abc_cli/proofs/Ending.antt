@@ -1,12 +1,10 @@
 -- How the ways to end follow from what was written.
 use Rattle.std.proofs.Common.{◌≡◌, ◌≢◌, ℕ, All, inl, inr, List, [], Some, None, Ok, Err, refl, sym, ap, ◌∙◌, subst}
-use Rattle.std.specs.Prelude.{is_ok, if◌then◌else◌, IfErr, IfOk, IsSome}
-use Rattle.std.proofs.lemmas.List.{append-nil}
+use Rattle.std.specs.Prelude.{is_ok, if◌then◌else◌, IfErr, IfOk}
 use Rattle.std.specs.declared.option.Option.{Option}
 use Rattle.std.specs.declared.alloc.Global.{Global}
 use Rattle.std.specs.declared.result.Result.{Result}
 use Rattle.std.specs.declared.vec.Vec.{Vec}
-use Rattle.std.specs.Io.KnownBytes.{append_known}
 use Rattle.abc_base.specs.Faults.{HasCause}
 use Rattle.abc_base.specs.Sinks.{WritesAll}
 use Rattle.abc_base.specs.declared.status.Status.{Status}
@@ -35,11 +33,6 @@ pub gives : {T E : Type 0} (before after : Option (List ℕ)) (n m : ℕ) (a : A
     → WritesAll before after written a.err → HasCause n m written → s ≡ (if is_ok written then a.status else status.WriteFault) → GivesLine (channel before after n m) a s
 gives before after n m a (Ok t) s w h is = inl (w, is)
 gives before after n m a (Err e) s w h is = inr (h.failed, w, is)
-
--- nothing was written
-pub nothing : (known : Option (List ℕ)) → IsSome known → known ≡ append_known known []
-nothing None = λ some. refl
-nothing (Some xs) = λ some. ap (λ (l : List ℕ). Some l) (sym (append-nil xs))
 
 -- more may be an outcome, and a source may fail for more
 pub weaker : (P Q : Answer → Type 0) (F G : Type 0) (out err : Channel) (s : Status) → ((a : Answer) → P a → Q a) → (F → G) → IsEnd P F out err s → IsEnd Q G out err s

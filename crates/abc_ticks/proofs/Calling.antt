@@ -1,5 +1,5 @@
 -- What calls come to follows from what the session answers to each.
-use Rattle.std.proofs.Common.{◌≡◌, ◌≢◌, ℕ, zero, suc, ◌+◌, ◌-◌, ◌≤◌, ◌<◌, List, [], ◌∷◌, ◌++◌, Some, None, Ok, Err, refl, sym, ap, ◌∙◌, subst, arith}
+use Rattle.std.proofs.Common.{◌≡◌, ◌≢◌, ℕ, ℤ, zero, suc, ◌+◌, ◌-◌, ◌≤◌, ◌<◌, List, [], ◌∷◌, ◌++◌, Some, None, Ok, Err, refl, sym, ap, ◌∙◌, subst, arith}
 use Rattle.std.specs.Prelude.{IfErr, IsSome, false, true, pos}
 use Rattle.std.specs.Io.KnownBytes.{append_known}
 use Rattle.std.specs.declared.option.Option.{Option}
@@ -7,12 +7,14 @@ use Rattle.std.specs.declared.result.Result.{Result}
 use Rattle.std.proofs.lemmas.List.{append-nil, append_assoc}
 use Rattle.abc_base.proofs.Writing.{front_first}
 use Rattle.abc_base.specs.Faults.{HasCause, Rose}
+use Rattle.abc_base.specs.Hosts.{arguments}
 use Rattle.abc_base.specs.Sinks.{GrowsByFront, WritesAll}
 use Rattle.abc_base.specs.declared.formula.Formula.{Formula}
+use Rattle.abc_base.specs.declared.plain.Plain.{Plain}
 use Rattle.abc_cells.specs.declared.values.Value.{Value}
 use Rattle.abc_faults.specs.Calls.{Call, EndsAs, Gives, Replied, Reply, answers_call, call_meaning, session, silent}
 use Rattle.abc_machine.specs.Ended.{HasRun, IsEndOf, RunsAs}
-use Rattle.abc_machine.specs.Invoked.{Answers}
+use Rattle.abc_machine.specs.Invoked.{Answers, call_of}
 use Rattle.abc_machine.specs.Machines.{IsReady, Opened}
 use Rattle.abc_machine.specs.Replied.{IsReplyOf, RepliesAs, Tells, plain_value}
 use Rattle.abc_machine.specs.declared.ends.End.{End}
@@ -30,7 +32,7 @@ use Rattle.abc_session.specs.declared.replies.SessionReply.TheVariants as answer
 use Rattle.abc_tables.specs.declared.tables.Abc.{Abc}
 use Rattle.abc_ticks.specs.Ticks.{after, calls_run, then_follows, then_goes, tick, ticks, ticks_run, value_line}
 use Rattle.abc_ticks.specs.Told.{GoesOn, GoesOnAs, TellsAs, Told, Tried, value_or_end}
-use Rattle.abc_ticks.proofs.Pieces.{front_both, got_both}
+use Rattle.abc_ticks.proofs.Pieces.{front_both, got_both, nothing}
 
 -- ---- what was written before
 
@@ -95,10 +97,10 @@ module _ (v : Abc) (r : Replied) (rest : List Replied) (old : Option (List ℕ))
 
   reply_ends : (new : Option (List ℕ)) (reply : code.Reply) (end : End) → IsReplyOf r.reply reply → (IsSome old → new ≡ append_known old r.world.wrote) → value_or_end (answers.Reply reply) ≡ Err end → RunsAs (calls_run v (r ∷ rest)) old new end
   reply_ends new (replies.Value x) end is got e = absurd cc
-  reply_ends new (replies.Uncaught t) end is got e = told_end new (meant.Uncaught t) (ends.Uncaught t) end is refl cc got
-  reply_ends new (replies.Profile m i fault) end is got e = told_end new (meant.Profile m i fault) (ends.Profile m i fault) end is refl cc got
-  reply_ends new replies.FuelSpent end is got e = told_end new meant.FuelSpent ends.FuelSpent end is refl cc got
-  reply_ends new (replies.Full limit) end is got e = told_end new (meant.Full limit) (ends.Full limit) end is refl cc got
+  reply_ends new (replies.Uncaught t) end is got e = told_end new (meant.Uncaught t) (ends.Uncaught t) end is refl (let f : ends.Uncaught t ≡ end = cc in f) got
+  reply_ends new (replies.Profile m i fault) end is got e = told_end new (meant.Profile m i fault) (ends.Profile m i fault) end is refl (let f : ends.Profile m i fault ≡ end = cc in f) got
+  reply_ends new replies.FuelSpent end is got e = told_end new meant.FuelSpent ends.FuelSpent end is refl (let f : ends.FuelSpent ≡ end = cc in f) got
+  reply_ends new (replies.Full limit) end is got e = told_end new (meant.Full limit) (ends.Full limit) end is refl (let f : ends.Full limit ≡ end = cc in f) got
   reply_ends new replies.WriteFault end is got e = absurd is
 
 replied_ends : (v : Abc) (r : Replied) (rest : List Replied) (old new : Option (List ℕ)) (reply : code.Reply) (end : End) → RepliesAs r old new reply → value_or_end (answers.Reply reply) ≡ Err end → RunsAs (calls_run v (r ∷ rest)) old new end
@@ -122,6 +124,11 @@ answer_value (answers.Reply (replies.Full limit)) value e = absurd cc
 answer_value (answers.Reply replies.WriteFault) value e = absurd cc
 answer_value answers.NotReady value e = absurd cc
 answer_value answers.Closed value e = absurd cc
+
+-- a call with one number is one of these
+pub as_tick : (old new : Opened) (method fuel : ℕ) (fs : List Formula) (number : ℕ) (args : Plain) (before now : Option (List ℕ)) (answer : SessionReply) → arguments args ≡ pos number ∷ [] → AnswersIn old new (call_of method args fuel fs) before now answer
+    → AnswersIn old new (tick method fuel fs number) before now answer
+as_tick old new method fuel fs number args before now answer e a = subst (λ (x : List ℤ). AnswersIn old new (record { method = method; args = x; fuel = fuel; formulas = fs }) before now answer) e a
 
 module _ (old new : Opened) (c : Call) (ready : IsReady old) where
   abbrev r : Replied
@@ -240,12 +247,12 @@ module _ (first : Opened) (method fuel : ℕ) (fs : List Formula) (times : ℕ) 
     pub linked : m.linked ≡ first.linked
     pub names : m.names ≡ first.names
 
-  pub none_called : (before : Option (List ℕ)) → IsReady first → (IsSome before → before ≡ append_known before []) → AreCalled first 0 before before
-  none_called before ready same = record {
+  pub none_called : (before : Option (List ℕ)) → IsReady first → AreCalled first 0 before before
+  none_called before ready = record {
     wrote = [];
     few = omega arith;
     goes = let all : times ≡ times - 0 = omega arith in ap (left_at first.world 0) all ∙ sym (after_nothing (left_at first.world 0 (times - 0)));
-    sink = same;
+    sink = nothing before;
     ready = ready;
     linked = refl;
     names = refl;

@@ -113,13 +113,13 @@ tried_fault n m k end le t =
 
 -- ---- the session between the run and the calls
 
+pub not_run : (old : Opened) (fs : List Formula) → IsOpened old.linked fs old.limits old → old.ended ≡ None
+not_run old fs opened = ap (λ (m : Opened). m.ended) opened.is
+
+pub same_names : (old : Opened) (fs : List Formula) → IsOpened old.linked fs old.limits old → formula_names fs ≡ old.names
+same_names old fs opened = sym (ap (λ (m : Opened). m.names) opened.is)
+
 module _ (old new : Opened) (fs : List Formula) (fuel : ℕ) (method : ℕ) (result : End) (opened : IsOpened old.linked fs old.limits old) where
-  pub not_run : old.ended ≡ None
-  not_run = ap (λ (m : Opened). m.ended) opened.is
-
-  pub same_names : formula_names fs ≡ old.names
-  same_names = sym (ap (λ (m : Opened). m.names) opened.is)
-
   pub gets_ready : new.ended ≡ Some result → result ≡ ends.Done → new.closed ≡ old.closed → IsReady new
   gets_ready ended done same = record { done = ended ∙ ap (λ (x : End). Some x) done; still = same ∙ ap (λ (m : Opened). m.closed) opened.is }
 
@@ -127,7 +127,7 @@ module _ (old new : Opened) (fs : List Formula) (fuel : ℕ) (method : ℕ) (res
   not_fault done f = let g : ends.Done ≡ ends.WriteFault = sym done ∙ f in cc
 
   pub names_stay : result ≡ ends.Done → (old.ended ≡ None → result ≢ ends.WriteFault → new.names ≡ old.names) → formula_names fs ≡ new.names
-  names_stay done keep = same_names ∙ sym (keep not_run (not_fault done))
+  names_stay done keep = same_names old fs opened ∙ sym (keep (not_run old fs opened) (not_fault done))
 
   pub method_stays : new.linked ≡ old.linked → IsScriptMethod (record { linked = old.linked; formulas = fs }) method → IsScriptMethod (record { linked = new.linked; formulas = fs }) method
   method_stays same exported = subst (λ (l : LinkedFile). IsScriptMethod (record { linked = l; formulas = fs }) method) (sym same) exported
@@ -137,10 +137,10 @@ module _ (old new : Opened) (fs : List Formula) (fuel : ℕ) (method : ℕ) (res
       → RunsAs (ticks_run (record { linked = new.linked; formulas = fs }) method fuel times new.world) mid now end → RunsAs (calls_meaning (record { linked = old.linked; formulas = fs }) old.limits fuel times method) before now end
   run_then_calls times before mid now end done same ran left more =
       let p : Setting = record { linked = old.linked; formulas = fs } in
-      let first = subst (λ (x : End). RunsAs (meaning p old.limits fuel) before mid x) done (ran not_run) in
+      let first = subst (λ (x : End). RunsAs (meaning p old.limits fuel) before mid x) done (ran (not_run old fs opened)) in
       let then = subst (λ (l : LinkedFile). RunsAs (ticks_run (record { linked = l; formulas = fs }) method fuel times new.world) mid now end) same more in
-      run_goes_on p old.limits fuel times method opened.fits before mid now new.world end (left not_run (not_fault done)) first then
+      run_goes_on p old.limits fuel times method opened.fits before mid now new.world end (left (not_run old fs opened) (not_fault done)) first then
 
   pub run_only : (times : ℕ) (before now : Option (List ℕ)) → result ≢ ends.Done → (old.ended ≡ None → RunsAs (meaning (record { linked = old.linked; formulas = fs }) old.limits fuel) before now result)
       → RunsAs (calls_meaning (record { linked = old.linked; formulas = fs }) old.limits fuel times method) before now result
-  run_only times before now not ran = run_stops (record { linked = old.linked; formulas = fs }) old.limits fuel times method opened.fits before now result not (ran not_run)
+  run_only times before now not ran = run_stops (record { linked = old.linked; formulas = fs }) old.limits fuel times method opened.fits before now result not (ran (not_run old fs opened))

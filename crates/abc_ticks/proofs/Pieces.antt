@@ -1,5 +1,6 @@
 -- What a sink got of one piece and then of another.
-use Rattle.std.proofs.Common.{◌≡◌, ℕ, List, ◌++◌, Some, None, refl, ap, ◌∙◌, subst}
+use Rattle.std.proofs.Common.{◌≡◌, ℕ, List, [], ◌++◌, Some, None, refl, sym, ap, ◌∙◌, subst}
+use Rattle.std.proofs.lemmas.List.{append-nil}
 use Rattle.std.specs.Prelude.{IsSome}
 use Rattle.std.specs.declared.option.Option.{Option}
 use Rattle.std.specs.Io.KnownBytes.{append_known}
@@ -20,3 +21,8 @@ pub front_both : (old mid new : Option (List ℕ)) (xs ys : List ℕ) → (IsSom
 front_both old mid new xs ys f g s =
     let e = f s in
     front_second old new xs ys (subst (λ (o : Option (List ℕ)). GrowsByFront o new ys) e (g (some_known old mid xs e s)))
+
+-- nothing was written
+pub nothing : (known : Option (List ℕ)) → IsSome known → known ≡ append_known known []
+nothing None = λ some. refl
+nothing (Some xs) = λ some. ap (λ (l : List ℕ). Some l) (sym (append-nil xs))

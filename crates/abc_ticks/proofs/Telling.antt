@@ -1,6 +1,7 @@
 -- How a run and the calls after it end can be told.
-use Rattle.std.proofs.Common.{◌≡◌, ◌≢◌, ℕ, zero, suc, ◌+◌, ◌≤◌, List, [], ◌∷◌, ◌++◌, None, ap, ◌∙◌, arith, ints}
+use Rattle.std.proofs.Common.{◌≡◌, ◌≢◌, ℕ, zero, suc, ◌+◌, ◌≤◌, List, [], ◌∷◌, ◌++◌, None, ap, ◌∙◌, arith}
 use Rattle.std.specs.Prelude.{pos}
+use Rattle.std.proofs.lemmas.Int.{ints}
 use Rattle.abc_base.specs.Ranges.{IsNumber}
 use Rattle.abc_base.specs.declared.names.Fault.{Fault}
 use Rattle.abc_faults.specs.Calls.{EndsAs, Gives, Reply, answers_call, session}

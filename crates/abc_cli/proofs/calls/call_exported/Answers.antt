@@ -2,7 +2,7 @@ use Rattle.std.proofs.Common.{◌∙◌, sym}
 use Rattle.abc_meaning.specs.WorldSetting.{Setting}
 use Rattle.abc_cli.specs.End.{stream}
 use Rattle.abc_cli.proofs.Called.{called_runs, unexported_runs}
-use Rattle.abc_cli.proofs.Ending.{nothing}
+use Rattle.abc_ticks.proofs.Pieces.{nothing}
 use Rattle.abc_cli.proofs.calls.call_exported.Goals as goal
 
 pub returns-in-Some : goal.returns-in-Some

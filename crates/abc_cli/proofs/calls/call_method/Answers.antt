@@ -6,7 +6,7 @@ use Rattle.abc_program.specs.Linked.{LinkedFile}
 use Rattle.abc_ticks.specs.Ticks.{calls_meaning}
 use Rattle.abc_cli.specs.End.{GivesLine, stream}
 use Rattle.abc_cli.specs.Endings.{IsPlacedEnd, end_answer}
-use Rattle.abc_cli.proofs.Ending.{nothing}
+use Rattle.abc_ticks.proofs.Pieces.{nothing}
 use Rattle.abc_cli.proofs.Running.{run_ends, run_placed}
 use Rattle.abc_cli.proofs.calls.call_method.Goals as goal
 

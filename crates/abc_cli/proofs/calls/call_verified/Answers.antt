@@ -6,7 +6,7 @@ use Rattle.abc_program.specs.Linked.{LinkedFile}
 use Rattle.abc_program.specs.Slots.{HasFewSlots}
 use Rattle.abc_cli.specs.End.{stream}
 use Rattle.abc_cli.proofs.Called.{opened_as, opened_calls, unopened_calls}
-use Rattle.abc_cli.proofs.Ending.{nothing}
+use Rattle.abc_ticks.proofs.Pieces.{nothing}
 use Rattle.abc_cli.proofs.Running.{machine_verified}
 use Rattle.abc_cli.proofs.calls.call_verified.Goals as goal
 

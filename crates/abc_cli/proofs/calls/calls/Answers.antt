@@ -1,6 +1,6 @@
 use Rattle.abc_cli.specs.End.{HasFailed, stream}
 use Rattle.abc_cli.proofs.Called.{unverified_calls, verified_calls}
-use Rattle.abc_cli.proofs.Ending.{nothing}
+use Rattle.abc_ticks.proofs.Pieces.{nothing}
 use Rattle.abc_cli.proofs.Running.{read_is_verified, unread}
 use Rattle.abc_cli.proofs.calls.calls.Goals as goal
 

@@ -1,6 +1,6 @@
 use Rattle.std.proofs.Common.{inl, inr, refl}
 use Rattle.abc_cli.specs.Lines.{write_fault_text}
-use Rattle.abc_cli.proofs.Ending.{nothing}
+use Rattle.abc_ticks.proofs.Pieces.{nothing}
 use Rattle.abc_cli.proofs.ends.give_bytes.Goals as goal
 
 pub returns-in-Ok : goal.returns-in-Ok

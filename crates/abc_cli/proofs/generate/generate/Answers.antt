@@ -1,6 +1,7 @@
 use Rattle.abc_cli.specs.End.{stream}
 use Rattle.abc_cli.specs.Outcome.{Gen}
-use Rattle.abc_cli.proofs.Ending.{memory_failed, nothing}
+use Rattle.abc_ticks.proofs.Pieces.{nothing}
+use Rattle.abc_cli.proofs.Ending.{memory_failed}
 use Rattle.abc_cli.proofs.generate.generate.Goals as goal
 
 pub returns-in-Err : goal.returns-in-Err

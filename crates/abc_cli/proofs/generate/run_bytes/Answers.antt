@@ -1,7 +1,7 @@
 use Rattle.abc_cli.specs.Answers.{OfFileRead}
 use Rattle.abc_cli.specs.End.{stream}
 use Rattle.abc_cli.specs.Runs.{Run, default_options}
-use Rattle.abc_cli.proofs.Ending.{nothing}
+use Rattle.abc_ticks.proofs.Pieces.{nothing}
 use Rattle.abc_cli.proofs.Generating.{memory_bytes, memory_quiet, steady_runs}
 use Rattle.abc_cli.proofs.generate.run_bytes.Goals as goal
 

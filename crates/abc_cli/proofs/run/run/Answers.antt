@@ -1,5 +1,6 @@
 use Rattle.abc_cli.specs.End.{HasFailed, stream}
-use Rattle.abc_cli.proofs.Ending.{not_done, nothing}
+use Rattle.abc_ticks.proofs.Pieces.{nothing}
+use Rattle.abc_cli.proofs.Ending.{not_done}
 use Rattle.abc_cli.proofs.Running.{read_is_verified, unread, unverified_runs, verified_runs}
 use Rattle.abc_cli.proofs.run.run.Goals as goal
 

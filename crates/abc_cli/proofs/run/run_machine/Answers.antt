@@ -3,7 +3,7 @@ use Rattle.std.specs.Prelude.{IsSome}
 use Rattle.std.specs.Io.KnownBytes.{append_known}
 use Rattle.abc_cli.specs.End.{GivesLine, stream}
 use Rattle.abc_cli.specs.Endings.{IsPlacedEnd, end_answer}
-use Rattle.abc_cli.proofs.Ending.{nothing}
+use Rattle.abc_ticks.proofs.Pieces.{nothing}
 use Rattle.abc_cli.proofs.Running.{run_ends, run_placed, run_quiet}
 use Rattle.abc_meaning.specs.Meaning.{meaning}
 use Rattle.abc_program.specs.Linked.{LinkedFile}

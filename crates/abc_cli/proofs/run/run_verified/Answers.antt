@@ -5,7 +5,7 @@ use Rattle.abc_meaning.specs.Laws.{AreCounted}
 use Rattle.abc_program.specs.Linked.{LinkedFile}
 use Rattle.abc_program.specs.Slots.{HasFewSlots}
 use Rattle.abc_cli.specs.End.{stream}
-use Rattle.abc_cli.proofs.Ending.{nothing}
+use Rattle.abc_ticks.proofs.Pieces.{nothing}
 use Rattle.abc_cli.proofs.Running.{machine_verified, opened_runs, unopened_quiet, unopened_runs}
 use Rattle.abc_cli.proofs.run.run_verified.Goals as goal
 

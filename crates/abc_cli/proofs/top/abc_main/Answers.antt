@@ -6,7 +6,8 @@ use Rattle.abc_words.specs.declared.command.Command.TheVariants as commands
 use Rattle.abc_cli.specs.End.{Ends, GivesLine, stream}
 use Rattle.abc_cli.specs.Answers.{Answer}
 use Rattle.abc_cli.specs.Outcome.{AsksNoInput, CommandOutcome, IsOutcome, usage_answer}
-use Rattle.abc_cli.proofs.Ending.{line_ends, nothing, weaker}
+use Rattle.abc_ticks.proofs.Pieces.{nothing}
+use Rattle.abc_cli.proofs.Ending.{line_ends, weaker}
 use Rattle.abc_cli.proofs.Usages.{usage_found, is_usage, usage_not_memory, usage_outcome, same_command, same_usage, not_ok, end_not_usage, unread_command, asking, few_methods}
 use Rattle.abc_cli.proofs.Listings.{lists}
 use Rattle.abc_cli.proofs.top.abc_main.Goals as goal
