@@ -129,9 +129,9 @@ module _ (l k : LinkedFile) (fs : List Formula) (s : State) (fuel : ℕ) (e : Op
       run_keeps = record {
         begins = λ q. absurd cc;
         goes_on = λ q still.
-          let done : end ≡ ends.Done = cc in
-          let there = leaves (λ f. absurd (let two : ends.Done ≡ ends.WriteFault = sym done ∙ f in cc)) in
-          subst (λ (i : LinkedFile). CanGoOn i u) same (can_go_on l fs left_world t u left_sound there drops (subst (IsKnown l) (sym limit) first_reached.known));
+            let done : end ≡ ends.Done = cc in
+            let there = leaves (λ f. absurd (let two : ends.Done ≡ ends.WriteFault = sym done ∙ f in cc)) in
+            subst (λ (i : LinkedFile). CanGoOn i u) same (can_go_on l fs left_world t u left_sound there drops (subst (IsKnown l) (sym limit) first_reached.known));
       }
 
       pub run_world : end ≢ ends.WriteFault → kept_world u ≡ silent (world_run m fs fuel)

@@ -50,7 +50,6 @@ front_behind known now xs bytes more g = record {
   front = g.front ∙ append_more known xs (take g.count bytes) ∙ ap (append_known known) (taken_front more xs bytes g.count);
 }
 
-
 -- ---- one step more
 
 -- what comes of a step that ends
