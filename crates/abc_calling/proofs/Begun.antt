@@ -1,5 +1,5 @@
 -- A method of the last script is entered over no frame, and what the call begins with.
-use Rattle.std.proofs.Common.{◌≡◌, ◌≢◌, ℕ, ℤ, ◌<◌, ◌^◌, List, [], ◌∷◌, length, drop, refl, sym, ap, ◌∙◌, subst, arith}
+use Rattle.std.proofs.Common.{◌≡◌, ℕ, ℤ, ◌<◌, ◌^◌, List, [], ◌∷◌, length, drop, refl, sym, ap, ◌∙◌, subst, arith}
 use Rattle.std.specs.Prelude.{Ok, Err}
 use Rattle.std.specs.declared.result.Result.{Result}
 use Rattle.abc_base.specs.Ranges.{IsNumber}
@@ -32,7 +32,7 @@ use Rattle.abc_states.specs.Turns.{GoesOn, Gives, Halts, Turned, size_for}
 use Rattle.abc_states.specs.WorldEntering.{enters, global}
 use Rattle.abc_states.specs.WorldObjects.{Place, place_of_owner}
 use Rattle.abc_states.specs.WorldSetting.{Setting}
-use Rattle.abc_states.specs.World.{Fills, Outcome, Stop, Stopped, Went, World, and_then}
+use Rattle.abc_states.specs.World.{Outcome, Stop, Stopped, Went, World, and_then}
 use Rattle.abc_states.proofs.Turning.{open_first}
 use Rattle.abc_states.specs.declared.state.State.{State}
 use Rattle.abc_states.specs.declared.state.Stop.{Stop as Why}

@@ -9,4 +9,4 @@ mod starting;
 
 pub use finishing::finish;
 pub use halting::Halt;
-pub use starting::{put_alone, start_last};
+pub use starting::{method_at, put_alone, start_last};

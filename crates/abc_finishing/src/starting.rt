@@ -1,4 +1,4 @@
-ghost use Rattle.std.specs.Prelude.{◌≡◌, ◌≢◌, ◌<◌, ◌++◌, ℕ, List, [], Err, Some, drop, length, slice_get};
+ghost use Rattle.std.specs.Prelude.{◌≡◌, ◌≢◌, ◌<◌, ◌++◌, ℕ, List, [], Err, IsSome, Some, drop, length, slice_get};
 ghost use Rattle.std.specs.declared.option.Option.{Option};
 ghost use Rattle.abc_cells.specs.Filling.{HasRoom};
 ghost use Rattle.abc_cells.specs.declared.values.Value.{Value};
@@ -19,7 +19,7 @@ ghost use Rattle.abc_finishing.specs.declared.halting.Halt.TheVariants.{Fails, R
 use crate::halting::{Halt, halted};
 use abc_cells::Value;
 use abc_ends::{Ended, stopped};
-use abc_entering::{entry_of, global_of, method_at, prepare};
+use abc_entering::{entry_of, global_of, prepare};
 use abc_link::Linked;
 use abc_moves::try_start;
 use abc_stacks::Pile;
@@ -31,6 +31,17 @@ const ARGUMENTS: u8 = 0x01;
 
 /// The flag of a method that takes an array of the arguments behind its parameters.
 const REST: u8 = 0x04;
+
+/// A method of the file.
+pub fn method_at(linked: &Linked, method: u32) -> &Method
+    requires { IsSome (slice_get linked.now.file.methods method) }
+    ensures { slice_get linked.now.file.methods method ≡ Some result.now }
+{
+    match linked.abc().methods.find(method as usize) {
+        Some(found) => found,
+        None => unreachable!(),
+    }
+}
 
 /// The array of some arguments.
 fn array_with(linked: &Linked, s: &mut State, args: &[Value]) -> Result<Option<Value>, Stop>

@@ -1,7 +1,5 @@
-use Rattle.std.proofs.Common.{◌≡◌, ◌∙◌, List, take, ap, subst, sym}
+use Rattle.std.proofs.Common.{◌∙◌}
 use Rattle.abc_base.specs.Hosts.{arguments}
-use Rattle.abc_callmeaning.specs.Calls.{numbers}
-use Rattle.abc_cells.specs.declared.values.Value.{Value}
 use Rattle.abc_states.specs.Outer.{setting, world}
 use Rattle.abc_states.specs.Stops.{why}
 use Rattle.abc_calling.proofs.Begun.{call_open, can_end, goes_is, goes_reached, goes_sized, scripts_few, scripts_there, stops_is}

@@ -1,4 +1,4 @@
-use Rattle.std.proofs.Common.{◌≡◌, ◌<◌, ◌∙◌, List, length, drop, ap, subst, sym, arith}
+use Rattle.std.proofs.Common.{◌<◌, ◌∙◌, List, length, drop, ap, subst, sym, arith}
 use Rattle.std.proofs.lemmas.Result.{err_from_is_err_and}
 use Rattle.abc_cells.specs.declared.values.Value.{Value}
 use Rattle.abc_entering.specs.Arguments.{receiver}
@@ -10,7 +10,7 @@ use Rattle.abc_program.specs.declared.types.Owner.{Owner}
 use Rattle.abc_stacks.specs.Frame.{Frame, Frames}
 use Rattle.abc_states.specs.Outer.{setting, world}
 use Rattle.abc_states.specs.Stops.{IsOpen, why}
-use Rattle.abc_states.specs.WorldObjects.{Place, place_of_owner}
+use Rattle.abc_states.specs.WorldObjects.{place_of_owner}
 use Rattle.abc_states.specs.World.{Outcome}
 use Rattle.abc_calling.proofs.Begun.{last_alone, last_open, last_stops, place_open}
 use Rattle.abc_calling.specs.Calling.{enters_last}

@@ -1,4 +1,4 @@
-use Rattle.std.proofs.Common.{◌≡◌, ◌-◌, ◌<◌, ◌∙◌, ℕ, length, ap, sym, arith}
+use Rattle.std.proofs.Common.{◌≡◌, ◌-◌, ◌∙◌, ℕ, length, ap, arith}
 use Rattle.abc_states.specs.Outer.{world}
 use Rattle.abc_states.specs.WorldEntering.{global}
 use Rattle.abc_tables.specs.declared.tables.Abc.{Abc}

@@ -1,4 +1,4 @@
-use Rattle.std.proofs.Common.{◌≡◌, ◌+◌, ◌<◌, ◌≤◌, length, refl, arith}
+use Rattle.std.proofs.Common.{◌<◌, length, refl, arith}
 use Rattle.abc_calling.proofs.Dropped.{all_left, fewer, left_on}
 use Rattle.abc_calling.proofs.dropping.leave_all.Goals as goal
 
