@@ -14,6 +14,7 @@ use Rattle.abc_callmeaning.specs.Laws.{IsScriptMethod}
 use Rattle.abc_cells.specs.declared.values.Span.{Span}
 use Rattle.abc_cells.specs.declared.values.Value.{Value}
 use Rattle.abc_cells.specs.declared.values.Value.TheVariants as values
+use Rattle.abc_ends.specs.Ending.{IsSized}
 use Rattle.abc_entering.specs.Arguments.{IsKnown}
 use Rattle.abc_finishing.proofs.Typed.{has_typings}
 use Rattle.abc_heap.specs.Heap.{Heap}
@@ -108,7 +109,7 @@ module _ (l k : LinkedFile) (fs : List Formula) (s : State) (e : Option End) (cl
       verified = verified;
       sound = sound;
       none = goes_on.none;
-      sized = goes_on.sized fs;
+      sized = subst (λ (i : LinkedFile). IsSized (setting i fs) s.arena.limits s.frames) (sym same) (goes_on.sized fs);
       known = known;
       exported = exported_here;
     }
