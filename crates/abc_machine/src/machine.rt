@@ -8,6 +8,7 @@ ghost use Rattle.abc_machine.specs.Invoked.{Answers, call_of};
 ghost use Rattle.abc_machine.specs.Machines.{IsOpened, IsReady, world_run};
 ghost use Rattle.abc_machine.specs.Replied.{HasReplied};
 ghost use Rattle.abc_machine.specs.declared.ends.End.{End};
+ghost use Rattle.abc_machine.specs.declared.replies.PlainValue.TheVariants.{Text};
 ghost use Rattle.abc_meaning.specs.Meaning.{meaning};
 ghost use Rattle.abc_objects.specs.Opening.{formula_names};
 ghost use Rattle.abc_openings.specs.Begun.{IsRefused, setting};
@@ -114,7 +115,7 @@ impl Machine {
         requires method { IsScriptMethod (setting self.old.linked (H.formulas host.now)) method }
         ensures answers { Answers self.old self.new (call_of method args.now fuel (H.formulas host.now)) (K.written out.old) (K.written out.new) result }
         ensures cause { HasReplied (K.faults out.old) (K.faults out.new) result }
-        ensures text { (s : Span) → result ≡ Reply.Value (PlainValue.Text s) → IsText self.new.linked.file.strings self.new.world.heap s }
+        ensures text { (s : Span) → result ≡ Reply.Value (Text s) → IsText self.new.linked.file.strings self.new.world.heap s }
     {
         let linked = self.verified.linked();
         linked.linked_law();
