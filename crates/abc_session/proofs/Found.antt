@@ -15,11 +15,11 @@ use Rattle.abc_world.specs.Setting.{Setting}
 
 found_among : (test : TraitInfo → Bool) (ts : List TraitInfo) (t : TraitInfo) → find test ts ≡ Some t → In t ts
 found_among test [] t e = absurd cc
-found_among test (x ∷ xs) t e = go (test x) e
+found_among test (x ∷ xs) t e = go (found_among test xs t) (test x) e
   where
-    go : (b : Bool) → cond b (Some x) (find test xs) ≡ Some t → In t (x ∷ xs)
-    go true e = let same : t ≡ x = cc in inl same
-    go false e = inr (found_among test xs t e)
+    go : (find test xs ≡ Some t → In t xs) → (b : Bool) → cond b (Some x) (find test xs) ≡ Some t → In t (x ∷ xs)
+    go more true e = let same : t ≡ x = cc in inl same
+    go more false e = inr (more e)
 
 method_there : (b : TraitBody) (m : ℕ) → method_in b ≡ Some m → (disp : ℕ) × (b ≡ bodies.Method disp m)
 method_there (bodies.Method disp n) m e = let same : n ≡ m = cc in (disp, ap (bodies.Method disp) same)

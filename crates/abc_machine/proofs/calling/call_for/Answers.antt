@@ -1,4 +1,4 @@
-use Rattle.std.proofs.Common.{refl, subst}
+use Rattle.std.proofs.Common.{[], refl, subst}
 use Rattle.std.specs.Prelude.{Ok, OnOk}
 use Rattle.std.specs.declared.result.Result.{Result}
 use Rattle.abc_base.specs.Hosts.{arguments}
