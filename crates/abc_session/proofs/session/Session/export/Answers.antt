@@ -1,6 +1,14 @@
+use Rattle.std.proofs.Common.{◌∙◌, ap}
+use Rattle.abc_callmeaning.specs.Exports.{export as export_of}
+use Rattle.abc_machine.specs.Machines.{Opened}
 use Rattle.abc_openings.specs.Begun.{setting}
+use Rattle.abc_program.specs.Linked.{LinkedFile}
 use Rattle.abc_session.proofs.Found.{exported}
 use Rattle.abc_session.proofs.session.Session.export.Goals as goal
 
+pub returns-clause-export : goal.returns-clause-export
+returns-clause-export c = λ formulas. c.export.ensures formulas ∙ ap (λ (l : LinkedFile). export_of (setting l formulas) c.args.name.now) (c.linked.ensures ∙ ap (λ (m : Opened). m.linked) c.self.view_is)
+
 pub returns-clause-method : goal.returns-clause-method
-returns-clause-method c = λ formulas. exported (setting c.args.self.now.linked formulas) c.args.name.now c.export.result (rw c.linked.ensures at (c.export.ensures formulas))
+returns-clause-method c =
+    λ formulas. exported (setting c.args.self.now.linked formulas) c.args.name.now c.export.result (c.export.ensures formulas ∙ ap (λ (l : LinkedFile). export_of (setting l formulas) c.args.name.now) (c.linked.ensures ∙ ap (λ (m : Opened). m.linked) c.self.view_is))
