@@ -1,12 +1,14 @@
 #!/usr/bin/env python3
 """Runs every command on inputs that want to hurt, and tells status, time and memory of each.
 
-Use: hostile.py PROGRAM FOLDER [--seconds 60]. The inputs are made in the folder: those of files.py, those of hurting.py, and their
-listings. A run that is stopped by a signal, that lasts longer than so many seconds or takes more than 2 * 10^9 bytes at the
-default limits is told at the end, and makes the status 1.
+Use: hostile.py PROGRAM FOLDER [--seconds 60] [--only WORD ..]. The inputs are made in the folder: those of files.py and those of
+hurting.py; listings of the files are assembled again. Programs that end at a limit are run with the greatest limits too. A run that is
+stopped by a signal, that lasts longer than so many seconds, that finds no memory where it may take 4 * 10^9 bytes, or takes more than
+2 * 10^9 at the default limits is told at the end, and makes the status 1.
 """
 import argparse
 import os
+import random
 import resource
 import subprocess
 import sys
@@ -15,11 +17,16 @@ import time
 import files
 import hurting
 
-KINDS = ("strings", "names", "definitions", "code", "compiled", "tiny", "chain", "interfaces", "traits", "one_text", "forward", "cycle",
-         "straight", "branches", "tries", "nested", "handlers", "deep", "scopes", "locals")
+KINDS = ("ints", "strings", "names", "definitions", "bodies", "code", "compiled", "tiny", "chain", "interfaces", "traits", "one_text",
+         "forward", "backward", "cycle", "straight", "branches", "tries", "nested", "handlers", "deep", "scopes", "locals")
 TEXTS = ("labels", "renewed", "long", "comment")
-MOST = 2 * 10**9
-LINE = "{:16} {:6} {:>6} {:>8} {:>8} {:>8}"
+OF_FILES = ("canon", "dis", "check", "tidy")
+ROOMS = ("objects", "cells", "text", "frames", "stack")
+GREATEST = ["run", "--fuel=4294967295", *(f"--{room}=16777216" for room in ROOMS)]
+# These end with their fuel, or are done.
+WITHOUT_LIMIT = ("throws", "lines", "missing", "scripts")
+ROOM, MOST, NO_MEMORY = 4 * 10**9, 2 * 10**9, 9
+LINE = "{:20} {:12} {:>6} {:>8} {:>8} {:>8}"
 
 
 class Inputs:
@@ -34,8 +41,9 @@ class Inputs:
     def write(self, name, make):
         path = self.path(name)
         if not os.path.exists(path):
+            made = make()
             with open(path, "wb") as out:
-                out.write(make())
+                out.write(made)
         return path
 
     def assembled(self, name, text):
@@ -43,28 +51,54 @@ class Inputs:
         with open(source, "rb") as given:
             return self.write(name + ".abc", lambda: subprocess.run([self.abc, "asm"], stdin=given, stdout=subprocess.PIPE, check=True).stdout)
 
+    def made(self, name, ending):
+        """The file of that kind, as files.py makes it."""
+        return self.write(name + ending, lambda: files.MAKERS[name](random.Random(name), files.SIZE))
+
     def all(self):
-        """Pairs of a name and the commands that read it, with the path."""
+        """Triples of a name, what makes the input and answers its path, and the words that read it."""
+        of_file = [[command] for command in OF_FILES]
         for name in KINDS:
-            yield name, self.path(name + ".abc"), ("canon", "dis", "check", "tidy")
+            yield name, lambda: self.made(name, ".abc"), of_file
         for name, make in hurting.FILES.items():
-            yield name, self.write(name + ".abc", make), ("canon", "dis", "check", "tidy")
+            yield name, lambda: self.write(name + ".abc", make), of_file
         for name in TEXTS:
-            yield name, self.path(name + ".abcasm"), ("asm",)
+            yield name, lambda: self.made(name, ".abcasm"), [["asm"]]
         for name, text in hurting.RUNS.items():
-            yield name, self.assembled("run_" + name, text), ("check", "run")
+            greatest = [] if name in WITHOUT_LIMIT else [GREATEST]
+            yield "run_" + name, lambda: self.assembled("run_" + name, text), [["check"], ["run"], *greatest]
+        yield "gen", lambda: os.devnull, [["gen", "--methods=10000"]]
 
 
-def measured(abc, command, path, seconds):
-    """Status (None where it lasts too long), seconds on the clock and of the processor, and the peak of memory."""
+def limit(seconds):
+    resource.setrlimit(resource.RLIMIT_CPU, (seconds, seconds))
+    resource.setrlimit(resource.RLIMIT_AS, (ROOM, ROOM))
+
+
+def measured(abc, words, path, out, seconds):
+    """Status (below 0 where a signal stopped it), seconds on the clock and of the processor, and the peak of memory."""
     begin = time.perf_counter()
-    with open(path, "rb") as source:
-        child = subprocess.Popen([abc, command], stdin=source, stdout=subprocess.DEVNULL, stderr=subprocess.DEVNULL,
-                                 preexec_fn=lambda: resource.setrlimit(resource.RLIMIT_CPU, (seconds, seconds)))
+    with open(path, "rb") as source, open(out, "wb") as sink:
+        child = subprocess.Popen([abc, *words], stdin=source, stdout=sink, stderr=subprocess.DEVNULL, preexec_fn=lambda: limit(seconds))
         _, status, usage = os.wait4(child.pid, 0)
     child.returncode = os.waitstatus_to_exitcode(status)
     clock, cpu = time.perf_counter() - begin, usage.ru_utime + usage.ru_stime
     return child.returncode, clock, cpu, usage.ru_maxrss * 1024
+
+
+class Table:
+    """The lines of the table, and what is told at its end."""
+
+    def __init__(self, abc, seconds):
+        self.abc, self.seconds, self.bad = abc, seconds, []
+
+    def add(self, name, words, path, out=os.devnull):
+        status, clock, cpu, peak = measured(self.abc, words, path, out, self.seconds)
+        shown = "run, greatest" if words == GREATEST else words[0]
+        print(LINE.format(name, shown, status, f"{clock:.2f}", f"{cpu:.2f}", f"{peak / 1e6:.0f}"), flush=True)
+        if status < 0 or status == NO_MEMORY or peak > MOST and words != GREATEST:
+            self.bad.append(f"{shown} {name}")
+        return status
 
 
 def main():
@@ -72,18 +106,23 @@ def main():
     parser.add_argument("program")
     parser.add_argument("folder")
     parser.add_argument("--seconds", type=int, default=60)
+    parser.add_argument("--only", nargs="*", default=[])
     given = parser.parse_args()
-    subprocess.run([sys.executable, files.__file__, given.folder, *KINDS, *TEXTS], check=True)
-    bad = []
+    os.makedirs(given.folder, exist_ok=True)
+    table, listing = Table(given.program, given.seconds), os.path.join(given.folder, "listing")
     print(LINE.format("input", "", "status", "clock s", "cpu s", "MB"))
-    for name, path, commands in Inputs(given.program, given.folder).all():
-        for command in commands:
-            status, clock, cpu, peak = measured(given.program, command, path, given.seconds)
-            print(LINE.format(name, command, status, f"{clock:.2f}", f"{cpu:.2f}", f"{peak / 1e6:.0f}"), flush=True)
-            if status < 0 or peak > MOST:
-                bad.append(f"{command} {name}")
-    if bad:
-        sys.exit("too long, too large, or stopped: " + ", ".join(bad))
+    for name, make, all_words in Inputs(given.program, given.folder).all():
+        if given.only and name not in given.only:
+            continue
+        path = make()
+        for words in all_words:
+            listed = words == ["dis"]
+            if table.add(name, words, path, listing if listed else os.devnull) == 0 and listed:
+                table.add(name, ["asm"], listing)
+    if os.path.exists(listing):
+        os.remove(listing)
+    if table.bad:
+        sys.exit("too long, too large, no memory, or stopped: " + ", ".join(table.bad))
 
 
 if __name__ == "__main__":

@@ -2,7 +2,7 @@
 the bytes of a file can. As assembly texts and as files."""
 from spelling import number
 from statements import distance
-from verifying import HANDLED, of_bodies
+from verifying import exception, of_bodies
 
 CODE = (1 << 23) - 1
 LAST = b"\x47"
@@ -95,8 +95,35 @@ def covered():
     unit = b"".join(b"\x24\x01\x63" + number(n % 64) for n in range(1024))
     code = unit * 256
     end = len(code)
-    exceptions = [b"".join(map(number, (0, end, end + 1))) + HANDLED] * (1 << 16)
-    return of_bodies((64, code + LAST + b"\x29" + LAST, exceptions))
+    return of_bodies((64, code + LAST + b"\x29" + LAST, [exception(0, end, end + 1)] * (1 << 16)))
 
 
-FILES = {"nops": nops, "to_one_place": to_one_place, "switches": switches, "covered": covered}
+def covered_branches():
+    """2^12 handlers over all of a body with 2^14 branches, each to the next place: so many walks, and each is told to all handlers."""
+    code = b"\x24\x01\xd5\x10\0\0\0" * (1 << 14)
+    exceptions = [exception(0, len(code), len(code) + 1)] * (1 << 12)
+    return of_bodies((3, code + LAST + b"\x29" + LAST, exceptions))
+
+
+def nests():
+    """2^13 handlers, each around the next, over as many instructions before their middle as behind it."""
+    count = 1 << 13
+    code = b"\xc2\x01" * (2 * count)
+    exceptions = [exception(2 * n, len(code) - 2 * n, len(code) + 1) for n in range(count)]
+    return of_bodies((3, code + LAST + b"\x29" + LAST, exceptions))
+
+
+def states():
+    """A body with 65,535 locals and 2^13 branches to the next place: a state for each is 2^29 kinds."""
+    return of_bodies((65535, b"\x10\0\0\0" * (1 << 13) + LAST, []))
+
+
+FILES = {
+    "nops": nops,
+    "to_one_place": to_one_place,
+    "switches": switches,
+    "covered": covered,
+    "covered_branches": covered_branches,
+    "nests": nests,
+    "states": states,
+}

@@ -1,5 +1,5 @@
 #!/usr/bin/env python3
-"""Refuses each allocation of each command, one at a time, on small files, and tells how many there were.
+"""Refuses each allocation of each command, one at a time, on the examples and a generated file, and tells how many there were.
 
 Use: refused.py PROGRAM. Each run has to end with status 9, the line `abc: no memory` and nothing on standard output. An allocation
 of the system's libraries may do without its memory: then the run ends as it does with all memory, and is counted apart. The program is
@@ -10,20 +10,31 @@ import subprocess
 import sys
 import tempfile
 
+import running
+from spelling import SIZE
+
 HERE = os.path.dirname(os.path.abspath(__file__))
 EXAMPLES = os.path.join(HERE, "..", "examples")
-NAMES = sorted(name[:-4] for name in os.listdir(EXAMPLES) if name.endswith(".abc"))
+NAMES = sorted(name[:-7] for name in os.listdir(EXAMPLES) if name.endswith(".abcasm"))
 NO_MEMORY = (9, b"", b"abc: no memory\n")
+
+
+def texts():
+    """The texts of the examples, and that of the program of `gen` with four functions."""
+    for name in NAMES:
+        with open(os.path.join(EXAMPLES, name + ".abcasm"), "rb") as given:
+            yield given.read()
+    yield running.generated(None, SIZE // 2500)
 
 
 def cases(program):
     """Words and an input of each run."""
-    for name in NAMES:
-        path = os.path.join(EXAMPLES, name)
+    for text in texts():
+        yield ["asm"], text
+        file = subprocess.run([program, "asm"], input=text, stdout=subprocess.PIPE, check=True).stdout
         for command in ("canon", "dis", "check", "tidy", "run"):
-            yield [command], open(path + ".abc", "rb").read()
-        yield ["asm"], open(path + ".abcasm", "rb").read()
-    yield ["gen", "--methods=2"], b""
+            yield [command], file
+    yield ["gen", "--methods=4"], b""
 
 
 class Runs:

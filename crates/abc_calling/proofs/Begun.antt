@@ -9,7 +9,7 @@ use Rattle.abc_callmeaning.proofs.Fairly.{call_fair}
 use Rattle.abc_callmeaning.specs.Calls.{begins_call, entered_call, enters_call, numbers, stops_call}
 use Rattle.abc_cells.specs.declared.values.Value.{Value}
 use Rattle.abc_ends.specs.Ending.{IsFree, IsSized, IsThrowable}
-use Rattle.abc_entering.specs.Arguments.{makes_arguments, receiver}
+use Rattle.abc_entering.specs.Arguments.{IsKnown, makes_arguments, receiver}
 use Rattle.abc_fair.proofs.Filed.{definitions, some_script}
 use Rattle.abc_fair.proofs.Typed.{has_typings}
 use Rattle.abc_fair.specs.Fair.{IsFairPart}
@@ -36,7 +36,6 @@ use Rattle.abc_states.specs.World.{Outcome, Stop, Stopped, Went, World, and_then
 use Rattle.abc_states.proofs.Turning.{open_first}
 use Rattle.abc_states.specs.declared.state.State.{State}
 use Rattle.abc_states.specs.declared.state.Stop.{Stop as Why}
-use Rattle.abc_entering.specs.Arguments.{IsKnown}
 use Rattle.abc_typing.specs.Lists.{Each}
 
 -- ---- the method that is entered: `this` is the script's global object, and `at` is where the method runs
