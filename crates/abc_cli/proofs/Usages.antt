@@ -24,7 +24,7 @@ use Rattle.abc_cli.specs.Runs.{IsEnded, IsMeant, Run, default_options, limits_of
 use Rattle.abc_base.specs.declared.formula.Formula.{Formula}
 use Rattle.abc_gen.specs.Generated.{generated}
 use Rattle.abc_meaning.specs.Meaning.{Meaning, Ran, TooSmall, meaning}
-use Rattle.abc_meaning.specs.WorldSetting.{Setting}
+use Rattle.abc_meaning.specs.WorldSetting.{Setting as World}
 use Rattle.abc_meaning.specs.Throwing.{Done, End, FuelSpent, Full, Profile, Stuck, Uncaught}
 use Rattle.abc_tables.specs.declared.tables.Abc.{Abc}
 use Rattle.abc_tables.specs.Files.{file_bytes}
@@ -131,7 +131,7 @@ runs_not_usage : (o : RunOptions) (fs : List Formula) (input : List ℕ) (a : An
 runs_not_usage o fs input a (OfFileRead.accepted v starts f x) e = run_not_usage o fs v starts a x e
 runs_not_usage o fs input a (OfFileRead.refused r f x) e = let h = ap (λ (y : Answer). y.status) x in cc
 
-called_not_usage : (o : CallsOptions) (p : Setting) (starts : List (List ℕ)) (a : Answer) → IsCalled o p starts a → a.status ≡ status.Usage → ⊥
+called_not_usage : (o : CallsOptions) (p : World) (starts : List (List ℕ)) (a : Answer) → IsCalled o p starts a → a.status ≡ status.Usage → ⊥
 called_not_usage o p starts a (IsCalled.unopened limit small is) e = let h = ap (λ (y : Answer). y.status) is in cc
 called_not_usage o p starts a (IsCalled.unexported fits exports is) e = let h = ap (λ (y : Answer). y.status) is in cc
 called_not_usage o p starts a (IsCalled.ran method fits exports is) e = meant_not_usage p.linked.file starts (calls_meaning p (limits_of o.run) o.run.fuel o.times method) a is e
