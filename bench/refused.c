@@ -1,17 +1,28 @@
 /* Loaded before a program's libraries: the allocation that REFUSED numbers, from 1 on, finds no memory, and the file COUNTED gets how
-   many were asked for. */
+   many were asked for. The read of standard input that READ numbers fails, and so does the write that WRITE numbers, of standard output
+   or standard error, and with AND_LATER each write after it; with PIECE no call moves more than so many bytes. */
 #define _GNU_SOURCE
 #include <dlfcn.h>
 #include <errno.h>
 #include <stdio.h>
 #include <stdlib.h>
+#include <sys/syscall.h>
+#include <unistd.h>
 
-static unsigned long count;
-static unsigned long refused;
+static unsigned long count, reads, writes;
+static unsigned long refused, failing_read, failing_write, and_later, piece;
+
+static unsigned long number(const char *name) {
+    const char *word = getenv(name);
+    return word ? strtoul(word, NULL, 10) : 0;
+}
 
 __attribute__((constructor)) static void begin(void) {
-    const char *word = getenv("REFUSED");
-    refused = word ? strtoul(word, NULL, 10) : 0;
+    refused = number("REFUSED");
+    failing_read = number("READ");
+    failing_write = number("WRITE");
+    and_later = number("AND_LATER");
+    piece = number("PIECE");
     count = 0;
 }
 
@@ -48,4 +59,24 @@ int posix_memalign(void **made, size_t to, size_t size) {
         return ENOMEM;
     *made = memory;
     return 0;
+}
+
+static ssize_t failed(void) {
+    errno = EIO;
+    return -1;
+}
+
+static size_t cut(size_t size) { return piece && size > piece ? piece : size; }
+
+ssize_t read(int from, void *to, size_t size) {
+    if (from == 0 && ++reads == failing_read)
+        return failed();
+    return syscall(SYS_read, from, to, cut(size));
+}
+
+ssize_t write(int to, const void *from, size_t size) {
+    ++writes;
+    if (writes == failing_write || (and_later && failing_write && writes > failing_write))
+        return failed();
+    return syscall(SYS_write, to, from, cut(size));
 }
