@@ -61,6 +61,8 @@ class Inputs:
             yield name, lambda: self.made(name, ".abc"), of_file
         for name, make in hurting.FILES.items():
             yield name, lambda: self.write(name + ".abc", make), of_file
+        for name, text in hurting.LINKED.items():
+            yield name, lambda: self.assembled(name, text()), of_file
         for name in TEXTS:
             yield name, lambda: self.made(name, ".abcasm"), [["asm"]]
         for name, text in hurting.RUNS.items():
