@@ -9,10 +9,9 @@ stopped by a signal, that lasts longer than so many seconds, that finds no memor
 import argparse
 import os
 import random
-import resource
 import subprocess
 import sys
-import time
+import tempfile
 
 import files
 import hurting
@@ -62,6 +61,8 @@ class Inputs:
             yield name, lambda: self.made(name, ".abc"), of_file
         for name, make in hurting.FILES.items():
             yield name, lambda: self.write(name + ".abc", make), of_file
+        for name, text in hurting.LINKED.items():
+            yield name, lambda: self.assembled(name, text()), of_file
         for name in TEXTS:
             yield name, lambda: self.made(name, ".abcasm"), [["asm"]]
         for name, text in hurting.RUNS.items():
@@ -70,20 +71,14 @@ class Inputs:
         yield "gen", lambda: os.devnull, [["gen", "--methods=10000"]]
 
 
-def limit(seconds):
-    resource.setrlimit(resource.RLIMIT_CPU, (seconds, seconds))
-    resource.setrlimit(resource.RLIMIT_AS, (ROOM, ROOM))
-
-
 def measured(abc, words, path, out, seconds):
-    """Status (below 0 where a signal stopped it), seconds on the clock and of the processor, and the peak of memory."""
-    begin = time.perf_counter()
-    with open(path, "rb") as source, open(out, "wb") as sink:
-        child = subprocess.Popen([abc, *words], stdin=source, stdout=sink, stderr=subprocess.DEVNULL, preexec_fn=lambda: limit(seconds))
-        _, status, usage = os.wait4(child.pid, 0)
-    child.returncode = os.waitstatus_to_exitcode(status)
-    clock, cpu = time.perf_counter() - begin, usage.ru_utime + usage.ru_stime
-    return child.returncode, clock, cpu, usage.ru_maxrss * 1024
+    """Status (above 128 where a signal stopped it), seconds on the clock and of the processor, and the peak of memory, by GNU time."""
+    limits = ["prlimit", f"--cpu={seconds}", f"--as={ROOM}"]
+    with open(path, "rb") as source, open(out, "wb") as sink, tempfile.NamedTemporaryFile("r") as told:
+        timed = ["/usr/bin/time", "-o", told.name, "-f", "%e %U %S %M", *limits, abc, *words]
+        status = subprocess.run(timed, stdin=source, stdout=sink, stderr=subprocess.DEVNULL).returncode
+        clock, user, system, peak = map(float, told.read().splitlines()[-1].split())
+    return status, clock, user + system, peak * 1024
 
 
 class Table:
@@ -96,7 +91,7 @@ class Table:
         status, clock, cpu, peak = measured(self.abc, words, path, out, self.seconds)
         shown = "run, greatest" if words == GREATEST else words[0]
         print(LINE.format(name, shown, status, f"{clock:.2f}", f"{cpu:.2f}", f"{peak / 1e6:.0f}"), flush=True)
-        if status < 0 or status == NO_MEMORY or peak > MOST and words != GREATEST:
+        if status > 128 or status == NO_MEMORY or peak > MOST and words != GREATEST:
             self.bad.append(f"{shown} {name}")
         return status
 

@@ -127,3 +127,41 @@ FILES = {
     "nests": nests,
     "states": states,
 }
+
+
+def linked(strings, names, methods, items, bodies, spaces="ns Package 0", sets=""):
+    """A text whose script has the last method; the bodies return at once."""
+    lines = ["abc 16 46", *(f'string "{s}"' for s in strings), spaces, *([sets] if sets else []), *names, *methods, *items]
+    return "\n".join([*lines, *(f"body {of} 1 1 0 1\nreturnvoid" for of in bodies)]) + "\n"
+
+
+def public(count):
+    return [f"name QName 1 {n + 1}" for n in range(count)]
+
+
+def interface_chain(count=1 << 12):
+    """Interfaces of which each names the next: as many sets, of all that are below."""
+    instances = [f"instance {n + 1} 0 4" + (f"\nimplements {n + 2}" if n + 1 < count else "") + f"\niinit {2 * n}" for n in range(count)]
+    items = [*instances, *(f"class {2 * n + 1}" for n in range(count)), f"script {2 * count}"]
+    bodies = [*(2 * n + 1 for n in range(count)), 2 * count]
+    return linked([f"i{n}" for n in range(count)], public(count), ["method 0 0 0"] * (2 * count + 1), items, bodies)
+
+
+def slot_chain(count=1 << 12):
+    """Classes of which each has the next as its base and a slot of its own: as many layouts, with all slots of those below."""
+    strings = [f"{kind}{n}" for kind in "cs" for n in range(count)]
+    bases = [*range(2, count + 1), 0]
+    instances = [f"instance {n + 1} {base} 0\niinit {2 * n}\ntrait slot 0 {count + n + 1} 0 0 0" for n, base in enumerate(bases)]
+    items = [*instances, *(f"class {2 * n + 1}" for n in range(count)), f"script {2 * count}"]
+    return linked(strings, public(2 * count), ["method 0 0 0"] * (2 * count + 1), items, range(2 * count + 1))
+
+
+def long_set(count=1 << 14):
+    """As many names of types with one set of as many namespaces, none of which is found."""
+    names = [f"name Multiname {n + 1} 1" for n in range(count)]
+    methods = ["method 0 0 0", "method 0 0 0", *(f"param {n + 1}" for n in range(count))]
+    strings, spaces = [f"t{n}" for n in range(count)], "\n".join(["ns Private 0"] * count)
+    return linked(strings, names, methods, ["script 0"], [0], spaces, "set " + " ".join(str(n + 1) for n in range(count)))
+
+
+LINKED = {"interface_chain": interface_chain, "slot_chain": slot_chain, "long_set": long_set}
