@@ -3,15 +3,13 @@ use Rattle.std.proofs.Common.{◌≡◌, ℕ, ◌≤◌, Bool, true, false, List
 use Rattle.std.proofs.Math.Logic.{∥∥₁_map}
 use Rattle.std.proofs.lemmas.Grind.{flat_map-append}
 use Rattle.std.proofs.lemmas.List.{append-nil}
-use Rattle.std.specs.Prelude.{codes, is_some, IsSome, None, Some, Ok, Err}
+use Rattle.std.specs.Prelude.{codes, is_some, IsSome, None, Some}
 use Rattle.std.specs.List.{flat_map}
 use Rattle.std.specs.Io.KnownBytes.{append_known}
 use Rattle.std.specs.declared.option.Option.{Option}
-use Rattle.std.specs.declared.result.Result.{Result}
-use Rattle.abc_base.specs.Faults.{HasCause, Rose}
-use Rattle.abc_base.specs.Sinks.{GrowsByFront, WritesAll}
-use Rattle.abc_base.specs.declared.source.Failed.{Failed}
-use Rattle.abc_base.proofs.Writing.{front_first, front_second, known_told, known_twice}
+use Rattle.abc_base.specs.Faults.{Rose}
+use Rattle.abc_base.specs.Sinks.{GrowsByFront}
+use Rattle.abc_base.proofs.Writing.{front_second, known_told, known_twice}
 use Rattle.abc_compare.specs.Followed.{bytes_in, noted, number_in}
 use Rattle.abc_compare.proofs.Following.{bytes_noted, number_noted}
 use Rattle.abc_loglines.specs.Lines.{hex_of, out_line}
