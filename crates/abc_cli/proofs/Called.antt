@@ -5,16 +5,16 @@ use Rattle.std.specs.declared.option.Option.{Option}
 use Rattle.abc_base.specs.declared.formula.Formula.{Formula}
 use Rattle.abc_base.specs.declared.status.Status.{Status}
 use Rattle.abc_base.specs.declared.status.Status.TheVariants as status
-use Rattle.abc_cli.proofs.Ending.{line_ends, of_any, stopped_undone, stops_as}
+use Rattle.abc_cli.proofs.Ending.{line_ends, stopped_undone, stops_as}
 use Rattle.abc_cli.proofs.Running.{meant_quiet, memory_runs, runs_weaker, unverified_quiet}
-use Rattle.abc_cli.specs.Answers.{Answer, IsVerifiedOf, OfFileRead, Unverified, told}
+use Rattle.abc_cli.specs.Answers.{Answer, OfFileRead, Unverified, told}
 use Rattle.abc_cli.specs.Calls.{Calls, IsCalled}
 use Rattle.abc_cli.specs.End.{Channel, Got, GivesLine, HasFailed, RunsTo}
 use Rattle.abc_cli.specs.Endings.{open_answer}
 use Rattle.abc_cli.specs.Lines.{limit_text, no_export_text}
 use Rattle.abc_cli.specs.Outcome.{On}
 use Rattle.abc_cli.specs.Runs.{IsMeant, limits_of}
-use Rattle.abc_cli.specs.Stops.{IsReadVerified, Stops, stop_answer}
+use Rattle.abc_cli.specs.Stops.{Stops, stop_answer}
 use Rattle.abc_cli.specs.declared.stop.Stop.{Stop}
 use Rattle.abc_file.specs.Reading.{OfInput}
 use Rattle.abc_heap.specs.declared.records.Limits.{Limits}
@@ -29,6 +29,8 @@ use Rattle.abc_ticks.specs.Machines.{IsOpened, Opened}
 use Rattle.abc_ticks.specs.OpeningsBegun.{IsRefused}
 use Rattle.abc_ticks.specs.Ticks.{calls_meaning}
 use Rattle.abc_words.specs.declared.command.CallsOptions.{CallsOptions}
+use Rattle.abc_verified.proofs.Verifying.{of_any}
+use Rattle.abc_verified.specs.Verified.{IsReadVerified}
 
 abbrev p_of : LinkedFile → List Formula → Setting
 p_of l fs = record { linked = l; formulas = fs }

@@ -1,78 +1,50 @@
 -- What is answered about a file that was read, linked and verified.
-use Rattle.std.proofs.Common.{◌≡◌, ℕ, ◌<◌, ◌≤◌, List, Ok, length, refl, sym, ap, ◌∙◌, subst, arith}
+use Rattle.std.proofs.Common.{◌≡◌, ℕ, List, length, refl, ap, ◌∙◌}
 use Rattle.std.specs.declared.option.Option.{Option}
-use Rattle.std.proofs.lemmas.Option.{slice_get-get_or}
-use Rattle.abc_bodies.specs.Places.{ArePlaces}
-use Rattle.abc_program.specs.Linked.{IsLinkedFile, LinkedFile}
-use Rattle.abc_items.specs.declared.error.LinkError.{LinkError}
-use Rattle.abc_items.specs.declared.error.LinkError.TheVariants as refusals
-use Rattle.abc_items.specs.Firsts.{IsRefusal as IsUnlinked}
-use Rattle.abc_items.specs.Parts.{body_at, no_body}
-use Rattle.abc_file.specs.Reading.{AnswersFile, IsUsedUp, OfInput}
+use Rattle.abc_file.specs.Reading.{IsUsedUp, OfInput}
+use Rattle.abc_format.specs.Part.{refusal}
+use Rattle.abc_program.specs.Linked.{LinkedFile}
 use Rattle.abc_tables.specs.Files.{IsFileRead}
 use Rattle.abc_tables.specs.declared.tables.Abc.{Abc}
-use Rattle.abc_typing.specs.Routines.{Routine, routine}
-use Rattle.abc_typing.specs.Typing.{Derivable, Entry, Next, Join, Refutes, Broken, Unmerged}
-use Rattle.abc_typing.specs.declared.rule.VerifyRule.{VerifyRule}
-use Rattle.abc_typing.specs.declared.state.State.{State}
-use Rattle.abc_typing.proofs.Sized.{follows_inside}
-use Rattle.abc_verify.specs.Refusing.{IsRefusal}
-use Rattle.abc_verify.specs.declared.error.VerifyError.{VerifyError}
-use Rattle.abc_verify.specs.declared.error.VerifyError.TheVariants as errors
-use Rattle.abc_verify.proofs.Methods.{body_inside}
-use Rattle.abc_cli.specs.Lines.{verified_line}
-use Rattle.abc_cli.specs.End.{Channel}
-use Rattle.abc_cli.specs.Answers.{Answer, IsVerifiedOf, OfFileRead, Unverified, given}
+use Rattle.abc_verified.proofs.Verifying.{of_any}
+use Rattle.abc_verified.specs.Refusing.{IsRefused, IsRefusedBy, IsUnverified}
+use Rattle.abc_verified.specs.Verified.{IsReadVerified}
+use Rattle.abc_verified.specs.declared.error.VerifiedError.{VerifiedError}
+use Rattle.abc_verified.specs.declared.error.VerifiedError.TheVariants as errors
+use Rattle.abc_base.specs.declared.status.Status.TheVariants as status
+use Rattle.abc_cli.specs.Lines.{unverified_text, verified_line}
+use Rattle.abc_cli.specs.End.{Channel, HasFailed}
+use Rattle.abc_cli.specs.Answers.{Answer, OfFileRead, Unverified, given, told}
 use Rattle.abc_cli.specs.Outcome.{Check}
-use Rattle.abc_cli.specs.Stops.{Gives, IsPlaced, IsReadVerified, StopsAt, stop_of_link, stop_of_verify}
-use Rattle.abc_cli.proofs.Ending.{memory_stops_at, of_any}
+use Rattle.abc_cli.specs.Stops.{Gives, Stops, stop_of_verified}
+use Rattle.abc_cli.proofs.Ending.{memory_stops}
 
--- ---- a file that doesn't link
+-- ---- an input that is no verified file
 
-pub link_stops_at : (v : Abc) (starts : List (List ℕ)) (e : LinkError) → IsUnlinked v e → StopsAt (Unverified v starts) (stop_of_link e)
-link_stops_at v starts (refusals.Refused rule i) h = record { answer = λ d. Unverified.unlinked rule i h refl; read = λ e. absurd cc }
-link_stops_at v starts refusals.NoMemory h = memory_stops_at (Unverified v starts)
+refused_unverified : (input : List ℕ) (e : VerifiedError) → IsRefused input e → OfFileRead Unverified input (told status.Refused (unverified_text e))
+refused_unverified input e (IsRefused.bad place reason h) = OfFileRead.refused (refusal place reason) h refl
+refused_unverified input e (IsRefused.unverified v starts f r h) = OfFileRead.accepted v starts r (e, h, refl)
 
--- ---- places in code
+pub verified_stops : (source : Channel) (e : VerifiedError) → OfInput source.before (λ input. IsRefusedBy input e) → (e ≡ errors.ReadFault → HasFailed source) → Stops (OfFileRead Unverified) source (stop_of_verified e)
+verified_stops source (errors.Refused place reason) f cause = record {
+  outcome = λ d. of_any (λ input. IsRefusedBy input (errors.Refused place reason)) (λ input. OfFileRead Unverified input (told status.Refused (unverified_text (errors.Refused place reason)))) source.before
+      (λ b h. refused_unverified b (errors.Refused place reason) h) f;
+  cause = λ h. absurd cc;
+}
+verified_stops source (errors.Link rule i) f cause = record {
+  outcome = λ d. of_any (λ input. IsRefusedBy input (errors.Link rule i)) (λ input. OfFileRead Unverified input (told status.Refused (unverified_text (errors.Link rule i)))) source.before
+      (λ b h. refused_unverified b (errors.Link rule i) h) f;
+  cause = λ h. absurd cc;
+}
+verified_stops source (errors.Verify m offset rule) f cause = record {
+  outcome = λ d. of_any (λ input. IsRefusedBy input (errors.Verify m offset rule)) (λ input. OfFileRead Unverified input (told status.Refused (unverified_text (errors.Verify m offset rule)))) source.before
+      (λ b h. refused_unverified b (errors.Verify m offset rule) h) f;
+  cause = λ h. absurd cc;
+}
+verified_stops source errors.ReadFault f cause = record { outcome = λ d. absurd d; cause = λ h. cause refl }
+verified_stops source errors.NoMemory f cause = memory_stops (OfFileRead Unverified) source
 
--- a state is derived at an instruction, or where code that is empty begins
-derived_inside : (l : LinkedFile) (m : Routine) (i : ℕ) (s : State) → Derivable l m i s → i ≤ length m.code
-derived_inside l m i s Entry = omega arith
-derived_inside l m i s (Next i' s' t' n' d fine f) = let h = follows_inside l m i' s' t' n' fine f in omega (arith, h)
-derived_inside l m i s (Join i' s' t' j' ds dt join) = derived_inside l m i' s' ds
-
-refuted_inside : (l : LinkedFile) (m : Routine) (i : ℕ) (r : VerifyRule) → Refutes l m i r → i ≤ length m.code
-refuted_inside l m i r (Broken s r' d e) = derived_inside l m i s d
-refuted_inside l m i r (Unmerged s t d d' e early) = derived_inside l m i s d
-
--- places that are those of the bodies have one for each refusal
-pub is_placed : (v : Abc) (starts : List (List ℕ)) (l : LinkedFile) (e : VerifyError) → l.file ≡ v → ArePlaces v.bodies starts → IsRefusal l e → IsPlaced starts e
-is_placed v starts l (errors.Refused m b i r) is p h =
-    let untyped = h.2 in
-    let lt : b < length v.bodies = subst (λ (a : Abc). b < length a.bodies) is (body_inside l.file m b untyped.of_method) in
-    let long = p.each b (body_at v b) (slice_get-get_or v.bodies b no_body lt) in
-    let low : i ≤ length (body_at v b).code = subst (λ (a : Abc). i ≤ length (body_at a b).code) is (refuted_inside l (routine l b) i r untyped.refuted) in
-    let count = p.count in
-    (omega (arith, lt, count), omega (arith, low, long))
-is_placed v starts l errors.NoMemory is p h = tt
-
--- ---- a file that links
-
-pub verify_stops_at : (v : Abc) (starts : List (List ℕ)) (l : LinkedFile) (e : VerifyError) → l.file ≡ v → IsLinkedFile l → IsRefusal l e → StopsAt (Unverified v starts) (stop_of_verify starts e)
-verify_stops_at v starts l (errors.Refused m b i r) is linked h = record { answer = λ d. Unverified.untyped l m b i r is linked h refl; read = λ e. absurd cc }
-verify_stops_at v starts l errors.NoMemory is linked h = memory_stops_at (Unverified v starts)
-
--- ---- a file that was read
-
--- the file that was read is the linked one
-pub read_verified_is : (left : Option (List ℕ)) (v : Abc) (starts : List (List ℕ)) (l : LinkedFile) → OfInput left (λ b. AnswersFile b (Ok (v, starts))) → IsVerifiedOf v l → OfInput left (IsReadVerified l starts)
-read_verified_is left v starts l f is =
-    of_any (λ b. AnswersFile b (Ok (v, starts))) (IsReadVerified l starts) left
-    (λ b r. record {
-      read = subst (λ (a : Abc). IsFileRead (a, starts) b) (sym is.file) r;
-      verified = record { file = refl; linked = is.linked; typed = is.typed };
-    })
-    f
+-- ---- `check`
 
 -- what `check` says of a file that isn't verified
 pub unverified_checked : (input : List ℕ) (a : Answer) → OfFileRead Unverified input a → OfFileRead Check input a

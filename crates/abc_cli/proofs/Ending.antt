@@ -20,6 +20,7 @@ use Rattle.abc_tables.proofs.Whole.{file_ready, read_spelled}
 use Rattle.abc_tidy.specs.declared.error.TidyError.{TidyError}
 use Rattle.abc_tidy.specs.declared.error.TidyError.TheVariants as tidying
 use Rattle.abc_tidy.specs.Rules.{IsTidied, IsTidyError}
+use Rattle.abc_verified.proofs.Verifying.{of_any}
 use Rattle.abc_cli.specs.declared.stop.Stop.{Stop}
 use Rattle.abc_cli.specs.declared.stop.Stop.TheVariants as stops
 use Rattle.abc_cli.specs.Lines.{read_fault_text, refusal_text, write_fault_text, no_memory_text}
@@ -69,10 +70,6 @@ memory_failed P F out err s o (inl g) = at_status P F out err s status.NoMemory 
 memory_failed P F out err s o (inr g) = at_status P F out err s status.WriteFault g.2 (IsEnd.memory_line_failed g.0 o g.1)
 
 -- ---- what a command gives, and why it stops
-
-pub of_any : (P Q : List ℕ → Type 0) (left : Option (List ℕ)) → ((b : List ℕ) → P b → Q b) → OfInput left P → OfInput left Q
-of_any P Q None f x = (x.0, f x.0 x.1)
-of_any P Q (Some b) f x = f b x
 
 pub any_input : (P : List ℕ → Type 0) (left : Option (List ℕ)) → ((b : List ℕ) → P b) → OfInput left P
 any_input P None f = ([], f [])

@@ -13,7 +13,7 @@ use Rattle.abc_cli.specs.Answers.{Answer, OfFile, given}
 use Rattle.abc_cli.specs.Outcome.{CommandOutcome, Dis, OutcomeOf, Asm, text_limit}
 use Rattle.abc_cli.specs.End.{Channel, Got, HasFailed, IsEnd, Ends}
 use Rattle.abc_cli.specs.Listed.{AreBytes, IsListed, Lists}
-use Rattle.abc_cli.proofs.Ending.{of_any}
+use Rattle.abc_verified.proofs.Verifying.{of_any}
 
 -- a run that ended well wrote an answer of its outcome
 ended_well : (P : Answer → Type 0) (F : Type 0) (out err : Channel) (s : Status) → IsEnd P F out err s → s ≡ status.Done → (a : Answer) × P a × Got out a.out × (a.status ≡ status.Done)

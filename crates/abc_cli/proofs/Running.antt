@@ -10,14 +10,14 @@ use Rattle.abc_base.specs.declared.names.Fault.{Fault}
 use Rattle.abc_base.specs.declared.status.Status.{Status}
 use Rattle.abc_base.specs.declared.status.Status.TheVariants as status
 use Rattle.abc_bodies.specs.Places.{ArePlaces}
-use Rattle.abc_cli.proofs.Ending.{bytes_failed, line_ends, memory_failed, of_any, stop_not_read, stopped_undone, stops_as, weaker}
-use Rattle.abc_cli.specs.Answers.{Answer, IsVerifiedOf, OfFileRead, Unverified, given, told}
+use Rattle.abc_cli.proofs.Ending.{bytes_failed, line_ends, memory_failed, stop_not_read, stopped_undone, stops_as, weaker}
+use Rattle.abc_cli.specs.Answers.{Answer, OfFileRead, Unverified, given, told}
 use Rattle.abc_cli.specs.End.{Channel, channel, Got, GivesLine, HasFailed, IsEnd, RunsTo, UsesUp}
 use Rattle.abc_cli.specs.Endings.{HasPlace, IsPlacedEnd, end_answer, open_answer}
 use Rattle.abc_cli.specs.Lines.{fuel_spent_text, limit_text, no_memory_text, uncaught_text}
 use Rattle.abc_cli.specs.Outcome.{On}
 use Rattle.abc_cli.specs.Runs.{IsEnded, IsMeant, Run, ended, limits_of, thrown_name}
-use Rattle.abc_cli.specs.Stops.{IsReadVerified, Stops, stop_answer}
+use Rattle.abc_cli.specs.Stops.{Stops, stop_answer}
 use Rattle.abc_cli.specs.declared.stop.Stop.{Stop}
 use Rattle.abc_file.specs.Reading.{OfInput}
 use Rattle.abc_heap.specs.declared.records.Limit.{Limit}
@@ -39,6 +39,8 @@ use Rattle.abc_ticks.specs.Machines.{IsOpened, Opened}
 use Rattle.abc_ticks.specs.OpeningsBegun.{IsRefused}
 use Rattle.abc_ticks.specs.Placed.{IsInstruction}
 use Rattle.abc_words.specs.declared.command.RunOptions.{RunOptions}
+use Rattle.abc_verified.proofs.Verifying.{of_any}
+use Rattle.abc_verified.specs.Verified.{IsReadVerified, IsVerifiedOf}
 
 -- ---- what a run ends to
 
@@ -199,8 +201,7 @@ meant_quiet v starts (TooSmall limit) a is d = let k = ap (λ (x : Answer). x.st
 meant_quiet v starts (Ran wrote e) a is d = ended_quiet v starts wrote e a is d
 
 pub unverified_quiet : (v : Abc) (starts : List (List ℕ)) (a : Answer) → Unverified v starts a → a.status ≡ status.Done → a.err ≡ []
-unverified_quiet v starts a (Unverified.unlinked rule i h x) d = let k = ap (λ (y : Answer). y.status) x in absurd cc
-unverified_quiet v starts a (Unverified.untyped l m b i rule is linked h x) d = let k = ap (λ (y : Answer). y.status) x in absurd cc
+unverified_quiet v starts a x d = let k = ap (λ (y : Answer). y.status) x.1.1 in absurd cc
 
 run_answer_quiet : (o : RunOptions) (fs : List Formula) (v : Abc) (starts : List (List ℕ)) (a : Answer) → Run o fs v starts a → a.status ≡ status.Done → a.err ≡ []
 run_answer_quiet o fs v starts a (Run.unverified x) d = unverified_quiet v starts a x d

@@ -91,8 +91,7 @@ file_not_usage Answers not input a (OfFile.accepted v f x) e = not v a x e
 file_not_usage Answers not input a (OfFile.refused r f x) e = let h = ap (λ (y : Answer). y.status) x in cc
 
 unverified_not_usage : (v : Abc) (starts : List (List ℕ)) (a : Answer) → Unverified v starts a → a.status ≡ status.Usage → ⊥
-unverified_not_usage v starts a (Unverified.unlinked rule i h x) e = let k = ap (λ (y : Answer). y.status) x in cc
-unverified_not_usage v starts a (Unverified.untyped l m b i rule is linked h x) e = let k = ap (λ (y : Answer). y.status) x in cc
+unverified_not_usage v starts a x e = let k = ap (λ (y : Answer). y.status) x.1.1 in cc
 
 check_not_usage : (v : Abc) (starts : List (List ℕ)) (a : Answer) → Check v starts a → a.status ≡ status.Usage → ⊥
 check_not_usage v starts a (Check.unverified u) e = unverified_not_usage v starts a u e

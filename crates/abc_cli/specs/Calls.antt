@@ -2,7 +2,8 @@
 use Rattle.std.specs.Prelude.{◌≡◌, ℕ, List, codes, None, Some}
 use Rattle.abc_base.specs.declared.formula.Formula.{Formula}
 use Rattle.abc_base.specs.declared.status.Status.TheVariants as status
-use Rattle.abc_cli.specs.Answers.{Answer, IsVerifiedOf, Unverified, told}
+use Rattle.abc_verified.specs.Verified.{IsVerifiedOf}
+use Rattle.abc_cli.specs.Answers.{Answer, Unverified, told}
 use Rattle.abc_cli.specs.Lines.{limit_text, no_export_text}
 use Rattle.abc_cli.specs.Runs.{IsMeant, limits_of}
 use Rattle.abc_heap.specs.declared.records.Limit.{Limit}

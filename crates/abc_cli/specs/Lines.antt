@@ -1,7 +1,7 @@
 -- The lines that the program writes where its status is not 0.
 use Rattle.std.specs.Prelude.{ℕ, List, [], ◌∷◌, ◌++◌, codes, decimal}
 use Rattle.abc_escape.specs.Escapes.{escaped}
-use Rattle.abc_format.specs.Part.{Refusal}
+use Rattle.abc_format.specs.Part.{Refusal, refusal}
 use Rattle.abc_format.specs.Reasons.{reason_name}
 use Rattle.abc_heap.specs.declared.records.Limit.{Limit}
 use Rattle.abc_heap.specs.declared.records.Limit.TheVariants as limits
@@ -15,6 +15,8 @@ use Rattle.abc_tidy.specs.declared.error.TidyRule.TheVariants as tidying
 use Rattle.abc_tidy.specs.Rules.{rule_name as tidy_rule_name}
 use Rattle.abc_typing.specs.RuleNames.{rule_name as verify_rule_name}
 use Rattle.abc_typing.specs.declared.rule.VerifyRule.{VerifyRule}
+use Rattle.abc_verified.specs.declared.error.VerifiedError.{VerifiedError}
+use Rattle.abc_verified.specs.declared.error.VerifiedError.TheVariants as errors
 
 -- `abc: `, a text, and a line feed
 unfoldable pub line : List ℕ → List ℕ
@@ -62,6 +64,20 @@ code_text m offset name = codes "method " ++ decimal m ++ codes " offset " ++ de
 abbrev pub untyped_text : ℕ → ℕ → VerifyRule → List ℕ
 untyped_text m offset rule = code_text m offset (verify_rule_name rule)
 
+unfoldable pub read_fault_text : List ℕ
+read_fault_text = codes "read fault"
+
+unfoldable pub no_memory_text : List ℕ
+no_memory_text = codes "no memory"
+
+-- why an input gives no verified file
+abbrev pub unverified_text : VerifiedError → List ℕ
+unverified_text (errors.Refused place reason) = refusal_text (refusal place reason)
+unverified_text (errors.Link rule i) = item_text i rule
+unverified_text (errors.Verify m offset rule) = untyped_text m offset rule
+unverified_text errors.ReadFault = read_fault_text
+unverified_text errors.NoMemory = no_memory_text
+
 -- the line of a file that is verified: the number of its bodies
 unfoldable pub verified_line : ℕ → List ℕ
 verified_line n = codes "verified " ++ decimal n ++ 10 ∷ []
@@ -70,14 +86,8 @@ verified_line n = codes "verified " ++ decimal n ++ 10 ∷ []
 unfoldable pub no_export_text : List ℕ
 no_export_text = place_text (codes "file") 0 (codes "NoExport")
 
-unfoldable pub read_fault_text : List ℕ
-read_fault_text = codes "read fault"
-
 unfoldable pub write_fault_text : List ℕ
 write_fault_text = codes "write fault"
-
-unfoldable pub no_memory_text : List ℕ
-no_memory_text = codes "no memory"
 
 -- ---- how a run ends
 

@@ -15,13 +15,14 @@ use Rattle.abc_tables.specs.Files.{file_bytes}
 use Rattle.abc_text.specs.declared.reason.AsmReason.TheVariants as reasons
 use Rattle.abc_tidy.specs.Rules.{IsFirstBroken as IsFirstUntidy, IsTidied}
 use Rattle.abc_tidy.specs.declared.error.TidyRule.{TidyRule}
+use Rattle.abc_verified.specs.Verified.{IsVerifiedOf}
 use Rattle.abc_words.specs.Grammar.{IsUsageWord, Says}
 use Rattle.abc_words.specs.declared.command.Command.{Command}
 use Rattle.abc_words.specs.declared.command.Command.TheVariants as commands
 use Rattle.abc_words.specs.declared.command.GenOptions.{GenOptions}
 use Rattle.abc_words.specs.declared.command.Usage.{Usage}
 use Rattle.abc_words.specs.declared.command.Usage.TheVariants as usages
-use Rattle.abc_cli.specs.Answers.{Answer, IsVerifiedOf, OfFile, OfFileRead, Unverified, given, told}
+use Rattle.abc_cli.specs.Answers.{Answer, OfFile, OfFileRead, Unverified, given, told}
 use Rattle.abc_cli.specs.Lines.{fault_text, no_command_text, tidy_text, usage_text, verified_line}
 use Rattle.abc_cli.specs.Calls.{Calls}
 use Rattle.abc_cli.specs.Runs.{Run, default_options}

@@ -14,9 +14,11 @@ use Rattle.abc_names.specs.Pool.{name, qname, text}
 use Rattle.abc_program.specs.Linked.{LinkedFile}
 use Rattle.abc_program.specs.Owners.{body_of}
 use Rattle.abc_tables.specs.declared.tables.Abc.{Abc}
+use Rattle.abc_verified.specs.Refusing.{offset_in}
+use Rattle.abc_verified.specs.Verified.{IsVerifiedOf}
 use Rattle.abc_words.specs.Commands.{cells as cells_option, frames as frames_option, fuel as fuel_option, objects as objects_option, stack as stack_option, text as text_option}
 use Rattle.abc_words.specs.declared.command.RunOptions.{RunOptions}
-use Rattle.abc_cli.specs.Answers.{Answer, IsVerifiedOf, Unverified, given, offset_in, told}
+use Rattle.abc_cli.specs.Answers.{Answer, Unverified, given, told}
 use Rattle.abc_cli.specs.Lines.{code_text, fuel_spent_text, limit_text, line, uncaught_text}
 
 -- ---- what was thrown, by a name

@@ -1,5 +1,5 @@
 -- What a command gives, or what it is answered with where it gives nothing.
-use Rattle.std.specs.Prelude.{◌≡◌, ◌≢◌, ◌<◌, ℕ, List, [], Ok, Err, get_or, length}
+use Rattle.std.specs.Prelude.{◌≡◌, ◌≢◌, ℕ, List, [], Ok, Err}
 use Rattle.std.specs.declared.alloc.Global.{Global}
 use Rattle.std.specs.declared.result.Result.{Result}
 use Rattle.std.specs.declared.vec.Vec.{Vec}
@@ -12,22 +12,18 @@ use Rattle.abc_input.specs.declared.error.InputError.TheVariants as inputs
 use Rattle.abc_rowparts.specs.Rows.{fault}
 use Rattle.abc_text.specs.declared.reason.AsmReason.TheVariants as reasons
 use Rattle.abc_file.specs.Reading.{IsUsedUp}
-use Rattle.abc_program.specs.Linked.{LinkedFile}
-use Rattle.abc_tables.specs.Files.{IsFileRead}
 use Rattle.abc_format.specs.Part.{refusal}
 use Rattle.abc_varint.specs.declared.error.ReadError.{ReadError}
 use Rattle.abc_varint.specs.declared.error.ReadError.TheVariants as errors
-use Rattle.abc_items.specs.declared.error.LinkError.{LinkError}
-use Rattle.abc_items.specs.declared.error.LinkError.TheVariants as refusals
 use Rattle.abc_tidy.specs.declared.error.TidyError.{TidyError}
 use Rattle.abc_tidy.specs.declared.error.TidyError.TheVariants as tidying
-use Rattle.abc_verify.specs.declared.error.VerifyError.{VerifyError}
-use Rattle.abc_verify.specs.declared.error.VerifyError.TheVariants as untyped
+use Rattle.abc_verified.specs.declared.error.VerifiedError.{VerifiedError}
+use Rattle.abc_verified.specs.declared.error.VerifiedError.TheVariants as unverified
 use Rattle.abc_cli.specs.declared.stop.Stop.{Stop}
 use Rattle.abc_cli.specs.declared.stop.Stop.TheVariants as stops
 use Rattle.abc_cli.specs.End.{Channel, Got, GivesBytes, GivesLine, HasFailed}
 use Rattle.abc_cli.specs.Lines.{item_text, refusal_text, read_fault_text, no_memory_text, tidy_text, untyped_text, fault_text}
-use Rattle.abc_cli.specs.Answers.{Answer, IsVerifiedOf, given, offset_in, told}
+use Rattle.abc_cli.specs.Answers.{Answer, given, told}
 use Rattle.abc_cli.specs.Outcome.{On}
 
 -- what is answered where a command gives nothing
@@ -60,19 +56,12 @@ stop_of_input inputs.TooLong = stops.Text 0 reasons.TextTooLong
 stop_of_input inputs.ReadFault = stops.ReadFault
 stop_of_input inputs.NoMemory = stops.NoMemory
 
-abbrev pub stop_of_link : LinkError → Stop
-stop_of_link (refusals.Refused rule i) = stops.Item i rule
-stop_of_link refusals.NoMemory = stops.NoMemory
-
--- the refusal of a method, whose instructions began so in its code as it was read
-abbrev pub stop_of_verify : List (List ℕ) → VerifyError → Stop
-stop_of_verify starts (untyped.Refused m b i rule) = stops.Code m (offset_in starts b i) rule
-stop_of_verify starts untyped.NoMemory = stops.NoMemory
-
--- the place of a refusal is one of an instruction, or the end of the code
-abbrev pub IsPlaced : List (List ℕ) → VerifyError → Type 0
-IsPlaced starts (untyped.Refused m b i rule) = (b < length starts) × (i < length (get_or starts b []))
-IsPlaced starts untyped.NoMemory = Unit {0}
+abbrev pub stop_of_verified : VerifiedError → Stop
+stop_of_verified (unverified.Refused place reason) = stops.File place reason
+stop_of_verified (unverified.Link rule i) = stops.Item i rule
+stop_of_verified (unverified.Verify m offset rule) = stops.Code m offset rule
+stop_of_verified unverified.ReadFault = stops.ReadFault
+stop_of_verified unverified.NoMemory = stops.NoMemory
 
 abbrev pub stop_of_tidy : TidyError → Stop
 stop_of_tidy (tidying.Refused rule i) = stops.Tidy rule i
@@ -92,11 +81,6 @@ pub record Stops (Outcome : List ℕ → Answer → Type 0) (source : Channel) (
 pub record StopsAt (Answers : Answer → Type 0) (stop : Stop) : Type 0 where
   pub answer : IsDefined stop → Answers (stop_answer stop)
   pub read : stop ≢ stops.ReadFault
-
--- a file that was read with the starts of its instructions, linked and verified
-pub record IsReadVerified (l : LinkedFile) (starts : List (List ℕ)) (input : List ℕ) : Type 0 where
-  pub read : IsFileRead (l.file, starts) input
-  pub verified : IsVerifiedOf l.file l
 
 -- what was written of bytes that are given, or of why there are none: a line, and nothing to `out`
 abbrev pub IsGiven : Result (Vec ℕ Global) Stop → Channel → Channel → Status → Type 0

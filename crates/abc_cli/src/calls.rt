@@ -1,6 +1,6 @@
 ghost use Rattle.std.specs.Prelude.{◌≡◌, ◌≤◌, None};
 ghost use Rattle.abc_bodies.specs.Places.{ArePlaces};
-ghost use Rattle.abc_cli.specs.Answers.{IsVerifiedOf, OfFileRead, told};
+ghost use Rattle.abc_cli.specs.Answers.{OfFileRead, told};
 ghost use Rattle.abc_cli.specs.Calls.{Calls, IsCalled};
 ghost use Rattle.abc_cli.specs.End.{GivesLine, HasFailed, RunsTo, UsesUp, stream};
 ghost use Rattle.abc_cli.specs.Lines.{no_export_text};
@@ -13,16 +13,17 @@ ghost use Rattle.abc_ticks.specs.Machines.{IsOpened};
 ghost use Rattle.abc_ticks.specs.OpeningsBegun.{setting};
 ghost use Rattle.abc_ticks.specs.Placed.{CanBeTold};
 ghost use Rattle.abc_ticks.specs.Ticks.{calls_meaning};
+ghost use Rattle.abc_verified.specs.Verified.{IsVerifiedOf};
 
 use crate::endings::{give_end, give_unopened};
 use crate::ends::{ended, give_stop};
 use crate::lines::write_place;
 use crate::run::limits_of;
-use crate::verified::read_verified;
+use crate::stop::Stop;
 use abc_base::{Host, Sink, Source, Status};
 use abc_file::Places;
 use abc_ticks::{Session, run_and_call, ticks_can_be_told};
-use abc_verify::Verified;
+use abc_verified::{Verified, read_verified};
 use abc_words::CallsOptions;
 use std::alloc::Global;
 
@@ -137,6 +138,6 @@ pub fn calls<S: Source, K: Sink, E: Sink, H: Host>(
 {
     match read_verified(alloc, source) {
         Ok((verified, places)) => call_verified(alloc, verified, &places, options, out, err, host),
-        Err(stop) => give_stop(err, stop),
+        Err(e) => give_stop(err, Stop::from(e)),
     }
 }

@@ -6,9 +6,8 @@ ghost use Rattle.abc_cli.specs.Outcome.{Check};
 ghost use Rattle.abc_cli.specs.Stops.{Gives, Stops};
 
 use crate::stop::Stop;
-use crate::verified::read_verified;
 use abc_base::{NoMemory, Source};
-use abc_verify::Verified;
+use abc_verified::{Verified, read_verified};
 use itoa::Buffer;
 use std::alloc::Global;
 

@@ -14,7 +14,6 @@ mod run;
 mod stop;
 mod tidy;
 mod top;
-mod verified;
 
 pub use abc_gen::make_abc;
 pub use top::abc_main;

@@ -1,6 +1,6 @@
 ghost use Rattle.std.specs.Prelude.{◌≡◌, ◌≤◌, ◌<◌, ◌^◌, None};
 ghost use Rattle.abc_bodies.specs.Places.{ArePlaces};
-ghost use Rattle.abc_cli.specs.Answers.{IsVerifiedOf, OfFileRead};
+ghost use Rattle.abc_cli.specs.Answers.{OfFileRead};
 ghost use Rattle.abc_cli.specs.End.{HasFailed, RunsTo, UsesUp, stream};
 ghost use Rattle.abc_cli.specs.Outcome.{On};
 ghost use Rattle.abc_cli.specs.Runs.{IsMeant, Run, limits_of as limits_in};
@@ -9,15 +9,16 @@ ghost use Rattle.abc_meaning.specs.Meaning.{meaning};
 ghost use Rattle.abc_objects.specs.Opening.{formula_names};
 ghost use Rattle.abc_ticks.specs.OpeningsBegun.{setting};
 ghost use Rattle.abc_ticks.specs.Placed.{CanBeTold};
+ghost use Rattle.abc_verified.specs.Verified.{IsVerifiedOf};
 
 use crate::endings::{give_end, give_unopened};
 use crate::ends::give_stop;
-use crate::verified::read_verified;
+use crate::stop::Stop;
 use abc_base::{Host, Sink, Source, Status};
 use abc_file::Places;
 use abc_heap::Limits;
 use abc_ticks::{Machine, ends_can_be_told};
-use abc_verify::Verified;
+use abc_verified::{Verified, read_verified};
 use abc_words::RunOptions;
 use std::alloc::Global;
 
@@ -123,6 +124,6 @@ pub fn run<S: Source, K: Sink, E: Sink, H: Host>(
 {
     match read_verified(alloc, source) {
         Ok((verified, places)) => run_verified(alloc, verified, &places, options, out, err, host),
-        Err(stop) => give_stop(err, stop),
+        Err(e) => give_stop(err, Stop::from(e)),
     }
 }

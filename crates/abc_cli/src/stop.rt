@@ -1,16 +1,17 @@
 ghost use Rattle.std.specs.Prelude.{◌≡◌};
-ghost use Rattle.abc_cli.specs.Stops.{stop_of_asm, stop_of_input, stop_of_link, stop_of_read, stop_of_tidy};
+ghost use Rattle.abc_cli.specs.Stops.{stop_of_asm, stop_of_input, stop_of_read, stop_of_tidy, stop_of_verified};
 ghost use Rattle.abc_cli.specs.declared.stop.Stop.TheVariants as stops;
 
 use abc_asm::AsmError;
 use abc_base::NoMemory;
 use abc_format::Reason;
 use abc_input::InputError;
-use abc_items::{Item, LinkError, LinkRule};
+use abc_items::{Item, LinkRule};
 use abc_text::AsmReason;
 use abc_tidy::{TidyError, TidyRule};
 use abc_typing::VerifyRule;
 use abc_varint::ReadError;
+use abc_verified::VerifiedError;
 use thiserror::Error;
 
 /// Why a command gives no bytes.
@@ -93,13 +94,24 @@ impl From<InputError> for Stop {
     }
 }
 
-impl From<LinkError> for Stop {
-    ghost from_gives = { λ e stop. stop ≡ stop_of_link e };
+impl From<VerifiedError> for Stop {
+    ghost from_gives = { λ e stop. stop ≡ stop_of_verified e };
 
-    fn from(e: LinkError) -> Stop {
+    fn from(e: VerifiedError) -> Stop {
         match e {
-            LinkError::Refused { rule, item } => Stop::Item { item, rule },
-            LinkError::NoMemory => Stop::NoMemory,
+            VerifiedError::Refused { place, reason } => Stop::File { place, reason },
+            VerifiedError::Link { rule, item } => Stop::Item { item, rule },
+            VerifiedError::Verify {
+                method,
+                offset,
+                rule,
+            } => Stop::Code {
+                method,
+                offset,
+                rule,
+            },
+            VerifiedError::ReadFault => Stop::ReadFault,
+            VerifiedError::NoMemory => Stop::NoMemory,
         }
     }
 }

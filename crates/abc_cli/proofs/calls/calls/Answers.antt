@@ -2,6 +2,11 @@ use Rattle.abc_cli.specs.End.{HasFailed, stream}
 use Rattle.abc_cli.proofs.Called.{unverified_calls, verified_calls}
 use Rattle.abc_ticks.proofs.Pieces.{nothing}
 use Rattle.abc_cli.proofs.Running.{read_is_verified, unread}
+use Rattle.std.proofs.Common.{subst, sym}
+use Rattle.abc_cli.proofs.Checks.{verified_stops}
+use Rattle.abc_cli.specs.Answers.{OfFileRead, Unverified}
+use Rattle.abc_cli.specs.Stops.{Stops}
+use Rattle.abc_cli.specs.declared.stop.Stop.{Stop}
 use Rattle.abc_cli.proofs.calls.calls.Goals as goal
 
 pub call_verified-requires-clause-verified : goal.call_verified-requires-clause-verified
@@ -18,9 +23,12 @@ returns-in-Ok-clause-used_up g c = λ h. c.in-Ok.ensures.end
 
 pub returns-in-Err-clause-end : goal.returns-in-Err-clause-end
 returns-in-Err-clause-end g c =
-    unverified_calls c.args.options.now (g.H.Host.formulas c.args.host.now) (stream g.S.Source.left g.S.Source.faults c.args.source.now c.read_verified.new.source) (stream g.K.Sink.written g.K.Sink.faults c.args.out.now c.args.out.now)
-    (stream g.E.Sink.written g.E.Sink.faults c.args.err.now c.give_stop.new.err) c.in-Err.stop c.give_stop.result c.in-Err.ensures.stops (nothing (g.K.Sink.written c.args.out.now)) c.give_stop.ensures
+    let source = stream g.S.Source.left g.S.Source.faults c.args.source.now c.read_verified.new.source in
+    unverified_calls c.args.options.now (g.H.Host.formulas c.args.host.now) source (stream g.K.Sink.written g.K.Sink.faults c.args.out.now c.args.out.now)
+    (stream g.E.Sink.written g.E.Sink.faults c.args.err.now c.give_stop.new.err) c.from.result c.give_stop.result
+    (subst (λ (stop : Stop). Stops (OfFileRead Unverified) source stop) (sym c.from.ensures) (verified_stops source c.in-Err.e c.in-Err.ensures.refused (λ e. c.in-Err.ensures.cause cc)))
+    (nothing (g.K.Sink.written c.args.out.now)) c.give_stop.ensures
 
 pub returns-in-Err-clause-used_up : goal.returns-in-Err-clause-used_up
 returns-in-Err-clause-used_up g c =
-    unread (stream g.S.Source.left g.S.Source.faults c.args.source.now c.read_verified.new.source) (stream g.E.Sink.written g.E.Sink.faults c.args.err.now c.give_stop.new.err) c.in-Err.stop c.give_stop.result c.give_stop.ensures
+    unread (stream g.S.Source.left g.S.Source.faults c.args.source.now c.read_verified.new.source) (stream g.E.Sink.written g.E.Sink.faults c.args.err.now c.give_stop.new.err) c.from.result c.give_stop.result c.give_stop.ensures

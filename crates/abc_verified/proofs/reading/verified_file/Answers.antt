@@ -2,8 +2,8 @@ use Rattle.std.proofs.Common.{subst, sym}
 use Rattle.std.proofs.lemmas.Result.{err_from_is_err_and}
 use Rattle.abc_bodies.specs.Places.{ArePlaces}
 use Rattle.abc_tables.specs.declared.tables.Abc.{Abc}
-use Rattle.abc_cli.proofs.Checks.{link_stops_at}
-use Rattle.abc_cli.proofs.verified.verified_file.Goals as goal
+use Rattle.abc_verified.proofs.Verifying.{link_refuses}
+use Rattle.abc_verified.proofs.reading.verified_file.Goals as goal
 
 pub verified_of-requires : goal.verified_of-requires
 verified_of-requires c = record {
@@ -11,7 +11,7 @@ verified_of-requires c = record {
   places = subst (λ (v : Abc). ArePlaces v.bodies c.args.places.now) (sym c.in_ok-linked.ensures.0) c.requires.places;
 }
 
-pub returns-in_err-linked-clause-stops : goal.returns-in_err-linked-clause-stops
-returns-in_err-linked-clause-stops c =
+pub returns-in_err-linked-clause-refused : goal.returns-in_err-linked-clause-refused
+returns-in_err-linked-clause-refused c =
     let p = err_from_is_err_and c.from_residual.result c.from_residual.ensures.1 in
-    rw (p.1, p.2) (link_stops_at c.args.abc c.args.places.now c.in_err-linked.field-0.0 c.in_err-linked.ensures)
+    rw (p.1, p.2) (link_refuses c.args.abc c.args.places.now c.in_err-linked.field-0.0 c.in_err-linked.ensures)
