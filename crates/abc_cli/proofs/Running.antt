@@ -72,7 +72,7 @@ is_ended v starts wrote e (ends.Full limit) is = subst (λ (x : meant.End). IsEn
 is_ended v starts wrote e ends.WriteFault is = absurd is
 
 -- every end but a stuck one has an answer
-some_answer : (v : Abc) (starts : List (List ℕ)) (wrote : List ℕ) (e : meant.End) → (e ≡ meant.Stuck → ⊥) → (a : Answer) × IsEnded v starts wrote e a × (a.out ≡ wrote)
+pub some_answer : (v : Abc) (starts : List (List ℕ)) (wrote : List ℕ) (e : meant.End) → (e ≡ meant.Stuck → ⊥) → (a : Answer) × IsEnded v starts wrote e a × (a.out ≡ wrote)
 some_answer v starts wrote meant.Done free = (given wrote, refl, refl)
 some_answer v starts wrote (meant.Uncaught t) free = (ended status.Uncaught wrote (uncaught_text (thrown_name v t)), refl, refl)
 some_answer v starts wrote (meant.Profile m i fault) free = (full v starts wrote (ends.Profile m i fault), refl, refl)
@@ -188,7 +188,7 @@ unread source err stop s line = λ h. absurd (stop_not_read err stop s line h)
 
 -- ---- a run that is done has no line
 
-ended_quiet : (v : Abc) (starts : List (List ℕ)) (wrote : List ℕ) (e : meant.End) (a : Answer) → IsEnded v starts wrote e a → a.status ≡ status.Done → a.err ≡ []
+pub ended_quiet : (v : Abc) (starts : List (List ℕ)) (wrote : List ℕ) (e : meant.End) (a : Answer) → IsEnded v starts wrote e a → a.status ≡ status.Done → a.err ≡ []
 ended_quiet v starts wrote meant.Done a is d = ap (λ (x : Answer). x.err) is
 ended_quiet v starts wrote (meant.Uncaught t) a is d = let k = ap (λ (x : Answer). x.status) is in absurd cc
 ended_quiet v starts wrote (meant.Profile m i fault) a is d = let k = ap (λ (x : Answer). x.status) is in absurd cc
