@@ -23,9 +23,9 @@ use Rattle.abc_meaning.specs.Throwing as meant
 use Rattle.abc_meaning.specs.WorldSetting.{Setting}
 use Rattle.abc_program.specs.Linked.{LinkedFile}
 use Rattle.abc_program.specs.Slots.{HasFewSlots}
-use Rattle.abc_replay.specs.Replays.{IsRefused, IsRefusedBy, IsReplayed}
-use Rattle.abc_replay.specs.declared.error.ReplayError.{ReplayError}
-use Rattle.abc_replay.specs.declared.error.ReplayError.TheVariants as errors
+use Rattle.abc_replaying.specs.Replays.{IsRefused, IsRefusedBy, IsReplayed}
+use Rattle.abc_replaying.specs.declared.error.ReplayError.{ReplayError}
+use Rattle.abc_replaying.specs.declared.error.ReplayError.TheVariants as errors
 use Rattle.abc_tables.specs.declared.tables.Abc.{Abc}
 use Rattle.abc_tables.specs.Files.{file_bytes}
 use Rattle.abc_tables.proofs.Whole.{canonical_file}

@@ -38,7 +38,8 @@ use Rattle.abc_tables.proofs.Whole.{canonical_file}
 use Rattle.abc_ticks.proofs.Pieces.{front_both, got_both}
 use Rattle.abc_ticks.specs.EndType.{End}
 use Rattle.abc_ticks.specs.EndType.TheVariants as ends
-use Rattle.abc_ticks.specs.Ended.{HasRun, RunsAs, logged}
+use Rattle.abc_ticks.specs.Ended.{HasRun, RunsAs}
+use Rattle.abc_ticks.specs.Logged.{LogsRun}
 use Rattle.abc_ticks.specs.Machines.{IsOpened, Opened}
 use Rattle.abc_ticks.specs.Placed.{IsInstruction}
 use Rattle.abc_base.specs.declared.names.Fault.{Fault}
@@ -50,6 +51,16 @@ use Rattle.abc_words.specs.declared.command.RunOptions.{RunOptions}
 -- the canonical bytes of a file are no more than a file has
 pub short_file : (v : Abc) → Fits v → length (file_bytes v) ≤ 2 ^ 24
 short_file v f = (canonical_file v f.0 f.1).0.1
+
+-- ---- a run whose log is written is a run of another meaning
+
+abbrev logged : (lines : List ℕ) → Meaning → Meaning
+logged lines (TooSmall limit) = TooSmall limit
+logged lines (Ran wrote e) = Ran lines e
+
+as_run : (lines : List ℕ) (m : Meaning) (old new : Option (List ℕ)) (end : End) → LogsRun lines m old new end → RunsAs (logged lines m) old new end
+as_run lines m old new end (LogsRun.logged log wrote e x is got) = RunsAs.ended log e x is got
+as_run lines m old new end (LogsRun.failed log wrote e rest) = RunsAs.failed log e rest
 
 -- ---- a run behind something that was written
 
@@ -74,11 +85,11 @@ some_logged v starts wrote (Ran output e) free = some_answer v starts wrote e (�
 module _ (v : Abc) (starts : List (List ℕ)) (before lines : List ℕ) where
   -- the front was written, and then the log
   pub logged_ends : (m : Meaning) (old mid new : Option (List ℕ)) (a b c : ℕ) (err : Channel) (end : End) (s : Status) → ((output : List ℕ) → m ≡ Ran output meant.Stuck → ⊥)
-      → (IsSome old → mid ≡ append_known old before) → a ≤ b → RunsAs (logged lines m) mid new end → HasRun b c end → GivesLine err (end_answer v starts end) s → (end ≡ ends.Done → (s ≡ status.Done) × Got err [])
+      → (IsSome old → mid ≡ append_known old before) → a ≤ b → LogsRun lines m mid new end → HasRun b c end → GivesLine err (end_answer v starts end) s → (end ≡ ends.Done → (s ≡ status.Done) × Got err [])
       → RunsTo (IsLogged v starts (before ++ lines) m) ⊥ (channel old new a c) err s
-  logged_ends (TooSmall limit) old mid new a b c err end s never got le runs cause line silent = absurd (small_never (TooSmall limit) mid new end limit runs refl)
+  logged_ends (TooSmall limit) old mid new a b c err end s never got le runs cause line silent = absurd (small_never (TooSmall limit) mid new end limit (as_run lines (TooSmall limit) mid new end runs) refl)
   logged_ends (Ran output e) old mid new a b c err end s never got le runs cause line silent =
-      run_ends v starts (Ran (before ++ lines) e) old new a c err end s (λ wrote h. never output (ap (Ran output) (same_end h))) (runs_behind before (Ran lines e) old mid new end got runs)
+      run_ends v starts (Ran (before ++ lines) e) old new a c err end s (λ wrote h. never output (ap (Ran output) (same_end h))) (runs_behind before (Ran lines e) old mid new end got (as_run lines (Ran output e) mid new end runs))
       (record { later = (let later = cause.later in omega (arith, le, later)); failed = λ f. rose_later a b c le (cause.failed f) }) line silent
     where
       same_end : {wrote : List ℕ} {x : meant.End} → Ran (before ++ lines) e ≡ Ran wrote x → e ≡ x
@@ -92,9 +103,9 @@ module _ (v : Abc) (starts : List (List ℕ)) (before lines : List ℕ) where
       RunsTo.cut a.0 a.1 rose (λ some. subst (λ (x : List ℕ). GrowsByFront out.before out.after x) (sym a.2) (front_first out.before out.after before lines (got some))) line
 
 pub logged_placed : (v : Abc) (starts : List (List ℕ)) (lines : List ℕ) (m : Meaning) (old new : Option (List ℕ)) (end : End) → ArePlaces v.bodies starts
-    → ((wrote : List ℕ) (n i : ℕ) (fault : Fault) → m ≡ Ran wrote (meant.Profile n i fault) → IsInstruction v n i) → RunsAs (logged lines m) old new end → IsPlacedEnd v starts end
-logged_placed v starts lines (TooSmall limit) old new end p at runs = absurd (small_never (TooSmall limit) old new end limit runs refl)
-logged_placed v starts lines (Ran output e) old new end p at runs = run_placed v starts (Ran lines e) old new end p (λ wrote n i fault h. at output n i fault (ap (Ran output) (same_end h))) runs
+    → ((wrote : List ℕ) (n i : ℕ) (fault : Fault) → m ≡ Ran wrote (meant.Profile n i fault) → IsInstruction v n i) → LogsRun lines m old new end → IsPlacedEnd v starts end
+logged_placed v starts lines (TooSmall limit) old new end p at runs = absurd (small_never (TooSmall limit) old new end limit (as_run lines (TooSmall limit) old new end runs) refl)
+logged_placed v starts lines (Ran output e) old new end p at runs = run_placed v starts (Ran lines e) old new end p (λ wrote n i fault h. at output n i fault (ap (Ran output) (same_end h))) (as_run lines (Ran output e) old new end runs)
   where
     same_end : {wrote : List ℕ} {x : meant.End} → Ran lines e ≡ Ran wrote x → e ≡ x
     same_end h = cc

@@ -4,7 +4,7 @@ use Rattle.abc_base.specs.declared.formula.Formula.{Formula}
 use Rattle.abc_heap.specs.declared.records.Limits.{Limits}
 use Rattle.abc_meaning.specs.Laws.{IsVerified}
 use Rattle.abc_program.specs.Linked.{LinkedFile}
-use Rattle.abc_replay.specs.Replays.{IsReplayed}
+use Rattle.abc_replaying.specs.Replays.{IsReplayed}
 use Rattle.abc_cli.specs.Answers.{Answer, given}
 use Rattle.abc_cli.specs.End.{Channel, Got}
 use Rattle.abc_cli.specs.Logs.{Replay, replayed_line, whole_log}

@@ -8,10 +8,10 @@ use Rattle.abc_logmeaning.specs.Logs.{log}
 use Rattle.abc_meaning.specs.Meaning.{Meaning, Ran, TooSmall, meaning}
 use Rattle.abc_meaning.specs.WorldSetting.{Setting}
 use Rattle.abc_program.specs.Linked.{LinkedFile}
-use Rattle.abc_replay.specs.Names.{reason_name}
-use Rattle.abc_replay.specs.Replays.{IsRefused, IsReplayed}
-use Rattle.abc_replay.specs.declared.error.ReplayError.{ReplayError}
-use Rattle.abc_replay.specs.declared.error.ReplayError.TheVariants as errors
+use Rattle.abc_replaying.specs.Names.{reason_name}
+use Rattle.abc_replaying.specs.Replays.{IsRefused, IsReplayed}
+use Rattle.abc_replaying.specs.declared.error.ReplayError.{ReplayError}
+use Rattle.abc_replaying.specs.declared.error.ReplayError.TheVariants as errors
 use Rattle.abc_tables.specs.declared.tables.Abc.{Abc}
 use Rattle.abc_tables.specs.Files.{file_bytes}
 use Rattle.abc_verified.specs.Verified.{IsVerifiedOf}

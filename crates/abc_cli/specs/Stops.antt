@@ -17,9 +17,9 @@ use Rattle.abc_varint.specs.declared.error.ReadError.{ReadError}
 use Rattle.abc_varint.specs.declared.error.ReadError.TheVariants as errors
 use Rattle.abc_tidy.specs.declared.error.TidyError.{TidyError}
 use Rattle.abc_tidy.specs.declared.error.TidyError.TheVariants as tidying
-use Rattle.abc_replay.specs.Names.{reason_name}
-use Rattle.abc_replay.specs.declared.error.ReplayError.{ReplayError}
-use Rattle.abc_replay.specs.declared.error.ReplayError.TheVariants as replays
+use Rattle.abc_replaying.specs.Names.{reason_name}
+use Rattle.abc_replaying.specs.declared.error.ReplayError.{ReplayError}
+use Rattle.abc_replaying.specs.declared.error.ReplayError.TheVariants as replays
 use Rattle.abc_verified.specs.declared.error.VerifiedError.{VerifiedError}
 use Rattle.abc_verified.specs.declared.error.VerifiedError.TheVariants as unverified
 use Rattle.abc_cli.specs.declared.stop.Stop.{Stop}
