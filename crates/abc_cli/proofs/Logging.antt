@@ -14,7 +14,7 @@ use Rattle.abc_cli.proofs.Generating.{rose_later}
 use Rattle.abc_cli.proofs.Running.{ended_quiet, memory_runs, run_ends, run_placed, runs_weaker, some_answer, unverified_quiet}
 use Rattle.abc_cli.specs.Answers.{Answer, OfFileRead, Unverified, given, told}
 use Rattle.abc_cli.specs.End.{Channel, channel, GivesAll, GivesLine, Got, GotFront, HasFailed, IsRead, RunsTo}
-use Rattle.abc_cli.specs.Endings.{IsPlacedEnd, end_answer, open_answer}
+use Rattle.abc_cli.specs.Endings.{GivesUnopened, IsPlacedEnd, end_answer, open_answer}
 use Rattle.abc_cli.specs.Lines.{limit_text, no_memory_text, write_fault_text}
 use Rattle.abc_cli.specs.Logs.{IsLogged, Log, front, whole_log}
 use Rattle.abc_cli.specs.Outcome.{On}
@@ -30,7 +30,9 @@ use Rattle.abc_logmeaning.specs.Logs.{log}
 use Rattle.abc_meaning.specs.Meaning.{Meaning, Ran, TooSmall, first_state, first_world, meaning, meaning_if, runs_for, too_small}
 use Rattle.abc_meaning.specs.Throwing as meant
 use Rattle.abc_meaning.specs.WorldSetting.{Setting}
+use Rattle.abc_objects.specs.declared.error.OpenError.{OpenError}
 use Rattle.abc_objects.specs.declared.error.OpenError.TheVariants as errors
+use Rattle.abc_ticks.specs.OpeningsBegun.{IsRefused}
 use Rattle.abc_program.specs.Linked.{LinkedFile}
 use Rattle.abc_tables.specs.declared.tables.Abc.{Abc}
 use Rattle.abc_tables.specs.Files.{Fits, file_bytes}
@@ -112,7 +114,7 @@ logged_placed v starts lines (Ran output e) old new end p at runs = run_placed v
 
 -- ---- a run that is not begun
 
-pub unbegun_runs : TooSmallIsOneLine → (starts : List (List ℕ)) (p : Setting) (limits : Limits) (fuel : ℕ) (before : List ℕ) (limit : Limit) (out err : Channel) (s : Status) → too_small (first_world p limits).heap ≡ Some limit
+unbegun_runs : TooSmallIsOneLine → (starts : List (List ℕ)) (p : Setting) (limits : Limits) (fuel : ℕ) (before : List ℕ) (limit : Limit) (out err : Channel) (s : Status) → too_small (first_world p limits).heap ≡ Some limit
     → GivesAll out err (before ++ limit_end limit) (open_answer (errors.TooSmall limit)) s → RunsTo (IsLogged p.linked.file starts (before ++ log p limits fuel) (meaning p limits fuel)) ⊥ out err s
 unfolding meaning
 unbegun_runs law starts p limits fuel before limit out err s e (inl g) =
@@ -130,6 +132,11 @@ unbegun_runs law starts p limits fuel before limit out err s e (inr g) =
     let a = ended status.Limit wrote (limit_text limit) in
     let is : IsLogged p.linked.file starts wrote (meaning p limits fuel) a = subst (λ (m : Meaning). IsLogged p.linked.file starts wrote m a) (sym small) refl in
     RunsTo.cut a is g.0 (subst (λ (x : List ℕ). GotFront out (before ++ x)) (sym one) g.1) g.2
+
+pub unopened_logs : TooSmallIsOneLine → (starts : List (List ℕ)) (p : Setting) (limits : Limits) (fuel : ℕ) (before : List ℕ) (e : OpenError) (out err : Channel) (s : Status) → IsRefused p limits e → GivesUnopened out err before e s
+    → RunsTo (IsLogged p.linked.file starts (before ++ log p limits fuel) (meaning p limits fuel)) ⊥ out err s
+unopened_logs law starts p limits fuel before (errors.TooSmall limit) out err s small g = unbegun_runs law starts p limits fuel before limit out err s small g
+unopened_logs law starts p limits fuel before errors.NoMemory out err s small g = memory_runs (IsLogged p.linked.file starts (before ++ log p limits fuel) (meaning p limits fuel)) ⊥ out err s g.0 g.1
 
 -- ---- the machine, and the file
 

@@ -4,7 +4,7 @@ ghost use Rattle.abc_base.specs.Sinks.{WritesAll};
 ghost use Rattle.abc_bodies.specs.Places.{ArePlaces};
 ghost use Rattle.abc_cli.specs.Answers.{OfFileRead};
 ghost use Rattle.abc_cli.specs.End.{GivesAll, HasFailed, IsRead, RunsTo, UsesUp, stream};
-ghost use Rattle.abc_cli.specs.Endings.{open_answer};
+ghost use Rattle.abc_cli.specs.Endings.{GivesUnopened, open_answer};
 ghost use Rattle.abc_cli.specs.Logged.{GotLogOf};
 ghost use Rattle.abc_cli.specs.Logs.{IsLogged, Log, front as front_of_log, whole_log};
 ghost use Rattle.abc_cli.specs.Outcome.{On};
@@ -95,6 +95,17 @@ fn log_unbegun<K: Sink, E: Sink>(front: &Front, limit: Limit, out: &mut K, err: 
     }
 }
 
+/// Gives what there is to log where no machine is opened, and writes the line that says why.
+fn log_unopened<K: Sink, E: Sink>(front: &Front, e: OpenError, out: &mut K, err: &mut E) -> Status
+    requires { length (front.now).file.items ≤ 2 ^ 24 }
+    ensures { GivesUnopened (stream K.written K.faults out.old out.new) (stream E.written E.faults err.old err.new) (front_of_log (front.now).file.items (front.now).fuel (front.now).limits) e result }
+{
+    match e {
+        OpenError::TooSmall(limit) => log_unbegun(front, limit, out, err),
+        OpenError::NoMemory => give_line(err, Status::NoMemory, b"no memory"),
+    }
+}
+
 /// Gives the log of the run of an opened machine, and writes the line of its end.
 fn log_machine<K: Sink, E: Sink, H: Host>(
     machine: &mut Machine,
@@ -147,8 +158,7 @@ fn log_verified<K: Sink, E: Sink, H: Host>(
             close(machine);
             status
         }
-        Err(OpenError::TooSmall(limit)) => log_unbegun(front, limit, out, err),
-        Err(OpenError::NoMemory) => give_line(err, Status::NoMemory, b"no memory"),
+        Err(e) => log_unopened(front, e, out, err),
     }
 }
 

@@ -1,16 +1,14 @@
 use Rattle.std.proofs.Common.{ap, subst, sym}
 use Rattle.abc_bodies.specs.Places.{ArePlaces}
-use Rattle.abc_cli.proofs.Logging.{LogsAs, opened_logs, unbegun_runs}
-use Rattle.abc_cli.proofs.Running.{machine_verified, memory_runs}
+use Rattle.abc_cli.proofs.Logging.{opened_logs, unopened_logs}
+use Rattle.abc_cli.proofs.Running.{machine_verified}
 use Rattle.abc_cli.proofs.log.log_verified.Goals as goal
 use Rattle.abc_cli.specs.End.{stream}
-use Rattle.abc_cli.specs.Lines.{no_memory_text}
 use Rattle.abc_cli.specs.Logs.{front}
 use Rattle.abc_meaning.specs.Laws.{AreCounted}
 use Rattle.abc_meaning.specs.WorldSetting.{Setting}
 use Rattle.abc_program.specs.Linked.{LinkedFile}
 use Rattle.abc_program.specs.Slots.{HasFewSlots}
-use Rattle.abc_ticks.proofs.Pieces.{nothing}
 use Rattle.abc_ticks.specs.Machines.{Opened}
 
 pub log_machine-status-requires : goal.log_machine-status-requires
@@ -33,16 +31,9 @@ returns-in-Ok g c =
     opened_logs c.args.verified (g.H.Host.formulas c.args.host.now) f.limits f.fuel (front f.file.items f.fuel f.limits) c.in-Ok.machine c.args.places.now (stream g.K.Sink.written g.K.Sink.faults c.args.out.now c.log_machine-status.new.out)
     (stream g.E.Sink.written g.E.Sink.faults c.args.err.now c.log_machine-status.new.err) c.log_machine-status.result c.in-Ok.ensures c.log_machine-status.ensures
 
-pub returns-in-TooSmall : goal.returns-in-TooSmall
-returns-in-TooSmall g c =
+pub returns-in-Err : goal.returns-in-Err
+returns-in-Err g c =
     let f = c.args.front.now in
     let p : Setting = record { linked = c.args.verified; formulas = g.H.Host.formulas c.args.host.now } in
-    unbegun_runs c.too_small_is_one_line.ensures c.args.places.now p f.limits f.fuel (front f.file.items f.fuel f.limits) c.in-TooSmall.limit (stream g.K.Sink.written g.K.Sink.faults c.args.out.now c.log_unbegun.new.out)
-    (stream g.E.Sink.written g.E.Sink.faults c.args.err.now c.log_unbegun.new.err) c.log_unbegun.result c.in-TooSmall.ensures c.log_unbegun.ensures
-
-pub returns-in-NoMemory : goal.returns-in-NoMemory
-unfolding no_memory_text
-returns-in-NoMemory g c =
-    let f = c.args.front.now in
-    memory_runs (LogsAs c.args.verified (g.H.Host.formulas c.args.host.now) c.args.places.now (front f.file.items f.fuel f.limits) f.limits f.fuel) ⊥ (stream g.K.Sink.written g.K.Sink.faults c.args.out.now c.args.out.now)
-    (stream g.E.Sink.written g.E.Sink.faults c.args.err.now c.give_line.new.err) c.give_line.result (nothing (g.K.Sink.written c.args.out.now)) c.give_line.ensures
+    unopened_logs c.too_small_is_one_line.ensures c.args.places.now p f.limits f.fuel (front f.file.items f.fuel f.limits) c.in-Err.e (stream g.K.Sink.written g.K.Sink.faults c.args.out.now c.log_unopened.new.out)
+    (stream g.E.Sink.written g.E.Sink.faults c.args.err.now c.log_unopened.new.err) c.log_unopened.result c.in-Err.ensures c.log_unopened.ensures
