@@ -15,7 +15,7 @@ use Rattle.abc_varint.specs.declared.error.ReadError.{ReadError}
 use Rattle.abc_varint.specs.declared.error.ReadError.TheVariants as reads
 use Rattle.abc_verify.specs.Refusing.{IsFirstUntyped}
 use Rattle.abc_verify.specs.declared.error.VerifyError.{VerifyError}
-use Rattle.abc_verify.specs.declared.error.VerifyError.TheVariants as untyped
+use Rattle.abc_verify.specs.declared.error.VerifyError.TheVariants as verifying
 use Rattle.abc_verified.specs.declared.error.VerifiedError.{VerifiedError}
 use Rattle.abc_verified.specs.declared.error.VerifiedError.TheVariants as errors
 
@@ -58,10 +58,10 @@ error_of_link refusals.NoMemory = errors.NoMemory
 
 -- the refusal of a method, whose instructions began so in its code as it was read
 abbrev pub error_of_verify : List (List ℕ) → VerifyError → VerifiedError
-error_of_verify starts (untyped.Refused m b i rule) = errors.Verify m (offset_in starts b i) rule
-error_of_verify starts untyped.NoMemory = errors.NoMemory
+error_of_verify starts (verifying.Refused m b i rule) = errors.Verify m (offset_in starts b i) rule
+error_of_verify starts verifying.NoMemory = errors.NoMemory
 
 -- the place of a refusal is one of an instruction, or the end of the code
 abbrev pub IsPlaced : List (List ℕ) → VerifyError → Type 0
-IsPlaced starts (untyped.Refused m b i rule) = (b < length starts) × (i < length (get_or starts b []))
-IsPlaced starts untyped.NoMemory = Unit {0}
+IsPlaced starts (verifying.Refused m b i rule) = (b < length starts) × (i < length (get_or starts b []))
+IsPlaced starts verifying.NoMemory = Unit {0}
