@@ -1,6 +1,6 @@
 -- Why an input gives no verified file.
 use Rattle.std.specs.Prelude.{◌≡◌, ◌<◌, ℕ, List, [], get_or, length}
-use Rattle.abc_format.specs.Part.{Refusal, refusal}
+use Rattle.abc_format.specs.Part.{refusal}
 use Rattle.abc_format.specs.declared.reason.Reason.{Reason}
 use Rattle.abc_items.specs.Rules.{IsFirstBroken}
 use Rattle.abc_items.specs.declared.error.LinkError.{LinkError}
