@@ -2,6 +2,8 @@ pub mod Reaching
 pub mod Keeping
 pub mod Opening
 pub mod Spending
+pub mod Counting
+pub mod Logging
 pub mod Untold
 pub mod Asking
 pub mod Invoking
