@@ -133,18 +133,18 @@ impl Machine {
                 linked.linked_law();
                 linked.slots_law();
                 self.verified.verified_law();
-                let mut left = fuel;
+                let mut unspent = fuel;
                 let end = log_for(
                     linked,
                     &mut self.state,
                     &mut self.seen,
-                    &mut left,
+                    &mut unspent,
                     log,
                     host,
                 );
                 drop_frames(&mut self.state);
                 self.ended = Some(end);
-                self.steps = fuel - left;
+                self.steps = fuel - unspent;
                 end
             }
         }
