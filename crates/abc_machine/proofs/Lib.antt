@@ -4,6 +4,7 @@ pub mod Opening
 pub mod Spending
 pub mod Counting
 pub mod Logging
+pub mod Closing
 pub mod Untold
 pub mod Asking
 pub mod Invoking

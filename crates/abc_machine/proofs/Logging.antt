@@ -5,29 +5,21 @@ use Rattle.std.specs.Io.KnownBytes.{append_known}
 use Rattle.std.specs.declared.option.Option.{Option}
 use Rattle.std.specs.declared.result.Result.{Result}
 use Rattle.abc_base.proofs.Writing.{front_first, front_second}
-use Rattle.abc_base.specs.Sinks.{GrowsByFront, WritesAll}
-use Rattle.abc_base.specs.declared.source.Failed.{Failed}
-use Rattle.abc_callmeaning.specs.Calls.{replies_for}
+use Rattle.abc_base.specs.Sinks.{GrowsByFront}
 use Rattle.abc_logging.proofs.Lined.{told_on, whole_on}
 use Rattle.abc_logging.specs.Logging.{lines_here}
 use Rattle.abc_logmeaning.specs.Lines.{end_line}
 use Rattle.abc_logmeaning.specs.Logs.{lines_of, logs_for, then_logs}
-use Rattle.abc_machine.specs.Ended.{IsEndOf}
-use Rattle.abc_machine.specs.Logged as runs
-use Rattle.abc_machine.specs.Logged.{HasAllBut, LogsRun, lines_for, logged}
-use Rattle.abc_machine.specs.Replied.{IsReplyOf}
+use Rattle.abc_machine.specs.Logged.{HasAllBut, lines_for}
 use Rattle.abc_machine.specs.Runs.{Begun, IsAt, outer, reached}
-use Rattle.abc_machine.specs.Spent.{EndsWith, GoesTo, SpendsAs, end_for, reply_for}
-use Rattle.abc_machine.specs.declared.ends.End.{End}
-use Rattle.abc_machine.specs.declared.ends.End.TheVariants as ends
+use Rattle.abc_machine.specs.Spent.{EndsWith, GoesTo, SpendsAs, reply_for}
 use Rattle.abc_machine.specs.declared.replies.Reply.{Reply}
 use Rattle.abc_machine.specs.declared.replies.Reply.TheVariants as replies
 use Rattle.abc_machine.proofs.Opening.{append_none}
 use Rattle.abc_machine.proofs.Reaching.{next_is, stepped}
-use Rattle.abc_machine.proofs.Untold.{end_is, ended_of, runs_are}
-use Rattle.abc_meaning.specs.Meaning.{Ended, ran, runs_for, then_runs}
+use Rattle.abc_machine.proofs.Untold.{ended_of, runs_are}
+use Rattle.abc_meaning.specs.Meaning.{Ended, runs_for, then_runs}
 use Rattle.abc_meaning.specs.Step.{step}
-use Rattle.abc_meaning.specs.Throwing as meant
 use Rattle.abc_meaning.specs.Throwing.{Ends, Machine, Stepped, Steps}
 use Rattle.abc_openings.specs.Begun.{setting as setting_of}
 use Rattle.abc_outward.specs.Outward.{adding}
@@ -37,7 +29,6 @@ use Rattle.abc_reached.specs.Halt.TheVariants as halts
 use Rattle.abc_reached.specs.Steps.{machine, step_here}
 use Rattle.abc_ends.specs.declared.ended.Ended.TheVariants as ended
 use Rattle.abc_states.specs.Outer.{Outer, world}
-use Rattle.abc_tables.specs.declared.tables.Abc.{Abc}
 use Rattle.abc_states.specs.WorldSetting.{Setting}
 use Rattle.abc_states.specs.declared.state.State.{State}
 
@@ -191,49 +182,3 @@ module _ (l : LinkedFile) (b : Begun) where
         let more = rest_front fuel a in
         let here : GrowsByFront y z (rest fuel) = subst (GrowsByFront y z) (sym more.1) (front_first y z (lines_for l (outer l b fuel) s fuel) more.0 (front (told_on x y lines.lines told some))) in
         subst (GrowsByFront x z) (sym lines.is) (front_second x z lines.lines (rest fuel) (subst (λ (o : Option (List ℕ)). GrowsByFront o z (rest fuel)) told here))
-
-  -- ---- the last line
-
-  module _ (x y z : Option (List ℕ)) (written : Result Unit Failed) where
-    abbrev Logs : End → Type 0
-    Logs end = LogsRun all (ran (runs_for p b.fuel b.first)) x z end
-
-    -- the meaning's end is answered
-    end_so : (reply : Reply) → IsReplyOf (replies_for p b.fuel b.first).reply reply → IsEndOf (runs_for p b.fuel b.first).end (end_for reply)
-    end_so reply is = subst (λ (e : meant.End). IsEndOf e (end_for reply)) (sym (ap (λ (e : Ended). e.end) (runs_are p b.fuel b.first))) (end_is (replies_for p b.fuel b.first).reply reply is)
-
-    pub end_written : (reply : Reply) (u : Unit) → written ≡ Ok u → IsReplyOf (replies_for p b.fuel b.first).reply reply → HasAllBut last all x y → ((e : meant.End) → IsEndOf e (end_for reply) → WritesAll y z written (end_line l.file e)) → Logs (end_for reply)
-    end_written reply u is answers lines writes =
-        let so = end_so reply answers in
-        let line : WritesAll y z (Ok {T = Unit} {E = Failed} u) last = subst (λ (w : Result Unit Failed). WritesAll y z w last) is (writes (runs_for p b.fuel b.first).end so) in
-        logged all (runs_for p b.fuel b.first).world.wrote (runs_for p b.fuel b.first).end (end_for reply) so (λ some. whole_on x y z lines.lines last lines.told line some ∙ ap (append_known x) (sym lines.is))
-
-    pub end_failed : (reply : Reply) (f : Failed) → written ≡ Err f → IsReplyOf (replies_for p b.fuel b.first).reply reply → HasAllBut last all x y → ((e : meant.End) → IsEndOf e (end_for reply) → WritesAll y z written (end_line l.file e)) → Logs ends.WriteFault
-    end_failed reply f is answers lines writes =
-        let line : WritesAll y z (Err {T = Unit} f) last = subst (λ (w : Result Unit Failed). WritesAll y z w last) is (writes (runs_for p b.fuel b.first).end (end_so reply answers)) in
-        runs.failed all (runs_for p b.fuel b.first).world.wrote (runs_for p b.fuel b.first).end (λ some.
-        let told = lines.told some in
-        subst (GrowsByFront x z) (sym lines.is) (front_second x z lines.lines last (subst (λ (o : Option (List ℕ)). GrowsByFront o z last) told (line (told_on x y lines.lines told some)))))
-
-    -- there is none, where writing failed before
-    pub end_cut : (end : End) → end ≡ ends.WriteFault → z ≡ y → (IsSome x → GrowsByFront x y all) → Logs end
-    end_cut end is same front =
-        let cut : Logs ends.WriteFault = runs.failed all (runs_for p b.fuel b.first).world.wrote (runs_for p b.fuel b.first).end (λ some. subst (λ (o : Option (List ℕ)). GrowsByFront x o all) (sym same) (front some)) in
-        subst Logs (sym is) cut
-
-    -- ---- what comes of a run with its log
-
-    pub logs_ok : (reply : Reply) (u : Unit) → written ≡ Ok u → (reply ≢ replies.WriteFault → IsReplyOf (replies_for p b.fuel b.first).reply reply) → (reply ≢ replies.WriteFault → HasAllBut last all x y) → (reply ≡ replies.WriteFault → IsSome x → GrowsByFront x y all) → ((e : meant.End) → IsEndOf e (end_for reply) → WritesAll y z written (end_line l.file e)) → (end_for reply ≡ ends.WriteFault → z ≡ y) → Logs (end_for reply)
-    logs_ok (replies.Value v) u is answers lines front writes none = end_written (replies.Value v) u is (answers (λ e. absurd cc)) (lines (λ e. absurd cc)) writes
-    logs_ok (replies.Uncaught thrown) u is answers lines front writes none = end_written (replies.Uncaught thrown) u is (answers (λ e. absurd cc)) (lines (λ e. absurd cc)) writes
-    logs_ok (replies.Profile method index fault) u is answers lines front writes none = end_written (replies.Profile method index fault) u is (answers (λ e. absurd cc)) (lines (λ e. absurd cc)) writes
-    logs_ok replies.FuelSpent u is answers lines front writes none = end_written replies.FuelSpent u is (answers (λ e. absurd cc)) (lines (λ e. absurd cc)) writes
-    logs_ok (replies.Full limit) u is answers lines front writes none = end_written (replies.Full limit) u is (answers (λ e. absurd cc)) (lines (λ e. absurd cc)) writes
-    logs_ok replies.WriteFault u is answers lines front writes none = end_cut ends.WriteFault refl (none refl) (front refl)
-
-    pub logs_err : (reply : Reply) (f : Failed) → written ≡ Err f → (reply ≢ replies.WriteFault → IsReplyOf (replies_for p b.fuel b.first).reply reply) → (reply ≢ replies.WriteFault → HasAllBut last all x y) → ((e : meant.End) → IsEndOf e (end_for reply) → WritesAll y z written (end_line l.file e)) → (reply ≢ replies.WriteFault) → Logs ends.WriteFault
-    logs_err reply f is answers lines writes well = end_failed reply f is (answers well) (lines well) writes
-
--- the line of an end, by what the machine answers
-pub line_of_end : (v : Abc) (e end : meant.End) (y z : Option (List ℕ)) (written : Result Unit Failed) → e ≡ end → WritesAll y z written (end_line v end) → WritesAll y z written (end_line v e)
-line_of_end v e end y z written same line = subst (λ (q : meant.End). WritesAll y z written (end_line v q)) (sym same) line

@@ -1,6 +1,6 @@
 use Rattle.std.proofs.Common.{◌≡◌, subst}
 use Rattle.abc_machine.specs.Ended.{IsEndOf}
-use Rattle.abc_machine.proofs.Logging.{line_of_end}
+use Rattle.abc_machine.proofs.Closing.{line_of_end}
 use Rattle.abc_meaning.specs.Throwing as meant
 use Rattle.abc_machine.proofs.logged.write_end.Goals as goal
 
