@@ -11,7 +11,7 @@ use Rattle.abc_base.specs.declared.source.Failed.{Failed}
 use Rattle.abc_base.proofs.Writing.{front_second, known_told, known_twice}
 use Rattle.abc_cells.specs.declared.values.Value.{Value}
 use Rattle.abc_compare.specs.Followed.{bytes_in, told}
-use Rattle.abc_compare.proofs.Following.{told_bytes, told_start}
+use Rattle.abc_compare.proofs.Following.{told-append, told_bytes, told_start}
 use Rattle.abc_ends.specs.Ending.{end_of}
 use Rattle.abc_finishing.specs.Steps.{EndsIn, FailsIn, GoesOnIn, StepsIn}
 use Rattle.abc_finishing.specs.declared.halting.Halt.{Halt}
@@ -45,6 +45,7 @@ wrote_none w n e = wrote_some w n [] (e ∙ sym (append-nil w.wrote))
 -- what was written while the line was open, as it is told
 same_told : (s t a b : List ℕ) → Some (told t b) ≡ append_known (Some (told s [])) a → (t ≡ s) × (b ≡ a)
 same_told s t a b e =
+    let whole : Some (told t b) ≡ Some (told s a) = e ∙ ap Some (told-append s [] a) in
     let told_is : told t b ≡ told s a = cc in
     (told_start t s b a told_is, told_bytes t s b a told_is)
 
@@ -114,13 +115,13 @@ module _ (r : Stepped) (out : Outer) (w : World) (wrote : w.wrote ≡ out.wrote)
     line_is : (written : Result Unit Failed) → t ≡ s → b ≡ wrote_since w (world_left r) → WritesAll (bytes_in t) now written (out_line b) → WritesAll log now written shown
     line_is written same is line = subst (λ (o : Option (List ℕ)). WritesAll o now written shown) (ap bytes_in same ∙ at) (subst (λ (l : List ℕ). WritesAll (bytes_in t) now written (out_line l)) is line)
 
-    logged_whole : (done : Result Unit Halt) → done ≢ Err halts.Fails → Bytes done → WritesAll (bytes_in t) now (Ok {T = Unit} {E = Failed} tt) (out_line b) → IsSome log → now ≡ append_known log shown
+    logged_whole : (done : Result Unit Halt) → done ≢ Err halts.Fails → Bytes done → WritesAll (bytes_in t) now (Ok {E = Failed} tt) (out_line b) → IsSome log → now ≡ append_known log shown
     logged_whole (Ok u) well i line = line_is (Ok tt) i.0 i.1 line
     logged_whole (Err (halts.Returns v)) well i line = line_is (Ok tt) i.0 i.1 line
     logged_whole (Err (halts.Ends x)) well i line = line_is (Ok tt) i.0 i.1 line
     logged_whole (Err halts.Fails) well i line = absurd (well refl)
 
-    logged_front : (f : Failed) (done : Result Unit Halt) → Bytes done → WritesAll (bytes_in t) now (Err {T = Unit} {E = Failed} f) (out_line b) → (done ≡ Err halts.Fails → IsSome (bytes_in t) → GrowsByFront (bytes_in t) now (open_line b)) → IsSome log → GrowsByFront log now shown
+    logged_front : (f : Failed) (done : Result Unit Halt) → Bytes done → WritesAll (bytes_in t) now (Err {T = Unit} f) (out_line b) → (done ≡ Err halts.Fails → IsSome (bytes_in t) → GrowsByFront (bytes_in t) now (open_line b)) → IsSome log → GrowsByFront log now shown
     logged_front f (Ok u) i line front = line_is (Err f) i.0 i.1 line
     logged_front f (Err (halts.Returns v)) i line front = line_is (Err f) i.0 i.1 line
     logged_front f (Err (halts.Ends x)) i line front = line_is (Err f) i.0 i.1 line

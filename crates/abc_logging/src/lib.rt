@@ -6,5 +6,5 @@ mod left;
 mod logging;
 
 pub use abc_scripts::Seen;
-pub use ending::write_uncaught;
+pub use ending::{thrown_name, write_uncaught};
 pub use logging::step_logged;

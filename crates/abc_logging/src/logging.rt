@@ -1,4 +1,4 @@
-ghost use Rattle.std.specs.Prelude.{◌≡◌, ◌≢◌, ◌<◌, ◌≤◌, [], Err, length};
+ghost use Rattle.std.specs.Prelude.{◌≡◌, ◌≢◌, ◌<◌, ◌≤◌, ◌-◌, ◌^◌, [], Err, length};
 ghost use Rattle.abc_base.specs.Faults.{HasCause, Rose};
 ghost use Rattle.abc_base.specs.Sinks.{WritesAll};
 ghost use Rattle.abc_callmeaning.specs.Calls.{returned};

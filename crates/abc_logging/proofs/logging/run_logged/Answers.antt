@@ -34,7 +34,7 @@ returns-in-Ok-clause-logs g c =
     let s = c.args.s.now in
     let new = c.run_newest-left.new.s in
     let script : c.note-script.result ≡ started_from 0 s.started new.started = c.note-script.ensures.script ∙ ap (λ (bs : List Bool). started_from 0 bs new.started) c.requires.1.1.1.1.1 in
-    logs_on l g.out s c.requires.1.1.0 c.requires.1.1.1.0 c.run_newest-left.result new c.run_newest-left.ensures.leaves c.note-script.result c.method.result c.place.result script c.method.ensures c.place.ensures c.finish_logged.result c.finish_logged.new.s (g.K.Sink.written c.args.log.now) (g.K.Sink.written c.write_line.new.log) (g.K.Sink.written c.finish_logged.new.log) c.in-Ok.ensures.bytes c.finish_logged.ensures.logs
+    logs_on l g.out s c.requires.1.1.0 c.requires.1.1.1.0 c.run_newest-left.result new c.run_newest-left.ensures.leaves c.note-script.result c.method-method.result c.place-place.result script c.method-method.ensures c.place-place.ensures c.finish_logged.result c.finish_logged.new.s (g.K.Sink.written c.args.log.now) (g.K.Sink.written c.write_line.new.log) (g.K.Sink.written c.finish_logged.new.log) c.in-Ok.ensures.bytes c.finish_logged.ensures.logs
 
 pub returns-in-Ok-clause-value : goal.returns-in-Ok-clause-value
 returns-in-Ok-clause-value g c = λ v e. returned_left c.args.linked.now g.out c.args.s.now c.requires.1.1.0 c.requires.1.1.1.0 c.run_newest-left.result c.run_newest-left.new.s c.run_newest-left.ensures.leaves v (c.finish_logged.ensures.value v e)
@@ -52,4 +52,4 @@ returns-in-Err-clause-logs g c =
     let s = c.args.s.now in
     let new = c.run_newest-left.new.s in
     let script : c.note-script.result ≡ started_from 0 s.started new.started = c.note-script.ensures.script ∙ ap (λ (bs : List Bool). started_from 0 bs new.started) c.requires.1.1.1.1.1 in
-    logs_front l g.out s c.requires.1.1.0 c.requires.1.1.1.0 c.run_newest-left.result new c.run_newest-left.ensures.leaves c.note-script.result c.method.result c.place.result script c.method.ensures c.place.ensures new (g.K.Sink.written c.args.log.now) (g.K.Sink.written c.write_line.new.log) c.in-Err.ensures.bytes
+    logs_front l g.out s c.requires.1.1.0 c.requires.1.1.1.0 c.run_newest-left.result new c.run_newest-left.ensures.leaves c.note-script.result c.method-method.result c.place-place.result script c.method-method.ensures c.place-place.ensures new (g.K.Sink.written c.args.log.now) (g.K.Sink.written c.write_line.new.log) c.in-Err.ensures.bytes

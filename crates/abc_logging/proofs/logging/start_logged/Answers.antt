@@ -15,8 +15,8 @@ use Rattle.abc_logging.proofs.logging.start_logged.Goals as goal
 pub start_last-done-requires : goal.start_last-done-requires
 start_last-done-requires g c = can_start c.args.linked.now g.out c.args.s.now c.requires.1.0 c.requires.1.1.0
 
-pub note-_script-requires : goal.note-_script-requires
-note-_script-requires g c =
+pub note-script-requires : goal.note-script-requires
+note-script-requires g c =
     let l = c.args.linked.now in
     let s = c.args.s.now in
     let now = c.start_last-done.new.s.started in

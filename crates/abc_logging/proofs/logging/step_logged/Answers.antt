@@ -10,7 +10,7 @@ some_left : (fs : List Frame) (n : ℕ) → n ≡ length fs → n ≢ 0 → 0 < 
 some_left fs n e z = omega (arith, e, z)
 
 pub start_logged-requires : goal.start_logged-requires
-start_logged-requires g c = λ κs among. (among.0, (c.requires.1.1.0, (none_left c.args.s.now.frames.living c.depth.result c.depth.ensures c.if-depth-eq0.true, c.requires.1.1.1.1)))
+start_logged-requires g c = λ κs among. (among, (c.requires.1.1.0, (none_left c.args.s.now.frames.living c.depth.result c.depth.ensures c.if-depth-eq0.true, c.requires.1.1.1.1)))
 
 pub returns-then-depth-eq0-clause-value : goal.returns-then-depth-eq0-clause-value
 returns-then-depth-eq0-clause-value g c = λ v e. absurd (c.start_logged.ensures.none v e)
