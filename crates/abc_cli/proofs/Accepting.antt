@@ -1,11 +1,12 @@
 -- What `log` writes is a log that `replay` accepts; and how `replay` ends.
-use Rattle.std.proofs.Common.{◌≡◌, ◌≢◌, ◌⊎◌, ℕ, inl, inr, List, [], ◌++◌, Some, None, length, refl, sym, ap, ◌∙◌, subst}
+use Rattle.std.proofs.Common.{◌≡◌, ◌≢◌, ◌⊎◌, ℕ, inl, inr, List, [], ◌++◌, Some, None, length, refl, sym, ap, ◌∙◌, subst, arith}
 use Rattle.std.specs.declared.option.Option.{Option}
 use Rattle.abc_base.specs.Hosts.{AreFormulas}
 use Rattle.abc_base.specs.declared.formula.Formula.{Formula}
 use Rattle.abc_base.specs.declared.status.Status.{Status}
 use Rattle.abc_base.specs.declared.status.Status.TheVariants as status
 use Rattle.abc_cli.proofs.Ending.{memory_stops}
+use Rattle.abc_cli.proofs.Logging.{short_file}
 use Rattle.abc_cli.specs.Answers.{Answer, given, told}
 use Rattle.abc_cli.specs.End.{Channel, GivesLine, Got, HasFailed, IsEnd, IsRead, RunsTo}
 use Rattle.abc_cli.specs.Lines.{write_fault_text}
@@ -97,7 +98,7 @@ log_accepted one never fs fuel limits out within g =
       linked = g.linked;
       fuel = fuel;
       limits = limits;
-      is = record { file = file_bytes g.linked.file; spells = (canonical_file g.linked.file fits.0 fits.1).0; verified = g.verified; limits = within; is = refl };
+      is = record { file = file_bytes g.linked.file; spells = (canonical_file g.linked.file fits.0 fits.1).0; short = (let le = short_file g.linked.file fits in omega (arith, le)); verified = g.verified; limits = within; is = refl };
       counted = refl;
     } in
     record {
