@@ -5,20 +5,8 @@ use Rattle.std.specs.declared.option.Option.{Option}
 use Rattle.abc_base.specs.declared.formula.Formula.{Formula}
 use Rattle.abc_base.specs.declared.status.Status.{Status}
 use Rattle.abc_base.specs.declared.status.Status.TheVariants as status
-use Rattle.abc_faults.specs.Exports.{export}
-use Rattle.abc_file.specs.Reading.{OfInput}
-use Rattle.abc_heap.specs.declared.records.Limits.{Limits}
-use Rattle.abc_machine.specs.Machines.{IsOpened, Opened}
-use Rattle.abc_machine.specs.OpeningsBegun.{IsRefused}
-use Rattle.abc_meaning.specs.Meaning.{first_world, too_small}
-use Rattle.abc_meaning.specs.WorldSetting.{Setting}
-use Rattle.abc_objects.specs.declared.error.OpenError.{OpenError}
-use Rattle.abc_objects.specs.declared.error.OpenError.TheVariants as errors
-use Rattle.abc_program.specs.Linked.{LinkedFile}
-use Rattle.abc_tables.specs.declared.tables.Abc.{Abc}
-use Rattle.abc_ticks.specs.Ticks.{calls_meaning}
-use Rattle.abc_words.specs.declared.command.CallsOptions.{CallsOptions}
-use Rattle.abc_cli.specs.declared.stop.Stop.{Stop}
+use Rattle.abc_cli.proofs.Ending.{line_ends, of_any, stopped_undone, stops_as}
+use Rattle.abc_cli.proofs.Running.{meant_quiet, memory_runs, runs_weaker, unverified_quiet}
 use Rattle.abc_cli.specs.Answers.{Answer, IsVerifiedOf, OfFileRead, Unverified, told}
 use Rattle.abc_cli.specs.Calls.{Calls, IsCalled}
 use Rattle.abc_cli.specs.End.{Channel, Got, GivesLine, HasFailed, RunsTo}
@@ -27,8 +15,20 @@ use Rattle.abc_cli.specs.Lines.{limit_text, no_export_text}
 use Rattle.abc_cli.specs.Outcome.{On}
 use Rattle.abc_cli.specs.Runs.{IsMeant, limits_of}
 use Rattle.abc_cli.specs.Stops.{IsReadVerified, Stops, stop_answer}
-use Rattle.abc_cli.proofs.Ending.{line_ends, of_any, stopped_undone, stops_as}
-use Rattle.abc_cli.proofs.Running.{meant_quiet, memory_runs, runs_weaker, unverified_quiet}
+use Rattle.abc_cli.specs.declared.stop.Stop.{Stop}
+use Rattle.abc_file.specs.Reading.{OfInput}
+use Rattle.abc_heap.specs.declared.records.Limits.{Limits}
+use Rattle.abc_meaning.specs.Meaning.{first_world, too_small}
+use Rattle.abc_meaning.specs.WorldSetting.{Setting}
+use Rattle.abc_objects.specs.declared.error.OpenError.{OpenError}
+use Rattle.abc_objects.specs.declared.error.OpenError.TheVariants as errors
+use Rattle.abc_program.specs.Linked.{LinkedFile}
+use Rattle.abc_tables.specs.declared.tables.Abc.{Abc}
+use Rattle.abc_ticks.specs.Exports.{export}
+use Rattle.abc_ticks.specs.Machines.{IsOpened, Opened}
+use Rattle.abc_ticks.specs.OpeningsBegun.{IsRefused}
+use Rattle.abc_ticks.specs.Ticks.{calls_meaning}
+use Rattle.abc_words.specs.declared.command.CallsOptions.{CallsOptions}
 
 abbrev p_of : LinkedFile → List Formula → Setting
 p_of l fs = record { linked = l; formulas = fs }

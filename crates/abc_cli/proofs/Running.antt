@@ -3,34 +3,14 @@ use Rattle.std.proofs.Common.{◌≡◌, ◌≢◌, ℕ, ◌<◌, inl, inr, List
 use Rattle.std.specs.Prelude.{unwrap_or}
 use Rattle.std.proofs.lemmas.Option.{slice_get-get_or}
 use Rattle.std.specs.declared.option.Option.{Option}
+use Rattle.abc_base.specs.Hosts.{AreFormulas}
 use Rattle.abc_base.specs.Sinks.{GrowsByFront}
 use Rattle.abc_base.specs.declared.formula.Formula.{Formula}
 use Rattle.abc_base.specs.declared.names.Fault.{Fault}
 use Rattle.abc_base.specs.declared.status.Status.{Status}
 use Rattle.abc_base.specs.declared.status.Status.TheVariants as status
 use Rattle.abc_bodies.specs.Places.{ArePlaces}
-use Rattle.abc_faults.specs.Placed.{IsInstruction}
-use Rattle.abc_file.specs.Reading.{OfInput}
-use Rattle.abc_heap.specs.declared.records.Limit.{Limit}
-use Rattle.abc_heap.specs.declared.records.Limits.{Limits}
-use Rattle.abc_items.specs.Parts.{body_at, no_body}
-use Rattle.abc_machine.specs.OpeningsBegun.{IsRefused}
-use Rattle.abc_machine.specs.Ended.{HasRun, IsEndOf, RunsAs}
-use Rattle.abc_machine.specs.Machines.{IsOpened, Opened}
-use Rattle.abc_machine.specs.declared.ends.End.{End}
-use Rattle.abc_machine.specs.declared.ends.End.TheVariants as ends
-use Rattle.abc_base.specs.Hosts.{AreFormulas}
-use Rattle.abc_meaning.specs.Laws.{IsVerified}
-use Rattle.abc_meaning.specs.Meaning.{Meaning, Ran, TooSmall, first_state, first_world, meaning, meaning_if, runs_for, too_small}
-use Rattle.abc_meaning.specs.Throwing as meant
-use Rattle.abc_objects.specs.declared.error.OpenError.{OpenError}
-use Rattle.abc_objects.specs.declared.error.OpenError.TheVariants as errors
-use Rattle.abc_program.specs.Linked.{LinkedFile}
-use Rattle.abc_program.specs.Slots.{HasFewSlots}
-use Rattle.abc_tables.specs.declared.tables.Abc.{Abc}
-use Rattle.abc_words.specs.declared.command.RunOptions.{RunOptions}
-use Rattle.abc_meaning.specs.WorldSetting.{Setting}
-use Rattle.abc_cli.specs.declared.stop.Stop.{Stop}
+use Rattle.abc_cli.proofs.Ending.{bytes_failed, line_ends, memory_failed, of_any, stop_not_read, stopped_undone, stops_as, weaker}
 use Rattle.abc_cli.specs.Answers.{Answer, IsVerifiedOf, OfFileRead, Unverified, given, told}
 use Rattle.abc_cli.specs.End.{Channel, channel, Got, GivesLine, HasFailed, IsEnd, RunsTo, UsesUp}
 use Rattle.abc_cli.specs.Endings.{HasPlace, IsPlacedEnd, end_answer, open_answer}
@@ -38,7 +18,27 @@ use Rattle.abc_cli.specs.Lines.{fuel_spent_text, limit_text, no_memory_text, unc
 use Rattle.abc_cli.specs.Outcome.{On}
 use Rattle.abc_cli.specs.Runs.{IsEnded, IsMeant, Run, ended, limits_of, thrown_name}
 use Rattle.abc_cli.specs.Stops.{IsReadVerified, Stops, stop_answer}
-use Rattle.abc_cli.proofs.Ending.{bytes_failed, line_ends, memory_failed, of_any, stop_not_read, stopped_undone, stops_as, weaker}
+use Rattle.abc_cli.specs.declared.stop.Stop.{Stop}
+use Rattle.abc_file.specs.Reading.{OfInput}
+use Rattle.abc_heap.specs.declared.records.Limit.{Limit}
+use Rattle.abc_heap.specs.declared.records.Limits.{Limits}
+use Rattle.abc_items.specs.Parts.{body_at, no_body}
+use Rattle.abc_meaning.specs.Laws.{IsVerified}
+use Rattle.abc_meaning.specs.Meaning.{Meaning, Ran, TooSmall, first_state, first_world, meaning, meaning_if, runs_for, too_small}
+use Rattle.abc_meaning.specs.Throwing as meant
+use Rattle.abc_meaning.specs.WorldSetting.{Setting}
+use Rattle.abc_objects.specs.declared.error.OpenError.{OpenError}
+use Rattle.abc_objects.specs.declared.error.OpenError.TheVariants as errors
+use Rattle.abc_program.specs.Linked.{LinkedFile}
+use Rattle.abc_program.specs.Slots.{HasFewSlots}
+use Rattle.abc_tables.specs.declared.tables.Abc.{Abc}
+use Rattle.abc_ticks.specs.EndType.{End}
+use Rattle.abc_ticks.specs.EndType.TheVariants as ends
+use Rattle.abc_ticks.specs.Ended.{HasRun, IsEndOf, RunsAs}
+use Rattle.abc_ticks.specs.Machines.{IsOpened, Opened}
+use Rattle.abc_ticks.specs.OpeningsBegun.{IsRefused}
+use Rattle.abc_ticks.specs.Placed.{IsInstruction}
+use Rattle.abc_words.specs.declared.command.RunOptions.{RunOptions}
 
 -- ---- what a run ends to
 

@@ -2,17 +2,17 @@
 use Rattle.std.specs.Prelude.{◌≡◌, ℕ, List, codes, None, Some}
 use Rattle.abc_base.specs.declared.formula.Formula.{Formula}
 use Rattle.abc_base.specs.declared.status.Status.TheVariants as status
-use Rattle.abc_faults.specs.Exports.{export}
+use Rattle.abc_cli.specs.Answers.{Answer, IsVerifiedOf, Unverified, told}
+use Rattle.abc_cli.specs.Lines.{limit_text, no_export_text}
+use Rattle.abc_cli.specs.Runs.{IsMeant, limits_of}
 use Rattle.abc_heap.specs.declared.records.Limit.{Limit}
 use Rattle.abc_meaning.specs.Meaning.{first_world, too_small}
 use Rattle.abc_meaning.specs.WorldSetting.{Setting}
 use Rattle.abc_program.specs.Linked.{LinkedFile}
 use Rattle.abc_tables.specs.declared.tables.Abc.{Abc}
+use Rattle.abc_ticks.specs.Exports.{export}
 use Rattle.abc_ticks.specs.Ticks.{calls_meaning}
 use Rattle.abc_words.specs.declared.command.CallsOptions.{CallsOptions}
-use Rattle.abc_cli.specs.Answers.{Answer, IsVerifiedOf, Unverified, told}
-use Rattle.abc_cli.specs.Lines.{limit_text, no_export_text}
-use Rattle.abc_cli.specs.Runs.{IsMeant, limits_of}
 
 -- `calls` of a verified file: a limit is too small to open it; or it doesn't export `tick`, which is told before anything runs; or it
 -- runs, and its `tick` is called

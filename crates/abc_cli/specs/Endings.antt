@@ -2,15 +2,15 @@
 use Rattle.std.specs.Prelude.{ℕ, ◌<◌, List, [], get_or, length, unwrap_or}
 use Rattle.abc_base.specs.Names.{fault_name}
 use Rattle.abc_base.specs.declared.status.Status.TheVariants as status
-use Rattle.abc_machine.specs.declared.ends.End.{End}
-use Rattle.abc_machine.specs.declared.ends.End.TheVariants as ends
+use Rattle.abc_cli.specs.Answers.{Answer, given, told}
+use Rattle.abc_cli.specs.Lines.{code_text, fuel_spent_text, limit_text, no_memory_text, uncaught_text, write_fault_text}
+use Rattle.abc_cli.specs.Runs.{place_of, thrown_name}
 use Rattle.abc_objects.specs.declared.error.OpenError.{OpenError}
 use Rattle.abc_objects.specs.declared.error.OpenError.TheVariants as errors
 use Rattle.abc_program.specs.Owners.{body_of}
 use Rattle.abc_tables.specs.declared.tables.Abc.{Abc}
-use Rattle.abc_cli.specs.Answers.{Answer, given, told}
-use Rattle.abc_cli.specs.Lines.{code_text, fuel_spent_text, limit_text, no_memory_text, uncaught_text, write_fault_text}
-use Rattle.abc_cli.specs.Runs.{place_of, thrown_name}
+use Rattle.abc_ticks.specs.EndType.{End}
+use Rattle.abc_ticks.specs.EndType.TheVariants as ends
 
 -- but for what was written
 abbrev pub end_answer : Abc → List (List ℕ) → End → Answer

@@ -6,12 +6,12 @@ ghost use Rattle.abc_cli.specs.End.{GivesLine, HasFailed, RunsTo, UsesUp, stream
 ghost use Rattle.abc_cli.specs.Lines.{no_export_text};
 ghost use Rattle.abc_cli.specs.Outcome.{On};
 ghost use Rattle.abc_cli.specs.Runs.{IsMeant, limits_of as limits_in};
-ghost use Rattle.abc_faults.specs.CallsLaws.{IsScriptMethod};
-ghost use Rattle.abc_faults.specs.Placed.{CanBeTold};
-ghost use Rattle.abc_machine.specs.Machines.{IsOpened};
-ghost use Rattle.abc_machine.specs.OpeningsBegun.{setting};
 ghost use Rattle.abc_meaning.specs.Laws.{AreCounted, IsVerified};
 ghost use Rattle.abc_meaning.specs.Meaning.{first_world, too_small};
+ghost use Rattle.abc_ticks.specs.CallsLaws.{IsScriptMethod};
+ghost use Rattle.abc_ticks.specs.Machines.{IsOpened};
+ghost use Rattle.abc_ticks.specs.OpeningsBegun.{setting};
+ghost use Rattle.abc_ticks.specs.Placed.{CanBeTold};
 ghost use Rattle.abc_ticks.specs.Ticks.{calls_meaning};
 
 use crate::endings::{give_end, give_unopened};
@@ -21,8 +21,7 @@ use crate::run::limits_of;
 use crate::verified::read_verified;
 use abc_base::{Host, Sink, Source, Status};
 use abc_file::Places;
-use abc_session::Session;
-use abc_ticks::{run_and_call, ticks_can_be_told};
+use abc_ticks::{Session, run_and_call, ticks_can_be_told};
 use abc_verify::Verified;
 use abc_words::CallsOptions;
 use std::alloc::Global;

@@ -13,9 +13,9 @@ use abc_file::Places;
 use abc_heap::Limit;
 use abc_items::class_name;
 use abc_link::Linked;
-use abc_machine::{End, OpenError, Thrown};
 use abc_names::{qname_at, text_at};
 use abc_tables::Abc;
+use abc_ticks::{End, OpenError, Thrown};
 
 /// What was thrown, by the name of its class or of what else it is.
 fn thrown_name<'a>(abc: &'a Abc, thrown: &'a Thrown) -> &'a [u8]

@@ -10,6 +10,9 @@ inner_source l = l.compare.source
 abbrev pub inner_verdict : {S : Type 0} {G : Ghosts S} → Lenient S G → Verdict
 inner_verdict l = l.compare.verdict
 
+abbrev pub inner_agreed : {S : Type 0} {G : Ghosts S} → Lenient S G → ℕ
+inner_agreed l = l.compare.agreed
+
 -- what the source had left when nothing was written, and how many of its reads had failed
 abbrev pub start_of : {S : Type 0} {G : Ghosts S} → Lenient S G → List ℕ
 start_of l = l.history.start

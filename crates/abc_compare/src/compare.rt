@@ -58,6 +58,13 @@ impl<S: Source> Compare<S> {
         self.verdict
     }
 
+    /// How many bytes agree. The number stands still at 2^64 - 1.
+    pub fn agreed(&self) -> u64
+        ensures { result ≡ self.now.agreed }
+    {
+        self.agreed
+    }
+
     /// The source as it stands.
     pub fn into_inner(self) -> S
         ensures { result ≡ self.source }

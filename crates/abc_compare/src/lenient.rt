@@ -21,7 +21,7 @@ pub struct Lenient<S: Source> {
 }
 
 impl<S: Source> Lenient<S> {
-    ghost use Rattle.abc_compare.specs.Lenients.{inner_source, inner_verdict, start_of, bytes_of};
+    ghost use Rattle.abc_compare.specs.Lenients.{inner_agreed, inner_source, inner_verdict, start_of, bytes_of};
 
     /// Nothing is written yet.
     pub fn new(source: S) -> Lenient<S>
@@ -41,6 +41,13 @@ impl<S: Source> Lenient<S> {
         ensures { result ≡ inner_verdict self.now }
     {
         self.compare.verdict()
+    }
+
+    /// How many bytes agree. The number stands still at 2^64 - 1.
+    pub fn agreed(&self) -> u64
+        ensures { result ≡ inner_agreed self.now }
+    {
+        self.compare.agreed()
     }
 
     /// The source as it stands.

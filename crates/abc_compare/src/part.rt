@@ -33,6 +33,13 @@ impl<S: Source> Part<S> {
         }
     }
 
+    /// How many bytes may still be taken.
+    pub fn room(&self) -> u32
+        ensures { result ≡ self.now.room }
+    {
+        self.room
+    }
+
     /// The source as it stands.
     pub fn into_inner(self) -> S
         ensures { result ≡ self.source }

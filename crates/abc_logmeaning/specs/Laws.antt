@@ -4,7 +4,7 @@ use Rattle.abc_heap.specs.declared.records.Limit.{Limit}
 use Rattle.abc_heap.specs.declared.records.Limits.{Limits}
 use Rattle.abc_meaning.specs.Meaning.{first_world, too_small}
 use Rattle.abc_meaning.specs.WorldSetting.{Setting}
-use Rattle.abc_logmeaning.specs.Lines.{limit_end}
+use Rattle.abc_loglines.specs.Lines.{limit_end}
 use Rattle.abc_logmeaning.specs.Logs.{log, steps}
 
 abbrev pub TooSmallIsOneLine : Type 0

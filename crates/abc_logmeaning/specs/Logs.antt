@@ -1,5 +1,5 @@
 -- The log of a run: a line for each step, with what it wrote, and then how the run ends.
-use Rattle.std.specs.Prelude.{ℕ, zero, suc, List, [], ◌∷◌, ◌++◌, Bool, true, false, drop, length, Some, None}
+use Rattle.std.specs.Prelude.{ℕ, zero, suc, List, [], ◌∷◌, ◌++◌, Bool, drop, length, Some, None}
 use Rattle.std.specs.declared.option.Option.{Option}
 use Rattle.abc_heap.specs.declared.records.Limit.{Limit}
 use Rattle.abc_heap.specs.declared.records.Limits.{Limits}
@@ -9,21 +9,15 @@ use Rattle.abc_meaning.specs.Throwing.{Ends, FuelSpent, Machine, Stepped, Steps,
 use Rattle.abc_meaning.specs.World.{World}
 use Rattle.abc_meaning.specs.WorldSetting.{Setting}
 use Rattle.abc_stacks.specs.Frame.{Frame}
-use Rattle.abc_logmeaning.specs.Lines.{end_line, limit_end, out_line, start_line, step_line}
+use Rattle.abc_loglines.specs.Lines.{limit_end, out_line, start_line, step_line}
+use Rattle.abc_scripts.specs.Starts.{started_from}
+use Rattle.abc_logmeaning.specs.Lines.{end_line}
 
 -- ---- a step
 
 abbrev pub world_left : Stepped → World
 world_left (Steps q) = q.world
 world_left (Ends w e) = w
-
--- the first script, from number n on, that counts as started now and did not before
-abbrev pub started_from : ℕ → (before now : List Bool) → Option ℕ
-started_from n (false ∷ bs) (true ∷ cs) = Some n
-started_from n (false ∷ bs) (false ∷ cs) = started_from (suc n) bs cs
-started_from n (true ∷ bs) (c ∷ cs) = started_from (suc n) bs cs
-started_from n (b ∷ bs) [] = None
-started_from n [] cs = None
 
 -- a search that starts a script is the start of it, whatever becomes of that; another step is the newest frame's instruction
 abbrev pub instruction_line : Option ℕ → Frame → List ℕ

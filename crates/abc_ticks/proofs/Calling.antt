@@ -13,26 +13,26 @@ use Rattle.abc_base.specs.declared.formula.Formula.{Formula}
 use Rattle.abc_base.specs.declared.plain.Plain.{Plain}
 use Rattle.abc_cells.specs.declared.values.Value.{Value}
 use Rattle.abc_faults.specs.Calls.{Call, EndsAs, Gives, Replied, Reply, answers_call, call_meaning, session, silent}
-use Rattle.abc_machine.specs.Ended.{HasRun, IsEndOf, RunsAs}
-use Rattle.abc_machine.specs.Invoked.{Answers, call_of}
-use Rattle.abc_machine.specs.Machines.{IsReady, Opened}
-use Rattle.abc_machine.specs.Replied.{IsReplyOf, RepliesAs, Tells, plain_value}
-use Rattle.abc_machine.specs.declared.ends.End.{End}
-use Rattle.abc_machine.specs.declared.ends.End.TheVariants as ends
-use Rattle.abc_machine.specs.declared.replies.PlainValue.{PlainValue}
-use Rattle.abc_machine.specs.declared.replies.Reply as code
-use Rattle.abc_machine.specs.declared.replies.Reply.TheVariants as replies
 use Rattle.abc_meaning.specs.Meaning.{Meaning, Ran, TooSmall, meaning, ran}
 use Rattle.abc_meaning.specs.Throwing as meant
 use Rattle.abc_meaning.specs.World.{World}
 use Rattle.abc_program.specs.Linked.{LinkedFile}
+use Rattle.abc_session.specs.EndType.{End}
+use Rattle.abc_session.specs.EndType.TheVariants as ends
+use Rattle.abc_session.specs.Ended.{HasRun, IsEndOf, RunsAs}
+use Rattle.abc_session.specs.Invoked.{Answers, call_of}
+use Rattle.abc_session.specs.Machines.{IsReady, Opened}
+use Rattle.abc_session.specs.PlainValueType.{PlainValue}
+use Rattle.abc_session.specs.Replied.{IsReplyOf, RepliesAs, Tells, plain_value}
+use Rattle.abc_session.specs.ReplyType as code
+use Rattle.abc_session.specs.ReplyType.TheVariants as replies
 use Rattle.abc_session.specs.Sessions.{AnswersIn, HasCalled}
 use Rattle.abc_session.specs.declared.replies.SessionReply.{SessionReply}
 use Rattle.abc_session.specs.declared.replies.SessionReply.TheVariants as answers
 use Rattle.abc_tables.specs.declared.tables.Abc.{Abc}
+use Rattle.abc_ticks.proofs.Pieces.{front_both, got_both, nothing}
 use Rattle.abc_ticks.specs.Ticks.{after, calls_run, then_follows, then_goes, tick, ticks, ticks_run, value_line}
 use Rattle.abc_ticks.specs.Told.{GoesOn, GoesOnAs, TellsAs, Told, Tried, value_or_end}
-use Rattle.abc_ticks.proofs.Pieces.{front_both, got_both, nothing}
 
 -- ---- what was written before
 

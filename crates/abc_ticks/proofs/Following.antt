@@ -9,19 +9,19 @@ use Rattle.abc_faults.specs.Calls.{session, silent}
 use Rattle.abc_faults.specs.CallsLaws.{IsScriptMethod}
 use Rattle.abc_heap.specs.declared.records.Limit.{Limit}
 use Rattle.abc_heap.specs.declared.records.Limits.{Limits}
-use Rattle.abc_machine.specs.Ended.{HasRun, IsEndOf, RunsAs}
-use Rattle.abc_machine.specs.Machines.{IsOpened, IsReady, Opened, world_run}
-use Rattle.abc_machine.specs.declared.ends.End.{End}
-use Rattle.abc_machine.specs.declared.ends.End.TheVariants as ends
 use Rattle.abc_meaning.specs.Meaning.{Ended, Meaning, Ran, first_state, first_world, meaning, meaning_if, ran, runs_for, too_small}
 use Rattle.abc_meaning.specs.Throwing as meant
 use Rattle.abc_meaning.specs.World.{World}
 use Rattle.abc_meaning.specs.WorldSetting.{Setting}
 use Rattle.abc_objects.specs.Opening.{formula_names}
 use Rattle.abc_program.specs.Linked.{LinkedFile}
-use Rattle.abc_ticks.specs.Told.{Tried}
-use Rattle.abc_ticks.specs.Ticks.{after, calls_meaning, calls_run, then_follows, ticks, ticks_run}
+use Rattle.abc_session.specs.EndType.{End}
+use Rattle.abc_session.specs.EndType.TheVariants as ends
+use Rattle.abc_session.specs.Ended.{HasRun, IsEndOf, RunsAs}
+use Rattle.abc_session.specs.Machines.{IsOpened, IsReady, Opened, world_run}
 use Rattle.abc_ticks.proofs.Calling.{IsRun, calls_are_run, fails_after, kept_session, runs_after}
+use Rattle.abc_ticks.specs.Ticks.{after, calls_meaning, calls_run, then_follows, ticks, ticks_run}
+use Rattle.abc_ticks.specs.Told.{Tried}
 
 -- an opened machine's meaning is its run
 pub run_is : (p : Setting) (limits : Limits) (fuel : ℕ) → too_small (first_world p limits).heap ≡ None → meaning p limits fuel ≡ ran (runs_for p fuel (first_state p limits))

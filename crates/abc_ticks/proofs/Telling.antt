@@ -8,17 +8,17 @@ use Rattle.abc_faults.specs.Calls.{EndsAs, Gives, Reply, answers_call, session}
 use Rattle.abc_faults.specs.CallsLaws.{IsScriptMethod}
 use Rattle.abc_faults.specs.Placed.{CallsCanBeTold, CanBeTold, FaultsArePlaced, IsInstruction, RunsEndSound}
 use Rattle.abc_heap.specs.declared.records.Limits.{Limits}
-use Rattle.abc_machine.specs.Replied.{plain_value}
 use Rattle.abc_meaning.specs.Laws.{AreCounted, IsNeverStuck, IsVerified}
 use Rattle.abc_meaning.specs.Meaning.{Meaning, Ran, TooSmall, first_state, first_world, runs_for, too_small}
 use Rattle.abc_meaning.specs.Sound.{WorldSound}
 use Rattle.abc_meaning.specs.Throwing as meant
 use Rattle.abc_meaning.specs.World.{World}
 use Rattle.abc_meaning.specs.WorldSetting.{Setting}
+use Rattle.abc_session.specs.Replied.{plain_value}
 use Rattle.abc_tables.specs.declared.tables.Abc.{Abc}
+use Rattle.abc_ticks.proofs.Following.{run_is}
 use Rattle.abc_ticks.specs.Laws.{TicksCanBeTold}
 use Rattle.abc_ticks.specs.Ticks.{after, calls_meaning, calls_run, then_follows, then_goes, tick, ticks, ticks_run, value_line}
-use Rattle.abc_ticks.proofs.Following.{run_is}
 
 record IsToldEnd (v : Abc) (e : meant.End) : Type 0 where
   unstuck : e ≢ meant.Stuck

@@ -7,13 +7,13 @@ use Rattle.abc_faults.specs.Calls.{Call, EndsAs, Gives, Replied, Reply, session}
 use Rattle.abc_heap.specs.Heap.{Heap}
 use Rattle.abc_heap.specs.Texts.{text_of}
 use Rattle.abc_heap.specs.declared.records.Limits.{Limits}
-use Rattle.abc_machine.specs.Replied.{plain_value}
-use Rattle.abc_machine.specs.declared.replies.PlainValue.{PlainValue}
-use Rattle.abc_machine.specs.declared.replies.PlainValue.TheVariants as values
 use Rattle.abc_meaning.specs.Meaning.{Meaning, Ran, TooSmall, first_state, runs_for}
 use Rattle.abc_meaning.specs.Throwing.{Done, End}
 use Rattle.abc_meaning.specs.World.{World}
 use Rattle.abc_meaning.specs.WorldSetting.{Setting}
+use Rattle.abc_session.specs.PlainValueType.{PlainValue}
+use Rattle.abc_session.specs.PlainValueType.TheVariants as values
+use Rattle.abc_session.specs.Replied.{plain_value}
 use Rattle.abc_tables.specs.declared.tables.Abc.{Abc}
 
 -- ---- the line of a value

@@ -8,14 +8,14 @@ use Rattle.abc_cells.specs.declared.values.Span.{Span}
 use Rattle.abc_cells.specs.declared.values.Value.{Value}
 use Rattle.abc_faults.specs.Calls.{Gives, Replied, silent}
 use Rattle.abc_heap.specs.Texts.{IsText}
-use Rattle.abc_machine.specs.Ended.{RunsAs}
-use Rattle.abc_machine.specs.Machines.{IsReady, Opened}
-use Rattle.abc_machine.specs.Replied.{plain_value}
-use Rattle.abc_machine.specs.declared.ends.End.{End}
-use Rattle.abc_machine.specs.declared.ends.End.TheVariants as ends
-use Rattle.abc_machine.specs.declared.replies.PlainValue.{PlainValue}
-use Rattle.abc_machine.specs.declared.replies.PlainValue.TheVariants as values
-use Rattle.abc_machine.specs.declared.replies.Reply.TheVariants as replies
+use Rattle.abc_session.specs.EndType.{End}
+use Rattle.abc_session.specs.EndType.TheVariants as ends
+use Rattle.abc_session.specs.Ended.{RunsAs}
+use Rattle.abc_session.specs.Machines.{IsReady, Opened}
+use Rattle.abc_session.specs.PlainValueType.{PlainValue}
+use Rattle.abc_session.specs.PlainValueType.TheVariants as values
+use Rattle.abc_session.specs.Replied.{plain_value}
+use Rattle.abc_session.specs.ReplyType.TheVariants as replies
 use Rattle.abc_session.specs.declared.replies.SessionReply.{SessionReply}
 use Rattle.abc_session.specs.declared.replies.SessionReply.TheVariants as answers
 use Rattle.abc_tables.specs.declared.tables.Abc.{Abc}

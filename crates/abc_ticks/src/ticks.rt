@@ -5,10 +5,10 @@ ghost use Rattle.abc_base.specs.Hosts.{arguments};
 ghost use Rattle.abc_base.specs.Sinks.{WritesAll};
 ghost use Rattle.abc_faults.specs.Calls.{answers_call};
 ghost use Rattle.abc_faults.specs.CallsLaws.{IsScriptMethod};
-ghost use Rattle.abc_machine.specs.Ended.{HasRun, RunsAs};
-ghost use Rattle.abc_machine.specs.Machines.{IsOpened, IsReady};
-ghost use Rattle.abc_machine.specs.OpeningsBegun.{setting};
 ghost use Rattle.abc_objects.specs.Opening.{formula_names};
+ghost use Rattle.abc_session.specs.Ended.{HasRun, RunsAs};
+ghost use Rattle.abc_session.specs.Machines.{IsOpened, IsReady};
+ghost use Rattle.abc_session.specs.OpeningsBegun.{setting};
 ghost use Rattle.abc_ticks.specs.Ticks.{calls_meaning, tick, ticks_run, value_line};
 ghost use Rattle.abc_ticks.specs.Told.{GoesOnAs, HasText, TellsAs, Tried, value_or_end as value_of_reply};
 

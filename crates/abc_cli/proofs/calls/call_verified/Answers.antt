@@ -1,14 +1,14 @@
 use Rattle.std.proofs.Common.{◌∙◌, ap, subst, sym}
 use Rattle.abc_bodies.specs.Places.{ArePlaces}
-use Rattle.abc_machine.specs.Machines.{Opened}
+use Rattle.abc_cli.proofs.Called.{opened_as, opened_calls, unopened_calls}
+use Rattle.abc_cli.proofs.Running.{machine_verified}
+use Rattle.abc_cli.proofs.calls.call_verified.Goals as goal
+use Rattle.abc_cli.specs.End.{stream}
 use Rattle.abc_meaning.specs.Laws.{AreCounted}
 use Rattle.abc_program.specs.Linked.{LinkedFile}
 use Rattle.abc_program.specs.Slots.{HasFewSlots}
-use Rattle.abc_cli.specs.End.{stream}
-use Rattle.abc_cli.proofs.Called.{opened_as, opened_calls, unopened_calls}
 use Rattle.abc_ticks.proofs.Pieces.{nothing}
-use Rattle.abc_cli.proofs.Running.{machine_verified}
-use Rattle.abc_cli.proofs.calls.call_verified.Goals as goal
+use Rattle.abc_ticks.specs.Machines.{Opened}
 
 pub call_exported-status-requires : goal.call_exported-status-requires
 call_exported-status-requires g c =

@@ -1,13 +1,13 @@
 use Rattle.std.proofs.Common.{ap, subst, sym}
 use Rattle.abc_bodies.specs.Places.{ArePlaces}
-use Rattle.abc_machine.specs.Machines.{Opened}
+use Rattle.abc_cli.proofs.Running.{machine_verified, opened_runs, unopened_quiet, unopened_runs}
+use Rattle.abc_cli.proofs.run.run_verified.Goals as goal
+use Rattle.abc_cli.specs.End.{stream}
 use Rattle.abc_meaning.specs.Laws.{AreCounted}
 use Rattle.abc_program.specs.Linked.{LinkedFile}
 use Rattle.abc_program.specs.Slots.{HasFewSlots}
-use Rattle.abc_cli.specs.End.{stream}
 use Rattle.abc_ticks.proofs.Pieces.{nothing}
-use Rattle.abc_cli.proofs.Running.{machine_verified, opened_runs, unopened_quiet, unopened_runs}
-use Rattle.abc_cli.proofs.run.run_verified.Goals as goal
+use Rattle.abc_ticks.specs.Machines.{Opened}
 
 pub run_machine-status-requires : goal.run_machine-status-requires
 run_machine-status-requires g c =
