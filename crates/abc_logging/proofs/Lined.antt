@@ -115,13 +115,13 @@ module _ (r : Stepped) (out : Outer) (w : World) (wrote : w.wrote ≡ out.wrote)
     line_is : (written : Result Unit Failed) → t ≡ s → b ≡ wrote_since w (world_left r) → WritesAll (bytes_in t) now written (out_line b) → WritesAll log now written shown
     line_is written same is line = subst (λ (o : Option (List ℕ)). WritesAll o now written shown) (ap bytes_in same ∙ at) (subst (λ (l : List ℕ). WritesAll (bytes_in t) now written (out_line l)) is line)
 
-    logged_whole : (done : Result Unit Halt) → done ≢ Err halts.Fails → Bytes done → WritesAll (bytes_in t) now (Ok {E = Failed} tt) (out_line b) → IsSome log → now ≡ append_known log shown
+    logged_whole : (done : Result Unit Halt) → done ≢ Err halts.Fails → Bytes done → (IsSome (bytes_in t) → now ≡ append_known (bytes_in t) (out_line b)) → IsSome log → now ≡ append_known log shown
     logged_whole (Ok u) well i line = line_is (Ok tt) i.0 i.1 line
     logged_whole (Err (halts.Returns v)) well i line = line_is (Ok tt) i.0 i.1 line
     logged_whole (Err (halts.Ends x)) well i line = line_is (Ok tt) i.0 i.1 line
     logged_whole (Err halts.Fails) well i line = absurd (well refl)
 
-    logged_front : (f : Failed) (done : Result Unit Halt) → Bytes done → WritesAll (bytes_in t) now (Err {T = Unit} f) (out_line b) → (done ≡ Err halts.Fails → IsSome (bytes_in t) → GrowsByFront (bytes_in t) now (open_line b)) → IsSome log → GrowsByFront log now shown
+    logged_front : (f : Failed) (done : Result Unit Halt) → Bytes done → (IsSome (bytes_in t) → GrowsByFront (bytes_in t) now (out_line b)) → (done ≡ Err halts.Fails → IsSome (bytes_in t) → GrowsByFront (bytes_in t) now (open_line b)) → IsSome log → GrowsByFront log now shown
     logged_front f (Ok u) i line front = line_is (Err f) i.0 i.1 line
     logged_front f (Err (halts.Returns v)) i line front = line_is (Err f) i.0 i.1 line
     logged_front f (Err (halts.Ends x)) i line front = line_is (Err f) i.0 i.1 line

@@ -76,6 +76,6 @@ pub(crate) fn finish_logged<K: Sink, H: Host>(
     ensures cause { result ≡ Err Fails → Rose (K.faults log.old) (K.faults log.new) }
     ensures limit { s.new.given.limit ≡ s.old.given.limit }
 {
-    let (_log, done) = finish_lent(linked, s, log, host, left);
-    done
+    let lent = finish_lent(linked, s, log, host, left);
+    lent.1
 }

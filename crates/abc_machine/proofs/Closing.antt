@@ -97,7 +97,7 @@ module _ (l : LinkedFile) (fs : List Formula) (fuel : ℕ) (first : Machine) (x 
 
   pub logs_err : (reply : Reply) (end : End) (f : Failed) → end ≡ end_for reply → written ≡ Err f → HasLines reply → Writes end → (end ≡ ends.WriteFault → written ≡ Ok tt) → Logs ends.WriteFault
   logs_err reply end f same is has writes none =
-      let well : reply ≢ replies.WriteFault = λ e. absurd (let two : Err {T = Unit} f ≡ Ok tt = sym is ∙ none (same ∙ ap end_for e) in cc) in
+      let well : reply ≢ replies.WriteFault = λ e. absurd (let two = sym is ∙ none (same ∙ ap end_for e) in cc) in
       end_failed reply f is (has.answers well) (has.lines well) (subst Writes same writes)
 
 -- ---- the count of faults

@@ -45,16 +45,20 @@ fails_back (halts.Ends (ended.Uncaught thrown)) e = absurd cc
 fails_back (halts.Ends (ended.Profile method index fault)) e = absurd cc
 fails_back (halts.Ends (ended.Full limit)) e = absurd cc
 
+-- the answer of a step that ends
+abbrev pub ended_so : Reply → Result Unit Reply
+ended_so e = Err e
+
 module _ (r : Result Unit Halt) (h : Halt) (e : Reply) (is : r ≡ Err h) (told : e ≡ reply_for h) where
-  pub well_step : (Err {T = Unit} e ≢ Err replies.WriteFault) → r ≢ Err halts.Fails
+  pub well_step : ended_so e ≢ ended_so replies.WriteFault → r ≢ Err halts.Fails
   well_step f q =
       let same : h ≡ halts.Fails = cc in
-      f (ap (λ (x : Reply). Err {T = Unit} x) (told ∙ ap reply_for same))
+      f (ap ended_so (told ∙ ap reply_for same))
 
-  pub failed_step : Err {T = Unit} e ≡ Err replies.WriteFault → r ≡ Err halts.Fails
+  pub failed_step : ended_so e ≡ ended_so replies.WriteFault → r ≡ Err halts.Fails
   failed_step q =
       let fault : e ≡ replies.WriteFault = cc in
-      is ∙ ap (λ (x : Halt). Err {T = Unit} x) (fails_back h (sym told ∙ fault))
+      is ∙ ap (λ (x : Halt). Err x) (fails_back h (sym told ∙ fault))
 
 -- a step that goes on, or ends otherwise, didn't fail
 pub well_on : (r : Result Unit Reply) (u : Unit) → r ≡ Ok u → r ≢ Err replies.WriteFault

@@ -6,10 +6,9 @@ use Rattle.abc_logging.proofs.Lined.{rose_on}
 use Rattle.abc_logmeaning.specs.Lines.{end_line}
 use Rattle.abc_logmeaning.specs.Logs.{logs_for}
 use Rattle.abc_machine.specs.Logged.{HasAllBut}
-use Rattle.abc_machine.specs.declared.replies.Reply.{Reply}
 use Rattle.abc_machine.proofs.Counting.{counted_to}
 use Rattle.abc_machine.proofs.Invoking.{replied_so}
-use Rattle.abc_machine.proofs.Logging.{lines_begun, lines_end, lines_front, lines_on, well_on, well_reply}
+use Rattle.abc_machine.proofs.Logging.{ended_so, lines_begun, lines_end, lines_front, lines_on, well_on, well_reply}
 use Rattle.abc_machine.proofs.Spending.{ended_on, went_on}
 use Rattle.abc_meaning.specs.Meaning.{runs_for}
 use Rattle.abc_openings.specs.Begun.{setting}
@@ -58,7 +57,7 @@ returns-in-Err-clause-whole g c = λ f.
 
 pub returns-in-Err-clause-front : goal.returns-in-Err-clause-front
 returns-in-Err-clause-front g c = λ e.
-    let front = lines_front c.args.linked.now g.begun c.loop-reply.s c.spend_logged.new.s (g.K.Sink.written c.args.log.now) (g.K.Sink.written c.loop-reply.log) (g.K.Sink.written c.spend_logged.new.log) c.loop-reply.fuel c.loop-reply.invariant.at c.loop-reply.invariant.lines (c.spend_logged.ensures.front (c.in-Err.is ∙ ap (λ (r : Reply). Err {T = Unit} r) e)) in
+    let front = lines_front c.args.linked.now g.begun c.loop-reply.s c.spend_logged.new.s (g.K.Sink.written c.args.log.now) (g.K.Sink.written c.loop-reply.log) (g.K.Sink.written c.spend_logged.new.log) c.loop-reply.fuel c.loop-reply.invariant.at c.loop-reply.invariant.lines (c.spend_logged.ensures.front (c.in-Err.is ∙ ap ended_so e)) in
     subst (λ (n : ℕ). IsSome (g.K.Sink.written c.args.log.now) → GrowsByFront (g.K.Sink.written c.args.log.now) (g.K.Sink.written c.spend_logged.new.log) (logs_for (setting c.args.linked.now g.begun.formulas) n g.begun.first)) c.requires.1.1.1.1.0 front
 
 pub returns-in-Err-clause-cause : goal.returns-in-Err-clause-cause
@@ -67,7 +66,7 @@ returns-in-Err-clause-cause g c =
     let later = c.spend_logged.ensures.later in
     record {
       later = omega (arith, sofar, later);
-      failed = λ e. rose_on (g.K.Sink.faults c.args.log.now) (g.K.Sink.faults c.loop-reply.log) (g.K.Sink.faults c.spend_logged.new.log) sofar (c.spend_logged.ensures.cause (c.in-Err.is ∙ ap (λ (r : Reply). Err {T = Unit} r) e));
+      failed = λ e. rose_on (g.K.Sink.faults c.args.log.now) (g.K.Sink.faults c.loop-reply.log) (g.K.Sink.faults c.spend_logged.new.log) sofar (c.spend_logged.ensures.cause (c.in-Err.is ∙ ap ended_so e));
     }
 
 pub returns-in-Err-clause-leaves : goal.returns-in-Err-clause-leaves
