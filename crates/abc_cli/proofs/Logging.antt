@@ -11,7 +11,7 @@ use Rattle.abc_base.specs.declared.status.Status.TheVariants as status
 use Rattle.abc_base.proofs.Writing.{front_first}
 use Rattle.abc_cli.proofs.Ending.{line_ends, stopped_undone, stops_as}
 use Rattle.abc_cli.proofs.Generating.{rose_later}
-use Rattle.abc_cli.proofs.Running.{ended_quiet, memory_runs, run_ends, run_placed, runs_weaker, some_answer, unverified_quiet}
+use Rattle.abc_cli.proofs.Running.{ended_quiet, memory_runs, run_ends, run_placed, runs_weaker, small_meant, some_answer, unverified_quiet}
 use Rattle.abc_cli.specs.Answers.{Answer, OfFileRead, Unverified, given, told}
 use Rattle.abc_cli.specs.End.{Channel, channel, GivesAll, GivesLine, Got, GotFront, HasFailed, IsRead, RunsTo}
 use Rattle.abc_cli.specs.Endings.{GivesUnopened, IsPlacedEnd, end_answer, open_answer}
@@ -27,7 +27,7 @@ use Rattle.abc_heap.specs.declared.records.Limits.{Limits}
 use Rattle.abc_loglines.specs.Lines.{limit_end}
 use Rattle.abc_logmeaning.specs.Laws.{TooSmallIsOneLine}
 use Rattle.abc_logmeaning.specs.Logs.{log}
-use Rattle.abc_meaning.specs.Meaning.{Meaning, Ran, TooSmall, first_state, first_world, meaning, meaning_if, runs_for, too_small}
+use Rattle.abc_meaning.specs.Meaning.{Meaning, Ran, TooSmall, first_world, meaning, too_small}
 use Rattle.abc_meaning.specs.Throwing as meant
 use Rattle.abc_meaning.specs.WorldSetting.{Setting}
 use Rattle.abc_objects.specs.declared.error.OpenError.{OpenError}
@@ -116,9 +116,8 @@ logged_placed v starts lines (Ran output e) old new end p at runs = run_placed v
 
 unbegun_runs : TooSmallIsOneLine → (starts : List (List ℕ)) (p : Setting) (limits : Limits) (fuel : ℕ) (before : List ℕ) (limit : Limit) (out err : Channel) (s : Status) → too_small (first_world p limits).heap ≡ Some limit
     → GivesAll out err (before ++ limit_end limit) (open_answer (errors.TooSmall limit)) s → RunsTo (IsLogged p.linked.file starts (before ++ log p limits fuel) (meaning p limits fuel)) ⊥ out err s
-unfolding meaning
 unbegun_runs law starts p limits fuel before limit out err s e (inl g) =
-    let small : meaning p limits fuel ≡ TooSmall limit = ap (λ (o : Option Limit). meaning_if o (runs_for p fuel (first_state p limits))) e in
+    let small = small_meant p limits fuel limit e in
     let one = (law p limits fuel limit e).0 in
     let wrote = before ++ log p limits fuel in
     let a = ended status.Limit wrote (limit_text limit) in
@@ -126,7 +125,7 @@ unbegun_runs law starts p limits fuel before limit out err s e (inl g) =
     let got : Got out wrote = subst (λ (x : List ℕ). Got out (before ++ x)) (sym one) g.0 in
     RunsTo.other (line_ends (λ x. IsLogged p.linked.file starts wrote (meaning p limits fuel) x × (x.status ≢ status.Done)) ⊥ out err a s (is, λ h. cc) got g.1)
 unbegun_runs law starts p limits fuel before limit out err s e (inr g) =
-    let small : meaning p limits fuel ≡ TooSmall limit = ap (λ (o : Option Limit). meaning_if o (runs_for p fuel (first_state p limits))) e in
+    let small = small_meant p limits fuel limit e in
     let one = (law p limits fuel limit e).0 in
     let wrote = before ++ log p limits fuel in
     let a = ended status.Limit wrote (limit_text limit) in

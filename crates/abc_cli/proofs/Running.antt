@@ -148,11 +148,14 @@ run_placed v starts m old new end p at (RunsAs.failed wrote e front) = tt
 -- ---- no machine
 
 -- a limit below what every run begins with
+pub small_meant : (p : Setting) (limits : Limits) (fuel : ℕ) (limit : Limit) → too_small (first_world p limits).heap ≡ Some limit → meaning p limits fuel ≡ TooSmall limit
+unfolding meaning
+small_meant p limits fuel limit e = ap (λ (o : Option Limit). meaning_if o (runs_for p fuel (first_state p limits))) e
+
 small_runs : (v : Abc) (starts : List (List ℕ)) (p : Setting) (limits : Limits) (fuel : ℕ) (limit : Limit) (out err : Channel) (s : Status)
     → too_small (first_world p limits).heap ≡ Some limit → Got out [] → GivesLine err (told status.Limit (limit_text limit)) s → RunsTo (IsMeant v starts (meaning p limits fuel)) ⊥ out err s
-unfolding meaning
 small_runs v starts p limits fuel limit out err s e got line =
-    let small : meaning p limits fuel ≡ TooSmall limit = ap (λ (o : Option Limit). meaning_if o (runs_for p fuel (first_state p limits))) e in
+    let small = small_meant p limits fuel limit e in
     let a = told status.Limit (limit_text limit) in
     let is : IsMeant v starts (meaning p limits fuel) a = subst (λ (m : Meaning). IsMeant v starts m a) (sym small) refl in
     RunsTo.other (line_ends (λ x. IsMeant v starts (meaning p limits fuel) x × (x.status ≢ status.Done)) ⊥ out err a s (is, λ h. cc) got line)

@@ -1,5 +1,5 @@
 -- What the reading of the words says of the outcome.
-use Rattle.std.proofs.Common.{◌≡◌, ◌≤◌, ℕ, suc, Bool, true, false, inl, inr, ◌⊎◌, Some, None, List, [], ◌∷◌, Ok, Err, refl, sym, ap, ◌∙◌, subst, arith, ◌≢◌}
+use Rattle.std.proofs.Common.{◌≡◌, ◌≤◌, ◌<◌, ◌^◌, ℕ, suc, Bool, true, false, inl, inr, ◌⊎◌, Some, None, List, [], ◌∷◌, Ok, Err, refl, sym, ap, ◌∙◌, subst, arith, ◌≢◌}
 use Rattle.std.specs.Prelude.{◌↔◌, All, IfErr, IfOk}
 use Rattle.std.specs.declared.option.Option.{Option}
 use Rattle.std.specs.declared.alloc.Global.{Global}
@@ -254,16 +254,21 @@ at_most d n g le (inr h) = h
 pub few_methods : (words : List (List ℕ)) (o : GenOptions) → Says words (commands.Gen o) → o.methods ≤ 10000
 few_methods words o says = at_most 100 o.methods 10000 (omega arith) (all_within says.settings).1.0
 
+at_limit : (d n : ℕ) → d ≤ 16777216 → (n ≡ d) ⊎ (n ≤ 16777216) → n ≤ 2 ^ 24
+at_limit d n le x = let h = at_most d n 16777216 le x in omega (arith, h)
+
+at_fuel : (n : ℕ) → (n ≡ 10000000) ⊎ (n ≤ 4294967295) → n < 2 ^ 32
+at_fuel n x = let h = at_most 10000000 n 4294967295 (omega arith) x in omega (arith, h)
+
 -- the limits of a log are in the ranges of a line of limits
 pub log_limits : (words : List (List ℕ)) (o : RunOptions) → Says words (commands.Log o) → AreLimits o.fuel (limits_of o)
 log_limits words o says =
     let all = all_within says.settings in
-    let fuel = at_most 10000000 o.fuel 4294967295 (omega arith) all.0 in
     record {
-      steps = omega (arith, fuel);
-      objects = at_most 100000 o.objects 16777216 (omega arith) all.1.0;
-      cells = at_most 1000000 o.cells 16777216 (omega arith) all.1.1.0;
-      text = at_most 4000000 o.text 16777216 (omega arith) all.1.1.1.0;
-      frames = at_most 1000 o.frames 16777216 (omega arith) all.1.1.1.1.0;
-      stack = at_most 100000 o.stack 16777216 (omega arith) all.1.1.1.1.1.0;
+      steps = at_fuel o.fuel all.0;
+      objects = at_limit 100000 o.objects (omega arith) all.1.0;
+      cells = at_limit 1000000 o.cells (omega arith) all.1.1.0;
+      text = at_limit 4000000 o.text (omega arith) all.1.1.1.0;
+      frames = at_limit 1000 o.frames (omega arith) all.1.1.1.1.0;
+      stack = at_limit 100000 o.stack (omega arith) all.1.1.1.1.1.0;
     }
