@@ -1,6 +1,5 @@
 -- What `log` writes is a log that `replay` accepts; and how `replay` ends.
-use Rattle.std.proofs.Common.{◌≡◌, ◌≢◌, ◌⊎◌, ℕ, inl, inr, List, [], ◌++◌, Some, None, length, refl, sym, ap, ◌∙◌, subst, arith}
-use Rattle.std.specs.declared.option.Option.{Option}
+use Rattle.std.proofs.Common.{◌≡◌, ◌≢◌, ℕ, inl, inr, List, refl, ap, ◌∙◌, subst, arith}
 use Rattle.abc_base.specs.Hosts.{AreFormulas}
 use Rattle.abc_base.specs.declared.formula.Formula.{Formula}
 use Rattle.abc_base.specs.declared.status.Status.{Status}
@@ -10,7 +9,7 @@ use Rattle.abc_cli.proofs.Logging.{short_file}
 use Rattle.abc_cli.specs.Answers.{Answer, given, told}
 use Rattle.abc_cli.specs.End.{Channel, GivesLine, Got, HasFailed, IsEnd, IsRead, RunsTo}
 use Rattle.abc_cli.specs.Lines.{write_fault_text}
-use Rattle.abc_cli.specs.Logged.{GotLog, GotLogOf, IsAccepted}
+use Rattle.abc_cli.specs.Logged.{GotLog, GotLogOf}
 use Rattle.abc_cli.specs.Logs.{IsLogged, Replay, replayed_line, unreplayed_text, whole_log}
 use Rattle.abc_cli.specs.Runs.{IsEnded}
 use Rattle.abc_cli.specs.Stops.{Gives, Stops, stop_of_replay}
@@ -18,7 +17,6 @@ use Rattle.abc_file.specs.Reading.{IsUsedUp, OfInput}
 use Rattle.abc_heap.specs.declared.records.Limits.{Limits}
 use Rattle.abc_loglines.specs.Lines.{AreLimits}
 use Rattle.abc_logmeaning.specs.Logs.{steps}
-use Rattle.abc_meaning.specs.Laws.{IsVerified}
 use Rattle.abc_meaning.specs.Meaning.{Meaning, Ran, TooSmall, meaning}
 use Rattle.abc_meaning.specs.Throwing as meant
 use Rattle.abc_meaning.specs.WorldSetting.{Setting}

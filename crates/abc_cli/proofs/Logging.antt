@@ -1,9 +1,8 @@
 -- How a log is given: what stands before the steps, and then a run whose log is written.
-use Rattle.std.proofs.Common.{◌≡◌, ◌≢◌, ◌⊎◌, ℕ, ◌≤◌, ◌^◌, inl, inr, List, [], ◌++◌, Some, None, length, refl, sym, ap, ◌∙◌, subst, arith}
+use Rattle.std.proofs.Common.{◌≡◌, ◌≢◌, ℕ, ◌≤◌, ◌^◌, inl, inr, List, [], ◌++◌, Some, None, length, refl, sym, ap, subst, arith}
 use Rattle.std.specs.Prelude.{IsSome}
 use Rattle.std.specs.declared.option.Option.{Option}
 use Rattle.std.specs.Io.KnownBytes.{append_known}
-use Rattle.abc_base.specs.Faults.{Rose}
 use Rattle.abc_base.specs.Sinks.{GrowsByFront}
 use Rattle.abc_base.specs.declared.formula.Formula.{Formula}
 use Rattle.abc_base.specs.declared.status.Status.{Status}
@@ -12,13 +11,13 @@ use Rattle.abc_base.proofs.Writing.{front_first}
 use Rattle.abc_cli.proofs.Ending.{line_ends, stopped_undone, stops_as}
 use Rattle.abc_cli.proofs.Generating.{rose_later}
 use Rattle.abc_cli.proofs.Running.{ended_quiet, memory_runs, run_ends, run_placed, runs_weaker, small_meant, some_answer, unverified_quiet}
-use Rattle.abc_cli.specs.Answers.{Answer, OfFileRead, Unverified, given, told}
-use Rattle.abc_cli.specs.End.{Channel, channel, GivesAll, GivesLine, Got, GotFront, HasFailed, IsRead, RunsTo}
+use Rattle.abc_cli.specs.Answers.{Answer, OfFileRead, Unverified, told}
+use Rattle.abc_cli.specs.End.{Channel, channel, GivesAll, GivesLine, Got, GotFront, HasFailed, RunsTo}
 use Rattle.abc_cli.specs.Endings.{GivesUnopened, IsPlacedEnd, end_answer, open_answer}
-use Rattle.abc_cli.specs.Lines.{limit_text, no_memory_text, write_fault_text}
+use Rattle.abc_cli.specs.Lines.{limit_text, write_fault_text}
 use Rattle.abc_cli.specs.Logs.{IsLogged, Log, front, whole_log}
 use Rattle.abc_cli.specs.Outcome.{On}
-use Rattle.abc_cli.specs.Runs.{IsEnded, ended, limits_of}
+use Rattle.abc_cli.specs.Runs.{ended, limits_of}
 use Rattle.abc_cli.specs.Stops.{Stops, stop_answer}
 use Rattle.abc_cli.specs.declared.stop.Stop.{Stop}
 use Rattle.abc_file.specs.Reading.{OfInput}
@@ -47,7 +46,7 @@ use Rattle.abc_ticks.specs.Placed.{IsInstruction}
 use Rattle.abc_base.specs.declared.names.Fault.{Fault}
 use Rattle.abc_bodies.specs.Places.{ArePlaces}
 use Rattle.abc_verified.proofs.Verifying.{of_any}
-use Rattle.abc_verified.specs.Verified.{IsReadVerified, IsVerifiedOf}
+use Rattle.abc_verified.specs.Verified.{IsReadVerified}
 use Rattle.abc_words.specs.declared.command.RunOptions.{RunOptions}
 
 -- the canonical bytes of a file are no more than a file has

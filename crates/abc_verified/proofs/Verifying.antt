@@ -96,15 +96,3 @@ file_refuses v starts errors.NoMemory b r h = tt
 
 pub unverified_refuses : (left : Option (List ℕ)) (v : Abc) (starts : List (List ℕ)) (e : VerifiedError) → OfInput left (λ b. AnswersFile b (Ok (v, starts))) → IsUnverifiedBy v starts e → OfInput left (λ b. IsRefusedBy b e)
 unverified_refuses left v starts e f h = of_any (λ b. AnswersFile b (Ok (v, starts))) (λ b. IsRefusedBy b e) left (λ b r. file_refuses v starts e b r h) f
-
--- no file that was read is refused for a failed read
-not_fault : (v : Abc) (starts : List (List ℕ)) (e : VerifiedError) → IsUnverified v starts e → e ≡ errors.ReadFault → ⊥
-not_fault v starts e (IsUnverified.unlinked rule i h) is = absurd cc
-not_fault v starts e (IsUnverified.untyped l m b i rule same linked h) is = absurd cc
-
-pub never_fault : (v : Abc) (starts : List (List ℕ)) (e : VerifiedError) → IsUnverifiedBy v starts e → e ≡ errors.ReadFault → ⊥
-never_fault v starts errors.NoMemory h is = absurd cc
-never_fault v starts (errors.Refused place reason) h is = absurd cc
-never_fault v starts (errors.Link rule i) h is = absurd cc
-never_fault v starts (errors.Verify m offset rule) h is = absurd cc
-never_fault v starts errors.ReadFault h is = not_fault v starts errors.ReadFault h refl

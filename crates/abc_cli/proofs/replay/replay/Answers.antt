@@ -1,6 +1,5 @@
 use Rattle.std.proofs.lemmas.Result.{err_from_is_err_and}
 use Rattle.abc_cli.specs.End.{stream}
-use Rattle.abc_cli.specs.Logs.{Replay}
 use Rattle.abc_cli.proofs.Accepting.{replay_gives, replay_stops}
 use Rattle.abc_cli.proofs.replay.replay.Goals as goal
 

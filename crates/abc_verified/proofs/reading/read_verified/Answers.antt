@@ -1,5 +1,5 @@
 use Rattle.std.proofs.lemmas.Result.{err_from_is_err_and}
-use Rattle.abc_verified.proofs.Verifying.{never_fault, read_refuses, read_verified_is, unverified_refuses}
+use Rattle.abc_verified.proofs.Verifying.{read_refuses, read_verified_is, unverified_refuses}
 use Rattle.abc_verified.proofs.reading.read_verified.Goals as goal
 
 pub returns-in_err-abc-clause-refused : goal.returns-in_err-abc-clause-refused
