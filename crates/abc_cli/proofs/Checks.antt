@@ -1,13 +1,10 @@
 -- What is answered about a file that was read, linked and verified.
 use Rattle.std.proofs.Common.{◌≡◌, ℕ, List, length, refl, ap, ◌∙◌}
-use Rattle.std.specs.declared.option.Option.{Option}
 use Rattle.abc_file.specs.Reading.{IsUsedUp, OfInput}
 use Rattle.abc_format.specs.Part.{refusal}
 use Rattle.abc_program.specs.Linked.{LinkedFile}
-use Rattle.abc_tables.specs.Files.{IsFileRead}
-use Rattle.abc_tables.specs.declared.tables.Abc.{Abc}
 use Rattle.abc_verified.proofs.Verifying.{of_any}
-use Rattle.abc_verified.specs.Refusing.{IsRefused, IsRefusedBy, IsUnverified}
+use Rattle.abc_verified.specs.Refusing.{IsRefused, IsRefusedBy}
 use Rattle.abc_verified.specs.Verified.{IsReadVerified}
 use Rattle.abc_verified.specs.declared.error.VerifiedError.{VerifiedError}
 use Rattle.abc_verified.specs.declared.error.VerifiedError.TheVariants as errors

@@ -89,6 +89,7 @@ stop_not_done (stops.Text line reason) h = cc
 stop_not_done (stops.Item i rule) h = cc
 stop_not_done (stops.Code m offset rule) h = cc
 stop_not_done (stops.Tidy rule i) h = cc
+stop_not_done (stops.Log place reason) h = cc
 stop_not_done stops.ReadFault h = cc
 stop_not_done stops.NoMemory h = cc
 
@@ -102,6 +103,7 @@ stop_unread (stops.Text line reason) h = h
 stop_unread (stops.Item i rule) h = h
 stop_unread (stops.Code m offset rule) h = h
 stop_unread (stops.Tidy rule i) h = h
+stop_unread (stops.Log place reason) h = h
 stop_unread stops.ReadFault h = h
 stop_unread stops.NoMemory h = h
 
@@ -116,6 +118,7 @@ stopped_undone Outcome source out err (stops.Text line reason) s x o g = line_en
 stopped_undone Outcome source out err (stops.Item i rule) s x o g = line_ends (λ a. On Outcome source.before a × (a.status ≢ status.Done)) (HasFailed source) out err (stop_answer (stops.Item i rule)) s (x.outcome tt, stop_not_done (stops.Item i rule)) o g
 stopped_undone Outcome source out err (stops.Code m offset rule) s x o g = line_ends (λ a. On Outcome source.before a × (a.status ≢ status.Done)) (HasFailed source) out err (stop_answer (stops.Code m offset rule)) s (x.outcome tt, stop_not_done (stops.Code m offset rule)) o g
 stopped_undone Outcome source out err (stops.Tidy rule i) s x o g = line_ends (λ a. On Outcome source.before a × (a.status ≢ status.Done)) (HasFailed source) out err (stop_answer (stops.Tidy rule i)) s (x.outcome tt, stop_not_done (stops.Tidy rule i)) o g
+stopped_undone Outcome source out err (stops.Log place reason) s x o g = line_ends (λ a. On Outcome source.before a × (a.status ≢ status.Done)) (HasFailed source) out err (stop_answer (stops.Log place reason)) s (x.outcome tt, stop_not_done (stops.Log place reason)) o g
 stopped_undone Outcome source out err stops.ReadFault s x o g = read_failed (λ a. On Outcome source.before a × (a.status ≢ status.Done)) (HasFailed source) out err s (x.cause refl) o g
 stopped_undone Outcome source out err stops.NoMemory s x o g = memory_failed (λ a. On Outcome source.before a × (a.status ≢ status.Done)) (HasFailed source) out err s o g
 

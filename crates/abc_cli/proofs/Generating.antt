@@ -40,7 +40,7 @@ memory_quiet err s line d = told_quiet err status.NoMemory no_memory_text s (λ 
 
 -- ---- one piece after the other
 
-rose_later : (n m k : ℕ) → n ≤ m → Rose m k → Rose n k
+pub rose_later : (n m k : ℕ) → n ≤ m → Rose m k → Rose n k
 rose_later n m k le r = omega (arith, le, r)
 
 done_or : (t : Status) → (t ≡ status.Done) ⊎ (t ≢ status.Done)

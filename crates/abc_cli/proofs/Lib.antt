@@ -5,5 +5,7 @@ pub mod Usages
 pub mod Running
 pub mod Generating
 pub mod Called
+pub mod Logging
+pub mod Accepting
 pub mod Assembling
 pub mod VerifiedLine

@@ -72,7 +72,7 @@ is_ended v starts wrote e (ends.Full limit) is = subst (λ (x : meant.End). IsEn
 is_ended v starts wrote e ends.WriteFault is = absurd is
 
 -- every end but a stuck one has an answer
-some_answer : (v : Abc) (starts : List (List ℕ)) (wrote : List ℕ) (e : meant.End) → (e ≡ meant.Stuck → ⊥) → (a : Answer) × IsEnded v starts wrote e a × (a.out ≡ wrote)
+pub some_answer : (v : Abc) (starts : List (List ℕ)) (wrote : List ℕ) (e : meant.End) → (e ≡ meant.Stuck → ⊥) → (a : Answer) × IsEnded v starts wrote e a × (a.out ≡ wrote)
 some_answer v starts wrote meant.Done free = (given wrote, refl, refl)
 some_answer v starts wrote (meant.Uncaught t) free = (ended status.Uncaught wrote (uncaught_text (thrown_name v t)), refl, refl)
 some_answer v starts wrote (meant.Profile m i fault) free = (full v starts wrote (ends.Profile m i fault), refl, refl)
@@ -148,11 +148,14 @@ run_placed v starts m old new end p at (RunsAs.failed wrote e front) = tt
 -- ---- no machine
 
 -- a limit below what every run begins with
+pub small_meant : (p : Setting) (limits : Limits) (fuel : ℕ) (limit : Limit) → too_small (first_world p limits).heap ≡ Some limit → meaning p limits fuel ≡ TooSmall limit
+unfolding meaning
+small_meant p limits fuel limit e = ap (λ (o : Option Limit). meaning_if o (runs_for p fuel (first_state p limits))) e
+
 small_runs : (v : Abc) (starts : List (List ℕ)) (p : Setting) (limits : Limits) (fuel : ℕ) (limit : Limit) (out err : Channel) (s : Status)
     → too_small (first_world p limits).heap ≡ Some limit → Got out [] → GivesLine err (told status.Limit (limit_text limit)) s → RunsTo (IsMeant v starts (meaning p limits fuel)) ⊥ out err s
-unfolding meaning
 small_runs v starts p limits fuel limit out err s e got line =
-    let small : meaning p limits fuel ≡ TooSmall limit = ap (λ (o : Option Limit). meaning_if o (runs_for p fuel (first_state p limits))) e in
+    let small = small_meant p limits fuel limit e in
     let a = told status.Limit (limit_text limit) in
     let is : IsMeant v starts (meaning p limits fuel) a = subst (λ (m : Meaning). IsMeant v starts m a) (sym small) refl in
     RunsTo.other (line_ends (λ x. IsMeant v starts (meaning p limits fuel) x × (x.status ≢ status.Done)) ⊥ out err a s (is, λ h. cc) got line)
@@ -188,7 +191,7 @@ unread source err stop s line = λ h. absurd (stop_not_read err stop s line h)
 
 -- ---- a run that is done has no line
 
-ended_quiet : (v : Abc) (starts : List (List ℕ)) (wrote : List ℕ) (e : meant.End) (a : Answer) → IsEnded v starts wrote e a → a.status ≡ status.Done → a.err ≡ []
+pub ended_quiet : (v : Abc) (starts : List (List ℕ)) (wrote : List ℕ) (e : meant.End) (a : Answer) → IsEnded v starts wrote e a → a.status ≡ status.Done → a.err ≡ []
 ended_quiet v starts wrote meant.Done a is d = ap (λ (x : Answer). x.err) is
 ended_quiet v starts wrote (meant.Uncaught t) a is d = let k = ap (λ (x : Answer). x.status) is in absurd cc
 ended_quiet v starts wrote (meant.Profile m i fault) a is d = let k = ap (λ (x : Answer). x.status) is in absurd cc

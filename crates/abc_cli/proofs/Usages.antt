@@ -1,5 +1,5 @@
 -- What the reading of the words says of the outcome.
-use Rattle.std.proofs.Common.{◌≡◌, ◌≤◌, ℕ, suc, Bool, true, false, inl, inr, ◌⊎◌, Some, None, List, [], ◌∷◌, Ok, Err, refl, sym, ap, subst, arith}
+use Rattle.std.proofs.Common.{◌≡◌, ◌≤◌, ◌<◌, ◌^◌, ℕ, suc, Bool, true, false, inl, inr, ◌⊎◌, Some, None, List, [], ◌∷◌, Ok, Err, refl, sym, ap, ◌∙◌, subst, arith, ◌≢◌}
 use Rattle.std.specs.Prelude.{◌↔◌, All, IfErr, IfOk}
 use Rattle.std.specs.declared.option.Option.{Option}
 use Rattle.std.specs.declared.alloc.Global.{Global}
@@ -20,6 +20,8 @@ use Rattle.abc_cli.specs.Answers.{Answer, OfFile, OfFileRead, Unverified}
 use Rattle.abc_cli.specs.Outcome.{Asm, AsksNoInput, Canon, Check, CommandOutcome, Dis, Gen, IsUsage, On, OutcomeOf, Tidy, UsageOutcome, reads_input, usage_answer}
 use Rattle.abc_ticks.specs.Ticks.{calls_meaning}
 use Rattle.abc_cli.specs.Calls.{Calls, IsCalled}
+use Rattle.abc_cli.specs.Logs.{IsLogged, Log, Replay, whole_log}
+use Rattle.abc_loglines.specs.Lines.{AreLimits}
 use Rattle.abc_cli.specs.Runs.{IsEnded, IsMeant, Run, default_options, limits_of}
 use Rattle.abc_base.specs.declared.formula.Formula.{Formula}
 use Rattle.abc_gen.specs.Generated.{generated}
@@ -33,6 +35,7 @@ use Rattle.abc_cli.specs.Stops.{Gives, IsGiven, Stops}
 use Rattle.abc_cli.specs.declared.stop.Stop.{Stop}
 use Rattle.abc_cli.proofs.Called.{calls_on_quiet}
 use Rattle.abc_cli.proofs.Ending.{any_input, finished, weaker}
+use Rattle.abc_cli.proofs.Logging.{log_on_quiet}
 use Rattle.abc_cli.proofs.Running.{runs_end, runs_on_quiet}
 
 -- the answers of words outside the grammar are those that reading the words finds
@@ -68,6 +71,13 @@ pub unread_command : (words : List (List ℕ)) (r : Result Command Usage) (c : C
     → ((d : Command) → (r ≡ Ok d) ↔ Says words d) → r ≡ Ok c → AsksNoInput words → reads_input c ≡ false
 unread_command words r c word none command e (AsksNoInput.usage a u) = let f = usage_found words r none word a u in absurd (not_ok c f.0 r e f.1)
 unread_command words r c word none command e (AsksNoInput.command d says silent) = let f = (command d).1 says in subst (λ (x : Command). reads_input x ≡ false) (same_command d c r f e) silent
+
+-- a command is the log of one run, or of none
+pub same_options : (command : Command) (o q : RunOptions) → command ≡ commands.Log o → command ≡ commands.Log q → o ≡ q
+same_options command o q e f = cc
+
+pub other_command : (command c : Command) (o : RunOptions) → command ≡ c → command ≡ commands.Log o → (c ≢ commands.Log o) → ⊥
+other_command command c o e f other = other (sym e ∙ f)
 
 -- a command reads its input or it doesn't
 pub reading : (command c : Command) → command ≡ c → reads_input c ≡ true → reads_input command ≡ false → ⊥
@@ -143,6 +153,24 @@ calls_not_usage : (o : CallsOptions) (fs : List Formula) (input : List ℕ) (a :
 calls_not_usage o fs input a (OfFileRead.accepted v starts f x) e = call_not_usage o fs v starts a x e
 calls_not_usage o fs input a (OfFileRead.refused r f x) e = let h = ap (λ (y : Answer). y.status) x in cc
 
+logged_not_usage : (v : Abc) (starts : List (List ℕ)) (wrote : List ℕ) (m : Meaning) (a : Answer) → IsLogged v starts wrote m a → a.status ≡ status.Usage → ⊥
+logged_not_usage v starts wrote (TooSmall limit) a x e = let k = ap (λ (y : Answer). y.status) x in cc
+logged_not_usage v starts wrote (Ran output end) a x e = ended_not_usage v starts wrote end a x e
+
+log_not_usage : (o : RunOptions) (fs : List Formula) (v : Abc) (starts : List (List ℕ)) (a : Answer) → Log o fs v starts a → a.status ≡ status.Usage → ⊥
+log_not_usage o fs v starts a (Log.unverified u) e = unverified_not_usage v starts a u e
+log_not_usage o fs v starts a (Log.logged l is x) e =
+    let p : World = record { linked = l; formulas = fs } in
+    logged_not_usage v starts (whole_log p (limits_of o) o.fuel) (meaning p (limits_of o) o.fuel) a x e
+
+logs_not_usage : (o : RunOptions) (fs : List Formula) (input : List ℕ) (a : Answer) → OfFileRead (Log o fs) input a → a.status ≡ status.Usage → ⊥
+logs_not_usage o fs input a (OfFileRead.accepted v starts f x) e = log_not_usage o fs v starts a x e
+logs_not_usage o fs input a (OfFileRead.refused r f x) e = let h = ap (λ (y : Answer). y.status) x in cc
+
+replay_not_usage : (fs : List Formula) (input : List ℕ) (a : Answer) → Replay fs input a → a.status ≡ status.Usage → ⊥
+replay_not_usage fs input a (Replay.replayed n is x) e = let h = ap (λ (y : Answer). y.status) x in cc
+replay_not_usage fs input a (Replay.refused f is x) e = let h = ap (λ (y : Answer). y.status) x in cc
+
 gen_not_usage : (o : GenOptions) (fs : List Formula) (a : Answer) → Gen o fs a → a.status ≡ status.Usage → ⊥
 gen_not_usage o fs a (Gen.done b x d is) e = let h = ap (λ (y : Answer). y.status) is in cc
 gen_not_usage o fs a (Gen.not_done x d) e = runs_not_usage default_options fs (file_bytes (generated o.seed o.methods)) a x e
@@ -156,6 +184,8 @@ outcome_not_usage fs commands.Tidy input a o e = file_not_usage Tidy tidy_not_us
 outcome_not_usage fs (commands.Run options) input a o e = runs_not_usage options fs input a o e
 outcome_not_usage fs (commands.Gen options) input a o e = gen_not_usage options fs a o e
 outcome_not_usage fs (commands.Calls options) input a o e = calls_not_usage options fs input a o e
+outcome_not_usage fs (commands.Log options) input a o e = logs_not_usage options fs input a o e
+outcome_not_usage fs commands.Replay input a o e = replay_not_usage fs input a o e
 
 command_not_usage : (fs : List Formula) (c : Command) (input : Option (List ℕ)) (a : Answer) → CommandOutcome fs c input a → a.status ≡ status.Usage → ⊥
 command_not_usage fs c (Some b) a o e = outcome_not_usage fs c b a o e
@@ -188,6 +218,11 @@ pub calls_ends : (fs : List Formula) (command : Command) (o : CallsOptions) (sou
 calls_ends fs command o source out err s e end =
     subst (λ (d : Command). Ends (CommandOutcome fs d) source out err s) (sym e) (runs_end (On (OfFileRead (Calls o fs)) source.before) (HasFailed source) out err s (calls_on_quiet o fs source.before) end)
 
+pub log_ends : (fs : List Formula) (command : Command) (o : RunOptions) (source out err : Channel) (s : Status) → command ≡ commands.Log o → RunsTo (On (OfFileRead (Log o fs)) source.before) (HasFailed source) out err s
+    → Ends (CommandOutcome fs command) source out err s
+log_ends fs command o source out err s e end =
+    subst (λ (d : Command). Ends (CommandOutcome fs d) source out err s) (sym e) (runs_end (On (OfFileRead (Log o fs)) source.before) (HasFailed source) out err s (log_on_quiet o fs source.before) end)
+
 pub gen_ends : (fs : List Formula) (command : Command) (o : GenOptions) (source out err : Channel) (s : Status) → command ≡ commands.Gen o → IsEnd (Gen o fs) ⊥ out err s → Ends (CommandOutcome fs command) source out err s
 gen_ends fs command o source out err s e end =
     subst (λ (d : Command). Ends (CommandOutcome fs d) source out err s) (sym e)
@@ -212,9 +247,28 @@ all_within : {words : List (List ℕ)} {xs : List Setting} → GiveAll words xs 
 all_within (GiveAll.none all) = defaults_within _ all
 all_within (GiveAll.word one more) = one_within one (all_within more)
 
+at_most : (d n g : ℕ) → d ≤ g → (n ≡ d) ⊎ (n ≤ g) → n ≤ g
+at_most d n g le (inl e) = omega (arith, le, e)
+at_most d n g le (inr h) = h
+
 pub few_methods : (words : List (List ℕ)) (o : GenOptions) → Says words (commands.Gen o) → o.methods ≤ 10000
-few_methods words o says = go (all_within says.settings).1.0
-  where
-    go : (o.methods ≡ 100) ⊎ (o.methods ≤ 10000) → o.methods ≤ 10000
-    go (inl e) = omega (arith, e)
-    go (inr le) = le
+few_methods words o says = at_most 100 o.methods 10000 (omega arith) (all_within says.settings).1.0
+
+at_limit : (d n : ℕ) → d ≤ 16777216 → (n ≡ d) ⊎ (n ≤ 16777216) → n ≤ 2 ^ 24
+at_limit d n le x = let h = at_most d n 16777216 le x in omega (arith, h)
+
+at_fuel : (n : ℕ) → (n ≡ 10000000) ⊎ (n ≤ 4294967295) → n < 2 ^ 32
+at_fuel n x = let h = at_most 10000000 n 4294967295 (omega arith) x in omega (arith, h)
+
+-- the limits of a log are in the ranges of a line of limits
+pub log_limits : (words : List (List ℕ)) (o : RunOptions) → Says words (commands.Log o) → AreLimits o.fuel (limits_of o)
+log_limits words o says =
+    let all = all_within says.settings in
+    record {
+      steps = at_fuel o.fuel all.0;
+      objects = at_limit 100000 o.objects (omega arith) all.1.0;
+      cells = at_limit 1000000 o.cells (omega arith) all.1.1.0;
+      text = at_limit 4000000 o.text (omega arith) all.1.1.1.0;
+      frames = at_limit 1000 o.frames (omega arith) all.1.1.1.1.0;
+      stack = at_limit 100000 o.stack (omega arith) all.1.1.1.1.1.0;
+    }

@@ -1,16 +1,11 @@
--- Lines of `check`, piece by piece.
+-- Lines, piece by piece.
 use Rattle.std.proofs.Common.{◌≡◌, ℕ, ◌++◌, ◌∷◌, [], List, ap, ap₂, sym, ◌∙◌, append_assoc}
 use Rattle.std.specs.Prelude.{codes, decimal}
-use Rattle.abc_cli.specs.Lines.{code_text, line, place_text, verified_line}
+use Rattle.abc_cli.specs.Lines.{code_text, line, place_text}
 
-pub line_is : (a b c d digits : List ℕ) (n : ℕ) → a ≡ [] → b ≡ a ++ codes "verified " → c ≡ b ++ digits → digits ≡ decimal n → d ≡ c ++ 10 ∷ [] → d ≡ verified_line n
-unfolding verified_line
-line_is a b c d digits n none first more number last =
-    last
-    ∙ ap (λ (x : List ℕ). x ++ 10 ∷ [])
-    (more
-    ∙ ap (λ (x : List ℕ). x ++ digits) (first ∙ ap (λ (x : List ℕ). x ++ codes "verified ") none)
-    ∙ ap (λ (x : List ℕ). codes "verified " ++ x) number)
+pub pieces_are : (a b c d word digits : List ℕ) → a ≡ [] → b ≡ a ++ word → c ≡ b ++ digits → d ≡ c ++ 10 ∷ [] → d ≡ word ++ digits ++ 10 ∷ []
+pieces_are a b c d word digits none first more last =
+    last ∙ ap (λ (x : List ℕ). x ++ 10 ∷ []) (more ∙ ap (λ (x : List ℕ). x ++ digits) (first ∙ ap (λ (x : List ℕ). x ++ word) none))
 
 -- the line of an instruction, piece by piece
 pub code_line : (m o : ℕ) (first second name : List ℕ) → first ≡ decimal m → second ≡ decimal o

@@ -44,6 +44,10 @@ GivesLine err a s = (Got err a.err × (s ≡ a.status)) ⊎ (HasFailed err × Go
 abbrev pub GivesBytes : Channel → Channel → List ℕ → Status → Type 0
 GivesBytes out err bytes s = (Got out bytes × Got err [] × (s ≡ status.Done)) ⊎ (HasFailed out × GotFront out bytes × GivesLine err (told status.WriteFault write_fault_text) s)
 
+-- the bytes were written, and then the answer's line, or that failed; or writing the bytes failed, and the line says so
+abbrev pub GivesAll : Channel → Channel → List ℕ → Answer → Status → Type 0
+GivesAll out err bytes a s = (Got out bytes × GivesLine err a s) ⊎ (HasFailed out × GotFront out bytes × GivesLine err (told status.WriteFault write_fault_text) s)
+
 -- The run ends with an answer of the outcome, written whole; or with a fault of the source, of a sink or of memory, each with its cause and with what stands.
 pub data IsEnd (Outcome : Answer → Type 0) (SourceFailed : Type 0) (out err : Channel) : Status → Type 0 where
   defined : (a : Answer) → Outcome a → Got out a.out → Got err a.err → IsEnd Outcome SourceFailed out err a.status

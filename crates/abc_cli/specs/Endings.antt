@@ -1,10 +1,13 @@
 -- What is answered of an end that the machine answers, and of a machine that isn't opened.
-use Rattle.std.specs.Prelude.{ℕ, ◌<◌, List, [], get_or, length, unwrap_or}
+use Rattle.std.specs.Prelude.{ℕ, ◌<◌, List, [], ◌++◌, get_or, length, unwrap_or}
 use Rattle.abc_base.specs.Names.{fault_name}
+use Rattle.abc_base.specs.declared.status.Status.{Status}
 use Rattle.abc_base.specs.declared.status.Status.TheVariants as status
 use Rattle.abc_cli.specs.Answers.{Answer, given, told}
+use Rattle.abc_cli.specs.End.{Channel, GivesAll, GivesLine, Got}
 use Rattle.abc_cli.specs.Lines.{code_text, fuel_spent_text, limit_text, no_memory_text, uncaught_text, write_fault_text}
 use Rattle.abc_cli.specs.Runs.{place_of, thrown_name}
+use Rattle.abc_loglines.specs.Lines.{limit_end}
 use Rattle.abc_objects.specs.declared.error.OpenError.{OpenError}
 use Rattle.abc_objects.specs.declared.error.OpenError.TheVariants as errors
 use Rattle.abc_program.specs.Owners.{body_of}
@@ -33,3 +36,8 @@ IsPlacedEnd v starts other = Unit {0}
 abbrev pub open_answer : OpenError → Answer
 open_answer errors.NoMemory = told status.NoMemory no_memory_text
 open_answer (errors.TooSmall limit) = told status.Limit (limit_text limit)
+
+-- what `log` gives there, behind what stands before the steps: a limit is too small, so the log is its end line alone; or memory is wanted
+abbrev pub GivesUnopened : Channel → Channel → (before : List ℕ) → OpenError → Status → Type 0
+GivesUnopened out err before (errors.TooSmall limit) s = GivesAll out err (before ++ limit_end limit) (open_answer (errors.TooSmall limit)) s
+GivesUnopened out err before errors.NoMemory s = Got out [] × GivesLine err (open_answer errors.NoMemory) s

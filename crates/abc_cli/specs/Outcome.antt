@@ -25,6 +25,7 @@ use Rattle.abc_words.specs.declared.command.Usage.TheVariants as usages
 use Rattle.abc_cli.specs.Answers.{Answer, OfFile, OfFileRead, Unverified, given, told}
 use Rattle.abc_cli.specs.Lines.{fault_text, no_command_text, tidy_text, usage_text, verified_line}
 use Rattle.abc_cli.specs.Calls.{Calls}
+use Rattle.abc_cli.specs.Logs.{Log, Replay}
 use Rattle.abc_cli.specs.Runs.{Run, default_options}
 
 -- ---- commands
@@ -72,6 +73,8 @@ OutcomeOf formulas commands.Tidy input a = OfFile Tidy input a
 OutcomeOf formulas (commands.Run options) input a = OfFileRead (Run options formulas) input a
 OutcomeOf formulas (commands.Gen options) input a = Gen options formulas a
 OutcomeOf formulas (commands.Calls options) input a = OfFileRead (Calls options formulas) input a
+OutcomeOf formulas (commands.Log options) input a = OfFileRead (Log options formulas) input a
+OutcomeOf formulas commands.Replay input a = Replay formulas input a
 
 -- an outcome on the input that a source tells, or else on some input
 abbrev pub On : (List ℕ → Answer → Type 0) → Option (List ℕ) → Answer → Type 0
@@ -90,6 +93,8 @@ reads_input commands.Tidy = true
 reads_input (commands.Run options) = true
 reads_input (commands.Gen options) = false
 reads_input (commands.Calls options) = true
+reads_input (commands.Log options) = true
+reads_input commands.Replay = true
 
 -- ---- words outside the grammar
 

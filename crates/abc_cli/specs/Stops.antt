@@ -1,5 +1,5 @@
 -- What a command gives, or what it is answered with where it gives nothing.
-use Rattle.std.specs.Prelude.{◌≡◌, ◌≢◌, ℕ, List, [], Ok, Err}
+use Rattle.std.specs.Prelude.{◌≡◌, ◌≢◌, ℕ, List, [], Ok, Err, codes}
 use Rattle.std.specs.declared.alloc.Global.{Global}
 use Rattle.std.specs.declared.result.Result.{Result}
 use Rattle.std.specs.declared.vec.Vec.{Vec}
@@ -17,12 +17,15 @@ use Rattle.abc_varint.specs.declared.error.ReadError.{ReadError}
 use Rattle.abc_varint.specs.declared.error.ReadError.TheVariants as errors
 use Rattle.abc_tidy.specs.declared.error.TidyError.{TidyError}
 use Rattle.abc_tidy.specs.declared.error.TidyError.TheVariants as tidying
+use Rattle.abc_replaying.specs.Names.{reason_name}
+use Rattle.abc_replaying.specs.declared.error.ReplayError.{ReplayError}
+use Rattle.abc_replaying.specs.declared.error.ReplayError.TheVariants as replays
 use Rattle.abc_verified.specs.declared.error.VerifiedError.{VerifiedError}
 use Rattle.abc_verified.specs.declared.error.VerifiedError.TheVariants as unverified
 use Rattle.abc_cli.specs.declared.stop.Stop.{Stop}
 use Rattle.abc_cli.specs.declared.stop.Stop.TheVariants as stops
 use Rattle.abc_cli.specs.End.{Channel, Got, GivesBytes, GivesLine, HasFailed}
-use Rattle.abc_cli.specs.Lines.{item_text, refusal_text, read_fault_text, no_memory_text, tidy_text, untyped_text, fault_text}
+use Rattle.abc_cli.specs.Lines.{item_text, place_text, refusal_text, read_fault_text, no_memory_text, tidy_text, untyped_text, fault_text}
 use Rattle.abc_cli.specs.Answers.{Answer, given, told}
 use Rattle.abc_cli.specs.Outcome.{On}
 
@@ -33,6 +36,7 @@ stop_answer (stops.Text line reason) = told status.Refused (fault_text (fault li
 stop_answer (stops.Item i rule) = told status.Refused (item_text i rule)
 stop_answer (stops.Code m offset rule) = told status.Refused (untyped_text m offset rule)
 stop_answer (stops.Tidy rule i) = told status.Refused (tidy_text rule i)
+stop_answer (stops.Log place reason) = told status.Refused (place_text (codes "byte") place (reason_name reason))
 stop_answer stops.ReadFault = told status.ReadFault read_fault_text
 stop_answer stops.NoMemory = told status.NoMemory no_memory_text
 
@@ -62,6 +66,13 @@ stop_of_verified (unverified.Link rule i) = stops.Item i rule
 stop_of_verified (unverified.Verify m offset rule) = stops.Code m offset rule
 stop_of_verified unverified.ReadFault = stops.ReadFault
 stop_of_verified unverified.NoMemory = stops.NoMemory
+
+abbrev pub stop_of_replay : ReplayError → Stop
+stop_of_replay (replays.Refused place reason) = stops.Log place reason
+stop_of_replay (replays.Link rule i) = stops.Item i rule
+stop_of_replay (replays.Verify m offset rule) = stops.Code m offset rule
+stop_of_replay replays.ReadFault = stops.ReadFault
+stop_of_replay replays.NoMemory = stops.NoMemory
 
 abbrev pub stop_of_tidy : TidyError → Stop
 stop_of_tidy (tidying.Refused rule i) = stops.Tidy rule i

@@ -1,36 +1,25 @@
-ghost use Rattle.std.specs.Prelude.{◌≡◌, ◌++◌, IfErr, IfOk, OnOk, length};
+ghost use Rattle.std.specs.Prelude.{◌≡◌, IfErr, IfOk, length};
 ghost use Rattle.abc_cli.specs.End.{stream};
 ghost use Rattle.abc_cli.specs.Lines.{verified_line};
 ghost use Rattle.abc_cli.specs.Answers.{OfFileRead};
 ghost use Rattle.abc_cli.specs.Outcome.{Check};
 ghost use Rattle.abc_cli.specs.Stops.{Gives, Stops};
 
+use crate::numbered::numbered_line;
 use crate::stop::Stop;
 use abc_base::{NoMemory, Source};
 use abc_verified::{Verified, read_verified};
 use itoa::Buffer;
 use std::alloc::Global;
 
-/// Appends bytes.
-fn put(out: &mut Vec<u8>, bytes: &[u8]) -> Result<(), NoMemory>
-    ensures { OnOk result (out.new.items ≡ out.old.items ++ bytes.now) }
-{
-    out.extend_from_slice(bytes)?;
-    Ok(())
-}
-
 /// The line of a file that is verified.
-#[tactic(auto, unfolding(crate::specs::Lines::verified_line), using(crate::proofs::VerifiedLine::line_is, std::proofs::Common::append_assoc))]
+#[tactic(auto, unfolding(crate::specs::Lines::verified_line))]
 fn line_of(alloc: Global, count: usize) -> Result<Vec<u8>, NoMemory>
     ensures { IfOk result (λ bytes. bytes.items ≡ verified_line count) }
 {
     let mut buffer = Buffer::new();
     let digits = buffer.format(count).as_bytes();
-    let mut bytes = Vec::new(alloc);
-    put(&mut bytes, b"verified ")?;
-    put(&mut bytes, digits)?;
-    put(&mut bytes, b"\n")?;
-    Ok(bytes)
+    numbered_line(alloc, b"verified ", digits)
 }
 
 /// How many bodies a verified file has.
@@ -41,7 +30,7 @@ fn body_count(verified: &Verified) -> usize
 }
 
 /// Gives back the memory of a verified file. Alone, since to drop what is large takes long to prove where much else is live.
-fn close(_verified: Verified) {}
+pub fn close(_verified: Verified) {}
 
 /// What the command `check` gives: how many bodies are verified.
 pub fn check<S: Source>(alloc: Global, source: &mut S) -> Result<Vec<u8>, Stop>

@@ -11,6 +11,7 @@ use crate::stop::Stop;
 use abc_base::{Failed, Sink, Status, write_all};
 use abc_format::Reason;
 use abc_items::{Item, LinkRule};
+use abc_replay::ReplayReason;
 use abc_text::AsmReason;
 use abc_tidy::TidyRule;
 use abc_typing::VerifyRule;
@@ -39,6 +40,15 @@ pub fn give_line<E: Sink>(err: &mut E, status: Status, text: &[u8]) -> Status
 fn give_file<E: Sink>(err: &mut E, place: u32, reason: Reason) -> Status
     ensures { GivesLine (stream E.written E.faults err.old err.new) (stop_answer (Stop.File place reason)) result }
 {
+    let written = write_place(err, b"byte", u64::from(place), reason.name());
+    ended(written, Status::Refused)
+}
+
+/// Writes the line of a refused log.
+#[tactic(auto, using(crate::proofs::Ending::gives))]
+fn give_log<E: Sink>(err: &mut E, place: u64, reason: ReplayReason) -> Status
+    ensures { GivesLine (stream E.written E.faults err.old err.new) (stop_answer (Stop.Log place reason)) result }
+{
     let written = write_place(err, b"byte", place, reason.name());
     ended(written, Status::Refused)
 }
@@ -48,7 +58,7 @@ fn give_file<E: Sink>(err: &mut E, place: u32, reason: Reason) -> Status
 fn give_text<E: Sink>(err: &mut E, line: u32, reason: AsmReason) -> Status
     ensures { GivesLine (stream E.written E.faults err.old err.new) (stop_answer (Stop.Text line reason)) result }
 {
-    let written = write_place(err, b"line", line, reason.name());
+    let written = write_place(err, b"line", u64::from(line), reason.name());
     ended(written, Status::Refused)
 }
 
@@ -57,7 +67,7 @@ fn give_text<E: Sink>(err: &mut E, line: u32, reason: AsmReason) -> Status
 fn give_item<E: Sink>(err: &mut E, item: Item, rule: LinkRule) -> Status
     ensures { GivesLine (stream E.written E.faults err.old err.new) (stop_answer (Stop.Item item rule)) result }
 {
-    let written = write_place(err, item.kind.name(), item.index, rule.name());
+    let written = write_place(err, item.kind.name(), u64::from(item.index), rule.name());
     ended(written, Status::Refused)
 }
 
@@ -87,7 +97,12 @@ fn tidy_kind(rule: TidyRule) -> &'static [u8]
 fn give_tidy<E: Sink>(err: &mut E, rule: TidyRule, index: u32) -> Status
     ensures { GivesLine (stream E.written E.faults err.old err.new) (stop_answer (Stop.Tidy rule index)) result }
 {
-    let written = write_place(err, tidy_kind(rule), index, rule.name().as_bytes());
+    let written = write_place(
+        err,
+        tidy_kind(rule),
+        u64::from(index),
+        rule.name().as_bytes(),
+    );
     ended(written, Status::Refused)
 }
 
@@ -114,6 +129,7 @@ pub fn give_stop<E: Sink>(err: &mut E, stop: Stop) -> Status
             rule,
         } => give_code(err, method, offset, rule),
         Stop::Tidy { rule, index } => give_tidy(err, rule, index),
+        Stop::Log { place, reason } => give_log(err, place, reason),
         Stop::ReadFault => give_line(err, Status::ReadFault, b"read fault"),
         Stop::NoMemory => give_line(err, Status::NoMemory, b"no memory"),
     }

@@ -120,7 +120,7 @@ pub fn write_limit<E: Sink>(err: &mut E, limit: Limit) -> Result<(), Failed>
 pub fn write_place<E: Sink>(
     err: &mut E,
     kind: &[u8],
-    number: u32,
+    number: u64,
     name: &[u8],
 ) -> Result<(), Failed>
     ensures bytes { WritesAll (E.written err.old) (E.written err.new) result (line (place_text kind.now number name.now)) }

@@ -31,7 +31,7 @@ fn counted(cells: u32) -> u32
 }
 
 /// The limits of a run.
-pub(crate) fn limits_of(options: &RunOptions) -> Limits
+pub fn limits_of(options: &RunOptions) -> Limits
     ensures is { result ≡ limits_in options.now }
     ensures counted { AreCounted result }
 {
@@ -46,7 +46,7 @@ pub(crate) fn limits_of(options: &RunOptions) -> Limits
 
 /// How a run of this machine ends can be told.
 #[tactic(none)]
-fn end_can_be_told<H: Host>(machine: &Machine, fuel: u32, host: &H)
+pub fn end_can_be_told<H: Host>(machine: &Machine, fuel: u32, host: &H)
     requires verified { IsVerified (setting (machine.now).linked (H.formulas host.now)) }
     requires counted { AreCounted (machine.now).limits }
     ensures { CanBeTold (machine.now).linked.file (meaning (setting (machine.now).linked (H.formulas host.now)) (machine.now).limits fuel) }
@@ -55,7 +55,7 @@ fn end_can_be_told<H: Host>(machine: &Machine, fuel: u32, host: &H)
 }
 
 /// Gives back the memory of a machine. Alone, since to drop what is large takes long to prove where much else is live.
-fn close(_machine: Machine) {}
+pub fn close(_machine: Machine) {}
 
 /// Runs an opened machine, and writes the line of its end.
 fn run_machine<K: Sink, E: Sink, H: Host>(

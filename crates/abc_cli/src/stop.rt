@@ -1,5 +1,5 @@
 ghost use Rattle.std.specs.Prelude.{◌≡◌};
-ghost use Rattle.abc_cli.specs.Stops.{stop_of_asm, stop_of_input, stop_of_read, stop_of_tidy, stop_of_verified};
+ghost use Rattle.abc_cli.specs.Stops.{stop_of_asm, stop_of_input, stop_of_read, stop_of_replay, stop_of_tidy, stop_of_verified};
 ghost use Rattle.abc_cli.specs.declared.stop.Stop.TheVariants as stops;
 
 use abc_asm::AsmError;
@@ -7,6 +7,7 @@ use abc_base::NoMemory;
 use abc_format::Reason;
 use abc_input::InputError;
 use abc_items::{Item, LinkRule};
+use abc_replay::{ReplayError, ReplayReason};
 use abc_text::AsmReason;
 use abc_tidy::{TidyError, TidyRule};
 use abc_typing::VerifyRule;
@@ -47,6 +48,12 @@ pub enum Stop {
     Tidy {
         rule: TidyRule,
         index: u32,
+    },
+    /// The input is no log.
+    #[error("the log is refused at {place}: {reason:?}")]
+    Log {
+        place: u64,
+        reason: ReplayReason,
     },
     /// A read failed.
     #[error("a read failed")]
@@ -112,6 +119,28 @@ impl From<VerifiedError> for Stop {
             },
             VerifiedError::ReadFault => Stop::ReadFault,
             VerifiedError::NoMemory => Stop::NoMemory,
+        }
+    }
+}
+
+impl From<ReplayError> for Stop {
+    ghost from_gives = { λ e stop. stop ≡ stop_of_replay e };
+
+    fn from(e: ReplayError) -> Stop {
+        match e {
+            ReplayError::Refused { place, reason } => Stop::Log { place, reason },
+            ReplayError::Link { rule, item } => Stop::Item { item, rule },
+            ReplayError::Verify {
+                method,
+                offset,
+                rule,
+            } => Stop::Code {
+                method,
+                offset,
+                rule,
+            },
+            ReplayError::ReadFault => Stop::ReadFault,
+            ReplayError::NoMemory => Stop::NoMemory,
         }
     }
 }

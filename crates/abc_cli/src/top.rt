@@ -1,9 +1,12 @@
 ghost use Rattle.std.specs.Prelude.{◌≡◌, ◌<◌, ◌≤◌, false, true, length};
 ghost use Rattle.abc_words.specs.declared.command.GenOptions.{GenOptions};
-ghost use Rattle.abc_cli.specs.End.{Ends, GivesLine, UsesUp, stream};
+ghost use Rattle.abc_words.specs.declared.command.RunOptions.{RunOptions};
+ghost use Rattle.abc_cli.specs.End.{Ends, GivesLine, IsRead, UsesUp, stream};
 ghost use Rattle.abc_cli.specs.Answers.{Answer};
 ghost use Rattle.abc_cli.specs.Outcome.{AsksNoInput, CommandOutcome, IsOutcome, IsUsage, UsageOutcome, reads_input, usage_answer};
 ghost use Rattle.abc_cli.specs.Listed.{Lists};
+ghost use Rattle.abc_cli.specs.Logged.{GotLog, GotLogOf};
+ghost use Rattle.abc_cli.specs.Runs.{limits_of};
 ghost use Rattle.abc_words.specs.Grammar.{IsWellFormed, Says};
 
 use crate::asm::asm;
@@ -14,9 +17,12 @@ use crate::dis::dis;
 use crate::ends::{ended, give, give_no_command};
 use crate::generate::generate;
 use crate::lines::write_usage;
+use crate::log::log;
+use crate::replay::replay;
 use crate::run::run;
 use crate::tidy::tidy;
 use abc_base::{Host, Sink, Source, Status, Words};
+use abc_replay::one_replay;
 use abc_roundtrip::listing_is_read_back;
 use abc_words::{Command, Usage, parse};
 use std::alloc::Global;
@@ -34,6 +40,7 @@ fn run_command<S: Source, K: Sink, E: Sink, H: Host>(
     ensures end { Ends (CommandOutcome (H.formulas host.now) command.now) (stream S.left S.faults source.old source.new) (stream K.written K.faults out.old out.new) (stream E.written E.faults err.old err.new) result }
     ensures used_up { reads_input command.now ≡ true → UsesUp (stream S.left S.faults source.old source.new) result }
     ensures unread { reads_input command.now ≡ false → source.new ≡ source.old }
+    ensures logged { (options : RunOptions) → command.now ≡ Command.Log options → IsRead result → GotLogOf (H.formulas host.now) options.fuel (limits_of options) (stream K.written K.faults out.old out.new) }
 {
     match command {
         Command::Canon => give(canon(alloc, source), out, err),
@@ -44,6 +51,8 @@ fn run_command<S: Source, K: Sink, E: Sink, H: Host>(
         Command::Run(options) => run(alloc, options, source, out, err, host),
         Command::Gen(options) => generate(alloc, options, out, err, host),
         Command::Calls(options) => calls(alloc, options, source, out, err, host),
+        Command::Log(options) => log(alloc, options, source, out, err, host),
+        Command::Replay => give(replay(alloc, source, host), out, err),
     }
 }
 
@@ -84,10 +93,13 @@ pub fn abc_main<S: Source, K: Sink, E: Sink, H: Host>(
     ensures well_formed { IsWellFormed words.now → result ≡ Status.Usage → ⊥ }
     // What `dis` writes is a text of the file that was read, and of no other; unless it is too long, `asm` of it gives the canonical bytes.
     ensures listed { Says words.now Command.Dis → result ≡ Status.Done → Lists (stream S.left S.faults source.old source.new) (stream K.written K.faults out.old out.new) }
+    // What `log` writes where a run ended is a log: with a host of the same formulas, `replay` accepts it.
+    ensures logged { (options : RunOptions) → Says words.now (Command.Log options) → IsRead result → GotLog (H.formulas host.now) (stream K.written K.faults out.old out.new) }
     // Memory is wanted for well-formed words alone.
     ensures memory { result ≡ Status.NoMemory → IsWellFormed words.now }
 {
     listing_is_read_back();
+    one_replay();
     match parse(words) {
         Ok(command) => run_command(alloc, &command, source, out, err, host),
         Err(usage) => give_usage(words, usage, err),

@@ -65,7 +65,7 @@ told_text (values.Text t) s e = let same : t ≡ s = cc in ap (λ (x : Span). va
 told_text (values.Space n) s e = absurd cc
 told_text (values.Obj o) s e = absurd cc
 
-replied_so : (r : Replied) (x z : Option (List ℕ)) (reply : Reply) → RepliesAs r x z reply → reply ≢ replies.WriteFault → IsReplyOf r.reply reply
+pub replied_so : (r : Replied) (x z : Option (List ℕ)) (reply : Reply) → RepliesAs r x z reply → reply ≢ replies.WriteFault → IsReplyOf r.reply reply
 replied_so r x z reply (replied q answer is got) f = is
 replied_so r x z reply (failed q front) f = absurd (f refl)
 
@@ -81,7 +81,7 @@ text_there p r x z s a there =
 not_fault : (reply : Reply) (closed : Bool) → closed ≡ is_write_fault reply → closed ≡ false → reply ≢ replies.WriteFault
 not_fault reply closed e still f = absurd (let two : true ≡ false = sym (ap is_write_fault f) ∙ sym e ∙ still in cc)
 
-module _ (l k : LinkedFile) (fs : List Formula) (s : State) (e : Option End) (closed : Bool) (m : Opened) (same : l ≡ k) (shown : viewed k s e closed ≡ m) (ready : IsReady m) (keeps : Keeps k s e closed) (named : formula_names fs ≡ m.names) (method : ℕ) (exported : IsScriptMethod (setting m.linked fs) method) where
+module _ (l k : LinkedFile) (fs : List Formula) (s : State) (e : Option End) (closed : Bool) (seen : List Bool) (n : ℕ) (m : Opened) (same : l ≡ k) (shown : viewed k s e closed n ≡ m) (ready : IsReady m) (keeps : Keeps k s seen e closed) (named : formula_names fs ≡ m.names) (method : ℕ) (exported : IsScriptMethod (setting m.linked fs) method) where
   done : e ≡ m.ended
   done = ap (λ (o : Opened). o.ended) shown
 
@@ -124,24 +124,29 @@ module _ (l k : LinkedFile) (fs : List Formula) (s : State) (e : Option End) (cl
       left_sound = (let t = has_typings (setting l fs) verified in (calls_left (setting l fs) t.0 fuel (kept_world s) method (arguments args) verified t.1 sound exported_here (are_numbers args)).0)
 
       module _ (t u : State) (reply : Reply) (shut : Bool) (shuts : shut ≡ is_write_fault reply) (leaves : reply ≢ replies.WriteFault → Leaves (setting l fs) (at_file l).world t) (drops : Drops t u) (limit : t.given.limit ≡ s.given.limit) where
-        pub call_keeps : Keeps k u e shut
+        not_fresh : {X : Type 0} → e ≡ None → X
+        not_fresh q = absurd (let two : Some ends.Done ≡ None = sym (done ∙ ready.done) ∙ q in cc)
+
+        pub call_keeps : Keeps k u seen e shut
         call_keeps = record {
-          begins = λ q. absurd (let two : Some ends.Done ≡ None = sym (done ∙ ready.done) ∙ q in cc);
+          begins = λ q. not_fresh q;
+          noted = λ q. not_fresh q;
           goes_on = λ q still. subst (λ (i : LinkedFile). CanGoOn i u) same (can_go_on l fs (at_file l).world t u left_sound (leaves (not_fault reply shut shuts still)) drops (subst (IsKnown l) (sym limit) known));
         }
 
         left_is : reply ≢ replies.WriteFault → kept_world u ≡ silent (at_file l).world
         left_is f = kept_is (setting l fs) (at_file l).world t u (leaves f) drops
 
-        pub call_answers : (x z : Option (List ℕ)) → RepliesAs (at_file l) x z reply → Answers m (viewed k u e shut) (call_of method args fuel fs) x z reply
+        pub call_answers : (x z : Option (List ℕ)) → RepliesAs (at_file l) x z reply → Answers m (viewed k u e shut n) (call_of method args fuel fs) x z reply
         call_answers x z a =
-            subst (λ (o : Opened). Answers o (viewed k u e shut) (call_of method args fuel fs) x z reply) shown (record {
+            subst (λ (o : Opened). Answers o (viewed k u e shut n) (call_of method args fuel fs) x z reply) shown (record {
               replies = subst (λ (i : LinkedFile). RepliesAs (at_file i) x z reply) same a;
               world = λ f. left_is f ∙ ap (λ (i : LinkedFile). silent (at_file i).world) same;
               names = λ f. ap (λ (w : World). w.heap.formulas) (left_is f) ∙ left_sound.formulas ∙ names;
               closed = shuts;
               ended = refl;
               linked = refl;
+              steps = refl;
             })
 
         pub call_text : (x z : Option (List ℕ)) (span : Span) → RepliesAs (at_file l) x z reply → reply ≡ replies.Value (plains.Text span) → IsText k.file.strings u.arena span

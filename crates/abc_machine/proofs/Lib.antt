@@ -2,6 +2,9 @@ pub mod Reaching
 pub mod Keeping
 pub mod Opening
 pub mod Spending
+pub mod Counting
+pub mod Logging
+pub mod Closing
 pub mod Untold
 pub mod Asking
 pub mod Invoking

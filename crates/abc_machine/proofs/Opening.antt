@@ -1,6 +1,6 @@
 -- A machine that is opened is in the first state of the meaning, for all formulas of the same names, and its run begins there; then
 -- it can be called, where it is done.
-use Rattle.std.proofs.Common.{◌≡◌, ◌≢◌, ℕ, ◌+◌, ◌-◌, ◌<◌, ◌≤◌, ◌^◌, List, [], ◌++◌, length, map, Bool, false, refl, sym, ap, ◌∙◌, subst, arith}
+use Rattle.std.proofs.Common.{◌≡◌, ◌≢◌, ℕ, ◌+◌, ◌-◌, ◌<◌, ◌≤◌, ◌^◌, List, [], ◌++◌, length, map, replicate, Bool, false, refl, sym, ap, ◌∙◌, subst, arith}
 use Rattle.std.proofs.lemmas.List.{append-nil}
 use Rattle.std.specs.Prelude.{IsSome, None, Some}
 use Rattle.std.specs.Io.KnownBytes.{append_known}
@@ -13,7 +13,9 @@ use Rattle.abc_entering.specs.Arguments.{IsKnown}
 use Rattle.abc_heap.specs.Heap.{Heap}
 use Rattle.abc_heap.specs.declared.records.Limit.{Limit}
 use Rattle.abc_heap.specs.declared.records.Limits.{Limits}
+use Rattle.abc_logmeaning.specs.Logs.{log, log_if, logs_for, steps, steps_for, steps_if}
 use Rattle.abc_machine.specs.Ended.{RunsAs}
+use Rattle.abc_machine.specs.Logged.{LogsRun}
 use Rattle.abc_machine.specs.Machines.{CanBegin, CanGoOn, IsOpened, Keeps, Opened, kept_world, world_run}
 use Rattle.abc_machine.specs.Runs.{Begun, IsAt, Leaves, outer, reached}
 use Rattle.abc_machine.specs.declared.ends.End.{End}
@@ -73,6 +75,7 @@ at_start l fs s fuel x r =
       few = omega arith;
       is = ap (machine s) out ∙ sym there;
       goes = ap (replies_for p fuel) (sym there);
+      counts = (let same = ap (steps_for p fuel) there in omega (arith, none, same));
       sink = λ some. append_none x ∙ ap (λ (o : Outer). append_known x o.wrote) (sym out);
       can = subst (λ (o : Outer). IsReached l o s) (sym out) r;
     }
@@ -87,11 +90,19 @@ pub ran_is : (p : Setting) (limits : Limits) (fuel : ℕ) → too_small (first_w
 unfolding meaning
 ran_is p limits fuel e = ap (λ (o : Option Limit). meaning_if o (runs_for p fuel (first_state p limits))) e
 
--- a machine that keeps these shows this
-abbrev pub viewed : LinkedFile → State → Option End → Bool → Opened
-viewed l s e closed = record { linked = l; names = s.arena.formulas; limits = s.arena.limits; ended = e; closed = closed; world = kept_world s }
+log_is : (p : Setting) (limits : Limits) (fuel : ℕ) → too_small (first_world p limits).heap ≡ None → log p limits fuel ≡ logs_for p fuel (first_state p limits)
+unfolding log
+log_is p limits fuel e = ap (λ (o : Option Limit). log_if o (logs_for p fuel (first_state p limits))) e
 
-module _ (l k : LinkedFile) (fs : List Formula) (s : State) (fuel : ℕ) (e : Option End) (closed : Bool) (m : Opened) (same : l ≡ k) (shown : viewed k s e closed ≡ m) (fresh : e ≡ None) (keeps : Keeps k s e closed) (named : m.ended ≡ None → formula_names fs ≡ m.names) where
+steps_is : (p : Setting) (limits : Limits) (fuel : ℕ) → too_small (first_world p limits).heap ≡ None → steps p limits fuel ≡ steps_for p fuel (first_state p limits)
+unfolding steps
+steps_is p limits fuel e = ap (λ (o : Option Limit). steps_if o (steps_for p fuel (first_state p limits))) e
+
+-- a machine that keeps these shows this
+abbrev pub viewed : LinkedFile → State → Option End → Bool → (steps : ℕ) → Opened
+viewed l s e closed n = record { linked = l; names = s.arena.formulas; limits = s.arena.limits; ended = e; closed = closed; world = kept_world s; steps = n }
+
+module _ (l k : LinkedFile) (fs : List Formula) (s : State) (fuel : ℕ) (e : Option End) (closed : Bool) (seen : List Bool) (n : ℕ) (m : Opened) (same : l ≡ k) (shown : viewed k s e closed n ≡ m) (fresh : e ≡ None) (keeps : Keeps k s seen e closed) (named : m.ended ≡ None → formula_names fs ≡ m.names) where
   names : formula_names fs ≡ s.arena.formulas
   names = named (ap (λ (o : Opened). o.ended) (sym shown) ∙ fresh) ∙ ap (λ (o : Opened). o.names) (sym shown)
 
@@ -106,6 +117,21 @@ module _ (l k : LinkedFile) (fs : List Formula) (s : State) (fuel : ℕ) (e : Op
   run_as x z end r =
       let here : RunsAs (meaning (setting l fs) s.arena.limits fuel) x z end = subst (λ (q : Meaning). RunsAs q x z end) (sym (ran_is (setting l fs) s.arena.limits fuel is_first.fits)) r in
       subst (λ (o : Opened). RunsAs (meaning (setting o.linked fs) o.limits fuel) x z end) shown (subst (λ (i : LinkedFile). RunsAs (meaning (setting i fs) s.arena.limits fuel) x z end) same here)
+
+  pub log_as : (x z : Option (List ℕ)) (end : End) → LogsRun (logs_for (setting l fs) fuel (first_state (setting l fs) s.arena.limits)) (ran (runs_for (setting l fs) fuel (first_state (setting l fs) s.arena.limits))) x z end → LogsRun (log (setting m.linked fs) m.limits fuel) (meaning (setting m.linked fs) m.limits fuel) x z end
+  log_as x z end r =
+      let p = setting l fs in
+      let meant : LogsRun (logs_for p fuel (first_state p s.arena.limits)) (meaning p s.arena.limits fuel) x z end = subst (λ (q : Meaning). LogsRun (logs_for p fuel (first_state p s.arena.limits)) q x z end) (sym (ran_is p s.arena.limits fuel is_first.fits)) r in
+      let here : LogsRun (log p s.arena.limits fuel) (meaning p s.arena.limits fuel) x z end = subst (λ (lines : List ℕ). LogsRun lines (meaning p s.arena.limits fuel) x z end) (sym (log_is p s.arena.limits fuel is_first.fits)) meant in
+      subst (λ (o : Opened). LogsRun (log (setting o.linked fs) o.limits fuel) (meaning (setting o.linked fs) o.limits fuel) x z end) shown (subst (λ (i : LinkedFile). LogsRun (log (setting i fs) s.arena.limits fuel) (meaning (setting i fs) s.arena.limits fuel) x z end) same here)
+
+  -- how many steps it took
+  pub run_steps : (left : ℕ) → steps_for (setting l fs) fuel (first_state (setting l fs) s.arena.limits) + left ≡ fuel → fuel - left ≡ steps (setting m.linked fs) m.limits fuel
+  run_steps left e =
+      let p = setting l fs in
+      let here : fuel - left ≡ steps_for p fuel (first_state p s.arena.limits) = omega (arith, e) in
+      let there : fuel - left ≡ steps p s.arena.limits fuel = here ∙ sym (steps_is p s.arena.limits fuel is_first.fits) in
+      subst (λ (o : Opened). fuel - left ≡ steps (setting o.linked fs) o.limits fuel) shown (subst (λ (i : LinkedFile). fuel - left ≡ steps (setting i fs) s.arena.limits fuel) same there)
 
   module _ (linked : IsLinkedFile l) (few : HasFewSlots l) (typed : IsChecked k) (host : AreFormulas fs) where
     verified : IsVerified (setting l fs)
@@ -124,10 +150,11 @@ module _ (l k : LinkedFile) (fs : List Formula) (s : State) (fuel : ℕ) (e : Op
 
     -- ---- the state after the run, and that without its frames
 
-    module _ (t u : State) (end : End) (leaves : end ≢ ends.WriteFault → Leaves (setting l fs) left_world t) (drops : Drops t u) (limit : t.given.limit ≡ s.given.limit) where
-      pub run_keeps : Keeps k u (Some end) closed
+    module _ (t u : State) (now : List Bool) (end : End) (leaves : end ≢ ends.WriteFault → Leaves (setting l fs) left_world t) (drops : Drops t u) (limit : t.given.limit ≡ s.given.limit) where
+      pub run_keeps : Keeps k u now (Some end) closed
       run_keeps = record {
         begins = λ q. absurd cc;
+        noted = λ q. absurd cc;
         goes_on = λ q still.
             let done : end ≡ ends.Done = cc in
             let there = leaves (λ f. absurd (let two : ends.Done ≡ ends.WriteFault = sym done ∙ f in cc)) in
@@ -137,7 +164,7 @@ module _ (l k : LinkedFile) (fs : List Formula) (s : State) (fuel : ℕ) (e : Op
       pub run_world : end ≢ ends.WriteFault → kept_world u ≡ silent (world_run m fs fuel)
       run_world f =
           let here : kept_world u ≡ silent left_world = kept_is (setting l fs) left_world t u (leaves f) drops in
-          let there : kept_world u ≡ silent (world_run (viewed k s e closed) fs fuel) = here ∙ ap (λ (i : LinkedFile). silent (world_run (viewed i s e closed) fs fuel)) same in
+          let there : kept_world u ≡ silent (world_run (viewed k s e closed n) fs fuel) = here ∙ ap (λ (i : LinkedFile). silent (world_run (viewed i s e closed n) fs fuel)) same in
           there ∙ ap (λ (o : Opened). silent (world_run o fs fuel)) shown
 
       pub run_names : end ≢ ends.WriteFault → u.arena.formulas ≡ m.names
@@ -145,16 +172,17 @@ module _ (l k : LinkedFile) (fs : List Formula) (s : State) (fuel : ℕ) (e : Op
 
 -- ---- a machine that is opened
 
-pub open_keeps : (l : LinkedFile) (fs : List Formula) (limits : Limits) (s : State) → IsBegun (setting l fs) limits s → limits.cells < 2 ^ 32 → Keeps l s None false
-open_keeps l fs limits s b counted = record {
+pub open_keeps : (l : LinkedFile) (fs : List Formula) (limits : Limits) (s : State) (seen : List Bool) → IsBegun (setting l fs) limits s → limits.cells < 2 ^ 32 → seen ≡ replicate (length l.file.scripts) false → Keeps l s seen None false
+open_keeps l fs limits s seen b counted none = record {
   begins = λ e. (can_begin l fs limits s b, subst (λ (x : Limits). x.cells < 2 ^ 32) (sym (limits_kept (setting l fs) limits s b)) counted);
+  noted = λ e. none ∙ sym b.started;
   goes_on = λ e still. absurd cc;
 }
 
-pub opened_as : (l : LinkedFile) (fs : List Formula) (limits : Limits) (s : State) → IsBegun (setting l fs) limits s → IsOpened l fs limits (viewed l s None false)
+pub opened_as : (l : LinkedFile) (fs : List Formula) (limits : Limits) (s : State) → IsBegun (setting l fs) limits s → IsOpened l fs limits (viewed l s None false 0)
 opened_as l fs limits s b =
     let first = first_world (setting l fs) limits in
-    let shown : Heap → List Bool → Opened = λ h started. record { linked = l; names = h.formulas; limits = h.limits; ended = None; closed = false; world = record { heap = h; started = started; wrote = [] } } in
+    let shown : Heap → List Bool → Opened = λ h started. record { linked = l; names = h.formulas; limits = h.limits; ended = None; closed = false; world = record { heap = h; started = started; wrote = [] }; steps = 0 } in
     record {
       is = ap (λ (h : Heap). shown h s.started) b.heap ∙ ap (λ (started : List Bool). shown first.heap started) b.started;
       fits = b.fits;

@@ -9,6 +9,7 @@ use Rattle.abc_base.specs.declared.formula.Formula.{Formula}
 use Rattle.abc_callmeaning.proofs.Appended.{calls_append}
 use Rattle.abc_callmeaning.specs.Calls.{EndsAs as RepliesEnd, Replied, replies, replies_for, returned, then_replies}
 use Rattle.abc_cells.specs.declared.values.Value.{Value}
+use Rattle.abc_logmeaning.specs.Logs.{steps_for, then_counts}
 use Rattle.abc_machine.specs.Replied.{IsReplyOf, RepliesAs, failed, replied}
 use Rattle.abc_machine.specs.Runs.{Begun, IsAt, Leaves, on, outer, reached}
 use Rattle.abc_machine.specs.Spent.{EndsWith, GoesTo, Rests, reply_by}
@@ -30,7 +31,7 @@ append_more : (known : Option (List ℕ)) (xs ys : List ℕ) → append_known (a
 append_more None xs ys = refl
 append_more (Some bs) xs ys = ap Some (append_assoc bs xs ys)
 
-append_some : (known : Option (List ℕ)) (xs : List ℕ) → IsSome known → IsSome (append_known known xs)
+pub append_some : (known : Option (List ℕ)) (xs : List ℕ) → IsSome known → IsSome (append_known known xs)
 append_some None xs e = absurd cc
 append_some (Some bs) xs e = refl
 
@@ -81,10 +82,10 @@ module _ (l : LinkedFile) (b : Begun) where
   fewer left h = omega (arith, h)
 
   -- the step from there
-  stepped : (left : ℕ) (s : State) (x y : Option (List ℕ)) → IsAt l b (suc left) s x y → step p (at (suc left)) ≡ step_here l (outer l b (suc left)) s
+  pub stepped : (left : ℕ) (s : State) (x y : Option (List ℕ)) → IsAt l b (suc left) s x y → step p (at (suc left)) ≡ step_here l (outer l b (suc left)) s
   stepped left s x y a = ap (step p) (sym a.is)
 
-  next_is : (left : ℕ) (s : State) (x y : Option (List ℕ)) (r : Stepped) → IsAt l b (suc left) s x y → step_here l (outer l b (suc left)) s ≡ r → at left ≡ on r
+  pub next_is : (left : ℕ) (s : State) (x y : Option (List ℕ)) (r : Stepped) → IsAt l b (suc left) s x y → step_here l (outer l b (suc left)) s ≡ r → at left ≡ on r
   next_is left s x y r a e = ap (λ (n : ℕ). reached p n b.first) (fewer left a.few) ∙ ap on (stepped left s x y a ∙ e)
 
   -- what its frame would return
@@ -94,6 +95,20 @@ module _ (l : LinkedFile) (b : Begun) where
   -- what comes of all steps, by the one from there
   meant_by : (left : ℕ) (s : State) (x y : Option (List ℕ)) (r : Stepped) → IsAt l b (suc left) s x y → step_here l (outer l b (suc left)) s ≡ r → in_all ≡ then_replies (value_at (suc left)) r (replies_for p left)
   meant_by left s x y r a e = a.goes ∙ ap (λ (q : Stepped). then_replies (value_at (suc left)) q (replies_for p left)) (stepped left s x y a ∙ e)
+
+  -- how many steps all take, by the one from there
+  abbrev pub count_all : ℕ
+  count_all = steps_for p b.fuel b.first
+
+  pub counted_by : (left : ℕ) (s : State) (x y : Option (List ℕ)) (r : Stepped) → IsAt l b (suc left) s x y → step_here l (outer l b (suc left)) s ≡ r → count_all ≡ (b.fuel - suc left) + then_counts r (steps_for p left)
+  counted_by left s x y r a e = a.counts ∙ ap (λ (q : Stepped). (b.fuel - suc left) + then_counts q (steps_for p left)) (stepped left s x y a ∙ e)
+
+  counted_on : (left : ℕ) (s : State) (x y : Option (List ℕ)) (q : Machine) → IsAt l b (suc left) s x y → step_here l (outer l b (suc left)) s ≡ Steps q → count_all ≡ (b.fuel - left) + steps_for p left (at left)
+  counted_on left s x y q a e =
+      let few = a.few in
+      let all : count_all ≡ (b.fuel - suc left) + suc (steps_for p left q) = counted_by left s x y (Steps q) a e in
+      let same : steps_for p left (at left) ≡ steps_for p left q = ap (steps_for p left) (next_is left s x y (Steps q) a e) in
+      omega (arith, few, all, same, fewer left few)
 
   pub goes_at : (fuel left : ℕ) (s new : State) (x y z : Option (List ℕ)) → fuel ≡ suc left → IsAt l b fuel s x y → GoesTo l (outer l b fuel) s new y z → IsAt l b left new x z
   goes_at fuel left s new x y z f a g = go (subst (λ (n : ℕ). IsAt l b n s x y) f a) (subst (λ (n : ℕ). GoesTo l (outer l b n) s new y z) f g)
@@ -108,6 +123,7 @@ module _ (l : LinkedFile) (b : Begun) where
             few = (let few = a.few in omega (arith, few));
             is = ap (machine new) same ∙ sym next;
             goes = meant_by left s x y (Steps q) a g.goes.goes ∙ ap (replies_for p left) (sym next);
+            counts = counted_on left s x y q a g.goes.goes;
             sink = λ some. g.goes.sink (subst IsSome (sym (a.sink some)) (append_some x out.wrote some)) ∙ ap (λ (o : Option (List ℕ)). append_known o g.goes.bytes) (a.sink some) ∙ append_more x out.wrote g.goes.bytes ∙ ap (λ (o : Outer). append_known x o.wrote) (sym same);
             can = subst (λ (o : Outer). IsReached l o new) (sym same) g.reached;
           }

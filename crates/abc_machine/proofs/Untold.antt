@@ -20,11 +20,11 @@ use Rattle.abc_states.specs.World.{World}
 use Rattle.abc_states.specs.declared.state.State.{State}
 
 -- how a run ends where a call comes to this
-abbrev end_of : calls.Reply → End
+abbrev pub end_of : calls.Reply → End
 end_of (Gives v) = Done
 end_of (EndsAs e) = e
 
-abbrev ended_of : Replied → Ended
+abbrev pub ended_of : Replied → Ended
 ended_of r = ends_with r.world (end_of r.reply)
 
 then_same : (v : Value) (s : Stepped) (go : Machine → Ended) (call : Machine → Replied) → ((q : Machine) → go q ≡ ended_of (call q)) → then_runs s go ≡ ended_of (then_replies v s call)
@@ -36,11 +36,11 @@ then_same v (Ends w FuelSpent) go call h = refl
 then_same v (Ends w (Full limit)) go call h = refl
 then_same v (Ends w Stuck) go call h = refl
 
-runs_are : (p : Setting) (fuel : ℕ) (q : Machine) → runs_for p fuel q ≡ ended_of (replies_for p fuel q)
+pub runs_are : (p : Setting) (fuel : ℕ) (q : Machine) → runs_for p fuel q ≡ ended_of (replies_for p fuel q)
 runs_are p zero q = refl
 runs_are p (suc fuel) q = then_same (returned p q.world q.frames) (step p q) (runs_for p fuel) (replies_for p fuel) (λ n. runs_are p fuel n)
 
-end_is : (r : calls.Reply) (reply : Reply) → IsReplyOf r reply → IsEndOf (end_of r) (end_for reply)
+pub end_is : (r : calls.Reply) (reply : Reply) → IsReplyOf r reply → IsEndOf (end_of r) (end_for reply)
 end_is r (replies.Value v) is = ap end_of is.gives
 end_is r (replies.Uncaught thrown) is = ap end_of is
 end_is r (replies.Profile method index fault) is = ap end_of is
@@ -58,7 +58,7 @@ run_replied p fuel q x z reply r = subst (λ (e : Ended). RunsAs (ran e) x z (en
 pub run_leaves : (p : Setting) (fuel : ℕ) (q : Machine) (reply : Reply) (s : State) → (reply ≢ replies.WriteFault → Leaves p (replies_for p fuel q).world s) → end_for reply ≢ ends.WriteFault → Leaves p (runs_for p fuel q).world s
 run_leaves p fuel q reply s leaves f = subst (λ (w : World). Leaves p w s) (sym (ap (λ (e : Ended). e.world) (runs_are p fuel q))) (leaves (λ e. f (ap end_for e)))
 
-failed_back : (reply : Reply) → end_for reply ≡ ends.WriteFault → reply ≡ replies.WriteFault
+pub failed_back : (reply : Reply) → end_for reply ≡ ends.WriteFault → reply ≡ replies.WriteFault
 failed_back (replies.Value v) e = absurd cc
 failed_back (replies.Uncaught thrown) e = absurd cc
 failed_back (replies.Profile method index fault) e = absurd cc

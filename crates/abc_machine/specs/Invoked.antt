@@ -26,3 +26,4 @@ pub record Answers (old new : Opened) (c : Call) (before now : Option (List ℕ)
   pub closed : new.closed ≡ is_write_fault reply
   pub ended : new.ended ≡ old.ended
   pub linked : new.linked ≡ old.linked
+  pub steps : new.steps ≡ old.steps

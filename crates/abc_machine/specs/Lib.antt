@@ -1,4 +1,5 @@
 pub mod Ended
+pub mod Logged
 pub mod Replied
 pub mod Machines
 pub mod Invoked

@@ -16,7 +16,8 @@ use Rattle.abc_states.specs.World.{World}
 use Rattle.abc_states.specs.declared.state.State.{State}
 
 -- what it runs, the names of its host's formulas, in order, its limits, how its run ended, if one was, whether a call failed to
--- write, which closes it, and the heap and the started scripts: the world in which a call begins, with nothing written
+-- write, which closes it, the heap and the started scripts, which are the world in which a call begins, with nothing written, and how
+-- many steps its run took
 pub record Opened : Type 0 where
   pub linked : LinkedFile
   pub names : List (List ℕ)
@@ -24,10 +25,11 @@ pub record Opened : Type 0 where
   pub ended : Option End
   pub closed : Bool
   pub world : World
+  pub steps : ℕ
 
 -- a machine that was opened: no limit is too small, and nothing was run
 pub record IsOpened (l : LinkedFile) (formulas : List Formula) (limits : Limits) (m : Opened) : Type 0 where
-  pub is : m ≡ record { linked = l; names = formula_names formulas; limits = limits; ended = None; closed = false; world = first_world (setting l formulas) limits }
+  pub is : m ≡ record { linked = l; names = formula_names formulas; limits = limits; ended = None; closed = false; world = first_world (setting l formulas) limits; steps = 0 }
   pub fits : too_small (first_world (setting l formulas) limits).heap ≡ None
 
 -- the world that the run of a machine leaves, beside a host of these formulas
@@ -53,7 +55,8 @@ pub record CanGoOn (l : LinkedFile) (s : State) : Type 0 where
   pub none : s.frames.living ≡ []
   pub known : IsKnown l s.given.limit
 
--- what a machine keeps, by how its run ended and whether it is closed
-pub record Keeps (l : LinkedFile) (s : State) (ended : Option End) (closed : Bool) : Type 0 where
+-- what a machine keeps, by how its run ended and whether it is closed; before its run it has seen of the scripts which are started
+pub record Keeps (l : LinkedFile) (s : State) (seen : List Bool) (ended : Option End) (closed : Bool) : Type 0 where
   pub begins : ended ≡ None → CanBegin l s × (s.arena.limits.cells < 2 ^ 32)
+  pub noted : ended ≡ None → seen ≡ s.started
   pub goes_on : ended ≡ Some Done → closed ≡ false → CanGoOn l s

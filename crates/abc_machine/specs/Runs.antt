@@ -1,10 +1,11 @@
 -- Steps that went so far, and what they leave.
-use Rattle.std.specs.Prelude.{◌≡◌, ℕ, zero, suc, ◌-◌, ◌≤◌, List, [], IsSome}
+use Rattle.std.specs.Prelude.{◌≡◌, ℕ, zero, suc, ◌+◌, ◌-◌, ◌≤◌, List, [], IsSome}
 use Rattle.std.specs.Io.KnownBytes.{append_known}
 use Rattle.std.specs.declared.option.Option.{Option}
 use Rattle.abc_base.specs.declared.formula.Formula.{Formula}
 use Rattle.abc_callmeaning.specs.Calls.{replies_for}
 use Rattle.abc_ends.specs.Ending.{IsSized}
+use Rattle.abc_logmeaning.specs.Logs.{steps_for}
 use Rattle.abc_meaning.specs.Step.{step}
 use Rattle.abc_meaning.specs.Throwing.{Ends, Machine, Stepped, Steps}
 use Rattle.abc_program.specs.Linked.{LinkedFile}
@@ -39,6 +40,7 @@ pub record IsAt (l : LinkedFile) (b : Begun) (left : ℕ) (s : State) (before no
   pub few : left ≤ b.fuel
   pub is : machine s (outer l b left) ≡ reached (setting l (outer l b left)) (b.fuel - left) b.first
   pub goes : replies_for (setting l (outer l b left)) b.fuel b.first ≡ replies_for (setting l (outer l b left)) left (reached (setting l (outer l b left)) (b.fuel - left) b.first)
+  pub counts : steps_for (setting l (outer l b left)) b.fuel b.first ≡ (b.fuel - left) + steps_for (setting l (outer l b left)) left (reached (setting l (outer l b left)) (b.fuel - left) b.first)
   pub sink : IsSome before → now ≡ append_known before (outer l b left).wrote
   pub can : IsReached l (outer l b left) s
 

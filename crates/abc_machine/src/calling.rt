@@ -50,8 +50,9 @@ pub(crate) fn call_for<K: Sink, H: Host>(
     ensures leaves { result ≢ WriteFault → Leaves (setting linked.now formulas) (call_meaning (setting linked.now formulas) fuel (kept_world s.old) method (arguments args.now)).world s.new }
     ensures limit { s.new.given.limit ≡ s.old.given.limit }
 {
+    let mut left = fuel;
     match begin_call(linked, s, method, args) {
-        Ok(()) => take_steps(linked, s, fuel, sink, host),
+        Ok(()) => take_steps(linked, s, &mut left, sink, host),
         Err(ended) => reply_for(Halt::Ends(ended)),
     }
 }

@@ -3,8 +3,10 @@ ghost use Rattle.abc_callmeaning.specs.Calls.{silent};
 ghost use Rattle.abc_callmeaning.specs.Laws.{IsScriptMethod};
 ghost use Rattle.abc_cells.specs.declared.values.Span.{Span};
 ghost use Rattle.abc_heap.specs.Texts.{IsText, text_of};
+ghost use Rattle.abc_logmeaning.specs.Logs.{log as log_of, steps as steps_of};
 ghost use Rattle.abc_machine.specs.Ended.{HasRun, RunsAs};
 ghost use Rattle.abc_machine.specs.Invoked.{Answers, call_of};
+ghost use Rattle.abc_machine.specs.Logged.{LogsRun};
 ghost use Rattle.abc_machine.specs.Machines.{IsOpened, IsReady, world_run};
 ghost use Rattle.abc_machine.specs.Replied.{HasReplied};
 ghost use Rattle.abc_machine.specs.declared.ends.End.{End};
@@ -15,6 +17,7 @@ ghost use Rattle.abc_openings.specs.Begun.{IsRefused, setting};
 
 use crate::calling::{call_for, is_write_fault};
 use crate::ends::End;
+use crate::logged::log_for;
 use crate::replies::Reply;
 use crate::running::run_for;
 use abc_base::{Host, Plain, Sink};
@@ -22,6 +25,7 @@ use abc_calling::drop_frames;
 use abc_cells::Span;
 use abc_heap::Limits;
 use abc_link::Linked;
+use abc_logging::Seen;
 use abc_objects::OpenError;
 use abc_openings::open_state;
 use abc_states::State;
@@ -29,12 +33,15 @@ use abc_verify::Verified;
 use std::alloc::Global;
 use std::marker::Model;
 
-/// A verified file with all the memory that it may fill, how its run ended, and whether a call failed to write.
+/// A verified file with all the memory that it may fill, which scripts are started, as a log tells it, how its run ended, how many steps
+/// it took, and whether a call failed to write.
 #[derive(Drop)]
 pub struct Machine {
     verified: Verified,
     state: State,
+    seen: Seen,
     ended: Option<End>,
+    steps: u32,
     closed: bool,
 }
 
@@ -43,9 +50,9 @@ impl Model for Machine {
 
     ghost Value = { Opened };
 
-    ghost view = { λ m. record { linked = m.verified; names = m.state.arena.formulas; limits = m.state.arena.limits; ended = m.ended; closed = m.closed; world = kept_world m.state } };
+    ghost view = { λ m. record { linked = m.verified; names = m.state.arena.formulas; limits = m.state.arena.limits; ended = m.ended; closed = m.closed; world = kept_world m.state; steps = m.steps } };
 
-    ghost invariant = { λ m. Keeps m.verified m.state m.ended m.closed };
+    ghost invariant = { λ m. Keeps m.verified m.state m.seen m.ended m.closed };
 }
 
 impl Machine {
@@ -60,11 +67,14 @@ impl Machine {
         ensures { MatchResult result (IsOpened verified (H.formulas host.now) limits.now) (IsRefused (setting verified (H.formulas host.now)) limits.now) }
     {
         let _cells = limits.cells;
+        let seen = Seen::new(alloc, verified.linked().abc().scripts.len())?;
         let state = open_state(alloc, verified.linked(), limits, host)?;
         Ok(Machine {
             verified,
             state,
+            seen,
             ended: None,
+            steps: 0,
             closed: false,
         })
     }
@@ -78,6 +88,7 @@ impl Machine {
         ensures cause { self.old.ended ≡ None → HasRun (K.faults out.old) (K.faults out.new) result }
         ensures world { self.old.ended ≡ None → result ≢ End.WriteFault → self.new.world ≡ silent (world_run self.old (H.formulas host.now) fuel) }
         ensures names { self.old.ended ≡ None → result ≢ End.WriteFault → self.new.names ≡ self.old.names }
+        ensures steps { self.old.ended ≡ None → result ≢ End.WriteFault → self.new.steps ≡ steps_of (setting self.old.linked (H.formulas host.now)) self.old.limits fuel }
         ensures again { (end : End) → self.old.ended ≡ Some end → (result ≡ end) × (out.new ≡ out.old) × (self.new ≡ self.old) }
         ensures ended { self.new.ended ≡ Some result }
         ensures closed { self.new.closed ≡ self.old.closed }
@@ -90,9 +101,50 @@ impl Machine {
                 linked.linked_law();
                 linked.slots_law();
                 self.verified.verified_law();
-                let end = run_for(linked, &mut self.state, fuel, out, host);
+                let mut left = fuel;
+                let end = run_for(linked, &mut self.state, &mut left, out, host);
                 drop_frames(&mut self.state);
                 self.ended = Some(end);
+                self.steps = fuel - left;
+                end
+            }
+        }
+    }
+
+    /// Runs the file as `run` does, and writes the log of that in place of its output: a line for each step, with the bytes that it
+    /// wrote, and a line that says how the run ends. It answers the meaning's end, or `WriteFault` after a front of the log, only where
+    /// the sink's count of faults rose. It takes no memory. A machine that was run writes nothing, and answers how that ended.
+    pub fn run_logged<K: Sink, H: Host>(&mut self, fuel: u32, log: &mut K, host: &H) -> End
+        requires { self.old.ended ≡ None → formula_names (H.formulas host.now) ≡ self.old.names }
+        ensures logs { self.old.ended ≡ None → LogsRun (log_of (setting self.old.linked (H.formulas host.now)) self.old.limits fuel) (meaning (setting self.old.linked (H.formulas host.now)) self.old.limits fuel) (K.written log.old) (K.written log.new) result }
+        ensures cause { self.old.ended ≡ None → HasRun (K.faults log.old) (K.faults log.new) result }
+        ensures world { self.old.ended ≡ None → result ≢ End.WriteFault → self.new.world ≡ silent (world_run self.old (H.formulas host.now) fuel) }
+        ensures names { self.old.ended ≡ None → result ≢ End.WriteFault → self.new.names ≡ self.old.names }
+        ensures steps { self.old.ended ≡ None → result ≢ End.WriteFault → self.new.steps ≡ steps_of (setting self.old.linked (H.formulas host.now)) self.old.limits fuel }
+        ensures again { (end : End) → self.old.ended ≡ Some end → (result ≡ end) × (log.new ≡ log.old) × (self.new ≡ self.old) }
+        ensures ended { self.new.ended ≡ Some result }
+        ensures closed { self.new.closed ≡ self.old.closed }
+        ensures linked { self.new.linked ≡ self.old.linked }
+    {
+        match self.ended {
+            Some(end) => end,
+            None => {
+                let linked = self.verified.linked();
+                linked.linked_law();
+                linked.slots_law();
+                self.verified.verified_law();
+                let mut unspent = fuel;
+                let end = log_for(
+                    linked,
+                    &mut self.state,
+                    &mut self.seen,
+                    &mut unspent,
+                    log,
+                    host,
+                );
+                drop_frames(&mut self.state);
+                self.ended = Some(end);
+                self.steps = fuel - unspent;
                 end
             }
         }
@@ -132,6 +184,13 @@ impl Machine {
         ensures { result ≡ self.now.ended }
     {
         self.ended
+    }
+
+    /// How many steps its run took: none before it was run. Where writing failed nothing is said of it, and a call doesn't change it.
+    pub fn steps(&self) -> u32
+        ensures { result ≡ self.now.steps }
+    {
+        self.steps
     }
 
     /// Whether a call failed to write. Then no other may follow.

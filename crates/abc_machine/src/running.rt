@@ -1,6 +1,7 @@
-ghost use Rattle.std.specs.Prelude.{◌≡◌, ◌≢◌, ◌≤◌};
+ghost use Rattle.std.specs.Prelude.{◌≡◌, ◌≢◌, ◌+◌, ◌≤◌};
 ghost use Rattle.abc_base.specs.Faults.{Rose};
 ghost use Rattle.abc_callmeaning.specs.Calls.{replies_for};
+ghost use Rattle.abc_logmeaning.specs.Logs.{steps_for};
 ghost use Rattle.abc_machine.specs.Ended.{HasRun, RunsAs};
 ghost use Rattle.abc_machine.specs.Replied.{HasReplied, RepliesAs, plain_value};
 ghost use Rattle.abc_machine.specs.Runs.{Begun, IsAt, Leaves};
@@ -60,7 +61,7 @@ pub(crate) fn reply_for(halt: Halt) -> Reply
 }
 
 /// How a run ends: as a call would, whose value is not told.
-fn end_for(reply: Reply) -> End
+pub(crate) fn end_for(reply: Reply) -> End
     ensures { result ≡ end_of reply }
 {
     match reply {
@@ -95,6 +96,7 @@ fn spend<K: Sink, H: Host>(
     ensures spends { SpendsAs linked.now out s.old fuel.old result s.new fuel.new (K.written sink.old) (K.written sink.new) }
     ensures later { K.faults sink.old ≤ K.faults sink.new }
     ensures cause { result ≡ Err WriteFault → Rose (K.faults sink.old) (K.faults sink.new) }
+    ensures few { fuel.new ≤ fuel.old }
     ensures limit { s.new.given.limit ≡ s.old.given.limit }
 {
     if *fuel == 0 {
@@ -107,46 +109,49 @@ fn spend<K: Sink, H: Host>(
     }
 }
 
-/// Steps, at most `fuel`, until one ends.
+/// Steps, at most `fuel`, which are taken off it, until one ends.
 pub(crate) fn take_steps<K: Sink, H: Host>(
     linked: &Linked,
     s: &mut State,
-    fuel: u32,
+    fuel: &mut u32,
     sink: &mut K,
     host: &H,
 ) -> Reply
     ghost begun: { Begun }
-    requires at { IsAt linked.now begun fuel s.old (K.written sink.old) (K.written sink.old) }
+    requires at { IsAt linked.now begun fuel.old s.old (K.written sink.old) (K.written sink.old) }
     requires host { begun.formulas ≡ H.formulas host.now }
-    requires whole { begun.fuel ≡ fuel }
-    ensures replies { RepliesAs (replies_for (setting linked.now begun.formulas) fuel begun.first) (K.written sink.old) (K.written sink.new) result }
+    requires whole { begun.fuel ≡ fuel.old }
+    ensures replies { RepliesAs (replies_for (setting linked.now begun.formulas) fuel.old begun.first) (K.written sink.old) (K.written sink.new) result }
     ensures cause { HasReplied (K.faults sink.old) (K.faults sink.new) result }
-    ensures leaves { result ≢ WriteFault → Leaves (setting linked.now begun.formulas) (replies_for (setting linked.now begun.formulas) fuel begun.first).world s.new }
+    ensures leaves { result ≢ WriteFault → Leaves (setting linked.now begun.formulas) (replies_for (setting linked.now begun.formulas) fuel.old begun.first).world s.new }
+    ensures steps { result ≢ WriteFault → steps_for (setting linked.now begun.formulas) fuel.old begun.first + fuel.new ≡ fuel.old }
+    ensures few { fuel.new ≤ fuel.old }
     ensures limit { s.new.given.limit ≡ s.old.given.limit }
 {
-    let mut left = fuel;
     loop {
-        if let Err(reply) = spend(linked, s, &mut left, sink, host) {
+        if let Err(reply) = spend(linked, s, fuel, sink, host) {
             return reply;
         }
     }
 }
 
-/// Runs from a state on, at most `fuel` steps.
+/// Runs from a state on, at most `fuel` steps, which are taken off it.
 pub(crate) fn run_for<K: Sink, H: Host>(
     linked: &Linked,
     s: &mut State,
-    fuel: u32,
+    fuel: &mut u32,
     sink: &mut K,
     host: &H,
 ) -> End
     ghost begun: { Begun }
-    requires at { IsAt linked.now begun fuel s.old (K.written sink.old) (K.written sink.old) }
+    requires at { IsAt linked.now begun fuel.old s.old (K.written sink.old) (K.written sink.old) }
     requires host { begun.formulas ≡ H.formulas host.now }
-    requires whole { begun.fuel ≡ fuel }
-    ensures runs { RunsAs (ran (runs_for (setting linked.now begun.formulas) fuel begun.first)) (K.written sink.old) (K.written sink.new) result }
+    requires whole { begun.fuel ≡ fuel.old }
+    ensures runs { RunsAs (ran (runs_for (setting linked.now begun.formulas) fuel.old begun.first)) (K.written sink.old) (K.written sink.new) result }
     ensures cause { HasRun (K.faults sink.old) (K.faults sink.new) result }
-    ensures leaves { result ≢ FailedRun → Leaves (setting linked.now begun.formulas) (runs_for (setting linked.now begun.formulas) fuel begun.first).world s.new }
+    ensures leaves { result ≢ FailedRun → Leaves (setting linked.now begun.formulas) (runs_for (setting linked.now begun.formulas) fuel.old begun.first).world s.new }
+    ensures steps { result ≢ FailedRun → steps_for (setting linked.now begun.formulas) fuel.old begun.first + fuel.new ≡ fuel.old }
+    ensures few { fuel.new ≤ fuel.old }
     ensures limit { s.new.given.limit ≡ s.old.given.limit }
 {
     end_for(take_steps(linked, s, fuel, sink, host))

@@ -1,5 +1,6 @@
 pub mod Sessions
 pub use Rattle.abc_machine.specs.Ended
+pub use Rattle.abc_machine.specs.Logged
 pub use Rattle.abc_machine.specs.Invoked
 pub use Rattle.abc_machine.specs.Machines
 pub use Rattle.abc_machine.specs.OpeningsBegun

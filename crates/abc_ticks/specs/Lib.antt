@@ -5,6 +5,7 @@ pub use Rattle.abc_faults.specs.CallsLaws
 pub use Rattle.abc_faults.specs.Exports
 pub use Rattle.abc_faults.specs.Placed
 pub use Rattle.abc_session.specs.Ended
+pub use Rattle.abc_session.specs.Logged
 pub use Rattle.abc_session.specs.EndType
 pub use Rattle.abc_session.specs.Machines
 pub use Rattle.abc_session.specs.OpeningsBegun

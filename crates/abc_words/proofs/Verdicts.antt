@@ -10,6 +10,7 @@ use Rattle.std.proofs.lemmas.Iterator.Adapters.{option_map_id}
 use Rattle.std.proofs.lemmas.Slice.Eq.{bytes_eq-Decides}
 use Rattle.abc_words.specs.declared.command.Command.{Command}
 use Rattle.abc_words.specs.declared.command.Command.TheVariants as commands
+use Rattle.abc_words.specs.declared.command.RunOptions.{RunOptions}
 use Rattle.abc_words.specs.declared.command.Usage.{Usage}
 use Rattle.abc_words.specs.declared.command.Usage.TheVariants as usages
 use Rattle.abc_words.specs.declared.given.GivenRun.{GivenRun}
@@ -176,6 +177,10 @@ tidy_only : (c : Command) → word_of c ≡ codes "tidy" → c ≡ commands.Tidy
 tidy_only commands.Tidy e = refl
 tidy_only c e = absurd (apart (word_of c) (codes "tidy") refl e)
 
+replay_only : (c : Command) → word_of c ≡ codes "replay" → c ≡ commands.Replay
+replay_only commands.Replay e = refl
+replay_only c e = absurd (apart (word_of c) (codes "replay") refl e)
+
 -- ---- the commands with options
 
 wrapped : (wrap : List Place → List Place) (p : Place) (more : Option (List Place)) → option_map (λ (l : List Place). wrap (p ∷ l)) more ≡ option_map wrap (option_map (λ (l : List Place). p ∷ l) more)
@@ -207,8 +212,11 @@ number_at [] i = 0
 number_at (s ∷ settings) zero = s.number
 number_at (s ∷ settings) (suc i) = number_at settings i
 
+abbrev run_options : List Setting → RunOptions
+run_options l = record { fuel = number_at l 0; objects = number_at l 1; cells = number_at l 2; text = number_at l 3; frames = number_at l 4; stack = number_at l 5 }
+
 abbrev run_back : List Setting → Command
-run_back l = commands.Run (record { fuel = number_at l 0; objects = number_at l 1; cells = number_at l 2; text = number_at l 3; frames = number_at l 4; stack = number_at l 5 })
+run_back l = commands.Run (run_options l)
 
 run_begins : (c : Command) → word_of c ≡ codes "run" → Agree (run_places run_start) (settings_of c) × (left_of (run_places run_start) (settings_of c) ≡ settings_of c)
 run_begins (commands.Run o) e = ((refl, tt, (refl, tt, (refl, tt, (refl, tt, (refl, tt, (refl, tt, tt)))))), refl)
@@ -221,6 +229,21 @@ run_again c e = absurd (apart (word_of c) (codes "run") refl e)
 IsAnswer-run : (words : List (List ℕ)) → IsAnswer (codes "run" ∷ words) (as_command (λ g. commands.Run (run_options_of g)) (after_words run_with run_start 1 words))
 IsAnswer-run words =
     IsAnswer-one GivenRun run_with run_places run_same (λ g. refl) run_start (codes "run") (λ g. commands.Run (run_options_of g)) (λ g. refl) (λ g. refl) run_begins run_back run_again words
+
+abbrev log_back : List Setting → Command
+log_back l = commands.Log (run_options l)
+
+log_begins : (c : Command) → word_of c ≡ codes "log" → Agree (run_places run_start) (settings_of c) × (left_of (run_places run_start) (settings_of c) ≡ settings_of c)
+log_begins (commands.Log o) e = ((refl, tt, (refl, tt, (refl, tt, (refl, tt, (refl, tt, (refl, tt, tt)))))), refl)
+log_begins c e = absurd (apart (word_of c) (codes "log") refl e)
+
+log_again : (c : Command) → word_of c ≡ codes "log" → log_back (settings_of c) ≡ c
+log_again (commands.Log o) e = refl
+log_again c e = absurd (apart (word_of c) (codes "log") refl e)
+
+IsAnswer-log : (words : List (List ℕ)) → IsAnswer (codes "log" ∷ words) (as_command (λ g. commands.Log (run_options_of g)) (after_words run_with run_start 1 words))
+IsAnswer-log words =
+    IsAnswer-one GivenRun run_with run_places run_same (λ g. refl) run_start (codes "log") (λ g. commands.Log (run_options_of g)) (λ g. refl) (λ g. refl) log_begins log_back log_again words
 
 abbrev gen_places : GivenGen → List Place
 gen_places g = place seed g.seed ∷ place methods g.methods ∷ []
@@ -289,15 +312,17 @@ IsAnswer-if w literal words false x y is here later = later (λ e. let same = (b
 begin_with_nothing : CanBegin []
 begin_with_nothing = (codes "canon" ∷ [], (commands.Canon, record { options = []; parts = refl; settings = none (λ k d lt. absurd (omega arith)) }))
 
-no_word_of : (w : List ℕ) → w ≢ codes "canon" → w ≢ codes "dis" → w ≢ codes "asm" → w ≢ codes "check" → w ≢ codes "tidy" → w ≢ codes "run" → w ≢ codes "gen" → w ≢ codes "calls" → (c : Command) → w ≢ word_of c
-no_word_of w canon dis asm check tidy run gen calls commands.Canon e = canon e
-no_word_of w canon dis asm check tidy run gen calls commands.Dis e = dis e
-no_word_of w canon dis asm check tidy run gen calls commands.Asm e = asm e
-no_word_of w canon dis asm check tidy run gen calls commands.Check e = check e
-no_word_of w canon dis asm check tidy run gen calls commands.Tidy e = tidy e
-no_word_of w canon dis asm check tidy run gen calls (commands.Run o) e = run e
-no_word_of w canon dis asm check tidy run gen calls (commands.Gen o) e = gen e
-no_word_of w canon dis asm check tidy run gen calls (commands.Calls o) e = calls e
+no_word_of : (w : List ℕ) → w ≢ codes "canon" → w ≢ codes "dis" → w ≢ codes "asm" → w ≢ codes "check" → w ≢ codes "tidy" → w ≢ codes "replay" → w ≢ codes "run" → w ≢ codes "log" → w ≢ codes "gen" → w ≢ codes "calls" → (c : Command) → w ≢ word_of c
+no_word_of w canon dis asm check tidy replay run log gen calls commands.Canon e = canon e
+no_word_of w canon dis asm check tidy replay run log gen calls commands.Dis e = dis e
+no_word_of w canon dis asm check tidy replay run log gen calls commands.Asm e = asm e
+no_word_of w canon dis asm check tidy replay run log gen calls commands.Check e = check e
+no_word_of w canon dis asm check tidy replay run log gen calls commands.Tidy e = tidy e
+no_word_of w canon dis asm check tidy replay run log gen calls (commands.Run o) e = run e
+no_word_of w canon dis asm check tidy replay run log gen calls (commands.Gen o) e = gen e
+no_word_of w canon dis asm check tidy replay run log gen calls (commands.Calls o) e = calls e
+no_word_of w canon dis asm check tidy replay run log gen calls (commands.Log o) e = log e
+no_word_of w canon dis asm check tidy replay run log gen calls commands.Replay e = replay e
 
 IsAnswer-other : (w : List ℕ) (words : List (List ℕ)) → ((c : Command) → w ≢ word_of c) → IsAnswer (w ∷ words) (Err (usages.Word 0))
 IsAnswer-other w words other = record {
@@ -323,10 +348,12 @@ IsAnswer-command (w ∷ words) =
     IsAnswer-if w (codes "asm") words (bytes_eq w (codes "asm")) _ _ refl (IsAnswer-plain commands.Asm refl asm_only words) (λ asm.
     IsAnswer-if w (codes "check") words (bytes_eq w (codes "check")) _ _ refl (IsAnswer-plain commands.Check refl check_only words) (λ check.
     IsAnswer-if w (codes "tidy") words (bytes_eq w (codes "tidy")) _ _ refl (IsAnswer-plain commands.Tidy refl tidy_only words) (λ tidy.
+    IsAnswer-if w (codes "replay") words (bytes_eq w (codes "replay")) _ _ refl (IsAnswer-plain commands.Replay refl replay_only words) (λ replay.
     IsAnswer-if w (codes "run") words (bytes_eq w (codes "run")) _ _ refl (IsAnswer-run words) (λ run.
+    IsAnswer-if w (codes "log") words (bytes_eq w (codes "log")) _ _ refl (IsAnswer-log words) (λ log.
     IsAnswer-if w (codes "gen") words (bytes_eq w (codes "gen")) _ _ refl (IsAnswer-gen words) (λ gen.
     IsAnswer-if w (codes "calls") words (bytes_eq w (codes "calls")) _ _ refl (IsAnswer-calls words) (λ calls.
-    IsAnswer-other w words (no_word_of w canon dis asm check tidy run gen calls)))))))))
+    IsAnswer-other w words (no_word_of w canon dis asm check tidy replay run log gen calls)))))))))))
 
 -- ---- never two answers
 

@@ -56,6 +56,8 @@ word_of commands.Tidy = codes "tidy"
 word_of (commands.Run _) = codes "run"
 word_of (commands.Gen _) = codes "gen"
 word_of (commands.Calls _) = codes "calls"
+word_of (commands.Log _) = codes "log"
+word_of commands.Replay = codes "replay"
 
 abbrev pub run_settings : RunOptions → List Setting
 run_settings o = setting fuel o.fuel ∷ setting objects o.objects ∷ setting cells o.cells ∷ setting text o.text ∷ setting frames o.frames ∷ setting stack o.stack ∷ []
@@ -70,3 +72,5 @@ settings_of commands.Tidy = []
 settings_of (commands.Run o) = run_settings o
 settings_of (commands.Gen o) = setting seed o.seed ∷ setting methods o.methods ∷ []
 settings_of (commands.Calls o) = setting times o.times ∷ run_settings o.run
+settings_of (commands.Log o) = run_settings o
+settings_of commands.Replay = []

@@ -119,7 +119,9 @@ command_of (word ∷ words) =
     if bytes_eq word (codes "asm") then plain commands.Asm words else (
     if bytes_eq word (codes "check") then plain commands.Check words else (
     if bytes_eq word (codes "tidy") then plain commands.Tidy words else (
+    if bytes_eq word (codes "replay") then plain commands.Replay words else (
     if bytes_eq word (codes "run") then as_command (λ g. commands.Run (run_options_of g)) (after_words run_with run_start 1 words) else (
+    if bytes_eq word (codes "log") then as_command (λ g. commands.Log (run_options_of g)) (after_words run_with run_start 1 words) else (
     if bytes_eq word (codes "gen") then as_command (λ g. commands.Gen (gen_options_of g)) (after_words gen_with gen_start 1 words) else (
     if bytes_eq word (codes "calls") then as_command (λ g. commands.Calls (calls_options_of g)) (after_words calls_with calls_start 1 words) else
-    Err (usages.Word 0))))))))
+    Err (usages.Word 0))))))))))

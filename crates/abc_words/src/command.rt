@@ -17,6 +17,10 @@ pub enum Command {
     Gen(GenOptions),
     /// Calls of a function that a file exports, on what its run left.
     Calls(CallsOptions),
+    /// The log of a run of a file: what each step was.
+    Log(RunOptions),
+    /// Whether a log is that of its file.
+    Replay,
 }
 
 /// How far a run may go: its fuel, and how much of each thing there may be.

@@ -31,9 +31,14 @@ fn read_command(words: &Words) -> Result<Command, Usage>
         b"asm" => read_plain(words, Command::Asm),
         b"check" => read_plain(words, Command::Check),
         b"tidy" => read_plain(words, Command::Tidy),
+        b"replay" => read_plain(words, Command::Replay),
         b"run" => {
             let given = read_options(words, GivenRun::new())?;
             Ok(Command::Run(given.options()))
+        }
+        b"log" => {
+            let given = read_options(words, GivenRun::new())?;
+            Ok(Command::Log(given.options()))
         }
         b"gen" => {
             let given = read_options(words, GivenGen::new())?;

@@ -6,7 +6,12 @@ abbrev pub ghost-spend : goal.ghost-spend
 ghost-spend g a = outer a.linked.now g.begun a.fuel.now
 
 abbrev pub invariant-loop-reply : goal.invariant-loop-reply
-invariant-loop-reply g l = IsAt l.linked g.begun l.left l.s (g.K.Sink.written l.initial.sink) (g.K.Sink.written l.sink) × (g.K.Sink.faults l.initial.sink ≤ g.K.Sink.faults l.sink) × (l.s.given.limit ≡ l.initial.s.given.limit)
+invariant-loop-reply g l = record {
+  at : IsAt l.linked g.begun l.fuel l.s (g.K.Sink.written l.initial.sink) (g.K.Sink.written l.sink);
+  later : g.K.Sink.faults l.initial.sink ≤ g.K.Sink.faults l.sink;
+  few : l.fuel ≤ l.initial.fuel;
+  limit : l.s.given.limit ≡ l.initial.s.given.limit;
+}
 
 abbrev pub decreases-loop-reply : goal.decreases-loop-reply
-decreases-loop-reply g l = l.left
+decreases-loop-reply g l = l.fuel

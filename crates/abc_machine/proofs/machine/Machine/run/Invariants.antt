@@ -5,4 +5,4 @@ use Rattle.abc_machine.proofs.machine.Machine.run.Given as goal
 abbrev pub ghost-run_for : goal.ghost-run_for
 ghost-run_for g a =
     let formulas = g.H.Host.formulas a.host.now in
-    record { formulas = formulas; first = first_state (setting a.linked.now formulas) a.s.now.arena.limits; fuel = a.fuel }
+    record { formulas = formulas; first = first_state (setting a.linked.now formulas) a.s.now.arena.limits; fuel = a.fuel.now }
