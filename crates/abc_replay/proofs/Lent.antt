@@ -1,0 +1,24 @@
+-- What is known of a source that is lent to a comparison, by the name that it is lent under.
+use Rattle.std.proofs.Common.{◌≡◌, ◌≤◌, ℕ, List, [], ◌∷◌, Some, ap, subst, sym, ◌∙◌}
+use Rattle.std.proofs.Math.Bridge.{le_prop}
+use Rattle.std.proofs.Math.Logic.{∥∥₁_elim}
+use Rattle.std.specs.declared.option.Option.{Option}
+use Rattle.abc_compare.specs.Followed.{Follows, bytes_in, noted, number_in, told}
+use Rattle.abc_compare.specs.declared.compare.Verdict.{Verdict}
+use Rattle.abc_compare.specs.declared.compare.Verdict.TheVariants.{Same}
+use Rattle.abc_compare.proofs.Following.{number_noted}
+use Rattle.abc_logparts.specs.Checks.{IsCompared, IsWritten}
+use Rattle.abc_logparts.proofs.Judging.{is_compared}
+
+-- its count of faults did not fall since
+pub lent_later : (start start2 bytes2 name : List ℕ) (lent number : ℕ) (o left : Option (List ℕ)) (faults agreed : ℕ) (v : Verdict) → start ≡ noted (lent ∷ name) number o → start2 ≡ start
+    → ∥ Follows (bytes_in start2) (number_in start2) bytes2 left faults agreed v ∥₁ → number ≤ faults
+lent_later start start2 bytes2 name lent number o left faults agreed v at same follows =
+    let count : number_in start2 ≡ number = ap number_in (same ∙ at) ∙ number_noted (lent ∷ name) number o in
+    ∥∥₁_elim follows le_prop (λ f. subst (λ (k : ℕ). k ≤ faults) count f.later)
+
+-- what was written is compared with what it gave
+pub lent_compared : (lines start start2 bytes2 name : List ℕ) (lent steps n number : ℕ) (o left : Option (List ℕ)) (faults agreed : ℕ) (v : Verdict) (fb fn : ℕ) → start ≡ noted (lent ∷ name) number o
+    → IsWritten lines steps n (Some (told start [])) (Some (told start2 bytes2)) fb fn → (v ≡ Same → fn ≡ 0) → ∥ Follows (bytes_in start2) (number_in start2) bytes2 left faults agreed v ∥₁ → IsCompared lines steps n o number left faults agreed v
+lent_compared lines start start2 bytes2 name lent steps n number o left faults agreed v fb fn at written quiet follows =
+    is_compared lines start start2 bytes2 (lent ∷ name) steps n number o left faults agreed v fb fn at written quiet follows

@@ -1,0 +1,17 @@
+use Rattle.std.proofs.Common.{◌∙◌, refl}
+use Rattle.abc_machine.specs.Ended.{logged}
+use Rattle.abc_machine.specs.OpeningsBegun.{setting}
+use Rattle.abc_logmeaning.specs.Logs.{log, steps}
+use Rattle.abc_meaning.specs.Meaning.{meaning}
+use Rattle.abc_replay.proofs.Written.{run_written}
+use Rattle.abc_replay.proofs.run.log_run.Goals as goal
+
+pub run_logged-requires : goal.run_logged-requires
+run_logged-requires g c = λ begun. c.requires.names
+
+pub returns : goal.returns
+returns g c =
+    let p = setting c.args.machine.now.linked (g.H.Host.formulas c.args.host.now) in
+    let limits = c.args.machine.now.limits in
+    run_written (log p limits c.args.fuel) (meaning p limits c.args.fuel) (logged (log p limits c.args.fuel) (meaning p limits c.args.fuel)) (steps p limits c.args.fuel) c.from.result _ _ _ _ c.run_logged.result refl
+    (c.run_logged.ensures.logs c.requires.begun) (c.run_logged.ensures.cause c.requires.begun) (λ went. c.from.ensures ∙ c.steps.ensures ∙ c.run_logged.ensures.steps c.requires.begun went)

@@ -1,0 +1,74 @@
+ghost use Rattle.std.specs.Prelude.{◌≡◌, ◌≤◌, None, IfOk, OnErr};
+ghost use Rattle.abc_logmeaning.specs.Logs.{log as log_of, steps as steps_of};
+ghost use Rattle.abc_logparts.specs.Checks.{IsCompared, IsWritten};
+ghost use Rattle.abc_machine.specs.OpeningsBegun.{setting};
+ghost use Rattle.abc_objects.specs.Opening.{formula_names};
+
+use abc_base::{Host, NoMemory, Sink, Source};
+use abc_compare::{Lenient, Verdict};
+use abc_loglines::write_limit_end;
+use abc_logmeaning::too_small_is_one_line;
+use abc_machine::Machine;
+use abc_objects::OpenError;
+use abc_replaying::{LimitsLine, Verified};
+use std::alloc::Global;
+
+/// Gives back the memory of a machine. Alone, since to drop what is large takes long to prove where much else is live.
+fn close(_machine: Machine) {}
+
+/// Runs an opened machine, whose log is written: how many steps it took. Where the sink failed, the number says nothing.
+fn log_run<K: Sink, H: Host>(machine: &mut Machine, fuel: u32, log: &mut K, host: &H) -> u64
+    requires begun { machine.old.ended ≡ None }
+    requires names { formula_names (H.formulas host.now) ≡ machine.old.names }
+    ensures { IsWritten (log_of (setting machine.old.linked (H.formulas host.now)) machine.old.limits fuel) (steps_of (setting machine.old.linked (H.formulas host.now)) machine.old.limits fuel) result (K.written log.old) (K.written log.new) (K.faults log.old) (K.faults log.new) }
+{
+    machine.run_logged(fuel, log, host);
+    u64::from(machine.steps())
+}
+
+/// Writes the log of the run of a file, or its one line where a limit is below what every run begins with: how many steps there are.
+fn write_log<K: Sink, H: Host>(
+    alloc: Global,
+    verified: Verified,
+    line: &LimitsLine,
+    log: &mut K,
+    host: &H,
+) -> Result<u64, NoMemory>
+    ensures written { IfOk result (λ n. IsWritten (log_of (setting verified (H.formulas host.now)) (line.now).limits (line.now).fuel) (steps_of (setting verified (H.formulas host.now)) (line.now).limits (line.now).fuel) n (K.written log.old) (K.written log.new) (K.faults log.old) (K.faults log.new)) }
+    ensures none { OnErr result (log.new ≡ log.old) }
+{
+    too_small_is_one_line();
+    match Machine::open(alloc, verified, &line.limits, host) {
+        Ok(mut machine) => {
+            let count = log_run(&mut machine, line.fuel, log, host);
+            close(machine);
+            Ok(count)
+        }
+        Err(OpenError::TooSmall(limit)) => {
+            let _ = write_limit_end(log, limit);
+            Ok(0)
+        }
+        Err(OpenError::NoMemory) => Err(NoMemory),
+    }
+}
+
+/// Compares the log of the run of a file with what the source gives, while that is read: how many steps there are, the verdict, and
+/// how many bytes agreed.
+pub(crate) fn compare_log<S: Source, H: Host>(
+    alloc: Global,
+    verified: Verified,
+    line: &LimitsLine,
+    source: &mut S,
+    host: &H,
+) -> Result<(u64, Verdict, u64), NoMemory>
+    ensures compared { IfOk result (λ x. IsCompared (log_of (setting verified (H.formulas host.now)) (line.now).limits (line.now).fuel) (steps_of (setting verified (H.formulas host.now)) (line.now).limits (line.now).fuel) x.0 (S.left source.old) (S.faults source.old) (S.left source.new) (S.faults source.new) x.2 x.1) }
+    ensures later { S.faults source.old ≤ S.faults source.new }
+{
+    let mut compare = Lenient::new(source);
+    let written = write_log(alloc, verified, line, &mut compare, host);
+    let verdict = compare.verdict();
+    let agreed = compare.agreed();
+    let _source = compare.into_inner();
+    let steps = written?;
+    Ok((steps, verdict, agreed))
+}

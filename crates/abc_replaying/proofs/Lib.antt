@@ -1,0 +1,4 @@
+pub mod Inputs
+pub mod Lifted
+pub mod Parts
+pub mod Logged

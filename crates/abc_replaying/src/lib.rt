@@ -1,0 +1,11 @@
+//! What stands before the log of an input, and why an input is no log of a run.
+#![tactic(auto)]
+
+mod error;
+mod preface;
+
+pub use abc_loghead::LimitsLine;
+pub use abc_logparts::{LogFault, check_verdict};
+pub use abc_verified::Verified;
+pub use error::{ReplayError, ReplayReason};
+pub use preface::{Preface, error_at, read_preface};
