@@ -108,8 +108,7 @@ right_head n place input more is w =
 same_parts : (input file behind bytes rest : List ℕ) → length file < 2 ^ 32 → input ≡ head_line (length file) ++ (file ++ behind) → HasParts input bytes rest → (bytes ≡ file) × (rest ≡ behind)
 same_parts input file behind bytes rest short is p =
     let both = same_front (head_line (length file)) (head_line p.stated) (file ++ behind) p.following (length-head_line (length file) ∙ sym (length-head_line p.stated)) (sym is ∙ p.is) in
-    let same : p.stated ≡ length file = sym (same_head (length file) p.stated short p.low both.0) in
-    (
+    let same : p.stated ≡ length file = sym (same_head (length file) p.stated short p.low both.0) in (
       p.file_is ∙ ap (λ (n : ℕ). take n p.following) same ∙ ap (take (length file)) (sym both.1) ∙ take-append_seam file behind,
       p.rest_is ∙ ap (λ (n : ℕ). drop n p.following) same ∙ ap (drop (length file)) (sym both.1) ∙ drop-append_seam file behind,
     )

@@ -34,7 +34,7 @@ has_file old mid new bytes stated low head part few end = record { stated = stat
 
 -- ---- the whole
 
-rose_before : (before mid now : ℕ) → before ≤ mid → Rose mid now → Rose before now
+pub rose_before : (before mid now : ℕ) → before ≤ mid → Rose mid now → Rose before now
 rose_before before mid now later rose = omega (arith, later, rose)
 
 module _ (old mid new : Option (List ℕ)) (bytes : List ℕ) (l : LinkedFile) (place : ℕ) (r : Result Preface ReplayError) (f : HasFile old mid bytes) (v : IsVerifiedIn bytes l) (at : place ≡ file_place + length bytes) where
