@@ -35,7 +35,7 @@ fn judge<S: Source>(
     }
 }
 
-/// Replays a log: the number of its steps, exactly where the input is the line that states the length of a file, the bytes of that,
+/// Replays a log: the number of its steps, where the input is the line that states the length of a file, the bytes of that,
 /// which is verified, a line of limits and the log of the run within them beside this host, and nothing else. Otherwise it says why
 /// the input is none, in its order. `ReadFault` comes only where the source's count of faults rose; want of memory is free.
 pub fn replay<S: Source, H: Host>(
