@@ -16,7 +16,7 @@ use Rattle.abc_replaying.specs.Prefaces.{HasFile, HasPreface, IsNoLine, IsVerifi
 use Rattle.abc_replaying.specs.Replays.{file_place}
 use Rattle.abc_replaying.specs.declared.error.ReplayError.{ReplayError}
 use Rattle.abc_replaying.specs.declared.error.ReplayError.TheVariants as errors
-use Rattle.abc_replaying.specs.declared.preface.Preface.{Preface}
+use Rattle.abc_replaying.specs.declared.reading.Preface.{Preface}
 use Rattle.abc_replaying.proofs.Parts.{no_limits}
 
 -- ---- the file

@@ -3,11 +3,11 @@
 
 mod error;
 mod laws;
-mod preface;
+mod reading;
 
 pub use abc_loghead::LimitsLine;
 pub use abc_logparts::{LogFault, check_verdict};
 pub use abc_verified::Verified;
 pub use error::{ReplayError, ReplayReason};
 pub use laws::one_replay;
-pub use preface::{Preface, error_at, read_preface};
+pub use reading::{Preface, error_at, read_preface};
