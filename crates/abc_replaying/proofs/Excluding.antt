@@ -30,7 +30,7 @@ use Rattle.abc_program.specs.Linked.{LinkedFile}
 use Rattle.abc_tables.specs.Files.{IsFile, IsFileRead}
 use Rattle.abc_tables.specs.declared.tables.Abc.{Abc}
 use Rattle.abc_tables.proofs.Whole.{decided, read_spelled}
-use Rattle.abc_verified.specs.Refusing.{IsRefused as IsNoVerifiedFile, IsUnverified}
+use Rattle.abc_verified.specs.Refusing.{IsRefused as IsNoVerifiedFile, IsUnverified, bad, unlinked, untyped, unverified}
 use Rattle.abc_verified.specs.declared.error.VerifiedError.{VerifiedError}
 use Rattle.abc_verify.specs.Refusing.{IsFirstUntyped}
 use Rattle.abc_verify.proofs.Methods.{body_inside}
@@ -192,21 +192,34 @@ one_number formulas input n k a b =
 
 -- there are 15 rules of linking
 few_rules : (rule : LinkRule) → rule_number rule < 15
-few_rules rule = grind arith
+few_rules rules.NoScript = omega arith
+few_rules rules.NameKind = omega arith
+few_rules rules.UnknownBase = omega arith
+few_rules rules.BaseCycle = omega arith
+few_rules rules.FinalBase = omega arith
+few_rules rules.BaseIsInterface = omega arith
+few_rules rules.UnknownInterface = omega arith
+few_rules rules.UnknownType = omega arith
+few_rules rules.OwnedTwice = omega arith
+few_rules rules.NoBody = omega arith
+few_rules rules.SameName = omega arith
+few_rules rules.SameSlot = omega arith
+few_rules rules.TraitNotRun = omega arith
+few_rules rules.TooLarge = omega arith
 
 module _ (formulas : List Formula) (l : LinkedFile) (bytes : List ℕ) (spells : IsFile l.file bytes) (verified : IsVerified (setting_of l formulas)) where
   verified_once : (v : Abc) (starts : List (List ℕ)) (e : VerifiedError) → v ≡ l.file → (no : IsUnverified v starts e) → IsUnverifiedBeside l v starts e no → ⊥
-  verified_once v starts e same (IsUnverified.unlinked rule i first) beside =
+  verified_once v starts e same (unlinked rule i first) beside =
       let broken : IsFirstBroken l.file rule i = subst (λ (w : Abc). IsFirstBroken w rule i) same first in
       verified.linked.rules rule (few_rules rule) i broken.item broken.breaks
-  verified_once v starts e same (IsUnverified.untyped k m b i rule is linked first) beside =
+  verified_once v starts e same (untyped k m b i rule is linked first) beside =
       let here : IsFirstUntyped l m b i rule = subst (λ (x : LinkedFile). IsFirstUntyped x m b i rule) beside first in
-      let untyped = here.2 in
-      untyped.untyped (verified.typed b (body_inside l.file m b untyped.of_method))
+      let none = here.2 in
+      none.untyped (verified.typed b (body_inside l.file m b none.of_method))
 
   file_once : (e : VerifiedError) (no : IsNoVerifiedFile bytes e) → IsNoFileBeside l bytes e no → ⊥
-  file_once e (IsNoVerifiedFile.bad place reason is) beside = (decided bytes).never_both l.file (refusal place reason) spells is
-  file_once e (IsNoVerifiedFile.unverified v starts f read no) beside =
+  file_once e (bad place reason is) beside = (decided bytes).never_both l.file (refusal place reason) spells is
+  file_once e (unverified v starts f read no) beside =
       let file : IsFile v bytes = (read_spelled (v, starts) bytes read.0, read.1) in
       verified_once v starts f ((decided bytes).one_value v l.file file spells) no beside
 

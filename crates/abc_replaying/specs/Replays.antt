@@ -12,7 +12,7 @@ use Rattle.abc_meaning.specs.Laws.{IsVerified}
 use Rattle.abc_program.specs.Linked.{LinkedFile}
 use Rattle.abc_tables.specs.Files.{IsFile}
 use Rattle.abc_tables.specs.declared.tables.Abc.{Abc}
-use Rattle.abc_verified.specs.Refusing.{IsRefused as IsNoVerifiedFile, IsUnverified}
+use Rattle.abc_verified.specs.Refusing.{IsRefused as IsNoVerifiedFile, IsUnverified, bad, unlinked, untyped, unverified}
 use Rattle.abc_verified.specs.declared.error.VerifiedError.{VerifiedError}
 use Rattle.abc_verified.specs.declared.error.VerifiedError.TheVariants as files
 use Rattle.abc_replaying.specs.declared.error.ReplayError.{ReplayError}
@@ -85,12 +85,12 @@ IsRefusedBy formulas input e = IsRefused formulas input e
 -- Linking leaves the numbering of layouts open: a file has a linked one for each. The linked file that a refusal speaks of, if it
 -- speaks of one, is this.
 abbrev pub IsUnverifiedBeside : (l : LinkedFile) (v : Abc) (starts : List (List ℕ)) (e : VerifiedError) → IsUnverified v starts e → Type 0
-IsUnverifiedBeside l v starts e (IsUnverified.unlinked rule i first) = Unit {0}
-IsUnverifiedBeside l v starts e (IsUnverified.untyped k m b i rule same linked first) = k ≡ l
+IsUnverifiedBeside l v starts e (unlinked rule i first) = Unit {0}
+IsUnverifiedBeside l v starts e (untyped k m b i rule same linked first) = k ≡ l
 
 abbrev pub IsNoFileBeside : (l : LinkedFile) (bytes : List ℕ) (e : VerifiedError) → IsNoVerifiedFile bytes e → Type 0
-IsNoFileBeside l bytes e (IsNoVerifiedFile.bad place reason is) = Unit {0}
-IsNoFileBeside l bytes e (IsNoVerifiedFile.unverified v starts f read no) = IsUnverifiedBeside l v starts f no
+IsNoFileBeside l bytes e (bad place reason is) = Unit {0}
+IsNoFileBeside l bytes e (unverified v starts f read no) = IsUnverifiedBeside l v starts f no
 
 abbrev pub IsBeside : (l : LinkedFile) (formulas : List Formula) (input : List ℕ) (e : ReplayError) → IsRefused formulas input e → Type 0
 IsBeside l formulas input e (IsRefused.head place wrong) = Unit {0}
