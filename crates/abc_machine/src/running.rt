@@ -10,7 +10,7 @@ ghost use Rattle.abc_machine.specs.declared.ends.End.TheVariants.{WriteFault as 
 ghost use Rattle.abc_machine.specs.declared.replies.Reply.TheVariants.{WriteFault};
 ghost use Rattle.abc_meaning.specs.Meaning.{ran, runs_for};
 ghost use Rattle.abc_openings.specs.Begun.{setting};
-ghost use Rattle.abc_reached.specs.Steps.{IsReached, StepsAs};
+ghost use Rattle.abc_reached.specs.Steps.{IsReached};
 ghost use Rattle.abc_states.specs.Outer.{Outer};
 
 use crate::ends::End;
