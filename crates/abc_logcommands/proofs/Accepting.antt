@@ -9,7 +9,7 @@ use Rattle.abc_logcommands.proofs.Logging.{short_file}
 use Rattle.abc_answers.specs.Answers.{Answer, On, given, told}
 use Rattle.abc_answers.specs.End.{Channel, Ends, GivesLine, Got, HasFailed, IsEnd, IsRead, RunsTo, UsesUp}
 use Rattle.abc_answers.specs.Lines.{no_memory_text, read_fault_text, write_fault_text}
-use Rattle.abc_logcommands.specs.Logged.{GotLog, GotLogOf}
+use Rattle.abc_logcommands.specs.Logged.{GotLog, GotLogOf, IsAnsweredBeside}
 use Rattle.abc_logcommands.specs.Logs.{IsLogged, Replay, replayed_line, unreplayed_answer, unreplayed_text, whole_log}
 use Rattle.abc_endings.specs.Meant.{IsEnded}
 use Rattle.abc_answers.specs.Stops.{Gives, IsGiven, Stops}
@@ -22,6 +22,7 @@ use Rattle.abc_meaning.specs.Throwing as meant
 use Rattle.abc_meaning.specs.WorldSetting.{Setting}
 use Rattle.abc_program.specs.Linked.{LinkedFile}
 use Rattle.abc_program.specs.Slots.{HasFewSlots}
+use Rattle.abc_replaying.specs.Laws.{HasOneNumber, IsNeverBoth}
 use Rattle.abc_replaying.specs.Replays.{IsRefused, IsRefusedBy, IsReplayed}
 use Rattle.abc_replaying.specs.declared.error.ReplayError.{ReplayError}
 use Rattle.abc_replaying.specs.declared.error.ReplayError.TheVariants as errors
@@ -83,16 +84,9 @@ got_log_of l fs fuel limits starts out err s v few host end read =
 
 -- ---- and what `replay` says of it
 
--- an input has one number of steps, or is refused, and never both
-abbrev pub HasOneNumber : Type 0
-HasOneNumber = (fs : List Formula) (input : List ℕ) (n k : ℕ) → IsReplayed fs input n → IsReplayed fs input k → n ≡ k
-
-abbrev pub IsNeverBoth : Type 0
-IsNeverBoth = (fs : List Formula) (input : List ℕ) (n : ℕ) (e : ReplayError) → IsReplayed fs input n → IsRefused fs input e → ⊥
-
-accepted_only : HasOneNumber → IsNeverBoth → (fs : List Formula) (input : List ℕ) (n : ℕ) → IsReplayed fs input n → (a : Answer) → Replay fs input a → a ≡ given (replayed_line n)
-accepted_only one never fs input n is a (Replay.replayed k same x) = x ∙ ap (λ (j : ℕ). given (replayed_line j)) (one fs input k n same is)
-accepted_only one never fs input n is a (Replay.refused e refused x) = absurd (never fs input n e is refused)
+accepted_only : HasOneNumber → IsNeverBoth → (fs : List Formula) (input : List ℕ) (n : ℕ) → (r : IsReplayed fs input n) → (a : Answer) → (x : Replay fs input a) → IsAnsweredBeside r.linked fs input a x → a ≡ given (replayed_line n)
+accepted_only one never fs input n r a (Replay.replayed k same x) beside = x ∙ ap (λ (j : ℕ). given (replayed_line j)) (one fs input k n same r)
+accepted_only one never fs input n r a (Replay.refused e refused x) beside = absurd (never fs input n e r refused beside)
 
 pub log_accepted : HasOneNumber → IsNeverBoth → (fs : List Formula) (fuel : ℕ) (limits : Limits) (out : Channel) → AreLimits fuel limits → GotLogOf fs fuel limits out → GotLog fs out
 log_accepted one never fs fuel limits out within g =
