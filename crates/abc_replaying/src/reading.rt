@@ -8,8 +8,7 @@ ghost use Rattle.abc_verified.specs.Refusing.{IsRefusedBy};
 ghost use Rattle.abc_verified.specs.declared.error.VerifiedError.{VerifiedError};
 
 use crate::error::{ReplayError, ReplayReason};
-use abc_base::{Source, SteadySource};
-use abc_file::reading_gives_the_file;
+use abc_base::{NoMemory, Source, SteadySource};
 use abc_loghead::{LimitsError, LimitsLine, read_head, read_limits};
 use abc_logparts::{LogFault, read_part};
 use abc_verified::{Verified, VerifiedError, read_verified};
@@ -26,19 +25,31 @@ pub struct Preface {
     pub place: u64,
 }
 
+/// The file that a source in memory gives, linked and verified, or why there is none.
+fn verified_from(alloc: Global, source: &mut SteadySource) -> Result<Verified, VerifiedError>
+    ensures ok { IfOk result (IsVerifiedIn source.old.left) }
+    ensures refused { IfErr result (IsRefusedBy source.old.left) }
+    ensures read { result ≡ Err VerifiedError.ReadFault → ⊥ }
+{
+    match read_verified(alloc, source) {
+        Ok((verified, _places)) => {
+            verified.linked().slots_law();
+            Ok(verified)
+        }
+        Err(e) => Err(e),
+    }
+}
+
 /// The file that bytes spell, linked and verified, or why there is none.
 fn verified_in(alloc: Global, bytes: &[u8]) -> Result<Verified, VerifiedError>
     ensures ok { IfOk result (IsVerifiedIn bytes.now) }
     ensures refused { IfErr result (IsRefusedBy bytes.now) }
     ensures read { result ≡ Err VerifiedError.ReadFault → ⊥ }
 {
-    let Ok(mut source) = SteadySource::new(alloc, bytes, PIECE) else {
-        return Err(VerifiedError::NoMemory);
-    };
-    let (verified, _places) = read_verified(alloc, &mut source)?;
-    reading_gives_the_file();
-    verified.linked().slots_law();
-    Ok(verified)
+    match SteadySource::new(alloc, bytes, PIECE) {
+        Ok(mut source) => verified_from(alloc, &mut source),
+        Err(NoMemory) => Err(VerifiedError::NoMemory),
+    }
 }
 
 /// The line of limits, which begins at this place.
