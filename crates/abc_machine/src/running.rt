@@ -19,9 +19,9 @@ use abc_base::{Host, Sink};
 use abc_cells::Value;
 use abc_ends::Ended;
 use abc_link::Linked;
+use abc_logging::step;
 use abc_reached::Halt;
 use abc_states::State;
-use abc_stepping::step;
 
 /// A value as the caller sees it.
 fn plain(value: Value) -> PlainValue
