@@ -1,5 +1,5 @@
 -- How many steps a log has, told by its bytes.
-use Rattle.std.proofs.Common.{◌≡◌, ◌≢◌, ℕ, zero, suc, ◌<◌, ◌≤◌, ◌/◌, ◌%◌, Bool, true, false, List, [], ◌∷◌, ◌++◌, Some, None, refl, sym, ap, ◌∙◌, arith, append_assoc}
+use Rattle.std.proofs.Common.{◌≡◌, ◌≢◌, ℕ, zero, suc, ◌<◌, ◌≤◌, ◌/◌, ◌%◌, Bool, true, false, List, [], ◌∷◌, ◌++◌, Some, None, refl, sym, ap, subst, ◌∙◌, arith, append_assoc}
 use Rattle.std.specs.Prelude.{decimal, if◌then◌else◌, nat_eq, nat_lt}
 use Rattle.std.specs.Fmt.{digit_glyph, digits, digits_onto}
 use Rattle.std.specs.List.{flat_map}
@@ -83,11 +83,15 @@ digits_more (suc k) n ds some =
     let next = one_more n ds some.all in
     either (nat_eq (n / 10) 0) (digit_glyph false (n % 10) ∷ ds) (digits_onto k 10 false (n / 10) (digit_glyph false (n % 10) ∷ ds)) next (digits_more k (n / 10) (digit_glyph false (n % 10) ∷ ds) next)
 
-decimal_digits : (n : ℕ) → AreSome (decimal n)
-unfolding digits AreDigits
-decimal_digits n =
+digits_some : (k n : ℕ) → AreSome (digits_onto (suc k) 10 false n [])
+unfolding AreDigits
+digits_some k n =
     let next = one_more n [] tt in
-    either (nat_eq (n / 10) 0) (digit_glyph false (n % 10) ∷ []) (digits_onto 63 10 false (n / 10) (digit_glyph false (n % 10) ∷ [])) next (digits_more 63 (n / 10) (digit_glyph false (n % 10) ∷ []) next)
+    either (nat_eq (n / 10) 0) (digit_glyph false (n % 10) ∷ []) (digits_onto k 10 false (n / 10) (digit_glyph false (n % 10) ∷ [])) next (digits_more k (n / 10) (digit_glyph false (n % 10) ∷ []) next)
+
+decimal_digits : (n : ℕ) → AreSome (decimal n)
+unfolding digits
+decimal_digits n = digits_some 63 n
 
 decimal_high : (n : ℕ) → AreHigh (decimal n)
 decimal_high n = digits_high (decimal n) (decimal_digits n).all
