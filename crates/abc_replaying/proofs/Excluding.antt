@@ -208,7 +208,7 @@ few_rules rules.TraitNotRun = omega arith
 few_rules rules.TooLarge = omega arith
 
 module _ (formulas : List Formula) (l : LinkedFile) (bytes : List ℕ) (spells : IsFile l.file bytes) (verified : IsVerified (setting_of l formulas)) where
-  verified_once : (v : Abc) (starts : List (List ℕ)) (e : VerifiedError) → v ≡ l.file → (no : IsUnverified v starts e) → IsUnverifiedBeside l v starts e no → ⊥
+  verified_once : (v : Abc) (starts : List (List ℕ)) (e : VerifiedError) → v ≡ l.file → (why : IsUnverified v starts e) → IsUnverifiedBeside l v starts e why → ⊥
   verified_once v starts e same (unlinked rule i first) beside =
       let broken : IsFirstBroken l.file rule i = subst (λ (w : Abc). IsFirstBroken w rule i) same first in
       verified.linked.rules rule (few_rules rule) i broken.item broken.breaks
@@ -217,11 +217,11 @@ module _ (formulas : List Formula) (l : LinkedFile) (bytes : List ℕ) (spells :
       let none = here.2 in
       none.untyped (verified.typed b (body_inside l.file m b none.of_method))
 
-  file_once : (e : VerifiedError) (no : IsNoVerifiedFile bytes e) → IsNoFileBeside l bytes e no → ⊥
+  file_once : (e : VerifiedError) (why : IsNoVerifiedFile bytes e) → IsNoFileBeside l bytes e why → ⊥
   file_once e (bad place reason is) beside = (decided bytes).never_both l.file (refusal place reason) spells is
-  file_once e (unverified v starts f read no) beside =
+  file_once e (unverified v starts f read why) beside =
       let file : IsFile v bytes = (read_spelled (v, starts) bytes read.0, read.1) in
-      verified_once v starts f ((decided bytes).one_value v l.file file spells) no beside
+      verified_once v starts f ((decided bytes).one_value v l.file file spells) why beside
 
 same_byte : (i : ℕ) (xs : List ℕ) → parts_from i xs xs ≡ None
 same_byte i [] = refl
@@ -241,9 +241,9 @@ log_same formulas l k fuel fuel2 m m2 found beside within within2 e =
 
 no_refusal : (formulas : List Formula) (l : LinkedFile) (fuel : ℕ) (m : Limits) (input : List ℕ) (e : ReplayError) → IsLogOf formulas l fuel m input → (x : IsRefused formulas input e) → IsBeside l formulas input e x → ⊥
 no_refusal formulas l fuel m input e is (IsRefused.head place wrong) beside = right_head (length is.file) place input (is.file ++ rest_of formulas l fuel m) (grouped formulas l fuel m input is) wrong
-no_refusal formulas l fuel m input e is (IsRefused.file bytes rest f parts no) beside =
+no_refusal formulas l fuel m input e is (IsRefused.file bytes rest f parts why) beside =
     let same : is.file ≡ bytes = sym (log_parts formulas l fuel m input bytes rest is parts).0 in
-    file_once formulas l bytes (subst (IsFile l.file) same is.spells) is.verified f no beside
+    file_once formulas l bytes (subst (IsFile l.file) same is.spells) is.verified f why beside
 no_refusal formulas l fuel m input e is (IsRefused.limits bytes rest k parts spells none) beside =
     none fuel m (log (setting_of l formulas) m fuel) is.limits (log_parts formulas l fuel m input bytes rest is parts).1
 no_refusal formulas l fuel m input e is (IsRefused.differs bytes rest found k fuel2 m2 n parts spells within there parted) beside =

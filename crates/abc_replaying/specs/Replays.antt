@@ -90,10 +90,10 @@ IsUnverifiedBeside l v starts e (untyped k m b i rule same linked first) = k ≡
 
 abbrev pub IsNoFileBeside : (l : LinkedFile) (bytes : List ℕ) (e : VerifiedError) → IsNoVerifiedFile bytes e → Type 0
 IsNoFileBeside l bytes e (bad place reason is) = Unit {0}
-IsNoFileBeside l bytes e (unverified v starts f read no) = IsUnverifiedBeside l v starts f no
+IsNoFileBeside l bytes e (unverified v starts f read why) = IsUnverifiedBeside l v starts f why
 
 abbrev pub IsBeside : (l : LinkedFile) (formulas : List Formula) (input : List ℕ) (e : ReplayError) → IsRefused formulas input e → Type 0
 IsBeside l formulas input e (IsRefused.head place wrong) = Unit {0}
-IsBeside l formulas input e (IsRefused.file bytes rest f parts no) = IsNoFileBeside l bytes f no
+IsBeside l formulas input e (IsRefused.file bytes rest f parts why) = IsNoFileBeside l bytes f why
 IsBeside l formulas input e (IsRefused.limits bytes rest k parts spells none) = Unit {0}
 IsBeside l formulas input e (IsRefused.differs bytes rest found k fuel m n parts spells within is parted) = k ≡ l
