@@ -1,5 +1,5 @@
 -- A machine, as its users see it.
-use Rattle.std.specs.Prelude.{◌≡◌, ℕ, ◌<◌, ◌^◌, List, [], Bool, false, None, Some}
+use Rattle.std.specs.Prelude.{◌≡◌, ℕ, ◌<◌, ◌^◌, List, [], Bool, false, length, replicate, None, Some}
 use Rattle.std.specs.declared.option.Option.{Option}
 use Rattle.abc_base.specs.declared.formula.Formula.{Formula}
 use Rattle.abc_ends.specs.Ending.{IsSized}
@@ -26,6 +26,11 @@ pub record Opened : Type 0 where
   pub closed : Bool
   pub world : World
   pub steps : ℕ
+
+-- what a machine begins with: the state of its run, and that no script is started
+pub record IsFirst (l : LinkedFile) (formulas : List Formula) (limits : Limits) (s : State) (seen : List Bool) : Type 0 where
+  pub begun : IsBegun (setting l formulas) limits s
+  pub none : seen ≡ replicate (length l.file.scripts) false
 
 -- a machine that was opened: no limit is too small, and nothing was run
 pub record IsOpened (l : LinkedFile) (formulas : List Formula) (limits : Limits) (m : Opened) : Type 0 where

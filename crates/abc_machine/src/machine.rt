@@ -7,7 +7,7 @@ ghost use Rattle.abc_logmeaning.specs.Logs.{log as log_of, steps as steps_of};
 ghost use Rattle.abc_machine.specs.Ended.{HasRun, RunsAs};
 ghost use Rattle.abc_machine.specs.Invoked.{Answers, call_of};
 ghost use Rattle.abc_machine.specs.Logged.{LogsRun};
-ghost use Rattle.abc_machine.specs.Machines.{IsOpened, IsReady, world_run};
+ghost use Rattle.abc_machine.specs.Machines.{IsFirst, IsOpened, IsReady, world_run};
 ghost use Rattle.abc_machine.specs.Replied.{HasReplied};
 ghost use Rattle.abc_machine.specs.declared.ends.End.{End};
 ghost use Rattle.abc_machine.specs.declared.replies.PlainValue.TheVariants.{Text};
@@ -55,6 +55,30 @@ impl Model for Machine {
     ghost invariant = { λ m. Keeps m.verified m.state m.seen m.ended m.closed };
 }
 
+/// What a machine begins with: the state of its run, and which scripts a log counts as started.
+#[derive(Drop)]
+struct First {
+    state: State,
+    seen: Seen,
+}
+
+/// The state that a run of a file begins with, and no script started.
+fn open_first<H: Host>(
+    alloc: Global,
+    linked: &Linked,
+    limits: &Limits,
+    host: &H,
+) -> Result<First, OpenError>
+    ensures { MatchResult result (λ first. IsFirst linked.now (H.formulas host.now) limits.now first.state first.seen) (IsRefused (setting linked.now (H.formulas host.now)) limits.now) }
+{
+    let seen = Seen::new(alloc, linked.abc().scripts.len())?;
+    let state = open_state(alloc, linked, limits, host)?;
+    Ok(First { state, seen })
+}
+
+/// Gives back the memory of a verified file. Alone, since to drop what is large takes long to prove where much else is live.
+fn close(_verified: Verified) {}
+
 impl Machine {
     /// A machine for a verified file, within these limits, with the formulas of a host. It answers `TooSmall` exactly where the
     /// objects or, tried next, the cells that every run begins with pass their limit, and `NoMemory` where memory runs out.
@@ -67,16 +91,20 @@ impl Machine {
         ensures { MatchResult result (IsOpened verified (H.formulas host.now) limits.now) (IsRefused (setting verified (H.formulas host.now)) limits.now) }
     {
         let _cells = limits.cells;
-        let seen = Seen::new(alloc, verified.linked().abc().scripts.len())?;
-        let state = open_state(alloc, verified.linked(), limits, host)?;
-        Ok(Machine {
-            verified,
-            state,
-            seen,
-            ended: None,
-            steps: 0,
-            closed: false,
-        })
+        match open_first(alloc, verified.linked(), limits, host) {
+            Ok(first) => Ok(Machine {
+                verified,
+                state: first.state,
+                seen: first.seen,
+                ended: None,
+                steps: 0,
+                closed: false,
+            }),
+            Err(e) => {
+                close(verified);
+                Err(e)
+            }
+        }
     }
 
     /// Runs the file: the init of its last script, at most `fuel` steps. It writes the output of the meaning, with the formulas of
