@@ -1,4 +1,4 @@
-use Rattle.std.proofs.Common.{Err, List, ℕ, ap, arith, subst}
+use Rattle.std.proofs.Common.{Err, List, ℕ, ◌+◌, ap, arith, subst}
 use Rattle.std.proofs.lemmas.Result.{err_from_is_err_and}
 use Rattle.abc_verified.specs.Refusing.{IsRefusedBy}
 use Rattle.abc_replaying.specs.Prefaces.{IsVerifiedIn}
@@ -21,9 +21,9 @@ pub returns-clause-preface : goal.returns-clause-preface
 returns-clause-preface g c =
     let l = c.in_ok-verified.verified in
     let line = c.read_line-line.ensures in
-    preface_found (g.S.Source.left c.args.source.now) (g.S.Source.left c.read_file.new.source) (g.S.Source.left c.read_line-line.new.source) c.in_ok-bytes.bytes.items l _ c.with_line.result c.in_ok-bytes.ensures.file (subst (λ (b : List ℕ). IsVerifiedIn b l) c.deref.ensures.value c.in_ok-verified.ensures.ok) (omega (arith, c.len.ensures)) c.read_line-line.result line.line line.limits line.long c.with_line.ensures.ok c.with_line.ensures.err
+    preface_found (g.S.Source.left c.args.source.now) (g.S.Source.left c.read_file.new.source) (g.S.Source.left c.read_line-line.new.source) c.in_ok-bytes.bytes.items l (9 + c.len.result) c.with_line.result c.in_ok-bytes.ensures.file (subst (λ (b : List ℕ). IsVerifiedIn b l) c.deref.ensures.value c.in_ok-verified.ensures.ok) (omega (arith, c.len.ensures)) c.read_line-line.result line.line line.limits line.long c.with_line.ensures.ok c.with_line.ensures.err
 
 pub returns-clause-refused : goal.returns-clause-refused
 returns-clause-refused g c =
     let l = c.in_ok-verified.verified in
-    preface_refused (g.S.Source.left c.args.source.now) (g.S.Source.left c.read_file.new.source) (g.S.Source.left c.read_line-line.new.source) c.in_ok-bytes.bytes.items l _ c.with_line.result c.in_ok-bytes.ensures.file (subst (λ (b : List ℕ). IsVerifiedIn b l) c.deref.ensures.value c.in_ok-verified.ensures.ok) (omega (arith, c.len.ensures)) c.read_line-line.result c.read_line-line.ensures.refused c.with_line.ensures.ok c.with_line.ensures.err
+    preface_refused (g.S.Source.left c.args.source.now) (g.S.Source.left c.read_file.new.source) (g.S.Source.left c.read_line-line.new.source) c.in_ok-bytes.bytes.items l (9 + c.len.result) c.with_line.result c.in_ok-bytes.ensures.file (subst (λ (b : List ℕ). IsVerifiedIn b l) c.deref.ensures.value c.in_ok-verified.ensures.ok) (omega (arith, c.len.ensures)) c.read_line-line.result c.read_line-line.ensures.refused c.with_line.ensures.ok c.with_line.ensures.err
