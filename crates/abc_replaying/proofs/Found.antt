@@ -12,12 +12,14 @@ use Rattle.abc_program.specs.Linked.{LinkedFile}
 use Rattle.abc_program.specs.Slots.{HasFewSlots}
 use Rattle.abc_tables.proofs.Whole.{read_spelled}
 use Rattle.abc_verified.specs.Verified.{IsReadVerified}
+use Rattle.abc_verified.specs.declared.error.VerifiedError.{VerifiedError}
+use Rattle.abc_verified.specs.declared.error.VerifiedError.TheVariants as files
 use Rattle.abc_replaying.specs.Prefaces.{HasFile, HasPreface, IsNoLine, IsVerifiedIn, RefusesAny}
-use Rattle.abc_replaying.specs.Replays.{file_place}
+use Rattle.abc_replaying.specs.Replays.{error_of, file_place}
 use Rattle.abc_replaying.specs.declared.error.ReplayError.{ReplayError}
 use Rattle.abc_replaying.specs.declared.error.ReplayError.TheVariants as errors
 use Rattle.abc_replaying.specs.declared.reading.Preface.{Preface}
-use Rattle.abc_replaying.proofs.Parts.{no_limits}
+use Rattle.abc_replaying.proofs.Parts.{no_limits, read_error}
 
 -- ---- the file
 
@@ -49,7 +51,9 @@ module _ (old mid new : Option (List ℕ)) (bytes : List ℕ) (l : LinkedFile) (
   preface_refused (Ok x) why is none = subst (λ (q : Result Preface ReplayError). IfErr q (RefusesAny old)) (sym is) tt
   preface_refused (Err e) why is none = subst (λ (q : Result Preface ReplayError). IfErr q (RefusesAny old)) (sym none) (no_limits old mid bytes l place e f v at why)
 
-pub line_faulty : (line : Result LimitsLine ReplayError) (r : Result Preface ReplayError) (l : LinkedFile) (place before between now : ℕ) → before ≤ between → (line ≡ Err errors.ReadFault → Rose between now)
-    → IfOk line (λ x. r ≡ Ok (record { verified = l; line = x; place = place + x.length })) → IfErr line (λ e. r ≡ Err e) → r ≡ Err errors.ReadFault → Rose before now
-line_faulty (Ok x) r l place before between now later cause is none fault = let clash = sym is ∙ fault in absurd (cc)
-line_faulty (Err e) r l place before between now later cause is none fault = rose_before before between now later (cause (sym none ∙ fault))
+-- a file that isn't verified is a failed read only where that is told
+pub file_faulty : {T : Type 0} (r : Result T ReplayError) (f : ReplayError) (e : VerifiedError) → r ≡ Err f → f ≡ error_of e → r ≡ Err errors.ReadFault → e ≡ files.ReadFault
+file_faulty {T} r f e is same fault =
+    let clash : Err {T = T} f ≡ Err errors.ReadFault = sym is ∙ fault in
+    let here : f ≡ errors.ReadFault = cc in
+    read_error e (sym same ∙ here)

@@ -58,7 +58,7 @@ zeros_wrong place within = record {
   wrong = tt;
 }
 
-wrong_head : (formulas : List Formula) (o : Option (List ℕ)) (place : ℕ) → place < 9 → IfSome o (GoesWrong 0 place) → OfInput o (IsRefused formulas (errors.Refused place reasons.LogHead))
+wrong_head : (formulas : List Formula) (o : Option (List ℕ)) (place : ℕ) → place < 9 → IfSome o (GoesWrong 0 place) → OfInput o (λ input. IsRefused formulas input (errors.Refused place reasons.LogHead))
 wrong_head formulas None place within w = (zeros place, head place (zeros_wrong place within))
 wrong_head formulas (Some input) place within w = head place w
 
