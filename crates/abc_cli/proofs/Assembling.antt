@@ -21,7 +21,8 @@ use Rattle.abc_answers.specs.End.{Channel, HasFailed}
 use Rattle.abc_answers.specs.Answers.{On, given}
 use Rattle.abc_cli.specs.Outcome.{Asm, text_limit}
 use Rattle.abc_answers.specs.Stops.{Gives, Stops, StopsAt, stop_answer, stop_of_asm, stop_of_input}
-use Rattle.abc_answers.proofs.Ending.{memory_stops, memory_stops_at}
+use Rattle.abc_answers.proofs.Ending.{memory_stops}
+use Rattle.abc_cli.proofs.Files.{memory_stops_at}
 
 -- ---- the input that was held
 
