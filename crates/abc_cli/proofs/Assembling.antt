@@ -15,13 +15,13 @@ use Rattle.abc_rowparts.specs.Rows.{fault}
 use Rattle.abc_tables.specs.declared.tables.Abc.{Abc}
 use Rattle.abc_tables.specs.Files.{file_bytes}
 use Rattle.abc_text.specs.declared.reason.AsmReason.TheVariants as reasons
-use Rattle.abc_cli.specs.declared.stop.Stop.{Stop}
-use Rattle.abc_cli.specs.declared.stop.Stop.TheVariants as stops
-use Rattle.abc_cli.specs.End.{Channel, HasFailed}
-use Rattle.abc_cli.specs.Answers.{given}
-use Rattle.abc_cli.specs.Outcome.{Asm, On, text_limit}
-use Rattle.abc_cli.specs.Stops.{Gives, Stops, StopsAt, stop_answer, stop_of_asm, stop_of_input}
-use Rattle.abc_cli.proofs.Ending.{memory_stops, memory_stops_at}
+use Rattle.abc_answers.specs.declared.stop.Stop.{Stop}
+use Rattle.abc_answers.specs.declared.stop.Stop.TheVariants as stops
+use Rattle.abc_answers.specs.End.{Channel, HasFailed}
+use Rattle.abc_answers.specs.Answers.{On, given}
+use Rattle.abc_cli.specs.Outcome.{Asm, text_limit}
+use Rattle.abc_answers.specs.Stops.{Gives, Stops, StopsAt, stop_answer, stop_of_asm, stop_of_input}
+use Rattle.abc_answers.proofs.Ending.{memory_stops, memory_stops_at}
 
 -- ---- the input that was held
 

@@ -1,11 +1,5 @@
+pub mod Files
 pub mod Checks
-pub mod Ending
 pub mod Listings
 pub mod Usages
-pub mod Running
-pub mod Generating
-pub mod Called
-pub mod Logging
-pub mod Accepting
 pub mod Assembling
-pub mod VerifiedLine

@@ -9,9 +9,9 @@ use Rattle.abc_rowparts.specs.Rows.{Fault}
 use Rattle.abc_tables.specs.declared.tables.Abc.{Abc}
 use Rattle.abc_tables.specs.Files.{IsFile, file_bytes}
 use Rattle.abc_words.specs.declared.command.Command.TheVariants as commands
-use Rattle.abc_cli.specs.Answers.{Answer, OfFile, given}
+use Rattle.abc_answers.specs.Answers.{Answer, OfFile, given}
 use Rattle.abc_cli.specs.Outcome.{CommandOutcome, Dis, OutcomeOf, Asm, text_limit}
-use Rattle.abc_cli.specs.End.{Channel, Got, HasFailed, IsEnd, Ends}
+use Rattle.abc_answers.specs.End.{Channel, Got, HasFailed, IsEnd, Ends}
 use Rattle.abc_cli.specs.Listed.{AreBytes, IsListed, Lists}
 use Rattle.abc_verified.proofs.Verifying.{of_any}
 

@@ -16,27 +16,26 @@ use Rattle.abc_words.specs.declared.command.Usage.{Usage}
 use Rattle.abc_words.specs.declared.command.Usage.TheVariants as usages
 use Rattle.abc_words.specs.Commands.{Setting}
 use Rattle.abc_words.specs.Grammar.{GiveAll, GivesOne, IsDefault, IsUsageWord, Says}
-use Rattle.abc_cli.specs.Answers.{Answer, OfFile, OfFileRead, Unverified}
-use Rattle.abc_cli.specs.Outcome.{Asm, AsksNoInput, Canon, Check, CommandOutcome, Dis, Gen, IsUsage, On, OutcomeOf, Tidy, UsageOutcome, reads_input, usage_answer}
-use Rattle.abc_ticks.specs.Ticks.{calls_meaning}
-use Rattle.abc_cli.specs.Calls.{Calls, IsCalled}
-use Rattle.abc_cli.specs.Logs.{IsLogged, Log, Replay, whole_log}
+use Rattle.abc_answers.specs.Answers.{Answer, OfFile, OfFileRead, On}
+use Rattle.abc_cli.specs.Outcome.{Asm, AsksNoInput, Canon, Check, CommandOutcome, Dis, IsUsage, OutcomeOf, Tidy, UsageOutcome, reads_input, usage_answer}
+use Rattle.abc_runcommands.specs.Runs.{Gen, Run}
+use Rattle.abc_runcommands.specs.Calls.{Calls}
+use Rattle.abc_logcommands.specs.Logs.{Log, Replay}
 use Rattle.abc_loglines.specs.Lines.{AreLimits}
-use Rattle.abc_cli.specs.Runs.{IsEnded, IsMeant, Run, default_options, limits_of}
+use Rattle.abc_logcommands.specs.Meant.{limits_of}
 use Rattle.abc_base.specs.declared.formula.Formula.{Formula}
-use Rattle.abc_gen.specs.Generated.{generated}
-use Rattle.abc_meaning.specs.Meaning.{Meaning, Ran, TooSmall, meaning}
-use Rattle.abc_meaning.specs.WorldSetting.{Setting as World}
-use Rattle.abc_meaning.specs.Throwing.{Done, End, FuelSpent, Full, Profile, Stuck, Uncaught}
 use Rattle.abc_tables.specs.declared.tables.Abc.{Abc}
-use Rattle.abc_tables.specs.Files.{file_bytes}
-use Rattle.abc_cli.specs.End.{Channel, Ends, GivesLine, HasFailed, IsEnd, RunsTo}
-use Rattle.abc_cli.specs.Stops.{Gives, IsGiven, Stops}
-use Rattle.abc_cli.specs.declared.stop.Stop.{Stop}
-use Rattle.abc_cli.proofs.Called.{calls_on_quiet}
-use Rattle.abc_cli.proofs.Ending.{any_input, finished, weaker}
-use Rattle.abc_cli.proofs.Logging.{log_on_quiet}
-use Rattle.abc_cli.proofs.Running.{runs_end, runs_on_quiet}
+use Rattle.abc_answers.specs.End.{Channel, Ends, GivesLine, HasFailed, IsEnd, RunsTo}
+use Rattle.abc_answers.specs.Stops.{Gives, IsGiven, Stops}
+use Rattle.abc_answers.specs.declared.stop.Stop.{Stop}
+use Rattle.abc_runcommands.proofs.Called.{calls_not_usage, calls_on_quiet}
+use Rattle.abc_answers.proofs.Ending.{any_input, finished, weaker}
+use Rattle.abc_logcommands.proofs.Logging.{log_on_quiet, logs_not_usage}
+use Rattle.abc_answers.proofs.Runs.{runs_end}
+use Rattle.abc_runcommands.proofs.Running.{runs_not_usage, runs_on_quiet}
+use Rattle.abc_answers.proofs.Unverified.{unverified_not_usage}
+use Rattle.abc_logcommands.proofs.Accepting.{replay_not_usage}
+use Rattle.abc_runcommands.proofs.Generating.{gen_not_usage}
 
 -- the answers of words outside the grammar are those that reading the words finds
 pub usage_found : (words : List (List ℕ)) (r : Result Command Usage) → ((r ≡ Err usages.NoCommand) ↔ (words ≡ [])) → ((i : ℕ) → (r ≡ Err (usages.Word i)) ↔ IsUsageWord words i)
@@ -100,9 +99,6 @@ file_not_usage : (Answers : Abc → Answer → Type 0) → ((v : Abc) (a : Answe
 file_not_usage Answers not input a (OfFile.accepted v f x) e = not v a x e
 file_not_usage Answers not input a (OfFile.refused r f x) e = let h = ap (λ (y : Answer). y.status) x in cc
 
-unverified_not_usage : (v : Abc) (starts : List (List ℕ)) (a : Answer) → Unverified v starts a → a.status ≡ status.Usage → ⊥
-unverified_not_usage v starts a x e = let k = ap (λ (y : Answer). y.status) x.1.1 in cc
-
 check_not_usage : (v : Abc) (starts : List (List ℕ)) (a : Answer) → Check v starts a → a.status ≡ status.Usage → ⊥
 check_not_usage v starts a (Check.unverified u) e = unverified_not_usage v starts a u e
 check_not_usage v starts a (Check.verified l is x) e = let k = ap (λ (y : Answer). y.status) x in cc
@@ -119,61 +115,6 @@ asm_not_usage : (text : List ℕ) (a : Answer) → Asm text a → a.status ≡ s
 asm_not_usage text a (Asm.assembled v short is x) e = let k = ap (λ (y : Answer). y.status) x in cc
 asm_not_usage text a (Asm.refused f short is x) e = let k = ap (λ (y : Answer). y.status) x in cc
 asm_not_usage text a (Asm.too_long long x) e = let k = ap (λ (y : Answer). y.status) x in cc
-
-ended_not_usage : (v : Abc) (starts : List (List ℕ)) (wrote : List ℕ) (e : End) (a : Answer) → IsEnded v starts wrote e a → a.status ≡ status.Usage → ⊥
-ended_not_usage v starts wrote Done a x e = let k = ap (λ (y : Answer). y.status) x in cc
-ended_not_usage v starts wrote (Uncaught t) a x e = let k = ap (λ (y : Answer). y.status) x in cc
-ended_not_usage v starts wrote (Profile m i fault) a x e = let k = ap (λ (y : Answer). y.status) x in cc
-ended_not_usage v starts wrote FuelSpent a x e = let k = ap (λ (y : Answer). y.status) x in cc
-ended_not_usage v starts wrote (Full limit) a x e = let k = ap (λ (y : Answer). y.status) x in cc
-ended_not_usage v starts wrote Stuck a x e = x
-
-meant_not_usage : (v : Abc) (starts : List (List ℕ)) (m : Meaning) (a : Answer) → IsMeant v starts m a → a.status ≡ status.Usage → ⊥
-meant_not_usage v starts (TooSmall limit) a x e = let k = ap (λ (y : Answer). y.status) x in cc
-meant_not_usage v starts (Ran wrote end) a x e = ended_not_usage v starts wrote end a x e
-
-run_not_usage : (o : RunOptions) (fs : List Formula) (v : Abc) (starts : List (List ℕ)) (a : Answer) → Run o fs v starts a → a.status ≡ status.Usage → ⊥
-run_not_usage o fs v starts a (Run.unverified u) e = unverified_not_usage v starts a u e
-run_not_usage o fs v starts a (Run.ran l is x) e = meant_not_usage v starts (meaning (record { linked = l; formulas = fs }) (limits_of o) o.fuel) a x e
-
-runs_not_usage : (o : RunOptions) (fs : List Formula) (input : List ℕ) (a : Answer) → OfFileRead (Run o fs) input a → a.status ≡ status.Usage → ⊥
-runs_not_usage o fs input a (OfFileRead.accepted v starts f x) e = run_not_usage o fs v starts a x e
-runs_not_usage o fs input a (OfFileRead.refused r f x) e = let h = ap (λ (y : Answer). y.status) x in cc
-
-called_not_usage : (o : CallsOptions) (p : World) (starts : List (List ℕ)) (a : Answer) → IsCalled o p starts a → a.status ≡ status.Usage → ⊥
-called_not_usage o p starts a (IsCalled.unopened limit small is) e = let h = ap (λ (y : Answer). y.status) is in cc
-called_not_usage o p starts a (IsCalled.unexported fits exports is) e = let h = ap (λ (y : Answer). y.status) is in cc
-called_not_usage o p starts a (IsCalled.ran method fits exports is) e = meant_not_usage p.linked.file starts (calls_meaning p (limits_of o.run) o.run.fuel o.times method) a is e
-
-call_not_usage : (o : CallsOptions) (fs : List Formula) (v : Abc) (starts : List (List ℕ)) (a : Answer) → Calls o fs v starts a → a.status ≡ status.Usage → ⊥
-call_not_usage o fs v starts a (Calls.unverified u) e = unverified_not_usage v starts a u e
-call_not_usage o fs v starts a (Calls.verified l is x) e = called_not_usage o (record { linked = l; formulas = fs }) starts a x e
-
-calls_not_usage : (o : CallsOptions) (fs : List Formula) (input : List ℕ) (a : Answer) → OfFileRead (Calls o fs) input a → a.status ≡ status.Usage → ⊥
-calls_not_usage o fs input a (OfFileRead.accepted v starts f x) e = call_not_usage o fs v starts a x e
-calls_not_usage o fs input a (OfFileRead.refused r f x) e = let h = ap (λ (y : Answer). y.status) x in cc
-
-logged_not_usage : (v : Abc) (starts : List (List ℕ)) (wrote : List ℕ) (m : Meaning) (a : Answer) → IsLogged v starts wrote m a → a.status ≡ status.Usage → ⊥
-logged_not_usage v starts wrote (TooSmall limit) a x e = let k = ap (λ (y : Answer). y.status) x in cc
-logged_not_usage v starts wrote (Ran output end) a x e = ended_not_usage v starts wrote end a x e
-
-log_not_usage : (o : RunOptions) (fs : List Formula) (v : Abc) (starts : List (List ℕ)) (a : Answer) → Log o fs v starts a → a.status ≡ status.Usage → ⊥
-log_not_usage o fs v starts a (Log.unverified u) e = unverified_not_usage v starts a u e
-log_not_usage o fs v starts a (Log.logged l is x) e =
-    let p : World = record { linked = l; formulas = fs } in
-    logged_not_usage v starts (whole_log p (limits_of o) o.fuel) (meaning p (limits_of o) o.fuel) a x e
-
-logs_not_usage : (o : RunOptions) (fs : List Formula) (input : List ℕ) (a : Answer) → OfFileRead (Log o fs) input a → a.status ≡ status.Usage → ⊥
-logs_not_usage o fs input a (OfFileRead.accepted v starts f x) e = log_not_usage o fs v starts a x e
-logs_not_usage o fs input a (OfFileRead.refused r f x) e = let h = ap (λ (y : Answer). y.status) x in cc
-
-replay_not_usage : (fs : List Formula) (input : List ℕ) (a : Answer) → Replay fs input a → a.status ≡ status.Usage → ⊥
-replay_not_usage fs input a (Replay.replayed n is x) e = let h = ap (λ (y : Answer). y.status) x in cc
-replay_not_usage fs input a (Replay.refused f is x) e = let h = ap (λ (y : Answer). y.status) x in cc
-
-gen_not_usage : (o : GenOptions) (fs : List Formula) (a : Answer) → Gen o fs a → a.status ≡ status.Usage → ⊥
-gen_not_usage o fs a (Gen.done b x d is) e = let h = ap (λ (y : Answer). y.status) is in cc
-gen_not_usage o fs a (Gen.not_done x d) e = runs_not_usage default_options fs (file_bytes (generated o.seed o.methods)) a x e
 
 outcome_not_usage : (fs : List Formula) (c : Command) (input : List ℕ) (a : Answer) → OutcomeOf fs c input a → a.status ≡ status.Usage → ⊥
 outcome_not_usage fs commands.Canon input a o e = file_not_usage Canon (λ v b x k. let h = ap (λ (y : Answer). y.status) x in cc) input a o e

@@ -1,11 +1,2 @@
-pub mod Lines
-pub mod Answers
-pub mod Runs
-pub mod Calls
-pub mod Logs
 pub mod Outcome
-pub mod End
 pub mod Listed
-pub mod Logged
-pub mod Stops
-pub mod Endings

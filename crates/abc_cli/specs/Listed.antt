@@ -4,8 +4,8 @@ use Rattle.abc_file.specs.Reading.{OfInput}
 use Rattle.abc_lines.specs.Answers.{IsAssemblyOf}
 use Rattle.abc_tables.specs.declared.tables.Abc.{Abc}
 use Rattle.abc_tables.specs.Files.{IsFile, file_bytes}
-use Rattle.abc_cli.specs.End.{Channel, Got}
-use Rattle.abc_cli.specs.Answers.{Answer, given}
+use Rattle.abc_answers.specs.End.{Channel, Got}
+use Rattle.abc_answers.specs.Answers.{Answer, given}
 use Rattle.abc_cli.specs.Outcome.{Asm, text_limit}
 
 abbrev pub AreBytes : List ℕ → Type 0

@@ -1,11 +1,8 @@
 -- What a command line and an input are answered with.
-use Rattle.std.specs.Prelude.{◌≡◌, ◌≢◌, ℕ, Bool, true, false, List, [], ◌++◌, get_or, length, ◌<◌, ◌≤◌, ◌^◌}
+use Rattle.std.specs.Prelude.{◌≡◌, ℕ, Bool, true, false, List, [], get_or, length, ◌<◌, ◌≤◌, ◌^◌}
 use Rattle.std.specs.declared.option.Option.{Option}
 use Rattle.abc_base.specs.declared.formula.Formula.{Formula}
 use Rattle.abc_base.specs.declared.status.Status.TheVariants as status
-use Rattle.abc_file.specs.Reading.{OfInput}
-use Rattle.abc_gen.specs.Generated.{generated}
-use Rattle.abc_gen.specs.Measured.{measured}
 use Rattle.abc_lines.specs.Answers.{IsAssemblyFault, IsAssemblyOf}
 use Rattle.abc_lines.specs.Listing.{listing}
 use Rattle.abc_program.specs.Linked.{LinkedFile}
@@ -19,14 +16,13 @@ use Rattle.abc_verified.specs.Verified.{IsVerifiedOf}
 use Rattle.abc_words.specs.Grammar.{IsUsageWord, Says}
 use Rattle.abc_words.specs.declared.command.Command.{Command}
 use Rattle.abc_words.specs.declared.command.Command.TheVariants as commands
-use Rattle.abc_words.specs.declared.command.GenOptions.{GenOptions}
 use Rattle.abc_words.specs.declared.command.Usage.{Usage}
 use Rattle.abc_words.specs.declared.command.Usage.TheVariants as usages
-use Rattle.abc_cli.specs.Answers.{Answer, OfFile, OfFileRead, Unverified, given, told}
-use Rattle.abc_cli.specs.Lines.{fault_text, no_command_text, tidy_text, usage_text, verified_line}
-use Rattle.abc_cli.specs.Calls.{Calls}
-use Rattle.abc_cli.specs.Logs.{Log, Replay}
-use Rattle.abc_cli.specs.Runs.{Run, default_options}
+use Rattle.abc_answers.specs.Answers.{On, Answer, OfFile, OfFileRead, Unverified, given, told}
+use Rattle.abc_answers.specs.Lines.{fault_text, no_command_text, tidy_text, usage_text, verified_line}
+use Rattle.abc_runcommands.specs.Calls.{Calls}
+use Rattle.abc_logcommands.specs.Logs.{Log, Replay}
+use Rattle.abc_runcommands.specs.Runs.{Gen, Run}
 
 -- ---- commands
 
@@ -58,11 +54,6 @@ pub data Tidy (v : Abc) (a : Answer) : Type 0 where
   tidied : (t : Abc) → IsTidied v t → a ≡ given (file_bytes t) → Tidy v a
   untidy : (rule : TidyRule) (i : ℕ) → IsFirstUntidy v rule i → a ≡ told status.Refused (tidy_text rule i) → Tidy v a
 
--- `gen`: as `run` of the canonical bytes of the generated file with the defaults, and where that is done, the lines on the file
-pub data Gen (options : GenOptions) (formulas : List Formula) (a : Answer) : Type 0 where
-  done : (b : Answer) → OfFileRead (Run default_options formulas) (file_bytes (generated options.seed options.methods)) b → b.status ≡ status.Done → a ≡ given (b.out ++ measured (generated options.seed options.methods)) → Gen options formulas a
-  not_done : OfFileRead (Run default_options formulas) (file_bytes (generated options.seed options.methods)) a → a.status ≢ status.Done → Gen options formulas a
-
 -- a command on an input, with the formulas of a host
 abbrev pub OutcomeOf : List Formula → Command → List ℕ → Answer → Type 0
 OutcomeOf formulas commands.Canon input a = OfFile Canon input a
@@ -75,10 +66,6 @@ OutcomeOf formulas (commands.Gen options) input a = Gen options formulas a
 OutcomeOf formulas (commands.Calls options) input a = OfFileRead (Calls options formulas) input a
 OutcomeOf formulas (commands.Log options) input a = OfFileRead (Log options formulas) input a
 OutcomeOf formulas commands.Replay input a = Replay formulas input a
-
--- an outcome on the input that a source tells, or else on some input
-abbrev pub On : (List ℕ → Answer → Type 0) → Option (List ℕ) → Answer → Type 0
-On Outcome left a = OfInput left (λ input. Outcome input a)
 
 abbrev pub CommandOutcome : List Formula → Command → Option (List ℕ) → Answer → Type 0
 CommandOutcome formulas command = On (OutcomeOf formulas command)

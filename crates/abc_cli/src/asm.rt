@@ -1,10 +1,10 @@
 ghost use Rattle.std.specs.Prelude.{◌≤◌, ◌^◌, IfErr, IfOk, length};
-ghost use Rattle.abc_cli.specs.End.{stream};
-ghost use Rattle.abc_cli.specs.Answers.{given};
+ghost use Rattle.abc_answers.specs.End.{stream};
+ghost use Rattle.abc_answers.specs.Answers.{given};
 ghost use Rattle.abc_cli.specs.Outcome.{Asm};
-ghost use Rattle.abc_cli.specs.Stops.{Gives, Stops, StopsAt};
+ghost use Rattle.abc_answers.specs.Stops.{Gives, Stops, StopsAt};
 
-use crate::stop::Stop;
+use abc_answers::Stop;
 use abc_asm::assemble;
 use abc_base::Source;
 use abc_file::write;

@@ -1,19 +1,18 @@
 ghost use Rattle.std.specs.Prelude.{◌≡◌, IfErr, IfOk, length};
-ghost use Rattle.abc_cli.specs.End.{stream};
-ghost use Rattle.abc_cli.specs.Lines.{verified_line};
-ghost use Rattle.abc_cli.specs.Answers.{OfFileRead};
+ghost use Rattle.abc_answers.specs.End.{stream};
+ghost use Rattle.abc_answers.specs.Lines.{verified_line};
+ghost use Rattle.abc_answers.specs.Answers.{OfFileRead};
 ghost use Rattle.abc_cli.specs.Outcome.{Check};
-ghost use Rattle.abc_cli.specs.Stops.{Gives, Stops};
+ghost use Rattle.abc_answers.specs.Stops.{Gives, Stops};
 
-use crate::numbered::numbered_line;
-use crate::stop::Stop;
+use abc_answers::{Stop, close_file, numbered_line};
 use abc_base::{NoMemory, Source};
 use abc_verified::{Verified, read_verified};
 use itoa::Buffer;
 use std::alloc::Global;
 
 /// The line of a file that is verified.
-#[tactic(auto, unfolding(crate::specs::Lines::verified_line))]
+#[tactic(auto, unfolding(abc_answers::specs::Lines::verified_line))]
 fn line_of(alloc: Global, count: usize) -> Result<Vec<u8>, NoMemory>
     ensures { IfOk result (λ bytes. bytes.items ≡ verified_line count) }
 {
@@ -29,9 +28,6 @@ fn body_count(verified: &Verified) -> usize
     verified.linked().abc().bodies.len()
 }
 
-/// Gives back the memory of a verified file. Alone, since to drop what is large takes long to prove where much else is live.
-pub fn close(_verified: Verified) {}
-
 /// What the command `check` gives: how many bodies are verified.
 pub fn check<S: Source>(alloc: Global, source: &mut S) -> Result<Vec<u8>, Stop>
     ensures gives { IfOk result (λ bytes. Gives (OfFileRead Check) (stream S.left S.faults source.old source.new) bytes.items) }
@@ -39,7 +35,7 @@ pub fn check<S: Source>(alloc: Global, source: &mut S) -> Result<Vec<u8>, Stop>
 {
     let (verified, _) = read_verified(alloc, source)?;
     let count = body_count(&verified);
-    close(verified);
+    close_file(verified);
     let bytes = line_of(alloc, count)?;
     Ok(bytes)
 }

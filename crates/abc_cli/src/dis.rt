@@ -1,11 +1,11 @@
 ghost use Rattle.std.specs.Prelude.{All, IfErr, IfOk};
-ghost use Rattle.abc_cli.specs.End.{stream};
-ghost use Rattle.abc_cli.specs.Answers.{OfFile, given};
+ghost use Rattle.abc_answers.specs.End.{stream};
+ghost use Rattle.abc_answers.specs.Answers.{OfFile, given};
 ghost use Rattle.abc_cli.specs.Outcome.{Dis};
-ghost use Rattle.abc_cli.specs.Stops.{Gives, Stops, StopsAt};
+ghost use Rattle.abc_answers.specs.Stops.{Gives, Stops, StopsAt};
 ghost use Rattle.abc_tables.specs.Bodies.{IsReadyBody};
 
-use crate::stop::Stop;
+use abc_answers::Stop;
 use abc_base::Source;
 use abc_disasm::disassemble;
 use abc_file::read;

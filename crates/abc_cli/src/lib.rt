@@ -2,19 +2,9 @@
 #![tactic(auto)]
 
 mod asm;
-mod calls;
 mod canon;
 mod check;
 mod dis;
-mod endings;
-mod ends;
-mod generate;
-mod lines;
-mod log;
-mod numbered;
-mod replay;
-mod run;
-mod stop;
 mod tidy;
 mod top;
 

@@ -1,10 +1,10 @@
 ghost use Rattle.std.specs.Prelude.{IfErr, IfOk};
-ghost use Rattle.abc_cli.specs.End.{stream};
-ghost use Rattle.abc_cli.specs.Answers.{OfFile, given};
+ghost use Rattle.abc_answers.specs.End.{stream};
+ghost use Rattle.abc_answers.specs.Answers.{OfFile, given};
 ghost use Rattle.abc_cli.specs.Outcome.{Tidy};
-ghost use Rattle.abc_cli.specs.Stops.{Gives, Stops, StopsAt};
+ghost use Rattle.abc_answers.specs.Stops.{Gives, Stops, StopsAt};
 
-use crate::stop::Stop;
+use abc_answers::Stop;
 use abc_base::Source;
 use abc_file::{read, write};
 use abc_tables::Abc;

@@ -1,29 +1,25 @@
-ghost use Rattle.std.specs.Prelude.{◌≡◌, ◌<◌, ◌≤◌, false, true, length};
+ghost use Rattle.std.specs.Prelude.{◌≡◌, ◌<◌, ◌≤◌, false, true};
 ghost use Rattle.abc_words.specs.declared.command.GenOptions.{GenOptions};
 ghost use Rattle.abc_words.specs.declared.command.RunOptions.{RunOptions};
-ghost use Rattle.abc_cli.specs.End.{Ends, GivesLine, IsRead, UsesUp, stream};
-ghost use Rattle.abc_cli.specs.Answers.{Answer};
+ghost use Rattle.abc_answers.specs.End.{Ends, GivesLine, IsRead, UsesUp, stream};
+ghost use Rattle.abc_answers.specs.Answers.{Answer};
 ghost use Rattle.abc_cli.specs.Outcome.{AsksNoInput, CommandOutcome, IsOutcome, IsUsage, UsageOutcome, reads_input, usage_answer};
 ghost use Rattle.abc_cli.specs.Listed.{Lists};
-ghost use Rattle.abc_cli.specs.Logged.{GotLog, GotLogOf};
-ghost use Rattle.abc_cli.specs.Runs.{limits_of};
+ghost use Rattle.abc_logcommands.specs.Logged.{GotLog};
+ghost use Rattle.abc_loglines.specs.Lines.{AreLimits};
+ghost use Rattle.abc_logcommands.specs.Meant.{limits_of};
 ghost use Rattle.abc_words.specs.Grammar.{IsWellFormed, Says};
 
 use crate::asm::asm;
-use crate::calls::calls;
 use crate::canon::canon;
 use crate::check::check;
 use crate::dis::dis;
-use crate::ends::{ended, give, give_no_command};
-use crate::generate::generate;
-use crate::lines::write_usage;
-use crate::log::log;
-use crate::replay::replay;
-use crate::run::run;
 use crate::tidy::tidy;
+use abc_answers::{ended, give, give_no_command, write_usage};
 use abc_base::{Host, Sink, Source, Status, Words};
-use abc_replay::one_replay;
+use abc_logcommands::{log, replay};
 use abc_roundtrip::listing_is_read_back;
+use abc_runcommands::{calls, generate, run};
 use abc_words::{Command, Usage, parse};
 use std::alloc::Global;
 
@@ -40,7 +36,7 @@ fn run_command<S: Source, K: Sink, E: Sink, H: Host>(
     ensures end { Ends (CommandOutcome (H.formulas host.now) command.now) (stream S.left S.faults source.old source.new) (stream K.written K.faults out.old out.new) (stream E.written E.faults err.old err.new) result }
     ensures used_up { reads_input command.now ≡ true → UsesUp (stream S.left S.faults source.old source.new) result }
     ensures unread { reads_input command.now ≡ false → source.new ≡ source.old }
-    ensures logged { (options : RunOptions) → command.now ≡ Command.Log options → IsRead result → GotLogOf (H.formulas host.now) options.fuel (limits_of options) (stream K.written K.faults out.old out.new) }
+    ensures logged { (options : RunOptions) → command.now ≡ Command.Log options → AreLimits options.fuel (limits_of options) → IsRead result → GotLog (H.formulas host.now) (stream K.written K.faults out.old out.new) }
 {
     match command {
         Command::Canon => give(canon(alloc, source), out, err),
@@ -52,12 +48,12 @@ fn run_command<S: Source, K: Sink, E: Sink, H: Host>(
         Command::Gen(options) => generate(alloc, options, out, err, host),
         Command::Calls(options) => calls(alloc, options, source, out, err, host),
         Command::Log(options) => log(alloc, options, source, out, err, host),
-        Command::Replay => give(replay(alloc, source, host), out, err),
+        Command::Replay => replay(alloc, source, out, err, host),
     }
 }
 
 /// Writes the line of words outside the grammar.
-#[tactic(auto, using(crate::proofs::Ending::gives))]
+#[tactic(auto, using(abc_answers::proofs::Ending::gives))]
 fn give_usage<E: Sink>(words: &Words, usage: Usage, err: &mut E) -> Status
     requires { IsUsage words.now usage }
     ensures { GivesLine (stream E.written E.faults err.old err.new) (usage_answer words.now usage) result }
@@ -99,7 +95,6 @@ pub fn abc_main<S: Source, K: Sink, E: Sink, H: Host>(
     ensures memory { result ≡ Status.NoMemory → IsWellFormed words.now }
 {
     listing_is_read_back();
-    one_replay();
     match parse(words) {
         Ok(command) => run_command(alloc, &command, source, out, err, host),
         Err(usage) => give_usage(words, usage, err),

@@ -5,7 +5,7 @@ use Rattle.std.specs.Io.KnownBytes.{append_known}
 use Rattle.std.specs.declared.option.Option.{Option}
 use Rattle.std.specs.declared.result.Result.{Result}
 use Rattle.abc_base.proofs.Writing.{front_second}
-use Rattle.abc_base.specs.Faults.{HasCause, Rose}
+use Rattle.abc_base.specs.Faults.{Rose}
 use Rattle.abc_base.specs.Sinks.{GrowsByFront, WritesAll}
 use Rattle.abc_base.specs.declared.formula.Formula.{Formula}
 use Rattle.abc_base.specs.declared.source.Failed.{Failed}

@@ -1,5 +1,5 @@
 -- A machine that is ready can be called, and what a call leaves can be called again.
-use Rattle.std.proofs.Common.{◌≡◌, ◌≢◌, ℕ, ℤ, List, [], ◌∷◌, Bool, true, false, take, zero, suc, refl, sym, ap, ◌∙◌, subst}
+use Rattle.std.proofs.Common.{◌≡◌, ◌≢◌, ℕ, List, [], ◌∷◌, Bool, true, false, take, zero, suc, refl, sym, ap, ◌∙◌, subst}
 use Rattle.std.specs.Prelude.{None, Some}
 use Rattle.std.specs.declared.option.Option.{Option}
 use Rattle.abc_base.specs.Hosts.{AreFormulas, arguments}
@@ -37,12 +37,11 @@ use Rattle.abc_objects.specs.Values.{Exists}
 use Rattle.abc_openings.specs.Begun.{setting}
 use Rattle.abc_program.specs.Linked.{IsLinkedFile, LinkedFile}
 use Rattle.abc_program.specs.Slots.{HasFewSlots}
-use Rattle.abc_states.specs.Outer.{Outer}
 use Rattle.abc_states.specs.World.{World}
 use Rattle.abc_states.specs.declared.state.State.{State}
 use Rattle.abc_typing.specs.Lists.{Each}
 use Rattle.abc_verify.proofs.Methods.{all_typed}
-use Rattle.abc_verify.specs.Typed.{AllTyped, IsVerified as IsChecked}
+use Rattle.abc_verify.specs.Typed.{IsVerified as IsChecked}
 
 -- ---- the numbers of a call
 

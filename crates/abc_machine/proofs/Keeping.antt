@@ -1,5 +1,5 @@
 -- What is left of a run or a call, once its frames are dropped.
-use Rattle.std.proofs.Common.{◌≡◌, List, [], length, map, Bool, refl, sym, ap, ◌∙◌, subst}
+use Rattle.std.proofs.Common.{◌≡◌, List, [], length, Bool, refl, sym, ap, ◌∙◌, subst}
 use Rattle.std.proofs.lemmas.List.{length-map}
 use Rattle.abc_base.specs.declared.formula.Formula.{Formula}
 use Rattle.abc_callmeaning.proofs.Hosts.{names_matter}

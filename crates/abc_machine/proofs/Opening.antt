@@ -1,8 +1,8 @@
 -- A machine that is opened is in the first state of the meaning, for all formulas of the same names, and its run begins there; then
 -- it can be called, where it is done.
-use Rattle.std.proofs.Common.{◌≡◌, ◌≢◌, ℕ, ◌+◌, ◌-◌, ◌<◌, ◌≤◌, ◌^◌, List, [], ◌++◌, length, map, replicate, Bool, false, refl, sym, ap, ◌∙◌, subst, arith}
+use Rattle.std.proofs.Common.{◌≡◌, ◌≢◌, ℕ, ◌+◌, ◌-◌, ◌<◌, ◌^◌, List, [], length, replicate, Bool, false, refl, sym, ap, ◌∙◌, subst, arith}
 use Rattle.std.proofs.lemmas.List.{append-nil}
-use Rattle.std.specs.Prelude.{IsSome, None, Some}
+use Rattle.std.specs.Prelude.{None, Some}
 use Rattle.std.specs.Io.KnownBytes.{append_known}
 use Rattle.std.specs.declared.option.Option.{Option}
 use Rattle.abc_base.specs.Hosts.{AreFormulas}
@@ -17,7 +17,7 @@ use Rattle.abc_logmeaning.specs.Logs.{log, log_if, logs_for, steps, steps_for, s
 use Rattle.abc_machine.specs.Ended.{RunsAs}
 use Rattle.abc_machine.specs.Logged.{LogsRun}
 use Rattle.abc_machine.specs.Machines.{CanBegin, CanGoOn, IsOpened, Keeps, Opened, kept_world, world_run}
-use Rattle.abc_machine.specs.Runs.{Begun, IsAt, Leaves, outer, reached}
+use Rattle.abc_machine.specs.Runs.{IsAt, Leaves, outer, reached}
 use Rattle.abc_machine.specs.declared.ends.End.{End}
 use Rattle.abc_machine.specs.declared.ends.End.TheVariants as ends
 use Rattle.abc_machine.proofs.Keeping.{Drops, can_go_on, kept_is}

@@ -1,11 +1,9 @@
 -- From step to step.
-use Rattle.std.proofs.Common.{◌≡◌, ◌≢◌, ℕ, zero, suc, ◌+◌, ◌-◌, ◌<◌, ◌≤◌, List, [], ◌∷◌, ◌++◌, length, take, min, refl, sym, ap, ◌∙◌, subst, arith, append_assoc}
-use Rattle.std.proofs.lemmas.List.{append-nil}
-use Rattle.std.specs.Prelude.{IsSome, None, Ok, Err, Some, is_some, option_map}
+use Rattle.std.proofs.Common.{◌≡◌, ◌≢◌, ℕ, zero, suc, ◌+◌, ◌-◌, ◌≤◌, List, [], ◌∷◌, ◌++◌, length, take, min, refl, sym, ap, ◌∙◌, subst, arith, append_assoc}
+use Rattle.std.specs.Prelude.{IsSome, None, Some}
 use Rattle.std.specs.Io.KnownBytes.{append_known}
 use Rattle.std.specs.declared.option.Option.{Option}
 use Rattle.abc_base.specs.Sinks.{GrowsByFront}
-use Rattle.abc_base.specs.declared.formula.Formula.{Formula}
 use Rattle.abc_callmeaning.proofs.Appended.{calls_append}
 use Rattle.abc_callmeaning.specs.Calls.{EndsAs as RepliesEnd, Replied, replies, replies_for, returned, then_replies}
 use Rattle.abc_cells.specs.declared.values.Value.{Value}
@@ -16,12 +14,12 @@ use Rattle.abc_machine.specs.Spent.{EndsWith, GoesTo, Rests, reply_by}
 use Rattle.abc_machine.specs.declared.replies.Reply.{Reply}
 use Rattle.abc_machine.specs.declared.replies.Reply.TheVariants.{FuelSpent as Spent, WriteFault}
 use Rattle.abc_meaning.specs.Step.{step}
-use Rattle.abc_meaning.specs.Throwing.{Done, End, Ends, FuelSpent, Full, Machine, Profile, Stepped, Steps, Stuck, Uncaught, goes_on}
+use Rattle.abc_meaning.specs.Throwing.{Done, End, Ends, FuelSpent, Full, Machine, Profile, Stepped, Steps, Stuck, Uncaught}
 use Rattle.abc_outward.specs.Outward.{adding}
 use Rattle.abc_program.specs.Linked.{LinkedFile}
-use Rattle.abc_states.specs.Outer.{Outer, setting, world}
+use Rattle.abc_states.specs.Outer.{Outer, world}
 use Rattle.abc_states.specs.declared.state.State.{State}
-use Rattle.abc_reached.specs.Steps.{EndsAs, FailsAs, GoesOnAs, IsReached, machine, step_here}
+use Rattle.abc_reached.specs.Steps.{FailsAs, IsReached, machine, step_here}
 use Rattle.abc_states.specs.WorldSetting.{Setting}
 use Rattle.abc_states.specs.World.{World}
 

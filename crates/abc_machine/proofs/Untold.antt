@@ -12,7 +12,7 @@ use Rattle.abc_machine.specs.Spent.{end_for}
 use Rattle.abc_machine.specs.declared.ends.End.TheVariants as ends
 use Rattle.abc_machine.specs.declared.replies.Reply.{Reply}
 use Rattle.abc_machine.specs.declared.replies.Reply.TheVariants as replies
-use Rattle.abc_meaning.specs.Meaning.{Ended, Meaning, ends_with, ran, runs_for, then_runs}
+use Rattle.abc_meaning.specs.Meaning.{Ended, ends_with, ran, runs_for, then_runs}
 use Rattle.abc_meaning.specs.Step.{step}
 use Rattle.abc_meaning.specs.Throwing.{Done, End, Ends, FuelSpent, Full, Machine, Profile, Stepped, Steps, Stuck, Uncaught}
 use Rattle.abc_states.specs.WorldSetting.{Setting}

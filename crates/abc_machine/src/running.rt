@@ -10,7 +10,7 @@ ghost use Rattle.abc_machine.specs.declared.ends.End.TheVariants.{WriteFault as 
 ghost use Rattle.abc_machine.specs.declared.replies.Reply.TheVariants.{WriteFault};
 ghost use Rattle.abc_meaning.specs.Meaning.{ran, runs_for};
 ghost use Rattle.abc_openings.specs.Begun.{setting};
-ghost use Rattle.abc_reached.specs.Steps.{IsReached, StepsAs};
+ghost use Rattle.abc_reached.specs.Steps.{IsReached};
 ghost use Rattle.abc_states.specs.Outer.{Outer};
 
 use crate::ends::End;
@@ -19,9 +19,9 @@ use abc_base::{Host, Sink};
 use abc_cells::Value;
 use abc_ends::Ended;
 use abc_link::Linked;
+use abc_logging::step;
 use abc_reached::Halt;
 use abc_states::State;
-use abc_stepping::step;
 
 /// A value as the caller sees it.
 fn plain(value: Value) -> PlainValue

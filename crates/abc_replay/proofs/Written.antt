@@ -4,26 +4,35 @@ use Rattle.std.specs.declared.option.Option.{Option}
 use Rattle.std.specs.declared.result.Result.{Result}
 use Rattle.abc_base.specs.Faults.{HasCause}
 use Rattle.abc_base.specs.Sinks.{WritesAll}
+use Rattle.abc_base.specs.declared.formula.Formula.{Formula}
+use Rattle.abc_heap.specs.declared.records.Limits.{Limits}
+use Rattle.abc_logmeaning.specs.Logs.{log, steps}
 use Rattle.abc_logparts.specs.Checks.{IsWritten}
-use Rattle.abc_machine.specs.Ended.{HasRun, IsEndOf, RunsAs, logged}
+use Rattle.abc_machine.specs.Ended.{HasRun, IsEndOf}
+use Rattle.abc_machine.specs.Logged.{LogsRun}
+use Rattle.abc_machine.specs.Machines.{IsOpened, Opened}
+use Rattle.abc_machine.specs.OpeningsBegun.{setting}
 use Rattle.abc_machine.specs.declared.ends.End.{End}
 use Rattle.abc_machine.specs.declared.ends.End.TheVariants as ends
-use Rattle.abc_meaning.specs.Meaning.{Meaning, Ran, TooSmall}
-use Rattle.abc_meaning.specs.Throwing as meant
-
-wrote_lines : (lines wrote : List ℕ) (e : meant.End) (m : Meaning) → Ran wrote e ≡ logged lines m → wrote ≡ lines
-wrote_lines lines wrote e (TooSmall limit) same = let clash : Ran wrote e ≡ TooSmall limit = same in absurd (cc)
-wrote_lines lines wrote e (Ran w f) same = let is : Ran wrote e ≡ Ran lines f = same in cc
+use Rattle.abc_meaning.specs.Meaning.{Meaning}
+use Rattle.abc_program.specs.Linked.{LinkedFile}
 
 -- a run writes all the lines, or a front of them where the sink failed
-pub run_written : (lines : List ℕ) (of m : Meaning) (counted n : ℕ) (old new : Option (List ℕ)) (before now : ℕ) (end : End) → m ≡ logged lines of → RunsAs m old new end → HasRun before now end → (end ≢ ends.WriteFault → n ≡ counted)
-    → IsWritten lines counted n old new before now
-run_written lines of m counted n old new before now end same (RunsAs.ended wrote e x is got) cause count =
-    subst (λ (l : List ℕ). IsWritten l counted n old new before now) (wrote_lines lines wrote e of same) (IsWritten.whole (count (λ fault. subst (IsEndOf e) fault is)) got)
-run_written lines of m counted n old new before now end same (RunsAs.failed wrote e front) cause count =
-    subst (λ (l : List ℕ). IsWritten l counted n old new before now) (wrote_lines lines wrote e of same) (IsWritten.front (cause.failed refl) front)
+pub run_written : (lines : List ℕ) (m : Meaning) (counted n : ℕ) (old new : Option (List ℕ)) (before now : ℕ) (end : End) → LogsRun lines m old new end → HasRun before now end → (end ≢ ends.WriteFault → n ≡ counted) → IsWritten lines counted n old new before now
+run_written lines m counted n old new before now end (LogsRun.logged log wrote e x is got) cause count = IsWritten.whole (count (λ fault. subst (IsEndOf e) fault is)) got
+run_written lines m counted n old new before now end (LogsRun.failed log wrote e front) cause count = IsWritten.front (cause.failed refl) front
 
 -- so does a single line
-pub line_written : {T E : Type 0} (lines line : List ℕ) (counted : ℕ) (old new : Option (List ℕ)) (before now : ℕ) (r : Result T E) → lines ≡ line → counted ≡ 0 → WritesAll old new r line → HasCause before now r → IsWritten lines counted 0 old new before now
-line_written lines line counted old new before now (Ok x) same none writes cause = subst (λ (l : List ℕ). IsWritten l counted 0 old new before now) (sym same) (IsWritten.whole (sym none) writes)
-line_written lines line counted old new before now (Err e) same none writes cause = subst (λ (l : List ℕ). IsWritten l counted 0 old new before now) (sym same) (IsWritten.front cause.failed writes)
+pub line_written : {T E : Type 0} (line : List ℕ) (n : ℕ) (old new : Option (List ℕ)) (before now : ℕ) (r : Result T E) → n ≡ 0 → WritesAll old new r line → HasCause before now r → IsWritten line 0 n old new before now
+line_written line n old new before now (Ok x) none writes cause = IsWritten.whole none writes
+line_written line n old new before now (Err e) none writes cause = IsWritten.front cause.failed writes
+
+-- a machine that was opened logs the run of its file
+pub opened_written : (l : LinkedFile) (formulas : List Formula) (limits : Limits) (fuel : ℕ) (m : Opened) (n : ℕ) (old new : Option (List ℕ)) (before now : ℕ) → IsOpened l formulas limits m
+    → IsWritten (log (setting m.linked formulas) m.limits fuel) (steps (setting m.linked formulas) m.limits fuel) n old new before now → IsWritten (log (setting l formulas) limits fuel) (steps (setting l formulas) limits fuel) n old new before now
+opened_written l formulas limits fuel m n old new before now is written = subst (λ (x : Opened). IsWritten (log (setting x.linked formulas) x.limits fuel) (steps (setting x.linked formulas) x.limits fuel) n old new before now) is.is written
+
+-- one that isn't opened has one line
+pub small_written : (lines line : List ℕ) (counted n : ℕ) (old new : Option (List ℕ)) (before now : ℕ) → (lines ≡ line) × (counted ≡ 0) → IsWritten line 0 n old new before now → IsWritten lines counted n old new before now
+small_written lines line counted n old new before now one written =
+    subst (λ (l : List ℕ). IsWritten l counted n old new before now) (sym one.0) (subst (λ (k : ℕ). IsWritten line k n old new before now) (sym one.1) written)

@@ -2,8 +2,8 @@
 //! compared with the input while that is read.
 #![tactic(auto)]
 
-mod replay;
+mod answer;
 mod run;
 
 pub use abc_replaying::{ReplayError, ReplayReason};
-pub use replay::replay;
+pub use answer::replay;

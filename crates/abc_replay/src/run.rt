@@ -1,11 +1,13 @@
 ghost use Rattle.std.specs.Prelude.{◌≡◌, ◌≤◌, None, IfOk, OnErr};
 ghost use Rattle.abc_logmeaning.specs.Logs.{log as log_of, steps as steps_of};
+ghost use Rattle.abc_loglines.specs.Lines.{limit_end};
 ghost use Rattle.abc_logparts.specs.Checks.{IsCompared, IsWritten};
 ghost use Rattle.abc_machine.specs.OpeningsBegun.{setting};
 ghost use Rattle.abc_objects.specs.Opening.{formula_names};
 
 use abc_base::{Host, NoMemory, Sink, Source};
 use abc_compare::{Lenient, Verdict};
+use abc_heap::Limit;
 use abc_loglines::write_limit_end;
 use abc_logmeaning::too_small_is_one_line;
 use abc_machine::Machine;
@@ -26,6 +28,26 @@ fn log_run<K: Sink, H: Host>(machine: &mut Machine, fuel: u32, log: &mut K, host
     u64::from(machine.steps())
 }
 
+/// The same of a machine that goes then.
+fn log_machine<K: Sink, H: Host>(machine: Machine, fuel: u32, log: &mut K, host: &H) -> u64
+    requires begun { machine.ended ≡ None }
+    requires names { formula_names (H.formulas host.now) ≡ machine.names }
+    ensures { IsWritten (log_of (setting machine.linked (H.formulas host.now)) machine.limits fuel) (steps_of (setting machine.linked (H.formulas host.now)) machine.limits fuel) result (K.written log.old) (K.written log.new) (K.faults log.old) (K.faults log.new) }
+{
+    let mut machine = machine;
+    let count = log_run(&mut machine, fuel, log, host);
+    close(machine);
+    count
+}
+
+/// Writes the log of a run that isn't begun: its one line. There is no step.
+fn log_unbegun<K: Sink>(log: &mut K, limit: Limit) -> u64
+    ensures { IsWritten (limit_end limit) 0 result (K.written log.old) (K.written log.new) (K.faults log.old) (K.faults log.new) }
+{
+    let _ = write_limit_end(log, limit);
+    0
+}
+
 /// Writes the log of the run of a file, or its one line where a limit is below what every run begins with: how many steps there are.
 fn write_log<K: Sink, H: Host>(
     alloc: Global,
@@ -39,15 +61,8 @@ fn write_log<K: Sink, H: Host>(
 {
     too_small_is_one_line();
     match Machine::open(alloc, verified, &line.limits, host) {
-        Ok(mut machine) => {
-            let count = log_run(&mut machine, line.fuel, log, host);
-            close(machine);
-            Ok(count)
-        }
-        Err(OpenError::TooSmall(limit)) => {
-            let _ = write_limit_end(log, limit);
-            Ok(0)
-        }
+        Ok(machine) => Ok(log_machine(machine, line.fuel, log, host)),
+        Err(OpenError::TooSmall(limit)) => Ok(log_unbegun(log, limit)),
         Err(OpenError::NoMemory) => Err(NoMemory),
     }
 }

@@ -106,8 +106,9 @@ from_place None k at = absurd at
 from_place (Some j) k at = (j, (refl, at))
 
 -- the place is that of the byte behind the line, in numbers alone
-same_place : (count line j k place : ℕ) → place ≡ file_place + count + line → k ≡ min j (2 ^ 64 - 1) → min (file_place + count + (line + j)) (2 ^ 64 - 1) ≡ min (place + k) (2 ^ 64 - 1)
-same_place count line j k place at far = omega arith
+same_place : (bytes : List ℕ) (line j k place : ℕ) → place ≡ file_place + length bytes + line → k ≡ min j (2 ^ 64 - 1) → place_behind bytes (line + j) ≡ min (place + k) (2 ^ 64 - 1)
+unfolding place_behind
+same_place bytes line j k place at far = omega (arith, at, far)
 
 differs_there : (formulas : List Formula) (old left : Option (List ℕ)) (l : LinkedFile) (line : LimitsLine) (place k : ℕ) → AreFormulas formulas → HasPreface old left l line place
     → OfInput left (PartsAt (log (record { linked = l; formulas = formulas }) line.limits line.fuel) k) → OfInput old (λ input. IsRefusedBy formulas input (errors.Refused (min (place + k) (2 ^ 64 - 1)) reasons.LogDiffers))
@@ -117,7 +118,7 @@ differs_there formulas old left l line place k formed before parted =
     lifted old before.mid before.bytes before.file (λ (input : List ℕ). IsRefusedBy formulas input (errors.Refused (min (place + k) (2 ^ 64 - 1)) reasons.LogDiffers)) (Differing lines behind k)
     (λ input rest parts d.
     let there = from_place (parts_from 0 d.found lines) k d.at in
-    let same : place_behind before.bytes (length behind + there.0) ≡ min (place + k) (2 ^ 64 - 1) = same_place (length before.bytes) (length behind) there.0 k place before.begins there.1.1 in
+    let same : place_behind before.bytes (length behind + there.0) ≡ min (place + k) (2 ^ 64 - 1) = same_place before.bytes (length behind) there.0 k place before.begins there.1.1 in
     subst (λ (n : ℕ). IsRefusedBy formulas input (errors.Refused n reasons.LogDiffers)) same
     (differs before.bytes rest d.found l line.fuel line.limits there.0 parts (spells_verified formulas before.bytes l formed before.verified) before.limits d.is there.1.0))
     (of_consumed before.mid left behind (Differing lines behind k) before.taken (of_map left (PartsAt lines k) (λ (found : List ℕ). Differing lines behind k (behind ++ found)) (λ found at. record { found = found; is = refl; at = at }) parted))

@@ -63,15 +63,18 @@ wrong_head formulas None place within w = (zeros place, head place (zeros_wrong 
 wrong_head formulas (Some input) place within w = head place w
 
 pub no_head : (o : Option (List ℕ)) (e : HeadError) → IsHeadStop 0 o e → RefusesAny o (error_of_head e)
+unfolding RefusesAny
 no_head o (heads.Wrong place) stop = λ formulas formed. wrong_head formulas o place stop.0 stop.1
 no_head o heads.ReadFault stop = λ formulas formed. of_all o (λ (input : List ℕ). IsRefusedBy formulas input errors.ReadFault) (λ input. tt)
 
 -- ---- what needs no reason
 
 pub reads_fail : (o : Option (List ℕ)) → RefusesAny o errors.ReadFault
+unfolding RefusesAny
 reads_fail o = λ formulas formed. of_all o (λ (input : List ℕ). IsRefusedBy formulas input errors.ReadFault) (λ input. tt)
 
 pub memory_ends : (o : Option (List ℕ)) → RefusesAny o errors.NoMemory
+unfolding RefusesAny
 memory_ends o = λ formulas formed. of_all o (λ (input : List ℕ). IsRefusedBy formulas input errors.NoMemory) (λ input. tt)
 
 pub no_part : (o : Option (List ℕ)) (e : PartError) → RefusesAny o (error_of_part e)
@@ -84,6 +87,7 @@ file_refused : (formulas : List Formula) (old new : Option (List ℕ)) (bytes : 
 file_refused formulas old new bytes e f go = lifted old new bytes f (λ (input : List ℕ). IsRefusedBy formulas input (error_of e)) (λ (rest : List ℕ). Unit {0}) (λ input rest p _. go input rest p) (of_all new (λ (rest : List ℕ). Unit {0}) (λ rest. tt))
 
 pub no_file : (old new : Option (List ℕ)) (bytes : List ℕ) (e : VerifiedError) → HasFile old new bytes → IsNoFileBy bytes e → RefusesAny old (error_of e)
+unfolding RefusesAny error_of
 no_file old new bytes (files.Refused place reason) f no = λ formulas formed. file_refused formulas old new bytes (files.Refused place reason) f (λ input rest p. file bytes rest (files.Refused place reason) p no)
 no_file old new bytes (files.Link rule i) f no = λ formulas formed. file_refused formulas old new bytes (files.Link rule i) f (λ input rest p. file bytes rest (files.Link rule i) p no)
 no_file old new bytes (files.Verify m offset rule) f no = λ formulas formed. file_refused formulas old new bytes (files.Verify m offset rule) f (λ input rest p. file bytes rest (files.Verify m offset rule) p no)
@@ -110,12 +114,14 @@ of_no_limits None none = ([], none_in_nothing)
 of_no_limits (Some rest) none = none
 
 -- the place behind the file, in numbers alone
-behind_file : (count stated place p : ℕ) → place ≡ file_place + count → p ≡ place → count ≤ stated → stated < 2 ^ 32 → min (file_place + count + 0) (2 ^ 64 - 1) ≡ p
-behind_file count stated place p at same few low = omega arith
+behind_file : (bytes : List ℕ) (stated place p : ℕ) → place ≡ file_place + length bytes → p ≡ place → length bytes ≤ stated → stated < 2 ^ 32 → place_behind bytes 0 ≡ p
+unfolding place_behind
+behind_file bytes stated place p at same few low = omega (arith, at, same, few, low)
 
 pub no_limits : (old new : Option (List ℕ)) (bytes : List ℕ) (l : LinkedFile) (place : ℕ) (e : ReplayError) → HasFile old new bytes → IsVerifiedIn bytes l → place ≡ file_place + length bytes → IsNoLine new place e → RefusesAny old e
+unfolding RefusesAny
 no_limits old new bytes l place (errors.Refused p reasons.LogLimits) f v at no = λ formulas formed.
-    let here : place_behind bytes 0 ≡ p = behind_file (length bytes) f.stated place p at no.0 f.few f.low in
+    let here : place_behind bytes 0 ≡ p = behind_file bytes f.stated place p at no.0 f.few f.low in
     subst (λ (n : ℕ). OfInput old (λ input. IsRefusedBy formulas input (errors.Refused n reasons.LogLimits))) here
     (lifted old new bytes f (λ (input : List ℕ). IsRefusedBy formulas input (errors.Refused (place_behind bytes 0) reasons.LogLimits)) HasNoLimits (λ input rest p none. limits bytes rest l p (spells_verified formulas bytes l formed v) none) (of_no_limits new no.1))
 no_limits old new bytes l place (errors.Refused p (reasons.File reason)) f v at no = absurd no
@@ -127,6 +133,7 @@ no_limits old new bytes l place errors.ReadFault f v at no = reads_fail old
 no_limits old new bytes l place errors.NoMemory f v at no = absurd no
 
 pub read_error : (e : VerifiedError) → error_of e ≡ errors.ReadFault → e ≡ files.ReadFault
+unfolding error_of
 read_error (files.Refused place reason) same = absurd (cc)
 read_error (files.Link rule i) same = absurd (cc)
 read_error (files.Verify m offset rule) same = absurd (cc)

@@ -1,3 +1,4 @@
 pub mod Names
 pub mod Replays
 pub mod Prefaces
+pub mod Laws

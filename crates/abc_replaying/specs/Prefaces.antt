@@ -50,7 +50,7 @@ pub record HasPreface (old new : Option (List ℕ)) (l : LinkedFile) (line : Lim
   pub begins : place ≡ file_place + length bytes + length (limits_line line.fuel line.limits)
 
 -- why an input is refused, beside any host
-abbrev pub RefusesAny : Option (List ℕ) → ReplayError → Type 0
+unfoldable pub RefusesAny : Option (List ℕ) → ReplayError → Type 0
 RefusesAny left e = (formulas : List Formula) → AreFormulas formulas → OfInput left (λ input. IsRefusedBy formulas input e)
 
 -- no line of limits stands at this place, or a read failed

@@ -71,10 +71,11 @@ pub enum ReplayError {
 impl From<VerifiedError> for ReplayError {
     ghost from_gives = { λ e f. f ≡ error_of e };
 
+    #[tactic(auto, unfolding(crate::specs::Replays::error_of))]
     fn from(e: VerifiedError) -> ReplayError {
         match e {
             VerifiedError::Refused { place, reason } => ReplayError::Refused {
-                place: u64::from(place) + 9,
+                place: 9 + u64::from(place),
                 reason: ReplayReason::File(reason),
             },
             VerifiedError::Link { rule, item } => ReplayError::Link { rule, item },

@@ -2,10 +2,12 @@
 #![tactic(auto)]
 
 mod error;
-mod preface;
+mod laws;
+mod reading;
 
 pub use abc_loghead::LimitsLine;
 pub use abc_logparts::{LogFault, check_verdict};
 pub use abc_verified::Verified;
 pub use error::{ReplayError, ReplayReason};
-pub use preface::{Preface, error_at, read_preface};
+pub use laws::one_replay;
+pub use reading::{Preface, error_at, read_preface};

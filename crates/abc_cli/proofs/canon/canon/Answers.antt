@@ -1,8 +1,9 @@
 use Rattle.std.proofs.lemmas.Result.{err_from_is_err_and}
-use Rattle.abc_cli.specs.End.{stream}
-use Rattle.abc_cli.specs.Answers.{OfFile}
+use Rattle.abc_answers.specs.End.{stream}
+use Rattle.abc_answers.specs.Answers.{OfFile}
 use Rattle.abc_cli.specs.Outcome.{Canon}
-use Rattle.abc_cli.proofs.Ending.{alone, canonical_gives, on_file, read_stops}
+use Rattle.abc_answers.proofs.Ending.{alone, on_file, read_stops}
+use Rattle.abc_cli.proofs.Files.{canonical_gives}
 use Rattle.abc_cli.proofs.canon.canon.Goals as goal
 
 pub returns-clause-gives : goal.returns-clause-gives

@@ -1,8 +1,8 @@
 use Rattle.std.proofs.lemmas.Result.{err_from_is_err_and}
-use Rattle.abc_cli.specs.End.{stream}
-use Rattle.abc_cli.specs.Answers.{OfFile}
+use Rattle.abc_answers.specs.End.{stream}
+use Rattle.abc_answers.specs.Answers.{OfFile}
 use Rattle.abc_cli.specs.Outcome.{Tidy}
-use Rattle.abc_cli.proofs.Ending.{alone, file_gives, file_stops, file_stops_at, on_file}
+use Rattle.abc_answers.proofs.Ending.{alone, file_gives, file_stops, file_stops_at, on_file}
 use Rattle.abc_cli.proofs.tidy.tidy.Goals as goal
 
 pub returns-clause-gives : goal.returns-clause-gives

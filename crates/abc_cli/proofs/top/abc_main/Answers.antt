@@ -3,14 +3,12 @@ use Rattle.abc_words.specs.Grammar.{Says}
 use Rattle.abc_words.specs.declared.command.Usage.{Usage}
 use Rattle.abc_words.specs.declared.command.Command.{Command}
 use Rattle.abc_words.specs.declared.command.Command.TheVariants as commands
-use Rattle.abc_cli.specs.End.{Ends, GivesLine, stream}
-use Rattle.abc_cli.specs.Answers.{Answer}
+use Rattle.abc_answers.specs.End.{Ends, GivesLine, stream}
+use Rattle.abc_answers.specs.Answers.{Answer}
 use Rattle.abc_cli.specs.Outcome.{AsksNoInput, CommandOutcome, IsOutcome, usage_answer}
-use Rattle.abc_ticks.proofs.Pieces.{nothing}
-use Rattle.abc_cli.proofs.Ending.{line_ends, weaker}
+use Rattle.abc_logcommands.proofs.Pieces.{nothing}
+use Rattle.abc_answers.proofs.Ending.{line_ends, weaker}
 use Rattle.abc_cli.proofs.Usages.{usage_found, is_usage, usage_not_memory, usage_outcome, same_command, same_usage, not_ok, end_not_usage, unread_command, asking, few_methods, log_limits}
-use Rattle.abc_cli.proofs.Accepting.{log_accepted}
-use Rattle.abc_cli.specs.Runs.{limits_of}
 use Rattle.abc_cli.proofs.Listings.{lists}
 use Rattle.abc_cli.proofs.top.abc_main.Goals as goal
 
@@ -90,9 +88,8 @@ returns-in-Err-clause-memory g c = λ e. absurd (usage_not_memory (stream g.E.Si
 
 pub returns-in-Ok-clause-logged : goal.returns-in-Ok-clause-logged
 returns-in-Ok-clause-logged g c = λ o says read.
-    let out = stream g.K.Sink.written g.K.Sink.faults c.args.out.now c.run_command.new.out in
     let is = same_command c.in-Ok.command (commands.Log o) c.parse.result c.in-Ok.is ((c.parse.ensures.command (commands.Log o)).1 says) in
-    log_accepted c.one_replay.ensures.one_number c.one_replay.ensures.never_both (g.H.Host.formulas c.args.host.now) o.fuel (limits_of o) out (log_limits c.args.words.now o says) (c.run_command.ensures.logged o is read)
+    c.run_command.ensures.logged o is (log_limits c.args.words.now o says) read
 
 pub returns-in-Err-clause-logged : goal.returns-in-Err-clause-logged
 returns-in-Err-clause-logged g c = λ o says read. absurd (not_ok (commands.Log o) c.in-Err.usage c.parse.result ((c.parse.ensures.command (commands.Log o)).1 says) c.in-Err.is)

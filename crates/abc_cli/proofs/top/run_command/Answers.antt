@@ -1,11 +1,12 @@
-use Rattle.std.proofs.Common.{refl, subst}
+use Rattle.std.proofs.Common.{refl, subst, sym}
+use Rattle.abc_words.specs.declared.command.Command.{Command}
 use Rattle.abc_words.specs.declared.command.Command.TheVariants as commands
-use Rattle.abc_cli.specs.End.{stream}
-use Rattle.abc_cli.specs.Outcome.{OutcomeOf}
-use Rattle.abc_cli.specs.Logged.{GotLogOf}
-use Rattle.abc_cli.specs.Runs.{limits_of}
+use Rattle.abc_answers.specs.End.{Ends, stream}
+use Rattle.abc_cli.specs.Outcome.{CommandOutcome, OutcomeOf}
+use Rattle.abc_loglines.specs.Lines.{AreLimits}
+use Rattle.abc_logcommands.specs.Meant.{limits_of}
 use Rattle.abc_words.specs.declared.command.RunOptions.{RunOptions}
-use Rattle.abc_cli.proofs.Ending.{finished_used_up}
+use Rattle.abc_answers.proofs.Ending.{finished_used_up}
 use Rattle.abc_cli.proofs.Usages.{calls_ends, command_ends, gen_ends, log_ends, other_command, reading, run_ends, same_options, unreading}
 use Rattle.abc_cli.proofs.top.run_command.Goals as goal
 
@@ -119,45 +120,46 @@ pub returns-in-Log-clause-unread : goal.returns-in-Log-clause-unread
 returns-in-Log-clause-unread g c = λ silent. absurd (reading c.args.command.now (commands.Log c.in-Log.options) c.in-Log.is refl silent)
 
 pub returns-in-Log-clause-logged : goal.returns-in-Log-clause-logged
-returns-in-Log-clause-logged g c = λ o e read.
-    subst (λ (x : RunOptions). GotLogOf (g.H.Host.formulas c.args.host.now) x.fuel (limits_of x) (stream g.K.Sink.written g.K.Sink.faults c.args.out.now c.log.new.out)) (same_options c.args.command.now c.in-Log.options o c.in-Log.is e) (c.log.ensures.logged read)
+returns-in-Log-clause-logged g c = λ o e within read.
+    let same = same_options c.args.command.now c.in-Log.options o c.in-Log.is e in
+    c.log.ensures.logged (subst (λ (x : RunOptions). AreLimits x.fuel (limits_of x)) (sym same) within) read
 
 pub returns-in-Replay-clause-end : goal.returns-in-Replay-clause-end
 returns-in-Replay-clause-end g c =
-    command_ends (g.H.Host.formulas c.args.host.now) c.args.command.now commands.Replay (stream g.S.Source.left g.S.Source.faults c.args.source.now c.replay.new.source) (stream g.K.Sink.written g.K.Sink.faults c.args.out.now c.give-in-Replay.new.out)
-    (stream g.E.Sink.written g.E.Sink.faults c.args.err.now c.give-in-Replay.new.err) c.replay.result c.give-in-Replay.result c.in-Replay.is c.replay.ensures.gives c.replay.ensures.stops c.give-in-Replay.ensures
+    let source = stream g.S.Source.left g.S.Source.faults c.args.source.now c.replay.new.source in
+    let out = stream g.K.Sink.written g.K.Sink.faults c.args.out.now c.replay.new.out in
+    let err = stream g.E.Sink.written g.E.Sink.faults c.args.err.now c.replay.new.err in
+    subst (λ (d : Command). Ends (CommandOutcome (g.H.Host.formulas c.args.host.now) d) source out err c.replay.result) (sym c.in-Replay.is) c.replay.ensures.end
 
 pub returns-in-Replay-clause-used_up : goal.returns-in-Replay-clause-used_up
-returns-in-Replay-clause-used_up g c = λ reads.
-    finished_used_up (OutcomeOf (g.H.Host.formulas c.args.host.now) commands.Replay) (stream g.S.Source.left g.S.Source.faults c.args.source.now c.replay.new.source) (stream g.K.Sink.written g.K.Sink.faults c.args.out.now c.give-in-Replay.new.out)
-    (stream g.E.Sink.written g.E.Sink.faults c.args.err.now c.give-in-Replay.new.err) c.replay.result c.give-in-Replay.result c.replay.ensures.gives c.give-in-Replay.ensures
+returns-in-Replay-clause-used_up g c = λ reads. c.replay.ensures.used_up
 
 pub returns-in-Replay-clause-unread : goal.returns-in-Replay-clause-unread
 returns-in-Replay-clause-unread g c = λ silent. absurd (reading c.args.command.now commands.Replay c.in-Replay.is refl silent)
 
 pub returns-in-Canon-clause-logged : goal.returns-in-Canon-clause-logged
-returns-in-Canon-clause-logged g c = λ o e read. absurd (other_command c.args.command.now commands.Canon o c.in-Canon.is e (λ h. cc))
+returns-in-Canon-clause-logged g c = λ o e within read. absurd (other_command c.args.command.now commands.Canon o c.in-Canon.is e (λ h. cc))
 
 pub returns-in-Dis-clause-logged : goal.returns-in-Dis-clause-logged
-returns-in-Dis-clause-logged g c = λ o e read. absurd (other_command c.args.command.now commands.Dis o c.in-Dis.is e (λ h. cc))
+returns-in-Dis-clause-logged g c = λ o e within read. absurd (other_command c.args.command.now commands.Dis o c.in-Dis.is e (λ h. cc))
 
 pub returns-in-Check-clause-logged : goal.returns-in-Check-clause-logged
-returns-in-Check-clause-logged g c = λ o e read. absurd (other_command c.args.command.now commands.Check o c.in-Check.is e (λ h. cc))
+returns-in-Check-clause-logged g c = λ o e within read. absurd (other_command c.args.command.now commands.Check o c.in-Check.is e (λ h. cc))
 
 pub returns-in-Tidy-clause-logged : goal.returns-in-Tidy-clause-logged
-returns-in-Tidy-clause-logged g c = λ o e read. absurd (other_command c.args.command.now commands.Tidy o c.in-Tidy.is e (λ h. cc))
+returns-in-Tidy-clause-logged g c = λ o e within read. absurd (other_command c.args.command.now commands.Tidy o c.in-Tidy.is e (λ h. cc))
 
 pub returns-in-Asm-clause-logged : goal.returns-in-Asm-clause-logged
-returns-in-Asm-clause-logged g c = λ o e read. absurd (other_command c.args.command.now commands.Asm o c.in-Asm.is e (λ h. cc))
+returns-in-Asm-clause-logged g c = λ o e within read. absurd (other_command c.args.command.now commands.Asm o c.in-Asm.is e (λ h. cc))
 
 pub returns-in-Run-clause-logged : goal.returns-in-Run-clause-logged
-returns-in-Run-clause-logged g c = λ o e read. absurd (other_command c.args.command.now (commands.Run c.in-Run.options) o c.in-Run.is e (λ h. cc))
+returns-in-Run-clause-logged g c = λ o e within read. absurd (other_command c.args.command.now (commands.Run c.in-Run.options) o c.in-Run.is e (λ h. cc))
 
 pub returns-in-Gen-clause-logged : goal.returns-in-Gen-clause-logged
-returns-in-Gen-clause-logged g c = λ o e read. absurd (other_command c.args.command.now (commands.Gen c.in-Gen.options) o c.in-Gen.is e (λ h. cc))
+returns-in-Gen-clause-logged g c = λ o e within read. absurd (other_command c.args.command.now (commands.Gen c.in-Gen.options) o c.in-Gen.is e (λ h. cc))
 
 pub returns-in-Calls-clause-logged : goal.returns-in-Calls-clause-logged
-returns-in-Calls-clause-logged g c = λ o e read. absurd (other_command c.args.command.now (commands.Calls c.in-Calls.options) o c.in-Calls.is e (λ h. cc))
+returns-in-Calls-clause-logged g c = λ o e within read. absurd (other_command c.args.command.now (commands.Calls c.in-Calls.options) o c.in-Calls.is e (λ h. cc))
 
 pub returns-in-Replay-clause-logged : goal.returns-in-Replay-clause-logged
-returns-in-Replay-clause-logged g c = λ o e read. absurd (other_command c.args.command.now commands.Replay o c.in-Replay.is e (λ h. cc))
+returns-in-Replay-clause-logged g c = λ o e within read. absurd (other_command c.args.command.now commands.Replay o c.in-Replay.is e (λ h. cc))

@@ -1,5 +1,5 @@
 use Rattle.std.proofs.Common.{[], refl, subst}
-use Rattle.std.specs.Prelude.{Ok, OnOk}
+use Rattle.std.specs.Prelude.{OnOk}
 use Rattle.std.specs.declared.result.Result.{Result}
 use Rattle.abc_base.specs.Hosts.{arguments}
 use Rattle.abc_ends.specs.declared.ended.Ended.{Ended}

@@ -1,5 +1,5 @@
-use Rattle.std.proofs.Common.{◌≡◌, ◌≢◌, ◌∙◌, ℕ, refl, sym, ap, subst, arith}
-use Rattle.std.specs.Prelude.{Err, IsSome, None}
+use Rattle.std.proofs.Common.{◌∙◌, ℕ, refl, ap, subst, arith}
+use Rattle.std.specs.Prelude.{IsSome, None}
 use Rattle.abc_base.specs.Sinks.{GrowsByFront}
 use Rattle.abc_callmeaning.specs.Calls.{replies_for}
 use Rattle.abc_logging.proofs.Lined.{rose_on}

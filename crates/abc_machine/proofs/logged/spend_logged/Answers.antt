@@ -1,4 +1,4 @@
-use Rattle.std.proofs.Common.{◌≢◌, ◌∙◌, ap, sym}
+use Rattle.std.proofs.Common.{◌≢◌, ◌∙◌, sym}
 use Rattle.std.specs.Prelude.{Err, None}
 use Rattle.abc_machine.proofs.Logging.{failed_step, front_for, none_for, well_step, whole_for}
 use Rattle.abc_machine.proofs.Spending.{ended_as, went_as}

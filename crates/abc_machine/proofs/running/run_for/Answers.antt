@@ -1,5 +1,4 @@
 use Rattle.std.proofs.Common.{◌≢◌, ◌∙◌, sym, ap, subst}
-use Rattle.abc_base.specs.declared.formula.Formula.{Formula}
 use Rattle.abc_machine.specs.Ended.{HasRun, RunsAs}
 use Rattle.abc_machine.specs.Runs.{Leaves}
 use Rattle.abc_machine.specs.Spent.{end_for}

@@ -1,5 +1,4 @@
-use Rattle.std.proofs.Common.{◌∙◌, refl}
-use Rattle.abc_machine.specs.Ended.{logged}
+use Rattle.std.proofs.Common.{◌∙◌}
 use Rattle.abc_machine.specs.OpeningsBegun.{setting}
 use Rattle.abc_logmeaning.specs.Logs.{log, steps}
 use Rattle.abc_meaning.specs.Meaning.{meaning}
@@ -13,5 +12,5 @@ pub returns : goal.returns
 returns g c =
     let p = setting c.args.machine.now.linked (g.H.Host.formulas c.args.host.now) in
     let limits = c.args.machine.now.limits in
-    run_written (log p limits c.args.fuel) (meaning p limits c.args.fuel) (logged (log p limits c.args.fuel) (meaning p limits c.args.fuel)) (steps p limits c.args.fuel) c.from.result _ _ _ _ c.run_logged.result refl
+    run_written (log p limits c.args.fuel) (meaning p limits c.args.fuel) (steps p limits c.args.fuel) c.from.result _ _ _ _ c.run_logged.result
     (c.run_logged.ensures.logs c.requires.begun) (c.run_logged.ensures.cause c.requires.begun) (λ went. c.from.ensures ∙ c.steps.ensures ∙ c.run_logged.ensures.steps c.requires.begun went)

@@ -22,7 +22,7 @@ returns-in_err-seen g c =
 
 pub returns-in_err-state : goal.returns-in_err-state
 returns-in_err-state g c =
-    let p = err_from_is_err_and c.from_residual-2.result c.from_residual-2.ensures.1 in
+    let p = err_from_is_err_and c.from_residual-in_err-state.result c.from_residual-in_err-state.ensures.1 in
     rw (p.1, p.2) (rw c.linked-2.ensures at c.in_err-state.ensures)
 
 pub returns : goal.returns

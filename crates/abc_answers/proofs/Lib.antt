@@ -1,0 +1,4 @@
+pub mod Ending
+pub mod Runs
+pub mod Unverified
+pub mod VerifiedLine

@@ -1,0 +1,98 @@
+-- What is answered of a file that was read.
+use Rattle.std.proofs.Common.{◌≡◌, List, ℕ, Ok, Err, refl, ap}
+use Rattle.std.specs.declared.option.Option.{Option}
+use Rattle.abc_base.specs.declared.status.Status.TheVariants as status
+use Rattle.abc_format.specs.Part.{Refusal, refusal}
+use Rattle.abc_varint.specs.declared.error.ReadError.{ReadError}
+use Rattle.abc_varint.specs.declared.error.ReadError.TheVariants as errors
+use Rattle.abc_file.specs.Reading.{AnswersFile, Canonises, IsCanonicalOf, IsFaultOf, IsUsedUp, OfInput, Refuses}
+use Rattle.abc_tables.specs.declared.tables.Abc.{Abc}
+use Rattle.abc_tables.specs.Files.{IsBadFile, IsFileRead, file_bytes}
+use Rattle.abc_tables.proofs.Whole.{read_spelled}
+use Rattle.abc_tidy.specs.declared.error.TidyError.{TidyError}
+use Rattle.abc_tidy.specs.declared.error.TidyError.TheVariants as tidying
+use Rattle.abc_tidy.specs.Rules.{IsTidied, IsTidyError}
+use Rattle.abc_verified.proofs.Verifying.{of_any}
+use Rattle.abc_answers.specs.declared.stop.Stop.{Stop}
+use Rattle.abc_answers.specs.declared.stop.Stop.TheVariants as stops
+use Rattle.abc_answers.specs.Lines.{refusal_text}
+use Rattle.abc_answers.specs.Answers.{Answer, OfFile, OfFileRead, On, told, given}
+use Rattle.abc_answers.specs.Stops.{Gives, Stops, StopsAt, stop_answer, stop_of_read, stop_of_tidy}
+use Rattle.abc_answers.specs.End.{Channel, HasFailed}
+use Rattle.abc_answers.proofs.Ending.{memory_stops}
+use Rattle.abc_cli.specs.Outcome.{Canon, Tidy}
+
+-- ---- outcomes on a file
+
+-- the outcome is one on a file, with the starts of its instructions as they were read
+pub record IsOnFile (Outcome : List ℕ → Answer → Type 0) (Answers : Abc → List (List ℕ) → Answer → Type 0) : Type 0 where
+  pub accepted : (v : Abc) (starts : List (List ℕ)) (input : List ℕ) (a : Answer) → IsFileRead (v, starts) input → Answers v starts a → Outcome input a
+  pub refused : (r : Refusal) (input : List ℕ) → IsBadFile input r → Outcome input (told status.Refused (refusal_text r))
+
+-- one that speaks of the file alone
+abbrev pub alone : (Abc → Answer → Type 0) → Abc → List (List ℕ) → Answer → Type 0
+alone Answers v starts a = Answers v a
+
+pub on_file : (Answers : Abc → Answer → Type 0) → IsOnFile (OfFile Answers) (alone Answers)
+on_file Answers = record {
+  accepted = λ v starts input a r x. OfFile.accepted v (read_spelled (v, starts) input r.0, r.1) x;
+  refused = λ r input bad. OfFile.refused r bad refl;
+}
+
+pub on_file_read : (Answers : Abc → List (List ℕ) → Answer → Type 0) → IsOnFile (OfFileRead Answers) Answers
+on_file_read Answers = record { accepted = λ v starts input a r x. OfFileRead.accepted v starts r x; refused = λ r input bad. OfFileRead.refused r bad refl }
+
+pub read_stops : (Outcome : List ℕ → Answer → Type 0) (Answers : Abc → List (List ℕ) → Answer → Type 0) → IsOnFile Outcome Answers → (source : Channel) (e : ReadError) → IsFaultOf source.before e → (e ≡ errors.ReadFault → HasFailed source)
+    → Stops Outcome source (stop_of_read e)
+read_stops Outcome Answers on source (errors.Refused place reason) f cause = record {
+  outcome = λ d. of_any (Refuses (errors.Refused place reason)) (λ input. Outcome input (stop_answer (stops.File place reason))) source.before
+      (λ b bad. on.refused (refusal place reason) b bad) f;
+  cause = λ h. absurd cc;
+}
+read_stops Outcome Answers on source errors.ReadFault f cause = record { outcome = λ d. absurd d; cause = λ h. cause refl }
+read_stops Outcome Answers on source errors.NoMemory f cause = memory_stops Outcome source
+
+fault_read : (e : ReadError) (b : List ℕ) → AnswersFile b (Err e) → Refuses e b
+fault_read (errors.Refused place reason) b x = x
+fault_read errors.ReadFault b x = tt
+fault_read errors.NoMemory b x = tt
+
+-- the same where the file itself was to be read
+pub file_stops : (Outcome : List ℕ → Answer → Type 0) (Answers : Abc → List (List ℕ) → Answer → Type 0) → IsOnFile Outcome Answers → (source : Channel) (e : ReadError) → OfInput source.before (λ b. AnswersFile b (Err e))
+    → (e ≡ errors.ReadFault → HasFailed source) → Stops Outcome source (stop_of_read e)
+file_stops Outcome Answers on source e f cause = read_stops Outcome Answers on source e (of_any (λ b. AnswersFile b (Err e)) (Refuses e) source.before (fault_read e) f) cause
+
+-- what a file that was read is answered with
+pub file_answered : (Outcome : List ℕ → Answer → Type 0) (Answers : Abc → List (List ℕ) → Answer → Type 0) → IsOnFile Outcome Answers → (left : Option (List ℕ)) (v : Abc) (starts : List (List ℕ)) (a : Answer)
+    → OfInput left (λ b. AnswersFile b (Ok (v, starts))) → Answers v starts a → On Outcome left a
+file_answered Outcome Answers on left v starts a f x =
+    of_any (λ b. AnswersFile b (Ok (v, starts))) (λ input. Outcome input a) left (λ b r. on.accepted v starts b a r x) f
+
+pub file_gives : (Outcome : List ℕ → Answer → Type 0) (Answers : Abc → List (List ℕ) → Answer → Type 0) → IsOnFile Outcome Answers → (source : Channel) (v : Abc) (starts : List (List ℕ)) (bytes : List ℕ)
+    → OfInput source.before (λ b. AnswersFile b (Ok (v, starts))) → IsUsedUp source.before source.after → Answers v starts (given bytes) → Gives Outcome source bytes
+file_gives Outcome Answers on source v starts bytes f used x = record { outcome = file_answered Outcome Answers on source.before v starts (given bytes) f x; used_up = used }
+
+pub file_stops_at : (Outcome : List ℕ → Answer → Type 0) (Answers : Abc → List (List ℕ) → Answer → Type 0) → IsOnFile Outcome Answers → (source : Channel) (v : Abc) (starts : List (List ℕ)) (stop : Stop)
+    → OfInput source.before (λ b. AnswersFile b (Ok (v, starts))) → StopsAt (Answers v starts) stop → Stops Outcome source stop
+file_stops_at Outcome Answers on source v starts stop f x =
+    record { outcome = λ d. file_answered Outcome Answers on source.before v starts (stop_answer stop) f (x.answer d); cause = λ e. absurd (x.read e) }
+
+pub memory_stops_at : (Answers : Answer → Type 0) → StopsAt Answers stops.NoMemory
+memory_stops_at Answers = record { answer = λ d. absurd d; read = λ e. absurd cc }
+
+-- ---- `canon`
+
+pub canonical_gives : (source : Channel) (bytes : List ℕ) → IsCanonicalOf source.before bytes → IsUsedUp source.before source.after → Gives (OfFile Canon) source bytes
+canonical_gives source bytes f used = record {
+  outcome = of_any (Canonises bytes) (λ input. OfFile Canon input (given bytes)) source.before (λ b x. OfFile.accepted x.0 x.1 (ap given x.2)) f;
+  used_up = used;
+}
+
+-- ---- `tidy`
+
+pub tidy_stops_at : (v : Abc) (e : TidyError) → IsTidyError v e → StopsAt (Tidy v) (stop_of_tidy e)
+tidy_stops_at v (tidying.Refused rule i) h = record { answer = λ d. Tidy.untidy rule i h refl; read = λ e. absurd cc }
+tidy_stops_at v tidying.NoMemory h = memory_stops_at (Tidy v)
+
+pub tidied_gives : (v t : Abc) (bytes : List ℕ) → IsTidied v t → bytes ≡ file_bytes t → Tidy v (given bytes)
+tidied_gives v t bytes h is = Tidy.tidied t h (ap given is)

@@ -1,0 +1,2 @@
+pub mod Running
+pub use Rattle.abc_ticks.proofs.Pieces

@@ -1,0 +1,11 @@
+pub mod Meant
+pub mod Endings
+pub use Rattle.abc_ticks.specs.Ticks
+pub use Rattle.abc_ticks.specs.CallsLaws
+pub use Rattle.abc_ticks.specs.Exports
+pub use Rattle.abc_ticks.specs.Placed
+pub use Rattle.abc_ticks.specs.Ended
+pub use Rattle.abc_ticks.specs.Logged
+pub use Rattle.abc_ticks.specs.EndType
+pub use Rattle.abc_ticks.specs.Machines
+pub use Rattle.abc_ticks.specs.OpeningsBegun

@@ -1,0 +1,3 @@
+pub mod Logging
+pub mod Accepting
+pub use Rattle.abc_endings.proofs.Pieces

@@ -1,0 +1,61 @@
+-- What a comparison says of the input.
+use Rattle.std.proofs.Common.{◌≡◌, ◌⊎◌, ℕ, ◌≤◌, List, [], Ok, Err, inl, inr, refl, sym, subst, ◌∙◌}
+use Rattle.std.specs.Prelude.{IfErr, IfOk}
+use Rattle.std.specs.Io.KnownBytes.{Consumes, IsAtEnd}
+use Rattle.std.specs.declared.option.Option.{Option}
+use Rattle.std.specs.declared.result.Result.{Result}
+use Rattle.abc_base.specs.Faults.{Rose}
+use Rattle.abc_base.specs.Hosts.{AreFormulas}
+use Rattle.abc_base.specs.declared.formula.Formula.{Formula}
+use Rattle.abc_compare.specs.declared.compare.Verdict.{Verdict}
+use Rattle.abc_compare.specs.declared.compare.Verdict.TheVariants as verdicts
+use Rattle.abc_file.specs.Reading.{IsUsedUp, OfInput}
+use Rattle.abc_loghead.specs.declared.limits.LimitsLine.{LimitsLine}
+use Rattle.abc_logmeaning.specs.Logs.{log, steps}
+use Rattle.abc_logparts.specs.Checks.{IsCompared, IsFaultOf}
+use Rattle.abc_logparts.specs.declared.check.LogFault.{LogFault}
+use Rattle.abc_logparts.specs.declared.check.LogFault.TheVariants as faults
+use Rattle.abc_logparts.proofs.Judging.{all_there, has_cause}
+use Rattle.abc_machine.specs.OpeningsBegun.{setting}
+use Rattle.abc_program.specs.Linked.{LinkedFile}
+use Rattle.abc_replaying.specs.Prefaces.{HasPreface, error_of_log}
+use Rattle.abc_replaying.specs.Replays.{IsRefusedBy, IsReplayed}
+use Rattle.abc_replaying.specs.declared.error.ReplayError.{ReplayError}
+use Rattle.abc_replaying.specs.declared.error.ReplayError.TheVariants as errors
+use Rattle.abc_replaying.proofs.Found.{rose_before}
+use Rattle.abc_replaying.proofs.Logged.{refuses, replays, used_up}
+
+-- a failed read is told as such
+pub read_told : (place : ℕ) (f : LogFault) → error_of_log place f ≡ errors.ReadFault → f ≡ faults.ReadFault
+read_told place (faults.Differs n) same = absurd (cc)
+read_told place faults.ReadFault same = refl
+
+abbrev pub EndsSame : Verdict → (left new : Option (List ℕ)) → Result ℕ ReplayError → Type 0
+EndsSame v left new r = IfOk r (λ _. (v ≡ verdicts.Same) × Consumes left new [] × IsAtEnd new)
+
+abbrev pub HasFault : (place : ℕ) → Verdict → (left : Option (List ℕ)) → (agreed : ℕ) → Result ℕ ReplayError → Type 0
+HasFault place v left agreed r = IfErr r (λ e. (f : LogFault) × (e ≡ error_of_log place f) × IsFaultOf v left agreed f)
+
+module _ (formulas : List Formula) (old mid left new : Option (List ℕ)) (l : LinkedFile) (line : LimitsLine) (place k before faulty agreed : ℕ) (v : Verdict) (formed : AreFormulas formulas) (preface : HasPreface old mid l line place)
+    (compared : IsCompared (log (setting l formulas) line.limits line.fuel) (steps (setting l formulas) line.limits line.fuel) k mid before left faulty agreed v) where
+  pub is_replayed : (r : Result ℕ ReplayError) → IfOk r (λ n. n ≡ k) → EndsSame v left new r → IfOk r (λ n. OfInput old (λ input. IsReplayed formulas input n))
+  is_replayed (Ok n) same end =
+      let all = all_there (log (setting l formulas) line.limits line.fuel) (steps (setting l formulas) line.limits line.fuel) k mid left new before faulty agreed v compared end in
+      replays formulas old mid new l line place n formed preface all.0 all.1 (same ∙ all.2)
+  is_replayed (Err e) same end = tt
+
+  pub is_used_up : (r : Result ℕ ReplayError) → EndsSame v left new r → IfOk r (λ _. IsUsedUp old new)
+  is_used_up (Ok n) end =
+      let all = all_there (log (setting l formulas) line.limits line.fuel) (steps (setting l formulas) line.limits line.fuel) k mid left new before faulty agreed v compared end in
+      used_up old mid new l line place (log (setting l formulas) line.limits line.fuel) preface all.0 all.1
+  is_used_up (Err e) end = tt
+
+  pub is_refused : (r : Result ℕ ReplayError) → HasFault place v left agreed r → IfErr r (λ e. OfInput old (λ input. IsRefusedBy formulas input e))
+  is_refused (Ok n) fault = tt
+  is_refused (Err e) fault =
+      subst (λ (x : ReplayError). OfInput old (λ input. IsRefusedBy formulas input x)) (sym fault.1)
+      (refuses formulas old mid left l line place (steps (setting l formulas) line.limits line.fuel) k before faulty agreed v fault.0 formed preface compared fault.2)
+
+  pub is_caused : (first now : ℕ) → first ≤ before → faulty ≤ now → (v ≡ verdicts.ReadFault) ⊎ Rose faulty now → Rose first now
+  is_caused first now earlier later cause =
+      rose_before first before now earlier (has_cause (log (setting l formulas) line.limits line.fuel) (steps (setting l formulas) line.limits line.fuel) k mid left before faulty now agreed v compared later cause)

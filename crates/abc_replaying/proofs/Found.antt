@@ -1,0 +1,55 @@
+-- What stands before a log, put together.
+use Rattle.std.proofs.Common.{◌≡◌, ◌≢◌, ℕ, ◌+◌, ◌-◌, ◌^◌, ◌<◌, ◌≤◌, ◌⊎◌, min, List, length, Ok, Err, ap, refl, subst, sym, ◌∙◌, arith}
+use Rattle.std.specs.Prelude.{IfErr, IfOk}
+use Rattle.std.specs.Io.KnownBytes.{Consumes, IsAtEnd}
+use Rattle.std.specs.declared.option.Option.{Option}
+use Rattle.std.specs.declared.result.Result.{Result}
+use Rattle.abc_base.specs.Faults.{Rose}
+use Rattle.abc_file.specs.Reading.{OfInput}
+use Rattle.abc_loghead.specs.declared.limits.LimitsLine.{LimitsLine}
+use Rattle.abc_loglines.specs.Lines.{AreLimits, head_line, limits_line}
+use Rattle.abc_program.specs.Linked.{LinkedFile}
+use Rattle.abc_program.specs.Slots.{HasFewSlots}
+use Rattle.abc_tables.proofs.Whole.{read_spelled}
+use Rattle.abc_verified.specs.Verified.{IsReadVerified}
+use Rattle.abc_replaying.specs.Prefaces.{HasFile, HasPreface, IsNoLine, IsVerifiedIn, RefusesAny}
+use Rattle.abc_replaying.specs.Replays.{file_place}
+use Rattle.abc_replaying.specs.declared.error.ReplayError.{ReplayError}
+use Rattle.abc_replaying.specs.declared.error.ReplayError.TheVariants as errors
+use Rattle.abc_replaying.specs.declared.reading.Preface.{Preface}
+use Rattle.abc_replaying.proofs.Parts.{no_limits}
+
+-- ---- the file
+
+-- a file that was read from memory and verified
+pub verified_there : (bytes : List ℕ) (l : LinkedFile) (starts : List (List ℕ)) → IsReadVerified l starts bytes → HasFewSlots l → IsVerifiedIn bytes l
+verified_there bytes l starts r few = record { spells = (read_spelled (l.file, starts) bytes r.read.0, r.read.1); verified = r.verified; few = few }
+
+-- memory has no faults
+pub never_rose : Rose 0 0 → ⊥
+never_rose rose = omega (arith, rose)
+
+pub has_file : (old mid new : Option (List ℕ)) (bytes : List ℕ) (stated : ℕ) → stated < 2 ^ 32 → Consumes old mid (head_line stated) → Consumes mid new bytes → length bytes ≤ stated → (length bytes ≡ stated) ⊎ IsAtEnd new → HasFile old new bytes
+has_file old mid new bytes stated low head part few end = record { stated = stated; mid = mid; low = low; head = head; part = part; few = few; end = end }
+
+-- ---- the whole
+
+pub rose_before : (before mid now : ℕ) → before ≤ mid → Rose mid now → Rose before now
+rose_before before mid now later rose = omega (arith, later, rose)
+
+module _ (old mid new : Option (List ℕ)) (bytes : List ℕ) (l : LinkedFile) (place : ℕ) (r : Result Preface ReplayError) (f : HasFile old mid bytes) (v : IsVerifiedIn bytes l) (at : place ≡ file_place + length bytes) where
+  pub preface_found : (line : Result LimitsLine ReplayError) → IfOk line (λ x. Consumes mid new (limits_line x.fuel x.limits)) → IfOk line (λ x. AreLimits x.fuel x.limits) → IfOk line (λ x. x.length ≡ length (limits_line x.fuel x.limits))
+      → IfOk line (λ x. r ≡ Ok (record { verified = l; line = x; place = place + x.length })) → IfErr line (λ e. r ≡ Err e) → IfOk r (λ p. HasPreface old new p.verified p.line p.place)
+  preface_found (Ok x) taken limits long is none =
+      subst (λ (q : Result Preface ReplayError). IfOk q (λ p. HasPreface old new p.verified p.line p.place)) (sym is)
+      (record { bytes = bytes; mid = mid; file = f; verified = v; limits = limits; taken = taken; begins = omega (arith, at, long) })
+  preface_found (Err e) taken limits long is none = subst (λ (q : Result Preface ReplayError). IfOk q (λ p. HasPreface old new p.verified p.line p.place)) (sym none) tt
+
+  pub preface_refused : (line : Result LimitsLine ReplayError) → IfErr line (IsNoLine mid place) → IfOk line (λ x. r ≡ Ok (record { verified = l; line = x; place = place + x.length })) → IfErr line (λ e. r ≡ Err e) → IfErr r (RefusesAny old)
+  preface_refused (Ok x) no is none = subst (λ (q : Result Preface ReplayError). IfErr q (RefusesAny old)) (sym is) tt
+  preface_refused (Err e) no is none = subst (λ (q : Result Preface ReplayError). IfErr q (RefusesAny old)) (sym none) (no_limits old mid bytes l place e f v at no)
+
+pub line_faulty : (line : Result LimitsLine ReplayError) (r : Result Preface ReplayError) (l : LinkedFile) (place before between now : ℕ) → before ≤ between → (line ≡ Err errors.ReadFault → Rose between now)
+    → IfOk line (λ x. r ≡ Ok (record { verified = l; line = x; place = place + x.length })) → IfErr line (λ e. r ≡ Err e) → r ≡ Err errors.ReadFault → Rose before now
+line_faulty (Ok x) r l place before between now later cause is none fault = let clash = sym is ∙ fault in absurd (cc)
+line_faulty (Err e) r l place before between now later cause is none fault = rose_before before between now later (cause (sym none ∙ fault))
