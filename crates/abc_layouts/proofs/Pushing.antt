@@ -1,10 +1,10 @@
 -- Parts that are pushed, as equations.
-use Rattle.std.proofs.Common.{◌≡◌, ℕ, zero, suc, ◌+◌, List, [], ◌∷◌, ◌++◌, Bool, true, false, if◌then◌else◌, length, map, refl, sym, ap, ◌∙◌, arith, append_assoc}
+use Rattle.std.proofs.Common.{◌≡◌, ℕ, zero, suc, ◌+◌, List, [], ◌∷◌, ◌++◌, Bool, true, false, if◌then◌else◌, length, map, sym, ap, ◌∙◌, arith, append_assoc}
 use Rattle.std.proofs.lemmas.List.{append-nil, flat_map_more}
 use Rattle.std.proofs.lemmas.List.FromFn.{map-range_with_len_more}
 use Rattle.std.specs.List.{flat_map, range_with_len}
 use Rattle.abc_base.specs.declared.names.HostClass.{HostClass}
-use Rattle.abc_graph.specs.Orders.{IsOrder, order_of_all}
+use Rattle.abc_graph.specs.Orders.{order_of_all}
 use Rattle.abc_program.specs.ItemsParts.{body_at}
 use Rattle.abc_program.specs.Meaning.{host_classes}
 use Rattle.abc_program.specs.Parts.{has_activation}
