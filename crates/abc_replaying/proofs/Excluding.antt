@@ -1,5 +1,5 @@
 -- One input is one log, and no log is refused.
-use Rattle.std.proofs.Common.{◌≡◌, ◌≢◌, ℕ, zero, suc, ◌+◌, ◌<◌, ◌≤◌, ◌/◌, ◌%◌, ◌^◌, Bool, true, false, List, [], ◌∷◌, ◌++◌, length, take, drop, get_or, Some, None, refl, sym, ap, subst, ◌∙◌, arith, append_assoc, length-append, add-zero}
+use Rattle.std.proofs.Common.{◌≡◌, ◌≢◌, ℕ, zero, suc, ◌+◌, ◌*◌, ◌<◌, ◌≤◌, ◌/◌, ◌%◌, ◌^◌, Bool, true, false, List, [], ◌∷◌, ◌++◌, length, take, drop, get_or, Some, None, refl, sym, ap, subst, ◌∙◌, arith, append_assoc, length-append, add-zero}
 use Rattle.std.specs.Prelude.{if◌then◌else◌, nat_eq, nat_lt}
 use Rattle.std.specs.List.{flat_map}
 use Rattle.std.specs.declared.option.Option.{Option}
@@ -222,9 +222,9 @@ module _ (formulas : List Formula) (l : LinkedFile) (bytes : List ℕ) (spells :
 
   file_once : (e : VerifiedError) → IsNoVerifiedFile bytes e → ⊥
   file_once e (bad place reason is) = (decided bytes).never_both l.file (refusal place reason) spells is
-  file_once e (unverified v starts f read no) =
+  file_once e (unverified v starts f read why) =
       let file : IsFile v bytes = (read_spelled (v, starts) bytes read.0, read.1) in
-      verified_once v starts f ((decided bytes).one_value v l.file file spells) no
+      verified_once v starts f ((decided bytes).one_value v l.file file spells) why
 
 same_byte : (i : ℕ) (xs : List ℕ) → parts_from i xs xs ≡ None
 same_byte i [] = refl
@@ -244,9 +244,9 @@ log_same formulas l k fuel fuel2 m m2 found one within within2 e =
 
 no_refusal : (formulas : List Formula) (l : LinkedFile) (fuel : ℕ) (m : Limits) (input : List ℕ) (e : ReplayError) → IsLogOf formulas l fuel m input → IsRefused formulas input e → ⊥
 no_refusal formulas l fuel m input e is (IsRefused.head place wrong) = right_head (length is.file) place input (is.file ++ rest_of formulas l fuel m) (grouped formulas l fuel m input is) wrong
-no_refusal formulas l fuel m input e is (IsRefused.file bytes rest f parts no) =
+no_refusal formulas l fuel m input e is (IsRefused.file bytes rest f parts why) =
     let same : is.file ≡ bytes = sym (log_parts formulas l fuel m input bytes rest is parts).0 in
-    file_once formulas l bytes (subst (IsFile l.file) same is.spells) is.verified is.numbered f no
+    file_once formulas l bytes (subst (IsFile l.file) same is.spells) is.verified is.numbered f why
 no_refusal formulas l fuel m input e is (IsRefused.limits bytes rest k parts spells none) =
     none fuel m (log (setting_of l formulas) m fuel) is.limits (log_parts formulas l fuel m input bytes rest is parts).1
 no_refusal formulas l fuel m input e is (IsRefused.differs bytes rest found k fuel2 m2 n parts spells within there parted) =

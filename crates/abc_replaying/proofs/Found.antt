@@ -46,8 +46,8 @@ module _ (old mid new : Option (List ℕ)) (bytes : List ℕ) (l : LinkedFile) (
   preface_found (Err e) taken limits long is none = subst (λ (q : Result Preface ReplayError). IfOk q (λ p. HasPreface old new p.verified p.line p.place)) (sym none) tt
 
   pub preface_refused : (line : Result LimitsLine ReplayError) → IfErr line (IsNoLine mid place) → IfOk line (λ x. r ≡ Ok (record { verified = l; line = x; place = place + x.length })) → IfErr line (λ e. r ≡ Err e) → IfErr r (RefusesAny old)
-  preface_refused (Ok x) no is none = subst (λ (q : Result Preface ReplayError). IfErr q (RefusesAny old)) (sym is) tt
-  preface_refused (Err e) no is none = subst (λ (q : Result Preface ReplayError). IfErr q (RefusesAny old)) (sym none) (no_limits old mid bytes l place e f v at no)
+  preface_refused (Ok x) why is none = subst (λ (q : Result Preface ReplayError). IfErr q (RefusesAny old)) (sym is) tt
+  preface_refused (Err e) why is none = subst (λ (q : Result Preface ReplayError). IfErr q (RefusesAny old)) (sym none) (no_limits old mid bytes l place e f v at why)
 
 pub line_faulty : (line : Result LimitsLine ReplayError) (r : Result Preface ReplayError) (l : LinkedFile) (place before between now : ℕ) → before ≤ between → (line ≡ Err errors.ReadFault → Rose between now)
     → IfOk line (λ x. r ≡ Ok (record { verified = l; line = x; place = place + x.length })) → IfErr line (λ e. r ≡ Err e) → r ≡ Err errors.ReadFault → Rose before now

@@ -49,6 +49,12 @@ lifted None (Some rest) bytes f P Q go x = (head_line (length bytes) ++ (bytes +
 lifted (Some xs) None bytes f P Q go x = absurd (none_taken xs bytes f.mid f.stated f.head f.part)
 lifted (Some xs) (Some rest) bytes f P Q go x = go xs rest (parts_taken xs rest bytes f.mid f.stated f.low f.head f.part f.few f.end) x
 
+-- a file has no more bytes than are stated
+pub few_bytes : (input bytes rest : List ℕ) → HasParts input bytes rest → length bytes < 2 ^ 32
+few_bytes input bytes rest p =
+    let count : length bytes ≡ min p.stated (length p.following) = ap length p.file_is ∙ length-take p.stated p.following in
+    omega (arith, count, p.low)
+
 -- where something stands behind the file, the stated length is that of the file
 pub filled : (input bytes rest : List ℕ) → HasParts input bytes rest → 0 < length rest → input ≡ head_line (length bytes) ++ (bytes ++ rest)
 filled input bytes rest p some =

@@ -88,11 +88,11 @@ file_refused formulas old new bytes e f go = lifted old new bytes f (λ (input :
 
 pub no_file : (old new : Option (List ℕ)) (bytes : List ℕ) (e : VerifiedError) → HasFile old new bytes → IsNoFileBy bytes e → RefusesAny old (error_of e)
 unfolding RefusesAny error_of
-no_file old new bytes (files.Refused place reason) f no = λ formulas formed. file_refused formulas old new bytes (files.Refused place reason) f (λ input rest p. file bytes rest (files.Refused place reason) p no)
-no_file old new bytes (files.Link rule i) f no = λ formulas formed. file_refused formulas old new bytes (files.Link rule i) f (λ input rest p. file bytes rest (files.Link rule i) p no)
-no_file old new bytes (files.Verify m offset rule) f no = λ formulas formed. file_refused formulas old new bytes (files.Verify m offset rule) f (λ input rest p. file bytes rest (files.Verify m offset rule) p no)
-no_file old new bytes files.ReadFault f no = reads_fail old
-no_file old new bytes files.NoMemory f no = memory_ends old
+no_file old new bytes (files.Refused place reason) f why = λ formulas formed. file_refused formulas old new bytes (files.Refused place reason) f (λ input rest p. file bytes rest (files.Refused place reason) p why)
+no_file old new bytes (files.Link rule i) f why = λ formulas formed. file_refused formulas old new bytes (files.Link rule i) f (λ input rest p. file bytes rest (files.Link rule i) p why)
+no_file old new bytes (files.Verify m offset rule) f why = λ formulas formed. file_refused formulas old new bytes (files.Verify m offset rule) f (λ input rest p. file bytes rest (files.Verify m offset rule) p why)
+no_file old new bytes files.ReadFault f why = reads_fail old
+no_file old new bytes files.NoMemory f why = memory_ends old
 
 pub spells_verified : (formulas : List Formula) (bytes : List ℕ) (l : LinkedFile) → AreFormulas formulas → IsVerifiedIn bytes l → SpellsVerified formulas bytes l
 spells_verified formulas bytes l formed v =
@@ -120,17 +120,17 @@ behind_file bytes stated place p at same few low = omega (arith, at, same, few, 
 
 pub no_limits : (old new : Option (List ℕ)) (bytes : List ℕ) (l : LinkedFile) (place : ℕ) (e : ReplayError) → HasFile old new bytes → IsVerifiedIn bytes l → place ≡ file_place + length bytes → IsNoLine new place e → RefusesAny old e
 unfolding RefusesAny
-no_limits old new bytes l place (errors.Refused p reasons.LogLimits) f v at no = λ formulas formed.
-    let here : place_behind bytes 0 ≡ p = behind_file bytes f.stated place p at no.0 f.few f.low in
+no_limits old new bytes l place (errors.Refused p reasons.LogLimits) f v at why = λ formulas formed.
+    let here : place_behind bytes 0 ≡ p = behind_file bytes f.stated place p at why.0 f.few f.low in
     subst (λ (n : ℕ). OfInput old (λ input. IsRefusedBy formulas input (errors.Refused n reasons.LogLimits))) here
-    (lifted old new bytes f (λ (input : List ℕ). IsRefusedBy formulas input (errors.Refused (place_behind bytes 0) reasons.LogLimits)) HasNoLimits (λ input rest p none. limits bytes rest l p (spells_verified formulas bytes l formed v) none) (of_no_limits new no.1))
-no_limits old new bytes l place (errors.Refused p (reasons.File reason)) f v at no = absurd no
-no_limits old new bytes l place (errors.Refused p reasons.LogHead) f v at no = absurd no
-no_limits old new bytes l place (errors.Refused p reasons.LogDiffers) f v at no = absurd no
-no_limits old new bytes l place (errors.Link rule i) f v at no = absurd no
-no_limits old new bytes l place (errors.Verify m offset rule) f v at no = absurd no
-no_limits old new bytes l place errors.ReadFault f v at no = reads_fail old
-no_limits old new bytes l place errors.NoMemory f v at no = absurd no
+    (lifted old new bytes f (λ (input : List ℕ). IsRefusedBy formulas input (errors.Refused (place_behind bytes 0) reasons.LogLimits)) HasNoLimits (λ input rest p none. limits bytes rest l p (spells_verified formulas bytes l formed v) none) (of_no_limits new why.1))
+no_limits old new bytes l place (errors.Refused p (reasons.File reason)) f v at why = absurd why
+no_limits old new bytes l place (errors.Refused p reasons.LogHead) f v at why = absurd why
+no_limits old new bytes l place (errors.Refused p reasons.LogDiffers) f v at why = absurd why
+no_limits old new bytes l place (errors.Link rule i) f v at why = absurd why
+no_limits old new bytes l place (errors.Verify m offset rule) f v at why = absurd why
+no_limits old new bytes l place errors.ReadFault f v at why = reads_fail old
+no_limits old new bytes l place errors.NoMemory f v at why = absurd why
 
 pub read_error : (e : VerifiedError) → error_of e ≡ errors.ReadFault → e ≡ files.ReadFault
 unfolding error_of

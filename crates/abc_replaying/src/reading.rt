@@ -97,6 +97,7 @@ fn read_file<S: Source>(alloc: Global, source: &mut S) -> Result<Vec<u8>, Replay
 fn close(_verified: Verified) {}
 
 /// A verified file with the line of limits, which begins at this place, or why there is none.
+#[tactic(none)]
 fn with_line(
     verified: Verified,
     line: Result<LimitsLine, ReplayError>,
@@ -123,6 +124,7 @@ fn with_line(
 /// Reads what stands before the log of an input, or says why the input is none, in its order: the line before the file is wrong, the
 /// file is refused, linked or verified not, or there is no line of limits behind it. `ReadFault` comes only where the source's count
 /// of faults rose.
+#[tactic(none)]
 pub fn read_preface<S: Source>(alloc: Global, source: &mut S) -> Result<Preface, ReplayError>
     ensures preface { IfOk result (λ p. HasPreface (S.left source.old) (S.left source.new) p.verified p.line p.place) }
     ensures refused { IfErr result (RefusesAny (S.left source.old)) }
