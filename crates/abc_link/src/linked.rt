@@ -74,7 +74,6 @@ impl Linked {
     }
 
     /// The layouts of every linked file have the one numbering of its file.
-    #[tactic(auto, using(crate::proofs::Laws::is_numbered))]
     pub fn numbering_law(&self)
         ensures { IsNumbered self.now }
     {

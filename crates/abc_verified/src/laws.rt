@@ -4,7 +4,6 @@ ghost use Rattle.abc_tables.specs.declared.tables.Abc.{Abc};
 ghost use Rattle.abc_verified.specs.Verified.{IsVerifiedOf};
 
 /// A file has at most one linked file that is verified.
-#[tactic(auto, using(crate::proofs::Single::one_verified))]
 pub fn one_linked_file()
     ensures { (v : Abc) → (l m : LinkedFile) → IsVerifiedOf v l → IsVerifiedOf v m → l ≡ m }
 {}
