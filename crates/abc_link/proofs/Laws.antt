@@ -14,7 +14,7 @@ use Rattle.abc_link.specs.declared.linked.Linked.TheInside.{Inside}
 use Rattle.abc_interfaces.specs.Linked.{IsLinkedFile, LinkedFile, above}
 use Rattle.abc_interfaces.specs.Slots.{HasFewSlots, numbers_of, slots_of}
 use Rattle.abc_interfaces.specs.SlotInfo.{SlotInfo}
-use Rattle.abc_search_tables.specs.Numbered.{IsNumbered}
+use Rattle.abc_search_tables.specs.LayoutsNumbering.{IsNumbered}
 use Rattle.abc_search_tables.specs.SlotsTables.{HasSlots}
 
 pub is_linked : (a : Inside) → AreTables a → IsLinkedFile (file_of a)

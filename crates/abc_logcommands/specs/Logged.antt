@@ -4,7 +4,7 @@ use Rattle.abc_base.specs.declared.formula.Formula.{Formula}
 use Rattle.abc_heap.specs.declared.records.Limits.{Limits}
 use Rattle.abc_meaning.specs.Laws.{IsVerified}
 use Rattle.abc_program.specs.Linked.{LinkedFile}
-use Rattle.abc_verified.specs.Numbered.{IsNumbered}
+use Rattle.abc_verified.specs.LayoutsNumbering.{IsNumbered}
 use Rattle.abc_replaying.specs.Replays.{IsReplayed}
 use Rattle.abc_answers.specs.Answers.{Answer, given}
 use Rattle.abc_answers.specs.End.{Channel, Got}

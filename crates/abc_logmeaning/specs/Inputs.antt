@@ -2,7 +2,7 @@
 use Rattle.std.specs.Prelude.{◌≡◌, ℕ, ◌<◌, ◌^◌, List, ◌++◌, length}
 use Rattle.abc_base.specs.declared.formula.Formula.{Formula}
 use Rattle.abc_heap.specs.declared.records.Limits.{Limits}
-use Rattle.abc_link.specs.Numbered.{IsNumbered}
+use Rattle.abc_link.specs.LayoutsNumbering.{IsNumbered}
 use Rattle.abc_meaning.specs.Laws.{IsVerified}
 use Rattle.abc_program.specs.Linked.{LinkedFile}
 use Rattle.abc_tables.specs.Files.{IsFile}

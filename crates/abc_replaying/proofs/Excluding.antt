@@ -30,7 +30,7 @@ use Rattle.abc_program.specs.Linked.{LinkedFile}
 use Rattle.abc_tables.specs.Files.{IsFile, IsFileRead}
 use Rattle.abc_tables.specs.declared.tables.Abc.{Abc}
 use Rattle.abc_tables.proofs.Whole.{decided, read_spelled}
-use Rattle.abc_verified.specs.Numbered.{IsNumbered}
+use Rattle.abc_verified.specs.LayoutsNumbering.{IsNumbered}
 use Rattle.abc_verified.proofs.Single.{one_numbered}
 use Rattle.abc_verified.specs.Refusing.{IsRefused as IsNoVerifiedFile, IsUnverified, bad, unlinked, untyped, unverified}
 use Rattle.abc_verified.specs.declared.error.VerifiedError.{VerifiedError}

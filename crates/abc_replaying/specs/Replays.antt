@@ -11,7 +11,7 @@ use Rattle.abc_logmeaning.specs.Logs.{log, steps}
 use Rattle.abc_meaning.specs.Laws.{IsVerified}
 use Rattle.abc_program.specs.Linked.{LinkedFile}
 use Rattle.abc_tables.specs.Files.{IsFile}
-use Rattle.abc_verified.specs.Numbered.{IsNumbered}
+use Rattle.abc_verified.specs.LayoutsNumbering.{IsNumbered}
 use Rattle.abc_verified.specs.Refusing.{IsRefused as IsNoVerifiedFile}
 use Rattle.abc_verified.specs.declared.error.VerifiedError.{VerifiedError}
 use Rattle.abc_verified.specs.declared.error.VerifiedError.TheVariants as files

@@ -1,6 +1,6 @@
 -- A file has one linked file.
 use Rattle.std.proofs.Common.{◌≡◌, List, sym, ap, ◌∙◌}
-use Rattle.abc_link.specs.Numbered.{IsNumbered, numbering}
+use Rattle.abc_link.specs.LayoutsNumbering.{IsNumbered, numbering}
 use Rattle.abc_link.specs.Part.{Part}
 use Rattle.abc_program.specs.Linked.{LinkedFile}
 use Rattle.abc_tables.specs.declared.tables.Abc.{Abc}

@@ -4,7 +4,7 @@ use Rattle.std.specs.declared.option.Option.{Option}
 use Rattle.std.proofs.lemmas.Option.{slice_get-get_or}
 use Rattle.abc_bodies.specs.Places.{ArePlaces}
 use Rattle.abc_program.specs.Linked.{IsLinkedFile, LinkedFile}
-use Rattle.abc_link.specs.Numbered.{IsNumbered}
+use Rattle.abc_link.specs.LayoutsNumbering.{IsNumbered}
 use Rattle.abc_items.specs.declared.error.LinkError.{LinkError}
 use Rattle.abc_items.specs.declared.error.LinkError.TheVariants as refusals
 use Rattle.abc_items.specs.Firsts.{IsRefusal as IsUnlinked}

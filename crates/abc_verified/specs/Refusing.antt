@@ -7,7 +7,7 @@ use Rattle.abc_items.specs.declared.error.LinkError.{LinkError}
 use Rattle.abc_items.specs.declared.error.LinkError.TheVariants as refusals
 use Rattle.abc_items.specs.declared.items.Item.{Item}
 use Rattle.abc_items.specs.declared.items.LinkRule.{LinkRule}
-use Rattle.abc_link.specs.Numbered.{IsNumbered}
+use Rattle.abc_link.specs.LayoutsNumbering.{IsNumbered}
 use Rattle.abc_program.specs.Linked.{IsLinkedFile, LinkedFile}
 use Rattle.abc_tables.specs.declared.tables.Abc.{Abc}
 use Rattle.abc_tables.specs.Files.{IsBadFile, IsFileRead}

@@ -1,6 +1,6 @@
 -- What a verified file is.
 use Rattle.std.specs.Prelude.{◌≡◌, ℕ, List}
-use Rattle.abc_link.specs.Numbered.{IsNumbered}
+use Rattle.abc_link.specs.LayoutsNumbering.{IsNumbered}
 use Rattle.abc_program.specs.Linked.{IsLinkedFile, LinkedFile}
 use Rattle.abc_tables.specs.declared.tables.Abc.{Abc}
 use Rattle.abc_tables.specs.Files.{IsFileRead}

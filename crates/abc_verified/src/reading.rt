@@ -2,7 +2,7 @@ ghost use Rattle.std.specs.Prelude.{◌≡◌, ◌≤◌, Err, IfErr, IfOk};
 ghost use Rattle.abc_base.specs.Faults.{Rose};
 ghost use Rattle.abc_bodies.specs.Places.{ArePlaces};
 ghost use Rattle.abc_file.specs.Reading.{IsUsedUp, OfInput};
-ghost use Rattle.abc_link.specs.Numbered.{IsNumbered};
+ghost use Rattle.abc_link.specs.LayoutsNumbering.{IsNumbered};
 ghost use Rattle.abc_program.specs.Linked.{IsLinkedFile};
 ghost use Rattle.abc_tables.specs.Files.{Fits};
 ghost use Rattle.abc_verified.specs.Refusing.{IsPlaced, IsRefusedBy, IsUnverifiedBy, error_of_verify};

@@ -1,5 +1,5 @@
 use Rattle.std.proofs.Common.{ap, refl, subst, sym}
-use Rattle.abc_link.specs.Numbered.{IsNumbered}
+use Rattle.abc_link.specs.LayoutsNumbering.{IsNumbered}
 use Rattle.abc_program.specs.Linked.{IsLinkedFile, LinkedFile}
 use Rattle.abc_verify.specs.Typed.{AllTyped}
 use Rattle.abc_verified.specs.Refusing.{IsUnverifiedBy}
