@@ -5,12 +5,11 @@ use Rattle.abc_base.specs.declared.names.HostClass.{HostClass}
 use Rattle.abc_base.specs.declared.names.HostClass.TheVariants as hosts
 use Rattle.abc_program.specs.Meaning.{host_classes}
 use Rattle.abc_tables.specs.declared.tables.Abc.{Abc}
-use Rattle.abc_layouts.specs.Numbering.{HasHosts}
 use Rattle.abc_program.specs.Numbering.{IsBehind, part_at}
 use Rattle.abc_program.specs.Parts.{HasLayout, host_parent, parent}
 use Rattle.abc_program.specs.declared.part.Part.{Part}
 use Rattle.abc_program.specs.declared.part.Part.TheVariants as parts
-use Rattle.abc_layouts.proofs.Adding.{contains_map}
+use Rattle.abc_layouts.proofs.Adding.{HasHosts, contains_map}
 
 pub host_known : (h : HostClass) → Contains host_classes h
 host_known hosts.Object = (0, lit< tt, refl)

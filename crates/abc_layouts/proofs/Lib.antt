@@ -1,4 +1,5 @@
 pub mod Rooted
+pub mod Pushing
 pub mod Adding
 pub mod Hosts
 pub mod Numbered

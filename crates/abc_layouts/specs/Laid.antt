@@ -10,6 +10,7 @@ use Rattle.abc_program.specs.Numbering.{IsNumbering}
 use Rattle.abc_program.specs.Parts.{parent}
 use Rattle.abc_program.specs.Places.{base_of, key_eq, part_key}
 use Rattle.abc_program.specs.declared.key.PartKey.{PartKey}
+use Rattle.abc_layouts.specs.Numbering.{numbering}
 use Rattle.abc_layouts.specs.declared.layouts.Layouts.{Layouts}
 use Rattle.abc_program.specs.declared.part.Part.{Part}
 
@@ -31,8 +32,9 @@ base_found v places p = under_found places (parent v p)
 pub record HasPlaces (l : Layouts) : Type 0 where
   pub places : (k : PartKey) → get key_eq l.places k ≡ first (key_eq k) (map part_key l.parts)
 
--- the parts have numbers, are found by them, and so are the layouts that they stand under
+-- the parts have their numbers, are found by them, and so are the layouts that they stand under
 pub record AreLayouts (v : Abc) (l : Layouts) : Type 0 where
+  pub is : l.parts ≡ numbering v
   pub numbering : IsNumbering v l.parts
   pub found : HasPlaces l
   pub bases : l.bases ≡ map (base_found v l.places) l.parts

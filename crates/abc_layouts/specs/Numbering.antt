@@ -1,37 +1,35 @@
--- Parts that are numbered one after the other.
-use Rattle.std.specs.Prelude.{◌≡◌, ℕ, ◌<◌, List, Some, All, Contains, IsTrue, length, take, get_or}
-use Rattle.abc_base.specs.declared.names.HostClass.{HostClass}
-use Rattle.abc_base.specs.declared.names.HostClass.TheVariants as hosts
-use Rattle.abc_tables.specs.declared.tables.Abc.{Abc}
-use Rattle.abc_program.specs.Parts.{HasLayout, has_activation}
-use Rattle.abc_program.specs.Numbering.{IsBehind}
+-- The one numbering of the parts that have layouts.
+use Rattle.std.specs.Prelude.{◌≡◌, ℕ, List, [], ◌∷◌, ◌++◌, if◌then◌else◌, length, map}
+use Rattle.std.specs.List.{flat_map, range_with_len}
+use Rattle.abc_graph.specs.Orders.{order_of_all}
 use Rattle.abc_program.specs.ItemsParts.{body_at}
+use Rattle.abc_program.specs.Linked.{LinkedFile}
+use Rattle.abc_program.specs.Meaning.{host_classes}
+use Rattle.abc_program.specs.Parts.{has_activation}
 use Rattle.abc_program.specs.declared.part.Part.{Part}
 use Rattle.abc_program.specs.declared.part.Part.TheVariants as parts
+use Rattle.abc_tables.specs.declared.tables.Abc.{Abc}
+use Rattle.abc_layouts.specs.Forest.{class_bases}
 
--- the classes of the host have layouts
-pub record HasHosts (all : List Part) : Type 0 where
-  pub has : (h : HostClass) → Contains all (parts.Host h)
+-- the activation of a body, if it makes one
+abbrev pub activation_in : Abc → ℕ → List Part
+activation_in v b = if has_activation v b then parts.Activation b ∷ [] else []
 
--- some parts more, whatever those before are
-pub record AddsParts (v : Abc) (old new : List Part) : Type 0 where
-  pub keeps : (p : Part) → Contains old p → Contains new p
-  pub only : All (HasLayout v) old → All (HasLayout v) new
-  pub behind : HasHosts old → IsBehind v old → IsBehind v new
+-- the same, and then its catch objects
+abbrev pub parts_in : Abc → ℕ → List Part
+parts_in v b = activation_in v b ++ map (λ e. parts.Catch b e) (range_with_len 0 (length (body_at v b).handlers))
 
--- the same, with the first i parts of a row
-pub record AddsEach (v : Abc) (old new : List Part) (row : ℕ → Part) (i : ℕ) : Type 0 where
-  pub adds : AddsParts v old new
-  pub each : (k : ℕ) → k < i → Contains new (row k)
+-- instances and class objects of the host's classes, instances of the file's, each behind those of its base, their class objects,
+-- the global objects, and what each body makes
+unfoldable pub numbering : Abc → List Part
+numbering v =
+    map (λ h. parts.Host h) host_classes
+    ++ map (λ h. parts.HostClassObject h) host_classes
+    ++ map (λ k. parts.Instance k) (order_of_all (class_bases v))
+    ++ map (λ k. parts.ClassObject k) (range_with_len 0 (length v.instances))
+    ++ map (λ s. parts.Global s) (range_with_len 0 (length v.scripts))
+    ++ flat_map (parts_in v) (range_with_len 0 (length v.bodies))
 
--- the same, with the activations and the catch objects of the first n bodies
-pub record AddsBodies (v : Abc) (old new : List Part) (n : ℕ) : Type 0 where
-  pub adds : AddsParts v old new
-  pub activations : (b : ℕ) → b < n → IsTrue (has_activation v b) → Contains new (parts.Activation b)
-  pub catches : (b e : ℕ) → b < n → e < length (body_at v b).handlers → Contains new (parts.Catch b e)
-
--- the same, with those of one body
-pub record AddsBody (v : Abc) (old new : List Part) (b : ℕ) : Type 0 where
-  pub adds : AddsParts v old new
-  pub activation : IsTrue (has_activation v b) → Contains new (parts.Activation b)
-  pub catches : (e : ℕ) → e < length (body_at v b).handlers → Contains new (parts.Catch b e)
+-- the layouts of a linked file have these numbers
+abbrev pub IsNumbered : LinkedFile → Type 0
+IsNumbered l = l.parts ≡ numbering l.file

@@ -1,7 +1,8 @@
-ghost use Rattle.std.specs.Prelude.{◌≡◌, ◌<◌, ◌++◌, ◌^◌, Contains, length, map, get_or, IfOk, IsTrue, OnOk};
+ghost use Rattle.std.specs.Prelude.{◌≡◌, ◌<◌, ◌++◌, ◌^◌, length, map, IfOk, IsTrue, OnOk};
+ghost use Rattle.std.specs.List.{flat_map, range_with_len};
 ghost use Rattle.abc_graph.specs.Orders.{IsOrder};
 ghost use Rattle.abc_layouts.specs.Forest.{class_bases};
-ghost use Rattle.abc_layouts.specs.Numbering.{AddsBodies, AddsBody, AddsEach, AddsParts};
+ghost use Rattle.abc_layouts.specs.Numbering.{activation_in, numbering, parts_in};
 ghost use Rattle.abc_program.specs.Numbering.{IsNumbering};
 ghost use Rattle.abc_program.specs.Parts.{has_activation as activates};
 ghost use Rattle.abc_program.specs.ItemsParts.{body_at, method_at};
@@ -34,29 +35,20 @@ fn push_host_objects(parts: &mut Table<Part>, hosts: &[HostClass]) -> Result<(),
     Ok(())
 }
 
-/// The instances of the file's classes, each behind those of its base.
-#[tactic(auto, using(crate::proofs::Adding::each_none, crate::proofs::Adding::instance_next))]
-fn push_instances(
-    abc: &Abc,
-    parts: &mut Table<Part>,
-    nodes: &[u32],
-    places: &Table<Option<usize>>,
-) -> Result<(), NoMemory>
-    requires { IsOrder (class_bases abc.now) nodes.now places.now }
-    ensures { OnOk result (AddsEach abc.now parts.old parts.new (λ q. Part.Instance (get_or nodes.now q 0)) (length nodes.now)) }
+/// The instances of some classes of the file.
+fn push_instances(parts: &mut Table<Part>, classes: &[u32]) -> Result<(), NoMemory>
+    ensures { OnOk result (parts.new ≡ parts.old ++ map (λ k. Part.Instance k) classes.now) }
 {
-    let _order = places;
-    for class in nodes {
+    for class in classes {
         parts.push(Part::Instance(*class))?;
     }
     Ok(())
 }
 
-/// The class objects of the file.
-#[tactic(auto, using(crate::proofs::Adding::each_none, crate::proofs::Adding::class_object_next))]
-fn push_class_objects(abc: &Abc, parts: &mut Table<Part>, count: u32) -> Result<(), NoMemory>
-    requires { count ≡ length abc.now.instances }
-    ensures { OnOk result (AddsEach abc.now parts.old parts.new (λ k. Part.ClassObject k) (length abc.now.instances)) }
+/// The class objects of so many classes of the file.
+#[tactic(auto, using(crate::proofs::Pushing::row_none, crate::proofs::Pushing::row_next))]
+fn push_class_objects(parts: &mut Table<Part>, count: u32) -> Result<(), NoMemory>
+    ensures { OnOk result (parts.new ≡ parts.old ++ map (λ k. Part.ClassObject k) (range_with_len 0 count)) }
 {
     for class in 0..count {
         parts.push(Part::ClassObject(class))?;
@@ -64,11 +56,10 @@ fn push_class_objects(abc: &Abc, parts: &mut Table<Part>, count: u32) -> Result<
     Ok(())
 }
 
-/// The global objects of the scripts.
-#[tactic(auto, using(crate::proofs::Adding::each_none, crate::proofs::Adding::global_next))]
-fn push_globals(abc: &Abc, parts: &mut Table<Part>, count: u32) -> Result<(), NoMemory>
-    requires { count ≡ length abc.now.scripts }
-    ensures { OnOk result (AddsEach abc.now parts.old parts.new (λ k. Part.Global k) (length abc.now.scripts)) }
+/// The global objects of so many scripts.
+#[tactic(auto, using(crate::proofs::Pushing::row_none, crate::proofs::Pushing::row_next))]
+fn push_globals(parts: &mut Table<Part>, count: u32) -> Result<(), NoMemory>
+    ensures { OnOk result (parts.new ≡ parts.old ++ map (λ s. Part.Global s) (range_with_len 0 count)) }
 {
     for script in 0..count {
         parts.push(Part::Global(script))?;
@@ -76,12 +67,10 @@ fn push_globals(abc: &Abc, parts: &mut Table<Part>, count: u32) -> Result<(), No
     Ok(())
 }
 
-/// The catch objects of a body.
-#[tactic(auto, using(crate::proofs::Adding::each_none, crate::proofs::Adding::catch_next))]
-fn push_catches(abc: &Abc, parts: &mut Table<Part>, body: u32, count: u32) -> Result<(), NoMemory>
-    requires body { body < length abc.now.bodies }
-    requires count { count ≡ length (body_at abc.now body).handlers }
-    ensures { OnOk result (AddsEach abc.now parts.old parts.new (λ k. Part.Catch body k) (length (body_at abc.now body).handlers)) }
+/// So many catch objects of a body.
+#[tactic(auto, using(crate::proofs::Pushing::row_none, crate::proofs::Pushing::row_next))]
+fn push_catches(parts: &mut Table<Part>, body: u32, count: u32) -> Result<(), NoMemory>
+    ensures { OnOk result (parts.new ≡ parts.old ++ map (λ e. Part.Catch body e) (range_with_len 0 count)) }
 {
     for exception in 0..count {
         parts.push(Part::Catch(body, exception))?;
@@ -126,11 +115,9 @@ fn has_activation(abc: &Abc, body: u32) -> bool
 }
 
 /// The activation of a body, if it makes one.
-#[tactic(auto, using(crate::proofs::Adding::adds_none, crate::proofs::Adding::adds_activation))]
+#[tactic(auto, using(crate::proofs::Pushing::no_activation, crate::proofs::Pushing::one_activation))]
 fn push_activation(abc: &Abc, parts: &mut Table<Part>, body: u32) -> Result<(), NoMemory>
-    requires { body < length abc.now.bodies }
-    ensures adds { OnOk result (AddsParts abc.now parts.old parts.new) }
-    ensures own { OnOk result (IsTrue (activates abc.now body) → Contains parts.new (Part.Activation body)) }
+    ensures { OnOk result (parts.new ≡ parts.old ++ activation_in abc.now body) }
 {
     if has_activation(abc, body) {
         parts.push(Part::Activation(body))?;
@@ -139,25 +126,23 @@ fn push_activation(abc: &Abc, parts: &mut Table<Part>, body: u32) -> Result<(), 
 }
 
 /// The activation and the catch objects of a body.
-#[tactic(auto, using(crate::proofs::Adding::body_added))]
+#[tactic(auto, using(crate::proofs::Pushing::body_pushed))]
 fn push_body(abc: &Abc, parts: &mut Table<Part>, body: u32) -> Result<(), NoMemory>
-    requires { body < length abc.now.bodies }
-    ensures { OnOk result (AddsBody abc.now parts.old parts.new body) }
+    ensures { OnOk result (parts.new ≡ parts.old ++ parts_in abc.now body) }
 {
     let count = handler_count(abc, body);
     if count > u32::MAX as usize {
         return Err(NoMemory);
     }
     push_activation(abc, parts, body)?;
-    push_catches(abc, parts, body, count as u32)?;
+    push_catches(parts, body, count as u32)?;
     Ok(())
 }
 
-/// The activations and the catch objects of all bodies.
-#[tactic(auto, using(crate::proofs::Adding::bodies_none, crate::proofs::Adding::bodies_next))]
+/// The activations and the catch objects of so many bodies.
+#[tactic(auto, using(crate::proofs::Pushing::bodies_none, crate::proofs::Pushing::bodies_next))]
 fn push_bodies(abc: &Abc, parts: &mut Table<Part>, count: u32) -> Result<(), NoMemory>
-    requires { count ≡ length abc.now.bodies }
-    ensures { OnOk result (AddsBodies abc.now parts.old parts.new (length abc.now.bodies)) }
+    ensures { OnOk result (parts.new ≡ parts.old ++ flat_map (parts_in abc.now) (range_with_len 0 count)) }
 {
     for body in 0..count {
         push_body(abc, parts, body)?;
@@ -174,11 +159,11 @@ fn are_few(abc: &Abc) -> bool
         && abc.bodies.len() <= u32::MAX as usize
 }
 
-/// All parts that have layouts, in an order in which each stands behind what it is under, the classes of the host first.
-#[tactic(auto, using(crate::proofs::Numbered::numbered))]
+/// All parts that have layouts, by their numbers.
 fn parts_in_order(alloc: Global, abc: &Abc, order: &Order) -> Result<Table<Part>, NoMemory>
     requires { IsOrder (class_bases abc.now) order.now.nodes order.now.places }
-    ensures { IfOk result (λ parts. IsNumbering abc.now parts) }
+    ensures is { IfOk result (λ parts. parts ≡ numbering abc.now) }
+    ensures numbering { IfOk result (λ parts. IsNumbering abc.now parts) }
 {
     if !are_few(abc) {
         return Err(NoMemory);
@@ -186,18 +171,19 @@ fn parts_in_order(alloc: Global, abc: &Abc, order: &Order) -> Result<Table<Part>
     let mut parts = Table::new(alloc);
     push_hosts(&mut parts, HOST_CLASSES.as_slice())?;
     push_host_objects(&mut parts, HOST_CLASSES.as_slice())?;
-    push_instances(abc, &mut parts, order.nodes.as_slice(), &order.places)?;
-    push_class_objects(abc, &mut parts, abc.instances.len() as u32)?;
-    push_globals(abc, &mut parts, abc.scripts.len() as u32)?;
+    push_instances(&mut parts, order.nodes.as_slice())?;
+    push_class_objects(&mut parts, abc.instances.len() as u32)?;
+    push_globals(&mut parts, abc.scripts.len() as u32)?;
     push_bodies(abc, &mut parts, abc.bodies.len() as u32)?;
     Ok(parts)
 }
 
-/// All parts of a file that have layouts; a part's place is the number of its layout. What a part stands under has a
-/// lower number, and the classes of the host have the first.
+/// All parts of a file that have layouts; a part's place is the number of its layout. The classes of the host have the first
+/// numbers, the classes of the file each a higher one than its base.
 pub fn number_parts(alloc: Global, meanings: &Meanings<'_>) -> Result<Table<Part>, NoMemory>
     requires { AllHold meanings.now.abc.now }
-    ensures { IfOk result (λ parts. IsNumbering meanings.now.abc.now parts) }
+    ensures is { IfOk result (λ parts. parts ≡ numbering meanings.now.abc.now) }
+    ensures numbering { IfOk result (λ parts. IsNumbering meanings.now.abc.now parts) }
 {
     let order = class_order(alloc, meanings)?;
     parts_in_order(alloc, meanings.abc, &order)

@@ -14,10 +14,14 @@ use Rattle.abc_link.specs.declared.linked.Linked.TheInside.{Inside}
 use Rattle.abc_interfaces.specs.Linked.{IsLinkedFile, LinkedFile, above}
 use Rattle.abc_interfaces.specs.Slots.{HasFewSlots, numbers_of, slots_of}
 use Rattle.abc_interfaces.specs.SlotInfo.{SlotInfo}
+use Rattle.abc_search_tables.specs.LayoutsNumbering.{IsNumbered}
 use Rattle.abc_search_tables.specs.SlotsTables.{HasSlots}
 
 pub is_linked : (a : Inside) → AreTables a → IsLinkedFile (file_of a)
 is_linked a t = record { fits = t.fits; rules = t.rules; numbering = t.made_of.layouts_are.numbering; tables = t.tables; layouts = t.made_of.few }
+
+pub is_numbered : (a : Inside) → AreTables a → IsNumbered (file_of a)
+is_numbered a t = t.made_of.layouts_are.is
 
 pub slots_within : (l : LinkedFile) (lists : List (Listed SlotInfo)) (n x : ℕ) → HasSlots l lists n → x < n → x < length lists
 slots_within l lists n x h lt = let e = h.len in omega arith

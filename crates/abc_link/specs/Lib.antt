@@ -16,3 +16,4 @@ pub use Rattle.abc_interfaces.specs.ItemsParts
 pub use Rattle.abc_interfaces.specs.ItemsTraits as Traits
 pub use Rattle.abc_search_tables.specs.ScriptTraits
 pub use Rattle.abc_search_tables.specs.OwnSlots
+pub use Rattle.abc_search_tables.specs.LayoutsNumbering

@@ -10,6 +10,7 @@ ghost use Rattle.abc_interfaces.specs.Linked.{IsLayout, IsLinkedFile, above as a
 ghost use Rattle.abc_interfaces.specs.Owners.{body_of as body_of_method, owner_of};
 ghost use Rattle.abc_interfaces.specs.Slots.{HasFewSlots, slot_numbered as slot_with, slots_of};
 ghost use Rattle.abc_interfaces.specs.Traits.{own_table_of, own_traits as own_traits_of};
+ghost use Rattle.abc_search_tables.specs.LayoutsNumbering.{IsNumbered};
 ghost use Rattle.abc_search_tables.specs.OwnSlots.{slots_before as slots_before_of};
 ghost use Rattle.abc_search_tables.specs.ScriptTraits.{owners_of, script_traits as script_traits_of};
 ghost use Rattle.abc_interfaces.specs.Types.{kind_of_type as kind_of, type_of as type_of_name};
@@ -68,6 +69,13 @@ impl Linked {
     #[tactic(auto, using(crate::proofs::Laws::is_linked))]
     pub fn linked_law(&self)
         ensures { IsLinkedFile self.now }
+    {
+        let _file = &self.abc;
+    }
+
+    /// The layouts of every linked file have the one numbering of its file.
+    pub fn numbering_law(&self)
+        ensures { IsNumbered self.now }
     {
         let _file = &self.abc;
     }

@@ -9,7 +9,7 @@ use Rattle.abc_logcommands.proofs.Logging.{short_file}
 use Rattle.abc_answers.specs.Answers.{Answer, On, given, told}
 use Rattle.abc_answers.specs.End.{Channel, Ends, GivesLine, Got, HasFailed, IsEnd, IsRead, RunsTo, UsesUp}
 use Rattle.abc_answers.specs.Lines.{no_memory_text, read_fault_text, write_fault_text}
-use Rattle.abc_logcommands.specs.Logged.{GotLog, GotLogOf, IsAnsweredBeside}
+use Rattle.abc_logcommands.specs.Logged.{GotLog, GotLogOf}
 use Rattle.abc_logcommands.specs.Logs.{IsLogged, Replay, replayed_line, unreplayed_answer, unreplayed_text, whole_log}
 use Rattle.abc_endings.specs.Meant.{IsEnded}
 use Rattle.abc_answers.specs.Stops.{Gives, IsGiven, Stops}
@@ -79,14 +79,15 @@ got_log_of l fs fuel limits starts out err s v few host end read =
     record {
       linked = l;
       verified = record { fits = v.linked.fits; linked = v.linked; few = few; typed = v.typed; host = host };
+      numbered = v.numbered;
       got = log_wrote l.file starts (whole_log p limits fuel) (meaning p limits fuel) out err s end read;
     }
 
 -- ---- and what `replay` says of it
 
-accepted_only : HasOneNumber → IsNeverBoth → (fs : List Formula) (input : List ℕ) (n : ℕ) → (r : IsReplayed fs input n) → (a : Answer) → (x : Replay fs input a) → IsAnsweredBeside r.linked fs input a x → a ≡ given (replayed_line n)
-accepted_only one never fs input n r a (Replay.replayed k same x) beside = x ∙ ap (λ (j : ℕ). given (replayed_line j)) (one fs input k n same r)
-accepted_only one never fs input n r a (Replay.refused e refused x) beside = absurd (never fs input n e r refused beside)
+accepted_only : HasOneNumber → IsNeverBoth → (fs : List Formula) (input : List ℕ) (n : ℕ) → IsReplayed fs input n → (a : Answer) → Replay fs input a → a ≡ given (replayed_line n)
+accepted_only one never fs input n r a (Replay.replayed k same x) = x ∙ ap (λ (j : ℕ). given (replayed_line j)) (one fs input k n same r)
+accepted_only one never fs input n r a (Replay.refused e refused x) = absurd (never fs input n e r refused)
 
 pub log_accepted : HasOneNumber → IsNeverBoth → (fs : List Formula) (fuel : ℕ) (limits : Limits) (out : Channel) → AreLimits fuel limits → GotLogOf fs fuel limits out → GotLog fs out
 log_accepted one never fs fuel limits out within g =
@@ -96,7 +97,7 @@ log_accepted one never fs fuel limits out within g =
       linked = g.linked;
       fuel = fuel;
       limits = limits;
-      is = record { file = file_bytes g.linked.file; spells = (canonical_file g.linked.file fits.0 fits.1).0; short = (let le = short_file g.linked.file fits in omega (arith, le)); verified = g.verified; limits = within; is = refl };
+      is = record { file = file_bytes g.linked.file; spells = (canonical_file g.linked.file fits.0 fits.1).0; short = (let le = short_file g.linked.file fits in omega (arith, le)); verified = g.verified; numbered = g.numbered; limits = within; is = refl };
       counted = refl;
     } in
     record {

@@ -2,6 +2,7 @@
 use Rattle.std.specs.Prelude.{◌≡◌, ℕ, ◌<◌, ◌^◌, List, ◌++◌, length}
 use Rattle.abc_base.specs.declared.formula.Formula.{Formula}
 use Rattle.abc_heap.specs.declared.records.Limits.{Limits}
+use Rattle.abc_link.specs.LayoutsNumbering.{IsNumbered}
 use Rattle.abc_meaning.specs.Laws.{IsVerified}
 use Rattle.abc_program.specs.Linked.{LinkedFile}
 use Rattle.abc_tables.specs.Files.{IsFile}
@@ -15,5 +16,6 @@ pub record IsLogOf (formulas : List Formula) (l : LinkedFile) (fuel : ℕ) (m : 
   pub spells : IsFile l.file file
   pub short : length file < 2 ^ 32
   pub verified : IsVerified (record { linked = l; formulas = formulas })
+  pub numbered : IsNumbered l
   pub limits : AreLimits fuel m
   pub is : input ≡ head_line (length file) ++ file ++ limits_line fuel m ++ log (record { linked = l; formulas = formulas }) m fuel

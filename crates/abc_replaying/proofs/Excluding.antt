@@ -30,12 +30,14 @@ use Rattle.abc_program.specs.Linked.{LinkedFile}
 use Rattle.abc_tables.specs.Files.{IsFile, IsFileRead}
 use Rattle.abc_tables.specs.declared.tables.Abc.{Abc}
 use Rattle.abc_tables.proofs.Whole.{decided, read_spelled}
+use Rattle.abc_verified.specs.LayoutsNumbering.{IsNumbered}
+use Rattle.abc_verified.proofs.Single.{one_numbered}
 use Rattle.abc_verified.specs.Refusing.{IsRefused as IsNoVerifiedFile, IsUnverified, bad, unlinked, untyped, unverified}
 use Rattle.abc_verified.specs.declared.error.VerifiedError.{VerifiedError}
 use Rattle.abc_verify.specs.Refusing.{IsFirstUntyped}
 use Rattle.abc_verify.proofs.Methods.{body_inside}
 use Rattle.abc_replaying.specs.Laws.{HasOneNumber, IsNeverBoth}
-use Rattle.abc_replaying.specs.Replays.{HasParts, IsBeside, IsNoFileBeside, IsRefused, IsReplayed, IsUnverifiedBeside}
+use Rattle.abc_replaying.specs.Replays.{HasParts, IsRefused, IsReplayed}
 use Rattle.abc_replaying.specs.declared.error.ReplayError.{ReplayError}
 use Rattle.abc_replaying.proofs.Counting.{counted, log_counted}
 
@@ -207,21 +209,22 @@ few_rules rules.SameSlot = omega arith
 few_rules rules.TraitNotRun = omega arith
 few_rules rules.TooLarge = omega arith
 
-module _ (formulas : List Formula) (l : LinkedFile) (bytes : List ℕ) (spells : IsFile l.file bytes) (verified : IsVerified (setting_of l formulas)) where
-  verified_once : (v : Abc) (starts : List (List ℕ)) (e : VerifiedError) → v ≡ l.file → (why : IsUnverified v starts e) → IsUnverifiedBeside l v starts e why → ⊥
-  verified_once v starts e same (unlinked rule i first) beside =
+module _ (formulas : List Formula) (l : LinkedFile) (bytes : List ℕ) (spells : IsFile l.file bytes) (verified : IsVerified (setting_of l formulas)) (numbered : IsNumbered l) where
+  verified_once : (v : Abc) (starts : List (List ℕ)) (e : VerifiedError) → v ≡ l.file → IsUnverified v starts e → ⊥
+  verified_once v starts e same (unlinked rule i first) =
       let broken : IsFirstBroken l.file rule i = subst (λ (w : Abc). IsFirstBroken w rule i) same first in
       verified.linked.rules rule (few_rules rule) i broken.item broken.breaks
-  verified_once v starts e same (untyped k m b i rule is linked first) beside =
-      let here : IsFirstUntyped l m b i rule = subst (λ (x : LinkedFile). IsFirstUntyped x m b i rule) beside first in
+  verified_once v starts e same (untyped k m b i rule is linked numbered_too first) =
+      let one : k ≡ l = one_numbered k l numbered_too numbered (is ∙ same) in
+      let here : IsFirstUntyped l m b i rule = subst (λ (x : LinkedFile). IsFirstUntyped x m b i rule) one first in
       let none = here.2 in
       none.untyped (verified.typed b (body_inside l.file m b none.of_method))
 
-  file_once : (e : VerifiedError) (why : IsNoVerifiedFile bytes e) → IsNoFileBeside l bytes e why → ⊥
-  file_once e (bad place reason is) beside = (decided bytes).never_both l.file (refusal place reason) spells is
-  file_once e (unverified v starts f read why) beside =
+  file_once : (e : VerifiedError) → IsNoVerifiedFile bytes e → ⊥
+  file_once e (bad place reason is) = (decided bytes).never_both l.file (refusal place reason) spells is
+  file_once e (unverified v starts f read why) =
       let file : IsFile v bytes = (read_spelled (v, starts) bytes read.0, read.1) in
-      verified_once v starts f ((decided bytes).one_value v l.file file spells) why beside
+      verified_once v starts f ((decided bytes).one_value v l.file file spells) why
 
 same_byte : (i : ℕ) (xs : List ℕ) → parts_from i xs xs ≡ None
 same_byte i [] = refl
@@ -234,21 +237,23 @@ never_parts lines found n same e =
     cc
 
 log_same : (formulas : List Formula) (l k : LinkedFile) (fuel fuel2 : ℕ) (m m2 : Limits) (found : List ℕ) → k ≡ l → AreLimits fuel m → AreLimits fuel2 m2 → rest_of formulas l fuel m ≡ limits_line fuel2 m2 ++ found → found ≡ log (setting_of k formulas) m2 fuel2
-log_same formulas l k fuel fuel2 m m2 found beside within within2 e =
+log_same formulas l k fuel fuel2 m m2 found one within within2 e =
     let texts = same_text fuel fuel2 m m2 (log (setting_of l formulas) m fuel) found within within2 e in
     let same = same_limits fuel fuel2 m m2 (same_numbers fuel fuel2 m m2 within within2 texts.0) in
-    sym (ap (drop 1) texts.1) ∙ ap (λ (x : LinkedFile). log (setting_of x formulas) m fuel) (sym beside) ∙ ap (λ (y : Limits). log (setting_of k formulas) y fuel) same.1 ∙ ap (log (setting_of k formulas) m2) same.0
+    sym (ap (drop 1) texts.1) ∙ ap (λ (x : LinkedFile). log (setting_of x formulas) m fuel) (sym one) ∙ ap (λ (y : Limits). log (setting_of k formulas) y fuel) same.1 ∙ ap (log (setting_of k formulas) m2) same.0
 
-no_refusal : (formulas : List Formula) (l : LinkedFile) (fuel : ℕ) (m : Limits) (input : List ℕ) (e : ReplayError) → IsLogOf formulas l fuel m input → (x : IsRefused formulas input e) → IsBeside l formulas input e x → ⊥
-no_refusal formulas l fuel m input e is (IsRefused.head place wrong) beside = right_head (length is.file) place input (is.file ++ rest_of formulas l fuel m) (grouped formulas l fuel m input is) wrong
-no_refusal formulas l fuel m input e is (IsRefused.file bytes rest f parts why) beside =
+no_refusal : (formulas : List Formula) (l : LinkedFile) (fuel : ℕ) (m : Limits) (input : List ℕ) (e : ReplayError) → IsLogOf formulas l fuel m input → IsRefused formulas input e → ⊥
+no_refusal formulas l fuel m input e is (IsRefused.head place wrong) = right_head (length is.file) place input (is.file ++ rest_of formulas l fuel m) (grouped formulas l fuel m input is) wrong
+no_refusal formulas l fuel m input e is (IsRefused.file bytes rest f parts why) =
     let same : is.file ≡ bytes = sym (log_parts formulas l fuel m input bytes rest is parts).0 in
-    file_once formulas l bytes (subst (IsFile l.file) same is.spells) is.verified f why beside
-no_refusal formulas l fuel m input e is (IsRefused.limits bytes rest k parts spells none) beside =
+    file_once formulas l bytes (subst (IsFile l.file) same is.spells) is.verified is.numbered f why
+no_refusal formulas l fuel m input e is (IsRefused.limits bytes rest k parts spells none) =
     none fuel m (log (setting_of l formulas) m fuel) is.limits (log_parts formulas l fuel m input bytes rest is parts).1
-no_refusal formulas l fuel m input e is (IsRefused.differs bytes rest found k fuel2 m2 n parts spells within there parted) beside =
-    let rest_is = (log_parts formulas l fuel m input bytes rest is parts).1 in
-    never_parts (log (setting_of k formulas) m2 fuel2) found n (log_same formulas l k fuel fuel2 m m2 found beside is.limits within (sym rest_is ∙ there)) parted
+no_refusal formulas l fuel m input e is (IsRefused.differs bytes rest found k fuel2 m2 n parts spells within there parted) =
+    let both = log_parts formulas l fuel m input bytes rest is parts in
+    let same : k.file ≡ l.file = (decided bytes).one_value k.file l.file spells.spells (subst (IsFile l.file) (sym both.0) is.spells) in
+    let one : k ≡ l = one_numbered k l spells.numbered is.numbered same in
+    never_parts (log (setting_of k formulas) m2 fuel2) found n (log_same formulas l k fuel fuel2 m m2 found one is.limits within (sym both.1 ∙ there)) parted
 
 pub never_both : IsNeverBoth
-never_both formulas input n e a x beside = no_refusal formulas a.linked a.fuel a.limits input e a.is x beside
+never_both formulas input n e a x = no_refusal formulas a.linked a.fuel a.limits input e a.is x

@@ -40,7 +40,7 @@ replayed formulas l bytes fuel m n input rest parts spells limits e counted =
     ∙ ap (λ (r : List ℕ). head_line (length bytes) ++ (bytes ++ r)) e
     ∙ sym (append_assoc (head_line (length bytes)) bytes (limits_line fuel m ++ lines))
     ∙ sym (append_assoc (head_line (length bytes) ++ bytes) (limits_line fuel m) lines) in
-    record { linked = l; fuel = fuel; limits = m; is = record { file = bytes; spells = spells.spells; short = few_bytes input bytes rest parts; verified = spells.verified; limits = limits; is = is }; counted = counted }
+    record { linked = l; fuel = fuel; limits = m; is = record { file = bytes; spells = spells.spells; short = few_bytes input bytes rest parts; verified = spells.verified; numbered = spells.numbered; limits = limits; is = is }; counted = counted }
 
 pub replays : (formulas : List Formula) (old left end : Option (List ℕ)) (l : LinkedFile) (line : LimitsLine) (place n : ℕ) → AreFormulas formulas → HasPreface old left l line place
     → Consumes left end (log (record { linked = l; formulas = formulas }) line.limits line.fuel) → IsAtEnd end → n ≡ steps (record { linked = l; formulas = formulas }) line.limits line.fuel → OfInput old (λ input. IsReplayed formulas input n)

@@ -97,7 +97,7 @@ no_file old new bytes files.NoMemory f why = memory_ends old
 pub spells_verified : (formulas : List Formula) (bytes : List ℕ) (l : LinkedFile) → AreFormulas formulas → IsVerifiedIn bytes l → SpellsVerified formulas bytes l
 spells_verified formulas bytes l formed v =
     let all : IsVerified (record { linked = l; formulas = formulas }) = record { fits = v.verified.linked.fits; linked = v.verified.linked; few = v.few; typed = v.verified.typed; host = formed } in
-    record { spells = v.spells; verified = all }
+    record { spells = v.spells; verified = all; numbered = v.verified.numbered }
 
 -- ---- the line of limits
 

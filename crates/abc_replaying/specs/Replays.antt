@@ -11,8 +11,8 @@ use Rattle.abc_logmeaning.specs.Logs.{log, steps}
 use Rattle.abc_meaning.specs.Laws.{IsVerified}
 use Rattle.abc_program.specs.Linked.{LinkedFile}
 use Rattle.abc_tables.specs.Files.{IsFile}
-use Rattle.abc_tables.specs.declared.tables.Abc.{Abc}
-use Rattle.abc_verified.specs.Refusing.{IsRefused as IsNoVerifiedFile, IsUnverified, bad, unlinked, untyped, unverified}
+use Rattle.abc_verified.specs.LayoutsNumbering.{IsNumbered}
+use Rattle.abc_verified.specs.Refusing.{IsRefused as IsNoVerifiedFile}
 use Rattle.abc_verified.specs.declared.error.VerifiedError.{VerifiedError}
 use Rattle.abc_verified.specs.declared.error.VerifiedError.TheVariants as files
 use Rattle.abc_replaying.specs.declared.error.ReplayError.{ReplayError}
@@ -44,6 +44,7 @@ pub record HasParts (input file rest : List ℕ) : Type 0 where
 pub record SpellsVerified (formulas : List Formula) (file : List ℕ) (l : LinkedFile) : Type 0 where
   pub spells : IsFile l.file file
   pub verified : IsVerified (record { linked = l; formulas = formulas })
+  pub numbered : IsNumbered l
 
 -- ---- places, which stand still at 2^64 - 1
 
@@ -79,21 +80,3 @@ abbrev pub IsRefusedBy : List Formula → List ℕ → ReplayError → Type 0
 IsRefusedBy formulas input errors.NoMemory = Unit {0}
 IsRefusedBy formulas input errors.ReadFault = Unit {0}
 IsRefusedBy formulas input e = IsRefused formulas input e
-
--- ---- a refusal beside a linked file
-
--- Linking leaves the numbering of layouts open: a file has a linked one for each. The linked file that a refusal speaks of, if it
--- speaks of one, is this.
-abbrev pub IsUnverifiedBeside : (l : LinkedFile) (v : Abc) (starts : List (List ℕ)) (e : VerifiedError) → IsUnverified v starts e → Type 0
-IsUnverifiedBeside l v starts e (unlinked rule i first) = Unit {0}
-IsUnverifiedBeside l v starts e (untyped k m b i rule same linked first) = k ≡ l
-
-abbrev pub IsNoFileBeside : (l : LinkedFile) (bytes : List ℕ) (e : VerifiedError) → IsNoVerifiedFile bytes e → Type 0
-IsNoFileBeside l bytes e (bad place reason is) = Unit {0}
-IsNoFileBeside l bytes e (unverified v starts f read why) = IsUnverifiedBeside l v starts f why
-
-abbrev pub IsBeside : (l : LinkedFile) (formulas : List Formula) (input : List ℕ) (e : ReplayError) → IsRefused formulas input e → Type 0
-IsBeside l formulas input e (IsRefused.head place wrong) = Unit {0}
-IsBeside l formulas input e (IsRefused.file bytes rest f parts why) = IsNoFileBeside l bytes f why
-IsBeside l formulas input e (IsRefused.limits bytes rest k parts spells none) = Unit {0}
-IsBeside l formulas input e (IsRefused.differs bytes rest found k fuel m n parts spells within is parted) = k ≡ l

@@ -3,6 +3,7 @@ pub mod ScriptTraits
 pub mod SetKeys
 pub mod Made
 pub use Rattle.abc_members.specs.Laid
+pub use Rattle.abc_members.specs.LayoutsNumbering
 pub use Rattle.abc_members.specs.Tables as SlotsTables
 pub use Rattle.abc_members.specs.Grouped
 pub use Rattle.abc_members.specs.Files

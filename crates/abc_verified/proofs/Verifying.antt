@@ -4,6 +4,7 @@ use Rattle.std.specs.declared.option.Option.{Option}
 use Rattle.std.proofs.lemmas.Option.{slice_get-get_or}
 use Rattle.abc_bodies.specs.Places.{ArePlaces}
 use Rattle.abc_program.specs.Linked.{IsLinkedFile, LinkedFile}
+use Rattle.abc_link.specs.LayoutsNumbering.{IsNumbered}
 use Rattle.abc_items.specs.declared.error.LinkError.{LinkError}
 use Rattle.abc_items.specs.declared.error.LinkError.TheVariants as refusals
 use Rattle.abc_items.specs.Firsts.{IsRefusal as IsUnlinked}
@@ -63,9 +64,9 @@ is_placed v starts l untyped.NoMemory is p h = tt
 
 -- ---- a file that links
 
-pub verify_refuses : (v : Abc) (starts : List (List ℕ)) (l : LinkedFile) (e : VerifyError) → l.file ≡ v → IsLinkedFile l → IsRefusal l e → IsUnverifiedBy v starts (error_of_verify starts e)
-verify_refuses v starts l (untyped.Refused m b i r) is linked h = IsUnverified.untyped l m b i r is linked h
-verify_refuses v starts l untyped.NoMemory is linked h = tt
+pub verify_refuses : (v : Abc) (starts : List (List ℕ)) (l : LinkedFile) (e : VerifyError) → l.file ≡ v → IsLinkedFile l → IsNumbered l → IsRefusal l e → IsUnverifiedBy v starts (error_of_verify starts e)
+verify_refuses v starts l (untyped.Refused m b i r) is linked numbered h = IsUnverified.untyped l m b i r is linked numbered h
+verify_refuses v starts l untyped.NoMemory is linked numbered h = tt
 
 -- ---- an input
 
@@ -75,7 +76,7 @@ read_verified_is left v starts l f is =
     of_any (λ b. AnswersFile b (Ok (v, starts))) (IsReadVerified l starts) left
     (λ b r. record {
       read = subst (λ (a : Abc). IsFileRead (a, starts) b) (sym is.file) r;
-      verified = record { file = refl; linked = is.linked; typed = is.typed };
+      verified = record { file = refl; linked = is.linked; numbered = is.numbered; typed = is.typed };
     })
     f
 

@@ -1,2 +1,3 @@
 pub mod Verified
 pub mod Refusing
+pub use Rattle.abc_link.specs.LayoutsNumbering

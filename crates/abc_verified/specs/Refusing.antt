@@ -7,6 +7,7 @@ use Rattle.abc_items.specs.declared.error.LinkError.{LinkError}
 use Rattle.abc_items.specs.declared.error.LinkError.TheVariants as refusals
 use Rattle.abc_items.specs.declared.items.Item.{Item}
 use Rattle.abc_items.specs.declared.items.LinkRule.{LinkRule}
+use Rattle.abc_link.specs.LayoutsNumbering.{IsNumbered}
 use Rattle.abc_program.specs.Linked.{IsLinkedFile, LinkedFile}
 use Rattle.abc_tables.specs.declared.tables.Abc.{Abc}
 use Rattle.abc_tables.specs.Files.{IsBadFile, IsFileRead}
@@ -27,7 +28,7 @@ offset_in starts body index = get_or (get_or starts body []) index 0
 -- method without a typing, by a place and a rule that refute each
 pub data IsUnverified (v : Abc) (starts : List (List ℕ)) : VerifiedError → Type 0 where
   unlinked : (rule : LinkRule) (i : Item) → IsFirstBroken v rule i → IsUnverified v starts (errors.Link rule i)
-  untyped : (l : LinkedFile) (m b i : ℕ) (rule : VerifyRule) → l.file ≡ v → IsLinkedFile l → IsFirstUntyped l m b i rule → IsUnverified v starts (errors.Verify m (offset_in starts b i) rule)
+  untyped : (l : LinkedFile) (m b i : ℕ) (rule : VerifyRule) → l.file ≡ v → IsLinkedFile l → IsNumbered l → IsFirstUntyped l m b i rule → IsUnverified v starts (errors.Verify m (offset_in starts b i) rule)
 
 -- why an input is no verified file: its first fault, or else why its file isn't verified
 pub data IsRefused (input : List ℕ) : VerifiedError → Type 0 where

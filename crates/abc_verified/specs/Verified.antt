@@ -1,14 +1,16 @@
 -- What a verified file is.
 use Rattle.std.specs.Prelude.{◌≡◌, ℕ, List}
+use Rattle.abc_link.specs.LayoutsNumbering.{IsNumbered}
 use Rattle.abc_program.specs.Linked.{IsLinkedFile, LinkedFile}
 use Rattle.abc_tables.specs.declared.tables.Abc.{Abc}
 use Rattle.abc_tables.specs.Files.{IsFileRead}
 use Rattle.abc_verify.specs.Typed.{AllTyped}
 
--- a linked file of a file, each of whose bodies has a typing
+-- the linked file of a file, each of whose bodies has a typing
 pub record IsVerifiedOf (v : Abc) (l : LinkedFile) : Type 0 where
   pub file : l.file ≡ v
   pub linked : IsLinkedFile l
+  pub numbered : IsNumbered l
   pub typed : AllTyped l
 
 -- a file that was read with the starts of its instructions, linked and verified

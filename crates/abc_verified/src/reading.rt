@@ -2,6 +2,7 @@ ghost use Rattle.std.specs.Prelude.{◌≡◌, ◌≤◌, Err, IfErr, IfOk};
 ghost use Rattle.abc_base.specs.Faults.{Rose};
 ghost use Rattle.abc_bodies.specs.Places.{ArePlaces};
 ghost use Rattle.abc_file.specs.Reading.{IsUsedUp, OfInput};
+ghost use Rattle.abc_link.specs.LayoutsNumbering.{IsNumbered};
 ghost use Rattle.abc_program.specs.Linked.{IsLinkedFile};
 ghost use Rattle.abc_tables.specs.Files.{Fits};
 ghost use Rattle.abc_verified.specs.Refusing.{IsPlaced, IsRefusedBy, IsUnverifiedBy, error_of_verify};
@@ -38,6 +39,7 @@ fn error_of(places: &Places, e: VerifyError) -> VerifiedError
 /// A linked file that is verified, or why it isn't.
 fn verified_of(alloc: Global, linked: Linked, places: &Places) -> Result<Verified, VerifiedError>
     requires linked { IsLinkedFile linked }
+    requires numbered { IsNumbered linked }
     requires places { ArePlaces linked.file.bodies places.now }
     ensures ok { IfOk result (λ l. IsVerifiedOf linked.file l) }
     ensures refused { IfErr result (IsUnverifiedBy linked.file places.now) }
@@ -56,6 +58,7 @@ fn verified_file(alloc: Global, abc: Abc, places: &Places) -> Result<Verified, V
     ensures refused { IfErr result (IsUnverifiedBy abc places.now) }
 {
     let linked = link(alloc, abc)?;
+    linked.numbering_law();
     verified_of(alloc, linked, places)
 }
 

@@ -1,7 +1,7 @@
-use Rattle.std.proofs.Common.{get_or}
-use Rattle.abc_layouts.specs.Numbering.{AddsEach}
+use Rattle.std.proofs.Common.{◌≡◌, ◌++◌, map}
+use Rattle.std.specs.List.{range_with_len}
 use Rattle.abc_program.specs.declared.part.Part.TheVariants as parts
 use Rattle.abc_layouts.proofs.numbering.push_catches.Given as goal
 
 abbrev pub invariant-loop-exception : goal.invariant-loop-exception
-invariant-loop-exception l = AddsEach l.abc l.initial.parts l.parts (λ k. parts.Catch l.body k) l.exception
+invariant-loop-exception l = l.parts ≡ l.initial.parts ++ map (λ e. parts.Catch l.body e) (range_with_len 0 l.exception)

@@ -1,7 +1,7 @@
-use Rattle.std.proofs.Common.{get_or}
-use Rattle.abc_layouts.specs.Numbering.{AddsEach}
+use Rattle.std.proofs.Common.{◌≡◌, ◌++◌, map}
+use Rattle.std.specs.List.{range_with_len}
 use Rattle.abc_program.specs.declared.part.Part.TheVariants as parts
 use Rattle.abc_layouts.proofs.numbering.push_class_objects.Given as goal
 
 abbrev pub invariant-loop-class : goal.invariant-loop-class
-invariant-loop-class l = AddsEach l.abc l.initial.parts l.parts (λ k. parts.ClassObject k) l.class
+invariant-loop-class l = l.parts ≡ l.initial.parts ++ map (λ k. parts.ClassObject k) (range_with_len 0 l.class)

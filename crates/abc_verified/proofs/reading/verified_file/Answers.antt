@@ -8,6 +8,7 @@ use Rattle.abc_verified.proofs.reading.verified_file.Goals as goal
 pub verified_of-requires : goal.verified_of-requires
 verified_of-requires c = record {
   linked = c.in_ok-linked.ensures.1;
+  numbered = c.numbering_law.ensures;
   places = subst (λ (v : Abc). ArePlaces v.bodies c.args.places.now) (sym c.in_ok-linked.ensures.0) c.requires.places;
 }
 

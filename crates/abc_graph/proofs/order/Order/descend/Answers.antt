@@ -1,6 +1,7 @@
 use Rattle.std.proofs.Common.{subst}
 use Rattle.abc_graph.specs.Orders.{IsDescent}
 use Rattle.abc_graph.proofs.Placing.{top_waits, descent_next, keeps_set, keeps_then}
+use Rattle.abc_graph.proofs.Settling.{pushed_next}
 use Rattle.abc_graph.proofs.order.Order.descend.Goals as goal
 
 pub settle-requires-clause-known : goal.settle-requires-clause-known
@@ -16,5 +17,6 @@ loop-node-preserved c =
     record {
       placed = c.in_ok-settle.ensures.placed;
       descent = rw is (descent_next _ _ _ _ _ _ i.placed.len d);
+      pushed = pushed_next _ _ _ _ _ _ i.pushed c.in-Some.ensures c.in_ok-settle.ensures.pushed;
       keeps = rw is (keeps_then _ _ _ i.keeps (keeps_set _ _ _ (top_waits _ _ _ _ _ d).0));
     }
