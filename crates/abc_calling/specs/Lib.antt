@@ -1,1 +1,3 @@
 pub mod Calling
+pub use Rattle.abc_callmeaning.specs.Calls
+pub use Rattle.abc_callmeaning.specs.Laws as CallLaws

@@ -14,7 +14,7 @@ use Rattle.abc_conversions.specs.declared.numbers.Conversion.TheVariants.{Conver
 use Rattle.abc_heap.specs.declared.records.Full.{Full}
 use Rattle.abc_heap.specs.declared.records.Limit.TheVariants.{Frames, Stack}
 use Rattle.abc_heap.specs.declared.records.What.TheVariants.{Formula as AsFormula, Plain}
-use Rattle.abc_finishing.specs.Steps.{stepped}
+use Rattle.abc_stepping.specs.Steps.{stepped}
 use Rattle.abc_logmeaning.specs.Logs.{world_left}
 use Rattle.abc_meaning.specs.ActsAt.{Above, Act, Goes, Returns, Stays, Top, waiting}
 use Rattle.abc_meaning.specs.Step.{gives_back, put_on, puts, resumed, resumes, room_for_frame, settles, size_of_frame, size_of_frames}

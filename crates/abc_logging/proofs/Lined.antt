@@ -13,9 +13,9 @@ use Rattle.abc_cells.specs.declared.values.Value.{Value}
 use Rattle.abc_compare.specs.Followed.{bytes_in, told}
 use Rattle.abc_compare.proofs.Following.{told-append, told_bytes, told_start}
 use Rattle.abc_ends.specs.Ending.{end_of}
-use Rattle.abc_finishing.specs.Steps.{EndsIn, FailsIn, GoesOnIn, StepsIn}
-use Rattle.abc_finishing.specs.declared.halting.Halt.{Halt}
-use Rattle.abc_finishing.specs.declared.halting.Halt.TheVariants as halts
+use Rattle.abc_stepping.specs.Steps.{EndsIn, FailsIn, GoesOnIn, StepsIn}
+use Rattle.abc_stepping.specs.Halt.{Halt}
+use Rattle.abc_stepping.specs.Halt.TheVariants as halts
 use Rattle.abc_logging.specs.Logging.{LogsIn, if_written}
 use Rattle.abc_logmeaning.specs.Logs.{world_left, wrote_since}
 use Rattle.abc_loglines.specs.Lines.{out_line}

@@ -7,11 +7,11 @@ use Rattle.std.specs.declared.result.Result.{Result}
 use Rattle.abc_base.specs.Sinks.{GrowsByFront, WritesAll}
 use Rattle.abc_base.specs.declared.source.Failed.{Failed}
 use Rattle.abc_base.proofs.Writing.{front_first}
-use Rattle.abc_finishing.proofs.Sounding.{scripts_few, step_is}
-use Rattle.abc_finishing.proofs.Turned.{living_is}
-use Rattle.abc_finishing.specs.Steps.{IsReached, StepsIn, left_here, machine, step_here, stepped}
-use Rattle.abc_finishing.specs.declared.halting.Halt.{Halt}
-use Rattle.abc_finishing.specs.declared.halting.Halt.TheVariants as halts
+use Rattle.abc_stepping.proofs.Sounding.{scripts_few, step_is}
+use Rattle.abc_stepping.proofs.Turned.{living_is}
+use Rattle.abc_stepping.specs.Steps.{IsReached, StepsIn, left_here, machine, step_here, stepped}
+use Rattle.abc_stepping.specs.Halt.{Halt}
+use Rattle.abc_stepping.specs.Halt.TheVariants as halts
 use Rattle.abc_logging.specs.Logging.{LogsAs, LogsLeft, if_written, line_at, lines_here, out_left}
 use Rattle.abc_logging.proofs.Kept.{none_started}
 use Rattle.abc_logging.proofs.Lined.{front_on, whole_on, wrote_none}

@@ -5,9 +5,9 @@ use Rattle.std.specs.declared.option.Option.{Option}
 use Rattle.std.specs.declared.result.Result.{Result}
 use Rattle.abc_base.specs.Sinks.{GrowsByFront}
 use Rattle.abc_base.specs.declared.source.Failed.{Failed}
-use Rattle.abc_finishing.specs.Steps.{StepsIn, left_here, machine, step_here}
-use Rattle.abc_finishing.specs.declared.halting.Halt.{Halt}
-use Rattle.abc_finishing.specs.declared.halting.Halt.TheVariants as halts
+use Rattle.abc_stepping.specs.Steps.{StepsIn, left_here, machine, step_here}
+use Rattle.abc_stepping.specs.Halt.{Halt}
+use Rattle.abc_stepping.specs.Halt.TheVariants as halts
 use Rattle.abc_logmeaning.specs.Logs.{lines_of, world_left, wrote_since}
 use Rattle.abc_loglines.specs.Lines.{out_line, start_line, step_line}
 use Rattle.abc_meaning.specs.Throwing.{Stepped}

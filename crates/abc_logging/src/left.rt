@@ -4,17 +4,17 @@ ghost use Rattle.abc_callarms.specs.Calls.{CanFinish};
 ghost use Rattle.abc_cells.specs.declared.values.Value.{Value};
 ghost use Rattle.abc_ends.specs.Ending.{IsSized};
 ghost use Rattle.abc_entering.specs.Arguments.{IsKnown};
-ghost use Rattle.abc_finishing.specs.Fairly.{IsFairTurn};
-ghost use Rattle.abc_finishing.specs.declared.halting.Halt.TheVariants.{Fails, Returns};
+ghost use Rattle.abc_stepping.specs.Fairly.{IsFairTurn};
+ghost use Rattle.abc_stepping.specs.Halt.TheVariants.{Fails, Returns};
 ghost use Rattle.abc_logging.specs.Logging.{LogsLeft, if_written as answer_if_written};
 ghost use Rattle.abc_states.specs.Outer.{Outer, setting, world};
 ghost use Rattle.abc_states.specs.Turns.{answered};
 
 use abc_base::{Failed, Host, Sink};
-use abc_finishing::{Halt, finish};
 use abc_link::Linked;
 use abc_outline::OutLine;
 use abc_states::{Left, State, Stop};
+use abc_stepping::{Halt, finish};
 
 /// What a step answers whose last line is to be written.
 pub(crate) fn if_written(line: Result<(), Failed>, done: Result<(), Halt>) -> Result<(), Halt>

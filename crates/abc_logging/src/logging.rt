@@ -1,23 +1,22 @@
 ghost use Rattle.std.specs.Prelude.{◌≡◌, ◌≢◌, ◌<◌, ◌≤◌, ◌-◌, ◌^◌, [], Err, length};
 ghost use Rattle.abc_base.specs.Faults.{HasCause, Rose};
 ghost use Rattle.abc_base.specs.Sinks.{WritesAll};
-ghost use Rattle.abc_callmeaning.specs.Calls.{returned};
+ghost use Rattle.abc_stepping.specs.Calls.{returned};
 ghost use Rattle.abc_cells.specs.declared.values.Value.{Value};
 ghost use Rattle.abc_ends.specs.Ending.{IsSized};
-ghost use Rattle.abc_finishing.specs.Steps.{IsReached};
-ghost use Rattle.abc_finishing.specs.declared.halting.Halt.TheVariants.{Fails, Returns};
+ghost use Rattle.abc_stepping.specs.Steps.{IsReached};
+ghost use Rattle.abc_stepping.specs.Halt.TheVariants.{Fails, Returns};
 ghost use Rattle.abc_logging.specs.Logging.{LogsAs, line_at};
 ghost use Rattle.abc_meaning.specs.Throwing.{last_script};
 ghost use Rattle.abc_states.specs.Outer.{Outer, setting, world};
 
 use crate::left::{finish_logged, if_written};
 use abc_base::{Failed, Host, Sink};
-use abc_dispatch::run_newest;
-use abc_finishing::{Halt, start_last};
 use abc_link::Linked;
 use abc_loglines::{write_start_line, write_step_line};
 use abc_scripts::Seen;
 use abc_states::State;
+use abc_stepping::{Halt, run_newest, start_last};
 
 /// Writes the line of an instruction, by its method and its place, or of the script that it starts.
 fn write_line<K: Sink>(

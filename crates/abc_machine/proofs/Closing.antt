@@ -9,7 +9,7 @@ use Rattle.abc_base.specs.Faults.{Rose}
 use Rattle.abc_base.specs.Sinks.{GrowsByFront, WritesAll}
 use Rattle.abc_base.specs.declared.formula.Formula.{Formula}
 use Rattle.abc_base.specs.declared.source.Failed.{Failed}
-use Rattle.abc_callmeaning.specs.Calls.{replies_for}
+use Rattle.abc_calling.specs.Calls.{replies_for}
 use Rattle.abc_logging.proofs.Lined.{told_on, whole_on}
 use Rattle.abc_logmeaning.specs.Lines.{end_line}
 use Rattle.abc_logmeaning.specs.Logs.{logs_for}

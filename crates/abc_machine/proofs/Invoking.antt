@@ -7,16 +7,16 @@ use Rattle.abc_base.specs.Ranges.{IsNumber}
 use Rattle.abc_base.specs.declared.formula.Formula.{Formula}
 use Rattle.abc_base.specs.declared.plain.Plain.{Plain}
 use Rattle.abc_calling.specs.Calling.{CanCall}
-use Rattle.abc_callmeaning.proofs.Given.{calls_give}
-use Rattle.abc_callmeaning.proofs.Left.{calls_left}
-use Rattle.abc_callmeaning.specs.Calls.{Gives, Replied, call_meaning, silent}
-use Rattle.abc_callmeaning.specs.Laws.{IsScriptMethod}
+use Rattle.abc_calling.proofs.CallsGiven.{calls_give}
+use Rattle.abc_calling.proofs.CallsLeft.{calls_left}
+use Rattle.abc_calling.specs.Calls.{Gives, Replied, call_meaning, silent}
+use Rattle.abc_calling.specs.CallLaws.{IsScriptMethod}
 use Rattle.abc_cells.specs.declared.values.Span.{Span}
 use Rattle.abc_cells.specs.declared.values.Value.{Value}
 use Rattle.abc_cells.specs.declared.values.Value.TheVariants as values
 use Rattle.abc_ends.specs.Ending.{IsSized}
 use Rattle.abc_entering.specs.Arguments.{IsKnown}
-use Rattle.abc_finishing.proofs.Typed.{has_typings}
+use Rattle.abc_calling.proofs.Typed.{has_typings}
 use Rattle.abc_heap.specs.Heap.{Heap}
 use Rattle.abc_heap.specs.Texts.{IsText}
 use Rattle.abc_machine.specs.Invoked.{Answers, call_of}

@@ -2,9 +2,9 @@
 use Rattle.std.proofs.Common.{◌≡◌, List, [], length, Bool, refl, sym, ap, ◌∙◌, subst}
 use Rattle.std.proofs.lemmas.List.{length-map}
 use Rattle.abc_base.specs.declared.formula.Formula.{Formula}
-use Rattle.abc_callmeaning.proofs.Hosts.{names_matter}
-use Rattle.abc_callmeaning.proofs.Left.{silent_sound}
-use Rattle.abc_callmeaning.specs.Calls.{silent}
+use Rattle.abc_calling.proofs.CallsHosts.{names_matter}
+use Rattle.abc_calling.proofs.CallsLeft.{silent_sound}
+use Rattle.abc_calling.specs.Calls.{silent}
 use Rattle.abc_entering.specs.Arguments.{IsKnown}
 use Rattle.abc_heap.specs.Heap.{Heap}
 use Rattle.abc_machine.specs.Machines.{CanGoOn, kept_world}

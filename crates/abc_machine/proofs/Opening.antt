@@ -7,8 +7,8 @@ use Rattle.std.specs.Io.KnownBytes.{append_known}
 use Rattle.std.specs.declared.option.Option.{Option}
 use Rattle.abc_base.specs.Hosts.{AreFormulas}
 use Rattle.abc_base.specs.declared.formula.Formula.{Formula}
-use Rattle.abc_callmeaning.proofs.Left.{runs_left}
-use Rattle.abc_callmeaning.specs.Calls.{replies_for, silent}
+use Rattle.abc_calling.proofs.CallsLeft.{runs_left}
+use Rattle.abc_calling.specs.Calls.{replies_for, silent}
 use Rattle.abc_entering.specs.Arguments.{IsKnown}
 use Rattle.abc_heap.specs.Heap.{Heap}
 use Rattle.abc_heap.specs.declared.records.Limit.{Limit}

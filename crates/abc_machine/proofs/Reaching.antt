@@ -4,8 +4,8 @@ use Rattle.std.specs.Prelude.{IsSome, None, Some}
 use Rattle.std.specs.Io.KnownBytes.{append_known}
 use Rattle.std.specs.declared.option.Option.{Option}
 use Rattle.abc_base.specs.Sinks.{GrowsByFront}
-use Rattle.abc_callmeaning.proofs.Appended.{calls_append}
-use Rattle.abc_callmeaning.specs.Calls.{EndsAs as RepliesEnd, Replied, replies, replies_for, returned, then_replies}
+use Rattle.abc_calling.proofs.Appended.{calls_append}
+use Rattle.abc_calling.specs.Calls.{EndsAs as RepliesEnd, Replied, replies, replies_for, returned, then_replies}
 use Rattle.abc_cells.specs.declared.values.Value.{Value}
 use Rattle.abc_logmeaning.specs.Logs.{steps_for, then_counts}
 use Rattle.abc_machine.specs.Replied.{IsReplyOf, RepliesAs, failed, replied}

@@ -3,7 +3,7 @@ use Rattle.std.proofs.Common.{◌≡◌, ◌≢◌, ℕ, zero, suc, ◌-◌, Lis
 use Rattle.std.specs.Prelude.{Ok, Err}
 use Rattle.std.specs.declared.option.Option.{Option}
 use Rattle.std.specs.declared.result.Result.{Result}
-use Rattle.abc_callmeaning.specs.Calls.{replies_for, returned}
+use Rattle.abc_calling.specs.Calls.{replies_for, returned}
 use Rattle.abc_cells.specs.declared.values.Value.{Value}
 use Rattle.abc_ends.specs.Ending.{IsSized}
 use Rattle.abc_ends.specs.declared.ended.Ended.TheVariants as ended

@@ -2,8 +2,8 @@
 use Rattle.std.specs.Prelude.{◌≡◌, ℕ, suc, List, Ok, Err}
 use Rattle.std.specs.declared.option.Option.{Option}
 use Rattle.std.specs.declared.result.Result.{Result}
-use Rattle.abc_callmeaning.specs.Calls as calls
-use Rattle.abc_callmeaning.specs.Calls.{returned}
+use Rattle.abc_calling.specs.Calls as calls
+use Rattle.abc_calling.specs.Calls.{returned}
 use Rattle.abc_cells.specs.declared.values.Value.{Value}
 use Rattle.abc_ends.specs.Ending.{IsSized}
 use Rattle.abc_ends.specs.declared.ended.Ended.TheVariants as ended

@@ -1,6 +1,6 @@
 ghost use Rattle.std.specs.Prelude.{◌≡◌, ◌≢◌, None, Some, MatchResult};
-ghost use Rattle.abc_callmeaning.specs.Calls.{silent};
-ghost use Rattle.abc_callmeaning.specs.Laws.{IsScriptMethod};
+ghost use Rattle.abc_calling.specs.Calls.{silent};
+ghost use Rattle.abc_calling.specs.CallLaws.{IsScriptMethod};
 ghost use Rattle.abc_cells.specs.declared.values.Span.{Span};
 ghost use Rattle.abc_heap.specs.Texts.{IsText, text_of};
 ghost use Rattle.abc_logmeaning.specs.Logs.{log as log_of, steps as steps_of};

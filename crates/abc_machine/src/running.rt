@@ -1,6 +1,6 @@
 ghost use Rattle.std.specs.Prelude.{◌≡◌, ◌≢◌, ◌+◌, ◌≤◌};
 ghost use Rattle.abc_base.specs.Faults.{Rose};
-ghost use Rattle.abc_callmeaning.specs.Calls.{replies_for};
+ghost use Rattle.abc_calling.specs.Calls.{replies_for};
 ghost use Rattle.abc_logmeaning.specs.Logs.{steps_for};
 ghost use Rattle.abc_machine.specs.Ended.{HasRun, RunsAs};
 ghost use Rattle.abc_machine.specs.Replied.{HasReplied, RepliesAs, plain_value};

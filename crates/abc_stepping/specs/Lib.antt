@@ -1,1 +1,4 @@
 pub use Rattle.abc_finishing.specs.Steps
+pub use Rattle.abc_finishing.specs.Fairly
+pub use Rattle.abc_finishing.specs.declared.halting.Halt
+pub use Rattle.abc_callmeaning.specs.Calls

@@ -4,8 +4,8 @@ use Rattle.std.specs.declared.result.Result.{Result}
 use Rattle.abc_base.specs.Faults.{Rose}
 use Rattle.abc_compare.proofs.Following.{bytes_noted, number_noted}
 use Rattle.abc_compare.specs.Followed.{bytes_in, number_in}
-use Rattle.abc_finishing.specs.Steps.{left_here}
-use Rattle.abc_finishing.specs.declared.halting.Halt.{Halt}
+use Rattle.abc_stepping.specs.Steps.{left_here}
+use Rattle.abc_stepping.specs.Halt.{Halt}
 use Rattle.abc_logging.specs.Logging.{LogsLeft}
 use Rattle.abc_logging.proofs.Lined.{fails_on, logs_if, no_rose, returns_in, rose_if, same_start}
 use Rattle.abc_outline.specs.OutLines.{bytes_of, start_of}

@@ -1,8 +1,8 @@
 use Rattle.std.proofs.Common.{◌≡◌, ◌∙◌, List, sym, ap, subst}
 use Rattle.std.specs.Prelude.{Bool, Err}
 use Rattle.abc_entering.specs.Arguments.{IsKnown}
-use Rattle.abc_finishing.proofs.Sounding.{scripts_there}
-use Rattle.abc_finishing.specs.declared.halting.Halt.TheVariants.{Fails}
+use Rattle.abc_stepping.proofs.Sounding.{scripts_there}
+use Rattle.abc_stepping.specs.Halt.TheVariants.{Fails}
 use Rattle.abc_logging.proofs.Lined.{rose_on}
 use Rattle.abc_logging.proofs.Noted.{few_flags, left_one_more, logs_front, logs_on, seen_left}
 use Rattle.abc_scripts.specs.Starts.{IsOneMore, started_from}

@@ -2,9 +2,9 @@ use Rattle.std.proofs.Common.{◌≡◌, ℕ, List, sym, ◌∙◌, subst}
 use Rattle.std.specs.Prelude.{Bool, None}
 use Rattle.std.specs.declared.result.Result.{Result}
 use Rattle.abc_base.specs.Sinks.{WritesAll}
-use Rattle.abc_finishing.proofs.Sounding.{can_start, scripts_few, scripts_there}
-use Rattle.abc_finishing.specs.Steps.{step_here}
-use Rattle.abc_finishing.specs.declared.halting.Halt.{Halt}
+use Rattle.abc_stepping.proofs.Sounding.{can_start, scripts_few, scripts_there}
+use Rattle.abc_stepping.specs.Steps.{step_here}
+use Rattle.abc_stepping.specs.Halt.{Halt}
 use Rattle.abc_logging.specs.Logging.{LogsAs}
 use Rattle.abc_logging.proofs.Lined.{returns_in, rose_if}
 use Rattle.abc_logging.proofs.Noted.{few_flags, start_logs, step_one_more, steps_started}

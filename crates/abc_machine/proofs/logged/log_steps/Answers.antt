@@ -1,7 +1,7 @@
 use Rattle.std.proofs.Common.{◌∙◌, ℕ, refl, ap, subst, arith}
 use Rattle.std.specs.Prelude.{IsSome, None}
 use Rattle.abc_base.specs.Sinks.{GrowsByFront}
-use Rattle.abc_callmeaning.specs.Calls.{replies_for}
+use Rattle.abc_calling.specs.Calls.{replies_for}
 use Rattle.abc_logging.proofs.Lined.{rose_on}
 use Rattle.abc_logmeaning.specs.Lines.{end_line}
 use Rattle.abc_logmeaning.specs.Logs.{logs_for}
