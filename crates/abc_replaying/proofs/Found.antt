@@ -54,6 +54,6 @@ module _ (old mid new : Option (List ℕ)) (bytes : List ℕ) (l : LinkedFile) (
 -- a file that isn't verified is a failed read only where that is told
 pub file_faulty : {T : Type 0} (r : Result T ReplayError) (f : ReplayError) (e : VerifiedError) → r ≡ Err f → f ≡ error_of e → r ≡ Err errors.ReadFault → e ≡ files.ReadFault
 file_faulty {T} r f e is same fault =
-    let clash : Err {T = T} f ≡ Err errors.ReadFault = sym is ∙ fault in
+    let clash : ◌≡◌ {A = Result T ReplayError} (Err f) (Err errors.ReadFault) = sym is ∙ fault in
     let here : f ≡ errors.ReadFault = cc in
     read_error e (sym same ∙ here)
