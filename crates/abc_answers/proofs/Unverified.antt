@@ -44,10 +44,10 @@ verified_stops source errors.NoMemory f cause = memory_stops (OfFileRead Unverif
 
 -- its answer has a status of its own
 pub unverified_quiet : (v : Abc) (starts : List (List ℕ)) (a : Answer) → Unverified v starts a → a.status ≡ status.Done → a.err ≡ []
-unverified_quiet v starts a x d = let k = ap (λ (y : Answer). y.status) x.1.1 in absurd cc
+unverified_quiet v starts a x d = let k = ap (λ (y : Answer). y.status) x.2 in absurd cc
 
 pub unverified_not_usage : (v : Abc) (starts : List (List ℕ)) (a : Answer) → Unverified v starts a → a.status ≡ status.Usage → ⊥
-unverified_not_usage v starts a x e = let k = ap (λ (y : Answer). y.status) x.1.1 in cc
+unverified_not_usage v starts a x e = let k = ap (λ (y : Answer). y.status) x.2 in cc
 
 -- ---- one that is
 

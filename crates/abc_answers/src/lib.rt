@@ -3,13 +3,11 @@
 #![tactic(auto)]
 
 mod ends;
-mod files;
 mod lines;
 mod numbered;
 mod stop;
 
 pub use ends::{ended, give, give_bytes, give_line, give_no_command, give_stop};
-pub use files::close_file;
 pub use lines::{write_code, write_limit, write_place, write_uncaught, write_usage};
 pub use numbered::numbered_line;
 pub use stop::Stop;

@@ -5,8 +5,9 @@ ghost use Rattle.abc_answers.specs.Answers.{OfFileRead};
 ghost use Rattle.abc_cli.specs.Outcome.{Check};
 ghost use Rattle.abc_answers.specs.Stops.{Gives, Stops};
 
-use abc_answers::{Stop, close_file, numbered_line};
+use abc_answers::{Stop, numbered_line};
 use abc_base::{NoMemory, Source};
+use abc_runcommands::close_file;
 use abc_verified::{Verified, read_verified};
 use itoa::Buffer;
 use std::alloc::Global;

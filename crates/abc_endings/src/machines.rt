@@ -7,7 +7,8 @@ ghost use Rattle.abc_ticks.specs.Placed.{CanBeTold};
 
 use abc_base::Host;
 use abc_heap::Limits;
-use abc_ticks::{Machine, ends_can_be_told};
+use abc_ticks::{Machine, Session, ends_can_be_told};
+use abc_verified::Verified;
 use abc_words::RunOptions;
 
 /// A limit of cells, which 32 bits count.
@@ -42,5 +43,11 @@ pub fn end_can_be_told<H: Host>(machine: &Machine, fuel: u32, host: &H)
     ends_can_be_told();
 }
 
-/// Gives back the memory of a machine. Alone, since to drop what is large takes long to prove where much else is live.
+/// Gives back the memory of a machine. Here alone, since to drop what is large takes long to prove, and anew in each crate that does it.
 pub fn close_machine(_machine: Machine) {}
+
+/// Gives back the memory of a session.
+pub fn close_session(_session: Session) {}
+
+/// Gives back the memory of a verified file.
+pub fn close_file(_verified: Verified) {}

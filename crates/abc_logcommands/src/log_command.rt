@@ -18,10 +18,11 @@ ghost use Rattle.abc_tables.specs.Files.{file_bytes};
 ghost use Rattle.abc_endings.specs.OpeningsBegun.{setting};
 ghost use Rattle.abc_verified.specs.Verified.{IsVerifiedOf};
 
-use abc_answers::{Stop, close_file, give_line, give_stop};
+use abc_answers::{Stop, give_line, give_stop};
 use abc_base::{Failed, Host, NoMemory, Sink, Source, Status, write_all};
 use abc_endings::{
-    Machine, OpenError, close_machine, end_can_be_told, give_end, give_unopened, limits_of,
+    Machine, OpenError, close_file, close_machine, end_can_be_told, give_end, give_unopened,
+    limits_of,
 };
 use abc_file::{Places, write};
 use abc_heap::{Limit, Limits};

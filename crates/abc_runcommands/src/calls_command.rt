@@ -16,7 +16,9 @@ ghost use Rattle.abc_verified.specs.Verified.{IsVerifiedOf};
 
 use abc_answers::{Stop, ended, give_stop, write_place};
 use abc_base::{Host, Sink, Source, Status};
-use abc_endings::{Session, give_end, give_unopened, limits_of, run_and_call, ticks_can_be_told};
+use abc_endings::{
+    Session, close_session, give_end, give_unopened, limits_of, run_and_call, ticks_can_be_told,
+};
 use abc_file::Places;
 use abc_verified::{Verified, read_verified};
 use abc_words::CallsOptions;
@@ -42,9 +44,6 @@ fn calls_end_can_be_told<H: Host>(session: &Session, method: u32, fuel: u32, tim
 {
     ticks_can_be_told();
 }
-
-/// Gives back the memory of a session. Alone, since to drop what is large takes long to prove where much else is live.
-fn close(_session: Session) {}
 
 /// Runs an opened session, calls the method after that, and writes the line of how they end.
 fn call_method<K: Sink, E: Sink, H: Host>(
@@ -111,7 +110,7 @@ fn call_verified<K: Sink, E: Sink, H: Host>(
     match Session::open(alloc, verified, &limits, host) {
         Ok(mut session) => {
             let status = call_exported(&mut session, places, options, out, err, host);
-            close(session);
+            close_session(session);
             status
         }
         Err(e) => give_unopened(err, e),
