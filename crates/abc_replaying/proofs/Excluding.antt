@@ -1,11 +1,10 @@
 -- One input is one log, and no log is refused.
-use Rattle.std.proofs.Common.{◌≡◌, ◌≢◌, ℕ, zero, suc, ◌+◌, ◌*◌, ◌<◌, ◌≤◌, ◌/◌, ◌%◌, ◌^◌, Bool, true, false, List, [], ◌∷◌, ◌++◌, length, take, drop, get_or, Some, None, refl, sym, ap, subst, ◌∙◌, arith, append_assoc, length-append, add-zero}
-use Rattle.std.specs.Prelude.{if◌then◌else◌, nat_eq, nat_lt}
+use Rattle.std.proofs.Common.{◌≡◌, ℕ, zero, suc, ◌+◌, ◌*◌, ◌<◌, ◌/◌, ◌%◌, ◌^◌, Bool, true, false, List, [], ◌∷◌, ◌++◌, length, take, drop, get_or, Some, None, refl, sym, ap, subst, ◌∙◌, arith, append_assoc, length-append, add-zero}
+use Rattle.std.specs.Prelude.{if◌then◌else◌, nat_lt}
 use Rattle.std.specs.List.{flat_map}
-use Rattle.std.specs.declared.option.Option.{Option}
 use Rattle.std.proofs.Math.Nat.{pow-suc, pow-zero}
 use Rattle.std.proofs.Math.Seq.{drop-append_seam, take-append_seam}
-use Rattle.std.proofs.lemmas.Bool.{both_ways, eq-eqb, ltb-false, ltb-true}
+use Rattle.std.proofs.lemmas.Bool.{both_ways, eq-eqb, ltb-true}
 use Rattle.abc_base.specs.declared.formula.Formula.{Formula}
 use Rattle.abc_compare.specs.Followed.{parts_from}
 use Rattle.abc_escape.specs.Escapes.{hex_digit}
@@ -13,7 +12,6 @@ use Rattle.abc_format.specs.Part.{refusal}
 use Rattle.abc_heap.specs.declared.records.Limits.{Limits}
 use Rattle.abc_items.specs.Items.{rule_number}
 use Rattle.abc_items.specs.Rules.{IsFirstBroken}
-use Rattle.abc_items.specs.declared.items.Item.{Item}
 use Rattle.abc_items.specs.declared.items.LinkRule.{LinkRule}
 use Rattle.abc_items.specs.declared.items.LinkRule.TheVariants as rules
 use Rattle.abc_loghead.specs.Heads.{AllStand, GoesWrong, IsWrong, may_stand}
@@ -27,7 +25,7 @@ use Rattle.abc_logmeaning.specs.Logs.{log}
 use Rattle.abc_meaning.specs.Laws.{IsVerified}
 use Rattle.abc_meaning.specs.WorldSetting.{Setting}
 use Rattle.abc_program.specs.Linked.{LinkedFile}
-use Rattle.abc_tables.specs.Files.{IsFile, IsFileRead}
+use Rattle.abc_tables.specs.Files.{IsFile}
 use Rattle.abc_tables.specs.declared.tables.Abc.{Abc}
 use Rattle.abc_tables.proofs.Whole.{decided, read_spelled}
 use Rattle.abc_verified.specs.LayoutsNumbering.{IsNumbered}

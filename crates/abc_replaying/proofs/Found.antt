@@ -1,11 +1,10 @@
 -- What stands before a log, put together.
-use Rattle.std.proofs.Common.{◌≡◌, ◌≢◌, ℕ, ◌+◌, ◌-◌, ◌^◌, ◌<◌, ◌≤◌, ◌⊎◌, min, List, length, Ok, Err, ap, refl, subst, sym, ◌∙◌, arith}
+use Rattle.std.proofs.Common.{◌≡◌, ℕ, ◌+◌, ◌^◌, ◌<◌, ◌≤◌, ◌⊎◌, List, length, Ok, Err, subst, sym, ◌∙◌, arith}
 use Rattle.std.specs.Prelude.{IfErr, IfOk}
 use Rattle.std.specs.Io.KnownBytes.{Consumes, IsAtEnd}
 use Rattle.std.specs.declared.option.Option.{Option}
 use Rattle.std.specs.declared.result.Result.{Result}
 use Rattle.abc_base.specs.Faults.{Rose}
-use Rattle.abc_file.specs.Reading.{OfInput}
 use Rattle.abc_loghead.specs.declared.limits.LimitsLine.{LimitsLine}
 use Rattle.abc_loglines.specs.Lines.{AreLimits, head_line, limits_line}
 use Rattle.abc_program.specs.Linked.{LinkedFile}

@@ -1,5 +1,5 @@
 -- What is read before a log.
-use Rattle.std.proofs.Common.{◌≡◌, ◌≢◌, ℕ, zero, suc, ◌+◌, ◌-◌, ◌<◌, ◌≤◌, ◌^◌, min, true, List, [], ◌∷◌, ◌++◌, length, Some, None, refl, sym, ap, subst, ◌∙◌, arith, length-append}
+use Rattle.std.proofs.Common.{◌≡◌, ℕ, zero, suc, ◌+◌, ◌<◌, ◌≤◌, ◌^◌, true, List, [], ◌∷◌, ◌++◌, length, Some, None, refl, sym, ap, subst, arith, length-append}
 use Rattle.std.specs.Prelude.{Bool, IfSome, if◌then◌else◌, nat_eq}
 use Rattle.std.proofs.lemmas.Bool.{lt-ltb}
 use Rattle.std.proofs.lemmas.List.{append-nil}
@@ -12,7 +12,7 @@ use Rattle.abc_loghead.specs.Heads.{AllStand, GoesWrong, IsHeadStop, is_hex, may
 use Rattle.abc_loghead.specs.Limits.{HasNoLimits}
 use Rattle.abc_loghead.specs.declared.errors.HeadError.{HeadError}
 use Rattle.abc_loghead.specs.declared.errors.HeadError.TheVariants as heads
-use Rattle.abc_loglines.specs.Lines.{AreLimits, limits_line, limits_text}
+use Rattle.abc_loglines.specs.Lines.{limits_line, limits_text}
 use Rattle.abc_logparts.specs.declared.part.PartError.{PartError}
 use Rattle.abc_logparts.specs.declared.part.PartError.TheVariants as parts
 use Rattle.abc_meaning.specs.Laws.{IsVerified}
