@@ -19,7 +19,7 @@ pub record GotLogOf (formulas : List Formula) (fuel : ℕ) (m : Limits) (out : C
 -- of, if it speaks of one, is this.
 abbrev pub IsAnsweredBeside : (l : LinkedFile) (formulas : List Formula) (bytes : List ℕ) (a : Answer) → Replay formulas bytes a → Type 0
 IsAnsweredBeside l formulas bytes a (Replay.replayed n is gives) = Unit {0}
-IsAnsweredBeside l formulas bytes a (Replay.refused e refused gives) = IsBeside l formulas bytes e refused
+IsAnsweredBeside l formulas bytes a (Replay.refused e why gives) = IsBeside l formulas bytes e why
 
 -- A log: with a host of the same formulas, `replay` of it gives the number of its steps, and, beside the numbering of layouts that it
 -- was run with, nothing else.
