@@ -146,13 +146,13 @@ pub meant_quiet : (v : Abc) (starts : List (List ℕ)) (m : Meaning) (a : Answer
 meant_quiet v starts (TooSmall limit) a is d = let k = ap (λ (x : Answer). x.status) is in absurd cc
 meant_quiet v starts (Ran wrote e) a is d = ended_quiet v starts wrote e a is d
 
-pub ended_not_usage : (v : Abc) (starts : List (List ℕ)) (wrote : List ℕ) (e : End) (a : Answer) → IsEnded v starts wrote e a → a.status ≡ status.Usage → ⊥
-ended_not_usage v starts wrote Done a x e = let k = ap (λ (y : Answer). y.status) x in cc
-ended_not_usage v starts wrote (Uncaught t) a x e = let k = ap (λ (y : Answer). y.status) x in cc
-ended_not_usage v starts wrote (Profile m i fault) a x e = let k = ap (λ (y : Answer). y.status) x in cc
-ended_not_usage v starts wrote FuelSpent a x e = let k = ap (λ (y : Answer). y.status) x in cc
-ended_not_usage v starts wrote (Full limit) a x e = let k = ap (λ (y : Answer). y.status) x in cc
-ended_not_usage v starts wrote Stuck a x e = x
+pub ended_not_usage : (v : Abc) (starts : List (List ℕ)) (wrote : List ℕ) (e : meant.End) (a : Answer) → IsEnded v starts wrote e a → a.status ≡ status.Usage → ⊥
+ended_not_usage v starts wrote meant.Done a x e = let k = ap (λ (y : Answer). y.status) x in cc
+ended_not_usage v starts wrote (meant.Uncaught t) a x e = let k = ap (λ (y : Answer). y.status) x in cc
+ended_not_usage v starts wrote (meant.Profile m i fault) a x e = let k = ap (λ (y : Answer). y.status) x in cc
+ended_not_usage v starts wrote meant.FuelSpent a x e = let k = ap (λ (y : Answer). y.status) x in cc
+ended_not_usage v starts wrote (meant.Full limit) a x e = let k = ap (λ (y : Answer). y.status) x in cc
+ended_not_usage v starts wrote meant.Stuck a x e = x
 
 pub meant_not_usage : (v : Abc) (starts : List (List ℕ)) (m : Meaning) (a : Answer) → IsMeant v starts m a → a.status ≡ status.Usage → ⊥
 meant_not_usage v starts (TooSmall limit) a x e = let k = ap (λ (y : Answer). y.status) x in cc

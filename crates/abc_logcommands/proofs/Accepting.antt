@@ -87,7 +87,7 @@ got_log_of l fs fuel limits starts out err s v few host end read =
 
 accepted_only : HasOneNumber → IsNeverBoth → (fs : List Formula) (input : List ℕ) (n : ℕ) → IsReplayed fs input n → (a : Answer) → Replay fs input a → a ≡ given (replayed_line n)
 accepted_only one never fs input n r a (Replay.replayed k same x) = x ∙ ap (λ (j : ℕ). given (replayed_line j)) (one fs input k n same r)
-accepted_only one never fs input n r a (Replay.refused e refused x) = absurd (never fs input n e r refused)
+accepted_only one never fs input n r a (Replay.refused e why x) = absurd (never fs input n e r why)
 
 pub log_accepted : HasOneNumber → IsNeverBoth → (fs : List Formula) (fuel : ℕ) (limits : Limits) (out : Channel) → AreLimits fuel limits → GotLogOf fs fuel limits out → GotLog fs out
 log_accepted one never fs fuel limits out within g =

@@ -35,7 +35,7 @@ use Rattle.abc_verified.specs.declared.error.VerifiedError.{VerifiedError}
 use Rattle.abc_verify.specs.Refusing.{IsFirstUntyped}
 use Rattle.abc_verify.proofs.Methods.{body_inside}
 use Rattle.abc_replaying.specs.Laws.{HasOneNumber, IsNeverBoth}
-use Rattle.abc_replaying.specs.Replays.{HasParts, IsRefused, IsReplayed}
+use Rattle.abc_replaying.specs.Replays.{HasParts, IsRefused}
 use Rattle.abc_replaying.specs.declared.error.ReplayError.{ReplayError}
 use Rattle.abc_replaying.proofs.Counting.{counted, log_counted}
 
