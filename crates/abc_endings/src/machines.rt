@@ -5,7 +5,7 @@ ghost use Rattle.abc_meaning.specs.Meaning.{meaning};
 ghost use Rattle.abc_ticks.specs.OpeningsBegun.{setting};
 ghost use Rattle.abc_ticks.specs.Placed.{CanBeTold};
 
-use abc_base::Host;
+use abc_base::{Host, release};
 use abc_heap::Limits;
 use abc_ticks::{Machine, Session, ends_can_be_told};
 use abc_verified::Verified;
@@ -42,9 +42,6 @@ pub fn end_can_be_told<H: Host>(machine: &Machine, fuel: u32, host: &H)
 {
     ends_can_be_told();
 }
-
-/// Gives back the memory of a value. Proved once for all types: where what is large goes out of scope by itself, that takes minutes.
-fn release<T: Drop>(_value: T) {}
 
 /// Gives back the memory of a machine. Here alone, since the drop of all that stands in it is proved in each crate that does it.
 pub fn close_machine(machine: Machine) {

@@ -20,7 +20,7 @@ use crate::ends::End;
 use crate::logged::log_for;
 use crate::replies::Reply;
 use crate::running::run_for;
-use abc_base::{Host, Plain, Sink};
+use abc_base::{Host, Plain, Sink, release};
 use abc_calling::drop_frames;
 use abc_cells::Span;
 use abc_heap::Limits;
@@ -76,9 +76,6 @@ fn open_first<H: Host>(
     Ok(First { state, seen })
 }
 
-/// Gives back the memory of a verified file. Alone, since to drop what is large takes long to prove where much else is live.
-fn close(_verified: Verified) {}
-
 impl Machine {
     /// A machine for a verified file, within these limits, with the formulas of a host. It answers `TooSmall` exactly where the
     /// objects or, tried next, the cells that every run begins with pass their limit, and `NoMemory` where memory runs out.
@@ -101,7 +98,7 @@ impl Machine {
                 closed: false,
             }),
             Err(e) => {
-                close(verified);
+                release(verified);
                 Err(e)
             }
         }

@@ -5,7 +5,7 @@ ghost use Rattle.abc_logparts.specs.Checks.{IsCompared, IsWritten};
 ghost use Rattle.abc_machine.specs.OpeningsBegun.{setting};
 ghost use Rattle.abc_objects.specs.Opening.{formula_names};
 
-use abc_base::{Host, NoMemory, Sink, Source};
+use abc_base::{Host, NoMemory, Sink, Source, release};
 use abc_compare::{Lenient, Verdict};
 use abc_heap::Limit;
 use abc_loglines::write_limit_end;
@@ -14,9 +14,6 @@ use abc_machine::Machine;
 use abc_objects::OpenError;
 use abc_replaying::{LimitsLine, Verified};
 use std::alloc::Global;
-
-/// Gives back the memory of a machine. Alone, since to drop what is large takes long to prove where much else is live.
-fn close(_machine: Machine) {}
 
 /// Runs an opened machine, whose log is written: how many steps it took. Where the sink failed, the number says nothing.
 fn log_run<K: Sink, H: Host>(machine: &mut Machine, fuel: u32, log: &mut K, host: &H) -> u64
@@ -36,7 +33,7 @@ fn log_machine<K: Sink, H: Host>(machine: Machine, fuel: u32, log: &mut K, host:
 {
     let mut machine = machine;
     let count = log_run(&mut machine, fuel, log, host);
-    close(machine);
+    release(machine);
     count
 }
 

@@ -8,7 +8,7 @@ ghost use Rattle.abc_verified.specs.Refusing.{IsRefusedBy};
 ghost use Rattle.abc_verified.specs.declared.error.VerifiedError.{VerifiedError};
 
 use crate::error::{ReplayError, ReplayReason};
-use abc_base::{NoMemory, Source, SteadySource};
+use abc_base::{NoMemory, Source, SteadySource, release};
 use abc_loghead::{LimitsError, LimitsLine, read_head, read_limits};
 use abc_logparts::{LogFault, read_part};
 use abc_verified::{Verified, VerifiedError, read_verified};
@@ -93,9 +93,6 @@ fn read_file<S: Source>(alloc: Global, source: &mut S) -> Result<Vec<u8>, Replay
     Ok(bytes)
 }
 
-/// Gives back the memory of a verified file. Alone, since to drop what is large takes long to prove where much else is live.
-fn close(_verified: Verified) {}
-
 /// A verified file with the line of limits, which begins at this place, or why there is none.
 fn with_line(
     verified: Verified,
@@ -114,7 +111,7 @@ fn with_line(
             place: place + u64::from(line.length),
         }),
         Err(e) => {
-            close(verified);
+            release(verified);
             Err(e)
         }
     }
