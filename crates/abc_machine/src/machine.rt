@@ -76,8 +76,8 @@ fn open_first<H: Host>(
     Ok(First { state, seen })
 }
 
-/// Gives back the memory of a verified file. Alone, since to drop what is large takes long to prove where much else is live.
-fn close(_verified: Verified) {}
+/// Gives back the memory of a value. Generic, since to drop what is large takes long to prove where it is written out.
+fn release<T: Drop>(_value: T) {}
 
 impl Machine {
     /// A machine for a verified file, within these limits, with the formulas of a host. It answers `TooSmall` exactly where the
@@ -101,7 +101,7 @@ impl Machine {
                 closed: false,
             }),
             Err(e) => {
-                close(verified);
+                release(verified);
                 Err(e)
             }
         }
