@@ -35,8 +35,8 @@ returns-in-Ok g c =
     let err = stream g.E.Sink.written g.E.Sink.faults c.args.err.now c.give_end.new.err in
     let line = subst (λ (x : LinkedFile). GivesLine err (end_answer x.file c.args.places.now c.run_logged-end.result) c.give_end.result) same c.give_end.ensures.line in
     logged_ends l.file c.args.places.now (front f.file.items f.fuel f.limits) (log p c.args.machine.now.limits f.fuel) (meaning p c.args.machine.now.limits f.fuel)
-    (g.K.Sink.written c.args.out.now) (g.K.Sink.written c.write_front.new.out) (g.K.Sink.written c.run_logged-end.new.out)
-    (g.K.Sink.faults c.args.out.now) (g.K.Sink.faults c.write_front.new.out) (g.K.Sink.faults c.run_logged-end.new.out) err c.run_logged-end.result c.give_end.result
+    (g.K.Sink.written c.args.out.now) (g.K.Sink.written c.write_front.new.out) (g.K.Sink.written c.run_logged-end.new.log)
+    (g.K.Sink.faults c.args.out.now) (g.K.Sink.faults c.write_front.new.out) (g.K.Sink.faults c.run_logged-end.new.log) err c.run_logged-end.result c.give_end.result
     c.end_can_be_told.ensures.unstuck c.in-Ok.ensures.bytes c.in-Ok.ensures.cause.later (c.run_logged-end.ensures.logs c.requires.begun) (c.run_logged-end.ensures.cause c.requires.begun) line
     (λ h. let d = c.give_end.ensures.done h in
     (d.0, subst (λ x. IsSome (g.E.Sink.written c.args.err.now) → g.E.Sink.written x ≡ append_known (g.E.Sink.written c.args.err.now) []) (sym d.1) (nothing (g.E.Sink.written c.args.err.now))))
