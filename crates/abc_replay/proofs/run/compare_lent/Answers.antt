@@ -1,4 +1,4 @@
-use Rattle.std.proofs.Common.{◌≡◌, ◌≤◌, ◌∙◌, ℕ, List, [], Some, ap, subst}
+use Rattle.std.proofs.Common.{◌≡◌, ◌≤◌, ◌∙◌, ℕ, List, Some, ap, subst}
 use Rattle.std.specs.Prelude.{IfOk}
 use Rattle.abc_compare.specs.Followed.{told}
 use Rattle.abc_logmeaning.specs.Logs.{log, steps}
