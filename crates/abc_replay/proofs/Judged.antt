@@ -1,5 +1,5 @@
 -- What a comparison says of the input.
-use Rattle.std.proofs.Common.{◌≡◌, ◌⊎◌, ℕ, ◌≤◌, List, [], Ok, Err, inl, inr, refl, sym, subst, ◌∙◌}
+use Rattle.std.proofs.Common.{◌≡◌, ◌⊎◌, ℕ, ◌≤◌, List, [], Ok, Err, refl, sym, subst, ◌∙◌}
 use Rattle.std.specs.Prelude.{IfErr, IfOk}
 use Rattle.std.specs.Io.KnownBytes.{Consumes, IsAtEnd}
 use Rattle.std.specs.declared.option.Option.{Option}
@@ -18,7 +18,7 @@ use Rattle.abc_logparts.specs.declared.check.LogFault.TheVariants as faults
 use Rattle.abc_logparts.proofs.Judging.{all_there, has_cause}
 use Rattle.abc_machine.specs.OpeningsBegun.{setting}
 use Rattle.abc_program.specs.Linked.{LinkedFile}
-use Rattle.abc_replaying.specs.Prefaces.{HasPreface, error_of_log}
+use Rattle.abc_replaying.specs.Prefaces.{HasPreface, RefusesAny, error_of_log}
 use Rattle.abc_replaying.specs.Replays.{IsRefusedBy, IsReplayed}
 use Rattle.abc_replaying.specs.declared.error.ReplayError.{ReplayError}
 use Rattle.abc_replaying.specs.declared.error.ReplayError.TheVariants as errors
@@ -29,6 +29,11 @@ use Rattle.abc_replaying.proofs.Logged.{refuses, replays, used_up}
 pub read_told : (place : ℕ) (f : LogFault) → error_of_log place f ≡ errors.ReadFault → f ≡ faults.ReadFault
 read_told place (faults.Differs n) same = absurd (cc)
 read_told place faults.ReadFault same = refl
+
+-- what is refused beside any host is refused beside this one
+pub any_refuses : (formulas : List Formula) (old : Option (List ℕ)) (e : ReplayError) → AreFormulas formulas → RefusesAny old e → OfInput old (λ input. IsRefusedBy formulas input e)
+unfolding RefusesAny
+any_refuses formulas old e formed refused = refused formulas formed
 
 abbrev pub EndsSame : Verdict → (left new : Option (List ℕ)) → Result ℕ ReplayError → Type 0
 EndsSame v left new r = IfOk r (λ _. (v ≡ verdicts.Same) × Consumes left new [] × IsAtEnd new)

@@ -54,6 +54,7 @@ pub fn replay<S: Source, H: Host>(
         line,
         place,
     } = read_preface(alloc, source)?;
-    let (steps, verdict, agreed) = compare_log(alloc, verified, &line, source, host)?;
-    judge(source, place, steps, verdict, agreed)
+    let compared = compare_log(alloc, verified, &line, source, host);
+    let steps = compared.steps?;
+    judge(source, place, steps, compared.verdict, compared.agreed)
 }

@@ -64,23 +64,51 @@ fn write_log<K: Sink, H: Host>(
     }
 }
 
-/// Compares the log of the run of a file with what the source gives, while that is read: how many steps there are, the verdict, and
-/// how many bytes agreed.
+/// What a comparison of a log came to: how many steps it has, where there was memory for the run, the verdict, and how many bytes agreed.
+#[derive(Clone, Copy, Debug)]
+pub(crate) struct Compared {
+    pub steps: Result<u64, NoMemory>,
+    pub verdict: Verdict,
+    pub agreed: u64,
+}
+
+/// Compares the log of the run of a file with what a source gives that is lent and given back.
+fn compare_lent<'a, S: Source, H: Host>(
+    alloc: Global,
+    verified: Verified,
+    line: &LimitsLine,
+    source: &'a mut S,
+    host: &H,
+) -> (&'a mut S, Compared)
+    ensures compared { IfOk result.1.steps (λ n. IsCompared (log_of (setting verified (H.formulas host.now)) (line.now).limits (line.now).fuel) (steps_of (setting verified (H.formulas host.now)) (line.now).limits (line.now).fuel) n (S.left source.old) (S.faults source.old) (S.left result.0.now) (S.faults result.0.now) result.1.agreed result.1.verdict) }
+    ensures later { S.faults source.old ≤ S.faults result.0.now }
+    ensures same { result.0.ghost_name ≡ source.entry.ghost_name }
+{
+    let mut compare = Lenient::new(source);
+    let steps = write_log(alloc, verified, line, &mut compare, host);
+    let verdict = compare.verdict();
+    let agreed = compare.agreed();
+    (
+        compare.into_inner(),
+        Compared {
+            steps,
+            verdict,
+            agreed,
+        },
+    )
+}
+
+/// Compares the log of the run of a file with what the source gives, while that is read.
 pub(crate) fn compare_log<S: Source, H: Host>(
     alloc: Global,
     verified: Verified,
     line: &LimitsLine,
     source: &mut S,
     host: &H,
-) -> Result<(u64, Verdict, u64), NoMemory>
-    ensures compared { IfOk result (λ x. IsCompared (log_of (setting verified (H.formulas host.now)) (line.now).limits (line.now).fuel) (steps_of (setting verified (H.formulas host.now)) (line.now).limits (line.now).fuel) x.0 (S.left source.old) (S.faults source.old) (S.left source.new) (S.faults source.new) x.2 x.1) }
+) -> Compared
+    ensures compared { IfOk result.steps (λ n. IsCompared (log_of (setting verified (H.formulas host.now)) (line.now).limits (line.now).fuel) (steps_of (setting verified (H.formulas host.now)) (line.now).limits (line.now).fuel) n (S.left source.old) (S.faults source.old) (S.left source.new) (S.faults source.new) result.agreed result.verdict) }
     ensures later { S.faults source.old ≤ S.faults source.new }
 {
-    let mut compare = Lenient::new(source);
-    let written = write_log(alloc, verified, line, &mut compare, host);
-    let verdict = compare.verdict();
-    let agreed = compare.agreed();
-    let _source = compare.into_inner();
-    let steps = written?;
-    Ok((steps, verdict, agreed))
+    let lent = compare_lent(alloc, verified, line, source, host);
+    lent.1
 }
