@@ -3,3 +3,6 @@ pub mod Places
 pub mod Walks
 pub mod Numbers
 pub mod Copied
+pub mod Covered
+pub mod Ranges
+pub mod Told

@@ -63,7 +63,7 @@ module _ (p : LinkedFile) (m : Routine) (heads : List Bool) where
   reach_more xs ys a c e v w u r s = record { advances = advance_trans p _ _ (is_head heads) a c e v w u r.advances s.advances; landed = λ t n h. elim (in_append (t, n) xs ys h) [ inl k ↦ lands_on p _ _ (is_head heads) c e w u s.advances t n (r.landed t n k) | inr k ↦ s.landed t n k ]; whole = s.whole }
 
 -- a list is read one by one
-take_next : {X : Type 0} (xs : List X) (k : ℕ) (d : X) → k < length xs → take (suc k) xs ≡ take k xs ++ get_or xs k d ∷ []
+pub take_next : {X : Type 0} (xs : List X) (k : ℕ) (d : X) → k < length xs → take (suc k) xs ≡ take k xs ++ get_or xs k d ∷ []
 take_next [] k d h = absurd (omega arith)
 take_next (x ∷ xs) zero d h = refl
 take_next {X} (x ∷ xs) (suc k) d h = ap (λ (ys : List X). x ∷ ys) (take_next xs k d (omega arith))

@@ -52,6 +52,12 @@ abbrev pub Raises : LinkedFile → Option State → State → Option State → T
 Raises p old seen None = (s : State) × (old ≡ Some s) × Each2 (IsAtMost p) seen.locals s.locals
 Raises p old seen (Some now) = (now.locals ≡ seen.locals) ⊎ ((s : State) × (old ≡ Some s) × IsJoinState p s seen now)
 
+-- the handler of a number, if there is one, got these locals
+pub record HasCaughtOne (p : LinkedFile) (m : Routine) (heads : List Bool) (number : ℕ) (locals : List Kind) (a : List (Option State)) (v : List ℕ) (c : List (Option State)) (w : List ℕ) : Type 0 where
+  pub advances : Moves p m heads a v c w
+  pub whole : IsOpen p m c
+  pub told : (h : Catch) → slice_get m.handlers number ≡ Some h → IsTold p c locals h
+
 -- all handlers at a node got these locals
 pub record HasCaught (p : LinkedFile) (m : Routine) (heads : List Bool) (t : Stabs) (node : ℕ) (locals : List Kind) (a : List (Option State)) (v : List ℕ) (c : List (Option State)) (w : List ℕ) : Type 0 where
   pub advances : Moves p m heads a v c w

@@ -1,5 +1,12 @@
+ghost use Rattle.std.specs.Prelude.{◌≡◌, ◌++◌, ◌∷◌, [], List, ℕ, filter, map, IfOk, OnOk};
+ghost use Rattle.abc_stabs.specs.Hung.{AreHung};
+ghost use Rattle.abc_typing.specs.Effects.{covers};
+ghost use Rattle.abc_typing.specs.declared.catch.Catch.{Catch as AnyCatch};
+ghost use Rattle.abc_flow.specs.Handled.{IsCover};
+ghost use Rattle.abc_flow.specs.Telling.{IsHandled, leads_beyond, range_of};
+
 use abc_base::{NoMemory, Table};
-use abc_stabs::{Hang, Range, Stabs, stabs_of};
+use abc_stabs::{Range, Stabs, stabs_of};
 use abc_typing::Catch;
 use std::alloc::Global;
 
@@ -22,7 +29,9 @@ pub(crate) struct Handled {
 }
 
 /// The places that a handler covers.
-fn range_of(handler: &Catch) -> Range {
+fn range_of(handler: &Catch) -> Range
+    ensures { result ≡ range_of handler.now }
+{
     Range {
         from: handler.from,
         to: handler.to,
@@ -30,7 +39,10 @@ fn range_of(handler: &Catch) -> Range {
 }
 
 /// The places that each handler covers.
-fn ranges_of(alloc: Global, handlers: &[Catch]) -> Result<Table<Range>, NoMemory> {
+#[tactic(auto, using(crate::proofs::Ranges::next_range))]
+fn ranges_of(alloc: Global, handlers: &[Catch]) -> Result<Table<Range>, NoMemory>
+    ensures { IfOk result (λ t. t ≡ map range_of handlers.now) }
+{
     let mut ranges = Table::new(alloc);
     for handler in handlers {
         ranges.push(range_of(handler))?;
@@ -39,7 +51,10 @@ fn ranges_of(alloc: Global, handlers: &[Catch]) -> Result<Table<Range>, NoMemory
 }
 
 /// Adds the places that a handler covers, if it doesn't lead to a place before the code's end.
-fn add_beyond(ranges: &mut Table<Range>, handler: &Catch, end: usize) -> Result<(), NoMemory> {
+#[tactic(auto, using(crate::proofs::Ranges::is_beyond, crate::proofs::Ranges::not_beyond))]
+fn add_beyond(ranges: &mut Table<Range>, handler: &Catch, end: usize) -> Result<(), NoMemory>
+    ensures { OnOk result (ranges.new ≡ ranges.old ++ map range_of (filter (leads_beyond end) (handler.now ∷ []))) }
+{
     if (handler.target as usize) >= end {
         ranges.push(range_of(handler))?;
     }
@@ -47,6 +62,7 @@ fn add_beyond(ranges: &mut Table<Range>, handler: &Catch, end: usize) -> Result<
 }
 
 /// The places that each handler covers that doesn't lead to a place before the code's end.
+#[tactic(auto, using(crate::proofs::Ranges::next_beyond))]
 fn ranges_beyond(alloc: Global, handlers: &[Catch], end: usize) -> Result<Table<Range>, NoMemory> {
     let mut ranges = Table::new(alloc);
     for handler in handlers {
@@ -55,21 +71,36 @@ fn ranges_beyond(alloc: Global, handlers: &[Catch], end: usize) -> Result<Table<
     Ok(ranges)
 }
 
-/// The handlers of a method whose code ends there.
-pub(crate) fn handled_of(
-    alloc: Global,
-    handlers: &[Catch],
-    end: usize,
-) -> Result<Handled, NoMemory> {
+/// A tree of all handlers.
+fn tree_of(alloc: Global, handlers: &[Catch]) -> Result<Stabs, NoMemory>
+    ensures { IfOk result (AreHung (map range_of handlers.now)) }
+{
     let ranges = ranges_of(alloc, handlers)?;
-    let all = stabs_of(alloc, ranges.as_slice())?;
+    stabs_of(alloc, ranges.as_slice())
+}
+
+/// A tree of the handlers that don't lead to a place before the code's end.
+fn tree_beyond(alloc: Global, handlers: &[Catch], end: usize) -> Result<Stabs, NoMemory>
+    ensures { IfOk result (AreHung (map range_of (filter (leads_beyond end) handlers.now))) }
+{
     let ranges = ranges_beyond(alloc, handlers, end)?;
-    let beyond = stabs_of(alloc, ranges.as_slice())?;
+    stabs_of(alloc, ranges.as_slice())
+}
+
+/// The handlers of a method whose code ends there.
+pub(crate) fn handled_of(alloc: Global, handlers: &[Catch], end: usize) -> Result<Handled, NoMemory>
+    ensures { IfOk result (IsHandled handlers.now end) }
+{
+    let all = tree_of(alloc, handlers)?;
+    let beyond = tree_beyond(alloc, handlers, end)?;
     Ok(Handled { all, beyond })
 }
 
 /// What the rules ask of the handlers that cover a place.
-pub(crate) fn cover_at(handled: &Handled, place: u32) -> Cover {
+#[tactic(auto, using(crate::proofs::Covered::cover_is))]
+pub(crate) fn cover_at(handled: &Handled, place: u32) -> Cover
+    ensures { (hs : List AnyCatch) (end : ℕ) → IsHandled hs end handled.now → IsCover (filter (covers place) hs) end result }
+{
     Cover {
         is_empty: handled.all.is_free(place),
         is_inside: handled.beyond.is_free(place),

@@ -1,6 +1,6 @@
 -- The nodes above a place, from its leaf up.
-use Rattle.std.proofs.Common.{◌≡◌, ◌≢◌, ℕ, zero, suc, ◌+◌, ◌/◌, ◌≤◌, ◌<◌, List, ◌⊎◌, length, refl, sym, ap, ◌∙◌, subst, arith, inl, inr}
-use Rattle.std.proofs.lemmas.Bool.{cases_eq, cases_lt}
+use Rattle.std.proofs.Common.{◌≡◌, ◌≢◌, ℕ, suc, ◌/◌, ◌≤◌, ◌<◌, refl, sym, ap, ◌∙◌, subst, arith, inl, inr}
+use Rattle.std.proofs.lemmas.Bool.{cases_lt}
 use Rattle.abc_stabs.specs.Hanging.{Hangs, Here, IsWhole, first_of}
 use Rattle.abc_stabs.specs.Hung.{HangsAt, IsFree, IsTaken, leaf, up}
 use Rattle.abc_stabs.specs.declared.stabs.Stabs.{Stabs}
@@ -42,4 +42,4 @@ passed_all t x node w le h j k g = elim (cases_lt j h.level) [
 pub passed_stop : (t : Stabs) (x node : ℕ) → IsWhole t.bounds.items t.firsts t.hangs → first_of t.firsts node ≢ 0 → IsPassed t x node → IsTaken t x
 passed_stop t x node w ne h =
     let s = linked_some t.hangs (first_of t.firsts node) (omega arith) (w.inside node) in
-    (h.level, s.0.number, subst (λ (n : ℕ). HangsAt t n s.0.number) h.at (Here (first_of t.firsts node) s.0 s.1 refl))
+    (h.level, (s.0.number, subst (λ (n : ℕ). HangsAt t n s.0.number) h.at (Here (first_of t.firsts node) s.0 s.1 refl)))

@@ -1,5 +1,5 @@
 -- What hangs in a tree beside what hung there before.
-use Rattle.std.specs.Prelude.{◌≡◌, ℕ, suc, ◌*◌, ◌<◌, ◌≤◌, Bool, true, List, length, ◌⊎◌}
+use Rattle.std.specs.Prelude.{◌≡◌, ℕ, ◌*◌, ◌<◌, ◌≤◌, Bool, true, List, length, ◌⊎◌}
 use Rattle.abc_stabs.specs.Pieces.{AreBounds}
 use Rattle.abc_stabs.specs.Hung.{Covers, HangsAt, leaf, leaves, up}
 use Rattle.abc_stabs.specs.declared.hang.Range.{Range}

@@ -1,5 +1,5 @@
 -- Ranges in a tree.
-use Rattle.std.specs.Prelude.{◌≡◌, ℕ, zero, suc, ◌+◌, ◌*◌, ◌/◌, ◌<◌, ◌≤◌, List, Some, length, slice_get}
+use Rattle.std.specs.Prelude.{◌≡◌, ℕ, zero, suc, ◌+◌, ◌/◌, ◌<◌, ◌≤◌, List, Some, length, slice_get}
 use Rattle.abc_stabs.specs.Pieces.{piece}
 use Rattle.abc_stabs.specs.Hanging.{Hangs, first_of}
 use Rattle.abc_stabs.specs.declared.hang.Range.{Range}

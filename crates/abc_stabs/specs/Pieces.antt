@@ -1,5 +1,5 @@
 -- Places are parted by the bounds of ranges.
-use Rattle.std.specs.Prelude.{◌≡◌, ℕ, suc, List, [], ◌∷◌, Some, cond, leb, length, slice_get}
+use Rattle.std.specs.Prelude.{◌≡◌, ℕ, suc, List, [], ◌∷◌, Some, cond, leb, slice_get}
 use Rattle.std.specs.List.{Contains}
 use Rattle.abc_stabs.specs.declared.hang.Range.{Range}
 

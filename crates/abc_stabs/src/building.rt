@@ -1,4 +1,4 @@
-ghost use Rattle.std.specs.Prelude.{◌≡◌, ◌*◌, ◌+◌, ◌<◌, ◌^◌, length, replicate, IfOk, OnOk};
+ghost use Rattle.std.specs.Prelude.{◌≡◌, ◌*◌, ◌+◌, ◌<◌, ◌^◌, length, replicate, slice_get, IfOk, OnOk};
 ghost use Rattle.abc_stabs.specs.Hung.{AreHung};
 ghost use Rattle.abc_stabs.specs.Adding.{HangFrom};
 
@@ -37,17 +37,25 @@ fn tree_for(alloc: Global, ranges: &[Range]) -> Result<Stabs, NoMemory>
     })
 }
 
+/// The range of a number, or `None` where there is none.
+fn range_at(ranges: &[Range], number: u32) -> Option<Range>
+    ensures { result ≡ slice_get ranges.now number }
+{
+    ranges.get(number as usize).copied()
+}
+
 /// The range of a number hangs in the tree.
 #[tactic(auto, using(crate::proofs::Adding::one_more, crate::proofs::Adding::no_more))]
 fn hang_one(stabs: &mut Stabs, ranges: &[Range], number: u32) -> Result<(), NoMemory>
     requires { HangFrom ranges.now (number + 1) stabs.old }
     ensures { OnOk result (HangFrom ranges.now number stabs.new) }
 {
-    match ranges.get(number as usize).copied() {
+    match range_at(ranges, number) {
         Some(range) => {
             let from = stabs.leaf(range.from);
             let to = stabs.leaf(range.to);
-            stabs.hang(number, from, to)
+            stabs.hang(number, from, to)?;
+            Ok(())
         }
         None => Ok(()),
     }

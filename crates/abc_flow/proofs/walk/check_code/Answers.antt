@@ -6,7 +6,8 @@ use Rattle.abc_typing.specs.declared.state.State.{State}
 use Rattle.abc_worklist.specs.Work.{IsUnderWay, walked}
 use Rattle.abc_worklist.proofs.Turn.{begins}
 use Rattle.abc_worklist.proofs.Heads.{heads_typing}
-use Rattle.abc_flow.specs.Ranges.{AreSpans}
+use Rattle.abc_flow.specs.Telling.{IsHandled}
+use Rattle.abc_flow.proofs.Told.{kept_first}
 use Rattle.abc_flow.specs.Walking.{is_head}
 use Rattle.abc_typing.specs.declared.catch.Catch.{Catch}
 use Rattle.abc_flow.proofs.walk.check_code.Goals as goal
@@ -27,14 +28,17 @@ loop-place-init g c =
     let n : c.renew.new.self ≡ replicate (length m.code) None = cc (c.in_ok-renew.ensures, c.len.ensures) in
     let e : c.raise.new.states ≡ set (replicate (length m.code) None) 0 (Some (entry m)) = cc (c.in_ok-raise.ensures.0, n, c.in_ok-entry.ensures) in
     let w : c.raise.new.work ≡ 0 ∷ [] = cc (c.in_ok-raise.ensures.1, c.clear.ensures) in
-    subst (λ (x : List (Option State)). IsUnderWay p m h x c.raise.new.work) (sym e) (subst (λ (x : List ℕ). IsUnderWay p m h (set (replicate (length m.code) None) 0 (Some (entry m))) x) (sym w) (begins p m h c.requires.some c.requires.heads.first))
+    (
+      subst (λ (x : List (Option State)). IsUnderWay p m h x c.raise.new.work) (sym e) (subst (λ (x : List ℕ). IsUnderWay p m h (set (replicate (length m.code) None) 0 (Some (entry m))) x) (sym w) (begins p m h c.requires.some c.requires.heads.first)),
+      kept_first p m (g.F.Flow.heads c.args.flow.now) c.in_ok-handled.handled.all c.renew.new.self c.raise.new.states c.nodes.result c.nodes.ensures.is c.in_ok-renew.ensures,
+    )
 
-pub visit-requires-clause-spans : goal.visit-requires-clause-spans
-visit-requires-clause-spans g c = subst (λ (hs : List Catch). AreSpans hs c.in_ok-spans.spans) c.handlers.ensures c.in_ok-spans.ensures
+pub visit-requires-clause-handled : goal.visit-requires-clause-handled
+visit-requires-clause-handled g c = subst (λ (hs : List Catch). IsHandled hs (length (g.F.Flow.routine c.args.flow.now).code) c.in_ok-handled.handled) c.handlers.ensures (subst (λ (n : ℕ). IsHandled c.handlers.result.now n c.in_ok-handled.handled) c.len.ensures c.in_ok-handled.ensures)
 
 pub returns : goal.returns
 returns g c =
     let p = g.F.Flow.file c.args.flow.now in
     let m = g.F.Flow.routine c.args.flow.now in
     let h = is_head (g.F.Flow.heads c.args.flow.now) in
-    (walked p m h c.loop-place.states, heads_typing p m h c.loop-place.states (subst (λ (w : List ℕ). IsUnderWay p m h c.loop-place.states w) c.in_default.ensures.0 c.loop-place.invariant))
+    (walked p m h c.loop-place.states, heads_typing p m h c.loop-place.states (subst (λ (w : List ℕ). IsUnderWay p m h c.loop-place.states w) c.in_default.ensures.0 c.loop-place.invariant.0))
