@@ -31,11 +31,11 @@ in_filter f h (x ∷ hs) k = go (λ j. in_filter f h hs j) (f x) refl k
 filter_in : (f : Catch → Bool) (h : Catch) (hs : List Catch) → In h hs → f h ≡ true → In h (filter f hs)
 filter_in f h [] k t = absurd k
 filter_in f h (x ∷ hs) (inl q) t = subst (λ (b : Bool). In h (cond b (x ∷ filter f hs) (filter f hs))) (sym t ∙ ap f q) (inl q)
-filter_in f h (x ∷ hs) (inr k) t = go (f x)
+filter_in f h (x ∷ hs) (inr k) t = go (filter_in f h hs k t) (f x)
   where
-    go : (b : Bool) → In h (cond b (x ∷ filter f hs) (filter f hs))
-    go true = inr (filter_in f h hs k t)
-    go false = filter_in f h hs k t
+    go : In h (filter f hs) → (b : Bool) → In h (cond b (x ∷ filter f hs) (filter f hs))
+    go rec true = inr rec
+    go rec false = rec
 
 at_in : (hs : List Catch) (k : ℕ) (h : Catch) → slice_get hs k ≡ Some h → In h hs
 at_in [] k h e = absurd cc

@@ -75,21 +75,21 @@ module _ (p : LinkedFile) (m : Routine) (heads : List Bool) where
   }
 
   pub catching_more : (t : Stabs) (node : ℕ) (locals now after : List Kind) (link : ℕ) (h : Hang) (a c d : List (Option State)) (v w x : List ℕ) → linked t.hangs link ≡ Some h → IsCatching t node locals now link a v c w → HasCaughtOne p m heads h.number now c w d x → after ≡ now → IsCatching t node locals after h.next a v d x
-  catching_more t node locals now after link h a c d v w x e k r same = record {
-    advances = advance_trans p _ _ (is_head heads) a c d v w x k.advances r.advances;
-    whole = r.whole;
+  catching_more t node locals now after link h a c d v w x e k one same = record {
+    advances = advance_trans p _ _ (is_head heads) a c d v w x k.advances one.advances;
+    whole = one.whole;
     same = same ∙ k.same;
     of_node = λ n g. k.of_node n (Further link h e g);
     told = λ g n at is. elim (k.told g n at is) [
-      | inr l ↦ inr (told_on locals g c d w x r.advances l)
+      | inr l ↦ inr (told_on locals g c d w x one.advances l)
       | inl f ↦ (
           let s = hangs_split t.hangs n link f in
           let q : s.0 ≡ h = (let z : Some s.0 ≡ Some h = sym s.1 ∙ e in cc) in
           elim s.2 [
-            | inr m ↦ inl (subst (λ (y : Hang). Hangs t.hangs n y.next) q m)
-            | inl m ↦ inr (
-                let number : h.number ≡ n = ap (λ (y : Hang). y.number) (sym q) ∙ m in
-                subst (λ (ls : List Kind). IsTold p d ls g) k.same (r.told g (ap (slice_get m.handlers) number ∙ is)))
+            | inr r ↦ inl (subst (λ (y : Hang). Hangs t.hangs n y.next) q r)
+            | inl z ↦ inr (
+                let number : h.number ≡ n = ap (λ (y : Hang). y.number) (sym q) ∙ z in
+                subst (λ (ls : List Kind). IsTold p d ls g) k.same (one.told g (ap (slice_get m.handlers) number ∙ is)))
           ])
     ];
   }

@@ -42,10 +42,10 @@ abbrev pub IsTold : LinkedFile → List (Option State) → List Kind → Catch �
 IsTold p states locals h = Landed p states h.target (caught_with locals h).1
 
 -- the handlers at each node were told what is kept of it
-pub record AreKept (p : LinkedFile) (m : Routine) (heads : List Bool) (t : Stabs) (told states : List (Option State)) : Type 0 where
-  pub long : length told ≡ 2 * leaves t
-  pub ready : (node : ℕ) (s : State) (h : Catch) → at told node ≡ Some s → HandlerAt t m.handlers node h → IsReadyFor p m heads s.locals h
-  pub told : (node : ℕ) (s : State) (h : Catch) → at told node ≡ Some s → HandlerAt t m.handlers node h → IsTold p states s.locals h
+pub record AreKept (p : LinkedFile) (m : Routine) (heads : List Bool) (t : Stabs) (last states : List (Option State)) : Type 0 where
+  pub long : length last ≡ 2 * leaves t
+  pub ready : (node : ℕ) (s : State) (h : Catch) → at last node ≡ Some s → HandlerAt t m.handlers node h → IsReadyFor p m heads s.locals h
+  pub told : (node : ℕ) (s : State) (h : Catch) → at last node ≡ Some s → HandlerAt t m.handlers node h → IsTold p states s.locals h
 
 -- what was told before was enough, or this is told now: the join with what was told before, if anything was
 abbrev pub Raises : LinkedFile → Option State → State → Option State → Type 0
@@ -64,12 +64,12 @@ pub record HasCaught (p : LinkedFile) (m : Routine) (heads : List Bool) (t : Sta
   pub whole : IsOpen p m c
   pub told : (h : Catch) → HandlerAt t m.handlers node h → IsTold p c locals h
 
-pub record HasToldAt (p : LinkedFile) (m : Routine) (heads : List Bool) (t : Stabs) (node : ℕ) (locals : List Kind) (a : List (Option State)) (v : List ℕ) (told c : List (Option State)) (w : List ℕ) : Type 0 where
+pub record HasToldAt (p : LinkedFile) (m : Routine) (heads : List Bool) (t : Stabs) (node : ℕ) (locals : List Kind) (a : List (Option State)) (v : List ℕ) (last c : List (Option State)) (w : List ℕ) : Type 0 where
   pub caught : HasCaught p m heads t node locals a v c w
-  pub kept : AreKept p m heads t told c
+  pub kept : AreKept p m heads t last c
 
-pub record HasTold (p : LinkedFile) (m : Routine) (heads : List Bool) (t : Stabs) (place : ℕ) (locals : List Kind) (a : List (Option State)) (v : List ℕ) (told c : List (Option State)) (w : List ℕ) : Type 0 where
+pub record HasTold (p : LinkedFile) (m : Routine) (heads : List Bool) (t : Stabs) (place : ℕ) (locals : List Kind) (a : List (Option State)) (v : List ℕ) (last c : List (Option State)) (w : List ℕ) : Type 0 where
   pub advances : Moves p m heads a v c w
   pub whole : IsOpen p m c
   pub told : AreTold p c (covering m place) locals
-  pub kept : AreKept p m heads t told c
+  pub kept : AreKept p m heads t last c

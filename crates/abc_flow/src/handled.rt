@@ -75,16 +75,16 @@ fn ranges_beyond(alloc: Global, handlers: &[Catch], end: usize) -> Result<Table<
 fn tree_of(alloc: Global, handlers: &[Catch]) -> Result<Stabs, NoMemory>
     ensures { IfOk result (AreHung (map range_of handlers.now)) }
 {
-    let ranges = ranges_of(alloc, handlers)?;
-    stabs_of(alloc, ranges.as_slice())
+    let places = ranges_of(alloc, handlers)?;
+    stabs_of(alloc, places.as_slice())
 }
 
 /// A tree of the handlers that don't lead to a place before the code's end.
 fn tree_beyond(alloc: Global, handlers: &[Catch], end: usize) -> Result<Stabs, NoMemory>
     ensures { IfOk result (AreHung (map range_of (filter (leads_beyond end) handlers.now))) }
 {
-    let ranges = ranges_beyond(alloc, handlers, end)?;
-    stabs_of(alloc, ranges.as_slice())
+    let places = ranges_beyond(alloc, handlers, end)?;
+    stabs_of(alloc, places.as_slice())
 }
 
 /// The handlers of a method whose code ends there.

@@ -1,10 +1,10 @@
-ghost use Rattle.std.specs.Prelude.{◌≡◌, ◌<◌, ◌^◌, ◌∷◌, true, [], cond, map, length, MatchResult, OnOk};
+ghost use Rattle.std.specs.Prelude.{◌≡◌, ◌<◌, ◌^◌, ◌∷◌, true, false, [], cond, map, length, MatchResult, OnOk};
 ghost use Rattle.abc_program.specs.Linked.{IsLinkedFile};
 ghost use Rattle.abc_typing.specs.Effects.{covering};
 ghost use Rattle.abc_typing.specs.Typing.{Derivable, HasTyping};
 ghost use Rattle.abc_worklist.specs.Work.{IsUnderWay};
 ghost use Rattle.abc_flow.specs.Handled.{IsCoverAt};
-ghost use Rattle.abc_flow.specs.Telling.{AreHandled, AreKept, IsHandled};
+ghost use Rattle.abc_flow.specs.Telling.{AreKept, IsHandled};
 ghost use Rattle.abc_flow.specs.Walking.{AllReach, AreHeads, AreReady, ArrivesAt, HasPaced, HasTurned, HasWalked, IsOpen, IsPending, IsSeenFirst, MayGoOn, Passed, RefusedBy, is_head, landing, targets_at};
 
 use crate::copies::{copy_over, copy_state_over};
@@ -212,7 +212,8 @@ fn visit<F: Flow>(
         &mut walker.seen,
         place,
         &mut walker.now,
-    )
+    )?;
+    Ok(())
 }
 
 /// The work list, where there is code.
