@@ -1,10 +1,8 @@
 -- The handlers that cover a place hang above it.
-use Rattle.std.proofs.Common.{◌≡◌, ◌≢◌, ℕ, zero, suc, ◌+◌, ◌≤◌, ◌<◌, List, [], ◌∷◌, ◌++◌, ◌⊎◌, Option, Some, None, length, get_or, take, refl, sym, ap, ◌∙◌, subst, arith, inl, inr}
+use Rattle.std.proofs.Common.{◌≡◌, ℕ, zero, suc, ◌≤◌, ◌<◌, List, [], ◌∷◌, ◌⊎◌, Some, refl, sym, ap, ◌∙◌, subst, inl, inr}
 use Rattle.std.specs.Prelude.{Bool, true, false, cond, not, map, filter, slice_get, leb, ltb, ◌&&◌}
-use Rattle.std.proofs.lemmas.Bool.{cases_Bool, le-leb, leb-true, lt-ltb, ltb-true, not-true}
-use Rattle.std.proofs.lemmas.List.Elements.{filter_more}
-use Rattle.std.proofs.lemmas.List.{map-append}
-use Rattle.abc_stabs.specs.Hung.{AreHung, Covers, HangsAt, IsFree, IsTaken, leaf, up}
+use Rattle.std.proofs.lemmas.Bool.{cases_Bool, le-leb, leb-true, lt-ltb, ltb-true}
+use Rattle.abc_stabs.specs.Hung.{AreHung, Covers, IsFree, IsTaken, leaf, up}
 use Rattle.abc_stabs.specs.declared.hang.Range.{Range}
 use Rattle.abc_stabs.specs.declared.stabs.Stabs.{Stabs}
 use Rattle.abc_typing.specs.Effects.{covers}

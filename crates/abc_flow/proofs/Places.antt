@@ -1,17 +1,16 @@
 -- A state flows to a place, in the words of the code.
-use Rattle.std.proofs.Common.{◌≡◌, ℕ, zero, suc, ◌+◌, ◌≤◌, ◌<◌, List, [], ◌∷◌, ◌++◌, Option, Some, None, length, set, take, get_or, refl, sym, ap, ◌∙◌, subst, arith, ◌⊎◌, inl, inr}
+use Rattle.std.proofs.Common.{◌≡◌, ℕ, zero, suc, ◌+◌, ◌<◌, List, [], ◌∷◌, ◌++◌, Option, Some, None, length, set, take, get_or, refl, sym, ap, ◌∙◌, subst, arith, inl, inr}
 use Rattle.std.specs.Prelude.{Bool, true, false, cond, map, filter, slice_get}
 use Rattle.std.proofs.lemmas.List.{append-nil, map-append}
 use Rattle.abc_program.specs.Linked.{IsLinkedFile, LinkedFile}
 use Rattle.abc_typing.specs.Routines.{Routine}
 use Rattle.abc_typing.specs.Typing.{StateLe, HasOneShape, In, IsJoinState, Derivable, Refutes, Broken, Unmerged}
 use Rattle.abc_typing.specs.Rules.{broken_early}
-use Rattle.abc_typing.specs.declared.catch.Catch.{Catch}
 use Rattle.abc_typing.specs.declared.rule.VerifyRule.{VerifyRule}
 use Rattle.abc_typing.specs.declared.rule.VerifyRule.TheVariants.{Merge}
 use Rattle.abc_typing.specs.declared.state.State.{State}
 use Rattle.abc_typing.proofs.Good.{good}
-use Rattle.abc_typing.proofs.Member.{in_append, in_map, map_in}
+use Rattle.abc_typing.proofs.Member.{in_append, map_in}
 use Rattle.abc_typing.proofs.Sized.{derivable_sized}
 use Rattle.abc_worklist.specs.Work.{at, flat, Landed}
 use Rattle.abc_worklist.specs.Rank.{layouts, rank, top}
@@ -20,7 +19,7 @@ use Rattle.abc_worklist.proofs.Visits.{Reaches}
 use Rattle.abc_worklist.proofs.Merging.{rank_most}
 use Rattle.abc_worklist.proofs.Decides.{early_broken}
 use Rattle.abc_worklist.proofs.Turn.{advance_self, advance_trans, lands_on}
-use Rattle.abc_flow.specs.Walking.{is_head, IsOpen, AllReach, AreReady, IsReady, MayGoOn, caught_with, landing}
+use Rattle.abc_flow.specs.Walking.{is_head, IsOpen, AllReach, AreReady, IsReady, MayGoOn, landing}
 
 pub clash_broken : (p : LinkedFile) (m : Routine) (t : ℕ) (old : State) (r : VerifyRule) → Derivable p m t old → broken_early p m t old ≡ Some r → Refutes p m t r
 clash_broken p m t old r d e = Broken old r d (early_broken p m t old r e)

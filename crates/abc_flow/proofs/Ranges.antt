@@ -1,6 +1,6 @@
 -- The ranges of handlers, one after the other.
-use Rattle.std.proofs.Common.{◌≡◌, ℕ, ◌+◌, ◌<◌, ◌≤◌, List, [], ◌∷◌, ◌++◌, length, get_or, take, refl, suc, arith, sym, ap, ◌∙◌}
-use Rattle.std.specs.Prelude.{Bool, true, false, cond, not, map, filter, ltb}
+use Rattle.std.proofs.Common.{◌≡◌, ℕ, ◌+◌, ◌<◌, ◌≤◌, List, [], ◌∷◌, ◌++◌, length, get_or, take, suc, arith, sym, ap, ◌∙◌}
+use Rattle.std.specs.Prelude.{Bool, cond, not, map, filter}
 use Rattle.std.proofs.lemmas.Bool.{le-ltb, lt-ltb}
 use Rattle.std.proofs.lemmas.List.{map-append, append-nil}
 use Rattle.std.proofs.lemmas.List.Elements.{filter_more}

@@ -1,6 +1,6 @@
 -- What handlers are told, node by node.
-use Rattle.std.proofs.Common.{◌≡◌, ◌≢◌, ℕ, zero, suc, ◌+◌, ◌*◌, ◌/◌, ◌≤◌, ◌<◌, List, [], ◌∷◌, ◌⊎◌, Option, Some, None, length, set, replicate, refl, sym, ap, ◌∙◌, subst, arith, inl, inr, length-set}
-use Rattle.std.specs.Prelude.{Bool, map, filter, slice_get}
+use Rattle.std.proofs.Common.{◌≡◌, ℕ, zero, suc, ◌*◌, ◌/◌, ◌≤◌, ◌<◌, List, [], ◌∷◌, ◌⊎◌, Option, Some, None, length, set, replicate, refl, sym, ap, ◌∙◌, subst, arith, inl, inr, length-set}
+use Rattle.std.specs.Prelude.{Bool, map, slice_get}
 use Rattle.std.proofs.lemmas.Bool.{cases_eq, cases_lt}
 use Rattle.std.proofs.lemmas.List.{length-replicate}
 use Rattle.abc_program.specs.Kinds.{IsAtMost}
@@ -14,20 +14,20 @@ use Rattle.abc_stabs.specs.declared.stabs.Stabs.{Stabs}
 use Rattle.abc_stabs.proofs.Hanging.{hangs_none, hangs_split}
 use Rattle.abc_stabs.proofs.Levels.{up_low, up_past}
 use Rattle.abc_stabs.proofs.Pieces.{piece_few}
-use Rattle.abc_typing.specs.Effects.{covering, covers}
+use Rattle.abc_typing.specs.Effects.{covering}
 use Rattle.abc_typing.specs.Lists.{Each2}
 use Rattle.abc_typing.specs.Routines.{Routine}
-use Rattle.abc_typing.specs.Typing.{StateLe, In, IsJoinState, Derivable, Join}
+use Rattle.abc_typing.specs.Typing.{IsJoinState, Join}
 use Rattle.abc_typing.specs.declared.catch.Catch.{Catch}
 use Rattle.abc_typing.specs.declared.state.State.{State}
 use Rattle.abc_typing.proofs.Lists.{Each2-self}
 use Rattle.abc_typing.proofs.Member.{map_in}
 use Rattle.abc_worklist.specs.Rank.{layouts, rank, top}
-use Rattle.abc_worklist.specs.Work.{at, Landed}
+use Rattle.abc_worklist.specs.Work.{at}
 use Rattle.abc_worklist.proofs.Order.{state_trans}
 use Rattle.abc_worklist.proofs.Turn.{advance_self, advance_trans, at-set_other, at-set_same, lands_on}
 use Rattle.abc_flow.specs.Telling.{AreKept, HandlerAt, HasCaught, HasCaughtOne, HasTold, HasToldAt, IsReadyFor, IsTold, Raises, range_of}
-use Rattle.abc_flow.specs.Walking.{AllReach, AreReady, AreTold, IsOpen, IsReady, Moves, caught_with, is_head}
+use Rattle.abc_flow.specs.Walking.{AllReach, AreReady, IsOpen, Moves, caught_with, is_head}
 use Rattle.abc_flow.proofs.Covered.{covers_hung, hung_covers}
 
 -- less was told too

@@ -1,33 +1,32 @@
 -- A walk over straight-line code, in the words of the code.
-use Rattle.std.proofs.Common.{◌≡◌, ◌≢◌, ℕ, zero, suc, ◌+◌, ◌≤◌, ◌<◌, List, [], ◌∷◌, ◌++◌, Option, Some, None, length, refl, sym, ap, ◌∙◌, subst, arith, ◌⊎◌, inl, inr}
+use Rattle.std.proofs.Common.{◌≡◌, ◌≢◌, ℕ, suc, ◌+◌, ◌<◌, List, [], ◌∷◌, ◌++◌, Option, Some, None, length, refl, sym, ap, ◌∙◌, subst, arith, ◌⊎◌, inl, inr}
 use Rattle.std.specs.Prelude.{Bool, true, false, cond, map, filter, slice_get, leb, ltb, ◌&&◌}
 use Rattle.std.proofs.lemmas.Bool.{cases_lt, le-leb, le-ltb, lt-leb, lt-ltb}
 use Rattle.std.proofs.lemmas.Option.{slice_get_past}
 use Rattle.abc_program.specs.Kinds.{IsAtMost}
 use Rattle.abc_program.specs.Linked.{LinkedFile}
 use Rattle.abc_program.specs.declared.types.Kind.{Kind}
-use Rattle.abc_program.proofs.Order.{kind_self, kind_trans}
+use Rattle.abc_program.proofs.Order.{kind_self}
 use Rattle.abc_typing.specs.Effects.{covering, covers, caught}
 use Rattle.abc_typing.specs.Lists.{Each2}
 use Rattle.abc_typing.specs.Routines.{Routine}
 use Rattle.abc_typing.specs.Rules.{after_instr, at_instr, early_rules, late_rules}
-use Rattle.abc_typing.specs.Typing.{StateLe, In, Follows, IsFine, Derivable, Entry, Next, Join, Refutes, Broken, entry}
+use Rattle.abc_typing.specs.Typing.{In, Follows, IsFine, Derivable, Entry, Next, Join, Refutes, Broken, entry}
 use Rattle.abc_typing.specs.declared.catch.Catch.{Catch}
 use Rattle.abc_typing.specs.declared.rule.VerifyRule.TheVariants.{OffEnd}
 use Rattle.abc_typing.specs.declared.state.State.{State}
-use Rattle.abc_typing.proofs.Lists.{Each2-self, Each2-trans}
+use Rattle.abc_typing.proofs.Lists.{Each2-self}
 use Rattle.abc_typing.proofs.Member.{in_append, in_left, in_right, in_map, map_in}
 use Rattle.abc_typing.proofs.Sized.{follows_inside}
 use Rattle.abc_worklist.specs.Work.{at, Landed, Runs, Halts, Goes, IsUnderWay}
 use Rattle.abc_worklist.specs.Rank.{layouts, rank, top}
-use Rattle.abc_worklist.proofs.Order.{state_trans}
 use Rattle.abc_worklist.proofs.Turn.{advance_self, advance_trans, lands_on, turn}
 use Rattle.abc_flow.specs.declared.step.Step.{Step}
 use Rattle.abc_flow.specs.declared.step.Written.{Written}
 use Rattle.abc_flow.specs.declared.step.Written.TheVariants as writes
 use Rattle.abc_flow.specs.declared.step.Onward.{Onward}
 use Rattle.abc_flow.specs.declared.step.Onward.TheVariants.{Stops, GoesOn}
-use Rattle.abc_flow.specs.Walking.{AllReach, AreHeads, AreReady, AreSeen, AreTold, ArrivesAt, First, HasPaced, HasTurned, HasWalked, IsOnward, IsOpen, IsPending, IsReady, IsSeen, IsSeenFirst, IsStopped, IsWalking, Later, MayGoOn, Moves, Noted, Passed, PassesTo, Steps, Wrote, caught_with, is_head, landing, leads_of, targets_at}
+use Rattle.abc_flow.specs.Walking.{AllReach, AreHeads, AreReady, AreSeen, AreTold, ArrivesAt, First, HasPaced, HasTurned, HasWalked, IsOpen, IsPending, IsReady, IsSeen, IsSeenFirst, IsWalking, Later, MayGoOn, Moves, Noted, Passed, Steps, Wrote, caught_with, is_head, landing, leads_of, targets_at}
 use Rattle.abc_flow.proofs.Seen.{Joins, caught_join, joins_left, joins_right, noted_joins}
 use Rattle.abc_flow.proofs.Covered.{empty_not, in_filter}
 use Rattle.abc_flow.proofs.Told.{told_less}

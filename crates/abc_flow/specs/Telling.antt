@@ -1,16 +1,15 @@
 -- What handlers are told, by the nodes of the tree that they hang in.
-use Rattle.std.specs.Prelude.{◌≡◌, ℕ, ◌*◌, List, ◌∷◌, [], Option, Some, None, Bool, length, map, filter, slice_get, ltb, not, ◌⊎◌}
+use Rattle.std.specs.Prelude.{◌≡◌, ℕ, ◌*◌, List, Option, Some, None, Bool, length, map, filter, slice_get, ltb, not, ◌⊎◌}
 use Rattle.abc_program.specs.Kinds.{IsAtMost}
 use Rattle.abc_program.specs.Linked.{LinkedFile}
 use Rattle.abc_program.specs.declared.types.Kind.{Kind}
-use Rattle.abc_stabs.specs.Hung.{AreHung, HangsAt, leaf, leaves, up}
+use Rattle.abc_stabs.specs.Hung.{AreHung, HangsAt, leaves}
 use Rattle.abc_stabs.specs.declared.hang.Range.{Range}
 use Rattle.abc_stabs.specs.declared.stabs.Stabs.{Stabs}
-use Rattle.abc_typing.specs.Effects.{covering, covers}
+use Rattle.abc_typing.specs.Effects.{covering}
 use Rattle.abc_typing.specs.Lists.{Each2}
 use Rattle.abc_typing.specs.Routines.{Routine}
-use Rattle.abc_typing.specs.Rules.{handler_target}
-use Rattle.abc_typing.specs.Typing.{In, IsJoinState}
+use Rattle.abc_typing.specs.Typing.{IsJoinState}
 use Rattle.abc_typing.specs.declared.catch.Catch.{Catch}
 use Rattle.abc_typing.specs.declared.state.State.{State}
 use Rattle.abc_worklist.specs.Work.{at, Landed}

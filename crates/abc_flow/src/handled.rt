@@ -63,7 +63,9 @@ fn add_beyond(ranges: &mut Table<Range>, handler: &Catch, end: usize) -> Result<
 
 /// The places that each handler covers that doesn't lead to a place before the code's end.
 #[tactic(auto, using(crate::proofs::Ranges::next_beyond))]
-fn ranges_beyond(alloc: Global, handlers: &[Catch], end: usize) -> Result<Table<Range>, NoMemory> {
+fn ranges_beyond(alloc: Global, handlers: &[Catch], end: usize) -> Result<Table<Range>, NoMemory>
+    ensures { IfOk result (λ t. t ≡ map range_of (filter (leads_beyond end) handlers.now)) }
+{
     let mut ranges = Table::new(alloc);
     for handler in handlers {
         add_beyond(&mut ranges, handler, end)?;

@@ -1,4 +1,4 @@
-use Rattle.std.proofs.Common.{◌≡◌, List, None, Some, ap, refl, sym, ◌∙◌}
+use Rattle.std.proofs.Common.{List, ap, refl, sym, ◌∙◌}
 use Rattle.std.specs.Prelude.{slice_get}
 use Rattle.abc_typing.specs.declared.catch.Catch.{Catch}
 use Rattle.abc_flow.proofs.Told.{caught_none}

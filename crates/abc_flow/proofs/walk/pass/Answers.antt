@@ -1,4 +1,4 @@
-use Rattle.std.proofs.Common.{◌≡◌, refl, sym, ◌∙◌}
+use Rattle.std.proofs.Common.{refl, sym, ◌∙◌}
 use Rattle.abc_typing.specs.Typing.{Broken}
 use Rattle.abc_flow.proofs.Walks.{jumps_ready, next_ready, now_seen, passed}
 use Rattle.abc_flow.proofs.walk.pass.Goals as goal
