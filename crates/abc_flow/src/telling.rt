@@ -17,7 +17,8 @@ use abc_program::Kind;
 use abc_stabs::Stabs;
 use abc_typing::{Catch, Stack, State};
 
-/// What was told at a node together with what was seen, if that is more than what was told.
+/// What was told at a node together with what was seen, if that is more than what was told. States that have not one shape,
+/// of which there are none here, would not be joined: then it is what was seen.
 fn raised<F: Flow>(
     flow: &F,
     told: &States,
@@ -94,7 +95,7 @@ fn catch_numbered<F: Flow>(
     }
 }
 
-/// All handlers at a node get the locals of a state.
+/// All handlers at a node get the locals of a state, whose stack is empty then as at first.
 fn catch_all<F: Flow>(
     flow: &F,
     stabs: &Stabs,
