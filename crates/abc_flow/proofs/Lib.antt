@@ -1,7 +1,8 @@
 pub mod Seen
 pub mod Places
 pub mod Walks
-pub mod Covered
 pub mod Numbers
 pub mod Copied
-pub mod Inside
+pub mod Covered
+pub mod Ranges
+pub mod Told

@@ -1,11 +1,9 @@
 -- The states of places by their numbers.
-use Rattle.std.proofs.Common.{◌≡◌, ◌≢◌, ℕ, zero, suc, ◌+◌, ◌-◌, ◌≤◌, ◌<◌, ◌^◌, List, [], ◌∷◌, ◌++◌, Option, Some, None, length, set, map, get_or, replicate, take, refl, sym, ap, ◌∙◌, subst, arith, ◌⊎◌, inl, inr}
+use Rattle.std.proofs.Common.{◌≡◌, ◌≢◌, ℕ, zero, suc, ◌+◌, ◌-◌, ◌≤◌, ◌<◌, ◌^◌, List, [], ◌∷◌, ◌++◌, Option, Some, None, length, set, replicate, take, refl, sym, ap, ◌∙◌, subst, arith, ◌⊎◌, inl, inr}
 use Rattle.std.specs.Prelude.{slice_get}
-use Rattle.std.proofs.lemmas.List.{length-append, length-replicate, map-set}
+use Rattle.std.proofs.lemmas.List.{length-replicate, map-set}
 use Rattle.std.proofs.Math.ListN.{length-set}
-use Rattle.std.proofs.lemmas.Option.{slice_get-get_or, slice_get-map}
-use Rattle.abc_typing.proofs.Lists.{slice_get-last, slice_get-push, slice_get-set}
-use Rattle.abc_worklist.specs.Work.{at, flat}
+use Rattle.abc_typing.proofs.Lists.{slice_get-last, slice_get-set}
 use Rattle.abc_flow.specs.Kept.{AreNumbers, count_of, known_at, numbered}
 
 pub numbered_none : {X : Type 0} (known : List X) (n : ℕ) → (1 ≤ n → ⊥) → numbered known n ≡ None

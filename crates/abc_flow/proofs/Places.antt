@@ -1,17 +1,16 @@
 -- A state flows to a place, in the words of the code.
-use Rattle.std.proofs.Common.{◌≡◌, ℕ, zero, suc, ◌+◌, ◌≤◌, ◌<◌, List, [], ◌∷◌, ◌++◌, Option, Some, None, length, set, take, get_or, refl, sym, ap, ◌∙◌, subst, arith, ◌⊎◌, inl, inr}
+use Rattle.std.proofs.Common.{◌≡◌, ℕ, zero, suc, ◌+◌, ◌<◌, List, [], ◌∷◌, ◌++◌, Option, Some, None, length, set, take, get_or, refl, sym, ap, ◌∙◌, subst, arith, inl, inr}
 use Rattle.std.specs.Prelude.{Bool, true, false, cond, map, filter, slice_get}
 use Rattle.std.proofs.lemmas.List.{append-nil, map-append}
 use Rattle.abc_program.specs.Linked.{IsLinkedFile, LinkedFile}
 use Rattle.abc_typing.specs.Routines.{Routine}
 use Rattle.abc_typing.specs.Typing.{StateLe, HasOneShape, In, IsJoinState, Derivable, Refutes, Broken, Unmerged}
 use Rattle.abc_typing.specs.Rules.{broken_early}
-use Rattle.abc_typing.specs.declared.catch.Catch.{Catch}
 use Rattle.abc_typing.specs.declared.rule.VerifyRule.{VerifyRule}
 use Rattle.abc_typing.specs.declared.rule.VerifyRule.TheVariants.{Merge}
 use Rattle.abc_typing.specs.declared.state.State.{State}
 use Rattle.abc_typing.proofs.Good.{good}
-use Rattle.abc_typing.proofs.Member.{in_append, in_map, map_in}
+use Rattle.abc_typing.proofs.Member.{in_append, map_in}
 use Rattle.abc_typing.proofs.Sized.{derivable_sized}
 use Rattle.abc_worklist.specs.Work.{at, flat, Landed}
 use Rattle.abc_worklist.specs.Rank.{layouts, rank, top}
@@ -20,7 +19,7 @@ use Rattle.abc_worklist.proofs.Visits.{Reaches}
 use Rattle.abc_worklist.proofs.Merging.{rank_most}
 use Rattle.abc_worklist.proofs.Decides.{early_broken}
 use Rattle.abc_worklist.proofs.Turn.{advance_self, advance_trans, lands_on}
-use Rattle.abc_flow.specs.Walking.{is_head, IsOpen, AllReach, AreReady, IsReady, MayGoOn, caught_with, landing}
+use Rattle.abc_flow.specs.Walking.{is_head, IsOpen, AllReach, AreReady, IsReady, MayGoOn, landing}
 
 pub clash_broken : (p : LinkedFile) (m : Routine) (t : ℕ) (old : State) (r : VerifyRule) → Derivable p m t old → broken_early p m t old ≡ Some r → Refutes p m t r
 clash_broken p m t old r d e = Broken old r d (early_broken p m t old r e)
@@ -63,7 +62,7 @@ module _ (p : LinkedFile) (m : Routine) (heads : List Bool) where
   reach_more xs ys a c e v w u r s = record { advances = advance_trans p _ _ (is_head heads) a c e v w u r.advances s.advances; landed = λ t n h. elim (in_append (t, n) xs ys h) [ inl k ↦ lands_on p _ _ (is_head heads) c e w u s.advances t n (r.landed t n k) | inr k ↦ s.landed t n k ]; whole = s.whole }
 
 -- a list is read one by one
-take_next : {X : Type 0} (xs : List X) (k : ℕ) (d : X) → k < length xs → take (suc k) xs ≡ take k xs ++ get_or xs k d ∷ []
+pub take_next : {X : Type 0} (xs : List X) (k : ℕ) (d : X) → k < length xs → take (suc k) xs ≡ take k xs ++ get_or xs k d ∷ []
 take_next [] k d h = absurd (omega arith)
 take_next (x ∷ xs) zero d h = refl
 take_next {X} (x ∷ xs) (suc k) d h = ap (λ (ys : List X). x ∷ ys) (take_next xs k d (omega arith))

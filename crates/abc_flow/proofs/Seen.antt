@@ -1,6 +1,6 @@
 -- What was seen of locals, joined with what a step wrote.
-use Rattle.std.proofs.Common.{◌≡◌, ◌≢◌, ℕ, zero, suc, ◌≤◌, ◌<◌, List, [], ◌∷◌, Some, None, length, set, refl, sym, ap, ◌∙◌, subst, arith}
-use Rattle.std.specs.Prelude.{slice_get, Option}
+use Rattle.std.proofs.Common.{◌≡◌, ◌≢◌, ℕ, zero, suc, List, [], ◌∷◌, Some, None, set, refl, sym, ap, ◌∙◌, subst}
+use Rattle.std.specs.Prelude.{slice_get}
 use Rattle.abc_program.specs.Kinds.{IsAtMost, IsJoin}
 use Rattle.abc_program.specs.Linked.{LinkedFile}
 use Rattle.abc_program.specs.declared.types.Kind.{Kind}
@@ -9,7 +9,6 @@ use Rattle.abc_program.proofs.Order.{kind_self}
 use Rattle.abc_typing.specs.Lists.{Each2}
 use Rattle.abc_typing.specs.Typing.{IsJoinState}
 use Rattle.abc_typing.specs.declared.catch.Catch.{Catch}
-use Rattle.abc_typing.specs.declared.state.State.{State}
 use Rattle.abc_flow.specs.Walking.{Noted, NotedAt, Wrote, caught_with}
 use Rattle.abc_flow.specs.declared.step.Written.{Written}
 use Rattle.abc_flow.specs.declared.step.Written.TheVariants as writes

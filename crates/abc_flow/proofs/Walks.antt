@@ -1,43 +1,39 @@
 -- A walk over straight-line code, in the words of the code.
-use Rattle.std.proofs.Common.{◌≡◌, ◌≢◌, ℕ, zero, suc, ◌+◌, ◌≤◌, ◌<◌, List, [], ◌∷◌, ◌++◌, Option, Some, None, length, refl, sym, ap, ◌∙◌, subst, arith, ◌⊎◌, inl, inr}
+use Rattle.std.proofs.Common.{◌≡◌, ◌≢◌, ℕ, suc, ◌+◌, ◌<◌, List, [], ◌∷◌, ◌++◌, Option, Some, None, length, refl, sym, ap, ◌∙◌, subst, arith, ◌⊎◌, inl, inr}
 use Rattle.std.specs.Prelude.{Bool, true, false, cond, map, filter, slice_get, leb, ltb, ◌&&◌}
 use Rattle.std.proofs.lemmas.Bool.{cases_lt, le-leb, le-ltb, lt-leb, lt-ltb}
 use Rattle.std.proofs.lemmas.Option.{slice_get_past}
 use Rattle.abc_program.specs.Kinds.{IsAtMost}
 use Rattle.abc_program.specs.Linked.{LinkedFile}
 use Rattle.abc_program.specs.declared.types.Kind.{Kind}
-use Rattle.abc_program.proofs.Order.{kind_self, kind_trans}
+use Rattle.abc_program.proofs.Order.{kind_self}
 use Rattle.abc_typing.specs.Effects.{covering, covers, caught}
 use Rattle.abc_typing.specs.Lists.{Each2}
 use Rattle.abc_typing.specs.Routines.{Routine}
 use Rattle.abc_typing.specs.Rules.{after_instr, at_instr, early_rules, late_rules}
-use Rattle.abc_typing.specs.Typing.{StateLe, In, Follows, IsFine, Derivable, Entry, Next, Join, Refutes, Broken, entry}
+use Rattle.abc_typing.specs.Typing.{In, Follows, IsFine, Derivable, Entry, Next, Join, Refutes, Broken, entry}
 use Rattle.abc_typing.specs.declared.catch.Catch.{Catch}
 use Rattle.abc_typing.specs.declared.rule.VerifyRule.TheVariants.{OffEnd}
 use Rattle.abc_typing.specs.declared.state.State.{State}
-use Rattle.abc_typing.proofs.Lists.{Each2-self, Each2-trans}
+use Rattle.abc_typing.proofs.Lists.{Each2-self}
 use Rattle.abc_typing.proofs.Member.{in_append, in_left, in_right, in_map, map_in}
 use Rattle.abc_typing.proofs.Sized.{follows_inside}
 use Rattle.abc_worklist.specs.Work.{at, Landed, Runs, Halts, Goes, IsUnderWay}
 use Rattle.abc_worklist.specs.Rank.{layouts, rank, top}
-use Rattle.abc_worklist.proofs.Order.{state_trans}
 use Rattle.abc_worklist.proofs.Turn.{advance_self, advance_trans, lands_on, turn}
 use Rattle.abc_flow.specs.declared.step.Step.{Step}
 use Rattle.abc_flow.specs.declared.step.Written.{Written}
 use Rattle.abc_flow.specs.declared.step.Written.TheVariants as writes
 use Rattle.abc_flow.specs.declared.step.Onward.{Onward}
 use Rattle.abc_flow.specs.declared.step.Onward.TheVariants.{Stops, GoesOn}
-use Rattle.abc_flow.specs.Walking.{AllReach, AreHeads, AreReady, AreSeen, AreTold, ArrivesAt, First, HasPaced, HasTurned, HasWalked, IsOnward, IsOpen, IsPending, IsReady, IsSeen, IsSeenFirst, IsStopped, IsWalking, Later, MayGoOn, Moves, Noted, Passed, PassesTo, Steps, Wrote, caught_with, is_head, landing, leads_of, targets_at}
+use Rattle.abc_flow.specs.Walking.{AllReach, AreHeads, AreReady, AreSeen, AreTold, ArrivesAt, First, HasPaced, HasTurned, HasWalked, IsOpen, IsPending, IsReady, IsSeen, IsSeenFirst, IsWalking, Later, MayGoOn, Moves, Noted, Passed, Steps, Wrote, caught_with, is_head, landing, leads_of, targets_at}
 use Rattle.abc_flow.proofs.Seen.{Joins, caught_join, joins_left, joins_right, noted_joins}
-
-in_filter : (f : Catch → Bool) (h : Catch) (hs : List Catch) → In h (filter f hs) → In h hs
-in_filter f h [] k = absurd k
-in_filter f h (x ∷ hs) k = go (λ j. in_filter f h hs j) (f x) k
-  where
-    go : (In h (filter f hs) → In h hs) → (b : Bool) → In h (cond b (x ∷ filter f hs) (filter f hs)) → In h (x ∷ hs)
-    go rec true (inl q) = inl q
-    go rec true (inr j) = inr (rec j)
-    go rec false j = inr (rec j)
+use Rattle.abc_flow.proofs.Covered.{empty_not, in_filter}
+use Rattle.abc_flow.proofs.Told.{told_less}
+use Rattle.abc_flow.specs.Handled.{IsCover}
+use Rattle.abc_flow.specs.Telling.{AreKept, HasTold}
+use Rattle.abc_flow.specs.declared.handled.Cover.{Cover}
+use Rattle.abc_stabs.specs.declared.stabs.Stabs.{Stabs}
 
 -- what handlers get is derived, and lies inside
 caught_ready : (p : LinkedFile) (m : Routine) (heads : List Bool) (i : ℕ) (s : State) → AreHeads m heads → Derivable p m i s → IsFine p m i s → AreReady p m heads (map (caught s) (covering m i))
@@ -46,7 +42,7 @@ caught_ready p m heads i s hs d fine t n h =
     let inside = follows_inside p m i s t n fine f in
     let r = in_map (caught s) (t, n) (covering m i) h in
     let e : t ≡ r.0.target = ap (λ (z : ℕ × State). z.0) r.2 in
-    record { derived = Next i s t n d fine f; inside = inside; head = subst (λ k. is_head heads k ≡ true) (sym e) (hs.handlers r.0 (in_filter (covers i) r.0 m.handlers r.1) (subst (λ k. k < length m.code) e inside)) }
+    record { derived = Next i s t n d fine f; inside = inside; head = subst (λ k. is_head heads k ≡ true) (sym e) (hs.handlers r.0 (in_filter (covers i) r.0 m.handlers r.1).0 (subst (λ k. k < length m.code) e inside)) }
 
 -- ---- the handlers of the next place are those of this one, unless a head begins there
 
@@ -71,11 +67,8 @@ covering_next m heads i hs inside off = filter_same (covers i) (covers (suc i)) 
 
 -- ---- what was seen
 
-seen_up : (p : LinkedFile) (a b : List Kind) (h : Catch) → Each2 (IsAtMost p) a b → StateLe p (caught_with a h).1 (caught_with b h).1
-seen_up p a b h le = record { stack = (kind_self p h.kind, tt); scopes = tt; locals = le }
-
 told_down : (p : LinkedFile) (d : List (Option State)) (cover : List Catch) (a b : List Kind) → AreSeen p cover a b → AreTold p d cover b → AreTold p d cover a
-told_down p d cover a b le told h k = let l = told h k in (l.0, l.1, state_trans p (caught_with a h).1 (caught_with b h).1 l.0 (seen_up p a b h (le h k)) l.2)
+told_down p d cover a b le told h k = told_less p d a b h (le h k) (told h k)
 
 -- what handlers get has landed
 caught_lands : (p : LinkedFile) (d : List (Option State)) (cover : List Catch) (s : State) (seen : List Kind) (t : ℕ) (u : State) → AreSeen p cover s.locals seen → AreTold p d cover seen → In (t, u) (map (caught s) cover) → Landed p d t u
@@ -85,12 +78,8 @@ caught_lands p d cover s seen t u most told k =
     subst (λ (y : ℕ × State). Landed p d y.0 y.1) (sym r.2) l
 
 -- where no handler covers a walk nothing is kept for one
-pub none_cover : (cover : List Catch) (seen locals : List Kind) → length cover ≡ 0 → IsSeenFirst cover seen locals
-none_cover [] seen locals e h k = absurd k
-none_cover (x ∷ cover) seen locals e h k = absurd (omega arith)
-
-pub all_seen : (cover : List Catch) (seen locals : List Kind) → seen ≡ locals → IsSeenFirst cover seen locals
-all_seen cover seen locals e h k = e
+pub seen_first : (handlers : List Catch) (end : ℕ) (c : Cover) (seen locals : List Kind) → IsCover handlers end c → (c.is_empty ≡ false → seen ≡ locals) → IsSeenFirst handlers seen locals
+seen_first handlers end c seen locals is kept h k = kept (is.none ∙ empty_not handlers h k)
 
 -- what is ready for each handler
 each_handler : (p : LinkedFile) (m : Routine) (heads : List Bool) (cover : List Catch) (seen : List Kind) → ((h : Catch) → In h cover → IsReady p m heads h.target (caught_with seen h).1) → AreReady p m heads (map (caught_with seen) cover)
@@ -226,19 +215,27 @@ module _ (p : LinkedFile) (m : Routine) (heads : List Bool) where
         ]));
       }
 
-  pub walked_all : (cover : List Catch) (start : ℕ) (s : State) (seen : List Kind) (a c d : List (Option State)) (v w x : List ℕ) → HasPaced p m heads cover start s seen a v c w → AllReach p m heads (map (caught_with seen) cover) c w d x → HasWalked p m heads start s a v d x
-  walked_all cover start s seen a c d v w x paced told =
-      record {
-        advances = advance_trans p _ _ (is_head heads) a c d v w x paced.advances told.advances;
-        whole = told.whole;
-        runs = paced.runs d x told.advances (λ h k. told.landed h.target (caught_with seen h).1 (map_in (caught_with seen) h cover k));
-      }
+  pub walked_all : (t : Stabs) (start : ℕ) (s : State) (seen : List Kind) (a c d : List (Option State)) (v w x : List ℕ) (told : List (Option State)) → HasPaced p m heads (covering m start) start s seen a v c w → HasTold p m heads t start seen c w told d x → HasWalked p m heads start s a v d x × AreKept p m heads t told d
+  walked_all t start s seen a c d v w x told paced now = (
+    record {
+      advances = advance_trans p _ _ (is_head heads) a c d v w x paced.advances now.advances;
+      whole = now.whole;
+      runs = paced.runs d x now.advances now.told;
+    },
+    now.kept,
+  )
 
-  pub visit_none : (a : List (Option State)) (i : ℕ) (v : List ℕ) → IsUnderWay p m (is_head heads) a (i ∷ v) → at a i ≡ None → HasTurned p m heads a v a v
-  visit_none a i v u e = record { under_way = turn p m (rank (layouts p)) (top (layouts p) m) (is_head heads) a a i v v u (advance_self p _ _ (is_head heads) a v) (λ s q. absurd cc) u.derived; falls = omega arith }
+  pub visit_none : (t : Stabs) (told a : List (Option State)) (i : ℕ) (v : List ℕ) → IsUnderWay p m (is_head heads) a (i ∷ v) → at a i ≡ None → AreKept p m heads t told a → HasTurned p m heads a v a v × AreKept p m heads t told a
+  visit_none t told a i v u e k = (record { under_way = turn p m (rank (layouts p)) (top (layouts p) m) (is_head heads) a a i v v u (advance_self p _ _ (is_head heads) a v) (λ s q. absurd cc) u.derived; falls = omega arith }, k)
 
-  pub visit_walked : (a c : List (Option State)) (i : ℕ) (s n : State) (v w : List ℕ) → IsUnderWay p m (is_head heads) a (i ∷ v) → at a i ≡ Some s → n ≡ s → HasWalked p m heads i n a v c w → HasTurned p m heads a v c w
-  visit_walked a c i s n v w u e same r = record { under_way = turn p m (rank (layouts p)) (top (layouts p) m) (is_head heads) a c i v w u r.advances (λ q f. let z : n ≡ q = (let y : Some s ≡ Some q = sym e ∙ f in let x : s ≡ q = cc in same ∙ x) in subst (λ x. Runs p m (is_head heads) c i x) z r.runs) r.whole.derived; falls = r.advances.falls }
+  pub visit_walked : (t : Stabs) (told a c : List (Option State)) (i : ℕ) (s n : State) (v w : List ℕ) → IsUnderWay p m (is_head heads) a (i ∷ v) → at a i ≡ Some s → n ≡ s → HasWalked p m heads i n a v c w × AreKept p m heads t told c → HasTurned p m heads a v c w × AreKept p m heads t told c
+  visit_walked t told a c i s n v w u e same r = (
+    record {
+      under_way = turn p m (rank (layouts p)) (top (layouts p) m) (is_head heads) a c i v w u r.0.advances (λ q f. let z : n ≡ q = (let y : Some s ≡ Some q = sym e ∙ f in let x : s ≡ q = cc in same ∙ x) in subst (λ x. Runs p m (is_head heads) c i x) z r.0.runs) r.0.whole.derived;
+      falls = r.0.advances.falls;
+    },
+    r.1,
+  )
 
   pub is_whole : (a : List (Option State)) (v : List ℕ) → IsUnderWay p m (is_head heads) a v → IsOpen p m a
   is_whole a v u = record { long = u.long; derived = u.derived }

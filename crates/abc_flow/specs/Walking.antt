@@ -1,5 +1,5 @@
 -- What the code of the work list promises.
-use Rattle.std.specs.Prelude.{◌≡◌, ◌≢◌, ℕ, zero, suc, ◌+◌, ◌<◌, ◌≤◌, List, [], ◌∷◌, ◌++◌, Bool, true, false, cond, Option, Some, None, length, map, set, slice_get, ◌⊎◌}
+use Rattle.std.specs.Prelude.{◌≡◌, ◌≢◌, ℕ, suc, ◌+◌, ◌<◌, ◌≤◌, List, [], ◌∷◌, ◌++◌, Bool, true, false, cond, Option, Some, None, length, map, set, slice_get, ◌⊎◌}
 use Rattle.abc_program.specs.Kinds.{IsAtMost, IsJoin}
 use Rattle.abc_program.specs.Linked.{LinkedFile}
 use Rattle.abc_program.specs.declared.types.Kind.{Kind}
@@ -8,10 +8,9 @@ use Rattle.abc_tables.specs.declared.code.Instr.{Instr}
 use Rattle.abc_typing.specs.Effects.{covering, caught}
 use Rattle.abc_typing.specs.Lists.{Each2}
 use Rattle.abc_typing.specs.Routines.{Routine}
-use Rattle.abc_typing.specs.Rules.{after_instr, broken_early}
-use Rattle.abc_typing.specs.Typing.{StateLe, HasOneShape, IsFine, In, Follows, IsJoinState, IsTyping, Derivable, Refutes}
+use Rattle.abc_typing.specs.Rules.{after_instr}
+use Rattle.abc_typing.specs.Typing.{StateLe, HasOneShape, IsFine, In, Follows, IsJoinState, Derivable, Refutes}
 use Rattle.abc_typing.specs.declared.catch.Catch.{Catch}
-use Rattle.abc_typing.specs.declared.rule.VerifyRule.{VerifyRule}
 use Rattle.abc_typing.specs.declared.state.State.{State}
 use Rattle.abc_worklist.specs.Work.{Landed, Runs, Advances, AreDerived, IsUnderWay, total}
 use Rattle.abc_worklist.specs.Rank.{layouts, rank, top}

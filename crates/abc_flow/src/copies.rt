@@ -1,9 +1,8 @@
 ghost use Rattle.std.specs.Prelude.{◌≡◌, IfOk, OnOk};
-ghost use Rattle.abc_flow.specs.Walking.{caught_with};
 
 use abc_base::{NoMemory, Table};
 use abc_program::Kind;
-use abc_typing::{Catch, Scope, Stack, State};
+use abc_typing::{Stack, State};
 use std::alloc::Global;
 
 /// Copies a list over another, whose memory is used again.
@@ -62,24 +61,6 @@ pub(crate) fn copy_state(alloc: Global, state: &State) -> Result<State, NoMemory
     Ok(State {
         stack,
         scopes,
-        locals,
-    })
-}
-
-/// What a handler gets where these are the locals.
-pub(crate) fn caught_state(
-    alloc: Global,
-    handler: &Catch,
-    locals: &Table<Kind>,
-) -> Result<State, NoMemory>
-    ensures { IfOk result (λ s. s ≡ (caught_with locals.now handler.now).1) }
-{
-    let mut stack = Stack::new(alloc);
-    stack.push(handler.kind)?;
-    let locals = copy_table(alloc, locals.as_slice())?;
-    Ok(State {
-        stack,
-        scopes: Table::new(alloc),
         locals,
     })
 }

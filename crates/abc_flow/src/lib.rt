@@ -8,9 +8,9 @@ mod flow;
 mod handled;
 mod merging;
 mod notes;
-mod spans;
 mod states;
 mod step;
+mod telling;
 mod walk;
 
 pub use flow::Flow;

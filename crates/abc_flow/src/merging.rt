@@ -2,17 +2,15 @@ ghost use Rattle.std.specs.Prelude.{◌≡◌, ◌∷◌, ◌<◌, [], Some, len
 ghost use Rattle.abc_program.specs.Linked.{IsLinkedFile};
 ghost use Rattle.abc_shapes.specs.Instructions.{targets};
 ghost use Rattle.abc_typing.specs.Typing.{Derivable, HasOneShape, Refutes};
-ghost use Rattle.abc_flow.specs.Walking.{AllReach, AreReady, IsOpen, IsReady, RefusedBy, caught_with, landing, targets_at};
+ghost use Rattle.abc_flow.specs.Walking.{AllReach, AreReady, IsOpen, IsReady, RefusedBy, landing, targets_at};
 ghost use Rattle.abc_flow.specs.declared.step.Refusal.TheVariants as refusals;
 
-use crate::copies::{caught_state, copy_state};
+use crate::copies::copy_state;
 use crate::flow::Flow;
 use crate::states::States;
 use crate::step::{Merged, Refusal};
-use abc_base::Table;
-use abc_program::Kind;
 use abc_tables::Instr;
-use abc_typing::{Catch, Stack, State, VerifyRule};
+use abc_typing::{Stack, State, VerifyRule};
 
 /// A place gets a state, and work.
 pub(crate) fn raise(
@@ -65,42 +63,6 @@ pub(crate) fn merge_at<F: Flow>(
         },
         None => raise(states, work, place, copy_state(flow.alloc(), next)?),
     }
-}
-
-/// A handler gets the locals that were seen.
-fn catch_one<F: Flow>(
-    flow: &F,
-    states: &mut States,
-    work: &mut Stack<u32>,
-    seen: &Table<Kind>,
-    handler: &Catch,
-) -> Result<(), Refusal>
-    requires linked { IsLinkedFile (F.file flow.now) }
-    requires opened { IsOpen (F.file flow.now) (F.routine flow.now) states.old }
-    requires ready { IsReady (F.file flow.now) (F.routine flow.now) (F.heads flow.now) handler.now.target (caught_with seen.now handler.now).1 }
-    ensures { MatchResult result (λ _. AllReach (F.file flow.now) (F.routine flow.now) (F.heads flow.now) (caught_with seen.now handler.now ∷ []) states.old work.old states.new work.new) (λ e. RefusedBy (F.file flow.now) (F.routine flow.now) e) }
-{
-    let state = caught_state(flow.alloc(), handler, seen)?;
-    merge_at(flow, states, work, handler.target, &state)
-}
-
-/// Handlers get the locals that were seen.
-pub(crate) fn catch_all<F: Flow>(
-    flow: &F,
-    states: &mut States,
-    work: &mut Stack<u32>,
-    seen: &Table<Kind>,
-    cover: &[Catch],
-) -> Result<(), Refusal>
-    requires linked { IsLinkedFile (F.file flow.now) }
-    requires opened { IsOpen (F.file flow.now) (F.routine flow.now) states.old }
-    requires ready { AreReady (F.file flow.now) (F.routine flow.now) (F.heads flow.now) (map (caught_with seen.now) cover.now) }
-    ensures { MatchResult result (λ _. AllReach (F.file flow.now) (F.routine flow.now) (F.heads flow.now) (map (caught_with seen.now) cover.now) states.old work.old states.new work.new) (λ e. RefusedBy (F.file flow.now) (F.routine flow.now) e) }
-{
-    for handler in cover {
-        catch_one(flow, states, work, seen, handler)?;
-    }
-    Ok(())
 }
 
 /// A state flows to a place that an instruction names.

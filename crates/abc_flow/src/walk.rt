@@ -1,23 +1,23 @@
-ghost use Rattle.std.specs.Prelude.{◌≡◌, ◌<◌, ◌^◌, ◌∷◌, true, [], cond, map, length, MatchResult, OnOk};
+ghost use Rattle.std.specs.Prelude.{◌≡◌, ◌<◌, ◌^◌, ◌∷◌, true, false, [], cond, map, length, MatchResult, OnOk};
 ghost use Rattle.abc_program.specs.Linked.{IsLinkedFile};
 ghost use Rattle.abc_typing.specs.Effects.{covering};
 ghost use Rattle.abc_typing.specs.Typing.{Derivable, HasTyping};
 ghost use Rattle.abc_worklist.specs.Work.{IsUnderWay};
-ghost use Rattle.abc_flow.specs.Handled.{IsCover};
-ghost use Rattle.abc_flow.specs.Ranges.{AreSpans};
+ghost use Rattle.abc_flow.specs.Handled.{IsCoverAt};
+ghost use Rattle.abc_flow.specs.Telling.{AreKept, IsHandled};
 ghost use Rattle.abc_flow.specs.Walking.{AllReach, AreHeads, AreReady, ArrivesAt, HasPaced, HasTurned, HasWalked, IsOpen, IsPending, IsSeenFirst, MayGoOn, Passed, RefusedBy, is_head, landing, targets_at};
 
 use crate::copies::{copy_over, copy_state_over};
 use crate::flow::Flow;
-use crate::handled::{Handled, cover_of};
-use crate::merging::{catch_all, jump, merge_at, raise};
+use crate::handled::{Cover, Handled, cover_at, handled_of};
+use crate::merging::{jump, merge_at, raise};
 use crate::notes::note;
-use crate::spans::{Span, covering_of, spans_of};
 use crate::states::States;
 use crate::step::{Onward, Refusal, Step, Written};
+use crate::telling::tell;
 use abc_base::{NoMemory, Table};
 use abc_program::Kind;
-use abc_typing::{Catch, Stack, State, VerifyRule};
+use abc_typing::{Stack, State, VerifyRule};
 use std::alloc::Global;
 
 /// A state flows to the places that an instruction names, if the step leads there.
@@ -69,13 +69,13 @@ fn arrive<F: Flow>(
     Ok(Onward::GoesOn(step.written))
 }
 
-/// A walk passes a place, which these handlers cover.
+/// A walk passes a place.
 #[tactic(auto, using(crate::proofs::Walks::passed, crate::proofs::Walks::now_seen, crate::proofs::Walks::jumps_ready, crate::proofs::Walks::next_ready))]
 fn pass<F: Flow>(
     flow: &F,
     states: &mut States,
     work: &mut Stack<u32>,
-    cover: &Handled,
+    cover: Cover,
     seen: &mut Table<Kind>,
     written: Written,
     place: u32,
@@ -87,12 +87,11 @@ fn pass<F: Flow>(
     requires opened { IsOpen (F.file flow.now) (F.routine flow.now) states.old }
     requires place { place < length (F.routine flow.now).code }
     requires derived { Derivable (F.file flow.now) (F.routine flow.now) place now.old }
-    requires cover { IsCover cover.now.handlers (length (F.routine flow.now).code) cover.now.cover }
-    requires covers { cover.now.handlers ≡ covering (F.routine flow.now) place }
-    requires pending { IsPending (F.file flow.now) (F.routine flow.now) (F.heads flow.now) cover.now.handlers seen.old now.old.locals written }
-    ensures { MatchResult result (λ o. Passed (F.file flow.now) (F.routine flow.now) (F.heads flow.now) cover.now.handlers place now.old now.new seen.old seen.new states.old work.old states.new work.new o) (λ e. RefusedBy (F.file flow.now) (F.routine flow.now) e) }
+    requires cover { IsCoverAt (F.routine flow.now) place cover }
+    requires pending { IsPending (F.file flow.now) (F.routine flow.now) (F.heads flow.now) (covering (F.routine flow.now) place) seen.old now.old.locals written }
+    ensures { MatchResult result (λ o. Passed (F.file flow.now) (F.routine flow.now) (F.heads flow.now) (covering (F.routine flow.now) place) place now.old now.new seen.old seen.new states.old work.old states.new work.new o) (λ e. RefusedBy (F.file flow.now) (F.routine flow.now) e) }
 {
-    if let Some(rule) = flow.broken(place, now, cover.cover) {
+    if let Some(rule) = flow.broken(place, now, cover) {
         return Err(Refusal::Refused(place, rule));
     }
     note(flow, seen, &now.locals, written);
@@ -108,7 +107,7 @@ fn pace<F: Flow>(
     flow: &F,
     states: &mut States,
     work: &mut Stack<u32>,
-    cover: &Handled,
+    cover: Cover,
     seen: &mut Table<Kind>,
     start: u32,
     now: &mut State,
@@ -119,10 +118,9 @@ fn pace<F: Flow>(
     requires opened { IsOpen (F.file flow.now) (F.routine flow.now) states.old }
     requires place { start < length (F.routine flow.now).code }
     requires derived { Derivable (F.file flow.now) (F.routine flow.now) start now.old }
-    requires cover { IsCover cover.now.handlers (length (F.routine flow.now).code) cover.now.cover }
-    requires covers { cover.now.handlers ≡ covering (F.routine flow.now) start }
-    requires seen_is { IsSeenFirst cover.now.handlers seen.old now.old.locals }
-    ensures { MatchResult result (λ _. HasPaced (F.file flow.now) (F.routine flow.now) (F.heads flow.now) cover.now.handlers start now.old seen.new states.old work.old states.new work.new) (λ e. RefusedBy (F.file flow.now) (F.routine flow.now) e) }
+    requires cover { IsCoverAt (F.routine flow.now) start cover }
+    requires seen_is { IsSeenFirst (covering (F.routine flow.now) start) seen.old now.old.locals }
+    ensures { MatchResult result (λ _. HasPaced (F.file flow.now) (F.routine flow.now) (F.heads flow.now) (covering (F.routine flow.now) start) start now.old seen.new states.old work.old states.new work.new) (λ e. RefusedBy (F.file flow.now) (F.routine flow.now) e) }
 {
     let mut place = start;
     let mut written = Written::Nothing;
@@ -135,94 +133,58 @@ fn pace<F: Flow>(
     Ok(())
 }
 
-/// A walk from a head, and what the handlers that cover it get.
-#[tactic(auto, using(crate::proofs::Walks::walked_all))]
-fn walk_covered<F: Flow>(
-    flow: &F,
-    states: &mut States,
-    work: &mut Stack<u32>,
-    cover: &Handled,
-    seen: &mut Table<Kind>,
-    start: u32,
-    now: &mut State,
-) -> Result<(), Refusal>
-    requires linked { IsLinkedFile (F.file flow.now) }
-    requires small { length (F.routine flow.now).code < 2 ^ 31 }
-    requires heads { AreHeads (F.routine flow.now) (F.heads flow.now) }
-    requires opened { IsOpen (F.file flow.now) (F.routine flow.now) states.old }
-    requires place { start < length (F.routine flow.now).code }
-    requires derived { Derivable (F.file flow.now) (F.routine flow.now) start now.old }
-    requires cover { IsCover cover.now.handlers (length (F.routine flow.now).code) cover.now.cover }
-    requires covers { cover.now.handlers ≡ covering (F.routine flow.now) start }
-    requires seen_is { IsSeenFirst cover.now.handlers seen.old now.old.locals }
-    ensures { MatchResult result (λ _. HasWalked (F.file flow.now) (F.routine flow.now) (F.heads flow.now) start now.old states.old work.old states.new work.new) (λ e. RefusedBy (F.file flow.now) (F.routine flow.now) e) }
-{
-    pace(flow, states, work, cover, seen, start, now)?;
-    catch_all(flow, states, work, seen, cover.handlers.as_slice())?;
-    Ok(())
-}
-
 /// What a walk is to keep of its locals for the handlers that cover it: nothing where there are none.
-#[tactic(auto, using(crate::proofs::Walks::none_cover, crate::proofs::Walks::all_seen))]
-fn see_first(
-    seen: &mut Table<Kind>,
-    cover: &Table<Catch>,
-    locals: &Table<Kind>,
-) -> Result<(), NoMemory>
-    ensures { OnOk result (IsSeenFirst cover.now seen.new locals.now) }
+fn see_first(seen: &mut Table<Kind>, cover: Cover, locals: &Table<Kind>) -> Result<(), NoMemory>
+    ensures { OnOk result (cover.is_empty ≡ false → seen.new ≡ locals.now) }
 {
-    if cover.len() == 0 {
+    if cover.is_empty {
         return Ok(());
     }
     copy_over(seen, locals.as_slice())?;
     Ok(())
 }
 
-/// A walk from a head.
+/// A walk from a head, and what the handlers that cover it get.
 fn walk_from<F: Flow>(
     flow: &F,
-    spans: &Table<Span>,
+    handled: &Handled,
+    told: &mut States,
     states: &mut States,
     work: &mut Stack<u32>,
-    seen: &mut Table<Kind>,
+    seen: &mut State,
     start: u32,
     now: &mut State,
 ) -> Result<(), Refusal>
     requires linked { IsLinkedFile (F.file flow.now) }
     requires small { length (F.routine flow.now).code < 2 ^ 31 }
     requires heads { AreHeads (F.routine flow.now) (F.heads flow.now) }
-    requires spans { AreSpans (F.routine flow.now).handlers spans.now }
+    requires handled { IsHandled (F.routine flow.now).handlers (length (F.routine flow.now).code) handled.now }
     requires opened { IsOpen (F.file flow.now) (F.routine flow.now) states.old }
+    requires kept { AreKept (F.file flow.now) (F.routine flow.now) (F.heads flow.now) handled.now.all told.old states.old }
     requires place { start < length (F.routine flow.now).code }
     requires derived { Derivable (F.file flow.now) (F.routine flow.now) start now.old }
-    ensures { MatchResult result (λ _. HasWalked (F.file flow.now) (F.routine flow.now) (F.heads flow.now) start now.old states.old work.old states.new work.new) (λ e. RefusedBy (F.file flow.now) (F.routine flow.now) e) }
+    ensures { MatchResult result (λ _. HasWalked (F.file flow.now) (F.routine flow.now) (F.heads flow.now) start now.old states.old work.old states.new work.new × AreKept (F.file flow.now) (F.routine flow.now) (F.heads flow.now) handled.now.all told.new states.new) (λ e. RefusedBy (F.file flow.now) (F.routine flow.now) e) }
 {
-    let handlers = covering_of(flow.alloc(), flow.handlers(), spans, start)?;
-    see_first(seen, &handlers, &now.locals)?;
-    let cover = cover_of(handlers.as_slice(), flow.len());
-    walk_covered(
-        flow,
-        states,
-        work,
-        &Handled { handlers, cover },
-        seen,
-        start,
-        now,
-    )
+    let cover = cover_at(handled, start);
+    see_first(&mut seen.locals, cover, &now.locals)?;
+    pace(flow, states, work, cover, &mut seen.locals, start, now)?;
+    tell(flow, &handled.all, told, states, work, seen, start)?;
+    Ok(())
 }
 
-/// What a walk has: its state, and what it saw of the locals.
+/// What a walk has: its state, one with the locals that it saw, and for each node of the handlers what they were told there.
 #[derive(Drop)]
 struct Walker {
     now: State,
-    seen: Table<Kind>,
+    seen: State,
+    told: States,
 }
 
 /// One head of the work.
 #[tactic(auto, using(crate::proofs::Walks::visit_none, crate::proofs::Walks::visit_walked, crate::proofs::Walks::is_whole, crate::proofs::Walks::state_inside, crate::proofs::Places::is_derived_copy))]
 fn visit<F: Flow>(
     flow: &F,
-    spans: &Table<Span>,
+    handled: &Handled,
     states: &mut States,
     work: &mut Stack<u32>,
     walker: &mut Walker,
@@ -231,9 +193,10 @@ fn visit<F: Flow>(
     requires linked { IsLinkedFile (F.file flow.now) }
     requires small { length (F.routine flow.now).code < 2 ^ 31 }
     requires heads { AreHeads (F.routine flow.now) (F.heads flow.now) }
-    requires spans { AreSpans (F.routine flow.now).handlers spans.now }
+    requires handled { IsHandled (F.routine flow.now).handlers (length (F.routine flow.now).code) handled.now }
     requires under_way { IsUnderWay (F.file flow.now) (F.routine flow.now) (is_head (F.heads flow.now)) states.old (place ∷ work.old) }
-    ensures { MatchResult result (λ _. HasTurned (F.file flow.now) (F.routine flow.now) (F.heads flow.now) states.old work.old states.new work.new) (λ e. RefusedBy (F.file flow.now) (F.routine flow.now) e) }
+    requires kept { AreKept (F.file flow.now) (F.routine flow.now) (F.heads flow.now) handled.now.all walker.old.told states.old }
+    ensures { MatchResult result (λ _. HasTurned (F.file flow.now) (F.routine flow.now) (F.heads flow.now) states.old work.old states.new work.new × AreKept (F.file flow.now) (F.routine flow.now) (F.heads flow.now) handled.now.all walker.new.told states.new) (λ e. RefusedBy (F.file flow.now) (F.routine flow.now) e) }
 {
     let known = match states.find(place) {
         Some(known) => known,
@@ -242,13 +205,15 @@ fn visit<F: Flow>(
     copy_state_over(&mut walker.now, known)?;
     walk_from(
         flow,
-        spans,
+        handled,
+        &mut walker.told,
         states,
         work,
         &mut walker.seen,
         place,
         &mut walker.now,
-    )
+    )?;
+    Ok(())
 }
 
 /// The work list, where there is code.
@@ -264,12 +229,13 @@ fn check_code<F: Flow>(
     requires heads { AreHeads (F.routine flow.now) (F.heads flow.now) }
     ensures { MatchResult result (λ _. HasTyping (F.file flow.now) (F.routine flow.now)) (λ e. RefusedBy (F.file flow.now) (F.routine flow.now) e) }
 {
-    let spans = spans_of(flow.alloc(), flow.handlers())?;
+    let handled = handled_of(flow.alloc(), flow.handlers(), flow.len())?;
+    walker.told.renew(handled.all.nodes())?;
     states.renew(flow.len())?;
     work.clear();
     raise(states, work, 0, flow.entry()?)?;
     while let Some(place) = work.pop() {
-        visit(flow, &spans, states, work, walker, place)?;
+        visit(flow, &handled, states, work, walker, place)?;
     }
     Ok(())
 }
@@ -282,6 +248,15 @@ pub struct Memory {
     walker: Walker,
 }
 
+/// A state of nothing. It takes no memory.
+fn no_state(alloc: Global) -> State {
+    State {
+        stack: Stack::new(alloc),
+        scopes: Table::new(alloc),
+        locals: Table::new(alloc),
+    }
+}
+
 impl Memory {
     /// None is taken yet.
     pub fn new(alloc: Global) -> Memory {
@@ -289,12 +264,9 @@ impl Memory {
             states: States::new(alloc),
             work: Stack::new(alloc),
             walker: Walker {
-                now: State {
-                    stack: Stack::new(alloc),
-                    scopes: Table::new(alloc),
-                    locals: Table::new(alloc),
-                },
-                seen: Table::new(alloc),
+                now: no_state(alloc),
+                seen: no_state(alloc),
+                told: States::new(alloc),
             },
         }
     }

@@ -1,4 +1,4 @@
-use Rattle.std.proofs.Common.{◌≡◌, subst, sym, ap, map}
+use Rattle.std.proofs.Common.{subst, sym, ap, map}
 use Rattle.std.specs.Result.{MatchResult}
 use Rattle.abc_flow.specs.Walking.{AreReady, AllReach, RefusedBy, landing, targets_in}
 use Rattle.abc_flow.proofs.Places.{reach_nowhere}

@@ -1,4 +1,4 @@
-use Rattle.std.proofs.Common.{◌≡◌, subst, sym, ap}
+use Rattle.std.proofs.Common.{subst, sym, ap}
 use Rattle.abc_flow.proofs.merging.jump_along.Goals as goal
 use Rattle.std.proofs.Common.{map}
 use Rattle.abc_flow.specs.Walking.{AreReady, AllReach, landing}

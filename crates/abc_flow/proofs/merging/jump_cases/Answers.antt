@@ -1,4 +1,4 @@
-use Rattle.std.proofs.Common.{◌≡◌, ◌<◌, length, arith}
+use Rattle.std.proofs.Common.{arith}
 use Rattle.abc_flow.specs.Walking.{landing}
 use Rattle.abc_flow.proofs.Places.{reach_none, each_step, each_ready}
 use Rattle.abc_flow.proofs.merging.jump_cases.Goals as goal

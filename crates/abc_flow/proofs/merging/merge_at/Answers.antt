@@ -1,4 +1,3 @@
-use Rattle.std.proofs.Common.{◌≡◌, Some}
 use Rattle.abc_flow.proofs.Places.{merge_same}
 use Rattle.abc_flow.proofs.merging.merge_at.Goals as goal
 

@@ -1,4 +1,4 @@
-use Rattle.std.proofs.Common.{◌≡◌, ℕ, ◌+◌, List, [], ◌∷◌, ◌++◌, Some, length, set, sym, ap, ◌∙◌, subst, arith, length-append}
+use Rattle.std.proofs.Common.{◌≡◌, ℕ, ◌+◌, List, [], ◌∷◌, ◌++◌, length, set, sym, ap, ◌∙◌, subst, arith, length-append}
 use Rattle.abc_flow.specs.Kept.{AreNumbers, known_at}
 use Rattle.abc_typing.specs.declared.state.State.{State}
 use Rattle.abc_flow.proofs.Numbers.{first_known, first_numbers, has_room}

@@ -1,4 +1,4 @@
-use Rattle.std.proofs.Common.{◌≡◌, subst, sym}
+use Rattle.std.proofs.Common.{◌≡◌}
 use Rattle.std.specs.Prelude.{Bool, true, false, not}
 use Rattle.abc_flow.proofs.Places.{arrived_not}
 use Rattle.abc_flow.proofs.walk.arrive.Goals as goal

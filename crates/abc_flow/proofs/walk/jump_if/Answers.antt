@@ -1,5 +1,5 @@
-use Rattle.std.proofs.Common.{◌≡◌, [], List, ℕ, map, subst, sym}
-use Rattle.std.specs.Prelude.{Bool, true, false, cond}
+use Rattle.std.proofs.Common.{[], map, subst, sym}
+use Rattle.std.specs.Prelude.{Bool, cond}
 use Rattle.abc_flow.specs.Walking.{AllReach, landing, targets_at}
 use Rattle.abc_flow.proofs.Places.{reach_none}
 use Rattle.abc_flow.proofs.walk.jump_if.Goals as goal

@@ -1,4 +1,4 @@
-use Rattle.std.proofs.Common.{◌≡◌, sym, ◌∙◌}
+use Rattle.std.proofs.Common.{refl, sym, ◌∙◌}
 use Rattle.abc_typing.specs.Typing.{Broken}
 use Rattle.abc_flow.proofs.Walks.{jumps_ready, next_ready, now_seen, passed}
 use Rattle.abc_flow.proofs.walk.pass.Goals as goal
@@ -15,7 +15,7 @@ returns-in-Some g c = Broken c.args.now.now c.in-Some.rule c.requires.derived (s
 pub returns : goal.returns
 returns g c =
     passed _ _ _ _ _ _ _ _ _ _ _ _ _ _ _ _ c.in_ok-onward.onward
-    (now_seen _ _ _ _ _ _ _ _ _ c.requires.heads c.requires.derived (sym c.broken.ensures ∙ c.in_default.is) c.requires.covers c.requires.pending c.note.ensures)
+    (now_seen _ _ _ _ _ _ _ _ _ c.requires.heads c.requires.derived (sym c.broken.ensures ∙ c.in_default.is) refl c.requires.pending c.note.ensures)
     c.requires.derived
     (sym c.broken.ensures ∙ c.in_default.is)
     c.in_ok-step.ensures

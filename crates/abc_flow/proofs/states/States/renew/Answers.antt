@@ -1,4 +1,4 @@
-use Rattle.std.proofs.Common.{◌≡◌, ℕ, List, [], length, replicate, vec_len, sym, ap, ◌∙◌, subst}
+use Rattle.std.proofs.Common.{◌≡◌, ℕ, List, length, replicate, vec_len, sym, ap, ◌∙◌, subst}
 use Rattle.abc_flow.specs.Kept.{AreNumbers, known_at}
 use Rattle.abc_typing.specs.declared.state.State.{State}
 use Rattle.abc_flow.proofs.Numbers.{blank_known, blank_numbers, renewed_numbers}

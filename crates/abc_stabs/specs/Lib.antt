@@ -1,0 +1,4 @@
+pub mod Pieces
+pub mod Hanging
+pub mod Hung
+pub mod Adding
