@@ -1,7 +1,8 @@
 -- Ranges hang one after the other, each level by level.
-use Rattle.std.proofs.Common.{◌≡◌, ℕ, zero, suc, ◌+◌, ◌-◌, ◌*◌, ◌/◌, ◌%◌, ◌≤◌, ◌<◌, List, [], ◌∷◌, ◌⊎◌, Some, None, length, refl, sym, ap, ◌∙◌, subst, arith, inl, inr}
+use Rattle.std.proofs.Common.{◌≡◌, ℕ, zero, suc, ◌+◌, ◌-◌, ◌*◌, ◌/◌, ◌%◌, ◌≤◌, ◌<◌, List, [], ◌⊎◌, Some, None, length, refl, sym, ap, ◌∙◌, subst, arith, inl, inr}
 use Rattle.std.specs.Prelude.{Bool, true, false, slice_get}
 use Rattle.std.proofs.lemmas.Bool.{cases_Bool, cases_eq, cases_lt}
+use Rattle.std.proofs.lemmas.Option.{slice_get_within}
 use Rattle.abc_stabs.specs.Adding.{Adds, HangFrom, Spans}
 use Rattle.abc_stabs.specs.Hanging.{Hangs, first_of}
 use Rattle.abc_stabs.specs.Hung.{AreHung, Covers, HangsAt, leaf, leaves, up}
@@ -92,9 +93,7 @@ hanging_last number from to t u low high le h = record {
 -- ---- one range after the other
 
 past_end : (ranges : List Range) (k : ℕ) (r : Range) → length ranges ≤ k → slice_get ranges k ≡ Some r → ⊥
-past_end [] k r h e = absurd cc
-past_end (x ∷ xs) zero r h e = absurd (omega arith)
-past_end (x ∷ xs) (suc k) r h e = past_end xs k r (omega arith) e
+past_end ranges k r h e = let lt = slice_get_within ranges k r e in omega arith
 
 nothing : (k link : ℕ) → Hangs [] k link → ⊥
 nothing k zero g = hangs_none [] k g

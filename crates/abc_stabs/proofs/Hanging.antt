@@ -3,6 +3,7 @@ use Rattle.std.proofs.Common.{◌≡◌, ◌≢◌, ℕ, zero, suc, ◌≤◌, �
 use Rattle.std.specs.Prelude.{Bool, true, false, slice_get}
 use Rattle.std.specs.List.Sorted.{IsNonDecreasing}
 use Rattle.std.proofs.lemmas.Bool.{cases_eq, cases_lt}
+use Rattle.std.proofs.lemmas.Option.{slice_get_within}
 use Rattle.abc_stabs.specs.Adding.{Adds}
 use Rattle.abc_stabs.specs.Hanging.{Hangs, Here, Further, IsWhole, first_of, link_in, linked}
 use Rattle.abc_stabs.specs.Hung.{HangsAt}
@@ -24,11 +25,6 @@ get_back (a ∷ xs) y (suc n) h = get_back xs y n (omega arith)
 get_last : {X : Type 0} (xs : List X) (y : X) → slice_get (xs ++ y ∷ []) (length xs) ≡ Some y
 get_last [] y = refl
 get_last (a ∷ xs) y = get_last xs y
-
-get_within : {X : Type 0} (xs : List X) (n : ℕ) (x : X) → slice_get xs n ≡ Some x → n < length xs
-get_within [] n x e = absurd cc
-get_within (a ∷ xs) zero x e = omega arith
-get_within (a ∷ xs) (suc n) x e = let r = get_within xs n x e in omega arith
 
 get_set : {X : Type 0} (xs : List X) (n : ℕ) (x : X) → n < length xs → slice_get (set xs n x) n ≡ Some x
 get_set [] n x h = absurd (omega arith)
@@ -109,7 +105,7 @@ whole_push bounds firsts hangs h node w e = record {
   back = λ i g f. elim (cases_lt i (length hangs)) [
     | inl lt ↦ w.back i g (sym (get_back hangs h i lt) ∙ f)
     | inr le ↦ (
-        let lt = get_within (hangs ++ h ∷ []) i g f in
+        let lt = slice_get_within (hangs ++ h ∷ []) i g f in
         let long = length-append hangs (h ∷ []) in
         let q : i ≡ length hangs = omega arith in
         let z : slice_get (hangs ++ h ∷ []) (length hangs) ≡ Some g = subst (λ (k : ℕ). slice_get (hangs ++ h ∷ []) k ≡ Some g) q f in

@@ -5,6 +5,7 @@ use Rattle.std.specs.List.{Contains}
 use Rattle.std.proofs.lemmas.Bool.{cases_lt, le-leb, lt-leb}
 use Rattle.std.proofs.lemmas.List.Elements.{Contains-append_left, Contains-push}
 use Rattle.std.proofs.lemmas.List.Sorted.{Contains-permutation}
+use Rattle.std.proofs.lemmas.Option.{get_or_from_slice_get, slice_get_within}
 use Rattle.std.specs.List.Sorted.{IsPermutation}
 use Rattle.abc_stabs.specs.Pieces.{AreBounds, piece}
 use Rattle.abc_stabs.specs.declared.hang.Range.{Range}
@@ -65,11 +66,6 @@ pub record AreBoundsTo (ranges : List Range) (n : ℕ) (bounds : List ℕ) : Typ
 pub no_bounds : (ranges : List Range) → AreBoundsTo ranges 0 []
 no_bounds ranges = record { from = λ k r h e. absurd (omega arith); to = λ k r h e. absurd (omega arith); few = refl }
 
-got_at : (ranges : List Range) (k : ℕ) (r d : Range) → slice_get ranges k ≡ Some r → r ≡ get_or ranges k d
-got_at [] k r d e = absurd cc
-got_at (x ∷ xs) zero r d e = let q : x ≡ r = cc in sym q
-got_at (x ∷ xs) (suc k) r d e = got_at xs k r d e
-
 more : (bounds : List ℕ) (a b x : ℕ) → Contains bounds x → Contains ((bounds ++ a ∷ []) ++ b ∷ []) x
 more bounds a b x c = Contains-append_left (bounds ++ a ∷ []) (b ∷ []) x (Contains-append_left bounds (a ∷ []) x c)
 
@@ -80,22 +76,17 @@ more_bounds ranges n bounds d h =
     record {
       from = λ k r lt e. elim (cases_lt k n) [
         | inl lu ↦ more bounds a b r.from (h.from k r lu e)
-        | inr le ↦ (let q : k ≡ n = omega arith in let g : r ≡ get_or ranges n d = got_at ranges k r d e ∙ ap (λ (i : ℕ). get_or ranges i d) q in subst (λ (x : Range). Contains ((bounds ++ a ∷ []) ++ b ∷ []) x.from) (sym g) (Contains-append_left (bounds ++ a ∷ []) (b ∷ []) a (Contains-push bounds a)))
+        | inr le ↦ (let q : k ≡ n = omega arith in let g : r ≡ get_or ranges n d = sym (get_or_from_slice_get ranges k r d e) ∙ ap (λ (i : ℕ). get_or ranges i d) q in subst (λ (x : Range). Contains ((bounds ++ a ∷ []) ++ b ∷ []) x.from) (sym g) (Contains-append_left (bounds ++ a ∷ []) (b ∷ []) a (Contains-push bounds a)))
       ];
       to = λ k r lt e. elim (cases_lt k n) [
         | inl lu ↦ more bounds a b r.to (h.to k r lu e)
-        | inr le ↦ (let q : k ≡ n = omega arith in let g : r ≡ get_or ranges n d = got_at ranges k r d e ∙ ap (λ (i : ℕ). get_or ranges i d) q in subst (λ (x : Range). Contains ((bounds ++ a ∷ []) ++ b ∷ []) x.to) (sym g) (Contains-push (bounds ++ a ∷ []) b))
+        | inr le ↦ (let q : k ≡ n = omega arith in let g : r ≡ get_or ranges n d = sym (get_or_from_slice_get ranges k r d e) ∙ ap (λ (i : ℕ). get_or ranges i d) q in subst (λ (x : Range). Contains ((bounds ++ a ∷ []) ++ b ∷ []) x.to) (sym g) (Contains-push (bounds ++ a ∷ []) b))
       ];
       few = let f = h.few in let e = length-append (bounds ++ a ∷ []) (b ∷ []) in let g = length-append bounds (a ∷ []) in omega arith;
     }
 
-within : (ranges : List Range) (k : ℕ) (r : Range) → slice_get ranges k ≡ Some r → k < length ranges
-within [] k r e = absurd cc
-within (x ∷ xs) zero r e = omega arith
-within (x ∷ xs) (suc k) r e = let z = within xs k r e in omega arith
-
 pub all_bounds : (ranges : List Range) (n : ℕ) (bounds : List ℕ) → n ≡ length ranges → AreBoundsTo ranges n bounds → AreBounds ranges bounds
-all_bounds ranges n bounds q h = record { from = λ k r e. h.from k r (let z = within ranges k r e in omega arith) e; to = λ k r e. h.to k r (let z = within ranges k r e in omega arith) e }
+all_bounds ranges n bounds q h = record { from = λ k r e. h.from k r (let z = slice_get_within ranges k r e in omega arith) e; to = λ k r e. h.to k r (let z = slice_get_within ranges k r e in omega arith) e }
 
 pub moved_bounds : (ranges : List Range) (bounds others : List ℕ) → IsPermutation bounds others → AreBounds ranges bounds → AreBounds ranges others
 moved_bounds ranges bounds others p h = record { from = λ k r e. Contains-permutation bounds others r.from p (h.from k r e); to = λ k r e. Contains-permutation bounds others r.to p (h.to k r e) }
