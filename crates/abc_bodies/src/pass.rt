@@ -97,7 +97,7 @@ fn pass_each_body<S: Source>(
 }
 
 /// Reads method bodies over tables of these sizes, as `read_bodies` does, and appends the canonical bytes of each before
-/// the next is read. None is kept. After an Err any bytes may follow the old ones.
+/// the next is read. None is kept. After an Err `out` may hold any bytes.
 #[tactic(auto, unfolding(abc_tables::specs::Bodies::body_list))]
 pub fn pass_bodies<S: Source>(
     alloc: Global,

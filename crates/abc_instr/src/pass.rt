@@ -14,8 +14,8 @@ use abc_varint::{ReadError, Reason, Window};
 use std::alloc::Global;
 
 /// Reads code, as `read_code` does, and appends its canonical bytes. What is left of it are the marks, which say where each
-/// instruction starts in the canonical bytes; the memory of a scan is used again. After an Err any bytes may follow the
-/// old ones.
+/// instruction starts in the canonical bytes; the memory of a scan is used again. After an Err `out` may hold
+/// any bytes.
 pub fn pass_code<S: Source>(
     alloc: Global,
     w: &mut Window,

@@ -50,7 +50,7 @@ fn pass_names<S: Source>(
 }
 
 /// Reads the seven pools, as `read_pools` does, and appends the canonical bytes of each entry before the next is read.
-/// None is kept: gives how many entries there are. After an Err any bytes may follow the old ones.
+/// None is kept: gives how many entries there are. After an Err `out` may hold any bytes.
 #[tactic(auto, unfolding(abc_tables::specs::Pools::pools, abc_tables::specs::Pools::namespace_set, abc_tables::specs::Pools::pools_bytes), using(std::proofs::Common::append_assoc))]
 pub fn pass_pools<S: Source>(
     alloc: Global,

@@ -30,8 +30,8 @@ fn pass_classes<S: Source>(
 }
 
 /// Reads the definitions beside pools of these sizes, as `read_definitions` does, and appends the canonical bytes of each
-/// field before the next is read. None is kept: gives how many entries the tables have. After an Err any bytes may follow
-/// the old ones.
+/// field before the next is read. None is kept: gives how many entries the tables have. After an Err `out` may hold any
+/// bytes.
 #[tactic(auto, unfolding(crate::specs::Definitions::tables))]
 pub fn pass_definitions<S: Source>(
     alloc: Global,

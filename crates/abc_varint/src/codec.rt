@@ -43,7 +43,7 @@ pub trait Codec {
     fn put(item: &Self::Item, out: &mut Vec<u8>) -> Result<(), NoMemory>
         ensures { Puts out.old.items out.new.items result (canonical item.now) };
 
-    /// Reads an item, as `read` does, and appends its canonical bytes. After an Err any bytes may follow the old ones.
+    /// Reads an item, as `read` does, and appends its canonical bytes. After an Err `out` may hold any bytes.
     #[tactic(auto)]
     fn pass<S: Source>(
         &self,
