@@ -3,11 +3,11 @@ ghost use Rattle.abc_escape.specs.Escapes.{escaped};
 ghost use Rattle.abc_base.specs.Faults.{HasCause};
 ghost use Rattle.abc_base.specs.Sinks.{WritesAll};
 ghost use Rattle.abc_answers.specs.Lines.{code_text, limit_text, line, place_text, uncaught_text, usage_text};
-ghost use Rattle.abc_loglines.specs.Lines.{limit_name as name_of_limit};
 
 use abc_base::{Failed, Sink, write_all};
 use abc_escape::write_escaped;
 use abc_heap::Limit;
+use abc_loglines::limit_name;
 use itoa::Buffer;
 
 /// Writes three pieces in a row.
@@ -93,19 +93,6 @@ pub fn write_uncaught<E: Sink>(err: &mut E, name: &[u8]) -> Result<(), Failed>
     ensures cause { HasCause (E.faults err.old) (E.faults err.new) result }
 {
     write_with_escapes(err, b"abc: uncaught ", name, b"\n")
-}
-
-/// The name of a limit.
-fn limit_name(limit: Limit) -> &'static [u8]
-    ensures { result.now ≡ name_of_limit limit }
-{
-    match limit {
-        Limit::Objects => b"Objects",
-        Limit::Cells => b"Cells",
-        Limit::Text => b"Text",
-        Limit::Frames => b"Frames",
-        Limit::Stack => b"Stack",
-    }
 }
 
 /// Writes the line of a limit that is reached, or below what every run begins with.

@@ -52,9 +52,7 @@ impl<T: Drop> Reserved<T> {
         requires { HasRoom self.old 1 }
         ensures { self.new ≡ record { items = self.old.items ++ x ∷ []; limit = self.old.limit } }
     {
-        if self.items.push(x).is_err() {
-            unreachable!();
-        }
+        self.items.push_reserved(x);
     }
 
     /// Replaces the item at a position.

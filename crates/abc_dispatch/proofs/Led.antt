@@ -46,6 +46,14 @@ returned_finishes l (Ok (lefts.Traces count how)) s h = absurd h
 returned_finishes l (Ok (lefts.Asks n count how)) s h = absurd h
 returned_finishes l (Err e) s h = tt
 
+-- ---- what is told
+
+pub told_leaves : (l : LinkedFile) (out : Outer) (act : Run Act) (old new : State) (done result : Result Left Stop) → result ≡ done → Leaves l out act old done new → Leaves l out act old result new
+told_leaves l out act old new done result e h = subst (λ (x : Result Left Stop). Leaves l out act old x new) (sym e) h
+
+pub told_finishes : (l : LinkedFile) (done : Result Left Stop) (s : State) (result : Result Left Stop) → result ≡ done → CanFinish l done s → CanFinish l result s
+told_finishes l done s result e h = subst (λ (x : Result Left Stop). CanFinish l x s) (sym e) h
+
 -- ---- another spelling of the instruction
 
 pub run_as : (l : LinkedFile) (out : Outer) (s : State) (i j : Instr) → i ≡ j → CanRun l out s i → CanRun l out s j

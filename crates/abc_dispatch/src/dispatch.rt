@@ -1,6 +1,6 @@
 ghost use Rattle.std.specs.Prelude.{◌≡◌, Some, slice_get};
 ghost use Rattle.abc_membersteps.specs.CallarmsCalls.{CanFinish};
-ghost use Rattle.abc_dispatch.specs.Answers.{goes_as};
+ghost use Rattle.abc_dispatch.specs.Answers.{answer, goes_as};
 ghost use Rattle.abc_dispatch.specs.Ready.{CanStep, IsEquipped};
 ghost use Rattle.abc_meaning.specs.Step.{runs};
 ghost use Rattle.abc_plainsteps.specs.Here.{act_here};
@@ -28,121 +28,161 @@ use abc_scopesteps::{run_class, run_find, run_super, run_super_call};
 use abc_states::{Left, State, Stop};
 use abc_tables::Instr;
 
-/// A group that goes on leaves nothing to be done.
-fn goes(done: Result<(), Stop>) -> Result<Left, Stop>
-    ensures { result ≡ goes_as done }
+/// Whether a group goes on, which leaves nothing to be done; else why it stops is told.
+#[inline]
+fn goes(done: Result<(), Stop>, told: &mut Result<Left, Stop>) -> bool
+    ensures { answer result told.new ≡ goes_as done }
 {
     match done {
-        Ok(()) => Ok(Left::Goes),
-        Err(stop) => Err(stop),
+        Ok(()) => true,
+        Err(stop) => {
+            *told = Err(stop);
+            false
+        }
+    }
+}
+
+/// Whether a group goes on that may leave something to be done; else what it leaves is told, or why it stops.
+#[inline]
+fn tells(done: Result<Left, Stop>, told: &mut Result<Left, Stop>) -> bool
+    ensures { answer result told.new ≡ done }
+{
+    match done {
+        Ok(Left::Goes) => true,
+        _ => {
+            *told = done;
+            false
+        }
     }
 }
 
 /// An opcode that stands alone.
-fn run_alone(linked: &Linked, s: &mut State, op: u8) -> Result<Left, Stop>
+fn run_alone(linked: &Linked, s: &mut State, op: u8, told: &mut Result<Left, Stop>) -> bool
     ghost out: { Outer }
     requires run { CanRun linked.now out s.old (Plain op) }
     requires equipped { IsEquipped linked.now s.old }
-    ensures leaves { Leaves linked.now out (act_here (setting linked.now out) (newest s.old.frames) (Plain op)) s.old result s.new }
-    ensures finishes { CanFinish linked.now result s.new }
+    ensures leaves { Leaves linked.now out (act_here (setting linked.now out) (newest s.old.frames) (Plain op)) s.old (answer result told.new) s.new }
+    ensures finishes { CanFinish linked.now (answer result told.new) s.new }
     ensures limit { s.new.given.limit ≡ s.old.given.limit }
 {
     match group_alone(op) {
-        Alone::Control => goes(run_control(linked, s, op)),
-        Alone::Walk => goes(run_walk(linked, s, op)),
-        Alone::Push => goes(run_push(linked, s, op)),
-        Alone::Return => run_return(linked, s, op),
-        Alone::Scope => goes(run_scope(linked, s, op)),
-        Alone::Convert => goes(run_convert(linked, s, op)),
-        Alone::Late => goes(run_late(linked, s, op)),
-        Alone::Single => goes(run_single(linked, s, op)),
-        Alone::Double => goes(run_double(linked, s, op)),
-        Alone::Comparison => goes(run_comparison(linked, s, op)),
-        Alone::Local => goes(run_local(linked, s, op)),
+        Alone::Control => goes(run_control(linked, s, op), told),
+        Alone::Walk => goes(run_walk(linked, s, op), told),
+        Alone::Push => goes(run_push(linked, s, op), told),
+        Alone::Return => tells(run_return(linked, s, op), told),
+        Alone::Scope => goes(run_scope(linked, s, op), told),
+        Alone::Convert => goes(run_convert(linked, s, op), told),
+        Alone::Late => goes(run_late(linked, s, op), told),
+        Alone::Single => goes(run_single(linked, s, op), told),
+        Alone::Double => goes(run_double(linked, s, op), told),
+        Alone::Comparison => goes(run_comparison(linked, s, op), told),
+        Alone::Local => goes(run_local(linked, s, op), told),
     }
 }
 
 /// An opcode with one number.
-fn run_numbered(linked: &Linked, s: &mut State, op: u8, n: u32) -> Result<Left, Stop>
+fn run_numbered(
+    linked: &Linked,
+    s: &mut State,
+    op: u8,
+    n: u32,
+    told: &mut Result<Left, Stop>,
+) -> bool
     ghost out: { Outer }
     requires run { CanRun linked.now out s.old (One op n) }
     requires equipped { IsEquipped linked.now s.old }
-    ensures leaves { Leaves linked.now out (act_here (setting linked.now out) (newest s.old.frames) (One op n)) s.old result s.new }
-    ensures finishes { CanFinish linked.now result s.new }
+    ensures leaves { Leaves linked.now out (act_here (setting linked.now out) (newest s.old.frames) (One op n)) s.old (answer result told.new) s.new }
+    ensures finishes { CanFinish linked.now (answer result told.new) s.new }
     ensures limit { s.new.given.limit ≡ s.old.given.limit }
 {
     match group_numbered(op) {
-        Numbered::Super => goes(run_super(linked, s, op, n)),
-        Numbered::Constant => goes(run_constant(linked, s, op, n)),
-        Numbered::New => goes(run_new(linked, s, op, n)),
-        Numbered::Call => run_call_value(linked, s, n),
-        Numbered::Construct => goes(run_construct(linked, s, n)),
-        Numbered::Class => goes(run_class(linked, s, n)),
-        Numbered::Find => goes(run_find(linked, s, op, n)),
-        Numbered::Property => goes(run_property(linked, s, op, n)),
-        Numbered::Slot => goes(run_slot(linked, s, op, n)),
-        Numbered::Typed => goes(run_typed(linked, s, op, n)),
-        Numbered::Count => goes(run_count(linked, s, op, n)),
+        Numbered::Super => goes(run_super(linked, s, op, n), told),
+        Numbered::Constant => goes(run_constant(linked, s, op, n), told),
+        Numbered::New => goes(run_new(linked, s, op, n), told),
+        Numbered::Call => tells(run_call_value(linked, s, n), told),
+        Numbered::Construct => goes(run_construct(linked, s, n), told),
+        Numbered::Class => goes(run_class(linked, s, n), told),
+        Numbered::Find => goes(run_find(linked, s, op, n), told),
+        Numbered::Property => goes(run_property(linked, s, op, n), told),
+        Numbered::Slot => goes(run_slot(linked, s, op, n), told),
+        Numbered::Typed => goes(run_typed(linked, s, op, n), told),
+        Numbered::Count => goes(run_count(linked, s, op, n), told),
     }
 }
 
 /// An opcode with two numbers.
-fn run_paired(linked: &Linked, s: &mut State, op: u8, n: u32, count: u32) -> Result<Left, Stop>
+fn run_paired(
+    linked: &Linked,
+    s: &mut State,
+    op: u8,
+    n: u32,
+    count: u32,
+    told: &mut Result<Left, Stop>,
+) -> bool
     ghost out: { Outer }
     requires run { CanRun linked.now out s.old (Two op n count) }
     requires equipped { IsEquipped linked.now s.old }
-    ensures leaves { Leaves linked.now out (act_here (setting linked.now out) (newest s.old.frames) (Two op n count)) s.old result s.new }
-    ensures finishes { CanFinish linked.now result s.new }
+    ensures leaves { Leaves linked.now out (act_here (setting linked.now out) (newest s.old.frames) (Two op n count)) s.old (answer result told.new) s.new }
+    ensures finishes { CanFinish linked.now (answer result told.new) s.new }
     ensures limit { s.new.given.limit ≡ s.old.given.limit }
 {
     match group_paired(op) {
-        Paired::Next => goes(run_next(linked, s, n, count)),
-        Paired::SuperCall => run_super_call(linked, s, op, n, count),
-        Paired::PropertyCall => run_property_call(linked, s, op, n, count),
-        Paired::Construct => goes(run_construct_property(linked, s, n, count)),
+        Paired::Next => goes(run_next(linked, s, n, count), told),
+        Paired::SuperCall => tells(run_super_call(linked, s, op, n, count), told),
+        Paired::PropertyCall => tells(run_property_call(linked, s, op, n, count), told),
+        Paired::Construct => goes(run_construct_property(linked, s, n, count), told),
     }
 }
 
 /// A branch.
-fn run_branch(linked: &Linked, s: &mut State, op: u8, target: u32) -> Result<Left, Stop>
+fn run_branch(
+    linked: &Linked,
+    s: &mut State,
+    op: u8,
+    target: u32,
+    told: &mut Result<Left, Stop>,
+) -> bool
     ghost out: { Outer }
     requires run { CanRun linked.now out s.old (Branch op target) }
     requires equipped { IsEquipped linked.now s.old }
-    ensures leaves { Leaves linked.now out (act_here (setting linked.now out) (newest s.old.frames) (Branch op target)) s.old result s.new }
-    ensures finishes { CanFinish linked.now result s.new }
+    ensures leaves { Leaves linked.now out (act_here (setting linked.now out) (newest s.old.frames) (Branch op target)) s.old (answer result told.new) s.new }
+    ensures finishes { CanFinish linked.now (answer result told.new) s.new }
     ensures limit { s.new.given.limit ≡ s.old.given.limit }
 {
     if op < 0x13 {
-        goes(run_first_branch(linked, s, op, target))
+        goes(run_first_branch(linked, s, op, target), told)
     } else {
-        goes(run_last_branch(linked, s, op, target))
+        goes(run_last_branch(linked, s, op, target), told)
     }
 }
 
 /// An instruction.
-fn run_instr(linked: &Linked, s: &mut State, instr: &Instr) -> Result<Left, Stop>
+fn run_instr(linked: &Linked, s: &mut State, instr: &Instr, told: &mut Result<Left, Stop>) -> bool
     ghost out: { Outer }
     requires run { CanRun linked.now out s.old instr.now }
     requires equipped { IsEquipped linked.now s.old }
-    ensures leaves { Leaves linked.now out (act_here (setting linked.now out) (newest s.old.frames) instr.now) s.old result s.new }
-    ensures finishes { CanFinish linked.now result s.new }
+    ensures leaves { Leaves linked.now out (act_here (setting linked.now out) (newest s.old.frames) instr.now) s.old (answer result told.new) s.new }
+    ensures finishes { CanFinish linked.now (answer result told.new) s.new }
     ensures limit { s.new.given.limit ≡ s.old.given.limit }
 {
     match instr {
-        Instr::Plain(op) => run_alone(linked, s, *op),
-        Instr::One(op, n) => run_numbered(linked, s, *op, *n),
-        Instr::Two(op, n, count) => run_paired(linked, s, *op, *n, *count),
-        Instr::Branch(op, target) => run_branch(linked, s, *op, *target),
-        Instr::Switch { default, cases } => goes(run_switch(linked, s, *default, cases.as_slice())),
-        Instr::Byte(n) => goes(run_byte(linked, s, *n)),
-        Instr::Short(n) => goes(run_short(linked, s, *n)),
-        Instr::ScopeObject(n) => goes(run_scope_object(linked, s, *n)),
+        Instr::Plain(op) => run_alone(linked, s, *op, told),
+        Instr::One(op, n) => run_numbered(linked, s, *op, *n, told),
+        Instr::Two(op, n, count) => run_paired(linked, s, *op, *n, *count, told),
+        Instr::Branch(op, target) => run_branch(linked, s, *op, *target, told),
+        Instr::Switch { default, cases } => goes(
+            run_switch(linked, s, *default, cases.as_slice()),
+            told,
+        ),
+        Instr::Byte(n) => goes(run_byte(linked, s, *n), told),
+        Instr::Short(n) => goes(run_short(linked, s, *n), told),
+        Instr::ScopeObject(n) => goes(run_scope_object(linked, s, *n), told),
         Instr::Debug {
             kind,
             name,
             reg,
             extra,
-        } => goes(run_debug(linked, s, *kind, *name, *reg, *extra)),
+        } => goes(run_debug(linked, s, *kind, *name, *reg, *extra), told),
     }
 }
 
@@ -165,7 +205,20 @@ fn instr_here<'a>(linked: &'a Linked, s: &State) -> &'a Instr
 /// Runs the instruction of the newest frame. It answers what is left to be done: nothing where it goes on, a value that returns, a
 /// line that is still to be written, or a formula of the host that is to be asked. Where it stops, why: a value that is thrown, an
 /// error that is to be made and thrown, a fault or a limit.
-pub fn run_newest(linked: &Linked, s: &mut State) -> Result<Left, Stop>
+pub fn run_newest(linked: &Linked, s: &mut State, told: &mut Result<Left, Stop>) -> bool
+    ghost out: { Outer }
+    requires can { CanStep linked.now out s.old }
+    requires equipped { IsEquipped linked.now s.old }
+    ensures leaves { Leaves linked.now out (runs (setting linked.now out) (newest s.old.frames) (routine_of (setting linked.now out) (newest s.old.frames).method)) s.old (answer result told.new) s.new }
+    ensures finishes { CanFinish linked.now (answer result told.new) s.new }
+    ensures limit { s.new.given.limit ≡ s.old.given.limit }
+{
+    let instr = instr_here(linked, s);
+    run_instr(linked, s, instr, told)
+}
+
+/// Runs the instruction of the newest frame, as `run_newest` does, and answers what it leaves to be done, or why it stops.
+pub fn run_whole(linked: &Linked, s: &mut State) -> Result<Left, Stop>
     ghost out: { Outer }
     requires can { CanStep linked.now out s.old }
     requires equipped { IsEquipped linked.now s.old }
@@ -173,6 +226,10 @@ pub fn run_newest(linked: &Linked, s: &mut State) -> Result<Left, Stop>
     ensures finishes { CanFinish linked.now result s.new }
     ensures limit { s.new.given.limit ≡ s.old.given.limit }
 {
-    let instr = instr_here(linked, s);
-    run_instr(linked, s, instr)
+    let mut told = Ok(Left::Goes);
+    if run_newest(linked, s, &mut told) {
+        Ok(Left::Goes)
+    } else {
+        told
+    }
 }

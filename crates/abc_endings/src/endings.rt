@@ -5,32 +5,13 @@ ghost use Rattle.abc_answers.specs.End.{GivesLine, stream};
 ghost use Rattle.abc_endings.specs.Endings.{HasPlace, IsPlacedEnd, end_answer, open_answer};
 ghost use Rattle.abc_answers.specs.Lines.{code_text, limit_text, uncaught_text};
 ghost use Rattle.abc_endings.specs.Meant.{place_of};
-ghost use Rattle.abc_logmeaning.specs.Lines.{thrown_name as name_of_thrown};
 
 use abc_answers::{ended, give_line, write_code, write_limit, write_uncaught};
 use abc_base::{Fault, Sink, Status};
 use abc_file::Places;
 use abc_heap::Limit;
-use abc_items::class_name;
 use abc_link::Linked;
-use abc_names::{qname_at, text_at};
-use abc_tables::Abc;
-use abc_ticks::{End, OpenError, Thrown};
-
-/// What was thrown, by the name of its class or of what else it is.
-fn thrown_name<'a>(abc: &'a Abc, thrown: &'a Thrown) -> &'a [u8]
-    ensures { result.now ≡ name_of_thrown abc.now thrown.now }
-{
-    match thrown {
-        Thrown::FileClass(class) => text_at(abc, qname_at(abc, class_name(abc, *class)).string),
-        Thrown::HostClass(class) => class.name(),
-        Thrown::Undefined => b"undefined",
-        Thrown::Null => b"null",
-        Thrown::Global => b"global",
-        Thrown::Activation => b"activation",
-        Thrown::Catch => b"catch",
-    }
-}
+use abc_ticks::{End, OpenError, thrown_name};
 
 /// Writes the line of what nothing caught.
 #[tactic(auto, using(abc_answers::proofs::Ending::gives))]

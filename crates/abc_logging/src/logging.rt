@@ -16,7 +16,7 @@ use abc_link::Linked;
 use abc_loglines::{write_start_line, write_step_line};
 use abc_scripts::Seen;
 use abc_states::State;
-use abc_stepping::{Halt, run_newest, start_last};
+use abc_stepping::{Halt, run_whole, start_last};
 
 /// Writes the line of an instruction, by its method and its place, or of the script that it starts.
 fn write_line<K: Sink>(
@@ -92,7 +92,7 @@ fn run_logged<K: Sink, H: Host>(
 {
     let method = s.frames.method();
     let place = s.frames.place();
-    let left = run_newest(linked, s);
+    let left = run_whole(linked, s);
     let script = seen.note(&s.started);
     match write_line(log, script, method, place) {
         Ok(()) => finish_logged(linked, s, log, host, left),

@@ -48,8 +48,8 @@ pub fn write_profile_end<K: Sink>(log: &mut K, name: &[u8]) -> Result<(), Failed
     write_three(log, b"end Profile ", name, b"\n")
 }
 
-/// The name of a limit.
-fn limit_name(limit: Limit) -> &'static [u8]
+/// The name of a limit, as lines have it: that of its variant.
+pub fn limit_name(limit: Limit) -> &'static [u8]
     ensures { result.now ≡ name_of_limit limit }
 {
     match limit {

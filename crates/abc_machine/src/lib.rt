@@ -12,6 +12,7 @@ mod running;
 
 pub use abc_ends::Thrown;
 pub use abc_heap::Limits;
+pub use abc_logging::thrown_name;
 pub use abc_objects::OpenError;
 pub use ends::End;
 pub use machine::Machine;

@@ -7,7 +7,7 @@ mod laws;
 mod replies;
 mod session;
 
-pub use abc_machine::{End, Machine, OpenError, PlainValue, Reply, Thrown};
+pub use abc_machine::{End, Machine, OpenError, PlainValue, Reply, Thrown, thrown_name};
 pub use laws::calls_follow;
 pub use replies::SessionReply;
 pub use session::Session;

@@ -35,9 +35,9 @@ pub fn step<K: Sink, H: Host>(
     if s.frames.depth() == 0 {
         return start_last(linked, s);
     }
-    let left = run_newest(linked, s);
-    // (most instructions leave nothing: then what they left isn't read whole)
-    if let Ok(Left::Goes) = left {
+    let mut left = Ok(Left::Goes);
+    // (most instructions leave nothing to be done)
+    if run_newest(linked, s, &mut left) {
         return Ok(());
     }
     finish(linked, s, sink, host, left)

@@ -6,6 +6,6 @@ mod laws;
 mod ticks;
 
 pub use abc_faults::ends_can_be_told;
-pub use abc_session::{End, Machine, OpenError, Session, Thrown};
+pub use abc_session::{End, Machine, OpenError, Session, Thrown, thrown_name};
 pub use laws::ticks_can_be_told;
 pub use ticks::run_and_call;

@@ -1,5 +1,5 @@
 use Rattle.abc_dispatch.proofs.Grouped.{alone_among}
-use Rattle.abc_dispatch.proofs.Led.{goes_finishes, returned_finishes, runs_leaves}
+use Rattle.abc_dispatch.proofs.Led.{goes_finishes, returned_finishes, runs_leaves, told_finishes, told_leaves}
 use Rattle.abc_plainsteps.specs.Here.{act_here}
 use Rattle.abc_stacks.specs.Frame.{newest}
 use Rattle.abc_states.specs.Outer.{setting}
@@ -36,8 +36,11 @@ returns-in-Push-clause-finishes g c = goes_finishes c.args.linked.now c.run_push
 pub run_return-requires : goal.run_return-requires
 run_return-requires g c = (c.requires.0, alone_among c.args.linked.now g.out c.args.s.now c.args.op _ _ c.requires.0 c.group_alone.ensures c.in-Return.is)
 
+pub returns-in-Return-clause-leaves : goal.returns-in-Return-clause-leaves
+returns-in-Return-clause-leaves g c = told_leaves c.args.linked.now g.out (act_here (setting c.args.linked.now g.out) (newest c.args.s.now.frames) (Plain c.args.op)) c.args.s.now c.run_return.new.s c.run_return.result _ c.tells.ensures c.run_return.ensures.leaves
+
 pub returns-in-Return-clause-finishes : goal.returns-in-Return-clause-finishes
-returns-in-Return-clause-finishes g c = returned_finishes c.args.linked.now c.run_return.result c.run_return.new.s c.run_return.ensures.returns
+returns-in-Return-clause-finishes g c = told_finishes c.args.linked.now c.run_return.result c.run_return.new.s _ c.tells.ensures (returned_finishes c.args.linked.now c.run_return.result c.run_return.new.s c.run_return.ensures.returns)
 
 pub run_scope-requires : goal.run_scope-requires
 run_scope-requires g c = (c.requires.0, alone_among c.args.linked.now g.out c.args.s.now c.args.op _ _ c.requires.0 c.group_alone.ensures c.in-Scope.is)

@@ -1,5 +1,5 @@
 use Rattle.abc_dispatch.proofs.Grouped.{numbered_among, only_one}
-use Rattle.abc_dispatch.proofs.Led.{goes_finishes, run_as, runs_leaves, turned_as}
+use Rattle.abc_dispatch.proofs.Led.{goes_finishes, run_as, runs_leaves, told_finishes, told_leaves, turned_as}
 use Rattle.abc_plainsteps.specs.Here.{act_here}
 use Rattle.abc_stacks.specs.Frame.{newest}
 use Rattle.abc_states.specs.Outer.{setting}
@@ -37,7 +37,10 @@ pub run_call_value-requires : goal.run_call_value-requires
 run_call_value-requires g c = (run_as c.args.linked.now g.out c.args.s.now (One c.args.op c.args.n) (One 65 c.args.n) (only_one c.args.op 65 c.args.n (numbered_among c.args.linked.now g.out c.args.s.now c.args.op c.args.n _ _ c.requires.0 c.group_numbered.ensures c.in-Call.is)) c.requires.0, c.requires.1.known)
 
 pub returns-in-Call-clause-leaves : goal.returns-in-Call-clause-leaves
-returns-in-Call-clause-leaves g c = turned_as c.args.linked.now g.out c.args.s.now (One c.args.op c.args.n) (One 65 c.args.n) _ (only_one c.args.op 65 c.args.n (numbered_among c.args.linked.now g.out c.args.s.now c.args.op c.args.n _ _ c.requires.0 c.group_numbered.ensures c.in-Call.is)) c.run_call_value.ensures.leaves
+returns-in-Call-clause-leaves g c = told_leaves c.args.linked.now g.out (act_here (setting c.args.linked.now g.out) (newest c.args.s.now.frames) (One c.args.op c.args.n)) c.args.s.now c.run_call_value.new.s c.run_call_value.result _ c.tells.ensures (turned_as c.args.linked.now g.out c.args.s.now (One c.args.op c.args.n) (One 65 c.args.n) _ (only_one c.args.op 65 c.args.n (numbered_among c.args.linked.now g.out c.args.s.now c.args.op c.args.n _ _ c.requires.0 c.group_numbered.ensures c.in-Call.is)) c.run_call_value.ensures.leaves)
+
+pub returns-in-Call-clause-finishes : goal.returns-in-Call-clause-finishes
+returns-in-Call-clause-finishes g c = told_finishes c.args.linked.now c.run_call_value.result c.run_call_value.new.s _ c.tells.ensures c.run_call_value.ensures.finishes
 
 pub run_construct-requires : goal.run_construct-requires
 run_construct-requires g c = (run_as c.args.linked.now g.out c.args.s.now (One c.args.op c.args.n) (One 66 c.args.n) (only_one c.args.op 66 c.args.n (numbered_among c.args.linked.now g.out c.args.s.now c.args.op c.args.n _ _ c.requires.0 c.group_numbered.ensures c.in-Construct.is)) c.requires.0, c.requires.1.known)

@@ -1,5 +1,5 @@
 use Rattle.abc_dispatch.proofs.Grouped.{only_two, paired_among}
-use Rattle.abc_dispatch.proofs.Led.{goes_finishes, run_as, runs_leaves, turned_as}
+use Rattle.abc_dispatch.proofs.Led.{goes_finishes, run_as, runs_leaves, told_finishes, told_leaves, turned_as}
 use Rattle.abc_plainsteps.specs.Here.{act_here}
 use Rattle.abc_stacks.specs.Frame.{newest}
 use Rattle.abc_states.specs.Outer.{setting}
@@ -18,8 +18,20 @@ returns-in-Next-clause-finishes g c = goes_finishes c.args.linked.now c.run_next
 pub run_super_call-requires : goal.run_super_call-requires
 run_super_call-requires g c = (c.requires.0, (c.requires.1.known, paired_among c.args.linked.now g.out c.args.s.now c.args.op c.args.n c.args.count _ _ c.requires.0 c.group_paired.ensures c.in-SuperCall.is))
 
+pub returns-in-SuperCall-clause-leaves : goal.returns-in-SuperCall-clause-leaves
+returns-in-SuperCall-clause-leaves g c = told_leaves c.args.linked.now g.out (act_here (setting c.args.linked.now g.out) (newest c.args.s.now.frames) (Two c.args.op c.args.n c.args.count)) c.args.s.now c.run_super_call.new.s c.run_super_call.result _ c.tells.ensures c.run_super_call.ensures.leaves
+
+pub returns-in-SuperCall-clause-finishes : goal.returns-in-SuperCall-clause-finishes
+returns-in-SuperCall-clause-finishes g c = told_finishes c.args.linked.now c.run_super_call.result c.run_super_call.new.s _ c.tells.ensures c.run_super_call.ensures.finishes
+
 pub run_property_call-requires : goal.run_property_call-requires
 run_property_call-requires g c = (c.requires.0, (c.requires.1.known, paired_among c.args.linked.now g.out c.args.s.now c.args.op c.args.n c.args.count _ _ c.requires.0 c.group_paired.ensures c.in-PropertyCall.is))
+
+pub returns-in-PropertyCall-clause-leaves : goal.returns-in-PropertyCall-clause-leaves
+returns-in-PropertyCall-clause-leaves g c = told_leaves c.args.linked.now g.out (act_here (setting c.args.linked.now g.out) (newest c.args.s.now.frames) (Two c.args.op c.args.n c.args.count)) c.args.s.now c.run_property_call.new.s c.run_property_call.result _ c.tells-in-PropertyCall.ensures c.run_property_call.ensures.leaves
+
+pub returns-in-PropertyCall-clause-finishes : goal.returns-in-PropertyCall-clause-finishes
+returns-in-PropertyCall-clause-finishes g c = told_finishes c.args.linked.now c.run_property_call.result c.run_property_call.new.s _ c.tells-in-PropertyCall.ensures c.run_property_call.ensures.finishes
 
 pub run_construct_property-requires : goal.run_construct_property-requires
 run_construct_property-requires g c = (run_as c.args.linked.now g.out c.args.s.now (Two c.args.op c.args.n c.args.count) (Two 74 c.args.n c.args.count) (only_two c.args.op 74 c.args.n c.args.count (paired_among c.args.linked.now g.out c.args.s.now c.args.op c.args.n c.args.count _ _ c.requires.0 c.group_paired.ensures c.in-Construct.is)) c.requires.0, c.requires.1.known)
