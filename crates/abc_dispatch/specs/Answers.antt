@@ -1,5 +1,5 @@
 -- What a group answers, as the dispatch does.
-use Rattle.std.specs.Prelude.{Bool, true, false, Ok, Err}
+use Rattle.std.specs.Prelude.{Ok, Err}
 use Rattle.std.specs.declared.result.Result.{Result}
 use Rattle.abc_states.specs.declared.state.Left.{Left}
 use Rattle.abc_states.specs.declared.state.Left.TheVariants as lefts
@@ -9,8 +9,3 @@ use Rattle.abc_states.specs.declared.state.Stop.{Stop}
 abbrev pub goes_as : Result Unit Stop → Result Left Stop
 goes_as (Ok u) = Ok lefts.Goes
 goes_as (Err e) = Err e
-
--- what is left to be done where an instruction goes on or tells it
-abbrev pub answer : Bool → Result Left Stop → Result Left Stop
-answer true told = Ok lefts.Goes
-answer false told = told

@@ -4,4 +4,4 @@
 mod dispatch;
 mod groups;
 
-pub use dispatch::{run_newest, run_whole};
+pub use dispatch::run_newest;

@@ -15,8 +15,8 @@ use abc_base::{Failed, Host, Sink};
 use abc_link::Linked;
 use abc_loglines::{write_start_line, write_step_line};
 use abc_scripts::Seen;
-use abc_states::State;
-use abc_stepping::{Halt, run_whole, start_last};
+use abc_states::{Left, State};
+use abc_stepping::{Halt, run_newest, start_last};
 
 /// Writes the line of an instruction, by its method and its place, or of the script that it starts.
 fn write_line<K: Sink>(
@@ -92,7 +92,8 @@ fn run_logged<K: Sink, H: Host>(
 {
     let method = s.frames.method();
     let place = s.frames.place();
-    let left = run_whole(linked, s);
+    let mut left = Ok(Left::Goes);
+    run_newest(linked, s, &mut left);
     let script = seen.note(&s.started);
     match write_line(log, script, method, place) {
         Ok(()) => finish_logged(linked, s, log, host, left),

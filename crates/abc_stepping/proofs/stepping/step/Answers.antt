@@ -17,44 +17,44 @@ some_left fs n e z = omega (arith, e, z)
 pub start_last-requires : goal.start_last-requires
 start_last-requires g c = can_start c.args.linked.now g.out c.args.s.now c.requires.1.1.0 (none_left c.args.s.now.frames.living c.depth.result c.depth.ensures c.if-depth-eq0.true)
 
-pub run_newest-left-requires : goal.run_newest-left-requires
-run_newest-left-requires g c =
+pub run_newest-requires : goal.run_newest-requires
+run_newest-requires g c =
     let live = some_left c.args.s.now.frames.living c.depth.result c.depth.ensures c.if-depth-eq0.false in
-    (can_step c.args.linked.now g.out c.args.s.now c.requires.1.1.0 live, equipped c.args.linked.now g.out c.args.s.now c.requires.1.1.0 live)
+    (can_step c.args.linked.now g.out c.args.s.now c.requires.1.1.0 live, (equipped c.args.linked.now g.out c.args.s.now c.requires.1.1.0 live, refl))
 
 pub finish-requires : goal.finish-requires
 finish-requires g c =
     let l = c.args.linked.now in
     let s = c.args.s.now in
     let live = some_left s.frames.living c.depth.result c.depth.ensures c.if-depth-eq0.false in
-    let known = subst (IsKnown l) (sym c.run_newest-left.ensures.limit) c.requires.1.1.0.known in
-    let fair = fair_left l g.out s c.requires.1.1.0 live c.run_newest-left.result c.run_newest-left.new.s c.run_newest-left.ensures.leaves in
-    λ κs among. (among.0, (among.1, (known, (scripts_there l g.out s c.requires.1.1.0, (c.requires.1.1.1, (c.run_newest-left.ensures.finishes, fair))))))
+    let known = subst (IsKnown l) (sym c.run_newest.ensures.limit) c.requires.1.1.0.known in
+    let fair = fair_left l g.out s c.requires.1.1.0 live c.run_newest.new.left c.run_newest.new.s c.run_newest.ensures.leaves in
+    λ κs among. (among.0, (among.1, (known, (scripts_there l g.out s c.requires.1.1.0, (c.requires.1.1.1, (c.run_newest.ensures.finishes, fair))))))
 
 pub returns-clause-step : goal.returns-clause-step
 returns-clause-step g c =
     let s = c.args.s.now in
     let live = some_left s.frames.living c.depth.result c.depth.ensures c.if-depth-eq0.false in
-    steps_left c.args.linked.now g.out s c.requires.1.1.0 live c.run_newest-left.result c.run_newest-left.new.s c.run_newest-left.ensures.leaves c.finish.result c.finish.new.s (g.K.Sink.written c.args.sink.now) (g.K.Sink.written c.finish.new.sink) c.finish.ensures.step
+    steps_left c.args.linked.now g.out s c.requires.1.1.0 live c.run_newest.new.left c.run_newest.new.s c.run_newest.ensures.leaves c.finish.result c.finish.new.s (g.K.Sink.written c.args.sink.now) (g.K.Sink.written c.finish.new.sink) c.finish.ensures.step
 
 pub returns-clause-value : goal.returns-clause-value
 returns-clause-value g c = λ v e.
     let s = c.args.s.now in
     let live = some_left s.frames.living c.depth.result c.depth.ensures c.if-depth-eq0.false in
-    returned_left c.args.linked.now g.out s c.requires.1.1.0 live c.run_newest-left.result c.run_newest-left.new.s c.run_newest-left.ensures.leaves v (c.finish.ensures.value v e)
+    returned_left c.args.linked.now g.out s c.requires.1.1.0 live c.run_newest.new.left c.run_newest.new.s c.run_newest.ensures.leaves v (c.finish.ensures.value v e)
 
 pub returns-then-depth-eq0-clause-value : goal.returns-then-depth-eq0-clause-value
 returns-then-depth-eq0-clause-value g c = λ v e. absurd (c.start_last.ensures.none v e)
 
--- where most instructions leave nothing
-pub returns-in-Ok-Goes-clause-step : goal.returns-in-Ok-Goes-clause-step
-returns-in-Ok-Goes-clause-step g c =
+-- where the instruction goes on, as most do
+pub returns-then-run_newest-clause-step : goal.returns-then-run_newest-clause-step
+returns-then-run_newest-clause-step g c =
     let s = c.args.s.now in
     let live = some_left s.frames.living c.depth.result c.depth.ensures c.if-depth-eq0.false in
-    goes_step c.args.linked.now g.out s c.requires.1.1.0 live c.run_newest-left.result c.run_newest-left.new.s c.run_newest-left.ensures.leaves (c.in-Ok-Goes.is ∙ ap (λ (x : Left). Ok x) (rw c.in-Ok-Goes.is at c.in-Ok-Goes.field-0-is)) (g.K.Sink.written c.args.sink.now)
+    goes_step c.args.linked.now g.out s c.requires.1.1.0 live c.run_newest.new.left c.run_newest.new.s c.run_newest.ensures.leaves (c.run_newest.ensures.goes c.if-run_newest.true) (g.K.Sink.written c.args.sink.now)
 
-pub returns-in-Ok-Goes-clause-sized : goal.returns-in-Ok-Goes-clause-sized
-returns-in-Ok-Goes-clause-sized g c =
+pub returns-then-run_newest-clause-sized : goal.returns-then-run_newest-clause-sized
+returns-then-run_newest-clause-sized g c =
     let s = c.args.s.now in
     let live = some_left s.frames.living c.depth.result c.depth.ensures c.if-depth-eq0.false in
-    λ h. goes_sized c.args.linked.now g.out s c.requires.1.1.0 live c.run_newest-left.result c.run_newest-left.new.s c.run_newest-left.ensures.leaves (c.in-Ok-Goes.is ∙ ap (λ (x : Left). Ok x) (rw c.in-Ok-Goes.is at c.in-Ok-Goes.field-0-is))
+    λ h. goes_sized c.args.linked.now g.out s c.requires.1.1.0 live c.run_newest.new.left c.run_newest.new.s c.run_newest.ensures.leaves (c.run_newest.ensures.goes c.if-run_newest.true)
