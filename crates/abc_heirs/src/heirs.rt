@@ -8,12 +8,18 @@ use abc_graph::{NoMemory, Table};
 use std::alloc::Global;
 use std::marker::Model;
 
+/// The most values that all lists have that are kept. Where there would be more, memory is said to have run out: a chain of lists,
+/// each with a value more than that before it, has values by the square of its length.
+pub const MOST_INHERITED: usize = 1 << 24;
+
 /// Lists by their numbers, from 0 on, each with what it inherits.
 #[derive(Drop)]
 pub struct Heirs<T> {
     /// For each number the place of its list. Where a base has all that an heir has, they share it.
     holders: Table<usize>,
     lists: Table<Keyed<T>>,
+    /// How many values more may be kept.
+    room: usize,
 }
 
 impl<T> Model for Heirs<T> {
@@ -36,6 +42,7 @@ impl<T: Copy + Drop> Heirs<T> {
         Heirs {
             holders: Table::new(alloc),
             lists: Table::new(alloc),
+            room: MOST_INHERITED,
         }
     }
 
@@ -92,6 +99,16 @@ impl<T: Copy + Drop> Heirs<T> {
         Ok(())
     }
 
+    /// How many values a base hands on.
+    fn handed_on(&self, base: Option<u32>) -> usize
+        requires { IfSome base (λ b. b < length self.now) }
+    {
+        match base {
+            Some(base) => self.values(base).len(),
+            None => 0,
+        }
+    }
+
     /// What the lists under a base inherit, and then other values under their keys.
     fn joined(
         &self,
@@ -128,7 +145,10 @@ impl<T: Copy + Drop> Heirs<T> {
         match base {
             Some(base) if own.is_empty() => self.share(base),
             _ => {
+                let room = self.room.checked_sub(own.len()).ok_or(NoMemory)?;
+                let room = room.checked_sub(self.handed_on(base)).ok_or(NoMemory)?;
                 let list = self.joined(alloc, base, own, keys)?;
+                self.room = room;
                 self.keep(list)
             }
         }

@@ -6,4 +6,4 @@ mod heirs;
 mod keyed;
 
 pub use abc_graph::HostClass;
-pub use heirs::Heirs;
+pub use heirs::{Heirs, MOST_INHERITED};

@@ -13,6 +13,10 @@ use abc_tables::Abc;
 use indexmap::IndexSet;
 use std::alloc::Global;
 
+/// The most numbers that all sets have. Where there would be more, memory is said to have run out: of a chain of interfaces, each of
+/// which names the next, the sets have numbers by the square of its length.
+pub const MOST_INTERFACES: usize = 1 << 24;
+
 /// Whether the set of a class is there.
 fn is_settled(sets: &Table<Option<IndexSet<u32>>>, class: u32) -> bool
     ensures { result ≡ is_settled_in sets.now class }
@@ -137,7 +141,7 @@ fn set_for(
     united(alloc, abc, graph, sets, places, class)
 }
 
-/// Puts the set of a class there, unless it is there or the number is that of no class.
+/// Puts the set of a class there, if there is room for it, unless it is there or the number is that of no class.
 #[tactic(auto, using(crate::proofs::Settling::stays, crate::proofs::Settling::put))]
 fn settle(
     alloc: Global,
@@ -145,6 +149,7 @@ fn settle(
     graph: &Table<Table<u32>>,
     sets: &mut Table<Option<IndexSet<u32>>>,
     places: &mut Vec<u32>,
+    room: &mut usize,
     class: u32,
 ) -> Result<(), NoMemory>
     requires graph { graph.now ≡ class_graph abc.now }
@@ -161,6 +166,7 @@ fn settle(
         return Ok(());
     }
     let set = set_for(alloc, abc, graph, sets, places, class)?;
+    *room = room.checked_sub(set.len()).ok_or(NoMemory)?;
     sets.set(class as usize, Some(set));
     Ok(())
 }
@@ -192,8 +198,9 @@ fn settle_each(
 {
     let mut sets = unset(alloc, graph.len())?;
     let mut places = vec![in alloc; 0u32; graph.len()]?;
+    let mut room = MOST_INTERFACES;
     for class in nodes {
-        settle(alloc, abc, graph, &mut sets, &mut places, *class)?;
+        settle(alloc, abc, graph, &mut sets, &mut places, &mut room, *class)?;
     }
     Ok(sets)
 }
