@@ -3,14 +3,13 @@ ghost use Rattle.std.specs.List.{flat_map};
 ghost use Rattle.abc_base.specs.Numbers.{number_bytes};
 ghost use Rattle.abc_format.specs.Canonical.{counted_bytes};
 ghost use Rattle.abc_tables.specs.Bodies.{body_bytes, bodies_bytes, IsReadyBody};
-ghost use Rattle.abc_tables.specs.CodeBytes.{code_bytes, canonical_starts};
-ghost use Rattle.abc_tables.specs.Ready.{IsReady};
+ghost use Rattle.abc_tables.specs.CodeBytes.{canonical_starts};
 ghost use Rattle.abc_varint.specs.Puts.{Puts, PutsWhole};
 
 use crate::handlers::put_handlers;
 use abc_base::{NoMemory, Table};
-use abc_instr::{put_code, starts_of};
-use abc_tables::{Abc, Body, Instr};
+use abc_instr::{put_code_over, put_starts};
+use abc_tables::{Abc, Body};
 use abc_traits::TraitCodec;
 use abc_varint::{put_count, put_counted, put_u30};
 use std::alloc::Global;
@@ -28,40 +27,27 @@ fn put_sizes(body: &Body, out: &mut Vec<u8>) -> Result<(), NoMemory>
     Ok(())
 }
 
-/// Appends the code of a body.
-fn put_body_code(alloc: Global, code: &Table<Instr>, out: &mut Vec<u8>) -> Result<(), NoMemory>
-    requires { IsReady code.now }
-    ensures { Puts out.old.items out.new.items result (code_bytes code.now) }
-{
-    put_code(alloc, code, out)
-}
-
 /// Appends a body, over its code's instructions, which start so in the canonical code.
 #[tactic(auto, unfolding(abc_tables::specs::Bodies::body_bytes), using(abc_varint::proofs::Putting::stays, std::proofs::Common::append_assoc))]
-fn put_fields(
-    body: &Body,
-    starts: &Table<u32>,
-    alloc: Global,
-    out: &mut Vec<u8>,
-) -> Result<(), NoMemory>
+fn put_fields(body: &Body, starts: &Table<u32>, out: &mut Vec<u8>) -> Result<(), NoMemory>
     requires ready { IsReadyBody body.now }
     requires starts { starts.now ≡ canonical_starts (body.now).code }
     ensures { Puts out.old.items out.new.items result (body_bytes body.now) }
 {
     put_sizes(body, out)?;
-    put_body_code(alloc, &body.code, out)?;
+    put_code_over(&body.code, starts, out)?;
     put_handlers(starts, &body.handlers, out)?;
     put_counted::<TraitCodec>(&body.traits, out)?;
     Ok(())
 }
 
-/// Appends the canonical bytes of a body.
-pub fn put_body(alloc: Global, body: &Body, out: &mut Vec<u8>) -> Result<(), NoMemory>
+/// Appends the canonical bytes of a body. The memory for its starts serves one body after the other.
+fn put_body(body: &Body, starts: &mut Table<u32>, out: &mut Vec<u8>) -> Result<(), NoMemory>
     requires { IsReadyBody body.now }
     ensures { Puts out.old.items out.new.items result (body_bytes body.now) }
 {
-    let starts = starts_of(alloc, &body.code)?;
-    put_fields(body, &starts, alloc, out)
+    put_starts(&body.code, starts)?;
+    put_fields(body, starts, out)
 }
 
 /// Appends the bodies, one after the other.
@@ -70,8 +56,9 @@ fn put_each_body(alloc: Global, bodies: &Table<Body>, out: &mut Vec<u8>) -> Resu
     requires { All IsReadyBody bodies.now }
     ensures { Puts out.old.items out.new.items result (flat_map body_bytes bodies.now) }
 {
+    let mut starts = Table::new(alloc);
     for body in bodies.as_slice() {
-        put_body(alloc, body, out)?;
+        put_body(body, &mut starts, out)?;
     }
     Ok(())
 }

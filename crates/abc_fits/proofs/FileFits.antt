@@ -120,3 +120,15 @@ file_fits v = (
       (omega (arith, file-len v, least, (f.1).1), record { bytes = f.0; is = (f.1).0 }),
   λ h. (file_bytes v, (file-canonical.spelled v h.1.bytes h.1.is, omega (arith, file-len v, h.0))),
 )
+
+pub few_in : (v : Abc) → Fits v → AreFew v
+few_in v f = tables_few v ((file_fits v).0 f).1
+
+pub parts_in : (v : Abc) → Fits v → FitPools v × FitDefinitions v
+parts_in v f = let t = (tables_fit v).0 ((file_fits v).0 f).1 in (t.0, t.1)
+
+pub whole_fits : (v : Abc) → FitPools v → FitDefinitions v → Fits v ↔ ((file_len v ≤ 2 ^ 24) × FitBodies v)
+whole_fits v p d = (
+  λ f. let h = (file_fits v).0 f in (h.0, ((tables_fit v).0 h.1).2),
+  λ h. (file_fits v).1 (h.0, (tables_fit v).1 (p, d, h.1)),
+)

@@ -37,6 +37,13 @@ stopped code limit i here small is before le = record {
   before = λ t within lt. before t lt;
 }
 
+-- code that is short enough for one limit is so for a greater one
+pub none_later : (code : List Instr) (limit more first : ℕ) → limit ≤ more → length code < first → IsFirstFrom code limit first → IsFirstFrom code more first
+none_later code limit more first le past is = record {
+  from = λ t within after. absurd (omega arith);
+  before = λ t within lt. omega (arith, is.before t within lt);
+}
+
 pub passed : (code : List Instr) (i here : ℕ) (x : Instr) → i < length code → x ≡ get_or code i x → here ≡ min (start (sized code) i) (2 ^ 64 - 1) → min (here + min (instr_len x) (2 ^ 64 - 1)) (2 ^ 64 - 1) ≡ min (start (sized code) (i + 1)) (2 ^ 64 - 1)
 passed code i here x lt e is = rw add-one (omega (arith, next_start code i x lt e))
 

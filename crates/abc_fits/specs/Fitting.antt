@@ -172,6 +172,14 @@ pub record HasNames (v : Sizes) (h : Handler) : Type 0 where
   pub exc_type : IsPoolIndex v.names h.exc_type
   pub var_name : IsPoolIndex v.names h.var_name
 
+-- Each of its parts beside its code is spelled by some bytes.
+pub record HasParts (v : Sizes) (b : Body) : Type 0 where
+  pub method : IsPosition v.methods b.method
+  pub sizes : HasSizes b
+  pub handler_count : length b.handlers < 2 ^ 30
+  pub handlers : All (HasNames v) b.handlers
+  pub traits : FitTraits v b.traits
+
 -- a body by itself, whatever other bodies there are
 unfoldable pub FitsBody : Sizes → Body → Type 0
 FitsBody v b = Spelled (body_with v (index_below v.methods)) (b, canonical_starts b.code)

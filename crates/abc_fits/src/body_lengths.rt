@@ -35,12 +35,22 @@ fn first_from(code: &Table<Instr>, limit: u32) -> usize
     }
 }
 
-/// From which places on the code's starts have two, three, four and five bytes.
+/// From which places on the code's starts have two, three, four and five bytes. Most code is short, and gone through once.
+#[tactic(auto, using(crate::proofs::Places::none_later))]
 fn widths_of(code: &Table<Instr>) -> Widths
     ensures { AreWidths code.now result }
 {
+    let two = first_from(code, 1 << 7);
+    if two > code.len() {
+        return Widths {
+            two,
+            three: two,
+            four: two,
+            five: two,
+        };
+    }
     Widths {
-        two: first_from(code, 1 << 7),
+        two,
         three: first_from(code, 1 << 14),
         four: first_from(code, 1 << 21),
         five: first_from(code, 1 << 28),
@@ -99,23 +109,31 @@ fn len_of_handlers(handlers: &Table<Handler>, code: &Table<Instr>) -> u64
 }
 
 /// How many bytes the instructions have, and that number.
-fn len_of_code(code: &Table<Instr>) -> u64
-    ensures { result ≡ min (number_len (total code.now) + total code.now) (2 ^ 64 - 1) }
+fn len_of_code(_code: &Table<Instr>, len: u64) -> u64
+    requires { len ≡ min (total _code.now) (2 ^ 64 - 1) }
+    ensures { result ≡ min (number_len (total _code.now) + total _code.now) (2 ^ 64 - 1) }
 {
-    let len = code_len(code);
     count_len(len as usize).saturating_add(len)
+}
+
+/// The canonical bytes of a body whose code has so many.
+#[tactic(auto, unfolding(crate::specs::Lengths::body_len), using(crate::proofs::Capped::both_capped))]
+pub fn len_over_code(body: &Body, code: u64) -> u64
+    requires { code ≡ min (total (body.now).code) (2 ^ 64 - 1) }
+    ensures { result ≡ min (body_len body.now) (2 ^ 64 - 1) }
+{
+    let sizes = len_of_number(body.max_stack) + len_of_number(body.local_count);
+    let scopes = len_of_number(body.init_scope) + len_of_number(body.max_scope);
+    (len_of_number(body.method) + sizes + scopes)
+        .saturating_add(len_of_code(&body.code, code))
+        .saturating_add(len_of_handlers(&body.handlers, &body.code))
+        .saturating_add(len_of_counted(&body.traits))
 }
 
 impl Measured for Body {
     ghost len = { body_len };
 
-    #[tactic(auto, unfolding(crate::specs::Lengths::body_len), using(crate::proofs::Capped::both_capped))]
     fn canonical_len(&self) -> u64 {
-        let sizes = len_of_number(self.max_stack) + len_of_number(self.local_count);
-        let scopes = len_of_number(self.init_scope) + len_of_number(self.max_scope);
-        (len_of_number(self.method) + sizes + scopes)
-            .saturating_add(len_of_code(&self.code))
-            .saturating_add(len_of_handlers(&self.handlers, &self.code))
-            .saturating_add(len_of_counted(&self.traits))
+        len_over_code(self, code_len(&self.code))
     }
 }

@@ -1,13 +1,14 @@
 ghost use Rattle.std.specs.Prelude.{◌≡◌, ◌↔◌, IsTrue};
-ghost use Rattle.abc_fits.specs.Fitting.{AreFew, FitsTables};
+ghost use Rattle.abc_fits.specs.Fitting.{AreFew, FitDefinitions, FitPools};
+ghost use Rattle.abc_tables.specs.Classes.{sizes_of as all_sizes};
 ghost use Rattle.abc_tables.specs.Files.{Fits};
 
-use crate::fitting_bodies::fit_bodies;
+use crate::fitting_bodies::{fit_bodies, len_of_bodies};
 use crate::fitting_definitions::fit_definitions;
 use crate::fitting_pools::fit_pools;
 use crate::indices::is_count;
-use crate::total::canon_len;
-use abc_tables::{Abc, sizes_of};
+use crate::total::len_before_bodies;
+use abc_tables::{Abc, Sizes, sizes_of};
 
 /// The greatest length of a file.
 const LONGEST: u64 = 1 << 24;
@@ -28,24 +29,39 @@ fn are_few(abc: &Abc) -> bool
         && is_count(abc.classes.len())
 }
 
-/// Whether some bytes spell the tables, however many.
-#[tactic(auto, using(crate::proofs::FileFits::tables_fit, crate::proofs::FileFits::tables_few, crate::proofs::FileFits::few_told))]
-fn fit_tables(abc: &Abc) -> bool
-    ensures { IsTrue result ↔ FitsTables abc.now }
+/// Whether some bytes of at most 2^24 spell a file, some bytes spell whose pools and definitions. The bodies are gone over once
+/// for both, and it is tried that no two have one method only where there are not too many methods for that.
+#[tactic(auto, using(crate::proofs::FileFits::whole_fits))]
+fn fit_rest(abc: &Abc, sizes: &Sizes) -> bool
+    requires sizes { sizes.now ≡ all_sizes abc.now }
+    requires pools { FitPools abc.now }
+    requires definitions { FitDefinitions abc.now }
+    ensures { IsTrue result ↔ Fits abc.now }
 {
-    if !are_few(abc) {
-        return false;
+    match len_of_bodies(abc.bodies.as_slice(), sizes) {
+        Some(len) => {
+            len_before_bodies(abc).saturating_add(len) <= LONGEST && fit_bodies(abc, sizes)
+        }
+        None => false,
     }
+}
+
+/// Whether some bytes of at most 2^24 spell a file whose tables are small enough.
+#[tactic(auto, using(crate::proofs::FileFits::few_told, crate::proofs::FileFits::parts_in))]
+fn fit_parts(abc: &Abc) -> bool
+    requires { AreFew abc.now }
+    ensures { IsTrue result ↔ Fits abc.now }
+{
     let sizes = sizes_of(abc);
-    fit_pools(abc, &sizes) && fit_definitions(abc, &sizes) && fit_bodies(abc, &sizes)
+    fit_pools(abc, &sizes) && fit_definitions(abc, &sizes) && fit_rest(abc, &sizes)
 }
 
 /// Whether some bytes of at most 2^24 spell the file. It takes no memory. Its time grows with the size of the value
-/// alone, but for one thing: the bodies are gone through once for each 16,384 methods, so that no two are found to have
-/// one method. A file has at most 2^22 methods, so that is at most 257 times.
+/// alone, but for one thing: the bodies are gone through once for each 131,072 methods, so that no two are found to have
+/// one method. A file has at most 2^22 methods, so that is at most 33 times.
 #[tactic(auto, using(crate::proofs::FileFits::file_fits))]
 pub fn fits(a: &Abc) -> bool
     ensures { IsTrue result ↔ Fits a.now }
 {
-    canon_len(a) <= LONGEST && fit_tables(a)
+    are_few(a) && fit_parts(a)
 }

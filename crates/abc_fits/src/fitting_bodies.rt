@@ -1,14 +1,17 @@
-ghost use Rattle.std.specs.Prelude.{◌≡◌, ◌↔◌, ◌*◌, ◌^◌, ◌<◌, All, AllPairs, IsTrue, false, length};
+ghost use Rattle.std.specs.Prelude.{◌≡◌, ◌↔◌, ◌*◌, ◌-◌, ◌^◌, ◌<◌, All, AllPairs, IsTrue, MatchOption, false, length, min};
+ghost use Rattle.std.specs.List.{sum_by};
 ghost use Rattle.abc_fits.specs.Distinct.{Differ, DifferFrom};
-ghost use Rattle.abc_fits.specs.Fitting.{FitBodies, FitsBody, HasNames, HasSizes};
+ghost use Rattle.abc_fits.specs.Fitting.{FitBodies, FitsBody, HasNames, HasParts, HasSizes};
+ghost use Rattle.abc_fits.specs.Lengths.{body_len};
 ghost use Rattle.abc_tables.specs.Classes.{sizes_of as all_sizes};
 
+use crate::body_lengths::len_over_code;
 use crate::fitting_definitions::are_traits;
 use crate::indices::{is_count, is_number, is_pool_index, is_position};
-use abc_tables::{Abc, Body, Handler, Sizes, is_ready_body};
+use abc_tables::{Abc, Body, Handler, Sizes, ready_len};
 
 /// How many methods one walk over the bodies looks for.
-const WINDOW: usize = 1 << 14;
+const WINDOW: usize = 1 << 17;
 
 /// Whether some bytes spell the four sizes of a body.
 fn has_sizes(body: &Body) -> bool
@@ -33,23 +36,40 @@ fn have_names(handlers: &[Handler], sizes: &Sizes) -> bool
     handlers.iter().all(|handler| has_names(handler, sizes))
 }
 
-/// Whether some bytes spell the body, whatever other bodies there are.
-#[tactic(auto, using(crate::proofs::BodiesFit::body_fits))]
-fn is_body(body: &Body, sizes: &Sizes) -> bool
-    ensures { IsTrue result ↔ FitsBody sizes.now body.now }
+/// Whether some bytes spell the parts of a body beside its code.
+fn has_parts(body: &Body, sizes: &Sizes) -> bool
+    ensures { IsTrue result ↔ HasParts sizes.now body.now }
 {
     is_position(body.method, sizes.methods)
         && has_sizes(body)
-        && is_ready_body(body)
         && is_count(body.handlers.len())
         && have_names(body.handlers.as_slice(), sizes)
         && are_traits(&body.traits, sizes)
 }
 
-fn are_bodies(bodies: &[Body], sizes: &Sizes) -> bool
-    ensures { IsTrue result ↔ All (FitsBody sizes.now) bodies.now }
+/// How many canonical bytes the body has, if some bytes spell it, whatever other bodies there are. It is 2^64 - 1 where
+/// that is greater.
+#[tactic(auto, using(crate::proofs::BodiesFit::body_fits))]
+fn len_of_body(body: &Body, sizes: &Sizes) -> Option<u64>
+    ensures { MatchOption result (FitsBody sizes.now body.now → ⊥) (λ n. FitsBody sizes.now body.now × (n ≡ min (body_len body.now) (2 ^ 64 - 1))) }
 {
-    bodies.iter().all(|body| is_body(body, sizes))
+    if !has_parts(body, sizes) {
+        return None;
+    }
+    let code = ready_len(body)?;
+    Some(len_over_code(body, code))
+}
+
+/// The same for all bodies, one after the other.
+pub fn len_of_bodies(bodies: &[Body], sizes: &Sizes) -> Option<u64>
+    ensures { MatchOption result (All (FitsBody sizes.now) bodies.now → ⊥) (λ n. All (FitsBody sizes.now) bodies.now × (n ≡ min (sum_by body_len bodies.now) (2 ^ 64 - 1))) }
+{
+    let mut len: u64 = 0;
+    for body in bodies {
+        let more = len_of_body(body, sizes)?;
+        len = len.saturating_add(more);
+    }
+    Some(len)
 }
 
 /// Whether no two of the bodies have one method among those from `low` on, as many as there are marks.
@@ -92,12 +112,13 @@ fn are_distinct(bodies: &[Body], methods: u32) -> bool
     true
 }
 
-/// Whether some bytes spell the bodies.
+/// Whether some bytes spell bodies of which each is spelled by some, whatever the others are.
 #[tactic(auto, using(crate::proofs::BodiesFit::bodies_fit, crate::proofs::BodiesFit::methods_below))]
 pub fn fit_bodies(abc: &Abc, sizes: &Sizes) -> bool
-    requires { sizes.now ≡ all_sizes abc.now }
+    requires sizes { sizes.now ≡ all_sizes abc.now }
+    requires each { All (FitsBody sizes.now) (abc.now).bodies }
     ensures { IsTrue result ↔ FitBodies abc.now }
 {
     let bodies = abc.bodies.as_slice();
-    is_count(bodies.len()) && are_bodies(bodies, sizes) && are_distinct(bodies, sizes.methods)
+    is_count(bodies.len()) && are_distinct(bodies, sizes.methods)
 }

@@ -1,10 +1,22 @@
-ghost use Rattle.std.specs.Prelude.{◌≡◌, ◌-◌, ◌^◌, min};
-ghost use Rattle.abc_fits.specs.Lengths.{file_len};
+ghost use Rattle.std.specs.Prelude.{◌≡◌, ◌+◌, ◌-◌, ◌^◌, length, min};
+ghost use Rattle.abc_fits.specs.Lengths.{definitions_len, file_len, pools_len};
+ghost use Rattle.abc_tables.specs.CodeBytes.{number_len};
 
 use crate::definition_lengths::len_of_definitions;
-use crate::lengths::len_of_counted;
+use crate::lengths::len_of_all;
 use crate::pool_lengths::len_of_pools;
-use abc_tables::Abc;
+use abc_tables::{Abc, count_len};
+
+/// The canonical bytes of all that stands before the bodies, and of how many bodies there are.
+#[tactic(auto, using(crate::proofs::Capped::both_capped))]
+pub fn len_before_bodies(abc: &Abc) -> u64
+    ensures { result ≡ min (4 + pools_len abc.now + definitions_len abc.now + number_len (length (abc.now).bodies)) (2 ^ 64 - 1) }
+{
+    len_of_pools(abc)
+        .saturating_add(4)
+        .saturating_add(len_of_definitions(abc))
+        .saturating_add(count_len(abc.bodies.len()))
+}
 
 /// How many bytes the canonical bytes of a file have: the sum over all its fields, with the fewest bytes of each number,
 /// where a number of 2^30 or more counts five. It is 2^64 - 1 where that is greater. It takes no memory, and time that
@@ -13,8 +25,5 @@ use abc_tables::Abc;
 pub fn canon_len(a: &Abc) -> u64
     ensures { result ≡ min (file_len a.now) (2 ^ 64 - 1) }
 {
-    len_of_pools(a)
-        .saturating_add(4)
-        .saturating_add(len_of_definitions(a))
-        .saturating_add(len_of_counted(&a.bodies))
+    len_before_bodies(a).saturating_add(len_of_all(&a.bodies))
 }

@@ -21,7 +21,7 @@ pub use laws::code_law;
 pub use marks::Marks;
 pub use pass::pass_code;
 pub use place::read_place;
-pub use put::{offset_at, put_code, starts_of};
+pub use put::{offset_at, put_code, put_code_over, put_starts};
 pub use read::{read_code, read_code_within};
 pub use reading::Reading;
 pub use scan::Scan;

@@ -9,7 +9,7 @@ use std::marker::Model;
 const UNMARKED: u32 = u32::MAX;
 
 /// How many places the table gets at once, at least.
-const MORE: usize = 256;
+const MORE: usize = 64;
 
 /// Where the instructions of some code start in its canonical bytes, by the places where they start in the bytes as they
 /// were read.

@@ -9,7 +9,7 @@ ghost use Rattle.abc_tables.specs.CodeBytes.{instr_len as len_of, offset as offs
 ghost use Rattle.abc_tables.specs.Ready.{CanSpell, AllCanSpell, Small, IsReady};
 
 use abc_base::{NoMemory, Table};
-use abc_tables::{Instr, code_len, instr_len};
+use abc_tables::{Instr, instr_len};
 use abc_varint::{put_count, put_s24, put_u8, put_u30, put_u32};
 use std::alloc::Global;
 
@@ -50,20 +50,21 @@ pub fn offset_at(code: &Table<Instr>, index: u32) -> u32
     here
 }
 
-/// Where each instruction starts in the canonical code, and where the last one ends.
+/// Puts where each instruction starts in the canonical code, and where the last one ends, in the place of the starts that
+/// there are. So the memory of a list serves one code after the other.
 #[tactic(auto, unfolding(abc_tables::specs::CodeBytes::canonical_starts))]
-pub fn starts_of(alloc: Global, code: &Table<Instr>) -> Result<Table<u32>, NoMemory>
+pub fn put_starts(code: &Table<Instr>, starts: &mut Table<u32>) -> Result<(), NoMemory>
     requires { total code.now < 2 ^ 23 }
-    ensures { IfOk result (λ ss. ss ≡ canonical_starts code.now) }
+    ensures { OnOk result (starts.new ≡ canonical_starts code.now) }
 {
-    let mut starts = Table::new(alloc);
+    starts.truncate(0);
     let mut here = 0;
     for instr in code.as_slice() {
         starts.push(here)?;
         here += short_len(instr);
     }
     starts.push(here)?;
-    Ok(starts)
+    Ok(())
 }
 
 /// Appends the offset from a base to where the target starts.
@@ -225,29 +226,31 @@ pub fn put_instr(
 /// Appends the instructions of canonical code, which start so.
 #[tactic(auto, using(abc_varint::proofs::Putting::stays, std::proofs::Common::append_assoc))]
 fn put_instrs(code: &Table<Instr>, starts: &[u32], out: &mut Vec<u8>) -> Result<(), NoMemory>
-    requires can { AllCanSpell (length starts.now - 1) code.now }
-    requires some { 0 < length starts.now }
-    requires small { Small starts.now (length starts.now - 1) }
-    requires short { total code.now < 2 ^ 23 }
+    requires ready { IsReady code.now }
+    requires starts { starts.now ≡ canonical_starts code.now }
     ensures { Puts out.old.items out.new.items result (instrs_bytes starts.now 0 code.now) }
 {
     let mut here = 0;
-    for instr in code.as_slice() {
-        let next = here + short_len(instr);
-        put_instr(instr, starts, here, next, out)?;
+    for i in 0..code.len() {
+        let next = starts[i + 1];
+        put_instr(code.get(i), starts, here, next, out)?;
         here = next;
     }
     Ok(())
 }
 
-/// Appends the number of bytes of the canonical code, and its instructions, which start so.
+/// Appends the canonical code as `put_code` does, over its starts. Where memory runs out, the old bytes are still the front.
 #[tactic(auto, unfolding(abc_tables::specs::CodeBytes::code_bytes), using(abc_varint::proofs::Putting::stays, std::proofs::Common::append_assoc))]
-fn append_code(code: &Table<Instr>, starts: &Table<u32>, out: &mut Vec<u8>) -> Result<(), NoMemory>
+pub fn put_code_over(
+    code: &Table<Instr>,
+    starts: &Table<u32>,
+    out: &mut Vec<u8>,
+) -> Result<(), NoMemory>
     requires ready { IsReady code.now }
     requires starts { starts.now ≡ canonical_starts code.now }
     ensures { Puts out.old.items out.new.items result (code_bytes code.now) }
 {
-    put_u30(code_len(code) as u32, out)?;
+    put_u30(*starts.get(code.len()), out)?;
     put_instrs(code, starts.as_slice(), out)?;
     Ok(())
 }
@@ -260,9 +263,10 @@ pub fn put_code(alloc: Global, code: &Table<Instr>, out: &mut Vec<u8>) -> Result
     ensures ok { OnOk result (out.new.items ≡ out.old.items ++ code_bytes code.now) }
     ensures err { OnErr result (out.new.items ≡ out.old.items) }
 {
-    let starts = starts_of(alloc, code)?;
+    let mut starts = Table::new(alloc);
+    put_starts(code, &mut starts)?;
     let len = out.len();
-    let done = append_code(code, &starts, out);
+    let done = put_code_over(code, &starts, out);
     if done.is_err() {
         out.truncate(len);
     }

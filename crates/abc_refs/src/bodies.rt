@@ -38,6 +38,13 @@ impl Indexed for Instr {
         }
     }
 
+    fn may_change(&self) -> bool {
+        match instr_ref(self) {
+            Some(index) => index.pool != Pool::NoPool,
+            None => false,
+        }
+    }
+
     fn blank(_alloc: Global) -> Instr {
         Instr::Plain(0)
     }

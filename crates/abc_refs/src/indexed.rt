@@ -1,4 +1,4 @@
-ghost use Rattle.std.specs.Prelude.{◌≡◌, ◌++◌, ◌∷◌, [], map, IfOk, OnOk};
+ghost use Rattle.std.specs.Prelude.{◌≡◌, ◌++◌, ◌∷◌, [], map, IfOk, IsFalse, OnOk};
 ghost use Rattle.std.specs.List.{flat_map};
 ghost use Rattle.abc_refs.specs.Nodes.{number_in};
 ghost use Rattle.abc_refs.specs.Refs.{each, ref};
@@ -24,6 +24,13 @@ pub trait Indexed: Drop {
     /// Adds the indices of the value to those that were found.
     fn note_refs(&self, found: &mut Table<Ref>) -> Result<(), NoMemory>
         ensures { OnOk result (found.new ≡ found.old ++ refs self.now) };
+
+    /// Whether new numbers may change the value.
+    fn may_change(&self) -> bool
+        ensures { IsFalse result → (f : Renumbering) → renumbered f self.now ≡ self.now }
+    {
+        true
+    }
 
     /// A value that stands in the place of one that is being renumbered. It takes no memory.
     fn blank(alloc: Global) -> Self;
@@ -51,9 +58,11 @@ impl<T: Indexed> Indexed for Table<T> {
 
     fn renumber(&mut self, alloc: Global, numbers: &Numbers) {
         for i in 0..self.len() {
-            let mut item = self.replace(i, T::blank(alloc));
-            item.renumber(alloc, numbers);
-            self.set(i, item);
+            if self.get(i).may_change() {
+                let mut item = self.replace(i, T::blank(alloc));
+                item.renumber(alloc, numbers);
+                self.set(i, item);
+            }
         }
     }
 }

@@ -3,10 +3,10 @@ use Rattle.std.proofs.Common.{◌≡◌, ℕ, zero, suc, ◌+◌, ◌-◌, ◌/�
 use Rattle.std.specs.List.{All, flat_map}
 use Rattle.std.proofs.lemmas.List.Concat.{flat_map-append}
 use Rattle.std.proofs.lemmas.Bool.{cases_lt, lt-ltb, le-ltb}
-use Rattle.std.proofs.lemmas.List.{take_more, append-nil}
+use Rattle.std.proofs.lemmas.List.{take_all, take_more, append-nil}
 use Rattle.abc_format.specs.BaseNumbers.{groups_of, number_bytes}
 use Rattle.abc_tables.specs.declared.code.Instr.{Instr}
-use Rattle.abc_tables.specs.Starts.{start}
+use Rattle.abc_tables.specs.Starts.{size, start}
 use Rattle.abc_tables.specs.CodeBytes.{instr_len, sized, instr_bytes, instrs_bytes, canonical_starts, code_len}
 use Rattle.abc_tables.specs.Ready.{AllUpTo, CanSpell, AllCanSpell, Small}
 use Rattle.abc_tables.proofs.Resolving.{drop_read, length-starts}
@@ -112,3 +112,29 @@ canonical_count is = length-starts 0 (sized is) ∙ ap suc (sized_length is)
 pub canonical_small : (is : List Instr) → code_len is < 2 ^ 23 → Small (canonical_starts is) (length is)
 unfolding canonical_starts
 canonical_small is lt = λ t le. omega (arith, starts_from (sized is) t (omega (arith, sized_length is)), start_small (sized is) t)
+
+take_sized : (is : List Instr) (t : ℕ) → take t (sized is) ≡ sized (take t is)
+take_sized is zero = refl
+take_sized [] (suc t) = refl
+take_sized (i ∷ is) (suc t) = ap (λ s. (i, instr_len i) ∷ s) (take_sized is t)
+
+pub canonical_start : (is : List Instr) (t : ℕ) → t ≤ length is → get_or (canonical_starts is) t 0 ≡ code_len (take t is)
+unfolding canonical_starts
+canonical_start is t le = starts_from (sized is) t (omega (arith, sized_length is)) ∙ ap size (take_sized is t)
+
+pub canonical_end : (is : List Instr) → get_or (canonical_starts is) (length is) 0 ≡ code_len is
+canonical_end is = canonical_start is (length is) (omega arith) ∙ ap code_len (take_all (length is) is (omega arith))
+
+start_more : (is : List Instr) (i : ℕ) (x : Instr) → i < length is → x ≡ get_or is i x → get_or (canonical_starts is) (i + 1) 0 ≡ get_or (canonical_starts is) i 0 + instr_len x
+start_more is i x lt e =
+    let t : take (i + 1) is ≡ take i is ++ x ∷ [] = take_more is i x lt ∙ ap (λ (y : Instr). take i is ++ y ∷ []) (sym e) in
+    let len : code_len (take (i + 1) is) ≡ code_len (take i is) + instr_len x = ap code_len t ∙ len-append (take i is) (x ∷ []) ∙ ap (λ (k : ℕ). code_len (take i is) + k) (add-zero (instr_len x)) in
+    omega (arith, canonical_start is (i + 1) (omega arith), len, canonical_start is i (omega arith))
+
+-- as `put_more`, where the starts tell the places
+pub put_between : (ss old mid new : List ℕ) (is : List Instr) (i here next : ℕ) (x : Instr) → ss ≡ canonical_starts is → i < length is → x ≡ get_or is i x → mid ≡ old ++ instrs_bytes ss 0 (take i is) → here ≡ get_or ss i 0 → next ≡ get_or ss (i + 1) 0 → new ≡ mid ++ instr_bytes ss here next x
+    → new ≡ old ++ instrs_bytes ss 0 (take (i + 1) is)
+put_between ss old mid new is i here next x s lt e m h n g =
+    let at : get_or ss i 0 ≡ code_len (take i is) = ap (λ (l : List ℕ). get_or l i 0) s ∙ canonical_start is i (omega arith) in
+    let more : get_or ss (i + 1) 0 ≡ get_or ss i 0 + instr_len x = rw s (start_more is i x lt e) in
+    (put_more ss old mid new is i here next x lt e m (h ∙ at) (n ∙ more ∙ ap (λ (k : ℕ). k + instr_len x) (sym h)) g).0

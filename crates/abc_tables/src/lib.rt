@@ -24,7 +24,7 @@ pub use instructions::{Code, code_len, count_len, instr_len};
 pub use methods::{Metadata, Method, OptionValue, ValueKind};
 pub use names::{Multiname, MultinameKind, Namespace, NsKind};
 pub use opcodes::{Form, OpInfo, Pool, mnemonic, opcode};
-pub use ready::{are_bodies_ready, is_ready, is_ready_body};
+pub use ready::{are_bodies_ready, is_ready, is_ready_body, ready_len};
 pub use sizes::{U30_LIMIT, sizes_of};
 pub use tables::{Abc, Eight, Sizes};
 pub use traits::{TraitBody, TraitInfo, TraitKind};

@@ -1,5 +1,6 @@
-ghost use Rattle.std.specs.Prelude.{◌≡◌, ◌↔◌, ◌≤◌, ◌<◌, ◌^◌, All, IsTrue, Some, length};
+ghost use Rattle.std.specs.Prelude.{◌≡◌, ◌↔◌, ◌≤◌, ◌<◌, ◌^◌, All, IsTrue, MatchOption, Some, length};
 ghost use Rattle.abc_tables.specs.Bodies.{IsReadyBody, IsWithin};
+ghost use Rattle.abc_tables.specs.CodeBytes.{code_len as total};
 ghost use Rattle.abc_tables.specs.Opcodes.{form_at};
 ghost use Rattle.abc_tables.specs.Ready.{AllCanSpell, AllUpTo, CanSpell, IsReady};
 
@@ -62,12 +63,29 @@ fn each_can_spell(code: &[Instr], count: usize) -> bool
     code.iter().all(|instr| can_spell(instr, count))
 }
 
-/// Whether some bytes spell the code.
+/// How many bytes the code has in its canonical spelling, if some bytes spell it.
 #[tactic(auto, using(crate::proofs::Readiness::spelled))]
+fn ready_code_len(code: &Table<Instr>) -> Option<u64>
+    ensures { MatchOption result (IsReady code.now → ⊥) (λ n. IsReady code.now × (n ≡ total code.now)) }
+{
+    let len = code_len(code);
+    if len >= CODE_LIMIT {
+        return None;
+    }
+    if !each_can_spell(code.as_slice(), code.len()) {
+        return None;
+    }
+    Some(len)
+}
+
+/// Whether some bytes spell the code.
 pub fn is_ready(code: &Table<Instr>) -> bool
     ensures { IsTrue result ↔ IsReady code.now }
 {
-    code_len(code) < CODE_LIMIT && each_can_spell(code.as_slice(), code.len())
+    match ready_code_len(code) {
+        Some(_) => true,
+        None => false,
+    }
 }
 
 fn is_within(handler: &Handler, count: usize) -> bool
@@ -84,11 +102,26 @@ fn are_all_within(handlers: &[Handler], count: usize) -> bool
     handlers.iter().all(|handler| is_within(handler, count))
 }
 
+/// How many bytes the body's code has in its canonical spelling, if some bytes spell it, and the body's exceptions name
+/// places in it.
+pub fn ready_len(body: &Body) -> Option<u64>
+    ensures { MatchOption result (IsReadyBody body.now → ⊥) (λ n. IsReadyBody body.now × (n ≡ total (body.now).code)) }
+{
+    let len = ready_code_len(&body.code)?;
+    if !are_all_within(body.handlers.as_slice(), body.code.len()) {
+        return None;
+    }
+    Some(len)
+}
+
 /// Whether some bytes spell the body's code, and its exceptions name places in it.
 pub fn is_ready_body(body: &Body) -> bool
     ensures { IsTrue result ↔ IsReadyBody body.now }
 {
-    is_ready(&body.code) && are_all_within(body.handlers.as_slice(), body.code.len())
+    match ready_len(body) {
+        Some(_) => true,
+        None => false,
+    }
 }
 
 /// Whether that is so of every body.
