@@ -15,5 +15,6 @@ mod walk;
 
 pub use flow::Flow;
 pub use handled::Cover;
+pub use states::MOST_VALUES;
 pub use step::{Merged, Onward, Refusal, Step, Written};
 pub use walk::{Memory, check_flow};

@@ -1,11 +1,16 @@
-ghost use Rattle.std.specs.Prelude.{◌≡◌, ◌<◌, ◌+◌, ◌∷◌, ◌++◌, ◌^◌, [], Some, None, get_or, length, replicate, set, slice_get, vec_len, MatchOption, OnOk};
+ghost use Rattle.std.specs.Prelude.{◌≡◌, ◌<◌, ◌+◌, ◌∷◌, ◌++◌, ◌^◌, [], Some, None, get_or, length, replicate, set, slice_get, vec_len, MatchOption, MatchResult, OnOk};
 ghost use Rattle.abc_worklist.specs.Work.{at};
-ghost use Rattle.abc_flow.specs.Kept.{AreNumbers, known_at, numbered};
+ghost use Rattle.abc_flow.specs.Kept.{AreNumbers, known_at, numbered, size_of};
 
 use abc_base::{NoMemory, Table};
 use abc_typing::State;
 use std::alloc::Global;
 use std::marker::Model;
+
+/// So many operands, scopes and locals may the states have that are kept of a method, all together. Where there would be more,
+/// memory is said to have run out: a method of few bytes may have many places that are led to, and at each so many locals that
+/// the states would not fit into any memory.
+pub const MOST_VALUES: usize = 1 << 26;
 
 /// What is known at the places of a method. Few places have a state, and only these take more than four bytes.
 #[derive(Drop)]
@@ -13,6 +18,8 @@ pub struct States {
     /// For each place 0, or one more than the number of its state.
     numbers: Vec<u32>,
     known: Table<State>,
+    /// How many values more may be kept.
+    room: usize,
 }
 
 impl Model for States {
@@ -38,10 +45,30 @@ fn state_numbered(known: &Table<State>, number: u32) -> Option<&State>
     }
 }
 
+/// What is left of the room for some values, if they fit.
+fn room_beside(room: usize, count: usize) -> Result<usize, NoMemory>
+    ensures { MatchResult result (λ left. left + count ≡ room) (λ _. room < count) }
+{
+    match room.checked_sub(count) {
+        Some(left) => Ok(left),
+        None => Err(NoMemory),
+    }
+}
+
+/// What is left of the room for the values of a state, if they fit.
+fn room_after(room: usize, state: &State) -> Result<usize, NoMemory>
+    ensures { MatchResult result (λ left. left + size_of state.now ≡ room) (λ _. room < size_of state.now) }
+{
+    let room = room_beside(room, state.stack.len())?;
+    let room = room_beside(room, state.scopes.len())?;
+    room_beside(room, state.locals.len())
+}
+
 /// A place that has no state gets one.
 fn put_first(
     numbers: &mut Vec<u32>,
     known: &mut Table<State>,
+    room: &mut usize,
     place: usize,
     state: State,
 ) -> Result<(), NoMemory>
@@ -51,6 +78,7 @@ fn put_first(
     ensures numbers { AreNumbers numbers.new.items (length known.new) }
     ensures known { OnOk result (known_at numbers.new.items known.new ≡ set (known_at numbers.old.items known.old) place (Some state)) }
 {
+    *room = room_after(*room, &state)?;
     known.push(state)?;
     numbers[place] = known.len() as u32;
     Ok(())
@@ -64,6 +92,7 @@ impl States {
         States {
             numbers: Vec::new(alloc),
             known: Table::new(alloc),
+            room: MOST_VALUES,
         }
     }
 
@@ -72,6 +101,7 @@ impl States {
         requires { count < 2 ^ 32 }
         ensures { OnOk result (self.new ≡ replicate count None) }
     {
+        self.room = MOST_VALUES;
         self.known.truncate(0);
         self.numbers.clear();
         self.numbers.resize(count, 0)?;
@@ -96,7 +126,13 @@ impl States {
         let place = place as usize;
         let number = self.numbers[place];
         if number == 0 {
-            return put_first(&mut self.numbers, &mut self.known, place, state);
+            return put_first(
+                &mut self.numbers,
+                &mut self.known,
+                &mut self.room,
+                place,
+                state,
+            );
         }
         self.known.set(number as usize - 1, state);
         Ok(())
