@@ -1,6 +1,5 @@
 -- How the states of places are kept: for each place 0, or one more than the number of its state.
-use Rattle.std.specs.Prelude.{◌≡◌, ℕ, zero, suc, ◌+◌, ◌<◌, ◌^◌, List, [], ◌∷◌, Option, None, Some, length, map, slice_get}
-use Rattle.abc_typing.specs.declared.state.State.{State}
+use Rattle.std.specs.Prelude.{◌≡◌, ℕ, zero, suc, ◌<◌, ◌^◌, List, [], ◌∷◌, Option, None, Some, length, map, slice_get}
 
 abbrev pub numbered : {X : Type 0} → List X → ℕ → Option X
 numbered known zero = None
@@ -22,7 +21,3 @@ pub record AreNumbers (numbers : List ℕ) (count : ℕ) : Type 0 where
   pub apart : (i j n : ℕ) → slice_get numbers i ≡ Some (suc n) → slice_get numbers j ≡ Some (suc n) → i ≡ j
   pub counted : count_of numbers ≡ count
   pub few : length numbers < 2 ^ 32
-
--- how many values a state has
-abbrev pub size_of : State → ℕ
-size_of s = length s.stack + length s.scopes + length s.locals
