@@ -3,8 +3,8 @@
 
 Use: hostile.py PROGRAM FOLDER [--seconds 60] [--only WORD ..]. The inputs are made in the folder: those of files.py and those of
 hurting.py; listings of the files are assembled again. Programs that end at a limit are run with the greatest limits too. A run that is
-stopped by a signal, that lasts longer than so many seconds, that finds no memory where it may take 4 * 10^9 bytes, or takes more than
-2 * 10^9 at the default limits is told at the end, and makes the status 1.
+stopped by a signal, that lasts longer than so many seconds, that finds no memory where it may take 4 * 10^9 bytes (or does find it,
+where it is to say that there is none), or takes more than 2 * 10^9 at the default limits is told at the end, and makes the status 1.
 """
 import argparse
 import os
@@ -91,7 +91,8 @@ class Table:
         status, clock, cpu, peak = measured(self.abc, words, path, out, self.seconds)
         shown = "run, greatest" if words == GREATEST else words[0]
         print(LINE.format(name, shown, status, f"{clock:.2f}", f"{cpu:.2f}", f"{peak / 1e6:.0f}"), flush=True)
-        if status > 128 or status == NO_MEMORY or peak > MOST and words != GREATEST:
+        wants_memory = words == ["check"] and name in hurting.TOO_MANY_VALUES
+        if status > 128 or (status == NO_MEMORY) != wants_memory or peak > MOST and words != GREATEST:
             self.bad.append(f"{shown} {name}")
         return status
 

@@ -113,9 +113,42 @@ def nests():
     return of_bodies((3, code + LAST + b"\x29" + LAST, exceptions))
 
 
+NEXT = b"\x10\0\0\0"
+SCOPE = b"\xd0\x30"
+
+
 def states():
     """A body with 65,535 locals and 2^13 branches to the next place: a state for each is 2^29 kinds."""
-    return of_bodies((65535, b"\x10\0\0\0" * (1 << 13) + LAST, []))
+    return of_bodies((65535, NEXT * (1 << 13) + LAST, []))
+
+
+def scope_states():
+    """A body that pushes 65,000 scopes, and then has 2^14 branches to the next place."""
+    return of_bodies((1, SCOPE * 65000 + NEXT * (1 << 14) + LAST, []), max_scope=65535)
+
+
+def told_states():
+    """A body with 32,767 locals that pushes as many scopes, and then has 2^11 branches to the next place, which hang as leaves in a
+    tree of handlers: each handler is told what is seen below it."""
+    begin, branches = SCOPE * 32767, NEXT * (1 << 11)
+    end, exceptions, size = len(begin) + len(branches), [], len(branches)
+    while size >= len(NEXT):
+        exceptions += [exception(at, at + size, end + 1) for at in range(len(begin), end, size)]
+        size //= 2
+    return of_bodies((32767, begin + branches + LAST + b"\x29" + LAST, exceptions), max_scope=65535)
+
+
+def wide_branches():
+    """A body with 65,535 locals and 2^13 branches to its first place, each of which compares all locals."""
+    code = bytearray(b"\x09")
+    while len(code) < 5 << 13:
+        code += b"\x26\x11" + distance(-(len(code) + 5))
+    return of_bodies((65535, bytes(code) + LAST, []))
+
+
+def wide_bodies():
+    """2^13 bodies of one instruction with 65,535 locals each."""
+    return of_bodies(*[(65535, LAST, [])] * (1 << 13))
 
 
 FILES = {
@@ -126,7 +159,13 @@ FILES = {
     "covered_branches": covered_branches,
     "nests": nests,
     "states": states,
+    "scope_states": scope_states,
+    "told_states": told_states,
+    "wide_branches": wide_branches,
+    "wide_bodies": wide_bodies,
 }
+# `check` answers that memory ran out, since the states of a body would have too many values.
+TOO_MANY_VALUES = ("states", "scope_states", "told_states")
 
 
 def linked(strings, names, methods, items, bodies, spaces="ns Package 0", sets=""):

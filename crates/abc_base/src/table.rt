@@ -1,5 +1,5 @@
 ghost use Rattle.std.specs.Prelude.{◌≡◌, ◌<◌, ◌++◌, ◌∷◌, [], List, ℕ, length, get_or, OnOk, OnErr, slice_get, MatchOption, None, Some, IfOk};
-ghost use Rattle.std.specs.Prelude.{set, take};
+ghost use Rattle.std.specs.Prelude.{◌-◌, replicate, set, take};
 
 use crate::memory::NoMemory;
 use std::alloc::Global;
@@ -118,6 +118,33 @@ impl<T: Copy + Drop> Table<T> {
         ensures { result ≡ slice_get self.now i }
     {
         self.items.get(i).copied()
+    }
+
+    /// A copy of some values.
+    pub fn from_slice(alloc: Global, items: &[T]) -> Result<Table<T>, NoMemory>
+        ensures { IfOk result (λ t. t ≡ items.now) }
+    {
+        let items = Vec::from_slice(alloc, items)?;
+        Ok(Table { items })
+    }
+
+    /// Adds values at the end. Where memory runs out the list stays as it was.
+    pub fn extend_from_slice(&mut self, items: &[T]) -> Result<(), NoMemory>
+        ensures ok { OnOk result (self.new ≡ self.old ++ items.now) }
+        ensures err { OnErr result (self.new ≡ self.old) }
+    {
+        self.items.extend_from_slice(items)?;
+        Ok(())
+    }
+
+    /// Adds one value so often at the end that there are so many values, or takes those beyond them away. Where memory runs out
+    /// the list stays as it was.
+    pub fn resize(&mut self, count: usize, value: T) -> Result<(), NoMemory>
+        ensures ok { OnOk result (self.new ≡ take count self.old ++ replicate (count - length self.old) value) }
+        ensures err { OnErr result (self.new ≡ self.old) }
+    {
+        self.items.resize(count, value)?;
+        Ok(())
     }
 }
 

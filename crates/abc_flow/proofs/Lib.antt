@@ -2,7 +2,6 @@ pub mod Seen
 pub mod Places
 pub mod Walks
 pub mod Numbers
-pub mod Copied
 pub mod Covered
 pub mod Ranges
 pub mod Told

@@ -10,23 +10,7 @@ pub(crate) fn copy_over<T: Copy + Drop>(copy: &mut Table<T>, items: &[T]) -> Res
     ensures { OnOk result (copy.new ≡ items.now) }
 {
     copy.truncate(0);
-    for item in items {
-        copy.push(*item)?;
-    }
-    Ok(())
-}
-
-/// Copies a stack over another, whose memory is used again.
-#[tactic(auto, using(crate::proofs::Copied::more_stack, crate::proofs::Copied::no_stack))]
-fn copy_stack(copy: &mut Stack<Kind>, stack: &Stack<Kind>) -> Result<(), NoMemory>
-    ensures { OnOk result (copy.new ≡ stack.now) }
-{
-    copy.clear();
-    let mut depth = stack.len();
-    while depth > 0 {
-        depth -= 1;
-        copy.push(stack.get_or(depth, Kind::Any))?;
-    }
+    copy.extend_from_slice(items)?;
     Ok(())
 }
 
@@ -34,21 +18,10 @@ fn copy_stack(copy: &mut Stack<Kind>, stack: &Stack<Kind>) -> Result<(), NoMemor
 pub(crate) fn copy_state_over(copy: &mut State, state: &State) -> Result<(), NoMemory>
     ensures { OnOk result (copy.new ≡ state.now) }
 {
-    copy_stack(&mut copy.stack, &state.stack)?;
+    copy.stack.copy_from(&state.stack)?;
     copy_over(&mut copy.scopes, state.scopes.as_slice())?;
     copy_over(&mut copy.locals, state.locals.as_slice())?;
     Ok(())
-}
-
-/// A copy of a list.
-pub(crate) fn copy_table<T: Copy + Drop>(alloc: Global, items: &[T]) -> Result<Table<T>, NoMemory>
-    ensures { IfOk result (λ t. t ≡ items.now) }
-{
-    let mut copy = Table::new(alloc);
-    for item in items {
-        copy.push(*item)?;
-    }
-    Ok(copy)
 }
 
 /// A copy of a state.
@@ -56,8 +29,8 @@ pub(crate) fn copy_state(alloc: Global, state: &State) -> Result<State, NoMemory
     ensures { IfOk result (λ s. s ≡ state.now) }
 {
     let stack = state.stack.copy(alloc)?;
-    let scopes = copy_table(alloc, state.scopes.as_slice())?;
-    let locals = copy_table(alloc, state.locals.as_slice())?;
+    let scopes = Table::from_slice(alloc, state.scopes.as_slice())?;
+    let locals = Table::from_slice(alloc, state.locals.as_slice())?;
     Ok(State {
         stack,
         scopes,

@@ -1,6 +1,6 @@
-ghost use Rattle.std.specs.Prelude.{◌≡◌, ◌<◌, ◌+◌, ◌∷◌, ◌++◌, ◌^◌, [], Some, None, get_or, length, replicate, set, slice_get, vec_len, MatchOption, MatchResult, OnOk};
+ghost use Rattle.std.specs.Prelude.{◌≡◌, ◌<◌, ◌+◌, ◌∷◌, ◌++◌, ◌^◌, [], Some, None, get_or, length, replicate, set, slice_get, vec_len, MatchOption, OnOk};
 ghost use Rattle.abc_worklist.specs.Work.{at};
-ghost use Rattle.abc_flow.specs.Kept.{AreNumbers, known_at, numbered, size_of};
+ghost use Rattle.abc_flow.specs.Kept.{AreNumbers, known_at, numbered};
 
 use abc_base::{NoMemory, Table};
 use abc_typing::State;
@@ -45,25 +45,6 @@ fn state_numbered(known: &Table<State>, number: u32) -> Option<&State>
     }
 }
 
-/// What is left of the room for some values, if they fit.
-fn room_beside(room: usize, count: usize) -> Result<usize, NoMemory>
-    ensures { MatchResult result (λ left. left + count ≡ room) (λ _. room < count) }
-{
-    match room.checked_sub(count) {
-        Some(left) => Ok(left),
-        None => Err(NoMemory),
-    }
-}
-
-/// What is left of the room for the values of a state, if they fit.
-fn room_after(room: usize, state: &State) -> Result<usize, NoMemory>
-    ensures { MatchResult result (λ left. left + size_of state.now ≡ room) (λ _. room < size_of state.now) }
-{
-    let room = room_beside(room, state.stack.len())?;
-    let room = room_beside(room, state.scopes.len())?;
-    room_beside(room, state.locals.len())
-}
-
 /// A place that has no state gets one.
 fn put_first(
     numbers: &mut Vec<u32>,
@@ -78,7 +59,9 @@ fn put_first(
     ensures numbers { AreNumbers numbers.new.items (length known.new) }
     ensures known { OnOk result (known_at numbers.new.items known.new ≡ set (known_at numbers.old.items known.old) place (Some state)) }
 {
-    *room = room_after(*room, &state)?;
+    let left = room.checked_sub(state.stack.len()).ok_or(NoMemory)?;
+    let left = left.checked_sub(state.scopes.len()).ok_or(NoMemory)?;
+    *room = left.checked_sub(state.locals.len()).ok_or(NoMemory)?;
     known.push(state)?;
     numbers[place] = known.len() as u32;
     Ok(())

@@ -1,7 +1,7 @@
 -- What a method starts with, its handlers, and what it is as a whole.
 use Rattle.std.proofs.Common.{◌≡◌, ℕ, zero, suc, ◌+◌, ◌-◌, ◌<◌, ◌≤◌, List, [], ◌∷◌, ◌++◌, Bool, true, false, length, take, drop, map, get_or, refl, sym, ap, ◌∙◌, append_assoc, arith}
 use Rattle.std.specs.Prelude.{cond, replicate}
-use Rattle.std.proofs.lemmas.List.{append-nil}
+use Rattle.std.proofs.lemmas.List.{append-nil, take-replicate}
 use Rattle.abc_program.specs.Linked.{LinkedFile, layout_of}
 use Rattle.abc_program.specs.declared.part.LayoutId.{LayoutId}
 use Rattle.abc_program.specs.declared.part.Part.TheVariants as parts
@@ -17,7 +17,7 @@ use Rattle.abc_typing.specs.declared.home.Home.{Home}
 use Rattle.abc_typing.specs.declared.state.Scope.{Scope}
 use Rattle.abc_typing.specs.declared.state.State.{State}
 use Rattle.abc_frames.specs.Frames.{catch_in}
-use Rattle.abc_frames.proofs.Finds.{next_left, none_left, take_next}
+use Rattle.abc_frames.proofs.Finds.{next_left, none_left}
 
 -- ---- what a call fills
 
@@ -56,33 +56,17 @@ catches_all l b hs k list whole le e = sym (append-nil list) ∙ ap (λ (ys : Li
 
 -- ---- locals
 
-blank_at : {A : Type 0} (n k : ℕ) (d : A) → get_or (replicate n d) k d ≡ d
-blank_at zero k d = refl
-blank_at (suc n) zero d = refl
-blank_at (suc n) (suc k) d = blank_at n k d
+padded : {A : Type 0} (xs : List A) (n m : ℕ) (d : A) → n ≤ m → take n xs ++ replicate (n - length xs) d ≡ take n (xs ++ replicate m d)
+padded [] zero m d h = refl
+padded {A} [] (suc n) m d h = let z : suc n - length {A = A} [] ≡ suc n = omega arith in ap (λ (k : ℕ). replicate k d) z ∙ sym (take-replicate (suc n) m d h)
+padded (x ∷ xs) zero m d h = let z : 0 - length (x ∷ xs) ≡ 0 = omega arith in ap (λ (k : ℕ). replicate k d) z
+padded {A} (x ∷ xs) (suc n) m d h =
+    let z : suc n - length (x ∷ xs) ≡ n - length xs = omega arith in
+    ap (λ (k : ℕ). x ∷ (take n xs ++ replicate k d)) z ∙ ap (λ (ys : List A). x ∷ ys) (padded xs n m d (omega arith))
 
-padded : {A : Type 0} (xs : List A) (n k : ℕ) (d : A) → get_or (xs ++ replicate n d) k d ≡ get_or xs k d
-padded [] n k d = blank_at n k d
-padded (x ∷ xs) n zero d = refl
-padded (x ∷ xs) n (suc k) d = padded xs n k d
-
-blank_wide : {A : Type 0} (n k : ℕ) (d : A) → k < n → k < length (replicate n d)
-blank_wide zero k d h = absurd (omega arith)
-blank_wide (suc n) zero d h = omega arith
-blank_wide (suc n) (suc k) d h = let z = blank_wide n k d (omega arith) in omega (arith, z)
-
-wide : {A : Type 0} (xs : List A) (n k : ℕ) (d : A) → k < n → k < length (xs ++ replicate n d)
-wide [] n k d h = blank_wide n k d h
-wide (x ∷ xs) n k d h = let z = wide xs n k d h in omega (arith, z)
-
-pub padded_next : {A : Type 0} (xs : List A) (n k : ℕ) (d x : A) (old new : List A) → k < n → x ≡ get_or xs k d → old ≡ take k (xs ++ replicate n d) → new ≡ old ++ x ∷ [] → new ≡ take (k + 1) (xs ++ replicate n d)
-padded_next {A} xs n k d x old new h at before is =
-    let next : suc k ≡ k + 1 = omega arith in
-    is
-    ∙ ap (λ (ys : List A). ys ++ x ∷ []) before
-    ∙ ap (λ (y : A). take k (xs ++ replicate n d) ++ y ∷ []) (at ∙ sym (padded xs n k d))
-    ∙ sym (take_next (xs ++ replicate n d) k d (wide xs n k d h))
-    ∙ ap (λ (m : ℕ). take m (xs ++ replicate n d)) next
+-- a copy that is cut off or filled up
+pub filled_up : {A : Type 0} (xs ys zs : List A) (n : ℕ) (d : A) → ys ≡ xs → zs ≡ take n ys ++ replicate (n - length ys) d → zs ≡ take n (xs ++ replicate n d)
+filled_up {A} xs ys zs n d e is = is ∙ ap (λ (us : List A). take n us ++ replicate (n - length us) d) e ∙ padded xs n n d (omega arith)
 
 abbrev pub state_of : List Kind → List Scope → List Kind → State
 state_of s x ks = record { stack = s; scopes = x; locals = ks }

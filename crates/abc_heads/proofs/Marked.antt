@@ -1,5 +1,5 @@
 -- Marks, one after the other.
-use Rattle.std.proofs.Common.{◌≡◌, ◌≢◌, ℕ, zero, suc, ◌+◌, ◌≤◌, ◌<◌, List, [], ◌∷◌, ◌++◌, Some, None, length, set, take, get_or, refl, sym, ap, ◌∙◌, subst, arith, ◌⊎◌, inl, inr, length-set}
+use Rattle.std.proofs.Common.{◌≡◌, ◌≢◌, ℕ, zero, suc, ◌+◌, ◌-◌, ◌≤◌, ◌<◌, List, [], ◌∷◌, ◌++◌, Some, None, length, set, take, get_or, refl, sym, ap, ◌∙◌, subst, arith, ◌⊎◌, inl, inr, length-set}
 use Rattle.std.specs.Prelude.{Bool, true, false, Option, slice_get, replicate}
 use Rattle.std.proofs.lemmas.List.{append-nil, length-replicate}
 use Rattle.std.proofs.lemmas.Bool.{cases_eq}
@@ -11,6 +11,14 @@ use Rattle.abc_typing.specs.declared.catch.Catch.{Catch}
 use Rattle.abc_typing.proofs.Member.{in_append, in_left, in_right}
 use Rattle.abc_flow.specs.Walking.{AreHeads, holds_so, is_head, targets_at, targets_in}
 use Rattle.abc_heads.specs.Marking.{AreHeadsOf, Marks, code_targets, handler_places}
+
+-- a list of none, filled up
+pub none_marked : (xs ys : List Bool) (n : ℕ) → xs ≡ [] → ys ≡ take n xs ++ replicate (n - length xs) false → ys ≡ replicate n false
+none_marked xs ys n e is = is ∙ ap (λ (us : List Bool). take n us ++ replicate (n - length us) false) e ∙ blank n
+  where
+    blank : (k : ℕ) → take k [] ++ replicate (k - length {A = Bool} []) false ≡ replicate k false
+    blank zero = refl
+    blank (suc k) = let z : suc k - length {A = Bool} [] ≡ suc k = omega arith in ap (λ (j : ℕ). replicate j false) z
 
 head_set : (marks : List Bool) (t : ℕ) → t < length marks → is_head (set marks t true) t ≡ true
 head_set [] t h = absurd (omega arith)

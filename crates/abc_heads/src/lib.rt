@@ -11,13 +11,12 @@ use abc_typing::Catch;
 use std::alloc::Global;
 
 /// No marks.
+#[tactic(auto, using(crate::proofs::Marked::none_marked))]
 fn no_marks(alloc: Global, count: usize) -> Result<Table<bool>, NoMemory>
     ensures { IfOk result (λ t. t ≡ replicate count false) }
 {
     let mut marks = Table::new(alloc);
-    for _place in 0..count {
-        marks.push(false)?;
-    }
+    marks.resize(count, false)?;
     Ok(marks)
 }
 

@@ -12,6 +12,19 @@ use abc_kinds::{Tree, at_most};
 use abc_program::Kind;
 use abc_typing::{Scope, Stack, State};
 
+/// Whether a kind is another or below it. Mostly it is the other, and nothing is asked of the layouts.
+#[inline]
+#[tactic(auto, using(abc_program::proofs::Order::kind_self))]
+fn is_at_most<T: Tree>(tree: &T, a: Kind, b: Kind) -> bool
+    requires { IsLinkedFile (T.file tree.now) }
+    ensures { IsTrue result ↔ IsAtMost (T.file tree.now) a b }
+{
+    if a == b {
+        return true;
+    }
+    at_most(tree, a, b)
+}
+
 /// Whether the operand at a depth is at most another.
 fn is_operand_at_most<T: Tree>(tree: &T, a: &Stack<Kind>, b: &Stack<Kind>, depth: usize) -> bool
     requires { IsLinkedFile (T.file tree.now) }
@@ -19,7 +32,7 @@ fn is_operand_at_most<T: Tree>(tree: &T, a: &Stack<Kind>, b: &Stack<Kind>, depth
 {
     let x = a.get_or(depth, Kind::Any);
     let y = b.get_or(depth, Kind::Any);
-    at_most(tree, x, y)
+    is_at_most(tree, x, y)
 }
 
 /// Whether each operand is at most another.
@@ -43,7 +56,7 @@ fn is_local_at_most<T: Tree>(tree: &T, a: &Table<Kind>, b: &Table<Kind>, place: 
 {
     let x = at_or(a, place, Kind::Any);
     let y = at_or(b, place, Kind::Any);
-    at_most(tree, x, y)
+    is_at_most(tree, x, y)
 }
 
 /// Whether each local is at most another.
@@ -68,7 +81,7 @@ fn is_scope_at_most<T: Tree>(tree: &T, a: Scope, b: Scope) -> bool
     if !is_same_flag(a, b) {
         return false;
     }
-    at_most(tree, a.kind, b.kind)
+    is_at_most(tree, a.kind, b.kind)
 }
 
 /// Whether the scope at a place is at most another.

@@ -72,24 +72,22 @@ impl<T: Drop> Stack<T> {
     }
 }
 
-/// A copy of some values.
-fn copy_items<T: Copy + Drop>(alloc: Global, items: &[T]) -> Result<Vec<T>, NoMemory>
-    ensures { IfOk result (λ v. v.items ≡ items.now) }
-{
-    let mut copy = Vec::new(alloc);
-    for item in items {
-        copy.push(*item)?;
-    }
-    Ok(copy)
-}
-
 impl<T: Copy + Drop> Stack<T> {
     /// A copy of the stack.
     pub fn copy(&self, alloc: Global) -> Result<Stack<T>, NoMemory>
         ensures { IfOk result (λ s. s ≡ self.now) }
     {
-        let items = copy_items(alloc, self.items.as_slice())?;
+        let items = Vec::from_slice(alloc, self.items.as_slice())?;
         Ok(Stack { items })
+    }
+
+    /// Takes the values of another stack in place of its own, whose memory is used again.
+    pub fn copy_from(&mut self, other: &Stack<T>) -> Result<(), NoMemory>
+        ensures { OnOk result (self.new ≡ other.now) }
+    {
+        self.items.clear();
+        self.items.extend_from_slice(other.items.as_slice())?;
+        Ok(())
     }
 
     /// The value so far below the top, or another where there is none.

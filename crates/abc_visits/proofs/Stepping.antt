@@ -23,7 +23,7 @@ use Rattle.abc_typing.specs.declared.state.State.{State}
 use Rattle.abc_typing.proofs.Fine.{stands}
 use Rattle.abc_shapes.specs.declared.row.Scoping.{Scoping}
 use Rattle.abc_shapes.specs.declared.row.Scoping.TheVariants.{Stays, Pushes, Pops}
-use Rattle.abc_visits.specs.Visits.{change_of, changed, given_kinds, leads_away, leads_on, scoped, step_by, written_by}
+use Rattle.abc_visits.specs.Visits.{change_of, changed, given_kinds, leads_away, leads_on, pushed_kind, scoped, step_by, written_by}
 use Rattle.abc_visits.specs.declared.changes.Change.{Change}
 use Rattle.abc_visits.specs.declared.changes.Given.{Given}
 
@@ -106,12 +106,12 @@ locals_are h s Reads = refl
 locals_are h s (Sets source) = refl
 locals_are h s Walks = refl
 
-scopes_are : (h : Here) (s : State) (o : Scoping) → scoped o (scope_kind h.file (kind_at (taken h s) 0)) s.scopes ≡ scopes_after h s o
+scopes_are : (h : Here) (s : State) (o : Scoping) → scoped o (pushed_kind o (scope_kind h.file (kind_at (taken h s) 0))) s.scopes ≡ scopes_after h s o
 scopes_are h s Stays = refl
 scopes_are h s (Pushes is_with) = refl
 scopes_are h s Pops = refl
 
-pub next_is : (h : Here) (s n : State) (g : Given) (d : ℕ) (k : Kind) (c : Change) → given_kinds g ≡ map (kind_of h s) h.row.gives → d ≡ depth h → k ≡ scope_kind h.file (kind_at (taken h s) 0) → c ≡ change_of h s h.row.locals
+pub next_is : (h : Here) (s n : State) (g : Given) (d : ℕ) (k : Kind) (c : Change) → given_kinds g ≡ map (kind_of h s) h.row.gives → d ≡ depth h → k ≡ pushed_kind h.row.scoping (scope_kind h.file (kind_at (taken h s) 0)) → c ≡ change_of h s h.row.locals
     → n.stack ≡ given_kinds g ++ drop d s.stack → n.scopes ≡ scoped h.row.scoping k s.scopes → n.locals ≡ changed c s.locals → n ≡ next h s
 next_is h s n g d k c gives deep kind change a b e =
     let stack : n.stack ≡ map (kind_of h s) h.row.gives ++ drop (depth h) s.stack = a ∙ ap (λ (ks : List Kind). ks ++ drop d s.stack) gives ∙ ap (λ (m : ℕ). map (kind_of h s) h.row.gives ++ drop m s.stack) deep in

@@ -46,6 +46,12 @@ scoped Stays kind scopes = scopes
 scoped (Pushes is_with) kind scopes = scopes ++ record { kind = kind; is_with = is_with } ∷ []
 scoped Pops kind scopes = take (length scopes - 1) scopes
 
+-- the kind of the scope that is pushed; any kind where none is
+abbrev pub pushed_kind : Scoping → Kind → Kind
+pushed_kind (Pushes is_with) kind = kind
+pushed_kind Stays kind = kinds.Any
+pushed_kind Pops kind = kinds.Any
+
 -- what the locals get
 abbrev pub change_of : Here → State → Locals → Change
 change_of h s Untouched = changes.Nothing

@@ -7,7 +7,7 @@ ghost use Rattle.abc_typing.specs.Effects.{goes_on, is_null as is_null_by, kind_
 ghost use Rattle.abc_typing.specs.Typing.{IsFine};
 ghost use Rattle.abc_frames.specs.Frames.{routine_in};
 ghost use Rattle.abc_visits.specs.Asking.{IsAsked};
-ghost use Rattle.abc_visits.specs.Visits.{change_of, given_kinds, here_in, leads_away as leads_away_by, leads_on as leads_on_by, step_by, written_by};
+ghost use Rattle.abc_visits.specs.Visits.{change_of, given_kinds, here_in, leads_away as leads_away_by, leads_on as leads_on_by, pushed_kind, step_by, written_by};
 
 use crate::changes::{Change, Given, change_locals, change_scopes, change_stack};
 use crate::visit::{Asked, Visit};
@@ -16,7 +16,7 @@ use abc_flow::{Step, Written};
 use abc_frames::Frame;
 use abc_link::Linked;
 use abc_program::Kind;
-use abc_shapes::{Gives, Leads, Locals, RowKind, local_of, opcode_of, row_of, second_of};
+use abc_shapes::{Gives, Leads, Locals, RowKind, Scoping, local_of, opcode_of, row_of, second_of};
 use abc_steps::{fixed_kind, kind_of_scope};
 use abc_tables::Instr;
 use abc_typing::State;
@@ -106,12 +106,16 @@ impl Visit<'_> {
         }
     }
 
-    /// The kind of a scope that is pushed.
+    /// The kind of the scope that is pushed; any kind where none is, since to work it out may take a search.
     fn scope(&self, asked: Asked, state: &State) -> Kind
         requires { IsAsked (here_in self.now) asked }
-        ensures { result ≡ scope_kind self.now.linked.now (kind_at (taken (here_in self.now) state.now) 0) }
+        ensures { result ≡ pushed_kind self.now.row.scoping (scope_kind self.now.linked.now (kind_at (taken (here_in self.now) state.now) 0)) }
     {
-        kind_of_scope(self.linked, self.taken(asked, state, 0))
+        match self.row.scoping {
+            Scoping::Pushes(_) => kind_of_scope(self.linked, self.taken(asked, state, 0)),
+            Scoping::Stays => Kind::Any,
+            Scoping::Pops => Kind::Any,
+        }
     }
 
     /// Whether anything follows: nothing does where the value that has to have a slot is null.
