@@ -1,4 +1,4 @@
-ghost use Rattle.std.specs.Prelude.{◌≡◌, ◌<◌, ◌++◌, ◌^◌, [], length, nat_eq, IfOk, OnOk};
+ghost use Rattle.std.specs.Prelude.{◌≡◌, ◌<◌, ◌++◌, ◌^◌, [], length, nat_eq, IfOk};
 ghost use Rattle.abc_index.specs.Index.{Finds, first};
 ghost use Rattle.abc_heirs.specs.Listed.{empty, joined as joined_of};
 
@@ -29,23 +29,12 @@ impl<T> Model for Keyed<T> {
     ghost invariant = { λ k. Finds nat_eq k.places k.keys };
 }
 
-/// Adds some values at the end of a list.
-fn append<T: Copy + Drop>(list: &mut Table<T>, values: &[T]) -> Result<(), NoMemory>
-    ensures { OnOk result (list.new ≡ list.old ++ values.now) }
-{
-    for value in values {
-        list.push(*value)?;
-    }
-    Ok(())
-}
-
 /// Two lists, one after the other.
 fn concat<T: Copy + Drop>(alloc: Global, a: &[T], b: &[T]) -> Result<Table<T>, NoMemory>
     ensures { IfOk result (λ t. t ≡ a.now ++ b.now) }
 {
-    let mut list = Table::new(alloc);
-    append(&mut list, a)?;
-    append(&mut list, b)?;
+    let mut list = Table::from_slice(alloc, a)?;
+    list.extend_from_slice(b)?;
     Ok(list)
 }
 

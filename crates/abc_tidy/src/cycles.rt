@@ -84,14 +84,10 @@ fn kept_row(
     requires marks { length marks.now ≡ length graph.now }
     ensures { IfOk result (λ t. t ≡ row_of marks.now graph.now node) }
 {
-    let mut row = Table::new(alloc);
     if !marks[node] {
-        return Ok(row);
+        return Ok(Table::new(alloc));
     }
-    for target in graph.get(node).as_slice() {
-        row.push(*target)?;
-    }
-    Ok(row)
+    Table::from_slice(alloc, graph.get(node).as_slice())
 }
 
 /// The graph with the edges of its marked nodes alone.
