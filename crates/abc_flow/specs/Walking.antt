@@ -8,13 +8,15 @@ use Rattle.abc_tables.specs.declared.code.Instr.{Instr}
 use Rattle.abc_typing.specs.Effects.{covering, caught}
 use Rattle.abc_typing.specs.Lists.{Each2}
 use Rattle.abc_typing.specs.Routines.{Routine}
-use Rattle.abc_typing.specs.Rules.{after_instr}
+use Rattle.abc_typing.specs.Rules.{after_instr, broken}
 use Rattle.abc_typing.specs.Typing.{StateLe, HasOneShape, IsFine, In, Follows, IsJoinState, Derivable, Refutes}
 use Rattle.abc_typing.specs.declared.catch.Catch.{Catch}
 use Rattle.abc_typing.specs.declared.state.State.{State}
 use Rattle.abc_worklist.specs.Work.{Landed, Runs, Advances, AreDerived, IsUnderWay, total}
 use Rattle.abc_worklist.specs.Rank.{layouts, rank, top}
 use Rattle.abc_flow.specs.declared.step.Step.{Step}
+use Rattle.abc_flow.specs.declared.step.Trial.{Trial}
+use Rattle.abc_flow.specs.declared.step.Trial.TheVariants as trials
 use Rattle.abc_flow.specs.declared.step.Written.{Written}
 use Rattle.abc_flow.specs.declared.step.Written.TheVariants as writes
 use Rattle.abc_flow.specs.declared.step.Merged.{Merged}
@@ -58,6 +60,11 @@ Wrote (writes.Two i j) old new = WroteTwo i j old new
 pub record Steps (p : LinkedFile) (m : Routine) (i : ℕ) (old new : State) (w : Step) : Type 0 where
   pub after : after_instr p m i old (slice_get m.code i) ≡ map (landing new) (leads_of m i w)
   pub locals : Wrote w.written old.locals new.locals
+
+-- a state breaks a rule at a place, or breaks none and the instruction is done to it
+abbrev pub IsTriedAt : LinkedFile → Routine → ℕ → State → State → Trial → Type 0
+IsTriedAt p m i old new (trials.Breaks r) = broken p m i old ≡ Some r
+IsTriedAt p m i old new (trials.Steps w) = IsFine p m i old × Steps p m i old new w
 
 abbrev pub MergesTo : LinkedFile → State → State → Merged → Type 0
 MergesTo p old n Same = StateLe p n old

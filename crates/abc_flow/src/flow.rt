@@ -1,5 +1,5 @@
 use crate::handled::Cover;
-use crate::step::{Merged, Step};
+use crate::step::{Merged, Trial};
 use abc_base::NoMemory;
 use abc_program::Kind;
 use abc_tables::Instr;
@@ -12,10 +12,10 @@ pub trait Flow {
     ghost use Rattle.abc_program.specs.Kinds.{IsJoin};
     ghost use Rattle.abc_program.specs.Linked.{IsLinkedFile, LinkedFile};
     ghost use Rattle.abc_typing.specs.Routines.{Routine};
-    ghost use Rattle.abc_typing.specs.Rules.{broken, broken_early};
-    ghost use Rattle.abc_typing.specs.Typing.{IsFine, entry};
+    ghost use Rattle.abc_typing.specs.Rules.{broken_early};
+    ghost use Rattle.abc_typing.specs.Typing.{entry};
     ghost use Rattle.abc_flow.specs.Handled.{IsCoverAt};
-    ghost use Rattle.abc_flow.specs.Walking.{MergesTo, Steps, is_head};
+    ghost use Rattle.abc_flow.specs.Walking.{IsTriedAt, MergesTo, is_head};
 
     ghost file: { Self → LinkedFile };
 
@@ -40,20 +40,16 @@ pub trait Flow {
     fn is_head(&self, place: u32) -> bool
         ensures { result ≡ is_head (heads self.now) place };
 
-    /// The first rule that a state breaks; of the handlers that cover the place this is what the rules ask.
-    fn broken(&self, place: u32, state: &State, cover: Cover) -> Option<VerifyRule>
-        requires linked { IsLinkedFile (file self.now) }
-        requires cover { IsCoverAt (routine self.now) place cover }
-        ensures { result ≡ broken (file self.now) (routine self.now) place state.now };
-
     /// The first rule before Merge that a state breaks.
     fn broken_early(&self, place: u32, state: &State) -> Option<VerifyRule>
         ensures { result ≡ broken_early (file self.now) (routine self.now) place state.now };
 
-    /// Does the instruction at a place to a state that breaks no rule.
-    fn step(&self, place: u32, state: &mut State) -> Result<Step, NoMemory>
-        requires { IsFine (file self.now) (routine self.now) place state.old }
-        ensures { IfOk result (λ w. Steps (file self.now) (routine self.now) place state.old state.new w) };
+    /// Does the instruction at a place to a state, if that breaks no rule there; of the handlers that cover the place this is what
+    /// the rules ask. Where memory runs out the state is of no use.
+    fn advance(&self, place: u32, state: &mut State, cover: Cover) -> Result<Trial, NoMemory>
+        requires linked { IsLinkedFile (file self.now) }
+        requires cover { IsCoverAt (routine self.now) place cover }
+        ensures { IfOk result (IsTriedAt (file self.now) (routine self.now) place state.old state.new) };
 
     /// The state that a method begins with.
     fn entry(&self) -> Result<State, NoMemory>

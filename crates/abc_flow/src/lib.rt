@@ -16,5 +16,5 @@ mod walk;
 pub use flow::Flow;
 pub use handled::Cover;
 pub use states::MOST_VALUES;
-pub use step::{Merged, Onward, Refusal, Step, Written};
+pub use step::{Merged, Onward, Refusal, Step, Trial, Written};
 pub use walk::{Memory, check_flow};

@@ -20,6 +20,13 @@ pub struct Step {
     pub written: Written,
 }
 
+/// What comes of an instruction: the rule that the state breaks at its place, or where the step leads.
+#[derive(Clone, Copy, Debug)]
+pub enum Trial {
+    Breaks(VerifyRule),
+    Steps(Step),
+}
+
 /// Two states of one place together.
 #[derive(Debug, Drop)]
 pub enum Merged {

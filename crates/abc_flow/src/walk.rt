@@ -13,7 +13,7 @@ use crate::handled::{Cover, Handled, cover_at, handled_of};
 use crate::merging::{jump, merge_at, raise};
 use crate::notes::note;
 use crate::states::States;
-use crate::step::{Onward, Refusal, Step, Written};
+use crate::step::{Onward, Refusal, Step, Trial, Written};
 use crate::telling::tell;
 use abc_base::{NoMemory, Table};
 use abc_program::Kind;
@@ -91,14 +91,15 @@ fn pass<F: Flow>(
     requires pending { IsPending (F.file flow.now) (F.routine flow.now) (F.heads flow.now) (covering (F.routine flow.now) place) seen.old now.old.locals written }
     ensures { MatchResult result (λ o. Passed (F.file flow.now) (F.routine flow.now) (F.heads flow.now) (covering (F.routine flow.now) place) place now.old now.new seen.old seen.new states.old work.old states.new work.new o) (λ e. RefusedBy (F.file flow.now) (F.routine flow.now) e) }
 {
-    if let Some(rule) = flow.broken(place, now, cover) {
-        return Err(Refusal::Refused(place, rule));
-    }
     note(flow, seen, &now.locals, written);
-    let step = flow.step(place, now)?;
-    jump_if(flow, states, work, step.jumps, place, now)?;
-    let onward = arrive(flow, states, work, step, place, now)?;
-    Ok(onward)
+    match flow.advance(place, now, cover)? {
+        Trial::Breaks(rule) => Err(Refusal::Refused(place, rule)),
+        Trial::Steps(step) => {
+            jump_if(flow, states, work, step.jumps, place, now)?;
+            let onward = arrive(flow, states, work, step, place, now)?;
+            Ok(onward)
+        }
+    }
 }
 
 /// The places of a walk, from a head on; what is left is to tell the handlers.

@@ -1,12 +1,12 @@
 use abc_base::{NoMemory, Table};
-use abc_flow::{Cover, Flow, Merged, Step};
+use abc_flow::{Cover, Flow, Merged, Trial};
 use abc_frames::{Frame, entry_of};
 use abc_kinds::{Ladder, join};
 use abc_merging::merge;
 use abc_program::Kind;
 use abc_tables::Instr;
 use abc_typing::{Catch, State, VerifyRule};
-use abc_visits::{broken_at, broken_early_at, step_at};
+use abc_visits::{advance_at, broken_early_at};
 use std::alloc::Global;
 
 /// A method with its body, and the places where walks begin.
@@ -50,16 +50,12 @@ impl Flow for Flowing<'_> {
         }
     }
 
-    fn broken(&self, place: u32, state: &State, cover: Cover) -> Option<VerifyRule> {
-        broken_at(self.ladder.linked(), self.frame, place, state, cover)
-    }
-
     fn broken_early(&self, place: u32, state: &State) -> Option<VerifyRule> {
         broken_early_at(self.ladder.linked(), self.frame, place, state)
     }
 
-    fn step(&self, place: u32, state: &mut State) -> Result<Step, NoMemory> {
-        step_at(self.ladder.linked(), self.frame, place, state)
+    fn advance(&self, place: u32, state: &mut State, cover: Cover) -> Result<Trial, NoMemory> {
+        advance_at(self.ladder.linked(), self.frame, place, state, cover)
     }
 
     fn entry(&self) -> Result<State, NoMemory> {

@@ -1,8 +1,10 @@
 -- What a step leads to.
 use Rattle.std.proofs.Common.{◌≡◌, ◌≢◌, ℕ, suc, ◌+◌, List, [], ◌∷◌, ◌++◌, Some, None, cond, drop, map, refl, sym, ap, ◌∙◌, subst, arith, eq-eqb}
 use Rattle.std.specs.Prelude.{Bool, true, false, not, ◌&&◌, ltb, eqb, slice_get}
-use Rattle.abc_flow.specs.Walking.{Steps, Wrote, landing, targets_at, targets_in}
+use Rattle.abc_flow.specs.Walking.{IsTriedAt, Steps, Wrote, landing, targets_at, targets_in}
 use Rattle.abc_flow.specs.declared.step.Step.{Step}
+use Rattle.abc_flow.specs.declared.step.Trial.{Trial}
+use Rattle.abc_flow.specs.declared.step.Trial.TheVariants.{Breaks, Steps as Does}
 use Rattle.abc_program.specs.Linked.{LinkedFile}
 use Rattle.abc_program.specs.declared.types.Kind.{Kind}
 use Rattle.abc_program.specs.declared.types.Kind.TheVariants as kinds
@@ -16,28 +18,16 @@ use Rattle.abc_shapes.specs.declared.row.Locals.TheVariants.{Untouched, Reads, S
 use Rattle.abc_tables.specs.declared.code.Instr.{Instr}
 use Rattle.abc_typing.specs.Effects.{Here, after, depth, fixed, goes_on, kind_at, kind_of, leads, locals_after, needs, next, scope_kind, scopes_after, taken}
 use Rattle.abc_typing.specs.Routines.{Routine}
-use Rattle.abc_typing.specs.Rules.{after_instr, after_row, has_locals}
+use Rattle.abc_typing.specs.Rules.{after_instr, after_row, at_instr, at_row, broken, early_rules, first_broken, has_locals, keeps, late_rules}
 use Rattle.abc_typing.specs.Typing.{IsFine}
 use Rattle.abc_typing.specs.declared.rule.VerifyRule.TheVariants as rules
 use Rattle.abc_typing.specs.declared.state.State.{State}
 use Rattle.abc_typing.proofs.Fine.{stands}
 use Rattle.abc_shapes.specs.declared.row.Scoping.{Scoping}
 use Rattle.abc_shapes.specs.declared.row.Scoping.TheVariants.{Stays, Pushes, Pops}
-use Rattle.abc_visits.specs.Visits.{change_of, changed, given_kinds, leads_away, leads_on, pushed_kind, scoped, step_by, written_by}
+use Rattle.abc_visits.specs.Visits.{IsTried, change_of, changed, given_kinds, leads_away, leads_on, pushed_kind, scoped, step_by, written_by}
 use Rattle.abc_visits.specs.declared.changes.Change.{Change}
 use Rattle.abc_visits.specs.declared.changes.Given.{Given}
-
--- ---- a place whose rules a state keeps has an instruction, and that a row
-
-pub no_instr : (p : LinkedFile) (m : Routine) (i : ℕ) (s : State) → IsFine p m i s → slice_get m.code i ≡ None → ⊥
-no_instr p m i s fine e = let at = (stands p m i s fine).at in cc
-
-pub no_row : (p : LinkedFile) (m : Routine) (i : ℕ) (s : State) (instr : Instr) → IsFine p m i s → slice_get m.code i ≡ Some instr → row_at (opcode instr) ≡ None → ⊥
-no_row p m i s instr fine e f =
-    let z = stands p m i s fine in
-    let same : z.instr ≡ instr = let at = z.at in cc in
-    let there : row_at (opcode instr) ≡ Some z.row = ap (λ (x : Instr). row_at (opcode x)) (sym same) ∙ z.is in
-    cc
 
 -- ---- the locals
 
@@ -86,7 +76,7 @@ led h s false l ts e = refl
 after_is : (h : Here) (s : State) → slice_get h.method.code h.place ≡ Some h.instr → row_at (opcode h.instr) ≡ Some h.row → after_instr h.file h.method h.place s (slice_get h.method.code h.place) ≡ after h s
 after_is h s e f = ap (after_instr h.file h.method h.place s) e ∙ ap (after_row h.file h.method h.place h.instr s) f
 
-pub stepped : (h : Here) (s n : State) (w : Step) → IsFine h.file h.method h.place s → slice_get h.method.code h.place ≡ Some h.instr → row_at (opcode h.instr) ≡ Some h.row
+stepped : (h : Here) (s n : State) (w : Step) → IsFine h.file h.method h.place s → slice_get h.method.code h.place ≡ Some h.instr → row_at (opcode h.instr) ≡ Some h.row
     → n ≡ next h s → w ≡ step_by (goes_on (needs h) (taken h s)) h.row.leads (written_by (change_of h s h.row.locals)) → Steps h.file h.method h.place s n w
 stepped h s n w fine e f is leads_is =
     let goes = goes_on (needs h) (taken h s) in
@@ -118,3 +108,22 @@ next_is h s n g d k c gives deep kind change a b e =
     let scopes : n.scopes ≡ scopes_after h s h.row.scoping = b ∙ ap (λ (x : Kind). scoped h.row.scoping x s.scopes) kind ∙ scopes_are h s h.row.scoping in
     let locals : n.locals ≡ locals_after h s h.row.locals = e ∙ ap (λ (x : Change). changed x s.locals) change ∙ locals_are h s h.row.locals in
     λ i. record { stack = stack i; scopes = scopes i; locals = locals i }
+
+-- ---- the rules at a place
+
+module _ (p : LinkedFile) (m : Routine) (i : ℕ) (s : State) where
+  -- the code ends before it
+  pub no_place : slice_get m.code i ≡ None → broken p m i s ≡ Some rules.OffEnd
+  no_place e = ap (at_instr p m i (early_rules ++ late_rules) s) e
+
+  -- its opcode is not run
+  pub not_run : (instr : Instr) → slice_get m.code i ≡ Some instr → row_at (opcode instr) ≡ None → broken p m i s ≡ Some rules.NotRun
+  not_run instr e f = ap (at_instr p m i (early_rules ++ late_rules) s) e ∙ ap (at_row p m i instr (early_rules ++ late_rules) s) f
+
+-- there is an instruction, with its row
+broken_is : (h : Here) (s : State) → slice_get h.method.code h.place ≡ Some h.instr → row_at (opcode h.instr) ≡ Some h.row → broken h.file h.method h.place s ≡ first_broken (keeps h s) (early_rules ++ late_rules)
+broken_is h s e f = ap (at_instr h.file h.method h.place (early_rules ++ late_rules) s) e ∙ ap (at_row h.file h.method h.place h.instr (early_rules ++ late_rules) s) f
+
+pub tried : (h : Here) (s n : State) (t : Trial) → slice_get h.method.code h.place ≡ Some h.instr → row_at (opcode h.instr) ≡ Some h.row → IsTried h s n t → IsTriedAt h.file h.method h.place s n t
+tried h s n (Breaks r) e f k = broken_is h s e f ∙ k
+tried h s n (Does w) e f k = let fine = broken_is h s e f ∙ k.0 in (fine, stepped h s n w fine e f k.1 k.2)

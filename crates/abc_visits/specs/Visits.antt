@@ -1,5 +1,5 @@
 -- An instruction at its place, as the code holds it.
-use Rattle.std.specs.Prelude.{◌-◌, List, [], ◌∷◌, ◌++◌, Bool, true, false, ◌&&◌, length, set, take}
+use Rattle.std.specs.Prelude.{◌≡◌, ◌-◌, Some, None, List, [], ◌∷◌, ◌++◌, Bool, true, false, ◌&&◌, length, set, take}
 use Rattle.abc_program.specs.declared.types.Kind.{Kind}
 use Rattle.abc_program.specs.declared.types.Kind.TheVariants as kinds
 use Rattle.abc_shapes.specs.Instructions.{local, second}
@@ -16,7 +16,10 @@ use Rattle.abc_shapes.specs.declared.row.Scoping.TheVariants.{Stays, Pushes, Pop
 use Rattle.abc_flow.specs.declared.step.Step.{Step}
 use Rattle.abc_flow.specs.declared.step.Written.{Written}
 use Rattle.abc_flow.specs.declared.step.Written.TheVariants as writes
-use Rattle.abc_typing.specs.Effects.{Here, fixed, kind_of}
+use Rattle.abc_flow.specs.declared.step.Trial.{Trial}
+use Rattle.abc_flow.specs.declared.step.Trial.TheVariants as trials
+use Rattle.abc_typing.specs.Effects.{Here, fixed, goes_on, kind_of, needs, next, taken}
+use Rattle.abc_typing.specs.Rules.{early_rules, first_broken, keeps, late_rules}
 use Rattle.abc_typing.specs.declared.state.Scope.{Scope}
 use Rattle.abc_typing.specs.declared.state.State.{State}
 use Rattle.abc_frames.specs.Frames.{routine_in}
@@ -84,3 +87,8 @@ leads_away leads = false
 
 abbrev pub step_by : Bool → Leads → Written → Step
 step_by goes leads written = record { next = goes && leads_on leads; jumps = goes && leads_away leads; written = written }
+
+-- a state breaks a rule at an instruction, or breaks none and the instruction is done to it
+abbrev pub IsTried : Here → State → State → Trial → Type 0
+IsTried h old new (trials.Breaks r) = first_broken (keeps h old) (early_rules ++ late_rules) ≡ Some r
+IsTried h old new (trials.Steps w) = (first_broken (keeps h old) (early_rules ++ late_rules) ≡ None) × (new ≡ next h old) × (w ≡ step_by (goes_on (needs h) (taken h old)) h.row.leads (written_by (change_of h old h.row.locals)))

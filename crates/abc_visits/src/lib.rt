@@ -9,5 +9,5 @@ mod step;
 mod tables;
 mod visit;
 
-pub use rules::{broken_at, broken_early_at};
-pub use step::step_at;
+pub use rules::broken_early_at;
+pub use step::advance_at;

@@ -4,7 +4,7 @@ ghost use Rattle.abc_shapes.specs.Instructions.{opcode};
 ghost use Rattle.abc_shapes.specs.Rows.{row_at};
 ghost use Rattle.abc_shapes.specs.Table.{sources};
 ghost use Rattle.abc_flow.specs.Handled.{IsCoverAt};
-ghost use Rattle.abc_typing.specs.Rules.{at_row, broken, broken_early, early_rules, first_broken, is_here, is_walked, keeps, late_rules, names_scope};
+ghost use Rattle.abc_typing.specs.Rules.{at_row, broken_early, early_rules, first_broken, is_here, is_walked, keeps, late_rules, names_scope};
 ghost use Rattle.abc_typing.specs.declared.rule.VerifyRule.TheVariants as variants;
 ghost use Rattle.abc_frames.specs.Frames.{routine_in};
 ghost use Rattle.abc_visits.specs.Asking.{AreKept, IsAsked};
@@ -280,7 +280,7 @@ impl Visit<'_> {
 
     /// The first rule that a state breaks, Merge left out.
     #[tactic(auto, using(crate::proofs::Kept::none_broken))]
-    fn broken(&self, asked: Asked, state: &State, cover: Cover) -> Option<VerifyRule>
+    pub(crate) fn broken(&self, asked: Asked, state: &State, cover: Cover) -> Option<VerifyRule>
         requires asked { IsAsked (here_in self.now) asked }
         requires cover { IsCoverAt (routine_in self.now.frame.now) self.now.place cover }
         ensures { result ≡ first_broken (keeps (here_in self.now) state.now) (early_rules ++ late_rules) }
@@ -289,33 +289,6 @@ impl Visit<'_> {
             return None;
         }
         self.first_broken(asked, state, cover, &RULES)
-    }
-}
-
-/// The first rule that a state breaks at an instruction, Merge left out.
-fn broken_in(
-    linked: &Linked,
-    frame: &Frame<'_>,
-    place: u32,
-    instr: &Instr,
-    state: &State,
-    cover: Cover,
-) -> Option<VerifyRule>
-    requires { IsCoverAt (routine_in frame.now) place cover }
-    ensures { result ≡ at_row linked.now (routine_in frame.now) place instr.now (early_rules ++ late_rules) state.now (row_at (opcode instr.now)) }
-{
-    match row_of(opcode_of(instr)) {
-        Some(row) => {
-            let visit = Visit {
-                linked,
-                frame,
-                place,
-                instr,
-                row,
-            };
-            visit.broken(visit.asked(), state, cover)
-        }
-        None => Some(VerifyRule::NotRun),
     }
 }
 
@@ -341,23 +314,6 @@ fn broken_early_in(
             visit.first_broken(visit.asked(), state, cover_at(frame, place), &EARLY)
         }
         None => Some(VerifyRule::NotRun),
-    }
-}
-
-/// The first rule that a state breaks at a place, Merge left out, where this is what the rules ask of the handlers that cover it.
-pub fn broken_at(
-    linked: &Linked,
-    frame: &Frame<'_>,
-    place: u32,
-    state: &State,
-    cover: Cover,
-) -> Option<VerifyRule>
-    requires { IsCoverAt (routine_in frame.now) place cover }
-    ensures { result ≡ broken linked.now (routine_in frame.now) place state.now }
-{
-    match frame.code.find(place as usize) {
-        Some(instr) => broken_in(linked, frame, place, instr, state, cover),
-        None => Some(VerifyRule::OffEnd),
     }
 }
 

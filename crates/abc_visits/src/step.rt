@@ -1,25 +1,23 @@
 ghost use Rattle.std.specs.Prelude.{◌≡◌, IfOk, Some, map, not, slice_get};
-ghost use Rattle.abc_shapes.specs.Instructions.{opcode};
-ghost use Rattle.abc_shapes.specs.Rows.{row_at};
 ghost use Rattle.abc_shapes.specs.Table.{sources};
-ghost use Rattle.abc_flow.specs.Walking.{Steps};
+ghost use Rattle.abc_flow.specs.Handled.{IsCoverAt};
+ghost use Rattle.abc_flow.specs.Walking.{IsTriedAt};
 ghost use Rattle.abc_typing.specs.Effects.{goes_on, is_null as is_null_by, kind_at, kind_of as kind_of_source, needs as needs_of, next as next_state, scope_kind, taken};
-ghost use Rattle.abc_typing.specs.Typing.{IsFine};
 ghost use Rattle.abc_frames.specs.Frames.{routine_in};
 ghost use Rattle.abc_visits.specs.Asking.{IsAsked};
-ghost use Rattle.abc_visits.specs.Visits.{change_of, given_kinds, here_in, leads_away as leads_away_by, leads_on as leads_on_by, pushed_kind, step_by, written_by};
+ghost use Rattle.abc_visits.specs.Visits.{IsTried, change_of, given_kinds, here_in, leads_away as leads_away_by, leads_on as leads_on_by, pushed_kind, step_by, written_by};
 
 use crate::changes::{Change, Given, change_locals, change_scopes, change_stack};
 use crate::visit::{Asked, Visit};
 use abc_base::NoMemory;
-use abc_flow::{Step, Written};
+use abc_flow::{Cover, Step, Trial, Written};
 use abc_frames::Frame;
 use abc_link::Linked;
 use abc_program::Kind;
 use abc_shapes::{Gives, Leads, Locals, RowKind, Scoping, local_of, opcode_of, row_of, second_of};
 use abc_steps::{fixed_kind, kind_of_scope};
 use abc_tables::Instr;
-use abc_typing::State;
+use abc_typing::{State, VerifyRule};
 
 /// Whether a kind is null's alone.
 fn is_null(kind: Kind) -> bool
@@ -128,11 +126,11 @@ impl Visit<'_> {
 
     /// Does the instruction to a state. Every kind is of the state before.
     #[tactic(auto, using(crate::proofs::Stepping::next_is))]
-    fn step(&self, state: &mut State) -> Result<Step, NoMemory>
+    fn step(&self, asked: Asked, state: &mut State) -> Result<Step, NoMemory>
+        requires { IsAsked (here_in self.now) asked }
         ensures next { IfOk result (λ w. state.new ≡ next_state (here_in self.now) state.old) }
         ensures leads { IfOk result (λ w. w ≡ step_by (goes_on (needs_of (here_in self.now)) (taken (here_in self.now) state.old)) self.now.row.leads (written_by (change_of (here_in self.now) state.old self.now.row.locals))) }
     {
-        let asked = self.asked();
         let goes = self.goes_on(asked, state);
         let given = self.given(asked, state);
         let change = self.change(asked, state);
@@ -144,18 +142,36 @@ impl Visit<'_> {
     }
 }
 
-/// Does an instruction to a state that breaks no rule.
-#[tactic(auto, using(crate::proofs::Stepping::stepped, crate::proofs::Stepping::no_row))]
-fn step_in(
+impl Visit<'_> {
+    /// Does the instruction to a state, if that breaks no rule.
+    fn advance(&self, state: &mut State, cover: Cover) -> Result<Trial, NoMemory>
+        requires { IsCoverAt (routine_in self.now.frame.now) self.now.place cover }
+        ensures { IfOk result (IsTried (here_in self.now) state.old state.new) }
+    {
+        let asked = self.asked();
+        match self.broken(asked, state, cover) {
+            Some(rule) => Ok(Trial::Breaks(rule)),
+            None => {
+                let step = self.step(asked, state)?;
+                Ok(Trial::Steps(step))
+            }
+        }
+    }
+}
+
+/// Does an instruction to a state, if that breaks no rule.
+#[tactic(auto, using(crate::proofs::Stepping::not_run))]
+fn advance_in(
     linked: &Linked,
     frame: &Frame<'_>,
     place: u32,
     instr: &Instr,
     state: &mut State,
-) -> Result<Step, NoMemory>
-    requires fine { IsFine linked.now (routine_in frame.now) place state.old }
+    cover: Cover,
+) -> Result<Trial, NoMemory>
     requires here { slice_get frame.now.code.now place ≡ Some instr.now }
-    ensures { IfOk result (λ w. Steps linked.now (routine_in frame.now) place state.old state.new w) }
+    requires cover { IsCoverAt (routine_in frame.now) place cover }
+    ensures { IfOk result (IsTriedAt linked.now (routine_in frame.now) place state.old state.new) }
 {
     match row_of(opcode_of(instr)) {
         Some(row) => {
@@ -166,27 +182,32 @@ fn step_in(
                 instr,
                 row,
             };
-            let step = visit.step(state)?;
-            Ok(step)
+            let trial = visit.advance(state, cover)?;
+            Ok(trial)
         }
-        None => unreachable!(),
+        None => Ok(Trial::Breaks(VerifyRule::NotRun)),
     }
 }
 
-/// Does the instruction at a place to a state that breaks no rule there. What follows is where the step leads, with the state
-/// as it is then. Where memory runs out the state is of no use.
-#[tactic(auto, using(crate::proofs::Stepping::no_instr))]
-pub fn step_at(
+/// Does the instruction at a place to a state, if that breaks no rule there, where this is what the rules ask of the handlers
+/// that cover the place. What follows is where the step leads, with the state as it is then. Where memory runs out the
+/// state is of no use.
+#[tactic(auto, using(crate::proofs::Stepping::no_place))]
+pub fn advance_at(
     linked: &Linked,
     frame: &Frame<'_>,
     place: u32,
     state: &mut State,
-) -> Result<Step, NoMemory>
-    requires { IsFine linked.now (routine_in frame.now) place state.old }
-    ensures { IfOk result (λ w. Steps linked.now (routine_in frame.now) place state.old state.new w) }
+    cover: Cover,
+) -> Result<Trial, NoMemory>
+    requires { IsCoverAt (routine_in frame.now) place cover }
+    ensures { IfOk result (IsTriedAt linked.now (routine_in frame.now) place state.old state.new) }
 {
     match frame.code.find(place as usize) {
-        Some(instr) => step_in(linked, frame, place, instr, state),
-        None => unreachable!(),
+        Some(instr) => {
+            let trial = advance_in(linked, frame, place, instr, state, cover)?;
+            Ok(trial)
+        }
+        None => Ok(Trial::Breaks(VerifyRule::OffEnd)),
     }
 }

@@ -3,11 +3,11 @@ use Rattle.abc_frames.specs.Frames.{routine_in}
 use Rattle.abc_shapes.specs.Rows.{row_at}
 use Rattle.abc_shapes.specs.Table.{shape_of}
 use Rattle.abc_typing.specs.Effects.{Here}
-use Rattle.abc_visits.proofs.Stepping.{stepped}
-use Rattle.abc_visits.proofs.step.step_in.Goals as goal
+use Rattle.abc_visits.proofs.Stepping.{tried}
+use Rattle.abc_visits.proofs.step.advance_in.Goals as goal
 
-pub returns : goal.returns
-returns c =
+pub returns-in-Some : goal.returns-in-Some
+returns-in-Some c =
     let h : Here = record { file = c.args.linked.now; method = routine_in c.args.frame.now; place = c.args.place; instr = c.args.instr.now; row = shape_of c.in-Some.row } in
-    let ok = c.in_ok-step-in-Some in
-    stepped h c.args.state.now c.step.new.state ok.step c.requires.fine c.requires.here (ap row_at (sym c.opcode_of.ensures) ∙ sym c.in-Some.ensures) ok.ensures.next ok.ensures.leads
+    let ok = c.in_ok-trial in
+    tried h c.args.state.now c.advance.new.state ok.trial c.requires.here (ap row_at (sym c.opcode_of.ensures) ∙ sym c.in-Some.ensures) ok.ensures
