@@ -12,6 +12,7 @@ use std::alloc::Global;
 /// Values that have indices of pools.
 pub trait Indexed: Drop {
     ghost use Rattle.std.specs.Prelude.{List};
+    ghost use Rattle.abc_refs.specs.declared.nodes.Numbers.{Numbers as NumbersOf};
     ghost use Rattle.abc_refs.specs.declared.refs.Ref.{Ref as RefOf};
     ghost use Rattle.abc_refs.specs.Renumbered.{Renumbering};
 
@@ -27,7 +28,7 @@ pub trait Indexed: Drop {
 
     /// Whether new numbers may change the value.
     fn may_change(&self) -> bool
-        ensures { IsFalse result → (f : Renumbering) → renumbered f self.now ≡ self.now }
+        ensures { IsFalse result → (numbers : NumbersOf) → renumbered (number_in numbers) self.now ≡ self.now }
     {
         true
     }
