@@ -1,5 +1,5 @@
 -- Which values of each part some bytes spell.
-use Rattle.std.specs.Prelude.{◌<◌, ◌^◌, ℕ, ℤ, List, [], length, None}
+use Rattle.std.specs.Prelude.{◌<◌, ◌^◌, ℕ, ℤ, List, [], All, length, None}
 use Rattle.std.specs.declared.option.Option.{Option}
 use Rattle.abc_format.specs.Lists.{counted, pool, text, times}
 use Rattle.abc_format.specs.Numbers.{entry_index, index_below, pool_index, s32, u30, u32}
