@@ -3,7 +3,7 @@ use Rattle.std.proofs.Common.{◌≡◌, ◌≢◌, ℕ, ◌+◌, ◌-◌, ◌^�
 use Rattle.std.specs.Prelude.{◌↔◌, All, AllPairs, nat_eq, not}
 use Rattle.std.specs.List.{list_any, sum_by}
 use Rattle.std.proofs.lemmas.Bool.Decides.{nat_tests}
-use Rattle.std.proofs.lemmas.List.{append-nil, get_or-map, length-map, map-append, take_more}
+use Rattle.std.proofs.lemmas.List.{append-nil, get_or-map, length-map, map-append, take_all, take_more}
 use Rattle.std.proofs.lemmas.List.Sums.{sum_by_more}
 use Rattle.std.proofs.lemmas.List.Elements.{All-cons, All-head, All-map, All-nil, All-push, All-tail}
 use Rattle.std.proofs.lemmas.List.Folds.{list_any_at, list_any_none}
@@ -267,9 +267,9 @@ methods_below v bs all = λ k d lt. ((position_fits v.methods (get_or bs k d).me
 -- ---- the bodies and their bytes, as a walk goes over them
 
 -- The first bodies are spelled, and so many bytes are theirs.
-pub record FitSoFar (v : Sizes) (bs : List Body) (len : ℕ) : Type 0 where
+pub record FitSoFar (v : Sizes) (bs : List Body) (sum : ℕ) : Type 0 where
   pub each : All (FitsBody v) bs
-  pub len : len ≡ min (sum_by body_len bs) (2 ^ 64 - 1)
+  pub len : sum ≡ min (sum_by body_len bs) (2 ^ 64 - 1)
 
 pub none_so_far : (v : Sizes) (bs : List Body) → FitSoFar v (take 0 bs) 0
 none_so_far v bs = record { each = All-nil (FitsBody v); len = omega arith }
@@ -282,6 +282,13 @@ one_more_fits v bs i len more b lt at so fits is =
       each = subst (All (FitsBody v)) (sym t) (All-push (FitsBody v) (take i bs) b so.each fits);
       len = omega (arith, so.len, is, sum);
     }
+
+pub all_so_far : (v : Sizes) (bs : List Body) (i len : ℕ) → length bs ≤ i → FitSoFar v (take i bs) len → All (FitsBody v) bs × (len ≡ min (sum_by body_len bs) (2 ^ 64 - 1))
+all_so_far v bs i len le so = let h = subst (λ (l : List Body). FitSoFar v l len) (take_all i bs le) so in (h.each, h.len)
+
+-- bodies that are spelled, one by one
+pub bodies_in : (v : Abc) (s : Sizes) (bs : List Body) → s ≡ sizes_of v → bs ≡ v.bodies → FitBodies v → All (FitsBody s) bs
+bodies_in v s bs e f fit = rw (e, f) ((bodies_fit v).0 fit).1
 
 -- a body that isn't spelled
 pub one_unfit : (v : Sizes) (bs : List Body) (i : ℕ) (b : Body) → i < length bs → b ≡ get_or bs i b → (FitsBody v b → ⊥) → All (FitsBody v) bs → ⊥

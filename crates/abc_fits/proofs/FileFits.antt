@@ -1,5 +1,5 @@
 -- Which files some bytes spell.
-use Rattle.std.proofs.Common.{◌≡◌, ℕ, ◌^◌, ◌<◌, ◌≤◌, List, ◌++◌, length, min, refl, sym, ap, subst, ◌∙◌, arith}
+use Rattle.std.proofs.Common.{◌≡◌, ℕ, ◌+◌, ◌-◌, ◌^◌, ◌<◌, ◌≤◌, List, ◌++◌, length, min, refl, sym, ap, subst, ◌∙◌, arith}
 use Rattle.std.specs.Prelude.{◌↔◌}
 use Rattle.abc_format.specs.Canonical.{u16_bytes}
 use Rattle.abc_format.proofs.Fixed.{u16_fits}
@@ -11,7 +11,10 @@ use Rattle.abc_tables.specs.Pools.{pools}
 use Rattle.abc_tables.specs.Sizes.{capped}
 use Rattle.abc_tables.proofs.Whole.{file-canonical}
 use Rattle.abc_fits.specs.Fitting.{AreFew, FitBodies, FitDefinitions, FitPools, FitsTables, Spelled, pools_alone, without_bodies}
-use Rattle.abc_fits.specs.Lengths.{file_len}
+use Rattle.abc_fits.specs.Lengths.{body_len, definitions_len, file_len, pools_len}
+use Rattle.abc_tables.specs.CodeBytes.{number_len}
+use Rattle.abc_tables.specs.declared.code.Body.{Body}
+use Rattle.std.specs.List.{sum_by}
 use Rattle.abc_fits.proofs.CanonicalLength.{file-len}
 use Rattle.abc_fits.proofs.DefinitionsFit.{definitions_fit}
 use Rattle.abc_fits.proofs.PoolsFit.{doubles_fit, ints_fit, multinames_fit, namespace_sets_fit, namespaces_fit, pools_fit, texts_fit, uints_few}
@@ -132,3 +135,8 @@ whole_fits v p d = (
   λ f. let h = (file_fits v).0 f in (h.0, ((tables_fit v).0 h.1).2),
   λ h. (file_fits v).1 (h.0, (tables_fit v).1 (p, d, h.1)),
 )
+
+pub total_len : (v : Abc) (bs : List Body) (before len all : ℕ) → bs ≡ v.bodies → before ≡ min (4 + pools_len v + definitions_len v + number_len (length v.bodies)) (2 ^ 64 - 1) → len ≡ min (sum_by body_len bs) (2 ^ 64 - 1) → all ≡ min (before + len) (2 ^ 64 - 1)
+    → all ≡ min (file_len v) (2 ^ 64 - 1)
+unfolding file_len
+total_len v bs before len all e b l a = let sum : sum_by body_len bs ≡ sum_by body_len v.bodies = ap (sum_by body_len) e in omega (arith, b, l, a, sum)

@@ -31,19 +31,19 @@ fn are_few(abc: &Abc) -> bool
 
 /// Whether some bytes of at most 2^24 spell a file, some bytes spell whose pools and definitions. The bodies are gone over once
 /// for both, and it is tried that no two have one method only where there are not too many methods for that.
-#[tactic(auto, using(crate::proofs::FileFits::whole_fits))]
 fn fit_rest(abc: &Abc, sizes: &Sizes) -> bool
     requires sizes { sizes.now ≡ all_sizes abc.now }
     requires pools { FitPools abc.now }
     requires definitions { FitDefinitions abc.now }
     ensures { IsTrue result ↔ Fits abc.now }
 {
-    match len_of_bodies(abc.bodies.as_slice(), sizes) {
-        Some(len) => {
-            len_before_bodies(abc).saturating_add(len) <= LONGEST && fit_bodies(abc, sizes)
-        }
-        None => false,
+    let Some(len) = len_of_bodies(abc.bodies.as_slice(), sizes) else {
+        return false;
+    };
+    if len_before_bodies(abc).saturating_add(len) > LONGEST {
+        return false;
     }
+    fit_bodies(abc, sizes)
 }
 
 /// Whether some bytes of at most 2^24 spell a file whose tables are small enough.
@@ -59,7 +59,7 @@ fn fit_parts(abc: &Abc) -> bool
 /// Whether some bytes of at most 2^24 spell the file. It takes no memory. Its time grows with the size of the value
 /// alone, but for one thing: the bodies are gone through once for each 131,072 methods, so that no two are found to have
 /// one method. A file has at most 2^22 methods, so that is at most 33 times.
-#[tactic(auto, using(crate::proofs::FileFits::file_fits))]
+#[tactic(auto, using(crate::proofs::FileFits::few_in))]
 pub fn fits(a: &Abc) -> bool
     ensures { IsTrue result ↔ Fits a.now }
 {
