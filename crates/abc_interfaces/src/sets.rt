@@ -165,9 +165,9 @@ fn settle(
     if class as usize >= sets.len() {
         return Ok(());
     }
-    let set = set_for(alloc, abc, graph, sets, places, class)?;
-    *room = room.checked_sub(set.len()).ok_or(NoMemory)?;
-    sets.set(class as usize, Some(set));
+    let settled = set_for(alloc, abc, graph, sets, places, class)?;
+    *room = room.checked_sub(settled.len()).ok_or(NoMemory)?;
+    sets.set(class as usize, Some(settled));
     Ok(())
 }
 

@@ -3,4 +3,4 @@ use Rattle.abc_interfaces.proofs.Settling.{put}
 use Rattle.abc_interfaces.proofs.sets.settle.Goals as goal
 
 pub returns : goal.returns
-returns c = put c.args.abc.now c.args.sets.now _ c.args.class c.in_ok-set.set c.requires.sets c.in_ok-set.ensures (omega arith) c.set.ensures
+returns c = put c.args.abc.now c.args.sets.now _ c.args.class c.in_ok-settled.settled c.requires.sets c.in_ok-settled.ensures (omega arith) c.set.ensures
