@@ -52,13 +52,16 @@ fn put_body(body: &Body, starts: &mut Table<u32>, out: &mut Vec<u8>) -> Result<(
 
 /// Appends the bodies, one after the other.
 #[tactic(auto, using(abc_varint::proofs::Putting::stays))]
-fn put_each_body(alloc: Global, bodies: &Table<Body>, out: &mut Vec<u8>) -> Result<(), NoMemory>
+fn put_each_body(
+    bodies: &Table<Body>,
+    starts: &mut Table<u32>,
+    out: &mut Vec<u8>,
+) -> Result<(), NoMemory>
     requires { All IsReadyBody bodies.now }
     ensures { Puts out.old.items out.new.items result (flat_map body_bytes bodies.now) }
 {
-    let mut starts = Table::new(alloc);
     for body in bodies.as_slice() {
-        put_body(body, &mut starts, out)?;
+        put_body(body, starts, out)?;
     }
     Ok(())
 }
@@ -70,8 +73,8 @@ fn append_bodies(alloc: Global, abc: &Abc, out: &mut Vec<u8>) -> Result<(), NoMe
     ensures { Puts out.old.items out.new.items result (bodies_bytes abc.now) }
 {
     put_count(abc.bodies.len(), out)?;
-    put_each_body(alloc, &abc.bodies, out)?;
-    Ok(())
+    let mut starts = Table::new(alloc);
+    put_each_body(&abc.bodies, &mut starts, out)
 }
 
 /// Appends the canonical bytes of the method bodies: how many there are, and each with its code, its exceptions, whose

@@ -2,7 +2,7 @@
 use Rattle.std.proofs.Common.{◌≡◌, ℕ, zero, suc, ◌+◌, ◌<◌, ◌≤◌, List, [], ◌∷◌, ◌++◌, Some, None, get_or, slice_get, length, drop, map, take, refl, sym, ap, ◌∙◌, arith}
 use Rattle.std.proofs.Math.ListN.{drop_of_length-le, set}
 use Rattle.std.proofs.Math.Seq.{take-suc}
-use Rattle.std.proofs.lemmas.List.{append-nil, map_push, take_all}
+use Rattle.std.proofs.lemmas.List.{append-nil, map_push, set-get_or, take_all}
 use Rattle.std.proofs.lemmas.List.Edits.{map_over_more}
 use Rattle.std.proofs.lemmas.Option.{get_or_from_slice_get}
 
@@ -36,3 +36,7 @@ set_twice (z ∷ xs) (suc i) x y = ap (λ s. z ∷ s) (set_twice xs i x y)
 
 pub set_again : {A : Type 0} (xs ys zs : List A) (i : ℕ) (x y : A) → ys ≡ set xs i x → zs ≡ set ys i y → zs ≡ set xs i y
 set_again xs ys zs i x y e f = f ∙ ap (λ s. set s i y) e ∙ set_twice xs i x y
+
+-- what stands at a place may be put there
+pub set_same : {A : Type 0} (xs : List A) (i : ℕ) (x : A) → get_or xs i x ≡ x → xs ≡ set xs i x
+set_same xs i x e = sym (set-get_or xs i x) ∙ ap (λ y. set xs i y) e
