@@ -63,7 +63,8 @@ fn put_first(
     let left = left.checked_sub(state.scopes.len()).ok_or(NoMemory)?;
     *room = left.checked_sub(state.locals.len()).ok_or(NoMemory)?;
     known.push(state)?;
-    numbers[place] = known.len() as u32;
+    let count = known.len();
+    numbers[place] = count as u32;
     Ok(())
 }
 

@@ -92,7 +92,8 @@ fn pass<F: Flow>(
     ensures { MatchResult result (λ o. Passed (F.file flow.now) (F.routine flow.now) (F.heads flow.now) (covering (F.routine flow.now) place) place now.old now.new seen.old seen.new states.old work.old states.new work.new o) (λ e. RefusedBy (F.file flow.now) (F.routine flow.now) e) }
 {
     note(flow, seen, &now.locals, written);
-    match flow.advance(place, now, cover)? {
+    let trial = flow.advance(place, now, cover)?;
+    match trial {
         Trial::Breaks(rule) => Err(Refusal::Refused(place, rule)),
         Trial::Steps(step) => {
             jump_if(flow, states, work, step.jumps, place, now)?;
