@@ -11,7 +11,7 @@ use crate::indices::{is_count, is_number, is_pool_index, is_position};
 use abc_tables::{Abc, Body, Handler, Sizes, ready_len};
 
 /// How many methods one walk over the bodies looks for.
-const WINDOW: usize = 1 << 17;
+const WINDOW: usize = 1 << 16;
 
 /// Whether some bytes spell the four sizes of a body.
 fn has_sizes(body: &Body) -> bool
