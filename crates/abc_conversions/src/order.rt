@@ -97,6 +97,7 @@ pub fn are_ordered<T: Texts>(texts: &T, order: Order, x: Value, y: Value) -> Res
     ensures { result ≡ ordered (T.text texts.now) order x y }
 {
     match (x, y) {
+        (Value::Num(a), Value::Num(b)) => Ok(holds(order, a < b, b < a)),
         (Value::Text(s), Value::Text(t)) => order_texts(order, texts.bytes(s), texts.bytes(t)),
         _ => order_numbers(order, x, y),
     }

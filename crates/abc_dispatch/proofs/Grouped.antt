@@ -15,13 +15,13 @@ use Rattle.abc_stacks.specs.Frame.{newest}
 use Rattle.abc_states.specs.Outer.{Outer, setting, world}
 use Rattle.abc_states.specs.Stops.{IsOpen}
 use Rattle.abc_states.specs.declared.state.State.{State}
-use Rattle.abc_dispatch.specs.Ranges.{alone_at, numbered_at, ops_alone, ops_numbered, ops_paired, paired_at}
-use Rattle.abc_tables.specs.Opcodes.{form_at, form_of, info_at, is_in, name_in, named}
-use Rattle.abc_tables.specs.declared.code.Instr.{Instr}
-use Rattle.abc_tables.specs.declared.code.Instr.TheVariants.{One, Plain, Two}
+use Rattle.abc_dispatch.specs.Groups.{alone_ops, numbered_ops, ops_alone, ops_numbered, ops_paired, paired_ops}
 use Rattle.abc_dispatch.specs.declared.groups.Alone.{Alone}
 use Rattle.abc_dispatch.specs.declared.groups.Numbered.{Numbered}
 use Rattle.abc_dispatch.specs.declared.groups.Paired.{Paired}
+use Rattle.abc_tables.specs.Opcodes.{form_at, form_of, info_at, is_in, name_in, named}
+use Rattle.abc_tables.specs.declared.code.Instr.{Instr}
+use Rattle.abc_tables.specs.declared.code.Instr.TheVariants.{One, Plain, Two}
 use Rattle.abc_tables.specs.declared.opcodes.Form.{Form}
 use Rattle.abc_tables.specs.declared.opcodes.Form.TheVariants as forms
 use Rattle.abc_typing.specs.Routines.{Routine}
@@ -88,15 +88,15 @@ grouped form t op all f own r =
     let same : is_form form (form_of op) ≡ true = ap (is_form form) (form_is op form f) ∙ own in
     sym (ap (λ (b : Bool). not b || t op) same) ∙ passed form t table op r.row all r.is
 
-alone_rows : list_all (row_passes forms.Plain (λ n. is_in n (ops_alone (alone_at n)))) table ≡ true
+alone_rows : list_all (row_passes forms.Plain (λ n. is_in n alone_ops)) table ≡ true
 unfolding table
 alone_rows = refl
 
-numbered_rows : list_all (row_passes forms.One (λ n. is_in n (ops_numbered (numbered_at n)))) table ≡ true
+numbered_rows : list_all (row_passes forms.One (λ n. is_in n numbered_ops)) table ≡ true
 unfolding table
 numbered_rows = refl
 
-paired_rows : list_all (row_passes forms.Two (λ n. is_in n (ops_paired (paired_at n)))) table ≡ true
+paired_rows : list_all (row_passes forms.Two (λ n. is_in n paired_ops)) table ≡ true
 unfolding table
 paired_rows = refl
 
@@ -107,26 +107,25 @@ branch_rows : list_all (row_passes forms.Branch is_branch) table ≡ true
 unfolding table
 branch_rows = refl
 
-alone_in : (op : ℕ) → form_at op ≡ Some forms.Plain → HasRow op → is_in op (ops_alone (alone_at op)) ≡ true
-alone_in op f r = grouped forms.Plain (λ n. is_in n (ops_alone (alone_at n))) op alone_rows f refl r
-
-numbered_in : (op : ℕ) → form_at op ≡ Some forms.One → HasRow op → is_in op (ops_numbered (numbered_at op)) ≡ true
-numbered_in op f r = grouped forms.One (λ n. is_in n (ops_numbered (numbered_at n))) op numbered_rows f refl r
-
-paired_in : (op : ℕ) → form_at op ≡ Some forms.Two → HasRow op → is_in op (ops_paired (paired_at op)) ≡ true
-paired_in op f r = grouped forms.Two (λ n. is_in n (ops_paired (paired_at n))) op paired_rows f refl r
-
--- ---- by what the code found out
-
 module _ (l : LinkedFile) (out : Outer) (s : State) where
-  pub alone_among : (op : ℕ) (r k : Alone) → CanRun l out s (Plain op) → r ≡ alone_at op → r ≡ k → is_in op (ops_alone k) ≡ true
-  alone_among op r k can e is = subst (λ (x : Alone). is_in op (ops_alone x) ≡ true) (sym e ∙ is) (alone_in op can.spelled.is (row_there l out s (Plain op) can))
+  pub alone_in : (op : ℕ) → CanRun l out s (Plain op) → is_in op alone_ops ≡ true
+  alone_in op can = grouped forms.Plain (λ n. is_in n alone_ops) op alone_rows can.spelled.is refl (row_there l out s (Plain op) can)
 
-  pub numbered_among : (op n : ℕ) (r k : Numbered) → CanRun l out s (One op n) → r ≡ numbered_at op → r ≡ k → is_in op (ops_numbered k) ≡ true
-  numbered_among op n r k can e is = subst (λ (x : Numbered). is_in op (ops_numbered x) ≡ true) (sym e ∙ is) (numbered_in op can.spelled.0.is (row_there l out s (One op n) can))
+  pub numbered_in : (op n : ℕ) → CanRun l out s (One op n) → is_in op numbered_ops ≡ true
+  numbered_in op n can = grouped forms.One (λ m. is_in m numbered_ops) op numbered_rows can.spelled.0.is refl (row_there l out s (One op n) can)
 
-  pub paired_among : (op n count : ℕ) (r k : Paired) → CanRun l out s (Two op n count) → r ≡ paired_at op → r ≡ k → is_in op (ops_paired k) ≡ true
-  paired_among op n count r k can e is = subst (λ (x : Paired). is_in op (ops_paired x) ≡ true) (sym e ∙ is) (paired_in op can.spelled.0.is (row_there l out s (Two op n count) can))
+  pub paired_in : (op n count : ℕ) → CanRun l out s (Two op n count) → is_in op paired_ops ≡ true
+  paired_in op n count can = grouped forms.Two (λ m. is_in m paired_ops) op paired_rows can.spelled.0.is refl (row_there l out s (Two op n count) can)
+
+-- by what the code found out
+pub alone_is : (op : ℕ) (r k : Alone) → is_in op (ops_alone r) ≡ true → r ≡ k → is_in op (ops_alone k) ≡ true
+alone_is op r k h e = subst (λ (x : Alone). is_in op (ops_alone x) ≡ true) e h
+
+pub numbered_is : (op : ℕ) (r k : Numbered) → is_in op (ops_numbered r) ≡ true → r ≡ k → is_in op (ops_numbered k) ≡ true
+numbered_is op r k h e = subst (λ (x : Numbered). is_in op (ops_numbered x) ≡ true) e h
+
+pub paired_is : (op : ℕ) (r k : Paired) → is_in op (ops_paired r) ≡ true → r ≡ k → is_in op (ops_paired k) ≡ true
+paired_is op r k h e = subst (λ (x : Paired). is_in op (ops_paired x) ≡ true) e h
 
 -- of branches, by the number
 pub first_in : (op : ℕ) → form_at op ≡ Some forms.Branch → HasRow op → op < 0x13 → is_in op first_branch_ops ≡ true

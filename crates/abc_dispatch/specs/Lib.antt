@@ -1,3 +1,3 @@
-pub mod Ranges
+pub mod Groups
 pub mod Ready
 pub mod Answers

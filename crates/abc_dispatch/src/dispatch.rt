@@ -13,53 +13,18 @@ ghost use Rattle.abc_states.specs.declared.state.Left.TheVariants.{Goes};
 ghost use Rattle.abc_tables.specs.declared.code.Instr.TheVariants.{Branch, One, Plain, Two};
 ghost use Rattle.abc_typing.specs.Routines.{Routine};
 
+use crate::arms::{
+    call_arm, class_arm, comparison_arm, constant_arm, construct_arm, construct_property_arm,
+    control_arm, convert_arm, count_arm, double_arm, find_arm, first_branch_arm, goes,
+    last_branch_arm, late_arm, local_arm, new_arm, next_arm, property_arm, property_call_arm,
+    push_arm, return_arm, scope_arm, single_arm, slot_arm, super_arm, super_call_arm, typed_arm,
+    walk_arm,
+};
 use crate::groups::{Alone, Numbered, Paired, group_alone, group_numbered, group_paired};
 use abc_link::Linked;
-use abc_membersteps::{
-    run_call_value, run_construct, run_construct_property, run_property, run_property_call,
-};
-use abc_newsteps::{run_new, run_scope};
-use abc_objectsteps::{run_late, run_next, run_slot, run_walk};
-use abc_plainsteps::{
-    run_byte, run_comparison, run_constant, run_control, run_convert, run_count, run_debug,
-    run_double, run_first_branch, run_last_branch, run_local, run_push, run_return,
-    run_scope_object, run_short, run_single, run_switch, run_typed,
-};
-use abc_scopesteps::{run_class, run_find, run_super, run_super_call};
+use abc_plainsteps::{run_byte, run_debug, run_scope_object, run_short, run_switch};
 use abc_states::{Left, State, Stop};
 use abc_tables::Instr;
-
-/// Whether a group goes on, which leaves nothing to be done; else why it stops is put into `left`.
-#[inline]
-fn goes(done: Result<(), Stop>, left: &mut Result<Left, Stop>) -> bool
-    requires none { left.old ≡ Ok Goes }
-    ensures left { left.new ≡ goes_as done }
-    ensures goes { result ≡ true → left.new ≡ Ok Goes }
-{
-    match done {
-        Ok(()) => true,
-        Err(stop) => {
-            *left = Err(stop);
-            false
-        }
-    }
-}
-
-/// Whether a group goes on that may leave something to be done; else what it leaves, or why it stops, is put into `left`.
-#[inline]
-fn leaves(done: Result<Left, Stop>, left: &mut Result<Left, Stop>) -> bool
-    requires none { left.old ≡ Ok Goes }
-    ensures left { left.new ≡ done }
-    ensures goes { result ≡ true → left.new ≡ Ok Goes }
-{
-    match done {
-        Ok(Left::Goes) => true,
-        _ => {
-            *left = done;
-            false
-        }
-    }
-}
 
 /// An opcode that stands alone.
 fn run_alone(linked: &Linked, s: &mut State, op: u8, left: &mut Result<Left, Stop>) -> bool
@@ -73,17 +38,17 @@ fn run_alone(linked: &Linked, s: &mut State, op: u8, left: &mut Result<Left, Sto
     ensures limit { s.new.given.limit ≡ s.old.given.limit }
 {
     match group_alone(op) {
-        Alone::Control => goes(run_control(linked, s, op), left),
-        Alone::Walk => goes(run_walk(linked, s, op), left),
-        Alone::Push => goes(run_push(linked, s, op), left),
-        Alone::Return => leaves(run_return(linked, s, op), left),
-        Alone::Scope => goes(run_scope(linked, s, op), left),
-        Alone::Convert => goes(run_convert(linked, s, op), left),
-        Alone::Late => goes(run_late(linked, s, op), left),
-        Alone::Single => goes(run_single(linked, s, op), left),
-        Alone::Double => goes(run_double(linked, s, op), left),
-        Alone::Comparison => goes(run_comparison(linked, s, op), left),
-        Alone::Local => goes(run_local(linked, s, op), left),
+        Alone::Control => control_arm(linked, s, op, left),
+        Alone::Walk => walk_arm(linked, s, op, left),
+        Alone::Push => push_arm(linked, s, op, left),
+        Alone::Return => return_arm(linked, s, op, left),
+        Alone::Scope => scope_arm(linked, s, op, left),
+        Alone::Convert => convert_arm(linked, s, op, left),
+        Alone::Late => late_arm(linked, s, op, left),
+        Alone::Single => single_arm(linked, s, op, left),
+        Alone::Double => double_arm(linked, s, op, left),
+        Alone::Comparison => comparison_arm(linked, s, op, left),
+        Alone::Local => local_arm(linked, s, op, left),
     }
 }
 
@@ -105,17 +70,17 @@ fn run_numbered(
     ensures limit { s.new.given.limit ≡ s.old.given.limit }
 {
     match group_numbered(op) {
-        Numbered::Super => goes(run_super(linked, s, op, n), left),
-        Numbered::Constant => goes(run_constant(linked, s, op, n), left),
-        Numbered::New => goes(run_new(linked, s, op, n), left),
-        Numbered::Call => leaves(run_call_value(linked, s, n), left),
-        Numbered::Construct => goes(run_construct(linked, s, n), left),
-        Numbered::Class => goes(run_class(linked, s, n), left),
-        Numbered::Find => goes(run_find(linked, s, op, n), left),
-        Numbered::Property => goes(run_property(linked, s, op, n), left),
-        Numbered::Slot => goes(run_slot(linked, s, op, n), left),
-        Numbered::Typed => goes(run_typed(linked, s, op, n), left),
-        Numbered::Count => goes(run_count(linked, s, op, n), left),
+        Numbered::Super => super_arm(linked, s, op, n, left),
+        Numbered::Constant => constant_arm(linked, s, op, n, left),
+        Numbered::New => new_arm(linked, s, op, n, left),
+        Numbered::Call => call_arm(linked, s, n, left),
+        Numbered::Construct => construct_arm(linked, s, n, left),
+        Numbered::Class => class_arm(linked, s, n, left),
+        Numbered::Find => find_arm(linked, s, op, n, left),
+        Numbered::Property => property_arm(linked, s, op, n, left),
+        Numbered::Slot => slot_arm(linked, s, op, n, left),
+        Numbered::Typed => typed_arm(linked, s, op, n, left),
+        Numbered::Count => count_arm(linked, s, op, n, left),
     }
 }
 
@@ -138,10 +103,10 @@ fn run_paired(
     ensures limit { s.new.given.limit ≡ s.old.given.limit }
 {
     match group_paired(op) {
-        Paired::Next => goes(run_next(linked, s, n, count), left),
-        Paired::SuperCall => leaves(run_super_call(linked, s, op, n, count), left),
-        Paired::PropertyCall => leaves(run_property_call(linked, s, op, n, count), left),
-        Paired::Construct => goes(run_construct_property(linked, s, n, count), left),
+        Paired::Next => next_arm(linked, s, n, count, left),
+        Paired::SuperCall => super_call_arm(linked, s, op, n, count, left),
+        Paired::PropertyCall => property_call_arm(linked, s, op, n, count, left),
+        Paired::Construct => construct_property_arm(linked, s, n, count, left),
     }
 }
 
@@ -163,9 +128,9 @@ fn run_branch(
     ensures limit { s.new.given.limit ≡ s.old.given.limit }
 {
     if op < 0x13 {
-        goes(run_first_branch(linked, s, op, target), left)
+        first_branch_arm(linked, s, op, target, left)
     } else {
-        goes(run_last_branch(linked, s, op, target), left)
+        last_branch_arm(linked, s, op, target, left)
     }
 }
 

@@ -1,6 +1,6 @@
-ghost use Rattle.std.specs.Prelude.{◌≡◌};
-ghost use Rattle.abc_dispatch.specs.Ranges.{alone_at, first_alone_at, last_alone_at, second_alone_at, third_alone_at};
-ghost use Rattle.abc_dispatch.specs.Ranges.{first_numbered_at, last_numbered_at, numbered_at, paired_at, second_numbered_at, third_numbered_at};
+ghost use Rattle.std.specs.Prelude.{◌≡◌, true};
+ghost use Rattle.abc_dispatch.specs.Groups.{alone_ops, numbered_ops, ops_alone, ops_numbered, ops_paired, paired_ops};
+ghost use Rattle.abc_tables.specs.Opcodes.{is_in};
 
 /// The groups of opcodes that stand alone.
 #[derive(Clone, Copy)]
@@ -43,185 +43,68 @@ pub(crate) enum Paired {
     Construct,
 }
 
-/// The group of an opcode below 0x30.
-fn first_alone(op: u8) -> Alone
-    ensures { result ≡ first_alone_at op }
-{
-    if op < 0x1E {
-        Alone::Control
-    } else if op < 0x20 {
-        Alone::Walk
-    } else if op < 0x22 {
-        Alone::Push
-    } else if op < 0x24 {
-        Alone::Walk
-    } else {
-        Alone::Push
-    }
-}
-
-/// The group of an opcode from 0x30 to 0x85.
-fn second_alone(op: u8) -> Alone
-    ensures { result ≡ second_alone_at op }
-{
-    if op < 0x40 {
-        Alone::Control
-    } else if op < 0x50 {
-        Alone::Return
-    } else if op < 0x70 {
-        Alone::Scope
-    } else {
-        Alone::Convert
-    }
-}
-
-/// The group of an opcode from 0x86 to 0xB0.
-fn third_alone(op: u8) -> Alone
-    ensures { result ≡ third_alone_at op }
-{
-    if op < 0x90 {
-        Alone::Late
-    } else if op < 0xA0 {
-        Alone::Single
-    } else if op < 0xAB {
-        Alone::Double
-    } else {
-        Alone::Comparison
-    }
-}
-
-/// The group of an opcode from 0xB1 on.
-fn last_alone(op: u8) -> Alone
-    ensures { result ≡ last_alone_at op }
-{
-    if op < 0xC0 {
-        Alone::Late
-    } else if op < 0xC5 {
-        Alone::Single
-    } else if op < 0xD0 {
-        Alone::Double
-    } else {
-        Alone::Local
-    }
-}
-
 /// The group of an opcode that stands alone.
 pub(crate) fn group_alone(op: u8) -> Alone
-    ensures { result ≡ alone_at op }
+    requires { is_in op alone_ops ≡ true }
+    ensures { is_in op (ops_alone result) ≡ true }
 {
-    if op < 0x86 {
-        if op < 0x30 {
-            first_alone(op)
-        } else {
-            second_alone(op)
-        }
-    } else if op < 0xB1 {
-        third_alone(op)
-    } else {
-        last_alone(op)
-    }
-}
-
-/// The group of an opcode below 0x43.
-fn first_numbered(op: u8) -> Numbered
-    ensures { result ≡ first_numbered_at op }
-{
-    if op < 0x08 {
-        Numbered::Super
-    } else if op < 0x40 {
-        Numbered::Constant
-    } else if op < 0x41 {
-        Numbered::New
-    } else if op < 0x42 {
-        Numbered::Call
-    } else {
-        Numbered::Construct
-    }
-}
-
-/// The group of an opcode from 0x43 to 0x60.
-fn second_numbered(op: u8) -> Numbered
-    ensures { result ≡ second_numbered_at op }
-{
-    if op < 0x50 {
-        Numbered::Super
-    } else if op < 0x58 {
-        Numbered::New
-    } else if op < 0x59 {
-        Numbered::Class
-    } else if op < 0x5C {
-        Numbered::New
-    } else {
-        Numbered::Find
-    }
-}
-
-/// The group of an opcode from 0x61 to 0x6F.
-fn third_numbered(op: u8) -> Numbered
-    ensures { result ≡ third_numbered_at op }
-{
-    if op < 0x62 {
-        Numbered::Property
-    } else if op < 0x64 {
-        Numbered::Constant
-    } else if op < 0x6B {
-        Numbered::Property
-    } else {
-        Numbered::Slot
-    }
-}
-
-/// The group of an opcode from 0x70 on.
-fn last_numbered(op: u8) -> Numbered
-    ensures { result ≡ last_numbered_at op }
-{
-    if op < 0x90 {
-        Numbered::Typed
-    } else if op < 0xB0 {
-        Numbered::Count
-    } else if op < 0xC0 {
-        Numbered::Typed
-    } else if op < 0xE0 {
-        Numbered::Count
-    } else {
-        Numbered::Constant
+    match op {
+        0x1E | 0x1F | 0x23 => Alone::Walk,
+        0x20 | 0x21 | 0x26 | 0x27 | 0x28 | 0x29 | 0x2A | 0x2B => Alone::Push,
+        0x47 | 0x48 => Alone::Return,
+        0x57 | 0x64 => Alone::Scope,
+        0x70 | 0x73 | 0x74 | 0x75 | 0x76 | 0x77 | 0x82 | 0x85 => Alone::Convert,
+        0x87 | 0xB1 | 0xB3 | 0xB4 => Alone::Late,
+        0x90 | 0x91 | 0x93 | 0x95 | 0x96 | 0x97 | 0xC0 | 0xC1 | 0xC4 => Alone::Single,
+        0xA0
+        | 0xA1
+        | 0xA2
+        | 0xA3
+        | 0xA4
+        | 0xA5
+        | 0xA6
+        | 0xA7
+        | 0xA8
+        | 0xA9
+        | 0xAA
+        | 0xC5
+        | 0xC6
+        | 0xC7 => Alone::Double,
+        0xAB | 0xAC | 0xAD | 0xAE | 0xAF | 0xB0 => Alone::Comparison,
+        0xD0 | 0xD1 | 0xD2 | 0xD3 | 0xD4 | 0xD5 | 0xD6 | 0xD7 => Alone::Local,
+        _ => Alone::Control,
     }
 }
 
 /// The group of an opcode with one number.
 pub(crate) fn group_numbered(op: u8) -> Numbered
-    ensures { result ≡ numbered_at op }
+    requires { is_in op numbered_ops ≡ true }
+    ensures { is_in op (ops_numbered result) ≡ true }
 {
-    if op < 0x61 {
-        if op < 0x43 {
-            first_numbered(op)
-        } else {
-            second_numbered(op)
-        }
-    } else if op < 0x70 {
-        third_numbered(op)
-    } else {
-        last_numbered(op)
+    match op {
+        0x40 | 0x55 | 0x56 | 0x5A => Numbered::New,
+        0x41 => Numbered::Call,
+        0x42 => Numbered::Construct,
+        0x58 => Numbered::Class,
+        0x5D | 0x5E | 0x60 => Numbered::Find,
+        0x61 | 0x66 | 0x68 | 0x6A => Numbered::Property,
+        0x6C | 0x6D => Numbered::Slot,
+        0x80 | 0x86 | 0xB2 => Numbered::Typed,
+        0x92 | 0x94 | 0xC2 | 0xC3 => Numbered::Count,
+        0x08 | 0x2C | 0x2D | 0x2E | 0x2F | 0x31 | 0x62 | 0x63 | 0xF0 | 0xF1 => Numbered::Constant,
+        _ => Numbered::Super,
     }
 }
 
 /// The group of an opcode with two numbers.
 pub(crate) fn group_paired(op: u8) -> Paired
-    ensures { result ≡ paired_at op }
+    requires { is_in op paired_ops ≡ true }
+    ensures { is_in op (ops_paired result) ≡ true }
 {
-    if op < 0x40 {
-        Paired::Next
-    } else if op < 0x46 {
-        Paired::SuperCall
-    } else if op < 0x4A {
-        Paired::PropertyCall
-    } else if op < 0x4B {
-        Paired::Construct
-    } else if op < 0x4D {
-        Paired::PropertyCall
-    } else if op < 0x4F {
-        Paired::SuperCall
-    } else {
-        Paired::PropertyCall
+    match op {
+        0x32 => Paired::Next,
+        0x4A => Paired::Construct,
+        0x46 | 0x4C | 0x4F => Paired::PropertyCall,
+        _ => Paired::SuperCall,
     }
 }

@@ -1,6 +1,7 @@
 //! The instruction of the newest frame, by its opcode: it does what the table of acts says.
 #![tactic(auto)]
 
+mod arms;
 mod dispatch;
 mod groups;
 

@@ -163,6 +163,7 @@ fn start_or_end(linked: &Linked, s: &mut State) -> Result<(), Ended>
 }
 
 /// The step that begins a run: the last script is started, over no frame. Nothing is written.
+#[inline(never)]
 pub fn start_last(linked: &Linked, s: &mut State) -> Result<(), Halt>
     ghost out: { Outer }
     requires { CanStart linked.now out s.old }

@@ -117,28 +117,28 @@ own_below f t ps (suc k) = go (own_below f t ps k) (is_named f t (slice_get ps k
 pub own_is : (strings : List (List ℕ)) (h : Heap) (o : ℕ) (n : Span) → is_some (property_in_heap strings h o n) ≡ is_some (place_in strings h o n)
 own_is strings h o n = own_below (text_of strings h) (text_of strings h n) (object_at h.objects o).properties (length (object_at h.objects o).properties)
 
-may_own : (place : Option ℕ) (dynamic : Bool) → is_some place ≡ true → may_hold place dynamic ≡ true
-may_own None dynamic e = absurd cc
-may_own (Some k) dynamic e = refl
+may_all : (place : Option ℕ) → may_hold place true ≡ true
+may_all None = refl
+may_all (Some k) = refl
+
+may_if : (place : Option ℕ) → may_hold place false ≡ is_some place
+may_if None = refl
+may_if (Some k) = refl
 
 dynamic_is : (p : Setting) (o : ObjId) (w : World) → IsObject w.heap o → is_dynamic p (Obj o) w ≡ is_dynamic_layout p (object_at w.heap.objects o.0).layout
 dynamic_is p o w inner = ap (dynamic_in p) (object_inside w.heap.objects o.0 inner)
 
-pub property_known : (found : Option Value) (is : Option Value) {b : Bool} → found ≡ is → is_some found ≡ b → is_some is ≡ b
-property_known found is {b} e h = subst (λ (r : Option Value). is_some r ≡ b) e h
+-- what is dynamic may
+pub dynamic_takes : (p : Setting) (o : ObjId) (text : Span) (w : World) (d : Bool) → IsObject w.heap o → d ≡ is_dynamic p (Obj o) w → d ≡ true → true ≡ may_take p o text w
+dynamic_takes p o text w d inner is e =
+    sym (ap (may_hold (own_place p o text w)) (sym (dynamic_is p o w inner) ∙ sym is ∙ e) ∙ may_all (own_place p o text w))
 
-pub own_takes : (p : Setting) (o : ObjId) (text : Span) (w : World) → is_some (property_in_heap p.linked.file.strings w.heap o.0 text) ≡ true → true ≡ may_take p o text w
-own_takes p o text w e = sym (may_own (own_place p o text w) (is_dynamic_layout p (object_at w.heap.objects o.0).layout) (sym (own_is p.linked.file.strings w.heap o.0 text) ∙ e))
-
--- without one of its own, what is dynamic may
-may_as : (place : Option ℕ) (dynamic : Bool) → is_some place ≡ false → may_hold place dynamic ≡ dynamic
-may_as None dynamic e = refl
-may_as (Some k) dynamic e = absurd cc
-
-pub dynamic_takes : (p : Setting) (o : ObjId) (text : Span) (w : World) (d : Bool) → IsObject w.heap o → is_some (property_in_heap p.linked.file.strings w.heap o.0 text) ≡ false → d ≡ is_dynamic p (Obj o) w → d ≡ may_take p o text w
-dynamic_takes p o text w d inner e is =
-    is ∙ dynamic_is p o w inner
-    ∙ sym (may_as (own_place p o text w) (is_dynamic_layout p (object_at w.heap.objects o.0).layout) (sym (own_is p.linked.file.strings w.heap o.0 text) ∙ e))
+-- and what is not, where it has one of its own
+pub own_takes : (p : Setting) (o : ObjId) (text : Span) (w : World) (d b : Bool) → IsObject w.heap o → d ≡ is_dynamic p (Obj o) w → d ≡ false
+    → b ≡ is_some (property_in_heap p.linked.file.strings w.heap o.0 text) → b ≡ may_take p o text w
+own_takes p o text w d b inner is e own =
+    own ∙ own_is p.linked.file.strings w.heap o.0 text
+    ∙ sym (ap (may_hold (own_place p o text w)) (sym (dynamic_is p o w inner) ∙ sym is ∙ e) ∙ may_if (own_place p o text w))
 
 held : (p : Setting) (o : ObjId) (text : Span) (x : Value) (w : World) (b : Bool) → may_take p o text w ≡ b
     → write_own p o (object_at w.heap.objects o.0) text x None w ≡ (let m : Run (Unit {0}) = if b then set_property p o text x else throws hosts.ReferenceError in m w)

@@ -49,17 +49,17 @@ fn write_element(linked: &Linked, s: &mut State, o: ObjId, k: u32, v: Value) -> 
     }
 }
 
-/// Whether an object may take a property of a text: it has one of its own, or is dynamic.
+/// Whether an object may take a property of a text: it is dynamic, or has one of its own.
 fn may_take(linked: &Linked, s: &State, o: ObjId, text: Span) -> bool
     requires over { StandsOver linked.now s.now.arena }
     requires inside { IsObject s.now.arena o }
     requires name { IsText linked.now.file.strings s.now.arena text }
     ensures { (out : Outer) → result ≡ may_take_so (setting linked.now out) o text (world s.now out) }
 {
-    if s.arena.property(linked, o, text).is_some() {
+    if is_dynamic(linked, s, Value::Obj(o)) {
         return true;
     }
-    is_dynamic(linked, s, Value::Obj(o))
+    s.arena.property(linked, o, text).is_some()
 }
 
 /// Writes a property that no element is: an own one takes the value, and a dynamic object makes one.

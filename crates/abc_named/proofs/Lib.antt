@@ -7,3 +7,4 @@ pub mod Amongst
 pub mod Walks
 pub mod Typed
 pub mod Removed
+pub mod Counted

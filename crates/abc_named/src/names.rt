@@ -88,16 +88,24 @@ fn form_named(linked: &Linked, name: u32) -> Option<Form>
     }
 }
 
-/// How many parts a form takes at run time.
-fn parts_in(form: Option<Form>) -> u32
-    ensures { result ≡ parts_count (forms_of form) }
+/// So many parts, where the name is no attribute.
+fn parts_unless(attribute: bool, parts: u32) -> u32
+    ensures { result ≡ (if attribute then 0 else parts) }
 {
-    match form {
-        Some(Form::NoSpace(_)) => 1,
-        Some(Form::NoText(_)) => 1,
-        Some(Form::NoPart) => 2,
-        Some(Form::Whole(_)) => 0,
-        None => 0,
+    if attribute { 0 } else { parts }
+}
+
+/// How many parts a name takes at run time, by what it is.
+fn parts_in(name: &Multiname) -> u32
+    ensures { (p : Setting) → result ≡ parts_count (name_form p name.now) }
+{
+    match name {
+        Multiname::QName { .. } => 0,
+        Multiname::Multi { .. } => 0,
+        Multiname::Rt { attr, .. } => parts_unless(*attr, 1),
+        Multiname::MultiL { attr, .. } => parts_unless(*attr, 1),
+        Multiname::RtL { attr } => parts_unless(*attr, 2),
+        Multiname::TypeName { .. } => 0,
     }
 }
 
@@ -105,7 +113,13 @@ fn parts_in(form: Option<Form>) -> u32
 pub fn parts_of(linked: &Linked, name: u32) -> u32
     ensures { (out : Outer) → result ≡ parts_count (form_at (setting linked.now out) name) }
 {
-    parts_in(form_named(linked, name))
+    if name == 0 {
+        return 0;
+    }
+    match linked.abc().names.find(name as usize - 1) {
+        Some(found) => parts_in(found),
+        None => 0,
+    }
 }
 
 /// The namespace that comes at run time; null throws.

@@ -1,34 +1,34 @@
 use Rattle.abc_dispatch.proofs.dispatch.run_alone.Given as goal
 
-abbrev pub ghost-run_control : goal.ghost-run_control
-ghost-run_control g a = g.out
+abbrev pub ghost-control_arm : goal.ghost-control_arm
+ghost-control_arm g a = g.out
 
-abbrev pub ghost-run_walk : goal.ghost-run_walk
-ghost-run_walk g a = g.out
+abbrev pub ghost-walk_arm : goal.ghost-walk_arm
+ghost-walk_arm g a = g.out
 
-abbrev pub ghost-run_push : goal.ghost-run_push
-ghost-run_push g a = g.out
+abbrev pub ghost-push_arm : goal.ghost-push_arm
+ghost-push_arm g a = g.out
 
-abbrev pub ghost-run_return : goal.ghost-run_return
-ghost-run_return g a = g.out
+abbrev pub ghost-return_arm : goal.ghost-return_arm
+ghost-return_arm g a = g.out
 
-abbrev pub ghost-run_scope : goal.ghost-run_scope
-ghost-run_scope g a = g.out
+abbrev pub ghost-scope_arm : goal.ghost-scope_arm
+ghost-scope_arm g a = g.out
 
-abbrev pub ghost-run_convert : goal.ghost-run_convert
-ghost-run_convert g a = g.out
+abbrev pub ghost-convert_arm : goal.ghost-convert_arm
+ghost-convert_arm g a = g.out
 
-abbrev pub ghost-run_late : goal.ghost-run_late
-ghost-run_late g a = g.out
+abbrev pub ghost-late_arm : goal.ghost-late_arm
+ghost-late_arm g a = g.out
 
-abbrev pub ghost-run_single : goal.ghost-run_single
-ghost-run_single g a = g.out
+abbrev pub ghost-single_arm : goal.ghost-single_arm
+ghost-single_arm g a = g.out
 
-abbrev pub ghost-run_double : goal.ghost-run_double
-ghost-run_double g a = g.out
+abbrev pub ghost-double_arm : goal.ghost-double_arm
+ghost-double_arm g a = g.out
 
-abbrev pub ghost-run_comparison : goal.ghost-run_comparison
-ghost-run_comparison g a = g.out
+abbrev pub ghost-comparison_arm : goal.ghost-comparison_arm
+ghost-comparison_arm g a = g.out
 
-abbrev pub ghost-run_local : goal.ghost-run_local
-ghost-run_local g a = g.out
+abbrev pub ghost-local_arm : goal.ghost-local_arm
+ghost-local_arm g a = g.out

@@ -1,34 +1,34 @@
 use Rattle.abc_dispatch.proofs.dispatch.run_numbered.Given as goal
 
-abbrev pub ghost-run_super : goal.ghost-run_super
-ghost-run_super g a = g.out
+abbrev pub ghost-super_arm : goal.ghost-super_arm
+ghost-super_arm g a = g.out
 
-abbrev pub ghost-run_constant : goal.ghost-run_constant
-ghost-run_constant g a = g.out
+abbrev pub ghost-constant_arm : goal.ghost-constant_arm
+ghost-constant_arm g a = g.out
 
-abbrev pub ghost-run_new : goal.ghost-run_new
-ghost-run_new g a = g.out
+abbrev pub ghost-new_arm : goal.ghost-new_arm
+ghost-new_arm g a = g.out
 
-abbrev pub ghost-run_call_value : goal.ghost-run_call_value
-ghost-run_call_value g a = g.out
+abbrev pub ghost-call_arm : goal.ghost-call_arm
+ghost-call_arm g a = g.out
 
-abbrev pub ghost-run_construct : goal.ghost-run_construct
-ghost-run_construct g a = g.out
+abbrev pub ghost-construct_arm : goal.ghost-construct_arm
+ghost-construct_arm g a = g.out
 
-abbrev pub ghost-run_class : goal.ghost-run_class
-ghost-run_class g a = g.out
+abbrev pub ghost-class_arm : goal.ghost-class_arm
+ghost-class_arm g a = g.out
 
-abbrev pub ghost-run_find : goal.ghost-run_find
-ghost-run_find g a = g.out
+abbrev pub ghost-find_arm : goal.ghost-find_arm
+ghost-find_arm g a = g.out
 
-abbrev pub ghost-run_property : goal.ghost-run_property
-ghost-run_property g a = g.out
+abbrev pub ghost-property_arm : goal.ghost-property_arm
+ghost-property_arm g a = g.out
 
-abbrev pub ghost-run_slot : goal.ghost-run_slot
-ghost-run_slot g a = g.out
+abbrev pub ghost-slot_arm : goal.ghost-slot_arm
+ghost-slot_arm g a = g.out
 
-abbrev pub ghost-run_typed : goal.ghost-run_typed
-ghost-run_typed g a = g.out
+abbrev pub ghost-typed_arm : goal.ghost-typed_arm
+ghost-typed_arm g a = g.out
 
-abbrev pub ghost-run_count : goal.ghost-run_count
-ghost-run_count g a = g.out
+abbrev pub ghost-count_arm : goal.ghost-count_arm
+ghost-count_arm g a = g.out

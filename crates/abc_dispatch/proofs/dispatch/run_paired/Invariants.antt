@@ -1,13 +1,13 @@
 use Rattle.abc_dispatch.proofs.dispatch.run_paired.Given as goal
 
-abbrev pub ghost-run_next : goal.ghost-run_next
-ghost-run_next g a = g.out
+abbrev pub ghost-next_arm : goal.ghost-next_arm
+ghost-next_arm g a = g.out
 
-abbrev pub ghost-run_super_call : goal.ghost-run_super_call
-ghost-run_super_call g a = g.out
+abbrev pub ghost-super_call_arm : goal.ghost-super_call_arm
+ghost-super_call_arm g a = g.out
 
-abbrev pub ghost-run_property_call : goal.ghost-run_property_call
-ghost-run_property_call g a = g.out
+abbrev pub ghost-property_call_arm : goal.ghost-property_call_arm
+ghost-property_call_arm g a = g.out
 
-abbrev pub ghost-run_construct_property : goal.ghost-run_construct_property
-ghost-run_construct_property g a = g.out
+abbrev pub ghost-construct_property_arm : goal.ghost-construct_property_arm
+ghost-construct_property_arm g a = g.out

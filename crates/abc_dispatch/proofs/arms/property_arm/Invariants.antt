@@ -1,0 +1,4 @@
+use Rattle.abc_dispatch.proofs.arms.property_arm.Given as goal
+
+abbrev pub ghost-run_property : goal.ghost-run_property
+ghost-run_property g a = g.out

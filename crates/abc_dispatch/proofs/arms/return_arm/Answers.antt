@@ -1,0 +1,12 @@
+use Rattle.abc_dispatch.proofs.Led.{returned_finishes, told_finishes, told_leaves}
+use Rattle.abc_plainsteps.specs.Here.{act_here}
+use Rattle.abc_stacks.specs.Frame.{newest}
+use Rattle.abc_states.specs.Outer.{setting}
+use Rattle.abc_tables.specs.declared.code.Instr.TheVariants.{Plain}
+use Rattle.abc_dispatch.proofs.arms.return_arm.Goals as goal
+
+pub returns-clause-leaves : goal.returns-clause-leaves
+returns-clause-leaves g c = told_leaves c.args.linked.now g.out (act_here (setting c.args.linked.now g.out) (newest c.args.s.now.frames) (Plain c.args.op)) c.args.s.now c.run_return.new.s c.run_return.result _ c.leaves.ensures.left c.run_return.ensures.leaves
+
+pub returns-clause-finishes : goal.returns-clause-finishes
+returns-clause-finishes g c = told_finishes c.args.linked.now c.run_return.result c.run_return.new.s _ c.leaves.ensures.left (returned_finishes c.args.linked.now c.run_return.result c.run_return.new.s c.run_return.ensures.returns)

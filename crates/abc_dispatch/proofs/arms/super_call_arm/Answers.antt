@@ -1,0 +1,12 @@
+use Rattle.abc_dispatch.proofs.Led.{told_finishes, told_leaves}
+use Rattle.abc_plainsteps.specs.Here.{act_here}
+use Rattle.abc_stacks.specs.Frame.{newest}
+use Rattle.abc_states.specs.Outer.{setting}
+use Rattle.abc_tables.specs.declared.code.Instr.TheVariants.{Two}
+use Rattle.abc_dispatch.proofs.arms.super_call_arm.Goals as goal
+
+pub returns-clause-leaves : goal.returns-clause-leaves
+returns-clause-leaves g c = told_leaves c.args.linked.now g.out (act_here (setting c.args.linked.now g.out) (newest c.args.s.now.frames) (Two c.args.op c.args.n c.args.count)) c.args.s.now c.run_super_call.new.s c.run_super_call.result _ c.leaves.ensures.left c.run_super_call.ensures.leaves
+
+pub returns-clause-finishes : goal.returns-clause-finishes
+returns-clause-finishes g c = told_finishes c.args.linked.now c.run_super_call.result c.run_super_call.new.s _ c.leaves.ensures.left c.run_super_call.ensures.finishes
