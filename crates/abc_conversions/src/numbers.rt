@@ -136,6 +136,7 @@ fn calculate_made(op: Operation, x: Value, y: Value) -> Result<i64, Fault>
 
 /// The result of an operation on two values, of which the left is made a number first. (Most are numbers.)
 #[tactic(auto, using(crate::proofs::Operands::both))]
+#[inline(always)]
 pub fn calculate_values(op: Operation, x: Value, y: Value) -> Result<i64, Fault>
     requires left { IsInRange x }
     requires right { IsInRange y }
@@ -185,6 +186,7 @@ fn calculate_made_one(op: Single, v: Value) -> Result<i64, Fault>
 
 /// The result of an operation on one value. (Most are numbers.)
 #[tactic(auto, using(crate::proofs::Operands::one))]
+#[inline(always)]
 pub fn calculate_value(op: Single, v: Value) -> Result<i64, Fault>
     requires { IsInRange v }
     ensures value { result ≡ calculated_single_of op v }

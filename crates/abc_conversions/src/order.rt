@@ -42,6 +42,7 @@ fn is_below(a: &[u8], b: &[u8]) -> bool
     a.cmp(&b).is_lt()
 }
 
+#[inline(never)]
 fn order_texts(order: Order, a: &[u8], b: &[u8]) -> Result<bool, Fault>
     ensures { result ≡ ordered_texts order a.now b.now }
 {
@@ -77,6 +78,7 @@ fn numbers_hold(order: Order, left: Option<i64>, right: Option<i64>) -> bool
 }
 
 #[tactic(auto, using(crate::proofs::Following::goes, crate::proofs::Following::stops))]
+#[inline(never)]
 fn order_numbers(order: Order, x: Value, y: Value) -> Result<bool, Fault>
     requires left { IsInRange x }
     requires right { IsInRange y }
@@ -89,6 +91,7 @@ fn order_numbers(order: Order, x: Value, y: Value) -> Result<bool, Fault>
 
 /// Whether two values stand in an order: two texts by their bytes, all others by their numbers, the left first. Undefined
 /// stands in none.
+#[inline(always)]
 pub fn are_ordered<T: Texts>(texts: &T, order: Order, x: Value, y: Value) -> Result<bool, Fault>
     requires left_text { IsReadable (T.has texts.now) x }
     requires right_text { IsReadable (T.has texts.now) y }

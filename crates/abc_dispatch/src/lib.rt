@@ -3,6 +3,5 @@
 
 mod arms;
 mod dispatch;
-mod groups;
 
 pub use dispatch::run_newest;

@@ -22,6 +22,7 @@ use abc_search::{Declared, Found, Member, TraitSpace};
 
 impl Query<'_> {
     /// Whether the name holds the protected namespace of a layout's class.
+    #[inline(always)]
     fn holds_protected(&self, x: LayoutId) -> bool
         requires { IsLayout self.now.l.now x }
         ensures { result ≡ does_hold_protected self.now.l.now self.now.name.spaces x.0 }
@@ -34,6 +35,7 @@ impl Query<'_> {
 
     /// Whether a trait's namespace fits, where `held` says that the name holds the protected namespace of a class on the
     /// way to it.
+    #[inline(always)]
     fn fits(&self, x: LayoutId, held: bool, space: TraitSpace) -> bool
         requires { IsLayout self.now.l.now x }
         ensures { result ≡ fits_held self.now.l.now self.now.name x.0 held space }
@@ -42,6 +44,7 @@ impl Query<'_> {
     }
 
     /// What is found by a trait.
+    #[inline(always)]
     fn found_as(&self, member: Member) -> Found
         ensures { result ≡ found_as self.now.l.now member }
     {
@@ -57,6 +60,7 @@ impl Query<'_> {
     }
 
     /// What a trait that fits gives.
+    #[inline(always)]
     fn give(&self, member: Member) -> Found
         ensures { result ≡ member_found self.now.l.now self.now.skip member }
     {
@@ -131,6 +135,7 @@ impl Query<'_> {
     }
 
     /// What the trait at a place of a layout's table gives, which has the text.
+    #[inline(always)]
     fn try_place(&self, x: LayoutId, held: bool, place: u32) -> Found
         requires layout { IsLayout self.now.l.now x }
         requires place { place < length (own_table_of self.now.l.now x.0) }
@@ -148,6 +153,7 @@ impl Query<'_> {
     }
 
     /// What the traits at some places of a layout's table give.
+    #[inline(always)]
     fn try_places(&self, x: LayoutId, held: bool, places: &[u32]) -> Found
         requires layout { IsLayout self.now.l.now x }
         requires places { (i : ℕ) → i < length places.now → get_or places.now i 0 < length (own_table_of self.now.l.now x.0) }
@@ -164,6 +170,7 @@ impl Query<'_> {
     }
 
     /// What the traits of a layout's table give.
+    #[inline(always)]
     fn find_in_table(&self, x: LayoutId, held: bool) -> Found
         requires { IsLayout self.now.l.now x }
         ensures { result ≡ gives self.now.l.now self.now.name self.now.skip x.0 held (with_text self.now.text.now (traits_from self.now.l.now (slots_below self.now.l.now (base self.now.l.now x.0)) (own_table_of self.now.l.now x.0))) }
@@ -188,6 +195,7 @@ impl Query<'_> {
     }
 
     /// What the traits of a layout give.
+    #[inline(always)]
     fn find_in_layout(&self, x: LayoutId, held: bool) -> Found
         requires { IsLayout self.now.l.now x }
         ensures { result ≡ given self.now.l.now self.now.text.now self.now.name self.now.skip x.0 held }
@@ -202,6 +210,7 @@ impl Query<'_> {
     }
 
     /// Whether the name holds a protected namespace on the way to a layout, the layout's own included.
+    #[inline(always)]
     fn holds_up_to(&self, held: bool, x: LayoutId) -> bool
         requires { IsLayout self.now.l.now x }
         ensures { result ≡ (held || does_hold_protected self.now.l.now self.now.name.spaces x.0) }
@@ -211,6 +220,7 @@ impl Query<'_> {
 
     /// What the traits of a layout and its bases give, where `below` says that the name holds the protected namespace of a
     /// class on the way to it.
+    #[inline(always)]
     fn find_from(&self, from: LayoutId, below: bool) -> Found
         requires { IsLayout self.now.l.now from }
         ensures { result ≡ along self.now.l.now self.now.text.now self.now.name self.now.skip below (way (base self.now.l.now) (Some from.0)) }
@@ -231,6 +241,7 @@ impl Query<'_> {
     }
 
     /// Whether the name holds the protected namespace of a class on the way from a layout to one above it.
+    #[inline(always)]
     fn holds_below(&self, object: LayoutId, from: LayoutId) -> bool
         requires { IsLayout self.now.l.now object }
         ensures { result ≡ list_any (does_hold_protected self.now.l.now self.now.name.spaces) (before from.0 (way (base self.now.l.now) (Some object.0))) }
@@ -250,6 +261,7 @@ impl Query<'_> {
     }
 
     /// What the traits of a layout and its bases give, for an object whose layout is that one or stands under it.
+    #[inline(always)]
     pub(crate) fn find_declared(&self, object: LayoutId, from: LayoutId) -> Found
         requires object { IsLayout self.now.l.now object }
         requires from { IsLayout self.now.l.now from }

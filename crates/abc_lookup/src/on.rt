@@ -11,6 +11,7 @@ use abc_search::Found;
 
 impl Query<'_> {
     /// What the declared traits of an object give.
+    #[inline(always)]
     pub(crate) fn find_trait_of(&self, o: ObjId) -> Found
         requires over { StandsOver self.now.l.now self.now.a.now }
         requires inside { IsObject self.now.a.now o }
@@ -21,6 +22,7 @@ impl Query<'_> {
     }
 
     /// What the declared traits of a value give.
+    #[inline(always)]
     fn find_trait_on(&self, holder: Value) -> Found
         requires over { StandsOver self.now.l.now self.now.a.now }
         requires holder { Exists self.now.l.now self.now.a.now holder }
@@ -45,6 +47,7 @@ impl Query<'_> {
     }
 
     /// The object itself, or the prototype of the class of a value that is none.
+    #[inline(always)]
     fn holder_of(&self, holder: Value) -> Option<ObjId>
         requires over { StandsOver self.now.l.now self.now.a.now }
         requires holder { Exists self.now.l.now self.now.a.now holder }
@@ -62,6 +65,7 @@ impl Query<'_> {
     }
 
     /// What a value and its delegates have of their own gives, where the name holds the public namespace or any.
+    #[inline(always)]
     fn find_public_on(&self, holder: Value) -> Found
         requires over { StandsOver self.now.l.now self.now.a.now }
         requires holder { Exists self.now.l.now self.now.a.now holder }
@@ -74,6 +78,7 @@ impl Query<'_> {
     }
 
     /// What a value's traits, and then what it and its delegates have of their own, give.
+    #[inline(always)]
     pub(crate) fn find_on(&self, holder: Value) -> Found
         requires over { StandsOver self.now.l.now self.now.a.now }
         requires holder { Exists self.now.l.now self.now.a.now holder }

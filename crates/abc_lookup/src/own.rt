@@ -11,6 +11,7 @@ use abc_search::Found;
 
 impl Query<'_> {
     /// What an array's elements give.
+    #[inline(always)]
     fn find_numbered(&self, o: ObjId) -> Found
         requires { IsObject self.now.a.now o }
         ensures { result ≡ answer self.now.l.now self.now.a.now self.now.name self.now.skip (elements_from o.0 0 (elements_of self.now.a.now.objects o.0)) }
@@ -28,6 +29,7 @@ impl Query<'_> {
     }
 
     /// What an array's length and elements give.
+    #[inline(always)]
     fn find_in_array(&self, o: ObjId) -> Found
         requires { IsObject self.now.a.now o }
         ensures { result ≡ answer self.now.l.now self.now.a.now self.now.name self.now.skip (OfLength o.0 ∷ elements_from o.0 0 (elements_of self.now.a.now.objects o.0)) }
@@ -39,6 +41,7 @@ impl Query<'_> {
     }
 
     /// What the length and elements of an array give, and of another object nothing.
+    #[inline(always)]
     fn find_element(&self, o: ObjId) -> Found
         requires { IsObject self.now.a.now o }
         ensures { result ≡ answer self.now.l.now self.now.a.now self.now.name self.now.skip (elements o.0 (object_at self.now.a.now.objects o.0)) }
@@ -50,6 +53,7 @@ impl Query<'_> {
     }
 
     /// What an object's dynamic properties give.
+    #[inline(always)]
     pub(crate) fn find_property(&self, o: ObjId) -> Found
         requires over { StandsOver self.now.l.now self.now.a.now }
         requires inside { IsObject self.now.a.now o }
@@ -62,6 +66,7 @@ impl Query<'_> {
     }
 
     /// What an object has of its own gives, elements first.
+    #[inline(always)]
     pub(crate) fn find_own(&self, o: ObjId) -> Found
         requires over { StandsOver self.now.l.now self.now.a.now }
         requires inside { IsObject self.now.a.now o }
@@ -75,6 +80,7 @@ impl Query<'_> {
     }
 
     /// What an object and its delegates have of their own gives.
+    #[inline(always)]
     pub(crate) fn find_along(&self, holder: Option<ObjId>) -> Found
         requires over { StandsOver self.now.l.now self.now.a.now }
         requires inside { IsObjectOrNone self.now.a.now holder }

@@ -21,6 +21,7 @@ use abc_search::{Found, Name, ScopeFound, Skip, Want};
 /// The search for a name among the declared traits of the layout `from` and of its bases, derived before base and in the
 /// order of the file, for an object of the layout `object`, which is `from` or stands under it. It answers `WrongSide`
 /// where nothing fits but traits that were passed over, and else `Missing` where nothing fits.
+#[inline(always)]
 pub fn find_declared(
     l: &Linked,
     a: &Arena,
@@ -52,6 +53,7 @@ pub fn find_declared(
 /// holds the public namespace or any, among the elements and dynamic properties of the object and of its delegates in
 /// turn. It answers `WrongSide` where nothing fits but traits that were passed over, and else `Missing` where nothing
 /// fits.
+#[inline(always)]
 pub fn find_on(l: &Linked, a: &Arena, holder: Value, name: &Name, want: Want) -> Found
     requires over { StandsOver l.now a.now }
     requires holder { Exists l.now a.now holder }

@@ -22,6 +22,7 @@ use abc_stacks::Wait;
 use abc_states::{How, Left, State, Stop, settle};
 
 /// Enters a method of an owner on an object, with so many arguments. The object is one, since the method was found on it.
+#[inline(always)]
 pub(crate) fn enter_on(
     linked: &Linked,
     s: &mut State,
@@ -44,6 +45,7 @@ pub(crate) fn enter_on(
 }
 
 /// Reads the value that was found, which settles at once.
+#[inline(always)]
 fn read_value(linked: &Linked, s: &mut State, found: Found, v: Value, how: How) -> Result<(), Stop>
     ghost out: { Outer }
     requires set { IsSet linked.now s.old }
@@ -60,6 +62,7 @@ fn read_value(linked: &Linked, s: &mut State, found: Found, v: Value, how: How) 
 }
 
 /// Reads what was found on a value.
+#[inline(always)]
 pub fn read_found(
     linked: &Linked,
     s: &mut State,
@@ -84,6 +87,7 @@ pub fn read_found(
 }
 
 /// Calls a method of an owner on an object, with so many arguments.
+#[inline(always)]
 fn call_method(
     linked: &Linked,
     s: &mut State,
@@ -133,6 +137,7 @@ fn call_value_found(
 }
 
 /// Calls what was found on a value, with so many arguments.
+#[inline(always)]
 pub fn call_found(
     linked: &Linked,
     s: &mut State,

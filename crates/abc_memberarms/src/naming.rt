@@ -28,6 +28,7 @@ use abc_search::{answer_is_the_first, found_is_there};
 use abc_states::{How, Left, State, Stop};
 
 /// What a name finds on a value, for a read.
+#[inline(always)]
 fn find(linked: &Linked, s: &State, v: Value, name: &Name) -> Found
     requires over { StandsOver linked.now s.now.arena }
     requires value { Exists linked.now s.now.arena v }
@@ -41,6 +42,7 @@ fn find(linked: &Linked, s: &State, v: Value, name: &Name) -> Found
 }
 
 /// Reads by a name on a value; null and undefined throw.
+#[inline(always)]
 pub fn read_on(linked: &Linked, s: &mut State, v: Value, name: &Name, how: How) -> Result<(), Stop>
     ghost out: { Outer }
     requires set { IsSet linked.now s.old }
@@ -58,6 +60,7 @@ pub fn read_on(linked: &Linked, s: &mut State, v: Value, name: &Name, how: How) 
 }
 
 /// Writes by a name on an object: its declared traits are asked first. The value is the top operand.
+#[inline(always)]
 fn write_on_object(
     linked: &Linked,
     s: &mut State,
@@ -87,6 +90,7 @@ fn write_on_object(
 
 /// Writes by a name on a value; null and undefined throw, and no other value but an object holds anything. The value that is
 /// written is the top operand.
+#[inline(always)]
 pub fn write_on(
     linked: &Linked,
     s: &mut State,
@@ -117,6 +121,7 @@ pub fn write_on(
 }
 
 /// Calls by a name on a value, with so many arguments; null and undefined throw.
+#[inline(always)]
 pub fn call_on(
     linked: &Linked,
     s: &mut State,

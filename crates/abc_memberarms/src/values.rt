@@ -116,6 +116,7 @@ fn length_of(linked: &Linked, s: &State, holder: ObjId) -> Value
 }
 
 /// The value that was found, where no method is.
+#[inline(always)]
 pub fn value_found(linked: &Linked, s: &State, found: Found, v: Value) -> Result<Value, Stop>
     ghost out: { Outer }
     requires over { StandsOver linked.now s.now.arena }
@@ -156,6 +157,7 @@ fn bind(linked: &Linked, s: &mut State, owner: Owner, method: u32, v: Value) -> 
 }
 
 /// The value that was found, where no getter is: a method that is read is bound to the object.
+#[inline(always)]
 pub(crate) fn value_of(
     linked: &Linked,
     s: &mut State,

@@ -63,6 +63,7 @@ fn may_take(linked: &Linked, s: &State, o: ObjId, text: Span) -> bool
 }
 
 /// Writes a property that no element is: an own one takes the value, and a dynamic object makes one.
+#[inline(always)]
 fn write_own(linked: &Linked, s: &mut State, o: ObjId, text: Span, v: Value) -> Result<(), Stop>
     requires over { StandsOver linked.now s.old.arena }
     requires inside { IsObject s.old.arena o }
@@ -79,6 +80,7 @@ fn write_own(linked: &Linked, s: &mut State, o: ObjId, text: Span, v: Value) -> 
 }
 
 /// Writes a property of an object; an array's element names come first.
+#[inline(always)]
 fn write_property(
     linked: &Linked,
     s: &mut State,
@@ -134,6 +136,7 @@ fn may_write(constant: bool, initial: bool) -> bool
 }
 
 /// Writes a property, where the name holds the public namespace.
+#[inline(always)]
 fn write_public(linked: &Linked, s: &mut State, o: ObjId, name: &Name, v: Value) -> Result<(), Stop>
     requires over { StandsOver linked.now s.old.arena }
     requires inside { IsObject s.old.arena o }
@@ -150,6 +153,7 @@ fn write_public(linked: &Linked, s: &mut State, o: ObjId, name: &Name, v: Value)
 }
 
 /// Writes what was found among the declared traits, where no setter is; where nothing was, a property.
+#[inline(always)]
 fn write_value(
     linked: &Linked,
     s: &mut State,
@@ -180,6 +184,7 @@ fn write_value(
 }
 
 /// Writes what was found, where no setter is, and settles at once.
+#[inline(always)]
 fn write_at_once(
     linked: &Linked,
     s: &mut State,
@@ -207,6 +212,7 @@ fn write_at_once(
 
 /// Writes what was found among the declared traits; where nothing was, a property. The value is the top operand, where a setter
 /// finds it.
+#[inline(always)]
 pub fn write_found(
     linked: &Linked,
     s: &mut State,

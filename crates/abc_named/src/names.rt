@@ -47,6 +47,7 @@ fn unless_attribute(attribute: bool, form: Form) -> Option<Form>
 }
 
 /// What one name leaves; attributes and types with parameters are never run.
+#[inline(always)]
 fn form_of(linked: &Linked, name: &Multiname) -> Option<Form>
     requires { HasString name.now }
     ensures { (out : Outer) → forms_of result ≡ name_form (setting linked.now out) name.now }
@@ -75,6 +76,7 @@ fn form_of(linked: &Linked, name: &Multiname) -> Option<Form>
 }
 
 /// What the name that an instruction names leaves.
+#[inline(always)]
 fn form_named(linked: &Linked, name: u32) -> Option<Form>
     ensures { (out : Outer) → forms_of result ≡ form_at (setting linked.now out) name }
 {
@@ -96,6 +98,7 @@ fn parts_unless(attribute: bool, parts: u32) -> u32
 }
 
 /// How many parts a name takes at run time, by what it is.
+#[inline(always)]
 fn parts_in(name: &Multiname) -> u32
     ensures { (p : Setting) → result ≡ parts_count (name_form p name.now) }
 {
@@ -110,6 +113,7 @@ fn parts_in(name: &Multiname) -> u32
 }
 
 /// How many parts a name takes at run time.
+#[inline(always)]
 pub fn parts_of(linked: &Linked, name: u32) -> u32
     ensures { (out : Outer) → result ≡ parts_count (form_at (setting linked.now out) name) }
 {
@@ -177,6 +181,7 @@ fn with_both(linked: &Linked, s: &mut State, text: Value, space: Value) -> Resul
 }
 
 /// The name of a form, whose parts of run time stand under so many operands.
+#[inline(always)]
 fn name_from(linked: &Linked, s: &mut State, form: Form, above: u32) -> Result<Name, Stop>
     ghost out: { Outer }
     requires set { IsSet linked.now s.old }
@@ -207,6 +212,7 @@ fn name_from(linked: &Linked, s: &mut State, form: Form, above: u32) -> Result<N
 }
 
 /// The name of an instruction, whose parts of run time stand under so many operands.
+#[inline(always)]
 pub fn name_of(linked: &Linked, s: &mut State, name: u32, above: u32) -> Result<Name, Stop>
     ghost out: { Outer }
     requires set { IsSet linked.now s.old }

@@ -67,6 +67,7 @@ pub fn coerce(linked: &Linked, s: &mut State, ty: Ty, v: Value) -> Result<Value,
 }
 
 /// What an opcode computes of one value.
+#[inline(always)]
 pub fn compute_one(linked: &Linked, s: &mut State, op: u8, v: Value) -> Result<Value, Stop>
     ghost out: { Outer }
     requires over { StandsOver linked.now s.old.arena }
@@ -82,6 +83,7 @@ pub fn compute_one(linked: &Linked, s: &mut State, op: u8, v: Value) -> Result<V
 }
 
 /// What an opcode computes of two values.
+#[inline(always)]
 pub fn compute_two(
     linked: &Linked,
     s: &mut State,
@@ -104,6 +106,7 @@ pub fn compute_two(
 }
 
 /// How an opcode compares two values.
+#[inline(always)]
 pub fn compare(linked: &Linked, s: &State, op: u8, x: Value, y: Value) -> Result<bool, Stop>
     ghost out: { Outer }
     requires over { StandsOver linked.now s.now.arena }
