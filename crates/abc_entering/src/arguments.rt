@@ -20,6 +20,7 @@ use abc_tables::{Method, has_flag};
 
 /// The k-th argument of so many on top of the operands, the first the one that was pushed first; past them the value of the
 /// parameter's option.
+#[inline(always)]
 fn argument(
     linked: &Linked,
     s: &State,
@@ -46,6 +47,7 @@ fn argument(
 }
 
 /// The k-th argument, coerced to a type.
+#[inline(always)]
 fn coerce_argument(
     linked: &Linked,
     s: &mut State,
@@ -72,6 +74,7 @@ fn coerce_argument(
 }
 
 /// The arguments are coerced to the types of the parameters, in order, behind the receiver, which is given alone before.
+#[inline(always)]
 pub(crate) fn coerce_arguments(
     linked: &Linked,
     s: &mut State,
@@ -110,6 +113,7 @@ fn array_with(linked: &Linked, s: &mut State, count: u32) -> Result<Option<Value
 }
 
 /// The array of the arguments behind the parameters, or of all, as they were given, where a method takes one.
+#[inline(always)]
 pub(crate) fn array_of(
     linked: &Linked,
     s: &mut State,
@@ -132,6 +136,7 @@ pub(crate) fn array_of(
 }
 
 /// One more value is given, if there is one.
+#[inline(always)]
 pub(crate) fn give(given: &mut Pile<Value>, more: Option<Value>)
     requires { HasRoom given.old 1 }
     ensures { given.new ≡ record { items = given.old.items ++ list_of more; limit = given.old.limit } }

@@ -18,6 +18,7 @@ use abc_moves::try_enter_with;
 use abc_stacks::Wait;
 
 /// Makes the first locals of a method: its receiver, and its arguments, of which so many are given on top of the operands.
+#[inline(always)]
 pub fn prepare(
     linked: &Linked,
     s: &mut State,
@@ -45,6 +46,7 @@ pub fn prepare(
 
 /// A method whose first locals are made is put on top, with the array that it may take of so many arguments, which are on top of
 /// the operands. Its room is taken last of all.
+#[inline(always)]
 pub fn put_on(
     linked: &Linked,
     s: &mut State,
@@ -73,6 +75,7 @@ pub fn put_on(
 }
 
 /// Enters a method with so many arguments, which are on top of the operands. So many operands leave the frame, which waits.
+#[inline(always)]
 pub fn enter(
     linked: &Linked,
     s: &mut State,
@@ -98,6 +101,7 @@ pub fn enter(
 }
 
 /// Enters a method of an owner, where its owner keeps it.
+#[inline(always)]
 pub fn enter_owned(
     linked: &Linked,
     s: &mut State,

@@ -19,6 +19,7 @@ use abc_moves::branch;
 use abc_states::{State, Stop, compare, operand};
 
 /// Branches where a comparison of the two top operands is true.
+#[inline(always)]
 pub fn branch_so(linked: &Linked, s: &mut State, op: u8, target: u32) -> Result<(), Stop>
     ghost out: { Outer }
     requires set { IsSet linked.now s.old }
@@ -35,6 +36,7 @@ pub fn branch_so(linked: &Linked, s: &mut State, op: u8, target: u32) -> Result<
 }
 
 /// Branches where a comparison of the two top operands is false.
+#[inline(always)]
 pub fn branch_not(linked: &Linked, s: &mut State, op: u8, target: u32) -> Result<(), Stop>
     ghost out: { Outer }
     requires set { IsSet linked.now s.old }
@@ -51,6 +53,7 @@ pub fn branch_not(linked: &Linked, s: &mut State, op: u8, target: u32) -> Result
 }
 
 /// Branches where the top operand is true.
+#[inline(always)]
 pub fn branch_if(linked: &Linked, s: &mut State, target: u32) -> Result<(), Stop>
     ghost out: { Outer }
     requires { IsReady 1 0 s.old.frames }
@@ -65,6 +68,7 @@ pub fn branch_if(linked: &Linked, s: &mut State, target: u32) -> Result<(), Stop
 }
 
 /// Branches where the top operand is not true.
+#[inline(always)]
 pub fn branch_unless(linked: &Linked, s: &mut State, target: u32) -> Result<(), Stop>
     ghost out: { Outer }
     requires { IsReady 1 0 s.old.frames }

@@ -14,6 +14,7 @@ use abc_states::{
 };
 
 /// Converts the top operand.
+#[inline(always)]
 pub fn convert_top(linked: &Linked, s: &mut State, to: Conversion) -> Result<(), Stop>
     ghost out: { Outer }
     requires set { IsSet linked.now s.old }
@@ -28,6 +29,7 @@ pub fn convert_top(linked: &Linked, s: &mut State, to: Conversion) -> Result<(),
 }
 
 /// Replaces the top operand by what an opcode computes of it.
+#[inline(always)]
 pub fn compute_top(linked: &Linked, s: &mut State, op: u8) -> Result<(), Stop>
     ghost out: { Outer }
     requires set { IsSet linked.now s.old }
@@ -42,6 +44,7 @@ pub fn compute_top(linked: &Linked, s: &mut State, op: u8) -> Result<(), Stop>
 }
 
 /// Replaces the two top operands by what an opcode computes of them.
+#[inline(always)]
 pub fn compute_both(linked: &Linked, s: &mut State, op: u8) -> Result<(), Stop>
     ghost out: { Outer }
     requires set { IsSet linked.now s.old }
@@ -57,6 +60,7 @@ pub fn compute_both(linked: &Linked, s: &mut State, op: u8) -> Result<(), Stop>
 }
 
 /// Replaces the two top operands by how an opcode compares them.
+#[inline(always)]
 pub fn compare_top(linked: &Linked, s: &mut State, op: u8) -> Result<(), Stop>
     ghost out: { Outer }
     requires set { IsSet linked.now s.old }
@@ -72,6 +76,7 @@ pub fn compare_top(linked: &Linked, s: &mut State, op: u8) -> Result<(), Stop>
 }
 
 /// A local counts by the operation of an opcode.
+#[inline(always)]
 pub fn count_local(linked: &Linked, s: &mut State, op: u8, n: u32) -> Result<(), Stop>
     ghost out: { Outer }
     requires set { IsSet linked.now s.old }

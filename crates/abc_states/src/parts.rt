@@ -25,6 +25,7 @@ fn stop_for(end: OpEnd) -> Stop
 }
 
 /// What a conversion makes of a value.
+#[inline(always)]
 pub fn convert(linked: &Linked, s: &mut State, to: Conversion, v: Value) -> Result<Value, Stop>
     ghost out: { Outer }
     requires over { StandsOver linked.now s.old.arena }
@@ -52,6 +53,7 @@ fn coerce_in(linked: &Linked, a: &mut Arena, ty: Ty, v: Value) -> Result<Value, 
 }
 
 /// A value coerced to a type.
+#[inline(always)]
 pub fn coerce(linked: &Linked, s: &mut State, ty: Ty, v: Value) -> Result<Value, Stop>
     ghost out: { Outer }
     requires over { StandsOver linked.now s.old.arena }

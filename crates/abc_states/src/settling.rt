@@ -10,6 +10,7 @@ use abc_moves::{drop_and_go, finish};
 use abc_stacks::Frames;
 
 /// What came at once is pushed in place of the operands that are taken, or dropped with them.
+#[inline(always)]
 pub fn settle(frames: &mut Frames, how: How, v: Value)
     requires { IsReady (taken_by how) (given_by how) frames.old }
     ensures { frames.new ≡ on_top (settled how v (newest frames.old)) frames.old }
