@@ -1,10 +1,9 @@
 -- The first naming of a method is found by its place.
-use Rattle.std.proofs.Common.{◌≡◌, ℕ, zero, suc, ◌+◌, Bool, true, false, List, [], ◌∷◌, Some, None, map, get_or, slice_get, nat_eq, refl, sym, ap, subst, ◌∙◌}
+use Rattle.std.proofs.Common.{◌≡◌, ℕ, zero, suc, ◌+◌, Bool, true, false, List, [], ◌∷◌, Some, None, map, get_or, slice_get, nat_eq, refl, sym, ap, ◌∙◌}
 use Rattle.std.specs.Prelude.{if◌then◌else◌, unwrap_or}
 use Rattle.std.proofs.lemmas.Option.{unwrap_or-slice_get}
 use Rattle.std.specs.declared.option.Option.{Option}
-use Rattle.indexmap.specs.IndexMap.{get}
-use Rattle.abc_index.specs.Index.{Finds, Map, first, first_from}
+use Rattle.abc_index.specs.Index.{first, first_from}
 use Rattle.abc_program.specs.Owners.{body_of, namings, owner_at, owner_of}
 use Rattle.abc_program.specs.declared.types.Naming.{Naming}
 use Rattle.abc_program.specs.declared.types.Owner.{Owner}
@@ -13,17 +12,14 @@ use Rattle.abc_tables.specs.declared.tables.Abc.{Abc}
 use Rattle.abc_owners.specs.Owning.{AreOwners}
 use Rattle.abc_owners.specs.declared.owners.Owners.{Owners}
 
-pub finds_in : (m : Map ℕ) (given keys : List ℕ) → given ≡ keys → Finds nat_eq m given → Finds nat_eq m keys
-finds_in m given keys e f = subst (λ (ks : List ℕ). Finds nat_eq m ks) e f
-
 first_map : {A : Type 0} (g : A → ℕ) (m i : ℕ) (xs : List A) → first_from (nat_eq m) i (map g xs) ≡ first_from (λ x. nat_eq m (g x)) i xs
 first_map g m i [] = refl
 first_map g m i (x ∷ xs) = ap (λ (r : Option ℕ). if nat_eq m (g x) then Some i else r) (first_map g m (i + 1) xs)
 
-pub owner_found : (v : Abc) (o : Owners) (m : ℕ) (place : Option ℕ) (r : Owner) → AreOwners v o → place ≡ get nat_eq o.places m → r ≡ owner_at o.namings place → r ≡ owner_of v m
+pub owner_found : (v : Abc) (o : Owners) (m : ℕ) (place : Option ℕ) (r : Owner) → AreOwners v o → place ≡ unwrap_or (slice_get o.places m) None → r ≡ owner_at o.namings place → r ≡ owner_of v m
 owner_found v o m place r a e is =
     is
-    ∙ ap (owner_at o.namings) (e ∙ a.places_are.finds m ∙ first_map (λ (n : Naming). n.method) m 0 o.namings)
+    ∙ ap (owner_at o.namings) (e ∙ unwrap_or-slice_get o.places m None ∙ a.places_are.finds m ∙ first_map (λ (n : Naming). n.method) m 0 o.namings)
     ∙ ap (λ (ns : List Naming). owner_at ns (first (λ (n : Naming). nat_eq m n.method) ns)) a.namings_are
 
 pub body_found : (v : Abc) (o : Owners) (m : ℕ) → AreOwners v o → unwrap_or (slice_get o.bodies m) None ≡ body_of v m

@@ -1,7 +1,7 @@
 -- Owners and bodies of methods, as the tables that say them.
 use Rattle.std.specs.Prelude.{◌≡◌, ℕ, ◌<◌, List, Some, None, drop, get_or, length, map, nat_eq, if◌then◌else◌}
 use Rattle.std.specs.declared.option.Option.{Option}
-use Rattle.abc_index.specs.Index.{Finds, first, first_from}
+use Rattle.abc_index.specs.Index.{first, first_from}
 use Rattle.abc_program.specs.Owners.{namings}
 use Rattle.abc_program.specs.Methods.{methods_with_bodies}
 use Rattle.abc_tables.specs.declared.tables.Abc.{Abc}
@@ -30,5 +30,5 @@ pub record Puts (old new : List (Option ℕ)) (key place : ℕ) : Type 0 where
 -- all namings of a file, the first place of each method among them, and the first body of each method
 pub record AreOwners (v : Abc) (o : Owners) : Type 0 where
   pub namings_are : o.namings ≡ namings v
-  pub places_are : Finds nat_eq o.places (map (λ n. n.method) o.namings)
+  pub places_are : HasFirsts o.places (map (λ n. n.method) o.namings)
   pub bodies_are : HasFirsts o.bodies (methods_with_bodies v)

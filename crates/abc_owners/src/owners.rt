@@ -1,35 +1,23 @@
 ghost use Rattle.std.specs.Prelude.{◌≡◌, ◌<◌, ◌^◌, length, map, nat_eq, IfOk, OnOk};
-ghost use Rattle.abc_index.specs.Index.{Finds, first};
+ghost use Rattle.abc_index.specs.Index.{first};
 ghost use Rattle.abc_program.specs.Owners.{body_of, owner_at as owner_at_of, owner_of};
 ghost use Rattle.abc_program.specs.Methods.{methods_with_bodies as all_with_bodies};
 ghost use Rattle.abc_owners.specs.Owning.{AreOwners, HasFirsts, Puts, Reaches};
 
 use crate::namings::namings;
 use abc_base::{NoMemory, Table};
-use abc_index::index_of;
 use abc_program::{Naming, Owner};
 use abc_tables::Abc;
-use indexmap::IndexMap;
 use std::alloc::Global;
 
 /// Whose method each method is, and which body it has.
 #[derive(Drop)]
 pub struct Owners {
     pub(crate) namings: Table<Naming>,
-    /// The first place where each method is named.
-    pub(crate) places: IndexMap<u32, u32>,
+    /// The first place where each method is named, up to the last method that is. Each call of a run asks for one.
+    pub(crate) places: Table<Option<u32>>,
     /// The first body of each method, up to the last method that has one. Each step of a run asks for one.
     pub(crate) bodies: Table<Option<u32>>,
-}
-
-/// The first place of each key. Of 2^32 keys or more there is never room for the places.
-fn first_places(alloc: Global, keys: &[u32]) -> Result<IndexMap<u32, u32>, NoMemory>
-    ensures { IfOk result (λ m. Finds nat_eq m keys.now) }
-{
-    if keys.len() > u32::MAX as usize {
-        return Err(NoMemory);
-    }
-    index_of(alloc, keys)
 }
 
 /// The methods that are named.
@@ -41,15 +29,6 @@ fn methods_of(alloc: Global, list: &[Naming]) -> Result<Vec<u32>, NoMemory>
         methods.push(naming.method)?;
     }
     Ok(methods)
-}
-
-/// The first place where each method is named.
-#[tactic(auto, using(crate::proofs::Found::finds_in))]
-fn places_of(alloc: Global, list: &[Naming]) -> Result<IndexMap<u32, u32>, NoMemory>
-    ensures { IfOk result (λ m. Finds nat_eq m (map (λ n. n.method) list.now)) }
-{
-    let methods = methods_of(alloc, list)?;
-    first_places(alloc, methods.as_slice())
 }
 
 /// The methods that have bodies.
@@ -86,7 +65,7 @@ fn put(table: &mut Table<Option<u32>>, number: u32, place: u32) -> Result<(), No
 
 /// The first place of each number. Of 2^32 numbers or more there is never room for the places.
 #[tactic(auto, using(crate::proofs::Firsts::firsts_next))]
-fn first_bodies(alloc: Global, methods: &[u32]) -> Result<Table<Option<u32>>, NoMemory>
+fn first_places(alloc: Global, methods: &[u32]) -> Result<Table<Option<u32>>, NoMemory>
     ensures { IfOk result (λ t. HasFirsts t methods.now) }
 {
     if methods.len() > u32::MAX as usize {
@@ -99,13 +78,22 @@ fn first_bodies(alloc: Global, methods: &[u32]) -> Result<Table<Option<u32>>, No
     Ok(table)
 }
 
+/// The first place where each method is named.
+#[tactic(auto, using(crate::proofs::Firsts::firsts_in))]
+fn places_of(alloc: Global, list: &[Naming]) -> Result<Table<Option<u32>>, NoMemory>
+    ensures { IfOk result (λ t. HasFirsts t (map (λ n. n.method) list.now)) }
+{
+    let methods = methods_of(alloc, list)?;
+    first_places(alloc, methods.as_slice())
+}
+
 /// The first body of each method.
 #[tactic(auto, using(crate::proofs::Firsts::firsts_in))]
 fn bodies_of(alloc: Global, abc: &Abc) -> Result<Table<Option<u32>>, NoMemory>
     ensures { IfOk result (λ t. HasFirsts t (all_with_bodies abc.now)) }
 {
     let methods = methods_with_bodies(alloc, abc)?;
-    first_bodies(alloc, methods.as_slice())
+    first_places(alloc, methods.as_slice())
 }
 
 /// What a place of a list names as the owner, if there is one.
@@ -144,7 +132,10 @@ impl Owners {
         ensures { result ≡ owner_of abc.now method }
     {
         let _file = abc;
-        owner_at(&self.namings, self.places.get(&method).copied())
+        owner_at(
+            &self.namings,
+            self.places.fetch(method as usize).unwrap_or(None),
+        )
     }
 
     /// The body of a method, if it has one.
