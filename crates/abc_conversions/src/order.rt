@@ -78,7 +78,6 @@ fn numbers_hold(order: Order, left: Option<i64>, right: Option<i64>) -> bool
 }
 
 #[tactic(auto, using(crate::proofs::Following::goes, crate::proofs::Following::stops))]
-#[inline(never)]
 fn order_numbers(order: Order, x: Value, y: Value) -> Result<bool, Fault>
     requires left { IsInRange x }
     requires right { IsInRange y }

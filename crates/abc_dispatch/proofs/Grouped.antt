@@ -1,4 +1,4 @@
--- Each opcode that is run is in a group.
+-- Each opcode that is run is in the group that its number gives.
 use Rattle.std.proofs.Common.{◌≡◌, ℕ, ◌<◌, ◌≤◌, List, [], ◌∷◌, Bool, true, false, ◌||◌, not, nat_eq, eqb-true, refl, sym, ap, ◌∙◌, subst}
 use Rattle.std.specs.Prelude.{Some, None, cond, nat_lt}
 use Rattle.std.proofs.lemmas.Bool.{and_parts, le-ltb, lt-ltb}
@@ -15,7 +15,10 @@ use Rattle.abc_stacks.specs.Frame.{newest}
 use Rattle.abc_states.specs.Outer.{Outer, setting, world}
 use Rattle.abc_states.specs.Stops.{IsOpen}
 use Rattle.abc_states.specs.declared.state.State.{State}
-use Rattle.abc_dispatch.specs.Groups.{alone_ops, numbered_ops, paired_ops}
+use Rattle.abc_dispatch.specs.Groups.{alone_ops, numbered_ops, ops_alone, ops_numbered, ops_paired, paired_ops}
+use Rattle.abc_dispatch.specs.declared.groups.Alone.{Alone}
+use Rattle.abc_dispatch.specs.declared.groups.Numbered.{Numbered}
+use Rattle.abc_dispatch.specs.declared.groups.Paired.{Paired}
 use Rattle.abc_tables.specs.Opcodes.{form_at, form_of, info_at, is_in, name_in, named}
 use Rattle.abc_tables.specs.declared.code.Instr.{Instr}
 use Rattle.abc_tables.specs.declared.code.Instr.TheVariants.{One, Plain, Two}
@@ -114,9 +117,33 @@ module _ (l : LinkedFile) (out : Outer) (s : State) where
   pub paired_in : (op n count : ℕ) → CanRun l out s (Two op n count) → is_in op paired_ops ≡ true
   paired_in op n count can = grouped forms.Two (λ m. is_in m paired_ops) op paired_rows can.spelled.0.is refl (row_there l out s (Two op n count) can)
 
+-- by what the code found out
+pub alone_is : (op : ℕ) (r k : Alone) → is_in op (ops_alone r) ≡ true → r ≡ k → is_in op (ops_alone k) ≡ true
+alone_is op r k h e = subst (λ (x : Alone). is_in op (ops_alone x) ≡ true) e h
+
+pub numbered_is : (op : ℕ) (r k : Numbered) → is_in op (ops_numbered r) ≡ true → r ≡ k → is_in op (ops_numbered k) ≡ true
+numbered_is op r k h e = subst (λ (x : Numbered). is_in op (ops_numbered x) ≡ true) e h
+
+pub paired_is : (op : ℕ) (r k : Paired) → is_in op (ops_paired r) ≡ true → r ≡ k → is_in op (ops_paired k) ≡ true
+paired_is op r k h e = subst (λ (x : Paired). is_in op (ops_paired x) ≡ true) e h
+
 -- of branches, by the number
 pub first_in : (op : ℕ) → form_at op ≡ Some forms.Branch → HasRow op → op < 0x13 → is_in op first_branch_ops ≡ true
 first_in op f r b = sym (ap (λ (x : Bool). cond x (is_in op first_branch_ops) (is_in op last_branch_ops)) (lt-ltb op 0x13 b)) ∙ grouped forms.Branch is_branch op branch_rows f refl r
 
 pub last_in : (op : ℕ) → form_at op ≡ Some forms.Branch → HasRow op → 0x13 ≤ op → is_in op last_branch_ops ≡ true
 last_in op f r b = sym (ap (λ (x : Bool). cond x (is_in op first_branch_ops) (is_in op last_branch_ops)) (le-ltb op 0x13 b)) ∙ grouped forms.Branch is_branch op branch_rows f refl r
+
+-- a group of one
+only : (op k : ℕ) → is_in op (k ∷ []) ≡ true → op ≡ k
+only op k e = go (nat_eq op k) refl e
+  where
+    go : (b : Bool) → nat_eq op k ≡ b → (b || is_in op []) ≡ true → op ≡ k
+    go true q h = eqb-true op k q
+    go false q h = absurd cc
+
+pub only_one : (op k n : ℕ) → is_in op (k ∷ []) ≡ true → One op n ≡ One k n
+only_one op k n e = ap (λ (o : ℕ). One o n) (only op k e)
+
+pub only_two : (op k n count : ℕ) → is_in op (k ∷ []) ≡ true → Two op n count ≡ Two k n count
+only_two op k n count e = ap (λ (o : ℕ). Two o n count) (only op k e)

@@ -1,19 +1,60 @@
--- The opcodes of each form that are run, by their groups.
+-- The groups of opcodes, and the opcodes of each.
 use Rattle.std.specs.Prelude.{ℕ, List, [], ◌∷◌, ◌++◌}
 use Rattle.abc_membersteps.specs.Groups.{property_call_ops, property_ops}
 use Rattle.abc_newsteps.specs.Groups.{new_ops, scope_ops}
 use Rattle.abc_objectsteps.specs.Groups.{late_ops, slot_ops, walk_ops}
 use Rattle.abc_plainsteps.specs.Groups.{comparison_ops, constant_ops, control_ops, convert_ops, count_ops, double_ops, local_ops, push_ops, return_ops, single_ops, type_ops}
 use Rattle.abc_scopesteps.specs.Groups.{find_ops, super_call_ops, super_ops}
+use Rattle.abc_dispatch.specs.declared.groups.Alone.{Alone}
+use Rattle.abc_dispatch.specs.declared.groups.Alone.TheVariants as alones
+use Rattle.abc_dispatch.specs.declared.groups.Numbered.{Numbered}
+use Rattle.abc_dispatch.specs.declared.groups.Numbered.TheVariants as numbereds
+use Rattle.abc_dispatch.specs.declared.groups.Paired.{Paired}
+use Rattle.abc_dispatch.specs.declared.groups.Paired.TheVariants as pairs
 
--- that stand alone
+-- ---- that stand alone
+
+abbrev pub ops_alone : Alone → List ℕ
+ops_alone alones.Control = control_ops
+ops_alone alones.Walk = walk_ops
+ops_alone alones.Push = push_ops
+ops_alone alones.Return = return_ops
+ops_alone alones.Scope = scope_ops
+ops_alone alones.Convert = convert_ops
+ops_alone alones.Late = late_ops
+ops_alone alones.Single = single_ops
+ops_alone alones.Double = double_ops
+ops_alone alones.Comparison = comparison_ops
+ops_alone alones.Local = local_ops
+
 abbrev pub alone_ops : List ℕ
 alone_ops = control_ops ++ walk_ops ++ push_ops ++ return_ops ++ scope_ops ++ convert_ops ++ late_ops ++ single_ops ++ double_ops ++ comparison_ops ++ local_ops
 
--- with one number; call, construct and newclass have no group
-abbrev pub numbered_ops : List ℕ
-numbered_ops = 0x41 ∷ 0x42 ∷ 0x58 ∷ super_ops ++ constant_ops ++ new_ops ++ find_ops ++ property_ops ++ slot_ops ++ type_ops ++ count_ops
+-- ---- with one number
 
--- with two; hasnext2 and constructprop have no group
+abbrev pub ops_numbered : Numbered → List ℕ
+ops_numbered numbereds.Super = super_ops
+ops_numbered numbereds.Constant = constant_ops
+ops_numbered numbereds.New = new_ops
+ops_numbered numbereds.Call = 0x41 ∷ []
+ops_numbered numbereds.Construct = 0x42 ∷ []
+ops_numbered numbereds.Class = 0x58 ∷ []
+ops_numbered numbereds.Find = find_ops
+ops_numbered numbereds.Property = property_ops
+ops_numbered numbereds.Slot = slot_ops
+ops_numbered numbereds.Typed = type_ops
+ops_numbered numbereds.Count = count_ops
+
+abbrev pub numbered_ops : List ℕ
+numbered_ops = super_ops ++ constant_ops ++ new_ops ++ 0x41 ∷ 0x42 ∷ 0x58 ∷ find_ops ++ property_ops ++ slot_ops ++ type_ops ++ count_ops
+
+-- ---- with two
+
+abbrev pub ops_paired : Paired → List ℕ
+ops_paired pairs.Next = 0x32 ∷ []
+ops_paired pairs.SuperCall = super_call_ops
+ops_paired pairs.PropertyCall = property_call_ops
+ops_paired pairs.Construct = 0x4A ∷ []
+
 abbrev pub paired_ops : List ℕ
 paired_ops = 0x32 ∷ 0x4A ∷ super_call_ops ++ property_call_ops

@@ -1,7 +1,6 @@
 ghost use Rattle.std.specs.Prelude.{◌≡◌, true, Ok, Some, slice_get};
 ghost use Rattle.abc_membersteps.specs.CallarmsCalls.{CanFinish};
 ghost use Rattle.abc_dispatch.specs.Answers.{goes_as};
-ghost use Rattle.abc_dispatch.specs.Groups.{alone_ops, numbered_ops, paired_ops};
 ghost use Rattle.abc_dispatch.specs.Ready.{CanStep, IsEquipped};
 ghost use Rattle.abc_meaning.specs.Step.{runs};
 ghost use Rattle.abc_plainsteps.specs.Here.{act_here};
@@ -11,7 +10,6 @@ ghost use Rattle.abc_states.specs.Outer.{Outer, setting};
 ghost use Rattle.abc_states.specs.Turns.{Leaves};
 ghost use Rattle.abc_states.specs.WorldSetting.{routine_of};
 ghost use Rattle.abc_states.specs.declared.state.Left.TheVariants.{Goes};
-ghost use Rattle.abc_tables.specs.Opcodes.{is_in};
 ghost use Rattle.abc_tables.specs.declared.code.Instr.TheVariants.{Branch, One, Plain, Two};
 ghost use Rattle.abc_typing.specs.Routines.{Routine};
 
@@ -22,6 +20,7 @@ use crate::arms::{
     push_arm, return_arm, scope_arm, single_arm, slot_arm, super_arm, super_call_arm, typed_arm,
     walk_arm,
 };
+use crate::groups::{Alone, Numbered, Paired, group_alone, group_numbered, group_paired};
 use abc_link::Linked;
 use abc_plainsteps::{run_byte, run_debug, run_scope_object, run_short, run_switch};
 use abc_states::{Left, State, Stop};
@@ -32,7 +31,6 @@ use abc_tables::Instr;
 fn run_alone(linked: &Linked, s: &mut State, op: u8, left: &mut Result<Left, Stop>) -> bool
     ghost out: { Outer }
     requires run { CanRun linked.now out s.old (Plain op) }
-    requires among { is_in op alone_ops ≡ true }
     requires equipped { IsEquipped linked.now s.old }
     requires none { left.old ≡ Ok Goes }
     ensures leaves { Leaves linked.now out (act_here (setting linked.now out) (newest s.old.frames) (Plain op)) s.old left.new s.new }
@@ -40,18 +38,18 @@ fn run_alone(linked: &Linked, s: &mut State, op: u8, left: &mut Result<Left, Sto
     ensures goes { result ≡ true → left.new ≡ Ok Goes }
     ensures limit { s.new.given.limit ≡ s.old.given.limit }
 {
-    match op {
-        0x1E | 0x1F | 0x23 => walk_arm(linked, s, op, left),
-        0x20 | 0x21 | 0x26..=0x2B => push_arm(linked, s, op, left),
-        0x47 | 0x48 => return_arm(linked, s, op, left),
-        0x57 | 0x64 => scope_arm(linked, s, op, left),
-        0x70 | 0x73..=0x77 | 0x82 | 0x85 => convert_arm(linked, s, op, left),
-        0x87 | 0xB1 | 0xB3 | 0xB4 => late_arm(linked, s, op, left),
-        0x90 | 0x91 | 0x93 | 0x95..=0x97 | 0xC0 | 0xC1 | 0xC4 => single_arm(linked, s, op, left),
-        0xA0..=0xAA | 0xC5..=0xC7 => double_arm(linked, s, op, left),
-        0xAB..=0xB0 => comparison_arm(linked, s, op, left),
-        0xD0..=0xD7 => local_arm(linked, s, op, left),
-        _ => control_arm(linked, s, op, left),
+    match group_alone(op) {
+        Alone::Control => control_arm(linked, s, op, left),
+        Alone::Walk => walk_arm(linked, s, op, left),
+        Alone::Push => push_arm(linked, s, op, left),
+        Alone::Return => return_arm(linked, s, op, left),
+        Alone::Scope => scope_arm(linked, s, op, left),
+        Alone::Convert => convert_arm(linked, s, op, left),
+        Alone::Late => late_arm(linked, s, op, left),
+        Alone::Single => single_arm(linked, s, op, left),
+        Alone::Double => double_arm(linked, s, op, left),
+        Alone::Comparison => comparison_arm(linked, s, op, left),
+        Alone::Local => local_arm(linked, s, op, left),
     }
 }
 
@@ -66,7 +64,6 @@ fn run_numbered(
 ) -> bool
     ghost out: { Outer }
     requires run { CanRun linked.now out s.old (One op n) }
-    requires among { is_in op numbered_ops ≡ true }
     requires equipped { IsEquipped linked.now s.old }
     requires none { left.old ≡ Ok Goes }
     ensures leaves { Leaves linked.now out (act_here (setting linked.now out) (newest s.old.frames) (One op n)) s.old left.new s.new }
@@ -74,18 +71,18 @@ fn run_numbered(
     ensures goes { result ≡ true → left.new ≡ Ok Goes }
     ensures limit { s.new.given.limit ≡ s.old.given.limit }
 {
-    match op {
-        0x40 | 0x55 | 0x56 | 0x5A => new_arm(linked, s, op, n, left),
-        0x41 => call_arm(linked, s, n, left),
-        0x42 => construct_arm(linked, s, n, left),
-        0x58 => class_arm(linked, s, n, left),
-        0x5D | 0x5E | 0x60 => find_arm(linked, s, op, n, left),
-        0x61 | 0x66 | 0x68 | 0x6A => property_arm(linked, s, op, n, left),
-        0x6C | 0x6D => slot_arm(linked, s, op, n, left),
-        0x80 | 0x86 | 0xB2 => typed_arm(linked, s, op, n, left),
-        0x92 | 0x94 | 0xC2 | 0xC3 => count_arm(linked, s, op, n, left),
-        0x04 | 0x05 | 0x49 => super_arm(linked, s, op, n, left),
-        _ => constant_arm(linked, s, op, n, left),
+    match group_numbered(op) {
+        Numbered::Super => super_arm(linked, s, op, n, left),
+        Numbered::Constant => constant_arm(linked, s, op, n, left),
+        Numbered::New => new_arm(linked, s, op, n, left),
+        Numbered::Call => call_arm(linked, s, n, left),
+        Numbered::Construct => construct_arm(linked, s, n, left),
+        Numbered::Class => class_arm(linked, s, n, left),
+        Numbered::Find => find_arm(linked, s, op, n, left),
+        Numbered::Property => property_arm(linked, s, op, n, left),
+        Numbered::Slot => slot_arm(linked, s, op, n, left),
+        Numbered::Typed => typed_arm(linked, s, op, n, left),
+        Numbered::Count => count_arm(linked, s, op, n, left),
     }
 }
 
@@ -101,7 +98,6 @@ fn run_paired(
 ) -> bool
     ghost out: { Outer }
     requires run { CanRun linked.now out s.old (Two op n count) }
-    requires among { is_in op paired_ops ≡ true }
     requires equipped { IsEquipped linked.now s.old }
     requires none { left.old ≡ Ok Goes }
     ensures leaves { Leaves linked.now out (act_here (setting linked.now out) (newest s.old.frames) (Two op n count)) s.old left.new s.new }
@@ -109,11 +105,11 @@ fn run_paired(
     ensures goes { result ≡ true → left.new ≡ Ok Goes }
     ensures limit { s.new.given.limit ≡ s.old.given.limit }
 {
-    match op {
-        0x32 => next_arm(linked, s, n, count, left),
-        0x4A => construct_property_arm(linked, s, n, count, left),
-        0x45 | 0x4E => super_call_arm(linked, s, op, n, count, left),
-        _ => property_call_arm(linked, s, op, n, count, left),
+    match group_paired(op) {
+        Paired::Next => next_arm(linked, s, n, count, left),
+        Paired::SuperCall => super_call_arm(linked, s, op, n, count, left),
+        Paired::PropertyCall => property_call_arm(linked, s, op, n, count, left),
+        Paired::Construct => construct_property_arm(linked, s, n, count, left),
     }
 }
 

@@ -3,5 +3,6 @@
 
 mod arms;
 mod dispatch;
+mod groups;
 
 pub use dispatch::run_newest;

@@ -44,6 +44,7 @@ fn or_fault(outcome: Result<bool, Fault>) -> Result<bool, OpEnd>
     }
 }
 
+#[inline(always)]
 fn compare_as(l: &Linked, a: &Arena, how: Comparison, x: Value, y: Value) -> Result<bool, OpEnd>
     requires left { Exists l.now a.now x }
     requires right { Exists l.now a.now y }
@@ -61,6 +62,7 @@ fn compare_as(l: &Linked, a: &Arena, how: Comparison, x: Value, y: Value) -> Res
 /// left is converted before the right. strictequals always answers. equals ends by the fault TextToNumber for a text and a
 /// number or a truth value, and by ObjectToPrimitive for an object and one of these three; the others end by the faults of
 /// numbers, but undefined is none, and by TextOrder for two texts of which one is not ASCII.
+#[inline(always)]
 pub fn compare(l: &Linked, a: &Arena, op: u8, x: Value, y: Value) -> Result<bool, OpEnd>
     requires over { StandsOver l.now a.now }
     requires left { Exists l.now a.now x }

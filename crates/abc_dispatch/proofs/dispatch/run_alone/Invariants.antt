@@ -1,5 +1,8 @@
 use Rattle.abc_dispatch.proofs.dispatch.run_alone.Given as goal
 
+abbrev pub ghost-control_arm : goal.ghost-control_arm
+ghost-control_arm g a = g.out
+
 abbrev pub ghost-walk_arm : goal.ghost-walk_arm
 ghost-walk_arm g a = g.out
 
@@ -29,6 +32,3 @@ ghost-comparison_arm g a = g.out
 
 abbrev pub ghost-local_arm : goal.ghost-local_arm
 ghost-local_arm g a = g.out
-
-abbrev pub ghost-control_arm : goal.ghost-control_arm
-ghost-control_arm g a = g.out

@@ -2,7 +2,6 @@ use mir.Syntax.{w16, w8}
 use mir.Val.{SFits, of_z, to_z}
 use Rattle.std.proofs.Common.{◌∙◌, ap, arith, List, ℕ, ℤ, rules, sym}
 use Rattle.std.proofs.lemmas.Int.{ints, to_z-of_z}
-use Rattle.abc_dispatch.proofs.Grouped.{alone_in, numbered_in, paired_in}
 use Rattle.abc_dispatch.proofs.Led.{goes_finishes, run_as, runs_leaves, turned_as}
 use Rattle.abc_plainsteps.specs.Here.{act_here}
 use Rattle.abc_stacks.specs.Frame.{newest}
@@ -11,19 +10,19 @@ use Rattle.abc_tables.specs.declared.code.Instr.TheVariants.{Branch, Byte, Debug
 use Rattle.abc_dispatch.proofs.dispatch.run_instr.Goals as goal
 
 pub run_alone-requires : goal.run_alone-requires
-run_alone-requires g c = let can = run_as c.args.linked.now g.out c.args.s.now c.args.instr.now (Plain c.in-Plain.op) c.in-Plain.is c.requires.0 in (can, (alone_in c.args.linked.now g.out c.args.s.now c.in-Plain.op can, c.requires.1))
+run_alone-requires g c = (run_as c.args.linked.now g.out c.args.s.now c.args.instr.now (Plain c.in-Plain.op) c.in-Plain.is c.requires.0, c.requires.1)
 
 pub returns-in-Plain-clause-leaves : goal.returns-in-Plain-clause-leaves
 returns-in-Plain-clause-leaves g c = turned_as c.args.linked.now g.out c.args.s.now c.args.instr.now (Plain c.in-Plain.op) _ c.in-Plain.is c.run_alone.ensures.leaves
 
 pub run_numbered-requires : goal.run_numbered-requires
-run_numbered-requires g c = let can = run_as c.args.linked.now g.out c.args.s.now c.args.instr.now (One c.in-One.op c.in-One.n) c.in-One.is c.requires.0 in (can, (numbered_in c.args.linked.now g.out c.args.s.now c.in-One.op c.in-One.n can, c.requires.1))
+run_numbered-requires g c = (run_as c.args.linked.now g.out c.args.s.now c.args.instr.now (One c.in-One.op c.in-One.n) c.in-One.is c.requires.0, c.requires.1)
 
 pub returns-in-One-clause-leaves : goal.returns-in-One-clause-leaves
 returns-in-One-clause-leaves g c = turned_as c.args.linked.now g.out c.args.s.now c.args.instr.now (One c.in-One.op c.in-One.n) _ c.in-One.is c.run_numbered.ensures.leaves
 
 pub run_paired-requires : goal.run_paired-requires
-run_paired-requires g c = let can = run_as c.args.linked.now g.out c.args.s.now c.args.instr.now (Two c.in-Two.op c.in-Two.n c.in-Two.count) c.in-Two.is c.requires.0 in (can, (paired_in c.args.linked.now g.out c.args.s.now c.in-Two.op c.in-Two.n c.in-Two.count can, c.requires.1))
+run_paired-requires g c = (run_as c.args.linked.now g.out c.args.s.now c.args.instr.now (Two c.in-Two.op c.in-Two.n c.in-Two.count) c.in-Two.is c.requires.0, c.requires.1)
 
 pub returns-in-Two-clause-leaves : goal.returns-in-Two-clause-leaves
 returns-in-Two-clause-leaves g c = turned_as c.args.linked.now g.out c.args.s.now c.args.instr.now (Two c.in-Two.op c.in-Two.n c.in-Two.count) _ c.in-Two.is c.run_paired.ensures.leaves

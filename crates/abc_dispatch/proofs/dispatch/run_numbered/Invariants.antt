@@ -1,5 +1,11 @@
 use Rattle.abc_dispatch.proofs.dispatch.run_numbered.Given as goal
 
+abbrev pub ghost-super_arm : goal.ghost-super_arm
+ghost-super_arm g a = g.out
+
+abbrev pub ghost-constant_arm : goal.ghost-constant_arm
+ghost-constant_arm g a = g.out
+
 abbrev pub ghost-new_arm : goal.ghost-new_arm
 ghost-new_arm g a = g.out
 
@@ -26,9 +32,3 @@ ghost-typed_arm g a = g.out
 
 abbrev pub ghost-count_arm : goal.ghost-count_arm
 ghost-count_arm g a = g.out
-
-abbrev pub ghost-super_arm : goal.ghost-super_arm
-ghost-super_arm g a = g.out
-
-abbrev pub ghost-constant_arm : goal.ghost-constant_arm
-ghost-constant_arm g a = g.out
