@@ -182,6 +182,7 @@ impl Query<'_> {
     }
 
     /// What the traits of a host class's instances give: only class objects have one.
+    #[inline(always)]
     fn find_in_host_class(&self, x: LayoutId, held: bool, class: HostClass) -> Found
         requires layout { IsLayout self.now.l.now x }
         requires few { slots_below self.now.l.now (base self.now.l.now x.0) < 2 ^ 32 }
