@@ -26,6 +26,7 @@ pub struct Spot {
 }
 
 /// Whether two texts stand at one place.
+#[inline(always)]
 fn is_same(a: Span, b: Span) -> bool
     ensures { result ≡ true → a ≡ b }
 {
@@ -34,6 +35,7 @@ fn is_same(a: Span, b: Span) -> bool
 
 /// Whether a property's name has the text of a name, as most often the same name does.
 #[tactic(auto, using(crate::proofs::Searches::same_text))]
+#[inline(always)]
 fn has_text(
     fixed: &[u8],
     made: &[u8],
@@ -53,6 +55,7 @@ fn has_text(
 }
 
 /// Whether a cell holds a property of the object whose name has the text of a name.
+#[inline(always)]
 fn has_name(
     fixed: &[u8],
     made: &[u8],
@@ -76,6 +79,7 @@ fn has_name(
 }
 
 /// Where the object has a property of the text of a name: the last of its bucket that fits.
+#[inline(always)]
 pub fn place_of_name(
     fixed: &[u8],
     made: &[u8],

@@ -83,6 +83,7 @@ fn slot_of(linked: &Linked, s: &State, v: Value, slot: u32) -> Value
 }
 
 /// An element of an array.
+#[inline(always)]
 fn element_of(linked: &Linked, s: &State, holder: ObjId, index: u32) -> Value
     ghost out: { Outer }
     requires over { StandsOver linked.now s.now.arena }

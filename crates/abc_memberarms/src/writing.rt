@@ -26,6 +26,7 @@ use abc_named::{is_dynamic, write_slot};
 use abc_states::{How, State, Stop, settle};
 
 /// Writes an element of an array: it is replaced, or added at the end.
+#[inline(always)]
 fn write_element(linked: &Linked, s: &mut State, o: ObjId, k: u32, v: Value) -> Result<(), Stop>
     requires over { StandsOver linked.now s.old.arena }
     requires inside { IsObject s.old.arena o }
