@@ -15,7 +15,7 @@ use Rattle.abc_stacks.specs.Frame.{newest}
 use Rattle.abc_states.specs.Outer.{Outer, setting, world}
 use Rattle.abc_states.specs.Stops.{IsOpen}
 use Rattle.abc_states.specs.declared.state.State.{State}
-use Rattle.abc_dispatch.specs.Groups.{alone_ops, numbered_ops, ops_alone, ops_numbered, ops_paired, paired_ops}
+use Rattle.abc_dispatch.specs.Groups.{alone_ops, first_alone_ops, last_alone_ops, numbered_ops, ops_alone, ops_numbered, ops_paired, paired_ops, second_alone_ops}
 use Rattle.abc_dispatch.specs.declared.groups.Alone.{Alone}
 use Rattle.abc_dispatch.specs.declared.groups.Numbered.{Numbered}
 use Rattle.abc_dispatch.specs.declared.groups.Paired.{Paired}
@@ -116,6 +116,34 @@ module _ (l : LinkedFile) (out : Outer) (s : State) where
 
   pub paired_in : (op n count : ℕ) → CanRun l out s (Two op n count) → is_in op paired_ops ≡ true
   paired_in op n count can = grouped forms.Two (λ m. is_in m paired_ops) op paired_rows can.spelled.0.is refl (row_there l out s (Two op n count) can)
+
+-- a test of all of a list
+part_in : (t : ℕ → Bool) (xs : List ℕ) (op : ℕ) → list_all t xs ≡ true → is_in op xs ≡ true → t op ≡ true
+part_in t [] op a e = absurd cc
+part_in t (x ∷ xs) op a e = go (λ h. part_in t xs op parts.1 h) (nat_eq op x) refl e
+  where
+    parts : (t x ≡ true) × (list_all t xs ≡ true)
+    parts = and_parts (t x) (list_all t xs) a
+
+    go : (is_in op xs ≡ true → t op ≡ true) → (b : Bool) → nat_eq op x ≡ b → (b || is_in op xs) ≡ true → t op ≡ true
+    go more true q h = ap t (eqb-true op x q) ∙ parts.0
+    go more false q h = more h
+
+pub first_alone_in : (op : ℕ) → is_in op alone_ops ≡ true → op < 0x70 → is_in op first_alone_ops ≡ true
+first_alone_in op e b =
+    sym (ap (λ (x : Bool). not x || is_in op first_alone_ops) (lt-ltb op 0x70 b))
+    ∙ part_in (λ n. not (nat_lt n 0x70) || is_in n first_alone_ops) alone_ops op refl e
+
+pub second_alone_in : (op : ℕ) → is_in op alone_ops ≡ true → 0x70 ≤ op → op < 0xA0 → is_in op second_alone_ops ≡ true
+second_alone_in op e f b =
+    sym (ap (λ (x : Bool). not x || is_in op second_alone_ops) (lt-ltb op 0xA0 b))
+    ∙ sym (ap (λ (x : Bool). x || (not (nat_lt op 0xA0) || is_in op second_alone_ops)) (le-ltb op 0x70 f))
+    ∙ part_in (λ n. nat_lt n 0x70 || (not (nat_lt n 0xA0) || is_in n second_alone_ops)) alone_ops op refl e
+
+pub last_alone_in : (op : ℕ) → is_in op alone_ops ≡ true → 0xA0 ≤ op → is_in op last_alone_ops ≡ true
+last_alone_in op e f =
+    sym (ap (λ (x : Bool). x || is_in op last_alone_ops) (le-ltb op 0xA0 f))
+    ∙ part_in (λ n. nat_lt n 0xA0 || is_in n last_alone_ops) alone_ops op refl e
 
 -- by what the code found out
 pub alone_is : (op : ℕ) (r k : Alone) → is_in op (ops_alone r) ≡ true → r ≡ k → is_in op (ops_alone k) ≡ true

@@ -27,8 +27,18 @@ ops_alone alones.Double = double_ops
 ops_alone alones.Comparison = comparison_ops
 ops_alone alones.Local = local_ops
 
+-- below 0x70, from there to 0x9F, and from 0xA0 on
+abbrev pub first_alone_ops : List ℕ
+first_alone_ops = control_ops ++ walk_ops ++ push_ops ++ return_ops ++ scope_ops
+
+abbrev pub second_alone_ops : List ℕ
+second_alone_ops = 0x87 ∷ 0x90 ∷ 0x91 ∷ 0x93 ∷ 0x95 ∷ 0x96 ∷ 0x97 ∷ convert_ops
+
+abbrev pub last_alone_ops : List ℕ
+last_alone_ops = 0xB1 ∷ 0xB3 ∷ 0xB4 ∷ 0xC0 ∷ 0xC1 ∷ 0xC4 ∷ double_ops ++ comparison_ops ++ local_ops
+
 abbrev pub alone_ops : List ℕ
-alone_ops = control_ops ++ walk_ops ++ push_ops ++ return_ops ++ scope_ops ++ convert_ops ++ late_ops ++ single_ops ++ double_ops ++ comparison_ops ++ local_ops
+alone_ops = first_alone_ops ++ second_alone_ops ++ last_alone_ops
 
 -- ---- with one number
 

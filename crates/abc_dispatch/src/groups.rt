@@ -1,5 +1,5 @@
 ghost use Rattle.std.specs.Prelude.{◌≡◌, ◌<◌, ◌≤◌, true};
-ghost use Rattle.abc_dispatch.specs.Groups.{alone_ops, numbered_ops, ops_alone, ops_numbered, ops_paired, paired_ops};
+ghost use Rattle.abc_dispatch.specs.Groups.{alone_ops, first_alone_ops, last_alone_ops, numbered_ops, ops_alone, ops_numbered, ops_paired, paired_ops, second_alone_ops};
 ghost use Rattle.abc_tables.specs.Opcodes.{is_in};
 
 /// The groups of opcodes that stand alone.
@@ -46,8 +46,7 @@ pub(crate) enum Paired {
 /// The group of an opcode below 0x70. (An arm for each opcode makes a table of the groups.)
 #[inline(always)]
 fn first_alone(op: u8) -> Alone
-    requires among { is_in op alone_ops ≡ true }
-    requires below { op < 0x70 }
+    requires { is_in op first_alone_ops ≡ true }
     ensures { is_in op (ops_alone result) ≡ true }
 {
     match op {
@@ -71,9 +70,7 @@ fn first_alone(op: u8) -> Alone
 /// The group of an opcode from 0x70 to 0x9F.
 #[inline(always)]
 fn second_alone(op: u8) -> Alone
-    requires among { is_in op alone_ops ≡ true }
-    requires from { 0x70 ≤ op }
-    requires below { op < 0xA0 }
+    requires { is_in op second_alone_ops ≡ true }
     ensures { is_in op (ops_alone result) ≡ true }
 {
     match op {
@@ -91,8 +88,7 @@ fn second_alone(op: u8) -> Alone
 /// The group of an opcode from 0xA0 on.
 #[inline(always)]
 fn last_alone(op: u8) -> Alone
-    requires among { is_in op alone_ops ≡ true }
-    requires from { 0xA0 ≤ op }
+    requires { is_in op last_alone_ops ≡ true }
     ensures { is_in op (ops_alone result) ≡ true }
 {
     match op {
@@ -126,12 +122,14 @@ pub(crate) fn group_alone(op: u8) -> Alone
     requires { is_in op alone_ops ≡ true }
     ensures { is_in op (ops_alone result) ≡ true }
 {
-    if op >= 0xA0 {
-        last_alone(op)
-    } else if op < 0x70 {
-        first_alone(op)
+    if op < 0xA0 {
+        if op < 0x70 {
+            first_alone(op)
+        } else {
+            second_alone(op)
+        }
     } else {
-        second_alone(op)
+        last_alone(op)
     }
 }
 
