@@ -3,4 +3,7 @@ use Rattle.abc_cells.specs.Lanes.{property_in}
 use Rattle.abc_heap.proofs.search.has_name.Goals as goal
 
 pub has_text-requires : goal.has_text-requires
-has_text-requires c = (c.requires.held c.in-Property.held c.in-Property._value (ap property_in c.in-Property.is), c.requires.text)
+has_text-requires c = record {
+  held = c.requires.held c.in-Property.held c.in-Property._value (ap property_in c.in-Property.is);
+  text = c.requires.text;
+}
