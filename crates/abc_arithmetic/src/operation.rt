@@ -42,6 +42,7 @@ pub enum Single {
 
 /// The result of an operation on two numbers. It is the fault Range where that is not whole or outside -2147483648 to
 /// 4294967295, and NotANumber at a divisor 0.
+#[inline(always)]
 pub fn calculate(op: Operation, x: i64, y: i64) -> Result<i64, Fault>
     requires left { IsNumber x }
     requires right { IsNumber y }
@@ -67,6 +68,7 @@ pub fn calculate(op: Operation, x: i64, y: i64) -> Result<i64, Fault>
 }
 
 /// The result of an operation on one number. It is the fault Range where that is outside -2147483648 to 4294967295.
+#[inline(always)]
 pub fn calculate_single(op: Single, x: i64) -> Result<i64, Fault>
     requires { IsNumber x }
     ensures value { result ≡ calculated_single op x }

@@ -108,9 +108,7 @@ fn is_modular(op: Operation) -> bool
     }
 }
 
-/// What is no number, as an operand.
-#[inline(always)]
-fn operand_made(op: Operation, v: Value) -> Result<i64, Fault>
+fn operand(op: Operation, v: Value) -> Result<i64, Fault>
     requires { IsInRange v }
     ensures value { result ≡ operand_of op v }
     ensures number { IfOk result IsNumber }
@@ -122,24 +120,10 @@ fn operand_made(op: Operation, v: Value) -> Result<i64, Fault>
     }
 }
 
-/// An operand: a number is its own, as most are.
-#[tactic(auto, using(crate::proofs::Operands::operand_is))]
-#[inline(always)]
-fn operand(op: Operation, v: Value) -> Result<i64, Fault>
-    requires { IsInRange v }
-    ensures value { result ≡ operand_of op v }
-    ensures number { IfOk result IsNumber }
-{
-    match v {
-        Value::Num(n) => Ok(n),
-        _ => operand_made(op, v),
-    }
-}
-
-/// The result of an operation on two values, of which the left is made a number first.
+/// The result of an operation on two values that are made numbers, the left first.
 #[tactic(auto, using(crate::proofs::Following::goes, crate::proofs::Following::stops))]
 #[inline(always)]
-pub fn calculate_values(op: Operation, x: Value, y: Value) -> Result<i64, Fault>
+fn calculate_made(op: Operation, x: Value, y: Value) -> Result<i64, Fault>
     requires left { IsInRange x }
     requires right { IsInRange y }
     ensures value { result ≡ calculated_of op x y }
@@ -148,6 +132,21 @@ pub fn calculate_values(op: Operation, x: Value, y: Value) -> Result<i64, Fault>
     let a = operand(op, x)?;
     let b = operand(op, y)?;
     calculate(op, a, b)
+}
+
+/// The result of an operation on two values, of which the left is made a number first. (Most are numbers.)
+#[tactic(auto, using(crate::proofs::Operands::both))]
+#[inline(always)]
+pub fn calculate_values(op: Operation, x: Value, y: Value) -> Result<i64, Fault>
+    requires left { IsInRange x }
+    requires right { IsInRange y }
+    ensures value { result ≡ calculated_of op x y }
+    ensures number { IfOk result IsNumber }
+{
+    match (x, y) {
+        (Value::Num(a), Value::Num(b)) => calculate(op, a, b),
+        _ => calculate_made(op, x, y),
+    }
 }
 
 fn is_modular_single(op: Single) -> bool
@@ -161,9 +160,7 @@ fn is_modular_single(op: Single) -> bool
     }
 }
 
-/// What is no number, as the operand.
-#[inline(always)]
-fn operand_single_made(op: Single, v: Value) -> Result<i64, Fault>
+fn operand_single(op: Single, v: Value) -> Result<i64, Fault>
     requires { IsInRange v }
     ensures value { result ≡ operand_of_single op v }
     ensures number { IfOk result IsNumber }
@@ -175,28 +172,28 @@ fn operand_single_made(op: Single, v: Value) -> Result<i64, Fault>
     }
 }
 
-/// The operand: a number is its own, as most are.
-#[tactic(auto, using(crate::proofs::Operands::single_is))]
-#[inline(always)]
-fn operand_single(op: Single, v: Value) -> Result<i64, Fault>
-    requires { IsInRange v }
-    ensures value { result ≡ operand_of_single op v }
-    ensures number { IfOk result IsNumber }
-{
-    match v {
-        Value::Num(n) => Ok(n),
-        _ => operand_single_made(op, v),
-    }
-}
-
-/// The result of an operation on one value.
+/// The result of an operation on one value that is made a number.
 #[tactic(auto, using(crate::proofs::Following::goes, crate::proofs::Following::stops))]
 #[inline(always)]
-pub fn calculate_value(op: Single, v: Value) -> Result<i64, Fault>
+fn calculate_made_one(op: Single, v: Value) -> Result<i64, Fault>
     requires { IsInRange v }
     ensures value { result ≡ calculated_single_of op v }
     ensures number { IfOk result IsNumber }
 {
     let n = operand_single(op, v)?;
     calculate_single(op, n)
+}
+
+/// The result of an operation on one value. (Most are numbers.)
+#[tactic(auto, using(crate::proofs::Operands::one))]
+#[inline(always)]
+pub fn calculate_value(op: Single, v: Value) -> Result<i64, Fault>
+    requires { IsInRange v }
+    ensures value { result ≡ calculated_single_of op v }
+    ensures number { IfOk result IsNumber }
+{
+    match v {
+        Value::Num(n) => calculate_single(op, n),
+        _ => calculate_made_one(op, v),
+    }
 }
