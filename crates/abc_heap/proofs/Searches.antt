@@ -252,6 +252,10 @@ search_falls fixed made strings cs b o t left next x s more e =
 pub search_within : (fixed made : List ℕ) (strings : List (List ℕ)) (cs : Filling Cell) (b : Buckets) (i : ℕ) → IsIndexed fixed made strings cs b → i < length cs.items → i < length b.befores.items
 search_within fixed made strings cs b i x w = omega (arith, w, x.buckets.room, buckets_long (length b.lasts.items) (text_in fixed made strings) cs.items)
 
+-- the same name has the same text
+pub same_text : (fixed made : List ℕ) (strings : List (List ℕ)) (held name : Span) (t : List ℕ) → held ≡ name → t ≡ text_in fixed made strings name → true ≡ bytes_eq (text_in fixed made strings held) t
+same_text fixed made strings held name t e is = sym ((bytes_eq-Decides (text_in fixed made strings held) t).1 (ap (text_in fixed made strings) e ∙ sym is))
+
 -- an object without properties
 pub search_empty : (f : Span → List ℕ) (t : List ℕ) (ps : List (Option (Span × Value))) → length ps ≡ 0 → place_named f t ps ≡ None
 search_empty f t ps e = ap (place_below f t ps) e

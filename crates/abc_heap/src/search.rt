@@ -1,4 +1,5 @@
-ghost use Rattle.std.specs.Prelude.{◌≡◌, ◌<◌, ◌≤◌, ◌^◌, ◌&&◌, ℕ, length, Some, None, slice_get, nat_eq, MatchOption};
+ghost use Rattle.std.specs.Prelude.{◌≡◌, ◌<◌, ◌≤◌, ◌^◌, ◌&&◌, ℕ, length, Some, None, slice_get, nat_eq, true, MatchOption};
+ghost use Rattle.std.specs.Str.{bytes_eq};
 ghost use Rattle.abc_cells.specs.Lanes.{property_in};
 ghost use Rattle.abc_cells.specs.Links.{links};
 ghost use Rattle.abc_cells.specs.declared.values.Span.{Span};
@@ -24,21 +25,61 @@ pub struct Spot {
     pub position: u32,
 }
 
-/// Whether a cell holds a property of the object whose name has this text.
-fn has_name(fixed: &[u8], made: &[u8], strings: &Strings, cell: Cell, o: u32, text: &[u8]) -> bool
-    requires { (n : Span) (v : Value) → property_in cell.held ≡ Some (n, v) → IsTextIn fixed.now made.now strings.now n }
+/// Whether two texts stand at one place.
+#[inline(always)]
+fn is_same(a: Span, b: Span) -> bool
+    ensures { result ≡ true → a ≡ b }
+{
+    a.part == b.part && a.start == b.start && a.len == b.len
+}
+
+/// Whether a property's name has the text of a name, as most often the same name does.
+#[tactic(auto, using(crate::proofs::Searches::same_text))]
+#[inline(always)]
+fn has_text(
+    fixed: &[u8],
+    made: &[u8],
+    strings: &Strings,
+    held: Span,
+    name: Span,
+    text: &[u8],
+) -> bool
+    requires held { IsTextIn fixed.now made.now strings.now held }
+    requires text { text.now ≡ text_in fixed.now made.now strings.now name }
+    ensures { result ≡ bytes_eq (text_in fixed.now made.now strings.now held) text.now }
+{
+    if is_same(held, name) {
+        return true;
+    }
+    bytes_in(fixed, made, strings, held) == text
+}
+
+/// Whether a cell holds a property of the object whose name has the text of a name.
+#[inline(always)]
+fn has_name(
+    fixed: &[u8],
+    made: &[u8],
+    strings: &Strings,
+    cell: Cell,
+    o: u32,
+    name: Span,
+    text: &[u8],
+) -> bool
+    requires held { (n : Span) (v : Value) → property_in cell.held ≡ Some (n, v) → IsTextIn fixed.now made.now strings.now n }
+    requires text { text.now ≡ text_in fixed.now made.now strings.now name }
     ensures { result ≡ nat_eq cell.owner o && is_named (text_in fixed.now made.now strings.now) text.now (Some (property_in cell.held)) }
 {
     if cell.owner != o {
         return false;
     }
     match cell.held {
-        Held::Property(name, _value) => bytes_in(fixed, made, strings, name) == text,
+        Held::Property(held, _value) => has_text(fixed, made, strings, held, name, text),
         _ => false,
     }
 }
 
-/// Where the object has a property of this text: the last of its bucket that fits.
+/// Where the object has a property of the text of a name: the last of its bucket that fits.
+#[inline(always)]
 pub fn place_of_name(
     fixed: &[u8],
     made: &[u8],
@@ -47,11 +88,13 @@ pub fn place_of_name(
     heads: &Reserved<Head>,
     cells: &Reserved<Cell>,
     o: u32,
+    name: Span,
     text: &[u8],
 ) -> Option<Spot>
     requires heads { AreHeads (links cells.now.items) heads.now.items }
     requires index { IsIndexed fixed.now made.now strings.now cells.now buckets.now }
     requires inside { o < length heads.now.items }
+    requires text { text.now ≡ text_in fixed.now made.now strings.now name }
     ensures { MatchOption result (place_named (text_in fixed.now made.now strings.now) text.now (properties_of (objects cells.now.items 0 heads.now.items) o) ≡ None) (λ s. IsSpot (text_in fixed.now made.now strings.now) text.now cells.now.items heads.now.items o s) }
 {
     let count = property_count(heads, cells, o);
@@ -62,7 +105,7 @@ pub fn place_of_name(
     while left > 0 {
         let place = left - 1;
         let here = cell_at(cells, place);
-        if has_name(fixed, made, strings, here, o, text) {
+        if has_name(fixed, made, strings, here, o, name, text) {
             return Some(Spot {
                 place,
                 position: here.position,
@@ -93,7 +136,7 @@ pub fn find(
     let fixed = fixed.as_slice();
     let made = made.as_slice();
     let text = bytes_in(fixed, made, strings, name);
-    place_of_name(fixed, made, strings, buckets, heads, cells, o, text)
+    place_of_name(fixed, made, strings, buckets, heads, cells, o, name, text)
 }
 
 /// The bucket of the text of a name on an object.

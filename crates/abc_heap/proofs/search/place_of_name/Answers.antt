@@ -9,7 +9,10 @@ pub loop-left-init : goal.loop-left-init
 loop-left-init c = search_start c.args.fixed.now c.args.made.now c.args.strings.now c.args.cells.now c.args.buckets.now c.args.o c.args.text.now c.of.result c.last-left.result c.requires.index c.of.ensures.bucket c.of.ensures.inside c.last-left.ensures
 
 pub has_name-requires : goal.has_name-requires
-has_name-requires c = λ n v e. c.requires.index.names _ c.cell_at-here.result n v c.cell_at-here.ensures e
+has_name-requires c = record {
+  held = λ n v e. c.requires.index.names _ c.cell_at-here.result n v c.cell_at-here.ensures e;
+  text = c.requires.text;
+}
 
 pub returns-then-has_name : goal.returns-then-has_name
 returns-then-has_name c = search_found c.args.cells.now.items c.args.heads.now.items (length c.args.buckets.now.lasts.items) c.args.o (text_in c.args.fixed.now c.args.made.now c.args.strings.now) c.args.text.now c.loop-left.left c.cell_at-here.result c.requires.heads c.requires.inside c.loop-left.invariant c.loop-left-test.true c.cell_at-here.ensures (sym c.has_name.ensures ∙ c.if-has_name.true)
