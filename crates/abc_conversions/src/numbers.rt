@@ -108,7 +108,9 @@ fn is_modular(op: Operation) -> bool
     }
 }
 
-fn operand(op: Operation, v: Value) -> Result<i64, Fault>
+/// What is no number, as an operand.
+#[inline(always)]
+fn operand_made(op: Operation, v: Value) -> Result<i64, Fault>
     requires { IsInRange v }
     ensures value { result ≡ operand_of op v }
     ensures number { IfOk result IsNumber }
@@ -120,10 +122,24 @@ fn operand(op: Operation, v: Value) -> Result<i64, Fault>
     }
 }
 
-/// The result of an operation on two values that are made numbers, the left first.
+/// An operand: a number is its own, as most are.
+#[tactic(auto, using(crate::proofs::Operands::operand_is))]
+#[inline(always)]
+fn operand(op: Operation, v: Value) -> Result<i64, Fault>
+    requires { IsInRange v }
+    ensures value { result ≡ operand_of op v }
+    ensures number { IfOk result IsNumber }
+{
+    match v {
+        Value::Num(n) => Ok(n),
+        _ => operand_made(op, v),
+    }
+}
+
+/// The result of an operation on two values, of which the left is made a number first.
 #[tactic(auto, using(crate::proofs::Following::goes, crate::proofs::Following::stops))]
 #[inline(always)]
-fn calculate_made(op: Operation, x: Value, y: Value) -> Result<i64, Fault>
+pub fn calculate_values(op: Operation, x: Value, y: Value) -> Result<i64, Fault>
     requires left { IsInRange x }
     requires right { IsInRange y }
     ensures value { result ≡ calculated_of op x y }
@@ -132,21 +148,6 @@ fn calculate_made(op: Operation, x: Value, y: Value) -> Result<i64, Fault>
     let a = operand(op, x)?;
     let b = operand(op, y)?;
     calculate(op, a, b)
-}
-
-/// The result of an operation on two values, of which the left is made a number first. (Most are numbers.)
-#[tactic(auto, using(crate::proofs::Operands::both))]
-#[inline(always)]
-pub fn calculate_values(op: Operation, x: Value, y: Value) -> Result<i64, Fault>
-    requires left { IsInRange x }
-    requires right { IsInRange y }
-    ensures value { result ≡ calculated_of op x y }
-    ensures number { IfOk result IsNumber }
-{
-    match (x, y) {
-        (Value::Num(a), Value::Num(b)) => calculate(op, a, b),
-        _ => calculate_made(op, x, y),
-    }
 }
 
 fn is_modular_single(op: Single) -> bool
@@ -160,7 +161,9 @@ fn is_modular_single(op: Single) -> bool
     }
 }
 
-fn operand_single(op: Single, v: Value) -> Result<i64, Fault>
+/// What is no number, as the operand.
+#[inline(always)]
+fn operand_single_made(op: Single, v: Value) -> Result<i64, Fault>
     requires { IsInRange v }
     ensures value { result ≡ operand_of_single op v }
     ensures number { IfOk result IsNumber }
@@ -172,28 +175,28 @@ fn operand_single(op: Single, v: Value) -> Result<i64, Fault>
     }
 }
 
-/// The result of an operation on one value that is made a number.
-#[tactic(auto, using(crate::proofs::Following::goes, crate::proofs::Following::stops))]
+/// The operand: a number is its own, as most are.
+#[tactic(auto, using(crate::proofs::Operands::single_is))]
 #[inline(always)]
-fn calculate_made_one(op: Single, v: Value) -> Result<i64, Fault>
+fn operand_single(op: Single, v: Value) -> Result<i64, Fault>
     requires { IsInRange v }
-    ensures value { result ≡ calculated_single_of op v }
+    ensures value { result ≡ operand_of_single op v }
     ensures number { IfOk result IsNumber }
 {
-    let n = operand_single(op, v)?;
-    calculate_single(op, n)
+    match v {
+        Value::Num(n) => Ok(n),
+        _ => operand_single_made(op, v),
+    }
 }
 
-/// The result of an operation on one value. (Most are numbers.)
-#[tactic(auto, using(crate::proofs::Operands::one))]
+/// The result of an operation on one value.
+#[tactic(auto, using(crate::proofs::Following::goes, crate::proofs::Following::stops))]
 #[inline(always)]
 pub fn calculate_value(op: Single, v: Value) -> Result<i64, Fault>
     requires { IsInRange v }
     ensures value { result ≡ calculated_single_of op v }
     ensures number { IfOk result IsNumber }
 {
-    match v {
-        Value::Num(n) => calculate_single(op, n),
-        _ => calculate_made_one(op, v),
-    }
+    let n = operand_single(op, v)?;
+    calculate_single(op, n)
 }
