@@ -57,12 +57,14 @@ impl Names<'_> {
         }
     }
 
-    /// What the host has under a name.
+    /// What the host has under a name. The namespaces of the name, which may be many, are gone over only if there is anything.
+    #[tactic(auto, using(crate::proofs::Meant::no_host))]
     fn host_class(&self, name: PlainName) -> Option<Named>
         ensures { result ≡ class_or_host self.now.abc.now name None }
     {
+        let named = host_named(text_at(self.abc, name.string))?;
         if self.holds_public(name.spaces) {
-            host_named(text_at(self.abc, name.string))
+            Some(named)
         } else {
             None
         }
