@@ -1,6 +1,7 @@
 """Programs that want to hurt: each makes as much of one thing as the limits of a run allow, or makes the verifier work as much as
 the bytes of a file can. As assembly texts and as files."""
-from spelling import number
+from linking import METHOD, PRIVATE, body
+from spelling import HEAD, SIZE, counted, number, pool, text as spelled
 from statements import distance
 from verifying import exception, of_bodies
 
@@ -151,6 +152,25 @@ def wide_bodies():
     return of_bodies(*[(65535, LAST, [])] * (1 << 13))
 
 
+def multiname(string, of_set):
+    return b"\x09" + number(string) + number(of_set)
+
+
+def of_names(texts, spaces, sets, names, ty):
+    """A file with so many texts and Private namespaces, with sets of these and with names, and a method that has a parameter of a type. It
+    is refused, but not before each name was looked up."""
+    pools = pool([spelled(b"%x" % n) for n in range(texts)]) + pool([PRIVATE + b"\0"] * spaces) + pool(sets) + pool(names)
+    methods = counted([METHOD, b"\1\0" + number(ty) + b"\0\0"])
+    made = HEAD + bytes(3) + pools + methods + b"\0\0" + counted([b"\0\0"]) + counted([body(0)])
+    assert len(made) <= SIZE, len(made)
+    return made
+
+
+def long_set(count=1 << 20):
+    """As many names with one set of as many namespaces."""
+    return of_names(count, count, [counted([number(n + 1) for n in range(count)])], [multiname(n + 1, 1) for n in range(count)], 1)
+
+
 FILES = {
     "nops": nops,
     "to_one_place": to_one_place,
@@ -163,14 +183,15 @@ FILES = {
     "told_states": told_states,
     "wide_branches": wide_branches,
     "wide_bodies": wide_bodies,
+    "long_set": long_set,
 }
 # `check` answers that memory ran out, since the states of a body would have too many values.
 TOO_MANY_VALUES = ("states", "scope_states", "told_states")
 
 
-def linked(strings, names, methods, items, bodies, spaces="ns Package 0", sets=""):
+def linked(strings, names, methods, items, bodies):
     """A text whose script has the last method; the bodies return at once."""
-    lines = ["abc 16 46", *(f'string "{s}"' for s in strings), spaces, *([sets] if sets else []), *names, *methods, *items]
+    lines = ["abc 16 46", *(f'string "{s}"' for s in strings), "ns Package 0", *names, *methods, *items]
     return "\n".join([*lines, *(f"body {of} 1 1 0 1\nreturnvoid" for of in bodies)]) + "\n"
 
 
@@ -195,12 +216,4 @@ def slot_chain(count=1 << 12):
     return linked(strings, public(2 * count), ["method 0 0 0"] * (2 * count + 1), items, range(2 * count + 1))
 
 
-def long_set(count=1 << 14):
-    """As many names of types with one set of as many namespaces, none of which is found."""
-    names = [f"name Multiname {n + 1} 1" for n in range(count)]
-    methods = ["method 0 0 0", "method 0 0 0", *(f"param {n + 1}" for n in range(count))]
-    strings, spaces = [f"t{n}" for n in range(count)], "\n".join(["ns Private 0"] * count)
-    return linked(strings, names, methods, ["script 0"], [0], spaces, "set " + " ".join(str(n + 1) for n in range(count)))
-
-
-LINKED = {"interface_chain": interface_chain, "slot_chain": slot_chain, "long_set": long_set}
+LINKED = {"interface_chain": interface_chain, "slot_chain": slot_chain}

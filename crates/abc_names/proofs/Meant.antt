@@ -44,6 +44,11 @@ means_all v t n h e = record { means = λ m. go m (cases_lt m n) }
         let e2 : get_or t m None ≡ None = get_or_past t m None (omega arith) in
         e2 ∙ sym (ap (λ (x : Multiname). meant v (plain_name x)) past)
 
+-- where the host has nothing under a text, no namespaces matter
+pub no_host : (public : Bool) (o : Option Named) → o ≡ None → None ≡ cond public o None
+no_host true o e = sym e
+no_host false o e = refl
+
 -- a name past the table stands for nothing
 pub nothing_meant : (v : Abc) (t : List (Option Named)) (n : ℕ) → AreMeanings v t → slice_get t n ≡ None → None ≡ resolve v n
 nothing_meant v t n a e = past_end t n None e ∙ a.means n

@@ -4,10 +4,13 @@ ghost use Rattle.abc_names.specs.Instances.{instance_at};
 ghost use Rattle.abc_names.specs.Meaning.{class_name_of, class_or_host, has_name, is_class_named, resolve};
 
 use crate::hosts::host_named;
-use crate::named::{DefiniteName, Named, PlainName};
+use crate::named::{DefiniteName, Named, PlainName, Spaces};
 use crate::names::Names;
-use crate::pool::{definite_name_at, plain_name_at, text_at};
+use crate::pool::{definite_name_at, plain_name_at, set_at, text_at};
 use abc_index::Table;
+
+/// More namespaces are gone over only where they matter.
+const MANY: usize = 64;
 
 impl Names<'_> {
     /// The name of a class.
@@ -57,10 +60,34 @@ impl Names<'_> {
         }
     }
 
+    /// Whether a name has many namespaces.
+    fn has_many(&self, spaces: Spaces) -> bool {
+        match spaces {
+            Spaces::Every | Spaces::One(_) => false,
+            Spaces::Set(set) => set_at(self.abc, set).len() > MANY,
+        }
+    }
+
+    /// What the host has under a name with many namespaces. They are gone over only if there is anything.
+    #[tactic(auto, using(crate::proofs::Meant::no_host))]
+    fn host_class_of_many(&self, name: PlainName) -> Option<Named>
+        ensures { result ≡ class_or_host self.now.abc.now name None }
+    {
+        let named = host_named(text_at(self.abc, name.string))?;
+        if self.holds_public(name.spaces) {
+            Some(named)
+        } else {
+            None
+        }
+    }
+
     /// What the host has under a name.
     fn host_class(&self, name: PlainName) -> Option<Named>
         ensures { result ≡ class_or_host self.now.abc.now name None }
     {
+        if self.has_many(name.spaces) {
+            return self.host_class_of_many(name);
+        }
         if self.holds_public(name.spaces) {
             host_named(text_at(self.abc, name.string))
         } else {
