@@ -29,6 +29,7 @@ impl<'a> Line<'a> {
     ghost use Rattle.abc_tokens.specs.Cursor.{IsNumbered, raws_after};
 
     /// The next line with tokens.
+    #[inline(always)]
     pub fn after(&self, vocabulary: &Vocabulary) -> Option<Line<'a>>
         requires { IsNumbered self.now }
         ensures { Comes (raws_after self.now) (self.now.number + 1) (length self.now.rest.now) result }
@@ -72,6 +73,7 @@ fn word_of(vocabulary: &Vocabulary, token: &Token<'_>) -> Word
 }
 
 /// The next line with tokens of what is left of a text, of which the first line has this number.
+#[inline(always)]
 pub fn next_line<'a>(vocabulary: &Vocabulary, text: &'a [u8], number: u64) -> Option<Line<'a>>
     requires { number + length text.now ≤ 2 ^ 32 }
     ensures { Comes (raws_from number (lines_in text.now)) number (length text.now) result }

@@ -8,6 +8,7 @@ use crate::token::{Next, Token};
 use abc_base::NoMemory;
 
 /// The next token of a line.
+#[inline(always)]
 pub fn next_token(bytes: &[u8]) -> Next<'_>
     ensures { Finds bytes.now result }
 {
@@ -34,6 +35,7 @@ fn run_token(bytes: &[u8]) -> Next<'_>
 }
 
 /// The token of a quoted text whose quote stood before the bytes.
+#[inline(never)]
 fn quoted_token(bytes: &[u8]) -> Next<'_>
     ensures { Finds (quote ∷ bytes.now) result }
 {
