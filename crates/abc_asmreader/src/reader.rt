@@ -9,7 +9,7 @@ ghost use Rattle.abc_tokens.specs.Cursor.{AreNumbered, most_lines, raws_after, r
 use crate::error::{AsmError, refused};
 use crate::noting::{add, method_of, renew};
 use abc_base::NoMemory;
-use abc_labels::{TableSizes, count_lines, labels_of, line_after, meet, sizes_of};
+use abc_labels::{TableSizes, count_lines, labels_of, line_after, look_ahead, meet, sizes_of};
 use abc_tables::Sizes;
 use abc_text::{AsmReason, Word};
 use abc_tokens::{Line, Token, Vocabulary, next_line, put_tokens};
@@ -101,7 +101,14 @@ impl<'a> Reader<'a> {
         requires { IsReader self.now }
         ensures { result ≡ lines_counted part.now place (rows_left self.now) }
     {
-        count_lines(self.vocabulary, self.next, part, place)
+        count_lines(
+            self.vocabulary,
+            self.next,
+            self.ahead.as_slice(),
+            self.place,
+            part,
+            place,
+        )
     }
 
     /// How many instances' lines were taken.
@@ -136,7 +143,8 @@ impl<'a> Reader<'a> {
         };
         let unclosed = put_tokens(line.tail, &mut self.operands)?;
         let broken = line.broken || unclosed;
-        let (next, place) = line_after(self.vocabulary, &line, self.ahead.as_slice(), self.place);
+        let behind = look_ahead(self.vocabulary, &line, &mut self.ahead, self.place)?;
+        let (next, place) = line_after(self.vocabulary, &line, self.ahead.as_slice(), behind);
         self.next = next;
         self.place = place;
         let repeated = self.note_line(&line)?;

@@ -10,7 +10,7 @@ ghost use Rattle.abc_varint.specs.Puts.{Puts};
 use crate::instrs::put_instr;
 use crate::listed::{Listed, put_all};
 use crate::marks::mark_body;
-use crate::tokens::{put, put_label, put_number, put_target};
+use crate::tokens::{push_byte, put, put_label, put_number, put_target};
 use abc_base::{NoMemory, Table};
 use abc_tables::{Abc, Body, Handler};
 use std::alloc::Global;
@@ -26,7 +26,7 @@ impl Listed for Handler {
         put_target(self.target, out)?;
         put_number(self.exc_type, out)?;
         put_number(self.var_name, out)?;
-        put(b"\n", out)?;
+        push_byte(b'\n', out)?;
         Ok(())
     }
 }
@@ -42,7 +42,7 @@ fn put_body_line(body: &Body, _abc: &Abc, out: &mut Vec<u8>) -> Result<(), NoMem
     put_number(body.local_count, out)?;
     put_number(body.init_scope, out)?;
     put_number(body.max_scope, out)?;
-    put(b"\n", out)?;
+    push_byte(b'\n', out)?;
     Ok(())
 }
 

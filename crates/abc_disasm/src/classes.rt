@@ -5,7 +5,7 @@ ghost use Rattle.abc_varint.specs.Puts.{Puts};
 use crate::comments::put_multiname_comment;
 use crate::listed::{Listed, put_all};
 use crate::numbers::{put_number_line, put_number_lines};
-use crate::tokens::{put, put_number};
+use crate::tokens::{push_byte, put, put_number};
 use abc_base::NoMemory;
 use abc_tables::{Abc, ClassInfo, Instance, Script};
 
@@ -28,7 +28,7 @@ fn put_instance_line(instance: &Instance, abc: &Abc, out: &mut Vec<u8>) -> Resul
     put_number(instance.super_name, out)?;
     put_number(instance.flags as u32, out)?;
     put_multiname_comment(abc, instance.name, out)?;
-    put(b"\n", out)?;
+    push_byte(b'\n', out)?;
     Ok(())
 }
 

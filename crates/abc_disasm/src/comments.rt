@@ -4,7 +4,7 @@ ghost use Rattle.abc_escape.specs.Escapes.{escaped};
 ghost use Rattle.abc_lines.specs.Listing.{multiname_comment, name_comment, name_in, operand_comment, quoted_comment, string_at as string_of};
 ghost use Rattle.abc_varint.specs.Puts.{Puts};
 
-use crate::tokens::{put, put_escaped};
+use crate::tokens::{push_byte, put, put_escaped};
 use abc_base::NoMemory;
 use abc_tables::{Abc, Multiname, Pool};
 
@@ -31,7 +31,7 @@ pub fn put_quoted_comment(text: &[u8], out: &mut Vec<u8>) -> Result<(), NoMemory
 {
     put(b" ; \"", out)?;
     put_escaped(&text[..text.len().min(SHOWN)], out)?;
-    put(b"\"", out)?;
+    push_byte(b'"', out)?;
     Ok(())
 }
 

@@ -10,7 +10,7 @@ ghost use Rattle.abc_varint.specs.Puts.{Puts};
 
 use crate::comments::put_operand_comment;
 use crate::numbers::put_number_line;
-use crate::tokens::{put, put_number, put_signed, put_target};
+use crate::tokens::{push_byte, put, put_number, put_signed, put_target};
 use abc_base::{NoMemory, Table};
 use abc_tables::{Abc, Instr, Pool, mnemonic, opcode};
 
@@ -42,7 +42,7 @@ fn put_plain(op: u8, _abc: &Abc, out: &mut Vec<u8>) -> Result<(), NoMemory>
     ensures { Puts out.old.items out.new.items result (instr_text _abc.now (instrs.Plain op)) }
 {
     put(name(op), out)?;
-    put(b"\n", out)?;
+    push_byte(b'\n', out)?;
     Ok(())
 }
 
@@ -55,7 +55,7 @@ fn put_one(op: u8, n: u32, abc: &Abc, out: &mut Vec<u8>) -> Result<(), NoMemory>
     put(name(op), out)?;
     put_number(n, out)?;
     put_operand_comment(abc, pool(op), n, out)?;
-    put(b"\n", out)?;
+    push_byte(b'\n', out)?;
     Ok(())
 }
 
@@ -69,7 +69,7 @@ fn put_pair(op: u8, n: u32, m: u32, abc: &Abc, out: &mut Vec<u8>) -> Result<(), 
     put_number(n, out)?;
     put_number(m, out)?;
     put_operand_comment(abc, pool(op), n, out)?;
-    put(b"\n", out)?;
+    push_byte(b'\n', out)?;
     Ok(())
 }
 
@@ -81,7 +81,7 @@ fn put_branch(op: u8, target: u32, _abc: &Abc, out: &mut Vec<u8>) -> Result<(), 
 {
     put(name(op), out)?;
     put_target(target, out)?;
-    put(b"\n", out)?;
+    push_byte(b'\n', out)?;
     Ok(())
 }
 
@@ -109,7 +109,7 @@ fn put_target_line(
     put(word, out)?;
     put_target(default, out)?;
     put_targets(cases, out)?;
-    put(b"\n", out)?;
+    push_byte(b'\n', out)?;
     Ok(())
 }
 
@@ -134,7 +134,7 @@ fn put_byte(value: i8, _abc: &Abc, out: &mut Vec<u8>) -> Result<(), NoMemory>
 {
     put(b"pushbyte", out)?;
     put_signed(value as i32, out)?;
-    put(b"\n", out)?;
+    push_byte(b'\n', out)?;
     Ok(())
 }
 
@@ -145,7 +145,7 @@ fn put_short(value: i16, _abc: &Abc, out: &mut Vec<u8>) -> Result<(), NoMemory>
 {
     put(b"pushshort", out)?;
     put_signed(value as i32, out)?;
-    put(b"\n", out)?;
+    push_byte(b'\n', out)?;
     Ok(())
 }
 
@@ -174,7 +174,7 @@ fn put_debug(
     put_number(name, out)?;
     put_number(reg as u32, out)?;
     put_number(extra, out)?;
-    put(b"\n", out)?;
+    push_byte(b'\n', out)?;
     Ok(())
 }
 

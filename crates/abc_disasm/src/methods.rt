@@ -8,7 +8,7 @@ ghost use Rattle.abc_varint.specs.Puts.{Puts};
 
 use crate::listed::{Listed, put_all};
 use crate::numbers::{put_number_line, put_number_lines};
-use crate::tokens::{put, put_number, put_word};
+use crate::tokens::{push_byte, put, put_number, put_word};
 use abc_base::NoMemory;
 use abc_tables::{Abc, Metadata, Method, OptionValue, ValueKind};
 
@@ -43,7 +43,7 @@ impl Listed for OptionValue {
         put(b"option", out)?;
         put_word(value_name(self.kind), out)?;
         put_number(self.value, out)?;
-        put(b"\n", out)?;
+        push_byte(b'\n', out)?;
         Ok(())
     }
 }
@@ -57,7 +57,7 @@ impl Listed for Method {
         put_number(self.ret, out)?;
         put_number(self.name, out)?;
         put_number(self.flags as u32, out)?;
-        put(b"\n", out)?;
+        push_byte(b'\n', out)?;
         put_number_lines(b"param", &self.params, out)?;
         put_all(&self.options, abc, out)?;
         put_number_lines(b"pname", &self.param_names, out)?;
@@ -73,7 +73,7 @@ fn put_entry(first: u32, second: u32, _abc: &Abc, out: &mut Vec<u8>) -> Result<(
     put(b"item", out)?;
     put_number(first, out)?;
     put_number(second, out)?;
-    put(b"\n", out)?;
+    push_byte(b'\n', out)?;
     Ok(())
 }
 

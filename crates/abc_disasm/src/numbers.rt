@@ -3,7 +3,7 @@ ghost use Rattle.std.specs.Prelude.{◌∷◌, ◌++◌, [], decimal};
 ghost use Rattle.abc_disasm.specs.Texts.{number_line, number_lines, numbers};
 ghost use Rattle.abc_varint.specs.Puts.{Puts};
 
-use crate::tokens::{put, put_number};
+use crate::tokens::{push_byte, put, put_number};
 use abc_base::{NoMemory, Table};
 
 /// Each number behind a space.
@@ -34,7 +34,7 @@ pub fn put_number_line(word: &[u8], n: u32, out: &mut Vec<u8>) -> Result<(), NoM
 {
     put(word, out)?;
     put_number(n, out)?;
-    put(b"\n", out)?;
+    push_byte(b'\n', out)?;
     Ok(())
 }
 

@@ -8,7 +8,7 @@ ghost use Rattle.abc_varint.specs.Puts.{Puts};
 use crate::comments::{name_of, put_name_comment, put_quoted_comment, string_at};
 use crate::listed::Listed;
 use crate::numbers::{put_numbers, put_two};
-use crate::tokens::{put, put_hex_bytes, put_number, put_quoted, put_signed, put_word};
+use crate::tokens::{push_byte, put, put_hex_bytes, put_number, put_quoted, put_signed, put_word};
 use abc_base::NoMemory;
 use abc_tables::{Abc, Bytes, Eight, Multiname, Namespace, NsKind, Table};
 
@@ -34,7 +34,7 @@ impl Listed for i32 {
     fn put(&self, _abc: &Abc, out: &mut Vec<u8>) -> Result<(), NoMemory> {
         put(b"int", out)?;
         put_signed(*self, out)?;
-        put(b"\n", out)?;
+        push_byte(b'\n', out)?;
         Ok(())
     }
 }
@@ -46,7 +46,7 @@ impl Listed for u32 {
     fn put(&self, _abc: &Abc, out: &mut Vec<u8>) -> Result<(), NoMemory> {
         put(b"uint", out)?;
         put_number(*self, out)?;
-        put(b"\n", out)?;
+        push_byte(b'\n', out)?;
         Ok(())
     }
 }
@@ -58,7 +58,7 @@ impl Listed for Eight {
     fn put(&self, _abc: &Abc, out: &mut Vec<u8>) -> Result<(), NoMemory> {
         put(b"double ", out)?;
         put_hex_bytes(&self.0, out)?;
-        put(b"\n", out)?;
+        push_byte(b'\n', out)?;
         Ok(())
     }
 }
@@ -70,7 +70,7 @@ impl Listed for Bytes {
     fn put(&self, _abc: &Abc, out: &mut Vec<u8>) -> Result<(), NoMemory> {
         put(b"string", out)?;
         put_quoted(self.as_slice(), out)?;
-        put(b"\n", out)?;
+        push_byte(b'\n', out)?;
         Ok(())
     }
 }
@@ -84,7 +84,7 @@ impl Listed for Namespace {
         put_word(space_name(self.kind), out)?;
         put_number(self.name, out)?;
         put_quoted_comment(string_at(abc, self.name), out)?;
-        put(b"\n", out)?;
+        push_byte(b'\n', out)?;
         Ok(())
     }
 }
@@ -96,7 +96,7 @@ impl Listed for Table<u32> {
     fn put(&self, _abc: &Abc, out: &mut Vec<u8>) -> Result<(), NoMemory> {
         put(b"set", out)?;
         put_numbers(self, out)?;
-        put(b"\n", out)?;
+        push_byte(b'\n', out)?;
         Ok(())
     }
 }
@@ -143,7 +143,7 @@ impl Listed for Multiname {
         put_word(kind_name(self), out)?;
         put_name_fields(self, abc, out)?;
         put_name_comment(abc, name_of(self), out)?;
-        put(b"\n", out)?;
+        push_byte(b'\n', out)?;
         Ok(())
     }
 }

@@ -1,5 +1,5 @@
 //! What a line is made of. Each of these appends its bytes; where memory runs out, the old bytes are still the front.
-ghost use Rattle.std.specs.Prelude.{◌≡◌, ◌∷◌, ◌++◌, ◌<◌, ◌/◌, ◌%◌, [], ℕ, IsTrue, codes, decimal, length};
+ghost use Rattle.std.specs.Prelude.{◌≡◌, ◌∷◌, ◌++◌, ◌<◌, ◌≤◌, ◌+◌, ◌/◌, ◌%◌, [], ℕ, IsTrue, codes, decimal, length, vec_capacity, vec_len};
 ghost use Rattle.std.specs.Fmt.{signed_decimal};
 ghost use Rattle.std.specs.List.{flat_map};
 ghost use Rattle.abc_escape.specs.Escapes.{escape_of, escaped, hex_digit as hex_digit_of, is_plain as is_plain_byte};
@@ -18,12 +18,21 @@ pub fn put(bytes: &[u8], out: &mut Vec<u8>) -> Result<(), NoMemory>
     Ok(())
 }
 
+/// A byte as it is.
+#[inline(always)]
+pub fn push_byte(byte: u8, out: &mut Vec<u8>) -> Result<(), NoMemory>
+    ensures { PutsWhole out.old.items out.new.items result (byte ∷ []) }
+{
+    out.push(byte)?;
+    Ok(())
+}
+
 /// A space and a word.
 #[tactic(auto, using(abc_varint::proofs::Putting::stays, std::proofs::Common::append_assoc))]
 pub fn put_word(word: &[u8], out: &mut Vec<u8>) -> Result<(), NoMemory>
     ensures { Puts out.old.items out.new.items result (0x20 ∷ word.now) }
 {
-    put(b" ", out)?;
+    push_byte(b' ', out)?;
     put(word, out)?;
     Ok(())
 }
@@ -37,32 +46,54 @@ fn put_any_digits(n: u32, out: &mut Vec<u8>) -> Result<(), NoMemory>
     put(buffer.format(n).as_bytes(), out)
 }
 
-/// A number. Most have one digit or two.
-#[inline(always)]
-#[tactic(auto, using(crate::proofs::Digits::one, crate::proofs::Digits::two))]
+/// A number below 10,000, into room that is there.
+#[inline]
+#[tactic(auto, using(crate::proofs::Digits::one, crate::proofs::Digits::two, crate::proofs::Digits::three, crate::proofs::Digits::four, std::proofs::Common::append_assoc))]
+fn put_short(n: u32, out: &mut Vec<u8>)
+    requires short { n < 10000 }
+    requires room { vec_len out.old + 4 ≤ vec_capacity out.old }
+    ensures { out.new.items ≡ out.old.items ++ decimal n }
+{
+    let tens = n / 10;
+    let hundreds = tens / 10;
+    if n < 10 {
+        out.push_reserved(b'0' + n as u8);
+    } else if n < 100 {
+        out.push_reserved(b'0' + tens as u8);
+        out.push_reserved(b'0' + (n % 10) as u8);
+    } else if n < 1000 {
+        out.push_reserved(b'0' + hundreds as u8);
+        out.push_reserved(b'0' + (tens % 10) as u8);
+        out.push_reserved(b'0' + (n % 10) as u8);
+    } else {
+        out.push_reserved(b'0' + (hundreds / 10) as u8);
+        out.push_reserved(b'0' + (hundreds % 10) as u8);
+        out.push_reserved(b'0' + (tens % 10) as u8);
+        out.push_reserved(b'0' + (n % 10) as u8);
+    }
+}
+
+/// A number. For one with at most four digits room is there.
+#[inline]
 fn put_digits(n: u32, out: &mut Vec<u8>) -> Result<(), NoMemory>
+    requires { vec_len out.old + 4 ≤ vec_capacity out.old }
     ensures { PutsWhole out.old.items out.new.items result (decimal n) }
 {
-    if n < 10 {
-        put(&[b'0' + n as u8], out)?;
-        return Ok(());
-    }
-    if n < 100 {
-        put(&[b'0' + (n / 10) as u8, b'0' + (n % 10) as u8], out)?;
+    if n < 10000 {
+        put_short(n, out);
         return Ok(());
     }
     put_any_digits(n, out)
 }
 
 /// A space and a number.
-#[inline(always)]
-#[tactic(auto, using(abc_varint::proofs::Putting::stays, std::proofs::Common::append_assoc))]
+#[tactic(auto, using(abc_varint::proofs::Putting::stays, abc_varint::proofs::Putting::stays_whole, std::proofs::Common::append_assoc))]
 pub fn put_number(n: u32, out: &mut Vec<u8>) -> Result<(), NoMemory>
     ensures { Puts out.old.items out.new.items result (0x20 ∷ decimal n) }
 {
-    put(b" ", out)?;
-    put_digits(n, out)?;
-    Ok(())
+    out.reserve(5)?;
+    out.push_reserved(b' ');
+    put_digits(n, out)
 }
 
 /// A space and a signed number.
@@ -75,22 +106,24 @@ pub fn put_signed(n: i32, out: &mut Vec<u8>) -> Result<(), NoMemory>
 }
 
 /// The label of an instruction.
-#[tactic(auto, using(abc_varint::proofs::Putting::stays, std::proofs::Common::append_assoc))]
+#[tactic(auto, using(abc_varint::proofs::Putting::stays, abc_varint::proofs::Putting::stays_whole, std::proofs::Common::append_assoc))]
 pub fn put_label(n: u32, out: &mut Vec<u8>) -> Result<(), NoMemory>
     ensures { Puts out.old.items out.new.items result (label_of n) }
 {
-    put(b"L", out)?;
-    put_digits(n, out)?;
-    Ok(())
+    out.reserve(5)?;
+    out.push_reserved(b'L');
+    put_digits(n, out)
 }
 
 /// A space and the label of an instruction.
-#[tactic(auto, using(abc_varint::proofs::Putting::stays, std::proofs::Common::append_assoc))]
+#[tactic(auto, using(abc_varint::proofs::Putting::stays, abc_varint::proofs::Putting::stays_whole, std::proofs::Common::append_assoc))]
 pub fn put_target(n: u32, out: &mut Vec<u8>) -> Result<(), NoMemory>
     ensures { Puts out.old.items out.new.items result (0x20 ∷ label_of n) }
 {
-    put(b" ", out)?;
-    put_label(n, out)
+    out.reserve(6)?;
+    out.push_reserved(b' ');
+    out.push_reserved(b'L');
+    put_digits(n, out)
 }
 
 fn is_plain(byte: u8) -> bool
@@ -110,7 +143,7 @@ fn put_escape(byte: u8, out: &mut Vec<u8>) -> Result<(), NoMemory>
     ensures { PutsWhole out.old.items out.new.items result (escape_of byte) }
 {
     if is_plain(byte) {
-        put(&[byte], out)
+        push_byte(byte, out)
     } else {
         put(&[b'\\', hex_digit(byte / 16), hex_digit(byte % 16)], out)
     }
@@ -161,7 +194,7 @@ pub fn put_quoted(text: &[u8], out: &mut Vec<u8>) -> Result<(), NoMemory>
 {
     put(b" \"", out)?;
     put_escaped(text, out)?;
-    put(b"\"", out)?;
+    push_byte(b'"', out)?;
     Ok(())
 }
 

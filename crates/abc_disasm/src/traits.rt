@@ -9,7 +9,7 @@ use crate::comments::put_multiname_comment;
 use crate::listed::Listed;
 use crate::methods::value_name;
 use crate::numbers::{put_number_lines, put_two};
-use crate::tokens::{put, put_number, put_word};
+use crate::tokens::{push_byte, put, put_number, put_word};
 use abc_base::NoMemory;
 use abc_tables::{Abc, OptionValue, TraitBody, TraitInfo};
 
@@ -77,7 +77,7 @@ impl Listed for TraitInfo {
         put_number(self.name, out)?;
         put_fields(&self.body, abc, out)?;
         put_multiname_comment(abc, self.name, out)?;
-        put(b"\n", out)?;
+        push_byte(b'\n', out)?;
         put_number_lines(b"tmeta", &self.metadata, out)?;
         Ok(())
     }

@@ -1,5 +1,5 @@
 //! Lines that are met ahead of reading them, so that they need not be found again.
-ghost use Rattle.std.specs.Prelude.{◌+◌, drop, length, OnOk};
+ghost use Rattle.std.specs.Prelude.{◌+◌, drop, length, IfOk, OnOk, Some};
 ghost use Rattle.abc_labels.specs.Ahead.{Follows};
 ghost use Rattle.abc_tokens.specs.Cursor.{AreNumbered, Comes, IsNumbered, raws_after};
 
@@ -34,6 +34,34 @@ pub fn meet<'a>(
     Ok(())
 }
 
+/// Meets the lines after a line ahead, if none are met and others ask for many of them, and answers the place from which
+/// on they stand in the list. `NoMemory` where memory runs out.
+pub fn look_ahead<'a>(
+    vocabulary: &Vocabulary,
+    line: &Line<'a>,
+    ahead: &mut Vec<Line<'a>>,
+    place: usize,
+) -> Result<usize, NoMemory>
+    requires numbered { IsNumbered line.now }
+    requires ahead { Follows (Some line.now) (drop place ahead.old.items) }
+    ensures { IfOk result (λ behind. Follows (Some line.now) (drop behind ahead.new.items)) }
+{
+    if place < ahead.len() || !matches!(line.word, Word::Method | Word::Instance) {
+        return Ok(place);
+    }
+    meet(vocabulary, Some(*line), ahead)?;
+    Ok(0)
+}
+
+/// The line after a line, by a search for it.
+#[inline(never)]
+fn sought_after<'a>(vocabulary: &Vocabulary, line: &Line<'a>) -> Option<Line<'a>>
+    requires { IsNumbered line.now }
+    ensures { Comes (raws_after line.now) (line.now.number + 1) (length line.now.rest.now) result }
+{
+    line.after(vocabulary)
+}
+
 /// The line after a line, and the place behind it among those that were met ahead: the one at the place, if there is one.
 pub fn line_after<'a>(
     vocabulary: &Vocabulary,
@@ -49,6 +77,6 @@ pub fn line_after<'a>(
     if place < ahead.len() {
         (Some(ahead[place]), place + 1)
     } else {
-        (line.after(vocabulary), place)
+        (sought_after(vocabulary, line), place)
     }
 }

@@ -1,10 +1,12 @@
-ghost use Rattle.std.specs.Prelude.{◌≡◌, ◌<◌, ◌^◌, ℕ, List};
+ghost use Rattle.std.specs.Prelude.{◌≡◌, ◌<◌, ◌^◌, ℕ, List, drop};
+ghost use Rattle.abc_labels.specs.Ahead.{Follows};
 ghost use Rattle.abc_labels.specs.Counts.{count_raws};
 ghost use Rattle.abc_lines.specs.Texts.{rows_from};
 ghost use Rattle.abc_rowparts.specs.Lines.{Label};
 ghost use Rattle.abc_rowparts.specs.Wordlines.{among, count_lines as lines_counted};
 ghost use Rattle.abc_tokens.specs.Cursor.{AreNumbered, most_lines, raws_at};
 
+use crate::ahead::line_after;
 use crate::places::place_of;
 use abc_tokens::{Line, Vocabulary};
 
@@ -20,23 +22,41 @@ fn is_among(place: u8, part: &[u8]) -> bool
     false
 }
 
-/// How many of the lines from one on stand at a place, up to one that is not of the part.
-pub fn count_lines(vocabulary: &Vocabulary, first: Option<Line<'_>>, part: &[u8], place: u8) -> u32
+/// How many of the lines from one on stand at a place, up to one that is not of the part. Some of the lines after the first
+/// were met ahead: those from `met` on.
+pub fn count_lines(
+    vocabulary: &Vocabulary,
+    first: Option<Line<'_>>,
+    ahead: &[Line<'_>],
+    met: usize,
+    part: &[u8],
+    place: u8,
+) -> u32
     requires numbered { AreNumbered first }
     requires few { most_lines first < 2 ^ 32 }
+    requires ahead { Follows first (drop met ahead.now) }
     ensures { (labels : List Label) (set taken : List (List ℕ)) → result ≡ lines_counted part.now place (rows_from labels set taken (raws_at first.entry)) }
 {
-    count_ahead(vocabulary, first, part, place)
+    count_ahead(vocabulary, first, ahead, met, part, place)
 }
 
 /// The same, of lines before they are read.
-fn count_ahead(vocabulary: &Vocabulary, first: Option<Line<'_>>, part: &[u8], place: u8) -> u32
+fn count_ahead(
+    vocabulary: &Vocabulary,
+    first: Option<Line<'_>>,
+    ahead: &[Line<'_>],
+    met: usize,
+    part: &[u8],
+    place: u8,
+) -> u32
     requires numbered { AreNumbered first }
     requires few { most_lines first < 2 ^ 32 }
+    requires ahead { Follows first (drop met ahead.now) }
     ensures { result ≡ count_raws part.now place (raws_at first.entry) }
 {
     let mut count: u32 = 0;
     let mut next = first;
+    let mut met = met;
     while let Some(line) = next {
         let here = place_of(line.word);
         if here == place {
@@ -44,7 +64,9 @@ fn count_ahead(vocabulary: &Vocabulary, first: Option<Line<'_>>, part: &[u8], pl
         } else if !is_among(here, part) {
             return count;
         }
-        next = line.after(vocabulary);
+        let (following, behind) = line_after(vocabulary, &line, ahead, met);
+        next = following;
+        met = behind;
     }
     count
 }

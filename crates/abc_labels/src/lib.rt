@@ -8,7 +8,7 @@ mod labels;
 mod places;
 mod sizes;
 
-pub use ahead::{line_after, meet};
+pub use ahead::{line_after, look_ahead, meet};
 pub use counting::count_lines;
 pub use labels::labels_of;
 pub use places::place_of;

@@ -1,18 +1,9 @@
 -- The lines of a text, one after the other.
 use Rattle.std.specs.Prelude.{◌≡◌, ℕ, ◌≤◌, ◌<◌, ◌+◌, ◌^◌, ◌||◌, List, [], ◌∷◌, length, Some, None}
 use Rattle.std.specs.declared.option.Option.{Option}
-use Rattle.abc_text.specs.declared.word.Word.{Word}
 use Rattle.abc_text.specs.Scanning.{Between, scan}
-use Rattle.abc_lines.specs.Texts.{Raw, lines_in, raw_of as raw_of_scan, raws_from, token_name, token_word}
+use Rattle.abc_lines.specs.Texts.{Raw, lines_in, raw_of as raw_of_scan, raws_from}
 use Rattle.abc_tokens.specs.declared.line.Line.{Line}
-use Rattle.abc_tokens.specs.declared.token.Token.{Token}
-use Rattle.abc_tokens.specs.Walks.{token_of}
-
-abbrev pub head_word : Token → Word
-head_word token = token_word (token_of token)
-
-abbrev pub head_name : Token → List ℕ
-head_name token = token_name (token_of token)
 
 -- the line as the definitions have it
 abbrev pub raw_of : Line → Raw

@@ -45,7 +45,8 @@ Closes bytes None = scan bytes (InQuote []) ≡ scanned true []
 
 -- The line goes on with a token and what stands behind it, or has no more, and is broken or not.
 abbrev pub Finds : List ℕ → Next → Type 0
-Finds bytes (nexts.Token token rest) = (length rest.now < length bytes) × (scan bytes Between ≡ also (token_of token) (scan rest.now Between))
+Finds bytes (nexts.Bare run rest) = (length rest.now < length bytes) × (scan bytes Between ≡ also (Bare run.now) (scan rest.now Between))
+Finds bytes (nexts.Quoted quoted rest) = (length rest.now < length bytes) × (scan bytes Between ≡ also (Quoted (meant quoted.now)) (scan rest.now Between))
 Finds bytes nexts.End = scan bytes Between ≡ scanned false []
 Finds bytes nexts.Broken = scan bytes Between ≡ scanned true []
 

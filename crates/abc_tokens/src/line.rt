@@ -1,10 +1,11 @@
 ghost use Rattle.std.specs.Prelude.{◌≡◌, ◌<◌, ◌≤◌, ◌+◌, ◌^◌, length};
-ghost use Rattle.abc_lines.specs.Texts.{lines_in, raws_from};
-ghost use Rattle.abc_tokens.specs.Cursor.{Comes, Splits, head_name, head_word};
+ghost use Rattle.abc_lines.specs.Texts.{lines_in, raws_from, token_name};
+ghost use Rattle.abc_text.specs.Tokens.{Bare};
+ghost use Rattle.abc_tokens.specs.Cursor.{Comes, Splits};
 
 use crate::names::name_before_colon;
 use crate::next::next_token;
-use crate::token::{Next, Token};
+use crate::token::Next;
 use crate::vocabulary::Vocabulary;
 use abc_text::Word;
 use memchr::memchr;
@@ -15,10 +16,10 @@ pub struct Line<'a> {
     /// Lines are counted from 1, those without tokens too.
     pub number: u32,
     pub word: Word,
-    /// What stands before the colon that ends the first token.
-    pub name: &'a [u8],
     /// The first token is a quote that isn't closed, or has an escape that is none.
     pub broken: bool,
+    /// What stands before the colon that ends the first token.
+    pub name: &'a [u8],
     /// What follows the first token in the line.
     pub tail: &'a [u8],
     /// What follows the line in the text.
@@ -29,6 +30,7 @@ impl<'a> Line<'a> {
     ghost use Rattle.abc_tokens.specs.Cursor.{IsNumbered, raws_after};
 
     /// The next line with tokens.
+    #[inline(always)]
     pub fn after(&self, vocabulary: &Vocabulary) -> Option<Line<'a>>
         requires { IsNumbered self.now }
         ensures { Comes (raws_after self.now) (self.now.number + 1) (length self.now.rest.now) result }
@@ -49,29 +51,18 @@ fn split_line(text: &[u8]) -> (&[u8], &[u8])
     }
 }
 
-/// The name of a token at the head of a line.
-fn name_of<'a>(token: &Token<'a>) -> &'a [u8]
-    ensures { result.now ≡ head_name token.now }
+/// The name of a word at the head of a line.
+fn name_of(word: &[u8]) -> &[u8]
+    ensures { result.now ≡ token_name (Bare word.now) }
 {
-    match token {
-        Token::Bare(word) => match name_before_colon(word) {
-            Some(name) => name,
-            None => &[],
-        },
-        Token::Quoted(_) => &[],
-    }
-}
-
-fn word_of(vocabulary: &Vocabulary, token: &Token<'_>) -> Word
-    ensures { result ≡ head_word token.now }
-{
-    match token {
-        Token::Bare(word) => vocabulary.word(word),
-        Token::Quoted(_) => Word::Unknown,
+    match name_before_colon(word) {
+        Some(name) => name,
+        None => &[],
     }
 }
 
 /// The next line with tokens of what is left of a text, of which the first line has this number.
+#[inline(always)]
 pub fn next_line<'a>(vocabulary: &Vocabulary, text: &'a [u8], number: u64) -> Option<Line<'a>>
     requires { number + length text.now ≤ 2 ^ 32 }
     ensures { Comes (raws_from number (lines_in text.now)) number (length text.now) result }
@@ -82,12 +73,22 @@ pub fn next_line<'a>(vocabulary: &Vocabulary, text: &'a [u8], number: u64) -> Op
         let (line, others) = split_line(rest);
         match next_token(line) {
             Next::End => {}
-            Next::Token(token, tail) => {
+            Next::Bare(head, tail) => {
                 return Some(Line {
                     number: number as u32,
-                    word: word_of(vocabulary, &token),
-                    name: name_of(&token),
+                    word: vocabulary.word(head),
                     broken: false,
+                    name: name_of(head),
+                    tail,
+                    rest: others,
+                });
+            }
+            Next::Quoted(_, tail) => {
+                return Some(Line {
+                    number: number as u32,
+                    word: Word::Unknown,
+                    broken: false,
+                    name: &[],
                     tail,
                     rest: others,
                 });
@@ -96,8 +97,8 @@ pub fn next_line<'a>(vocabulary: &Vocabulary, text: &'a [u8], number: u64) -> Op
                 return Some(Line {
                     number: number as u32,
                     word: Word::Unknown,
-                    name: &[],
                     broken: true,
+                    name: &[],
                     tail: &[],
                     rest: others,
                 });

@@ -8,6 +8,7 @@ use crate::token::{Next, Token};
 use abc_base::NoMemory;
 
 /// The next token of a line.
+#[inline(always)]
 pub fn next_token(bytes: &[u8]) -> Next<'_>
     ensures { Finds bytes.now result }
 {
@@ -30,15 +31,16 @@ fn run_token(bytes: &[u8]) -> Next<'_>
     ensures { Finds bytes.now result }
 {
     let len = run_len(bytes);
-    Next::Token(Token::Bare(&bytes[..len]), &bytes[len..])
+    Next::Bare(&bytes[..len], &bytes[len..])
 }
 
 /// The token of a quoted text whose quote stood before the bytes.
+#[inline(never)]
 fn quoted_token(bytes: &[u8]) -> Next<'_>
     ensures { Finds (quote ∷ bytes.now) result }
 {
     match quoted_len(bytes) {
-        Some(len) => Next::Token(Token::Quoted(&bytes[..len]), &bytes[len + 1..]),
+        Some(len) => Next::Quoted(&bytes[..len], &bytes[len + 1..]),
         None => Next::Broken,
     }
 }
@@ -52,8 +54,12 @@ pub fn put_tokens<'a>(line: &'a [u8], tokens: &mut Vec<Token<'a>>) -> Result<boo
     let mut rest = line;
     loop {
         match next_token(rest) {
-            Next::Token(token, others) => {
-                tokens.push(token)?;
+            Next::Bare(word, others) => {
+                tokens.push(Token::Bare(word))?;
+                rest = others;
+            }
+            Next::Quoted(text, others) => {
+                tokens.push(Token::Quoted(text))?;
                 rest = others;
             }
             Next::End => return Ok(false),

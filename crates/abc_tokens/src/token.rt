@@ -10,8 +10,10 @@ pub enum Token<'a> {
 /// What a line goes on with.
 #[derive(Clone, Copy, Debug)]
 pub enum Next<'a> {
-    /// A token, and what stands behind it.
-    Token(Token<'a>, &'a [u8]),
+    /// A run of bytes, and what stands behind it.
+    Bare(&'a [u8], &'a [u8]),
+    /// What stands between two quotes, as it is written, and what stands behind them.
+    Quoted(&'a [u8], &'a [u8]),
     /// No more tokens.
     End,
     /// A quote that isn't closed, or an escape that is none.

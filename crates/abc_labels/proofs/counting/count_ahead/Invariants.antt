@@ -1,11 +1,13 @@
-use Rattle.std.proofs.Common.{◌≡◌, ◌+◌, ◌≤◌}
+use Rattle.std.proofs.Common.{◌≡◌, ◌+◌, ◌≤◌, drop}
 use Rattle.abc_tokens.specs.Cursor.{AreNumbered, most_lines, raws_at}
+use Rattle.abc_labels.specs.Ahead.{Follows}
 use Rattle.abc_labels.specs.Counts.{count_raws}
 use Rattle.abc_labels.proofs.counting.count_ahead.Given as goal
 
 abbrev pub invariant-loop-next : goal.invariant-loop-next
 invariant-loop-next l = record {
   numbered : AreNumbered l.next;
+  ahead : Follows l.next (drop l.met l.ahead);
   few : l.count + most_lines l.next ≤ most_lines l.first;
   counted : l.count + count_raws l.part l.place (raws_at l.next) ≡ count_raws l.part l.place (raws_at l.first);
 }

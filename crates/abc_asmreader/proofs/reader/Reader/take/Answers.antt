@@ -14,11 +14,13 @@ use Rattle.abc_asmreader.proofs.reader.Reader.take.Goals.{else-line, then-line}
 pub unreachable-requires : goal.unreachable-requires
 unreachable-requires c = some_next c.args.self.now c.in_default.is c.requires.some
 
+-- the lines that were met ahead follow the one that is taken
+pub look_ahead-requires-clause-ahead : goal.look_ahead-requires-clause-ahead
+look_ahead-requires-clause-ahead c = subst (λ (o : Option Line). Follows o (drop c.args.self.now.place c.args.self.now.ahead.items)) c.in-Some.is c.requires.is.ahead
+
 -- the line behind the one that is taken
 pub line_after-place-requires-clause-ahead : goal.line_after-place-requires-clause-ahead
-line_after-place-requires-clause-ahead c =
-    subst (λ (lines : List Line). Follows (Some c.in-Some.line) (drop c.args.self.now.place lines)) (sym c.as_slice.ensures.value)
-    (subst (λ (o : Option Line). Follows o (drop c.args.self.now.place c.args.self.now.ahead.items)) c.in-Some.is c.requires.is.ahead)
+line_after-place-requires-clause-ahead c = subst (λ (lines : List Line). Follows (Some c.in-Some.line) (drop c.in_ok-behind.behind lines)) (sym c.as_slice.ensures.value) c.in_ok-behind.ensures
 
 pub note_line-requires-clause-next : goal.note_line-requires-clause-next
 note_line-requires-clause-next c = let line = c.in-Some.line in comes_raws (raws_after line) (line.number + 1) (length line.rest.now) c.line_after-place.result.0 c.line_after-place.ensures.comes
