@@ -36,6 +36,7 @@ fn is_operand_at_most<T: Tree>(tree: &T, a: &Stack<Kind>, b: &Stack<Kind>, depth
 }
 
 /// Whether each operand is at most another.
+#[inline(never)]
 fn is_stack_at_most<T: Tree>(tree: &T, a: &Stack<Kind>, b: &Stack<Kind>) -> bool
     requires linked { IsLinkedFile (T.file tree.now) }
     requires sized { length a.now ≡ length b.now }
@@ -60,6 +61,7 @@ fn is_local_at_most<T: Tree>(tree: &T, a: &Table<Kind>, b: &Table<Kind>, place: 
 }
 
 /// Whether each local is at most another.
+#[inline(never)]
 fn are_locals_at_most<T: Tree>(tree: &T, a: &Table<Kind>, b: &Table<Kind>) -> bool
     requires linked { IsLinkedFile (T.file tree.now) }
     requires sized { length a.now ≡ length b.now }
@@ -95,6 +97,7 @@ fn is_scope_at_most_at<T: Tree>(tree: &T, a: &Table<Scope>, b: &Table<Scope>, pl
 }
 
 /// Whether each scope is at most another.
+#[inline(never)]
 fn are_scopes_at_most<T: Tree>(tree: &T, a: &Table<Scope>, b: &Table<Scope>) -> bool
     requires linked { IsLinkedFile (T.file tree.now) }
     requires sized { length a.now ≡ length b.now }

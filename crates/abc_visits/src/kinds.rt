@@ -53,6 +53,7 @@ fn picked(need: Need, here: Kind, below: Kind) -> Kind
 }
 
 /// The kind of the value, from so deep on, that has to have the slot; any kind where none has to.
+#[inline(never)]
 #[tactic(auto, using(crate::proofs::Asking::one_receiver, crate::proofs::Asking::two_receiver, crate::proofs::Asking::three_receiver))]
 fn receiver_at(takes: Takes, parts: Parts, stack: &Stack<Kind>, at: usize) -> Kind
     requires { at < 2 ^ 40 }
@@ -78,6 +79,7 @@ fn receiver_at(takes: Takes, parts: Parts, stack: &Stack<Kind>, at: usize) -> Ki
 
 impl Visit<'_> {
     /// The kind of the value so deep below the arguments; any kind where there is none.
+    #[inline(always)]
     #[tactic(auto, using(crate::proofs::Asking::taken_at))]
     pub(crate) fn taken(&self, asked: Asked, state: &State, depth: u8) -> Kind
         requires { IsAsked (here_in self.now) asked }
@@ -87,6 +89,7 @@ impl Visit<'_> {
     }
 
     /// The kind of the value that has to have the slot; any kind where none has to.
+    #[inline(always)]
     #[tactic(auto, using(crate::proofs::Plain::plain_receiver, crate::proofs::Plain::asked_receiver))]
     pub(crate) fn receiver(&self, asked: Asked, state: &State) -> Kind
         requires { IsAsked (here_in self.now) asked }

@@ -75,6 +75,7 @@ fn gives_count(gives: Gives) -> usize
 
 impl Visit<'_> {
     /// Whether the instruction may stand in the method.
+    #[inline(never)]
     fn stands_here(&self) -> bool
         ensures { result ≡ is_here (routine_in self.now.frame.now) self.now.row.site }
     {
@@ -87,6 +88,7 @@ impl Visit<'_> {
     }
 
     /// Whether the local that is an index holds a number.
+    #[inline]
     fn walks_well(&self, state: &State) -> bool
         ensures { result ≡ is_walked (here_in self.now) state.now self.now.row.locals }
     {
@@ -258,6 +260,7 @@ impl Visit<'_> {
     }
 
     /// The first of some rules that a state breaks.
+    #[inline(never)]
     #[tactic(auto, using(crate::proofs::Loops::rule_next, crate::proofs::Loops::rule_stops))]
     fn first_broken(
         &self,

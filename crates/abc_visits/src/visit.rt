@@ -206,6 +206,7 @@ impl Visit<'_> {
     }
 
     /// What the rules and the step ask of the instruction.
+    #[inline(always)]
     #[tactic(auto, using(crate::proofs::Plain::asked_is))]
     pub(crate) fn asked(&self) -> Asked
         ensures { IsAsked (here_in self.now) result }
