@@ -116,8 +116,19 @@ impl Visit<'_> {
     }
 
     /// Whether the operand is in its table.
-    #[inline(never)]
+    #[inline]
     pub(crate) fn is_in_table(&self) -> bool
+        ensures { result ≡ in_table self.now.linked.now (routine_in self.now.frame.now) self.now.row.operand (operand_in self.now.instr.now) }
+    {
+        match self.row.operand {
+            Operand::Unnamed => true,
+            _ => self.is_named_in_table(),
+        }
+    }
+
+    /// Whether the operand is in its table, mostly where it names something.
+    #[inline(never)]
+    fn is_named_in_table(&self) -> bool
         ensures { result ≡ in_table self.now.linked.now (routine_in self.now.frame.now) self.now.row.operand (operand_in self.now.instr.now) }
     {
         let abc = self.linked.abc();
