@@ -1,10 +1,10 @@
-ghost use Rattle.std.specs.Prelude.{◌≡◌, ◌<◌, ◌*◌, ◌^◌, ◌≤◌, ◌∷◌, [], flat_map, length};
+ghost use Rattle.std.specs.Prelude.{◌≡◌, ◌<◌, ◌*◌, ◌^◌, ◌≤◌, ◌∷◌, [], IfSome, flat_map, length};
 ghost use Rattle.std.specs.Bool.{OnFalse, OnTrue};
 ghost use Rattle.abc_shapes.specs.Instructions.{operand as operand_in};
 ghost use Rattle.abc_shapes.specs.Table.{needs};
 ghost use Rattle.abc_typing.specs.Effects.{args as args_of, needs as needs_of, unfolded};
 ghost use Rattle.abc_steps.specs.Needs.{parts_of};
-ghost use Rattle.abc_visits.specs.Asking.{AreClosed, AreValues, IsAsked};
+ghost use Rattle.abc_visits.specs.Asking.{AreClosed, AreValues, HasValues, IsAsked};
 ghost use Rattle.abc_visits.specs.Visits.{here_in};
 
 use abc_frames::Frame;
@@ -65,6 +65,7 @@ pub(crate) fn need_count(need: Need, parts: Parts) -> usize
 }
 
 /// How many values needs take.
+#[inline(never)]
 #[tactic(auto, using(crate::proofs::Asking::one_count, crate::proofs::Asking::two_count, crate::proofs::Asking::three_count))]
 fn takes_count(takes: Takes, parts: Parts) -> usize
     ensures count { result ≡ length (flat_map (unfolded (parts_of parts)) (needs takes)) }
@@ -154,6 +155,7 @@ fn are_plain_three(a: Need, b: Need, c: Need, parts: Parts) -> bool
 }
 
 /// Whether the values of needs may be any.
+#[inline(never)]
 #[tactic(auto, using(crate::proofs::Plain::one_plain))]
 fn are_plain(takes: Takes, parts: Parts) -> bool
     ensures { OnTrue result (AreValues (flat_map (unfolded (parts_of parts)) (needs takes))) }
@@ -163,6 +165,19 @@ fn are_plain(takes: Takes, parts: Parts) -> bool
         Takes::One(a) => is_plain_need(a, parts),
         Takes::Two(a, b) => are_plain_two(a, b, parts),
         Takes::Three(a, b, c) => are_plain_three(a, b, c, parts),
+    }
+}
+
+/// How many values are taken, where each may be any; `None` where something is asked of one, or the parts of a name are taken.
+#[inline]
+fn values_in(takes: Takes) -> Option<usize>
+    ensures { IfSome result (HasValues (needs takes)) }
+{
+    match takes {
+        Takes::Nothing => Some(0),
+        Takes::One(Need::Value) => Some(1),
+        Takes::Two(Need::Value, Need::Value) => Some(2),
+        _ => None,
     }
 }
 
@@ -184,6 +199,7 @@ impl Visit<'_> {
     }
 
     /// The parts that the name takes at run time; none where no need is for them.
+    #[inline]
     #[tactic(auto, using(crate::proofs::Plain::closed_parts, crate::proofs::Plain::named_parts))]
     fn parts(&self) -> Parts
         ensures { flat_map (unfolded (parts_of result)) (needs self.now.row.takes) ≡ needs_of (here_in self.now) }
@@ -198,16 +214,21 @@ impl Visit<'_> {
     }
 
     /// How many arguments stand on top of what the row takes.
+    #[inline]
     fn args(&self) -> usize
         ensures args { result ≡ args_of (here_in self.now) }
         ensures fits { result < 2 ^ 40 }
     {
+        if self.row.args == 0 {
+            return 0;
+        }
         product(self.row.args, arguments_of(self.instr))
     }
 
-    /// What the rules and the step ask of the instruction.
+    /// What is asked where the parts of a name may make a difference.
+    #[inline(always)]
     #[tactic(auto, using(crate::proofs::Plain::asked_is))]
-    pub(crate) fn asked(&self) -> Asked
+    fn asked_of_name(&self) -> Asked
         ensures { IsAsked (here_in self.now) result }
     {
         let parts = self.parts();
@@ -219,6 +240,36 @@ impl Visit<'_> {
             args,
             depth: args + count,
             is_plain,
+        }
+    }
+
+    /// What is asked where so many values are taken, each of which may be any.
+    #[inline]
+    #[tactic(auto, using(crate::proofs::Plain::values_asked))]
+    fn asked_of_values(&self, count: usize) -> Asked
+        requires { HasValues (needs self.now.row.takes) count }
+        ensures { IsAsked (here_in self.now) result }
+    {
+        let args = self.args();
+        Asked {
+            parts: Parts {
+                name: false,
+                space: false,
+            },
+            args,
+            depth: args + count,
+            is_plain: true,
+        }
+    }
+
+    /// What the rules and the step ask of the instruction. Mostly what is taken may be any.
+    #[inline(always)]
+    pub(crate) fn asked(&self) -> Asked
+        ensures { IsAsked (here_in self.now) result }
+    {
+        match values_in(self.row.takes) {
+            Some(count) => self.asked_of_values(count),
+            None => self.asked_of_name(),
         }
     }
 }
