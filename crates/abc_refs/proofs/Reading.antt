@@ -1,10 +1,12 @@
--- Reading a number at a place, or 0 past the end.
-use Rattle.std.proofs.Common.{◌≡◌, ℕ, zero, suc, ◌+◌, ◌<◌, ◌≤◌, List, [], ◌∷◌, ◌++◌, Some, None, get_or, slice_get, length, drop, map, take, refl, sym, ap, ◌∙◌, arith}
+-- Reading a number at a place, or 0 past the end, and what is made and noted one after the other.
+use Rattle.std.proofs.Common.{◌≡◌, ℕ, zero, suc, ◌+◌, ◌<◌, ◌≤◌, List, [], ◌∷◌, ◌++◌, Some, None, get_or, slice_get, length, drop, map, take, refl, sym, ap, ◌∙◌, append_assoc, arith}
+use Rattle.std.specs.List.{fold}
 use Rattle.std.proofs.Math.ListN.{drop_of_length-le, set}
 use Rattle.std.proofs.Math.Seq.{take-suc}
 use Rattle.std.proofs.lemmas.List.{append-nil, map_push, set-get_or, take_all}
 use Rattle.std.proofs.lemmas.List.Edits.{map_over_more}
 use Rattle.std.proofs.lemmas.Option.{get_or_from_slice_get}
+use Rattle.abc_refs.specs.declared.refs.Ref.{Ref}
 
 pub no_number : (xs : List ℕ) (i : ℕ) → slice_get xs i ≡ None → 0 ≡ get_or xs i 0
 no_number [] i e = refl
@@ -40,3 +42,12 @@ set_again xs ys zs i x y e f = f ∙ ap (λ s. set s i y) e ∙ set_twice xs i x
 -- what stands at a place may be put there
 pub set_same : {A : Type 0} (xs : List A) (i : ℕ) (x : A) → get_or xs i x ≡ x → xs ≡ set xs i x
 set_same xs i x e = sym (set-get_or xs i x) ∙ ap (λ y. set xs i y) e
+
+-- ---- what is noted, one after the other
+
+pub all_noted : (refs found : List Ref) → found ≡ fold (λ (rs : List Ref) (r : Ref). rs ++ r ∷ []) [] refs → found ≡ refs
+all_noted refs found e = e ∙ from [] refs
+  where
+    from : (before rs : List Ref) → fold (λ (rs : List Ref) (r : Ref). rs ++ r ∷ []) before rs ≡ before ++ rs
+    from before [] = sym (append-nil before)
+    from before (r ∷ rs) = from (before ++ r ∷ []) rs ∙ append_assoc before (r ∷ []) rs

@@ -3,8 +3,9 @@ ghost use Rattle.std.specs.Option.{option_to_list};
 ghost use Rattle.abc_refs.specs.Refs.{body_refs, handler_refs, instr_refs};
 ghost use Rattle.abc_refs.specs.Renumbered.{new_body, new_handler, new_instr};
 
-use crate::indexed::{Indexed, note};
+use crate::indexed::Indexed;
 use crate::nodes::Numbers;
+use crate::noting::{Noting, note};
 use crate::refs::{DEBUG, Ref, operand_pool};
 use abc_base::{NoMemory, Table};
 use abc_tables::{Body, Handler, Instr, Pool};
@@ -31,9 +32,9 @@ impl Indexed for Instr {
 
     ghost renumbered = { new_instr };
 
-    fn note_refs(&self, found: &mut Table<Ref>) -> Result<(), NoMemory> {
+    fn note_refs<N: Noting>(&self, found: &mut N) -> Result<(), NoMemory> {
         match instr_ref(self) {
-            Some(index) => found.push(index),
+            Some(index) => found.note(index),
             None => Ok(()),
         }
     }
@@ -75,7 +76,7 @@ impl Indexed for Handler {
 
     ghost renumbered = { new_handler };
 
-    fn note_refs(&self, found: &mut Table<Ref>) -> Result<(), NoMemory> {
+    fn note_refs<N: Noting>(&self, found: &mut N) -> Result<(), NoMemory> {
         note(Pool::Name, self.exc_type, found)?;
         note(Pool::Name, self.var_name, found)
     }
@@ -101,7 +102,7 @@ impl Indexed for Body {
 
     ghost renumbered = { new_body };
 
-    fn note_refs(&self, found: &mut Table<Ref>) -> Result<(), NoMemory> {
+    fn note_refs<N: Noting>(&self, found: &mut N) -> Result<(), NoMemory> {
         self.code.note_refs(found)?;
         self.handlers.note_refs(found)?;
         self.traits.note_refs(found)

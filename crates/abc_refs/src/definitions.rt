@@ -1,9 +1,10 @@
 ghost use Rattle.abc_refs.specs.Refs.{metadata_refs, method_refs, option_refs};
 ghost use Rattle.abc_refs.specs.Renumbered.{new_metadata, new_method, new_option};
 
-use crate::indexed::{Indexed, note, note_each, renumber_each};
+use crate::indexed::{Indexed, renumber_each};
 use crate::nodes::Numbers;
-use crate::refs::{Ref, value_pool};
+use crate::noting::{Noting, note, note_each};
+use crate::refs::value_pool;
 use abc_base::{NoMemory, Table};
 use abc_tables::{Metadata, Method, OptionValue, Pool, ValueKind};
 use std::alloc::Global;
@@ -13,7 +14,7 @@ impl Indexed for OptionValue {
 
     ghost renumbered = { new_option };
 
-    fn note_refs(&self, found: &mut Table<Ref>) -> Result<(), NoMemory> {
+    fn note_refs<N: Noting>(&self, found: &mut N) -> Result<(), NoMemory> {
         note(value_pool(self.kind), self.value, found)
     }
 
@@ -34,7 +35,7 @@ impl Indexed for Method {
 
     ghost renumbered = { new_method };
 
-    fn note_refs(&self, found: &mut Table<Ref>) -> Result<(), NoMemory> {
+    fn note_refs<N: Noting>(&self, found: &mut N) -> Result<(), NoMemory> {
         note(Pool::Name, self.ret, found)?;
         note_each(Pool::Name, &self.params, found)?;
         note(Pool::Text, self.name, found)?;
@@ -67,7 +68,7 @@ impl Indexed for Metadata {
 
     ghost renumbered = { new_metadata };
 
-    fn note_refs(&self, found: &mut Table<Ref>) -> Result<(), NoMemory> {
+    fn note_refs<N: Noting>(&self, found: &mut N) -> Result<(), NoMemory> {
         note(Pool::Text, self.name, found)?;
         note_each(Pool::Text, &self.items, found)
     }

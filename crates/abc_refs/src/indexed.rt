@@ -1,10 +1,9 @@
-ghost use Rattle.std.specs.Prelude.{◌≡◌, ◌++◌, ◌∷◌, [], map, IfOk, IsFalse, OnOk};
+ghost use Rattle.std.specs.Prelude.{◌≡◌, fold, map, IfOk, IsFalse, OnOk};
 ghost use Rattle.std.specs.List.{flat_map};
 ghost use Rattle.abc_refs.specs.Nodes.{number_in};
-ghost use Rattle.abc_refs.specs.Refs.{each, ref};
 
 use crate::nodes::Numbers;
-use crate::refs::Ref;
+use crate::noting::Noting;
 use abc_base::{NoMemory, Table};
 use abc_tables::Pool;
 use std::alloc::Global;
@@ -22,9 +21,9 @@ pub trait Indexed: Drop {
     /// The value with new numbers in their place.
     ghost renumbered: { Renumbering → Self → Self };
 
-    /// Adds the indices of the value to those that were found.
-    fn note_refs(&self, found: &mut Table<Ref>) -> Result<(), NoMemory>
-        ensures { OnOk result (found.new ≡ found.old ++ refs self.now) };
+    /// Notes the indices of the value.
+    fn note_refs<N: Noting>(&self, found: &mut N) -> Result<(), NoMemory>
+        ensures { OnOk result (found.new ≡ fold N.with_ref found.old (refs self.now)) };
 
     /// Whether new numbers may change the value.
     fn may_change(&self) -> bool
@@ -46,7 +45,7 @@ impl<T: Indexed> Indexed for Table<T> {
 
     ghost renumbered = { λ f s. map (T.renumbered f) s };
 
-    fn note_refs(&self, found: &mut Table<Ref>) -> Result<(), NoMemory> {
+    fn note_refs<N: Noting>(&self, found: &mut N) -> Result<(), NoMemory> {
         for item in self.as_slice() {
             item.note_refs(found)?;
         }
@@ -66,27 +65,6 @@ impl<T: Indexed> Indexed for Table<T> {
             }
         }
     }
-}
-
-/// Adds one index to those that were found.
-pub(crate) fn note(pool: Pool, index: u32, found: &mut Table<Ref>) -> Result<(), NoMemory>
-    ensures { OnOk result (found.new ≡ found.old ++ ref pool index ∷ []) }
-{
-    found.push(Ref { pool, index })
-}
-
-/// Adds indices of one pool to those that were found.
-pub(crate) fn note_each(
-    pool: Pool,
-    indices: &Table<u32>,
-    found: &mut Table<Ref>,
-) -> Result<(), NoMemory>
-    ensures { OnOk result (found.new ≡ found.old ++ each pool indices.now) }
-{
-    for index in indices.as_slice() {
-        note(pool, *index, found)?;
-    }
-    Ok(())
 }
 
 /// Puts new numbers in the place of indices of one pool.

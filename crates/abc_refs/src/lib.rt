@@ -7,11 +7,13 @@ mod definitions;
 mod files;
 mod indexed;
 mod nodes;
+mod noting;
 mod refs;
 mod traits;
 
 pub use bodies::instr_ref;
-pub use files::{refs_of, renumber};
+pub use files::{note_file, refs_of, renumber};
 pub use indexed::{Indexed, renumber_all};
 pub use nodes::{Counts, Numbers};
+pub use noting::Noting;
 pub use refs::{Ref, operand_pool};

@@ -1,18 +1,19 @@
-ghost use Rattle.std.specs.Prelude.{◌≡◌, ◌++◌, IfOk, OnOk, option_map};
+ghost use Rattle.std.specs.Prelude.{◌≡◌, fold, IfOk, OnOk, option_map};
 ghost use Rattle.abc_refs.specs.Nodes.{number_in};
 ghost use Rattle.abc_refs.specs.Refs.{class_refs, instance_refs, protected_refs, script_refs, trait_body_refs, trait_refs, value_refs};
 ghost use Rattle.abc_refs.specs.Renumbered.{new_class, new_instance, new_option, new_script, new_trait, new_trait_body};
 ghost use Rattle.abc_tables.specs.declared.opcodes.Pool.TheVariants as pools;
 
-use crate::indexed::{Indexed, note, note_each, renumber_each};
+use crate::indexed::{Indexed, renumber_each};
 use crate::nodes::Numbers;
-use crate::refs::{Ref, value_pool};
+use crate::noting::{Noting, note, note_each};
+use crate::refs::value_pool;
 use abc_base::{NoMemory, Table};
 use abc_tables::{ClassInfo, Instance, OptionValue, Pool, Script, TraitBody, TraitInfo};
 use std::alloc::Global;
 
-fn note_value(value: Option<OptionValue>, found: &mut Table<Ref>) -> Result<(), NoMemory>
-    ensures { OnOk result (found.new ≡ found.old ++ value_refs value) }
+fn note_value<N: Noting>(value: Option<OptionValue>, found: &mut N) -> Result<(), NoMemory>
+    ensures { OnOk result (found.new ≡ fold N.with_ref found.old (value_refs value)) }
 {
     match value {
         Some(option) => note(value_pool(option.kind), option.value, found),
@@ -32,8 +33,8 @@ fn new_value(value: Option<OptionValue>, numbers: &Numbers) -> Option<OptionValu
     }
 }
 
-fn note_body(body: TraitBody, found: &mut Table<Ref>) -> Result<(), NoMemory>
-    ensures { OnOk result (found.new ≡ found.old ++ trait_body_refs body) }
+fn note_body<N: Noting>(body: TraitBody, found: &mut N) -> Result<(), NoMemory>
+    ensures { OnOk result (found.new ≡ fold N.with_ref found.old (trait_body_refs body)) }
 {
     match body {
         TraitBody::Slot { ty, value, .. } => {
@@ -68,7 +69,7 @@ impl Indexed for TraitInfo {
 
     ghost renumbered = { new_trait };
 
-    fn note_refs(&self, found: &mut Table<Ref>) -> Result<(), NoMemory> {
+    fn note_refs<N: Noting>(&self, found: &mut N) -> Result<(), NoMemory> {
         note(Pool::Name, self.name, found)?;
         note_body(self.body, found)
     }
@@ -88,8 +89,8 @@ impl Indexed for TraitInfo {
     }
 }
 
-fn note_protected(space: Option<u32>, found: &mut Table<Ref>) -> Result<(), NoMemory>
-    ensures { OnOk result (found.new ≡ found.old ++ protected_refs space) }
+fn note_protected<N: Noting>(space: Option<u32>, found: &mut N) -> Result<(), NoMemory>
+    ensures { OnOk result (found.new ≡ fold N.with_ref found.old (protected_refs space)) }
 {
     match space {
         Some(index) => note(Pool::Space, index, found),
@@ -111,7 +112,7 @@ impl Indexed for Instance {
 
     ghost renumbered = { new_instance };
 
-    fn note_refs(&self, found: &mut Table<Ref>) -> Result<(), NoMemory> {
+    fn note_refs<N: Noting>(&self, found: &mut N) -> Result<(), NoMemory> {
         note(Pool::Name, self.name, found)?;
         note(Pool::Name, self.super_name, found)?;
         note_protected(self.protected_ns, found)?;
@@ -145,7 +146,7 @@ impl Indexed for ClassInfo {
 
     ghost renumbered = { new_class };
 
-    fn note_refs(&self, found: &mut Table<Ref>) -> Result<(), NoMemory> {
+    fn note_refs<N: Noting>(&self, found: &mut N) -> Result<(), NoMemory> {
         self.traits.note_refs(found)
     }
 
@@ -166,7 +167,7 @@ impl Indexed for Script {
 
     ghost renumbered = { new_script };
 
-    fn note_refs(&self, found: &mut Table<Ref>) -> Result<(), NoMemory> {
+    fn note_refs<N: Noting>(&self, found: &mut N) -> Result<(), NoMemory> {
         self.traits.note_refs(found)
     }
 

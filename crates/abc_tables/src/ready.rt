@@ -1,11 +1,11 @@
-ghost use Rattle.std.specs.Prelude.{◌≡◌, ◌↔◌, ◌≤◌, ◌<◌, ◌^◌, All, IsTrue, MatchOption, Some, length};
+ghost use Rattle.std.specs.Prelude.{◌≡◌, ◌↔◌, ◌≤◌, ◌<◌, ◌-◌, ◌^◌, All, IsTrue, MatchOption, Some, length, min};
 ghost use Rattle.abc_tables.specs.Bodies.{IsReadyBody, IsWithin};
-ghost use Rattle.abc_tables.specs.CodeBytes.{code_len as total};
+ghost use Rattle.abc_tables.specs.CodeBytes.{code_len as total, instr_len as len_of};
 ghost use Rattle.abc_tables.specs.Opcodes.{form_at};
 ghost use Rattle.abc_tables.specs.Ready.{AllCanSpell, AllUpTo, CanSpell, IsReady};
 
 use crate::code::{Body, Handler, Instr};
-use crate::instructions::code_len;
+use crate::instructions::instr_len;
 use crate::opcodes::{Form, opcode};
 use crate::sizes::U30_LIMIT;
 use crate::tables::Abc;
@@ -41,6 +41,7 @@ fn is_switch(default: u32, cases: &Table<u32>, count: usize) -> bool
 }
 
 /// Whether the instruction can be spelled in code of so many instructions.
+#[inline(always)]
 fn can_spell(instr: &Instr, count: usize) -> bool
     ensures { IsTrue result ↔ CanSpell count instr.now }
 {
@@ -57,22 +58,37 @@ fn can_spell(instr: &Instr, count: usize) -> bool
     }
 }
 
-fn each_can_spell(code: &[Instr], count: usize) -> bool
-    ensures { IsTrue result ↔ All (CanSpell count) code.now }
+/// How many bytes the instruction has in the canonical code, if it can be spelled in code of so many instructions. It is
+/// 2^64 - 1 where that is greater.
+#[inline(always)]
+fn spelled_len(instr: &Instr, count: usize) -> Option<u64>
+    ensures { MatchOption result (CanSpell count instr.now → ⊥) (λ n. CanSpell count instr.now × (n ≡ min (len_of instr.now) (2 ^ 64 - 1))) }
 {
-    code.iter().all(|instr| can_spell(instr, count))
+    if !can_spell(instr, count) {
+        return None;
+    }
+    Some(instr_len(instr))
 }
 
-/// How many bytes the code has in its canonical spelling, if some bytes spell it.
+/// The same for all instructions, one after the other.
+fn spelled_code_len(code: &[Instr], count: usize) -> Option<u64>
+    ensures { MatchOption result (All (CanSpell count) code.now → ⊥) (λ n. All (CanSpell count) code.now × (n ≡ min (total code.now) (2 ^ 64 - 1))) }
+{
+    let mut len: u64 = 0;
+    for instr in code {
+        let more = spelled_len(instr, count)?;
+        len = len.saturating_add(more);
+    }
+    Some(len)
+}
+
+/// How many bytes the code has in its canonical spelling, if some bytes spell it. The instructions are gone over once for both.
 #[tactic(auto, using(crate::proofs::Readiness::spelled))]
 fn ready_code_len(code: &Table<Instr>) -> Option<u64>
     ensures { MatchOption result (IsReady code.now → ⊥) (λ n. IsReady code.now × (n ≡ total code.now)) }
 {
-    let len = code_len(code);
+    let len = spelled_code_len(code.as_slice(), code.len())?;
     if len >= CODE_LIMIT {
-        return None;
-    }
-    if !each_can_spell(code.as_slice(), code.len()) {
         return None;
     }
     Some(len)
