@@ -3,8 +3,8 @@ use Rattle.abc_text.specs.Scanning.{Between, scan}
 use Rattle.abc_tokens.specs.Walks.{prefixed, tokens_of}
 use Rattle.abc_tokens.proofs.next.put_tokens.Given as goal
 
-abbrev pub invariant-loop-token : goal.invariant-loop-token
-invariant-loop-token l = scan l.line Between ≡ prefixed (tokens_of l.tokens.items) (scan l.rest Between)
+abbrev pub invariant-loop-word : goal.invariant-loop-word
+invariant-loop-word l = scan l.line Between ≡ prefixed (tokens_of l.tokens.items) (scan l.rest Between)
 
-abbrev pub decreases-loop-token : goal.decreases-loop-token
-decreases-loop-token l = length l.rest
+abbrev pub decreases-loop-word : goal.decreases-loop-word
+decreases-loop-word l = length l.rest
