@@ -1,10 +1,11 @@
 -- The states of places by their numbers.
-use Rattle.std.proofs.Common.{◌≡◌, ◌≢◌, ℕ, zero, suc, ◌+◌, ◌-◌, ◌≤◌, ◌<◌, ◌^◌, List, [], ◌∷◌, ◌++◌, Option, Some, None, length, set, replicate, take, refl, sym, ap, ◌∙◌, subst, arith, ◌⊎◌, inl, inr}
-use Rattle.std.specs.Prelude.{slice_get}
+use Rattle.std.proofs.Common.{◌≡◌, ◌≢◌, ℕ, zero, suc, ◌+◌, ◌-◌, ◌≤◌, ◌<◌, ◌^◌, List, [], ◌∷◌, ◌++◌, Option, Some, None, length, set, replicate, take, refl, sym, ap, ◌∙◌, subst, arith, ◌⊎◌, inl, inr, length-append}
+use Rattle.std.specs.Prelude.{Bool, cond, slice_get}
+use Rattle.std.proofs.lemmas.Bool.{le-ltb, lt-ltb}
 use Rattle.std.proofs.lemmas.List.{length-replicate, map-set}
 use Rattle.std.proofs.Math.ListN.{length-set}
 use Rattle.abc_typing.proofs.Lists.{slice_get-last, slice_get-set}
-use Rattle.abc_flow.specs.Kept.{AreNumbers, count_of, known_at, numbered}
+use Rattle.abc_flow.specs.Kept.{AreNumbered, AreNumbers, count_of, known_at, numbered, placed}
 
 pub numbered_none : {X : Type 0} (known : List X) (n : ℕ) → (1 ≤ n → ⊥) → numbered known n ≡ None
 numbered_none known zero h = refl
@@ -51,9 +52,15 @@ blank_numbers n small = record {
   few = let long : length (replicate {A = ℕ} n 0) ≡ n = length-replicate {A = ℕ} n 0 in omega (arith, long);
 }
 
-pub blank_known : {X : Type 0} (n : ℕ) → known_at {X = X} (replicate n 0) [] ≡ replicate n None
-blank_known zero = refl
-blank_known {X} (suc n) = ap (λ (xs : List (Option X)). None ∷ xs) (blank_known n)
+pub blank_known : {X : Type 0} (n : ℕ) (ks : List X) → known_at (replicate n 0) ks ≡ replicate n None
+blank_known zero ks = refl
+blank_known {X} (suc n) ks = ap (λ (xs : List (Option X)). None ∷ xs) (blank_known n ks)
+
+pub none_kept : (n : ℕ) → AreNumbered [] 0 n
+none_kept n = record { numbers = blank_numbers 0 (omega arith); within = omega arith }
+
+pub blank_kept : (n all : ℕ) → n < 2 ^ 32 → AreNumbered (replicate n 0) 0 all
+blank_kept n all small = record { numbers = blank_numbers n small; within = omega arith }
 
 nothing : (n : ℕ) (zs : List ℕ) → take n [] ++ zs ≡ zs
 nothing zero zs = refl
@@ -67,10 +74,57 @@ renewed_numbers n m xs ys e z q =
     ∙ nothing n (replicate (n - m) 0)
     ∙ ap (λ (k : ℕ). replicate {A = ℕ} k 0) w
 
+-- ---- a value takes the place of another, or comes at the end
+
+pub placed_before : {X : Type 0} (ks : List X) (m : ℕ) (k : X) → m < length ks → placed ks m k ≡ set ks m k
+placed_before {X} ks m k h = ap (λ (b : Bool). cond b (set ks m k) (ks ++ k ∷ [])) (lt-ltb m (length ks) h)
+
+pub placed_after : {X : Type 0} (ks : List X) (m : ℕ) (k : X) → length ks ≤ m → placed ks m k ≡ ks ++ k ∷ []
+placed_after {X} ks m k h = ap (λ (b : Bool). cond b (set ks m k) (ks ++ k ∷ [])) (le-ltb m (length ks) h)
+
 got_more : {X : Type 0} (ks : List X) (k : X) (n : ℕ) → n < length ks → slice_get (ks ++ k ∷ []) n ≡ slice_get ks n
 got_more [] k n h = absurd (omega arith)
 got_more (a ∷ ks) k zero h = refl
 got_more (a ∷ ks) k (suc n) h = got_more ks k n (omega arith)
+
+got_other : {X : Type 0} (ks : List X) (i j : ℕ) (k : X) → i ≢ j → slice_get (set ks i k) j ≡ slice_get ks j
+got_other [] i j k ne = refl
+got_other (a ∷ ks) zero zero k ne = absurd (ne refl)
+got_other (a ∷ ks) zero (suc j) k ne = refl
+got_other (a ∷ ks) (suc i) zero k ne = refl
+got_other (a ∷ ks) (suc i) (suc j) k ne = got_other ks i j k (λ e. ne (ap suc e))
+
+got_same : {X : Type 0} (ks : List X) (i : ℕ) (k : X) → i < length ks → slice_get (set ks i k) i ≡ Some k
+got_same [] i k h = absurd (omega arith)
+got_same (a ∷ ks) zero k h = refl
+got_same (a ∷ ks) (suc i) k h = got_same ks i k (omega arith)
+
+-- before or at the place of a length
+near : (m n : ℕ) → m ≤ n → (m < n) ⊎ (m ≡ n)
+near zero zero h = inr refl
+near zero (suc n) h = inl (omega arith)
+near (suc m) zero h = absurd (omega arith)
+near (suc m) (suc n) h = elim (near m n (omega arith)) [ inl a ↦ inl (omega arith) | inr a ↦ inr (ap suc a) ]
+
+got_placed : {X : Type 0} (ks : List X) (m n : ℕ) (k : X) → m ≤ length ks → n < m → slice_get (placed ks m k) n ≡ slice_get ks n
+got_placed {X} ks m n k h lt = elim (near m (length ks) h) [
+  | inl a ↦ ap (λ (xs : List X). slice_get xs n) (placed_before ks m k a) ∙ got_other ks m n k (λ e. omega arith)
+  | inr a ↦ ap (λ (xs : List X). slice_get xs n) (placed_after ks m k (omega arith)) ∙ got_more ks k n (omega arith)
+]
+
+got_new : {X : Type 0} (ks : List X) (m : ℕ) (k : X) → m ≤ length ks → slice_get (placed ks m k) m ≡ Some k
+got_new {X} ks m k h = elim (near m (length ks) h) [
+  | inl a ↦ ap (λ (xs : List X). slice_get xs m) (placed_before ks m k a) ∙ got_same ks m k a
+  | inr a ↦ ap (λ (xs : List X). slice_get xs m) (placed_after ks m k (omega arith)) ∙ ap (slice_get (ks ++ k ∷ [])) a ∙ slice_get-last ks k
+]
+
+long_placed : {X : Type 0} (ks : List X) (m : ℕ) (k : X) → m ≤ length ks → m < length (placed ks m k)
+long_placed {X} ks m k h = elim (near m (length ks) h) [
+  | inl a ↦ (let e : length (placed ks m k) ≡ length (set ks m k) = ap (λ (xs : List X). length xs) (placed_before ks m k a) in let f = length-set ks m k in omega (arith, e, f))
+  | inr a ↦ (let e : length (placed ks m k) ≡ length (ks ++ k ∷ []) = ap (λ (xs : List X). length xs) (placed_after ks m k (omega arith)) in let f = length-append ks (k ∷ []) in omega (arith, e, f))
+]
+
+-- ---- places again
 
 pub has_room : (ns : List ℕ) (c i : ℕ) → AreNumbers ns c → slice_get ns i ≡ Some 0 → c + 1 < 2 ^ 32
 has_room ns c i h e = let a = count_less ns i e in let b = h.counted in let d = h.few in omega arith
@@ -111,36 +165,37 @@ first_numbers ns c i m h e q = subst (λ (k : ℕ). AreNumbers (set ns i k) (c +
       | inr a ↦ elim (old k n g) [ inl b ↦ absurd (let z = h.inside k n b in let y = a.0 in omega arith) | inr b ↦ sym a.1 ∙ b.1 ]
     ]
 
--- what is known is not changed by one more state
-known_more : {X : Type 0} (ns : List ℕ) (ks : List X) (k : X) → ((i n : ℕ) → slice_get ns i ≡ Some (suc n) → n < length ks) → known_at ns (ks ++ k ∷ []) ≡ known_at ns ks
-known_more [] ks k h = refl
-known_more {X} (zero ∷ ns) ks k h = ap (λ (xs : List (Option X)). None ∷ xs) (known_more ns ks k (λ i n e. h (suc i) n e))
-known_more {X} (suc n ∷ ns) ks k h =
-    let low : n < length ks = h 0 n refl in
-    let e : slice_get (ks ++ k ∷ []) n ≡ slice_get ks n = got_more ks k n low in
-    ap (λ (x : Option X). x ∷ known_at ns (ks ++ k ∷ [])) e ∙ ap (λ (xs : List (Option X)). slice_get ks n ∷ xs) (known_more ns ks k (λ i m f. h (suc i) m f))
+-- what is known is not changed by a state behind all that have numbers
+known_more : {X : Type 0} (ns : List ℕ) (ks : List X) (c : ℕ) (k : X) → c ≤ length ks → ((i n : ℕ) → slice_get ns i ≡ Some (suc n) → n < c) → known_at ns (placed ks c k) ≡ known_at ns ks
+known_more [] ks c k le h = refl
+known_more {X} (zero ∷ ns) ks c k le h = ap (λ (xs : List (Option X)). None ∷ xs) (known_more ns ks c k le (λ i n e. h (suc i) n e))
+known_more {X} (suc n ∷ ns) ks c k le h =
+    let e : slice_get (placed ks c k) n ≡ slice_get ks n = got_placed ks c n k le (h 0 n refl) in
+    ap (λ (x : Option X). x ∷ known_at ns (placed ks c k)) e ∙ ap (λ (xs : List (Option X)). slice_get ks n ∷ xs) (known_more ns ks c k le (λ i m f. h (suc i) m f))
 
-pub first_known : {X : Type 0} (ns : List ℕ) (ks : List X) (i m : ℕ) (k : X) → AreNumbers ns (length ks) → m ≡ length ks + 1 → known_at (set ns i m) (ks ++ k ∷ []) ≡ set (known_at ns ks) i (Some k)
-first_known {X} ns ks i m k h q =
-    let z : m ≡ suc (length ks) = omega arith in
-    let one : numbered (ks ++ k ∷ []) m ≡ Some k = ap (numbered (ks ++ k ∷ [])) z ∙ slice_get-last ks k in
-    map-set (numbered (ks ++ k ∷ [])) ns i m
-    ∙ ap (λ (xs : List (Option X)). set xs i (numbered (ks ++ k ∷ []) m)) (known_more ns ks k h.inside)
+pub first_known : {X : Type 0} (ns : List ℕ) (ks : List X) (c i m : ℕ) (k : X) → AreNumbered ns c (length ks) → m ≡ c + 1 → known_at (set ns i m) (placed ks c k) ≡ set (known_at ns ks) i (Some k)
+first_known {X} ns ks c i m k h q =
+    let z : m ≡ suc c = omega arith in
+    let one : numbered (placed ks c k) m ≡ Some k = ap (numbered (placed ks c k)) z ∙ got_new ks c k h.within in
+    map-set (numbered (placed ks c k)) ns i m
+    ∙ ap (λ (xs : List (Option X)). set xs i (numbered (placed ks c k) m)) (known_more ns ks c k h.within h.numbers.inside)
     ∙ ap (λ (x : Option X). set (known_at ns ks) i x) one
 
+pub first_kept : {X : Type 0} (ns : List ℕ) (ks js : List X) (c i m n : ℕ) (k : X) → AreNumbered ns c (length ks) → slice_get ns i ≡ Some 0 → js ≡ placed ks c k → n ≡ c + 1 → m ≡ n → AreNumbered (set ns i m) n (length js)
+first_kept {X} ns ks js c i m n k h e is q z =
+    let more : m ≡ c + 1 = omega arith in
+    let long : length js ≡ length (placed ks c k) = ap (λ (xs : List X). length xs) is in
+    let lt = long_placed ks c k h.within in
+    record {
+      numbers = let same : c + 1 ≡ n = omega arith in subst (λ (j : ℕ). AreNumbers (set ns i m) j) same (first_numbers ns c i m h.numbers e more);
+      within = omega (arith, long, lt);
+    }
+
+-- more states behind those that have numbers
+pub longer_kept : (ns : List ℕ) (c a b : ℕ) → AreNumbered ns c a → a ≤ b → AreNumbered ns c b
+longer_kept ns c a b h le = record { numbers = h.numbers; within = let z = h.within in omega arith }
+
 -- ---- and another
-
-got_other : {X : Type 0} (ks : List X) (i j : ℕ) (k : X) → i ≢ j → slice_get (set ks i k) j ≡ slice_get ks j
-got_other [] i j k ne = refl
-got_other (a ∷ ks) zero zero k ne = absurd (ne refl)
-got_other (a ∷ ks) zero (suc j) k ne = refl
-got_other (a ∷ ks) (suc i) zero k ne = refl
-got_other (a ∷ ks) (suc i) (suc j) k ne = got_other ks i j k (λ e. ne (ap suc e))
-
-got_same : {X : Type 0} (ks : List X) (i : ℕ) (k : X) → i < length ks → slice_get (set ks i k) i ≡ Some k
-got_same [] i k h = absurd (omega arith)
-got_same (a ∷ ks) zero k h = refl
-got_same (a ∷ ks) (suc i) k h = got_same ks i k (omega arith)
 
 known_other : {X : Type 0} (ns : List ℕ) (ks : List X) (n : ℕ) (k : X) → ((i : ℕ) → slice_get ns i ≡ Some (suc n) → ⊥) → known_at ns (set ks n k) ≡ known_at ns ks
 known_other [] ks n k h = refl
@@ -161,15 +216,16 @@ known_again {X} (suc m ∷ ns) ks (suc i) n k low e one =
     let ne : n ≢ m = λ q. let z = one 0 (ap (λ (j : ℕ). Some (suc j)) (sym q)) in omega arith in
     ap (λ (x : Option X). x ∷ known_at ns (set ks n k)) (got_other ks n m k ne) ∙ ap (λ (xs : List (Option X)). slice_get ks m ∷ xs) (known_again ns ks i n k low e (λ j f. let z = one (suc j) f in omega arith))
 
-pub again_known : {X : Type 0} (ns : List ℕ) (ks : List X) (i n m : ℕ) (k : X) → AreNumbers ns (length ks) → slice_get ns i ≡ Some n → 1 ≤ n → m ≡ n - 1 → known_at ns (set ks m k) ≡ set (known_at ns ks) i (Some k)
-again_known ns ks i zero m k h e lt q = absurd (omega arith)
-again_known {X} ns ks i (suc n) m k h e lt q =
+pub again_known : {X : Type 0} (ns : List ℕ) (ks js : List X) (c i n m : ℕ) (k : X) → AreNumbered ns c (length ks) → slice_get ns i ≡ Some n → 1 ≤ n → m ≡ n - 1 → js ≡ placed ks m k → known_at ns js ≡ set (known_at ns ks) i (Some k)
+again_known ns ks js c i zero m k h e lt q is = absurd (omega arith)
+again_known {X} ns ks js c i (suc n) m k h e lt q is =
     let z : n ≡ m = omega arith in
-    subst (λ (j : ℕ). known_at ns (set ks j k) ≡ set (known_at ns ks) i (Some k)) z (known_again ns ks i n k (h.inside i n e) e (λ j f. h.apart i j n e f))
-
-pub number_inside : (ns : List ℕ) (c i n m : ℕ) → AreNumbers ns c → slice_get ns i ≡ Some n → 1 ≤ n → m ≡ n - 1 → m < c
-number_inside ns c i zero m h e lt q = absurd (omega arith)
-number_inside ns c i (suc n) m h e lt q = let z = h.inside i n e in omega arith
+    let low : n < c = h.numbers.inside i n e in
+    let all : n < length ks = let w = h.within in omega arith in
+    ap (known_at ns) is
+    ∙ sym (ap (λ (j : ℕ). known_at ns (placed ks j k)) z)
+    ∙ ap (known_at ns) (placed_before ks n k all)
+    ∙ known_again ns ks i n k all e (λ j f. h.numbers.apart i j n e f)
 
 -- ---- what is read
 

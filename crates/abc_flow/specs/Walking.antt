@@ -66,10 +66,10 @@ abbrev pub IsTriedAt : LinkedFile → Routine → ℕ → State → State → Tr
 IsTriedAt p m i old new (trials.Breaks r) = broken p m i old ≡ Some r
 IsTriedAt p m i old new (trials.Steps w) = IsFine p m i old × Steps p m i old new w
 
-abbrev pub MergesTo : LinkedFile → State → State → Merged → Type 0
-MergesTo p old n Same = StateLe p n old
-MergesTo p old n (Joined j) = IsJoinState p old n j × (rank (layouts p) j < rank (layouts p) old)
-MergesTo p old n Unequal = HasOneShape old n → ⊥
+abbrev pub MergesTo : LinkedFile → State → State → State → Merged → Type 0
+MergesTo p old n j Same = StateLe p n old
+MergesTo p old n j Joined = IsJoinState p old n j × (rank (layouts p) j < rank (layouts p) old)
+MergesTo p old n j Unequal = HasOneShape old n → ⊥
 
 abbrev pub RefusedBy : LinkedFile → Routine → Refusal → Type 0
 RefusedBy p m (Refused i r) = Refutes p m i r

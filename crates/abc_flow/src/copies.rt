@@ -24,6 +24,15 @@ pub(crate) fn copy_state_over(copy: &mut State, state: &State) -> Result<(), NoM
     Ok(())
 }
 
+/// A state of nothing. It takes no memory.
+pub(crate) fn no_state(alloc: Global) -> State {
+    State {
+        stack: Stack::new(alloc),
+        scopes: Table::new(alloc),
+        locals: Table::new(alloc),
+    }
+}
+
 /// A copy of a state.
 pub(crate) fn copy_state(alloc: Global, state: &State) -> Result<State, NoMemory>
     ensures { IfOk result (λ s. s ≡ state.now) }

@@ -60,8 +60,9 @@ pub trait Flow {
         requires { IsLinkedFile (file self.now) }
         ensures { IsJoin (file self.now) a b result };
 
-    /// Two states of one place together.
-    fn merge(&self, old: &State, next: &State) -> Result<Merged, NoMemory>
+    /// Two states of one place together. The least state above both, where it is neither, takes the place of another, whose memory
+    /// is used again.
+    fn merge(&self, old: &State, next: &State, joined: &mut State) -> Result<Merged, NoMemory>
         requires { IsLinkedFile (file self.now) }
-        ensures { IfOk result (λ j. MergesTo (file self.now) old.now next.now j) };
+        ensures { IfOk result (λ m. MergesTo (file self.now) old.now next.now joined.new m) };
 }

@@ -2,27 +2,29 @@ ghost use Rattle.std.specs.Prelude.{◌≡◌, ◌∷◌, ◌<◌, [], Some, len
 ghost use Rattle.abc_program.specs.Linked.{IsLinkedFile};
 ghost use Rattle.abc_shapes.specs.Instructions.{targets};
 ghost use Rattle.abc_typing.specs.Typing.{Derivable, HasOneShape, Refutes};
+ghost use Rattle.abc_flow.specs.Kept.{IsMet};
 ghost use Rattle.abc_flow.specs.Walking.{AllReach, AreReady, IsOpen, IsReady, RefusedBy, landing, targets_at};
 ghost use Rattle.abc_flow.specs.declared.step.Refusal.TheVariants as refusals;
 
-use crate::copies::copy_state;
 use crate::flow::Flow;
 use crate::states::States;
-use crate::step::{Merged, Refusal};
+use crate::step::{Met, Refusal};
 use abc_tables::Instr;
 use abc_typing::{Stack, State, VerifyRule};
+use std::alloc::Global;
 
-/// A place gets a state, and work.
+/// A place gets a copy of a state, and work.
 pub(crate) fn raise(
     states: &mut States,
     work: &mut Stack<u32>,
     place: u32,
-    state: State,
+    alloc: Global,
+    state: &State,
 ) -> Result<(), Refusal>
     requires { place < length states.old }
-    ensures { MatchResult result (λ _. (states.new ≡ set states.old place (Some state)) × (work.new ≡ place ∷ work.old)) (λ e. e ≡ refusals.NoMemory) }
+    ensures { MatchResult result (λ _. (states.new ≡ set states.old place (Some state.now)) × (work.new ≡ place ∷ work.old)) (λ e. e ≡ refusals.NoMemory) }
 {
-    states.set(place, state)?;
+    states.set(place, alloc, state)?;
     work.push(place)?;
     Ok(())
 }
@@ -41,6 +43,21 @@ fn refuse<F: Flow>(flow: &F, place: u32, old: &State, next: &State) -> VerifyRul
     }
 }
 
+/// The rule that is broken at a place where two states of unequal shapes meet.
+#[cold]
+#[inline(never)]
+fn refused<F: Flow>(flow: &F, states: &States, place: u32, next: &State) -> VerifyRule
+    requires opened { IsOpen (F.file flow.now) (F.routine flow.now) states.now }
+    requires derived { Derivable (F.file flow.now) (F.routine flow.now) place next.now }
+    requires unequal { IsMet states.now place (λ old. HasOneShape old next.now → ⊥) states.now }
+    ensures { Refutes (F.file flow.now) (F.routine flow.now) place result }
+{
+    match states.find(place) {
+        Some(old) => refuse(flow, place, old, next),
+        None => VerifyRule::Merge,
+    }
+}
+
 /// A state flows to a place.
 #[tactic(auto, using(crate::proofs::Places::merge_same, crate::proofs::Places::merge_joined, crate::proofs::Places::merge_first, crate::proofs::Places::is_derived, crate::proofs::Places::in_states))]
 pub(crate) fn merge_at<F: Flow>(
@@ -55,13 +72,13 @@ pub(crate) fn merge_at<F: Flow>(
     requires ready { IsReady (F.file flow.now) (F.routine flow.now) (F.heads flow.now) place next.now }
     ensures { MatchResult result (λ _. AllReach (F.file flow.now) (F.routine flow.now) (F.heads flow.now) ((place, next.now) ∷ []) states.old work.old states.new work.new) (λ e. RefusedBy (F.file flow.now) (F.routine flow.now) e) }
 {
-    match states.find(place) {
-        Some(old) => match flow.merge(old, next)? {
-            Merged::Same => Ok(()),
-            Merged::Joined(joined) => raise(states, work, place, joined),
-            Merged::Unequal => Err(Refusal::Refused(place, refuse(flow, place, old, next))),
-        },
-        None => raise(states, work, place, copy_state(flow.alloc(), next)?),
+    match states.meet(flow, place, next)? {
+        Met::First | Met::Joined => {
+            work.push(place)?;
+            Ok(())
+        }
+        Met::Same => Ok(()),
+        Met::Unequal => Err(Refusal::Refused(place, refused(flow, states, place, next))),
     }
 }
 

@@ -1,8 +1,12 @@
-ghost use Rattle.std.specs.Prelude.{◌≡◌, ◌<◌, ◌+◌, ◌∷◌, ◌++◌, ◌^◌, [], Some, None, get_or, length, replicate, set, slice_get, vec_len, MatchOption, OnOk};
+ghost use Rattle.std.specs.Prelude.{◌≡◌, ◌<◌, ◌+◌, ◌≤◌, ◌^◌, [], Some, None, length, replicate, set, slice_get, vec_len, IfOk, MatchOption, OnOk};
+ghost use Rattle.abc_program.specs.Linked.{IsLinkedFile};
 ghost use Rattle.abc_worklist.specs.Work.{at};
-ghost use Rattle.abc_flow.specs.Kept.{AreNumbers, known_at, numbered};
+ghost use Rattle.abc_flow.specs.Kept.{AreNumbered, Meets, known_at, numbered, placed};
 
-use abc_base::{NoMemory, Table};
+use crate::copies::{copy_state, copy_state_over, no_state};
+use crate::flow::Flow;
+use crate::step::{Merged, Met};
+use abc_base::NoMemory;
 use abc_typing::State;
 use std::alloc::Global;
 use std::marker::Model;
@@ -12,59 +16,92 @@ use std::marker::Model;
 /// the states would fit into no memory.
 pub const MOST_VALUES: usize = 1 << 26;
 
+/// Where the states of a method have more values, the next one has no use of their memory.
+const MANY_VALUES: usize = 1 << 16;
+
 /// What is known at the places of a method. Few places have a state, and only these take more than four bytes.
 #[derive(Drop)]
 pub struct States {
     /// For each place 0, or one more than the number of its state.
     numbers: Vec<u32>,
-    known: Table<State>,
+    /// The states by their numbers. Behind them may be states of another method, whose memory is used again.
+    known: Vec<State>,
+    /// How many states there are.
+    count: usize,
     /// How many values more may be kept.
     room: usize,
+    /// What was joined last, whose memory is used again.
+    joined: State,
 }
 
 impl Model for States {
     ghost use Rattle.std.specs.Prelude.{List, Option, length};
     ghost use Rattle.abc_typing.specs.declared.state.State.{State as AnyState};
-    ghost use Rattle.abc_flow.specs.Kept.{AreNumbers, known_at};
+    ghost use Rattle.abc_flow.specs.Kept.{AreNumbered, known_at};
 
     ghost Value = { List (Option AnyState) };
 
-    ghost view = { λ s. known_at s.numbers.items s.known };
+    ghost view = { λ s. known_at s.numbers.items s.known.items };
 
-    ghost invariant = { λ s. AreNumbers s.numbers.items (length s.known) };
+    ghost invariant = { λ s. AreNumbered s.numbers.items s.count (length s.known.items) };
 }
 
 /// The state of a number: the first has the number 1.
 #[tactic(auto, using(crate::proofs::Numbers::numbered_none, crate::proofs::Numbers::numbered_next))]
-fn state_numbered(known: &Table<State>, number: u32) -> Option<&State>
+fn state_numbered(known: &[State], number: u32) -> Option<&State>
     ensures { MatchOption result (numbered known.now number ≡ None) (λ s. numbered known.now number ≡ Some s.now) }
 {
     match number.checked_sub(1) {
-        Some(index) => known.find(index as usize),
+        Some(index) => known.get(index as usize),
         None => None,
+    }
+}
+
+/// The room that is left where a state is kept too.
+fn room_beside(room: usize, state: &State) -> Result<usize, NoMemory> {
+    let left = room.checked_sub(state.stack.len()).ok_or(NoMemory)?;
+    let left = left.checked_sub(state.scopes.len()).ok_or(NoMemory)?;
+    let left = left.checked_sub(state.locals.len()).ok_or(NoMemory)?;
+    Ok(left)
+}
+
+/// A copy of a state is kept at a place of a list, over what stands there, or at the end.
+fn keep(known: &mut Vec<State>, place: usize, alloc: Global, state: &State) -> Result<(), NoMemory>
+    ensures long { vec_len known.old ≤ vec_len known.new }
+    ensures kept { OnOk result (known.new.items ≡ placed known.old.items place state.now) }
+{
+    if place < known.len() {
+        return copy_state_over(&mut known[place], state);
+    }
+    known.push(copy_state(alloc, state)?)?;
+    Ok(())
+}
+
+/// Gives the memory of states back that had many values, as the room says that they left.
+fn release_many(known: &mut Vec<State>, room: usize) {
+    if room < MOST_VALUES - MANY_VALUES {
+        known.clear();
     }
 }
 
 /// A place that has no state gets one.
 fn put_first(
     numbers: &mut Vec<u32>,
-    known: &mut Table<State>,
-    room: &mut usize,
+    known: &mut Vec<State>,
+    count: &mut usize,
     place: usize,
-    state: State,
+    alloc: Global,
+    state: &State,
 ) -> Result<(), NoMemory>
-    requires numbers { AreNumbers numbers.old.items (length known.old) }
+    requires numbers { AreNumbered numbers.old.items count.old (vec_len known.old) }
     requires inside { place < vec_len numbers.old }
     requires none { slice_get numbers.old.items place ≡ Some 0 }
-    ensures numbers { AreNumbers numbers.new.items (length known.new) }
-    ensures known { OnOk result (known_at numbers.new.items known.new ≡ set (known_at numbers.old.items known.old) place (Some state)) }
+    ensures numbers { AreNumbered numbers.new.items count.new (vec_len known.new) }
+    ensures known { OnOk result (known_at numbers.new.items known.new.items ≡ set (known_at numbers.old.items known.old.items) place (Some state.now)) }
 {
-    let left = room.checked_sub(state.stack.len()).ok_or(NoMemory)?;
-    let left = left.checked_sub(state.scopes.len()).ok_or(NoMemory)?;
-    *room = left.checked_sub(state.locals.len()).ok_or(NoMemory)?;
-    known.push(state)?;
-    let count = known.len();
-    numbers[place] = count as u32;
+    keep(known, *count, alloc, state)?;
+    *count += 1;
+    numbers[place] = *count as u32;
     Ok(())
 }
 
@@ -75,8 +112,10 @@ impl States {
     {
         States {
             numbers: Vec::new(alloc),
-            known: Table::new(alloc),
+            known: Vec::new(alloc),
+            count: 0,
             room: MOST_VALUES,
+            joined: no_state(alloc),
         }
     }
 
@@ -85,9 +124,10 @@ impl States {
         requires { count < 2 ^ 32 }
         ensures { OnOk result (self.new ≡ replicate count None) }
     {
-        self.room = MOST_VALUES;
-        self.known.truncate(0);
         self.numbers.clear();
+        self.count = 0;
+        release_many(&mut self.known, self.room);
+        self.room = MOST_VALUES;
         self.numbers.resize(count, 0)?;
         Ok(())
     }
@@ -97,28 +137,71 @@ impl States {
         ensures { MatchOption result (at self.now place ≡ None) (λ s. slice_get self.now place ≡ Some (Some s.now)) }
     {
         match self.numbers.get(place as usize).copied() {
-            Some(number) => state_numbered(&self.known, number),
+            Some(number) => state_numbered(self.known.as_slice(), number),
             None => None,
         }
     }
 
-    /// A place gets a state.
-    pub(crate) fn set(&mut self, place: u32, state: State) -> Result<(), NoMemory>
-        requires { place < length self.old }
-        ensures { OnOk result (self.new ≡ set self.old place (Some state)) }
+    /// A place that has no state gets a copy of one.
+    fn put(&mut self, place: u32, alloc: Global, state: &State) -> Result<(), NoMemory>
+        requires inside { place < length self.old }
+        requires none { at self.old place ≡ None }
+        ensures { OnOk result (self.new ≡ set self.old place (Some state.now)) }
     {
-        let place = place as usize;
-        let number = self.numbers[place];
+        self.room = room_beside(self.room, state)?;
+        put_first(
+            &mut self.numbers,
+            &mut self.known,
+            &mut self.count,
+            place as usize,
+            alloc,
+            state,
+        )
+    }
+
+    /// A place gets a copy of a state.
+    pub(crate) fn set(&mut self, place: u32, alloc: Global, state: &State) -> Result<(), NoMemory>
+        requires { place < length self.old }
+        ensures { OnOk result (self.new ≡ set self.old place (Some state.now)) }
+    {
+        let number = self.numbers[place as usize];
         if number == 0 {
-            return put_first(
-                &mut self.numbers,
-                &mut self.known,
-                &mut self.room,
-                place,
-                state,
-            );
+            return self.put(place, alloc, state);
         }
-        self.known.set(number as usize - 1, state);
-        Ok(())
+        keep(&mut self.known, number as usize - 1, alloc, state)
+    }
+
+    /// A state flows to a place.
+    pub(crate) fn meet<F: Flow>(
+        &mut self,
+        flow: &F,
+        place: u32,
+        next: &State,
+    ) -> Result<Met, NoMemory>
+        requires linked { IsLinkedFile (F.file flow.now) }
+        requires inside { place < length self.old }
+        ensures { IfOk result (Meets (F.file flow.now) self.old place next.now self.new) }
+    {
+        let number = self.numbers[place as usize];
+        let merged = match state_numbered(self.known.as_slice(), number) {
+            Some(old) => flow.merge(old, next, &mut self.joined)?,
+            None => {
+                self.put(place, flow.alloc(), next)?;
+                return Ok(Met::First);
+            }
+        };
+        match merged {
+            Merged::Same => Ok(Met::Same),
+            Merged::Joined => {
+                keep(
+                    &mut self.known,
+                    number as usize - 1,
+                    flow.alloc(),
+                    &self.joined,
+                )?;
+                Ok(Met::Joined)
+            }
+            Merged::Unequal => Ok(Met::Unequal),
+        }
     }
 }

@@ -1,5 +1,5 @@
 use abc_base::NoMemory;
-use abc_typing::{State, VerifyRule};
+use abc_typing::VerifyRule;
 
 /// Which locals a step wrote.
 #[derive(Clone, Copy, Debug)]
@@ -28,13 +28,26 @@ pub enum Trial {
 }
 
 /// Two states of one place together.
-#[derive(Debug, Drop)]
+#[derive(Clone, Copy, Debug)]
 pub enum Merged {
     /// The second is at most the first.
     Same,
-    /// The least state above both.
-    Joined(State),
+    /// The least state above both was made.
+    Joined,
     /// They have not one shape.
+    Unequal,
+}
+
+/// A state that flows to a place.
+#[derive(Clone, Copy, Debug)]
+pub(crate) enum Met {
+    /// No state was known there.
+    First,
+    /// It is at most what was known there.
+    Same,
+    /// It was joined to what was known there.
+    Joined,
+    /// It has not the shape of what is known there.
     Unequal,
 }
 

@@ -7,7 +7,7 @@ ghost use Rattle.abc_worklist.specs.Work.{at};
 ghost use Rattle.abc_flow.specs.Telling.{AreKept, HandlerAt, HasCaught, HasCaughtOne, HasTold, HasToldAt, IsReadyFor, Raises, range_of};
 ghost use Rattle.abc_flow.specs.Walking.{AllReach, AreReady, IsOpen, RefusedBy, caught_with};
 
-use crate::copies::copy_state;
+use crate::copies::{copy_state, no_state};
 use crate::flow::Flow;
 use crate::merging::merge_at;
 use crate::states::States;
@@ -17,8 +17,21 @@ use abc_program::Kind;
 use abc_stabs::Stabs;
 use abc_typing::{Catch, Stack, State};
 
-/// What was told at a node together with what was seen, if that is more than what was told. States that have not one shape,
-/// of which there are none here, would not be joined: then it is what was seen.
+/// What was told together with what was seen, if that is more than what was told. States that have not one shape, of which there
+/// are none here, would not be joined: then it is what was seen.
+fn raised_above<F: Flow>(flow: &F, old: &State, seen: &State) -> Result<Option<State>, NoMemory>
+    requires { IsLinkedFile (F.file flow.now) }
+    ensures { IfOk result (Raises (F.file flow.now) (Some old.now) seen.now) }
+{
+    let mut joined = no_state(flow.alloc());
+    match flow.merge(old, seen, &mut joined)? {
+        Merged::Same => Ok(None),
+        Merged::Joined => Ok(Some(joined)),
+        Merged::Unequal => Ok(Some(copy_state(flow.alloc(), seen)?)),
+    }
+}
+
+/// What was told at a node together with what was seen, if that is more than what was told.
 fn raised<F: Flow>(
     flow: &F,
     told: &States,
@@ -29,11 +42,7 @@ fn raised<F: Flow>(
     ensures { IfOk result (Raises (F.file flow.now) (at told.now node) seen.now) }
 {
     match told.find(node) {
-        Some(old) => match flow.merge(old, seen)? {
-            Merged::Same => Ok(None),
-            Merged::Joined(joined) => Ok(Some(joined)),
-            Merged::Unequal => Ok(Some(copy_state(flow.alloc(), seen)?)),
-        },
+        Some(old) => raised_above(flow, old, seen),
         None => Ok(Some(copy_state(flow.alloc(), seen)?)),
     }
 }
@@ -137,7 +146,7 @@ fn tell_more<F: Flow>(
 {
     let mut caught = caught;
     catch_all(flow, stabs, states, work, &mut caught, node)?;
-    told.set(node, caught)?;
+    told.set(node, flow.alloc(), &caught)?;
     Ok(())
 }
 

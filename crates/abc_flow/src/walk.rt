@@ -7,7 +7,7 @@ ghost use Rattle.abc_flow.specs.Handled.{IsCoverAt};
 ghost use Rattle.abc_flow.specs.Telling.{AreKept, IsHandled};
 ghost use Rattle.abc_flow.specs.Walking.{AllReach, AreHeads, AreReady, ArrivesAt, HasPaced, HasTurned, HasWalked, IsOpen, IsPending, IsSeenFirst, MayGoOn, Passed, RefusedBy, is_head, landing, targets_at};
 
-use crate::copies::{copy_over, copy_state_over};
+use crate::copies::{copy_over, copy_state_over, no_state};
 use crate::flow::Flow;
 use crate::handled::{Cover, Handled, cover_at, handled_of};
 use crate::merging::{jump, merge_at, raise};
@@ -235,7 +235,8 @@ fn check_code<F: Flow>(
     walker.told.renew(handled.all.nodes())?;
     states.renew(flow.len())?;
     work.clear();
-    raise(states, work, 0, flow.entry()?)?;
+    let entry = flow.entry()?;
+    raise(states, work, 0, flow.alloc(), &entry)?;
     while let Some(place) = work.pop() {
         visit(flow, &handled, states, work, walker, place)?;
     }
@@ -248,15 +249,6 @@ pub struct Memory {
     states: States,
     work: Stack<u32>,
     walker: Walker,
-}
-
-/// A state of nothing. It takes no memory.
-fn no_state(alloc: Global) -> State {
-    State {
-        stack: Stack::new(alloc),
-        scopes: Table::new(alloc),
-        locals: Table::new(alloc),
-    }
 }
 
 impl Memory {

@@ -11,6 +11,12 @@ use Rattle.abc_typing.proofs.Lists.{Each2-length}
 pub found : {X : Type 0} (xs : List X) (k : ℕ) (d x : X) → Some x ≡ slice_get xs k → x ≡ get_or xs k d
 found xs k d x e = sym (get_or_from_slice_get xs k x d (sym e))
 
+-- a value that is read is the one that stands there
+pub there : {X : Type 0} (xs : List X) (k : ℕ) (d x : X) → k < length xs → get_or xs k x ≡ x → x ≡ get_or xs k d
+there [] k d x h e = absurd (omega arith)
+there (y ∷ xs) zero d x h e = sym e
+there (y ∷ xs) (suc k) d x h e = there xs k d x (omega arith) e
+
 pub clash : (b : Bool) → b ≡ true → b ≡ false → ⊥
 clash b p q = absurd cc
 

@@ -5,6 +5,7 @@ use Rattle.abc_program.specs.Kinds.{IsAtMost, IsJoin}
 use Rattle.abc_program.specs.Linked.{IsLinkedFile, LinkedFile}
 use Rattle.abc_program.specs.declared.types.Kind.{Kind}
 use Rattle.abc_program.specs.declared.types.Kind.TheVariants.{Any, Undef, Null, Num, Bool as Truth, Text, Space, Obj}
+use Rattle.abc_program.proofs.Order.{kind_self}
 use Rattle.abc_program.proofs.Tree.{below_antisym}
 use Rattle.abc_typing.specs.Lists.{Each2}
 use Rattle.abc_typing.specs.Typing.{HasOneShape, IsJoinState, ScopeLe, StateLe}
@@ -101,6 +102,10 @@ module _ {X : Type 0} (R : X → X → X → Type 0) (S : X → X → Type 0) wh
   leasts f (x ∷ xs) [] zs ks h a b = absurd h
   leasts f (x ∷ xs) (y ∷ ys) [] ks h a b = absurd h
 
+-- the join of two kinds that are equal
+pub join_self : (p : LinkedFile) (x y : Kind) → x ≡ y → IsJoin p x y x
+join_self p x y e = record { left = kind_self p x; right = subst (λ (z : Kind). IsAtMost p z x) e (kind_self p x); least = λ k m n. m }
+
 is_join : (p : LinkedFile) (a b j : State) → JoinsState p a b j → IsJoinState p a b j
 is_join p a b j h = record {
   left = record { stack = lefts (IsJoin p) (IsAtMost p) (λ x y z r. r.left) _ _ _ h.stack; scopes = lefts (IsJoinScope p) (ScopeLe p) (λ x y z r. record { kind = r.kind.left; flag = sym r.flag }) _ _ _ h.scopes; locals = lefts (IsJoin p) (IsAtMost p) (λ x y z r. r.left) _ _ _ h.locals };
@@ -150,7 +155,7 @@ state_antisym p t a b h k =
     ∙ ap (λ (z : List Kind). record { stack = b.stack; scopes = b.scopes; locals = z }) l
 
 -- the joins have less to rise, unless the second is at most the first
-pub joins : (p : LinkedFile) → IsLinkedFile p → (old n j : State) → HasOneShape old n → (StateLe p n old → ⊥) → JoinsState p old n j → MergesTo p old n (Joined j)
+pub joins : (p : LinkedFile) → IsLinkedFile p → (old n j : State) → HasOneShape old n → (StateLe p n old → ⊥) → JoinsState p old n j → MergesTo p old n j Joined
 joins p t old n j shape ne h =
     elim (state_join p (good p t) (layouts p) (omega arith) (omega arith) old n shape) [
       | inl le ↦ absurd (ne le)

@@ -1,4 +1,4 @@
-ghost use Rattle.std.specs.Prelude.{◌≡◌, ◌↔◌, IsTrue, get_or, length};
+ghost use Rattle.std.specs.Prelude.{◌≡◌, ◌<◌, ◌↔◌, IsTrue, get_or, length};
 ghost use Rattle.abc_program.specs.Kinds.{IsAtMost};
 ghost use Rattle.abc_program.specs.Linked.{IsLinkedFile};
 ghost use Rattle.abc_program.specs.declared.types.Kind.TheVariants as kinds;
@@ -6,7 +6,7 @@ ghost use Rattle.abc_typing.specs.Lists.{Each2};
 ghost use Rattle.abc_typing.specs.Typing.{HasOneShape, ScopeLe, StateLe};
 ghost use Rattle.abc_merging.specs.Triples.{no_scope};
 
-use crate::shape::{NO_SCOPE, at_or, is_same_flag};
+use crate::shape::{NO_SCOPE, at_or, is_same_flag, local_at};
 use abc_base::Table;
 use abc_kinds::{Tree, at_most};
 use abc_program::Kind;
@@ -36,6 +36,7 @@ fn is_operand_at_most<T: Tree>(tree: &T, a: &Stack<Kind>, b: &Stack<Kind>, depth
 }
 
 /// Whether each operand is at most another.
+#[inline(never)]
 fn is_stack_at_most<T: Tree>(tree: &T, a: &Stack<Kind>, b: &Stack<Kind>) -> bool
     requires linked { IsLinkedFile (T.file tree.now) }
     requires sized { length a.now ≡ length b.now }
@@ -51,15 +52,18 @@ fn is_stack_at_most<T: Tree>(tree: &T, a: &Stack<Kind>, b: &Stack<Kind>) -> bool
 
 /// Whether the local at a place is at most another.
 fn is_local_at_most<T: Tree>(tree: &T, a: &Table<Kind>, b: &Table<Kind>, place: usize) -> bool
-    requires { IsLinkedFile (T.file tree.now) }
+    requires linked { IsLinkedFile (T.file tree.now) }
+    requires first { place < length a.now }
+    requires second { place < length b.now }
     ensures { IsTrue result ↔ IsAtMost (T.file tree.now) (get_or a.now place kinds.Any) (get_or b.now place kinds.Any) }
 {
-    let x = at_or(a, place, Kind::Any);
-    let y = at_or(b, place, Kind::Any);
+    let x = local_at(a, place);
+    let y = local_at(b, place);
     is_at_most(tree, x, y)
 }
 
 /// Whether each local is at most another.
+#[inline(never)]
 fn are_locals_at_most<T: Tree>(tree: &T, a: &Table<Kind>, b: &Table<Kind>) -> bool
     requires linked { IsLinkedFile (T.file tree.now) }
     requires sized { length a.now ≡ length b.now }
@@ -95,6 +99,7 @@ fn is_scope_at_most_at<T: Tree>(tree: &T, a: &Table<Scope>, b: &Table<Scope>, pl
 }
 
 /// Whether each scope is at most another.
+#[inline(never)]
 fn are_scopes_at_most<T: Tree>(tree: &T, a: &Table<Scope>, b: &Table<Scope>) -> bool
     requires linked { IsLinkedFile (T.file tree.now) }
     requires sized { length a.now ≡ length b.now }

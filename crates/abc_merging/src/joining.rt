@@ -1,4 +1,4 @@
-ghost use Rattle.std.specs.Prelude.{◌≡◌, IfOk, get_or, length};
+ghost use Rattle.std.specs.Prelude.{◌≡◌, ◌<◌, IfOk, OnOk, get_or, length};
 ghost use Rattle.abc_program.specs.Kinds.{IsJoin};
 ghost use Rattle.abc_program.specs.Linked.{IsLinkedFile};
 ghost use Rattle.abc_program.specs.declared.types.Kind.TheVariants as kinds;
@@ -8,13 +8,25 @@ ghost use Rattle.abc_flow.specs.Walking.{MergesTo};
 ghost use Rattle.abc_merging.specs.Triples.{Each3, IsJoinScope, JoinsState, no_scope};
 
 use crate::below::is_state_at_most;
-use crate::shape::{NO_SCOPE, at_or, have_one_shape};
+use crate::shape::{NO_SCOPE, at_or, have_one_shape, local_at};
 use abc_base::{NoMemory, Table};
 use abc_flow::Merged;
 use abc_kinds::{Tree, join};
 use abc_program::Kind;
 use abc_typing::{Scope, Stack, State};
-use std::alloc::Global;
+
+/// The join of two kinds. Mostly they are equal, and nothing is asked of the layouts.
+#[inline]
+#[tactic(auto, using(crate::proofs::Threes::join_self))]
+fn join_kinds<T: Tree>(tree: &T, x: Kind, y: Kind) -> Kind
+    requires { IsLinkedFile (T.file tree.now) }
+    ensures { IsJoin (T.file tree.now) x y result }
+{
+    if x == y {
+        return x;
+    }
+    join(tree, x, y)
+}
 
 /// The join of the operands at a depth.
 fn join_operands<T: Tree>(tree: &T, a: &Stack<Kind>, b: &Stack<Kind>, depth: usize) -> Kind
@@ -23,57 +35,59 @@ fn join_operands<T: Tree>(tree: &T, a: &Stack<Kind>, b: &Stack<Kind>, depth: usi
 {
     let x = a.get_or(depth, Kind::Any);
     let y = b.get_or(depth, Kind::Any);
-    join(tree, x, y)
+    join_kinds(tree, x, y)
 }
 
-/// The joins of the operands.
+/// The joins of the operands, in place of what stood in another stack.
 fn join_stacks<T: Tree>(
-    alloc: Global,
     tree: &T,
     a: &Stack<Kind>,
     b: &Stack<Kind>,
-) -> Result<Stack<Kind>, NoMemory>
+    stack: &mut Stack<Kind>,
+) -> Result<(), NoMemory>
     requires linked { IsLinkedFile (T.file tree.now) }
     requires sized { length a.now ≡ length b.now }
-    ensures { IfOk result (λ j. Each3 (IsJoin (T.file tree.now)) a.now b.now j) }
+    ensures { OnOk result (Each3 (IsJoin (T.file tree.now)) a.now b.now stack.new) }
 {
-    let mut stack = Stack::new(alloc);
+    stack.clear();
     let mut depth = a.len();
     while depth > 0 {
         depth -= 1;
         let joined = join_operands(tree, a, b, depth);
         stack.push(joined)?;
     }
-    Ok(stack)
+    Ok(())
 }
 
 /// The join of the locals at a place.
 fn join_locals_at<T: Tree>(tree: &T, a: &Table<Kind>, b: &Table<Kind>, place: usize) -> Kind
-    requires { IsLinkedFile (T.file tree.now) }
+    requires linked { IsLinkedFile (T.file tree.now) }
+    requires first { place < length a.now }
+    requires second { place < length b.now }
     ensures { IsJoin (T.file tree.now) (get_or a.now place kinds.Any) (get_or b.now place kinds.Any) result }
 {
-    let x = at_or(a, place, Kind::Any);
-    let y = at_or(b, place, Kind::Any);
-    join(tree, x, y)
+    let x = local_at(a, place);
+    let y = local_at(b, place);
+    join_kinds(tree, x, y)
 }
 
-/// The joins of the locals.
+/// The joins of the locals, in place of what stood in another list.
 fn join_locals<T: Tree>(
-    alloc: Global,
     tree: &T,
     a: &Table<Kind>,
     b: &Table<Kind>,
-) -> Result<Table<Kind>, NoMemory>
+    locals: &mut Table<Kind>,
+) -> Result<(), NoMemory>
     requires linked { IsLinkedFile (T.file tree.now) }
     requires sized { length a.now ≡ length b.now }
-    ensures { IfOk result (λ j. Each3 (IsJoin (T.file tree.now)) a.now b.now j) }
+    ensures { OnOk result (Each3 (IsJoin (T.file tree.now)) a.now b.now locals.new) }
 {
-    let mut locals = Table::new(alloc);
+    locals.truncate(0);
     for place in 0..a.len() {
         let joined = join_locals_at(tree, a, b, place);
         locals.push(joined)?;
     }
-    Ok(locals)
+    Ok(())
 }
 
 /// The join of two scopes of one flag.
@@ -82,7 +96,7 @@ fn join_scope<T: Tree>(tree: &T, a: Scope, b: Scope) -> Scope
     requires same { HasOneFlag a b }
     ensures { IsJoinScope (T.file tree.now) a b result }
 {
-    let kind = join(tree, a.kind, b.kind);
+    let kind = join_kinds(tree, a.kind, b.kind);
     Scope {
         kind,
         is_with: a.is_with,
@@ -100,52 +114,48 @@ fn join_scopes_at<T: Tree>(tree: &T, a: &Table<Scope>, b: &Table<Scope>, place: 
     join_scope(tree, x, y)
 }
 
-/// The joins of the scopes.
+/// The joins of the scopes, in place of what stood in another list.
 fn join_scopes<T: Tree>(
-    alloc: Global,
     tree: &T,
     a: &Table<Scope>,
     b: &Table<Scope>,
-) -> Result<Table<Scope>, NoMemory>
+    scopes: &mut Table<Scope>,
+) -> Result<(), NoMemory>
     requires linked { IsLinkedFile (T.file tree.now) }
     requires sized { length a.now ≡ length b.now }
     requires flags { Each2 HasOneFlag a.now b.now }
-    ensures { IfOk result (λ j. Each3 (IsJoinScope (T.file tree.now)) a.now b.now j) }
+    ensures { OnOk result (Each3 (IsJoinScope (T.file tree.now)) a.now b.now scopes.new) }
 {
-    let mut scopes = Table::new(alloc);
+    scopes.truncate(0);
     for place in 0..a.len() {
         let joined = join_scopes_at(tree, a, b, place);
         scopes.push(joined)?;
     }
-    Ok(scopes)
+    Ok(())
 }
 
-/// The joins of two states of one shape.
-fn join_states<T: Tree>(alloc: Global, tree: &T, a: &State, b: &State) -> Result<State, NoMemory>
+/// The joins of two states of one shape, in place of what stood in another state.
+fn join_states<T: Tree>(tree: &T, a: &State, b: &State, joined: &mut State) -> Result<(), NoMemory>
     requires linked { IsLinkedFile (T.file tree.now) }
     requires shape { HasOneShape a.now b.now }
-    ensures { IfOk result (λ j. JoinsState (T.file tree.now) a.now b.now j) }
+    ensures { OnOk result (JoinsState (T.file tree.now) a.now b.now joined.new) }
 {
-    let stack = join_stacks(alloc, tree, &a.stack, &b.stack)?;
-    let scopes = join_scopes(alloc, tree, &a.scopes, &b.scopes)?;
-    let locals = join_locals(alloc, tree, &a.locals, &b.locals)?;
-    Ok(State {
-        stack,
-        scopes,
-        locals,
-    })
+    join_stacks(tree, &a.stack, &b.stack, &mut joined.stack)?;
+    join_scopes(tree, &a.scopes, &b.scopes, &mut joined.scopes)?;
+    join_locals(tree, &a.locals, &b.locals, &mut joined.locals)?;
+    Ok(())
 }
 
-/// Two states of one place together: whether the second is at most the first, else the least state above both, where they
-/// have one shape.
+/// Two states of one place together: whether the second is at most the first; else, where they have one shape, the least state
+/// above both takes the place of another, whose memory is used again.
 pub fn merge<T: Tree>(
-    alloc: Global,
     tree: &T,
     old: &State,
     next: &State,
+    joined: &mut State,
 ) -> Result<Merged, NoMemory>
     requires { IsLinkedFile (T.file tree.now) }
-    ensures { IfOk result (λ m. MergesTo (T.file tree.now) old.now next.now m) }
+    ensures { IfOk result (λ m. MergesTo (T.file tree.now) old.now next.now joined.new m) }
 {
     if !have_one_shape(old, next) {
         return Ok(Merged::Unequal);
@@ -153,6 +163,6 @@ pub fn merge<T: Tree>(
     if is_state_at_most(tree, next, old) {
         return Ok(Merged::Same);
     }
-    let joined = join_states(alloc, tree, old, next)?;
-    Ok(Merged::Joined(joined))
+    join_states(tree, old, next, joined)?;
+    Ok(Merged::Joined)
 }

@@ -1,4 +1,5 @@
-ghost use Rattle.std.specs.Prelude.{◌≡◌, ◌↔◌, IsTrue, get_or, length};
+ghost use Rattle.std.specs.Prelude.{◌≡◌, ◌<◌, ◌↔◌, IsTrue, get_or, length};
+ghost use Rattle.abc_program.specs.declared.types.Kind.TheVariants as kinds;
 ghost use Rattle.abc_typing.specs.Lists.{Each2};
 ghost use Rattle.abc_typing.specs.Typing.{HasOneFlag, HasOneShape};
 ghost use Rattle.abc_merging.specs.Triples.{no_scope};
@@ -22,6 +23,16 @@ pub(crate) fn at_or<T: Copy + Drop>(items: &Table<T>, place: usize, other: T) ->
         Some(item) => item,
         None => other,
     }
+}
+
+/// The local at a place.
+#[inline]
+#[tactic(auto, using(crate::proofs::Pairs::there))]
+pub(crate) fn local_at(locals: &Table<Kind>, place: usize) -> Kind
+    requires { place < length locals.now }
+    ensures { result ≡ get_or locals.now place kinds.Any }
+{
+    *locals.get(place)
 }
 
 /// Whether two scopes have one flag.

@@ -1,4 +1,5 @@
 ghost use Rattle.std.specs.Prelude.{◌≡◌};
+ghost use Rattle.abc_base.specs.declared.names.HostClass.TheVariants as hosts;
 ghost use Rattle.abc_program.specs.Linked.{IsLayout};
 ghost use Rattle.abc_program.specs.Slots.{slots_of};
 ghost use Rattle.abc_program.specs.declared.part.Part.TheVariants as parts;
@@ -19,6 +20,15 @@ fn host_kind(linked: &Linked, host: HostClass) -> Kind
     Kind::Obj(linked.layout_of(Part::Host(host)))
 }
 
+/// The kind of the instances of Object, whose layout is the first.
+#[tactic(auto, using(crate::proofs::Slots::object_first))]
+fn object_kind(linked: &Linked) -> Kind
+    ensures { result ≡ object_of linked.now (parts.Host hosts.Object) }
+{
+    linked.linked_law();
+    Kind::Obj(LayoutId(0))
+}
+
 /// The kind that a row names.
 pub fn fixed_kind(linked: &Linked, kind: RowKind) -> Kind
     ensures { result ≡ fixed linked.now kind }
@@ -31,7 +41,7 @@ pub fn fixed_kind(linked: &Linked, kind: RowKind) -> Kind
         RowKind::Bool => Kind::Bool,
         RowKind::Text => Kind::Text,
         RowKind::Space => Kind::Space,
-        RowKind::Object => host_kind(linked, HostClass::Object),
+        RowKind::Object => object_kind(linked),
         RowKind::Function => host_kind(linked, HostClass::Function),
         RowKind::Array => host_kind(linked, HostClass::Array),
     }

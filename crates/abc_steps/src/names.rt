@@ -102,6 +102,7 @@ fn is_good_name(linked: &Linked, name: u32) -> bool
 }
 
 /// The parts that a name takes at run time; none where the number names nothing.
+#[inline(never)]
 pub fn parts_of_name(linked: &Linked, name: u32) -> Parts
     ensures { parts_of result ≡ runtime (name_at linked.now name) }
 {
@@ -121,6 +122,7 @@ pub fn parts_of_name(linked: &Linked, name: u32) -> Parts
 }
 
 /// Whether the name that is named has a form that the instruction takes.
+#[inline(never)]
 pub fn has_good_form(linked: &Linked, operand: Operand, name: u32) -> bool
     ensures { result ≡ has_form linked.now operand name }
 {

@@ -40,6 +40,7 @@ pub fn pushes_well(scoping: Scoping, count: usize, size: usize) -> bool
 }
 
 /// Whether the locals that an instruction names are below their number, and two of them are not the same.
+#[inline(never)]
 pub fn has_good_locals(locals: Locals, instr: &Instr, count: u32) -> bool
     ensures { result ≡ has_locals locals instr.now count }
 {

@@ -66,7 +66,7 @@ impl Flow for Flowing<'_> {
         join(self.ladder, a, b)
     }
 
-    fn merge(&self, old: &State, next: &State) -> Result<Merged, NoMemory> {
-        merge(self.alloc, self.ladder, old, next)
+    fn merge(&self, old: &State, next: &State, joined: &mut State) -> Result<Merged, NoMemory> {
+        merge(self.ladder, old, next, joined)
     }
 }

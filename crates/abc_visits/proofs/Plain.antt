@@ -14,7 +14,7 @@ use Rattle.abc_typing.specs.Effects.{Here, args, name_at, needs, receiver, runti
 use Rattle.abc_typing.specs.Rules.{all_suit, suits}
 use Rattle.abc_typing.specs.declared.rule.VerifyRule.{VerifyRule}
 use Rattle.abc_typing.specs.declared.rule.VerifyRule.TheVariants.{NotSpace}
-use Rattle.abc_visits.specs.Asking.{AreClosed, AreValues, IsAsked}
+use Rattle.abc_visits.specs.Asking.{AreClosed, AreValues, HasValues, IsAsked}
 use Rattle.abc_visits.specs.declared.visit.Asked.{Asked}
 
 -- ---- values that may be any
@@ -82,6 +82,30 @@ asked_is h a n p at few e d plain = record {
   depth = d ∙ ap (λ (k : ℕ). k + n) at ∙ ap (λ (k : ℕ). args h + k) (e ∙ ap (λ (qs : List Need). length qs) p);
   plain = subst (λ (qs : List Need). OnTrue a.is_plain (AreValues qs)) p plain;
 }
+
+-- values of which nothing is asked stand for themselves
+unfolded_values : (ps ns : List Need) → AreValues ns → flat_map (unfolded ps) ns ≡ ns
+unfolded_values ps [] v = refl
+unfolded_values ps (n ∷ ns) v =
+    ap (λ (x : Need). unfolded ps x ++ flat_map (unfolded ps) ns) v.0
+    ∙ ap (λ (xs : List Need). Value ∷ xs) (unfolded_values ps ns v.1)
+    ∙ ap (λ (x : Need). x ∷ ns) (sym v.0)
+
+pub values_asked : (h : Here) (a : Asked) (n : ℕ) → HasValues h.row.takes n → a.args ≡ args h → a.args < 2 ^ 40 → a.depth ≡ a.args + n → IsAsked h a
+values_asked h a n v at few d =
+    let same : (ps : List Need) → flat_map (unfolded ps) h.row.takes ≡ h.row.takes = λ ps. unfolded_values ps h.row.takes v.values in
+    let mine : needs h ≡ h.row.takes = same (runtime (name_at h.file (operand h.instr))) in
+    record {
+      parts = same (parts_of a.parts) ∙ sym mine;
+      args = at;
+      few = few;
+      depth = d ∙ ap (λ (k : ℕ). k + n) at ∙ ap (λ (k : ℕ). args h + k) (v.count ∙ sym (ap (λ (qs : List Need). length qs) mine));
+      plain = on_any a.is_plain (AreValues (needs h)) (subst (λ (qs : List Need). AreValues qs) (sym mine) v.values);
+    }
+  where
+    on_any : (b : Bool) (P : Type 0) → P → OnTrue b P
+    on_any true P p = p
+    on_any false P p = tt
 
 -- ---- what follows
 

@@ -1,5 +1,5 @@
 -- What a step leads to.
-use Rattle.std.proofs.Common.{◌≡◌, ◌≢◌, ℕ, suc, ◌+◌, List, [], ◌∷◌, ◌++◌, Some, None, cond, drop, map, refl, sym, ap, ◌∙◌, subst, arith, eq-eqb}
+use Rattle.std.proofs.Common.{◌≡◌, ◌≢◌, ℕ, suc, ◌+◌, List, [], ◌∷◌, ◌++◌, Some, None, cond, drop, get_or, map, refl, sym, ap, ◌∙◌, subst, arith, eq-eqb}
 use Rattle.std.specs.Prelude.{Bool, true, false, not, ◌&&◌, ltb, eqb, slice_get}
 use Rattle.abc_flow.specs.Walking.{IsTriedAt, Steps, Wrote, landing, targets_at, targets_in}
 use Rattle.abc_flow.specs.declared.step.Step.{Step}
@@ -16,7 +16,7 @@ use Rattle.abc_shapes.specs.declared.row.Leads.TheVariants.{Next, Branches, Jump
 use Rattle.abc_shapes.specs.declared.row.Locals.{Locals}
 use Rattle.abc_shapes.specs.declared.row.Locals.TheVariants.{Untouched, Reads, Sets, Walks}
 use Rattle.abc_tables.specs.declared.code.Instr.{Instr}
-use Rattle.abc_typing.specs.Effects.{Here, after, depth, fixed, goes_on, kind_at, kind_of, leads, locals_after, needs, next, scope_kind, scopes_after, taken}
+use Rattle.abc_typing.specs.Effects.{Here, after, args, depth, fixed, goes_on, kind_at, kind_of, leads, locals_after, needs, next, scope_kind, scopes_after, taken}
 use Rattle.abc_typing.specs.Routines.{Routine}
 use Rattle.abc_typing.specs.Rules.{after_instr, after_row, at_instr, at_row, broken, early_rules, first_broken, has_locals, keeps, late_rules}
 use Rattle.abc_typing.specs.Typing.{IsFine}
@@ -25,9 +25,9 @@ use Rattle.abc_typing.specs.declared.state.State.{State}
 use Rattle.abc_typing.proofs.Fine.{stands}
 use Rattle.abc_shapes.specs.declared.row.Scoping.{Scoping}
 use Rattle.abc_shapes.specs.declared.row.Scoping.TheVariants.{Stays, Pushes, Pops}
-use Rattle.abc_visits.specs.Visits.{IsTried, change_of, changed, given_kinds, leads_away, leads_on, pushed_kind, scoped, step_by, written_by}
-use Rattle.abc_visits.specs.declared.changes.Change.{Change}
+use Rattle.abc_visits.specs.Visits.{IsTried, given_kinds, leads_away, leads_on, scoped, step_by, written_by}
 use Rattle.abc_visits.specs.declared.changes.Given.{Given}
+use Rattle.abc_visits.proofs.Asking.{taken_at}
 
 -- ---- the locals
 
@@ -42,7 +42,7 @@ apart_by x y count e = λ q.
     let v : not true ≡ true = ap not (sym w) ∙ z in
     cc
 
-wrote : (h : Here) (s : State) (l : Locals) (count : ℕ) → has_locals l h.instr count ≡ true → Wrote (written_by (change_of h s l)) s.locals (locals_after h s l)
+wrote : (h : Here) (s : State) (l : Locals) (count : ℕ) → has_locals l h.instr count ≡ true → Wrote (written_by h.instr l) s.locals (locals_after h s l)
 wrote h s Untouched count e = refl
 wrote h s Reads count e = refl
 wrote h s (Sets source) count e = record { kind = kind_of h s source; is = refl }
@@ -77,10 +77,10 @@ after_is : (h : Here) (s : State) → slice_get h.method.code h.place ≡ Some h
 after_is h s e f = ap (after_instr h.file h.method h.place s) e ∙ ap (after_row h.file h.method h.place h.instr s) f
 
 stepped : (h : Here) (s n : State) (w : Step) → IsFine h.file h.method h.place s → slice_get h.method.code h.place ≡ Some h.instr → row_at (opcode h.instr) ≡ Some h.row
-    → n ≡ next h s → w ≡ step_by (goes_on (needs h) (taken h s)) h.row.leads (written_by (change_of h s h.row.locals)) → Steps h.file h.method h.place s n w
+    → n ≡ next h s → w ≡ step_by (goes_on (needs h) (taken h s)) h.row.leads (written_by h.instr h.row.locals) → Steps h.file h.method h.place s n w
 stepped h s n w fine e f is leads_is =
     let goes = goes_on (needs h) (taken h s) in
-    let by = step_by goes h.row.leads (written_by (change_of h s h.row.locals)) in
+    let by = step_by goes h.row.leads (written_by h.instr h.row.locals) in
     let named : targets_at h.method h.place ≡ targets h.instr = ap targets_in e in
     let whole : Steps h.file h.method h.place s (next h s) by = record {
       after = after_is h s e f ∙ led h s goes h.row.leads (targets_at h.method h.place) named;
@@ -90,23 +90,26 @@ stepped h s n w fine e f is leads_is =
 
 -- ---- the state
 
-locals_are : (h : Here) (s : State) (l : Locals) → changed (change_of h s l) s.locals ≡ locals_after h s l
-locals_are h s Untouched = refl
-locals_are h s Reads = refl
-locals_are h s (Sets source) = refl
-locals_are h s Walks = refl
-
-scopes_are : (h : Here) (s : State) (o : Scoping) → scoped o (pushed_kind o (scope_kind h.file (kind_at (taken h s) 0))) s.scopes ≡ scopes_after h s o
+scopes_are : (h : Here) (s : State) (o : Scoping) → scoped o (scope_kind h.file (kind_at (taken h s) 0)) s.scopes ≡ scopes_after h s o
 scopes_are h s Stays = refl
 scopes_are h s (Pushes is_with) = refl
 scopes_are h s Pops = refl
 
-pub next_is : (h : Here) (s n : State) (g : Given) (d : ℕ) (k : Kind) (c : Change) → given_kinds g ≡ map (kind_of h s) h.row.gives → d ≡ depth h → k ≡ pushed_kind h.row.scoping (scope_kind h.file (kind_at (taken h s) 0)) → c ≡ change_of h s h.row.locals
-    → n.stack ≡ given_kinds g ++ drop d s.stack → n.scopes ≡ scoped h.row.scoping k s.scopes → n.locals ≡ changed c s.locals → n ≡ next h s
-next_is h s n g d k c gives deep kind change a b e =
-    let stack : n.stack ≡ map (kind_of h s) h.row.gives ++ drop (depth h) s.stack = a ∙ ap (λ (ks : List Kind). ks ++ drop d s.stack) gives ∙ ap (λ (m : ℕ). map (kind_of h s) h.row.gives ++ drop m s.stack) deep in
-    let scopes : n.scopes ≡ scopes_after h s h.row.scoping = b ∙ ap (λ (x : Kind). scoped h.row.scoping x s.scopes) kind ∙ scopes_are h s h.row.scoping in
-    let locals : n.locals ≡ locals_after h s h.row.locals = e ∙ ap (λ (x : Change). changed x s.locals) change ∙ locals_are h s h.row.locals in
+-- the value below the arguments
+below_args : (h : Here) (s : State) (a : ℕ) → a ≡ args h → get_or s.stack a kinds.Any ≡ kind_at (taken h s) 0
+below_args h s a e = let z : a ≡ args h + 0 = omega (arith, e) in ap (λ (n : ℕ). get_or s.stack n kinds.Any) z ∙ taken_at s.stack (args h) 0
+
+pub next_is : (h : Here) (s t n : State) (g : Given) (d a : ℕ) → given_kinds g ≡ map (kind_of h s) h.row.gives → d ≡ depth h → a ≡ args h → t ≡ record { stack = s.stack; scopes = s.scopes; locals = locals_after h s h.row.locals }
+    → n.stack ≡ given_kinds g ++ drop d t.stack → n.scopes ≡ scoped h.row.scoping (scope_kind h.file (get_or t.stack a kinds.Any)) t.scopes → n.locals ≡ t.locals → n ≡ next h s
+next_is h s t n g d a gives deep at is x y z =
+    let stack : n.stack ≡ map (kind_of h s) h.row.gives ++ drop (depth h) s.stack =
+    x ∙ ap (λ (u : State). given_kinds g ++ drop d u.stack) is ∙ ap (λ (ks : List Kind). ks ++ drop d s.stack) gives ∙ ap (λ (m : ℕ). map (kind_of h s) h.row.gives ++ drop m s.stack) deep in
+    let scopes : n.scopes ≡ scopes_after h s h.row.scoping =
+    y
+    ∙ ap (λ (u : State). scoped h.row.scoping (scope_kind h.file (get_or u.stack a kinds.Any)) u.scopes) is
+    ∙ ap (λ (k : Kind). scoped h.row.scoping (scope_kind h.file k) s.scopes) (below_args h s a at)
+    ∙ scopes_are h s h.row.scoping in
+    let locals : n.locals ≡ locals_after h s h.row.locals = z ∙ ap (λ (u : State). u.locals) is in
     λ i. record { stack = stack i; scopes = scopes i; locals = locals i }
 
 -- ---- the rules at a place

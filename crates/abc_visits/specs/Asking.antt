@@ -1,5 +1,5 @@
 -- What is worked out once of an instruction at its place.
-use Rattle.std.specs.Prelude.{◌≡◌, ◌<◌, ◌^◌, List, [], ◌∷◌, true, flat_map}
+use Rattle.std.specs.Prelude.{◌≡◌, ℕ, ◌<◌, ◌≤◌, ◌^◌, List, [], ◌∷◌, true, flat_map, length}
 use Rattle.std.specs.Bool.{OnTrue}
 use Rattle.abc_shapes.specs.declared.row.Need.{Need}
 use Rattle.abc_shapes.specs.declared.row.Need.TheVariants.{Value}
@@ -15,6 +15,12 @@ use Rattle.abc_visits.specs.declared.visit.Asked.{Asked}
 abbrev pub AreValues : List Need → Type 0
 AreValues [] = Unit {0}
 AreValues (n ∷ ns) = (n ≡ Value) × AreValues ns
+
+-- so many values, of which nothing is asked
+pub record HasValues (ns : List Need) (count : ℕ) : Type 0 where
+  pub values : AreValues ns
+  pub count : count ≡ length ns
+  pub few : count ≤ 3
 
 -- the parts of a name make no difference
 abbrev pub AreClosed : List Need → Type 0

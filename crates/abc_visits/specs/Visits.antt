@@ -1,7 +1,6 @@
 -- An instruction at its place, as the code holds it.
-use Rattle.std.specs.Prelude.{◌≡◌, ◌-◌, Some, None, List, [], ◌∷◌, ◌++◌, Bool, true, false, ◌&&◌, length, set, take}
+use Rattle.std.specs.Prelude.{◌≡◌, ◌-◌, Some, None, List, [], ◌∷◌, ◌++◌, Bool, true, false, ◌&&◌, length, take}
 use Rattle.abc_program.specs.declared.types.Kind.{Kind}
-use Rattle.abc_program.specs.declared.types.Kind.TheVariants as kinds
 use Rattle.abc_shapes.specs.Instructions.{local, second}
 use Rattle.abc_shapes.specs.Table.{shape_of}
 use Rattle.abc_shapes.specs.declared.row.Leads.{Leads}
@@ -10,7 +9,7 @@ use Rattle.abc_shapes.specs.declared.row.Locals.{Locals}
 use Rattle.abc_shapes.specs.declared.row.Locals.TheVariants.{Untouched, Reads, Sets, Walks}
 use Rattle.abc_shapes.specs.declared.row.Need.{Need}
 use Rattle.abc_shapes.specs.declared.row.Need.TheVariants.{Slotted}
-use Rattle.abc_shapes.specs.declared.row.RowKind.TheVariants as rows
+use Rattle.abc_tables.specs.declared.code.Instr.{Instr}
 use Rattle.abc_shapes.specs.declared.row.Scoping.{Scoping}
 use Rattle.abc_shapes.specs.declared.row.Scoping.TheVariants.{Stays, Pushes, Pops}
 use Rattle.abc_flow.specs.declared.step.Step.{Step}
@@ -18,13 +17,11 @@ use Rattle.abc_flow.specs.declared.step.Written.{Written}
 use Rattle.abc_flow.specs.declared.step.Written.TheVariants as writes
 use Rattle.abc_flow.specs.declared.step.Trial.{Trial}
 use Rattle.abc_flow.specs.declared.step.Trial.TheVariants as trials
-use Rattle.abc_typing.specs.Effects.{Here, fixed, goes_on, kind_of, needs, next, taken}
+use Rattle.abc_typing.specs.Effects.{Here, goes_on, needs, next, taken}
 use Rattle.abc_typing.specs.Rules.{early_rules, first_broken, keeps, late_rules}
 use Rattle.abc_typing.specs.declared.state.Scope.{Scope}
 use Rattle.abc_typing.specs.declared.state.State.{State}
 use Rattle.abc_frames.specs.Frames.{routine_in}
-use Rattle.abc_visits.specs.declared.changes.Change.{Change}
-use Rattle.abc_visits.specs.declared.changes.Change.TheVariants as changes
 use Rattle.abc_visits.specs.declared.changes.Given.{Given}
 use Rattle.abc_visits.specs.declared.changes.Given.TheVariants as given
 use Rattle.abc_visits.specs.declared.visit.Visit.{Visit}
@@ -49,29 +46,12 @@ scoped Stays kind scopes = scopes
 scoped (Pushes is_with) kind scopes = scopes ++ record { kind = kind; is_with = is_with } ∷ []
 scoped Pops kind scopes = take (length scopes - 1) scopes
 
--- the kind of the scope that is pushed; any kind where none is
-abbrev pub pushed_kind : Scoping → Kind → Kind
-pushed_kind (Pushes is_with) kind = kind
-pushed_kind Stays kind = kinds.Any
-pushed_kind Pops kind = kinds.Any
-
--- what the locals get
-abbrev pub change_of : Here → State → Locals → Change
-change_of h s Untouched = changes.Nothing
-change_of h s Reads = changes.Nothing
-change_of h s (Sets source) = changes.One (local h.instr) (kind_of h s source)
-change_of h s Walks = changes.Two (local h.instr) (fixed h.file rows.Object) (second h.instr) kinds.Num
-
--- the locals after a change, and which were written
-abbrev pub changed : Change → List Kind → List Kind
-changed changes.Nothing locals = locals
-changed (changes.One j a) locals = set locals j a
-changed (changes.Two i a j b) locals = set (set locals i a) j b
-
-abbrev pub written_by : Change → Written
-written_by changes.Nothing = writes.Nothing
-written_by (changes.One j a) = writes.One j
-written_by (changes.Two i a j b) = writes.Two i j
+-- which locals are written
+abbrev pub written_by : Instr → Locals → Written
+written_by i Untouched = writes.Nothing
+written_by i Reads = writes.Nothing
+written_by i (Sets source) = writes.One (local i)
+written_by i Walks = writes.Two (local i) (second i)
 
 -- whether the next place follows, and whether the places that are named do
 abbrev pub leads_on : Leads → Bool
@@ -91,4 +71,4 @@ step_by goes leads written = record { next = goes && leads_on leads; jumps = goe
 -- a state breaks a rule at an instruction, or breaks none and the instruction is done to it
 abbrev pub IsTried : Here → State → State → Trial → Type 0
 IsTried h old new (trials.Breaks r) = first_broken (keeps h old) (early_rules ++ late_rules) ≡ Some r
-IsTried h old new (trials.Steps w) = (first_broken (keeps h old) (early_rules ++ late_rules) ≡ None) × (new ≡ next h old) × (w ≡ step_by (goes_on (needs h) (taken h old)) h.row.leads (written_by (change_of h old h.row.locals)))
+IsTried h old new (trials.Steps w) = (first_broken (keeps h old) (early_rules ++ late_rules) ≡ None) × (new ≡ next h old) × (w ≡ step_by (goes_on (needs h) (taken h old)) h.row.leads (written_by h.instr h.row.locals))

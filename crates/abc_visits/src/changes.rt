@@ -1,10 +1,13 @@
-ghost use Rattle.std.specs.Prelude.{◌≡◌, ◌++◌, OnOk, drop, set};
-ghost use Rattle.abc_visits.specs.Visits.{changed, given_kinds, scoped, written_by};
+ghost use Rattle.std.specs.Prelude.{◌≡◌, ◌++◌, OnOk, drop, get_or, set};
+ghost use Rattle.abc_program.specs.declared.types.Kind.TheVariants as kinds;
+ghost use Rattle.abc_typing.specs.Effects.{scope_kind};
+ghost use Rattle.abc_visits.specs.Visits.{given_kinds, scoped};
 
 use abc_base::{NoMemory, Table};
-use abc_flow::Written;
+use abc_link::Linked;
 use abc_program::Kind;
 use abc_shapes::Scoping;
+use abc_steps::kind_of_scope;
 use abc_typing::{Scope, Stack};
 
 /// The kinds of the values that are pushed, the top first.
@@ -15,15 +18,8 @@ pub(crate) enum Given {
     Two(Kind, Kind),
 }
 
-/// What happens to the locals, with the kinds that they get.
-#[derive(Clone, Copy, Debug)]
-pub(crate) enum Change {
-    Nothing,
-    One(u32, Kind),
-    Two(u32, Kind, u32, Kind),
-}
-
 /// Takes so many values, and pushes others.
+#[inline]
 pub(crate) fn change_stack(
     stack: &mut Stack<Kind>,
     depth: usize,
@@ -47,8 +43,9 @@ pub(crate) fn change_stack(
 }
 
 /// Replaces the kind at a place, if there is one.
+#[inline]
 #[tactic(auto, using(crate::proofs::Asking::set_past))]
-fn set_kind(kinds: &mut Table<Kind>, place: u32, kind: Kind)
+pub(crate) fn set_kind(kinds: &mut Table<Kind>, place: u32, kind: Kind)
     ensures { kinds.new ≡ set kinds.old place kind }
 {
     if (place as usize) < kinds.len() {
@@ -56,42 +53,27 @@ fn set_kind(kinds: &mut Table<Kind>, place: u32, kind: Kind)
     }
 }
 
-/// Pushes or pops a scope.
+/// Pushes the value so deep as a scope, or pops a scope.
+#[inline]
 pub(crate) fn change_scopes(
+    linked: &Linked,
     scopes: &mut Table<Scope>,
     scoping: Scoping,
-    kind: Kind,
+    stack: &Stack<Kind>,
+    depth: usize,
 ) -> Result<(), NoMemory>
-    ensures { OnOk result (scopes.new ≡ scoped scoping kind scopes.old) }
+    ensures { OnOk result (scopes.new ≡ scoped scoping (scope_kind linked.now (get_or stack.now depth kinds.Any)) scopes.old) }
 {
     match scoping {
         Scoping::Stays => Ok(()),
         Scoping::Pushes(is_with) => {
+            let kind = kind_of_scope(linked, stack.get_or(depth, Kind::Any));
             scopes.push(Scope { kind, is_with })?;
             Ok(())
         }
         Scoping::Pops => {
             scopes.truncate(scopes.len().saturating_sub(1));
             Ok(())
-        }
-    }
-}
-
-/// Changes the locals, and says which.
-pub(crate) fn change_locals(locals: &mut Table<Kind>, change: Change) -> Written
-    ensures new { locals.new ≡ changed change locals.old }
-    ensures written { result ≡ written_by change }
-{
-    match change {
-        Change::Nothing => Written::Nothing,
-        Change::One(place, kind) => {
-            set_kind(locals, place, kind);
-            Written::One(place)
-        }
-        Change::Two(first, a, second, b) => {
-            set_kind(locals, first, a);
-            set_kind(locals, second, b);
-            Written::Two(first, second)
         }
     }
 }

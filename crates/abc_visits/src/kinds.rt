@@ -8,7 +8,7 @@ ghost use Rattle.abc_visits.specs.Visits.{here_in, picked as picked_by};
 use crate::visit::{Asked, Visit, need_count};
 use abc_base::Table;
 use abc_program::{Kind, Part};
-use abc_shapes::{Need, Source, Takes, local_of};
+use abc_shapes::{Need, RowKind, Source, Takes, local_of};
 use abc_steps::{Parts, fixed_kind, kind_of_slot, kind_of_sum, nullable_kind, type_or_any};
 use abc_typing::{Catch, Scope, Stack, State};
 
@@ -53,6 +53,7 @@ fn picked(need: Need, here: Kind, below: Kind) -> Kind
 }
 
 /// The kind of the value, from so deep on, that has to have the slot; any kind where none has to.
+#[inline(never)]
 #[tactic(auto, using(crate::proofs::Asking::one_receiver, crate::proofs::Asking::two_receiver, crate::proofs::Asking::three_receiver))]
 fn receiver_at(takes: Takes, parts: Parts, stack: &Stack<Kind>, at: usize) -> Kind
     requires { at < 2 ^ 40 }
@@ -78,18 +79,20 @@ fn receiver_at(takes: Takes, parts: Parts, stack: &Stack<Kind>, at: usize) -> Ki
 
 impl Visit<'_> {
     /// The kind of the value so deep below the arguments; any kind where there is none.
+    #[inline]
     #[tactic(auto, using(crate::proofs::Asking::taken_at))]
-    pub(crate) fn taken(&self, asked: Asked, state: &State, depth: u8) -> Kind
-        requires { IsAsked (here_in self.now) asked }
+    pub(crate) fn taken(&self, asked: &Asked, state: &State, depth: u8) -> Kind
+        requires { IsAsked (here_in self.now) asked.now }
         ensures { result ≡ kind_in (taken (here_in self.now) state.now) depth }
     {
         state.stack.get_or(asked.args + depth as usize, Kind::Any)
     }
 
     /// The kind of the value that has to have the slot; any kind where none has to.
+    #[inline]
     #[tactic(auto, using(crate::proofs::Plain::plain_receiver, crate::proofs::Plain::asked_receiver))]
-    pub(crate) fn receiver(&self, asked: Asked, state: &State) -> Kind
-        requires { IsAsked (here_in self.now) asked }
+    pub(crate) fn receiver(&self, asked: &Asked, state: &State) -> Kind
+        requires { IsAsked (here_in self.now) asked.now }
         ensures { result ≡ receiver_of (needs_of (here_in self.now)) (taken (here_in self.now) state.now) }
     {
         if asked.is_plain {
@@ -98,9 +101,27 @@ impl Visit<'_> {
         receiver_at(self.row.takes, asked.parts, &state.stack, asked.args)
     }
 
+    /// The kind that comes from a source. Mostly it is one of a few, which take no look into tables.
+    #[inline]
+    pub(crate) fn kind_of(&self, asked: &Asked, state: &State, source: Source) -> Kind
+        requires { IsAsked (here_in self.now) asked.now }
+        ensures { result ≡ kind_of_source (here_in self.now) state.now source }
+    {
+        match source {
+            Source::Fixed(RowKind::Any) => Kind::Any,
+            Source::Fixed(RowKind::Num) => Kind::Num,
+            Source::Fixed(RowKind::Bool) => Kind::Bool,
+            Source::Fixed(RowKind::Text) => Kind::Text,
+            Source::Taken(depth) => self.taken(asked, state, depth),
+            Source::LocalKind => kind_at(&state.locals, local_of(self.instr)),
+            _ => self.kind_found(asked, state, source),
+        }
+    }
+
     /// The kind that comes from a source.
-    pub(crate) fn kind_of(&self, asked: Asked, state: &State, source: Source) -> Kind
-        requires { IsAsked (here_in self.now) asked }
+    #[inline(never)]
+    pub(crate) fn kind_found(&self, asked: &Asked, state: &State, source: Source) -> Kind
+        requires { IsAsked (here_in self.now) asked.now }
         ensures { result ≡ kind_of_source (here_in self.now) state.now source }
     {
         match source {

@@ -104,6 +104,7 @@ impl Visit<'_> {
     }
 
     /// Whether the values of needs, from so deep on, are what a rule asks.
+    #[inline(never)]
     #[tactic(auto, using(crate::proofs::Asking::one_suits))]
     fn takes_suit(
         &self,
@@ -129,9 +130,10 @@ impl Visit<'_> {
     }
 
     /// Whether the values that are taken are what a rule asks.
+    #[inline]
     #[tactic(auto, using(crate::proofs::Plain::plain_suits, crate::proofs::Plain::asked_suits))]
-    pub(crate) fn all_suit(&self, asked: Asked, rule: VerifyRule, state: &State) -> bool
-        requires { IsAsked (here_in self.now) asked }
+    pub(crate) fn all_suit(&self, asked: &Asked, rule: VerifyRule, state: &State) -> bool
+        requires { IsAsked (here_in self.now) asked.now }
         ensures { result ≡ all_suit (here_in self.now) rule (needs_of (here_in self.now)) (taken (here_in self.now) state.now) }
     {
         if asked.is_plain {

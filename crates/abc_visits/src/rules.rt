@@ -1,10 +1,10 @@
 ghost use Rattle.std.specs.Prelude.{◌≡◌, ◌++◌, ◌∷◌, [], ◌+◌, ◌-◌, ◌&&◌, ◌||◌, leb, ltb, length};
 ghost use Rattle.std.specs.Bool.{OnTrue};
-ghost use Rattle.abc_shapes.specs.Instructions.{opcode};
+ghost use Rattle.abc_shapes.specs.Instructions.{opcode, operand as operand_in};
 ghost use Rattle.abc_shapes.specs.Rows.{row_at};
 ghost use Rattle.abc_shapes.specs.Table.{sources};
 ghost use Rattle.abc_flow.specs.Handled.{IsCoverAt};
-ghost use Rattle.abc_typing.specs.Rules.{at_row, broken_early, early_rules, first_broken, is_here, is_walked, keeps, late_rules, names_scope};
+ghost use Rattle.abc_typing.specs.Rules.{at_row, broken_early, early_rules, first_broken, has_form, has_locals, is_here, is_walked, keeps, late_rules, names_scope};
 ghost use Rattle.abc_typing.specs.declared.rule.VerifyRule.TheVariants as variants;
 ghost use Rattle.abc_frames.specs.Frames.{routine_in};
 ghost use Rattle.abc_visits.specs.Asking.{AreKept, IsAsked};
@@ -74,8 +74,42 @@ fn gives_count(gives: Gives) -> usize
 }
 
 impl Visit<'_> {
+    /// Whether what is named has a form that the instruction takes.
+    #[inline]
+    fn has_form(&self) -> bool
+        ensures { result ≡ has_form self.now.linked.now self.now.row.operand (operand_in self.now.instr.now) }
+    {
+        match self.row.operand {
+            Operand::Unnamed => true,
+            _ => has_good_form(self.linked, self.row.operand, self.operand()),
+        }
+    }
+
+    /// Whether the locals that the instruction names are there.
+    #[inline]
+    fn has_locals(&self) -> bool
+        ensures { result ≡ has_locals self.now.row.locals self.now.instr.now (routine_in self.now.frame.now).local_count }
+    {
+        match self.row.locals {
+            Locals::Untouched => true,
+            _ => has_good_locals(self.row.locals, self.instr, self.frame.local_count),
+        }
+    }
+
     /// Whether the instruction may stand in the method.
+    #[inline]
     fn stands_here(&self) -> bool
+        ensures { result ≡ is_here (routine_in self.now.frame.now) self.now.row.site }
+    {
+        match self.row.site {
+            Site::Anywhere => true,
+            _ => self.may_stand_here(),
+        }
+    }
+
+    /// Whether the instruction may stand in the method, mostly where it may not in each.
+    #[inline(never)]
+    fn may_stand_here(&self) -> bool
         ensures { result ≡ is_here (routine_in self.now.frame.now) self.now.row.site }
     {
         match self.row.site {
@@ -87,6 +121,7 @@ impl Visit<'_> {
     }
 
     /// Whether the local that is an index holds a number.
+    #[inline]
     fn walks_well(&self, state: &State) -> bool
         ensures { result ≡ is_walked (here_in self.now) state.now self.now.row.locals }
     {
@@ -109,8 +144,8 @@ impl Visit<'_> {
     }
 
     /// Whether the stack keeps to its size, with a value that is caught.
-    fn fits_stack(&self, asked: Asked, state: &State, cover: Cover) -> bool
-        requires asked { IsAsked (here_in self.now) asked }
+    fn fits_stack(&self, asked: &Asked, state: &State, cover: Cover) -> bool
+        requires asked { IsAsked (here_in self.now) asked.now }
         requires cover { IsCoverAt (routine_in self.now.frame.now) self.now.place cover }
         ensures { result ≡ keeps (here_in self.now) state.now variants.StackOver }
     {
@@ -121,15 +156,15 @@ impl Visit<'_> {
 
     /// Whether a state keeps a rule.
     #[inline(always)]
-    fn keeps(&self, asked: Asked, state: &State, cover: Cover, rule: VerifyRule) -> bool
-        requires asked { IsAsked (here_in self.now) asked }
+    fn keeps(&self, asked: &Asked, state: &State, cover: Cover, rule: VerifyRule) -> bool
+        requires asked { IsAsked (here_in self.now) asked.now }
         requires cover { IsCoverAt (routine_in self.now.frame.now) self.now.place cover }
         ensures { result ≡ keeps (here_in self.now) state.now rule }
     {
         let frame = self.frame;
         match rule {
             VerifyRule::PoolIndex => self.is_in_table(),
-            VerifyRule::NameForm => has_good_form(self.linked, self.row.operand, self.operand()),
+            VerifyRule::NameForm => self.has_form(),
             VerifyRule::StackUnder => asked.depth <= state.stack.len(),
             VerifyRule::StackOver => self.fits_stack(asked, state, cover),
             VerifyRule::ScopeUnder => pops_well(self.row.scoping, state.scopes.len()),
@@ -140,9 +175,7 @@ impl Visit<'_> {
                     frame.scope_size as usize,
                 )
             }
-            VerifyRule::LocalIndex => {
-                has_good_locals(self.row.locals, self.instr, frame.local_count)
-            }
+            VerifyRule::LocalIndex => self.has_locals(),
             VerifyRule::OffEnd => self.leads_inside() && cover.is_inside,
             VerifyRule::NotSpace => self.all_suit(asked, VerifyRule::NotSpace, state),
             VerifyRule::NotObject => self.all_suit(asked, VerifyRule::NotObject, state),
@@ -166,13 +199,13 @@ impl Visit<'_> {
     #[tactic(auto, using(crate::proofs::Kept::two_kept))]
     fn keeps_two(
         &self,
-        asked: Asked,
+        asked: &Asked,
         state: &State,
         cover: Cover,
         first: VerifyRule,
         second: VerifyRule,
     ) -> bool
-        requires asked { IsAsked (here_in self.now) asked }
+        requires asked { IsAsked (here_in self.now) asked.now }
         requires cover { IsCoverAt (routine_in self.now.frame.now) self.now.place cover }
         ensures { OnTrue result (AreKept (here_in self.now) state.now (first ∷ second ∷ [])) }
     {
@@ -181,8 +214,8 @@ impl Visit<'_> {
 
     /// Whether the rules before Merge are kept.
     #[tactic(auto, using(crate::proofs::Kept::four_kept))]
-    fn keeps_early(&self, asked: Asked, state: &State, cover: Cover) -> bool
-        requires asked { IsAsked (here_in self.now) asked }
+    fn keeps_early(&self, asked: &Asked, state: &State, cover: Cover) -> bool
+        requires asked { IsAsked (here_in self.now) asked.now }
         requires cover { IsCoverAt (routine_in self.now.frame.now) self.now.place cover }
         ensures { OnTrue result (AreKept (here_in self.now) state.now early_rules) }
     {
@@ -215,8 +248,8 @@ impl Visit<'_> {
 
     /// Whether the rules after Merge are kept.
     #[tactic(auto, using(crate::proofs::Kept::four_kept))]
-    fn keeps_late(&self, asked: Asked, state: &State, cover: Cover) -> bool
-        requires asked { IsAsked (here_in self.now) asked }
+    fn keeps_late(&self, asked: &Asked, state: &State, cover: Cover) -> bool
+        requires asked { IsAsked (here_in self.now) asked.now }
         requires cover { IsCoverAt (routine_in self.now.frame.now) self.now.place cover }
         ensures { OnTrue result (AreKept (here_in self.now) state.now late_rules) }
     {
@@ -249,8 +282,8 @@ impl Visit<'_> {
 
     /// Whether all rules are kept. It is asked first: which rule is broken is told by going over them once more.
     #[tactic(auto, using(crate::proofs::Kept::all_kept))]
-    fn keeps_all(&self, asked: Asked, state: &State, cover: Cover) -> bool
-        requires asked { IsAsked (here_in self.now) asked }
+    fn keeps_all(&self, asked: &Asked, state: &State, cover: Cover) -> bool
+        requires asked { IsAsked (here_in self.now) asked.now }
         requires cover { IsCoverAt (routine_in self.now.frame.now) self.now.place cover }
         ensures { OnTrue result (AreKept (here_in self.now) state.now (early_rules ++ late_rules)) }
     {
@@ -258,15 +291,17 @@ impl Visit<'_> {
     }
 
     /// The first of some rules that a state breaks.
+    #[cold]
+    #[inline(never)]
     #[tactic(auto, using(crate::proofs::Loops::rule_next, crate::proofs::Loops::rule_stops))]
     fn first_broken(
         &self,
-        asked: Asked,
+        asked: &Asked,
         state: &State,
         cover: Cover,
         rules: &[VerifyRule],
     ) -> Option<VerifyRule>
-        requires asked { IsAsked (here_in self.now) asked }
+        requires asked { IsAsked (here_in self.now) asked.now }
         requires cover { IsCoverAt (routine_in self.now.frame.now) self.now.place cover }
         ensures { result ≡ first_broken (keeps (here_in self.now) state.now) rules.now }
     {
@@ -280,8 +315,8 @@ impl Visit<'_> {
 
     /// The first rule that a state breaks, Merge left out.
     #[tactic(auto, using(crate::proofs::Kept::none_broken))]
-    pub(crate) fn broken(&self, asked: Asked, state: &State, cover: Cover) -> Option<VerifyRule>
-        requires asked { IsAsked (here_in self.now) asked }
+    pub(crate) fn broken(&self, asked: &Asked, state: &State, cover: Cover) -> Option<VerifyRule>
+        requires asked { IsAsked (here_in self.now) asked.now }
         requires cover { IsCoverAt (routine_in self.now.frame.now) self.now.place cover }
         ensures { result ≡ first_broken (keeps (here_in self.now) state.now) (early_rules ++ late_rules) }
     {
@@ -311,7 +346,7 @@ fn broken_early_in(
                 instr,
                 row,
             };
-            visit.first_broken(visit.asked(), state, cover_at(frame, place), &EARLY)
+            visit.first_broken(&visit.asked(), state, cover_at(frame, place), &EARLY)
         }
         None => Some(VerifyRule::NotRun),
     }

@@ -1,21 +1,25 @@
-ghost use Rattle.std.specs.Prelude.{◌≡◌, IfOk, Some, map, not, slice_get};
+ghost use Rattle.std.specs.Prelude.{◌≡◌, IfOk, Some, map, not, set, slice_get};
+ghost use Rattle.abc_program.specs.declared.types.Kind.TheVariants as kinds;
+ghost use Rattle.abc_shapes.specs.Instructions.{local, second};
 ghost use Rattle.abc_shapes.specs.Table.{sources};
+ghost use Rattle.abc_shapes.specs.declared.row.RowKind.TheVariants as rows;
 ghost use Rattle.abc_flow.specs.Handled.{IsCoverAt};
 ghost use Rattle.abc_flow.specs.Walking.{IsTriedAt};
-ghost use Rattle.abc_typing.specs.Effects.{goes_on, is_null as is_null_by, kind_at, kind_of as kind_of_source, needs as needs_of, next as next_state, scope_kind, taken};
+ghost use Rattle.abc_flow.specs.declared.step.Written.TheVariants as writes;
+ghost use Rattle.abc_typing.specs.Effects.{fixed, goes_on, is_null as is_null_by, kind_of as kind_of_source, locals_after, needs as needs_of, next as next_state, taken};
 ghost use Rattle.abc_frames.specs.Frames.{routine_in};
 ghost use Rattle.abc_visits.specs.Asking.{IsAsked};
-ghost use Rattle.abc_visits.specs.Visits.{IsTried, change_of, given_kinds, here_in, leads_away as leads_away_by, leads_on as leads_on_by, pushed_kind, step_by, written_by};
+ghost use Rattle.abc_visits.specs.Visits.{IsTried, given_kinds, here_in, leads_away as leads_away_by, leads_on as leads_on_by, step_by, written_by};
 
-use crate::changes::{Change, Given, change_locals, change_scopes, change_stack};
-use crate::visit::{Asked, Visit};
-use abc_base::NoMemory;
+use crate::changes::{Given, change_scopes, change_stack, set_kind};
+use crate::visit::{Asked, Visit, values_in};
+use abc_base::{NoMemory, Table};
 use abc_flow::{Cover, Step, Trial, Written};
 use abc_frames::Frame;
 use abc_link::Linked;
 use abc_program::Kind;
-use abc_shapes::{Gives, Leads, Locals, RowKind, Scoping, local_of, opcode_of, row_of, second_of};
-use abc_steps::{fixed_kind, kind_of_scope};
+use abc_shapes::{Gives, Leads, Locals, RowKind, local_of, opcode_of, row_of, second_of};
+use abc_steps::fixed_kind;
 use abc_tables::Instr;
 use abc_typing::{State, VerifyRule};
 
@@ -70,55 +74,58 @@ fn step_of(goes: bool, leads: Leads, written: Written) -> Step
 
 impl Visit<'_> {
     /// The kinds that are pushed.
-    fn given(&self, asked: Asked, state: &State) -> Given
-        requires { IsAsked (here_in self.now) asked }
+    #[inline]
+    fn given(&self, asked: &Asked, state: &State) -> Given
+        requires { IsAsked (here_in self.now) asked.now }
         ensures { given_kinds result ≡ map (kind_of_source (here_in self.now) state.now) (sources self.now.row.gives) }
     {
         match self.row.gives {
             Gives::Nothing => Given::Nothing,
             Gives::One(a) => Given::One(self.kind_of(asked, state, a)),
             Gives::Two(a, b) => Given::Two(
-                self.kind_of(asked, state, a),
-                self.kind_of(asked, state, b),
+                self.kind_found(asked, state, a),
+                self.kind_found(asked, state, b),
             ),
         }
     }
 
-    /// What the locals get.
-    fn change(&self, asked: Asked, state: &State) -> Change
-        requires { IsAsked (here_in self.now) asked }
-        ensures { result ≡ change_of (here_in self.now) state.now self.now.row.locals }
+    /// Makes two locals an object that is walked over and an index, and says which.
+    #[inline(never)]
+    fn walk_over(&self, locals: &mut Table<Kind>) -> Written
+        ensures locals { locals.new ≡ set (set locals.old (local self.now.instr.now) (fixed self.now.linked.now rows.Object)) (second self.now.instr.now) kinds.Num }
+        ensures written { result ≡ writes.Two (local self.now.instr.now) (second self.now.instr.now) }
+    {
+        let first = local_of(self.instr);
+        let second = second_of(self.instr);
+        set_kind(locals, first, fixed_kind(self.linked, RowKind::Object));
+        set_kind(locals, second, Kind::Num);
+        Written::Two(first, second)
+    }
+
+    /// Changes the locals, and says which.
+    #[inline]
+    fn change_locals(&self, asked: &Asked, state: &mut State) -> Written
+        requires { IsAsked (here_in self.now) asked.now }
+        ensures locals { state.new ≡ record { stack = state.old.stack; scopes = state.old.scopes; locals = locals_after (here_in self.now) state.old self.now.row.locals } }
+        ensures written { result ≡ written_by self.now.instr.now self.now.row.locals }
     {
         match self.row.locals {
-            Locals::Untouched => Change::Nothing,
-            Locals::Reads => Change::Nothing,
+            Locals::Untouched => Written::Nothing,
+            Locals::Reads => Written::Nothing,
             Locals::Sets(source) => {
-                Change::One(local_of(self.instr), self.kind_of(asked, state, source))
+                let kind = self.kind_of(asked, state, source);
+                let place = local_of(self.instr);
+                set_kind(&mut state.locals, place, kind);
+                Written::One(place)
             }
-            Locals::Walks => Change::Two(
-                local_of(self.instr),
-                fixed_kind(self.linked, RowKind::Object),
-                second_of(self.instr),
-                Kind::Num,
-            ),
-        }
-    }
-
-    /// The kind of the scope that is pushed; any kind where none is, since to work it out may take a search.
-    fn scope(&self, asked: Asked, state: &State) -> Kind
-        requires { IsAsked (here_in self.now) asked }
-        ensures { result ≡ pushed_kind self.now.row.scoping (scope_kind self.now.linked.now (kind_at (taken (here_in self.now) state.now) 0)) }
-    {
-        match self.row.scoping {
-            Scoping::Pushes(_) => kind_of_scope(self.linked, self.taken(asked, state, 0)),
-            Scoping::Stays => Kind::Any,
-            Scoping::Pops => Kind::Any,
+            Locals::Walks => self.walk_over(&mut state.locals),
         }
     }
 
     /// Whether anything follows: nothing does where the value that has to have a slot is null.
-    fn goes_on(&self, asked: Asked, state: &State) -> bool
-        requires { IsAsked (here_in self.now) asked }
+    #[inline]
+    fn goes_on(&self, asked: &Asked, state: &State) -> bool
+        requires { IsAsked (here_in self.now) asked.now }
         ensures { result ≡ goes_on (needs_of (here_in self.now)) (taken (here_in self.now) state.now) }
     {
         !is_null(self.receiver(asked, state))
@@ -126,35 +133,66 @@ impl Visit<'_> {
 
     /// Does the instruction to a state. Every kind is of the state before.
     #[tactic(auto, using(crate::proofs::Stepping::next_is))]
-    fn step(&self, asked: Asked, state: &mut State) -> Result<Step, NoMemory>
-        requires { IsAsked (here_in self.now) asked }
+    fn step(&self, asked: &Asked, state: &mut State) -> Result<Step, NoMemory>
+        requires { IsAsked (here_in self.now) asked.now }
         ensures next { IfOk result (λ w. state.new ≡ next_state (here_in self.now) state.old) }
-        ensures leads { IfOk result (λ w. w ≡ step_by (goes_on (needs_of (here_in self.now)) (taken (here_in self.now) state.old)) self.now.row.leads (written_by (change_of (here_in self.now) state.old self.now.row.locals))) }
+        ensures leads { IfOk result (λ w. w ≡ step_by (goes_on (needs_of (here_in self.now)) (taken (here_in self.now) state.old)) self.now.row.leads (written_by self.now.instr.now self.now.row.locals)) }
     {
         let goes = self.goes_on(asked, state);
         let given = self.given(asked, state);
-        let change = self.change(asked, state);
-        let scope = self.scope(asked, state);
+        let written = self.change_locals(asked, state);
+        change_scopes(
+            self.linked,
+            &mut state.scopes,
+            self.row.scoping,
+            &state.stack,
+            asked.args,
+        )?;
         change_stack(&mut state.stack, asked.depth, given)?;
-        change_scopes(&mut state.scopes, self.row.scoping, scope)?;
-        let written = change_locals(&mut state.locals, change);
         Ok(step_of(goes, self.row.leads, written))
     }
 }
 
 impl Visit<'_> {
     /// Does the instruction to a state, if that breaks no rule.
-    fn advance(&self, state: &mut State, cover: Cover) -> Result<Trial, NoMemory>
-        requires { IsCoverAt (routine_in self.now.frame.now) self.now.place cover }
+    #[inline]
+    fn advance_asked(
+        &self,
+        asked: &Asked,
+        state: &mut State,
+        cover: Cover,
+    ) -> Result<Trial, NoMemory>
+        requires asked { IsAsked (here_in self.now) asked.now }
+        requires cover { IsCoverAt (routine_in self.now.frame.now) self.now.place cover }
         ensures { IfOk result (IsTried (here_in self.now) state.old state.new) }
     {
-        let asked = self.asked();
         match self.broken(asked, state, cover) {
             Some(rule) => Ok(Trial::Breaks(rule)),
             None => {
                 let step = self.step(asked, state)?;
                 Ok(Trial::Steps(step))
             }
+        }
+    }
+
+    /// The same, where something is asked of what is taken, or the parts of a name are taken.
+    #[inline(never)]
+    fn advance_further(&self, state: &mut State, cover: Cover) -> Result<Trial, NoMemory>
+        requires { IsCoverAt (routine_in self.now.frame.now) self.now.place cover }
+        ensures { IfOk result (IsTried (here_in self.now) state.old state.new) }
+    {
+        self.advance_asked(&self.asked(), state, cover)
+    }
+
+    /// The same. Mostly what is taken may be any.
+    #[inline]
+    fn advance(&self, state: &mut State, cover: Cover) -> Result<Trial, NoMemory>
+        requires { IsCoverAt (routine_in self.now.frame.now) self.now.place cover }
+        ensures { IfOk result (IsTried (here_in self.now) state.old state.new) }
+    {
+        match values_in(self.row.takes) {
+            Some(count) => self.advance_asked(&self.asked_values(count), state, cover),
+            None => self.advance_further(state, cover),
         }
     }
 }

@@ -28,6 +28,7 @@ fn are_below(places: &[u32], end: usize) -> bool
 }
 
 /// Whether the places that an instruction names are below the code's end.
+#[inline(never)]
 fn are_targets_below(instr: &Instr, end: usize) -> bool
     ensures { result ≡ all_below (targets instr.now) end }
 {
@@ -99,6 +100,7 @@ pub(crate) fn cover_at(frame: &Frame<'_>, place: u32) -> Cover
 
 impl Visit<'_> {
     /// Whether the places that follow are below the code's end.
+    #[inline]
     pub(crate) fn leads_inside(&self) -> bool
         ensures { result ≡ all_below (leads_of (here_in self.now) self.now.row.leads) (length self.now.frame.now.code.now) }
     {
@@ -114,7 +116,19 @@ impl Visit<'_> {
     }
 
     /// Whether the operand is in its table.
+    #[inline]
     pub(crate) fn is_in_table(&self) -> bool
+        ensures { result ≡ in_table self.now.linked.now (routine_in self.now.frame.now) self.now.row.operand (operand_in self.now.instr.now) }
+    {
+        match self.row.operand {
+            Operand::Unnamed => true,
+            _ => self.is_named_in_table(),
+        }
+    }
+
+    /// Whether the operand is in its table, mostly where it names something.
+    #[inline(never)]
+    fn is_named_in_table(&self) -> bool
         ensures { result ≡ in_table self.now.linked.now (routine_in self.now.frame.now) self.now.row.operand (operand_in self.now.instr.now) }
     {
         let abc = self.linked.abc();

@@ -1,10 +1,10 @@
-ghost use Rattle.std.specs.Prelude.{◌≡◌, ◌<◌, ◌*◌, ◌^◌, ◌≤◌, ◌∷◌, [], flat_map, length};
+ghost use Rattle.std.specs.Prelude.{◌≡◌, ◌<◌, ◌*◌, ◌^◌, ◌≤◌, ◌∷◌, [], IfSome, flat_map, length};
 ghost use Rattle.std.specs.Bool.{OnFalse, OnTrue};
 ghost use Rattle.abc_shapes.specs.Instructions.{operand as operand_in};
 ghost use Rattle.abc_shapes.specs.Table.{needs};
 ghost use Rattle.abc_typing.specs.Effects.{args as args_of, needs as needs_of, unfolded};
 ghost use Rattle.abc_steps.specs.Needs.{parts_of};
-ghost use Rattle.abc_visits.specs.Asking.{AreClosed, AreValues, IsAsked};
+ghost use Rattle.abc_visits.specs.Asking.{AreClosed, AreValues, HasValues, IsAsked};
 ghost use Rattle.abc_visits.specs.Visits.{here_in};
 
 use abc_frames::Frame;
@@ -184,6 +184,7 @@ impl Visit<'_> {
     }
 
     /// The parts that the name takes at run time; none where no need is for them.
+    #[inline]
     #[tactic(auto, using(crate::proofs::Plain::closed_parts, crate::proofs::Plain::named_parts))]
     fn parts(&self) -> Parts
         ensures { flat_map (unfolded (parts_of result)) (needs self.now.row.takes) ≡ needs_of (here_in self.now) }
@@ -198,10 +199,14 @@ impl Visit<'_> {
     }
 
     /// How many arguments stand on top of what the row takes.
+    #[inline]
     fn args(&self) -> usize
         ensures args { result ≡ args_of (here_in self.now) }
         ensures fits { result < 2 ^ 40 }
     {
+        if self.row.args == 0 {
+            return 0;
+        }
         product(self.row.args, arguments_of(self.instr))
     }
 
@@ -220,5 +225,37 @@ impl Visit<'_> {
             depth: args + count,
             is_plain,
         }
+    }
+
+    /// The same, where so many values are taken and each may be any.
+    #[inline]
+    #[tactic(auto, using(crate::proofs::Plain::values_asked))]
+    pub(crate) fn asked_values(&self, count: usize) -> Asked
+        requires { HasValues (needs self.now.row.takes) count }
+        ensures { IsAsked (here_in self.now) result }
+    {
+        let args = self.args();
+        Asked {
+            parts: Parts {
+                name: false,
+                space: false,
+            },
+            args,
+            depth: args + count,
+            is_plain: true,
+        }
+    }
+}
+
+/// How many values are taken, where each may be any; `None` where something is asked of one, or the parts of a name are taken.
+#[inline]
+pub(crate) fn values_in(takes: Takes) -> Option<usize>
+    ensures { IfSome result (HasValues (needs takes)) }
+{
+    match takes {
+        Takes::Nothing => Some(0),
+        Takes::One(Need::Value) => Some(1),
+        Takes::Two(Need::Value, Need::Value) => Some(2),
+        _ => None,
     }
 }

@@ -26,7 +26,7 @@ loop-place-init g c =
     let m = g.F.Flow.routine c.args.flow.now in
     let h = is_head (g.F.Flow.heads c.args.flow.now) in
     let n : c.renew-2.new.self ≡ replicate (length m.code) None = c.in_ok-renew-2.ensures ∙ ap (λ (k : ℕ). replicate k None) c.len-2.ensures in
-    let e : c.raise.new.states ≡ set (replicate (length m.code) None) 0 (Some (entry m)) = c.in_ok-raise.ensures.0 ∙ ap (λ (xs : List (Option State)). set xs 0 (Some c.in_ok-entry.field-0)) n ∙ ap (λ (s : State). set (replicate (length m.code) None) 0 (Some s)) c.in_ok-entry.ensures in
+    let e : c.raise.new.states ≡ set (replicate (length m.code) None) 0 (Some (entry m)) = c.in_ok-raise.ensures.0 ∙ ap (λ (xs : List (Option State)). set xs 0 (Some c.in_ok-entry.entry)) n ∙ ap (λ (s : State). set (replicate (length m.code) None) 0 (Some s)) c.in_ok-entry.ensures in
     let w : c.raise.new.work ≡ 0 ∷ [] = c.in_ok-raise.ensures.1 ∙ ap (λ (xs : List ℕ). 0 ∷ xs) c.clear.ensures in (
       subst (λ (x : List (Option State)). IsUnderWay p m h x c.raise.new.work) (sym e) (subst (λ (x : List ℕ). IsUnderWay p m h (set (replicate (length m.code) None) 0 (Some (entry m))) x) (sym w) (begins p m h c.requires.some c.requires.heads.first)),
       kept_first p m (g.F.Flow.heads c.args.flow.now) c.in_ok-handled.handled.all c.renew.new.self c.raise.new.states c.nodes.result c.nodes.ensures.is c.in_ok-renew.ensures,

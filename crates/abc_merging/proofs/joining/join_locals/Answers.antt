@@ -5,7 +5,7 @@ use Rattle.abc_merging.proofs.Threes.{threes_all, threes_next, threes_start}
 use Rattle.abc_merging.proofs.joining.join_locals.Goals as goal
 
 pub loop-place-init : goal.loop-place-init
-loop-place-init g c = threes_start (IsJoin (g.T.Tree.file c.args.tree.now)) c.args.a.now c.args.b.now _ c.new-locals.ensures
+loop-place-init g c = threes_start (IsJoin (g.T.Tree.file c.args.tree.now)) c.args.a.now c.args.b.now _ c.truncate.ensures
 
 pub loop-place-preserved : goal.loop-place-preserved
 loop-place-preserved g c = threes_next (IsJoin (g.T.Tree.file c.args.tree.now)) c.args.a.now c.args.b.now c.loop-place.locals _ c.loop-place.place Any c.join_locals_at-joined.result (omega arith) c.requires.sized c.loop-place.invariant c.join_locals_at-joined.ensures c.in_ok-push.ensures.ok

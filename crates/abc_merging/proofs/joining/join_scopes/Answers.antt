@@ -6,7 +6,7 @@ use Rattle.abc_merging.proofs.Threes.{threes_all, threes_next, threes_start}
 use Rattle.abc_merging.proofs.joining.join_scopes.Goals as goal
 
 pub loop-place-init : goal.loop-place-init
-loop-place-init g c = threes_start (IsJoinScope (g.T.Tree.file c.args.tree.now)) c.args.a.now c.args.b.now _ c.new-scopes.ensures
+loop-place-init g c = threes_start (IsJoinScope (g.T.Tree.file c.args.tree.now)) c.args.a.now c.args.b.now _ c.truncate.ensures
 
 pub loop-place-preserved : goal.loop-place-preserved
 loop-place-preserved g c = threes_next (IsJoinScope (g.T.Tree.file c.args.tree.now)) c.args.a.now c.args.b.now c.loop-place.scopes _ c.loop-place.place no_scope c.join_scopes_at-joined.result (omega arith) c.requires.sized c.loop-place.invariant c.join_scopes_at-joined.ensures c.in_ok-push.ensures.ok

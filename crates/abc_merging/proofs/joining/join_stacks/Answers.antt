@@ -5,7 +5,7 @@ use Rattle.abc_merging.proofs.Threes.{threes_down, threes_end, threes_whole}
 use Rattle.abc_merging.proofs.joining.join_stacks.Goals as goal
 
 pub loop-depth-init : goal.loop-depth-init
-loop-depth-init g c = (omega arith, threes_end (IsJoin (g.T.Tree.file c.args.tree.now)) c.args.a.now c.args.b.now _ c.len-depth.result (omega arith) c.requires.sized c.new-stack.ensures)
+loop-depth-init g c = (omega arith, threes_end (IsJoin (g.T.Tree.file c.args.tree.now)) c.args.a.now c.args.b.now _ c.len-depth.result (omega arith) c.requires.sized c.clear.ensures)
 
 pub loop-depth-preserved : goal.loop-depth-preserved
 loop-depth-preserved g c =

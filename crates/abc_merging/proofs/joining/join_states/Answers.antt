@@ -11,4 +11,4 @@ pub join_locals-requires : goal.join_locals-requires
 join_locals-requires g c = record { linked = c.requires.linked; sized = c.requires.shape.locals }
 
 pub returns : goal.returns
-returns g c = record { stack = c.in_ok-stack.ensures; scopes = c.in_ok-scopes.ensures; locals = c.in_ok-locals.ensures }
+returns g c = record { stack = c.in_ok-join_stacks.ensures; scopes = c.in_ok-join_scopes.ensures; locals = c.in_ok-join_locals.ensures }

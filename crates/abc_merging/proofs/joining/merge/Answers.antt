@@ -18,4 +18,4 @@ pub returns : goal.returns
 returns g c =
     joins (g.T.Tree.file c.args.tree.now) c.requires c.args.old.now c.args.next.now _ (c.have_one_shape.ensures.0 c.if-not-have_one_shape.false)
     (λ le. clash c.is_state_at_most.result (c.is_state_at_most.ensures.1 le) c.if-is_state_at_most.false)
-    c.in_ok-joined.ensures
+    c.in_ok-join_states.ensures
