@@ -1,8 +1,9 @@
 -- The states of places by their numbers.
-use Rattle.std.proofs.Common.{◌≡◌, ◌≢◌, ℕ, zero, suc, ◌+◌, ◌-◌, ◌≤◌, ◌<◌, ◌^◌, List, [], ◌∷◌, ◌++◌, Option, Some, None, length, set, replicate, take, refl, sym, ap, ◌∙◌, subst, arith, ◌⊎◌, inl, inr, length-append}
+use Rattle.std.proofs.Common.{◌≡◌, ◌≢◌, ℕ, zero, suc, ◌+◌, ◌-◌, ◌≤◌, ◌<◌, ◌^◌, List, [], ◌∷◌, ◌++◌, Option, Some, None, length, set, replicate, take, refl, sym, ap, ◌∙◌, subst, arith, ◌⊎◌, inl, inr, length-append, slice_index_or}
 use Rattle.std.specs.Prelude.{Bool, cond, slice_get}
 use Rattle.std.proofs.lemmas.Bool.{le-ltb, lt-ltb}
 use Rattle.std.proofs.lemmas.List.{length-replicate, map-set}
+use Rattle.std.proofs.lemmas.Option.{slice_get_read}
 use Rattle.std.proofs.Math.ListN.{length-set}
 use Rattle.abc_typing.proofs.Lists.{slice_get-last, slice_get-set}
 use Rattle.abc_flow.specs.Kept.{AreNumbered, AreNumbers, count_of, known_at, numbered, placed}
@@ -242,3 +243,18 @@ at_none (m ∷ ns) ks (suc i) e = at_none ns ks i e
 pub known_length : {X : Type 0} (ns : List ℕ) (ks : List X) → length (known_at ns ks) ≡ length ns
 known_length [] ks = refl
 known_length (n ∷ ns) ks = ap suc (known_length ns ks)
+
+pub unknown_here : {X : Type 0} (ns : List ℕ) (ks : List X) (a : List (Option X)) (t : ℕ) → known_at ns ks ≡ a → slice_get ns t ≡ Some 0 → slice_get a t ≡ Some None
+unknown_here {X} ns ks a t e z = ap (λ (xs : List (Option X)). slice_get xs t) (sym e) ∙ at_number ns ks t 0 z
+
+pub known_here : {X : Type 0} (ns : List ℕ) (ks : List X) (a : List (Option X)) (t n i : ℕ) (x : X) → known_at ns ks ≡ a → slice_get ns t ≡ Some n → 1 ≤ n → i ≡ n - 1 → slice_get ks i ≡ Some x → slice_get a t ≡ Some (Some x)
+known_here {X} ns ks a t n i x e z lt q is = ap (λ (xs : List (Option X)). slice_get xs t) (sym e) ∙ at_number ns ks t n z ∙ ap (λ (o : Option X). Some o) (numbered_next ks n i lt (sym q) ∙ is)
+
+-- the place of a state in the list
+pub place_kept : (ns : List ℕ) (c all t n i : ℕ) → AreNumbered ns c all → slice_get ns t ≡ Some n → 1 ≤ n → i ≡ n - 1 → i < all
+place_kept ns c all t zero i h e lt q = absurd (omega arith)
+place_kept ns c all t (suc n) i h e lt q = let z = h.numbers.inside t n e in let w = h.within in omega arith
+
+-- the number that is read is that of the place
+pub got_here : {X : Type 0} (ns : List ℕ) (ks : List X) (all : List (Option X)) (i n : ℕ) → known_at ns ks ≡ all → i < length all → n ≡ slice_index_or ns i n → slice_get ns i ≡ Some n
+got_here ns ks all i n e lt is = let long : length all ≡ length ns = ap length (sym e) ∙ known_length ns ks in slice_get_read ns (length ns) i n refl (omega arith) is

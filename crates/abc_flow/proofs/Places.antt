@@ -19,6 +19,8 @@ use Rattle.abc_worklist.proofs.Visits.{Reaches}
 use Rattle.abc_worklist.proofs.Merging.{rank_most}
 use Rattle.abc_worklist.proofs.Decides.{early_broken}
 use Rattle.abc_worklist.proofs.Turn.{advance_self, advance_trans, lands_on}
+use Rattle.abc_flow.specs.Kept.{Clashes, Meets}
+use Rattle.abc_flow.specs.declared.step.Met.TheVariants.{First, Joined, Same, Unequal}
 use Rattle.abc_flow.specs.Walking.{is_head, IsOpen, AllReach, AreReady, IsReady, MayGoOn, landing}
 
 pub clash_broken : (p : LinkedFile) (m : Routine) (t : ℕ) (old : State) (r : VerifyRule) → Derivable p m t old → broken_early p m t old ≡ Some r → Refutes p m t r
@@ -49,6 +51,23 @@ module _ (p : LinkedFile) (m : Routine) (heads : List Bool) (a : List (Option St
 
   pub merge_first : IsLinkedFile p → at a t ≡ None → IsOpen p m a → IsReady p m heads t n → AllReach p m heads ((t, n) ∷ []) a v (set a t (Some n)) (t ∷ v)
   merge_first g e o r = reach_one p m heads t n a (set a t (Some n)) v (t ∷ v) o (visits.merge_first p m _ _ (is_head heads) a v t n (let q = o.long in let b = r.inside in omega arith) r.head e (rank_most p (good p g) (layouts p) (omega arith) (omega arith) m n (derivable_sized p m t n r.derived)) o.derived r.derived)
+
+module _ (p : LinkedFile) (m : Routine) (heads : List Bool) (a c : List (Option State)) (v w : List ℕ) (t : ℕ) (n : State) where
+  pub met_first : IsLinkedFile p → Meets p a t n c First → w ≡ t ∷ v → IsOpen p m a → IsReady p m heads t n → AllReach p m heads ((t, n) ∷ []) a v c w
+  met_first g k e o r =
+      subst (λ (x : List (Option State)). AllReach p m heads ((t, n) ∷ []) a v x w) (sym k.1)
+      (subst (λ (x : List ℕ). AllReach p m heads ((t, n) ∷ []) a v (set a t (Some n)) x) (sym e) (merge_first p m heads a v t n g k.0 o r))
+
+  pub met_joined : Meets p a t n c Joined → w ≡ t ∷ v → IsOpen p m a → IsReady p m heads t n → AllReach p m heads ((t, n) ∷ []) a v c w
+  met_joined k e o r =
+      subst (λ (x : List (Option State)). AllReach p m heads ((t, n) ∷ []) a v x w) (sym k.is)
+      (subst (λ (x : List ℕ). AllReach p m heads ((t, n) ∷ []) a v (set a t (Some k.joined)) x) (sym e) (merge_joined p m heads a v t n k.old k.joined k.known o r k.joins k.falls))
+
+  pub met_same : Meets p a t n c Same → IsOpen p m a → AllReach p m heads ((t, n) ∷ []) a v c v
+  met_same k o = subst (λ (x : List (Option State)). AllReach p m heads ((t, n) ∷ []) a v x v) (sym k.is) (merge_same p m heads a v t n k.old k.known o k.holds)
+
+  pub met_unequal : Meets p a t n c Unequal → IsOpen p m a → Clashes p m c t n
+  met_unequal k o = record { old = k.old; known = ap (λ (x : List (Option State)). slice_get x t) k.is ∙ k.known; derived = is_derived p m a t k.old o k.known; unequal = k.holds }
 
 pub in_states : (p : LinkedFile) (m : Routine) (heads : List Bool) (a : List (Option State)) (t : ℕ) (n : State) → IsOpen p m a → IsReady p m heads t n → t < length a
 in_states p m heads a t n o r = let e = o.long in let h = r.inside in omega arith

@@ -1,7 +1,8 @@
 -- How the states of places are kept: for each place 0, or one more than the number of its state.
 use Rattle.std.specs.Prelude.{◌≡◌, ℕ, zero, suc, ◌+◌, ◌≤◌, ◌<◌, ◌^◌, List, [], ◌∷◌, ◌++◌, Option, None, Some, cond, length, ltb, map, set, slice_get}
 use Rattle.abc_program.specs.Linked.{LinkedFile}
-use Rattle.abc_typing.specs.Typing.{HasOneShape, IsJoinState, StateLe}
+use Rattle.abc_typing.specs.Routines.{Routine}
+use Rattle.abc_typing.specs.Typing.{Derivable, HasOneShape, IsJoinState, StateLe}
 use Rattle.abc_typing.specs.declared.state.State.{State}
 use Rattle.abc_worklist.specs.Rank.{layouts, rank}
 use Rattle.abc_worklist.specs.Work.{at}
@@ -60,3 +61,10 @@ Meets p a t n c First = (at a t ≡ None) × (c ≡ set a t (Some n))
 Meets p a t n c Same = IsMet a t (λ old. StateLe p n old) c
 Meets p a t n c Joined = IsRaised p a t n c
 Meets p a t n c Unequal = IsMet a t (λ old. HasOneShape old n → ⊥) c
+
+-- what is known at a place is derived, and has another shape
+pub record Clashes (p : LinkedFile) (m : Routine) (a : List (Option State)) (t : ℕ) (n : State) : Type 0 where
+  pub old : State
+  pub known : slice_get a t ≡ Some (Some old)
+  pub derived : Derivable p m t old
+  pub unequal : HasOneShape old n → ⊥

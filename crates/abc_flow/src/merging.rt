@@ -2,7 +2,7 @@ ghost use Rattle.std.specs.Prelude.{◌≡◌, ◌∷◌, ◌<◌, [], Some, len
 ghost use Rattle.abc_program.specs.Linked.{IsLinkedFile};
 ghost use Rattle.abc_shapes.specs.Instructions.{targets};
 ghost use Rattle.abc_typing.specs.Typing.{Derivable, HasOneShape, Refutes};
-ghost use Rattle.abc_flow.specs.Kept.{IsMet};
+ghost use Rattle.abc_flow.specs.Kept.{Clashes};
 ghost use Rattle.abc_flow.specs.Walking.{AllReach, AreReady, IsOpen, IsReady, RefusedBy, landing, targets_at};
 ghost use Rattle.abc_flow.specs.declared.step.Refusal.TheVariants as refusals;
 
@@ -47,9 +47,8 @@ fn refuse<F: Flow>(flow: &F, place: u32, old: &State, next: &State) -> VerifyRul
 #[cold]
 #[inline(never)]
 fn refused<F: Flow>(flow: &F, states: &States, place: u32, next: &State) -> VerifyRule
-    requires opened { IsOpen (F.file flow.now) (F.routine flow.now) states.now }
     requires derived { Derivable (F.file flow.now) (F.routine flow.now) place next.now }
-    requires unequal { IsMet states.now place (λ old. HasOneShape old next.now → ⊥) states.now }
+    requires unequal { Clashes (F.file flow.now) (F.routine flow.now) states.now place next.now }
     ensures { Refutes (F.file flow.now) (F.routine flow.now) place result }
 {
     match states.find(place) {
@@ -59,7 +58,7 @@ fn refused<F: Flow>(flow: &F, states: &States, place: u32, next: &State) -> Veri
 }
 
 /// A state flows to a place.
-#[tactic(auto, using(crate::proofs::Places::merge_same, crate::proofs::Places::merge_joined, crate::proofs::Places::merge_first, crate::proofs::Places::is_derived, crate::proofs::Places::in_states))]
+#[tactic(auto, using(crate::proofs::Places::met_first, crate::proofs::Places::met_joined, crate::proofs::Places::met_same, crate::proofs::Places::in_states))]
 pub(crate) fn merge_at<F: Flow>(
     flow: &F,
     states: &mut States,
@@ -73,7 +72,11 @@ pub(crate) fn merge_at<F: Flow>(
     ensures { MatchResult result (λ _. AllReach (F.file flow.now) (F.routine flow.now) (F.heads flow.now) ((place, next.now) ∷ []) states.old work.old states.new work.new) (λ e. RefusedBy (F.file flow.now) (F.routine flow.now) e) }
 {
     match states.meet(flow, place, next)? {
-        Met::First | Met::Joined => {
+        Met::First => {
+            work.push(place)?;
+            Ok(())
+        }
+        Met::Joined => {
             work.push(place)?;
             Ok(())
         }

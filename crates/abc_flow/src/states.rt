@@ -57,23 +57,17 @@ fn state_numbered(known: &[State], number: u32) -> Option<&State>
     }
 }
 
-/// The room that is left where a state is kept too.
-fn room_beside(room: usize, state: &State) -> Result<usize, NoMemory> {
-    let left = room.checked_sub(state.stack.len()).ok_or(NoMemory)?;
-    let left = left.checked_sub(state.scopes.len()).ok_or(NoMemory)?;
-    let left = left.checked_sub(state.locals.len()).ok_or(NoMemory)?;
-    Ok(left)
-}
-
 /// A copy of a state is kept at a place of a list, over what stands there, or at the end.
 fn keep(known: &mut Vec<State>, place: usize, alloc: Global, state: &State) -> Result<(), NoMemory>
     ensures long { vec_len known.old ≤ vec_len known.new }
     ensures kept { OnOk result (known.new.items ≡ placed known.old.items place state.now) }
 {
     if place < known.len() {
-        return copy_state_over(&mut known[place], state);
+        copy_state_over(&mut known[place], state)?;
+        return Ok(());
     }
-    known.push(copy_state(alloc, state)?)?;
+    let copy = copy_state(alloc, state)?;
+    known.push(copy)?;
     Ok(())
 }
 
@@ -89,6 +83,7 @@ fn put_first(
     numbers: &mut Vec<u32>,
     known: &mut Vec<State>,
     count: &mut usize,
+    room: &mut usize,
     place: usize,
     alloc: Global,
     state: &State,
@@ -99,9 +94,13 @@ fn put_first(
     ensures numbers { AreNumbered numbers.new.items count.new (vec_len known.new) }
     ensures known { OnOk result (known_at numbers.new.items known.new.items ≡ set (known_at numbers.old.items known.old.items) place (Some state.now)) }
 {
+    let left = room.checked_sub(state.stack.len()).ok_or(NoMemory)?;
+    let left = left.checked_sub(state.scopes.len()).ok_or(NoMemory)?;
+    *room = left.checked_sub(state.locals.len()).ok_or(NoMemory)?;
     keep(known, *count, alloc, state)?;
-    *count += 1;
-    numbers[place] = *count as u32;
+    let number = *count + 1;
+    *count = number;
+    numbers[place] = number as u32;
     Ok(())
 }
 
@@ -142,33 +141,26 @@ impl States {
         }
     }
 
-    /// A place that has no state gets a copy of one.
-    fn put(&mut self, place: u32, alloc: Global, state: &State) -> Result<(), NoMemory>
-        requires inside { place < length self.old }
-        requires none { at self.old place ≡ None }
-        ensures { OnOk result (self.new ≡ set self.old place (Some state.now)) }
-    {
-        self.room = room_beside(self.room, state)?;
-        put_first(
-            &mut self.numbers,
-            &mut self.known,
-            &mut self.count,
-            place as usize,
-            alloc,
-            state,
-        )
-    }
-
     /// A place gets a copy of a state.
     pub(crate) fn set(&mut self, place: u32, alloc: Global, state: &State) -> Result<(), NoMemory>
         requires { place < length self.old }
         ensures { OnOk result (self.new ≡ set self.old place (Some state.now)) }
     {
-        let number = self.numbers[place as usize];
+        let place = place as usize;
+        let number = self.numbers[place];
         if number == 0 {
-            return self.put(place, alloc, state);
+            return put_first(
+                &mut self.numbers,
+                &mut self.known,
+                &mut self.count,
+                &mut self.room,
+                place,
+                alloc,
+                state,
+            );
         }
-        keep(&mut self.known, number as usize - 1, alloc, state)
+        keep(&mut self.known, number as usize - 1, alloc, state)?;
+        Ok(())
     }
 
     /// A state flows to a place.
@@ -182,23 +174,25 @@ impl States {
         requires inside { place < length self.old }
         ensures { IfOk result (Meets (F.file flow.now) self.old place next.now self.new) }
     {
-        let number = self.numbers[place as usize];
-        let merged = match state_numbered(self.known.as_slice(), number) {
-            Some(old) => flow.merge(old, next, &mut self.joined)?,
-            None => {
-                self.put(place, flow.alloc(), next)?;
-                return Ok(Met::First);
-            }
-        };
-        match merged {
+        let place = place as usize;
+        let number = self.numbers[place];
+        if number == 0 {
+            put_first(
+                &mut self.numbers,
+                &mut self.known,
+                &mut self.count,
+                &mut self.room,
+                place,
+                flow.alloc(),
+                next,
+            )?;
+            return Ok(Met::First);
+        }
+        let index = number as usize - 1;
+        match flow.merge(&self.known[index], next, &mut self.joined)? {
             Merged::Same => Ok(Met::Same),
             Merged::Joined => {
-                keep(
-                    &mut self.known,
-                    number as usize - 1,
-                    flow.alloc(),
-                    &self.joined,
-                )?;
+                keep(&mut self.known, index, flow.alloc(), &self.joined)?;
                 Ok(Met::Joined)
             }
             Merged::Unequal => Ok(Met::Unequal),
