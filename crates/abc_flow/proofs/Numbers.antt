@@ -58,10 +58,10 @@ blank_known zero ks = refl
 blank_known {X} (suc n) ks = ap (λ (xs : List (Option X)). None ∷ xs) (blank_known n ks)
 
 pub none_kept : (n : ℕ) → AreNumbered [] 0 n
-none_kept n = record { numbers = blank_numbers 0 (omega arith); within = omega arith }
+none_kept n = record { are = blank_numbers 0 (omega arith); within = omega arith }
 
 pub blank_kept : (n all : ℕ) → n < 2 ^ 32 → AreNumbered (replicate n 0) 0 all
-blank_kept n all small = record { numbers = blank_numbers n small; within = omega arith }
+blank_kept n all small = record { are = blank_numbers n small; within = omega arith }
 
 nothing : (n : ℕ) (zs : List ℕ) → take n [] ++ zs ≡ zs
 nothing zero zs = refl
@@ -179,7 +179,7 @@ first_known {X} ns ks c i m k h q =
     let z : m ≡ suc c = omega arith in
     let one : numbered (placed ks c k) m ≡ Some k = ap (numbered (placed ks c k)) z ∙ got_new ks c k h.within in
     map-set (numbered (placed ks c k)) ns i m
-    ∙ ap (λ (xs : List (Option X)). set xs i (numbered (placed ks c k) m)) (known_more ns ks c k h.within h.numbers.inside)
+    ∙ ap (λ (xs : List (Option X)). set xs i (numbered (placed ks c k) m)) (known_more ns ks c k h.within h.are.inside)
     ∙ ap (λ (x : Option X). set (known_at ns ks) i x) one
 
 pub first_kept : {X : Type 0} (ns : List ℕ) (ks js : List X) (c i m n : ℕ) (k : X) → AreNumbered ns c (length ks) → slice_get ns i ≡ Some 0 → js ≡ placed ks c k → n ≡ c + 1 → m ≡ n → AreNumbered (set ns i m) n (length js)
@@ -188,13 +188,13 @@ first_kept {X} ns ks js c i m n k h e is q z =
     let long : length js ≡ length (placed ks c k) = ap (λ (xs : List X). length xs) is in
     let lt = long_placed ks c k h.within in
     record {
-      numbers = let same : c + 1 ≡ n = omega arith in subst (λ (j : ℕ). AreNumbers (set ns i m) j) same (first_numbers ns c i m h.numbers e more);
+      are = let same : c + 1 ≡ n = omega arith in subst (λ (j : ℕ). AreNumbers (set ns i m) j) same (first_numbers ns c i m h.are e more);
       within = omega (arith, long, lt);
     }
 
 -- more states behind those that have numbers
 pub longer_kept : (ns : List ℕ) (c a b : ℕ) → AreNumbered ns c a → a ≤ b → AreNumbered ns c b
-longer_kept ns c a b h le = record { numbers = h.numbers; within = let z = h.within in omega arith }
+longer_kept ns c a b h le = record { are = h.are; within = let z = h.within in omega arith }
 
 -- ---- and another
 
@@ -221,12 +221,12 @@ pub again_known : {X : Type 0} (ns : List ℕ) (ks js : List X) (c i n m : ℕ) 
 again_known ns ks js c i zero m k h e lt q is = absurd (omega arith)
 again_known {X} ns ks js c i (suc n) m k h e lt q is =
     let z : n ≡ m = omega arith in
-    let low : n < c = h.numbers.inside i n e in
+    let low : n < c = h.are.inside i n e in
     let all : n < length ks = let w = h.within in omega arith in
     ap (known_at ns) is
     ∙ sym (ap (λ (j : ℕ). known_at ns (placed ks j k)) z)
     ∙ ap (known_at ns) (placed_before ks n k all)
-    ∙ known_again ns ks i n k all e (λ j f. h.numbers.apart i j n e f)
+    ∙ known_again ns ks i n k all e (λ j f. h.are.apart i j n e f)
 
 -- ---- what is read
 
@@ -253,7 +253,7 @@ known_here {X} ns ks a t n i x e z lt q is = ap (λ (xs : List (Option X)). slic
 -- the place of a state in the list
 pub place_kept : (ns : List ℕ) (c all t n i : ℕ) → AreNumbered ns c all → slice_get ns t ≡ Some n → 1 ≤ n → i ≡ n - 1 → i < all
 place_kept ns c all t zero i h e lt q = absurd (omega arith)
-place_kept ns c all t (suc n) i h e lt q = let z = h.numbers.inside t n e in let w = h.within in omega arith
+place_kept ns c all t (suc n) i h e lt q = let z = h.are.inside t n e in let w = h.within in omega arith
 
 -- the number that is read is that of the place
 pub got_here : {X : Type 0} (ns : List ℕ) (ks : List X) (all : List (Option X)) (i n : ℕ) → known_at ns ks ≡ all → i < length all → n ≡ slice_index_or ns i n → slice_get ns i ≡ Some n

@@ -32,7 +32,7 @@ pub record AreNumbers (numbers : List ℕ) (count : ℕ) : Type 0 where
 
 -- behind the states that have numbers there may be more, whose memory is used again
 pub record AreNumbered (numbers : List ℕ) (count all : ℕ) : Type 0 where
-  pub numbers : AreNumbers numbers count
+  pub are : AreNumbers numbers count
   pub within : count ≤ all
 
 -- a value takes the place of another, or comes at the end

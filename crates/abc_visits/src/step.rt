@@ -12,7 +12,7 @@ ghost use Rattle.abc_visits.specs.Asking.{IsAsked};
 ghost use Rattle.abc_visits.specs.Visits.{IsTried, given_kinds, here_in, leads_away as leads_away_by, leads_on as leads_on_by, step_by, written_by};
 
 use crate::changes::{Given, change_scopes, change_stack, set_kind};
-use crate::visit::{Asked, Visit, values_in};
+use crate::visit::{Asked, Visit};
 use abc_base::{NoMemory, Table};
 use abc_flow::{Cover, Step, Trial, Written};
 use abc_frames::Frame;
@@ -75,8 +75,8 @@ fn step_of(goes: bool, leads: Leads, written: Written) -> Step
 impl Visit<'_> {
     /// The kinds that are pushed.
     #[inline]
-    fn given(&self, asked: &Asked, state: &State) -> Given
-        requires { IsAsked (here_in self.now) asked.now }
+    fn given(&self, asked: Asked, state: &State) -> Given
+        requires { IsAsked (here_in self.now) asked }
         ensures { given_kinds result ≡ map (kind_of_source (here_in self.now) state.now) (sources self.now.row.gives) }
     {
         match self.row.gives {
@@ -104,8 +104,8 @@ impl Visit<'_> {
 
     /// Changes the locals, and says which.
     #[inline]
-    fn change_locals(&self, asked: &Asked, state: &mut State) -> Written
-        requires { IsAsked (here_in self.now) asked.now }
+    fn change_locals(&self, asked: Asked, state: &mut State) -> Written
+        requires { IsAsked (here_in self.now) asked }
         ensures locals { state.new ≡ record { stack = state.old.stack; scopes = state.old.scopes; locals = locals_after (here_in self.now) state.old self.now.row.locals } }
         ensures written { result ≡ written_by self.now.instr.now self.now.row.locals }
     {
@@ -124,8 +124,8 @@ impl Visit<'_> {
 
     /// Whether anything follows: nothing does where the value that has to have a slot is null.
     #[inline]
-    fn goes_on(&self, asked: &Asked, state: &State) -> bool
-        requires { IsAsked (here_in self.now) asked.now }
+    fn goes_on(&self, asked: Asked, state: &State) -> bool
+        requires { IsAsked (here_in self.now) asked }
         ensures { result ≡ goes_on (needs_of (here_in self.now)) (taken (here_in self.now) state.now) }
     {
         !is_null(self.receiver(asked, state))
@@ -133,8 +133,8 @@ impl Visit<'_> {
 
     /// Does the instruction to a state. Every kind is of the state before.
     #[tactic(auto, using(crate::proofs::Stepping::next_is))]
-    fn step(&self, asked: &Asked, state: &mut State) -> Result<Step, NoMemory>
-        requires { IsAsked (here_in self.now) asked.now }
+    fn step(&self, asked: Asked, state: &mut State) -> Result<Step, NoMemory>
+        requires { IsAsked (here_in self.now) asked }
         ensures next { IfOk result (λ w. state.new ≡ next_state (here_in self.now) state.old) }
         ensures leads { IfOk result (λ w. w ≡ step_by (goes_on (needs_of (here_in self.now)) (taken (here_in self.now) state.old)) self.now.row.leads (written_by self.now.instr.now self.now.row.locals)) }
     {
@@ -155,44 +155,17 @@ impl Visit<'_> {
 
 impl Visit<'_> {
     /// Does the instruction to a state, if that breaks no rule.
-    #[inline]
-    fn advance_asked(
-        &self,
-        asked: &Asked,
-        state: &mut State,
-        cover: Cover,
-    ) -> Result<Trial, NoMemory>
-        requires asked { IsAsked (here_in self.now) asked.now }
-        requires cover { IsCoverAt (routine_in self.now.frame.now) self.now.place cover }
+    fn advance(&self, state: &mut State, cover: Cover) -> Result<Trial, NoMemory>
+        requires { IsCoverAt (routine_in self.now.frame.now) self.now.place cover }
         ensures { IfOk result (IsTried (here_in self.now) state.old state.new) }
     {
+        let asked = self.asked();
         match self.broken(asked, state, cover) {
             Some(rule) => Ok(Trial::Breaks(rule)),
             None => {
                 let step = self.step(asked, state)?;
                 Ok(Trial::Steps(step))
             }
-        }
-    }
-
-    /// The same, where something is asked of what is taken, or the parts of a name are taken.
-    #[inline(never)]
-    fn advance_further(&self, state: &mut State, cover: Cover) -> Result<Trial, NoMemory>
-        requires { IsCoverAt (routine_in self.now.frame.now) self.now.place cover }
-        ensures { IfOk result (IsTried (here_in self.now) state.old state.new) }
-    {
-        self.advance_asked(&self.asked(), state, cover)
-    }
-
-    /// The same. Mostly what is taken may be any.
-    #[inline]
-    fn advance(&self, state: &mut State, cover: Cover) -> Result<Trial, NoMemory>
-        requires { IsCoverAt (routine_in self.now.frame.now) self.now.place cover }
-        ensures { IfOk result (IsTried (here_in self.now) state.old state.new) }
-    {
-        match values_in(self.row.takes) {
-            Some(count) => self.advance_asked(&self.asked_values(count), state, cover),
-            None => self.advance_further(state, cover),
         }
     }
 }

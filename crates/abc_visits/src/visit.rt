@@ -166,6 +166,19 @@ fn are_plain(takes: Takes, parts: Parts) -> bool
     }
 }
 
+/// How many values are taken, where each may be any; `None` where something is asked of one, or the parts of a name are taken.
+#[inline]
+fn values_in(takes: Takes) -> Option<usize>
+    ensures { IfSome result (HasValues (needs takes)) }
+{
+    match takes {
+        Takes::Nothing => Some(0),
+        Takes::One(Need::Value) => Some(1),
+        Takes::Two(Need::Value, Need::Value) => Some(2),
+        _ => None,
+    }
+}
+
 /// What a row takes for each argument, times the arguments.
 #[tactic(auto, using(crate::proofs::Asking::product_fits))]
 fn product(factor: u8, count: u32) -> usize
@@ -210,9 +223,10 @@ impl Visit<'_> {
         product(self.row.args, arguments_of(self.instr))
     }
 
-    /// What the rules and the step ask of the instruction.
+    /// What is asked where the parts of a name may make a difference.
+    #[inline(never)]
     #[tactic(auto, using(crate::proofs::Plain::asked_is))]
-    pub(crate) fn asked(&self) -> Asked
+    fn asked_of_name(&self) -> Asked
         ensures { IsAsked (here_in self.now) result }
     {
         let parts = self.parts();
@@ -227,10 +241,10 @@ impl Visit<'_> {
         }
     }
 
-    /// The same, where so many values are taken and each may be any.
+    /// What is asked where so many values are taken, each of which may be any.
     #[inline]
     #[tactic(auto, using(crate::proofs::Plain::values_asked))]
-    pub(crate) fn asked_values(&self, count: usize) -> Asked
+    fn asked_of_values(&self, count: usize) -> Asked
         requires { HasValues (needs self.now.row.takes) count }
         ensures { IsAsked (here_in self.now) result }
     {
@@ -245,17 +259,15 @@ impl Visit<'_> {
             is_plain: true,
         }
     }
-}
 
-/// How many values are taken, where each may be any; `None` where something is asked of one, or the parts of a name are taken.
-#[inline]
-pub(crate) fn values_in(takes: Takes) -> Option<usize>
-    ensures { IfSome result (HasValues (needs takes)) }
-{
-    match takes {
-        Takes::Nothing => Some(0),
-        Takes::One(Need::Value) => Some(1),
-        Takes::Two(Need::Value, Need::Value) => Some(2),
-        _ => None,
+    /// What the rules and the step ask of the instruction. Mostly what is taken may be any.
+    #[inline]
+    pub(crate) fn asked(&self) -> Asked
+        ensures { IsAsked (here_in self.now) result }
+    {
+        match values_in(self.row.takes) {
+            Some(count) => self.asked_of_values(count),
+            None => self.asked_of_name(),
+        }
     }
 }
