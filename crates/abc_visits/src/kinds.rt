@@ -81,8 +81,8 @@ impl Visit<'_> {
     /// The kind of the value so deep below the arguments; any kind where there is none.
     #[inline]
     #[tactic(auto, using(crate::proofs::Asking::taken_at))]
-    pub(crate) fn taken(&self, asked: Asked, state: &State, depth: u8) -> Kind
-        requires { IsAsked (here_in self.now) asked }
+    pub(crate) fn taken(&self, asked: &Asked, state: &State, depth: u8) -> Kind
+        requires { IsAsked (here_in self.now) asked.now }
         ensures { result ≡ kind_in (taken (here_in self.now) state.now) depth }
     {
         state.stack.get_or(asked.args + depth as usize, Kind::Any)
@@ -91,8 +91,8 @@ impl Visit<'_> {
     /// The kind of the value that has to have the slot; any kind where none has to.
     #[inline]
     #[tactic(auto, using(crate::proofs::Plain::plain_receiver, crate::proofs::Plain::asked_receiver))]
-    pub(crate) fn receiver(&self, asked: Asked, state: &State) -> Kind
-        requires { IsAsked (here_in self.now) asked }
+    pub(crate) fn receiver(&self, asked: &Asked, state: &State) -> Kind
+        requires { IsAsked (here_in self.now) asked.now }
         ensures { result ≡ receiver_of (needs_of (here_in self.now)) (taken (here_in self.now) state.now) }
     {
         if asked.is_plain {
@@ -103,8 +103,8 @@ impl Visit<'_> {
 
     /// The kind that comes from a source. Mostly it is one of a few, which take no look into tables.
     #[inline]
-    pub(crate) fn kind_of(&self, asked: Asked, state: &State, source: Source) -> Kind
-        requires { IsAsked (here_in self.now) asked }
+    pub(crate) fn kind_of(&self, asked: &Asked, state: &State, source: Source) -> Kind
+        requires { IsAsked (here_in self.now) asked.now }
         ensures { result ≡ kind_of_source (here_in self.now) state.now source }
     {
         match source {
@@ -120,8 +120,8 @@ impl Visit<'_> {
 
     /// The kind that comes from a source.
     #[inline(never)]
-    pub(crate) fn kind_found(&self, asked: Asked, state: &State, source: Source) -> Kind
-        requires { IsAsked (here_in self.now) asked }
+    pub(crate) fn kind_found(&self, asked: &Asked, state: &State, source: Source) -> Kind
+        requires { IsAsked (here_in self.now) asked.now }
         ensures { result ≡ kind_of_source (here_in self.now) state.now source }
     {
         match source {

@@ -132,8 +132,8 @@ impl Visit<'_> {
     /// Whether the values that are taken are what a rule asks.
     #[inline]
     #[tactic(auto, using(crate::proofs::Plain::plain_suits, crate::proofs::Plain::asked_suits))]
-    pub(crate) fn all_suit(&self, asked: Asked, rule: VerifyRule, state: &State) -> bool
-        requires { IsAsked (here_in self.now) asked }
+    pub(crate) fn all_suit(&self, asked: &Asked, rule: VerifyRule, state: &State) -> bool
+        requires { IsAsked (here_in self.now) asked.now }
         ensures { result ≡ all_suit (here_in self.now) rule (needs_of (here_in self.now)) (taken (here_in self.now) state.now) }
     {
         if asked.is_plain {

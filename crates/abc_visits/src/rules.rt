@@ -144,8 +144,8 @@ impl Visit<'_> {
     }
 
     /// Whether the stack keeps to its size, with a value that is caught.
-    fn fits_stack(&self, asked: Asked, state: &State, cover: Cover) -> bool
-        requires asked { IsAsked (here_in self.now) asked }
+    fn fits_stack(&self, asked: &Asked, state: &State, cover: Cover) -> bool
+        requires asked { IsAsked (here_in self.now) asked.now }
         requires cover { IsCoverAt (routine_in self.now.frame.now) self.now.place cover }
         ensures { result ≡ keeps (here_in self.now) state.now variants.StackOver }
     {
@@ -156,8 +156,8 @@ impl Visit<'_> {
 
     /// Whether a state keeps a rule.
     #[inline(always)]
-    fn keeps(&self, asked: Asked, state: &State, cover: Cover, rule: VerifyRule) -> bool
-        requires asked { IsAsked (here_in self.now) asked }
+    fn keeps(&self, asked: &Asked, state: &State, cover: Cover, rule: VerifyRule) -> bool
+        requires asked { IsAsked (here_in self.now) asked.now }
         requires cover { IsCoverAt (routine_in self.now.frame.now) self.now.place cover }
         ensures { result ≡ keeps (here_in self.now) state.now rule }
     {
@@ -199,13 +199,13 @@ impl Visit<'_> {
     #[tactic(auto, using(crate::proofs::Kept::two_kept))]
     fn keeps_two(
         &self,
-        asked: Asked,
+        asked: &Asked,
         state: &State,
         cover: Cover,
         first: VerifyRule,
         second: VerifyRule,
     ) -> bool
-        requires asked { IsAsked (here_in self.now) asked }
+        requires asked { IsAsked (here_in self.now) asked.now }
         requires cover { IsCoverAt (routine_in self.now.frame.now) self.now.place cover }
         ensures { OnTrue result (AreKept (here_in self.now) state.now (first ∷ second ∷ [])) }
     {
@@ -214,8 +214,8 @@ impl Visit<'_> {
 
     /// Whether the rules before Merge are kept.
     #[tactic(auto, using(crate::proofs::Kept::four_kept))]
-    fn keeps_early(&self, asked: Asked, state: &State, cover: Cover) -> bool
-        requires asked { IsAsked (here_in self.now) asked }
+    fn keeps_early(&self, asked: &Asked, state: &State, cover: Cover) -> bool
+        requires asked { IsAsked (here_in self.now) asked.now }
         requires cover { IsCoverAt (routine_in self.now.frame.now) self.now.place cover }
         ensures { OnTrue result (AreKept (here_in self.now) state.now early_rules) }
     {
@@ -248,8 +248,8 @@ impl Visit<'_> {
 
     /// Whether the rules after Merge are kept.
     #[tactic(auto, using(crate::proofs::Kept::four_kept))]
-    fn keeps_late(&self, asked: Asked, state: &State, cover: Cover) -> bool
-        requires asked { IsAsked (here_in self.now) asked }
+    fn keeps_late(&self, asked: &Asked, state: &State, cover: Cover) -> bool
+        requires asked { IsAsked (here_in self.now) asked.now }
         requires cover { IsCoverAt (routine_in self.now.frame.now) self.now.place cover }
         ensures { OnTrue result (AreKept (here_in self.now) state.now late_rules) }
     {
@@ -282,8 +282,8 @@ impl Visit<'_> {
 
     /// Whether all rules are kept. It is asked first: which rule is broken is told by going over them once more.
     #[tactic(auto, using(crate::proofs::Kept::all_kept))]
-    fn keeps_all(&self, asked: Asked, state: &State, cover: Cover) -> bool
-        requires asked { IsAsked (here_in self.now) asked }
+    fn keeps_all(&self, asked: &Asked, state: &State, cover: Cover) -> bool
+        requires asked { IsAsked (here_in self.now) asked.now }
         requires cover { IsCoverAt (routine_in self.now.frame.now) self.now.place cover }
         ensures { OnTrue result (AreKept (here_in self.now) state.now (early_rules ++ late_rules)) }
     {
@@ -296,12 +296,12 @@ impl Visit<'_> {
     #[tactic(auto, using(crate::proofs::Loops::rule_next, crate::proofs::Loops::rule_stops))]
     fn first_broken(
         &self,
-        asked: Asked,
+        asked: &Asked,
         state: &State,
         cover: Cover,
         rules: &[VerifyRule],
     ) -> Option<VerifyRule>
-        requires asked { IsAsked (here_in self.now) asked }
+        requires asked { IsAsked (here_in self.now) asked.now }
         requires cover { IsCoverAt (routine_in self.now.frame.now) self.now.place cover }
         ensures { result ≡ first_broken (keeps (here_in self.now) state.now) rules.now }
     {
@@ -315,8 +315,8 @@ impl Visit<'_> {
 
     /// The first rule that a state breaks, Merge left out.
     #[tactic(auto, using(crate::proofs::Kept::none_broken))]
-    pub(crate) fn broken(&self, asked: Asked, state: &State, cover: Cover) -> Option<VerifyRule>
-        requires asked { IsAsked (here_in self.now) asked }
+    pub(crate) fn broken(&self, asked: &Asked, state: &State, cover: Cover) -> Option<VerifyRule>
+        requires asked { IsAsked (here_in self.now) asked.now }
         requires cover { IsCoverAt (routine_in self.now.frame.now) self.now.place cover }
         ensures { result ≡ first_broken (keeps (here_in self.now) state.now) (early_rules ++ late_rules) }
     {
@@ -346,7 +346,7 @@ fn broken_early_in(
                 instr,
                 row,
             };
-            visit.first_broken(visit.asked(), state, cover_at(frame, place), &EARLY)
+            visit.first_broken(&visit.asked(), state, cover_at(frame, place), &EARLY)
         }
         None => Some(VerifyRule::NotRun),
     }

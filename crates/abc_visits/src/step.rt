@@ -75,8 +75,8 @@ fn step_of(goes: bool, leads: Leads, written: Written) -> Step
 impl Visit<'_> {
     /// The kinds that are pushed.
     #[inline]
-    fn given(&self, asked: Asked, state: &State) -> Given
-        requires { IsAsked (here_in self.now) asked }
+    fn given(&self, asked: &Asked, state: &State) -> Given
+        requires { IsAsked (here_in self.now) asked.now }
         ensures { given_kinds result ≡ map (kind_of_source (here_in self.now) state.now) (sources self.now.row.gives) }
     {
         match self.row.gives {
@@ -104,8 +104,8 @@ impl Visit<'_> {
 
     /// Changes the locals, and says which.
     #[inline]
-    fn change_locals(&self, asked: Asked, state: &mut State) -> Written
-        requires { IsAsked (here_in self.now) asked }
+    fn change_locals(&self, asked: &Asked, state: &mut State) -> Written
+        requires { IsAsked (here_in self.now) asked.now }
         ensures locals { state.new ≡ record { stack = state.old.stack; scopes = state.old.scopes; locals = locals_after (here_in self.now) state.old self.now.row.locals } }
         ensures written { result ≡ written_by self.now.instr.now self.now.row.locals }
     {
@@ -124,8 +124,8 @@ impl Visit<'_> {
 
     /// Whether anything follows: nothing does where the value that has to have a slot is null.
     #[inline]
-    fn goes_on(&self, asked: Asked, state: &State) -> bool
-        requires { IsAsked (here_in self.now) asked }
+    fn goes_on(&self, asked: &Asked, state: &State) -> bool
+        requires { IsAsked (here_in self.now) asked.now }
         ensures { result ≡ goes_on (needs_of (here_in self.now)) (taken (here_in self.now) state.now) }
     {
         !is_null(self.receiver(asked, state))
@@ -133,8 +133,8 @@ impl Visit<'_> {
 
     /// Does the instruction to a state. Every kind is of the state before.
     #[tactic(auto, using(crate::proofs::Stepping::next_is))]
-    fn step(&self, asked: Asked, state: &mut State) -> Result<Step, NoMemory>
-        requires { IsAsked (here_in self.now) asked }
+    fn step(&self, asked: &Asked, state: &mut State) -> Result<Step, NoMemory>
+        requires { IsAsked (here_in self.now) asked.now }
         ensures next { IfOk result (λ w. state.new ≡ next_state (here_in self.now) state.old) }
         ensures leads { IfOk result (λ w. w ≡ step_by (goes_on (needs_of (here_in self.now)) (taken (here_in self.now) state.old)) self.now.row.leads (written_by self.now.instr.now self.now.row.locals)) }
     {
@@ -160,10 +160,10 @@ impl Visit<'_> {
         ensures { IfOk result (IsTried (here_in self.now) state.old state.new) }
     {
         let asked = self.asked();
-        match self.broken(asked, state, cover) {
+        match self.broken(&asked, state, cover) {
             Some(rule) => Ok(Trial::Breaks(rule)),
             None => {
-                let step = self.step(asked, state)?;
+                let step = self.step(&asked, state)?;
                 Ok(Trial::Steps(step))
             }
         }

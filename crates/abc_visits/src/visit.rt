@@ -65,6 +65,7 @@ pub(crate) fn need_count(need: Need, parts: Parts) -> usize
 }
 
 /// How many values needs take.
+#[inline(never)]
 #[tactic(auto, using(crate::proofs::Asking::one_count, crate::proofs::Asking::two_count, crate::proofs::Asking::three_count))]
 fn takes_count(takes: Takes, parts: Parts) -> usize
     ensures count { result ≡ length (flat_map (unfolded (parts_of parts)) (needs takes)) }
@@ -154,6 +155,7 @@ fn are_plain_three(a: Need, b: Need, c: Need, parts: Parts) -> bool
 }
 
 /// Whether the values of needs may be any.
+#[inline(never)]
 #[tactic(auto, using(crate::proofs::Plain::one_plain))]
 fn are_plain(takes: Takes, parts: Parts) -> bool
     ensures { OnTrue result (AreValues (flat_map (unfolded (parts_of parts)) (needs takes))) }
@@ -224,7 +226,7 @@ impl Visit<'_> {
     }
 
     /// What is asked where the parts of a name may make a difference.
-    #[inline(never)]
+    #[inline]
     #[tactic(auto, using(crate::proofs::Plain::asked_is))]
     fn asked_of_name(&self) -> Asked
         ensures { IsAsked (here_in self.now) result }
