@@ -102,7 +102,7 @@ impl Visit<'_> {
     }
 
     /// The kind that comes from a source. Mostly it is one of a few, which take no look into tables.
-    #[inline]
+    #[inline(always)]
     pub(crate) fn kind_of(&self, asked: &Asked, state: &State, source: Source) -> Kind
         requires { IsAsked (here_in self.now) asked.now }
         ensures { result ≡ kind_of_source (here_in self.now) state.now source }

@@ -226,7 +226,7 @@ impl Visit<'_> {
     }
 
     /// What is asked where the parts of a name may make a difference.
-    #[inline]
+    #[inline(always)]
     #[tactic(auto, using(crate::proofs::Plain::asked_is))]
     fn asked_of_name(&self) -> Asked
         ensures { IsAsked (here_in self.now) result }
@@ -263,7 +263,7 @@ impl Visit<'_> {
     }
 
     /// What the rules and the step ask of the instruction. Mostly what is taken may be any.
-    #[inline]
+    #[inline(always)]
     pub(crate) fn asked(&self) -> Asked
         ensures { IsAsked (here_in self.now) result }
     {

@@ -6,7 +6,7 @@ use Rattle.abc_flow.proofs.states.States.renew.Goals as goal
 pub invariant_of-self-2 : goal.invariant_of-self-2
 invariant_of-self-2 c =
     let e : c.resize.new.self.items ≡ replicate c.args.count 0 = renewed_numbers c.args.count (vec_len c.clear.new.self) c.clear.new.self.items c.resize.new.self.items c.clear.ensures.items c.clear.ensures.len c.in_ok-resize.ensures.items in
-    subst (λ (ns : List ℕ). AreNumbered ns 0 (vec_len c.release_many.new.known)) (sym e) (blank_kept c.args.count (vec_len c.release_many.new.known) c.requires)
+    subst (λ (ns : List ℕ). AreNumbered ns 0 (length c.release_many.new.known.items)) (sym e) (blank_kept c.args.count (length c.release_many.new.known.items) c.requires)
 
 pub returns : goal.returns
 returns c =
