@@ -39,7 +39,7 @@ reaches_below p l m b t h = go b (reaches p l l m) refl h
 
 -- ---- the layout of Object
 
-object : Part
+abbrev object : Part
 object = parts.Host hosts.Object
 
 -- every part but Object's instances stands under one

@@ -99,7 +99,7 @@ values_asked h a n v at few d =
       parts = same (parts_of a.parts) ∙ sym mine;
       args = at;
       few = few;
-      depth = d ∙ ap (λ (k : ℕ). k + n) at ∙ ap (λ (k : ℕ). args h + k) (v.count ∙ sym (ap (λ (qs : List Need). length qs) mine));
+      depth = d ∙ ap (λ (k : ℕ). k + n) at ∙ ap (λ (k : ℕ). args h + k) (v.as_many ∙ sym (ap (λ (qs : List Need). length qs) mine));
       plain = on_any a.is_plain (AreValues (needs h)) (subst (λ (qs : List Need). AreValues qs) (sym mine) v.values);
     }
   where
