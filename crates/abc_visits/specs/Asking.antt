@@ -19,11 +19,7 @@ AreValues (n ∷ ns) = (n ≡ Value) × AreValues ns
 -- so many values, of which nothing is asked
 pub record HasValues (ns : List Need) (count : ℕ) : Type 0 where
   pub values : AreValues ns
-<<<<<<< HEAD
-  pub count : count ≡ length ns
-=======
   pub as_many : count ≡ length ns
->>>>>>> h-check
   pub few : count ≤ 3
 
 -- the parts of a name make no difference
