@@ -1,6 +1,5 @@
 ghost use Rattle.std.specs.Prelude.{◌≡◌, true, Ok, Some, slice_get};
 ghost use Rattle.abc_membersteps.specs.CallarmsCalls.{CanFinish};
-ghost use Rattle.abc_dispatch.specs.Answers.{goes_as};
 ghost use Rattle.abc_dispatch.specs.Ready.{CanStep, IsEquipped};
 ghost use Rattle.abc_meaning.specs.Step.{runs};
 ghost use Rattle.abc_plainsteps.specs.Here.{act_here};

@@ -1,4 +1,4 @@
-ghost use Rattle.std.specs.Prelude.{◌≡◌, ◌<◌, ◌^◌, length, map, nat_eq, IfOk, OnOk};
+ghost use Rattle.std.specs.Prelude.{◌≡◌, ◌<◌, ◌^◌, length, map, IfOk, OnOk};
 ghost use Rattle.abc_index.specs.Index.{first};
 ghost use Rattle.abc_program.specs.Owners.{body_of, owner_at as owner_at_of, owner_of};
 ghost use Rattle.abc_program.specs.Methods.{methods_with_bodies as all_with_bodies};

@@ -2,12 +2,11 @@
 use Rattle.std.proofs.Common.{◌≡◌, ℕ, ◌≤◌, ◌↔◌, IsTrue, Some, None, List, [], ◌∷◌, ◌++◌, length, refl, sym, ap, ◌∙◌, subst, arith, ◌⊎◌, inl, inr}
 use Rattle.std.specs.Prelude.{Bool, true, false, Option}
 use Rattle.abc_base.specs.declared.names.HostClass.TheVariants as hosts
-use Rattle.abc_index.specs.Index.{first_from}
 use Rattle.abc_items.specs.Abc.{Abc}
 use Rattle.abc_program.specs.Linked.{IsLinkedFile, LinkedFile}
-use Rattle.abc_program.specs.Numbering.{IsNumbering, part_at}
+use Rattle.abc_program.specs.Numbering.{IsNumbering}
 use Rattle.abc_program.specs.Parts.{parent}
-use Rattle.abc_program.specs.Places.{key_eq, part_key, place_of}
+use Rattle.abc_program.specs.Places.{place_of}
 use Rattle.abc_program.specs.Tree.{IsBelow}
 use Rattle.abc_program.specs.Slots.{slot_numbered, slots_of}
 use Rattle.abc_program.specs.declared.types.Kind.{Kind}

@@ -1,4 +1,4 @@
-use Rattle.std.proofs.Common.{◌≡◌, ℕ, ◌+◌, set, refl, sym, ap, ◌∙◌, subst, arith}
+use Rattle.std.proofs.Common.{ℕ, ◌+◌, set, refl, sym, ap, ◌∙◌, subst, arith}
 use Rattle.abc_flow.specs.Kept.{AreNumbered, known_at}
 use Rattle.abc_flow.proofs.Numbers.{first_kept, first_known, has_room}
 use Rattle.abc_flow.proofs.states.put_first.Goals as goal

@@ -1,4 +1,4 @@
-use Rattle.std.proofs.Common.{◌≡◌, ◌-◌, ◌≤◌, ◌<◌, List, Option, Some, length, set, slice_get, refl, ap, ◌∙◌, arith}
+use Rattle.std.proofs.Common.{◌-◌, ◌≤◌, List, Option, Some, length, set, refl, ap, ◌∙◌, arith}
 use Rattle.std.proofs.lemmas.Option.{slice_get_read}
 use Rattle.abc_typing.specs.declared.state.State.{State}
 use Rattle.abc_flow.proofs.Numbers.{again_known, got_here, known_here, place_kept}

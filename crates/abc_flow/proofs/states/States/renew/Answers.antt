@@ -1,6 +1,6 @@
 use Rattle.std.proofs.Common.{◌≡◌, ℕ, List, length, replicate, vec_len, sym, ap, ◌∙◌, subst}
 use Rattle.abc_flow.specs.Kept.{AreNumbered, known_at}
-use Rattle.abc_flow.proofs.Numbers.{blank_kept, blank_known, none_kept, renewed_numbers}
+use Rattle.abc_flow.proofs.Numbers.{blank_kept, blank_known, renewed_numbers}
 use Rattle.abc_flow.proofs.states.States.renew.Goals as goal
 
 pub invariant_of-self-2 : goal.invariant_of-self-2

@@ -1,6 +1,6 @@
-use Rattle.std.proofs.Common.{◌≡◌, ℕ, ◌-◌, ◌≤◌, List, Option, Some, set, refl, ap, ◌∙◌, arith}
+use Rattle.std.proofs.Common.{◌-◌, ◌≤◌, List, Option, Some, set, refl, ap, ◌∙◌, arith}
 use Rattle.abc_typing.specs.declared.state.State.{State}
-use Rattle.abc_flow.proofs.Numbers.{again_known, got_here, longer_kept}
+use Rattle.abc_flow.proofs.Numbers.{again_known, got_here}
 use Rattle.abc_flow.proofs.states.States.set.Goals as goal
 
 pub returns : goal.returns
