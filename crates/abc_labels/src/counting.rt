@@ -24,10 +24,10 @@ fn is_among(place: u8, part: &[u8]) -> bool
 
 /// How many of the lines from one on stand at a place, up to one that is not of the part. Some of the lines after the first
 /// were met ahead: those from `met` on.
-pub fn count_lines(
+pub fn count_lines<'a>(
     vocabulary: &Vocabulary,
-    first: Option<Line<'_>>,
-    ahead: &[Line<'_>],
+    first: Option<Line<'a>>,
+    ahead: &[Line<'a>],
     met: usize,
     part: &[u8],
     place: u8,
@@ -41,10 +41,10 @@ pub fn count_lines(
 }
 
 /// The same, of lines before they are read.
-fn count_ahead(
+fn count_ahead<'a>(
     vocabulary: &Vocabulary,
-    first: Option<Line<'_>>,
-    ahead: &[Line<'_>],
+    first: Option<Line<'a>>,
+    ahead: &[Line<'a>],
     met: usize,
     part: &[u8],
     place: u8,
