@@ -4,6 +4,7 @@ pub mod Lasts
 pub mod Growth
 pub mod Indexed
 pub mod Searches
+pub mod Latest
 pub mod Stands
 pub mod Ledger
 pub mod Calls

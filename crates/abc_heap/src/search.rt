@@ -1,4 +1,4 @@
-ghost use Rattle.std.specs.Prelude.{◌≡◌, ◌<◌, ◌≤◌, ◌^◌, ◌&&◌, ℕ, length, Some, None, slice_get, nat_eq, true, MatchOption};
+ghost use Rattle.std.specs.Prelude.{◌≡◌, ◌<◌, ◌≤◌, ◌^◌, ◌&&◌, ℕ, List, length, Some, None, slice_get, nat_eq, true, MatchOption};
 ghost use Rattle.std.specs.Str.{bytes_eq};
 ghost use Rattle.abc_cells.specs.Lanes.{property_in};
 ghost use Rattle.abc_cells.specs.Links.{links};
@@ -12,7 +12,7 @@ ghost use Rattle.abc_heap.specs.View.{objects, AreHeads};
 ghost use Rattle.abc_heap.specs.Spots.{IsSpot};
 
 use crate::buckets::Buckets;
-use crate::heads::{Head, property_count};
+use crate::heads::{Head, head_at, property_count, property_name};
 use crate::strings::Strings;
 use crate::texts::bytes_in;
 use abc_base::Bytes;
@@ -116,8 +116,42 @@ pub fn place_of_name(
     None
 }
 
-/// Where the object has a property of the text of a name.
-pub fn find(
+/// Whether a property's name stands at the same place as a name, where there is one.
+#[inline(always)]
+fn is_that(own: Option<Span>, name: Span) -> bool
+    ensures { result ≡ true → own ≡ Some name }
+{
+    match own {
+        Some(own) => is_same(own, name),
+        None => false,
+    }
+}
+
+/// Where an object has the property that came last, if that has just this name.
+#[inline(always)]
+fn last_of_name(heads: &Reserved<Head>, cells: &Reserved<Cell>, o: u32, name: Span) -> Option<Spot>
+    requires heads { AreHeads (links cells.now.items) heads.now.items }
+    requires inside { o < length heads.now.items }
+    ensures { MatchOption result (Unit {0}) (λ s. (f : Span → List ℕ) → IsSpot f (f name) cells.now.items heads.now.items o s) }
+{
+    let chain = head_at(heads, o).properties;
+    let count = chain.count;
+    if count == 0 {
+        return None;
+    }
+    let here = cell_at(cells, chain.last);
+    if !is_that(property_name(here.held), name) {
+        return None;
+    }
+    Some(Spot {
+        place: chain.last,
+        position: here.position,
+    })
+}
+
+/// Where the object has a property of the text of a name, as the bucket of the text tells.
+#[inline(never)]
+fn find_in_bucket(
     fixed: &Bytes,
     made: &Reserved<u8>,
     strings: &Strings,
@@ -137,6 +171,30 @@ pub fn find(
     let made = made.as_slice();
     let text = bytes_in(fixed, made, strings, name);
     place_of_name(fixed, made, strings, buckets, heads, cells, o, name, text)
+}
+
+/// Where the object has a property of the text of a name. (Often it is the one that came last, and has just that name.)
+#[inline(always)]
+pub fn find(
+    fixed: &Bytes,
+    made: &Reserved<u8>,
+    strings: &Strings,
+    buckets: &Buckets,
+    heads: &Reserved<Head>,
+    cells: &Reserved<Cell>,
+    o: u32,
+    name: Span,
+) -> Option<Spot>
+    requires heads { AreHeads (links cells.now.items) heads.now.items }
+    requires index { IsIndexed fixed.now made.now.items strings.now cells.now buckets.now }
+    requires inside { o < length heads.now.items }
+    requires name { IsTextIn fixed.now made.now.items strings.now name }
+    ensures { MatchOption result (place_named (text_in fixed.now made.now.items strings.now) (text_in fixed.now made.now.items strings.now name) (properties_of (objects cells.now.items 0 heads.now.items) o) ≡ None) (λ s. IsSpot (text_in fixed.now made.now.items strings.now) (text_in fixed.now made.now.items strings.now name) cells.now.items heads.now.items o s) }
+{
+    match last_of_name(heads, cells, o, name) {
+        Some(spot) => Some(spot),
+        None => find_in_bucket(fixed, made, strings, buckets, heads, cells, o, name),
+    }
 }
 
 /// The bucket of the text of a name on an object.

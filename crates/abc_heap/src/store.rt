@@ -128,6 +128,7 @@ impl Store {
     }
 
     /// What an object is.
+    #[inline(always)]
     pub fn what(&self, o: ObjId) -> What
         requires { o.0 < length self.now.objects }
         ensures { result ≡ (object_at self.now.objects o.0).what }
@@ -154,6 +155,7 @@ impl Store {
     }
 
     /// The value of an own property.
+    #[inline(always)]
     #[tactic(auto, using(crate::proofs::Flat::length_objects))]
     pub fn property(&self, o: ObjId, name: Span) -> Option<Value>
         requires inside { o.0 < length self.now.objects }

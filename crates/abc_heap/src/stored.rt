@@ -148,6 +148,7 @@ fn class_object(class: u32, home: u32, statics: Option<ScopeId>, instances: Scop
 }
 
 /// What an object is, from what is kept.
+#[inline(always)]
 pub fn restored(kept: StoredWhat) -> What
     ensures { result ≡ what_in kept }
 {

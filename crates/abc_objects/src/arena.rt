@@ -244,6 +244,7 @@ impl Arena {
     }
 
     /// What an object is.
+    #[inline(always)]
     pub fn what(&self, o: ObjId) -> What
         requires { IsObject self.now o }
         ensures { result ≡ (object_at self.now.objects o.0).what }
@@ -273,6 +274,7 @@ impl Arena {
     }
 
     /// The value of an own property, or `None` where the object has none of that text.
+    #[inline(always)]
     pub fn property(&self, l: &Linked, o: ObjId, name: Span) -> Option<Value>
         requires over { StandsOver l.now self.now }
         requires inside { IsObject self.now o }

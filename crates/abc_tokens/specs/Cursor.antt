@@ -1,8 +1,11 @@
 -- The lines of a text, one after the other.
-use Rattle.std.specs.Prelude.{◌≡◌, ℕ, ◌≤◌, ◌<◌, ◌+◌, ◌^◌, ◌||◌, List, [], ◌∷◌, length, Some, None}
+use Rattle.std.specs.Prelude.{◌≡◌, ℕ, ◌≤◌, ◌<◌, ◌+◌, ◌^◌, ◌||◌, Bool, true, false, List, [], ◌∷◌, length, Some, None}
 use Rattle.std.specs.declared.option.Option.{Option}
-use Rattle.abc_text.specs.Scanning.{Between, scan}
-use Rattle.abc_lines.specs.Texts.{Raw, lines_in, raw_of as raw_of_scan, raws_from}
+use Rattle.abc_text.specs.declared.word.Word.{Word}
+use Rattle.abc_text.specs.declared.word.Word.TheVariants as words
+use Rattle.abc_text.specs.Scanning.{Between, Scan, scan}
+use Rattle.abc_text.specs.Tokens.{Token}
+use Rattle.abc_lines.specs.Texts.{Raw, lines_in, raw_of as raw_of_scan, raws_from, token_word}
 use Rattle.abc_tokens.specs.declared.line.Line.{Line}
 
 -- the line as the definitions have it
@@ -14,6 +17,15 @@ raw_of line = record {
   name = line.name.now;
   operands = (scan line.tail.now Between).tokens;
 }
+
+-- the word of a line, by its tokens, and whether it is broken after them
+abbrev pub head_of : List Token → Bool → Option Word
+head_of [] false = None
+head_of [] true = Some words.Unknown
+head_of (token ∷ tokens) broken = Some (token_word token)
+
+abbrev pub head_in : Scan → Option Word
+head_in s = head_of s.tokens s.broken
 
 -- the lines after it
 abbrev pub raws_after : Line → List Raw

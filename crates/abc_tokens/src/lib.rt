@@ -14,9 +14,9 @@ mod searching;
 mod token;
 mod vocabulary;
 
-pub use bytes::is_hex;
+pub use bytes::{is_hex, is_run_byte};
 pub use kinds::find_kind;
-pub use line::{Line, next_line};
+pub use line::{Line, head_word, next_line, split_line};
 pub use names::{is_digit, is_name, name_before_colon};
 pub use next::put_tokens;
 pub use noting::note;

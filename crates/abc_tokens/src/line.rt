@@ -1,7 +1,8 @@
 ghost use Rattle.std.specs.Prelude.{◌≡◌, ◌<◌, ◌≤◌, ◌+◌, ◌^◌, length};
 ghost use Rattle.abc_lines.specs.Texts.{lines_in, raws_from, token_name};
+ghost use Rattle.abc_text.specs.Scanning.{Between, scan};
 ghost use Rattle.abc_text.specs.Tokens.{Bare};
-ghost use Rattle.abc_tokens.specs.Cursor.{Comes, Splits};
+ghost use Rattle.abc_tokens.specs.Cursor.{Comes, Splits, head_in};
 
 use crate::names::name_before_colon;
 use crate::next::next_token;
@@ -40,7 +41,8 @@ impl<'a> Line<'a> {
 }
 
 /// The first line of a text and what stands behind its end.
-fn split_line(text: &[u8]) -> (&[u8], &[u8])
+#[inline(always)]
+pub fn split_line(text: &[u8]) -> (&[u8], &[u8])
     requires { 0 < length text.now }
     ensures lines { Splits text.now result.0.now result.1.now }
     ensures short { length result.1.now < length text.now }
@@ -48,6 +50,18 @@ fn split_line(text: &[u8]) -> (&[u8], &[u8])
     match memchr(b'\n', text) {
         Some(end) => (&text[..end], &text[end + 1..]),
         None => (text, &[]),
+    }
+}
+
+/// The word of a line, if it has tokens.
+#[inline(always)]
+pub fn head_word(vocabulary: &Vocabulary, line: &[u8]) -> Option<Word>
+    ensures { result ≡ head_in (scan line.now Between) }
+{
+    match next_token(line) {
+        Next::End => None,
+        Next::Bare(head, _) => Some(vocabulary.word(head)),
+        Next::Quoted(_, _) | Next::Broken => Some(Word::Unknown),
     }
 }
 

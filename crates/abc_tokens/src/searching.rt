@@ -48,6 +48,7 @@ fn line_word(word: &[u8]) -> Option<Word>
 }
 
 /// What a word says, by a search for it.
+#[inline(never)]
 pub fn sought(opcodes: &IndexMap<&'static [u8], u8>, word: &[u8]) -> Word
     requires { KnowsOpcodes opcodes.now }
     ensures { result ≡ word_of word.now }

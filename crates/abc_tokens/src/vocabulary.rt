@@ -34,6 +34,7 @@ impl Vocabulary {
     }
 
     /// What a word at the head of a line says that the line is.
+    #[inline(always)]
     pub fn word(&self, word: &[u8]) -> Word
         ensures { result ≡ word_of word.now }
     {
