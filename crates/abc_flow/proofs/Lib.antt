@@ -5,3 +5,4 @@ pub mod Numbers
 pub mod Covered
 pub mod Ranges
 pub mod Told
+pub mod Waits

@@ -1,5 +1,5 @@
 -- A state flows to a place, in the words of the code.
-use Rattle.std.proofs.Common.{◌≡◌, ℕ, zero, suc, ◌+◌, ◌<◌, List, [], ◌∷◌, ◌++◌, Option, Some, None, length, set, take, get_or, refl, sym, ap, ◌∙◌, subst, arith, inl, inr}
+use Rattle.std.proofs.Common.{◌≡◌, ℕ, zero, suc, ◌+◌, ◌<◌, List, [], ◌∷◌, ◌++◌, Option, Some, None, length, set, take, get_or, refl, sym, ap, ◌∙◌, subst, arith, ◌⊎◌, inl, inr}
 use Rattle.std.specs.Prelude.{Bool, true, false, cond, map, filter, slice_get}
 use Rattle.std.proofs.lemmas.List.{append-nil, map-append}
 use Rattle.abc_program.specs.Linked.{IsLinkedFile, LinkedFile}
@@ -21,6 +21,7 @@ use Rattle.abc_worklist.proofs.Decides.{early_broken}
 use Rattle.abc_worklist.proofs.Turn.{advance_self, advance_trans, lands_on}
 use Rattle.abc_flow.specs.Kept.{Clashes, Meets}
 use Rattle.abc_flow.specs.declared.step.Met.TheVariants.{First, Joined, Same, Unequal}
+use Rattle.abc_flow.specs.Waits.{IsAdded}
 use Rattle.abc_flow.specs.Walking.{is_head, IsOpen, AllReach, AreReady, IsReady, MayGoOn, landing}
 
 pub clash_broken : (p : LinkedFile) (m : Routine) (t : ℕ) (old : State) (r : VerifyRule) → Derivable p m t old → broken_early p m t old ≡ Some r → Refutes p m t r
@@ -52,16 +53,27 @@ module _ (p : LinkedFile) (m : Routine) (heads : List Bool) (a : List (Option St
   pub merge_first : IsLinkedFile p → at a t ≡ None → IsOpen p m a → IsReady p m heads t n → AllReach p m heads ((t, n) ∷ []) a v (set a t (Some n)) (t ∷ v)
   merge_first g e o r = reach_one p m heads t n a (set a t (Some n)) v (t ∷ v) o (visits.merge_first p m _ _ (is_head heads) a v t n (let q = o.long in let b = r.inside in omega arith) r.head e (rank_most p (good p g) (layouts p) (omega arith) (omega arith) m n (derivable_sized p m t n r.derived)) o.derived r.derived)
 
+-- what waits, where a place was added to it
+added_in : (t : ℕ) (v w : List ℕ) → IsAdded t v w → (i : ℕ) → In i (t ∷ v) → In i w
+added_in t v w e i (inl q) = subst (λ (x : ℕ). In x w) (sym q) e.has
+added_in t v w e i (inr h) = e.keeps i h
+
+reach_added : (p : LinkedFile) (m : Routine) (heads : List Bool) (xs : List (ℕ × State)) (a c : List (Option State)) (v w : List ℕ) (t : ℕ) → IsAdded t v w → AllReach p m heads xs a v c (t ∷ v) → AllReach p m heads xs a v c w
+reach_added p m heads xs a c v w t e r = record { advances = record { long = r.advances.long; rises = r.advances.rises; marks = marks; keeps = e.keeps; falls = let f = r.advances.falls in let k = e.most in omega arith }; landed = r.landed; whole = r.whole }
+  where
+    marks : (i : ℕ) → (at c i ≡ at a i) ⊎ (In i w × (is_head heads i ≡ true))
+    marks i = elim (r.advances.marks i) [ inl same ↦ inl same | inr h ↦ inr (added_in t v w e i h.0, h.1) ]
+
 module _ (p : LinkedFile) (m : Routine) (heads : List Bool) (a c : List (Option State)) (v w : List ℕ) (t : ℕ) (n : State) where
-  pub met_first : IsLinkedFile p → Meets p a t n c First → w ≡ t ∷ v → IsOpen p m a → IsReady p m heads t n → AllReach p m heads ((t, n) ∷ []) a v c w
+  pub met_first : IsLinkedFile p → Meets p a t n c First → IsAdded t v w → IsOpen p m a → IsReady p m heads t n → AllReach p m heads ((t, n) ∷ []) a v c w
   met_first g k e o r =
       subst (λ (x : List (Option State)). AllReach p m heads ((t, n) ∷ []) a v x w) (sym k.1)
-      (subst (λ (x : List ℕ). AllReach p m heads ((t, n) ∷ []) a v (set a t (Some n)) x) (sym e) (merge_first p m heads a v t n g k.0 o r))
+      (reach_added p m heads ((t, n) ∷ []) a (set a t (Some n)) v w t e (merge_first p m heads a v t n g k.0 o r))
 
-  pub met_joined : Meets p a t n c Joined → w ≡ t ∷ v → IsOpen p m a → IsReady p m heads t n → AllReach p m heads ((t, n) ∷ []) a v c w
+  pub met_joined : Meets p a t n c Joined → IsAdded t v w → IsOpen p m a → IsReady p m heads t n → AllReach p m heads ((t, n) ∷ []) a v c w
   met_joined k e o r =
       subst (λ (x : List (Option State)). AllReach p m heads ((t, n) ∷ []) a v x w) (sym k.is)
-      (subst (λ (x : List ℕ). AllReach p m heads ((t, n) ∷ []) a v (set a t (Some k.joined)) x) (sym e) (merge_joined p m heads a v t n k.old k.joined k.known o r k.joins k.falls))
+      (reach_added p m heads ((t, n) ∷ []) a (set a t (Some k.joined)) v w t e (merge_joined p m heads a v t n k.old k.joined k.known o r k.joins k.falls))
 
   pub met_same : Meets p a t n c Same → IsOpen p m a → AllReach p m heads ((t, n) ∷ []) a v c v
   met_same k o = subst (λ (x : List (Option State)). AllReach p m heads ((t, n) ∷ []) a v x v) (sym k.is) (merge_same p m heads a v t n k.old k.known o k.holds)
@@ -86,7 +98,7 @@ take_next [] k d h = absurd (omega arith)
 take_next (x ∷ xs) zero d h = refl
 take_next {X} (x ∷ xs) (suc k) d h = ap (λ (ys : List X). x ∷ ys) (take_next xs k d (omega arith))
 
-in_at : {X : Type 0} (xs : List X) (k : ℕ) (d : X) → k < length xs → In (get_or xs k d) xs
+pub in_at : {X : Type 0} (xs : List X) (k : ℕ) (d : X) → k < length xs → In (get_or xs k d) xs
 in_at [] k d h = absurd (omega arith)
 in_at (x ∷ xs) zero d h = inl refl
 in_at (x ∷ xs) (suc k) d h = inr (in_at xs k d (omega arith))

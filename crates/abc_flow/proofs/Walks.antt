@@ -32,6 +32,7 @@ use Rattle.abc_flow.proofs.Covered.{empty_not, in_filter}
 use Rattle.abc_flow.proofs.Told.{told_less}
 use Rattle.abc_flow.specs.Handled.{IsCover}
 use Rattle.abc_flow.specs.Telling.{AreKept, HasTold}
+use Rattle.abc_flow.specs.Waits.{IsAdded}
 use Rattle.abc_flow.specs.declared.handled.Cover.{Cover}
 use Rattle.abc_stabs.specs.declared.stabs.Stabs.{Stabs}
 
@@ -245,3 +246,14 @@ module _ (p : LinkedFile) (m : Routine) (heads : List Bool) where
 
 pub no_code : (p : LinkedFile) (m : Routine) → length m.code ≡ 0 → Refutes p m 0 OffEnd
 no_code p m e = Broken (entry m) OffEnd Entry (ap (at_instr p m 0 (early_rules ++ late_rules) (entry m)) (slice_get_past m.code 0 (omega arith)))
+
+-- what waits may stand in any order
+pub waits_by : (p : LinkedFile) (m : Routine) (head : ℕ → Bool) (a : List (Option State)) (v w : List ℕ) → IsUnderWay p m head a v → ((i : ℕ) → In i v → In i w) → IsUnderWay p m head a w
+waits_by p m head a v w u f = record { long = u.long; start = u.start; settled = λ i s e. elim (u.settled i s e) [ inl h ↦ inl (f i h) | inr h ↦ inr h ]; derived = u.derived; heads = u.heads }
+
+pub waits_first : (p : LinkedFile) (m : Routine) (head : ℕ → Bool) (a : List (Option State)) (t : ℕ) (v w : List ℕ) → IsUnderWay p m head a (t ∷ []) → IsAdded t v w → IsUnderWay p m head a w
+waits_first p m head a t v w u r = waits_by p m head a (t ∷ []) w u only
+  where
+    only : (i : ℕ) → In i (t ∷ []) → In i w
+    only i (inl q) = subst (λ (x : ℕ). In x w) (sym q) r.has
+    only i (inr h) = absurd h

@@ -11,6 +11,7 @@ mod notes;
 mod states;
 mod step;
 mod telling;
+mod waiting;
 mod walk;
 
 pub use flow::Flow;

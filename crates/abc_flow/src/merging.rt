@@ -3,29 +3,31 @@ ghost use Rattle.abc_program.specs.Linked.{IsLinkedFile};
 ghost use Rattle.abc_shapes.specs.Instructions.{targets};
 ghost use Rattle.abc_typing.specs.Typing.{Derivable, HasOneShape, Refutes};
 ghost use Rattle.abc_flow.specs.Kept.{Clashes};
+ghost use Rattle.abc_flow.specs.Waits.{IsAdded};
 ghost use Rattle.abc_flow.specs.Walking.{AllReach, AreReady, IsOpen, IsReady, RefusedBy, landing, targets_at};
 ghost use Rattle.abc_flow.specs.declared.step.Refusal.TheVariants as refusals;
 
 use crate::flow::Flow;
 use crate::states::States;
 use crate::step::{Met, Refusal};
+use crate::waiting::Waiting;
 use abc_tables::Instr;
-use abc_typing::{Stack, State, VerifyRule};
+use abc_typing::{State, VerifyRule};
 use std::alloc::Global;
 
 /// A place gets a copy of a state, and work.
 pub(crate) fn raise(
     states: &mut States,
-    work: &mut Stack<u32>,
+    work: &mut Waiting,
     place: u32,
     alloc: Global,
     state: &State,
 ) -> Result<(), Refusal>
     requires { place < length states.old }
-    ensures { MatchResult result (λ _. (states.new ≡ set states.old place (Some state.now)) × (work.new ≡ place ∷ work.old)) (λ e. e ≡ refusals.NoMemory) }
+    ensures { MatchResult result (λ _. (states.new ≡ set states.old place (Some state.now)) × IsAdded place work.old work.new) (λ e. e ≡ refusals.NoMemory) }
 {
     states.set(place, alloc, state)?;
-    work.push(place)?;
+    work.add(place)?;
     Ok(())
 }
 
@@ -62,7 +64,7 @@ fn refused<F: Flow>(flow: &F, states: &States, place: u32, next: &State) -> Veri
 pub(crate) fn merge_at<F: Flow>(
     flow: &F,
     states: &mut States,
-    work: &mut Stack<u32>,
+    work: &mut Waiting,
     place: u32,
     next: &State,
 ) -> Result<(), Refusal>
@@ -73,11 +75,11 @@ pub(crate) fn merge_at<F: Flow>(
 {
     match states.meet(flow, place, next)? {
         Met::First => {
-            work.push(place)?;
+            work.add(place)?;
             Ok(())
         }
         Met::Joined => {
-            work.push(place)?;
+            work.add(place)?;
             Ok(())
         }
         Met::Same => Ok(()),
@@ -89,7 +91,7 @@ pub(crate) fn merge_at<F: Flow>(
 fn jump_to<F: Flow>(
     flow: &F,
     states: &mut States,
-    work: &mut Stack<u32>,
+    work: &mut Waiting,
     place: u32,
     state: &State,
 ) -> Result<(), Refusal>
@@ -105,7 +107,7 @@ fn jump_to<F: Flow>(
 fn jump_cases<F: Flow>(
     flow: &F,
     states: &mut States,
-    work: &mut Stack<u32>,
+    work: &mut Waiting,
     state: &State,
     cases: &[u32],
 ) -> Result<(), Refusal>
@@ -125,7 +127,7 @@ fn jump_cases<F: Flow>(
 fn jump_along<F: Flow>(
     flow: &F,
     states: &mut States,
-    work: &mut Stack<u32>,
+    work: &mut Waiting,
     instr: &Instr,
     state: &State,
 ) -> Result<(), Refusal>
@@ -156,7 +158,7 @@ fn jump_along<F: Flow>(
 pub(crate) fn jump<F: Flow>(
     flow: &F,
     states: &mut States,
-    work: &mut Stack<u32>,
+    work: &mut Waiting,
     place: u32,
     state: &State,
 ) -> Result<(), Refusal>

@@ -12,10 +12,11 @@ use crate::flow::Flow;
 use crate::merging::merge_at;
 use crate::states::States;
 use crate::step::{Merged, Refusal};
+use crate::waiting::Waiting;
 use abc_base::NoMemory;
 use abc_program::Kind;
 use abc_stabs::Stabs;
-use abc_typing::{Catch, Stack, State};
+use abc_typing::{Catch, State};
 
 /// What was told together with what was seen, if that is more than what was told. States that have not one shape, of which there
 /// are none here, would not be joined: then it is what was seen.
@@ -61,7 +62,7 @@ fn catch_in(state: &mut State, kind: Kind) -> Result<(), NoMemory>
 fn catch_one<F: Flow>(
     flow: &F,
     states: &mut States,
-    work: &mut Stack<u32>,
+    work: &mut Waiting,
     caught: &mut State,
     handler: Catch,
 ) -> Result<(), Refusal>
@@ -86,7 +87,7 @@ fn handler_at(handlers: &[Catch], number: u32) -> Option<Catch>
 fn catch_numbered<F: Flow>(
     flow: &F,
     states: &mut States,
-    work: &mut Stack<u32>,
+    work: &mut Waiting,
     caught: &mut State,
     number: u32,
 ) -> Result<(), Refusal>
@@ -109,7 +110,7 @@ fn catch_all<F: Flow>(
     flow: &F,
     stabs: &Stabs,
     states: &mut States,
-    work: &mut Stack<u32>,
+    work: &mut Waiting,
     caught: &mut State,
     node: u32,
 ) -> Result<(), Refusal>
@@ -133,7 +134,7 @@ fn tell_more<F: Flow>(
     stabs: &Stabs,
     told: &mut States,
     states: &mut States,
-    work: &mut Stack<u32>,
+    work: &mut Waiting,
     caught: State,
     node: u32,
 ) -> Result<(), Refusal>
@@ -156,7 +157,7 @@ fn tell_at<F: Flow>(
     stabs: &Stabs,
     told: &mut States,
     states: &mut States,
-    work: &mut Stack<u32>,
+    work: &mut Waiting,
     seen: &State,
     node: u32,
 ) -> Result<(), Refusal>
@@ -185,7 +186,7 @@ pub(crate) fn tell<F: Flow>(
     stabs: &Stabs,
     told: &mut States,
     states: &mut States,
-    work: &mut Stack<u32>,
+    work: &mut Waiting,
     seen: &State,
     place: u32,
 ) -> Result<(), Refusal>

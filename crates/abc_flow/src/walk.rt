@@ -15,9 +15,10 @@ use crate::notes::note;
 use crate::states::States;
 use crate::step::{Onward, Refusal, Step, Trial, Written};
 use crate::telling::tell;
+use crate::waiting::Waiting;
 use abc_base::{NoMemory, Table};
 use abc_program::Kind;
-use abc_typing::{Stack, State, VerifyRule};
+use abc_typing::{State, VerifyRule};
 use std::alloc::Global;
 
 /// A state flows to the places that an instruction names, if the step leads there.
@@ -25,7 +26,7 @@ use std::alloc::Global;
 fn jump_if<F: Flow>(
     flow: &F,
     states: &mut States,
-    work: &mut Stack<u32>,
+    work: &mut Waiting,
     jumps: bool,
     place: u32,
     state: &State,
@@ -47,7 +48,7 @@ fn jump_if<F: Flow>(
 fn arrive<F: Flow>(
     flow: &F,
     states: &mut States,
-    work: &mut Stack<u32>,
+    work: &mut Waiting,
     step: Step,
     place: u32,
     state: &State,
@@ -74,7 +75,7 @@ fn arrive<F: Flow>(
 fn pass<F: Flow>(
     flow: &F,
     states: &mut States,
-    work: &mut Stack<u32>,
+    work: &mut Waiting,
     cover: Cover,
     seen: &mut Table<Kind>,
     written: Written,
@@ -108,7 +109,7 @@ fn pass<F: Flow>(
 fn pace<F: Flow>(
     flow: &F,
     states: &mut States,
-    work: &mut Stack<u32>,
+    work: &mut Waiting,
     cover: Cover,
     seen: &mut Table<Kind>,
     start: u32,
@@ -152,7 +153,7 @@ fn walk_from<F: Flow>(
     handled: &Handled,
     told: &mut States,
     states: &mut States,
-    work: &mut Stack<u32>,
+    work: &mut Waiting,
     seen: &mut State,
     start: u32,
     now: &mut State,
@@ -188,7 +189,7 @@ fn visit<F: Flow>(
     flow: &F,
     handled: &Handled,
     states: &mut States,
-    work: &mut Stack<u32>,
+    work: &mut Waiting,
     walker: &mut Walker,
     place: u32,
 ) -> Result<(), Refusal>
@@ -222,7 +223,7 @@ fn visit<F: Flow>(
 fn check_code<F: Flow>(
     flow: &F,
     states: &mut States,
-    work: &mut Stack<u32>,
+    work: &mut Waiting,
     walker: &mut Walker,
 ) -> Result<(), Refusal>
     requires linked { IsLinkedFile (F.file flow.now) }
@@ -247,7 +248,7 @@ fn check_code<F: Flow>(
 #[derive(Drop)]
 pub struct Memory {
     states: States,
-    work: Stack<u32>,
+    work: Waiting,
     walker: Walker,
 }
 
@@ -256,7 +257,7 @@ impl Memory {
     pub fn new(alloc: Global) -> Memory {
         Memory {
             states: States::new(alloc),
-            work: Stack::new(alloc),
+            work: Waiting::new(alloc),
             walker: Walker {
                 now: no_state(alloc),
                 seen: no_state(alloc),

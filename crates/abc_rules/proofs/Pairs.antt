@@ -89,3 +89,8 @@ first_found test xs d i lt e = let m = from_found test 0 xs d i lt e in (m.0, m.
 
 pub first_low : {K : Type 0} (test : K → Bool) (xs : List K) (d : K) (i j : ℕ) → i < length xs → test (get_or xs i d) ≡ true → first test xs ≡ Some j → j ≤ i
 first_low test xs d i j lt e f = let m = first_found test xs d i lt e in let q : m.0 ≡ j = let h = m.1 in cc in let h = m.2 in omega arith
+
+pub few_pairs : {A : Type 0} (clash : A → A → Bool) (xs : List A) → length xs < 2 → any_pair clash xs ≡ false
+few_pairs clash [] h = refl
+few_pairs clash (x ∷ []) h = refl
+few_pairs clash (x ∷ y ∷ xs) h = absurd (omega arith)

@@ -200,11 +200,22 @@ impl SameName<'_> {
         any_clash(alloc, keys.as_slice())
     }
 
+    /// Whether two traits of a table clash. Of fewer than two none do.
+    #[tactic(auto, using(crate::proofs::Pairs::few_pairs))]
+    fn is_name_shared(&self, alloc: Global, table: &[TraitInfo]) -> Result<bool, NoMemory>
+        ensures { IfOk result (λ b. b ≡ any_pair (names_clash self.now.names.abc.now) table.now) }
+    {
+        if table.len() < 2 {
+            return Ok(false);
+        }
+        self.has_same_name(alloc, table)
+    }
+
     fn breaks(&self, alloc: Global, item: Item) -> Result<bool, NoMemory>
         ensures { IfOk result (λ b. b ≡ any_table (any_pair (names_clash self.now.names.abc.now)) self.now.names.abc.now item.kind item.index) }
     {
-        let of_instances = self.has_same_name(alloc, instance_table(self.names.abc, item))?;
-        let own = self.has_same_name(alloc, own_table(self.names.abc, item))?;
+        let of_instances = self.is_name_shared(alloc, instance_table(self.names.abc, item))?;
+        let own = self.is_name_shared(alloc, own_table(self.names.abc, item))?;
         Ok(of_instances || own)
     }
 }

@@ -67,12 +67,23 @@ fn has_same_slot(alloc: Global, table: &[TraitInfo]) -> Result<bool, NoMemory>
     Ok(false)
 }
 
+/// Whether two traits of a table have one slot number. Of fewer than two none have.
+#[tactic(auto, using(crate::proofs::Pairs::few_pairs))]
+fn is_slot_shared(alloc: Global, table: &[TraitInfo]) -> Result<bool, NoMemory>
+    ensures { IfOk result (λ b. b ≡ any_pair slots_clash table.now) }
+{
+    if table.len() < 2 {
+        return Ok(false);
+    }
+    has_same_slot(alloc, table)
+}
+
 impl SameSlot<'_> {
     fn breaks(&self, alloc: Global, item: Item) -> Result<bool, NoMemory>
         ensures { IfOk result (λ b. b ≡ any_table (any_pair slots_clash) self.now.abc.now item.kind item.index) }
     {
-        let of_instances = has_same_slot(alloc, instance_table(self.abc, item))?;
-        let own = has_same_slot(alloc, own_table(self.abc, item))?;
+        let of_instances = is_slot_shared(alloc, instance_table(self.abc, item))?;
+        let own = is_slot_shared(alloc, own_table(self.abc, item))?;
         Ok(of_instances || own)
     }
 }

@@ -8,6 +8,7 @@ use Rattle.abc_worklist.proofs.Turn.{begins}
 use Rattle.abc_worklist.proofs.Heads.{heads_typing}
 use Rattle.abc_flow.specs.Telling.{IsHandled}
 use Rattle.abc_flow.proofs.Told.{kept_first}
+use Rattle.abc_flow.proofs.Walks.{waits_by, waits_first}
 use Rattle.abc_flow.specs.Walking.{is_head}
 use Rattle.abc_typing.specs.declared.catch.Catch.{Catch}
 use Rattle.abc_flow.proofs.walk.check_code.Goals as goal
@@ -26,18 +27,20 @@ loop-place-init g c =
     let m = g.F.Flow.routine c.args.flow.now in
     let h = is_head (g.F.Flow.heads c.args.flow.now) in
     let n : c.renew-2.new.self ≡ replicate (length m.code) None = c.in_ok-renew-2.ensures ∙ ap (λ (k : ℕ). replicate k None) c.len-2.ensures in
-    let e : c.raise.new.states ≡ set (replicate (length m.code) None) 0 (Some (entry m)) = c.in_ok-raise.ensures.0 ∙ ap (λ (xs : List (Option State)). set xs 0 (Some c.in_ok-entry.entry)) n ∙ ap (λ (s : State). set (replicate (length m.code) None) 0 (Some s)) c.in_ok-entry.ensures in
-    let w : c.raise.new.work ≡ 0 ∷ [] = c.in_ok-raise.ensures.1 ∙ ap (λ (xs : List ℕ). 0 ∷ xs) c.clear.ensures in (
-      subst (λ (x : List (Option State)). IsUnderWay p m h x c.raise.new.work) (sym e) (subst (λ (x : List ℕ). IsUnderWay p m h (set (replicate (length m.code) None) 0 (Some (entry m))) x) (sym w) (begins p m h c.requires.some c.requires.heads.first)),
+    let e : c.raise.new.states ≡ set (replicate (length m.code) None) 0 (Some (entry m)) = c.in_ok-raise.ensures.0 ∙ ap (λ (xs : List (Option State)). set xs 0 (Some c.in_ok-entry.entry)) n ∙ ap (λ (s : State). set (replicate (length m.code) None) 0 (Some s)) c.in_ok-entry.ensures in (
+      subst (λ (x : List (Option State)). IsUnderWay p m h x c.raise.new.work) (sym e) (waits_first p m h (set (replicate (length m.code) None) 0 (Some (entry m))) 0 _ c.raise.new.work (begins p m h c.requires.some c.requires.heads.first) c.in_ok-raise.ensures.1),
       kept_first p m (g.F.Flow.heads c.args.flow.now) c.in_ok-handled.handled.all c.renew.new.self c.raise.new.states c.nodes.result c.nodes.ensures.is c.in_ok-renew.ensures,
     )
 
 pub visit-requires-clause-handled : goal.visit-requires-clause-handled
 visit-requires-clause-handled g c = subst (λ (hs : List Catch). IsHandled hs (length (g.F.Flow.routine c.args.flow.now).code) c.in_ok-handled.handled) c.handlers.ensures (subst (λ (n : ℕ). IsHandled c.handlers.result.now n c.in_ok-handled.handled) c.len.ensures c.in_ok-handled.ensures)
 
+pub visit-requires-clause-under_way : goal.visit-requires-clause-under_way
+visit-requires-clause-under_way g c = waits_by _ _ _ _ _ _ c.loop-place.invariant.0 c.in-Some.ensures.keeps
+
 pub returns : goal.returns
 returns g c =
     let p = g.F.Flow.file c.args.flow.now in
     let m = g.F.Flow.routine c.args.flow.now in
     let h = is_head (g.F.Flow.heads c.args.flow.now) in
-    (walked p m h c.loop-place.states, heads_typing p m h c.loop-place.states (subst (λ (w : List ℕ). IsUnderWay p m h c.loop-place.states w) c.in_default.ensures.0 c.loop-place.invariant.0))
+    (walked p m h c.loop-place.states, heads_typing p m h c.loop-place.states (subst (λ (w : List ℕ). IsUnderWay p m h c.loop-place.states w) c.in_default.ensures c.loop-place.invariant.0))
