@@ -46,6 +46,8 @@ fn put_body_line(body: &Body, _abc: &Abc, out: &mut Vec<u8>) -> Result<(), NoMem
     Ok(())
 }
 
+/// The line of a label.
+#[inline(never)]
 #[tactic(auto, using(abc_varint::proofs::Putting::stays, std::proofs::Common::append_assoc))]
 fn put_label_line(n: u32, out: &mut Vec<u8>) -> Result<(), NoMemory>
     ensures { Puts out.old.items out.new.items result (label_bytes n) }
@@ -56,6 +58,7 @@ fn put_label_line(n: u32, out: &mut Vec<u8>) -> Result<(), NoMemory>
 }
 
 /// The line of an instruction's label, if the body names it.
+#[inline(always)]
 fn put_label_if(body: &Body, marks: &[bool], n: usize, out: &mut Vec<u8>) -> Result<(), NoMemory>
     requires marked { AreMarks marks.now (body_targets (body.now)) }
     requires within { n < length marks.now }

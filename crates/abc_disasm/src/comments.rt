@@ -2,6 +2,7 @@
 ghost use Rattle.std.specs.Prelude.{◌≡◌, ◌++◌, ◌≤◌, ◌-◌, length, take, codes, Some};
 ghost use Rattle.abc_escape.specs.Escapes.{escaped};
 ghost use Rattle.abc_lines.specs.Listing.{multiname_comment, name_comment, name_in, operand_comment, quoted_comment, string_at as string_of};
+ghost use Rattle.abc_tables.specs.declared.opcodes.Pool.TheVariants as pools;
 ghost use Rattle.abc_varint.specs.Puts.{Puts};
 
 use crate::tokens::{push_byte, put, put_escaped};
@@ -25,11 +26,15 @@ pub fn string_at(abc: &Abc, n: u32) -> &[u8]
 }
 
 /// The front of a text.
-#[tactic(auto, using(abc_varint::proofs::Putting::stays, std::proofs::Common::append_assoc))]
+#[tactic(auto, using(abc_varint::proofs::Putting::stays, abc_varint::proofs::Putting::stays_whole, std::proofs::Common::append_assoc))]
 pub fn put_quoted_comment(text: &[u8], out: &mut Vec<u8>) -> Result<(), NoMemory>
     ensures { Puts out.old.items out.new.items result (quoted_comment text.now) }
 {
-    put(b" ; \"", out)?;
+    out.reserve(SHOWN + 5)?;
+    out.push_reserved(b' ');
+    out.push_reserved(b';');
+    out.push_reserved(b' ');
+    out.push_reserved(b'"');
     put_escaped(&text[..text.len().min(SHOWN)], out)?;
     push_byte(b'"', out)?;
     Ok(())
@@ -70,15 +75,34 @@ pub fn put_multiname_comment(abc: &Abc, n: u32, out: &mut Vec<u8>) -> Result<(),
     put_name_comment(abc, name, out)
 }
 
+/// The name that an instruction's first operand is, where it is in range and not 0.
+fn put_name_operand(abc: &Abc, n: u32, out: &mut Vec<u8>) -> Result<(), NoMemory>
+    ensures { Puts out.old.items out.new.items result (operand_comment abc.now pools.Name n) }
+{
+    if n >= 1 && n as usize <= abc.names.len() {
+        return put_multiname_comment(abc, n, out);
+    }
+    Ok(())
+}
+
+/// The string that an instruction's first operand is, where it is in range and not 0.
+fn put_text_operand(abc: &Abc, n: u32, out: &mut Vec<u8>) -> Result<(), NoMemory>
+    ensures { Puts out.old.items out.new.items result (operand_comment abc.now pools.Text n) }
+{
+    if n >= 1 && n as usize <= abc.strings.len() {
+        return put_quoted_comment(string_at(abc, n), out);
+    }
+    Ok(())
+}
+
 /// The name or the string that an instruction's first operand is, where it is in range and not 0.
+#[inline(always)]
 pub fn put_operand_comment(abc: &Abc, pool: Pool, n: u32, out: &mut Vec<u8>) -> Result<(), NoMemory>
     ensures { Puts out.old.items out.new.items result (operand_comment abc.now pool n) }
 {
     match pool {
-        Pool::Name if n >= 1 && n as usize <= abc.names.len() => put_multiname_comment(abc, n, out),
-        Pool::Text if n >= 1 && n as usize <= abc.strings.len() => {
-            put_quoted_comment(string_at(abc, n), out)
-        }
+        Pool::Name => put_name_operand(abc, n, out),
+        Pool::Text => put_text_operand(abc, n, out),
         _ => Ok(()),
     }
 }

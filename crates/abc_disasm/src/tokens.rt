@@ -87,6 +87,7 @@ fn put_digits(n: u32, out: &mut Vec<u8>) -> Result<(), NoMemory>
 }
 
 /// A space and a number.
+#[inline(always)]
 #[tactic(auto, using(abc_varint::proofs::Putting::stays, abc_varint::proofs::Putting::stays_whole, std::proofs::Common::append_assoc))]
 pub fn put_number(n: u32, out: &mut Vec<u8>) -> Result<(), NoMemory>
     ensures { Puts out.old.items out.new.items result (0x20 ∷ decimal n) }
