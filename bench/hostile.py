@@ -91,7 +91,7 @@ class Table:
         status, clock, cpu, peak = measured(self.abc, words, path, out, self.seconds)
         shown = "run, greatest" if words == GREATEST else words[0]
         print(LINE.format(name, shown, status, f"{clock:.2f}", f"{cpu:.2f}", f"{peak / 1e6:.0f}"), flush=True)
-        wants_memory = words == ["check"] and name in hurting.TOO_MANY_VALUES
+        wants_memory = words == ["check"] and name in hurting.TOO_MUCH
         if status > 128 or (status == NO_MEMORY) != wants_memory or peak > MOST and words != GREATEST:
             self.bad.append(f"{shown} {name}")
         return status

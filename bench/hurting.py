@@ -1,6 +1,6 @@
 """Programs that want to hurt: each makes as much of one thing as the limits of a run allow, or makes the verifier work as much as
 the bytes of a file can. As assembly texts and as files."""
-from linking import METHOD, PRIVATE, body
+from linking import INTERFACE, METHOD, PRIVATE, body, class_file
 from spelling import HEAD, SIZE, counted, number, pool, text as spelled
 from statements import distance
 from verifying import exception, of_bodies
@@ -171,6 +171,13 @@ def long_set(count=1 << 20):
     return of_names(count, count, [counted([number(n + 1) for n in range(count)])], [multiname(n + 1, 1) for n in range(count)], 1)
 
 
+def wide_interfaces(count=2000):
+    """As many interfaces that each name as many others, of which each has as many."""
+    between, one, below = (list(range(n * count + 1, n * count + count + 1)) for n in range(1, 4))
+    named = [between] * count + [one[:1]] * count + [below] + [[]] * (2 * count - 1)
+    return class_file([0] * len(named), INTERFACE, named)
+
+
 FILES = {
     "nops": nops,
     "to_one_place": to_one_place,
@@ -184,9 +191,10 @@ FILES = {
     "wide_branches": wide_branches,
     "wide_bodies": wide_bodies,
     "long_set": long_set,
+    "wide_interfaces": wide_interfaces,
 }
-# `check` answers that memory ran out, since the states of a body would have too many values.
-TOO_MANY_VALUES = ("states", "scope_states", "told_states")
+# `check` answers that memory ran out, since more would be made than is made of a file.
+TOO_MUCH = ("states", "scope_states", "told_states", "wide_interfaces")
 
 
 def linked(strings, names, methods, items, bodies):

@@ -6,3 +6,4 @@ pub mod Uniting
 pub mod Marking
 pub mod Settling
 pub use Rattle.abc_program.proofs.Finding
+pub use Rattle.abc_program.proofs.Tree

@@ -63,7 +63,7 @@ fn push_all(list: &mut Vec<u32>, places: &mut Vec<u32>, numbers: &[u32]) -> Resu
 }
 
 /// The set of a class, as far as it is there.
-fn keys_at(sets: &Table<Option<IndexSet<u32>>>, class: u32) -> &[u32]
+pub(crate) fn keys_at(sets: &Table<Option<IndexSet<u32>>>, class: u32) -> &[u32]
     ensures { result.now ≡ keys_in_sets sets.now class }
 {
     match sets.find(class as usize) {

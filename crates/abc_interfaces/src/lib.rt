@@ -13,4 +13,4 @@ pub use abc_program::{
     Owner, Part, SlotInfo, Start, Ty, check_rules, meanings_of, part_key,
 };
 pub use interfaces::Interfaces;
-pub use sets::MOST_INTERFACES;
+pub use sets::{MOST_GONE_OVER, MOST_INTERFACES};

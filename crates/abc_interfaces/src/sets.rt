@@ -4,7 +4,7 @@ ghost use Rattle.abc_graph.specs.Graph.{IsGraph, targets};
 ghost use Rattle.abc_interfaces.specs.Sets.{AreSets, AreUnset, HasSets, IsSetOf, ListsBelow, ListsMarked, Settles, SettlesEach, is_settled as is_settled_in, keys_at as keys_in_sets};
 ghost use Rattle.abc_program.specs.Interfaces.{class_graph};
 
-use crate::gathered::given;
+use crate::gathered::{given, keys_at};
 use crate::set::set_of;
 use abc_base::{NoMemory, Table};
 use abc_graph::reached;
@@ -16,6 +16,26 @@ use std::alloc::Global;
 /// The most numbers that all sets have. Where there would be more, memory is said to have run out: of a chain of interfaces, each of
 /// which names the next, the sets have numbers by the square of its length.
 pub const MOST_INTERFACES: usize = 1 << 24;
+
+/// The most numbers that are gone over to make all sets. Where there would be more, memory is said to have run out: many
+/// classes that each name many, of which each has many, go over numbers by the product of the three.
+pub const MOST_GONE_OVER: usize = 1 << 30;
+
+/// How many numbers more the sets may have, and how many more may be gone over to make them.
+#[derive(Drop)]
+struct Room {
+    kept: usize,
+    gone_over: usize,
+}
+
+/// How many numbers the sets of some classes have.
+fn numbers_in(sets: &Table<Option<IndexSet<u32>>>, classes: &[u32]) -> usize {
+    let mut count = classes.len();
+    for class in classes {
+        count = count.saturating_add(keys_at(sets, *class).len());
+    }
+    count
+}
 
 /// Whether the set of a class is there.
 fn is_settled(sets: &Table<Option<IndexSet<u32>>>, class: u32) -> bool
@@ -149,7 +169,7 @@ fn settle(
     graph: &Table<Table<u32>>,
     sets: &mut Table<Option<IndexSet<u32>>>,
     places: &mut Vec<u32>,
-    room: &mut usize,
+    room: &mut Room,
     class: u32,
 ) -> Result<(), NoMemory>
     requires graph { graph.now ≡ class_graph abc.now }
@@ -165,8 +185,10 @@ fn settle(
     if class as usize >= sets.len() {
         return Ok(());
     }
+    let steps = numbers_in(sets, targets_of(graph, class));
+    room.gone_over = room.gone_over.checked_sub(steps).ok_or(NoMemory)?;
     let settled = set_for(alloc, abc, graph, sets, places, class)?;
-    *room = room.checked_sub(settled.len()).ok_or(NoMemory)?;
+    room.kept = room.kept.checked_sub(settled.len()).ok_or(NoMemory)?;
     sets.set(class as usize, Some(settled));
     Ok(())
 }
@@ -198,7 +220,10 @@ fn settle_each(
 {
     let mut sets = unset(alloc, graph.len())?;
     let mut places = vec![in alloc; 0u32; graph.len()]?;
-    let mut room = MOST_INTERFACES;
+    let mut room = Room {
+        kept: MOST_INTERFACES,
+        gone_over: MOST_GONE_OVER,
+    };
     for class in nodes {
         settle(alloc, abc, graph, &mut sets, &mut places, &mut room, *class)?;
     }
