@@ -51,6 +51,14 @@ along_step : (l : LinkedFile) (t : List ℕ) (n : Name) (s : Skip) (held : Bool)
 unfolding along
 along_step l t n s held x f = ap (along l t n s held) (way_some (base l) (falling l.file l.parts f.numbering) x)
 
+-- what the first layout of a way gives, and then what those above it give
+pub along_first : (l : LinkedFile) (t : List ℕ) (n : Name) (s : Skip) (below held : Bool) (x : ℕ) (first : Found) → IsLinkedFile l → held ≡ (below || holds_protected l n.spaces x) → first ≡ given l t n s x held
+    → or_next first (along l t n s held (way (base l) (base l x))) ≡ along l t n s below (way (base l) (Some x))
+along_first l t n s below held x first f hs gs =
+    ap (λ g. or_next g (along l t n s held (way (base l) (base l x)))) gs
+    ∙ ap (λ b. or_next (given l t n s x b) (along l t n s b (way (base l) (base l x)))) hs
+    ∙ sym (along_step l t n s below x f)
+
 pub along_end : (l : LinkedFile) (t : List ℕ) (n : Name) (s : Skip) (held : Bool) → along l t n s held (way (base l) None) ≡ Missing
 unfolding along
 along_end l t n s held = ap (along l t n s held) (way_none (base l))

@@ -7,3 +7,5 @@ pub mod SlotPlaces
 pub mod Stands
 pub mod Numerals
 pub mod ScriptsFirst
+pub mod NoTraits
+pub mod SameSpace

@@ -1,6 +1,6 @@
 -- Asking the traits of a text finds what asking all traits does.
-use Rattle.std.proofs.Common.{◌≡◌, ℕ, zero, suc, ◌+◌, ◌<◌, Bool, true, false, not, ne_eqb, ◌&&◌, ◌||◌, List, [], ◌∷◌, ◌++◌, length, map, cond, refl, sym, ap, ◌∙◌, arith, get_or, take, drop, add-one, drop-cons}
-use Rattle.std.proofs.lemmas.List.{length-append, length-map}
+use Rattle.std.proofs.Common.{◌≡◌, ℕ, zero, suc, ◌+◌, ◌<◌, Bool, true, false, not, ne_eqb, ◌&&◌, ◌||◌, List, [], ◌∷◌, ◌++◌, length, map, cond, refl, sym, ap, subst, ◌∙◌, arith, get_or, take, drop, add-one, drop-cons}
+use Rattle.std.proofs.lemmas.List.{append-nil, length-append, length-map}
 use Rattle.std.proofs.lemmas.List.Elements.{filter-append}
 use Rattle.std.specs.Prelude.{Some, None, codes, slice_get}
 use Rattle.std.specs.List.{flat_map, list_any}
@@ -235,6 +235,13 @@ pub host_table : (l : LinkedFile) (t : List ℕ) (n : Name) (s : Skip) (x : ℕ)
 host_table l t n s x held c f is other e = table_given l t n s x held f (λ q. let r : parts.Host c ≡ parts.Host hosts.Class = sym is ∙ q in let k : c ≡ hosts.Class = cc in other k) (λ b h q. let r : parts.Host c ≡ parts.Catch b h = sym is ∙ q in cc) e
 
 -- ---- the loop over places
+
+-- the only place of a list
+pub only_inside : (ps : List ℕ) (p n : ℕ) → ps ≡ p ∷ [] → ((i : ℕ) → i < length ps → get_or ps i 0 < n) → p < n
+only_inside ps p n e h = subst (λ (qs : List ℕ). get_or qs 0 0 < n) e (h 0 (omega (arith, ap length e)))
+
+pub only_given : (l : LinkedFile) (n : Name) (s : Skip) (x : ℕ) (held : Bool) (at : ℕ → List Trait) (ps : List ℕ) (p : ℕ) → ps ≡ p ∷ [] → gives l n s x held (at p) ≡ gives l n s x held (flat_map at ps)
+only_given l n s x held at ps p e = ap (gives l n s x held) (sym (append-nil (at p))) ∙ sym (ap (λ (qs : List ℕ). gives l n s x held (flat_map at qs)) e)
 
 -- what was found, and then what the place gives and the rest gives, is what all give
 pub place_next : (l : LinkedFile) (n : Name) (s : Skip) (x : ℕ) (held : Bool) (at : ℕ → List Trait) (ps : List ℕ) (i : ℕ) (so_far found next whole : Found) → i < length ps

@@ -138,7 +138,7 @@ an_array l h n s o ob e = ap (λ b. answer l h n s (cond b (OfLength o ∷ eleme
 
 -- ---- an object and its delegates
 
-things_step : (l : LinkedFile) (h : Heap) (n : Name) (s : Skip) (x : ℕ) → IsFalling (delegate_at h)
+pub things_step : (l : LinkedFile) (h : Heap) (n : Name) (s : Skip) (x : ℕ) → IsFalling (delegate_at h)
     → answer l h n s (things_along h (Some x)) ≡ or_next (answer l h n s (own_things h x)) (answer l h n s (things_along h (delegate_at h x)))
 things_step l h n s x f =
     ap (λ xs. answer l h n s (flat_map (own_things h) xs)) (way_some (delegate_at h) f x)

@@ -2,3 +2,4 @@ pub mod Slots
 pub mod Steps
 pub mod Named
 pub mod Scripts
+pub mod NoTraits

@@ -1,14 +1,15 @@
-ghost use Rattle.std.specs.Prelude.{◌≡◌, ◌<◌, ◌^◌, ◌||◌, ◌∷◌, [], ℕ, Some, get_or, length};
+ghost use Rattle.std.specs.Prelude.{◌≡◌, ◌<◌, ◌^◌, ◌||◌, ◌∷◌, [], ℕ, Some, MatchOption, get_or, length};
 ghost use Rattle.std.specs.List.{flat_map, list_any};
 ghost use Rattle.abc_base.specs.declared.names.HostClass.TheVariants as hosts;
-ghost use Rattle.abc_graph.specs.Ways.{before, way};
+ghost use Rattle.abc_graph.specs.Ways.{IsBelow, before, way};
 ghost use Rattle.abc_lookup.specs.Slots.{own_at};
-ghost use Rattle.abc_lookup.specs.Steps.{along, fits_held, given, gives, member_found, tried, with_text};
+ghost use Rattle.abc_lookup.specs.Steps.{along, fits_held, layout_number, given, gives, member_found, tried, with_text};
 ghost use Rattle.abc_program.specs.Linked.{IsLayout, base};
 ghost use Rattle.abc_program.specs.Numbering.{part_at};
 ghost use Rattle.abc_program.specs.Traits.{own_table_of};
 ghost use Rattle.abc_program.specs.declared.part.Part.TheVariants as parts;
 ghost use Rattle.abc_search.specs.Candidates.{answer, found_as, traits};
+ghost use Rattle.abc_search.specs.Results.{or_next};
 ghost use Rattle.abc_search.specs.Spaces.{holds_protected as does_hold_protected};
 ghost use Rattle.abc_search.specs.Traits.{slots_under as slots_below, traits_from};
 
@@ -19,6 +20,17 @@ use abc_base::HostClass;
 use abc_link::{LayoutId, Part};
 use abc_names::{qname_at, text_at};
 use abc_search::{Declared, Found, Member, TraitSpace};
+
+/// The place of a list that has only that one.
+#[inline(always)]
+fn only_of(places: &[u32]) -> Option<u32>
+    ensures { MatchOption result (Unit {0}) (λ p. places.now ≡ p ∷ []) }
+{
+    match places {
+        [place] => Some(*place),
+        _ => None,
+    }
+}
 
 impl Query<'_> {
     /// Whether the name holds the protected namespace of a layout's class.
@@ -153,8 +165,8 @@ impl Query<'_> {
     }
 
     /// What the traits at some places of a layout's table give.
-    #[inline(always)]
-    fn try_places(&self, x: LayoutId, held: bool, places: &[u32]) -> Found
+    #[inline(never)]
+    fn try_each(&self, x: LayoutId, held: bool, places: &[u32]) -> Found
         requires layout { IsLayout self.now.l.now x }
         requires places { (i : ℕ) → i < length places.now → get_or places.now i 0 < length (own_table_of self.now.l.now x.0) }
         ensures { result ≡ gives self.now.l.now self.now.name self.now.skip x.0 held (flat_map (own_at self.now.l.now x.0) places.now) }
@@ -167,6 +179,19 @@ impl Query<'_> {
             }
         }
         so_far
+    }
+
+    /// What the traits at some places of a layout's table give; most often there is one.
+    #[inline(always)]
+    fn try_places(&self, x: LayoutId, held: bool, places: &[u32]) -> Found
+        requires layout { IsLayout self.now.l.now x }
+        requires places { (i : ℕ) → i < length places.now → get_or places.now i 0 < length (own_table_of self.now.l.now x.0) }
+        ensures { result ≡ gives self.now.l.now self.now.name self.now.skip x.0 held (flat_map (own_at self.now.l.now x.0) places.now) }
+    {
+        match only_of(places) {
+            Some(place) => self.try_place(x, held, place),
+            None => self.try_each(x, held, places),
+        }
     }
 
     /// What the traits of a layout's table give.
@@ -219,17 +244,17 @@ impl Query<'_> {
         held || self.holds_protected(x)
     }
 
-    /// What the traits of a layout and its bases give, where `below` says that the name holds the protected namespace of a
-    /// class on the way to it.
-    #[inline(always)]
-    fn find_from(&self, from: LayoutId, below: bool) -> Found
-        requires { IsLayout self.now.l.now from }
-        ensures { result ≡ along self.now.l.now self.now.text.now self.now.name self.now.skip below (way (base self.now.l.now) (Some from.0)) }
+    /// What was found first, or else what the traits of a layout and its bases give, where `below` says that the name holds the
+    /// protected namespace of a class on the way to them.
+    #[inline(never)]
+    fn find_above(&self, first: Found, above: Option<LayoutId>, below: bool) -> Found
+        requires { IsBelow (layout_number above) (length self.now.l.now.parts) }
+        ensures { result ≡ or_next first (along self.now.l.now self.now.text.now self.now.name self.now.skip below (way (base self.now.l.now) (layout_number above))) }
     {
         self.l.linked_law();
         let mut held = below;
-        let mut so_far = Found::Missing;
-        let mut at = Some(from);
+        let mut so_far = first;
+        let mut at = above;
         while let Some(x) = at {
             held = self.holds_up_to(held, x);
             so_far = so_far.or(self.find_in_layout(x, held));
@@ -239,6 +264,23 @@ impl Query<'_> {
             at = self.l.base(x);
         }
         so_far
+    }
+
+    /// What the traits of a layout and its bases give, where `below` says that the name holds the protected namespace of a
+    /// class on the way to it.
+    #[inline(always)]
+    fn find_from(&self, from: LayoutId, below: bool) -> Found
+        requires { IsLayout self.now.l.now from }
+        ensures { result ≡ along self.now.l.now self.now.text.now self.now.name self.now.skip below (way (base self.now.l.now) (Some from.0)) }
+    {
+        self.l.linked_law();
+        let held = self.holds_up_to(below, from);
+        let first = self.find_in_layout(from, held);
+        if first.is_hit() {
+            return first;
+        }
+        let above = self.l.base(from);
+        self.find_above(first, above, held)
     }
 
     /// Whether the name holds the protected namespace of a class on the way from a layout to one above it.

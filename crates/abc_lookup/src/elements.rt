@@ -83,6 +83,7 @@ fn name_of(text: &[u8]) -> Option<ElementName>
 
 /// The element name that a text is on an object. It answers `None` where the object is no array, or the text neither `length`
 /// nor the decimal text of a number.
+#[inline(always)]
 pub fn element_named(l: &Linked, a: &Arena, o: ObjId, text: Span) -> Option<ElementName>
     requires object { IsObject a.now o }
     requires text { IsText l.now.file.strings a.now text }

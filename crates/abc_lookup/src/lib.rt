@@ -6,6 +6,7 @@ mod elements;
 mod on;
 mod own;
 mod place;
+mod plain;
 mod query;
 mod scopes;
 mod search;
@@ -14,5 +15,6 @@ mod tables;
 
 pub use abc_search::{Found, Name, ScopeFound, Spaces, Want};
 pub use elements::{ElementName, element_named};
+pub use plain::find_first;
 pub use search::{find_declared, find_in_scopes, find_on};
 pub use spaces::holds_public;

@@ -5,6 +5,7 @@ ghost use Rattle.abc_objects.specs.Values.{IsObject};
 ghost use Rattle.abc_search.specs.Candidates.{OfLength, answer, elements, elements_from, own_things, properties, things_along};
 ghost use Rattle.abc_search.specs.Objects.{number_of};
 
+use crate::elements::element_number;
 use crate::query::Query;
 use abc_cells::ObjId;
 use abc_search::Found;
@@ -16,7 +17,7 @@ impl Query<'_> {
         requires { IsObject self.now.a.now o }
         ensures { result ≡ answer self.now.l.now self.now.a.now self.now.name self.now.skip (elements_from o.0 0 (elements_of self.now.a.now.objects o.0)) }
     {
-        match self.element {
+        match element_number(self.text) {
             Some(index) => {
                 if index < self.a.length(o) {
                     Found::Element { holder: o, index }

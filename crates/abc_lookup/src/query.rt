@@ -3,7 +3,6 @@ ghost use Rattle.std.specs.Str.{bytes_eq};
 ghost use Rattle.abc_heap.specs.Texts.{IsText, text_of};
 ghost use Rattle.abc_index.specs.Index.{first};
 ghost use Rattle.abc_index.specs.Texts.{texts_of};
-ghost use Rattle.abc_search.specs.ElementNames.{element_number};
 ghost use Rattle.abc_search.specs.Spaces.{holds_public};
 
 use abc_link::Linked;
@@ -23,11 +22,8 @@ pub(crate) struct Query<'a> {
     pub number: Option<u32>,
     /// Whether the name holds the public namespace or any.
     pub public: bool,
-    /// The element that the text names.
-    pub element: Option<u32>,
     ghost named: { IsText l.now.file.strings a.now name.text },
     ghost texted: { text.now ≡ text_of l.now.file.strings a.now name.text },
     ghost told: { first (bytes_eq text.now) (texts_of l.now.file.strings) ≡ number },
     ghost held: { holds_public l.now name.spaces ≡ public },
-    ghost numbered: { element_number text.now ≡ element },
 }

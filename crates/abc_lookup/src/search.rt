@@ -2,27 +2,26 @@ ghost use Rattle.std.specs.Prelude.{◌≡◌, false, get_or};
 ghost use Rattle.abc_lookup.specs.Steps.{IsPlace, place_in};
 ghost use Rattle.abc_heap.specs.Texts.{IsText};
 ghost use Rattle.abc_objects.specs.Stands.{AreEntries, IsScope, StandsOver};
-ghost use Rattle.abc_objects.specs.Values.{Exists};
+ghost use Rattle.abc_cells.specs.declared.values.Value.TheVariants.{Obj};
+ghost use Rattle.abc_objects.specs.Values.{Exists, IsObject};
 ghost use Rattle.abc_program.specs.Linked.{IsLayout};
 ghost use Rattle.abc_search.specs.Scopes.{scope_named};
 ghost use Rattle.abc_search.specs.Searches.{declared_found, found_in_scopes, found_on};
 
-use crate::elements::element_number;
 use crate::place::Place;
+use crate::plain::{find_first, has_no_traits};
 use crate::query::Query;
 use crate::spaces::holds_public;
 use abc_base::Table;
-use abc_cells::Value;
+use abc_cells::{ObjId, Value};
 use abc_heap::{ScopeEntry, ScopeId};
 use abc_link::{LayoutId, Linked};
 use abc_objects::Arena;
 use abc_search::{Found, Name, ScopeFound, Skip, Want};
 
-/// The search for a name among the declared traits of the layout `from` and of its bases, derived before base and in the
-/// order of the file, for an object of the layout `object`, which is `from` or stands under it. It answers `WrongSide`
-/// where nothing fits but traits that were passed over, and else `Missing` where nothing fits.
-#[inline(always)]
-pub fn find_declared(
+/// The same as `find_declared`, where the layout or one above it may have traits.
+#[inline(never)]
+fn find_among_traits(
     l: &Linked,
     a: &Arena,
     object: LayoutId,
@@ -44,17 +43,36 @@ pub fn find_declared(
         text,
         number: l.text_number(text),
         public: holds_public(l, name.spaces),
-        element: element_number(text),
     };
     query.find_declared(object, from)
 }
 
-/// The search for a name on a value that is not null or undefined: among the declared traits, and then, where the name
-/// holds the public namespace or any, among the elements and dynamic properties of the object and of its delegates in
-/// turn. It answers `WrongSide` where nothing fits but traits that were passed over, and else `Missing` where nothing
-/// fits.
+/// The search for a name among the declared traits of the layout `from` and of its bases, derived before base and in the
+/// order of the file, for an object of the layout `object`, which is `from` or stands under it. It answers `WrongSide`
+/// where nothing fits but traits that were passed over, and else `Missing` where nothing fits.
 #[inline(always)]
-pub fn find_on(l: &Linked, a: &Arena, holder: Value, name: &Name, want: Want) -> Found
+pub fn find_declared(
+    l: &Linked,
+    a: &Arena,
+    object: LayoutId,
+    from: LayoutId,
+    name: &Name,
+    want: Want,
+) -> Found
+    requires object { IsLayout l.now object }
+    requires from { IsLayout l.now from }
+    requires name { IsText l.now.file.strings a.now name.now.text }
+    ensures { result ≡ declared_found l.now a.now object.0 from.0 name.now want }
+{
+    if has_no_traits(l, from) {
+        return Found::Missing;
+    }
+    find_among_traits(l, a, object, from, name, want)
+}
+
+/// The same as `find_on`, on any value.
+#[inline(never)]
+fn find_on_any(l: &Linked, a: &Arena, holder: Value, name: &Name, want: Want) -> Found
     requires over { StandsOver l.now a.now }
     requires holder { Exists l.now a.now holder }
     requires name { IsText l.now.file.strings a.now name.now.text }
@@ -69,9 +87,40 @@ pub fn find_on(l: &Linked, a: &Arena, holder: Value, name: &Name, want: Want) ->
         text,
         number: l.text_number(text),
         public: holds_public(l, name.spaces),
-        element: element_number(text),
     };
     query.find_on(holder)
+}
+
+/// The same as `find_on`, on an object.
+#[inline(always)]
+fn find_on_object(l: &Linked, a: &Arena, o: ObjId, name: &Name, want: Want) -> Found
+    requires over { StandsOver l.now a.now }
+    requires holder { IsObject a.now o }
+    requires name { IsText l.now.file.strings a.now name.now.text }
+    ensures { result ≡ found_on l.now a.now (Obj o) name.now want }
+{
+    let first = find_first(l, a, o, name);
+    if first.is_hit() {
+        return first;
+    }
+    find_on_any(l, a, Value::Obj(o), name, want)
+}
+
+/// The search for a name on a value that is not null or undefined: among the declared traits, and then, where the name
+/// holds the public namespace or any, among the elements and dynamic properties of the object and of its delegates in
+/// turn. It answers `WrongSide` where nothing fits but traits that were passed over, and else `Missing` where nothing
+/// fits.
+#[inline(always)]
+pub fn find_on(l: &Linked, a: &Arena, holder: Value, name: &Name, want: Want) -> Found
+    requires over { StandsOver l.now a.now }
+    requires holder { Exists l.now a.now holder }
+    requires name { IsText l.now.file.strings a.now name.now.text }
+    ensures { result ≡ found_on l.now a.now holder name.now want }
+{
+    match holder {
+        Value::Obj(o) => find_on_object(l, a, o, name, want),
+        _ => find_on_any(l, a, holder, name, want),
+    }
 }
 
 /// Whether a script is told as started.
@@ -132,7 +181,6 @@ pub fn find_in_scopes(
         text,
         number: l.text_number(text),
         public: holds_public(l, name.spaces),
-        element: element_number(text),
     };
     place_found(l, a, started, query.find_place(scopes, saved))
 }

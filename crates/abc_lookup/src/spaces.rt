@@ -1,5 +1,6 @@
 ghost use Rattle.std.specs.Prelude.{◌≡◌};
 ghost use Rattle.abc_names.specs.Instances.{instance_at};
+ghost use Rattle.abc_names.specs.Pool.{same_space};
 ghost use Rattle.abc_program.specs.Linked.{IsLayout};
 ghost use Rattle.abc_search.specs.Spaces.{above_zero as above_none, holds as does_hold, holds_pooled as does_hold_pooled, holds_public as does_hold_public, is_protected as does_protect, protected_of as protected_in};
 
@@ -8,6 +9,7 @@ use abc_search::{Spaces, TraitSpace};
 use abc_tables::Abc;
 
 /// Whether a name holds the public namespace or any.
+#[inline(always)]
 pub fn holds_public(l: &Linked, spaces: Spaces) -> bool
     ensures { result ≡ does_hold_public l.now spaces }
 {
@@ -18,14 +20,26 @@ pub fn holds_public(l: &Linked, spaces: Spaces) -> bool
     }
 }
 
+/// Whether two namespaces of the pool are equal, as most often one is asked for itself.
+#[inline(always)]
+fn is_same_space(l: &Linked, a: u32, b: u32) -> bool
+    ensures { result ≡ same_space l.now.file a b }
+{
+    if a == b {
+        return true;
+    }
+    l.is_same_space(a, b)
+}
+
 /// Whether a name holds a namespace of the pool.
+#[inline(always)]
 pub(crate) fn holds_pooled(l: &Linked, spaces: Spaces, space: u32) -> bool
     ensures { result ≡ does_hold_pooled l.now spaces space }
 {
     match spaces {
         Spaces::Any => true,
         Spaces::Public => l.is_public(space),
-        Spaces::One(one) => l.is_same_space(space, one),
+        Spaces::One(one) => is_same_space(l, space, one),
         Spaces::Set(index) => l.set_holds(index, space),
     }
 }

@@ -1,8 +1,5 @@
-use Rattle.std.proofs.Common.{◌∙◌, ap}
-use Rattle.abc_search.specs.Candidates.{answer, traits}
-use Rattle.abc_search.specs.Searches.{declared_found}
+use Rattle.abc_lookup.proofs.NoTraits.{none_declared}
 use Rattle.abc_lookup.proofs.search.find_declared.Goals as goal
 
-pub returns : goal.returns
-unfolding declared_found
-returns c = c.find_declared.ensures ∙ ap (λ s. answer c.args.l.now c.args.a.now c.args.name.now s (traits c.args.l.now c.args.object.0 c.args.from.0)) c.skip.ensures
+pub returns-then-has_no_traits : goal.returns-then-has_no_traits
+returns-then-has_no_traits c = none_declared c.args.l.now c.args.a.now c.args.object.0 c.args.from.0 c.args.name.now c.args.want (c.has_no_traits.ensures c.if-has_no_traits.true)

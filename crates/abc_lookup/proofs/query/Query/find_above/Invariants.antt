@@ -1,14 +1,14 @@
-use Rattle.std.proofs.Common.{◌≡◌, length, Some}
+use Rattle.std.proofs.Common.{◌≡◌, length}
 use Rattle.abc_graph.specs.Ways.{IsBelow, left, way}
 use Rattle.abc_program.specs.Linked.{base}
 use Rattle.abc_search.specs.Results.{or_next}
 use Rattle.abc_lookup.specs.Steps.{along, layout_number}
-use Rattle.abc_lookup.proofs.query.Query.find_from.Given as goal
+use Rattle.abc_lookup.proofs.query.Query.find_above.Given as goal
 
 abbrev pub invariant-loop-at : goal.invariant-loop-at
 invariant-loop-at l = record {
   inside : IsBelow (layout_number l.at) (length l.self.l.now.parts);
-  same : or_next l.so_far (along l.self.l.now l.self.text.now l.self.name l.self.skip l.held (way (base l.self.l.now) (layout_number l.at))) ≡ along l.self.l.now l.self.text.now l.self.name l.self.skip l.fn.below (way (base l.self.l.now) (Some l.fn.from.0));
+  same : or_next l.so_far (along l.self.l.now l.self.text.now l.self.name l.self.skip l.held (way (base l.self.l.now) (layout_number l.at))) ≡ or_next l.fn.first (along l.self.l.now l.self.text.now l.self.name l.self.skip l.fn.below (way (base l.self.l.now) (layout_number l.fn.above)));
 }
 
 abbrev pub decreases-loop-at : goal.decreases-loop-at

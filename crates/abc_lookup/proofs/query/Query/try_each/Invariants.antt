@@ -3,7 +3,7 @@ use Rattle.std.specs.List.{flat_map}
 use Rattle.abc_search.specs.Results.{or_next}
 use Rattle.abc_lookup.specs.Slots.{own_at}
 use Rattle.abc_lookup.specs.Steps.{gives}
-use Rattle.abc_lookup.proofs.query.Query.try_places.Given as goal
+use Rattle.abc_lookup.proofs.query.Query.try_each.Given as goal
 
 abbrev pub invariant-loop-place : goal.invariant-loop-place
 invariant-loop-place l =

@@ -1,7 +1,7 @@
 use Rattle.std.proofs.Common.{◌∙◌, ap}
 use Rattle.abc_search.specs.Candidates.{answer, candidates_on}
 use Rattle.abc_search.specs.Searches.{found_on}
-use Rattle.abc_lookup.proofs.search.find_on.Goals as goal
+use Rattle.abc_lookup.proofs.search.find_on_any.Goals as goal
 
 pub returns : goal.returns
 unfolding found_on
