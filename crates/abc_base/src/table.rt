@@ -1,5 +1,5 @@
 ghost use Rattle.std.specs.Prelude.{◌≡◌, ◌<◌, ◌++◌, ◌∷◌, [], List, ℕ, length, get_or, OnOk, OnErr, slice_get, MatchOption, None, Some, IfOk};
-ghost use Rattle.std.specs.Prelude.{◌-◌, replicate, set, take};
+ghost use Rattle.std.specs.Prelude.{◌-◌, replicate, set, take, vec_capacity, vec_len};
 
 use crate::memory::NoMemory;
 use std::alloc::Global;
@@ -23,6 +23,19 @@ impl<T> Model for Table<T> {
     ghost view = { λ t. t.items.items };
 }
 
+/// Makes room for one more value. Most often there is some, and nothing is called.
+#[inline(always)]
+fn make_room<T: Drop>(items: &mut Vec<T>) -> Result<(), NoMemory>
+    ensures items { items.new.items ≡ items.old.items }
+    ensures room { OnOk result (vec_len items.new < vec_capacity items.new) }
+{
+    if items.len() < items.capacity() {
+        return Ok(());
+    }
+    items.reserve(1)?;
+    Ok(())
+}
+
 impl<T: Drop> Table<T> {
     /// The empty list. It takes no memory.
     pub fn new(alloc: Global) -> Table<T>
@@ -34,11 +47,13 @@ impl<T: Drop> Table<T> {
     }
 
     /// Adds a value at the end. Where memory runs out the list stays as it was, and the value is dropped.
+    #[inline(always)]
     pub fn push(&mut self, x: T) -> Result<(), NoMemory>
         ensures ok { OnOk result (self.new ≡ self.old ++ x ∷ []) }
         ensures err { OnErr result (self.new ≡ self.old) }
     {
-        self.items.push(x)?;
+        make_room(&mut self.items)?;
+        self.items.push_reserved(x);
         Ok(())
     }
 

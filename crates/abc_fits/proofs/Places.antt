@@ -3,8 +3,8 @@ use Rattle.std.proofs.Common.{◌≡◌, ℕ, zero, suc, ◌+◌, ◌-◌, ◌^�
 use Rattle.std.proofs.Math.ListN.{get_or-eq_default}
 use Rattle.abc_base.proofs.Spelling.{length_1, length_2, length_3, length_4}
 use Rattle.abc_tables.specs.declared.code.Instr.{Instr}
-use Rattle.abc_tables.specs.CodeBytes.{canonical_starts, instr_len, number_len, sized}
-use Rattle.abc_tables.specs.Starts.{start}
+use Rattle.abc_tables.specs.CodeBytes.{canonical_starts, code_len, instr_len, number_len, sized}
+use Rattle.abc_tables.specs.Starts.{size, start}
 use Rattle.abc_tables.proofs.Lengths.{canonical_count, number_five}
 use Rattle.abc_tables.proofs.Meaning.{starts_from}
 use Rattle.abc_tables.proofs.Resolving.{length-starts}
@@ -37,11 +37,16 @@ stopped code limit i here small is before le = record {
   before = λ t within lt. before t lt;
 }
 
--- code that is short enough for one limit is so for a greater one
-pub none_later : (code : List Instr) (limit more first : ℕ) → limit ≤ more → length code < first → IsFirstFrom code limit first → IsFirstFrom code more first
-none_later code limit more first le past is = record {
+-- all starts are before a limit that the code does not come to
+start_most : {A : Type 0} (ps : List (A × ℕ)) (t : ℕ) → start ps t ≤ size ps
+start_most ps zero = omega arith
+start_most [] (suc t) = omega arith
+start_most (p ∷ ps) (suc t) = omega (arith, start_most ps t)
+
+pub none_from : (code : List Instr) (limit len none : ℕ) → len ≡ min (code_len code) (2 ^ 64 - 1) → len < limit → limit < 2 ^ 64 → none ≡ length code + 1 → IsFirstFrom code limit none
+none_from code limit len none is lt small e = record {
   from = λ t within after. absurd (omega arith);
-  before = λ t within lt. omega (arith, is.before t within lt);
+  before = λ t within l. omega (arith, start_most (sized code) t);
 }
 
 pub passed : (code : List Instr) (i here : ℕ) (x : Instr) → i < length code → x ≡ get_or code i x → here ≡ min (start (sized code) i) (2 ^ 64 - 1) → min (here + min (instr_len x) (2 ^ 64 - 1)) (2 ^ 64 - 1) ≡ min (start (sized code) (i + 1)) (2 ^ 64 - 1)

@@ -35,18 +35,28 @@ fn first_from(code: &Table<Instr>, limit: u32) -> usize
     }
 }
 
-/// From which places on the code's starts have two, three, four and five bytes. Most code is short, and gone through once.
-#[tactic(auto, using(crate::proofs::Places::none_later))]
-fn widths_of(code: &Table<Instr>) -> Widths
+/// From which places on the code's starts have two, three, four and five bytes. Most code is short, and hardly gone through.
+#[tactic(auto, using(crate::proofs::Places::none_from))]
+fn widths_of(code: &Table<Instr>, len: u64) -> Widths
+    requires { len ≡ min (total code.now) (2 ^ 64 - 1) }
     ensures { AreWidths code.now result }
 {
+    let none = code.as_slice().len() + 1;
+    if len < 1 << 7 {
+        return Widths {
+            two: none,
+            three: none,
+            four: none,
+            five: none,
+        };
+    }
     let two = first_from(code, 1 << 7);
-    if two > code.len() {
+    if len < 1 << 14 {
         return Widths {
             two,
-            three: two,
-            four: two,
-            five: two,
+            three: none,
+            four: none,
+            five: none,
         };
     }
     Widths {
@@ -92,20 +102,22 @@ fn len_of_handler(handler: &Handler, code: &Table<Instr>, widths: &Widths) -> u6
     from + to + target + len_of_number(handler.exc_type) + len_of_number(handler.var_name)
 }
 
-/// The count of handlers, and the handlers. The code is gone through once for each width, and not for each handler.
+/// The count of handlers, and the handlers. Code that is not short is gone through once for each width, and not for each
+/// handler.
 #[tactic(auto, using(crate::proofs::Capped::empty_list))]
-fn len_of_handlers(handlers: &Table<Handler>, code: &Table<Instr>) -> u64
+fn len_of_handlers(handlers: &Table<Handler>, code: &Table<Instr>, len: u64) -> u64
+    requires { len ≡ min (total code.now) (2 ^ 64 - 1) }
     ensures { result ≡ min (counted_len (handler_len (canonical_starts code.now)) handlers.now) (2 ^ 64 - 1) }
 {
     if handlers.len() == 0 {
         return 1;
     }
-    let widths = widths_of(code);
-    let mut len: u64 = 0;
+    let widths = widths_of(code, len);
+    let mut sum: u64 = 0;
     for handler in handlers.as_slice() {
-        len = len.saturating_add(len_of_handler(handler, code, &widths));
+        sum = sum.saturating_add(len_of_handler(handler, code, &widths));
     }
-    count_len(handlers.len()).saturating_add(len)
+    count_len(handlers.len()).saturating_add(sum)
 }
 
 /// How many bytes the instructions have, and that number.
@@ -126,7 +138,7 @@ pub fn len_over_code(body: &Body, code: u64) -> u64
     let scopes = len_of_number(body.init_scope) + len_of_number(body.max_scope);
     (len_of_number(body.method) + sizes + scopes)
         .saturating_add(len_of_code(&body.code, code))
-        .saturating_add(len_of_handlers(&body.handlers, &body.code))
+        .saturating_add(len_of_handlers(&body.handlers, &body.code, code))
         .saturating_add(len_of_counted(&body.traits))
 }
 

@@ -5,4 +5,4 @@ use Rattle.abc_fits.specs.Lengths.{handler_len}
 use Rattle.abc_fits.proofs.body_lengths.len_of_handlers.Given as goal
 
 abbrev pub invariant-loop-handler : goal.invariant-loop-handler
-invariant-loop-handler l = l.len ≡ min (sum_by (handler_len (canonical_starts l.code)) (take l.handler-index l.handlers)) (2 ^ 64 - 1)
+invariant-loop-handler l = l.sum ≡ min (sum_by (handler_len (canonical_starts l.code)) (take l.handler-index l.handlers)) (2 ^ 64 - 1)
