@@ -6,23 +6,33 @@ ghost use Rattle.abc_typing.specs.Lists.{Each2};
 ghost use Rattle.abc_typing.specs.Typing.{HasOneShape, ScopeLe, StateLe};
 ghost use Rattle.abc_merging.specs.Triples.{no_scope};
 
-use crate::shape::{NO_SCOPE, at_or, is_same_flag, local_at};
+use crate::shape::{NO_SCOPE, at_or, is_same_flag};
 use abc_base::Table;
 use abc_kinds::{Tree, at_most};
 use abc_program::Kind;
 use abc_typing::{Scope, Stack, State};
 
-/// Whether a kind is another or below it. Mostly it is the other, and nothing is asked of the layouts.
+/// Whether a kind that stands in a list is another or below it. Mostly it is the other: then nothing is asked of the layouts, and only
+/// what tells that is read.
 #[inline]
 #[tactic(auto, using(abc_program::proofs::Order::kind_self))]
+fn is_kind_at_most<T: Tree>(tree: &T, a: &Kind, b: &Kind) -> bool
+    requires { IsLinkedFile (T.file tree.now) }
+    ensures { IsTrue result ↔ IsAtMost (T.file tree.now) a.now b.now }
+{
+    if *a == *b {
+        return true;
+    }
+    at_most(tree, *a, *b)
+}
+
+/// Whether a kind is another or below it.
+#[inline]
 fn is_at_most<T: Tree>(tree: &T, a: Kind, b: Kind) -> bool
     requires { IsLinkedFile (T.file tree.now) }
     ensures { IsTrue result ↔ IsAtMost (T.file tree.now) a b }
 {
-    if a == b {
-        return true;
-    }
-    at_most(tree, a, b)
+    is_kind_at_most(tree, &a, &b)
 }
 
 /// Whether the operand at a depth is at most another.
@@ -57,9 +67,9 @@ fn is_local_at_most<T: Tree>(tree: &T, a: &Table<Kind>, b: &Table<Kind>, place: 
     requires second { place < length b.now }
     ensures { IsTrue result ↔ IsAtMost (T.file tree.now) (get_or a.now place kinds.Any) (get_or b.now place kinds.Any) }
 {
-    let x = local_at(a, place);
-    let y = local_at(b, place);
-    is_at_most(tree, x, y)
+    let x = a.get(place);
+    let y = b.get(place);
+    is_kind_at_most(tree, x, y)
 }
 
 /// Whether each local is at most another.
