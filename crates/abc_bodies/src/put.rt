@@ -3,12 +3,12 @@ ghost use Rattle.std.specs.List.{flat_map};
 ghost use Rattle.abc_base.specs.Numbers.{number_bytes};
 ghost use Rattle.abc_format.specs.Canonical.{counted_bytes};
 ghost use Rattle.abc_tables.specs.Bodies.{body_bytes, bodies_bytes, IsReadyBody};
-ghost use Rattle.abc_tables.specs.CodeBytes.{canonical_starts};
+ghost use Rattle.abc_instr.specs.Pieces.{ArePieces};
 ghost use Rattle.abc_varint.specs.Puts.{Puts, PutsWhole};
 
 use crate::handlers::put_handlers;
 use abc_base::{NoMemory, Table};
-use abc_instr::{put_code_over, put_starts};
+use abc_instr::{Pieces, put_pieces};
 use abc_tables::{Abc, Body};
 use abc_traits::TraitCodec;
 use abc_varint::{put_count, put_counted, put_u30};
@@ -27,41 +27,41 @@ fn put_sizes(body: &Body, out: &mut Vec<u8>) -> Result<(), NoMemory>
     Ok(())
 }
 
-/// Appends a body, over its code's instructions, which start so in the canonical code.
+/// Appends a body, whose code was taken in pieces.
 #[tactic(auto, unfolding(abc_tables::specs::Bodies::body_bytes), using(abc_varint::proofs::Putting::stays, std::proofs::Common::append_assoc))]
-fn put_fields(body: &Body, starts: &Table<u32>, out: &mut Vec<u8>) -> Result<(), NoMemory>
+fn put_fields(body: &Body, pieces: &Pieces, out: &mut Vec<u8>) -> Result<(), NoMemory>
     requires ready { IsReadyBody body.now }
-    requires starts { starts.now ≡ canonical_starts (body.now).code }
+    requires pieces { ArePieces (body.now).code pieces.now }
     ensures { Puts out.old.items out.new.items result (body_bytes body.now) }
 {
     put_sizes(body, out)?;
-    put_code_over(&body.code, starts, out)?;
-    put_handlers(starts, &body.handlers, out)?;
+    put_pieces(&body.code, pieces, out)?;
+    put_handlers(&pieces.starts, &body.handlers, out)?;
     put_counted::<TraitCodec>(&body.traits, out)?;
     Ok(())
 }
 
-/// Appends the canonical bytes of a body. The memory for its starts serves one body after the other.
-fn put_body(body: &Body, starts: &mut Table<u32>, out: &mut Vec<u8>) -> Result<(), NoMemory>
+/// Appends the canonical bytes of a body. The memory for the pieces of its code serves one body after the other.
+fn put_body(body: &Body, pieces: &mut Pieces, out: &mut Vec<u8>) -> Result<(), NoMemory>
     requires { IsReadyBody body.now }
     ensures { Puts out.old.items out.new.items result (body_bytes body.now) }
 {
-    put_starts(&body.code, starts)?;
-    put_fields(body, starts, out)
+    pieces.take(&body.code)?;
+    put_fields(body, pieces, out)
 }
 
 /// Appends the bodies, one after the other.
 #[tactic(auto, using(abc_varint::proofs::Putting::stays))]
 fn put_each_body(
     bodies: &Table<Body>,
-    starts: &mut Table<u32>,
+    pieces: &mut Pieces,
     out: &mut Vec<u8>,
 ) -> Result<(), NoMemory>
     requires { All IsReadyBody bodies.now }
     ensures { Puts out.old.items out.new.items result (flat_map body_bytes bodies.now) }
 {
     for body in bodies.as_slice() {
-        put_body(body, starts, out)?;
+        put_body(body, pieces, out)?;
     }
     Ok(())
 }
@@ -73,8 +73,8 @@ fn append_bodies(alloc: Global, abc: &Abc, out: &mut Vec<u8>) -> Result<(), NoMe
     ensures { Puts out.old.items out.new.items result (bodies_bytes abc.now) }
 {
     put_count(abc.bodies.len(), out)?;
-    let mut starts = Table::new(alloc);
-    put_each_body(&abc.bodies, &mut starts, out)
+    let mut pieces = Pieces::new(alloc);
+    put_each_body(&abc.bodies, &mut pieces, out)
 }
 
 /// Appends the canonical bytes of the method bodies: how many there are, and each with its code, its exceptions, whose

@@ -5,3 +5,4 @@ pub mod Reading
 pub mod Fronts
 pub mod Marks
 pub mod Laws
+pub mod Pieces

@@ -5,6 +5,7 @@ mod front;
 mod laws;
 mod marks;
 mod pass;
+mod pieces;
 mod place;
 mod push;
 mod put;
@@ -20,8 +21,9 @@ pub use abc_tables::{Code, Form, Instr, OpInfo, Pool, code_len, mnemonic, opcode
 pub use laws::code_law;
 pub use marks::Marks;
 pub use pass::pass_code;
+pub use pieces::{Pieces, put_code, put_pieces};
 pub use place::read_place;
-pub use put::{offset_at, put_code, put_code_over, put_starts};
+pub use put::offset_at;
 pub use read::{read_code, read_code_within};
 pub use reading::Reading;
 pub use scan::Scan;

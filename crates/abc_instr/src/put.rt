@@ -1,17 +1,16 @@
-ghost use Rattle.std.specs.Prelude.{◌≡◌, ◌≤◌, ◌<◌, ◌+◌, ◌-◌, ◌*◌, ◌^◌, ◌++◌, ◌∷◌, [], List, ℕ, length, get_or, IfOk, OnOk, OnErr, All};
+ghost use Rattle.std.specs.Prelude.{◌≡◌, ◌≤◌, ◌<◌, ◌-◌, ◌^◌, ◌++◌, ◌∷◌, [], length, get_or, All};
 ghost use Rattle.std.specs.List.{flat_map};
 ghost use Rattle.abc_base.specs.Numbers.{number_bytes};
 ghost use Rattle.abc_format.specs.Canonical.{s24_bytes};
 ghost use Rattle.abc_varint.specs.Puts.{Puts};
-ghost use Rattle.abc_tables.specs.Code.{code_listing};
 ghost use Rattle.abc_tables.specs.Starts.{start};
-ghost use Rattle.abc_tables.specs.CodeBytes.{instr_len as len_of, offset as offset_of, instr_bytes, instrs_bytes, canonical_starts, code_len as total, code_bytes, sized};
-ghost use Rattle.abc_tables.specs.Ready.{CanSpell, AllCanSpell, Small, IsReady};
+ghost use Rattle.abc_instr.specs.Pieces.{aimed_bytes, free_bytes};
+ghost use Rattle.abc_tables.specs.CodeBytes.{code_len as total, instr_len as len_of, offset as offset_of, sized};
+ghost use Rattle.abc_tables.specs.Ready.{CanSpell, Small};
 
 use abc_base::{NoMemory, Table};
 use abc_tables::{Instr, instr_len};
 use abc_varint::{put_count, put_s24, put_u8, put_u30, put_u32};
-use std::alloc::Global;
 
 /// `lookupswitch`
 pub const SWITCH: u8 = 0x1b;
@@ -48,23 +47,6 @@ pub fn offset_at(code: &Table<Instr>, index: u32) -> u32
         here += short_len(code.get(i));
     }
     here
-}
-
-/// Puts where each instruction starts in the canonical code, and where the last one ends, in the place of the starts that
-/// there are. So the memory of a list serves one code after the other.
-#[tactic(auto, unfolding(abc_tables::specs::CodeBytes::canonical_starts))]
-pub fn put_starts(code: &Table<Instr>, starts: &mut Table<u32>) -> Result<(), NoMemory>
-    requires { total code.now < 2 ^ 23 }
-    ensures { OnOk result (starts.new ≡ canonical_starts code.now) }
-{
-    starts.truncate(0);
-    let mut here = 0;
-    for instr in code.as_slice() {
-        starts.push(here)?;
-        here += short_len(instr);
-    }
-    starts.push(here)?;
-    Ok(())
 }
 
 /// Appends the offset from a base to where the target starts.
@@ -188,29 +170,17 @@ fn put_switch(
     Ok(())
 }
 
-/// Appends an instruction from `here` to `next` of the canonical code, whose instructions start so; its targets are
-/// numbers of them, and each stands as an offset.
-#[tactic(auto, using(abc_varint::proofs::Putting::stays, std::proofs::Common::append_assoc))]
-pub fn put_instr(
-    instr: &Instr,
-    starts: &[u32],
-    here: u32,
-    next: u32,
-    out: &mut Vec<u8>,
-) -> Result<(), NoMemory>
-    requires can { CanSpell (length starts.now - 1) instr.now }
-    requires some { 0 < length starts.now }
-    requires small { Small starts.now (length starts.now - 1) }
-    requires here { here < 2 ^ 23 }
-    requires next { next < 2 ^ 23 }
-    ensures { Puts out.old.items out.new.items result (instr_bytes starts.now here next instr.now) }
+/// Appends an instruction without targets; of one with some nothing.
+#[inline(always)]
+pub fn put_free(instr: &Instr, out: &mut Vec<u8>) -> Result<(), NoMemory>
+    ensures { Puts out.old.items out.new.items result (free_bytes instr.now) }
 {
     match instr {
         Instr::Plain(op) => put_opcode(*op, out),
         Instr::One(op, n) => put_one(*op, *n, out),
         Instr::Two(op, n, m) => put_two(*op, *n, *m, out),
-        Instr::Branch(op, target) => put_branch(*op, starts, next, *target, out),
-        Instr::Switch { default, cases } => put_switch(starts, here, *default, cases, out),
+        Instr::Branch(_, _) => Ok(()),
+        Instr::Switch { .. } => Ok(()),
         Instr::Byte(x) => put_byte(BYTE, x.cast_unsigned(), out),
         Instr::Short(x) => put_one(SHORT, x.cast_unsigned() as u32, out),
         Instr::ScopeObject(x) => put_byte(SCOPE_OBJECT, *x, out),
@@ -223,52 +193,31 @@ pub fn put_instr(
     }
 }
 
-/// Appends the instructions of canonical code, which start so.
-#[tactic(auto, using(abc_varint::proofs::Putting::stays, std::proofs::Common::append_assoc))]
-fn put_instrs(code: &Table<Instr>, starts: &[u32], out: &mut Vec<u8>) -> Result<(), NoMemory>
-    requires ready { IsReady code.now }
-    requires starts { starts.now ≡ canonical_starts code.now }
-    ensures { Puts out.old.items out.new.items result (instrs_bytes starts.now 0 code.now) }
-{
-    let mut here = 0;
-    for i in 0..code.len() {
-        let next = starts[i + 1];
-        put_instr(code.get(i), starts, here, next, out)?;
-        here = next;
-    }
-    Ok(())
-}
-
-/// Appends the canonical code as `put_code` does, over its starts. Where memory runs out, the old bytes are still the front.
-#[tactic(auto, unfolding(abc_tables::specs::CodeBytes::code_bytes), using(abc_varint::proofs::Putting::stays, std::proofs::Common::append_assoc))]
-pub fn put_code_over(
-    code: &Table<Instr>,
-    starts: &Table<u32>,
+/// Appends an instruction with targets, from `here` to `next` of the canonical code, whose instructions start so; its
+/// targets are numbers of them, and each stands as an offset. Of one without targets it appends nothing.
+pub fn put_aimed(
+    instr: &Instr,
+    starts: &[u32],
+    here: u32,
+    next: u32,
     out: &mut Vec<u8>,
 ) -> Result<(), NoMemory>
-    requires ready { IsReady code.now }
-    requires starts { starts.now ≡ canonical_starts code.now }
-    ensures { Puts out.old.items out.new.items result (code_bytes code.now) }
+    requires can { CanSpell (length starts.now - 1) instr.now }
+    requires some { 0 < length starts.now }
+    requires small { Small starts.now (length starts.now - 1) }
+    requires here { here < 2 ^ 23 }
+    requires next { next < 2 ^ 23 }
+    ensures { Puts out.old.items out.new.items result (aimed_bytes starts.now here next instr.now) }
 {
-    put_u30(*starts.get(code.len()), out)?;
-    put_instrs(code, starts.as_slice(), out)?;
-    Ok(())
-}
-
-/// Appends the canonical code: the number of its bytes, and the instructions, each number in as few bytes as it needs
-/// and each target as an offset in those bytes. Where memory runs out, the bytes stay as they were.
-pub fn put_code(alloc: Global, code: &Table<Instr>, out: &mut Vec<u8>) -> Result<(), NoMemory>
-    // Some bytes spell the instructions.
-    requires { (b : List ℕ) × code_listing.spells code.now b }
-    ensures ok { OnOk result (out.new.items ≡ out.old.items ++ code_bytes code.now) }
-    ensures err { OnErr result (out.new.items ≡ out.old.items) }
-{
-    let mut starts = Table::new(alloc);
-    put_starts(code, &mut starts)?;
-    let len = out.len();
-    let done = put_code_over(code, &starts, out);
-    if done.is_err() {
-        out.truncate(len);
+    match instr {
+        Instr::Branch(op, target) => put_branch(*op, starts, next, *target, out),
+        Instr::Switch { default, cases } => put_switch(starts, here, *default, cases, out),
+        Instr::Plain(_) => Ok(()),
+        Instr::One(_, _) => Ok(()),
+        Instr::Two(_, _, _) => Ok(()),
+        Instr::Byte(_) => Ok(()),
+        Instr::Short(_) => Ok(()),
+        Instr::ScopeObject(_) => Ok(()),
+        Instr::Debug { .. } => Ok(()),
     }
-    done
 }

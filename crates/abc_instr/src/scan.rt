@@ -8,7 +8,7 @@ ghost use Rattle.abc_instr.specs.Scanning.{Scans, ScansOn, ScansInstrOn, jump_in
 
 use crate::front::{Front, take_front};
 use crate::marks::Marks;
-use crate::put::{put_instr, short_len};
+use crate::put::{put_free, short_len};
 use crate::raw::{RawInstr, read_raw};
 use abc_base::{NoMemory, Source};
 use abc_tables::count_len;
@@ -174,6 +174,7 @@ fn raw_len(instr: &RawInstr) -> u32
 }
 
 /// Appends the instruction where it has no targets, and gives it back where it has some.
+#[tactic(auto, using(crate::proofs::Filling::free_is))]
 fn put_plain(instr: RawInstr, plain: &mut Vec<u8>) -> Result<Option<RawInstr>, NoMemory>
     requires { IsRaw instr }
     ensures jump { IfOk result (λ j. j ≡ jump_in instr) }
@@ -181,7 +182,7 @@ fn put_plain(instr: RawInstr, plain: &mut Vec<u8>) -> Result<Option<RawInstr>, N
 {
     match instr {
         RawInstr::Same(same) => {
-            put_instr(&same, &[0], 0, 0, plain)?;
+            put_free(&same, plain)?;
             Ok(None)
         }
         RawInstr::Branch(op, offset) => Ok(Some(RawInstr::Branch(op, offset))),

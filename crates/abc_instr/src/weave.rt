@@ -1,4 +1,5 @@
-ghost use Rattle.std.specs.Prelude.{◌≡◌, ◌≤◌, ◌<◌, ◌+◌, ◌-◌, ◌^◌, ◌++◌, OnOk, All, take, drop};
+ghost use Rattle.std.specs.Prelude.{◌≡◌, ◌≤◌, ◌<◌, ◌+◌, ◌-◌, ◌^◌, All, take, drop};
+ghost use Rattle.abc_varint.specs.Puts.{PutsWhole};
 ghost use Rattle.abc_varint.specs.Reads.{stored};
 ghost use Rattle.abc_instr.specs.Marks.{mark_at};
 ghost use Rattle.abc_instr.specs.Resolving.{Resolves, onto};
@@ -84,8 +85,8 @@ fn put_jump(marks: &Marks, jump: &Jump, out: &mut Vec<u8>) -> Result<(), Missed>
 
 /// Appends the bytes from one position to another, as far as there are some.
 #[inline(always)]
-fn put_range(bytes: &[u8], from: usize, to: usize, out: &mut Vec<u8>) -> Result<(), NoMemory>
-    ensures { OnOk result (out.new.items ≡ out.old.items ++ take (to - from) (drop from bytes.now)) }
+pub fn put_range(bytes: &[u8], from: usize, to: usize, out: &mut Vec<u8>) -> Result<(), NoMemory>
+    ensures { PutsWhole out.old.items out.new.items result (take (to - from) (drop from bytes.now)) }
 {
     let to = to.min(bytes.len());
     let from = from.min(to);

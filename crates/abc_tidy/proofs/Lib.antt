@@ -15,3 +15,4 @@ pub mod Placing
 pub mod Telling
 pub mod Marked
 pub mod Once
+pub mod Rooted

@@ -1,18 +1,13 @@
 -- The numbers of a list, each once: they reach what all of them do, and the visit of their trees is that of all.
-use Rattle.std.proofs.Common.{◌≡◌, ℕ, suc, ◌+◌, ◌<◌, ◌≤◌, ◌⊎◌, inl, inr, All, List, [], ◌∷◌, ◌++◌, Bool, true, false, ◌||◌, if◌then◌else◌, nat_eq, eqb-true, eq-eqb, get_or, length, drop, map, replicate, refl, sym, ap, subst, ◌∙◌, arith, add-one, append_assoc, true≢false, get_or-set_other, get_or-set_same}
+use Rattle.std.proofs.Common.{◌≡◌, ℕ, ◌+◌, ◌<◌, ◌⊎◌, inl, inr, All, List, [], ◌∷◌, ◌++◌, Bool, true, false, ◌||◌, if◌then◌else◌, nat_eq, eqb-true, eq-eqb, get_or, length, replicate, refl, sym, ap, subst, ◌∙◌, append_assoc, true≢false, get_or-set_other, get_or-set_same}
 use Rattle.std.specs.declared.option.Option.{Option}
-use Rattle.std.proofs.Math.ListN.{drop_of_length-le, set, length-set}
-use Rattle.std.proofs.Math.Seq.{drop-cons}
+use Rattle.std.proofs.Math.ListN.{set, length-set}
 use Rattle.std.proofs.lemmas.Bool.{cases_eq}
 use Rattle.std.proofs.lemmas.List.{append-nil, get_or_default}
 use Rattle.std.proofs.lemmas.List.Folds.{list_any-append}
-use Rattle.abc_graph.specs.Graph.{targets}
-use Rattle.abc_refs.specs.declared.nodes.Counts.{Counts}
-use Rattle.abc_refs.specs.declared.refs.Ref.{Ref}
-use Rattle.abc_refs.specs.Nodes.{node_of}
 use Rattle.abc_tables.specs.declared.tables.Abc.{Abc}
 use Rattle.abc_trees.specs.declared.heads.Head.{Head}
-use Rattle.abc_trees.specs.Classes.{AllClassed, HasClass}
+use Rattle.abc_trees.specs.Classes.{AllClassed}
 use Rattle.abc_trees.specs.Orders.{In, IsOrder, NoneReturns, Onward, Reaches, Root}
 use Rattle.abc_trees.specs.Trees.{Apply, AreTrees, IsTree, Leaf, NoTrees, OneMore, Tree, tree_eq}
 use Rattle.abc_trees.specs.Visits.{IsVisited, is_met, visit, visit_all, visit_parts}
@@ -67,17 +62,6 @@ marked_one marks marks2 ys zs x m lt e f = subst (λ ms. AreMarks ms zs) (sym e)
 
 pub is_marked : (marks : List Bool) (ys : List ℕ) (x : ℕ) (b : Bool) → AreMarks marks ys → x < length marks → get_or marks x b ≡ b → b ≡ is_in x ys
 is_marked marks ys x b m lt at = sym at ∙ get_or_default marks x b false lt ∙ m.marks_are x lt
-
--- one more index: what is left is one less
-pub with_next : (c : Counts) (refs : List Ref) (ys zs whole : List ℕ) (i x : ℕ) (r : Ref) → with_all ys (map (λ r. node_of c r.pool r.index) (drop i refs)) ≡ whole → i < length refs → get_or refs i r ≡ r → x ≡ node_of c r.pool r.index → zs ≡ with_one ys x → with_all zs (map (λ r. node_of c r.pool r.index) (drop (i + 1) refs)) ≡ whole
-with_next c refs ys zs whole i x r e lt at is next =
-    let f : Ref → ℕ = λ r. node_of c r.pool r.index in
-    let rest : List ℕ = map f (drop (suc i) refs) in
-    let step : with_all (with_one ys (f (get_or refs i r))) rest ≡ whole = sym (ap (λ zs. with_all ys (map f zs)) (drop-cons refs i r lt)) ∙ e in
-    ap (λ n. with_all zs (map f (drop n refs))) (add-one i) ∙ ap (λ us. with_all us rest) (next ∙ ap (with_one ys) (is ∙ ap f (sym at))) ∙ step
-
-pub with_none : (c : Counts) (refs : List Ref) (ys : List ℕ) (i : ℕ) → length refs ≤ i → with_all ys (map (λ r. node_of c r.pool r.index) (drop i refs)) ≡ ys
-with_none c refs ys i le = ap (λ rs. with_all ys (map (λ r. node_of c r.pool r.index) rs)) (drop_of_length-le refs le)
 
 -- ---- what stands in the list
 

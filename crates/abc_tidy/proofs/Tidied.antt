@@ -1,13 +1,11 @@
 -- The tidied value of a file, and the first rule that is broken.
-use Rattle.std.proofs.Common.{◌≡◌, ℕ, zero, suc, ◌<◌, ◌≤◌, ◌⊎◌, inl, inr, All, List, [], ◌∷◌, map, length, get_or, Some, None, refl, sym, ap, subst, ◌∙◌, arith}
+use Rattle.std.proofs.Common.{◌≡◌, ℕ, zero, suc, ◌<◌, ◌≤◌, ◌⊎◌, inl, inr, All, List, [], ◌∷◌, length, get_or, Some, None, refl, sym, ap, subst, ◌∙◌, arith}
 use Rattle.std.proofs.lemmas.Bool.{cases_lt}
 use Rattle.std.proofs.lemmas.List.{get_or_past}
 use Rattle.std.specs.declared.option.Option.{Option}
 use Rattle.abc_refs.specs.declared.nodes.Counts.{Counts}
 use Rattle.abc_refs.specs.declared.nodes.Numbers.{Numbers}
-use Rattle.abc_refs.specs.declared.refs.Ref.{Ref}
-use Rattle.abc_refs.specs.Nodes.{counts_of, node_of, number_in}
-use Rattle.abc_refs.specs.Refs.{file_refs}
+use Rattle.abc_refs.specs.Nodes.{counts_of, number_in}
 use Rattle.abc_refs.specs.Renumbered.{beside, new_file}
 use Rattle.abc_tables.specs.declared.code.Body.{Body}
 use Rattle.abc_tables.specs.declared.methods.Method.{Method}
@@ -23,13 +21,9 @@ use Rattle.abc_tidy.specs.declared.error.TidyRule.TheVariants as rules
 use Rattle.abc_tidy.specs.Entries.{graph_of, heads_of}
 use Rattle.abc_tidy.specs.Firsts.{HoldBelow, IsFirstCyclic}
 use Rattle.abc_tidy.specs.NewPools.{new_pools}
-use Rattle.abc_tidy.specs.Once.{once}
 use Rattle.abc_tidy.specs.Planned.{IsPlan}
 use Rattle.abc_tidy.specs.Rules.{BodyHolds, Holds, IsFirstBroken, IsTidied, MethodHolds}
 use Rattle.abc_tidy.specs.Visited.{AreNumbers, IsTidiedValue, roots_of}
-
-pub the_roots : (v : Abc) (c : Counts) (refs : List Ref) (roots : List ℕ) → c ≡ counts_of v → refs ≡ file_refs v → roots ≡ once (map (λ r. node_of c r.pool r.index) refs) → roots ≡ once (roots_of v)
-the_roots v c refs roots e f is = is ∙ (λ i. once (map (λ r. node_of (e i) r.pool r.index) (f i)))
 
 -- those that have classes are nodes
 all_nodes : (graph : List (List ℕ)) (classes : List (Option ℕ)) (xs : List ℕ) → length classes ≡ length graph → AllClassed classes xs → All (λ x. x < length graph) xs

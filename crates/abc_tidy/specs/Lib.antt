@@ -10,3 +10,4 @@ pub mod Classed
 pub mod Heads
 pub mod Planned
 pub mod Once
+pub mod Roots

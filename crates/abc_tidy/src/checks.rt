@@ -4,7 +4,7 @@ ghost use Rattle.abc_tidy.specs.declared.error.TidyRule.TheVariants as rules;
 ghost use Rattle.abc_tidy.specs.Rules.{BodyHolds, Holds, InstrHolds, IsTidyError, IsThere, MethodHolds, names_pool as is_named, pool_size as size_of_pool};
 
 use crate::error::{TidyError, TidyRule};
-use abc_base::{NoMemory, Table};
+use abc_base::NoMemory;
 use abc_refs::{Ref, instr_ref};
 use abc_tables::{Abc, Body, Instr, Method, Pool};
 
@@ -24,7 +24,7 @@ fn pool_size(abc: &Abc, pool: Pool) -> usize
 }
 
 /// Whether a number is an index of a pool at all.
-fn names_pool(pool: Pool) -> bool
+pub(crate) fn names_pool(pool: Pool) -> bool
     ensures { result ≡ is_named pool }
 {
     match pool {
@@ -121,20 +121,13 @@ fn check_methods(abc: &Abc) -> Result<(), TidyError>
     Ok(())
 }
 
-/// Whether each index names an entry, or nothing.
-fn are_there(abc: &Abc, refs: &[Ref]) -> bool
-    ensures { IsTrue result ↔ All (IsThere abc.now) refs.now }
-{
-    refs.iter().all(|index| is_there(abc, *index))
-}
-
 /// Tries the operands and the names of parameters. Where each index of the file is there, as it is in a file that was read,
 /// the bodies and methods are not gone over.
-pub(crate) fn check_indices(abc: &Abc, refs: &Table<Ref>) -> Result<(), TidyError>
-    requires { refs.now ≡ file_refs abc.now }
+pub(crate) fn check_indices(abc: &Abc, are_there: bool) -> Result<(), TidyError>
+    requires { IsTrue are_there → All (IsThere abc.now) (file_refs abc.now) }
     ensures { MatchResult result (λ _. Holds abc.now rules.Operand × Holds abc.now rules.ParamName) (IsTidyError abc.now) }
 {
-    if are_there(abc, refs.as_slice()) {
+    if are_there {
         return Ok(());
     }
     check_bodies(abc)?;

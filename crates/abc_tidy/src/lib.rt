@@ -10,6 +10,7 @@ mod marks;
 mod numbering;
 mod places;
 mod pools;
+mod roots;
 mod tidying;
 
 pub use error::{TidyError, TidyRule};

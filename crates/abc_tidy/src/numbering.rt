@@ -1,17 +1,14 @@
 ghost use Rattle.std.specs.Prelude.{◌≡◌, ◌<◌, ◌+◌, ◌^◌, ℕ, Some, get_or, length, map, replicate, set, IfOk, OnOk};
-ghost use Rattle.abc_refs.specs.Nodes.{counts_of, node_count, node_of};
+ghost use Rattle.abc_refs.specs.Nodes.{counts_of, node_count};
 ghost use Rattle.abc_trees.specs.Alike.{AreAlike};
 ghost use Rattle.abc_trees.specs.Classes.{AllClassed, AreApart, AreClasses, AreDistinct};
 ghost use Rattle.abc_tidy.specs.Entries.{graph_of, heads_of};
-ghost use Rattle.abc_tidy.specs.Once.{AreMarks, is_in, once, with_one};
 ghost use Rattle.abc_tidy.specs.Numbered.{ArePlaces, AreNodeNumbers, AreNumbersMet, next_number, node_number, noted};
 ghost use Rattle.abc_tidy.specs.Visited.{AreNumbers, pool_index as index_of_pool, roots_of as roots_of_file};
 
 use crate::checks::count_of;
-use crate::entries::node;
-use crate::marks::no_marks;
 use abc_base::{NoMemory, Table};
-use abc_refs::{Counts, Ref};
+use abc_refs::Counts;
 use abc_tables::Abc;
 use abc_trees::{Classes, Head, Rows};
 use std::alloc::Global;
@@ -48,62 +45,6 @@ fn pool_index(counts: &Counts, node: u32) -> usize
     } else {
         7
     }
-}
-
-/// Nodes, each once, with a mark for each that is there.
-#[derive(Drop)]
-struct Distinct {
-    marks: Table<bool>,
-    nodes: Table<u32>,
-}
-
-impl Distinct {
-    /// Whether a node is there.
-    #[tactic(auto, using(crate::proofs::Once::is_marked))]
-    fn has(&self, node: u32) -> bool
-        requires known { node < length self.now.marks }
-        requires marked { AreMarks self.now.marks self.now.nodes }
-        ensures { result ≡ is_in node self.now.nodes }
-    {
-        *self.marks.get(node as usize)
-    }
-
-    /// Adds a node at the end, unless it is there.
-    #[tactic(auto, using(crate::proofs::Once::kept, crate::proofs::Once::added, crate::proofs::Once::marked_one))]
-    fn add(&mut self, node: u32) -> Result<(), NoMemory>
-        requires known { node < length self.old.marks }
-        requires marked { AreMarks self.old.marks self.old.nodes }
-        ensures nodes { OnOk result (self.new.nodes ≡ with_one self.old.nodes node) }
-        ensures marked { OnOk result (AreMarks self.new.marks self.new.nodes) }
-        ensures many { OnOk result (length self.new.marks ≡ length self.old.marks) }
-    {
-        if self.has(node) {
-            return Ok(());
-        }
-        self.nodes.push(node)?;
-        self.marks.set(node as usize, true);
-        Ok(())
-    }
-}
-
-/// The nodes that the definitions and bodies name, each once, in the order in which they are first named.
-pub(crate) fn roots_of(
-    alloc: Global,
-    counts: &Counts,
-    refs: &Table<Ref>,
-) -> Result<Table<u32>, NoMemory>
-    requires { node_count counts.now < 2 ^ 32 }
-    ensures { IfOk result (λ t. t ≡ once (map (λ r. node_of counts.now r.pool r.index) refs.now)) }
-{
-    let count = counts.nodes();
-    let marks = no_marks(alloc, count)?;
-    let none = Table::new(alloc);
-    let mut roots = Distinct { marks, nodes: none };
-    for i in 0..refs.len() {
-        let index = refs.get(i);
-        roots.add(node(counts, index.pool, index.index))?;
-    }
-    Ok(roots.nodes)
 }
 
 /// So many zeros.

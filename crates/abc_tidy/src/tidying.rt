@@ -1,6 +1,5 @@
 ghost use Rattle.std.specs.Prelude.{◌≡◌, ◌<◌, ◌+◌, ◌^◌, length, IfOk, MatchResult};
 ghost use Rattle.abc_refs.specs.Nodes.{counts_of, node_count, number_in};
-ghost use Rattle.abc_refs.specs.Refs.{file_refs};
 ghost use Rattle.abc_refs.specs.Renumbered.{beside, new_file};
 ghost use Rattle.abc_tidy.specs.declared.error.TidyRule.TheVariants as rules;
 ghost use Rattle.abc_tidy.specs.Rules.{Holds, IsTidied, IsTidyError};
@@ -17,25 +16,26 @@ use crate::entries::entries_of;
 use crate::error::{TidyError, TidyRule};
 use crate::heads::heads_of;
 use crate::marks::marks_of;
-use crate::numbering::{numbers_of, roots_of};
+use crate::numbering::numbers_of;
 use crate::pools::new_pools;
+use crate::roots::named_in;
 use abc_base::{NoMemory, Table};
 use abc_fits::fits;
-use abc_refs::{Counts, Numbers, Ref, refs_of, renumber};
+use abc_refs::{Counts, Numbers, refs_of, renumber};
 use abc_tables::Abc;
 use abc_trees::{Classes, Head, Rows, classes_of, parts_first, visit_order};
 use std::alloc::Global;
 
 /// Tries that no name that is visited reaches itself. The first that does is refused.
 #[tactic(auto, using(crate::proofs::Tidied::refused_name, crate::proofs::Tidied::no_name))]
-fn check_names(alloc: Global, abc: &Abc, refs: &Table<Ref>) -> Result<(), TidyError>
-    requires refs { refs.now ≡ file_refs abc.now }
+fn check_names(alloc: Global, abc: &Abc) -> Result<(), TidyError>
     requires few { length (abc.now).names + 1 < 2 ^ 32 }
     requires operands { Holds abc.now rules.Operand }
     requires param_names { Holds abc.now rules.ParamName }
     ensures { MatchResult result (λ _. Holds abc.now rules.NameCycle) (IsTidyError abc.now) }
 {
-    match first_cyclic(alloc, abc, refs)? {
+    let refs = refs_of(alloc, abc)?;
+    match first_cyclic(alloc, abc, &refs)? {
         Some(index) => Err(TidyError::Refused {
             rule: TidyRule::NameCycle,
             index,
@@ -49,12 +49,10 @@ fn check_names(alloc: Global, abc: &Abc, refs: &Table<Ref>) -> Result<(), TidyEr
 fn check_classes(
     alloc: Global,
     abc: &Abc,
-    refs: &Table<Ref>,
     _heads: &Table<Head>,
     classes: &Classes,
     roots: &Table<u32>,
 ) -> Result<(), TidyError>
-    requires refs { refs.now ≡ file_refs abc.now }
     requires few { length (abc.now).names + 1 < 2 ^ 32 }
     requires operands { Holds abc.now rules.Operand }
     requires param_names { Holds abc.now rules.ParamName }
@@ -66,7 +64,7 @@ fn check_classes(
     if classes.have(roots.as_slice()) {
         return Ok(());
     }
-    check_names(alloc, abc, refs)?;
+    check_names(alloc, abc)?;
     Ok(())
 }
 
@@ -84,9 +82,9 @@ fn class_entries(
     alloc: Global,
     abc: &Abc,
     counts: &Counts,
-    refs: &Table<Ref>,
+    roots: Table<u32>,
 ) -> Result<Classed, TidyError>
-    requires refs { refs.now ≡ file_refs abc.now }
+    requires roots { roots ≡ once (roots_of abc.now) }
     requires counts { counts.now ≡ counts_of abc.now }
     requires few { node_count counts.now < 2 ^ 32 }
     requires operands { Holds abc.now rules.Operand }
@@ -94,12 +92,11 @@ fn class_entries(
     ensures { MatchResult result (λ k. AreClassed abc.now k.heads k.graph k.roots k.classes.keys.keys k.classes.classes) (IsTidyError abc.now) }
 {
     let graph = entries_of(alloc, abc, counts)?;
-    let roots = roots_of(alloc, counts, refs)?;
     let order = parts_first(alloc, &graph, &roots)?;
     let marks = marks_of(alloc, graph.len(), &order)?;
     let heads = heads_of(alloc, abc, marks.as_slice())?;
     let classes = classes_of(alloc, &heads, &graph, &order)?;
-    check_classes(alloc, abc, refs, &heads, &classes, &roots)?;
+    check_classes(alloc, abc, &heads, &classes, &roots)?;
     Ok(Classed {
         heads,
         graph,
@@ -143,9 +140,9 @@ fn make_plan(alloc: Global, abc: &Abc) -> Result<Plan, TidyError>
         Some(counts) => counts,
         None => return Err(TidyError::NoMemory),
     };
-    let refs = refs_of(alloc, abc)?;
-    check_indices(abc, &refs)?;
-    let classed = class_entries(alloc, abc, &counts, &refs)?;
+    let named = named_in(alloc, abc, counts)?;
+    check_indices(abc, named.are_there)?;
+    let classed = class_entries(alloc, abc, &counts, named.nodes)?;
     let plan = plan_of(alloc, abc, counts, &classed)?;
     Ok(plan)
 }

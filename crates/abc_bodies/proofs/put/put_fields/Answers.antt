@@ -5,9 +5,9 @@ use Rattle.abc_tables.proofs.Lengths.{canonical_count}
 use Rattle.abc_bodies.proofs.put.put_fields.Goals as goal
 
 pub put_handlers-requires-clause-some : goal.put_handlers-requires-clause-some
-put_handlers-requires-clause-some c = rw c.requires.starts (omega (arith, canonical_count c.args.body.now.code))
+put_handlers-requires-clause-some c = rw c.requires.pieces.starts (omega (arith, canonical_count c.args.body.now.code))
 
 pub put_handlers-requires-clause-within : goal.put_handlers-requires-clause-within
 put_handlers-requires-clause-within c =
     let n : length c.args.body.now.code ≡ length (canonical_starts c.args.body.now.code) - 1 = omega (arith, canonical_count c.args.body.now.code) in
-    rw c.requires.starts (subst (λ (m : ℕ). All (IsWithin m) c.args.body.now.handlers) n c.requires.ready.places)
+    rw c.requires.pieces.starts (subst (λ (m : ℕ). All (IsWithin m) c.args.body.now.handlers) n c.requires.ready.places)

@@ -1,6 +1,6 @@
 use Rattle.std.proofs.Common.{◌-◌, length, arith}
 use Rattle.abc_tables.proofs.Lengths.{below_all}
-use Rattle.abc_instr.proofs.put.put_instr.Goals as goal
+use Rattle.abc_instr.proofs.put.put_aimed.Goals as goal
 
 pub put_switch-requires-clause-cases : goal.put_switch-requires-clause-cases
 put_switch-requires-clause-cases c =
