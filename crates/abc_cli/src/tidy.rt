@@ -10,6 +10,7 @@ use abc_file::{read, write};
 use abc_tables::Abc;
 use abc_tidy::tidy_owned;
 use std::alloc::Global;
+use std::mem;
 
 /// The canonical bytes of the tidied file.
 fn tidied(alloc: Global, abc: Abc) -> Result<Vec<u8>, Stop>
@@ -19,6 +20,8 @@ fn tidied(alloc: Global, abc: Abc) -> Result<Vec<u8>, Stop>
     let tidied = tidy_owned(alloc, abc)?;
     let mut bytes = Vec::new(alloc);
     write(alloc, &tidied, &mut bytes)?;
+    // The program ends soon, and its memory goes back at once then: to let go of each part before would be one more walk over all.
+    mem::forget(tidied);
     Ok(bytes)
 }
 
