@@ -49,7 +49,8 @@ pairs_map R f [] all = λ i j d lt len. absurd (omega arith)
 pairs_map R f (x ∷ xs) all =
     AllPairs-cons R (f x) (map f xs) (All-map (R (f x)) f xs (pairs_head (λ x y. R (f x) (f y)) x xs all)) (pairs_map R f xs (pairs_tail (λ x y. R (f x) (f y)) x xs all))
 
-middle : {X : Type 0} (P : X → Type 0) (before : List X) (x : X) (rest : List X) → All P (before ++ x ∷ rest) → P x
+-- what holds of all items holds of one between others
+pub middle : {X : Type 0} (P : X → Type 0) (before : List X) (x : X) (rest : List X) → All P (before ++ x ∷ rest) → P x
 middle P [] x rest all = All-head P x rest all
 middle P (y ∷ before) x rest all = middle P before x rest (All-tail P y (before ++ x ∷ rest) all)
 

@@ -10,4 +10,5 @@ pub mod DefinitionsFit
 pub mod Chains
 pub mod BodiesFit
 pub mod Windows
+pub mod Rising
 pub mod FileFits

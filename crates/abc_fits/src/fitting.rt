@@ -57,8 +57,8 @@ fn fit_parts(abc: &Abc) -> bool
 }
 
 /// Whether some bytes of at most 2^24 spell the file. It takes no memory. Its time grows with the size of the value
-/// alone, but for one thing: the bodies are gone through once for each 65,536 methods, so that no two are found to have
-/// one method. A file has at most 2^22 methods, so that is at most 65 times.
+/// alone, but for one thing: where bodies do not stand in the order of their methods they are gone through once for each
+/// 65,536 methods, so that no two are found to have one method. A file has at most 2^22 methods, so that is at most 65 times.
 #[tactic(auto, using(crate::proofs::FileFits::few_in))]
 pub fn fits(a: &Abc) -> bool
     ensures { IsTrue result ↔ Fits a.now }

@@ -1,6 +1,6 @@
 ghost use Rattle.std.specs.Prelude.{◌≡◌, ◌↔◌, ◌*◌, ◌-◌, ◌^◌, ◌<◌, All, AllPairs, IsTrue, MatchOption, false, length, min};
 ghost use Rattle.std.specs.List.{sum_by};
-ghost use Rattle.abc_fits.specs.Distinct.{Differ, DifferFrom};
+ghost use Rattle.abc_fits.specs.Distinct.{Differ, DifferFrom, Rise};
 ghost use Rattle.abc_fits.specs.Fitting.{FitBodies, FitsBody, HasNames, HasParts, HasSizes};
 ghost use Rattle.abc_fits.specs.Lengths.{body_len};
 ghost use Rattle.abc_tables.specs.Classes.{sizes_of as all_sizes};
@@ -112,6 +112,33 @@ fn are_distinct(bodies: &[Body], methods: u32) -> bool
     true
 }
 
+/// Whether each of the bodies is of a later method than the one before, as a compiler writes them.
+fn are_rising(bodies: &[Body]) -> bool
+    ensures { IsTrue result ↔ AllPairs Rise bodies.now }
+{
+    let mut least: u64 = 0;
+    for body in bodies {
+        let method = body.method as u64;
+        if method < least {
+            return false;
+        }
+        least = method + 1;
+    }
+    true
+}
+
+/// Whether no two of the bodies have one method, where there are so many methods. Bodies whose methods rise are gone through
+/// once.
+fn are_apart(bodies: &[Body], methods: u32) -> bool
+    requires { All (λ b. b.method < methods) bodies.now }
+    ensures { IsTrue result ↔ AllPairs Differ bodies.now }
+{
+    if are_rising(bodies) {
+        return true;
+    }
+    are_distinct(bodies, methods)
+}
+
 /// Whether some bytes spell bodies of which each is spelled by some, whatever the others are.
 #[tactic(auto, using(crate::proofs::BodiesFit::bodies_fit, crate::proofs::BodiesFit::methods_below))]
 pub fn fit_bodies(abc: &Abc, sizes: &Sizes) -> bool
@@ -120,5 +147,5 @@ pub fn fit_bodies(abc: &Abc, sizes: &Sizes) -> bool
     ensures { IsTrue result ↔ FitBodies abc.now }
 {
     let bodies = abc.bodies.as_slice();
-    is_count(bodies.len()) && are_distinct(bodies, sizes.methods)
+    is_count(bodies.len()) && are_apart(bodies, sizes.methods)
 }
