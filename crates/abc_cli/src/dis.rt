@@ -11,6 +11,7 @@ use abc_disasm::disassemble;
 use abc_file::read;
 use abc_tables::Abc;
 use std::alloc::Global;
+use std::mem::forget;
 
 /// The text of a file.
 fn text_of(alloc: Global, abc: &Abc) -> Result<Vec<u8>, Stop>
@@ -30,5 +31,7 @@ pub fn dis<S: Source>(alloc: Global, source: &mut S) -> Result<Vec<u8>, Stop>
 {
     let (abc, _) = read(alloc, source)?;
     let text = text_of(alloc, &abc)?;
+    // The program ends soon, and the lists of a file are many: to free each of them would only take time.
+    forget(abc);
     Ok(text)
 }
