@@ -27,7 +27,10 @@ fn may_begin_word(first: u8, second: u8, third: u8) -> bool
 pub fn may_be_of_table(line: &[u8]) -> bool
     ensures { result ≡ false → IsOfNoTable line.now }
 {
-    if line.len() < 3 || !is_run_byte(line[0]) {
+    if line.len() < 3 {
+        return true;
+    }
+    if !is_run_byte(line[0]) {
         return true;
     }
     may_begin_word(line[0], line[1], line[2])
