@@ -23,10 +23,10 @@ use Rattle.abc_labels.proofs.Counted.{one_set}
 -- ---- words
 
 -- places that differ
-apart : (p k : ℕ) → is_table p ≡ false → is_table k ≡ true → cond (nat_eq p k) 1 0 ≡ 0
-apart p k no yes =
+apart : (p k : ℕ) → is_table p ≡ false → is_table k ≡ true → ◌≡◌ {A = ℕ} (cond (nat_eq p k) 1 0) 0
+apart p k off yes =
     elim (split_bool (nat_eq p k)) [
-      | inl e ↦ let never : false ≡ true = sym no ∙ ap is_table (eq_is p k e) ∙ yes in absurd cc
+      | inl e ↦ let never : false ≡ true = sym off ∙ ap is_table (eq_is p k e) ∙ yes in absurd cc
       | inr e ↦ rw e refl
     ]
 
@@ -39,7 +39,7 @@ no_row [] w other k is all last = last
 no_row (row ∷ rows) w other k is all last =
     elim (split_bool (bytes_eq row.0 w)) [
       | inl e ↦ elim all.0 [
-        | inl no ↦ rw e (apart (place_of row.1) k no is)
+        | inl off ↦ rw e (apart (place_of row.1) k off is)
         | inr f ↦ let never : true ≡ false = sym e ∙ f in absurd cc
       ]
       | inr e ↦ rw e (no_row rows w other k is all.1 last)
@@ -72,11 +72,11 @@ first_three (a ∷ b ∷ c ∷ bytes) = may_begin a b c
 first_three _ = true
 
 never : (word w rest line : List ℕ) → line ≡ w ++ rest → first_three line ≡ false → ((r : List ℕ) → first_three (word ++ r) ≡ true) → bytes_eq word w ≡ false
-never word w rest line is no begins =
+never word w rest line is off begins =
     elim (split_bool (bytes_eq word w)) [
       | inl e ↦
           let same : word ≡ w = (bytes_eq-Decides word w).0 e in
-          let both : false ≡ true = sym no ∙ ap first_three (is ∙ ap (λ (l : List ℕ). l ++ rest) (sym same)) ∙ begins rest in
+          let both : false ≡ true = sym off ∙ ap first_three (is ∙ ap (λ (l : List ℕ). l ++ rest) (sym same)) ∙ begins rest in
           absurd cc
       | inr e ↦ e
     ]
@@ -86,8 +86,8 @@ ns_begins [] = refl
 ns_begins (c ∷ r) = refl
 
 others : (w rest line : List ℕ) → line ≡ w ++ rest → first_three line ≡ false → AllByRecursion (IsOther w) line_words
-others w rest line is no =
-    let differs : (word : List ℕ) → ((r : List ℕ) → first_three (word ++ r) ≡ true) → bytes_eq word w ≡ false = λ word. never word w rest line is no in (
+others w rest line is off =
+    let differs : (word : List ℕ) → ((r : List ℕ) → first_three (word ++ r) ≡ true) → bytes_eq word w ≡ false = λ word. never word w rest line is off in (
       inl refl,
       inr (differs (codes "int") (λ r. refl)),
       inr (differs (codes "uint") (λ r. refl)),
@@ -134,18 +134,18 @@ front_of (b ∷ bytes) =
 
 headed : (b : ℕ) (bytes : List ℕ) (f : Front bytes) → is_run_byte b ≡ true → of_line (b ∷ bytes) ≡ Some (word_of (b ∷ f.word))
 headed b bytes f e =
-    let run = run_read (b ∷ f.word) f.rest (record { some = λ no. absurd cc; bytes = (e, f.all); longest = f.ends }) in
+    let run = run_read (b ∷ f.word) f.rest (record { some = λ off. absurd cc; bytes = (e, f.all); longest = f.ends }) in
     ap (λ (l : List ℕ). of_line (b ∷ l)) f.is ∙ ap head_in run
 
 -- a line that begins with a run, by its first bytes
 pub passed : (line : List ℕ) → 3 ≤ length line → is_run_byte (get_or line 0 0) ≡ true → may_begin (get_or line 0 0) (get_or line 1 0) (get_or line 2 0) ≡ false → IsOfNoTable line
-passed [] len run no = absurd (omega arith)
-passed (a ∷ []) len run no = absurd (omega arith)
-passed (a ∷ b ∷ []) len run no = absurd (omega arith)
-passed (a ∷ b ∷ c ∷ bytes) len run no =
+passed [] len run off = absurd (omega arith)
+passed (a ∷ []) len run off = absurd (omega arith)
+passed (a ∷ b ∷ []) len run off = absurd (omega arith)
+passed (a ∷ b ∷ c ∷ bytes) len run off =
     let f = front_of (b ∷ c ∷ bytes) in λ k is.
     ap (at_place k) (headed a (b ∷ c ∷ bytes) f run)
-    ∙ other_word (a ∷ f.word) k is (others (a ∷ f.word) f.rest (a ∷ b ∷ c ∷ bytes) (ap (λ (l : List ℕ). a ∷ l) f.is) no)
+    ∙ other_word (a ∷ f.word) k is (others (a ∷ f.word) f.rest (a ∷ b ∷ c ∷ bytes) (ap (λ (l : List ℕ). a ∷ l) f.is) off)
 
 -- ---- where lines stand
 
@@ -190,9 +190,9 @@ line_counted k text line more splits =
     ∙ ap (λ (c : ℕ). at_place k (of_line line) + c) (any_number k 2 1 (lines_in more))
 
 pub passed_on : (counts : List ℕ) (k all : ℕ) (text line more : List ℕ) → Splits text line more → IsOfNoTable line → is_table k ≡ true → get_or counts k 0 + tables_in k text ≡ all → get_or counts k 0 + tables_in k more ≡ all
-passed_on counts k all text line more splits no is was =
+passed_on counts k all text line more splits off is was =
     let here = line_counted k text line more splits in
-    let none = no k is in
+    let none = off k is in
     omega (arith, here, none, was)
 
 pub counted_on : (counts : List ℕ) (p k all : ℕ) (text line more : List ℕ) → Splits text line more → StandsAt line (Some p) → p < length counts → get_or counts k 0 + tables_in k text ≡ all → get_or (set counts p (get_or counts p 0 + 1)) k 0 + tables_in k more ≡ all
