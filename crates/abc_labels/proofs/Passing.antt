@@ -24,9 +24,9 @@ use Rattle.abc_labels.proofs.Counted.{one_set}
 
 -- places that differ
 apart : (p k : ℕ) → is_table p ≡ false → is_table k ≡ true → ◌≡◌ {A = ℕ} (cond (nat_eq p k) 1 0) 0
-apart p k off yes =
+apart p k off is =
     elim (split_bool (nat_eq p k)) [
-      | inl e ↦ let never : false ≡ true = sym off ∙ ap is_table (eq_is p k e) ∙ yes in absurd cc
+      | inl e ↦ let never : false ≡ true = sym off ∙ ap is_table (eq_is p k e) ∙ is in absurd cc
       | inr e ↦ rw e refl
     ]
 
@@ -87,33 +87,8 @@ ns_begins (c ∷ r) = refl
 
 others : (w rest line : List ℕ) → line ≡ w ++ rest → first_three line ≡ false → AllByRecursion (IsOther w) line_words
 others w rest line is off =
-    let differs : (word : List ℕ) → ((r : List ℕ) → first_three (word ++ r) ≡ true) → bytes_eq word w ≡ false = λ word. never word w rest line is off in (
-      inl refl,
-      inr (differs (codes "int") (λ r. refl)),
-      inr (differs (codes "uint") (λ r. refl)),
-      inr (differs (codes "double") (λ r. refl)),
-      inr (differs (codes "string") (λ r. refl)),
-      inr (differs (codes "ns") ns_begins),
-      inr (differs (codes "set") (λ r. refl)),
-      inr (differs (codes "name") (λ r. refl)),
-      inr (differs (codes "method") (λ r. refl)),
-      inl refl,
-      inl refl,
-      inl refl,
-      inr (differs (codes "metadata") (λ r. refl)),
-      inl refl,
-      inr (differs (codes "instance") (λ r. refl)),
-      inl refl,
-      inl refl,
-      inl refl,
-      inl refl,
-      inl refl,
-      inr (differs (codes "class") (λ r. refl)),
-      inl refl,
-      inl refl,
-      inl refl,
-      tt,
-    )
+    let differs : (word : List ℕ) → ((r : List ℕ) → first_three (word ++ r) ≡ true) → bytes_eq word w ≡ false = λ word. never word w rest line is off in
+    (inl refl, (inr (differs (codes "int") (λ r. refl)), (inr (differs (codes "uint") (λ r. refl)), (inr (differs (codes "double") (λ r. refl)), (inr (differs (codes "string") (λ r. refl)), (inr (differs (codes "ns") ns_begins), (inr (differs (codes "set") (λ r. refl)), (inr (differs (codes "name") (λ r. refl)), (inr (differs (codes "method") (λ r. refl)), (inl refl, (inl refl, (inl refl, (inr (differs (codes "metadata") (λ r. refl)), (inl refl, (inr (differs (codes "instance") (λ r. refl)), (inl refl, (inl refl, (inl refl, (inl refl, (inl refl, (inr (differs (codes "class") (λ r. refl)), (inl refl, (inl refl, (inl refl, tt))))))))))))))))))))))))
 
 -- ---- the run at the front of a line
 
