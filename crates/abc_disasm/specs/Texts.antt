@@ -172,5 +172,9 @@ module _ (v : Abc) where
   definitions_text =
       flat_map method_text v.methods ++ (flat_map metadata_text v.metadata ++ (flat_map instance_text v.instances ++ (flat_map class_text v.classes ++ flat_map script_text v.scripts)))
 
+  -- the lines before those of bodies
+  abbrev pub front_text : List ℕ
+  front_text = version_text ++ (pools_text ++ definitions_text)
+
   abbrev pub whole_text : List ℕ
   whole_text = version_text ++ (pools_text ++ (definitions_text ++ flat_map whole_body v.bodies))
