@@ -4,11 +4,10 @@ use Rattle.std.specs.List.{AllByRecursion}
 use Rattle.std.specs.Str.{bytes_eq}
 use Rattle.std.specs.declared.option.Option.{Option}
 use Rattle.std.proofs.lemmas.Slice.Eq.{bytes_eq-Decides}
-use Rattle.abc_text.specs.Tokens.{Token, Bare, EndsRun, is_run_byte}
-use Rattle.abc_text.specs.Scanning.{Between, also, scan}
+use Rattle.abc_text.specs.Tokens.{Token, EndsRun, is_run_byte}
+use Rattle.abc_text.specs.Scanning.{Between, scan}
 use Rattle.abc_text.specs.Words.{place_of}
 use Rattle.abc_text.specs.declared.word.Word.{Word}
-use Rattle.abc_text.specs.declared.word.Word.TheVariants as words
 use Rattle.abc_text.proofs.Bools.{split_bool}
 use Rattle.abc_text.proofs.Scans.{eq_is, run_read}
 use Rattle.abc_tables.specs.Opcodes.{named}

@@ -1,7 +1,7 @@
 -- Lines of tables, by their first bytes.
-use Rattle.std.specs.Prelude.{◌≡◌, ℕ, ◌<◌, Bool, true, false, ◌&&◌, ◌||◌, nat_eq, List, if◌then◌else◌, Some, None}
+use Rattle.std.specs.Prelude.{◌≡◌, ℕ, ◌<◌, Bool, true, ◌&&◌, ◌||◌, nat_eq, List, if◌then◌else◌, Some, None}
 use Rattle.std.specs.declared.option.Option.{Option}
-use Rattle.abc_text.specs.Scanning.{Between, Scan, scan}
+use Rattle.abc_text.specs.Scanning.{Between, scan}
 use Rattle.abc_text.specs.Words.{place_of}
 use Rattle.abc_text.specs.declared.word.Word.{Word}
 use Rattle.abc_tokens.specs.Cursor.{head_in}
