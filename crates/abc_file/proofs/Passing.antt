@@ -1,7 +1,7 @@
 -- What passing the parts of a file, and then asking for more, says of the whole input.
-use Rattle.std.proofs.Common.{◌≡◌, ℕ, List, [], ◌++◌, Ok, Err, None, Some, refl, ◌∙◌}
+use Rattle.std.proofs.Common.{◌≡◌, ℕ, List, [], Ok, None, refl, ◌∙◌}
 use Rattle.std.specs.declared.option.Option.{Option}
-use Rattle.abc_format.specs.Part.{At, refusal}
+use Rattle.abc_format.specs.Part.{At}
 use Rattle.abc_varint.specs.declared.error.ReadError.{ReadError}
 use Rattle.abc_varint.specs.declared.error.ReadError.TheVariants as errors
 use Rattle.abc_varint.specs.Passes.{Passes, nothing}
@@ -9,7 +9,6 @@ use Rattle.abc_varint.specs.Reads.{Fails, IsInput, known, stand}
 use Rattle.abc_varint.specs.View.{View}
 use Rattle.abc_tables.specs.declared.tables.Abc.{Abc}
 use Rattle.abc_tables.specs.declared.tables.Sizes.{Sizes}
-use Rattle.abc_tables.specs.declared.code.Body.{Body}
 use Rattle.abc_tables.specs.Bodies.{body_list}
 use Rattle.abc_tables.specs.Classes.{sizes_of, sizes_with}
 use Rattle.abc_tables.specs.Files.{file_read, version}
