@@ -1,18 +1,16 @@
 -- A reader at the first line of a text.
-use Rattle.std.proofs.Common.{◌≡◌, ℕ, ◌+◌, ◌≤◌, ◌<◌, ◌^◌, Bool, List, [], ◌∷◌, length, drop, map, Some, None, refl, sym, ap, subst, ◌∙◌, arith}
+use Rattle.std.proofs.Common.{◌≡◌, ℕ, ◌<◌, ◌^◌, Bool, List, [], length, drop, map, None, sym, ap, subst, ◌∙◌, arith}
 use Rattle.std.specs.Borrow.{Bor}
 use Rattle.std.specs.Map.{lookup}
 use Rattle.std.specs.declared.option.Option.{Option}
 use Rattle.abc_tables.specs.declared.tables.Sizes.{Sizes}
-use Rattle.abc_rowparts.specs.Lines.{Label, Row}
-use Rattle.abc_rowparts.specs.Operands.{place_of_label}
 use Rattle.abc_rowparts.specs.Wordlines.{count_all}
 use Rattle.abc_lines.specs.Texts.{Raw, instances_in, lines_in, raws_from, rows_from, rows_of, sizes_in}
 use Rattle.abc_labels.specs.Ahead.{Follows}
 use Rattle.abc_labels.specs.Counts.{count_all_raws}
 use Rattle.abc_labels.proofs.Counted.{all_counted, comes_raws, fewer, stay_numbered}
 use Rattle.abc_operands.specs.Places.{Places}
-use Rattle.abc_tokens.specs.Cursor.{AreNumbered, Comes, most_lines, raws_at}
+use Rattle.abc_tokens.specs.Cursor.{Comes, raws_at}
 use Rattle.abc_tokens.specs.Names.{NameMap, is_named}
 use Rattle.abc_tokens.specs.declared.line.Line.{Line}
 use Rattle.abc_asmreader.specs.Names.{key_of, names_in}
@@ -32,12 +30,6 @@ module _ (text : List ℕ) (next : Option Line) (comes : Comes (raws_from 1 (lin
   unfolding rows_of
   first_rows = ap (λ (raws : List Raw). rows_from [] [] [] raws) (sym (comes_raws (raws_from 1 (lines_in text)) 1 (length text) next comes))
 
-  pub first_sizes : (sizes : Sizes) → ((labels : List Label) (set taken : List (List ℕ)) → sizes ≡ sizes_in (rows_from labels set taken (raws_at next))) → sizes ≡ sizes_in (rows_of text)
-  first_sizes sizes e = e [] [] [] ∙ ap sizes_in first_rows
-
-  pub first_instances : (instances : ℕ) → ((labels : List Label) (set taken : List (List ℕ)) → instances ≡ instances_in (rows_from labels set taken (raws_at next))) → instances ≡ instances_in (rows_of text)
-  first_instances instances e = e [] [] [] ∙ ap instances_in first_rows
-
   module _ (r : Reader) (here : r.next ≡ next) (body : r.body ≡ None) (places : r.places.entries ≡ []) (set : r.set.entries ≡ []) (bodied : r.bodied.entries ≡ []) where
     pub fresh_rows : rows_left r ≡ rows_of text
     unfolding rows_left
@@ -48,12 +40,13 @@ module _ (text : List ℕ) (next : Option Line) (comes : Comes (raws_from 1 (lin
         ∙ ap (λ (o : Option Line). rows_from [] [] [] (raws_at o)) here
         ∙ first_rows
 
-    pub fresh_reader : length text < 2 ^ 32 → r.instances_left ≡ r.instances → r.classes_left ≡ r.sizes.classes → ((labels : List Label) (set taken : List (List ℕ)) → r.sizes ≡ sizes_in (rows_from labels set taken (raws_at next))) → ((labels : List Label) (set taken : List (List ℕ)) → r.instances ≡ instances_in (rows_from labels set taken (raws_at next))) → r.ahead.items ≡ [] → r.place ≡ 0 → IsReader r
+    pub fresh_reader : length text < 2 ^ 32 → r.instances_left ≡ r.instances → r.classes_left ≡ r.sizes.classes → r.sizes ≡ sizes_in (rows_of text) → r.instances ≡ instances_in (rows_of text) → r.ahead.items ≡ [] → r.place ≡ 0 → IsReader r
     fresh_reader short instances classes sizes_are instances_are ahead place =
         let comes_here : Comes (raws_from 1 (lines_in text)) 1 (length text) r.next = subst (λ (o : Option Line). Comes (raws_from 1 (lines_in text)) 1 (length text) o) (sym here) comes in
         let most = fewer (raws_from 1 (lines_in text)) 1 (length text) r.next comes_here in
-        let classes_count : r.sizes.classes ≡ count_all_raws 20 (raws_at next) = ap (λ (s : Sizes). s.classes) (sizes_are [] [] []) ∙ all_counted 20 [] [] [] (raws_at next) in
-        let instances_count : r.instances ≡ count_all_raws 14 (raws_at next) = instances_are [] [] [] ∙ all_counted 14 [] [] [] (raws_at next) in
+        let counted : (place : ℕ) → count_all place (rows_of text) ≡ count_all_raws place (raws_at next) = λ place. ap (count_all place) (sym first_rows) ∙ all_counted place [] [] [] (raws_at next) in
+        let classes_count : r.sizes.classes ≡ count_all_raws 20 (raws_at next) = ap (λ (s : Sizes). s.classes) sizes_are ∙ counted 20 in
+        let instances_count : r.instances ≡ count_all_raws 14 (raws_at next) = instances_are ∙ counted 14 in
         record {
           places = subst (λ (o : Option Line). Places r.places (labels_now o)) (sym body) (no_places r.places places);
           numbered = stay_numbered (raws_from 1 (lines_in text)) 1 (length text) r.next (omega arith) comes_here;
