@@ -32,12 +32,6 @@ module _ (text : List ℕ) (next : Option Line) (comes : Comes (raws_from 1 (lin
   unfolding rows_of
   first_rows = ap (λ (raws : List Raw). rows_from [] [] [] raws) (sym (comes_raws (raws_from 1 (lines_in text)) 1 (length text) next comes))
 
-  pub first_sizes : (sizes : Sizes) → ((labels : List Label) (set taken : List (List ℕ)) → sizes ≡ sizes_in (rows_from labels set taken (raws_at next))) → sizes ≡ sizes_in (rows_of text)
-  first_sizes sizes e = e [] [] [] ∙ ap sizes_in first_rows
-
-  pub first_instances : (instances : ℕ) → ((labels : List Label) (set taken : List (List ℕ)) → instances ≡ instances_in (rows_from labels set taken (raws_at next))) → instances ≡ instances_in (rows_of text)
-  first_instances instances e = e [] [] [] ∙ ap instances_in first_rows
-
   module _ (r : Reader) (here : r.next ≡ next) (body : r.body ≡ None) (places : r.places.entries ≡ []) (set : r.set.entries ≡ []) (bodied : r.bodied.entries ≡ []) where
     pub fresh_rows : rows_left r ≡ rows_of text
     unfolding rows_left
@@ -48,12 +42,13 @@ module _ (text : List ℕ) (next : Option Line) (comes : Comes (raws_from 1 (lin
         ∙ ap (λ (o : Option Line). rows_from [] [] [] (raws_at o)) here
         ∙ first_rows
 
-    pub fresh_reader : length text < 2 ^ 32 → r.instances_left ≡ r.instances → r.classes_left ≡ r.sizes.classes → ((labels : List Label) (set taken : List (List ℕ)) → r.sizes ≡ sizes_in (rows_from labels set taken (raws_at next))) → ((labels : List Label) (set taken : List (List ℕ)) → r.instances ≡ instances_in (rows_from labels set taken (raws_at next))) → r.ahead.items ≡ [] → r.place ≡ 0 → IsReader r
+    pub fresh_reader : length text < 2 ^ 32 → r.instances_left ≡ r.instances → r.classes_left ≡ r.sizes.classes → r.sizes ≡ sizes_in (rows_of text) → r.instances ≡ instances_in (rows_of text) → r.ahead.items ≡ [] → r.place ≡ 0 → IsReader r
     fresh_reader short instances classes sizes_are instances_are ahead place =
         let comes_here : Comes (raws_from 1 (lines_in text)) 1 (length text) r.next = subst (λ (o : Option Line). Comes (raws_from 1 (lines_in text)) 1 (length text) o) (sym here) comes in
         let most = fewer (raws_from 1 (lines_in text)) 1 (length text) r.next comes_here in
-        let classes_count : r.sizes.classes ≡ count_all_raws 20 (raws_at next) = ap (λ (s : Sizes). s.classes) (sizes_are [] [] []) ∙ all_counted 20 [] [] [] (raws_at next) in
-        let instances_count : r.instances ≡ count_all_raws 14 (raws_at next) = instances_are [] [] [] ∙ all_counted 14 [] [] [] (raws_at next) in
+        let counted : (place : ℕ) → count_all place (rows_of text) ≡ count_all_raws place (raws_at next) = λ place. ap (count_all place) (sym first_rows) ∙ all_counted place [] [] [] (raws_at next) in
+        let classes_count : r.sizes.classes ≡ count_all_raws 20 (raws_at next) = ap (λ (s : Sizes). s.classes) sizes_are ∙ counted 20 in
+        let instances_count : r.instances ≡ count_all_raws 14 (raws_at next) = instances_are ∙ counted 14 in
         record {
           places = subst (λ (o : Option Line). Places r.places (labels_now o)) (sym body) (no_places r.places places);
           numbered = stay_numbered (raws_from 1 (lines_in text)) 1 (length text) r.next (omega arith) comes_here;

@@ -67,7 +67,7 @@ impl<'a> Reader<'a> {
         ensures instances { result.instances ≡ instances_in (rows_of text.now) }
     {
         let next = next_line(vocabulary, text, 1);
-        let TableSizes { sizes, instances } = sizes_of(vocabulary, next);
+        let TableSizes { sizes, instances } = sizes_of(vocabulary, text);
         Reader {
             alloc,
             vocabulary,

@@ -94,19 +94,21 @@ none_yet_le a b e = omega arith
 pub none_yet : (a b : ℕ) → a ≡ 0 → a + b ≡ b
 none_yet a b e = omega arith
 
-pub one_more : (counts : List ℕ) (p k : ℕ) (raw : Raw) (raws : List Raw) (all : ℕ) → p < length counts → p ≡ place_of raw.word → get_or counts k 0 + count_all_raws k (raw ∷ raws) ≡ all → get_or (set counts p (get_or counts p 0 + 1)) k 0 + count_all_raws k raws ≡ all
-one_more counts p k raw raws all lt is was =
-    elim (split_bool (nat_eq (place_of raw.word) k)) [
+plus_none : (n : ℕ) → n ≡ n + 0
+plus_none n = omega arith
+
+-- one more at a place
+pub one_set : (counts : List ℕ) (p k : ℕ) → p < length counts → get_or (set counts p (get_or counts p 0 + 1)) k 0 ≡ get_or counts k 0 + cond (nat_eq p k) 1 0
+one_set counts p k lt =
+    elim (split_bool (nat_eq p k)) [
       | inl e ↦
-          let same : p ≡ k = is ∙ eq_is (place_of raw.word) k e in
-          let here : count_all_raws k (raw ∷ raws) ≡ 1 + count_all_raws k raws = rw e refl in
+          let same : p ≡ k = eq_is p k e in
           let value : get_or (set counts p (get_or counts p 0 + 1)) k 0 ≡ get_or counts k 0 + 1 = ap (λ (j : ℕ). get_or (set counts p (get_or counts p 0 + 1)) j 0) (sym same) ∙ get_or-set_same counts p (get_or counts p 0 + 1) 0 lt ∙ ap (λ (j : ℕ). get_or counts j 0 + 1) same in
-          omega (arith, here, value, was)
+          rw e value
       | inr e ↦
-          let here : count_all_raws k (raw ∷ raws) ≡ count_all_raws k raws = rw e refl in
-          let differs : k ≢ p = λ (f : k ≡ p). apart_places (place_of raw.word) k e (sym is ∙ sym f) in
+          let differs : k ≢ p = λ (f : k ≡ p). apart_places p k e (sym f) in
           let value : get_or (set counts p (get_or counts p 0 + 1)) k 0 ≡ get_or counts k 0 = get_or-set_other counts p k (get_or counts p 0 + 1) 0 differs in
-          omega (arith, here, value, was)
+          rw e (value ∙ plus_none (get_or counts k 0))
     ]
 
 pub few_more : (counts : List ℕ) (p k m n all : ℕ) → p < length counts → m ≤ n → get_or counts k 0 + (1 + n) ≤ all → get_or (set counts p (get_or counts p 0 + 1)) k 0 + m ≤ all

@@ -1,3 +1,4 @@
 pub mod Counted
 pub mod Meeting
+pub mod Passing
 pub mod Setting

@@ -1,5 +1,5 @@
 -- Lines that were met ahead.
-use Rattle.std.specs.Prelude.{ℕ, ◌+◌, List, [], ◌∷◌, length, Some, None}
+use Rattle.std.specs.Prelude.{◌+◌, List, [], ◌∷◌, length, Some, None}
 use Rattle.std.specs.declared.option.Option.{Option}
 use Rattle.abc_tokens.specs.Cursor.{Comes, raws_after}
 use Rattle.abc_tokens.specs.declared.line.Line.{Line}

@@ -1,5 +1,5 @@
 -- Counting lines by their words, before they are read.
-use Rattle.std.specs.Prelude.{ℕ, ◌+◌, nat_eq, List, [], ◌∷◌, if◌then◌else◌}
+use Rattle.std.specs.Prelude.{ℕ, ◌+◌, Bool, ◌&&◌, ◌||◌, nat_eq, nat_le, List, [], ◌∷◌, if◌then◌else◌}
 use Rattle.abc_text.specs.Words.{place_of}
 use Rattle.abc_rowparts.specs.Wordlines.{among}
 use Rattle.abc_lines.specs.Texts.{Raw}
@@ -13,3 +13,7 @@ count_raws part place (raw ∷ raws) = if nat_eq (place_of raw.word) place then 
 abbrev pub count_all_raws : ℕ → List Raw → ℕ
 count_all_raws place [] = 0
 count_all_raws place (raw ∷ raws) = if nat_eq (place_of raw.word) place then 1 + count_all_raws place raws else count_all_raws place raws
+
+-- the places of tables
+abbrev pub is_table : ℕ → Bool
+is_table place = (nat_le 1 place && nat_le place 8) || (nat_eq place 12 || (nat_eq place 14 || nat_eq place 20))

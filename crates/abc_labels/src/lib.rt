@@ -4,6 +4,7 @@
 
 mod ahead;
 mod counting;
+mod heads;
 mod labels;
 mod places;
 mod sizes;

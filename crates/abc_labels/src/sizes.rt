@@ -1,12 +1,12 @@
-ghost use Rattle.std.specs.Prelude.{◌≡◌, ◌<◌, ◌^◌, ℕ, List, slice_index};
-ghost use Rattle.abc_labels.specs.Counts.{count_all_raws};
-ghost use Rattle.abc_lines.specs.Texts.{instances_in, rows_from, sizes_in};
-ghost use Rattle.abc_rowparts.specs.Lines.{Label};
-ghost use Rattle.abc_tokens.specs.Cursor.{AreNumbered, most_lines, raws_at};
+ghost use Rattle.std.specs.Prelude.{◌≡◌, ◌<◌, ◌^◌, ℕ, true, length, slice_index};
+ghost use Rattle.abc_labels.specs.Counts.{count_all_raws, is_table};
+ghost use Rattle.abc_labels.specs.Tables.{StandsAt};
+ghost use Rattle.abc_lines.specs.Texts.{instances_in, lines_in, raws_from, rows_of, sizes_in};
 
+use crate::heads::may_be_of_table;
 use crate::places::place_of;
 use abc_tables::Sizes;
-use abc_tokens::{Line, Vocabulary};
+use abc_tokens::{Vocabulary, head_word, split_line};
 
 /// How many lines each table of a text has.
 #[derive(Clone, Copy, Debug)]
@@ -15,29 +15,45 @@ pub struct TableSizes {
     pub instances: u32,
 }
 
-/// How many of the lines from one on stand at each place.
-fn counts_of(vocabulary: &Vocabulary, first: Option<Line<'_>>) -> [u32; 26]
-    requires numbered { AreNumbered first }
-    requires few { most_lines first < 2 ^ 32 }
-    ensures { (k : ℕ) → k < 26 → slice_index result k ≡ count_all_raws k (raws_at first.entry) }
+/// The place of a line, unless it has none, or surely isn't a table's.
+#[inline(always)]
+#[tactic(auto, using(crate::proofs::Passing::stands, crate::proofs::Passing::stands_nowhere))]
+fn place_in_tables(vocabulary: &Vocabulary, line: &[u8]) -> Option<usize>
+    ensures { StandsAt line.now result }
+{
+    if !may_be_of_table(line) {
+        return None;
+    }
+    match head_word(vocabulary, line) {
+        Some(word) => Some(place_of(word) as usize),
+        None => None,
+    }
+}
+
+/// How many of the lines of a text stand at each place of a table.
+fn counts_of(vocabulary: &Vocabulary, text: &[u8]) -> [u32; 26]
+    requires { length text.now < 2 ^ 32 }
+    ensures { (k : ℕ) → is_table k ≡ true → slice_index result k ≡ count_all_raws k (raws_from 1 (lines_in text.now)) }
 {
     let mut counts = [0; 26];
-    let mut next = first;
-    while let Some(line) = next {
-        counts[place_of(line.word) as usize] += 1;
-        next = line.after(vocabulary);
+    let mut rest = text;
+    while !rest.is_empty() {
+        let (line, others) = split_line(rest);
+        if let Some(place) = place_in_tables(vocabulary, line) {
+            counts[place] += 1;
+        }
+        rest = others;
     }
     counts
 }
 
-/// How many of the lines from one on each table has, and how many are instances'.
-pub fn sizes_of(vocabulary: &Vocabulary, first: Option<Line<'_>>) -> TableSizes
-    requires numbered { AreNumbered first }
-    requires few { most_lines first < 2 ^ 32 }
-    ensures sizes { (labels : List Label) (set taken : List (List ℕ)) → result.sizes ≡ sizes_in (rows_from labels set taken (raws_at first.entry)) }
-    ensures instances { (labels : List Label) (set taken : List (List ℕ)) → result.instances ≡ instances_in (rows_from labels set taken (raws_at first.entry)) }
+/// How many lines each table of a text of less than 2^32 bytes has, and how many lines are instances'.
+pub fn sizes_of(vocabulary: &Vocabulary, text: &[u8]) -> TableSizes
+    requires { length text.now < 2 ^ 32 }
+    ensures sizes { result.sizes ≡ sizes_in (rows_of text.now) }
+    ensures instances { result.instances ≡ instances_in (rows_of text.now) }
 {
-    let counts = counts_of(vocabulary, first);
+    let counts = counts_of(vocabulary, text);
     let sizes = Sizes {
         ints: counts[1],
         uints: counts[2],

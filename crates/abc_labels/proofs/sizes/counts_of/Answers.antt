@@ -1,38 +1,37 @@
 -- One line more.
-use Rattle.std.proofs.Common.{◌≡◌, ◌+◌, ◌≤◌, ◌<◌, List, set, get_or, length, refl, sym, ap, subst, ◌∙◌, arith}
+use Rattle.std.proofs.Common.{◌+◌, ◌<◌, get_or, length, refl, sym, ◌∙◌, arith}
 use Rattle.std.proofs.lemmas.List.{length-set}
-use Rattle.std.specs.declared.option.Option.{Option}
-use Rattle.abc_tokens.specs.declared.line.Line.{Line}
-use Rattle.abc_tokens.specs.Cursor.{AreNumbered, most_lines, raw_of, raws_after, raws_at}
-use Rattle.abc_lines.specs.Texts.{Raw}
-use Rattle.abc_labels.specs.Counts.{count_all_raws}
-use Rattle.abc_labels.proofs.Counted.{comes_raws, few_more, fewer, none_yet, none_yet_le, one_more, stay_numbered, zero_at}
+use Rattle.abc_labels.proofs.Counted.{few_more, none_yet, none_yet_le, zero_at}
+use Rattle.abc_labels.proofs.Passing.{counted_on, none_left, passed_on, tables_in}
 use Rattle.abc_labels.proofs.sizes.counts_of.Goals as goal
 
-pub loop-next-init : goal.loop-next-init
-loop-next-init c = record {
+pub loop-rest-init : goal.loop-rest-init
+loop-rest-init c = record {
   len = refl;
-  numbered = c.requires.numbered;
   few = λ k lt. none_yet_le _ _ (zero_at 26 k);
-  counted = λ k lt. none_yet _ _ (zero_at 26 k);
+  counted = λ k is. none_yet _ _ (zero_at 26 k);
 }
 
-pub loop-next-preserved : goal.loop-next-preserved
-loop-next-preserved c =
-    let line = c.in-Some.line in
-    let counts = c.loop-next.counts in
-    let p = c.place_of.result in
-    let bound : p < length counts = omega (arith, c.loop-next.invariant.len, c.place_of.ensures.bound) in
-    let numbered : AreNumbered (c.loop-next.next) = c.loop-next.invariant.numbered in
-    let here : line.number + 1 + length line.rest.now ≤ 4294967296 = subst AreNumbered c.in-Some.is numbered in
+pub returns : goal.returns
+returns c k is =
+    let none = none_left k c.loop-rest.rest.now (sym c.is_empty.ensures ∙ c.loop-rest-test.false) in
+    omega (arith, none, c.loop-rest.invariant.counted k is)
+
+pub loop-rest-preserved-in-Some : goal.loop-rest-preserved-in-Some
+loop-rest-preserved-in-Some c =
+    let counts = c.loop-rest.counts in
+    let p = c.in-Some.place in
+    let more = c.split_line.result.1.now in
+    let bound : p < length counts = omega (arith, c.loop-rest.invariant.len, c.in-Some.ensures.0) in
     record {
-      len = length-set counts p (get_or counts p 0 + 1) ∙ c.loop-next.invariant.len;
-      numbered = stay_numbered (raws_after line) (line.number + 1) (length line.rest.now) c.after-next.result here c.after-next.ensures;
-      few = λ k lt.
-          few_more counts p k (most_lines c.after-next.result) (length line.rest.now) (most_lines c.args.first) bound (fewer (raws_after line) (line.number + 1) (length line.rest.now) c.after-next.result c.after-next.ensures)
-          (subst (λ (o : Option Line). get_or counts k 0 + most_lines o ≤ most_lines c.args.first) c.in-Some.is (c.loop-next.invariant.few k lt));
-      counted = λ k lt.
-          ap (λ (raws : List Raw). get_or (set counts p (get_or counts p 0 + 1)) k 0 + count_all_raws k raws) (sym (comes_raws (raws_after line) (line.number + 1) (length line.rest.now) c.after-next.result c.after-next.ensures))
-          ∙ one_more counts p k (raw_of line) (raws_after line) (count_all_raws k (raws_at c.args.first)) bound c.place_of.ensures.is
-          (subst (λ (o : Option Line). get_or counts k 0 + count_all_raws k (raws_at o) ≡ count_all_raws k (raws_at c.args.first)) c.in-Some.is (c.loop-next.invariant.counted k lt));
+      len = length-set counts p (get_or counts p 0 + 1) ∙ c.loop-rest.invariant.len;
+      few = λ k lt. few_more counts p k (length more) (length more) (length c.args.text.now) bound (omega arith) (omega (arith, c.split_line.ensures.short, c.loop-rest.invariant.few k lt));
+      counted = λ k is. counted_on counts p k (tables_in k c.args.text.now) c.loop-rest.rest.now c.split_line.result.0.now more c.split_line.ensures.lines c.in-Some.ensures bound (c.loop-rest.invariant.counted k is);
     }
+
+pub loop-rest-preserved : goal.loop-rest-preserved
+loop-rest-preserved c = record {
+  len = c.loop-rest.invariant.len;
+  few = λ k lt. omega (arith, c.split_line.ensures.short, c.loop-rest.invariant.few k lt);
+  counted = λ k is. passed_on c.loop-rest.counts k (tables_in k c.args.text.now) c.loop-rest.rest.now c.split_line.result.0.now c.split_line.result.1.now c.split_line.ensures.lines c.in_default.ensures is (c.loop-rest.invariant.counted k is);
+}

@@ -1,5 +1,5 @@
 use Rattle.std.proofs.Common.{refl}
-use Rattle.abc_asmreader.proofs.Fresh.{first_instances, first_sizes, fresh_reader, fresh_rows}
+use Rattle.abc_asmreader.proofs.Fresh.{fresh_reader, fresh_rows}
 use Rattle.abc_asmreader.proofs.reader.Reader.new.Goals as goal
 
 pub returns-clause-is : goal.returns-clause-is
@@ -8,9 +8,3 @@ returns-clause-is c =
 
 pub returns-clause-rows : goal.returns-clause-rows
 returns-clause-rows c = fresh_rows c.args.text.now c.next_line-next.result c.next_line-next.ensures _ refl refl c.new-3.ensures.empty c.new-4.ensures.empty c.new-5.ensures.empty
-
-pub returns-clause-sizes : goal.returns-clause-sizes
-returns-clause-sizes c = first_sizes c.args.text.now c.next_line-next.result c.next_line-next.ensures c.sizes_of-instances.result.sizes c.sizes_of-instances.ensures.sizes
-
-pub returns-clause-instances : goal.returns-clause-instances
-returns-clause-instances c = first_instances c.args.text.now c.next_line-next.result c.next_line-next.ensures c.sizes_of-instances.result.instances c.sizes_of-instances.ensures.instances
