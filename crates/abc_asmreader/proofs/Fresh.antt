@@ -1,18 +1,16 @@
 -- A reader at the first line of a text.
-use Rattle.std.proofs.Common.{◌≡◌, ℕ, ◌+◌, ◌≤◌, ◌<◌, ◌^◌, Bool, List, [], ◌∷◌, length, drop, map, Some, None, refl, sym, ap, subst, ◌∙◌, arith}
+use Rattle.std.proofs.Common.{◌≡◌, ℕ, ◌<◌, ◌^◌, Bool, List, [], length, drop, map, None, sym, ap, subst, ◌∙◌, arith}
 use Rattle.std.specs.Borrow.{Bor}
 use Rattle.std.specs.Map.{lookup}
 use Rattle.std.specs.declared.option.Option.{Option}
 use Rattle.abc_tables.specs.declared.tables.Sizes.{Sizes}
-use Rattle.abc_rowparts.specs.Lines.{Label, Row}
-use Rattle.abc_rowparts.specs.Operands.{place_of_label}
 use Rattle.abc_rowparts.specs.Wordlines.{count_all}
 use Rattle.abc_lines.specs.Texts.{Raw, instances_in, lines_in, raws_from, rows_from, rows_of, sizes_in}
 use Rattle.abc_labels.specs.Ahead.{Follows}
 use Rattle.abc_labels.specs.Counts.{count_all_raws}
 use Rattle.abc_labels.proofs.Counted.{all_counted, comes_raws, fewer, stay_numbered}
 use Rattle.abc_operands.specs.Places.{Places}
-use Rattle.abc_tokens.specs.Cursor.{AreNumbered, Comes, most_lines, raws_at}
+use Rattle.abc_tokens.specs.Cursor.{Comes, raws_at}
 use Rattle.abc_tokens.specs.Names.{NameMap, is_named}
 use Rattle.abc_tokens.specs.declared.line.Line.{Line}
 use Rattle.abc_asmreader.specs.Names.{key_of, names_in}

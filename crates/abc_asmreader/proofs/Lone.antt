@@ -1,5 +1,5 @@
 -- What a line is read as.
-use Rattle.std.proofs.Common.{◌≡◌, ℕ, ◌≤◌, Bool, true, false, cond, nat_eq, List, [], ◌∷◌, ◌++◌, length, Ok, Err, Some, None, refl, sym, ap, subst, ◌∙◌, append-nil}
+use Rattle.std.proofs.Common.{◌≡◌, ℕ, Bool, true, false, cond, nat_eq, List, [], ◌∷◌, ◌++◌, Ok, Err, Some, None, refl, sym, ap, subst, ◌∙◌, append-nil}
 use Rattle.std.specs.declared.option.Option.{Option}
 use Rattle.std.specs.declared.result.Result.{Result}
 use Rattle.abc_text.specs.declared.reason.AsmReason.{AsmReason}
@@ -13,7 +13,7 @@ use Rattle.abc_rowparts.proofs.Wordlines.{same_word}
 use Rattle.abc_rowparts.proofs.Many.{eq_refl}
 use Rattle.abc_rowparts.specs.Firsts.{told}
 use Rattle.abc_rowparts.specs.Lines.{Label, Row}
-use Rattle.abc_rowparts.specs.Rows.{Fault, fault, unless, ◌>>=◌}
+use Rattle.abc_rowparts.specs.Rows.{Fault, fault, unless}
 use Rattle.abc_rowparts.specs.Wordlines.{if_none, plain_faults, twice}
 use Rattle.abc_lines.specs.File.{extra, faults, others, own, rules}
 use Rattle.abc_operands.specs.Answers.{Answers}
@@ -25,7 +25,7 @@ use Rattle.abc_asmreader.specs.declared.error.AsmError.{AsmError}
 use Rattle.abc_asmreader.specs.declared.error.AsmError.TheVariants as errors
 use Rattle.abc_asmreader.specs.declared.reader.Reader.{Reader}
 use Rattle.abc_asmreader.specs.declared.reader.Taken.{Taken}
-use Rattle.abc_asmreader.specs.Reading.{IsBroken, labels_now, may_repeat, row_of, rows_left, word_next}
+use Rattle.abc_asmreader.specs.Reading.{IsBroken, labels_now, may_repeat, row_of, rows_left}
 use Rattle.abc_asmreader.specs.Parts.{ComesNext, Gives, IsPlain, Item, ReadsItem, line_says, lone, lone_item, made_at}
 
 none_more : (l : List AsmReason) → if_none l [] ≡ []

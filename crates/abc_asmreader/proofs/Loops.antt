@@ -1,8 +1,6 @@
 -- Lines of one word, one after the other.
 use Rattle.std.proofs.Common.{◌≡◌, ℕ, zero, suc, ◌+◌, ◌-◌, ◌≤◌, ◌<◌, inl, inr, Bool, true, false, cond, nat_eq, List, [], ◌∷◌, ◌++◌, length, Ok, Err, Some, None, refl, sym, ap, subst, ◌∙◌, append_assoc, append-nil, length-append, arith}
-use Rattle.std.specs.declared.option.Option.{Option}
 use Rattle.std.specs.declared.result.Result.{Result}
-use Rattle.abc_text.specs.declared.reason.AsmReason.{AsmReason}
 use Rattle.abc_text.specs.declared.word.Word.{Word}
 use Rattle.abc_text.specs.Words.{place_of}
 use Rattle.abc_text.proofs.Bools.{split_bool}
@@ -14,7 +12,7 @@ use Rattle.abc_asmreader.specs.declared.error.AsmError.{AsmError}
 use Rattle.abc_asmreader.specs.declared.error.AsmError.TheVariants as errors
 use Rattle.abc_asmreader.specs.declared.reader.Reader.{Reader}
 use Rattle.abc_asmreader.specs.Reading.{Goes, IsReader, rows_left, word_next}
-use Rattle.abc_asmreader.specs.Parts.{ComesNext, Gives, Going, Item, ReadsItem, ReadsPart, all_items, items_read, with_front}
+use Rattle.abc_asmreader.specs.Parts.{ComesNext, Going, Item, ReadsItem, ReadsPart, all_items, items_read, with_front}
 
 abbrev Read : Type 0 → Type 0
 Read A = Result (List A × List Row) Fault

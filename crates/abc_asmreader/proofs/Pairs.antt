@@ -1,5 +1,5 @@
 -- One part after another, and a line with the part below it.
-use Rattle.std.proofs.Common.{◌≡◌, ℕ, ◌≤◌, ◌<◌, Bool, true, false, cond, nat_eq, List, [], ◌∷◌, ◌++◌, length, Ok, Err, Some, None, refl, sym, ap, subst, ◌∙◌, arith}
+use Rattle.std.proofs.Common.{◌≡◌, ℕ, ◌≤◌, List, ◌∷◌, length, Ok, Err, Some, None, refl, sym, ap, subst, ◌∙◌, arith}
 use Rattle.std.specs.declared.option.Option.{Option}
 use Rattle.std.specs.declared.result.Result.{Result}
 use Rattle.abc_text.specs.declared.reason.AsmReason.{AsmReason}
@@ -8,7 +8,7 @@ use Rattle.abc_text.specs.Tokens.{Token}
 use Rattle.abc_tables.specs.declared.tables.Sizes.{Sizes}
 use Rattle.abc_rowparts.specs.Firsts.{told}
 use Rattle.abc_rowparts.specs.Lines.{Label, Row}
-use Rattle.abc_rowparts.specs.Rows.{Fault, fault, unless, ◌>>=◌}
+use Rattle.abc_rowparts.specs.Rows.{Fault, unless, ◌>>=◌}
 use Rattle.abc_lines.specs.File.{faults}
 use Rattle.abc_tokens.specs.Walks.{tokens_of}
 use Rattle.abc_asmreader.specs.declared.error.AsmError.{AsmError}
@@ -16,7 +16,7 @@ use Rattle.abc_asmreader.specs.declared.error.AsmError.TheVariants as errors
 use Rattle.abc_asmreader.specs.declared.reader.Reader.{Reader}
 use Rattle.abc_asmreader.specs.declared.reader.Taken.{Taken}
 use Rattle.abc_asmreader.specs.Reading.{Goes, labels_now, row_of, rows_left}
-use Rattle.abc_asmreader.specs.Parts.{Gives, Item, Part, ReadsItem, ReadsPart, head_says, headed_item, item_of, mapped_part, pair_of}
+use Rattle.abc_asmreader.specs.Parts.{Gives, Item, Part, ReadsItem, ReadsPart, head_says, headed_item, mapped_part, pair_of}
 use Rattle.abc_asmreader.proofs.Lone.{IsHeaded, first_row, rest_rows, unless_broken}
 
 -- what a part is read as behind another, by the sizes that were first

@@ -1,5 +1,5 @@
 -- A line is taken.
-use Rattle.std.proofs.Common.{◌≡◌, ℕ, zero, suc, ◌+◌, ◌≤◌, ◌<◌, ◌^◌, inl, inr, Bool, true, false, cond, ◌||◌, nat_eq, List, [], ◌∷◌, ◌++◌, length, drop, Ok, Err, Some, None, refl, sym, ap, subst, ◌∙◌, arith}
+use Rattle.std.proofs.Common.{◌≡◌, ℕ, ◌+◌, ◌≤◌, ◌<◌, ◌^◌, inl, inr, Bool, true, false, cond, ◌||◌, nat_eq, List, [], ◌∷◌, ◌++◌, length, drop, Ok, Err, Some, None, refl, sym, ap, subst, ◌∙◌, arith}
 use Rattle.std.specs.Option.{IsSome}
 use Rattle.std.specs.Result.{IfOk}
 use Rattle.std.specs.declared.result.Result.{Result}
@@ -7,8 +7,7 @@ use Rattle.std.specs.declared.option.Option.{Option}
 use Rattle.abc_text.specs.declared.reason.AsmReason.TheVariants as reasons
 use Rattle.abc_text.specs.declared.word.Word.{Word}
 use Rattle.abc_text.specs.declared.word.Word.TheVariants as words
-use Rattle.abc_text.specs.Scanning.{Between, Scan, scan}
-use Rattle.abc_text.specs.Tokens as text
+use Rattle.abc_text.specs.Scanning.{Scan}
 use Rattle.abc_text.specs.Words.{place_of}
 use Rattle.abc_text.proofs.Bools.{split_bool}
 use Rattle.abc_tables.specs.declared.tables.Sizes.{Sizes}
@@ -29,8 +28,7 @@ use Rattle.abc_tokens.specs.declared.token.Token.{Token}
 use Rattle.abc_asmreader.specs.Names.{Same, names_in}
 use Rattle.abc_asmreader.specs.declared.error.AsmError.TheVariants as errors
 use Rattle.abc_asmreader.specs.declared.reader.Reader.{Reader}
-use Rattle.abc_asmreader.specs.declared.reader.Taken.{Taken}
-use Rattle.abc_asmreader.specs.Reading.{Goes, IsBroken, IsReader, Noted, NotedBody, Opens, labels_now, may_repeat, one_at, raw_with, row_of, rows_left, word_next}
+use Rattle.abc_asmreader.specs.Reading.{IsBroken, IsReader, Noted, NotedBody, Opens, labels_now, may_repeat, one_at, raw_with, row_of, rows_left, word_next}
 use Rattle.abc_asmreader.proofs.Sets.{same_rows}
 
 -- ---- the first of some lines

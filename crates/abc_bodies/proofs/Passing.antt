@@ -25,24 +25,24 @@ use Rattle.abc_bodies.proofs.Collecting.{next_body}
 abbrev pub entry_bytes : Body × List ℕ → List ℕ
 entry_bytes x = body_bytes x.0
 
--- Some bodies are passed, and `more` are to come.
-pub record Middle (v : Sizes) (total more : ℕ) (flags : List Bool) (from here : At) (old new : List ℕ) : Type 0 where
+-- Some bodies are passed, with what is put of each, and `more` are to come.
+pub record Middle (entry : Body × List ℕ → List ℕ) (v : Sizes) (total more : ℕ) (flags : List Bool) (from here : At) (old new : List ℕ) : Type 0 where
   pub before : List (Body × List ℕ)
   pub read : (chain more (next_body v) before).reads here ≡ (chain total (next_body v) []).reads from
   pub flagged : IsFlagged flags (methods_of before)
   pub many : length before + more ≡ total
-  pub bytes : new ≡ old ++ flat_map entry_bytes before
+  pub bytes : new ≡ old ++ flat_map entry before
 
-pub record PassesBodies (v : Sizes) (total more : ℕ) (flags : List Bool) (old new : List ℕ) (w0 : View) (s0 : Option (List ℕ)) (w : View) (s : Option (List ℕ)) : Type 0 where
+pub record PassesBodies (entry : Body × List ℕ → List ℕ) (v : Sizes) (total more : ℕ) (flags : List Bool) (old new : List ℕ) (w0 : View) (s0 : Option (List ℕ)) (w : View) (s : Option (List ℕ)) : Type 0 where
   pub fresh : w.kept ≡ None
   pub forth : w0.place ≤ w.place
   pub ends_at : w.end ≡ w0.end
   pub told : (input : List ℕ) → IsInput w s input → IsInput w0 s0 input
   pub count : length flags ≡ v.methods
-  pub same : (input : List ℕ) → IsInput w s input → Middle v total more flags (stand w0 input) (stand w input) old new
+  pub same : (input : List ℕ) → IsInput w s input → Middle entry v total more flags (stand w0 input) (stand w input) old new
 
-module _ (v : Sizes) (total : ℕ) (w0 : View) (s0 : Option (List ℕ)) (old : List ℕ) where
-  pub begins : (flags : List Bool) → flags ≡ replicate v.methods false → w0.kept ≡ None → PassesBodies v total (total - 0) flags old old w0 s0 w0 s0
+module _ (entry : Body × List ℕ → List ℕ) (v : Sizes) (total : ℕ) (w0 : View) (s0 : Option (List ℕ)) (old : List ℕ) where
+  pub begins : (flags : List Bool) → flags ≡ replicate v.methods false → w0.kept ≡ None → PassesBodies entry v total (total - 0) flags old old w0 s0 w0 s0
   begins flags is fresh = record {
     fresh = fresh;
     forth = omega arith;
@@ -59,8 +59,8 @@ module _ (v : Sizes) (total : ℕ) (w0 : View) (s0 : Option (List ℕ)) (old : L
   }
 
   pub goes_on : (more less : ℕ) (flags : List Bool) (new new2 : List ℕ) (w : View) (s : Option (List ℕ)) (w2 : View) (s2 : Option (List ℕ)) (method : ℕ)
-      → more ≡ suc less → PassesBodies v total more flags old new w0 s0 w s → Passes (free_body v flags) entry_bytes (λ x. x.0.method) w s w2 s2 new new2 (Ok method) → slice_get flags method ≡ Some false
-      → PassesBodies v total less (set flags method true) old new2 w0 s0 w2 s2
+      → more ≡ suc less → PassesBodies entry v total more flags old new w0 s0 w s → Passes (free_body v flags) entry (λ x. x.0.method) w s w2 s2 new new2 (Ok method) → slice_get flags method ≡ Some false
+      → PassesBodies entry v total less (set flags method true) old new2 w0 s0 w2 s2
   goes_on more less flags new new2 w s w2 s2 method k g r free = record {
     fresh = r.1;
     forth = omega (arith, g.forth, r.2);
@@ -78,12 +78,12 @@ module _ (v : Sizes) (total : ℕ) (w0 : View) (s0 : Option (List ℕ)) (old : L
           read = chain_step (next_body v) total more m.before (stand w0 input) (stand w input) m.read less x.value (stand w2 input) k read;
           flagged = rw methods (flags_up flags (methods_of m.before) method (slice_get_within flags method false free) m.flagged);
           many = omega (arith, k, m.many, length-append m.before (x.value ∷ []));
-          bytes = x.bytes ∙ ap (λ (u : List ℕ). u ++ body_bytes x.value.0) m.bytes ∙ flat_map_more entry_bytes old m.before x.value;
+          bytes = x.bytes ∙ ap (λ (u : List ℕ). u ++ entry x.value) m.bytes ∙ flat_map_more entry old m.before x.value;
         };
   }
 
   pub fails : {T : Type 0} (told : List (Body × List ℕ) → T) (e : ReadError) (more : ℕ) (flags : List Bool) (new new2 : List ℕ) (w : View) (s : Option (List ℕ)) (w2 : View) (s2 : Option (List ℕ))
-      → 0 < more → PassesBodies v total more flags old new w0 s0 w s → Reads (free_body v flags).reads w s w2 s2 (Err e) → Passes (chain total (next_body v) []) (flat_map entry_bytes) told w0 s0 w2 s2 old new2 (Err e)
+      → 0 < more → PassesBodies entry v total more flags old new w0 s0 w s → Reads (free_body v flags).reads w s w2 s2 (Err e) → Passes (chain total (next_body v) []) (flat_map entry) told w0 s0 w2 s2 old new2 (Err e)
   fails told e more flags new new2 w s w2 s2 lt g r = λ fresh.
       let input = known w2 s2 in
       let h = r g.fresh in
@@ -92,7 +92,7 @@ module _ (v : Sizes) (total : ℕ) (w0 : View) (s0 : Option (List ℕ)) (old : L
       (g.told input h.0, chain_stops (next_body v) total more m.before (stand w0 input) (stand w input) m.read e lt next)
 
   pub passed : (more : ℕ) (flags : List Bool) (new : List ℕ) (w : View) (s : Option (List ℕ))
-      → more ≡ 0 → w0.kept ≡ None → PassesBodies v total more flags old new w0 s0 w s → Passes (chain total (next_body v) []) (flat_map entry_bytes) length w0 s0 w s old new (Ok total)
+      → more ≡ 0 → w0.kept ≡ None → PassesBodies entry v total more flags old new w0 s0 w s → Passes (chain total (next_body v) []) (flat_map entry) length w0 s0 w s old new (Ok total)
   passed more flags new w s k fresh g = (
     fresh,
     g.fresh,

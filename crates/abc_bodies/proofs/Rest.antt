@@ -1,5 +1,5 @@
 -- What follows the sizes of a body is passed part by part.
-use Rattle.std.proofs.Common.{◌≡◌, ℕ, true, Bool, List, ◌++◌, length, map, Ok, Err, None, refl, sym, ap, subst, ◌∙◌, append_assoc, arith}
+use Rattle.std.proofs.Common.{◌≡◌, ℕ, Bool, List, ◌++◌, length, map, Ok, Err, refl, sym, ap, subst, ◌∙◌, append_assoc, arith}
 use Rattle.std.specs.declared.option.Option.{Option}
 use Rattle.abc_format.specs.Canonical.{counted_bytes}
 use Rattle.abc_format.specs.Lists.{counted}

@@ -10,8 +10,10 @@ mod places;
 mod put;
 mod read;
 
+pub use abc_instr::Reading;
+pub use body::read_body;
 pub use laws::bodies_law;
 pub use pass::pass_bodies;
 pub use places::Places;
 pub use put::put_bodies;
-pub use read::read_bodies;
+pub use read::{flags_down, read_bodies};

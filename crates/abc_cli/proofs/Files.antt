@@ -5,7 +5,7 @@ use Rattle.abc_base.specs.declared.status.Status.TheVariants as status
 use Rattle.abc_format.specs.Part.{Refusal, refusal}
 use Rattle.abc_varint.specs.declared.error.ReadError.{ReadError}
 use Rattle.abc_varint.specs.declared.error.ReadError.TheVariants as errors
-use Rattle.abc_file.specs.Reading.{AnswersFile, Canonises, IsCanonicalOf, IsFaultOf, IsUsedUp, OfInput, Refuses}
+use Rattle.abc_file.specs.Reading.{AnswersFile, IsFaultOf, IsUsedUp, IsWrittenOf, OfInput, Refuses, Writes}
 use Rattle.abc_tables.specs.declared.tables.Abc.{Abc}
 use Rattle.abc_tables.specs.Files.{IsBadFile, IsFileRead, file_bytes}
 use Rattle.abc_tables.proofs.Whole.{read_spelled}
@@ -20,7 +20,7 @@ use Rattle.abc_answers.specs.Answers.{Answer, OfFile, OfFileRead, On, told, give
 use Rattle.abc_answers.specs.Stops.{Gives, Stops, StopsAt, stop_answer, stop_of_read, stop_of_tidy}
 use Rattle.abc_answers.specs.End.{Channel, HasFailed}
 use Rattle.abc_answers.proofs.Ending.{memory_stops}
-use Rattle.abc_cli.specs.Outcome.{Canon, Tidy}
+use Rattle.abc_cli.specs.Outcome.{Tidy}
 
 -- ---- outcomes on a file
 
@@ -80,11 +80,12 @@ file_stops_at Outcome Answers on source v starts stop f x =
 pub memory_stops_at : (Answers : Answer → Type 0) → StopsAt Answers stops.NoMemory
 memory_stops_at Answers = record { answer = λ d. absurd d; read = λ e. absurd cc }
 
--- ---- `canon`
+-- ---- `canon` and `dis`
 
-pub canonical_gives : (source : Channel) (bytes : List ℕ) → IsCanonicalOf source.before bytes → IsUsedUp source.before source.after → Gives (OfFile Canon) source bytes
-canonical_gives source bytes f used = record {
-  outcome = of_any (Canonises bytes) (λ input. OfFile Canon input (given bytes)) source.before (λ b x. OfFile.accepted x.0 x.1 (ap given x.2)) f;
+-- what is written of a file is given
+pub written_gives : (write : Abc → List ℕ) (source : Channel) (bytes : List ℕ) → IsWrittenOf write source.before bytes → IsUsedUp source.before source.after → Gives (OfFile (λ v a. a ≡ given (write v))) source bytes
+written_gives write source bytes f used = record {
+  outcome = of_any (Writes write bytes) (λ input. OfFile (λ v a. a ≡ given (write v)) input (given bytes)) source.before (λ b x. OfFile.accepted x.0 x.1 (ap given x.2)) f;
   used_up = used;
 }
 

@@ -11,6 +11,7 @@ use abc_file::write;
 use abc_input::read_input;
 use abc_ranges::texts_have_ready_bodies;
 use std::alloc::Global;
+use std::mem::forget;
 
 /// The canonical bytes of the file that a text is one of.
 fn assembled(alloc: Global, text: &[u8]) -> Result<Vec<u8>, Stop>
@@ -23,6 +24,8 @@ fn assembled(alloc: Global, text: &[u8]) -> Result<Vec<u8>, Stop>
     let abc = assemble(alloc, text)?;
     let mut bytes = Vec::new(alloc);
     write(alloc, &abc, &mut bytes)?;
+    // The program ends soon, and the lists of a file are many: to free each of them would only take time.
+    forget(abc);
     Ok(bytes)
 }
 

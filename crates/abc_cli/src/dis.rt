@@ -1,34 +1,19 @@
-ghost use Rattle.std.specs.Prelude.{All, IfErr, IfOk};
+ghost use Rattle.std.specs.Prelude.{IfErr, IfOk};
 ghost use Rattle.abc_answers.specs.End.{stream};
-ghost use Rattle.abc_answers.specs.Answers.{OfFile, given};
+ghost use Rattle.abc_answers.specs.Answers.{OfFile};
 ghost use Rattle.abc_cli.specs.Outcome.{Dis};
-ghost use Rattle.abc_answers.specs.Stops.{Gives, Stops, StopsAt};
-ghost use Rattle.abc_tables.specs.Bodies.{IsReadyBody};
+ghost use Rattle.abc_answers.specs.Stops.{Gives, Stops};
 
 use abc_answers::Stop;
 use abc_base::Source;
-use abc_disasm::disassemble;
-use abc_file::read;
-use abc_tables::Abc;
+use abc_listing::listing_of;
 use std::alloc::Global;
-
-/// The text of a file.
-fn text_of(alloc: Global, abc: &Abc) -> Result<Vec<u8>, Stop>
-    requires { All IsReadyBody (abc.now).bodies }
-    ensures gives { IfOk result (λ text. Dis abc.now (given text.items)) }
-    ensures stops { IfErr result (λ stop. StopsAt (Dis abc.now) stop) }
-{
-    let mut text = Vec::new(alloc);
-    disassemble(alloc, abc, &mut text)?;
-    Ok(text)
-}
 
 /// What the command `dis` gives: the text of the file.
 pub fn dis<S: Source>(alloc: Global, source: &mut S) -> Result<Vec<u8>, Stop>
     ensures gives { IfOk result (λ bytes. Gives (OfFile Dis) (stream S.left S.faults source.old source.new) bytes.items) }
     ensures stops { IfErr result (λ stop. Stops (OfFile Dis) (stream S.left S.faults source.old source.new) stop) }
 {
-    let (abc, _) = read(alloc, source)?;
-    let text = text_of(alloc, &abc)?;
+    let text = listing_of(alloc, source)?;
     Ok(text)
 }

@@ -1,26 +1,22 @@
 -- The line of each form of instruction.
-use Rattle.std.proofs.Common.{◌≡◌, ℕ, zero, suc, ℤ, ◌⊎◌, inl, inr, Bool, true, false, cond, nat_eq, List, [], ◌∷◌, ◌++◌, codes, decimal, length, map, Some, None, refl, sym, ap, subst, ◌∙◌, append_assoc, append-nil, ◌<◌, arith}
+use Rattle.std.proofs.Common.{◌≡◌, ℕ, ℤ, inl, inr, nat_eq, List, [], ◌∷◌, ◌++◌, codes, decimal, length, Some, None, refl, sym, ap, ◌∙◌, append_assoc, append-nil, ◌<◌, arith}
 use Rattle.std.specs.Fmt.{signed_decimal}
-use Rattle.std.specs.List.{flat_map}
 use Rattle.std.specs.Option.{IsSome}
 use Rattle.std.specs.declared.option.Option.{Option}
 use Rattle.abc_text.specs.declared.word.Word.TheVariants as words
-use Rattle.abc_text.specs.Writing.{spaced}
 use Rattle.abc_text.proofs.Bools.{split_bool}
 use Rattle.abc_text.proofs.Scans.{eq_is}
-use Rattle.abc_tables.specs.declared.code.Instr.{Instr}
 use Rattle.abc_tables.specs.declared.code.Instr.TheVariants as instrs
 use Rattle.abc_tables.specs.declared.opcodes.Form.{Form}
 use Rattle.abc_tables.specs.declared.opcodes.Form.TheVariants as forms
 use Rattle.abc_tables.specs.declared.opcodes.OpInfo.{OpInfo}
 use Rattle.abc_tables.specs.declared.opcodes.Pool.{Pool}
-use Rattle.abc_tables.specs.declared.opcodes.Pool.TheVariants as pools
 use Rattle.abc_tables.specs.declared.tables.Abc.{Abc}
 use Rattle.abc_tables.specs.Opcodes.{form_at, form_in, form_of, info_at, name_at, name_in, named, pool_of}
 use Rattle.abc_rowparts.specs.Lines.{Item, Number, Signed, Target}
 use Rattle.abc_rowparts.specs.Operands.{any_number, any_signed, several_items, target}
 use Rattle.abc_lines.specs.Lineforms.{instruction_line}
-use Rattle.abc_lines.specs.Listing.{line_bytes, operand_comment, pool_shown, token_of, word_name}
+use Rattle.abc_lines.specs.Listing.{line_bytes, operand_comment, pool_shown, word_name}
 use Rattle.abc_disasm.specs.Texts.{instr_text, labels, operands}
 
 abbrev name_of : ℕ → List ℕ

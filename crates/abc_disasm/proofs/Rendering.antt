@@ -1,5 +1,5 @@
 -- The listing of a file is what is appended, table by table.
-use Rattle.std.proofs.Common.{◌≡◌, ℕ, zero, suc, ◌+◌, ◌<◌, Bool, true, false, cond, List, [], ◌∷◌, ◌++◌, codes, decimal, length, map, Some, None, refl, sym, ap, subst, ◌∙◌, append_assoc, append-nil, arith}
+use Rattle.std.proofs.Common.{◌≡◌, ℕ, zero, suc, ◌+◌, true, false, List, [], ◌∷◌, ◌++◌, codes, decimal, length, map, Some, None, refl, sym, ap, ◌∙◌, append_assoc, append-nil, arith}
 use Rattle.std.specs.List.{All, AllByRecursion, flat_map}
 use Rattle.std.specs.Fmt.{digits}
 use Rattle.std.specs.Option.{option_to_list}
@@ -27,17 +27,17 @@ use Rattle.abc_tables.specs.declared.traits.TraitInfo.{TraitInfo}
 use Rattle.abc_tables.specs.Bodies.{IsReadyBody}
 use Rattle.abc_tables.specs.Classes.{sizes_of}
 use Rattle.abc_tables.specs.Traits.{trait_kind_in}
-use Rattle.abc_rowparts.specs.Lines.{Item, Number, Target, Shown, Line, Labels}
+use Rattle.abc_rowparts.specs.Lines.{Item, Number, Shown, Line, Labels}
 use Rattle.abc_rowparts.specs.Operands.{Operands, any_number, several_items, target}
 use Rattle.abc_rowparts.specs.Rows.{Faults, Head, Rows, code_after, items_shown, nothing}
 use Rattle.abc_rowparts.specs.Wordlines.{always, closed_to, flat, line}
 use Rattle.abc_lines.specs.Answers.{instance_head, instance_in, metadata_lines, outline, pairs}
 use Rattle.abc_lines.specs.File as file
 use Rattle.abc_lines.specs.Kinds.{trait_kind, value_kind}
-use Rattle.abc_lines.specs.Lineforms.{BodyHead, MethodHead, TraitHead, body_line, catch_line, double_line, int_line, name_line, namespace_line, set_line, string_line, uint_line, entry_line, implements_line, instance_line, instruction_line, method_index_line, method_line, number_line, opcode_of, option_line, param_line, protected_line, slot_value, string_index_line, trait_fields, trait_line, trait_metadata_line, version_line}
+use Rattle.abc_lines.specs.Lineforms.{BodyHead, MethodHead, TraitHead, body_line, catch_line, double_line, int_line, name_line, namespace_line, set_line, string_line, uint_line, entry_line, implements_line, instance_line, instruction_line, method_index_line, method_line, number_line, opcode_of, option_line, param_line, protected_line, slot_value, string_index_line, trait_fields, trait_line, trait_metadata_line}
 use Rattle.abc_lines.specs.Listing.{body_text, line_bytes, lines_of_body, listing, quiet_lines, rendered, shown_bytes, target_in, targets_in}
 use Rattle.abc_disasm.specs.Texts as texts
-use Rattle.abc_disasm.specs.Texts.{IsShown, body_targets, class_text, code_text, definitions_text, entry_text, handler_targets, handler_text, instance_text, instr_targets, instr_text, metadata_text, method_text, number_lines, option_text, pools_text, protected_text, script_text, trait_text, version_text, whole_body, whole_text}
+use Rattle.abc_disasm.specs.Texts.{IsShown, body_targets, class_text, code_text, definitions_text, entry_text, front_text, handler_targets, handler_text, instance_text, instr_targets, instr_text, metadata_text, method_text, number_lines, option_text, pools_text, protected_text, script_text, trait_text, version_text, whole_body, whole_text}
 use Rattle.abc_disasm.proofs.Forms.{branch_items, byte_items, debug_items, one_items, plain_items, scope_items, short_items, switch_items, two_items}
 use Rattle.abc_disasm.proofs.Readiness.{shown}
 
@@ -232,7 +232,7 @@ module _ (v : Abc) where
       ∙ ap (λ (l : List ℕ). fa ++ (fb ++ (fc ++ (fd ++ (fe ++ (l ++ r g)))))) (flat_shows v [] words.Set (set_line s) (texts.set_text v) (λ x. refl) v.sets)
       ∙ ap (λ (l : List ℕ). fa ++ (fb ++ (fc ++ (fd ++ (fe ++ (ff ++ l)))))) (flat_shows v [] words.Name (name_line s) (texts.name_text v) (λ x. refl) v.names)
 
-  quiet_are : rendered v [] (quiet_lines v) ≡ version_text ++ (pools_text v ++ definitions_text v)
+  pub quiet_are : rendered v [] (quiet_lines v) ≡ front_text v
   quiet_are =
       let p = (file.pools s i 0).shows (outline v).0 in
       let m = (file.methods s i 0).shows v.methods in
@@ -377,7 +377,7 @@ module _ (v : Abc) where
       ∙ ap (λ (l : List ℕ). flat_map targets_in c ++ l) (flat_map-append targets_in h t ∙ ap (λ (l : List ℕ). flat_map targets_in h ++ l) (traits_none b.traits) ∙ append-nil (flat_map targets_in h) ∙ handlers_named b.handlers)
       ∙ ap (λ (l : List ℕ). l ++ flat_map handler_targets b.handlers) (code_named 0 b.code (recursion_from_All IsShown b.code all))
 
-  body_is : (b : Body) → IsReadyBody b → body_text v b ≡ whole_body v b
+  pub body_is : (b : Body) → IsReadyBody b → body_text v b ≡ whole_body v b
   body_is b ready = body_shown (flat_map targets_in (lines_of_body v b)) b ∙ ap (λ (named : List ℕ). texts.body_head_text v b ++ (code_text v named 0 b.code ++ (flat_map (handler_text v) b.handlers ++ flat_map (trait_text v) b.traits))) (body_named b (shown b ready))
 
   bodies_are : (bs : List Body) → AllByRecursion IsReadyBody bs → flat_map (body_text v) bs ≡ flat_map (whole_body v) bs

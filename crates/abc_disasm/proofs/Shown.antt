@@ -1,14 +1,10 @@
 -- What the operands of a line are, as they are shown.
-use Rattle.std.proofs.Common.{◌≡◌, ℕ, zero, suc, Bool, true, false, List, [], ◌∷◌, ◌++◌, decimal, map, Some, None, refl, sym, ap, ◌∙◌, append_assoc, append-nil}
-use Rattle.std.specs.List.{flat_map}
+use Rattle.std.proofs.Common.{◌≡◌, ℕ, zero, suc, true, false, List, [], ◌∷◌, ◌++◌, decimal, map, Some, None, refl, ap, ◌∙◌, append-nil}
 use Rattle.abc_tables.specs.declared.names.Multiname.{Multiname}
 use Rattle.abc_tables.specs.declared.names.Multiname.TheVariants as names
 use Rattle.abc_tables.specs.declared.methods.OptionValue.{OptionValue}
 use Rattle.abc_tables.specs.declared.methods.ValueKind.{ValueKind}
-use Rattle.abc_tables.specs.declared.tables.Abc.{Abc}
 use Rattle.abc_tables.specs.declared.tables.Sizes.{Sizes}
-use Rattle.abc_tables.specs.Classes.{sizes_of}
-use Rattle.abc_rowparts.specs.Lines.{Item}
 use Rattle.abc_rowparts.specs.Operands.{any_number, entry_upto, index_upto, several_items}
 use Rattle.abc_rowparts.specs.Wordlines.{lookup}
 use Rattle.abc_text.specs.Writing.{spaced}

@@ -27,7 +27,7 @@ use Rattle.abc_tables.specs.Traits.{trait_kind_in}
 use Rattle.abc_rowparts.specs.Lines.{Item}
 use Rattle.abc_rowparts.specs.Wordlines.{among}
 use Rattle.abc_lines.specs.Answers.{instance_head, pairs}
-use Rattle.abc_lines.specs.Lineforms.{body_line, catch_line, double_line, entry_line, int_line, name_line, namespace_line, set_line, string_line, uint_line, instance_line, instruction_line, kind_in, method_line, multiname_fields, opcode_of, option_line, slot_value, string_index_line, trait_fields, trait_line}
+use Rattle.abc_lines.specs.Lineforms.{body_line, catch_line, double_line, entry_line, int_line, name_line, namespace_line, set_line, string_line, uint_line, instance_line, instruction_line, kind_in, method_line, multiname_fields, opcode_of, option_line, slot_value, trait_fields, trait_line}
 use Rattle.abc_lines.specs.Listing.{label_bytes, label_of, line_bytes, token_of}
 
 -- operands behind a line's first word
@@ -171,6 +171,10 @@ module _ (v : Abc) where
   abbrev pub definitions_text : List ℕ
   definitions_text =
       flat_map method_text v.methods ++ (flat_map metadata_text v.metadata ++ (flat_map instance_text v.instances ++ (flat_map class_text v.classes ++ flat_map script_text v.scripts)))
+
+  -- the lines before those of bodies
+  abbrev pub front_text : List ℕ
+  front_text = version_text ++ (pools_text ++ definitions_text)
 
   abbrev pub whole_text : List ℕ
   whole_text = version_text ++ (pools_text ++ (definitions_text ++ flat_map whole_body v.bodies))

@@ -88,9 +88,10 @@ fn put_code(body: &Body, marks: &[bool], abc: &Abc, out: &mut Vec<u8>) -> Result
     Ok(())
 }
 
-/// A body and the lines below it. The memory of the marks is used again.
+/// Appends the line of a body, of whose code some bytes spell it, and the lines below it. The memory of the marks is used
+/// again. Where memory runs out, the old bytes are still the front.
 #[tactic(auto, using(abc_varint::proofs::Putting::stays, abc_varint::proofs::Putting::stays_whole, std::proofs::Common::append_assoc, crate::proofs::Readiness::shown, crate::proofs::Readiness::short))]
-fn put_body(
+pub fn put_body(
     marks: &mut Vec<bool>,
     body: &Body,
     abc: &Abc,

@@ -1,4 +1,5 @@
-//! A file as its one text: `disassemble` appends the listing of a file, whose definition is in abc_lines.
+//! A file as its one text: `disassemble` appends the listing of a file, whose definition is in abc_lines. `put_front` and
+//! `put_body` append the parts of it, for a file whose bodies are not held all at once.
 #![tactic(auto)]
 
 mod bodies;
@@ -14,4 +15,5 @@ mod pools;
 mod tokens;
 mod traits;
 
-pub use listing::disassemble;
+pub use bodies::put_body;
+pub use listing::{disassemble, put_front};

@@ -1,5 +1,5 @@
 ghost use Rattle.std.specs.Prelude.{All};
-ghost use Rattle.abc_disasm.specs.Texts.{definitions_text, pools_text, version_text, whole_text};
+ghost use Rattle.abc_disasm.specs.Texts.{definitions_text, front_text, pools_text, version_text, whole_text};
 ghost use Rattle.abc_lines.specs.Listing.{listing};
 ghost use Rattle.abc_tables.specs.Bodies.{IsReadyBody};
 ghost use Rattle.abc_varint.specs.Puts.{Puts, PutsWhole};
@@ -43,14 +43,24 @@ fn put_definitions(abc: &Abc, out: &mut Vec<u8>) -> Result<(), NoMemory>
     Ok(())
 }
 
+/// Appends the lines of a file that stand before those of its bodies, whatever bodies it has. Where memory runs out, the
+/// old bytes are still the front.
+#[tactic(auto, using(abc_varint::proofs::Putting::stays, std::proofs::Common::append_assoc))]
+pub fn put_front(abc: &Abc, out: &mut Vec<u8>) -> Result<(), NoMemory>
+    ensures { Puts out.old.items out.new.items result (front_text abc.now) }
+{
+    put_version(out)?;
+    put_pools(abc, out)?;
+    put_definitions(abc, out)?;
+    Ok(())
+}
+
 #[tactic(auto, using(abc_varint::proofs::Putting::stays, std::proofs::Common::append_assoc))]
 fn put_file(alloc: Global, abc: &Abc, out: &mut Vec<u8>) -> Result<(), NoMemory>
     requires { All IsReadyBody (abc.now).bodies }
     ensures { Puts out.old.items out.new.items result (whole_text abc.now) }
 {
-    put_version(out)?;
-    put_pools(abc, out)?;
-    put_definitions(abc, out)?;
+    put_front(abc, out)?;
     put_bodies(alloc, &abc.bodies, abc, out)?;
     Ok(())
 }

@@ -2,17 +2,16 @@
 use Rattle.std.proofs.Common.{◌≡◌, inl, inr, ℕ, List, ◌++◌, ◌∷◌, length, length-append, arith, Ok, Err, None, Some, [], drop, refl, subst, sym, ap, ◌∙◌}
 use Rattle.std.specs.Prelude.{◌≢◌}
 use Rattle.std.proofs.Math.Seq.{take-append_seam}
-use Rattle.std.specs.declared.result.Result.{Result}
 use Rattle.std.specs.declared.option.Option.{Option}
 use Rattle.abc_format.specs.declared.reason.Reason.TheVariants as reasons
-use Rattle.abc_format.specs.Part.{At, at, Begins, Refusal, refusal}
+use Rattle.abc_format.specs.Part.{At, at, Begins, refusal}
 use Rattle.abc_varint.specs.declared.error.ReadError.{ReadError}
 use Rattle.abc_varint.specs.declared.error.ReadError.TheVariants as errors
 use Rattle.abc_varint.specs.View.{View}
 use Rattle.abc_varint.specs.Reads.{Fails, IsInput, Reads, known, stand, told}
 use Rattle.abc_varint.proofs.Inputs.{known_is}
 use Rattle.abc_tables.specs.declared.tables.Abc.{Abc}
-use Rattle.abc_tables.specs.Files.{file, file_read, Fits, IsBadFile, IsFile}
+use Rattle.abc_tables.specs.Files.{file_read, Fits, IsBadFile}
 use Rattle.abc_tables.proofs.Whole.{file_read-exact, read_bad, read_begins, read_spelled, whole_begins}
 use Rattle.abc_file.specs.Reading.{AnswersFile, IsEnd, IsNew, IsTrailing, IsUsedUp, OfInput, Refuses}
 

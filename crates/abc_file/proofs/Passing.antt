@@ -1,7 +1,7 @@
 -- What passing the parts of a file, and then asking for more, says of the whole input.
-use Rattle.std.proofs.Common.{◌≡◌, ℕ, List, [], ◌++◌, Ok, Err, None, Some, refl, ◌∙◌}
+use Rattle.std.proofs.Common.{◌≡◌, ℕ, List, [], Ok, None, refl, ◌∙◌}
 use Rattle.std.specs.declared.option.Option.{Option}
-use Rattle.abc_format.specs.Part.{At, refusal}
+use Rattle.abc_format.specs.Part.{At}
 use Rattle.abc_varint.specs.declared.error.ReadError.{ReadError}
 use Rattle.abc_varint.specs.declared.error.ReadError.TheVariants as errors
 use Rattle.abc_varint.specs.Passes.{Passes, nothing}
@@ -9,17 +9,16 @@ use Rattle.abc_varint.specs.Reads.{Fails, IsInput, known, stand}
 use Rattle.abc_varint.specs.View.{View}
 use Rattle.abc_tables.specs.declared.tables.Abc.{Abc}
 use Rattle.abc_tables.specs.declared.tables.Sizes.{Sizes}
-use Rattle.abc_tables.specs.declared.code.Body.{Body}
 use Rattle.abc_tables.specs.Bodies.{body_list}
 use Rattle.abc_tables.specs.Classes.{sizes_of, sizes_with}
-use Rattle.abc_tables.specs.Files.{file_bytes, file_read, version}
+use Rattle.abc_tables.specs.Files.{file_read, version}
 use Rattle.abc_tables.specs.Pools.{pools}
 use Rattle.abc_tables.proofs.Whole.{read_spelled, whole_begins}
 use Rattle.abc_traits.specs.declared.definitions.Definitions.{Definitions}
 use Rattle.abc_traits.specs.Definitions.{tables, with_definitions}
 use Rattle.abc_traits.proofs.Filling.{filled as definitions_filled}
 use Rattle.abc_bodies.proofs.Passing.{filled as bodies_filled}
-use Rattle.abc_file.specs.Reading.{Canonises, IsCanonicalOf, IsEnd, IsFaultOf, IsNew, IsTrailing, Refuses}
+use Rattle.abc_file.specs.Reading.{IsEnd, IsFaultOf, IsNew, IsTrailing, IsWrittenOf, Refuses, Writes}
 use Rattle.abc_file.proofs.Ending.{begun, of_any, of_input, part_refused, trails}
 
 -- ---- a part that fails, after those before it were passed
@@ -40,14 +39,14 @@ bodies_fail errors.NoMemory from b c d n v pool_sizes x sizes r1 r2 same1 r3 sam
 
 -- ---- the whole
 
-module _ (w w2 w3 : View) (s s2 s3 : Option (List ℕ)) (old new : List ℕ) (n : IsNew w) (p : Passes file_read (λ x. file_bytes x.0) nothing w s w2 s2 old new (Ok tt)) where
-  pub all_passed : old ≡ [] → IsEnd w2 s2 w3 s3 → IsCanonicalOf s new
+module _ (write : Abc → List ℕ) (w w2 w3 : View) (s s2 s3 : Option (List ℕ)) (old new : List ℕ) (n : IsNew w) (p : Passes file_read (λ x. write x.0) nothing w s w2 s2 old new (Ok tt)) where
+  pub all_passed : old ≡ [] → IsEnd w2 s2 w3 s3 → IsWrittenOf write s new
   all_passed empty end =
       let input = known w3 s3 in
       let h = p.4 input end.input in
       let x = h.1 in
       let whole = whole_begins file_read x.value input (stand w2 input) (begun w input x.value (stand w2 input) n x.read) end.none in
-      of_input (Canonises new) w s input n h.0 (x.value.0, (read_spelled x.value input whole.0, whole.1), x.bytes ∙ rw empty refl)
+      of_input (Writes write new) w s input n h.0 (x.value.0, (read_spelled x.value input whole.0, whole.1), x.bytes ∙ rw empty refl)
 
   pub more_follows : (e : ReadError) → IsTrailing w2 s2 w3 s3 e → IsFaultOf s e
   more_follows (errors.Refused place reason) t =

@@ -46,12 +46,16 @@ IsTrailing w s w2 s2 (errors.Refused place reason) = (place ≡ w.place) × (rea
 IsTrailing w s w2 s2 errors.ReadFault = Unit {0}
 IsTrailing w s w2 s2 errors.NoMemory = ⊥
 
--- they are the canonical bytes of the file that the input spells
-abbrev pub Canonises : List ℕ → List ℕ → Type 0
-Canonises bytes input = (v : Abc) × IsFile v input × (bytes ≡ file_bytes v)
+-- they are what is written of the file that the input spells
+abbrev pub Writes : (Abc → List ℕ) → List ℕ → List ℕ → Type 0
+Writes write bytes input = (v : Abc) × IsFile v input × (bytes ≡ write v)
 
+abbrev pub IsWrittenOf : (Abc → List ℕ) → Option (List ℕ) → List ℕ → Type 0
+IsWrittenOf write left bytes = OfInput left (Writes write bytes)
+
+-- they are the canonical bytes of that file
 abbrev pub IsCanonicalOf : Option (List ℕ) → List ℕ → Type 0
-IsCanonicalOf left bytes = OfInput left (Canonises bytes)
+IsCanonicalOf left bytes = IsWrittenOf file_bytes left bytes
 
 -- a refusal is the first fault of the input
 abbrev pub Refuses : ReadError → List ℕ → Type 0

@@ -3,7 +3,7 @@ use Rattle.std.proofs.lemmas.Option.{slice_get_within}
 use Rattle.std.proofs.lemmas.Result.{err_from_is_err_and}
 use Rattle.abc_varint.specs.declared.error.ReadError.TheVariants as errors
 use Rattle.abc_varint.proofs.Loop.{other_err}
-use Rattle.abc_bodies.proofs.Passing.{begins, goes_on, fails, passed}
+use Rattle.abc_bodies.proofs.Passing.{begins, entry_bytes, goes_on, fails, passed}
 use Rattle.abc_bodies.proofs.pass.pass_each_body.Goals as goal
 
 pub returns-in_err-method-clause-value : goal.returns-in_err-method-clause-value
@@ -11,7 +11,7 @@ returns-in_err-method-clause-value g c =
     let p = err_from_is_err_and c.from_residual-in_err-method.result c.from_residual-in_err-method.ensures.1 in
     let e = c.in_err-method.ensures.value in
     rw (p.1, p.2) (
-      fails c.args.sizes.now c.args.count c.args.w.now (g.S.Source.left c.args.source.now) c.args.out.now.items length c.in_err-method.field-0.0 (c.args.count - c.loop.counter) c.loop.has_body c.loop.out.items c.pass_body.new.out.items
+      fails entry_bytes c.args.sizes.now c.args.count c.args.w.now (g.S.Source.left c.args.source.now) c.args.out.now.items length c.in_err-method.field-0.0 (c.args.count - c.loop.counter) c.loop.has_body c.loop.out.items c.pass_body.new.out.items
           c.loop.w (g.S.Source.left c.loop.source) c.pass_body.new.w (g.S.Source.left c.pass_body.new.source) (omega arith) c.loop.invariant.0 e.0,
       (λ e h. absurd (let k = c.requires.fresh in cc)),
       omega (arith, c.loop.invariant.1, e.2),
@@ -26,14 +26,14 @@ pub loop-preserved : goal.loop-preserved
 loop-preserved g c =
     let e = c.in_ok-method.ensures in (
       rw (c.set.ensures)
-          (goes_on c.args.sizes.now c.args.count c.args.w.now (g.S.Source.left c.args.source.now) c.args.out.now.items (c.args.count - c.loop.counter) (c.args.count - (c.loop.counter + 1)) c.loop.has_body _ _
+          (goes_on entry_bytes c.args.sizes.now c.args.count c.args.w.now (g.S.Source.left c.args.source.now) c.args.out.now.items (c.args.count - c.loop.counter) (c.args.count - (c.loop.counter + 1)) c.loop.has_body _ _
           c.loop.w (g.S.Source.left c.loop.source) c.pass_body.new.w (g.S.Source.left c.pass_body.new.source) c.in_ok-method.method (omega arith) c.loop.invariant.0 e.value.0 e.free),
       omega (arith, e.value.2, c.loop.invariant.1),
     )
 
 pub returns-clause-value : goal.returns-clause-value
 returns-clause-value g c = (
-  passed c.args.sizes.now c.args.count c.args.w.now (g.S.Source.left c.args.source.now) c.args.out.now.items (c.args.count - c.loop.counter) c.loop.has_body _ c.loop.w (g.S.Source.left c.loop.source)
+  passed entry_bytes c.args.sizes.now c.args.count c.args.w.now (g.S.Source.left c.args.source.now) c.args.out.now.items (c.args.count - c.loop.counter) c.loop.has_body _ c.loop.w (g.S.Source.left c.loop.source)
       (omega arith) c.requires.fresh c.loop.invariant.0,
   (λ e h. absurd (let k = c.requires.fresh in cc)),
   c.loop.invariant.1,
@@ -43,6 +43,6 @@ returns-clause-value g c = (
 
 pub loop-init : goal.loop-init
 loop-init g c = (
-  begins c.args.sizes.now c.args.count c.args.w.now (g.S.Source.left c.args.source.now) c.args.out.now.items c.in_ok-has_body.has_body c.in_ok-has_body.ensures c.requires.fresh,
+  begins entry_bytes c.args.sizes.now c.args.count c.args.w.now (g.S.Source.left c.args.source.now) c.args.out.now.items c.in_ok-has_body.has_body c.in_ok-has_body.ensures c.requires.fresh,
   omega arith,
 )

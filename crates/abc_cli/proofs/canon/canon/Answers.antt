@@ -1,12 +1,13 @@
 use Rattle.std.proofs.lemmas.Result.{err_from_is_err_and}
 use Rattle.abc_answers.specs.End.{stream}
 use Rattle.abc_answers.specs.Answers.{OfFile}
+use Rattle.abc_tables.specs.Files.{file_bytes}
 use Rattle.abc_cli.specs.Outcome.{Canon}
-use Rattle.abc_cli.proofs.Files.{alone, canonical_gives, on_file, read_stops}
+use Rattle.abc_cli.proofs.Files.{alone, on_file, read_stops, written_gives}
 use Rattle.abc_cli.proofs.canon.canon.Goals as goal
 
 pub returns-clause-gives : goal.returns-clause-gives
-returns-clause-gives g c = canonical_gives (stream g.S.Source.left g.S.Source.faults c.args.source.now c.canonical.new.source) c.in_ok-bytes.bytes.items c.in_ok-bytes.ensures.bytes c.in_ok-bytes.ensures.end
+returns-clause-gives g c = written_gives file_bytes (stream g.S.Source.left g.S.Source.faults c.args.source.now c.canonical.new.source) c.in_ok-bytes.bytes.items c.in_ok-bytes.ensures.bytes c.in_ok-bytes.ensures.end
 
 pub returns-in_err-bytes-clause-stops : goal.returns-in_err-bytes-clause-stops
 returns-in_err-bytes-clause-stops g c =

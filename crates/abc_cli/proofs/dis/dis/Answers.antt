@@ -1,22 +1,16 @@
 use Rattle.std.proofs.lemmas.Result.{err_from_is_err_and}
 use Rattle.abc_answers.specs.End.{stream}
 use Rattle.abc_answers.specs.Answers.{OfFile}
+use Rattle.abc_lines.specs.Listing.{listing}
 use Rattle.abc_cli.specs.Outcome.{Dis}
-use Rattle.abc_cli.proofs.Files.{alone, file_gives, file_stops, file_stops_at, on_file}
+use Rattle.abc_cli.proofs.Files.{alone, on_file, read_stops, written_gives}
 use Rattle.abc_cli.proofs.dis.dis.Goals as goal
 
 pub returns-clause-gives : goal.returns-clause-gives
-returns-clause-gives g c =
-    file_gives (OfFile Dis) (alone Dis) (on_file Dis) (stream g.S.Source.left g.S.Source.faults c.args.source.now c.read.new.source) c.in_ok-abc.abc c.in_ok-abc.field-0-1 c.in_ok-text.text.items c.in_ok-abc.ensures.answers c.in_ok-abc.ensures.end
-    c.in_ok-text.ensures.gives
-
-pub returns-in_err-abc-clause-stops : goal.returns-in_err-abc-clause-stops
-returns-in_err-abc-clause-stops g c =
-    let p = err_from_is_err_and c.from_residual.result c.from_residual.ensures.1 in
-    rw (p.1, p.2) (file_stops (OfFile Dis) (alone Dis) (on_file Dis) (stream g.S.Source.left g.S.Source.faults c.args.source.now c.read.new.source) c.in_err-abc.field-0.0 c.in_err-abc.ensures.answers (λ e. c.in_err-abc.ensures.cause cc))
+returns-clause-gives g c = written_gives listing (stream g.S.Source.left g.S.Source.faults c.args.source.now c.listing_of.new.source) c.in_ok-text.text.items c.in_ok-text.ensures.text c.in_ok-text.ensures.end
 
 pub returns-in_err-text-clause-stops : goal.returns-in_err-text-clause-stops
 returns-in_err-text-clause-stops g c =
-    let p = err_from_is_err_and c.from_residual-in_err-text.result c.from_residual-in_err-text.ensures.1 in
-    rw (p.1, p.2) (file_stops_at (OfFile Dis) (alone Dis) (on_file Dis) (stream g.S.Source.left g.S.Source.faults c.args.source.now c.read.new.source) c.in_ok-abc.abc c.in_ok-abc.field-0-1 c.in_err-text.field-0.0 c.in_ok-abc.ensures.answers
-    c.in_err-text.ensures.stops)
+    let p = err_from_is_err_and c.from_residual.result c.from_residual.ensures.1 in
+    rw (p.1, p.2) (read_stops (OfFile Dis) (alone Dis) (on_file Dis) (stream g.S.Source.left g.S.Source.faults c.args.source.now c.listing_of.new.source) c.in_err-text.field-0.0 c.in_err-text.ensures.fault
+    (λ e. c.in_err-text.ensures.cause cc))

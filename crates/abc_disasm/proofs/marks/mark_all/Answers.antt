@@ -1,5 +1,5 @@
 -- One target more, and all.
-use Rattle.std.proofs.Common.{◌++◌, List, ℕ, ap, subst, take, ◌∙◌, arith}
+use Rattle.std.proofs.Common.{◌++◌, List, ℕ, ap, subst, take, ◌∙◌}
 use Rattle.abc_disasm.specs.Marks.{AreMarks}
 use Rattle.abc_disasm.proofs.Marking.{more_all, whole}
 use Rattle.abc_disasm.proofs.marks.mark_all.Goals as goal

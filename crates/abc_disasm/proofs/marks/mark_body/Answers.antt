@@ -1,5 +1,5 @@
 -- Nothing is marked at first; then what the code and the handlers name.
-use Rattle.std.proofs.Common.{◌≡◌, ◌++◌, [], List, ℕ, ap, subst, ◌∙◌}
+use Rattle.std.proofs.Common.{◌++◌, [], List, ap, subst, ◌∙◌}
 use Rattle.std.specs.List.{flat_map}
 use Rattle.abc_tables.specs.declared.code.Handler.{Handler}
 use Rattle.abc_tables.specs.declared.code.Instr.{Instr}

@@ -1,5 +1,5 @@
 -- One handler more, and all.
-use Rattle.std.proofs.Common.{◌++◌, List, ℕ, ap, subst, take, get_or, ◌∙◌}
+use Rattle.std.proofs.Common.{◌++◌, List, ap, subst, take, ◌∙◌}
 use Rattle.std.specs.List.{flat_map}
 use Rattle.abc_tables.specs.declared.code.Handler.{Handler}
 use Rattle.abc_disasm.specs.Marks.{AreMarks}

@@ -1,11 +1,12 @@
 use Rattle.std.proofs.lemmas.Result.{err_from_is_err_and}
+use Rattle.abc_tables.specs.Files.{file_bytes}
 use Rattle.abc_file.proofs.Ending.{used_up_first}
 use Rattle.abc_file.proofs.Passing.{all_passed, all_refused_too, more_follows}
 use Rattle.abc_file.proofs.canon.pass_to_end.Goals as goal
 
 pub returns-clause-bytes : goal.returns-clause-bytes
 returns-clause-bytes g c =
-    all_passed c.args.w.now c.pass_file.new.w c.read_nothing_more.new.w (g.S.Source.left c.args.source.now) (g.S.Source.left c.pass_file.new.source) (g.S.Source.left c.read_nothing_more.new.source) c.args.out.now.items c.pass_file.new.out.items c.requires.window
+    all_passed file_bytes c.args.w.now c.pass_file.new.w c.read_nothing_more.new.w (g.S.Source.left c.args.source.now) (g.S.Source.left c.pass_file.new.source) (g.S.Source.left c.read_nothing_more.new.source) c.args.out.now.items c.pass_file.new.out.items c.requires.window
     c.in_ok-pass_file.ensures.0 c.requires.bytes c.in_ok-read_nothing_more.ensures.ended
 
 pub returns-in_err-pass_file-clause-fault : goal.returns-in_err-pass_file-clause-fault
@@ -16,7 +17,7 @@ returns-in_err-pass_file-clause-fault g c =
 pub returns-in_err-read_nothing_more-clause-fault : goal.returns-in_err-read_nothing_more-clause-fault
 returns-in_err-read_nothing_more-clause-fault g c =
     let p = err_from_is_err_and c.from_residual-in_err-read_nothing_more.result c.from_residual-in_err-read_nothing_more.ensures.1 in
-    rw (p.1, p.2) (more_follows c.args.w.now c.pass_file.new.w c.read_nothing_more.new.w (g.S.Source.left c.args.source.now) (g.S.Source.left c.pass_file.new.source) (g.S.Source.left c.read_nothing_more.new.source) c.args.out.now.items c.pass_file.new.out.items c.requires.window
+    rw (p.1, p.2) (more_follows file_bytes c.args.w.now c.pass_file.new.w c.read_nothing_more.new.w (g.S.Source.left c.args.source.now) (g.S.Source.left c.pass_file.new.source) (g.S.Source.left c.read_nothing_more.new.source) c.args.out.now.items c.pass_file.new.out.items c.requires.window
     c.in_ok-pass_file.ensures.0 c.in_err-read_nothing_more.field-0.0 c.in_err-read_nothing_more.ensures.trailing)
 
 pub returns-clause-end : goal.returns-clause-end
