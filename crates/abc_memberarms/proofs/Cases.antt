@@ -172,6 +172,15 @@ value_is_written p o name x initial founds.Missing w apart = missing (holds_publ
     missing true = refl
     missing false = refl
 
+-- where nothing was found, a property is written
+pub missing_written : (p : Setting) (o : ObjId) (name : Name) (x : Value) (initial : Bool) (found : Found) (w : World) → found ≡ founds.Missing
+    → write_found p o name x initial found w ≡ (value_written p o name x initial founds.Missing >>= λ u. got values.Undefined) w
+missing_written p o name x initial found w is =
+    ap (λ (f : Found). write_found p o name x initial f w) is ∙ value_is_written p o name x initial founds.Missing w (λ m e. no_setter m e)
+  where
+    no_setter : (m : ℕ) → founds.Missing ≡ founds.Setter m → ⊥
+    no_setter m e = cc
+
 -- a search for a write finds nothing else
 pub no_value : (p : Setting) (o : ObjId) (name : Name) (x : Value) (initial : Bool) (found : Found) (w : World)
     → ((k : ℕ) (c : Bool) → found ≡ founds.Slot k c → ⊥) → (found ≡ founds.Missing → ⊥) → ((owner : Owner) (m : ℕ) → found ≡ founds.Method owner m → ⊥) → (found ≡ founds.WrongSide → ⊥)

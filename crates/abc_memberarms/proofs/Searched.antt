@@ -4,7 +4,10 @@ use Rattle.std.proofs.lemmas.Bool.{cases_lt}
 use Rattle.std.specs.Prelude.{slice_get, Some}
 use Rattle.std.specs.List.{list_any}
 use Rattle.abc_cells.specs.declared.values.Span.{Span}
+use Rattle.abc_cells.specs.declared.values.ObjId.{ObjId}
 use Rattle.abc_cells.specs.declared.values.Value.{Value}
+use Rattle.abc_cells.specs.declared.values.Value.TheVariants.{Obj}
+use Rattle.abc_lookup.specs.NoTraits.{IsFirst}
 use Rattle.abc_heap.specs.Heap.{Heap, Object, object_at, properties_of}
 use Rattle.abc_objects.specs.Stands.{StandsOver}
 use Rattle.abc_objects.specs.Values.{Exists}
@@ -13,8 +16,10 @@ use Rattle.abc_search.specs.Candidates.{Candidate, OfElement, OfLength, OfProper
 use Rattle.abc_search.specs.Laws.{AnswersTheFirst, FindsWhatIsThere, IsThere}
 use Rattle.abc_search.specs.Results.{skip_for}
 use Rattle.abc_search.specs.Searches.{found_on}
+use Rattle.abc_search.specs.declared.found.Found.{Found}
 use Rattle.abc_search.specs.declared.found.Found.TheVariants as founds
 use Rattle.abc_search.specs.declared.found.Want.{Want}
+use Rattle.abc_search.specs.declared.found.Want.TheVariants.{Read}
 use Rattle.abc_search.specs.declared.name.Name.{Name}
 use Rattle.abc_search.specs.declared.traits.Member.{Member}
 use Rattle.abc_search.specs.declared.traits.Member.TheVariants as members
@@ -60,3 +65,27 @@ found_there l h v n want answers finds over = elim (answers l h n (skip_for want
   | inl hit ↦ subst (IsFoundThere l h) (sym hit.2) (candidate_there l h hit.0 over (subst (IsThere h) hit.2 (finds l h v n want)))
   | inr miss ↦ subst (IsFoundThere l h) (sym miss.1) (none_there l h (list_any (fits l h n) (candidates_on l h n v)))
 ]
+
+-- ---- what is found at once
+
+pub first_is : (l : LinkedFile) (h : Heap) (o : ObjId) (n : Name) (x : Found) → IsFirst l h o n x → (x ≡ founds.Missing → ⊥) → x ≡ found_on l h (Obj o) n Read
+first_is l h o n (founds.Slot k c) f never = f Read
+first_is l h o n (founds.Method owner m) f never = f Read
+first_is l h o n (founds.Getter m) f never = f Read
+first_is l h o n (founds.Setter m) f never = f Read
+first_is l h o n (founds.Property holder x) f never = f Read
+first_is l h o n (founds.Element holder k) f never = f Read
+first_is l h o n (founds.Length holder) f never = f Read
+first_is l h o n founds.WrongSide f never = f Read
+first_is l h o n founds.Missing f never = absurd (never refl)
+
+pub first_there : (l : LinkedFile) (h : Heap) (o : ObjId) (n : Name) (x : Found) → AnswersTheFirst → FindsWhatIsThere → StandsOver l h → IsFirst l h o n x → IsFoundThere l h x
+first_there l h o n founds.Missing answers finds over f = tt
+first_there l h o n (founds.Slot k c) answers finds over f = tt
+first_there l h o n (founds.Getter m) answers finds over f = tt
+first_there l h o n (founds.Setter m) answers finds over f = tt
+first_there l h o n (founds.Element holder k) answers finds over f = tt
+first_there l h o n (founds.Length holder) answers finds over f = tt
+first_there l h o n founds.WrongSide answers finds over f = tt
+first_there l h o n (founds.Method owner m) answers finds over f = subst (λ (y : Found). IsFoundThere l h y) (sym (f Read)) (found_there l h (Obj o) n Read answers finds over)
+first_there l h o n (founds.Property holder x) answers finds over f = subst (λ (y : Found). IsFoundThere l h y) (sym (f Read)) (found_there l h (Obj o) n Read answers finds over)

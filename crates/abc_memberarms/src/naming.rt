@@ -14,6 +14,7 @@ ghost use Rattle.abc_states.specs.Turns.{Leaves, Runs};
 ghost use Rattle.abc_callarms.specs.Calls.{CanFinish};
 ghost use Rattle.abc_memberarms.specs.Members.{IsFoundThere, calls_on, constructs_on, reads_on, writes_on};
 ghost use Rattle.abc_objects.specs.Stands.{StandsOver};
+ghost use Rattle.abc_lookup.specs.NoTraits.{IsFirst};
 ghost use Rattle.abc_search.specs.Searches.{found_on};
 ghost use Rattle.abc_search.specs.declared.found.Want.TheVariants.{Read};
 
@@ -22,7 +23,7 @@ use crate::writing::write_found;
 use abc_base::HostClass;
 use abc_cells::{ObjId, Value};
 use abc_link::Linked;
-use abc_lookup::{Found, Name, Want, find_declared, find_on};
+use abc_lookup::{Found, Name, Want, find_declared, find_first, find_on};
 use abc_named::is_holder;
 use abc_search::{answer_is_the_first, found_is_there};
 use abc_states::{How, Left, State, Stop};
@@ -41,9 +42,29 @@ fn find(linked: &Linked, s: &State, v: Value, name: &Name) -> Found
     find_on(linked, &s.arena, v, name, Want::Read)
 }
 
-/// Reads by a name on a value; null and undefined throw.
+/// What a name finds at once on an object.
 #[inline(always)]
-pub fn read_on(linked: &Linked, s: &mut State, v: Value, name: &Name, how: How) -> Result<(), Stop>
+fn find_at_once(linked: &Linked, s: &State, o: ObjId, name: &Name) -> Found
+    requires over { StandsOver linked.now s.now.arena }
+    requires inside { IsObject s.now.arena o }
+    requires name { IsText linked.now.file.strings s.now.arena name.now.text }
+    ensures first { IsFirst linked.now s.now.arena o name.now result }
+    ensures there { IsFoundThere linked.now s.now.arena result }
+{
+    answer_is_the_first();
+    found_is_there();
+    find_first(linked, &s.arena, o, name)
+}
+
+/// The same as `read_on`, by a search.
+#[inline(never)]
+fn read_searching(
+    linked: &Linked,
+    s: &mut State,
+    v: Value,
+    name: &Name,
+    how: How,
+) -> Result<(), Stop>
     ghost out: { Outer }
     requires set { IsSet linked.now s.old }
     requires known { IsKnown linked.now s.old.given.limit }
@@ -57,6 +78,51 @@ pub fn read_on(linked: &Linked, s: &mut State, v: Value, name: &Name, how: How) 
     is_holder(v)?;
     let found = find(linked, s, v, name);
     read_found(linked, s, found, v, how)
+}
+
+/// Reads by a name on an object. What is found at once is read without a search.
+#[inline(always)]
+fn read_on_object(
+    linked: &Linked,
+    s: &mut State,
+    o: ObjId,
+    name: &Name,
+    how: How,
+) -> Result<(), Stop>
+    ghost out: { Outer }
+    requires set { IsSet linked.now s.old }
+    requires known { IsKnown linked.now s.old.given.limit }
+    requires ready { IsReady (taken_by how) (given_by how) s.old.frames }
+    requires inside { IsObject s.old.arena o }
+    requires name { IsText linked.now.file.strings s.old.arena name.now.text }
+    requires free { IsOpen (reads_on (setting linked.now out) (Obj o) name.now how (newest s.old.frames) (world s.old out)) }
+    ensures runs { Runs linked.now out (reads_on (setting linked.now out) (Obj o) name.now how (newest s.old.frames)) s.old result s.new }
+    ensures limit { s.new.given.limit ≡ s.old.given.limit }
+{
+    let found = find_at_once(linked, s, o, name);
+    match found {
+        Found::Missing => read_searching(linked, s, Value::Obj(o), name, how),
+        _ => read_found(linked, s, found, Value::Obj(o), how),
+    }
+}
+
+/// Reads by a name on a value; null and undefined throw.
+#[inline(always)]
+pub fn read_on(linked: &Linked, s: &mut State, v: Value, name: &Name, how: How) -> Result<(), Stop>
+    ghost out: { Outer }
+    requires set { IsSet linked.now s.old }
+    requires known { IsKnown linked.now s.old.given.limit }
+    requires ready { IsReady (taken_by how) (given_by how) s.old.frames }
+    requires value { Exists linked.now s.old.arena v }
+    requires name { IsText linked.now.file.strings s.old.arena name.now.text }
+    requires free { IsOpen (reads_on (setting linked.now out) v name.now how (newest s.old.frames) (world s.old out)) }
+    ensures runs { Runs linked.now out (reads_on (setting linked.now out) v name.now how (newest s.old.frames)) s.old result s.new }
+    ensures limit { s.new.given.limit ≡ s.old.given.limit }
+{
+    match v {
+        Value::Obj(o) => read_on_object(linked, s, o, name, how),
+        _ => read_searching(linked, s, v, name, how),
+    }
 }
 
 /// Writes by a name on an object: its declared traits are asked first. The value is the top operand.

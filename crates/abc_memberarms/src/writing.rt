@@ -51,6 +51,7 @@ fn write_element(linked: &Linked, s: &mut State, o: ObjId, k: u32, v: Value) -> 
 }
 
 /// Whether an object may take a property of a text: it is dynamic, or has one of its own.
+#[inline(always)]
 fn may_take(linked: &Linked, s: &State, o: ObjId, text: Span) -> bool
     requires over { StandsOver linked.now s.now.arena }
     requires inside { IsObject s.now.arena o }
@@ -211,8 +212,33 @@ fn write_at_once(
     Ok(())
 }
 
-/// Writes what was found among the declared traits; where nothing was, a property. The value is the top operand, where a setter
-/// finds it.
+/// The same as `write_at_once`, for a found trait.
+#[inline(never)]
+fn write_declared(
+    linked: &Linked,
+    s: &mut State,
+    o: ObjId,
+    name: &Name,
+    v: Value,
+    initial: bool,
+    found: Found,
+    how: How,
+) -> Result<(), Stop>
+    ghost out: { Outer }
+    requires set { IsSet linked.now s.old }
+    requires ready { IsReady (taken_by how) (given_by how) s.old.frames }
+    requires inside { IsObject s.old.arena o }
+    requires name { IsText linked.now.file.strings s.old.arena name.now.text }
+    requires value { Exists linked.now s.old.arena v }
+    requires free { IsOpen (writes_value (setting linked.now out) o name.now v initial found how (newest s.old.frames) (world s.old out)) }
+    ensures runs { Runs linked.now out (writes_value (setting linked.now out) o name.now v initial found how (newest s.old.frames)) s.old result s.new }
+    ensures limit { s.new.given.limit ≡ s.old.given.limit }
+{
+    write_at_once(linked, s, o, name, v, initial, found, how)
+}
+
+/// Writes what was found among the declared traits; where nothing was, a property, and nothing else is asked then. The value is the top
+/// operand, where a setter finds it.
 #[inline(always)]
 pub fn write_found(
     linked: &Linked,
@@ -238,7 +264,8 @@ pub fn write_found(
     ensures limit { s.new.given.limit ≡ s.old.given.limit }
 {
     match found {
+        Found::Missing => write_at_once(linked, s, o, name, v, initial, Found::Missing, how),
         Found::Setter(method) => enter_on(linked, s, method, Value::Obj(o), 1, how),
-        _ => write_at_once(linked, s, o, name, v, initial, found, how),
+        _ => write_declared(linked, s, o, name, v, initial, found, how),
     }
 }

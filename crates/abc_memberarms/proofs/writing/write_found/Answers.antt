@@ -2,6 +2,7 @@ use Rattle.std.proofs.Common.{rules}
 use Rattle.std.specs.Prelude.{◌≤◌, length}
 use Rattle.std.proofs.Common.{arith}
 use Rattle.abc_cells.specs.declared.values.Value.TheVariants.{Obj, Undefined}
+use Rattle.abc_search.specs.declared.found.Found.TheVariants.{Missing}
 use Rattle.abc_stacks.specs.Frame.{arguments, newest}
 use Rattle.abc_states.specs.Outer.{setting, world}
 use Rattle.abc_states.specs.Settling.{settles}
@@ -9,7 +10,7 @@ use Rattle.abc_states.specs.WorldCalling.{got}
 use Rattle.abc_states.specs.WorldMembers.{write_found}
 use Rattle.abc_states.specs.World.{◌>>=◌}
 use Rattle.abc_memberarms.specs.Members.{enters_on, value_written}
-use Rattle.abc_memberarms.proofs.Cases.{setter_written, value_is_written}
+use Rattle.abc_memberarms.proofs.Cases.{missing_written, setter_written, value_is_written}
 use Rattle.abc_memberarms.proofs.Settled.{came_open, came_same}
 use Rattle.abc_memberarms.proofs.writing.write_found.Goals as goal
 
@@ -56,6 +57,35 @@ write_at_once-requires g c = (
           search rules,
           (let p = setting c.args.linked.now g.out in
               let w = world c.args.s.now g.out in
+              came_open (settles c.args.how (newest c.args.s.now.frames)) (write_found p c.args.o c.args.name.now c.args.v c.args.initial c.args.found) (value_written p c.args.o c.args.name.now c.args.v c.args.initial Missing >>= λ u. got Undefined) w
+              (missing_written p c.args.o c.args.name.now c.args.v c.args.initial c.args.found w c.in-Missing.is) c.requires.1.1.1.1.1.1.1.1),
+        ),
+      ),
+    ),
+  ),
+)
+
+pub returns-in-Missing-clause-runs : goal.returns-in-Missing-clause-runs
+returns-in-Missing-clause-runs g c =
+    let p = setting c.args.linked.now g.out in
+    let q = c.args.s.now.frames in
+    let w = world c.args.s.now g.out in
+    came_same p q (settles c.args.how (newest q)) (write_found p c.args.o c.args.name.now c.args.v c.args.initial c.args.found) (value_written p c.args.o c.args.name.now c.args.v c.args.initial Missing >>= λ u. got Undefined) w _
+    (missing_written p c.args.o c.args.name.now c.args.v c.args.initial c.args.found w c.in-Missing.is) c.write_at_once.ensures.runs
+
+pub write_declared-requires : goal.write_declared-requires
+write_declared-requires g c = (
+  search rules,
+  (
+    search rules,
+    (
+      search rules,
+      (
+        search rules,
+        (
+          search rules,
+          (let p = setting c.args.linked.now g.out in
+              let w = world c.args.s.now g.out in
               came_open (settles c.args.how (newest c.args.s.now.frames)) (write_found p c.args.o c.args.name.now c.args.v c.args.initial c.args.found) (value_written p c.args.o c.args.name.now c.args.v c.args.initial c.args.found >>= λ u. got Undefined) w
               (value_is_written p c.args.o c.args.name.now c.args.v c.args.initial c.args.found w (λ m e. c.in_default.not-Setter m e)) c.requires.1.1.1.1.1.1.1.1),
         ),
@@ -70,4 +100,4 @@ returns-in_default-clause-runs g c =
     let q = c.args.s.now.frames in
     let w = world c.args.s.now g.out in
     came_same p q (settles c.args.how (newest q)) (write_found p c.args.o c.args.name.now c.args.v c.args.initial c.args.found) (value_written p c.args.o c.args.name.now c.args.v c.args.initial c.args.found >>= λ u. got Undefined) w _
-    (value_is_written p c.args.o c.args.name.now c.args.v c.args.initial c.args.found w (λ m e. c.in_default.not-Setter m e)) c.write_at_once.ensures.runs
+    (value_is_written p c.args.o c.args.name.now c.args.v c.args.initial c.args.found w (λ m e. c.in_default.not-Setter m e)) c.write_declared.ensures.runs

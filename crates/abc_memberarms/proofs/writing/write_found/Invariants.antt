@@ -5,3 +5,6 @@ ghost-enter_on g a = g.out
 
 abbrev pub ghost-write_at_once : goal.ghost-write_at_once
 ghost-write_at_once g a = g.out
+
+abbrev pub ghost-write_declared : goal.ghost-write_declared
+ghost-write_declared g a = g.out
