@@ -15,6 +15,7 @@ use abc_interfaces::{
     Heirs, Interfaces, LinkError, Meanings, NameTables, Named, Names, SlotInfo, check_rules,
     meanings_of,
 };
+use abc_known::known_of;
 use abc_owners::Owners;
 use abc_search_tables::{Layouts, Members, SearchTables, slots_of};
 use abc_tables::Abc;
@@ -39,7 +40,9 @@ fn meanings_in(
     requires { AreNames abc.now names.now }
     ensures { IfOk result (λ t. AreMeanings abc.now t) }
 {
-    meanings_of(alloc, Names::new(abc, names))
+    let names = Names::new(abc, names);
+    let known = known_of(alloc, &names)?;
+    meanings_of(alloc, names, &known)
 }
 
 /// The layouts of a file that keeps the rules. Of 2^32 layouts or more there is never room for all.

@@ -16,7 +16,7 @@ use Rattle.abc_names.specs.declared.tables.NameTables.{NameTables}
 use Rattle.abc_names.specs.Pool.{text}
 use Rattle.abc_names.specs.Instances.{instance_at, no_instance}
 use Rattle.abc_names.specs.Meaning.{holds, has_name, class_name_of, is_class_named}
-use Rattle.abc_names.specs.Numbers.{AreNames, number, key_of, class_keys}
+use Rattle.abc_names.specs.Numbers.{AreNames, number, key_of, class_keys, classes_of}
 
 -- the first that passes a test stands in each group that all that pass are in
 find_in_group : {A : Type 0} (test : A → Bool) (all : List A) (d : A) (k n : ℕ) (xs : List A) (keys : List ℕ)
@@ -68,33 +68,27 @@ key_of_named : (v : Abc) (t : NameTables) (n : PlainName) (d : Option DefiniteNa
 key_of_named v t n None a is = absurd (false≢true is)
 key_of_named v t n (Some d) a is = a.same n.string d.string ∙ first_holds (bytes_eq (text v n.string) (text v d.string)) (holds v n.spaces d.ns) is
 
-first_class : (v : Abc) (t : NameTables) (n : PlainName) → AreNames v t
-    → first (is_class_named v n) v.instances ≡ find (λ i. is_class_named v n (instance_at v i)) (places_of (nat_eq (number t.numbers n.string)) (class_keys v t.numbers))
+pub first_class : (v : Abc) (t : NameTables) (n : PlainName) → AreNames v t
+    → find (λ i. is_class_named v n (instance_at v i)) (classes_of v t.numbers (number t.numbers n.string)) ≡ first (is_class_named v n) v.instances
 first_class v t n a =
-    first_in_group (is_class_named v n) v.instances no_instance (number t.numbers n.string) (class_keys v t.numbers)
+    sym
+    (first_in_group (is_class_named v n) v.instances no_instance (number t.numbers n.string) (class_keys v t.numbers)
     (λ j lt is.
     let e : get_or (class_keys v t.numbers) j 0 ≡ key_of t.numbers (class_name_of v (instance_at v j)) = get_or-map (λ (i : Instance). key_of t.numbers (class_name_of v i)) v.instances j no_instance 0 lt in
     ap (nat_eq (number t.numbers n.string)) e ∙ key_of_named v t n (class_name_of v (instance_at v j)) a is)
-    (length-map v.instances (λ (i : Instance). key_of t.numbers (class_name_of v i)))
+    (length-map v.instances (λ (i : Instance). key_of t.numbers (class_name_of v i))))
 
 some_group : (ps g : List ℕ) → some_places ps ≡ Some g → g ≡ ps
 some_group [] g e = cc
 some_group (p ∷ ps) g e = cc
 
-no_group : (ps : List ℕ) → some_places ps ≡ None → ps ≡ []
+no_group : (ps : List ℕ) → some_places ps ≡ None → [] ≡ ps
 no_group [] e = refl
 no_group (p ∷ ps) e = cc
 
--- the class that a name names, in the group that was found, and where none was found
-pub class_in_group : (v : Abc) (t : NameTables) (n : PlainName) (g : List ℕ) → AreNames v t → get nat_eq t.classes (number t.numbers n.string) ≡ Some g
-    → find (λ i. is_class_named v n (instance_at v i)) g ≡ first (is_class_named v n) v.instances
-class_in_group v t n g a e =
-    let places = places_of (nat_eq (number t.numbers n.string)) (class_keys v t.numbers) in
-    let same : g ≡ places = some_group places g (sym (a.groups.groups (number t.numbers n.string)) ∙ e) in
-    ap (find (λ i. is_class_named v n (instance_at v i))) same ∙ sym (first_class v t n a)
+-- the classes of a text, where a group was found, and where none was found
+pub group_found : (v : Abc) (t : NameTables) (text : ℕ) (g : List ℕ) → AreNames v t → Some g ≡ get nat_eq t.classes text → g ≡ classes_of v t.numbers text
+group_found v t text g a e = some_group (classes_of v t.numbers text) g (sym (a.groups.groups text) ∙ sym e)
 
-pub class_without_group : (v : Abc) (t : NameTables) (n : PlainName) → AreNames v t → get nat_eq t.classes (number t.numbers n.string) ≡ None → None ≡ first (is_class_named v n) v.instances
-class_without_group v t n a e =
-    let places = places_of (nat_eq (number t.numbers n.string)) (class_keys v t.numbers) in
-    let same : places ≡ [] = no_group places (sym (a.groups.groups (number t.numbers n.string)) ∙ e) in
-    sym (first_class v t n a ∙ ap (find (λ i. is_class_named v n (instance_at v i))) same)
+pub group_missing : (v : Abc) (t : NameTables) (text : ℕ) → AreNames v t → None ≡ get nat_eq t.classes text → [] ≡ classes_of v t.numbers text
+group_missing v t text a e = no_group (classes_of v t.numbers text) (sym (a.groups.groups text) ∙ sym e)

@@ -1,14 +1,15 @@
 -- The table of what names stand for.
-use Rattle.std.proofs.Common.{◌≡◌, ℕ, zero, suc, ◌+◌, ◌-◌, ◌<◌, ◌≤◌, ◌⊎◌, inl, inr, Bool, true, false, List, [], ◌∷◌, ◌++◌, None, cond, nat_eq, length, get_or, slice_get, refl, sym, ap, ◌∙◌, arith, length-append}
+use Rattle.std.proofs.Common.{◌≡◌, ℕ, zero, suc, ◌+◌, ◌-◌, ◌<◌, ◌≤◌, ◌⊎◌, inl, inr, Bool, true, false, List, [], ◌∷◌, ◌++◌, Some, None, cond, nat_eq, length, get_or, slice_get, refl, sym, ap, ◌∙◌, arith, length-append}
 use Rattle.std.specs.declared.option.Option.{Option}
 use Rattle.std.proofs.lemmas.Bool.{cases_lt}
 use Rattle.std.proofs.lemmas.List.{get_or_append_left, get_or_push, get_or_past}
 use Rattle.abc_tables.specs.declared.names.Multiname.{Multiname}
 use Rattle.abc_tables.specs.declared.tables.Abc.{Abc}
+use Rattle.abc_names.specs.declared.meanings.Known.{Known}
 use Rattle.abc_names.specs.declared.named.Named.{Named}
 use Rattle.abc_names.specs.Pool.{name, no_name, plain_name}
 use Rattle.abc_names.specs.Meaning.{meant, resolve}
-use Rattle.abc_names.specs.Meanings.{AreMeanings, MeansBelow}
+use Rattle.abc_names.specs.Meanings.{AreKnown, AreMeanings, MeansBelow}
 use Rattle.abc_index.proofs.Past.{past_end}
 
 pub means_none : (v : Abc) → MeansBelow v [] 0
@@ -44,10 +45,8 @@ means_all v t n h e = record { means = λ m. go m (cases_lt m n) }
         let e2 : get_or t m None ≡ None = get_or_past t m None (omega arith) in
         e2 ∙ sym (ap (λ (x : Multiname). meant v (plain_name x)) past)
 
--- where the host has nothing under a text, no namespaces matter
-pub no_host : (public : Bool) (o : Option Named) → o ≡ None → None ≡ cond public o None
-no_host true o e = sym e
-no_host false o e = refl
+pub known_means : (v : Abc) (t : List (Option Known)) (n : ℕ) (k : Known) → AreKnown v t → get_or t n None ≡ Some k → k.named ≡ resolve v n
+known_means v t n k h e = h.known n k e
 
 -- a name past the table stands for nothing
 pub nothing_meant : (v : Abc) (t : List (Option Named)) (n : ℕ) → AreMeanings v t → slice_get t n ≡ None → None ≡ resolve v n

@@ -1,7 +1,8 @@
 -- What the names of a pool stand for, as a table.
-use Rattle.std.specs.Prelude.{◌≡◌, ℕ, ◌<◌, List, None, length, get_or}
+use Rattle.std.specs.Prelude.{◌≡◌, ℕ, ◌<◌, List, Some, None, length, get_or}
 use Rattle.std.specs.declared.option.Option.{Option}
 use Rattle.abc_tables.specs.declared.tables.Abc.{Abc}
+use Rattle.abc_names.specs.declared.meanings.Known.{Known}
 use Rattle.abc_names.specs.declared.named.Named.{Named}
 use Rattle.abc_names.specs.Meaning.{resolve}
 
@@ -13,3 +14,7 @@ pub record AreMeanings (v : Abc) (t : List (Option Named)) : Type 0 where
 pub record MeansBelow (v : Abc) (t : List (Option Named)) (i : ℕ) : Type 0 where
   pub len : length t ≡ i
   pub means : (n : ℕ) → n < i → get_or t n None ≡ resolve v n
+
+-- what is known of some names is what they stand for
+pub record AreKnown (v : Abc) (t : List (Option Known)) : Type 0 where
+  pub known : (n : ℕ) (k : Known) → get_or t n None ≡ Some k → k.named ≡ resolve v n

@@ -3,7 +3,7 @@
 use Rattle.std.specs.Prelude.{◌≡◌, ℕ, List, Some, None, map, get_or, nat_eq}
 use Rattle.std.specs.declared.option.Option.{Option}
 use Rattle.std.specs.Str.{bytes_eq}
-use Rattle.abc_index.specs.Groups.{Groups}
+use Rattle.abc_index.specs.Groups.{Groups, places_of}
 use Rattle.abc_index.specs.Texts.{HasTexts, texts_of}
 use Rattle.abc_tables.specs.declared.tables.Abc.{Abc}
 use Rattle.abc_names.specs.declared.named.DefiniteName.{DefiniteName}
@@ -21,6 +21,10 @@ key_of numbers (Some d) = number numbers d.string
 
 abbrev pub class_keys : Abc → List ℕ → List ℕ
 class_keys v numbers = map (λ i. key_of numbers (class_name_of v i)) v.instances
+
+-- the classes whose names have the text of a number, in order
+abbrev pub classes_of : Abc → List ℕ → ℕ → List ℕ
+classes_of v numbers t = places_of (nat_eq t) (class_keys v numbers)
 
 -- the numbers are those of the file's texts, and the groups those of its classes by their names
 pub record AreNames (v : Abc) (t : NameTables) : Type 0 where

@@ -16,8 +16,10 @@ pub use abc_tables::{
 };
 pub use hosts::HOST_CLASSES;
 pub use keys::{NameKey, are_equal, first_places};
-pub use meanings::{Meanings, meanings_of};
+pub use meanings::{Known, Meanings, known_at, meanings_of};
 pub use named::{DefiniteName, Named, PlainName, Spaces};
 pub use names::Names;
-pub use pool::{definite_name_at, is_plain_at, plain_name_at, qname_at, space_name, text_at};
+pub use pool::{
+    definite_name_at, is_plain_at, plain_name_at, qname_at, set_at, space_name, text_at,
+};
 pub use tables::NameTables;

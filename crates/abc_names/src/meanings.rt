@@ -1,6 +1,6 @@
-ghost use Rattle.std.specs.Prelude.{◌≡◌, ◌+◌, ◌<◌, ◌^◌, length, IfOk};
+ghost use Rattle.std.specs.Prelude.{◌≡◌, ◌+◌, ◌<◌, ◌^◌, None, get_or, length, IfOk};
 ghost use Rattle.abc_names.specs.Meaning.{resolve, type_named};
-ghost use Rattle.abc_names.specs.Meanings.{AreMeanings, MeansBelow};
+ghost use Rattle.abc_names.specs.Meanings.{AreKnown, AreMeanings, MeansBelow};
 
 use crate::named::Named;
 use crate::names::Names;
@@ -8,9 +8,43 @@ use abc_index::{NoMemory, Table};
 use abc_tables::Abc;
 use std::alloc::Global;
 
-/// What the names of a pool stand for, from index 0 on, each looked up once.
+/// What a name was found to stand for.
+#[derive(Clone, Copy, Debug)]
+pub struct Known {
+    pub named: Option<Named>,
+}
+
+/// What is known of a name.
+#[tactic(auto, using(abc_base::proofs::Past::past_end))]
+pub fn known_at(known: &Table<Option<Known>>, name: u32) -> Option<Known>
+    ensures { result ≡ get_or known.now name None }
+{
+    match known.fetch(name as usize) {
+        Some(found) => found,
+        None => None,
+    }
+}
+
+/// What a name of the pool stands for, where that of some is known.
+#[tactic(auto, using(crate::proofs::Meant::known_means))]
+fn meaning_at(names: &Names<'_>, known: &Table<Option<Known>>, name: u32) -> Option<Named>
+    requires { AreKnown names.now.abc.now known.now }
+    ensures { result ≡ resolve names.now.abc.now name }
+{
+    match known_at(known, name) {
+        Some(found) => found.named,
+        None => names.resolve(name),
+    }
+}
+
+/// What the names of a pool stand for, from index 0 on, each looked up once, where that of some is known.
 #[tactic(auto, using(crate::proofs::Meant::means_none, crate::proofs::Meant::means_next, crate::proofs::Meant::means_all))]
-pub fn meanings_of(alloc: Global, names: Names<'_>) -> Result<Table<Option<Named>>, NoMemory>
+pub fn meanings_of(
+    alloc: Global,
+    names: Names<'_>,
+    known: &Table<Option<Known>>,
+) -> Result<Table<Option<Named>>, NoMemory>
+    requires { AreKnown names.abc.now known.now }
     ensures { IfOk result (λ t. AreMeanings names.entry.abc.now t) }
 {
     if names.abc.names.len() >= u32::MAX as usize {
@@ -18,7 +52,7 @@ pub fn meanings_of(alloc: Global, names: Names<'_>) -> Result<Table<Option<Named
     }
     let mut meanings = Table::new(alloc);
     for name in 0..names.abc.names.len() as u32 + 1 {
-        meanings.push(names.resolve(name))?;
+        meanings.push(meaning_at(&names, known, name))?;
     }
     Ok(meanings)
 }

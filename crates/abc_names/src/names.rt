@@ -93,6 +93,7 @@ impl<'a> Names<'a> {
     }
 
     /// Whether one of the namespaces of a name is public.
+    #[inline(always)]
     pub fn holds_public(&self, spaces: Spaces) -> bool
         ensures { result ≡ holds_public self.now.abc.now spaces }
     {

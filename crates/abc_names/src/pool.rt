@@ -38,7 +38,7 @@ pub(crate) fn space_at(abc: &Abc, index: u32) -> Namespace
 
 /// A set of namespaces of the pool, by its index; 0 is none.
 #[tactic(auto, using(abc_base::proofs::Past::past_end))]
-pub(crate) fn set_at(abc: &Abc, index: u32) -> &[u32]
+pub fn set_at(abc: &Abc, index: u32) -> &[u32]
     ensures { result.now ≡ set abc.now index }
 {
     if index == 0 {

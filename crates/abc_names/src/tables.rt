@@ -76,4 +76,13 @@ impl NameTables {
             classes,
         })
     }
+
+    /// How many classes the text has that most classes have.
+    pub fn most_of_one_text(&self) -> usize {
+        let mut most = 0;
+        for classes in self.classes.values() {
+            most = classes.len().max(most);
+        }
+        most
+    }
 }

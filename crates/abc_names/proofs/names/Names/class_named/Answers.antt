@@ -1,12 +1,15 @@
-use Rattle.std.proofs.Common.{◌≡◌, ◌∙◌, ap, sym, Some, nat_eq}
-use Rattle.indexmap.specs.IndexMap.{get}
-use Rattle.abc_names.specs.Numbers.{number}
-use Rattle.abc_names.proofs.InGroups.{class_in_group}
+use Rattle.std.proofs.Common.{◌∙◌, ap}
+use Rattle.std.specs.List.{find}
+use Rattle.abc_names.specs.Instances.{instance_at}
+use Rattle.abc_names.specs.Meaning.{is_class_named}
+use Rattle.abc_names.specs.Numbers.{classes_of}
+use Rattle.abc_names.proofs.InGroups.{first_class}
 use Rattle.abc_names.proofs.names.Names.class_named.Goals as goal
 
-pub returns-in-Some : goal.returns-in-Some
-returns-in-Some c =
+pub returns : goal.returns
+returns c =
     let self = c.args.self.now in
-    let found : get nat_eq self.tables.now.classes (number self.tables.now.numbers c.args.name.string) ≡ Some c.in-Some.classes.now =
-    ap (get nat_eq self.tables.now.classes) (sym c.number.ensures) ∙ sym c.in-Some.ensures.value in
-    c.first_among.ensures ∙ class_in_group self.abc.now self.tables.now c.args.name c.in-Some.classes.now self.sound found
+    let v = self.abc.now in
+    c.first_among.ensures
+    ∙ ap (find (λ i. is_class_named v c.args.name (instance_at v i))) (c.classes_of.ensures ∙ ap (classes_of v self.tables.now.numbers) c.number.ensures)
+    ∙ first_class v self.tables.now c.args.name self.sound

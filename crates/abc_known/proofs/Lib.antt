@@ -1,0 +1,5 @@
+pub mod FirstPlaces
+pub mod Spotted
+pub mod Marked
+pub mod Firsts
+pub mod Telling

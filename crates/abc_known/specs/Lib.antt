@@ -1,0 +1,2 @@
+pub mod Slates
+pub mod Spots
