@@ -1,8 +1,6 @@
 //! The order of kinds over the layouts of a linked file, and the least kind above two.
 #![tactic(auto)]
 
-mod ladder;
-
 ghost use Rattle.std.specs.Prelude.{◌≡◌, ◌<◌, ◌↔◌, IsTrue};
 ghost use Rattle.abc_program.specs.Kinds.{IsAtMost, IsJoin};
 ghost use Rattle.abc_program.specs.Linked.{IsLinkedFile};
@@ -11,7 +9,6 @@ ghost use Rattle.abc_kinds.specs.Steps.{ClimbsTo, NearsTo};
 
 pub use abc_link::{Linked, Part, Ty, kind_of_type};
 pub use abc_program::{Kind, LayoutId};
-pub use ladder::Ladder;
 
 /// What tells which layout each layout stands under.
 pub trait Tree {
@@ -37,9 +34,8 @@ impl Tree for Linked {
         Linked::above(self, layout)
     }
 
-    #[tactic(auto, using(abc_program::proofs::Tree::below_self))]
     fn far_above(&self, layout: LayoutId) -> LayoutId {
-        layout
+        Linked::far_above(self, layout)
     }
 }
 

@@ -1,5 +1,5 @@
 -- What the tables of a linked file say.
-use Rattle.std.proofs.Common.{◌≡◌, ℕ, zero, ◌+◌, ◌<◌, ◌≤◌, ◌^◌, List, length, nat_eq, unwrap_or, ap, subst, sym, arith, below_more}
+use Rattle.std.proofs.Common.{◌≡◌, ℕ, ◌+◌, ◌<◌, ◌≤◌, ◌^◌, List, length, nat_eq, unwrap_or, ap, subst, sym, arith, below_more}
 use Rattle.std.proofs.lemmas.List.{get_or_past}
 use Rattle.abc_base.specs.declared.names.HostClass.TheVariants as hosts
 use Rattle.abc_interfaces.specs.Parts.{parent}

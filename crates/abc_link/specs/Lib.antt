@@ -1,4 +1,5 @@
 pub mod Made
+pub mod Ladders
 pub mod Tables
 pub use Rattle.abc_interfaces.specs.Linked as ProgramLinked
 pub use Rattle.abc_interfaces.specs.Places

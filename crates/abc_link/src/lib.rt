@@ -2,6 +2,7 @@
 //! objects and the types of its names.
 #![tactic(auto)]
 
+mod ladder;
 mod linked;
 mod linking;
 
@@ -10,4 +11,4 @@ pub use abc_interfaces::{
 };
 pub use abc_search_tables::traits_of;
 pub use linked::{Linked, kind_of_type};
-pub use linking::link;
+pub use linking::{MOST_HANDLERS, link};

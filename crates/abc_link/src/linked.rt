@@ -9,12 +9,14 @@ ghost use Rattle.abc_interfaces.specs.ProgramInterfaces.{Implements};
 ghost use Rattle.abc_interfaces.specs.Linked.{IsLayout, IsLinkedFile, above as above_of, base as base_of, layout_of as layout_of_part, part_of as part_of_layout};
 ghost use Rattle.abc_interfaces.specs.Owners.{body_of as body_of_method, owner_of};
 ghost use Rattle.abc_interfaces.specs.Slots.{HasFewSlots, slot_numbered as slot_with, slots_of};
+ghost use Rattle.abc_interfaces.specs.Tree.{IsBelow};
 ghost use Rattle.abc_interfaces.specs.Traits.{own_table_of, own_traits as own_traits_of};
 ghost use Rattle.abc_search_tables.specs.LayoutsNumbering.{IsNumbered};
 ghost use Rattle.abc_search_tables.specs.OwnSlots.{slots_before as slots_before_of};
 ghost use Rattle.abc_search_tables.specs.ScriptTraits.{owners_of, script_traits as script_traits_of};
 ghost use Rattle.abc_interfaces.specs.Types.{kind_of_type as kind_of, type_of as type_of_name};
 
+use crate::ladder::{Rung, above, far_above};
 use abc_base::{HostClass, Table};
 use abc_interfaces::{
     Heirs, Interfaces, Kind, LayoutId, Meanings, NameTables, Named, Names, Owner, Part, SlotInfo,
@@ -30,6 +32,8 @@ use std::marker::Model;
 pub(crate) struct Made {
     pub owners: Owners,
     pub layouts: Layouts,
+    /// For each layout one far above it.
+    pub rungs: Table<Rung>,
     pub slots: Heirs<SlotInfo>,
     pub members: Members,
     pub interfaces: Interfaces,
@@ -136,17 +140,17 @@ impl Linked {
 
     /// The layout that stands above a layout: what it stands under, or that of Object's instances where it stands under
     /// none or is no layout.
-    #[tactic(auto, using(crate::proofs::Laws::none_above))]
     pub fn above(&self, layout: LayoutId) -> LayoutId
         ensures { result.0 ≡ above_of self.now layout.0 }
     {
-        if layout.0 as usize >= self.made.layouts.len() {
-            return LayoutId(0);
-        }
-        match self.made.layouts.base_number(&self.abc, layout.0) {
-            Some(base) => LayoutId(base),
-            None => LayoutId(0),
-        }
+        LayoutId(above(&self.abc, &self.made.layouts, layout.0))
+    }
+
+    /// A layout far above a layout, or the layout itself. A few such steps lead to any layout that it stands under.
+    pub fn far_above(&self, layout: LayoutId) -> LayoutId
+        ensures { IsBelow self.now layout.0 result.0 }
+    {
+        LayoutId(far_above(&self.abc, &self.made.layouts, &self.made.rungs, layout.0))
     }
 
     /// The slots of a layout: those that it inherits, and then its own in file order.

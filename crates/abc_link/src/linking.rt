@@ -9,6 +9,7 @@ ghost use Rattle.abc_interfaces.specs.Firsts.{IsFew, IsRefusal};
 ghost use Rattle.abc_interfaces.specs.Rules.{AllHold};
 ghost use Rattle.abc_tables.specs.Files.{Fits};
 
+use crate::ladder::rungs_of;
 use crate::linked::{Linked, Made};
 use abc_base::{NoMemory, Table};
 use abc_interfaces::{
@@ -45,7 +46,21 @@ fn meanings_in(
     meanings_of(alloc, names, &known)
 }
 
-/// The layouts of a file that keeps the rules. Of 2^32 layouts or more there is never room for all.
+/// The most handlers that all bodies have. Where there are more, memory is said to have run out: each has a layout of its own,
+/// which takes hundreds of times the bytes of a handler in a file.
+pub const MOST_HANDLERS: usize = 1 << 19;
+
+/// How many handlers all bodies have.
+fn handler_count(abc: &Abc) -> usize {
+    let mut count = 0usize;
+    for body in abc.bodies.as_slice() {
+        count = count.saturating_add(body.handlers.len());
+    }
+    count
+}
+
+/// The layouts of a file that keeps the rules. Of 2^32 layouts or more, or more than [`MOST_HANDLERS`] handlers, there is never
+/// room for all.
 fn layouts_in(
     alloc: Global,
     abc: &Abc,
@@ -56,6 +71,9 @@ fn layouts_in(
     ensures are { IfOk result (λ l. AreLayouts abc.now l) }
     ensures few { IfOk result (λ l. length l.parts < 2 ^ 32) }
 {
+    if handler_count(abc) > MOST_HANDLERS {
+        return Err(NoMemory);
+    }
     let meanings = Meanings::new(abc, meanings);
     let layouts = Layouts::new(alloc, &meanings)?;
     if layouts.len() > u32::MAX as usize {
@@ -105,6 +123,7 @@ fn make(
     let owners = Owners::new(alloc, abc)?;
     let layouts = layouts_in(alloc, abc, meanings)?;
     let count = layouts.len() as u32;
+    let rungs = rungs_of(alloc, abc, &layouts, count)?;
     let meant = Meanings::new(abc, meanings);
     let slots = slots_of(alloc, &meant, &layouts, count)?;
     check_slots(&slots, &layouts, count)?;
@@ -122,6 +141,7 @@ fn make(
     Ok(Made {
         owners,
         layouts,
+        rungs,
         slots,
         members,
         interfaces,

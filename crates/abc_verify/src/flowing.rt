@@ -1,7 +1,8 @@
 use abc_base::{NoMemory, Table};
 use abc_flow::{Cover, Flow, Merged, Trial};
 use abc_frames::{Frame, entry_of};
-use abc_kinds::{Ladder, join};
+use abc_kinds::join;
+use abc_link::Linked;
 use abc_merging::merge;
 use abc_program::Kind;
 use abc_tables::Instr;
@@ -13,7 +14,7 @@ use std::alloc::Global;
 #[derive(Clone, Copy)]
 pub(crate) struct Flowing<'a> {
     pub alloc: Global,
-    pub ladder: &'a Ladder<'a>,
+    pub linked: &'a Linked,
     pub frame: &'a Frame<'a>,
     pub heads: &'a Table<bool>,
 }
@@ -21,7 +22,7 @@ pub(crate) struct Flowing<'a> {
 impl Flow for Flowing<'_> {
     ghost use Rattle.abc_frames.specs.Frames.{routine_in};
 
-    ghost file = { λ f. f.ladder.now };
+    ghost file = { λ f. f.linked.now };
 
     ghost routine = { λ f. routine_in f.frame.now };
 
@@ -51,11 +52,11 @@ impl Flow for Flowing<'_> {
     }
 
     fn broken_early(&self, place: u32, state: &State) -> Option<VerifyRule> {
-        broken_early_at(self.ladder.linked(), self.frame, place, state)
+        broken_early_at(self.linked, self.frame, place, state)
     }
 
     fn advance(&self, place: u32, state: &mut State, cover: Cover) -> Result<Trial, NoMemory> {
-        advance_at(self.ladder.linked(), self.frame, place, state, cover)
+        advance_at(self.linked, self.frame, place, state, cover)
     }
 
     fn entry(&self) -> Result<State, NoMemory> {
@@ -63,10 +64,10 @@ impl Flow for Flowing<'_> {
     }
 
     fn join(&self, a: Kind, b: Kind) -> Kind {
-        join(self.ladder, a, b)
+        join(self.linked, a, b)
     }
 
     fn merge(&self, old: &State, next: &State, joined: &mut State) -> Result<Merged, NoMemory> {
-        merge(self.ladder, old, next, joined)
+        merge(self.linked, old, next, joined)
     }
 }

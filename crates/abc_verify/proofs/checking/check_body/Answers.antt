@@ -8,7 +8,7 @@ use Rattle.abc_verify.proofs.Shortness.{routine_short}
 use Rattle.abc_verify.proofs.checking.check_body.Goals as goal
 
 pub check_frame-requires : goal.check_frame-requires
-check_frame-requires c = record { linked = c.requires.linked; short = routine_short c.args.ladder.now c.args.body (routine_in c.in_ok-frame.frame) c.requires.linked c.requires.inside c.in_ok-frame.ensures }
+check_frame-requires c = record { linked = c.requires.linked; short = routine_short c.args.linked.now c.args.body (routine_in c.in_ok-frame.frame) c.requires.linked c.requires.inside c.in_ok-frame.ensures }
 
 pub returns : goal.returns
-returns c = subst (λ (r : Routine). MatchResult c.check_frame.result (λ x. HasTyping c.args.ladder.now r) (λ e. RefusedBy c.args.ladder.now r e)) c.in_ok-frame.ensures c.check_frame.ensures
+returns c = subst (λ (r : Routine). MatchResult c.check_frame.result (λ x. HasTyping c.args.linked.now r) (λ e. RefusedBy c.args.linked.now r e)) c.in_ok-frame.ensures c.check_frame.ensures

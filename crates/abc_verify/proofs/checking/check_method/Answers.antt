@@ -6,4 +6,4 @@ pub check_numbered-requires : goal.check_numbered-requires
 check_numbered-requires c = record { linked = c.requires.linked; inside = c.requires.inside; before = c.requires.before; of_method = sym c.in-Some.ensures }
 
 pub returns-in-None : goal.returns-in-None
-returns-in-None c = not_typed c.args.ladder.now c.args.method (sym c.in-None.ensures)
+returns-in-None c = not_typed c.args.linked.now c.args.method (sym c.in-None.ensures)

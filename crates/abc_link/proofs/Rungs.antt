@@ -1,15 +1,18 @@
 -- A layout far above each, one after the other.
-use Rattle.std.proofs.Common.{◌≡◌, ℕ, zero, suc, ◌+◌, List, [], ◌∷◌, ◌++◌, Some, None, length, refl, sym, subst, ap, arith, ◌⊎◌, inl, inr}
+use Rattle.std.proofs.Common.{◌≡◌, ℕ, zero, suc, ◌+◌, List, [], ◌∷◌, ◌++◌, Some, length, refl, sym, subst, ap, arith, ◌⊎◌, inl, inr}
 use Rattle.std.specs.Prelude.{slice_get}
 use Rattle.std.proofs.lemmas.List.{length-append}
-use Rattle.abc_program.specs.Linked.{LinkedFile, above}
-use Rattle.abc_program.specs.Tree.{IsBelow}
-use Rattle.abc_program.proofs.Tree.{below_self, below_trans, below_up}
-use Rattle.abc_kinds.specs.Ladders.{AreRungs}
-use Rattle.abc_kinds.specs.declared.ladder.Rung.{Rung}
+use Rattle.abc_interfaces.specs.Linked.{LinkedFile, above}
+use Rattle.abc_interfaces.specs.Tree.{IsBelow}
+use Rattle.abc_interfaces.proofs.Tree.{below_self, below_trans, below_up}
+use Rattle.abc_link.specs.Ladders.{AreRungs}
+use Rattle.abc_link.specs.declared.ladder.Rung.{Rung}
 
 pub rung_there : (l : LinkedFile) (rungs : List Rung) (i : ℕ) (r : Rung) → AreRungs l rungs → slice_get rungs i ≡ Some r → IsBelow l i r.far
 rung_there l rungs i r h e = h i r e
+
+pub at_itself : (l : LinkedFile) (i : ℕ) → IsBelow l i i
+at_itself l i = below_self l i
 
 pub one_up : (l : LinkedFile) (i y : ℕ) → y ≡ above l i → IsBelow l i y
 one_up l i y e = subst (λ (n : ℕ). IsBelow l i n) (sym e) (below_up l i (above l i) (below_self l (above l i)))
