@@ -1,9 +1,9 @@
 """Programs that want to hurt: each makes as much of one thing as the limits of a run allow, or makes the verifier work as much as
 the bytes of a file can. As assembly texts and as files."""
-from linking import INTERFACE, METHOD, PRIVATE, body, class_file
+from linking import INTERFACE, METHOD, PRIVATE, body, class_file, qname
 from spelling import HEAD, SIZE, counted, number, pool, text as spelled
 from statements import distance
-from verifying import exception, of_bodies
+from verifying import body as body_of, exception, of_bodies
 
 CODE = (1 << 23) - 1
 LAST = b"\x47"
@@ -156,19 +156,68 @@ def multiname(string, of_set):
     return b"\x09" + number(string) + number(of_set)
 
 
-def of_names(texts, spaces, sets, names, ty):
-    """A file with so many texts and Private namespaces, with sets of these and with names, and a method that has a parameter of a type. It
-    is refused, but not before each name was looked up."""
+def of_names(texts, spaces, sets, names, classes, ty):
+    """A file with so many texts and Private namespaces, with sets of these, and with classes of these names, which share their methods;
+    a method has a parameter of a type. It is refused, but not before each name was looked up."""
     pools = pool([spelled(b"%x" % n) for n in range(texts)]) + pool([PRIVATE + b"\0"] * spaces) + pool(sets) + pool(names)
-    methods = counted([METHOD, b"\1\0" + number(ty) + b"\0\0"])
-    made = HEAD + bytes(3) + pools + methods + b"\0\0" + counted([b"\0\0"]) + counted([body(0)])
+    methods = counted([METHOD, METHOD, b"\1\0" + number(ty) + b"\0\0"])
+    instances = counted([number(name) + bytes(5) for name in classes])
+    made = HEAD + bytes(3) + pools + methods + b"\0" + instances + b"\1\0" * len(classes) + counted([b"\0\0"]) + counted([body(0)])
     assert len(made) <= SIZE, len(made)
     return made
 
 
+def set_of(first, count):
+    return counted([number(n) for n in range(first, first + count)])
+
+
 def long_set(count=1 << 20):
     """As many names with one set of as many namespaces."""
-    return of_names(count, count, [counted([number(n + 1) for n in range(count)])], [multiname(n + 1, 1) for n in range(count)], 1)
+    return of_names(count, count, [set_of(1, count)], [multiname(n + 1, 1) for n in range(count)], [], 1)
+
+
+def long_set_of_classes(count=410_000, spaces=1_150_000):
+    """A class for each text, and as many names with one long set that has the namespace of none."""
+    names = [qname(1, n + 1) for n in range(count)] + [multiname(n + 1, 1) for n in range(count)]
+    return of_names(count, spaces + 1, [set_of(2, spaces)], names, range(1, count + 1), count + 1)
+
+
+def classes_of_one_text(classes=470_000, count=1_350_000):
+    """Classes of one text, each in a namespace of its own, and names of that text in another."""
+    names = [qname(n + 1, 1) for n in range(classes)] + [qname(classes + 1, 1)] * count
+    return of_names(1, classes + 1, [], names, range(1, classes + 1), classes + 1)
+
+
+def short_sets_of_one_text(classes=440_000, count=760_000):
+    """Classes of one text, each in a namespace of its own, and names of that text, each with a set of another namespace."""
+    names = [qname(n + 1, 1) for n in range(classes)] + [multiname(1, n + 1) for n in range(count)]
+    return of_names(1, classes + 1, [set_of(classes + 1, 1)] * count, names, range(1, classes + 1), classes + 1)
+
+
+def sets_and_texts(texts=400, classes=950, sets=2450, spaces=1150):
+    """Texts of so many classes each, sets of so many other namespaces each, and a name for each text and each set."""
+    names = [qname(k + 1, n + 1) for n in range(texts) for k in range(classes)]
+    names += [multiname(n + 1, k + 1) for k in range(sets) for n in range(texts)]
+    return of_names(texts, classes + spaces, [set_of(classes + 1, spaces)] * sets, names, range(1, texts * classes + 1), texts * classes + 1)
+
+
+def alike(classes=300_000, spaces=800_000, count=1_700_000):
+    """Classes of one text, and names of that text with one long set that has none of their namespaces."""
+    names = [qname(n + 1, 1) for n in range(classes)] + [multiname(1, 1)] * count
+    return of_names(1, classes + spaces, [set_of(classes + 1, spaces)], names, range(1, classes + 1), classes + 1)
+
+
+def many_handlers(count=2_500_000):
+    """A body with so many handlers, each of which has a layout."""
+    return of_bodies((1, b"\x02" + LAST + b"\x29" + LAST, [exception(0, 1, 2)] * count))
+
+
+def supers(classes=1 << 17, count=1 << 20):
+    """A chain of classes, and in the constructor of the second highest so many super operations on the lowest."""
+    bases = [n + 2 for n in range(classes - 1)] + [0]
+    method = 2 * classes - 4
+    code = body_of(method, 1, 1, b"\x20\x80\x01\x04\x01\x29" * count + LAST, [])
+    return class_file(bases, 0, [[]] * classes, code=code, at=method)
 
 
 def wide_interfaces(count=2000):
@@ -191,10 +240,17 @@ FILES = {
     "wide_branches": wide_branches,
     "wide_bodies": wide_bodies,
     "long_set": long_set,
+    "long_set_of_classes": long_set_of_classes,
+    "classes_of_one_text": classes_of_one_text,
+    "short_sets_of_one_text": short_sets_of_one_text,
+    "sets_and_texts": sets_and_texts,
+    "alike": alike,
+    "many_handlers": many_handlers,
+    "supers": supers,
     "wide_interfaces": wide_interfaces,
 }
 # `check` answers that memory ran out, since more would be made than is made of a file.
-TOO_MUCH = ("states", "scope_states", "told_states", "wide_interfaces")
+TOO_MUCH = ("states", "scope_states", "told_states", "many_handlers", "wide_interfaces")
 
 
 def linked(strings, names, methods, items, bodies):

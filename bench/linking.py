@@ -29,9 +29,9 @@ def program(strings, spaces, names, methods, instances, classes, script_traits, 
     return made
 
 
-def class_file(bases, flags, interfaces, traits=(), code=None):
-    """Classes by the numbers of their bases' names and of their interfaces' names; the first one has the traits. The body of
-    the script may be another than one that returns at once."""
+def class_file(bases, flags, interfaces, traits=(), code=None, at=-1):
+    """Classes by the numbers of their bases' names and of their interfaces' names; the first one has the traits. One body, that of
+    the script if no other is named, may be another than one that returns at once."""
     count = len(bases)
     strings = [text(b"%x" % n) for n in range(count)]
     names = [qname(1, n + 1) for n in range(count)]
@@ -43,7 +43,7 @@ def class_file(bases, flags, interfaces, traits=(), code=None):
     classes = [number(2 * n + 1) + b"\0" for n in range(count)]
     methods = 2 * count + 1
     bodies = [body(of) for of in range(methods) if not flags & INTERFACE or of % 2 or of == methods - 1]
-    bodies[-1] = code or bodies[-1]
+    bodies[at] = code or bodies[at]
     return program(strings, [PACKAGE + b"\0"], names, methods, instances, classes, [], bodies)
 
 
