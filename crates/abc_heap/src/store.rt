@@ -19,7 +19,7 @@ use crate::records::{Full, Limit, Limits, ScopeEntry, ScopeId, ScopeNode, What};
 use crate::scopes::capture;
 use crate::search::{bucket_of_name, find};
 use crate::starts::Starts;
-use crate::stored::{restored, stored};
+use crate::stored::{is_kept_array, restored, stored};
 use crate::strings::Strings;
 use crate::texts::{bytes_in, join, push_bytes};
 use abc_base::{Bytes, NoMemory, Table};
@@ -134,6 +134,15 @@ impl Store {
         ensures { result ≡ (object_at self.now.objects o.0).what }
     {
         restored(head_at(&self.heads, o.0).what)
+    }
+
+    /// Whether an object is an array.
+    #[inline(always)]
+    pub fn is_array(&self, o: ObjId) -> bool
+        requires { o.0 < length self.now.objects }
+        ensures { result ≡ is_array (object_at self.now.objects o.0).what }
+    {
+        is_kept_array(head_at(&self.heads, o.0).what)
     }
 
     /// The value of a slot.

@@ -1,5 +1,5 @@
 ghost use Rattle.std.specs.Prelude.{◌≡◌};
-ghost use Rattle.abc_heap.specs.What.{what_in, elements_in};
+ghost use Rattle.abc_heap.specs.What.{what_in, elements_in, is_array};
 ghost use Rattle.abc_heap.specs.declared.records.What.TheVariants.{ClassObject, Closure};
 
 use crate::records::{ScopeId, What};
@@ -189,6 +189,17 @@ pub fn restored(kept: StoredWhat) -> What
         StoredWhat::Activation => What::Activation,
         StoredWhat::Catch => What::Catch,
         StoredWhat::Array(_elements) => What::Array,
+    }
+}
+
+/// Whether what is kept is an array.
+#[inline(always)]
+pub fn is_kept_array(kept: StoredWhat) -> bool
+    ensures { result ≡ is_array (what_in kept) }
+{
+    match kept {
+        StoredWhat::Array(_elements) => true,
+        _ => false,
     }
 }
 

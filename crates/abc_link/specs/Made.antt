@@ -1,5 +1,5 @@
 -- What is made of a file that keeps the rules of linking.
-use Rattle.std.specs.Prelude.{ℕ, ◌<◌, ◌^◌, List, length}
+use Rattle.std.specs.Prelude.{◌≡◌, ℕ, ◌<◌, ◌^◌, List, length}
 use Rattle.abc_interfaces.specs.Heirs.{list_at}
 use Rattle.abc_interfaces.specs.Listed.{Listed}
 use Rattle.abc_interfaces.specs.Sets.{HasSets}
@@ -11,6 +11,7 @@ use Rattle.abc_search_tables.specs.Grouped.{HasGroups}
 use Rattle.abc_owners.specs.Owning.{AreOwners}
 use Rattle.abc_search_tables.specs.Made.{AreSearchTables}
 use Rattle.abc_search_tables.specs.Files.{linked}
+use Rattle.abc_search_tables.specs.Strings.{numbers_in}
 use Rattle.abc_interfaces.specs.SlotInfo.{SlotInfo}
 use Rattle.abc_search_tables.specs.SlotsTables.{HasSlots}
 use Rattle.abc_tables.specs.declared.tables.Abc.{Abc}
@@ -30,4 +31,5 @@ pub record IsMade (v : Abc) (numbers : List ℕ) (m : Made) : Type 0 where
   pub interfaces_are : HasSets v m.interfaces.sets
   pub members_are : HasGroups (linked v m.layouts) m.members.texts m.members.groups (length m.layouts.parts)
   pub texts_are : HasTexts m.members.texts (texts_of v.strings)
+  pub numbers_are : m.members.numbers ≡ numbers_in m.members.texts v.strings
   pub search_are : AreSearchTables v m.layouts.parts m.members.texts numbers m.search

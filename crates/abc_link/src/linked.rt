@@ -1,4 +1,4 @@
-ghost use Rattle.std.specs.Prelude.{◌≡◌, ◌<◌, ◌↔◌, ℕ, IsTrue, List, Some, length, slice_get};
+ghost use Rattle.std.specs.Prelude.{◌≡◌, ◌<◌, ◌↔◌, ℕ, IsTrue, List, [], Some, get_or, length, slice_get};
 ghost use Rattle.std.specs.List.{list_any};
 ghost use Rattle.std.specs.Option.{option_copied, option_map};
 ghost use Rattle.std.specs.Str.{bytes_eq};
@@ -230,6 +230,13 @@ impl Linked {
         ensures { result ≡ first (bytes_eq text.now) (texts_of self.now.file.strings) }
     {
         self.made.members.text_number(text)
+    }
+
+    /// The number of the text of a string of the file, by its index: index 0 is the empty text, and so are those past the end.
+    pub fn string_number(&self, string: u32) -> u32
+        ensures { first (bytes_eq (get_or (texts_of self.now.file.strings) string [])) (texts_of self.now.file.strings) ≡ Some result }
+    {
+        self.made.members.string_number(&self.abc, string)
     }
 
     /// The own traits of a layout that have the text of a number, as their places in its table, in file order. It answers

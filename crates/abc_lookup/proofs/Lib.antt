@@ -9,3 +9,4 @@ pub mod Numerals
 pub mod ScriptsFirst
 pub mod NoTraits
 pub mod SameSpace
+pub mod WholeStrings

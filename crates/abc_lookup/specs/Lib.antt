@@ -3,3 +3,4 @@ pub mod Steps
 pub mod Named
 pub mod Scripts
 pub mod NoTraits
+pub mod WholeStrings

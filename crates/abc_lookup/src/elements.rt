@@ -89,7 +89,7 @@ pub fn element_named(l: &Linked, a: &Arena, o: ObjId, text: Span) -> Option<Elem
     requires text { IsText l.now.file.strings a.now text }
     ensures { element_in result ≡ element_on l.now a.now o text }
 {
-    if !a.what(o).is_array() {
+    if !a.is_array(o) {
         return None;
     }
     name_of(a.text_bytes(l, text))

@@ -3,6 +3,7 @@
 
 mod declared;
 mod elements;
+mod numbers;
 mod on;
 mod own;
 mod place;

@@ -47,7 +47,7 @@ impl Query<'_> {
         requires { IsObject self.now.a.now o }
         ensures { result ≡ answer self.now.l.now self.now.a.now self.now.name self.now.skip (elements o.0 (object_at self.now.a.now.objects o.0)) }
     {
-        if !self.a.what(o).is_array() {
+        if !self.a.is_array(o) {
             return Found::Missing;
         }
         self.find_in_array(o)

@@ -101,7 +101,7 @@ fn first_of_plain(l: &Linked, a: &Arena, o: ObjId, name: &Name) -> Found
     requires plain { IsPlain l.now a.now o name.now }
     ensures { IsFirst l.now a.now o name.now result }
 {
-    if a.what(o).is_array() {
+    if a.is_array(o) {
         first_element(l, a, o, name)
     } else {
         first_property(l, a, o, name)

@@ -8,6 +8,7 @@ ghost use Rattle.abc_program.specs.Linked.{IsLayout};
 ghost use Rattle.abc_search.specs.Scopes.{scope_named};
 ghost use Rattle.abc_search.specs.Searches.{declared_found, found_in_scopes, found_on};
 
+use crate::numbers::number_of;
 use crate::place::Place;
 use crate::plain::{find_first, has_no_traits};
 use crate::query::Query;
@@ -41,7 +42,7 @@ fn find_among_traits(
         name: *name,
         skip: want.skip(),
         text,
-        number: l.text_number(text),
+        number: number_of(l, a, name.text, text),
         public: holds_public(l, name.spaces),
     };
     query.find_declared(object, from)
@@ -85,7 +86,7 @@ fn find_on_any(l: &Linked, a: &Arena, holder: Value, name: &Name, want: Want) ->
         name: *name,
         skip: want.skip(),
         text,
-        number: l.text_number(text),
+        number: number_of(l, a, name.text, text),
         public: holds_public(l, name.spaces),
     };
     query.find_on(holder)
@@ -179,7 +180,7 @@ pub fn find_in_scopes(
         name: *name,
         skip: Skip::Nothing,
         text,
-        number: l.text_number(text),
+        number: number_of(l, a, name.text, text),
         public: holds_public(l, name.spaces),
     };
     place_found(l, a, started, query.find_place(scopes, saved))

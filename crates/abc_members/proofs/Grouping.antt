@@ -4,11 +4,14 @@ use Rattle.std.specs.declared.option.Option.{Option}
 use Rattle.std.specs.Option.{option_copied}
 use Rattle.std.specs.Str.{bytes_eq}
 use Rattle.std.proofs.lemmas.Bool.{cases_lt}
+use Rattle.std.proofs.lemmas.List.{get_or_past}
 use Rattle.indexmap.specs.IndexMap.{get}
 use Rattle.abc_index.specs.Groups.{GroupMap, Groups, places_of, some_places}
 use Rattle.abc_index.specs.ByText.{GroupsTexts, names_of}
 use Rattle.abc_index.specs.Texts.{HasTexts, number_among, number_in, texts_of}
 use Rattle.abc_index.specs.declared.texts.Texts.{Texts}
+use Rattle.abc_index.proofs.Numbering.{bytes_self, first_finds}
+use Rattle.abc_index.specs.Index.{first}
 use Rattle.abc_index.proofs.ByTexts.{no_places, same_places}
 use Rattle.abc_slots.specs.Pool.{text}
 use Rattle.abc_tables.specs.declared.tables.Abc.{Abc}
@@ -22,6 +25,20 @@ use Rattle.abc_slots.specs.Traits.{own_table_of, own_traits, trait_name, trait_t
 
 -- ---- numbers of texts
 
+-- each text of the pool has one
+has_number : (strings : List (List ℕ)) (i : ℕ) → (n : ℕ) × (first (bytes_eq (get_or (texts_of strings) i [])) (texts_of strings) ≡ Some n)
+has_number strings i = go (cases_lt i (length (texts_of strings)))
+  where
+    t : List ℕ
+    t = get_or (texts_of strings) i []
+
+    at : (j : ℕ) → j < length (texts_of strings) → bytes_eq t (get_or (texts_of strings) j []) ≡ true → (n : ℕ) × (first (bytes_eq t) (texts_of strings) ≡ Some n)
+    at j lt e = let f = first_finds (bytes_eq t) 0 (texts_of strings) j lt e in (0 + f.0, f.1)
+
+    go : (i < length (texts_of strings)) ⊎ (length (texts_of strings) ≤ i) → (n : ℕ) × (first (bytes_eq t) (texts_of strings) ≡ Some n)
+    go (inl lt) = at i lt (bytes_self t)
+    go (inr le) = at 0 (omega arith) (ap (λ (a : List ℕ). bytes_eq a []) (get_or_past (texts_of strings) i [] le))
+
 number_rest : (t : Texts) (all strings : List (List ℕ)) → HasTexts t (texts_of all) → (i : ℕ) → get_or (map (λ s. unwrap_or (number_in t s) 0) strings) i 0 ≡ number_among (texts_of all) (get_or strings i [])
 number_rest t all [] h i = refl
 number_rest t all (s ∷ ss) h zero = ap (λ o. unwrap_or o 0) (h.has s)
@@ -30,6 +47,12 @@ number_rest t all (s ∷ ss) h (suc i) = number_rest t all ss h i
 number_entry : (t : Texts) (strings : List (List ℕ)) → HasTexts t (texts_of strings) → (i : ℕ) → get_or (numbers_in t strings) i 0 ≡ number_among (texts_of strings) (get_or (texts_of strings) i [])
 number_entry t strings h zero = refl
 number_entry t strings h (suc i) = number_rest t strings strings h i
+
+-- the text of each string has a number: that which the table of numbers says
+pub string_numbered : (t : Texts) (strings : List (List ℕ)) → HasTexts t (texts_of strings) → (i : ℕ) → first (bytes_eq (get_or (texts_of strings) i [])) (texts_of strings) ≡ Some (get_or (numbers_in t strings) i 0)
+string_numbered t strings h i =
+    let some = has_number strings i in
+    some.1 ∙ ap (λ n. Some n) (sym (ap (λ o. unwrap_or o 0) some.1) ∙ sym (number_entry t strings h i))
 
 keys_are : (v : Abc) (t : Texts) → HasTexts t (texts_of v.strings) → (ts : List TraitInfo)
     → map (λ (x : TraitInfo). get_or (numbers_in t v.strings) (trait_name v x).string 0) ts ≡ map (number_among (texts_of v.strings)) (names_of v.strings (trait_strings v ts))

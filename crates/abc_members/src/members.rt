@@ -1,12 +1,14 @@
-ghost use Rattle.std.specs.Prelude.{◌≡◌, ◌<◌, ◌+◌, ℕ, List, Some, length, slice_get, IfOk, OnOk};
+ghost use Rattle.std.specs.Prelude.{◌≡◌, ◌<◌, ◌+◌, ℕ, List, [], Some, get_or, length, slice_get, IfOk, OnOk};
 ghost use Rattle.std.specs.Option.{option_copied};
+ghost use Rattle.std.specs.Str.{bytes_eq};
+ghost use Rattle.abc_index.specs.Index.{first};
 ghost use Rattle.abc_index.specs.Texts.{HasTexts, number_in, texts_of};
 ghost use Rattle.abc_members.specs.Grouped.{HasGroups};
 ghost use Rattle.abc_members.specs.Strings.{numbers_in};
 ghost use Rattle.abc_slots.specs.Traits.{own_traits as own_traits_of};
 ghost use Rattle.abc_slots.specs.Files.{linked};
 
-use crate::numbers::{group, numbers_of};
+use crate::numbers::{group, number_at, numbers_of};
 use abc_base::{NoMemory, Table};
 use abc_index::Texts;
 use abc_slots::{LayoutId, Layouts, traits_of};
@@ -94,6 +96,16 @@ impl Members {
         ensures { result ≡ number_in self.now.texts text.now }
     {
         self.texts.number_of(text)
+    }
+
+    /// The number of the text of a string of the file, by its index: index 0 is the empty text, and so are those past the end.
+    pub fn string_number(&self, abc: &Abc, string: u32) -> u32
+        requires texts { HasTexts self.now.texts (texts_of abc.now.strings) }
+        requires numbers { self.now.numbers ≡ numbers_in self.now.texts abc.now.strings }
+        ensures { first (bytes_eq (get_or (texts_of abc.now.strings) string [])) (texts_of abc.now.strings) ≡ Some result }
+    {
+        let _file = abc;
+        number_at(&self.numbers, string)
     }
 
     /// The groups of a layout.

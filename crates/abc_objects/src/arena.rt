@@ -252,6 +252,15 @@ impl Arena {
         self.store.what(o)
     }
 
+    /// Whether an object is an array.
+    #[inline(always)]
+    pub fn is_array(&self, o: ObjId) -> bool
+        requires { IsObject self.now o }
+        ensures { result ≡ is_array (object_at self.now.objects o.0).what }
+    {
+        self.store.is_array(o)
+    }
+
     /// The value of a slot.
     pub fn slot(&self, o: ObjId, k: u32) -> Value
         requires { k < length (slots_of self.now.objects o.0) }

@@ -16,4 +16,4 @@ pub use abc_heap::{Full, Limit, Limits, ScopeEntry, ScopeId, ScopeNode, What};
 pub use arena::Arena;
 pub use error::OpenError;
 pub use fixed::FixedText;
-pub use starts::span_of_string;
+pub use starts::{span_of_string, string_length};

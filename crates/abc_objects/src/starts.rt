@@ -88,7 +88,7 @@ pub fn span_of_string(pool: &Table<Bytes>, i: u32) -> Span
 
 /// How many bytes a string of the pool has.
 #[tactic(auto, using(crate::proofs::Made::past_pool_text))]
-pub(crate) fn string_length(pool: &Table<Bytes>, i: u32) -> usize
+pub fn string_length(pool: &Table<Bytes>, i: u32) -> usize
     ensures { result ≡ length (pool_text pool.now i) }
 {
     if i == 0 {
