@@ -1,5 +1,5 @@
 -- One step more, where there is fuel for it.
-use Rattle.std.proofs.Common.{◌≡◌, ◌≢◌, ℕ, zero, suc, ◌-◌, List, refl, sym, ap, subst, arith}
+use Rattle.std.proofs.Common.{◌≡◌, ◌≢◌, ℕ, zero, suc, ◌-◌, ◌<◌, List, refl, sym, ap, subst, arith}
 use Rattle.std.specs.Prelude.{Ok, Err}
 use Rattle.std.specs.declared.option.Option.{Option}
 use Rattle.std.specs.declared.result.Result.{Result}
@@ -9,7 +9,7 @@ use Rattle.abc_ends.specs.Ending.{IsSized}
 use Rattle.abc_ends.specs.declared.ended.Ended.TheVariants as ended
 use Rattle.abc_machine.specs.Replied.{plain_value}
 use Rattle.abc_machine.specs.Runs.{Begun, IsAt, outer}
-use Rattle.abc_machine.specs.Spent.{SpendsAs, reply_for}
+use Rattle.abc_machine.specs.Spent.{SpendsAs, as_reply, reply_for}
 use Rattle.abc_machine.specs.declared.replies.Reply.{Reply}
 use Rattle.abc_machine.specs.declared.replies.Reply.TheVariants as replies
 use Rattle.abc_machine.proofs.Reaching.{Comes, ends_at, fails_at, goes_at, spent_at}
@@ -55,6 +55,15 @@ went_as l out old new fuel r u before now reach e f a there limit =
     let sized = (subst (IsSizedBut l out new) e there) (λ q. absurd cc) in
     let g : GoesOnAs l out old new before now = subst (λ (x : Result Unit Halt). StepsAs l out old x new before now) e a in
     (some_left fuel f, record { goes = g; reached = reached_on l out old new before now reach g sized limit })
+
+some_fuel : (fuel : ℕ) → 0 < fuel → fuel ≡ 0 → ⊥
+some_fuel fuel lt e = omega (arith, lt, e)
+
+-- a step, for which there is fuel
+pub stepped_as : (l : LinkedFile) (out : Outer) (old new : State) (fuel : ℕ) (r : Result Unit Halt) (before now : Option (List ℕ)) → IsReached l out old → 0 < fuel → StepsAs l out old r new before now → IsReturned l out old r → IsSizedBut l out new r → new.given.limit ≡ old.given.limit
+    → SpendsAs l out old fuel (as_reply r) new (fuel - 1) before now
+stepped_as l out old new fuel (Ok u) before now reach some a value sized limit = went_as l out old new fuel (Ok u) u before now reach refl (some_fuel fuel some) a sized limit
+stepped_as l out old new fuel (Err h) before now reach some a value sized limit = ended_as l out old new fuel (Err h) h (reply_for h) before now refl refl (some_fuel fuel some) a value sized
 
 -- the steps go on from there
 pub went_on : (l : LinkedFile) (b : Begun) (s new : State) (x y z : Option (List ℕ)) (fuel left : ℕ) (r : Result Unit Reply) (u : Unit) → IsAt l b fuel s x y → r ≡ Ok u → SpendsAs l (outer l b fuel) s fuel r new left y z → IsAt l b left new x z

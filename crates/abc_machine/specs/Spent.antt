@@ -29,6 +29,11 @@ reply_for (halts.Ends (ended.Uncaught thrown)) = replies.Uncaught thrown
 reply_for (halts.Ends (ended.Profile method index fault)) = replies.Profile method index fault
 reply_for (halts.Ends (ended.Full limit)) = replies.Full limit
 
+-- the same of a step, where it ends
+abbrev pub as_reply : Result Unit Halt → Result Unit Reply
+as_reply (Ok u) = Ok u
+as_reply (Err h) = Err (reply_for h)
+
 -- a run ends as a call would, whose value is not told
 abbrev pub end_for : Reply → End
 end_for (replies.Value v) = ends.Done

@@ -1,15 +1,16 @@
-ghost use Rattle.std.specs.Prelude.{◌≡◌, ◌≢◌, ◌+◌, ◌≤◌};
+ghost use Rattle.std.specs.Prelude.{◌≡◌, ◌≢◌, ◌+◌, ◌<◌, ◌≤◌};
 ghost use Rattle.abc_base.specs.Faults.{Rose};
 ghost use Rattle.abc_calling.specs.Calls.{replies_for};
 ghost use Rattle.abc_logmeaning.specs.Logs.{steps_for};
 ghost use Rattle.abc_machine.specs.Ended.{HasRun, RunsAs};
 ghost use Rattle.abc_machine.specs.Replied.{HasReplied, RepliesAs, plain_value};
 ghost use Rattle.abc_machine.specs.Runs.{Begun, IsAt, Leaves};
-ghost use Rattle.abc_machine.specs.Spent.{SpendsAs, end_for as end_of, reply_for as reply_of};
+ghost use Rattle.abc_machine.specs.Spent.{SpendsAs, as_reply, end_for as end_of, reply_for as reply_of};
 ghost use Rattle.abc_machine.specs.declared.ends.End.TheVariants.{WriteFault as FailedRun};
 ghost use Rattle.abc_machine.specs.declared.replies.Reply.TheVariants.{WriteFault};
 ghost use Rattle.abc_meaning.specs.Meaning.{ran, runs_for};
 ghost use Rattle.abc_openings.specs.Begun.{setting};
+ghost use Rattle.abc_reached.specs.Halt.TheVariants.{Fails};
 ghost use Rattle.abc_reached.specs.Steps.{IsReached};
 ghost use Rattle.abc_states.specs.Outer.{Outer};
 
@@ -82,31 +83,27 @@ pub(crate) fn end_for(reply: Reply) -> End
     }
 }
 
-/// One step more, where there is fuel for it.
+/// One step more, for which there is fuel.
+#[inline]
 fn spend<K: Sink, H: Host>(
     linked: &Linked,
     s: &mut State,
     fuel: &mut u32,
     sink: &mut K,
     host: &H,
-) -> Result<(), Reply>
+) -> Result<(), Halt>
     ghost out: { Outer }
     requires reached { IsReached linked.now out s.old }
     requires host { out.formulas ≡ H.formulas host.now }
-    ensures spends { SpendsAs linked.now out s.old fuel.old result s.new fuel.new (K.written sink.old) (K.written sink.new) }
+    requires left { 0 < fuel.old }
+    ensures spends { SpendsAs linked.now out s.old fuel.old (as_reply result) s.new fuel.new (K.written sink.old) (K.written sink.new) }
     ensures later { K.faults sink.old ≤ K.faults sink.new }
-    ensures cause { result ≡ Err WriteFault → Rose (K.faults sink.old) (K.faults sink.new) }
-    ensures few { fuel.new ≤ fuel.old }
+    ensures cause { result ≡ Err Fails → Rose (K.faults sink.old) (K.faults sink.new) }
+    ensures taken { fuel.new + 1 ≡ fuel.old }
     ensures limit { s.new.given.limit ≡ s.old.given.limit }
 {
-    if *fuel == 0 {
-        return Err(Reply::FuelSpent);
-    }
     *fuel -= 1;
-    match step(linked, s, sink, host) {
-        Ok(()) => Ok(()),
-        Err(halt) => Err(reply_for(halt)),
-    }
+    step(linked, s, sink, host)
 }
 
 /// Steps, at most `fuel`, which are taken off it, until one ends.
@@ -128,11 +125,12 @@ pub(crate) fn take_steps<K: Sink, H: Host>(
     ensures few { fuel.new ≤ fuel.old }
     ensures limit { s.new.given.limit ≡ s.old.given.limit }
 {
-    loop {
-        if let Err(reply) = spend(linked, s, fuel, sink, host) {
-            return reply;
+    while *fuel > 0 {
+        if let Err(halt) = spend(linked, s, fuel, sink, host) {
+            return reply_for(halt);
         }
     }
+    Reply::FuelSpent
 }
 
 /// Runs from a state on, at most `fuel` steps, which are taken off it.

@@ -1,29 +1,56 @@
-use Rattle.std.proofs.Common.{◌∙◌, arith}
+use Rattle.std.proofs.Common.{◌∙◌, refl, sym, ap, arith}
+use Rattle.abc_logging.proofs.Lined.{rose_on}
+use Rattle.abc_machine.specs.Spent.{as_reply}
+use Rattle.abc_machine.specs.declared.replies.Reply.TheVariants.{FuelSpent}
 use Rattle.abc_machine.proofs.Counting.{counted_to}
+use Rattle.abc_machine.proofs.Logging.{ended_so, failed_step}
 use Rattle.abc_machine.proofs.Spending.{ended_on, went_on}
 use Rattle.abc_machine.proofs.running.take_steps.Goals as goal
 
 pub spend-requires : goal.spend-requires
-spend-requires g c = λ κs among. (among.0, (among.1, (c.loop-reply.invariant.at.can, c.requires.1.1.1.0)))
+spend-requires g c = λ κs among. (among.0, (among.1, (c.loop-fuel.invariant.at.can, (c.requires.1.1.1.0, omega arith))))
 
-pub loop-reply-preserved : goal.loop-reply-preserved
-loop-reply-preserved g c =
-    let sofar = c.loop-reply.invariant.later in
+pub loop-fuel-preserved : goal.loop-fuel-preserved
+loop-fuel-preserved g c =
+    let sofar = c.loop-fuel.invariant.later in
     let later = c.spend.ensures.later in
-    let had = c.loop-reply.invariant.few in
-    let few = c.spend.ensures.few in
+    let had = c.loop-fuel.invariant.few in
+    let taken = c.spend.ensures.taken in
     record {
-      at = went_on c.args.linked.now g.begun c.loop-reply.s c.spend.new.s (g.K.Sink.written c.args.sink.now) (g.K.Sink.written c.loop-reply.sink) (g.K.Sink.written c.spend.new.sink) c.loop-reply.fuel c.spend.new.fuel c.spend.result c.in_default.field-0 c.loop-reply.invariant.at c.in_default.is c.spend.ensures.spends;
+      at = went_on c.args.linked.now g.begun c.loop-fuel.s c.spend.new.s (g.K.Sink.written c.args.sink.now) (g.K.Sink.written c.loop-fuel.sink) (g.K.Sink.written c.spend.new.sink) c.loop-fuel.fuel c.spend.new.fuel (as_reply c.spend.result) c.in_default.field-0 c.loop-fuel.invariant.at (ap as_reply c.in_default.is) c.spend.ensures.spends;
       later = omega (arith, sofar, later);
-      few = omega (arith, had, few);
-      limit = c.spend.ensures.limit ∙ c.loop-reply.invariant.limit;
+      few = omega (arith, had, taken);
+      limit = c.spend.ensures.limit ∙ c.loop-fuel.invariant.limit;
     }
 
+-- a step that ends
 pub returns-in-Err-clause-replies : goal.returns-in-Err-clause-replies
-returns-in-Err-clause-replies g c = (ended_on c.args.linked.now g.begun c.loop-reply.s c.spend.new.s (g.K.Sink.written c.args.sink.now) (g.K.Sink.written c.loop-reply.sink) (g.K.Sink.written c.spend.new.sink) c.args.fuel.now c.loop-reply.fuel c.spend.new.fuel c.spend.result c.in-Err.reply c.requires.1.1.1.1 c.loop-reply.invariant.at c.in-Err.is c.spend.ensures.spends).answer
+returns-in-Err-clause-replies g c = (ended_on c.args.linked.now g.begun c.loop-fuel.s c.spend.new.s (g.K.Sink.written c.args.sink.now) (g.K.Sink.written c.loop-fuel.sink) (g.K.Sink.written c.spend.new.sink) c.args.fuel.now c.loop-fuel.fuel c.spend.new.fuel (as_reply c.spend.result) c.reply_for.result c.requires.1.1.1.1 c.loop-fuel.invariant.at (ap as_reply c.in-Err.is ∙ ap ended_so (sym c.reply_for.ensures)) c.spend.ensures.spends).answer
+
+pub returns-in-Err-clause-cause : goal.returns-in-Err-clause-cause
+returns-in-Err-clause-cause g c =
+    let sofar = c.loop-fuel.invariant.later in
+    let later = c.spend.ensures.later in
+    record {
+      later = omega (arith, sofar, later);
+      failed = λ e. rose_on (g.K.Sink.faults c.args.sink.now) (g.K.Sink.faults c.loop-fuel.sink) (g.K.Sink.faults c.spend.new.sink) sofar (c.spend.ensures.cause (failed_step c.spend.result c.in-Err.halt c.reply_for.result c.in-Err.is c.reply_for.ensures (ap ended_so e)));
+    }
 
 pub returns-in-Err-clause-leaves : goal.returns-in-Err-clause-leaves
-returns-in-Err-clause-leaves g c = (ended_on c.args.linked.now g.begun c.loop-reply.s c.spend.new.s (g.K.Sink.written c.args.sink.now) (g.K.Sink.written c.loop-reply.sink) (g.K.Sink.written c.spend.new.sink) c.args.fuel.now c.loop-reply.fuel c.spend.new.fuel c.spend.result c.in-Err.reply c.requires.1.1.1.1 c.loop-reply.invariant.at c.in-Err.is c.spend.ensures.spends).leaves
+returns-in-Err-clause-leaves g c = (ended_on c.args.linked.now g.begun c.loop-fuel.s c.spend.new.s (g.K.Sink.written c.args.sink.now) (g.K.Sink.written c.loop-fuel.sink) (g.K.Sink.written c.spend.new.sink) c.args.fuel.now c.loop-fuel.fuel c.spend.new.fuel (as_reply c.spend.result) c.reply_for.result c.requires.1.1.1.1 c.loop-fuel.invariant.at (ap as_reply c.in-Err.is ∙ ap ended_so (sym c.reply_for.ensures)) c.spend.ensures.spends).leaves
 
 pub returns-in-Err-clause-steps : goal.returns-in-Err-clause-steps
-returns-in-Err-clause-steps g c = λ f. counted_to c.args.linked.now g.begun c.loop-reply.s c.spend.new.s (g.K.Sink.written c.args.sink.now) (g.K.Sink.written c.loop-reply.sink) (g.K.Sink.written c.spend.new.sink) (g.K.Sink.written c.loop-reply.sink) c.args.fuel.now c.loop-reply.fuel c.spend.new.fuel c.spend.result c.in-Err.reply c.requires.1.1.1.1 c.loop-reply.invariant.at c.in-Err.is c.spend.ensures.few c.spend.ensures.spends f
+returns-in-Err-clause-steps g c = λ f.
+    let taken = c.spend.ensures.taken in
+    counted_to c.args.linked.now g.begun c.loop-fuel.s c.spend.new.s (g.K.Sink.written c.args.sink.now) (g.K.Sink.written c.loop-fuel.sink) (g.K.Sink.written c.spend.new.sink) (g.K.Sink.written c.loop-fuel.sink) c.args.fuel.now c.loop-fuel.fuel c.spend.new.fuel (as_reply c.spend.result) c.reply_for.result c.requires.1.1.1.1 c.loop-fuel.invariant.at (ap as_reply c.in-Err.is ∙ ap ended_so (sym c.reply_for.ensures)) (omega (arith, taken)) c.spend.ensures.spends f
+
+-- no fuel is left
+pub returns-clause-replies : goal.returns-clause-replies
+returns-clause-replies g c = (ended_on c.args.linked.now g.begun c.loop-fuel.s c.loop-fuel.s (g.K.Sink.written c.args.sink.now) (g.K.Sink.written c.loop-fuel.sink) (g.K.Sink.written c.loop-fuel.sink) c.args.fuel.now c.loop-fuel.fuel c.loop-fuel.fuel (ended_so FuelSpent) FuelSpent c.requires.1.1.1.1 c.loop-fuel.invariant.at refl (omega arith, record { state = refl; sink = refl })).answer
+
+pub returns-clause-leaves : goal.returns-clause-leaves
+returns-clause-leaves g c = (ended_on c.args.linked.now g.begun c.loop-fuel.s c.loop-fuel.s (g.K.Sink.written c.args.sink.now) (g.K.Sink.written c.loop-fuel.sink) (g.K.Sink.written c.loop-fuel.sink) c.args.fuel.now c.loop-fuel.fuel c.loop-fuel.fuel (ended_so FuelSpent) FuelSpent c.requires.1.1.1.1 c.loop-fuel.invariant.at refl (omega arith, record { state = refl; sink = refl })).leaves
+
+pub returns-clause-steps : goal.returns-clause-steps
+returns-clause-steps g c = λ f.
+    counted_to c.args.linked.now g.begun c.loop-fuel.s c.loop-fuel.s (g.K.Sink.written c.args.sink.now) (g.K.Sink.written c.loop-fuel.sink) (g.K.Sink.written c.loop-fuel.sink) (g.K.Sink.written c.loop-fuel.sink) c.args.fuel.now c.loop-fuel.fuel c.loop-fuel.fuel (ended_so FuelSpent) FuelSpent c.requires.1.1.1.1 c.loop-fuel.invariant.at refl (omega arith) (omega arith, record { state = refl; sink = refl }) f

@@ -5,13 +5,13 @@ use Rattle.abc_machine.proofs.running.take_steps.Given as goal
 abbrev pub ghost-spend : goal.ghost-spend
 ghost-spend g a = outer a.linked.now g.begun a.fuel.now
 
-abbrev pub invariant-loop-reply : goal.invariant-loop-reply
-invariant-loop-reply g l = record {
+abbrev pub invariant-loop-fuel : goal.invariant-loop-fuel
+invariant-loop-fuel g l = record {
   at : IsAt l.linked g.begun l.fuel l.s (g.K.Sink.written l.initial.sink) (g.K.Sink.written l.sink);
   later : g.K.Sink.faults l.initial.sink ≤ g.K.Sink.faults l.sink;
   few : l.fuel ≤ l.initial.fuel;
   limit : l.s.given.limit ≡ l.initial.s.given.limit;
 }
 
-abbrev pub decreases-loop-reply : goal.decreases-loop-reply
-decreases-loop-reply g l = l.fuel
+abbrev pub decreases-loop-fuel : goal.decreases-loop-fuel
+decreases-loop-fuel g l = l.fuel
