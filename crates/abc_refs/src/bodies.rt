@@ -39,7 +39,7 @@ impl Indexed for Instr {
         }
     }
 
-    fn may_change(&self) -> bool {
+    fn may_change(&self, _numbers: &Numbers) -> bool {
         match instr_ref(self) {
             Some(index) => index.pool != Pool::NoPool,
             None => false,
@@ -106,6 +106,13 @@ impl Indexed for Body {
         self.code.note_refs(found)?;
         self.handlers.note_refs(found)?;
         self.traits.note_refs(found)
+    }
+
+    #[tactic(auto, using(crate::proofs::Unchanged::body_stays))]
+    fn may_change(&self, numbers: &Numbers) -> bool {
+        self.code.may_change(numbers)
+            || self.handlers.may_change(numbers)
+            || self.traits.may_change(numbers)
     }
 
     fn blank(alloc: Global) -> Body {

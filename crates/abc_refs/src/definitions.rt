@@ -1,7 +1,7 @@
 ghost use Rattle.abc_refs.specs.Refs.{metadata_refs, method_refs, option_refs};
 ghost use Rattle.abc_refs.specs.Renumbered.{new_metadata, new_method, new_option};
 
-use crate::indexed::{Indexed, renumber_each};
+use crate::indexed::{Indexed, gets_other, renumber_each};
 use crate::nodes::Numbers;
 use crate::noting::{Noting, note, note_each};
 use crate::refs::value_pool;
@@ -41,6 +41,15 @@ impl Indexed for Method {
         note(Pool::Text, self.name, found)?;
         self.options.note_refs(found)?;
         note_each(Pool::Text, &self.param_names, found)
+    }
+
+    #[tactic(auto, using(crate::proofs::Unchanged::method_stays))]
+    fn may_change(&self, numbers: &Numbers) -> bool {
+        self.params.len() != 0
+            || self.options.len() != 0
+            || self.param_names.len() != 0
+            || gets_other(Pool::Name, self.ret, numbers)
+            || gets_other(Pool::Text, self.name, numbers)
     }
 
     fn blank(alloc: Global) -> Method {

@@ -11,7 +11,6 @@ use std::alloc::Global;
 /// Values that have indices of pools.
 pub trait Indexed: Drop {
     ghost use Rattle.std.specs.Prelude.{List};
-    ghost use Rattle.abc_refs.specs.declared.nodes.Numbers.{Numbers as NumbersOf};
     ghost use Rattle.abc_refs.specs.declared.refs.Ref.{Ref as RefOf};
     ghost use Rattle.abc_refs.specs.Renumbered.{Renumbering};
 
@@ -26,8 +25,8 @@ pub trait Indexed: Drop {
         ensures { OnOk result (found.new ≡ fold N.with_ref found.old (refs self.now)) };
 
     /// Whether new numbers may change the value.
-    fn may_change(&self) -> bool
-        ensures { IsFalse result → (numbers : NumbersOf) → renumbered (number_in numbers) self.now ≡ self.now }
+    fn may_change(&self, _numbers: &Numbers) -> bool
+        ensures { IsFalse result → renumbered (number_in _numbers.now) self.now ≡ self.now }
     {
         true
     }
@@ -52,19 +51,35 @@ impl<T: Indexed> Indexed for Table<T> {
         Ok(())
     }
 
+    fn may_change(&self, numbers: &Numbers) -> bool {
+        for item in self.as_slice() {
+            if item.may_change(numbers) {
+                return true;
+            }
+        }
+        false
+    }
+
     fn blank(alloc: Global) -> Table<T> {
         Table::new(alloc)
     }
 
     fn renumber(&mut self, alloc: Global, numbers: &Numbers) {
         for i in 0..self.len() {
-            if self.get(i).may_change() {
+            if self.get(i).may_change(numbers) {
                 let mut item = self.replace(i, T::blank(alloc));
                 item.renumber(alloc, numbers);
                 self.set(i, item);
             }
         }
     }
+}
+
+/// Whether an index of a pool gets another number.
+pub(crate) fn gets_other(pool: Pool, index: u32, numbers: &Numbers) -> bool
+    ensures { IsFalse result → number_in numbers.now pool index ≡ index }
+{
+    numbers.number(pool, index) != index
 }
 
 /// Puts new numbers in the place of indices of one pool.

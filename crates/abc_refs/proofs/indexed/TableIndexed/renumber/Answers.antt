@@ -13,7 +13,7 @@ loop-i-preserved g c =
           (put_next (g.T.Indexed.renumbered (number_in c.args.numbers.now)) c.args.self.now c.loop-i.self w.set.new.self c.loop-i.i w.replace-item.result w.renumber.new.self c.loop-i.invariant lt w.replace-item.ensures.is w.renumber.ensures
           (set_again c.loop-i.self w.replace-item.new.self w.set.new.self c.loop-i.i w.blank.result w.renumber.new.self w.replace-item.ensures.list w.set.ensures))
       | else-may_change w ↦
-          let same = c.may_change.ensures w.if-may_change.false c.args.numbers.now in
+          let same = c.may_change.ensures w.if-may_change.false in
           rw w.self-is
           (put_next (g.T.Indexed.renumbered (number_in c.args.numbers.now)) c.args.self.now c.loop-i.self c.loop-i.self c.loop-i.i c.get.result.now c.get.result.now c.loop-i.invariant lt c.get.ensures (sym same) (set_same c.loop-i.self c.loop-i.i c.get.result.now c.get.ensures))
     ]
