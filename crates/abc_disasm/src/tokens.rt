@@ -1,5 +1,5 @@
 //! What a line is made of. Each of these appends its bytes; where memory runs out, the old bytes are still the front.
-ghost use Rattle.std.specs.Prelude.{◌≡◌, ◌∷◌, ◌++◌, ◌<◌, ◌≤◌, ◌+◌, ◌/◌, ◌%◌, [], ℕ, IsTrue, codes, decimal, length, vec_capacity, vec_len};
+ghost use Rattle.std.specs.Prelude.{◌≡◌, ◌∷◌, ◌++◌, ◌<◌, ◌≤◌, ◌+◌, ◌/◌, ◌%◌, [], ℕ, IfOk, IsTrue, codes, decimal, if◌then◌else◌, length, take, vec_capacity, vec_len};
 ghost use Rattle.std.specs.Fmt.{signed_decimal};
 ghost use Rattle.std.specs.List.{flat_map};
 ghost use Rattle.abc_escape.specs.Escapes.{escape_of, escaped, hex_digit as hex_digit_of, is_plain as is_plain_byte};
@@ -7,7 +7,9 @@ ghost use Rattle.abc_lines.specs.Listing.{hex_of, label_of};
 ghost use Rattle.abc_varint.specs.Puts.{Puts, PutsWhole};
 
 use abc_base::NoMemory;
-use itoa::Buffer;
+
+/// How many bytes are shown at a time.
+const PIECE: usize = 64;
 
 /// Bytes as they are.
 #[inline(always)]
@@ -37,22 +39,15 @@ pub fn put_word(word: &[u8], out: &mut Vec<u8>) -> Result<(), NoMemory>
     Ok(())
 }
 
-/// A number of any length.
-#[inline(never)]
-fn put_any_digits(n: u32, out: &mut Vec<u8>) -> Result<(), NoMemory>
-    ensures { PutsWhole out.old.items out.new.items result (decimal n) }
-{
-    let mut buffer = Buffer::new();
-    put(buffer.format(n).as_bytes(), out)
-}
-
 /// A number below 10,000, into room that is there.
 #[inline]
 #[tactic(auto, using(crate::proofs::Digits::one, crate::proofs::Digits::two, crate::proofs::Digits::three, crate::proofs::Digits::four, std::proofs::Common::append_assoc))]
 fn put_short(n: u32, out: &mut Vec<u8>)
     requires short { n < 10000 }
     requires room { vec_len out.old + 4 ≤ vec_capacity out.old }
-    ensures { out.new.items ≡ out.old.items ++ decimal n }
+    ensures items { out.new.items ≡ out.old.items ++ decimal n }
+    ensures len { vec_len out.new ≤ vec_len out.old + 4 }
+    ensures capacity { vec_capacity out.new ≡ vec_capacity out.old }
 {
     let tens = n / 10;
     let hundreds = tens / 10;
@@ -73,17 +68,74 @@ fn put_short(n: u32, out: &mut Vec<u8>)
     }
 }
 
-/// A number. For one with at most four digits room is there.
-#[inline]
-fn put_digits(n: u32, out: &mut Vec<u8>) -> Result<(), NoMemory>
+/// The last four digits of a number that has more, into room that is there.
+#[inline(always)]
+#[tactic(auto, using(std::proofs::Common::append_assoc))]
+fn put_last_four(n: u32, out: &mut Vec<u8>)
     requires { vec_len out.old + 4 ≤ vec_capacity out.old }
-    ensures { PutsWhole out.old.items out.new.items result (decimal n) }
+    ensures items { out.new.items ≡ out.old.items ++ ((48 + n / 10 / 10 / 10 % 10) ∷ (48 + n / 10 / 10 % 10) ∷ (48 + n / 10 % 10) ∷ (48 + n % 10) ∷ []) }
+    ensures len { vec_len out.new ≡ vec_len out.old + 4 }
+    ensures capacity { vec_capacity out.new ≡ vec_capacity out.old }
+{
+    let tens = n / 10;
+    let hundreds = tens / 10;
+    let thousands = hundreds / 10;
+    out.push_reserved(b'0' + (thousands % 10) as u8);
+    out.push_reserved(b'0' + (hundreds % 10) as u8);
+    out.push_reserved(b'0' + (tens % 10) as u8);
+    out.push_reserved(b'0' + (n % 10) as u8);
+}
+
+/// A number of five to eight digits, into room that is there.
+#[tactic(auto, using(crate::proofs::Digits::more, std::proofs::Common::append_assoc))]
+fn put_long(n: u32, out: &mut Vec<u8>)
+    requires long { 10000 ≤ n }
+    requires short { n < 100000000 }
+    requires room { vec_len out.old + 8 ≤ vec_capacity out.old }
+    ensures items { out.new.items ≡ out.old.items ++ decimal n }
+    ensures len { vec_len out.new ≤ vec_len out.old + 8 }
+    ensures capacity { vec_capacity out.new ≡ vec_capacity out.old }
+{
+    put_short(n / 10 / 10 / 10 / 10, out);
+    put_last_four(n, out);
+}
+
+/// A number of nine digits or ten, into room that is there.
+#[tactic(auto, using(crate::proofs::Digits::more, std::proofs::Common::append_assoc))]
+fn put_longest(n: u32, out: &mut Vec<u8>)
+    requires long { 100000000 ≤ n }
+    requires room { vec_len out.old + 12 ≤ vec_capacity out.old }
+    ensures { out.new.items ≡ out.old.items ++ decimal n }
+{
+    put_long(n / 10 / 10 / 10 / 10, out);
+    put_last_four(n, out);
+}
+
+/// A number of more than four digits, into room that is there.
+#[inline(never)]
+fn put_many_digits(n: u32, out: &mut Vec<u8>)
+    requires long { 10000 ≤ n }
+    requires room { vec_len out.old + 12 ≤ vec_capacity out.old }
+    ensures { out.new.items ≡ out.old.items ++ decimal n }
+{
+    if n < 100_000_000 {
+        put_long(n, out);
+    } else {
+        put_longest(n, out);
+    }
+}
+
+/// A number, into room that is there.
+#[inline]
+fn put_digits(n: u32, out: &mut Vec<u8>)
+    requires { vec_len out.old + 12 ≤ vec_capacity out.old }
+    ensures { out.new.items ≡ out.old.items ++ decimal n }
 {
     if n < 10000 {
         put_short(n, out);
-        return Ok(());
+    } else {
+        put_many_digits(n, out);
     }
-    put_any_digits(n, out)
 }
 
 /// A space and a number.
@@ -92,18 +144,37 @@ fn put_digits(n: u32, out: &mut Vec<u8>) -> Result<(), NoMemory>
 pub fn put_number(n: u32, out: &mut Vec<u8>) -> Result<(), NoMemory>
     ensures { Puts out.old.items out.new.items result (0x20 ∷ decimal n) }
 {
-    out.reserve(5)?;
+    out.reserve(13)?;
     out.push_reserved(b' ');
-    put_digits(n, out)
+    put_digits(n, out);
+    Ok(())
+}
+
+/// A signed number, into room that is there.
+#[inline(always)]
+#[tactic(auto, using(crate::proofs::Digits::minus, crate::proofs::Digits::plus, std::proofs::Common::append_assoc))]
+fn put_signed_digits(n: i32, out: &mut Vec<u8>)
+    requires { vec_len out.old + 13 ≤ vec_capacity out.old }
+    ensures { out.new.items ≡ out.old.items ++ signed_decimal n }
+{
+    if n < 0 {
+        out.push_reserved(b'-');
+        put_digits(n.unsigned_abs(), out);
+    } else {
+        put_digits(n.unsigned_abs(), out);
+    }
 }
 
 /// A space and a signed number.
 #[inline(always)]
+#[tactic(auto, using(abc_varint::proofs::Putting::stays, abc_varint::proofs::Putting::stays_whole, std::proofs::Common::append_assoc))]
 pub fn put_signed(n: i32, out: &mut Vec<u8>) -> Result<(), NoMemory>
     ensures { Puts out.old.items out.new.items result (0x20 ∷ signed_decimal n) }
 {
-    let mut buffer = Buffer::new();
-    put_word(buffer.format(n).as_bytes(), out)
+    out.reserve(14)?;
+    out.push_reserved(b' ');
+    put_signed_digits(n, out);
+    Ok(())
 }
 
 /// The label of an instruction.
@@ -111,9 +182,10 @@ pub fn put_signed(n: i32, out: &mut Vec<u8>) -> Result<(), NoMemory>
 pub fn put_label(n: u32, out: &mut Vec<u8>) -> Result<(), NoMemory>
     ensures { Puts out.old.items out.new.items result (label_of n) }
 {
-    out.reserve(5)?;
+    out.reserve(13)?;
     out.push_reserved(b'L');
-    put_digits(n, out)
+    put_digits(n, out);
+    Ok(())
 }
 
 /// A space and the label of an instruction.
@@ -121,18 +193,22 @@ pub fn put_label(n: u32, out: &mut Vec<u8>) -> Result<(), NoMemory>
 pub fn put_target(n: u32, out: &mut Vec<u8>) -> Result<(), NoMemory>
     ensures { Puts out.old.items out.new.items result (0x20 ∷ label_of n) }
 {
-    out.reserve(6)?;
+    out.reserve(14)?;
     out.push_reserved(b' ');
     out.push_reserved(b'L');
-    put_digits(n, out)
+    put_digits(n, out);
+    Ok(())
 }
 
+/// Each test is made, so that no branch has to be foreseen.
+#[inline(always)]
 fn is_plain(byte: u8) -> bool
     ensures { result ≡ is_plain_byte byte }
 {
-    matches!(byte, 0x20..=0x7e) && byte != b'"' && byte != b'\\'
+    (byte >= 0x20) & (byte <= 0x7e) & (byte != b'"') & (byte != b'\\')
 }
 
+#[inline(always)]
 fn hex_digit(n: u8) -> u8
     requires { n < 16 }
     ensures { result ≡ hex_digit_of n }
@@ -140,14 +216,49 @@ fn hex_digit(n: u8) -> u8
     if n < 10 { b'0' + n } else { b'a' - 10 + n }
 }
 
-fn put_escape(byte: u8, out: &mut Vec<u8>) -> Result<(), NoMemory>
-    ensures { PutsWhole out.old.items out.new.items result (escape_of byte) }
+/// The first of the bytes that show a byte.
+#[inline(always)]
+fn first_shown(byte: u8) -> u8
+    ensures { result ≡ (if is_plain_byte byte then byte else 0x5c) }
 {
-    if is_plain(byte) {
-        push_byte(byte, out)
-    } else {
-        put(&[b'\\', hex_digit(byte / 16), hex_digit(byte % 16)], out)
+    if is_plain(byte) { byte } else { b'\\' }
+}
+
+/// How many bytes show a byte.
+#[inline(always)]
+fn count_shown(byte: u8) -> usize
+    ensures { result ≡ (if is_plain_byte byte then 1 else 3) }
+{
+    if is_plain(byte) { 1 } else { 3 }
+}
+
+/// Puts a byte as it is shown behind others, and tells where it ends. Two more are written behind a plain byte, in the
+/// place of what comes next.
+#[inline(always)]
+fn show_at(byte: u8, piece: &mut [u8; PIECE], at: usize) -> usize
+    requires { at + 3 ≤ 64 }
+    ensures next { result ≤ at + 3 }
+    ensures bytes { take result piece.new ≡ take at piece.old ++ escape_of byte }
+{
+    piece[at] = first_shown(byte);
+    piece[at + 1] = hex_digit(byte / 16);
+    piece[at + 2] = hex_digit(byte % 16);
+    at + count_shown(byte)
+}
+
+/// Appends what the piece has so far, where it has no room for a byte more, and tells how many bytes it has then.
+#[inline(always)]
+fn made_room(piece: &[u8; PIECE], at: usize, out: &mut Vec<u8>) -> Result<usize, NoMemory>
+    requires { at ≤ 64 }
+    ensures room { IfOk result (λ n. n + 3 ≤ 64) }
+    ensures bytes { IfOk result (λ n. out.new.items ++ take n piece.now ≡ out.old.items ++ take at piece.now) }
+    ensures front { take (length out.old.items) out.new.items ≡ out.old.items }
+{
+    if at + 3 <= PIECE {
+        return Ok(at);
     }
+    put(&piece[..at], out)?;
+    Ok(0)
 }
 
 /// Whether the bytes are shown as they are.
@@ -176,15 +287,19 @@ pub fn put_escaped(bytes: &[u8], out: &mut Vec<u8>) -> Result<(), NoMemory>
     put_each_escaped(bytes, out)
 }
 
-/// Bytes as they are shown, one by one.
+/// Bytes as they are shown, one by one: some of them in a piece, before they are appended.
 #[inline(never)]
 #[tactic(auto, unfolding(abc_escape::specs::Escapes::escaped), using(abc_varint::proofs::Putting::stays, abc_varint::proofs::Putting::stays_whole))]
 fn put_each_escaped(bytes: &[u8], out: &mut Vec<u8>) -> Result<(), NoMemory>
     ensures { Puts out.old.items out.new.items result (escaped bytes.now) }
 {
+    let mut piece = [0; PIECE];
+    let mut at = 0;
     for byte in bytes {
-        put_escape(*byte, out)?;
+        at = made_room(&piece, at, out)?;
+        at = show_at(*byte, &mut piece, at);
     }
+    put(&piece[..at], out)?;
     Ok(())
 }
 
