@@ -1,15 +1,14 @@
 //! What a line is made of. Each of these appends its bytes; where memory runs out, the old bytes are still the front.
-ghost use Rattle.std.specs.Prelude.{◌≡◌, ◌∷◌, ◌++◌, ◌<◌, ◌≤◌, ◌+◌, ◌/◌, ◌%◌, [], ℕ, IfOk, IsTrue, codes, decimal, if◌then◌else◌, length, take, vec_capacity, vec_len};
+ghost use Rattle.std.specs.Prelude.{◌≡◌, ◌∷◌, ◌++◌, ◌<◌, ◌≤◌, ◌+◌, ◌/◌, ◌%◌, [], ℕ, IfOk, IsTrue, codes, decimal, length, take, vec_capacity, vec_len};
 ghost use Rattle.std.specs.Fmt.{signed_decimal};
 ghost use Rattle.std.specs.List.{flat_map};
-ghost use Rattle.abc_escape.specs.Escapes.{escape_of, escaped, hex_digit as hex_digit_of, is_plain as is_plain_byte};
+ghost use Rattle.abc_escape.specs.Escapes.{escaped, hex_digit as hex_digit_of, is_plain as is_plain_byte};
 ghost use Rattle.abc_lines.specs.Listing.{hex_of, label_of};
 ghost use Rattle.abc_varint.specs.Puts.{Puts, PutsWhole};
 
+use crate::escaping::{PIECE, hex_digit, show_at};
 use abc_base::NoMemory;
-
-/// How many bytes are shown at a time.
-const PIECE: usize = 64;
+use itoa::Buffer;
 
 /// Bytes as they are.
 #[inline(always)]
@@ -39,15 +38,22 @@ pub fn put_word(word: &[u8], out: &mut Vec<u8>) -> Result<(), NoMemory>
     Ok(())
 }
 
+/// A number of any length.
+#[inline(never)]
+fn put_any_digits(n: u32, out: &mut Vec<u8>) -> Result<(), NoMemory>
+    ensures { PutsWhole out.old.items out.new.items result (decimal n) }
+{
+    let mut buffer = Buffer::new();
+    put(buffer.format(n).as_bytes(), out)
+}
+
 /// A number below 10,000, into room that is there.
 #[inline]
 #[tactic(auto, using(crate::proofs::Digits::one, crate::proofs::Digits::two, crate::proofs::Digits::three, crate::proofs::Digits::four, std::proofs::Common::append_assoc))]
 fn put_short(n: u32, out: &mut Vec<u8>)
     requires short { n < 10000 }
     requires room { vec_len out.old + 4 ≤ vec_capacity out.old }
-    ensures items { out.new.items ≡ out.old.items ++ decimal n }
-    ensures len { vec_len out.new ≤ vec_len out.old + 4 }
-    ensures capacity { vec_capacity out.new ≡ vec_capacity out.old }
+    ensures { out.new.items ≡ out.old.items ++ decimal n }
 {
     let tens = n / 10;
     let hundreds = tens / 10;
@@ -68,74 +74,17 @@ fn put_short(n: u32, out: &mut Vec<u8>)
     }
 }
 
-/// The last four digits of a number that has more, into room that is there.
-#[inline(always)]
-#[tactic(auto, using(std::proofs::Common::append_assoc))]
-fn put_last_four(n: u32, out: &mut Vec<u8>)
-    requires { vec_len out.old + 4 ≤ vec_capacity out.old }
-    ensures items { out.new.items ≡ out.old.items ++ ((48 + n / 10 / 10 / 10 % 10) ∷ (48 + n / 10 / 10 % 10) ∷ (48 + n / 10 % 10) ∷ (48 + n % 10) ∷ []) }
-    ensures len { vec_len out.new ≡ vec_len out.old + 4 }
-    ensures capacity { vec_capacity out.new ≡ vec_capacity out.old }
-{
-    let tens = n / 10;
-    let hundreds = tens / 10;
-    let thousands = hundreds / 10;
-    out.push_reserved(b'0' + (thousands % 10) as u8);
-    out.push_reserved(b'0' + (hundreds % 10) as u8);
-    out.push_reserved(b'0' + (tens % 10) as u8);
-    out.push_reserved(b'0' + (n % 10) as u8);
-}
-
-/// A number of five to eight digits, into room that is there.
-#[tactic(auto, using(crate::proofs::Digits::more, std::proofs::Common::append_assoc))]
-fn put_long(n: u32, out: &mut Vec<u8>)
-    requires long { 10000 ≤ n }
-    requires short { n < 100000000 }
-    requires room { vec_len out.old + 8 ≤ vec_capacity out.old }
-    ensures items { out.new.items ≡ out.old.items ++ decimal n }
-    ensures len { vec_len out.new ≤ vec_len out.old + 8 }
-    ensures capacity { vec_capacity out.new ≡ vec_capacity out.old }
-{
-    put_short(n / 10 / 10 / 10 / 10, out);
-    put_last_four(n, out);
-}
-
-/// A number of nine digits or ten, into room that is there.
-#[tactic(auto, using(crate::proofs::Digits::more, std::proofs::Common::append_assoc))]
-fn put_longest(n: u32, out: &mut Vec<u8>)
-    requires long { 100000000 ≤ n }
-    requires room { vec_len out.old + 12 ≤ vec_capacity out.old }
-    ensures { out.new.items ≡ out.old.items ++ decimal n }
-{
-    put_long(n / 10 / 10 / 10 / 10, out);
-    put_last_four(n, out);
-}
-
-/// A number of more than four digits, into room that is there.
-#[inline(never)]
-fn put_many_digits(n: u32, out: &mut Vec<u8>)
-    requires long { 10000 ≤ n }
-    requires room { vec_len out.old + 12 ≤ vec_capacity out.old }
-    ensures { out.new.items ≡ out.old.items ++ decimal n }
-{
-    if n < 100_000_000 {
-        put_long(n, out);
-    } else {
-        put_longest(n, out);
-    }
-}
-
-/// A number, into room that is there.
+/// A number. For one with at most four digits room is there.
 #[inline]
-fn put_digits(n: u32, out: &mut Vec<u8>)
-    requires { vec_len out.old + 12 ≤ vec_capacity out.old }
-    ensures { out.new.items ≡ out.old.items ++ decimal n }
+fn put_digits(n: u32, out: &mut Vec<u8>) -> Result<(), NoMemory>
+    requires { vec_len out.old + 4 ≤ vec_capacity out.old }
+    ensures { PutsWhole out.old.items out.new.items result (decimal n) }
 {
     if n < 10000 {
         put_short(n, out);
-    } else {
-        put_many_digits(n, out);
+        return Ok(());
     }
+    put_any_digits(n, out)
 }
 
 /// A space and a number.
@@ -144,37 +93,18 @@ fn put_digits(n: u32, out: &mut Vec<u8>)
 pub fn put_number(n: u32, out: &mut Vec<u8>) -> Result<(), NoMemory>
     ensures { Puts out.old.items out.new.items result (0x20 ∷ decimal n) }
 {
-    out.reserve(13)?;
+    out.reserve(5)?;
     out.push_reserved(b' ');
-    put_digits(n, out);
-    Ok(())
-}
-
-/// A signed number, into room that is there.
-#[inline(always)]
-#[tactic(auto, using(crate::proofs::Digits::minus, crate::proofs::Digits::plus, std::proofs::Common::append_assoc))]
-fn put_signed_digits(n: i32, out: &mut Vec<u8>)
-    requires { vec_len out.old + 13 ≤ vec_capacity out.old }
-    ensures { out.new.items ≡ out.old.items ++ signed_decimal n }
-{
-    if n < 0 {
-        out.push_reserved(b'-');
-        put_digits(n.unsigned_abs(), out);
-    } else {
-        put_digits(n.unsigned_abs(), out);
-    }
+    put_digits(n, out)
 }
 
 /// A space and a signed number.
 #[inline(always)]
-#[tactic(auto, using(abc_varint::proofs::Putting::stays, abc_varint::proofs::Putting::stays_whole, std::proofs::Common::append_assoc))]
 pub fn put_signed(n: i32, out: &mut Vec<u8>) -> Result<(), NoMemory>
     ensures { Puts out.old.items out.new.items result (0x20 ∷ signed_decimal n) }
 {
-    out.reserve(14)?;
-    out.push_reserved(b' ');
-    put_signed_digits(n, out);
-    Ok(())
+    let mut buffer = Buffer::new();
+    put_word(buffer.format(n).as_bytes(), out)
 }
 
 /// The label of an instruction.
@@ -182,10 +112,9 @@ pub fn put_signed(n: i32, out: &mut Vec<u8>) -> Result<(), NoMemory>
 pub fn put_label(n: u32, out: &mut Vec<u8>) -> Result<(), NoMemory>
     ensures { Puts out.old.items out.new.items result (label_of n) }
 {
-    out.reserve(13)?;
+    out.reserve(5)?;
     out.push_reserved(b'L');
-    put_digits(n, out);
-    Ok(())
+    put_digits(n, out)
 }
 
 /// A space and the label of an instruction.
@@ -193,57 +122,16 @@ pub fn put_label(n: u32, out: &mut Vec<u8>) -> Result<(), NoMemory>
 pub fn put_target(n: u32, out: &mut Vec<u8>) -> Result<(), NoMemory>
     ensures { Puts out.old.items out.new.items result (0x20 ∷ label_of n) }
 {
-    out.reserve(14)?;
+    out.reserve(6)?;
     out.push_reserved(b' ');
     out.push_reserved(b'L');
-    put_digits(n, out);
-    Ok(())
+    put_digits(n, out)
 }
 
-/// Each test is made, so that no branch has to be foreseen.
-#[inline(always)]
 fn is_plain(byte: u8) -> bool
     ensures { result ≡ is_plain_byte byte }
 {
-    (byte >= 0x20) & (byte <= 0x7e) & (byte != b'"') & (byte != b'\\')
-}
-
-#[inline(always)]
-fn hex_digit(n: u8) -> u8
-    requires { n < 16 }
-    ensures { result ≡ hex_digit_of n }
-{
-    if n < 10 { b'0' + n } else { b'a' - 10 + n }
-}
-
-/// The first of the bytes that show a byte.
-#[inline(always)]
-fn first_shown(byte: u8) -> u8
-    ensures { result ≡ (if is_plain_byte byte then byte else 0x5c) }
-{
-    if is_plain(byte) { byte } else { b'\\' }
-}
-
-/// How many bytes show a byte.
-#[inline(always)]
-fn count_shown(byte: u8) -> usize
-    ensures { result ≡ (if is_plain_byte byte then 1 else 3) }
-{
-    if is_plain(byte) { 1 } else { 3 }
-}
-
-/// Puts a byte as it is shown behind others, and tells where it ends. Two more are written behind a plain byte, in the
-/// place of what comes next.
-#[inline(always)]
-fn show_at(byte: u8, piece: &mut [u8; PIECE], at: usize) -> usize
-    requires { at + 3 ≤ 64 }
-    ensures next { result ≤ at + 3 }
-    ensures bytes { take result piece.new ≡ take at piece.old ++ escape_of byte }
-{
-    piece[at] = first_shown(byte);
-    piece[at + 1] = hex_digit(byte / 16);
-    piece[at + 2] = hex_digit(byte % 16);
-    at + count_shown(byte)
+    matches!(byte, 0x20..=0x7e) && byte != b'"' && byte != b'\\'
 }
 
 /// Appends what the piece has so far, where it has no room for a byte more, and tells how many bytes it has then.
