@@ -6,4 +6,5 @@ pub mod Pairs
 pub mod Readiness
 pub mod Rendering
 pub mod Shown
+pub mod Tables
 pub mod Digits

@@ -5,6 +5,7 @@
 mod bodies;
 mod classes;
 mod comments;
+mod escaping;
 mod instrs;
 mod listed;
 mod listing;

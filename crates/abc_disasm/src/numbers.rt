@@ -18,6 +18,7 @@ pub fn put_numbers(items: &Table<u32>, out: &mut Vec<u8>) -> Result<(), NoMemory
 }
 
 /// Two numbers, each behind a space.
+#[inline(always)]
 #[tactic(auto, using(abc_varint::proofs::Putting::stays, std::proofs::Common::append_assoc))]
 pub fn put_two(first: u32, second: u32, out: &mut Vec<u8>) -> Result<(), NoMemory>
     ensures { Puts out.old.items out.new.items result (0x20 ∷ (decimal first ++ (0x20 ∷ (decimal second ++ [])))) }
@@ -28,6 +29,7 @@ pub fn put_two(first: u32, second: u32, out: &mut Vec<u8>) -> Result<(), NoMemor
 }
 
 /// A line of a word and a number.
+#[inline(always)]
 #[tactic(auto, using(abc_varint::proofs::Putting::stays, std::proofs::Common::append_assoc))]
 pub fn put_number_line(word: &[u8], n: u32, out: &mut Vec<u8>) -> Result<(), NoMemory>
     ensures { Puts out.old.items out.new.items result (number_line word.now n) }
@@ -39,6 +41,7 @@ pub fn put_number_line(word: &[u8], n: u32, out: &mut Vec<u8>) -> Result<(), NoM
 }
 
 /// Such a line for each number.
+#[inline(always)]
 #[tactic(auto, using(abc_varint::proofs::Putting::stays))]
 pub fn put_number_lines(word: &[u8], items: &Table<u32>, out: &mut Vec<u8>) -> Result<(), NoMemory>
     ensures { Puts out.old.items out.new.items result (number_lines word.now items.now) }

@@ -1,11 +1,12 @@
 //! What a line is made of. Each of these appends its bytes; where memory runs out, the old bytes are still the front.
-ghost use Rattle.std.specs.Prelude.{◌≡◌, ◌∷◌, ◌++◌, ◌<◌, ◌≤◌, ◌+◌, ◌/◌, ◌%◌, [], ℕ, IsTrue, codes, decimal, length, vec_capacity, vec_len};
+ghost use Rattle.std.specs.Prelude.{◌≡◌, ◌∷◌, ◌++◌, ◌<◌, ◌≤◌, ◌+◌, ◌/◌, ◌%◌, [], ℕ, IfOk, IsTrue, codes, decimal, length, take, vec_capacity, vec_len};
 ghost use Rattle.std.specs.Fmt.{signed_decimal};
 ghost use Rattle.std.specs.List.{flat_map};
-ghost use Rattle.abc_escape.specs.Escapes.{escape_of, escaped, hex_digit as hex_digit_of, is_plain as is_plain_byte};
+ghost use Rattle.abc_escape.specs.Escapes.{escaped, hex_digit as hex_digit_of, is_plain as is_plain_byte};
 ghost use Rattle.abc_lines.specs.Listing.{hex_of, label_of};
 ghost use Rattle.abc_varint.specs.Puts.{Puts, PutsWhole};
 
+use crate::escaping::{PIECE, hex_digit, show_at};
 use abc_base::NoMemory;
 use itoa::Buffer;
 
@@ -133,21 +134,19 @@ fn is_plain(byte: u8) -> bool
     matches!(byte, 0x20..=0x7e) && byte != b'"' && byte != b'\\'
 }
 
-fn hex_digit(n: u8) -> u8
-    requires { n < 16 }
-    ensures { result ≡ hex_digit_of n }
+/// Appends what the piece has so far, where it has no room for a byte more, and tells how many bytes it has then.
+#[inline(always)]
+fn made_room(piece: &[u8; PIECE], at: usize, out: &mut Vec<u8>) -> Result<usize, NoMemory>
+    requires { at ≤ 64 }
+    ensures room { IfOk result (λ n. n + 3 ≤ 64) }
+    ensures bytes { IfOk result (λ n. out.new.items ++ take n piece.now ≡ out.old.items ++ take at piece.now) }
+    ensures front { take (length out.old.items) out.new.items ≡ out.old.items }
 {
-    if n < 10 { b'0' + n } else { b'a' - 10 + n }
-}
-
-fn put_escape(byte: u8, out: &mut Vec<u8>) -> Result<(), NoMemory>
-    ensures { PutsWhole out.old.items out.new.items result (escape_of byte) }
-{
-    if is_plain(byte) {
-        push_byte(byte, out)
-    } else {
-        put(&[b'\\', hex_digit(byte / 16), hex_digit(byte % 16)], out)
+    if at + 3 <= PIECE {
+        return Ok(at);
     }
+    put(&piece[..at], out)?;
+    Ok(0)
 }
 
 /// Whether the bytes are shown as they are.
@@ -176,15 +175,19 @@ pub fn put_escaped(bytes: &[u8], out: &mut Vec<u8>) -> Result<(), NoMemory>
     put_each_escaped(bytes, out)
 }
 
-/// Bytes as they are shown, one by one.
+/// Bytes as they are shown, one by one: some of them in a piece, before they are appended.
 #[inline(never)]
 #[tactic(auto, unfolding(abc_escape::specs::Escapes::escaped), using(abc_varint::proofs::Putting::stays, abc_varint::proofs::Putting::stays_whole))]
 fn put_each_escaped(bytes: &[u8], out: &mut Vec<u8>) -> Result<(), NoMemory>
     ensures { Puts out.old.items out.new.items result (escaped bytes.now) }
 {
+    let mut piece = [0; PIECE];
+    let mut at = 0;
     for byte in bytes {
-        put_escape(*byte, out)?;
+        at = made_room(&piece, at, out)?;
+        at = show_at(*byte, &mut piece, at);
     }
+    put(&piece[..at], out)?;
     Ok(())
 }
 

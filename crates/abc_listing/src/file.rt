@@ -17,8 +17,9 @@ use abc_tables::sizes_of;
 use abc_traits::read_definitions;
 use abc_varint::{ReadError, Window};
 use std::alloc::Global;
+use std::mem::forget;
 
-/// Lists the file, and not what follows it.
+/// Lists the file, and not what follows it. The memory of its tables is not given back.
 #[tactic(auto, unfolding(abc_tables::specs::Files::file_read))]
 fn list_file<S: Source>(
     alloc: Global,
@@ -35,6 +36,8 @@ fn list_file<S: Source>(
     put_front(&abc, out)?;
     let sizes = sizes_of(&abc);
     list_bodies(alloc, w, source, &sizes, &abc, out)?;
+    // Little is done once a file is listed, and its lists are many: to free each of them would only take time.
+    forget(abc);
     Ok(())
 }
 
@@ -60,7 +63,7 @@ fn list_to_end<S: Source>(
 
 /// The one text of the file that the source gives up to its end, as `disassemble` puts it of what `read` reads; the lines
 /// of each body are put before the next is read, so that only one is held. It is refused as by `read`. `ReadFault` comes
-/// only where the source's count of faults rose, and `NoMemory` where memory ran out.
+/// only where the source's count of faults rose, and `NoMemory` where memory ran out. The memory of the tables stays taken.
 pub fn listing_of<S: Source>(alloc: Global, source: &mut S) -> Result<Vec<u8>, ReadError>
     ensures text { IfOk result (λ v. IsWrittenOf listing (S.left source.old) v.items) }
     ensures fault { IfErr result (λ e. IsFaultOf (S.left source.old) e) }
