@@ -68,9 +68,9 @@ inserted : {V : Type 0} (es : List (Bor (List ℕ) × V)) (k : Bor (List ℕ)) (
 inserted [] k v name = refl
 inserted (e ∷ es) k v name =
     elim (split_bool (same_key k e.0)) [
-      | inl yes ↦ (let same : e.0.now ≡ k.now = sym ((bytes_eq-Decides k.now e.0.now).0 yes) in
-          rw yes (or_twice (bytes_eq e.0.now name) (is_among name (map key_of es)) ∙ ap (λ (n : List ℕ). cond (bytes_eq n name) true (cond (bytes_eq e.0.now name) true (is_among name (map key_of es)))) same))
-      | inr no ↦ rw no (ap (λ (b : Bool). cond (bytes_eq e.0.now name) true b) (inserted es k v name) ∙ or_swap (bytes_eq e.0.now name) (bytes_eq k.now name) (is_among name (map key_of es)))
+      | inl hit ↦ (let same : e.0.now ≡ k.now = sym ((bytes_eq-Decides k.now e.0.now).0 hit) in
+          rw hit (or_twice (bytes_eq e.0.now name) (is_among name (map key_of es)) ∙ ap (λ (n : List ℕ). cond (bytes_eq n name) true (cond (bytes_eq e.0.now name) true (is_among name (map key_of es)))) same))
+      | inr miss ↦ rw miss (ap (λ (b : Bool). cond (bytes_eq e.0.now name) true b) (inserted es k v name) ∙ or_swap (bytes_eq e.0.now name) (bytes_eq k.now name) (is_among name (map key_of es)))
     ]
 
 pub added : {V : Type 0} (old new : NameMap V) (k : Bor (List ℕ)) (v : V) → new.entries ≡ insert_entry same_key old.entries k v → Same (names_in new) (k.now ∷ names_in old)
@@ -102,16 +102,16 @@ module _ (k : Bor (List ℕ)) where
   place_in es = position_or_len (same_key k) (keys_of es)
 
   further : {V : Type 0} (e : Bor (List ℕ) × V) (es : List (Bor (List ℕ) × V)) → same_key k e.0 ≡ false → place_in (e ∷ es) ≡ 1 + place_in es
-  further e es no = ap (λ (b : Bool). cond (not b) (1 + place_in es) 0) no
+  further e es miss = ap (λ (b : Bool). cond (not b) (1 + place_in es) 0) miss
 
   here : {V : Type 0} (e : Bor (List ℕ) × V) (es : List (Bor (List ℕ) × V)) → same_key k e.0 ≡ true → place_in (e ∷ es) ≡ 0
-  here e es yes = ap (λ (b : Bool). cond (not b) (1 + place_in es) 0) yes
+  here e es hit = ap (λ (b : Bool). cond (not b) (1 + place_in es) 0) hit
 
   flips : (e : Bor (List ℕ)) (b : Bool) → same_key k e ≡ b → bytes_eq e.now k.now ≡ b
-  flips e true yes = (bytes_eq-Decides e.now k.now).1 (sym ((bytes_eq-Decides k.now e.now).0 yes))
-  flips e false no =
+  flips e true hit = (bytes_eq-Decides e.now k.now).1 (sym ((bytes_eq-Decides k.now e.now).0 hit))
+  flips e false miss =
       elim (split_bool (bytes_eq e.now k.now)) [
-        | inl yes ↦ (let back : same_key k e ≡ true = (bytes_eq-Decides k.now e.now).1 (sym ((bytes_eq-Decides e.now k.now).0 yes)) in absurd cc)
+        | inl hit ↦ (let back : same_key k e ≡ true = (bytes_eq-Decides k.now e.now).1 (sym ((bytes_eq-Decides e.now k.now).0 hit)) in absurd cc)
         | inr differs ↦ differs
       ]
 
@@ -120,8 +120,8 @@ module _ (k : Bor (List ℕ)) where
   before (e ∷ es) zero within lt = absurd (omega arith)
   before (e ∷ es) (suc n) within lt =
       elim (split_bool (same_key k e.0)) [
-        | inl yes ↦ (let is = flips e.0 true yes in rw is refl)
-        | inr no ↦ (let p = further e es no in ap (λ (b : Bool). cond (bytes_eq e.0.now k.now) true b) (before es n (omega arith) (omega arith)) ∙ or_true (bytes_eq e.0.now k.now))
+        | inl hit ↦ (let is = flips e.0 true hit in rw is refl)
+        | inr miss ↦ (let p = further e es miss in ap (λ (b : Bool). cond (bytes_eq e.0.now k.now) true b) (before es n (omega arith) (omega arith)) ∙ or_true (bytes_eq e.0.now k.now))
       ]
 
   absent : {V : Type 0} (es : List (Bor (List ℕ) × V)) (n : ℕ) → (n ≤ place_in es) ⊎ (length (keys_of es) ≤ place_in es) → is_among k.now (take n (map key_of es)) ≡ false
@@ -130,8 +130,8 @@ module _ (k : Bor (List ℕ)) where
   absent (e ∷ es) zero le = refl
   absent (e ∷ es) (suc n) le =
       elim (split_bool (same_key k e.0)) [
-        | inl yes ↦ (let p = here e es yes in elim le [ inl a ↦ absurd (omega arith) | inr a ↦ absurd (omega arith) ])
-        | inr no ↦ (let p = further e es no in let is = flips e.0 false no in
+        | inl hit ↦ (let p = here e es hit in elim le [ inl a ↦ absurd (omega arith) | inr a ↦ absurd (omega arith) ])
+        | inr miss ↦ (let p = further e es miss in let is = flips e.0 false miss in
             rw is (absent es n (elim le [ inl a ↦ inl (omega arith) | inr a ↦ inr (omega arith) ])))
       ]
 
@@ -149,8 +149,8 @@ module _ (k : Bor (List ℕ)) where
       let within = ltb-true (place_in es) (length (keys_of es)) at.0 in
       let same = at.1 in
       elim (split_bool (nat_lt found n)) [
-        | inl yes ↦ (let lt = ltb-true found n yes in yes ∙ sym (before es n within (omega arith)))
-        | inr no ↦ (let le = ltb-false found n no in no ∙ sym (absent es n (inl (omega arith))))
+        | inl hit ↦ (let lt = ltb-true found n hit in hit ∙ sym (before es n within (omega arith)))
+        | inr miss ↦ (let le = ltb-false found n miss in miss ∙ sym (absent es n (inl (omega arith))))
       ]
 
   pub is_absent : {V : Type 0} (es : List (Bor (List ℕ) × V)) (n : ℕ) → None ≡ position (same_key k) (keys_of es) → false ≡ is_among k.now (take n (map key_of es))
@@ -162,12 +162,12 @@ module _ (k : Bor (List ℕ)) where
 
 -- one of the others
 pub among_others : (labels : NameMap ℕ) (met : ℕ) (others : NameMap Bool) (name : List ℕ) (known : Bool) → known ≡ is_among name (names_in others) → known ≡ true → true ≡ is_among name (stood labels met others)
-among_others labels met others name known is yes =
-    sym (among_append name (names_in others) (take met (names_in labels)) ∙ ap (λ (b : Bool). cond b true (is_among name (take met (names_in labels)))) (sym is ∙ yes))
+among_others labels met others name known is hit =
+    sym (among_append name (names_in others) (take met (names_in labels)) ∙ ap (λ (b : Bool). cond b true (is_among name (take met (names_in labels)))) (sym is ∙ hit))
 
 pub among_labels : (labels : NameMap ℕ) (met : ℕ) (others : NameMap Bool) (name : List ℕ) (known before : Bool) → known ≡ is_among name (names_in others) → known ≡ false → before ≡ is_among name (take met (names_in labels)) → before ≡ is_among name (stood labels met others)
-among_labels labels met others name known before is no e =
-    e ∙ sym (among_append name (names_in others) (take met (names_in labels)) ∙ ap (λ (b : Bool). cond b true (is_among name (take met (names_in labels)))) (sym is ∙ no))
+among_labels labels met others name known before is miss e =
+    e ∙ sym (among_append name (names_in others) (take met (names_in labels)) ∙ ap (λ (b : Bool). cond b true (is_among name (take met (names_in labels)))) (sym is ∙ miss))
 
 pub more_others : (labels : NameMap ℕ) (met : ℕ) (old new : NameMap Bool) (name : List ℕ) → Same (names_in new) (name ∷ names_in old) → Same (stood labels met new) (name ∷ stood labels met old)
 more_others labels met old new name same = same_behind (names_in new) (name ∷ names_in old) (take met (names_in labels)) same
