@@ -1,5 +1,5 @@
 -- A reader at the first line of a text.
-use Rattle.std.proofs.Common.{◌≡◌, ℕ, ◌<◌, ◌^◌, Bool, List, [], length, drop, map, None, sym, ap, subst, ◌∙◌, arith}
+use Rattle.std.proofs.Common.{◌≡◌, ℕ, ◌<◌, ◌^◌, Bool, List, [], ◌++◌, length, take, drop, map, None, sym, ap, subst, ◌∙◌, arith}
 use Rattle.std.specs.Borrow.{Bor}
 use Rattle.std.specs.Map.{lookup}
 use Rattle.std.specs.declared.option.Option.{Option}
@@ -15,12 +15,12 @@ use Rattle.abc_tokens.specs.Names.{NameMap, is_named}
 use Rattle.abc_tokens.specs.declared.line.Line.{Line}
 use Rattle.abc_asmreader.specs.Names.{key_of, names_in}
 use Rattle.abc_asmreader.specs.declared.reader.Reader.{Reader}
-use Rattle.abc_asmreader.specs.Reading.{IsReader, labels_now, rows_left}
+use Rattle.abc_asmreader.specs.Reading.{IsReader, labels_now, rows_left, set_now}
 
 -- how many lines of a place are left
 pub left_counted : (r : Reader) (place : ℕ) → count_all place (rows_left r) ≡ count_all_raws place (raws_at r.next)
 unfolding rows_left
-left_counted r place = all_counted place (labels_now r.body) (names_in r.set) (names_in r.bodied) (raws_at r.next)
+left_counted r place = all_counted place (labels_now r.body) (set_now r) (names_in r.bodied) (raws_at r.next)
 
 no_places : (m : NameMap ℕ) → m.entries ≡ [] → Places m []
 no_places m e name = ap (λ (es : List (Bor (List ℕ) × ℕ)). lookup (is_named name) es) e
@@ -30,12 +30,13 @@ module _ (text : List ℕ) (next : Option Line) (comes : Comes (raws_from 1 (lin
   unfolding rows_of
   first_rows = ap (λ (raws : List Raw). rows_from [] [] [] raws) (sym (comes_raws (raws_from 1 (lines_in text)) 1 (length text) next comes))
 
-  module _ (r : Reader) (here : r.next ≡ next) (body : r.body ≡ None) (places : r.places.entries ≡ []) (set : r.set.entries ≡ []) (bodied : r.bodied.entries ≡ []) where
+  module _ (r : Reader) (here : r.next ≡ next) (body : r.body ≡ None) (places : r.places.entries ≡ []) (set : r.set.entries ≡ []) (met : r.met ≡ 0) (bodied : r.bodied.entries ≡ []) where
     pub fresh_rows : rows_left r ≡ rows_of text
     unfolding rows_left
     fresh_rows =
-        ap (λ (o : Option Line). rows_from (labels_now o) (names_in r.set) (names_in r.bodied) (raws_at r.next)) body
-        ∙ ap (λ (es : List (Bor (List ℕ) × Bool)). rows_from [] (map key_of es) (names_in r.bodied) (raws_at r.next)) set
+        ap (λ (o : Option Line). rows_from (labels_now o) (set_now r) (names_in r.bodied) (raws_at r.next)) body
+        ∙ ap (λ (es : List (Bor (List ℕ) × Bool)). rows_from [] (map key_of es ++ take r.met (names_in r.places)) (names_in r.bodied) (raws_at r.next)) set
+        ∙ ap (λ (n : ℕ). rows_from [] (take n (names_in r.places)) (names_in r.bodied) (raws_at r.next)) met
         ∙ ap (λ (es : List (Bor (List ℕ) × Bool)). rows_from [] [] (map key_of es) (raws_at r.next)) bodied
         ∙ ap (λ (o : Option Line). rows_from [] [] [] (raws_at o)) here
         ∙ first_rows

@@ -28,7 +28,7 @@ use Rattle.abc_tokens.specs.declared.token.Token.{Token}
 use Rattle.abc_asmreader.specs.Names.{Same, names_in}
 use Rattle.abc_asmreader.specs.declared.error.AsmError.TheVariants as errors
 use Rattle.abc_asmreader.specs.declared.reader.Reader.{Reader}
-use Rattle.abc_asmreader.specs.Reading.{IsBroken, IsReader, Noted, NotedBody, Opens, labels_now, may_repeat, one_at, raw_with, row_of, rows_left, word_next}
+use Rattle.abc_asmreader.specs.Reading.{IsBroken, IsReader, Noted, NotedBody, Opens, labels_now, may_repeat, one_at, raw_with, row_of, rows_left, set_now, word_next}
 use Rattle.abc_asmreader.proofs.Sets.{same_rows}
 
 -- ---- the first of some lines
@@ -69,12 +69,12 @@ module _ (labels : List Label) (set taken : List (List ℕ)) (raw : Raw) (raws :
 pub next_word : (r : Reader) (line : Line) → r.next ≡ Some line → Some line.word ≡ word_next (rows_left r)
 unfolding rows_left
 next_word r line e =
-    sym (first_word (labels_now r.body) (names_in r.set) (names_in r.bodied) (raw_of line) (raws_after line))
-    ∙ ap (λ (o : Option Line). word_next (rows_from (labels_now r.body) (names_in r.set) (names_in r.bodied) (raws_at o))) (sym e)
+    sym (first_word (labels_now r.body) (set_now r) (names_in r.bodied) (raw_of line) (raws_after line))
+    ∙ ap (λ (o : Option Line). word_next (rows_from (labels_now r.body) (set_now r) (names_in r.bodied) (raws_at o))) (sym e)
 
 pub no_word : (r : Reader) → r.next ≡ None → None ≡ word_next (rows_left r)
 unfolding rows_left
-no_word r e = ap (λ (o : Option Line). word_next (rows_from (labels_now r.body) (names_in r.set) (names_in r.bodied) (raws_at o))) (sym e)
+no_word r e = ap (λ (o : Option Line). word_next (rows_from (labels_now r.body) (set_now r) (names_in r.bodied) (raws_at o))) (sym e)
 
 pub some_next : (r : Reader) → r.next ≡ None → IsSome (word_next (rows_left r)) → ⊥
 some_next r e some = let none : IsSome {T = Word} None = subst (λ (o : Option Word). IsSome o) (sym (no_word r e)) some in cc
@@ -96,27 +96,27 @@ one_not w v apart differs =
 pub one_is : (w v : Word) → w ≡ v → one_at (place_of v) w ≡ 1
 one_is w v e = ap (λ (b : Bool). cond b 1 0) (eq_refl (place_of w) (place_of v) (ap place_of e))
 
-pub opens_other : (old new : Reader) (line : Line) → may_repeat line.word ≡ false → new.body ≡ old.body → new.set ≡ old.set → new.bodied ≡ old.bodied → Opens old new line false
+pub opens_other : (old new : Reader) (line : Line) → may_repeat line.word ≡ false → new.body ≡ old.body → set_now new ≡ set_now old → new.bodied ≡ old.bodied → Opens old new line false
 opens_other old new line plain body set bodied broken =
     let raw = raw_with line broken old.operands.items in
     let raws = raws_after line in
-    first_other (labels_now old.body) (names_in old.set) (names_in old.bodied) raw raws plain
-    ∙ ap (λ (o : Option Line). row raw (labels_now o) false ∷ rows_from (labels_now o) (names_in old.set) (names_in old.bodied) raws) (sym body)
-    ∙ ap (λ (m : NameMap Bool). row raw (labels_now new.body) false ∷ rows_from (labels_now new.body) (names_in m) (names_in old.bodied) raws) (sym set)
-    ∙ ap (λ (m : NameMap Bool). row raw (labels_now new.body) false ∷ rows_from (labels_now new.body) (names_in new.set) (names_in m) raws) (sym bodied)
+    first_other (labels_now old.body) (set_now old) (names_in old.bodied) raw raws plain
+    ∙ ap (λ (o : Option Line). row raw (labels_now o) false ∷ rows_from (labels_now o) (set_now old) (names_in old.bodied) raws) (sym body)
+    ∙ ap (λ (names : List (List ℕ)). row raw (labels_now new.body) false ∷ rows_from (labels_now new.body) names (names_in old.bodied) raws) (sym set)
+    ∙ ap (λ (m : NameMap Bool). row raw (labels_now new.body) false ∷ rows_from (labels_now new.body) (set_now new) (names_in m) raws) (sym bodied)
 
-pub opens_label : (old new : Reader) (line : Line) (repeated : Bool) → line.word ≡ words.Label → new.body ≡ old.body → new.bodied ≡ old.bodied → repeated ≡ is_among line.name.now (names_in old.set) → Same (names_in new.set) (line.name.now ∷ names_in old.set) → Opens old new line repeated
+pub opens_label : (old new : Reader) (line : Line) (repeated : Bool) → line.word ≡ words.Label → new.body ≡ old.body → new.bodied ≡ old.bodied → repeated ≡ is_among line.name.now (set_now old) → Same (set_now new) (line.name.now ∷ set_now old) → Opens old new line repeated
 opens_label old new line repeated word body bodied is same broken =
     let raw = raw_with line broken old.operands.items in
     let raws = raws_after line in
     let labels = labels_now old.body in
     let taken = names_in old.bodied in
     let name = line.name.now in
-    first_label labels (names_in old.set) taken raw raws word
-    ∙ ap (λ (b : Bool). row raw labels b ∷ rows_from labels (name ∷ names_in old.set) taken raws) (sym is)
-    ∙ ap (λ (l : List Row). row raw labels repeated ∷ l) (same_rows labels (name ∷ names_in old.set) (names_in new.set) taken taken raws (λ n. sym (same n)) (λ n. refl))
-    ∙ ap (λ (o : Option Line). row raw (labels_now o) repeated ∷ rows_from (labels_now o) (names_in new.set) taken raws) (sym body)
-    ∙ ap (λ (m : NameMap Bool). row raw (labels_now new.body) repeated ∷ rows_from (labels_now new.body) (names_in new.set) (names_in m) raws) (sym bodied)
+    first_label labels (set_now old) taken raw raws word
+    ∙ ap (λ (b : Bool). row raw labels b ∷ rows_from labels (name ∷ set_now old) taken raws) (sym is)
+    ∙ ap (λ (l : List Row). row raw labels repeated ∷ l) (same_rows labels (name ∷ set_now old) (set_now new) taken taken raws (λ n. sym (same n)) (λ n. refl))
+    ∙ ap (λ (o : Option Line). row raw (labels_now o) repeated ∷ rows_from (labels_now o) (set_now new) taken raws) (sym body)
+    ∙ ap (λ (m : NameMap Bool). row raw (labels_now new.body) repeated ∷ rows_from (labels_now new.body) (set_now new) (names_in m) raws) (sym bodied)
 
 pub opens_body : (old new : Reader) (line : Line) (repeated : Bool) → line.word ≡ words.Body → NotedBody old new line repeated → Opens old new line repeated
 opens_body old new line repeated word noted broken =
@@ -126,14 +126,14 @@ opens_body old new line repeated word noted broken =
     let taken = names_in old.bodied in
     let methods = method_in (tokens_of old.operands.items) in
     let e : Some line ≡ new.body = sym noted.body in
-    let f : [] ≡ names_in new.set = sym noted.set in
-    first_body (labels_now old.body) (names_in old.set) taken raw raws word
+    let f : [] ≡ set_now new = sym noted.set in
+    first_body (labels_now old.body) (set_now old) taken raw raws word
     ∙ ap (λ (b : Bool). row raw labels b ∷ rows_from labels [] (methods ++ taken) raws) (sym noted.repeats)
-    ∙ ap (λ (l : List Row). row raw labels repeated ∷ l) (same_rows labels [] (names_in new.set) (methods ++ taken) (names_in new.bodied) raws (λ n. ap (λ (xs : List (List ℕ)). is_among n xs) f) (λ n. sym (noted.bodied n)))
-    ∙ ap (λ (o : Option Line). row raw (labels_now o) repeated ∷ rows_from (labels_now o) (names_in new.set) (names_in new.bodied) raws) e
+    ∙ ap (λ (l : List Row). row raw labels repeated ∷ l) (same_rows labels [] (set_now new) (methods ++ taken) (names_in new.bodied) raws (λ n. ap (λ (xs : List (List ℕ)). is_among n xs) f) (λ n. sym (noted.bodied n)))
+    ∙ ap (λ (o : Option Line). row raw (labels_now o) repeated ∷ rows_from (labels_now o) (set_now new) (names_in new.bodied) raws) e
 
 -- a line of another word
-pub noted_other : (old new : Reader) (line : Line) → Places old.places (labels_now old.body) → may_repeat line.word ≡ false → new.next ≡ old.next → new.operands.items ≡ old.operands.items → new.sizes ≡ old.sizes → new.instances ≡ old.instances → new.places ≡ old.places → new.body ≡ old.body → new.set ≡ old.set → new.bodied ≡ old.bodied → new.instances_left + one_at 14 line.word ≡ old.instances_left → new.classes_left + one_at 20 line.word ≡ old.classes_left → Follows new.next (drop new.place new.ahead.items) → Noted old new line false
+pub noted_other : (old new : Reader) (line : Line) → Places old.places (labels_now old.body) → may_repeat line.word ≡ false → new.next ≡ old.next → new.operands.items ≡ old.operands.items → new.sizes ≡ old.sizes → new.instances ≡ old.instances → new.places ≡ old.places → new.body ≡ old.body → set_now new ≡ set_now old → new.bodied ≡ old.bodied → new.instances_left + one_at 14 line.word ≡ old.instances_left → new.classes_left + one_at 20 line.word ≡ old.classes_left → Follows new.next (drop new.place new.ahead.items) → Noted old new line false
 noted_other old new line places plain next operands sizes all same_places body set bodied instances classes ahead =
     record {
       next = next;
@@ -149,7 +149,7 @@ noted_other old new line places plain next operands sizes all same_places body s
     }
 
 -- a label line
-pub noted_label : {E : Type 0} (old new : Reader) (line : Line) (r : Result Bool E) → Places old.places (labels_now old.body) → line.word ≡ words.Label → new.next ≡ old.next → new.operands.items ≡ old.operands.items → new.sizes ≡ old.sizes → new.instances ≡ old.instances → new.places ≡ old.places → new.body ≡ old.body → new.bodied ≡ old.bodied → new.instances_left ≡ old.instances_left → new.classes_left ≡ old.classes_left → IfOk r (λ known. known ≡ is_among line.name.now (names_in old.set)) → Follows new.next (drop new.place new.ahead.items) → IfOk r (λ known. Same (names_in new.set) (line.name.now ∷ names_in old.set)) → IfOk r (λ repeated. Noted old new line repeated)
+pub noted_label : {E : Type 0} (old new : Reader) (line : Line) (r : Result Bool E) → Places old.places (labels_now old.body) → line.word ≡ words.Label → new.next ≡ old.next → new.operands.items ≡ old.operands.items → new.sizes ≡ old.sizes → new.instances ≡ old.instances → new.places ≡ old.places → new.body ≡ old.body → new.bodied ≡ old.bodied → new.instances_left ≡ old.instances_left → new.classes_left ≡ old.classes_left → IfOk r (λ known. known ≡ is_among line.name.now (set_now old)) → Follows new.next (drop new.place new.ahead.items) → IfOk r (λ known. Same (set_now new) (line.name.now ∷ set_now old)) → IfOk r (λ repeated. Noted old new line repeated)
 noted_label old new line (Ok known) places word next operands sizes all same_places body bodied instances classes was ahead same =
     let no_instance : one_at 14 line.word ≡ 0 = ap (one_at 14) word in
     let no_class : one_at 20 line.word ≡ 0 = ap (one_at 20) word in
@@ -202,11 +202,11 @@ raw_is line ts unclosed gathers =
     ap made gathers
 
 -- the lines that were left are the line and those that are left now
-pub taken_is : (old mid new : Reader) (line : Line) (repeated unclosed : Bool) (number count : ℕ) → Noted mid new line repeated → old.next ≡ Some line → mid.body ≡ old.body → mid.set ≡ old.set → mid.bodied ≡ old.bodied → Gathers line.tail.now mid.operands.items unclosed → Comes (raws_after line) number count mid.next → rows_left old ≡ row (raw_with line (line.broken || unclosed) mid.operands.items) (labels_now new.body) repeated ∷ rows_left new
+pub taken_is : (old mid new : Reader) (line : Line) (repeated unclosed : Bool) (number count : ℕ) → Noted mid new line repeated → old.next ≡ Some line → mid.body ≡ old.body → set_now mid ≡ set_now old → mid.bodied ≡ old.bodied → Gathers line.tail.now mid.operands.items unclosed → Comes (raws_after line) number count mid.next → rows_left old ≡ row (raw_with line (line.broken || unclosed) mid.operands.items) (labels_now new.body) repeated ∷ rows_left new
 unfolding rows_left
 taken_is old mid new line repeated unclosed number count noted next body set bodied gathers comes =
     let labels = labels_now old.body in
-    let all = names_in old.set in
+    let all = set_now old in
     let methods = names_in old.bodied in
     let raw = raw_with line (line.broken || unclosed) mid.operands.items in
     let e = sym body in let f = sym set in let g = sym bodied in
@@ -215,13 +215,13 @@ taken_is old mid new line repeated unclosed number count noted next body set bod
     ap (λ (o : Option Line). rows_from labels all methods (raws_at o)) next
     ∙ ap (λ (r : Raw). rows_from labels all methods (r ∷ raws_after line)) (raw_is line mid.operands.items unclosed gathers)
     ∙ ap (λ (o : Option Line). rows_from (labels_now o) all methods (raw ∷ raws_after line)) e
-    ∙ ap (λ (m : NameMap Bool). rows_from (labels_now mid.body) (names_in m) methods (raw ∷ raws_after line)) f
-    ∙ ap (λ (m : NameMap Bool). rows_from (labels_now mid.body) (names_in mid.set) (names_in m) (raw ∷ raws_after line)) g
+    ∙ ap (λ (names : List (List ℕ)). rows_from (labels_now mid.body) names methods (raw ∷ raws_after line)) f
+    ∙ ap (λ (m : NameMap Bool). rows_from (labels_now mid.body) (set_now mid) (names_in m) (raw ∷ raws_after line)) g
     ∙ noted.opens (line.broken || unclosed)
-    ∙ ap (λ (raws : List Raw). head ∷ rows_from (labels_now new.body) (names_in new.set) (names_in new.bodied) raws) rest
+    ∙ ap (λ (raws : List Raw). head ∷ rows_from (labels_now new.body) (set_now new) (names_in new.bodied) raws) rest
 
 -- a whole line
-pub taken_row : (old mid new : Reader) (line : Line) (repeated unclosed broken : Bool) (number count : ℕ) → Noted mid new line repeated → old.next ≡ Some line → mid.body ≡ old.body → mid.set ≡ old.set → mid.bodied ≡ old.bodied → Gathers line.tail.now mid.operands.items unclosed → Comes (raws_after line) number count mid.next → broken ≡ (line.broken || unclosed) → broken ≡ false → rows_left old ≡ row_of (record { number = line.number; word = line.word; repeated = repeated }) new ∷ rows_left new
+pub taken_row : (old mid new : Reader) (line : Line) (repeated unclosed broken : Bool) (number count : ℕ) → Noted mid new line repeated → old.next ≡ Some line → mid.body ≡ old.body → set_now mid ≡ set_now old → mid.bodied ≡ old.bodied → Gathers line.tail.now mid.operands.items unclosed → Comes (raws_after line) number count mid.next → broken ≡ (line.broken || unclosed) → broken ≡ false → rows_left old ≡ row_of (record { number = line.number; word = line.word; repeated = repeated }) new ∷ rows_left new
 taken_row old mid new line repeated unclosed broken number count noted next body set bodied gathers comes is whole =
     let fine : (line.broken || unclosed) ≡ false = sym is ∙ whole in
     let same : mid.operands.items ≡ new.operands.items = sym noted.operands in
@@ -230,7 +230,7 @@ taken_row old mid new line repeated unclosed broken number count noted next body
     ∙ ap (λ (v : List Token). row (raw_with line false v) (labels_now new.body) repeated ∷ rows_left new) same
 
 -- a line that is broken
-pub taken_broken : (old mid new : Reader) (line : Line) (repeated unclosed broken : Bool) (number count : ℕ) → Noted mid new line repeated → old.next ≡ Some line → mid.body ≡ old.body → mid.set ≡ old.set → mid.bodied ≡ old.bodied → Gathers line.tail.now mid.operands.items unclosed → Comes (raws_after line) number count mid.next → broken ≡ (line.broken || unclosed) → broken ≡ true → IsBroken (errors.Refused line.number reasons.Text) (rows_left old)
+pub taken_broken : (old mid new : Reader) (line : Line) (repeated unclosed broken : Bool) (number count : ℕ) → Noted mid new line repeated → old.next ≡ Some line → mid.body ≡ old.body → set_now mid ≡ set_now old → mid.bodied ≡ old.bodied → Gathers line.tail.now mid.operands.items unclosed → Comes (raws_after line) number count mid.next → broken ≡ (line.broken || unclosed) → broken ≡ true → IsBroken (errors.Refused line.number reasons.Text) (rows_left old)
 taken_broken old mid new line repeated unclosed broken number count noted next body set bodied gathers comes is bad =
     (row (raw_with line (line.broken || unclosed) mid.operands.items) (labels_now new.body) repeated, rows_left new, taken_is old mid new line repeated unclosed number count noted next body set bodied gathers comes, sym is ∙ bad, refl, refl)
 

@@ -1,5 +1,5 @@
 -- Names that were seen.
-use Rattle.std.specs.Prelude.{◌≡◌, ℕ, List, map}
+use Rattle.std.specs.Prelude.{◌≡◌, ◌<◌, ◌^◌, ℕ, Bool, false, List, ◌++◌, map, slice_get, take, Some}
 use Rattle.std.specs.Borrow.{Bor}
 use Rattle.abc_lines.specs.Texts.{is_among}
 use Rattle.abc_tokens.specs.Names.{NameMap}
@@ -14,3 +14,11 @@ names_in m = map key_of m.entries
 -- the same names are among both
 abbrev pub Same : List (List ℕ) → List (List ℕ) → Type 0
 Same xs ys = (name : List ℕ) → is_among name xs ≡ is_among name ys
+
+-- the names that stood in a body: so many of its labels, in their order, and others
+abbrev pub stood : NameMap ℕ → ℕ → NameMap Bool → List (List ℕ)
+stood labels met others = names_in others ++ take met (names_in labels)
+
+-- The name stands at this place among some, of which there are not too many, and not before it.
+abbrev pub IsFirstAt : List (List ℕ) → ℕ → List ℕ → Type 0
+IsFirstAt names place name = (slice_get names place ≡ Some name) × (is_among name (take place names) ≡ false) × (place < 2 ^ 63)

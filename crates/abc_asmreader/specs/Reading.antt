@@ -14,7 +14,7 @@ use Rattle.abc_tokens.specs.Cursor.{AreNumbered, most_lines, raws_after, raws_at
 use Rattle.abc_tokens.specs.Walks.{tokens_of}
 use Rattle.abc_tokens.specs.declared.line.Line.{Line}
 use Rattle.abc_tokens.specs.declared.token.Token.{Token}
-use Rattle.abc_asmreader.specs.Names.{Same, names_in}
+use Rattle.abc_asmreader.specs.Names.{Same, names_in, stood}
 use Rattle.abc_asmreader.specs.declared.error.AsmError.{AsmError}
 use Rattle.abc_asmreader.specs.declared.error.AsmError.TheVariants as errors
 use Rattle.abc_asmreader.specs.declared.reader.Reader.{Reader}
@@ -27,9 +27,13 @@ abbrev pub labels_now : Option Line → List Label
 labels_now None = []
 labels_now (Some line) = labels_set 0 (raws_after line)
 
+-- the labels that stood in it so far
+abbrev pub set_now : Reader → List (List ℕ)
+set_now r = stood r.places r.met r.set
+
 -- the lines that are left
 unfoldable pub rows_left : Reader → List Row
-rows_left r = rows_from (labels_now r.body) (names_in r.set) (names_in r.bodied) (raws_at r.next)
+rows_left r = rows_from (labels_now r.body) (set_now r) (names_in r.bodied) (raws_at r.next)
 
 abbrev pub word_next : List Row → Option Word
 word_next [] = None
@@ -81,7 +85,7 @@ one_at place word = if nat_eq (place_of word) place then 1 else 0
 abbrev pub Opens : Reader → Reader → Line → Bool → Type 0
 Opens old new line repeated =
     (broken : Bool) → let raw = raw_with line broken old.operands.items in
-    rows_from (labels_now old.body) (names_in old.set) (names_in old.bodied) (raw ∷ raws_after line) ≡ row raw (labels_now new.body) repeated ∷ rows_from (labels_now new.body) (names_in new.set) (names_in new.bodied) (raws_after line)
+    rows_from (labels_now old.body) (set_now old) (names_in old.bodied) (raw ∷ raws_after line) ≡ row raw (labels_now new.body) repeated ∷ rows_from (labels_now new.body) (set_now new) (names_in new.bodied) (raws_after line)
 
 -- what is noted of a line
 pub record Noted (old new : Reader) (line : Line) (repeated : Bool) : Type 0 where
@@ -107,7 +111,7 @@ pub record Entered (old new : Reader) (line : Line) : Type 0 where
   pub classes : new.classes_left ≡ old.classes_left
   pub places : Places new.places (labels_now new.body)
   pub body : new.body ≡ Some line
-  pub set : names_in new.set ≡ []
+  pub set : set_now new ≡ []
   pub bodied : new.bodied ≡ old.bodied
 
 -- what is noted of a body's line
@@ -121,6 +125,6 @@ pub record NotedBody (old new : Reader) (line : Line) (repeated : Bool) : Type 0
   pub classes : new.classes_left ≡ old.classes_left
   pub places : Places new.places (labels_now new.body)
   pub body : new.body ≡ Some line
-  pub set : names_in new.set ≡ []
+  pub set : set_now new ≡ []
   pub repeats : repeated ≡ is_taken (method_in (tokens_of old.operands.items)) (names_in old.bodied)
   pub bodied : Same (names_in new.bodied) (method_in (tokens_of old.operands.items) ++ names_in old.bodied)

@@ -7,7 +7,7 @@ ghost use Rattle.abc_text.specs.Words.{place_of};
 ghost use Rattle.abc_tokens.specs.Cursor.{AreNumbered, most_lines, raws_after, raws_at};
 
 use crate::error::{AsmError, refused};
-use crate::noting::{add, method_of, renew};
+use crate::noting::{add, method_of, note_label, renew};
 use abc_base::NoMemory;
 use abc_labels::{TableSizes, count_lines, labels_of, line_after, look_ahead, meet, sizes_of};
 use abc_tables::Sizes;
@@ -41,7 +41,9 @@ pub struct Reader<'a> {
     body: Option<Line<'a>>,
     /// The instructions that the labels of the body stand for.
     pub places: IndexMap<&'a [u8], u32>,
-    /// The labels that stood in the body so far.
+    /// How many of these labels stood in the body so far: labels stand in the order in which they were found.
+    met: usize,
+    /// Labels that stood in the body so far and are not the next of these.
     set: IndexMap<&'a [u8], bool>,
     /// The methods that have a body.
     bodied: IndexMap<&'a [u8], bool>,
@@ -77,6 +79,7 @@ impl<'a> Reader<'a> {
             operands: Vec::new(alloc),
             body: None,
             places: IndexMap::new(alloc),
+            met: 0,
             set: IndexMap::new(alloc),
             bodied: IndexMap::new(alloc),
             sizes,
@@ -172,7 +175,9 @@ impl<'a> Reader<'a> {
         match line.word {
             Word::Instance => self.instances_left -= 1,
             Word::Class => self.classes_left -= 1,
-            Word::Label => return add(&mut self.set, line.name),
+            Word::Label => {
+                return note_label(&self.places, &mut self.met, &mut self.set, line.name);
+            }
             Word::Body => return self.note_body(line),
             _ => {}
         }
@@ -210,6 +215,7 @@ impl<'a> Reader<'a> {
         )?;
         renew(&mut self.places, labels);
         self.body = Some(*line);
+        self.met = 0;
         renew(&mut self.set, IndexMap::new(self.alloc));
         Ok(())
     }

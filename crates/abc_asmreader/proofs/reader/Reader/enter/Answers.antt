@@ -1,5 +1,5 @@
 -- The labels are those of the lines that come.
-use Rattle.std.proofs.Common.{ℕ, Bool, List, map, refl, sym, ap, subst, ◌∙◌}
+use Rattle.std.proofs.Common.{ℕ, Bool, List, [], ◌++◌, map, refl, sym, ap, subst, ◌∙◌}
 use Rattle.std.specs.Borrow.{Bor}
 use Rattle.abc_lines.specs.Texts.{labels_set}
 use Rattle.abc_labels.specs.Labels.{Leads}
@@ -20,6 +20,6 @@ returns c = record {
   classes = refl;
   places = noted_places c.renew.new.old c.args.line.now c.args.self.now.next c.requires.next (subst (λ (m : NameMap ℕ). Leads m (labels_set 0 (raws_at c.args.self.now.next))) (sym c.renew.ensures) c.in_ok-labels.ensures);
   body = refl;
-  set = ap (λ (m : NameMap Bool). names_in m) c.renew-2.ensures ∙ ap (λ (es : List (Bor (List ℕ) × Bool)). map key_of es) c.new.ensures.empty;
+  set = ap (λ (m : NameMap Bool). names_in m ++ []) c.renew-2.ensures ∙ ap (λ (es : List (Bor (List ℕ) × Bool)). map key_of es ++ []) c.new.ensures.empty;
   bodied = refl;
 }
