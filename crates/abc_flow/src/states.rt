@@ -19,6 +19,12 @@ pub const MOST_VALUES: usize = 1 << 26;
 /// Where the states of a method have more values, the next one has no use of their memory.
 const MANY_VALUES: usize = 1 << 16;
 
+/// Where so many states are kept, room is made for many more at once.
+const MANY_STATES: usize = 1 << 12;
+
+/// Of so many places one has a state then, as far as there is room.
+const PLACES_A_STATE: usize = 4;
+
 /// What is known at the places of a method. Few places have a state, and only these take more than four bytes.
 #[derive(Drop)]
 pub struct States {
@@ -71,6 +77,18 @@ fn keep(known: &mut Vec<State>, place: usize, alloc: Global, state: &State) -> R
     Ok(())
 }
 
+/// Makes room for many states of so many places, where the list has many and is full. By doubling it would be copied again and again,
+/// and the memory that it leaves serves nothing as large; room that no state takes is never touched. Where there is not so much
+/// memory, the list grows as ever.
+fn make_room(known: &mut Vec<State>, count: usize, places: usize)
+    ensures long { vec_len known.old ≤ vec_len known.new }
+    ensures same { known.new.items ≡ known.old.items }
+{
+    if count >= MANY_STATES && count == known.capacity() {
+        let _ = known.reserve(places / PLACES_A_STATE);
+    }
+}
+
 /// Gives the memory of states back that had many values, as the room says that they left.
 fn release_many(known: &mut Vec<State>, room: usize) {
     if room < MOST_VALUES - MANY_VALUES {
@@ -97,6 +115,7 @@ fn put_first(
     let left = room.checked_sub(state.stack.len()).ok_or(NoMemory)?;
     let left = left.checked_sub(state.scopes.len()).ok_or(NoMemory)?;
     *room = left.checked_sub(state.locals.len()).ok_or(NoMemory)?;
+    make_room(known, *count, numbers.len());
     keep(known, *count, alloc, state)?;
     let number = *count + 1;
     *count = number;
