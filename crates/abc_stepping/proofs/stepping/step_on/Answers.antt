@@ -51,6 +51,9 @@ returns-clause-value g c = λ v e.
     let live = some_left s.frames.living c.depth.result c.depth.ensures c.if-depth-eq0.false in
     returned_left c.args.linked.now g.out s c.requires.1.1.0 live c.run_newest.new.left c.run_newest.new.s c.run_newest.ensures.leaves v (c.finish_left.ensures.value v e)
 
+pub returns-then-depth-eq0-clause-step : goal.returns-then-depth-eq0-clause-step
+returns-then-depth-eq0-clause-step g c = c.start_over.ensures.step (g.K.Sink.written c.args.sink.now)
+
 pub returns-then-depth-eq0-clause-value : goal.returns-then-depth-eq0-clause-value
 returns-then-depth-eq0-clause-value g c = λ v e. absurd (c.start_over.ensures.none v e)
 
