@@ -1,4 +1,5 @@
-ghost use Rattle.std.specs.Prelude.{◌≡◌, ◌≢◌, ◌<◌, ◌≤◌, length, true, Err, Ok};
+ghost use Rattle.std.specs.Prelude.{◌≡◌, ◌≢◌, ◌<◌, ◌≤◌, ℕ, List, length, true, Err, Ok};
+ghost use Rattle.std.specs.declared.option.Option.{Option};
 ghost use Rattle.abc_base.specs.Faults.{Rose};
 ghost use Rattle.abc_callmeaning.specs.Calls.{returned};
 ghost use Rattle.abc_cells.specs.declared.values.Value.{Value};
