@@ -118,7 +118,7 @@ module _ (l : LinkedFile) (out : Outer) (s : State) where
   paired_in op n count can = grouped forms.Two (λ m. is_in m paired_ops) op paired_rows can.spelled.0.is refl (row_there l out s (Two op n count) can)
 
 -- a test of all of a list
-part_in : (t : ℕ → Bool) (xs : List ℕ) (op : ℕ) → list_all t xs ≡ true → is_in op xs ≡ true → t op ≡ true
+pub part_in : (t : ℕ → Bool) (xs : List ℕ) (op : ℕ) → list_all t xs ≡ true → is_in op xs ≡ true → t op ≡ true
 part_in t [] op a e = absurd cc
 part_in t (x ∷ xs) op a e = go (λ h. part_in t xs op parts.1 h) (nat_eq op x) refl e
   where

@@ -68,3 +68,17 @@ ops_paired pairs.Construct = 0x4A ∷ []
 
 abbrev pub paired_ops : List ℕ
 paired_ops = 0x32 ∷ 0x4A ∷ super_call_ops ++ property_call_ops
+
+-- ---- that ask for numbers
+
+-- convert_i, convert_u, convert_d
+abbrev pub to_number_ops : List ℕ
+to_number_ops = 0x73 ∷ 0x74 ∷ 0x75 ∷ []
+
+-- ifnlt to ifnge
+abbrev pub first_order_ops : List ℕ
+first_order_ops = 0x0C ∷ 0x0D ∷ 0x0E ∷ 0x0F ∷ []
+
+-- iflt to ifge
+abbrev pub last_order_ops : List ℕ
+last_order_ops = 0x15 ∷ 0x16 ∷ 0x17 ∷ 0x18 ∷ []

@@ -29,7 +29,8 @@ use abc_plainsteps::{
 use abc_scopesteps::{run_class, run_find, run_super, run_super_call};
 use abc_states::{Left, State, Stop};
 
-// (Each group stands in a function of its own, which the dispatch calls last: so it needs the registers and the memory of no group.)
+// (A group that is rare or long stands in a function of its own, which the dispatch calls last: so it needs the registers and the memory of no
+// such group. What is common and short stands in the dispatch itself.)
 
 /// Whether a group goes on, which leaves nothing to be done; else why it stops is put into `left`.
 #[inline(always)]
@@ -104,7 +105,7 @@ pub(crate) fn walk_arm(
 }
 
 /// An opcode that pushes a value.
-#[inline(never)]
+#[inline(always)]
 pub(crate) fn push_arm(
     linked: &Linked,
     s: &mut State,
@@ -264,7 +265,7 @@ pub(crate) fn comparison_arm(
 }
 
 /// An opcode that reads or writes one of the first locals.
-#[inline(never)]
+#[inline(always)]
 pub(crate) fn local_arm(
     linked: &Linked,
     s: &mut State,

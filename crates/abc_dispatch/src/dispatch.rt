@@ -20,14 +20,18 @@ use crate::arms::{
     walk_arm,
 };
 use crate::groups::{Alone, Numbered, Paired, group_alone, group_numbered, group_paired};
+use crate::quick::{
+    constant_here, control_here, convert_quick, double_quick, first_branch_here,
+    first_branch_quick, last_branch_quick,
+};
 use abc_link::Linked;
 use abc_plainsteps::{run_byte, run_debug, run_scope_object, run_short, run_switch};
 use abc_states::{Left, State, Stop};
 use abc_tables::Instr;
 
-/// An opcode that stands alone.
-#[inline(always)]
-fn run_alone(linked: &Linked, s: &mut State, op: u8, left: &mut Result<Left, Stop>) -> bool
+/// An opcode that stands alone, by its group.
+#[inline(never)]
+fn run_rare_alone(linked: &Linked, s: &mut State, op: u8, left: &mut Result<Left, Stop>) -> bool
     ghost out: { Outer }
     requires run { CanRun linked.now out s.old (Plain op) }
     requires equipped { IsEquipped linked.now s.old }
@@ -52,9 +56,100 @@ fn run_alone(linked: &Linked, s: &mut State, op: u8, left: &mut Result<Left, Sto
     }
 }
 
-/// An opcode with one number.
+/// An opcode that stands alone, below 0xA0: what is common at once.
 #[inline(always)]
-fn run_numbered(
+fn run_low(linked: &Linked, s: &mut State, op: u8, left: &mut Result<Left, Stop>) -> bool
+    ghost out: { Outer }
+    requires run { CanRun linked.now out s.old (Plain op) }
+    requires equipped { IsEquipped linked.now s.old }
+    requires none { left.old ≡ Ok Goes }
+    ensures leaves { Leaves linked.now out (act_here (setting linked.now out) (newest s.old.frames) (Plain op)) s.old left.new s.new }
+    ensures finishes { CanFinish linked.now left.new s.new }
+    ensures goes { result ≡ true → left.new ≡ Ok Goes }
+    ensures limit { s.new.given.limit ≡ s.old.given.limit }
+{
+    match op {
+        0x09 => control_here(linked, s, op, left),
+        0x20 => push_arm(linked, s, op, left),
+        0x21 => push_arm(linked, s, op, left),
+        0x26 => push_arm(linked, s, op, left),
+        0x27 => push_arm(linked, s, op, left),
+        0x29 => push_arm(linked, s, op, left),
+        0x2A => push_arm(linked, s, op, left),
+        0x2B => push_arm(linked, s, op, left),
+        0x47 => return_arm(linked, s, op, left),
+        0x48 => return_arm(linked, s, op, left),
+        0x73 => convert_quick(linked, s, op, left),
+        0x74 => convert_quick(linked, s, op, left),
+        0x75 => convert_quick(linked, s, op, left),
+        0x91 => single_arm(linked, s, op, left),
+        0x93 => single_arm(linked, s, op, left),
+        0x96 => single_arm(linked, s, op, left),
+        _ => run_rare_alone(linked, s, op, left),
+    }
+}
+
+/// An opcode that stands alone, from 0xA0 on: what is common at once.
+#[inline(always)]
+fn run_high(linked: &Linked, s: &mut State, op: u8, left: &mut Result<Left, Stop>) -> bool
+    ghost out: { Outer }
+    requires run { CanRun linked.now out s.old (Plain op) }
+    requires equipped { IsEquipped linked.now s.old }
+    requires none { left.old ≡ Ok Goes }
+    ensures leaves { Leaves linked.now out (act_here (setting linked.now out) (newest s.old.frames) (Plain op)) s.old left.new s.new }
+    ensures finishes { CanFinish linked.now left.new s.new }
+    ensures goes { result ≡ true → left.new ≡ Ok Goes }
+    ensures limit { s.new.given.limit ≡ s.old.given.limit }
+{
+    match op {
+        0xA0 => double_quick(linked, s, op, left),
+        0xA1 => double_quick(linked, s, op, left),
+        0xA2 => double_quick(linked, s, op, left),
+        0xA5 => double_quick(linked, s, op, left),
+        0xA6 => double_quick(linked, s, op, left),
+        0xA7 => double_quick(linked, s, op, left),
+        0xA8 => double_quick(linked, s, op, left),
+        0xA9 => double_quick(linked, s, op, left),
+        0xAA => double_quick(linked, s, op, left),
+        0xC0 => single_arm(linked, s, op, left),
+        0xC1 => single_arm(linked, s, op, left),
+        0xC5 => double_quick(linked, s, op, left),
+        0xC6 => double_quick(linked, s, op, left),
+        0xC7 => double_quick(linked, s, op, left),
+        0xD0 => local_arm(linked, s, op, left),
+        0xD1 => local_arm(linked, s, op, left),
+        0xD2 => local_arm(linked, s, op, left),
+        0xD3 => local_arm(linked, s, op, left),
+        0xD4 => local_arm(linked, s, op, left),
+        0xD5 => local_arm(linked, s, op, left),
+        0xD6 => local_arm(linked, s, op, left),
+        0xD7 => local_arm(linked, s, op, left),
+        _ => run_rare_alone(linked, s, op, left),
+    }
+}
+
+/// An opcode that stands alone.
+#[inline(always)]
+fn run_alone(linked: &Linked, s: &mut State, op: u8, left: &mut Result<Left, Stop>) -> bool
+    ghost out: { Outer }
+    requires run { CanRun linked.now out s.old (Plain op) }
+    requires equipped { IsEquipped linked.now s.old }
+    requires none { left.old ≡ Ok Goes }
+    ensures leaves { Leaves linked.now out (act_here (setting linked.now out) (newest s.old.frames) (Plain op)) s.old left.new s.new }
+    ensures finishes { CanFinish linked.now left.new s.new }
+    ensures goes { result ≡ true → left.new ≡ Ok Goes }
+    ensures limit { s.new.given.limit ≡ s.old.given.limit }
+{
+    if op < 0xA0 {
+        run_low(linked, s, op, left)
+    } else {
+        run_high(linked, s, op, left)
+    }
+}
+
+/// An opcode with one number, by its group.
+#[inline(never)]
+fn run_rare_numbered(
     linked: &Linked,
     s: &mut State,
     op: u8,
@@ -85,6 +180,40 @@ fn run_numbered(
     }
 }
 
+/// An opcode with one number: what is common at once.
+#[inline(always)]
+fn run_numbered(
+    linked: &Linked,
+    s: &mut State,
+    op: u8,
+    n: u32,
+    left: &mut Result<Left, Stop>,
+) -> bool
+    ghost out: { Outer }
+    requires run { CanRun linked.now out s.old (One op n) }
+    requires equipped { IsEquipped linked.now s.old }
+    requires none { left.old ≡ Ok Goes }
+    ensures leaves { Leaves linked.now out (act_here (setting linked.now out) (newest s.old.frames) (One op n)) s.old left.new s.new }
+    ensures finishes { CanFinish linked.now left.new s.new }
+    ensures goes { result ≡ true → left.new ≡ Ok Goes }
+    ensures limit { s.new.given.limit ≡ s.old.given.limit }
+{
+    match op {
+        0x2D => constant_here(linked, s, op, n, left),
+        0x5D => find_arm(linked, s, op, n, left),
+        0x60 => find_arm(linked, s, op, n, left),
+        0x61 => property_arm(linked, s, op, n, left),
+        0x62 => constant_here(linked, s, op, n, left),
+        0x63 => constant_here(linked, s, op, n, left),
+        0x66 => property_arm(linked, s, op, n, left),
+        0x6C => slot_arm(linked, s, op, n, left),
+        0x6D => slot_arm(linked, s, op, n, left),
+        0xC2 => count_arm(linked, s, op, n, left),
+        0xC3 => count_arm(linked, s, op, n, left),
+        _ => run_rare_numbered(linked, s, op, n, left),
+    }
+}
+
 /// An opcode with two numbers.
 #[inline(always)]
 fn run_paired(
@@ -112,9 +241,9 @@ fn run_paired(
     }
 }
 
-/// A branch.
-#[inline(always)]
-fn run_branch(
+/// A branch, by its group.
+#[inline(never)]
+fn run_rare_branch(
     linked: &Linked,
     s: &mut State,
     op: u8,
@@ -134,6 +263,40 @@ fn run_branch(
         first_branch_arm(linked, s, op, target, left)
     } else {
         last_branch_arm(linked, s, op, target, left)
+    }
+}
+
+/// A branch: what is common at once.
+#[inline(always)]
+fn run_branch(
+    linked: &Linked,
+    s: &mut State,
+    op: u8,
+    target: u32,
+    left: &mut Result<Left, Stop>,
+) -> bool
+    ghost out: { Outer }
+    requires run { CanRun linked.now out s.old (Branch op target) }
+    requires equipped { IsEquipped linked.now s.old }
+    requires none { left.old ≡ Ok Goes }
+    ensures leaves { Leaves linked.now out (act_here (setting linked.now out) (newest s.old.frames) (Branch op target)) s.old left.new s.new }
+    ensures finishes { CanFinish linked.now left.new s.new }
+    ensures goes { result ≡ true → left.new ≡ Ok Goes }
+    ensures limit { s.new.given.limit ≡ s.old.given.limit }
+{
+    match op {
+        0x0C => first_branch_quick(linked, s, op, target, left),
+        0x0D => first_branch_quick(linked, s, op, target, left),
+        0x0E => first_branch_quick(linked, s, op, target, left),
+        0x0F => first_branch_quick(linked, s, op, target, left),
+        0x10 => first_branch_here(linked, s, op, target, left),
+        0x11 => first_branch_here(linked, s, op, target, left),
+        0x12 => first_branch_here(linked, s, op, target, left),
+        0x15 => last_branch_quick(linked, s, op, target, left),
+        0x16 => last_branch_quick(linked, s, op, target, left),
+        0x17 => last_branch_quick(linked, s, op, target, left),
+        0x18 => last_branch_quick(linked, s, op, target, left),
+        _ => run_rare_branch(linked, s, op, target, left),
     }
 }
 

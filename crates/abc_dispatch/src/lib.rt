@@ -4,5 +4,6 @@
 mod arms;
 mod dispatch;
 mod groups;
+mod quick;
 
 pub use dispatch::run_newest;

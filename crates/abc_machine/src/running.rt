@@ -1,4 +1,4 @@
-ghost use Rattle.std.specs.Prelude.{◌≡◌, ◌≢◌, ◌+◌, ◌<◌, ◌≤◌};
+ghost use Rattle.std.specs.Prelude.{◌≡◌, ◌≢◌, ◌+◌, ◌<◌, ◌≤◌, true, Ok};
 ghost use Rattle.abc_base.specs.Faults.{Rose};
 ghost use Rattle.abc_calling.specs.Calls.{replies_for};
 ghost use Rattle.abc_logmeaning.specs.Logs.{steps_for};
@@ -13,6 +13,7 @@ ghost use Rattle.abc_openings.specs.Begun.{setting};
 ghost use Rattle.abc_reached.specs.Halt.TheVariants.{Fails};
 ghost use Rattle.abc_reached.specs.Steps.{IsReached};
 ghost use Rattle.abc_states.specs.Outer.{Outer};
+ghost use Rattle.abc_states.specs.declared.state.Left.TheVariants.{Goes};
 
 use crate::ends::End;
 use crate::replies::{PlainValue, Reply};
@@ -20,9 +21,9 @@ use abc_base::{Host, Sink};
 use abc_cells::Value;
 use abc_ends::Ended;
 use abc_link::Linked;
-use abc_logging::step;
+use abc_logging::step_on;
 use abc_reached::Halt;
-use abc_states::State;
+use abc_states::{Left, State, Stop};
 
 /// A value as the caller sees it.
 fn plain(value: Value) -> PlainValue
@@ -83,27 +84,34 @@ pub(crate) fn end_for(reply: Reply) -> End
     }
 }
 
-/// One step more, for which there is fuel.
-#[inline]
+/// One step more, for which there is fuel. It answers whether the run goes on; else `halted` says why not. Before the step, as after
+/// it, nothing is left to be done.
+#[inline(always)]
 fn spend<K: Sink, H: Host>(
     linked: &Linked,
     s: &mut State,
     fuel: &mut u32,
     sink: &mut K,
     host: &H,
-) -> Result<(), Halt>
+    left: &mut Result<Left, Stop>,
+    halted: &mut Result<(), Halt>,
+) -> bool
     ghost out: { Outer }
     requires reached { IsReached linked.now out s.old }
     requires host { out.formulas ≡ H.formulas host.now }
-    requires left { 0 < fuel.old }
-    ensures spends { SpendsAs linked.now out s.old fuel.old (as_reply result) s.new fuel.new (K.written sink.old) (K.written sink.new) }
+    requires fuel { 0 < fuel.old }
+    requires none { left.old ≡ Ok Goes }
+    requires going { halted.old ≡ Ok tt }
+    ensures spends { SpendsAs linked.now out s.old fuel.old (as_reply halted.new) s.new fuel.new (K.written sink.old) (K.written sink.new) }
     ensures later { K.faults sink.old ≤ K.faults sink.new }
-    ensures cause { result ≡ Err Fails → Rose (K.faults sink.old) (K.faults sink.new) }
+    ensures cause { halted.new ≡ Err Fails → Rose (K.faults sink.old) (K.faults sink.new) }
     ensures taken { fuel.new + 1 ≡ fuel.old }
+    ensures none { left.new ≡ Ok Goes }
+    ensures goes { result ≡ true → halted.new ≡ Ok tt }
     ensures limit { s.new.given.limit ≡ s.old.given.limit }
 {
     *fuel -= 1;
-    step(linked, s, sink, host)
+    step_on(linked, s, sink, host, left, halted)
 }
 
 /// Steps, at most `fuel`, which are taken off it, until one ends.
@@ -125,8 +133,13 @@ pub(crate) fn take_steps<K: Sink, H: Host>(
     ensures few { fuel.new ≤ fuel.old }
     ensures limit { s.new.given.limit ≡ s.old.given.limit }
 {
+    let mut left = Ok(Left::Goes);
+    let mut halted = Ok(());
     while *fuel > 0 {
-        if let Err(halt) = spend(linked, s, fuel, sink, host) {
+        if spend(linked, s, fuel, sink, host, &mut left, &mut halted) {
+            continue;
+        }
+        if let Err(halt) = halted {
             return reply_for(halt);
         }
     }

@@ -4,3 +4,4 @@ pub mod Ready
 pub mod Groups
 pub mod Reads
 pub mod Returned
+pub mod Numbers

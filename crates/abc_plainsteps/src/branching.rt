@@ -14,6 +14,7 @@ use abc_plainarms::{branch_if, branch_not, branch_so, branch_unless, switch};
 use abc_states::{State, Stop};
 
 /// `ifnlt` to `ifnge`, `jump`, `iftrue`, `iffalse`.
+#[inline(always)]
 pub fn run_first_branch(linked: &Linked, s: &mut State, op: u8, target: u32) -> Result<(), Stop>
     ghost out: { Outer }
     requires run { CanRun linked.now out s.old (Branch op target) }
@@ -34,6 +35,7 @@ pub fn run_first_branch(linked: &Linked, s: &mut State, op: u8, target: u32) -> 
 }
 
 /// `ifeq` to `ifstrictne`.
+#[inline(always)]
 pub fn run_last_branch(linked: &Linked, s: &mut State, op: u8, target: u32) -> Result<(), Stop>
     ghost out: { Outer }
     requires run { CanRun linked.now out s.old (Branch op target) }

@@ -15,6 +15,7 @@ use abc_plainarms::{compare_top, compute_both, compute_top, convert_top};
 use abc_states::{State, Stop};
 
 /// The conversions.
+#[inline(always)]
 pub fn run_convert(linked: &Linked, s: &mut State, op: u8) -> Result<(), Stop>
     ghost out: { Outer }
     requires run { CanRun linked.now out s.old (Plain op) }
@@ -47,6 +48,7 @@ pub fn run_single(linked: &Linked, s: &mut State, op: u8) -> Result<(), Stop>
 }
 
 /// What is computed of two values.
+#[inline(always)]
 pub fn run_double(linked: &Linked, s: &mut State, op: u8) -> Result<(), Stop>
     ghost out: { Outer }
     requires run { CanRun linked.now out s.old (Plain op) }

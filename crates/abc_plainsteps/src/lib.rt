@@ -7,6 +7,7 @@ mod locals;
 mod moves;
 mod moving;
 mod numbered;
+mod numbers;
 mod others;
 mod returning;
 
@@ -15,5 +16,6 @@ pub use computing::{run_comparison, run_convert, run_double, run_single};
 pub use locals::run_local;
 pub use moving::{run_control, run_push};
 pub use numbered::{run_constant, run_count, run_typed};
+pub use numbers::{number_on_top, numbers_on_top};
 pub use others::{run_byte, run_debug, run_scope_object, run_short};
 pub use returning::run_return;

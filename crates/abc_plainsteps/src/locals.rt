@@ -13,6 +13,7 @@ use abc_link::Linked;
 use abc_states::{State, Stop};
 
 /// `getlocal_0` to `setlocal_3`.
+#[inline(always)]
 pub fn run_local(linked: &Linked, s: &mut State, op: u8) -> Result<(), Stop>
     ghost out: { Outer }
     requires run { CanRun linked.now out s.old (Plain op) }

@@ -20,6 +20,7 @@ use abc_moves::{
 use abc_states::{State, Stop, operand};
 
 /// It goes on at the next instruction.
+#[inline(always)]
 pub(crate) fn step_on(linked: &Linked, s: &mut State) -> Result<(), Stop>
     ghost out: { Outer }
     requires { IsReady 0 0 s.old.frames }
@@ -31,6 +32,7 @@ pub(crate) fn step_on(linked: &Linked, s: &mut State) -> Result<(), Stop>
 }
 
 /// It goes on at an instruction.
+#[inline(always)]
 pub(crate) fn step_to(linked: &Linked, s: &mut State, target: u32) -> Result<(), Stop>
     ghost out: { Outer }
     requires { IsReady 0 0 s.old.frames }
@@ -42,6 +44,7 @@ pub(crate) fn step_to(linked: &Linked, s: &mut State, target: u32) -> Result<(),
 }
 
 /// A value is pushed.
+#[inline(always)]
 pub(crate) fn push_value(linked: &Linked, s: &mut State, v: Value) -> Result<(), Stop>
     ghost out: { Outer }
     requires { IsReady 0 1 s.old.frames }
@@ -53,6 +56,7 @@ pub(crate) fn push_value(linked: &Linked, s: &mut State, v: Value) -> Result<(),
 }
 
 /// The top operand is dropped.
+#[inline(always)]
 pub(crate) fn drop_top(linked: &Linked, s: &mut State) -> Result<(), Stop>
     ghost out: { Outer }
     requires { IsReady 1 0 s.old.frames }
@@ -64,6 +68,7 @@ pub(crate) fn drop_top(linked: &Linked, s: &mut State) -> Result<(), Stop>
 }
 
 /// The top operand is pushed once more.
+#[inline(always)]
 pub(crate) fn double_top(linked: &Linked, s: &mut State) -> Result<(), Stop>
     ghost out: { Outer }
     requires { IsReady 1 2 s.old.frames }
@@ -75,6 +80,7 @@ pub(crate) fn double_top(linked: &Linked, s: &mut State) -> Result<(), Stop>
 }
 
 /// The two top operands are exchanged.
+#[inline(always)]
 pub(crate) fn exchange(linked: &Linked, s: &mut State) -> Result<(), Stop>
     ghost out: { Outer }
     requires { IsReady 2 2 s.old.frames }
@@ -96,6 +102,7 @@ pub(crate) fn throw_top(linked: &Linked, s: &mut State) -> Result<(), Stop>
 }
 
 /// A local is pushed.
+#[inline(always)]
 pub(crate) fn read_local(linked: &Linked, s: &mut State, n: u32) -> Result<(), Stop>
     ghost out: { Outer }
     requires ready { IsReady 0 1 s.old.frames }
@@ -108,6 +115,7 @@ pub(crate) fn read_local(linked: &Linked, s: &mut State, n: u32) -> Result<(), S
 }
 
 /// A local takes the top operand.
+#[inline(always)]
 pub(crate) fn take_local(linked: &Linked, s: &mut State, n: u32) -> Result<(), Stop>
     ghost out: { Outer }
     requires ready { IsReady 1 0 s.old.frames }

@@ -17,6 +17,7 @@ use abc_link::Linked;
 use abc_states::{State, Stop};
 
 /// `nop`, `throw`, `label`, and what changes the scopes.
+#[inline(always)]
 pub fn run_control(linked: &Linked, s: &mut State, op: u8) -> Result<(), Stop>
     ghost out: { Outer }
     requires run { CanRun linked.now out s.old (Plain op) }
@@ -36,6 +37,7 @@ pub fn run_control(linked: &Linked, s: &mut State, op: u8) -> Result<(), Stop>
 }
 
 /// What pushes a constant, and moves between operands.
+#[inline(always)]
 pub fn run_push(linked: &Linked, s: &mut State, op: u8) -> Result<(), Stop>
     ghost out: { Outer }
     requires run { CanRun linked.now out s.old (Plain op) }

@@ -16,6 +16,7 @@ use abc_plainarms::{as_type, coerce_to, count_local, is_type};
 use abc_states::{State, Stop, int_value, string_at, uint_value};
 
 /// What pushes a constant of a pool, and the locals that are named by a number.
+#[inline(always)]
 pub fn run_constant(linked: &Linked, s: &mut State, op: u8, n: u32) -> Result<(), Stop>
     ghost out: { Outer }
     requires run { CanRun linked.now out s.old (One op n) }

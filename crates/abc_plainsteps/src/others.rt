@@ -13,6 +13,7 @@ use abc_link::Linked;
 use abc_states::{State, Stop};
 
 /// A number of a byte, as a value.
+#[inline(always)]
 fn byte_value(n: i8) -> Value
     ensures { result ≡ Num n }
 {
@@ -27,6 +28,7 @@ fn short_value(n: i16) -> Value
 }
 
 /// `pushbyte`.
+#[inline(always)]
 pub fn run_byte(linked: &Linked, s: &mut State, n: i8) -> Result<(), Stop>
     ghost out: { Outer }
     requires { CanRun linked.now out s.old (Byte n) }

@@ -5,4 +5,4 @@ mod stepping;
 
 pub use abc_dispatch::run_newest;
 pub use abc_finishing::{Halt, finish, start_last};
-pub use stepping::step;
+pub use stepping::{step, step_on};

@@ -1,20 +1,120 @@
-ghost use Rattle.std.specs.Prelude.{◌≡◌, ◌≢◌, ◌≤◌, Err};
+ghost use Rattle.std.specs.Prelude.{◌≡◌, ◌≢◌, ◌<◌, ◌≤◌, ℕ, List, length, true, Err, Ok};
+ghost use Rattle.std.specs.declared.option.Option.{Option};
 ghost use Rattle.abc_base.specs.Faults.{Rose};
 ghost use Rattle.abc_callmeaning.specs.Calls.{returned};
 ghost use Rattle.abc_cells.specs.declared.values.Value.{Value};
+ghost use Rattle.abc_dispatch.specs.CallarmsCalls.{CanFinish};
 ghost use Rattle.abc_ends.specs.Ending.{IsSized};
-ghost use Rattle.abc_finishing.specs.Steps.{IsReached, StepsAs};
+ghost use Rattle.abc_entering.specs.Arguments.{IsKnown};
+ghost use Rattle.abc_finishing.specs.Fairly.{CanStart, IsFairTurn};
+ghost use Rattle.abc_finishing.specs.Steps.{IsReached, StepsAs, StepsIn, left_here};
 ghost use Rattle.abc_finishing.specs.declared.halting.Halt.TheVariants.{Fails, Returns};
 ghost use Rattle.abc_states.specs.Outer.{Outer, setting, world};
+ghost use Rattle.abc_states.specs.Turns.{answered};
+ghost use Rattle.abc_states.specs.declared.state.Left.TheVariants.{Goes};
 
 use abc_base::{Host, Sink};
 use abc_dispatch::run_newest;
 use abc_finishing::{Halt, finish, start_last};
 use abc_link::Linked;
-use abc_states::{Left, State};
+use abc_states::{Left, State, Stop};
+
+/// Whether the run goes on.
+fn goes_on(halted: &Result<(), Halt>) -> bool
+    ensures { result ≡ true → halted.now ≡ Ok tt }
+{
+    match halted {
+        Ok(()) => true,
+        Err(_) => false,
+    }
+}
+
+/// The last script is started, over no frame. It answers whether the run goes on; else `halted` says why not.
+#[inline(never)]
+fn start_over(linked: &Linked, s: &mut State, halted: &mut Result<(), Halt>) -> bool
+    ghost out: { Outer }
+    requires { CanStart linked.now out s.old }
+    ensures step { (before : Option (List ℕ)) → StepsAs linked.now out s.old halted.new s.new before before }
+    ensures ends { halted.new ≢ Err Fails }
+    ensures none { (v : Value) → halted.new ≢ Err (Returns v) }
+    ensures sized { IsSized (setting linked.now out) s.new.arena.limits s.new.frames }
+    ensures goes { result ≡ true → halted.new ≡ Ok tt }
+    ensures limit { s.new.given.limit ≡ s.old.given.limit }
+{
+    *halted = start_last(linked, s);
+    goes_on(halted)
+}
+
+/// What an instruction left to be done is done, and then nothing is left. It answers whether the run goes on; else `halted` says
+/// why not.
+#[inline(never)]
+fn finish_left<K: Sink, H: Host>(
+    linked: &Linked,
+    s: &mut State,
+    sink: &mut K,
+    host: &H,
+    left: &mut Result<Left, Stop>,
+    halted: &mut Result<(), Halt>,
+) -> bool
+    ghost out: { Outer }
+    requires known { IsKnown linked.now s.old.given.limit }
+    requires scripts { 0 < length linked.now.file.scripts }
+    requires host { out.formulas ≡ H.formulas host.now }
+    requires finishes { CanFinish linked.now left.old s.old }
+    requires fair { IsFairTurn (setting linked.now out) (answered (setting linked.now out) left.old (world s.old out) s.old.frames) }
+    ensures step { StepsIn (left_here linked.now out s.old left.old) out halted.new s.new (K.written sink.old) (K.written sink.new) }
+    ensures value { (v : Value) → halted.new ≡ Err (Returns v) → left.old ≡ Ok (Left.Returns v) }
+    ensures sized { halted.new ≢ Err Fails → IsSized (setting linked.now out) s.new.arena.limits s.new.frames }
+    ensures later { K.faults sink.old ≤ K.faults sink.new }
+    ensures cause { halted.new ≡ Err Fails → Rose (K.faults sink.old) (K.faults sink.new) }
+    ensures none { left.new ≡ Ok Goes }
+    ensures goes { result ≡ true → halted.new ≡ Ok tt }
+    ensures limit { s.new.given.limit ≡ s.old.given.limit }
+{
+    let what = *left;
+    *left = Ok(Left::Goes);
+    *halted = finish(linked, s, sink, host, what);
+    goes_on(halted)
+}
 
 /// One step: where no frame lives the last script is started, else the instruction of the newest frame is run. A line goes to the
-/// sink, and a formula is the host's. It answers `Returns` where the last frame returned, and what, `Ends` where the run ends
+/// sink, and a formula is the host's. It answers whether the run goes on. Else `halted` is `Returns` where the last frame returned,
+/// and what, `Ends` where the run ends otherwise, and why, and `Fails` where the sink failed, after a front of the line; then nothing
+/// is told of the state. Before the step, as after it, nothing is left to be done. (Most steps go on, and most instructions leave
+/// nothing: so that they copy no answer it is written where it is kept.)
+#[inline(always)]
+pub fn step_on<K: Sink, H: Host>(
+    linked: &Linked,
+    s: &mut State,
+    sink: &mut K,
+    host: &H,
+    left: &mut Result<Left, Stop>,
+    halted: &mut Result<(), Halt>,
+) -> bool
+    ghost out: { Outer }
+    requires reached { IsReached linked.now out s.old }
+    requires host { out.formulas ≡ H.formulas host.now }
+    requires none { left.old ≡ Ok Goes }
+    requires going { halted.old ≡ Ok tt }
+    ensures step { StepsAs linked.now out s.old halted.new s.new (K.written sink.old) (K.written sink.new) }
+    ensures value { (v : Value) → halted.new ≡ Err (Returns v) → returned (setting linked.now out) (world s.old out) s.old.frames.living ≡ v }
+    ensures sized { halted.new ≢ Err Fails → IsSized (setting linked.now out) s.new.arena.limits s.new.frames }
+    ensures later { K.faults sink.old ≤ K.faults sink.new }
+    ensures cause { halted.new ≡ Err Fails → Rose (K.faults sink.old) (K.faults sink.new) }
+    ensures none { left.new ≡ Ok Goes }
+    ensures goes { result ≡ true → halted.new ≡ Ok tt }
+    ensures limit { s.new.given.limit ≡ s.old.given.limit }
+{
+    if s.frames.depth() == 0 {
+        return start_over(linked, s, halted);
+    }
+    if run_newest(linked, s, left) {
+        return true;
+    }
+    finish_left(linked, s, sink, host, left, halted)
+}
+
+/// One step, as `step_on` takes it. It answers `Returns` where the last frame returned, and what, `Ends` where the run ends
 /// otherwise, and why, and `Fails` where the sink failed, after a front of the line; then nothing is told of the state.
 pub fn step<K: Sink, H: Host>(
     linked: &Linked,
@@ -32,13 +132,8 @@ pub fn step<K: Sink, H: Host>(
     ensures cause { result ≡ Err Fails → Rose (K.faults sink.old) (K.faults sink.new) }
     ensures limit { s.new.given.limit ≡ s.old.given.limit }
 {
-    if s.frames.depth() == 0 {
-        return start_last(linked, s);
-    }
     let mut left = Ok(Left::Goes);
-    // (most instructions leave nothing to be done)
-    if run_newest(linked, s, &mut left) {
-        return Ok(());
-    }
-    finish(linked, s, sink, host, left)
+    let mut halted = Ok(());
+    let _goes = step_on(linked, s, sink, host, &mut left, &mut halted);
+    halted
 }

@@ -1,4 +1,4 @@
 use Rattle.abc_machine.proofs.running.spend.Given as goal
 
-abbrev pub ghost-step : goal.ghost-step
-ghost-step g a = g.out
+abbrev pub ghost-step_on : goal.ghost-step_on
+ghost-step_on g a = g.out

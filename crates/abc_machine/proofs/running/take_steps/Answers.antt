@@ -8,7 +8,22 @@ use Rattle.abc_machine.proofs.Spending.{ended_on, went_on}
 use Rattle.abc_machine.proofs.running.take_steps.Goals as goal
 
 pub spend-requires : goal.spend-requires
-spend-requires g c = λ κs among. (among.0, (among.1, (c.loop-fuel.invariant.at.can, (c.requires.1.1.1.0, omega arith))))
+spend-requires g c = λ κs among. (among.0, (among.1, (c.loop-fuel.invariant.at.can, (c.requires.1.1.1.0, (omega arith, (c.loop-fuel.invariant.none, c.loop-fuel.invariant.going))))))
+
+pub loop-fuel-preserved-then-spend : goal.loop-fuel-preserved-then-spend
+loop-fuel-preserved-then-spend g c =
+    let sofar = c.loop-fuel.invariant.later in
+    let later = c.spend.ensures.later in
+    let had = c.loop-fuel.invariant.few in
+    let taken = c.spend.ensures.taken in
+    record {
+      at = went_on c.args.linked.now g.begun c.loop-fuel.s c.spend.new.s (g.K.Sink.written c.args.sink.now) (g.K.Sink.written c.loop-fuel.sink) (g.K.Sink.written c.spend.new.sink) c.loop-fuel.fuel c.spend.new.fuel (as_reply c.spend.new.halted) tt c.loop-fuel.invariant.at (ap as_reply (c.spend.ensures.goes c.if-spend.true)) c.spend.ensures.spends;
+      later = omega (arith, sofar, later);
+      few = omega (arith, had, taken);
+      limit = c.spend.ensures.limit ∙ c.loop-fuel.invariant.limit;
+      none = c.spend.ensures.none;
+      going = (c.spend.ensures.goes c.if-spend.true);
+    }
 
 pub loop-fuel-preserved : goal.loop-fuel-preserved
 loop-fuel-preserved g c =
@@ -17,15 +32,17 @@ loop-fuel-preserved g c =
     let had = c.loop-fuel.invariant.few in
     let taken = c.spend.ensures.taken in
     record {
-      at = went_on c.args.linked.now g.begun c.loop-fuel.s c.spend.new.s (g.K.Sink.written c.args.sink.now) (g.K.Sink.written c.loop-fuel.sink) (g.K.Sink.written c.spend.new.sink) c.loop-fuel.fuel c.spend.new.fuel (as_reply c.spend.result) c.in_default.field-0 c.loop-fuel.invariant.at (ap as_reply c.in_default.is) c.spend.ensures.spends;
+      at = went_on c.args.linked.now g.begun c.loop-fuel.s c.spend.new.s (g.K.Sink.written c.args.sink.now) (g.K.Sink.written c.loop-fuel.sink) (g.K.Sink.written c.spend.new.sink) c.loop-fuel.fuel c.spend.new.fuel (as_reply c.spend.new.halted) c.in_default.field-0 c.loop-fuel.invariant.at (ap as_reply c.in_default.is) c.spend.ensures.spends;
       later = omega (arith, sofar, later);
       few = omega (arith, had, taken);
       limit = c.spend.ensures.limit ∙ c.loop-fuel.invariant.limit;
+      none = c.spend.ensures.none;
+      going = c.in_default.is;
     }
 
 -- a step that ends
 pub returns-in-Err-clause-replies : goal.returns-in-Err-clause-replies
-returns-in-Err-clause-replies g c = (ended_on c.args.linked.now g.begun c.loop-fuel.s c.spend.new.s (g.K.Sink.written c.args.sink.now) (g.K.Sink.written c.loop-fuel.sink) (g.K.Sink.written c.spend.new.sink) c.args.fuel.now c.loop-fuel.fuel c.spend.new.fuel (as_reply c.spend.result) c.reply_for.result c.requires.1.1.1.1 c.loop-fuel.invariant.at (ap as_reply c.in-Err.is ∙ ap ended_so (sym c.reply_for.ensures)) c.spend.ensures.spends).answer
+returns-in-Err-clause-replies g c = (ended_on c.args.linked.now g.begun c.loop-fuel.s c.spend.new.s (g.K.Sink.written c.args.sink.now) (g.K.Sink.written c.loop-fuel.sink) (g.K.Sink.written c.spend.new.sink) c.args.fuel.now c.loop-fuel.fuel c.spend.new.fuel (as_reply c.spend.new.halted) c.reply_for.result c.requires.1.1.1.1 c.loop-fuel.invariant.at (ap as_reply c.in-Err.is ∙ ap ended_so (sym c.reply_for.ensures)) c.spend.ensures.spends).answer
 
 pub returns-in-Err-clause-cause : goal.returns-in-Err-clause-cause
 returns-in-Err-clause-cause g c =
@@ -33,16 +50,16 @@ returns-in-Err-clause-cause g c =
     let later = c.spend.ensures.later in
     record {
       later = omega (arith, sofar, later);
-      failed = λ e. rose_on (g.K.Sink.faults c.args.sink.now) (g.K.Sink.faults c.loop-fuel.sink) (g.K.Sink.faults c.spend.new.sink) sofar (c.spend.ensures.cause (failed_step c.spend.result c.in-Err.halt c.reply_for.result c.in-Err.is c.reply_for.ensures (ap ended_so e)));
+      failed = λ e. rose_on (g.K.Sink.faults c.args.sink.now) (g.K.Sink.faults c.loop-fuel.sink) (g.K.Sink.faults c.spend.new.sink) sofar (c.spend.ensures.cause (failed_step c.spend.new.halted c.in-Err.halt c.reply_for.result c.in-Err.is c.reply_for.ensures (ap ended_so e)));
     }
 
 pub returns-in-Err-clause-leaves : goal.returns-in-Err-clause-leaves
-returns-in-Err-clause-leaves g c = (ended_on c.args.linked.now g.begun c.loop-fuel.s c.spend.new.s (g.K.Sink.written c.args.sink.now) (g.K.Sink.written c.loop-fuel.sink) (g.K.Sink.written c.spend.new.sink) c.args.fuel.now c.loop-fuel.fuel c.spend.new.fuel (as_reply c.spend.result) c.reply_for.result c.requires.1.1.1.1 c.loop-fuel.invariant.at (ap as_reply c.in-Err.is ∙ ap ended_so (sym c.reply_for.ensures)) c.spend.ensures.spends).leaves
+returns-in-Err-clause-leaves g c = (ended_on c.args.linked.now g.begun c.loop-fuel.s c.spend.new.s (g.K.Sink.written c.args.sink.now) (g.K.Sink.written c.loop-fuel.sink) (g.K.Sink.written c.spend.new.sink) c.args.fuel.now c.loop-fuel.fuel c.spend.new.fuel (as_reply c.spend.new.halted) c.reply_for.result c.requires.1.1.1.1 c.loop-fuel.invariant.at (ap as_reply c.in-Err.is ∙ ap ended_so (sym c.reply_for.ensures)) c.spend.ensures.spends).leaves
 
 pub returns-in-Err-clause-steps : goal.returns-in-Err-clause-steps
 returns-in-Err-clause-steps g c = λ f.
     let taken = c.spend.ensures.taken in
-    counted_to c.args.linked.now g.begun c.loop-fuel.s c.spend.new.s (g.K.Sink.written c.args.sink.now) (g.K.Sink.written c.loop-fuel.sink) (g.K.Sink.written c.spend.new.sink) (g.K.Sink.written c.loop-fuel.sink) c.args.fuel.now c.loop-fuel.fuel c.spend.new.fuel (as_reply c.spend.result) c.reply_for.result c.requires.1.1.1.1 c.loop-fuel.invariant.at (ap as_reply c.in-Err.is ∙ ap ended_so (sym c.reply_for.ensures)) (omega (arith, taken)) c.spend.ensures.spends f
+    counted_to c.args.linked.now g.begun c.loop-fuel.s c.spend.new.s (g.K.Sink.written c.args.sink.now) (g.K.Sink.written c.loop-fuel.sink) (g.K.Sink.written c.spend.new.sink) (g.K.Sink.written c.loop-fuel.sink) c.args.fuel.now c.loop-fuel.fuel c.spend.new.fuel (as_reply c.spend.new.halted) c.reply_for.result c.requires.1.1.1.1 c.loop-fuel.invariant.at (ap as_reply c.in-Err.is ∙ ap ended_so (sym c.reply_for.ensures)) (omega (arith, taken)) c.spend.ensures.spends f
 
 -- no fuel is left
 pub returns-clause-replies : goal.returns-clause-replies

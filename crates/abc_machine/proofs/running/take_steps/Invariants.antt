@@ -1,6 +1,8 @@
 use Rattle.std.proofs.Common.{◌≡◌, ◌≤◌}
+use Rattle.std.specs.Prelude.{Ok}
 use Rattle.abc_machine.specs.Runs.{IsAt, outer}
 use Rattle.abc_machine.proofs.running.take_steps.Given as goal
+use Rattle.abc_states.specs.declared.state.Left.TheVariants.{Goes}
 
 abbrev pub ghost-spend : goal.ghost-spend
 ghost-spend g a = outer a.linked.now g.begun a.fuel.now
@@ -11,6 +13,8 @@ invariant-loop-fuel g l = record {
   later : g.K.Sink.faults l.initial.sink ≤ g.K.Sink.faults l.sink;
   few : l.fuel ≤ l.initial.fuel;
   limit : l.s.given.limit ≡ l.initial.s.given.limit;
+  none : l.left ≡ Ok Goes;
+  going : l.halted ≡ Ok tt;
 }
 
 abbrev pub decreases-loop-fuel : goal.decreases-loop-fuel

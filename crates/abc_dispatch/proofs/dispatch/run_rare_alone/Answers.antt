@@ -1,5 +1,5 @@
 use Rattle.abc_dispatch.proofs.Grouped.{alone_in, alone_is}
-use Rattle.abc_dispatch.proofs.dispatch.run_alone.Goals as goal
+use Rattle.abc_dispatch.proofs.dispatch.run_rare_alone.Goals as goal
 
 pub group_alone-requires : goal.group_alone-requires
 group_alone-requires g c = alone_in c.args.linked.now g.out c.args.s.now c.args.op c.requires.0

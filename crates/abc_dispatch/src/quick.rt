@@ -1,0 +1,244 @@
+ghost use Rattle.std.specs.Prelude.{◌≡◌, true, Ok};
+ghost use Rattle.abc_dispatch.specs.Groups.{first_order_ops, last_order_ops, to_number_ops};
+ghost use Rattle.abc_membersteps.specs.CallarmsCalls.{CanFinish};
+ghost use Rattle.abc_plainsteps.specs.Groups.{constant_ops, control_ops, convert_ops, double_ops, first_branch_ops, last_branch_ops};
+ghost use Rattle.abc_plainsteps.specs.Here.{act_here};
+ghost use Rattle.abc_plainsteps.specs.Ready.{CanRun};
+ghost use Rattle.abc_stacks.specs.Frame.{newest};
+ghost use Rattle.abc_states.specs.Outer.{Outer, setting};
+ghost use Rattle.abc_states.specs.Turns.{Leaves};
+ghost use Rattle.abc_states.specs.declared.state.Left.TheVariants.{Goes};
+ghost use Rattle.abc_tables.specs.Opcodes.{is_in};
+ghost use Rattle.abc_tables.specs.declared.code.Instr.TheVariants.{Branch, One, Plain};
+
+use crate::arms::{convert_arm, double_arm, first_branch_arm, goes, last_branch_arm};
+use abc_link::Linked;
+use abc_plainsteps::{
+    number_on_top, numbers_on_top, run_constant, run_control, run_convert, run_double,
+    run_first_branch, run_last_branch,
+};
+use abc_states::{Left, State, Stop};
+
+// (These stand in the dispatch itself, where the opcode is known. Most operands of operations are numbers: what else is made of others stands
+// in the function of the group.)
+
+/// An opcode that goes on, moves operands or drops a scope.
+#[inline(always)]
+pub(crate) fn control_here(
+    linked: &Linked,
+    s: &mut State,
+    op: u8,
+    left: &mut Result<Left, Stop>,
+) -> bool
+    ghost out: { Outer }
+    requires run { CanRun linked.now out s.old (Plain op) }
+    requires among { is_in op control_ops ≡ true }
+    requires none { left.old ≡ Ok Goes }
+    ensures leaves { Leaves linked.now out (act_here (setting linked.now out) (newest s.old.frames) (Plain op)) s.old left.new s.new }
+    ensures finishes { CanFinish linked.now left.new s.new }
+    ensures goes { result ≡ true → left.new ≡ Ok Goes }
+    ensures limit { s.new.given.limit ≡ s.old.given.limit }
+{
+    goes(run_control(linked, s, op), left)
+}
+
+/// A constant, or a local.
+#[inline(always)]
+pub(crate) fn constant_here(
+    linked: &Linked,
+    s: &mut State,
+    op: u8,
+    n: u32,
+    left: &mut Result<Left, Stop>,
+) -> bool
+    ghost out: { Outer }
+    requires run { CanRun linked.now out s.old (One op n) }
+    requires among { is_in op constant_ops ≡ true }
+    requires none { left.old ≡ Ok Goes }
+    ensures leaves { Leaves linked.now out (act_here (setting linked.now out) (newest s.old.frames) (One op n)) s.old left.new s.new }
+    ensures finishes { CanFinish linked.now left.new s.new }
+    ensures goes { result ≡ true → left.new ≡ Ok Goes }
+    ensures limit { s.new.given.limit ≡ s.old.given.limit }
+{
+    goes(run_constant(linked, s, op, n), left)
+}
+
+/// A conversion.
+#[inline(always)]
+pub(crate) fn convert_here(
+    linked: &Linked,
+    s: &mut State,
+    op: u8,
+    left: &mut Result<Left, Stop>,
+) -> bool
+    ghost out: { Outer }
+    requires run { CanRun linked.now out s.old (Plain op) }
+    requires among { is_in op convert_ops ≡ true }
+    requires none { left.old ≡ Ok Goes }
+    ensures leaves { Leaves linked.now out (act_here (setting linked.now out) (newest s.old.frames) (Plain op)) s.old left.new s.new }
+    ensures finishes { CanFinish linked.now left.new s.new }
+    ensures goes { result ≡ true → left.new ≡ Ok Goes }
+    ensures limit { s.new.given.limit ≡ s.old.given.limit }
+{
+    goes(run_convert(linked, s, op), left)
+}
+
+/// A conversion to a number.
+#[inline(always)]
+pub(crate) fn convert_quick(
+    linked: &Linked,
+    s: &mut State,
+    op: u8,
+    left: &mut Result<Left, Stop>,
+) -> bool
+    ghost out: { Outer }
+    requires run { CanRun linked.now out s.old (Plain op) }
+    requires among { is_in op to_number_ops ≡ true }
+    requires none { left.old ≡ Ok Goes }
+    ensures leaves { Leaves linked.now out (act_here (setting linked.now out) (newest s.old.frames) (Plain op)) s.old left.new s.new }
+    ensures finishes { CanFinish linked.now left.new s.new }
+    ensures goes { result ≡ true → left.new ≡ Ok Goes }
+    ensures limit { s.new.given.limit ≡ s.old.given.limit }
+{
+    if number_on_top(&s.frames) {
+        convert_here(linked, s, op, left)
+    } else {
+        convert_arm(linked, s, op, left)
+    }
+}
+
+/// An opcode that computes of two values.
+#[inline(always)]
+pub(crate) fn double_here(
+    linked: &Linked,
+    s: &mut State,
+    op: u8,
+    left: &mut Result<Left, Stop>,
+) -> bool
+    ghost out: { Outer }
+    requires run { CanRun linked.now out s.old (Plain op) }
+    requires among { is_in op double_ops ≡ true }
+    requires none { left.old ≡ Ok Goes }
+    ensures leaves { Leaves linked.now out (act_here (setting linked.now out) (newest s.old.frames) (Plain op)) s.old left.new s.new }
+    ensures finishes { CanFinish linked.now left.new s.new }
+    ensures goes { result ≡ true → left.new ≡ Ok Goes }
+    ensures limit { s.new.given.limit ≡ s.old.given.limit }
+{
+    goes(run_double(linked, s, op), left)
+}
+
+/// An opcode that computes of two values.
+#[inline(always)]
+pub(crate) fn double_quick(
+    linked: &Linked,
+    s: &mut State,
+    op: u8,
+    left: &mut Result<Left, Stop>,
+) -> bool
+    ghost out: { Outer }
+    requires run { CanRun linked.now out s.old (Plain op) }
+    requires among { is_in op double_ops ≡ true }
+    requires none { left.old ≡ Ok Goes }
+    ensures leaves { Leaves linked.now out (act_here (setting linked.now out) (newest s.old.frames) (Plain op)) s.old left.new s.new }
+    ensures finishes { CanFinish linked.now left.new s.new }
+    ensures goes { result ≡ true → left.new ≡ Ok Goes }
+    ensures limit { s.new.given.limit ≡ s.old.given.limit }
+{
+    if numbers_on_top(&s.frames) {
+        double_here(linked, s, op, left)
+    } else {
+        double_arm(linked, s, op, left)
+    }
+}
+
+/// A branch up to 0x12.
+#[inline(always)]
+pub(crate) fn first_branch_here(
+    linked: &Linked,
+    s: &mut State,
+    op: u8,
+    target: u32,
+    left: &mut Result<Left, Stop>,
+) -> bool
+    ghost out: { Outer }
+    requires run { CanRun linked.now out s.old (Branch op target) }
+    requires among { is_in op first_branch_ops ≡ true }
+    requires none { left.old ≡ Ok Goes }
+    ensures leaves { Leaves linked.now out (act_here (setting linked.now out) (newest s.old.frames) (Branch op target)) s.old left.new s.new }
+    ensures finishes { CanFinish linked.now left.new s.new }
+    ensures goes { result ≡ true → left.new ≡ Ok Goes }
+    ensures limit { s.new.given.limit ≡ s.old.given.limit }
+{
+    goes(run_first_branch(linked, s, op, target), left)
+}
+
+/// A branch by an order, up to 0x12.
+#[inline(always)]
+pub(crate) fn first_branch_quick(
+    linked: &Linked,
+    s: &mut State,
+    op: u8,
+    target: u32,
+    left: &mut Result<Left, Stop>,
+) -> bool
+    ghost out: { Outer }
+    requires run { CanRun linked.now out s.old (Branch op target) }
+    requires among { is_in op first_order_ops ≡ true }
+    requires none { left.old ≡ Ok Goes }
+    ensures leaves { Leaves linked.now out (act_here (setting linked.now out) (newest s.old.frames) (Branch op target)) s.old left.new s.new }
+    ensures finishes { CanFinish linked.now left.new s.new }
+    ensures goes { result ≡ true → left.new ≡ Ok Goes }
+    ensures limit { s.new.given.limit ≡ s.old.given.limit }
+{
+    if numbers_on_top(&s.frames) {
+        first_branch_here(linked, s, op, target, left)
+    } else {
+        first_branch_arm(linked, s, op, target, left)
+    }
+}
+
+/// A branch from 0x13 on.
+#[inline(always)]
+pub(crate) fn last_branch_here(
+    linked: &Linked,
+    s: &mut State,
+    op: u8,
+    target: u32,
+    left: &mut Result<Left, Stop>,
+) -> bool
+    ghost out: { Outer }
+    requires run { CanRun linked.now out s.old (Branch op target) }
+    requires among { is_in op last_branch_ops ≡ true }
+    requires none { left.old ≡ Ok Goes }
+    ensures leaves { Leaves linked.now out (act_here (setting linked.now out) (newest s.old.frames) (Branch op target)) s.old left.new s.new }
+    ensures finishes { CanFinish linked.now left.new s.new }
+    ensures goes { result ≡ true → left.new ≡ Ok Goes }
+    ensures limit { s.new.given.limit ≡ s.old.given.limit }
+{
+    goes(run_last_branch(linked, s, op, target), left)
+}
+
+/// A branch by an order, from 0x13 on.
+#[inline(always)]
+pub(crate) fn last_branch_quick(
+    linked: &Linked,
+    s: &mut State,
+    op: u8,
+    target: u32,
+    left: &mut Result<Left, Stop>,
+) -> bool
+    ghost out: { Outer }
+    requires run { CanRun linked.now out s.old (Branch op target) }
+    requires among { is_in op last_order_ops ≡ true }
+    requires none { left.old ≡ Ok Goes }
+    ensures leaves { Leaves linked.now out (act_here (setting linked.now out) (newest s.old.frames) (Branch op target)) s.old left.new s.new }
+    ensures finishes { CanFinish linked.now left.new s.new }
+    ensures goes { result ≡ true → left.new ≡ Ok Goes }
+    ensures limit { s.new.given.limit ≡ s.old.given.limit }
+{
+    if numbers_on_top(&s.frames) {
+        last_branch_here(linked, s, op, target, left)
+    } else {
+        last_branch_arm(linked, s, op, target, left)
+    }
+}
