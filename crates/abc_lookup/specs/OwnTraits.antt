@@ -1,5 +1,5 @@
 -- The own traits of a layout that have the text of a name, and the one that fits it whatever is passed over.
-use Rattle.std.specs.Prelude.{◌≡◌, ℕ, List, Bool, ⊥}
+use Rattle.std.specs.Prelude.{◌≡◌, ℕ, List, Bool}
 use Rattle.abc_base.specs.declared.names.HostClass.TheVariants as hosts
 use Rattle.abc_heap.specs.Heap.{Heap}
 use Rattle.abc_program.specs.Linked.{LinkedFile, base}
