@@ -12,6 +12,6 @@ returns c =
     let l = c.args.l.now in
     let x = c.args.x.0 in
     let t = c.index-own_table-place.result in
-    let d = c.qname_at.result in
-    let at = place_is l x c.args.place c.own_table.result.now t d c.own_table.ensures c.requires.place c.index-own_table-place.is (c.qname_at.ensures ∙ ap (λ (v : Abc). qname (name v t.name)) c.abc.ensures) in
+    let d = c.qname_at-space.result in
+    let at = place_is l x c.args.place c.own_table.result.now t d c.own_table.ensures c.requires.place c.index-own_table-place.is (c.qname_at-space.ensures ∙ ap (λ (v : Abc). qname (name v t.name)) c.abc.ensures) in
     given_just l c.args.name.now x d (members_in (slot_of l x c.args.place) t.body) (own_at l x c.args.place) c.member_at.result (c.has_just.ensures c.if-not-has_just.false) c.member_at.ensures at
