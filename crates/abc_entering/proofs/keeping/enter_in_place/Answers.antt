@@ -23,7 +23,7 @@ returns-in_err-try_enter-clause-runs g c =
     let e = err_from_is_err_and c.from_residual.result c.from_residual.ensures.1 in
     rw (e.1, e.2) (
     in_place_full c.args.linked.now g.out c.args.method c.args.signature.now c.args.this (placed c.args.at) c.args.count c.args.taken c.args.wait s.frames (world s g.out) c.requires.1.1.0 c.requires.1.1.1.0 c.requires.1.0 c.requires.1.1.1.1
-    c.entry_of-entry.result c.try_enter.new.frames c.in_err-try_enter.field-0 (c.entry_of-entry.ensures g.out) c.in_err-try_enter.ensures.room c.in_err-try_enter.ensures.err)
+    c.entry_of-entry.result c.try_enter.new.frames c.in_err-try_enter.field-0.0 (c.entry_of-entry.ensures g.out) c.in_err-try_enter.ensures.room c.in_err-try_enter.ensures.err)
 
 pub returns-clause-runs : goal.returns-clause-runs
 returns-clause-runs g c =
