@@ -6,3 +6,4 @@ pub mod Opened
 pub mod Operands
 pub mod Placed
 pub mod Putting
+pub mod Stayed

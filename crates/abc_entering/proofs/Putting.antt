@@ -1,11 +1,12 @@
 -- A method is put on top with its first locals, and with the array that it takes.
 use Rattle.std.proofs.Common.{◌≡◌, ℕ, ◌<◌, ◌≤◌, List, [], ◌∷◌, ◌++◌, Bool, true, false, nat_le, length, drop, refl, sym, ap, ◌∙◌, subst, arith}
-use Rattle.std.specs.Prelude.{None, Some, Ok, Err}
+use Rattle.std.specs.Prelude.{None, Some, Ok, Err, IsSome}
 use Rattle.std.specs.declared.option.Option.{Option}
 use Rattle.std.specs.declared.result.Result.{Result}
 use Rattle.std.proofs.lemmas.Bool.{leb-true}
 use Rattle.abc_cells.specs.declared.values.Value.{Value}
 use Rattle.abc_heap.specs.declared.records.Full.{Full}
+use Rattle.abc_program.specs.Owners.{body_of}
 use Rattle.abc_stacks.specs.Frame.{Frame, Frames, arguments as operands, begun, dropped, entered, newest, room_for, waiting}
 use Rattle.abc_stacks.specs.declared.records.Entry.{Entry}
 use Rattle.abc_stacks.specs.declared.records.Wait.{Wait}
@@ -16,12 +17,12 @@ use Rattle.abc_tables.specs.declared.methods.Method.{Method}
 use Rattle.abc_typing.specs.Routines.{Routine}
 use Rattle.abc_makers.specs.Entering.{extra, framed}
 use Rattle.abc_makers.specs.Objects.{Place}
-use Rattle.abc_makers.specs.Setting.{Setting, method_of, routine_of}
+use Rattle.abc_makers.specs.Setting.{Setting, method_of, routine_in, routine_of}
 use Rattle.abc_makers.specs.World.{Fills, Outcome, Run, Stop, Stopped, Went, World, and_then, done, must, some, ◌>>=◌, ◌>>◌}
 use Rattle.abc_makers.specs.At.{Above, Act, Goes}
 use Rattle.abc_entering.specs.Arguments.{receiver}
 use Rattle.abc_entering.specs.Entering.{above, entry_for, puts_on}
-use Rattle.abc_entering.proofs.Opened.{some_goes, some_is, then_is}
+use Rattle.abc_entering.proofs.Opened.{some_goes, some_is, some_open, then_is}
 
 -- ---- tests
 
@@ -68,6 +69,14 @@ putting p n at this vs count taken wait f m = framed p n m this at (operands cou
 framed_open : (p : Setting) (n : ℕ) (at : Place) (this : Value) (vs : List Value) (count taken : ℕ) (wait : Wait) (f : Frame) (m : Method) (w : World) → method_of p n ≡ Some m → IsOpen (puts_on p n at this vs count taken wait f w) → IsOpen (framed p n m this at (operands count f) vs w)
 framed_open p n at this vs count taken wait f m w e h =
     open_first (framed p n m this at (operands count f) vs w) (above taken wait f) (some_goes (method_of p n) m (putting p n at this vs count taken wait f) w e h)
+
+-- the method has a body
+pub body_there : (p : Setting) (n : ℕ) (at : Place) (this : Value) (vs : List Value) (count taken : ℕ) (wait : Wait) (f : Frame) (m : Method) (w : World) → method_of p n ≡ Some m → IsOpen (puts_on p n at this vs count taken wait f w) → IsSome (body_of p.linked.file n)
+body_there p n at this vs count taken wait f m w e h = go (body_of p.linked.file n) (some_open (routine_of p n) (framing p n m this at (operands count f) vs) w (framed_open p n at this vs count taken wait f m w e h))
+  where
+    go : (x : Option ℕ) → IsSome (routine_in p x) → IsSome x
+    go None g = g
+    go (Some b) g = refl
 
 pub puts_is : (p : Setting) (n : ℕ) (at : Place) (this : Value) (vs array : List Value) (count taken : ℕ) (wait : Wait) (f : Frame) (m : Method) (w after : World) → method_of p n ≡ Some m → extra p m (operands count f) w ≡ Went after array → IsOpen (puts_on p n at this vs count taken wait f w)
     → puts_on p n at this vs count taken wait f w ≡ Went after (Goes (Above (begun (entry_for p n at) (this ∷ vs ++ array)) (waiting wait (dropped taken f))))

@@ -8,6 +8,7 @@ ghost use Rattle.abc_entering.specs.Arguments.{IsKnown, Makes, makes_arguments, 
 ghost use Rattle.abc_entering.specs.Entering.{enters_above, enters_owned_above, placed, puts_on, starts_above};
 
 use crate::arguments::{array_of, coerce_arguments, give};
+use crate::keeping::{enter_in_place, is_in_place};
 use crate::methods::{entry_of, may_take, method_at};
 use crate::places::{global_of, place_of_owner};
 use abc_base::HostClass;
@@ -74,9 +75,9 @@ pub fn put_on(
     Ok(())
 }
 
-/// Enters a method with so many arguments, which are on top of the operands. So many operands leave the frame, which waits.
-#[inline(always)]
-pub fn enter(
+/// The same as `enter`, with the first locals made beside the frames.
+#[inline(never)]
+fn enter_prepared(
     linked: &Linked,
     s: &mut State,
     method: u32,
@@ -100,8 +101,38 @@ pub fn enter(
     put_on(linked, s, method, at, count, taken, wait)
 }
 
-/// Enters a method of an owner, where its owner keeps it.
+/// Enters a method with so many arguments, which are on top of the operands. So many operands leave the frame, which waits.
+/// Most often the first locals are operands as they stand.
 #[inline(always)]
+pub fn enter(
+    linked: &Linked,
+    s: &mut State,
+    method: u32,
+    this: Value,
+    at: Place,
+    count: u32,
+    taken: u32,
+    wait: Wait,
+) -> Result<(), Stop>
+    ghost out: { Outer }
+    requires set { IsSet linked.now s.old }
+    requires known { IsKnown linked.now s.old.given.limit }
+    requires live { 0 < length s.old.frames.living }
+    requires there { count ≤ length (newest s.old.frames).stack }
+    requires taken { taken ≤ length (newest s.old.frames).stack }
+    requires free { IsOpen (enters_above (setting linked.now out) method this (placed at) count taken wait (newest s.old.frames) (world s.old out)) }
+    ensures runs { Runs linked.now out (enters_above (setting linked.now out) method this (placed at) count taken wait (newest s.old.frames)) s.old result s.new }
+    ensures limit { s.new.given.limit ≡ s.old.given.limit }
+{
+    let signature = method_at(linked, method);
+    if is_in_place(linked, &s.frames, signature, this, count, taken) {
+        return enter_in_place(linked, s, signature, method, this, at, count, taken, wait);
+    }
+    enter_prepared(linked, s, method, this, at, count, taken, wait)
+}
+
+/// Enters a method of an owner, where its owner keeps it.
+#[inline(never)]
 pub fn enter_owned(
     linked: &Linked,
     s: &mut State,

@@ -4,6 +4,7 @@
 
 mod arguments;
 mod entering;
+mod keeping;
 mod methods;
 mod options;
 mod places;

@@ -29,7 +29,7 @@ pub fn method_at(linked: &Linked, method: u32) -> &Method
 }
 
 /// Whether a method takes an array.
-fn takes_array(flags: u8) -> bool
+pub(crate) fn takes_array(flags: u8) -> bool
     ensures { result ≡ takes_array_so flags }
 {
     has_flag(flags, ARGUMENTS) || has_flag(flags, REST)

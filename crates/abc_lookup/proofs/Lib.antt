@@ -10,3 +10,4 @@ pub mod ScriptsFirst
 pub mod NoTraits
 pub mod SameSpace
 pub mod WholeStrings
+pub mod OwnFirst

@@ -4,3 +4,4 @@ pub mod Named
 pub mod Scripts
 pub mod NoTraits
 pub mod WholeStrings
+pub mod OwnTraits

@@ -23,7 +23,7 @@ use abc_search::{Declared, Found, Member, TraitSpace};
 
 /// The place of a list that has only that one.
 #[inline(always)]
-fn only_of(places: &[u32]) -> Option<u32>
+pub(crate) fn only_of(places: &[u32]) -> Option<u32>
     ensures { MatchOption result (Unit {0}) (λ p. places.now ≡ p ∷ []) }
 {
     match places {

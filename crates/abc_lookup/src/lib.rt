@@ -1,6 +1,7 @@
 //! What a name finds: among the declared traits of a layout, on a value, and in scopes. No search takes memory.
 #![tactic(auto)]
 
+mod at_once;
 mod declared;
 mod elements;
 mod numbers;

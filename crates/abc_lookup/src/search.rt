@@ -8,6 +8,7 @@ ghost use Rattle.abc_program.specs.Linked.{IsLayout};
 ghost use Rattle.abc_search.specs.Scopes.{scope_named};
 ghost use Rattle.abc_search.specs.Searches.{declared_found, found_in_scopes, found_on};
 
+use crate::at_once::first_of_traits;
 use crate::numbers::number_of;
 use crate::place::Place;
 use crate::plain::{find_first, has_no_traits};
@@ -92,6 +93,21 @@ fn find_on_any(l: &Linked, a: &Arena, holder: Value, name: &Name, want: Want) ->
     query.find_on(holder)
 }
 
+/// The same as `find_on`, on an object of whose own nothing is found at once: most often a trait of its layout is.
+#[inline(never)]
+fn find_by_traits(l: &Linked, a: &Arena, o: ObjId, name: &Name, want: Want) -> Found
+    requires over { StandsOver l.now a.now }
+    requires holder { IsObject a.now o }
+    requires name { IsText l.now.file.strings a.now name.now.text }
+    ensures { result ≡ found_on l.now a.now (Obj o) name.now want }
+{
+    let first = first_of_traits(l, a, o, name);
+    if first.is_hit() {
+        return first;
+    }
+    find_on_any(l, a, Value::Obj(o), name, want)
+}
+
 /// The same as `find_on`, on an object.
 #[inline(always)]
 fn find_on_object(l: &Linked, a: &Arena, o: ObjId, name: &Name, want: Want) -> Found
@@ -104,7 +120,7 @@ fn find_on_object(l: &Linked, a: &Arena, o: ObjId, name: &Name, want: Want) -> F
     if first.is_hit() {
         return first;
     }
-    find_on_any(l, a, Value::Obj(o), name, want)
+    find_by_traits(l, a, o, name, want)
 }
 
 /// The search for a name on a value that is not null or undefined: among the declared traits, and then, where the name

@@ -2,11 +2,7 @@ use Rattle.std.proofs.Common.{ap, List, ℕ, ◌∙◌}
 use Rattle.std.specs.Str.{bytes_eq}
 use Rattle.abc_index.specs.Index.{first}
 use Rattle.abc_index.specs.Texts.{texts_of}
-use Rattle.abc_lookup.proofs.WholeStrings.{whole_string}
 use Rattle.abc_lookup.proofs.numbers.number_of.Goals as goal
 
-pub returns-then-is_whole_string : goal.returns-then-is_whole_string
-returns-then-is_whole_string c =
-    let pool = c.args.l.now.file.strings in
-    let is = whole_string pool c.args.a.now c.args.span (c.is_whole_string.ensures c.if-is_whole_string.true) in
-    ap (λ (t : List ℕ). first (bytes_eq t) (texts_of pool)) (c.requires ∙ is) ∙ c.string_number.ensures
+pub returns-in-Some : goal.returns-in-Some
+returns-in-Some c = ap (λ (t : List ℕ). first (bytes_eq t) (texts_of c.args.l.now.file.strings)) c.requires ∙ c.in-Some.ensures c.args.a.now

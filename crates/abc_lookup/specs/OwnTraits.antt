@@ -1,0 +1,26 @@
+-- The own traits of a layout that have the text of a name, and the one that fits it whatever is passed over.
+use Rattle.std.specs.Prelude.{◌≡◌, ℕ, List, Bool}
+use Rattle.abc_base.specs.declared.names.HostClass.TheVariants as hosts
+use Rattle.abc_heap.specs.Heap.{Heap}
+use Rattle.abc_program.specs.Linked.{LinkedFile, base}
+use Rattle.abc_program.specs.Traits.{own_table_of}
+use Rattle.abc_program.specs.declared.part.Part.{Part}
+use Rattle.abc_program.specs.declared.part.Part.TheVariants as parts
+use Rattle.abc_search.specs.Candidates.{text_in}
+use Rattle.abc_search.specs.Traits.{Trait, slots_under, traits_from}
+use Rattle.abc_search.specs.declared.found.Skip.{Skip}
+use Rattle.abc_search.specs.declared.name.Name.{Name}
+use Rattle.abc_search.specs.declared.traits.Member.{Member}
+use Rattle.abc_lookup.specs.Steps.{gives, member_found, with_text}
+
+abbrev pub own_named : LinkedFile → Heap → ℕ → Name → List Trait
+own_named l h x n = with_text (text_in l h n.text) (traits_from l (slots_under l (base l x)) (own_table_of l x))
+
+-- some traits of a layout give a name this member, unless it is passed over
+abbrev pub Gives : LinkedFile → Name → ℕ → List Trait → Member → Type 0
+Gives l n x ts m = (s : Skip) (held : Bool) → member_found l s m ≡ gives l n s x held ts
+
+-- all traits of a layout of such a part stand in its table
+pub record HasTable (part : Part) : Type 0 where
+  pub no_class : part ≡ parts.Host hosts.Class → ⊥
+  pub no_catch : (b e : ℕ) → part ≡ parts.Catch b e → ⊥
