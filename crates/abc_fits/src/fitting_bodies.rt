@@ -78,6 +78,7 @@ fn rises(rise: bool, least: u64, method: u64) -> bool
 }
 
 /// What one walk tells of bodies, if some bytes spell each, whatever the others are.
+#[tactic(auto, using(crate::proofs::Walking::one_unfit))]
 pub fn walk(bodies: &[Body], sizes: &Sizes) -> Option<Walked>
     ensures { MatchOption result (All (FitsBody sizes.now) bodies.now → ⊥) (λ w. All (FitsBody sizes.now) bodies.now × (w.len ≡ min (sum_by body_len bodies.now) (2 ^ 64 - 1)) × (IsTrue w.rise → AllPairs Rise bodies.now)) }
 {
@@ -86,10 +87,9 @@ pub fn walk(bodies: &[Body], sizes: &Sizes) -> Option<Walked>
     for body in bodies {
         let more = len_of_body(body, sizes)?;
         let method = body.method as u64;
-        walked = Walked {
-            len: walked.len.saturating_add(more),
-            rise: rises(walked.rise, least, method),
-        };
+        let len = walked.len.saturating_add(more);
+        let rise = rises(walked.rise, least, method);
+        walked = Walked { len, rise };
         least = method + 1;
     }
     Some(walked)

@@ -1,5 +1,6 @@
 use Rattle.std.proofs.Common.{arith, subst}
 use Rattle.std.specs.Prelude.{AllPairs}
+use Rattle.abc_fits.specs.Distinct.{Rise}
 use Rattle.abc_fits.proofs.BodiesFit.{bodies_in}
 use Rattle.abc_fits.proofs.FileFits.{total_len, whole_fits}
 use Rattle.abc_fits.proofs.fitting.fit_rest.Goals as goal
@@ -19,8 +20,8 @@ returns-then-saturating_add-gt-LONGEST c =
       λ f. absurd (omega (arith, (whole.0 f).0, total, c.if-saturating_add-gt-LONGEST.true)),
     )
 
-pub fit_bodies-requires-rise : goal.fit_bodies-requires-rise
-fit_bodies-requires-rise c = λ rise. subst (AllPairs _) c.as_slice.ensures (c.in-Some.ensures.1.1 rise)
+pub fit_bodies-requires-clause-rise : goal.fit_bodies-requires-clause-rise
+fit_bodies-requires-clause-rise c = λ rise. subst (AllPairs Rise) c.as_slice.ensures (c.in-Some.ensures.1.1 rise)
 
 pub returns : goal.returns
 returns c =

@@ -2,7 +2,7 @@ use Rattle.std.proofs.Common.{◌≤◌, length, arith}
 use Rattle.abc_fits.specs.Fitting.{FitsBody}
 use Rattle.abc_fits.specs.Lengths.{body_len}
 use Rattle.abc_fits.proofs.Rising.{all_risen, later_at, none_risen}
-use Rattle.abc_fits.proofs.Walks.{all_so_far, none_so_far, one_more}
+use Rattle.abc_fits.proofs.Walking.{all_so_far, none_so_far, one_more}
 use Rattle.abc_fits.proofs.fitting_bodies.walk.Goals as goal
 
 pub loop-body-init : goal.loop-body-init
@@ -10,10 +10,10 @@ loop-body-init c = (none_so_far (FitsBody c.args.sizes.now) body_len c.args.bodi
 
 pub loop-body-preserved : goal.loop-body-preserved
 loop-body-preserved c = (
-  rw c.saturating_add.ensures
-  (one_more (FitsBody c.args.sizes.now) body_len c.args.bodies.now c.loop-body.body-index c.loop-body.walked.len c.in_ok-more.more c.body-item.result c.loop-body-test.true c.body-item.is c.loop-body.invariant.0 c.in_ok-more.ensures.0 c.in_ok-more.ensures.1),
+  rw c.saturating_add-len.ensures
+      (one_more (FitsBody c.args.sizes.now) body_len c.args.bodies.now c.loop-body.body-index c.loop-body.walked.len c.in_ok-more.more c.body-item.result c.loop-body-test.true c.body-item.is c.loop-body.invariant.0 c.in_ok-more.ensures.0 c.in_ok-more.ensures.1),
   λ rise.
-      let r = c.rises.ensures rise in
+      let r = c.rises-rise.ensures rise in
       later_at c.loop-body.least c.args.bodies.now c.loop-body.body-index c.body-item.result c.loop-body-test.true c.body-item.is (c.loop-body.invariant.1 r.0) r.1,
 )
 

@@ -3,7 +3,7 @@ use Rattle.std.specs.Prelude.{IsTrue}
 use Rattle.abc_fits.specs.Fitting.{FitsBody}
 use Rattle.abc_fits.specs.Lengths.{body_len}
 use Rattle.abc_fits.proofs.Rising.{Risen}
-use Rattle.abc_fits.proofs.Walks.{SoFar}
+use Rattle.abc_fits.proofs.Walking.{SoFar}
 use Rattle.abc_fits.proofs.fitting_bodies.walk.Given as goal
 
 abbrev pub invariant-loop-body : goal.invariant-loop-body

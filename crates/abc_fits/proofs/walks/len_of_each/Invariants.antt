@@ -1,5 +1,5 @@
 use Rattle.std.proofs.Common.{take}
-use Rattle.abc_fits.proofs.Walks.{SoFar}
+use Rattle.abc_fits.proofs.Walking.{SoFar}
 use Rattle.abc_fits.proofs.walks.len_of_each.Given as goal
 
 abbrev pub invariant-loop-item : goal.invariant-loop-item
