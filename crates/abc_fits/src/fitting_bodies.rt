@@ -78,7 +78,6 @@ fn rises(rise: bool, least: u64, method: u64) -> bool
 }
 
 /// What one walk tells of bodies, if some bytes spell each, whatever the others are.
-#[tactic(auto, using(crate::proofs::Walking::one_unfit))]
 pub fn walk(bodies: &[Body], sizes: &Sizes) -> Option<Walked>
     ensures { MatchOption result (All (FitsBody sizes.now) bodies.now → ⊥) (λ w. All (FitsBody sizes.now) bodies.now × (w.len ≡ min (sum_by body_len bodies.now) (2 ^ 64 - 1)) × (IsTrue w.rise → AllPairs Rise bodies.now)) }
 {

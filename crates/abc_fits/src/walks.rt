@@ -31,7 +31,6 @@ fn len_of_one<T: Fitting>(item: &T, sizes: &Sizes) -> Option<u64>
 }
 
 /// The same for all values, one after the other, in one walk.
-#[tactic(auto, using(crate::proofs::Walking::none_so_far, crate::proofs::Walking::one_unfit))]
 pub fn len_of_each<T: Fitting>(items: &Table<T>, sizes: &Sizes) -> Option<u64>
     ensures { MatchOption result (All (T.fits sizes.now) items.now → ⊥) (λ n. All (T.fits sizes.now) items.now × (n ≡ min (sum_by T.len items.now) (2 ^ 64 - 1))) }
 {

@@ -2,11 +2,16 @@ use Rattle.std.proofs.Common.{◌≤◌, length, arith}
 use Rattle.abc_fits.specs.Fitting.{FitsBody}
 use Rattle.abc_fits.specs.Lengths.{body_len}
 use Rattle.abc_fits.proofs.Rising.{all_risen, later_at, none_risen}
-use Rattle.abc_fits.proofs.Walking.{all_so_far, none_so_far, one_more}
+use Rattle.abc_fits.proofs.Walking.{all_so_far, none_so_far, one_more, one_unfit}
 use Rattle.abc_fits.proofs.fitting_bodies.walk.Goals as goal
 
 pub loop-body-init : goal.loop-body-init
 loop-body-init c = (none_so_far (FitsBody c.args.sizes.now) body_len c.args.bodies.now, λ rise. none_risen c.args.bodies.now)
+
+pub returns-in_err-more : goal.returns-in_err-more
+returns-in_err-more c =
+    rw c.from_residual.ensures (λ all.
+    one_unfit (FitsBody c.args.sizes.now) c.args.bodies.now c.loop-body.body-index c.body-item.result c.loop-body-test.true c.body-item.is c.in_err-more.ensures all)
 
 pub loop-body-preserved : goal.loop-body-preserved
 loop-body-preserved c = (
