@@ -1,11 +1,10 @@
 -- Which bodies some bytes spell.
-use Rattle.std.proofs.Common.{◌≡◌, ◌≢◌, ℕ, ◌+◌, ◌-◌, ◌^◌, ◌<◌, ◌≤◌, min, take, Bool, true, false, List, [], ◌∷◌, ◌++◌, length, get_or, map, refl, sym, ap, subst, ◌∙◌, append_assoc, arith}
+use Rattle.std.proofs.Common.{◌≡◌, ◌≢◌, ℕ, ◌+◌, ◌-◌, ◌^◌, ◌<◌, ◌≤◌, Bool, true, false, List, [], ◌∷◌, ◌++◌, length, get_or, map, refl, sym, ap, subst, ◌∙◌, append_assoc, arith}
 use Rattle.std.specs.Prelude.{◌↔◌, All, AllPairs, nat_eq, not}
-use Rattle.std.specs.List.{list_any, sum_by}
+use Rattle.std.specs.List.{list_any}
 use Rattle.std.proofs.lemmas.Bool.Decides.{nat_tests}
-use Rattle.std.proofs.lemmas.List.{append-nil, get_or-map, length-map, map-append, take_all, take_more}
-use Rattle.std.proofs.lemmas.List.Sums.{sum_by_more}
-use Rattle.std.proofs.lemmas.List.Elements.{All-cons, All-head, All-map, All-nil, All-push, All-tail}
+use Rattle.std.proofs.lemmas.List.{append-nil, get_or-map, length-map, map-append}
+use Rattle.std.proofs.lemmas.List.Elements.{All-cons, All-head, All-map, All-nil, All-tail}
 use Rattle.std.proofs.lemmas.List.Folds.{list_any_at, list_any_none}
 use Rattle.std.proofs.lemmas.List.Quantifiers.{all_pairs_push}
 use Rattle.std.proofs.lemmas.Simd.{map-map}
@@ -25,7 +24,6 @@ use Rattle.abc_tables.proofs.BodiesReady.{code_count, handler_within}
 use Rattle.abc_tables.proofs.BodiesShortest.{canonical_rising, code_again, code_ready, place_spelled}
 use Rattle.abc_tables.proofs.Lengths.{canonical_count, canonical_small}
 use Rattle.abc_fits.specs.Distinct.{Differ}
-use Rattle.abc_fits.specs.Lengths.{body_len}
 use Rattle.abc_fits.specs.Fitting.{FitBodies, FitTraits, FitsBody, HasNames, HasSizes, IsNumber, IsPoolIndex, IsPosition, Spelled}
 use Rattle.abc_fits.proofs.Combined.{counted_spelled, number_fits, position_fits}
 use Rattle.abc_fits.proofs.Chains.{Follow, chain_spelled, chained, pairs_before, pairs_map}
