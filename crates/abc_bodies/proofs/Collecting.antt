@@ -1,5 +1,5 @@
 -- Bodies are read one after the other, with a flag for each method that has one.
-use Rattle.std.proofs.Common.{◌≡◌, ℕ, zero, suc, ◌+◌, ◌-◌, ◌<◌, Bool, true, false, List, [], ◌∷◌, ◌++◌, length, get_or, set, Ok, Err, None, Some, refl, sym, ap, subst, ◌∙◌, length-append, length-set, arith}
+use Rattle.std.proofs.Common.{◌≡◌, ℕ, zero, suc, ◌+◌, ◌-◌, ◌<◌, Bool, true, false, List, [], ◌∷◌, ◌++◌, length, map, get_or, set, Ok, Err, None, Some, refl, sym, ap, subst, ◌∙◌, length-append, length-set, arith}
 use Rattle.std.specs.Prelude.{replicate, slice_get}
 use Rattle.std.specs.declared.option.Option.{Option}
 use Rattle.std.proofs.lemmas.List.{length-replicate, map-append}
@@ -15,10 +15,10 @@ use Rattle.abc_tables.specs.Sizes.{capped}
 use Rattle.abc_varint.specs.declared.error.ReadError.{ReadError}
 use Rattle.abc_varint.specs.View.{View}
 use Rattle.abc_varint.specs.Reads.{Reads}
-use Rattle.abc_traits.proofs.Alike.{Alike, alike_sym, image-alike, image_image}
+use Rattle.abc_traits.proofs.Alike.{Alike, alike_sym, alike_trans, image-alike, image_image}
 use Rattle.abc_traits.proofs.Filling.{reads_alike, reads_image}
-use Rattle.abc_bodies.specs.Places.{ArePlaces}
-use Rattle.abc_bodies.specs.Reading.{free_body, halves}
+use Rattle.abc_bodies.specs.Places.{ArePlaces, KeepPlaces}
+use Rattle.abc_bodies.specs.Reading.{free_body, halves, keeping}
 use Rattle.abc_bodies.proofs.Alike.{IsFlagged, body_list-capped, flags_up, free_body-alike, no_flags}
 use Rattle.abc_bodies.proofs.Chaining.{Chaining, chain_begins, chain_done, chain_fails, chain_goes_on}
 
@@ -35,7 +35,7 @@ paired-push [] (t ∷ ss) b s e = absurd (omega arith)
 paired-push (c ∷ bs) [] b s e = absurd (omega arith)
 paired-push (c ∷ bs) (t ∷ ss) b s e = ap (λ (l : List (Body × List ℕ)). (c, t) ∷ l) (paired-push bs ss b s (omega arith))
 
-paired-halves : (bs : List Body) (ss : List (List ℕ)) → length bs ≡ length ss → halves (paired bs ss) ≡ (bs, ss)
+paired-halves : (bs : List Body) (ss : List (List ℕ)) → length bs ≡ length ss → halves (λ (starts : List (List ℕ)). starts) (paired bs ss) ≡ (bs, ss)
 paired-halves [] [] e = refl
 paired-halves [] (t ∷ ss) e = absurd (omega arith)
 paired-halves (b ∷ bs) [] e = absurd (omega arith)
@@ -100,37 +100,80 @@ module _ (v : Sizes) (total : ℕ) (w0 : View) (s0 : Option (List ℕ)) where
         placed = place_more bs ss x.0 x.1 many g.placed;
       }
 
-  pub fails : (e : ReadError) (more : ℕ) (flags : List Bool) (bs : List Body) (ss : List (List ℕ)) (w : View) (s : Option (List ℕ)) (w2 : View) (s2 : Option (List ℕ))
-      → 0 < more → Collecting v total more flags bs ss w0 s0 w s → Reads (free_body v flags).reads w s w2 s2 (Err e) → Reads (image halves (chain total (next_body v) [])).reads w0 s0 w2 s2 (Err e)
-  fails e more flags bs ss w s w2 s2 lt g r =
+  pub fails : {K : Type 0} (of_places : List (List ℕ) → K) (e : ReadError) (more : ℕ) (flags : List Bool) (bs : List Body) (ss : List (List ℕ)) (w : View) (s : Option (List ℕ)) (w2 : View) (s2 : Option (List ℕ))
+      → 0 < more → Collecting v total more flags bs ss w0 s0 w s → Reads (free_body v flags).reads w s w2 s2 (Err e) → Reads (image (halves of_places) (chain total (next_body v) [])).reads w0 s0 w2 s2 (Err e)
+  fails of_places e more flags bs ss w s w2 s2 lt g r =
       let read = reads_alike _ _ (exact flags bs ss g.flagged g.count) w s w2 s2 (Err e) r in
-      reads_image halves (chain total (next_body v) []) w0 s0 w2 s2 (Err e) (chain_fails (next_body v) e total more (paired bs ss) w0 s0 w s w2 s2 lt g.chained read)
+      reads_image (halves of_places) (chain total (next_body v) []) w0 s0 w2 s2 (Err e) (chain_fails (next_body v) e total more (paired bs ss) w0 s0 w s w2 s2 lt g.chained read)
 
-  pub collected : (more : ℕ) (flags : List Bool) (bs : List Body) (ss : List (List ℕ)) (w : View) (s : Option (List ℕ))
-      → more ≡ 0 → w0.kept ≡ None → Collecting v total more flags bs ss w0 s0 w s → Reads (image halves (chain total (next_body v) [])).reads w0 s0 w s (Ok (bs, ss))
-  collected more flags bs ss w s k fresh g =
-      subst (λ (x : List Body × List (List ℕ)). Reads (image halves (chain total (next_body v) [])).reads w0 s0 w s (Ok x)) (paired-halves bs ss (sym g.placed.count))
-      (reads_image halves (chain total (next_body v) []) w0 s0 w s (Ok (paired bs ss)) (chain_done (next_body v) total more (paired bs ss) w0 s0 w s k fresh g.chained))
+  pub collected : {K : Type 0} (of_places : List (List ℕ) → K) (more : ℕ) (flags : List Bool) (bs : List Body) (ss : List (List ℕ)) (w : View) (s : Option (List ℕ))
+      → more ≡ 0 → w0.kept ≡ None → Collecting v total more flags bs ss w0 s0 w s → Reads (image (halves of_places) (chain total (next_body v) [])).reads w0 s0 w s (Ok (bs, of_places ss))
+  collected of_places more flags bs ss w s k fresh g =
+      subst (λ (x : List Body × List (List ℕ)). Reads (image (halves of_places) (chain total (next_body v) [])).reads w0 s0 w s (Ok (x.0, of_places x.1))) (paired-halves bs ss (sym g.placed.count))
+      (reads_image (halves of_places) (chain total (next_body v) []) w0 s0 w s (Ok (paired bs ss)) (chain_done (next_body v) total more (paired bs ss) w0 s0 w s k fresh g.chained))
+
+-- ---- the same, where this is kept of the starts
+
+pub record Gathering {K : Type 0} (of_places : List (List ℕ) → K) (v : Sizes) (total more : ℕ) (flags : List Bool) (bs : List Body) (kept : K) (w0 : View) (s0 : Option (List ℕ)) (w : View) (s : Option (List ℕ)) : Type 0 where
+  pub starts : List (List ℕ)
+  pub is : kept ≡ of_places starts
+  pub collecting : Collecting v total more flags bs starts w0 s0 w s
+
+pub gathering_begins : {K : Type 0} (of_places : List (List ℕ) → K) (v : Sizes) (total : ℕ) (w0 : View) (s0 : Option (List ℕ)) (flags : List Bool) (bs : List Body) (kept : K)
+    → flags ≡ replicate v.methods false → bs ≡ [] → kept ≡ of_places [] → w0.kept ≡ None → Gathering of_places v total (total - 0) flags bs kept w0 s0 w0 s0
+gathering_begins of_places v total w0 s0 flags bs kept is empty none fresh = record {
+  starts = [];
+  is = none;
+  collecting = subst (λ (l : List Body). Collecting v total (total - 0) flags l [] w0 s0 w0 s0) (sym empty) (begins v total w0 s0 flags is fresh);
+}
+
+pub gathers : {K : Type 0} (of_places : List (List ℕ) → K) (v : Sizes) (total : ℕ) (w0 : View) (s0 : Option (List ℕ)) (more less : ℕ) (flags : List Bool) (bs : List Body) (kept kept2 : K) (w : View) (s : Option (List ℕ)) (w2 : View) (s2 : Option (List ℕ)) (b : Body) (row : List ℕ)
+    → more ≡ suc less → Gathering of_places v total more flags bs kept w0 s0 w s → Reads (free_body v flags).reads w s w2 s2 (Ok (b, row)) → slice_get flags b.method ≡ Some false → length row ≡ length b.code + 1
+    → ((places : List (List ℕ)) → kept ≡ of_places places → kept2 ≡ of_places (places ++ row ∷ [])) → Gathering of_places v total less (set flags b.method true) (bs ++ b ∷ []) kept2 w0 s0 w2 s2
+gathers of_places v total w0 s0 more less flags bs kept kept2 w s w2 s2 b row k g r free many next = record {
+  starts = g.starts ++ row ∷ [];
+  is = next g.starts g.is;
+  collecting = collects v total w0 s0 more less flags bs g.starts w s w2 s2 (b, row) k g.collecting r free many;
+}
+
+pub gathering_fails : {K : Type 0} (of_places : List (List ℕ) → K) (v : Sizes) (total : ℕ) (w0 : View) (s0 : Option (List ℕ)) (e : ReadError) (more : ℕ) (flags : List Bool) (bs : List Body) (kept : K) (w : View) (s : Option (List ℕ)) (w2 : View) (s2 : Option (List ℕ))
+    → 0 < more → Gathering of_places v total more flags bs kept w0 s0 w s → Reads (free_body v flags).reads w s w2 s2 (Err e) → Reads (image (halves of_places) (chain total (next_body v) [])).reads w0 s0 w2 s2 (Err e)
+gathering_fails of_places v total w0 s0 e more flags bs kept w s w2 s2 lt g r = fails v total w0 s0 of_places e more flags bs g.starts w s w2 s2 lt g.collecting r
+
+pub gathered : {K : Type 0} (of_places : List (List ℕ) → K) (v : Sizes) (total : ℕ) (w0 : View) (s0 : Option (List ℕ)) (more : ℕ) (flags : List Bool) (bs : List Body) (kept : K) (w : View) (s : Option (List ℕ))
+    → more ≡ 0 → w0.kept ≡ None → Gathering of_places v total more flags bs kept w0 s0 w s → Reads (image (halves of_places) (chain total (next_body v) [])).reads w0 s0 w s (Ok (bs, kept))
+gathered {K = K} of_places v total w0 s0 more flags bs kept w s k fresh g =
+    subst (λ (x : K). Reads (image (halves of_places) (chain total (next_body v) [])).reads w0 s0 w s (Ok (bs, x))) (sym g.is)
+    (collected v total w0 s0 of_places more flags bs g.starts w s k fresh g.collecting)
+
+pub gathered_places : {K : Type 0} (of_places : List (List ℕ) → K) (v : Sizes) (total more : ℕ) (flags : List Bool) (bs : List Body) (kept : K) (w0 : View) (s0 : Option (List ℕ)) (w : View) (s : Option (List ℕ))
+    → Gathering of_places v total more flags bs kept w0 s0 w s → KeepPlaces of_places bs kept
+gathered_places of_places v total more flags bs kept w0 s0 w s g = record { places = g.starts; is = g.is; each = g.collecting.placed }
 
 -- ---- an Abc is filled with the bodies that were read beside its other tables
 
-abbrev pub with_bodies : Abc → List Body × List (List ℕ) → Abc × List (List ℕ)
+abbrev pub with_bodies : {K : Type 0} → Abc → List Body × K → Abc × K
 with_bodies abc x = (record abc { bodies = x.0 }, x.1)
 
-bodies_alike : (abc : Abc) → Alike (image (with_bodies abc) (image halves (body_list (sizes_of abc)))) (bodies abc)
+bodies_alike : {K : Type 0} (of_places : List (List ℕ) → K) (abc : Abc) → Alike (image (with_bodies abc) (image (halves of_places) (body_list (sizes_of abc)))) (image (keeping of_places) (bodies abc))
 unfolding bodies
-bodies_alike abc = image_image _ _ _
+bodies_alike of_places abc =
+    let list = body_list (sizes_of abc) in
+    let placed : List (Body × List ℕ) → Abc × List (List ℕ) = λ (xs : List (Body × List ℕ)). (record abc { bodies = map (λ x. x.0) xs }, map (λ x. x.1) xs) in
+    let whole = image (λ (xs : List (Body × List ℕ)). keeping of_places (placed xs)) list in
+    alike_trans (image (with_bodies abc) (image (halves of_places) list)) whole (image (keeping of_places) (image placed list)) (image_image (with_bodies abc) (halves of_places) list)
+    (alike_sym (image (keeping of_places) (image placed list)) whole (image_image (keeping of_places) placed list))
 
 module _ (abc : Abc) (v : Sizes) (same : v ≡ capped (sizes_of abc)) (w : View) (s : Option (List ℕ)) (w2 : View) (s2 : Option (List ℕ)) where
-  all_alike : Alike (image halves (body_list v)) (image halves (body_list (sizes_of abc)))
-  all_alike = image-alike _ _ _ (rw same (alike_sym _ _ (body_list-capped (sizes_of abc))))
+  all_alike : {K : Type 0} (of_places : List (List ℕ) → K) → Alike (image (halves of_places) (body_list v)) (image (halves of_places) (body_list (sizes_of abc)))
+  all_alike of_places = image-alike _ _ _ (rw same (alike_sym _ _ (body_list-capped (sizes_of abc))))
 
-  pub fills_ok : (x : List Body × List (List ℕ)) → Reads (image halves (body_list v)).reads w s w2 s2 (Ok x) → Reads (bodies abc).reads w s w2 s2 (Ok (with_bodies abc x))
-  fills_ok x r =
-      reads_alike _ _ (bodies_alike abc) w s w2 s2 (Ok (with_bodies abc x))
-      (reads_image (with_bodies abc) (image halves (body_list (sizes_of abc))) w s w2 s2 (Ok x) (reads_alike _ _ all_alike w s w2 s2 (Ok x) r))
+  pub fills_ok : {K : Type 0} (of_places : List (List ℕ) → K) (x : List Body × K) → Reads (image (halves of_places) (body_list v)).reads w s w2 s2 (Ok x) → Reads (image (keeping of_places) (bodies abc)).reads w s w2 s2 (Ok (with_bodies abc x))
+  fills_ok of_places x r =
+      reads_alike _ _ (bodies_alike of_places abc) w s w2 s2 (Ok (with_bodies abc x))
+      (reads_image (with_bodies abc) (image (halves of_places) (body_list (sizes_of abc))) w s w2 s2 (Ok x) (reads_alike _ _ (all_alike of_places) w s w2 s2 (Ok x) r))
 
-  pub fills_err : (e : ReadError) → Reads (image halves (body_list v)).reads w s w2 s2 (Err e) → Reads (bodies abc).reads w s w2 s2 (Err e)
-  fills_err e r =
-      reads_alike _ _ (bodies_alike abc) w s w2 s2 (Err e)
-      (reads_image (with_bodies abc) (image halves (body_list (sizes_of abc))) w s w2 s2 (Err e) (reads_alike _ _ all_alike w s w2 s2 (Err e) r))
+  pub fills_err : {K : Type 0} (of_places : List (List ℕ) → K) (e : ReadError) → Reads (image (halves of_places) (body_list v)).reads w s w2 s2 (Err e) → Reads (image (keeping of_places) (bodies abc)).reads w s w2 s2 (Err e)
+  fills_err of_places e r =
+      reads_alike _ _ (bodies_alike of_places abc) w s w2 s2 (Err e)
+      (reads_image (with_bodies abc) (image (halves of_places) (body_list (sizes_of abc))) w s w2 s2 (Err e) (reads_alike _ _ (all_alike of_places) w s w2 s2 (Err e) r))

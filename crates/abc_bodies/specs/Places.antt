@@ -6,3 +6,9 @@ use Rattle.abc_tables.specs.declared.code.Body.{Body}
 pub record ArePlaces (bodies : List Body) (places : List (List ℕ)) : Type 0 where
   pub count : length places ≡ length bodies
   pub each : (i : ℕ) (b : Body) → slice_get bodies i ≡ Some b → length (get_or places i []) ≡ length b.code + 1
+
+-- It is what is kept of such places.
+pub record KeepPlaces {K : Type 0} (of_places : List (List ℕ) → K) (bodies : List Body) (kept : K) : Type 0 where
+  pub places : List (List ℕ)
+  pub is : kept ≡ of_places places
+  pub each : ArePlaces bodies places

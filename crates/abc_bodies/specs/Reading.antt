@@ -27,18 +27,22 @@ free_method v flags = checked (is_free flags) reasons.SecondBody (index_below v.
 unfoldable pub free_body : Sizes → List Bool → Part (Body × List ℕ)
 free_body v flags = body_with v (free_method v flags)
 
--- the bodies, and the starts of each body's instructions
-abbrev pub halves : List (Body × List ℕ) → List Body × List (List ℕ)
-halves xs = (map (λ x. x.0) xs, map (λ x. x.1) xs)
+-- the bodies, and what is kept of the starts of each body's instructions
+abbrev pub halves : {K : Type 0} → (List (List ℕ) → K) → List (Body × List ℕ) → List Body × K
+halves of_places xs = (map (λ x. x.0) xs, of_places (map (λ x. x.1) xs))
+
+-- the value, and what is kept of those starts
+abbrev pub keeping : {A K : Type 0} → (List (List ℕ) → K) → A × List (List ℕ) → A × K
+keeping of_places x = (x.0, of_places x.1)
 
 -- the result of a reader that gives a body, and leaves the starts of its instructions in its reading
 abbrev pub with_starts : {E : Type 0} → Result Body E → List ℕ → Result (Body × List ℕ) E
 with_starts (Ok body) starts = Ok (body, starts)
 with_starts (Err e) starts = Err e
 
--- the result of a reader that leaves the bodies in place, and gives the starts of their instructions
-abbrev pub with_places : {E : Type 0} → Result (List (List ℕ)) E → Abc → Result (Abc × List (List ℕ)) E
-with_places (Ok starts) abc = Ok (abc, starts)
+-- the result of a reader that leaves the bodies in place, and gives what is kept of the starts of their instructions
+abbrev pub with_places : {K E : Type 0} → Result K E → Abc → Result (Abc × K) E
+with_places (Ok kept) abc = Ok (abc, kept)
 with_places (Err e) abc = Err e
 
 -- what follows the sizes of a body: code, exceptions and traits

@@ -14,6 +14,6 @@ pub use abc_instr::Reading;
 pub use body::read_body;
 pub use laws::bodies_law;
 pub use pass::pass_bodies;
-pub use places::Places;
+pub use places::{Keeping, NoPlaces, Places};
 pub use put::put_bodies;
 pub use read::{flags_down, read_bodies};

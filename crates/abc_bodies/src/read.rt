@@ -1,6 +1,6 @@
 ghost use Rattle.std.specs.Prelude.{◌≡◌, ◌≤◌, ◌<◌, ◌^◌, [], All, None, Some, Err, false, IfOk, OnErr, OnOk, length, replicate};
-ghost use Rattle.abc_bodies.specs.Places.{ArePlaces};
-ghost use Rattle.abc_bodies.specs.Reading.{halves, with_places};
+ghost use Rattle.abc_bodies.specs.Places.{KeepPlaces};
+ghost use Rattle.abc_bodies.specs.Reading.{halves, keeping, with_places};
 ghost use Rattle.abc_format.specs.Lists.{chain};
 ghost use Rattle.abc_format.specs.Part.{image};
 ghost use Rattle.abc_tables.specs.Bodies.{bodies, body, body_list, methods_of, IsReadyBody};
@@ -8,7 +8,7 @@ ghost use Rattle.abc_varint.specs.Answers.{Answers};
 ghost use Rattle.abc_varint.specs.Reads.{Reads, ReadsPart};
 
 use crate::body::read_body;
-use crate::places::Places;
+use crate::places::Keeping;
 use abc_base::{NoMemory, Source, Table};
 use abc_instr::Reading;
 use abc_tables::{Abc, Body, Sizes, sizes_of};
@@ -26,52 +26,52 @@ pub fn flags_down(alloc: Global, count: u32) -> Result<Table<bool>, NoMemory>
     Ok(flags)
 }
 
-/// So many bodies, each of another method.
-fn read_each_body<S: Source>(
+/// So many bodies, each of another method, and what is kept of their places.
+fn read_each_body<S: Source, K: Keeping>(
     alloc: Global,
     w: &mut Window,
     source: &mut S,
     sizes: &Sizes,
     count: u32,
-) -> Result<(Table<Body>, Places), ReadError>
+) -> Result<(Table<Body>, K), ReadError>
     requires fresh { w.old.kept ≡ None }
     requires end { w.old.end ≡ 2 ^ 25 }
-    ensures value { ReadsPart S.left S.faults (image halves (chain count (λ before. body sizes.now (methods_of before)) [])) w.old source.old w.new source.new result }
-    ensures places { IfOk result (λ x. ArePlaces x.0 x.1) }
+    ensures value { ReadsPart S.left S.faults (image (halves K.of_places) (chain count (λ before. body sizes.now (methods_of before)) [])) w.old source.old w.new source.new result }
+    ensures places { IfOk result (λ x. KeepPlaces K.of_places x.0 x.1) }
     ensures ready { IfOk result (λ x. All IsReadyBody x.0) }
 {
     let mut has_body = flags_down(alloc, sizes.methods)?;
     let mut bodies = Table::new(alloc);
-    let mut places = Places::new(alloc);
+    let mut places = K::none(alloc);
     let mut reading = Reading::new(alloc);
     for _ in 0..count {
         let body = read_body(alloc, w, source, sizes, &has_body, &mut reading)?;
         has_body.set(body.method as usize, true);
         bodies.push(body)?;
-        places.push(reading.starts.as_slice())?;
+        places.keep(reading.starts.as_slice())?;
     }
     Ok((bodies, places))
 }
 
 /// A count and that many bodies, over tables of these sizes.
 #[tactic(auto, unfolding(abc_tables::specs::Bodies::body_list))]
-fn read_all<S: Source>(
+fn read_all<S: Source, K: Keeping>(
     alloc: Global,
     w: &mut Window,
     source: &mut S,
     sizes: &Sizes,
-) -> Result<(Table<Body>, Places), ReadError>
+) -> Result<(Table<Body>, K), ReadError>
     requires { w.old.end ≡ 2 ^ 25 }
-    ensures value { ReadsPart S.left S.faults (image halves (body_list sizes.now)) w.old source.old w.new source.new result }
-    ensures places { IfOk result (λ x. ArePlaces x.0 x.1) }
+    ensures value { ReadsPart S.left S.faults (image (halves K.of_places) (body_list sizes.now)) w.old source.old w.new source.new result }
+    ensures places { IfOk result (λ x. KeepPlaces K.of_places x.0 x.1) }
     ensures ready { IfOk result (λ x. All IsReadyBody x.0) }
 {
     let count = read_u30(w, source)?;
     read_each_body(alloc, w, source, sizes, count)
 }
 
-/// Reads method bodies beside the other tables of an Abc, whose bodies they replace, and gives where their instructions
-/// began. After any Err the Abc is as it was.
+/// Reads method bodies beside the other tables of an Abc, whose bodies they replace, and gives what is kept of where their
+/// instructions began. After any Err the Abc is as it was.
 ///
 /// The bytes are refused at a number or a byte as by `read_u30` and `read_u8`, code as by `read_code`, and traits as by
 /// `read_definitions`. A body's method is refused by `Index` where there is no such method, and then by `SecondBody` where
@@ -80,19 +80,19 @@ fn read_all<S: Source>(
 /// once its code is read, before the count of its exceptions. The window does not keep `SecondBody`. `ReadFault` comes
 /// only where the source's count of faults rose, and `NoMemory` where memory ran out. No memory is reserved for bodies
 /// that have not come. What was read can be put.
-pub fn read_bodies<S: Source>(
+pub fn read_bodies<S: Source, K: Keeping>(
     alloc: Global,
     w: &mut Window,
     source: &mut S,
     abc: &mut Abc,
-) -> Result<Places, ReadError>
+) -> Result<K, ReadError>
     // The window has no end.
     requires { w.old.end ≡ 2 ^ 25 }
-    ensures value { ReadsPart S.left S.faults (bodies abc.old) w.old source.old w.new source.new (with_places result abc.new) }
-    ensures places { IfOk result (ArePlaces (abc.new).bodies) }
+    ensures value { ReadsPart S.left S.faults (image (keeping K.of_places) (bodies abc.old)) w.old source.old w.new source.new (with_places result abc.new) }
+    ensures places { IfOk result (KeepPlaces K.of_places (abc.new).bodies) }
     ensures ready { OnOk result (All IsReadyBody (abc.new).bodies) }
     ensures err { OnErr result (abc.new ≡ abc.old) }
-    ensures answers { Answers (bodies abc.old) w.old (S.left source.old) w.new (S.left source.new) (with_places result abc.new) }
+    ensures answers { Answers (image (keeping K.of_places) (bodies abc.old)) w.old (S.left source.old) w.new (S.left source.new) (with_places result abc.new) }
 {
     let _ = w.place();
     let sizes = sizes_of(abc);

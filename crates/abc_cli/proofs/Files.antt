@@ -1,13 +1,13 @@
 -- What is answered of a file that was read.
-use Rattle.std.proofs.Common.{◌≡◌, List, ℕ, Ok, Err, refl, ap}
+use Rattle.std.proofs.Common.{◌≡◌, List, ℕ, refl, ap}
 use Rattle.std.specs.declared.option.Option.{Option}
 use Rattle.abc_base.specs.declared.status.Status.TheVariants as status
 use Rattle.abc_format.specs.Part.{Refusal, refusal}
 use Rattle.abc_varint.specs.declared.error.ReadError.{ReadError}
 use Rattle.abc_varint.specs.declared.error.ReadError.TheVariants as errors
-use Rattle.abc_file.specs.Reading.{AnswersFile, IsFaultOf, IsUsedUp, IsWrittenOf, OfInput, Refuses, Writes}
+use Rattle.abc_file.specs.Reading.{IsFaultOf, IsUsedUp, IsWrittenOf, OfInput, Refuses, Writes}
 use Rattle.abc_tables.specs.declared.tables.Abc.{Abc}
-use Rattle.abc_tables.specs.Files.{IsBadFile, IsFileRead, file_bytes}
+use Rattle.abc_tables.specs.Files.{IsBadFile, IsFile, IsFileRead, file_bytes}
 use Rattle.abc_tables.proofs.Whole.{read_spelled}
 use Rattle.abc_tidy.specs.declared.error.TidyError.{TidyError}
 use Rattle.abc_tidy.specs.declared.error.TidyError.TheVariants as tidying
@@ -52,30 +52,15 @@ read_stops Outcome Answers on source (errors.Refused place reason) f cause = rec
 read_stops Outcome Answers on source errors.ReadFault f cause = record { outcome = λ d. absurd d; cause = λ h. cause refl }
 read_stops Outcome Answers on source errors.NoMemory f cause = memory_stops Outcome source
 
-fault_read : (e : ReadError) (b : List ℕ) → AnswersFile b (Err e) → Refuses e b
-fault_read (errors.Refused place reason) b x = x
-fault_read errors.ReadFault b x = tt
-fault_read errors.NoMemory b x = tt
+-- what a file that was read alone is answered with
+alone_answered : (Answers : Abc → Answer → Type 0) (left : Option (List ℕ)) (v : Abc) (a : Answer) → OfInput left (IsFile v) → Answers v a → On (OfFile Answers) left a
+alone_answered Answers left v a f x = of_any (IsFile v) (λ input. OfFile Answers input a) left (λ b r. OfFile.accepted v r x) f
 
--- the same where the file itself was to be read
-pub file_stops : (Outcome : List ℕ → Answer → Type 0) (Answers : Abc → List (List ℕ) → Answer → Type 0) → IsOnFile Outcome Answers → (source : Channel) (e : ReadError) → OfInput source.before (λ b. AnswersFile b (Err e))
-    → (e ≡ errors.ReadFault → HasFailed source) → Stops Outcome source (stop_of_read e)
-file_stops Outcome Answers on source e f cause = read_stops Outcome Answers on source e (of_any (λ b. AnswersFile b (Err e)) (Refuses e) source.before (fault_read e) f) cause
+pub alone_gives : (Answers : Abc → Answer → Type 0) (source : Channel) (v : Abc) (bytes : List ℕ) → OfInput source.before (IsFile v) → IsUsedUp source.before source.after → Answers v (given bytes) → Gives (OfFile Answers) source bytes
+alone_gives Answers source v bytes f used x = record { outcome = alone_answered Answers source.before v (given bytes) f x; used_up = used }
 
--- what a file that was read is answered with
-pub file_answered : (Outcome : List ℕ → Answer → Type 0) (Answers : Abc → List (List ℕ) → Answer → Type 0) → IsOnFile Outcome Answers → (left : Option (List ℕ)) (v : Abc) (starts : List (List ℕ)) (a : Answer)
-    → OfInput left (λ b. AnswersFile b (Ok (v, starts))) → Answers v starts a → On Outcome left a
-file_answered Outcome Answers on left v starts a f x =
-    of_any (λ b. AnswersFile b (Ok (v, starts))) (λ input. Outcome input a) left (λ b r. on.accepted v starts b a r x) f
-
-pub file_gives : (Outcome : List ℕ → Answer → Type 0) (Answers : Abc → List (List ℕ) → Answer → Type 0) → IsOnFile Outcome Answers → (source : Channel) (v : Abc) (starts : List (List ℕ)) (bytes : List ℕ)
-    → OfInput source.before (λ b. AnswersFile b (Ok (v, starts))) → IsUsedUp source.before source.after → Answers v starts (given bytes) → Gives Outcome source bytes
-file_gives Outcome Answers on source v starts bytes f used x = record { outcome = file_answered Outcome Answers on source.before v starts (given bytes) f x; used_up = used }
-
-pub file_stops_at : (Outcome : List ℕ → Answer → Type 0) (Answers : Abc → List (List ℕ) → Answer → Type 0) → IsOnFile Outcome Answers → (source : Channel) (v : Abc) (starts : List (List ℕ)) (stop : Stop)
-    → OfInput source.before (λ b. AnswersFile b (Ok (v, starts))) → StopsAt (Answers v starts) stop → Stops Outcome source stop
-file_stops_at Outcome Answers on source v starts stop f x =
-    record { outcome = λ d. file_answered Outcome Answers on source.before v starts (stop_answer stop) f (x.answer d); cause = λ e. absurd (x.read e) }
+pub alone_stops_at : (Answers : Abc → Answer → Type 0) (source : Channel) (v : Abc) (stop : Stop) → OfInput source.before (IsFile v) → StopsAt (Answers v) stop → Stops (OfFile Answers) source stop
+alone_stops_at Answers source v stop f x = record { outcome = λ d. alone_answered Answers source.before v (stop_answer stop) f (x.answer d); cause = λ e. absurd (x.read e) }
 
 pub memory_stops_at : (Answers : Answer → Type 0) → StopsAt Answers stops.NoMemory
 memory_stops_at Answers = record { answer = λ d. absurd d; read = λ e. absurd cc }

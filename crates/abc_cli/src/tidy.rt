@@ -6,7 +6,7 @@ ghost use Rattle.abc_answers.specs.Stops.{Gives, Stops, StopsAt};
 
 use abc_answers::Stop;
 use abc_base::Source;
-use abc_file::{read, write};
+use abc_file::{read_alone, write};
 use abc_tables::Abc;
 use abc_tidy::tidy_owned;
 use std::alloc::Global;
@@ -30,7 +30,7 @@ pub fn tidy<S: Source>(alloc: Global, source: &mut S) -> Result<Vec<u8>, Stop>
     ensures gives { IfOk result (λ bytes. Gives (OfFile Tidy) (stream S.left S.faults source.old source.new) bytes.items) }
     ensures stops { IfErr result (λ stop. Stops (OfFile Tidy) (stream S.left S.faults source.old source.new) stop) }
 {
-    let (abc, _) = read(alloc, source)?;
+    let abc = read_alone(alloc, source)?;
     let bytes = tidied(alloc, abc)?;
     Ok(bytes)
 }

@@ -1,19 +1,23 @@
 -- What reading the parts of a file, and then asking for more, says of the whole input.
 use Rattle.std.proofs.Common.{◌≡◌, inl, inr, ℕ, List, ◌++◌, ◌∷◌, length, length-append, arith, Ok, Err, None, Some, [], drop, refl, subst, sym, ap, ◌∙◌}
-use Rattle.std.specs.Prelude.{◌≢◌}
+use Rattle.std.specs.Prelude.{◌≢◌, IfOk}
 use Rattle.std.proofs.Math.Seq.{take-append_seam}
 use Rattle.std.specs.declared.option.Option.{Option}
+use Rattle.std.specs.declared.result.Result.{Result}
 use Rattle.abc_format.specs.declared.reason.Reason.TheVariants as reasons
-use Rattle.abc_format.specs.Part.{At, at, Begins, refusal}
+use Rattle.abc_format.specs.Part.{At, at, Begins, image, refusal}
 use Rattle.abc_varint.specs.declared.error.ReadError.{ReadError}
 use Rattle.abc_varint.specs.declared.error.ReadError.TheVariants as errors
 use Rattle.abc_varint.specs.View.{View}
 use Rattle.abc_varint.specs.Reads.{Fails, IsInput, Reads, known, stand, told}
 use Rattle.abc_varint.proofs.Inputs.{known_is}
 use Rattle.abc_tables.specs.declared.tables.Abc.{Abc}
-use Rattle.abc_tables.specs.Files.{file_read, Fits, IsBadFile}
+use Rattle.abc_tables.specs.Files.{file_read, Fits, IsBadFile, IsFile, IsFileRead}
 use Rattle.abc_tables.proofs.Whole.{file_read-exact, read_bad, read_begins, read_spelled, whole_begins}
-use Rattle.abc_file.specs.Reading.{AnswersFile, IsEnd, IsNew, IsTrailing, IsUsedUp, OfInput, Refuses}
+use Rattle.abc_bodies.specs.Places.{ArePlaces, KeepPlaces}
+use Rattle.abc_bodies.specs.Reading.{keeping}
+use Rattle.abc_bodies.proofs.Moving.{Mapped, mapped, unmapped}
+use Rattle.abc_file.specs.Reading.{AnswersFile, AnswersKept, IsEnd, IsNew, IsTrailing, IsUsedUp, OfInput, Refuses}
 
 -- ---- the input of a new window
 
@@ -49,32 +53,53 @@ trails w2 input v place reason here is b some =
     let bad : IsBadFile input (refusal w2.place reasons.Trailing) = inr (v.0, stand w2 input, read_begins (at 0 input) v (stand w2 input) b, some, refl) in
     rw (here, is) bad
 
--- ---- the whole
+-- ---- the whole, with what is kept of the places
+
+unkept : {K : Type 0} (of_places : List (List ℕ) → K) (e : ReadError) (from : At) → Fails e ((image (keeping of_places) file_read).reads from) → Fails e (file_read.reads from)
+unkept of_places (errors.Refused place reason) from f = unmapped (keeping of_places) (file_read.reads from) (refusal place reason) f
+unkept of_places errors.ReadFault from f = tt
+unkept of_places errors.NoMemory from f = tt
+
+pub all_refused : {K : Type 0} (of_places : List (List ℕ) → K) (w w2 : View) (s s2 : Option (List ℕ)) (e : ReadError) → IsNew w → Reads (image (keeping of_places) file_read).reads w s w2 s2 (Err e) → OfInput s (λ b. AnswersKept of_places b (Err e))
+all_refused of_places w w2 s s2 e n r = let f = r n.kept in part_refused w s (known w2 s2) e n (f.0, unkept of_places e (stand w (known w2 s2)) f.1)
+
+module _ {K : Type 0} (of_places : List (List ℕ) → K) (w w2 w3 : View) (s s2 s3 : Option (List ℕ)) (x : Abc × K) (n : IsNew w) (r : Reads (image (keeping of_places) file_read).reads w s w2 s2 (Ok x)) where
+  found : (input : List ℕ) → IsInput w2 s2 input → IsInput w s input × Mapped (keeping of_places) (file_read.reads (stand w input)) x (stand w2 input)
+  found input is = let h = r.4 input is in (h.0, mapped (keeping of_places) (file_read.reads (stand w input)) x (stand w2 input) h.1)
+
+  pub all_read : IsEnd w2 s2 w3 s3 → OfInput s (λ b. AnswersKept of_places b (Ok x))
+  all_read end =
+      let input = known w3 s3 in
+      let h = found input end.input in
+      let v = h.1.value in
+      of_input (λ b. AnswersKept of_places b (Ok x)) w s input n h.0 (v, whole_begins file_read v input (stand w2 input) (begun w input v (stand w2 input) n h.1.read) end.none, h.1.is)
+
+  pub more_follows : (e : ReadError) → IsTrailing w2 s2 w3 s3 e → OfInput s (λ b. AnswersKept of_places b (Err e))
+  more_follows (errors.Refused place reason) t =
+      let input = known w3 s3 in
+      let h = found input t.2 in
+      of_input (λ b. AnswersKept of_places b (Err (errors.Refused place reason))) w s input n h.0 (trails w2 input h.1.value place reason t.0 t.1 (begun w input h.1.value (stand w2 input) n h.1.read) t.3)
+  more_follows errors.ReadFault t = of_any (λ b. AnswersKept of_places b (Err errors.ReadFault)) s (λ b. tt)
+  more_follows errors.NoMemory t = absurd t
+
+-- ---- where the places themselves are kept
 
 answers_err : (b : List ℕ) (e : ReadError) → Refuses e b → AnswersFile b (Err e)
 answers_err b (errors.Refused place reason) f = f
 answers_err b errors.ReadFault f = tt
 answers_err b errors.NoMemory f = tt
 
-pub of_answers : (s : Option (List ℕ)) (e : ReadError) → OfInput s (Refuses e) → OfInput s (λ b. AnswersFile b (Err e))
-of_answers None e f = (f.0, answers_err f.0 e f.1)
-of_answers (Some b) e f = answers_err b e f
+one_placed : (b : List ℕ) (r : Result (Abc × List (List ℕ)) ReadError) → AnswersKept (λ (places : List (List ℕ)). places) b r → AnswersFile b r
+one_placed b (Ok x) a = subst (λ (y : Abc × List (List ℕ)). IsFileRead y b) (sym a.2) a.1
+one_placed b (Err e) a = answers_err b e a
 
-pub all_refused : (w w2 : View) (s s2 : Option (List ℕ)) (e : ReadError) → IsNew w → Reads file_read.reads w s w2 s2 (Err e) → OfInput s (λ b. AnswersFile b (Err e))
-all_refused w w2 s s2 e n r = of_answers s e (part_refused w s (known w2 s2) e n (r n.kept))
+pub answers_placed : (s : Option (List ℕ)) (r : Result (Abc × List (List ℕ)) ReadError) → OfInput s (λ b. AnswersKept (λ (places : List (List ℕ)). places) b r) → OfInput s (λ b. AnswersFile b r)
+answers_placed None r a = (a.0, one_placed a.0 r a.1)
+answers_placed (Some b) r a = one_placed b r a
 
-module _ (w w2 w3 : View) (s s2 s3 : Option (List ℕ)) (v : Abc × List (List ℕ)) (n : IsNew w) (r : Reads file_read.reads w s w2 s2 (Ok v)) where
-  pub all_read : IsEnd w2 s2 w3 s3 → OfInput s (λ b. AnswersFile b (Ok v))
-  all_read end =
-      let h = r.4 (known w3 s3) end.input in
-      of_input (λ b. AnswersFile b (Ok v)) w s (known w3 s3) n h.0 (whole_begins file_read v (known w3 s3) (stand w2 (known w3 s3)) (begun w (known w3 s3) v (stand w2 (known w3 s3)) n h.1) end.none)
-
-  pub more_follows : (e : ReadError) → IsTrailing w2 s2 w3 s3 e → OfInput s (λ b. AnswersFile b (Err e))
-  more_follows (errors.Refused place reason) t =
-      let input = known w3 s3 in let h = r.4 input t.2 in
-      of_input (λ b. AnswersFile b (Err (errors.Refused place reason))) w s input n h.0 (trails w2 input v place reason t.0 t.1 (begun w input v (stand w2 input) n h.1) t.3)
-  more_follows errors.ReadFault t = of_any (λ b. AnswersFile b (Err errors.ReadFault)) s (λ b. tt)
-  more_follows errors.NoMemory t = absurd t
+pub places_kept : (r : Result (Abc × List (List ℕ)) ReadError) → IfOk r (λ x. KeepPlaces (λ (places : List (List ℕ)). places) x.0.bodies x.1) → IfOk r (λ x. ArePlaces x.0.bodies x.1)
+places_kept (Ok x) p = subst (ArePlaces x.0.bodies) (sym p.is) p.each
+places_kept (Err e) p = tt
 
 -- ---- nothing of the input is left
 
@@ -99,6 +124,15 @@ used_up_first w w2 (Some b) s2 s3 same used = let t = tells_still w w2 b s2 same
 
 -- ---- the value
 
-pub some_fits : (s : Option (List ℕ)) (v : Abc × List (List ℕ)) → OfInput s (λ b. AnswersFile b (Ok v)) → Fits v.0
-some_fits None v a = (a.0, (read_spelled v a.0 a.1.0, a.1.1))
-some_fits (Some b) v a = (b, (read_spelled v b a.0, a.1))
+value_read : {K : Type 0} (of_places : List (List ℕ) → K) (b : List ℕ) (x : Abc × K) → AnswersKept of_places b (Ok x) → IsFile x.0 b
+value_read {K = K} of_places b x a =
+    let same : x.0 ≡ a.0.0 = ap (λ (y : Abc × K). y.0) a.2 in
+    subst (λ (v : Abc). IsFile v b) (sym same) (read_spelled a.0 b a.1.0, a.1.1)
+
+pub file_alone : {K : Type 0} (of_places : List (List ℕ) → K) (s : Option (List ℕ)) (x : Abc × K) → OfInput s (λ b. AnswersKept of_places b (Ok x)) → OfInput s (IsFile x.0)
+file_alone of_places None x a = (a.0, value_read of_places a.0 x a.1)
+file_alone of_places (Some b) x a = value_read of_places b x a
+
+pub some_fits : {K : Type 0} (of_places : List (List ℕ) → K) (s : Option (List ℕ)) (x : Abc × K) → OfInput s (λ b. AnswersKept of_places b (Ok x)) → Fits x.0
+some_fits of_places None x a = (a.0, value_read of_places a.0 x a.1)
+some_fits of_places (Some b) x a = (b, value_read of_places b x a)

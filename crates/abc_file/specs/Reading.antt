@@ -10,6 +10,7 @@ use Rattle.abc_varint.specs.Reads.{IsInput, known}
 use Rattle.abc_format.specs.declared.reason.Reason.TheVariants as reasons
 use Rattle.abc_tables.specs.declared.tables.Abc.{Abc}
 use Rattle.abc_tables.specs.Files.{IsFile, IsFileRead, IsBadFile, file_bytes}
+use Rattle.abc_bodies.specs.Reading.{keeping}
 
 -- It holds of the input that a source tells, or else of some input.
 abbrev pub OfInput : Option (List ℕ) → (List ℕ → Type 0) → Type 0
@@ -65,3 +66,8 @@ Refuses errors.NoMemory input = Unit {0}
 
 abbrev pub IsFaultOf : Option (List ℕ) → ReadError → Type 0
 IsFaultOf left e = OfInput left (Refuses e)
+
+-- an accepted value is that which all the bytes spell, with what is kept of the places of its instructions; a refusal is their first fault
+abbrev pub AnswersKept : {K : Type 0} → (List (List ℕ) → K) → List ℕ → Result (Abc × K) ReadError → Type 0
+AnswersKept of_places b (Ok x) = (v : Abc × List (List ℕ)) × IsFileRead v b × (x ≡ keeping of_places v)
+AnswersKept of_places b (Err e) = Refuses e b

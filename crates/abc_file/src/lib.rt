@@ -10,6 +10,6 @@ mod writing;
 pub use abc_bodies::Places;
 pub use canon::canonical;
 pub use laws::{canonical_form, one_reading, reading_gives_the_file, widening};
-pub use reading::{read, read_version};
+pub use reading::{read, read_alone, read_version};
 pub use rest::read_nothing_more;
 pub use writing::write;

@@ -1,17 +1,18 @@
 ghost use Rattle.std.specs.Prelude.{◌≡◌, ◌≤◌, ◌^◌, Ok, Err, IfOk, IfErr, OnOk, None, All, nat_eq, if◌then◌else◌};
 ghost use Rattle.abc_base.specs.Faults.{Rose};
 ghost use Rattle.abc_format.specs.Numbers.{u16 as two_bytes};
-ghost use Rattle.abc_format.specs.Part.{checked};
-ghost use Rattle.abc_file.specs.Reading.{AnswersFile, IsNew, IsTrailing, IsUsedUp, OfInput};
-ghost use Rattle.abc_bodies.specs.Places.{ArePlaces};
+ghost use Rattle.abc_format.specs.Part.{checked, image};
+ghost use Rattle.abc_file.specs.Reading.{AnswersFile, AnswersKept, IsFaultOf, IsNew, IsTrailing, IsUsedUp, OfInput};
+ghost use Rattle.abc_bodies.specs.Places.{ArePlaces, KeepPlaces};
+ghost use Rattle.abc_bodies.specs.Reading.{keeping};
 ghost use Rattle.abc_tables.specs.Bodies.{IsReadyBody};
-ghost use Rattle.abc_tables.specs.Files.{Fits, file_read, version};
+ghost use Rattle.abc_tables.specs.Files.{Fits, IsFile, file_read, version};
 ghost use Rattle.abc_varint.specs.Reads.{ReadsPart};
 ghost use Rattle.abc_varint.specs.declared.error.ReadError.{ReadError};
 
 use crate::rest::read_nothing_more;
 use abc_base::Source;
-use abc_bodies::{Places, read_bodies};
+use abc_bodies::{Keeping, NoPlaces, Places, read_bodies};
 use abc_pools::read_pools;
 use abc_tables::Abc;
 use abc_traits::read_definitions;
@@ -47,16 +48,16 @@ pub fn read_version<S: Source>(w: &mut Window, source: &mut S) -> Result<(u16, u
     Ok((minor, major))
 }
 
-/// The file, and not what follows it.
+/// The file, with what is kept of the places of its instructions, and not what follows it.
 #[tactic(auto, unfolding(abc_tables::specs::Files::file_read))]
-fn read_file<S: Source>(
+fn read_file<S: Source, K: Keeping>(
     alloc: Global,
     w: &mut Window,
     source: &mut S,
-) -> Result<(Abc, Places), ReadError>
+) -> Result<(Abc, K), ReadError>
     requires { w.old.end ≡ 2 ^ 25 }
-    ensures value { ReadsPart S.left S.faults file_read w.old source.old w.new source.new result }
-    ensures places { IfOk result (λ x. ArePlaces (x.0).bodies x.1) }
+    ensures value { ReadsPart S.left S.faults (image (keeping K.of_places) file_read) w.old source.old w.new source.new result }
+    ensures places { IfOk result (λ x. KeepPlaces K.of_places (x.0).bodies x.1) }
     ensures ready { IfOk result (λ x. All IsReadyBody (x.0).bodies) }
 {
     read_version(w, source)?;
@@ -66,17 +67,17 @@ fn read_file<S: Source>(
     Ok((abc, places))
 }
 
-/// The file, and nothing after it.
+/// The same, and nothing after it.
 #[tactic(auto)]
-fn read_to_end<S: Source>(
+fn read_to_end<S: Source, K: Keeping>(
     alloc: Global,
     w: &mut Window,
     source: &mut S,
-) -> Result<(Abc, Places), ReadError>
+) -> Result<(Abc, K), ReadError>
     requires { IsNew w.old }
-    ensures answers { OfInput (S.left source.old) (λ b. AnswersFile b result) }
+    ensures answers { OfInput (S.left source.old) (λ b. AnswersKept K.of_places b result) }
     ensures fits { IfOk result (λ x. Fits x.0) }
-    ensures places { IfOk result (λ x. ArePlaces (x.0).bodies x.1) }
+    ensures places { IfOk result (λ x. KeepPlaces K.of_places (x.0).bodies x.1) }
     ensures ready { IfOk result (λ x. All IsReadyBody (x.0).bodies) }
     ensures end { OnOk result (IsUsedUp (S.left source.old) (S.left source.new)) }
     ensures later { S.faults source.old ≤ S.faults source.new }
@@ -85,6 +86,20 @@ fn read_to_end<S: Source>(
     let file = read_file(alloc, w, source)?;
     read_nothing_more(w, source)?;
     Ok(file)
+}
+
+/// The same from a new window.
+fn read_keeping<S: Source, K: Keeping>(alloc: Global, source: &mut S) -> Result<(Abc, K), ReadError>
+    ensures answers { OfInput (S.left source.old) (λ b. AnswersKept K.of_places b result) }
+    ensures fits { IfOk result (λ x. Fits x.0) }
+    ensures places { IfOk result (λ x. KeepPlaces K.of_places (x.0).bodies x.1) }
+    ensures ready { IfOk result (λ x. All IsReadyBody (x.0).bodies) }
+    ensures end { OnOk result (IsUsedUp (S.left source.old) (S.left source.new)) }
+    ensures later { S.faults source.old ≤ S.faults source.new }
+    ensures cause { result ≡ Err ReadError.ReadFault → Rose (S.faults source.old) (S.faults source.new) }
+{
+    let mut w = Window::new(alloc)?;
+    read_to_end(alloc, &mut w, source)
 }
 
 /// Reads a file to the input's end, and gives where the instructions of its bodies began. It is refused at its first
@@ -101,6 +116,18 @@ pub fn read<S: Source>(alloc: Global, source: &mut S) -> Result<(Abc, Places), R
     ensures later { S.faults source.old ≤ S.faults source.new }
     ensures cause { result ≡ Err ReadError.ReadFault → Rose (S.faults source.old) (S.faults source.new) }
 {
-    let mut w = Window::new(alloc)?;
-    read_to_end(alloc, &mut w, source)
+    read_keeping::<S, Places>(alloc, source)
+}
+
+/// Reads a file as `read` does, and keeps nothing of where instructions began.
+pub fn read_alone<S: Source>(alloc: Global, source: &mut S) -> Result<Abc, ReadError>
+    ensures file { IfOk result (λ v. OfInput (S.left source.old) (IsFile v)) }
+    ensures fault { IfErr result (λ e. IsFaultOf (S.left source.old) e) }
+    ensures fits { IfOk result Fits }
+    ensures end { OnOk result (IsUsedUp (S.left source.old) (S.left source.new)) }
+    ensures later { S.faults source.old ≤ S.faults source.new }
+    ensures cause { result ≡ Err ReadError.ReadFault → Rose (S.faults source.old) (S.faults source.new) }
+{
+    let (abc, _) = read_keeping::<S, NoPlaces>(alloc, source)?;
+    Ok(abc)
 }

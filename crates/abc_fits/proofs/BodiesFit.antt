@@ -1,11 +1,10 @@
 -- Which bodies some bytes spell.
-use Rattle.std.proofs.Common.{◌≡◌, ◌≢◌, ℕ, ◌+◌, ◌-◌, ◌^◌, ◌<◌, ◌≤◌, min, take, Bool, true, false, List, [], ◌∷◌, ◌++◌, length, get_or, map, refl, sym, ap, subst, ◌∙◌, append_assoc, arith}
+use Rattle.std.proofs.Common.{◌≡◌, ◌≢◌, ℕ, ◌+◌, ◌-◌, ◌^◌, ◌<◌, ◌≤◌, Bool, true, false, List, [], ◌∷◌, ◌++◌, length, get_or, map, refl, sym, ap, subst, ◌∙◌, append_assoc, arith}
 use Rattle.std.specs.Prelude.{◌↔◌, All, AllPairs, nat_eq, not}
-use Rattle.std.specs.List.{list_any, sum_by}
+use Rattle.std.specs.List.{list_any}
 use Rattle.std.proofs.lemmas.Bool.Decides.{nat_tests}
-use Rattle.std.proofs.lemmas.List.{append-nil, get_or-map, length-map, map-append, take_all, take_more}
-use Rattle.std.proofs.lemmas.List.Sums.{sum_by_more}
-use Rattle.std.proofs.lemmas.List.Elements.{All-cons, All-head, All-map, All-nil, All-push, All-tail}
+use Rattle.std.proofs.lemmas.List.{append-nil, get_or-map, length-map, map-append}
+use Rattle.std.proofs.lemmas.List.Elements.{All-cons, All-head, All-map, All-nil, All-tail}
 use Rattle.std.proofs.lemmas.List.Folds.{list_any_at, list_any_none}
 use Rattle.std.proofs.lemmas.List.Quantifiers.{all_pairs_push}
 use Rattle.std.proofs.lemmas.Simd.{map-map}
@@ -25,7 +24,6 @@ use Rattle.abc_tables.proofs.BodiesReady.{code_count, handler_within}
 use Rattle.abc_tables.proofs.BodiesShortest.{canonical_rising, code_again, code_ready, place_spelled}
 use Rattle.abc_tables.proofs.Lengths.{canonical_count, canonical_small}
 use Rattle.abc_fits.specs.Distinct.{Differ}
-use Rattle.abc_fits.specs.Lengths.{body_len}
 use Rattle.abc_fits.specs.Fitting.{FitBodies, FitTraits, FitsBody, HasNames, HasSizes, IsNumber, IsPoolIndex, IsPosition, Spelled}
 use Rattle.abc_fits.proofs.Combined.{counted_spelled, number_fits, position_fits}
 use Rattle.abc_fits.proofs.Chains.{Follow, chain_spelled, chained, pairs_before, pairs_map}
@@ -264,32 +262,6 @@ bodies_fit v = (
 pub methods_below : (v : Sizes) (bs : List Body) → All (FitsBody v) bs → All (λ b. b.method < v.methods) bs
 methods_below v bs all = λ k d lt. ((position_fits v.methods (get_or bs k d).method).0 ((body_fits v (get_or bs k d)).0 (all k d lt)).0).0
 
--- ---- the bodies and their bytes, as a walk goes over them
-
--- The first bodies are spelled, and so many bytes are theirs.
-pub record FitSoFar (v : Sizes) (bs : List Body) (sum : ℕ) : Type 0 where
-  pub each : All (FitsBody v) bs
-  pub len : sum ≡ min (sum_by body_len bs) (2 ^ 64 - 1)
-
-pub none_so_far : (v : Sizes) (bs : List Body) → FitSoFar v (take 0 bs) 0
-none_so_far v bs = record { each = All-nil (FitsBody v); len = omega arith }
-
-pub one_more_fits : (v : Sizes) (bs : List Body) (i len more : ℕ) (b : Body) → i < length bs → b ≡ get_or bs i b → FitSoFar v (take i bs) len → FitsBody v b → more ≡ min (body_len b) (2 ^ 64 - 1) → FitSoFar v (take (i + 1) bs) (min (len + more) (2 ^ 64 - 1))
-one_more_fits v bs i len more b lt at so fits is =
-    let t : take (i + 1) bs ≡ take i bs ++ b ∷ [] = take_more bs i b lt ∙ ap (λ (y : Body). take i bs ++ y ∷ []) (sym at) in
-    let sum : sum_by body_len (take (i + 1) bs) ≡ sum_by body_len (take i bs) + body_len b = sum_by_more body_len bs i b lt ∙ ap (λ (y : Body). sum_by body_len (take i bs) + body_len y) (sym at) in
-    record {
-      each = subst (All (FitsBody v)) (sym t) (All-push (FitsBody v) (take i bs) b so.each fits);
-      len = omega (arith, so.len, is, sum);
-    }
-
-pub all_so_far : (v : Sizes) (bs : List Body) (i len : ℕ) → length bs ≤ i → FitSoFar v (take i bs) len → All (FitsBody v) bs × (len ≡ min (sum_by body_len bs) (2 ^ 64 - 1))
-all_so_far v bs i len le so = let h = subst (λ (l : List Body). FitSoFar v l len) (take_all i bs le) so in (h.each, h.len)
-
 -- bodies that are spelled, one by one
 pub bodies_in : (v : Abc) (s : Sizes) (bs : List Body) → s ≡ sizes_of v → bs ≡ v.bodies → FitBodies v → All (FitsBody s) bs
 bodies_in v s bs e f fit = rw (e, f) ((bodies_fit v).0 fit).1
-
--- a body that isn't spelled
-pub one_unfit : (v : Sizes) (bs : List Body) (i : ℕ) (b : Body) → i < length bs → b ≡ get_or bs i b → (FitsBody v b → ⊥) → All (FitsBody v) bs → ⊥
-one_unfit v bs i b lt at not all = not (subst (FitsBody v) (sym at) (all i b lt))

@@ -4,9 +4,10 @@ use Rattle.std.specs.Prelude.{◌↔◌, All}
 use Rattle.abc_tables.specs.declared.methods.Metadata.{Metadata}
 use Rattle.abc_tables.specs.declared.methods.Method.{Method}
 use Rattle.abc_tables.specs.declared.tables.Abc.{Abc}
+use Rattle.abc_tables.specs.declared.tables.Sizes.{Sizes}
 use Rattle.abc_tables.specs.Classes.{class_info, definitions, instance, script, sizes_of, sizes_with}
 use Rattle.abc_tables.specs.Methods.{metadata, method, option_value, options}
-use Rattle.abc_fits.specs.Fitting.{FitDefinitions, FitsClass, FitsInstance, FitsMetadata, FitsMethod, FitsScript, IsNumber, Spelled, pools_alone, without_bodies}
+use Rattle.abc_fits.specs.Fitting.{AreClasses, FitDefinitions, FitsClass, FitsInstance, FitsMetadata, FitsMethod, FitsScript, IsNumber, Spelled, pools_alone, without_bodies}
 use Rattle.abc_fits.proofs.Combined.{counted_spelled, number_fits, times_spelled}
 
 -- a method and its metadata point into pools alone
@@ -99,3 +100,34 @@ definitions_fit v = (
       record { method_count = d.method_count; methods = d.methods; metadata_count = d.metadata_count; metadata = d.metadata; class_count = d.class_count; instance_count = d.instance_count; instances = d.instances; classes = d.classes; script_count = d.script_count; scripts = d.scripts },
   definitions_from v,
 )
+
+-- ---- what each table of definitions has to be, over the sizes of the file
+
+module _ (v : Abc) (s : Sizes) (is : s ≡ sizes_of v) where
+  pub methods_fit : FitDefinitions v → (length v.methods < 2 ^ 30) × All (FitsMethod s) v.methods
+  methods_fit f = let d = (definitions_fit v).0 f in rw is (d.method_count, d.methods)
+
+  pub metadata_fits : FitDefinitions v → (length v.metadata < 2 ^ 30) × All (FitsMetadata s) v.metadata
+  metadata_fits f = let d = (definitions_fit v).0 f in rw is (d.metadata_count, d.metadata)
+
+  pub classes_fit : FitDefinitions v → AreClasses s v
+  classes_fit f =
+      let d = (definitions_fit v).0 f in
+      rw is (record { count = d.class_count; both = d.instance_count; instances = d.instances; classes = d.classes })
+
+  pub scripts_fit : FitDefinitions v → (length v.scripts < 2 ^ 30) × All (FitsScript s) v.scripts
+  scripts_fit f = let d = (definitions_fit v).0 f in rw is (d.script_count, d.scripts)
+
+  pub all_fit : (length v.methods < 2 ^ 30) × All (FitsMethod s) v.methods → (length v.metadata < 2 ^ 30) × All (FitsMetadata s) v.metadata → AreClasses s v → (length v.scripts < 2 ^ 30) × All (FitsScript s) v.scripts → FitDefinitions v
+  all_fit methods metadata classes scripts = (definitions_fit v).1 (record {
+    method_count = methods.0;
+    methods = subst (λ (t : Sizes). All (FitsMethod t) v.methods) is methods.1;
+    metadata_count = metadata.0;
+    metadata = subst (λ (t : Sizes). All (FitsMetadata t) v.metadata) is metadata.1;
+    class_count = classes.count;
+    instance_count = classes.both;
+    instances = subst (λ (t : Sizes). All (FitsInstance t) v.instances) is classes.instances;
+    classes = subst (λ (t : Sizes). All (FitsClass t) v.classes) is classes.classes;
+    script_count = scripts.0;
+    scripts = subst (λ (t : Sizes). All (FitsScript t) v.scripts) is scripts.1;
+  })

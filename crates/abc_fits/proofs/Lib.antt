@@ -9,6 +9,7 @@ pub mod ClassesFit
 pub mod DefinitionsFit
 pub mod Chains
 pub mod BodiesFit
+pub mod Walking
 pub mod Windows
 pub mod Rising
 pub mod FileFits

@@ -1,5 +1,5 @@
 -- Which values of each part some bytes spell.
-use Rattle.std.specs.Prelude.{◌<◌, ◌^◌, ℕ, ℤ, List, [], All, length, None}
+use Rattle.std.specs.Prelude.{◌≡◌, ◌<◌, ◌^◌, ℕ, ℤ, List, [], All, length, None}
 use Rattle.std.specs.declared.option.Option.{Option}
 use Rattle.abc_format.specs.Lists.{counted, pool, text, times}
 use Rattle.abc_format.specs.Numbers.{entry_index, index_below, pool_index, s32, u30, u32}
@@ -148,6 +148,13 @@ FitsClass v c = Spelled (class_info v) c
 
 unfoldable pub FitsScript : Sizes → Script → Type 0
 FitsScript v s = Spelled (script v) s
+
+-- There are as many instances as classes, and some bytes spell each.
+pub record AreClasses (v : Sizes) (a : Abc) : Type 0 where
+  pub count : length a.classes < 2 ^ 30
+  pub both : length a.instances ≡ length a.classes
+  pub instances : All (FitsInstance v) a.instances
+  pub classes : All (FitsClass v) a.classes
 
 -- ---- all definitions
 

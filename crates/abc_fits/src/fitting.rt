@@ -1,10 +1,11 @@
-ghost use Rattle.std.specs.Prelude.{◌≡◌, ◌↔◌, IsTrue};
+ghost use Rattle.std.specs.Prelude.{◌≡◌, ◌↔◌, ◌-◌, ◌^◌, IsTrue, min};
 ghost use Rattle.abc_fits.specs.Fitting.{AreFew, FitDefinitions, FitPools};
+ghost use Rattle.abc_fits.specs.Lengths.{definitions_len};
 ghost use Rattle.abc_tables.specs.Classes.{sizes_of as all_sizes};
 ghost use Rattle.abc_tables.specs.Files.{Fits};
 
-use crate::fitting_bodies::{fit_bodies, len_of_bodies};
-use crate::fitting_definitions::fit_definitions;
+use crate::fitting_bodies::{fit_bodies, walk};
+use crate::fitting_definitions::len_of_fitting;
 use crate::fitting_pools::fit_pools;
 use crate::indices::is_count;
 use crate::total::len_before_bodies;
@@ -29,21 +30,22 @@ fn are_few(abc: &Abc) -> bool
         && is_count(abc.classes.len())
 }
 
-/// Whether some bytes of at most 2^24 spell a file, some bytes spell whose pools and definitions. The bodies are gone over once
-/// for both, and it is tried that no two have one method only where there are not too many methods for that.
-fn fit_rest(abc: &Abc, sizes: &Sizes) -> bool
+/// Whether some bytes of at most 2^24 spell a file, some bytes spell whose pools and definitions; the latter have so many. The
+/// bodies are gone over once for both, and it is tried that no two have one method only where there are not too many methods for that.
+fn fit_rest(abc: &Abc, sizes: &Sizes, definitions: u64) -> bool
     requires sizes { sizes.now ≡ all_sizes abc.now }
     requires pools { FitPools abc.now }
     requires definitions { FitDefinitions abc.now }
+    requires len { definitions ≡ min (definitions_len abc.now) (2 ^ 64 - 1) }
     ensures { IsTrue result ↔ Fits abc.now }
 {
-    let Some(len) = len_of_bodies(abc.bodies.as_slice(), sizes) else {
+    let Some(walked) = walk(abc.bodies.as_slice(), sizes) else {
         return false;
     };
-    if len_before_bodies(abc).saturating_add(len) > LONGEST {
+    if len_before_bodies(abc, definitions).saturating_add(walked.len) > LONGEST {
         return false;
     }
-    fit_bodies(abc, sizes)
+    fit_bodies(abc, sizes, walked.rise)
 }
 
 /// Whether some bytes of at most 2^24 spell a file whose tables are small enough.
@@ -53,7 +55,13 @@ fn fit_parts(abc: &Abc) -> bool
     ensures { IsTrue result ↔ Fits abc.now }
 {
     let sizes = sizes_of(abc);
-    fit_pools(abc, &sizes) && fit_definitions(abc, &sizes) && fit_rest(abc, &sizes)
+    if !fit_pools(abc, &sizes) {
+        return false;
+    }
+    let Some(definitions) = len_of_fitting(abc, &sizes) else {
+        return false;
+    };
+    fit_rest(abc, &sizes, definitions)
 }
 
 /// Whether some bytes of at most 2^24 spell the file. It takes no memory. Its time grows with the size of the value

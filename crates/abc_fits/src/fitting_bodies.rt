@@ -1,4 +1,4 @@
-ghost use Rattle.std.specs.Prelude.{◌≡◌, ◌↔◌, ◌*◌, ◌-◌, ◌^◌, ◌<◌, All, AllPairs, IsTrue, MatchOption, false, length, min};
+ghost use Rattle.std.specs.Prelude.{◌≡◌, ◌↔◌, ◌≤◌, ◌*◌, ◌-◌, ◌^◌, ◌<◌, All, AllPairs, IsTrue, MatchOption, false, length, min};
 ghost use Rattle.std.specs.List.{sum_by};
 ghost use Rattle.abc_fits.specs.Distinct.{Differ, DifferFrom, Rise};
 ghost use Rattle.abc_fits.specs.Fitting.{FitBodies, FitsBody, HasNames, HasParts, HasSizes};
@@ -60,16 +60,38 @@ fn len_of_body(body: &Body, sizes: &Sizes) -> Option<u64>
     Some(len_over_code(body, code))
 }
 
-/// The same for all bodies, one after the other.
-pub fn len_of_bodies(bodies: &[Body], sizes: &Sizes) -> Option<u64>
-    ensures { MatchOption result (All (FitsBody sizes.now) bodies.now → ⊥) (λ n. All (FitsBody sizes.now) bodies.now × (n ≡ min (sum_by body_len bodies.now) (2 ^ 64 - 1))) }
+/// What one walk tells of bodies.
+#[derive(Clone, Copy, Debug)]
+pub struct Walked {
+    /// How many canonical bytes they have, or 2^64 - 1 where that is less.
+    pub len: u64,
+    /// Whether each is of a later method than the one before, as a compiler writes them.
+    pub rise: bool,
+}
+
+/// Whether a body that has this method is of a later one than those before it, where these rise and this is the first
+/// method after theirs.
+fn rises(rise: bool, least: u64, method: u64) -> bool
+    ensures { IsTrue result → IsTrue rise × (least ≤ method) }
 {
-    let mut len: u64 = 0;
+    rise && least <= method
+}
+
+/// What one walk tells of bodies, if some bytes spell each, whatever the others are.
+pub fn walk(bodies: &[Body], sizes: &Sizes) -> Option<Walked>
+    ensures { MatchOption result (All (FitsBody sizes.now) bodies.now → ⊥) (λ w. All (FitsBody sizes.now) bodies.now × (w.len ≡ min (sum_by body_len bodies.now) (2 ^ 64 - 1)) × (IsTrue w.rise → AllPairs Rise bodies.now)) }
+{
+    let mut walked = Walked { len: 0, rise: true };
+    let mut least: u64 = 0;
     for body in bodies {
         let more = len_of_body(body, sizes)?;
-        len = len.saturating_add(more);
+        let method = body.method as u64;
+        let len = walked.len.saturating_add(more);
+        let rise = rises(walked.rise, least, method);
+        walked = Walked { len, rise };
+        least = method + 1;
     }
-    Some(len)
+    Some(walked)
 }
 
 /// Whether no two of the bodies have one method among those from `low` on, as many as there are marks.
@@ -112,28 +134,13 @@ fn are_distinct(bodies: &[Body], methods: u32) -> bool
     true
 }
 
-/// Whether each of the bodies is of a later method than the one before, as a compiler writes them.
-fn are_rising(bodies: &[Body]) -> bool
-    ensures { IsTrue result ↔ AllPairs Rise bodies.now }
-{
-    let mut least: u64 = 0;
-    for body in bodies {
-        let method = body.method as u64;
-        if method < least {
-            return false;
-        }
-        least = method + 1;
-    }
-    true
-}
-
-/// Whether no two of the bodies have one method, where there are so many methods. Bodies whose methods rise are gone through
-/// once.
-fn are_apart(bodies: &[Body], methods: u32) -> bool
-    requires { All (λ b. b.method < methods) bodies.now }
+/// Whether no two of the bodies have one method, where there are so many methods. Bodies whose methods rise aren't gone through.
+fn are_apart(bodies: &[Body], methods: u32, rise: bool) -> bool
+    requires below { All (λ b. b.method < methods) bodies.now }
+    requires rise { IsTrue rise → AllPairs Rise bodies.now }
     ensures { IsTrue result ↔ AllPairs Differ bodies.now }
 {
-    if are_rising(bodies) {
+    if rise {
         return true;
     }
     are_distinct(bodies, methods)
@@ -141,11 +148,12 @@ fn are_apart(bodies: &[Body], methods: u32) -> bool
 
 /// Whether some bytes spell bodies of which each is spelled by some, whatever the others are.
 #[tactic(auto, using(crate::proofs::BodiesFit::bodies_fit, crate::proofs::BodiesFit::methods_below))]
-pub fn fit_bodies(abc: &Abc, sizes: &Sizes) -> bool
+pub fn fit_bodies(abc: &Abc, sizes: &Sizes, rise: bool) -> bool
     requires sizes { sizes.now ≡ all_sizes abc.now }
     requires each { All (FitsBody sizes.now) (abc.now).bodies }
+    requires rise { IsTrue rise → AllPairs Rise (abc.now).bodies }
     ensures { IsTrue result ↔ FitBodies abc.now }
 {
     let bodies = abc.bodies.as_slice();
-    is_count(bodies.len()) && are_apart(bodies, sizes.methods)
+    is_count(bodies.len()) && are_apart(bodies, sizes.methods, rise)
 }

@@ -1,15 +1,19 @@
-ghost use Rattle.std.specs.Prelude.{◌≡◌, ◌↔◌, ◌<◌, ◌^◌, All, IsTrue, length};
-ghost use Rattle.abc_fits.specs.Fitting.{FitDefinitions, FitOptions, FitParamNames, FitTraits, FitsClass, FitsInstance, FitsMetadata, FitsMethod, FitsOption, FitsProtected, FitsScript, FitsSlotValue, FitsTrait, FitsTraitFields, FitsTraitMetadata};
+ghost use Rattle.std.specs.Prelude.{◌≡◌, ◌↔◌, ◌+◌, ◌-◌, ◌^◌, All, IsTrue, MatchOption, length, min};
+ghost use Rattle.std.specs.List.{sum_by};
+ghost use Rattle.abc_fits.specs.Fitting.{AreClasses, FitDefinitions, FitOptions, FitParamNames, FitTraits, FitsClass, FitsInstance, FitsMetadata, FitsMethod, FitsOption, FitsProtected, FitsScript, FitsSlotValue, FitsTrait, FitsTraitFields, FitsTraitMetadata};
+ghost use Rattle.abc_fits.specs.Lengths.{class_len, definitions_len, instance_len};
 ghost use Rattle.abc_tables.specs.Classes.{sizes_of as all_sizes};
+ghost use Rattle.abc_tables.specs.CodeBytes.{number_len};
 
 use crate::indices::{
     are_entry_indices, are_numbers, are_pool_indices, are_positions, is_count, is_entry_index,
     is_number, is_pool_index, is_position,
 };
+use crate::walks::{Fitting, len_of_each, len_of_list};
 use abc_base::Table;
 use abc_tables::{
     Abc, ClassInfo, HAS_METADATA, HAS_OPTIONAL, HAS_PARAM_NAMES, HAS_PROTECTED, Instance, Metadata,
-    Method, OptionValue, Script, Sizes, TraitBody, TraitInfo, has_flag,
+    Method, OptionValue, Script, Sizes, TraitBody, TraitInfo, count_len, has_flag,
 };
 
 /// The least attributes that no trait has.
@@ -56,27 +60,31 @@ fn fit_param_names(method: &Method) -> bool
     }
 }
 
-#[tactic(auto, using(crate::proofs::MethodsFit::method_fits))]
-fn is_method(method: &Method, sizes: &Sizes) -> bool
-    ensures { IsTrue result ↔ FitsMethod sizes.now method.now }
-{
-    is_count(method.params.len())
-        && is_pool_index(method.ret, sizes.names)
-        && are_pool_indices(method.params.as_slice(), sizes.names)
-        && is_pool_index(method.name, sizes.strings)
-        && fit_options(method, sizes)
-        && fit_param_names(method)
+impl Fitting for Method {
+    ghost fits = { FitsMethod };
+
+    #[tactic(auto, using(crate::proofs::MethodsFit::method_fits))]
+    fn fits_in(&self, sizes: &Sizes) -> bool {
+        is_count(self.params.len())
+            && is_pool_index(self.ret, sizes.names)
+            && are_pool_indices(self.params.as_slice(), sizes.names)
+            && is_pool_index(self.name, sizes.strings)
+            && fit_options(self, sizes)
+            && fit_param_names(self)
+    }
 }
 
-#[tactic(auto, using(crate::proofs::MethodsFit::metadata_fits))]
-fn is_metadata(metadata: &Metadata, sizes: &Sizes) -> bool
-    ensures { IsTrue result ↔ FitsMetadata sizes.now metadata.now }
-{
-    let count = metadata.items.len();
-    is_pool_index(metadata.name, sizes.strings)
-        && count % 2 == 0
-        && is_count(count / 2)
-        && are_pool_indices(metadata.items.as_slice(), sizes.strings)
+impl Fitting for Metadata {
+    ghost fits = { FitsMetadata };
+
+    #[tactic(auto, using(crate::proofs::MethodsFit::metadata_fits))]
+    fn fits_in(&self, sizes: &Sizes) -> bool {
+        let count = self.items.len();
+        is_pool_index(self.name, sizes.strings)
+            && count % 2 == 0
+            && is_count(count / 2)
+            && are_pool_indices(self.items.as_slice(), sizes.strings)
+    }
 }
 
 #[tactic(auto, using(crate::proofs::MethodsFit::no_value_fits, crate::proofs::MethodsFit::value_fits))]
@@ -156,85 +164,67 @@ fn fits_protected(instance: &Instance, sizes: &Sizes) -> bool
     }
 }
 
-#[tactic(auto, using(crate::proofs::ClassesFit::instance_fits))]
-fn is_instance(instance: &Instance, sizes: &Sizes) -> bool
-    ensures { IsTrue result ↔ FitsInstance sizes.now instance.now }
-{
-    is_entry_index(instance.name, sizes.names)
-        && is_pool_index(instance.super_name, sizes.names)
-        && fits_protected(instance, sizes)
-        && is_count(instance.interfaces.len())
-        && are_entry_indices(instance.interfaces.as_slice(), sizes.names)
-        && is_position(instance.iinit, sizes.methods)
-        && are_traits(&instance.traits, sizes)
+impl Fitting for Instance {
+    ghost fits = { FitsInstance };
+
+    #[tactic(auto, using(crate::proofs::ClassesFit::instance_fits))]
+    fn fits_in(&self, sizes: &Sizes) -> bool {
+        is_entry_index(self.name, sizes.names)
+            && is_pool_index(self.super_name, sizes.names)
+            && fits_protected(self, sizes)
+            && is_count(self.interfaces.len())
+            && are_entry_indices(self.interfaces.as_slice(), sizes.names)
+            && is_position(self.iinit, sizes.methods)
+            && are_traits(&self.traits, sizes)
+    }
 }
 
-#[tactic(auto, using(crate::proofs::ClassesFit::class_fits))]
-fn is_class(class: &ClassInfo, sizes: &Sizes) -> bool
-    ensures { IsTrue result ↔ FitsClass sizes.now class.now }
-{
-    is_position(class.cinit, sizes.methods) && are_traits(&class.traits, sizes)
+impl Fitting for ClassInfo {
+    ghost fits = { FitsClass };
+
+    #[tactic(auto, using(crate::proofs::ClassesFit::class_fits))]
+    fn fits_in(&self, sizes: &Sizes) -> bool {
+        is_position(self.cinit, sizes.methods) && are_traits(&self.traits, sizes)
+    }
 }
 
-#[tactic(auto, using(crate::proofs::ClassesFit::script_fits))]
-fn is_script(script: &Script, sizes: &Sizes) -> bool
-    ensures { IsTrue result ↔ FitsScript sizes.now script.now }
-{
-    is_position(script.init, sizes.methods) && are_traits(&script.traits, sizes)
+impl Fitting for Script {
+    ghost fits = { FitsScript };
+
+    #[tactic(auto, using(crate::proofs::ClassesFit::script_fits))]
+    fn fits_in(&self, sizes: &Sizes) -> bool {
+        is_position(self.init, sizes.methods) && are_traits(&self.traits, sizes)
+    }
 }
 
-fn are_methods(methods: &Table<Method>, sizes: &Sizes) -> bool
-    ensures { IsTrue result ↔ ((length methods.now < 2 ^ 30) × All (FitsMethod sizes.now) methods.now) }
+/// How many canonical bytes the instances and classes have, if there are as many of both and some bytes spell each.
+fn len_of_classes(abc: &Abc, sizes: &Sizes) -> Option<u64>
+    ensures { MatchOption result (AreClasses sizes.now abc.now → ⊥) (λ n. AreClasses sizes.now abc.now × (n ≡ min (number_len (length (abc.now).classes) + sum_by instance_len (abc.now).instances + sum_by class_len (abc.now).classes) (2 ^ 64 - 1))) }
 {
-    is_count(methods.len())
-        && methods
-            .as_slice()
-            .iter()
-            .all(|method| is_method(method, sizes))
+    let count = abc.classes.len();
+    if !is_count(count) || abc.instances.len() != count {
+        return None;
+    }
+    let instances = len_of_each(&abc.instances, sizes)?;
+    let classes = len_of_each(&abc.classes, sizes)?;
+    Some(
+        count_len(count)
+            .saturating_add(instances)
+            .saturating_add(classes),
+    )
 }
 
-fn are_metadata(metadata: &Table<Metadata>, sizes: &Sizes) -> bool
-    ensures { IsTrue result ↔ ((length metadata.now < 2 ^ 30) × All (FitsMetadata sizes.now) metadata.now) }
-{
-    is_count(metadata.len())
-        && metadata
-            .as_slice()
-            .iter()
-            .all(|item| is_metadata(item, sizes))
-}
-
-/// Whether there are as many instances as classes, and some bytes spell each.
-fn are_classes(abc: &Abc, sizes: &Sizes) -> bool
-    ensures { IsTrue result ↔ ((length (abc.now).classes < 2 ^ 30) × (length (abc.now).instances ≡ length (abc.now).classes) × All (FitsInstance sizes.now) (abc.now).instances × All (FitsClass sizes.now) (abc.now).classes) }
-{
-    let instances = abc.instances.as_slice();
-    let classes = abc.classes.as_slice();
-    is_count(classes.len())
-        && instances.len() == classes.len()
-        && instances
-            .iter()
-            .all(|instance| is_instance(instance, sizes))
-        && classes.iter().all(|class| is_class(class, sizes))
-}
-
-fn are_scripts(scripts: &Table<Script>, sizes: &Sizes) -> bool
-    ensures { IsTrue result ↔ ((length scripts.now < 2 ^ 30) × All (FitsScript sizes.now) scripts.now) }
-{
-    is_count(scripts.len())
-        && scripts
-            .as_slice()
-            .iter()
-            .all(|script| is_script(script, sizes))
-}
-
-/// Whether some bytes spell the definitions.
-#[tactic(auto, using(crate::proofs::DefinitionsFit::definitions_fit))]
-pub fn fit_definitions(abc: &Abc, sizes: &Sizes) -> bool
+/// How many canonical bytes the definitions have, if some bytes spell them. They are gone over once for both. It is 2^64 - 1
+/// where that is greater.
+#[tactic(auto, unfolding(crate::specs::Lengths::definitions_len), using(crate::proofs::DefinitionsFit::methods_fit, crate::proofs::DefinitionsFit::metadata_fits, crate::proofs::DefinitionsFit::classes_fit, crate::proofs::DefinitionsFit::scripts_fit, crate::proofs::DefinitionsFit::all_fit))]
+pub fn len_of_fitting(abc: &Abc, sizes: &Sizes) -> Option<u64>
     requires { sizes.now ≡ all_sizes abc.now }
-    ensures { IsTrue result ↔ FitDefinitions abc.now }
+    ensures { MatchOption result (FitDefinitions abc.now → ⊥) (λ n. FitDefinitions abc.now × (n ≡ min (definitions_len abc.now) (2 ^ 64 - 1))) }
 {
-    are_methods(&abc.methods, sizes)
-        && are_metadata(&abc.metadata, sizes)
-        && are_classes(abc, sizes)
-        && are_scripts(&abc.scripts, sizes)
+    let methods = len_of_list(&abc.methods, sizes)?;
+    let metadata = len_of_list(&abc.metadata, sizes)?;
+    let classes = len_of_classes(abc, sizes)?;
+    let scripts = len_of_list(&abc.scripts, sizes)?;
+    let first = methods.saturating_add(metadata);
+    Some(first.saturating_add(classes).saturating_add(scripts))
 }

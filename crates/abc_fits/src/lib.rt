@@ -12,6 +12,7 @@ mod laws;
 mod lengths;
 mod pool_lengths;
 mod total;
+mod walks;
 
 pub use fitting::fits;
 pub use laws::canonical_length;

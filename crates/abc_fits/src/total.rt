@@ -7,14 +7,15 @@ use crate::lengths::len_of_all;
 use crate::pool_lengths::len_of_pools;
 use abc_tables::{Abc, count_len};
 
-/// The canonical bytes of all that stands before the bodies, and of how many bodies there are.
+/// The canonical bytes of all that stands before the bodies, and of how many bodies there are, where the definitions have so many.
 #[tactic(auto, using(crate::proofs::Capped::both_capped))]
-pub fn len_before_bodies(abc: &Abc) -> u64
+pub fn len_before_bodies(abc: &Abc, definitions: u64) -> u64
+    requires { definitions ≡ min (definitions_len abc.now) (2 ^ 64 - 1) }
     ensures { result ≡ min (4 + pools_len abc.now + definitions_len abc.now + number_len (length (abc.now).bodies)) (2 ^ 64 - 1) }
 {
     len_of_pools(abc)
         .saturating_add(4)
-        .saturating_add(len_of_definitions(abc))
+        .saturating_add(definitions)
         .saturating_add(count_len(abc.bodies.len()))
 }
 
@@ -25,5 +26,5 @@ pub fn len_before_bodies(abc: &Abc) -> u64
 pub fn canon_len(a: &Abc) -> u64
     ensures { result ≡ min (file_len a.now) (2 ^ 64 - 1) }
 {
-    len_before_bodies(a).saturating_add(len_of_all(&a.bodies))
+    len_before_bodies(a, len_of_definitions(a)).saturating_add(len_of_all(&a.bodies))
 }

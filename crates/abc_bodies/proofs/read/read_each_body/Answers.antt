@@ -1,5 +1,5 @@
-use Rattle.std.proofs.Common.{◌∙◌, arith, false, ◌-◌, ◌+◌}
-use Rattle.std.proofs.lemmas.List.Elements.{All-push}
+use Rattle.std.proofs.Common.{ℕ, List, [], ◌∷◌, ◌++◌, ◌∙◌, ap, arith, false, ◌-◌, ◌+◌}
+use Rattle.std.proofs.lemmas.List.Elements.{All-nil, All-push}
 use Rattle.std.proofs.lemmas.Option.{slice_get_within}
 use Rattle.std.proofs.lemmas.Result.{err_from_is_err_and}
 use Rattle.abc_tables.specs.Bodies.{IsReadyBody}
@@ -7,7 +7,7 @@ use Rattle.abc_varint.specs.declared.error.ReadError.TheVariants as errors
 use Rattle.abc_varint.specs.Reads.{known}
 use Rattle.abc_varint.proofs.Inputs.{known_is}
 use Rattle.abc_varint.proofs.Loop.{other_err}
-use Rattle.abc_bodies.proofs.Collecting.{collects, fails, collected}
+use Rattle.abc_bodies.proofs.Collecting.{gathered, gathered_places, gathering_begins, gathering_fails, gathers}
 use Rattle.abc_bodies.proofs.read.read_each_body.Goals as goal
 
 pub returns-in_err-body-clause-value : goal.returns-in_err-body-clause-value
@@ -15,32 +15,40 @@ returns-in_err-body-clause-value g c =
     let p = err_from_is_err_and c.from_residual-in_err-body.result c.from_residual-in_err-body.ensures.1 in
     let e = c.in_err-body.ensures.value in
     rw (p.1, p.2) (
-      fails c.args.sizes.now c.args.count c.args.w.now (g.S.Source.left c.args.source.now) c.in_err-body.field-0.0 (c.args.count - c.loop.counter) c.loop.has_body c.loop.bodies c.loop.places
-          c.loop.w (g.S.Source.left c.loop.source) c.read_body.new.w (g.S.Source.left c.read_body.new.source) (omega arith) c.loop.invariant.collecting e.0,
+      gathering_fails g.K.Keeping.of_places c.args.sizes.now c.args.count c.args.w.now (g.S.Source.left c.args.source.now) c.in_err-body.field-0.0 (c.args.count - c.loop.counter) c.loop.has_body c.loop.bodies c.loop.places
+          c.loop.w (g.S.Source.left c.loop.source) c.read_body.new.w (g.S.Source.left c.read_body.new.source) (omega arith) c.loop.invariant.gathering e.0,
       (λ e h. absurd (let k = c.requires.fresh in cc)),
       omega (arith, c.loop.invariant.later, e.2),
-      (λ k h. let r = e.3 c.loop.invariant.collecting.chained.fresh (other_err c.in_err-body.field-0.0 errors.ReadFault h) in omega (arith, c.loop.invariant.later, r)),
-      (e.4.0, e.4.1 ∙ c.loop.invariant.collecting.chained.ends_at),
+      (λ k h. let r = e.3 c.loop.invariant.gathering.collecting.chained.fresh (other_err c.in_err-body.field-0.0 errors.ReadFault h) in omega (arith, c.loop.invariant.later, r)),
+      (e.4.0, e.4.1 ∙ c.loop.invariant.gathering.collecting.chained.ends_at),
     )
 
 pub set-requires : goal.set-requires
 set-requires g c = slice_get_within c.loop.has_body c.in_ok-body.body.method false c.in_ok-body.ensures.free
 
+pub loop-init : goal.loop-init
+loop-init g c = record {
+  gathering = gathering_begins g.K.Keeping.of_places c.args.sizes.now c.args.count c.args.w.now (g.S.Source.left c.args.source.now) c.in_ok-has_body.has_body _ _ c.in_ok-has_body.ensures c.new-bodies.ensures c.none-places.ensures c.requires.fresh;
+  later = omega arith;
+  ready = rw c.new-bodies.ensures (All-nil IsReadyBody);
+}
+
 pub loop-preserved : goal.loop-preserved
 loop-preserved g c =
     let e = c.in_ok-body.ensures.value in
     record {
-      collecting = rw (c.set.ensures, c.in_ok-push.ensures.ok, c.in_ok-push-2.ensures.ok, c.as_slice.ensures)
-          (collects c.args.sizes.now c.args.count c.args.w.now (g.S.Source.left c.args.source.now) (c.args.count - c.loop.counter) (c.args.count - (c.loop.counter + 1)) c.loop.has_body c.loop.bodies c.loop.places
-          c.loop.w (g.S.Source.left c.loop.source) c.read_body.new.w (g.S.Source.left c.read_body.new.source) (c.in_ok-body.body, c.read_body.new.reading.starts) (omega arith) c.loop.invariant.collecting e.0 c.in_ok-body.ensures.free c.in_ok-body.ensures.count);
+      gathering = rw (c.set.ensures, c.in_ok-push.ensures.ok)
+          (gathers g.K.Keeping.of_places c.args.sizes.now c.args.count c.args.w.now (g.S.Source.left c.args.source.now) (c.args.count - c.loop.counter) (c.args.count - (c.loop.counter + 1)) c.loop.has_body c.loop.bodies c.loop.places _
+          c.loop.w (g.S.Source.left c.loop.source) c.read_body.new.w (g.S.Source.left c.read_body.new.source) c.in_ok-body.body c.read_body.new.reading.starts (omega arith) c.loop.invariant.gathering e.0 c.in_ok-body.ensures.free c.in_ok-body.ensures.count
+          (λ places is. c.in_ok-keep.ensures places is ∙ ap (λ (row : List ℕ). g.K.Keeping.of_places (places ++ row ∷ [])) c.as_slice.ensures));
       later = omega (arith, e.2, c.loop.invariant.later);
       ready = rw c.in_ok-push.ensures.ok (All-push IsReadyBody c.loop.bodies c.in_ok-body.body c.loop.invariant.ready c.in_ok-body.ensures.ready);
     }
 
 pub returns-clause-value : goal.returns-clause-value
 returns-clause-value g c = (
-  collected c.args.sizes.now c.args.count c.args.w.now (g.S.Source.left c.args.source.now) (c.args.count - c.loop.counter) c.loop.has_body c.loop.bodies c.loop.places c.loop.w (g.S.Source.left c.loop.source)
-      (omega arith) c.requires.fresh c.loop.invariant.collecting,
+  gathered g.K.Keeping.of_places c.args.sizes.now c.args.count c.args.w.now (g.S.Source.left c.args.source.now) (c.args.count - c.loop.counter) c.loop.has_body c.loop.bodies c.loop.places c.loop.w (g.S.Source.left c.loop.source)
+      (omega arith) c.requires.fresh c.loop.invariant.gathering,
   (λ e h. absurd (let k = c.requires.fresh in cc)),
   c.loop.invariant.later,
   (λ k h. absurd cc),
@@ -48,7 +56,7 @@ returns-clause-value g c = (
 )
 
 pub returns-clause-places : goal.returns-clause-places
-returns-clause-places g c = c.loop.invariant.collecting.placed
+returns-clause-places g c = gathered_places g.K.Keeping.of_places c.args.sizes.now c.args.count (c.args.count - c.loop.counter) c.loop.has_body c.loop.bodies c.loop.places _ _ _ _ c.loop.invariant.gathering
 
 pub returns-in_err-push-clause-value : goal.returns-in_err-push-clause-value
 returns-in_err-push-clause-value g c =
@@ -58,24 +66,24 @@ returns-in_err-push-clause-value g c =
     let w = c.read_body.new.w in
     let s = g.S.Source.left c.read_body.new.source in
     rw (p.1, p.2) (
-      (λ k. (before.collecting.chained.told (known w s) (e.0.4 (known w s) (known_is w s)).0, tt)),
+      (λ k. (before.gathering.collecting.chained.told (known w s) (e.0.4 (known w s) (known_is w s)).0, tt)),
       (λ e h. absurd (let k = c.requires.fresh in cc)),
       omega (arith, before.later, e.2),
       (λ k h. absurd cc),
-      (e.0.1, e.0.3 ∙ before.collecting.chained.ends_at),
+      (e.0.1, e.0.3 ∙ before.gathering.collecting.chained.ends_at),
     )
 
-pub returns-in_err-push-2-clause-value : goal.returns-in_err-push-2-clause-value
-returns-in_err-push-2-clause-value g c =
-    let p = err_from_is_err_and c.from_residual-in_err-push-2.result c.from_residual-in_err-push-2.ensures.1 in
+pub returns-in_err-keep-clause-value : goal.returns-in_err-keep-clause-value
+returns-in_err-keep-clause-value g c =
+    let p = err_from_is_err_and c.from_residual-in_err-keep.result c.from_residual-in_err-keep.ensures.1 in
     let e = c.in_ok-body.ensures.value in
     let before = c.loop.invariant in
     let w = c.read_body.new.w in
     let s = g.S.Source.left c.read_body.new.source in
     rw (p.1, p.2) (
-      (λ k. (before.collecting.chained.told (known w s) (e.0.4 (known w s) (known_is w s)).0, tt)),
+      (λ k. (before.gathering.collecting.chained.told (known w s) (e.0.4 (known w s) (known_is w s)).0, tt)),
       (λ e h. absurd (let k = c.requires.fresh in cc)),
       omega (arith, before.later, e.2),
       (λ k h. absurd cc),
-      (e.0.1, e.0.3 ∙ before.collecting.chained.ends_at),
+      (e.0.1, e.0.3 ∙ before.gathering.collecting.chained.ends_at),
     )

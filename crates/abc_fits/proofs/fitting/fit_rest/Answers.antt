@@ -1,4 +1,6 @@
-use Rattle.std.proofs.Common.{arith}
+use Rattle.std.proofs.Common.{arith, subst}
+use Rattle.std.specs.Prelude.{AllPairs}
+use Rattle.abc_fits.specs.Distinct.{Rise}
 use Rattle.abc_fits.proofs.BodiesFit.{bodies_in}
 use Rattle.abc_fits.proofs.FileFits.{total_len, whole_fits}
 use Rattle.abc_fits.proofs.fitting.fit_rest.Goals as goal
@@ -13,15 +15,18 @@ returns-in_default c =
 pub returns-then-saturating_add-gt-LONGEST : goal.returns-then-saturating_add-gt-LONGEST
 returns-then-saturating_add-gt-LONGEST c =
     let whole = whole_fits c.args.abc.now c.requires.pools c.requires.definitions in
-    let total = total_len c.args.abc.now c.as_slice.result.now c.len_before_bodies.result c.in-Some.len c.saturating_add.result c.as_slice.ensures c.len_before_bodies.ensures c.in-Some.ensures.1 c.saturating_add.ensures in (
+    let total = total_len c.args.abc.now c.as_slice.result.now c.len_before_bodies.result c.in-Some.walked.len c.saturating_add.result c.as_slice.ensures c.len_before_bodies.ensures c.in-Some.ensures.1 c.saturating_add.ensures in (
       λ no_result. absurd cc,
       λ f. absurd (omega (arith, (whole.0 f).0, total, c.if-saturating_add-gt-LONGEST.true)),
     )
 
+pub fit_bodies-requires-clause-rise : goal.fit_bodies-requires-clause-rise
+fit_bodies-requires-clause-rise c = λ rise. subst (AllPairs Rise) c.as_slice.ensures (c.in-Some.ensures.2 rise)
+
 pub returns : goal.returns
 returns c =
     let whole = whole_fits c.args.abc.now c.requires.pools c.requires.definitions in
-    let total = total_len c.args.abc.now c.as_slice.result.now c.len_before_bodies.result c.in-Some.len c.saturating_add.result c.as_slice.ensures c.len_before_bodies.ensures c.in-Some.ensures.1 c.saturating_add.ensures in (
+    let total = total_len c.args.abc.now c.as_slice.result.now c.len_before_bodies.result c.in-Some.walked.len c.saturating_add.result c.as_slice.ensures c.len_before_bodies.ensures c.in-Some.ensures.1 c.saturating_add.ensures in (
       λ yes_result. whole.1 (omega (arith, total, c.if-saturating_add-gt-LONGEST.false), c.fit_bodies.ensures.0 yes_result),
       λ f. c.fit_bodies.ensures.1 (whole.0 f).1,
     )
