@@ -1,4 +1,4 @@
-use Rattle.std.proofs.Common.{◌≡◌, ◌<◌, [], ◌∷◌, List, ℕ, subst, sym, ap, ◌∙◌, set, Some, None, length, arith}
+use Rattle.std.proofs.Common.{◌≡◌, ◌<◌, List, ℕ, subst, sym, ap, ◌∙◌, set, Some, None, length, arith}
 use Rattle.std.specs.Prelude.{replicate, Option}
 use Rattle.std.proofs.lemmas.List.{length-replicate}
 use Rattle.abc_typing.specs.Typing.{entry}
