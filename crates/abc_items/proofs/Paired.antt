@@ -1,5 +1,5 @@
 -- Pairs of values of a list, of which the first is taken away.
-use Rattle.std.proofs.Common.{◌≡◌, ◌+◌, ℕ, Bool, true, false, ◌||◌, List, [], ◌∷◌, length, refl, sym, ap, ◌∙◌, arith}
+use Rattle.std.proofs.Common.{◌≡◌, Bool, true, false, ◌||◌, List, [], ◌∷◌, length, sym, ap, ◌∙◌, arith}
 use Rattle.std.specs.List.{list_any, IsFirstAndRest}
 use Rattle.abc_items.specs.Traits.{any_pair}
 
