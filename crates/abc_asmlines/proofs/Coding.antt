@@ -1,5 +1,5 @@
 -- Code, line by line.
-use Rattle.std.proofs.Common.{◌≡◌, ℕ, ◌≤◌, Bool, true, false, cond, nat_eq, List, [], ◌∷◌, ◌++◌, length, Ok, Err, Some, None, refl, sym, ap, subst, ◌∙◌, append_assoc, append-nil, arith}
+use Rattle.std.proofs.Common.{◌≡◌, ℕ, true, false, nat_eq, List, [], ◌∷◌, ◌++◌, length, Ok, Err, Some, None, refl, sym, ap, subst, ◌∙◌, append_assoc, append-nil, arith}
 use Rattle.std.specs.declared.option.Option.{Option}
 use Rattle.std.specs.declared.result.Result.{Result}
 use Rattle.abc_text.specs.declared.reason.AsmReason.{AsmReason}
@@ -10,7 +10,7 @@ use Rattle.abc_text.specs.Words.{place_of}
 use Rattle.abc_tables.specs.declared.code.Instr.{Instr}
 use Rattle.abc_tables.specs.declared.tables.Sizes.{Sizes}
 use Rattle.abc_rowparts.specs.Lines.{Row}
-use Rattle.abc_rowparts.specs.Rows.{Fault, coded, code_reads, fault, is_label, unless, ◌>>=◌}
+use Rattle.abc_rowparts.specs.Rows.{Fault, coded, code_reads, fault, is_label, unless}
 use Rattle.abc_rowparts.proofs.Pieces.{unless_ok}
 use Rattle.abc_lines.specs.File.{faults, instructions}
 use Rattle.abc_asmreader.specs.declared.error.AsmError.{AsmError}

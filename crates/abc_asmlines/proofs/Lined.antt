@@ -12,16 +12,14 @@ use Rattle.abc_text.specs.Tokens.{Token}
 use Rattle.abc_tables.specs.declared.code.Instr.{Instr}
 use Rattle.abc_tables.specs.declared.code.Instr.TheVariants as instrs
 use Rattle.abc_tables.specs.declared.tables.Sizes.{Sizes}
-use Rattle.abc_rowparts.specs.Firsts.{told}
 use Rattle.abc_rowparts.specs.Lines.{Label, Row}
 use Rattle.abc_rowparts.specs.Operands.{none, none_left, reasons_of}
-use Rattle.abc_rowparts.specs.Rows.{Fault, fault, unless}
+use Rattle.abc_rowparts.specs.Rows.{Fault, unless}
 use Rattle.abc_rowparts.specs.Wordlines.{in_word, twice}
 use Rattle.abc_lines.specs.File.{faults, instructions, others, own}
 use Rattle.abc_lines.specs.Lineforms.{instruction_line, opcode_of}
 use Rattle.abc_operands.specs.Answers.{Answers}
 use Rattle.abc_operands.specs.Joined.{line_result}
-use Rattle.abc_operands.specs.Places.{Places}
 use Rattle.abc_operands.specs.declared.error.LineError.{LineError}
 use Rattle.abc_tokens.specs.Walks.{tokens_of}
 use Rattle.abc_tokens.specs.declared.token.Token as code
@@ -29,7 +27,7 @@ use Rattle.abc_asmreader.specs.declared.error.AsmError.TheVariants as errors
 use Rattle.abc_asmreader.specs.declared.reader.Reader.{Reader}
 use Rattle.abc_asmreader.specs.declared.reader.Taken.{Taken}
 use Rattle.abc_asmreader.specs.Parts.{Gives, ReadsItem, made_at}
-use Rattle.abc_asmreader.specs.Reading.{Goes, labels_now, may_repeat, row_of, rows_left, word_next}
+use Rattle.abc_asmreader.specs.Reading.{labels_now, may_repeat, row_of, rows_left, word_next}
 use Rattle.abc_asmreader.proofs.Lone.{IsHeaded, first_row, given_by, no_extra, once_faults, rest_rows, unless_broken, whole_faults}
 use Rattle.abc_asmlines.specs.Coded.{instruction_read, label_read}
 

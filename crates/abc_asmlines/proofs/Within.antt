@@ -1,8 +1,7 @@
 -- The integers of lines are 32 bits wide.
-use Rattle.std.proofs.Common.{◌≡◌, ℕ, ℤ, pos, negsuc, true, ◌&&◌, List, [], ◌∷◌, Ok, Err, Some, None, refl, subst, rules}
+use Rattle.std.proofs.Common.{◌≡◌, ℤ, pos, negsuc, true, ◌&&◌, List, [], ◌∷◌, Ok, Some, None, refl, subst, rules}
 use Rattle.std.specs.Prelude.{◌≤ℤ◌, int_le}
 use Rattle.std.specs.declared.option.Option.{Option}
-use Rattle.std.specs.declared.result.Result.{Result}
 use Rattle.abc_text.specs.declared.reason.AsmReason.{AsmReason}
 use Rattle.abc_text.specs.Reasons.{least}
 use Rattle.abc_text.specs.Tokens.{Token}

@@ -1,11 +1,12 @@
 -- The lines of code, as they are read.
-use Rattle.std.specs.Prelude.{◌≡◌, ℕ, List, [], ◌∷◌, ◌++◌, Ok}
+use Rattle.std.specs.Prelude.{◌≡◌, List, ◌++◌, Ok, Err}
 use Rattle.std.specs.declared.result.Result.{Result}
 use Rattle.abc_tables.specs.declared.code.Instr.{Instr}
 use Rattle.abc_text.specs.Reasons.{least}
 use Rattle.abc_rowparts.specs.Lines.{Row}
 use Rattle.abc_rowparts.specs.Rows.{Fault, code_reads, unless, ◌>>=◌}
 use Rattle.abc_lines.specs.File.{faults, instructions}
+use Rattle.abc_asmreader.specs.declared.error.AsmError.{AsmError}
 use Rattle.abc_asmreader.specs.declared.reader.Reader.{Reader}
 use Rattle.abc_asmreader.specs.Parts.{Item, Part}
 use Rattle.abc_asmreader.specs.Reading.{Goes, rows_left}
@@ -21,6 +22,11 @@ instruction_read v instances n row rows = unless (least (faults v instances row 
 -- a label line
 abbrev pub label_read : Item (Unit {0})
 label_read v instances n row rows = unless (least (faults v instances row rows)) row.number (Ok (tt, rows))
+
+-- the result of a reader that leaves what it read in a list
+abbrev pub gathered : Result (Unit {0}) AsmError → List Instr → Result (List Instr) AsmError
+gathered (Ok t) xs = Ok xs
+gathered (Err e) xs = Err e
 
 -- some instructions before those that are read
 abbrev pub code_front : List Instr → Result (List Instr × List Row) Fault → Result (List Instr × List Row) Fault

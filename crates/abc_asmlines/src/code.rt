@@ -1,9 +1,9 @@
 //! The code of a body.
-ghost use Rattle.std.specs.Prelude.{◌≡◌, ◌<◌, ℕ, IfOk, length, Some};
+ghost use Rattle.std.specs.Prelude.{◌≡◌, ◌<◌, ℕ, [], IfOk, length, Some};
 ghost use Rattle.abc_text.specs.declared.word.Word.TheVariants as words;
 ghost use Rattle.abc_asmreader.specs.Parts.{ReadsItem, ReadsPart};
 ghost use Rattle.abc_asmreader.specs.Reading.{Goes, IsReader, rows_left, word_next};
-ghost use Rattle.abc_asmlines.specs.Coded.{code_read, instruction_read, label_read};
+ghost use Rattle.abc_asmlines.specs.Coded.{code_read, gathered, instruction_read, label_read};
 
 use abc_asmreader::{AsmError, Reader, made, refused};
 use abc_base::Table;
@@ -11,14 +11,13 @@ use abc_codelines::instruction_line;
 use abc_tables::Instr;
 use abc_text::{AsmReason, Word};
 
-/// Reads the instructions of a body, and the label lines among them. `Refused` for the first fault, `NoMemory` where
-/// memory runs out.
-pub fn read_code(reader: &mut Reader<'_>) -> Result<Table<Instr>, AsmError>
-    requires { IsReader reader.old }
-    ensures goes { IfOk result (λ xs. Goes reader.old reader.new) }
-    ensures reads { ReadsPart code_read reader.old reader.new result }
+/// Reads the instructions of a body, and the label lines among them, to the end of a list.
+fn gather_code(reader: &mut Reader<'_>, code: &mut Table<Instr>) -> Result<(), AsmError>
+    requires is { IsReader reader.old }
+    requires none { code.old ≡ [] }
+    ensures goes { IfOk result (λ x. Goes reader.old reader.new) }
+    ensures reads { ReadsPart code_read reader.old reader.new (gathered result code.new) }
 {
-    let mut code = Table::new(reader.alloc);
     while let Some(word) = reader.word() {
         match word {
             Word::Label => read_label(reader)?,
@@ -26,9 +25,25 @@ pub fn read_code(reader: &mut Reader<'_>) -> Result<Table<Instr>, AsmError>
                 let instr = read_instruction(reader, op)?;
                 code.push(instr)?;
             }
-            _ => return Ok(code),
+            _ => return Ok(()),
         }
     }
+    Ok(())
+}
+
+/// Reads the instructions of a body, and the label lines among them. They are gathered in a list, whose memory serves one body
+/// after the other. `Refused` for the first fault, `NoMemory` where memory runs out.
+pub fn read_code(
+    reader: &mut Reader<'_>,
+    gathering: &mut Table<Instr>,
+) -> Result<Table<Instr>, AsmError>
+    requires { IsReader reader.old }
+    ensures goes { IfOk result (λ xs. Goes reader.old reader.new) }
+    ensures reads { ReadsPart code_read reader.old reader.new result }
+{
+    gathering.truncate(0);
+    gather_code(reader, gathering)?;
+    let code = gathering.move_out(reader.alloc)?;
     Ok(code)
 }
 

@@ -36,15 +36,16 @@ pub fn read_bodies(reader: &mut Reader<'_>) -> Result<Table<Body>, AsmError>
     ensures reads { ReadsPart (all_items words.Body body_item) reader.old reader.new result }
 {
     let mut bodies = Table::new(reader.alloc);
+    let mut gathering = Table::new(reader.alloc);
     while comes(reader, Word::Body) {
-        let body = read_body(reader)?;
+        let body = read_body(reader, &mut gathering)?;
         bodies.push(body)?;
     }
     Ok(bodies)
 }
 
-/// Reads a body, whose line comes next.
-fn read_body(reader: &mut Reader<'_>) -> Result<Body, AsmError>
+/// Reads a body, whose line comes next. Its instructions are gathered in a list that serves one body after the other.
+fn read_body(reader: &mut Reader<'_>, gathering: &mut Table<Instr>) -> Result<Body, AsmError>
     requires is { IsReader reader.old }
     requires next { ComesNext words.Body (rows_left reader.old) }
     ensures goes { IfOk result (λ x. Goes reader.old reader.new) }
@@ -55,7 +56,7 @@ fn read_body(reader: &mut Reader<'_>) -> Result<Body, AsmError>
     let own = body_line(reader.operands.as_slice(), &reader.sizes);
     let said = with_fault(own, !taken.repeated, AsmReason::SecondBody);
     let head = valued(&taken, said)?;
-    let below = read_below(reader)?;
+    let below = read_below(reader, gathering)?;
     if is_too_long(reader, &below.code) {
         return Err(refused(taken.number, AsmReason::CodeTooLong));
     }
@@ -91,12 +92,12 @@ fn ends(reader: &Reader<'_>) -> bool
 }
 
 /// The lines below a body.
-fn read_below(reader: &mut Reader<'_>) -> Result<BodyBelow, AsmError>
+fn read_below(reader: &mut Reader<'_>, gathering: &mut Table<Instr>) -> Result<BodyBelow, AsmError>
     requires { IsReader reader.old }
     ensures goes { IfOk result (λ x. Goes reader.old reader.new) }
     ensures reads { ReadsPart body_below reader.old reader.new result }
 {
-    let code = read_code(reader)?;
+    let code = read_code(reader, gathering)?;
     let handlers = read_flat::<Handlers>(reader)?;
     let traits = read_all::<Traits>(reader)?;
     Ok(BodyBelow {

@@ -20,7 +20,7 @@ use Rattle.abc_asmreader.specs.Reading.{IsReader, labels_now, rows_left, set_now
 -- how many lines of a place are left
 pub left_counted : (r : Reader) (place : ℕ) → count_all place (rows_left r) ≡ count_all_raws place (raws_at r.next)
 unfolding rows_left
-left_counted r place = all_counted place (labels_now r.body) (set_now r) (names_in r.bodied) (raws_at r.next)
+left_counted r place = all_counted place (labels_now r.body) (set_now r) r.bodied (raws_at r.next)
 
 no_places : (m : NameMap ℕ) → m.entries ≡ [] → Places m []
 no_places m e name = ap (λ (es : List (Bor (List ℕ) × ℕ)). lookup (is_named name) es) e
@@ -30,14 +30,14 @@ module _ (text : List ℕ) (next : Option Line) (comes : Comes (raws_from 1 (lin
   unfolding rows_of
   first_rows = ap (λ (raws : List Raw). rows_from [] [] [] raws) (sym (comes_raws (raws_from 1 (lines_in text)) 1 (length text) next comes))
 
-  module _ (r : Reader) (here : r.next ≡ next) (body : r.body ≡ None) (places : r.places.entries ≡ []) (set : r.set.entries ≡ []) (met : r.met ≡ 0) (bodied : r.bodied.entries ≡ []) where
+  module _ (r : Reader) (here : r.next ≡ next) (body : r.body ≡ None) (places : r.places.entries ≡ []) (set : r.set.entries ≡ []) (met : r.met ≡ 0) (bodied : r.bodied ≡ []) where
     pub fresh_rows : rows_left r ≡ rows_of text
     unfolding rows_left
     fresh_rows =
-        ap (λ (o : Option Line). rows_from (labels_now o) (set_now r) (names_in r.bodied) (raws_at r.next)) body
-        ∙ ap (λ (es : List (Bor (List ℕ) × Bool)). rows_from [] (map key_of es ++ take r.met (names_in r.places)) (names_in r.bodied) (raws_at r.next)) set
-        ∙ ap (λ (n : ℕ). rows_from [] (take n (names_in r.places)) (names_in r.bodied) (raws_at r.next)) met
-        ∙ ap (λ (es : List (Bor (List ℕ) × Bool)). rows_from [] [] (map key_of es) (raws_at r.next)) bodied
+        ap (λ (o : Option Line). rows_from (labels_now o) (set_now r) r.bodied (raws_at r.next)) body
+        ∙ ap (λ (es : List (Bor (List ℕ) × Bool)). rows_from [] (map key_of es ++ take r.met (names_in r.places)) r.bodied (raws_at r.next)) set
+        ∙ ap (λ (n : ℕ). rows_from [] (take n (names_in r.places)) r.bodied (raws_at r.next)) met
+        ∙ ap (λ (taken : List (List ℕ)). rows_from [] [] taken (raws_at r.next)) bodied
         ∙ ap (λ (o : Option Line). rows_from [] [] [] (raws_at o)) here
         ∙ first_rows
 

@@ -1,4 +1,5 @@
 pub mod Seen
+pub mod Rising
 pub mod Sets
 pub mod Taking
 pub mod Fresh

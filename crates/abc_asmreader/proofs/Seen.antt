@@ -35,16 +35,16 @@ or_true : (b : Bool) → cond b true true ≡ true
 or_true true = refl
 or_true false = refl
 
-among_append : (name : List ℕ) (xs ys : List (List ℕ)) → is_among name (xs ++ ys) ≡ cond (is_among name xs) true (is_among name ys)
+pub among_append : (name : List ℕ) (xs ys : List (List ℕ)) → is_among name (xs ++ ys) ≡ cond (is_among name xs) true (is_among name ys)
 among_append name [] ys = refl
 among_append name (x ∷ xs) ys = or_first (bytes_eq x name) (is_among name (xs ++ ys)) (is_among name xs) (is_among name ys) (among_append name xs ys)
 
 -- one more behind some
-among_last : (x : List ℕ) (xs : List (List ℕ)) → Same (xs ++ x ∷ []) (x ∷ xs)
+pub among_last : (x : List ℕ) (xs : List (List ℕ)) → Same (xs ++ x ∷ []) (x ∷ xs)
 among_last x [] name = refl
 among_last x (y ∷ xs) name = ap (λ (b : Bool). cond (bytes_eq y name) true b) (among_last x xs name) ∙ or_swap (bytes_eq y name) (bytes_eq x name) (is_among name xs)
 
-same_behind : (xs ys zs : List (List ℕ)) → Same xs ys → Same (xs ++ zs) (ys ++ zs)
+pub same_behind : (xs ys zs : List (List ℕ)) → Same xs ys → Same (xs ++ zs) (ys ++ zs)
 same_behind xs ys zs same name = among_append name xs zs ∙ ap (λ (b : Bool). cond b true (is_among name zs)) (same name) ∙ sym (among_append name ys zs)
 
 -- ---- names that are added
@@ -172,7 +172,7 @@ among_labels labels met others name known before is miss e =
 pub more_others : (labels : NameMap ℕ) (met : ℕ) (old new : NameMap Bool) (name : List ℕ) → Same (names_in new) (name ∷ names_in old) → Same (stood labels met new) (name ∷ stood labels met old)
 more_others labels met old new name same = same_behind (names_in new) (name ∷ names_in old) (take met (names_in labels)) same
 
-none_there : (others : NameMap Bool) → length others.entries ≡ 0 → names_in others ≡ []
+pub none_there : (others : NameMap Bool) → length others.entries ≡ 0 → names_in others ≡ []
 none_there others e = none others.entries e
   where
     none : (es : List (Bor (List ℕ) × Bool)) → length es ≡ 0 → map key_of es ≡ []

@@ -5,7 +5,7 @@ use Rattle.abc_rowparts.specs.Lines.{Label, Row}
 use Rattle.abc_lines.specs.Texts.{Counts, Ends, Raw, Sets, Skips, Step, by_step, is_among, is_taken, labels_set, method_in, row, rows_from, step_of}
 use Rattle.abc_asmreader.specs.Names.{Same}
 
-same_one : (x : List ℕ) (xs ys : List (List ℕ)) → Same xs ys → Same (x ∷ xs) (x ∷ ys)
+pub same_one : (x : List ℕ) (xs ys : List (List ℕ)) → Same xs ys → Same (x ∷ xs) (x ∷ ys)
 same_one x xs ys same name = ap (λ (b : Bool). cond (bytes_eq x name) true b) (same name)
 
 same_front : (zs xs ys : List (List ℕ)) → Same xs ys → Same (zs ++ xs) (zs ++ ys)

@@ -25,7 +25,7 @@ use Rattle.abc_tokens.specs.Names.{NameMap}
 use Rattle.abc_tokens.specs.Walks.{Gathers, tokens_of}
 use Rattle.abc_tokens.specs.declared.line.Line.{Line}
 use Rattle.abc_tokens.specs.declared.token.Token.{Token}
-use Rattle.abc_asmreader.specs.Names.{Same, names_in}
+use Rattle.abc_asmreader.specs.Names.{Same}
 use Rattle.abc_asmreader.specs.declared.error.AsmError.TheVariants as errors
 use Rattle.abc_asmreader.specs.declared.reader.Reader.{Reader}
 use Rattle.abc_asmreader.specs.Reading.{IsBroken, IsReader, Noted, NotedBody, Opens, labels_now, may_repeat, one_at, raw_with, row_of, rows_left, set_now, word_next}
@@ -69,12 +69,12 @@ module _ (labels : List Label) (set taken : List (List ℕ)) (raw : Raw) (raws :
 pub next_word : (r : Reader) (line : Line) → r.next ≡ Some line → Some line.word ≡ word_next (rows_left r)
 unfolding rows_left
 next_word r line e =
-    sym (first_word (labels_now r.body) (set_now r) (names_in r.bodied) (raw_of line) (raws_after line))
-    ∙ ap (λ (o : Option Line). word_next (rows_from (labels_now r.body) (set_now r) (names_in r.bodied) (raws_at o))) (sym e)
+    sym (first_word (labels_now r.body) (set_now r) r.bodied (raw_of line) (raws_after line))
+    ∙ ap (λ (o : Option Line). word_next (rows_from (labels_now r.body) (set_now r) r.bodied (raws_at o))) (sym e)
 
 pub no_word : (r : Reader) → r.next ≡ None → None ≡ word_next (rows_left r)
 unfolding rows_left
-no_word r e = ap (λ (o : Option Line). word_next (rows_from (labels_now r.body) (set_now r) (names_in r.bodied) (raws_at o))) (sym e)
+no_word r e = ap (λ (o : Option Line). word_next (rows_from (labels_now r.body) (set_now r) r.bodied (raws_at o))) (sym e)
 
 pub some_next : (r : Reader) → r.next ≡ None → IsSome (word_next (rows_left r)) → ⊥
 some_next r e some = let none : IsSome {T = Word} None = subst (λ (o : Option Word). IsSome o) (sym (no_word r e)) some in cc
@@ -100,37 +100,37 @@ pub opens_other : (old new : Reader) (line : Line) → may_repeat line.word ≡ 
 opens_other old new line plain body set bodied broken =
     let raw = raw_with line broken old.operands.items in
     let raws = raws_after line in
-    first_other (labels_now old.body) (set_now old) (names_in old.bodied) raw raws plain
-    ∙ ap (λ (o : Option Line). row raw (labels_now o) false ∷ rows_from (labels_now o) (set_now old) (names_in old.bodied) raws) (sym body)
-    ∙ ap (λ (names : List (List ℕ)). row raw (labels_now new.body) false ∷ rows_from (labels_now new.body) names (names_in old.bodied) raws) (sym set)
-    ∙ ap (λ (m : NameMap Bool). row raw (labels_now new.body) false ∷ rows_from (labels_now new.body) (set_now new) (names_in m) raws) (sym bodied)
+    first_other (labels_now old.body) (set_now old) old.bodied raw raws plain
+    ∙ ap (λ (o : Option Line). row raw (labels_now o) false ∷ rows_from (labels_now o) (set_now old) old.bodied raws) (sym body)
+    ∙ ap (λ (names : List (List ℕ)). row raw (labels_now new.body) false ∷ rows_from (labels_now new.body) names old.bodied raws) (sym set)
+    ∙ ap (λ (taken : List (List ℕ)). row raw (labels_now new.body) false ∷ rows_from (labels_now new.body) (set_now new) taken raws) (sym bodied)
 
 pub opens_label : (old new : Reader) (line : Line) (repeated : Bool) → line.word ≡ words.Label → new.body ≡ old.body → new.bodied ≡ old.bodied → repeated ≡ is_among line.name.now (set_now old) → Same (set_now new) (line.name.now ∷ set_now old) → Opens old new line repeated
 opens_label old new line repeated word body bodied is same broken =
     let raw = raw_with line broken old.operands.items in
     let raws = raws_after line in
     let labels = labels_now old.body in
-    let taken = names_in old.bodied in
+    let taken = old.bodied in
     let name = line.name.now in
     first_label labels (set_now old) taken raw raws word
     ∙ ap (λ (b : Bool). row raw labels b ∷ rows_from labels (name ∷ set_now old) taken raws) (sym is)
     ∙ ap (λ (l : List Row). row raw labels repeated ∷ l) (same_rows labels (name ∷ set_now old) (set_now new) taken taken raws (λ n. sym (same n)) (λ n. refl))
     ∙ ap (λ (o : Option Line). row raw (labels_now o) repeated ∷ rows_from (labels_now o) (set_now new) taken raws) (sym body)
-    ∙ ap (λ (m : NameMap Bool). row raw (labels_now new.body) repeated ∷ rows_from (labels_now new.body) (set_now new) (names_in m) raws) (sym bodied)
+    ∙ ap (λ (taken : List (List ℕ)). row raw (labels_now new.body) repeated ∷ rows_from (labels_now new.body) (set_now new) taken raws) (sym bodied)
 
 pub opens_body : (old new : Reader) (line : Line) (repeated : Bool) → line.word ≡ words.Body → NotedBody old new line repeated → Opens old new line repeated
 opens_body old new line repeated word noted broken =
     let raw = raw_with line broken old.operands.items in
     let raws = raws_after line in
     let labels = labels_set 0 raws in
-    let taken = names_in old.bodied in
+    let taken = old.bodied in
     let methods = method_in (tokens_of old.operands.items) in
     let e : Some line ≡ new.body = sym noted.body in
     let f : [] ≡ set_now new = sym noted.set in
     first_body (labels_now old.body) (set_now old) taken raw raws word
     ∙ ap (λ (b : Bool). row raw labels b ∷ rows_from labels [] (methods ++ taken) raws) (sym noted.repeats)
-    ∙ ap (λ (l : List Row). row raw labels repeated ∷ l) (same_rows labels [] (set_now new) (methods ++ taken) (names_in new.bodied) raws (λ n. ap (λ (xs : List (List ℕ)). is_among n xs) f) (λ n. sym (noted.bodied n)))
-    ∙ ap (λ (o : Option Line). row raw (labels_now o) repeated ∷ rows_from (labels_now o) (set_now new) (names_in new.bodied) raws) e
+    ∙ ap (λ (l : List Row). row raw labels repeated ∷ l) (same_rows labels [] (set_now new) (methods ++ taken) new.bodied raws (λ n. ap (λ (xs : List (List ℕ)). is_among n xs) f) (λ n. sym (noted.bodied n)))
+    ∙ ap (λ (o : Option Line). row raw (labels_now o) repeated ∷ rows_from (labels_now o) (set_now new) new.bodied raws) e
 
 -- a line of another word
 pub noted_other : (old new : Reader) (line : Line) → Places old.places (labels_now old.body) → may_repeat line.word ≡ false → new.next ≡ old.next → new.operands.items ≡ old.operands.items → new.sizes ≡ old.sizes → new.instances ≡ old.instances → new.places ≡ old.places → new.body ≡ old.body → set_now new ≡ set_now old → new.bodied ≡ old.bodied → new.instances_left + one_at 14 line.word ≡ old.instances_left → new.classes_left + one_at 20 line.word ≡ old.classes_left → Follows new.next (drop new.place new.ahead.items) → Noted old new line false
@@ -207,7 +207,7 @@ unfolding rows_left
 taken_is old mid new line repeated unclosed number count noted next body set bodied gathers comes =
     let labels = labels_now old.body in
     let all = set_now old in
-    let methods = names_in old.bodied in
+    let methods = old.bodied in
     let raw = raw_with line (line.broken || unclosed) mid.operands.items in
     let e = sym body in let f = sym set in let g = sym bodied in
     let head = row raw (labels_now new.body) repeated in
@@ -216,9 +216,9 @@ taken_is old mid new line repeated unclosed number count noted next body set bod
     ∙ ap (λ (r : Raw). rows_from labels all methods (r ∷ raws_after line)) (raw_is line mid.operands.items unclosed gathers)
     ∙ ap (λ (o : Option Line). rows_from (labels_now o) all methods (raw ∷ raws_after line)) e
     ∙ ap (λ (names : List (List ℕ)). rows_from (labels_now mid.body) names methods (raw ∷ raws_after line)) f
-    ∙ ap (λ (m : NameMap Bool). rows_from (labels_now mid.body) (set_now mid) (names_in m) (raw ∷ raws_after line)) g
+    ∙ ap (λ (taken : List (List ℕ)). rows_from (labels_now mid.body) (set_now mid) taken (raw ∷ raws_after line)) g
     ∙ noted.opens (line.broken || unclosed)
-    ∙ ap (λ (raws : List Raw). head ∷ rows_from (labels_now new.body) (set_now new) (names_in new.bodied) raws) rest
+    ∙ ap (λ (raws : List Raw). head ∷ rows_from (labels_now new.body) (set_now new) new.bodied raws) rest
 
 -- a whole line
 pub taken_row : (old mid new : Reader) (line : Line) (repeated unclosed broken : Bool) (number count : ℕ) → Noted mid new line repeated → old.next ≡ Some line → mid.body ≡ old.body → set_now mid ≡ set_now old → mid.bodied ≡ old.bodied → Gathers line.tail.now mid.operands.items unclosed → Comes (raws_after line) number count mid.next → broken ≡ (line.broken || unclosed) → broken ≡ false → rows_left old ≡ row_of (record { number = line.number; word = line.word; repeated = repeated }) new ∷ rows_left new

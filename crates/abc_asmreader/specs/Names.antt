@@ -1,6 +1,7 @@
 -- Names that were seen.
-use Rattle.std.specs.Prelude.{◌≡◌, ◌<◌, ◌^◌, ℕ, Bool, false, List, ◌++◌, map, slice_get, take, Some}
+use Rattle.std.specs.Prelude.{◌≡◌, ◌<◌, ◌^◌, ℕ, Bool, false, true, List, ◌++◌, map, slice_get, take, Some}
 use Rattle.std.specs.Borrow.{Bor}
+use Rattle.abc_rowparts.specs.Operands.{number_of}
 use Rattle.abc_lines.specs.Texts.{is_among}
 use Rattle.abc_tokens.specs.Names.{NameMap}
 
@@ -10,6 +11,14 @@ key_of entry = entry.0.now
 -- the names of a map
 abbrev pub names_in : {V : Type 0} → NameMap V → List (List ℕ)
 names_in m = map key_of m.entries
+
+-- the texts of some names
+abbrev pub texts : List (Bor (List ℕ)) → List (List ℕ)
+texts names = map (λ (name : Bor (List ℕ)). name.now) names
+
+-- the numbers of some numerals are below a bound
+abbrev pub AreBelow : ℕ → List (List ℕ) → Type 0
+AreBelow bound names = (name : List ℕ) → is_among name names ≡ true → number_of name < bound
 
 -- the same names are among both
 abbrev pub Same : List (List ℕ) → List (List ℕ) → Type 0

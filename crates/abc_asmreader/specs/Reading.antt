@@ -14,7 +14,7 @@ use Rattle.abc_tokens.specs.Cursor.{AreNumbered, most_lines, raws_after, raws_at
 use Rattle.abc_tokens.specs.Walks.{tokens_of}
 use Rattle.abc_tokens.specs.declared.line.Line.{Line}
 use Rattle.abc_tokens.specs.declared.token.Token.{Token}
-use Rattle.abc_asmreader.specs.Names.{Same, names_in, stood}
+use Rattle.abc_asmreader.specs.Names.{Same, stood}
 use Rattle.abc_asmreader.specs.declared.error.AsmError.{AsmError}
 use Rattle.abc_asmreader.specs.declared.error.AsmError.TheVariants as errors
 use Rattle.abc_asmreader.specs.declared.reader.Reader.{Reader}
@@ -33,7 +33,7 @@ set_now r = stood r.places r.met r.set
 
 -- the lines that are left
 unfoldable pub rows_left : Reader → List Row
-rows_left r = rows_from (labels_now r.body) (set_now r) (names_in r.bodied) (raws_at r.next)
+rows_left r = rows_from (labels_now r.body) (set_now r) r.bodied (raws_at r.next)
 
 abbrev pub word_next : List Row → Option Word
 word_next [] = None
@@ -85,7 +85,7 @@ one_at place word = if nat_eq (place_of word) place then 1 else 0
 abbrev pub Opens : Reader → Reader → Line → Bool → Type 0
 Opens old new line repeated =
     (broken : Bool) → let raw = raw_with line broken old.operands.items in
-    rows_from (labels_now old.body) (set_now old) (names_in old.bodied) (raw ∷ raws_after line) ≡ row raw (labels_now new.body) repeated ∷ rows_from (labels_now new.body) (set_now new) (names_in new.bodied) (raws_after line)
+    rows_from (labels_now old.body) (set_now old) old.bodied (raw ∷ raws_after line) ≡ row raw (labels_now new.body) repeated ∷ rows_from (labels_now new.body) (set_now new) new.bodied (raws_after line)
 
 -- what is noted of a line
 pub record Noted (old new : Reader) (line : Line) (repeated : Bool) : Type 0 where
@@ -126,5 +126,5 @@ pub record NotedBody (old new : Reader) (line : Line) (repeated : Bool) : Type 0
   pub places : Places new.places (labels_now new.body)
   pub body : new.body ≡ Some line
   pub set : set_now new ≡ []
-  pub repeats : repeated ≡ is_taken (method_in (tokens_of old.operands.items)) (names_in old.bodied)
-  pub bodied : Same (names_in new.bodied) (method_in (tokens_of old.operands.items) ++ names_in old.bodied)
+  pub repeats : repeated ≡ is_taken (method_in (tokens_of old.operands.items)) old.bodied
+  pub bodied : Same new.bodied (method_in (tokens_of old.operands.items) ++ old.bodied)

@@ -1,6 +1,7 @@
 //! The reader of the assembler: the lines of a text, one after the other, and the lines of one word that come.
 #![tactic(auto)]
 
+mod bodied;
 mod error;
 mod noting;
 mod reader;

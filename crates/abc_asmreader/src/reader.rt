@@ -6,8 +6,9 @@ ghost use Rattle.abc_rowparts.specs.Wordlines.{count_all, count_lines as lines_c
 ghost use Rattle.abc_text.specs.Words.{place_of};
 ghost use Rattle.abc_tokens.specs.Cursor.{AreNumbered, most_lines, raws_after, raws_at};
 
+use crate::bodied::Bodied;
 use crate::error::{AsmError, refused};
-use crate::noting::{add, method_of, note_label, renew};
+use crate::noting::{method_of, note_label, renew};
 use abc_base::NoMemory;
 use abc_labels::{TableSizes, count_lines, labels_of, line_after, look_ahead, meet, sizes_of};
 use abc_tables::Sizes;
@@ -46,7 +47,7 @@ pub struct Reader<'a> {
     /// Labels that stood in the body so far and are not the next of these.
     set: IndexMap<&'a [u8], bool>,
     /// The methods that have a body.
-    bodied: IndexMap<&'a [u8], bool>,
+    bodied: Bodied<'a>,
     /// How many lines each table has.
     pub sizes: Sizes,
     /// How many lines are instances'.
@@ -81,7 +82,7 @@ impl<'a> Reader<'a> {
             places: IndexMap::new(alloc),
             met: 0,
             set: IndexMap::new(alloc),
-            bodied: IndexMap::new(alloc),
+            bodied: Bodied::new(alloc),
             sizes,
             instances,
             instances_left: instances,
@@ -193,7 +194,7 @@ impl<'a> Reader<'a> {
     {
         self.enter(line)?;
         match method_of(self.operands.as_slice()) {
-            Some(method) => add(&mut self.bodied, method),
+            Some(method) => self.bodied.note(method),
             None => Ok(false),
         }
     }

@@ -6,3 +6,4 @@ pub mod Covered
 pub mod Ranges
 pub mod Told
 pub mod Waits
+pub mod Numbering

@@ -1,9 +1,8 @@
 -- The states of places by their numbers.
-use Rattle.std.proofs.Common.{◌≡◌, ◌≢◌, ℕ, zero, suc, ◌+◌, ◌-◌, ◌≤◌, ◌<◌, ◌^◌, List, [], ◌∷◌, ◌++◌, Option, Some, None, length, set, replicate, take, refl, sym, ap, ◌∙◌, subst, arith, ◌⊎◌, inl, inr, length-append, slice_index_or}
+use Rattle.std.proofs.Common.{◌≡◌, ◌≢◌, ℕ, zero, suc, ◌+◌, ◌-◌, ◌≤◌, ◌<◌, ◌^◌, List, [], ◌∷◌, ◌++◌, Option, Some, None, length, set, replicate, refl, sym, ap, ◌∙◌, subst, arith, ◌⊎◌, inl, inr, length-append}
 use Rattle.std.specs.Prelude.{Bool, cond, slice_get}
 use Rattle.std.proofs.lemmas.Bool.{le-ltb, lt-ltb}
 use Rattle.std.proofs.lemmas.List.{length-replicate, map-set}
-use Rattle.std.proofs.lemmas.Option.{slice_get_read}
 use Rattle.std.proofs.Math.ListN.{length-set}
 use Rattle.abc_typing.proofs.Lists.{slice_get-last, slice_get-set}
 use Rattle.abc_flow.specs.Kept.{AreNumbered, AreNumbers, count_of, known_at, numbered, placed}
@@ -62,18 +61,6 @@ none_kept n = record { are = blank_numbers 0 (omega arith); within = omega arith
 
 pub blank_kept : (n all : ℕ) → n < 2 ^ 32 → AreNumbered (replicate n 0) 0 all
 blank_kept n all small = record { are = blank_numbers n small; within = omega arith }
-
-nothing : (n : ℕ) (zs : List ℕ) → take n [] ++ zs ≡ zs
-nothing zero zs = refl
-nothing (suc n) zs = refl
-
-pub renewed_numbers : (n m : ℕ) (xs ys : List ℕ) → xs ≡ [] → m ≡ 0 → ys ≡ take n xs ++ replicate (n - m) 0 → ys ≡ replicate n 0
-renewed_numbers n m xs ys e z q =
-    let w : n - m ≡ n = omega arith in
-    q
-    ∙ ap (λ (zs : List ℕ). take n zs ++ replicate (n - m) 0) e
-    ∙ nothing n (replicate (n - m) 0)
-    ∙ ap (λ (k : ℕ). replicate {A = ℕ} k 0) w
 
 -- ---- a value takes the place of another, or comes at the end
 
@@ -240,9 +227,12 @@ at_none [] ks i e = refl
 at_none (m ∷ ns) ks zero e = absurd cc
 at_none (m ∷ ns) ks (suc i) e = at_none ns ks i e
 
-pub known_length : {X : Type 0} (ns : List ℕ) (ks : List X) → length (known_at ns ks) ≡ length ns
+known_length : {X : Type 0} (ns : List ℕ) (ks : List X) → length (known_at ns ks) ≡ length ns
 known_length [] ks = refl
 known_length (n ∷ ns) ks = ap suc (known_length ns ks)
+
+pub inside_numbers : {X : Type 0} (ns : List ℕ) (ks : List X) (a : List (Option X)) (i : ℕ) → known_at ns ks ≡ a → i < length a → i < length ns
+inside_numbers ns ks a i e lt = let long : length a ≡ length ns = ap length (sym e) ∙ known_length ns ks in omega (arith, long, lt)
 
 pub unknown_here : {X : Type 0} (ns : List ℕ) (ks : List X) (a : List (Option X)) (t : ℕ) → known_at ns ks ≡ a → slice_get ns t ≡ Some 0 → slice_get a t ≡ Some None
 unknown_here {X} ns ks a t e z = ap (λ (xs : List (Option X)). slice_get xs t) (sym e) ∙ at_number ns ks t 0 z
@@ -254,7 +244,3 @@ known_here {X} ns ks a t n i x e z lt q is = ap (λ (xs : List (Option X)). slic
 pub place_kept : (ns : List ℕ) (c all t n i : ℕ) → AreNumbered ns c all → slice_get ns t ≡ Some n → 1 ≤ n → i ≡ n - 1 → i < all
 place_kept ns c all t zero i h e lt q = absurd (omega arith)
 place_kept ns c all t (suc n) i h e lt q = let z = h.are.inside t n e in let w = h.within in omega arith
-
--- the number that is read is that of the place
-pub got_here : {X : Type 0} (ns : List ℕ) (ks : List X) (all : List (Option X)) (i n : ℕ) → known_at ns ks ≡ all → i < length all → n ≡ slice_index_or ns i n → slice_get ns i ≡ Some n
-got_here ns ks all i n e lt is = let long : length all ≡ length ns = ap length (sym e) ∙ known_length ns ks in slice_get_read ns (length ns) i n refl (omega arith) is

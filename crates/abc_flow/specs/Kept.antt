@@ -1,5 +1,5 @@
 -- How the states of places are kept: for each place 0, or one more than the number of its state.
-use Rattle.std.specs.Prelude.{◌≡◌, ℕ, zero, suc, ◌+◌, ◌≤◌, ◌<◌, ◌^◌, List, [], ◌∷◌, ◌++◌, Option, None, Some, cond, length, ltb, map, set, slice_get}
+use Rattle.std.specs.Prelude.{◌≡◌, ℕ, zero, suc, ◌≤◌, ◌<◌, ◌^◌, List, [], ◌∷◌, ◌++◌, Option, None, Some, cond, length, ltb, map, set, slice_get}
 use Rattle.abc_program.specs.Linked.{LinkedFile}
 use Rattle.abc_typing.specs.Routines.{Routine}
 use Rattle.abc_typing.specs.Typing.{Derivable, HasOneShape, IsJoinState, StateLe}

@@ -8,6 +8,7 @@ mod flow;
 mod handled;
 mod merging;
 mod notes;
+mod place_numbers;
 mod states;
 mod step;
 mod telling;

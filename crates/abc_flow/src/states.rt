@@ -5,6 +5,7 @@ ghost use Rattle.abc_flow.specs.Kept.{AreNumbered, Meets, known_at, numbered, pl
 
 use crate::copies::{copy_state, copy_state_over, no_state};
 use crate::flow::Flow;
+use crate::place_numbers::PlaceNumbers;
 use crate::step::{Merged, Met};
 use abc_base::NoMemory;
 use abc_typing::State;
@@ -29,7 +30,7 @@ const PLACES_A_STATE: usize = 4;
 #[derive(Drop)]
 pub struct States {
     /// For each place 0, or one more than the number of its state.
-    numbers: Vec<u32>,
+    numbers: PlaceNumbers,
     /// The states by their numbers. Behind them may be states of another method, whose memory is used again.
     known: Vec<State>,
     /// How many states there are.
@@ -47,9 +48,9 @@ impl Model for States {
 
     ghost Value = { List (Option AnyState) };
 
-    ghost view = { λ s. known_at s.numbers.items s.known.items };
+    ghost view = { λ s. known_at s.numbers s.known.items };
 
-    ghost invariant = { λ s. AreNumbered s.numbers.items s.count (length s.known.items) };
+    ghost invariant = { λ s. AreNumbered s.numbers s.count (length s.known.items) };
 }
 
 /// The state of a number: the first has the number 1.
@@ -98,7 +99,7 @@ fn release_many(known: &mut Vec<State>, room: usize) {
 
 /// A place that has no state gets one.
 fn put_first(
-    numbers: &mut Vec<u32>,
+    numbers: &mut PlaceNumbers,
     known: &mut Vec<State>,
     count: &mut usize,
     room: &mut usize,
@@ -106,11 +107,11 @@ fn put_first(
     alloc: Global,
     state: &State,
 ) -> Result<(), NoMemory>
-    requires numbers { AreNumbered numbers.old.items count.old (vec_len known.old) }
-    requires inside { place < vec_len numbers.old }
-    requires none { slice_get numbers.old.items place ≡ Some 0 }
-    ensures numbers { AreNumbered numbers.new.items count.new (vec_len known.new) }
-    ensures known { OnOk result (known_at numbers.new.items known.new.items ≡ set (known_at numbers.old.items known.old.items) place (Some state.now)) }
+    requires numbers { AreNumbered numbers.old count.old (vec_len known.old) }
+    requires inside { place < length numbers.old }
+    requires none { slice_get numbers.old place ≡ Some 0 }
+    ensures numbers { AreNumbered numbers.new count.new (vec_len known.new) }
+    ensures known { OnOk result (known_at numbers.new known.new.items ≡ set (known_at numbers.old known.old.items) place (Some state.now)) }
 {
     let left = room.checked_sub(state.stack.len()).ok_or(NoMemory)?;
     let left = left.checked_sub(state.scopes.len()).ok_or(NoMemory)?;
@@ -118,8 +119,8 @@ fn put_first(
     make_room(known, *count, numbers.len());
     keep(known, *count, alloc, state)?;
     let number = *count + 1;
+    numbers.put(place, number as u32)?;
     *count = number;
-    numbers[place] = number as u32;
     Ok(())
 }
 
@@ -129,7 +130,7 @@ impl States {
         ensures { result ≡ [] }
     {
         States {
-            numbers: Vec::new(alloc),
+            numbers: PlaceNumbers::new(alloc),
             known: Vec::new(alloc),
             count: 0,
             room: MOST_VALUES,
@@ -137,36 +138,35 @@ impl States {
         }
     }
 
-    /// Forgets all, for so many places. Where memory runs out there are no places.
-    pub(crate) fn renew(&mut self, count: usize) -> Result<(), NoMemory>
+    /// Forgets all, for so many places.
+    pub(crate) fn renew(&mut self, count: usize)
         requires { count < 2 ^ 32 }
-        ensures { OnOk result (self.new ≡ replicate count None) }
+        ensures { self.new ≡ replicate count None }
     {
-        self.numbers.clear();
+        self.numbers.renew(count);
         self.count = 0;
         release_many(&mut self.known, self.room);
         self.room = MOST_VALUES;
-        self.numbers.resize(count, 0)?;
-        Ok(())
     }
 
     /// The state at a place, or `None` where none is known.
     pub(crate) fn find(&self, place: u32) -> Option<&State>
         ensures { MatchOption result (at self.now place ≡ None) (λ s. slice_get self.now place ≡ Some (Some s.now)) }
     {
-        match self.numbers.get(place as usize).copied() {
+        match self.numbers.find(place as usize) {
             Some(number) => state_numbered(self.known.as_slice(), number),
             None => None,
         }
     }
 
     /// A place gets a copy of a state.
+    #[tactic(auto, using(crate::proofs::Numbers::inside_numbers))]
     pub(crate) fn set(&mut self, place: u32, alloc: Global, state: &State) -> Result<(), NoMemory>
         requires { place < length self.old }
         ensures { OnOk result (self.new ≡ set self.old place (Some state.now)) }
     {
         let place = place as usize;
-        let number = self.numbers[place];
+        let number = self.numbers.at(place);
         if number == 0 {
             return put_first(
                 &mut self.numbers,
@@ -183,6 +183,7 @@ impl States {
     }
 
     /// A state flows to a place.
+    #[tactic(auto, using(crate::proofs::Numbers::inside_numbers))]
     pub(crate) fn meet<F: Flow>(
         &mut self,
         flow: &F,
@@ -194,7 +195,7 @@ impl States {
         ensures { IfOk result (Meets (F.file flow.now) self.old place next.now self.new) }
     {
         let place = place as usize;
-        let number = self.numbers[place];
+        let number = self.numbers.at(place);
         if number == 0 {
             put_first(
                 &mut self.numbers,

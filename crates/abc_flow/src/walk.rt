@@ -233,8 +233,8 @@ fn check_code<F: Flow>(
     ensures { MatchResult result (λ _. HasTyping (F.file flow.now) (F.routine flow.now)) (λ e. RefusedBy (F.file flow.now) (F.routine flow.now) e) }
 {
     let handled = handled_of(flow.alloc(), flow.handlers(), flow.len())?;
-    walker.told.renew(handled.all.nodes())?;
-    states.renew(flow.len())?;
+    walker.told.renew(handled.all.nodes());
+    states.renew(flow.len());
     work.clear();
     let entry = flow.entry()?;
     raise(states, work, 0, flow.alloc(), &entry)?;

@@ -6,8 +6,8 @@ use Rattle.std.specs.Map.{lookup}
 use Rattle.std.specs.Str.{bytes_eq}
 use Rattle.std.proofs.lemmas.List.{drop_more}
 use Rattle.std.proofs.lemmas.Cmp.{nat_list_eq_equiv}
-use Rattle.indexmap.specs.IndexMap.{insert_entry}
-use Rattle.abc_index.specs.Index.{first_from}
+use Rattle.indexmap.specs.IndexMap.{get, insert_entry}
+use Rattle.abc_index.specs.Index.{FindsFrom, Map, first_from}
 
 module _ {K : Type 0} (eq : K → K → Bool) (test : K → Bool) (symm : (x y : K) → eq x y ≡ eq y x) (alike : (x y : K) → test x ≡ true → test y ≡ eq x y) where
   same : (k x : K) → eq k x ≡ true → (a b : Bool) → test k ≡ a → test x ≡ b → test k ≡ test x
@@ -63,3 +63,21 @@ text_more strings i items text old pos within is was =
 
 pub text_last : (strings : List (List ℕ)) (i : ℕ) (text : List ℕ) (old : Option ℕ) → i ≡ 0 → old ≡ first_from (bytes_eq text) (i + 1) (drop i strings) → old ≡ first_from (bytes_eq text) 1 strings
 text_last strings i text old e was = was ∙ ap (λ n. first_from (bytes_eq text) (n + 1) (drop n strings)) e
+
+-- ---- keys
+
+-- one more key, from the end on
+pub index_more : {K : Type 0} (eq : K → K → Bool) (symm : (x y : K) → eq x y ≡ eq y x) (old new : Map K) (keys : List K) (i : ℕ) (key : K) → 0 < i → i ≤ length keys → key ≡ get_or keys (i - 1) key → ((q : K) → get eq new q ≡ cond (eq key q) (Some (i - 1)) (get eq old q)) → FindsFrom eq old keys i → FindsFrom eq new keys (i - 1)
+index_more {K} eq symm old new keys i key pos within is updates was =
+    record {
+      finds =
+          λ q.
+          let e : i ≡ i - 1 + 1 = omega arith in
+          let lt : i - 1 < length keys = omega arith in
+          updates q
+          ∙ ap (λ (b : Bool). cond b (Some (i - 1)) (get eq old q)) (symm key q)
+          ∙ ap (λ (o : Option ℕ). cond (eq q key) (Some (i - 1)) o) (was.finds q)
+          ∙ ap (λ (j : ℕ). cond (eq q key) (Some (i - 1)) (first_from (eq q) j (drop j keys))) e
+          ∙ ap (λ (k : K). cond (eq q k) (Some (i - 1)) (first_from (eq q) (i - 1 + 1) (drop (i - 1 + 1) keys))) is
+          ∙ ap (λ (l : List K). first_from (eq q) (i - 1) l) (sym (drop_more keys (i - 1) key lt));
+    }

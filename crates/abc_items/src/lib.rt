@@ -3,6 +3,7 @@
 
 mod error;
 mod items;
+mod pairs;
 mod parts;
 mod rule;
 mod types;
@@ -15,6 +16,7 @@ pub use abc_starts::{
 };
 pub use error::LinkError;
 pub use items::{Item, ItemKind, LinkRule};
+pub use pairs::{Clash, FEW, any_pair_of};
 pub use parts::{
     body_traits, class_flags, class_name, class_traits, handlers, instance_table, instance_traits,
     interface_names, is_interface, own_table, parameters, return_type, script_traits, super_name,

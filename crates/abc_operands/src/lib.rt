@@ -21,7 +21,7 @@ pub use lines::{
     method_index_line, method_line, number_line, param_line, protected_line, string_index_line,
     trait_metadata_line,
 };
-pub use numbers::{byte, entry_upto, index_below, index_upto, number_below, u30};
+pub use numbers::{byte, entry_upto, index_below, index_upto, number_below, numeral, u30};
 pub use pools::{int_line, namespace_line, option_line, string_line, uint_line};
 pub use signed::signed_within;
 pub use together::{earlier, two};

@@ -10,8 +10,8 @@ ghost use Rattle.abc_items.specs.NameKey.{NameKey as AnyNameKey};
 ghost use Rattle.abc_rules.specs.declared.same_name.SidedKey.{SidedKey as AnySidedKey};
 
 use abc_items::{
-    Abc, Item, LinkRule, NameKey, Names, NoMemory, Rule, TraitBody, TraitInfo, first_places,
-    index_of, instance_table, own_table, qname_at,
+    Abc, Clash, FEW, Item, LinkRule, NameKey, Names, NoMemory, Rule, TraitBody, TraitInfo,
+    any_pair_of, first_places, index_of, instance_table, own_table, qname_at,
 };
 use indexmap::IndexMap;
 use std::alloc::Global;
@@ -46,6 +46,21 @@ fn opposite(a: u32, b: u32) -> bool
     a == 1 && b == 2 || a == 2 && b == 1
 }
 
+/// Two names clash where they are equal, and not those of a Getter and a Setter.
+struct NamesClash;
+
+impl Clash for NamesClash {
+    ghost use Rattle.abc_rules.specs.Repeats.{keys_clash};
+
+    type Value = SidedKey;
+
+    ghost clash = { λ _. keys_clash };
+
+    fn do_clash(&self, first: &SidedKey, later: &SidedKey) -> bool {
+        first.name == later.name && !opposite(first.side, later.side)
+    }
+}
+
 /// The keys of the names of a table, with their sides.
 fn sided_keys(
     alloc: Global,
@@ -54,7 +69,7 @@ fn sided_keys(
 ) -> Result<Vec<SidedKey>, NoMemory>
     ensures { IfOk result (λ keys. keys.items ≡ map (sided_of names.now.abc.now names.now.tables.now.numbers) table.now) }
 {
-    let mut keys = Vec::new(alloc);
+    let mut keys = Vec::with_capacity(alloc, table.len())?;
     for info in table {
         let name = names.key(qname_at(names.abc, info.name));
         keys.push(SidedKey {
@@ -69,7 +84,7 @@ fn sided_keys(
 fn names_in(alloc: Global, keys: &[SidedKey]) -> Result<Vec<NameKey>, NoMemory>
     ensures { IfOk result (λ names. names.items ≡ map (λ k. k.name) keys.now) }
 {
-    let mut names = Vec::new(alloc);
+    let mut names = Vec::with_capacity(alloc, keys.len())?;
     for key in keys {
         names.push(key.name)?;
     }
@@ -176,9 +191,9 @@ fn any_clash_in(
     false
 }
 
-/// Whether two of some names clash.
+/// Whether two of many names clash.
 #[tactic(auto, using(crate::proofs::SidedRepeats::at_names))]
-fn any_clash(alloc: Global, keys: &[SidedKey]) -> Result<bool, NoMemory>
+fn any_clash_of_many(alloc: Global, keys: &[SidedKey]) -> Result<bool, NoMemory>
     ensures { IfOk result (λ b. b ≡ any_pair keys_clash keys.now) }
 {
     if keys.len() > u32::MAX as usize {
@@ -188,6 +203,16 @@ fn any_clash(alloc: Global, keys: &[SidedKey]) -> Result<bool, NoMemory>
     let firsts = first_places(alloc, names.as_slice())?;
     let sided = first_sided(alloc, keys)?;
     Ok(any_clash_in(keys, &firsts, &sided))
+}
+
+/// Whether two of some names clash. Of few each pair is looked at.
+fn any_clash(alloc: Global, keys: &[SidedKey]) -> Result<bool, NoMemory>
+    ensures { IfOk result (λ b. b ≡ any_pair keys_clash keys.now) }
+{
+    if keys.len() <= FEW {
+        return Ok(any_pair_of(&NamesClash, keys));
+    }
+    any_clash_of_many(alloc, keys)
 }
 
 impl SameName<'_> {

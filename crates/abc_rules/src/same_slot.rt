@@ -6,7 +6,8 @@ ghost use Rattle.abc_items.specs.Traits.{any_pair, any_table, slot_id as id_of, 
 ghost use Rattle.abc_items.specs.declared.items.LinkRule.TheVariants as rules;
 
 use abc_items::{
-    Abc, Item, LinkRule, NoMemory, Rule, TraitBody, TraitInfo, index_of, instance_table, own_table,
+    Abc, Clash, FEW, Item, LinkRule, NoMemory, Rule, TraitBody, TraitInfo, any_pair_of, index_of,
+    instance_table, own_table,
 };
 use indexmap::IndexMap;
 use std::alloc::Global;
@@ -28,11 +29,27 @@ fn slot_id(body: TraitBody) -> u32
     }
 }
 
+/// Two traits clash where they have one slot number above 0.
+struct SlotsClash;
+
+impl Clash for SlotsClash {
+    ghost use Rattle.abc_items.specs.Traits.{slots_clash};
+
+    type Value = TraitInfo;
+
+    ghost clash = { λ _. slots_clash };
+
+    fn do_clash(&self, first: &TraitInfo, later: &TraitInfo) -> bool {
+        let id = slot_id(first.body);
+        id != 0 && id == slot_id(later.body)
+    }
+}
+
 /// The slot numbers of a table.
 fn slot_ids(alloc: Global, table: &[TraitInfo]) -> Result<Vec<u32>, NoMemory>
     ensures { IfOk result (λ ids. ids.items ≡ map (λ t. id_of t.body) table.now) }
 {
-    let mut ids = Vec::new(alloc);
+    let mut ids = Vec::with_capacity(alloc, table.len())?;
     for info in table {
         ids.push(slot_id(info.body))?;
     }
@@ -67,13 +84,12 @@ fn has_same_slot(alloc: Global, table: &[TraitInfo]) -> Result<bool, NoMemory>
     Ok(false)
 }
 
-/// Whether two traits of a table have one slot number. Of fewer than two none have.
-#[tactic(auto, using(crate::proofs::Pairs::few_pairs))]
+/// Whether two traits of a table have one slot number. Of few each pair is looked at.
 fn is_slot_shared(alloc: Global, table: &[TraitInfo]) -> Result<bool, NoMemory>
     ensures { IfOk result (λ b. b ≡ any_pair slots_clash table.now) }
 {
-    if table.len() < 2 {
-        return Ok(false);
+    if table.len() <= FEW {
+        return Ok(any_pair_of(&SlotsClash, table));
     }
     has_same_slot(alloc, table)
 }

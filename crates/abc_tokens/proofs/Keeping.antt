@@ -1,14 +1,13 @@
--- A name that is given a value for the first time, and one that has one already.
+-- A name that is given a value, for the first time or once more.
 use Rattle.std.proofs.Common.{◌≡◌, ℕ, inl, inr, Bool, true, false, cond, List, [], ◌∷◌, Some, None, refl, sym, ap, ◌∙◌}
 use Rattle.std.specs.Borrow.{Bor}
 use Rattle.std.specs.Map.{lookup}
-use Rattle.std.specs.Option.{is_some, option_copied}
 use Rattle.std.specs.Str.{bytes_eq}
 use Rattle.std.specs.declared.option.Option.{Option}
 use Rattle.std.proofs.lemmas.Slice.Eq.{bytes_eq-Decides}
 use Rattle.indexmap.specs.IndexMap.{insert_entry}
 use Rattle.abc_text.proofs.Bools.{split_bool}
-use Rattle.abc_tokens.specs.Names.{either_of, is_named}
+use Rattle.abc_tokens.specs.Names.{Adds, Gives, NameMap, either_of, found, is_named}
 
 abbrev pub same_key : Bor (List ℕ) → Bor (List ℕ) → Bool
 same_key a b = bytes_eq a.now b.now
@@ -23,20 +22,32 @@ bytes_sym a b =
       ]
     ]
 
-picked : {V : Type 0} (t : Bool) (v : V) (o : Option V) → cond t (Some v) o ≡ None → (t ≡ false) × (o ≡ None)
-picked true v o e = absurd cc
-picked false v o e = (refl, e)
+-- ---- the values after one is given
 
-either_first : {V : Type 0} (t : Bool) (v : V) (a b c : Option V) → a ≡ either_of b c → cond t (Some v) a ≡ either_of (cond t (Some v) b) c
-either_first true v a b c e = refl
-either_first false v a b c e = e
+given_first : {V : Type 0} (b : Bool) (v w : V) (o : Option V) → cond b (Some v) o ≡ cond b (Some v) (cond b (Some w) o)
+given_first true v w o = refl
+given_first false v w o = refl
 
-pub absent_insert : {V : Type 0} (es : List (Bor (List ℕ) × V)) (k : Bor (List ℕ)) (v : V) (other : List ℕ) → lookup (same_key k) es ≡ None → lookup (is_named other) (insert_entry same_key es k v) ≡ either_of (lookup (is_named other) es) (cond (bytes_eq k.now other) (Some v) None)
-absent_insert [] k v other none = refl
-absent_insert (e ∷ es) k v other none =
-    let p = picked (same_key k e.0) e.1 (lookup (same_key k) es) none in
-    let differs : same_key k e.0 ≡ false = p.0 in
-    rw differs (either_first (is_named other e.0) e.1 (lookup (is_named other) (insert_entry same_key es k v)) (lookup (is_named other) es) (cond (bytes_eq k.now other) (Some v) None) (absent_insert es k v other p.1))
+given_later : {V : Type 0} (b t : Bool) (v w : V) (o : Option V) → (b ≡ true → t ≡ true → ⊥) → cond t (Some w) (cond b (Some v) o) ≡ cond b (Some v) (cond t (Some w) o)
+given_later true true v w o apart = absurd (apart refl refl)
+given_later true false v w o apart = refl
+given_later false t v w o apart = refl
+
+pub after_insert : {V : Type 0} (es : List (Bor (List ℕ) × V)) (k : Bor (List ℕ)) (v : V) (other : List ℕ) → lookup (is_named other) (insert_entry same_key es k v) ≡ cond (bytes_eq k.now other) (Some v) (lookup (is_named other) es)
+after_insert [] k v other = refl
+after_insert {V} (e ∷ es) k v other =
+    elim (split_bool (same_key k e.0)) [
+      | inl hit ↦
+          let same : e.0.now ≡ k.now = sym ((bytes_eq-Decides k.now e.0.now).0 hit) in
+          rw hit (ap (λ (n : List ℕ). cond (bytes_eq n other) (Some v) (lookup (is_named other) es)) same
+          ∙ given_first (bytes_eq k.now other) v e.1 (lookup (is_named other) es)
+          ∙ ap (λ (n : List ℕ). cond (bytes_eq k.now other) (Some v) (cond (bytes_eq n other) (Some e.1) (lookup (is_named other) es))) (sym same))
+      | inr miss ↦
+          let apart : bytes_eq k.now other ≡ true → bytes_eq e.0.now other ≡ true → ⊥ =
+          λ p q. (let both : same_key k e.0 ≡ true = (bytes_eq-Decides k.now e.0.now).1 ((bytes_eq-Decides k.now other).0 p ∙ sym ((bytes_eq-Decides e.0.now other).0 q)) in absurd cc) in
+          rw miss (ap (λ (o : Option V). cond (bytes_eq e.0.now other) (Some e.1) o) (after_insert es k v other)
+          ∙ given_later (bytes_eq k.now other) (bytes_eq e.0.now other) v e.1 (lookup (is_named other) es) apart)
+    ]
 
 pub same_lookup : {V : Type 0} (es : List (Bor (List ℕ) × V)) (k : Bor (List ℕ)) (other : List ℕ) → k.now ≡ other → lookup (is_named other) es ≡ lookup (same_key k) es
 same_lookup [] k other e = refl
@@ -49,21 +60,22 @@ either_none : {V : Type 0} (o : Option V) → o ≡ either_of o None
 either_none (Some n) = refl
 either_none None = refl
 
-kept : {V : Type 0} (o : Option V) (c : Option V) → is_some o ≡ true → o ≡ either_of o c
-kept (Some n) c e = refl
-kept None c e = absurd cc
+-- ---- a name that has no value, and one that has
 
-pub present : {V : Type 0} (es : List (Bor (List ℕ) × V)) (k : Bor (List ℕ)) (v : V) (other : List ℕ) → is_some (lookup (same_key k) es) ≡ true → lookup (is_named other) es ≡ either_of (lookup (is_named other) es) (cond (bytes_eq k.now other) (Some v) None)
-present {V} es k v other some =
-    elim (split_bool (bytes_eq k.now other)) [
-      | inl e ↦ kept (lookup (is_named other) es) (cond (bytes_eq k.now other) (Some v) None) (ap (λ (o : Option V). is_some o) (same_lookup es k other ((bytes_eq-Decides k.now other).0 e)) ∙ some)
-      | inr e ↦ rw e (either_none (lookup (is_named other) es))
+pub given_new : {V : Type 0} (old new : NameMap V) (name : List ℕ) (v : V) → None ≡ found old name → Gives old new name v → Adds old new name v
+given_new {V} old new name v none gives other =
+    elim (split_bool (bytes_eq name other)) [
+      | inl is ↦
+          let same : found old other ≡ None = ap (λ (n : List ℕ). found old n) (sym ((bytes_eq-Decides name other).0 is)) ∙ sym none in
+          gives other ∙ rw is (ap (λ (o : Option V). either_of o (Some v)) (sym same))
+      | inr differs ↦ gives other ∙ rw differs (either_none (found old other))
     ]
 
-pub copied_none : {V : Type 0} (o : Option (Bor V)) → is_some o ≡ false → option_copied o ≡ None
-copied_none (Some n) e = absurd cc
-copied_none None e = refl
-
-pub copied_some : {V : Type 0} (o : Option (Bor V)) (p : Option V) → option_copied o ≡ p → is_some o ≡ true → is_some p ≡ true
-copied_some {V} (Some n) p e h = ap (λ (q : Option V). is_some q) (sym e)
-copied_some None p e h = absurd cc
+pub given_again : {V : Type 0} (old mid new : NameMap V) (name : List ℕ) (v first : V) → Some first ≡ found old name → Gives old mid name v → Gives mid new name first → Adds old new name v
+given_again {V} old mid new name v first some gives again other =
+    elim (split_bool (bytes_eq name other)) [
+      | inl is ↦
+          let same : found old other ≡ Some first = ap (λ (n : List ℕ). found old n) (sym ((bytes_eq-Decides name other).0 is)) ∙ sym some in
+          again other ∙ rw is (ap (λ (o : Option V). either_of o (Some v)) (sym same))
+      | inr differs ↦ again other ∙ rw differs (let step = gives other in (rw differs at step) ∙ either_none (found old other))
+    ]

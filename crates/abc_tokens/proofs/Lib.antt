@@ -3,5 +3,6 @@ pub mod Entering
 pub mod Keeping
 pub mod Naming
 pub mod Quoting
+pub mod Tables
 pub mod Walking
 pub mod Wording

@@ -24,6 +24,10 @@ abbrev pub either_of : {A : Type 0} → Option A → Option A → Option A
 either_of (Some n) o = Some n
 either_of None o = o
 
+-- The name has this value now, and the others have what they had.
+abbrev pub Gives : {V : Type 0} → NameMap V → NameMap V → List ℕ → V → Type 0
+Gives old new name value = (other : List ℕ) → found new other ≡ (if bytes_eq name other then Some value else found old other)
+
 -- The name has this value now, unless it had one.
 abbrev pub Adds : {V : Type 0} → NameMap V → NameMap V → List ℕ → V → Type 0
 Adds old new name value = (other : List ℕ) → found new other ≡ either_of (found old other) (if bytes_eq name other then Some value else None)

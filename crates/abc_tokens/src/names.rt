@@ -1,7 +1,13 @@
-ghost use Rattle.std.specs.Prelude.{◌≡◌, ◌||◌, option_map};
+ghost use Rattle.std.specs.Prelude.{◌≡◌, ◌||◌, option_map, if◌then◌else◌};
 ghost use Rattle.std.specs.List.{list_all};
 ghost use Rattle.abc_rowparts.specs.Operands.{is_digit as is_digit_byte, is_letter as is_letter_byte, is_name as is_name_text};
 ghost use Rattle.abc_lines.specs.Texts.{before_colon};
+ghost use Rattle.abc_tokens.specs.declared.names.TheConstants.{NAME_BYTES as name_bytes};
+
+/// `1` at the place of each byte that a name may have, and `0` at those of the others. To look it up takes no branch, which
+/// can't be foreseen where letters and digits alternate.
+pub const NAME_BYTES: [u8; 256] =
+    *b"0000000000000000000000000000000000000000000000001111111111000000011111111111111111111111111000010111111111111111111111111110000000000000000000000000000000000000000000000000000000000000000000000000000000000000000000000000000000000000000000000000000000000000";
 
 fn is_letter(byte: u8) -> bool
     ensures { result ≡ is_letter_byte byte }
@@ -16,12 +22,28 @@ pub fn is_digit(byte: u8) -> bool
     b'0' <= byte && byte <= b'9'
 }
 
+#[inline(always)]
+fn name_byte_at(bytes: &[u8; 256], byte: u8) -> u8
+    requires { bytes.now ≡ name_bytes }
+    ensures { result ≡ (if is_letter_byte byte || is_digit_byte byte then 0x31 else 0x30) }
+{
+    bytes[byte as usize]
+}
+
+/// Whether a byte is a letter, a digit or `_`.
+#[inline(always)]
+fn is_name_byte(byte: u8) -> bool
+    ensures { result ≡ (is_letter_byte byte || is_digit_byte byte) }
+{
+    name_byte_at(&NAME_BYTES, byte) == b'1'
+}
+
 /// Whether all bytes are letters, digits and `_`.
 fn are_of_names(bytes: &[u8]) -> bool
     ensures { result ≡ list_all (λ b. is_letter_byte b || is_digit_byte b) bytes.now }
 {
     for byte in bytes {
-        if !is_letter(*byte) && !is_digit(*byte) {
+        if !is_name_byte(*byte) {
             return false;
         }
     }

@@ -1,5 +1,5 @@
 -- The line is broken or whole.
-use Rattle.std.proofs.Common.{ℕ, List, subst}
+use Rattle.std.proofs.Common.{List, subst}
 use Rattle.std.proofs.lemmas.Result.{err_from_is_err_and}
 use Rattle.abc_lines.specs.Lineforms.{instruction_line}
 use Rattle.abc_operands.specs.Answers.{Answers}

@@ -1,4 +1,4 @@
-use Rattle.std.proofs.Common.{◌≡◌, ◌<◌, [], ◌∷◌, List, ℕ, subst, sym, ap, ◌∙◌, set, Some, None, length, arith}
+use Rattle.std.proofs.Common.{◌≡◌, ◌<◌, List, ℕ, subst, sym, ap, ◌∙◌, set, Some, None, length, arith}
 use Rattle.std.specs.Prelude.{replicate, Option}
 use Rattle.std.proofs.lemmas.List.{length-replicate}
 use Rattle.abc_typing.specs.Typing.{entry}
@@ -17,7 +17,7 @@ pub raise-requires : goal.raise-requires
 raise-requires g c =
     let m = g.F.Flow.routine c.args.flow.now in
     let blank : List (Option State) = replicate (length m.code) None in
-    let n : c.renew-2.new.self ≡ blank = c.in_ok-renew-2.ensures ∙ ap (λ (k : ℕ). replicate k None) c.len-2.ensures in
+    let n : c.renew-2.new.self ≡ blank = c.renew-2.ensures ∙ ap (λ (k : ℕ). replicate k None) c.len-2.ensures in
     let long : length blank ≡ length m.code = length-replicate (length m.code) None in
     subst (λ (xs : List (Option State)). 0 < length xs) (sym n) (omega (arith, c.requires.some, long))
 
@@ -26,10 +26,10 @@ loop-place-init g c =
     let p = g.F.Flow.file c.args.flow.now in
     let m = g.F.Flow.routine c.args.flow.now in
     let h = is_head (g.F.Flow.heads c.args.flow.now) in
-    let n : c.renew-2.new.self ≡ replicate (length m.code) None = c.in_ok-renew-2.ensures ∙ ap (λ (k : ℕ). replicate k None) c.len-2.ensures in
+    let n : c.renew-2.new.self ≡ replicate (length m.code) None = c.renew-2.ensures ∙ ap (λ (k : ℕ). replicate k None) c.len-2.ensures in
     let e : c.raise.new.states ≡ set (replicate (length m.code) None) 0 (Some (entry m)) = c.in_ok-raise.ensures.0 ∙ ap (λ (xs : List (Option State)). set xs 0 (Some c.in_ok-entry.entry)) n ∙ ap (λ (s : State). set (replicate (length m.code) None) 0 (Some s)) c.in_ok-entry.ensures in (
       subst (λ (x : List (Option State)). IsUnderWay p m h x c.raise.new.work) (sym e) (waits_first p m h (set (replicate (length m.code) None) 0 (Some (entry m))) 0 _ c.raise.new.work (begins p m h c.requires.some c.requires.heads.first) c.in_ok-raise.ensures.1),
-      kept_first p m (g.F.Flow.heads c.args.flow.now) c.in_ok-handled.handled.all c.renew.new.self c.raise.new.states c.nodes.result c.nodes.ensures.is c.in_ok-renew.ensures,
+      kept_first p m (g.F.Flow.heads c.args.flow.now) c.in_ok-handled.handled.all c.renew.new.self c.raise.new.states c.nodes.result c.nodes.ensures.is c.renew.ensures,
     )
 
 pub visit-requires-clause-handled : goal.visit-requires-clause-handled

@@ -1,6 +1,5 @@
 -- The first line feed, or none.
 use Rattle.std.proofs.Common.{◌+◌, ◌<◌, ℕ, List, take, length, sym, ap, ◌∙◌, arith}
-use Rattle.memchr.specs.Find.{NoneBefore}
 use Rattle.abc_lines.specs.Texts.{lines_in, raw_of, raws_from}
 use Rattle.abc_text.specs.Scanning.{Between, scan}
 use Rattle.abc_tokens.proofs.Dividing.{no_feed, splits_at, splits_end}

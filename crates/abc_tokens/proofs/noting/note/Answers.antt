@@ -1,13 +1,11 @@
--- The name is new.
-use Rattle.std.proofs.Common.{◌≡◌, ℕ, List, None, sym, ap, ◌∙◌}
-use Rattle.std.specs.Borrow.{Bor}
-use Rattle.std.specs.Map.{lookup}
-use Rattle.abc_tokens.specs.Names.{is_named}
-use Rattle.abc_tokens.proofs.Keeping.{absent_insert, copied_none, same_key}
+-- The name has a value already, or none.
+use Rattle.std.proofs.Common.{sym, ◌∙◌}
+use Rattle.abc_tokens.proofs.Keeping.{given_again, given_new}
 use Rattle.abc_tokens.proofs.noting.note.Goals as goal
 
-pub returns-in_ok-insert : goal.returns-in_ok-insert
-returns-in_ok-insert g c other =
-    let old = c.args.values.now.entries in
-    let none : lookup (same_key c.args.name) old ≡ None = sym c.get.ensures.value ∙ copied_none c.get.result c.if-is_none.ensures in
-    ap (λ (es : List (Bor (List ℕ) × g.row.V.Denot)). lookup (is_named other) es) c.in_ok-insert.ensures.entries ∙ absent_insert old c.args.name c.args.value other none
+pub returns-in_ok-give-in-Some : goal.returns-in_ok-give-in-Some
+returns-in_ok-give-in-Some g c =
+    given_again c.args.values.now c.give.new.values c.give-in-Some.new.values c.args.name.now c.args.value c.in-Some.first (sym c.in-Some.is ∙ c.in_ok-first.ensures.had) c.in_ok-first.ensures.gives c.in_ok-give-in-Some.ensures.gives
+
+pub returns-in-None : goal.returns-in-None
+returns-in-None g c = given_new c.args.values.now c.give.new.values c.args.name.now c.args.value (sym c.in-None.is ∙ c.in_ok-first.ensures.had) c.in_ok-first.ensures.gives

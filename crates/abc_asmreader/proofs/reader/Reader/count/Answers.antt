@@ -1,13 +1,12 @@
 use Rattle.std.proofs.Common.{List, drop, sym, subst}
 use Rattle.abc_labels.specs.Ahead.{Follows}
 use Rattle.abc_tokens.specs.declared.line.Line.{Line}
-use Rattle.abc_asmreader.specs.Names.{names_in}
 use Rattle.abc_asmreader.specs.Reading.{labels_now, rows_left, set_now}
 use Rattle.abc_asmreader.proofs.reader.Reader.count.Goals as goal
 
 pub returns : goal.returns
 unfolding rows_left
-returns c = let r = c.args.self.now in c.count_lines.ensures (labels_now r.body) (set_now r) (names_in r.bodied)
+returns c = let r = c.args.self.now in c.count_lines.ensures (labels_now r.body) (set_now r) r.bodied
 
 pub count_lines-requires-clause-ahead : goal.count_lines-requires-clause-ahead
 count_lines-requires-clause-ahead c =

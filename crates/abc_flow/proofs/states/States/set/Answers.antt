@@ -1,11 +1,11 @@
 use Rattle.std.proofs.Common.{◌-◌, ◌≤◌, List, Option, Some, set, refl, ap, ◌∙◌, arith}
 use Rattle.abc_typing.specs.declared.state.State.{State}
-use Rattle.abc_flow.proofs.Numbers.{again_known, got_here}
+use Rattle.abc_flow.proofs.Numbers.{again_known}
 use Rattle.abc_flow.proofs.states.States.set.Goals as goal
 
 pub returns : goal.returns
 returns c =
-    let one : 1 ≤ c.index-number.result.now = let f = c.if-number-eq0.false in omega arith in
-    again_known c.self.inside.numbers.items c.self.inside.known.items c.keep.new.known.items c.self.inside.count c.args.place c.index-number.result.now (c.index-number.result.now - 1) c.args.state.now c.self.invariant
-    (got_here c.self.inside.numbers.items c.self.inside.known.items c.args.self.now c.args.place c.index-number.result.now c.self.view_is c.requires c.index-number.ensures) one refl c.in_ok-keep.ensures.kept
+    let one : 1 ≤ c.at-number.result = let f = c.if-number-eq0.false in omega arith in
+    again_known c.self.inside.numbers c.self.inside.known.items c.keep.new.known.items c.self.inside.count c.args.place c.at-number.result (c.at-number.result - 1) c.args.state.now c.self.invariant
+    c.at-number.ensures one refl c.in_ok-keep.ensures.kept
     ∙ ap (λ (xs : List (Option State)). set xs c.args.place (Some c.args.state.now)) c.self.view_is

@@ -2,7 +2,7 @@
 use Rattle.std.proofs.Common.{length}
 use Rattle.abc_asmlines.specs.Coded.{IsCoding}
 use Rattle.abc_asmreader.specs.Reading.{rows_left}
-use Rattle.abc_asmlines.proofs.code.read_code.Given as goal
+use Rattle.abc_asmlines.proofs.code.gather_code.Given as goal
 
 abbrev pub invariant-loop-word : goal.invariant-loop-word
 invariant-loop-word l = IsCoding l.code l.initial.reader l.reader
