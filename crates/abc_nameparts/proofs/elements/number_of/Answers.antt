@@ -1,6 +1,6 @@
 use Rattle.std.proofs.Common.{◌+◌, ◌*◌, ap}
-use Rattle.abc_lookup.proofs.Numerals.{too_great}
-use Rattle.abc_lookup.proofs.elements.number_of.Goals as goal
+use Rattle.abc_nameparts.proofs.Numerals.{too_great}
+use Rattle.abc_nameparts.proofs.elements.number_of.Goals as goal
 
 pub returns-then-number-gt-GREATEST : goal.returns-then-number-gt-GREATEST
 returns-then-number-gt-GREATEST c =

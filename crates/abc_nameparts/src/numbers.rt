@@ -4,7 +4,7 @@ ghost use Rattle.abc_heap.specs.Heap.{Heap};
 ghost use Rattle.abc_heap.specs.Texts.{text_of};
 ghost use Rattle.abc_index.specs.Index.{first};
 ghost use Rattle.abc_index.specs.Texts.{texts_of};
-ghost use Rattle.abc_lookup.specs.WholeStrings.{IsWholeString};
+ghost use Rattle.abc_nameparts.specs.WholeStrings.{IsWholeString};
 
 use abc_cells::Span;
 use abc_link::Linked;
@@ -22,7 +22,7 @@ fn is_whole_string(l: &Linked, text: Span) -> bool
 
 /// The number of a text that is the whole of a string of the file, which is in a table.
 #[inline(always)]
-pub(crate) fn whole_number(l: &Linked, text: Span) -> Option<u32>
+pub fn whole_number(l: &Linked, text: Span) -> Option<u32>
     ensures { MatchOption result (Unit {0}) (λ n. (h : Heap) → first (bytes_eq (text_of l.now.file.strings h text)) (texts_of l.now.file.strings) ≡ Some n) }
 {
     if is_whole_string(l, text) {
@@ -33,7 +33,7 @@ pub(crate) fn whole_number(l: &Linked, text: Span) -> Option<u32>
 
 /// The number of a text, if it is the empty one or a string of the file. That of a whole string is in a table.
 #[inline(always)]
-pub(crate) fn number_of(l: &Linked, a: &Arena, span: Span, text: &[u8]) -> Option<u32>
+pub fn number_of(l: &Linked, a: &Arena, span: Span, text: &[u8]) -> Option<u32>
     requires { text.now ≡ text_of l.now.file.strings a.now span }
     ensures { first (bytes_eq text.now) (texts_of l.now.file.strings) ≡ result }
 {

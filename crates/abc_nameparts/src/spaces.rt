@@ -33,7 +33,7 @@ fn is_same_space(l: &Linked, a: u32, b: u32) -> bool
 
 /// Whether a name holds a namespace of the pool.
 #[inline(always)]
-pub(crate) fn holds_pooled(l: &Linked, spaces: Spaces, space: u32) -> bool
+pub fn holds_pooled(l: &Linked, spaces: Spaces, space: u32) -> bool
     ensures { result ≡ does_hold_pooled l.now spaces space }
 {
     match spaces {
@@ -45,7 +45,7 @@ pub(crate) fn holds_pooled(l: &Linked, spaces: Spaces, space: u32) -> bool
 }
 
 /// Whether a name holds the namespace of a trait.
-pub(crate) fn holds(l: &Linked, spaces: Spaces, space: TraitSpace) -> bool
+pub fn holds(l: &Linked, spaces: Spaces, space: TraitSpace) -> bool
     ensures { result ≡ does_hold l.now spaces space }
 {
     match space {
@@ -76,7 +76,7 @@ fn protected_ns(abc: &Abc, class: u32) -> Option<u32>
 }
 
 /// The protected namespace of a layout's class, which a class of the file may have for its instances.
-pub(crate) fn protected_of(l: &Linked, x: LayoutId) -> Option<u32>
+pub fn protected_of(l: &Linked, x: LayoutId) -> Option<u32>
     requires { IsLayout l.now x }
     ensures { result ≡ protected_in l.now x.0 }
 {
@@ -87,7 +87,7 @@ pub(crate) fn protected_of(l: &Linked, x: LayoutId) -> Option<u32>
 }
 
 /// Whether the namespace of a trait is the protected one of its layout's class.
-pub(crate) fn is_protected(l: &Linked, x: LayoutId, space: TraitSpace) -> bool
+pub fn is_protected(l: &Linked, x: LayoutId, space: TraitSpace) -> bool
     requires { IsLayout l.now x }
     ensures { result ≡ does_protect l.now x.0 space }
 {

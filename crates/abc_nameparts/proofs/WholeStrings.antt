@@ -5,7 +5,7 @@ use Rattle.abc_cells.specs.declared.values.Span.{Span}
 use Rattle.abc_heap.specs.Heap.{Heap}
 use Rattle.abc_heap.specs.Texts.{part_of, pool_text, text_of}
 use Rattle.abc_index.specs.Texts.{texts_of}
-use Rattle.abc_lookup.specs.WholeStrings.{IsWholeString}
+use Rattle.abc_nameparts.specs.WholeStrings.{IsWholeString}
 
 pool_is : (pool : List (List ℕ)) (i : ℕ) → pool_text pool i ≡ get_or (texts_of pool) i []
 pool_is pool zero = refl

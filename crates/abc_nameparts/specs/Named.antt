@@ -6,8 +6,8 @@ use Rattle.abc_cells.specs.declared.values.Span.{Span}
 use Rattle.abc_heap.specs.Heap.{Heap, object_at}
 use Rattle.abc_heap.specs.Texts.{text_of}
 use Rattle.abc_heap.specs.What.{is_array}
-use Rattle.abc_lookup.specs.declared.elements.ElementName as declared
-use Rattle.abc_lookup.specs.declared.elements.ElementName.TheVariants as variants
+use Rattle.abc_nameparts.specs.declared.elements.ElementName as declared
+use Rattle.abc_nameparts.specs.declared.elements.ElementName.TheVariants as variants
 use Rattle.abc_program.specs.Linked.{LinkedFile}
 use Rattle.abc_search.specs.ElementNames.{ElementName, IsLength, IsNumber, element_name}
 

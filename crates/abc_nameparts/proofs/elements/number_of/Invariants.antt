@@ -1,6 +1,6 @@
 use Rattle.std.proofs.Common.{◌≡◌, ◌≤◌, drop}
 use Rattle.abc_search.specs.ElementNames.{number_from}
-use Rattle.abc_lookup.proofs.elements.number_of.Given as goal
+use Rattle.abc_nameparts.proofs.elements.number_of.Given as goal
 
 abbrev pub invariant-loop-digit : goal.invariant-loop-digit
 invariant-loop-digit l = record {

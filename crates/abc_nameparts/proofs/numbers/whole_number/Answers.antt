@@ -2,8 +2,8 @@ use Rattle.std.proofs.Common.{ap, List, ℕ, ◌∙◌}
 use Rattle.std.specs.Str.{bytes_eq}
 use Rattle.abc_index.specs.Index.{first}
 use Rattle.abc_index.specs.Texts.{texts_of}
-use Rattle.abc_lookup.proofs.WholeStrings.{whole_string}
-use Rattle.abc_lookup.proofs.numbers.whole_number.Goals as goal
+use Rattle.abc_nameparts.proofs.WholeStrings.{whole_string}
+use Rattle.abc_nameparts.proofs.numbers.whole_number.Goals as goal
 
 pub returns-then-is_whole_string : goal.returns-then-is_whole_string
 returns-then-is_whole_string c = λ h.

@@ -1,7 +1,7 @@
 ghost use Rattle.std.specs.Prelude.{◌≡◌, ◌≤◌, Some, None, if◌then◌else◌, nat_le};
 ghost use Rattle.std.specs.List.{list_all};
 ghost use Rattle.abc_heap.specs.Texts.{IsText};
-ghost use Rattle.abc_lookup.specs.Named.{element_in, element_on};
+ghost use Rattle.abc_nameparts.specs.Named.{element_in, element_on};
 ghost use Rattle.abc_objects.specs.Values.{IsObject};
 ghost use Rattle.abc_search.specs.ElementNames.{element_name, element_number as number_named, is_digit as does_digit, is_numeral as does_numeral, number_from};
 
@@ -59,7 +59,7 @@ fn number_of(digits: &[u8]) -> Option<u32>
 }
 
 /// The number of the element that a text names.
-pub(crate) fn element_number(text: &[u8]) -> Option<u32>
+pub fn element_number(text: &[u8]) -> Option<u32>
     ensures { result ≡ number_named text.now }
 {
     if !is_numeral(text) {
