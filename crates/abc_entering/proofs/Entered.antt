@@ -6,16 +6,19 @@ use Rattle.abc_cells.specs.declared.values.Value.{Value}
 use Rattle.abc_stacks.specs.Frame.{Frame, Frames, arguments as operands, newest}
 use Rattle.abc_stacks.specs.declared.records.Wait.{Wait}
 use Rattle.abc_stacks.specs.declared.records.Wait.TheVariants.{Again}
+use Rattle.abc_makers.proofs.Turning.{open_first}
 use Rattle.abc_makers.specs.Turns.{Turned, turned}
 use Rattle.abc_tables.specs.declared.methods.Method.{Method}
 use Rattle.abc_items.specs.Parts.{script_at}
-use Rattle.abc_makers.specs.Entering.{arguments, framed, global}
-use Rattle.abc_makers.specs.Objects.{Place, place}
+use Rattle.abc_makers.specs.Entering.{arguments, enters, enters_owned, framed, global}
+use Rattle.abc_makers.specs.Objects.{Place, place, place_of_owner}
 use Rattle.abc_makers.specs.Setting.{Setting, method_of}
+use Rattle.abc_makers.specs.Stops.{IsOpen}
 use Rattle.abc_makers.specs.World.{Outcome, Run, Went, World, and_then, some, ◌>>=◌}
 use Rattle.abc_makers.specs.At.{Act}
 use Rattle.abc_entering.specs.Arguments.{makes_arguments, receiver}
-use Rattle.abc_entering.specs.Entering.{above, enters_above, puts_on, starts_above}
+use Rattle.abc_program.specs.Owners.{owner_of}
+use Rattle.abc_entering.specs.Entering.{above, enters_above, enters_owned_above, puts_on, starts_above}
 
 -- ---- the method that is entered
 
@@ -29,6 +32,14 @@ entered_first p n this at vs count taken wait f w after = go (method_of p n)
         → and_then (and_then (some x w) (entering p n this at (operands count f))) (above taken wait f) ≡ and_then (some x after) (λ m. framed p n m this at (operands count f) vs >>= above taken wait f)
     go None e = cc
     go (Some m) e = ap (λ o. and_then (and_then o (framed p n m this at (operands count f))) (above taken wait f)) e
+
+-- a method of an owner is entered where its owner keeps it
+pub owned_is : (p : Setting) (n : ℕ) (this : Value) (at : Place) (count taken : ℕ) (wait : Wait) (f : Frame) (w : World) → place_of_owner (owner_of p.linked.file n) w ≡ Went w at
+    → enters_owned_above p n this count taken wait f w ≡ enters_above p n this at count taken wait f w
+owned_is p n this at count taken wait f w e = ap (λ (r : Outcome Place). and_then (and_then r (λ x. enters p n this x (operands count f))) (above taken wait f)) e
+
+pub owned_open : (p : Setting) (n : ℕ) (this : Value) (count taken : ℕ) (wait : Wait) (f : Frame) (w : World) → IsOpen (enters_owned_above p n this count taken wait f w) → IsOpen (place_of_owner (owner_of p.linked.file n) w)
+owned_open p n this count taken wait f w h = open_first (place_of_owner (owner_of p.linked.file n) w) (λ x. enters p n this x (operands count f)) (open_first (enters_owned p n this (operands count f) w) (above taken wait f) h)
 
 -- `q` are the frames before, `mid` when the first locals are made; these are `items`
 pub entered_is : (p : Setting) (n : ℕ) (this : Value) (at : Place) (items : List Value) (count taken : ℕ) (wait : Wait) (q mid : Frames) (w after : World) → mid ≡ q → items ≡ this ∷ drop 1 items → makes_arguments p n (operands count (newest q)) w ≡ Went after (drop 1 items)

@@ -1,4 +1,5 @@
 ghost use Rattle.std.specs.Prelude.{◌≡◌, ◌<◌, ◌≤◌, ◌∷◌, length, drop, OnOk};
+ghost use Rattle.abc_cells.specs.declared.values.Value.TheVariants.{Obj};
 ghost use Rattle.abc_stacks.specs.Frame.{arguments as operands, newest};
 ghost use Rattle.abc_makers.specs.Outer.{Outer, setting, world};
 ghost use Rattle.abc_makers.specs.Standing.{IsSet};
@@ -12,7 +13,7 @@ use crate::keeping::{enter_in_place, is_in_place};
 use crate::methods::{entry_of, may_take, method_at};
 use crate::places::{global_of, place_of_owner};
 use abc_base::HostClass;
-use abc_cells::Value;
+use abc_cells::{ObjId, Value};
 use abc_link::Linked;
 use abc_makers::{Place, State, Stop};
 use abc_moves::try_enter_with;
@@ -154,6 +155,46 @@ pub fn enter_owned(
 {
     let at = place_of_owner(linked, s, linked.owner(method));
     enter(linked, s, method, this, at, count, taken, wait)
+}
+
+/// The same as `enter_owned`, on an object. (Most often its first locals are operands as they stand: so it stands in line where it is
+/// called, and hands nothing on through memory but to what isn't.)
+#[inline(always)]
+pub fn enter_on_object(
+    linked: &Linked,
+    s: &mut State,
+    method: u32,
+    o: ObjId,
+    count: u32,
+    taken: u32,
+    wait: &Wait,
+) -> Result<(), Stop>
+    ghost out: { Outer }
+    requires set { IsSet linked.now s.old }
+    requires known { IsKnown linked.now s.old.given.limit }
+    requires live { 0 < length s.old.frames.living }
+    requires there { count ≤ length (newest s.old.frames).stack }
+    requires taken { taken ≤ length (newest s.old.frames).stack }
+    requires free { IsOpen (enters_owned_above (setting linked.now out) method (Obj o) count taken wait.now (newest s.old.frames) (world s.old out)) }
+    ensures runs { Runs linked.now out (enters_owned_above (setting linked.now out) method (Obj o) count taken wait.now (newest s.old.frames)) s.old result s.new }
+    ensures limit { s.new.given.limit ≡ s.old.given.limit }
+{
+    let at = place_of_owner(linked, s, linked.owner(method));
+    let signature = method_at(linked, method);
+    if is_in_place(linked, &s.frames, signature, Value::Obj(o), count, taken) {
+        return enter_in_place(
+            linked,
+            s,
+            signature,
+            method,
+            Value::Obj(o),
+            at,
+            count,
+            taken,
+            *wait,
+        );
+    }
+    enter_owned(linked, s, method, Value::Obj(o), count, taken, *wait)
 }
 
 /// Starts a script above the newest frame, which executes its instruction again after that. The script counts as started from

@@ -26,6 +26,7 @@ use abc_stacks::Wait;
 use abc_states::{How, State};
 
 /// An object is made of what returned, with so many arguments. It takes their place.
+#[inline(never)]
 fn make_of(linked: &Linked, s: &mut State, v: Value, count: u32) -> Result<(), Ended>
     ghost out: { Outer }
     requires known { IsKnown linked.now s.old.given.limit }
@@ -48,6 +49,7 @@ fn make_of(linked: &Linked, s: &mut State, v: Value, count: u32) -> Result<(), E
 }
 
 /// The newest frame goes on with what returns, by the way in which it waited.
+#[inline(always)]
 fn resume(linked: &Linked, s: &mut State, v: Value) -> Result<(), Ended>
     ghost out: { Outer }
     requires known { IsKnown linked.now s.old.given.limit }
@@ -81,6 +83,7 @@ fn resume(linked: &Linked, s: &mut State, v: Value) -> Result<(), Ended>
 }
 
 /// The newest frame is left, and the one under it goes on as it waited. Under the last the run is done, and it answers what returned.
+#[inline(always)]
 pub(crate) fn give_back(linked: &Linked, s: &mut State, v: Value) -> Result<(), Halt>
     ghost out: { Outer }
     requires known { IsKnown linked.now s.old.given.limit }

@@ -222,6 +222,7 @@ impl Store {
     }
 
     /// Writes a property: an own one takes the value, else a new one is made, last.
+    #[inline(always)]
     #[tactic(auto, using(crate::proofs::Flat::length_objects))]
     pub fn set_property(&mut self, o: ObjId, name: Span, v: Value) -> Result<(), Full>
         requires inside { o.0 < length self.old.objects }

@@ -93,6 +93,7 @@ impl Linked {
     }
 
     /// Whose method a method is.
+    #[inline(always)]
     pub fn owner(&self, method: u32) -> Owner
         ensures { result ≡ owner_of self.now.file method }
     {
@@ -174,6 +175,7 @@ impl Linked {
     }
 
     /// The type of a name, where index 0 is the type any. A name that doesn't resolve has none.
+    #[inline(always)]
     pub fn type_of(&self, name: u32) -> Option<Ty>
         ensures { result ≡ type_of_name self.now name }
     {
@@ -216,6 +218,7 @@ impl Linked {
     }
 
     /// Whether a namespace of the pool is public.
+    #[inline(always)]
     pub fn is_public(&self, space: u32) -> bool
         ensures { result ≡ is_public_in self.now.file space }
     {

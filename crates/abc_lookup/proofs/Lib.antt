@@ -5,9 +5,6 @@ pub mod Things
 pub mod Places
 pub mod SlotPlaces
 pub mod Stands
-pub mod Numerals
 pub mod ScriptsFirst
 pub mod NoTraits
-pub mod SameSpace
-pub mod WholeStrings
 pub mod OwnFirst

@@ -34,7 +34,7 @@ use Rattle.abc_lookup.specs.OwnTraits.{Gives, HasTable, own_named}
 use Rattle.abc_lookup.specs.Slots.{listed}
 use Rattle.abc_lookup.specs.Steps.{along, fits_held, given, gives, member_found}
 use Rattle.abc_lookup.proofs.Along.{along_first, before_here, declared_all}
-use Rattle.abc_lookup.proofs.SameSpace.{same_where_equal}
+use Rattle.abc_nameparts.proofs.SameSpace.{same_where_equal}
 use Rattle.abc_lookup.proofs.TextFirst.{fit, table_given}
 
 -- ---- a name with just the namespace of a trait fits it

@@ -1,7 +1,7 @@
 pub mod Slots
 pub mod Steps
-pub mod Named
 pub mod Scripts
 pub mod NoTraits
-pub mod WholeStrings
 pub mod OwnTraits
+pub use Rattle.abc_nameparts.specs.Named as NamepartsNamed
+pub use Rattle.abc_nameparts.specs.declared.elements.ElementName as NamepartsElementNameType

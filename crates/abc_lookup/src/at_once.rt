@@ -12,13 +12,15 @@ ghost use Rattle.abc_program.specs.Linked.{IsLayout};
 ghost use Rattle.abc_program.specs.Numbering.{part_at};
 ghost use Rattle.abc_search.specs.Candidates.{layout_at, text_in};
 ghost use Rattle.abc_program.specs.Traits.{own_table_of, own_traits};
+ghost use Rattle.abc_program.specs.declared.types.Owner.{Owner};
+ghost use Rattle.abc_search.specs.declared.found.Found.TheVariants.{Method};
 ghost use Rattle.abc_search.specs.declared.name.Spaces.TheVariants.{One};
 
 use crate::declared::only_of;
-use crate::numbers::whole_number;
 use crate::tables::{member_at, own_table};
 use abc_cells::ObjId;
 use abc_link::{LayoutId, Linked, Part};
+use abc_nameparts::whole_number;
 use abc_names::qname_at;
 use abc_objects::Arena;
 use abc_search::{Found, Member, Name, Spaces};
@@ -138,5 +140,20 @@ pub(crate) fn first_of_traits(l: &Linked, a: &Arena, o: ObjId, name: &Name) -> F
     match own_member(l, a, x, name) {
         Some(member) => first_as(l, a, o, x, name, member),
         None => Found::Missing,
+    }
+}
+
+/// The method that a name finds at once among the own traits of an object's layout, if one is found so.
+#[inline(always)]
+pub fn first_method(l: &Linked, a: &Arena, o: ObjId, name: &Name) -> Option<u32>
+    requires over { StandsOver l.now a.now }
+    requires holder { IsObject a.now o }
+    requires name { IsText l.now.file.strings a.now name.now.text }
+    ensures { MatchOption result (Unit {0}) (λ m. (owner : Owner) × IsFirst l.now a.now o name.now (Method owner m)) }
+{
+    let found = first_of_traits(l, a, o, name);
+    match found {
+        Found::Method { method, .. } => Some(method),
+        _ => None,
     }
 }

@@ -14,10 +14,10 @@ ghost use Rattle.abc_search.specs.Spaces.{holds_protected as does_hold_protected
 ghost use Rattle.abc_search.specs.Traits.{slots_under as slots_below, traits_from};
 
 use crate::query::Query;
-use crate::spaces::{holds, holds_pooled, is_protected, protected_of};
 use crate::tables::{caught_name, member_at, own_table, slots_under};
 use abc_base::HostClass;
 use abc_link::{LayoutId, Part};
+use abc_nameparts::{holds, holds_pooled, is_protected, protected_of};
 use abc_names::{qname_at, text_at};
 use abc_search::{Declared, Found, Member, TraitSpace};
 

@@ -3,8 +3,6 @@
 
 mod at_once;
 mod declared;
-mod elements;
-mod numbers;
 mod on;
 mod own;
 mod place;
@@ -12,11 +10,10 @@ mod plain;
 mod query;
 mod scopes;
 mod search;
-mod spaces;
 mod tables;
 
+pub use abc_nameparts::{ElementName, element_named, holds_public};
 pub use abc_search::{Found, Name, ScopeFound, Spaces, Want};
-pub use elements::{ElementName, element_named};
-pub use plain::find_first;
+pub use at_once::first_method;
+pub use plain::{find_first, is_plain};
 pub use search::{find_declared, find_in_scopes, find_on};
-pub use spaces::holds_public;

@@ -5,9 +5,9 @@ ghost use Rattle.abc_objects.specs.Values.{IsObject};
 ghost use Rattle.abc_search.specs.Candidates.{OfLength, answer, elements, elements_from, own_things, properties, things_along};
 ghost use Rattle.abc_search.specs.Objects.{number_of};
 
-use crate::elements::element_number;
 use crate::query::Query;
 use abc_cells::ObjId;
+use abc_nameparts::element_number;
 use abc_search::Found;
 
 impl Query<'_> {

@@ -7,11 +7,10 @@ ghost use Rattle.abc_objects.specs.Stands.{StandsOver};
 ghost use Rattle.abc_objects.specs.Values.{IsObject};
 ghost use Rattle.abc_program.specs.Linked.{IsLayout};
 
-use crate::elements::element_number;
-use crate::spaces::holds_public;
 use abc_base::HostClass;
 use abc_cells::ObjId;
 use abc_link::{LayoutId, Linked, Part};
+use abc_nameparts::{element_number, holds_public};
 use abc_objects::Arena;
 use abc_search::{Found, Name};
 
@@ -43,7 +42,7 @@ pub(crate) fn has_no_traits(l: &Linked, x: LayoutId) -> bool
 
 /// Whether an object is known to have no traits, and a name holds the public namespace.
 #[inline(always)]
-fn is_plain(l: &Linked, a: &Arena, o: ObjId, name: &Name) -> bool
+pub fn is_plain(l: &Linked, a: &Arena, o: ObjId, name: &Name) -> bool
     requires over { StandsOver l.now a.now }
     requires holder { IsObject a.now o }
     ensures { result ≡ true → IsPlain l.now a.now o name.now }

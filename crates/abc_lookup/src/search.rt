@@ -9,15 +9,14 @@ ghost use Rattle.abc_search.specs.Scopes.{scope_named};
 ghost use Rattle.abc_search.specs.Searches.{declared_found, found_in_scopes, found_on};
 
 use crate::at_once::first_of_traits;
-use crate::numbers::number_of;
 use crate::place::Place;
 use crate::plain::{find_first, has_no_traits};
 use crate::query::Query;
-use crate::spaces::holds_public;
 use abc_base::Table;
 use abc_cells::{ObjId, Value};
 use abc_heap::{ScopeEntry, ScopeId};
 use abc_link::{LayoutId, Linked};
+use abc_nameparts::{holds_public, number_of};
 use abc_objects::Arena;
 use abc_search::{Found, Name, ScopeFound, Skip, Want};
 

@@ -22,6 +22,7 @@ pub(crate) fn caught_name(abc: &Abc, body: u32, exception: u32) -> u32
 }
 
 /// The own traits of a layout.
+#[inline(always)]
 pub(crate) fn own_table(l: &Linked, x: LayoutId) -> &[TraitInfo]
     requires { IsLayout l.now x }
     ensures { result.now ≡ own_table_of l.now x.0 }
@@ -53,6 +54,7 @@ pub(crate) fn slot_at(l: &Linked, x: LayoutId, place: u32) -> u32
 }
 
 /// What a trait of a layout is. The traits of functions are not run.
+#[inline(always)]
 pub(crate) fn member_at(l: &Linked, x: LayoutId, place: u32, body: TraitBody) -> Option<Member>
     requires layout { IsLayout l.now x }
     requires place { place < length (own_table_of l.now x.0) }

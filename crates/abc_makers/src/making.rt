@@ -152,6 +152,7 @@ pub fn make_class(
 }
 
 /// Gives an object an own property: one that is there takes the value, else a new one takes a cell, last.
+#[inline(always)]
 pub fn put_property(
     linked: &Linked,
     s: &mut State,

@@ -6,6 +6,7 @@ pub mod Places
 pub mod Written
 pub mod Parts
 pub mod Under
+pub mod Elements
 pub use Rattle.abc_named.proofs.Forms as NamedForms
 pub use Rattle.abc_named.proofs.Receiving as NamedReceiving
 pub use Rattle.abc_makers.proofs.Keeping as MakersKeeping

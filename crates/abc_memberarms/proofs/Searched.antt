@@ -1,5 +1,5 @@
 -- What a search finds is there.
-use Rattle.std.proofs.Common.{◌≡◌, inl, inr, ℕ, zero, suc, ◌<◌, ◌≤◌, Bool, true, false, cond, List, [], ◌∷◌, length, refl, sym, subst, arith}
+use Rattle.std.proofs.Common.{◌≡◌, inl, inr, ℕ, zero, suc, ◌<◌, ◌≤◌, Bool, true, false, cond, List, [], ◌∷◌, length, refl, sym, ◌∙◌, subst, arith}
 use Rattle.std.proofs.lemmas.Bool.{cases_lt}
 use Rattle.std.specs.Prelude.{slice_get, Some}
 use Rattle.std.specs.List.{list_any}
@@ -68,16 +68,11 @@ found_there l h v n want answers finds over = elim (answers l h n (skip_for want
 
 -- ---- what is found at once
 
-pub first_is : (l : LinkedFile) (h : Heap) (o : ObjId) (n : Name) (x : Found) → IsFirst l h o n x → (x ≡ founds.Missing → ⊥) → x ≡ found_on l h (Obj o) n Read
-first_is l h o n (founds.Slot k c) f never = f Read
-first_is l h o n (founds.Method owner m) f never = f Read
-first_is l h o n (founds.Getter m) f never = f Read
-first_is l h o n (founds.Setter m) f never = f Read
-first_is l h o n (founds.Property holder x) f never = f Read
-first_is l h o n (founds.Element holder k) f never = f Read
-first_is l h o n (founds.Length holder) f never = f Read
-first_is l h o n founds.WrongSide f never = f Read
-first_is l h o n founds.Missing f never = absurd (never refl)
+pub property_first : (l : LinkedFile) (h : Heap) (o : ObjId) (n : Name) (x : Found) (holder : ObjId) (v : Value) → IsFirst l h o n x → x ≡ founds.Property holder v → x ≡ found_on l h (Obj o) n Read
+property_first l h o n x holder v f is = is ∙ subst (IsFirst l h o n) is f Read
+
+pub element_first : (l : LinkedFile) (h : Heap) (o : ObjId) (n : Name) (x : Found) (holder : ObjId) (k : ℕ) → IsFirst l h o n x → x ≡ founds.Element holder k → x ≡ found_on l h (Obj o) n Read
+element_first l h o n x holder k f is = is ∙ subst (IsFirst l h o n) is f Read
 
 pub first_there : (l : LinkedFile) (h : Heap) (o : ObjId) (n : Name) (x : Found) → AnswersTheFirst → FindsWhatIsThere → StandsOver l h → IsFirst l h o n x → IsFoundThere l h x
 first_there l h o n founds.Missing answers finds over f = tt

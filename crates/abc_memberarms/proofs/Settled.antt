@@ -35,6 +35,10 @@ got_turns : (p : Setting) (how : How) (f : Frame) (q : Frames) (w : World) (v : 
 got_turns p (Push k) f q w v = refl
 got_turns p (Drop k) f q w v = refl
 
+-- a value that stands
+pub value_goes : (p : Setting) (q new : Frames) (how : How) (x : Value) (act : Outcome Act) (w : World) → act ≡ settles how (newest q) (Got x) w → new ≡ on_top (settled how x (newest q)) q → turned p q act ≡ GoesOn w new
+value_goes p q new how x act w e to = ap (turned p q) e ∙ got_turns p how (newest q) q w x ∙ ap (GoesOn w) (sym to)
+
 -- what a part gives, over the frames that it left as they were, or it stops
 pub came_goes : {X : Type 0} (p : Setting) (q mid new : Frames) (how : How) (m : Run X) (v : X → Value) (w n : World) (x : X) → m w ≡ Went n x → mid ≡ q → new ≡ on_top (settled how (v x) (newest mid)) mid → turned p q (settled_by how (newest q) (m >>= λ y. got (v y)) w) ≡ GoesOn n new
 came_goes {X = X} p q mid new how m v w n x e same to =

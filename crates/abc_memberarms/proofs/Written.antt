@@ -16,8 +16,8 @@ use Rattle.abc_heap.specs.Texts.{text_of}
 use Rattle.abc_heap.specs.What.{is_array}
 use Rattle.abc_heap.specs.declared.records.Full.{Full}
 use Rattle.abc_heap.specs.declared.records.Limit.TheVariants as limits
-use Rattle.abc_lookup.specs.Named.{element_in, element_on}
-use Rattle.abc_lookup.specs.declared.elements.ElementName as code
+use Rattle.abc_lookup.specs.NamepartsNamed.{element_in, element_on}
+use Rattle.abc_lookup.specs.NamepartsElementNameType as code
 use Rattle.abc_objects.specs.Growing.{Grows}
 use Rattle.abc_objects.specs.Stands.{StandsOver}
 use Rattle.abc_objects.specs.Values.{IsObject}

@@ -23,8 +23,8 @@ use Rattle.abc_states.specs.Operands.{operand_at}
 use Rattle.abc_states.specs.WorldCalling.{Calls, Came, Got, Makes, calls, entered, got}
 use Rattle.abc_states.specs.WorldEntering.{enters_owned}
 use Rattle.abc_states.specs.WorldMaking.{new}
-use Rattle.abc_states.specs.WorldMembers.{at_place, bound_function, call_found, calls_name, may_hold, read_found, reads, value_found, write_found, write_property, write_slot, writes_to}
-use Rattle.abc_states.specs.WorldObjects.{own_place}
+use Rattle.abc_states.specs.WorldMembers.{at_place, bound_function, call_found, calls_name, may_hold, read_found, reads, value_found, write_element, write_found, write_property, write_slot, writes_to}
+use Rattle.abc_states.specs.WorldObjects.{own_place, set_property}
 use Rattle.abc_states.specs.WorldSetting.{Setting, is_dynamic_layout}
 use Rattle.abc_states.specs.World.{Run, World, done, object, stuck, the, throws, ◌>>=◌}
 use Rattle.abc_states.specs.ActsAt.{Above, Act, Goes}
@@ -157,3 +157,16 @@ calls_named p n count lexical how f = settled_by how f (named_here p n count f >
 
 abbrev pub constructs_named : Setting → ℕ → (count : ℕ) → Frame → Run Act
 constructs_named p n count f = named_here p n count f >>= reads p (holder_under p n count f) >>= constructs_of p (parts_at p n + 1) count f
+
+-- ---- what is written at once: a property of an object's own, by which nothing comes
+
+-- and an element of an array
+abbrev pub puts_element : ObjId → (length k : ℕ) → Value → Run Came
+puts_element o length k x = write_element o length k x >>= λ u. got Undefined
+
+abbrev pub puts_own : Setting → ObjId → Span → Value → Run Came
+puts_own p o text x = set_property p o text x >>= λ u. got Undefined
+
+-- the top operand, over its holder
+abbrev pub puts_top : Setting → ObjId → Span → Frame → Run Act
+puts_top p o text f = settled_by (Drop 2) f (puts_own p o text (operand_at 0 f))

@@ -1,4 +1,5 @@
 ghost use Rattle.std.specs.Prelude.{◌≡◌, ◌+◌, ◌≤◌, ◌<◌, ◌^◌};
+ghost use Rattle.abc_cells.specs.declared.values.Value.TheVariants.{Obj};
 ghost use Rattle.abc_moves.specs.Ready.{IsReady};
 ghost use Rattle.abc_objects.specs.Values.{Exists};
 ghost use Rattle.abc_stacks.specs.Frame.{newest};
@@ -14,8 +15,8 @@ ghost use Rattle.abc_memberarms.specs.Members.{IsFoundThere, calls_found, calls_
 use crate::values::{value_found, value_of};
 use abc_base::Fault;
 use abc_callarms::{call, make, waiting};
-use abc_cells::Value;
-use abc_entering::enter_owned;
+use abc_cells::{ObjId, Value};
+use abc_entering::{enter_on_object, enter_owned};
 use abc_link::Linked;
 use abc_lookup::Found;
 use abc_stacks::Wait;
@@ -107,6 +108,53 @@ fn call_method(
     ensures limit { s.new.given.limit ≡ s.old.given.limit }
 {
     enter_on(linked, s, method, v, count, how)?;
+    Ok(Left::Goes)
+}
+
+/// Enters a method of an owner on an object, with so many arguments, in line.
+#[inline(always)]
+fn enter_object(
+    linked: &Linked,
+    s: &mut State,
+    method: u32,
+    o: ObjId,
+    count: u32,
+    how: How,
+) -> Result<(), Stop>
+    ghost out: { Outer }
+    requires set { IsSet linked.now s.old }
+    requires known { IsKnown linked.now s.old.given.limit }
+    requires ready { IsReady (taken_by how) (given_by how) s.old.frames }
+    requires count { count ≤ taken_by how }
+    requires free { IsOpen (enters_found (setting linked.now out) method (Obj o) count how (newest s.old.frames) (world s.old out)) }
+    ensures runs { Runs linked.now out (enters_found (setting linked.now out) method (Obj o) count how (newest s.old.frames)) s.old result s.new }
+    ensures limit { s.new.given.limit ≡ s.old.given.limit }
+{
+    let (taken, wait) = waiting(how);
+    enter_on_object(linked, s, method, o, count, taken, &wait)
+}
+
+/// Calls a method of an owner on an object, with so many arguments, in line.
+#[inline(always)]
+pub fn call_object_method(
+    linked: &Linked,
+    s: &mut State,
+    method: u32,
+    o: ObjId,
+    count: u32,
+    how: How,
+) -> Result<Left, Stop>
+    ghost out: { Outer }
+    requires set { IsSet linked.now s.old }
+    requires known { IsKnown linked.now s.old.given.limit }
+    requires ready { IsReady (taken_by how) (given_by how) s.old.frames }
+    requires count { count ≤ taken_by how }
+    requires free { IsOpen (enters_found (setting linked.now out) method (Obj o) count how (newest s.old.frames) (world s.old out)) }
+    ensures leaves { Leaves linked.now out (enters_found (setting linked.now out) method (Obj o) count how (newest s.old.frames)) s.old result s.new }
+    ensures finishes { CanFinish linked.now result s.new }
+    ensures limit { s.new.given.limit ≡ s.old.given.limit }
+{
+    enter_object(linked, s, method, o, count, how)?;
     Ok(Left::Goes)
 }
 

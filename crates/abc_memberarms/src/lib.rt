@@ -3,17 +3,15 @@
 
 mod found;
 mod naming;
-mod properties;
 mod values;
 mod writing;
 
-pub use abc_callarms::{message_of, set_message};
+pub use abc_callarms::{call, make, message_of, set_message};
 pub use abc_entering::{enter_owned, start_above};
-pub use abc_named::{name_of, parts_of, receiver};
-pub use found::{call_found, read_found};
-pub use naming::{call_on, construct_on, read_on, write_on};
-pub use properties::{
-    call_property, call_value, construct, construct_property, get_property, set_property,
+pub use abc_named::{is_dynamic, late_text, name_of, parts_of, receiver, whole_name, with_text};
+pub use found::{call_found, call_object_method, read_found};
+pub use naming::{
+    call_on, construct_on, find_at_once, read_on, read_on_object, write_on, write_on_object,
 };
 pub use values::value_found;
 pub use writing::write_found;

@@ -19,14 +19,14 @@ ghost use Rattle.abc_search.specs.Searches.{found_on};
 ghost use Rattle.abc_search.specs.declared.found.Want.TheVariants.{Read};
 
 use crate::found::{call_found, construct_found, read_found};
-use crate::writing::write_found;
+use crate::writing::{kept_element, write_found};
 use abc_base::HostClass;
 use abc_cells::{ObjId, Value};
 use abc_link::Linked;
 use abc_lookup::{Found, Name, Want, find_declared, find_first, find_on};
 use abc_named::is_holder;
 use abc_search::{answer_is_the_first, found_is_there};
-use abc_states::{How, Left, State, Stop};
+use abc_states::{How, Left, State, Stop, settle};
 
 /// What a name finds on a value, for a read.
 #[inline(always)]
@@ -44,7 +44,7 @@ fn find(linked: &Linked, s: &State, v: Value, name: &Name) -> Found
 
 /// What a name finds at once on an object.
 #[inline(always)]
-fn find_at_once(linked: &Linked, s: &State, o: ObjId, name: &Name) -> Found
+pub fn find_at_once(linked: &Linked, s: &State, o: ObjId, name: &Name) -> Found
     requires over { StandsOver linked.now s.now.arena }
     requires inside { IsObject s.now.arena o }
     requires name { IsText linked.now.file.strings s.now.arena name.now.text }
@@ -80,9 +80,20 @@ fn read_searching(
     read_found(linked, s, found, v, how)
 }
 
+/// The same name, in a place of its own: so one of which no search is made has no place in memory.
+#[inline(always)]
+fn again(name: &Name) -> Name
+    ensures { result ≡ name.now }
+{
+    Name {
+        spaces: name.spaces,
+        text: name.text,
+    }
+}
+
 /// Reads by a name on an object. What is found at once is read without a search.
 #[inline(always)]
-fn read_on_object(
+pub fn read_on_object(
     linked: &Linked,
     s: &mut State,
     o: ObjId,
@@ -101,8 +112,9 @@ fn read_on_object(
 {
     let found = find_at_once(linked, s, o, name);
     match found {
-        Found::Missing => read_searching(linked, s, Value::Obj(o), name, how),
-        _ => read_found(linked, s, found, Value::Obj(o), how),
+        Found::Property { .. } => read_found(linked, s, found, Value::Obj(o), how),
+        Found::Element { .. } => read_found(linked, s, found, Value::Obj(o), how),
+        _ => read_searching(linked, s, Value::Obj(o), &again(name), how),
     }
 }
 
@@ -125,9 +137,9 @@ pub fn read_on(linked: &Linked, s: &mut State, v: Value, name: &Name, how: How) 
     }
 }
 
-/// Writes by a name on an object: its declared traits are asked first. The value is the top operand.
-#[inline(always)]
-fn write_on_object(
+/// The same as `write_on_object`, by a search.
+#[inline(never)]
+fn write_searching(
     linked: &Linked,
     s: &mut State,
     o: ObjId,
@@ -152,6 +164,41 @@ fn write_on_object(
     let layout = s.arena.layout(o);
     let found = find_declared(linked, &s.arena, layout, layout, name, Want::Write);
     write_found(linked, s, o, name, x, initial, found, how)
+}
+
+/// Writes by a name on an object: its declared traits are asked first. An element that is found at once is replaced
+/// without a search. The value is the top operand.
+#[inline(always)]
+pub fn write_on_object(
+    linked: &Linked,
+    s: &mut State,
+    o: ObjId,
+    name: &Name,
+    x: Value,
+    initial: bool,
+    how: How,
+) -> Result<(), Stop>
+    ghost out: { Outer }
+    requires set { IsSet linked.now s.old }
+    requires known { IsKnown linked.now s.old.given.limit }
+    requires ready { IsReady (taken_by how) (given_by how) s.old.frames }
+    requires one { 1 ≤ taken_by how }
+    requires inside { IsObject s.old.arena o }
+    requires name { IsText linked.now.file.strings s.old.arena name.now.text }
+    requires value { Exists linked.now s.old.arena x }
+    requires top { x ≡ operand_at 0 (newest s.old.frames) }
+    requires free { IsOpen (writes_on (setting linked.now out) (Obj o) name.now x initial how (newest s.old.frames) (world s.old out)) }
+    ensures runs { Runs linked.now out (writes_on (setting linked.now out) (Obj o) name.now x initial how (newest s.old.frames)) s.old result s.new }
+    ensures limit { s.new.given.limit ≡ s.old.given.limit }
+{
+    match kept_element(linked, s, o, name) {
+        Some(k) => {
+            s.arena.set_element(o, k, x);
+            settle(&mut s.frames, how, Value::Undefined);
+            Ok(())
+        }
+        None => write_searching(linked, s, o, &again(name), x, initial, how),
+    }
 }
 
 /// Writes by a name on a value; null and undefined throw, and no other value but an object holds anything. The value that is

@@ -1,10 +1,13 @@
-ghost use Rattle.std.specs.Prelude.{◌≡◌, ◌≤◌, true, length, not, None, ◌||◌};
+ghost use Rattle.std.specs.Prelude.{◌≡◌, ◌<◌, ◌≤◌, Bool, true, length, not, MatchOption, None, Some, ◌||◌};
+ghost use Rattle.abc_cells.specs.declared.values.Value.TheVariants.{Obj};
 ghost use Rattle.abc_heap.specs.Heap.{elements_of, object_at};
 ghost use Rattle.abc_heap.specs.Texts.{IsText};
 ghost use Rattle.abc_heap.specs.What.{is_array};
+ghost use Rattle.abc_lookup.specs.NamepartsNamed.{element_in};
 ghost use Rattle.abc_moves.specs.Ready.{IsReady};
 ghost use Rattle.abc_objects.specs.Stands.{StandsOver};
 ghost use Rattle.abc_objects.specs.Values.{Exists, IsObject};
+ghost use Rattle.abc_search.specs.ElementNames.{IsNumber};
 ghost use Rattle.abc_stacks.specs.Frame.{newest};
 ghost use Rattle.abc_entering.specs.Arguments.{IsKnown};
 ghost use Rattle.abc_states.specs.Operands.{operand_at};
@@ -13,14 +16,14 @@ ghost use Rattle.abc_states.specs.Settling.{given_by, taken_by};
 ghost use Rattle.abc_states.specs.Standing.{IsSet, Stays};
 ghost use Rattle.abc_states.specs.Stops.{IsOpen, answer};
 ghost use Rattle.abc_states.specs.Turns.{Runs};
-ghost use Rattle.abc_states.specs.WorldMembers.{write_element as write_element_so, write_own as write_own_so, write_property as write_property_so};
-ghost use Rattle.abc_memberarms.specs.Members.{may_take as may_take_so, public_written, slot_written_if, value_written, writes_found, writes_value};
+ghost use Rattle.abc_states.specs.WorldMembers.{write_element as write_element_so, write_own as write_own_so, write_property as write_property_so, writes_to};
+ghost use Rattle.abc_memberarms.specs.Members.{may_take as may_take_so, public_written, puts_element, slot_written_if, value_written, writes_found, writes_value};
 
 use crate::found::enter_on;
 use abc_base::{Fault, HostClass};
 use abc_cells::{ObjId, Span, Value};
 use abc_link::Linked;
-use abc_lookup::{ElementName, Found, Name, element_named, holds_public};
+use abc_lookup::{ElementName, Found, Name, element_named, holds_public, is_plain};
 use abc_makers::put_property;
 use abc_named::{is_dynamic, write_slot};
 use abc_states::{How, State, Stop, settle};
@@ -47,6 +50,36 @@ fn write_element(linked: &Linked, s: &mut State, o: ObjId, k: u32, v: Value) -> 
     match s.arena.push_element(o, v) {
         Ok(()) => Ok(()),
         Err(full) => Err(Stop::Fills(full.0)),
+    }
+}
+
+/// The number of an element that an array has, which a name names.
+#[inline(always)]
+fn kept_at(s: &State, o: ObjId, element: ElementName) -> Option<u32>
+    requires { IsObject s.now.arena o }
+    ensures { MatchOption result (Unit {0}) (λ k. (element_in (Some element) ≡ Some (IsNumber k)) × (k < length (elements_of s.now.arena.objects o.0))) }
+{
+    match element {
+        ElementName::Number(k) => { if k < s.arena.length(o) { Some(k) } else { None } }
+        ElementName::Length => None,
+    }
+}
+
+/// The number of the element that is replaced by a write on an object by a name, if that is told at once: an array has no traits,
+/// and the element is there.
+#[inline(always)]
+pub(crate) fn kept_element(linked: &Linked, s: &State, o: ObjId, name: &Name) -> Option<u32>
+    requires over { StandsOver linked.now s.now.arena }
+    requires inside { IsObject s.now.arena o }
+    requires name { IsText linked.now.file.strings s.now.arena name.now.text }
+    ensures { MatchOption result (Unit {0}) (λ k. (k < length (elements_of s.now.arena.objects o.0)) × ((out : Outer) (x : Value) (initial : Bool) → writes_to (setting linked.now out) (Obj o) name.now x initial (world s.now out) ≡ puts_element o (length (elements_of s.now.arena.objects o.0)) k x (world s.now out))) }
+{
+    if !is_plain(linked, &s.arena, o, name) {
+        return None;
+    }
+    match element_named(linked, &s.arena, o, name.text) {
+        Some(element) => kept_at(s, o, element),
+        None => None,
     }
 }
 

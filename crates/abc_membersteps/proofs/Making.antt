@@ -2,7 +2,7 @@
 use Rattle.std.proofs.Common.{◌≡◌, ℕ, ◌+◌, ◌≤◌, List, ◌++◌, drop, length, reverse, take, refl, ap, ◌∙◌}
 use Rattle.std.proofs.lemmas.List.{length-reverse, length-take-le, reverse-reverse}
 use Rattle.abc_cells.specs.declared.values.Value.{Value}
-use Rattle.abc_memberarms.specs.Members.{constructs_of}
+use Rattle.abc_propertyarms.specs.MemberarmsMembers.{constructs_of}
 use Rattle.abc_stacks.specs.Frame.{Frame, arguments, dropped, waiting}
 use Rattle.abc_stacks.specs.declared.records.Wait.TheVariants.{New}
 use Rattle.abc_states.specs.ActsAt.{Above, Act, Goes, makes_of, pushing}

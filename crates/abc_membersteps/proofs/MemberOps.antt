@@ -1,8 +1,8 @@
 -- What the instructions on properties, calls and `new` do, by their opcodes.
 use Rattle.std.proofs.Common.{◌≡◌, ℕ, ◌+◌, ◌≤◌, [], ◌∷◌, length, true, false, refl, sym, ap, ◌∙◌, subst, arith}
-use Rattle.abc_memberarms.specs.CallarmsCalls.{calls_value, makes_value}
-use Rattle.abc_memberarms.specs.Members.{calls_named, constructs_named, constructs_of, gets_named, parts_at, sets_named}
-use Rattle.abc_memberarms.specs.Named.{form_at, named_here, parts_for}
+use Rattle.abc_propertyarms.specs.CallarmsCalls.{calls_value, makes_value}
+use Rattle.abc_propertyarms.specs.MemberarmsMembers.{calls_named, constructs_named, constructs_of, gets_named, parts_at, sets_named}
+use Rattle.abc_propertyarms.specs.Named.{form_at, named_here, parts_for}
 use Rattle.abc_taking.proofs.PlainstepsDoing.{Does}
 use Rattle.abc_taking.proofs.PlainstepsOpened.{here_of}
 use Rattle.abc_taking.specs.PlainstepsHere.{act_here}

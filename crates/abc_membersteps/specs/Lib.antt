@@ -1,2 +1,2 @@
 pub mod Groups
-pub use Rattle.abc_memberarms.specs.CallarmsCalls
+pub use Rattle.abc_propertyarms.specs.CallarmsCalls

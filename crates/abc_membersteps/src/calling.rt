@@ -1,6 +1,6 @@
 ghost use Rattle.std.specs.Prelude.{◌≡◌, true};
-ghost use Rattle.abc_memberarms.specs.CallarmsCalls.{CanFinish};
-ghost use Rattle.abc_memberarms.specs.EnteringArguments.{IsKnown};
+ghost use Rattle.abc_propertyarms.specs.CallarmsCalls.{CanFinish};
+ghost use Rattle.abc_propertyarms.specs.EnteringArguments.{IsKnown};
 ghost use Rattle.abc_taking.specs.PlainstepsHere.{act_here};
 ghost use Rattle.abc_taking.specs.PlainstepsReady.{CanRun};
 ghost use Rattle.abc_stacks.specs.Frame.{newest};
@@ -11,7 +11,7 @@ ghost use Rattle.abc_tables.specs.declared.code.Instr.TheVariants.{One, Two};
 ghost use Rattle.abc_membersteps.specs.Groups.{property_call_ops};
 
 use abc_link::Linked;
-use abc_memberarms::{call_property, call_value, parts_of};
+use abc_propertyarms::{call_property, call_value, parts_of};
 use abc_states::{How, Left, State, Stop};
 
 /// `call`, with so many arguments.

@@ -1,5 +1,5 @@
 ghost use Rattle.std.specs.Prelude.{◌≡◌};
-ghost use Rattle.abc_memberarms.specs.EnteringArguments.{IsKnown};
+ghost use Rattle.abc_propertyarms.specs.EnteringArguments.{IsKnown};
 ghost use Rattle.abc_taking.specs.PlainstepsHere.{act_here};
 ghost use Rattle.abc_taking.specs.PlainstepsReady.{CanRun};
 ghost use Rattle.abc_stacks.specs.Frame.{newest};
@@ -8,7 +8,7 @@ ghost use Rattle.abc_states.specs.Turns.{Runs};
 ghost use Rattle.abc_tables.specs.declared.code.Instr.TheVariants.{One, Two};
 
 use abc_link::Linked;
-use abc_memberarms::{construct, construct_property};
+use abc_propertyarms::{construct, construct_property};
 use abc_states::{State, Stop};
 
 /// `construct`, with so many arguments.

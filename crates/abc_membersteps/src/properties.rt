@@ -1,5 +1,5 @@
 ghost use Rattle.std.specs.Prelude.{◌≡◌, true};
-ghost use Rattle.abc_memberarms.specs.EnteringArguments.{IsKnown};
+ghost use Rattle.abc_propertyarms.specs.EnteringArguments.{IsKnown};
 ghost use Rattle.abc_taking.specs.PlainstepsHere.{act_here};
 ghost use Rattle.abc_taking.specs.PlainstepsReady.{CanRun};
 ghost use Rattle.abc_stacks.specs.Frame.{newest};
@@ -10,7 +10,7 @@ ghost use Rattle.abc_tables.specs.declared.code.Instr.TheVariants.{One};
 ghost use Rattle.abc_membersteps.specs.Groups.{property_ops};
 
 use abc_link::Linked;
-use abc_memberarms::{get_property, set_property};
+use abc_propertyarms::{get_property, set_property};
 use abc_states::{State, Stop};
 use abc_taking::run_delete;
 

@@ -20,6 +20,7 @@ pub fn try_start(frames: &mut Frames, entry: Entry, locals: &[Value]) -> Result<
 
 /// Enters a method with the top operands as its first locals, where there is room for it. So many more operands, which are under
 /// them, leave the caller with them. Without room nothing changes.
+#[inline(always)]
 pub fn try_enter(
     frames: &mut Frames,
     entry: Entry,

@@ -1,6 +1,6 @@
 -- Names of the pool, and what they leave to be taken from the stack.
 use Rattle.std.proofs.Common.{◌≡◌, ◌∙◌, ℕ, ◌+◌, ◌-◌, ◌<◌, ◌≤◌, Bool, true, false, cond, length, refl, sym, ap, subst, arith}
-use Rattle.std.specs.Prelude.{Some, None, if◌then◌else◌, slice_get}
+use Rattle.std.specs.Prelude.{MatchOption, Some, None, if◌then◌else◌, slice_get}
 use Rattle.std.specs.declared.option.Option.{Option}
 use Rattle.std.proofs.lemmas.Bool.{lt-ltb}
 use Rattle.std.proofs.lemmas.Option.{get_or_from_slice_get, slice_get_within}
@@ -10,8 +10,10 @@ use Rattle.abc_fits.proofs.Combined.{pool_index_fits}
 use Rattle.abc_fits.proofs.FileFits.{file_fits, tables_fit}
 use Rattle.abc_fits.proofs.PoolsFit.{HasFields, multiname_fits, multinames_fit, pools_fit}
 use Rattle.abc_heap.specs.Heap.{Heap}
+use Rattle.abc_heap.specs.Texts.{IsText}
 use Rattle.abc_ops.proofs.Staying.{string_there}
 use Rattle.abc_program.specs.Linked.{IsLinkedFile, LinkedFile}
+use Rattle.abc_search.specs.declared.name.Name.{Name}
 use Rattle.abc_search.specs.declared.name.Spaces.{Spaces}
 use Rattle.abc_search.specs.declared.name.Spaces.TheVariants as spaces
 use Rattle.abc_stacks.specs.Frame.{Frame}
@@ -24,7 +26,7 @@ use Rattle.abc_makers.specs.Names.{form_in}
 use Rattle.abc_makers.specs.Setting.{NameForm, NoPart, NoSpace, NoText, Setting, Whole, name_form, spaces_of, string_of}
 use Rattle.abc_named.specs.declared.names.Form.{Form}
 use Rattle.abc_named.specs.declared.names.Form.TheVariants as forms
-use Rattle.abc_named.specs.Form.{HasString, HasText, forms_of}
+use Rattle.abc_named.specs.Form.{HasString, HasText, form_of, forms_of}
 use Rattle.abc_named.specs.Named.{HasParts, form_at, parts_count}
 
 -- ---- one name, by what the code makes of its parts
@@ -108,6 +110,19 @@ form_text p h n = go (name_at p.linked n)
     go : (m : Option Multiname) → HasText p.linked.file.strings h (form_in p m)
     go None = tt
     go (Some m) = name_text p h m
+
+-- a form of which no part comes at run time
+pub whole_form : (o : Option Name) (form : Form) (r : Option NameForm) → MatchOption o (Unit {0}) (λ x. form_of form ≡ Whole x) → forms_of (Some form) ≡ r → MatchOption o (Unit {0}) (λ x. r ≡ Some (Whole x))
+whole_form None form r h e = tt
+whole_form (Some x) form r h e = sym e ∙ ap (λ (f : NameForm). Some f) h
+
+pub late_form : (o : Option Spaces) (form : Form) (r : Option NameForm) → MatchOption o (Unit {0}) (λ of. form_of form ≡ NoText of) → forms_of (Some form) ≡ r → MatchOption o (Unit {0}) (λ of. r ≡ Some (NoText of))
+late_form None form r h e = tt
+late_form (Some of) form r h e = sym e ∙ ap (λ (f : NameForm). Some f) h
+
+pub whole_text : (p : Setting) (h : Heap) (n : ℕ) (o : Option Name) → MatchOption o (Unit {0}) (λ x. form_at p n ≡ Some (Whole x)) → MatchOption o (Unit {0}) (λ x. IsText p.linked.file.strings h x.text)
+whole_text p h n None e = tt
+whole_text p h n (Some x) e = subst (HasText p.linked.file.strings h) e (form_text p h n)
 
 fields_small : (strings namespaces sets all : ℕ) (m : Multiname) → HasFields strings namespaces sets all m → HasString m
 fields_small strings namespaces sets all (names.QName attr ns i) h = ((pool_index_fits strings i).0 h.1).1

@@ -10,7 +10,7 @@ mod walking;
 
 pub use deleting::{delete_property, is_dynamic};
 pub use late::{as_late, has_name, is_instance_of, is_late};
-pub use names::{name_of, parts_of};
+pub use names::{late_text, name_of, parts_of, whole_name, with_text};
 pub use receivers::{is_holder, receiver};
 pub use slots::{get_slot, set_slot, write_slot};
 pub use walking::{next_name, next_value, walk_on, walk_one};

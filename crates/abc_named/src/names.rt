@@ -1,4 +1,5 @@
-ghost use Rattle.std.specs.Prelude.{◌≡◌, ◌<◌, ◌^◌, ◌∷◌, [], IfOk, if◌then◌else◌};
+ghost use Rattle.std.specs.Prelude.{◌≡◌, ◌<◌, ◌^◌, ◌∷◌, [], IfOk, MatchOption, if◌then◌else◌};
+ghost use Rattle.abc_heap.specs.Heap.{Heap};
 ghost use Rattle.abc_heap.specs.Texts.{IsText};
 ghost use Rattle.abc_objects.specs.Stands.{StandsOver};
 ghost use Rattle.abc_objects.specs.Values.{Exists};
@@ -7,7 +8,7 @@ ghost use Rattle.abc_makers.specs.Names.{named, space_of};
 ghost use Rattle.abc_makers.specs.Outer.{Outer, setting, world};
 ghost use Rattle.abc_makers.specs.Standing.{IsSet, Stays};
 ghost use Rattle.abc_makers.specs.Stops.{IsOpen, answer};
-ghost use Rattle.abc_makers.specs.Setting.{NoPart, NoSpace, NoText, Setting, name_form, spaces_of as spaces_named};
+ghost use Rattle.abc_makers.specs.Setting.{NoPart, NoSpace, NoText, Setting, Whole, name_form, spaces_of as spaces_named};
 ghost use Rattle.abc_named.specs.Form.{HasString, HasText, form_of as form_in, forms_of};
 ghost use Rattle.abc_makers.specs.World.{World};
 ghost use Rattle.abc_named.specs.Named.{HasParts, IsSpaceOrNull, form_at, named_here, parts_count, parts_for};
@@ -90,6 +91,53 @@ fn form_named(linked: &Linked, name: u32) -> Option<Form>
     }
 }
 
+/// The name of a form of which no part comes at run time.
+#[inline(always)]
+fn whole_of(form: Form) -> Option<Name>
+    ensures { MatchOption result (Unit {0}) (λ x. form_in form ≡ Whole x) }
+{
+    match form {
+        Form::Whole(whole) => Some(whole),
+        _ => None,
+    }
+}
+
+/// The name of an instruction, where no part of it comes at run time.
+#[inline(always)]
+pub fn whole_name(linked: &Linked, name: u32) -> Option<Name>
+    ghost out: { Outer }
+    ensures form { MatchOption result (Unit {0}) (λ x. form_at (setting linked.now out) name ≡ Some (Whole x)) }
+    ensures text { (h : Heap) → MatchOption result (Unit {0}) (λ x. IsText linked.now.file.strings h x.text) }
+{
+    match form_named(linked, name) {
+        Some(form) => whole_of(form),
+        None => None,
+    }
+}
+
+/// The namespaces of a form of which the text alone comes at run time.
+#[inline(always)]
+fn spaces_in(form: Form) -> Option<Spaces>
+    ensures { MatchOption result (Unit {0}) (λ of. form_in form ≡ NoText of) }
+{
+    match form {
+        Form::NoText(spaces) => Some(spaces),
+        _ => None,
+    }
+}
+
+/// The namespaces of the name of an instruction, where its text alone comes at run time.
+#[inline(always)]
+pub fn late_text(linked: &Linked, name: u32) -> Option<Spaces>
+    ghost out: { Outer }
+    ensures { MatchOption result (Unit {0}) (λ of. form_at (setting linked.now out) name ≡ Some (NoText of)) }
+{
+    match form_named(linked, name) {
+        Some(form) => spaces_in(form),
+        None => None,
+    }
+}
+
 /// So many parts, where the name is no attribute.
 fn parts_unless(attribute: bool, parts: u32) -> u32
     ensures { result ≡ (if attribute then 0 else parts) }
@@ -153,7 +201,8 @@ fn with_space(text: Span, space: Value) -> Result<Name, Stop>
 }
 
 /// A name whose text comes at run time.
-fn with_text(linked: &Linked, s: &mut State, spaces: Spaces, text: Value) -> Result<Name, Stop>
+#[inline(always)]
+pub fn with_text(linked: &Linked, s: &mut State, spaces: Spaces, text: Value) -> Result<Name, Stop>
     ghost out: { Outer }
     requires over { StandsOver linked.now s.old.arena }
     requires text { Exists linked.now s.old.arena text }

@@ -50,6 +50,7 @@ impl<'a> Names<'a> {
     }
 
     /// Whether a namespace of the pool is public.
+    #[inline(always)]
     pub fn is_public(&self, space: u32) -> bool
         ensures { result ≡ is_public self.now.abc.now space }
     {

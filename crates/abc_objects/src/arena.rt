@@ -295,6 +295,7 @@ impl Arena {
     }
 
     /// Writes a property: an own one takes the value, else a new one is made, last.
+    #[inline(always)]
     pub fn set_property(&mut self, l: &Linked, o: ObjId, name: Span, v: Value) -> Result<(), Full>
         requires over { StandsOver l.now self.old }
         requires inside { IsObject self.old o }
@@ -354,6 +355,7 @@ impl Arena {
     }
 
     /// An element of an array, which counts from 0.
+    #[inline(always)]
     pub fn element(&self, o: ObjId, k: u32) -> Value
         requires { k < length (elements_of self.now.objects o.0) }
         ensures { slice_get (elements_of self.now.objects o.0) k ≡ Some result }
@@ -362,6 +364,7 @@ impl Arena {
     }
 
     /// Replaces an element of an array. Over any file of which the arena names the parts, it still does.
+    #[inline(always)]
     pub fn set_element(&mut self, o: ObjId, k: u32, v: Value)
         requires { k < length (elements_of self.old.objects o.0) }
         ensures heap { self.new ≡ with_object (with_element k v) o.0 self.old }

@@ -48,6 +48,7 @@ fn keep(l: &Linked, a: &Arena, ty: Ty, v: Value) -> Result<Value, OpEnd>
 /// The value that coercion to a type gives. int, uint, Number, Boolean and String convert, and end as `convert` does. To a
 /// class, an interface or Namespace, undefined and null become null, a value of the type stays, and any other throws a
 /// TypeError.
+#[inline(always)]
 #[tactic(auto, using(crate::proofs::Staying::grows_itself))]
 pub fn coerce(l: &Linked, a: &mut Arena, ty: Ty, v: Value) -> Result<Value, OpEnd>
     requires over { StandsOver l.now a.old }

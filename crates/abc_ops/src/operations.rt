@@ -114,6 +114,7 @@ fn join(l: &Linked, a: &mut Arena, x: Value, y: Value) -> Result<Value, OpEnd>
 /// text that it makes, the left before the right, ends it as `Full` of the texts exactly where there is no room for it. Else
 /// the left is made a number before the right, with the faults of `convert`; a result out of range or a quotient that is not
 /// whole is the fault Range, and a divisor 0 NotANumber.
+#[inline(always)]
 #[tactic(auto, using(crate::proofs::Staying::grows_itself))]
 pub fn binary(l: &Linked, a: &mut Arena, op: u8, x: Value, y: Value) -> Result<Value, OpEnd>
     requires over { StandsOver l.now a.old }

@@ -126,6 +126,7 @@ impl Owners {
     }
 
     /// What names a method.
+    #[inline(always)]
     #[tactic(auto, using(crate::proofs::Found::owner_found))]
     pub fn owner(&self, abc: &Abc, method: u32) -> Owner
         requires { AreOwners abc.now self.now }

@@ -19,6 +19,7 @@ use abc_link::Linked;
 use abc_states::{Left, State, Stop, coerce, operand};
 
 /// What returns is coerced to the type that the method returns, in the frame that returns it.
+#[inline(always)]
 fn return_value(linked: &Linked, s: &mut State, v: Value) -> Result<Left, Stop>
     ghost out: { Outer }
     requires over { StandsOver linked.now s.old.arena }
@@ -40,6 +41,7 @@ fn return_value(linked: &Linked, s: &mut State, v: Value) -> Result<Left, Stop>
 }
 
 /// `returnvoid`, `returnvalue`.
+#[inline(always)]
 pub fn run_return(linked: &Linked, s: &mut State, op: u8) -> Result<Left, Stop>
     ghost out: { Outer }
     requires run { CanRun linked.now out s.old (Plain op) }

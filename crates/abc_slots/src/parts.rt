@@ -5,6 +5,7 @@ use abc_layouts::{Part, body_traits, class_traits, handlers, instance_traits, sc
 use abc_tables::{Abc, TraitInfo};
 
 /// The own table of traits of a part; those of the host and catch objects have none.
+#[inline(always)]
 pub fn traits_of(abc: &Abc, part: Part) -> &[TraitInfo]
     ensures { result.now ≡ traits_in abc.now part }
 {

@@ -8,6 +8,7 @@ use abc_layouts::{Layouts, Named, Part, Ty, is_interface};
 use abc_tables::Abc;
 
 /// The type of a class of the host.
+#[inline(always)]
 fn host_type(abc: &Abc, layouts: &Layouts, host: HostClass) -> Ty
     requires { HasPlaces layouts.now }
     ensures { result ≡ type_of_host (linked abc.now layouts.now) host }
@@ -38,6 +39,7 @@ fn class_type(abc: &Abc, layouts: &Layouts, class: u32) -> Ty
 }
 
 /// The type of what a name stands for.
+#[inline(always)]
 pub fn type_in(abc: &Abc, layouts: &Layouts, named: Named) -> Ty
     requires { HasPlaces layouts.now }
     ensures { result ≡ type_of_named (linked abc.now layouts.now) named }

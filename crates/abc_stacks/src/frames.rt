@@ -274,6 +274,7 @@ impl Frames {
 
     /// Enters a method with the top operands as its first locals, which stay where they are. So many more operands, which
     /// are under them, leave the caller with them.
+    #[inline(always)]
     pub fn enter(&mut self, entry: Entry, args: u32, more: u32, wait: Wait)
         requires live { 0 < length self.old.living }
         requires operands { args + more ≤ length (newest self.old).stack }

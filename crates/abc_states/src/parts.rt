@@ -41,6 +41,7 @@ pub fn convert(linked: &Linked, s: &mut State, to: Conversion, v: Value) -> Resu
 }
 
 /// A value coerced to a type, as it is computed.
+#[inline(always)]
 fn coerce_in(linked: &Linked, a: &mut Arena, ty: Ty, v: Value) -> Result<Value, OpEnd>
     requires over { StandsOver linked.now a.old }
     requires value { Exists linked.now a.old v }

@@ -1,60 +1,61 @@
-use Rattle.std.proofs.Common.{rules, subst, sym}
-use Rattle.std.specs.Prelude.{ℕ, ◌<◌, length}
-use Rattle.abc_heap.specs.Heap.{object_at}
+use Rattle.std.proofs.Common.{◌∙◌, ap, refl, subst, sym}
+use Rattle.std.specs.Prelude.{length}
+use Rattle.abc_cells.specs.declared.values.Value.TheVariants.{Obj, Undefined}
+use Rattle.abc_heap.specs.Heap.{elements_of}
+use Rattle.abc_heap.specs.Texts.{IsText}
+use Rattle.abc_search.specs.declared.name.Name.{Name}
 use Rattle.abc_stacks.specs.Frame.{newest}
-use Rattle.abc_cells.specs.declared.values.Value.TheVariants.{Obj}
-use Rattle.abc_states.specs.Outer.{setting, world}
-use Rattle.abc_states.specs.Settling.{settles}
-use Rattle.abc_states.specs.WorldMembers.{write_found, writes_to}
-use Rattle.abc_memberarms.proofs.Cases.{writes_as}
-use Rattle.abc_memberarms.proofs.Searched.{object_inside}
-use Rattle.abc_memberarms.proofs.Settled.{came_open, came_same}
+use Rattle.abc_states.specs.Outer.{at_heap, setting, world}
+use Rattle.abc_states.specs.Stops.{IsOpen}
+use Rattle.abc_states.specs.Turns.{turned}
+use Rattle.abc_states.specs.WorldMembers.{write_element, writes_to}
+use Rattle.abc_memberarms.specs.Members.{writes_on}
+use Rattle.abc_memberarms.proofs.Settled.{value_runs}
+use Rattle.abc_memberarms.proofs.Written.{element_kept}
 use Rattle.abc_memberarms.proofs.naming.write_on_object.Goals as goal
 
-pub find_declared-found-requires-clause-object : goal.find_declared-found-requires-clause-object
-find_declared-found-requires-clause-object g c =
-    let h = c.args.s.now.arena in
-    subst (λ (x : ℕ). x < length c.args.linked.now.parts) (sym c.layout-layout.ensures) (c.requires.0.over.objects c.args.o.0 (object_at h.objects c.args.o.0) (object_inside h.objects c.args.o.0 c.requires.1.1.1.1.0)).layout
+pub returns-in-Some-clause-runs : goal.returns-in-Some-clause-runs
+returns-in-Some-clause-runs g c =
+    let p = setting c.args.linked.now g.out in
+    let q = c.args.s.now.frames in
+    let w = world c.args.s.now g.out in
+    let n = length (elements_of c.args.s.now.arena.objects c.args.o.0) in
+    value_runs p c.args.how q q c.settle.new.frames (writes_to p (Obj c.args.o) c.args.name.now c.args.x c.args.initial) (write_element c.args.o n c.in-Some.k c.args.x) (λ u. Undefined) w (at_heap c.set_element.new.self w) tt (c.in-Some.ensures.1 g.out c.args.x c.args.initial) (element_kept c.args.o n c.in-Some.k c.args.x w c.set_element.new.self c.in-Some.ensures.0 c.set_element.ensures.heap) refl c.settle.ensures
 
-pub find_declared-found-requires-clause-from : goal.find_declared-found-requires-clause-from
-find_declared-found-requires-clause-from g c =
-    let h = c.args.s.now.arena in
-    subst (λ (x : ℕ). x < length c.args.linked.now.parts) (sym c.layout-layout.ensures) (c.requires.0.over.objects c.args.o.0 (object_at h.objects c.args.o.0) (object_inside h.objects c.args.o.0 c.requires.1.1.1.1.0)).layout
+pub set_element-requires : goal.set_element-requires
+set_element-requires g c = c.in-Some.ensures.0
 
-pub write_found-requires : goal.write_found-requires
-write_found-requires g c = (
-  search rules,
-  (
-    search rules,
-    (
-      search rules,
+pub write_searching-requires : goal.write_searching-requires
+write_searching-requires g c =
+    let same = sym c.again.ensures in (
+      c.requires.0,
       (
-        search rules,
+        c.requires.1.0,
         (
-          search rules,
+          c.requires.1.1.0,
           (
-            search rules,
+            c.requires.1.1.1.0,
             (
-              search rules,
+              c.requires.1.1.1.1.0,
               (
-                search rules,
-                (let p = setting c.args.linked.now g.out in
-                    let w = world c.args.s.now g.out in
-                    came_open (settles c.args.how (newest c.args.s.now.frames)) (writes_to p (Obj c.args.o) c.args.name.now c.args.x c.args.initial) (write_found p c.args.o c.args.name.now c.args.x c.args.initial c.find_declared-found.result) w
-                    (writes_as p c.args.o c.args.name.now c.args.x c.args.initial c.layout-layout.result.0 c.find_declared-found.result w c.requires.1.1.1.1.0 c.layout-layout.ensures c.find_declared-found.ensures) c.requires.1.1.1.1.1.1.1.1),
+                (subst (λ (n : Name). IsText c.args.linked.now.file.strings c.args.s.now.arena n.text) same c.requires.1.1.1.1.1.0),
+                (
+                  c.requires.1.1.1.1.1.1.0,
+                  (
+                    c.requires.1.1.1.1.1.1.1.0,
+                    (subst (λ (n : Name). IsOpen (writes_on (setting c.args.linked.now g.out) (Obj c.args.o) n c.args.x c.args.initial c.args.how (newest c.args.s.now.frames) (world c.args.s.now g.out))) same c.requires.1.1.1.1.1.1.1.1),
+                  ),
+                ),
               ),
             ),
           ),
         ),
       ),
-    ),
-  ),
-)
+    )
 
-pub returns-clause-runs : goal.returns-clause-runs
-returns-clause-runs g c =
+pub returns-in-None-clause-runs : goal.returns-in-None-clause-runs
+returns-in-None-clause-runs g c =
     let p = setting c.args.linked.now g.out in
     let q = c.args.s.now.frames in
     let w = world c.args.s.now g.out in
-    came_same p q (settles c.args.how (newest q)) (writes_to p (Obj c.args.o) c.args.name.now c.args.x c.args.initial) (write_found p c.args.o c.args.name.now c.args.x c.args.initial c.find_declared-found.result) w _
-    (writes_as p c.args.o c.args.name.now c.args.x c.args.initial c.layout-layout.result.0 c.find_declared-found.result w c.requires.1.1.1.1.0 c.layout-layout.ensures c.find_declared-found.ensures) c.write_found.ensures.runs
+    ap (λ (n : Name). turned p q (writes_on p (Obj c.args.o) n c.args.x c.args.initial c.args.how (newest q) w)) (sym c.again.ensures) ∙ c.write_searching.ensures.runs

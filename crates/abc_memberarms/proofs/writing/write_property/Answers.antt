@@ -1,8 +1,8 @@
 use Rattle.std.proofs.Common.{◌∙◌, ap, sym}
 use Rattle.std.specs.Prelude.{Some, None}
 use Rattle.abc_heap.specs.Heap.{object_at}
-use Rattle.abc_lookup.specs.Named.{element_in}
-use Rattle.abc_lookup.specs.declared.elements.ElementName as code
+use Rattle.abc_lookup.specs.NamepartsNamed.{element_in}
+use Rattle.abc_lookup.specs.NamepartsElementNameType as code
 use Rattle.abc_states.specs.Outer.{setting, world}
 use Rattle.abc_states.specs.WorldMembers.{write_own}
 use Rattle.abc_memberarms.proofs.Written.{array_named, property_written}

@@ -1,8 +1,8 @@
 use Rattle.std.proofs.Common.{◌≡◌, ℕ, ◌+◌, ap, arith}
-use Rattle.abc_memberarms.proofs.Parts.{few_parts}
-use Rattle.abc_memberarms.specs.Members.{parts_at}
+use Rattle.abc_propertyarms.proofs.MemberarmsParts.{few_parts}
+use Rattle.abc_propertyarms.specs.MemberarmsMembers.{parts_at}
 use Rattle.abc_membersteps.proofs.MemberOps.{op_46, op_4C, op_4F}
-use Rattle.abc_memberarms.specs.Named.{form_at}
+use Rattle.abc_propertyarms.specs.Named.{form_at}
 use Rattle.abc_taking.proofs.PlainstepsDoing.{can_at, open_as, runs_at}
 use Rattle.abc_states.specs.Outer.{setting}
 use Rattle.abc_tables.specs.declared.code.Instr.TheVariants.{Two}

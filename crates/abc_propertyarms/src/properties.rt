@@ -1,0 +1,130 @@
+ghost use Rattle.std.specs.Prelude.{◌≡◌, ◌+◌, ◌<◌, ◌^◌};
+ghost use Rattle.abc_moves.specs.Ready.{IsReady};
+ghost use Rattle.abc_stacks.specs.Frame.{newest};
+ghost use Rattle.abc_memberarms.specs.EnteringArguments.{IsKnown};
+ghost use Rattle.abc_memberarms.specs.CallarmsCalls.{CanFinish, calls_value, makes_value};
+ghost use Rattle.abc_states.specs.Operands.{operand_at};
+ghost use Rattle.abc_states.specs.Outer.{Outer, setting, world};
+ghost use Rattle.abc_states.specs.Settling.{given_by, taken_by};
+ghost use Rattle.abc_states.specs.declared.state.How.TheVariants.{Push};
+ghost use Rattle.abc_states.specs.Standing.{IsSet};
+ghost use Rattle.abc_states.specs.Stops.{IsOpen};
+ghost use Rattle.abc_states.specs.Turns.{Leaves, Runs};
+ghost use Rattle.abc_memberarms.specs.Members.{calls_named, constructs_named, gets_named, parts_at, sets_named};
+
+use crate::at_once::{call_whole, get_late, get_whole, set_late, set_whole};
+use crate::searching::call_searching;
+use abc_link::Linked;
+use abc_memberarms::{call, construct_on, make, name_of, parts_of, whole_name};
+use abc_states::{How, Left, State, Stop, operand};
+
+/// `getproperty`: the object is under the runtime parts of the name.
+#[inline(always)]
+pub fn get_property(linked: &Linked, s: &mut State, name: u32) -> Result<(), Stop>
+    ghost out: { Outer }
+    requires set { IsSet linked.now s.old }
+    requires known { IsKnown linked.now s.old.given.limit }
+    requires ready { IsReady (parts_at (setting linked.now out) name + 1) 1 s.old.frames }
+    requires free { IsOpen (gets_named (setting linked.now out) name (newest s.old.frames) (world s.old out)) }
+    ensures runs { Runs linked.now out (gets_named (setting linked.now out) name (newest s.old.frames)) s.old result s.new }
+    ensures limit { s.new.given.limit ≡ s.old.given.limit }
+{
+    match whole_name(linked, name) {
+        Some(wanted) => get_whole(linked, s, name, &wanted),
+        None => get_late(linked, s, name),
+    }
+}
+
+/// `setproperty` and `initproperty`, which writes constant slots too: the value is on top.
+#[inline(always)]
+pub fn set_property(linked: &Linked, s: &mut State, name: u32, initial: bool) -> Result<(), Stop>
+    ghost out: { Outer }
+    requires set { IsSet linked.now s.old }
+    requires known { IsKnown linked.now s.old.given.limit }
+    requires ready { IsReady (parts_at (setting linked.now out) name + 2) 0 s.old.frames }
+    requires free { IsOpen (sets_named (setting linked.now out) name initial (newest s.old.frames) (world s.old out)) }
+    ensures runs { Runs linked.now out (sets_named (setting linked.now out) name initial (newest s.old.frames)) s.old result s.new }
+    ensures limit { s.new.given.limit ≡ s.old.given.limit }
+{
+    match whole_name(linked, name) {
+        Some(wanted) => set_whole(linked, s, name, &wanted, initial),
+        None => set_late(linked, s, name, initial),
+    }
+}
+
+/// `call`: the function is under its receiver, and that under the arguments.
+pub fn call_value(linked: &Linked, s: &mut State, count: u32) -> Result<Left, Stop>
+    ghost out: { Outer }
+    requires set { IsSet linked.now s.old }
+    requires known { IsKnown linked.now s.old.given.limit }
+    requires ready { IsReady (count + 2) 1 s.old.frames }
+    requires count { count < 2 ^ 30 }
+    requires free { IsOpen (calls_value (setting linked.now out) (operand_at (count + 1) (newest s.old.frames)) (operand_at count (newest s.old.frames)) count (Push (count + 2)) (newest s.old.frames) (world s.old out)) }
+    ensures leaves { Leaves linked.now out (calls_value (setting linked.now out) (operand_at (count + 1) (newest s.old.frames)) (operand_at count (newest s.old.frames)) count (Push (count + 2)) (newest s.old.frames)) s.old result s.new }
+    ensures finishes { CanFinish linked.now result s.new }
+    ensures limit { s.new.given.limit ≡ s.old.given.limit }
+{
+    let receiver = operand(&s.frames, count);
+    let callee = operand(&s.frames, count + 1);
+    call(linked, s, callee, receiver, count, How::Push(count + 2))
+}
+
+/// `callproperty`, `callpropvoid`, and `callproplex`, which has no receiver: the object is under the runtime parts of the name, and
+/// these under the arguments.
+#[inline(always)]
+pub fn call_property(
+    linked: &Linked,
+    s: &mut State,
+    name: u32,
+    count: u32,
+    lexical: bool,
+    how: How,
+) -> Result<Left, Stop>
+    ghost out: { Outer }
+    requires set { IsSet linked.now s.old }
+    requires known { IsKnown linked.now s.old.given.limit }
+    requires ready { IsReady (count + parts_at (setting linked.now out) name + 1) (given_by how) s.old.frames }
+    requires count { count < 2 ^ 30 }
+    requires how { taken_by how ≡ count + parts_at (setting linked.now out) name + 1 }
+    requires free { IsOpen (calls_named (setting linked.now out) name count lexical how (newest s.old.frames) (world s.old out)) }
+    ensures leaves { Leaves linked.now out (calls_named (setting linked.now out) name count lexical how (newest s.old.frames)) s.old result s.new }
+    ensures finishes { CanFinish linked.now result s.new }
+    ensures limit { s.new.given.limit ≡ s.old.given.limit }
+{
+    match whole_name(linked, name) {
+        Some(wanted) => call_whole(linked, s, name, &wanted, count, lexical, how),
+        None => call_searching(linked, s, name, count, lexical, how),
+    }
+}
+
+/// `construct`: what is made of is under the arguments.
+pub fn construct(linked: &Linked, s: &mut State, count: u32) -> Result<(), Stop>
+    ghost out: { Outer }
+    requires set { IsSet linked.now s.old }
+    requires known { IsKnown linked.now s.old.given.limit }
+    requires ready { IsReady (count + 1) 1 s.old.frames }
+    requires count { count < 2 ^ 30 }
+    requires free { IsOpen (makes_value (setting linked.now out) (operand_at count (newest s.old.frames)) count (Push (count + 1)) (newest s.old.frames) (world s.old out)) }
+    ensures runs { Runs linked.now out (makes_value (setting linked.now out) (operand_at count (newest s.old.frames)) count (Push (count + 1)) (newest s.old.frames)) s.old result s.new }
+    ensures limit { s.new.given.limit ≡ s.old.given.limit }
+{
+    let of = operand(&s.frames, count);
+    make(linked, s, of, count, How::Push(count + 1))
+}
+
+/// `constructprop`: where a getter is read, `new` is done on what it returns, with the arguments that stay on the stack.
+pub fn construct_property(linked: &Linked, s: &mut State, name: u32, count: u32) -> Result<(), Stop>
+    ghost out: { Outer }
+    requires set { IsSet linked.now s.old }
+    requires known { IsKnown linked.now s.old.given.limit }
+    requires ready { IsReady (count + parts_at (setting linked.now out) name + 1) 1 s.old.frames }
+    requires count { count < 2 ^ 30 }
+    requires free { IsOpen (constructs_named (setting linked.now out) name count (newest s.old.frames) (world s.old out)) }
+    ensures runs { Runs linked.now out (constructs_named (setting linked.now out) name count (newest s.old.frames)) s.old result s.new }
+    ensures limit { s.new.given.limit ≡ s.old.given.limit }
+{
+    let parts = parts_of(linked, name);
+    let v = operand(&s.frames, count + parts);
+    let wanted = name_of(linked, s, name, count)?;
+    construct_on(linked, s, v, &wanted, parts + 1, count)
+}

@@ -1,0 +1,91 @@
+ghost use Rattle.std.specs.Prelude.{◌≡◌, ◌+◌, ◌<◌, ◌^◌};
+ghost use Rattle.abc_moves.specs.Ready.{IsReady};
+ghost use Rattle.abc_stacks.specs.Frame.{newest};
+ghost use Rattle.abc_memberarms.specs.EnteringArguments.{IsKnown};
+ghost use Rattle.abc_memberarms.specs.CallarmsCalls.{CanFinish};
+ghost use Rattle.abc_states.specs.Outer.{Outer, setting, world};
+ghost use Rattle.abc_states.specs.Settling.{given_by, taken_by};
+ghost use Rattle.abc_states.specs.Standing.{IsSet};
+ghost use Rattle.abc_states.specs.Stops.{IsOpen};
+ghost use Rattle.abc_states.specs.Turns.{Leaves, Runs};
+ghost use Rattle.abc_memberarms.specs.Members.{calls_named, gets_named, parts_at, receiver_of, sets_named};
+
+use abc_cells::Value;
+use abc_link::Linked;
+use abc_memberarms::{call_on, name_of, parts_of, read_on, write_on};
+use abc_states::{How, Left, State, Stop, operand};
+
+/// The same as `get_property`, by a search.
+#[inline(never)]
+pub(crate) fn get_searching(linked: &Linked, s: &mut State, name: u32) -> Result<(), Stop>
+    ghost out: { Outer }
+    requires set { IsSet linked.now s.old }
+    requires known { IsKnown linked.now s.old.given.limit }
+    requires ready { IsReady (parts_at (setting linked.now out) name + 1) 1 s.old.frames }
+    requires free { IsOpen (gets_named (setting linked.now out) name (newest s.old.frames) (world s.old out)) }
+    ensures runs { Runs linked.now out (gets_named (setting linked.now out) name (newest s.old.frames)) s.old result s.new }
+    ensures limit { s.new.given.limit ≡ s.old.given.limit }
+{
+    let parts = parts_of(linked, name);
+    let v = operand(&s.frames, parts);
+    let wanted = name_of(linked, s, name, 0)?;
+    read_on(linked, s, v, &wanted, How::Push(parts + 1))
+}
+
+/// The same as `set_property`, by a search.
+#[inline(never)]
+pub(crate) fn set_searching(
+    linked: &Linked,
+    s: &mut State,
+    name: u32,
+    initial: bool,
+) -> Result<(), Stop>
+    ghost out: { Outer }
+    requires set { IsSet linked.now s.old }
+    requires known { IsKnown linked.now s.old.given.limit }
+    requires ready { IsReady (parts_at (setting linked.now out) name + 2) 0 s.old.frames }
+    requires free { IsOpen (sets_named (setting linked.now out) name initial (newest s.old.frames) (world s.old out)) }
+    ensures runs { Runs linked.now out (sets_named (setting linked.now out) name initial (newest s.old.frames)) s.old result s.new }
+    ensures limit { s.new.given.limit ≡ s.old.given.limit }
+{
+    let parts = parts_of(linked, name);
+    let x = operand(&s.frames, 0);
+    let v = operand(&s.frames, 1 + parts);
+    let wanted = name_of(linked, s, name, 1)?;
+    write_on(linked, s, v, &wanted, x, initial, How::Drop(parts + 2))
+}
+
+/// The receiver of a call by a name: `callproplex` has none.
+fn receiver_for(v: Value, lexical: bool) -> Value
+    ensures { result ≡ receiver_of lexical v }
+{
+    if lexical { Value::Null } else { v }
+}
+
+/// The same as `call_property`, by a search.
+#[inline(never)]
+pub(crate) fn call_searching(
+    linked: &Linked,
+    s: &mut State,
+    name: u32,
+    count: u32,
+    lexical: bool,
+    how: How,
+) -> Result<Left, Stop>
+    ghost out: { Outer }
+    requires set { IsSet linked.now s.old }
+    requires known { IsKnown linked.now s.old.given.limit }
+    requires ready { IsReady (count + parts_at (setting linked.now out) name + 1) (given_by how) s.old.frames }
+    requires count { count < 2 ^ 30 }
+    requires how { taken_by how ≡ count + parts_at (setting linked.now out) name + 1 }
+    requires free { IsOpen (calls_named (setting linked.now out) name count lexical how (newest s.old.frames) (world s.old out)) }
+    ensures leaves { Leaves linked.now out (calls_named (setting linked.now out) name count lexical how (newest s.old.frames)) s.old result s.new }
+    ensures finishes { CanFinish linked.now result s.new }
+    ensures limit { s.new.given.limit ≡ s.old.given.limit }
+{
+    let parts = parts_of(linked, name);
+    let v = operand(&s.frames, count + parts);
+    let receiver = receiver_for(v, lexical);
+    let wanted = name_of(linked, s, name, count)?;
+    call_on(linked, s, v, receiver, &wanted, count, how)
+}
