@@ -28,12 +28,12 @@ pub(crate) struct Visit<'a> {
 pub(crate) struct Asked {
     /// The parts that the name takes at run time; none where no need is for them.
     pub parts: Parts,
+    /// Whether each value that is taken may be any. (Behind the parts: at the end it would leave seven bytes of padding, which are copied in two moves that overlap.)
+    pub is_plain: bool,
     /// How many arguments stand on top of what the row takes.
     pub args: usize,
     /// How many values are taken.
     pub depth: usize,
-    /// Whether each value that is taken may be any.
-    pub is_plain: bool,
 }
 
 /// How many parts a name takes.
