@@ -105,7 +105,7 @@ pub(crate) fn walk_arm(
 }
 
 /// An opcode that pushes a value.
-#[inline(always)]
+#[inline]
 pub(crate) fn push_arm(
     linked: &Linked,
     s: &mut State,
@@ -265,7 +265,7 @@ pub(crate) fn comparison_arm(
 }
 
 /// An opcode that reads or writes one of the first locals.
-#[inline(always)]
+#[inline]
 pub(crate) fn local_arm(
     linked: &Linked,
     s: &mut State,

@@ -20,10 +20,11 @@ use abc_plainsteps::{
 use abc_states::{Left, State, Stop};
 
 // (These stand in the dispatch itself, where the opcode is known. Most operands of operations are numbers: what else is made of others stands
-// in the function of the group.)
+// in the function of the group. `inline(always)` here would make the functions that call them so many times so large that the toolchain takes
+// that hint away from those.)
 
 /// An opcode that goes on, moves operands or drops a scope.
-#[inline(always)]
+#[inline]
 pub(crate) fn control_here(
     linked: &Linked,
     s: &mut State,
@@ -43,7 +44,7 @@ pub(crate) fn control_here(
 }
 
 /// A constant, or a local.
-#[inline(always)]
+#[inline]
 pub(crate) fn constant_here(
     linked: &Linked,
     s: &mut State,
@@ -64,7 +65,7 @@ pub(crate) fn constant_here(
 }
 
 /// A conversion.
-#[inline(always)]
+#[inline]
 pub(crate) fn convert_here(
     linked: &Linked,
     s: &mut State,
@@ -84,7 +85,7 @@ pub(crate) fn convert_here(
 }
 
 /// A conversion to a number.
-#[inline(always)]
+#[inline]
 pub(crate) fn convert_quick(
     linked: &Linked,
     s: &mut State,
@@ -108,7 +109,7 @@ pub(crate) fn convert_quick(
 }
 
 /// An opcode that computes of two values.
-#[inline(always)]
+#[inline]
 pub(crate) fn double_here(
     linked: &Linked,
     s: &mut State,
@@ -128,7 +129,7 @@ pub(crate) fn double_here(
 }
 
 /// An opcode that computes of two values.
-#[inline(always)]
+#[inline]
 pub(crate) fn double_quick(
     linked: &Linked,
     s: &mut State,
@@ -152,7 +153,7 @@ pub(crate) fn double_quick(
 }
 
 /// A branch up to 0x12.
-#[inline(always)]
+#[inline]
 pub(crate) fn first_branch_here(
     linked: &Linked,
     s: &mut State,
@@ -173,7 +174,7 @@ pub(crate) fn first_branch_here(
 }
 
 /// A branch by an order, up to 0x12.
-#[inline(always)]
+#[inline]
 pub(crate) fn first_branch_quick(
     linked: &Linked,
     s: &mut State,
@@ -198,7 +199,7 @@ pub(crate) fn first_branch_quick(
 }
 
 /// A branch from 0x13 on.
-#[inline(always)]
+#[inline]
 pub(crate) fn last_branch_here(
     linked: &Linked,
     s: &mut State,
@@ -219,7 +220,7 @@ pub(crate) fn last_branch_here(
 }
 
 /// A branch by an order, from 0x13 on.
-#[inline(always)]
+#[inline]
 pub(crate) fn last_branch_quick(
     linked: &Linked,
     s: &mut State,
