@@ -1,30 +1,30 @@
 -- What a reading knows of the instructions that were read, how it grows, and how its instructions get their targets.
-use Rattle.std.proofs.Common.{◌≡◌, ℕ, suc, ◌+◌, ◌^◌, ◌<◌, ◌≤◌, List, [], ◌∷◌, ◌++◌, length, drop, get_or, set, ◌⊎◌, Ok, Err, Some, None, refl, sym, ap, subst, ◌∙◌, length-append, append_assoc, zero-add, inl, inr, arith}
+use Rattle.std.proofs.Common.{◌≡◌, ℕ, suc, ◌+◌, ◌^◌, ◌<◌, ◌≤◌, List, [], ◌∷◌, ◌++◌, length, drop, get_or, set, false, Ok, Err, Some, None, refl, sym, ap, subst, ◌∙◌, length-append, append_assoc, zero-add, arith}
 use Rattle.std.specs.Prelude.{All, map}
+use Rattle.std.specs.declared.option.Option.{Option}
 use Rattle.std.specs.declared.result.Result.{Result}
 use Rattle.std.proofs.Math.Seq.{set-append_seam}
-use Rattle.std.proofs.lemmas.List.{append-nil, map-append}
+use Rattle.std.proofs.lemmas.List.{append-nil, get_or-append-add, get_or_default, length-map, map-append, set-set}
 use Rattle.std.proofs.lemmas.List.Elements.{All-append, All-nil, All-push}
 use Rattle.abc_format.specs.Part.{At, Refusal, refusal, ◌>>=◌}
 use Rattle.abc_tables.specs.declared.code.Instr.{Instr}
 use Rattle.abc_tables.specs.declared.code.Instr.TheVariants as variants
 use Rattle.abc_tables.specs.declared.instructions.Code.{Code}
 use Rattle.abc_tables.specs.Code.{code, code_body}
-use Rattle.abc_tables.specs.Instructions.{code_length, pieces}
+use Rattle.abc_tables.specs.Instructions.{Branch, Same, Switch, code_length, pieces}
 use Rattle.abc_tables.specs.Ready.{IsReady}
 use Rattle.abc_tables.specs.Starts.{IsRising, starts, size}
 use Rattle.abc_tables.specs.Targets.{instr_of, instrs_of, resolve}
 use Rattle.abc_tables.proofs.Resolving.{drop_read, few_starts, length-starts, missed_within, starts_rising}
 use Rattle.abc_instr.specs.declared.raw.RawInstr.{RawInstr as Raw}
 use Rattle.abc_instr.specs.declared.raw.RawInstr.TheVariants as raws
-use Rattle.abc_instr.specs.declared.reading.Aim.{Aim}
 use Rattle.abc_instr.specs.declared.reading.Reading.{Reading}
 use Rattle.abc_instr.specs.declared.resolve.Missed.{Missed}
 use Rattle.abc_instr.specs.declared.resolve.Missed.TheVariants as missed
-use Rattle.abc_instr.specs.Offsets.{raw_of}
-use Rattle.abc_instr.specs.Reading.{IsAim, IsRead, IsReading, Takes, aimed, aims_from, aims_in, blank, blanks, code_from, done_in, starts_before, with_starts}
+use Rattle.abc_instr.specs.Offsets.{IsRaw, has_targets, raw_of}
+use Rattle.abc_instr.specs.Reading.{ArePlaces, IsRead, IsReading, Takes, aimed, aims_from, aims_in, code_from, done_in, raws_of, spelled, starts_before, with_starts}
 use Rattle.abc_instr.specs.Resolving.{Resolves, onto}
-use Rattle.abc_instr.specs.Scanning.{AreRead, instrs_in, jump_in, raws_in}
+use Rattle.abc_instr.specs.Scanning.{AreRead, jump_in, raws_in}
 use Rattle.abc_instr.proofs.Passing.{raws_size, raws_some, raws_starts}
 use Rattle.abc_instr.proofs.Resolved.{resolved_ready}
 
@@ -39,22 +39,14 @@ starts_push : (at : ℕ) (xs : List (Raw × ℕ)) (x : Raw × ℕ) → starts_be
 starts_push at [] x = let e : at + 0 ≡ at = omega arith in rw e refl
 starts_push at (y ∷ xs) x = let e : at + (y.1 + size xs) ≡ at + y.1 + size xs = omega arith in rw e (ap (λ (l : List ℕ). at ∷ l) (starts_push (at + y.1) xs x))
 
-pub starts_count : (at : ℕ) (xs : List (Raw × ℕ)) → length (starts_before at xs) ≡ length xs
-starts_count at [] = refl
-starts_count at (x ∷ xs) = ap suc (starts_count (at + x.1) xs)
-
-before_end : (at : ℕ) (xs : List (Raw × ℕ)) → All (λ x. 0 < x.1) xs → All (λ s. s < at + size xs) (starts_before at xs)
-before_end at [] some = All-nil (λ (s : ℕ). s < at + 0)
-before_end at (x ∷ xs) some =
-    let P : ℕ → Type 0 = λ s. s < at + (x.1 + size xs) in
-    let first : 0 < x.1 = some 0 x (omega arith) in
+-- none is behind the end
+small_from : (at : ℕ) (xs : List (Raw × ℕ)) → All (λ s. s ≤ at + size xs) (starts at xs)
+small_from at [] = let P : ℕ → Type 0 = λ s. s ≤ at + 0 in All-push P [] at (All-nil P) (omega arith)
+small_from at (x ∷ xs) =
+    let P : ℕ → Type 0 = λ s. s ≤ at + (x.1 + size xs) in
     let e : at + x.1 + size xs ≡ at + (x.1 + size xs) = omega arith in
-    let rest = subst (λ (n : ℕ). All (λ s. s < n) (starts_before (at + x.1) xs)) e (before_end (at + x.1) xs (λ k d lt. some (suc k) d (omega arith))) in
-    All-append P (at ∷ []) (starts_before (at + x.1) xs) (All-push P [] at (All-nil P) (omega arith)) rest
-
--- as they stand in a reading
-pub read_before : (xs : List (Raw × ℕ)) (ss : List ℕ) (here : ℕ) → All (λ x. 0 < x.1) xs → ss ≡ starts_before 0 xs → here ≡ size xs → All (λ s. s < here) ss
-read_before xs ss here some e h = rw (e, h) (subst (λ (n : ℕ). All (λ s. s < n) (starts_before 0 xs)) (zero-add (size xs)) (before_end 0 xs some))
+    let rest = subst (λ (n : ℕ). All (λ s. s ≤ n) (starts (at + x.1) xs)) e (small_from (at + x.1) xs) in
+    All-append P (at ∷ []) (starts (at + x.1) xs) (All-push P [] at (All-nil P) (omega arith)) rest
 
 pub as_few : (xs : List (Raw × ℕ)) → All (λ x. 0 < x.1) xs → length xs ≤ size xs
 as_few [] some = omega arith
@@ -62,31 +54,30 @@ as_few (x ∷ xs) some = omega (arith, some 0 x (omega arith), as_few xs (λ k d
 
 -- ---- one more
 
-aims_push : (i h : ℕ) (xs : List (Raw × ℕ)) (x : Raw × ℕ) → aims_from i h (xs ++ x ∷ []) ≡ aims_from i h xs ++ aims_in (jump_in x.0) (i + length xs) (h + size xs) (h + size xs + x.1)
-aims_push i h [] x = let a : i + 0 ≡ i = omega arith in let b : h + 0 ≡ h = omega arith in rw (a, b) (append-nil (aims_in (jump_in x.0) i h (h + x.1)))
-aims_push i h (y ∷ xs) x =
-    let one = aims_in (jump_in y.0) i h (h + y.1) in
+-- there are as many as were read
+pub read_count : (xs : List (Raw × ℕ)) (is : List Instr) → map spelled is ≡ raws_of xs → length is ≡ length xs
+read_count xs is e = sym (length-map is spelled) ∙ ap length e ∙ length-map xs (λ (x : Raw × ℕ). raw_of x.0)
+
+aims_push : (i : ℕ) (xs : List (Raw × ℕ)) (x : Raw × ℕ) → aims_from i (xs ++ x ∷ []) ≡ aims_from i xs ++ aims_in (jump_in x.0) (i + length xs)
+aims_push i [] x = let a : i + 0 ≡ i = omega arith in rw a (append-nil (aims_in (jump_in x.0) i))
+aims_push i (y ∷ xs) x =
+    let one = aims_in (jump_in y.0) i in
     let a : i + 1 + length xs ≡ i + suc (length xs) = omega arith in
-    let b : h + y.1 + size xs ≡ h + (y.1 + size xs) = omega arith in
-    let g = rw (a, b) at (aims_push (i + 1) (h + y.1) xs x) in
-    ap (λ (l : List Aim). one ++ l) g ∙ sym (append_assoc one (aims_from (i + 1) (h + y.1) xs) _)
+    let g = rw a at (aims_push (i + 1) xs x) in
+    ap (λ (l : List ℕ). one ++ l) g ∙ sym (append_assoc one (aims_from (i + 1) xs) _)
 
-pub blanks_push : (xs : List (Raw × ℕ)) (x : Raw × ℕ) → blanks (xs ++ x ∷ []) ≡ blanks xs ++ blank x.0 ∷ []
-blanks_push xs x = ap (map blank) (map-append (λ (y : Raw × ℕ). y.0) xs (x ∷ [])) ∙ map-append blank (instrs_in xs) (x.0 ∷ [])
-
-pub blanks_count : (xs : List (Raw × ℕ)) → length (blanks xs) ≡ length xs
-blanks_count [] = refl
-blanks_count (x ∷ xs) = ap suc (blanks_count xs)
+raws_push : (xs : List (Raw × ℕ)) (x : Raw × ℕ) → raws_of (xs ++ x ∷ []) ≡ raws_of xs ++ raw_of x.0 ∷ []
+raws_push xs x = map-append (λ (y : Raw × ℕ). raw_of y.0) xs (x ∷ [])
 
 -- An instruction x of n bytes came to some others, whose end was put among the starts before.
-pub reading_push : (xs : List (Raw × ℕ)) (x : Raw) (n here next : ℕ) (old mid new : Reading) → here ≡ size xs → next ≡ here + n → IsReading xs old
-    → mid.starts ≡ old.starts ++ here ∷ [] → mid.instrs ≡ old.instrs → mid.aims.items ≡ old.aims.items → Takes x here next mid new → IsReading (xs ++ (x, n) ∷ []) new
-reading_push xs x n here next old mid new h m is starts instrs aims takes =
-    let count : length old.instrs ≡ length xs = ap length is.instrs ∙ blanks_count xs in
+pub reading_push : (xs : List (Raw × ℕ)) (x : Raw) (n here : ℕ) (old mid new : Reading) → here ≡ size xs → IsReading xs old
+    → mid.starts ≡ old.starts ++ here ∷ [] → mid.instrs ≡ old.instrs → mid.aims.items ≡ old.aims.items → Takes x mid new → IsReading (xs ++ (x, n) ∷ []) new
+reading_push xs x n here old mid new h is starts instrs aims takes =
+    let count = read_count xs old.instrs is.instrs in
     record {
       starts = takes.starts ∙ starts ∙ rw (is.starts, h) (simp zero-add at (sym (starts_push 0 xs (x, n))));
-      instrs = takes.instrs ∙ ap (λ (l : List Instr). l ++ blank x ∷ []) (instrs ∙ is.instrs) ∙ sym (blanks_push xs (x, n));
-      aims = takes.aims ∙ rw (instrs, count, aims, is.aims, m, h) (simp zero-add at (sym (aims_push 0 0 xs (x, n))));
+      instrs = ap (map spelled) (takes.instrs ∙ ap (λ (l : List Instr). l ++ takes.instr ∷ []) instrs) ∙ map-append spelled old.instrs (takes.instr ∷ []) ∙ rw (is.instrs, takes.is) (sym (raws_push xs (x, n)));
+      aims = takes.aims ∙ rw (instrs, count, aims, is.aims) (simp zero-add at (sym (aims_push 0 xs (x, n))));
     }
 
 -- Once the end is put among the starts, nothing is left to read.
@@ -94,32 +85,32 @@ pub reading_whole : (xs : List (Raw × ℕ)) (here : ℕ) (old new : Reading) �
     → new.starts ≡ old.starts ++ here ∷ [] → new.instrs ≡ old.instrs → new.aims.items ≡ old.aims.items → IsRead xs new
 reading_whole xs here old new h is starts instrs aims = record {
   starts = starts ∙ rw (is.starts, h) (simp zero-add at (starts_end 0 xs));
-  instrs = instrs ∙ is.instrs;
+  instrs = ap (map spelled) instrs ∙ is.instrs;
   aims = aims ∙ is.aims;
 }
 
 -- ---- those that wait
 
-waits_or_not : (i : Raw) → (jump_in i ≡ Some i) ⊎ (jump_in i ≡ None)
-waits_or_not (raws.Same i) = inr refl
-waits_or_not (raws.Branch op z) = inl refl
-waits_or_not (raws.Switch z zs) = inl refl
+aim_ok : (n i : ℕ) (o : Option Raw) → i < n → All (λ a. a < n) (aims_in o i)
+aim_ok n i (Some x) lt = let P : ℕ → Type 0 = λ a. a < n in All-push P [] i (All-nil P) lt
+aim_ok n i None lt = All-nil (λ (a : ℕ). a < n)
 
-aim_ok : (n i h : ℕ) (x : Raw × ℕ) → i < n → h + x.1 ≤ 2 ^ 24 → All (IsAim n) (aims_in (jump_in x.0) i h (h + x.1))
-aim_ok n i h x lt near = elim (waits_or_not x.0) [
-  | inl some ↦ rw some (All-push (IsAim n) [] _ (All-nil (IsAim n)) (record { waits = some; within = lt; here = omega arith; next = near }))
-  | inr none ↦ rw none (All-nil (IsAim n))
-]
+aims_ok : (n i : ℕ) (xs : List (Raw × ℕ)) → i + length xs ≤ n → All (λ a. a < n) (aims_from i xs)
+aims_ok n i [] le = All-nil (λ (a : ℕ). a < n)
+aims_ok n i (x ∷ xs) le =
+    let P : ℕ → Type 0 = λ a. a < n in
+    All-append P (aims_in (jump_in x.0) i) (aims_from (i + 1) xs) (aim_ok n i (jump_in x.0) (omega arith)) (aims_ok n (i + 1) xs (omega arith))
 
-aims_ok : (n i h : ℕ) (xs : List (Raw × ℕ)) → i + length xs ≤ n → h + size xs ≤ 2 ^ 24 → All (IsAim n) (aims_from i h xs)
-aims_ok n i h [] le near = All-nil (IsAim n)
-aims_ok n i h (x ∷ xs) le near =
-    All-append (IsAim n) (aims_in (jump_in x.0) i h (h + x.1)) (aims_from (i + 1) (h + x.1) xs) (aim_ok n i h x (omega arith) (omega arith)) (aims_ok n (i + 1) (h + x.1) xs (omega arith) (omega arith))
+pub aims_are : (xs : List (Raw × ℕ)) (r : Reading) → IsRead xs r → All (λ a. a < length r.instrs) r.aims.items
+aims_are xs r is = rw (read_count xs r.instrs is.instrs, is.aims) (aims_ok (length xs) 0 xs (omega arith))
 
-pub aims_are : (n : ℕ) (xs : List (Raw × ℕ)) (r : Reading) → n < 2 ^ 23 → IsRead xs r → AreRead n xs → All (IsAim (length r.instrs)) r.aims.items
-aims_are n xs r small is read =
-    let count : length r.instrs ≡ length xs = ap length is.instrs ∙ blanks_count xs in
-    rw (count, is.aims) (aims_ok (length xs) 0 0 xs (omega arith) (omega (arith, read.size)))
+pub places_are : (n : ℕ) (xs : List (Raw × ℕ)) (r : Reading) → n < 2 ^ 23 → IsRead xs r → AreRead n xs → ArePlaces (length r.instrs) r.starts
+places_are n xs r small is read = record {
+  rising = subst IsRising (sym is.starts) (starts_rising xs read.some);
+  count = omega (arith, ap length is.starts, length-starts 0 xs, read_count xs r.instrs is.instrs);
+  few = omega (arith, ap length is.starts, few_starts xs read.some (omega (arith, read.size)));
+  small = rw is.starts (λ k d lt. omega (arith, small_from 0 xs k d lt, read.size));
+}
 
 -- ---- targets
 
@@ -128,76 +119,124 @@ onto_step {A = A} front x (Ok ys) = ap (λ (zs : List A). Ok zs) (append_assoc f
 onto_step front x (Err d) = refl
 
 -- one that waits gets its targets, and then the others do
-waiting : (ss : List ℕ) (i h next : ℕ) (x : Raw) (front others : List Instr) (aims : List Aim) (one : Result Instr Refusal) (more : Result (List Instr) Refusal) → i ≡ length front
-    → ((y : Instr) → aimed ss aims ((front ++ y ∷ []) ++ others) ≡ onto (front ++ y ∷ []) more)
-    → (one >>= λ y. aimed ss aims (set (front ++ variants.Plain 0 ∷ others) i y)) ≡ onto front (one >>= λ y. more >>= λ ys. Ok (y ∷ ys))
-waiting ss i h next x front others aims (Ok y) more e rest =
-    ap (aimed ss aims) (ap (λ (k : ℕ). set (front ++ variants.Plain 0 ∷ others) k y) e ∙ set-append_seam front (variants.Plain 0) others y ∙ sym (append_assoc front (y ∷ []) others)) ∙ rest y ∙ onto_step front y more
-waiting ss i h next x front others aims (Err d) more e rest = refl
+waiting : (ss : List ℕ) (i : ℕ) (front others : List Instr) (y : Instr) (aims : List ℕ) (one : Result Instr Refusal) (more : Result (List Instr) Refusal) → i ≡ length front
+    → ((z : Instr) → aimed ss aims ((front ++ z ∷ []) ++ others) ≡ onto (front ++ z ∷ []) more)
+    → (one >>= λ z. aimed ss aims (set (front ++ y ∷ others) i z)) ≡ onto front (one >>= λ z. more >>= λ zs. Ok (z ∷ zs))
+waiting ss i front others y aims (Ok z) more e rest =
+    ap (aimed ss aims) (ap (λ (k : ℕ). set (front ++ y ∷ others) k z) e ∙ set-append_seam front y others z ∙ sym (append_assoc front (z ∷ []) others)) ∙ rest z ∙ onto_step front z more
+waiting ss i front others y aims (Err d) more e rest = refl
 
-pub aimed_all : (ss : List ℕ) (i h : ℕ) (xs : List (Raw × ℕ)) (front : List Instr) → i ≡ length front → aimed ss (aims_from i h xs) (front ++ blanks xs) ≡ onto front (instrs_of ss h (raws_in xs))
-aimed_all ss i h [] front e = refl
-aimed_all ss i h ((raws.Same j, n) ∷ xs) front e =
-    let next : i + 1 ≡ length (front ++ j ∷ []) = omega (arith, e, length-append front (j ∷ [])) in
-    ap (aimed ss (aims_from (i + 1) (h + n) xs)) (sym (append_assoc front (j ∷ []) (blanks xs))) ∙ aimed_all ss (i + 1) (h + n) xs (front ++ j ∷ []) next ∙ onto_step front j (instrs_of ss (h + n) (raws_in xs))
-aimed_all ss i h ((raws.Branch op z, n) ∷ xs) front e =
-    waiting ss i h (h + n) (raws.Branch op z) front (blanks xs) (aims_from (i + 1) (h + n) xs) (instr_of ss h (h + n) (raw_of (raws.Branch op z))) (instrs_of ss (h + n) (raws_in xs)) e
-    (λ y. aimed_all ss (i + 1) (h + n) xs (front ++ y ∷ []) (omega (arith, e, length-append front (y ∷ []))))
-aimed_all ss i h ((raws.Switch z zs, n) ∷ xs) front e =
-    waiting ss i h (h + n) (raws.Switch z zs) front (blanks xs) (aims_from (i + 1) (h + n) xs) (instr_of ss h (h + n) (raw_of (raws.Switch z zs))) (instrs_of ss (h + n) (raws_in xs)) e
-    (λ y. aimed_all ss (i + 1) (h + n) xs (front ++ y ∷ []) (omega (arith, e, length-append front (y ∷ []))))
+seam : {A : Type 0} (front : List A) (y : A) (others : List A) (i : ℕ) (d : A) → i ≡ length front → get_or (front ++ y ∷ others) i d ≡ y
+seam front y others i d e = let z : i ≡ length front + 0 = omega (arith, e) in rw z (get_or-append-add front (y ∷ others) 0 d)
+
+first_start : (h : ℕ) (xs : List (Raw × ℕ)) → get_or (starts h xs) 0 0 ≡ h
+first_start h [] = refl
+first_start h (x ∷ xs) = refl
+
+next_start : (before : List ℕ) (i h : ℕ) (xs : List (Raw × ℕ)) (ss : List ℕ) → ss ≡ before ++ starts h xs → i ≡ length before → get_or ss i 0 ≡ h
+next_start before i h xs ss s e = let z : i ≡ length before + 0 = omega (arith, e) in rw (s, z) (get_or-append-add before (starts h xs) 0 0 ∙ first_start h xs)
+
+-- the same where it is one of them, from place h on
+waits : (ss : List ℕ) (i h n : ℕ) (x : Raw) (xs : List (Raw × ℕ)) (front others : List Instr) (y : Instr) → i ≡ length front → get_or ss i 0 ≡ h → get_or ss (i + 1) 0 ≡ h + n → spelled y ≡ raw_of x
+    → ((z : Instr) → aimed ss (aims_from (i + 1) xs) ((front ++ z ∷ []) ++ others) ≡ onto (front ++ z ∷ []) (instrs_of ss (h + n) (raws_in xs)))
+    → aimed ss (i ∷ aims_from (i + 1) xs) (front ++ y ∷ others) ≡ onto front (instr_of ss h (h + n) (raw_of x) >>= λ z. instrs_of ss (h + n) (raws_in xs) >>= λ zs. Ok (z ∷ zs))
+waits ss i h n x xs front others y e here next is rest =
+    rw (here, next, seam front y others i (variants.Plain 0) e, is) (waiting ss i front others y (aims_from (i + 1) xs) (instr_of ss h (h + n) (raw_of x)) (instrs_of ss (h + n) (raws_in xs)) e rest)
+
+-- only what has no targets is spelled as itself
+same_is : (y j : Instr) → spelled y ≡ Same j → y ≡ j
+same_is (variants.Plain op) j e = cc
+same_is (variants.One op n) j e = cc
+same_is (variants.Two op n m) j e = cc
+same_is (variants.Branch op n) j e = absurd cc
+same_is (variants.Switch n ns) j e = absurd cc
+same_is (variants.Byte z) j e = cc
+same_is (variants.Short z) j e = cc
+same_is (variants.ScopeObject x) j e = cc
+same_is (variants.Debug kind name reg extra) j e = cc
+
+aimed_all : (ss before : List ℕ) (i h : ℕ) (xs : List (Raw × ℕ)) (front is : List Instr) → ss ≡ before ++ starts h xs → i ≡ length before → i ≡ length front → map spelled is ≡ raws_of xs
+    → aimed ss (aims_from i xs) (front ++ is) ≡ onto front (instrs_of ss h (raws_in xs))
+aimed_all ss before i h [] front [] s b e k = refl
+aimed_all ss before i h [] front (y ∷ ys) s b e k = absurd cc
+aimed_all ss before i h (x ∷ xs) front [] s b e k = absurd cc
+aimed_all ss before i h ((raws.Same j, n) ∷ xs) front (y ∷ ys) s b e k =
+    let one : spelled y ≡ Same j = cc in
+    let more : map spelled ys ≡ raws_of xs = cc in
+    let s2 = s ∙ sym (append_assoc before (h ∷ []) (starts (h + n) xs)) in
+    let b2 : i + 1 ≡ length (before ++ h ∷ []) = omega (arith, b, length-append before (h ∷ [])) in
+    let e2 : i + 1 ≡ length (front ++ j ∷ []) = omega (arith, e, length-append front (j ∷ [])) in
+    ap (aimed ss (aims_from (i + 1) xs)) (ap (λ (z : Instr). front ++ z ∷ ys) (same_is y j one) ∙ sym (append_assoc front (j ∷ []) ys))
+    ∙ aimed_all ss (before ++ h ∷ []) (i + 1) (h + n) xs (front ++ j ∷ []) ys s2 b2 e2 more ∙ onto_step front j (instrs_of ss (h + n) (raws_in xs))
+aimed_all ss before i h ((raws.Branch op z, n) ∷ xs) front (y ∷ ys) s b e k =
+    let one : spelled y ≡ Branch op z = cc in
+    let more : map spelled ys ≡ raws_of xs = cc in
+    let s2 = s ∙ sym (append_assoc before (h ∷ []) (starts (h + n) xs)) in
+    let b2 : i + 1 ≡ length (before ++ h ∷ []) = omega (arith, b, length-append before (h ∷ [])) in
+    waits ss i h n (raws.Branch op z) xs front ys y e (next_start before i h ((raws.Branch op z, n) ∷ xs) ss s b) (next_start (before ++ h ∷ []) (i + 1) (h + n) xs ss s2 b2) one
+    (λ w. aimed_all ss (before ++ h ∷ []) (i + 1) (h + n) xs (front ++ w ∷ []) ys s2 b2 (omega (arith, e, length-append front (w ∷ []))) more)
+aimed_all ss before i h ((raws.Switch z zs, n) ∷ xs) front (y ∷ ys) s b e k =
+    let one : spelled y ≡ Switch z zs = cc in
+    let more : map spelled ys ≡ raws_of xs = cc in
+    let s2 = s ∙ sym (append_assoc before (h ∷ []) (starts (h + n) xs)) in
+    let b2 : i + 1 ≡ length (before ++ h ∷ []) = omega (arith, b, length-append before (h ∷ [])) in
+    waits ss i h n (raws.Switch z zs) xs front ys y e (next_start before i h ((raws.Switch z zs, n) ∷ xs) ss s b) (next_start (before ++ h ∷ []) (i + 1) (h + n) xs ss s2 b2) one
+    (λ w. aimed_all ss (before ++ h ∷ []) (i + 1) (h + n) xs (front ++ w ∷ []) ys s2 b2 (omega (arith, e, length-append front (w ∷ []))) more)
 
 -- what was read gets its targets from its starts
 pub aimed_is : (xs : List (Raw × ℕ)) (r : Reading) → IsRead xs r → aimed r.starts r.aims.items r.instrs ≡ instrs_of (starts 0 xs) 0 (raws_in xs)
-aimed_is xs r is = rw (is.starts, is.aims, is.instrs) (aimed_all (starts 0 xs) 0 0 xs [] refl ∙ nothing (instrs_of (starts 0 xs) 0 (raws_in xs))) where
+aimed_is xs r is = rw (is.starts, is.aims) (aimed_all (starts 0 xs) [] 0 0 xs [] r.instrs refl refl refl is.instrs ∙ nothing (instrs_of (starts 0 xs) 0 (raws_in xs))) where
   nothing : (o : Result (List Instr) Refusal) → onto [] o ≡ o
   nothing (Ok xs) = refl
   nothing (Err d) = refl
 
 -- one that waits after the other, as a loop takes them
-module _ (ss : List ℕ) (aims : List Aim) (k : ℕ) (a : Aim) (lt : k < length aims) (at : a ≡ get_or aims k a) (is : List Instr) (all : Result (List Instr) Refusal) (h : aimed ss (drop k aims) is ≡ all) where
-  step : aimed ss (drop k aims) is ≡ (instr_of ss a.here a.next (raw_of a.instr) >>= λ i. aimed ss (drop (k + 1) aims) (set is a.index i))
-  step = ap (λ (l : List Aim). aimed ss l is) (drop_read aims k a lt at)
+module _ (ss aims : List ℕ) (k a : ℕ) (lt : k < length aims) (at : a ≡ get_or aims k a) (is : List Instr) (all : Result (List Instr) Refusal) (h : aimed ss (drop k aims) is ≡ all) (j : Instr) (within : a < length is) (held : get_or is a j ≡ j) (here next : ℕ)
+  (first : here ≡ get_or ss a 0) (second : next ≡ get_or ss (a + 1) 0) where
+  step : aimed ss (drop k aims) is ≡ (instr_of ss here next (spelled j) >>= λ i. aimed ss (drop (k + 1) aims) (set is a i))
+  step =
+      let one = get_or_default is a (variants.Plain 0) j within ∙ held in
+      ap (λ (l : List ℕ). aimed ss l is) (drop_read aims k a lt at) ∙ rw (first, second, one) refl
 
-  pub aims_on : (y : Instr) → instr_of ss a.here a.next (raw_of a.instr) ≡ Ok y → aimed ss (drop (k + 1) aims) (set is a.index y) ≡ all
-  aims_on y e = sym (ap (λ (r : Result Instr Refusal). r >>= λ i. aimed ss (drop (k + 1) aims) (set is a.index i)) e) ∙ sym step ∙ h
+  pub aims_on : (y : Instr) → instr_of ss here next (spelled j) ≡ Ok y → aimed ss (drop (k + 1) aims) (set (set is a (variants.Plain 0)) a y) ≡ all
+  aims_on y e =
+      ap (aimed ss (drop (k + 1) aims)) (set-set is a (variants.Plain 0) y) ∙ sym (ap (λ (r : Result Instr Refusal). r >>= λ i. aimed ss (drop (k + 1) aims) (set is a i)) e) ∙ sym step ∙ h
 
-  pub aims_wrong : (m : Missed) → Resolves {A = Instr} (instr_of ss a.here a.next (raw_of a.instr)) (Err m) → Resolves {A = List Instr} all (Err m)
-  aims_wrong (missed.Target place) e = sym h ∙ step ∙ ap (λ (r : Result Instr Refusal). r >>= λ i. aimed ss (drop (k + 1) aims) (set is a.index i)) e
+  pub aims_wrong : (m : Missed) → Resolves {A = Instr} (instr_of ss here next (spelled j)) (Err m) → Resolves {A = List Instr} all (Err m)
+  aims_wrong (missed.Target place) e = sym h ∙ step ∙ ap (λ (r : Result Instr Refusal). r >>= λ i. aimed ss (drop (k + 1) aims) (set is a i)) e
   aims_wrong missed.NoMemory e = tt
 
 -- ---- one instruction
 
--- one without targets stands as it is
-pub done_is : (i : Raw) → jump_in i ≡ None → done_in i ≡ blank i ∷ []
-done_is (raws.Same i) e = refl
-done_is (raws.Branch op z) e = absurd cc
-done_is (raws.Switch z zs) e = absurd cc
+as_itself : (i : Instr) → has_targets i ≡ false → spelled i ≡ Same i
+as_itself (variants.Plain op) e = refl
+as_itself (variants.One op n) e = refl
+as_itself (variants.Two op n m) e = refl
+as_itself (variants.Branch op t) e = absurd cc
+as_itself (variants.Switch t ts) e = absurd cc
+as_itself (variants.Byte z) e = refl
+as_itself (variants.Short z) e = refl
+as_itself (variants.ScopeObject x) e = refl
+as_itself (variants.Debug kind name reg extra) e = refl
 
-same_waits : (i j : Raw) (here next here2 next2 : ℕ) (old mid new : Reading) → i ≡ j → mid.instrs ≡ old.instrs → new.instrs ≡ mid.instrs ++ blank j ∷ []
-    → new.aims.items ≡ mid.aims.items ++ aims_in (jump_in j) (length mid.instrs) here next → new.starts ≡ mid.starts → mid.aims.items ≡ old.aims.items → mid.starts ≡ old.starts → here ≡ here2 → next ≡ next2 → Takes i here2 next2 old new
-same_waits i j here next here2 next2 old mid new e same instrs aims begun a s h n = record {
-  instrs = instrs ∙ rw (same, e) refl;
-  aims = aims ∙ rw (a, same, e, h, n) refl;
-  starts = begun ∙ s;
-}
+-- one without targets stands as it is
+pub done : (i : Raw) (old new : Reading) → IsRaw i → jump_in i ≡ None → new.instrs ≡ old.instrs ++ done_in i → new.aims.items ≡ old.aims.items → new.starts ≡ old.starts → Takes i old new
+done (raws.Same i) old new raw none put a s = record { instr = i; is = as_itself i raw.1; instrs = put; aims = a ∙ sym (append-nil old.aims.items); starts = s }
+done (raws.Branch op z) old new raw none put a s = absurd cc
+done (raws.Switch z zs) old new raw none put a s = absurd cc
 
 -- one with targets waits
-pub waited : (i j : Raw) (here next here2 next2 : ℕ) (old mid new : Reading) → Some j ≡ jump_in i → mid.instrs ≡ old.instrs ++ done_in i → new.instrs ≡ mid.instrs ++ blank j ∷ []
-    → new.aims.items ≡ mid.aims.items ++ aims_in (jump_in j) (length mid.instrs) here next → new.starts ≡ mid.starts → mid.aims.items ≡ old.aims.items → mid.starts ≡ old.starts → here ≡ here2 → next ≡ next2 → Takes i here2 next2 old new
-waited (raws.Same i) j here next here2 next2 old mid new e done instrs aims begun a s h n = absurd cc
-waited (raws.Branch op z) j here next here2 next2 old mid new e done instrs aims begun a s h n =
-    let one : raws.Branch op z ≡ j = cc in
-    same_waits (raws.Branch op z) j here next here2 next2 old mid new one (done ∙ append-nil old.instrs) instrs aims begun a s h n
-waited (raws.Switch z zs) j here next here2 next2 old mid new e done instrs aims begun a s h n =
-    let one : raws.Switch z zs ≡ j = cc in
-    same_waits (raws.Switch z zs) j here next here2 next2 old mid new one (done ∙ append-nil old.instrs) instrs aims begun a s h n
-
--- an instruction with targets is a blank
-pub blank_is : (i : Raw) → jump_in i ≡ Some i → blank i ≡ variants.Plain 0
-blank_is (raws.Same i) e = absurd cc
-blank_is (raws.Branch op z) e = refl
-blank_is (raws.Switch z zs) e = refl
+pub waited : (i j : Raw) (y : Instr) (old mid new : Reading) → Some j ≡ jump_in i → spelled y ≡ raw_of j → mid.instrs ≡ old.instrs ++ done_in i → mid.aims.items ≡ old.aims.items → mid.starts ≡ old.starts
+    → new.instrs ≡ mid.instrs ++ y ∷ [] → new.aims.items ≡ mid.aims.items ++ length mid.instrs ∷ [] → new.starts ≡ mid.starts → Takes i old new
+waited (raws.Same i) j y old mid new e is put a s instrs aims starts = absurd cc
+waited (raws.Branch op z) j y old mid new e is put a s instrs aims starts =
+    let one : j ≡ raws.Branch op z = cc in
+    let same = put ∙ append-nil old.instrs in
+    record { instr = y; is = is ∙ ap raw_of one; instrs = instrs ∙ rw same refl; aims = aims ∙ rw (a, same) refl; starts = starts ∙ s }
+waited (raws.Switch z zs) j y old mid new e is put a s instrs aims starts =
+    let one : j ≡ raws.Switch z zs = cc in
+    let same = put ∙ append-nil old.instrs in
+    record { instr = y; is = is ∙ ap raw_of one; instrs = instrs ∙ rw same refl; aims = aims ∙ rw (a, same) refl; starts = starts ∙ s }
 
 -- ---- code
 
@@ -227,13 +266,14 @@ pub record CodeOf (xs : List (Raw × ℕ)) (ss : List ℕ) (is : List Instr) : T
 
 pub code_of : (n : ℕ) (xs : List (Raw × ℕ)) (r : Reading) (is : List Instr) → n < 2 ^ 23 → IsRead xs r → AreRead n xs → made_in r ≡ Ok is → CodeOf xs r.starts is
 code_of n xs r js small is read e =
+    let places = places_are n xs r small is read in
     let count = length-starts 0 xs in
     let found : instrs_of (starts 0 xs) 0 (raws_in xs) ≡ Ok js = sym (aimed_is xs r is) ∙ e in
     let ready = resolved_ready (starts 0 xs) xs js (omega (arith, count)) found read.raw (omega (arith, read.few)) in
     record {
       starts_are = is.starts;
-      rising = subst IsRising (sym is.starts) (starts_rising xs read.some);
-      few = omega (arith, ap length is.starts, few_starts xs read.some (omega (arith, read.size)));
+      rising = places.rising;
+      few = places.few;
       count = omega (arith, ap length is.starts, count, ready.number);
       ready = ready.ready;
     }

@@ -1,6 +1,5 @@
 pub mod Fronts
 pub mod Marking
-pub mod Numbering
 pub mod Resolved
 pub mod Weaving
 pub mod Scanned

@@ -1,21 +1,21 @@
 -- Code between reading and resolving: what has no targets stands as it is, and what has some waits for them.
-use Rattle.std.specs.Prelude.{◌≡◌, ℕ, ◌+◌, ◌-◌, ◌^◌, ◌<◌, ◌≤◌, All, set, List, [], ◌∷◌, ◌++◌, length, map, Some, None, Ok, Err}
+use Rattle.std.specs.Prelude.{◌≡◌, ℕ, ◌+◌, ◌^◌, ◌<◌, ◌≤◌, All, get_or, set, List, [], ◌∷◌, ◌++◌, length, map, Some, None, Ok, Err}
+use Rattle.std.specs.Int.{w32, cast_signed}
 use Rattle.std.specs.declared.option.Option.{Option}
 use Rattle.std.specs.declared.result.Result.{Result}
 use Rattle.abc_format.specs.Part.{Refusal, limit, ◌>>=◌}
 use Rattle.abc_tables.specs.declared.code.Instr.{Instr}
 use Rattle.abc_tables.specs.declared.code.Instr.TheVariants as instrs
 use Rattle.abc_tables.specs.declared.instructions.Code.{Code}
-use Rattle.abc_tables.specs.Instructions.{RawInstr}
-use Rattle.abc_tables.specs.Starts.{starts as starts_from, size as size_of}
+use Rattle.abc_tables.specs.Instructions.{RawInstr, Same, Branch, Switch}
+use Rattle.abc_tables.specs.Starts.{starts as starts_from, size as size_of, IsRising}
 use Rattle.abc_tables.specs.Targets.{instr_of}
 use Rattle.abc_varint.specs.View.{GoesOver, View}
 use Rattle.abc_instr.specs.declared.raw.RawInstr.{RawInstr as Raw}
 use Rattle.abc_instr.specs.declared.raw.RawInstr.TheVariants as raws
-use Rattle.abc_instr.specs.declared.reading.Aim.{Aim}
 use Rattle.abc_instr.specs.declared.reading.Reading.{Reading}
 use Rattle.abc_instr.specs.Offsets.{raw_len, raw_of, IsRaw}
-use Rattle.abc_instr.specs.Scanning.{instrs_in, jump_in, raws_in, AreRead}
+use Rattle.abc_instr.specs.Scanning.{jump_in, raws_in, AreRead}
 
 -- ---- one instruction
 
@@ -25,77 +25,85 @@ done_in (raws.Same i) = i ∷ []
 done_in (raws.Branch op z) = []
 done_in (raws.Switch z zs) = []
 
--- what stands for the instruction until its targets are known
-abbrev pub blank : Raw → Instr
-blank (raws.Same i) = i
-blank (raws.Branch op z) = instrs.Plain 0
-blank (raws.Switch z zs) = instrs.Plain 0
+-- the instruction as it was read, where its offsets stand in the place of its targets
+abbrev pub spelled : Instr → RawInstr
+spelled (instrs.Plain op) = Same (instrs.Plain op)
+spelled (instrs.One op n) = Same (instrs.One op n)
+spelled (instrs.Two op n m) = Same (instrs.Two op n m)
+spelled (instrs.Branch op n) = Branch op (cast_signed w32 n)
+spelled (instrs.Switch n ns) = Switch (cast_signed w32 n) (map (cast_signed w32) ns)
+spelled (instrs.Byte z) = Same (instrs.Byte z)
+spelled (instrs.Short z) = Same (instrs.Short z)
+spelled (instrs.ScopeObject x) = Same (instrs.ScopeObject x)
+spelled (instrs.Debug kind name reg extra) = Same (instrs.Debug kind name reg extra)
 
 -- at most one that waits
-abbrev pub aims_in : Option Raw → ℕ → ℕ → ℕ → List Aim
-aims_in (Some i) index here next = record { instr = i; index = index; here = here; next = next } ∷ []
-aims_in None index here next = []
+abbrev pub aims_in : Option Raw → ℕ → List ℕ
+aims_in (Some i) index = index ∷ []
+aims_in None index = []
 
 -- ---- instructions, each with the number of bytes that it had as it was read
 
--- those that wait, from this number and this place on
-abbrev pub aims_from : ℕ → ℕ → List (Raw × ℕ) → List Aim
-aims_from index here [] = []
-aims_from index here (x ∷ xs) = aims_in (jump_in x.0) index here (here + x.1) ++ aims_from (index + 1) (here + x.1) xs
+-- those that wait, from this number on
+abbrev pub aims_from : ℕ → List (Raw × ℕ) → List ℕ
+aims_from index [] = []
+aims_from index (x ∷ xs) = aims_in (jump_in x.0) index ++ aims_from (index + 1) xs
 
 -- their starts, without the end
 abbrev pub starts_before : ℕ → List (Raw × ℕ) → List ℕ
 starts_before here [] = []
 starts_before here (x ∷ xs) = here ∷ starts_before (here + x.1) xs
 
-abbrev pub blanks : List (Raw × ℕ) → List Instr
-blanks xs = map blank (instrs_in xs)
+abbrev pub raws_of : List (Raw × ℕ) → List RawInstr
+raws_of xs = map (λ x. raw_of x.0) xs
 
 -- These instructions were read so far.
 pub record IsReading (xs : List (Raw × ℕ)) (r : Reading) : Type 0 where
   pub starts : r.starts ≡ starts_before 0 xs
-  pub instrs : r.instrs ≡ blanks xs
-  pub aims : r.aims.items ≡ aims_from 0 0 xs
+  pub instrs : map spelled r.instrs ≡ raws_of xs
+  pub aims : r.aims.items ≡ aims_from 0 xs
 
 -- These instructions were read, and no others.
 pub record IsRead (xs : List (Raw × ℕ)) (r : Reading) : Type 0 where
   pub starts : r.starts ≡ starts_from 0 xs
-  pub instrs : r.instrs ≡ blanks xs
-  pub aims : r.aims.items ≡ aims_from 0 0 xs
+  pub instrs : map spelled r.instrs ≡ raws_of xs
+  pub aims : r.aims.items ≡ aims_from 0 xs
 
--- An instruction from `here` to `next` came to the others.
-pub record Takes (x : Raw) (here next : ℕ) (old new : Reading) : Type 0 where
-  pub instrs : new.instrs ≡ old.instrs ++ blank x ∷ []
-  pub aims : new.aims.items ≡ old.aims.items ++ aims_in (jump_in x) (length old.instrs) here next
+-- An instruction came to the others.
+pub record Takes (x : Raw) (old new : Reading) : Type 0 where
+  pub instr : Instr
+  pub is : spelled instr ≡ raw_of x
+  pub instrs : new.instrs ≡ old.instrs ++ instr ∷ []
+  pub aims : new.aims.items ≡ old.aims.items ++ aims_in (jump_in x) (length old.instrs)
   pub starts : new.starts ≡ old.starts
 
 -- One instruction was read, where `says` tells what.
-pub record TakesInstr {E : Type 0} (says : Result RawInstr E → Type 0) (first : ℕ) (w w2 : View) (old new : Reading) : Type 0 where
+pub record TakesInstr {E : Type 0} (says : Result RawInstr E → Type 0) (w w2 : View) (old new : Reading) : Type 0 where
   pub instr : Raw
   pub moves : w.place < w2.place
   pub passes : GoesOver (raw_len instr) w w2
   pub room : w2.place ≤ limit
   pub raw : IsRaw instr
-  pub takes : Takes instr (w.place - first) (w2.place - first) old new
+  pub takes : Takes instr old new
   pub says_so : says (Ok (raw_of instr))
 
-abbrev pub TakesInstrOn : {T E : Type 0} → (Result RawInstr E → Type 0) → ℕ → View → View → Reading → Reading → Result T E → Type 0
-TakesInstrOn says first w w2 old new (Ok t) = TakesInstr says first w w2 old new
-TakesInstrOn says first w w2 old new (Err e) = says (Err e)
+abbrev pub TakesInstrOn : {T E : Type 0} → (Result RawInstr E → Type 0) → View → View → Reading → Reading → Result T E → Type 0
+TakesInstrOn says w w2 old new (Ok t) = TakesInstr says w w2 old new
+TakesInstrOn says w w2 old new (Err e) = says (Err e)
 
 -- ---- targets
 
 -- each of those that wait gets its targets, in their order
-abbrev pub aimed : List ℕ → List Aim → List Instr → Result (List Instr) Refusal
+abbrev pub aimed : List ℕ → List ℕ → List Instr → Result (List Instr) Refusal
 aimed ss [] is = Ok is
-aimed ss (a ∷ more) is = instr_of ss a.here a.next (raw_of a.instr) >>= λ i. aimed ss more (set is a.index i)
+aimed ss (a ∷ more) is = instr_of ss (get_or ss a 0) (get_or ss (a + 1) 0) (spelled (get_or is a (instrs.Plain 0))) >>= λ i. aimed ss more (set is a i)
 
--- It has targets, a place among n instructions, and small places, as those of code are.
-pub record IsAim (n : ℕ) (a : Aim) : Type 0 where
-  pub waits : jump_in a.instr ≡ Some a.instr
-  pub within : a.index < n
-  pub here : a.here ≤ 2 ^ 24
-  pub next : a.next ≤ 2 ^ 24
+-- They are the starts of n instructions and their end, and small, as places in code are.
+pub record ArePlaces (n : ℕ) (ss : List ℕ) : Type 0 where
+  pub rising : IsRising ss
+  pub count : length ss ≡ n + 1
+  pub few : length ss < 2 ^ 32
+  pub small : All (λ s. s ≤ 2 ^ 24) ss
 
 -- ---- what reading n bytes leaves, where `says` tells what was read
 

@@ -2,6 +2,7 @@
 #![tactic(auto)]
 
 mod front;
+mod guesses;
 mod laws;
 mod marks;
 mod pass;

@@ -4,7 +4,7 @@ ghost use Rattle.abc_tables.specs.Starts.{IsRising};
 ghost use Rattle.abc_varint.specs.Reads.{ReadsPart};
 ghost use Rattle.abc_varint.specs.declared.error.ReadError.{ReadError};
 
-use crate::resolve::number_of;
+use crate::starts::number_of;
 use abc_base::Source;
 use abc_varint::{ReadError, Reason, Window, read_u30};
 

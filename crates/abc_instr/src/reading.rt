@@ -1,9 +1,10 @@
-ghost use Rattle.std.specs.Prelude.{◌≡◌, ◌≤◌, ◌<◌, ◌+◌, ◌-◌, ◌^◌, ◌++◌, ◌∷◌, [], None, Some, All, IfOk, OnOk, length};
+ghost use Rattle.std.specs.Prelude.{◌≡◌, ◌≤◌, ◌<◌, ◌+◌, ◌^◌, ◌++◌, ◌∷◌, [], None, IfOk, OnOk, length, map};
+ghost use Rattle.std.specs.Int.{w32, cast_signed};
 ghost use Rattle.abc_format.specs.Ends.{blamed};
 ghost use Rattle.abc_tables.specs.Instructions.{instruction, pieces as pieces_part};
-ghost use Rattle.abc_varint.specs.Reads.{Blames, Keeps, Reads, ReadsUntil, stored};
-ghost use Rattle.abc_instr.specs.Reading.{IsReading, IsRead, ReadsPieces, TakesInstrOn, aims_in, blank};
-ghost use Rattle.abc_instr.specs.Scanning.{jump_in};
+ghost use Rattle.abc_varint.specs.Reads.{Blames, Keeps, Reads, ReadsUntil};
+ghost use Rattle.abc_instr.specs.Offsets.{IsRaw};
+ghost use Rattle.abc_instr.specs.Reading.{IsReading, IsRead, ReadsPieces, Takes, TakesInstrOn};
 
 use crate::front::Front;
 use crate::push::push_next;
@@ -14,26 +15,26 @@ use abc_tables::Instr;
 use abc_varint::{ReadError, Window};
 use std::alloc::Global;
 
-/// An instruction with targets, as it was read.
-#[derive(Debug, Drop)]
-pub struct Aim {
-    pub instr: RawInstr,
-    /// Its number.
-    pub index: usize,
-    /// Where it starts, and where it ends.
-    pub here: u32,
-    pub next: u32,
-}
-
 /// Code between reading and resolving. Its memory serves one code after the other.
 #[derive(Debug, Drop)]
 pub struct Reading {
     /// Where each instruction starts, and where the last one ends.
     pub starts: Starts,
-    /// The instructions; a blank stands for each that has targets.
+    /// The instructions. One with targets has its offsets in their place.
     pub instrs: Table<Instr>,
-    /// The instructions with targets.
-    pub aims: Vec<Aim>,
+    /// The numbers of those with targets.
+    pub aims: Vec<u32>,
+}
+
+/// The offsets, as numbers of as many bits.
+fn as_numbers(alloc: Global, offsets: &Table<i32>) -> Result<Table<u32>, NoMemory>
+    ensures { IfOk result (λ ns. map (cast_signed w32) ns ≡ offsets.now) }
+{
+    let mut numbers = Table::new(alloc);
+    for offset in offsets.as_slice() {
+        numbers.push(offset.cast_unsigned())?;
+    }
+    Ok(numbers)
 }
 
 impl Reading {
@@ -61,38 +62,35 @@ impl Reading {
         self.aims.clear();
     }
 
-    /// Adds an instruction with targets, for which a blank stands until these are known.
-    fn wait(&mut self, instr: RawInstr, here: u32, next: u32) -> Result<(), NoMemory>
-        requires { jump_in instr ≡ Some instr }
-        ensures instrs { OnOk result ((self.new).instrs ≡ (self.old).instrs ++ blank instr ∷ []) }
-        ensures aims { OnOk result ((self.new).aims.items ≡ (self.old).aims.items ++ aims_in (jump_in instr) (length (self.old).instrs) here next) }
+    /// Adds an instruction that has offsets in the place of its targets.
+    fn wait(&mut self, instr: Instr) -> Result<(), NoMemory>
+        requires few { length (self.old).instrs < 2 ^ 32 }
+        ensures instrs { OnOk result ((self.new).instrs ≡ (self.old).instrs ++ instr ∷ []) }
+        ensures aims { OnOk result ((self.new).aims.items ≡ (self.old).aims.items ++ length (self.old).instrs ∷ []) }
         ensures starts { OnOk result ((self.new).starts ≡ (self.old).starts) }
     {
-        let index = self.instrs.len();
-        self.instrs.push(Instr::Plain(0))?;
-        self.aims.push(Aim {
-            instr,
-            index,
-            here,
-            next,
-        })?;
+        let index = self.instrs.len() as u32;
+        self.instrs.push(instr)?;
+        self.aims.push(index)?;
         Ok(())
     }
 
     /// Adds an instruction.
-    fn keep(&mut self, instr: RawInstr, here: u32, next: u32) -> Result<(), NoMemory>
-        ensures instrs { OnOk result ((self.new).instrs ≡ (self.old).instrs ++ blank instr ∷ []) }
-        ensures aims { OnOk result ((self.new).aims.items ≡ (self.old).aims.items ++ aims_in (jump_in instr) (length (self.old).instrs) here next) }
-        ensures starts { OnOk result ((self.new).starts ≡ (self.old).starts) }
+    fn keep(&mut self, alloc: Global, instr: RawInstr) -> Result<(), NoMemory>
+        requires raw { IsRaw instr }
+        requires few { length (self.old).instrs < 2 ^ 32 }
+        ensures { OnOk result (Takes instr self.old self.new) }
     {
         match instr {
             RawInstr::Same(same) => {
                 self.instrs.push(same)?;
                 Ok(())
             }
-            RawInstr::Branch(op, offset) => self.wait(RawInstr::Branch(op, offset), here, next),
+            RawInstr::Branch(op, offset) => self.wait(Instr::Branch(op, offset.cast_unsigned())),
             RawInstr::Switch { default, cases } => {
-                self.wait(RawInstr::Switch { default, cases }, here, next)
+                let cases = as_numbers(alloc, &cases)?;
+                let default = default.cast_unsigned();
+                self.wait(Instr::Switch { default, cases })
             }
         }
     }
@@ -104,19 +102,16 @@ impl Reading {
         alloc: Global,
         w: &mut Window,
         source: &mut S,
-        first: u32,
     ) -> Result<(), ReadError>
         requires fresh { w.old.kept ≡ None }
-        requires first { first ≤ w.old.place }
-        ensures value { TakesInstrOn (Reads (blamed instruction).reads w.old (S.left source.old) w.new (S.left source.new)) first w.old w.new self.old self.new result }
+        requires few { length (self.old).instrs < 2 ^ 32 }
+        ensures value { TakesInstrOn (Reads (blamed instruction).reads w.old (S.left source.old) w.new (S.left source.new)) w.old w.new self.old self.new result }
         ensures later { S.faults source.old ≤ S.faults source.new }
         ensures cause { Blames w.old (S.faults source.old) (S.faults source.new) result }
         ensures keeps { Keeps w.old w.new result }
     {
-        let here = w.place() - first;
         let instr = read_raw(alloc, w, source)?;
-        let next = w.place() - first;
-        self.keep(instr, here, next)?;
+        self.keep(alloc, instr)?;
         Ok(())
     }
 
@@ -128,23 +123,20 @@ impl Reading {
         alloc: Global,
         w: &mut Window,
         source: &mut S,
-        first: u32,
     ) -> Result<(), ReadError>
         requires fresh { w.old.kept ≡ None }
-        requires first { first ≤ w.old.place }
-        ensures value { TakesInstrOn (Reads (blamed instruction).reads w.old (S.left source.old) w.new (S.left source.new)) first w.old w.new self.old self.new result }
+        requires few { length (self.old).instrs < 2 ^ 32 }
+        ensures value { TakesInstrOn (Reads (blamed instruction).reads w.old (S.left source.old) w.new (S.left source.new)) w.old w.new self.old self.new result }
         ensures later { S.faults source.old ≤ S.faults source.new }
         ensures cause { Blames w.old (S.faults source.old) (S.faults source.new) result }
         ensures keeps { Keeps w.old w.new result }
     {
-        let here = w.place() - first;
         match push_next(w, &mut self.instrs)? {
             Some(Front::Put(_)) => Ok(()),
             Some(Front::Branch(op, offset)) => {
-                let next = w.place() - first;
-                Ok(self.wait(RawInstr::Branch(op, offset), here, next)?)
+                Ok(self.wait(Instr::Branch(op, offset.cast_unsigned()))?)
             }
-            None => self.take_any(alloc, w, source, first),
+            None => self.take_any(alloc, w, source),
         }
     }
 }
@@ -173,7 +165,7 @@ fn read_until<S: Source>(
             break;
         }
         reading.starts.push(here)?;
-        reading.take_next(alloc, w, source, first)?;
+        reading.take_next(alloc, w, source)?;
     }
     Ok(())
 }

@@ -1,16 +1,12 @@
-ghost use Rattle.std.specs.Prelude.{◌≡◌, ◌≤◌, ◌<◌, ◌+◌, ◌^◌, All, Some, length, nat_eq};
-ghost use Rattle.std.specs.List.{position};
+ghost use Rattle.std.specs.Prelude.{◌≡◌, ◌≤◌, ◌<◌, ◌^◌, All, length, map};
+ghost use Rattle.std.specs.Int.{w32, cast_signed};
 ghost use Rattle.abc_tables.specs.Starts.{IsRising};
 ghost use Rattle.abc_tables.specs.Targets.{target_of, found, cases_of, instr_of};
 ghost use Rattle.abc_varint.specs.Reads.{stored};
-ghost use Rattle.abc_instr.specs.Offsets.{raw_of};
-ghost use Rattle.abc_instr.specs.Reading.{IsAim, aimed};
+ghost use Rattle.abc_instr.specs.Reading.{ArePlaces, aimed, spelled};
 ghost use Rattle.abc_instr.specs.Resolving.{Resolves};
-ghost use Rattle.abc_instr.specs.Scanning.{jump_in};
 ghost use Rattle.abc_instr.specs.declared.resolve.Missed.TheVariants as missed;
 
-use crate::raw::RawInstr;
-use crate::reading::Aim;
 use crate::starts::Starts;
 use abc_base::{NoMemory, Table};
 use abc_tables::Instr;
@@ -32,33 +28,25 @@ impl From<NoMemory> for Missed {
     }
 }
 
-/// Which start this is.
-pub fn number_of(starts: &[u32], place: u32) -> Option<u32>
-    requires rising { IsRising starts.now }
-    requires few { length starts.now < 2 ^ 32 }
-    ensures { result ≡ position (λ s. nat_eq s place) starts.now }
-{
-    match starts.binary_search(&place) {
-        Ok(i) => Some(i as u32),
-        Err(_) => None,
-    }
-}
-
 /// The number of the instruction, or of the end, at an offset from a base.
 fn target_at(starts: &Starts, base: u32, offset: i32) -> Option<u32>
-    requires { base ≤ 2 ^ 24 }
+    requires rising { IsRising starts.now }
+    requires few { length starts.now < 2 ^ 32 }
+    requires base { base ≤ 2 ^ 24 }
     ensures { result ≡ target_of starts.now base offset }
 {
     let place = base as i64 + offset as i64;
     if place < 0 {
         return None;
     }
-    starts.number_of(place as u32)
+    starts.find(place as u32)
 }
 
 /// The number of the instruction, or of the end, at an offset from a base, which stands at a place.
 fn resolve_at(starts: &Starts, base: u32, offset: i32, place: u32) -> Result<u32, Missed>
-    requires { base ≤ 2 ^ 24 }
+    requires rising { IsRising starts.now }
+    requires few { length starts.now < 2 ^ 32 }
+    requires base { base ≤ 2 ^ 24 }
     ensures { Resolves (found place (target_of starts.now base offset)) result }
 {
     match target_at(starts, base, offset) {
@@ -73,58 +61,69 @@ fn resolve_cases(
     starts: &Starts,
     base: u32,
     next: u32,
-    cases: &Table<i32>,
+    cases: &Table<u32>,
 ) -> Result<Table<u32>, Missed>
-    requires { base ≤ 2 ^ 24 }
-    ensures { Resolves (cases_of starts.now base next cases.now) result }
+    requires rising { IsRising starts.now }
+    requires few { length starts.now < 2 ^ 32 }
+    requires base { base ≤ 2 ^ 24 }
+    ensures { Resolves (cases_of starts.now base next (map (cast_signed w32) cases.now)) result }
 {
     let mut targets = Table::new(alloc);
     let slice = cases.as_slice();
     for (i, offset) in slice.iter().enumerate() {
         let after = slice.len() - i;
         let place = (next as usize).saturating_sub(after.saturating_mul(3)) as u32;
-        let target = resolve_at(starts, base, *offset, place)?;
+        let target = resolve_at(starts, base, offset.cast_signed(), place)?;
         targets.push(target)?;
     }
     Ok(targets)
 }
 
-/// An instruction with targets, with numbers for its offsets.
-fn resolve_instr(alloc: Global, starts: &Starts, aim: &Aim) -> Result<Instr, Missed>
-    requires waits { jump_in (aim.now).instr ≡ Some (aim.now).instr }
-    requires here { (aim.now).here ≤ 2 ^ 24 }
-    requires next { (aim.now).next ≤ 2 ^ 24 }
-    ensures { Resolves (instr_of starts.now (aim.now).here (aim.now).next (raw_of (aim.now).instr)) result }
+/// An instruction that has offsets in the place of its targets, with its targets.
+fn resolve_instr(
+    alloc: Global,
+    starts: &Starts,
+    instr: Instr,
+    here: u32,
+    next: u32,
+) -> Result<Instr, Missed>
+    requires rising { IsRising starts.now }
+    requires few { length starts.now < 2 ^ 32 }
+    requires here { here ≤ 2 ^ 24 }
+    requires next { next ≤ 2 ^ 24 }
+    ensures { Resolves (instr_of starts.now here next (spelled instr)) result }
 {
-    let here = aim.here;
-    let next = aim.next;
-    match &aim.instr {
-        RawInstr::Same(_) => Ok(Instr::Plain(0)),
-        RawInstr::Branch(op, offset) => {
-            let target = resolve_at(starts, next, *offset, here + 1)?;
-            Ok(Instr::Branch(*op, target))
+    match instr {
+        Instr::Branch(op, offset) => {
+            let target = resolve_at(starts, next, offset.cast_signed(), here + 1)?;
+            Ok(Instr::Branch(op, target))
         }
-        RawInstr::Switch { default, cases } => {
-            let default = resolve_at(starts, here, *default, here + 1)?;
-            let cases = resolve_cases(alloc, starts, here, next, cases)?;
+        Instr::Switch { default, cases } => {
+            let default = resolve_at(starts, here, default.cast_signed(), here + 1)?;
+            let cases = resolve_cases(alloc, starts, here, next, &cases)?;
             Ok(Instr::Switch { default, cases })
         }
+        other => Ok(other),
     }
 }
 
-/// Puts each instruction with targets, with numbers for its offsets, in the place of its blank.
+/// Gives each instruction with targets numbers for its offsets.
 pub fn resolve_all(
     alloc: Global,
     starts: &Starts,
-    aims: &[Aim],
+    aims: &[u32],
     instrs: &mut Table<Instr>,
 ) -> Result<(), Missed>
-    requires { All (IsAim (length instrs.old)) aims.now }
+    requires places { ArePlaces (length instrs.old) starts.now }
+    requires aims { All (λ a. a < length instrs.old) aims.now }
     ensures { Resolves (aimed starts.now aims.now instrs.old) (stored result instrs.new) }
 {
+    let places = starts.as_slice();
     for aim in aims {
-        let instr = resolve_instr(alloc, starts, aim)?;
-        instrs.set(aim.index, instr);
+        let index = *aim as usize;
+        let instr = instrs.replace(index, Instr::Plain(0));
+        let instr = resolve_instr(alloc, starts, instr, places[index], places[index + 1])?;
+        instrs.set(index, instr);
     }
     Ok(())
 }

@@ -1,30 +1,42 @@
-ghost use Rattle.std.specs.Prelude.{◌≡◌, ◌<◌, ◌^◌, ◌++◌, ◌∷◌, [], All, OnOk, length, nat_eq};
+ghost use Rattle.std.specs.Prelude.{◌≡◌, ◌<◌, ◌^◌, ◌++◌, ◌∷◌, [], OnOk, length, nat_eq};
 ghost use Rattle.std.specs.List.{position};
+ghost use Rattle.abc_tables.specs.Starts.{IsRising};
 
-use crate::marks::Marks;
+use crate::guesses::Guesses;
 use abc_base::{NoMemory, Table};
 use std::alloc::Global;
 use std::marker::Model;
 use std::mem;
 
-/// Where instructions start in their code, and then how many bytes it has. Contracts see it as that list. A table by
-/// places, whose memory serves one code after the other, says which of them a place is.
+/// For so many starts it takes as long to learn them as to search once.
+const STARTS_A_SEARCH: usize = 32;
+
+/// Where instructions start in their code, and then how many bytes it has. Contracts see it as that list. A table, whose
+/// memory serves one code after the other, guesses which of them a place is.
 #[derive(Debug, Drop)]
 pub struct Starts {
     places: Table<u32>,
-    numbers: Marks,
+    guesses: Guesses,
 }
 
 impl Model for Starts {
-    ghost use Rattle.std.specs.Prelude.{◌≡◌, ℕ, List, nat_eq};
-    ghost use Rattle.std.specs.List.{position};
-    ghost use Rattle.abc_instr.specs.Marks.{mark_at};
+    ghost use Rattle.std.specs.Prelude.{List, ℕ};
 
     ghost Value = { List ℕ };
 
     ghost view = { λ s. s.places };
+}
 
-    ghost invariant = { λ s. (p : ℕ) → mark_at s.numbers p ≡ position (λ t. nat_eq t p) s.places };
+/// Which start this is.
+pub fn number_of(starts: &[u32], place: u32) -> Option<u32>
+    requires rising { IsRising starts.now }
+    requires few { length starts.now < 2 ^ 32 }
+    ensures { result ≡ position (λ s. nat_eq s place) starts.now }
+{
+    match starts.binary_search(&place) {
+        Ok(i) => Some(i as u32),
+        Err(_) => None,
+    }
 }
 
 impl Starts {
@@ -34,7 +46,7 @@ impl Starts {
     {
         Starts {
             places: Table::new(alloc),
-            numbers: Marks::new(alloc),
+            guesses: Guesses::new(alloc),
         }
     }
 
@@ -43,34 +55,40 @@ impl Starts {
         ensures { self.new ≡ [] }
     {
         self.places.truncate(0);
-        self.numbers.clear();
+        self.guesses.clear();
     }
 
     /// Adds a start behind the others.
     #[inline(always)]
     pub(crate) fn push(&mut self, place: u32) -> Result<(), NoMemory>
-        requires later { All (λ s. s < place) self.old }
-        requires few { length self.old < 2 ^ 23 }
         ensures { OnOk result (self.new ≡ self.old ++ place ∷ []) }
     {
-        let number = self.places.len() as u32;
         self.places.push(place)?;
-        match self.numbers.set(place, number) {
-            Ok(()) => Ok(()),
-            Err(e) => {
-                self.places.truncate(0);
-                self.numbers.clear();
-                Err(e)
-            }
+        Ok(())
+    }
+
+    /// Makes ready for so many searches.
+    pub(crate) fn prepare(&mut self, searches: usize) -> Result<(), NoMemory>
+        ensures { self.new ≡ self.old }
+    {
+        if searches.saturating_mul(STARTS_A_SEARCH) > self.places.len() {
+            self.guesses.learn(self.places.as_slice())?;
         }
+        Ok(())
     }
 
     /// Which of the starts a place is.
     #[inline]
-    pub(crate) fn number_of(&self, place: u32) -> Option<u32>
+    pub(crate) fn find(&self, place: u32) -> Option<u32>
+        requires rising { IsRising self.now }
+        requires few { length self.now < 2 ^ 32 }
         ensures { result ≡ position (λ s. nat_eq s place) self.now }
     {
-        self.numbers.get(place)
+        let guess = self.guesses.guess(place);
+        match self.places.fetch(guess as usize) {
+            Some(start) if start == place => Some(guess),
+            _ => number_of(self.places.as_slice(), place),
+        }
     }
 
     /// All starts, in order.
@@ -85,7 +103,7 @@ impl Starts {
         ensures { result ≡ self.old }
     {
         let places = mem::replace(&mut self.places, Table::new(alloc));
-        self.numbers.clear();
+        self.guesses.clear();
         places
     }
 }

@@ -11,7 +11,7 @@ use Rattle.abc_tables.proofs.Resolving.{size-push}
 use Rattle.abc_instr.specs.Offsets.{raw_of}
 use Rattle.abc_instr.specs.Scanning.{instrs_in, raws_in}
 use Rattle.abc_instr.proofs.Resolved.{raw_push, raws_len-push}
-use Rattle.abc_instr.proofs.Aiming.{as_few, read_before, reading_push, starts_count}
+use Rattle.abc_instr.proofs.Aiming.{as_few, read_count, reading_push}
 use Rattle.abc_instr.proofs.reading.read_until.Goals as goal
 
 pub loop-init : goal.loop-init
@@ -31,16 +31,11 @@ loop-init g c =
       },
     )
 
-pub push-requires-clause-later : goal.push-requires-clause-later
-push-requires-clause-later g c =
-    let inv = c.loop.invariant.1 in
-    read_before c.loop.invariant.0 c.loop.reading.starts _ inv.some inv.reading.starts (omega (arith, inv.size, c.place.ensures.is, c.place-first.ensures.is))
-
-pub push-requires-clause-few : goal.push-requires-clause-few
-push-requires-clause-few g c =
+pub take_next-requires-clause-few : goal.take_next-requires-clause-few
+take_next-requires-clause-few g c =
     let xs = c.loop.invariant.0 in
     let inv = c.loop.invariant.1 in
-    omega (arith, ap length inv.reading.starts, starts_count 0 xs, as_few xs inv.some, inv.size, c.if-here-byte_count.false, c.place.ensures.is, c.place-first.ensures.is, c.requires.small)
+    omega (arith, read_count xs c.loop.reading.instrs inv.reading.instrs, as_few xs inv.some, inv.size, c.if-here-byte_count.false, c.place.ensures.is, c.place-first.ensures.is, c.requires.small)
 
 pub loop-preserved : goal.loop-preserved
 loop-preserved g c =
@@ -50,13 +45,12 @@ loop-preserved g c =
     let x = step.instr in
     let n = c.take_next.new.w.place - c.loop.w.place in
     let here = c.loop.w.place - c.args.w.now.place in
-    let next = c.take_next.new.w.place - c.args.w.now.place in
     let all : instrs_in (xs ++ (x, n) ∷ []) ≡ instrs_in xs ++ x ∷ [] = map-append (λ (y : Raw × ℕ). y.0) xs ((x, n) ∷ []) in
     let raws : raws_in (xs ++ (x, n) ∷ []) ≡ raws_in xs ++ (raw_of x, n) ∷ [] = map-append (λ (y : Raw × ℕ). (raw_of y.0, y.1)) xs ((x, n) ∷ []) in (
       xs ++ (x, n) ∷ [],
       record {
-        reading = reading_push xs x n here next c.loop.reading (record c.loop.reading { starts = c.push.new.self }) c.take_next.new.self (omega (arith, inv.size)) (omega (arith, inv.size, step.moves)) inv.reading
-            (rw (← c.place-first.ensures.is, ← c.place.ensures.is) c.in_ok-push.ensures) refl refl (rw c.place-first.ensures.is at step.takes);
+        reading = reading_push xs x n here c.loop.reading (record c.loop.reading { starts = c.push.new.self }) c.take_next.new.self (omega (arith, inv.size)) inv.reading
+            (rw (← c.place-first.ensures.is, ← c.place.ensures.is) c.in_ok-push.ensures) refl refl step.takes;
         filling = rw raws (fill_goes_on (blamed instruction) c.args.byte_count c.loop.counter (raws_in xs) _ _ _ _ _ _ _ instruction-exact instruction-some (omega (arith, c.place-first.ensures.bound, c.place-first.ensures.is)) (omega (arith, c.requires.small)) inv.room c.loop-test.true
             (omega (arith, c.if-here-byte_count.false, c.place.ensures.is, c.place-first.ensures.is, inv.size)) inv.filling step.says_so);
         some = All-push (λ (p : Raw × ℕ). 0 < p.1) xs (x, n) inv.some (omega (arith, step.moves));

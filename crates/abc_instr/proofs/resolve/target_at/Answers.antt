@@ -4,4 +4,4 @@ use Rattle.abc_tables.proofs.Resolving.{at_number}
 use Rattle.abc_instr.proofs.resolve.target_at.Goals as goal
 
 pub returns : goal.returns
-returns c = c.number_of.ensures ∙ at_number _ (pos c.args.base +ℤ c.args.offset) _ (omega (arith, ints))
+returns c = c.find.ensures ∙ at_number _ (pos c.args.base +ℤ c.args.offset) _ (omega (arith, ints))

@@ -1,17 +1,15 @@
 use mir.Val.{SFits}
-use Rattle.std.proofs.Common.{◌≡◌, ◌∙◌, ◌∷◌, ◌++◌, [], List, None, Some, length, sym, ap, refl, arith, rules}
+use Rattle.std.proofs.Common.{◌≡◌, ◌∙◌, ℤ, None, Some, sym, ap, refl, rules}
 use Rattle.std.proofs.lemmas.Int.{to_z-of_z}
-use Rattle.std.proofs.lemmas.List.{append-nil}
-use Rattle.std.specs.Int.{w32}
-use Rattle.abc_tables.specs.declared.code.Instr.{Instr}
-use Rattle.abc_instr.specs.declared.raw.RawInstr.{RawInstr as Raw}
+use Rattle.std.specs.Int.{w32, cast_unsigned}
+use Rattle.abc_tables.specs.Instructions.{Branch}
+use Rattle.abc_tables.specs.declared.code.Instr.TheVariants as instrs
 use Rattle.abc_instr.specs.declared.raw.RawInstr.TheVariants as raws
 use Rattle.abc_instr.specs.Fronts.{branch_in}
-use Rattle.abc_instr.specs.Reading.{aims_in, blank, done_in}
+use Rattle.abc_instr.specs.Reading.{done_in}
 use Rattle.abc_instr.specs.Scanning.{jump_in}
-use Rattle.abc_instr.proofs.Aiming.{done_is, waited}
+use Rattle.abc_instr.proofs.Aiming.{done, waited}
 use Rattle.abc_instr.proofs.Fronts.{passed, taken}
-use Rattle.abc_instr.proofs.Scanned.{kept}
 use Rattle.abc_instr.proofs.reading.Reading.take_next.Goals as goal
 
 pub returns-in-Some-Put-clause-value : goal.returns-in-Some-Put-clause-value
@@ -27,7 +25,7 @@ returns-in-Some-Put-clause-value g c =
       passes = moves.passes;
       room = moves.room;
       raw = front.raw;
-      takes = record { instrs = front.put ∙ ap (λ (l : List Instr). c.args.self.now.instrs ++ l) (done_is front.instr none); aims = rw none (sym (append-nil c.args.self.now.aims.items)); starts = refl };
+      takes = done front.instr c.args.self.now _ front.raw none front.put refl refl;
       says_so = taken done_in f _ _ _ _ _ t.0 t.1 front;
     }
 
@@ -48,6 +46,6 @@ returns-in_ok-wait-in-Some-Branch-clause-value g c =
       passes = moves.passes;
       room = moves.room;
       raw = front.raw;
-      takes = waited front.instr jump _ _ _ _ c.args.self.now (record c.args.self.now { instrs = c.push_next.new.instrs }) _ some front.put wait.instrs (rw bits at (rw c.in-Some-Branch.field-0-is at wait.aims)) wait.starts refl refl (omega (arith, c.place.ensures.is)) (omega (arith, c.place.ensures.is, c.place-in-Some-Branch.ensures.is));
+      takes = waited front.instr jump (instrs.Branch c.in-Some-Branch.op (cast_unsigned w32 c.in-Some-Branch.offset)) c.args.self.now (record c.args.self.now { instrs = c.push_next.new.instrs }) _ some (ap (λ (z : ℤ). Branch c.in-Some-Branch.op z) bits) front.put refl refl wait.instrs wait.aims wait.starts;
       says_so = taken done_in f _ _ _ _ _ t.0 t.1 front;
     }

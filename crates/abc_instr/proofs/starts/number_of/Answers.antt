@@ -1,6 +1,6 @@
 use Rattle.std.proofs.Common.{Ok, Err}
 use Rattle.abc_tables.proofs.Resolving.{search_is}
-use Rattle.abc_instr.proofs.resolve.number_of.Goals as goal
+use Rattle.abc_instr.proofs.starts.number_of.Goals as goal
 
 pub returns-in-Ok : goal.returns-in-Ok
 returns-in-Ok c = search_is c.args.starts.now c.args.place (Ok c.in-Ok.i) c.requires.rising c.in-Ok.ensures.position
