@@ -192,7 +192,7 @@ aimed_is xs r is = rw (is.starts, is.aims) (aimed_all (starts 0 xs) [] 0 0 xs []
 
 -- one that waits after the other, as a loop takes them
 module _ (ss aims : List ℕ) (k a : ℕ) (lt : k < length aims) (at : a ≡ get_or aims k a) (is : List Instr) (all : Result (List Instr) Refusal) (h : aimed ss (drop k aims) is ≡ all) (j : Instr) (within : a < length is) (held : get_or is a j ≡ j) (here next : ℕ)
-  (first : here ≡ get_or ss a 0) (second : next ≡ get_or ss (a + 1) 0) where
+    (first : here ≡ get_or ss a 0) (second : next ≡ get_or ss (a + 1) 0) where
   step : aimed ss (drop k aims) is ≡ (instr_of ss here next (spelled j) >>= λ i. aimed ss (drop (k + 1) aims) (set is a i))
   step =
       let one = get_or_default is a (variants.Plain 0) j within ∙ held in

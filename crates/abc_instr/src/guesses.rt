@@ -7,10 +7,10 @@ const BLOCK: usize = 256;
 /// A table that guesses which of some rising starts a place is. A guess has to be tested, and a wrong one does no harm.
 #[derive(Debug, Drop)]
 pub struct Guesses {
-    /// For each block of places, the number of a start there, the first one.
+    /// For each block of places, the number of the first start there.
     firsts: Vec<u32>,
-    /// For each place, how many more than that the number of its start is.
-    steps: Vec<u8>,
+    /// For each place, the low byte of the number of its start.
+    bytes: Vec<u8>,
 }
 
 impl Guesses {
@@ -18,14 +18,14 @@ impl Guesses {
     pub(crate) fn new(alloc: Global) -> Guesses {
         Guesses {
             firsts: Vec::new(alloc),
-            steps: Vec::new(alloc),
+            bytes: Vec::new(alloc),
         }
     }
 
     /// Forgets all starts.
     pub(crate) fn clear(&mut self) {
         self.firsts.clear();
-        self.steps.clear();
+        self.bytes.clear();
     }
 
     /// Learns these starts, and no others.
@@ -34,7 +34,7 @@ impl Guesses {
         let Some(end) = starts.last() else {
             return Ok(());
         };
-        self.steps.resize(*end as usize + 1, 0)?;
+        self.bytes.resize(*end as usize + 1, 0)?;
         let mut number: u32 = 0;
         for place in starts {
             self.add(*place as usize, number)?;
@@ -46,14 +46,20 @@ impl Guesses {
     /// Adds a start.
     #[inline(always)]
     fn add(&mut self, place: usize, number: u32) -> Result<(), NoMemory> {
-        let block = place / BLOCK;
-        if block >= self.firsts.len() {
-            self.firsts.resize(block + 1, number)?;
+        if place / BLOCK >= self.firsts.len() {
+            self.begin_block(place / BLOCK, number)?;
         }
-        let first = self.firsts[block];
-        if let Some(step) = self.steps.get_mut(place) {
-            *step = (number.wrapping_sub(first) % 256) as u8;
+        if let Some(byte) = self.bytes.get_mut(place) {
+            *byte = (number % 256) as u8;
         }
+        Ok(())
+    }
+
+    /// Begins a block, with the number of its first start.
+    #[cold]
+    #[inline(never)]
+    fn begin_block(&mut self, block: usize, number: u32) -> Result<(), NoMemory> {
+        self.firsts.resize(block.saturating_add(1), number)?;
         Ok(())
     }
 
@@ -61,8 +67,10 @@ impl Guesses {
     #[inline(always)]
     pub(crate) fn guess(&self, place: u32) -> u32 {
         let place = place as usize;
-        match (self.firsts.get(place / BLOCK), self.steps.get(place)) {
-            (Some(first), Some(step)) => first.wrapping_add(*step as u32),
+        match (self.firsts.get(place / BLOCK), self.bytes.get(place)) {
+            (Some(first), Some(byte)) => {
+                first.wrapping_add((*byte as u32).wrapping_sub(*first) % 256)
+            }
             _ => 0,
         }
     }

@@ -111,6 +111,7 @@ impl Reading {
         ensures keeps { Keeps w.old w.new result }
     {
         let instr = read_raw(alloc, w, source)?;
+        let _next = w.place();
         self.keep(alloc, instr)?;
         Ok(())
     }

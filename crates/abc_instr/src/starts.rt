@@ -9,7 +9,7 @@ use std::marker::Model;
 use std::mem;
 
 /// For so many starts it takes as long to learn them as to search once.
-const STARTS_A_SEARCH: usize = 32;
+const STARTS_A_SEARCH: usize = 16;
 
 /// Where instructions start in their code, and then how many bytes it has. Contracts see it as that list. A table, whose
 /// memory serves one code after the other, guesses which of them a place is.

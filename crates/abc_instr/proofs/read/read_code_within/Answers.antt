@@ -4,11 +4,14 @@ use Rattle.abc_format.specs.declared.reason.Reason.TheVariants as reasons
 use Rattle.abc_varint.specs.Reads.{known}
 use Rattle.abc_varint.proofs.Inputs.{known_is}
 use Rattle.abc_instr.specs.Reading.{code_from, with_starts}
-use Rattle.abc_instr.proofs.Aiming.{aims_are, code_of, code_read, code_refused, missed_near, resolved}
+use Rattle.abc_instr.proofs.Aiming.{aims_are, code_of, code_read, code_refused, missed_near, places_are, resolved}
 use Rattle.abc_instr.proofs.read.read_code_within.Goals as goal
 
-pub take_instrs-requires : goal.take_instrs-requires
-take_instrs-requires g c = let v = c.in_ok-read_pieces.ensures.value in aims_are c.in_ok-length.length v.0 c.read_pieces.new.reading c.in_ok-length.ensures.small v.1 v.2
+pub take_instrs-requires-clause-places : goal.take_instrs-requires-clause-places
+take_instrs-requires-clause-places g c = let v = c.in_ok-read_pieces.ensures.value in places_are c.in_ok-length.length v.0 c.read_pieces.new.reading c.in_ok-length.ensures.small v.1 v.2
+
+pub take_instrs-requires-clause-aims : goal.take_instrs-requires-clause-aims
+take_instrs-requires-clause-aims g c = let v = c.in_ok-read_pieces.ensures.value in aims_are v.0 c.read_pieces.new.reading v.1
 
 pub overflow_add-result : goal.overflow_add-result
 overflow_add-result g c =

@@ -1,4 +1,5 @@
 use Rattle.std.proofs.Common.{◌≡◌, ℕ, ◌-◌, ◌+◌, ◌<◌, ◌++◌, ◌∷◌, [], ap, length, refl, arith}
+use Rattle.std.specs.Prelude.{map}
 use Rattle.std.proofs.lemmas.List.{map-append}
 use Rattle.std.proofs.lemmas.List.Elements.{All-nil, All-push}
 use Rattle.std.proofs.lemmas.Result.{err_from_is_err_and}
@@ -9,6 +10,7 @@ use Rattle.abc_tables.specs.Instructions.{instruction, pieces}
 use Rattle.abc_tables.proofs.CodeParts.{instruction-exact, instruction-some}
 use Rattle.abc_tables.proofs.Resolving.{size-push}
 use Rattle.abc_instr.specs.Offsets.{raw_of}
+use Rattle.abc_instr.specs.Reading.{spelled}
 use Rattle.abc_instr.specs.Scanning.{instrs_in, raws_in}
 use Rattle.abc_instr.proofs.Resolved.{raw_push, raws_len-push}
 use Rattle.abc_instr.proofs.Aiming.{as_few, read_count, reading_push}
@@ -19,7 +21,7 @@ loop-init g c =
     let e = c.begin.ensures in (
       [],
       record {
-        reading = record { starts = e.starts; instrs = e.instrs; aims = e.aims };
+        reading = record { starts = e.starts; instrs = ap (map spelled) e.instrs; aims = e.aims };
         filling = fill_starts (blamed instruction) c.args.byte_count c.args.w.now (g.S.Source.left c.args.source.now) c.requires.fresh c.requires.end;
         some = All-nil (λ (x : Raw × ℕ). 0 < x.1);
         raw = tt;

@@ -1,7 +1,7 @@
 use mir.Val.{SFits}
 use Rattle.std.proofs.Common.{◌≡◌, ◌∙◌, ℤ, None, Some, sym, ap, refl, rules}
 use Rattle.std.proofs.lemmas.Int.{to_z-of_z}
-use Rattle.std.specs.Int.{w32, cast_unsigned}
+use Rattle.std.specs.Int.{w32, cast_signed}
 use Rattle.abc_tables.specs.Instructions.{Branch}
 use Rattle.abc_tables.specs.declared.code.Instr.TheVariants as instrs
 use Rattle.abc_instr.specs.declared.raw.RawInstr.TheVariants as raws
@@ -39,6 +39,7 @@ returns-in_ok-wait-in-Some-Branch-clause-value g c =
     let some : Some jump ≡ jump_in front.instr = sym (ap branch_in c.in-Some-Branch.field-0-is) ∙ front.told in
     let fits : SFits w32 c.in-Some-Branch.offset = search rules in
     let bits = to_z-of_z w32 c.in-Some-Branch.offset fits in
+    let same : cast_signed w32 c.cast_unsigned.result ≡ c.in-Some-Branch.offset = ap (cast_signed w32) (rw c.in-Some-Branch.field-0-is at c.cast_unsigned.ensures) ∙ simp bits in
     let moves = passed done_in f _ _ _ _ t.0 t.1 front in
     record {
       instr = front.instr;
@@ -46,6 +47,6 @@ returns-in_ok-wait-in-Some-Branch-clause-value g c =
       passes = moves.passes;
       room = moves.room;
       raw = front.raw;
-      takes = waited front.instr jump (instrs.Branch c.in-Some-Branch.op (cast_unsigned w32 c.in-Some-Branch.offset)) c.args.self.now (record c.args.self.now { instrs = c.push_next.new.instrs }) _ some (ap (λ (z : ℤ). Branch c.in-Some-Branch.op z) bits) front.put refl refl wait.instrs wait.aims wait.starts;
+      takes = waited front.instr jump (instrs.Branch c.in-Some-Branch.op c.cast_unsigned.result) c.args.self.now (record c.args.self.now { instrs = c.push_next.new.instrs }) _ some (ap (λ (z : ℤ). Branch c.in-Some-Branch.op z) same) front.put refl refl (rw c.in-Some-Branch.field-0-is at wait.instrs) wait.aims wait.starts;
       says_so = taken done_in f _ _ _ _ _ t.0 t.1 front;
     }
