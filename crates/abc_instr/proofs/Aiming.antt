@@ -19,11 +19,9 @@ use Rattle.abc_tables.proofs.Resolving.{drop_read, few_starts, length-starts, mi
 use Rattle.abc_instr.specs.declared.raw.RawInstr.{RawInstr as Raw}
 use Rattle.abc_instr.specs.declared.raw.RawInstr.TheVariants as raws
 use Rattle.abc_instr.specs.declared.reading.Reading.{Reading}
-use Rattle.abc_instr.specs.declared.resolve.Missed.{Missed}
-use Rattle.abc_instr.specs.declared.resolve.Missed.TheVariants as missed
 use Rattle.abc_instr.specs.Offsets.{IsRaw, has_targets, raw_of}
-use Rattle.abc_instr.specs.Reading.{ArePlaces, IsRead, IsReading, Takes, aimed, aims_from, aims_in, code_from, done_in, raws_of, spelled, starts_before, with_starts}
-use Rattle.abc_instr.specs.Resolving.{Resolves, onto}
+use Rattle.abc_instr.specs.Reading.{AreSmallStarts, IsRead, IsReading, Takes, aimed, aims_from, aims_in, done_in, raws_of, spelled, starts_before, with_starts}
+use Rattle.abc_instr.specs.Resolving.{onto}
 use Rattle.abc_instr.specs.Scanning.{AreRead, jump_in, raws_in}
 use Rattle.abc_instr.proofs.Passing.{raws_size, raws_some, raws_starts}
 use Rattle.abc_instr.proofs.Resolved.{resolved_ready}
@@ -104,7 +102,7 @@ aims_ok n i (x ∷ xs) le =
 pub aims_are : (xs : List (Raw × ℕ)) (r : Reading) → IsRead xs r → All (λ a. a < length r.instrs) r.aims.items
 aims_are xs r is = rw (read_count xs r.instrs is.instrs, is.aims) (aims_ok (length xs) 0 xs (omega arith))
 
-pub places_are : (n : ℕ) (xs : List (Raw × ℕ)) (r : Reading) → n < 2 ^ 23 → IsRead xs r → AreRead n xs → ArePlaces (length r.instrs) r.starts
+pub places_are : (n : ℕ) (xs : List (Raw × ℕ)) (r : Reading) → n < 2 ^ 23 → IsRead xs r → AreRead n xs → AreSmallStarts (length r.instrs) r.starts
 places_are n xs r small is read = record {
   rising = subst IsRising (sym is.starts) (starts_rising xs read.some);
   count = omega (arith, ap length is.starts, length-starts 0 xs, read_count xs r.instrs is.instrs);
@@ -201,10 +199,6 @@ module _ (ss aims : List ℕ) (k a : ℕ) (lt : k < length aims) (at : a ≡ get
   pub aims_on : (y : Instr) → instr_of ss here next (spelled j) ≡ Ok y → aimed ss (drop (k + 1) aims) (set (set is a (variants.Plain 0)) a y) ≡ all
   aims_on y e =
       ap (aimed ss (drop (k + 1) aims)) (set-set is a (variants.Plain 0) y) ∙ sym (ap (λ (r : Result Instr Refusal). r >>= λ i. aimed ss (drop (k + 1) aims) (set is a i)) e) ∙ sym step ∙ h
-
-  pub aims_wrong : (m : Missed) → Resolves {A = Instr} (instr_of ss here next (spelled j)) (Err m) → Resolves {A = List Instr} all (Err m)
-  aims_wrong (missed.Target place) e = sym h ∙ step ∙ ap (λ (r : Result Instr Refusal). r >>= λ i. aimed ss (drop (k + 1) aims) (set is a i)) e
-  aims_wrong missed.NoMemory e = tt
 
 -- ---- one instruction
 

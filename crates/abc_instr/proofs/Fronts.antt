@@ -20,7 +20,6 @@ use Rattle.abc_tables.proofs.CodeParts.{instruction-exact}
 use Rattle.abc_varint.proofs.Front.{front_taken}
 use Rattle.abc_varint.specs.Reads.{Reads}
 use Rattle.abc_varint.specs.Ready.{IsReady}
-use Rattle.abc_tables.specs.CodeBytes.{instr_len}
 use Rattle.abc_varint.specs.View.{GoesOver, View, held, onward}
 use Rattle.abc_varint.proofs.Inputs.{among}
 use Rattle.abc_instr.specs.Fronts.{IsFront, count_of}

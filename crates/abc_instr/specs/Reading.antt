@@ -99,7 +99,7 @@ aimed ss [] is = Ok is
 aimed ss (a ∷ more) is = instr_of ss (get_or ss a 0) (get_or ss (a + 1) 0) (spelled (get_or is a (instrs.Plain 0))) >>= λ i. aimed ss more (set is a i)
 
 -- They are the starts of n instructions and their end, and small, as places in code are.
-pub record ArePlaces (n : ℕ) (ss : List ℕ) : Type 0 where
+pub record AreSmallStarts (n : ℕ) (ss : List ℕ) : Type 0 where
   pub rising : IsRising ss
   pub count : length ss ≡ n + 1
   pub few : length ss < 2 ^ 32

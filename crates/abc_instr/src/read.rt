@@ -5,7 +5,7 @@ ghost use Rattle.abc_tables.specs.Ready.{IsReady};
 ghost use Rattle.abc_tables.specs.Starts.{IsRising};
 ghost use Rattle.abc_varint.specs.Answers.{Answers};
 ghost use Rattle.abc_varint.specs.Reads.{ReadsPart};
-ghost use Rattle.abc_instr.specs.Reading.{ArePlaces, aimed, with_offsets};
+ghost use Rattle.abc_instr.specs.Reading.{AreSmallStarts, aimed, with_offsets};
 ghost use Rattle.abc_instr.specs.Resolving.{Resolves};
 
 use crate::reading::{Reading, read_pieces};
@@ -37,7 +37,7 @@ pub fn read_length<S: Source>(w: &mut Window, source: &mut S) -> Result<u32, Rea
 
 /// Gives the instructions that were read their targets, and takes them out. The starts stay.
 fn take_instrs(alloc: Global, reading: &mut Reading) -> Result<Table<Instr>, Missed>
-    requires places { ArePlaces (length (reading.old).instrs) (reading.old).starts }
+    requires places { AreSmallStarts (length (reading.old).instrs) (reading.old).starts }
     requires aims { All (λ a. a < length (reading.old).instrs) (reading.old).aims.items }
     ensures value { Resolves (aimed (reading.old).starts (reading.old).aims.items (reading.old).instrs) result }
     ensures starts { (reading.new).starts ≡ (reading.old).starts }

@@ -3,7 +3,7 @@ ghost use Rattle.std.specs.Int.{w32, cast_signed};
 ghost use Rattle.abc_tables.specs.Starts.{IsRising};
 ghost use Rattle.abc_tables.specs.Targets.{target_of, found, cases_of, instr_of};
 ghost use Rattle.abc_varint.specs.Reads.{stored};
-ghost use Rattle.abc_instr.specs.Reading.{ArePlaces, aimed, spelled};
+ghost use Rattle.abc_instr.specs.Reading.{AreSmallStarts, aimed, spelled};
 ghost use Rattle.abc_instr.specs.Resolving.{Resolves};
 ghost use Rattle.abc_instr.specs.declared.resolve.Missed.TheVariants as missed;
 
@@ -114,7 +114,7 @@ pub fn resolve_all(
     aims: &[u32],
     instrs: &mut Table<Instr>,
 ) -> Result<(), Missed>
-    requires places { ArePlaces (length instrs.old) starts.now }
+    requires places { AreSmallStarts (length instrs.old) starts.now }
     requires aims { All (λ a. a < length instrs.old) aims.now }
     ensures { Resolves (aimed starts.now aims.now instrs.old) (stored result instrs.new) }
 {
