@@ -18,7 +18,8 @@ ghost use Rattle.abc_tables.specs.declared.code.Instr.TheVariants.{Branch, One, 
 
 use abc_link::Linked;
 use abc_membersteps::{
-    run_call_value, run_construct, run_construct_property, run_property, run_property_call,
+    run_call_value, run_construct, run_construct_property, run_property, run_property_at_once,
+    run_property_call,
 };
 use abc_newsteps::{run_new, run_scope};
 use abc_objectsteps::{run_late, run_next, run_slot, run_walk};
@@ -452,6 +453,9 @@ pub(crate) fn property_arm(
     ensures goes { result ≡ true → left.new ≡ Ok Goes }
     ensures limit { s.new.given.limit ≡ s.old.given.limit }
 {
+    if run_property_at_once(linked, s, op, n) {
+        return true;
+    }
     goes(run_property(linked, s, op, n), left)
 }
 

@@ -1,2 +1,3 @@
 pub mod Making
 pub mod MemberOps
+pub use Rattle.abc_propertyarms.proofs.AtOnce

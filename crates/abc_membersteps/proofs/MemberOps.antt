@@ -1,5 +1,7 @@
 -- What the instructions on properties, calls and `new` do, by their opcodes.
-use Rattle.std.proofs.Common.{◌≡◌, ℕ, ◌+◌, ◌≤◌, [], ◌∷◌, length, true, false, refl, sym, ap, ◌∙◌, subst, arith}
+use Rattle.std.proofs.Common.{◌≡◌, ℕ, ◌+◌, ◌≤◌, [], ◌∷◌, length, Bool, true, false, refl, sym, ap, ◌∙◌, subst, arith}
+use Rattle.abc_propertyarms.proofs.AtOnce.{done_as}
+use Rattle.abc_propertyarms.specs.AtOnce.{IsDoneIf}
 use Rattle.abc_propertyarms.specs.CallarmsCalls.{calls_value, makes_value}
 use Rattle.abc_propertyarms.specs.MemberarmsMembers.{calls_named, constructs_named, constructs_of, gets_named, parts_at, sets_named}
 use Rattle.abc_propertyarms.specs.Named.{form_at, named_here, parts_for}
@@ -12,7 +14,7 @@ use Rattle.abc_shapes.specs.Rows.{Shape, row_at, table}
 use Rattle.abc_shapes.specs.declared.row.Need.TheVariants.{Value as OneValue}
 use Rattle.abc_stacks.specs.Frame.{arguments, newest}
 use Rattle.abc_states.proofs.Turning.{and_then_same}
-use Rattle.abc_states.specs.ActsAt.{Doing, makes_of, one}
+use Rattle.abc_states.specs.ActsAt.{Act, Doing, makes_of, one}
 use Rattle.abc_states.specs.ActsNames.{name_of}
 use Rattle.abc_states.specs.ActsTable.{act_of, acts}
 use Rattle.abc_states.specs.Operands.{operand_at}
@@ -20,7 +22,7 @@ use Rattle.abc_states.specs.Outer.{Outer, setting, world}
 use Rattle.abc_states.specs.Turns.{Turned, turned}
 use Rattle.abc_states.specs.WorldMaking.{new}
 use Rattle.abc_states.specs.WorldMembers.{reads}
-use Rattle.abc_states.specs.World.{and_then, ◌>>=◌}
+use Rattle.abc_states.specs.World.{Run, and_then, ◌>>=◌}
 use Rattle.abc_states.specs.declared.state.How.TheVariants.{Drop, Push}
 use Rattle.abc_states.specs.declared.state.State.{State}
 use Rattle.abc_tables.specs.declared.code.Instr.{Instr}
@@ -32,6 +34,10 @@ use Rattle.abc_membersteps.proofs.Making.{makes_as}
 -- an opcode that is known
 pub known_at : (l : LinkedFile) (out : Outer) (s : State) (mk : ℕ → Instr) (op k : ℕ) (x : Turned) → op ≡ k → turned (setting l out) s.frames (act_here (setting l out) (newest s.frames) (mk k) (world s out)) ≡ x → turned (setting l out) s.frames (act_here (setting l out) (newest s.frames) (mk op) (world s out)) ≡ x
 known_at l out s mk op k x e r = ap (λ (o : ℕ). turned (setting l out) s.frames (act_here (setting l out) (newest s.frames) (mk o) (world s out))) e ∙ r
+
+-- what is done at once, by an opcode that is known
+pub done_at : (b : Bool) (l : LinkedFile) (out : Outer) (s new : State) (mk : ℕ → Instr) (op k n g : ℕ) (m : Run Act) → op ≡ k → Does l out s (mk k) n g m → IsDoneIf b l out m s new → IsDoneIf b l out (act_here (setting l out) (newest s.frames) (mk op)) s new
+done_at b l out s new mk op k n g m e d h = done_as b l out (act_here (setting l out) (newest s.frames) (mk op)) m s new (ap (λ (o : ℕ). act_here (setting l out) (newest s.frames) (mk o) (world s out)) e ∙ d.does) h
 
 -- ---- properties
 

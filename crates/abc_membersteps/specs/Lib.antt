@@ -1,2 +1,3 @@
 pub mod Groups
 pub use Rattle.abc_propertyarms.specs.CallarmsCalls
+pub use Rattle.abc_propertyarms.specs.AtOnce

@@ -1,4 +1,5 @@
 ghost use Rattle.std.specs.Prelude.{◌≡◌, true};
+ghost use Rattle.abc_propertyarms.specs.AtOnce.{IsDoneIf};
 ghost use Rattle.abc_propertyarms.specs.EnteringArguments.{IsKnown};
 ghost use Rattle.abc_taking.specs.PlainstepsHere.{act_here};
 ghost use Rattle.abc_taking.specs.PlainstepsReady.{CanRun};
@@ -10,7 +11,7 @@ ghost use Rattle.abc_tables.specs.declared.code.Instr.TheVariants.{One};
 ghost use Rattle.abc_membersteps.specs.Groups.{property_ops};
 
 use abc_link::Linked;
-use abc_propertyarms::{get_property, set_property};
+use abc_propertyarms::{get_property, gets_at_once, set_property, sets_at_once};
 use abc_states::{State, Stop};
 use abc_taking::run_delete;
 
@@ -29,5 +30,20 @@ pub fn run_property(linked: &Linked, s: &mut State, op: u8, n: u32) -> Result<()
         0x68 => set_property(linked, s, n, true),
         0x6A => run_delete(linked, s, n),
         _ => unreachable!(),
+    }
+}
+
+/// What reads and writes a property, where it needs no search: whether it is done; else nothing is.
+#[inline(always)]
+pub fn run_property_at_once(linked: &Linked, s: &mut State, op: u8, n: u32) -> bool
+    ghost out: { Outer }
+    requires run { CanRun linked.now out s.old (One op n) }
+    ensures { IsDoneIf result linked.now out (act_here (setting linked.now out) (newest s.old.frames) (One op n)) s.old s.new }
+{
+    match op {
+        0x61 => sets_at_once(linked, s, n, false),
+        0x66 => gets_at_once(linked, s, n),
+        0x68 => sets_at_once(linked, s, n, true),
+        _ => false,
     }
 }

@@ -1,10 +1,9 @@
 -- What is done at once by a name of which no part comes at run time.
-use Rattle.std.proofs.Common.{◌≡◌, ℕ, ◌+◌, [], ◌∷◌, Bool, true, false, cond, refl, sym, ap, ◌∙◌, arith}
+use Rattle.std.proofs.Common.{◌≡◌, ℕ, ◌+◌, [], ◌∷◌, Bool, true, false, cond, refl, sym, ap, ◌∙◌, subst, arith}
 use Rattle.std.specs.Prelude.{Some, None}
 use Rattle.std.specs.declared.option.Option.{Option}
 use Rattle.abc_memberarms.specs.CallarmsCalls.{settled_by}
 use Rattle.abc_cells.specs.declared.values.ObjId.{ObjId}
-use Rattle.abc_cells.specs.declared.values.Span.{Span}
 use Rattle.abc_cells.specs.declared.values.Value.{Value}
 use Rattle.abc_cells.specs.declared.values.Value.TheVariants as values
 use Rattle.abc_heap.specs.Heap.{object_at}
@@ -16,6 +15,8 @@ use Rattle.abc_makers.specs.Names.{named}
 use Rattle.abc_memberarms.specs.Named.{form_at, parts_count, parts_for}
 use Rattle.abc_objects.specs.Values.{IsObject}
 use Rattle.abc_program.specs.declared.types.Owner.{Owner}
+use Rattle.abc_program.specs.Linked.{LinkedFile}
+use Rattle.abc_propertyarms.specs.AtOnce.{IsDoneIf}
 use Rattle.abc_search.specs.Candidates.{layout_at}
 use Rattle.abc_search.specs.ElementNames.{element_name}
 use Rattle.abc_search.specs.declared.found.Found.{Found}
@@ -24,8 +25,12 @@ use Rattle.abc_search.specs.declared.found.Want.TheVariants.{Read, Write}
 use Rattle.abc_search.specs.declared.name.Name.{Name}
 use Rattle.abc_search.specs.declared.name.Spaces.{Spaces}
 use Rattle.abc_stacks.specs.Frame.{Frame, arguments}
+use Rattle.abc_states.specs.ActsAt.{Act}
 use Rattle.abc_states.specs.Operands.{operand_at}
+use Rattle.abc_states.specs.Outer.{Outer, setting, world}
 use Rattle.abc_states.specs.Settling.{settles}
+use Rattle.abc_states.specs.Turns.{turned}
+use Rattle.abc_states.specs.declared.state.State.{State}
 use Rattle.abc_states.specs.declared.state.How.{How}
 use Rattle.abc_states.specs.declared.state.How.TheVariants.{Drop, Push}
 use Rattle.abc_states.specs.WorldCalling.{Came, Got, got}
@@ -36,6 +41,20 @@ use Rattle.abc_memberarms.specs.Members.{calls_named, enters_found, gets_named, 
 use Rattle.abc_memberarms.proofs.Cases.{calls_as, method_at, missing_written, public_kept, reads_as, writes_as}
 use Rattle.abc_memberarms.proofs.Searched.{property_first}
 use Rattle.abc_memberarms.proofs.Written.{dynamic_takes, own_written, property_written}
+
+-- ---- an act may be said otherwise
+
+pub done_as : (b : Bool) (l : LinkedFile) (out : Outer) (a k : Run Act) (old new : State) → a (world old out) ≡ k (world old out) → IsDoneIf b l out k old new → IsDoneIf b l out a old new
+done_as true l out a k old new e h = (ap (turned (setting l out) old.frames) e ∙ h.0, h.1)
+done_as false l out a k old new e h = h
+
+-- ---- whether it is done
+
+pub is_done : (b : Bool) (l : LinkedFile) (out : Outer) (act : Run Act) (old new : State) → IsDoneIf b l out act old new → b ≡ true → IsDoneIf true l out act old new
+is_done b l out act old new h e = subst (λ (x : Bool). IsDoneIf x l out act old new) e h
+
+pub not_done : (b : Bool) (l : LinkedFile) (out : Outer) (act : Run Act) (old new : State) → IsDoneIf b l out act old new → b ≡ false → new ≡ old
+not_done b l out act old new h e = subst (λ (x : Bool). IsDoneIf x l out act old new) e h
 
 -- ---- read
 

@@ -2,9 +2,10 @@ ghost use Rattle.std.specs.Prelude.{◌≡◌, ◌+◌, ◌<◌, ◌^◌, Bool, 
 ghost use Rattle.abc_heap.specs.Texts.{IsText};
 ghost use Rattle.abc_moves.specs.Ready.{IsReady};
 ghost use Rattle.abc_objects.specs.Stands.{StandsOver};
-ghost use Rattle.abc_objects.specs.Values.{IsObject};
+ghost use Rattle.abc_objects.specs.Values.{Exists, IsObject};
 ghost use Rattle.abc_stacks.specs.Frame.{newest};
 ghost use Rattle.abc_cells.specs.declared.values.Value.TheVariants.{Obj};
+ghost use Rattle.abc_propertyarms.specs.AtOnce.{IsDoneIf};
 ghost use Rattle.abc_memberarms.specs.EnteringArguments.{IsKnown};
 ghost use Rattle.abc_memberarms.specs.CallarmsCalls.{CanFinish};
 ghost use Rattle.abc_memberarms.specs.Named.{form_at};
@@ -13,139 +14,74 @@ ghost use Rattle.abc_states.specs.Outer.{Outer, setting, world};
 ghost use Rattle.abc_states.specs.Settling.{given_by, taken_by};
 ghost use Rattle.abc_states.specs.Standing.{IsSet};
 ghost use Rattle.abc_states.specs.Stops.{IsOpen};
-ghost use Rattle.abc_states.specs.Turns.{Leaves, Runs};
+ghost use Rattle.abc_states.specs.Turns.{Leaves};
 ghost use Rattle.abc_states.specs.WorldMembers.{writes_to};
-ghost use Rattle.abc_states.specs.WorldSetting.{NoText, Whole};
+ghost use Rattle.abc_states.specs.WorldSetting.{Whole};
 ghost use Rattle.abc_memberarms.specs.Members.{calls_named, gets_named, parts_at, puts_own, puts_top, sets_named};
 
-use crate::searching::{call_searching, get_searching, set_searching};
+use crate::elements::{gets_late, sets_late};
+use crate::searching::call_searching;
 use abc_cells::{ObjId, Span, Value};
 use abc_link::Linked;
-use abc_lookup::{Found, Name, Spaces, first_method, is_plain};
-use abc_makers::put_property;
-use abc_memberarms::{
-    call_object_method, find_at_once, is_dynamic, late_text, read_on_object, with_text,
-    write_on_object,
-};
+use abc_lookup::{Found, Name, first_method, is_plain};
+use abc_memberarms::{call_object_method, find_at_once, is_dynamic, whole_name};
 use abc_states::{How, Left, State, Stop, operand, settle};
 
-// (What is common needs no search: it stands in functions that hand on neither a name nor an answer through memory. All else is done
-// by functions that begin anew.)
+// (What is common needs no search: it stands in functions that hand on no name through memory, and answer whether they did it. All
+// else is done by functions that begin anew.)
 
-/// `getproperty` on an object, by a name of which no part comes at run time: what is found at once is read.
+/// `getproperty` on an object, by a name of which no part comes at run time: whether it is done, as it is where a property is found
+/// at once; else nothing is.
 #[inline(always)]
-fn get_on_object(
-    linked: &Linked,
-    s: &mut State,
-    name: u32,
-    wanted: &Name,
-    o: ObjId,
-) -> Result<(), Stop>
+fn gets_on_object(linked: &Linked, s: &mut State, name: u32, wanted: &Name, o: ObjId) -> bool
     ghost out: { Outer }
     requires set { IsSet linked.now s.old }
-    requires known { IsKnown linked.now s.old.given.limit }
     requires ready { IsReady (parts_at (setting linked.now out) name + 1) 1 s.old.frames }
     requires form { form_at (setting linked.now out) name ≡ Some (Whole wanted.now) }
     requires text { IsText linked.now.file.strings s.old.arena wanted.now.text }
     requires holder { operand_at 0 (newest s.old.frames) ≡ Obj o }
     requires inside { IsObject s.old.arena o }
-    requires free { IsOpen (gets_named (setting linked.now out) name (newest s.old.frames) (world s.old out)) }
-    ensures runs { Runs linked.now out (gets_named (setting linked.now out) name (newest s.old.frames)) s.old result s.new }
-    ensures limit { s.new.given.limit ≡ s.old.given.limit }
+    ensures { IsDoneIf result linked.now out (gets_named (setting linked.now out) name (newest s.old.frames)) s.old s.new }
 {
+    let _ = name;
     let found = find_at_once(linked, s, o, wanted);
     match found {
         Found::Property { value, .. } => {
             settle(&mut s.frames, How::Push(1), value);
-            Ok(())
+            true
         }
-        _ => get_searching(linked, s, name),
+        _ => false,
     }
 }
 
-/// `getproperty` by a name of which no part comes at run time.
+/// `getproperty` by a name of which no part comes at run time: whether it is done; else nothing is.
 #[inline(always)]
-pub(crate) fn get_whole(
-    linked: &Linked,
-    s: &mut State,
-    name: u32,
-    wanted: &Name,
-) -> Result<(), Stop>
+fn gets_whole(linked: &Linked, s: &mut State, name: u32, wanted: &Name) -> bool
     ghost out: { Outer }
     requires set { IsSet linked.now s.old }
-    requires known { IsKnown linked.now s.old.given.limit }
     requires ready { IsReady (parts_at (setting linked.now out) name + 1) 1 s.old.frames }
     requires form { form_at (setting linked.now out) name ≡ Some (Whole wanted.now) }
     requires text { IsText linked.now.file.strings s.old.arena wanted.now.text }
-    requires free { IsOpen (gets_named (setting linked.now out) name (newest s.old.frames) (world s.old out)) }
-    ensures runs { Runs linked.now out (gets_named (setting linked.now out) name (newest s.old.frames)) s.old result s.new }
-    ensures limit { s.new.given.limit ≡ s.old.given.limit }
+    ensures { IsDoneIf result linked.now out (gets_named (setting linked.now out) name (newest s.old.frames)) s.old s.new }
 {
     let v = operand(&s.frames, 0);
     match v {
-        Value::Obj(o) => get_on_object(linked, s, name, wanted, o),
-        _ => get_searching(linked, s, name),
+        Value::Obj(o) => gets_on_object(linked, s, name, wanted, o),
+        _ => false,
     }
 }
 
-/// `getproperty` on an object, by a name of which the text alone comes at run time.
+/// `getproperty`, where it needs no search: whether it is done; else nothing is.
 #[inline(always)]
-fn get_text_on_object(
-    linked: &Linked,
-    s: &mut State,
-    name: u32,
-    spaces: Spaces,
-    o: ObjId,
-) -> Result<(), Stop>
+pub fn gets_at_once(linked: &Linked, s: &mut State, name: u32) -> bool
     ghost out: { Outer }
     requires set { IsSet linked.now s.old }
-    requires known { IsKnown linked.now s.old.given.limit }
     requires ready { IsReady (parts_at (setting linked.now out) name + 1) 1 s.old.frames }
-    requires form { form_at (setting linked.now out) name ≡ Some (NoText spaces) }
-    requires holder { operand_at 1 (newest s.old.frames) ≡ Obj o }
-    requires inside { IsObject s.old.arena o }
-    requires free { IsOpen (gets_named (setting linked.now out) name (newest s.old.frames) (world s.old out)) }
-    ensures runs { Runs linked.now out (gets_named (setting linked.now out) name (newest s.old.frames)) s.old result s.new }
-    ensures limit { s.new.given.limit ≡ s.old.given.limit }
+    ensures { IsDoneIf result linked.now out (gets_named (setting linked.now out) name (newest s.old.frames)) s.old s.new }
 {
-    let asked = operand(&s.frames, 0);
-    let wanted = with_text(linked, s, spaces, asked)?;
-    read_on_object(linked, s, o, &wanted, How::Push(2))
-}
-
-/// `getproperty` by a name of which the text alone comes at run time.
-#[inline(always)]
-fn get_text(linked: &Linked, s: &mut State, name: u32, spaces: Spaces) -> Result<(), Stop>
-    ghost out: { Outer }
-    requires set { IsSet linked.now s.old }
-    requires known { IsKnown linked.now s.old.given.limit }
-    requires ready { IsReady (parts_at (setting linked.now out) name + 1) 1 s.old.frames }
-    requires form { form_at (setting linked.now out) name ≡ Some (NoText spaces) }
-    requires free { IsOpen (gets_named (setting linked.now out) name (newest s.old.frames) (world s.old out)) }
-    ensures runs { Runs linked.now out (gets_named (setting linked.now out) name (newest s.old.frames)) s.old result s.new }
-    ensures limit { s.new.given.limit ≡ s.old.given.limit }
-{
-    let v = operand(&s.frames, 1);
-    match v {
-        Value::Obj(o) => get_text_on_object(linked, s, name, spaces, o),
-        _ => get_searching(linked, s, name),
-    }
-}
-
-/// `getproperty` by a name of which a part comes at run time: most often its text.
-#[inline(never)]
-pub(crate) fn get_late(linked: &Linked, s: &mut State, name: u32) -> Result<(), Stop>
-    ghost out: { Outer }
-    requires set { IsSet linked.now s.old }
-    requires known { IsKnown linked.now s.old.given.limit }
-    requires ready { IsReady (parts_at (setting linked.now out) name + 1) 1 s.old.frames }
-    requires free { IsOpen (gets_named (setting linked.now out) name (newest s.old.frames) (world s.old out)) }
-    ensures runs { Runs linked.now out (gets_named (setting linked.now out) name (newest s.old.frames)) s.old result s.new }
-    ensures limit { s.new.given.limit ≡ s.old.given.limit }
-{
-    match late_text(linked, name) {
-        Some(spaces) => get_text(linked, s, name, spaces),
-        None => get_searching(linked, s, name),
+    match whole_name(linked, name) {
+        Some(wanted) => gets_whole(linked, s, name, &wanted),
+        None => gets_late(linked, s, name),
     }
 }
 
@@ -166,144 +102,129 @@ fn takes_own(linked: &Linked, s: &State, o: ObjId, name: &Name) -> bool
     is_dynamic(linked, s, Value::Obj(o))
 }
 
-/// An object takes the top operand as a property of its own, and the two top operands leave.
+/// An object takes a value, the top operand, as a property of its own, and the two top operands leave: whether it is done, as it is
+/// where there is room; else nothing is.
 #[inline(always)]
-fn put_at_once(linked: &Linked, s: &mut State, o: ObjId, text: Span) -> Result<(), Stop>
+fn puts(linked: &Linked, s: &mut State, o: ObjId, text: Span, x: Value) -> bool
     ghost out: { Outer }
     requires set { IsSet linked.now s.old }
     requires ready { IsReady 2 0 s.old.frames }
     requires inside { IsObject s.old.arena o }
     requires text { IsText linked.now.file.strings s.old.arena text }
-    ensures runs { Runs linked.now out (puts_top (setting linked.now out) o text (newest s.old.frames)) s.old result s.new }
-    ensures limit { s.new.given.limit ≡ s.old.given.limit }
+    requires value { Exists linked.now s.old.arena x }
+    requires top { x ≡ operand_at 0 (newest s.old.frames) }
+    ensures { IsDoneIf result linked.now out (puts_top (setting linked.now out) o text (newest s.old.frames)) s.old s.new }
 {
-    let x = operand(&s.frames, 0);
-    put_property(linked, s, o, text, x)?;
-    settle(&mut s.frames, How::Drop(2), Value::Undefined);
-    Ok(())
+    match s.arena.set_property(linked, o, text, x) {
+        Ok(()) => {
+            settle(&mut s.frames, How::Drop(2), Value::Undefined);
+            true
+        }
+        Err(_) => false,
+    }
 }
 
-/// `setproperty` and `initproperty` on an object, by a name of which no part comes at run time.
+/// The same as `puts`, of any value.
+#[inline(never)]
+fn puts_value(linked: &Linked, s: &mut State, o: ObjId, text: Span) -> bool
+    ghost out: { Outer }
+    requires set { IsSet linked.now s.old }
+    requires ready { IsReady 2 0 s.old.frames }
+    requires inside { IsObject s.old.arena o }
+    requires text { IsText linked.now.file.strings s.old.arena text }
+    ensures { IsDoneIf result linked.now out (puts_top (setting linked.now out) o text (newest s.old.frames)) s.old s.new }
+{
+    let x = operand(&s.frames, 0);
+    puts(linked, s, o, text, x)
+}
+
+/// The same text, in a place of its own: so one that no function is handed has no place in memory.
 #[inline(always)]
-fn set_on_object(
+fn again(text: Span) -> Span
+    ensures { result ≡ text }
+{
+    Span {
+        part: text.part,
+        start: text.start,
+        len: text.len,
+    }
+}
+
+/// The same as `puts`, of the top operand. (Most often it is a number, of which no more is copied.)
+#[inline(always)]
+fn puts_at_once(linked: &Linked, s: &mut State, o: ObjId, text: Span) -> bool
+    ghost out: { Outer }
+    requires set { IsSet linked.now s.old }
+    requires ready { IsReady 2 0 s.old.frames }
+    requires inside { IsObject s.old.arena o }
+    requires text { IsText linked.now.file.strings s.old.arena text }
+    ensures { IsDoneIf result linked.now out (puts_top (setting linked.now out) o text (newest s.old.frames)) s.old s.new }
+{
+    let top = operand(&s.frames, 0);
+    match top {
+        Value::Num(n) => puts(linked, s, o, text, Value::Num(n)),
+        _ => puts_value(linked, s, o, again(text)),
+    }
+}
+
+/// `setproperty` and `initproperty` on an object, by a name of which no part comes at run time: whether it is done, as it is where
+/// the object has no traits; else nothing is.
+#[inline(always)]
+fn sets_on_object(
     linked: &Linked,
     s: &mut State,
     name: u32,
     wanted: &Name,
     o: ObjId,
     initial: bool,
-) -> Result<(), Stop>
+) -> bool
     ghost out: { Outer }
     requires set { IsSet linked.now s.old }
-    requires known { IsKnown linked.now s.old.given.limit }
     requires ready { IsReady (parts_at (setting linked.now out) name + 2) 0 s.old.frames }
     requires form { form_at (setting linked.now out) name ≡ Some (Whole wanted.now) }
     requires text { IsText linked.now.file.strings s.old.arena wanted.now.text }
     requires holder { operand_at 1 (newest s.old.frames) ≡ Obj o }
     requires inside { IsObject s.old.arena o }
-    requires free { IsOpen (sets_named (setting linked.now out) name initial (newest s.old.frames) (world s.old out)) }
-    ensures runs { Runs linked.now out (sets_named (setting linked.now out) name initial (newest s.old.frames)) s.old result s.new }
-    ensures limit { s.new.given.limit ≡ s.old.given.limit }
+    ensures { IsDoneIf result linked.now out (sets_named (setting linked.now out) name initial (newest s.old.frames)) s.old s.new }
 {
+    let _ = name;
+    let _ = initial;
     if takes_own(linked, s, o, wanted) {
-        put_at_once(linked, s, o, wanted.text)
+        puts_at_once(linked, s, o, wanted.text)
     } else {
-        set_searching(linked, s, name, initial)
+        false
     }
 }
 
-/// `setproperty` and `initproperty` by a name of which no part comes at run time.
+/// `setproperty` and `initproperty` by a name of which no part comes at run time: whether it is done; else nothing is.
 #[inline(always)]
-pub(crate) fn set_whole(
-    linked: &Linked,
-    s: &mut State,
-    name: u32,
-    wanted: &Name,
-    initial: bool,
-) -> Result<(), Stop>
+fn sets_whole(linked: &Linked, s: &mut State, name: u32, wanted: &Name, initial: bool) -> bool
     ghost out: { Outer }
     requires set { IsSet linked.now s.old }
-    requires known { IsKnown linked.now s.old.given.limit }
     requires ready { IsReady (parts_at (setting linked.now out) name + 2) 0 s.old.frames }
     requires form { form_at (setting linked.now out) name ≡ Some (Whole wanted.now) }
     requires text { IsText linked.now.file.strings s.old.arena wanted.now.text }
-    requires free { IsOpen (sets_named (setting linked.now out) name initial (newest s.old.frames) (world s.old out)) }
-    ensures runs { Runs linked.now out (sets_named (setting linked.now out) name initial (newest s.old.frames)) s.old result s.new }
-    ensures limit { s.new.given.limit ≡ s.old.given.limit }
+    ensures { IsDoneIf result linked.now out (sets_named (setting linked.now out) name initial (newest s.old.frames)) s.old s.new }
 {
     let v = operand(&s.frames, 1);
     match v {
-        Value::Obj(o) => set_on_object(linked, s, name, wanted, o, initial),
-        _ => set_searching(linked, s, name, initial),
+        Value::Obj(o) => sets_on_object(linked, s, name, wanted, o, initial),
+        _ => false,
     }
 }
 
-/// `setproperty` and `initproperty` on an object, by a name of which the text alone comes at run time.
+/// `setproperty` and `initproperty`, which writes constant slots too, where they need no search: whether it is done; else nothing
+/// is.
 #[inline(always)]
-fn set_text_on_object(
-    linked: &Linked,
-    s: &mut State,
-    name: u32,
-    spaces: Spaces,
-    o: ObjId,
-    initial: bool,
-) -> Result<(), Stop>
+pub fn sets_at_once(linked: &Linked, s: &mut State, name: u32, initial: bool) -> bool
     ghost out: { Outer }
     requires set { IsSet linked.now s.old }
-    requires known { IsKnown linked.now s.old.given.limit }
     requires ready { IsReady (parts_at (setting linked.now out) name + 2) 0 s.old.frames }
-    requires form { form_at (setting linked.now out) name ≡ Some (NoText spaces) }
-    requires holder { operand_at 2 (newest s.old.frames) ≡ Obj o }
-    requires inside { IsObject s.old.arena o }
-    requires free { IsOpen (sets_named (setting linked.now out) name initial (newest s.old.frames) (world s.old out)) }
-    ensures runs { Runs linked.now out (sets_named (setting linked.now out) name initial (newest s.old.frames)) s.old result s.new }
-    ensures limit { s.new.given.limit ≡ s.old.given.limit }
+    ensures { IsDoneIf result linked.now out (sets_named (setting linked.now out) name initial (newest s.old.frames)) s.old s.new }
 {
-    let x = operand(&s.frames, 0);
-    let asked = operand(&s.frames, 1);
-    let wanted = with_text(linked, s, spaces, asked)?;
-    write_on_object(linked, s, o, &wanted, x, initial, How::Drop(3))
-}
-
-/// `setproperty` and `initproperty` by a name of which the text alone comes at run time.
-#[inline(always)]
-fn set_text(
-    linked: &Linked,
-    s: &mut State,
-    name: u32,
-    spaces: Spaces,
-    initial: bool,
-) -> Result<(), Stop>
-    ghost out: { Outer }
-    requires set { IsSet linked.now s.old }
-    requires known { IsKnown linked.now s.old.given.limit }
-    requires ready { IsReady (parts_at (setting linked.now out) name + 2) 0 s.old.frames }
-    requires form { form_at (setting linked.now out) name ≡ Some (NoText spaces) }
-    requires free { IsOpen (sets_named (setting linked.now out) name initial (newest s.old.frames) (world s.old out)) }
-    ensures runs { Runs linked.now out (sets_named (setting linked.now out) name initial (newest s.old.frames)) s.old result s.new }
-    ensures limit { s.new.given.limit ≡ s.old.given.limit }
-{
-    let v = operand(&s.frames, 2);
-    match v {
-        Value::Obj(o) => set_text_on_object(linked, s, name, spaces, o, initial),
-        _ => set_searching(linked, s, name, initial),
-    }
-}
-
-/// `setproperty` and `initproperty` by a name of which a part comes at run time: most often its text.
-#[inline(never)]
-pub(crate) fn set_late(linked: &Linked, s: &mut State, name: u32, initial: bool) -> Result<(), Stop>
-    ghost out: { Outer }
-    requires set { IsSet linked.now s.old }
-    requires known { IsKnown linked.now s.old.given.limit }
-    requires ready { IsReady (parts_at (setting linked.now out) name + 2) 0 s.old.frames }
-    requires free { IsOpen (sets_named (setting linked.now out) name initial (newest s.old.frames) (world s.old out)) }
-    ensures runs { Runs linked.now out (sets_named (setting linked.now out) name initial (newest s.old.frames)) s.old result s.new }
-    ensures limit { s.new.given.limit ≡ s.old.given.limit }
-{
-    match late_text(linked, name) {
-        Some(spaces) => set_text(linked, s, name, spaces, initial),
-        None => set_searching(linked, s, name, initial),
+    match whole_name(linked, name) {
+        Some(wanted) => sets_whole(linked, s, name, &wanted, initial),
+        None => sets_late(linked, s, name, initial),
     }
 }
 

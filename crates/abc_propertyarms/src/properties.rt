@@ -10,47 +10,13 @@ ghost use Rattle.abc_states.specs.declared.state.How.TheVariants.{Push};
 ghost use Rattle.abc_states.specs.Standing.{IsSet};
 ghost use Rattle.abc_states.specs.Stops.{IsOpen};
 ghost use Rattle.abc_states.specs.Turns.{Leaves, Runs};
-ghost use Rattle.abc_memberarms.specs.Members.{calls_named, constructs_named, gets_named, parts_at, sets_named};
+ghost use Rattle.abc_memberarms.specs.Members.{calls_named, constructs_named, parts_at};
 
-use crate::at_once::{call_whole, get_late, get_whole, set_late, set_whole};
+use crate::at_once::call_whole;
 use crate::searching::call_searching;
 use abc_link::Linked;
 use abc_memberarms::{call, construct_on, make, name_of, parts_of, whole_name};
 use abc_states::{How, Left, State, Stop, operand};
-
-/// `getproperty`: the object is under the runtime parts of the name.
-#[inline(always)]
-pub fn get_property(linked: &Linked, s: &mut State, name: u32) -> Result<(), Stop>
-    ghost out: { Outer }
-    requires set { IsSet linked.now s.old }
-    requires known { IsKnown linked.now s.old.given.limit }
-    requires ready { IsReady (parts_at (setting linked.now out) name + 1) 1 s.old.frames }
-    requires free { IsOpen (gets_named (setting linked.now out) name (newest s.old.frames) (world s.old out)) }
-    ensures runs { Runs linked.now out (gets_named (setting linked.now out) name (newest s.old.frames)) s.old result s.new }
-    ensures limit { s.new.given.limit ≡ s.old.given.limit }
-{
-    match whole_name(linked, name) {
-        Some(wanted) => get_whole(linked, s, name, &wanted),
-        None => get_late(linked, s, name),
-    }
-}
-
-/// `setproperty` and `initproperty`, which writes constant slots too: the value is on top.
-#[inline(always)]
-pub fn set_property(linked: &Linked, s: &mut State, name: u32, initial: bool) -> Result<(), Stop>
-    ghost out: { Outer }
-    requires set { IsSet linked.now s.old }
-    requires known { IsKnown linked.now s.old.given.limit }
-    requires ready { IsReady (parts_at (setting linked.now out) name + 2) 0 s.old.frames }
-    requires free { IsOpen (sets_named (setting linked.now out) name initial (newest s.old.frames) (world s.old out)) }
-    ensures runs { Runs linked.now out (sets_named (setting linked.now out) name initial (newest s.old.frames)) s.old result s.new }
-    ensures limit { s.new.given.limit ≡ s.old.given.limit }
-{
-    match whole_name(linked, name) {
-        Some(wanted) => set_whole(linked, s, name, &wanted, initial),
-        None => set_late(linked, s, name, initial),
-    }
-}
 
 /// `call`: the function is under its receiver, and that under the arguments.
 pub fn call_value(linked: &Linked, s: &mut State, count: u32) -> Result<Left, Stop>

@@ -15,9 +15,9 @@ use abc_link::Linked;
 use abc_memberarms::{call_on, name_of, parts_of, read_on, write_on};
 use abc_states::{How, Left, State, Stop, operand};
 
-/// The same as `get_property`, by a search.
+/// `getproperty`: the object is under the runtime parts of the name.
 #[inline(never)]
-pub(crate) fn get_searching(linked: &Linked, s: &mut State, name: u32) -> Result<(), Stop>
+pub fn get_property(linked: &Linked, s: &mut State, name: u32) -> Result<(), Stop>
     ghost out: { Outer }
     requires set { IsSet linked.now s.old }
     requires known { IsKnown linked.now s.old.given.limit }
@@ -32,14 +32,9 @@ pub(crate) fn get_searching(linked: &Linked, s: &mut State, name: u32) -> Result
     read_on(linked, s, v, &wanted, How::Push(parts + 1))
 }
 
-/// The same as `set_property`, by a search.
+/// `setproperty` and `initproperty`, which writes constant slots too: the value is on top.
 #[inline(never)]
-pub(crate) fn set_searching(
-    linked: &Linked,
-    s: &mut State,
-    name: u32,
-    initial: bool,
-) -> Result<(), Stop>
+pub fn set_property(linked: &Linked, s: &mut State, name: u32, initial: bool) -> Result<(), Stop>
     ghost out: { Outer }
     requires set { IsSet linked.now s.old }
     requires known { IsKnown linked.now s.old.given.limit }

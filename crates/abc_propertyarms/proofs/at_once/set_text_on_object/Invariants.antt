@@ -1,7 +1,0 @@
-use Rattle.abc_propertyarms.proofs.at_once.set_text_on_object.Given as goal
-
-abbrev pub ghost-with_text : goal.ghost-with_text
-ghost-with_text g a = g.out
-
-abbrev pub ghost-write_on_object : goal.ghost-write_on_object
-ghost-write_on_object g a = g.out

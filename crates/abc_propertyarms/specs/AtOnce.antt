@@ -1,0 +1,31 @@
+-- What is done at once, or not at all; and the element that a number names.
+use Rattle.std.specs.Prelude.{◌≡◌, ℕ, ◌<◌, ◌≤◌, pos, length, Bool, true, false, Ok}
+use Rattle.abc_cells.specs.declared.values.ObjId.{ObjId}
+use Rattle.abc_cells.specs.declared.values.Value.{Value}
+use Rattle.abc_cells.specs.declared.values.Value.TheVariants.{Num}
+use Rattle.abc_heap.specs.Heap.{Heap, elements_of, object_at}
+use Rattle.abc_heap.specs.What.{is_array}
+use Rattle.abc_lookup.specs.NoTraits.{HasNoTraits}
+use Rattle.abc_program.specs.Linked.{LinkedFile}
+use Rattle.abc_search.specs.Candidates.{layout_at}
+use Rattle.abc_search.specs.Spaces.{holds_public}
+use Rattle.abc_search.specs.declared.name.Spaces.{Spaces}
+use Rattle.abc_states.specs.ActsAt.{Act}
+use Rattle.abc_states.specs.Outer.{Outer}
+use Rattle.abc_states.specs.Turns.{Runs}
+use Rattle.abc_states.specs.World.{Run}
+use Rattle.abc_states.specs.declared.state.State.{State}
+
+-- an act is done, and it goes on; or nothing is
+abbrev pub IsDoneIf : Bool → LinkedFile → Outer → Run Act → State → State → Type 0
+IsDoneIf true l out act old new = Runs l out act old (Ok tt) new × (new.given.limit ≡ old.given.limit)
+IsDoneIf false l out act old new = new ≡ old
+
+-- an array without traits has the element of a number, and names of these namespaces find what is public
+pub record TellsElement (l : LinkedFile) (h : Heap) (of : Spaces) (o : ObjId) (asked : Value) (k : ℕ) : Type 0 where
+  pub number : asked ≡ Num (pos k)
+  pub few : k ≤ 4294967294
+  pub there : k < length (elements_of h.objects o.0)
+  pub array : is_array (object_at h.objects o.0).what ≡ true
+  pub bare : HasNoTraits l (layout_at h o.0)
+  pub public : holds_public l of ≡ true
