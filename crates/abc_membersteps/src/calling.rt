@@ -11,8 +11,8 @@ ghost use Rattle.abc_tables.specs.declared.code.Instr.TheVariants.{One, Two};
 ghost use Rattle.abc_membersteps.specs.Groups.{property_call_ops};
 
 use abc_link::Linked;
-use abc_propertyarms::{call_property, call_value, parts_of};
-use abc_states::{How, Left, State, Stop};
+use abc_propertyarms::{call_property, call_value};
+use abc_states::{Left, State, Stop};
 
 /// `call`, with so many arguments.
 pub fn run_call_value(linked: &Linked, s: &mut State, count: u32) -> Result<Left, Stop>
@@ -42,11 +42,10 @@ pub fn run_property_call(
     ensures finishes { CanFinish linked.now result s.new }
     ensures limit { s.new.given.limit ≡ s.old.given.limit }
 {
-    let taken = count + parts_of(linked, n) + 1;
     match op {
-        0x46 => call_property(linked, s, n, count, false, How::Push(taken)),
-        0x4C => call_property(linked, s, n, count, true, How::Push(taken)),
-        0x4F => call_property(linked, s, n, count, false, How::Drop(taken)),
+        0x46 => call_property(linked, s, n, count, false, false),
+        0x4C => call_property(linked, s, n, count, true, false),
+        0x4F => call_property(linked, s, n, count, false, true),
         _ => unreachable!(),
     }
 }

@@ -1,4 +1,5 @@
 pub mod AtOnce
+mod Calls
 mod Numerals
 mod Told
 pub use Rattle.abc_memberarms.proofs.Parts as MemberarmsParts

@@ -1,4 +1,4 @@
--- What is done at once, or not at all; and the element that a number names.
+-- What is done at once, or not at all; the element that a number names; and what becomes of the operands of a call.
 use Rattle.std.specs.Prelude.{◌≡◌, ℕ, ◌<◌, ◌≤◌, pos, length, Bool, true, false, Ok}
 use Rattle.abc_cells.specs.declared.values.ObjId.{ObjId}
 use Rattle.abc_cells.specs.declared.values.Value.{Value}
@@ -14,6 +14,8 @@ use Rattle.abc_states.specs.ActsAt.{Act}
 use Rattle.abc_states.specs.Outer.{Outer}
 use Rattle.abc_states.specs.Turns.{Runs}
 use Rattle.abc_states.specs.World.{Run}
+use Rattle.abc_states.specs.declared.state.How.{How}
+use Rattle.abc_states.specs.declared.state.How.TheVariants.{Drop, Push}
 use Rattle.abc_states.specs.declared.state.State.{State}
 
 -- an act is done, and it goes on; or nothing is
@@ -29,3 +31,8 @@ pub record TellsElement (l : LinkedFile) (h : Heap) (of : Spaces) (o : ObjId) (a
   pub array : is_array (object_at h.objects o.0).what ≡ true
   pub bare : HasNoTraits l (layout_at h o.0)
   pub public : holds_public l of ≡ true
+
+-- what becomes of so many operands, which a call takes
+abbrev pub how_for : (drops : Bool) → ℕ → How
+how_for true taken = Drop taken
+how_for false taken = Push taken

@@ -7,7 +7,6 @@ mod elements;
 mod properties;
 mod searching;
 
-pub use abc_memberarms::parts_of;
 pub use at_once::{gets_at_once, sets_at_once};
 pub use properties::{call_property, call_value, construct, construct_property};
 pub use searching::{get_property, set_property};

@@ -1,11 +1,12 @@
 ghost use Rattle.std.specs.Prelude.{◌≡◌, ◌+◌, ◌<◌, ◌^◌};
 ghost use Rattle.abc_moves.specs.Ready.{IsReady};
 ghost use Rattle.abc_stacks.specs.Frame.{newest};
+ghost use Rattle.abc_propertyarms.specs.AtOnce.{how_for};
 ghost use Rattle.abc_memberarms.specs.EnteringArguments.{IsKnown};
 ghost use Rattle.abc_memberarms.specs.CallarmsCalls.{CanFinish, calls_value, makes_value};
 ghost use Rattle.abc_states.specs.Operands.{operand_at};
 ghost use Rattle.abc_states.specs.Outer.{Outer, setting, world};
-ghost use Rattle.abc_states.specs.Settling.{given_by, taken_by};
+ghost use Rattle.abc_states.specs.Settling.{given_by};
 ghost use Rattle.abc_states.specs.declared.state.How.TheVariants.{Push};
 ghost use Rattle.abc_states.specs.Standing.{IsSet};
 ghost use Rattle.abc_states.specs.Stops.{IsOpen};
@@ -35,8 +36,20 @@ pub fn call_value(linked: &Linked, s: &mut State, count: u32) -> Result<Left, St
     call(linked, s, callee, receiver, count, How::Push(count + 2))
 }
 
-/// `callproperty`, `callpropvoid`, and `callproplex`, which has no receiver: the object is under the runtime parts of the name, and
-/// these under the arguments.
+/// What becomes of so many operands, which a call takes.
+#[inline(always)]
+fn how_of(drops: bool, taken: u32) -> How
+    ensures { result ≡ how_for drops taken }
+{
+    if drops {
+        How::Drop(taken)
+    } else {
+        How::Push(taken)
+    }
+}
+
+/// `callproperty`, `callpropvoid`, which drops what comes, and `callproplex`, which has no receiver: the object is under the runtime
+/// parts of the name, and these under the arguments.
 #[inline(always)]
 pub fn call_property(
     linked: &Linked,
@@ -44,22 +57,27 @@ pub fn call_property(
     name: u32,
     count: u32,
     lexical: bool,
-    how: How,
+    drops: bool,
 ) -> Result<Left, Stop>
     ghost out: { Outer }
     requires set { IsSet linked.now s.old }
     requires known { IsKnown linked.now s.old.given.limit }
-    requires ready { IsReady (count + parts_at (setting linked.now out) name + 1) (given_by how) s.old.frames }
+    requires ready { IsReady (count + parts_at (setting linked.now out) name + 1) (given_by (how_for drops (count + parts_at (setting linked.now out) name + 1))) s.old.frames }
     requires count { count < 2 ^ 30 }
-    requires how { taken_by how ≡ count + parts_at (setting linked.now out) name + 1 }
-    requires free { IsOpen (calls_named (setting linked.now out) name count lexical how (newest s.old.frames) (world s.old out)) }
-    ensures leaves { Leaves linked.now out (calls_named (setting linked.now out) name count lexical how (newest s.old.frames)) s.old result s.new }
+    requires free { IsOpen (calls_named (setting linked.now out) name count lexical (how_for drops (count + parts_at (setting linked.now out) name + 1)) (newest s.old.frames) (world s.old out)) }
+    ensures leaves { Leaves linked.now out (calls_named (setting linked.now out) name count lexical (how_for drops (count + parts_at (setting linked.now out) name + 1)) (newest s.old.frames)) s.old result s.new }
     ensures finishes { CanFinish linked.now result s.new }
     ensures limit { s.new.given.limit ≡ s.old.given.limit }
 {
     match whole_name(linked, name) {
-        Some(wanted) => call_whole(linked, s, name, &wanted, count, lexical, how),
-        None => call_searching(linked, s, name, count, lexical, how),
+        Some(wanted) => {
+            let how = how_of(drops, count + 1);
+            call_whole(linked, s, name, &wanted, count, lexical, how)
+        }
+        None => {
+            let how = how_of(drops, count + parts_of(linked, name) + 1);
+            call_searching(linked, s, name, count, lexical, how)
+        }
     }
 }
 
