@@ -88,6 +88,12 @@ chain_at cells i o k l c h b f =
     let s = a.is (link_of w.0) (link_at cells c.last w.0 w.1) in
     subst (λ p. IsAt (links cells) i p l k) s.0 (subst (λ m. IsAt (links cells) i w.0.owner m k) s.1 (f w.0 w.1))
 
+-- a cell that holds an element
+pub element_here : (cells : List Cell) (p o k : ℕ) (c : Cell) → slice_get cells p ≡ Some c → p < length cells → c.owner ≡ o → c.position ≡ k → lane_of c.held ≡ Elements → IsAt (links cells) p o Elements k
+element_here cells p o k c e b own at lane =
+    let there = link_at cells p c e in
+    record { inside = omega (arith, b, length-map cells link_of); is = λ x q. let s : x ≡ link_of c = cc in (ap (λ (z : Link). z.owner) s ∙ own, ap (λ (z : Link). z.lane) s ∙ lane, ap (λ (z : Link). z.position) s ∙ at) }
+
 pub property_count : (cells : List Cell) (hs : List Head) (o k : ℕ) → o < length hs → k < length (properties_of (objects cells 0 hs) o) → k < count o Properties (links cells)
 property_count cells hs o k w b = omega (arith, ap length (properties_are cells o hs w), length-map (owned o Properties cells) (λ (c : Cell). property_in c.held), count_owned o Properties cells)
 

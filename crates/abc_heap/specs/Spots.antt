@@ -2,14 +2,17 @@
 use Rattle.std.specs.Prelude.{◌≡◌, ℕ, ◌+◌, List, length, Some, slice_get}
 use Rattle.abc_cells.specs.Filling.{Filling}
 use Rattle.abc_cells.specs.declared.cell.Cell.{Cell}
+use Rattle.abc_cells.specs.declared.cell.Held.{Held}
 use Rattle.abc_cells.specs.declared.values.Span.{Span}
+use Rattle.abc_cells.specs.declared.values.Value.{Value}
+use Rattle.abc_cells.specs.Lanes.{lane_of, property_in}
 use Rattle.abc_cells.specs.declared.cell.Lane.TheVariants.{Slots, Properties}
-use Rattle.abc_cells.specs.Links.{links, IsAt, IsChain}
+use Rattle.abc_cells.specs.Links.{links, held_at, IsAt, IsChain}
 use Rattle.abc_cells.specs.declared.chain.Chain.{Chain}
 use Rattle.abc_heap.specs.declared.heads.Head.{Head}
 use Rattle.abc_heap.specs.declared.search.Spot.{Spot}
 use Rattle.abc_heap.specs.Heap.{properties_of}
-use Rattle.abc_heap.specs.Properties.{place_named}
+use Rattle.abc_heap.specs.Properties.{place_named, valued}
 use Rattle.abc_heap.specs.View.{objects}
 
 pub record IsSpot (f : Span → List ℕ) (t : List ℕ) (cells : List Cell) (heads : List Head) (o : ℕ) (s : Spot) : Type 0 where
@@ -27,3 +30,10 @@ pub record IsGrown (hs : Filling Head) (hs' : Filling Head) (cs : Filling Cell) 
 pub record IsFilling (cells : List Cell) (hs : List Head) (o : ℕ) (c : Chain) : Type 0 where
   pub chain : IsChain (links cells) o Slots c
   pub next : (h : Head) → slice_get hs o ≡ Some h → h.slots + c.count ≡ length cells
+
+-- a cell holds the property that was held, with another value
+pub record IsRevalued (old new : Filling Cell) (place : ℕ) (held : Held) (v : Value) : Type 0 where
+  pub now : Held
+  pub lane : lane_of now ≡ Properties
+  pub value : property_in now ≡ valued v (property_in held)
+  pub cells : new ≡ record { items = held_at old.items place now; limit = old.limit }

@@ -1,7 +1,7 @@
 ghost use Rattle.std.specs.Prelude.{◌≡◌, ◌<◌, ◌≤◌, ◌+◌, ◌^◌, ℕ, length, Some, None, slice_get, is_some, true, [], ◌∷◌, ◌++◌};
 ghost use Rattle.abc_cells.specs.Lanes.{value_in, property_in, lane_of};
-ghost use Rattle.abc_cells.specs.Links.{links, IsAt, IsAdded};
-ghost use Rattle.abc_cells.specs.declared.cell.Held.TheVariants.{Property};
+ghost use Rattle.abc_cells.specs.Links.{links, held_at, IsAt, IsAdded};
+ghost use Rattle.abc_cells.specs.declared.cell.Held.TheVariants.{Element, Property};
 ghost use Rattle.abc_cells.specs.declared.cell.Lane.TheVariants.{Slots, Properties, Elements};
 ghost use Rattle.abc_cells.specs.Filling.{HasRoom};
 ghost use Rattle.abc_heap.specs.Buckets.{KeepsIndex};
@@ -10,11 +10,11 @@ ghost use Rattle.abc_heap.specs.Heap.{object_at, slots_of, properties_of, elemen
 ghost use Rattle.abc_heap.specs.Properties.{at_position, the_value, the_name, valued, next_filled};
 ghost use Rattle.abc_heap.specs.Changes.{change, with_new_property, with_new_element, with_more_slots, bare};
 ghost use Rattle.abc_heap.specs.View.{objects, AreHeads};
-ghost use Rattle.abc_heap.specs.Spots.{IsGrown, IsFilling};
+ghost use Rattle.abc_heap.specs.Spots.{IsGrown, IsFilling, IsRevalued};
 
 use crate::starts::Starts;
 use crate::stored::{StoredWhat, elements_kept};
-use abc_cells::{Cell, Chain, Held, ObjId, Reserved, Span, Value, append, cell_at, place_of};
+use abc_cells::{Cell, Chain, Held, ObjId, Reserved, Span, Value, append, cell_at, hold, place_of};
 
 /// An object, but for what its cells hold. Its slots lie one after the other from `slots` on.
 #[derive(Clone, Copy, Debug)]
@@ -35,6 +35,7 @@ pub fn head_at(heads: &Reserved<Head>, o: u32) -> Head
 }
 
 /// The value that a cell holds.
+#[inline(always)]
 pub fn value_of(held: Held) -> Value
     ensures { result ≡ value_in held }
 {
@@ -56,14 +57,49 @@ pub fn slot_place(heads: &Reserved<Head>, cells: &Reserved<Cell>, o: u32, k: u32
     head_at(heads, o).slots + k
 }
 
-/// The place of an element.
+/// Whether a place has the cell of an element.
+#[inline(always)]
+fn is_element(cells: &Reserved<Cell>, place: u32, o: u32, k: u32) -> bool
+    requires { place < length cells.now.items }
+    ensures { result ≡ true → IsAt (links cells.now.items) place o Elements k }
+{
+    let here = cell_at(cells, place);
+    if here.owner != o {
+        return false;
+    }
+    if here.position != k {
+        return false;
+    }
+    match here.held {
+        Held::Element(_) => true,
+        _ => false,
+    }
+}
+
+/// The place that an element has if all elements above it lie behind it, one after the other. (Else it is any below the last.)
+#[inline(always)]
+fn near_place(elements: Chain, k: u32) -> u32
+    ensures { result ≤ elements.last }
+{
+    elements
+        .last
+        .saturating_sub(elements.count.saturating_sub(k).saturating_sub(1))
+}
+
+/// The place of an element. (Most often an array's elements lie one after the other, and no list is walked.)
+#[inline(always)]
 pub fn element_place(heads: &Reserved<Head>, cells: &Reserved<Cell>, o: u32, k: u32) -> u32
     requires heads { AreHeads (links cells.now.items) heads.now.items }
     requires element { k < length (elements_of (objects cells.now.items 0 heads.now.items) o) }
     ensures { IsAt (links cells.now.items) result o Elements k }
 {
     let elements = elements_kept(head_at(heads, o).what);
-    place_of(cells, elements.last, k)
+    let near = near_place(elements, k);
+    if is_element(cells, near, o, k) {
+        near
+    } else {
+        place_of(cells, elements.last, k)
+    }
 }
 
 /// The place of a property, by its place in the list.
@@ -103,6 +139,30 @@ pub fn revalued(held: Held, v: Value) -> Held
     match held {
         Held::Property(name, _old) => Held::Property(name, v),
         _ => Held::Deleted,
+    }
+}
+
+/// Replaces the value of a property that a cell held. (Most often a number comes, of which no more is copied.)
+#[inline(always)]
+pub fn hold_value(cells: &mut Reserved<Cell>, place: u32, held: Held, v: Value)
+    requires { place < length cells.old.items }
+    ensures { IsRevalued cells.old cells.new place held v }
+{
+    match v {
+        Value::Num(n) => hold(cells, place, revalued(held, Value::Num(n))),
+        _ => hold(cells, place, revalued(held, v)),
+    }
+}
+
+/// Replaces an element. (Most often a number comes, of which no more is copied.)
+#[inline(always)]
+pub fn hold_element(cells: &mut Reserved<Cell>, place: u32, v: Value)
+    requires { place < length cells.old.items }
+    ensures { cells.new ≡ record { items = held_at cells.old.items place (Element v); limit = cells.old.limit } }
+{
+    match v {
+        Value::Num(n) => hold(cells, place, Held::Element(Value::Num(n))),
+        _ => hold(cells, place, Held::Element(v)),
     }
 }
 

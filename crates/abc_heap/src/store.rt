@@ -1,5 +1,5 @@
 ghost use Rattle.std.specs.Prelude.{◌≡◌, ◌<◌, ◌≤◌, ◌+◌, ◌-◌, ◌++◌, ◌∷◌, [], ◌^◌, ℕ, length, Some, None, slice_get, set, replicate, get_or, is_some, true, MatchResult, IfOk};
-ghost use Rattle.std.specs.Fmt.{signed_decimal};
+ghost use Rattle.std.specs.Fmt.{decimal, signed_decimal};
 ghost use Rattle.abc_cells.specs.declared.values.Value.TheVariants.{Undefined};
 ghost use Rattle.abc_heap.specs.What.{is_array};
 ghost use Rattle.abc_heap.specs.Heap.{object_at, slots_of, properties_of, elements_of, cells_used, ledger, IsFull, IsFullOf, Fits, HasRoomFor, PassesLimit, PassesFrames};
@@ -12,8 +12,8 @@ ghost use Rattle.abc_heap.specs.declared.records.Limit.TheVariants.{Cells, Text}
 use crate::buckets::Buckets;
 use crate::heads::{
     Head, add_element, add_object, add_property, element_count, element_place, fill_slots, head_at,
-    held_at_position, next_from, property_count, property_name, property_value, revalued,
-    slot_place, value_of,
+    held_at_position, hold_element, hold_value, next_from, property_count, property_name,
+    property_value, slot_place, value_of,
 };
 use crate::records::{Full, Limit, Limits, ScopeEntry, ScopeId, ScopeNode, What};
 use crate::scopes::capture;
@@ -240,8 +240,8 @@ impl Store {
             name,
         ) {
             Some(spot) => {
-                let held = revalued(cell_at(&self.cells, spot.place).held, v);
-                hold(&mut self.cells, spot.place, held);
+                let held = cell_at(&self.cells, spot.place).held;
+                hold_value(&mut self.cells, spot.place, held, v);
             }
             None => {
                 if self.cells.len() + self.scopes.len() == self.limits.cells {
@@ -284,6 +284,7 @@ impl Store {
     }
 
     /// An element.
+    #[inline(always)]
     pub fn element(&self, o: ObjId, k: u32) -> Value
         requires { k < length (elements_of self.now.objects o.0) }
         ensures { slice_get (elements_of self.now.objects o.0) k ≡ Some result }
@@ -293,12 +294,13 @@ impl Store {
     }
 
     /// Replaces an element.
+    #[inline(always)]
     pub fn set_element(&mut self, o: ObjId, k: u32, v: Value)
         requires { k < length (elements_of self.old.objects o.0) }
         ensures { self.new ≡ with_object (with_element k v) o.0 self.old }
     {
         let place = element_place(&self.heads, &self.cells, o.0, k);
-        hold(&mut self.cells, place, Held::Element(v));
+        hold_element(&mut self.cells, place, v);
     }
 
     /// Adds an element to an array at the end.
@@ -668,8 +670,27 @@ impl Store {
         })
     }
 
-    /// Makes the text of a number.
-    pub fn text_of_number(&mut self, n: i64) -> Result<Span, Full>
+    /// Makes the text of a digit.
+    #[inline(always)]
+    fn text_of_digit(&mut self, digit: u8) -> Result<Span, Full>
+        requires { digit < 10 }
+        ensures { MatchResult result (λ s. IsTextMade self.old self.new s (decimal digit)) (λ e. IsFull self.old self.new (length self.old.made) (length (decimal digit)) self.old.limits.text Text e) }
+    {
+        let start = self.made.len();
+        if start == self.limits.text {
+            return Err(Full(Limit::Text));
+        }
+        self.made.push(48 + digit);
+        Ok(Span {
+            part: 1,
+            start,
+            len: 1,
+        })
+    }
+
+    /// Makes the text of a number of any length.
+    #[inline(never)]
+    fn text_of_digits(&mut self, n: i64) -> Result<Span, Full>
         ensures { MatchResult result (λ s. IsTextMade self.old self.new s (signed_decimal n)) (λ e. IsFull self.old self.new (length self.old.made) (length (signed_decimal n)) self.old.limits.text Text e) }
     {
         let mut buffer = Buffer::new();
@@ -684,6 +705,18 @@ impl Store {
             start,
             len: bytes.len() as u32,
         })
+    }
+
+    /// Makes the text of a number: most often of one digit.
+    #[inline(always)]
+    pub fn text_of_number(&mut self, n: i64) -> Result<Span, Full>
+        ensures { MatchResult result (λ s. IsTextMade self.old self.new s (signed_decimal n)) (λ e. IsFull self.old self.new (length self.old.made) (length (signed_decimal n)) self.old.limits.text Text e) }
+    {
+        if 0 <= n && n < 10 {
+            self.text_of_digit(n as u8)
+        } else {
+            self.text_of_digits(n)
+        }
     }
 
     /// The bytes of a text.

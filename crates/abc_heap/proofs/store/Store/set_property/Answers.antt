@@ -1,7 +1,6 @@
 use Rattle.std.proofs.Common.{◌≡◌, ◌∙◌, ap, refl, sym, subst, None, Some, arith}
 use Rattle.abc_cells.specs.Filling.{Filling}
 use Rattle.abc_cells.specs.declared.cell.Cell.{Cell}
-use Rattle.abc_cells.specs.declared.cell.Lane.TheVariants.{Properties}
 use Rattle.abc_heap.specs.Heap.{Heap}
 use Rattle.abc_heap.specs.Texts.{text_in, text_of, IsText}
 use Rattle.abc_heap.specs.Properties.{with_put, place_in, cells_to_put}
@@ -11,7 +10,7 @@ use Rattle.abc_heap.proofs.Stands.{hold_put}
 use Rattle.abc_heap.proofs.store.Store.set_property.Goals as goal
 
 pub invariant_of-self : goal.invariant_of-self
-invariant_of-self c = hold_put c.self.inside.heads c.self.inside.cells _ c.self.inside.scopes c.self.inside.fixed c.self.inside.made c.self.inside.strings c.self.inside.buckets c.self.inside.limits c.in-Some.spot.place c.args.o.0 c.in-Some.spot.position c.cell_at.result c.revalued-held.result c.args.v c.self.invariant c.in-Some.ensures.at c.cell_at.ensures c.revalued-held.ensures.lane c.revalued-held.ensures.value c.hold.ensures
+invariant_of-self c = hold_put c.self.inside.heads c.self.inside.cells _ c.self.inside.scopes c.self.inside.fixed c.self.inside.made c.self.inside.strings c.self.inside.buckets c.self.inside.limits c.in-Some.spot.place c.args.o.0 c.in-Some.spot.position c.cell_at-held.result c.hold_value.ensures.now c.args.v c.self.invariant c.in-Some.ensures.at c.cell_at-held.ensures c.hold_value.ensures.lane c.hold_value.ensures.value c.hold_value.ensures.cells
 
 pub returns-in-Some : goal.returns-in-Some
 returns-in-Some c =
@@ -23,7 +22,7 @@ returns-in-Some c =
     let used = used_is _ c.args.self.now cells heads c.self.view_is refl c.self.invariant.heads in (
       omega (arith, used, ap cells_to_put there, c.self.invariant.limits.within, ap (λ (h : Heap). h.limits.cells) c.self.view_is),
       changed_by _ c.args.self.now _ (λ h. with_put (text_of h.strings h) (text_of h.strings h c.args.name) c.args.name c.args.v) c.args.o.0 c.self.view_is
-          (ap (λ (x : Filling Cell). objects x.items 0 heads) c.hold.ensures ∙ put_over cells heads c.args.o.0 f (f c.args.name) c.args.name c.args.v c.in-Some.spot c.cell_at.result c.revalued-held.result c.self.invariant.heads b c.in-Some.ensures c.cell_at.ensures c.revalued-held.ensures.lane c.revalued-held.ensures.value),
+          (ap (λ (x : Filling Cell). objects x.items 0 heads) c.hold_value.ensures.cells ∙ put_over cells heads c.args.o.0 f (f c.args.name) c.args.name c.args.v c.in-Some.spot c.cell_at-held.result c.hold_value.ensures.now c.self.invariant.heads b c.in-Some.ensures c.cell_at-held.ensures c.hold_value.ensures.lane c.hold_value.ensures.value),
     )
 
 pub returns-then-len-self : goal.returns-then-len-self

@@ -1,7 +1,7 @@
 use Rattle.std.proofs.Common.{◌∙◌, ℕ, ap}
 use Rattle.abc_cells.specs.Filling.{Filling}
 use Rattle.abc_heap.proofs.Indexed.{index_text}
-use Rattle.abc_heap.proofs.store.Store.text_of_number.Goals as goal
+use Rattle.abc_heap.proofs.store.Store.text_of_digits.Goals as goal
 
 pub invariant_of-self : goal.invariant_of-self
 invariant_of-self c =
