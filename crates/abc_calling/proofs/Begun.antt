@@ -10,17 +10,17 @@ use Rattle.abc_callmeaning.specs.Calls.{begins_call, entered_call, enters_call, 
 use Rattle.abc_cells.specs.declared.values.Value.{Value}
 use Rattle.abc_ends.specs.Ending.{IsFree, IsSized, IsThrowable}
 use Rattle.abc_entering.specs.Arguments.{IsKnown, makes_arguments, receiver}
-use Rattle.abc_fair.proofs.Filed.{definitions, some_script}
-use Rattle.abc_fair.proofs.Typed.{has_typings}
-use Rattle.abc_fair.specs.Fair.{IsFairPart}
+use Rattle.abc_callmeaning.proofs.Filed.{definitions, some_script}
+use Rattle.abc_callmeaning.proofs.FairTyped.{has_typings}
+use Rattle.abc_callmeaning.specs.FairFair.{IsFairPart}
 use Rattle.abc_finishing.proofs.Started.{arguments_open, entered_is, entered_stops, first_halts, first_put, first_sized, part_open}
 use Rattle.abc_finishing.proofs.Stepped.{free_of, throwable}
 use Rattle.abc_finishing.specs.Starting.{alone_if, begins, frames_alone}
 use Rattle.abc_finishing.specs.Steps.{IsReached, stepped}
 use Rattle.abc_heap.specs.declared.records.Full.{Full}
 use Rattle.abc_heap.specs.declared.records.Limits.{Limits}
-use Rattle.abc_meaning.specs.Sound.{AreTypings, SteppedSound, Typings}
-use Rattle.abc_meaning.specs.Throwing.{Stepped, goes_on, last_script}
+use Rattle.abc_ends.specs.MeaningSound.{AreTypings, SteppedSound, Typings}
+use Rattle.abc_ends.specs.MeaningThrowing.{Stepped, goes_on, last_script}
 use Rattle.abc_objects.specs.Stands.{StandsOver}
 use Rattle.abc_program.specs.Linked.{LinkedFile}
 use Rattle.abc_program.specs.Owners.{owner_of}

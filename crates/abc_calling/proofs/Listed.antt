@@ -8,7 +8,7 @@ use Rattle.abc_callmeaning.proofs.Called.{numbers_exist}
 use Rattle.abc_callmeaning.specs.Calls.{numbers}
 use Rattle.abc_cells.specs.declared.values.Value.{Value}
 use Rattle.abc_cells.specs.declared.values.Value.TheVariants.{Num}
-use Rattle.abc_fair.proofs.Lists.{each_at, each_take}
+use Rattle.abc_callmeaning.proofs.Lists.{each_at, each_take}
 use Rattle.abc_objects.specs.Stands.{Each as EachAt}
 use Rattle.abc_objects.specs.Values.{Exists}
 use Rattle.abc_states.specs.WorldSetting.{Setting}

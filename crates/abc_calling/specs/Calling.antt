@@ -4,9 +4,9 @@ use Rattle.abc_callmeaning.specs.Laws.{IsScriptMethod}
 use Rattle.abc_cells.specs.declared.values.Value.{Value}
 use Rattle.abc_ends.specs.Ending.{IsSized}
 use Rattle.abc_entering.specs.Arguments.{IsKnown}
-use Rattle.abc_meaning.specs.Laws.{IsVerified}
-use Rattle.abc_meaning.specs.Sound.{WorldSound}
-use Rattle.abc_meaning.specs.Throwing.{last_script}
+use Rattle.abc_ends.specs.MeaningLaws.{IsVerified}
+use Rattle.abc_ends.specs.MeaningSound.{WorldSound}
+use Rattle.abc_ends.specs.MeaningThrowing.{last_script}
 use Rattle.abc_program.specs.Linked.{LinkedFile}
 use Rattle.abc_stacks.specs.Frame.{Frame}
 use Rattle.abc_states.specs.Outer.{Outer, setting, world}

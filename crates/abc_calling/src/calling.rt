@@ -6,7 +6,7 @@ ghost use Rattle.abc_ends.specs.Ending.{IsFree, IsSized, IsThrowable, stepped_by
 ghost use Rattle.abc_entering.specs.Arguments.{IsKnown};
 ghost use Rattle.abc_finishing.specs.Starting.{begins, went_alone};
 ghost use Rattle.abc_finishing.specs.Steps.{IsReached};
-ghost use Rattle.abc_meaning.specs.Throwing.{last_script};
+ghost use Rattle.abc_ends.specs.MeaningThrowing.{last_script};
 ghost use Rattle.abc_objects.specs.Stands.{Each, StandsOver};
 ghost use Rattle.abc_objects.specs.Values.{Exists};
 ghost use Rattle.abc_states.specs.Outer.{Outer, setting, world};

@@ -5,8 +5,8 @@ use Rattle.abc_outputs.specs.Front.{IsFront, left_by}
 use Rattle.abc_outputs.proofs.Adding.{front_on, same_front}
 use Rattle.abc_outputs.proofs.Stepping.{steps_append}
 use Rattle.abc_world.specs.World.{World}
-use Rattle.abc_meaning.specs.Step.{step}
-use Rattle.abc_meaning.specs.Throwing.{Done, End, Ends, FuelSpent, Full, Machine, Profile, Stepped, Steps, Stuck, Uncaught}
+use Rattle.abc_outputs.specs.MeaningStep.{step}
+use Rattle.abc_outputs.specs.MeaningThrowing.{Done, End, Ends, FuelSpent, Full, Machine, Profile, Stepped, Steps, Stuck, Uncaught}
 use Rattle.abc_callmeaning.specs.Calls.{Replied, replies_for, returned, then_replies}
 use Rattle.abc_callmeaning.specs.Laws.{CallsAppend}
 

@@ -8,13 +8,13 @@ use Rattle.abc_stacks.specs.Frame.{Frame}
 use Rattle.abc_typing.specs.Lists.{Each}
 use Rattle.abc_world.specs.Setting.{Setting}
 use Rattle.abc_world.specs.World.{Errs, Faults, Fills, Outcome, Sticks, Stop, Stopped, Throws, Went, World}
-use Rattle.abc_meaning.specs.Sound.{AreTypings, FrameSound, SteppedSound, Typings, WorldSound}
-use Rattle.abc_meaning.specs.Throwing.{last_script}
-use Rattle.abc_unstuck.specs.ObjectactsLaws.{Given}
-use Rattle.abc_unstuck.proofs.SettlesSettled.{ends_sound, puts_sound}
-use Rattle.abc_unstuck.specs.SoundKeeping.{Fares, StopSound}
-use Rattle.abc_unstuck.proofs.SoundEntered.{owned_fares}
-use Rattle.abc_unstuck.proofs.Never.{given}
+use Rattle.abc_outputs.specs.MeaningSound.{AreTypings, FrameSound, SteppedSound, Typings, WorldSound}
+use Rattle.abc_outputs.specs.MeaningThrowing.{last_script}
+use Rattle.abc_fair.specs.ObjectactsLaws.{Given}
+use Rattle.abc_fair.proofs.SettlesSettled.{ends_sound, puts_sound}
+use Rattle.abc_fair.specs.SoundKeeping.{Fares, StopSound}
+use Rattle.abc_fair.proofs.SoundEntered.{owned_fares}
+use Rattle.abc_fair.proofs.Never.{given}
 use Rattle.abc_callmeaning.specs.Calls.{enters_call, entered_call, numbers, stops_call}
 use Rattle.abc_callmeaning.specs.Laws.{CallsBeginSound}
 use Rattle.abc_callmeaning.proofs.Exported.{owned_by_script}

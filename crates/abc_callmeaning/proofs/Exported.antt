@@ -5,9 +5,9 @@ use Rattle.abc_fits.proofs.ClassesFit.{script_fits}
 use Rattle.abc_fits.proofs.Combined.{position_fits}
 use Rattle.abc_fits.proofs.TraitsFit.{HasFields, fields_fit, trait_fits, traits_fit}
 use Rattle.abc_fits.specs.Fitting.{FitsTrait}
-use Rattle.abc_unstuck.proofs.GivenFiled.{definitions}
-use Rattle.abc_unstuck.proofs.GivenIndexed.{all_each}
-use Rattle.abc_unstuck.proofs.GivenOwned.{has_body, of_script_named, of_script_run, owned_by}
+use Rattle.abc_fair.proofs.Filed.{definitions}
+use Rattle.abc_fair.proofs.GivenIndexed.{all_each}
+use Rattle.abc_fair.proofs.GivenOwned.{has_body, of_script_named, of_script_run, owned_by}
 use Rattle.abc_heap.specs.Heap.{obj_id}
 use Rattle.abc_heap.specs.Scopes.{scope_id}
 use Rattle.abc_items.specs.Methods.{methods_among, methods_in}
@@ -29,11 +29,11 @@ use Rattle.abc_world.specs.Entering.{global}
 use Rattle.abc_world.specs.Objects.{place, place_of_owner}
 use Rattle.abc_world.specs.Setting.{Setting}
 use Rattle.abc_world.specs.World.{World}
-use Rattle.abc_meaning.specs.Sound.{AreTypings, IsOfKind, Typings, WorldSound}
-use Rattle.abc_meaning.specs.Throwing.{last_script}
-use Rattle.abc_unstuck.specs.SoundGiven.{FileGiven, OpsGiven, OwnedSound}
-use Rattle.abc_unstuck.proofs.SoundEntered.{global_kind}
-use Rattle.abc_unstuck.proofs.SoundLists.{inside}
+use Rattle.abc_outputs.specs.MeaningSound.{AreTypings, IsOfKind, Typings, WorldSound}
+use Rattle.abc_outputs.specs.MeaningThrowing.{last_script}
+use Rattle.abc_fair.specs.SoundGiven.{FileGiven, OpsGiven, OwnedSound}
+use Rattle.abc_fair.proofs.SoundEntered.{global_kind}
+use Rattle.abc_fair.proofs.Lists.{inside}
 use Rattle.abc_callmeaning.specs.Laws.{IsScriptMethod}
 
 -- ---- among the traits of a table

@@ -5,12 +5,12 @@ use Rattle.abc_base.specs.declared.names.HostClass.TheVariants as hosts
 use Rattle.abc_fair.specs.Fair.{IsFairPart, IsFairStop, IsLeft}
 use Rattle.abc_heap.specs.Heap.{obj_id}
 use Rattle.abc_search.specs.Objects.{global_number}
-use Rattle.abc_unstuck.proofs.Never.{given}
-use Rattle.abc_unstuck.proofs.SoundEntered.{owned_fares}
-use Rattle.abc_unstuck.specs.SoundKeeping.{Fares, IsError, Leaves, StopSound}
+use Rattle.abc_fair.proofs.Never.{given}
+use Rattle.abc_fair.proofs.SoundEntered.{owned_fares}
+use Rattle.abc_fair.specs.SoundKeeping.{Fares, IsError, Leaves, StopSound}
 use Rattle.abc_world.specs.Setting.{Setting}
 use Rattle.abc_world.specs.World.{Errs, Faults, Fills, Outcome, Sticks, Stop, Stopped, Throws, Went, World}
-use Rattle.abc_meaning.specs.Throwing.{last_script}
+use Rattle.abc_outputs.specs.MeaningThrowing.{last_script}
 use Rattle.abc_callmeaning.specs.Calls.{enters_call, numbers}
 use Rattle.abc_callmeaning.specs.Laws.{CallsAreFair}
 use Rattle.abc_callmeaning.proofs.Called.{numbers_exist}

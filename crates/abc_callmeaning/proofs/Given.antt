@@ -15,14 +15,14 @@ use Rattle.abc_objects.specs.Values.{Exists}
 use Rattle.abc_stacks.specs.Frame.{Frame, waiting}
 use Rattle.abc_stacks.specs.declared.records.Wait.TheVariants as waits
 use Rattle.abc_tables.specs.declared.code.Handler.{Handler}
-use Rattle.abc_unstuck.proofs.Never.{are_typings, stays_sound, typings}
+use Rattle.abc_fair.proofs.Never.{are_typings, stays_sound, typings}
 use Rattle.abc_world.specs.Objects.{new_of_host}
 use Rattle.abc_world.specs.Setting.{Setting, routine_of}
 use Rattle.abc_world.specs.World.{Errs, Faults, Fills, Outcome, Run, Sticks, Stop, Stopped, Throws, Went, World, done, stop, ◌>>◌}
-use Rattle.abc_meaning.specs.Laws.{IsVerified}
-use Rattle.abc_meaning.specs.Sound.{AreTypings, IsSound, SteppedSound, Typings}
-use Rattle.abc_meaning.specs.Step.{acted, gives_back, put_on, puts, resumed, resumes, runs, settles, size_of_frame, size_of_frames, step}
-use Rattle.abc_meaning.specs.Throwing.{Done, End, Ends, FuelSpent, Full, Machine, Profile, Stepped, Steps, Stuck, Uncaught, catcher, caught_at, goes_on, has_stack, lands, stops, throws_made, unwinds}
+use Rattle.abc_outputs.specs.MeaningLaws.{IsVerified}
+use Rattle.abc_outputs.specs.MeaningSound.{AreTypings, IsSound, SteppedSound, Typings}
+use Rattle.abc_outputs.specs.MeaningStep.{acted, gives_back, put_on, puts, resumed, resumes, runs, settles, size_of_frame, size_of_frames, step}
+use Rattle.abc_outputs.specs.MeaningThrowing.{Done, End, Ends, FuelSpent, Full, Machine, Profile, Stepped, Steps, Stuck, Uncaught, catcher, caught_at, goes_on, has_stack, lands, stops, throws_made, unwinds}
 use Rattle.abc_callmeaning.specs.Calls.{Gives, Replied, begins_call, call_meaning, replies_for, returned, silent, then_replies, value_returned}
 use Rattle.abc_callmeaning.specs.Laws.{CallsGiveThere}
 use Rattle.abc_callmeaning.proofs.Called.{call_begins}

@@ -6,7 +6,7 @@ use Rattle.abc_heap.specs.declared.records.What.{What}
 use Rattle.abc_heap.specs.declared.records.What.TheVariants as whats
 use Rattle.abc_program.specs.Linked.{LinkedFile}
 use Rattle.abc_world.specs.Setting.{Setting}
-use Rattle.abc_meaning.specs.Sound.{ObjectSound, WhatSound}
+use Rattle.abc_outputs.specs.MeaningSound.{ObjectSound, WhatSound}
 use Rattle.abc_callmeaning.specs.Laws.{NamesAloneMatter}
 
 module _ (l : LinkedFile) (fs gs : List Formula) where

@@ -4,12 +4,12 @@ use Rattle.abc_cells.specs.declared.values.Value.{Value}
 use Rattle.abc_cells.specs.declared.values.Value.TheVariants.{Undefined}
 use Rattle.abc_world.specs.Setting.{Setting}
 use Rattle.abc_world.specs.World.{World}
-use Rattle.abc_meaning.specs.Laws.{IsVerified}
-use Rattle.abc_meaning.specs.Meaning.{Ended, runs_for, then_runs}
-use Rattle.abc_meaning.specs.Sound.{AreTypings, IsSound, SteppedSound, Typings, WorldSound}
-use Rattle.abc_meaning.specs.Step.{step}
-use Rattle.abc_meaning.specs.Throwing.{Done, End, Ends, FuelSpent, Full, Machine, Profile, Stepped, Steps, Stuck, Uncaught}
-use Rattle.abc_unstuck.proofs.Never.{stays_sound}
+use Rattle.abc_outputs.specs.MeaningLaws.{IsVerified}
+use Rattle.abc_outputs.specs.MeaningMeaning.{Ended, runs_for, then_runs}
+use Rattle.abc_outputs.specs.MeaningSound.{AreTypings, IsSound, SteppedSound, Typings, WorldSound}
+use Rattle.abc_outputs.specs.MeaningStep.{step}
+use Rattle.abc_outputs.specs.MeaningThrowing.{Done, End, Ends, FuelSpent, Full, Machine, Profile, Stepped, Steps, Stuck, Uncaught}
+use Rattle.abc_fair.proofs.Never.{stays_sound}
 use Rattle.abc_callmeaning.specs.Calls.{EndsAs, Replied, begins_call, call_meaning, replies_for, returned, silent, then_replies}
 use Rattle.abc_callmeaning.specs.Laws.{CallsLeaveSound, RunsLeaveSound}
 use Rattle.abc_callmeaning.proofs.Called.{call_begins}

@@ -10,8 +10,8 @@ use Rattle.abc_world.specs.Entering.{enters_owned, global}
 use Rattle.abc_world.specs.Setting.{Setting, routine_of}
 use Rattle.abc_world.specs.World.{Faults, Outcome, Run, Stop, Stopped, Went, World, see, ◌>>=◌}
 use Rattle.abc_acts.specs.At.{Act, Returns}
-use Rattle.abc_meaning.specs.Step.{puts, runs, step}
-use Rattle.abc_meaning.specs.Throwing.{Done, End, Ends, FuelSpent, Machine, Profile, Stepped, Steps, last_script, stops}
+use Rattle.abc_outputs.specs.MeaningStep.{puts, runs, step}
+use Rattle.abc_outputs.specs.MeaningThrowing.{Done, End, Ends, FuelSpent, Machine, Profile, Stepped, Steps, last_script, stops}
 
 -- what comes of a call: a value, or the end of the run, which is not Done
 pub data Reply : Type 0 where

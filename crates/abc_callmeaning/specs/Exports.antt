@@ -10,7 +10,7 @@ use Rattle.abc_tables.specs.declared.tables.Abc.{Abc}
 use Rattle.abc_tables.specs.declared.traits.TraitBody.{TraitBody}
 use Rattle.abc_tables.specs.declared.traits.TraitBody.TheVariants as bodies
 use Rattle.abc_tables.specs.declared.traits.TraitInfo.{TraitInfo}
-use Rattle.abc_meaning.specs.Throwing.{last_script}
+use Rattle.abc_outputs.specs.MeaningThrowing.{last_script}
 use Rattle.abc_world.specs.Setting.{Setting}
 
 abbrev pub method_in : TraitBody → Option ℕ

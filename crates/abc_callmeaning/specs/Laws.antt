@@ -15,10 +15,10 @@ use Rattle.abc_typing.specs.Lists.{Each}
 use Rattle.abc_typing.specs.Typing.{In}
 use Rattle.abc_world.specs.Setting.{Setting}
 use Rattle.abc_world.specs.World.{World}
-use Rattle.abc_meaning.specs.Laws.{IsVerified}
-use Rattle.abc_meaning.specs.Meaning.{runs_for}
-use Rattle.abc_meaning.specs.Sound.{AreTypings, IsSound, SteppedSound, Typings, WorldSound}
-use Rattle.abc_meaning.specs.Throwing.{Machine, Stuck, last_script}
+use Rattle.abc_outputs.specs.MeaningLaws.{IsVerified}
+use Rattle.abc_outputs.specs.MeaningMeaning.{runs_for}
+use Rattle.abc_outputs.specs.MeaningSound.{AreTypings, IsSound, SteppedSound, Typings, WorldSound}
+use Rattle.abc_outputs.specs.MeaningThrowing.{Machine, Stuck, last_script}
 use Rattle.abc_callmeaning.specs.Calls.{EndsAs, Gives, begins_call, call_meaning, enters_call, replies_for}
 
 -- a method trait of the last script, which is what is exported

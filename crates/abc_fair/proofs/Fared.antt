@@ -1,14 +1,14 @@
 -- An act of a sound state is fair, since it is sound.
 use Rattle.std.proofs.Common.{◌≢◌, suc, List, [], ◌∷◌, refl, arith}
-use Rattle.abc_acts.specs.At.{Above, Act, Goes, Returns, Stays}
+use Rattle.abc_unstuck.specs.ActsAt.{Above, Act, Goes, Returns, Stays}
 use Rattle.abc_base.specs.declared.names.HostClass.{HostClass}
 use Rattle.abc_base.specs.declared.names.HostClass.TheVariants as hosts
 use Rattle.abc_unstuck.proofs.GivenScoped.{scopes_given}
 use Rattle.abc_unstuck.proofs.GivenVerified.{file_given}
-use Rattle.abc_meaning.specs.Laws.{IsVerified}
-use Rattle.abc_meaning.specs.Sound.{Typings}
-use Rattle.abc_meaning.specs.Step.{runs}
-use Rattle.abc_meaning.specs.Throwing.{last_script}
+use Rattle.abc_unstuck.specs.MeaningLaws.{IsVerified}
+use Rattle.abc_unstuck.specs.MeaningSound.{Typings}
+use Rattle.abc_unstuck.specs.MeaningStep.{runs}
+use Rattle.abc_unstuck.specs.MeaningThrowing.{last_script}
 use Rattle.abc_cells.specs.declared.values.Value.{Value}
 use Rattle.abc_objects.specs.Stands.{Each as EachAt}
 use Rattle.abc_objects.specs.Values.{Exists}

@@ -1,6 +1,6 @@
 -- The state that a run begins with, and what it meets, depend on the names of the host's formulas alone.
 use Rattle.std.proofs.Common.{ℕ, List, [], length, ap}
-use Rattle.abc_meaning.specs.Throwing.{Machine}
+use Rattle.abc_unstuck.specs.MeaningThrowing.{Machine}
 use Rattle.abc_objects.specs.Opening.{opening}
 use Rattle.std.specs.Prelude.{false, replicate}
 use Rattle.abc_fair.specs.Premise.{FirstByNames}

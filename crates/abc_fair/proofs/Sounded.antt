@@ -21,10 +21,10 @@ use Rattle.abc_typing.specs.Routines.{Routine}
 use Rattle.abc_typing.specs.declared.state.Scope.{Scope}
 use Rattle.abc_world.specs.Setting.{Setting, routine_of}
 use Rattle.abc_world.specs.World.{Sticks, Stopped, World}
-use Rattle.abc_meaning.specs.Laws.{IsVerified}
-use Rattle.abc_meaning.specs.Sound.{AreTypings, FrameSound, IsOfKind, IsSound, ScopeHolds, SteppedSound, Typings}
-use Rattle.abc_meaning.specs.Step.{acted, runs, step}
-use Rattle.abc_meaning.specs.Throwing.{Ends, Machine, Stepped, Stuck}
+use Rattle.abc_unstuck.specs.MeaningLaws.{IsVerified}
+use Rattle.abc_unstuck.specs.MeaningSound.{AreTypings, FrameSound, IsOfKind, IsSound, ScopeHolds, SteppedSound, Typings}
+use Rattle.abc_unstuck.specs.MeaningStep.{acted, runs, step}
+use Rattle.abc_unstuck.specs.MeaningThrowing.{Ends, Machine, Stepped, Stuck}
 use Rattle.abc_typing.proofs.Fine.{stands}
 use Rattle.abc_unstuck.proofs.GivenFiled.{routine_found}
 use Rattle.abc_unstuck.proofs.SoundLists.{each_at, inside}

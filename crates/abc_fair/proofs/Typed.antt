@@ -1,6 +1,6 @@
 -- A verified setting has typings, one for each method that has a body.
-use Rattle.abc_meaning.specs.Laws.{IsVerified}
-use Rattle.abc_meaning.specs.Sound.{AreTypings, Typings}
+use Rattle.abc_unstuck.specs.MeaningLaws.{IsVerified}
+use Rattle.abc_unstuck.specs.MeaningSound.{AreTypings, Typings}
 use Rattle.abc_unstuck.proofs.Never.{are_typings, typings}
 use Rattle.abc_world.specs.Setting.{Setting}
 

@@ -6,8 +6,8 @@ use Rattle.abc_cells.specs.declared.values.Value.{Value}
 use Rattle.abc_unstuck.proofs.GivenFiled.{routine_found}
 use Rattle.abc_heap.specs.Heap.{Heap}
 use Rattle.abc_heap.specs.declared.records.ScopeEntry.{ScopeEntry}
-use Rattle.abc_meaning.specs.Laws.{IsVerified}
-use Rattle.abc_meaning.specs.Sound.{AreTypings, FrameSound, IsOfKind, ScopeHolds, Typings, WaitSound, WaitingSound}
+use Rattle.abc_unstuck.specs.MeaningLaws.{IsVerified}
+use Rattle.abc_unstuck.specs.MeaningSound.{AreTypings, FrameSound, IsOfKind, ScopeHolds, Typings, WaitSound, WaitingSound}
 use Rattle.abc_objects.specs.Values.{Exists, IsObject}
 use Rattle.abc_fair.proofs.Sounded.{place_counted}
 use Rattle.abc_program.specs.Linked.{LinkedFile}

@@ -1,9 +1,9 @@
 -- What comes of a step's parts, for the code that does them.
 use Rattle.std.specs.Prelude.{◌≡◌, ◌≢◌, ◌+◌, ◌<◌, ◌≤◌, ◌^◌, length}
-use Rattle.abc_acts.specs.At.{Above, Act, Goes, Returns, Stays}
+use Rattle.abc_unstuck.specs.ActsAt.{Above, Act, Goes, Returns, Stays}
 use Rattle.abc_base.specs.declared.names.HostClass.TheVariants as hosts
 use Rattle.abc_heap.specs.Heap.{Heap}
-use Rattle.abc_meaning.specs.Sound.{WorldSound, put_by, taken_by}
+use Rattle.abc_unstuck.specs.MeaningSound.{WorldSound, put_by, taken_by}
 use Rattle.abc_objects.specs.Growing.{Grows}
 use Rattle.abc_objects.specs.Stands.{AreEntries, Each, IsScope}
 use Rattle.abc_objects.specs.Values.{Exists}

@@ -1,10 +1,10 @@
 -- What is proved of the parts of a step from a sound state.
 use Rattle.std.specs.Prelude.{◌<◌, List, [], ◌∷◌, length}
 use Rattle.abc_cells.specs.declared.values.Value.{Value}
-use Rattle.abc_meaning.specs.Laws.{IsVerified}
-use Rattle.abc_meaning.specs.Sound.{AreTypings, IsSound, Typings, WorldSound}
-use Rattle.abc_meaning.specs.Step.{runs}
-use Rattle.abc_meaning.specs.Throwing.{last_script}
+use Rattle.abc_unstuck.specs.MeaningLaws.{IsVerified}
+use Rattle.abc_unstuck.specs.MeaningSound.{AreTypings, IsSound, Typings, WorldSound}
+use Rattle.abc_unstuck.specs.MeaningStep.{runs}
+use Rattle.abc_unstuck.specs.MeaningThrowing.{last_script}
 use Rattle.abc_objects.specs.Stands.{Each}
 use Rattle.abc_objects.specs.Values.{Exists}
 use Rattle.abc_stacks.specs.Frame.{Frame}

@@ -2,9 +2,9 @@
 use Rattle.std.specs.Prelude.{◌≡◌, List, ◌∷◌}
 use Rattle.abc_base.specs.declared.formula.Formula.{Formula}
 use Rattle.abc_heap.specs.declared.records.Limits.{Limits}
-use Rattle.abc_meaning.specs.Laws.{IsVerified}
-use Rattle.abc_meaning.specs.Meaning.{first_state}
-use Rattle.abc_meaning.specs.Sound.{AreTypings, IsSound, Typings}
+use Rattle.abc_unstuck.specs.MeaningLaws.{IsVerified}
+use Rattle.abc_unstuck.specs.Meaning.{first_state}
+use Rattle.abc_unstuck.specs.MeaningSound.{AreTypings, IsSound, Typings}
 use Rattle.abc_objects.specs.Opening.{formula_names}
 use Rattle.abc_program.specs.Linked.{LinkedFile}
 use Rattle.abc_stacks.specs.Frame.{Frame}

@@ -9,7 +9,7 @@ use Rattle.abc_tables.specs.declared.code.Instr.{Instr}
 use Rattle.abc_typing.specs.Routines.{Routine}
 use Rattle.abc_world.specs.Setting.{Setting, routine_of}
 use Rattle.abc_world.specs.World.{Sticks, Stopped, World}
-use Rattle.abc_meaning.specs.Step.{runs}
+use Rattle.abc_unstuck.specs.MeaningStep.{runs}
 
 -- what the newest frame names is there
 pub record IsThere (p : Setting) (w : World) (f : Frame) : Type 0 where

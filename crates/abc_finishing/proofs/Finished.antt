@@ -8,7 +8,7 @@ use Rattle.abc_base.specs.declared.formula.Formula.{Formula}
 use Rattle.abc_cells.specs.declared.values.Value.{Value}
 use Rattle.abc_ends.specs.Ending.{stepped_by}
 use Rattle.abc_ends.specs.declared.ended.Ended.{Ended}
-use Rattle.abc_meaning.specs.Throwing.{Stepped, goes_on}
+use Rattle.abc_ends.specs.MeaningThrowing.{Stepped, goes_on}
 use Rattle.abc_outward.specs.Outward.{Fails, Writes}
 use Rattle.abc_program.specs.Linked.{LinkedFile}
 use Rattle.abc_stacks.specs.Frame.{Frames, arguments, newest}

@@ -6,9 +6,9 @@ use Rattle.abc_cells.specs.declared.values.Value.{Value}
 use Rattle.abc_ends.specs.Ending.{IsFree, IsSized}
 use Rattle.abc_fair.specs.Fair.{IsFairAs, IsFairPart}
 use Rattle.abc_heap.specs.declared.records.Limits.{Limits}
-use Rattle.abc_meaning.specs.Sound.{put_by, taken_by}
-use Rattle.abc_meaning.specs.Step.{acted, gives_back, resumed, resumes}
-use Rattle.abc_meaning.specs.Throwing.{Stepped}
+use Rattle.abc_ends.specs.MeaningSound.{put_by, taken_by}
+use Rattle.abc_ends.specs.MeaningStep.{acted, gives_back, resumed, resumes}
+use Rattle.abc_ends.specs.MeaningThrowing.{Stepped}
 use Rattle.abc_moves.specs.Ready.{IsReady}
 use Rattle.abc_stacks.specs.Frame.{Frame, Frames, first_size, left, newest, newest_of, newest_size, rest_of, under, waiting, with_newest}
 use Rattle.abc_stacks.specs.declared.records.Size.{Size}

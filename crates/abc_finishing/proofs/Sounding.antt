@@ -7,10 +7,10 @@ use Rattle.abc_fair.proofs.Waited.{waiting_frames}
 use Rattle.abc_fair.specs.Fair.{IsFairAs, IsFairPart, IsLeft, IsWaiting}
 use Rattle.abc_heap.specs.Heap.{Heap}
 use Rattle.abc_makers.proofs.Keeping.{there_grown}
-use Rattle.abc_meaning.specs.Laws.{IsVerified}
-use Rattle.abc_meaning.specs.Sound.{AreTypings, IsSound, Typings, WaitSound, WorldSound}
-use Rattle.abc_meaning.specs.Step.{resumes, runs, step_of}
-use Rattle.abc_meaning.specs.Throwing.{Machine, Stepped, last_script}
+use Rattle.abc_ends.specs.MeaningLaws.{IsVerified}
+use Rattle.abc_ends.specs.MeaningSound.{AreTypings, IsSound, Typings, WaitSound, WorldSound}
+use Rattle.abc_ends.specs.MeaningStep.{resumes, runs, step_of}
+use Rattle.abc_ends.specs.MeaningThrowing.{Machine, Stepped, last_script}
 use Rattle.abc_objects.proofs.Grown.{exists_grown, grows_self}
 use Rattle.abc_objects.specs.Growing.{Grows}
 use Rattle.abc_objects.specs.Values.{Exists}

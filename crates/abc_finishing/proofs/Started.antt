@@ -13,8 +13,8 @@ use Rattle.abc_heap.specs.Heap.{Heap}
 use Rattle.abc_heap.specs.declared.records.Full.{Full}
 use Rattle.abc_heap.specs.declared.records.Limits.{Limits}
 use Rattle.abc_items.specs.Parts.{script_at}
-use Rattle.abc_meaning.specs.Step.{put_on, puts, size_of_frame, started as begun_by, step_of}
-use Rattle.abc_meaning.specs.Throwing.{last_script, stops}
+use Rattle.abc_ends.specs.MeaningStep.{put_on, puts, size_of_frame, started as begun_by, step_of}
+use Rattle.abc_ends.specs.MeaningThrowing.{last_script, stops}
 use Rattle.abc_objects.specs.Stands.{Each, StandsOver}
 use Rattle.abc_program.specs.Linked.{LinkedFile}
 use Rattle.abc_stacks.specs.Frame.{Frame, Frames, begun, newest, newest_of, room_for, started, total, total_of_all}

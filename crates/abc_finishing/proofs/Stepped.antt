@@ -2,8 +2,8 @@
 use Rattle.std.proofs.Common.{◌≡◌, ◌<◌, List, length, refl, sym, ap, ◌∙◌, subst}
 use Rattle.abc_ends.specs.Ending.{IsFree, IsSized, IsThrowable}
 use Rattle.abc_fair.specs.Fair.{IsFairStop}
-use Rattle.abc_meaning.specs.Sound.{SteppedSound, Typings}
-use Rattle.abc_meaning.specs.Throwing.{Stepped, stops}
+use Rattle.abc_ends.specs.MeaningSound.{SteppedSound, Typings}
+use Rattle.abc_ends.specs.MeaningThrowing.{Stepped, stops}
 use Rattle.abc_objects.specs.Stands.{StandsOver}
 use Rattle.abc_program.specs.Linked.{LinkedFile}
 use Rattle.abc_stacks.specs.Frame.{Frame, Frames, newest, under}

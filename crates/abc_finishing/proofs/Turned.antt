@@ -9,8 +9,8 @@ use Rattle.abc_fair.specs.Fair.{IsFairAs, IsLeft}
 use Rattle.abc_heap.specs.declared.records.Full.{Full}
 use Rattle.abc_heap.specs.declared.records.Limit.TheVariants.{Frames as FrameLimit, Stack as StackLimit}
 use Rattle.abc_heap.specs.declared.records.Limits.{Limits}
-use Rattle.abc_meaning.specs.Step.{acted, put_on, puts, size_of_frame, size_of_frames, values_kept}
-use Rattle.abc_meaning.specs.Throwing.{stops}
+use Rattle.abc_ends.specs.MeaningStep.{acted, put_on, puts, size_of_frame, size_of_frames, values_kept}
+use Rattle.abc_ends.specs.MeaningThrowing.{stops}
 use Rattle.abc_stacks.specs.Frame.{Frame, Frames, newest, newest_of, room_for, total, total_of_all, under}
 use Rattle.abc_stacks.specs.declared.records.Size.{Size}
 use Rattle.abc_states.specs.ActsAt.{Above, Act, Goes, Returns, Stays}

@@ -4,9 +4,9 @@ use Rattle.abc_cells.specs.declared.values.Value.{Value}
 use Rattle.abc_ends.specs.Ending.{IsFree, IsSized}
 use Rattle.abc_entering.specs.Arguments.{IsKnown}
 use Rattle.abc_fair.specs.Fair.{IsFairPart, IsFairStop, IsWaiting}
-use Rattle.abc_meaning.specs.Sound.{WorldSound}
-use Rattle.abc_meaning.specs.Step.{resumed, resumes}
-use Rattle.abc_meaning.specs.Throwing.{Stepped, last_script}
+use Rattle.abc_ends.specs.MeaningSound.{WorldSound}
+use Rattle.abc_ends.specs.MeaningStep.{resumed, resumes}
+use Rattle.abc_ends.specs.MeaningThrowing.{Stepped, last_script}
 use Rattle.abc_objects.specs.Stands.{StandsOver}
 use Rattle.abc_objects.specs.Values.{Exists}
 use Rattle.abc_program.specs.Linked.{LinkedFile}

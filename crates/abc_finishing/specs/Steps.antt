@@ -7,10 +7,10 @@ use Rattle.abc_base.specs.Sinks.{GrowsByFront}
 use Rattle.abc_ends.specs.Ending.{IsSized, end_of}
 use Rattle.abc_ends.specs.declared.ended.Ended.{Ended}
 use Rattle.abc_entering.specs.Arguments.{IsKnown}
-use Rattle.abc_meaning.specs.Laws.{IsVerified}
-use Rattle.abc_meaning.specs.Sound.{AreTypings, IsSound, Typings}
-use Rattle.abc_meaning.specs.Step.{gives_back, step_of}
-use Rattle.abc_meaning.specs.Throwing.{Done, End, Ends, Machine, Stepped, Steps, goes_on, stops}
+use Rattle.abc_ends.specs.MeaningLaws.{IsVerified}
+use Rattle.abc_ends.specs.MeaningSound.{AreTypings, IsSound, Typings}
+use Rattle.abc_ends.specs.MeaningStep.{gives_back, step_of}
+use Rattle.abc_ends.specs.MeaningThrowing.{Done, End, Ends, Machine, Stepped, Steps, goes_on, stops}
 use Rattle.abc_outward.specs.Outward.{adding}
 use Rattle.abc_program.specs.Linked.{LinkedFile}
 use Rattle.abc_stacks.specs.Frame.{under}

@@ -4,7 +4,7 @@ ghost use Rattle.abc_cells.specs.declared.values.Value.{Value};
 ghost use Rattle.abc_ends.specs.Ending.{IsFree, IsSized, stepped_by};
 ghost use Rattle.abc_entering.specs.Arguments.{IsKnown};
 ghost use Rattle.abc_fair.specs.Fair.{IsFairPart};
-ghost use Rattle.abc_meaning.specs.Step.{gives_back, resumes};
+ghost use Rattle.abc_ends.specs.MeaningStep.{gives_back, resumes};
 ghost use Rattle.abc_moves.specs.Ready.{IsReady};
 ghost use Rattle.abc_objects.specs.Values.{Exists};
 ghost use Rattle.abc_stacks.specs.Frame.{newest, under};

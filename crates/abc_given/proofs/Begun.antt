@@ -46,7 +46,7 @@ use Rattle.abc_tables.specs.declared.traits.TraitBody.TheVariants as traits
 use Rattle.abc_tables.specs.declared.traits.TraitInfo.{TraitInfo}
 use Rattle.abc_typing.specs.Lists.{Each, Each2}
 use Rattle.abc_typing.proofs.Lists.{Each-append}
-use Rattle.abc_meaning.specs.Sound.{SlotHolds}
+use Rattle.abc_opsound.specs.MeaningSound.{SlotHolds}
 use Rattle.abc_opsound.proofs.SoundLists.{each_at}
 use Rattle.abc_given.proofs.Indexed.{none_passes, or_left, or_right}
 use Rattle.abc_given.proofs.Filed.{traits_run}

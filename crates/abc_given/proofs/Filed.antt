@@ -59,8 +59,8 @@ use Rattle.abc_typing.specs.Lists.{Each}
 use Rattle.abc_typing.specs.Routines.{Routine, filled_by, routine}
 use Rattle.abc_typing.proofs.Lists.{Each-append, Each-map}
 use Rattle.abc_typing.proofs.Member.{and_left, and_right}
-use Rattle.abc_world.specs.Setting.{Setting, raw_value, routine_in, routine_of, string_of}
-use Rattle.abc_acts.specs.Simple.{whole}
+use Rattle.abc_opsound.specs.WorldSetting.{Setting, raw_value, routine_in, routine_of, string_of}
+use Rattle.abc_opsound.specs.ActsSimple.{whole}
 use Rattle.abc_opsound.specs.SoundGiven.{HasTarget, IsFormed, IsMethod, IsType, OptionExists}
 use Rattle.abc_opsound.proofs.SoundLists.{inside}
 use Rattle.abc_given.proofs.Indexed.{all_each, first_passed, got, is_at, map_at, no_break, none_passes, or_left, or_right}

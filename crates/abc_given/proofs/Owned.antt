@@ -28,7 +28,7 @@ use Rattle.abc_tables.specs.declared.traits.TraitInfo.{TraitInfo}
 use Rattle.abc_typing.specs.Routines.{routine}
 use Rattle.abc_typing.specs.Typing.{In}
 use Rattle.abc_typing.proofs.Member.{in_left, in_right}
-use Rattle.abc_world.specs.Setting.{Setting, routine_in}
+use Rattle.abc_opsound.specs.WorldSetting.{Setting, routine_in}
 use Rattle.abc_opsound.specs.SoundGiven.{HasBody, IsOwned}
 use Rattle.abc_given.proofs.Indexed.{first_passed, first_there, got, is_at, no_break}
 use Rattle.abc_given.proofs.Filed.{definitions}

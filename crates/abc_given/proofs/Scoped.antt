@@ -33,8 +33,8 @@ use Rattle.abc_tables.specs.declared.code.Handler.{Handler}
 use Rattle.abc_tables.specs.declared.tables.Abc.{Abc}
 use Rattle.abc_typing.specs.Routines.{Routine, catches}
 use Rattle.abc_typing.specs.declared.catch.Catch.{Catch}
-use Rattle.abc_world.specs.Setting.{Setting, routine_of}
-use Rattle.abc_meaning.specs.Sound.{PartSound}
+use Rattle.abc_opsound.specs.WorldSetting.{Setting, routine_of}
+use Rattle.abc_opsound.specs.MeaningSound.{PartSound}
 use Rattle.abc_opsound.specs.SoundGiven.{BaseKnown, IsScopeLayout, ScopesGiven}
 use Rattle.abc_opsound.proofs.SoundGrowing.{first_is}
 use Rattle.abc_opsound.proofs.SoundLists.{inside}

@@ -1,7 +1,7 @@
 -- What is given of a verified file, all together.
 use Rattle.abc_objects.proofs.Started.{stored}
 use Rattle.abc_program.specs.Linked.{IsLinkedFile}
-use Rattle.abc_world.specs.Setting.{Setting}
+use Rattle.abc_opsound.specs.WorldSetting.{Setting}
 use Rattle.abc_opsound.specs.SoundGiven.{FileGiven}
 use Rattle.abc_given.proofs.Begun.{starts_hold}
 use Rattle.abc_given.proofs.Filed.{formed, int_there, method_is, some_script, uint_there}

@@ -1,7 +1,7 @@
 -- What is proved of a linked file.
 use Rattle.abc_program.specs.Linked.{IsLinkedFile}
 use Rattle.abc_opsound.specs.SoundGiven.{FileGiven, ScopesGiven}
-use Rattle.abc_world.specs.Setting.{Setting}
+use Rattle.abc_opsound.specs.WorldSetting.{Setting}
 
 abbrev pub FilesGive : Type 0
 FilesGive = (p : Setting) → IsLinkedFile p.linked → FileGiven p

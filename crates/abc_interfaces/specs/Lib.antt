@@ -23,3 +23,6 @@ pub use Rattle.abc_program.specs.Meanings
 pub use Rattle.abc_program.specs.Numbers
 pub use Rattle.abc_program.specs.Heirs
 pub use Rattle.abc_program.specs.Listed
+pub use Rattle.abc_program.specs.Starts
+pub use Rattle.abc_program.specs.StartsRawType
+pub use Rattle.abc_program.specs.Start

@@ -30,3 +30,4 @@ pub use Rattle.abc_starts.specs.Index
 pub use Rattle.abc_graph.specs.Graph
 pub use Rattle.abc_graph.specs.Names
 pub use Rattle.abc_graph.specs.HostClass
+pub use Rattle.abc_starts.specs.declared.start.Raw as StartsRawType

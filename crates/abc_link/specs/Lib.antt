@@ -18,3 +18,6 @@ pub use Rattle.abc_interfaces.specs.ItemsTraits as Traits
 pub use Rattle.abc_search_tables.specs.ScriptTraits
 pub use Rattle.abc_search_tables.specs.OwnSlots
 pub use Rattle.abc_search_tables.specs.LayoutsNumbering
+pub use Rattle.abc_interfaces.specs.Starts
+pub use Rattle.abc_interfaces.specs.StartsRawType
+pub use Rattle.abc_interfaces.specs.Start

@@ -32,11 +32,11 @@ use Rattle.abc_program.specs.declared.part.Part.TheVariants as parts
 use Rattle.abc_program.specs.declared.types.Ty.TheVariants as types
 use Rattle.abc_items.specs.Bases.{base_graph}
 use Rattle.abc_typing.proofs.Lists.{slice_get-pushed, slice_get-last}
-use Rattle.abc_world.specs.Objects.{Place, class_object, flat, kept_by, new_class, prototype_for}
-use Rattle.abc_world.specs.Setting.{Setting}
-use Rattle.abc_world.specs.World.{Errs, Went, World, and_then, object, some}
-use Rattle.abc_acts.specs.Newing.{base_prototype, is_none, is_that}
-use Rattle.abc_meaning.specs.Sound.{AreMade, IsMade, IsWithin, ObjectSound, PartSound, SlotHolds, WhatSound, WorldSound}
+use Rattle.abc_plainacts.specs.WorldObjects.{Place, class_object, flat, kept_by, new_class, prototype_for}
+use Rattle.abc_plainacts.specs.WorldSetting.{Setting}
+use Rattle.abc_plainacts.specs.WorldWorld.{Errs, Went, World, and_then, object, some}
+use Rattle.abc_plainacts.specs.ActsNewing.{base_prototype, is_none, is_that}
+use Rattle.abc_plainacts.specs.MeaningSound.{AreMade, IsMade, IsWithin, ObjectSound, PartSound, SlotHolds, WhatSound, WorldSound}
 use Rattle.abc_plainacts.specs.SoundGiven.{BaseKnown, FileGiven, ScopesGiven}
 use Rattle.abc_plainacts.specs.SoundKeeping.{Evolves, Fares, Leaves}
 use Rattle.abc_plainacts.proofs.SoundFaring.{cells_then, done_fares, if_fares, objects_then, stop_fares, went_fares}

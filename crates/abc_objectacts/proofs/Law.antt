@@ -1,8 +1,8 @@
 -- The theorem, from what is given of the file, the operations and the searches.
 use Rattle.std.proofs.Common.{[]}
-use Rattle.abc_world.specs.Setting.{Setting}
-use Rattle.abc_acts.specs.Table.{acts, call_acts, class_acts, object_acts, operation_acts, plain_acts, walking_acts}
-use Rattle.abc_meaning.specs.Sound.{AreTypings, Typings}
+use Rattle.abc_plainacts.specs.WorldSetting.{Setting}
+use Rattle.abc_plainacts.specs.ActsTable.{acts, call_acts, class_acts, object_acts, operation_acts, plain_acts, walking_acts}
+use Rattle.abc_plainacts.specs.MeaningSound.{AreTypings, Typings}
 use Rattle.abc_plainacts.specs.SoundKeeping.{GroupsHold}
 use Rattle.abc_objectacts.specs.Laws.{Given, RunsNeverStick, StepsStaySound}
 use Rattle.abc_plainacts.proofs.Calls.{new_fares}

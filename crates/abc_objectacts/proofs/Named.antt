@@ -35,23 +35,23 @@ use Rattle.abc_typing.specs.declared.rule.VerifyRule.{VerifyRule}
 use Rattle.abc_typing.specs.declared.rule.VerifyRule.TheVariants.{NotObject, SlotIndex}
 use Rattle.abc_typing.specs.declared.state.Scope.{Scope}
 use Rattle.abc_typing.proofs.Member.{and_left, and_right}
-use Rattle.abc_world.specs.Calling.{Came, Calls, Got, Makes, calls}
-use Rattle.abc_world.specs.Entering.{global}
-use Rattle.abc_world.specs.Making.{new}
-use Rattle.abc_world.specs.Members.{calls_name, deletes, reads, write_slot, writes_to}
-use Rattle.abc_world.specs.Setting.{Setting}
-use Rattle.abc_world.specs.World.{Errs, Run, World, object, see, some, ◌>>=◌}
+use Rattle.abc_plainacts.specs.WorldCalling.{Came, Calls, Got, Makes, calls}
+use Rattle.abc_plainacts.specs.WorldEntering.{global}
+use Rattle.abc_plainacts.specs.WorldMaking.{new}
+use Rattle.abc_plainacts.specs.WorldMembers.{calls_name, deletes, reads, write_slot, writes_to}
+use Rattle.abc_plainacts.specs.WorldSetting.{Setting}
+use Rattle.abc_plainacts.specs.WorldWorld.{Errs, Run, World, object, see, some, ◌>>=◌}
 use Rattle.abc_stacks.specs.declared.records.Wait.TheVariants as waits
-use Rattle.abc_acts.specs.At.{Act, Doing, drops_came, gives, gives_came, makes_of, next, one, pushed, two, waiting, with_args as with_arguments}
-use Rattle.abc_acts.specs.Late.{on_slot, reads_slot, writes_slot}
-use Rattle.abc_acts.specs.Names.{name_of}
-use Rattle.abc_acts.specs.Newing.{entries_of, makes_array, makes_object, set_all}
-use Rattle.abc_acts.specs.Scopes.{find_in_scopes, finds, finds_and_reads, finds_or_global, finds_strictly, found_in, is_missing, pushes}
-use Rattle.abc_acts.specs.Simple.{flag}
-use Rattle.abc_acts.specs.Table.{call_acts, object_acts}
-use Rattle.abc_meaning.specs.Sound.{AreTypings, IsOfKind, ScopeHolds, SlotHolds, Stands, Typings, WaitingSound, WorldSound}
-use Rattle.abc_meaning.specs.Tests.{parts_count}
-use Rattle.abc_meaning.proofs.ValueKinds.{below_object}
+use Rattle.abc_plainacts.specs.ActsAt.{Act, Doing, drops_came, gives, gives_came, makes_of, next, one, pushed, two, waiting, with_args as with_arguments}
+use Rattle.abc_plainacts.specs.ActsLate.{on_slot, reads_slot, writes_slot}
+use Rattle.abc_plainacts.specs.ActsNames.{name_of}
+use Rattle.abc_plainacts.specs.ActsNewing.{entries_of, makes_array, makes_object, set_all}
+use Rattle.abc_plainacts.specs.ActsScopes.{find_in_scopes, finds, finds_and_reads, finds_or_global, finds_strictly, found_in, is_missing, pushes}
+use Rattle.abc_plainacts.specs.ActsSimple.{flag}
+use Rattle.abc_plainacts.specs.ActsTable.{call_acts, object_acts}
+use Rattle.abc_plainacts.specs.MeaningSound.{AreTypings, IsOfKind, ScopeHolds, SlotHolds, Stands, Typings, WaitingSound, WorldSound}
+use Rattle.abc_plainacts.specs.MeaningTests.{parts_count}
+use Rattle.abc_plainacts.proofs.MeaningValueKinds.{below_object}
 use Rattle.abc_plainacts.specs.SoundGiven.{FileGiven, OpsGiven, ScopeFoundSound, SearchGiven}
 use Rattle.abc_plainacts.specs.SoundKeeping.{ActSound, EntrySound, Fares, Leaves}
 use Rattle.abc_plainacts.proofs.Calls.{calls_fares, new_fares, object_sound}
@@ -352,7 +352,7 @@ module _ (p : Setting) (file : FileGiven p) (ops : OpsGiven p) (search : SearchG
       with_wait p file typings typed n.heap (with_arguments a) (waits.New (length a.args))
       (record { routine = rest.routine; body = rest.body; home = rest.home; saved = rest.saved; locals = rest.locals; stack = omega (arith, room, all, count); scopes = rest.scopes })
       (record { state = catches.state; typed = catches.typed; locals = catches.locals })
-      (record { there = omega (arith, all, count); exist = subst (Each (Exists p.linked n.heap)) (sym taken_is) args; typed = subst (λ vs. Rattle.abc_meaning.specs.Sound.IsTypedPushed p typings n.heap (record (with_arguments a) { stack = vs })) (sym left_is) (record { state = pushed_rest.state; typed = pushed_rest.typed; top = pushed_rest.top; rest = pushed_rest.rest; stack = pushed_rest.stack; any = pushed_rest.any; is = record { stack = pushed_rest.is.stack; scopes = pushed_rest.is.scopes; locals = pushed_rest.is.locals } }) })
+      (record { there = omega (arith, all, count); exist = subst (Each (Exists p.linked n.heap)) (sym taken_is) args; typed = subst (λ vs. Rattle.abc_plainacts.specs.MeaningSound.IsTypedPushed p typings n.heap (record (with_arguments a) { stack = vs })) (sym left_is) (record { state = pushed_rest.state; typed = pushed_rest.typed; top = pushed_rest.top; rest = pushed_rest.rest; stack = pushed_rest.stack; any = pushed_rest.any; is = record { stack = pushed_rest.is.stack; scopes = pushed_rest.is.scopes; locals = pushed_rest.is.locals } }) })
 
   made_fares : (c : Case p typings 0x4A (with_args 1 (naming NameAt (makes (needed.Runtime ∷ needed.Value ∷ []) rows.Any)))) (n : World) → Leaves p c.world n → (x : Came) → Reads p file ops typings typed n x → Fares p n (makes_of (at_of c) (λ v. new p v (at_of c).args) x n) (ActSound p typings c.frame)
   made_fares c n l (Got v) h =

@@ -56,17 +56,17 @@ use Rattle.abc_typing.specs.declared.rule.VerifyRule.TheVariants.{NotHere, NotOb
 use Rattle.abc_typing.proofs.Member.{and_left, and_right}
 use Rattle.abc_typing.proofs.Lists.{slice_get-some}
 use Rattle.abc_typing.proofs.Reaching.{below_reached}
-use Rattle.abc_world.specs.Calling.{Came}
-use Rattle.abc_world.specs.Objects.{class_object, place, place_of_owner, prototype_for, statics_of}
-use Rattle.abc_world.specs.Setting.{Setting, routine_in}
-use Rattle.abc_world.specs.World.{Errs, Run, World, object}
+use Rattle.abc_plainacts.specs.WorldCalling.{Came}
+use Rattle.abc_plainacts.specs.WorldObjects.{class_object, place, place_of_owner, prototype_for, statics_of}
+use Rattle.abc_plainacts.specs.WorldSetting.{Setting, routine_in}
+use Rattle.abc_plainacts.specs.WorldWorld.{Errs, Run, World, object}
 use Rattle.abc_stacks.specs.declared.records.Wait.TheVariants as waits
-use Rattle.abc_acts.specs.At.{At, Doing, drops_came, gives, gives_came, one, waiting}
-use Rattle.abc_acts.specs.Newing.{makes_activation, makes_catch, makes_class, makes_function, new_scope_object, unmade}
-use Rattle.abc_acts.specs.Supers.{base_of_maker, calls_super, constructs_super, on_receiver, on_super, reads_super, runs_base, strict, super_found, writes_super}
-use Rattle.abc_acts.specs.Table.{class_acts}
-use Rattle.abc_meaning.specs.Sound.{AreMade, AreTypings, IsMade, IsOfKind, Typings, WaitingSound, WhatSound, WorldSound}
-use Rattle.abc_meaning.specs.Tests.{parts_count}
+use Rattle.abc_plainacts.specs.ActsAt.{At, Doing, drops_came, gives, gives_came, one, waiting}
+use Rattle.abc_plainacts.specs.ActsNewing.{makes_activation, makes_catch, makes_class, makes_function, new_scope_object, unmade}
+use Rattle.abc_plainacts.specs.ActsSupers.{base_of_maker, calls_super, constructs_super, on_receiver, on_super, reads_super, runs_base, strict, super_found, writes_super}
+use Rattle.abc_plainacts.specs.ActsTable.{class_acts}
+use Rattle.abc_plainacts.specs.MeaningSound.{AreMade, AreTypings, IsMade, IsOfKind, Typings, WaitingSound, WhatSound, WorldSound}
+use Rattle.abc_plainacts.specs.MeaningTests.{parts_count}
 use Rattle.abc_plainacts.specs.SoundGiven.{BaseRuns, FileGiven, FoundSound, HasBody, IsScopeLayout, MakersGiven, OpsGiven, OwnedSound, ScopesGiven, SearchGiven, base_of}
 use Rattle.abc_plainacts.specs.SoundKeeping.{ActSound, CameSound, EntrySound, Fares, Leaves}
 use Rattle.abc_plainacts.proofs.Calls.{host_arguments_fares, set_message_fares}
@@ -354,7 +354,7 @@ module _ (p : Setting) (file : FileGiven p) (ops : OpsGiven p) (search : SearchG
           then_fares p c.world _ _ _ _ (at_unmade c v (class_object k c.world) refl) (λ n u l e.
           then_fares p n _ _ _ _ (base_fares p file scopes n (base_named p.linked.file k) v l.sound (scopes.bases k low)) (λ i base l' hb.
           let z = leaves_trans p c.world n i l l' in
-          let none : class_object k i ≡ None = ap (λ (h : Heap). Rattle.abc_world.specs.Objects.flat (slice_get h.classes k)) (hb.2 ∙ e.0) ∙ e.1 in
+          let none : class_object k i ≡ None = ap (λ (h : Heap). Rattle.abc_plainacts.specs.WorldObjects.flat (slice_get h.classes k)) (hb.2 ∙ e.0) ∙ e.1 in
           then_fares p i _ _ _ _ (new_class_fares p file scopes i k c.frame.home base c.frame.saved c.frame.scopes l'.sound low c.ready.home none hb.0 (scope_grown c.world.heap i.heap c.frame.saved z.grows.grows c.ready.saved) (entries_at 0x58 class_row c i z) (above_made i k low hb.1)) (λ m o l'' made.
           let z' = leaves_trans p c.world i m z l'' in
           let kind : IsOfKind p.linked m.heap (object_of p.linked (parts.ClassObject k)) (Obj o) = record { exists = made.inside; kind = (made.inside, subst (λ x. IsBelow p.linked x (layout_of p.linked (parts.ClassObject k)).0) (sym made.layout) (below_self p.linked (layout_of p.linked (parts.ClassObject k)).0)) } in

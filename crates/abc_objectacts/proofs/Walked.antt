@@ -31,12 +31,12 @@ use Rattle.abc_typing.specs.Rules.{has_locals}
 use Rattle.abc_typing.specs.declared.rule.VerifyRule.TheVariants.{LocalIndex}
 use Rattle.abc_typing.proofs.Lists.{Each2-length, Each2-set}
 use Rattle.abc_typing.proofs.Member.{and_left, and_right}
-use Rattle.abc_world.specs.Setting.{Setting}
-use Rattle.abc_world.specs.World.{World, done, object, see, ◌>>=◌}
-use Rattle.abc_acts.specs.At.{Doing, gives, goes, pushed, two, with_local}
-use Rattle.abc_acts.specs.Walking.{Position, element_text, first_along, has_next, has_next2, name_in, next_along, next_in, number_or_zero, object_number, or_later, position, position_at, text_or_null, value_in, value_or_undefined, walked, walks_to}
-use Rattle.abc_meaning.specs.Sound.{AreTypings, IsOfKind, Typings, WorldSound}
-use Rattle.abc_meaning.proofs.ValueKinds.{below_object}
+use Rattle.abc_plainacts.specs.WorldSetting.{Setting}
+use Rattle.abc_plainacts.specs.WorldWorld.{World, done, object, see, ◌>>=◌}
+use Rattle.abc_plainacts.specs.ActsAt.{Doing, gives, goes, pushed, two, with_local}
+use Rattle.abc_plainacts.specs.ActsWalking.{Position, element_text, first_along, has_next, has_next2, name_in, next_along, next_in, number_or_zero, object_number, or_later, position, position_at, text_or_null, value_in, value_or_undefined, walked, walks_to}
+use Rattle.abc_plainacts.specs.MeaningSound.{AreTypings, IsOfKind, Typings, WorldSound}
+use Rattle.abc_plainacts.proofs.MeaningValueKinds.{below_object}
 use Rattle.abc_plainacts.specs.SoundGiven.{FileGiven, OpsGiven}
 use Rattle.abc_plainacts.specs.SoundKeeping.{ActSound, EntrySound, Fares}
 use Rattle.abc_plainacts.proofs.Cases.{Case, Sound, at_of, by_case, here_of, two_give, entry}

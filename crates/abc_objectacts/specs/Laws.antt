@@ -1,10 +1,10 @@
 -- What is promised: no step from a sound state is stuck, and what it leaves is sound.
 use Rattle.std.specs.Prelude.{◌≡◌, ℕ}
-use Rattle.abc_world.specs.Setting.{Setting}
-use Rattle.abc_meaning.specs.Meaning.{runs_for}
-use Rattle.abc_meaning.specs.Sound.{AreTypings, IsSound, SteppedSound, Typings}
-use Rattle.abc_meaning.specs.Step.{step}
-use Rattle.abc_meaning.specs.Throwing.{Machine, Stuck}
+use Rattle.abc_plainacts.specs.WorldSetting.{Setting}
+use Rattle.abc_plainacts.specs.Meaning.{runs_for}
+use Rattle.abc_plainacts.specs.MeaningSound.{AreTypings, IsSound, SteppedSound, Typings}
+use Rattle.abc_plainacts.specs.MeaningStep.{step}
+use Rattle.abc_plainacts.specs.MeaningThrowing.{Machine, Stuck}
 use Rattle.abc_plainacts.specs.SoundGiven.{FileGiven, MakersGiven, OpsGiven, ScopesGiven, SearchGiven}
 
 -- what is given of the file, the operations and the searches

@@ -28,8 +28,8 @@ use Rattle.abc_link.specs.Part.TheVariants as parts
 use Rattle.abc_link.proofs.Finding.{place_low, falling}
 use Rattle.abc_link.specs.Slots.{slots_of, own_slots}
 use Rattle.abc_link.specs.SlotInfo.{SlotInfo}
-use Rattle.abc_starts.specs.declared.start.Start.{Start}
-use Rattle.abc_starts.specs.declared.start.Start.TheVariants as starts
+use Rattle.abc_link.specs.Start.{Start}
+use Rattle.abc_link.specs.Start.TheVariants as starts
 use Rattle.abc_objects.specs.Fixed.{fixed_bytes}
 use Rattle.abc_objects.specs.Starts.{start_value, start_values, StartExists, StartsExist, StartsIn, CanStart}
 use Rattle.abc_objects.specs.Values.{Exists}

@@ -38,12 +38,12 @@ use Rattle.abc_link.specs.Part.TheVariants as parts
 use Rattle.abc_link.specs.SlotInfo.{SlotInfo}
 use Rattle.abc_link.specs.Ty.TheVariants as types
 use Rattle.abc_link.specs.ItemsParts.{body_at, class_at, no_body, no_class, no_script, script_at}
-use Rattle.abc_starts.specs.Starts.{coerced, default_of, host_default, int_at, number_of, raw_of, space_value, start_of, to_any, to_boolean, to_class, to_host, to_int, to_namespace, to_number, to_object, to_text, to_uint, to_void, uint_at}
+use Rattle.abc_link.specs.Starts.{coerced, default_of, host_default, int_at, number_of, raw_of, space_value, start_of, to_any, to_boolean, to_class, to_host, to_int, to_namespace, to_number, to_object, to_text, to_uint, to_void, uint_at}
 use Rattle.abc_link.specs.Traits.{type_or_any}
-use Rattle.abc_starts.specs.declared.start.Raw.{Raw}
-use Rattle.abc_starts.specs.declared.start.Raw.TheVariants as raws
-use Rattle.abc_starts.specs.declared.start.Start.{Start}
-use Rattle.abc_starts.specs.declared.start.Start.TheVariants as starts
+use Rattle.abc_link.specs.StartsRawType.{Raw}
+use Rattle.abc_link.specs.StartsRawType.TheVariants as raws
+use Rattle.abc_link.specs.Start.{Start}
+use Rattle.abc_link.specs.Start.TheVariants as starts
 use Rattle.abc_tables.specs.Classes.{sizes_of}
 use Rattle.abc_tables.specs.Files.{Fits}
 use Rattle.abc_tables.specs.Methods.{has_value}

@@ -11,8 +11,8 @@ use Rattle.abc_objects.specs.Values.{IsSpace}
 use Rattle.abc_link.specs.ProgramLinked.{LinkedFile}
 use Rattle.abc_link.specs.Slots.{slots_of}
 use Rattle.abc_link.specs.SlotInfo.{SlotInfo}
-use Rattle.abc_starts.specs.declared.start.Start.{Start}
-use Rattle.abc_starts.specs.declared.start.Start.TheVariants as starts
+use Rattle.abc_link.specs.Start.{Start}
+use Rattle.abc_link.specs.Start.TheVariants as starts
 
 -- a string of the pool; that of index 0 is the fixed empty text
 abbrev pub string_span : List (List ℕ) → ℕ → Span

@@ -12,7 +12,7 @@ use Rattle.abc_link.specs.Slots.{slots_of}
 use Rattle.abc_link.specs.Tree.{IsBelow}
 use Rattle.abc_link.specs.Types.{kind_of_type}
 use Rattle.abc_link.specs.Ty.TheVariants as types
-use Rattle.abc_starts.specs.declared.start.Start.TheVariants as starts
+use Rattle.abc_link.specs.Start.TheVariants as starts
 use Rattle.abc_link.specs.Kind.{Kind}
 use Rattle.abc_link.specs.Kind.TheVariants as kinds
 

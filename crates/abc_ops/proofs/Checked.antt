@@ -21,7 +21,7 @@ use Rattle.abc_heap.specs.Heap.{Heap}
 use Rattle.abc_heap.specs.Texts.{text_of}
 use Rattle.abc_names.specs.Pool.{same_space}
 use Rattle.abc_ops.proofs.Spaces.{same_space_equivalence}
-use Rattle.abc_program.specs.Linked.{LinkedFile}
+use Rattle.abc_kinds.specs.ProgramLinked.{LinkedFile}
 use Rattle.abc_ops.specs.Compares.{or_fault}
 use Rattle.abc_ops.specs.Laws.{ConvertsModulo, IntegersAreModulo, IsRemainder, ModuloHasTheSign, OrdersAreOpposed, ShiftsUseFiveBits, StrictEqualsIsEquivalence, UndefinedIsUnordered}
 use Rattle.abc_ops.specs.Left.{Left, gives, number_or_fault, unchanged}

@@ -7,9 +7,9 @@ use Rattle.abc_cells.specs.declared.values.Value.TheVariants as values
 use Rattle.abc_conversions.specs.Kinds.{is_nothing, is_undefined}
 use Rattle.abc_conversions.specs.declared.numbers.Conversion.TheVariants as conversions
 use Rattle.abc_heap.specs.Heap.{Heap}
-use Rattle.abc_program.specs.Linked.{LinkedFile}
-use Rattle.abc_program.specs.declared.types.Ty.{Ty}
-use Rattle.abc_program.specs.declared.types.Ty.TheVariants as types
+use Rattle.abc_kinds.specs.ProgramLinked.{LinkedFile}
+use Rattle.abc_kinds.specs.ProgramTyType.{Ty}
+use Rattle.abc_kinds.specs.ProgramTyType.TheVariants as types
 use Rattle.abc_ops.specs.Conversions.{converted}
 use Rattle.abc_ops.specs.Left.{Leaves, gives}
 use Rattle.abc_ops.specs.Types.{IsOf}

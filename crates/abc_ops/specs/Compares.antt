@@ -11,7 +11,7 @@ use Rattle.abc_conversions.specs.declared.opcodes.Comparison.TheVariants.{Equal,
 use Rattle.abc_heap.specs.Heap.{Heap}
 use Rattle.abc_heap.specs.Texts.{text_of}
 use Rattle.abc_names.specs.Pool.{same_space}
-use Rattle.abc_program.specs.Linked.{LinkedFile}
+use Rattle.abc_kinds.specs.ProgramLinked.{LinkedFile}
 use Rattle.abc_ops.specs.declared.end.OpEnd.{OpEnd}
 use Rattle.abc_ops.specs.declared.end.OpEnd.TheVariants as ends
 

@@ -13,7 +13,7 @@ use Rattle.abc_conversions.specs.declared.numbers.Conversion.{Conversion}
 use Rattle.abc_conversions.specs.declared.numbers.Conversion.TheVariants as conversions
 use Rattle.abc_heap.specs.Heap.{Heap}
 use Rattle.abc_names.specs.Pool.{space}
-use Rattle.abc_program.specs.Linked.{LinkedFile}
+use Rattle.abc_kinds.specs.ProgramLinked.{LinkedFile}
 use Rattle.abc_objects.specs.Fixed.{fixed_span}
 use Rattle.abc_objects.specs.Starts.{string_span}
 use Rattle.abc_objects.specs.declared.fixed.FixedText.TheVariants as fixed

@@ -11,7 +11,7 @@ use Rattle.abc_conversions.specs.declared.opcodes.Comparison.TheVariants.{Ordere
 use Rattle.abc_conversions.specs.declared.order.Order.{Order}
 use Rattle.abc_conversions.specs.declared.order.Order.TheVariants.{Less, LessOrEqual, Greater, GreaterOrEqual}
 use Rattle.abc_heap.specs.Heap.{Heap}
-use Rattle.abc_program.specs.Linked.{LinkedFile}
+use Rattle.abc_kinds.specs.ProgramLinked.{LinkedFile}
 use Rattle.abc_ops.specs.Compares.{compared, compared_as}
 use Rattle.abc_ops.specs.Conversions.{converted}
 use Rattle.abc_ops.specs.Left.{gives}

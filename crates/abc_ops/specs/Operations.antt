@@ -10,7 +10,7 @@ use Rattle.abc_heap.specs.Heap.{Heap, object_at}
 use Rattle.abc_heap.specs.Texts.{text_of}
 use Rattle.abc_heap.specs.declared.records.What.{What}
 use Rattle.abc_heap.specs.declared.records.What.TheVariants as whats
-use Rattle.abc_program.specs.Linked.{LinkedFile}
+use Rattle.abc_kinds.specs.ProgramLinked.{LinkedFile}
 use Rattle.abc_objects.specs.Fixed.{fixed_span}
 use Rattle.abc_objects.specs.declared.fixed.FixedText.{FixedText}
 use Rattle.abc_objects.specs.declared.fixed.FixedText.TheVariants as fixed

@@ -1,6 +1,6 @@
 ghost use Rattle.std.specs.Prelude.{◌≡◌, IfOk};
 ghost use Rattle.abc_heap.specs.Heap.{Heap};
-ghost use Rattle.abc_program.specs.Linked.{LinkedFile};
+ghost use Rattle.abc_kinds.specs.ProgramLinked.{LinkedFile};
 ghost use Rattle.abc_objects.specs.Growing.{Grows};
 ghost use Rattle.abc_objects.specs.Stands.{StandsOver};
 ghost use Rattle.abc_objects.specs.Values.{Exists};

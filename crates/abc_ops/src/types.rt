@@ -1,5 +1,5 @@
 ghost use Rattle.std.specs.Prelude.{◌↔◌, IsTrue};
-ghost use Rattle.abc_program.specs.Parts.{HasLayout};
+ghost use Rattle.abc_kinds.specs.ProgramParts.{HasLayout};
 ghost use Rattle.abc_objects.specs.Stands.{StandsOver};
 ghost use Rattle.abc_objects.specs.Values.{Exists};
 ghost use Rattle.abc_ops.specs.Types.{IsBool, IsInstanceOf, IsInt, IsNum, IsObjectOf, IsOf, IsSomething, IsSpaceValue, IsTextValue, IsUInt, IsUndefined, NamesInterface};

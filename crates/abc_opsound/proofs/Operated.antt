@@ -39,10 +39,10 @@ use Rattle.abc_ops.specs.Operations.{computed, computed_single, joined, joined_t
 use Rattle.abc_ops.specs.declared.end.OpEnd.{OpEnd}
 use Rattle.abc_ops.specs.declared.end.OpEnd.TheVariants as ends
 use Rattle.abc_ops.proofs.Staying.{fixed_there, in_range_there, string_there}
-use Rattle.abc_world.specs.Ops.{coerced, kept_of, operates, outcome}
-use Rattle.abc_world.specs.Setting.{Setting}
-use Rattle.abc_world.specs.Types.{is_of}
-use Rattle.abc_world.specs.World.{World}
+use Rattle.abc_sound.specs.WorldOps.{coerced, kept_of, operates, outcome}
+use Rattle.abc_sound.specs.WorldSetting.{Setting}
+use Rattle.abc_sound.specs.WorldTypes.{is_of}
+use Rattle.abc_sound.specs.World.{World}
 use Rattle.abc_sound.specs.MeaningSound.{IsOfKind, WorldSound}
 use Rattle.abc_sound.proofs.MeaningValueKinds.{type_holds}
 use Rattle.abc_sound.specs.Given.{OpsGiven, conversion_kind, double_kind, single_kind}

@@ -35,13 +35,13 @@ use Rattle.abc_program.proofs.Tree.{below_self}
 use Rattle.abc_items.specs.Bases.{is_interface}
 use Rattle.abc_typing.specs.Lists.{Each}
 use Rattle.abc_typing.specs.Routines.{this_kind}
-use Rattle.abc_world.specs.Calling.{Came, calls, calls_formula, calls_what, got, in_range, line, number_in, only, this_of, trace}
-use Rattle.abc_world.specs.Making.{host_arguments, message_of, most_arguments, new, new_elements, new_instance, new_of_class, new_plain, new_what, prototype_in, set_message}
-use Rattle.abc_world.specs.Objects.{new_array, place}
-use Rattle.abc_world.specs.Ops.{coerces, converts}
-use Rattle.abc_world.specs.Setting.{Setting, method_of, type_of_class, type_of_host}
-use Rattle.abc_world.specs.World.{Errs, Faults, Run, World, and_then, each_of, object, throws}
-use Rattle.abc_meaning.specs.Sound.{AreMade, AreTypings, FunctionSound, IsBound, IsOfKind, ObjectSound, PartSound, Typings, WhatSound, WorldSound}
+use Rattle.abc_settles.specs.WorldCalling.{Came, calls, calls_formula, calls_what, got, in_range, line, number_in, only, this_of, trace}
+use Rattle.abc_settles.specs.WorldMaking.{host_arguments, message_of, most_arguments, new, new_elements, new_instance, new_of_class, new_plain, new_what, prototype_in, set_message}
+use Rattle.abc_settles.specs.WorldObjects.{new_array, place}
+use Rattle.abc_settles.specs.WorldOps.{coerces, converts}
+use Rattle.abc_settles.specs.WorldSetting.{Setting, method_of, type_of_class, type_of_host}
+use Rattle.abc_settles.specs.WorldWorld.{Errs, Faults, Run, World, and_then, each_of, object, throws}
+use Rattle.abc_settles.specs.MeaningSound.{AreMade, AreTypings, FunctionSound, IsBound, IsOfKind, ObjectSound, PartSound, Typings, WhatSound, WorldSound}
 use Rattle.abc_settles.specs.SoundGiven.{FileGiven, HasBody, OpsGiven}
 use Rattle.abc_settles.specs.SoundKeeping.{CameSound, Fares, Leaves}
 use Rattle.abc_settles.proofs.SoundChanged.{set_property_fares}

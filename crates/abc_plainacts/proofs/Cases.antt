@@ -24,14 +24,14 @@ use Rattle.abc_typing.specs.declared.rule.VerifyRule.{VerifyRule}
 use Rattle.abc_typing.specs.declared.state.State.{State}
 use Rattle.abc_typing.proofs.Lists.{Each2-set}
 use Rattle.abc_typing.proofs.Member.{and_left}
-use Rattle.abc_world.specs.Calling.{Came}
+use Rattle.abc_settles.specs.WorldCalling.{Came}
 use Rattle.abc_stacks.specs.Frame.{Frame}
-use Rattle.abc_world.specs.Setting.{Setting}
-use Rattle.abc_world.specs.World.{Run, World}
-use Rattle.abc_acts.specs.At.{Act, At, Doing, drops_came, gives, gives_came, goes, jumps, next, nothing, one, two, with_local}
-use Rattle.abc_acts.specs.Simple.{branches, first_of, sets_local}
-use Rattle.abc_meaning.specs.Sound.{AreTypings, IsOfKind, Typings}
-use Rattle.abc_meaning.specs.Tests.{at_frame, parts_count}
+use Rattle.abc_settles.specs.WorldSetting.{Setting}
+use Rattle.abc_settles.specs.WorldWorld.{Run, World}
+use Rattle.abc_settles.specs.ActsAt.{Act, At, Doing, drops_came, gives, gives_came, goes, jumps, next, nothing, one, two, with_local}
+use Rattle.abc_settles.specs.ActsSimple.{branches, first_of, sets_local}
+use Rattle.abc_settles.specs.MeaningSound.{AreTypings, IsOfKind, Typings}
+use Rattle.abc_settles.specs.MeaningTests.{at_frame, parts_count}
 use Rattle.abc_settles.specs.SoundGiven.{FileGiven, HasTarget, OpsGiven}
 use Rattle.abc_settles.specs.SoundKeeping.{ActSound, CameSound, DoingSound, EntrySound, Fares, Leaves, Ready}
 use Rattle.abc_settles.proofs.SoundFaring.{done_fares, then_fares}
@@ -172,7 +172,7 @@ module _ (p : Setting) (file : FileGiven p) (ops : OpsGiven p) (typings : Typing
             (record { method = refl; home = refl; saved = refl; place = refl; wait = refl })
             (record {
               stack = subst (λ x. Each2 (IsOfKind p.linked n.heap) (map (kind_of h c.state) x ++ drop (Rattle.abc_typing.specs.Effects.depth h) c.state.stack) (drop (Rattle.abc_typing.specs.Effects.depth h) f.stack)) (sym gi) stack;
-              scopes = subst (λ x. Each2 (Rattle.abc_meaning.specs.Sound.ScopeHolds p.linked n.heap) (Rattle.abc_typing.specs.Effects.scopes_after h c.state x) f.scopes) (sym sc) scopes;
+              scopes = subst (λ x. Each2 (Rattle.abc_settles.specs.MeaningSound.ScopeHolds p.linked n.heap) (Rattle.abc_typing.specs.Effects.scopes_after h c.state x) f.scopes) (sym sc) scopes;
               locals = subst (λ x. Each2 (IsOfKind p.linked n.heap) (locals_after h c.state x) (set f.locals (local c.instr) v)) (sym lo) (Each2-set (IsOfKind p.linked n.heap) (local c.instr) c.state.locals f.locals _ v locals hv);
             }),
       )

@@ -26,18 +26,18 @@ use Rattle.abc_typing.specs.Effects.{fixed, kind_at, nullable, sum_kind, taken}
 use Rattle.abc_typing.specs.Lists.{Each}
 use Rattle.abc_typing.specs.Routines.{kind_if, or_any, type_at}
 use Rattle.abc_typing.specs.declared.rule.VerifyRule.TheVariants.{LocalIndex, NameForm}
-use Rattle.abc_world.specs.Members.{with_holder}
-use Rattle.abc_world.specs.Ops.{coerces, compares, computes_one, computes_two, converts}
-use Rattle.abc_world.specs.Setting.{Setting}
-use Rattle.abc_world.specs.World.{Errs, World, done, object, see, ◌>>=◌}
-use Rattle.abc_acts.specs.At.{Doing, gives, one, op, two}
-use Rattle.abc_acts.specs.Late.{coerces_to_operand, has_name, instance_test, is_instance, is_it, kept_as, late_type, or_null, tested_as, type_of_what}
-use Rattle.abc_acts.specs.Names.{type_of_operand}
-use Rattle.abc_acts.specs.Simple.{converting, counts, flag}
-use Rattle.abc_acts.specs.Table.{operation_acts}
-use Rattle.abc_meaning.specs.Sound.{AreTypings, IsOfKind, Typings, WorldSound}
-use Rattle.abc_meaning.specs.Tests.{parts_count}
-use Rattle.abc_meaning.proofs.ValueKinds.{type_holds}
+use Rattle.abc_settles.specs.WorldMembers.{with_holder}
+use Rattle.abc_settles.specs.WorldOps.{coerces, compares, computes_one, computes_two, converts}
+use Rattle.abc_settles.specs.WorldSetting.{Setting}
+use Rattle.abc_settles.specs.WorldWorld.{Errs, World, done, object, see, ◌>>=◌}
+use Rattle.abc_settles.specs.ActsAt.{Doing, gives, one, op, two}
+use Rattle.abc_settles.specs.ActsLate.{coerces_to_operand, has_name, instance_test, is_instance, is_it, kept_as, late_type, or_null, tested_as, type_of_what}
+use Rattle.abc_settles.specs.ActsNames.{type_of_operand}
+use Rattle.abc_settles.specs.ActsSimple.{converting, counts, flag}
+use Rattle.abc_settles.specs.ActsTable.{operation_acts}
+use Rattle.abc_settles.specs.MeaningSound.{AreTypings, IsOfKind, Typings, WorldSound}
+use Rattle.abc_settles.specs.MeaningTests.{parts_count}
+use Rattle.abc_settles.proofs.MeaningValueKinds.{type_holds}
 use Rattle.abc_settles.specs.SoundGiven.{FileGiven, OpsGiven, single_kind}
 use Rattle.abc_settles.specs.SoundKeeping.{EntrySound, Fares}
 use Rattle.abc_plainacts.proofs.Cases.{Case, OfSource, Sound, at_of, by_case, gives_one, here_of, one_gives, sets, taking_two, two_give, entry}

@@ -17,14 +17,14 @@ use Rattle.abc_typing.specs.Rules.{is_number}
 use Rattle.abc_typing.specs.Typing.{In}
 use Rattle.abc_typing.specs.declared.rule.VerifyRule.TheVariants.{NotIndex}
 use Rattle.abc_typing.proofs.Member.{and_left}
-use Rattle.abc_world.specs.Ops.{compares}
-use Rattle.abc_world.specs.Setting.{Setting, method_of}
-use Rattle.abc_world.specs.World.{Throws, done, stop, ◌>>=◌}
-use Rattle.abc_acts.specs.At.{Doing, Returns, goes, jumps, nothing, one, two}
-use Rattle.abc_acts.specs.Simple.{branches, first_of, returns, switched, switches, where_not, where_so}
-use Rattle.abc_acts.specs.Table.{jumping_acts}
-use Rattle.abc_meaning.specs.Sound.{AreTypings, IsOfKind, Typings}
-use Rattle.abc_meaning.specs.Tests.{parts_count}
+use Rattle.abc_settles.specs.WorldOps.{compares}
+use Rattle.abc_settles.specs.WorldSetting.{Setting, method_of}
+use Rattle.abc_settles.specs.WorldWorld.{Throws, done, stop, ◌>>=◌}
+use Rattle.abc_settles.specs.ActsAt.{Doing, Returns, goes, jumps, nothing, one, two}
+use Rattle.abc_settles.specs.ActsSimple.{branches, first_of, returns, switched, switches, where_not, where_so}
+use Rattle.abc_settles.specs.ActsTable.{jumping_acts}
+use Rattle.abc_settles.specs.MeaningSound.{AreTypings, IsOfKind, Typings}
+use Rattle.abc_settles.specs.MeaningTests.{parts_count}
 use Rattle.abc_settles.specs.SoundGiven.{FileGiven, HasTarget, OpsGiven}
 use Rattle.abc_settles.specs.SoundKeeping.{ActSound, EntrySound, Fares}
 use Rattle.abc_plainacts.proofs.Cases.{Case, Sound, at_of, branches_so, by_case, gives_nothing, goes_there, here_of, one_suits, taking_one, taking_two, target_of, entry}

@@ -15,3 +15,4 @@ pub use Rattle.abc_settles.proofs.Settled as SettlesSettled
 pub use Rattle.abc_settles.proofs.Shapes as SettlesShapes
 pub use Rattle.abc_settles.proofs.Taking as SettlesTaking
 pub use Rattle.abc_settles.proofs.Tests as SettlesTests
+pub use Rattle.abc_settles.proofs.MeaningValueKinds

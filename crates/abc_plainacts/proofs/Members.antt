@@ -27,12 +27,12 @@ use Rattle.abc_search.specs.declared.found.Want.TheVariants as wants
 use Rattle.abc_search.specs.declared.name.Name.{Name}
 use Rattle.abc_typing.specs.Lists.{Each}
 use Rattle.abc_typing.proofs.Lists.{slice_get-some}
-use Rattle.abc_world.specs.Calling.{Came, Calls, Got, Makes, calls, got}
-use Rattle.abc_world.specs.Members.{bound_function, call_found, calls_name, delete_found, deletes, deletes_own, element_of, find_on, is_dynamic, may_hold, read_found, reads, undefined_if, value_found, write_found, write_own, write_property, writes_to}
-use Rattle.abc_world.specs.Objects.{new_of_host, own_place, without_property}
-use Rattle.abc_world.specs.Setting.{Setting, is_dynamic_layout}
-use Rattle.abc_world.specs.World.{Errs, Faults, Run, Went, World, and_then, changes, object}
-use Rattle.abc_meaning.specs.Sound.{AreTypings, FrameSound, SlotHolds, Typings, WorldSound}
+use Rattle.abc_settles.specs.WorldCalling.{Came, Calls, Got, Makes, calls, got}
+use Rattle.abc_settles.specs.WorldMembers.{bound_function, call_found, calls_name, delete_found, deletes, deletes_own, element_of, find_on, is_dynamic, may_hold, read_found, reads, undefined_if, value_found, write_found, write_own, write_property, writes_to}
+use Rattle.abc_settles.specs.WorldObjects.{new_of_host, own_place, without_property}
+use Rattle.abc_settles.specs.WorldSetting.{Setting, is_dynamic_layout}
+use Rattle.abc_settles.specs.WorldWorld.{Errs, Faults, Run, Went, World, and_then, changes, object}
+use Rattle.abc_settles.specs.MeaningSound.{AreTypings, FrameSound, SlotHolds, Typings, WorldSound}
 use Rattle.abc_settles.specs.SoundGiven.{FileGiven, FoundSound, OpsGiven, OwnedSound, SearchGiven}
 use Rattle.abc_settles.specs.SoundKeeping.{CameSound, Fares}
 use Rattle.abc_plainacts.proofs.Calls.{calls_fares, object_sound}

@@ -28,15 +28,15 @@ use Rattle.abc_typing.specs.declared.rule.VerifyRule.TheVariants.{LocalIndex, Po
 use Rattle.abc_typing.specs.declared.state.Scope.{Scope}
 use Rattle.abc_typing.proofs.Lists.{Each2-append, Each2-length, Each2-take}
 use Rattle.abc_typing.proofs.Member.{and_left, and_right}
-use Rattle.abc_world.specs.Entering.{global}
-use Rattle.abc_world.specs.Setting.{Setting, string_of}
-use Rattle.abc_world.specs.World.{Errs, Faults, Run, World, done, fails, see}
-use Rattle.abc_acts.specs.At.{At, Doing, gives, goes, next, nothing, number, one, pushed, two, with_scope}
-use Rattle.abc_acts.specs.Simple.{local_value, pops_scope, scope_object, scoped, sets_local, whole}
-use Rattle.abc_acts.specs.Table.{plain_acts}
-use Rattle.abc_meaning.specs.Sound.{AreTypings, IsOfKind, ScopeHolds, Typings}
-use Rattle.abc_meaning.specs.Tests.{parts_count}
-use Rattle.abc_meaning.proofs.ValueKinds.{below_object}
+use Rattle.abc_settles.specs.WorldEntering.{global}
+use Rattle.abc_settles.specs.WorldSetting.{Setting, string_of}
+use Rattle.abc_settles.specs.WorldWorld.{Errs, Faults, Run, World, done, fails, see}
+use Rattle.abc_settles.specs.ActsAt.{At, Doing, gives, goes, next, nothing, number, one, pushed, two, with_scope}
+use Rattle.abc_settles.specs.ActsSimple.{local_value, pops_scope, scope_object, scoped, sets_local, whole}
+use Rattle.abc_settles.specs.ActsTable.{plain_acts}
+use Rattle.abc_settles.specs.MeaningSound.{AreTypings, IsOfKind, ScopeHolds, Typings}
+use Rattle.abc_settles.specs.MeaningTests.{parts_count}
+use Rattle.abc_settles.proofs.MeaningValueKinds.{below_object}
 use Rattle.abc_settles.specs.SoundGiven.{FileGiven, OpsGiven}
 use Rattle.abc_settles.specs.SoundKeeping.{ActSound, EntrySound, Fares}
 use Rattle.abc_plainacts.proofs.Cases.{Case, OfSource, Sound, at_of, by_case, gives_nothing, gives_one, here_of, sets, taking_one, taking_two, entry}

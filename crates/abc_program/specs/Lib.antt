@@ -27,3 +27,5 @@ pub use Rattle.abc_rules.specs.Meanings
 pub use Rattle.abc_rules.specs.Numbers
 pub use Rattle.abc_heirs.specs.Heirs
 pub use Rattle.abc_heirs.specs.Listed
+pub use Rattle.abc_rules.specs.StartsRawType
+pub use Rattle.abc_rules.specs.Start

@@ -1,6 +1,6 @@
 -- The state that a run of a verified file begins with is one that a run reaches.
 use Rattle.std.proofs.Common.{◌≡◌, List, [], Bool, map, sym, ap, ◌∙◌, subst}
-use Rattle.abc_ends.specs.Ending.{IsSized}
+use Rattle.abc_finishing.specs.EndsEnding.{IsSized}
 use Rattle.abc_finishing.proofs.Typed.{has_typings}
 use Rattle.abc_finishing.specs.Steps.{machine}
 use Rattle.abc_heap.specs.Heap.{Heap}

@@ -2,7 +2,7 @@
 use Rattle.std.specs.Prelude.{◌≡◌, ℕ, ◌<◌, ◌^◌, List, []}
 use Rattle.std.specs.declared.option.Option.{Option}
 use Rattle.abc_base.specs.declared.formula.Formula.{Formula}
-use Rattle.abc_ends.specs.Ending.{IsSized}
+use Rattle.abc_finishing.specs.EndsEnding.{IsSized}
 use Rattle.abc_finishing.specs.Steps.{GoesOnAs, IsReached}
 use Rattle.abc_heap.specs.declared.records.Limits.{Limits}
 use Rattle.abc_meaning.specs.Laws.{IsVerified}

@@ -29,3 +29,4 @@ pub use Rattle.abc_items.specs.declared.items.ItemKind
 pub use Rattle.abc_items.specs.declared.items.LinkRule
 pub use Rattle.abc_items.specs.Meanings
 pub use Rattle.abc_items.specs.Numbers
+pub use Rattle.abc_items.specs.StartsRawType

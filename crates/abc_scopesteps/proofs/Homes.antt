@@ -3,7 +3,7 @@ use Rattle.std.proofs.Common.{◌≡◌, ◌∙◌, ℕ, ◌<◌, ◌≤◌, Boo
 use Rattle.std.specs.Prelude.{Some, is_some, nat_lt, if◌then◌else◌}
 use Rattle.std.proofs.lemmas.Bool.{false≢true, ltb-false, ltb-true}
 use Rattle.std.proofs.lemmas.List.{get_or_past}
-use Rattle.abc_given.proofs.Filed.{routine_found}
+use Rattle.abc_superarms.proofs.GivenFiled.{routine_found}
 use Rattle.abc_names.specs.Instances.{no_instance}
 use Rattle.abc_program.specs.Linked.{IsLinkedFile, LinkedFile, layout_of}
 use Rattle.abc_program.specs.Owners.{owner_of}

@@ -3,8 +3,8 @@ use Rattle.std.proofs.Common.{◌≡◌, inl, inr, ℕ, List, [], ◌∷◌, Boo
 use Rattle.std.specs.Prelude.{IfSome, None, Some}
 use Rattle.std.specs.List.{find}
 use Rattle.std.specs.declared.option.Option.{Option}
-use Rattle.abc_callmeaning.specs.Exports.{export, is_export, method_in, method_of_trait}
-use Rattle.abc_callmeaning.specs.Laws.{IsScriptMethod}
+use Rattle.abc_machine.specs.CallmeaningExports.{export, is_export, method_in, method_of_trait}
+use Rattle.abc_machine.specs.CallLaws.{IsScriptMethod}
 use Rattle.abc_items.specs.Parts.{script_at}
 use Rattle.abc_meaning.specs.Throwing.{last_script}
 use Rattle.abc_tables.specs.declared.traits.TraitBody.{TraitBody}

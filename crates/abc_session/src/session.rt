@@ -1,8 +1,8 @@
 ghost use Rattle.std.specs.Prelude.{◌≡◌, ◌≢◌, ◌↔◌, List, MatchResult, IfSome, IsTrue, None, Some};
 ghost use Rattle.abc_base.specs.declared.formula.Formula.{Formula};
-ghost use Rattle.abc_callmeaning.specs.Calls.{silent};
-ghost use Rattle.abc_callmeaning.specs.Exports.{export as export_of};
-ghost use Rattle.abc_callmeaning.specs.Laws.{IsScriptMethod};
+ghost use Rattle.abc_machine.specs.Calls.{silent};
+ghost use Rattle.abc_machine.specs.CallmeaningExports.{export as export_of};
+ghost use Rattle.abc_machine.specs.CallLaws.{IsScriptMethod};
 ghost use Rattle.abc_cells.specs.declared.values.Span.{Span};
 ghost use Rattle.abc_heap.specs.Texts.{IsText, text_of};
 ghost use Rattle.abc_machine.specs.Ended.{HasRun, RunsAs};

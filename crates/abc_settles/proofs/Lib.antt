@@ -9,3 +9,4 @@ pub use Rattle.abc_sound.proofs.Faring as SoundFaring
 pub use Rattle.abc_sound.proofs.Growing as SoundGrowing
 pub use Rattle.abc_sound.proofs.Lists as SoundLists
 pub use Rattle.abc_sound.proofs.Made as SoundMade
+pub use Rattle.abc_sound.proofs.MeaningValueKinds

@@ -19,15 +19,15 @@ use Rattle.abc_program.specs.declared.types.Kind.TheVariants.{Any}
 use Rattle.abc_typing.specs.Lists.{Each, Each2}
 use Rattle.abc_typing.specs.declared.state.State.{State}
 use Rattle.abc_typing.proofs.Lists.{Each-reverse}
-use Rattle.abc_world.specs.Calling.{Came, Calls, Got, Makes}
+use Rattle.abc_sound.specs.WorldCalling.{Came, Calls, Got, Makes}
 use Rattle.abc_stacks.specs.Frame.{Frame}
-use Rattle.abc_world.specs.Making.{new}
-use Rattle.abc_world.specs.Objects.{new_of_host}
-use Rattle.abc_world.specs.Setting.{Setting, routine_of}
-use Rattle.abc_world.specs.World.{Errs, Faults, Fills, Outcome, Run, Sticks, Stop, Stopped, Throws, Went, World, and_then, done, room, stop}
+use Rattle.abc_sound.specs.WorldMaking.{new}
+use Rattle.abc_sound.specs.WorldObjects.{new_of_host}
+use Rattle.abc_sound.specs.WorldSetting.{Setting, routine_of}
+use Rattle.abc_sound.specs.World.{Errs, Faults, Fills, Outcome, Run, Sticks, Stop, Stopped, Throws, Went, World, and_then, done, room, stop}
 use Rattle.abc_stacks.specs.declared.records.Wait.{Wait}
 use Rattle.abc_stacks.specs.declared.records.Wait.TheVariants as waits
-use Rattle.abc_acts.specs.At.{Above, Act, Goes, Returns, Stays, Top, dropping, next, pushed, pushing, waiting}
+use Rattle.abc_sound.specs.ActsAt.{Above, Act, Goes, Returns, Stays, Top, dropping, next, pushed, pushing, waiting}
 use Rattle.abc_sound.specs.MeaningSound.{AreTypings, FrameSound, FramesFit, IsCatching, IsOfKind, IsOfState, IsTyped, IsTypedPushed, Stands, SteppedSound, Typings, WaitSound, WaitingSound, WorldSound}
 use Rattle.abc_sound.specs.MeaningStep.{acted, gives_back, put_on, puts, resumed, resumes, settles, size_of_frame, size_of_frames, started, values_kept}
 use Rattle.abc_sound.specs.MeaningThrowing.{stops, throws_made}

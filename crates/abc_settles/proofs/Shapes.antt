@@ -34,12 +34,12 @@ use Rattle.abc_typing.specs.declared.state.State.{State}
 use Rattle.abc_typing.proofs.Lists.{Each-reverse, Each2-append, Each2-drop, Each2-left, Each2-length, Each2-take}
 use Rattle.abc_typing.proofs.Member.{in_left, map_in}
 use Rattle.abc_typing.proofs.Sized.{next_sized}
-use Rattle.abc_world.specs.Calling.{Came}
+use Rattle.abc_sound.specs.WorldCalling.{Came}
 use Rattle.abc_stacks.specs.Frame.{Frame}
-use Rattle.abc_world.specs.Setting.{Setting}
-use Rattle.abc_world.specs.World.{Run, World}
+use Rattle.abc_sound.specs.WorldSetting.{Setting}
+use Rattle.abc_sound.specs.World.{Run, World}
 use Rattle.abc_stacks.specs.declared.records.Wait.TheVariants as waits
-use Rattle.abc_acts.specs.At.{At, drops_came, gives, gives_came, goes, jumps, next, nothing, pushed, waiting}
+use Rattle.abc_sound.specs.ActsAt.{At, drops_came, gives, gives_came, goes, jumps, next, nothing, pushed, waiting}
 use Rattle.abc_sound.specs.MeaningSound.{AreTypings, FrameSound, IsCatching, IsOfKind, IsOfState, IsTypedPushed, ScopeHolds, Stands, Typings}
 use Rattle.abc_sound.specs.MeaningTests.{at_frame}
 use Rattle.abc_sound.proofs.MeaningValueKinds.{kinds_up}
@@ -136,7 +136,7 @@ module _ (p : Setting) (file : FileGiven p) (typings : Typings) (typed : AreTypi
       record {
         stands = record {
           routine = r;
-          body = ap (Rattle.abc_world.specs.Setting.routine_of p) same.method ∙ ready.body;
+          body = ap (Rattle.abc_sound.specs.WorldSetting.routine_of p) same.method ∙ ready.body;
           home = subst (λ i. i < length p.linked.file.scripts) (sym same.home) ready.home;
           saved = subst (IsScope n.heap) (sym same.saved) (saved_left n l);
           locals = sym (Each2-length (IsOfKind p.linked n.heap) (next_state h s).locals g.locals is.locals) ∙ z.locals;

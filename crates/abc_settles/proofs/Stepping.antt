@@ -9,12 +9,12 @@ use Rattle.abc_typing.specs.Standing.{here}
 use Rattle.abc_typing.proofs.Fine.{stands}
 use Rattle.abc_typing.proofs.Lists.{Each2-length}
 use Rattle.abc_typing.proofs.Member.{and_left, and_right}
-use Rattle.abc_world.specs.Entering.{starts}
+use Rattle.abc_sound.specs.WorldEntering.{starts}
 use Rattle.abc_stacks.specs.Frame.{Frame}
-use Rattle.abc_world.specs.Setting.{Setting, routine_of}
-use Rattle.abc_world.specs.World.{World}
-use Rattle.abc_acts.specs.At.{Doing}
-use Rattle.abc_acts.specs.Table.{act_of, acts, find_act}
+use Rattle.abc_sound.specs.WorldSetting.{Setting, routine_of}
+use Rattle.abc_sound.specs.World.{World}
+use Rattle.abc_sound.specs.ActsAt.{Doing}
+use Rattle.abc_sound.specs.ActsTable.{act_of, acts, find_act}
 use Rattle.abc_sound.specs.Meaning.{runs_for, then_runs}
 use Rattle.abc_sound.specs.MeaningSound.{AreTypings, FrameSound, FramesFit, FramesSound, IsOfKind, IsSound, ScopeHolds, SteppedSound, Typings, WorldSound}
 use Rattle.abc_sound.specs.MeaningStep.{does, does_instr, does_row, runs, step, step_of, tested}

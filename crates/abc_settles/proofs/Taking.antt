@@ -30,10 +30,10 @@ use Rattle.abc_typing.specs.declared.state.State.{State}
 use Rattle.abc_typing.proofs.Lists.{Each2-drop, Each2-take}
 use Rattle.abc_typing.proofs.Member.{and_both, and_left, and_right}
 use Rattle.abc_stacks.specs.Frame.{Frame}
-use Rattle.abc_world.specs.Setting.{NameForm as Form, NoPart, NoSpace, NoText, Setting, Whole, string_of}
-use Rattle.abc_world.specs.World.{Run, World}
-use Rattle.abc_acts.specs.At.{At, one, take_one, take_two, two}
-use Rattle.abc_acts.specs.Names.{form_in, name_of, named, space_of}
+use Rattle.abc_sound.specs.WorldSetting.{NameForm as Form, NoPart, NoSpace, NoText, Setting, Whole, string_of}
+use Rattle.abc_sound.specs.World.{Run, World}
+use Rattle.abc_sound.specs.ActsAt.{At, one, take_one, take_two, two}
+use Rattle.abc_sound.specs.ActsNames.{form_in, name_of, named, space_of}
 use Rattle.abc_sound.specs.MeaningSound.{AreTypings, IsOfKind, Typings, WorldSound}
 use Rattle.abc_sound.specs.MeaningTests.{at_frame, name_parts, parts_count, values_of}
 use Rattle.abc_sound.specs.Given.{FileGiven, OpsGiven}
@@ -156,7 +156,7 @@ pub record IsForm (p : Setting) (o : Option Multiname) : Type 0 where
 
 form_found : (p : Setting) (o : Option Multiname) → is_name o ≡ true → IsForm p o
 form_found p None e = absurd (false≢true e)
-form_found p (Some (names.QName false ns n)) e = record { form = Whole (record { spaces = Rattle.abc_world.specs.Setting.spaces_of ns; text = string_of p n }); is = refl; parts = refl; text = λ h. string_there p h n }
+form_found p (Some (names.QName false ns n)) e = record { form = Whole (record { spaces = Rattle.abc_sound.specs.WorldSetting.spaces_of ns; text = string_of p n }); is = refl; parts = refl; text = λ h. string_there p h n }
 form_found p (Some (names.QName true ns n)) e = absurd (false≢true e)
 form_found p (Some (names.Multi false n set)) e = record { form = Whole (record { spaces = Rattle.abc_search.specs.declared.name.Spaces.TheVariants.Set set; text = string_of p n }); is = refl; parts = refl; text = λ h. string_there p h n }
 form_found p (Some (names.Multi true n set)) e = absurd (false≢true e)

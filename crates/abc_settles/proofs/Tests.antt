@@ -39,8 +39,8 @@ use Rattle.abc_typing.proofs.Lists.{Each2-drop, Each2-length}
 use Rattle.abc_typing.proofs.Member.{and_both, and_left, and_right}
 use Rattle.abc_typing.proofs.Reaching.{below_reached, reached}
 use Rattle.abc_stacks.specs.Frame.{Frame}
-use Rattle.abc_world.specs.Setting.{Setting}
-use Rattle.abc_world.specs.World.{World, object}
+use Rattle.abc_sound.specs.WorldSetting.{Setting}
+use Rattle.abc_sound.specs.World.{World, object}
 use Rattle.abc_sound.specs.MeaningSound.{IsOfKind, ScopeHolds, Typings}
 use Rattle.abc_sound.specs.MeaningTests.{all_meet, can_run, has_scope, is_below, is_receiver, meets, walks_number}
 use Rattle.abc_sound.specs.MeaningTests.{has_slot as object_has_slot, is_number as value_is_number}

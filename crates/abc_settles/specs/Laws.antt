@@ -8,9 +8,9 @@ use Rattle.abc_objects.specs.Values.{Exists}
 use Rattle.abc_sound.specs.Given.{FileGiven, OpsGiven}
 use Rattle.abc_sound.specs.Keeping.{CameSound, Fares, GroupsHold}
 use Rattle.abc_typing.specs.Lists.{Each}
-use Rattle.abc_world.specs.Making.{new}
-use Rattle.abc_world.specs.Setting.{Setting}
-use Rattle.abc_world.specs.World.{World}
+use Rattle.abc_sound.specs.WorldMaking.{new}
+use Rattle.abc_sound.specs.WorldSetting.{Setting}
+use Rattle.abc_sound.specs.World.{World}
 
 abbrev pub NewsSound : Setting → Typings → Type 0
 NewsSound p typings = (w : World) (v : Value) (args : List Value) → WorldSound p w → Exists p.linked w.heap v → Each (Exists p.linked w.heap) args → Fares p w (new p v args w) (CameSound p typings)

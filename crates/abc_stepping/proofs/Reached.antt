@@ -7,7 +7,7 @@ use Rattle.abc_callmeaning.specs.Calls.{returned, value_returned}
 use Rattle.abc_cells.specs.declared.values.Value.{Value}
 use Rattle.abc_dispatch.proofs.Led.{runs_here}
 use Rattle.abc_dispatch.specs.Ready.{CanStep, IsEquipped}
-use Rattle.abc_ends.specs.Ending.{IsSized}
+use Rattle.abc_finishing.specs.EndsEnding.{IsSized}
 use Rattle.abc_finishing.proofs.Finished.{ended_in}
 use Rattle.abc_finishing.proofs.Sounded.{frames_run}
 use Rattle.abc_finishing.specs.Running.{IsRunning}

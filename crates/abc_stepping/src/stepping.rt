@@ -4,7 +4,7 @@ ghost use Rattle.abc_base.specs.Faults.{Rose};
 ghost use Rattle.abc_callmeaning.specs.Calls.{returned};
 ghost use Rattle.abc_cells.specs.declared.values.Value.{Value};
 ghost use Rattle.abc_dispatch.specs.CallarmsCalls.{CanFinish};
-ghost use Rattle.abc_ends.specs.Ending.{IsSized};
+ghost use Rattle.abc_finishing.specs.EndsEnding.{IsSized};
 ghost use Rattle.abc_entering.specs.Arguments.{IsKnown};
 ghost use Rattle.abc_finishing.specs.Fairly.{CanStart, IsFairTurn};
 ghost use Rattle.abc_finishing.specs.Steps.{IsReached, StepsAs, StepsIn, left_here};

@@ -1,13 +1,13 @@
 -- A method with its body, as a verifier sees it: what is known as it begins, its sizes, its code and its handlers.
 use Rattle.std.specs.Prelude.{ℕ, suc, ◌-◌, List, [], ◌∷◌, Bool, ◌&&◌, ◌||◌, Option, Some, None, if◌then◌else◌, map, ltb, ◌++◌}
 use Rattle.abc_base.specs.declared.names.HostClass.TheVariants as hosts
-use Rattle.abc_names.specs.Instances.{instance_at}
+use Rattle.abc_program.specs.Instances.{instance_at}
 use Rattle.abc_tables.specs.Methods.{has_flag}
 use Rattle.abc_tables.specs.declared.code.Handler.{Handler}
 use Rattle.abc_tables.specs.declared.code.Instr.{Instr}
 use Rattle.abc_tables.specs.declared.code.Body.{Body}
 use Rattle.abc_tables.specs.declared.methods.Method.{Method}
-use Rattle.abc_items.specs.Parts.{body_at, method_at}
+use Rattle.abc_program.specs.ItemsParts.{body_at, method_at}
 use Rattle.abc_program.specs.Linked.{LinkedFile, layout_of}
 use Rattle.abc_program.specs.Owners.{owner_of}
 use Rattle.abc_program.specs.Types.{kind_of_type, type_of}

@@ -60,10 +60,10 @@ use Rattle.abc_typing.specs.Typing.{In}
 use Rattle.abc_typing.proofs.Good.{good}
 use Rattle.abc_typing.proofs.Lists.{Each-append}
 use Rattle.abc_typing.proofs.Member.{in_append, in_left, in_right}
-use Rattle.abc_world.specs.Objects.{Place, place, place_of_owner}
-use Rattle.abc_world.specs.Setting.{Setting}
-use Rattle.abc_world.specs.World.{Went, World}
-use Rattle.abc_meaning.specs.Sound.{IsFirstOf, IsMade, IsOfKind, PartSound, WorldSound}
+use Rattle.abc_objectacts.specs.WorldObjects.{Place, place, place_of_owner}
+use Rattle.abc_objectacts.specs.WorldSetting.{Setting}
+use Rattle.abc_objectacts.specs.WorldWorld.{Went, World}
+use Rattle.abc_given.specs.MeaningSound.{IsFirstOf, IsMade, IsOfKind, PartSound, WorldSound}
 use Rattle.abc_given.specs.SoundGiven.{BaseKnown, FileGiven, HasBody, OwnedSound, ScopesGiven}
 use Rattle.abc_given.proofs.SoundGrowing.{first_is}
 use Rattle.abc_given.proofs.SoundLists.{inside, there}

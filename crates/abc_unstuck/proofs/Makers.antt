@@ -45,10 +45,10 @@ use Rattle.abc_typing.specs.Routines.{Routine, has_base, home_of, this_kind}
 use Rattle.abc_typing.specs.declared.home.Home.TheVariants.{Elsewhere, MakesInstances, OnInstances}
 use Rattle.abc_typing.proofs.Good.{good}
 use Rattle.abc_typing.proofs.Lists.{Each-append, Each-at}
-use Rattle.abc_world.specs.Objects.{Place, flat, instances_of, kept_by, place, place_of_owner, statics_of}
-use Rattle.abc_world.specs.Setting.{Setting}
-use Rattle.abc_world.specs.World.{Went, World}
-use Rattle.abc_meaning.specs.Sound.{AreMade, IsMade, IsOfKind, PartSound, WorldSound}
+use Rattle.abc_objectacts.specs.WorldObjects.{Place, flat, instances_of, kept_by, place, place_of_owner, statics_of}
+use Rattle.abc_objectacts.specs.WorldSetting.{Setting}
+use Rattle.abc_objectacts.specs.WorldWorld.{Went, World}
+use Rattle.abc_given.specs.MeaningSound.{AreMade, IsMade, IsOfKind, PartSound, WorldSound}
 use Rattle.abc_given.specs.SoundGiven.{BaseKnown, BaseRuns, FileGiven, MakersGiven, ScopesGiven, base_of as base_maker}
 use Rattle.abc_objectacts.proofs.Classes.{class_there, kept_is}
 use Rattle.abc_given.proofs.SoundLists.{there}

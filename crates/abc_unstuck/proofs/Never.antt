@@ -7,11 +7,11 @@ use Rattle.abc_program.specs.Owners.{body_of}
 use Rattle.abc_typing.specs.Routines.{Routine, routine}
 use Rattle.abc_typing.specs.Typing.{IsTyping}
 use Rattle.abc_typing.specs.declared.state.State.{State}
-use Rattle.abc_world.specs.Setting.{Setting, routine_in}
-use Rattle.abc_meaning.specs.Laws.{BeginsSound, IsNeverStuck, IsVerified, StaysSound}
-use Rattle.abc_meaning.specs.Meaning.{Ran, first_state, first_world, meaning, meaning_if, runs_for, too_small}
-use Rattle.abc_meaning.specs.Sound.{AreTypings, Typings}
-use Rattle.abc_meaning.specs.Throwing.{Stuck}
+use Rattle.abc_objectacts.specs.WorldSetting.{Setting, routine_in}
+use Rattle.abc_given.specs.MeaningLaws.{BeginsSound, IsNeverStuck, IsVerified, StaysSound}
+use Rattle.abc_given.specs.Meaning.{Ran, first_state, first_world, meaning, meaning_if, runs_for, too_small}
+use Rattle.abc_given.specs.MeaningSound.{AreTypings, Typings}
+use Rattle.abc_given.specs.MeaningThrowing.{Stuck}
 use Rattle.abc_objectacts.specs.Laws.{Given}
 use Rattle.abc_objectacts.proofs.Law.{runs_never_stick, steps_stay_sound}
 use Rattle.abc_given.proofs.Filed.{body_is}

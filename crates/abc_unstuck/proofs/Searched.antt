@@ -38,9 +38,9 @@ use Rattle.abc_search.specs.declared.traits.Member.TheVariants as members
 use Rattle.abc_typing.specs.Lists.{Each}
 use Rattle.abc_typing.proofs.Lists.{Each-append, Each-map, Each-reverse}
 use Rattle.abc_typing.proofs.Member.{and_right}
-use Rattle.abc_world.specs.Setting.{Setting}
-use Rattle.abc_world.specs.World.{World}
-use Rattle.abc_meaning.specs.Sound.{WorldSound}
+use Rattle.abc_objectacts.specs.WorldSetting.{Setting}
+use Rattle.abc_objectacts.specs.WorldWorld.{World}
+use Rattle.abc_given.specs.MeaningSound.{WorldSound}
 use Rattle.abc_given.specs.SoundGiven.{FileGiven, FoundSound, ScopeFoundSound, ScopesGiven, SearchGiven}
 use Rattle.abc_given.proofs.SoundLists.{there}
 use Rattle.abc_unstuck.proofs.Holders.{CandidateSound, MemberSound, traits_sound}

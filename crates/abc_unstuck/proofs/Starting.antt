@@ -32,10 +32,10 @@ use Rattle.abc_program.specs.declared.types.Ty.TheVariants as types
 use Rattle.abc_starts.specs.declared.start.Start.TheVariants as starts
 use Rattle.abc_typing.specs.Lists.{Each}
 use Rattle.abc_typing.proofs.Lists.{Each-append, Each-at}
-use Rattle.abc_world.specs.Setting.{Setting}
-use Rattle.abc_meaning.specs.Laws.{AreCounted, IsVerified}
-use Rattle.abc_meaning.specs.Meaning.{first_state, first_world, too_small}
-use Rattle.abc_meaning.specs.Sound.{IsSound, ObjectSound, PartSound, SlotHolds, Typings, WhatSound}
+use Rattle.abc_objectacts.specs.WorldSetting.{Setting}
+use Rattle.abc_given.specs.MeaningLaws.{AreCounted, IsVerified}
+use Rattle.abc_given.specs.Meaning.{first_state, first_world, too_small}
+use Rattle.abc_given.specs.MeaningSound.{IsSound, ObjectSound, PartSound, SlotHolds, Typings, WhatSound}
 use Rattle.abc_given.proofs.SoundGrowing.{first_is}
 use Rattle.abc_given.proofs.SoundLists.{each2_put}
 use Rattle.abc_given.proofs.Begun.{starts_hold}

@@ -45,9 +45,9 @@ use Rattle.abc_typing.specs.Routines.{object_of, routine}
 use Rattle.abc_typing.specs.Typing.{Follows, HasTyping, IsFine, StateLe, entry}
 use Rattle.abc_typing.specs.declared.state.State.{State}
 use Rattle.abc_typing.proofs.Member.{and_left, and_right}
-use Rattle.abc_world.specs.Setting.{Setting}
-use Rattle.abc_meaning.specs.Laws.{IsVerified}
-use Rattle.abc_meaning.specs.Meaning.{first_world, too_small}
+use Rattle.abc_objectacts.specs.WorldSetting.{Setting}
+use Rattle.abc_given.specs.MeaningLaws.{IsVerified}
+use Rattle.abc_given.specs.Meaning.{first_world, too_small}
 use Rattle.abc_unstuck.specs.Laws.{SomeAreVerified}
 
 -- ---- the file, and bytes that spell it

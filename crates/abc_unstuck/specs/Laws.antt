@@ -3,9 +3,9 @@
 use Rattle.std.specs.Prelude.{◌≡◌, None}
 use Rattle.abc_heap.specs.declared.records.Limits.{Limits}
 use Rattle.abc_given.specs.SoundGiven.{FileGiven, MakersGiven, ScopesGiven, SearchGiven}
-use Rattle.abc_world.specs.Setting.{Setting}
-use Rattle.abc_meaning.specs.Laws.{AreCounted, IsVerified}
-use Rattle.abc_meaning.specs.Meaning.{first_world, too_small}
+use Rattle.abc_objectacts.specs.WorldSetting.{Setting}
+use Rattle.abc_given.specs.MeaningLaws.{AreCounted, IsVerified}
+use Rattle.abc_given.specs.Meaning.{first_world, too_small}
 
 abbrev pub SearchesFindWhatIsThere : Type 0
 SearchesFindWhatIsThere = (p : Setting) → FileGiven p → ScopesGiven p → SearchGiven p

@@ -1,4 +1,4 @@
-ghost use Rattle.abc_meaning.specs.Laws.{BeginsSound, IsNeverStuck, StaysSound};
+ghost use Rattle.abc_given.specs.MeaningLaws.{BeginsSound, IsNeverStuck, StaysSound};
 ghost use Rattle.abc_unstuck.specs.Laws.{BasesHaveMakers, SearchesFindWhatIsThere, SomeAreVerified};
 
 /// What is found on an object or in scopes is there, with all that its owner keeps.

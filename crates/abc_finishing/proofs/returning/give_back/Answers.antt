@@ -1,7 +1,7 @@
 use Rattle.std.proofs.Common.{◌≡◌, ◌<◌, ◌∙◌, [], length, refl, sym, ap, subst, arith}
 use Rattle.std.specs.declared.result.Result.{Result}
 use Rattle.abc_ends.specs.Ending.{IsFree}
-use Rattle.abc_meaning.specs.Step.{gives_back}
+use Rattle.abc_ends.specs.MeaningStep.{gives_back}
 use Rattle.abc_stacks.specs.Frame.{Frames, under}
 use Rattle.abc_states.specs.Outer.{setting, world}
 use Rattle.abc_finishing.specs.Steps.{StepsIn}

@@ -1,5 +1,5 @@
 use Rattle.std.proofs.Common.{[], ◌∷◌, ◌∙◌, refl, sym, ap, subst}
-use Rattle.abc_meaning.specs.Throwing.{Stepped, goes_on}
+use Rattle.abc_ends.specs.MeaningThrowing.{Stepped, goes_on}
 use Rattle.abc_moves.specs.Moves.{next, next_with}
 use Rattle.abc_ends.specs.Ending.{IsFree}
 use Rattle.abc_stacks.specs.Frame.{Frames}

@@ -1,6 +1,6 @@
 use Rattle.std.proofs.Common.{◌≡◌, ◌-◌, ◌<◌, ◌∙◌, ℕ, length, ap, subst, sym, arith}
 use Rattle.abc_ends.specs.Ending.{IsFree}
-use Rattle.abc_meaning.specs.Throwing.{Stepped, last_script}
+use Rattle.abc_ends.specs.MeaningThrowing.{Stepped, last_script}
 use Rattle.abc_states.specs.Outer.{setting, world}
 use Rattle.abc_states.specs.Stops.{IsOpen}
 use Rattle.abc_states.specs.WorldEntering.{starts}

@@ -1,5 +1,5 @@
 use Rattle.std.specs.Prelude.{[]}
-use Rattle.abc_acts.specs.Table.{operation_acts, plain_acts}
+use Rattle.abc_settles.specs.ActsTable.{operation_acts, plain_acts}
 use Rattle.abc_plainacts.proofs.Computing.{operations_hold}
 use Rattle.abc_plainacts.proofs.Jumping.{jumping_hold}
 use Rattle.abc_plainacts.proofs.Plainly.{plain_hold}

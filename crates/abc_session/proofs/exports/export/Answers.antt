@@ -1,6 +1,6 @@
 use Rattle.std.proofs.Common.{◌∙◌, List, ap}
 use Rattle.std.specs.List.{find}
-use Rattle.abc_callmeaning.specs.Exports.{is_export, method_of_trait}
+use Rattle.abc_machine.specs.CallmeaningExports.{is_export, method_of_trait}
 use Rattle.abc_tables.specs.declared.traits.TraitInfo.{TraitInfo}
 use Rattle.abc_session.proofs.exports.export.Goals as goal
 

@@ -1,5 +1,5 @@
 use Rattle.std.proofs.Common.{◌∙◌, ap}
-use Rattle.abc_callmeaning.specs.Exports.{export as export_of}
+use Rattle.abc_machine.specs.CallmeaningExports.{export as export_of}
 use Rattle.abc_machine.specs.Machines.{Opened}
 use Rattle.abc_openings.specs.Begun.{setting}
 use Rattle.abc_program.specs.Linked.{LinkedFile}
