@@ -4,6 +4,8 @@ here=$(cd "$(dirname "${BASH_SOURCE[0]}")" && pwd)
 folder=${1:-/tmp/abc-bench}
 abc=${ABC:-$here/../crates/abc/out/abc}
 peer=$folder/target/release/baseline
+# As bin/abc does it, for both programs.
+export GLIBC_TUNABLES="glibc.malloc.hugetlb=1${GLIBC_TUNABLES:+:$GLIBC_TUNABLES}"
 
 # Makes the files of these kinds, and builds both programs.
 prepare() {
