@@ -41,6 +41,3 @@ pub use Rattle.abc_world.specs.ObjectsGrowing
 pub use Rattle.abc_world.specs.Coercions
 pub use Rattle.abc_world.specs.OpsTypes as Types
 pub use Rattle.abc_world.specs.Routines
-pub use Rattle.abc_world.specs.Objects.flat
-pub use Rattle.abc_world.specs.Setting.routine_of
-pub use Rattle.abc_world.specs.Setting.spaces_of

@@ -41,6 +41,3 @@ pub use Rattle.abc_acts.specs.ObjectsValues
 pub use Rattle.abc_acts.specs.ObjectsStarts
 pub use Rattle.abc_acts.specs.ObjectsGrowing
 pub use Rattle.abc_acts.specs.WorldTypes
-pub use Rattle.abc_acts.specs.flat
-pub use Rattle.abc_acts.specs.routine_of
-pub use Rattle.abc_acts.specs.spaces_of

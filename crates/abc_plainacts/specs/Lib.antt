@@ -21,6 +21,5 @@ pub use Rattle.abc_settles.specs.WorldEntering
 pub use Rattle.abc_settles.specs.WorldMaking
 pub use Rattle.abc_settles.specs.WorldMembers
 pub use Rattle.abc_settles.specs.WorldObjects
-pub use Rattle.abc_settles.specs.flat
 pub use Rattle.abc_settles.specs.WorldSetting
 pub use Rattle.abc_settles.specs.WorldWorld

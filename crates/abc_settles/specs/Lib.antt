@@ -25,4 +25,3 @@ pub use Rattle.abc_sound.specs.WorldObjects as WorldObjects
 pub use Rattle.abc_sound.specs.WorldOps as WorldOps
 pub use Rattle.abc_sound.specs.WorldSetting as WorldSetting
 pub use Rattle.abc_sound.specs.World as WorldWorld
-pub use Rattle.abc_sound.specs.WorldObjects.flat

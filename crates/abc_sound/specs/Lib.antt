@@ -27,6 +27,3 @@ pub use Rattle.abc_meaning.specs.WorldEntering
 pub use Rattle.abc_meaning.specs.WorldMaking
 pub use Rattle.abc_meaning.specs.WorldMembers
 pub use Rattle.abc_meaning.specs.WorldObjects
-pub use Rattle.abc_meaning.specs.flat
-pub use Rattle.abc_meaning.specs.routine_of
-pub use Rattle.abc_meaning.specs.spaces_of
