@@ -3,7 +3,6 @@ pub use Rattle.abc_settles.specs.SoundKeeping
 pub use Rattle.abc_settles.specs.SoundGiven
 pub use Rattle.abc_settles.specs.Meaning
 pub use Rattle.abc_settles.specs.MeaningSound
-pub use Rattle.abc_settles.specs.IsTypedPushed
 pub use Rattle.abc_settles.specs.MeaningStep
 pub use Rattle.abc_settles.specs.MeaningTests
 pub use Rattle.abc_settles.specs.MeaningThrowing

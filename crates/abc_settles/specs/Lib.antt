@@ -2,10 +2,8 @@ pub mod Laws
 pub use Rattle.abc_sound.specs.Given as SoundGiven
 pub use Rattle.abc_sound.specs.Keeping as SoundKeeping
 pub use Rattle.abc_sound.specs.MeaningSound
-pub use Rattle.abc_sound.specs.ScopeHolds
 pub use Rattle.abc_sound.specs.MeaningTests
 pub use Rattle.abc_sound.specs.Meaning
-pub use Rattle.abc_sound.specs.IsTypedPushed
 pub use Rattle.abc_sound.specs.MeaningStep
 pub use Rattle.abc_sound.specs.MeaningThrowing
 pub use Rattle.abc_sound.specs.ActsAt

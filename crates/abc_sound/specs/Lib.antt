@@ -14,8 +14,6 @@ pub use Rattle.abc_meaning.specs.World
 pub use Rattle.abc_meaning.specs.ActsAt
 pub use Rattle.abc_meaning.specs.ActsNames
 pub use Rattle.abc_meaning.specs.ActsTable
-pub use Rattle.abc_meaning.specs.Sound.ScopeHolds
-pub use Rattle.abc_meaning.specs.Sound.IsTypedPushed
 pub use Rattle.abc_meaning.specs.Laws as MeaningLaws
 pub use Rattle.abc_meaning.specs.ActsLate
 pub use Rattle.abc_meaning.specs.ActsNewing
