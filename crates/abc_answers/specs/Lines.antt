@@ -10,9 +10,9 @@ use Rattle.abc_items.specs.declared.items.Item.{Item}
 use Rattle.abc_items.specs.declared.items.LinkRule.{LinkRule}
 use Rattle.abc_items.specs.Items.{kind_name, rule_name}
 use Rattle.abc_text.specs.Reasons.{reason_name as asm_reason_name}
-use Rattle.abc_tidy.specs.declared.error.TidyRule.{TidyRule}
-use Rattle.abc_tidy.specs.declared.error.TidyRule.TheVariants as tidying
-use Rattle.abc_tidy.specs.Rules.{rule_name as tidy_rule_name}
+use Rattle.abc_entries.specs.declared.error.TidyRule.{TidyRule}
+use Rattle.abc_entries.specs.declared.error.TidyRule.TheVariants as tidying
+use Rattle.abc_entries.specs.Rules.{rule_name as tidy_rule_name}
 use Rattle.abc_typing.specs.RuleNames.{rule_name as verify_rule_name}
 use Rattle.abc_typing.specs.declared.rule.VerifyRule.{VerifyRule}
 use Rattle.abc_verified.specs.declared.error.VerifiedError.{VerifiedError}

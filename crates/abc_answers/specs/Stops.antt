@@ -15,8 +15,8 @@ use Rattle.abc_file.specs.Reading.{IsUsedUp}
 use Rattle.abc_format.specs.Part.{refusal}
 use Rattle.abc_varint.specs.declared.error.ReadError.{ReadError}
 use Rattle.abc_varint.specs.declared.error.ReadError.TheVariants as errors
-use Rattle.abc_tidy.specs.declared.error.TidyError.{TidyError}
-use Rattle.abc_tidy.specs.declared.error.TidyError.TheVariants as tidying
+use Rattle.abc_entries.specs.declared.error.TidyError.{TidyError}
+use Rattle.abc_entries.specs.declared.error.TidyError.TheVariants as tidying
 use Rattle.abc_verified.specs.declared.error.VerifiedError.{VerifiedError}
 use Rattle.abc_verified.specs.declared.error.VerifiedError.TheVariants as unverified
 use Rattle.abc_answers.specs.declared.stop.Stop.{Stop}

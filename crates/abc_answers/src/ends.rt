@@ -10,7 +10,7 @@ use abc_base::{Failed, Sink, Status, write_all};
 use abc_format::Reason;
 use abc_items::{Item, LinkRule};
 use abc_text::AsmReason;
-use abc_tidy::TidyRule;
+use abc_entries::TidyRule;
 use abc_typing::VerifyRule;
 
 /// The status where its line was written, and that of a failed write where it wasn't.

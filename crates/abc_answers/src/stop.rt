@@ -8,7 +8,7 @@ use abc_format::Reason;
 use abc_input::InputError;
 use abc_items::{Item, LinkRule};
 use abc_text::AsmReason;
-use abc_tidy::{TidyError, TidyRule};
+use abc_entries::{TidyError, TidyRule};
 use abc_typing::VerifyRule;
 use abc_varint::ReadError;
 use abc_verified::VerifiedError;

@@ -9,9 +9,9 @@ use Rattle.abc_file.specs.Reading.{IsFaultOf, IsUsedUp, IsWrittenOf, OfInput, Re
 use Rattle.abc_tables.specs.declared.tables.Abc.{Abc}
 use Rattle.abc_tables.specs.Files.{IsBadFile, IsFile, IsFileRead, file_bytes}
 use Rattle.abc_tables.proofs.Whole.{read_spelled}
-use Rattle.abc_tidy.specs.declared.error.TidyError.{TidyError}
-use Rattle.abc_tidy.specs.declared.error.TidyError.TheVariants as tidying
-use Rattle.abc_tidy.specs.Rules.{IsTidied, IsTidyError}
+use Rattle.abc_entries.specs.declared.error.TidyError.{TidyError}
+use Rattle.abc_entries.specs.declared.error.TidyError.TheVariants as tidying
+use Rattle.abc_entries.specs.Rules.{IsTidied, IsTidyError}
 use Rattle.abc_verified.proofs.Verifying.{of_any}
 use Rattle.abc_answers.specs.declared.stop.Stop.{Stop}
 use Rattle.abc_answers.specs.declared.stop.Stop.TheVariants as stops

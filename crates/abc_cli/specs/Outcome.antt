@@ -10,8 +10,8 @@ use Rattle.abc_rowparts.specs.Rows.{Fault, fault}
 use Rattle.abc_tables.specs.declared.tables.Abc.{Abc}
 use Rattle.abc_tables.specs.Files.{file_bytes}
 use Rattle.abc_text.specs.declared.reason.AsmReason.TheVariants as reasons
-use Rattle.abc_tidy.specs.Rules.{IsFirstBroken as IsFirstUntidy, IsTidied}
-use Rattle.abc_tidy.specs.declared.error.TidyRule.{TidyRule}
+use Rattle.abc_entries.specs.Rules.{IsFirstBroken as IsFirstUntidy, IsTidied}
+use Rattle.abc_entries.specs.declared.error.TidyRule.{TidyRule}
 use Rattle.abc_verified.specs.Verified.{IsVerifiedOf}
 use Rattle.abc_words.specs.Grammar.{IsUsageWord, Says}
 use Rattle.abc_words.specs.declared.command.Command.{Command}

@@ -4,9 +4,6 @@ pub mod Fronts
 pub mod Begun
 pub mod Marking
 pub mod Pairs
-pub mod Pieces
 pub mod Readiness
 pub mod Rendering
 pub mod Shown
-pub mod Tables
-pub mod Digits

@@ -37,7 +37,9 @@ use Rattle.abc_lines.specs.Kinds.{trait_kind, value_kind}
 use Rattle.abc_lines.specs.Lineforms.{BodyHead, MethodHead, TraitHead, body_line, catch_line, double_line, int_line, name_line, namespace_line, set_line, string_line, uint_line, entry_line, implements_line, instance_line, instruction_line, method_index_line, method_line, number_line, opcode_of, option_line, param_line, protected_line, slot_value, string_index_line, trait_fields, trait_line, trait_metadata_line}
 use Rattle.abc_lines.specs.Listing.{body_text, line_bytes, lines_of_body, listing, quiet_lines, rendered, shown_bytes, target_in, targets_in}
 use Rattle.abc_disasm.specs.Texts as texts
-use Rattle.abc_disasm.specs.Texts.{IsShown, body_targets, class_text, code_text, definitions_text, entry_text, front_text, handler_targets, handler_text, instance_text, instr_targets, instr_text, metadata_text, method_text, number_lines, option_text, pools_text, protected_text, script_text, trait_text, version_text, whole_body, whole_text}
+use Rattle.abc_linetokens.specs.Numbers as tokens
+use Rattle.abc_linetokens.specs.Numbers.{number_lines}
+use Rattle.abc_disasm.specs.Texts.{IsShown, body_targets, class_text, code_text, definitions_text, entry_text, front_text, handler_targets, handler_text, instance_text, instr_targets, instr_text, metadata_text, method_text, option_text, pools_text, protected_text, script_text, trait_text, version_text, whole_body, whole_text}
 use Rattle.abc_disasm.proofs.Forms.{branch_items, byte_items, debug_items, one_items, plain_items, scope_items, short_items, switch_items, two_items}
 use Rattle.abc_disasm.proofs.Readiness.{shown}
 
@@ -68,7 +70,7 @@ module _ (v : Abc) (named : List ℕ) where
       ∙ ap (λ (l : List ℕ). f y ++ l) (many_shows head below g f e ys)
 
 -- a line of a word and a number
-number_is : (word : List ℕ) (n : ℕ) → (word ++ (0x20 ∷ (decimal n ++ []))) ++ (0x0a ∷ []) ≡ texts.number_line word n
+number_is : (word : List ℕ) (n : ℕ) → (word ++ (0x20 ∷ (decimal n ++ []))) ++ (0x0a ∷ []) ≡ tokens.number_line word n
 number_is word n = append_assoc word (0x20 ∷ (decimal n ++ [])) (0x0a ∷ []) ∙ ap (λ (l : List ℕ). word ++ (0x20 ∷ (l ++ 0x0a ∷ []))) (append-nil (decimal n))
 
 module _ (v : Abc) where
@@ -81,39 +83,39 @@ module _ (v : Abc) where
   abbrev fs : Faults
   fs = file.faults s i
 
-  param_is : (n : ℕ) → line_bytes v words.Param ((param_line s).items n) ≡ texts.number_line (codes "param") n
+  param_is : (n : ℕ) → line_bytes v words.Param ((param_line s).items n) ≡ tokens.number_line (codes "param") n
   unfolding param_line any_number
   param_is n = number_is (codes "param") n
 
-  pname_is : (n : ℕ) → line_bytes v words.ParamName (number_line.items n) ≡ texts.number_line (codes "pname") n
+  pname_is : (n : ℕ) → line_bytes v words.ParamName (number_line.items n) ≡ tokens.number_line (codes "pname") n
   unfolding number_line any_number
   pname_is n = number_is (codes "pname") n
 
-  metadata_is : (n : ℕ) → line_bytes v words.Metadata ((string_index_line s).items n) ≡ texts.number_line (codes "metadata") n
+  metadata_is : (n : ℕ) → line_bytes v words.Metadata ((string_index_line s).items n) ≡ tokens.number_line (codes "metadata") n
   unfolding string_index_line any_number
   metadata_is n = number_is (codes "metadata") n
 
-  protected_is : (n : ℕ) → line_bytes v words.Protected ((protected_line s).items n) ≡ texts.number_line (codes "protected") n
+  protected_is : (n : ℕ) → line_bytes v words.Protected ((protected_line s).items n) ≡ tokens.number_line (codes "protected") n
   unfolding protected_line any_number
   protected_is n = number_is (codes "protected") n
 
-  implements_is : (n : ℕ) → line_bytes v words.Implements ((implements_line s).items n) ≡ texts.number_line (codes "implements") n
+  implements_is : (n : ℕ) → line_bytes v words.Implements ((implements_line s).items n) ≡ tokens.number_line (codes "implements") n
   unfolding implements_line any_number
   implements_is n = number_is (codes "implements") n
 
-  iinit_is : (n : ℕ) → line_bytes v words.Initializer ((method_index_line s).items n) ≡ texts.number_line (codes "iinit") n
+  iinit_is : (n : ℕ) → line_bytes v words.Initializer ((method_index_line s).items n) ≡ tokens.number_line (codes "iinit") n
   unfolding method_index_line any_number
   iinit_is n = number_is (codes "iinit") n
 
-  class_is : (n : ℕ) → line_bytes v words.Class ((method_index_line s).items n) ≡ texts.number_line (codes "class") n
+  class_is : (n : ℕ) → line_bytes v words.Class ((method_index_line s).items n) ≡ tokens.number_line (codes "class") n
   unfolding method_index_line any_number
   class_is n = number_is (codes "class") n
 
-  script_is : (n : ℕ) → line_bytes v words.Script ((method_index_line s).items n) ≡ texts.number_line (codes "script") n
+  script_is : (n : ℕ) → line_bytes v words.Script ((method_index_line s).items n) ≡ tokens.number_line (codes "script") n
   unfolding method_index_line any_number
   script_is n = number_is (codes "script") n
 
-  tmeta_is : (n : ℕ) → line_bytes v words.TraitMetadata ((trait_metadata_line s).items n) ≡ texts.number_line (codes "tmeta") n
+  tmeta_is : (n : ℕ) → line_bytes v words.TraitMetadata ((trait_metadata_line s).items n) ≡ tokens.number_line (codes "tmeta") n
   unfolding trait_metadata_line any_number
   tmeta_is n = number_is (codes "tmeta") n
 
@@ -133,7 +135,7 @@ module _ (v : Abc) where
   unfolding file.traits
   traits_are named n ts =
       many_shows v named (line words.Trait (trait_line s) (file.MetadataAgrees s i)) (Metas n) (λ (t : TraitInfo). (trait_head t, t.metadata)) (trait_text v)
-      (λ t. ap (λ (l : List ℕ). line_bytes v words.Trait ((trait_line s).items (trait_head t)) ++ l) (flat_shows v named words.TraitMetadata (trait_metadata_line s) (texts.number_line (codes "tmeta")) tmeta_is t.metadata)) ts
+      (λ t. ap (λ (l : List ℕ). line_bytes v words.Trait ((trait_line s).items (trait_head t)) ++ l) (flat_shows v named words.TraitMetadata (trait_metadata_line s) (tokens.number_line (codes "tmeta")) tmeta_is t.metadata)) ts
 
   abbrev method_head : Method → MethodHead
   method_head m = record { ret = m.ret; name = m.name; flags = m.flags }
@@ -146,9 +148,9 @@ module _ (v : Abc) where
       let c = (flat fs words.ParamName number_line 0).shows m.param_names in
       two v [] a (b ++ c)
       ∙ ap (λ (l : List ℕ). rendered v [] a ++ l) (two v [] b c)
-      ∙ ap (λ (l : List ℕ). l ++ (rendered v [] b ++ rendered v [] c)) (flat_shows v [] words.Param (param_line s) (texts.number_line (codes "param")) param_is m.params)
+      ∙ ap (λ (l : List ℕ). l ++ (rendered v [] b ++ rendered v [] c)) (flat_shows v [] words.Param (param_line s) (tokens.number_line (codes "param")) param_is m.params)
       ∙ ap (λ (l : List ℕ). number_lines (codes "param") m.params ++ (l ++ rendered v [] c)) (flat_shows v [] words.Optional (option_line s) (option_text v) (λ x. refl) m.options)
-      ∙ ap (λ (l : List ℕ). number_lines (codes "param") m.params ++ (flat_map (option_text v) m.options ++ l)) (flat_shows v [] words.ParamName number_line (texts.number_line (codes "pname")) pname_is m.param_names)
+      ∙ ap (λ (l : List ℕ). number_lines (codes "param") m.params ++ (flat_map (option_text v) m.options ++ l)) (flat_shows v [] words.ParamName number_line (tokens.number_line (codes "pname")) pname_is m.param_names)
 
   methods_are : (ms : List Method) → rendered v [] ((file.methods s i 0).shows ms) ≡ flat_map (method_text v) ms
   unfolding file.methods
@@ -162,14 +164,14 @@ module _ (v : Abc) where
       many_shows v [] (line words.Metadata (string_index_line s) always) (flat fs words.Entry (entry_line s) 0) metadata_lines (metadata_text v)
       (λ m.
       ap (λ (l : List ℕ). l ++ rendered v [] ((flat fs words.Entry (entry_line s) 0).shows (pairs m.items))) (metadata_is m.name)
-      ∙ ap (λ (l : List ℕ). texts.number_line (codes "metadata") m.name ++ l) (flat_shows v [] words.Entry (entry_line s) (entry_text v) (λ x. refl) (pairs m.items)))
+      ∙ ap (λ (l : List ℕ). tokens.number_line (codes "metadata") m.name ++ l) (flat_shows v [] words.Entry (entry_line s) (entry_text v) (λ x. refl) (pairs m.items)))
       ms
 
   protected_are : (o : Option ℕ) → rendered v [] ((flat fs words.Protected (protected_line s) 0).shows (option_to_list o)) ≡ protected_text v o
   protected_are None = refl
   protected_are (Some n) = append-nil (line_bytes v words.Protected ((protected_line s).items n)) ∙ protected_is n
 
-  instance_below_is : (x : Instance) → rendered v [] ((file.instance_below s i 0).shows (instance_in x).1) ≡ protected_text v x.protected_ns ++ (number_lines (codes "implements") x.interfaces ++ (texts.number_line (codes "iinit") x.iinit ++ flat_map (trait_text v) x.traits))
+  instance_below_is : (x : Instance) → rendered v [] ((file.instance_below s i 0).shows (instance_in x).1) ≡ protected_text v x.protected_ns ++ (number_lines (codes "implements") x.interfaces ++ (tokens.number_line (codes "iinit") x.iinit ++ flat_map (trait_text v) x.traits))
   unfolding file.instance_below
   instance_below_is x =
       let a = (flat fs words.Protected (protected_line s) 0).shows (option_to_list x.protected_ns) in
@@ -179,9 +181,9 @@ module _ (v : Abc) where
       two v [] a (b ++ c)
       ∙ ap (λ (l : List ℕ). rendered v [] a ++ l) (two v [] b c)
       ∙ ap (λ (l : List ℕ). l ++ (rendered v [] b ++ rendered v [] c)) (protected_are x.protected_ns)
-      ∙ ap (λ (l : List ℕ). protected_text v x.protected_ns ++ (l ++ rendered v [] c)) (flat_shows v [] words.Implements (implements_line s) (texts.number_line (codes "implements")) implements_is x.interfaces)
+      ∙ ap (λ (l : List ℕ). protected_text v x.protected_ns ++ (l ++ rendered v [] c)) (flat_shows v [] words.Implements (implements_line s) (tokens.number_line (codes "implements")) implements_is x.interfaces)
       ∙ ap (λ (l : List ℕ). protected_text v x.protected_ns ++ (number_lines (codes "implements") x.interfaces ++ (l ++ rendered v [] t))) (iinit_is x.iinit)
-      ∙ ap (λ (l : List ℕ). protected_text v x.protected_ns ++ (number_lines (codes "implements") x.interfaces ++ (texts.number_line (codes "iinit") x.iinit ++ l))) (traits_are [] 0 x.traits)
+      ∙ ap (λ (l : List ℕ). protected_text v x.protected_ns ++ (number_lines (codes "implements") x.interfaces ++ (tokens.number_line (codes "iinit") x.iinit ++ l))) (traits_are [] 0 x.traits)
 
   instances_are : (is : List Instance) → rendered v [] ((file.instance_lines s i 0).shows (map instance_in is)) ≡ flat_map (instance_text v) is
   unfolding file.instance_lines
@@ -193,13 +195,13 @@ module _ (v : Abc) where
   unfolding file.classes
   classes_are cs =
       many_shows v [] (line words.Class (method_index_line s) (file.ClassAgrees s i)) (file.traits s i fs 0) (λ (c : ClassInfo). (c.cinit, c.traits)) (class_text v)
-      (λ c. ap (λ (l : List ℕ). l ++ rendered v [] ((file.traits s i fs 0).shows c.traits)) (class_is c.cinit) ∙ ap (λ (l : List ℕ). texts.number_line (codes "class") c.cinit ++ l) (traits_are [] 0 c.traits)) cs
+      (λ c. ap (λ (l : List ℕ). l ++ rendered v [] ((file.traits s i fs 0).shows c.traits)) (class_is c.cinit) ∙ ap (λ (l : List ℕ). tokens.number_line (codes "class") c.cinit ++ l) (traits_are [] 0 c.traits)) cs
 
   scripts_are : (ss : List Script) → rendered v [] ((file.scripts s i 0).shows ss) ≡ flat_map (script_text v) ss
   unfolding file.scripts
   scripts_are ss =
       many_shows v [] (line words.Script (method_index_line s) always) (file.traits s i fs 0) (λ (c : Script). (c.init, c.traits)) (script_text v)
-      (λ c. ap (λ (l : List ℕ). l ++ rendered v [] ((file.traits s i fs 0).shows c.traits)) (script_is c.init) ∙ ap (λ (l : List ℕ). texts.number_line (codes "script") c.init ++ l) (traits_are [] 0 c.traits)) ss
+      (λ c. ap (λ (l : List ℕ). l ++ rendered v [] ((file.traits s i fs 0).shows c.traits)) (script_is c.init) ∙ ap (λ (l : List ℕ). tokens.number_line (codes "script") c.init ++ l) (traits_are [] 0 c.traits)) ss
 
   pools_are : rendered v [] ((file.pools s i 0).shows (outline v).0) ≡ pools_text v
   unfolding file.pools

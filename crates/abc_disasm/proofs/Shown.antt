@@ -11,7 +11,8 @@ use Rattle.abc_text.specs.Writing.{spaced}
 use Rattle.abc_lines.specs.Kinds.{multiname_word, multiname_words, value_kind, value_word}
 use Rattle.abc_lines.specs.Lineforms.{kind_in, multiname_fields, slot_value}
 use Rattle.abc_lines.specs.Listing.{name_in, name_shown, token_of}
-use Rattle.abc_disasm.specs.Texts.{numbers, operands}
+use Rattle.abc_disasm.specs.Texts.{operands}
+use Rattle.abc_linetokens.specs.Numbers.{numbers}
 
 pub entries : (size : ℕ) (xs : List ℕ) → spaced (map token_of (several_items (entry_upto size) xs)) ≡ numbers xs
 unfolding any_number

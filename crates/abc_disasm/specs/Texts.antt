@@ -28,22 +28,12 @@ use Rattle.abc_rowparts.specs.Lines.{Item}
 use Rattle.abc_rowparts.specs.Wordlines.{among}
 use Rattle.abc_lines.specs.Answers.{instance_head, pairs}
 use Rattle.abc_lines.specs.Lineforms.{body_line, catch_line, double_line, entry_line, int_line, name_line, namespace_line, set_line, string_line, uint_line, instance_line, instruction_line, kind_in, method_line, multiname_fields, opcode_of, option_line, slot_value, trait_fields, trait_line}
+use Rattle.abc_linetokens.specs.Numbers.{number_line, number_lines}
 use Rattle.abc_lines.specs.Listing.{label_bytes, label_of, line_bytes, token_of}
 
 -- operands behind a line's first word
 abbrev pub operands : List Item → List ℕ
 operands items = spaced (map token_of items)
-
--- numbers, each behind a space
-abbrev pub numbers : List ℕ → List ℕ
-numbers ns = flat_map (λ n. 0x20 ∷ decimal n) ns
-
--- a word, a number and the line's end
-abbrev pub number_line : List ℕ → ℕ → List ℕ
-number_line word n = word ++ (0x20 ∷ (decimal n ++ 0x0a ∷ []))
-
-abbrev pub number_lines : List ℕ → List ℕ → List ℕ
-number_lines word ns = flat_map (number_line word) ns
 
 -- labels, each behind a space
 abbrev pub labels : List ℕ → List ℕ

@@ -10,8 +10,8 @@ ghost use Rattle.abc_varint.specs.Puts.{Puts};
 use crate::instrs::put_instr;
 use crate::listed::{Listed, put_all};
 use crate::marks::mark_body;
-use crate::tokens::{push_byte, put, put_label, put_number, put_target};
 use abc_base::{NoMemory, Table};
+use abc_linetokens::{push_byte, put, put_label, put_number, put_target};
 use abc_tables::{Abc, Body, Handler};
 use std::alloc::Global;
 

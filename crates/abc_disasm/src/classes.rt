@@ -2,11 +2,11 @@
 ghost use Rattle.abc_disasm.specs.Texts.{class_text, instance_head_text, instance_text, protected_text, script_text};
 ghost use Rattle.abc_varint.specs.Puts.{Puts};
 
-use crate::comments::put_multiname_comment;
 use crate::listed::{Listed, put_all};
-use crate::numbers::{put_number_line, put_number_lines};
-use crate::tokens::{push_byte, put, put_number};
 use abc_base::NoMemory;
+use abc_linetokens::{
+    push_byte, put, put_multiname_comment, put_number, put_number_line, put_number_lines,
+};
 use abc_tables::{Abc, ClassInfo, Instance, Script};
 
 fn put_protected(space: &Option<u32>, _abc: &Abc, out: &mut Vec<u8>) -> Result<(), NoMemory>

@@ -4,8 +4,8 @@ ghost use Rattle.abc_disasm.specs.Heads.{head};
 ghost use Rattle.abc_disasm.specs.declared.heads.TheConstants.{HEADS as all_heads};
 ghost use Rattle.abc_varint.specs.Puts.{PutsWhole};
 
-use crate::tokens::put_first;
 use abc_base::NoMemory;
+use abc_linetokens::put_first;
 
 /// A front, padded with blanks, and how many bytes it has.
 type Head = ([u8; 16], u8);

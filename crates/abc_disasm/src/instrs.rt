@@ -7,11 +7,11 @@ ghost use Rattle.abc_tables.specs.declared.code.Instr.TheVariants as instrs;
 ghost use Rattle.abc_tables.specs.declared.opcodes.Form.TheVariants as forms;
 ghost use Rattle.abc_varint.specs.Puts.{Puts};
 
-use crate::comments::put_operand_comment;
 use crate::heads::put_head;
-use crate::numbers::put_number_line;
-use crate::tokens::{push_byte, put, put_label, put_number, put_operand, put_signed, put_target};
 use abc_base::{NoMemory, Table};
+use abc_linetokens::{
+    push_byte, put, put_label, put_number, put_number_line, put_operand, put_operand_comment, put_signed, put_target,
+};
 use abc_tables::{Abc, Instr, Pool, opcode};
 
 /// The pool that an instruction's first operand names.

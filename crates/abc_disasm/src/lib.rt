@@ -4,17 +4,13 @@
 
 mod bodies;
 mod classes;
-mod comments;
-mod escaping;
 mod heads;
 mod instrs;
 mod listed;
 mod listing;
 mod marks;
 mod methods;
-mod numbers;
 mod pools;
-mod tokens;
 mod traits;
 
 pub use bodies::put_body;

@@ -6,8 +6,8 @@ ghost use Rattle.abc_varint.specs.Puts.{Puts, PutsWhole};
 
 use crate::bodies::put_bodies;
 use crate::listed::put_all;
-use crate::tokens::put;
 use abc_base::NoMemory;
+use abc_linetokens::put;
 use abc_tables::Abc;
 use std::alloc::Global;
 

@@ -7,9 +7,8 @@ ghost use Rattle.abc_lines.specs.Kinds.{value_word};
 ghost use Rattle.abc_varint.specs.Puts.{Puts};
 
 use crate::listed::{Listed, put_all};
-use crate::numbers::{put_number_line, put_number_lines};
-use crate::tokens::{push_byte, put, put_number, put_word};
 use abc_base::NoMemory;
+use abc_linetokens::{push_byte, put, put_number, put_number_line, put_number_lines, put_word};
 use abc_tables::{Abc, Metadata, Method, OptionValue, ValueKind};
 
 /// The word of the kind of a value.

@@ -5,11 +5,11 @@ ghost use Rattle.abc_lines.specs.Kinds.{multiname_word, space_word};
 ghost use Rattle.abc_lines.specs.Lineforms.{kind_in};
 ghost use Rattle.abc_varint.specs.Puts.{Puts, PutsWhole};
 
-use crate::comments::{name_of, put_name_comment, put_quoted_comment, string_at};
 use crate::listed::Listed;
-use crate::numbers::{put_numbers, put_two};
-use crate::tokens::{push_byte, put, put_hex_bytes, put_number, put_quoted, put_signed};
 use abc_base::NoMemory;
+use abc_linetokens::{
+    name_of, push_byte, put, put_hex_bytes, put_name_comment, put_number, put_numbers, put_quoted, put_quoted_comment, put_signed, put_two, string_at,
+};
 use abc_tables::{Abc, Bytes, Eight, Multiname, Namespace, NsKind, Table};
 
 /// The front of a namespace's line: it says of which kind it is. Each is appended whole, in few steps.

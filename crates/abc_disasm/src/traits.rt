@@ -5,12 +5,12 @@ ghost use Rattle.abc_lines.specs.Kinds.{trait_word};
 ghost use Rattle.abc_tables.specs.Traits.{trait_kind_in};
 ghost use Rattle.abc_varint.specs.Puts.{Puts, PutsWhole};
 
-use crate::comments::put_multiname_comment;
 use crate::listed::Listed;
 use crate::methods::value_name;
-use crate::numbers::{put_number_lines, put_two};
-use crate::tokens::{push_byte, put, put_number, put_word};
 use abc_base::NoMemory;
+use abc_linetokens::{
+    push_byte, put, put_multiname_comment, put_number, put_number_lines, put_two, put_word,
+};
 use abc_tables::{Abc, OptionValue, TraitBody, TraitInfo};
 
 /// The front of a trait's line: it says of which kind it is.

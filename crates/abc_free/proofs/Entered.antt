@@ -11,7 +11,7 @@ use Rattle.abc_tables.specs.declared.tables.Abc.{Abc}
 use Rattle.abc_tables.specs.declared.tables.Eight.{Eight}
 use Rattle.abc_trees.specs.declared.heads.Head.{Head}
 use Rattle.abc_trees.specs.Trees.{head, no_head}
-use Rattle.abc_tidy.specs.Entries.{double_places, doubles_kind, graph_of, heads_of, int_places, ints_kind, name_head, name_parts, no_parts, place_among, set_parts, sets_kind, space_head, space_heads, space_parts, text_places, texts_kind, uint_places, uints_kind, value_graph, value_head, value_heads}
+use Rattle.abc_entries.specs.Entries.{double_places, doubles_kind, graph_of, heads_of, int_places, ints_kind, name_head, name_parts, no_parts, place_among, set_parts, sets_kind, space_head, space_heads, space_parts, text_places, texts_kind, uint_places, uints_kind, value_graph, value_head, value_heads}
 use Rattle.abc_free.specs.Things.{Entry, NoEntry, IntEntry, UIntEntry, DoubleEntry, TextEntry, SpaceEntry, SetEntry, NameEntry, entries, entry_at, parts, space_entries}
 use Rattle.abc_free.proofs.Lists.{get_map, same_maps, two_maps}
 

@@ -5,7 +5,7 @@ use Rattle.abc_tables.specs.declared.tables.Abc.{Abc}
 use Rattle.abc_tables.specs.Pools.{empty}
 use Rattle.abc_trees.specs.Trees.{Tree}
 use Rattle.abc_trees.specs.Visits.{visit_all}
-use Rattle.abc_tidy.specs.Visited.{IsTidiedValue, roots_of}
+use Rattle.abc_entries.specs.Visited.{IsTidiedValue, roots_of}
 use Rattle.abc_free.specs.Free.{Free, IsFree, no_index, privates_among}
 use Rattle.abc_free.specs.Things.{AreThings, Thing}
 use Rattle.abc_free.proofs.Twins.{are_things, one_things, one_trees, thing_of}

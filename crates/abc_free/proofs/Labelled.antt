@@ -17,8 +17,8 @@ use Rattle.abc_tables.specs.declared.tables.Eight.{Eight}
 use Rattle.abc_tables.specs.Pools.{is_namespace_kind, multiname_code, multiname_kind_of, namespace_code, namespace_kind_of}
 use Rattle.abc_trees.specs.declared.heads.Head.{Head}
 use Rattle.abc_trees.specs.Trees.{no_head}
-use Rattle.abc_tidy.specs.Entries.{doubles_kind, ints_kind, name_head, place_among, sets_kind, space_head, space_value, texts_kind, uints_kind, value_head}
-use Rattle.abc_tidy.proofs.Found.{place_found}
+use Rattle.abc_entries.specs.Entries.{doubles_kind, ints_kind, name_head, place_among, sets_kind, space_head, space_value, texts_kind, uints_kind, value_head}
+use Rattle.abc_entries.proofs.Found.{place_found}
 use Rattle.abc_free.specs.Things.{Entry, NoEntry, IntEntry, UIntEntry, DoubleEntry, TextEntry, SpaceEntry, SetEntry, NameEntry, Label, Zero, Int, UInt, Double, Text, Space, Set, Name, entries, entry_at, kind_of, label, space_entries}
 use Rattle.abc_free.proofs.Entered.{double_bits, entry_head}
 use Rattle.abc_free.proofs.Lists.{Each, In, each_append, each_at, each_map}

@@ -11,7 +11,7 @@ use Rattle.abc_trees.specs.declared.heads.Head.{Head}
 use Rattle.abc_trees.specs.Trees.{Tree, Leaf, Apply, AreTrees, NoTrees, OneMore, Grows, Done, More, IsTree, head, head_eq}
 use Rattle.abc_trees.specs.Visits.{visit_all}
 use Rattle.abc_trees.proofs.TreeLaws.{leaf_same, one_tree, trees_refl, trees_same}
-use Rattle.abc_tidy.specs.Entries.{graph_of, heads_of, space_value}
+use Rattle.abc_entries.specs.Entries.{graph_of, heads_of, space_value}
 use Rattle.abc_free.specs.Free.{private_place, privates_among, root}
 use Rattle.abc_free.specs.Things.{AreThings, NoThings, OneThing, Entry, NoEntry, IntEntry, UIntEntry, DoubleEntry, TextEntry, SpaceEntry, SetEntry, NameEntry, IsThing, Joined, Whole, Under, Label, Zero, Thing, Alone, With, entry_at, label, parts}
 use Rattle.abc_free.proofs.Alike.{Alike, OneToOne, tree_parts}

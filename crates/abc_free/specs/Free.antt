@@ -10,8 +10,8 @@ use Rattle.abc_tables.specs.Pools.{empty, namespace_code}
 use Rattle.abc_trees.specs.declared.heads.Head.{Head}
 use Rattle.abc_trees.specs.Trees.{AreTrees, Apply, Leaf, Tree}
 use Rattle.abc_trees.specs.Visits.{visit_all}
-use Rattle.abc_tidy.specs.Entries.{graph_of, heads_of}
-use Rattle.abc_tidy.specs.Visited.{roots_of}
+use Rattle.abc_entries.specs.Entries.{graph_of, heads_of}
+use Rattle.abc_entries.specs.Visited.{roots_of}
 use Rattle.abc_free.specs.Things.{AreThings, Thing}
 
 -- ---- the Private namespaces that are visited

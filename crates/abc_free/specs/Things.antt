@@ -11,7 +11,7 @@ use Rattle.abc_tables.specs.declared.names.Namespace.{Namespace}
 use Rattle.abc_tables.specs.declared.names.NsKind.{NsKind}
 use Rattle.abc_tables.specs.declared.tables.Abc.{Abc}
 use Rattle.abc_tables.specs.declared.tables.Eight.{Eight}
-use Rattle.abc_tidy.specs.Entries.{name_parts, place_among, set_parts, space_parts, space_value}
+use Rattle.abc_entries.specs.Entries.{name_parts, place_among, set_parts, space_parts, space_value}
 
 -- What an entry is by itself. The number of a namespace tells which of the visited Private ones it is; of other kinds it is 0.
 -- The kind of a multiname tells whether it names an attribute.

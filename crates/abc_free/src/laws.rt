@@ -1,7 +1,7 @@
 ghost use Rattle.std.specs.Prelude.{◌≡◌};
 ghost use Rattle.abc_free.specs.Free.{Free, IsFree};
 ghost use Rattle.abc_tables.specs.declared.tables.Abc.{Abc};
-ghost use Rattle.abc_tidy.specs.Rules.{IsTidied};
+ghost use Rattle.abc_entries.specs.Rules.{IsTidied};
 
 /// A file has at most one free form, and an accepted file has one.
 pub fn free_forms()

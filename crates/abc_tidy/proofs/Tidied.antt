@@ -1,14 +1,14 @@
 -- The tidied value of a file, and the first rule that is broken.
-use Rattle.std.proofs.Common.{◌≡◌, ℕ, zero, suc, ◌<◌, ◌≤◌, ◌⊎◌, inl, inr, All, List, [], ◌∷◌, length, get_or, Some, None, refl, sym, ap, subst, ◌∙◌, arith}
+use Rattle.std.proofs.Common.{◌≡◌, ◌×◌, ℕ, zero, suc, ◌<◌, ◌≤◌, ◌⊎◌, inl, inr, All, List, [], ◌∷◌, length, get_or, Ok, Err, Some, None, refl, sym, ap, subst, ◌∙◌, arith}
 use Rattle.std.proofs.lemmas.Bool.{cases_lt}
 use Rattle.std.proofs.lemmas.List.{get_or_past}
+use Rattle.std.specs.Result.{MatchResult}
 use Rattle.std.specs.declared.option.Option.{Option}
+use Rattle.std.specs.declared.result.Result.{Result}
 use Rattle.abc_refs.specs.declared.nodes.Counts.{Counts}
 use Rattle.abc_refs.specs.declared.nodes.Numbers.{Numbers}
 use Rattle.abc_refs.specs.Nodes.{counts_of, number_in}
 use Rattle.abc_refs.specs.Renumbered.{beside, new_file}
-use Rattle.abc_tables.specs.declared.code.Body.{Body}
-use Rattle.abc_tables.specs.declared.methods.Method.{Method}
 use Rattle.abc_tables.specs.declared.tables.Abc.{Abc}
 use Rattle.abc_tables.specs.Files.{Fits}
 use Rattle.abc_trees.specs.declared.heads.Head.{Head}
@@ -17,13 +17,15 @@ use Rattle.abc_trees.specs.Alike.{AreAlike}
 use Rattle.abc_trees.specs.Classes.{AllClassed, AreClasses}
 use Rattle.abc_trees.specs.Visits.{IsVisited}
 use Rattle.abc_trees.proofs.Alike.{visited_alike}
-use Rattle.abc_tidy.specs.declared.error.TidyRule.TheVariants as rules
-use Rattle.abc_tidy.specs.Entries.{graph_of, heads_of}
-use Rattle.abc_tidy.specs.Firsts.{HoldBelow, IsFirstCyclic}
-use Rattle.abc_tidy.specs.NewPools.{new_pools}
+use Rattle.abc_entries.specs.declared.error.TidyError.{TidyError}
+use Rattle.abc_entries.specs.declared.error.TidyError.TheVariants as errors
+use Rattle.abc_entries.specs.declared.error.TidyRule.TheVariants as rules
+use Rattle.abc_entries.specs.Entries.{graph_of, heads_of}
+use Rattle.abc_entries.specs.Firsts.{IsFirstCyclic}
+use Rattle.abc_entries.specs.NewPools.{new_pools}
 use Rattle.abc_tidy.specs.Planned.{IsPlan}
-use Rattle.abc_tidy.specs.Rules.{BodyHolds, Holds, IsFirstBroken, IsTidied, MethodHolds}
-use Rattle.abc_tidy.specs.Visited.{AreNumbers, IsTidiedValue, roots_of}
+use Rattle.abc_entries.specs.Rules.{Holds, IsFirstBroken, IsTidied, IsTidyError}
+use Rattle.abc_entries.specs.Visited.{AreNumbers, IsTidiedValue, roots_of}
 
 -- those that have classes are nodes
 all_nodes : (graph : List (List ℕ)) (classes : List (Option ℕ)) (xs : List ℕ) → length classes ≡ length graph → AllClassed classes xs → All (λ x. x < length graph) xs
@@ -56,12 +58,6 @@ tidied_value v pools t c heads graph roots seen numbers counts f g keys classes 
 
 -- ---- the rules
 
-pub refused_body : (v : Abc) (i : ℕ) (x : Body) → HoldBelow (BodyHolds v) v.bodies i → i < length v.bodies → get_or v.bodies i x ≡ x → (BodyHolds v x → ⊥) → IsFirstBroken v rules.Operand i
-refused_body v i x before lt at breaks = record { before = tt; broken = record { item = x; within = lt; at = at; breaks = breaks }; least = before }
-
-pub refused_method : (v : Abc) (i : ℕ) (x : Method) → Holds v rules.Operand → HoldBelow (MethodHolds v) v.methods i → i < length v.methods → get_or v.methods i x ≡ x → (MethodHolds v x → ⊥) → IsFirstBroken v rules.ParamName i
-refused_method v i x first before lt at breaks = record { before = first; broken = record { item = x; within = lt; at = at; breaks = breaks }; least = before }
-
 pub refused_name : (v : Abc) (i : ℕ) → Holds v rules.Operand → Holds v rules.ParamName → IsFirstCyclic v (Some i) → IsFirstBroken v rules.NameCycle i
 refused_name v i a b f = record { before = (a, b); broken = f.0; least = f.1 }
 
@@ -84,3 +80,8 @@ too_large v new t pools f p e is unfit = record {
   where
     none : (j : ℕ) → j < 0 → ⊥
     none j lt = omega arith
+
+-- what the plan makes is the answer where some bytes spell it
+pub spelled_or_not : (v w pools : Abc) (f : Numbers) (r : Result Abc TidyError) → IsPlan v f pools → w ≡ beside (new_file (number_in f) v) pools → MatchResult r (λ t. (t ≡ w) × Fits w) (λ e. (e ≡ errors.Refused rules.TooLarge 0) × (Fits w → ⊥)) → MatchResult r (IsTidied v) (IsTidyError v)
+spelled_or_not v w pools f (Ok t) p is h = done v (new_file (number_in f) v) t pools f p refl (h.0 ∙ is) (subst Fits (sym h.0) h.1)
+spelled_or_not v w pools f (Err e) p is h = subst (IsTidyError v) (sym h.0) (too_large v (new_file (number_in f) v) w pools f p refl is h.1)

@@ -6,11 +6,11 @@ use Rattle.abc_trees.specs.declared.heads.Head.{Head}
 use Rattle.abc_trees.specs.declared.keys.Key.{Key}
 use Rattle.abc_trees.specs.Alike.{AreAlike}
 use Rattle.abc_trees.specs.Classes.{AllClassed, AreClasses, AreDistinct}
-use Rattle.abc_tidy.specs.declared.error.TidyRule.TheVariants as rules
-use Rattle.abc_tidy.specs.Entries.{graph_of, heads_of}
-use Rattle.abc_tidy.specs.Once.{once}
-use Rattle.abc_tidy.specs.Rules.{Holds}
-use Rattle.abc_tidy.specs.Visited.{roots_of}
+use Rattle.abc_entries.specs.declared.error.TidyRule.TheVariants as rules
+use Rattle.abc_entries.specs.Entries.{graph_of, heads_of}
+use Rattle.abc_entries.specs.Once.{once}
+use Rattle.abc_entries.specs.Rules.{Holds}
+use Rattle.abc_entries.specs.Visited.{roots_of}
 
 pub record AreClassed (v : Abc) (heads : List Head) (graph : List (List ℕ)) (roots : List ℕ) (keys : List Key) (classes : List (Option ℕ)) : Type 0 where
   pub alike : AreAlike classes heads (heads_of v)

@@ -1,13 +1,2 @@
-pub mod Entries
-pub mod NameGraph
-pub mod NewPools
-pub mod Visited
-pub mod Rules
-pub mod Firsts
-pub mod Kept
-pub mod Numbered
 pub mod Classed
-pub mod Heads
 pub mod Planned
-pub mod Once
-pub mod Roots

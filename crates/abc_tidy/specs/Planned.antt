@@ -3,9 +3,9 @@ use Rattle.abc_refs.specs.declared.nodes.Numbers.{Numbers}
 use Rattle.abc_refs.specs.Nodes.{number_in}
 use Rattle.abc_refs.specs.Renumbered.{beside, new_file}
 use Rattle.abc_tables.specs.declared.tables.Abc.{Abc}
-use Rattle.abc_tidy.specs.declared.error.TidyRule.TheVariants as rules
-use Rattle.abc_tidy.specs.Rules.{Holds}
-use Rattle.abc_tidy.specs.Visited.{IsTidiedValue}
+use Rattle.abc_entries.specs.declared.error.TidyRule.TheVariants as rules
+use Rattle.abc_entries.specs.Rules.{Holds}
+use Rattle.abc_entries.specs.Visited.{IsTidiedValue}
 
 pub record IsPlan (v : Abc) (numbers : Numbers) (pools : Abc) : Type 0 where
   pub operands : Holds v rules.Operand

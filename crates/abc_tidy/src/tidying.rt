@@ -1,25 +1,22 @@
 ghost use Rattle.std.specs.Prelude.{◌≡◌, ◌<◌, ◌+◌, ◌^◌, length, IfOk, MatchResult};
 ghost use Rattle.abc_refs.specs.Nodes.{counts_of, node_count, number_in};
 ghost use Rattle.abc_refs.specs.Renumbered.{beside, new_file};
-ghost use Rattle.abc_tidy.specs.declared.error.TidyRule.TheVariants as rules;
-ghost use Rattle.abc_tidy.specs.Rules.{Holds, IsTidied, IsTidyError};
+ghost use Rattle.abc_entries.specs.declared.error.TidyError.TheVariants as errors;
+ghost use Rattle.abc_entries.specs.declared.error.TidyRule.TheVariants as rules;
+ghost use Rattle.abc_entries.specs.Rules.{Holds, IsTidied, IsTidyError};
 ghost use Rattle.abc_trees.specs.Classes.{AllClassed, AreClasses};
+ghost use Rattle.abc_tables.specs.Files.{Fits};
 ghost use Rattle.abc_tidy.specs.Classed.{AreClassed};
-ghost use Rattle.abc_tidy.specs.Entries.{graph_of};
-ghost use Rattle.abc_tidy.specs.Once.{once};
+ghost use Rattle.abc_entries.specs.Entries.{graph_of};
+ghost use Rattle.abc_entries.specs.Once.{once};
 ghost use Rattle.abc_tidy.specs.Planned.{IsPlan};
-ghost use Rattle.abc_tidy.specs.Visited.{IsTidiedValue, roots_of};
+ghost use Rattle.abc_entries.specs.Visited.{IsTidiedValue, roots_of};
 
-use crate::checks::check_indices;
-use crate::cycles::first_cyclic;
-use crate::entries::entries_of;
-use crate::error::{TidyError, TidyRule};
-use crate::heads::heads_of;
-use crate::marks::marks_of;
-use crate::numbering::numbers_of;
-use crate::pools::new_pools;
-use crate::roots::named_in;
-use abc_base::{NoMemory, Table};
+use abc_base::{NoMemory, Table, release};
+use abc_entries::{
+    TidyError, TidyRule, check_indices, entries_of, first_cyclic, heads_of, marks_of, named_in,
+    new_pools, numbers_of,
+};
 use abc_fits::fits;
 use abc_refs::{Counts, Numbers, refs_of, renumber};
 use abc_tables::Abc;
@@ -162,22 +159,41 @@ fn put_beside(abc: Abc, pools: Abc) -> Abc
     }
 }
 
+/// A file with the numbers and pools of its plan, renumbered where it stands.
+fn follow(alloc: Global, abc: Abc, plan: Plan) -> Abc
+    ensures { result ≡ beside (new_file (number_in plan.numbers) abc) plan.pools }
+{
+    let mut renumbered = abc;
+    renumber(alloc, &mut renumbered, &plan.numbers);
+    put_beside(renumbered, plan.pools)
+}
+
+/// A tidied file, where some bytes spell it.
+fn spelled(tidied: Abc) -> Result<Abc, TidyError>
+    ensures { MatchResult result (λ t. (t ≡ tidied) × Fits tidied) (λ e. (e ≡ errors.Refused rules.TooLarge 0) × (Fits tidied → ⊥)) }
+{
+    if fits(&tidied) {
+        return Ok(tidied);
+    }
+    release(tidied);
+    Err(TidyError::Refused {
+        rule: TidyRule::TooLarge,
+        index: 0,
+    })
+}
+
 /// As `tidy`, for a file that serves nothing else: its definitions and bodies are renumbered where they stand.
 #[tactic(auto, using(crate::proofs::Tidied::done))]
 pub fn tidy_owned(alloc: Global, abc: Abc) -> Result<Abc, TidyError>
     ensures { MatchResult result (IsTidied abc) (IsTidyError abc) }
 {
-    let planned = make_plan(alloc, &abc)?;
-    let mut renumbered = abc;
-    renumber(alloc, &mut renumbered, &planned.numbers);
-    let tidied = put_beside(renumbered, planned.pools);
-    if fits(&tidied) {
-        return Ok(tidied);
+    match make_plan(alloc, &abc) {
+        Ok(plan) => spelled(follow(alloc, abc, plan)),
+        Err(error) => {
+            release(abc);
+            Err(error)
+        }
     }
-    Err(TidyError::Refused {
-        rule: TidyRule::TooLarge,
-        index: 0,
-    })
 }
 
 /// A file that means the same, without the entries of its pools that nothing names and those that are doubled, and with the

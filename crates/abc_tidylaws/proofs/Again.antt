@@ -16,10 +16,10 @@ use Rattle.abc_tables.specs.declared.tables.Abc.{Abc}
 use Rattle.abc_trees.specs.declared.heads.Head.{Head}
 use Rattle.abc_trees.specs.Trees.{Tree, Leaf, Apply, AreTrees, NoTrees, OneMore, IsTree}
 use Rattle.abc_trees.proofs.TreeLaws.{one_tree}
-use Rattle.abc_tidy.specs.Entries.{graph_of, heads_of}
-use Rattle.abc_tidy.specs.NameGraph.{index_of_name, is_name, name_graph, name_indices, name_targets, names_among}
-use Rattle.abc_tidy.specs.Rules.{BodyHolds, IsBroken, IsCyclic, IsThere, MethodHolds}
-use Rattle.abc_tidy.specs.Visited.{roots_of}
+use Rattle.abc_entries.specs.Entries.{graph_of, heads_of}
+use Rattle.abc_entries.specs.NameGraph.{index_of_name, is_name, name_graph, name_indices, name_targets, names_among}
+use Rattle.abc_entries.specs.Rules.{BodyHolds, IsBroken, IsCyclic, IsThere, MethodHolds}
+use Rattle.abc_entries.specs.Visited.{roots_of}
 use Rattle.abc_free.specs.Things.{NameEntry, entry_at, parts}
 use Rattle.abc_free.proofs.Alike.{tree_parts}
 use Rattle.abc_free.proofs.Closed.{node_parts}

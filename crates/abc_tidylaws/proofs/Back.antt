@@ -22,9 +22,9 @@ use Rattle.abc_trees.specs.declared.heads.Head.{Head}
 use Rattle.abc_trees.specs.Trees.{Tree, Leaf, Apply, AreTrees, NoTrees, OneMore, Grows, Done, More, IsTree, head}
 use Rattle.abc_trees.specs.Visits.{visit_all}
 use Rattle.abc_trees.proofs.TreeLaws.{leaf_same, one_tree}
-use Rattle.abc_tidy.specs.Entries.{graph_of, heads_of, name_head, place_among, space_value}
-use Rattle.abc_tidy.specs.Rules.{IsThere, names_pool, pool_size}
-use Rattle.abc_tidy.specs.Visited.{IsNamed, IsTidiedValue, number_at, pool_index, roots_of}
+use Rattle.abc_entries.specs.Entries.{graph_of, heads_of, name_head, place_among, space_value}
+use Rattle.abc_entries.specs.Rules.{IsThere, names_pool, pool_size}
+use Rattle.abc_entries.specs.Visited.{IsNamed, IsTidiedValue, number_at, pool_index, roots_of}
 use Rattle.abc_free.specs.Free.{Free, IsFree, no_index, private_place, privates_among, root}
 use Rattle.abc_free.specs.Things.{AreThings, Entry, NoEntry, IntEntry, UIntEntry, DoubleEntry, TextEntry, SpaceEntry, SetEntry, NameEntry, Label, Zero, Int, UInt, Double, Text, Space, Set, Name, Thing, entries, entry_at, kind_of, label, parts}
 use Rattle.abc_free.proofs.Alike.{Alike, OneToOne, all_alike, alike_one, root_alike, tree_parts}

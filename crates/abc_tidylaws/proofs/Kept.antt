@@ -4,11 +4,11 @@ use Rattle.abc_free.specs.Free.{HaveOneFree, IsFree}
 use Rattle.abc_free.proofs.Forms.{one_free, tidied_has_free}
 use Rattle.abc_tables.specs.declared.tables.Abc.{Abc}
 use Rattle.abc_tables.specs.Files.{Fits}
-use Rattle.abc_tidy.specs.declared.error.TidyError.{TidyError}
-use Rattle.abc_tidy.specs.declared.error.TidyError.TheVariants as errors
-use Rattle.abc_tidy.specs.declared.error.TidyRule.{TidyRule}
-use Rattle.abc_tidy.specs.declared.error.TidyRule.TheVariants as rules
-use Rattle.abc_tidy.specs.Rules.{IsFirstBroken, IsTidied, IsTidyError}
+use Rattle.abc_entries.specs.declared.error.TidyError.{TidyError}
+use Rattle.abc_entries.specs.declared.error.TidyError.TheVariants as errors
+use Rattle.abc_entries.specs.declared.error.TidyRule.{TidyRule}
+use Rattle.abc_entries.specs.declared.error.TidyRule.TheVariants as rules
+use Rattle.abc_entries.specs.Rules.{IsFirstBroken, IsTidied, IsTidyError}
 use Rattle.abc_tidylaws.proofs.Again.{no_cycle, no_operand, no_param_name}
 use Rattle.abc_tidylaws.proofs.Back.{all_refs_there, free_kept}
 use Rattle.abc_tidylaws.proofs.Same.{same_tidied}

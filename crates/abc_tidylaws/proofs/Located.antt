@@ -9,9 +9,9 @@ use Rattle.abc_tables.specs.declared.names.Multiname.{Multiname}
 use Rattle.abc_tables.specs.declared.names.Namespace.{Namespace}
 use Rattle.abc_tables.specs.declared.tables.Abc.{Abc}
 use Rattle.abc_tables.specs.declared.tables.Eight.{Eight}
-use Rattle.abc_tidy.specs.NewPools.{picked_at}
-use Rattle.abc_tidy.specs.Visited.{pool_index}
-use Rattle.abc_tidy.proofs.Picked.{a_pick, no_pick}
+use Rattle.abc_entries.specs.NewPools.{picked_at}
+use Rattle.abc_entries.specs.Visited.{pool_index}
+use Rattle.abc_entries.proofs.Picked.{a_pick, no_pick}
 use Rattle.abc_free.specs.Things.{Entry, NoEntry, IntEntry, UIntEntry, DoubleEntry, TextEntry, SpaceEntry, SetEntry, NameEntry, entries, entry_at, space_entries}
 
 below_zero : (i : ℕ) → i < 0 → ⊥

@@ -14,8 +14,8 @@ use Rattle.abc_tables.specs.declared.opcodes.Pool.TheVariants as pools
 use Rattle.abc_tables.specs.declared.tables.Abc.{Abc}
 use Rattle.abc_tables.specs.declared.tables.Eight.{Eight}
 use Rattle.abc_tables.specs.Pools.{empty}
-use Rattle.abc_tidy.specs.NewPools.{kept, new_name, new_pools, new_set, new_space, picked, picked_at}
-use Rattle.abc_tidy.specs.Visited.{is_of_pool, number_at, pool_index}
+use Rattle.abc_entries.specs.NewPools.{kept, new_name, new_pools, new_set, new_space, picked, picked_at}
+use Rattle.abc_entries.specs.Visited.{is_of_pool, number_at, pool_index}
 use Rattle.abc_free.specs.Things.{Entry, NoEntry, IntEntry, UIntEntry, DoubleEntry, TextEntry, SpaceEntry, SetEntry, NameEntry, Label, Zero, Int, UInt, Double, Text, Space, Set, Name, entries, entry_at, label, parts}
 use Rattle.abc_free.proofs.Lists.{get_map, two_maps}
 use Rattle.abc_tidylaws.proofs.Located.{Located, doubles_in, entry_pool, ints_in, locate, names_in, namespaces_in, picked_doubles, picked_ints, picked_names, picked_namespaces, picked_sets, picked_strings, picked_uints, pool_at, sets_in, strings_in, uints_in}

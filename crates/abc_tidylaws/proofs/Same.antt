@@ -14,9 +14,9 @@ use Rattle.abc_tables.specs.Pools.{empty}
 use Rattle.abc_trees.specs.declared.heads.Head.{Head}
 use Rattle.abc_trees.specs.Trees.{Tree, AreTrees, NoTrees, OneMore, IsTree, head}
 use Rattle.abc_trees.specs.Visits.{visit_all}
-use Rattle.abc_tidy.specs.Entries.{graph_of, heads_of}
-use Rattle.abc_tidy.specs.NewPools.{new_pools}
-use Rattle.abc_tidy.specs.Visited.{IsAmong, IsNamed, IsTidiedValue, number_at, pool_index, roots_of}
+use Rattle.abc_entries.specs.Entries.{graph_of, heads_of}
+use Rattle.abc_entries.specs.NewPools.{new_pools}
+use Rattle.abc_entries.specs.Visited.{IsAmong, IsNamed, IsTidiedValue, number_at, pool_index, roots_of}
 use Rattle.abc_free.specs.Free.{Free, IsFree, no_index, privates_among, root}
 use Rattle.abc_free.specs.Things.{AreThings, Label, Thing, entries, entry_at, label, parts}
 use Rattle.abc_free.proofs.Alike.{Alike, OneToOne, all_alike, alike_one, root_alike, tree_parts, under_alike}

@@ -2,9 +2,9 @@ ghost use Rattle.std.specs.Prelude.{◌≡◌, ◌↔◌, MatchResult, Result};
 ghost use Rattle.abc_free.specs.Free.{HaveOneFree};
 ghost use Rattle.abc_tables.specs.declared.tables.Abc.{Abc};
 ghost use Rattle.abc_tables.specs.Files.{file_bytes};
-ghost use Rattle.abc_tidy.specs.declared.error.TidyError.{TidyError};
-ghost use Rattle.abc_tidy.specs.declared.error.TidyError.TheVariants as errors;
-ghost use Rattle.abc_tidy.specs.Rules.{IsTidied, IsTidyError};
+ghost use Rattle.abc_entries.specs.declared.error.TidyError.{TidyError};
+ghost use Rattle.abc_entries.specs.declared.error.TidyError.TheVariants as errors;
+ghost use Rattle.abc_entries.specs.Rules.{IsTidied, IsTidyError};
 
 /// A tidied file has the free form of the file, and is told by that form: two files have one free form exactly where their
 /// tidied files are equal, and so exactly where these have equal canonical bytes. A file has one tidied file.

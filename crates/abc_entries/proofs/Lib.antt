@@ -1,0 +1,17 @@
+pub mod Firsts
+pub mod Filtered
+pub mod Cyclic
+pub mod Nodes
+pub mod Building
+pub mod Numbered
+pub mod Picked
+pub mod NodeGraph
+pub mod Ordered
+pub mod Operands
+pub mod Acyclic
+pub mod Found
+pub mod Placing
+pub mod Telling
+pub mod Marked
+pub mod Once
+pub mod Rooted

@@ -1,0 +1,11 @@
+pub mod Entries
+pub mod NameGraph
+pub mod NewPools
+pub mod Visited
+pub mod Rules
+pub mod Firsts
+pub mod Kept
+pub mod Numbered
+pub mod Heads
+pub mod Once
+pub mod Roots

@@ -1,0 +1,18 @@
+//! What the lines of a listing are made of: bytes, numbers, labels, quoted texts, lines of numbers, and the comments that show a text's
+//! front.
+#![tactic(auto)]
+
+mod comments;
+mod escaping;
+mod numbers;
+mod tokens;
+
+pub use comments::{
+    name_of, put_multiname_comment, put_name_comment, put_operand_comment, put_quoted_comment,
+    string_at,
+};
+pub use numbers::{put_number_line, put_number_lines, put_numbers, put_two};
+pub use tokens::{
+    push_byte, put, put_first, put_hex_bytes, put_label, put_number, put_operand, put_quoted,
+    put_signed, put_target, put_word,
+};
