@@ -1,7 +1,16 @@
 ghost use Rattle.std.specs.Prelude.{◌≡◌, ◌<◌, ◌^◌, length, IfOk, IsTrue, MatchResult, OnOk};
+ghost use Rattle.abc_index.specs.Texts.{HasTexts, texts_of};
 ghost use Rattle.abc_interfaces.specs.Heirs.{list_at};
-ghost use Rattle.abc_search_tables.specs.Laid.{AreLayouts};
+ghost use Rattle.abc_interfaces.specs.Sets.{HasSets};
+ghost use Rattle.abc_link.specs.Ladders.{AreRungs};
 ghost use Rattle.abc_link.specs.Made.{AreFewSlots, IsMade};
+ghost use Rattle.abc_owners.specs.Owning.{AreOwners};
+ghost use Rattle.abc_search_tables.specs.Files.{linked};
+ghost use Rattle.abc_search_tables.specs.Grouped.{HasGroups};
+ghost use Rattle.abc_search_tables.specs.Laid.{AreLayouts};
+ghost use Rattle.abc_search_tables.specs.Made.{AreSearchTables};
+ghost use Rattle.abc_search_tables.specs.SlotsTables.{HasSlots};
+ghost use Rattle.abc_search_tables.specs.Strings.{numbers_in};
 ghost use Rattle.abc_interfaces.specs.Meanings.{AreMeanings};
 ghost use Rattle.abc_interfaces.specs.Numbers.{AreNames};
 ghost use Rattle.abc_interfaces.specs.Linked.{IsLinkedFile};
@@ -9,9 +18,9 @@ ghost use Rattle.abc_interfaces.specs.Firsts.{IsFew, IsRefusal};
 ghost use Rattle.abc_interfaces.specs.Rules.{AllHold};
 ghost use Rattle.abc_tables.specs.Files.{Fits};
 
-use crate::ladder::rungs_of;
+use crate::ladder::{Rung, rungs_of};
 use crate::linked::{Linked, Made};
-use abc_base::{NoMemory, Table};
+use abc_base::{NoMemory, Table, release};
 use abc_interfaces::{
     Heirs, Interfaces, LinkError, Meanings, NameTables, Named, Names, SlotInfo, check_rules,
     meanings_of,
@@ -107,6 +116,93 @@ fn check_slots(slots: &Heirs<SlotInfo>, layouts: &Layouts, count: u32) -> Result
     Ok(())
 }
 
+/// The layouts of a file, one far above each, and their slots.
+#[derive(Drop)]
+struct Laid {
+    layouts: Layouts,
+    rungs: Table<Rung>,
+    slots: Heirs<SlotInfo>,
+}
+
+/// The layouts of a file that keeps the rules, with their slots.
+fn lay(
+    alloc: Global,
+    abc: &Abc,
+    meanings: &Table<Option<Named>>,
+) -> Result<Laid, NoMemory>
+    requires meanings { AreMeanings abc.now meanings.now }
+    requires rules { AllHold abc.now }
+    ensures layouts { IfOk result (λ l. AreLayouts abc.now l.layouts) }
+    ensures few { IfOk result (λ l. length l.layouts.parts < 2 ^ 32) }
+    ensures rungs { IfOk result (λ l. AreRungs (linked abc.now l.layouts) l.rungs) }
+    ensures slots { IfOk result (λ l. HasSlots (linked abc.now l.layouts) l.slots (length l.layouts.parts)) }
+    ensures few_slots { IfOk result (λ l. AreFewSlots l.slots (length l.layouts.parts)) }
+{
+    let layouts = layouts_in(alloc, abc, meanings)?;
+    let count = layouts.len() as u32;
+    let rungs = rungs_of(alloc, abc, &layouts, count)?;
+    let meanings = Meanings::new(abc, meanings);
+    let slots = slots_of(alloc, &meanings, &layouts, count)?;
+    check_slots(&slots, &layouts, count)?;
+    Ok(Laid {
+        layouts,
+        rungs,
+        slots,
+    })
+}
+
+/// Whose methods a file's methods are, the interfaces of its classes, and what a search asks.
+#[derive(Drop)]
+struct Asked {
+    owners: Owners,
+    interfaces: Interfaces,
+    members: Members,
+    search: SearchTables,
+}
+
+/// The tables over the layouts of a file.
+fn tables_over(
+    alloc: Global,
+    abc: &Abc,
+    names: &NameTables,
+    meanings: &Table<Option<Named>>,
+    layouts: &Layouts,
+) -> Result<Asked, NoMemory>
+    requires names { AreNames abc.now names.now }
+    requires meanings { AreMeanings abc.now meanings.now }
+    requires rules { AllHold abc.now }
+    requires tables { IsFew abc.now }
+    requires layouts { AreLayouts abc.now layouts.now }
+    requires few { length layouts.now.parts < 2 ^ 32 }
+    ensures owners { IfOk result (λ t. AreOwners abc.now t.owners) }
+    ensures interfaces { IfOk result (λ t. HasSets abc.now t.interfaces.sets) }
+    ensures members { IfOk result (λ t. HasGroups (linked abc.now layouts.now) t.members.texts t.members.groups (length layouts.now.parts)) }
+    ensures texts { IfOk result (λ t. HasTexts t.members.texts (texts_of (abc.now).strings)) }
+    ensures numbers { IfOk result (λ t. t.members.numbers ≡ numbers_in t.members.texts (abc.now).strings) }
+    ensures search { IfOk result (λ t. AreSearchTables abc.now layouts.now.parts t.members.texts names.now.numbers t.search) }
+{
+    let owners = Owners::new(alloc, abc)?;
+    let meanings = Meanings::new(abc, meanings);
+    let interfaces = Interfaces::new(alloc, &meanings)?;
+    let count = layouts.len() as u32;
+    let members = Members::new(alloc, abc, layouts, count)?;
+    let named = Names { abc, tables: names };
+    let search = SearchTables::new(
+        alloc,
+        &named,
+        layouts,
+        count,
+        &members.texts,
+        &members.numbers,
+    )?;
+    Ok(Asked {
+        owners,
+        interfaces,
+        members,
+        search,
+    })
+}
+
 /// What is made of a file that keeps the rules.
 fn make(
     alloc: Global,
@@ -120,33 +216,22 @@ fn make(
     requires few { IsFew abc.now }
     ensures { IfOk result (λ m. IsMade abc.now names.now.numbers m) }
 {
-    let owners = Owners::new(alloc, abc)?;
-    let layouts = layouts_in(alloc, abc, meanings)?;
-    let count = layouts.len() as u32;
-    let rungs = rungs_of(alloc, abc, &layouts, count)?;
-    let meant = Meanings::new(abc, meanings);
-    let slots = slots_of(alloc, &meant, &layouts, count)?;
-    check_slots(&slots, &layouts, count)?;
-    let members = Members::new(alloc, abc, &layouts, count)?;
-    let interfaces = Interfaces::new(alloc, &meant)?;
-    let named = Names { abc, tables: names };
-    let search = SearchTables::new(
-        alloc,
-        &named,
-        &layouts,
-        count,
-        &members.texts,
-        &members.numbers,
-    )?;
-    Ok(Made {
-        owners,
-        layouts,
-        rungs,
-        slots,
-        members,
-        interfaces,
-        search,
-    })
+    let laid = lay(alloc, abc, meanings)?;
+    match tables_over(alloc, abc, names, meanings, &laid.layouts) {
+        Ok(asked) => Ok(Made {
+            owners: asked.owners,
+            layouts: laid.layouts,
+            rungs: laid.rungs,
+            slots: laid.slots,
+            members: asked.members,
+            interfaces: asked.interfaces,
+            search: asked.search,
+        }),
+        Err(error) => {
+            release(laid);
+            Err(error)
+        }
+    }
 }
 
 /// Tries the rules.
@@ -166,22 +251,49 @@ fn check(
     check_rules(alloc, abc, names, meanings)
 }
 
+/// What a linked file has beside the file.
+#[derive(Drop)]
+struct Tables {
+    names: NameTables,
+    meanings: Table<Option<Named>>,
+    made: Made,
+}
+
+/// The tables of a file that keeps the rules.
+fn tables_of(alloc: Global, abc: &Abc) -> Result<Tables, LinkError>
+    ensures { MatchResult result (λ t. AllHold abc.now × IsFew abc.now × AreNames abc.now t.names × AreMeanings abc.now t.meanings × IsMade abc.now t.names.numbers t.made) (IsRefusal abc.now) }
+{
+    let names = NameTables::new(alloc, abc)?;
+    let meanings = meanings_in(alloc, abc, &names)?;
+    check(alloc, abc, &names, &meanings)?;
+    let made = make(alloc, abc, &names, &meanings)?;
+    Ok(Tables {
+        names,
+        meanings,
+        made,
+    })
+}
+
 /// Links a file that some bytes spell. It is refused where it breaks a rule of linking: by the first rule that is broken, in the order of
 /// `LinkRule`, and the first item that breaks it, in file order. Linking consumes the file.
 pub fn link(alloc: Global, abc: Abc) -> Result<Linked, LinkError>
     requires { Fits abc }
     ensures { MatchResult result (λ l. (l.file ≡ abc) × IsLinkedFile l) (IsRefusal abc) }
 {
-    let names = NameTables::new(alloc, &abc)?;
-    let meanings = meanings_in(alloc, &abc, &names)?;
-    check(alloc, &abc, &names, &meanings)?;
-    let made = make(alloc, &abc, &names, &meanings)?;
-    let linked = Linked {
-        abc,
-        names,
-        meanings,
-        made,
-    };
-    linked.linked_law();
-    Ok(linked)
+    match tables_of(alloc, &abc) {
+        Ok(tables) => {
+            let linked = Linked {
+                abc,
+                names: tables.names,
+                meanings: tables.meanings,
+                made: tables.made,
+            };
+            linked.linked_law();
+            Ok(linked)
+        }
+        Err(error) => {
+            release(abc);
+            Err(error)
+        }
+    }
 }
