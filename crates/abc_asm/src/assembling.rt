@@ -2,12 +2,13 @@
 ghost use Rattle.std.specs.Prelude.{◌≡◌, ◌<◌, ◌^◌, IfOk, IsSome, length};
 ghost use Rattle.abc_asmreader.specs.Parts.{ReadsPart};
 ghost use Rattle.abc_asmreader.specs.Reading.{Goes, IsReader, rows_left, word_next};
+ghost use Rattle.abc_lines.specs.Texts.{instances_in, rows_of, sizes_in};
 ghost use Rattle.abc_asm.specs.Whole.{Assembles, IsMisplaced, ReadsVersion, definitions_read, file_read, out_of_order, pools_read};
 
 use abc_asmlines::{Doubles, Ints, Names, Namespaces, Sets, Strings, UInts};
 use abc_asmparts::{Classes, Instances, MetadataLines, Methods, Scripts, read_bodies};
 use abc_asmreader::{AsmError, Reader, read_all, read_flat, refused};
-use abc_base::{Bytes, Table};
+use abc_base::{Bytes, Table, release};
 use abc_fits::canon_len;
 use abc_labels::place_of;
 use abc_otherlines::version_line;
@@ -160,6 +161,27 @@ fn misplaced(reader: &mut Reader<'_>) -> AsmError
     }
 }
 
+/// As `assemble`, by a reader that stands at the first line of the text.
+fn read_text(reader: &mut Reader<'_>, _text: &[u8]) -> Result<Abc, AsmError>
+    requires is { IsReader reader.old }
+    requires rows { rows_left reader.old ≡ rows_of _text.now }
+    requires sizes { (reader.old).sizes ≡ sizes_in (rows_of _text.now) }
+    requires instances { (reader.old).instances ≡ instances_in (rows_of _text.now) }
+    ensures { Assembles _text.now result }
+{
+    read_version(reader)?;
+    let abc = read_file(reader)?;
+    if reader.word().is_some() {
+        release(abc);
+        return Err(misplaced(reader));
+    }
+    if canon_len(&abc) > FILE_LIMIT {
+        release(abc);
+        return Err(refused(1, AsmReason::FileTooLong));
+    }
+    Ok(abc)
+}
+
 /// The file whose text it is, or the first fault of a text that is none's: the least line that has a fault, with the
 /// first reason that holds there. `NoMemory` where memory runs out.
 pub fn assemble(alloc: Global, text: &[u8]) -> Result<Abc, AsmError>
@@ -168,13 +190,5 @@ pub fn assemble(alloc: Global, text: &[u8]) -> Result<Abc, AsmError>
 {
     let vocabulary = Vocabulary::new(alloc)?;
     let mut reader = Reader::new(alloc, &vocabulary, text);
-    read_version(&mut reader)?;
-    let abc = read_file(&mut reader)?;
-    if reader.word().is_some() {
-        return Err(misplaced(&mut reader));
-    }
-    if canon_len(&abc) > FILE_LIMIT {
-        return Err(refused(1, AsmReason::FileTooLong));
-    }
-    Ok(abc)
+    read_text(&mut reader, text)
 }
