@@ -5,7 +5,7 @@ ghost use Rattle.abc_gen.specs.Generated.{generated};
 ghost use Rattle.abc_gen.specs.Measured.{count_line, instruction_count as instructions_of, measured};
 
 use crate::making::make_abc;
-use abc_base::NoMemory;
+use abc_base::{NoMemory, release};
 use abc_file::write;
 use abc_tables::{Abc, Body, Table};
 use itoa::Buffer;
@@ -88,6 +88,7 @@ pub fn make(alloc: Global, seed: u32, methods: u32) -> Result<Made, NoMemory>
     ensures lines { IfOk result (λ made. made.lines.items ≡ measured (generated seed methods)) }
 {
     let abc = make_abc(alloc, seed, methods)?;
-    let made = made_of(alloc, &abc)?;
-    Ok(made)
+    let made = made_of(alloc, &abc);
+    release(abc);
+    made
 }
