@@ -160,7 +160,8 @@ fn closures_answer(
 ) -> Result<bool, NoMemory> {
     add_counting(alloc, table, counter)?;
     let is_added = adds(alloc, table, b"plain", "added")?;
-    Ok(is_added && table.count() == 2 && all_answer_five(table))
+    let is_named = table.count() == 2 && table.name(0) == b"counted".as_slice();
+    Ok(is_added && is_named && all_answer_five(table))
 }
 
 /// A closure is what answers: it counts its calls.
