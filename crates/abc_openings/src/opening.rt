@@ -1,7 +1,8 @@
-ghost use Rattle.std.specs.Prelude.{◌≡◌, ◌+◌, IfOk, MatchResult, false, length, replicate};
+ghost use Rattle.std.specs.Prelude.{◌≡◌, ◌+◌, [], IfOk, MatchResult, false, length, replicate};
+ghost use Rattle.abc_stacks.specs.Frame.{no_frames};
 ghost use Rattle.abc_openings.specs.Begun.{HasRoomFor, IsBegun, IsRefused, setting};
 
-use abc_base::{Host, NoMemory, Table};
+use abc_base::{Host, NoMemory, Table, release};
 use abc_heap::Limits;
 use abc_link::Linked;
 use abc_objects::{Arena, OpenError};
@@ -46,6 +47,32 @@ fn most_locals(methods: &[Method]) -> Result<u32, NoMemory>
     Ok(most)
 }
 
+/// What a run fills beside its heap: frames, the scripts that were started, and the first locals of the method that is entered.
+#[derive(Drop)]
+struct Room {
+    frames: Frames,
+    started: Table<bool>,
+    given: Pile<Value>,
+}
+
+/// Room for a run of a file, which nothing fills.
+fn room_of(alloc: Global, linked: &Linked, limits: &Limits) -> Result<Room, NoMemory>
+    ensures frames { IfOk result (λ r. r.frames ≡ no_frames (limits.now).frames (limits.now).stack) }
+    ensures started { IfOk result (λ r. r.started ≡ replicate (length (linked.now).file.scripts) false) }
+    ensures given { IfOk result (λ r. r.given.items ≡ []) }
+    ensures room { IfOk result (λ r. HasRoomFor (linked.now).file.methods r.given.limit) }
+{
+    let frames = Frames::new(alloc, limits.frames, limits.stack)?;
+    let started = none_started(alloc, linked.abc().scripts.len())?;
+    let locals = most_locals(linked.abc().methods.as_slice())?;
+    let given = Pile::new(alloc, locals)?;
+    Ok(Room {
+        frames,
+        started,
+        given,
+    })
+}
+
 /// The state that a run of a file begins with, with all the memory that the run may fill: no script is started, and no frame
 /// lives. It answers `TooSmall` exactly where the objects or, tried next, the cells that every run begins with pass their limit.
 pub fn open_state<H: Host>(
@@ -58,14 +85,16 @@ pub fn open_state<H: Host>(
 {
     linked.linked_law();
     let arena = Arena::open(alloc, linked, limits, host)?;
-    let frames = Frames::new(alloc, limits.frames, limits.stack)?;
-    let started = none_started(alloc, linked.abc().scripts.len())?;
-    let locals = most_locals(linked.abc().methods.as_slice())?;
-    let given = Pile::new(alloc, locals)?;
-    Ok(State {
-        arena,
-        frames,
-        started,
-        given,
-    })
+    match room_of(alloc, linked, limits) {
+        Ok(room) => Ok(State {
+            arena,
+            frames: room.frames,
+            started: room.started,
+            given: room.given,
+        }),
+        Err(NoMemory) => {
+            release(arena);
+            Err(OpenError::NoMemory)
+        }
+    }
 }

@@ -11,7 +11,7 @@ ghost use Rattle.abc_verify.specs.Typed.{AllTyped, AreTyped, IsTyped, IsVerified
 use crate::checked::Verified;
 use crate::error::VerifyError;
 use crate::flowing::Flowing;
-use abc_base::NoMemory;
+use abc_base::release;
 use abc_flow::{Memory, Refusal, check_flow};
 use abc_frames::{Frame, frame_of};
 use abc_heads::heads_of;
@@ -128,7 +128,9 @@ fn check_file(alloc: Global, linked: &Linked, count: u32) -> Result<(), VerifyEr
     ensures { MatchResult result (λ _. IsVerified linked.now) (IsRefusal linked.now) }
 {
     let mut memory = Memory::new(alloc);
-    check_methods(alloc, linked, &mut memory, count)
+    let checked = check_methods(alloc, linked, &mut memory, count);
+    release(memory);
+    checked
 }
 
 /// How many methods a file has.
@@ -147,7 +149,11 @@ pub fn verify(alloc: Global, linked: Linked) -> Result<Verified, VerifyError>
 {
     linked.linked_law();
     let count = method_count(&linked);
-    check_file(alloc, &linked, count)?;
-    let verified = Verified::of(linked);
-    Ok(verified)
+    match check_file(alloc, &linked, count) {
+        Ok(()) => Ok(Verified::of(linked)),
+        Err(error) => {
+            release(linked);
+            Err(error)
+        }
+    }
 }

@@ -6,10 +6,3 @@ pub returns-in_err-arena : goal.returns-in_err-arena
 returns-in_err-arena g c =
     let e = err_from_is_err_and c.from_residual.result c.from_residual.ensures.1 in
     rw (e.1, e.2) (refused c.args.linked.now (g.H.Host.formulas c.args.host.now) c.args.limits.now c.in_err-arena.field-0.0 c.linked_law.ensures c.in_err-arena.ensures.opened)
-
--- where there is no memory
-pub returns-in_err-frames : goal.returns-in_err-frames
-returns-in_err-frames g c = let e = err_from_is_err_and c.from_residual-in_err-frames.result c.from_residual-in_err-frames.ensures.1 in rw (e.1, e.2) tt
-
-pub returns-in_err-started : goal.returns-in_err-started
-returns-in_err-started g c = let e = err_from_is_err_and c.from_residual-in_err-started.result c.from_residual-in_err-started.ensures.1 in rw (e.1, e.2) tt
