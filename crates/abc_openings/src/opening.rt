@@ -5,7 +5,7 @@ ghost use Rattle.abc_openings.specs.Begun.{HasRoomFor, IsBegun, IsRefused, setti
 use abc_base::{Host, NoMemory, Table, release};
 use abc_heap::Limits;
 use abc_link::Linked;
-use abc_objects::{Arena, OpenError};
+use abc_objects::{Arena, OpenError, Value};
 use abc_stacks::{Frames, Pile};
 use abc_states::State;
 use abc_tables::Method;
