@@ -13,7 +13,9 @@ ghost use Rattle.abc_embed.specs.Fare.{fare as the_fare};
 use crate::fault::Fault;
 use crate::file::verified_file;
 use crate::meter::drive;
-use abc_base::{Bytes, Formula, Host, NoMemory, Plain, Sink, Source, StdSink, StdSource, Table, release};
+use abc_base::{
+    Bytes, Formula, Host, NoMemory, Plain, Sink, Source, StdSink, StdSource, Table, release,
+};
 use abc_heap::Limits;
 use abc_host::{Entry, HostTable};
 use abc_session::Session;
