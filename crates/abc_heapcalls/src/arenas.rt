@@ -7,7 +7,7 @@ use crate::opened::{
     NOT_MADE, is_method, is_object, is_script, is_text, linked, make, opened, put,
 };
 use crate::operating::FILE;
-use abc_base::BuiltinHost;
+use abc_base::{BuiltinHost, release};
 use abc_link::{Linked, Part};
 use abc_objects::{Arena, FixedText, Full, Limit, Limits, ObjId, OpenError, ScopeEntry, Value};
 use std::alloc::Global;
@@ -24,7 +24,10 @@ const OPENING: Limits = Limits {
 
 /// What an arena opens with, or why it does not.
 fn counts_at_opening(alloc: Global, l: &Linked, limits: &Limits) -> Result<Limits, OpenError> {
-    Ok(Arena::open(alloc, l, limits, &BuiltinHost)?.counts())
+    let a = Arena::open(alloc, l, limits, &BuiltinHost)?;
+    let counts = a.counts();
+    release(a);
+    Ok(counts)
 }
 
 /// Limits of objects and cells, and what an arena opens with.
@@ -172,7 +175,9 @@ fn made(alloc: Global, l: &Linked, room: [u32; 5], call: Call) -> Result<Option<
         stack,
     };
     let mut a = opened(alloc, l, &limits)?;
-    match take_room(l, &mut a, call) {
+    let taken = take_room(l, &mut a, call);
+    release(a);
+    match taken {
         Ok(()) => Ok(None),
         Err(Full(limit)) => Ok(Some(limit)),
     }
@@ -405,20 +410,31 @@ fn limits(objects: u32, cells: u32) -> Limits {
 }
 
 /// What is wrong with two arrays of a thousand elements that were made in turn: an element, or what is behind the last one.
-fn wrong_elements(alloc: Global, l: &Linked) -> Result<Option<u32>, Fail> {
-    let mut a = opened(alloc, l, &limits(35, 2033))?;
+fn wrong_in_turn(l: &Linked, a: &mut Arena) -> Result<Option<u32>, Full>
+    requires { StandsOver l.now a.old }
+{
     let x = a.new_undefined(l, 0)?;
     let y = a.new_undefined(l, 0)?;
-    push_in_turn(&mut a, x, y, 1000)?;
-    if push(&mut a, x, Value::Null).is_ok() || element(&a, x, 1000).is_some() {
+    push_in_turn(a, x, y, 1000)?;
+    if push(a, x, Value::Null).is_ok() || element(a, x, 1000).is_some() {
         return Ok(Some(1000));
     }
-    Ok(wrong_element(&a, x, y, 1000))
+    Ok(wrong_element(a, x, y, 1000))
+}
+
+/// The same of an arena of their own.
+fn wrong_elements(alloc: Global, l: &Linked) -> Result<Option<u32>, Fail> {
+    let mut a = opened(alloc, l, &limits(35, 2033))?;
+    let wrong = wrong_in_turn(l, &mut a);
+    release(a);
+    Ok(wrong?)
 }
 
 fn wrong_steps(alloc: Global, l: &Linked) -> Result<Option<usize>, Fail> {
     let mut a = opened(alloc, l, &limits(33, 39))?;
-    Ok(wrong_step(l, &mut a))
+    let wrong = wrong_step(l, &mut a);
+    release(a);
+    Ok(wrong)
 }
 
 #[test]

@@ -4,7 +4,7 @@ ghost use Rattle.abc_objects.specs.Stands.{StandsOver};
 ghost use Rattle.abc_objects.specs.Values.{Exists};
 
 use crate::opened::{exists, linked, make, opened};
-use abc_base::{Bytes, Fault, HostClass, NoMemory};
+use abc_base::{Bytes, Fault, HostClass, NoMemory, release};
 use abc_link::{LayoutId, Linked, Part, Ty};
 use abc_objects::{Arena, Limit, Limits, ObjId, Span, Value};
 use abc_ops::{Conversion, OpEnd, binary, coerce, compare, convert, is_of, unary};
@@ -173,7 +173,9 @@ fn put_applied(
 /// Adds what an operation gives in an arena of its own.
 fn put_result(alloc: Global, l: &Linked, op: Op, x: Value, out: &mut Bytes) -> Result<(), Fail> {
     let mut a = opened(alloc, l, &LIMITS)?;
-    put_applied(alloc, l, &mut a, op, x, out)
+    let put = put_applied(alloc, l, &mut a, op, x, out);
+    release(a);
+    put
 }
 
 /// What an operation gives.
@@ -619,8 +621,13 @@ fn with_instance(alloc: Global, l: &Linked) -> Result<Arena, Fail>
     ensures { IfOk result (StandsOver l.now) }
 {
     let mut a = opened(alloc, l, &LIMITS)?;
-    make(l, &mut a, Part::Instance(1), None)?;
-    Ok(a)
+    match make(l, &mut a, Part::Instance(1), None) {
+        Ok(()) => Ok(a),
+        Err(full) => {
+            release(a);
+            Err(Fail::from(full))
+        }
+    }
 }
 
 /// The name of a table that is wrong, and a row of it.
@@ -662,7 +669,9 @@ fn wrong_in_arena(
 
 fn wrong_comparisons(alloc: Global, l: &Linked) -> Result<Option<(&'static str, usize)>, Fail> {
     let a = with_instance(alloc, l)?;
-    wrong_in_arena(alloc, l, &a)
+    let wrong = wrong_in_arena(alloc, l, &a);
+    release(a);
+    wrong
 }
 
 #[test]

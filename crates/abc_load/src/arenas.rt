@@ -5,7 +5,7 @@ ghost use Rattle.abc_objects.specs.Stands.{StandsOver};
 ghost use Rattle.abc_objects.specs.Values.{Exists};
 
 use crate::fault::Fault;
-use abc_base::{BuiltinHost, Source};
+use abc_base::{BuiltinHost, Source, release};
 use abc_file::read;
 use abc_link::{Linked, link};
 use abc_objects::{Arena, Limits, ObjId, Value};
@@ -61,23 +61,32 @@ fn element(a: &Arena, o: ObjId, k: u32) -> u64 {
     0
 }
 
-/// The sum of some elements of an array, each from a place far from that of the one before.
-pub fn load_elements(alloc: Global, l: &Linked, count: u32) -> Result<u64, Fault> {
+/// The sum of some elements of an array that is made in an arena, each from a place far from that of the one before.
+fn sum_elements(l: &Linked, a: &mut Arena, count: u32) -> Result<u64, Fault>
+    requires { StandsOver l.now a.old }
+{
     if count == 0 {
         return Ok(0);
     }
-    let mut a = opened(alloc, l, count.saturating_add(100), 0)?;
     let o = a.new_undefined(l, 0)?;
     for k in 0..count {
-        push(&mut a, o, Value::Num(i64::from(k)))?;
+        push(a, o, Value::Num(i64::from(k)))?;
     }
     let mut sum: u64 = 0;
     let mut at: u32 = 0;
     for _ in 0..count {
-        sum = sum.wrapping_add(element(&a, o, at));
+        sum = sum.wrapping_add(element(a, o, at));
         at = at.wrapping_add(7919) % count;
     }
     Ok(sum)
+}
+
+/// The same in an arena of its own.
+pub fn load_elements(alloc: Global, l: &Linked, count: u32) -> Result<u64, Fault> {
+    let mut a = opened(alloc, l, count.saturating_add(100), 0)?;
+    let sum = sum_elements(l, &mut a, count);
+    release(a);
+    sum
 }
 
 /// Makes a property of an object, if there is such an object, whose name is the text of its value.
@@ -107,7 +116,22 @@ fn property(l: &Linked, a: &mut Arena, o: ObjId, k: u32) -> Result<u64, Fault>
     }
 }
 
-/// The sum of some properties of one object, each found by its name.
+/// The sum of some properties of one object that is made in an arena, each found by its name.
+fn sum_properties(l: &Linked, a: &mut Arena, count: u32) -> Result<u64, Fault>
+    requires { StandsOver l.now a.old }
+{
+    let o = a.new_undefined(l, 0)?;
+    for k in 0..count {
+        put(l, a, o, k)?;
+    }
+    let mut sum: u64 = 0;
+    for k in 0..count {
+        sum = sum.wrapping_add(property(l, a, o, k)?);
+    }
+    Ok(sum)
+}
+
+/// The same in an arena of its own.
 pub fn load_properties(alloc: Global, l: &Linked, count: u32) -> Result<u64, Fault> {
     let mut a = opened(
         alloc,
@@ -115,13 +139,7 @@ pub fn load_properties(alloc: Global, l: &Linked, count: u32) -> Result<u64, Fau
         count.saturating_add(100),
         count.saturating_mul(20),
     )?;
-    let o = a.new_undefined(l, 0)?;
-    for k in 0..count {
-        put(l, &mut a, o, k)?;
-    }
-    let mut sum: u64 = 0;
-    for k in 0..count {
-        sum = sum.wrapping_add(property(l, &mut a, o, k)?);
-    }
-    Ok(sum)
+    let sum = sum_properties(l, &mut a, count);
+    release(a);
+    sum
 }

@@ -4,7 +4,7 @@ ghost use Rattle.abc_objects.specs.Stands.{StandsOver};
 
 use crate::arenas::opened;
 use crate::fault::Fault;
-use abc_base::HostClass;
+use abc_base::{HostClass, release};
 use abc_link::{Linked, Part};
 use abc_lookup::{Found, Name, Spaces, Want, find_on};
 use abc_objects::{Arena, ObjId, Span, Value, What};
@@ -63,18 +63,27 @@ fn slot_named(l: &Linked, a: &Arena, o: ObjId, string: u32) -> Result<u64, Fault
 
 /// The sum of the slots that are found by the names of the first class on an object of the last one, each far from that
 /// before it. The strings of these names are the first of the file.
-pub fn load_names(alloc: Global, l: &Linked, count: u32) -> Result<u64, Fault> {
+fn sum_names(l: &Linked, a: &mut Arena, count: u32) -> Result<u64, Fault>
+    requires { StandsOver l.now a.old }
+{
     let traits = traits_of_first(l).ok_or(Fault::NoArena)?;
     if traits == 0 {
         return Err(Fault::NoArena);
     }
-    let mut a = opened(alloc, l, 1000000, 0)?;
-    let o = make(l, &mut a)?;
+    let o = make(l, a)?;
     let mut sum: u64 = 0;
     let mut at: u32 = 0;
     for _ in 0..count {
-        sum = sum.wrapping_add(slot_named(l, &a, o, at)?);
+        sum = sum.wrapping_add(slot_named(l, a, o, at)?);
         at = at.wrapping_add(7919) % traits;
     }
     Ok(sum)
+}
+
+/// The same in an arena of its own.
+pub fn load_names(alloc: Global, l: &Linked, count: u32) -> Result<u64, Fault> {
+    let mut a = opened(alloc, l, 1000000, 0)?;
+    let sum = sum_names(l, &mut a, count);
+    release(a);
+    sum
 }

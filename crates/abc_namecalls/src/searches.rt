@@ -3,7 +3,7 @@ ghost use Rattle.std.specs.Prelude.{IfOk};
 ghost use Rattle.abc_objects.specs.Stands.{IsScope, StandsOver};
 
 use crate::searches::Scope::{Plain, With};
-use abc_base::{HostClass, NoMemory, Table};
+use abc_base::{HostClass, NoMemory, Table, release};
 use abc_heapcalls::opened::{
     exists, is_method, is_object, is_script, is_text, linked, make, opened, put,
 };
@@ -193,14 +193,27 @@ fn make_properties(l: &Linked, a: &mut Arena) -> Result<(), Full>
     Ok(())
 }
 
+/// Makes these objects and properties.
+fn fill(l: &Linked, a: &mut Arena) -> Result<(), Full>
+    requires { StandsOver l.now a.old }
+    ensures { StandsOver l.now a.new }
+{
+    make_objects(l, a)?;
+    make_properties(l, a)
+}
+
 /// The file's arena with these objects and properties.
 fn filled(alloc: Global, l: &Linked) -> Result<Arena, Fail>
     ensures { IfOk result (StandsOver l.now) }
 {
     let mut a = opened(alloc, l, &LIMITS)?;
-    make_objects(l, &mut a)?;
-    make_properties(l, &mut a)?;
-    Ok(a)
+    match fill(l, &mut a) {
+        Ok(()) => Ok(a),
+        Err(full) => {
+            release(a);
+            Err(Fail::from(full))
+        }
+    }
 }
 
 /// What a name is to find.
@@ -789,11 +802,24 @@ fn wrong_names(
     None
 }
 
-fn wrong_in_file(alloc: Global, l: &Linked) -> Result<Option<(&'static str, usize)>, Fail> {
-    let a = filled(alloc, l)?;
+/// The same where all scripts were started, and where none was.
+fn wrong_in_arena(
+    alloc: Global,
+    l: &Linked,
+    a: &Arena,
+) -> Result<Option<(&'static str, usize)>, NoMemory>
+    requires { StandsOver l.now a.now }
+{
     let started = scripts(alloc, true)?;
     let unstarted = scripts(alloc, false)?;
-    Ok(wrong_names(l, &a, &started, &unstarted))
+    Ok(wrong_names(l, a, &started, &unstarted))
+}
+
+fn wrong_in_file(alloc: Global, l: &Linked) -> Result<Option<(&'static str, usize)>, Fail> {
+    let a = filled(alloc, l)?;
+    let wrong = wrong_in_arena(alloc, l, &a);
+    release(a);
+    Ok(wrong?)
 }
 
 #[test]

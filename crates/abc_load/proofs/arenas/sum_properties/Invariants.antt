@@ -1,5 +1,5 @@
 use Rattle.abc_objects.specs.Stands.{StandsOver}
-use Rattle.abc_load.proofs.arenas.load_properties.Given as goal
+use Rattle.abc_load.proofs.arenas.sum_properties.Given as goal
 
 abbrev pub invariant-loop-k : goal.invariant-loop-k
 invariant-loop-k l = StandsOver l.l l.a
