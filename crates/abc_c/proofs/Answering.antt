@@ -5,9 +5,9 @@ use Rattle.abc_base.specs.declared.formula.Formula.{Formula}
 use Rattle.abc_session.specs.Sessions.{AnswersIn}
 use Rattle.abc_session.specs.declared.replies.SessionReply.{SessionReply}
 use Rattle.abc_session.specs.declared.replies.SessionReply.TheVariants as answers
-use Rattle.abc_uses.specs.Beside.{IsBeside}
-use Rattle.abc_uses.specs.Machines.{Opened}
-use Rattle.abc_uses.proofs.Staying.{called_beside}
+use Rattle.abc_session.specs.Beside.{IsBeside}
+use Rattle.abc_session.specs.Machines.{Opened}
+use Rattle.abc_session.proofs.Staying.{called_beside}
 
 pub answered_beside : (old new : Opened) (c : _) (before now : Option (List ℕ)) (reply : SessionReply) (formulas : List Formula) → AnswersIn old new c before now reply → IsBeside old formulas → IsBeside new formulas
 answered_beside old new c before now (answers.Reply reply) formulas does beside =

@@ -2,7 +2,7 @@ ghost use Rattle.std.specs.Prelude.{◌≡◌};
 ghost use Rattle.abc_base.specs.Hosts.{builtin_formulas};
 ghost use Rattle.abc_cells.specs.declared.values.Span.{Span};
 ghost use Rattle.abc_heap.specs.Texts.{IsText};
-ghost use Rattle.abc_uses.specs.Beside.{IsBeside};
+ghost use Rattle.abc_session.specs.Beside.{IsBeside};
 
 use crate::crossing::{Answer, Bounds, Kind};
 use abc_base::{BuiltinHost, MemSink, Plain, Status, write_all};
@@ -80,7 +80,7 @@ impl Kept {
     }
 
     /// Runs the last script, and gives the status of its end.
-    #[tactic(auto, using(abc_uses::proofs::Staying::started_beside))]
+    #[tactic(auto, using(abc_session::proofs::Staying::started_beside))]
     pub fn start(&mut self, fuel: u32, out: &mut MemSink) -> Status {
         status_of_end(self.session.start(fuel, out, &BuiltinHost))
     }

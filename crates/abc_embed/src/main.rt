@@ -64,7 +64,7 @@ fn fare(args: &Plain) -> Option<i64>
 }
 
 /// Opens the file of a source beside a host, and drives.
-#[tactic(auto, using(abc_uses::proofs::Staying::opened_beside))]
+#[tactic(auto, using(abc_session::proofs::Staying::opened_beside))]
 fn open_and_drive<S: Source, K: Sink, H: Host>(
     alloc: Global,
     source: &mut S,

@@ -2,7 +2,7 @@ ghost use Rattle.std.specs.Prelude.{◌≡◌, IfOk, OnOk};
 ghost use Rattle.abc_base.specs.Ranges.{IsNumber};
 ghost use Rattle.abc_cells.specs.declared.values.Span.{Span};
 ghost use Rattle.abc_heap.specs.Texts.{IsText};
-ghost use Rattle.abc_uses.specs.Beside.{IsBeside};
+ghost use Rattle.abc_session.specs.Beside.{IsBeside};
 
 use crate::fault::Fault;
 use abc_base::{Host, Plain, Sink, write_all};
@@ -13,7 +13,7 @@ use itoa::Buffer;
 const FUEL: u32 = 10000;
 
 /// Runs the file's last script, which makes the session ready for calls.
-#[tactic(auto, using(abc_uses::proofs::Staying::started_beside))]
+#[tactic(auto, using(abc_session::proofs::Staying::started_beside))]
 fn start<K: Sink, H: Host>(session: &mut Session, out: &mut K, host: &H) -> Result<(), Fault>
     requires { IsBeside session.old (H.formulas host.now) }
     ensures { OnOk result (IsBeside session.new (H.formulas host.now)) }
@@ -63,7 +63,7 @@ fn value_of(reply: SessionReply) -> Result<PlainValue, Fault>
 }
 
 /// Calls the function that the file exports under a name.
-#[tactic(auto, using(abc_uses::proofs::Staying::called_beside))]
+#[tactic(auto, using(abc_session::proofs::Staying::called_beside))]
 fn ask<K: Sink, H: Host>(
     session: &mut Session,
     name: &[u8],

@@ -1,3 +1,4 @@
+pub mod Beside
 pub mod Sessions
 pub use Rattle.abc_machine.specs.Ended
 pub use Rattle.abc_machine.specs.Logged

@@ -8,6 +8,6 @@ mod replies;
 mod session;
 
 pub use abc_machine::{End, Machine, OpenError, PlainValue, Reply, Thrown, thrown_name};
-pub use laws::calls_follow;
+pub use laws::{calls_follow, calls_stay_beside};
 pub use replies::SessionReply;
 pub use session::Session;

@@ -11,7 +11,7 @@ use Rattle.abc_machine.specs.declared.ends.End.TheVariants as ends
 use Rattle.abc_machine.specs.declared.replies.Reply.{Reply}
 use Rattle.abc_machine.specs.declared.replies.Reply.TheVariants.{WriteFault}
 use Rattle.abc_objects.specs.Opening.{formula_names}
-use Rattle.abc_uses.specs.Beside.{CallsStayBeside, IsBeside}
+use Rattle.abc_session.specs.Beside.{CallsStayBeside, IsBeside}
 
 pub opened_beside : (m : Opened) (formulas : List Formula) → m.names ≡ formula_names formulas → IsBeside m formulas
 opened_beside m formulas same = record { new = λ _. sym same; ready = λ _. sym same }
