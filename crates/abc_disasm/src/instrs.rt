@@ -10,7 +10,8 @@ ghost use Rattle.abc_varint.specs.Puts.{Puts};
 use crate::heads::put_head;
 use abc_base::{NoMemory, Table};
 use abc_linetokens::{
-    push_byte, put, put_label, put_number, put_number_line, put_operand, put_operand_comment, put_signed, put_target,
+    push_byte, put, put_label, put_number, put_number_line, put_operand, put_operand_comment,
+    put_signed, put_target,
 };
 use abc_tables::{Abc, Instr, Pool, opcode};
 

@@ -8,7 +8,8 @@ ghost use Rattle.abc_varint.specs.Puts.{Puts, PutsWhole};
 use crate::listed::Listed;
 use abc_base::NoMemory;
 use abc_linetokens::{
-    name_of, push_byte, put, put_hex_bytes, put_name_comment, put_number, put_numbers, put_quoted, put_quoted_comment, put_signed, put_two, string_at,
+    name_of, push_byte, put, put_hex_bytes, put_name_comment, put_number, put_numbers, put_quoted,
+    put_quoted_comment, put_signed, put_two, string_at,
 };
 use abc_tables::{Abc, Bytes, Eight, Multiname, Namespace, NsKind, Table};
 

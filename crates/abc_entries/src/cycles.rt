@@ -110,11 +110,7 @@ fn kept_rows(
 
 /// The first name that is visited and reaches itself.
 #[tactic(auto, using(crate::proofs::Cyclic::names_are_graph, crate::proofs::Cyclic::names_count, crate::proofs::Cyclic::kept_graph))]
-pub fn first_cyclic(
-    alloc: Global,
-    abc: &Abc,
-    refs: &Table<Ref>,
-) -> Result<Option<u32>, NoMemory>
+pub fn first_cyclic(alloc: Global, abc: &Abc, refs: &Table<Ref>) -> Result<Option<u32>, NoMemory>
     requires refs { refs.now ≡ file_refs abc.now }
     requires few { length (abc.now).names + 1 < 2 ^ 32 }
     ensures { IfOk result (λ r. IsFirstCyclic abc.now r) }

@@ -28,11 +28,7 @@ fn mark(marks: &mut Table<bool>, place: usize)
 }
 
 /// A mark for each of so many nodes, which is set for those of a list.
-pub fn marks_of(
-    alloc: Global,
-    count: usize,
-    nodes: &Table<u32>,
-) -> Result<Table<bool>, NoMemory>
+pub fn marks_of(alloc: Global, count: usize, nodes: &Table<u32>) -> Result<Table<bool>, NoMemory>
     ensures many { IfOk result (λ m. length m ≡ count) }
     ensures marked { IfOk result (λ m. (y : ℕ) → In y nodes.now → y < count → Has m y) }
 {

@@ -125,11 +125,7 @@ struct Laid {
 }
 
 /// The layouts of a file that keeps the rules, with their slots.
-fn lay(
-    alloc: Global,
-    abc: &Abc,
-    meanings: &Table<Option<Named>>,
-) -> Result<Laid, NoMemory>
+fn lay(alloc: Global, abc: &Abc, meanings: &Table<Option<Named>>) -> Result<Laid, NoMemory>
     requires meanings { AreMeanings abc.now meanings.now }
     requires rules { AllHold abc.now }
     ensures layouts { IfOk result (λ l. AreLayouts abc.now l.layouts) }
