@@ -121,8 +121,9 @@ fn check_methods(abc: &Abc) -> Result<(), TidyError>
     Ok(())
 }
 
-/// Tries the operands and the names of parameters. Where each index of the file is there, as it is in a file that was read,
-/// the bodies and methods are not gone over.
+/// Tries the operands and the names of parameters: [`TidyError::Refused`] tells the first body with an operand, or else the first method
+/// with a parameter's name, that names no entry. Where each index of the file is there, as it is in a file that was read, the bodies
+/// and methods are not gone over.
 pub fn check_indices(abc: &Abc, are_there: bool) -> Result<(), TidyError>
     requires { IsTrue are_there → All (IsThere abc.now) (file_refs abc.now) }
     ensures { MatchResult result (λ _. Holds abc.now rules.Operand × Holds abc.now rules.ParamName) (IsTidyError abc.now) }

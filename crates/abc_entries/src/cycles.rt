@@ -108,7 +108,7 @@ fn kept_rows(
     Ok(rows)
 }
 
-/// The first name that is visited and reaches itself.
+/// The index of the first name that is visited and reaches itself, if there is one.
 #[tactic(auto, using(crate::proofs::Cyclic::names_are_graph, crate::proofs::Cyclic::names_count, crate::proofs::Cyclic::kept_graph))]
 pub fn first_cyclic(alloc: Global, abc: &Abc, refs: &Table<Ref>) -> Result<Option<u32>, NoMemory>
     requires refs { refs.now ≡ file_refs abc.now }

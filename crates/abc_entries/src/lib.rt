@@ -1,5 +1,5 @@
 //! The entries of a file's pools, as tidying needs them: what names each, which are alike, what rules their names break, their new
-//! numbers and the pools of those that stay.
+//! numbers and the pools of those that stay. Each call that takes memory answers `NoMemory` where it runs out.
 #![tactic(auto)]
 
 mod checks;

@@ -140,7 +140,7 @@ pub struct Named {
     pub are_there: bool,
 }
 
-/// What the definitions and bodies name.
+/// What the definitions and bodies of a file name, whose pools have so many entries.
 pub fn named_in(alloc: Global, abc: &Abc, counts: Counts) -> Result<Named, NoMemory>
     requires counts { counts ≡ counts_of abc.now }
     requires few { node_count counts < 2 ^ 32 }

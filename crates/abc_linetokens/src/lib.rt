@@ -1,5 +1,5 @@
 //! What the lines of a listing are made of: bytes, numbers, labels, quoted texts, lines of numbers, and the comments that show a text's
-//! front.
+//! front. Each `put` appends its bytes to `out`, and answers `NoMemory` where memory runs out; what stood there is still the front then.
 #![tactic(auto)]
 
 mod comments;
