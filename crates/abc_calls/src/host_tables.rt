@@ -46,9 +46,8 @@ fn told(answer: &Result<(), AddError>) -> (&str, &[u8]) {
 
 /// Adds a formula of a name, and tells whether the answer is the one that is wanted and hands back the name where it is refused.
 fn adds(alloc: Global, table: &mut HostTable, name: &[u8], want: &str) -> Result<bool, NoMemory> {
-    let formula = constant(alloc, name)?;
     let run = Box::new(alloc, |_: Plain| Some(5))?;
-    let answer = table.add(Entry::new(formula, run));
+    let answer = table.add(Entry::new(constant(alloc, name)?, run));
     let back = if answer.is_ok() { b"".as_slice() } else { name };
     let is_wanted = told(&answer) == (want, back);
     release(answer);
@@ -125,13 +124,13 @@ fn add_counting(
     table: &mut HostTable,
     counter: &Rc<Cell<u8>>,
 ) -> Result<(), NoMemory> {
-    let formula = constant(alloc, b"counted")?;
     let counted = counter.clone()?;
     let run = Box::new(alloc, move |_: Plain| {
         counted.set(counted.get().wrapping_add(1));
         Some(5)
     })?;
-    release(table.add(Entry::new(formula, run)));
+    let answer = table.add(Entry::new(constant(alloc, b"counted")?, run));
+    release(answer);
     Ok(())
 }
 
