@@ -183,7 +183,6 @@ fn spelled(tidied: Abc) -> Result<Abc, TidyError>
 }
 
 /// As `tidy`, for a file that serves nothing else: its definitions and bodies are renumbered where they stand.
-#[tactic(auto, using(crate::proofs::Tidied::done))]
 pub fn tidy_owned(alloc: Global, abc: Abc) -> Result<Abc, TidyError>
     ensures { MatchResult result (IsTidied abc) (IsTidyError abc) }
 {

@@ -4,8 +4,8 @@ use Rattle.abc_gen.specs.Measured.{instruction_count}
 use Rattle.abc_gen.proofs.Measuring.{bodies_ready, few_instructions}
 use Rattle.abc_gen.proofs.measures.make.Goals as goal
 
-pub made_of-requires-clause-few : goal.made_of-requires-clause-few
-made_of-requires-clause-few c = subst (λ (v : Abc). instruction_count v.bodies < 2 ^ 32) (sym c.in_ok-abc.ensures.is) (few_instructions c.args.seed c.args.methods c.requires)
+pub made_of-made-requires-clause-few : goal.made_of-made-requires-clause-few
+made_of-made-requires-clause-few c = subst (λ (v : Abc). instruction_count v.bodies < 2 ^ 32) (sym c.in_ok-abc.ensures.is) (few_instructions c.args.seed c.args.methods c.requires)
 
-pub made_of-requires-clause-ready : goal.made_of-requires-clause-ready
-made_of-requires-clause-ready c = bodies_ready c.in_ok-abc.abc c.in_ok-abc.ensures.fits
+pub made_of-made-requires-clause-ready : goal.made_of-made-requires-clause-ready
+made_of-made-requires-clause-ready c = bodies_ready c.in_ok-abc.abc c.in_ok-abc.ensures.fits
