@@ -13,14 +13,11 @@ use crate::answers::{answer_all, copy_out};
 use crate::crossing::{Answer, Bounds, Call, Outcome};
 use crate::kept::Kept;
 use crate::opening::open;
-use abc_base::{MemSink, NoMemory, Status};
+use abc_base::{MemSink, NoMemory, Status, release};
 use std::alloc::Global;
 
 /// How many bytes the sink takes at once.
 const PIECE: usize = 4096;
-
-/// Gives back the memory of a session. Alone, since to drop what is large takes long to prove where much else is live.
-fn close(_kept: Kept) {}
 
 /// Runs the last script and makes the calls where it was done: the status of its end, and how many calls were made.
 fn run(
@@ -54,7 +51,7 @@ fn open_and_run(
     match open(alloc, file, bounds) {
         Ok(mut kept) => {
             let ended = run(&mut kept, bounds.fuel, names, calls, answers, out);
-            close(kept);
+            release(kept);
             ended
         }
         Err(status) => (status, 0),

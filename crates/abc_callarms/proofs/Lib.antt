@@ -1,3 +1,4 @@
+pub mod Finishing
 pub mod Alone
 pub mod Called
 pub mod Instances

@@ -1,8 +1,10 @@
 pub mod Beside
 pub mod Forms
 pub mod Fronts
+pub mod Begun
 pub mod Marking
 pub mod Pairs
+pub mod Pieces
 pub mod Readiness
 pub mod Rendering
 pub mod Shown

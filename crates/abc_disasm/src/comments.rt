@@ -3,14 +3,18 @@ ghost use Rattle.std.specs.Prelude.{◌≡◌, ◌++◌, ◌≤◌, ◌-◌, len
 ghost use Rattle.abc_escape.specs.Escapes.{escaped};
 ghost use Rattle.abc_lines.specs.Listing.{multiname_comment, name_comment, name_in, operand_comment, quoted_comment, string_at as string_of};
 ghost use Rattle.abc_tables.specs.declared.opcodes.Pool.TheVariants as pools;
-ghost use Rattle.abc_varint.specs.Puts.{Puts};
+ghost use Rattle.abc_varint.specs.Puts.{Puts, PutsWhole};
 
-use crate::tokens::{push_byte, put, put_escaped};
+use crate::escaping::{PIECE, show_at};
+use crate::tokens::{put, put_first};
 use abc_base::NoMemory;
 use abc_tables::{Abc, Multiname, Pool};
 
 /// How many bytes of a text are shown.
 const SHOWN: usize = 16;
+
+/// What stands before them, in a piece that has room for the others.
+const QUOTED: [u8; PIECE] = *b" ; \"                                                            ";
 
 /// The string of an index that counts from 1; 0 is the empty text.
 pub fn string_at(abc: &Abc, n: u32) -> &[u8]
@@ -25,18 +29,27 @@ pub fn string_at(abc: &Abc, n: u32) -> &[u8]
     }
 }
 
+/// A text of few bytes, as what ends a line.
+#[tactic(auto, unfolding(abc_escape::specs::Escapes::escaped))]
+fn put_quoted_front(text: &[u8], out: &mut Vec<u8>) -> Result<(), NoMemory>
+    requires { length text.now ≤ 16 }
+    ensures { PutsWhole out.old.items out.new.items result (codes " ; \"" ++ (escaped text.now ++ codes "\"")) }
+{
+    let mut piece = QUOTED;
+    let mut at = 4;
+    for byte in text {
+        at = show_at(*byte, &mut piece, at);
+    }
+    piece[at] = b'"';
+    put_first(&piece, at + 1, out)
+}
+
 /// The front of a text.
-#[tactic(auto, using(abc_varint::proofs::Putting::stays, abc_varint::proofs::Putting::stays_whole, std::proofs::Common::append_assoc))]
+#[tactic(auto, using(abc_varint::proofs::Putting::stays_whole))]
 pub fn put_quoted_comment(text: &[u8], out: &mut Vec<u8>) -> Result<(), NoMemory>
     ensures { Puts out.old.items out.new.items result (quoted_comment text.now) }
 {
-    out.reserve(SHOWN + 5)?;
-    out.push_reserved(b' ');
-    out.push_reserved(b';');
-    out.push_reserved(b' ');
-    out.push_reserved(b'"');
-    put_escaped(&text[..text.len().min(SHOWN)], out)?;
-    push_byte(b'"', out)?;
+    put_quoted_front(&text[..text.len().min(SHOWN)], out)?;
     Ok(())
 }
 

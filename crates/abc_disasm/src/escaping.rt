@@ -1,6 +1,6 @@
-//! Bytes as they are shown, by tables: with no branch, which can't be foreseen in bytes that are no text.
-ghost use Rattle.std.specs.Prelude.{◌≡◌, ◌++◌, ◌<◌, ◌≤◌, ◌+◌, if◌then◌else◌, take};
-ghost use Rattle.abc_disasm.specs.declared.escaping.TheConstants.{DIGITS as all_digits, FIRSTS as all_firsts};
+//! Bytes as they are shown, by a table: with no branch, which can't be foreseen in bytes that are no text.
+ghost use Rattle.std.specs.Prelude.{◌≡◌, ◌∷◌, ◌++◌, ◌<◌, ◌≤◌, ◌+◌, ◌/◌, ◌%◌, [], if◌then◌else◌, take};
+ghost use Rattle.abc_disasm.specs.declared.escaping.TheConstants.{DIGITS as all_digits, ESCAPES as all_escapes};
 ghost use Rattle.abc_escape.specs.Escapes.{escape_of, hex_digit as hex_digit_of, is_plain};
 
 /// How many bytes are shown at a time.
@@ -9,9 +9,266 @@ pub const PIECE: usize = 64;
 /// The hexadecimal digits.
 pub const DIGITS: [u8; 16] = *b"0123456789abcdef";
 
-/// The first of the bytes that show each byte: a plain one itself, and `\` for the others.
-pub const FIRSTS: [u8; 256] =
-    *b"\\\\\\\\\\\\\\\\\\\\\\\\\\\\\\\\\\\\\\\\\\\\\\\\\\\\\\\\\\\\\\\\ !\\#$%&'()*+,-./0123456789:;<=>?@ABCDEFGHIJKLMNOPQRSTUVWXYZ[\\]^_`abcdefghijklmnopqrstuvwxyz{|}~\\\\\\\\\\\\\\\\\\\\\\\\\\\\\\\\\\\\\\\\\\\\\\\\\\\\\\\\\\\\\\\\\\\\\\\\\\\\\\\\\\\\\\\\\\\\\\\\\\\\\\\\\\\\\\\\\\\\\\\\\\\\\\\\\\\\\\\\\\\\\\\\\\\\\\\\\\\\\\\\\\\\\\\\\\\\\\\\\\\\\\\\\\\\\\\\\\\\\\\\\\\\\\\\\\\\\\\\\\\\\\\\\\\\\\\\\\\\\\\\\\\\\\\\\\\\\\\\\\";
+/// How each byte is shown: by itself, if it is plain, and else by `\`, and its two hexadecimal digits; and how many of these
+/// three show it.
+pub const ESCAPES: [[u8; 4]; 256] = [
+    *b"\\00\x03",
+    *b"\\01\x03",
+    *b"\\02\x03",
+    *b"\\03\x03",
+    *b"\\04\x03",
+    *b"\\05\x03",
+    *b"\\06\x03",
+    *b"\\07\x03",
+    *b"\\08\x03",
+    *b"\\09\x03",
+    *b"\\0a\x03",
+    *b"\\0b\x03",
+    *b"\\0c\x03",
+    *b"\\0d\x03",
+    *b"\\0e\x03",
+    *b"\\0f\x03",
+    *b"\\10\x03",
+    *b"\\11\x03",
+    *b"\\12\x03",
+    *b"\\13\x03",
+    *b"\\14\x03",
+    *b"\\15\x03",
+    *b"\\16\x03",
+    *b"\\17\x03",
+    *b"\\18\x03",
+    *b"\\19\x03",
+    *b"\\1a\x03",
+    *b"\\1b\x03",
+    *b"\\1c\x03",
+    *b"\\1d\x03",
+    *b"\\1e\x03",
+    *b"\\1f\x03",
+    *b" 20\x01",
+    *b"!21\x01",
+    *b"\\22\x03",
+    *b"#23\x01",
+    *b"$24\x01",
+    *b"%25\x01",
+    *b"&26\x01",
+    *b"'27\x01",
+    *b"(28\x01",
+    *b")29\x01",
+    *b"*2a\x01",
+    *b"+2b\x01",
+    *b",2c\x01",
+    *b"-2d\x01",
+    *b".2e\x01",
+    *b"/2f\x01",
+    *b"030\x01",
+    *b"131\x01",
+    *b"232\x01",
+    *b"333\x01",
+    *b"434\x01",
+    *b"535\x01",
+    *b"636\x01",
+    *b"737\x01",
+    *b"838\x01",
+    *b"939\x01",
+    *b":3a\x01",
+    *b";3b\x01",
+    *b"<3c\x01",
+    *b"=3d\x01",
+    *b">3e\x01",
+    *b"?3f\x01",
+    *b"@40\x01",
+    *b"A41\x01",
+    *b"B42\x01",
+    *b"C43\x01",
+    *b"D44\x01",
+    *b"E45\x01",
+    *b"F46\x01",
+    *b"G47\x01",
+    *b"H48\x01",
+    *b"I49\x01",
+    *b"J4a\x01",
+    *b"K4b\x01",
+    *b"L4c\x01",
+    *b"M4d\x01",
+    *b"N4e\x01",
+    *b"O4f\x01",
+    *b"P50\x01",
+    *b"Q51\x01",
+    *b"R52\x01",
+    *b"S53\x01",
+    *b"T54\x01",
+    *b"U55\x01",
+    *b"V56\x01",
+    *b"W57\x01",
+    *b"X58\x01",
+    *b"Y59\x01",
+    *b"Z5a\x01",
+    *b"[5b\x01",
+    *b"\\5c\x03",
+    *b"]5d\x01",
+    *b"^5e\x01",
+    *b"_5f\x01",
+    *b"`60\x01",
+    *b"a61\x01",
+    *b"b62\x01",
+    *b"c63\x01",
+    *b"d64\x01",
+    *b"e65\x01",
+    *b"f66\x01",
+    *b"g67\x01",
+    *b"h68\x01",
+    *b"i69\x01",
+    *b"j6a\x01",
+    *b"k6b\x01",
+    *b"l6c\x01",
+    *b"m6d\x01",
+    *b"n6e\x01",
+    *b"o6f\x01",
+    *b"p70\x01",
+    *b"q71\x01",
+    *b"r72\x01",
+    *b"s73\x01",
+    *b"t74\x01",
+    *b"u75\x01",
+    *b"v76\x01",
+    *b"w77\x01",
+    *b"x78\x01",
+    *b"y79\x01",
+    *b"z7a\x01",
+    *b"{7b\x01",
+    *b"|7c\x01",
+    *b"}7d\x01",
+    *b"~7e\x01",
+    *b"\\7f\x03",
+    *b"\\80\x03",
+    *b"\\81\x03",
+    *b"\\82\x03",
+    *b"\\83\x03",
+    *b"\\84\x03",
+    *b"\\85\x03",
+    *b"\\86\x03",
+    *b"\\87\x03",
+    *b"\\88\x03",
+    *b"\\89\x03",
+    *b"\\8a\x03",
+    *b"\\8b\x03",
+    *b"\\8c\x03",
+    *b"\\8d\x03",
+    *b"\\8e\x03",
+    *b"\\8f\x03",
+    *b"\\90\x03",
+    *b"\\91\x03",
+    *b"\\92\x03",
+    *b"\\93\x03",
+    *b"\\94\x03",
+    *b"\\95\x03",
+    *b"\\96\x03",
+    *b"\\97\x03",
+    *b"\\98\x03",
+    *b"\\99\x03",
+    *b"\\9a\x03",
+    *b"\\9b\x03",
+    *b"\\9c\x03",
+    *b"\\9d\x03",
+    *b"\\9e\x03",
+    *b"\\9f\x03",
+    *b"\\a0\x03",
+    *b"\\a1\x03",
+    *b"\\a2\x03",
+    *b"\\a3\x03",
+    *b"\\a4\x03",
+    *b"\\a5\x03",
+    *b"\\a6\x03",
+    *b"\\a7\x03",
+    *b"\\a8\x03",
+    *b"\\a9\x03",
+    *b"\\aa\x03",
+    *b"\\ab\x03",
+    *b"\\ac\x03",
+    *b"\\ad\x03",
+    *b"\\ae\x03",
+    *b"\\af\x03",
+    *b"\\b0\x03",
+    *b"\\b1\x03",
+    *b"\\b2\x03",
+    *b"\\b3\x03",
+    *b"\\b4\x03",
+    *b"\\b5\x03",
+    *b"\\b6\x03",
+    *b"\\b7\x03",
+    *b"\\b8\x03",
+    *b"\\b9\x03",
+    *b"\\ba\x03",
+    *b"\\bb\x03",
+    *b"\\bc\x03",
+    *b"\\bd\x03",
+    *b"\\be\x03",
+    *b"\\bf\x03",
+    *b"\\c0\x03",
+    *b"\\c1\x03",
+    *b"\\c2\x03",
+    *b"\\c3\x03",
+    *b"\\c4\x03",
+    *b"\\c5\x03",
+    *b"\\c6\x03",
+    *b"\\c7\x03",
+    *b"\\c8\x03",
+    *b"\\c9\x03",
+    *b"\\ca\x03",
+    *b"\\cb\x03",
+    *b"\\cc\x03",
+    *b"\\cd\x03",
+    *b"\\ce\x03",
+    *b"\\cf\x03",
+    *b"\\d0\x03",
+    *b"\\d1\x03",
+    *b"\\d2\x03",
+    *b"\\d3\x03",
+    *b"\\d4\x03",
+    *b"\\d5\x03",
+    *b"\\d6\x03",
+    *b"\\d7\x03",
+    *b"\\d8\x03",
+    *b"\\d9\x03",
+    *b"\\da\x03",
+    *b"\\db\x03",
+    *b"\\dc\x03",
+    *b"\\dd\x03",
+    *b"\\de\x03",
+    *b"\\df\x03",
+    *b"\\e0\x03",
+    *b"\\e1\x03",
+    *b"\\e2\x03",
+    *b"\\e3\x03",
+    *b"\\e4\x03",
+    *b"\\e5\x03",
+    *b"\\e6\x03",
+    *b"\\e7\x03",
+    *b"\\e8\x03",
+    *b"\\e9\x03",
+    *b"\\ea\x03",
+    *b"\\eb\x03",
+    *b"\\ec\x03",
+    *b"\\ed\x03",
+    *b"\\ee\x03",
+    *b"\\ef\x03",
+    *b"\\f0\x03",
+    *b"\\f1\x03",
+    *b"\\f2\x03",
+    *b"\\f3\x03",
+    *b"\\f4\x03",
+    *b"\\f5\x03",
+    *b"\\f6\x03",
+    *b"\\f7\x03",
+    *b"\\f8\x03",
+    *b"\\f9\x03",
+    *b"\\fa\x03",
+    *b"\\fb\x03",
+    *b"\\fc\x03",
+    *b"\\fd\x03",
+    *b"\\fe\x03",
+    *b"\\ff\x03",
+];
 
 #[inline(always)]
 fn digit_at(digits: &[u8; 16], n: u8) -> u8
@@ -31,35 +288,27 @@ pub fn hex_digit(n: u8) -> u8
     digit_at(&DIGITS, n)
 }
 
-/// The first of the bytes that show a byte.
+/// The row of a byte.
 #[inline(always)]
-fn first_at(firsts: &[u8; 256], byte: u8) -> u8
-    requires { firsts.now ≡ all_firsts }
-    ensures { result ≡ (if is_plain byte then byte else 0x5c) }
+fn row_at(escapes: &[[u8; 4]; 256], byte: u8) -> [u8; 4]
+    requires { escapes.now ≡ all_escapes }
+    ensures { result ≡ (if is_plain byte then byte else 0x5c) ∷ hex_digit_of (byte / 16) ∷ hex_digit_of (byte % 16) ∷ (if is_plain byte then 1 else 3) ∷ [] }
 {
-    firsts[byte as usize]
+    escapes[byte as usize]
 }
 
-/// How many bytes show a byte, by the first of them.
-#[inline(always)]
-fn count_shown(_byte: u8, first: u8) -> usize
-    requires { first ≡ (if is_plain _byte then _byte else 0x5c) }
-    ensures { result ≡ (if is_plain _byte then 1 else 3) }
-{
-    if first == b'\\' { 3 } else { 1 }
-}
-
-/// Puts a byte as it is shown behind others, and tells where it ends. Two more are written behind a plain byte, in the
-/// place of what comes next.
+/// Puts a byte as it is shown behind others, and tells where it ends. Some more are written behind it, in the place of
+/// what comes next.
 #[inline(always)]
 pub fn show_at(byte: u8, piece: &mut [u8; PIECE], at: usize) -> usize
-    requires { at + 3 ≤ 64 }
+    requires { at + 4 ≤ 64 }
     ensures next { result ≤ at + 3 }
     ensures bytes { take result piece.new ≡ take at piece.old ++ escape_of byte }
 {
-    let first = first_at(&FIRSTS, byte);
-    piece[at] = first;
-    piece[at + 1] = hex_digit(byte / 16);
-    piece[at + 2] = hex_digit(byte % 16);
-    at + count_shown(byte, first)
+    let row = row_at(&ESCAPES, byte);
+    piece[at] = row[0];
+    piece[at + 1] = row[1];
+    piece[at + 2] = row[2];
+    piece[at + 3] = row[3];
+    at + row[3] as usize
 }

@@ -1,28 +1,18 @@
 //! The lines of instructions.
 ghost use Rattle.std.specs.Prelude.{◌≡◌, ◌∷◌, ◌++◌, ◌<◌, [], ℕ, Some, IsSome, length};
 ghost use Rattle.abc_disasm.specs.Texts.{IsShown, instr_text, labels};
-ghost use Rattle.abc_lines.specs.Listing.{label_of, word_name};
+ghost use Rattle.abc_lines.specs.Listing.{label_of};
 ghost use Rattle.abc_tables.specs.Opcodes.{form_at, pool_of};
 ghost use Rattle.abc_tables.specs.declared.code.Instr.TheVariants as instrs;
 ghost use Rattle.abc_tables.specs.declared.opcodes.Form.TheVariants as forms;
-ghost use Rattle.abc_text.specs.declared.word.Word.TheVariants as words;
 ghost use Rattle.abc_varint.specs.Puts.{Puts};
 
 use crate::comments::put_operand_comment;
+use crate::heads::put_head;
 use crate::numbers::put_number_line;
-use crate::tokens::{push_byte, put, put_number, put_signed, put_target};
+use crate::tokens::{push_byte, put, put_label, put_number, put_operand, put_signed, put_target};
 use abc_base::{NoMemory, Table};
-use abc_tables::{Abc, Instr, Pool, mnemonic, opcode};
-
-/// The name of an instruction.
-fn name(op: u8) -> &'static [u8]
-    ensures { result.now ≡ word_name (words.Instruction op) }
-{
-    match mnemonic(op) {
-        Some(name) => name,
-        None => &[],
-    }
-}
+use abc_tables::{Abc, Instr, Pool, opcode};
 
 /// The pool that an instruction's first operand names.
 #[tactic(auto, using(crate::proofs::Forms::pool_is, crate::proofs::Forms::no_instruction))]
@@ -36,37 +26,36 @@ fn pool(op: u8) -> Pool
 }
 
 /// An instruction without operands.
-#[tactic(auto, using(abc_varint::proofs::Putting::stays, std::proofs::Common::append_assoc, crate::proofs::Forms::plain_text))]
+#[tactic(auto, using(abc_varint::proofs::Putting::stays, std::proofs::Common::append_assoc, crate::proofs::Begun::plain_line))]
 fn put_plain(op: u8, _abc: &Abc, out: &mut Vec<u8>) -> Result<(), NoMemory>
     requires { form_at op ≡ Some forms.Plain }
     ensures { Puts out.old.items out.new.items result (instr_text _abc.now (instrs.Plain op)) }
 {
-    put(name(op), out)?;
-    push_byte(b'\n', out)?;
+    put_head(op, out)?;
     Ok(())
 }
 
 /// An instruction with a number.
-#[tactic(auto, using(abc_varint::proofs::Putting::stays, std::proofs::Common::append_assoc, crate::proofs::Forms::one_text))]
+#[tactic(auto, using(abc_varint::proofs::Putting::stays, std::proofs::Common::append_assoc, crate::proofs::Begun::one_line))]
 fn put_one(op: u8, n: u32, abc: &Abc, out: &mut Vec<u8>) -> Result<(), NoMemory>
     requires { form_at op ≡ Some forms.One }
     ensures { Puts out.old.items out.new.items result (instr_text abc.now (instrs.One op n)) }
 {
-    put(name(op), out)?;
-    put_number(n, out)?;
+    put_head(op, out)?;
+    put_operand(n, out)?;
     put_operand_comment(abc, pool(op), n, out)?;
     push_byte(b'\n', out)?;
     Ok(())
 }
 
 /// An instruction with two numbers.
-#[tactic(auto, using(abc_varint::proofs::Putting::stays, std::proofs::Common::append_assoc, crate::proofs::Forms::two_text))]
+#[tactic(auto, using(abc_varint::proofs::Putting::stays, std::proofs::Common::append_assoc, crate::proofs::Begun::two_line))]
 fn put_pair(op: u8, n: u32, m: u32, abc: &Abc, out: &mut Vec<u8>) -> Result<(), NoMemory>
     requires { form_at op ≡ Some forms.Two }
     ensures { Puts out.old.items out.new.items result (instr_text abc.now (instrs.Two op n m)) }
 {
-    put(name(op), out)?;
-    put_number(n, out)?;
+    put_head(op, out)?;
+    put_operand(n, out)?;
     put_number(m, out)?;
     put_operand_comment(abc, pool(op), n, out)?;
     push_byte(b'\n', out)?;
@@ -74,13 +63,13 @@ fn put_pair(op: u8, n: u32, m: u32, abc: &Abc, out: &mut Vec<u8>) -> Result<(), 
 }
 
 /// A branch.
-#[tactic(auto, using(abc_varint::proofs::Putting::stays, std::proofs::Common::append_assoc, crate::proofs::Forms::branch_text))]
+#[tactic(auto, using(abc_varint::proofs::Putting::stays, std::proofs::Common::append_assoc, crate::proofs::Begun::branch_line))]
 fn put_branch(op: u8, target: u32, _abc: &Abc, out: &mut Vec<u8>) -> Result<(), NoMemory>
     requires { form_at op ≡ Some forms.Branch }
     ensures { Puts out.old.items out.new.items result (instr_text _abc.now (instrs.Branch op target)) }
 {
-    put(name(op), out)?;
-    put_target(target, out)?;
+    put_head(op, out)?;
+    put_label(target, out)?;
     push_byte(b'\n', out)?;
     Ok(())
 }

@@ -6,6 +6,7 @@ mod bodies;
 mod classes;
 mod comments;
 mod escaping;
+mod heads;
 mod instrs;
 mod listed;
 mod listing;

@@ -1,29 +1,30 @@
 //! The lines of the constant pools.
-ghost use Rattle.std.specs.Prelude.{◌≡◌, List, ℕ};
+ghost use Rattle.std.specs.Prelude.{◌≡◌, ◌∷◌, ◌++◌, List, ℕ, codes};
 ghost use Rattle.abc_disasm.specs.Texts.{double_text, int_text, name_fields, name_text, namespace_text, set_text, string_text, uint_text};
 ghost use Rattle.abc_lines.specs.Kinds.{multiname_word, space_word};
 ghost use Rattle.abc_lines.specs.Lineforms.{kind_in};
-ghost use Rattle.abc_varint.specs.Puts.{Puts};
+ghost use Rattle.abc_varint.specs.Puts.{Puts, PutsWhole};
 
 use crate::comments::{name_of, put_name_comment, put_quoted_comment, string_at};
 use crate::listed::Listed;
 use crate::numbers::{put_numbers, put_two};
-use crate::tokens::{push_byte, put, put_hex_bytes, put_number, put_quoted, put_signed, put_word};
+use crate::tokens::{push_byte, put, put_hex_bytes, put_number, put_quoted, put_signed};
 use abc_base::NoMemory;
 use abc_tables::{Abc, Bytes, Eight, Multiname, Namespace, NsKind, Table};
 
-/// The word of a kind of namespace.
-pub fn space_name(kind: NsKind) -> &'static [u8]
-    ensures { result.now ≡ space_word kind }
+/// The front of a namespace's line: it says of which kind it is. Each is appended whole, in few steps.
+#[inline(always)]
+fn put_space_head(kind: NsKind, out: &mut Vec<u8>) -> Result<(), NoMemory>
+    ensures { PutsWhole out.old.items out.new.items result (codes "ns" ++ (0x20 ∷ space_word kind)) }
 {
     match kind {
-        NsKind::Private => b"Private",
-        NsKind::Namespace => b"Namespace",
-        NsKind::Package => b"Package",
-        NsKind::PackageInternal => b"PackageInternal",
-        NsKind::Protected => b"Protected",
-        NsKind::Explicit => b"Explicit",
-        NsKind::StaticProtected => b"StaticProtected",
+        NsKind::Private => put(b"ns Private", out),
+        NsKind::Namespace => put(b"ns Namespace", out),
+        NsKind::Package => put(b"ns Package", out),
+        NsKind::PackageInternal => put(b"ns PackageInternal", out),
+        NsKind::Protected => put(b"ns Protected", out),
+        NsKind::Explicit => put(b"ns Explicit", out),
+        NsKind::StaticProtected => put(b"ns StaticProtected", out),
     }
 }
 
@@ -80,8 +81,7 @@ impl Listed for Namespace {
 
     #[tactic(auto, unfolding(abc_lines::specs::Lineforms::namespace_line, abc_lines::specs::Kinds::space_kind, abc_rowparts::specs::Operands::any_number), using(abc_varint::proofs::Putting::stays, std::proofs::Common::append_assoc))]
     fn put(&self, abc: &Abc, out: &mut Vec<u8>) -> Result<(), NoMemory> {
-        put(b"ns", out)?;
-        put_word(space_name(self.kind), out)?;
+        put_space_head(self.kind, out)?;
         put_number(self.name, out)?;
         put_quoted_comment(string_at(abc, self.name), out)?;
         push_byte(b'\n', out)?;
@@ -101,17 +101,23 @@ impl Listed for Table<u32> {
     }
 }
 
-/// The word of a multiname's kind.
-pub fn kind_name(multiname: &Multiname) -> &'static [u8]
-    ensures { result.now ≡ multiname_word (kind_in multiname.now) }
+/// The front of a multiname's line: it says of which kind it is.
+#[inline(always)]
+fn put_name_head(multiname: &Multiname, out: &mut Vec<u8>) -> Result<(), NoMemory>
+    ensures { PutsWhole out.old.items out.new.items result (codes "name" ++ (0x20 ∷ multiname_word (kind_in multiname.now))) }
 {
     match multiname {
-        Multiname::QName { attr, .. } => if *attr { b"QNameA" } else { b"QName" },
-        Multiname::Rt { attr, .. } => if *attr { b"RTQNameA" } else { b"RTQName" },
-        Multiname::RtL { attr } => if *attr { b"RTQNameLA" } else { b"RTQNameL" },
-        Multiname::Multi { attr, .. } => if *attr { b"MultinameA" } else { b"Multiname" },
-        Multiname::MultiL { attr, .. } => if *attr { b"MultinameLA" } else { b"MultinameL" },
-        Multiname::TypeName { .. } => b"TypeName",
+        Multiname::QName { attr: false, .. } => put(b"name QName", out),
+        Multiname::QName { attr: true, .. } => put(b"name QNameA", out),
+        Multiname::Rt { attr: false, .. } => put(b"name RTQName", out),
+        Multiname::Rt { attr: true, .. } => put(b"name RTQNameA", out),
+        Multiname::RtL { attr: false } => put(b"name RTQNameL", out),
+        Multiname::RtL { attr: true } => put(b"name RTQNameLA", out),
+        Multiname::Multi { attr: false, .. } => put(b"name Multiname", out),
+        Multiname::Multi { attr: true, .. } => put(b"name MultinameA", out),
+        Multiname::MultiL { attr: false, .. } => put(b"name MultinameL", out),
+        Multiname::MultiL { attr: true, .. } => put(b"name MultinameLA", out),
+        Multiname::TypeName { .. } => put(b"name TypeName", out),
     }
 }
 
@@ -139,8 +145,7 @@ impl Listed for Multiname {
 
     #[tactic(auto, unfolding(abc_lines::specs::Lineforms::name_line, abc_lines::specs::Kinds::multiname_kind), using(abc_varint::proofs::Putting::stays, std::proofs::Common::append_assoc, crate::proofs::Shown::name_line_is))]
     fn put(&self, abc: &Abc, out: &mut Vec<u8>) -> Result<(), NoMemory> {
-        put(b"name", out)?;
-        put_word(kind_name(self), out)?;
+        put_name_head(self, out)?;
         put_name_fields(self, abc, out)?;
         put_name_comment(abc, name_of(self), out)?;
         push_byte(b'\n', out)?;

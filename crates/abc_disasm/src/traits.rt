@@ -1,9 +1,9 @@
 //! The lines of traits.
-ghost use Rattle.std.specs.Prelude.{◌≡◌};
+ghost use Rattle.std.specs.Prelude.{◌∷◌, ◌++◌, codes};
 ghost use Rattle.abc_disasm.specs.Texts.{fields_text, slot_text, trait_text};
 ghost use Rattle.abc_lines.specs.Kinds.{trait_word};
 ghost use Rattle.abc_tables.specs.Traits.{trait_kind_in};
-ghost use Rattle.abc_varint.specs.Puts.{Puts};
+ghost use Rattle.abc_varint.specs.Puts.{Puts, PutsWhole};
 
 use crate::comments::put_multiname_comment;
 use crate::listed::Listed;
@@ -13,17 +13,22 @@ use crate::tokens::{push_byte, put, put_number, put_word};
 use abc_base::NoMemory;
 use abc_tables::{Abc, OptionValue, TraitBody, TraitInfo};
 
-/// The word of a trait's kind.
-fn trait_name(body: &TraitBody) -> &'static [u8]
-    ensures { result.now ≡ trait_word (trait_kind_in body.now) }
+/// The front of a trait's line: it says of which kind it is.
+#[inline(always)]
+fn put_trait_head(body: &TraitBody, out: &mut Vec<u8>) -> Result<(), NoMemory>
+    ensures { PutsWhole out.old.items out.new.items result (codes "trait" ++ (0x20 ∷ trait_word (trait_kind_in body.now))) }
 {
     match body {
-        TraitBody::Slot { constant, .. } => if *constant { b"const" } else { b"slot" },
-        TraitBody::Method { .. } => b"method",
-        TraitBody::Getter { .. } => b"getter",
-        TraitBody::Setter { .. } => b"setter",
-        TraitBody::Class { .. } => b"class",
-        TraitBody::Function { .. } => b"function",
+        TraitBody::Slot {
+            constant: false,
+            ..
+        } => put(b"trait slot", out),
+        TraitBody::Slot { constant: true, .. } => put(b"trait const", out),
+        TraitBody::Method { .. } => put(b"trait method", out),
+        TraitBody::Getter { .. } => put(b"trait getter", out),
+        TraitBody::Setter { .. } => put(b"trait setter", out),
+        TraitBody::Class { .. } => put(b"trait class", out),
+        TraitBody::Function { .. } => put(b"trait function", out),
     }
 }
 
@@ -71,8 +76,7 @@ impl Listed for TraitInfo {
 
     #[tactic(auto, unfolding(abc_lines::specs::Lineforms::trait_line, abc_lines::specs::Kinds::trait_kind, abc_rowparts::specs::Operands::any_number), using(abc_varint::proofs::Putting::stays, std::proofs::Common::append_assoc))]
     fn put(&self, abc: &Abc, out: &mut Vec<u8>) -> Result<(), NoMemory> {
-        put(b"trait", out)?;
-        put_word(trait_name(&self.body), out)?;
+        put_trait_head(&self.body, out)?;
         put_number(self.attrs as u32, out)?;
         put_number(self.name, out)?;
         put_fields(&self.body, abc, out)?;

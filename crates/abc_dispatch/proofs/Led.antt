@@ -4,7 +4,6 @@ use Rattle.std.specs.Prelude.{Some, Ok, Err, slice_get}
 use Rattle.std.specs.declared.option.Option.{Option}
 use Rattle.std.specs.declared.result.Result.{Result}
 use Rattle.abc_membersteps.specs.CallarmsCalls.{CanFinish}
-use Rattle.abc_dispatch.specs.Answers.{goes_as}
 use Rattle.abc_meaning.specs.Step.{does_instr, runs}
 use Rattle.abc_plainsteps.specs.Here.{act_here, act_in}
 use Rattle.abc_plainsteps.specs.Ready.{CanRun}
@@ -23,21 +22,7 @@ use Rattle.abc_states.specs.declared.state.Stop.{Stop}
 use Rattle.abc_tables.specs.declared.code.Instr.{Instr}
 use Rattle.abc_typing.specs.Routines.{Routine}
 
--- ---- what goes on leaves nothing
-
-pub runs_leaves : (l : LinkedFile) (out : Outer) (act : Run Act) (old new : State) (done : Result Unit Stop) (result : Result Left Stop) → result ≡ goes_as done → Runs l out act old done new → Leaves l out act old result new
-runs_leaves l out act old new done result e r = subst (λ (x : Result Left Stop). Leaves l out act old x new) (sym e) (gone done r)
-  where
-    gone : (d : Result Unit Stop) → Runs l out act old d new → Leaves l out act old (goes_as d) new
-    gone (Ok u) h = h
-    gone (Err y) h = h
-
-pub goes_finishes : (l : LinkedFile) (done : Result Unit Stop) (s : State) (result : Result Left Stop) → result ≡ goes_as done → CanFinish l result s
-goes_finishes l done s result e = subst (λ (x : Result Left Stop). CanFinish l x s) (sym e) (gone done)
-  where
-    gone : (d : Result Unit Stop) → CanFinish l (goes_as d) s
-    gone (Ok u) = tt
-    gone (Err y) = tt
+-- ---- what returns leaves no more
 
 pub returned_finishes : (l : LinkedFile) (result : Result Left Stop) (s : State) → IsReturned result → CanFinish l result s
 returned_finishes l (Ok lefts.Goes) s h = tt
@@ -45,14 +30,6 @@ returned_finishes l (Ok (lefts.Returns v)) s h = tt
 returned_finishes l (Ok (lefts.Traces count how)) s h = absurd h
 returned_finishes l (Ok (lefts.Asks n count how)) s h = absurd h
 returned_finishes l (Err e) s h = tt
-
--- ---- what is told
-
-pub told_leaves : (l : LinkedFile) (out : Outer) (act : Run Act) (old new : State) (done result : Result Left Stop) → result ≡ done → Leaves l out act old done new → Leaves l out act old result new
-told_leaves l out act old new done result e h = subst (λ (x : Result Left Stop). Leaves l out act old x new) (sym e) h
-
-pub told_finishes : (l : LinkedFile) (done : Result Left Stop) (s : State) (result : Result Left Stop) → result ≡ done → CanFinish l done s → CanFinish l result s
-told_finishes l done s result e h = subst (λ (x : Result Left Stop). CanFinish l x s) (sym e) h
 
 -- ---- another spelling of the instruction
 

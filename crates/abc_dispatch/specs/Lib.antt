@@ -1,4 +1,4 @@
+pub mod Held
 pub mod Groups
 pub mod Ready
-pub mod Answers
 pub use Rattle.abc_membersteps.specs.CallarmsCalls

@@ -1,5 +1,4 @@
 ghost use Rattle.std.specs.Prelude.{◌≡◌, ◌<◌, ◌^◌, length, true, Ok};
-ghost use Rattle.abc_dispatch.specs.Answers.{goes_as};
 ghost use Rattle.abc_membersteps.specs.CallarmsCalls.{CanFinish};
 ghost use Rattle.abc_membersteps.specs.Groups.{property_call_ops, property_ops};
 ghost use Rattle.abc_newsteps.specs.EnteringArguments.{IsKnown};
@@ -24,46 +23,14 @@ use abc_membersteps::{
 use abc_newsteps::{run_new, run_scope};
 use abc_objectsteps::{run_late, run_next, run_slot, run_walk};
 use abc_plainsteps::{
-    run_comparison, run_constant, run_control, run_convert, run_count, run_double,
+    returns_at_once, run_comparison, run_constant, run_control, run_convert, run_count, run_double,
     run_first_branch, run_last_branch, run_local, run_push, run_return, run_single, run_typed,
 };
 use abc_scopesteps::{run_class, run_find, run_super, run_super_call};
-use abc_states::{Left, State, Stop};
+use abc_states::{Left, State, Stop, goes, leaves};
 
 // (A group that is rare or long stands in a function of its own, which the dispatch calls last: so it needs the registers and the memory of no
 // such group. What is common and short stands in the dispatch itself.)
-
-/// Whether a group goes on, which leaves nothing to be done; else why it stops is put into `left`.
-#[inline(always)]
-pub(crate) fn goes(done: Result<(), Stop>, left: &mut Result<Left, Stop>) -> bool
-    requires none { left.old ≡ Ok Goes }
-    ensures left { left.new ≡ goes_as done }
-    ensures goes { result ≡ true → left.new ≡ Ok Goes }
-{
-    match done {
-        Ok(()) => true,
-        Err(stop) => {
-            *left = Err(stop);
-            false
-        }
-    }
-}
-
-/// Whether a group goes on that may leave something to be done; else what it leaves, or why it stops, is put into `left`.
-#[inline(always)]
-fn leaves(done: Result<Left, Stop>, left: &mut Result<Left, Stop>) -> bool
-    requires none { left.old ≡ Ok Goes }
-    ensures left { left.new ≡ done }
-    ensures goes { result ≡ true → left.new ≡ Ok Goes }
-{
-    match done {
-        Ok(Left::Goes) => true,
-        _ => {
-            *left = done;
-            false
-        }
-    }
-}
 
 /// An opcode that goes on, moves operands or drops a scope.
 #[inline(never)]
@@ -142,6 +109,9 @@ pub(crate) fn return_arm(
     ensures goes { result ≡ true → left.new ≡ Ok Goes }
     ensures limit { s.new.given.limit ≡ s.old.given.limit }
 {
+    if returns_at_once(linked, s, op, left) {
+        return false;
+    }
     leaves(run_return(linked, s, op), left)
 }
 
@@ -585,7 +555,7 @@ pub(crate) fn property_call_arm(
     ensures goes { result ≡ true → left.new ≡ Ok Goes }
     ensures limit { s.new.given.limit ≡ s.old.given.limit }
 {
-    leaves(run_property_call(linked, s, op, n, count), left)
+    run_property_call(linked, s, op, n, count, left)
 }
 
 /// `new` on a property.

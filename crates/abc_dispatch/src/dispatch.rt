@@ -14,10 +14,9 @@ ghost use Rattle.abc_typing.specs.Routines.{Routine};
 
 use crate::arms::{
     call_arm, class_arm, comparison_arm, constant_arm, construct_arm, construct_property_arm,
-    control_arm, convert_arm, count_arm, double_arm, find_arm, first_branch_arm, goes,
-    last_branch_arm, late_arm, local_arm, new_arm, next_arm, property_arm, property_call_arm,
-    push_arm, return_arm, scope_arm, single_arm, slot_arm, super_arm, super_call_arm, typed_arm,
-    walk_arm,
+    control_arm, convert_arm, count_arm, double_arm, find_arm, first_branch_arm, last_branch_arm,
+    late_arm, local_arm, new_arm, next_arm, property_arm, property_call_arm, push_arm, return_arm,
+    scope_arm, single_arm, slot_arm, super_arm, super_call_arm, typed_arm, walk_arm,
 };
 use crate::groups::{Alone, Numbered, Paired, group_alone, group_numbered, group_paired};
 use crate::quick::{
@@ -26,7 +25,7 @@ use crate::quick::{
 };
 use abc_link::Linked;
 use abc_plainsteps::{run_byte, run_debug, run_scope_object, run_short, run_switch};
-use abc_states::{Left, State, Stop};
+use abc_states::{Left, State, Stop, goes};
 use abc_tables::Instr;
 
 /// An opcode that stands alone, by its group.
@@ -302,7 +301,12 @@ fn run_branch(
 
 /// An instruction.
 #[inline(always)]
-fn run_instr(linked: &Linked, s: &mut State, instr: &Instr, left: &mut Result<Left, Stop>) -> bool
+pub(crate) fn run_instr(
+    linked: &Linked,
+    s: &mut State,
+    instr: &Instr,
+    left: &mut Result<Left, Stop>,
+) -> bool
     ghost out: { Outer }
     requires run { CanRun linked.now out s.old instr.now }
     requires equipped { IsEquipped linked.now s.old }
@@ -331,40 +335,4 @@ fn run_instr(linked: &Linked, s: &mut State, instr: &Instr, left: &mut Result<Le
             extra,
         } => goes(run_debug(linked, s, *kind, *name, *reg, *extra), left),
     }
-}
-
-/// The instruction at the place of the newest frame.
-#[inline(always)]
-fn instr_here<'a>(linked: &'a Linked, s: &State) -> &'a Instr
-    ghost out: { Outer }
-    requires { CanStep linked.now out s.now }
-    ensures { (r : Routine) → routine_of (setting linked.now out) (newest s.now.frames).method ≡ Some r → slice_get r.code (newest s.now.frames).place ≡ Some result.now }
-{
-    let Some(body) = linked.body_of(s.frames.method()) else {
-        unreachable!()
-    };
-    let code = &linked.abc().bodies.get(body as usize).code;
-    let Some(instr) = code.find(s.frames.place() as usize) else {
-        unreachable!()
-    };
-    instr
-}
-
-/// Runs the instruction of the newest frame, and answers whether it goes on. Else `left` is what is left to be done: a value that
-/// returns, a line that is still to be written, or a formula of the host that is to be asked; or where it stops, why: a value that
-/// is thrown, an error that is to be made and thrown, a fault or a limit. (Most instructions go on: so that they copy no answer it is
-/// written where it is kept, which has nothing in it before.)
-#[inline(always)]
-pub fn run_newest(linked: &Linked, s: &mut State, left: &mut Result<Left, Stop>) -> bool
-    ghost out: { Outer }
-    requires can { CanStep linked.now out s.old }
-    requires equipped { IsEquipped linked.now s.old }
-    requires none { left.old ≡ Ok Goes }
-    ensures leaves { Leaves linked.now out (runs (setting linked.now out) (newest s.old.frames) (routine_of (setting linked.now out) (newest s.old.frames).method)) s.old left.new s.new }
-    ensures finishes { CanFinish linked.now left.new s.new }
-    ensures goes { result ≡ true → left.new ≡ Ok Goes }
-    ensures limit { s.new.given.limit ≡ s.old.given.limit }
-{
-    let instr = instr_here(linked, s);
-    run_instr(linked, s, instr, left)
 }

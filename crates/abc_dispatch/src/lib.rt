@@ -4,6 +4,7 @@
 mod arms;
 mod dispatch;
 mod groups;
+mod holding;
 mod quick;
 
-pub use dispatch::run_newest;
+pub use holding::{Held, hold, run_held, run_newest};

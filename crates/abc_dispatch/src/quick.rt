@@ -11,13 +11,13 @@ ghost use Rattle.abc_states.specs.declared.state.Left.TheVariants.{Goes};
 ghost use Rattle.abc_tables.specs.Opcodes.{is_in};
 ghost use Rattle.abc_tables.specs.declared.code.Instr.TheVariants.{Branch, One, Plain};
 
-use crate::arms::{convert_arm, double_arm, first_branch_arm, goes, last_branch_arm};
+use crate::arms::{convert_arm, double_arm, first_branch_arm, last_branch_arm};
 use abc_link::Linked;
 use abc_plainsteps::{
     number_on_top, numbers_on_top, run_constant, run_control, run_convert, run_double,
     run_first_branch, run_last_branch,
 };
-use abc_states::{Left, State, Stop};
+use abc_states::{Left, State, Stop, goes};
 
 // (These stand in the dispatch itself, where the opcode is known. Most operands of operations are numbers: what else is made of others stands
 // in the function of the group. `inline(always)` here would make the functions that call them so many times so large that the toolchain takes

@@ -13,7 +13,9 @@ ghost use Rattle.abc_embed.specs.Fare.{fare as the_fare};
 use crate::fault::Fault;
 use crate::file::verified_file;
 use crate::meter::drive;
-use abc_base::{Bytes, Formula, Host, NoMemory, Plain, Sink, Source, StdSink, StdSource, Table};
+use abc_base::{
+    Bytes, Formula, Host, NoMemory, Plain, Sink, Source, StdSink, StdSource, Table, release,
+};
 use abc_heap::Limits;
 use abc_host::{Entry, HostTable};
 use abc_session::Session;
@@ -61,9 +63,6 @@ fn fare(args: &Plain) -> Option<i64>
     in_range(300 + 25 * args.a)
 }
 
-/// Gives back the memory of a session. Alone, since to drop what is large takes long to prove where much else is live.
-fn close(_session: Session) {}
-
 /// Opens the file of a source beside a host, and drives.
 #[tactic(auto, using(abc_uses::proofs::Staying::opened_beside))]
 fn open_and_drive<S: Source, K: Sink, H: Host>(
@@ -75,7 +74,7 @@ fn open_and_drive<S: Source, K: Sink, H: Host>(
     let verified = verified_file(alloc, source)?;
     let mut session = Session::open(alloc, verified, &LIMITS, host)?;
     let driven = drive(&mut session, out, host);
-    close(session);
+    release(session);
     driven
 }
 

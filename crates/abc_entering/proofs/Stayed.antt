@@ -36,29 +36,13 @@ use Rattle.abc_makers.specs.Turns.{GoesOn, Halts, bared, turned}
 use Rattle.abc_makers.specs.World.{Fills, Outcome, Run, Went, World, and_then, done, some, throws, ◌>>=◌}
 use Rattle.abc_entering.specs.Arguments.{makes_arguments}
 use Rattle.abc_entering.specs.Entering.{above, enters_above, entry_for, puts_on}
-use Rattle.abc_entering.specs.InPlace.{AreOfTypes, IsOfNamed, IsOfType, StandsInPlace}
+use Rattle.abc_entering.specs.InPlace.{AreOfTypes, StandsInPlace}
+use Rattle.abc_makers.specs.OfType.{IsOfNamed}
 use Rattle.abc_entering.proofs.Entered.{entered_is}
 use Rattle.abc_entering.proofs.Opened.{some_is, some_open}
 use Rattle.abc_entering.proofs.Operands.{count_given, dropped_given, given_at, none_given}
-use Rattle.abc_entering.proofs.Putting.{body_there, puts_fits, puts_is, topped_full, topped_on}
+use Rattle.abc_entering.proofs.Putting.{body_there, puts_fits, puts_is, topped_on}
 use Rattle.abc_makers.proofs.Turning.{open_first}
-
--- ---- values that are what they are coerced to
-
-pub int_kept : (v : Value) (n : ℤ) → v ≡ values.Num n → int_wrap w32 n ≡ n → IsOfType types.Int v
-int_kept v n e h p w = subst (λ (x : Value). coerces p types.Int x w ≡ Went w x) (sym e) (ap (λ z. Went w (values.Num z)) h)
-
-pub number_kept : (v : Value) (n : ℤ) → v ≡ values.Num n → IsOfType types.Number v
-number_kept v n e p w = subst (λ (x : Value). coerces p types.Number x w ≡ Went w x) (sym e) refl
-
-pub boolean_kept : (v : Value) (b : Bool) → v ≡ values.Bool b → IsOfType types.Boolean v
-boolean_kept v b e p w = subst (λ (x : Value). coerces p types.Boolean x w ≡ Went w x) (sym e) refl
-
-pub text_kept : (v : Value) (s : Span) → v ≡ values.Text s → IsOfType types.Text v
-text_kept v s e p w = subst (λ (x : Value). coerces p types.Text x w ≡ Went w x) (sym e) refl
-
-pub any_kept : (v : Value) → IsOfType types.Any v
-any_kept v p w = refl
 
 pub same_object : (x o : ObjId) → x.0 ≡ o.0 → values.Obj x ≡ values.Obj o
 same_object x o e = ap (λ (n : ℕ). values.Obj (record { 0 = n })) e
@@ -182,8 +166,3 @@ module _ (l : LinkedFile) (out : Outer) (n : ℕ) (m : Method) (this : Value) (a
   in_place_on entry r u ee room entering =
       topped_on (setting l out) n at (this ∷ operands count (newest q) ++ []) (operands taken (newest q)) taken wait w q q r entry (enters_above (setting l out) n this at count taken wait (newest q) w) u entered_as refl ee items room
       (entering ∙ ap (λ k. entered entry (operands taken (newest q)) k wait q) (add-zero taken))
-
-  pub in_place_full : (entry : Entry) (r : Frames) (full : Full) → entry ≡ entry_for (setting l out) n at → Err full ≡ room_for q entry.size → r ≡ q
-      → turned (setting l out) q (enters_above (setting l out) n this at count taken wait (newest q) w) ≡ Halts w (bared r) (Fills full.0)
-  in_place_full entry r full ee room left =
-      topped_full (setting l out) n at (this ∷ operands count (newest q) ++ []) taken wait w q q r entry (enters_above (setting l out) n this at count taken wait (newest q) w) full entered_as refl ee room left

@@ -3,26 +3,16 @@
 use Rattle.std.specs.Prelude.{◌≡◌, ℕ, ◌+◌, false, length}
 use Rattle.abc_cells.specs.declared.values.Value.{Value}
 use Rattle.abc_program.specs.Linked.{LinkedFile}
-use Rattle.abc_program.specs.declared.types.Ty.{Ty}
 use Rattle.abc_stacks.specs.Frame.{Frame, arguments}
 use Rattle.abc_tables.specs.declared.methods.Method.{Method}
 use Rattle.abc_typing.specs.Routines.{takes_array}
-use Rattle.abc_makers.specs.Entering.{coerced, coerces_to}
+use Rattle.abc_makers.specs.Entering.{coerced}
 use Rattle.abc_makers.specs.Operands.{operand_at}
-use Rattle.abc_makers.specs.Ops.{coerces}
 use Rattle.abc_makers.specs.Outer.{Outer, setting}
-use Rattle.abc_makers.specs.Setting.{Setting, options_of}
+use Rattle.abc_makers.specs.Setting.{options_of}
 use Rattle.abc_makers.specs.World.{Went, World}
 
--- a value is what it is coerced to, a type
-abbrev pub IsOfType : Ty → Value → Type 0
-IsOfType t v = (p : Setting) (w : World) → coerces p t v w ≡ Went w v
-
--- the same of a type that is named
-abbrev pub IsOfNamed : LinkedFile → ℕ → Value → Type 0
-IsOfNamed l ty v = (out : Outer) (w : World) → coerces_to (setting l out) ty v w ≡ Went w v
-
--- so are all arguments
+-- all arguments are what they are coerced to
 abbrev pub AreOfTypes : LinkedFile → Method → (count : ℕ) → Frame → Type 0
 AreOfTypes l m count f = (out : Outer) (w : World) → coerced (setting l out) m.params (options_of m) (arguments count f) w ≡ Went w (arguments count f)
 

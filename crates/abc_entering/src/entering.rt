@@ -4,12 +4,12 @@ ghost use Rattle.abc_stacks.specs.Frame.{arguments as operands, newest};
 ghost use Rattle.abc_makers.specs.Outer.{Outer, setting, world};
 ghost use Rattle.abc_makers.specs.Standing.{IsSet};
 ghost use Rattle.abc_makers.specs.Stops.{IsOpen, answer};
-ghost use Rattle.abc_makers.specs.Turns.{Runs};
+ghost use Rattle.abc_makers.specs.Turns.{IsDoneIf, Runs};
 ghost use Rattle.abc_entering.specs.Arguments.{IsKnown, Makes, makes_arguments, receiver, with_values};
 ghost use Rattle.abc_entering.specs.Entering.{enters_above, enters_owned_above, placed, puts_on, starts_above};
 
 use crate::arguments::{array_of, coerce_arguments, give};
-use crate::keeping::{enter_in_place, is_in_place};
+use crate::keeping::{enters_in_place, is_in_place};
 use crate::methods::{entry_of, may_take, method_at};
 use crate::places::{global_of, place_of_owner};
 use abc_base::HostClass;
@@ -102,6 +102,32 @@ fn enter_prepared(
     put_on(linked, s, method, at, count, taken, wait)
 }
 
+/// Enters a method with so many arguments, where its first locals are operands as they stand, and there is room: whether it is done;
+/// else nothing is.
+#[inline(always)]
+fn enters_at_once(
+    linked: &Linked,
+    s: &mut State,
+    method: u32,
+    this: Value,
+    at: Place,
+    count: u32,
+    taken: u32,
+    wait: Wait,
+) -> bool
+    ghost out: { Outer }
+    requires live { 0 < length s.old.frames.living }
+    requires taken { taken ≤ length (newest s.old.frames).stack }
+    requires free { IsOpen (enters_above (setting linked.now out) method this (placed at) count taken wait (newest s.old.frames) (world s.old out)) }
+    ensures { IsDoneIf result linked.now out (enters_above (setting linked.now out) method this (placed at) count taken wait (newest s.old.frames)) s.old s.new }
+{
+    let signature = method_at(linked, method);
+    if !is_in_place(linked, &s.frames, signature, this, count, taken) {
+        return false;
+    }
+    enters_in_place(linked, s, signature, method, this, at, count, taken, wait)
+}
+
 /// Enters a method with so many arguments, which are on top of the operands. So many operands leave the frame, which waits.
 /// Most often the first locals are operands as they stand.
 #[inline(always)]
@@ -125,9 +151,8 @@ pub fn enter(
     ensures runs { Runs linked.now out (enters_above (setting linked.now out) method this (placed at) count taken wait (newest s.old.frames)) s.old result s.new }
     ensures limit { s.new.given.limit ≡ s.old.given.limit }
 {
-    let signature = method_at(linked, method);
-    if is_in_place(linked, &s.frames, signature, this, count, taken) {
-        return enter_in_place(linked, s, signature, method, this, at, count, taken, wait);
+    if enters_at_once(linked, s, method, this, at, count, taken, wait) {
+        return Ok(());
     }
     enter_prepared(linked, s, method, this, at, count, taken, wait)
 }
@@ -157,44 +182,27 @@ pub fn enter_owned(
     enter(linked, s, method, this, at, count, taken, wait)
 }
 
-/// The same as `enter_owned`, on an object. (Most often its first locals are operands as they stand: so it stands in line where it is
-/// called, and hands nothing on through memory but to what isn't.)
+/// Enters a method of an owner on an object, where its first locals are operands as they stand, and there is room: whether it is done;
+/// else nothing is. (That is most often so: it stands in line where it is called, and hands nothing on through memory.)
 #[inline(always)]
-pub fn enter_on_object(
+pub fn enters_on_object(
     linked: &Linked,
     s: &mut State,
     method: u32,
     o: ObjId,
     count: u32,
     taken: u32,
-    wait: &Wait,
-) -> Result<(), Stop>
+    wait: Wait,
+) -> bool
     ghost out: { Outer }
     requires set { IsSet linked.now s.old }
-    requires known { IsKnown linked.now s.old.given.limit }
     requires live { 0 < length s.old.frames.living }
-    requires there { count ≤ length (newest s.old.frames).stack }
     requires taken { taken ≤ length (newest s.old.frames).stack }
-    requires free { IsOpen (enters_owned_above (setting linked.now out) method (Obj o) count taken wait.now (newest s.old.frames) (world s.old out)) }
-    ensures runs { Runs linked.now out (enters_owned_above (setting linked.now out) method (Obj o) count taken wait.now (newest s.old.frames)) s.old result s.new }
-    ensures limit { s.new.given.limit ≡ s.old.given.limit }
+    requires free { IsOpen (enters_owned_above (setting linked.now out) method (Obj o) count taken wait (newest s.old.frames) (world s.old out)) }
+    ensures { IsDoneIf result linked.now out (enters_owned_above (setting linked.now out) method (Obj o) count taken wait (newest s.old.frames)) s.old s.new }
 {
     let at = place_of_owner(linked, s, linked.owner(method));
-    let signature = method_at(linked, method);
-    if is_in_place(linked, &s.frames, signature, Value::Obj(o), count, taken) {
-        return enter_in_place(
-            linked,
-            s,
-            signature,
-            method,
-            Value::Obj(o),
-            at,
-            count,
-            taken,
-            *wait,
-        );
-    }
-    enter_owned(linked, s, method, Value::Obj(o), count, taken, *wait)
+    enters_at_once(linked, s, method, Value::Obj(o), at, count, taken, wait)
 }
 
 /// Starts a script above the newest frame, which executes its instruction again after that. The script counts as started from

@@ -1,103 +1,30 @@
 ghost use Rattle.std.specs.Prelude.{◌≡◌, ◌+◌, ◌-◌, ◌<◌, ◌≤◌, true, Some, length, slice_get};
-ghost use Rattle.std.specs.Int.{int_wrap, w32};
 ghost use Rattle.abc_cells.specs.declared.values.Value.TheVariants.{Obj};
-ghost use Rattle.abc_program.specs.declared.types.Ty.TheVariants as types;
 ghost use Rattle.abc_stacks.specs.Frame.{newest};
 ghost use Rattle.abc_makers.specs.Operands.{operand_at};
 ghost use Rattle.abc_makers.specs.Outer.{Outer, setting, world};
 ghost use Rattle.abc_makers.specs.Stops.{IsOpen};
-ghost use Rattle.abc_makers.specs.Turns.{Runs};
+ghost use Rattle.abc_makers.specs.Turns.{IsDoneIf};
 ghost use Rattle.abc_entering.specs.Entering.{enters_above, placed};
-ghost use Rattle.abc_entering.specs.InPlace.{AreOfTypes, IsOfNamed, IsOfType, StandsInPlace};
+ghost use Rattle.abc_entering.specs.InPlace.{AreOfTypes, StandsInPlace};
+ghost use Rattle.abc_makers.specs.OfType.{IsOfNamed};
 
 use crate::methods::{entry_of, takes_array};
 use abc_cells::{ObjId, Value};
-use abc_link::{Linked, Ty};
-use abc_makers::{Place, State, Stop, operand};
+use abc_link::Linked;
+use abc_makers::{Place, State, is_of_named, operand};
 use abc_moves::try_enter;
 use abc_stacks::{Frames, Wait};
 use abc_tables::Method;
 
-/// Whether a number is from -2147483648 to 2147483647.
-fn is_int(n: i64) -> bool
-    ensures { result ≡ true → int_wrap w32 n ≡ n }
-{
-    if n < -2147483648 {
-        return false;
-    }
-    if n > 2147483647 {
-        return false;
-    }
-    true
-}
-
-/// Whether a value is what it is coerced to, an int.
-fn is_of_int(v: Value) -> bool
-    ensures { result ≡ true → IsOfType types.Int v }
-{
-    match v {
-        Value::Num(n) => is_int(n),
-        _ => false,
-    }
-}
-
-/// Whether a value is what it is coerced to, a number.
-fn is_of_number(v: Value) -> bool
-    ensures { result ≡ true → IsOfType types.Number v }
-{
-    match v {
-        Value::Num(_) => true,
-        _ => false,
-    }
-}
-
-/// Whether a value is what it is coerced to, a truth.
-fn is_of_boolean(v: Value) -> bool
-    ensures { result ≡ true → IsOfType types.Boolean v }
-{
-    match v {
-        Value::Bool(_) => true,
-        _ => false,
-    }
-}
-
-/// Whether a value is what it is coerced to, a text.
-fn is_of_text(v: Value) -> bool
-    ensures { result ≡ true → IsOfType types.Text v }
-{
-    match v {
-        Value::Text(_) => true,
-        _ => false,
-    }
-}
-
-/// Whether a value is what it is coerced to, a type, where that is told without the heap. Where it is not, it answers false.
-#[inline(always)]
-fn is_of_type(ty: Ty, v: Value) -> bool
-    ensures { result ≡ true → IsOfType ty v }
-{
-    match ty {
-        Ty::Any => true,
-        Ty::Int => is_of_int(v),
-        Ty::Number => is_of_number(v),
-        Ty::Boolean => is_of_boolean(v),
-        Ty::Text => is_of_text(v),
-        _ => false,
-    }
-}
-
 /// Whether the k-th of so many arguments is what it is coerced to, a type of the file.
 #[inline(always)]
-fn is_of_named(linked: &Linked, frames: &Frames, count: u32, k: usize, ty: u32) -> bool
+fn is_argument_of(linked: &Linked, frames: &Frames, count: u32, k: usize, ty: u32) -> bool
     requires there { count ≤ length (newest frames.now).stack }
     requires within { k < count }
     ensures { result ≡ true → IsOfNamed linked.now ty (operand_at (count - 1 - k) (newest frames.now)) }
 {
-    let v = operand(frames, count - 1 - k as u32);
-    match linked.type_of(ty) {
-        Some(found) => is_of_type(found, v),
-        None => false,
-    }
+    is_of_named(linked, ty, operand(frames, count - 1 - k as u32))
 }
 
 /// Whether the arguments of a method, one for each parameter, are all what they are coerced to.
@@ -109,7 +36,7 @@ fn are_of_types(linked: &Linked, frames: &Frames, method: &Method, count: u32) -
 {
     let types = method.params.as_slice();
     for (k, ty) in types.iter().enumerate() {
-        if !is_of_named(linked, frames, count, k, *ty) {
+        if !is_argument_of(linked, frames, count, k, *ty) {
             return false;
         }
     }
@@ -190,9 +117,10 @@ pub(crate) fn is_in_place(
     are_of_types(linked, frames, method, count)
 }
 
-/// Enters a method whose first locals are operands as they stand: these stay where they are.
+/// Enters a method whose first locals are operands as they stand, where there is room: these stay where they are. Whether it is
+/// done; else nothing is.
 #[inline(always)]
-pub(crate) fn enter_in_place(
+pub(crate) fn enters_in_place(
     linked: &Linked,
     s: &mut State,
     signature: &Method,
@@ -202,20 +130,21 @@ pub(crate) fn enter_in_place(
     count: u32,
     taken: u32,
     wait: Wait,
-) -> Result<(), Stop>
+) -> bool
     ghost out: { Outer }
     requires live { 0 < length s.old.frames.living }
     requires taken { taken ≤ length (newest s.old.frames).stack }
     requires signature { slice_get linked.now.file.methods method ≡ Some signature.now }
     requires in_place { StandsInPlace linked.now signature.now this count taken (newest s.old.frames) }
     requires free { IsOpen (enters_above (setting linked.now out) method this (placed at) count taken wait (newest s.old.frames) (world s.old out)) }
-    ensures runs { Runs linked.now out (enters_above (setting linked.now out) method this (placed at) count taken wait (newest s.old.frames)) s.old result s.new }
-    ensures limit { s.new.given.limit ≡ s.old.given.limit }
+    ensures { IsDoneIf result linked.now out (enters_above (setting linked.now out) method this (placed at) count taken wait (newest s.old.frames)) s.old s.new }
 {
     let _ = signature;
     let _ = this;
     let _ = count;
     let entry = entry_of(linked, method, at);
-    try_enter(&mut s.frames, entry, taken, 0, wait)?;
-    Ok(())
+    match try_enter(&mut s.frames, entry, taken, 0, wait) {
+        Ok(()) => true,
+        Err(_) => false,
+    }
 }

@@ -9,7 +9,7 @@ mod methods;
 mod options;
 mod places;
 
-pub use entering::{enter, enter_on_object, enter_owned, prepare, put_on, start_above};
+pub use entering::{enter, enter_owned, enters_on_object, prepare, put_on, start_above};
 pub use methods::{entry_of, may_take, method_at};
 pub use options::option_given;
 pub use places::{global_of, place_of_owner};

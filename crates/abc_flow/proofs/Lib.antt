@@ -7,3 +7,5 @@ pub mod Ranges
 pub mod Told
 pub mod Waits
 pub mod Numbering
+pub mod Laid
+pub mod Lists

@@ -17,6 +17,9 @@ inserted xs k place h = record { has = in_right place (take k xs) (place ∷ dro
     keeps : (i : ℕ) → In i xs → In i (insert xs k place)
     keeps i p = elim (in_append i (take k xs) (drop k xs) (subst (λ (ys : List ℕ). In i ys) (sym (take-append-drop k xs)) p)) [ inl q ↦ in_left i (take k xs) (place ∷ drop k xs) q | inr q ↦ in_right i (take k xs) (place ∷ drop k xs) (inr q) ]
 
+pub added_last : (xs : List ℕ) (place : ℕ) → IsAdded place xs (xs ++ place ∷ [])
+added_last xs place = record { has = in_right place xs (place ∷ []) (inl refl); keeps = λ i p. in_left i xs (place ∷ []) p; most = let n = length-append xs (place ∷ []) in omega (arith, n) }
+
 pub taken : (xs ys : List ℕ) (place : ℕ) → xs ≡ ys ++ place ∷ [] → IsTaken place xs ys
 taken xs ys place e = record { keeps = λ i p. keeps i (in_append i ys (place ∷ []) (subst (λ (zs : List ℕ). In i zs) e p)); fewer = let n : length (ys ++ place ∷ []) ≡ length ys + 1 = length-append ys (place ∷ []) in subst (λ (zs : List ℕ). length ys < length zs) (sym e) (omega arith) }
   where

@@ -1,11 +1,15 @@
 -- How the states of places are kept: for each place 0, or one more than the number of its state.
-use Rattle.std.specs.Prelude.{◌≡◌, ℕ, zero, suc, ◌≤◌, ◌<◌, ◌^◌, List, [], ◌∷◌, ◌++◌, Option, None, Some, cond, length, ltb, map, set, slice_get}
+use Rattle.std.specs.Prelude.{◌≡◌, ℕ, zero, suc, ◌+◌, ◌≤◌, ◌<◌, List, ◌++◌, Bool, true, false, Option, None, Some, drop, length, map, set, slice_get, take}
 use Rattle.abc_program.specs.Linked.{LinkedFile}
+use Rattle.abc_program.specs.declared.types.Kind.{Kind}
 use Rattle.abc_typing.specs.Routines.{Routine}
 use Rattle.abc_typing.specs.Typing.{Derivable, HasOneShape, IsJoinState, StateLe}
+use Rattle.abc_typing.specs.declared.state.Scope.{Scope}
 use Rattle.abc_typing.specs.declared.state.State.{State}
 use Rattle.abc_worklist.specs.Rank.{layouts, rank}
 use Rattle.abc_worklist.specs.Work.{at}
+use Rattle.abc_flow.specs.declared.kept.Head.{Head}
+use Rattle.abc_flow.specs.declared.span.Span.{Span}
 use Rattle.abc_flow.specs.declared.step.Met.{Met}
 use Rattle.abc_flow.specs.declared.step.Met.TheVariants.{First, Same, Joined, Unequal}
 
@@ -17,27 +21,28 @@ numbered known (suc n) = slice_get known n
 abbrev pub known_at : {X : Type 0} → List ℕ → List X → List (Option X)
 known_at numbers known = map (numbered known) numbers
 
--- how many places have a number
-abbrev pub count_of : List ℕ → ℕ
-count_of [] = 0
-count_of (zero ∷ ns) = count_of ns
-count_of (suc n ∷ ns) = suc (count_of ns)
-
 -- each number is of one place alone
 pub record AreNumbers (numbers : List ℕ) (count : ℕ) : Type 0 where
   pub inside : (i n : ℕ) → slice_get numbers i ≡ Some (suc n) → n < count
   pub apart : (i j n : ℕ) → slice_get numbers i ≡ Some (suc n) → slice_get numbers j ≡ Some (suc n) → i ≡ j
-  pub counted : count_of numbers ≡ count
-  pub few : length numbers < 2 ^ 32
 
--- behind the states that have numbers there may be more, whose memory is used again
-pub record AreNumbered (numbers : List ℕ) (count all : ℕ) : Type 0 where
-  pub are : AreNumbers numbers count
-  pub within : count ≤ all
+-- what a call finds by a number, and whether there is anything
+abbrev pub IsNumbered : {X : Type 0} → List X → ℕ → X → Bool → Type 0
+IsNumbered known n x false = numbered known n ≡ None
+IsNumbered known n x true = numbered known n ≡ Some x
 
--- a value takes the place of another, or comes at the end
-abbrev pub placed : {X : Type 0} → List X → ℕ → X → List X
-placed xs n x = cond (ltb n (length xs)) (set xs n x) (xs ++ x ∷ [])
+-- what a call finds at a place, and whether anything is known there
+abbrev pub IsLoaded : List (Option State) → ℕ → State → Bool → Type 0
+IsLoaded a t s false = at a t ≡ None
+IsLoaded a t s true = slice_get a t ≡ Some (Some s)
+
+-- a state is at most what is known
+abbrev pub IsBelowKnown : LinkedFile → Option State → State → Type 0
+IsBelowKnown p known s = (old : State) × (known ≡ Some old) × StateLe p s old
+
+-- a state is at most that of a number, which counts from 0
+abbrev pub IsBelow : LinkedFile → List State → ℕ → State → Type 0
+IsBelow p known n s = IsBelowKnown p (slice_get known n) s
 
 -- what is known at a place, and the least state above that and another
 pub record IsRaised (p : LinkedFile) (a : List (Option State)) (t : ℕ) (n : State) (c : List (Option State)) : Type 0 where
@@ -68,3 +73,48 @@ pub record Clashes (p : LinkedFile) (m : Routine) (a : List (Option State)) (t :
   pub known : slice_get a t ≡ Some (Some old)
   pub derived : Derivable p m t old
   pub unequal : HasOneShape old n → ⊥
+
+-- ---- states whose values lie one behind the other
+
+abbrev pub part : {X : Type 0} → Span → List X → List X
+part s xs = take s.count (drop s.first xs)
+
+-- values in place of those that lie somewhere
+abbrev pub over : {X : Type 0} → Span → List X → List X → List X
+over s xs ys = take s.first xs ++ (ys ++ drop s.count (drop s.first xs))
+
+abbrev pub state_of : List Kind → List Scope → List Kind → Head → State
+state_of operands scopes locals h = record { stack = part h.operands operands; scopes = part h.scopes scopes; locals = part h.locals locals }
+
+abbrev pub states_of : List Kind → List Scope → List Kind → List Head → List State
+states_of operands scopes locals heads = map (state_of operands scopes locals) heads
+
+-- the values of each state lie before an end, behind those of the states before it
+pub record AreApart (span : Head → Span) (heads : List Head) (end : ℕ) : Type 0 where
+  pub inside : (i : ℕ) (h : Head) → slice_get heads i ≡ Some h → (span h).first + (span h).count ≤ end
+  pub apart : (i j : ℕ) (h k : Head) → i < j → slice_get heads i ≡ Some h → slice_get heads j ≡ Some k → (span h).first + (span h).count ≤ (span k).first
+
+pub record AreLaid (heads : List Head) (o c l : ℕ) : Type 0 where
+  pub operands : AreApart (λ h. h.operands) heads o
+  pub scopes : AreApart (λ h. h.scopes) heads c
+  pub locals : AreApart (λ h. h.locals) heads l
+
+pub record IsSpan (start number : ℕ) (s : Span) : Type 0 where
+  pub first : s.first ≡ start
+  pub count : s.count ≡ number
+
+-- a state is to lie behind all others
+pub record IsHeadBehind (o c l : ℕ) (s : State) (h : Head) : Type 0 where
+  pub operands : IsSpan o (length s.stack) h.operands
+  pub scopes : IsSpan c (length s.scopes) h.scopes
+  pub locals : IsSpan l (length s.locals) h.locals
+
+-- a state has as many values as lie somewhere
+pub record HasLengths (h : Head) (s : State) : Type 0 where
+  pub operands : length s.stack ≡ h.operands.count
+  pub scopes : length s.scopes ≡ h.scopes.count
+  pub locals : length s.locals ≡ h.locals.count
+
+-- values were added at the end
+abbrev pub IsLonger : {X : Type 0} → List X → List X → Type 0
+IsLonger {X} old new = (more : List X) × (new ≡ old ++ more)

@@ -6,6 +6,7 @@ use abc_typing::{Stack, State};
 use std::alloc::Global;
 
 /// Copies a list over another, whose memory is used again.
+#[inline]
 #[tactic(auto, using(crate::proofs::Waits::nothing))]
 pub(crate) fn copy_over<T: Copy + Drop>(copy: &mut Table<T>, items: &[T]) -> Result<(), NoMemory>
     ensures { OnOk result (copy.new ≡ items.now) }
@@ -32,7 +33,7 @@ fn copy_stack_over(copy: &mut Stack<Kind>, stack: &Stack<Kind>) -> Result<(), No
 }
 
 /// Copies a state over another, whose memory is used again.
-pub(crate) fn copy_state_over(copy: &mut State, state: &State) -> Result<(), NoMemory>
+fn copy_state_over(copy: &mut State, state: &State) -> Result<(), NoMemory>
     ensures { OnOk result (copy.new ≡ state.now) }
 {
     copy_stack_over(&mut copy.stack, &state.stack)?;

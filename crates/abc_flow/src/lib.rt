@@ -3,12 +3,15 @@
 //! From a head a walk goes over straight-line code with one running state, up to the next head.
 #![tactic(auto)]
 
+mod below;
 mod copies;
 mod flow;
 mod handled;
+mod kept;
 mod merging;
 mod notes;
 mod place_numbers;
+mod span;
 mod states;
 mod step;
 mod telling;

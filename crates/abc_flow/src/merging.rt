@@ -7,26 +7,25 @@ ghost use Rattle.abc_flow.specs.Waits.{IsAdded};
 ghost use Rattle.abc_flow.specs.Walking.{AllReach, AreReady, IsOpen, IsReady, RefusedBy, landing, targets_at};
 ghost use Rattle.abc_flow.specs.declared.step.Refusal.TheVariants as refusals;
 
+use crate::copies::no_state;
 use crate::flow::Flow;
 use crate::states::States;
 use crate::step::{Met, Refusal};
 use crate::waiting::Waiting;
 use abc_tables::Instr;
 use abc_typing::{State, VerifyRule};
-use std::alloc::Global;
 
 /// A place gets a copy of a state, and work.
 pub(crate) fn raise(
     states: &mut States,
     work: &mut Waiting,
     place: u32,
-    alloc: Global,
     state: &State,
 ) -> Result<(), Refusal>
     requires { place < length states.old }
     ensures { MatchResult result (λ _. (states.new ≡ set states.old place (Some state.now)) × IsAdded place work.old work.new) (λ e. e ≡ refusals.NoMemory) }
 {
-    states.set(place, alloc, state)?;
+    states.set(place, state)?;
     work.add(place)?;
     Ok(())
 }
@@ -45,17 +44,19 @@ fn refuse<F: Flow>(flow: &F, place: u32, old: &State, next: &State) -> VerifyRul
     }
 }
 
-/// The rule that is broken at a place where two states of unequal shapes meet.
+/// Two states of unequal shapes meet at a place: why no typing is found there.
 #[cold]
 #[inline(never)]
-fn refused<F: Flow>(flow: &F, states: &States, place: u32, next: &State) -> VerifyRule
+fn refused<F: Flow>(flow: &F, states: &States, place: u32, next: &State) -> Refusal
     requires derived { Derivable (F.file flow.now) (F.routine flow.now) place next.now }
     requires unequal { Clashes (F.file flow.now) (F.routine flow.now) states.now place next.now }
-    ensures { Refutes (F.file flow.now) (F.routine flow.now) place result }
+    ensures { RefusedBy (F.file flow.now) (F.routine flow.now) result }
 {
-    match states.find(place) {
-        Some(old) => refuse(flow, place, old, next),
-        None => VerifyRule::Merge,
+    let mut old = no_state(flow.alloc());
+    match states.load(place, &mut old) {
+        Ok(true) => Refusal::Refused(place, refuse(flow, place, &old, next)),
+        Ok(false) => Refusal::Refused(place, VerifyRule::Merge),
+        Err(_) => Refusal::NoMemory,
     }
 }
 
@@ -83,7 +84,7 @@ pub(crate) fn merge_at<F: Flow>(
             Ok(())
         }
         Met::Same => Ok(()),
-        Met::Unequal => Err(Refusal::Refused(place, refused(flow, states, place, next))),
+        Met::Unequal => Err(refused(flow, states, place, next)),
     }
 }
 

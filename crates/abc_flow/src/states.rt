@@ -1,10 +1,11 @@
-ghost use Rattle.std.specs.Prelude.{◌≡◌, ◌<◌, ◌+◌, ◌≤◌, ◌^◌, [], Some, None, length, replicate, set, slice_get, vec_len, IfOk, MatchOption, OnOk};
+ghost use Rattle.std.specs.Prelude.{◌≡◌, ◌<◌, ◌+◌, [], Some, None, length, replicate, set, slice_get, IfOk, IsTrue, OnOk};
 ghost use Rattle.abc_program.specs.Linked.{IsLinkedFile};
 ghost use Rattle.abc_worklist.specs.Work.{at};
-ghost use Rattle.abc_flow.specs.Kept.{AreNumbered, Meets, known_at, numbered, placed};
+ghost use Rattle.abc_flow.specs.Kept.{AreNumbers, IsBelowKnown, IsLoaded, IsNumbered, Meets, known_at, numbered};
 
-use crate::copies::{copy_state, copy_state_over, no_state};
+use crate::copies::no_state;
 use crate::flow::Flow;
+use crate::kept::Kept;
 use crate::place_numbers::PlaceNumbers;
 use crate::step::{Merged, Met};
 use abc_base::NoMemory;
@@ -20,108 +21,118 @@ pub const MOST_VALUES: usize = 1 << 26;
 /// Where the states of a method have more values, the next one has no use of their memory.
 const MANY_VALUES: usize = 1 << 16;
 
-/// Where so many states are kept, room is made for many more at once.
-const MANY_STATES: usize = 1 << 12;
-
-/// Of so many places one has a state then, as far as there is room.
-const PLACES_A_STATE: usize = 4;
-
 /// What is known at the places of a method. Few places have a state, and only these take more than four bytes.
 #[derive(Drop)]
 pub struct States {
     /// For each place 0, or one more than the number of its state.
     numbers: PlaceNumbers,
-    /// The states by their numbers. Behind them may be states of another method, whose memory is used again.
-    known: Vec<State>,
-    /// How many states there are.
-    count: usize,
+    /// The states by their numbers.
+    known: Kept,
     /// How many values more may be kept.
     room: usize,
-    /// What was joined last, whose memory is used again.
+    /// What was known where a state came last, and what was joined of both. Their memory is used again.
+    loaded: State,
     joined: State,
 }
 
 impl Model for States {
     ghost use Rattle.std.specs.Prelude.{List, Option, length};
     ghost use Rattle.abc_typing.specs.declared.state.State.{State as AnyState};
-    ghost use Rattle.abc_flow.specs.Kept.{AreNumbered, known_at};
+    ghost use Rattle.abc_flow.specs.Kept.{AreNumbers, known_at};
 
     ghost Value = { List (Option AnyState) };
 
-    ghost view = { λ s. known_at s.numbers s.known.items };
+    ghost view = { λ s. known_at s.numbers s.known };
 
-    ghost invariant = { λ s. AreNumbered s.numbers s.count (length s.known.items) };
+    ghost invariant = { λ s. AreNumbers s.numbers (length s.known) };
 }
 
-/// The state of a number: the first has the number 1.
+/// The number of a state behind so many. Where there are too many, memory is said to have run out.
+#[inline]
+fn number_behind(count: usize) -> Result<u32, NoMemory>
+    ensures { IfOk result (λ n. n ≡ count + 1) }
+{
+    if count >= u32::MAX as usize {
+        return Err(NoMemory);
+    }
+    Ok(count as u32 + 1)
+}
+
+/// Copies the state of a number over another, and tells whether there is one: the first has the number 1.
 #[tactic(auto, using(crate::proofs::Numbers::numbered_none, crate::proofs::Numbers::numbered_next))]
-fn state_numbered(known: &[State], number: u32) -> Option<&State>
-    ensures { MatchOption result (numbered known.now number ≡ None) (λ s. numbered known.now number ≡ Some s.now) }
+fn load_numbered(known: &Kept, number: u32, state: &mut State) -> Result<bool, NoMemory>
+    ensures { IfOk result (IsNumbered known.now number state.new) }
 {
-    match number.checked_sub(1) {
-        Some(index) => known.get(index as usize),
-        None => None,
+    if number == 0 || number as usize > known.len() {
+        return Ok(false);
     }
+    known.load(number as usize - 1, state)?;
+    Ok(true)
 }
 
-/// A copy of a state is kept at a place of a list, over what stands there, or at the end.
-fn keep(known: &mut Vec<State>, place: usize, alloc: Global, state: &State) -> Result<(), NoMemory>
-    ensures long { vec_len known.old ≤ vec_len known.new }
-    ensures kept { OnOk result (known.new.items ≡ placed known.old.items place state.now) }
+/// Whether a state is seen to be at most that of a number.
+#[tactic(auto, using(crate::proofs::Numbers::numbered_next))]
+fn is_above_numbered<F: Flow>(flow: &F, known: &Kept, number: u32, state: &State) -> bool
+    requires { IsLinkedFile (F.file flow.now) }
+    ensures { IsTrue result → IsBelowKnown (F.file flow.now) (numbered known.now number) state.now }
 {
-    if place < known.len() {
-        copy_state_over(&mut known[place], state)?;
-        return Ok(());
+    if number == 0 || number as usize > known.len() {
+        return false;
     }
-    let copy = copy_state(alloc, state)?;
-    known.push(copy)?;
-    Ok(())
+    known.is_above(flow, number as usize - 1, state)
 }
 
-/// Makes room for many states of so many places, where the list has many and is full. By doubling it would be copied again and again,
-/// and the memory that it leaves serves nothing as large; room that no state takes is never touched. Where there is not so much
-/// memory, the list grows as ever.
-fn make_room(known: &mut Vec<State>, count: usize, places: usize)
-    ensures long { vec_len known.old ≤ vec_len known.new }
-    ensures same { known.new.items ≡ known.old.items }
+/// Forgets all states. Where they had many values, as the room says that they left, their memory is given back.
+fn forget(known: &mut Kept, room: usize)
+    ensures { known.new ≡ [] }
 {
-    if count >= MANY_STATES && count == known.capacity() {
-        let _ = known.reserve(places / PLACES_A_STATE);
-    }
-}
-
-/// Gives the memory of states back that had many values, as the room says that they left.
-fn release_many(known: &mut Vec<State>, room: usize) {
     if room < MOST_VALUES - MANY_VALUES {
+        known.release();
+    } else {
         known.clear();
     }
 }
 
-/// A place that has no state gets one.
-fn put_first(
+/// A place gets a state of its own, whatever it had before.
+fn put_new(
     numbers: &mut PlaceNumbers,
-    known: &mut Vec<State>,
-    count: &mut usize,
+    known: &mut Kept,
     room: &mut usize,
     place: usize,
-    alloc: Global,
     state: &State,
 ) -> Result<(), NoMemory>
-    requires numbers { AreNumbered numbers.old count.old (vec_len known.old) }
+    requires numbers { AreNumbers numbers.old (length known.old) }
     requires inside { place < length numbers.old }
-    requires none { slice_get numbers.old place ≡ Some 0 }
-    ensures numbers { AreNumbered numbers.new count.new (vec_len known.new) }
-    ensures known { OnOk result (known_at numbers.new known.new.items ≡ set (known_at numbers.old known.old.items) place (Some state.now)) }
+    ensures numbers { AreNumbers numbers.new (length known.new) }
+    ensures known { OnOk result (known_at numbers.new known.new ≡ set (known_at numbers.old known.old) place (Some state.now)) }
 {
     let left = room.checked_sub(state.stack.len()).ok_or(NoMemory)?;
     let left = left.checked_sub(state.scopes.len()).ok_or(NoMemory)?;
     *room = left.checked_sub(state.locals.len()).ok_or(NoMemory)?;
-    make_room(known, *count, numbers.len());
-    keep(known, *count, alloc, state)?;
-    let number = *count + 1;
-    numbers.put(place, number as u32)?;
-    *count = number;
+    let number = number_behind(known.len())?;
+    known.push(state, numbers.len())?;
+    numbers.put(place, number)?;
     Ok(())
+}
+
+/// A place that has the state of an index gets another. Mostly that has as many values, and takes its place.
+fn put_again(
+    numbers: &mut PlaceNumbers,
+    known: &mut Kept,
+    room: &mut usize,
+    place: usize,
+    index: usize,
+    state: &State,
+) -> Result<(), NoMemory>
+    requires numbers { AreNumbers numbers.old (length known.old) }
+    requires has { slice_get numbers.old place ≡ Some (index + 1) }
+    ensures numbers { AreNumbers numbers.new (length known.new) }
+    ensures known { OnOk result (known_at numbers.new known.new ≡ set (known_at numbers.old known.old) place (Some state.now)) }
+{
+    if known.put(index, state) {
+        return Ok(());
+    }
+    put_new(numbers, known, room, place, state)
 }
 
 impl States {
@@ -131,55 +142,68 @@ impl States {
     {
         States {
             numbers: PlaceNumbers::new(alloc),
-            known: Vec::new(alloc),
-            count: 0,
+            known: Kept::new(alloc),
             room: MOST_VALUES,
+            loaded: no_state(alloc),
             joined: no_state(alloc),
         }
     }
 
     /// Forgets all, for so many places.
     pub(crate) fn renew(&mut self, count: usize)
-        requires { count < 2 ^ 32 }
         ensures { self.new ≡ replicate count None }
     {
         self.numbers.renew(count);
-        self.count = 0;
-        release_many(&mut self.known, self.room);
+        forget(&mut self.known, self.room);
         self.room = MOST_VALUES;
     }
 
-    /// The state at a place, or `None` where none is known.
-    pub(crate) fn find(&self, place: u32) -> Option<&State>
-        ensures { MatchOption result (at self.now place ≡ None) (λ s. slice_get self.now place ≡ Some (Some s.now)) }
+    /// Copies the state at a place over another, whose memory is used again, and tells whether one is known there.
+    pub(crate) fn load(&self, place: u32, state: &mut State) -> Result<bool, NoMemory>
+        ensures { IfOk result (IsLoaded self.now place state.new) }
     {
         match self.numbers.find(place as usize) {
-            Some(number) => state_numbered(self.known.as_slice(), number),
-            None => None,
+            Some(number) => load_numbered(&self.known, number, state),
+            None => Ok(false),
+        }
+    }
+
+    /// Whether a state is seen to be at most what is known at a place.
+    pub(crate) fn is_above<F: Flow>(&self, flow: &F, place: u32, state: &State) -> bool
+        requires { IsLinkedFile (F.file flow.now) }
+        ensures { IsTrue result → IsBelowKnown (F.file flow.now) (at self.now place) state.now }
+    {
+        match self.numbers.find(place as usize) {
+            Some(number) => is_above_numbered(flow, &self.known, number, state),
+            None => false,
         }
     }
 
     /// A place gets a copy of a state.
     #[tactic(auto, using(crate::proofs::Numbers::inside_numbers))]
-    pub(crate) fn set(&mut self, place: u32, alloc: Global, state: &State) -> Result<(), NoMemory>
+    pub(crate) fn set(&mut self, place: u32, state: &State) -> Result<(), NoMemory>
         requires { place < length self.old }
         ensures { OnOk result (self.new ≡ set self.old place (Some state.now)) }
     {
         let place = place as usize;
         let number = self.numbers.at(place);
         if number == 0 {
-            return put_first(
+            return put_new(
                 &mut self.numbers,
                 &mut self.known,
-                &mut self.count,
                 &mut self.room,
                 place,
-                alloc,
                 state,
             );
         }
-        keep(&mut self.known, number as usize - 1, alloc, state)?;
-        Ok(())
+        put_again(
+            &mut self.numbers,
+            &mut self.known,
+            &mut self.room,
+            place,
+            number as usize - 1,
+            state,
+        )
     }
 
     /// A state flows to a place.
@@ -197,22 +221,31 @@ impl States {
         let place = place as usize;
         let number = self.numbers.at(place);
         if number == 0 {
-            put_first(
+            put_new(
                 &mut self.numbers,
                 &mut self.known,
-                &mut self.count,
                 &mut self.room,
                 place,
-                flow.alloc(),
                 next,
             )?;
             return Ok(Met::First);
         }
         let index = number as usize - 1;
-        match flow.merge(&self.known[index], next, &mut self.joined)? {
+        if self.known.is_above(flow, index, next) {
+            return Ok(Met::Same);
+        }
+        self.known.load(index, &mut self.loaded)?;
+        match flow.merge(&self.loaded, next, &mut self.joined)? {
             Merged::Same => Ok(Met::Same),
             Merged::Joined => {
-                keep(&mut self.known, index, flow.alloc(), &self.joined)?;
+                put_again(
+                    &mut self.numbers,
+                    &mut self.known,
+                    &mut self.room,
+                    place,
+                    index,
+                    &self.joined,
+                )?;
                 Ok(Met::Joined)
             }
             Merged::Unequal => Ok(Met::Unequal),

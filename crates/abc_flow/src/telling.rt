@@ -42,10 +42,14 @@ fn raised<F: Flow>(
     requires { IsLinkedFile (F.file flow.now) }
     ensures { IfOk result (Raises (F.file flow.now) (at told.now node) seen.now) }
 {
-    match told.find(node) {
-        Some(old) => raised_above(flow, old, seen),
-        None => Ok(Some(copy_state(flow.alloc(), seen)?)),
+    if told.is_above(flow, node, seen) {
+        return Ok(None);
     }
+    let mut old = no_state(flow.alloc());
+    if told.load(node, &mut old)? {
+        return raised_above(flow, &old, seen);
+    }
+    Ok(Some(copy_state(flow.alloc(), seen)?))
 }
 
 /// Leaves nothing on a state's stack but what is caught, and no scopes.
@@ -147,7 +151,7 @@ fn tell_more<F: Flow>(
 {
     let mut caught = caught;
     catch_all(flow, stabs, states, work, &mut caught, node)?;
-    told.set(node, flow.alloc(), &caught)?;
+    told.set(node, &caught)?;
     Ok(())
 }
 

@@ -53,12 +53,16 @@ impl Waiting {
     }
 
     /// Adds a place. Mostly one that waits already is not added again.
-    #[tactic(auto, using(crate::proofs::Waits::there, crate::proofs::Waits::inserted))]
+    #[tactic(auto, using(crate::proofs::Waits::there, crate::proofs::Waits::inserted, crate::proofs::Waits::added_last))]
     pub(crate) fn add(&mut self, place: u32) -> Result<(), NoMemory>
         ensures { OnOk result (IsAdded place self.old self.new) }
     {
         let rank = rank_of(self.places.as_slice(), place);
         if rank > 0 && self.places[rank - 1] == place {
+            return Ok(());
+        }
+        if rank == self.places.len() {
+            self.places.push(place)?;
             return Ok(());
         }
         self.places.insert(rank, place)?;

@@ -7,7 +7,7 @@ ghost use Rattle.abc_flow.specs.Handled.{IsCoverAt};
 ghost use Rattle.abc_flow.specs.Telling.{AreKept, IsHandled};
 ghost use Rattle.abc_flow.specs.Walking.{AllReach, AreHeads, AreReady, ArrivesAt, HasPaced, HasTurned, HasWalked, IsOpen, IsPending, IsSeenFirst, MayGoOn, Passed, RefusedBy, is_head, landing, targets_at};
 
-use crate::copies::{copy_over, copy_state_over, no_state};
+use crate::copies::{copy_over, no_state};
 use crate::flow::Flow;
 use crate::handled::{Cover, Handled, cover_at, handled_of};
 use crate::merging::{jump, merge_at, raise};
@@ -201,11 +201,9 @@ fn visit<F: Flow>(
     requires kept { AreKept (F.file flow.now) (F.routine flow.now) (F.heads flow.now) handled.now.all walker.old.told states.old }
     ensures { MatchResult result (λ _. HasTurned (F.file flow.now) (F.routine flow.now) (F.heads flow.now) states.old work.old states.new work.new × AreKept (F.file flow.now) (F.routine flow.now) (F.heads flow.now) handled.now.all walker.new.told states.new) (λ e. RefusedBy (F.file flow.now) (F.routine flow.now) e) }
 {
-    let known = match states.find(place) {
-        Some(known) => known,
-        None => return Ok(()),
-    };
-    copy_state_over(&mut walker.now, known)?;
+    if !states.load(place, &mut walker.now)? {
+        return Ok(());
+    }
     walk_from(
         flow,
         handled,
@@ -237,7 +235,7 @@ fn check_code<F: Flow>(
     states.renew(flow.len());
     work.clear();
     let entry = flow.entry()?;
-    raise(states, work, 0, flow.alloc(), &entry)?;
+    raise(states, work, 0, &entry)?;
     while let Some(place) = work.pop() {
         visit(flow, &handled, states, work, walker, place)?;
     }

@@ -1,1 +1,2 @@
 pub mod Logging
+pub use Rattle.abc_stepping.specs.Held

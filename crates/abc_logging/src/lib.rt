@@ -6,6 +6,6 @@ mod left;
 mod logging;
 
 pub use abc_scripts::Seen;
-pub use abc_stepping::{step, step_on};
+pub use abc_stepping::{Held, hold, step, step_on};
 pub use ending::{thrown_name, write_uncaught};
 pub use logging::step_logged;

@@ -1,6 +1,7 @@
 ghost use Rattle.std.specs.Prelude.{◌≡◌, ◌≢◌, ◌+◌, ◌<◌, ◌≤◌, true, Ok};
 ghost use Rattle.abc_base.specs.Faults.{Rose};
 ghost use Rattle.abc_calling.specs.Calls.{replies_for};
+ghost use Rattle.abc_logging.specs.Held.{IsHeld};
 ghost use Rattle.abc_logmeaning.specs.Logs.{steps_for};
 ghost use Rattle.abc_machine.specs.Ended.{HasRun, RunsAs};
 ghost use Rattle.abc_machine.specs.Replied.{HasReplied, RepliesAs, plain_value};
@@ -21,7 +22,7 @@ use abc_base::{Host, Sink};
 use abc_cells::Value;
 use abc_ends::Ended;
 use abc_link::Linked;
-use abc_logging::step_on;
+use abc_logging::{Held, hold, step_on};
 use abc_reached::Halt;
 use abc_states::{Left, State, Stop};
 
@@ -87,12 +88,13 @@ pub(crate) fn end_for(reply: Reply) -> End
 /// One step more, for which there is fuel. It answers whether the run goes on; else `halted` says why not. Before the step, as after
 /// it, nothing is left to be done.
 #[inline(always)]
-fn spend<K: Sink, H: Host>(
-    linked: &Linked,
+fn spend<'a, K: Sink, H: Host>(
+    linked: &'a Linked,
     s: &mut State,
     fuel: &mut u32,
     sink: &mut K,
     host: &H,
+    held: &mut Held<'a>,
     left: &mut Result<Left, Stop>,
     halted: &mut Result<(), Halt>,
 ) -> bool
@@ -100,18 +102,20 @@ fn spend<K: Sink, H: Host>(
     requires reached { IsReached linked.now out s.old }
     requires host { out.formulas ≡ H.formulas host.now }
     requires fuel { 0 < fuel.old }
+    requires held { IsHeld linked.now held.old }
     requires none { left.old ≡ Ok Goes }
     requires going { halted.old ≡ Ok tt }
     ensures spends { SpendsAs linked.now out s.old fuel.old (as_reply halted.new) s.new fuel.new (K.written sink.old) (K.written sink.new) }
     ensures later { K.faults sink.old ≤ K.faults sink.new }
     ensures cause { halted.new ≡ Err Fails → Rose (K.faults sink.old) (K.faults sink.new) }
     ensures taken { fuel.new + 1 ≡ fuel.old }
+    ensures held { IsHeld linked.now held.new }
     ensures none { left.new ≡ Ok Goes }
     ensures goes { result ≡ true → halted.new ≡ Ok tt }
     ensures limit { s.new.given.limit ≡ s.old.given.limit }
 {
     *fuel -= 1;
-    step_on(linked, s, sink, host, left, halted)
+    step_on(linked, s, sink, host, held, left, halted)
 }
 
 /// Steps, at most `fuel`, which are taken off it, until one ends.
@@ -133,10 +137,20 @@ pub(crate) fn take_steps<K: Sink, H: Host>(
     ensures few { fuel.new ≤ fuel.old }
     ensures limit { s.new.given.limit ≡ s.old.given.limit }
 {
+    let mut held = hold(linked, 0);
     let mut left = Ok(Left::Goes);
     let mut halted = Ok(());
     while *fuel > 0 {
-        if spend(linked, s, fuel, sink, host, &mut left, &mut halted) {
+        if spend(
+            linked,
+            s,
+            fuel,
+            sink,
+            host,
+            &mut held,
+            &mut left,
+            &mut halted,
+        ) {
             continue;
         }
         if let Err(halt) = halted {

@@ -5,4 +5,5 @@ pub mod Pushing
 pub mod Paired
 pub mod Keeping
 pub use Rattle.abc_states.proofs.Turning
+pub use Rattle.abc_states.proofs.AtOnce
 pub use Rattle.abc_states.proofs.Operated

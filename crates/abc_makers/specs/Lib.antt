@@ -3,6 +3,7 @@ pub mod Pairs
 pub use Rattle.abc_states.specs.Outer
 pub use Rattle.abc_states.specs.Standing
 pub use Rattle.abc_states.specs.Stops
+pub use Rattle.abc_states.specs.OfType
 pub use Rattle.abc_states.specs.WorldEntering as Entering
 pub use Rattle.abc_states.specs.WorldSetting as Setting
 pub use Rattle.abc_states.specs.World

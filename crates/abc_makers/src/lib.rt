@@ -9,7 +9,8 @@ mod prototypes;
 mod types;
 
 pub use abc_states::{
-    Place, State, Stop, coerce, int_value, local, operand, spell, string_at, uint_value,
+    Place, State, Stop, coerce, int_value, is_of_named, local, operand, spell, string_at,
+    uint_value,
 };
 pub use arms::{new_activation, new_array, new_catch, new_function};
 pub use making::{

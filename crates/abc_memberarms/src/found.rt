@@ -1,4 +1,4 @@
-ghost use Rattle.std.specs.Prelude.{◌≡◌, ◌+◌, ◌≤◌, ◌<◌, ◌^◌};
+ghost use Rattle.std.specs.Prelude.{◌≡◌, ◌+◌, ◌≤◌, ◌<◌, ◌^◌, true, Ok};
 ghost use Rattle.abc_cells.specs.declared.values.Value.TheVariants.{Obj};
 ghost use Rattle.abc_moves.specs.Ready.{IsReady};
 ghost use Rattle.abc_objects.specs.Values.{Exists};
@@ -8,7 +8,8 @@ ghost use Rattle.abc_states.specs.Outer.{Outer, setting, world};
 ghost use Rattle.abc_states.specs.Settling.{given_by, taken_by};
 ghost use Rattle.abc_states.specs.Standing.{IsSet};
 ghost use Rattle.abc_states.specs.Stops.{IsOpen};
-ghost use Rattle.abc_states.specs.Turns.{Leaves, Runs};
+ghost use Rattle.abc_states.specs.Turns.{IsDoneIf, Leaves, Runs};
+ghost use Rattle.abc_states.specs.declared.state.Left.TheVariants.{Goes};
 ghost use Rattle.abc_callarms.specs.Calls.{CanFinish};
 ghost use Rattle.abc_memberarms.specs.Members.{IsFoundThere, calls_found, calls_value_found, constructs_found, constructs_getter, constructs_value, enters_found, reads_found, reads_value};
 
@@ -16,11 +17,11 @@ use crate::values::{value_found, value_of};
 use abc_base::Fault;
 use abc_callarms::{call, make, waiting};
 use abc_cells::{ObjId, Value};
-use abc_entering::{enter_on_object, enter_owned};
+use abc_entering::{enter_owned, enters_on_object};
 use abc_link::Linked;
 use abc_lookup::Found;
 use abc_stacks::Wait;
-use abc_states::{How, Left, State, Stop, settle};
+use abc_states::{How, Left, State, Stop, goes, settle};
 
 /// Enters a method of an owner on an object, with so many arguments. The object is one, since the method was found on it.
 #[inline(always)]
@@ -111,30 +112,55 @@ fn call_method(
     Ok(Left::Goes)
 }
 
-/// Enters a method of an owner on an object, with so many arguments, in line.
+/// Enters a method of an owner on an object, with so many arguments, where nothing has to be made for it: whether it is done; else
+/// nothing is.
 #[inline(always)]
-fn enter_object(
+fn enters_object(
     linked: &Linked,
     s: &mut State,
     method: u32,
     o: ObjId,
     count: u32,
     how: How,
-) -> Result<(), Stop>
+) -> bool
+    ghost out: { Outer }
+    requires set { IsSet linked.now s.old }
+    requires ready { IsReady (taken_by how) (given_by how) s.old.frames }
+    requires free { IsOpen (enters_found (setting linked.now out) method (Obj o) count how (newest s.old.frames) (world s.old out)) }
+    ensures { IsDoneIf result linked.now out (enters_found (setting linked.now out) method (Obj o) count how (newest s.old.frames)) s.old s.new }
+{
+    let (taken, wait) = waiting(how);
+    enters_on_object(linked, s, method, o, count, taken, wait)
+}
+
+/// Calls a method of an owner on an object, with so many arguments, for which something has to be made. It answers whether the frame goes
+/// on; else `left` says why not.
+#[inline(never)]
+fn enter_slowly(
+    linked: &Linked,
+    s: &mut State,
+    method: u32,
+    o: ObjId,
+    count: u32,
+    how: How,
+    left: &mut Result<Left, Stop>,
+) -> bool
     ghost out: { Outer }
     requires set { IsSet linked.now s.old }
     requires known { IsKnown linked.now s.old.given.limit }
     requires ready { IsReady (taken_by how) (given_by how) s.old.frames }
     requires count { count ≤ taken_by how }
     requires free { IsOpen (enters_found (setting linked.now out) method (Obj o) count how (newest s.old.frames) (world s.old out)) }
-    ensures runs { Runs linked.now out (enters_found (setting linked.now out) method (Obj o) count how (newest s.old.frames)) s.old result s.new }
+    requires none { left.old ≡ Ok Goes }
+    ensures leaves { Leaves linked.now out (enters_found (setting linked.now out) method (Obj o) count how (newest s.old.frames)) s.old left.new s.new }
+    ensures finishes { CanFinish linked.now left.new s.new }
+    ensures goes { result ≡ true → left.new ≡ Ok Goes }
     ensures limit { s.new.given.limit ≡ s.old.given.limit }
 {
-    let (taken, wait) = waiting(how);
-    enter_on_object(linked, s, method, o, count, taken, &wait)
+    goes(enter_on(linked, s, method, Value::Obj(o), count, how), left)
 }
 
-/// Calls a method of an owner on an object, with so many arguments, in line.
+/// Calls a method of an owner on an object, with so many arguments. It answers whether the frame goes on; else `left` says why not.
 #[inline(always)]
 pub fn call_object_method(
     linked: &Linked,
@@ -143,19 +169,24 @@ pub fn call_object_method(
     o: ObjId,
     count: u32,
     how: How,
-) -> Result<Left, Stop>
+    left: &mut Result<Left, Stop>,
+) -> bool
     ghost out: { Outer }
     requires set { IsSet linked.now s.old }
     requires known { IsKnown linked.now s.old.given.limit }
     requires ready { IsReady (taken_by how) (given_by how) s.old.frames }
     requires count { count ≤ taken_by how }
     requires free { IsOpen (enters_found (setting linked.now out) method (Obj o) count how (newest s.old.frames) (world s.old out)) }
-    ensures leaves { Leaves linked.now out (enters_found (setting linked.now out) method (Obj o) count how (newest s.old.frames)) s.old result s.new }
-    ensures finishes { CanFinish linked.now result s.new }
+    requires none { left.old ≡ Ok Goes }
+    ensures leaves { Leaves linked.now out (enters_found (setting linked.now out) method (Obj o) count how (newest s.old.frames)) s.old left.new s.new }
+    ensures finishes { CanFinish linked.now left.new s.new }
+    ensures goes { result ≡ true → left.new ≡ Ok Goes }
     ensures limit { s.new.given.limit ≡ s.old.given.limit }
 {
-    enter_object(linked, s, method, o, count, how)?;
-    Ok(Left::Goes)
+    if enters_object(linked, s, method, o, count, how) {
+        return true;
+    }
+    enter_slowly(linked, s, method, o, count, how, left)
 }
 
 /// Calls the value that was found, with so many arguments.

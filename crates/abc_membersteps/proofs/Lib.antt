@@ -1,3 +1,3 @@
 pub mod Making
 pub mod MemberOps
-pub use Rattle.abc_propertyarms.proofs.AtOnce
+pub use Rattle.abc_propertyarms.proofs.CallarmsFinishing

@@ -1,7 +1,6 @@
 -- What the instructions on properties, calls and `new` do, by their opcodes.
 use Rattle.std.proofs.Common.{◌≡◌, ℕ, ◌+◌, ◌≤◌, [], ◌∷◌, length, Bool, true, false, refl, sym, ap, ◌∙◌, subst, arith}
-use Rattle.abc_propertyarms.proofs.AtOnce.{done_as}
-use Rattle.abc_propertyarms.specs.AtOnce.{IsDoneIf}
+use Rattle.abc_states.proofs.AtOnce.{done_as}
 use Rattle.abc_propertyarms.specs.CallarmsCalls.{calls_value, makes_value}
 use Rattle.abc_propertyarms.specs.MemberarmsMembers.{calls_named, constructs_named, constructs_of, gets_named, parts_at, sets_named}
 use Rattle.abc_propertyarms.specs.Named.{form_at, named_here, parts_for}
@@ -19,7 +18,7 @@ use Rattle.abc_states.specs.ActsNames.{name_of}
 use Rattle.abc_states.specs.ActsTable.{act_of, acts}
 use Rattle.abc_states.specs.Operands.{operand_at}
 use Rattle.abc_states.specs.Outer.{Outer, setting, world}
-use Rattle.abc_states.specs.Turns.{Turned, turned}
+use Rattle.abc_states.specs.Turns.{IsDoneIf, Turned, turned}
 use Rattle.abc_states.specs.WorldMaking.{new}
 use Rattle.abc_states.specs.WorldMembers.{reads}
 use Rattle.abc_states.specs.World.{Run, and_then, ◌>>=◌}

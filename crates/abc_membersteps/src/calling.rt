@@ -1,4 +1,4 @@
-ghost use Rattle.std.specs.Prelude.{◌≡◌, true};
+ghost use Rattle.std.specs.Prelude.{◌≡◌, true, Ok};
 ghost use Rattle.abc_propertyarms.specs.CallarmsCalls.{CanFinish};
 ghost use Rattle.abc_propertyarms.specs.EnteringArguments.{IsKnown};
 ghost use Rattle.abc_taking.specs.PlainstepsHere.{act_here};
@@ -6,6 +6,7 @@ ghost use Rattle.abc_taking.specs.PlainstepsReady.{CanRun};
 ghost use Rattle.abc_stacks.specs.Frame.{newest};
 ghost use Rattle.abc_states.specs.Outer.{Outer, setting};
 ghost use Rattle.abc_states.specs.Turns.{Leaves};
+ghost use Rattle.abc_states.specs.declared.state.Left.TheVariants.{Goes};
 ghost use Rattle.abc_tables.specs.Opcodes.{is_in};
 ghost use Rattle.abc_tables.specs.declared.code.Instr.TheVariants.{One, Two};
 ghost use Rattle.abc_membersteps.specs.Groups.{property_call_ops};
@@ -26,26 +27,30 @@ pub fn run_call_value(linked: &Linked, s: &mut State, count: u32) -> Result<Left
     call_value(linked, s, count)
 }
 
-/// What is found by a name is called, with so many arguments.
+/// What is found by a name is called, with so many arguments. It answers whether the frame goes on; else `left` says why not.
+#[inline(always)]
 pub fn run_property_call(
     linked: &Linked,
     s: &mut State,
     op: u8,
     n: u32,
     count: u32,
-) -> Result<Left, Stop>
+    left: &mut Result<Left, Stop>,
+) -> bool
     ghost out: { Outer }
     requires run { CanRun linked.now out s.old (Two op n count) }
     requires known { IsKnown linked.now s.old.given.limit }
     requires among { is_in op property_call_ops ≡ true }
-    ensures leaves { Leaves linked.now out (act_here (setting linked.now out) (newest s.old.frames) (Two op n count)) s.old result s.new }
-    ensures finishes { CanFinish linked.now result s.new }
+    requires none { left.old ≡ Ok Goes }
+    ensures leaves { Leaves linked.now out (act_here (setting linked.now out) (newest s.old.frames) (Two op n count)) s.old left.new s.new }
+    ensures finishes { CanFinish linked.now left.new s.new }
+    ensures goes { result ≡ true → left.new ≡ Ok Goes }
     ensures limit { s.new.given.limit ≡ s.old.given.limit }
 {
     match op {
-        0x46 => call_property(linked, s, n, count, false, false),
-        0x4C => call_property(linked, s, n, count, true, false),
-        0x4F => call_property(linked, s, n, count, false, true),
+        0x46 => call_property(linked, s, n, count, false, false, left),
+        0x4C => call_property(linked, s, n, count, true, false, left),
+        0x4F => call_property(linked, s, n, count, false, true, left),
         _ => unreachable!(),
     }
 }

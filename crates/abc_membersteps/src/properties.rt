@@ -1,11 +1,10 @@
 ghost use Rattle.std.specs.Prelude.{◌≡◌, true};
-ghost use Rattle.abc_propertyarms.specs.AtOnce.{IsDoneIf};
 ghost use Rattle.abc_propertyarms.specs.EnteringArguments.{IsKnown};
 ghost use Rattle.abc_taking.specs.PlainstepsHere.{act_here};
 ghost use Rattle.abc_taking.specs.PlainstepsReady.{CanRun};
 ghost use Rattle.abc_stacks.specs.Frame.{newest};
 ghost use Rattle.abc_states.specs.Outer.{Outer, setting};
-ghost use Rattle.abc_states.specs.Turns.{Runs};
+ghost use Rattle.abc_states.specs.Turns.{IsDoneIf, Runs};
 ghost use Rattle.abc_tables.specs.Opcodes.{is_in};
 ghost use Rattle.abc_tables.specs.declared.code.Instr.TheVariants.{One};
 ghost use Rattle.abc_membersteps.specs.Groups.{property_ops};

@@ -47,7 +47,10 @@ pub fn push(frames: &mut Frames, v: Value)
     ensures { frames.new ≡ with_newest (next_with (v ∷ [])) frames.old }
 {
     let place = frames.place();
-    frames.push(v);
+    match v {
+        Value::Num(x) => frames.push(Value::Num(x)),
+        _ => frames.push(v),
+    }
     frames.go(place + 1);
 }
 
@@ -107,8 +110,13 @@ pub fn get_local(frames: &mut Frames, n: u32)
     requires local { n < length (newest frames.old).locals }
     ensures { (v : Value) → slice_get (newest frames.old).locals n ≡ Some v → frames.new ≡ with_newest (next_with (v ∷ [])) frames.old }
 {
-    let v = frames.local(n);
-    push(frames, v);
+    match frames.local(n) {
+        Value::Num(x) => push(frames, Value::Num(x)),
+        _ => {
+            let v = frames.local(n);
+            push(frames, v);
+        }
+    }
 }
 
 /// Takes the top operand into a local.
@@ -119,8 +127,16 @@ pub fn set_local(frames: &mut Frames, n: u32)
     ensures { frames.new ≡ with_newest (stored n) frames.old }
 {
     let place = frames.place();
-    let v = frames.pop();
-    frames.set_local(n, v);
+    match frames.operand(0) {
+        Value::Num(x) => {
+            frames.drop_operands(1);
+            frames.set_local(n, Value::Num(x));
+        }
+        _ => {
+            let v = frames.pop();
+            frames.set_local(n, v);
+        }
+    }
     frames.go(place + 1);
 }
 
@@ -144,6 +160,9 @@ pub fn finish(frames: &mut Frames, taken: u32, v: Value)
 {
     let place = frames.place();
     frames.drop_operands(taken);
-    frames.push(v);
+    match v {
+        Value::Num(x) => frames.push(Value::Num(x)),
+        _ => frames.push(v),
+    }
     frames.go(place + 1);
 }

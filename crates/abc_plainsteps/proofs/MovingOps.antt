@@ -1,10 +1,11 @@
 -- What plain instructions that move values do, by their opcodes.
-use Rattle.std.proofs.Common.{◌-◌, ◌<◌, [], ◌∷◌, length, take, true, false, refl}
+use Rattle.std.proofs.Common.{◌≡◌, ◌-◌, ◌<◌, [], ◌∷◌, length, take, true, false, refl, sym, subst}
 use Rattle.std.proofs.lemmas.Bool.{ltb-true}
 use Rattle.abc_states.specs.ActsAt.{goes, next, pushed}
 use Rattle.abc_states.specs.ActsSimple.{returns, scoped}
 use Rattle.abc_states.specs.ActsTable.{act_of, acts}
 use Rattle.abc_base.specs.declared.names.Fault.TheVariants as faults
+use Rattle.abc_cells.specs.declared.values.Value.{Value}
 use Rattle.abc_cells.specs.declared.values.Value.TheVariants.{Null, Undefined, Bool as Truth}
 use Rattle.abc_plainsteps.proofs.Armed.{armed, none_taken, one_taken, two_taken}
 use Rattle.abc_plainsteps.proofs.Doing.{Does, scopes_fit}
@@ -115,3 +116,7 @@ op_47 l out s can = let a = armed l out s (Plain 0x47) _ _ 0 0 [] can refl refl 
 pub op_48 : (l : LinkedFile) (out : Outer) (s : State) → CanRun l out s (Plain 0x48) → Does l out s (Plain 0x48) 1 0 (returns (setting l out) (newest s.frames) (operand_at 0 (newest s.frames)))
 unfolding row_at table act_of acts
 op_48 l out s can = let a = armed l out s (Plain 0x48) _ _ 1 0 ((operand_at 0 (newest s.frames)) ∷ []) can refl refl (one_taken _ _ _ needed.Value refl refl tt) refl in record { ready = a.ready; does = a.does }
+
+-- what returns is the operand that was read
+pub returned : (l : LinkedFile) (out : Outer) (s : State) (v : Value) → CanRun l out s (Plain 0x48) → v ≡ operand_at 0 (newest s.frames) → Does l out s (Plain 0x48) 1 0 (returns (setting l out) (newest s.frames) v)
+returned l out s v can e = subst (λ (x : Value). Does l out s (Plain 0x48) 1 0 (returns (setting l out) (newest s.frames) x)) (sym e) (op_48 l out s can)

@@ -1,4 +1,5 @@
-ghost use Rattle.std.specs.Prelude.{◌≡◌, ◌<◌, length, true};
+ghost use Rattle.std.specs.Prelude.{◌≡◌, ◌<◌, length, true, false};
+ghost use Rattle.abc_states.specs.ActsAt.{Returns};
 ghost use Rattle.abc_states.specs.ActsSimple.{returns};
 ghost use Rattle.abc_cells.specs.declared.values.Value.{Value};
 ghost use Rattle.abc_objects.specs.Stands.{StandsOver};
@@ -11,12 +12,13 @@ ghost use Rattle.abc_stacks.specs.Frame.{newest};
 ghost use Rattle.abc_states.specs.Outer.{Outer, setting, world};
 ghost use Rattle.abc_states.specs.Stops.{IsOpen};
 ghost use Rattle.abc_states.specs.Turns.{Leaves};
+ghost use Rattle.abc_states.specs.World.{Went};
 ghost use Rattle.abc_tables.specs.Opcodes.{is_in};
 ghost use Rattle.abc_tables.specs.declared.code.Instr.TheVariants.{Plain};
 
 use abc_cells::Value;
 use abc_link::Linked;
-use abc_states::{Left, State, Stop, coerce, operand};
+use abc_states::{Left, State, Stop, coerce, is_of_named, operand};
 
 /// What returns is coerced to the type that the method returns, in the frame that returns it.
 #[inline(always)]
@@ -57,5 +59,67 @@ pub fn run_return(linked: &Linked, s: &mut State, op: u8) -> Result<Left, Stop>
             return_value(linked, s, v)
         }
         _ => unreachable!(),
+    }
+}
+
+/// Whether the newest frame's method returns a value as it stands, by its type.
+#[inline(always)]
+fn returns_whole(linked: &Linked, s: &State, v: Value) -> bool
+    ghost out: { Outer }
+    requires { 0 < length s.now.frames.living }
+    ensures { result ≡ true → returns (setting linked.now out) (newest s.now.frames) v (world s.now out) ≡ Went (world s.now out) (Returns v) }
+{
+    match linked.abc().methods.find(s.frames.method() as usize) {
+        Some(method) => is_of_named(linked, method.ret, v),
+        None => false,
+    }
+}
+
+/// A value is returned, where the newest frame's method returns it as it stands: whether it is done; then that is put into `left`, else
+/// nothing is.
+#[inline(always)]
+fn returns_kept(linked: &Linked, s: &State, v: Value, left: &mut Result<Left, Stop>) -> bool
+    ghost out: { Outer }
+    requires { 0 < length s.now.frames.living }
+    ensures leaves { result ≡ true → Leaves linked.now out (returns (setting linked.now out) (newest s.now.frames) v) s.now left.new s.now }
+    ensures returns { result ≡ true → IsReturned left.new }
+    ensures undone { result ≡ false → left.new ≡ left.old }
+{
+    if !returns_whole(linked, s, v) {
+        return false;
+    }
+    *left = Ok(Left::Returns(v));
+    true
+}
+
+/// The same for the top operand, where it is a number.
+#[inline(always)]
+fn returns_number(linked: &Linked, s: &State, left: &mut Result<Left, Stop>) -> bool
+    ghost out: { Outer }
+    requires { CanRun linked.now out s.now (Plain 0x48) }
+    ensures leaves { result ≡ true → Leaves linked.now out (act_here (setting linked.now out) (newest s.now.frames) (Plain 0x48)) s.now left.new s.now }
+    ensures returns { result ≡ true → IsReturned left.new }
+    ensures undone { result ≡ false → left.new ≡ left.old }
+{
+    let v = operand(&s.frames, 0);
+    match v {
+        Value::Num(n) => returns_kept(linked, s, Value::Num(n), left),
+        _ => false,
+    }
+}
+
+/// `returnvalue` of a number that is returned as it stands: whether it is done; then that is put into `left`, else nothing is. (So no
+/// more of it is copied than the number.)
+#[inline(always)]
+pub fn returns_at_once(linked: &Linked, s: &State, op: u8, left: &mut Result<Left, Stop>) -> bool
+    ghost out: { Outer }
+    requires { CanRun linked.now out s.now (Plain op) }
+    ensures leaves { result ≡ true → Leaves linked.now out (act_here (setting linked.now out) (newest s.now.frames) (Plain op)) s.now left.new s.now }
+    ensures returns { result ≡ true → IsReturned left.new }
+    ensures undone { result ≡ false → left.new ≡ left.old }
+{
+    match op {
+        0x48 => returns_number(linked, s, left),
+        _ => false,
     }
 }

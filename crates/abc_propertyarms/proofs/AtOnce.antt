@@ -16,7 +16,6 @@ use Rattle.abc_memberarms.specs.Named.{form_at, parts_count, parts_for}
 use Rattle.abc_objects.specs.Values.{IsObject}
 use Rattle.abc_program.specs.declared.types.Owner.{Owner}
 use Rattle.abc_program.specs.Linked.{LinkedFile}
-use Rattle.abc_propertyarms.specs.AtOnce.{IsDoneIf}
 use Rattle.abc_search.specs.Candidates.{layout_at}
 use Rattle.abc_search.specs.ElementNames.{element_name}
 use Rattle.abc_search.specs.declared.found.Found.{Found}
@@ -41,20 +40,6 @@ use Rattle.abc_memberarms.specs.Members.{calls_named, enters_found, gets_named, 
 use Rattle.abc_memberarms.proofs.Cases.{calls_as, method_at, missing_written, public_kept, reads_as, writes_as}
 use Rattle.abc_memberarms.proofs.Searched.{property_first}
 use Rattle.abc_memberarms.proofs.Written.{dynamic_takes, own_written, property_written}
-
--- ---- an act may be said otherwise
-
-pub done_as : (b : Bool) (l : LinkedFile) (out : Outer) (a k : Run Act) (old new : State) → a (world old out) ≡ k (world old out) → IsDoneIf b l out k old new → IsDoneIf b l out a old new
-done_as true l out a k old new e h = (ap (turned (setting l out) old.frames) e ∙ h.0, h.1)
-done_as false l out a k old new e h = h
-
--- ---- whether it is done
-
-pub is_done : (b : Bool) (l : LinkedFile) (out : Outer) (act : Run Act) (old new : State) → IsDoneIf b l out act old new → b ≡ true → IsDoneIf true l out act old new
-is_done b l out act old new h e = subst (λ (x : Bool). IsDoneIf x l out act old new) e h
-
-pub not_done : (b : Bool) (l : LinkedFile) (out : Outer) (act : Run Act) (old new : State) → IsDoneIf b l out act old new → b ≡ false → new ≡ old
-not_done b l out act old new h e = subst (λ (x : Bool). IsDoneIf x l out act old new) e h
 
 -- ---- read
 

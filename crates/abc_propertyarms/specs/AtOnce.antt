@@ -1,4 +1,4 @@
--- What is done at once, or not at all; the element that a number names; and what becomes of the operands of a call.
+-- The element that a number names, and what becomes of the operands of a call.
 use Rattle.std.specs.Prelude.{◌≡◌, ℕ, ◌<◌, ◌≤◌, pos, length, Bool, true, false, Ok}
 use Rattle.abc_cells.specs.declared.values.ObjId.{ObjId}
 use Rattle.abc_cells.specs.declared.values.Value.{Value}
@@ -10,18 +10,8 @@ use Rattle.abc_program.specs.Linked.{LinkedFile}
 use Rattle.abc_search.specs.Candidates.{layout_at}
 use Rattle.abc_search.specs.Spaces.{holds_public}
 use Rattle.abc_search.specs.declared.name.Spaces.{Spaces}
-use Rattle.abc_states.specs.ActsAt.{Act}
-use Rattle.abc_states.specs.Outer.{Outer}
-use Rattle.abc_states.specs.Turns.{Runs}
-use Rattle.abc_states.specs.World.{Run}
 use Rattle.abc_states.specs.declared.state.How.{How}
 use Rattle.abc_states.specs.declared.state.How.TheVariants.{Drop, Push}
-use Rattle.abc_states.specs.declared.state.State.{State}
-
--- an act is done, and it goes on; or nothing is
-abbrev pub IsDoneIf : Bool → LinkedFile → Outer → Run Act → State → State → Type 0
-IsDoneIf true l out act old new = Runs l out act old (Ok tt) new × (new.given.limit ≡ old.given.limit)
-IsDoneIf false l out act old new = new ≡ old
 
 -- an array without traits has the element of a number, and names of these namespaces find what is public
 pub record TellsElement (l : LinkedFile) (h : Heap) (of : Spaces) (o : ObjId) (asked : Value) (k : ℕ) : Type 0 where

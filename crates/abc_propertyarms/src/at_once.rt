@@ -1,11 +1,10 @@
-ghost use Rattle.std.specs.Prelude.{◌≡◌, ◌+◌, ◌<◌, ◌^◌, Bool, Some, true};
+ghost use Rattle.std.specs.Prelude.{◌≡◌, ◌+◌, ◌<◌, ◌^◌, Bool, Some, true, Ok};
 ghost use Rattle.abc_heap.specs.Texts.{IsText};
 ghost use Rattle.abc_moves.specs.Ready.{IsReady};
 ghost use Rattle.abc_objects.specs.Stands.{StandsOver};
 ghost use Rattle.abc_objects.specs.Values.{Exists, IsObject};
 ghost use Rattle.abc_stacks.specs.Frame.{newest};
 ghost use Rattle.abc_cells.specs.declared.values.Value.TheVariants.{Obj};
-ghost use Rattle.abc_propertyarms.specs.AtOnce.{IsDoneIf};
 ghost use Rattle.abc_memberarms.specs.EnteringArguments.{IsKnown};
 ghost use Rattle.abc_memberarms.specs.CallarmsCalls.{CanFinish};
 ghost use Rattle.abc_memberarms.specs.Named.{form_at};
@@ -14,7 +13,8 @@ ghost use Rattle.abc_states.specs.Outer.{Outer, setting, world};
 ghost use Rattle.abc_states.specs.Settling.{given_by, taken_by};
 ghost use Rattle.abc_states.specs.Standing.{IsSet};
 ghost use Rattle.abc_states.specs.Stops.{IsOpen};
-ghost use Rattle.abc_states.specs.Turns.{Leaves};
+ghost use Rattle.abc_states.specs.Turns.{IsDoneIf, Leaves};
+ghost use Rattle.abc_states.specs.declared.state.Left.TheVariants.{Goes};
 ghost use Rattle.abc_states.specs.WorldMembers.{writes_to};
 ghost use Rattle.abc_states.specs.WorldSetting.{Whole};
 ghost use Rattle.abc_memberarms.specs.Members.{calls_named, gets_named, parts_at, puts_own, puts_top, sets_named};
@@ -228,7 +228,8 @@ pub fn sets_at_once(linked: &Linked, s: &mut State, name: u32, initial: bool) ->
     }
 }
 
-/// A call on an object, by a name of which no part comes at run time: an own method of its layout is entered.
+/// A call on an object, by a name of which no part comes at run time: an own method of its layout is entered. It answers
+/// whether the frame goes on; else `left` says why not.
 #[inline(always)]
 fn call_on_object(
     linked: &Linked,
@@ -239,7 +240,8 @@ fn call_on_object(
     count: u32,
     lexical: bool,
     how: How,
-) -> Result<Left, Stop>
+    left: &mut Result<Left, Stop>,
+) -> bool
     ghost out: { Outer }
     requires set { IsSet linked.now s.old }
     requires known { IsKnown linked.now s.old.given.limit }
@@ -251,13 +253,15 @@ fn call_on_object(
     requires holder { operand_at count (newest s.old.frames) ≡ Obj o }
     requires inside { IsObject s.old.arena o }
     requires free { IsOpen (calls_named (setting linked.now out) name count lexical how (newest s.old.frames) (world s.old out)) }
-    ensures leaves { Leaves linked.now out (calls_named (setting linked.now out) name count lexical how (newest s.old.frames)) s.old result s.new }
-    ensures finishes { CanFinish linked.now result s.new }
+    requires none { left.old ≡ Ok Goes }
+    ensures leaves { Leaves linked.now out (calls_named (setting linked.now out) name count lexical how (newest s.old.frames)) s.old left.new s.new }
+    ensures finishes { CanFinish linked.now left.new s.new }
+    ensures goes { result ≡ true → left.new ≡ Ok Goes }
     ensures limit { s.new.given.limit ≡ s.old.given.limit }
 {
     match first_method(linked, &s.arena, o, wanted) {
-        Some(method) => call_object_method(linked, s, method, o, count, how),
-        None => call_searching(linked, s, name, count, lexical, how),
+        Some(method) => call_object_method(linked, s, method, o, count, how, left),
+        None => call_searching(linked, s, name, count, lexical, how, left),
     }
 }
 
@@ -271,7 +275,8 @@ pub(crate) fn call_whole(
     count: u32,
     lexical: bool,
     how: How,
-) -> Result<Left, Stop>
+    left: &mut Result<Left, Stop>,
+) -> bool
     ghost out: { Outer }
     requires set { IsSet linked.now s.old }
     requires known { IsKnown linked.now s.old.given.limit }
@@ -281,13 +286,15 @@ pub(crate) fn call_whole(
     requires form { form_at (setting linked.now out) name ≡ Some (Whole wanted.now) }
     requires text { IsText linked.now.file.strings s.old.arena wanted.now.text }
     requires free { IsOpen (calls_named (setting linked.now out) name count lexical how (newest s.old.frames) (world s.old out)) }
-    ensures leaves { Leaves linked.now out (calls_named (setting linked.now out) name count lexical how (newest s.old.frames)) s.old result s.new }
-    ensures finishes { CanFinish linked.now result s.new }
+    requires none { left.old ≡ Ok Goes }
+    ensures leaves { Leaves linked.now out (calls_named (setting linked.now out) name count lexical how (newest s.old.frames)) s.old left.new s.new }
+    ensures finishes { CanFinish linked.now left.new s.new }
+    ensures goes { result ≡ true → left.new ≡ Ok Goes }
     ensures limit { s.new.given.limit ≡ s.old.given.limit }
 {
     let v = operand(&s.frames, count);
     match v {
-        Value::Obj(o) => call_on_object(linked, s, name, wanted, o, count, lexical, how),
-        _ => call_searching(linked, s, name, count, lexical, how),
+        Value::Obj(o) => call_on_object(linked, s, name, wanted, o, count, lexical, how, left),
+        _ => call_searching(linked, s, name, count, lexical, how, left),
     }
 }

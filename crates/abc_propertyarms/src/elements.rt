@@ -4,13 +4,14 @@ ghost use Rattle.abc_heap.specs.Heap.{elements_of};
 ghost use Rattle.abc_moves.specs.Ready.{IsReady};
 ghost use Rattle.abc_objects.specs.Stands.{StandsOver};
 ghost use Rattle.abc_objects.specs.Values.{Exists, IsObject};
-ghost use Rattle.abc_propertyarms.specs.AtOnce.{IsDoneIf, TellsElement};
+ghost use Rattle.abc_propertyarms.specs.AtOnce.{TellsElement};
 ghost use Rattle.abc_stacks.specs.Frame.{newest};
 ghost use Rattle.abc_memberarms.specs.Members.{gets_named, parts_at, sets_named};
 ghost use Rattle.abc_memberarms.specs.Named.{form_at};
 ghost use Rattle.abc_states.specs.Operands.{operand_at};
 ghost use Rattle.abc_states.specs.Outer.{Outer, setting};
 ghost use Rattle.abc_states.specs.Standing.{IsSet};
+ghost use Rattle.abc_states.specs.Turns.{IsDoneIf};
 ghost use Rattle.abc_states.specs.WorldSetting.{NoText};
 
 use abc_cells::{ObjId, Span, Value};

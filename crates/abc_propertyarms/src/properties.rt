@@ -1,4 +1,4 @@
-ghost use Rattle.std.specs.Prelude.{◌≡◌, ◌+◌, ◌<◌, ◌^◌};
+ghost use Rattle.std.specs.Prelude.{◌≡◌, ◌+◌, ◌<◌, ◌^◌, true, Ok};
 ghost use Rattle.abc_moves.specs.Ready.{IsReady};
 ghost use Rattle.abc_stacks.specs.Frame.{newest};
 ghost use Rattle.abc_propertyarms.specs.AtOnce.{how_for};
@@ -11,6 +11,7 @@ ghost use Rattle.abc_states.specs.declared.state.How.TheVariants.{Push};
 ghost use Rattle.abc_states.specs.Standing.{IsSet};
 ghost use Rattle.abc_states.specs.Stops.{IsOpen};
 ghost use Rattle.abc_states.specs.Turns.{Leaves, Runs};
+ghost use Rattle.abc_states.specs.declared.state.Left.TheVariants.{Goes};
 ghost use Rattle.abc_memberarms.specs.Members.{calls_named, constructs_named, parts_at};
 
 use crate::at_once::call_whole;
@@ -49,7 +50,7 @@ fn how_of(drops: bool, taken: u32) -> How
 }
 
 /// `callproperty`, `callpropvoid`, which drops what comes, and `callproplex`, which has no receiver: the object is under the runtime
-/// parts of the name, and these under the arguments.
+/// parts of the name, and these under the arguments. It answers whether the frame goes on; else `left` says why not.
 #[inline(always)]
 pub fn call_property(
     linked: &Linked,
@@ -58,25 +59,28 @@ pub fn call_property(
     count: u32,
     lexical: bool,
     drops: bool,
-) -> Result<Left, Stop>
+    left: &mut Result<Left, Stop>,
+) -> bool
     ghost out: { Outer }
     requires set { IsSet linked.now s.old }
     requires known { IsKnown linked.now s.old.given.limit }
     requires ready { IsReady (count + parts_at (setting linked.now out) name + 1) (given_by (how_for drops (count + parts_at (setting linked.now out) name + 1))) s.old.frames }
     requires count { count < 2 ^ 30 }
     requires free { IsOpen (calls_named (setting linked.now out) name count lexical (how_for drops (count + parts_at (setting linked.now out) name + 1)) (newest s.old.frames) (world s.old out)) }
-    ensures leaves { Leaves linked.now out (calls_named (setting linked.now out) name count lexical (how_for drops (count + parts_at (setting linked.now out) name + 1)) (newest s.old.frames)) s.old result s.new }
-    ensures finishes { CanFinish linked.now result s.new }
+    requires none { left.old ≡ Ok Goes }
+    ensures leaves { Leaves linked.now out (calls_named (setting linked.now out) name count lexical (how_for drops (count + parts_at (setting linked.now out) name + 1)) (newest s.old.frames)) s.old left.new s.new }
+    ensures finishes { CanFinish linked.now left.new s.new }
+    ensures goes { result ≡ true → left.new ≡ Ok Goes }
     ensures limit { s.new.given.limit ≡ s.old.given.limit }
 {
     match whole_name(linked, name) {
         Some(wanted) => {
             let how = how_of(drops, count + 1);
-            call_whole(linked, s, name, &wanted, count, lexical, how)
+            call_whole(linked, s, name, &wanted, count, lexical, how, left)
         }
         None => {
             let how = how_of(drops, count + parts_of(linked, name) + 1);
-            call_searching(linked, s, name, count, lexical, how)
+            call_searching(linked, s, name, count, lexical, how, left)
         }
     }
 }

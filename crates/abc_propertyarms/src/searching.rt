@@ -1,4 +1,4 @@
-ghost use Rattle.std.specs.Prelude.{◌≡◌, ◌+◌, ◌<◌, ◌^◌};
+ghost use Rattle.std.specs.Prelude.{◌≡◌, ◌+◌, ◌<◌, ◌^◌, true, Ok};
 ghost use Rattle.abc_moves.specs.Ready.{IsReady};
 ghost use Rattle.abc_stacks.specs.Frame.{newest};
 ghost use Rattle.abc_memberarms.specs.EnteringArguments.{IsKnown};
@@ -8,12 +8,13 @@ ghost use Rattle.abc_states.specs.Settling.{given_by, taken_by};
 ghost use Rattle.abc_states.specs.Standing.{IsSet};
 ghost use Rattle.abc_states.specs.Stops.{IsOpen};
 ghost use Rattle.abc_states.specs.Turns.{Leaves, Runs};
+ghost use Rattle.abc_states.specs.declared.state.Left.TheVariants.{Goes};
 ghost use Rattle.abc_memberarms.specs.Members.{calls_named, gets_named, parts_at, receiver_of, sets_named};
 
 use abc_cells::Value;
 use abc_link::Linked;
 use abc_memberarms::{call_on, name_of, parts_of, read_on, write_on};
-use abc_states::{How, Left, State, Stop, operand};
+use abc_states::{How, Left, State, Stop, leaves, operand};
 
 /// `getproperty`: the object is under the runtime parts of the name.
 #[inline(never)]
@@ -57,9 +58,9 @@ fn receiver_for(v: Value, lexical: bool) -> Value
     if lexical { Value::Null } else { v }
 }
 
-/// The same as `call_property`, by a search.
-#[inline(never)]
-pub(crate) fn call_searching(
+/// What is found by a name is called, by a search.
+#[inline(always)]
+fn call_searched(
     linked: &Linked,
     s: &mut State,
     name: u32,
@@ -83,4 +84,31 @@ pub(crate) fn call_searching(
     let receiver = receiver_for(v, lexical);
     let wanted = name_of(linked, s, name, count)?;
     call_on(linked, s, v, receiver, &wanted, count, how)
+}
+
+/// The same as `call_property`, by a search: whether the frame goes on; else `left` says why not.
+#[inline(never)]
+pub(crate) fn call_searching(
+    linked: &Linked,
+    s: &mut State,
+    name: u32,
+    count: u32,
+    lexical: bool,
+    how: How,
+    left: &mut Result<Left, Stop>,
+) -> bool
+    ghost out: { Outer }
+    requires set { IsSet linked.now s.old }
+    requires known { IsKnown linked.now s.old.given.limit }
+    requires ready { IsReady (count + parts_at (setting linked.now out) name + 1) (given_by how) s.old.frames }
+    requires count { count < 2 ^ 30 }
+    requires how { taken_by how ≡ count + parts_at (setting linked.now out) name + 1 }
+    requires free { IsOpen (calls_named (setting linked.now out) name count lexical how (newest s.old.frames) (world s.old out)) }
+    requires none { left.old ≡ Ok Goes }
+    ensures leaves { Leaves linked.now out (calls_named (setting linked.now out) name count lexical how (newest s.old.frames)) s.old left.new s.new }
+    ensures finishes { CanFinish linked.now left.new s.new }
+    ensures goes { result ≡ true → left.new ≡ Ok Goes }
+    ensures limit { s.new.given.limit ≡ s.old.given.limit }
+{
+    leaves(call_searched(linked, s, name, count, lexical, how), left)
 }

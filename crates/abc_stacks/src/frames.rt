@@ -314,10 +314,12 @@ impl Frames {
         requires { 0 < length self.old.living }
         ensures { self.new ≡ left self.old }
     {
-        let below = self.below.pop();
+        let last = self.below.len() - 1;
+        let below = &self.below.as_slice()[last as usize];
         self.values.cut(below.values);
         self.scopes.cut(below.scopes);
         self.newest = below.head;
+        self.below.cut(last);
     }
 }
 

@@ -1,4 +1,6 @@
 pub mod Stops
+pub mod Answers
+pub mod OfType
 pub mod Operands
 pub mod Outer
 pub mod Settling

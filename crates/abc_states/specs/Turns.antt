@@ -1,6 +1,6 @@
 -- What a step makes of the frames, and that code does the same. A throw goes on with a frame's method, place and locals alone,
 -- so where code stops, the operands and scopes of the newest frame don't matter.
-use Rattle.std.specs.Prelude.{◌≡◌, ℕ, [], ◌∷◌, Option, Some, None, Ok, Err}
+use Rattle.std.specs.Prelude.{◌≡◌, ℕ, [], ◌∷◌, Bool, true, false, Option, Some, None, Ok, Err}
 use Rattle.std.specs.declared.result.Result.{Result}
 use Rattle.abc_cells.specs.declared.values.Value.{Value}
 use Rattle.abc_cells.specs.declared.values.Value.TheVariants.{Undefined}
@@ -103,3 +103,8 @@ Runs l out act old result new = turned (setting l out) old.frames (act (world ol
 
 abbrev pub Leaves : LinkedFile → Outer → Run Act → State → Result Left Stop → State → Type 0
 Leaves l out act old result new = turned (setting l out) old.frames (act (world old out)) ≡ answered (setting l out) result (world new out) new.frames
+
+-- an act is done, and it goes on; or nothing is
+abbrev pub IsDoneIf : Bool → LinkedFile → Outer → Run Act → State → State → Type 0
+IsDoneIf true l out act old new = Runs l out act old (Ok tt) new × (new.given.limit ≡ old.given.limit)
+IsDoneIf false l out act old new = new ≡ old

@@ -3,6 +3,6 @@
 
 mod stepping;
 
-pub use abc_dispatch::run_newest;
+pub use abc_dispatch::{Held, hold, run_newest};
 pub use abc_finishing::{Halt, finish, start_last};
 pub use stepping::{step, step_on};

@@ -1,9 +1,10 @@
-ghost use Rattle.std.specs.Prelude.{◌≡◌, ◌≢◌, ◌<◌, ◌≤◌, ℕ, List, length, true, Err, Ok};
+ghost use Rattle.std.specs.Prelude.{◌≡◌, ◌≢◌, ◌<◌, ◌≤◌, ℕ, List, length, true, Err, Ok, MatchOption};
 ghost use Rattle.std.specs.declared.option.Option.{Option};
 ghost use Rattle.abc_base.specs.Faults.{Rose};
 ghost use Rattle.abc_callmeaning.specs.Calls.{returned};
 ghost use Rattle.abc_cells.specs.declared.values.Value.{Value};
 ghost use Rattle.abc_dispatch.specs.CallarmsCalls.{CanFinish};
+ghost use Rattle.abc_dispatch.specs.Held.{IsHeld};
 ghost use Rattle.abc_finishing.specs.EndsEnding.{IsSized};
 ghost use Rattle.abc_entering.specs.Arguments.{IsKnown};
 ghost use Rattle.abc_finishing.specs.Fairly.{CanStart, IsFairTurn};
@@ -14,7 +15,8 @@ ghost use Rattle.abc_states.specs.Turns.{answered};
 ghost use Rattle.abc_states.specs.declared.state.Left.TheVariants.{Goes};
 
 use abc_base::{Host, Sink};
-use abc_dispatch::run_newest;
+use abc_cells::Value;
+use abc_dispatch::{Held, hold, run_held};
 use abc_finishing::{Halt, finish, start_last};
 use abc_link::Linked;
 use abc_states::{Left, State, Stop};
@@ -26,6 +28,22 @@ fn goes_on(halted: &Result<(), Halt>) -> bool
     match halted {
         Ok(()) => true,
         Err(_) => false,
+    }
+}
+
+/// Whether a run goes on; else why not is put into `halted`.
+#[inline(always)]
+fn goes_with(done: Result<(), Halt>, halted: &mut Result<(), Halt>) -> bool
+    requires { halted.old ≡ Ok tt }
+    ensures put { halted.new ≡ done }
+    ensures goes { result ≡ true → halted.new ≡ Ok tt }
+{
+    match done {
+        Ok(()) => true,
+        Err(halt) => {
+            *halted = Err(halt);
+            false
+        }
     }
 }
 
@@ -45,10 +63,53 @@ fn start_over(linked: &Linked, s: &mut State, halted: &mut Result<(), Halt>) -> 
     goes_on(halted)
 }
 
-/// What an instruction left to be done is done, and then nothing is left. It answers whether the run goes on; else `halted` says
-/// why not.
+/// The number that is to be returned, if that is what is left to be done.
+#[inline(always)]
+fn number_left(left: &Result<Left, Stop>) -> Option<Value>
+    ensures { MatchOption result (Unit {0}) (λ v. left.now ≡ Ok (Left.Returns v)) }
+{
+    match left {
+        Ok(Left::Returns(Value::Num(n))) => Some(Value::Num(*n)),
+        _ => None,
+    }
+}
+
+/// The same as `finish_left`, where this is to be returned.
+#[inline(always)]
+fn finish_returned<K: Sink, H: Host>(
+    linked: &Linked,
+    s: &mut State,
+    sink: &mut K,
+    host: &H,
+    v: Value,
+    left: &mut Result<Left, Stop>,
+    halted: &mut Result<(), Halt>,
+) -> bool
+    ghost out: { Outer }
+    requires known { IsKnown linked.now s.old.given.limit }
+    requires scripts { 0 < length linked.now.file.scripts }
+    requires host { out.formulas ≡ H.formulas host.now }
+    requires finishes { CanFinish linked.now left.old s.old }
+    requires fair { IsFairTurn (setting linked.now out) (answered (setting linked.now out) left.old (world s.old out) s.old.frames) }
+    requires returns { left.old ≡ Ok (Left.Returns v) }
+    requires going { halted.old ≡ Ok tt }
+    ensures step { StepsIn (left_here linked.now out s.old left.old) out halted.new s.new (K.written sink.old) (K.written sink.new) }
+    ensures value { (v : Value) → halted.new ≡ Err (Returns v) → left.old ≡ Ok (Left.Returns v) }
+    ensures sized { halted.new ≢ Err Fails → IsSized (setting linked.now out) s.new.arena.limits s.new.frames }
+    ensures later { K.faults sink.old ≤ K.faults sink.new }
+    ensures cause { halted.new ≡ Err Fails → Rose (K.faults sink.old) (K.faults sink.new) }
+    ensures none { left.new ≡ Ok Goes }
+    ensures goes { result ≡ true → halted.new ≡ Ok tt }
+    ensures limit { s.new.given.limit ≡ s.old.given.limit }
+{
+    *left = Ok(Left::Goes);
+    let done = finish(linked, s, sink, host, Ok(Left::Returns(v)));
+    goes_with(done, halted)
+}
+
+/// The same as `finish_left`, whatever is left.
 #[inline(never)]
-fn finish_left<K: Sink, H: Host>(
+fn finish_any<K: Sink, H: Host>(
     linked: &Linked,
     s: &mut State,
     sink: &mut K,
@@ -77,13 +138,10 @@ fn finish_left<K: Sink, H: Host>(
     goes_on(halted)
 }
 
-/// One step: where no frame lives the last script is started, else the instruction of the newest frame is run. A line goes to the
-/// sink, and a formula is the host's. It answers whether the run goes on. Else `halted` is `Returns` where the last frame returned,
-/// and what, `Ends` where the run ends otherwise, and why, and `Fails` where the sink failed, after a front of the line; then nothing
-/// is told of the state. Before the step, as after it, nothing is left to be done. (Most steps go on, and most instructions leave
-/// nothing: so that they copy no answer it is written where it is kept.)
-#[inline(always)]
-pub fn step_on<K: Sink, H: Host>(
+/// What an instruction left to be done is done, and then nothing is left. It answers whether the run goes on; else `halted` says
+/// why not. (Most often a number is returned, of which no more is copied.)
+#[inline(never)]
+fn finish_left<K: Sink, H: Host>(
     linked: &Linked,
     s: &mut State,
     sink: &mut K,
@@ -92,12 +150,14 @@ pub fn step_on<K: Sink, H: Host>(
     halted: &mut Result<(), Halt>,
 ) -> bool
     ghost out: { Outer }
-    requires reached { IsReached linked.now out s.old }
+    requires known { IsKnown linked.now s.old.given.limit }
+    requires scripts { 0 < length linked.now.file.scripts }
     requires host { out.formulas ≡ H.formulas host.now }
-    requires none { left.old ≡ Ok Goes }
+    requires finishes { CanFinish linked.now left.old s.old }
+    requires fair { IsFairTurn (setting linked.now out) (answered (setting linked.now out) left.old (world s.old out) s.old.frames) }
     requires going { halted.old ≡ Ok tt }
-    ensures step { StepsAs linked.now out s.old halted.new s.new (K.written sink.old) (K.written sink.new) }
-    ensures value { (v : Value) → halted.new ≡ Err (Returns v) → returned (setting linked.now out) (world s.old out) s.old.frames.living ≡ v }
+    ensures step { StepsIn (left_here linked.now out s.old left.old) out halted.new s.new (K.written sink.old) (K.written sink.new) }
+    ensures value { (v : Value) → halted.new ≡ Err (Returns v) → left.old ≡ Ok (Left.Returns v) }
     ensures sized { halted.new ≢ Err Fails → IsSized (setting linked.now out) s.new.arena.limits s.new.frames }
     ensures later { K.faults sink.old ≤ K.faults sink.new }
     ensures cause { halted.new ≡ Err Fails → Rose (K.faults sink.old) (K.faults sink.new) }
@@ -105,10 +165,47 @@ pub fn step_on<K: Sink, H: Host>(
     ensures goes { result ≡ true → halted.new ≡ Ok tt }
     ensures limit { s.new.given.limit ≡ s.old.given.limit }
 {
+    match number_left(left) {
+        Some(v) => finish_returned(linked, s, sink, host, v, left, halted),
+        None => finish_any(linked, s, sink, host, left, halted),
+    }
+}
+
+/// One step: where no frame lives the last script is started, else the instruction of the newest frame is run. A line goes to the
+/// sink, and a formula is the host's. It answers whether the run goes on. Else `halted` is `Returns` where the last frame returned,
+/// and what, `Ends` where the run ends otherwise, and why, and `Fails` where the sink failed, after a front of the line; then nothing
+/// is told of the state. Before the step, as after it, nothing is left to be done. (Most steps go on, and most instructions leave
+/// nothing: so that they copy no answer it is written where it is kept.)
+#[inline(always)]
+pub fn step_on<'a, K: Sink, H: Host>(
+    linked: &'a Linked,
+    s: &mut State,
+    sink: &mut K,
+    host: &H,
+    held: &mut Held<'a>,
+    left: &mut Result<Left, Stop>,
+    halted: &mut Result<(), Halt>,
+) -> bool
+    ghost out: { Outer }
+    requires reached { IsReached linked.now out s.old }
+    requires host { out.formulas ≡ H.formulas host.now }
+    requires held { IsHeld linked.now held.old }
+    requires none { left.old ≡ Ok Goes }
+    requires going { halted.old ≡ Ok tt }
+    ensures step { StepsAs linked.now out s.old halted.new s.new (K.written sink.old) (K.written sink.new) }
+    ensures value { (v : Value) → halted.new ≡ Err (Returns v) → returned (setting linked.now out) (world s.old out) s.old.frames.living ≡ v }
+    ensures sized { halted.new ≢ Err Fails → IsSized (setting linked.now out) s.new.arena.limits s.new.frames }
+    ensures later { K.faults sink.old ≤ K.faults sink.new }
+    ensures cause { halted.new ≡ Err Fails → Rose (K.faults sink.old) (K.faults sink.new) }
+    ensures held { IsHeld linked.now held.new }
+    ensures none { left.new ≡ Ok Goes }
+    ensures goes { result ≡ true → halted.new ≡ Ok tt }
+    ensures limit { s.new.given.limit ≡ s.old.given.limit }
+{
     if s.frames.depth() == 0 {
         return start_over(linked, s, halted);
     }
-    if run_newest(linked, s, left) {
+    if run_held(linked, s, held, left) {
         return true;
     }
     finish_left(linked, s, sink, host, left, halted)
@@ -132,8 +229,9 @@ pub fn step<K: Sink, H: Host>(
     ensures cause { result ≡ Err Fails → Rose (K.faults sink.old) (K.faults sink.new) }
     ensures limit { s.new.given.limit ≡ s.old.given.limit }
 {
+    let mut held = hold(linked, 0);
     let mut left = Ok(Left::Goes);
     let mut halted = Ok(());
-    let _goes = step_on(linked, s, sink, host, &mut left, &mut halted);
+    let _goes = step_on(linked, s, sink, host, &mut held, &mut left, &mut halted);
     halted
 }

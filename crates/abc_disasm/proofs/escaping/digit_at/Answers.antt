@@ -1,4 +1,4 @@
-use Rattle.std.proofs.Common.{ℕ, List, get_or, ap, ◌∙◌, arith}
+use Rattle.std.proofs.Common.{ℕ, List, get_or, ap, ◌∙◌}
 use Rattle.abc_disasm.proofs.Tables.{digit_is}
 use Rattle.abc_disasm.proofs.escaping.digit_at.Goals as goal
 

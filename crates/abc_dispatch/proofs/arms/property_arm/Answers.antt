@@ -1,7 +1,8 @@
 use Rattle.std.proofs.Common.{◌∙◌, ap, subst, sym}
 use Rattle.std.specs.Prelude.{Ok}
-use Rattle.abc_dispatch.proofs.Led.{goes_finishes, runs_leaves}
-use Rattle.abc_membersteps.proofs.AtOnce.{is_done, not_done}
+use Rattle.abc_membersteps.proofs.CallarmsFinishing.{goes_finishes}
+use Rattle.abc_states.proofs.Told.{runs_leaves}
+use Rattle.abc_states.proofs.AtOnce.{is_done, not_done}
 use Rattle.abc_newsteps.specs.EnteringArguments.{IsKnown}
 use Rattle.abc_plainsteps.specs.Here.{act_here}
 use Rattle.abc_plainsteps.specs.Ready.{CanRun}

@@ -1,9 +1,17 @@
-use Rattle.abc_dispatch.proofs.Led.{returned_finishes, told_finishes, told_leaves}
+use Rattle.abc_dispatch.proofs.Led.{returned_finishes}
+use Rattle.abc_membersteps.proofs.CallarmsFinishing.{told_finishes}
+use Rattle.abc_states.proofs.Told.{told_leaves}
 use Rattle.abc_plainsteps.specs.Here.{act_here}
 use Rattle.abc_stacks.specs.Frame.{newest}
 use Rattle.abc_states.specs.Outer.{setting}
 use Rattle.abc_tables.specs.declared.code.Instr.TheVariants.{Plain}
 use Rattle.abc_dispatch.proofs.arms.return_arm.Goals as goal
+
+pub returns-then-returns_at_once-clause-leaves : goal.returns-then-returns_at_once-clause-leaves
+returns-then-returns_at_once-clause-leaves g c = c.returns_at_once.ensures.leaves c.if-returns_at_once.true
+
+pub returns-then-returns_at_once-clause-finishes : goal.returns-then-returns_at_once-clause-finishes
+returns-then-returns_at_once-clause-finishes g c = returned_finishes c.args.linked.now c.returns_at_once.new.left c.args.s.now (c.returns_at_once.ensures.returns c.if-returns_at_once.true)
 
 pub returns-clause-leaves : goal.returns-clause-leaves
 returns-clause-leaves g c = told_leaves c.args.linked.now g.out (act_here (setting c.args.linked.now g.out) (newest c.args.s.now.frames) (Plain c.args.op)) c.args.s.now c.run_return.new.s c.run_return.result _ c.leaves.ensures.left c.run_return.ensures.leaves

@@ -1,4 +1,5 @@
-use Rattle.abc_dispatch.proofs.Led.{told_finishes, told_leaves}
+use Rattle.abc_membersteps.proofs.CallarmsFinishing.{told_finishes}
+use Rattle.abc_states.proofs.Told.{told_leaves}
 use Rattle.abc_plainsteps.specs.Here.{act_here}
 use Rattle.abc_stacks.specs.Frame.{newest}
 use Rattle.abc_states.specs.Outer.{setting}

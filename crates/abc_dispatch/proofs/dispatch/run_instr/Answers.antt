@@ -2,7 +2,9 @@ use mir.Syntax.{w16, w8}
 use mir.Val.{SFits, of_z, to_z}
 use Rattle.std.proofs.Common.{◌∙◌, ap, arith, List, ℕ, ℤ, rules, sym}
 use Rattle.std.proofs.lemmas.Int.{ints, to_z-of_z}
-use Rattle.abc_dispatch.proofs.Led.{goes_finishes, run_as, runs_leaves, turned_as}
+use Rattle.abc_dispatch.proofs.Led.{run_as, turned_as}
+use Rattle.abc_membersteps.proofs.CallarmsFinishing.{goes_finishes}
+use Rattle.abc_states.proofs.Told.{runs_leaves}
 use Rattle.abc_plainsteps.specs.Here.{act_here}
 use Rattle.abc_stacks.specs.Frame.{newest}
 use Rattle.abc_states.specs.Outer.{setting}

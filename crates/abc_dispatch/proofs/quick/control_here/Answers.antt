@@ -1,4 +1,5 @@
-use Rattle.abc_dispatch.proofs.Led.{goes_finishes, runs_leaves}
+use Rattle.abc_membersteps.proofs.CallarmsFinishing.{goes_finishes}
+use Rattle.abc_states.proofs.Told.{runs_leaves}
 use Rattle.abc_plainsteps.specs.Here.{act_here}
 use Rattle.abc_stacks.specs.Frame.{newest}
 use Rattle.abc_states.specs.Outer.{setting}

@@ -7,8 +7,8 @@ use Rattle.abc_entering.proofs.keeping.are_of_types.Goals as goal
 pub loop-k-init : goal.loop-k-init
 loop-k-init c = λ h. h
 
-pub is_of_named-requires-clause-within : goal.is_of_named-requires-clause-within
-is_of_named-requires-clause-within c =
+pub is_argument_of-requires-clause-within : goal.is_argument_of-requires-clause-within
+is_argument_of-requires-clause-within c =
     let within = subst (λ (ts : List ℕ). c.loop-k.k < length ts) c.as_slice-types.ensures c.loop-k-test.true in
     let many = c.requires.many in
     omega (arith, within, many)
@@ -22,7 +22,7 @@ loop-k-preserved c = λ h.
     let many = c.requires.many in
     c.loop-k.invariant
     (stays_more c.args.linked.now m c.args.count k (get_or types k 0) (newest c.args.frames.now) (omega (arith, within, many)) c.requires.there many
-    (type_next m types k c.as_slice-types.ensures c.loop-k-test.true) (c.is_of_named.ensures c.if-not-is_of_named.false) h)
+    (type_next m types k c.as_slice-types.ensures c.loop-k-test.true) (c.is_argument_of.ensures c.if-not-is_argument_of.false) h)
 
 pub returns : goal.returns
 returns c = λ e.

@@ -8,7 +8,7 @@ use Rattle.abc_machine.proofs.Spending.{ended_on, went_on}
 use Rattle.abc_machine.proofs.running.take_steps.Goals as goal
 
 pub spend-requires : goal.spend-requires
-spend-requires g c = λ κs among. (among.0, (among.1, (c.loop-fuel.invariant.at.can, (c.requires.1.1.1.0, (omega arith, (c.loop-fuel.invariant.none, c.loop-fuel.invariant.going))))))
+spend-requires g c = λ κs among. (among.0, (among.1, (c.loop-fuel.invariant.at.can, (c.requires.1.1.1.0, (omega arith, (c.loop-fuel.invariant.held, (c.loop-fuel.invariant.none, c.loop-fuel.invariant.going)))))))
 
 pub loop-fuel-preserved-then-spend : goal.loop-fuel-preserved-then-spend
 loop-fuel-preserved-then-spend g c =
@@ -21,6 +21,7 @@ loop-fuel-preserved-then-spend g c =
       later = omega (arith, sofar, later);
       few = omega (arith, had, taken);
       limit = c.spend.ensures.limit ∙ c.loop-fuel.invariant.limit;
+      held = c.spend.ensures.held;
       none = c.spend.ensures.none;
       going = (c.spend.ensures.goes c.if-spend.true);
     }
@@ -36,6 +37,7 @@ loop-fuel-preserved g c =
       later = omega (arith, sofar, later);
       few = omega (arith, had, taken);
       limit = c.spend.ensures.limit ∙ c.loop-fuel.invariant.limit;
+      held = c.spend.ensures.held;
       none = c.spend.ensures.none;
       going = c.in_default.is;
     }

@@ -1,5 +1,6 @@
 use Rattle.std.proofs.Common.{◌≡◌, ◌≤◌}
 use Rattle.std.specs.Prelude.{Ok}
+use Rattle.abc_logging.specs.Held.{IsHeld}
 use Rattle.abc_machine.specs.Runs.{IsAt, outer}
 use Rattle.abc_machine.proofs.running.take_steps.Given as goal
 use Rattle.abc_states.specs.declared.state.Left.TheVariants.{Goes}
@@ -13,6 +14,7 @@ invariant-loop-fuel g l = record {
   later : g.K.Sink.faults l.initial.sink ≤ g.K.Sink.faults l.sink;
   few : l.fuel ≤ l.initial.fuel;
   limit : l.s.given.limit ≡ l.initial.s.given.limit;
+  held : IsHeld l.linked l.held;
   none : l.left ≡ Ok Goes;
   going : l.halted ≡ Ok tt;
 }

@@ -11,7 +11,7 @@ call_property-requires g c =
     let p = setting c.args.linked.now g.out in
     let can = can_at c.args.linked.now g.out c.args.s.now (λ o. Two o c.args.n c.args.count) c.args.op 70 c.in-70.is c.requires.0 in
     let d = op_46 c.args.linked.now g.out c.args.s.now c.args.n c.args.count (c.args.count + parts_at p c.args.n + 1) refl can in
-    (can.set, (c.requires.1.0, (d.ready, (can.spelled.2, open_as c.args.linked.now g.out c.args.s.now (Two 70 c.args.n c.args.count) _ 1 _ d can.free))))
+    (can.set, (c.requires.1.0, (d.ready, (can.spelled.2, (open_as c.args.linked.now g.out c.args.s.now (Two 70 c.args.n c.args.count) _ 1 _ d can.free, c.requires.1.1.1)))))
 
 pub returns-in-70-clause-leaves : goal.returns-in-70-clause-leaves
 returns-in-70-clause-leaves g c =
@@ -23,7 +23,7 @@ call_property-requires-in-76 g c =
     let p = setting c.args.linked.now g.out in
     let can = can_at c.args.linked.now g.out c.args.s.now (λ o. Two o c.args.n c.args.count) c.args.op 76 c.in-76.is c.requires.0 in
     let d = op_4C c.args.linked.now g.out c.args.s.now c.args.n c.args.count (c.args.count + parts_at p c.args.n + 1) refl can in
-    (can.set, (c.requires.1.0, (d.ready, (can.spelled.2, open_as c.args.linked.now g.out c.args.s.now (Two 76 c.args.n c.args.count) _ 1 _ d can.free))))
+    (can.set, (c.requires.1.0, (d.ready, (can.spelled.2, (open_as c.args.linked.now g.out c.args.s.now (Two 76 c.args.n c.args.count) _ 1 _ d can.free, c.requires.1.1.1)))))
 
 pub returns-in-76-clause-leaves : goal.returns-in-76-clause-leaves
 returns-in-76-clause-leaves g c =
@@ -35,7 +35,7 @@ call_property-requires-in-79 g c =
     let p = setting c.args.linked.now g.out in
     let can = can_at c.args.linked.now g.out c.args.s.now (λ o. Two o c.args.n c.args.count) c.args.op 79 c.in-79.is c.requires.0 in
     let d = op_4F c.args.linked.now g.out c.args.s.now c.args.n c.args.count (c.args.count + parts_at p c.args.n + 1) refl can in
-    (can.set, (c.requires.1.0, (d.ready, (can.spelled.2, open_as c.args.linked.now g.out c.args.s.now (Two 79 c.args.n c.args.count) _ 0 _ d can.free))))
+    (can.set, (c.requires.1.0, (d.ready, (can.spelled.2, (open_as c.args.linked.now g.out c.args.s.now (Two 79 c.args.n c.args.count) _ 0 _ d can.free, c.requires.1.1.1)))))
 
 pub returns-in-79-clause-leaves : goal.returns-in-79-clause-leaves
 returns-in-79-clause-leaves g c =

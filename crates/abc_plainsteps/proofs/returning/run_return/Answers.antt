@@ -1,20 +1,8 @@
-use Rattle.std.proofs.Common.{◌≡◌, arith, subst, sym}
-use Rattle.abc_states.specs.ActsSimple.{returns}
-use Rattle.abc_cells.specs.declared.values.Value.{Value}
-use Rattle.abc_plainsteps.proofs.Doing.{Does, can_at, open_as, runs_at}
-use Rattle.abc_plainsteps.proofs.MovingOps.{op_47, op_48}
-use Rattle.abc_plainsteps.specs.Ready.{CanRun}
-use Rattle.abc_program.specs.Linked.{LinkedFile}
-use Rattle.abc_stacks.specs.Frame.{newest}
-use Rattle.abc_states.specs.Operands.{operand_at}
-use Rattle.abc_states.specs.Outer.{Outer, setting}
-use Rattle.abc_states.specs.declared.state.State.{State}
+use Rattle.std.proofs.Common.{arith}
+use Rattle.abc_plainsteps.proofs.Doing.{can_at, open_as, runs_at}
+use Rattle.abc_plainsteps.proofs.MovingOps.{op_47, op_48, returned}
 use Rattle.abc_tables.specs.declared.code.Instr.TheVariants.{Plain}
 use Rattle.abc_plainsteps.proofs.returning.run_return.Goals as goal
-
--- what returns is the operand that was read
-returned : (l : LinkedFile) (out : Outer) (s : State) (v : Value) → CanRun l out s (Plain 0x48) → v ≡ operand_at 0 (newest s.frames) → Does l out s (Plain 0x48) 1 0 (returns (setting l out) (newest s.frames) v)
-returned l out s v can e = subst (λ (x : Value). Does l out s (Plain 0x48) 1 0 (returns (setting l out) (newest s.frames) x)) (sym e) (op_48 l out s can)
 
 pub return_value-requires : goal.return_value-requires
 return_value-requires g c =

@@ -17,10 +17,13 @@ call_object_method-requires g c = (
       (subst (λ n. IsReady n (given_by c.args.how) c.args.s.now.frames) (sym c.requires.1.1.1.1.0) c.requires.1.1.0),
       (
         (omega (arith, c.requires.1.1.1.1.0)),
-        (let p = setting c.args.linked.now g.out in
-            let q = c.args.s.now.frames in
-            let w = world c.args.s.now g.out in
-            subst IsOpen (whole_called p c.args.name c.args.wanted.now c.args.o c.in-Some.ensures.0 c.in-Some.method c.args.count c.args.lexical c.args.how (newest q) w c.requires.1.1.1.1.1.0 c.requires.1.1.1.1.1.1.1.0 c.in-Some.ensures.1) c.requires.1.1.1.1.1.1.1.1.1),
+        (
+          (let p = setting c.args.linked.now g.out in
+              let q = c.args.s.now.frames in
+              let w = world c.args.s.now g.out in
+              subst IsOpen (whole_called p c.args.name c.args.wanted.now c.args.o c.in-Some.ensures.0 c.in-Some.method c.args.count c.args.lexical c.args.how (newest q) w c.requires.1.1.1.1.1.0 c.requires.1.1.1.1.1.1.1.0 c.in-Some.ensures.1) c.requires.1.1.1.1.1.1.1.1.1.0),
+          c.requires.1.1.1.1.1.1.1.1.1.1,
+        ),
       ),
     ),
   ),
@@ -34,4 +37,4 @@ returns-in-Some-clause-leaves g c =
     ap (turned p q) (whole_called p c.args.name c.args.wanted.now c.args.o c.in-Some.ensures.0 c.in-Some.method c.args.count c.args.lexical c.args.how (newest q) w c.requires.1.1.1.1.1.0 c.requires.1.1.1.1.1.1.1.0 c.in-Some.ensures.1) ∙ c.call_object_method.ensures.leaves
 
 pub call_searching-requires : goal.call_searching-requires
-call_searching-requires g c = (c.requires.0, (c.requires.1.0, (c.requires.1.1.0, (c.requires.1.1.1.0, (c.requires.1.1.1.1.0, c.requires.1.1.1.1.1.1.1.1.1)))))
+call_searching-requires g c = (c.requires.0, (c.requires.1.0, (c.requires.1.1.0, (c.requires.1.1.1.0, (c.requires.1.1.1.1.0, (c.requires.1.1.1.1.1.1.1.1.1.0, c.requires.1.1.1.1.1.1.1.1.1.1))))))

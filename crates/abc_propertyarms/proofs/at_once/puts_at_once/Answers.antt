@@ -6,10 +6,10 @@ use Rattle.abc_cells.specs.declared.values.Span.{Span}
 use Rattle.abc_cells.specs.declared.values.Value.TheVariants.{Num}
 use Rattle.abc_heap.specs.Texts.{IsText}
 use Rattle.abc_objects.specs.Values.{Exists}
-use Rattle.abc_propertyarms.specs.AtOnce.{IsDoneIf}
 use Rattle.abc_memberarms.specs.Members.{puts_top}
 use Rattle.abc_stacks.specs.Frame.{newest}
 use Rattle.abc_states.specs.Outer.{setting}
+use Rattle.abc_states.specs.Turns.{IsDoneIf}
 use Rattle.abc_propertyarms.proofs.at_once.puts_at_once.Goals as goal
 
 pub operand-top-requires : goal.operand-top-requires

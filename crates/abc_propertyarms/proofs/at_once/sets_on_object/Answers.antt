@@ -6,7 +6,8 @@ use Rattle.abc_stacks.specs.Frame.{newest}
 use Rattle.abc_states.specs.Operands.{operand_at}
 use Rattle.abc_states.specs.Outer.{setting, world}
 use Rattle.abc_states.specs.WorldSetting.{NameForm}
-use Rattle.abc_propertyarms.proofs.AtOnce.{done_as, whole_put}
+use Rattle.abc_propertyarms.proofs.AtOnce.{whole_put}
+use Rattle.abc_states.proofs.AtOnce.{done_as}
 use Rattle.abc_propertyarms.proofs.at_once.sets_on_object.Goals as goal
 
 pub puts_at_once-requires : goal.puts_at_once-requires

@@ -1,44 +1,48 @@
 use Rattle.std.proofs.Common.{◌-◌, ◌≤◌, List, Option, Some, length, set, refl, ap, ◌∙◌, arith}
-use Rattle.std.proofs.lemmas.Option.{slice_get_read}
 use Rattle.abc_typing.specs.declared.state.State.{State}
-use Rattle.abc_flow.proofs.Numbers.{again_known, known_here, place_kept}
+use Rattle.abc_flow.proofs.Numbers.{known_here, place_kept}
 use Rattle.abc_flow.proofs.states.States.meet.Goals as goal
 
-pub index-requires : goal.index-requires
-index-requires g c =
+pub is_above-requires-clause-inside : goal.is_above-requires-clause-inside
+is_above-requires-clause-inside g c =
     let one : 1 ≤ c.at-number.result = let f = c.if-number-eq0.false in omega arith in
-    let e = c.at-number.ensures in
-    let lt = place_kept c.self.inside.numbers c.self.inside.count (length c.self.inside.known.items) c.args.place c.at-number.result (c.at-number.result - 1) c.self.invariant e one refl in
-    let long = c.self.inside.known.ok.0 in
-    omega (arith, lt, long)
+    place_kept c.self.inside.numbers (length c.self.inside.known) c.args.place c.at-number.result (c.at-number.result - 1) c.self.invariant c.at-number.ensures one refl
+
+pub returns-then-is_above : goal.returns-then-is_above
+returns-then-is_above g c =
+    let one : 1 ≤ c.at-number.result = let f = c.if-number-eq0.false in omega arith in
+    let below = c.is_above.ensures c.if-is_above.true in
+    record {
+      old = below.0;
+      known = known_here c.self.inside.numbers c.self.inside.known c.args.self.now c.args.place c.at-number.result (c.at-number.result - 1) below.0 c.self.view_is c.at-number.ensures one refl below.1;
+      is = refl;
+      holds = below.2;
+    }
+
+pub load-requires : goal.load-requires
+load-requires g c =
+    let one : 1 ≤ c.at-number.result = let f = c.if-number-eq0.false in omega arith in
+    place_kept c.self.inside.numbers (length c.self.inside.known) c.args.place c.at-number.result (c.at-number.result - 1) c.self.invariant c.at-number.ensures one refl
 
 pub returns-in-Same : goal.returns-in-Same
 returns-in-Same g c =
     let one : 1 ≤ c.at-number.result = let f = c.if-number-eq0.false in omega arith in
-    let e = c.at-number.ensures in
-    let lt = place_kept c.self.inside.numbers c.self.inside.count (length c.self.inside.known.items) c.args.place c.at-number.result (c.at-number.result - 1) c.self.invariant e one refl in
-    let read = slice_get_read c.self.inside.known.items (length c.self.inside.known.items) (c.at-number.result - 1) c.index.result.now refl lt c.index.ensures in
     record {
-      old = c.index.result.now;
-      known = known_here c.self.inside.numbers c.self.inside.known.items c.args.self.now c.args.place c.at-number.result (c.at-number.result - 1) c.index.result.now c.self.view_is e one refl read;
+      old = c.load.new.state;
+      known = known_here c.self.inside.numbers c.self.inside.known c.args.self.now c.args.place c.at-number.result (c.at-number.result - 1) c.load.new.state c.self.view_is c.at-number.ensures one refl c.in_ok-load.ensures;
       is = c.self.view_is;
       holds = rw c.in-Same.is at c.in_ok-merge.ensures;
     }
 
-pub returns-in_ok-keep-in-Joined : goal.returns-in_ok-keep-in-Joined
-returns-in_ok-keep-in-Joined g c =
+pub returns-in_ok-put_again-in-Joined : goal.returns-in_ok-put_again-in-Joined
+returns-in_ok-put_again-in-Joined g c =
     let one : 1 ≤ c.at-number.result = let f = c.if-number-eq0.false in omega arith in
-    let e = c.at-number.ensures in
-    let lt = place_kept c.self.inside.numbers c.self.inside.count (length c.self.inside.known.items) c.args.place c.at-number.result (c.at-number.result - 1) c.self.invariant e one refl in
-    let read = slice_get_read c.self.inside.known.items (length c.self.inside.known.items) (c.at-number.result - 1) c.index.result.now refl lt c.index.ensures in
     let joins = rw c.in-Joined.is at c.in_ok-merge.ensures in
     record {
-      old = c.index.result.now;
+      old = c.load.new.state;
       joined = c.merge.new.joined;
-      known = known_here c.self.inside.numbers c.self.inside.known.items c.args.self.now c.args.place c.at-number.result (c.at-number.result - 1) c.index.result.now c.self.view_is e one refl read;
-      is =
-          again_known c.self.inside.numbers c.self.inside.known.items c.keep.new.known.items c.self.inside.count c.args.place c.at-number.result (c.at-number.result - 1) c.merge.new.joined c.self.invariant e one refl c.in_ok-keep-in-Joined.ensures.kept
-          ∙ ap (λ (xs : List (Option State)). set xs c.args.place (Some c.merge.new.joined)) c.self.view_is;
+      known = known_here c.self.inside.numbers c.self.inside.known c.args.self.now c.args.place c.at-number.result (c.at-number.result - 1) c.load.new.state c.self.view_is c.at-number.ensures one refl c.in_ok-load.ensures;
+      is = c.in_ok-put_again-in-Joined.ensures.known ∙ ap (λ (xs : List (Option State)). set xs c.args.place (Some c.merge.new.joined)) c.self.view_is;
       joins = joins.0;
       falls = joins.1;
     }
@@ -46,12 +50,9 @@ returns-in_ok-keep-in-Joined g c =
 pub returns-in-Unequal : goal.returns-in-Unequal
 returns-in-Unequal g c =
     let one : 1 ≤ c.at-number.result = let f = c.if-number-eq0.false in omega arith in
-    let e = c.at-number.ensures in
-    let lt = place_kept c.self.inside.numbers c.self.inside.count (length c.self.inside.known.items) c.args.place c.at-number.result (c.at-number.result - 1) c.self.invariant e one refl in
-    let read = slice_get_read c.self.inside.known.items (length c.self.inside.known.items) (c.at-number.result - 1) c.index.result.now refl lt c.index.ensures in
     record {
-      old = c.index.result.now;
-      known = known_here c.self.inside.numbers c.self.inside.known.items c.args.self.now c.args.place c.at-number.result (c.at-number.result - 1) c.index.result.now c.self.view_is e one refl read;
+      old = c.load.new.state;
+      known = known_here c.self.inside.numbers c.self.inside.known c.args.self.now c.args.place c.at-number.result (c.at-number.result - 1) c.load.new.state c.self.view_is c.at-number.ensures one refl c.in_ok-load.ensures;
       is = c.self.view_is;
       holds = rw c.in-Unequal.is at c.in_ok-merge.ensures;
     }
