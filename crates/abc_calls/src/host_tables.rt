@@ -1,7 +1,7 @@
 //! Tables of stored closures: what is refused and handed back, and that a closure is what answers.
-ghost use Rattle.std.specs.Prelude.{◌≡◌, [], pos, IfOk, length};
+ghost use Rattle.std.specs.Prelude.{◌≡◌, [], pos, IfOk, Some, length};
 
-use abc_base::{Bytes, Formula, Host, NoMemory, Plain, Table};
+use abc_base::{Bytes, Formula, Host, NoMemory, Plain, Table, release};
 use abc_host::{AddError, Entry, HostTable};
 use std::alloc::Global;
 use std::cell::Cell;
@@ -44,10 +44,22 @@ fn told(answer: &Result<(), AddError>) -> (&str, &[u8]) {
     }
 }
 
-#[test]
-fn refused_names(rt: HostRuntime) -> Result<(), Fail> {
-    let alloc = rt.alloc();
-    let mut table = HostTable::new(alloc);
+/// Adds a formula of a name, and tells whether the answer is the one that is wanted and hands back the name where it is refused.
+#[tactic(auto, using(crate::proofs::Constants::five))]
+fn adds(alloc: Global, table: &mut HostTable, name: &[u8], want: &str) -> Result<bool, NoMemory> {
+    let five = |_args: Plain| -> Option<i64>
+        ensures { result ≡ Some (pos 5) }
+    { Some(5) };
+    let run = Box::new(alloc, five)?;
+    let answer = table.add(Entry::new(constant(alloc, name)?, run));
+    let back = if answer.is_ok() { b"".as_slice() } else { name };
+    let is_wanted = told(&answer) == (want, back);
+    release(answer);
+    Ok(is_wanted)
+}
+
+/// Whether names that are taken, too long or new are answered so.
+fn names_are_told(alloc: Global, table: &mut HostTable) -> Result<bool, NoMemory> {
     let long = [b'n'; 65];
     for (name, want) in [
         (b"trace".as_slice(), "name taken"),
@@ -57,12 +69,19 @@ fn refused_names(rt: HostRuntime) -> Result<(), Fail> {
         (b"five".as_slice(), "name taken"),
         (b"Five".as_slice(), "added"),
     ] {
-        let run = Box::new(alloc, |_: Plain| Some(5))?;
-        let answer = table.add(Entry::new(constant(alloc, name)?, run));
-        let back = if answer.is_ok() { b"".as_slice() } else { name };
-        assert_eq!(rt; told(&answer), (want, back));
+        if !adds(alloc, table, name, want)? {
+            return Ok(false);
+        }
     }
-    assert_eq!(rt; table.count(), 2);
+    Ok(table.count() == 2)
+}
+
+#[test]
+fn refused_names(rt: HostRuntime) -> Result<(), Fail> {
+    let mut table = HostTable::new(rt.alloc());
+    let are_told = names_are_told(rt.alloc(), &mut table);
+    release(table);
+    assert!(rt; are_told?);
     Ok(())
 }
 
@@ -76,42 +95,55 @@ fn refused_factors(rt: HostRuntime) -> Result<(), Fail> {
         factors: five(alloc)?,
     };
     let answer = table.add(Entry::new(formula, Box::new(alloc, |_: Plain| None)?));
-    assert_eq!(rt; told(&answer), ("bad formula", b"wide".as_slice()));
+    let is_bad = told(&answer) == ("bad formula", b"wide".as_slice());
+    release(answer);
+    release(table);
+    assert!(rt; is_bad);
     Ok(())
+}
+
+/// Whether a table has room for 64 formulas.
+fn is_full_at_64(alloc: Global, table: &mut HostTable) -> Result<bool, NoMemory> {
+    for n in 0..65u8 {
+        let want = if n < 64 { "added" } else { "full" };
+        if !adds(alloc, table, &[n], want)? {
+            return Ok(false);
+        }
+    }
+    Ok(table.count() == 64)
 }
 
 #[test]
 fn full(rt: HostRuntime) -> Result<(), Fail> {
-    let alloc = rt.alloc();
-    let mut table = HostTable::new(alloc);
-    for n in 0..65u8 {
-        let run = Box::new(alloc, |_: Plain| Some(5))?;
-        let answer = table.add(Entry::new(constant(alloc, &[n])?, run));
-        let want = if n < 64 {
-            ("added", b"".as_slice())
-        } else {
-            ("full", b"@".as_slice())
-        };
-        assert_eq!(rt; told(&answer), want);
-    }
-    assert_eq!(rt; table.count(), 64);
+    let mut table = HostTable::new(rt.alloc());
+    let is_full = is_full_at_64(rt.alloc(), &mut table);
+    release(table);
+    assert!(rt; is_full?);
     Ok(())
 }
 
-/// A closure is what answers: it counts its calls.
-#[test]
-fn calls(rt: HostRuntime) -> Result<(), Fail> {
-    let alloc = rt.alloc();
-    let mut table = HostTable::new(alloc);
-    let counter = Rc::new(alloc, Cell::new(0u8))?;
+/// Adds a closure that counts its calls.
+#[tactic(auto, using(crate::proofs::Constants::five))]
+fn add_counting(
+    alloc: Global,
+    table: &mut HostTable,
+    counter: &Rc<Cell<u8>>,
+) -> Result<(), NoMemory> {
     let counted = counter.clone()?;
-    let run = Box::new(alloc, move |_: Plain| {
+    let five = move |_args: Plain| -> Option<i64>
+        ensures { result ≡ Some (pos 5) }
+    {
         counted.set(counted.get().wrapping_add(1));
         Some(5)
-    })?;
-    let _ = table.add(Entry::new(constant(alloc, b"counted")?, run));
-    let run = Box::new(alloc, |_: Plain| Some(5))?;
-    let _ = table.add(Entry::new(constant(alloc, b"plain")?, run));
+    };
+    let run = Box::new(alloc, five)?;
+    let answer = table.add(Entry::new(constant(alloc, b"counted")?, run));
+    release(answer);
+    Ok(())
+}
+
+/// Whether each formula of a table answers 5 without arguments.
+fn all_answer_five(table: &HostTable) -> bool {
     let args = Plain {
         count: 0,
         a: 0,
@@ -119,12 +151,35 @@ fn calls(rt: HostRuntime) -> Result<(), Fail> {
         c: 0,
         d: 0,
     };
-    assert_eq!(rt; table.count(), 2);
-    assert_eq!(rt; table.name(0), b"counted".as_slice());
     for id in 0..table.count() {
-        assert_eq!(rt; table.params(id), 0);
-        assert_eq!(rt; table.call(id, &args), Some(5));
+        if table.params(id) != 0 || table.call(id, &args) != Some(5) {
+            return false;
+        }
     }
+    true
+}
+
+/// Whether closures are added, and answer as they say.
+fn closures_answer(
+    alloc: Global,
+    table: &mut HostTable,
+    counter: &Rc<Cell<u8>>,
+) -> Result<bool, NoMemory> {
+    add_counting(alloc, table, counter)?;
+    let is_added = adds(alloc, table, b"plain", "added")?;
+    let is_named = table.count() == 2 && table.name(0) == b"counted".as_slice();
+    Ok(is_added && is_named && all_answer_five(table))
+}
+
+/// A closure is what answers: it counts its calls.
+#[test]
+fn calls(rt: HostRuntime) -> Result<(), Fail> {
+    let alloc = rt.alloc();
+    let counter = Rc::new(alloc, Cell::new(0u8))?;
+    let mut table = HostTable::new(alloc);
+    let answer = closures_answer(alloc, &mut table, &counter);
+    release(table);
+    assert!(rt; answer?);
     assert_eq!(rt; counter.get(), 1);
     Ok(())
 }
