@@ -13,7 +13,7 @@ use abc_forms::{Element, first_and_rest, first_of, read_each, told};
 use abc_operands::{
     LineError, byte, one_token, signed_within, target, three_tokens, two, two_tokens, u30,
 };
-use abc_tables::{Form, Instr, opcode};
+use abc_tables::{Cases, Form, Instr, opcode};
 use abc_text::AsmReason;
 use abc_tokens::Token;
 use indexmap::IndexMap;
@@ -181,7 +181,10 @@ fn switch(
     let default = target(default, places);
     match read_each(alloc, cases, &Targets { places }) {
         Ok(cases) => match default {
-            Ok(default) => Ok(Instr::Switch { default, cases }),
+            Ok(default) => Ok(Instr::Switch {
+                default,
+                cases: Cases::new(alloc, cases)?,
+            }),
             Err(reason) => Err(LineError::Refused(reason)),
         },
         Err(LineError::Refused(reason)) => Err(LineError::Refused(first_of(default, reason))),

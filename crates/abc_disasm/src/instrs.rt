@@ -8,7 +8,7 @@ ghost use Rattle.abc_tables.specs.declared.opcodes.Form.TheVariants as forms;
 ghost use Rattle.abc_varint.specs.Puts.{Puts};
 
 use crate::heads::put_head;
-use abc_base::{NoMemory, Table};
+use abc_base::NoMemory;
 use abc_linetokens::{
     push_byte, put, put_label, put_number, put_number_line, put_operand, put_operand_comment,
     put_signed, put_target,
@@ -77,10 +77,10 @@ fn put_branch(op: u8, target: u32, _abc: &Abc, out: &mut Vec<u8>) -> Result<(), 
 
 /// Each label behind a space.
 #[tactic(auto, using(abc_varint::proofs::Putting::stays))]
-fn put_targets(targets: &Table<u32>, out: &mut Vec<u8>) -> Result<(), NoMemory>
+fn put_targets(targets: &[u32], out: &mut Vec<u8>) -> Result<(), NoMemory>
     ensures { Puts out.old.items out.new.items result (labels targets.now) }
 {
-    for target in targets.as_slice() {
+    for target in targets {
         put_target(*target, out)?;
     }
     Ok(())
@@ -91,7 +91,7 @@ fn put_targets(targets: &Table<u32>, out: &mut Vec<u8>) -> Result<(), NoMemory>
 fn put_target_line(
     word: &[u8],
     default: u32,
-    cases: &Table<u32>,
+    cases: &[u32],
     out: &mut Vec<u8>,
 ) -> Result<(), NoMemory>
     ensures { Puts out.old.items out.new.items result (word.now ++ ((0x20 ∷ label_of default) ++ (labels cases.now ++ 0x0a ∷ []))) }
@@ -107,7 +107,7 @@ fn put_target_line(
 #[tactic(auto, using(crate::proofs::Forms::switch_text))]
 fn put_switch(
     default: u32,
-    cases: &Table<u32>,
+    cases: &[u32],
     _abc: &Abc,
     out: &mut Vec<u8>,
 ) -> Result<(), NoMemory>
@@ -178,7 +178,7 @@ pub fn put_instr(instr: &Instr, abc: &Abc, out: &mut Vec<u8>) -> Result<(), NoMe
         Instr::One(op, n) => put_one(*op, *n, abc, out),
         Instr::Two(op, n, m) => put_pair(*op, *n, *m, abc, out),
         Instr::Branch(op, target) => put_branch(*op, *target, abc, out),
-        Instr::Switch { default, cases } => put_switch(*default, cases, abc, out),
+        Instr::Switch { default, cases } => put_switch(*default, cases.as_slice(), abc, out),
         Instr::Byte(value) => put_byte(*value, abc, out),
         Instr::Short(value) => put_short(*value, abc, out),
         Instr::ScopeObject(n) => put_scope_object(*n, abc, out),

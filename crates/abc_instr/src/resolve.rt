@@ -9,7 +9,7 @@ ghost use Rattle.abc_instr.specs.declared.resolve.Missed.TheVariants as missed;
 
 use crate::starts::Starts;
 use abc_base::{NoMemory, Table};
-use abc_tables::Instr;
+use abc_tables::{Cases, Instr};
 use std::alloc::Global;
 
 /// Why a target was not found.
@@ -61,7 +61,7 @@ fn resolve_cases(
     starts: &Starts,
     base: u32,
     next: u32,
-    cases: &Table<u32>,
+    cases: &[u32],
 ) -> Result<Table<u32>, Missed>
     requires rising { IsRising starts.now }
     requires few { length starts.now < 2 ^ 32 }
@@ -69,9 +69,8 @@ fn resolve_cases(
     ensures { Resolves (cases_of starts.now base next (map (cast_signed w32) cases.now)) result }
 {
     let mut targets = Table::new(alloc);
-    let slice = cases.as_slice();
-    for (i, offset) in slice.iter().enumerate() {
-        let after = slice.len() - i;
+    for (i, offset) in cases.iter().enumerate() {
+        let after = cases.len() - i;
         let place = (next as usize).saturating_sub(after.saturating_mul(3)) as u32;
         let target = resolve_at(starts, base, offset.cast_signed(), place)?;
         targets.push(target)?;
@@ -100,7 +99,8 @@ fn resolve_instr(
         }
         Instr::Switch { default, cases } => {
             let default = resolve_at(starts, here, default.cast_signed(), here + 1)?;
-            let cases = resolve_cases(alloc, starts, here, next, &cases)?;
+            let cases = resolve_cases(alloc, starts, here, next, cases.as_slice())?;
+            let cases = Cases::new(alloc, cases)?;
             Ok(Instr::Switch { default, cases })
         }
         other => Ok(other),

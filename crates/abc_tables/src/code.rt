@@ -1,3 +1,4 @@
+use crate::cases::Cases;
 use crate::traits::TraitInfo;
 use abc_format::Table;
 
@@ -16,7 +17,7 @@ pub enum Instr {
     /// `lookupswitch`, with the targets of its default and of its cases, of which there is at least one.
     Switch {
         default: u32,
-        cases: Table<u32>,
+        cases: Cases,
     },
     /// `pushbyte`
     Byte(i8),

@@ -33,11 +33,11 @@ fn are_within(targets: &[u32], count: usize) -> bool
 
 /// Whether a switch has some cases, and not too many, that lead to instructions or to the end.
 #[tactic(auto, using(crate::proofs::Readiness::up_to))]
-fn is_switch(default: u32, cases: &Table<u32>, count: usize) -> bool
+fn is_switch(default: u32, cases: &[u32], count: usize) -> bool
     ensures { IsTrue result ↔ ((default ≤ count) × AllUpTo count cases.now × (0 < length cases.now) × (length cases.now ≤ 2 ^ 30)) }
 {
     let some = 0 < cases.len() && cases.len() <= U30_LIMIT as usize;
-    default as usize <= count && are_within(cases.as_slice(), count) && some
+    default as usize <= count && are_within(cases, count) && some
 }
 
 /// Whether the instruction can be spelled in code of so many instructions.
@@ -50,7 +50,7 @@ fn can_spell(instr: &Instr, count: usize) -> bool
         Instr::One(op, x) => has_form(*op, Form::One) && *x < U30_LIMIT,
         Instr::Two(op, x, y) => { has_form(*op, Form::Two) && *x < U30_LIMIT && *y < U30_LIMIT }
         Instr::Branch(op, target) => has_form(*op, Form::Branch) && *target as usize <= count,
-        Instr::Switch { default, cases } => is_switch(*default, cases, count),
+        Instr::Switch { default, cases } => is_switch(*default, cases.as_slice(), count),
         Instr::Byte(x) => *x >= i8::MIN,
         Instr::Short(x) => *x >= i16::MIN,
         Instr::ScopeObject(_) => true,
