@@ -24,12 +24,12 @@ line_is a b c d e word digits n first space more number last =
     ∙ append_assoc a ((word ++ codes " ") ++ decimal n) (10 ∷ [])
 
 -- the three lines, one after the other
-pub measured_is : (v : Abc) (bytes a b c d : List ℕ) (n m k : ℕ) → bytes ≡ file_bytes v → n ≡ length bytes → m ≡ length v.methods → k ≡ instruction_count v.bodies → a ≡ []
+pub measured_is : (v : Abc) (a b c d : List ℕ) (n m k : ℕ) → n ≡ length (file_bytes v) → m ≡ length v.methods → k ≡ instruction_count v.bodies → a ≡ []
     → b ≡ a ++ count_line (codes "bytes") n → c ≡ b ++ count_line (codes "methods") m → d ≡ c ++ count_line (codes "instructions") k → d ≡ measured v
 unfolding measured
-measured_is v bytes a b c d n m k is long methods count none first second third = third
+measured_is v a b c d n m k long methods count none first second third = third
     ∙ ap (λ (x : List ℕ). x ++ count_line (codes "instructions") k) (second ∙ ap (λ (x : List ℕ). x ++ count_line (codes "methods") m) (first ∙ ap (λ (x : List ℕ). x ++ count_line (codes "bytes") n) none))
-    ∙ ap (λ (x : ℕ). (count_line (codes "bytes") x ++ count_line (codes "methods") m) ++ count_line (codes "instructions") k) (long ∙ ap length is)
+    ∙ ap (λ (x : ℕ). (count_line (codes "bytes") x ++ count_line (codes "methods") m) ++ count_line (codes "instructions") k) long
     ∙ ap (λ (x : ℕ). (count_line (codes "bytes") (length (file_bytes v)) ++ count_line (codes "methods") x) ++ count_line (codes "instructions") k) methods
     ∙ ap (λ (x : ℕ). (count_line (codes "bytes") (length (file_bytes v)) ++ count_line (codes "methods") (length v.methods)) ++ count_line (codes "instructions") x) count
 

@@ -2,3 +2,4 @@ pub mod Draws
 pub mod Codes
 pub mod Generated
 pub mod Measured
+pub mod Placed

@@ -5,6 +5,7 @@ mod codes;
 mod draws;
 mod making;
 mod measures;
+mod placing;
 
 pub use making::make_abc;
-pub use measures::{Made, make};
+pub use measures::{Made, Notes, make};

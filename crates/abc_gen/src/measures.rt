@@ -1,21 +1,31 @@
-ghost use Rattle.std.specs.Prelude.{◌≡◌, All, ◌<◌, ◌≤◌, ◌++◌, ◌^◌, IfOk, OnOk};
-ghost use Rattle.abc_tables.specs.Bodies.{IsReadyBody};
-ghost use Rattle.abc_tables.specs.Files.{file_bytes};
+ghost use Rattle.std.specs.Prelude.{◌≡◌, ◌<◌, ◌≤◌, ◌++◌, ◌^◌, length, IfOk, OnOk};
+ghost use Rattle.abc_bodies.specs.Places.{ArePlaces};
+ghost use Rattle.abc_tables.specs.Files.{Fits, file_bytes};
 ghost use Rattle.abc_gen.specs.Generated.{generated};
 ghost use Rattle.abc_gen.specs.Measured.{count_line, instruction_count as instructions_of, measured};
+ghost use Rattle.abc_gen.specs.Placed.{IsReadAgain, starts_in};
 
 use crate::making::make_abc;
+use crate::placing::places_of;
 use abc_base::{NoMemory, release};
-use abc_file::write;
+use abc_bodies::Places;
+use abc_fits::{canon_len, canonical_length};
 use abc_tables::{Abc, Body, Table};
 use itoa::Buffer;
 use std::alloc::Global;
 
-/// A generated file, by its canonical bytes and the lines that are written on it.
+/// A generated file, and what is told of it.
 #[derive(Drop)]
 pub struct Made {
-    /// The canonical bytes of the file.
-    pub bytes: Vec<u8>,
+    pub file: Abc,
+    pub notes: Notes,
+}
+
+/// What is told of a generated file.
+#[derive(Drop)]
+pub struct Notes {
+    /// Where the instructions of each body start in the canonical bytes of the file.
+    pub places: Places,
     /// Three lines: the length of these bytes, the number of methods, and that of all instructions.
     pub lines: Vec<u8>,
 }
@@ -53,42 +63,57 @@ fn instruction_count(bodies: &Table<Body>) -> usize
     count
 }
 
-/// The three lines on a file with these canonical bytes.
-fn lines_on(alloc: Global, abc: &Abc, bytes: &[u8]) -> Result<Vec<u8>, NoMemory>
+/// How many canonical bytes a file has that some bytes spell.
+fn byte_count(abc: &Abc) -> usize
+    requires { Fits abc.now }
+    ensures { result ≡ length (file_bytes abc.now) }
+{
+    canonical_length();
+    canon_len(abc) as usize
+}
+
+/// The three lines on a file.
+fn lines_on(alloc: Global, abc: &Abc) -> Result<Vec<u8>, NoMemory>
     requires few { instructions_of abc.now.bodies < 2 ^ 32 }
-    requires bytes { bytes.now ≡ file_bytes abc.now }
+    requires fits { Fits abc.now }
     ensures { IfOk result (λ lines. lines.items ≡ measured abc.now) }
 {
+    let bytes = byte_count(abc);
     let count = instruction_count(&abc.bodies);
     let mut lines = Vec::new(alloc);
-    put_count(&mut lines, b"bytes", bytes.len())?;
+    put_count(&mut lines, b"bytes", bytes)?;
     put_count(&mut lines, b"methods", abc.methods.len())?;
     put_count(&mut lines, b"instructions", count)?;
     Ok(lines)
 }
 
-/// The canonical bytes of a generated file, and the lines on it.
-fn made_of(alloc: Global, abc: &Abc) -> Result<Made, NoMemory>
+/// What is told of a generated file.
+fn notes_on(alloc: Global, abc: &Abc) -> Result<Notes, NoMemory>
     requires few { instructions_of abc.now.bodies < 2 ^ 32 }
-    requires ready { All IsReadyBody (abc.now).bodies }
-    ensures bytes { IfOk result (λ made. made.bytes.items ≡ file_bytes abc.now) }
-    ensures lines { IfOk result (λ made. made.lines.items ≡ measured abc.now) }
+    requires fits { Fits abc.now }
+    ensures places { IfOk result (λ notes. notes.places ≡ starts_in abc.now.bodies) }
+    ensures lines { IfOk result (λ notes. notes.lines.items ≡ measured abc.now) }
 {
-    let mut bytes = Vec::new(alloc);
-    write(alloc, abc, &mut bytes)?;
-    let lines = lines_on(alloc, abc, bytes.as_slice())?;
-    Ok(Made { bytes, lines })
+    let places = places_of(alloc, &abc.bodies)?;
+    let lines = lines_on(alloc, abc)?;
+    Ok(Notes { places, lines })
 }
 
 /// Makes the file of so many functions, 1 to 10,000, whose operations are drawn from a seed, with the lines that are written on it
-/// once it was run. An Err is want of memory.
+/// once it was run. Its canonical bytes would be read as this file, with its instructions at these places. An Err is want of memory.
 pub fn make(alloc: Global, seed: u32, methods: u32) -> Result<Made, NoMemory>
     requires { methods ≤ 10000 }
-    ensures bytes { IfOk result (λ made. made.bytes.items ≡ file_bytes (generated seed methods)) }
-    ensures lines { IfOk result (λ made. made.lines.items ≡ measured (generated seed methods)) }
+    ensures file { IfOk result (λ made. made.file ≡ generated seed methods) }
+    ensures read { IfOk result (λ made. IsReadAgain made.file made.notes.places) }
+    ensures places { IfOk result (λ made. ArePlaces made.file.bodies made.notes.places) }
+    ensures lines { IfOk result (λ made. made.notes.lines.items ≡ measured (generated seed methods)) }
 {
-    let abc = make_abc(alloc, seed, methods)?;
-    let made = made_of(alloc, &abc);
-    release(abc);
-    made
+    let file = make_abc(alloc, seed, methods)?;
+    match notes_on(alloc, &file) {
+        Ok(notes) => Ok(Made { file, notes }),
+        Err(e) => {
+            release(file);
+            Err(e)
+        }
+    }
 }

@@ -1,42 +1,83 @@
 -- How `gen` ends: a run of the generated file, and then the lines on it.
 use Rattle.std.proofs.Common.{◌≡◌, ◌≢◌, ◌⊎◌, ℕ, ◌+◌, ◌≤◌, inl, inr, List, [], ◌++◌, Some, refl, sym, ap, subst, arith}
 use Rattle.std.specs.declared.option.Option.{Option}
-use Rattle.abc_base.specs.Faults.{Rose}
 use Rattle.abc_base.specs.declared.formula.Formula.{Formula}
 use Rattle.abc_base.specs.declared.status.Status.{Status}
 use Rattle.abc_base.specs.declared.status.Status.TheVariants as status
 use Rattle.abc_base.proofs.Writing.{front_first}
+use Rattle.abc_bodies.specs.Places.{ArePlaces}
 use Rattle.abc_gen.specs.Generated.{generated}
 use Rattle.abc_gen.specs.Measured.{measured}
-use Rattle.abc_tables.specs.Files.{file_bytes}
+use Rattle.abc_gen.specs.Placed.{IsReadAgain}
+use Rattle.abc_meaning.specs.Meaning.{meaning}
+use Rattle.abc_program.specs.Linked.{LinkedFile}
+use Rattle.abc_tables.specs.declared.tables.Abc.{Abc}
+use Rattle.abc_tables.specs.Files.{Fits, file_bytes}
+use Rattle.abc_tables.proofs.Whole.{read_spelled}
 use Rattle.abc_words.specs.declared.command.GenOptions.{GenOptions}
-use Rattle.abc_base.specs.Views.{SteadyView}
-use Rattle.abc_answers.specs.Answers.{Answer, OfFileRead, On, given, told}
-use Rattle.abc_answers.specs.End.{Channel, channel, Got, GivesBytes, GivesLine, IsEnd, RunsTo}
-use Rattle.abc_answers.specs.Lines.{no_memory_text}
+use Rattle.abc_answers.specs.Answers.{Answer, OfFileRead, On, Unverified, given}
+use Rattle.abc_answers.specs.End.{Channel, channel, Got, GivesBytes, GivesLine, HasFailed, IsEnd, RunsTo}
+use Rattle.abc_answers.specs.Stops.{Stops, stop_answer, stop_of_verified}
+use Rattle.abc_answers.specs.declared.stop.Stop.{Stop}
 use Rattle.abc_runcommands.specs.Runs.{Gen, Run, default_options}
+use Rattle.abc_endings.specs.Meant.{IsMeant, limits_of}
 use Rattle.abc_endings.proofs.Pieces.{front_both, got_both}
 use Rattle.abc_answers.proofs.Ending.{bytes_failed, rose_later, weaker}
-use Rattle.abc_answers.proofs.Runs.{memory_runs, runs_weaker, told_quiet}
-use Rattle.abc_runcommands.proofs.Running.{runs_not_usage}
+use Rattle.abc_answers.proofs.Runs.{runs_weaker}
+use Rattle.abc_answers.proofs.Unverified.{verified_stops}
+use Rattle.abc_runcommands.proofs.Running.{runs_not_usage, unverified_runs, verified_runs}
+use Rattle.abc_verified.proofs.Verifying.{read_verified_is, unverified_refuses}
+use Rattle.abc_verified.specs.Refusing.{IsUnverifiedBy}
+use Rattle.abc_verified.specs.Verified.{IsVerifiedOf}
+use Rattle.abc_verified.specs.declared.error.VerifiedError.{VerifiedError}
+use Rattle.abc_verified.specs.declared.error.VerifiedError.TheVariants as errors
 
--- a source that never fails
-pub steady : (n : ℕ) → n ≡ 0 → Rose 0 n → ⊥
-steady n e r = omega (arith, e, r)
+-- ---- the bytes of a file that was made, as an input that would be read
 
-pub steady_runs : (fs : List Formula) (bytes : List ℕ) (source : SteadyView) (out err : Channel) (s : Status) → source ≡ record { left = bytes; piece = 4096 }
-    → RunsTo (On (OfFileRead (Run default_options fs)) (Some source.left)) (Rose 0 0) out err s → RunsTo (OfFileRead (Run default_options fs) bytes) ⊥ out err s
-steady_runs fs bytes source out err s is end =
-    subst (λ (left : List ℕ). RunsTo (OfFileRead (Run default_options fs) left) ⊥ out err s) (ap (λ (x : SteadyView). x.left) is)
-    (runs_weaker (On (OfFileRead (Run default_options fs)) (Some source.left)) (OfFileRead (Run default_options fs) source.left) (Rose 0 0) ⊥ out err s (λ a x. x) (steady 0 refl) end)
+-- nothing fails that isn't read
+abbrev input_of : List ℕ → Channel
+input_of bytes = channel (Some bytes) (Some bytes) 0 0
 
--- ---- no memory for the bytes
+never_failed : (bytes : List ℕ) → HasFailed (input_of bytes) → ⊥
+never_failed bytes r = omega (arith, r)
 
-pub memory_bytes : (P : Answer → Type 0) (out err : Channel) (s : Status) → Got out [] → GivesLine err (told status.NoMemory no_memory_text) s → RunsTo P ⊥ out err s
-memory_bytes P out err s got line = memory_runs P ⊥ out err s got line
+pub fits_again : (v : Abc) (starts : List (List ℕ)) → IsReadAgain v starts → Fits v
+fits_again v starts again = (file_bytes v, (read_spelled (v, starts) (file_bytes v) again.0, again.1))
 
-pub memory_quiet : (err : Channel) (s : Status) → GivesLine err (told status.NoMemory no_memory_text) s → s ≡ status.Done → ⊥
-memory_quiet err s line d = told_quiet err status.NoMemory no_memory_text s (λ h. cc) line d
+pub own_verified : (v : Abc) (l : LinkedFile) → IsVerifiedOf v l → IsVerifiedOf l.file l
+own_verified v l is = record { file = refl; linked = is.linked; numbered = is.numbered; typed = is.typed }
+
+pub own_places : (v : Abc) (l : LinkedFile) (starts : List (List ℕ)) → IsVerifiedOf v l → ArePlaces v.bodies starts → ArePlaces l.file.bodies starts
+own_places v l starts is places = subst (λ (w : Abc). ArePlaces w.bodies starts) (sym is.file) places
+
+module _ (fs : List Formula) (v : Abc) (starts : List (List ℕ)) (again : IsReadAgain v starts) where
+  abbrev AsRead : Answer → Type 0
+  AsRead = On (OfFileRead (Run default_options fs)) (Some (file_bytes v))
+
+  as_read : (F : Type 0) (out err : Channel) (s : Status) → (F → ⊥) → RunsTo AsRead F out err s → RunsTo (OfFileRead (Run default_options fs) (file_bytes v)) ⊥ out err s
+  as_read F out err s never end = runs_weaker AsRead (OfFileRead (Run default_options fs) (file_bytes v)) F ⊥ out err s (λ a x. x) never end
+
+  pub file_runs : (l : LinkedFile) (out err : Channel) (s : Status) → IsVerifiedOf v l
+      → RunsTo (IsMeant l.file starts (meaning (record { linked = l; formulas = fs }) (limits_of default_options) default_options.fuel)) ⊥ out err s
+      → RunsTo (OfFileRead (Run default_options fs) (file_bytes v)) ⊥ out err s
+  file_runs l out err s is end =
+      as_read ⊥ out err s (λ h. h) (verified_runs default_options fs l starts (Some (file_bytes v)) ⊥ out err s (read_verified_is (Some (file_bytes v)) v starts l again is) end)
+
+  pub file_unverified : (e : VerifiedError) (stop : Stop) (out err : Channel) (s : Status) → IsUnverifiedBy v starts e → stop ≡ stop_of_verified e → Got out [] → GivesLine err (stop_answer stop) s
+      → RunsTo (OfFileRead (Run default_options fs) (file_bytes v)) ⊥ out err s
+  file_unverified e stop out err s h is got line =
+      as_read (HasFailed (input_of (file_bytes v))) out err s (never_failed (file_bytes v))
+      (unverified_runs default_options fs (input_of (file_bytes v)) out err stop s
+      (subst (λ (x : Stop). Stops (OfFileRead Unverified) (input_of (file_bytes v)) x) (sym is)
+      (verified_stops (input_of (file_bytes v)) e (unverified_refuses (Some (file_bytes v)) v starts e again h) (no_fault e h)))
+      got line)
+    where
+      no_fault : (e : VerifiedError) → IsUnverifiedBy v starts e → e ≡ errors.ReadFault → HasFailed (input_of (file_bytes v))
+      no_fault (errors.Refused place reason) h is = absurd cc
+      no_fault (errors.Link rule i) h is = absurd cc
+      no_fault (errors.Verify m offset rule) h is = absurd cc
+      no_fault errors.ReadFault h is = absurd h
+      no_fault errors.NoMemory h is = absurd cc
 
 -- ---- one piece after the other
 
@@ -97,16 +138,16 @@ module _ (o : GenOptions) (fs : List Formula) where
       let b = is_done (channel old mid n m) before r x d in
       bytes_failed (Gen o fs) ⊥ (channel old new n k) err (given (b.answer.out ++ lines)) s (Gen.done b.answer b.ran b.is refl) (rose_later n m k le g.0) (front_both old mid new b.answer.out lines b.got g.1) g.2
 
--- ---- the bytes and the lines that were made
+-- ---- the file and the lines that were made
 
-pub made_undone : (o : GenOptions) (fs : List Formula) (bytes : List ℕ) (out err : Channel) (s : Status) → bytes ≡ file_bytes (generated o.seed o.methods) → RunsTo (OfFileRead (Run default_options fs) bytes) ⊥ out err s → s ≢ status.Done
+pub made_undone : (o : GenOptions) (fs : List Formula) (v : Abc) (out err : Channel) (s : Status) → v ≡ generated o.seed o.methods → RunsTo (OfFileRead (Run default_options fs) (file_bytes v)) ⊥ out err s → s ≢ status.Done
     → IsEnd (Gen o fs) ⊥ out err s
-made_undone o fs bytes out err s e x not = undone o fs out err s (subst (λ (b : List ℕ). RunsTo (OfFileRead (Run default_options fs) b) ⊥ out err s) e x) not
+made_undone o fs v out err s e x not = undone o fs out err s (subst (λ (w : Abc). RunsTo (OfFileRead (Run default_options fs) (file_bytes w)) ⊥ out err s) e x) not
 
-pub made_done : (o : GenOptions) (fs : List Formula) (bytes made : List ℕ) (old mid new : Option (List ℕ)) (n m k : ℕ) (before err : Channel) (r s : Status) → bytes ≡ file_bytes (generated o.seed o.methods) → made ≡ measured (generated o.seed o.methods)
-    → RunsTo (OfFileRead (Run default_options fs) bytes) ⊥ (channel old mid n m) before r → r ≡ status.Done → n ≤ m → GivesBytes (channel mid new m k) err made s → IsEnd (Gen o fs) ⊥ (channel old new n k) err s
-made_done o fs bytes made old mid new n m k before err r s e f x d le given_lines =
-    then_lines o fs old mid new n m k before err r s (subst (λ (b : List ℕ). RunsTo (OfFileRead (Run default_options fs) b) ⊥ (channel old mid n m) before r) e x) d le
+pub made_done : (o : GenOptions) (fs : List Formula) (v : Abc) (made : List ℕ) (old mid new : Option (List ℕ)) (n m k : ℕ) (before err : Channel) (r s : Status) → v ≡ generated o.seed o.methods → made ≡ measured (generated o.seed o.methods)
+    → RunsTo (OfFileRead (Run default_options fs) (file_bytes v)) ⊥ (channel old mid n m) before r → r ≡ status.Done → n ≤ m → GivesBytes (channel mid new m k) err made s → IsEnd (Gen o fs) ⊥ (channel old new n k) err s
+made_done o fs v made old mid new n m k before err r s e f x d le given_lines =
+    then_lines o fs old mid new n m k before err r s (subst (λ (w : Abc). RunsTo (OfFileRead (Run default_options fs) (file_bytes w)) ⊥ (channel old mid n m) before r) e x) d le
     (subst (λ (l : List ℕ). GivesBytes (channel mid new m k) err l s) f given_lines)
 
 -- ---- it is no answer to words

@@ -1,15 +1,20 @@
 ghost use Rattle.std.specs.Prelude.{◌≡◌, ◌≤◌};
 ghost use Rattle.abc_answers.specs.Answers.{OfFileRead};
 ghost use Rattle.abc_answers.specs.End.{IsEnd, RunsTo, stream};
+ghost use Rattle.abc_bodies.specs.Places.{ArePlaces};
 ghost use Rattle.abc_runcommands.specs.Runs.{Gen, Run, default_options};
 ghost use Rattle.abc_gen.specs.Generated.{generated};
 ghost use Rattle.abc_gen.specs.Measured.{measured};
+ghost use Rattle.abc_gen.specs.Placed.{IsReadAgain};
 ghost use Rattle.abc_tables.specs.Files.{file_bytes};
 
-use crate::run_command::run;
+use crate::run_command::run_verified;
 use abc_answers::{Stop, give_bytes, give_stop};
-use abc_base::{Host, NoMemory, Sink, Status, SteadySource};
+use abc_base::{Host, NoMemory, Sink, Status};
+use abc_file::Places;
 use abc_gen::{Made, make};
+use abc_tables::Abc;
+use abc_verified::verified_file;
 use abc_words::{GenOptions, RunOptions};
 use std::alloc::Global;
 
@@ -23,42 +28,46 @@ const DEFAULTS: RunOptions = RunOptions {
     stack: 100_000,
 };
 
-/// How many bytes a read gives at most.
-const PIECE: usize = 4_096;
-
-/// Does `run` with these bytes as its input, and the default options.
-fn run_bytes<K: Sink, E: Sink, H: Host>(
+/// Does `run` with the canonical bytes of a file as its input, and the default options: they would be read as this file, with its
+/// instructions at these places.
+fn run_file<K: Sink, E: Sink, H: Host>(
     alloc: Global,
-    bytes: &[u8],
+    file: Abc,
+    places: &Places,
     out: &mut K,
     err: &mut E,
     host: &H,
 ) -> Status
-    ensures end { RunsTo (OfFileRead (Run default_options (H.formulas host.now)) bytes.now) ⊥ (stream K.written K.faults out.old out.new) (stream E.written E.faults err.old err.new) result }
+    requires read { IsReadAgain file places.now }
+    requires places { ArePlaces file.bodies places.now }
+    ensures end { RunsTo (OfFileRead (Run default_options (H.formulas host.now)) (file_bytes file)) ⊥ (stream K.written K.faults out.old out.new) (stream E.written E.faults err.old err.new) result }
     ensures later { K.faults out.old ≤ K.faults out.new }
     ensures quiet { result ≡ Status.Done → err.new ≡ err.old }
 {
-    match SteadySource::new(alloc, bytes, PIECE) {
-        Ok(mut source) => run(alloc, &DEFAULTS, &mut source, out, err, host),
-        Err(NoMemory) => give_stop(err, Stop::NoMemory),
+    match verified_file(alloc, file, places) {
+        Ok(verified) => run_verified(alloc, verified, places, &DEFAULTS, out, err, host),
+        Err(e) => give_stop(err, Stop::from(e)),
     }
 }
 
 /// Runs a generated file, and where the run is done writes the lines on the file.
 fn run_made<K: Sink, E: Sink, H: Host>(
     alloc: Global,
-    made: &Made,
+    made: Made,
     options: &GenOptions,
     out: &mut K,
     err: &mut E,
     host: &H,
 ) -> Status
-    requires bytes { made.now.bytes.items ≡ file_bytes (generated (options.now).seed (options.now).methods) }
-    requires lines { made.now.lines.items ≡ measured (generated (options.now).seed (options.now).methods) }
+    requires file { made.file ≡ generated (options.now).seed (options.now).methods }
+    requires read { IsReadAgain made.file made.notes.places }
+    requires places { ArePlaces made.file.bodies made.notes.places }
+    requires lines { made.notes.lines.items ≡ measured (generated (options.now).seed (options.now).methods) }
     ensures { IsEnd (Gen options.now (H.formulas host.now)) ⊥ (stream K.written K.faults out.old out.new) (stream E.written E.faults err.old err.new) result }
 {
-    match run_bytes(alloc, made.bytes.as_slice(), out, err, host) {
-        Status::Done => give_bytes(out, err, made.lines.as_slice()),
+    let Made { file, notes } = made;
+    match run_file(alloc, file, &notes.places, out, err, host) {
+        Status::Done => give_bytes(out, err, notes.lines.as_slice()),
         status => status,
     }
 }
@@ -75,7 +84,7 @@ pub fn generate<K: Sink, E: Sink, H: Host>(
     ensures { IsEnd (Gen options.now (H.formulas host.now)) ⊥ (stream K.written K.faults out.old out.new) (stream E.written E.faults err.old err.new) result }
 {
     match make(alloc, options.seed, options.methods) {
-        Ok(made) => run_made(alloc, &made, options, out, err, host),
+        Ok(made) => run_made(alloc, made, options, out, err, host),
         Err(NoMemory) => give_stop(err, Stop::NoMemory),
     }
 }

@@ -42,7 +42,7 @@ fn run_machine<K: Sink, E: Sink, H: Host>(
 }
 
 /// Runs a verified file, whose instructions were read at these places, and writes the line of how the run ends.
-fn run_verified<K: Sink, E: Sink, H: Host>(
+pub(crate) fn run_verified<K: Sink, E: Sink, H: Host>(
     alloc: Global,
     verified: Verified,
     places: &Places,

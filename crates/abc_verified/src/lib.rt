@@ -10,4 +10,4 @@ pub use abc_link::{Item, ItemKind, LinkRule};
 pub use abc_verify::{Verified, VerifyRule};
 pub use error::VerifiedError;
 pub use laws::one_linked_file;
-pub use reading::read_verified;
+pub use reading::{read_verified, verified_file};

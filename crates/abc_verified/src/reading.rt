@@ -50,8 +50,9 @@ fn verified_of(alloc: Global, linked: Linked, places: &Places) -> Result<Verifie
     }
 }
 
-/// A file that is linked and verified, or why it isn't.
-fn verified_file(alloc: Global, abc: Abc, places: &Places) -> Result<Verified, VerifiedError>
+/// A file, linked and verified, whose instructions are read at these places; or why it isn't: its first broken rule of linking, or else
+/// the first method without a typing.
+pub fn verified_file(alloc: Global, abc: Abc, places: &Places) -> Result<Verified, VerifiedError>
     requires fits { Fits abc }
     requires places { ArePlaces abc.bodies places.now }
     ensures ok { IfOk result (λ l. IsVerifiedOf abc l) }
