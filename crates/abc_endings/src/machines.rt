@@ -5,11 +5,12 @@ ghost use Rattle.abc_meaning.specs.Meaning.{meaning};
 ghost use Rattle.abc_ticks.specs.OpeningsBegun.{setting};
 ghost use Rattle.abc_ticks.specs.Placed.{CanBeTold};
 
-use abc_base::{Host, release};
+use abc_base::Host;
 use abc_heap::Limits;
 use abc_ticks::{Machine, Session, ends_can_be_told};
 use abc_verified::Verified;
 use abc_words::RunOptions;
+use std::mem::forget;
 
 /// A limit of cells, which 32 bits count.
 fn counted(cells: u32) -> u32
@@ -43,17 +44,17 @@ pub fn end_can_be_told<H: Host>(machine: &Machine, fuel: u32, host: &H)
     ends_can_be_told();
 }
 
-/// Gives back the memory of a machine. Here alone, since the drop of all that stands in it is proved in each crate that does it.
+/// Lets a machine go. Little is done once a run has ended, and the lists in a machine are many: to free each of them would only take time.
 pub fn close_machine(machine: Machine) {
-    release(machine);
+    forget(machine);
 }
 
-/// Gives back the memory of a session.
+/// Lets a session go, as `close_machine` does.
 pub fn close_session(session: Session) {
-    release(session);
+    forget(session);
 }
 
-/// Gives back the memory of a verified file.
+/// Lets a verified file go, as `close_machine` does.
 pub fn close_file(verified: Verified) {
-    release(verified);
+    forget(verified);
 }

@@ -1,4 +1,4 @@
-ghost use Rattle.std.specs.Prelude.{◌≡◌, ◌<◌, ◌++◌, ◌%◌, ◌+◌, ◌^◌, pos, IfOk, OnOk};
+ghost use Rattle.std.specs.Prelude.{◌≡◌, ◌<◌, ◌++◌, [], ◌%◌, ◌+◌, ◌^◌, pos, IfOk, OnOk};
 ghost use Rattle.abc_gen.specs.Codes.{call_of, drawn_code, first_code as code_of_first, operation_of, repeated as code_of};
 ghost use Rattle.abc_gen.specs.Draws.{after};
 
@@ -82,11 +82,15 @@ fn operation(number: u32) -> u8
     }
 }
 
-/// The code of a function that does an operation with its argument and an operand, so many times.
-fn repeated(alloc: Global, rounds: i8, operand: i16, op: u8) -> Result<Table<Instr>, NoMemory>
-    ensures { IfOk result (λ code. code ≡ code_of rounds operand op) }
+/// Adds the code of a function that does an operation with its argument and an operand, so many times.
+fn push_repeated(
+    code: &mut Table<Instr>,
+    rounds: i8,
+    operand: i16,
+    op: u8,
+) -> Result<(), NoMemory>
+    ensures { OnOk result (code.new ≡ code.old ++ code_of rounds operand op) }
 {
-    let mut code = Table::new(alloc);
     code.push(Instr::Plain(GETLOCAL_1))?;
     code.push(Instr::Plain(CONVERT_I))?;
     code.push(Instr::Plain(SETLOCAL_2))?;
@@ -103,7 +107,7 @@ fn repeated(alloc: Global, rounds: i8, operand: i16, op: u8) -> Result<Table<Ins
     code.push(Instr::Branch(IFGT, 5))?;
     code.push(Instr::Plain(GETLOCAL_2))?;
     code.push(Instr::Plain(RETURNVALUE))?;
-    Ok(code)
+    Ok(())
 }
 
 /// How often an operation is done, by a draw: 1 to 8 times.
@@ -120,13 +124,21 @@ fn operand(draw: u32) -> i16
     (draw % 32_768) as i16
 }
 
-/// The code of a function, by three draws.
-pub(crate) fn drawn_code_of(alloc: Global, draws: &mut Draws) -> Result<Table<Instr>, NoMemory>
-    ensures code { IfOk result (λ code. code ≡ drawn_code draws.old.number) }
+/// The code of a function, by three draws. It is gathered in a list that serves one function after the other, and has nothing before
+/// and after.
+pub(crate) fn drawn_code_of(
+    alloc: Global,
+    draws: &mut Draws,
+    gathering: &mut Table<Instr>,
+) -> Result<Table<Instr>, NoMemory>
+    requires none { gathering.old ≡ [] }
+    ensures code { IfOk result (λ code. (code ≡ drawn_code draws.old.number) × (gathering.new ≡ [])) }
     ensures draws { draws.new.number ≡ after draws.old.number 3 }
 {
     let rounds = rounds(draws.draw());
     let operand = operand(draws.draw());
     let op = operation(draws.draw() % 4);
-    repeated(alloc, rounds, operand, op)
+    push_repeated(gathering, rounds, operand, op)?;
+    let code = gathering.move_out(alloc)?;
+    Ok(code)
 }

@@ -126,8 +126,9 @@ fn bodies(alloc: Global, seed: u32, functions: u32) -> Result<Table<Body>, NoMem
     let mut bodies = Table::new(alloc);
     bodies.push(body(0, 2, 1, first_code(alloc, functions)?, alloc))?;
     let mut draws = Draws { number: seed };
+    let mut gathering = Table::new(alloc);
     for function in 0..functions {
-        let code = drawn_code_of(alloc, &mut draws)?;
+        let code = drawn_code_of(alloc, &mut draws, &mut gathering)?;
         bodies.push(body(function + 1, 3, 0, code, alloc))?;
     }
     Ok(bodies)
