@@ -74,7 +74,7 @@ index_held fixed made strings cs new b i c h x e is g same =
     subst (λ (y : Filling Cell). IsIndexed fixed made strings y b) (sym is) done
 
 -- a property that goes
-pub index_gone : (fixed made : List ℕ) (strings : List (List ℕ)) (cs new : Filling Cell) (b b' : Buckets) (i d : ℕ) (c : Cell) (h : Held) → IsIndexed fixed made strings cs b → slice_get cs.items i ≡ Some c → new ≡ record { items = held_at cs.items i h; limit = cs.limit } → property_in h ≡ None → bucket_of (length b.lasts.items) (text_in fixed made strings) c.owner (property_in c.held) ≡ Some d → ((ks : List (Option ℕ)) → AreBuckets ks b.lasts.items b.befores.items → get_or ks i None ≡ Some d → AreBuckets (set ks i None) b'.lasts.items b'.befores.items) → (length b'.lasts.items ≡ length b.lasts.items) × (length b'.befores.items ≡ length b.befores.items) → IsIndexed fixed made strings new b'
+pub index_gone : (fixed made : List ℕ) (strings : List (List ℕ)) (cs new : Filling Cell) (b b' : Buckets) (i d : ℕ) (c : Cell) (h : Held) → IsIndexed fixed made strings cs b → slice_get cs.items i ≡ Some c → new ≡ record { items = held_at cs.items i h; limit = cs.limit } → property_in h ≡ None → bucket_of (length b.lasts.items) (text_in fixed made strings) c.owner (property_in c.held) ≡ Some d → ((ks : List (Option ℕ)) → AreBuckets ks b.lasts.items b.befores.items → get_or ks i None ≡ Some d → AreBuckets (set ks i None) b'.lasts.items b'.befores.items) → (length b'.lasts.items ≡ length b.lasts.items) × (b'.befores.limit ≡ b.befores.limit) → IsIndexed fixed made strings new b'
 index_gone fixed made strings cs new b b' i d c h x e is none key goes sizes =
     let n = length b.lasts.items in
     let f = text_in fixed made strings in
@@ -101,7 +101,7 @@ index_none fixed made strings cs new b c x is limit room none =
     let now : buckets_of n f new.items ≡ ks ++ None ∷ [] = ap (buckets_of n f) is ∙ (buckets_more n f cs.items c ∙ ap (λ p. ks ++ bucket_of n f c.owner p ∷ []) none) in
     record {
       names = subst (AreNamesIn fixed made strings) (sym is) (names_more fixed made strings cs.items c x.names (λ m v p. no_name (sym none ∙ p)));
-      buckets = subst (λ k. AreBuckets k b.lasts.items b.befores.items) (sym now) (none_added ks b.lasts.items b.befores.items x.buckets (omega (arith, buckets_long n f cs.items, x.room)));
+      buckets = subst (λ k. AreBuckets k b.lasts.items b.befores.items) (sym now) (none_added ks b.lasts.items b.befores.items x.buckets);
       some = x.some;
       room = omega (arith, x.room);
     }
@@ -116,7 +116,7 @@ pub keeps_on : (a b c : Filling Cell) → KeepsIndex a b → KeepsIndex b c → 
 keeps_on a b c f g = λ fixed made strings x i. g fixed made strings x (f fixed made strings x i)
 
 -- one more property
-pub index_one : (fixed made : List ℕ) (strings : List (List ℕ)) (cs new : Filling Cell) (b b' : Buckets) (o place d : ℕ) (h : Held) (name : Span) (v : Value) → IsIndexed fixed made strings cs b → IsAdded cs.items new.items o h → property_in h ≡ Some (name, v) → new.limit ≡ cs.limit → IsTextIn fixed made strings name → place ≡ length cs.items → d ≡ bucket (length b.lasts.items) o (text_in fixed made strings name) → ((ks : List (Option ℕ)) → place ≡ length ks → AreBuckets ks b.lasts.items b.befores.items → AreBuckets (ks ++ Some d ∷ []) b'.lasts.items b'.befores.items) → (length b'.lasts.items ≡ length b.lasts.items) × (length b'.befores.items ≡ length b.befores.items) → IsIndexed fixed made strings new b'
+pub index_one : (fixed made : List ℕ) (strings : List (List ℕ)) (cs new : Filling Cell) (b b' : Buckets) (o place d : ℕ) (h : Held) (name : Span) (v : Value) → IsIndexed fixed made strings cs b → IsAdded cs.items new.items o h → property_in h ≡ Some (name, v) → new.limit ≡ cs.limit → IsTextIn fixed made strings name → place ≡ length cs.items → d ≡ bucket (length b.lasts.items) o (text_in fixed made strings name) → ((ks : List (Option ℕ)) → place ≡ length ks → AreBuckets ks b.lasts.items b.befores.items → AreBuckets (ks ++ Some d ∷ []) b'.lasts.items b'.befores.items) → (length b'.lasts.items ≡ length b.lasts.items) × (b'.befores.limit ≡ b.befores.limit) → IsIndexed fixed made strings new b'
 index_one fixed made strings cs new b b' o place d h name v x (c, is, own, held) prop limit text at key comes sizes =
     let n = length b.lasts.items in
     let f = text_in fixed made strings in
@@ -166,12 +166,12 @@ index_text fixed made new more strings cs b x is =
     subst (λ m. IsIndexed fixed m strings cs b) (sym is) grown
 
 -- nothing is in the buckets at first
-pub index_empty : (fixed : List ℕ) (strings : List (List ℕ)) (cs : Filling Cell) (b : Buckets) (n m : ℕ) → cs.items ≡ [] → cs.limit ≤ m → 0 < n → b.lasts.items ≡ replicate n 0 → b.befores.items ≡ replicate m 0 → IsIndexed fixed [] strings cs b
+pub index_empty : (fixed : List ℕ) (strings : List (List ℕ)) (cs : Filling Cell) (b : Buckets) (n m : ℕ) → cs.items ≡ [] → cs.limit ≤ m → 0 < n → b.lasts.items ≡ replicate n 0 → b.befores ≡ record { items = []; limit = m } → IsIndexed fixed [] strings cs b
 index_empty fixed strings cs b n m none limit some lasts befores = record {
   names = λ i c s v e p. no_cell (sym (ap (λ xs. slice_get xs i) none) ∙ e);
   buckets = subst (λ ks. AreBuckets ks b.lasts.items b.befores.items) (sym (ap (buckets_of (length b.lasts.items) (text_in fixed [] strings)) none)) nothing;
   some = omega (arith, ap length lasts, length-replicate {A = ℕ} n 0);
-  room = omega (arith, ap length befores, length-replicate {A = ℕ} m 0);
+  room = omega (arith, limit, ap (λ (f : Filling ℕ). f.limit) befores);
 }
   where
     no_cell : {X Y : Type 0} {p : X} → ◌≡◌ {A = Option X} None (Some p) → Y
@@ -181,5 +181,5 @@ index_empty fixed strings cs b n m none limit some lasts befores = record {
     nothing = record {
       lasts = λ d h. ap (λ xs. get_or xs d 0) lasts ∙ get_or-replicate n d 0 0 (omega (arith, h, ap length lasts, length-replicate {A = ℕ} n 0));
       befores = λ p d e. no_cell e;
-      room = omega arith;
+      room = λ p d e. no_cell e;
     }

@@ -86,8 +86,8 @@ last_seam ks k b e =
     ∙ (last_on (ks ++ k ∷ []) b (length ks) (ap (is_in b) (get_or-append_seam ks k [] None) ∙ e) ∙ last_front ks k b (length ks) (omega arith))
 
 -- a place that is in no bucket
-pub none_added : (ks : List (Option ℕ)) (lasts befores : List ℕ) → AreBuckets ks lasts befores → length ks < length befores → AreBuckets (ks ++ None ∷ []) lasts befores
-none_added ks lasts befores a r = record {
+pub none_added : (ks : List (Option ℕ)) (lasts befores : List ℕ) → AreBuckets ks lasts befores → AreBuckets (ks ++ None ∷ []) lasts befores
+none_added ks lasts befores a = record {
   lasts = λ b h. a.lasts b h ∙ sym (last_seam ks None b refl);
   befores = λ p b e. elim (decide p (length ks)) [
     | inl q ↦ absurd (no_seam ks p b q e)
@@ -96,11 +96,21 @@ none_added ks lasts befores a r = record {
         let l : p < length ks = omega (arith, more_long ks None, w) in
         a.befores p b (sym (get_or-append ks (None ∷ []) None p l) ∙ e) ∙ sym (last_front ks None b p (omega arith))
   ];
-  room = omega (arith, more_long ks None);
+  room = λ p b e. elim (decide p (length ks)) [
+    | inl q ↦ absurd (no_seam ks p b q e)
+    | inr q ↦
+        let w = within (ks ++ None ∷ []) p b e in
+        let l : p < length ks = omega (arith, more_long ks None, w) in
+        a.room p b (sym (get_or-append ks (None ∷ []) None p l) ∙ e)
+  ];
 }
   where
     no_seam : (ks : List (Option ℕ)) (p b : ℕ) → p ≡ length ks → get_or (ks ++ None ∷ []) p None ≡ Some b → ⊥
     no_seam ks p b q e = let s = get_or-append_seam ks None [] None in let t = ap (λ k. get_or (ks ++ None ∷ []) k None) q in absurd (cc (s, t, e))
+
+-- further on, with no place before those on the way
+pub reached : (ks : List (Option ℕ)) (lasts befores more : List ℕ) → AreBuckets ks lasts befores → ((p : ℕ) → get_or more p 0 ≡ get_or befores p 0) × (length befores ≤ length more) → AreBuckets ks lasts more
+reached ks lasts befores more a same = record { lasts = a.lasts; befores = λ p b e. same.0 p ∙ a.befores p b e; room = λ p b e. omega (arith, a.room p b e, same.1) }
 
 -- one more place in a bucket
 pub one_added : (ks : List (Option ℕ)) (lasts befores : List ℕ) (d n : ℕ) → AreBuckets ks lasts befores → n ≡ length ks → n < length befores → d < length lasts → AreBuckets (ks ++ Some d ∷ []) (set lasts d (n + 1)) (set befores n (get_or lasts d 0))
@@ -126,7 +136,13 @@ one_added ks lasts befores d n a e r i = record {
         let l : p < length ks = omega (arith, more_long ks (Some d), v) in
         get_or-set_other befores n p (get_or lasts d 0) 0 q ∙ (a.befores p b (sym (get_or-append ks (Some d ∷ []) None p l) ∙ w) ∙ sym (last_front ks (Some d) b p (omega arith)))
   ];
-  room = omega (arith, more_long ks (Some d), length-set befores n (get_or lasts d 0));
+  room = λ p b w. elim (decide p n) [
+    | inl q ↦ omega (arith, q, r, length-set befores n (get_or lasts d 0))
+    | inr q ↦
+        let v = within (ks ++ Some d ∷ []) p b w in
+        let l : p < length ks = omega (arith, more_long ks (Some d), v) in
+        omega (arith, a.room p b (sym (get_or-append ks (Some d ∷ []) None p l) ∙ w), length-set befores n (get_or lasts d 0))
+  ];
 }
   where
     n_more : n + 1 ≡ suc (length ks)
@@ -211,7 +227,7 @@ last_gone ks lasts befores d p a i e was = record {
         | inr t ↦ gone_other ks p d b q e (λ z. t (sym z))
       ] in
       a.befores q b s.1 ∙ sym stays;
-  room = omega (arith, a.room, gone_long ks p);
+  room = λ q b w. a.room q b (left_in ks p q b w).1;
 }
 
 -- it was the one before another
@@ -227,7 +243,7 @@ other_gone ks lasts befores d p x a i e ex was = record {
         | inl t ↦
             let same : b ≡ d = some_same b d (sym s.1 ∙ (ap (λ k. get_or ks k None) t ∙ ex)) in
             ap (λ k. get_or (set befores x (get_or befores p 0)) k 0) t
-            ∙ (get_or-set_same befores x (get_or befores p 0) 0 (omega (arith, a.room, within ks x d ex))
+            ∙ (get_or-set_same befores x (get_or befores p 0) 0 (a.room x d ex)
             ∙ (a.befores p d e ∙ sym (ap (λ k. last_in (set ks p None) k q) same ∙ (ap (last_in (set ks p None) d) t ∙ (gone_above ks p d x e over).0 before))))
         | inr t ↦
             let stays : last_in (set ks p None) b q ≡ last_in ks b q = elim (decide b d) [
@@ -236,7 +252,7 @@ other_gone ks lasts befores d p x a i e ex was = record {
             ] in
             get_or-set_other befores x q (get_or befores p 0) 0 t ∙ (a.befores q b s.1 ∙ sym stays)
       ];
-  room = omega (arith, a.room, gone_long ks p, length-set befores x (get_or befores p 0));
+  room = λ q b w. omega (arith, a.room q b (left_in ks p q b w).1, length-set befores x (get_or befores p 0));
 }
   where
     before : last_in ks d x ≡ p + 1
@@ -270,9 +286,8 @@ top_above ks lasts befores d p a i e =
     let last = a.lasts d i in
     let n = within ks p d e in
     let c = last_covers ks d (length ks) p n e in
-    let l = last_le ks d (length ks) in
-    let r = a.room in
-    (omega (arith, last, c), ap (λ k. get_or ks (k - 1) None) last ∙ last_hit ks d (length ks) (omega (arith, c)), omega (arith, last, c, l, r), omega (arith, n, r))
+    let top : get_or ks (get_or lasts d 0 - 1) None ≡ Some d = ap (λ k. get_or ks (k - 1) None) last ∙ last_hit ks d (length ks) (omega (arith, c)) in
+    (omega (arith, last, c), top, a.room (get_or lasts d 0 - 1) d top, a.room p d e)
 
 -- place x is above p, and place y is the one before it
 pub record IsAbove (ks : List (Option ℕ)) (befores : List ℕ) (d : ℕ) (p : ℕ) (x : ℕ) (y : ℕ) : Type 0 where
@@ -283,7 +298,7 @@ pub record IsAbove (ks : List (Option ℕ)) (befores : List ℕ) (d : ℕ) (p : 
 pub before_above : (ks : List (Option ℕ)) (lasts befores : List ℕ) (d p x : ℕ) → AreBuckets ks lasts befores → get_or ks p None ≡ Some d → get_or ks x None ≡ Some d → p < x → (p + 1 ≤ get_or befores x 0) × (get_or befores x 0 ≤ x) × (x < length befores)
 before_above ks lasts befores d p x a e ex l =
     let b = a.befores x d ex in
-    (omega (arith, b, last_covers ks d x p l e), omega (arith, b, last_le ks d x), omega (arith, within ks x d ex, a.room))
+    (omega (arith, b, last_covers ks d x p l e), omega (arith, b, last_le ks d x), a.room x d ex)
 
 pub above_first : (ks : List (Option ℕ)) (lasts befores : List ℕ) (d p x y : ℕ) → AreBuckets ks lasts befores → d < length lasts → get_or ks p None ≡ Some d → p + 1 < get_or lasts d 0 → x + 1 ≡ get_or lasts d 0 → y + 1 ≡ get_or befores x 0 → IsAbove ks befores d p x y
 above_first ks lasts befores d p x y a i e more ex ey =
@@ -329,4 +344,4 @@ unfolding hashed
 hash_done h i t b = ap (hashed h) (drop_of_length-le t b)
 
 pub in_befores : (ks : List (Option ℕ)) (lasts befores : List ℕ) (d x : ℕ) → AreBuckets ks lasts befores → get_or ks x None ≡ Some d → x < length befores
-in_befores ks lasts befores d x a e = omega (arith, within ks x d e, a.room)
+in_befores ks lasts befores d x a e = a.room x d e

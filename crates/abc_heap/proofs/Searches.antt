@@ -249,8 +249,8 @@ search_falls fixed made strings cs b o t left next x s more e =
     let here = x.buckets.befores (left - 1) (bucket n o t) (s.own more) in
     omega (arith, e, here, last_le (buckets_of n f cs.items) (bucket n o t) (left - 1))
 
-pub search_within : (fixed made : List ℕ) (strings : List (List ℕ)) (cs : Filling Cell) (b : Buckets) (i : ℕ) → IsIndexed fixed made strings cs b → i < length cs.items → i < length b.befores.items
-search_within fixed made strings cs b i x w = omega (arith, w, x.buckets.room, buckets_long (length b.lasts.items) (text_in fixed made strings) cs.items)
+pub search_within : (fixed made : List ℕ) (strings : List (List ℕ)) (cs : Filling Cell) (b : Buckets) (o : ℕ) (t : List ℕ) (left : ℕ) → IsIndexed fixed made strings cs b → IsSearched cs.items (length b.lasts.items) o (text_in fixed made strings) t left → 0 < left → left - 1 < length b.befores.items
+search_within fixed made strings cs b o t left x s more = x.buckets.room (left - 1) (bucket (length b.lasts.items) o t) (s.own more)
 
 -- the same name has the same text
 pub same_text : (fixed made : List ℕ) (strings : List (List ℕ)) (held name : Span) (t : List ℕ) → held ≡ name → t ≡ text_in fixed made strings name → true ≡ bytes_eq (text_in fixed made strings held) t

@@ -95,7 +95,7 @@ spot_bucket hs cells o n f t x a b spot =
     key_at n f cells x.place w.0 w.1 ∙ (ap (λ m. bucket_of n f m (property_in w.0.held)) own ∙ named_bucket n o f t (property_in w.0.held) named)
 
 -- a property goes
-pub hold_gone : (hs : Filling Head) (cs new : Filling Cell) (ss : Filling ScopeNode) (fixed : List ℕ) (ts : Filling ℕ) (strings : List (List ℕ)) (b b' : Buckets) (m : Limits) (o d : ℕ) (t : List ℕ) (x : Spot) → IsStored hs cs ss fixed ts strings b m → o < length hs.items → IsSpot (text_in fixed ts.items strings) t cs.items hs.items o x → d ≡ bucket (length b.lasts.items) o t → new ≡ record { items = held_at cs.items x.place Deleted; limit = cs.limit } → ((ks : List (Option ℕ)) → AreBuckets ks b.lasts.items b.befores.items → get_or ks x.place None ≡ Some d → AreBuckets (set ks x.place None) b'.lasts.items b'.befores.items) → (length b'.lasts.items ≡ length b.lasts.items) × (length b'.befores.items ≡ length b.befores.items) → IsStored hs new ss fixed ts strings b' m
+pub hold_gone : (hs : Filling Head) (cs new : Filling Cell) (ss : Filling ScopeNode) (fixed : List ℕ) (ts : Filling ℕ) (strings : List (List ℕ)) (b b' : Buckets) (m : Limits) (o d : ℕ) (t : List ℕ) (x : Spot) → IsStored hs cs ss fixed ts strings b m → o < length hs.items → IsSpot (text_in fixed ts.items strings) t cs.items hs.items o x → d ≡ bucket (length b.lasts.items) o t → new ≡ record { items = held_at cs.items x.place Deleted; limit = cs.limit } → ((ks : List (Option ℕ)) → AreBuckets ks b.lasts.items b.befores.items → get_or ks x.place None ≡ Some d → AreBuckets (set ks x.place None) b'.lasts.items b'.befores.items) → (length b'.lasts.items ≡ length b.lasts.items) × (b'.befores.limit ≡ b.befores.limit) → IsStored hs new ss fixed ts strings b' m
 hold_gone hs cs new ss fixed ts strings b b' m o d t x s in_heads spot key e goes sizes =
     let n = length b.lasts.items in
     let f = text_in fixed ts.items strings in
@@ -109,7 +109,7 @@ hold_gone hs cs new ss fixed ts strings b b' m o d t x s in_heads spot key e goe
     }
 
 -- at first there is nothing
-pub empty_stored : (hs : Filling Head) (cs : Filling Cell) (ss : Filling ScopeNode) (fixed : List ℕ) (ts : Filling ℕ) (strings : List (List ℕ)) (b : Buckets) (m : Limits) (n : ℕ) → hs ≡ record { items = []; limit = m.objects } → cs ≡ record { items = []; limit = m.cells } → ss ≡ record { items = []; limit = m.cells } → ts ≡ record { items = []; limit = m.text } → m.cells < 2 ^ 32 → 0 < n → b.lasts.items ≡ replicate n 0 → b.befores.items ≡ replicate m.cells 0 → IsStored hs cs ss fixed ts strings b m
+pub empty_stored : (hs : Filling Head) (cs : Filling Cell) (ss : Filling ScopeNode) (fixed : List ℕ) (ts : Filling ℕ) (strings : List (List ℕ)) (b : Buckets) (m : Limits) (n : ℕ) → hs ≡ record { items = []; limit = m.objects } → cs ≡ record { items = []; limit = m.cells } → ss ≡ record { items = []; limit = m.cells } → ts ≡ record { items = []; limit = m.text } → m.cells < 2 ^ 32 → 0 < n → b.lasts.items ≡ replicate n 0 → b.befores ≡ record { items = []; limit = m.cells } → IsStored hs cs ss fixed ts strings b m
 empty_stored hs cs ss fixed ts strings b m n eh ec es et small some lasts befores =
     let no_heads : hs.items ≡ [] = ap (λ (f : Filling Head). f.items) eh in
     let no_cells : cs.items ≡ [] = ap (λ (f : Filling Cell). f.items) ec in

@@ -38,7 +38,7 @@ last_in ks b (suc n) = if is_in b (get_or ks n None) then suc n else last_in ks 
 pub record AreBuckets (ks : List (Option ℕ)) (ls : List ℕ) (bs : List ℕ) : Type 0 where
   pub lasts : (b : ℕ) → b < length ls → get_or ls b 0 ≡ last_in ks b (length ks)
   pub befores : (p b : ℕ) → get_or ks p None ≡ Some b → get_or bs p 0 ≡ last_in ks b p
-  pub room : length ks ≤ length bs
+  pub room : (p b : ℕ) → get_or ks p None ≡ Some b → p < length bs
 
 -- each property's name is a text
 abbrev pub AreNamesIn : List ℕ → List ℕ → List (List ℕ) → List Cell → Type 0
@@ -49,7 +49,7 @@ pub record IsIndexed (fixed : List ℕ) (made : List ℕ) (strings : List (List 
   pub names : AreNamesIn fixed made strings cells.items
   pub buckets : AreBuckets (buckets_of (length b.lasts.items) (text_in fixed made strings) cells.items) b.lasts.items b.befores.items
   pub some : 0 < length b.lasts.items
-  pub room : cells.limit ≤ length b.befores.items
+  pub room : cells.limit ≤ b.befores.limit
 
 -- what changes no property keeps them there
 abbrev pub KeepsIndex : Filling Cell → Filling Cell → Type 0

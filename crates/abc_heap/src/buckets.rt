@@ -2,6 +2,7 @@ ghost use Rattle.std.specs.Prelude.{◌≡◌, ◌<◌, ◌≤◌, ◌+◌, ◌*
 ghost use Rattle.abc_heap.specs.Buckets.{hashed as the_hash, bucket as the_bucket, AreBuckets};
 
 use abc_base::NoMemory;
+use abc_cells::Reserved;
 use std::alloc::Global;
 
 /// The places of all properties, in buckets by owner and text: the last place in each bucket, and for each place in one
@@ -9,7 +10,8 @@ use std::alloc::Global;
 #[derive(Debug, Drop)]
 pub struct Buckets {
     lasts: Vec<u32>,
-    befores: Vec<u32>,
+    /// Up to the last place that came to a bucket.
+    befores: Reserved<u32>,
 }
 
 /// A hash goes on over a byte.
@@ -35,11 +37,11 @@ fn hashed(owner: u32, text: &[u8]) -> u64
 impl Buckets {
     /// Some buckets, at least one, in which nothing is, with room for some places.
     pub fn empty(alloc: Global, buckets: u32, places: u32) -> Result<Buckets, NoMemory>
-        ensures { IfOk result (λ b. (b.lasts.items ≡ replicate buckets 0) × (b.befores.items ≡ replicate places 0)) }
+        ensures { IfOk result (λ b. (b.lasts.items ≡ replicate buckets 0) × (b.befores ≡ record { items = []; limit = places })) }
     {
         Ok(Buckets {
             lasts: vec![in alloc; 0; buckets as usize]?,
-            befores: vec![in alloc; 0; places as usize]?,
+            befores: Reserved::new(alloc, places)?,
         })
     }
 
@@ -65,7 +67,7 @@ impl Buckets {
         requires { place < length self.now.befores.items }
         ensures { result ≡ get_or self.now.befores.items place 0 }
     {
-        self.befores[place as usize]
+        self.befores.as_slice()[place as usize]
     }
 
     /// The place before a place in its bucket, where there is one, counted from 0.
@@ -88,16 +90,30 @@ impl Buckets {
         last - 1
     }
 
+    /// Goes on to a place: there is none before those on the way.
+    fn reach(&mut self, place: u32)
+        requires { place < self.old.befores.limit }
+        ensures reached { place < length self.new.befores.items }
+        ensures same { ((p : ℕ) → get_or self.new.befores.items p 0 ≡ get_or self.old.befores.items p 0) × (length self.old.befores.items ≤ length self.new.befores.items) }
+        ensures lasts { self.new.lasts.items ≡ self.old.lasts.items }
+        ensures limit { self.new.befores.limit ≡ self.old.befores.limit }
+    {
+        while self.befores.len() <= place {
+            self.befores.push(0);
+        }
+    }
+
     /// Adds the next place to a bucket.
     pub fn add(&mut self, bucket: usize, place: u32)
         requires bucket { bucket < length self.old.lasts.items }
-        requires place { place < length self.old.befores.items }
+        requires place { place < self.old.befores.limit }
         requires small { place + 1 < 2 ^ 32 }
         ensures added { (ks : List (Option ℕ)) → place ≡ length ks → AreBuckets ks self.old.lasts.items self.old.befores.items → AreBuckets (ks ++ Some bucket ∷ []) self.new.lasts.items self.new.befores.items }
-        ensures sizes { (length self.new.lasts.items ≡ length self.old.lasts.items) × (length self.new.befores.items ≡ length self.old.befores.items) }
+        ensures sizes { (length self.new.lasts.items ≡ length self.old.lasts.items) × (self.new.befores.limit ≡ self.old.befores.limit) }
     {
         let last = self.last(bucket);
-        self.befores[place as usize] = last;
+        self.reach(place);
+        self.befores.set(place, last);
         self.lasts[bucket] = place + 1;
     }
 
@@ -121,7 +137,7 @@ impl Buckets {
         requires bucket { bucket < length self.old.lasts.items }
         requires place { (ks : List (Option ℕ)) × AreBuckets ks self.old.lasts.items self.old.befores.items × (get_or ks place None ≡ Some bucket) }
         ensures removed { (ks : List (Option ℕ)) → AreBuckets ks self.old.lasts.items self.old.befores.items → get_or ks place None ≡ Some bucket → AreBuckets (set ks place None) self.new.lasts.items self.new.befores.items }
-        ensures sizes { (length self.new.lasts.items ≡ length self.old.lasts.items) × (length self.new.befores.items ≡ length self.old.befores.items) }
+        ensures sizes { (length self.new.lasts.items ≡ length self.old.lasts.items) × (self.new.befores.limit ≡ self.old.befores.limit) }
     {
         let before = self.before(place);
         let top = self.last_place(bucket);
@@ -130,6 +146,6 @@ impl Buckets {
             return;
         }
         let above = self.above(bucket, place);
-        self.befores[above as usize] = before;
+        self.befores.set(above, before);
     }
 }

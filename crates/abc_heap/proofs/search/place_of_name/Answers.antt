@@ -18,7 +18,7 @@ pub returns-then-has_name : goal.returns-then-has_name
 returns-then-has_name c = search_found c.args.cells.now.items c.args.heads.now.items (length c.args.buckets.now.lasts.items) c.args.o (text_in c.args.fixed.now c.args.made.now c.args.strings.now) c.args.text.now c.loop-left.left c.cell_at-here.result c.requires.heads c.requires.inside c.loop-left.invariant c.loop-left-test.true c.cell_at-here.ensures (sym c.has_name.ensures ∙ c.if-has_name.true)
 
 pub before-left-requires : goal.before-left-requires
-before-left-requires c = search_within c.args.fixed.now c.args.made.now c.args.strings.now c.args.cells.now c.args.buckets.now (c.loop-left.left - 1) c.requires.index (omega (arith, c.loop-left.invariant.inside, c.loop-left-test.true))
+before-left-requires c = search_within c.args.fixed.now c.args.made.now c.args.strings.now c.args.cells.now c.args.buckets.now c.args.o c.args.text.now c.loop-left.left c.requires.index c.loop-left.invariant c.loop-left-test.true
 
 pub loop-left-preserved : goal.loop-left-preserved
 loop-left-preserved c = search_on c.args.fixed.now c.args.made.now c.args.strings.now c.args.cells.now c.args.buckets.now c.args.o c.args.text.now c.loop-left.left _ c.cell_at-here.result c.requires.index c.loop-left.invariant c.loop-left-test.true c.cell_at-here.ensures (sym c.has_name.ensures ∙ c.if-has_name.false) c.before-left.ensures

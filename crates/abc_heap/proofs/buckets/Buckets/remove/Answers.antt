@@ -1,4 +1,5 @@
-use Rattle.std.proofs.Common.{None, set, sym, subst, arith}
+use Rattle.std.proofs.Common.{ℕ, None, set, sym, subst, arith}
+use Rattle.abc_cells.specs.Filling.{Filling}
 use Rattle.abc_heap.specs.Buckets.{AreBuckets}
 use Rattle.abc_heap.proofs.Lasts.{top_above, last_gone, other_gone}
 use Rattle.abc_heap.proofs.buckets.Buckets.remove.Goals as goal
@@ -24,4 +25,5 @@ returns-then-top-place-clause-removed c = λ ks a e. subst (λ v. AreBuckets (se
 pub returns-clause-removed : goal.returns-clause-removed
 returns-clause-removed c = λ ks a e.
     let s = c.above-above.ensures ks a e in
-    subst (λ v. AreBuckets (set ks c.args.place None) c.args.self.now.lasts.items (set c.args.self.now.befores.items c.above-above.result v)) (sym c.before-before.ensures) (other_gone ks c.args.self.now.lasts.items c.args.self.now.befores.items c.args.bucket c.args.place c.above-above.result a c.requires.bucket e s.0 s.1)
+    subst (λ (f : Filling ℕ). AreBuckets (set ks c.args.place None) c.args.self.now.lasts.items f.items) (sym c.set.ensures)
+    (subst (λ v. AreBuckets (set ks c.args.place None) c.args.self.now.lasts.items (set c.args.self.now.befores.items c.above-above.result v)) (sym c.before-before.ensures) (other_gone ks c.args.self.now.lasts.items c.args.self.now.befores.items c.args.bucket c.args.place c.above-above.result a c.requires.bucket e s.0 s.1))
