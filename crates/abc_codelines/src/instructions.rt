@@ -13,7 +13,7 @@ use abc_forms::{Element, first_and_rest, first_of, read_each, told};
 use abc_operands::{
     LineError, byte, one_token, signed_within, target, three_tokens, two, two_tokens, u30,
 };
-use abc_tables::{Cases, Form, Instr, opcode};
+use abc_tables::{BoxedList, Form, Instr, opcode};
 use abc_text::AsmReason;
 use abc_tokens::Token;
 use indexmap::IndexMap;
@@ -183,7 +183,7 @@ fn switch(
         Ok(cases) => match default {
             Ok(default) => Ok(Instr::Switch {
                 default,
-                cases: Cases::new(alloc, cases)?,
+                cases: BoxedList::new(alloc, cases)?,
             }),
             Err(reason) => Err(LineError::Refused(reason)),
         },

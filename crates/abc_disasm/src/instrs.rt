@@ -105,12 +105,7 @@ fn put_target_line(
 
 /// A switch.
 #[tactic(auto, using(crate::proofs::Forms::switch_text))]
-fn put_switch(
-    default: u32,
-    cases: &[u32],
-    _abc: &Abc,
-    out: &mut Vec<u8>,
-) -> Result<(), NoMemory>
+fn put_switch(default: u32, cases: &[u32], _abc: &Abc, out: &mut Vec<u8>) -> Result<(), NoMemory>
     requires { 0 < length cases.now }
     ensures { Puts out.old.items out.new.items result (instr_text _abc.now (instrs.Switch default cases.now)) }
 {

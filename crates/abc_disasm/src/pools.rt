@@ -135,7 +135,7 @@ fn put_name_fields(multiname: &Multiname, _abc: &Abc, out: &mut Vec<u8>) -> Resu
         Multiname::MultiL { set, .. } => put_number(*set, out),
         Multiname::TypeName { base, params } => {
             put_number(*base, out)?;
-            put_numbers(params, out)?;
+            put_numbers(params.list(), out)?;
             Ok(())
         }
     }

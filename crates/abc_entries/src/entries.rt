@@ -62,7 +62,7 @@ fn put_parts(parts: &mut Table<u32>, counts: &Counts, name: &Multiname) -> Resul
         Multiname::MultiL { set, .. } => parts.push(node_of_set(counts, *set)),
         Multiname::TypeName { base, params } => {
             parts.push(node(counts, Pool::Name, *base))?;
-            add_nodes(parts, counts, Pool::Name, params)
+            add_nodes(parts, counts, Pool::Name, params.list())
         }
     }
 }

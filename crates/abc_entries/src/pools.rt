@@ -5,7 +5,7 @@ ghost use Rattle.abc_entries.specs.NewPools.{kept, new_name, new_pools as pools_
 
 use abc_base::{Bytes, NoMemory, Table};
 use abc_refs::{Numbers, renumber_all};
-use abc_tables::{Abc, Eight, Multiname, Namespace, Pool};
+use abc_tables::{Abc, BoxedList, Eight, Multiname, Namespace, Pool};
 use std::alloc::Global;
 
 /// Entries of a pool, which get new numbers in place of their indices.
@@ -96,7 +96,10 @@ impl Entry for Multiname {
             },
             Multiname::TypeName { base, params } => Multiname::TypeName {
                 base: numbers.number(Pool::Name, *base),
-                params: renumber_all(alloc, Pool::Name, params, numbers)?,
+                params: BoxedList::new(
+                    alloc,
+                    renumber_all(alloc, Pool::Name, params.list(), numbers)?,
+                )?,
             },
         })
     }

@@ -23,7 +23,7 @@ impl Measured for Multiname {
             Multiname::Multi { name, set, .. } => 1 + len_of_number(*name) + len_of_number(*set),
             Multiname::MultiL { set, .. } => 1 + len_of_number(*set),
             Multiname::TypeName { base, params } => {
-                (1 + len_of_number(*base)).saturating_add(len_of_counted(params))
+                (1 + len_of_number(*base)).saturating_add(len_of_counted(params.list()))
             }
         }
     }

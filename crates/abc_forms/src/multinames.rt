@@ -11,7 +11,7 @@ ghost use Rattle.abc_tokens.specs.Walks.{tokens_of};
 use crate::each::{Indices, read_each, sooner};
 use crate::fronts::{first_and_rest, told};
 use abc_operands::{LineError, entry_upto, index_upto, multiname_kind, one_token, two, two_tokens};
-use abc_tables::{Multiname, MultinameKind, Sizes};
+use abc_tables::{BoxedList, Multiname, MultinameKind, Sizes};
 use abc_text::AsmReason;
 use abc_tokens::Token;
 use std::alloc::Global;
@@ -92,7 +92,10 @@ fn type_name(alloc: Global, fields: &[Token<'_>], sizes: &Sizes) -> Result<Multi
     let base = entry_upto(base, sizes.names);
     match read_each(alloc, others, &Indices { size: sizes.names }) {
         Ok(params) => match base {
-            Ok(base) => Ok(Multiname::TypeName { base, params }),
+            Ok(base) => Ok(Multiname::TypeName {
+                base,
+                params: BoxedList::new(alloc, params)?,
+            }),
             Err(reason) => Err(LineError::Refused(reason)),
         },
         Err(LineError::Refused(reason)) => Err(LineError::Refused(first_of(base, reason))),

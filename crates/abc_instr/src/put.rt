@@ -211,7 +211,13 @@ pub fn put_aimed(
 {
     match instr {
         Instr::Branch(op, target) => put_branch(*op, starts, next, *target, out),
-        Instr::Switch { default, cases } => put_switch(starts, here, *default, cases.as_slice(), out),
+        Instr::Switch { default, cases } => put_switch(
+            starts,
+            here,
+            *default,
+            cases.as_slice(),
+            out,
+        ),
         Instr::Plain(_) => Ok(()),
         Instr::One(_, _) => Ok(()),
         Instr::Two(_, _, _) => Ok(()),

@@ -11,7 +11,7 @@ use crate::push::push_next;
 use crate::raw::{RawInstr, read_raw};
 use crate::starts::Starts;
 use abc_base::{NoMemory, Source, Table};
-use abc_tables::{Cases, Instr};
+use abc_tables::{BoxedList, Instr};
 use abc_varint::{ReadError, Window};
 use std::alloc::Global;
 
@@ -88,7 +88,7 @@ impl Reading {
             }
             RawInstr::Branch(op, offset) => self.wait(Instr::Branch(op, offset.cast_unsigned())),
             RawInstr::Switch { default, cases } => {
-                let cases = Cases::new(alloc, as_numbers(alloc, &cases)?)?;
+                let cases = BoxedList::new(alloc, as_numbers(alloc, &cases)?)?;
                 let default = default.cast_unsigned();
                 self.wait(Instr::Switch { default, cases })
             }

@@ -9,7 +9,7 @@ ghost use Rattle.abc_instr.specs.declared.resolve.Missed.TheVariants as missed;
 
 use crate::starts::Starts;
 use abc_base::{NoMemory, Table};
-use abc_tables::{Cases, Instr};
+use abc_tables::{BoxedList, Instr};
 use std::alloc::Global;
 
 /// Why a target was not found.
@@ -100,7 +100,7 @@ fn resolve_instr(
         Instr::Switch { default, cases } => {
             let default = resolve_at(starts, here, default.cast_signed(), here + 1)?;
             let cases = resolve_cases(alloc, starts, here, next, cases.as_slice())?;
-            let cases = Cases::new(alloc, cases)?;
+            let cases = BoxedList::new(alloc, cases)?;
             Ok(Instr::Switch { default, cases })
         }
         other => Ok(other),

@@ -9,7 +9,7 @@ ghost use Rattle.abc_varint.specs.Reads.{Reads, ReadsPart};
 ghost use Rattle.abc_varint.specs.declared.error.ReadError.{ReadError};
 
 use abc_base::{NoMemory, Source};
-use abc_tables::{Multiname, MultinameKind};
+use abc_tables::{BoxedList, Multiname, MultinameKind};
 use abc_varint::{
     Codec, PoolIndex, ReadError, Reason, Window, pass_counted, put_counted, put_u8, put_u30,
     read_counted, read_entry_index, read_pool_index, read_u8,
@@ -119,6 +119,7 @@ fn read_fields<S: Source>(
         MultinameKind::TypeName => {
             let base = read_entry_index(w, source, pools.names)?;
             let params = read_counted(&PoolIndex(pools.names), alloc, w, source)?;
+            let params = BoxedList::new(alloc, params)?;
             Ok(Multiname::TypeName { base, params })
         }
     }
@@ -254,7 +255,7 @@ fn append_multiname(name: &Multiname, out: &mut Vec<u8>) -> Result<(), NoMemory>
         Multiname::TypeName { base, params } => {
             put_u8(kind_byte(MultinameKind::TypeName), out)?;
             put_u30(*base, out)?;
-            put_counted::<PoolIndex>(params, out)?;
+            put_counted::<PoolIndex>(params.list(), out)?;
         }
     }
     Ok(())

@@ -1,4 +1,4 @@
-use crate::cases::Cases;
+use crate::boxed_list::BoxedList;
 use crate::traits::TraitInfo;
 use abc_format::Table;
 
@@ -17,7 +17,7 @@ pub enum Instr {
     /// `lookupswitch`, with the targets of its default and of its cases, of which there is at least one.
     Switch {
         default: u32,
-        cases: Cases,
+        cases: BoxedList,
     },
     /// `pushbyte`
     Byte(i8),

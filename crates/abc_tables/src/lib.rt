@@ -2,7 +2,7 @@
 //! canonical bytes. Every index and number is a `u32`; the tables of entries that count from 1 leave entry 0 out.
 #![tactic(auto)]
 
-mod cases;
+mod boxed_list;
 mod classes;
 mod code;
 mod copies;
@@ -17,7 +17,7 @@ mod tables;
 mod traits;
 
 pub use abc_format::{Bytes, Table};
-pub use cases::Cases;
+pub use boxed_list::BoxedList;
 pub use classes::{ClassInfo, Instance, Script};
 pub use code::{Body, Handler, Instr};
 pub use copies::same;

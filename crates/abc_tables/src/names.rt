@@ -1,4 +1,4 @@
-use abc_format::Table;
+use crate::boxed_list::BoxedList;
 
 /// What a namespace is for (Overview, chapter 4, "Namespace").
 #[derive(Clone, Copy, Debug, PartialEq, Eq)]
@@ -61,5 +61,5 @@ pub enum Multiname {
     MultiL { attr: bool, set: u32 },
     /// Kind 1D, which the Overview leaves out: a type with its parameters. The base is a multiname of the pool, counted
     /// from 1, and never 0; so is each parameter, where 0 is any type. They may be later entries, or this one.
-    TypeName { base: u32, params: Table<u32> },
+    TypeName { base: u32, params: BoxedList },
 }
