@@ -65,14 +65,14 @@ fn put_offset(starts: &[u32], base: u32, target: u32, out: &mut Vec<u8>) -> Resu
 fn put_offsets(
     starts: &[u32],
     base: u32,
-    targets: &[u32],
+    targets: &Table<u32>,
     out: &mut Vec<u8>,
 ) -> Result<(), NoMemory>
     requires targets { All (λ t. (t < length starts.now) × (get_or starts.now t 0 < 2 ^ 23)) targets.now }
     requires base { base < 2 ^ 23 }
     ensures { Puts out.old.items out.new.items result (flat_map (λ t. s24_bytes (offset_of starts.now base t)) targets.now) }
 {
-    for target in targets {
+    for target in targets.as_slice() {
         put_offset(starts, base, *target, out)?;
     }
     Ok(())
@@ -155,7 +155,7 @@ fn put_switch(
     starts: &[u32],
     here: u32,
     default: u32,
-    cases: &[u32],
+    cases: &Table<u32>,
     out: &mut Vec<u8>,
 ) -> Result<(), NoMemory>
     requires default { (default < length starts.now) × (get_or starts.now default 0 < 2 ^ 23) }
@@ -211,13 +211,7 @@ pub fn put_aimed(
 {
     match instr {
         Instr::Branch(op, target) => put_branch(*op, starts, next, *target, out),
-        Instr::Switch { default, cases } => put_switch(
-            starts,
-            here,
-            *default,
-            cases.as_slice(),
-            out,
-        ),
+        Instr::Switch { default, cases } => put_switch(starts, here, *default, cases.list(), out),
         Instr::Plain(_) => Ok(()),
         Instr::One(_, _) => Ok(()),
         Instr::Two(_, _, _) => Ok(()),
