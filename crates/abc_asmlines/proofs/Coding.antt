@@ -1,5 +1,5 @@
 -- Code, line by line.
-use Rattle.std.proofs.Common.{◌≡◌, ℕ, true, false, nat_eq, List, [], ◌∷◌, ◌++◌, length, Ok, Err, Some, None, refl, sym, ap, subst, ◌∙◌, append_assoc, append-nil, arith}
+use Rattle.std.proofs.Common.{◌≡◌, ℕ, ◌+◌, ◌-◌, ◌^◌, min, true, false, nat_eq, List, [], ◌∷◌, ◌++◌, length, Ok, Err, Some, None, refl, sym, ap, subst, ◌∙◌, append_assoc, append-nil, arith}
 use Rattle.std.specs.declared.option.Option.{Option}
 use Rattle.std.specs.declared.result.Result.{Result}
 use Rattle.abc_text.specs.declared.reason.AsmReason.{AsmReason}
@@ -7,7 +7,9 @@ use Rattle.abc_text.specs.declared.word.Word.{Word}
 use Rattle.abc_text.specs.declared.word.Word.TheVariants as words
 use Rattle.abc_text.specs.Reasons.{least}
 use Rattle.abc_text.specs.Words.{place_of}
+use Rattle.abc_tables.specs.CodeBytes.{code_len, instr_len}
 use Rattle.abc_tables.specs.declared.code.Instr.{Instr}
+use Rattle.abc_tables.proofs.Lengths.{len-append}
 use Rattle.abc_tables.specs.declared.tables.Sizes.{Sizes}
 use Rattle.abc_rowparts.specs.Lines.{Row}
 use Rattle.abc_rowparts.specs.Rows.{Fault, coded, code_reads, fault, is_label, unless}
@@ -176,3 +178,8 @@ module _ (old : Reader) (xs : List Instr) (mid : Reader) (coding : IsCoding xs o
 
   pub finishes : word_next (rows_left mid) ≡ None → ReadsPart code_read old mid (Ok xs)
   finishes next = ends_empty old xs mid coding (no_rows (rows_left mid) next)
+
+-- ---- how long it is
+
+pub summed_more : (xs : List Instr) (x : Instr) (old one new : ℕ) → old ≡ min (code_len xs) (2 ^ 64 - 1) → one ≡ min (instr_len x) (2 ^ 64 - 1) → new ≡ min (old + one) (2 ^ 64 - 1) → new ≡ min (code_len (xs ++ x ∷ [])) (2 ^ 64 - 1)
+summed_more xs x old one new e f g = omega (arith, len-append xs (x ∷ []))

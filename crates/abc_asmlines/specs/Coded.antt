@@ -1,7 +1,8 @@
 -- The lines of code, as they are read.
-use Rattle.std.specs.Prelude.{◌≡◌, List, ◌++◌, Ok, Err}
+use Rattle.std.specs.Prelude.{◌≡◌, ◌-◌, ◌^◌, min, List, ◌++◌, Ok, Err}
 use Rattle.std.specs.declared.result.Result.{Result}
 use Rattle.abc_tables.specs.declared.code.Instr.{Instr}
+use Rattle.abc_tables.specs.CodeBytes.{code_len}
 use Rattle.abc_text.specs.Reasons.{least}
 use Rattle.abc_rowparts.specs.Lines.{Row}
 use Rattle.abc_rowparts.specs.Rows.{Fault, code_reads, unless, ◌>>=◌}
@@ -10,6 +11,7 @@ use Rattle.abc_asmreader.specs.declared.error.AsmError.{AsmError}
 use Rattle.abc_asmreader.specs.declared.reader.Reader.{Reader}
 use Rattle.abc_asmreader.specs.Parts.{Item, Part}
 use Rattle.abc_asmreader.specs.Reading.{Goes, rows_left}
+use Rattle.abc_asmlines.specs.declared.gathering.Gathering.{Gathering}
 
 -- instructions, and label lines among them
 abbrev pub code_read : Part (List Instr)
@@ -27,6 +29,10 @@ label_read v instances n row rows = unless (least (faults v instances row rows))
 abbrev pub gathered : Result (Unit {0}) AsmError → List Instr → Result (List Instr) AsmError
 gathered (Ok t) xs = Ok xs
 gathered (Err e) xs = Err e
+
+-- the length is that of the instructions, and no more than 2^64 - 1
+abbrev pub IsSummed : Gathering → Type 0
+IsSummed g = g.len ≡ min (code_len g.instrs) (2 ^ 64 - 1)
 
 -- some instructions before those that are read
 abbrev pub code_front : List Instr → Result (List Instr × List Row) Fault → Result (List Instr × List Row) Fault

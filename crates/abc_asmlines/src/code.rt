@@ -1,10 +1,12 @@
 //! The code of a body.
-ghost use Rattle.std.specs.Prelude.{◌≡◌, ◌<◌, ℕ, [], IfOk, length, Some};
+ghost use Rattle.std.specs.Prelude.{◌≡◌, ◌<◌, ◌-◌, ◌^◌, ℕ, [], IfOk, length, min, Some};
+ghost use Rattle.abc_tables.specs.CodeBytes.{code_len};
 ghost use Rattle.abc_text.specs.declared.word.Word.TheVariants as words;
 ghost use Rattle.abc_asmreader.specs.Parts.{ReadsItem, ReadsPart};
 ghost use Rattle.abc_asmreader.specs.Reading.{Goes, IsReader, rows_left, word_next};
-ghost use Rattle.abc_asmlines.specs.Coded.{code_read, gathered, instruction_read, label_read};
+ghost use Rattle.abc_asmlines.specs.Coded.{IsSummed, code_read, gathered, instruction_read, label_read};
 
+use crate::gathering::Gathering;
 use abc_asmreader::{AsmError, Reader, made, refused};
 use abc_base::Table;
 use abc_codelines::instruction_line;
@@ -12,18 +14,20 @@ use abc_tables::Instr;
 use abc_text::{AsmReason, Word};
 
 /// Reads the instructions of a body, and the label lines among them, to the end of a list.
-fn gather_code(reader: &mut Reader<'_>, code: &mut Table<Instr>) -> Result<(), AsmError>
+fn gather_code(reader: &mut Reader<'_>, gathering: &mut Gathering) -> Result<(), AsmError>
     requires is { IsReader reader.old }
-    requires none { code.old ≡ [] }
+    requires none { gathering.old.instrs ≡ [] }
+    requires summed { IsSummed gathering.old }
     ensures goes { IfOk result (λ x. Goes reader.old reader.new) }
-    ensures reads { ReadsPart code_read reader.old reader.new (gathered result code.new) }
+    ensures reads { ReadsPart code_read reader.old reader.new (gathered result gathering.new.instrs) }
+    ensures summed { IfOk result (λ x. IsSummed gathering.new) }
 {
     while let Some(word) = reader.word() {
         match word {
             Word::Label => read_label(reader)?,
             Word::Instruction(op) => {
                 let instr = read_instruction(reader, op)?;
-                code.push(instr)?;
+                gathering.push(instr)?;
             }
             _ => return Ok(()),
         }
@@ -31,17 +35,18 @@ fn gather_code(reader: &mut Reader<'_>, code: &mut Table<Instr>) -> Result<(), A
     Ok(())
 }
 
-/// Reads the instructions of a body, and the label lines among them. They are gathered in a list, whose memory serves one body
-/// after the other. `Refused` for the first fault, `NoMemory` where memory runs out.
+/// Reads the instructions of a body, and the label lines among them, and sums up how many bytes they have. `Refused` for the
+/// first fault, `NoMemory` where memory runs out.
 pub fn read_code(
     reader: &mut Reader<'_>,
-    gathering: &mut Table<Instr>,
+    gathering: &mut Gathering,
 ) -> Result<Table<Instr>, AsmError>
     requires { IsReader reader.old }
     ensures goes { IfOk result (λ xs. Goes reader.old reader.new) }
     ensures reads { ReadsPart code_read reader.old reader.new result }
+    ensures len { IfOk result (λ code. gathering.new.len ≡ min (code_len code) (2 ^ 64 - 1)) }
 {
-    gathering.truncate(0);
+    gathering.clear();
     gather_code(reader, gathering)?;
     let code = gathering.move_out(reader.alloc)?;
     Ok(code)

@@ -2,10 +2,12 @@
 #![tactic(auto)]
 
 mod code;
+mod gathering;
 mod lower;
 mod pools;
 
 pub use code::read_code;
+pub use gathering::Gathering;
 pub use lower::{
     Entries, Handlers, Implements, Options, ParamNames, Params, Protected, TraitMetadata,
 };

@@ -1,5 +1,6 @@
 -- A body, with its line's own fault that asks what is read below it.
-use Rattle.std.proofs.Common.{◌≡◌, ℕ, ◌≤◌, ◌^◌, Bool, true, false, cond, not, ◌&&◌, nat_le, List, [], ◌∷◌, ◌++◌, length, Ok, Err, Some, None, refl, sym, ap, subst, ◌∙◌, append-nil, arith}
+use Rattle.std.proofs.Common.{◌≡◌, ℕ, ◌≤◌, ◌-◌, ◌^◌, min, Bool, true, false, cond, not, ◌&&◌, nat_le, List, [], ◌∷◌, ◌++◌, length, Ok, Err, Some, None, refl, sym, ap, subst, ◌∙◌, append-nil, arith}
+use Rattle.std.proofs.lemmas.Bool.Decides.{nat_tests}
 use Rattle.std.specs.declared.option.Option.{Option}
 use Rattle.std.specs.declared.result.Result.{Result}
 use Rattle.abc_text.specs.declared.reason.AsmReason.{AsmReason}
@@ -41,6 +42,10 @@ use Rattle.abc_asmparts.proofs.Alike.{Reading, as_other}
 use Rattle.abc_asmparts.proofs.Beneath.{ends_same}
 use Rattle.abc_asmparts.proofs.Bodying.{plain_below, plainly}
 use Rattle.abc_asmparts.proofs.Counting.{fault_says, unless_fine, unmapped}
+
+-- a sum that stops tells as well whether it is great
+capped_le : (n len : ℕ) → len ≡ min n (2 ^ 64 - 1) → nat_le (2 ^ 23) n ≡ nat_le (2 ^ 23) len
+capped_le n len e = grind (arith, nat_tests)
 
 nil_of : (l : List AsmReason) → least l ≡ None → l ≡ []
 unfolding least
@@ -200,28 +205,29 @@ module _ (old mid : Reader) (taken : Taken) (word : taken.word ≡ words.Body) (
         ap (λ (r : Reading (List Instr × (List Handler × List TraitInfo))). long_code v i r) o.is
         ∙ ap (λ (b : BodyBelow). cond (ends_body v i left && nat_le (2 ^ 23) (code_len b.code)) (reasons.CodeTooLong ∷ []) []) o.same
 
-    -- what is told of the code, by the sizes that are known behind the lines
-    long_by : (b : Bool) → b ≡ (ends_body new.sizes new.instances left && nat_le (2 ^ 23) (code_len y.code)) → (ends_body v i left && nat_le (2 ^ 23) (code_len y.code)) ≡ b
-    long_by b e = ap (λ (t : Bool). t && nat_le (2 ^ 23) (code_len y.code)) (ends_same v new.sizes i new.instances left) ∙ sym e
+    module _ (len : ℕ) (sum : len ≡ min (code_len y.code) (2 ^ 64 - 1)) where
+      -- what is told of the code, by the sizes that are known behind the lines
+      long_by : (b : Bool) → b ≡ (ends_body new.sizes new.instances left && nat_le (2 ^ 23) len) → (ends_body v i left && nat_le (2 ^ 23) (code_len y.code)) ≡ b
+      long_by b e = ap (λ (t : Bool). ends_body v i left && t) (capped_le (code_len y.code) len sum) ∙ ap (λ (t : Bool). t && nat_le (2 ^ 23) len) (ends_same v new.sizes i new.instances left) ∙ sym e
 
-    -- the code is too long
-    pub too_long : (b : Bool) → b ≡ (ends_body new.sizes new.instances left && nat_le (2 ^ 23) (code_len y.code)) → b ≡ true → ReadsItem body_item old new (Err (errors.Refused taken.number reasons.CodeTooLong))
-    too_long b by is_long n row rows le f =
-        let e = long_by b by ∙ is_long in
-        let all : faults v i head after ≡ reasons.CodeTooLong ∷ [] = faults_are x is ∙ long_is ∙ ap (λ (b : Bool). cond b (reasons.CodeTooLong ∷ []) []) e in
-        item_at n row rows f
-        ∙ ap (λ (l : List AsmReason). item_by (least l) (body_below v i n after)) all
-        ∙ one_fault (body_below v i n after)
+      -- the code is too long
+      pub too_long : (b : Bool) → b ≡ (ends_body new.sizes new.instances left && nat_le (2 ^ 23) len) → b ≡ true → ReadsItem body_item old new (Err (errors.Refused taken.number reasons.CodeTooLong))
+      too_long b by is_long n row rows le f =
+          let e = long_by b by ∙ is_long in
+          let all : faults v i head after ≡ reasons.CodeTooLong ∷ [] = faults_are x is ∙ long_is ∙ ap (λ (b : Bool). cond b (reasons.CodeTooLong ∷ []) []) e in
+          item_at n row rows f
+          ∙ ap (λ (l : List AsmReason). item_by (least l) (body_below v i n after)) all
+          ∙ one_fault (body_below v i n after)
 
-    -- it isn't
-    pub body_fine : (b : Bool) → b ≡ (ends_body new.sizes new.instances left && nat_le (2 ^ 23) (code_len y.code)) → b ≡ false → (z : Body) → z ≡ body_of x y → ReadsItem body_item old new (Ok z)
-    body_fine b by is_short z made n row rows le f =
-        let e = long_by b by ∙ is_short in
-        let none : faults v i head after ≡ [] = faults_are x is ∙ long_is ∙ ap (λ (b : Bool). cond b (reasons.CodeTooLong ∷ []) []) e in
-        let value : h ≡ x = (told_none body_value body_below body_of (least plain) h x is).1 in
-        item_at n row rows f
-        ∙ ap (λ (l : List AsmReason). item_by (least l) (body_below v i n after)) none
-        ∙ no_fault (body_below v i n after)
-        ∙ ap (λ (r : Reading BodyBelow). item_by None r) (below_at new (Ok y) reads n (few n le))
-        ∙ ap (λ (b : BodyHead). Ok (body_of b y, left)) value
-        ∙ ap (λ (b : Body). Ok (b, left)) (sym made)
+      -- it isn't
+      pub body_fine : (b : Bool) → b ≡ (ends_body new.sizes new.instances left && nat_le (2 ^ 23) len) → b ≡ false → (z : Body) → z ≡ body_of x y → ReadsItem body_item old new (Ok z)
+      body_fine b by is_short z made n row rows le f =
+          let e = long_by b by ∙ is_short in
+          let none : faults v i head after ≡ [] = faults_are x is ∙ long_is ∙ ap (λ (b : Bool). cond b (reasons.CodeTooLong ∷ []) []) e in
+          let value : h ≡ x = (told_none body_value body_below body_of (least plain) h x is).1 in
+          item_at n row rows f
+          ∙ ap (λ (l : List AsmReason). item_by (least l) (body_below v i n after)) none
+          ∙ no_fault (body_below v i n after)
+          ∙ ap (λ (r : Reading BodyBelow). item_by None r) (below_at new (Ok y) reads n (few n le))
+          ∙ ap (λ (b : BodyHead). Ok (body_of b y, left)) value
+          ∙ ap (λ (b : Body). Ok (b, left)) (sym made)

@@ -1,5 +1,5 @@
 //! Bodies, with their code, handlers and traits.
-ghost use Rattle.std.specs.Prelude.{◌≡◌, ◌<◌, ◌^◌, ◌&&◌, nat_le, IfOk, length};
+ghost use Rattle.std.specs.Prelude.{◌≡◌, ◌<◌, ◌-◌, ◌^◌, ◌&&◌, nat_le, IfOk, length, min};
 ghost use Rattle.abc_text.specs.declared.word.Word.TheVariants as words;
 ghost use Rattle.abc_tables.specs.CodeBytes.{code_len as total};
 ghost use Rattle.abc_lines.specs.File.{ends_body};
@@ -10,12 +10,12 @@ ghost use Rattle.abc_asmparts.specs.Below.{body_below, body_item};
 use crate::coming::comes;
 use crate::counted::with_fault;
 use crate::traits::Traits;
-use abc_asmlines::{Handlers, read_code};
+use abc_asmlines::{Gathering, Handlers, read_code};
 use abc_asmreader::{AsmError, Reader, read_all, read_flat, refused, valued};
 use abc_base::Table;
 use abc_labels::place_of;
 use abc_operands::body_line;
-use abc_tables::{Body, Handler, Instr, TraitInfo, code_len};
+use abc_tables::{Body, Handler, Instr, TraitInfo};
 use abc_text::{AsmReason, Word};
 
 /// The least length that code may not have.
@@ -36,7 +36,7 @@ pub fn read_bodies(reader: &mut Reader<'_>) -> Result<Table<Body>, AsmError>
     ensures reads { ReadsPart (all_items words.Body body_item) reader.old reader.new result }
 {
     let mut bodies = Table::new(reader.alloc);
-    let mut gathering = Table::new(reader.alloc);
+    let mut gathering = Gathering::new(reader.alloc);
     while comes(reader, Word::Body) {
         let body = read_body(reader, &mut gathering)?;
         bodies.push(body)?;
@@ -44,8 +44,8 @@ pub fn read_bodies(reader: &mut Reader<'_>) -> Result<Table<Body>, AsmError>
     Ok(bodies)
 }
 
-/// Reads a body, whose line comes next. Its instructions are gathered in a list that serves one body after the other.
-fn read_body(reader: &mut Reader<'_>, gathering: &mut Table<Instr>) -> Result<Body, AsmError>
+/// Reads a body, whose line comes next.
+fn read_body(reader: &mut Reader<'_>, gathering: &mut Gathering) -> Result<Body, AsmError>
     requires is { IsReader reader.old }
     requires next { ComesNext words.Body (rows_left reader.old) }
     ensures goes { IfOk result (λ x. Goes reader.old reader.new) }
@@ -57,7 +57,7 @@ fn read_body(reader: &mut Reader<'_>, gathering: &mut Table<Instr>) -> Result<Bo
     let said = with_fault(own, !taken.repeated, AsmReason::SecondBody);
     let head = valued(&taken, said)?;
     let below = read_below(reader, gathering)?;
-    if is_too_long(reader, &below.code) {
+    if is_too_long(reader, gathering.len) {
         return Err(refused(taken.number, AsmReason::CodeTooLong));
     }
     Ok(Body {
@@ -72,13 +72,12 @@ fn read_body(reader: &mut Reader<'_>, gathering: &mut Table<Instr>) -> Result<Bo
     })
 }
 
-/// Whether the lines of a body end before the next line, and its code is too long.
-fn is_too_long(reader: &Reader<'_>, code: &Table<Instr>) -> bool
-    ensures { result ≡ (ends_body reader.now.sizes reader.now.instances (rows_left reader.now) && nat_le (2 ^ 23) (total code.now)) }
+/// Whether the lines of a body end before the next line, and its code, of this length, is too long.
+fn is_too_long(reader: &Reader<'_>, len: u64) -> bool
+    ensures { result ≡ (ends_body reader.now.sizes reader.now.instances (rows_left reader.now) && nat_le (2 ^ 23) len) }
 {
     let is_last = ends(reader);
-    let is_long = code_len(code) >= CODE_LIMIT;
-    is_last && is_long
+    is_last && len >= CODE_LIMIT
 }
 
 /// Whether the text ends, or another body's line comes next.
@@ -91,11 +90,12 @@ fn ends(reader: &Reader<'_>) -> bool
     }
 }
 
-/// The lines below a body.
-fn read_below(reader: &mut Reader<'_>, gathering: &mut Table<Instr>) -> Result<BodyBelow, AsmError>
+/// The lines below a body. What was gathered has the length of its code.
+fn read_below(reader: &mut Reader<'_>, gathering: &mut Gathering) -> Result<BodyBelow, AsmError>
     requires { IsReader reader.old }
     ensures goes { IfOk result (λ x. Goes reader.old reader.new) }
     ensures reads { ReadsPart body_below reader.old reader.new result }
+    ensures len { IfOk result (λ below. gathering.new.len ≡ min (total below.code) (2 ^ 64 - 1)) }
 {
     let code = read_code(reader, gathering)?;
     let handlers = read_flat::<Handlers>(reader)?;

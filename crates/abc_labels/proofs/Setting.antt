@@ -3,9 +3,9 @@ use Rattle.std.proofs.Common.{◌≡◌, ℕ, ◌+◌, Bool, true, false, cond, 
 use Rattle.std.specs.Str.{bytes_eq}
 use Rattle.std.specs.declared.option.Option.{Option}
 use Rattle.abc_text.specs.declared.word.Word.TheVariants as words
-use Rattle.abc_rowparts.specs.Operands.{place_of_label}
-use Rattle.abc_lines.specs.Texts.{Raw, labels_set}
+use Rattle.abc_lines.specs.Texts.{Raw}
 use Rattle.abc_tokens.specs.Names.{either_of}
+use Rattle.abc_labels.specs.Labels.{among_set}
 
 pub either_none : (o : Option ℕ) → either_of o None ≡ o
 either_none (Some n) = refl
@@ -18,10 +18,6 @@ either_assoc None b c = refl
 either_cond : (t : Bool) (n : ℕ) (o : Option ℕ) → either_of (cond t (Some n) None) o ≡ cond t (Some n) o
 either_cond true n o = refl
 either_cond false n o = refl
-
--- what is found of a name among the labels that lines set
-abbrev pub among_set : ℕ → List Raw → List ℕ → Option ℕ
-among_set n raws name = place_of_label (labels_set n raws) name
 
 pub set_here : (raw : Raw) (raws : List Raw) (n : ℕ) (name : List ℕ) (old new : Option ℕ) → raw.word ≡ words.Label → new ≡ either_of old (cond (bytes_eq raw.name name) (Some n) None) → either_of new (among_set n raws name) ≡ either_of old (among_set n (raw ∷ raws) name)
 set_here raw raws n name old new is e =

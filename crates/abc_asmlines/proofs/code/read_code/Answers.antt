@@ -12,4 +12,4 @@ returns-in_err-code-clause-reads c =
     rw (p.1, p.2) (λ n le. tt)
 
 pub returns-clause-reads : goal.returns-clause-reads
-returns-clause-reads c = rw c.in_ok-code.ensures.ok.0 c.in_ok-gather_code.ensures.reads
+returns-clause-reads c = rw c.in_ok-code.ensures.code c.in_ok-gather_code.ensures.reads

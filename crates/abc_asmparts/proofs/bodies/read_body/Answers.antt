@@ -28,9 +28,9 @@ returns-in_err-below-clause-reads c =
 pub returns-then-is_too_long-clause-reads : goal.returns-then-is_too_long-clause-reads
 returns-then-is_too_long-clause-reads c =
     rw c.refused.ensures (too_long c.args.reader.now c.take.new.self c.in_ok-taken.taken (named_is words.Body c.args.reader.now c.take.new.self c.in_ok-taken.taken refl c.requires.next c.in_ok-taken.ensures.row) c.in_ok-taken.ensures.row c.in_ok-taken.ensures.goes c.read_below.new.reader c.in_ok-head.head c.in_ok-below.below
-    (head_fine c.args.reader.now c.take.new.self c.in_ok-taken.taken (named_is words.Body c.args.reader.now c.take.new.self c.in_ok-taken.taken refl c.requires.next c.in_ok-taken.ensures.row) c.in_ok-taken.ensures.row c.in_ok-taken.ensures.goes c.with_fault-said.result c.in_ok-head.head (c.with_fault-said.ensures ∙ line_says c.args.reader.now c.take.new.self c.in_ok-taken.taken (named_is words.Body c.args.reader.now c.take.new.self c.in_ok-taken.taken refl c.requires.next c.in_ok-taken.ensures.row) c.in_ok-taken.ensures.row c.in_ok-taken.ensures.goes c.body_line-own.result _ c.as_slice.ensures.value c.body_line-own.ensures) c.in_ok-head.ensures) c.in_ok-below.ensures.reads c.is_too_long.result c.is_too_long.ensures c.if-is_too_long.true)
+    (head_fine c.args.reader.now c.take.new.self c.in_ok-taken.taken (named_is words.Body c.args.reader.now c.take.new.self c.in_ok-taken.taken refl c.requires.next c.in_ok-taken.ensures.row) c.in_ok-taken.ensures.row c.in_ok-taken.ensures.goes c.with_fault-said.result c.in_ok-head.head (c.with_fault-said.ensures ∙ line_says c.args.reader.now c.take.new.self c.in_ok-taken.taken (named_is words.Body c.args.reader.now c.take.new.self c.in_ok-taken.taken refl c.requires.next c.in_ok-taken.ensures.row) c.in_ok-taken.ensures.row c.in_ok-taken.ensures.goes c.body_line-own.result _ c.as_slice.ensures.value c.body_line-own.ensures) c.in_ok-head.ensures) c.in_ok-below.ensures.reads c.read_below.new.gathering.len c.in_ok-below.ensures.len c.is_too_long.result c.is_too_long.ensures c.if-is_too_long.true)
 
 pub returns-clause-reads : goal.returns-clause-reads
 returns-clause-reads c =
     body_fine c.args.reader.now c.take.new.self c.in_ok-taken.taken (named_is words.Body c.args.reader.now c.take.new.self c.in_ok-taken.taken refl c.requires.next c.in_ok-taken.ensures.row) c.in_ok-taken.ensures.row c.in_ok-taken.ensures.goes c.read_below.new.reader c.in_ok-head.head c.in_ok-below.below
-    (head_fine c.args.reader.now c.take.new.self c.in_ok-taken.taken (named_is words.Body c.args.reader.now c.take.new.self c.in_ok-taken.taken refl c.requires.next c.in_ok-taken.ensures.row) c.in_ok-taken.ensures.row c.in_ok-taken.ensures.goes c.with_fault-said.result c.in_ok-head.head (c.with_fault-said.ensures ∙ line_says c.args.reader.now c.take.new.self c.in_ok-taken.taken (named_is words.Body c.args.reader.now c.take.new.self c.in_ok-taken.taken refl c.requires.next c.in_ok-taken.ensures.row) c.in_ok-taken.ensures.row c.in_ok-taken.ensures.goes c.body_line-own.result _ c.as_slice.ensures.value c.body_line-own.ensures) c.in_ok-head.ensures) c.in_ok-below.ensures.reads c.is_too_long.result c.is_too_long.ensures c.if-is_too_long.false _ refl
+    (head_fine c.args.reader.now c.take.new.self c.in_ok-taken.taken (named_is words.Body c.args.reader.now c.take.new.self c.in_ok-taken.taken refl c.requires.next c.in_ok-taken.ensures.row) c.in_ok-taken.ensures.row c.in_ok-taken.ensures.goes c.with_fault-said.result c.in_ok-head.head (c.with_fault-said.ensures ∙ line_says c.args.reader.now c.take.new.self c.in_ok-taken.taken (named_is words.Body c.args.reader.now c.take.new.self c.in_ok-taken.taken refl c.requires.next c.in_ok-taken.ensures.row) c.in_ok-taken.ensures.row c.in_ok-taken.ensures.goes c.body_line-own.result _ c.as_slice.ensures.value c.body_line-own.ensures) c.in_ok-head.ensures) c.in_ok-below.ensures.reads c.read_below.new.gathering.len c.in_ok-below.ensures.len c.is_too_long.result c.is_too_long.ensures c.if-is_too_long.false _ refl
