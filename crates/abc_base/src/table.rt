@@ -46,6 +46,14 @@ impl<T: Drop> Table<T> {
         }
     }
 
+    /// The empty list, with room for so many values.
+    pub fn with_capacity(alloc: Global, count: usize) -> Result<Table<T>, NoMemory>
+        ensures { IfOk result (λ t. t ≡ []) }
+    {
+        let items = Vec::with_capacity(alloc, count)?;
+        Ok(Table { items })
+    }
+
     /// Adds a value at the end. Where memory runs out the list stays as it was, and the value is dropped.
     #[inline(always)]
     pub fn push(&mut self, x: T) -> Result<(), NoMemory>

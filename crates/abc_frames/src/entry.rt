@@ -14,7 +14,8 @@ use std::alloc::Global;
 fn first_locals(alloc: Global, filled: &Table<Kind>, count: u32) -> Result<Table<Kind>, NoMemory>
     ensures { IfOk result (λ t. t ≡ take count (filled.now ++ replicate count kinds.Undef)) }
 {
-    let mut locals = Table::from_slice(alloc, filled.as_slice())?;
+    let mut locals = Table::with_capacity(alloc, filled.len().max(count as usize))?;
+    locals.extend_from_slice(filled.as_slice())?;
     locals.resize(count as usize, Kind::Undef)?;
     Ok(locals)
 }

@@ -83,12 +83,7 @@ fn operation(number: u32) -> u8
 }
 
 /// Adds the code of a function that does an operation with its argument and an operand, so many times.
-fn push_repeated(
-    code: &mut Table<Instr>,
-    rounds: i8,
-    operand: i16,
-    op: u8,
-) -> Result<(), NoMemory>
+fn push_repeated(code: &mut Table<Instr>, rounds: i8, operand: i16, op: u8) -> Result<(), NoMemory>
     ensures { OnOk result (code.new ≡ code.old ++ code_of rounds operand op) }
 {
     code.push(Instr::Plain(GETLOCAL_1))?;

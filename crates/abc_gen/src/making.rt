@@ -1,4 +1,4 @@
-ghost use Rattle.std.specs.Prelude.{◌≡◌, ◌<◌, ◌≤◌, ◌^◌, ◌∷◌, [], map, codes, IfOk};
+ghost use Rattle.std.specs.Prelude.{◌≡◌, ◌<◌, ◌≤◌, ◌^◌, ◌∷◌, [], map, codes, IfOk, OnOk};
 ghost use Rattle.std.specs.List.{range_with_len};
 ghost use Rattle.abc_tables.specs.Files.{Fits};
 ghost use Rattle.abc_gen.specs.Generated.{first_body, function_body, body_of, function_name as name_of, function_signature, function_trait as trait_of, generated, one_to, public_name, public_space, script_of, signature as signature_of, texts as all_texts};
@@ -13,14 +13,23 @@ use abc_tables::{
 use itoa::Buffer;
 use std::alloc::Global;
 
-/// The name of a function.
-fn function_name(alloc: Global, function: u32) -> Result<Bytes, NoMemory>
-    ensures { IfOk result (λ name. name ≡ name_of function) }
+/// Puts the name of a function, in place of what the list has.
+fn put_name(function: u32, name: &mut Vec<u8>) -> Result<(), NoMemory>
+    ensures { OnOk result (name.new.items ≡ name_of function) }
 {
     let mut buffer = Buffer::new();
-    let mut name = Bytes::from_slice(alloc, b"f")?;
+    name.clear();
+    name.extend_from_slice(b"f")?;
     name.extend_from_slice(buffer.format(function).as_bytes())?;
-    Ok(name)
+    Ok(())
+}
+
+/// The name of a function. The memory of the list in which it is put together serves one name after the other.
+fn function_name(alloc: Global, function: u32, name: &mut Vec<u8>) -> Result<Bytes, NoMemory>
+    ensures { IfOk result (λ name. name ≡ name_of function) }
+{
+    put_name(function, name)?;
+    Bytes::from_slice(alloc, name)
 }
 
 /// The pool of strings.
@@ -31,8 +40,9 @@ fn texts(alloc: Global, functions: u32) -> Result<Table<Bytes>, NoMemory>
     let mut texts = Table::new(alloc);
     texts.push(Bytes::from_slice(alloc, b"trace")?)?;
     texts.push(Bytes::from_slice(alloc, b"int")?)?;
+    let mut name = Vec::new(alloc);
     for function in 0..functions {
-        texts.push(function_name(alloc, function + 1)?)?;
+        texts.push(function_name(alloc, function + 1, &mut name)?)?;
     }
     Ok(texts)
 }
@@ -75,8 +85,7 @@ fn signatures(alloc: Global, functions: u32) -> Result<Table<Method>, NoMemory>
     let mut methods = Table::new(alloc);
     methods.push(signature(alloc, 0, Table::new(alloc)))?;
     for function in 0..functions {
-        let mut params = Table::new(alloc);
-        params.push(2)?;
+        let params = Table::from_slice(alloc, &[2])?;
         methods.push(signature(alloc, 2, params))?;
     }
     Ok(methods)
