@@ -82,9 +82,10 @@ fn operation(number: u32) -> u8
     }
 }
 
-/// Adds the code of a function that does an operation with its argument and an operand, so many times.
-fn push_repeated(code: &mut Table<Instr>, rounds: i8, operand: i16, op: u8) -> Result<(), NoMemory>
-    ensures { OnOk result (code.new ≡ code.old ++ code_of rounds operand op) }
+/// Puts the code of a function that does an operation with its argument and an operand, so many times.
+fn put_repeated(code: &mut Table<Instr>, rounds: i8, operand: i16, op: u8) -> Result<(), NoMemory>
+    requires { code.old ≡ [] }
+    ensures { OnOk result (code.new ≡ code_of rounds operand op) }
 {
     code.push(Instr::Plain(GETLOCAL_1))?;
     code.push(Instr::Plain(CONVERT_I))?;
@@ -133,7 +134,7 @@ pub(crate) fn drawn_code_of(
     let rounds = rounds(draws.draw());
     let operand = operand(draws.draw());
     let op = operation(draws.draw() % 4);
-    push_repeated(gathering, rounds, operand, op)?;
+    put_repeated(gathering, rounds, operand, op)?;
     let code = gathering.move_out(alloc)?;
     Ok(code)
 }
