@@ -34,7 +34,8 @@ impl Listed for i32 {
 
     #[tactic(auto, unfolding(abc_lines::specs::Lineforms::int_line, abc_rowparts::specs::Operands::any_signed), using(abc_varint::proofs::Putting::stays_whole, std::proofs::Common::append_assoc))]
     fn put(&self, _abc: &Abc, out: &mut Vec<u8>) -> Result<(), NoMemory> {
-        put_int_line(*self, out)
+        put_int_line(*self, out)?;
+        Ok(())
     }
 }
 
@@ -43,7 +44,8 @@ impl Listed for u32 {
 
     #[tactic(auto, unfolding(abc_lines::specs::Lineforms::uint_line, abc_rowparts::specs::Operands::any_number), using(abc_varint::proofs::Putting::stays_whole, std::proofs::Common::append_assoc))]
     fn put(&self, _abc: &Abc, out: &mut Vec<u8>) -> Result<(), NoMemory> {
-        put_uint_line(*self, out)
+        put_uint_line(*self, out)?;
+        Ok(())
     }
 }
 
