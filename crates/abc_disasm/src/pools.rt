@@ -8,8 +8,8 @@ ghost use Rattle.abc_varint.specs.Puts.{Puts, PutsWhole};
 use crate::listed::Listed;
 use abc_base::NoMemory;
 use abc_linetokens::{
-    name_of, push_byte, put, put_hex_bytes, put_name_comment, put_number, put_numbers, put_quoted,
-    put_quoted_comment, put_signed, put_two, string_at,
+    name_of, push_byte, put, put_hex_bytes, put_int_line, put_name_comment, put_number,
+    put_numbers, put_quoted, put_quoted_comment, put_two, put_uint_line, string_at,
 };
 use abc_tables::{Abc, Bytes, Eight, Multiname, Namespace, NsKind, Table};
 
@@ -32,11 +32,9 @@ fn put_space_head(kind: NsKind, out: &mut Vec<u8>) -> Result<(), NoMemory>
 impl Listed for i32 {
     ghost text = { int_text };
 
-    #[tactic(auto, unfolding(abc_lines::specs::Lineforms::int_line, abc_rowparts::specs::Operands::any_signed), using(abc_varint::proofs::Putting::stays, std::proofs::Common::append_assoc))]
+    #[tactic(auto, unfolding(abc_lines::specs::Lineforms::int_line, abc_rowparts::specs::Operands::any_signed), using(abc_varint::proofs::Putting::stays_whole, std::proofs::Common::append_assoc))]
     fn put(&self, _abc: &Abc, out: &mut Vec<u8>) -> Result<(), NoMemory> {
-        put(b"int", out)?;
-        put_signed(*self, out)?;
-        push_byte(b'\n', out)?;
+        put_int_line(*self, out)?;
         Ok(())
     }
 }
@@ -44,11 +42,9 @@ impl Listed for i32 {
 impl Listed for u32 {
     ghost text = { uint_text };
 
-    #[tactic(auto, unfolding(abc_lines::specs::Lineforms::uint_line, abc_rowparts::specs::Operands::any_number), using(abc_varint::proofs::Putting::stays, std::proofs::Common::append_assoc))]
+    #[tactic(auto, unfolding(abc_lines::specs::Lineforms::uint_line, abc_rowparts::specs::Operands::any_number), using(abc_varint::proofs::Putting::stays_whole, std::proofs::Common::append_assoc))]
     fn put(&self, _abc: &Abc, out: &mut Vec<u8>) -> Result<(), NoMemory> {
-        put(b"uint", out)?;
-        put_number(*self, out)?;
-        push_byte(b'\n', out)?;
+        put_uint_line(*self, out)?;
         Ok(())
     }
 }

@@ -4,6 +4,7 @@
 
 mod comments;
 mod escaping;
+mod lines;
 mod numbers;
 mod tokens;
 
@@ -11,6 +12,7 @@ pub use comments::{
     name_of, put_multiname_comment, put_name_comment, put_operand_comment, put_quoted_comment,
     string_at,
 };
+pub use lines::{put_int_line, put_uint_line};
 pub use numbers::{put_number_line, put_number_lines, put_numbers, put_two};
 pub use tokens::{
     push_byte, put, put_first, put_hex_bytes, put_label, put_number, put_operand, put_quoted,

@@ -84,6 +84,15 @@ fn pair_in(pairs: &[[u8; 2]; 100], n: u32) -> [u8; 2]
     pairs[n as usize]
 }
 
+/// The two digits of a number below 100.
+#[inline(always)]
+pub fn digits_of_pair(n: u32) -> [u8; 2]
+    requires { n < 100 }
+    ensures { result ≡ (48 + n / 10) ∷ (48 + n % 10) ∷ [] }
+{
+    pair_in(&PAIRS, n)
+}
+
 /// The two digits of a number below 100, into room that is there.
 #[inline(always)]
 fn put_pair(n: u32, out: &mut Vec<u8>)
@@ -93,7 +102,7 @@ fn put_pair(n: u32, out: &mut Vec<u8>)
     ensures len { vec_len out.new ≡ vec_len out.old + 2 }
     ensures capacity { vec_capacity out.new ≡ vec_capacity out.old }
 {
-    let pair = pair_in(&PAIRS, n);
+    let pair = digits_of_pair(n);
     out.push_reserved(pair[0]);
     out.push_reserved(pair[1]);
 }
