@@ -26,11 +26,11 @@ more : (k n s : ℕ) → 0 < k → n < 2 ^ 64 → s ≡ length (take k (decimal 
 more k n s some small e =
     elim (cases_lt n (10 ^ k)) [
       | inl less ↦
-        let all = length-decimal-le k n some less small in
-        rw (lt-leb (10 ^ k) n less, take_all (suc k) (decimal n) (omega arith)) (omega (arith, e, ap length (take_all k (decimal n) all)))
+          let all = length-decimal-le k n some less small in
+          rw (lt-leb (10 ^ k) n less, take_all (suc k) (decimal n) (omega arith)) (omega (arith, e, ap length (take_all k (decimal n) all)))
       | inr le ↦
-        let long = at_least k n small le in
-        rw (le-leb (10 ^ k) n le) (omega (arith, e, length-take-le k (decimal n) (omega arith), length-take-le (suc k) (decimal n) long))
+          let long = at_least k n small le in
+          rw (le-leb (10 ^ k) n le) (omega (arith, e, length-take-le k (decimal n) (omega arith), length-take-le (suc k) (decimal n) long))
     ]
 
 pub count : (n : ℕ) → n < 2 ^ 32 → 1 + bool_byte (leb 10 n) + bool_byte (leb 100 n) + bool_byte (leb 1000 n) + bool_byte (leb 10000 n) + bool_byte (leb 100000 n) + bool_byte (leb 1000000 n) + bool_byte (leb 10000000 n) + bool_byte (leb 100000000 n) + bool_byte (leb 1000000000 n) ≡ length (decimal n)
@@ -70,13 +70,13 @@ short : (k n gap : ℕ) → n < 100 → gap + length (decimal n) ≡ 2 * suc k �
 short k n gap less e =
     elim (cases_lt n 10) [
       | inl one ↦
-        let long : gap ≡ 2 * k + 1 = omega (arith, e, ap length (decimal_digit n one)) in
-        let digit : 48 + n % 100 % 10 ≡ 48 + n = omega arith in
-        ap (λ g. drop g (pairs (suc k) n)) long ∙ sym (drop-drop 1 (2 * k) (pairs (suc k) n)) ∙ ap (drop 1) (last_pair k n) ∙ ap (λ (x : ℕ). x ∷ []) digit ∙ sym (decimal_digit n one)
+          let long : gap ≡ 2 * k + 1 = omega (arith, e, ap length (decimal_digit n one)) in
+          let digit : 48 + n % 100 % 10 ≡ 48 + n = omega arith in
+          ap (λ g. drop g (pairs (suc k) n)) long ∙ sym (drop-drop 1 (2 * k) (pairs (suc k) n)) ∙ ap (drop 1) (last_pair k n) ∙ ap (λ (x : ℕ). x ∷ []) digit ∙ sym (decimal_digit n one)
       | inr two ↦
-        let long : gap ≡ 2 * k = omega (arith, e, ap length (decimal_two n two less)) in
-        let same : n % 100 ≡ n = omega arith in
-        ap (λ g. drop g (pairs (suc k) n)) long ∙ last_pair k n ∙ ap pair same ∙ sym (decimal_two n two less)
+          let long : gap ≡ 2 * k = omega (arith, e, ap length (decimal_two n two less)) in
+          let same : n % 100 ≡ n = omega arith in
+          ap (λ g. drop g (pairs (suc k) n)) long ∙ last_pair k n ∙ ap pair same ∙ sym (decimal_two n two less)
     ]
 
 -- behind the zeros stands the number
@@ -87,11 +87,11 @@ padded (suc k) n gap fits small e =
     elim (cases_lt n 100) [
       | inl less ↦ short (suc k) n gap less e
       | inr le ↦
-        let front = decimal_pair n le small in
-        let long : gap + length (decimal (n / 100)) ≡ 2 * suc k = omega (arith, e, ap length front ∙ length-append (decimal (n / 100)) (pair (n % 100))) in
-        drop-append-le gap (pairs (suc k) (n / 100)) (pair (n % 100)) (omega (arith, long, length_pairs (suc k) (n / 100)))
-        ∙ ap (λ (l : List ℕ). l ++ pair (n % 100)) (padded k (n / 100) gap (omega arith) (omega arith) long)
-        ∙ sym front
+          let front = decimal_pair n le small in
+          let long : gap + length (decimal (n / 100)) ≡ 2 * suc k = omega (arith, e, ap length front ∙ length-append (decimal (n / 100)) (pair (n % 100))) in
+          drop-append-le gap (pairs (suc k) (n / 100)) (pair (n % 100)) (omega (arith, long, length_pairs (suc k) (n / 100)))
+          ∙ ap (λ (l : List ℕ). l ++ pair (n % 100)) (padded k (n / 100) gap (omega arith) (omega arith) long)
+          ∙ sym front
     ]
 
 abbrev pub four : ℕ → List ℕ → List ℕ

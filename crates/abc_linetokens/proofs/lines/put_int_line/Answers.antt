@@ -11,13 +11,13 @@ returns c =
     let number = rw back at c.write_signed-at.ensures.written in
     let front = c.write_before-first in
     let written =
-        front.ensures.written
-        ∙ ap (λ (l : List ℕ). 105 ∷ l) c.write_before-second.ensures.written
-        ∙ ap (λ (l : List ℕ). 105 ∷ 110 ∷ l) c.write_before-third.ensures.written
-        ∙ ap (λ (l : List ℕ). 105 ∷ 110 ∷ 116 ∷ l) c.write_before-space.ensures.written
-        ∙ ap (λ (l : List ℕ). 105 ∷ 110 ∷ 116 ∷ 32 ∷ l) number in
+    front.ensures.written
+    ∙ ap (λ (l : List ℕ). 105 ∷ l) c.write_before-second.ensures.written
+    ∙ ap (λ (l : List ℕ). 105 ∷ 110 ∷ l) c.write_before-third.ensures.written
+    ∙ ap (λ (l : List ℕ). 105 ∷ 110 ∷ 116 ∷ l) c.write_before-space.ensures.written
+    ∙ ap (λ (l : List ℕ). 105 ∷ 110 ∷ 116 ∷ 32 ∷ l) number in
     subst (λ (b : List ℕ). PutsWhole c.args.out.now.items c.put_first.new.out.items c.put_first.result b)
     (line front.new.piece (105 ∷ 110 ∷ 116 ∷ 32 ∷ signed_decimal c.args.n) _ front.result front.array_long written
-        (omega (arith, start, front.ensures.start, c.write_before-second.ensures.start, c.write_before-third.ensures.start, c.write_before-space.ensures.start))
-        (omega (arith, start, c.write_signed-at.ensures.room, front.ensures.start, c.write_before-second.ensures.start, c.write_before-third.ensures.start, c.write_before-space.ensures.start)))
+    (omega (arith, start, front.ensures.start, c.write_before-second.ensures.start, c.write_before-third.ensures.start, c.write_before-space.ensures.start))
+    (omega (arith, start, c.write_signed-at.ensures.room, front.ensures.start, c.write_before-second.ensures.start, c.write_before-third.ensures.start, c.write_before-space.ensures.start)))
     c.put_first.ensures
