@@ -7,10 +7,10 @@ ghost use Rattle.abc_answers.specs.Stops.{IsGiven, stop_answer};
 use crate::lines::{write_code, write_line, write_place};
 use crate::stop::Stop;
 use abc_base::{Failed, Sink, Status, write_all};
+use abc_entries::TidyRule;
 use abc_format::Reason;
 use abc_items::{Item, LinkRule};
 use abc_text::AsmReason;
-use abc_entries::TidyRule;
 use abc_typing::VerifyRule;
 
 /// The status where its line was written, and that of a failed write where it wasn't.

@@ -4,11 +4,11 @@ ghost use Rattle.abc_answers.specs.declared.stop.Stop.TheVariants as stops;
 
 use abc_asmreader::AsmError;
 use abc_base::NoMemory;
+use abc_entries::{TidyError, TidyRule};
 use abc_format::Reason;
 use abc_input::InputError;
 use abc_items::{Item, LinkRule};
 use abc_text::AsmReason;
-use abc_entries::{TidyError, TidyRule};
 use abc_typing::VerifyRule;
 use abc_varint::ReadError;
 use abc_verified::VerifiedError;
