@@ -257,11 +257,17 @@ list_best v xs b s =
 pub body_list-shortens : (v : Sizes) → Shortens (body_list v) (body_list v) (map renewed) list_bytes
 body_list-shortens v = record { spelled = λ xs b s. (list_best v xs b s).0; shortest = λ xs b s. (list_best v xs b s).1 }
 
+-- the bodies as they are, with the starts in their canonical code
+abbrev pub again : Abc × List (List ℕ) → Abc × List (List ℕ)
+again x = (x.0, map (λ (b : Body). canonical_starts b.code) (x.0).bodies)
+
+pub bodies-shortens : (abc : Abc) → Shortens (bodies abc) (bodies abc) again (λ x. bodies_bytes x.0)
+unfolding bodies bodies_bytes
+bodies-shortens abc =
+    image-shortens _ _ _ _ (map renewed) list_bytes again (λ (x : Abc × List (List ℕ)). bodies_bytes x.0) (body_list-shortens (sizes_of abc))
+    (λ xs. simp map-map) (λ xs b s. refl)
+
 pub bodies_alone-canonical : (abc : Abc) → IsCanonical (bodies_alone abc) bodies_bytes
-unfolding bodies_alone bodies bodies_bytes
+unfolding bodies_alone
 bodies_alone-canonical abc =
-    shortens-canonical _ bodies_bytes
-    (image-shortens _ _ _ _ (λ (x : Abc × List (List ℕ)). (x.0, map (λ (b : Body). canonical_starts b.code) (x.0).bodies)) (λ (x : Abc × List (List ℕ)). bodies_bytes x.0) kept bodies_bytes
-    (image-shortens _ _ _ _ (map renewed) list_bytes (λ (x : Abc × List (List ℕ)). (x.0, map (λ (b : Body). canonical_starts b.code) (x.0).bodies)) (λ (x : Abc × List (List ℕ)). bodies_bytes x.0) (body_list-shortens (sizes_of abc))
-    (λ xs. simp map-map) (λ xs b s. refl))
-    (λ x. refl) (λ x b s. refl))
+    shortens-canonical _ bodies_bytes (image-shortens _ _ _ _ again (λ (x : Abc × List (List ℕ)). bodies_bytes x.0) kept bodies_bytes (bodies-shortens abc) (λ x. refl) (λ x b s. refl))

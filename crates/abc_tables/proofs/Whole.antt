@@ -16,11 +16,12 @@ use Rattle.abc_tables.specs.declared.tables.Abc.{Abc}
 use Rattle.abc_tables.specs.Pools.{pools_bytes}
 use Rattle.abc_tables.specs.Classes.{definitions, definitions_bytes}
 use Rattle.abc_tables.specs.Bodies.{IsReadyBody, bodies, bodies_alone, bodies_bytes}
-use Rattle.abc_tables.specs.Files.{version, version_bytes, file, file_read, file_bytes, IsFile, IsBadFile, IsDecided}
+use Rattle.abc_tables.specs.Files.{version, version_bytes, last_of, file, file_read, file_bytes, IsFile, IsFileRead, IsBadFile, IsDecided}
 use Rattle.abc_tables.proofs.BodiesExact.{bodies-exact}
 use Rattle.abc_tables.proofs.BodiesReady.{bodies_ready}
-use Rattle.abc_tables.proofs.BodiesShortest.{bodies_alone-canonical}
+use Rattle.abc_tables.proofs.BodiesShortest.{again, bodies-shortens, bodies_alone-canonical}
 use Rattle.abc_tables.proofs.Exactness.{pools-exact, definitions-exact}
+use Rattle.abc_tables.proofs.Shortening.{Shortens, both-shortens, canonical-shortens, image-shortens, then-shortens}
 use Rattle.abc_tables.proofs.Shortest.{pools-canonical, definitions-canonical}
 
 pub version-exact : Exact version
@@ -154,6 +155,32 @@ file-canonical =
     let rest = rest_kept x.1.1.0 x.1.1.1 s.4.4.1 s.4.4.4 in
     rw (begin, kept, rest.0, rest.1) (simp append_assoc))
 
+-- ---- the same, with the starts of the canonical code
+
+file_read-shortens : Shortens file_read file_read again (λ x. file_bytes x.0)
+unfolding file_read file_bytes bodies_alone
+file_read-shortens =
+    image-shortens last_of last_of _ _ (λ x. (x.0, (x.1.0, (x.1.1.0, again x.1.1.1)))) (λ x. (u16_bytes x.0.0 ++ u16_bytes x.0.1) ++ (pools_bytes x.1.0 ++ (definitions_bytes x.1.1.0 ++ bodies_bytes x.1.1.1.0))) again (λ (x : Abc × List (List ℕ)). file_bytes x.0)
+    (both-shortens _ _ _ _ _ _ (λ y. (y.0, (y.1.0, again y.1.1))) (λ y. pools_bytes y.0 ++ (definitions_bytes y.1.0 ++ bodies_bytes y.1.1.0)) (canonical-shortens _ _ version-canonical)
+    (then-shortens _ _ _ pools_bytes _ _ (λ abc y. (y.0, again y.1)) (λ abc y. definitions_bytes y.0 ++ bodies_bytes y.1.0) (canonical-shortens _ _ pools-canonical) (λ abc b s.
+    then-shortens _ _ _ definitions_bytes _ _ (λ full y. again y) (λ full y. bodies_bytes y.0) (canonical-shortens _ _ (definitions-canonical abc)) (λ full c t. bodies-shortens full))))
+    (λ x. refl)
+    (λ x b s.
+    let begin = version_known x.0 s.0 s.3 in
+    let kept = pools_kept x.1.0 x.1.1.0 s.4.4.0 s.4.4.3 in
+    let rest = rest_kept x.1.1.0 x.1.1.1.0 s.4.4.1 (x.1.1.1, s.4.4.4, refl) in
+    rw (begin, kept, rest.0, rest.1) (simp append_assoc))
+
+-- what spells a file spells it with some starts
+with_starts : (v : Abc) (b : List ℕ) → file.spells v b → (starts : List (List ℕ)) × file_read.spells (v, starts) b
+unfolding file file_read bodies_alone
+with_starts v b s =
+    let x = s.0 in
+    let d = s.1.4 in
+    let f = d.4 in
+    let y = f.4.0 in
+    (y.1, ((x.0, (x.1.0, (x.1.1.0, y))), (s.1.0, s.1.1, s.1.2, s.1.3, (d.0, d.1, d.2, d.3, (f.0, f.1, f.2, f.3, f.4.1))), ap (λ (w : Abc). (w, y.1)) (s.2 ∙ f.4.2)))
+
 -- ---- what the canonical bytes promise
 
 pub canonical_file : (v : Abc) (b : List ℕ) → IsFile v b → IsFile v (file_bytes v) × (length (file_bytes v) ≤ length b)
@@ -161,6 +188,12 @@ canonical_file v b f =
     let spelled = file-canonical.spelled v b f.0 in
     let shortest = file-canonical.shortest v b f.0 in
     ((spelled, omega (arith, shortest, f.1)), shortest)
+
+-- they are read as the file, with the starts of its canonical code
+pub canonical_read : (v : Abc) (b : List ℕ) → IsFile v b → IsFileRead (again (v, [])) (file_bytes v)
+canonical_read v b f =
+    let s = with_starts v b f.0 in
+    (file_read-shortens.spelled (v, s.0) b s.1, (canonical_file v b f).0.1)
 
 pub canonical_same : (v w : Abc) (b c : List ℕ) → IsFile v b → IsFile w c → file_bytes v ≡ file_bytes w → v ≡ w
 canonical_same v w b c f g e =
