@@ -27,7 +27,7 @@ use Rattle.abc_answers.proofs.Runs.{runs_weaker}
 use Rattle.abc_answers.proofs.Unverified.{verified_stops}
 use Rattle.abc_runcommands.proofs.Running.{runs_not_usage, unverified_runs, verified_runs}
 use Rattle.abc_verified.proofs.Verifying.{read_verified_is, unverified_refuses}
-use Rattle.abc_verified.specs.Refusing.{IsUnverifiedBy}
+use Rattle.abc_verified.specs.Refusing.{IsUnverified, IsUnverifiedBy}
 use Rattle.abc_verified.specs.Verified.{IsVerifiedOf}
 use Rattle.abc_verified.specs.declared.error.VerifiedError.{VerifiedError}
 use Rattle.abc_verified.specs.declared.error.VerifiedError.TheVariants as errors
@@ -49,6 +49,15 @@ own_verified v l is = record { file = refl; linked = is.linked; numbered = is.nu
 
 pub own_places : (v : Abc) (l : LinkedFile) (starts : List (List ℕ)) → IsVerifiedOf v l → ArePlaces v.bodies starts → ArePlaces l.file.bodies starts
 own_places v l starts is places = subst (λ (w : Abc). ArePlaces w.bodies starts) (sym is.file) places
+
+-- a file that is there already isn't refused for a failed read
+abbrev unread : VerifiedError → Type 0
+unread errors.ReadFault = ⊥
+unread other = Unit {0}
+
+never_read : (v : Abc) (starts : List (List ℕ)) (e : VerifiedError) → IsUnverified v starts e → unread e
+never_read v starts e (IsUnverified.unlinked rule i h) = tt
+never_read v starts e (IsUnverified.untyped l m b i rule is linked numbered h) = tt
 
 module _ (fs : List Formula) (v : Abc) (starts : List (List ℕ)) (again : IsReadAgain v starts) where
   abbrev AsRead : Answer → Type 0
@@ -76,7 +85,7 @@ module _ (fs : List Formula) (v : Abc) (starts : List (List ℕ)) (again : IsRea
       no_fault (errors.Refused place reason) h is = absurd cc
       no_fault (errors.Link rule i) h is = absurd cc
       no_fault (errors.Verify m offset rule) h is = absurd cc
-      no_fault errors.ReadFault h is = absurd h
+      no_fault errors.ReadFault h is = absurd (never_read v starts errors.ReadFault h)
       no_fault errors.NoMemory h is = absurd cc
 
 -- ---- one piece after the other
