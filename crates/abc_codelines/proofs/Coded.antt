@@ -86,6 +86,10 @@ switch_told m labels ts t (u ∷ us) base s places e some is each =
     ∙ ap (λ (r : Result (List ℕ) AsmReason). mapped switched (joined (target.reads labels (token_of t)) r)) (each_same (target.reads labels) (place_in m) (tokens_of (u ∷ us)) (λ x. place_is m labels x places) ∙ each)
     ∙ ap (λ (r : Result ℕ AsmReason). mapped switched (joined r s)) (sym is)
 
+pub switch_made : (base : Result ℕ AsmReason) (cs : List ℕ) → mapped switched (joined base (Ok cs)) ≡ mapped (λ d. instrs.Switch d cs) base
+switch_made (Ok b) cs = refl
+switch_made (Err r) cs = refl
+
 refused_after : (base : Result ℕ AsmReason) (r : AsmReason) → mapped switched (joined {B = List ℕ} base (Err r)) ≡ Err (reason_after base r)
 refused_after (Ok b) r = refl
 refused_after (Err f) r = refl

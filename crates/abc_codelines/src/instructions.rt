@@ -3,12 +3,14 @@ ghost use Rattle.std.specs.Prelude.{◌≡◌, ◌≤ℤ◌, negsuc, pos, List};
 ghost use Rattle.abc_forms.specs.Each.{place_in};
 ghost use Rattle.abc_lines.specs.Lineforms as lines;
 ghost use Rattle.abc_operands.specs.Answers.{Answers};
-ghost use Rattle.abc_operands.specs.Joined.{line_result};
+ghost use Rattle.abc_operands.specs.Joined.{line_result, mapped};
 ghost use Rattle.abc_operands.specs.Places.{Places};
 ghost use Rattle.abc_rowparts.specs.Lines.{Label};
+ghost use Rattle.abc_tables.specs.declared.code.Instr.TheVariants as instrs;
 ghost use Rattle.abc_tables.specs.declared.opcodes.Form.TheVariants as forms;
 ghost use Rattle.abc_tokens.specs.Walks.{tokens_of};
 
+use abc_base::Table;
 use abc_forms::{Element, first_and_rest, first_of, read_each, told};
 use abc_operands::{
     LineError, byte, one_token, signed_within, target, three_tokens, two, two_tokens, u30,
@@ -180,15 +182,24 @@ fn switch(
     }
     let default = target(default, places);
     match read_each(alloc, cases, &Targets { places }) {
-        Ok(cases) => match default {
-            Ok(default) => Ok(Instr::Switch {
-                default,
-                cases: BoxedList::new(alloc, cases)?,
-            }),
-            Err(reason) => Err(LineError::Refused(reason)),
-        },
+        Ok(cases) => with_cases(alloc, default, cases),
         Err(LineError::Refused(reason)) => Err(LineError::Refused(first_of(default, reason))),
         Err(LineError::NoMemory) => Err(LineError::NoMemory),
+    }
+}
+
+/// A switch of a default, if it is one, with cases. `LineError::NoMemory` where memory runs out.
+fn with_cases(
+    alloc: Global,
+    default: Result<u32, AsmReason>,
+    cases: Table<u32>,
+) -> Result<Instr, LineError>
+    ensures { Answers result (mapped (λ d. instrs.Switch d cases) default) }
+{
+    let cases = BoxedList::new(alloc, cases)?;
+    match default {
+        Ok(default) => Ok(Instr::Switch { default, cases }),
+        Err(reason) => Err(LineError::Refused(reason)),
     }
 }
 

@@ -104,11 +104,12 @@ refused_after (Err f) r = refl
 pub type_refused : (v : Sizes) (labels : List Label) (ts : List code.Token) (t : code.Token) (others : List code.Token) (base : Result ℕ AsmReason) (r told_ : AsmReason) → ts ≡ t ∷ others → base ≡ (entry_upto v.names).reads [] (token_of t) → each_result (index_in v.names) (tokens_of others) ≡ Err r → told_ ≡ reason_after base r → line_result (multiname_fields v kinds.TypeName) labels (tokens_of ts) ≡ Err told_
 type_refused v labels ts t others base r told_ e is each same = type_told v labels ts t others base (Err r) e is each ∙ refused_after base r ∙ ap (λ (x : AsmReason). Err x) (sym same)
 
-pub type_made : (v : Sizes) (labels : List Label) (ts : List code.Token) (t : code.Token) (others : List code.Token) (base : Result ℕ AsmReason) (b : ℕ) (ps : List ℕ) → ts ≡ t ∷ others → base ≡ (entry_upto v.names).reads [] (token_of t) → each_result (index_in v.names) (tokens_of others) ≡ Ok ps → base ≡ Ok b → line_result (multiname_fields v kinds.TypeName) labels (tokens_of ts) ≡ Ok (names.TypeName b ps)
-type_made v labels ts t others base b ps e is each known = type_told v labels ts t others base (Ok ps) e is each ∙ ap (λ (o : Result ℕ AsmReason). mapped typed (joined {B = List ℕ} o (Ok ps))) known
+with_list : (base : Result ℕ AsmReason) (ps : List ℕ) → mapped typed (joined base (Ok ps)) ≡ mapped (λ b. names.TypeName b ps) base
+with_list (Ok b) ps = refl
+with_list (Err r) ps = refl
 
-pub type_baseless : (v : Sizes) (labels : List Label) (ts : List code.Token) (t : code.Token) (others : List code.Token) (base : Result ℕ AsmReason) (r : AsmReason) (ps : List ℕ) → ts ≡ t ∷ others → base ≡ (entry_upto v.names).reads [] (token_of t) → each_result (index_in v.names) (tokens_of others) ≡ Ok ps → base ≡ Err r → line_result (multiname_fields v kinds.TypeName) labels (tokens_of ts) ≡ Err r
-type_baseless v labels ts t others base r ps e is each known = type_told v labels ts t others base (Ok ps) e is each ∙ ap (λ (o : Result ℕ AsmReason). mapped typed (joined {B = List ℕ} o (Ok ps))) known
+pub type_made : (v : Sizes) (labels : List Label) (ts : List code.Token) (t : code.Token) (others : List code.Token) (base : Result ℕ AsmReason) (ps : List ℕ) → ts ≡ t ∷ others → base ≡ (entry_upto v.names).reads [] (token_of t) → each_result (index_in v.names) (tokens_of others) ≡ Ok ps → line_result (multiname_fields v kinds.TypeName) labels (tokens_of ts) ≡ mapped (λ b. names.TypeName b ps) base
+type_made v labels ts t others base ps e is each = type_told v labels ts t others base (Ok ps) e is each ∙ with_list base ps
 
 -- ---- no fields
 

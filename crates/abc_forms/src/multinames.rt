@@ -3,13 +3,15 @@ ghost use Rattle.std.specs.Prelude.{◌≡◌, List};
 ghost use Rattle.abc_forms.specs.Each.{reason_after};
 ghost use Rattle.abc_lines.specs.Lineforms as forms;
 ghost use Rattle.abc_operands.specs.Answers.{Answers};
-ghost use Rattle.abc_operands.specs.Joined.{line_result};
+ghost use Rattle.abc_operands.specs.Joined.{line_result, mapped};
 ghost use Rattle.abc_rowparts.specs.Lines.{Label};
+ghost use Rattle.abc_tables.specs.declared.names.Multiname.TheVariants as names;
 ghost use Rattle.abc_tables.specs.declared.names.MultinameKind.TheVariants as kinds;
 ghost use Rattle.abc_tokens.specs.Walks.{tokens_of};
 
 use crate::each::{Indices, read_each, sooner};
 use crate::fronts::{first_and_rest, told};
+use abc_base::Table;
 use abc_operands::{LineError, entry_upto, index_upto, multiname_kind, one_token, two, two_tokens};
 use abc_tables::{BoxedList, Multiname, MultinameKind, Sizes};
 use abc_text::AsmReason;
@@ -91,15 +93,24 @@ fn type_name(alloc: Global, fields: &[Token<'_>], sizes: &Sizes) -> Result<Multi
     };
     let base = entry_upto(base, sizes.names);
     match read_each(alloc, others, &Indices { size: sizes.names }) {
-        Ok(params) => match base {
-            Ok(base) => Ok(Multiname::TypeName {
-                base,
-                params: BoxedList::new(alloc, params)?,
-            }),
-            Err(reason) => Err(LineError::Refused(reason)),
-        },
+        Ok(params) => with_params(alloc, base, params),
         Err(LineError::Refused(reason)) => Err(LineError::Refused(first_of(base, reason))),
         Err(LineError::NoMemory) => Err(LineError::NoMemory),
+    }
+}
+
+/// A type of a base, if it is one, with parameters. `LineError::NoMemory` where memory runs out.
+fn with_params(
+    alloc: Global,
+    base: Result<u32, AsmReason>,
+    params: Table<u32>,
+) -> Result<Multiname, LineError>
+    ensures { Answers result (mapped (λ b. names.TypeName b params) base) }
+{
+    let params = BoxedList::new(alloc, params)?;
+    match base {
+        Ok(base) => Ok(Multiname::TypeName { base, params }),
+        Err(reason) => Err(LineError::Refused(reason)),
     }
 }
 

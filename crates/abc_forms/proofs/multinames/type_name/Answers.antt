@@ -1,22 +1,21 @@
 -- The base and the parameters.
-use Rattle.std.proofs.Common.{◌≡◌, ℕ, List, Ok, Err, refl, subst}
+use Rattle.std.proofs.Common.{◌≡◌, ℕ, List, Err, sym, subst}
+use Rattle.std.specs.declared.result.Result.{Result}
+use Rattle.abc_text.specs.declared.reason.AsmReason.{AsmReason}
+use Rattle.abc_tables.specs.declared.names.Multiname.{Multiname}
 use Rattle.abc_operands.specs.Answers.{Answers}
 use Rattle.abc_operands.specs.declared.error.LineError.{LineError}
 use Rattle.abc_tokens.specs.Walks.{tokens_of}
 use Rattle.abc_forms.specs.Each.{each_result, index_in}
-use Rattle.abc_forms.proofs.Kinded.{type_baseless, type_empty, type_made, type_refused}
+use Rattle.abc_forms.proofs.Kinded.{type_empty, type_made, type_refused}
 use Rattle.abc_forms.proofs.multinames.type_name.Goals as goal
 
 pub returns-in_default : goal.returns-in_default
 returns-in_default c labels = type_empty c.args.sizes.now labels c.args.fields.now c.in_default.ensures
 
-pub returns-in-Ok-base : goal.returns-in-Ok-base
-returns-in-Ok-base c labels =
-    type_made c.args.sizes.now labels c.args.fields.now c.in-Some.base c.in-Some.others.now (Ok c.in-Ok-base.base) c.in-Ok-base.base c.in-Ok.params c.in-Some.ensures c.in-Ok-base.ensures c.in-Ok.ensures refl
-
-pub returns-in-Err : goal.returns-in-Err
-returns-in-Err c labels =
-    type_baseless c.args.sizes.now labels c.args.fields.now c.in-Some.base c.in-Some.others.now (Err c.in-Err.reason) c.in-Err.reason c.in-Ok.params c.in-Some.ensures c.in-Err.ensures c.in-Ok.ensures refl
+pub returns-in-Ok : goal.returns-in-Ok
+returns-in-Ok c labels =
+    subst (λ (r : Result Multiname AsmReason). Answers c.with_params.result r) (sym (type_made c.args.sizes.now labels c.args.fields.now c.in-Some.base c.in-Some.others.now c.entry_upto-base.result c.in-Ok.params c.in-Some.ensures c.entry_upto-base.ensures c.in-Ok.ensures)) c.with_params.ensures
 
 pub returns-in-Err-Refused : goal.returns-in-Err-Refused
 returns-in-Err-Refused c labels =
