@@ -37,7 +37,7 @@ fn texts(alloc: Global, functions: u32) -> Result<Table<Bytes>, NoMemory>
     requires { functions < 2 ^ 30 }
     ensures { IfOk result (λ texts. texts ≡ all_texts functions) }
 {
-    let mut texts = Table::new(alloc);
+    let mut texts = Table::with_capacity(alloc, functions as usize + 2)?;
     texts.push(Bytes::from_slice(alloc, b"trace")?)?;
     texts.push(Bytes::from_slice(alloc, b"int")?)?;
     let mut name = Vec::new(alloc);
@@ -52,7 +52,7 @@ fn names(alloc: Global, count: u32) -> Result<Table<Multiname>, NoMemory>
     requires { count < 2 ^ 30 }
     ensures { IfOk result (λ names. names ≡ map public_name (one_to count)) }
 {
-    let mut names = Table::new(alloc);
+    let mut names = Table::with_capacity(alloc, count as usize)?;
     for string in 0..count {
         names.push(Multiname::QName {
             attr: false,
@@ -82,7 +82,7 @@ fn signatures(alloc: Global, functions: u32) -> Result<Table<Method>, NoMemory>
     requires { functions < 2 ^ 30 }
     ensures { IfOk result (λ methods. methods ≡ signature_of 0 [] ∷ map function_signature (one_to functions)) }
 {
-    let mut methods = Table::new(alloc);
+    let mut methods = Table::with_capacity(alloc, functions as usize + 1)?;
     methods.push(signature(alloc, 0, Table::new(alloc)))?;
     for function in 0..functions {
         let params = Table::from_slice(alloc, &[2])?;
@@ -96,7 +96,7 @@ fn function_traits(alloc: Global, functions: u32) -> Result<Table<TraitInfo>, No
     requires { functions < 2 ^ 30 }
     ensures { IfOk result (λ traits. traits ≡ map trait_of (one_to functions)) }
 {
-    let mut traits = Table::new(alloc);
+    let mut traits = Table::with_capacity(alloc, functions as usize)?;
     for function in 0..functions {
         traits.push(TraitInfo {
             name: function + 3,
@@ -132,7 +132,7 @@ fn bodies(alloc: Global, seed: u32, functions: u32) -> Result<Table<Body>, NoMem
     requires { functions < 2 ^ 30 }
     ensures { IfOk result (λ bodies. bodies ≡ first_body functions ∷ map (function_body seed) (one_to functions)) }
 {
-    let mut bodies = Table::new(alloc);
+    let mut bodies = Table::with_capacity(alloc, functions as usize + 1)?;
     bodies.push(body(0, 2, 1, first_code(alloc, functions)?, alloc))?;
     let mut draws = Draws { number: seed };
     let mut gathering = Table::new(alloc);

@@ -1,5 +1,5 @@
 -- Texts by their numbers.
-use Rattle.std.specs.Prelude.{◌≡◌, ℕ, List, [], ◌∷◌, cond, Some, unwrap_or, get_or, nat_eq}
+use Rattle.std.specs.Prelude.{◌≡◌, ℕ, List, [], ◌∷◌, cond, Some, unwrap_or, map, get_or, nat_eq}
 use Rattle.std.specs.declared.option.Option.{Option}
 use Rattle.std.specs.declared.hash.FoldHasher.{FoldHasher}
 use Rattle.std.specs.declared.hash.BuildHasherDefault.{BuildHasherDefault}
@@ -35,6 +35,10 @@ number_among texts t = unwrap_or (first (bytes_eq t) texts) 0
 -- the texts of a pool: the empty text, and then the strings
 abbrev pub texts_of : List (List ℕ) → List (List ℕ)
 texts_of strings = [] ∷ strings
+
+-- the numbers of the texts of a pool: of the empty text, and then of the strings
+abbrev pub numbers_in : Texts → List (List ℕ) → List ℕ
+numbers_in t strings = 0 ∷ map (λ s. unwrap_or (number_in t s) 0) strings
 
 -- two texts of the pool have equal numbers exactly where they are equal; an index past the end stands for the empty text
 pub record AreNumbersOf (numbers : List ℕ) (strings : List (List ℕ)) : Type 0 where

@@ -4,14 +4,13 @@ use Rattle.abc_interfaces.specs.Heirs.{list_at}
 use Rattle.abc_interfaces.specs.Listed.{Listed}
 use Rattle.abc_interfaces.specs.Sets.{HasSets}
 use Rattle.abc_search_tables.specs.Laid.{AreLayouts}
-use Rattle.abc_index.specs.Texts.{HasTexts, texts_of}
 use Rattle.abc_link.specs.Ladders.{AreRungs}
 use Rattle.abc_link.specs.declared.linked.Made.{Made}
 use Rattle.abc_search_tables.specs.Grouped.{HasGroups}
+use Rattle.abc_search_tables.specs.NameTables.{NameTables}
 use Rattle.abc_owners.specs.Owning.{AreOwners}
 use Rattle.abc_search_tables.specs.Made.{AreSearchTables}
 use Rattle.abc_search_tables.specs.Files.{linked}
-use Rattle.abc_search_tables.specs.Strings.{numbers_in}
 use Rattle.abc_interfaces.specs.SlotInfo.{SlotInfo}
 use Rattle.abc_search_tables.specs.SlotsTables.{HasSlots}
 use Rattle.abc_tables.specs.declared.tables.Abc.{Abc}
@@ -21,7 +20,7 @@ pub record AreFewSlots (lists : List (Listed SlotInfo)) (n : ℕ) : Type 0 where
   pub each : (x : ℕ) → x < n → length (list_at lists x).values < 2 ^ 32
 
 -- owners of methods, layouts, one far above each, their slots and their own traits, the interfaces of classes, what a search asks
-pub record IsMade (v : Abc) (numbers : List ℕ) (m : Made) : Type 0 where
+pub record IsMade (v : Abc) (names : NameTables) (m : Made) : Type 0 where
   pub owners_are : AreOwners v m.owners
   pub layouts_are : AreLayouts v m.layouts
   pub few : length m.layouts.parts < 2 ^ 32
@@ -29,7 +28,5 @@ pub record IsMade (v : Abc) (numbers : List ℕ) (m : Made) : Type 0 where
   pub few_slots : AreFewSlots m.slots (length m.layouts.parts)
   pub rungs_are : AreRungs (linked v m.layouts) m.rungs
   pub interfaces_are : HasSets v m.interfaces.sets
-  pub members_are : HasGroups (linked v m.layouts) m.members.texts m.members.groups (length m.layouts.parts)
-  pub texts_are : HasTexts m.members.texts (texts_of v.strings)
-  pub numbers_are : m.members.numbers ≡ numbers_in m.members.texts v.strings
-  pub search_are : AreSearchTables v m.layouts.parts m.members.texts numbers m.search
+  pub members_are : HasGroups (linked v m.layouts) names.texts m.members.groups (length m.layouts.parts)
+  pub search_are : AreSearchTables v m.layouts.parts names.texts names.numbers m.search

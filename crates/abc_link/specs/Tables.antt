@@ -18,4 +18,4 @@ pub record AreTables (a : Inside) : Type 0 where
   pub tables : IsFew a.abc
   pub names_are : AreNames a.abc a.names
   pub meanings_are : AreMeanings a.abc a.meanings
-  pub made_of : IsMade a.abc a.names.numbers a.made
+  pub made_of : IsMade a.abc a.names a.made

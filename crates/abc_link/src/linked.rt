@@ -23,7 +23,7 @@ use abc_interfaces::{
     Ty,
 };
 use abc_owners::Owners;
-use abc_search_tables::{Layouts, Members, SearchTables, type_in};
+use abc_search_tables::{Layouts, Members, SearchTables, string_number, type_in};
 use abc_tables::Abc;
 use std::marker::Model;
 
@@ -192,9 +192,13 @@ impl Linked {
         requires { IsLayout self.now layout }
         ensures { option_copied result ≡ own_traits_of self.now layout.0 text.now }
     {
-        self.made
-            .members
-            .own_traits(&self.abc, &self.made.layouts, layout.0, text)
+        self.made.members.own_traits(
+            &self.abc,
+            &self.made.layouts,
+            &self.names.texts,
+            layout.0,
+            text,
+        )
     }
 }
 
@@ -232,14 +236,14 @@ impl Linked {
     pub fn text_number(&self, text: &[u8]) -> Option<u32>
         ensures { result ≡ first (bytes_eq text.now) (texts_of self.now.file.strings) }
     {
-        self.made.members.text_number(text)
+        self.names.texts.number_of(text)
     }
 
     /// The number of the text of a string of the file, by its index: index 0 is the empty text, and so are those past the end.
     pub fn string_number(&self, string: u32) -> u32
         ensures { first (bytes_eq (get_or (texts_of self.now.file.strings) string [])) (texts_of self.now.file.strings) ≡ Some result }
     {
-        self.made.members.string_number(&self.abc, string)
+        string_number(&self.abc, &self.names.texts, &self.names.numbers, string)
     }
 
     /// The own traits of a layout that have the text of a number, as their places in its table, in file order. It answers
@@ -248,9 +252,13 @@ impl Linked {
         requires { IsLayout self.now layout }
         ensures { (t : List ℕ) → first (bytes_eq t) (texts_of self.now.file.strings) ≡ number → option_copied result ≡ own_traits_of self.now layout.0 t }
     {
-        self.made
-            .members
-            .own_numbered(&self.abc, &self.made.layouts, layout.0, number)
+        self.made.members.own_numbered(
+            &self.abc,
+            &self.made.layouts,
+            &self.names.texts,
+            layout.0,
+            number,
+        )
     }
 
     /// How many of a layout's own traits before the one at a place of its table have slots.
@@ -273,7 +281,7 @@ impl Linked {
         self.made
             .search
             .scripts
-            .numbered(&self.abc, &self.made.members.texts, number)
+            .numbered(&self.abc, &self.names.texts, number)
     }
 
     /// The script of a trait by its place among those of all scripts.
@@ -284,7 +292,7 @@ impl Linked {
         self.made
             .search
             .scripts
-            .script_of(&self.abc, &self.made.members.texts, place)
+            .script_of(&self.abc, &self.names.texts, place)
     }
 
     /// Whether a set of the pool has a namespace that is equal to one of the pool.

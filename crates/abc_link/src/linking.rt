@@ -1,5 +1,4 @@
 ghost use Rattle.std.specs.Prelude.{◌≡◌, ◌<◌, ◌^◌, length, IfOk, IsTrue, MatchResult, OnOk};
-ghost use Rattle.abc_index.specs.Texts.{HasTexts, texts_of};
 ghost use Rattle.abc_interfaces.specs.Heirs.{list_at};
 ghost use Rattle.abc_interfaces.specs.Sets.{HasSets};
 ghost use Rattle.abc_link.specs.Ladders.{AreRungs};
@@ -10,7 +9,6 @@ ghost use Rattle.abc_search_tables.specs.Grouped.{HasGroups};
 ghost use Rattle.abc_search_tables.specs.Laid.{AreLayouts};
 ghost use Rattle.abc_search_tables.specs.Made.{AreSearchTables};
 ghost use Rattle.abc_search_tables.specs.SlotsTables.{HasSlots};
-ghost use Rattle.abc_search_tables.specs.Strings.{numbers_in};
 ghost use Rattle.abc_interfaces.specs.Meanings.{AreMeanings};
 ghost use Rattle.abc_interfaces.specs.Numbers.{AreNames};
 ghost use Rattle.abc_interfaces.specs.Linked.{IsLinkedFile};
@@ -172,25 +170,16 @@ fn tables_over(
     requires few { length layouts.now.parts < 2 ^ 32 }
     ensures owners { IfOk result (λ t. AreOwners abc.now t.owners) }
     ensures interfaces { IfOk result (λ t. HasSets abc.now t.interfaces.sets) }
-    ensures members { IfOk result (λ t. HasGroups (linked abc.now layouts.now) t.members.texts t.members.groups (length layouts.now.parts)) }
-    ensures texts { IfOk result (λ t. HasTexts t.members.texts (texts_of (abc.now).strings)) }
-    ensures numbers { IfOk result (λ t. t.members.numbers ≡ numbers_in t.members.texts (abc.now).strings) }
-    ensures search { IfOk result (λ t. AreSearchTables abc.now layouts.now.parts t.members.texts names.now.numbers t.search) }
+    ensures members { IfOk result (λ t. HasGroups (linked abc.now layouts.now) names.now.texts t.members.groups (length layouts.now.parts)) }
+    ensures search { IfOk result (λ t. AreSearchTables abc.now layouts.now.parts names.now.texts names.now.numbers t.search) }
 {
     let owners = Owners::new(alloc, abc)?;
     let meanings = Meanings::new(abc, meanings);
     let interfaces = Interfaces::new(alloc, &meanings)?;
     let count = layouts.len() as u32;
-    let members = Members::new(alloc, abc, layouts, count)?;
+    let members = Members::new(alloc, abc, layouts, count, &names.texts, &names.numbers)?;
     let named = Names { abc, tables: names };
-    let search = SearchTables::new(
-        alloc,
-        &named,
-        layouts,
-        count,
-        &members.texts,
-        &members.numbers,
-    )?;
+    let search = SearchTables::new(alloc, &named, layouts, count, &names.texts, &names.numbers)?;
     Ok(Asked {
         owners,
         interfaces,
@@ -210,7 +199,7 @@ fn make(
     requires meanings { AreMeanings abc.now meanings.now }
     requires rules { AllHold abc.now }
     requires few { IsFew abc.now }
-    ensures { IfOk result (λ m. IsMade abc.now names.now.numbers m) }
+    ensures { IfOk result (λ m. IsMade abc.now names.now m) }
 {
     let laid = lay(alloc, abc, meanings)?;
     match tables_over(alloc, abc, names, meanings, &laid.layouts) {
@@ -257,7 +246,7 @@ struct Tables {
 
 /// The tables of a file that keeps the rules.
 fn tables_of(alloc: Global, abc: &Abc) -> Result<Tables, LinkError>
-    ensures { MatchResult result (λ t. AllHold abc.now × IsFew abc.now × AreNames abc.now t.names × AreMeanings abc.now t.meanings × IsMade abc.now t.names.numbers t.made) (IsRefusal abc.now) }
+    ensures { MatchResult result (λ t. AllHold abc.now × IsFew abc.now × AreNames abc.now t.names × AreMeanings abc.now t.meanings × IsMade abc.now t.names t.made) (IsRefusal abc.now) }
 {
     let names = NameTables::new(alloc, abc)?;
     let meanings = meanings_in(alloc, abc, &names)?;

@@ -8,7 +8,7 @@ use Rattle.std.proofs.lemmas.List.{get_or_past}
 use Rattle.indexmap.specs.IndexMap.{get}
 use Rattle.abc_index.specs.Groups.{GroupMap, Groups, places_of, some_places}
 use Rattle.abc_index.specs.ByText.{GroupsTexts, names_of}
-use Rattle.abc_index.specs.Texts.{HasTexts, number_among, number_in, texts_of}
+use Rattle.abc_index.specs.Texts.{HasTexts, number_among, number_in, numbers_in, texts_of}
 use Rattle.abc_index.specs.declared.texts.Texts.{Texts}
 use Rattle.abc_index.proofs.Numbering.{bytes_self, first_finds}
 use Rattle.abc_index.specs.Index.{first}
@@ -17,7 +17,7 @@ use Rattle.abc_slots.specs.Pool.{text}
 use Rattle.abc_tables.specs.declared.tables.Abc.{Abc}
 use Rattle.abc_tables.specs.declared.traits.TraitInfo.{TraitInfo}
 use Rattle.abc_members.specs.Grouped.{HasGroups}
-use Rattle.abc_members.specs.Strings.{numbers_in, trait_strings}
+use Rattle.abc_members.specs.Strings.{trait_strings}
 use Rattle.abc_slots.specs.Linked.{LinkedFile}
 use Rattle.abc_slots.specs.Numbering.{part_at}
 use Rattle.abc_slots.specs.ProgramSlots.{traits_of}

@@ -6,4 +6,4 @@ mod numbers;
 
 pub use abc_slots::{LayoutId, Layouts, qname_at, slots_of, traits_of, type_in};
 pub use members::Members;
-pub use numbers::number_at;
+pub use numbers::{number_at, string_number};

@@ -1,14 +1,11 @@
-ghost use Rattle.std.specs.Prelude.{◌≡◌, ◌<◌, ◌+◌, ℕ, List, [], Some, get_or, length, slice_get, IfOk, OnOk};
+ghost use Rattle.std.specs.Prelude.{◌≡◌, ◌<◌, ◌+◌, ℕ, List, Some, length, slice_get, IfOk, OnOk};
 ghost use Rattle.std.specs.Option.{option_copied};
-ghost use Rattle.std.specs.Str.{bytes_eq};
-ghost use Rattle.abc_index.specs.Index.{first};
-ghost use Rattle.abc_index.specs.Texts.{HasTexts, number_in, texts_of};
+ghost use Rattle.abc_index.specs.Texts.{HasTexts, number_in, numbers_in, texts_of};
 ghost use Rattle.abc_members.specs.Grouped.{HasGroups};
-ghost use Rattle.abc_members.specs.Strings.{numbers_in};
 ghost use Rattle.abc_slots.specs.Traits.{own_traits as own_traits_of};
 ghost use Rattle.abc_slots.specs.Files.{linked};
 
-use crate::numbers::{group, number_at, numbers_of};
+use crate::numbers::group;
 use abc_base::{NoMemory, Table};
 use abc_index::Texts;
 use abc_slots::{LayoutId, Layouts, traits_of};
@@ -19,10 +16,6 @@ use std::alloc::Global;
 /// The own traits of layouts, by the numbers of the texts of their names.
 #[derive(Drop)]
 pub struct Members {
-    /// The texts by whose numbers traits are grouped.
-    pub texts: Texts,
-    /// The number of the text of each string, from index 0, the empty text, on.
-    pub numbers: Table<u32>,
     pub(crate) groups: Table<IndexMap<u32, Table<u32>>>,
 }
 
@@ -71,41 +64,22 @@ fn groups_of_layouts(
 }
 
 impl Members {
-    /// The own traits of all layouts of a file.
-    pub fn new(alloc: Global, abc: &Abc, layouts: &Layouts, count: u32) -> Result<Members, NoMemory>
-        requires { count ≡ length layouts.now.parts }
-        ensures groups { IfOk result (λ m. HasGroups (linked abc.now layouts.now) m.texts m.groups (length layouts.now.parts)) }
-        ensures texts { IfOk result (λ m. HasTexts m.texts (texts_of abc.now.strings)) }
-        ensures numbers { IfOk result (λ m. m.numbers ≡ numbers_in m.texts abc.now.strings) }
+    /// The own traits of all layouts of a file, of which there are so many, by the numbers of the texts of its strings.
+    pub fn new(
+        alloc: Global,
+        abc: &Abc,
+        layouts: &Layouts,
+        count: u32,
+        texts: &Texts,
+        numbers: &Table<u32>,
+    ) -> Result<Members, NoMemory>
+        requires texts { HasTexts texts.now (texts_of abc.now.strings) }
+        requires numbers { numbers.now ≡ numbers_in texts.now abc.now.strings }
+        requires count { count ≡ length layouts.now.parts }
+        ensures { IfOk result (λ m. HasGroups (linked abc.now layouts.now) texts.now m.groups (length layouts.now.parts)) }
     {
-        if abc.strings.len() >= u32::MAX as usize {
-            return Err(NoMemory);
-        }
-        let texts = Texts::new(alloc, &abc.strings)?;
-        let numbers = numbers_of(alloc, &texts, &abc.strings)?;
-        let groups = groups_of_layouts(alloc, abc, layouts, &texts, &numbers, count)?;
-        Ok(Members {
-            texts,
-            numbers,
-            groups,
-        })
-    }
-
-    /// The number of a text, if it is the empty one or a string of the file.
-    pub fn text_number(&self, text: &[u8]) -> Option<u32>
-        ensures { result ≡ number_in self.now.texts text.now }
-    {
-        self.texts.number_of(text)
-    }
-
-    /// The number of the text of a string of the file, by its index: index 0 is the empty text, and so are those past the end.
-    pub fn string_number(&self, abc: &Abc, string: u32) -> u32
-        requires texts { HasTexts self.now.texts (texts_of abc.now.strings) }
-        requires numbers { self.now.numbers ≡ numbers_in self.now.texts abc.now.strings }
-        ensures { first (bytes_eq (get_or (texts_of abc.now.strings) string [])) (texts_of abc.now.strings) ≡ Some result }
-    {
-        let _file = abc;
-        number_at(&self.numbers, string)
+        let groups = groups_of_layouts(alloc, abc, layouts, texts, numbers, count)?;
+        Ok(Members { groups })
     }
 
     /// The groups of a layout.
@@ -122,15 +96,17 @@ impl Members {
         &self,
         abc: &Abc,
         layouts: &Layouts,
+        texts: &Texts,
         layout: u32,
         number: Option<u32>,
     ) -> Option<&Table<u32>>
-        requires groups { HasGroups (linked abc.now layouts.now) self.now.texts self.now.groups (length layouts.now.parts) }
+        requires groups { HasGroups (linked abc.now layouts.now) texts.now self.now.groups (length layouts.now.parts) }
         requires known { layout < length layouts.now.parts }
-        ensures { (t : List ℕ) → number_in self.now.texts t ≡ number → option_copied result ≡ own_traits_of (linked abc.now layouts.now) layout t }
+        ensures { (t : List ℕ) → number_in texts.now t ≡ number → option_copied result ≡ own_traits_of (linked abc.now layouts.now) layout t }
     {
         let _file = abc;
         let _layouts = layouts;
+        let _texts = texts;
         let groups = self.group_of(layout);
         match number {
             Some(number) => groups.get(&number),
@@ -143,13 +119,14 @@ impl Members {
         &self,
         abc: &Abc,
         layouts: &Layouts,
+        texts: &Texts,
         layout: u32,
         text: &[u8],
     ) -> Option<&Table<u32>>
-        requires groups { HasGroups (linked abc.now layouts.now) self.now.texts self.now.groups (length layouts.now.parts) }
+        requires groups { HasGroups (linked abc.now layouts.now) texts.now self.now.groups (length layouts.now.parts) }
         requires known { layout < length layouts.now.parts }
         ensures { option_copied result ≡ own_traits_of (linked abc.now layouts.now) layout text.now }
     {
-        self.own_numbered(abc, layouts, layout, self.text_number(text))
+        self.own_numbered(abc, layouts, texts, layout, texts.number_of(text))
     }
 }

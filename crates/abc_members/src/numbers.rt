@@ -1,38 +1,17 @@
-ghost use Rattle.std.specs.Prelude.{◌≡◌, ◌<◌, get_or, map, unwrap_or, IfOk};
-ghost use Rattle.abc_index.specs.Texts.{HasTexts, number_in, texts_of};
+ghost use Rattle.std.specs.Prelude.{◌≡◌, ◌<◌, [], Some, get_or, map, IfOk};
+ghost use Rattle.std.specs.Str.{bytes_eq};
+ghost use Rattle.abc_index.specs.Index.{first};
+ghost use Rattle.abc_index.specs.Texts.{HasTexts, numbers_in, texts_of};
 ghost use Rattle.abc_index.specs.ByText.{GroupsTexts};
-ghost use Rattle.abc_members.specs.Strings.{numbers_in, trait_strings};
+ghost use Rattle.abc_members.specs.Strings.{trait_strings};
 ghost use Rattle.abc_slots.specs.Traits.{trait_name};
 
-use abc_base::{Bytes, NoMemory, Table};
+use abc_base::{NoMemory, Table};
 use abc_index::{Texts, groups_of};
 use abc_slots::qname_at;
 use abc_tables::{Abc, TraitInfo};
 use indexmap::IndexMap;
 use std::alloc::Global;
-
-/// The number of a text, or 0 for one that has none.
-fn number_or_first(texts: &Texts, text: &[u8]) -> u32
-    ensures { result ≡ unwrap_or (number_in texts.now text.now) 0 }
-{
-    texts.number_of(text).unwrap_or(0)
-}
-
-/// The number of the text of each string, from index 0, the empty text, on.
-pub(crate) fn numbers_of(
-    alloc: Global,
-    texts: &Texts,
-    strings: &Table<Bytes>,
-) -> Result<Table<u32>, NoMemory>
-    ensures { IfOk result (λ t. t ≡ numbers_in texts.now strings.now) }
-{
-    let mut numbers = Table::new(alloc);
-    numbers.push(0)?;
-    for string in strings.as_slice() {
-        numbers.push(number_or_first(texts, string.as_slice()))?;
-    }
-    Ok(numbers)
-}
 
 /// The number of the text of a string, or 0 past the end.
 #[tactic(auto, using(abc_base::proofs::Past::past_end))]
@@ -43,6 +22,17 @@ pub fn number_at(numbers: &Table<u32>, string: u32) -> u32
         Some(number) => number,
         None => 0,
     }
+}
+
+/// The number of the text of a string of a file, by its index: index 0 is the empty text, and so are those past the end.
+pub fn string_number(abc: &Abc, texts: &Texts, numbers: &Table<u32>, string: u32) -> u32
+    requires texts { HasTexts texts.now (texts_of abc.now.strings) }
+    requires numbers { numbers.now ≡ numbers_in texts.now abc.now.strings }
+    ensures { first (bytes_eq (get_or (texts_of abc.now.strings) string [])) (texts_of abc.now.strings) ≡ Some result }
+{
+    let _file = abc;
+    let _texts = texts;
+    number_at(numbers, string)
 }
 
 /// The numbers of the texts of the names of some traits.

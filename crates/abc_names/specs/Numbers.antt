@@ -4,7 +4,7 @@ use Rattle.std.specs.Prelude.{◌≡◌, ℕ, List, Some, None, map, get_or, nat
 use Rattle.std.specs.declared.option.Option.{Option}
 use Rattle.std.specs.Str.{bytes_eq}
 use Rattle.abc_index.specs.Groups.{Groups, places_of}
-use Rattle.abc_index.specs.Texts.{HasTexts, texts_of}
+use Rattle.abc_index.specs.Texts.{HasTexts, numbers_in, texts_of}
 use Rattle.abc_tables.specs.declared.tables.Abc.{Abc}
 use Rattle.abc_names.specs.declared.named.DefiniteName.{DefiniteName}
 use Rattle.abc_names.specs.declared.tables.NameTables.{NameTables}
@@ -29,5 +29,6 @@ classes_of v numbers t = places_of (nat_eq t) (class_keys v numbers)
 -- the numbers are those of the file's texts, and the groups those of its classes by their names
 pub record AreNames (v : Abc) (t : NameTables) : Type 0 where
   pub texts : HasTexts t.texts (texts_of v.strings)
+  pub each : t.numbers ≡ numbers_in t.texts v.strings
   pub same : (i j : ℕ) → nat_eq (number t.numbers i) (number t.numbers j) ≡ bytes_eq (text v i) (text v j)
   pub groups : Groups t.classes (class_keys v t.numbers)

@@ -11,9 +11,10 @@ use std::alloc::Global;
 /// The texts of a file by their numbers, and its classes by the numbers of their names.
 #[derive(Drop)]
 pub struct NameTables {
-    pub(crate) texts: Texts,
+    /// Of each text the first place where it stands among the empty text and the strings.
+    pub texts: Texts,
     /// For each string, from index 0 on, the number of its text.
-    pub(crate) numbers: Table<u32>,
+    pub numbers: Table<u32>,
     /// For each text that is the name of classes, those classes in order.
     pub(crate) classes: IndexMap<u32, Table<u32>>,
 }

@@ -1,11 +1,12 @@
 -- Two traits of one table clash exactly where a name stands first elsewhere, on no other side, or on the same side.
-use Rattle.std.proofs.Common.{◌≡◌, ℕ, ◌<◌, ◌≤◌, Bool, true, false, ◌&&◌, ◌||◌, not, List, Some, None, map, length, get_or, nat_eq, Ok, Err, IfOk, eq-eqb, eqb-true, ◌⊎◌, inl, inr, refl, sym, ap, ◌∙◌, arith}
+use Rattle.std.proofs.Common.{◌≡◌, ℕ, ◌<◌, ◌≤◌, Bool, true, false, ◌&&◌, ◌||◌, not, List, [], Some, None, map, length, get_or, nat_eq, Ok, Err, IfOk, eq-eqb, eqb-true, ◌⊎◌, inl, inr, refl, sym, ap, ◌∙◌, arith}
 use Rattle.std.specs.declared.option.Option.{Option}
 use Rattle.std.specs.declared.result.Result.{Result}
 use Rattle.std.proofs.lemmas.Bool.{false≢true}
 use Rattle.std.proofs.lemmas.List.{get_or-map, length-map}
 use Rattle.std.specs.declared.hash.FoldHasher.{FoldHasher}
 use Rattle.std.specs.declared.hash.BuildHasherDefault.{BuildHasherDefault}
+use Rattle.std.specs.Map.{lookup}
 use Rattle.indexmap.specs.IndexMap.{get, IndexMap}
 use Rattle.abc_items.specs.Index.{first}
 use Rattle.abc_items.specs.Keys.{keys_eq, name_key, same_name}
@@ -17,7 +18,7 @@ use Rattle.abc_items.specs.TraitBody.{TraitBody}
 use Rattle.abc_items.specs.TraitBody.TheVariants as traits
 use Rattle.abc_items.specs.TraitInfo.{TraitInfo}
 use Rattle.abc_rules.specs.declared.same_name.SidedKey.{SidedKey}
-use Rattle.abc_rules.specs.Clashes.{is_clash_of}
+use Rattle.abc_rules.specs.Clashes.{TellsSides, first_of_both, first_of_name, is_clash_of}
 use Rattle.abc_rules.specs.Repeats.{side_of, opposite, sided_key, sided_eq, keys_clash, no_key, no_sided, clashes_with, is_elsewhere, clashes_at}
 use Rattle.abc_items.specs.Traits.{any_pair, are_accessors, names_clash}
 use Rattle.abc_rules.proofs.Pairs.{first_found, first_hit, first_low, pair_found, pair_makes, pair_map}
@@ -117,12 +118,6 @@ at keys i = get_or keys i no_sided
 abbrev names_of : List SidedKey → List NameKey
 names_of keys = map (λ k. k.name) keys
 
-abbrev first_name : List SidedKey → ℕ → Option ℕ
-first_name keys i = first (keys_eq (at keys i).name) (names_of keys)
-
-abbrev first_sided : List SidedKey → ℕ → Option ℕ
-first_sided keys i = first (sided_eq (at keys i)) keys
-
 name_at : (keys : List SidedKey) (i : ℕ) → i < length keys → get_or (names_of keys) i no_key ≡ (at keys i).name
 name_at keys i lt = get_or-map (λ (k : SidedKey). k.name) keys i no_sided no_key lt
 
@@ -135,7 +130,7 @@ less j i e le = apart (λ (h : j ≡ i). false≢true (sym e ∙ eq-eqb j i h)) 
     apart : (j ≡ i → ⊥) → j ≤ i → j < i
     apart ne le = omega arith
 
-meets_name : (keys : List SidedKey) (i : ℕ) (o : Option ℕ) → i < length keys → first_name keys i ≡ o → clashes_with keys o i ≡ true → any_pair keys_clash keys ≡ true
+meets_name : (keys : List SidedKey) (i : ℕ) (o : Option ℕ) → i < length keys → first_of_name keys i ≡ o → clashes_with keys o i ≡ true → any_pair keys_clash keys ≡ true
 meets_name keys i None lt f e = absurd (false≢true e)
 meets_name keys i (Some j) lt f e =
     let p = both (not (nat_eq j i)) (not (opposite (at keys j).side (at keys i).side)) e in
@@ -148,7 +143,7 @@ meets_name keys i (Some j) lt f e =
     pair_makes keys_clash keys no_sided j i (less j i (was_false (nat_eq j i) p.0) low) lt
     (ap (λ c. c && not (opposite (at keys j).side (at keys i).side)) (key_equal (at keys j).name (at keys i).name (sym same)) ∙ p.1)
 
-meets_sided : (keys : List SidedKey) (i : ℕ) (o : Option ℕ) → i < length keys → first_sided keys i ≡ o → is_elsewhere o i ≡ true → any_pair keys_clash keys ≡ true
+meets_sided : (keys : List SidedKey) (i : ℕ) (o : Option ℕ) → i < length keys → first_of_both keys i ≡ o → is_elsewhere o i ≡ true → any_pair keys_clash keys ≡ true
 meets_sided keys i None lt f e = absurd (false≢true e)
 meets_sided keys i (Some j) lt f e =
     let test : SidedKey → Bool = sided_eq (at keys i) in
@@ -160,12 +155,12 @@ meets_sided keys i (Some j) lt f e =
     ∙ ap (λ c. c && not (opposite (at keys i).side (at keys i).side)) (key_self (at keys i).name)
     ∙ ap not (opposite_self (at keys i).side))
 
-meets : (keys : List SidedKey) (i : ℕ) → i < length keys → clashes_at keys (first_name keys i) (first_sided keys i) i ≡ true → any_pair keys_clash keys ≡ true
-meets keys i lt e = go (clashes_with keys (first_name keys i) i) refl e
+meets : (keys : List SidedKey) (i : ℕ) → i < length keys → clashes_at keys (first_of_name keys i) (first_of_both keys i) i ≡ true → any_pair keys_clash keys ≡ true
+meets keys i lt e = go (clashes_with keys (first_of_name keys i) i) refl e
   where
-    go : (b : Bool) → clashes_with keys (first_name keys i) i ≡ b → (b || is_elsewhere (first_sided keys i) i) ≡ true → any_pair keys_clash keys ≡ true
-    go true p f = meets_name keys i (first_name keys i) lt refl p
-    go false p f = meets_sided keys i (first_sided keys i) lt refl f
+    go : (b : Bool) → clashes_with keys (first_of_name keys i) i ≡ b → (b || is_elsewhere (first_of_both keys i) i) ≡ true → any_pair keys_clash keys ≡ true
+    go true p f = meets_name keys i (first_of_name keys i) lt refl p
+    go false p f = meets_sided keys i (first_of_both keys i) lt refl f
 
 neither : (a b : Bool) → (a || b) ≡ false → (a ≡ false) × (b ≡ false)
 neither true b e = absurd (false≢true (sym e))
@@ -179,7 +174,7 @@ other_side keys j i ne e = go (opposite (at keys j).side (at keys i).side) (sym 
     go true f = refl
     go false f = absurd (false≢true (sym f))
 
-never : (keys : List SidedKey) → ((i : ℕ) → i < length keys → clashes_at keys (first_name keys i) (first_sided keys i) i ≡ false)
+never : (keys : List SidedKey) → ((i : ℕ) → i < length keys → clashes_at keys (first_of_name keys i) (first_of_both keys i) i ≡ false)
     → (a b : ℕ) → a < b → b < length keys → keys_clash (at keys a) (at keys b) ≡ true → ⊥
 never keys none a b lt within e =
     let p = both (keys_eq (at keys a).name (at keys b).name) (not (opposite (at keys a).side (at keys b).side)) e in
@@ -188,9 +183,9 @@ never keys none a b lt within e =
     let at_a : test (get_or (names_of keys) a no_key) ≡ true = key_equal (at keys b).name (get_or (names_of keys) a no_key) (sym same ∙ sym (name_at keys a (omega arith))) in
     let f = first_found test (names_of keys) no_key a (let q = names_len keys in omega arith) at_a in
     let le = f.2 in
-    let of_a : first_name keys a ≡ Some f.0 = ap (λ (k : NameKey). first (keys_eq k) (names_of keys)) same ∙ f.1 in
-    let nb = neither (clashes_with keys (first_name keys b) b) (is_elsewhere (first_sided keys b) b) (none b within) in
-    let na = neither (clashes_with keys (first_name keys a) a) (is_elsewhere (first_sided keys a) a) (none a (omega arith)) in
+    let of_a : first_of_name keys a ≡ Some f.0 = ap (λ (k : NameKey). first (keys_eq k) (names_of keys)) same ∙ f.1 in
+    let nb = neither (clashes_with keys (first_of_name keys b) b) (is_elsewhere (first_of_both keys b) b) (none b within) in
+    let na = neither (clashes_with keys (first_of_name keys a) a) (is_elsewhere (first_of_both keys a) a) (none a (omega arith)) in
     let j_b : nat_eq f.0 b ≡ false = differ f.0 b (omega arith) in
     let over_b : opposite (at keys f.0).side (at keys b).side ≡ true = other_side keys f.0 b j_b (sym (ap (λ o. clashes_with keys o b) f.1) ∙ nb.0) in
     let is_a = at_first f.0 over_b (was_false (opposite (at keys a).side (at keys b).side) p.1) in
@@ -198,13 +193,13 @@ never keys none a b lt within e =
     let sides : (at keys a).side ≡ (at keys b).side = same_side (at keys f.0).side (at keys a).side (at keys b).side over_a over_b in
     let g = first_found (sided_eq (at keys b)) keys no_sided a (omega arith) (sided_equal (at keys b) (at keys a) (sym same) (sym sides)) in
     let le2 = g.2 in
-    let elsewhere : is_elsewhere (first_sided keys b) b ≡ true = ap (λ o. is_elsewhere o b) g.1 ∙ ap not (differ g.0 b (omega arith)) in
+    let elsewhere : is_elsewhere (first_of_both keys b) b ≡ true = ap (λ o. is_elsewhere o b) g.1 ∙ ap not (differ g.0 b (omega arith)) in
     false≢true (sym nb.1 ∙ elsewhere)
   where
     at_first : (j : ℕ) → opposite (at keys j).side (at keys b).side ≡ true → opposite (at keys a).side (at keys b).side ≡ false → nat_eq j a ≡ false
     at_first j over p = differ j a (λ (h : j ≡ a). false≢true (sym p ∙ sym (ap (λ m. opposite (at keys m).side (at keys b).side) h) ∙ over))
 
-apart : (keys : List SidedKey) → ((i : ℕ) → i < length keys → clashes_at keys (first_name keys i) (first_sided keys i) i ≡ false) → any_pair keys_clash keys ≡ false
+apart : (keys : List SidedKey) → ((i : ℕ) → i < length keys → clashes_at keys (first_of_name keys i) (first_of_both keys i) i ≡ false) → any_pair keys_clash keys ≡ false
 apart keys none = go (any_pair keys_clash keys) refl
   where
     go : (c : Bool) → any_pair keys_clash keys ≡ c → any_pair keys_clash keys ≡ false
@@ -216,19 +211,75 @@ apart keys none = go (any_pair keys_clash keys) refl
 abbrev Firsts : Type 0 → Type 0
 Firsts K = IndexMap K ℕ (BuildHasherDefault FoldHasher)
 
-by_maps : (keys : List SidedKey) (firsts : Firsts NameKey) (sided : Firsts SidedKey) (i : ℕ) → ((k : NameKey) → get keys_eq firsts k ≡ first (keys_eq k) (names_of keys))
-    → ((k : SidedKey) → get sided_eq sided k ≡ first (sided_eq k) keys) → is_clash_of keys firsts sided i ≡ clashes_at keys (first_name keys i) (first_sided keys i) i
-by_maps keys firsts sided i f g =
-    ap (λ o. clashes_at keys o (get sided_eq sided (at keys i)) i) (f (at keys i).name)
-    ∙ ap (λ o. clashes_at keys (first_name keys i) o i) (g (at keys i))
+by_maps : (keys : List SidedKey) (firsts : Firsts NameKey) (sided : Firsts SidedKey) (i : ℕ) → ((k : NameKey) → get keys_eq firsts k ≡ first (keys_eq k) (names_of keys)) → TellsSides keys sided → i < length keys
+    → is_clash_of keys firsts sided i ≡ clashes_at keys (first_of_name keys i) (first_of_both keys i) i
+by_maps keys firsts sided i f sides lt = ap (λ o. clashes_at keys o (get sided_eq sided (at keys i)) i) (f (at keys i).name) ∙ sides.tells i lt
 
-pub names_meet_in : (keys : List SidedKey) (firsts : Firsts NameKey) (sided : Firsts SidedKey) (i : ℕ) → ((k : NameKey) → get keys_eq firsts k ≡ first (keys_eq k) (map (λ s. s.name) keys))
-    → ((k : SidedKey) → get sided_eq sided k ≡ first (sided_eq k) keys) → i < length keys → is_clash_of keys firsts sided i ≡ true → any_pair keys_clash keys ≡ true
-names_meet_in keys firsts sided i f g lt is = meets keys i lt (sym (by_maps keys firsts sided i f g) ∙ is)
+pub names_meet_in : (keys : List SidedKey) (firsts : Firsts NameKey) (sided : Firsts SidedKey) (i : ℕ) → ((k : NameKey) → get keys_eq firsts k ≡ first (keys_eq k) (map (λ s. s.name) keys)) → TellsSides keys sided
+    → i < length keys → is_clash_of keys firsts sided i ≡ true → any_pair keys_clash keys ≡ true
+names_meet_in keys firsts sided i f sides lt is = meets keys i lt (sym (by_maps keys firsts sided i f sides lt) ∙ is)
 
-pub names_apart_in : (keys : List SidedKey) (firsts : Firsts NameKey) (sided : Firsts SidedKey) → ((k : NameKey) → get keys_eq firsts k ≡ first (keys_eq k) (map (λ s. s.name) keys))
-    → ((k : SidedKey) → get sided_eq sided k ≡ first (sided_eq k) keys) → ((i : ℕ) → i < length keys → is_clash_of keys firsts sided i ≡ false) → any_pair keys_clash keys ≡ false
-names_apart_in keys firsts sided f g none = apart keys (λ i lt. sym (by_maps keys firsts sided i f g) ∙ none i lt)
+pub names_apart_in : (keys : List SidedKey) (firsts : Firsts NameKey) (sided : Firsts SidedKey) → ((k : NameKey) → get keys_eq firsts k ≡ first (keys_eq k) (map (λ s. s.name) keys)) → TellsSides keys sided
+    → ((i : ℕ) → i < length keys → is_clash_of keys firsts sided i ≡ false) → any_pair keys_clash keys ≡ false
+names_apart_in keys firsts sided f sides none = apart keys (λ i lt. sym (by_maps keys firsts sided i f sides lt) ∙ none i lt)
+
+-- ---- what tells of sides
+
+-- the first places do
+all_tell : (keys : List SidedKey) (sided : Firsts SidedKey) → ((k : SidedKey) → get sided_eq sided k ≡ first (sided_eq k) keys) → TellsSides keys sided
+all_tell keys sided g = record { tells = λ i lt. ap (λ o. clashes_at keys (first_of_name keys i) o i) (g (at keys i)) }
+
+pub if_ok_tells : {E : Type 0} (keys : List SidedKey) (r : Result (Firsts SidedKey) E) → IfOk r (λ m. (k : SidedKey) → get sided_eq m k ≡ first (sided_eq k) keys) → IfOk r (λ m. TellsSides keys m)
+if_ok_tells keys (Ok m) h = all_tell keys m h
+if_ok_tells keys (Err e) h = tt
+
+not_opposite : (x y : ℕ) → y ≡ 0 → opposite x y ≡ false
+not_opposite x y e = ap (opposite x) e ∙ go (nat_eq x 1) (nat_eq x 2)
+  where
+    go : (a b : Bool) → ((a && false) || (b && false)) ≡ false
+    go true true = refl
+    go true false = refl
+    go false true = refl
+    go false false = refl
+
+-- a key that is no Getter's or Setter's clashes with the first of its name, if that stands elsewhere
+clashes_sideless : (keys : List SidedKey) (i j : ℕ) → i < length keys → (at keys i).side ≡ 0 → first_of_both keys i ≡ Some j → nat_eq j i ≡ false → clashes_with keys (first_of_name keys i) i ≡ true
+clashes_sideless keys i j lt none f ne =
+    let test : SidedKey → Bool = sided_eq (at keys i) in
+    let h = first_hit test keys no_sided j f in
+    let same : at keys i ≡ at keys j = sided_same (at keys i) (at keys j) h.1 in
+    let low : j ≤ i = first_low test keys no_sided i j lt (sided_equal (at keys i) (at keys i) refl refl) f in
+    let below : j < i = less j i ne low in
+    let within : j < length (names_of keys) = let q = names_len keys in let l = h.0 in omega arith in
+    let named : keys_eq (at keys i).name (get_or (names_of keys) j no_key) ≡ true = key_equal (at keys i).name (get_or (names_of keys) j no_key) (ap (λ (k : SidedKey). k.name) same ∙ sym (name_at keys j h.0)) in
+    let m = first_found (keys_eq (at keys i).name) (names_of keys) no_key j within named in
+    let le = m.2 in
+    ap (λ o. clashes_with keys o i) m.1
+    ∙ ap (λ c. not c && not (opposite (at keys m.0).side (at keys i).side)) (differ m.0 i (omega arith))
+    ∙ ap not (not_opposite (at keys m.0).side (at keys i).side none)
+
+-- where there are no Getters and Setters, nothing does
+pub none_tell : (keys : List SidedKey) (sided : Firsts SidedKey) → sided.entries ≡ [] → ((i : ℕ) → i < length keys → (get_or keys i no_sided).side ≡ 0) → TellsSides keys sided
+none_tell keys sided e none = record {
+  tells = λ i lt.
+      ap (λ (es : List (SidedKey × ℕ)). clashes_at keys (first_of_name keys i) (lookup (sided_eq (at keys i)) es) i) e
+      ∙ go i lt (first_of_both keys i) refl;
+}
+  where
+    go : (i : ℕ) → i < length keys → (o : Option ℕ) → first_of_both keys i ≡ o → clashes_at keys (first_of_name keys i) None i ≡ clashes_at keys (first_of_name keys i) o i
+    go i lt None f = refl
+    go i lt (Some j) f = at_place (nat_eq j i) refl
+      where
+        at_place : (c : Bool) → nat_eq j i ≡ c → clashes_at keys (first_of_name keys i) None i ≡ clashes_at keys (first_of_name keys i) (Some j) i
+        at_place true q = ap (λ c. clashes_with keys (first_of_name keys i) i || not c) (sym q)
+        at_place false q = let h = clashes_sideless keys i j lt (none i lt) f q in ap (λ c. c || false) h ∙ sym (ap (λ c. c || not (nat_eq j i)) h)
+
+pub sideless : (n : ℕ) → false ≡ not (nat_eq n 0) → n ≡ 0
+sideless n e = go (nat_eq n 0) refl e
+  where
+    go : (c : Bool) → nat_eq n 0 ≡ c → false ≡ not c → n ≡ 0
+    go true q f = eqb-true n 0 q
+    go false q f = absurd (false≢true f)
 
 -- the first places are those of the names of the keys
 pub at_names : (keys : List SidedKey) (names given : List NameKey) (firsts : Firsts NameKey) → names ≡ map (λ s. s.name) keys → given ≡ names → ((k : NameKey) → get keys_eq firsts k ≡ first (keys_eq k) given)

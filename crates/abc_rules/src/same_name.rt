@@ -1,9 +1,9 @@
-ghost use Rattle.std.specs.Prelude.{◌≡◌, ◌<◌, ◌^◌, get_or, length, map, IfOk};
+ghost use Rattle.std.specs.Prelude.{◌≡◌, ◌<◌, ◌^◌, ℕ, false, get_or, length, map, nat_eq, not, IfOk};
 ghost use Rattle.abc_items.specs.Index.{first};
 ghost use Rattle.abc_items.specs.Keys.{keys_eq};
 ghost use Rattle.indexmap.specs.IndexMap.{get};
 ghost use Rattle.abc_rules.specs.Repeats.{clashes_at as clash_at, clashes_with as clash_with, is_elsewhere as stands_elsewhere, keys_clash, no_sided, opposite as are_opposite, side_of as side_in, sided_eq, sided_key as sided_of};
-ghost use Rattle.abc_rules.specs.Clashes.{is_clash_of};
+ghost use Rattle.abc_rules.specs.Clashes.{TellsSides, is_clash_of};
 ghost use Rattle.abc_items.specs.Traits.{any_pair, any_table, names_clash};
 ghost use Rattle.abc_items.specs.declared.items.LinkRule.TheVariants as rules;
 ghost use Rattle.abc_items.specs.NameKey.{NameKey as AnyNameKey};
@@ -91,12 +91,44 @@ fn names_in(alloc: Global, keys: &[SidedKey]) -> Result<Vec<NameKey>, NoMemory>
     Ok(names)
 }
 
+/// Whether a key is that of a Getter or a Setter.
+fn has_side(keys: &[SidedKey], place: u32) -> bool
+    ensures { result ≡ not (nat_eq (get_or keys.now place no_sided).side 0) }
+{
+    side_at(keys, place) != 0
+}
+
+/// Whether some key is.
+fn has_sides(keys: &[SidedKey]) -> bool
+    requires { length keys.now < 2 ^ 32 }
+    ensures { result ≡ false → (i : ℕ) → i < length keys.now → (get_or keys.now i no_sided).side ≡ 0 }
+{
+    for i in 0..keys.len() as u32 {
+        if has_side(keys, i) {
+            return true;
+        }
+    }
+    false
+}
+
 /// The first place of each key.
 fn first_sided(alloc: Global, keys: &[SidedKey]) -> Result<IndexMap<SidedKey, u32>, NoMemory>
     requires { length keys.now < 2 ^ 32 }
     ensures { IfOk result (λ m. (k : AnySidedKey) → get sided_eq m k ≡ first (sided_eq k) keys.now) }
 {
     index_of(alloc, keys)
+}
+
+/// The first place of each key, where there are Getters or Setters: among others the names alone tell which clash.
+fn sides_told(alloc: Global, keys: &[SidedKey]) -> Result<IndexMap<SidedKey, u32>, NoMemory>
+    requires { length keys.now < 2 ^ 32 }
+    ensures { IfOk result (λ m. TellsSides keys.now m) }
+{
+    if has_sides(keys) {
+        first_sided(alloc, keys)
+    } else {
+        Ok(IndexMap::new(alloc))
+    }
 }
 
 /// Whether the first key of a name stands elsewhere, and is not of the other side.
@@ -180,7 +212,7 @@ fn any_clash_in(
 ) -> bool
     requires few { length keys.now < 2 ^ 32 }
     requires names { (k : AnyNameKey) → get keys_eq firsts.now k ≡ first (keys_eq k) (map (λ s. s.name) keys.now) }
-    requires sides { (k : AnySidedKey) → get sided_eq sided.now k ≡ first (sided_eq k) keys.now }
+    requires sides { TellsSides keys.now sided.now }
     ensures { result ≡ any_pair keys_clash keys.now }
 {
     for i in 0..keys.len() as u32 {
@@ -201,7 +233,7 @@ fn any_clash_of_many(alloc: Global, keys: &[SidedKey]) -> Result<bool, NoMemory>
     }
     let names = names_in(alloc, keys)?;
     let firsts = first_places(alloc, names.as_slice())?;
-    let sided = first_sided(alloc, keys)?;
+    let sided = sides_told(alloc, keys)?;
     Ok(any_clash_in(keys, &firsts, &sided))
 }
 

@@ -7,7 +7,7 @@ mod sets;
 mod slots;
 mod tables;
 
-pub use abc_members::{Layouts, Members, slots_of, traits_of, type_in};
+pub use abc_members::{Layouts, Members, slots_of, string_number, traits_of, type_in};
 pub use scripts::ScriptTraits;
 pub use sets::SetSpaces;
 pub use slots::OwnSlots;

@@ -1,7 +1,6 @@
 ghost use Rattle.std.specs.Prelude.{◌≡◌, ◌++◌, ◌<◌, ◌^◌, [], ℕ, List, Some, length, map, slice_get, IfOk, OnOk};
 ghost use Rattle.std.specs.Option.{option_copied};
-ghost use Rattle.abc_index.specs.Texts.{HasTexts, number_in, texts_of};
-ghost use Rattle.abc_members.specs.Strings.{numbers_in};
+ghost use Rattle.abc_index.specs.Texts.{HasTexts, number_in, numbers_in, texts_of};
 ghost use Rattle.abc_search_tables.specs.ScriptTraits.{HasScripts, keys_of, owners_of, script_traits, traits_of_scripts};
 
 use abc_base::{NoMemory, Table};

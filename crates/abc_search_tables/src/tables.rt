@@ -1,6 +1,5 @@
 ghost use Rattle.std.specs.Prelude.{◌≡◌, ◌<◌, ◌^◌, length, IfOk};
-ghost use Rattle.abc_index.specs.Texts.{HasTexts, texts_of};
-ghost use Rattle.abc_members.specs.Strings.{numbers_in};
+ghost use Rattle.abc_index.specs.Texts.{HasTexts, numbers_in, texts_of};
 ghost use Rattle.abc_search_tables.specs.Made.{AreSearchTables};
 
 use crate::scripts::ScriptTraits;

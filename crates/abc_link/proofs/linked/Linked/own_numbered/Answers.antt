@@ -8,4 +8,4 @@ use Rattle.abc_link.proofs.linked.Linked.own_numbered.Goals as goal
 
 pub returns : goal.returns
 returns c = λ t e.
-    c.own_numbered.ensures t (c.self.invariant.made_of.texts_are.has t ∙ ap (λ (l : LinkedFile). first (bytes_eq t) (texts_of l.file.strings)) c.self.view_is ∙ e) ∙ ap (λ (l : LinkedFile). own_traits l c.args.layout.0 t) c.self.view_is
+    c.own_numbered.ensures t (c.self.invariant.names_are.texts.has t ∙ ap (λ (l : LinkedFile). first (bytes_eq t) (texts_of l.file.strings)) c.self.view_is ∙ e) ∙ ap (λ (l : LinkedFile). own_traits l c.args.layout.0 t) c.self.view_is

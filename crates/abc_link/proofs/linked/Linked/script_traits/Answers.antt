@@ -8,4 +8,4 @@ use Rattle.abc_link.proofs.linked.Linked.script_traits.Goals as goal
 
 pub returns : goal.returns
 returns c = λ t e.
-    c.numbered.ensures t (c.self.invariant.made_of.texts_are.has t ∙ ap (λ (l : LinkedFile). first (bytes_eq t) (texts_of l.file.strings)) c.self.view_is ∙ e) ∙ ap (λ (l : LinkedFile). script_traits l.file t) c.self.view_is
+    c.numbered.ensures t (c.self.invariant.names_are.texts.has t ∙ ap (λ (l : LinkedFile). first (bytes_eq t) (texts_of l.file.strings)) c.self.view_is ∙ e) ∙ ap (λ (l : LinkedFile). script_traits l.file t) c.self.view_is

@@ -6,4 +6,4 @@ use Rattle.abc_interfaces.specs.Linked.{LinkedFile}
 use Rattle.abc_link.proofs.linked.Linked.text_number.Goals as goal
 
 pub returns : goal.returns
-returns c = c.text_number.ensures ∙ c.self.invariant.made_of.texts_are.has c.args.text.now ∙ ap (λ (l : LinkedFile). first (bytes_eq c.args.text.now) (texts_of l.file.strings)) c.self.view_is
+returns c = c.number_of.ensures ∙ c.self.invariant.names_are.texts.has c.args.text.now ∙ ap (λ (l : LinkedFile). first (bytes_eq c.args.text.now) (texts_of l.file.strings)) c.self.view_is
