@@ -13,6 +13,5 @@ mod methods;
 mod pools;
 mod traits;
 
-pub use abc_linetokens::Shown;
 pub use bodies::put_body;
 pub use listing::{disassemble, put_front};

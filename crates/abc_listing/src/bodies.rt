@@ -10,7 +10,8 @@ ghost use Rattle.abc_varint.specs.Reads.{Reads, ReadsPart};
 
 use abc_base::{Source, Table};
 use abc_bodies::{Reading, flags_down, read_body};
-use abc_disasm::{Shown, put_body};
+use abc_disasm::put_body;
+use abc_linetokens::Shown;
 use abc_tables::Sizes;
 use abc_varint::{ReadError, Window, read_u30};
 use std::alloc::Global;

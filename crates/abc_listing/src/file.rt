@@ -10,8 +10,9 @@ ghost use Rattle.abc_varint.specs.declared.error.ReadError.{ReadError};
 
 use crate::bodies::list_bodies;
 use abc_base::Source;
-use abc_disasm::{Shown, put_front};
+use abc_disasm::put_front;
 use abc_file::{read_nothing_more, read_version};
+use abc_linetokens::Shown;
 use abc_pools::read_pools;
 use abc_tables::sizes_of;
 use abc_traits::read_definitions;
