@@ -11,15 +11,15 @@ use crate::instrs::put_instr;
 use crate::listed::{Listed, put_all};
 use crate::marks::mark_body;
 use abc_base::{NoMemory, Table};
-use abc_linetokens::{push_byte, put, put_label, put_number, put_target};
-use abc_tables::{Abc, Body, Handler};
+use abc_linetokens::{Shown, push_byte, put, put_label, put_number, put_target};
+use abc_tables::{Body, Handler};
 use std::alloc::Global;
 
 impl Listed for Handler {
     ghost text = { handler_text };
 
     #[tactic(auto, unfolding(abc_lines::specs::Lineforms::catch_line, abc_rowparts::specs::Operands::any_number, abc_rowparts::specs::Operands::target), using(abc_varint::proofs::Putting::stays, std::proofs::Common::append_assoc))]
-    fn put(&self, _abc: &Abc, out: &mut Vec<u8>) -> Result<(), NoMemory> {
+    fn put(&self, _abc: &Shown<'_>, out: &mut Vec<u8>) -> Result<(), NoMemory> {
         put(b"catch", out)?;
         put_target(self.from, out)?;
         put_target(self.to, out)?;
@@ -33,7 +33,7 @@ impl Listed for Handler {
 
 /// The line of a body itself.
 #[tactic(auto, unfolding(abc_lines::specs::Lineforms::body_line, abc_rowparts::specs::Operands::any_number), using(abc_varint::proofs::Putting::stays, std::proofs::Common::append_assoc))]
-fn put_body_line(body: &Body, _abc: &Abc, out: &mut Vec<u8>) -> Result<(), NoMemory>
+fn put_body_line(body: &Body, _abc: &Shown<'_>, out: &mut Vec<u8>) -> Result<(), NoMemory>
     ensures { Puts out.old.items out.new.items result (body_head_text _abc.now body.now) }
 {
     put(b"body", out)?;
@@ -73,7 +73,7 @@ fn put_label_if(body: &Body, marks: &[bool], n: usize, out: &mut Vec<u8>) -> Res
 
 /// The instructions, with the labels that the body names.
 #[tactic(auto, using(crate::proofs::Fronts::front_through, abc_varint::proofs::Putting::stays, std::proofs::Common::append_assoc))]
-fn put_code(body: &Body, marks: &[bool], abc: &Abc, out: &mut Vec<u8>) -> Result<(), NoMemory>
+fn put_code(body: &Body, marks: &[bool], abc: &Shown<'_>, out: &mut Vec<u8>) -> Result<(), NoMemory>
     requires marked { AreMarks marks.now (body_targets (body.now)) }
     requires len { length marks.now ≡ length (body.now).code + 1 }
     requires shown { All IsShown (body.now).code }
@@ -94,7 +94,7 @@ fn put_code(body: &Body, marks: &[bool], abc: &Abc, out: &mut Vec<u8>) -> Result
 pub fn put_body(
     marks: &mut Vec<bool>,
     body: &Body,
-    abc: &Abc,
+    abc: &Shown<'_>,
     out: &mut Vec<u8>,
 ) -> Result<(), NoMemory>
     requires { IsReadyBody (body.now) }
@@ -113,7 +113,7 @@ pub fn put_body(
 pub fn put_bodies(
     alloc: Global,
     bodies: &Table<Body>,
-    abc: &Abc,
+    abc: &Shown<'_>,
     out: &mut Vec<u8>,
 ) -> Result<(), NoMemory>
     requires { All IsReadyBody bodies.now }

@@ -5,11 +5,11 @@ ghost use Rattle.abc_varint.specs.Puts.{Puts};
 use crate::listed::{Listed, put_all};
 use abc_base::NoMemory;
 use abc_linetokens::{
-    push_byte, put, put_multiname_comment, put_number, put_number_line, put_number_lines,
+    Shown, push_byte, put, put_multiname_comment, put_number, put_number_line, put_number_lines,
 };
-use abc_tables::{Abc, ClassInfo, Instance, Script};
+use abc_tables::{ClassInfo, Instance, Script};
 
-fn put_protected(space: &Option<u32>, _abc: &Abc, out: &mut Vec<u8>) -> Result<(), NoMemory>
+fn put_protected(space: &Option<u32>, _abc: &Shown<'_>, out: &mut Vec<u8>) -> Result<(), NoMemory>
     ensures { Puts out.old.items out.new.items result (protected_text _abc.now space.now) }
 {
     match space {
@@ -20,7 +20,11 @@ fn put_protected(space: &Option<u32>, _abc: &Abc, out: &mut Vec<u8>) -> Result<(
 
 /// The line of an instance itself.
 #[tactic(auto, unfolding(abc_lines::specs::Lineforms::instance_line, abc_rowparts::specs::Operands::any_number), using(abc_varint::proofs::Putting::stays, std::proofs::Common::append_assoc))]
-fn put_instance_line(instance: &Instance, abc: &Abc, out: &mut Vec<u8>) -> Result<(), NoMemory>
+fn put_instance_line(
+    instance: &Instance,
+    abc: &Shown<'_>,
+    out: &mut Vec<u8>,
+) -> Result<(), NoMemory>
     ensures { Puts out.old.items out.new.items result (instance_head_text abc.now instance.now) }
 {
     put(b"instance", out)?;
@@ -36,7 +40,7 @@ impl Listed for Instance {
     ghost text = { instance_text };
 
     #[tactic(auto, using(abc_varint::proofs::Putting::stays, std::proofs::Common::append_assoc))]
-    fn put(&self, abc: &Abc, out: &mut Vec<u8>) -> Result<(), NoMemory> {
+    fn put(&self, abc: &Shown<'_>, out: &mut Vec<u8>) -> Result<(), NoMemory> {
         put_instance_line(self, abc, out)?;
         put_protected(&self.protected_ns, abc, out)?;
         put_number_lines(b"implements", &self.interfaces, out)?;
@@ -50,7 +54,7 @@ impl Listed for ClassInfo {
     ghost text = { class_text };
 
     #[tactic(auto, using(abc_varint::proofs::Putting::stays, std::proofs::Common::append_assoc))]
-    fn put(&self, abc: &Abc, out: &mut Vec<u8>) -> Result<(), NoMemory> {
+    fn put(&self, abc: &Shown<'_>, out: &mut Vec<u8>) -> Result<(), NoMemory> {
         put_number_line(b"class", self.cinit, out)?;
         put_all(&self.traits, abc, out)?;
         Ok(())
@@ -61,7 +65,7 @@ impl Listed for Script {
     ghost text = { script_text };
 
     #[tactic(auto, using(abc_varint::proofs::Putting::stays, std::proofs::Common::append_assoc))]
-    fn put(&self, abc: &Abc, out: &mut Vec<u8>) -> Result<(), NoMemory> {
+    fn put(&self, abc: &Shown<'_>, out: &mut Vec<u8>) -> Result<(), NoMemory> {
         put_number_line(b"script", self.init, out)?;
         put_all(&self.traits, abc, out)?;
         Ok(())

@@ -10,10 +10,10 @@ ghost use Rattle.abc_varint.specs.Puts.{Puts};
 use crate::heads::put_head;
 use abc_base::NoMemory;
 use abc_linetokens::{
-    push_byte, put, put_label, put_number, put_number_line, put_operand, put_operand_comment,
-    put_signed, put_target,
+    Shown, push_byte, put, put_label, put_number, put_number_line, put_operand,
+    put_operand_comment, put_signed, put_target,
 };
-use abc_tables::{Abc, Instr, Pool, opcode};
+use abc_tables::{Instr, Pool, opcode};
 
 /// The pool that an instruction's first operand names.
 #[tactic(auto, using(crate::proofs::Forms::pool_is, crate::proofs::Forms::no_instruction))]
@@ -28,7 +28,7 @@ fn pool(op: u8) -> Pool
 
 /// An instruction without operands.
 #[tactic(auto, using(abc_varint::proofs::Putting::stays, std::proofs::Common::append_assoc, crate::proofs::Begun::plain_line))]
-fn put_plain(op: u8, _abc: &Abc, out: &mut Vec<u8>) -> Result<(), NoMemory>
+fn put_plain(op: u8, _abc: &Shown<'_>, out: &mut Vec<u8>) -> Result<(), NoMemory>
     requires { form_at op ≡ Some forms.Plain }
     ensures { Puts out.old.items out.new.items result (instr_text _abc.now (instrs.Plain op)) }
 {
@@ -38,7 +38,7 @@ fn put_plain(op: u8, _abc: &Abc, out: &mut Vec<u8>) -> Result<(), NoMemory>
 
 /// An instruction with a number.
 #[tactic(auto, using(abc_varint::proofs::Putting::stays, std::proofs::Common::append_assoc, crate::proofs::Begun::one_line))]
-fn put_one(op: u8, n: u32, abc: &Abc, out: &mut Vec<u8>) -> Result<(), NoMemory>
+fn put_one(op: u8, n: u32, abc: &Shown<'_>, out: &mut Vec<u8>) -> Result<(), NoMemory>
     requires { form_at op ≡ Some forms.One }
     ensures { Puts out.old.items out.new.items result (instr_text abc.now (instrs.One op n)) }
 {
@@ -51,7 +51,7 @@ fn put_one(op: u8, n: u32, abc: &Abc, out: &mut Vec<u8>) -> Result<(), NoMemory>
 
 /// An instruction with two numbers.
 #[tactic(auto, using(abc_varint::proofs::Putting::stays, std::proofs::Common::append_assoc, crate::proofs::Begun::two_line))]
-fn put_pair(op: u8, n: u32, m: u32, abc: &Abc, out: &mut Vec<u8>) -> Result<(), NoMemory>
+fn put_pair(op: u8, n: u32, m: u32, abc: &Shown<'_>, out: &mut Vec<u8>) -> Result<(), NoMemory>
     requires { form_at op ≡ Some forms.Two }
     ensures { Puts out.old.items out.new.items result (instr_text abc.now (instrs.Two op n m)) }
 {
@@ -65,7 +65,7 @@ fn put_pair(op: u8, n: u32, m: u32, abc: &Abc, out: &mut Vec<u8>) -> Result<(), 
 
 /// A branch.
 #[tactic(auto, using(abc_varint::proofs::Putting::stays, std::proofs::Common::append_assoc, crate::proofs::Begun::branch_line))]
-fn put_branch(op: u8, target: u32, _abc: &Abc, out: &mut Vec<u8>) -> Result<(), NoMemory>
+fn put_branch(op: u8, target: u32, _abc: &Shown<'_>, out: &mut Vec<u8>) -> Result<(), NoMemory>
     requires { form_at op ≡ Some forms.Branch }
     ensures { Puts out.old.items out.new.items result (instr_text _abc.now (instrs.Branch op target)) }
 {
@@ -105,7 +105,12 @@ fn put_target_line(
 
 /// A switch.
 #[tactic(auto, using(crate::proofs::Forms::switch_text))]
-fn put_switch(default: u32, cases: &[u32], _abc: &Abc, out: &mut Vec<u8>) -> Result<(), NoMemory>
+fn put_switch(
+    default: u32,
+    cases: &[u32],
+    _abc: &Shown<'_>,
+    out: &mut Vec<u8>,
+) -> Result<(), NoMemory>
     requires { 0 < length cases.now }
     ensures { Puts out.old.items out.new.items result (instr_text _abc.now (instrs.Switch default cases.now)) }
 {
@@ -114,7 +119,7 @@ fn put_switch(default: u32, cases: &[u32], _abc: &Abc, out: &mut Vec<u8>) -> Res
 
 /// `pushbyte`
 #[tactic(auto, using(abc_varint::proofs::Putting::stays, std::proofs::Common::append_assoc, crate::proofs::Forms::byte_text))]
-fn put_byte(value: i8, _abc: &Abc, out: &mut Vec<u8>) -> Result<(), NoMemory>
+fn put_byte(value: i8, _abc: &Shown<'_>, out: &mut Vec<u8>) -> Result<(), NoMemory>
     ensures { Puts out.old.items out.new.items result (instr_text _abc.now (instrs.Byte value)) }
 {
     put(b"pushbyte", out)?;
@@ -125,7 +130,7 @@ fn put_byte(value: i8, _abc: &Abc, out: &mut Vec<u8>) -> Result<(), NoMemory>
 
 /// `pushshort`
 #[tactic(auto, using(abc_varint::proofs::Putting::stays, std::proofs::Common::append_assoc, crate::proofs::Forms::short_text))]
-fn put_short(value: i16, _abc: &Abc, out: &mut Vec<u8>) -> Result<(), NoMemory>
+fn put_short(value: i16, _abc: &Shown<'_>, out: &mut Vec<u8>) -> Result<(), NoMemory>
     ensures { Puts out.old.items out.new.items result (instr_text _abc.now (instrs.Short value)) }
 {
     put(b"pushshort", out)?;
@@ -136,7 +141,7 @@ fn put_short(value: i16, _abc: &Abc, out: &mut Vec<u8>) -> Result<(), NoMemory>
 
 /// `getscopeobject`
 #[tactic(auto, using(abc_varint::proofs::Putting::stays, std::proofs::Common::append_assoc, crate::proofs::Forms::scope_text))]
-fn put_scope_object(n: u8, _abc: &Abc, out: &mut Vec<u8>) -> Result<(), NoMemory>
+fn put_scope_object(n: u8, _abc: &Shown<'_>, out: &mut Vec<u8>) -> Result<(), NoMemory>
     ensures { Puts out.old.items out.new.items result (instr_text _abc.now (instrs.ScopeObject n)) }
 {
     put_number_line(b"getscopeobject", n as u32, out)
@@ -149,7 +154,7 @@ fn put_debug(
     name: u32,
     reg: u8,
     extra: u32,
-    _abc: &Abc,
+    _abc: &Shown<'_>,
     out: &mut Vec<u8>,
 ) -> Result<(), NoMemory>
     ensures { Puts out.old.items out.new.items result (instr_text _abc.now (instrs.Debug kind name reg extra)) }
@@ -164,7 +169,7 @@ fn put_debug(
 }
 
 /// The line of an instruction.
-pub fn put_instr(instr: &Instr, abc: &Abc, out: &mut Vec<u8>) -> Result<(), NoMemory>
+pub fn put_instr(instr: &Instr, abc: &Shown<'_>, out: &mut Vec<u8>) -> Result<(), NoMemory>
     requires { IsShown instr.now }
     ensures { Puts out.old.items out.new.items result (instr_text abc.now instr.now) }
 {

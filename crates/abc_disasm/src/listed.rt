@@ -4,7 +4,7 @@ ghost use Rattle.std.specs.List.{flat_map};
 ghost use Rattle.abc_varint.specs.Puts.{Puts};
 
 use abc_base::{NoMemory, Table};
-use abc_tables::Abc;
+use abc_linetokens::Shown;
 
 /// Values that have lines of their own in the one text.
 pub trait Listed: Drop {
@@ -15,13 +15,17 @@ pub trait Listed: Drop {
     ghost text: { Abc → Self → List ℕ };
 
     /// Appends the lines. Where memory runs out, the old bytes are still the front.
-    fn put(&self, abc: &Abc, out: &mut Vec<u8>) -> Result<(), NoMemory>
+    fn put(&self, abc: &Shown<'_>, out: &mut Vec<u8>) -> Result<(), NoMemory>
         ensures { Puts out.old.items out.new.items result (text abc.now self.now) };
 }
 
 /// Appends the lines of the items, one after the other. Where memory runs out, the old bytes are still the front.
 #[tactic(auto, using(abc_varint::proofs::Putting::stays))]
-pub fn put_all<T: Listed>(items: &Table<T>, abc: &Abc, out: &mut Vec<u8>) -> Result<(), NoMemory>
+pub fn put_all<T: Listed>(
+    items: &Table<T>,
+    abc: &Shown<'_>,
+    out: &mut Vec<u8>,
+) -> Result<(), NoMemory>
     ensures { Puts out.old.items out.new.items result (flat_map (T.text abc.now) items.now) }
 {
     for item in items.as_slice() {

@@ -7,7 +7,7 @@ ghost use Rattle.abc_varint.specs.Puts.{Puts, PutsWhole};
 use crate::bodies::put_bodies;
 use crate::listed::put_all;
 use abc_base::NoMemory;
-use abc_linetokens::put;
+use abc_linetokens::{Shown, put};
 use abc_tables::Abc;
 use std::alloc::Global;
 
@@ -18,35 +18,35 @@ fn put_version(out: &mut Vec<u8>) -> Result<(), NoMemory>
 }
 
 #[tactic(auto, using(abc_varint::proofs::Putting::stays, std::proofs::Common::append_assoc))]
-fn put_pools(abc: &Abc, out: &mut Vec<u8>) -> Result<(), NoMemory>
+fn put_pools(abc: &Shown<'_>, out: &mut Vec<u8>) -> Result<(), NoMemory>
     ensures { Puts out.old.items out.new.items result (pools_text abc.now) }
 {
-    put_all(&abc.ints, abc, out)?;
-    put_all(&abc.uints, abc, out)?;
-    put_all(&abc.doubles, abc, out)?;
-    put_all(&abc.strings, abc, out)?;
-    put_all(&abc.namespaces, abc, out)?;
-    put_all(&abc.sets, abc, out)?;
-    put_all(&abc.names, abc, out)?;
+    put_all(&abc.file().ints, abc, out)?;
+    put_all(&abc.file().uints, abc, out)?;
+    put_all(&abc.file().doubles, abc, out)?;
+    put_all(&abc.file().strings, abc, out)?;
+    put_all(&abc.file().namespaces, abc, out)?;
+    put_all(&abc.file().sets, abc, out)?;
+    put_all(&abc.file().names, abc, out)?;
     Ok(())
 }
 
 #[tactic(auto, using(abc_varint::proofs::Putting::stays, std::proofs::Common::append_assoc))]
-fn put_definitions(abc: &Abc, out: &mut Vec<u8>) -> Result<(), NoMemory>
+fn put_definitions(abc: &Shown<'_>, out: &mut Vec<u8>) -> Result<(), NoMemory>
     ensures { Puts out.old.items out.new.items result (definitions_text abc.now) }
 {
-    put_all(&abc.methods, abc, out)?;
-    put_all(&abc.metadata, abc, out)?;
-    put_all(&abc.instances, abc, out)?;
-    put_all(&abc.classes, abc, out)?;
-    put_all(&abc.scripts, abc, out)?;
+    put_all(&abc.file().methods, abc, out)?;
+    put_all(&abc.file().metadata, abc, out)?;
+    put_all(&abc.file().instances, abc, out)?;
+    put_all(&abc.file().classes, abc, out)?;
+    put_all(&abc.file().scripts, abc, out)?;
     Ok(())
 }
 
 /// Appends the lines of a file that stand before those of its bodies, whatever bodies it has. Where memory runs out, the
 /// old bytes are still the front.
 #[tactic(auto, using(abc_varint::proofs::Putting::stays, std::proofs::Common::append_assoc))]
-pub fn put_front(abc: &Abc, out: &mut Vec<u8>) -> Result<(), NoMemory>
+pub fn put_front(abc: &Shown<'_>, out: &mut Vec<u8>) -> Result<(), NoMemory>
     ensures { Puts out.old.items out.new.items result (front_text abc.now) }
 {
     put_version(out)?;
@@ -60,8 +60,9 @@ fn put_file(alloc: Global, abc: &Abc, out: &mut Vec<u8>) -> Result<(), NoMemory>
     requires { All IsReadyBody (abc.now).bodies }
     ensures { Puts out.old.items out.new.items result (whole_text abc.now) }
 {
-    put_front(abc, out)?;
-    put_bodies(alloc, &abc.bodies, abc, out)?;
+    let shown = Shown::new(alloc, abc)?;
+    put_front(&shown, out)?;
+    put_bodies(alloc, &abc.bodies, &shown, out)?;
     Ok(())
 }
 

@@ -8,8 +8,10 @@ ghost use Rattle.abc_varint.specs.Puts.{Puts};
 
 use crate::listed::{Listed, put_all};
 use abc_base::NoMemory;
-use abc_linetokens::{push_byte, put, put_number, put_number_line, put_number_lines, put_word};
-use abc_tables::{Abc, Metadata, Method, OptionValue, ValueKind};
+use abc_linetokens::{
+    Shown, push_byte, put, put_number, put_number_line, put_number_lines, put_word,
+};
+use abc_tables::{Metadata, Method, OptionValue, ValueKind};
 
 /// The word of the kind of a value.
 pub fn value_name(kind: ValueKind) -> &'static [u8]
@@ -38,7 +40,7 @@ impl Listed for OptionValue {
     ghost text = { option_text };
 
     #[tactic(auto, unfolding(abc_lines::specs::Lineforms::option_line, abc_lines::specs::Kinds::value_kind, abc_rowparts::specs::Operands::any_number), using(abc_varint::proofs::Putting::stays, std::proofs::Common::append_assoc))]
-    fn put(&self, _abc: &Abc, out: &mut Vec<u8>) -> Result<(), NoMemory> {
+    fn put(&self, _abc: &Shown<'_>, out: &mut Vec<u8>) -> Result<(), NoMemory> {
         put(b"option", out)?;
         put_word(value_name(self.kind), out)?;
         put_number(self.value, out)?;
@@ -51,7 +53,7 @@ impl Listed for Method {
     ghost text = { method_text };
 
     #[tactic(auto, unfolding(abc_lines::specs::Lineforms::method_line, abc_rowparts::specs::Operands::any_number), using(abc_varint::proofs::Putting::stays, std::proofs::Common::append_assoc))]
-    fn put(&self, abc: &Abc, out: &mut Vec<u8>) -> Result<(), NoMemory> {
+    fn put(&self, abc: &Shown<'_>, out: &mut Vec<u8>) -> Result<(), NoMemory> {
         put(b"method", out)?;
         put_number(self.ret, out)?;
         put_number(self.name, out)?;
@@ -66,7 +68,7 @@ impl Listed for Method {
 
 /// A line of two strings.
 #[tactic(auto, unfolding(abc_lines::specs::Lineforms::entry_line, abc_rowparts::specs::Operands::any_number), using(abc_varint::proofs::Putting::stays, std::proofs::Common::append_assoc))]
-fn put_entry(first: u32, second: u32, _abc: &Abc, out: &mut Vec<u8>) -> Result<(), NoMemory>
+fn put_entry(first: u32, second: u32, _abc: &Shown<'_>, out: &mut Vec<u8>) -> Result<(), NoMemory>
     ensures { Puts out.old.items out.new.items result (entry_text _abc.now (first, second)) }
 {
     put(b"item", out)?;
@@ -78,7 +80,7 @@ fn put_entry(first: u32, second: u32, _abc: &Abc, out: &mut Vec<u8>) -> Result<(
 
 /// Such a line for every two strings.
 #[tactic(auto, using(abc_varint::proofs::Putting::stays))]
-fn put_entries(items: &[u32], abc: &Abc, out: &mut Vec<u8>) -> Result<(), NoMemory>
+fn put_entries(items: &[u32], abc: &Shown<'_>, out: &mut Vec<u8>) -> Result<(), NoMemory>
     ensures { Puts out.old.items out.new.items result (flat_map (entry_text abc.now) (pairs items.now)) }
 {
     for i in 0..items.len() / 2 {
@@ -91,7 +93,7 @@ impl Listed for Metadata {
     ghost text = { metadata_text };
 
     #[tactic(auto, using(abc_varint::proofs::Putting::stays, std::proofs::Common::append_assoc))]
-    fn put(&self, abc: &Abc, out: &mut Vec<u8>) -> Result<(), NoMemory> {
+    fn put(&self, abc: &Shown<'_>, out: &mut Vec<u8>) -> Result<(), NoMemory> {
         put_number_line(b"metadata", self.name, out)?;
         put_entries(self.items.as_slice(), abc, out)?;
         Ok(())

@@ -8,10 +8,10 @@ ghost use Rattle.abc_varint.specs.Puts.{Puts, PutsWhole};
 use crate::listed::Listed;
 use abc_base::NoMemory;
 use abc_linetokens::{
-    name_of, push_byte, put, put_hex_bytes, put_int_line, put_name_comment, put_number,
-    put_numbers, put_quoted, put_quoted_comment, put_two, put_uint_line, string_at,
+    Shown, name_of, push_byte, put, put_hex_bytes, put_int_line, put_name_comment, put_number,
+    put_numbers, put_quoted, put_string_comment, put_two, put_uint_line,
 };
-use abc_tables::{Abc, Bytes, Eight, Multiname, Namespace, NsKind, Table};
+use abc_tables::{Bytes, Eight, Multiname, Namespace, NsKind, Table};
 
 /// The front of a namespace's line: it says of which kind it is. Each is appended whole, in few steps.
 #[inline(always)]
@@ -33,7 +33,7 @@ impl Listed for i32 {
     ghost text = { int_text };
 
     #[tactic(auto, unfolding(abc_lines::specs::Lineforms::int_line, abc_rowparts::specs::Operands::any_signed), using(abc_varint::proofs::Putting::stays_whole, std::proofs::Common::append_assoc))]
-    fn put(&self, _abc: &Abc, out: &mut Vec<u8>) -> Result<(), NoMemory> {
+    fn put(&self, _abc: &Shown<'_>, out: &mut Vec<u8>) -> Result<(), NoMemory> {
         put_int_line(*self, out)?;
         Ok(())
     }
@@ -43,7 +43,7 @@ impl Listed for u32 {
     ghost text = { uint_text };
 
     #[tactic(auto, unfolding(abc_lines::specs::Lineforms::uint_line, abc_rowparts::specs::Operands::any_number), using(abc_varint::proofs::Putting::stays_whole, std::proofs::Common::append_assoc))]
-    fn put(&self, _abc: &Abc, out: &mut Vec<u8>) -> Result<(), NoMemory> {
+    fn put(&self, _abc: &Shown<'_>, out: &mut Vec<u8>) -> Result<(), NoMemory> {
         put_uint_line(*self, out)?;
         Ok(())
     }
@@ -53,7 +53,7 @@ impl Listed for Eight {
     ghost text = { double_text };
 
     #[tactic(auto, unfolding(abc_lines::specs::Lineforms::double_line, abc_rowparts::specs::Operands::eight), using(abc_varint::proofs::Putting::stays, std::proofs::Common::append_assoc))]
-    fn put(&self, _abc: &Abc, out: &mut Vec<u8>) -> Result<(), NoMemory> {
+    fn put(&self, _abc: &Shown<'_>, out: &mut Vec<u8>) -> Result<(), NoMemory> {
         put(b"double ", out)?;
         put_hex_bytes(&self.0, out)?;
         push_byte(b'\n', out)?;
@@ -65,7 +65,7 @@ impl Listed for Bytes {
     ghost text = { string_text };
 
     #[tactic(auto, unfolding(abc_lines::specs::Lineforms::string_line, abc_rowparts::specs::Operands::text), using(abc_varint::proofs::Putting::stays, std::proofs::Common::append_assoc))]
-    fn put(&self, _abc: &Abc, out: &mut Vec<u8>) -> Result<(), NoMemory> {
+    fn put(&self, _abc: &Shown<'_>, out: &mut Vec<u8>) -> Result<(), NoMemory> {
         put(b"string", out)?;
         put_quoted(self.as_slice(), out)?;
         push_byte(b'\n', out)?;
@@ -77,10 +77,10 @@ impl Listed for Namespace {
     ghost text = { namespace_text };
 
     #[tactic(auto, unfolding(abc_lines::specs::Lineforms::namespace_line, abc_lines::specs::Kinds::space_kind, abc_rowparts::specs::Operands::any_number), using(abc_varint::proofs::Putting::stays, std::proofs::Common::append_assoc))]
-    fn put(&self, abc: &Abc, out: &mut Vec<u8>) -> Result<(), NoMemory> {
+    fn put(&self, abc: &Shown<'_>, out: &mut Vec<u8>) -> Result<(), NoMemory> {
         put_space_head(self.kind, out)?;
         put_number(self.name, out)?;
-        put_quoted_comment(string_at(abc, self.name), out)?;
+        put_string_comment(abc, self.name, out)?;
         push_byte(b'\n', out)?;
         Ok(())
     }
@@ -90,7 +90,7 @@ impl Listed for Table<u32> {
     ghost text = { set_text };
 
     #[tactic(auto, unfolding(abc_lines::specs::Lineforms::set_line, abc_rowparts::specs::Operands::any_number), using(abc_varint::proofs::Putting::stays, std::proofs::Common::append_assoc, crate::proofs::Shown::entries))]
-    fn put(&self, _abc: &Abc, out: &mut Vec<u8>) -> Result<(), NoMemory> {
+    fn put(&self, _abc: &Shown<'_>, out: &mut Vec<u8>) -> Result<(), NoMemory> {
         put(b"set", out)?;
         put_numbers(self, out)?;
         push_byte(b'\n', out)?;
@@ -120,7 +120,11 @@ fn put_name_head(multiname: &Multiname, out: &mut Vec<u8>) -> Result<(), NoMemor
 
 /// The indices of a multiname, in the order of the file.
 #[tactic(auto, unfolding(abc_rowparts::specs::Operands::any_number), using(abc_varint::proofs::Putting::stays, std::proofs::Common::append_assoc, crate::proofs::Shown::types))]
-fn put_name_fields(multiname: &Multiname, _abc: &Abc, out: &mut Vec<u8>) -> Result<(), NoMemory>
+fn put_name_fields(
+    multiname: &Multiname,
+    _abc: &Shown<'_>,
+    out: &mut Vec<u8>,
+) -> Result<(), NoMemory>
     ensures { Puts out.old.items out.new.items result (name_fields _abc.now multiname.now) }
 {
     match multiname {
@@ -141,7 +145,7 @@ impl Listed for Multiname {
     ghost text = { name_text };
 
     #[tactic(auto, unfolding(abc_lines::specs::Lineforms::name_line, abc_lines::specs::Kinds::multiname_kind), using(abc_varint::proofs::Putting::stays, std::proofs::Common::append_assoc, crate::proofs::Shown::name_line_is))]
-    fn put(&self, abc: &Abc, out: &mut Vec<u8>) -> Result<(), NoMemory> {
+    fn put(&self, abc: &Shown<'_>, out: &mut Vec<u8>) -> Result<(), NoMemory> {
         put_name_head(self, out)?;
         put_name_fields(self, abc, out)?;
         put_name_comment(abc, name_of(self), out)?;

@@ -9,9 +9,9 @@ use crate::listed::Listed;
 use crate::methods::value_name;
 use abc_base::NoMemory;
 use abc_linetokens::{
-    push_byte, put, put_multiname_comment, put_number, put_number_lines, put_two, put_word,
+    Shown, push_byte, put, put_multiname_comment, put_number, put_number_lines, put_two, put_word,
 };
-use abc_tables::{Abc, OptionValue, TraitBody, TraitInfo};
+use abc_tables::{OptionValue, TraitBody, TraitInfo};
 
 /// The front of a trait's line: it says of which kind it is.
 #[inline(always)]
@@ -36,7 +36,7 @@ fn put_trait_head(body: &TraitBody, out: &mut Vec<u8>) -> Result<(), NoMemory>
 #[tactic(auto, using(abc_varint::proofs::Putting::stays, std::proofs::Common::append_assoc, crate::proofs::Shown::slot_some, crate::proofs::Shown::slot_zero, crate::proofs::Shown::slot_none))]
 fn put_slot_value(
     value: &Option<OptionValue>,
-    _abc: &Abc,
+    _abc: &Shown<'_>,
     out: &mut Vec<u8>,
 ) -> Result<(), NoMemory>
     ensures { Puts out.old.items out.new.items result (slot_text _abc.now value.now) }
@@ -53,7 +53,7 @@ fn put_slot_value(
 
 /// What a trait declares.
 #[tactic(auto, unfolding(abc_rowparts::specs::Operands::any_number), using(abc_varint::proofs::Putting::stays, std::proofs::Common::append_assoc))]
-fn put_fields(body: &TraitBody, abc: &Abc, out: &mut Vec<u8>) -> Result<(), NoMemory>
+fn put_fields(body: &TraitBody, abc: &Shown<'_>, out: &mut Vec<u8>) -> Result<(), NoMemory>
     ensures { Puts out.old.items out.new.items result (fields_text abc.now body.now) }
 {
     match body {
@@ -75,7 +75,7 @@ impl Listed for TraitInfo {
     ghost text = { trait_text };
 
     #[tactic(auto, unfolding(abc_lines::specs::Lineforms::trait_line, abc_lines::specs::Kinds::trait_kind, abc_rowparts::specs::Operands::any_number), using(abc_varint::proofs::Putting::stays, std::proofs::Common::append_assoc))]
-    fn put(&self, abc: &Abc, out: &mut Vec<u8>) -> Result<(), NoMemory> {
+    fn put(&self, abc: &Shown<'_>, out: &mut Vec<u8>) -> Result<(), NoMemory> {
         put_trait_head(&self.body, out)?;
         put_number(self.attrs as u32, out)?;
         put_number(self.name, out)?;

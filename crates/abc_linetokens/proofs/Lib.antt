@@ -2,3 +2,4 @@ pub mod Pieces
 pub mod Tables
 pub mod Digits
 pub mod Padding
+pub mod Keeping

@@ -6,6 +6,7 @@ ghost use Rattle.abc_tables.specs.declared.opcodes.Pool.TheVariants as pools;
 ghost use Rattle.abc_varint.specs.Puts.{Puts, PutsWhole};
 
 use crate::escaping::{PIECE, show_at};
+use crate::shown::Shown;
 use crate::tokens::{put, put_first};
 use abc_base::NoMemory;
 use abc_tables::{Abc, Multiname, Pool};
@@ -53,15 +54,25 @@ pub fn put_quoted_comment(text: &[u8], out: &mut Vec<u8>) -> Result<(), NoMemory
     Ok(())
 }
 
+/// The front of the string of an index; 0 is the empty text.
+pub fn put_string_comment(abc: &Shown<'_>, n: u32, out: &mut Vec<u8>) -> Result<(), NoMemory>
+    ensures { Puts out.old.items out.new.items result (quoted_comment (string_of abc.now n)) }
+{
+    match abc.comment(n) {
+        Some(comment) => put(comment, out),
+        None => put_quoted_comment(string_at(abc.file(), n), out),
+    }
+}
+
 /// The string of an index, where 0 is any name.
 #[tactic(auto, using(abc_varint::proofs::Putting::stays_whole))]
-pub fn put_name_comment(abc: &Abc, n: u32, out: &mut Vec<u8>) -> Result<(), NoMemory>
+pub fn put_name_comment(abc: &Shown<'_>, n: u32, out: &mut Vec<u8>) -> Result<(), NoMemory>
     ensures { Puts out.old.items out.new.items result (name_comment abc.now n) }
 {
     if n == 0 {
         put(b" ; *", out)
     } else {
-        put_quoted_comment(string_at(abc, n), out)
+        put_string_comment(abc, n, out)
     }
 }
 
@@ -78,10 +89,10 @@ pub fn name_of(multiname: &Multiname) -> u32
 }
 
 /// The string of the multiname of an index, which counts from 1.
-pub fn put_multiname_comment(abc: &Abc, n: u32, out: &mut Vec<u8>) -> Result<(), NoMemory>
+pub fn put_multiname_comment(abc: &Shown<'_>, n: u32, out: &mut Vec<u8>) -> Result<(), NoMemory>
     ensures { Puts out.old.items out.new.items result (multiname_comment abc.now n) }
 {
-    let name = match abc.names.find((n as usize).saturating_sub(1)) {
+    let name = match abc.file().names.find((n as usize).saturating_sub(1)) {
         Some(multiname) => name_of(multiname),
         None => 0,
     };
@@ -89,28 +100,33 @@ pub fn put_multiname_comment(abc: &Abc, n: u32, out: &mut Vec<u8>) -> Result<(),
 }
 
 /// The name that an instruction's first operand is, where it is in range and not 0.
-fn put_name_operand(abc: &Abc, n: u32, out: &mut Vec<u8>) -> Result<(), NoMemory>
+fn put_name_operand(abc: &Shown<'_>, n: u32, out: &mut Vec<u8>) -> Result<(), NoMemory>
     ensures { Puts out.old.items out.new.items result (operand_comment abc.now pools.Name n) }
 {
-    if n >= 1 && n as usize <= abc.names.len() {
+    if n >= 1 && n as usize <= abc.file().names.len() {
         return put_multiname_comment(abc, n, out);
     }
     Ok(())
 }
 
 /// The string that an instruction's first operand is, where it is in range and not 0.
-fn put_text_operand(abc: &Abc, n: u32, out: &mut Vec<u8>) -> Result<(), NoMemory>
+fn put_text_operand(abc: &Shown<'_>, n: u32, out: &mut Vec<u8>) -> Result<(), NoMemory>
     ensures { Puts out.old.items out.new.items result (operand_comment abc.now pools.Text n) }
 {
-    if n >= 1 && n as usize <= abc.strings.len() {
-        return put_quoted_comment(string_at(abc, n), out);
+    if n >= 1 && n as usize <= abc.file().strings.len() {
+        return put_string_comment(abc, n, out);
     }
     Ok(())
 }
 
 /// The name or the string that an instruction's first operand is, where it is in range and not 0.
 #[inline(always)]
-pub fn put_operand_comment(abc: &Abc, pool: Pool, n: u32, out: &mut Vec<u8>) -> Result<(), NoMemory>
+pub fn put_operand_comment(
+    abc: &Shown<'_>,
+    pool: Pool,
+    n: u32,
+    out: &mut Vec<u8>,
+) -> Result<(), NoMemory>
     ensures { Puts out.old.items out.new.items result (operand_comment abc.now pool n) }
 {
     match pool {

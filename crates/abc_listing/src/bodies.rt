@@ -11,7 +11,8 @@ ghost use Rattle.abc_varint.specs.Reads.{Reads, ReadsPart};
 use abc_base::{Source, Table};
 use abc_bodies::{Reading, flags_down, read_body};
 use abc_disasm::put_body;
-use abc_tables::{Abc, Sizes};
+use abc_linetokens::Shown;
+use abc_tables::Sizes;
 use abc_varint::{ReadError, Window, read_u30};
 use std::alloc::Global;
 
@@ -31,7 +32,7 @@ fn list_body<S: Source>(
     sizes: &Sizes,
     flags: &Table<bool>,
     room: &mut Room,
-    abc: &Abc,
+    abc: &Shown<'_>,
     out: &mut Vec<u8>,
 ) -> Result<u32, ReadError>
     requires { w.old.end ≡ 2 ^ 25 }
@@ -50,7 +51,7 @@ fn list_each_body<S: Source>(
     source: &mut S,
     sizes: &Sizes,
     count: u32,
-    abc: &Abc,
+    abc: &Shown<'_>,
     out: &mut Vec<u8>,
 ) -> Result<u32, ReadError>
     requires fresh { w.old.kept ≡ None }
@@ -77,7 +78,7 @@ pub fn list_bodies<S: Source>(
     w: &mut Window,
     source: &mut S,
     sizes: &Sizes,
-    abc: &Abc,
+    abc: &Shown<'_>,
     out: &mut Vec<u8>,
 ) -> Result<(), ReadError>
     requires { w.old.end ≡ 2 ^ 25 }

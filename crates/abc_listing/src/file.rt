@@ -12,6 +12,7 @@ use crate::bodies::list_bodies;
 use abc_base::Source;
 use abc_disasm::put_front;
 use abc_file::{read_nothing_more, read_version};
+use abc_linetokens::Shown;
 use abc_pools::read_pools;
 use abc_tables::sizes_of;
 use abc_traits::read_definitions;
@@ -33,10 +34,12 @@ fn list_file<S: Source>(
     read_version(w, source)?;
     let mut abc = read_pools(alloc, w, source)?;
     read_definitions(alloc, w, source, &mut abc)?;
-    put_front(&abc, out)?;
+    let shown = Shown::new(alloc, &abc)?;
+    put_front(&shown, out)?;
     let sizes = sizes_of(&abc);
-    list_bodies(alloc, w, source, &sizes, &abc, out)?;
+    list_bodies(alloc, w, source, &sizes, &shown, out)?;
     // Little is done once a file is listed, and its lists are many: to free each of them would only take time.
+    forget(shown);
     forget(abc);
     Ok(())
 }

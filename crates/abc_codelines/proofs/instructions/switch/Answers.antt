@@ -26,4 +26,4 @@ returns-in-Err-Refused c labels places =
     let each : each_result (place_in c.args.places.now) (tokens_of c.in-Some.cases.now) ≡ Err c.in-Err-Refused.reason =
     subst (λ (x : LineError). Answers {A = List ℕ} (Err x) (each_result (place_in c.args.places.now) (tokens_of c.in-Some.cases.now))) c.in-Err-Refused.field-0-is c.in-Err-Refused.ensures in
     switch_told c.args.places.now labels c.args.tokens.now c.in-Some.default c.in-Some.cases.now c.target-default.result (Err c.in-Err-Refused.reason) places c.in-Some.ensures (sym c.is_empty.ensures ∙ c.if-is_empty.false) (c.target-default.ensures labels places) each
-    ∙ switch_refused c.target-default.result c.in-Err-Refused.reason c.first_of.result c.first_of.ensures
+    ∙ switch_refused c.target-default.result c.in-Err-Refused.reason c.first_of.result (rw c.in-Err-Refused.field-0-is at c.first_of.ensures)

@@ -21,4 +21,4 @@ pub returns-in-Err-Refused : goal.returns-in-Err-Refused
 returns-in-Err-Refused c labels =
     let each : each_result (index_in c.args.sizes.now.names) (tokens_of c.in-Some.others.now) ≡ Err c.in-Err-Refused.reason =
     subst (λ (x : LineError). Answers {A = List ℕ} (Err x) (each_result (index_in c.args.sizes.now.names) (tokens_of c.in-Some.others.now))) c.in-Err-Refused.field-0-is c.in-Err-Refused.ensures in
-    type_refused c.args.sizes.now labels c.args.fields.now c.in-Some.base c.in-Some.others.now c.entry_upto-base.result c.in-Err-Refused.reason c.first_of.result c.in-Some.ensures c.entry_upto-base.ensures each c.first_of.ensures
+    type_refused c.args.sizes.now labels c.args.fields.now c.in-Some.base c.in-Some.others.now c.entry_upto-base.result c.in-Err-Refused.reason c.first_of.result c.in-Some.ensures c.entry_upto-base.ensures each (rw c.in-Err-Refused.field-0-is at c.first_of.ensures)

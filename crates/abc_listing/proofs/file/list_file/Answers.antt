@@ -25,7 +25,7 @@ returns g c =
               record {
                 value = beside full x4.value;
                 read = rw (d1.1, d2.1, d3.1, filled_over full c.sizes_of-sizes.result _ c.sizes_of-sizes.ensures, x4.read) refl;
-                bytes = joined full x4.value _ _ _ c.in_ok-put_front.ensures x4.bytes;
+                bytes = joined full x4.value _ _ _ (rw c.in_ok-shown.ensures at c.in_ok-put_front.ensures) (rw c.in_ok-shown.ensures at x4.bytes);
                 tells = refl;
               },
             ),
@@ -34,6 +34,19 @@ returns g c =
       omega (arith, e1.2, e2.2, e3.2, e4.2),
       (λ k h. absurd cc),
       tt,
+    )
+
+pub returns-in_err-shown : goal.returns-in_err-shown
+returns-in_err-shown g c =
+    let p = err_from_is_err_and c.from_residual-in_err-shown.result c.from_residual-in_err-shown.ensures.1 in
+    let e1 = c.in_ok-read_version.ensures in let e2 = c.in_ok-abc.ensures.value in let e3 = c.in_ok-read_definitions.ensures.value in
+    let w = c.read_definitions.new.w in let s = g.S.Source.left c.read_definitions.new.source in
+    rw (p.1, p.2) (
+      (λ k. let d3 = e3.0.4 (known w s) (known_is w s) in let d2 = e2.0.4 (known w s) d3.0 in let d1 = e1.0.4 (known w s) d2.0 in (d1.0, tt)),
+      (λ e h. absurd (let k = e1.0.0 in cc)),
+      omega (arith, e1.2, e2.2, e3.2),
+      (λ k h. absurd cc),
+      (e3.0.1, e3.0.3 ∙ e2.0.3 ∙ e1.0.3),
     )
 
 pub returns-in_err-put_front : goal.returns-in_err-put_front
