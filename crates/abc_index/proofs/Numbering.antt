@@ -4,7 +4,7 @@ use Rattle.std.specs.Str.{bytes_eq}
 use Rattle.std.proofs.lemmas.Bool.{cases_lt, false≢true}
 use Rattle.std.proofs.lemmas.List.{get_or-map, get_or_past, length-map, take_all}
 use Rattle.abc_index.specs.Index.{first_from, first}
-use Rattle.abc_index.specs.Texts.{HasTexts, AreNumbersOf, number_in, number_among, texts_of}
+use Rattle.abc_index.specs.Texts.{HasTexts, AreNumbersOf, number_in, number_among, numbers_in, texts_of}
 use Rattle.abc_index.specs.declared.texts.Texts.{Texts}
 
 pub same_bytes : (a b : List ℕ) → bytes_eq a b ≡ true → a ≡ b
@@ -66,7 +66,7 @@ law strings i j = both_ways _ _
 
 -- the number at an index, past the end too
 number_at_index : (t : Texts) (strings : List (List ℕ)) (i : ℕ) → HasTexts t (texts_of strings)
-    → get_or (0 ∷ map (λ s. unwrap_or (number_in t s) 0) strings) i 0 ≡ number_among (texts_of strings) (get_or (texts_of strings) i [])
+    → get_or (numbers_in t strings) i 0 ≡ number_among (texts_of strings) (get_or (texts_of strings) i [])
 number_at_index t strings zero h = refl
 number_at_index t strings (suc i) h = go (cases_lt i (length strings))
   where
@@ -77,18 +77,18 @@ number_at_index t strings (suc i) h = go (cases_lt i (length strings))
         let e : get_or strings i [] ≡ [] = get_or_past strings i [] le in
         get_or_past (map (λ (s : List ℕ). unwrap_or (number_in t s) 0) strings) i 0 long ∙ sym (ap (number_among (texts_of strings)) e)
 
-pub numbers_law : (t : Texts) (strings : List (List ℕ)) (numbers : List ℕ) → HasTexts t (texts_of strings) → numbers ≡ 0 ∷ map (λ s. unwrap_or (number_in t s) 0) strings → AreNumbersOf numbers strings
+pub numbers_law : (t : Texts) (strings : List (List ℕ)) (numbers : List ℕ) → HasTexts t (texts_of strings) → numbers ≡ numbers_in t strings → AreNumbersOf numbers strings
 numbers_law t strings numbers h e = record {
   same = λ i j.
       ap (λ (l : List ℕ). nat_eq (get_or l i 0) (get_or l j 0)) e
-      ∙ ap (λ n. nat_eq n (get_or (0 ∷ map (λ s. unwrap_or (number_in t s) 0) strings) j 0)) (number_at_index t strings i h)
+      ∙ ap (λ n. nat_eq n (get_or (numbers_in t strings) j 0)) (number_at_index t strings i h)
       ∙ ap (nat_eq (number_among (texts_of strings) (get_or (texts_of strings) i []))) (number_at_index t strings j h)
       ∙ law strings i j;
 }
 
 -- the same, at the end of the loop
-pub numbers_end : (t : Texts) (strings items : List (List ℕ)) (numbers : List ℕ) (n : ℕ) → HasTexts t (texts_of strings) → numbers ≡ 0 ∷ map (λ s. unwrap_or (number_in t s) 0) (take n items) → items ≡ strings → length items ≤ n → AreNumbersOf numbers strings
-numbers_end t strings items numbers n h e same le = numbers_law t strings numbers h (e ∙ ap (λ (l : List (List ℕ)). 0 ∷ map (λ s. unwrap_or (number_in t s) 0) l) (take_all n items le ∙ same))
+pub numbers_whole : (t : Texts) (strings items : List (List ℕ)) (numbers : List ℕ) (n : ℕ) → numbers ≡ numbers_in t (take n items) → items ≡ strings → length items ≤ n → numbers ≡ numbers_in t strings
+numbers_whole t strings items numbers n e same le = e ∙ ap (numbers_in t) (take_all n items le ∙ same)
 
 -- what is found first passes
 found_from : (test : List ℕ → Bool) (n : ℕ) (xs : List (List ℕ)) (k : ℕ) → first_from test n xs ≡ Some k → (p : ℕ) × (k ≡ n + p) × (test (get_or xs p []) ≡ true)
