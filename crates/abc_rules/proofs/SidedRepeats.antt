@@ -258,21 +258,22 @@ clashes_sideless keys i j lt none f ne =
     ∙ ap (λ c. not c && not (opposite (at keys m.0).side (at keys i).side)) (differ m.0 i (omega arith))
     ∙ ap not (not_opposite (at keys m.0).side (at keys i).side none)
 
+none_at : (keys : List SidedKey) (i j : ℕ) → i < length keys → (at keys i).side ≡ 0 → first_of_both keys i ≡ Some j → (c : Bool) → nat_eq j i ≡ c
+    → clashes_at keys (first_of_name keys i) None i ≡ clashes_at keys (first_of_name keys i) (Some j) i
+none_at keys i j lt none f true q = ap (λ c. clashes_with keys (first_of_name keys i) i || not c) (sym q)
+none_at keys i j lt none f false q = let h = clashes_sideless keys i j lt none f q in ap (λ c. c || false) h ∙ sym (ap (λ c. c || not (nat_eq j i)) h)
+
+none_of : (keys : List SidedKey) (i : ℕ) → i < length keys → (at keys i).side ≡ 0 → (o : Option ℕ) → first_of_both keys i ≡ o → clashes_at keys (first_of_name keys i) None i ≡ clashes_at keys (first_of_name keys i) o i
+none_of keys i lt none None f = refl
+none_of keys i lt none (Some j) f = none_at keys i j lt none f (nat_eq j i) refl
+
 -- where there are no Getters and Setters, nothing does
 pub none_tell : (keys : List SidedKey) (sided : Firsts SidedKey) → sided.entries ≡ [] → ((i : ℕ) → i < length keys → (get_or keys i no_sided).side ≡ 0) → TellsSides keys sided
 none_tell keys sided e none = record {
   tells = λ i lt.
       ap (λ (es : List (SidedKey × ℕ)). clashes_at keys (first_of_name keys i) (lookup (sided_eq (at keys i)) es) i) e
-      ∙ go i lt (first_of_both keys i) refl;
+      ∙ none_of keys i lt (none i lt) (first_of_both keys i) refl;
 }
-  where
-    go : (i : ℕ) → i < length keys → (o : Option ℕ) → first_of_both keys i ≡ o → clashes_at keys (first_of_name keys i) None i ≡ clashes_at keys (first_of_name keys i) o i
-    go i lt None f = refl
-    go i lt (Some j) f = at_place (nat_eq j i) refl
-      where
-        at_place : (c : Bool) → nat_eq j i ≡ c → clashes_at keys (first_of_name keys i) None i ≡ clashes_at keys (first_of_name keys i) (Some j) i
-        at_place true q = ap (λ c. clashes_with keys (first_of_name keys i) i || not c) (sym q)
-        at_place false q = let h = clashes_sideless keys i j lt (none i lt) f q in ap (λ c. c || false) h ∙ sym (ap (λ c. c || not (nat_eq j i)) h)
 
 pub sideless : (n : ℕ) → false ≡ not (nat_eq n 0) → n ≡ 0
 sideless n e = go (nat_eq n 0) refl e
