@@ -9,7 +9,7 @@ use std::marker::Model;
 /// were. Contracts see it as a list of these lists.
 #[derive(Debug, Drop)]
 pub struct Places {
-    starts: Rows,
+    starts: Rows<u32>,
 }
 
 impl Model for Places {

@@ -68,7 +68,7 @@ fn put_parts(parts: &mut Table<u32>, counts: &Counts, name: &Multiname) -> Resul
 }
 
 /// Adds so many values, which lead to nothing.
-fn add_values(graph: &mut Rows, count: usize) -> Result<(), NoMemory>
+fn add_values(graph: &mut Rows<u32>, count: usize) -> Result<(), NoMemory>
     ensures { OnOk result (graph.new ≡ graph.old ++ replicate count []) }
 {
     for _i in 0..count {
@@ -77,7 +77,11 @@ fn add_values(graph: &mut Rows, count: usize) -> Result<(), NoMemory>
     Ok(())
 }
 
-fn add_spaces(graph: &mut Rows, counts: &Counts, spaces: &Table<Namespace>) -> Result<(), NoMemory>
+fn add_spaces(
+    graph: &mut Rows<u32>,
+    counts: &Counts,
+    spaces: &Table<Namespace>,
+) -> Result<(), NoMemory>
     requires { node_count counts.now < 2 ^ 32 }
     ensures { OnOk result (graph.new ≡ graph.old ++ map (space_parts counts.now) spaces.now) }
 {
@@ -90,7 +94,7 @@ fn add_spaces(graph: &mut Rows, counts: &Counts, spaces: &Table<Namespace>) -> R
 
 fn add_sets(
     alloc: Global,
-    graph: &mut Rows,
+    graph: &mut Rows<u32>,
     counts: &Counts,
     sets: &Table<Table<u32>>,
 ) -> Result<(), NoMemory>
@@ -108,7 +112,7 @@ fn add_sets(
 
 fn add_names(
     alloc: Global,
-    graph: &mut Rows,
+    graph: &mut Rows<u32>,
     counts: &Counts,
     names: &Table<Multiname>,
 ) -> Result<(), NoMemory>
@@ -124,7 +128,7 @@ fn add_names(
 }
 
 /// What node 0 and the entries that have no indices lead to.
-fn value_rows(alloc: Global, abc: &Abc) -> Result<Rows, NoMemory>
+fn value_rows(alloc: Global, abc: &Abc) -> Result<Rows<u32>, NoMemory>
     ensures { IfOk result (λ g. g ≡ value_graph abc.now) }
 {
     let mut graph = Rows::new(alloc);
@@ -137,7 +141,7 @@ fn value_rows(alloc: Global, abc: &Abc) -> Result<Rows, NoMemory>
 }
 
 /// The entries of a file's pools as nodes, in file order after node 0: for each the nodes of those that its indices name.
-pub fn entries_of(alloc: Global, abc: &Abc, counts: &Counts) -> Result<Rows, NoMemory>
+pub fn entries_of(alloc: Global, abc: &Abc, counts: &Counts) -> Result<Rows<u32>, NoMemory>
     requires counts { counts.now ≡ counts_of abc.now }
     requires few { node_count counts.now < 2 ^ 32 }
     ensures { IfOk result (λ g. g ≡ graph_of abc.now) }

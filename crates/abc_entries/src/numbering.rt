@@ -97,7 +97,7 @@ fn places_of(
     classes: &Classes,
     seen: &Table<u32>,
     _heads: &Table<Head>,
-    _graph: &Rows,
+    _graph: &Rows<u32>,
 ) -> Result<Table<usize>, NoMemory>
     requires valid { AreClasses _heads.now _graph.now classes.now.keys.keys classes.now.classes }
     requires apart { AreApart classes.now.classes seen.now }
@@ -206,7 +206,7 @@ pub fn numbers_of(
     _abc: &Abc,
     counts: &Counts,
     heads: &Table<Head>,
-    graph: &Rows,
+    graph: &Rows<u32>,
     classes: &Classes,
     seen: &Table<u32>,
 ) -> Result<Table<u32>, NoMemory>

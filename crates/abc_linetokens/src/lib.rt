@@ -6,7 +6,6 @@ mod comments;
 mod escaping;
 mod lines;
 mod numbers;
-mod rows;
 mod shown;
 mod tokens;
 

@@ -4,9 +4,9 @@ ghost use Rattle.abc_lines.specs.Listing.{quoted_comment, string_at as string_of
 ghost use Rattle.abc_linetokens.specs.Kept.{AreComments};
 
 use crate::comments::put_quoted_comment;
-use crate::rows::ByteRows;
 use abc_base::NoMemory;
 use abc_tables::{Abc, Bytes};
+use abc_trees::Rows;
 use std::alloc::Global;
 use std::marker::Model;
 
@@ -16,7 +16,7 @@ use std::marker::Model;
 pub struct Shown<'a> {
     abc: &'a Abc,
     /// Of the empty text and each string what it is at the end of a line, or nothing.
-    comments: ByteRows,
+    comments: Rows<u8>,
 }
 
 impl<'a> Model for Shown<'a> {
@@ -39,10 +39,10 @@ fn comment_of(text: &[u8], comment: &mut Vec<u8>) -> Result<(), NoMemory>
 }
 
 /// The ends of lines that the empty text and some strings are.
-fn comments_of(alloc: Global, strings: &[Bytes]) -> Result<ByteRows, NoMemory>
+fn comments_of(alloc: Global, strings: &[Bytes]) -> Result<Rows<u8>, NoMemory>
     ensures { IfOk result (λ rows. rows ≡ map quoted_comment ([] ∷ strings.now)) }
 {
-    let mut rows = ByteRows::new(alloc);
+    let mut rows = Rows::new(alloc);
     let mut comment = Vec::new(alloc);
     comment_of(b"", &mut comment)?;
     rows.push(comment.as_slice())?;
@@ -60,14 +60,14 @@ fn are_named_often(abc: &Abc) -> bool {
 
 /// What is kept of the ends of lines: all, or nothing.
 #[tactic(auto, using(crate::proofs::Keeping::all_kept, crate::proofs::Keeping::none_kept))]
-fn kept_of(alloc: Global, abc: &Abc) -> Result<ByteRows, NoMemory>
+fn kept_of(alloc: Global, abc: &Abc) -> Result<Rows<u8>, NoMemory>
     ensures { IfOk result (AreComments abc.now) }
 {
     if are_named_often(abc) {
         let comments = comments_of(alloc, abc.strings.as_slice())?;
         return Ok(comments);
     }
-    Ok(ByteRows::new(alloc))
+    Ok(Rows::new(alloc))
 }
 
 impl<'a> Shown<'a> {

@@ -69,7 +69,7 @@ fn check_classes(
 #[derive(Drop)]
 struct Classed {
     heads: Table<Head>,
-    graph: Rows,
+    graph: Rows<u32>,
     roots: Table<u32>,
     classes: Classes,
 }

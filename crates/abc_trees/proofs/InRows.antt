@@ -4,7 +4,7 @@ use Rattle.std.proofs.lemmas.List.{drop-append-le, drop_at, length-drop, take-ap
 use Rattle.abc_trees.specs.Rows.{AreEnds, begin_of, rows_from}
 use Rattle.abc_trees.proofs.Efforts.{below_zero}
 
-pub length_rows : (begin : ℕ) (ends items : List ℕ) → length (rows_from begin ends items) ≡ length ends
+pub length_rows : {X : Type 0} (begin : ℕ) (ends : List ℕ) (items : List X) → length (rows_from begin ends items) ≡ length ends
 length_rows begin [] items = refl
 length_rows begin (end ∷ ends) items = ap suc (length_rows end ends items)
 
@@ -36,7 +36,7 @@ end_within i begin all [] e lt = absurd (below_zero i lt)
 end_within zero begin all (end ∷ ends) e lt = ends_within end all ends e.1
 end_within (suc i) begin all (end ∷ ends) e lt = end_within i end all ends e.1 (omega arith)
 
-row_at : (i begin : ℕ) (ends items : List ℕ) → i < length ends → take (get_or ends i 0 - begin_of i begin ends) (drop (begin_of i begin ends) items) ≡ get_or (rows_from begin ends items) i []
+row_at : {X : Type 0} (i begin : ℕ) (ends : List ℕ) (items : List X) → i < length ends → take (get_or ends i 0 - begin_of i begin ends) (drop (begin_of i begin ends) items) ≡ get_or (rows_from begin ends items) i []
 row_at i begin [] items lt = absurd (below_zero i lt)
 row_at zero begin (end ∷ ends) items lt = refl
 row_at (suc i) begin (end ∷ ends) items lt = row_at i end ends items (omega arith)
@@ -47,14 +47,14 @@ ends_push : (begin all more : ℕ) (ends : List ℕ) → AreEnds begin ends all 
 ends_push begin all more [] e = (omega (arith, e), refl)
 ends_push begin all more (end ∷ ends) e = (e.0, ends_push end all more ends e.1)
 
-row_stays : (begin end : ℕ) (items row : List ℕ) → begin ≤ end → end ≤ length items → take (end - begin) (drop begin (items ++ row)) ≡ take (end - begin) (drop begin items)
+row_stays : {X : Type 0} (begin end : ℕ) (items row : List X) → begin ≤ end → end ≤ length items → take (end - begin) (drop begin (items ++ row)) ≡ take (end - begin) (drop begin items)
 row_stays begin end items row a b =
     let far : begin ≤ length items = omega arith in
     let many = length-drop begin items in
     let within : end - begin ≤ length (drop begin items) = omega arith in
     ap (take (end - begin)) (drop-append-le begin items row far) ∙ take-append-le (end - begin) (drop begin items) row within
 
-rows_push : (begin : ℕ) (ends items row : List ℕ) → AreEnds begin ends (length items) → rows_from begin (ends ++ (length items + length row) ∷ []) (items ++ row) ≡ rows_from begin ends items ++ row ∷ []
+rows_push : {X : Type 0} (begin : ℕ) (ends : List ℕ) (items row : List X) → AreEnds begin ends (length items) → rows_from begin (ends ++ (length items + length row) ∷ []) (items ++ row) ≡ rows_from begin ends items ++ row ∷ []
 rows_push begin [] items row e =
     let many : length row ≤ length items + length row - begin = omega (arith, e) in
     ap (λ r. r ∷ []) (ap (take (length items + length row - begin)) (drop_at items row begin (sym e)) ∙ take_all (length items + length row - begin) row many)
@@ -63,12 +63,12 @@ rows_push begin (end ∷ ends) items row e =
     ap (λ r. r ∷ rows_from end (ends ++ (length items + length row) ∷ []) (items ++ row)) (row_stays begin end items row e.0 h)
     ∙ ap (λ rs. take (end - begin) (drop begin items) ∷ rs) (rows_push end ends items row e.1)
 
-pub pushed_ends : (old ends items all row : List ℕ) (end : ℕ) → AreEnds 0 old (length items) → ends ≡ old ++ end ∷ [] → all ≡ items ++ row → end ≡ length all → AreEnds 0 ends (length all)
+pub pushed_ends : {X : Type 0} (old ends : List ℕ) (items all row : List X) (end : ℕ) → AreEnds 0 old (length items) → ends ≡ old ++ end ∷ [] → all ≡ items ++ row → end ≡ length all → AreEnds 0 ends (length all)
 pushed_ends old ends items all row end valid e f is =
     let many : length all ≡ length items + length row = ap length f ∙ length-append items row in
     subst (λ n. AreEnds 0 ends n) (sym many) (subst (λ es. AreEnds 0 es (length items + length row)) (sym (e ∙ ap (λ n. old ++ n ∷ []) (is ∙ many))) (ends_push 0 (length items) (length row) old valid))
 
-pub pushed_rows : (old ends items all row : List ℕ) (end : ℕ) (value : List (List ℕ)) → AreEnds 0 old (length items) → rows_from 0 old items ≡ value → ends ≡ old ++ end ∷ [] → all ≡ items ++ row → end ≡ length all → rows_from 0 ends all ≡ value ++ row ∷ []
+pub pushed_rows : {X : Type 0} (old ends : List ℕ) (items all row : List X) (end : ℕ) (value : List (List X)) → AreEnds 0 old (length items) → rows_from 0 old items ≡ value → ends ≡ old ++ end ∷ [] → all ≡ items ++ row → end ≡ length all → rows_from 0 ends all ≡ value ++ row ∷ []
 pushed_rows old ends items all row end value valid view e f is =
     let many : length all ≡ length items + length row = ap length f ∙ length-append items row in
     let last : ends ≡ old ++ (length items + length row) ∷ [] = e ∙ ap (λ n. old ++ n ∷ []) (is ∙ many) in
@@ -76,23 +76,23 @@ pushed_rows old ends items all row end value valid view e f is =
 
 -- ---- reading
 
-inside : (ends items : List ℕ) (value : List (List ℕ)) (i : ℕ) → rows_from 0 ends items ≡ value → i < length value → i < length ends
+inside : {X : Type 0} (ends : List ℕ) (items : List X) (value : List (List X)) (i : ℕ) → rows_from 0 ends items ≡ value → i < length value → i < length ends
 inside ends items value i view lt = let many = length_rows 0 ends items in let same = ap length view in omega (arith, many, same)
 
-pub read_within : (ends items read : List ℕ) (value : List (List ℕ)) (i : ℕ) → rows_from 0 ends items ≡ value → read ≡ ends → i < length value → i < length read
+pub read_within : {X : Type 0} (ends : List ℕ) (items : List X) (read : List ℕ) (value : List (List X)) (i : ℕ) → rows_from 0 ends items ≡ value → read ≡ ends → i < length value → i < length read
 read_within ends items read value i view e lt = subst (λ es. i < length es) (sym e) (inside ends items value i view lt)
 
-pub read_order : (ends items : List ℕ) (value : List (List ℕ)) (i begin end : ℕ) → AreEnds 0 ends (length items) → rows_from 0 ends items ≡ value → i < length value → begin ≡ begin_of i 0 ends → end ≡ get_or ends i 0 → begin ≤ end
+pub read_order : {X : Type 0} (ends : List ℕ) (items : List X) (value : List (List X)) (i begin end : ℕ) → AreEnds 0 ends (length items) → rows_from 0 ends items ≡ value → i < length value → begin ≡ begin_of i 0 ends → end ≡ get_or ends i 0 → begin ≤ end
 read_order ends items value i begin end valid view lt b e =
     let h = begins_before i 0 (length items) ends valid (inside ends items value i view lt) in
     omega (arith, h, b, e)
 
-pub read_end : (ends items read : List ℕ) (value : List (List ℕ)) (i end : ℕ) → AreEnds 0 ends (length items) → rows_from 0 ends items ≡ value → i < length value → end ≡ get_or ends i 0 → read ≡ items → end ≤ length read
+pub read_end : {X : Type 0} (ends : List ℕ) (items read : List X) (value : List (List X)) (i end : ℕ) → AreEnds 0 ends (length items) → rows_from 0 ends items ≡ value → i < length value → end ≡ get_or ends i 0 → read ≡ items → end ≤ length read
 read_end ends items read value i end valid view lt e r =
     let h = end_within i 0 (length items) ends valid (inside ends items value i view lt) in
     let q = ap length r in
     omega (arith, h, e, q)
 
-pub read_row : (ends items read : List ℕ) (value : List (List ℕ)) (i begin end : ℕ) → rows_from 0 ends items ≡ value → i < length value → begin ≡ begin_of i 0 ends → end ≡ get_or ends i 0 → read ≡ items → take (end - begin) (drop begin read) ≡ get_or value i []
+pub read_row : {X : Type 0} (ends : List ℕ) (items read : List X) (value : List (List X)) (i begin end : ℕ) → rows_from 0 ends items ≡ value → i < length value → begin ≡ begin_of i 0 ends → end ≡ get_or ends i 0 → read ≡ items → take (end - begin) (drop begin read) ≡ get_or value i []
 read_row ends items read value i begin end view lt b e r =
     (λ k. take (e k - b k) (drop (b k) (r k))) ∙ row_at i 0 ends items (inside ends items value i view lt) ∙ ap (λ rs. get_or rs i []) view

@@ -1,8 +1,8 @@
--- Lists in a row, as the numbers of all of them and the places where each ends.
+-- Lists in a row, as the values of all of them and the places where each ends.
 use Rattle.std.specs.Prelude.{◌≡◌, ℕ, zero, suc, ◌-◌, ◌≤◌, List, [], ◌∷◌, drop, take}
 
 -- the lists, of which the first begins at a place, and each of the others where the one before it ends
-abbrev pub rows_from : ℕ → List ℕ → List ℕ → List (List ℕ)
+abbrev pub rows_from : {X : Type 0} → ℕ → List ℕ → List X → List (List X)
 rows_from begin [] items = []
 rows_from begin (end ∷ ends) items = take (end - begin) (drop begin items) ∷ rows_from end ends items
 

@@ -62,7 +62,7 @@ impl Classes {
 }
 
 /// The nodes that a node leads to.
-pub(crate) fn parts_of(graph: &Rows, node: u32) -> &[u32]
+pub(crate) fn parts_of(graph: &Rows<u32>, node: u32) -> &[u32]
     requires { node < length graph.now }
     ensures { result.now ≡ targets graph.now node }
 {
@@ -83,7 +83,7 @@ impl Classes {
     fn class_of(
         &mut self,
         heads: &Table<Head>,
-        graph: &Rows,
+        graph: &Rows<u32>,
         node: u32,
     ) -> Result<Option<usize>, NoMemory>
         requires valid { AreClasses heads.now graph.now self.old.keys.keys self.old.classes }
@@ -109,7 +109,7 @@ impl Classes {
 impl Classes {
     /// Gives a node the class of its tree, if the nodes that it leads to have classes.
     #[tactic(auto, using(crate::proofs::Meanings::settled, crate::proofs::Meanings::extended, crate::proofs::Settled::gains_nothing, crate::proofs::Settled::gains_none, crate::proofs::Settled::gains_one))]
-    fn settle(&mut self, heads: &Table<Head>, graph: &Rows, node: u32) -> Result<(), NoMemory>
+    fn settle(&mut self, heads: &Table<Head>, graph: &Rows<u32>, node: u32) -> Result<(), NoMemory>
         requires valid { AreClasses heads.now graph.now self.old.keys.keys self.old.classes }
         requires distinct { AreDistinct self.old.keys.keys }
         requires heads { length heads.now ≡ length graph.now }
@@ -132,7 +132,7 @@ impl Classes {
 fn no_classes(
     alloc: Global,
     heads: &Table<Head>,
-    graph: &Rows,
+    graph: &Rows<u32>,
     room: usize,
 ) -> Result<Classes, NoMemory>
     ensures valid { IfOk result (λ c. AreClasses heads.now graph.now c.keys.keys c.classes) }
@@ -154,7 +154,7 @@ fn no_classes(
 pub fn classes_of(
     alloc: Global,
     heads: &Table<Head>,
-    graph: &Rows,
+    graph: &Rows<u32>,
     order: &Table<u32>,
 ) -> Result<Classes, NoMemory>
     requires { length heads.now ≡ length graph.now }

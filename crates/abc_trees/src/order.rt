@@ -47,7 +47,7 @@ impl Walk {
 
 impl Walk {
     /// Enters a node for the first time.
-    fn enter(&mut self, graph: &Rows, node: u32) -> Result<(), NoMemory>
+    fn enter(&mut self, graph: &Rows<u32>, node: u32) -> Result<(), NoMemory>
         requires known { node < length graph.now }
         requires within { node < length self.old.entered.items }
         ensures marks { OnOk result (self.new.entered.items ≡ set self.old.entered.items node true) }
@@ -64,7 +64,7 @@ impl Walk {
 
     /// Does what is to be done at a node.
     #[tactic(auto, using(crate::proofs::Efforts::unmarked_within, crate::proofs::Efforts::marked_length))]
-    fn step(&mut self, graph: &Rows, _roots: &Table<u32>, task: Task) -> Result<(), NoMemory>
+    fn step(&mut self, graph: &Rows<u32>, _roots: &Table<u32>, task: Task) -> Result<(), NoMemory>
         requires marks { length self.old.entered.items ≡ length graph.now }
         requires in_range { IsGraph graph.now }
         requires roots { All (λ y. y < length graph.now) _roots.now }
@@ -86,7 +86,11 @@ impl Walk {
 
 /// The nodes that some nodes lead to, and these, in an order in which each stands behind those that it leads to, where none
 /// of them returns to itself.
-pub fn parts_first(alloc: Global, graph: &Rows, roots: &Table<u32>) -> Result<Table<u32>, NoMemory>
+pub fn parts_first(
+    alloc: Global,
+    graph: &Rows<u32>,
+    roots: &Table<u32>,
+) -> Result<Table<u32>, NoMemory>
     requires in_range { IsGraph graph.now }
     requires roots { All (λ y. y < length graph.now) roots.now }
     ensures { IfOk result (λ order. NoneReturns graph.now roots.now → IsOrder graph.now roots.now order) }

@@ -5,19 +5,19 @@ use abc_base::NoMemory;
 use std::alloc::Global;
 use std::marker::Model;
 
-/// Lists of numbers, which contracts see as the list of these lists. They share their memory.
+/// Lists of values, which contracts see as the list of these lists. They share their memory.
 #[derive(Debug, Drop)]
-pub struct Rows {
-    /// The numbers of all lists in a row.
-    items: Vec<u32>,
+pub struct Rows<T> {
+    /// The values of all lists in a row.
+    items: Vec<T>,
     /// Where each list ends among them.
     ends: Vec<usize>,
 }
 
-impl Model for Rows {
-    ghost use Rattle.std.specs.Prelude.{List, ℕ, length};
+impl<T> Model for Rows<T> {
+    ghost use Rattle.std.specs.Prelude.{List, length};
 
-    ghost Value = { List (List ℕ) };
+    ghost Value = { List (List T) };
 
     ghost use Rattle.abc_trees.specs.Rows.{AreEnds, rows_from};
 
@@ -48,9 +48,9 @@ fn end(ends: &[usize], i: usize) -> usize
     ends[i]
 }
 
-/// The numbers between two places.
+/// The values between two places.
 #[inline]
-fn part(items: &[u32], begin: usize, end: usize) -> &[u32]
+fn part<T: Drop>(items: &[T], begin: usize, end: usize) -> &[T]
     requires order { begin ≤ end }
     requires within { end ≤ length items.now }
     ensures { result.now ≡ take (end - begin) (drop begin items.now) }
@@ -58,9 +58,9 @@ fn part(items: &[u32], begin: usize, end: usize) -> &[u32]
     &items[begin..end]
 }
 
-impl Rows {
+impl<T: Copy + Drop> Rows<T> {
     /// No lists. It takes no memory.
-    pub fn new(alloc: Global) -> Rows
+    pub fn new(alloc: Global) -> Rows<T>
         ensures { result ≡ [] }
     {
         Rows {
@@ -70,7 +70,7 @@ impl Rows {
     }
 
     /// Adds a list at the end. Where memory runs out the lists stay as they were.
-    pub fn push(&mut self, row: &[u32]) -> Result<(), NoMemory>
+    pub fn push(&mut self, row: &[T]) -> Result<(), NoMemory>
         ensures ok { OnOk result (self.new ≡ self.old ++ row.now ∷ []) }
         ensures err { OnErr result (self.new ≡ self.old) }
     {
@@ -91,7 +91,7 @@ impl Rows {
 
     /// The list at a position, which counts from 0.
     #[inline]
-    pub fn get(&self, i: usize) -> &[u32]
+    pub fn get(&self, i: usize) -> &[T]
         requires { i < length self.now }
         ensures { result.now ≡ get_or self.now i [] }
     {

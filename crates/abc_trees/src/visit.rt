@@ -43,7 +43,7 @@ impl Visit {
 
 impl Visit {
     /// Meets a node, and puts those that it leads to on the stack.
-    fn meet(&mut self, graph: &Rows, node: u32, class: usize) -> Result<(), NoMemory>
+    fn meet(&mut self, graph: &Rows<u32>, node: u32, class: usize) -> Result<(), NoMemory>
         requires unmet { get_or self.old.met.items class true ≡ false }
         requires unopened { get_or self.old.opened.items node true ≡ false }
         requires known { node < length graph.now }
@@ -62,7 +62,7 @@ impl Visit {
     fn step(
         &mut self,
         _heads: &Table<Head>,
-        graph: &Rows,
+        graph: &Rows<u32>,
         classes: &Classes,
         node: u32,
     ) -> Result<(), NoMemory>
@@ -95,7 +95,7 @@ impl Visit {
 pub fn visit_order(
     alloc: Global,
     heads: &Table<Head>,
-    graph: &Rows,
+    graph: &Rows<u32>,
     classes: &Classes,
     roots: &Table<u32>,
 ) -> Result<Table<u32>, NoMemory>
