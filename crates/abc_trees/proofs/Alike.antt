@@ -1,5 +1,5 @@
 -- Two lists of heads that tell the same nodes apart give trees that are told apart alike, and so the same visit.
-use Rattle.std.proofs.Common.{◌≡◌, ℕ, ◌<◌, List, [], ◌∷◌, ◌++◌, Bool, true, false, ◌&&◌, ◌||◌, if◌then◌else◌, length, get_or, refl, sym, ap, subst, ◌∙◌, true≢false}
+use Rattle.std.proofs.Common.{◌≡◌, ℕ, ◌<◌, List, [], ◌∷◌, ◌++◌, Bool, true, false, ◌&&◌, ◌||◌, if◌then◌else◌, length, get_or, refl, sym, subst, ◌∙◌, true≢false}
 use Rattle.std.specs.declared.option.Option.{Option}
 use Rattle.abc_graph.specs.Graph.{targets}
 use Rattle.abc_trees.specs.declared.heads.Head.{Head}

@@ -9,7 +9,7 @@ use Rattle.abc_trees.specs.Classes.{AllClassed, AreSettled, Gains, HasClass, Has
 use Rattle.abc_trees.specs.Orders.{In, IsBehind}
 use Rattle.abc_trees.proofs.Efforts.{below_zero}
 use Rattle.abc_trees.proofs.Meanings.{has_class_on}
-use Rattle.abc_trees.proofs.Walked.{in_append, in_at, in_last, in_left}
+use Rattle.abc_trees.proofs.Walked.{in_at, in_last, in_left}
 
 pub unclassed : (graph : List (List ℕ)) (x : ℕ) (classes : List (Option ℕ)) (i p : ℕ) → i < length (targets graph x) → p ≡ get_or (targets graph x) i 0 → None ≡ class classes p → HasUnclassed graph x classes
 unclassed graph x classes i p lt at e = record { part = i; within = lt; none = sym (e ∙ ap (class classes) at) }

@@ -1,5 +1,5 @@
 -- What a node leads to has a smaller tree, so a node that has a tree does not return to itself.
-use Rattle.std.proofs.Common.{◌≡◌, ℕ, ◌+◌, ◌<◌, ◌≤◌, inl, inr, List, [], ◌∷◌, Contains, get_or, refl, sym, ap, subst, arith}
+use Rattle.std.proofs.Common.{◌≡◌, ℕ, ◌+◌, ◌<◌, ◌≤◌, inl, inr, List, Contains, sym, ap, subst, arith}
 use Rattle.abc_graph.specs.Graph.{targets, Leads, Edge, Then, Returns}
 use Rattle.abc_trees.specs.declared.heads.Head.{Head}
 use Rattle.abc_trees.specs.Orders.{In}
