@@ -53,9 +53,9 @@ fn comments_of(alloc: Global, strings: &[Bytes]) -> Result<Rows<u8>, NoMemory>
     Ok(rows)
 }
 
-/// Whether strings are named so often that it pays to keep what each is at the end of a line.
+/// Whether strings are named so often that it pays to keep what each is at the end of a line: there is a name for each four of them.
 fn are_named_often(abc: &Abc) -> bool {
-    abc.strings.len() <= abc.names.len()
+    abc.strings.len() / 4 <= abc.names.len()
 }
 
 /// What is kept of the ends of lines: all, or nothing.
