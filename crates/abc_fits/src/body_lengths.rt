@@ -35,35 +35,28 @@ fn first_from(code: &Table<Instr>, limit: u32) -> usize
     }
 }
 
-/// From which places on the code's starts have two, three, four and five bytes. Most code is short, and hardly gone through.
+/// The same, of code that has so many bytes: code that ends before the limit is not gone through.
 #[tactic(auto, using(crate::proofs::Places::none_from))]
+fn first_within(code: &Table<Instr>, len: u64, limit: u32) -> usize
+    requires { len ≡ min (total code.now) (2 ^ 64 - 1) }
+    ensures { IsFirstFrom code.now limit result }
+{
+    if len < limit as u64 {
+        return code.as_slice().len() + 1;
+    }
+    first_from(code, limit)
+}
+
+/// From which places on the code's starts have two, three, four and five bytes. Most code is short, and hardly gone through.
 fn widths_of(code: &Table<Instr>, len: u64) -> Widths
     requires { len ≡ min (total code.now) (2 ^ 64 - 1) }
     ensures { AreWidths code.now result }
 {
-    let none = code.as_slice().len() + 1;
-    if len < 1 << 7 {
-        return Widths {
-            two: none,
-            three: none,
-            four: none,
-            five: none,
-        };
-    }
-    let two = first_from(code, 1 << 7);
-    if len < 1 << 14 {
-        return Widths {
-            two,
-            three: none,
-            four: none,
-            five: none,
-        };
-    }
     Widths {
-        two,
-        three: first_from(code, 1 << 14),
-        four: first_from(code, 1 << 21),
-        five: first_from(code, 1 << 28),
+        two: first_within(code, len, 1 << 7),
+        three: first_within(code, len, 1 << 14),
+        four: first_within(code, len, 1 << 21),
+        five: first_within(code, len, 1 << 28),
     }
 }
 
