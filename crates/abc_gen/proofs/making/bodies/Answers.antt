@@ -7,7 +7,7 @@ use Rattle.abc_gen.proofs.making.bodies.Goals as goal
 
 pub loop-function-init : goal.loop-function-init
 loop-function-init c =
-    (c.in_ok-push.ensures.ok ∙ ap₂ (λ xs b. xs ++ b ∷ []) c.new-bodies.ensures (c.body.ensures ∙ ap (body_of 0 2 1) c.in_ok-first_code.ensures), refl, c.new-gathering.ensures)
+    (c.in_ok-push.ensures.ok ∙ ap₂ (λ xs b. xs ++ b ∷ []) c.in_ok-bodies.ensures (c.body.ensures ∙ ap (body_of 0 2 1) c.in_ok-first_code.ensures), refl, c.new-gathering.ensures)
 
 pub loop-function-preserved : goal.loop-function-preserved
 loop-function-preserved c =
