@@ -22,20 +22,9 @@ pub code_is : (l : LinkedFile) (n b : ℕ) (body : Body) → body_of l.file n �
 code_is l n b body q is = ap (λ (x : Body). x.code) (get_or_default l.file.bodies b no_body body (body_inside l.file n b q) ∙ is)
 
 -- what is held is what a routine runs
-pub code_held : (p : Setting) (n : ℕ) (r : Routine) (code : List Instr) (o : Option (List Instr)) → routine_of p n ≡ Some r → o ≡ code_in p.linked (body_of p.linked.file n) → o ≡ Some code → r.code ≡ code
-code_held p n r code o e held is = go (body_of p.linked.file n) refl
+pub code_held : (p : Setting) (n : ℕ) (r : Routine) (code : List Instr) → routine_of p n ≡ Some r → code ≡ code_in p.linked (body_of p.linked.file n) → r.code ≡ code
+code_held p n r code e held = go (body_of p.linked.file n) refl
   where
     go : (b : Option ℕ) → body_of p.linked.file n ≡ b → r.code ≡ code
     go None q = absurd (no_routine p n r e q)
-    go (Some b) q =
-        let two : Some code ≡ Some (body_at p.linked.file b).code = sym is ∙ held ∙ ap (code_in p.linked) q in
-        let same : code ≡ (body_at p.linked.file b).code = cc in
-        ap (λ (x : Routine). x.code) (routine_is p n b r e q) ∙ sym same
-
--- a method that has a routine has code
-pub none_held : (p : Setting) (n : ℕ) (r : Routine) (o : Option (List Instr)) → routine_of p n ≡ Some r → o ≡ code_in p.linked (body_of p.linked.file n) → o ≡ None → ⊥
-none_held p n r o e held none = go (body_of p.linked.file n) refl
-  where
-    go : (b : Option ℕ) → body_of p.linked.file n ≡ b → ⊥
-    go None q = no_routine p n r e q
-    go (Some b) q = let two : None ≡ Some (body_at p.linked.file b).code = sym none ∙ held ∙ ap (code_in p.linked) q in cc
+    go (Some b) q = ap (λ (x : Routine). x.code) (routine_is p n b r e q) ∙ sym (held ∙ ap (code_in p.linked) q)

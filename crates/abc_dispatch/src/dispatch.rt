@@ -21,7 +21,7 @@ use crate::arms::{
 use crate::groups::{Alone, Numbered, Paired, group_alone, group_numbered, group_paired};
 use crate::quick::{
     constant_here, control_here, convert_quick, double_quick, first_branch_here,
-    first_branch_quick, last_branch_quick,
+    first_branch_quick, last_branch_quick, property_quick,
 };
 use abc_link::Linked;
 use abc_plainsteps::{run_byte, run_debug, run_scope_object, run_short, run_switch};
@@ -201,10 +201,10 @@ fn run_numbered(
         0x2D => constant_here(linked, s, op, n, left),
         0x5D => find_arm(linked, s, op, n, left),
         0x60 => find_arm(linked, s, op, n, left),
-        0x61 => property_arm(linked, s, op, n, left),
+        0x61 => property_quick(linked, s, op, n, left),
         0x62 => constant_here(linked, s, op, n, left),
         0x63 => constant_here(linked, s, op, n, left),
-        0x66 => property_arm(linked, s, op, n, left),
+        0x66 => property_quick(linked, s, op, n, left),
         0x6C => slot_arm(linked, s, op, n, left),
         0x6D => slot_arm(linked, s, op, n, left),
         0xC2 => count_arm(linked, s, op, n, left),

@@ -13,14 +13,14 @@ ghost use Rattle.abc_typing.specs.Routines.{Routine};
 use crate::dispatch::run_instr;
 use abc_link::Linked;
 use abc_states::{Left, State, Stop};
-use abc_tables::{Instr, Table};
+use abc_tables::Instr;
 
-/// A method, by its index in the file, and its code if it has a body: so that the code of steps that follow one another in one method
-/// is looked up once.
+/// A method, by its index in the file, and its code, which is empty if it has no body: so that the code of steps that follow one
+/// another in one method is looked up once.
 #[derive(Clone, Copy)]
 pub struct Held<'a> {
     method: u32,
-    code: Option<&'a Table<Instr>>,
+    code: &'a [Instr],
 }
 
 /// A method with its code.
@@ -32,9 +32,9 @@ pub fn hold<'a>(linked: &'a Linked, method: u32) -> Held<'a>
     match linked.body_of(method) {
         Some(body) => Held {
             method,
-            code: Some(&linked.abc().bodies.get(body as usize).code),
+            code: linked.abc().bodies.get(body as usize).code.as_slice(),
         },
-        None => Held { method, code: None },
+        None => Held { method, code: &[] },
     }
 }
 
@@ -62,13 +62,7 @@ fn instr_here<'a>(linked: &'a Linked, s: &State, held: &Held<'a>) -> &'a Instr
     ensures { (r : Routine) → routine_of (setting linked.now out) (newest s.now.frames).method ≡ Some r → slice_get r.code (newest s.now.frames).place ≡ Some result.now }
 {
     let _ = linked;
-    let Some(code) = held.code else {
-        unreachable!()
-    };
-    let Some(instr) = code.find(s.frames.place() as usize) else {
-        unreachable!()
-    };
-    instr
+    &held.code[s.frames.place() as usize]
 }
 
 /// The same as `run_newest`, with the code of its method held, as it is over steps that follow one another.

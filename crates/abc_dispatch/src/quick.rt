@@ -1,6 +1,8 @@
 ghost use Rattle.std.specs.Prelude.{◌≡◌, true, Ok};
 ghost use Rattle.abc_dispatch.specs.Groups.{first_order_ops, last_order_ops, to_number_ops};
 ghost use Rattle.abc_membersteps.specs.CallarmsCalls.{CanFinish};
+ghost use Rattle.abc_membersteps.specs.Groups.{property_ops};
+ghost use Rattle.abc_newsteps.specs.EnteringArguments.{IsKnown};
 ghost use Rattle.abc_plainsteps.specs.Groups.{constant_ops, control_ops, convert_ops, double_ops, first_branch_ops, last_branch_ops};
 ghost use Rattle.abc_plainsteps.specs.Here.{act_here};
 ghost use Rattle.abc_plainsteps.specs.Ready.{CanRun};
@@ -11,8 +13,9 @@ ghost use Rattle.abc_states.specs.declared.state.Left.TheVariants.{Goes};
 ghost use Rattle.abc_tables.specs.Opcodes.{is_in};
 ghost use Rattle.abc_tables.specs.declared.code.Instr.TheVariants.{Branch, One, Plain};
 
-use crate::arms::{convert_arm, double_arm, first_branch_arm, last_branch_arm};
+use crate::arms::{convert_arm, double_arm, first_branch_arm, last_branch_arm, property_arm};
 use abc_link::Linked;
+use abc_membersteps::run_element_at_once;
 use abc_plainsteps::{
     number_on_top, numbers_on_top, run_constant, run_control, run_convert, run_double,
     run_first_branch, run_last_branch,
@@ -242,4 +245,29 @@ pub(crate) fn last_branch_quick(
     } else {
         last_branch_arm(linked, s, op, target, left)
     }
+}
+
+/// What reads, writes or deletes a property.
+#[inline]
+pub(crate) fn property_quick(
+    linked: &Linked,
+    s: &mut State,
+    op: u8,
+    n: u32,
+    left: &mut Result<Left, Stop>,
+) -> bool
+    ghost out: { Outer }
+    requires run { CanRun linked.now out s.old (One op n) }
+    requires known { IsKnown linked.now s.old.given.limit }
+    requires among { is_in op property_ops ≡ true }
+    requires none { left.old ≡ Ok Goes }
+    ensures leaves { Leaves linked.now out (act_here (setting linked.now out) (newest s.old.frames) (One op n)) s.old left.new s.new }
+    ensures finishes { CanFinish linked.now left.new s.new }
+    ensures goes { result ≡ true → left.new ≡ Ok Goes }
+    ensures limit { s.new.given.limit ≡ s.old.given.limit }
+{
+    if run_element_at_once(linked, s, op, n) {
+        return true;
+    }
+    property_arm(linked, s, op, n, left)
 }

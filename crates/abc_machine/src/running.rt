@@ -140,11 +140,12 @@ pub(crate) fn take_steps<K: Sink, H: Host>(
     let mut held = hold(linked, 0);
     let mut left = Ok(Left::Goes);
     let mut halted = Ok(());
-    while *fuel > 0 {
+    let mut rest = *fuel;
+    while rest > 0 {
         if spend(
             linked,
             s,
-            fuel,
+            &mut rest,
             sink,
             host,
             &mut held,
@@ -154,9 +155,11 @@ pub(crate) fn take_steps<K: Sink, H: Host>(
             continue;
         }
         if let Err(halt) = halted {
+            *fuel = rest;
             return reply_for(halt);
         }
     }
+    *fuel = rest;
     Reply::FuelSpent
 }
 

@@ -8,4 +8,4 @@ mod properties;
 
 pub use calling::{run_call_value, run_property_call};
 pub use constructing::{run_construct, run_construct_property};
-pub use properties::{run_property, run_property_at_once};
+pub use properties::{run_element_at_once, run_property, run_property_at_once};

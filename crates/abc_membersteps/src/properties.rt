@@ -10,7 +10,9 @@ ghost use Rattle.abc_tables.specs.declared.code.Instr.TheVariants.{One};
 ghost use Rattle.abc_membersteps.specs.Groups.{property_ops};
 
 use abc_link::Linked;
-use abc_propertyarms::{get_property, gets_at_once, set_property, sets_at_once};
+use abc_propertyarms::{
+    get_property, gets_at_once, gets_late, set_property, sets_at_once, sets_late,
+};
 use abc_states::{State, Stop};
 use abc_taking::run_delete;
 
@@ -32,7 +34,8 @@ pub fn run_property(linked: &Linked, s: &mut State, op: u8, n: u32) -> Result<()
     }
 }
 
-/// What reads and writes a property, where it needs no search: whether it is done; else nothing is.
+/// What reads and writes a property by a name of which no part comes at run time, where it needs no search: whether it is done; else
+/// nothing is.
 #[inline(always)]
 pub fn run_property_at_once(linked: &Linked, s: &mut State, op: u8, n: u32) -> bool
     ghost out: { Outer }
@@ -43,6 +46,22 @@ pub fn run_property_at_once(linked: &Linked, s: &mut State, op: u8, n: u32) -> b
         0x61 => sets_at_once(linked, s, n, false),
         0x66 => gets_at_once(linked, s, n),
         0x68 => sets_at_once(linked, s, n, true),
+        _ => false,
+    }
+}
+
+/// What reads and writes a property by a name of which a part comes at run time, where that is the number of an element: whether it is
+/// done; else nothing is.
+#[inline(always)]
+pub fn run_element_at_once(linked: &Linked, s: &mut State, op: u8, n: u32) -> bool
+    ghost out: { Outer }
+    requires run { CanRun linked.now out s.old (One op n) }
+    ensures { IsDoneIf result linked.now out (act_here (setting linked.now out) (newest s.old.frames) (One op n)) s.old s.new }
+{
+    match op {
+        0x61 => sets_late(linked, s, n, false),
+        0x66 => gets_late(linked, s, n),
+        0x68 => sets_late(linked, s, n, true),
         _ => false,
     }
 }

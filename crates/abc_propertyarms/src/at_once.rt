@@ -19,7 +19,6 @@ ghost use Rattle.abc_states.specs.WorldMembers.{writes_to};
 ghost use Rattle.abc_states.specs.WorldSetting.{Whole};
 ghost use Rattle.abc_memberarms.specs.Members.{calls_named, gets_named, parts_at, puts_own, puts_top, sets_named};
 
-use crate::elements::{gets_late, sets_late};
 use crate::searching::call_searching;
 use abc_cells::{ObjId, Span, Value};
 use abc_link::Linked;
@@ -71,7 +70,7 @@ fn gets_whole(linked: &Linked, s: &mut State, name: u32, wanted: &Name) -> bool
     }
 }
 
-/// `getproperty`, where it needs no search: whether it is done; else nothing is.
+/// `getproperty` by a name of which no part comes at run time, where it needs no search: whether it is done; else nothing is.
 #[inline(always)]
 pub fn gets_at_once(linked: &Linked, s: &mut State, name: u32) -> bool
     ghost out: { Outer }
@@ -81,7 +80,7 @@ pub fn gets_at_once(linked: &Linked, s: &mut State, name: u32) -> bool
 {
     match whole_name(linked, name) {
         Some(wanted) => gets_whole(linked, s, name, &wanted),
-        None => gets_late(linked, s, name),
+        None => false,
     }
 }
 
@@ -213,8 +212,8 @@ fn sets_whole(linked: &Linked, s: &mut State, name: u32, wanted: &Name, initial:
     }
 }
 
-/// `setproperty` and `initproperty`, which writes constant slots too, where they need no search: whether it is done; else nothing
-/// is.
+/// `setproperty` and `initproperty`, which writes constant slots too, by a name of which no part comes at run time, where they need
+/// no search: whether it is done; else nothing is.
 #[inline(always)]
 pub fn sets_at_once(linked: &Linked, s: &mut State, name: u32, initial: bool) -> bool
     ghost out: { Outer }
@@ -224,7 +223,7 @@ pub fn sets_at_once(linked: &Linked, s: &mut State, name: u32, initial: bool) ->
 {
     match whole_name(linked, name) {
         Some(wanted) => sets_whole(linked, s, name, &wanted, initial),
-        None => sets_late(linked, s, name, initial),
+        None => false,
     }
 }
 

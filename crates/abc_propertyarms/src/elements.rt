@@ -123,7 +123,7 @@ fn gets_numbered(linked: &Linked, s: &mut State, name: u32, spaces: Spaces, o: O
 }
 
 /// `getproperty` by a name of which the text alone comes at run time: whether it is done; else nothing is.
-#[inline(always)]
+#[inline(never)]
 fn gets_text(linked: &Linked, s: &mut State, name: u32, spaces: Spaces) -> bool
     ghost out: { Outer }
     requires set { IsSet linked.now s.old }
@@ -140,8 +140,8 @@ fn gets_text(linked: &Linked, s: &mut State, name: u32, spaces: Spaces) -> bool
 
 /// `getproperty` by a name of which a part comes at run time: whether it is done, as it is where that is the number of an element;
 /// else nothing is.
-#[inline(never)]
-pub(crate) fn gets_late(linked: &Linked, s: &mut State, name: u32) -> bool
+#[inline(always)]
+pub fn gets_late(linked: &Linked, s: &mut State, name: u32) -> bool
     ghost out: { Outer }
     requires set { IsSet linked.now s.old }
     requires ready { IsReady (parts_at (setting linked.now out) name + 1) 1 s.old.frames }
@@ -216,7 +216,7 @@ fn sets_numbered(
 }
 
 /// `setproperty` and `initproperty` by a name of which the text alone comes at run time: whether it is done; else nothing is.
-#[inline(always)]
+#[inline(never)]
 fn sets_text(linked: &Linked, s: &mut State, name: u32, spaces: Spaces, initial: bool) -> bool
     ghost out: { Outer }
     requires set { IsSet linked.now s.old }
@@ -233,8 +233,8 @@ fn sets_text(linked: &Linked, s: &mut State, name: u32, spaces: Spaces, initial:
 
 /// `setproperty` and `initproperty` by a name of which a part comes at run time: whether it is done, as it is where that is the number
 /// of an element; else nothing is.
-#[inline(never)]
-pub(crate) fn sets_late(linked: &Linked, s: &mut State, name: u32, initial: bool) -> bool
+#[inline(always)]
+pub fn sets_late(linked: &Linked, s: &mut State, name: u32, initial: bool) -> bool
     ghost out: { Outer }
     requires set { IsSet linked.now s.old }
     requires ready { IsReady (parts_at (setting linked.now out) name + 2) 0 s.old.frames }

@@ -8,5 +8,6 @@ mod properties;
 mod searching;
 
 pub use at_once::{gets_at_once, sets_at_once};
+pub use elements::{gets_late, sets_late};
 pub use properties::{call_property, call_value, construct, construct_property};
 pub use searching::{get_property, set_property};

@@ -15,8 +15,8 @@ find_arm-requires g c = (c.requires.0, (c.requires.1.0.known, (c.requires.1.0.st
 pub find_arm-requires-in-96 : goal.find_arm-requires-in-96
 find_arm-requires-in-96 g c = (c.requires.0, (c.requires.1.0.known, (c.requires.1.0.started, (ap (λ n. is_in n find_ops) c.in-96.is, c.requires.1.1))))
 
-pub property_arm-requires : goal.property_arm-requires
-property_arm-requires g c = (c.requires.0, (c.requires.1.0.known, (ap (λ n. is_in n property_ops) c.in-97.is, c.requires.1.1)))
+pub property_quick-requires : goal.property_quick-requires
+property_quick-requires g c = (c.requires.0, (c.requires.1.0.known, (ap (λ n. is_in n property_ops) c.in-97.is, c.requires.1.1)))
 
 pub constant_here-requires-in-98 : goal.constant_here-requires-in-98
 constant_here-requires-in-98 g c = (c.requires.0, (ap (λ n. is_in n constant_ops) c.in-98.is, c.requires.1.1))
@@ -24,8 +24,8 @@ constant_here-requires-in-98 g c = (c.requires.0, (ap (λ n. is_in n constant_op
 pub constant_here-requires-in-99 : goal.constant_here-requires-in-99
 constant_here-requires-in-99 g c = (c.requires.0, (ap (λ n. is_in n constant_ops) c.in-99.is, c.requires.1.1))
 
-pub property_arm-requires-in-102 : goal.property_arm-requires-in-102
-property_arm-requires-in-102 g c = (c.requires.0, (c.requires.1.0.known, (ap (λ n. is_in n property_ops) c.in-102.is, c.requires.1.1)))
+pub property_quick-requires-in-102 : goal.property_quick-requires-in-102
+property_quick-requires-in-102 g c = (c.requires.0, (c.requires.1.0.known, (ap (λ n. is_in n property_ops) c.in-102.is, c.requires.1.1)))
 
 pub slot_arm-requires : goal.slot_arm-requires
 slot_arm-requires g c = (c.requires.0, (ap (λ n. is_in n slot_ops) c.in-108.is, c.requires.1.1))

@@ -6,8 +6,8 @@ ghost-constant_here g a = g.out
 abbrev pub ghost-find_arm : goal.ghost-find_arm
 ghost-find_arm g a = g.out
 
-abbrev pub ghost-property_arm : goal.ghost-property_arm
-ghost-property_arm g a = g.out
+abbrev pub ghost-property_quick : goal.ghost-property_quick
+ghost-property_quick g a = g.out
 
 abbrev pub ghost-slot_arm : goal.ghost-slot_arm
 ghost-slot_arm g a = g.out

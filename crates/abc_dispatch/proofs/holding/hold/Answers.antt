@@ -15,4 +15,4 @@ returns-in-Some-clause-held c =
     let l = c.args.linked.now in
     let q : body_of l.file c.args.method ≡ Some c.in-Some.body = sym c.body_of.ensures ∙ c.in-Some.is in
     let here : get_or l.file.bodies c.in-Some.body c.get.result.now ≡ c.get.result.now = subst (λ (f : Abc). get_or f.bodies c.in-Some.body c.get.result.now ≡ c.get.result.now) c.abc.ensures c.get.ensures in
-    ap Some (sym (code_is l c.args.method c.in-Some.body c.get.result.now q here)) ∙ sym (ap (code_in l) q)
+    c.as_slice.ensures ∙ (sym (code_is l c.args.method c.in-Some.body c.get.result.now q here) ∙ sym (ap (code_in l) q))

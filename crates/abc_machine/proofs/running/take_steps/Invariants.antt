@@ -8,16 +8,16 @@ use Rattle.abc_states.specs.declared.state.Left.TheVariants.{Goes}
 abbrev pub ghost-spend : goal.ghost-spend
 ghost-spend g a = outer a.linked.now g.begun a.fuel.now
 
-abbrev pub invariant-loop-fuel : goal.invariant-loop-fuel
-invariant-loop-fuel g l = record {
-  at : IsAt l.linked g.begun l.fuel l.s (g.K.Sink.written l.initial.sink) (g.K.Sink.written l.sink);
+abbrev pub invariant-loop-rest : goal.invariant-loop-rest
+invariant-loop-rest g l = record {
+  at : IsAt l.linked g.begun l.rest l.s (g.K.Sink.written l.initial.sink) (g.K.Sink.written l.sink);
   later : g.K.Sink.faults l.initial.sink ≤ g.K.Sink.faults l.sink;
-  few : l.fuel ≤ l.initial.fuel;
+  few : l.rest ≤ l.initial.rest;
   limit : l.s.given.limit ≡ l.initial.s.given.limit;
   held : IsHeld l.linked l.held;
   none : l.left ≡ Ok Goes;
   going : l.halted ≡ Ok tt;
 }
 
-abbrev pub decreases-loop-fuel : goal.decreases-loop-fuel
-decreases-loop-fuel g l = l.fuel
+abbrev pub decreases-loop-rest : goal.decreases-loop-rest
+decreases-loop-rest g l = l.rest

@@ -5,6 +5,3 @@ ghost-whole_name g a = g.out
 
 abbrev pub ghost-gets_whole : goal.ghost-gets_whole
 ghost-gets_whole g a = g.out
-
-abbrev pub ghost-gets_late : goal.ghost-gets_late
-ghost-gets_late g a = g.out

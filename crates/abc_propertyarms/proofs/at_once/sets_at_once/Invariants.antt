@@ -5,6 +5,3 @@ ghost-whole_name g a = g.out
 
 abbrev pub ghost-sets_whole : goal.ghost-sets_whole
 ghost-sets_whole g a = g.out
-
-abbrev pub ghost-sets_late : goal.ghost-sets_late
-ghost-sets_late g a = g.out
