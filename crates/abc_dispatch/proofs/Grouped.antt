@@ -55,7 +55,7 @@ unfolding form_at info_at
 known_form op form (Some name) h e = some_form (form_of op) form (rw h at e)
 known_form op form None h e = absurd (let none_ : None ≡ Some form = rw h at e in cc)
 
-form_is : (op : ℕ) (form : Form) → form_at op ≡ Some form → form_of op ≡ form
+pub form_is : (op : ℕ) (form : Form) → form_at op ≡ Some form → form_of op ≡ form
 form_is op form e = known_form op form (name_in named op) refl e
 
 abbrev is_form : Form → Form → Bool

@@ -1,4 +1,5 @@
 pub mod Held
 pub mod Groups
+pub mod Numbers
 pub mod Ready
 pub use Rattle.abc_membersteps.specs.CallarmsCalls

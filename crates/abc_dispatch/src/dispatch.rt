@@ -1,16 +1,14 @@
-ghost use Rattle.std.specs.Prelude.{◌≡◌, true, Ok, Some, slice_get};
+ghost use Rattle.std.specs.Prelude.{◌≡◌, true, Ok};
 ghost use Rattle.abc_membersteps.specs.CallarmsCalls.{CanFinish};
-ghost use Rattle.abc_dispatch.specs.Ready.{CanStep, IsEquipped};
-ghost use Rattle.abc_meaning.specs.Step.{runs};
+ghost use Rattle.abc_dispatch.specs.Ready.{IsEquipped};
 ghost use Rattle.abc_plainsteps.specs.Here.{act_here};
 ghost use Rattle.abc_plainsteps.specs.Ready.{CanRun};
+ghost use Rattle.abc_shapes.specs.Instructions.{opcode};
 ghost use Rattle.abc_stacks.specs.Frame.{newest};
 ghost use Rattle.abc_states.specs.Outer.{Outer, setting};
 ghost use Rattle.abc_states.specs.Turns.{Leaves};
-ghost use Rattle.abc_states.specs.WorldSetting.{routine_of};
 ghost use Rattle.abc_states.specs.declared.state.Left.TheVariants.{Goes};
 ghost use Rattle.abc_tables.specs.declared.code.Instr.TheVariants.{Branch, One, Plain, Two};
-ghost use Rattle.abc_typing.specs.Routines.{Routine};
 
 use crate::arms::{
     call_arm, class_arm, comparison_arm, constant_arm, construct_arm, construct_property_arm,
@@ -19,6 +17,7 @@ use crate::arms::{
     scope_arm, single_arm, slot_arm, super_arm, super_call_arm, typed_arm, walk_arm,
 };
 use crate::groups::{Alone, Numbered, Paired, group_alone, group_numbered, group_paired};
+use crate::parts::{number_of, opcode_of, second_of};
 use crate::quick::{
     constant_here, control_here, convert_quick, double_quick, first_branch_here,
     first_branch_quick, last_branch_quick, property_quick,
@@ -55,97 +54,6 @@ fn run_rare_alone(linked: &Linked, s: &mut State, op: u8, left: &mut Result<Left
     }
 }
 
-/// An opcode that stands alone, below 0xA0: what is common at once.
-#[inline(always)]
-fn run_low(linked: &Linked, s: &mut State, op: u8, left: &mut Result<Left, Stop>) -> bool
-    ghost out: { Outer }
-    requires run { CanRun linked.now out s.old (Plain op) }
-    requires equipped { IsEquipped linked.now s.old }
-    requires none { left.old ≡ Ok Goes }
-    ensures leaves { Leaves linked.now out (act_here (setting linked.now out) (newest s.old.frames) (Plain op)) s.old left.new s.new }
-    ensures finishes { CanFinish linked.now left.new s.new }
-    ensures goes { result ≡ true → left.new ≡ Ok Goes }
-    ensures limit { s.new.given.limit ≡ s.old.given.limit }
-{
-    match op {
-        0x09 => control_here(linked, s, op, left),
-        0x20 => push_arm(linked, s, op, left),
-        0x21 => push_arm(linked, s, op, left),
-        0x26 => push_arm(linked, s, op, left),
-        0x27 => push_arm(linked, s, op, left),
-        0x29 => push_arm(linked, s, op, left),
-        0x2A => push_arm(linked, s, op, left),
-        0x2B => push_arm(linked, s, op, left),
-        0x47 => return_arm(linked, s, op, left),
-        0x48 => return_arm(linked, s, op, left),
-        0x73 => convert_quick(linked, s, op, left),
-        0x74 => convert_quick(linked, s, op, left),
-        0x75 => convert_quick(linked, s, op, left),
-        0x91 => single_arm(linked, s, op, left),
-        0x93 => single_arm(linked, s, op, left),
-        0x96 => single_arm(linked, s, op, left),
-        _ => run_rare_alone(linked, s, op, left),
-    }
-}
-
-/// An opcode that stands alone, from 0xA0 on: what is common at once.
-#[inline(always)]
-fn run_high(linked: &Linked, s: &mut State, op: u8, left: &mut Result<Left, Stop>) -> bool
-    ghost out: { Outer }
-    requires run { CanRun linked.now out s.old (Plain op) }
-    requires equipped { IsEquipped linked.now s.old }
-    requires none { left.old ≡ Ok Goes }
-    ensures leaves { Leaves linked.now out (act_here (setting linked.now out) (newest s.old.frames) (Plain op)) s.old left.new s.new }
-    ensures finishes { CanFinish linked.now left.new s.new }
-    ensures goes { result ≡ true → left.new ≡ Ok Goes }
-    ensures limit { s.new.given.limit ≡ s.old.given.limit }
-{
-    match op {
-        0xA0 => double_quick(linked, s, op, left),
-        0xA1 => double_quick(linked, s, op, left),
-        0xA2 => double_quick(linked, s, op, left),
-        0xA5 => double_quick(linked, s, op, left),
-        0xA6 => double_quick(linked, s, op, left),
-        0xA7 => double_quick(linked, s, op, left),
-        0xA8 => double_quick(linked, s, op, left),
-        0xA9 => double_quick(linked, s, op, left),
-        0xAA => double_quick(linked, s, op, left),
-        0xC0 => single_arm(linked, s, op, left),
-        0xC1 => single_arm(linked, s, op, left),
-        0xC5 => double_quick(linked, s, op, left),
-        0xC6 => double_quick(linked, s, op, left),
-        0xC7 => double_quick(linked, s, op, left),
-        0xD0 => local_arm(linked, s, op, left),
-        0xD1 => local_arm(linked, s, op, left),
-        0xD2 => local_arm(linked, s, op, left),
-        0xD3 => local_arm(linked, s, op, left),
-        0xD4 => local_arm(linked, s, op, left),
-        0xD5 => local_arm(linked, s, op, left),
-        0xD6 => local_arm(linked, s, op, left),
-        0xD7 => local_arm(linked, s, op, left),
-        _ => run_rare_alone(linked, s, op, left),
-    }
-}
-
-/// An opcode that stands alone.
-#[inline(always)]
-fn run_alone(linked: &Linked, s: &mut State, op: u8, left: &mut Result<Left, Stop>) -> bool
-    ghost out: { Outer }
-    requires run { CanRun linked.now out s.old (Plain op) }
-    requires equipped { IsEquipped linked.now s.old }
-    requires none { left.old ≡ Ok Goes }
-    ensures leaves { Leaves linked.now out (act_here (setting linked.now out) (newest s.old.frames) (Plain op)) s.old left.new s.new }
-    ensures finishes { CanFinish linked.now left.new s.new }
-    ensures goes { result ≡ true → left.new ≡ Ok Goes }
-    ensures limit { s.new.given.limit ≡ s.old.given.limit }
-{
-    if op < 0xA0 {
-        run_low(linked, s, op, left)
-    } else {
-        run_high(linked, s, op, left)
-    }
-}
-
 /// An opcode with one number, by its group.
 #[inline(never)]
 fn run_rare_numbered(
@@ -176,40 +84,6 @@ fn run_rare_numbered(
         Numbered::Slot => slot_arm(linked, s, op, n, left),
         Numbered::Typed => typed_arm(linked, s, op, n, left),
         Numbered::Count => count_arm(linked, s, op, n, left),
-    }
-}
-
-/// An opcode with one number: what is common at once.
-#[inline(always)]
-fn run_numbered(
-    linked: &Linked,
-    s: &mut State,
-    op: u8,
-    n: u32,
-    left: &mut Result<Left, Stop>,
-) -> bool
-    ghost out: { Outer }
-    requires run { CanRun linked.now out s.old (One op n) }
-    requires equipped { IsEquipped linked.now s.old }
-    requires none { left.old ≡ Ok Goes }
-    ensures leaves { Leaves linked.now out (act_here (setting linked.now out) (newest s.old.frames) (One op n)) s.old left.new s.new }
-    ensures finishes { CanFinish linked.now left.new s.new }
-    ensures goes { result ≡ true → left.new ≡ Ok Goes }
-    ensures limit { s.new.given.limit ≡ s.old.given.limit }
-{
-    match op {
-        0x2D => constant_here(linked, s, op, n, left),
-        0x5D => find_arm(linked, s, op, n, left),
-        0x60 => find_arm(linked, s, op, n, left),
-        0x61 => property_quick(linked, s, op, n, left),
-        0x62 => constant_here(linked, s, op, n, left),
-        0x63 => constant_here(linked, s, op, n, left),
-        0x66 => property_quick(linked, s, op, n, left),
-        0x6C => slot_arm(linked, s, op, n, left),
-        0x6D => slot_arm(linked, s, op, n, left),
-        0xC2 => count_arm(linked, s, op, n, left),
-        0xC3 => count_arm(linked, s, op, n, left),
-        _ => run_rare_numbered(linked, s, op, n, left),
     }
 }
 
@@ -265,37 +139,145 @@ fn run_rare_branch(
     }
 }
 
-/// A branch: what is common at once.
+/// An instruction, by its form.
+#[inline(never)]
+fn run_other(linked: &Linked, s: &mut State, instr: &Instr, left: &mut Result<Left, Stop>) -> bool
+    ghost out: { Outer }
+    requires run { CanRun linked.now out s.old instr.now }
+    requires equipped { IsEquipped linked.now s.old }
+    requires none { left.old ≡ Ok Goes }
+    ensures leaves { Leaves linked.now out (act_here (setting linked.now out) (newest s.old.frames) instr.now) s.old left.new s.new }
+    ensures finishes { CanFinish linked.now left.new s.new }
+    ensures goes { result ≡ true → left.new ≡ Ok Goes }
+    ensures limit { s.new.given.limit ≡ s.old.given.limit }
+{
+    match instr {
+        Instr::Plain(op) => run_rare_alone(linked, s, *op, left),
+        Instr::One(op, n) => run_rare_numbered(linked, s, *op, *n, left),
+        Instr::Two(op, n, count) => run_paired(linked, s, *op, *n, *count, left),
+        Instr::Branch(op, target) => run_rare_branch(linked, s, *op, *target, left),
+        Instr::Switch { default, cases } => goes(
+            run_switch(linked, s, *default, cases.as_slice()),
+            left,
+        ),
+        Instr::Byte(n) => goes(run_byte(linked, s, *n), left),
+        Instr::Short(n) => goes(run_short(linked, s, *n), left),
+        Instr::ScopeObject(n) => goes(run_scope_object(linked, s, *n), left),
+        Instr::Debug {
+            kind,
+            name,
+            reg,
+            extra,
+        } => goes(run_debug(linked, s, *kind, *name, *reg, *extra), left),
+    }
+}
+
+/// `pushbyte`, or an instruction of another form.
 #[inline(always)]
-fn run_branch(
+fn run_byte_here(
     linked: &Linked,
     s: &mut State,
-    op: u8,
-    target: u32,
+    instr: &Instr,
     left: &mut Result<Left, Stop>,
 ) -> bool
     ghost out: { Outer }
-    requires run { CanRun linked.now out s.old (Branch op target) }
+    requires run { CanRun linked.now out s.old instr.now }
     requires equipped { IsEquipped linked.now s.old }
     requires none { left.old ≡ Ok Goes }
-    ensures leaves { Leaves linked.now out (act_here (setting linked.now out) (newest s.old.frames) (Branch op target)) s.old left.new s.new }
+    ensures leaves { Leaves linked.now out (act_here (setting linked.now out) (newest s.old.frames) instr.now) s.old left.new s.new }
+    ensures finishes { CanFinish linked.now left.new s.new }
+    ensures goes { result ≡ true → left.new ≡ Ok Goes }
+    ensures limit { s.new.given.limit ≡ s.old.given.limit }
+{
+    match instr {
+        Instr::Byte(n) => goes(run_byte(linked, s, *n), left),
+        _ => run_other(linked, s, instr, left),
+    }
+}
+
+/// What is common, by its opcode, in one table; all else by its form.
+#[inline(always)]
+fn run_common(
+    linked: &Linked,
+    s: &mut State,
+    op: u8,
+    instr: &Instr,
+    left: &mut Result<Left, Stop>,
+) -> bool
+    ghost out: { Outer }
+    requires run { CanRun linked.now out s.old instr.now }
+    requires opcode { op ≡ opcode instr.now }
+    requires equipped { IsEquipped linked.now s.old }
+    requires none { left.old ≡ Ok Goes }
+    ensures leaves { Leaves linked.now out (act_here (setting linked.now out) (newest s.old.frames) instr.now) s.old left.new s.new }
     ensures finishes { CanFinish linked.now left.new s.new }
     ensures goes { result ≡ true → left.new ≡ Ok Goes }
     ensures limit { s.new.given.limit ≡ s.old.given.limit }
 {
     match op {
-        0x0C => first_branch_quick(linked, s, op, target, left),
-        0x0D => first_branch_quick(linked, s, op, target, left),
-        0x0E => first_branch_quick(linked, s, op, target, left),
-        0x0F => first_branch_quick(linked, s, op, target, left),
-        0x10 => first_branch_here(linked, s, op, target, left),
-        0x11 => first_branch_here(linked, s, op, target, left),
-        0x12 => first_branch_here(linked, s, op, target, left),
-        0x15 => last_branch_quick(linked, s, op, target, left),
-        0x16 => last_branch_quick(linked, s, op, target, left),
-        0x17 => last_branch_quick(linked, s, op, target, left),
-        0x18 => last_branch_quick(linked, s, op, target, left),
-        _ => run_rare_branch(linked, s, op, target, left),
+        0x09 => control_here(linked, s, op, left),
+        0x0C => first_branch_quick(linked, s, op, number_of(instr), left),
+        0x0D => first_branch_quick(linked, s, op, number_of(instr), left),
+        0x0E => first_branch_quick(linked, s, op, number_of(instr), left),
+        0x0F => first_branch_quick(linked, s, op, number_of(instr), left),
+        0x10 => first_branch_here(linked, s, op, number_of(instr), left),
+        0x11 => first_branch_here(linked, s, op, number_of(instr), left),
+        0x12 => first_branch_here(linked, s, op, number_of(instr), left),
+        0x15 => last_branch_quick(linked, s, op, number_of(instr), left),
+        0x16 => last_branch_quick(linked, s, op, number_of(instr), left),
+        0x17 => last_branch_quick(linked, s, op, number_of(instr), left),
+        0x18 => last_branch_quick(linked, s, op, number_of(instr), left),
+        0x20 => push_arm(linked, s, op, left),
+        0x21 => push_arm(linked, s, op, left),
+        0x26 => push_arm(linked, s, op, left),
+        0x27 => push_arm(linked, s, op, left),
+        0x29 => push_arm(linked, s, op, left),
+        0x2A => push_arm(linked, s, op, left),
+        0x2B => push_arm(linked, s, op, left),
+        0x2D => constant_here(linked, s, op, number_of(instr), left),
+        0x46 => property_call_arm(linked, s, op, number_of(instr), second_of(instr), left),
+        0x47 => return_arm(linked, s, op, left),
+        0x48 => return_arm(linked, s, op, left),
+        0x4F => property_call_arm(linked, s, op, number_of(instr), second_of(instr), left),
+        0x5D => find_arm(linked, s, op, number_of(instr), left),
+        0x60 => find_arm(linked, s, op, number_of(instr), left),
+        0x61 => property_quick(linked, s, op, number_of(instr), left),
+        0x62 => constant_here(linked, s, op, number_of(instr), left),
+        0x63 => constant_here(linked, s, op, number_of(instr), left),
+        0x66 => property_quick(linked, s, op, number_of(instr), left),
+        0x6C => slot_arm(linked, s, op, number_of(instr), left),
+        0x6D => slot_arm(linked, s, op, number_of(instr), left),
+        0x73 => convert_quick(linked, s, op, left),
+        0x74 => convert_quick(linked, s, op, left),
+        0x75 => convert_quick(linked, s, op, left),
+        0x91 => single_arm(linked, s, op, left),
+        0x93 => single_arm(linked, s, op, left),
+        0x96 => single_arm(linked, s, op, left),
+        0xA0 => double_quick(linked, s, op, left),
+        0xA1 => double_quick(linked, s, op, left),
+        0xA2 => double_quick(linked, s, op, left),
+        0xA5 => double_quick(linked, s, op, left),
+        0xA6 => double_quick(linked, s, op, left),
+        0xA7 => double_quick(linked, s, op, left),
+        0xA8 => double_quick(linked, s, op, left),
+        0xA9 => double_quick(linked, s, op, left),
+        0xAA => double_quick(linked, s, op, left),
+        0xC0 => single_arm(linked, s, op, left),
+        0xC1 => single_arm(linked, s, op, left),
+        0xC2 => count_arm(linked, s, op, number_of(instr), left),
+        0xC3 => count_arm(linked, s, op, number_of(instr), left),
+        0xC5 => double_quick(linked, s, op, left),
+        0xC6 => double_quick(linked, s, op, left),
+        0xC7 => double_quick(linked, s, op, left),
+        0xD0 => local_arm(linked, s, op, left),
+        0xD1 => local_arm(linked, s, op, left),
+        0xD2 => local_arm(linked, s, op, left),
+        0xD3 => local_arm(linked, s, op, left),
+        0xD4 => local_arm(linked, s, op, left),
+        0xD5 => local_arm(linked, s, op, left),
+        0xD6 => local_arm(linked, s, op, left),
+        0xD7 => local_arm(linked, s, op, left),
+        _ => run_other(linked, s, instr, left),
     }
 }
 
@@ -316,23 +298,8 @@ pub(crate) fn run_instr(
     ensures goes { result ≡ true → left.new ≡ Ok Goes }
     ensures limit { s.new.given.limit ≡ s.old.given.limit }
 {
-    match instr {
-        Instr::Plain(op) => run_alone(linked, s, *op, left),
-        Instr::One(op, n) => run_numbered(linked, s, *op, *n, left),
-        Instr::Two(op, n, count) => run_paired(linked, s, *op, *n, *count, left),
-        Instr::Branch(op, target) => run_branch(linked, s, *op, *target, left),
-        Instr::Switch { default, cases } => goes(
-            run_switch(linked, s, *default, cases.as_slice()),
-            left,
-        ),
-        Instr::Byte(n) => goes(run_byte(linked, s, *n), left),
-        Instr::Short(n) => goes(run_short(linked, s, *n), left),
-        Instr::ScopeObject(n) => goes(run_scope_object(linked, s, *n), left),
-        Instr::Debug {
-            kind,
-            name,
-            reg,
-            extra,
-        } => goes(run_debug(linked, s, *kind, *name, *reg, *extra), left),
+    match opcode_of(instr) {
+        Some(op) => run_common(linked, s, op, instr, left),
+        None => run_byte_here(linked, s, instr, left),
     }
 }

@@ -5,6 +5,7 @@ mod arms;
 mod dispatch;
 mod groups;
 mod holding;
+mod parts;
 mod quick;
 
 pub use holding::{Held, hold, run_held, run_newest};
