@@ -1,0 +1,4 @@
+pub mod SlotRepeats
+pub mod SidedRepeats
+pub mod Counting
+pub mod Cyclic
