@@ -5,7 +5,7 @@ use Rattle.std.proofs.lemmas.List.{get_or_default, length-map}
 use Rattle.abc_items.specs.Methods.{methods_with_bodies}
 use Rattle.abc_items.specs.Parts.{body_at, no_body, no_script, script_at}
 use Rattle.abc_program.specs.Owners.{body_of}
-use Rattle.abc_rules.proofs.Pairs.{first_hit}
+use Rattle.abc_items.proofs.Pairs.{first_hit}
 use Rattle.abc_stacks.specs.declared.records.Size.{Size}
 use Rattle.abc_makers.specs.Turns.{kept}
 use Rattle.abc_tables.specs.declared.classes.Script.{Script}

@@ -8,7 +8,7 @@ use Rattle.abc_heirs.specs.HostClass.{HostClass}
 use Rattle.abc_heirs.specs.HostClass.TheVariants as hosts
 use Rattle.abc_heirs.specs.Ways.{IsFalling}
 use Rattle.abc_rules.specs.Abc.{Abc}
-use Rattle.abc_rules.proofs.Pairs.{first_found, first_hit}
+use Rattle.abc_items.proofs.Pairs.{first_found, first_hit}
 use Rattle.abc_program.specs.Numbering.{IsNumbering, part_at}
 use Rattle.abc_program.specs.Parts.{HasLayout, parent}
 use Rattle.abc_program.specs.Places.{base_of, host_number, key_eq, key_with, part_key, place_of, place_under}

@@ -1,6 +1,4 @@
-pub mod Pairs
 pub mod SlotRepeats
 pub mod SidedRepeats
 pub mod Counting
 pub mod Cyclic
-pub mod Within

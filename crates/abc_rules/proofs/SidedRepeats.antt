@@ -21,7 +21,7 @@ use Rattle.abc_rules.specs.declared.same_name.SidedKey.{SidedKey}
 use Rattle.abc_rules.specs.Clashes.{TellsSides, first_of_both, first_of_name, is_clash_of}
 use Rattle.abc_rules.specs.Repeats.{side_of, opposite, sided_key, sided_eq, keys_clash, no_key, no_sided, clashes_with, is_elsewhere, clashes_at}
 use Rattle.abc_items.specs.Traits.{any_pair, are_accessors, names_clash}
-use Rattle.abc_rules.proofs.Pairs.{first_found, first_hit, first_low, pair_found, pair_makes, pair_map}
+use Rattle.abc_items.proofs.Pairs.{first_found, first_hit, first_low, pair_found, pair_makes, pair_map}
 
 both : (a b : Bool) → (a && b) ≡ true → (a ≡ true) × (b ≡ true)
 both true b e = (refl, e)

@@ -6,7 +6,7 @@ use Rattle.abc_items.specs.Index.{first}
 use Rattle.abc_items.specs.TraitInfo.{TraitInfo}
 use Rattle.abc_rules.specs.Repeats.{is_repeat}
 use Rattle.abc_items.specs.Traits.{any_pair, slot_id, slots_clash}
-use Rattle.abc_rules.proofs.Pairs.{first_found, first_hit, first_low, pair_found, pair_makes, pair_map}
+use Rattle.abc_items.proofs.Pairs.{first_found, first_hit, first_low, pair_found, pair_makes, pair_map}
 
 abbrev ids_clash : ℕ → ℕ → Bool
 ids_clash a b = not (nat_eq a 0) && nat_eq a b

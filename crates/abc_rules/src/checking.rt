@@ -45,7 +45,7 @@ fn check_names(alloc: Global, meanings: &Meanings<'_>) -> Result<(), LinkError>
 }
 
 /// Tries BaseCycle.
-#[tactic(auto, using(crate::proofs::Within::bases_are_graph, crate::proofs::Within::interfaces_are_graph, crate::proofs::Within::as_many_bases, crate::proofs::Within::as_many_interfaces))]
+#[tactic(auto, using(abc_items::proofs::Within::bases_are_graph, abc_items::proofs::Within::interfaces_are_graph, abc_items::proofs::Within::as_many_bases, abc_items::proofs::Within::as_many_interfaces))]
 fn check_base_cycle(alloc: Global, meanings: &Meanings<'_>) -> Result<(), LinkError>
     requires few { IsFew meanings.now.abc.now }
     requires before { AllHoldBefore meanings.now.abc.now 4 }

@@ -258,7 +258,7 @@ impl SameName<'_> {
     }
 
     /// Whether two traits of a table clash. Of fewer than two none do.
-    #[tactic(auto, using(crate::proofs::Pairs::few_pairs))]
+    #[tactic(auto, using(abc_items::proofs::Pairs::few_pairs))]
     fn is_name_shared(&self, alloc: Global, table: &[TraitInfo]) -> Result<bool, NoMemory>
         ensures { IfOk result (λ b. b ≡ any_pair (names_clash self.now.names.abc.now) table.now) }
     {

@@ -11,7 +11,7 @@ use Rattle.abc_program.specs.Linked.{IsLinkedFile, LinkedFile}
 use Rattle.abc_program.specs.Owners.{body_of}
 use Rattle.abc_items.specs.Methods.{methods_with_bodies}
 use Rattle.abc_items.specs.Parts.{body_at, no_body}
-use Rattle.abc_rules.proofs.Pairs.{first_found, first_hit}
+use Rattle.abc_items.proofs.Pairs.{first_found, first_hit}
 use Rattle.abc_tables.specs.Classes.{sizes_of}
 use Rattle.abc_tables.specs.Files.{Fits}
 use Rattle.abc_tables.specs.declared.code.Body.{Body}

@@ -20,7 +20,7 @@ use Rattle.abc_items.specs.Instance.{Instance}
 use Rattle.abc_items.specs.Abc.{Abc}
 use Rattle.abc_items.specs.TablesMethods.{has_flag}
 use Rattle.abc_items.specs.Bases.{base_graph, classes_named, interface_graph, interfaces_named, interfaces_of, is_interface, targets_of}
-use Rattle.abc_rules.proofs.Pairs.{first_hit}
+use Rattle.abc_items.proofs.Pairs.{first_hit}
 
 -- the host has no class of the file
 no_class_among : (hosts : List HostClass) (t : List ℕ) (k : ℕ) → host_among hosts t ≡ Some (named.Class k) → ⊥
