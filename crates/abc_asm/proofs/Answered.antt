@@ -2,28 +2,28 @@
 use Rattle.std.proofs.Common.{◌≡◌, ℕ, suc, ◌≤◌, ◌<◌, ◌^◌, inl, inr, Bool, true, false, Some, None, cond, nat_eq, List, [], ◌∷◌, length, map, Ok, Err, refl, sym, ap, subst, ◌∙◌, arith}
 use Rattle.std.specs.declared.option.Option.{Option}
 use Rattle.std.specs.declared.result.Result.{Result}
-use Rattle.abc_text.specs.declared.reason.AsmReason.{AsmReason}
-use Rattle.abc_text.specs.declared.reason.AsmReason.TheVariants as reasons
-use Rattle.abc_text.specs.Reasons.{least}
-use Rattle.abc_text.specs.Words.{place_of}
-use Rattle.abc_tables.specs.declared.tables.Abc.{Abc}
-use Rattle.abc_tables.specs.declared.tables.Sizes.{Sizes}
-use Rattle.abc_tables.specs.Classes.{sizes_of}
-use Rattle.abc_tables.specs.Files.{file_bytes}
-use Rattle.abc_rowparts.specs.Assembly as rows
-use Rattle.abc_rowparts.specs.Assembly.{assembles, ended, misplaced}
-use Rattle.abc_rowparts.specs.Law.{Match}
-use Rattle.abc_rowparts.specs.Lines.{Row}
-use Rattle.abc_rowparts.specs.Rows.{Fault, Faults, Rows, fault, unless, ◌>>=◌}
-use Rattle.abc_rowparts.specs.Wordlines.{count_all, shows_operands}
-use Rattle.abc_rowparts.proofs.Determined.{assembled, refused}
-use Rattle.abc_lines.specs.Answers.{IsAssemblyFault, IsAssemblyOf, IsListed, abc_of, instance_in, metadata_lines, outline_of}
-use Rattle.abc_lines.specs.File.{IsBalanced, Outline, body_below, body_lines, classes, faults, file, instance_below, instance_lines, metadata, method_below, methods, pools, scripts, traits}
-use Rattle.abc_lines.specs.Texts.{instances_in, rows_of, sizes_in}
-use Rattle.abc_lines.proofs.Answering.{text_decided}
-use Rattle.abc_lines.proofs.Sizing.{are_counted}
-use Rattle.abc_lines.proofs.Whole.{balanced, file-lawful, rows_determined, version_clean, version_found}
-use Rattle.abc_asmparts.proofs.Alike.{Reading, as_other}
+use Rattle.abc_text_lines.specs.declared.reason.AsmReason.{AsmReason}
+use Rattle.abc_text_lines.specs.declared.reason.AsmReason.TheVariants as reasons
+use Rattle.abc_text_lines.specs.Reasons.{least}
+use Rattle.abc_text_lines.specs.Words.{place_of}
+use Rattle.abc_file_types.specs.declared.tables.Abc.{Abc}
+use Rattle.abc_file_types.specs.declared.tables.Sizes.{Sizes}
+use Rattle.abc_file_types.specs.Classes.{sizes_of}
+use Rattle.abc_file_types.specs.Files.{file_bytes}
+use Rattle.abc_text_lines.specs.Assembly as rows
+use Rattle.abc_text_lines.specs.Assembly.{assembles, ended, misplaced}
+use Rattle.abc_text_lines.specs.Law.{Match}
+use Rattle.abc_text_lines.specs.Lines.{Row}
+use Rattle.abc_text_lines.specs.Rows.{Fault, Faults, Rows, fault, unless, ◌>>=◌}
+use Rattle.abc_text_lines.specs.Wordlines.{count_all, shows_operands}
+use Rattle.abc_text_lines.proofs.Determined.{assembled, refused}
+use Rattle.abc_text_lines.specs.Answers.{IsAssemblyFault, IsAssemblyOf, IsListed, abc_of, instance_in, metadata_lines, outline_of}
+use Rattle.abc_text_lines.specs.File.{IsBalanced, Outline, body_below, body_lines, classes, faults, file, instance_below, instance_lines, metadata, method_below, methods, pools, scripts, traits}
+use Rattle.abc_text_lines.specs.Texts.{instances_in, rows_of, sizes_in}
+use Rattle.abc_text_lines.proofs.Answering.{text_decided}
+use Rattle.abc_text_lines.proofs.Sizing.{are_counted}
+use Rattle.abc_text_lines.proofs.Whole.{balanced, file-lawful, rows_determined, version_clean, version_found}
+use Rattle.abc_asm.proofs.Alike.{Reading, as_other}
 use Rattle.abc_asm.specs.Whole.{begun, file_read, text_read}
 use Rattle.abc_asm.proofs.Filed.{file_is}
 

@@ -2,33 +2,33 @@
 use Rattle.std.proofs.Common.{◌≡◌, ℕ, inl, inr, Bool, true, false, cond, nat_eq, List, [], ◌∷◌, Ok, Err, Some, None, refl, sym, ap, subst, ◌∙◌, arith}
 use Rattle.std.specs.declared.option.Option.{Option}
 use Rattle.std.specs.declared.result.Result.{Result}
-use Rattle.abc_text.specs.declared.reason.AsmReason.{AsmReason}
-use Rattle.abc_text.specs.declared.reason.AsmReason.TheVariants as reasons
-use Rattle.abc_text.specs.declared.word.Word.{Word}
-use Rattle.abc_text.specs.declared.word.Word.TheVariants as words
-use Rattle.abc_text.specs.Reasons.{least}
-use Rattle.abc_text.specs.Words.{place_of}
-use Rattle.abc_text.proofs.Bools.{split_bool}
-use Rattle.abc_tables.specs.declared.tables.Abc.{Abc}
-use Rattle.abc_rowparts.specs.Assembly.{misplaced}
-use Rattle.abc_rowparts.specs.Firsts.{told}
-use Rattle.abc_rowparts.specs.Lines.{Label, Row}
-use Rattle.abc_rowparts.specs.Rows.{Fault, Faults, fault, unless}
-use Rattle.abc_rowparts.proofs.Many.{eq_true}
-use Rattle.abc_rowparts.proofs.Wordlines.{same_word}
-use Rattle.abc_lines.specs.File.{faults, own}
-use Rattle.abc_lines.specs.Lineforms.{version_line}
-use Rattle.abc_tokens.specs.Walks.{tokens_of}
-use Rattle.abc_tokens.specs.declared.token.Token.{Token}
-use Rattle.abc_operands.specs.Joined.{line_result, mapped}
-use Rattle.abc_otherlines.specs.Otherlines.{as_version}
-use Rattle.abc_asmreader.specs.declared.error.AsmError.{AsmError}
-use Rattle.abc_asmreader.specs.declared.error.AsmError.TheVariants as errors
-use Rattle.abc_asmreader.specs.declared.reader.Reader.{Reader}
-use Rattle.abc_asmreader.specs.declared.reader.Taken.{Taken}
-use Rattle.abc_asmreader.specs.Parts.{IsPlain}
-use Rattle.abc_asmreader.specs.Reading.{IsBroken, labels_now, may_repeat, row_of, rows_left, word_next}
-use Rattle.abc_asmreader.proofs.Lone.{broken_least, lone_faults}
+use Rattle.abc_text_lines.specs.declared.reason.AsmReason.{AsmReason}
+use Rattle.abc_text_lines.specs.declared.reason.AsmReason.TheVariants as reasons
+use Rattle.abc_text_lines.specs.declared.word.Word.{Word}
+use Rattle.abc_text_lines.specs.declared.word.Word.TheVariants as words
+use Rattle.abc_text_lines.specs.Reasons.{least}
+use Rattle.abc_text_lines.specs.Words.{place_of}
+use Rattle.abc_text_lines.proofs.Bools.{split_bool}
+use Rattle.abc_file_types.specs.declared.tables.Abc.{Abc}
+use Rattle.abc_text_lines.specs.Assembly.{misplaced}
+use Rattle.abc_text_lines.specs.Firsts.{told}
+use Rattle.abc_text_lines.specs.Lines.{Label, Row}
+use Rattle.abc_text_lines.specs.Rows.{Fault, Faults, fault, unless}
+use Rattle.abc_text_lines.proofs.Many.{eq_true}
+use Rattle.abc_text_lines.proofs.Wordlines.{same_word}
+use Rattle.abc_text_lines.specs.File.{faults, own}
+use Rattle.abc_text_lines.specs.Lineforms.{version_line}
+use Rattle.abc_text_tokens.specs.Walks.{tokens_of}
+use Rattle.abc_text_tokens.specs.declared.token.Token.{Token}
+use Rattle.abc_text_operands.specs.Joined.{line_result, mapped}
+use Rattle.abc_text_operands.specs.Otherlines.{as_version}
+use Rattle.abc_text_reader.specs.declared.error.AsmError.{AsmError}
+use Rattle.abc_text_reader.specs.declared.error.AsmError.TheVariants as errors
+use Rattle.abc_text_reader.specs.declared.reader.Reader.{Reader}
+use Rattle.abc_text_reader.specs.declared.reader.Taken.{Taken}
+use Rattle.abc_text_reader.specs.Parts.{IsPlain}
+use Rattle.abc_text_reader.specs.Reading.{IsBroken, labels_now, may_repeat, row_of, rows_left, word_next}
+use Rattle.abc_text_reader.proofs.Lone.{broken_least, lone_faults}
 use Rattle.abc_asm.specs.Whole.{IsMisplaced, ReadsVersion, begun, out_of_order}
 use Rattle.abc_asm.proofs.Known.{decided}
 use Rattle.abc_asm.proofs.Misplaced.{broken_placed, known_placed, unknown_placed}

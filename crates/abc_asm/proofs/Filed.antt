@@ -1,36 +1,36 @@
 -- A file is read as the definitions read it.
 use Rattle.std.proofs.Common.{◌≡◌, ℕ, inl, inr, nat_eq, List, [], ◌∷◌, map, Ok, Err, Some, None, refl, sym, ap, ◌∙◌}
 use Rattle.std.specs.declared.option.Option.{Option}
-use Rattle.abc_text.specs.declared.reason.AsmReason.{AsmReason}
-use Rattle.abc_text.specs.declared.word.Word.{Word}
-use Rattle.abc_text.specs.declared.word.Word.TheVariants as words
-use Rattle.abc_text.specs.Reasons.{least}
-use Rattle.abc_text.specs.Words.{place_of}
-use Rattle.abc_text.proofs.Bools.{split_bool}
-use Rattle.abc_tables.specs.declared.classes.ClassInfo.{ClassInfo}
-use Rattle.abc_tables.specs.declared.classes.Script.{Script}
-use Rattle.abc_tables.specs.declared.code.Body.{Body}
-use Rattle.abc_tables.specs.declared.methods.Method.{Method}
-use Rattle.abc_tables.specs.declared.tables.Abc.{Abc}
-use Rattle.abc_tables.specs.declared.tables.Sizes.{Sizes}
-use Rattle.abc_tables.specs.declared.traits.TraitInfo.{TraitInfo}
-use Rattle.abc_rowparts.specs.Lines.{Row}
-use Rattle.abc_rowparts.specs.Operands.{Operands}
-use Rattle.abc_rowparts.specs.Rows.{Faults, optional, pair_reads, topped, unless, ◌>>=◌}
-use Rattle.abc_rowparts.specs.Wordlines.{always, flat, line}
-use Rattle.abc_lines.specs.Answers as answers
-use Rattle.abc_lines.specs.Answers.{initializer_in, joined}
-use Rattle.abc_lines.specs.File as file
-use Rattle.abc_lines.specs.File.{faults}
-use Rattle.abc_lines.specs.Lineforms as forms
-use Rattle.abc_operands.specs.declared.lines.BodyHead.{BodyHead}
-use Rattle.abc_operands.specs.declared.lines.InstanceHead.{InstanceHead}
-use Rattle.abc_operands.specs.declared.lines.MethodHead.{MethodHead}
-use Rattle.abc_asmreader.specs.Parts.{item_of, items_read, lone}
-use Rattle.abc_asmparts.specs.Below.{body_below, body_made, body_of, class_of, initializer_below, initializer_of, instance_below, instance_made, instance_of, metadata_below, metadata_of, method_below, method_made, method_of, script_of, traits_below}
-use Rattle.abc_asmparts.specs.declared.classes.InstanceBelow.{InstanceBelow}
-use Rattle.abc_asmparts.proofs.Alike.{Reading, as_other, many_is, pair_is}
-use Rattle.abc_asmparts.proofs.Bodying.{as_same, flat_is, full_below, traits_are}
+use Rattle.abc_text_lines.specs.declared.reason.AsmReason.{AsmReason}
+use Rattle.abc_text_lines.specs.declared.word.Word.{Word}
+use Rattle.abc_text_lines.specs.declared.word.Word.TheVariants as words
+use Rattle.abc_text_lines.specs.Reasons.{least}
+use Rattle.abc_text_lines.specs.Words.{place_of}
+use Rattle.abc_text_lines.proofs.Bools.{split_bool}
+use Rattle.abc_file_types.specs.declared.classes.ClassInfo.{ClassInfo}
+use Rattle.abc_file_types.specs.declared.classes.Script.{Script}
+use Rattle.abc_file_types.specs.declared.code.Body.{Body}
+use Rattle.abc_file_types.specs.declared.methods.Method.{Method}
+use Rattle.abc_file_types.specs.declared.tables.Abc.{Abc}
+use Rattle.abc_file_types.specs.declared.tables.Sizes.{Sizes}
+use Rattle.abc_file_types.specs.declared.traits.TraitInfo.{TraitInfo}
+use Rattle.abc_text_lines.specs.Lines.{Row}
+use Rattle.abc_text_lines.specs.Operands.{Operands}
+use Rattle.abc_text_lines.specs.Rows.{Faults, optional, pair_reads, topped, unless, ◌>>=◌}
+use Rattle.abc_text_lines.specs.Wordlines.{always, flat, line}
+use Rattle.abc_text_lines.specs.Answers as answers
+use Rattle.abc_text_lines.specs.Answers.{initializer_in, joined}
+use Rattle.abc_text_lines.specs.File as file
+use Rattle.abc_text_lines.specs.File.{faults}
+use Rattle.abc_text_lines.specs.Lineforms as forms
+use Rattle.abc_text_operands.specs.declared.lines.BodyHead.{BodyHead}
+use Rattle.abc_text_operands.specs.declared.lines.InstanceHead.{InstanceHead}
+use Rattle.abc_text_operands.specs.declared.lines.MethodHead.{MethodHead}
+use Rattle.abc_text_reader.specs.Parts.{item_of, items_read, lone}
+use Rattle.abc_asm.specs.Below.{body_below, body_made, body_of, class_of, initializer_below, initializer_of, instance_below, instance_made, instance_of, metadata_below, metadata_of, method_below, method_made, method_of, script_of, traits_below}
+use Rattle.abc_asm.specs.declared.classes.InstanceBelow.{InstanceBelow}
+use Rattle.abc_asm.proofs.Alike.{Reading, as_other, many_is, pair_is}
+use Rattle.abc_asm.proofs.Bodying.{as_same, flat_is, full_below, traits_are}
 use Rattle.abc_asm.specs.declared.assembling.Definitions.{Definitions}
 use Rattle.abc_asm.specs.Whole.{DefinitionLists, abc_of, definitions_made, definitions_read, file_read, pools_made, pools_read}
 

@@ -1,12 +1,12 @@
 -- The words of which a line is not refused as Word.
 use Rattle.std.proofs.Common.{◌≡◌, ℕ, ◌⊎◌, inl, inr, Some, None, refl, sym, ap, ◌∙◌}
 use Rattle.std.specs.declared.option.Option.{Option}
-use Rattle.abc_text.specs.declared.reason.AsmReason.TheVariants as reasons
-use Rattle.abc_text.specs.declared.word.Word.{Word}
-use Rattle.abc_text.specs.declared.word.Word.TheVariants as words
-use Rattle.abc_tables.specs.declared.opcodes.Form.{Form}
-use Rattle.abc_tables.specs.Opcodes.{form_at, form_in, info_at}
-use Rattle.abc_tables.specs.declared.opcodes.OpInfo.{OpInfo}
+use Rattle.abc_text_lines.specs.declared.reason.AsmReason.TheVariants as reasons
+use Rattle.abc_text_lines.specs.declared.word.Word.{Word}
+use Rattle.abc_text_lines.specs.declared.word.Word.TheVariants as words
+use Rattle.abc_file_types.specs.declared.opcodes.Form.{Form}
+use Rattle.abc_file_types.specs.Opcodes.{form_at, form_in, info_at}
+use Rattle.abc_file_types.specs.declared.opcodes.OpInfo.{OpInfo}
 use Rattle.abc_asm.specs.Whole.{by_form, out_of_order}
 
 abbrev pub IsKnown : Word → Type 0

@@ -2,30 +2,30 @@
 use Rattle.std.proofs.Common.{◌≡◌, ℕ, zero, suc, ℤ, pos, negsuc, ◌^◌, Bool, true, false, cond, ◌&&◌, nat_le, nat_lt, nat_eq, List, [], ◌∷◌, ◌++◌, length, Ok, Err, Some, None, refl, ap, ◌∙◌}
 use Rattle.std.specs.declared.option.Option.{Option}
 use Rattle.std.specs.declared.result.Result.{Result}
-use Rattle.abc_text.specs.declared.reason.AsmReason.{AsmReason}
-use Rattle.abc_text.specs.declared.reason.AsmReason.TheVariants as reasons
-use Rattle.abc_text.specs.declared.word.Word.{Word}
-use Rattle.abc_text.specs.declared.word.Word.TheVariants as words
-use Rattle.abc_text.specs.Reasons.{rank}
-use Rattle.abc_text.specs.Tokens.{Token, Bare, Quoted}
-use Rattle.abc_text.proofs.Bools.{and_true}
-use Rattle.abc_tables.specs.declared.opcodes.Form.{Form}
-use Rattle.abc_tables.specs.declared.opcodes.Form.TheVariants as shapes
-use Rattle.abc_tables.specs.declared.names.MultinameKind.{MultinameKind}
-use Rattle.abc_tables.specs.declared.names.MultinameKind.TheVariants as kinds
-use Rattle.abc_tables.specs.declared.methods.ValueKind.{ValueKind}
-use Rattle.abc_tables.specs.declared.methods.ValueKind.TheVariants as values
-use Rattle.abc_tables.specs.declared.names.NsKind.TheVariants as spaces
-use Rattle.abc_tables.specs.declared.tables.Sizes.{Sizes}
-use Rattle.abc_tables.specs.declared.traits.TraitKind.{TraitKind}
-use Rattle.abc_tables.specs.declared.traits.TraitKind.TheVariants as traits
-use Rattle.abc_tables.specs.Opcodes.{form_at}
-use Rattle.abc_rowparts.specs.Lines.{Label}
-use Rattle.abc_rowparts.specs.Wordlines.{lookup}
-use Rattle.abc_rowparts.specs.Operands.{Operand, Operands, any_number, any_signed, by, checked, eight, eight_in, entry_upto, exactly, found_place, hex_bytes, index_below, index_upto, is_name, is_numeral, kind, found_kind, negative, none, number_below, number_of, numeral, place_of_label, reasons_in, reasons_of, several, several_faults, signed_between, signed_of, target, tested, text, u30, ◌&◌}
-use Rattle.abc_lines.specs.File.{own}
-use Rattle.abc_lines.specs.Kinds.{multiname_kind, multiname_word, multiname_words, space_kind, space_word, space_words, trait_kind, trait_word, trait_words, value_kind, value_word, value_words}
-use Rattle.abc_lines.specs.Lineforms as forms
+use Rattle.abc_text_lines.specs.declared.reason.AsmReason.{AsmReason}
+use Rattle.abc_text_lines.specs.declared.reason.AsmReason.TheVariants as reasons
+use Rattle.abc_text_lines.specs.declared.word.Word.{Word}
+use Rattle.abc_text_lines.specs.declared.word.Word.TheVariants as words
+use Rattle.abc_text_lines.specs.Reasons.{rank}
+use Rattle.abc_text_lines.specs.Tokens.{Token, Bare, Quoted}
+use Rattle.abc_text_lines.proofs.Bools.{and_true}
+use Rattle.abc_file_types.specs.declared.opcodes.Form.{Form}
+use Rattle.abc_file_types.specs.declared.opcodes.Form.TheVariants as shapes
+use Rattle.abc_file_types.specs.declared.names.MultinameKind.{MultinameKind}
+use Rattle.abc_file_types.specs.declared.names.MultinameKind.TheVariants as kinds
+use Rattle.abc_file_types.specs.declared.methods.ValueKind.{ValueKind}
+use Rattle.abc_file_types.specs.declared.methods.ValueKind.TheVariants as values
+use Rattle.abc_file_types.specs.declared.names.NsKind.TheVariants as spaces
+use Rattle.abc_file_types.specs.declared.tables.Sizes.{Sizes}
+use Rattle.abc_file_types.specs.declared.traits.TraitKind.{TraitKind}
+use Rattle.abc_file_types.specs.declared.traits.TraitKind.TheVariants as traits
+use Rattle.abc_file_types.specs.Opcodes.{form_at}
+use Rattle.abc_text_lines.specs.Lines.{Label}
+use Rattle.abc_text_lines.specs.Wordlines.{lookup}
+use Rattle.abc_text_lines.specs.Operands.{Operand, Operands, any_number, any_signed, by, checked, eight, eight_in, entry_upto, exactly, found_place, hex_bytes, index_below, index_upto, is_name, is_numeral, kind, found_kind, negative, none, number_below, number_of, numeral, place_of_label, reasons_in, reasons_of, several, several_faults, signed_between, signed_of, target, tested, text, u30, ◌&◌}
+use Rattle.abc_text_lines.specs.File.{own}
+use Rattle.abc_text_lines.specs.Kinds.{multiname_kind, multiname_word, multiname_words, space_kind, space_word, space_words, trait_kind, trait_word, trait_words, value_kind, value_word, value_words}
+use Rattle.abc_text_lines.specs.Lineforms as forms
 use Rattle.abc_asm.proofs.Known.{IsKnown}
 
 abbrev pub is_late : AsmReason → Bool

@@ -1,3 +1,9 @@
+pub mod Counting
+pub mod Heads
+pub mod Alike
+pub mod Beneath
+pub mod Bodying
+pub mod Bodied
 pub mod Answered
 pub mod Begun
 pub mod Filed

@@ -2,29 +2,29 @@
 use Rattle.std.proofs.Common.{◌≡◌, ℕ, ◌^◌, Bool, true, false, cond, ◌&&◌, nat_le, List, [], ◌∷◌, ◌++◌, length, Ok, Err, Some, None, refl, ap, ◌∙◌}
 use Rattle.std.specs.declared.option.Option.{Option}
 use Rattle.std.specs.declared.result.Result.{Result}
-use Rattle.abc_text.specs.declared.reason.AsmReason.{AsmReason}
-use Rattle.abc_text.specs.declared.reason.AsmReason.TheVariants as reasons
-use Rattle.abc_text.specs.declared.word.Word.{Word}
-use Rattle.abc_text.specs.declared.word.Word.TheVariants as words
-use Rattle.abc_text.specs.Reasons.{least, lesser, rank}
-use Rattle.abc_tables.specs.declared.code.Handler.{Handler}
-use Rattle.abc_tables.specs.declared.code.Instr.{Instr}
-use Rattle.abc_tables.specs.declared.opcodes.Form.{Form}
-use Rattle.abc_tables.specs.declared.tables.Abc.{Abc}
-use Rattle.abc_tables.specs.declared.tables.Sizes.{Sizes}
-use Rattle.abc_tables.specs.declared.traits.TraitInfo.{TraitInfo}
-use Rattle.abc_tables.specs.CodeBytes.{code_len}
-use Rattle.abc_tables.specs.Opcodes.{form_at}
-use Rattle.abc_rowparts.specs.Assembly.{misplaced}
-use Rattle.abc_rowparts.specs.Lines.{Row}
-use Rattle.abc_rowparts.specs.Rows.{Fault, fault}
-use Rattle.abc_rowparts.specs.Wordlines.{faults_of, if_none, plain_faults, twice}
-use Rattle.abc_lines.specs.File as file
-use Rattle.abc_lines.specs.File.{count_unless, ends_body, extra, faults, long_code, others, own, rules}
-use Rattle.abc_lines.specs.Lineforms as forms
-use Rattle.abc_asmreader.specs.Reading.{may_repeat}
-use Rattle.abc_asmreader.proofs.Lone.{broken_least, no_extra, once_faults, whole_faults}
-use Rattle.abc_asmparts.proofs.Alike.{Reading}
+use Rattle.abc_text_lines.specs.declared.reason.AsmReason.{AsmReason}
+use Rattle.abc_text_lines.specs.declared.reason.AsmReason.TheVariants as reasons
+use Rattle.abc_text_lines.specs.declared.word.Word.{Word}
+use Rattle.abc_text_lines.specs.declared.word.Word.TheVariants as words
+use Rattle.abc_text_lines.specs.Reasons.{least, lesser, rank}
+use Rattle.abc_file_types.specs.declared.code.Handler.{Handler}
+use Rattle.abc_file_types.specs.declared.code.Instr.{Instr}
+use Rattle.abc_file_types.specs.declared.opcodes.Form.{Form}
+use Rattle.abc_file_types.specs.declared.tables.Abc.{Abc}
+use Rattle.abc_file_types.specs.declared.tables.Sizes.{Sizes}
+use Rattle.abc_file_types.specs.declared.traits.TraitInfo.{TraitInfo}
+use Rattle.abc_file_types.specs.CodeBytes.{code_len}
+use Rattle.abc_file_types.specs.Opcodes.{form_at}
+use Rattle.abc_text_lines.specs.Assembly.{misplaced}
+use Rattle.abc_text_lines.specs.Lines.{Row}
+use Rattle.abc_text_lines.specs.Rows.{Fault, fault}
+use Rattle.abc_text_lines.specs.Wordlines.{faults_of, if_none, plain_faults, twice}
+use Rattle.abc_text_lines.specs.File as file
+use Rattle.abc_text_lines.specs.File.{count_unless, ends_body, extra, faults, long_code, others, own, rules}
+use Rattle.abc_text_lines.specs.Lineforms as forms
+use Rattle.abc_text_reader.specs.Reading.{may_repeat}
+use Rattle.abc_text_reader.proofs.Lone.{broken_least, no_extra, once_faults, whole_faults}
+use Rattle.abc_asm.proofs.Alike.{Reading}
 use Rattle.abc_asm.proofs.Known.{IsKnown}
 use Rattle.abc_asm.proofs.Late.{all_late, is_late, late_append, own_late}
 

@@ -3,22 +3,22 @@ use Rattle.std.proofs.Common.{◌≡◌, ℕ, Bool, true, false, min, ◌≤◌,
 use Rattle.std.specs.Option.{IsSome, is_some}
 use Rattle.std.specs.declared.option.Option.{Option}
 use Rattle.std.specs.declared.result.Result.{Result}
-use Rattle.abc_text.specs.declared.reason.AsmReason.TheVariants as reasons
-use Rattle.abc_text.specs.declared.word.Word.{Word}
-use Rattle.abc_tables.specs.declared.tables.Abc.{Abc}
-use Rattle.abc_tables.specs.declared.tables.Sizes.{Sizes}
-use Rattle.abc_fits.specs.Lengths.{file_len}
-use Rattle.abc_fits.proofs.CanonicalLength.{file-len}
-use Rattle.abc_rowparts.specs.Assembly.{ended, misplaced}
-use Rattle.abc_rowparts.specs.Lines.{Row}
-use Rattle.abc_rowparts.specs.Rows.{Fault, Faults, fault, ◌>>=◌}
-use Rattle.abc_lines.specs.File.{faults}
-use Rattle.abc_lines.specs.Texts.{instances_in, rows_of, sizes_in}
-use Rattle.abc_asmreader.specs.declared.error.AsmError.{AsmError}
-use Rattle.abc_asmreader.specs.declared.error.AsmError.TheVariants as errors
-use Rattle.abc_asmreader.specs.declared.reader.Reader.{Reader}
-use Rattle.abc_asmreader.specs.Parts.{Gives, ReadsPart}
-use Rattle.abc_asmreader.specs.Reading.{Goes, rows_left, word_next}
+use Rattle.abc_text_lines.specs.declared.reason.AsmReason.TheVariants as reasons
+use Rattle.abc_text_lines.specs.declared.word.Word.{Word}
+use Rattle.abc_file_types.specs.declared.tables.Abc.{Abc}
+use Rattle.abc_file_types.specs.declared.tables.Sizes.{Sizes}
+use Rattle.abc_tables.specs.Lengths.{file_len}
+use Rattle.abc_tables.proofs.CanonicalLength.{file-len}
+use Rattle.abc_text_lines.specs.Assembly.{ended, misplaced}
+use Rattle.abc_text_lines.specs.Lines.{Row}
+use Rattle.abc_text_lines.specs.Rows.{Fault, Faults, fault, ◌>>=◌}
+use Rattle.abc_text_lines.specs.File.{faults}
+use Rattle.abc_text_lines.specs.Texts.{instances_in, rows_of, sizes_in}
+use Rattle.abc_text_reader.specs.declared.error.AsmError.{AsmError}
+use Rattle.abc_text_reader.specs.declared.error.AsmError.TheVariants as errors
+use Rattle.abc_text_reader.specs.declared.reader.Reader.{Reader}
+use Rattle.abc_text_reader.specs.Parts.{Gives, ReadsPart}
+use Rattle.abc_text_reader.specs.Reading.{Goes, rows_left, word_next}
 use Rattle.abc_asm.specs.Whole.{Assembles, IsMisplaced, ReadsVersion, begun, file_read, text_read}
 use Rattle.abc_asm.proofs.Answered.{read_fault, read_long, read_short}
 

@@ -1,1 +1,4 @@
+pub mod Counted
+pub mod Coming
+pub mod Below
 pub mod Whole

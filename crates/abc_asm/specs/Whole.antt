@@ -2,39 +2,39 @@
 use Rattle.std.specs.Prelude.{◌≡◌, ℕ, ℤ, nat_eq, List, [], ◌∷◌, length, Some, None, Ok, Err, if◌then◌else◌}
 use Rattle.std.specs.declared.option.Option.{Option}
 use Rattle.std.specs.declared.result.Result.{Result}
-use Rattle.abc_text.specs.declared.reason.AsmReason.{AsmReason}
-use Rattle.abc_text.specs.declared.reason.AsmReason.TheVariants as reasons
-use Rattle.abc_text.specs.declared.word.Word.{Word}
-use Rattle.abc_text.specs.declared.word.Word.TheVariants as words
-use Rattle.abc_text.specs.Reasons.{least}
-use Rattle.abc_text.specs.Words.{place_of}
-use Rattle.abc_tables.specs.declared.classes.ClassInfo.{ClassInfo}
-use Rattle.abc_tables.specs.declared.classes.Instance.{Instance}
-use Rattle.abc_tables.specs.declared.classes.Script.{Script}
-use Rattle.abc_tables.specs.declared.code.Body.{Body}
-use Rattle.abc_tables.specs.declared.methods.Metadata.{Metadata}
-use Rattle.abc_tables.specs.declared.methods.Method.{Method}
-use Rattle.abc_tables.specs.declared.names.Multiname.{Multiname}
-use Rattle.abc_tables.specs.declared.names.Namespace.{Namespace}
-use Rattle.abc_tables.specs.declared.opcodes.Form.{Form}
-use Rattle.abc_tables.specs.declared.tables.Eight.{Eight}
-use Rattle.abc_tables.specs.declared.tables.Abc.{Abc}
-use Rattle.abc_tables.specs.Opcodes.{form_at}
-use Rattle.abc_rowparts.specs.Assembly.{ended, misplaced}
-use Rattle.abc_rowparts.specs.Lines.{Row}
-use Rattle.abc_rowparts.specs.Rows.{Fault, Faults, fault, unless, ◌>>=◌}
-use Rattle.abc_lines.specs.Answers.{IsAssemblyFault, IsAssemblyOf}
-use Rattle.abc_lines.specs.File.{faults}
-use Rattle.abc_lines.specs.Lineforms as forms
-use Rattle.abc_lines.specs.Texts.{instances_in, rows_of, sizes_in}
-use Rattle.abc_asmreader.specs.declared.error.AsmError.{AsmError}
-use Rattle.abc_asmreader.specs.declared.error.AsmError.TheVariants as errors
-use Rattle.abc_asmreader.specs.declared.reader.Reader.{Reader}
-use Rattle.abc_asmreader.specs.Reading.{rows_left}
-use Rattle.abc_asmreader.specs.Parts.{Part, all_items, headed_item, lone_items, mapped_part, pair_of}
+use Rattle.abc_text_lines.specs.declared.reason.AsmReason.{AsmReason}
+use Rattle.abc_text_lines.specs.declared.reason.AsmReason.TheVariants as reasons
+use Rattle.abc_text_lines.specs.declared.word.Word.{Word}
+use Rattle.abc_text_lines.specs.declared.word.Word.TheVariants as words
+use Rattle.abc_text_lines.specs.Reasons.{least}
+use Rattle.abc_text_lines.specs.Words.{place_of}
+use Rattle.abc_file_types.specs.declared.classes.ClassInfo.{ClassInfo}
+use Rattle.abc_file_types.specs.declared.classes.Instance.{Instance}
+use Rattle.abc_file_types.specs.declared.classes.Script.{Script}
+use Rattle.abc_file_types.specs.declared.code.Body.{Body}
+use Rattle.abc_file_types.specs.declared.methods.Metadata.{Metadata}
+use Rattle.abc_file_types.specs.declared.methods.Method.{Method}
+use Rattle.abc_file_types.specs.declared.names.Multiname.{Multiname}
+use Rattle.abc_file_types.specs.declared.names.Namespace.{Namespace}
+use Rattle.abc_file_types.specs.declared.opcodes.Form.{Form}
+use Rattle.abc_file_types.specs.declared.tables.Eight.{Eight}
+use Rattle.abc_file_types.specs.declared.tables.Abc.{Abc}
+use Rattle.abc_file_types.specs.Opcodes.{form_at}
+use Rattle.abc_text_lines.specs.Assembly.{ended, misplaced}
+use Rattle.abc_text_lines.specs.Lines.{Row}
+use Rattle.abc_text_lines.specs.Rows.{Fault, Faults, fault, unless, ◌>>=◌}
+use Rattle.abc_text_lines.specs.Answers.{IsAssemblyFault, IsAssemblyOf}
+use Rattle.abc_text_lines.specs.File.{faults}
+use Rattle.abc_text_lines.specs.Lineforms as forms
+use Rattle.abc_text_lines.specs.Texts.{instances_in, rows_of, sizes_in}
+use Rattle.abc_text_reader.specs.declared.error.AsmError.{AsmError}
+use Rattle.abc_text_reader.specs.declared.error.AsmError.TheVariants as errors
+use Rattle.abc_text_reader.specs.declared.reader.Reader.{Reader}
+use Rattle.abc_text_reader.specs.Reading.{rows_left}
+use Rattle.abc_text_reader.specs.Parts.{Part, all_items, headed_item, lone_items, mapped_part, pair_of}
 use Rattle.abc_asm.specs.declared.assembling.Definitions.{Definitions}
 use Rattle.abc_asm.specs.declared.assembling.Pools.{Pools}
-use Rattle.abc_asmparts.specs.Below.{body_item, class_of, instance_below, instance_of, instance_value, metadata_below, metadata_of, metadata_value, method_below, method_index_value, method_of, method_value, script_of, traits_below}
+use Rattle.abc_asm.specs.Below.{body_item, class_of, instance_below, instance_of, instance_value, metadata_below, metadata_of, metadata_value, method_below, method_index_value, method_of, method_value, script_of, traits_below}
 
 -- a file of which the text is one, or the text's one fault; want of memory says nothing
 abbrev pub Assembles : List ℕ → Result Abc AsmError → Type 0

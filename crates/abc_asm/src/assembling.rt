@@ -1,22 +1,26 @@
 //! A text as a whole.
 ghost use Rattle.std.specs.Prelude.{◌≡◌, ◌<◌, ◌^◌, IfOk, IsSome, length};
-ghost use Rattle.abc_asmreader.specs.Parts.{ReadsPart};
-ghost use Rattle.abc_asmreader.specs.Reading.{Goes, IsReader, rows_left, word_next};
-ghost use Rattle.abc_lines.specs.Texts.{instances_in, rows_of, sizes_in};
+ghost use Rattle.abc_text_reader.specs.Parts.{ReadsPart};
+ghost use Rattle.abc_text_reader.specs.Reading.{Goes, IsReader, rows_left, word_next};
+ghost use Rattle.abc_text_lines.specs.Texts.{instances_in, rows_of, sizes_in};
 ghost use Rattle.abc_asm.specs.Whole.{Assembles, IsMisplaced, ReadsVersion, definitions_read, file_read, out_of_order, pools_read};
 
-use abc_asmlines::{Doubles, Ints, Names, Namespaces, Sets, Strings, UInts};
-use abc_asmparts::{Classes, Instances, MetadataLines, Methods, Scripts, read_bodies};
-use abc_asmreader::{AsmError, Reader, read_all, read_flat, refused};
+use crate::bodies::read_bodies;
+use crate::classes::{Classes, Instances};
+use crate::methods::{MetadataLines, Methods};
+use crate::scripts::Scripts;
 use abc_base::{Bytes, Table, release};
-use abc_fits::canon_len;
-use abc_labels::place_of;
-use abc_otherlines::version_line;
-use abc_tables::{
+use abc_file_types::{
     Abc, Body, ClassInfo, Eight, Instance, Metadata, Method, Multiname, Namespace, Script, opcode,
 };
-use abc_text::{AsmReason, Word};
-use abc_tokens::Vocabulary;
+use abc_tables::canon_len;
+use abc_text_lines::{AsmReason, Word};
+use abc_text_operands::version_line;
+use abc_text_reader::{
+    AsmError, Doubles, Ints, Names, Namespaces, Reader, Sets, Strings, UInts, read_all, read_flat,
+    refused,
+};
+use abc_text_tokens::{Vocabulary, place_of};
 use std::alloc::Global;
 
 /// The most canonical bytes that a file may have.

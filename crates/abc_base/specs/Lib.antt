@@ -7,3 +7,5 @@ pub mod Numbers
 pub mod Ranges
 pub mod Sinks
 pub mod Views
+pub mod Escapes
+pub mod Taking

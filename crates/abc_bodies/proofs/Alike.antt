@@ -8,14 +8,14 @@ use Rattle.std.proofs.lemmas.Grind.{get_or-set_at}
 use Rattle.std.proofs.lemmas.List.{get_or-replicate, get_or-set_other, length-replicate}
 use Rattle.std.proofs.lemmas.List.Folds.{list_any-append}
 use Rattle.std.proofs.lemmas.Option.{unwrap_or-slice_get}
-use Rattle.abc_format.specs.declared.reason.Reason.{Reason}
-use Rattle.abc_format.specs.Lists.{chain}
-use Rattle.abc_format.specs.Numbers.{index_below, u30}
-use Rattle.abc_format.specs.Part.{At, Part, Refusal, checked}
-use Rattle.abc_format.proofs.Exact.{bind_ok, ok_is}
-use Rattle.abc_tables.specs.declared.tables.Sizes.{Sizes}
-use Rattle.abc_tables.specs.Bodies.{body, body_list, body_method, body_with, handler, methods_of}
-use Rattle.abc_tables.specs.Sizes.{capped}
+use Rattle.abc_file_types.specs.declared.reason.Reason.{Reason}
+use Rattle.abc_file_types.specs.Lists.{chain}
+use Rattle.abc_file_types.specs.Numbers.{index_below, u30}
+use Rattle.abc_file_types.specs.Part.{At, Part, Refusal, checked}
+use Rattle.abc_file_types.proofs.Exact.{bind_ok, ok_is}
+use Rattle.abc_file_types.specs.declared.tables.Sizes.{Sizes}
+use Rattle.abc_file_types.specs.Bodies.{body, body_list, body_method, body_with, handler, methods_of}
+use Rattle.abc_file_types.specs.Sizes.{capped}
 use Rattle.abc_traits.proofs.Alike.{Alike, alike_refl, alike_trans, checked-alike, counted-alike, image-alike, then-alike}
 use Rattle.abc_traits.proofs.Capped.{index_below-capped, pool_index-capped, trait_info-capped}
 use Rattle.abc_bodies.specs.Reading.{free_body, free_method}

@@ -2,8 +2,8 @@
 use Rattle.std.proofs.Common.{◌≡◌, ℕ, suc, ◌-◌, ◌<◌, ◌≤◌, List, [], ◌∷◌, ◌++◌, Ok, Err, None, refl, sym, ◌∙◌, arith}
 use Rattle.std.specs.declared.result.Result.{Result}
 use Rattle.std.specs.declared.option.Option.{Option}
-use Rattle.abc_format.specs.Part.{At, Part, Refusal, refusal, ◌>>=◌}
-use Rattle.abc_format.specs.Lists.{chain}
+use Rattle.abc_file_types.specs.Part.{At, Part, Refusal, refusal, ◌>>=◌}
+use Rattle.abc_file_types.specs.Lists.{chain}
 use Rattle.abc_varint.specs.declared.error.ReadError.{ReadError}
 use Rattle.abc_varint.specs.declared.error.ReadError.TheVariants as errors
 use Rattle.abc_varint.specs.View.{View}

@@ -4,14 +4,14 @@ use Rattle.std.specs.Prelude.{replicate, slice_get}
 use Rattle.std.specs.declared.option.Option.{Option}
 use Rattle.std.proofs.lemmas.List.{length-replicate, map-append}
 use Rattle.std.proofs.lemmas.Option.{slice_get_within}
-use Rattle.abc_format.specs.Lists.{chain}
-use Rattle.abc_format.specs.Part.{Part, image}
-use Rattle.abc_tables.specs.declared.code.Body.{Body}
-use Rattle.abc_tables.specs.declared.tables.Abc.{Abc}
-use Rattle.abc_tables.specs.declared.tables.Sizes.{Sizes}
-use Rattle.abc_tables.specs.Bodies.{bodies, body, body_list, methods_of}
-use Rattle.abc_tables.specs.Classes.{sizes_of}
-use Rattle.abc_tables.specs.Sizes.{capped}
+use Rattle.abc_file_types.specs.Lists.{chain}
+use Rattle.abc_file_types.specs.Part.{Part, image}
+use Rattle.abc_file_types.specs.declared.code.Body.{Body}
+use Rattle.abc_file_types.specs.declared.tables.Abc.{Abc}
+use Rattle.abc_file_types.specs.declared.tables.Sizes.{Sizes}
+use Rattle.abc_file_types.specs.Bodies.{bodies, body, body_list, methods_of}
+use Rattle.abc_file_types.specs.Classes.{sizes_of}
+use Rattle.abc_file_types.specs.Sizes.{capped}
 use Rattle.abc_varint.specs.declared.error.ReadError.{ReadError}
 use Rattle.abc_varint.specs.View.{View}
 use Rattle.abc_varint.specs.Reads.{Reads}

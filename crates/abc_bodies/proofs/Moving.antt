@@ -4,16 +4,16 @@ use Rattle.std.specs.List.{flat_map, position}
 use Rattle.std.specs.declared.option.Option.{Option}
 use Rattle.std.specs.declared.result.Result.{Result}
 use Rattle.std.proofs.lemmas.List.{length-map}
-use Rattle.abc_format.specs.declared.reason.Reason.TheVariants as reasons
-use Rattle.abc_format.specs.Canonical.{counted_bytes}
-use Rattle.abc_format.specs.Lists.{counted, times}
-use Rattle.abc_format.specs.Numbers.{pool_index, u30}
-use Rattle.abc_format.proofs.Exact.{ok_is}
-use Rattle.abc_format.specs.Part.{At, Part, Refusal, both, image, refusal, ◌>>=◌}
-use Rattle.abc_tables.specs.declared.code.Handler.{Handler}
-use Rattle.abc_tables.specs.declared.tables.Sizes.{Sizes}
-use Rattle.abc_tables.specs.Bodies.{handler, handler_bytes}
-use Rattle.abc_tables.specs.Places.{instruction_place}
+use Rattle.abc_file_types.specs.declared.reason.Reason.TheVariants as reasons
+use Rattle.abc_file_types.specs.Canonical.{counted_bytes}
+use Rattle.abc_file_types.specs.Lists.{counted, times}
+use Rattle.abc_file_types.specs.Numbers.{pool_index, u30}
+use Rattle.abc_file_types.proofs.Exact.{ok_is}
+use Rattle.abc_file_types.specs.Part.{At, Part, Refusal, both, image, refusal, ◌>>=◌}
+use Rattle.abc_file_types.specs.declared.code.Handler.{Handler}
+use Rattle.abc_file_types.specs.declared.tables.Sizes.{Sizes}
+use Rattle.abc_file_types.specs.Bodies.{handler, handler_bytes}
+use Rattle.abc_file_types.specs.Places.{instruction_place}
 use Rattle.abc_instr.specs.Marks.{moved_at}
 use Rattle.abc_bodies.specs.Moved.{moved_bytes, moved_handler, moved_place}
 

@@ -1,17 +1,17 @@
 -- What follows the sizes of a body is passed part by part.
 use Rattle.std.proofs.Common.{◌≡◌, ℕ, Bool, List, ◌++◌, length, map, Ok, Err, refl, sym, ap, subst, ◌∙◌, append_assoc, arith}
 use Rattle.std.specs.declared.option.Option.{Option}
-use Rattle.abc_format.specs.Canonical.{counted_bytes}
-use Rattle.abc_format.specs.Lists.{counted}
-use Rattle.abc_format.specs.Numbers.{u30}
-use Rattle.abc_format.specs.Part.{At, refusal}
-use Rattle.abc_tables.specs.declared.code.Handler.{Handler}
-use Rattle.abc_tables.specs.declared.instructions.Code.{Code}
-use Rattle.abc_tables.specs.declared.tables.Sizes.{Sizes}
-use Rattle.abc_tables.specs.Bodies.{body_with, handler, handler_bytes}
-use Rattle.abc_tables.specs.Code.{code}
-use Rattle.abc_tables.specs.CodeBytes.{canonical_starts, code_bytes}
-use Rattle.abc_tables.specs.Traits.{trait_bytes, trait_info}
+use Rattle.abc_file_types.specs.Canonical.{counted_bytes}
+use Rattle.abc_file_types.specs.Lists.{counted}
+use Rattle.abc_file_types.specs.Numbers.{u30}
+use Rattle.abc_file_types.specs.Part.{At, refusal}
+use Rattle.abc_file_types.specs.declared.code.Handler.{Handler}
+use Rattle.abc_file_types.specs.declared.instructions.Code.{Code}
+use Rattle.abc_file_types.specs.declared.tables.Sizes.{Sizes}
+use Rattle.abc_file_types.specs.Bodies.{body_with, handler, handler_bytes}
+use Rattle.abc_file_types.specs.Code.{code}
+use Rattle.abc_file_types.specs.CodeBytes.{canonical_starts, code_bytes}
+use Rattle.abc_file_types.specs.Traits.{trait_bytes, trait_info}
 use Rattle.abc_varint.specs.declared.error.ReadError.{ReadError}
 use Rattle.abc_varint.specs.declared.error.ReadError.TheVariants as errors
 use Rattle.abc_varint.specs.Passes.{Passes, nothing}

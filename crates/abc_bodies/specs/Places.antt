@@ -1,6 +1,6 @@
 -- Where the instructions of bodies began.
 use Rattle.std.specs.Prelude.{◌≡◌, ℕ, ◌+◌, List, [], length, get_or, slice_get, Some}
-use Rattle.abc_tables.specs.declared.code.Body.{Body}
+use Rattle.abc_file_types.specs.declared.code.Body.{Body}
 
 -- Each body has a place for each of its instructions, and one for the end.
 pub record ArePlaces (bodies : List Body) (places : List (List ℕ)) : Type 0 where

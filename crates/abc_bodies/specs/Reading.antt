@@ -1,21 +1,21 @@
 -- Bodies as they are read: methods that have one are told by flags.
 use Rattle.std.specs.Prelude.{ℕ, ◌++◌, Bool, true, not, unwrap_or, slice_get, List, map, Ok, Err}
 use Rattle.std.specs.declared.result.Result.{Result}
-use Rattle.abc_format.specs.declared.reason.Reason.TheVariants as reasons
-use Rattle.abc_format.specs.Part.{Part, both, checked, then_by}
-use Rattle.abc_format.specs.Canonical.{counted_bytes}
-use Rattle.abc_format.specs.Lists.{counted}
-use Rattle.abc_format.specs.Numbers.{index_below}
-use Rattle.abc_tables.specs.declared.code.Body.{Body}
-use Rattle.abc_tables.specs.declared.tables.Abc.{Abc}
-use Rattle.abc_tables.specs.declared.tables.Sizes.{Sizes}
-use Rattle.abc_tables.specs.declared.code.Handler.{Handler}
-use Rattle.abc_tables.specs.declared.instructions.Code.{Code}
-use Rattle.abc_tables.specs.declared.traits.TraitInfo.{TraitInfo}
-use Rattle.abc_tables.specs.Bodies.{body_with, handler, handler_bytes}
-use Rattle.abc_tables.specs.Code.{code}
-use Rattle.abc_tables.specs.CodeBytes.{canonical_starts, code_bytes}
-use Rattle.abc_tables.specs.Traits.{trait_bytes, trait_info}
+use Rattle.abc_file_types.specs.declared.reason.Reason.TheVariants as reasons
+use Rattle.abc_file_types.specs.Part.{Part, both, checked, then_by}
+use Rattle.abc_file_types.specs.Canonical.{counted_bytes}
+use Rattle.abc_file_types.specs.Lists.{counted}
+use Rattle.abc_file_types.specs.Numbers.{index_below}
+use Rattle.abc_file_types.specs.declared.code.Body.{Body}
+use Rattle.abc_file_types.specs.declared.tables.Abc.{Abc}
+use Rattle.abc_file_types.specs.declared.tables.Sizes.{Sizes}
+use Rattle.abc_file_types.specs.declared.code.Handler.{Handler}
+use Rattle.abc_file_types.specs.declared.instructions.Code.{Code}
+use Rattle.abc_file_types.specs.declared.traits.TraitInfo.{TraitInfo}
+use Rattle.abc_file_types.specs.Bodies.{body_with, handler, handler_bytes}
+use Rattle.abc_file_types.specs.Code.{code}
+use Rattle.abc_file_types.specs.CodeBytes.{canonical_starts, code_bytes}
+use Rattle.abc_file_types.specs.Traits.{trait_bytes, trait_info}
 
 -- the flag of the method is down
 abbrev pub is_free : List Bool → ℕ → Bool

@@ -1,14 +1,14 @@
 ghost use Rattle.std.specs.Prelude.{◌≡◌, ◌≤◌, ◌<◌, ◌+◌, ◌^◌, None, Some, Err, false, IfOk, length, slice_get};
 ghost use Rattle.abc_bodies.specs.Reading.{free_method, free_body, with_starts};
-ghost use Rattle.abc_tables.specs.Bodies.{body_with, IsReadyBody};
+ghost use Rattle.abc_file_types.specs.Bodies.{body_with, IsReadyBody};
 ghost use Rattle.abc_varint.specs.Reads.{Reads, ReadsPart};
 
 use crate::handlers::read_handlers;
 use abc_base::{Source, Table};
+use abc_file_types::{Body, Reason, Sizes};
 use abc_instr::{Reading, read_code_within};
-use abc_tables::{Body, Sizes};
 use abc_traits::TraitCodec;
-use abc_varint::{ReadError, Reason, Window, read_counted, read_index_below, read_u30};
+use abc_varint::{ReadError, Window, read_counted, read_index_below, read_u30};
 use std::alloc::Global;
 
 /// A method that has no body yet: its flag is down.
@@ -34,7 +34,7 @@ pub fn read_method<S: Source>(
 }
 
 /// A body of a method whose flag is down. Where its instructions began is left in the reading, whose memory is used again.
-#[tactic(auto, unfolding(crate::specs::Reading::free_body, abc_tables::specs::Bodies::body_with))]
+#[tactic(auto, unfolding(crate::specs::Reading::free_body, abc_file_types::specs::Bodies::body_with))]
 pub fn read_body<S: Source>(
     alloc: Global,
     w: &mut Window,

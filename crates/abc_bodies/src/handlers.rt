@@ -1,10 +1,10 @@
 ghost use Rattle.std.specs.Prelude.{◌≡◌, ◌≤◌, ◌<◌, ◌-◌, ◌^◌, ◌++◌, All, None, Some, Err, IfOk, get_or, length};
 ghost use Rattle.std.specs.List.{flat_map};
 ghost use Rattle.abc_base.specs.Numbers.{number_bytes};
-ghost use Rattle.abc_format.specs.Canonical.{counted_bytes};
-ghost use Rattle.abc_format.specs.Lists.{times, counted};
-ghost use Rattle.abc_tables.specs.Bodies.{handler as handler_part, handler_bytes, IsWithin};
-ghost use Rattle.abc_tables.specs.Starts.{IsRising};
+ghost use Rattle.abc_file_types.specs.Canonical.{counted_bytes};
+ghost use Rattle.abc_file_types.specs.Lists.{times, counted};
+ghost use Rattle.abc_file_types.specs.Bodies.{handler as handler_part, handler_bytes, IsWithin};
+ghost use Rattle.abc_file_types.specs.Starts.{IsRising};
 ghost use Rattle.abc_instr.specs.Marks.{mark_at};
 ghost use Rattle.abc_bodies.specs.Moved.{moved_bytes, moved_handler, moved_place};
 ghost use Rattle.abc_varint.specs.Passes.{Passes, PassesPart, nothing};
@@ -12,15 +12,15 @@ ghost use Rattle.abc_varint.specs.Puts.{Puts};
 ghost use Rattle.abc_varint.specs.Reads.{Reads, ReadsPart};
 
 use abc_base::{NoMemory, Source, Table};
+use abc_file_types::{Handler, Reason, Sizes};
 use abc_instr::{Marks, Starts, read_place};
-use abc_tables::{Handler, Sizes};
 use abc_varint::{
-    Codec, PoolIndex, ReadError, Reason, Window, put_count, put_u30, read_pool_index, read_u30,
+    Codec, PoolIndex, ReadError, Window, put_count, put_u30, read_pool_index, read_u30,
 };
 use std::alloc::Global;
 
 /// An exception, over code whose instructions start so.
-#[tactic(auto, unfolding(abc_tables::specs::Bodies::handler))]
+#[tactic(auto, unfolding(abc_file_types::specs::Bodies::handler))]
 fn read_handler<S: Source>(
     w: &mut Window,
     source: &mut S,
@@ -70,7 +70,7 @@ fn read_each_handler<S: Source>(
 }
 
 /// A count and that many exceptions, over code whose instructions start so.
-#[tactic(auto, unfolding(abc_format::specs::Lists::counted))]
+#[tactic(auto, unfolding(abc_file_types::specs::Lists::counted))]
 pub fn read_handlers<S: Source>(
     alloc: Global,
     w: &mut Window,
@@ -97,7 +97,7 @@ fn put_place(starts: &Table<u32>, place: u32, out: &mut Vec<u8>) -> Result<(), N
 }
 
 /// Appends an exception, over code whose instructions start so.
-#[tactic(auto, unfolding(abc_tables::specs::Bodies::handler_bytes), using(abc_varint::proofs::Putting::stays, std::proofs::Common::append_assoc))]
+#[tactic(auto, unfolding(abc_file_types::specs::Bodies::handler_bytes), using(abc_varint::proofs::Putting::stays, std::proofs::Common::append_assoc))]
 fn put_handler(starts: &Table<u32>, handler: &Handler, out: &mut Vec<u8>) -> Result<(), NoMemory>
     requires some { 0 < length starts.now }
     requires within { IsWithin (length starts.now - 1) handler.now }
@@ -129,7 +129,7 @@ fn put_each_handler(
 }
 
 /// Appends how many exceptions there are, and the exceptions, over code whose instructions start so.
-#[tactic(auto, unfolding(abc_format::specs::Canonical::counted_bytes), using(abc_varint::proofs::Putting::stays, std::proofs::Common::append_assoc))]
+#[tactic(auto, unfolding(abc_file_types::specs::Canonical::counted_bytes), using(abc_varint::proofs::Putting::stays, std::proofs::Common::append_assoc))]
 pub fn put_handlers(
     starts: &Table<u32>,
     handlers: &Table<Handler>,
@@ -210,7 +210,7 @@ fn pass_each_handler<S: Source>(
 
 /// Passes a count and that many exceptions, over code whose instructions are moved as the marks say. Gives how many there
 /// are.
-#[tactic(auto, unfolding(abc_format::specs::Lists::counted, abc_format::specs::Canonical::counted_bytes))]
+#[tactic(auto, unfolding(abc_file_types::specs::Lists::counted, abc_file_types::specs::Canonical::counted_bytes))]
 pub fn pass_handlers<S: Source>(
     alloc: Global,
     w: &mut Window,

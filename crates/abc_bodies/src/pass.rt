@@ -1,11 +1,11 @@
 ghost use Rattle.std.specs.Prelude.{◌≡◌, ◌≤◌, ◌<◌, ◌^◌, [], None, Some, Err, false, IfOk, length, map, slice_get};
 ghost use Rattle.std.specs.List.{flat_map};
 ghost use Rattle.abc_base.specs.Numbers.{number_bytes};
-ghost use Rattle.abc_format.specs.Canonical.{counted_bytes};
-ghost use Rattle.abc_format.specs.Lists.{chain};
-ghost use Rattle.abc_format.specs.Numbers.{u30 as small};
+ghost use Rattle.abc_file_types.specs.Canonical.{counted_bytes};
+ghost use Rattle.abc_file_types.specs.Lists.{chain};
+ghost use Rattle.abc_file_types.specs.Numbers.{u30 as small};
 ghost use Rattle.abc_bodies.specs.Reading.{free_body, rest, rest_bytes};
-ghost use Rattle.abc_tables.specs.Bodies.{body, body_bytes, body_list, methods_of};
+ghost use Rattle.abc_file_types.specs.Bodies.{body, body_bytes, body_list, methods_of};
 ghost use Rattle.abc_varint.specs.Passes.{Passes, PassesPart, nothing};
 ghost use Rattle.abc_varint.specs.Reads.{Reads, ReadsPart};
 
@@ -13,8 +13,8 @@ use crate::body::read_method;
 use crate::handlers::pass_handlers;
 use crate::read::flags_down;
 use abc_base::{Source, Table};
+use abc_file_types::Sizes;
 use abc_instr::{Scan, pass_code};
-use abc_tables::Sizes;
 use abc_traits::TraitCodec;
 use abc_varint::{ReadError, Window, pass_counted, put_u30, read_u30};
 use std::alloc::Global;
@@ -49,7 +49,7 @@ fn pass_rest<S: Source>(
 }
 
 /// Passes a body of a method whose flag is down. Gives the method.
-#[tactic(auto, unfolding(crate::specs::Reading::free_body, abc_tables::specs::Bodies::body_with))]
+#[tactic(auto, unfolding(crate::specs::Reading::free_body, abc_file_types::specs::Bodies::body_with))]
 fn pass_body<S: Source>(
     alloc: Global,
     w: &mut Window,
@@ -98,7 +98,7 @@ fn pass_each_body<S: Source>(
 
 /// Reads method bodies over tables of these sizes, as `read_bodies` does, and appends the canonical bytes of each before
 /// the next is read. None is kept. After an Err `out` may hold any bytes.
-#[tactic(auto, unfolding(abc_tables::specs::Bodies::body_list))]
+#[tactic(auto, unfolding(abc_file_types::specs::Bodies::body_list))]
 pub fn pass_bodies<S: Source>(
     alloc: Global,
     w: &mut Window,

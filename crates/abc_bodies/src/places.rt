@@ -1,7 +1,7 @@
 ghost use Rattle.std.specs.Prelude.{◌≡◌, ◌<◌, [], length, get_or};
 
 use abc_base::NoMemory;
-use abc_trees::Rows;
+use abc_base_trees::Rows;
 use std::alloc::Global;
 use std::marker::Model;
 

@@ -1,15 +1,15 @@
 ghost use Rattle.std.specs.Prelude.{◌≡◌, ◌≤◌, ◌<◌, ◌++◌, All};
 ghost use Rattle.std.specs.List.{flat_map};
 ghost use Rattle.abc_base.specs.Numbers.{number_bytes};
-ghost use Rattle.abc_format.specs.Canonical.{counted_bytes};
-ghost use Rattle.abc_tables.specs.Bodies.{body_bytes, bodies_bytes, IsReadyBody};
+ghost use Rattle.abc_file_types.specs.Canonical.{counted_bytes};
+ghost use Rattle.abc_file_types.specs.Bodies.{body_bytes, bodies_bytes, IsReadyBody};
 ghost use Rattle.abc_instr.specs.Pieces.{ArePieces};
 ghost use Rattle.abc_varint.specs.Puts.{Puts, PutsWhole};
 
 use crate::handlers::put_handlers;
 use abc_base::{NoMemory, Table};
+use abc_file_types::{Abc, Body};
 use abc_instr::{Pieces, put_pieces};
-use abc_tables::{Abc, Body};
 use abc_traits::TraitCodec;
 use abc_varint::{put_count, put_counted, put_u30};
 use std::alloc::Global;
@@ -28,7 +28,7 @@ fn put_sizes(body: &Body, out: &mut Vec<u8>) -> Result<(), NoMemory>
 }
 
 /// Appends a body, whose code was taken in pieces.
-#[tactic(auto, unfolding(abc_tables::specs::Bodies::body_bytes), using(abc_varint::proofs::Putting::stays, std::proofs::Common::append_assoc))]
+#[tactic(auto, unfolding(abc_file_types::specs::Bodies::body_bytes), using(abc_varint::proofs::Putting::stays, std::proofs::Common::append_assoc))]
 fn put_fields(body: &Body, pieces: &Pieces, out: &mut Vec<u8>) -> Result<(), NoMemory>
     requires ready { IsReadyBody body.now }
     requires pieces { ArePieces (body.now).code pieces.now }
@@ -67,7 +67,7 @@ fn put_each_body(
 }
 
 /// Appends how many bodies there are, and the bodies.
-#[tactic(auto, unfolding(abc_tables::specs::Bodies::bodies_bytes, abc_format::specs::Canonical::counted_bytes), using(abc_varint::proofs::Putting::stays, std::proofs::Common::append_assoc))]
+#[tactic(auto, unfolding(abc_file_types::specs::Bodies::bodies_bytes, abc_file_types::specs::Canonical::counted_bytes), using(abc_varint::proofs::Putting::stays, std::proofs::Common::append_assoc))]
 fn append_bodies(alloc: Global, abc: &Abc, out: &mut Vec<u8>) -> Result<(), NoMemory>
     requires { All IsReadyBody (abc.now).bodies }
     ensures { Puts out.old.items out.new.items result (bodies_bytes abc.now) }

@@ -1,17 +1,17 @@
 ghost use Rattle.std.specs.Prelude.{◌≡◌, ◌≤◌, ◌<◌, ◌^◌, [], All, None, Some, Err, false, IfOk, OnErr, OnOk, length, replicate};
 ghost use Rattle.abc_bodies.specs.Places.{KeepPlaces};
 ghost use Rattle.abc_bodies.specs.Reading.{halves, keeping, with_places};
-ghost use Rattle.abc_format.specs.Lists.{chain};
-ghost use Rattle.abc_format.specs.Part.{image};
-ghost use Rattle.abc_tables.specs.Bodies.{bodies, body, body_list, methods_of, IsReadyBody};
+ghost use Rattle.abc_file_types.specs.Lists.{chain};
+ghost use Rattle.abc_file_types.specs.Part.{image};
+ghost use Rattle.abc_file_types.specs.Bodies.{bodies, body, body_list, methods_of, IsReadyBody};
 ghost use Rattle.abc_varint.specs.Answers.{Answers};
 ghost use Rattle.abc_varint.specs.Reads.{Reads, ReadsPart};
 
 use crate::body::read_body;
 use crate::places::Keeping;
 use abc_base::{NoMemory, Source, Table};
+use abc_file_types::{Abc, Body, Sizes, sizes_of};
 use abc_instr::Reading;
-use abc_tables::{Abc, Body, Sizes, sizes_of};
 use abc_varint::{ReadError, Window, read_u30};
 use std::alloc::Global;
 
@@ -54,7 +54,7 @@ fn read_each_body<S: Source, K: Keeping>(
 }
 
 /// A count and that many bodies, over tables of these sizes.
-#[tactic(auto, unfolding(abc_tables::specs::Bodies::body_list))]
+#[tactic(auto, unfolding(abc_file_types::specs::Bodies::body_list))]
 fn read_all<S: Source, K: Keeping>(
     alloc: Global,
     w: &mut Window,

@@ -6,7 +6,7 @@ use Rattle.abc_session.specs.Sessions.{AnswersIn}
 use Rattle.abc_session.specs.declared.replies.SessionReply.{SessionReply}
 use Rattle.abc_session.specs.declared.replies.SessionReply.TheVariants as answers
 use Rattle.abc_session.specs.Beside.{IsBeside}
-use Rattle.abc_session.specs.Machines.{Opened}
+use Rattle.abc_machine.specs.Machines.{Opened}
 use Rattle.abc_session.proofs.Staying.{called_beside}
 
 pub answered_beside : (old new : Opened) (c : _) (before now : Option (List ℕ)) (reply : SessionReply) (formulas : List Formula) → AnswersIn old new c before now reply → IsBeside old formulas → IsBeside new formulas

@@ -3,7 +3,7 @@ ghost use Rattle.std.specs.Prelude.{◌≡◌, ◌↔◌, IsTrue};
 ghost use Rattle.abc_base.specs.Ranges.{IsNumber};
 
 use abc_base::{Plain, Status};
-use abc_heap::Limits;
+use abc_heap_store::Limits;
 
 /// How much the code may hold, and how many steps the run of the script may take.
 #[repr(C)]

@@ -1,12 +1,14 @@
 ghost use Rattle.std.specs.Prelude.{◌≡◌};
 ghost use Rattle.abc_base.specs.Hosts.{builtin_formulas};
-ghost use Rattle.abc_cells.specs.declared.values.Span.{Span};
-ghost use Rattle.abc_heap.specs.Texts.{IsText};
+ghost use Rattle.abc_heap_values.specs.declared.values.Span.{Span};
+ghost use Rattle.abc_heap_store.specs.Texts.{IsText};
 ghost use Rattle.abc_session.specs.Beside.{IsBeside};
 
 use crate::crossing::{Answer, Bounds, Kind};
 use abc_base::{BuiltinHost, MemSink, Plain, Status, write_all};
-use abc_session::{End, OpenError, PlainValue, Reply, Session, SessionReply};
+use abc_machine::{End, PlainValue, Reply};
+use abc_objects::OpenError;
+use abc_session::{Session, SessionReply};
 use abc_verify::Verified;
 use std::alloc::Global;
 

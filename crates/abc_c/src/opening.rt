@@ -1,12 +1,13 @@
 ghost use Rattle.std.specs.Prelude.{IfOk};
-ghost use Rattle.abc_tables.specs.Files.{Fits};
+ghost use Rattle.abc_file_types.specs.Files.{Fits};
 
 use crate::crossing::Bounds;
 use crate::kept::Kept;
 use abc_base::{MemSource, Status};
 use abc_file::read;
-use abc_link::{LinkError, Linked, link};
-use abc_tables::Abc;
+use abc_file_types::Abc;
+use abc_link::{Linked, link};
+use abc_link_names::LinkError;
 use abc_varint::ReadError;
 use abc_verify::{Verified, VerifyError, verify};
 use std::alloc::Global;

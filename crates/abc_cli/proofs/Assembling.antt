@@ -5,23 +5,23 @@ use Rattle.std.proofs.lemmas.List.{append-nil}
 use Rattle.std.specs.Io.KnownBytes.{Consumes, IsAtEnd}
 use Rattle.std.specs.declared.option.Option.{Option}
 use Rattle.abc_asm.specs.Whole.{Assembles}
-use Rattle.abc_asmreader.specs.declared.error.AsmError.{AsmError}
-use Rattle.abc_asmreader.specs.declared.error.AsmError.TheVariants as faults
+use Rattle.abc_text_reader.specs.declared.error.AsmError.{AsmError}
+use Rattle.abc_text_reader.specs.declared.error.AsmError.TheVariants as faults
 use Rattle.abc_file.specs.Reading.{IsUsedUp, OfInput}
-use Rattle.abc_input.specs.declared.error.InputError.{InputError}
-use Rattle.abc_input.specs.declared.error.InputError.TheVariants as inputs
-use Rattle.abc_lines.specs.Answers.{IsAssemblyOf}
-use Rattle.abc_rowparts.specs.Rows.{fault}
-use Rattle.abc_tables.specs.declared.tables.Abc.{Abc}
-use Rattle.abc_tables.specs.Files.{file_bytes}
-use Rattle.abc_text.specs.declared.reason.AsmReason.TheVariants as reasons
-use Rattle.abc_answers.specs.declared.stop.Stop.{Stop}
-use Rattle.abc_answers.specs.declared.stop.Stop.TheVariants as stops
-use Rattle.abc_answers.specs.End.{Channel, HasFailed}
-use Rattle.abc_answers.specs.Answers.{On, given}
+use Rattle.abc_base.specs.declared.input_error.InputError.{InputError}
+use Rattle.abc_base.specs.declared.input_error.InputError.TheVariants as inputs
+use Rattle.abc_text_lines.specs.Answers.{IsAssemblyOf}
+use Rattle.abc_text_lines.specs.Rows.{fault}
+use Rattle.abc_file_types.specs.declared.tables.Abc.{Abc}
+use Rattle.abc_file_types.specs.Files.{file_bytes}
+use Rattle.abc_text_lines.specs.declared.reason.AsmReason.TheVariants as reasons
+use Rattle.abc_cli_answers.specs.declared.stop.Stop.{Stop}
+use Rattle.abc_cli_answers.specs.declared.stop.Stop.TheVariants as stops
+use Rattle.abc_cli_answers.specs.End.{Channel, HasFailed}
+use Rattle.abc_cli_answers.specs.Answers.{On, given}
 use Rattle.abc_cli.specs.Outcome.{Asm, text_limit}
-use Rattle.abc_answers.specs.Stops.{Gives, Stops, StopsAt, stop_answer, stop_of_asm, stop_of_input}
-use Rattle.abc_answers.proofs.Ending.{memory_stops}
+use Rattle.abc_cli_answers.specs.Stops.{Gives, Stops, StopsAt, stop_answer, stop_of_asm, stop_of_input}
+use Rattle.abc_cli_answers.proofs.Ending.{memory_stops}
 use Rattle.abc_cli.proofs.Files.{memory_stops_at}
 
 -- ---- the input that was held

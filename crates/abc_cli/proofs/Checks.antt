@@ -1,14 +1,14 @@
 -- What is answered about a file that was read, linked and verified.
 use Rattle.std.proofs.Common.{◌≡◌, ℕ, List, length, ap, ◌∙◌}
 use Rattle.abc_file.specs.Reading.{IsUsedUp, OfInput}
-use Rattle.abc_program.specs.Linked.{LinkedFile}
-use Rattle.abc_verified.proofs.Verifying.{of_any}
-use Rattle.abc_verified.specs.Verified.{IsReadVerified}
-use Rattle.abc_answers.specs.Lines.{verified_line}
-use Rattle.abc_answers.specs.End.{Channel}
-use Rattle.abc_answers.specs.Answers.{Answer, OfFileRead, Unverified, given}
+use Rattle.abc_link_program.specs.Linked.{LinkedFile}
+use Rattle.abc_verify.proofs.Verifying.{of_any}
+use Rattle.abc_verify.specs.Verified.{IsReadVerified}
+use Rattle.abc_cli_answers.specs.Lines.{verified_line}
+use Rattle.abc_cli_answers.specs.End.{Channel}
+use Rattle.abc_cli_answers.specs.Answers.{Answer, OfFileRead, Unverified, given}
 use Rattle.abc_cli.specs.Outcome.{Check}
-use Rattle.abc_answers.specs.Stops.{Gives}
+use Rattle.abc_cli_answers.specs.Stops.{Gives}
 
 -- ---- `check`
 

@@ -2,24 +2,24 @@
 use Rattle.std.proofs.Common.{◌≡◌, List, ℕ, refl, ap}
 use Rattle.std.specs.declared.option.Option.{Option}
 use Rattle.abc_base.specs.declared.status.Status.TheVariants as status
-use Rattle.abc_format.specs.Part.{Refusal, refusal}
+use Rattle.abc_file_types.specs.Part.{Refusal, refusal}
 use Rattle.abc_varint.specs.declared.error.ReadError.{ReadError}
 use Rattle.abc_varint.specs.declared.error.ReadError.TheVariants as errors
 use Rattle.abc_file.specs.Reading.{IsFaultOf, IsUsedUp, IsWrittenOf, OfInput, Refuses, Writes}
-use Rattle.abc_tables.specs.declared.tables.Abc.{Abc}
-use Rattle.abc_tables.specs.Files.{IsBadFile, IsFile, IsFileRead, file_bytes}
-use Rattle.abc_tables.proofs.Whole.{read_spelled}
-use Rattle.abc_entries.specs.declared.error.TidyError.{TidyError}
-use Rattle.abc_entries.specs.declared.error.TidyError.TheVariants as tidying
-use Rattle.abc_entries.specs.Rules.{IsTidied, IsTidyError}
-use Rattle.abc_verified.proofs.Verifying.{of_any}
-use Rattle.abc_answers.specs.declared.stop.Stop.{Stop}
-use Rattle.abc_answers.specs.declared.stop.Stop.TheVariants as stops
-use Rattle.abc_answers.specs.Lines.{refusal_text}
-use Rattle.abc_answers.specs.Answers.{Answer, OfFile, OfFileRead, On, told, given}
-use Rattle.abc_answers.specs.Stops.{Gives, Stops, StopsAt, stop_answer, stop_of_read, stop_of_tidy}
-use Rattle.abc_answers.specs.End.{Channel, HasFailed}
-use Rattle.abc_answers.proofs.Ending.{memory_stops}
+use Rattle.abc_file_types.specs.declared.tables.Abc.{Abc}
+use Rattle.abc_file_types.specs.Files.{IsBadFile, IsFile, IsFileRead, file_bytes}
+use Rattle.abc_file_types.proofs.Whole.{read_spelled}
+use Rattle.abc_tidy_entries.specs.declared.error.TidyError.{TidyError}
+use Rattle.abc_tidy_entries.specs.declared.error.TidyError.TheVariants as tidying
+use Rattle.abc_tidy_entries.specs.Rules.{IsTidied, IsTidyError}
+use Rattle.abc_verify.proofs.Verifying.{of_any}
+use Rattle.abc_cli_answers.specs.declared.stop.Stop.{Stop}
+use Rattle.abc_cli_answers.specs.declared.stop.Stop.TheVariants as stops
+use Rattle.abc_cli_answers.specs.Lines.{refusal_text}
+use Rattle.abc_cli_answers.specs.Answers.{Answer, OfFile, OfFileRead, On, told, given}
+use Rattle.abc_cli_answers.specs.Stops.{Gives, Stops, StopsAt, stop_answer, stop_of_read, stop_of_tidy}
+use Rattle.abc_cli_answers.specs.End.{Channel, HasFailed}
+use Rattle.abc_cli_answers.proofs.Ending.{memory_stops}
 use Rattle.abc_cli.specs.Outcome.{Tidy}
 
 -- ---- outcomes on a file

@@ -1,3 +1,9 @@
+pub mod EndedRuns
+pub mod CommandRuns
+pub mod Called
+pub mod Generating
+pub mod Logging
+pub mod Accepting
 pub mod Files
 pub mod Checks
 pub mod Listings

@@ -3,17 +3,17 @@ use Rattle.std.proofs.Common.{◌≡◌, ℕ, List, ap, subst, ◌≤◌, length
 use Rattle.abc_base.specs.declared.formula.Formula.{Formula}
 use Rattle.abc_base.specs.declared.status.Status.{Status}
 use Rattle.abc_base.specs.declared.status.Status.TheVariants as status
-use Rattle.abc_lines.specs.Listing.{listing}
-use Rattle.abc_lines.specs.Answers.{IsAssemblyFault, IsAssemblyOf}
-use Rattle.abc_rowparts.specs.Rows.{Fault}
-use Rattle.abc_tables.specs.declared.tables.Abc.{Abc}
-use Rattle.abc_tables.specs.Files.{IsFile, file_bytes}
-use Rattle.abc_words.specs.declared.command.Command.TheVariants as commands
-use Rattle.abc_answers.specs.Answers.{Answer, OfFile, given}
+use Rattle.abc_text_lines.specs.Listing.{listing}
+use Rattle.abc_text_lines.specs.Answers.{IsAssemblyFault, IsAssemblyOf}
+use Rattle.abc_text_lines.specs.Rows.{Fault}
+use Rattle.abc_file_types.specs.declared.tables.Abc.{Abc}
+use Rattle.abc_file_types.specs.Files.{IsFile, file_bytes}
+use Rattle.abc_cli_answers.specs.declared.command.Command.TheVariants as commands
+use Rattle.abc_cli_answers.specs.Answers.{Answer, OfFile, given}
 use Rattle.abc_cli.specs.Outcome.{CommandOutcome, Dis, OutcomeOf, Asm, text_limit}
-use Rattle.abc_answers.specs.End.{Channel, Got, HasFailed, IsEnd, Ends}
+use Rattle.abc_cli_answers.specs.End.{Channel, Got, HasFailed, IsEnd, Ends}
 use Rattle.abc_cli.specs.Listed.{AreBytes, IsListed, Lists}
-use Rattle.abc_verified.proofs.Verifying.{of_any}
+use Rattle.abc_verify.proofs.Verifying.{of_any}
 
 -- a run that ended well wrote an answer of its outcome
 ended_well : (P : Answer → Type 0) (F : Type 0) (out err : Channel) (s : Status) → IsEnd P F out err s → s ≡ status.Done → (a : Answer) × P a × Got out a.out × (a.status ≡ status.Done)

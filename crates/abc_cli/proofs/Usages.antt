@@ -7,35 +7,35 @@ use Rattle.std.specs.declared.result.Result.{Result}
 use Rattle.std.specs.declared.vec.Vec.{Vec}
 use Rattle.abc_base.specs.declared.status.Status.{Status}
 use Rattle.abc_base.specs.declared.status.Status.TheVariants as status
-use Rattle.abc_words.specs.declared.command.Command.{Command}
-use Rattle.abc_words.specs.declared.command.Command.TheVariants as commands
-use Rattle.abc_words.specs.declared.command.RunOptions.{RunOptions}
-use Rattle.abc_words.specs.declared.command.CallsOptions.{CallsOptions}
-use Rattle.abc_words.specs.declared.command.GenOptions.{GenOptions}
-use Rattle.abc_words.specs.declared.command.Usage.{Usage}
-use Rattle.abc_words.specs.declared.command.Usage.TheVariants as usages
-use Rattle.abc_words.specs.Commands.{Setting}
-use Rattle.abc_words.specs.Grammar.{GiveAll, GivesOne, IsDefault, IsUsageWord, Says}
-use Rattle.abc_answers.specs.Answers.{Answer, OfFile, OfFileRead, On}
+use Rattle.abc_cli_answers.specs.declared.command.Command.{Command}
+use Rattle.abc_cli_answers.specs.declared.command.Command.TheVariants as commands
+use Rattle.abc_cli_answers.specs.declared.command.RunOptions.{RunOptions}
+use Rattle.abc_cli_answers.specs.declared.command.CallsOptions.{CallsOptions}
+use Rattle.abc_cli_answers.specs.declared.command.GenOptions.{GenOptions}
+use Rattle.abc_cli_answers.specs.declared.command.Usage.{Usage}
+use Rattle.abc_cli_answers.specs.declared.command.Usage.TheVariants as usages
+use Rattle.abc_cli_answers.specs.Commands.{Setting}
+use Rattle.abc_cli_answers.specs.Grammar.{GiveAll, GivesOne, IsDefault, IsUsageWord, Says}
+use Rattle.abc_cli_answers.specs.Answers.{Answer, OfFile, OfFileRead, On}
 use Rattle.abc_cli.specs.Outcome.{Asm, AsksNoInput, Canon, Check, CommandOutcome, Dis, IsUsage, OutcomeOf, Tidy, UsageOutcome, reads_input, usage_answer}
-use Rattle.abc_runcommands.specs.Runs.{Gen, Run}
-use Rattle.abc_runcommands.specs.Calls.{Calls}
-use Rattle.abc_logcommands.specs.Logs.{Log, Replay}
-use Rattle.abc_loglines.specs.Lines.{AreLimits}
-use Rattle.abc_logcommands.specs.Meant.{limits_of}
+use Rattle.abc_cli.specs.Runs.{Gen, Run}
+use Rattle.abc_cli.specs.Calls.{Calls}
+use Rattle.abc_cli.specs.Logs.{Log, Replay}
+use Rattle.abc_log.specs.Lines.{AreLimits}
+use Rattle.abc_cli.specs.Meant.{limits_of}
 use Rattle.abc_base.specs.declared.formula.Formula.{Formula}
-use Rattle.abc_tables.specs.declared.tables.Abc.{Abc}
-use Rattle.abc_answers.specs.End.{Channel, Ends, GivesLine, HasFailed, IsEnd, RunsTo}
-use Rattle.abc_answers.specs.Stops.{Gives, IsGiven, Stops}
-use Rattle.abc_answers.specs.declared.stop.Stop.{Stop}
-use Rattle.abc_runcommands.proofs.Called.{calls_not_usage, calls_on_quiet}
-use Rattle.abc_answers.proofs.Ending.{any_input, finished, weaker}
-use Rattle.abc_logcommands.proofs.Logging.{log_on_quiet, logs_not_usage}
-use Rattle.abc_answers.proofs.Runs.{runs_end}
-use Rattle.abc_runcommands.proofs.Running.{runs_not_usage, runs_on_quiet}
-use Rattle.abc_answers.proofs.Unverified.{unverified_not_usage}
-use Rattle.abc_logcommands.proofs.Accepting.{replay_not_usage}
-use Rattle.abc_runcommands.proofs.Generating.{gen_not_usage}
+use Rattle.abc_file_types.specs.declared.tables.Abc.{Abc}
+use Rattle.abc_cli_answers.specs.End.{Channel, Ends, GivesLine, HasFailed, IsEnd, RunsTo}
+use Rattle.abc_cli_answers.specs.Stops.{Gives, IsGiven, Stops}
+use Rattle.abc_cli_answers.specs.declared.stop.Stop.{Stop}
+use Rattle.abc_cli.proofs.Called.{calls_not_usage, calls_on_quiet}
+use Rattle.abc_cli_answers.proofs.Ending.{any_input, finished, weaker}
+use Rattle.abc_cli.proofs.Logging.{log_on_quiet, logs_not_usage}
+use Rattle.abc_cli_answers.proofs.Runs.{runs_end}
+use Rattle.abc_cli.proofs.CommandRuns.{runs_not_usage, runs_on_quiet}
+use Rattle.abc_cli_answers.proofs.Unverified.{unverified_not_usage}
+use Rattle.abc_cli.proofs.Accepting.{replay_not_usage}
+use Rattle.abc_cli.proofs.Generating.{gen_not_usage}
 
 -- the answers of words outside the grammar are those that reading the words finds
 pub usage_found : (words : List (List ℕ)) (r : Result Command Usage) → ((r ≡ Err usages.NoCommand) ↔ (words ≡ [])) → ((i : ℕ) → (r ≡ Err (usages.Word i)) ↔ IsUsageWord words i)

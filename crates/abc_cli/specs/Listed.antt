@@ -1,11 +1,11 @@
 -- What stands in `out` after a file was disassembled.
 use Rattle.std.specs.Prelude.{◌≡◌, ◌<◌, ◌≤◌, ℕ, List, All, length}
 use Rattle.abc_file.specs.Reading.{OfInput}
-use Rattle.abc_lines.specs.Answers.{IsAssemblyOf}
-use Rattle.abc_tables.specs.declared.tables.Abc.{Abc}
-use Rattle.abc_tables.specs.Files.{IsFile, file_bytes}
-use Rattle.abc_answers.specs.End.{Channel, Got}
-use Rattle.abc_answers.specs.Answers.{Answer, given}
+use Rattle.abc_text_lines.specs.Answers.{IsAssemblyOf}
+use Rattle.abc_file_types.specs.declared.tables.Abc.{Abc}
+use Rattle.abc_file_types.specs.Files.{IsFile, file_bytes}
+use Rattle.abc_cli_answers.specs.End.{Channel, Got}
+use Rattle.abc_cli_answers.specs.Answers.{Answer, given}
 use Rattle.abc_cli.specs.Outcome.{Asm, text_limit}
 
 abbrev pub AreBytes : List ℕ → Type 0

@@ -3,26 +3,26 @@ use Rattle.std.specs.Prelude.{◌≡◌, ℕ, Bool, true, false, List, [], get_o
 use Rattle.std.specs.declared.option.Option.{Option}
 use Rattle.abc_base.specs.declared.formula.Formula.{Formula}
 use Rattle.abc_base.specs.declared.status.Status.TheVariants as status
-use Rattle.abc_lines.specs.Answers.{IsAssemblyFault, IsAssemblyOf}
-use Rattle.abc_lines.specs.Listing.{listing}
-use Rattle.abc_program.specs.Linked.{LinkedFile}
-use Rattle.abc_rowparts.specs.Rows.{Fault, fault}
-use Rattle.abc_tables.specs.declared.tables.Abc.{Abc}
-use Rattle.abc_tables.specs.Files.{file_bytes}
-use Rattle.abc_text.specs.declared.reason.AsmReason.TheVariants as reasons
-use Rattle.abc_entries.specs.Rules.{IsFirstBroken as IsFirstUntidy, IsTidied}
-use Rattle.abc_entries.specs.declared.error.TidyRule.{TidyRule}
-use Rattle.abc_verified.specs.Verified.{IsVerifiedOf}
-use Rattle.abc_words.specs.Grammar.{IsUsageWord, Says}
-use Rattle.abc_words.specs.declared.command.Command.{Command}
-use Rattle.abc_words.specs.declared.command.Command.TheVariants as commands
-use Rattle.abc_words.specs.declared.command.Usage.{Usage}
-use Rattle.abc_words.specs.declared.command.Usage.TheVariants as usages
-use Rattle.abc_answers.specs.Answers.{On, Answer, OfFile, OfFileRead, Unverified, given, told}
-use Rattle.abc_answers.specs.Lines.{fault_text, no_command_text, tidy_text, usage_text, verified_line}
-use Rattle.abc_runcommands.specs.Calls.{Calls}
-use Rattle.abc_logcommands.specs.Logs.{Log, Replay}
-use Rattle.abc_runcommands.specs.Runs.{Gen, Run}
+use Rattle.abc_text_lines.specs.Answers.{IsAssemblyFault, IsAssemblyOf}
+use Rattle.abc_text_lines.specs.Listing.{listing}
+use Rattle.abc_link_program.specs.Linked.{LinkedFile}
+use Rattle.abc_text_lines.specs.Rows.{Fault, fault}
+use Rattle.abc_file_types.specs.declared.tables.Abc.{Abc}
+use Rattle.abc_file_types.specs.Files.{file_bytes}
+use Rattle.abc_text_lines.specs.declared.reason.AsmReason.TheVariants as reasons
+use Rattle.abc_tidy_entries.specs.Rules.{IsFirstBroken as IsFirstUntidy, IsTidied}
+use Rattle.abc_tidy_entries.specs.declared.error.TidyRule.{TidyRule}
+use Rattle.abc_verify.specs.Verified.{IsVerifiedOf}
+use Rattle.abc_cli_answers.specs.Grammar.{IsUsageWord, Says}
+use Rattle.abc_cli_answers.specs.declared.command.Command.{Command}
+use Rattle.abc_cli_answers.specs.declared.command.Command.TheVariants as commands
+use Rattle.abc_cli_answers.specs.declared.command.Usage.{Usage}
+use Rattle.abc_cli_answers.specs.declared.command.Usage.TheVariants as usages
+use Rattle.abc_cli_answers.specs.Answers.{On, Answer, OfFile, OfFileRead, Unverified, given, told}
+use Rattle.abc_cli_answers.specs.Lines.{fault_text, no_command_text, tidy_text, usage_text, verified_line}
+use Rattle.abc_cli.specs.Calls.{Calls}
+use Rattle.abc_cli.specs.Logs.{Log, Replay}
+use Rattle.abc_cli.specs.Runs.{Gen, Run}
 
 -- ---- commands
 

@@ -1,15 +1,14 @@
 ghost use Rattle.std.specs.Prelude.{◌≤◌, ◌^◌, IfErr, IfOk, length};
-ghost use Rattle.abc_answers.specs.End.{stream};
-ghost use Rattle.abc_answers.specs.Answers.{given};
+ghost use Rattle.abc_cli_answers.specs.End.{stream};
+ghost use Rattle.abc_cli_answers.specs.Answers.{given};
 ghost use Rattle.abc_cli.specs.Outcome.{Asm};
-ghost use Rattle.abc_answers.specs.Stops.{Gives, Stops, StopsAt};
+ghost use Rattle.abc_cli_answers.specs.Stops.{Gives, Stops, StopsAt};
 
-use abc_answers::Stop;
 use abc_asm::assemble;
-use abc_base::Source;
+use abc_base::{Source, read_input};
+use abc_cli_answers::Stop;
+use abc_disasm::texts_have_ready_bodies;
 use abc_file::write;
-use abc_input::read_input;
-use abc_ranges::texts_have_ready_bodies;
 use std::alloc::Global;
 use std::mem::forget;
 

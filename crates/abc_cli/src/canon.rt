@@ -1,11 +1,11 @@
 ghost use Rattle.std.specs.Prelude.{IfErr, IfOk};
-ghost use Rattle.abc_answers.specs.End.{stream};
-ghost use Rattle.abc_answers.specs.Answers.{OfFile};
+ghost use Rattle.abc_cli_answers.specs.End.{stream};
+ghost use Rattle.abc_cli_answers.specs.Answers.{OfFile};
 ghost use Rattle.abc_cli.specs.Outcome.{Canon};
-ghost use Rattle.abc_answers.specs.Stops.{Gives, Stops};
+ghost use Rattle.abc_cli_answers.specs.Stops.{Gives, Stops};
 
-use abc_answers::Stop;
 use abc_base::Source;
+use abc_cli_answers::Stop;
 use abc_file::canonical;
 use std::alloc::Global;
 

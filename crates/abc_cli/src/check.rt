@@ -1,19 +1,19 @@
 ghost use Rattle.std.specs.Prelude.{◌≡◌, IfErr, IfOk, length};
-ghost use Rattle.abc_answers.specs.End.{stream};
-ghost use Rattle.abc_answers.specs.Lines.{verified_line};
-ghost use Rattle.abc_answers.specs.Answers.{OfFileRead};
+ghost use Rattle.abc_cli_answers.specs.End.{stream};
+ghost use Rattle.abc_cli_answers.specs.Lines.{verified_line};
+ghost use Rattle.abc_cli_answers.specs.Answers.{OfFileRead};
 ghost use Rattle.abc_cli.specs.Outcome.{Check};
-ghost use Rattle.abc_answers.specs.Stops.{Gives, Stops};
+ghost use Rattle.abc_cli_answers.specs.Stops.{Gives, Stops};
 
-use abc_answers::{Stop, numbered_line};
 use abc_base::{NoMemory, Source};
-use abc_verified::{Verified, read_verified};
+use abc_cli_answers::{Stop, numbered_line};
+use abc_verify::{Verified, read_verified};
 use itoa::Buffer;
 use std::alloc::Global;
 use std::mem::forget;
 
 /// The line of a file that is verified.
-#[tactic(auto, unfolding(abc_answers::specs::Lines::verified_line))]
+#[tactic(auto, unfolding(abc_cli_answers::specs::Lines::verified_line))]
 fn line_of(alloc: Global, count: usize) -> Result<Vec<u8>, NoMemory>
     ensures { IfOk result (λ bytes. bytes.items ≡ verified_line count) }
 {

@@ -1,12 +1,12 @@
 ghost use Rattle.std.specs.Prelude.{IfErr, IfOk};
-ghost use Rattle.abc_answers.specs.End.{stream};
-ghost use Rattle.abc_answers.specs.Answers.{OfFile};
+ghost use Rattle.abc_cli_answers.specs.End.{stream};
+ghost use Rattle.abc_cli_answers.specs.Answers.{OfFile};
 ghost use Rattle.abc_cli.specs.Outcome.{Dis};
-ghost use Rattle.abc_answers.specs.Stops.{Gives, Stops};
+ghost use Rattle.abc_cli_answers.specs.Stops.{Gives, Stops};
 
-use abc_answers::Stop;
 use abc_base::Source;
-use abc_listing::listing_of;
+use abc_cli_answers::Stop;
+use abc_disasm::listing_of;
 use std::alloc::Global;
 
 /// What the command `dis` gives: the text of the file.

@@ -1,12 +1,35 @@
+//! What is answered of the end of a run, and of a machine that isn't opened: the status and the line.
+//!
+//! The commands that run a file, and write what it writes: `run`, `calls` and `gen`.
+//!
+//! The commands of logs: `log` writes the log of a run, and `replay` tells whether an input is one.
+//!
 //! The top call: what the program does with the words of a command line and an input; and the generator of `gen`.
 #![tactic(auto)]
 
 mod asm;
+mod calls_command;
 mod canon;
 mod check;
 mod dis;
+mod endings;
+mod gen_command;
+mod log_command;
+mod machines;
+mod replay_command;
+mod run_command;
 mod tidy;
 mod top;
 
-pub use abc_gen::make_abc;
+pub use abc_cli_answers::make_abc;
+pub use abc_machine::Machine;
+pub use abc_objects::OpenError;
+pub use abc_session::{Session, run_and_call, ticks_can_be_told};
+pub use calls_command::calls;
+pub use endings::{give_end, give_unopened};
+pub use gen_command::generate;
+pub use log_command::log;
+pub use machines::{close_file, close_machine, close_session, end_can_be_told, limits_of};
+pub use replay_command::replay;
+pub use run_command::run;
 pub use top::abc_main;

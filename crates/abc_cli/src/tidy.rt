@@ -1,13 +1,13 @@
 ghost use Rattle.std.specs.Prelude.{IfErr, IfOk};
-ghost use Rattle.abc_answers.specs.End.{stream};
-ghost use Rattle.abc_answers.specs.Answers.{OfFile, given};
+ghost use Rattle.abc_cli_answers.specs.End.{stream};
+ghost use Rattle.abc_cli_answers.specs.Answers.{OfFile, given};
 ghost use Rattle.abc_cli.specs.Outcome.{Tidy};
-ghost use Rattle.abc_answers.specs.Stops.{Gives, Stops, StopsAt};
+ghost use Rattle.abc_cli_answers.specs.Stops.{Gives, Stops, StopsAt};
 
-use abc_answers::Stop;
 use abc_base::Source;
+use abc_cli_answers::Stop;
 use abc_file::{read_alone, write};
-use abc_tables::Abc;
+use abc_file_types::Abc;
 use abc_tidy::tidy_owned;
 use std::alloc::Global;
 use std::mem;

@@ -1,26 +1,28 @@
 ghost use Rattle.std.specs.Prelude.{◌≡◌, ◌<◌, ◌≤◌, false, true};
-ghost use Rattle.abc_words.specs.declared.command.GenOptions.{GenOptions};
-ghost use Rattle.abc_words.specs.declared.command.RunOptions.{RunOptions};
-ghost use Rattle.abc_answers.specs.End.{Ends, GivesLine, IsRead, UsesUp, stream};
-ghost use Rattle.abc_answers.specs.Answers.{Answer};
+ghost use Rattle.abc_cli_answers.specs.declared.command.GenOptions.{GenOptions};
+ghost use Rattle.abc_cli_answers.specs.declared.command.RunOptions.{RunOptions};
+ghost use Rattle.abc_cli_answers.specs.End.{Ends, GivesLine, IsRead, UsesUp, stream};
+ghost use Rattle.abc_cli_answers.specs.Answers.{Answer};
 ghost use Rattle.abc_cli.specs.Outcome.{AsksNoInput, CommandOutcome, IsOutcome, IsUsage, UsageOutcome, reads_input, usage_answer};
 ghost use Rattle.abc_cli.specs.Listed.{Lists};
-ghost use Rattle.abc_logcommands.specs.Logged.{GotLog};
-ghost use Rattle.abc_loglines.specs.Lines.{AreLimits};
-ghost use Rattle.abc_logcommands.specs.Meant.{limits_of};
-ghost use Rattle.abc_words.specs.Grammar.{IsWellFormed, Says};
+ghost use Rattle.abc_cli.specs.Logged.{GotLog};
+ghost use Rattle.abc_log.specs.Lines.{AreLimits};
+ghost use Rattle.abc_cli.specs.Meant.{limits_of};
+ghost use Rattle.abc_cli_answers.specs.Grammar.{IsWellFormed, Says};
 
 use crate::asm::asm;
+use crate::calls_command::calls;
 use crate::canon::canon;
 use crate::check::check;
 use crate::dis::dis;
+use crate::gen_command::generate;
+use crate::log_command::log;
+use crate::replay_command::replay;
+use crate::run_command::run;
 use crate::tidy::tidy;
-use abc_answers::{ended, give, give_no_command, write_usage};
 use abc_base::{Host, Sink, Source, Status, Words};
-use abc_logcommands::{log, replay};
-use abc_roundtrip::listing_is_read_back;
-use abc_runcommands::{calls, generate, run};
-use abc_words::{Command, Usage, parse};
+use abc_cli_answers::{Command, Usage, ended, give, give_no_command, parse, write_usage};
+use abc_disasm::listing_is_read_back;
 use std::alloc::Global;
 
 /// Does a command.
@@ -53,7 +55,7 @@ fn run_command<S: Source, K: Sink, E: Sink, H: Host>(
 }
 
 /// Writes the line of words outside the grammar.
-#[tactic(auto, using(abc_answers::proofs::Ending::gives))]
+#[tactic(auto, using(abc_cli_answers::proofs::Ending::gives))]
 fn give_usage<E: Sink>(words: &Words, usage: Usage, err: &mut E) -> Status
     requires { IsUsage words.now usage }
     ensures { GivesLine (stream E.written E.faults err.old err.new) (usage_answer words.now usage) result }

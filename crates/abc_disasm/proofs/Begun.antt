@@ -4,17 +4,17 @@ use Rattle.std.specs.List.{range_with_len}
 use Rattle.std.proofs.lemmas.Bool.{leb-true}
 use Rattle.std.proofs.lemmas.List.{get_or-map}
 use Rattle.std.proofs.lemmas.List.FromFn.{get_or-map-range_with_len}
-use Rattle.abc_text.specs.declared.word.Word.TheVariants as words
-use Rattle.abc_tables.specs.declared.code.Instr.TheVariants as instrs
-use Rattle.abc_tables.specs.declared.opcodes.Form.{Form}
-use Rattle.abc_tables.specs.declared.opcodes.Form.TheVariants as forms
-use Rattle.abc_tables.specs.declared.tables.Abc.{Abc}
-use Rattle.abc_tables.specs.Opcodes.{form_at, info_at, name_at, pool_of}
-use Rattle.abc_lines.specs.Listing.{operand_comment, word_name}
+use Rattle.abc_text_lines.specs.declared.word.Word.TheVariants as words
+use Rattle.abc_file_types.specs.declared.code.Instr.TheVariants as instrs
+use Rattle.abc_file_types.specs.declared.opcodes.Form.{Form}
+use Rattle.abc_file_types.specs.declared.opcodes.Form.TheVariants as forms
+use Rattle.abc_file_types.specs.declared.tables.Abc.{Abc}
+use Rattle.abc_file_types.specs.Opcodes.{form_at, info_at, name_at, pool_of}
+use Rattle.abc_text_lines.specs.Listing.{operand_comment, word_name}
 use Rattle.abc_disasm.specs.declared.heads.TheConstants.{HEADS}
 use Rattle.abc_disasm.specs.Heads.{behind_name, head}
 use Rattle.abc_disasm.specs.Texts.{instr_text}
-use Rattle.abc_disasm.proofs.Forms.{branch_text, one_text, plain_text, two_text}
+use Rattle.abc_disasm.proofs.PutForms.{branch_text, one_text, plain_text, two_text}
 
 abbrev Row : Type 0
 Row = List ℕ × ℕ

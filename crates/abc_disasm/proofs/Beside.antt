@@ -1,13 +1,13 @@
 -- Which bodies a file has matters neither for the lines before those of bodies nor for those of a body.
 use Rattle.std.proofs.Common.{◌≡◌, ℕ, List, [], ◌∷◌, ◌++◌, map, refl, ap, ◌∙◌}
 use Rattle.std.specs.List.{flat_map}
-use Rattle.abc_text.specs.declared.word.Word.{Word}
-use Rattle.abc_text.specs.Tokens.{Bare}
-use Rattle.abc_text.specs.Writing.{written_line}
-use Rattle.abc_tables.specs.declared.code.Body.{Body}
-use Rattle.abc_tables.specs.declared.tables.Abc.{Abc}
-use Rattle.abc_rowparts.specs.Lines.{Item, Shown, Line, Labels}
-use Rattle.abc_lines.specs.Listing.{body_text, comment_of, lines_of_body, listing, quiet_lines, rendered, shown_bytes, targets_in, token_of, word_name}
+use Rattle.abc_text_lines.specs.declared.word.Word.{Word}
+use Rattle.abc_text_lines.specs.Tokens.{Bare}
+use Rattle.abc_text_lines.specs.Writing.{written_line}
+use Rattle.abc_file_types.specs.declared.code.Body.{Body}
+use Rattle.abc_file_types.specs.declared.tables.Abc.{Abc}
+use Rattle.abc_text_lines.specs.Lines.{Item, Shown, Line, Labels}
+use Rattle.abc_text_lines.specs.Listing.{body_text, comment_of, lines_of_body, listing, quiet_lines, rendered, shown_bytes, targets_in, token_of, word_name}
 
 module _ (v : Abc) (bs : List Body) where
   abbrev full : Abc

@@ -5,9 +5,9 @@ use Rattle.std.proofs.Math.ListN.{replicate, set}
 use Rattle.std.proofs.lemmas.List.{take_all, take_more}
 use Rattle.std.proofs.lemmas.Grind.{flat_map-append}
 use Rattle.std.proofs.lemmas.Bool.Decides.{nat_tests}
-use Rattle.abc_text.proofs.Bools.{split_bool}
-use Rattle.abc_text.proofs.Scans.{eq_is}
-use Rattle.abc_rowparts.specs.Wordlines.{among}
+use Rattle.abc_text_lines.proofs.Bools.{split_bool}
+use Rattle.abc_text_lines.proofs.Scans.{eq_is}
+use Rattle.abc_text_lines.specs.Wordlines.{among}
 use Rattle.abc_disasm.specs.Marks.{AreMarks}
 
 among_last : (k n : ℕ) (named : List ℕ) → among k (named ++ n ∷ []) ≡ cond (among k named) true (nat_eq k n)

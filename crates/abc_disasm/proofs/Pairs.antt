@@ -1,7 +1,7 @@
 -- The entries of metadata, two strings each.
 use Rattle.std.proofs.Common.{◌≡◌, ℕ, zero, suc, ◌+◌, ◌*◌, ◌<◌, List, [], ◌∷◌, ◌++◌, length, take, get_or, refl, sym, ap, ◌∙◌, append-nil, append_assoc, add-one, arith}
 use Rattle.std.specs.List.{flat_map}
-use Rattle.abc_lines.specs.Answers.{pairs}
+use Rattle.abc_text_lines.specs.Answers.{pairs}
 
 pub pairs_all : (xs : List ℕ) (i : ℕ) → length xs < 2 * i + 2 → take i (pairs xs) ≡ pairs xs
 pairs_all [] zero few = refl

@@ -2,12 +2,12 @@
 use Rattle.std.proofs.Common.{ℕ, ◌<◌, ◌≤◌, ◌^◌, List, [], ◌∷◌, length, arith}
 use Rattle.std.specs.List.{All, AllByRecursion}
 use Rattle.std.proofs.lemmas.List.Elements.{All-from_recursion}
-use Rattle.abc_tables.specs.declared.code.Body.{Body}
-use Rattle.abc_tables.specs.declared.code.Instr.{Instr}
-use Rattle.abc_tables.specs.declared.code.Instr.TheVariants as instrs
-use Rattle.abc_tables.specs.Bodies.{IsReadyBody}
-use Rattle.abc_tables.specs.CodeBytes.{code_len, instr_len}
-use Rattle.abc_tables.specs.Ready.{AllCanSpell, CanSpell}
+use Rattle.abc_file_types.specs.declared.code.Body.{Body}
+use Rattle.abc_file_types.specs.declared.code.Instr.{Instr}
+use Rattle.abc_file_types.specs.declared.code.Instr.TheVariants as instrs
+use Rattle.abc_file_types.specs.Bodies.{IsReadyBody}
+use Rattle.abc_file_types.specs.CodeBytes.{code_len, instr_len}
+use Rattle.abc_file_types.specs.Ready.{AllCanSpell, CanSpell}
 use Rattle.abc_disasm.specs.Texts.{IsShown}
 
 one_shown : (n : ℕ) (i : Instr) → CanSpell n i → IsShown i

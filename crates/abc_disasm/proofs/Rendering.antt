@@ -6,41 +6,41 @@ use Rattle.std.specs.Option.{option_to_list}
 use Rattle.std.specs.declared.option.Option.{Option}
 use Rattle.std.proofs.lemmas.Grind.{flat_map-append}
 use Rattle.std.proofs.lemmas.List.Elements.{recursion_from_All}
-use Rattle.abc_text.specs.declared.word.Word.{Word}
-use Rattle.abc_text.specs.declared.word.Word.TheVariants as words
-use Rattle.abc_tables.specs.declared.classes.ClassInfo.{ClassInfo}
-use Rattle.abc_tables.specs.declared.classes.Instance.{Instance}
-use Rattle.abc_tables.specs.declared.classes.Script.{Script}
-use Rattle.abc_tables.specs.declared.code.Body.{Body}
-use Rattle.abc_tables.specs.declared.code.Handler.{Handler}
-use Rattle.abc_tables.specs.declared.code.Instr.{Instr}
-use Rattle.abc_tables.specs.declared.code.Instr.TheVariants as instrs
-use Rattle.abc_tables.specs.declared.methods.Metadata.{Metadata}
-use Rattle.abc_tables.specs.declared.methods.Method.{Method}
-use Rattle.abc_tables.specs.declared.methods.OptionValue.{OptionValue}
-use Rattle.abc_tables.specs.declared.methods.ValueKind.{ValueKind}
-use Rattle.abc_tables.specs.declared.tables.Abc.{Abc}
-use Rattle.abc_tables.specs.declared.tables.Sizes.{Sizes}
-use Rattle.abc_tables.specs.declared.traits.TraitBody.{TraitBody}
-use Rattle.abc_tables.specs.declared.traits.TraitBody.TheVariants as bodies
-use Rattle.abc_tables.specs.declared.traits.TraitInfo.{TraitInfo}
-use Rattle.abc_tables.specs.Bodies.{IsReadyBody}
-use Rattle.abc_tables.specs.Classes.{sizes_of}
-use Rattle.abc_tables.specs.Traits.{trait_kind_in}
-use Rattle.abc_rowparts.specs.Lines.{Item, Number, Shown, Line, Labels}
-use Rattle.abc_rowparts.specs.Operands.{Operands, any_number, several_items, target}
-use Rattle.abc_rowparts.specs.Rows.{Faults, Head, Rows, code_after, items_shown, nothing}
-use Rattle.abc_rowparts.specs.Wordlines.{always, closed_to, flat, line}
-use Rattle.abc_lines.specs.Answers.{instance_head, instance_in, metadata_lines, outline, pairs}
-use Rattle.abc_lines.specs.File as file
-use Rattle.abc_lines.specs.Kinds.{trait_kind, value_kind}
-use Rattle.abc_lines.specs.Lineforms.{BodyHead, MethodHead, TraitHead, body_line, catch_line, double_line, int_line, name_line, namespace_line, set_line, string_line, uint_line, entry_line, implements_line, instance_line, instruction_line, method_index_line, method_line, number_line, opcode_of, option_line, param_line, protected_line, slot_value, string_index_line, trait_fields, trait_line, trait_metadata_line}
-use Rattle.abc_lines.specs.Listing.{body_text, line_bytes, lines_of_body, listing, quiet_lines, rendered, shown_bytes, target_in, targets_in}
+use Rattle.abc_text_lines.specs.declared.word.Word.{Word}
+use Rattle.abc_text_lines.specs.declared.word.Word.TheVariants as words
+use Rattle.abc_file_types.specs.declared.classes.ClassInfo.{ClassInfo}
+use Rattle.abc_file_types.specs.declared.classes.Instance.{Instance}
+use Rattle.abc_file_types.specs.declared.classes.Script.{Script}
+use Rattle.abc_file_types.specs.declared.code.Body.{Body}
+use Rattle.abc_file_types.specs.declared.code.Handler.{Handler}
+use Rattle.abc_file_types.specs.declared.code.Instr.{Instr}
+use Rattle.abc_file_types.specs.declared.code.Instr.TheVariants as instrs
+use Rattle.abc_file_types.specs.declared.methods.Metadata.{Metadata}
+use Rattle.abc_file_types.specs.declared.methods.Method.{Method}
+use Rattle.abc_file_types.specs.declared.methods.OptionValue.{OptionValue}
+use Rattle.abc_file_types.specs.declared.methods.ValueKind.{ValueKind}
+use Rattle.abc_file_types.specs.declared.tables.Abc.{Abc}
+use Rattle.abc_file_types.specs.declared.tables.Sizes.{Sizes}
+use Rattle.abc_file_types.specs.declared.traits.TraitBody.{TraitBody}
+use Rattle.abc_file_types.specs.declared.traits.TraitBody.TheVariants as bodies
+use Rattle.abc_file_types.specs.declared.traits.TraitInfo.{TraitInfo}
+use Rattle.abc_file_types.specs.Bodies.{IsReadyBody}
+use Rattle.abc_file_types.specs.Classes.{sizes_of}
+use Rattle.abc_file_types.specs.Traits.{trait_kind_in}
+use Rattle.abc_text_lines.specs.Lines.{Item, Number, Shown, Line, Labels}
+use Rattle.abc_text_lines.specs.Operands.{Operands, any_number, several_items, target}
+use Rattle.abc_text_lines.specs.Rows.{Faults, Head, Rows, code_after, items_shown, nothing}
+use Rattle.abc_text_lines.specs.Wordlines.{always, closed_to, flat, line}
+use Rattle.abc_text_lines.specs.Answers.{instance_head, instance_in, metadata_lines, outline, pairs}
+use Rattle.abc_text_lines.specs.File as file
+use Rattle.abc_text_lines.specs.Kinds.{trait_kind, value_kind}
+use Rattle.abc_text_lines.specs.Lineforms.{BodyHead, MethodHead, TraitHead, body_line, catch_line, double_line, int_line, name_line, namespace_line, set_line, string_line, uint_line, entry_line, implements_line, instance_line, instruction_line, method_index_line, method_line, number_line, opcode_of, option_line, param_line, protected_line, slot_value, string_index_line, trait_fields, trait_line, trait_metadata_line}
+use Rattle.abc_text_lines.specs.Listing.{body_text, line_bytes, lines_of_body, listing, quiet_lines, rendered, shown_bytes, target_in, targets_in}
 use Rattle.abc_disasm.specs.Texts as texts
-use Rattle.abc_linetokens.specs.Numbers as tokens
-use Rattle.abc_linetokens.specs.Numbers.{number_lines}
+use Rattle.abc_text_writer.specs.Numbers as tokens
+use Rattle.abc_text_writer.specs.Numbers.{number_lines}
 use Rattle.abc_disasm.specs.Texts.{IsShown, body_targets, class_text, code_text, definitions_text, entry_text, front_text, handler_targets, handler_text, instance_text, instr_targets, instr_text, metadata_text, method_text, option_text, pools_text, protected_text, script_text, trait_text, version_text, whole_body, whole_text}
-use Rattle.abc_disasm.proofs.Forms.{branch_items, byte_items, debug_items, one_items, plain_items, scope_items, short_items, switch_items, two_items}
+use Rattle.abc_disasm.proofs.PutForms.{branch_items, byte_items, debug_items, one_items, plain_items, scope_items, short_items, switch_items, two_items}
 use Rattle.abc_disasm.proofs.Readiness.{shown}
 
 -- ---- lists of lines

@@ -1,18 +1,18 @@
 -- What the operands of a line are, as they are shown.
 use Rattle.std.proofs.Common.{◌≡◌, ℕ, zero, suc, true, false, List, [], ◌∷◌, ◌++◌, decimal, map, Some, None, refl, ap, ◌∙◌, append-nil}
-use Rattle.abc_tables.specs.declared.names.Multiname.{Multiname}
-use Rattle.abc_tables.specs.declared.names.Multiname.TheVariants as names
-use Rattle.abc_tables.specs.declared.methods.OptionValue.{OptionValue}
-use Rattle.abc_tables.specs.declared.methods.ValueKind.{ValueKind}
-use Rattle.abc_tables.specs.declared.tables.Sizes.{Sizes}
-use Rattle.abc_rowparts.specs.Operands.{any_number, entry_upto, index_upto, several_items}
-use Rattle.abc_rowparts.specs.Wordlines.{lookup}
-use Rattle.abc_text.specs.Writing.{spaced}
-use Rattle.abc_lines.specs.Kinds.{multiname_word, multiname_words, value_kind, value_word}
-use Rattle.abc_lines.specs.Lineforms.{kind_in, multiname_fields, slot_value}
-use Rattle.abc_lines.specs.Listing.{name_in, name_shown, token_of}
+use Rattle.abc_file_types.specs.declared.names.Multiname.{Multiname}
+use Rattle.abc_file_types.specs.declared.names.Multiname.TheVariants as names
+use Rattle.abc_file_types.specs.declared.methods.OptionValue.{OptionValue}
+use Rattle.abc_file_types.specs.declared.methods.ValueKind.{ValueKind}
+use Rattle.abc_file_types.specs.declared.tables.Sizes.{Sizes}
+use Rattle.abc_text_lines.specs.Operands.{any_number, entry_upto, index_upto, several_items}
+use Rattle.abc_text_lines.specs.Wordlines.{lookup}
+use Rattle.abc_text_lines.specs.Writing.{spaced}
+use Rattle.abc_text_lines.specs.Kinds.{multiname_word, multiname_words, value_kind, value_word}
+use Rattle.abc_text_lines.specs.Lineforms.{kind_in, multiname_fields, slot_value}
+use Rattle.abc_text_lines.specs.Listing.{name_in, name_shown, token_of}
 use Rattle.abc_disasm.specs.Texts.{operands}
-use Rattle.abc_linetokens.specs.Numbers.{numbers}
+use Rattle.abc_text_writer.specs.Numbers.{numbers}
 
 pub entries : (size : ℕ) (xs : List ℕ) → spaced (map token_of (several_items (entry_upto size) xs)) ≡ numbers xs
 unfolding any_number

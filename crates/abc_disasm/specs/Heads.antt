@@ -1,11 +1,11 @@
 -- The fronts of the lines of instructions.
 use Rattle.std.specs.Prelude.{ℕ, List, [], ◌∷◌, ◌++◌, Some}
 use Rattle.std.specs.declared.option.Option.{Option}
-use Rattle.abc_text.specs.declared.word.Word.TheVariants as words
-use Rattle.abc_tables.specs.declared.opcodes.Form.{Form}
-use Rattle.abc_tables.specs.declared.opcodes.Form.TheVariants as forms
-use Rattle.abc_tables.specs.Opcodes.{form_at}
-use Rattle.abc_lines.specs.Listing.{word_name}
+use Rattle.abc_text_lines.specs.declared.word.Word.TheVariants as words
+use Rattle.abc_file_types.specs.declared.opcodes.Form.{Form}
+use Rattle.abc_file_types.specs.declared.opcodes.Form.TheVariants as forms
+use Rattle.abc_file_types.specs.Opcodes.{form_at}
+use Rattle.abc_text_lines.specs.Listing.{word_name}
 
 -- what follows the name: the line's end behind a plain instruction's, and else a space
 abbrev pub behind_name : Option Form → List ℕ

@@ -1,6 +1,6 @@
 -- Which numbers of instructions are named.
 use Rattle.std.specs.Prelude.{◌≡◌, ℕ, ◌<◌, Bool, false, List, length, get_or}
-use Rattle.abc_rowparts.specs.Wordlines.{among}
+use Rattle.abc_text_lines.specs.Wordlines.{among}
 
 -- Each mark says whether its number is named.
 abbrev pub AreMarks : List Bool → List ℕ → Type 0

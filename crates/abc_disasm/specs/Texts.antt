@@ -2,34 +2,34 @@
 use Rattle.std.specs.Prelude.{◌≡◌, ◌<◌, ℕ, ℤ, ◌+◌, List, [], ◌∷◌, ◌++◌, codes, length, map, Some, None, if◌then◌else◌}
 use Rattle.std.specs.List.{flat_map}
 use Rattle.std.specs.declared.option.Option.{Option}
-use Rattle.abc_text.specs.declared.word.Word.TheVariants as words
-use Rattle.abc_text.specs.Writing.{spaced}
-use Rattle.abc_tables.specs.declared.classes.ClassInfo.{ClassInfo}
-use Rattle.abc_tables.specs.declared.classes.Instance.{Instance}
-use Rattle.abc_tables.specs.declared.classes.Script.{Script}
-use Rattle.abc_tables.specs.declared.code.Body.{Body}
-use Rattle.abc_tables.specs.declared.code.Handler.{Handler}
-use Rattle.abc_tables.specs.declared.code.Instr.{Instr}
-use Rattle.abc_tables.specs.declared.code.Instr.TheVariants as instrs
-use Rattle.abc_tables.specs.declared.methods.Metadata.{Metadata}
-use Rattle.abc_tables.specs.declared.methods.Method.{Method}
-use Rattle.abc_tables.specs.declared.methods.OptionValue.{OptionValue}
-use Rattle.abc_tables.specs.declared.names.Multiname.{Multiname}
-use Rattle.abc_tables.specs.declared.names.Namespace.{Namespace}
-use Rattle.abc_tables.specs.declared.tables.Abc.{Abc}
-use Rattle.abc_tables.specs.declared.tables.Eight.{Eight}
-use Rattle.abc_tables.specs.declared.traits.TraitBody.{TraitBody}
-use Rattle.abc_tables.specs.declared.traits.TraitInfo.{TraitInfo}
-use Rattle.abc_tables.specs.Classes.{sizes_of}
-use Rattle.abc_tables.specs.declared.opcodes.Form.TheVariants as forms
-use Rattle.abc_tables.specs.Opcodes.{form_at}
-use Rattle.abc_tables.specs.Traits.{trait_kind_in}
-use Rattle.abc_rowparts.specs.Lines.{Item}
-use Rattle.abc_rowparts.specs.Wordlines.{among}
-use Rattle.abc_lines.specs.Answers.{instance_head, pairs}
-use Rattle.abc_lines.specs.Lineforms.{body_line, catch_line, double_line, entry_line, int_line, name_line, namespace_line, set_line, string_line, uint_line, instance_line, instruction_line, kind_in, method_line, multiname_fields, opcode_of, option_line, slot_value, trait_fields, trait_line}
-use Rattle.abc_linetokens.specs.Numbers.{number_line, number_lines}
-use Rattle.abc_lines.specs.Listing.{label_bytes, label_of, line_bytes, token_of}
+use Rattle.abc_text_lines.specs.declared.word.Word.TheVariants as words
+use Rattle.abc_text_lines.specs.Writing.{spaced}
+use Rattle.abc_file_types.specs.declared.classes.ClassInfo.{ClassInfo}
+use Rattle.abc_file_types.specs.declared.classes.Instance.{Instance}
+use Rattle.abc_file_types.specs.declared.classes.Script.{Script}
+use Rattle.abc_file_types.specs.declared.code.Body.{Body}
+use Rattle.abc_file_types.specs.declared.code.Handler.{Handler}
+use Rattle.abc_file_types.specs.declared.code.Instr.{Instr}
+use Rattle.abc_file_types.specs.declared.code.Instr.TheVariants as instrs
+use Rattle.abc_file_types.specs.declared.methods.Metadata.{Metadata}
+use Rattle.abc_file_types.specs.declared.methods.Method.{Method}
+use Rattle.abc_file_types.specs.declared.methods.OptionValue.{OptionValue}
+use Rattle.abc_file_types.specs.declared.names.Multiname.{Multiname}
+use Rattle.abc_file_types.specs.declared.names.Namespace.{Namespace}
+use Rattle.abc_file_types.specs.declared.tables.Abc.{Abc}
+use Rattle.abc_file_types.specs.declared.tables.Eight.{Eight}
+use Rattle.abc_file_types.specs.declared.traits.TraitBody.{TraitBody}
+use Rattle.abc_file_types.specs.declared.traits.TraitInfo.{TraitInfo}
+use Rattle.abc_file_types.specs.Classes.{sizes_of}
+use Rattle.abc_file_types.specs.declared.opcodes.Form.TheVariants as forms
+use Rattle.abc_file_types.specs.Opcodes.{form_at}
+use Rattle.abc_file_types.specs.Traits.{trait_kind_in}
+use Rattle.abc_text_lines.specs.Lines.{Item}
+use Rattle.abc_text_lines.specs.Wordlines.{among}
+use Rattle.abc_text_lines.specs.Answers.{instance_head, pairs}
+use Rattle.abc_text_lines.specs.Lineforms.{body_line, catch_line, double_line, entry_line, int_line, name_line, namespace_line, set_line, string_line, uint_line, instance_line, instruction_line, kind_in, method_line, multiname_fields, opcode_of, option_line, slot_value, trait_fields, trait_line}
+use Rattle.abc_text_writer.specs.Numbers.{number_line, number_lines}
+use Rattle.abc_text_lines.specs.Listing.{label_bytes, label_of, line_bytes, token_of}
 
 -- operands behind a line's first word
 abbrev pub operands : List Item → List ℕ

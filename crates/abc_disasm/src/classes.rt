@@ -4,10 +4,10 @@ ghost use Rattle.abc_varint.specs.Puts.{Puts};
 
 use crate::listed::{Listed, put_all};
 use abc_base::NoMemory;
-use abc_linetokens::{
+use abc_file_types::{ClassInfo, Instance, Script};
+use abc_text_writer::{
     Shown, push_byte, put, put_multiname_comment, put_number, put_number_line, put_number_lines,
 };
-use abc_tables::{ClassInfo, Instance, Script};
 
 fn put_protected(space: &Option<u32>, _abc: &Shown<'_>, out: &mut Vec<u8>) -> Result<(), NoMemory>
     ensures { Puts out.old.items out.new.items result (protected_text _abc.now space.now) }
@@ -19,7 +19,7 @@ fn put_protected(space: &Option<u32>, _abc: &Shown<'_>, out: &mut Vec<u8>) -> Re
 }
 
 /// The line of an instance itself.
-#[tactic(auto, unfolding(abc_lines::specs::Lineforms::instance_line, abc_rowparts::specs::Operands::any_number), using(abc_varint::proofs::Putting::stays, std::proofs::Common::append_assoc))]
+#[tactic(auto, unfolding(abc_text_lines::specs::Lineforms::instance_line, abc_text_lines::specs::Operands::any_number), using(abc_varint::proofs::Putting::stays, std::proofs::Common::append_assoc))]
 fn put_instance_line(
     instance: &Instance,
     abc: &Shown<'_>,

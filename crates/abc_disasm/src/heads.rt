@@ -5,7 +5,7 @@ ghost use Rattle.abc_disasm.specs.declared.heads.TheConstants.{HEADS as all_head
 ghost use Rattle.abc_varint.specs.Puts.{PutsWhole};
 
 use abc_base::NoMemory;
-use abc_linetokens::put_first;
+use abc_text_writer::put_first;
 
 /// A front, padded with blanks, and how many bytes it has.
 type Head = ([u8; 16], u8);

@@ -1,22 +1,22 @@
 //! The lines of instructions.
 ghost use Rattle.std.specs.Prelude.{◌≡◌, ◌∷◌, ◌++◌, ◌<◌, [], ℕ, Some, IsSome, length};
 ghost use Rattle.abc_disasm.specs.Texts.{IsShown, instr_text, labels};
-ghost use Rattle.abc_lines.specs.Listing.{label_of};
-ghost use Rattle.abc_tables.specs.Opcodes.{form_at, pool_of};
-ghost use Rattle.abc_tables.specs.declared.code.Instr.TheVariants as instrs;
-ghost use Rattle.abc_tables.specs.declared.opcodes.Form.TheVariants as forms;
+ghost use Rattle.abc_text_lines.specs.Listing.{label_of};
+ghost use Rattle.abc_file_types.specs.Opcodes.{form_at, pool_of};
+ghost use Rattle.abc_file_types.specs.declared.code.Instr.TheVariants as instrs;
+ghost use Rattle.abc_file_types.specs.declared.opcodes.Form.TheVariants as forms;
 ghost use Rattle.abc_varint.specs.Puts.{Puts};
 
 use crate::heads::put_head;
 use abc_base::NoMemory;
-use abc_linetokens::{
+use abc_file_types::{Instr, Pool, opcode};
+use abc_text_writer::{
     Shown, push_byte, put, put_label, put_number, put_number_line, put_operand,
     put_operand_comment, put_signed, put_target,
 };
-use abc_tables::{Instr, Pool, opcode};
 
 /// The pool that an instruction's first operand names.
-#[tactic(auto, using(crate::proofs::Forms::pool_is, crate::proofs::Forms::no_instruction))]
+#[tactic(auto, using(crate::proofs::PutForms::pool_is, crate::proofs::PutForms::no_instruction))]
 fn pool(op: u8) -> Pool
     ensures { IsSome (form_at op) → result ≡ pool_of op }
 {
@@ -104,7 +104,7 @@ fn put_target_line(
 }
 
 /// A switch.
-#[tactic(auto, using(crate::proofs::Forms::switch_text))]
+#[tactic(auto, using(crate::proofs::PutForms::switch_text))]
 fn put_switch(
     default: u32,
     cases: &[u32],
@@ -118,7 +118,7 @@ fn put_switch(
 }
 
 /// `pushbyte`
-#[tactic(auto, using(abc_varint::proofs::Putting::stays, std::proofs::Common::append_assoc, crate::proofs::Forms::byte_text))]
+#[tactic(auto, using(abc_varint::proofs::Putting::stays, std::proofs::Common::append_assoc, crate::proofs::PutForms::byte_text))]
 fn put_byte(value: i8, _abc: &Shown<'_>, out: &mut Vec<u8>) -> Result<(), NoMemory>
     ensures { Puts out.old.items out.new.items result (instr_text _abc.now (instrs.Byte value)) }
 {
@@ -129,7 +129,7 @@ fn put_byte(value: i8, _abc: &Shown<'_>, out: &mut Vec<u8>) -> Result<(), NoMemo
 }
 
 /// `pushshort`
-#[tactic(auto, using(abc_varint::proofs::Putting::stays, std::proofs::Common::append_assoc, crate::proofs::Forms::short_text))]
+#[tactic(auto, using(abc_varint::proofs::Putting::stays, std::proofs::Common::append_assoc, crate::proofs::PutForms::short_text))]
 fn put_short(value: i16, _abc: &Shown<'_>, out: &mut Vec<u8>) -> Result<(), NoMemory>
     ensures { Puts out.old.items out.new.items result (instr_text _abc.now (instrs.Short value)) }
 {
@@ -140,7 +140,7 @@ fn put_short(value: i16, _abc: &Shown<'_>, out: &mut Vec<u8>) -> Result<(), NoMe
 }
 
 /// `getscopeobject`
-#[tactic(auto, using(abc_varint::proofs::Putting::stays, std::proofs::Common::append_assoc, crate::proofs::Forms::scope_text))]
+#[tactic(auto, using(abc_varint::proofs::Putting::stays, std::proofs::Common::append_assoc, crate::proofs::PutForms::scope_text))]
 fn put_scope_object(n: u8, _abc: &Shown<'_>, out: &mut Vec<u8>) -> Result<(), NoMemory>
     ensures { Puts out.old.items out.new.items result (instr_text _abc.now (instrs.ScopeObject n)) }
 {
@@ -148,7 +148,7 @@ fn put_scope_object(n: u8, _abc: &Shown<'_>, out: &mut Vec<u8>) -> Result<(), No
 }
 
 /// `debug`
-#[tactic(auto, using(abc_varint::proofs::Putting::stays, std::proofs::Common::append_assoc, crate::proofs::Forms::debug_text))]
+#[tactic(auto, using(abc_varint::proofs::Putting::stays, std::proofs::Common::append_assoc, crate::proofs::PutForms::debug_text))]
 fn put_debug(
     kind: u8,
     name: u32,

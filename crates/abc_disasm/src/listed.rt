@@ -4,12 +4,12 @@ ghost use Rattle.std.specs.List.{flat_map};
 ghost use Rattle.abc_varint.specs.Puts.{Puts};
 
 use abc_base::{NoMemory, Table};
-use abc_linetokens::Shown;
+use abc_text_writer::Shown;
 
 /// Values that have lines of their own in the one text.
 pub trait Listed: Drop {
     ghost use Rattle.std.specs.Prelude.{List, ℕ};
-    ghost use Rattle.abc_tables.specs.declared.tables.Abc.{Abc};
+    ghost use Rattle.abc_file_types.specs.declared.tables.Abc.{Abc};
 
     /// The lines of a value of a file.
     ghost text: { Abc → Self → List ℕ };

@@ -1,14 +1,14 @@
 ghost use Rattle.std.specs.Prelude.{All};
 ghost use Rattle.abc_disasm.specs.Texts.{definitions_text, front_text, pools_text, version_text, whole_text};
-ghost use Rattle.abc_lines.specs.Listing.{listing};
-ghost use Rattle.abc_tables.specs.Bodies.{IsReadyBody};
+ghost use Rattle.abc_text_lines.specs.Listing.{listing};
+ghost use Rattle.abc_file_types.specs.Bodies.{IsReadyBody};
 ghost use Rattle.abc_varint.specs.Puts.{Puts, PutsWhole};
 
-use crate::bodies::put_bodies;
 use crate::listed::put_all;
+use crate::put_bodies::put_bodies;
 use abc_base::NoMemory;
-use abc_linetokens::{Shown, put};
-use abc_tables::Abc;
+use abc_file_types::Abc;
+use abc_text_writer::{Shown, put};
 use std::alloc::Global;
 
 fn put_version(out: &mut Vec<u8>) -> Result<(), NoMemory>

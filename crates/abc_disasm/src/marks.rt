@@ -5,7 +5,7 @@ ghost use Rattle.abc_disasm.specs.Texts.{body_targets, handler_targets, instr_ta
 ghost use Rattle.abc_disasm.specs.Marks.{AreMarks};
 
 use abc_base::NoMemory;
-use abc_tables::{Body, Handler, Instr};
+use abc_file_types::{Body, Handler, Instr};
 
 /// Marks a number.
 fn mark(marks: &mut Vec<bool>, n: u32)

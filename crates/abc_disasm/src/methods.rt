@@ -2,16 +2,16 @@
 ghost use Rattle.std.specs.Prelude.{◌≡◌, ◌<◌, ◌*◌, ◌/◌, ◌+◌, length, List, ℕ};
 ghost use Rattle.std.specs.List.{flat_map};
 ghost use Rattle.abc_disasm.specs.Texts.{entry_text, metadata_text, method_text, option_text};
-ghost use Rattle.abc_lines.specs.Answers.{pairs};
-ghost use Rattle.abc_lines.specs.Kinds.{value_word};
+ghost use Rattle.abc_text_lines.specs.Answers.{pairs};
+ghost use Rattle.abc_text_lines.specs.Kinds.{value_word};
 ghost use Rattle.abc_varint.specs.Puts.{Puts};
 
 use crate::listed::{Listed, put_all};
 use abc_base::NoMemory;
-use abc_linetokens::{
+use abc_file_types::{Metadata, Method, OptionValue, ValueKind};
+use abc_text_writer::{
     Shown, push_byte, put, put_number, put_number_line, put_number_lines, put_word,
 };
-use abc_tables::{Metadata, Method, OptionValue, ValueKind};
 
 /// The word of the kind of a value.
 pub fn value_name(kind: ValueKind) -> &'static [u8]
@@ -39,7 +39,7 @@ pub fn value_name(kind: ValueKind) -> &'static [u8]
 impl Listed for OptionValue {
     ghost text = { option_text };
 
-    #[tactic(auto, unfolding(abc_lines::specs::Lineforms::option_line, abc_lines::specs::Kinds::value_kind, abc_rowparts::specs::Operands::any_number), using(abc_varint::proofs::Putting::stays, std::proofs::Common::append_assoc))]
+    #[tactic(auto, unfolding(abc_text_lines::specs::Lineforms::option_line, abc_text_lines::specs::Kinds::value_kind, abc_text_lines::specs::Operands::any_number), using(abc_varint::proofs::Putting::stays, std::proofs::Common::append_assoc))]
     fn put(&self, _abc: &Shown<'_>, out: &mut Vec<u8>) -> Result<(), NoMemory> {
         put(b"option", out)?;
         put_word(value_name(self.kind), out)?;
@@ -52,7 +52,7 @@ impl Listed for OptionValue {
 impl Listed for Method {
     ghost text = { method_text };
 
-    #[tactic(auto, unfolding(abc_lines::specs::Lineforms::method_line, abc_rowparts::specs::Operands::any_number), using(abc_varint::proofs::Putting::stays, std::proofs::Common::append_assoc))]
+    #[tactic(auto, unfolding(abc_text_lines::specs::Lineforms::method_line, abc_text_lines::specs::Operands::any_number), using(abc_varint::proofs::Putting::stays, std::proofs::Common::append_assoc))]
     fn put(&self, abc: &Shown<'_>, out: &mut Vec<u8>) -> Result<(), NoMemory> {
         put(b"method", out)?;
         put_number(self.ret, out)?;
@@ -67,7 +67,7 @@ impl Listed for Method {
 }
 
 /// A line of two strings.
-#[tactic(auto, unfolding(abc_lines::specs::Lineforms::entry_line, abc_rowparts::specs::Operands::any_number), using(abc_varint::proofs::Putting::stays, std::proofs::Common::append_assoc))]
+#[tactic(auto, unfolding(abc_text_lines::specs::Lineforms::entry_line, abc_text_lines::specs::Operands::any_number), using(abc_varint::proofs::Putting::stays, std::proofs::Common::append_assoc))]
 fn put_entry(first: u32, second: u32, _abc: &Shown<'_>, out: &mut Vec<u8>) -> Result<(), NoMemory>
     ensures { Puts out.old.items out.new.items result (entry_text _abc.now (first, second)) }
 {

@@ -1,17 +1,17 @@
 //! The lines of the constant pools.
 ghost use Rattle.std.specs.Prelude.{◌≡◌, ◌∷◌, ◌++◌, List, ℕ, codes};
 ghost use Rattle.abc_disasm.specs.Texts.{double_text, int_text, name_fields, name_text, namespace_text, set_text, string_text, uint_text};
-ghost use Rattle.abc_lines.specs.Kinds.{multiname_word, space_word};
-ghost use Rattle.abc_lines.specs.Lineforms.{kind_in};
+ghost use Rattle.abc_text_lines.specs.Kinds.{multiname_word, space_word};
+ghost use Rattle.abc_text_lines.specs.Lineforms.{kind_in};
 ghost use Rattle.abc_varint.specs.Puts.{Puts, PutsWhole};
 
 use crate::listed::Listed;
-use abc_base::NoMemory;
-use abc_linetokens::{
+use abc_base::{Bytes, NoMemory, Table};
+use abc_file_types::{Eight, Multiname, Namespace, NsKind};
+use abc_text_writer::{
     Shown, name_of, push_byte, put, put_hex_bytes, put_int_line, put_name_comment, put_number,
     put_numbers, put_quoted, put_string_comment, put_two, put_uint_line,
 };
-use abc_tables::{Bytes, Eight, Multiname, Namespace, NsKind, Table};
 
 /// The front of a namespace's line: it says of which kind it is. Each is appended whole, in few steps.
 #[inline(always)]
@@ -32,7 +32,7 @@ fn put_space_head(kind: NsKind, out: &mut Vec<u8>) -> Result<(), NoMemory>
 impl Listed for i32 {
     ghost text = { int_text };
 
-    #[tactic(auto, unfolding(abc_lines::specs::Lineforms::int_line, abc_rowparts::specs::Operands::any_signed), using(abc_varint::proofs::Putting::stays_whole, std::proofs::Common::append_assoc))]
+    #[tactic(auto, unfolding(abc_text_lines::specs::Lineforms::int_line, abc_text_lines::specs::Operands::any_signed), using(abc_varint::proofs::Putting::stays_whole, std::proofs::Common::append_assoc))]
     fn put(&self, _abc: &Shown<'_>, out: &mut Vec<u8>) -> Result<(), NoMemory> {
         put_int_line(*self, out)?;
         Ok(())
@@ -42,7 +42,7 @@ impl Listed for i32 {
 impl Listed for u32 {
     ghost text = { uint_text };
 
-    #[tactic(auto, unfolding(abc_lines::specs::Lineforms::uint_line, abc_rowparts::specs::Operands::any_number), using(abc_varint::proofs::Putting::stays_whole, std::proofs::Common::append_assoc))]
+    #[tactic(auto, unfolding(abc_text_lines::specs::Lineforms::uint_line, abc_text_lines::specs::Operands::any_number), using(abc_varint::proofs::Putting::stays_whole, std::proofs::Common::append_assoc))]
     fn put(&self, _abc: &Shown<'_>, out: &mut Vec<u8>) -> Result<(), NoMemory> {
         put_uint_line(*self, out)?;
         Ok(())
@@ -52,7 +52,7 @@ impl Listed for u32 {
 impl Listed for Eight {
     ghost text = { double_text };
 
-    #[tactic(auto, unfolding(abc_lines::specs::Lineforms::double_line, abc_rowparts::specs::Operands::eight), using(abc_varint::proofs::Putting::stays, std::proofs::Common::append_assoc))]
+    #[tactic(auto, unfolding(abc_text_lines::specs::Lineforms::double_line, abc_text_lines::specs::Operands::eight), using(abc_varint::proofs::Putting::stays, std::proofs::Common::append_assoc))]
     fn put(&self, _abc: &Shown<'_>, out: &mut Vec<u8>) -> Result<(), NoMemory> {
         put(b"double ", out)?;
         put_hex_bytes(&self.0, out)?;
@@ -64,7 +64,7 @@ impl Listed for Eight {
 impl Listed for Bytes {
     ghost text = { string_text };
 
-    #[tactic(auto, unfolding(abc_lines::specs::Lineforms::string_line, abc_rowparts::specs::Operands::text), using(abc_varint::proofs::Putting::stays, std::proofs::Common::append_assoc))]
+    #[tactic(auto, unfolding(abc_text_lines::specs::Lineforms::string_line, abc_text_lines::specs::Operands::text), using(abc_varint::proofs::Putting::stays, std::proofs::Common::append_assoc))]
     fn put(&self, _abc: &Shown<'_>, out: &mut Vec<u8>) -> Result<(), NoMemory> {
         put(b"string", out)?;
         put_quoted(self.as_slice(), out)?;
@@ -76,7 +76,7 @@ impl Listed for Bytes {
 impl Listed for Namespace {
     ghost text = { namespace_text };
 
-    #[tactic(auto, unfolding(abc_lines::specs::Lineforms::namespace_line, abc_lines::specs::Kinds::space_kind, abc_rowparts::specs::Operands::any_number), using(abc_varint::proofs::Putting::stays, std::proofs::Common::append_assoc))]
+    #[tactic(auto, unfolding(abc_text_lines::specs::Lineforms::namespace_line, abc_text_lines::specs::Kinds::space_kind, abc_text_lines::specs::Operands::any_number), using(abc_varint::proofs::Putting::stays, std::proofs::Common::append_assoc))]
     fn put(&self, abc: &Shown<'_>, out: &mut Vec<u8>) -> Result<(), NoMemory> {
         put_space_head(self.kind, out)?;
         put_number(self.name, out)?;
@@ -89,7 +89,7 @@ impl Listed for Namespace {
 impl Listed for Table<u32> {
     ghost text = { set_text };
 
-    #[tactic(auto, unfolding(abc_lines::specs::Lineforms::set_line, abc_rowparts::specs::Operands::any_number), using(abc_varint::proofs::Putting::stays, std::proofs::Common::append_assoc, crate::proofs::Shown::entries))]
+    #[tactic(auto, unfolding(abc_text_lines::specs::Lineforms::set_line, abc_text_lines::specs::Operands::any_number), using(abc_varint::proofs::Putting::stays, std::proofs::Common::append_assoc, crate::proofs::Shown::entries))]
     fn put(&self, _abc: &Shown<'_>, out: &mut Vec<u8>) -> Result<(), NoMemory> {
         put(b"set", out)?;
         put_numbers(self, out)?;
@@ -119,7 +119,7 @@ fn put_name_head(multiname: &Multiname, out: &mut Vec<u8>) -> Result<(), NoMemor
 }
 
 /// The indices of a multiname, in the order of the file.
-#[tactic(auto, unfolding(abc_rowparts::specs::Operands::any_number), using(abc_varint::proofs::Putting::stays, std::proofs::Common::append_assoc, crate::proofs::Shown::types))]
+#[tactic(auto, unfolding(abc_text_lines::specs::Operands::any_number), using(abc_varint::proofs::Putting::stays, std::proofs::Common::append_assoc, crate::proofs::Shown::types))]
 fn put_name_fields(
     multiname: &Multiname,
     _abc: &Shown<'_>,
@@ -144,7 +144,7 @@ fn put_name_fields(
 impl Listed for Multiname {
     ghost text = { name_text };
 
-    #[tactic(auto, unfolding(abc_lines::specs::Lineforms::name_line, abc_lines::specs::Kinds::multiname_kind), using(abc_varint::proofs::Putting::stays, std::proofs::Common::append_assoc, crate::proofs::Shown::name_line_is))]
+    #[tactic(auto, unfolding(abc_text_lines::specs::Lineforms::name_line, abc_text_lines::specs::Kinds::multiname_kind), using(abc_varint::proofs::Putting::stays, std::proofs::Common::append_assoc, crate::proofs::Shown::name_line_is))]
     fn put(&self, abc: &Shown<'_>, out: &mut Vec<u8>) -> Result<(), NoMemory> {
         put_name_head(self, out)?;
         put_name_fields(self, abc, out)?;

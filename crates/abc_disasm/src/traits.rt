@@ -1,17 +1,17 @@
 //! The lines of traits.
 ghost use Rattle.std.specs.Prelude.{◌∷◌, ◌++◌, codes};
 ghost use Rattle.abc_disasm.specs.Texts.{fields_text, slot_text, trait_text};
-ghost use Rattle.abc_lines.specs.Kinds.{trait_word};
-ghost use Rattle.abc_tables.specs.Traits.{trait_kind_in};
+ghost use Rattle.abc_text_lines.specs.Kinds.{trait_word};
+ghost use Rattle.abc_file_types.specs.Traits.{trait_kind_in};
 ghost use Rattle.abc_varint.specs.Puts.{Puts, PutsWhole};
 
 use crate::listed::Listed;
 use crate::methods::value_name;
 use abc_base::NoMemory;
-use abc_linetokens::{
+use abc_file_types::{OptionValue, TraitBody, TraitInfo};
+use abc_text_writer::{
     Shown, push_byte, put, put_multiname_comment, put_number, put_number_lines, put_two, put_word,
 };
-use abc_tables::{OptionValue, TraitBody, TraitInfo};
 
 /// The front of a trait's line: it says of which kind it is.
 #[inline(always)]
@@ -52,7 +52,7 @@ fn put_slot_value(
 }
 
 /// What a trait declares.
-#[tactic(auto, unfolding(abc_rowparts::specs::Operands::any_number), using(abc_varint::proofs::Putting::stays, std::proofs::Common::append_assoc))]
+#[tactic(auto, unfolding(abc_text_lines::specs::Operands::any_number), using(abc_varint::proofs::Putting::stays, std::proofs::Common::append_assoc))]
 fn put_fields(body: &TraitBody, abc: &Shown<'_>, out: &mut Vec<u8>) -> Result<(), NoMemory>
     ensures { Puts out.old.items out.new.items result (fields_text abc.now body.now) }
 {
@@ -74,7 +74,7 @@ fn put_fields(body: &TraitBody, abc: &Shown<'_>, out: &mut Vec<u8>) -> Result<()
 impl Listed for TraitInfo {
     ghost text = { trait_text };
 
-    #[tactic(auto, unfolding(abc_lines::specs::Lineforms::trait_line, abc_lines::specs::Kinds::trait_kind, abc_rowparts::specs::Operands::any_number), using(abc_varint::proofs::Putting::stays, std::proofs::Common::append_assoc))]
+    #[tactic(auto, unfolding(abc_text_lines::specs::Lineforms::trait_line, abc_text_lines::specs::Kinds::trait_kind, abc_text_lines::specs::Operands::any_number), using(abc_varint::proofs::Putting::stays, std::proofs::Common::append_assoc))]
     fn put(&self, abc: &Shown<'_>, out: &mut Vec<u8>) -> Result<(), NoMemory> {
         put_trait_head(&self.body, out)?;
         put_number(self.attrs as u32, out)?;

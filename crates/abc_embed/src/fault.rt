@@ -1,6 +1,6 @@
 use abc_base::{Failed, NoMemory};
-use abc_link::LinkError;
-use abc_session::OpenError;
+use abc_link_names::LinkError;
+use abc_objects::OpenError;
 use abc_varint::ReadError;
 use abc_verify::VerifyError;
 use std::alloc::AllocFailed;

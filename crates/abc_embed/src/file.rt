@@ -1,11 +1,11 @@
 ghost use Rattle.std.specs.Prelude.{IfOk};
-ghost use Rattle.abc_tables.specs.Files.{Fits};
+ghost use Rattle.abc_file_types.specs.Files.{Fits};
 
 use crate::fault::Fault;
 use abc_base::Source;
 use abc_file::read;
+use abc_file_types::Abc;
 use abc_link::{Linked, link};
-use abc_tables::Abc;
 use abc_verify::{Verified, verify};
 use std::alloc::Global;
 

@@ -16,7 +16,7 @@ use crate::meter::drive;
 use abc_base::{
     Bytes, Formula, Host, NoMemory, Plain, Sink, Source, StdSink, StdSource, Table, release,
 };
-use abc_heap::Limits;
+use abc_heap_store::Limits;
 use abc_host::{Entry, HostTable};
 use abc_session::Session;
 use std::alloc::Global;

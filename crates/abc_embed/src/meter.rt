@@ -1,12 +1,13 @@
 ghost use Rattle.std.specs.Prelude.{◌≡◌, IfOk, OnOk};
 ghost use Rattle.abc_base.specs.Ranges.{IsNumber};
-ghost use Rattle.abc_cells.specs.declared.values.Span.{Span};
-ghost use Rattle.abc_heap.specs.Texts.{IsText};
+ghost use Rattle.abc_heap_values.specs.declared.values.Span.{Span};
+ghost use Rattle.abc_heap_store.specs.Texts.{IsText};
 ghost use Rattle.abc_session.specs.Beside.{IsBeside};
 
 use crate::fault::Fault;
 use abc_base::{Host, Plain, Sink, write_all};
-use abc_session::{End, PlainValue, Reply, Session, SessionReply};
+use abc_machine::{End, PlainValue, Reply};
+use abc_session::{Session, SessionReply};
 use itoa::Buffer;
 
 /// How many steps the run and each call may take.

@@ -4,16 +4,16 @@ use Rattle.std.specs.Prelude.{◌≢◌, IfOk}
 use Rattle.std.proofs.Math.Seq.{take-append_seam}
 use Rattle.std.specs.declared.option.Option.{Option}
 use Rattle.std.specs.declared.result.Result.{Result}
-use Rattle.abc_format.specs.declared.reason.Reason.TheVariants as reasons
-use Rattle.abc_format.specs.Part.{At, at, Begins, image, refusal}
+use Rattle.abc_file_types.specs.declared.reason.Reason.TheVariants as reasons
+use Rattle.abc_file_types.specs.Part.{At, at, Begins, image, refusal}
 use Rattle.abc_varint.specs.declared.error.ReadError.{ReadError}
 use Rattle.abc_varint.specs.declared.error.ReadError.TheVariants as errors
 use Rattle.abc_varint.specs.View.{View}
 use Rattle.abc_varint.specs.Reads.{Fails, IsInput, Reads, known, stand, told}
 use Rattle.abc_varint.proofs.Inputs.{known_is}
-use Rattle.abc_tables.specs.declared.tables.Abc.{Abc}
-use Rattle.abc_tables.specs.Files.{file_read, Fits, IsBadFile, IsFile, IsFileRead}
-use Rattle.abc_tables.proofs.Whole.{file_read-exact, read_bad, read_begins, read_spelled, whole_begins}
+use Rattle.abc_file_types.specs.declared.tables.Abc.{Abc}
+use Rattle.abc_file_types.specs.Files.{file_read, Fits, IsBadFile, IsFile, IsFileRead}
+use Rattle.abc_file_types.proofs.Whole.{file_read-exact, read_bad, read_begins, read_spelled, whole_begins}
 use Rattle.abc_bodies.specs.Places.{ArePlaces, KeepPlaces}
 use Rattle.abc_bodies.specs.Reading.{keeping}
 use Rattle.abc_bodies.proofs.Moving.{Mapped, mapped, unmapped}

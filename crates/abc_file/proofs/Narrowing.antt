@@ -3,10 +3,10 @@ use Rattle.std.proofs.Common.{◌≡◌, ℕ, zero, suc, ◌-◌, Bool, true, Li
 use Rattle.std.specs.Prelude.{All}
 use Rattle.std.proofs.lemmas.List.{append-nil}
 use Rattle.std.proofs.lemmas.List.Elements.{All-cons, All-head, All-nil, All-push, All-same, All-tail}
-use Rattle.abc_format.specs.declared.reason.Reason.{Reason}
-use Rattle.abc_format.specs.Lists.{chain, pool_by, times}
-use Rattle.abc_format.specs.Numbers.{u30}
-use Rattle.abc_format.specs.Part.{Part, checked, image, then_by}
+use Rattle.abc_file_types.specs.declared.reason.Reason.{Reason}
+use Rattle.abc_file_types.specs.Lists.{chain, pool_by, times}
+use Rattle.abc_file_types.specs.Numbers.{u30}
+use Rattle.abc_file_types.specs.Part.{Part, checked, image, then_by}
 
 -- q spells just what p spells of the values that are P
 pub record Narrows {A : Type 0} (q p : Part A) (P : A → Type 0) : Type 0 where

@@ -1,19 +1,19 @@
 -- What passing the parts of a file, and then asking for more, says of the whole input.
 use Rattle.std.proofs.Common.{◌≡◌, ℕ, List, [], Ok, None, refl, ◌∙◌}
 use Rattle.std.specs.declared.option.Option.{Option}
-use Rattle.abc_format.specs.Part.{At}
+use Rattle.abc_file_types.specs.Part.{At}
 use Rattle.abc_varint.specs.declared.error.ReadError.{ReadError}
 use Rattle.abc_varint.specs.declared.error.ReadError.TheVariants as errors
 use Rattle.abc_varint.specs.Passes.{Passes, nothing}
 use Rattle.abc_varint.specs.Reads.{Fails, IsInput, known, stand}
 use Rattle.abc_varint.specs.View.{View}
-use Rattle.abc_tables.specs.declared.tables.Abc.{Abc}
-use Rattle.abc_tables.specs.declared.tables.Sizes.{Sizes}
-use Rattle.abc_tables.specs.Bodies.{body_list}
-use Rattle.abc_tables.specs.Classes.{sizes_of, sizes_with}
-use Rattle.abc_tables.specs.Files.{file_read, version}
-use Rattle.abc_tables.specs.Pools.{pools}
-use Rattle.abc_tables.proofs.Whole.{read_spelled, whole_begins}
+use Rattle.abc_file_types.specs.declared.tables.Abc.{Abc}
+use Rattle.abc_file_types.specs.declared.tables.Sizes.{Sizes}
+use Rattle.abc_file_types.specs.Bodies.{body_list}
+use Rattle.abc_file_types.specs.Classes.{sizes_of, sizes_with}
+use Rattle.abc_file_types.specs.Files.{file_read, version}
+use Rattle.abc_file_types.specs.Pools.{pools}
+use Rattle.abc_file_types.proofs.Whole.{read_spelled, whole_begins}
 use Rattle.abc_traits.specs.declared.definitions.Definitions.{Definitions}
 use Rattle.abc_traits.specs.Definitions.{tables, with_definitions}
 use Rattle.abc_traits.proofs.Filling.{filled as definitions_filled}

@@ -1,21 +1,21 @@
 -- The narrow format: that of files without multinames of kind 1D and without opcode 53. It is made from the parts of the
 -- format, with two tables that lack a row each.
 use Rattle.std.specs.Prelude.{◌≡◌, ℕ, Bool, true, false, nat_eq, All, List}
-use Rattle.abc_format.specs.Lists.{pool_by}
-use Rattle.abc_format.specs.Part.{Part, image}
-use Rattle.abc_tables.specs.declared.code.Instr.{Instr}
-use Rattle.abc_tables.specs.declared.code.Instr.TheVariants as instrs
-use Rattle.abc_tables.specs.declared.code.Body.{Body}
-use Rattle.abc_tables.specs.declared.instructions.Code.{Code}
-use Rattle.abc_tables.specs.declared.names.Multiname.{Multiname}
-use Rattle.abc_tables.specs.declared.names.Multiname.TheVariants as names
-use Rattle.abc_tables.specs.declared.tables.Abc.{Abc}
-use Rattle.abc_tables.specs.Bodies.{bodies_of, body_list_of, body_method, body_of}
-use Rattle.abc_tables.specs.Classes.{sizes_of}
-use Rattle.abc_tables.specs.Code.{code_body_of, code_of}
-use Rattle.abc_tables.specs.Files.{file_of}
-use Rattle.abc_tables.specs.Instructions.{RawInstr, instruction_of, opcode_in, pieces_of}
-use Rattle.abc_tables.specs.Pools.{multiname_kind_in, multiname_of, pools_of}
+use Rattle.abc_file_types.specs.Lists.{pool_by}
+use Rattle.abc_file_types.specs.Part.{Part, image}
+use Rattle.abc_file_types.specs.declared.code.Instr.{Instr}
+use Rattle.abc_file_types.specs.declared.code.Instr.TheVariants as instrs
+use Rattle.abc_file_types.specs.declared.code.Body.{Body}
+use Rattle.abc_file_types.specs.declared.instructions.Code.{Code}
+use Rattle.abc_file_types.specs.declared.names.Multiname.{Multiname}
+use Rattle.abc_file_types.specs.declared.names.Multiname.TheVariants as names
+use Rattle.abc_file_types.specs.declared.tables.Abc.{Abc}
+use Rattle.abc_file_types.specs.Bodies.{bodies_of, body_list_of, body_method, body_of}
+use Rattle.abc_file_types.specs.Classes.{sizes_of}
+use Rattle.abc_file_types.specs.Code.{code_body_of, code_of}
+use Rattle.abc_file_types.specs.Files.{file_of}
+use Rattle.abc_file_types.specs.Instructions.{RawInstr, instruction_of, opcode_in, pieces_of}
+use Rattle.abc_file_types.specs.Pools.{multiname_kind_in, multiname_of, pools_of}
 
 unfoldable pub narrow_names : ℕ → ℕ → ℕ → Part (List Multiname)
 narrow_names strings spaces sets = pool_by (multiname_of (multiname_kind_in false) strings spaces sets)

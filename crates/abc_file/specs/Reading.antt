@@ -2,14 +2,14 @@
 use Rattle.std.specs.Prelude.{◌≡◌, ◌≢◌, List, ℕ, [], drop, Some, None, Ok, Err}
 use Rattle.std.specs.declared.result.Result.{Result}
 use Rattle.std.specs.declared.option.Option.{Option}
-use Rattle.abc_format.specs.Part.{no_end, refusal}
+use Rattle.abc_file_types.specs.Part.{no_end, refusal}
 use Rattle.abc_varint.specs.View.{View}
 use Rattle.abc_varint.specs.declared.error.ReadError.{ReadError}
 use Rattle.abc_varint.specs.declared.error.ReadError.TheVariants as errors
 use Rattle.abc_varint.specs.Reads.{IsInput, known}
-use Rattle.abc_format.specs.declared.reason.Reason.TheVariants as reasons
-use Rattle.abc_tables.specs.declared.tables.Abc.{Abc}
-use Rattle.abc_tables.specs.Files.{IsFile, IsFileRead, IsBadFile, file_bytes}
+use Rattle.abc_file_types.specs.declared.reason.Reason.TheVariants as reasons
+use Rattle.abc_file_types.specs.declared.tables.Abc.{Abc}
+use Rattle.abc_file_types.specs.Files.{IsFile, IsFileRead, IsBadFile, file_bytes}
 use Rattle.abc_bodies.specs.Reading.{keeping}
 
 -- It holds of the input that a source tells, or else of some input.

@@ -1,7 +1,7 @@
 ghost use Rattle.std.specs.Prelude.{◌≡◌, ◌≤◌, ◌^◌, ◌++◌, [], Err, IfOk, IfErr, OnOk, None};
 ghost use Rattle.abc_base.specs.Faults.{Rose};
 ghost use Rattle.abc_file.specs.Reading.{IsCanonicalOf, IsFaultOf, IsNew, IsUsedUp};
-ghost use Rattle.abc_tables.specs.Files.{file_bytes, file_read, version, version_bytes};
+ghost use Rattle.abc_file_types.specs.Files.{file_bytes, file_read, version, version_bytes};
 ghost use Rattle.abc_varint.specs.Passes.{Passes, PassesPart, nothing};
 ghost use Rattle.abc_varint.specs.Reads.{Reads, ReadsPart};
 ghost use Rattle.abc_varint.specs.declared.error.ReadError.{ReadError};
@@ -31,7 +31,7 @@ fn pass_version<S: Source>(
 }
 
 /// Passes the file, and not what follows it.
-#[tactic(auto, unfolding(abc_tables::specs::Files::file_read))]
+#[tactic(auto, unfolding(abc_file_types::specs::Files::file_read))]
 fn pass_file<S: Source>(
     alloc: Global,
     w: &mut Window,

@@ -1,9 +1,9 @@
 ghost use Rattle.std.specs.Prelude.{◌≡◌, ◌↔◌, ◌≤◌, All, List, ℕ, length};
 ghost use Rattle.abc_file.specs.Narrow.{IsNarrow, narrow_file};
-ghost use Rattle.abc_format.specs.Canonical.{IsCanonical};
-ghost use Rattle.abc_tables.specs.declared.tables.Abc.{Abc};
-ghost use Rattle.abc_tables.specs.Bodies.{IsReadyBody};
-ghost use Rattle.abc_tables.specs.Files.{Fits, IsFile, IsFileRead, IsDecided, file, file_bytes};
+ghost use Rattle.abc_file_types.specs.Canonical.{IsCanonical};
+ghost use Rattle.abc_file_types.specs.declared.tables.Abc.{Abc};
+ghost use Rattle.abc_file_types.specs.Bodies.{IsReadyBody};
+ghost use Rattle.abc_file_types.specs.Files.{Fits, IsFile, IsFileRead, IsDecided, file, file_bytes};
 
 /// Every list of bytes is spelled by exactly one file, or is bad at exactly one place for exactly one reason, and
 /// never both.

@@ -1,22 +1,22 @@
 ghost use Rattle.std.specs.Prelude.{◌≡◌, ◌≤◌, ◌^◌, Ok, Err, IfOk, IfErr, OnOk, None, All, nat_eq, if◌then◌else◌};
 ghost use Rattle.abc_base.specs.Faults.{Rose};
-ghost use Rattle.abc_format.specs.Numbers.{u16 as two_bytes};
-ghost use Rattle.abc_format.specs.Part.{checked, image};
+ghost use Rattle.abc_file_types.specs.Numbers.{u16 as two_bytes};
+ghost use Rattle.abc_file_types.specs.Part.{checked, image};
 ghost use Rattle.abc_file.specs.Reading.{AnswersFile, AnswersKept, IsFaultOf, IsNew, IsTrailing, IsUsedUp, OfInput};
 ghost use Rattle.abc_bodies.specs.Places.{ArePlaces, KeepPlaces};
 ghost use Rattle.abc_bodies.specs.Reading.{keeping};
-ghost use Rattle.abc_tables.specs.Bodies.{IsReadyBody};
-ghost use Rattle.abc_tables.specs.Files.{Fits, IsFile, file_read, version};
+ghost use Rattle.abc_file_types.specs.Bodies.{IsReadyBody};
+ghost use Rattle.abc_file_types.specs.Files.{Fits, IsFile, file_read, version};
 ghost use Rattle.abc_varint.specs.Reads.{ReadsPart};
 ghost use Rattle.abc_varint.specs.declared.error.ReadError.{ReadError};
 
 use crate::rest::read_nothing_more;
 use abc_base::Source;
 use abc_bodies::{Keeping, NoPlaces, Places, read_bodies};
+use abc_file_types::{Abc, Reason};
 use abc_pools::read_pools;
-use abc_tables::Abc;
 use abc_traits::read_definitions;
-use abc_varint::{ReadError, Reason, Window, read_u16};
+use abc_varint::{ReadError, Window, read_u16};
 use std::alloc::Global;
 
 /// One number of the version, which has to be this one.
@@ -39,7 +39,7 @@ fn read_version_number<S: Source>(
 }
 
 /// The version: minor 16, major 46. It is refused by `Version` at the number that differs.
-#[tactic(auto, unfolding(abc_tables::specs::Files::version))]
+#[tactic(auto, unfolding(abc_file_types::specs::Files::version))]
 pub fn read_version<S: Source>(w: &mut Window, source: &mut S) -> Result<(u16, u16), ReadError>
     ensures { ReadsPart S.left S.faults version w.old source.old w.new source.new result }
 {
@@ -49,7 +49,7 @@ pub fn read_version<S: Source>(w: &mut Window, source: &mut S) -> Result<(u16, u
 }
 
 /// The file, with what is kept of the places of its instructions, and not what follows it.
-#[tactic(auto, unfolding(abc_tables::specs::Files::file_read))]
+#[tactic(auto, unfolding(abc_file_types::specs::Files::file_read))]
 fn read_file<S: Source, K: Keeping>(
     alloc: Global,
     w: &mut Window,

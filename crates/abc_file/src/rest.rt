@@ -4,7 +4,8 @@ ghost use Rattle.abc_file.specs.Reading.{IsEnd, IsTrailing, IsUsedUp};
 ghost use Rattle.abc_varint.specs.declared.error.ReadError.{ReadError};
 
 use abc_base::Source;
-use abc_varint::{ReadError, Reason, Window};
+use abc_file_types::Reason;
+use abc_varint::{ReadError, Window};
 
 /// Ok where nothing follows what was read; a byte that does is refused by `Trailing`.
 #[tactic(auto, using(abc_varint::proofs::Inputs::known_is))]

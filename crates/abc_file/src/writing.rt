@@ -1,18 +1,18 @@
 ghost use Rattle.std.specs.Prelude.{All};
-ghost use Rattle.abc_tables.specs.Bodies.{IsReadyBody};
-ghost use Rattle.abc_tables.specs.Files.{file_bytes};
+ghost use Rattle.abc_file_types.specs.Bodies.{IsReadyBody};
+ghost use Rattle.abc_file_types.specs.Files.{file_bytes};
 ghost use Rattle.abc_varint.specs.Puts.{Puts, PutsWhole};
 
 use abc_base::NoMemory;
 use abc_bodies::put_bodies;
+use abc_file_types::Abc;
 use abc_pools::put_pools;
-use abc_tables::Abc;
 use abc_traits::put_definitions;
 use abc_varint::put_u16;
 use std::alloc::Global;
 
 /// Appends the canonical bytes of a file.
-#[tactic(auto, unfolding(abc_tables::specs::Files::file_bytes), using(abc_varint::proofs::Putting::stays, std::proofs::Common::append_assoc))]
+#[tactic(auto, unfolding(abc_file_types::specs::Files::file_bytes), using(abc_varint::proofs::Putting::stays, std::proofs::Common::append_assoc))]
 fn append_file(alloc: Global, abc: &Abc, out: &mut Vec<u8>) -> Result<(), NoMemory>
     requires { All IsReadyBody (abc.now).bodies }
     ensures { Puts out.old.items out.new.items result (file_bytes abc.now) }

@@ -1,2 +1,4 @@
-pub mod Finds
-pub mod Starts
+pub mod Views
+pub mod FrameCalls
+pub mod Living
+pub mod Unwinding

@@ -1,1 +1,5 @@
-pub mod Frames
+pub mod Frame
+pub mod Laid
+pub mod Moves
+pub mod Ready
+pub mod Throws

@@ -6,16 +6,16 @@ use Rattle.std.specs.declared.result.Result.{Result}
 use Rattle.std.proofs.Math.Seq.{set-append_seam}
 use Rattle.std.proofs.lemmas.List.{append-nil, get_or-append-add, get_or_default, length-map, map-append, set-set}
 use Rattle.std.proofs.lemmas.List.Elements.{All-append, All-nil, All-push}
-use Rattle.abc_format.specs.Part.{At, Refusal, refusal, ◌>>=◌}
-use Rattle.abc_tables.specs.declared.code.Instr.{Instr}
-use Rattle.abc_tables.specs.declared.code.Instr.TheVariants as variants
-use Rattle.abc_tables.specs.declared.instructions.Code.{Code}
-use Rattle.abc_tables.specs.Code.{code, code_body}
-use Rattle.abc_tables.specs.Instructions.{Branch, Same, Switch, code_length, pieces}
-use Rattle.abc_tables.specs.Ready.{IsReady}
-use Rattle.abc_tables.specs.Starts.{IsRising, starts, size}
-use Rattle.abc_tables.specs.Targets.{instr_of, instrs_of, resolve}
-use Rattle.abc_tables.proofs.Resolving.{drop_read, few_starts, length-starts, missed_within, starts_rising}
+use Rattle.abc_file_types.specs.Part.{At, Refusal, refusal, ◌>>=◌}
+use Rattle.abc_file_types.specs.declared.code.Instr.{Instr}
+use Rattle.abc_file_types.specs.declared.code.Instr.TheVariants as variants
+use Rattle.abc_file_types.specs.declared.instructions.Code.{Code}
+use Rattle.abc_file_types.specs.Code.{code, code_body}
+use Rattle.abc_file_types.specs.Instructions.{Branch, Same, Switch, code_length, pieces}
+use Rattle.abc_file_types.specs.Ready.{IsReady}
+use Rattle.abc_file_types.specs.Starts.{IsRising, starts, size}
+use Rattle.abc_file_types.specs.Targets.{instr_of, instrs_of, resolve}
+use Rattle.abc_file_types.proofs.Resolving.{drop_read, few_starts, length-starts, missed_within, starts_rising}
 use Rattle.abc_instr.specs.declared.raw.RawInstr.{RawInstr as Raw}
 use Rattle.abc_instr.specs.declared.raw.RawInstr.TheVariants as raws
 use Rattle.abc_instr.specs.declared.reading.Reading.{Reading}

@@ -2,17 +2,17 @@
 use Rattle.std.proofs.Common.{◌≡◌, ℕ, zero, suc, ◌+◌, ◌-◌, ◌<◌, ◌≤◌, ◌⊎◌, inl, inr, true≢false, Bool, false, true, All, List, [], ◌∷◌, ◌++◌, length, get_or, take, drop, refl, sym, ap, subst, ◌∙◌, length-append, length-drop, append_assoc, arith}
 use Rattle.std.specs.List.{flat_map}
 use Rattle.std.proofs.Math.ListN.{drop_of_length-le}
-use Rattle.abc_format.specs.BaseNumbers.{number_bytes}
+use Rattle.abc_base.specs.Numbers.{number_bytes}
 use Rattle.std.proofs.Math.Seq.{drop-append_seam, take-add, take-append_seam}
 use Rattle.std.proofs.lemmas.List.{append-nil, drop-drop, get_or_default, take_all, take_at, take-append-drop}
 use Rattle.std.proofs.lemmas.List.Elements.{All-cons, All-nil}
-use Rattle.abc_tables.specs.declared.code.Instr.{Instr}
-use Rattle.abc_tables.specs.declared.code.Instr.TheVariants as instrs
-use Rattle.abc_tables.specs.CodeBytes.{canonical_starts, code_bytes, code_len, instr_bytes, instr_len, instrs_bytes, sized}
-use Rattle.abc_tables.specs.Starts.{starts as starts_from}
-use Rattle.abc_tables.proofs.CodeShortest.{code_bytes_length}
-use Rattle.abc_tables.proofs.Lengths.{canonical_start, len-append}
-use Rattle.abc_tables.proofs.Resolving.{drop_read}
+use Rattle.abc_file_types.specs.declared.code.Instr.{Instr}
+use Rattle.abc_file_types.specs.declared.code.Instr.TheVariants as instrs
+use Rattle.abc_file_types.specs.CodeBytes.{canonical_starts, code_bytes, code_len, instr_bytes, instr_len, instrs_bytes, sized}
+use Rattle.abc_file_types.specs.Starts.{starts as starts_from}
+use Rattle.abc_file_types.proofs.CodeShortest.{code_bytes_length}
+use Rattle.abc_file_types.proofs.Lengths.{canonical_start, len-append}
+use Rattle.abc_file_types.proofs.Resolving.{drop_read}
 use Rattle.abc_varint.proofs.Putting.{stays}
 use Rattle.abc_instr.specs.declared.pieces.Gap.{Gap}
 use Rattle.abc_instr.specs.declared.pieces.Pieces.{Pieces}

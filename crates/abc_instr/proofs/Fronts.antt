@@ -8,15 +8,15 @@ use Rattle.std.proofs.lemmas.List.{append-nil, take_all}
 use Rattle.std.proofs.Math.Seq.{take-add}
 use Rattle.abc_base.specs.Numbers.{SpellsNumber}
 use Rattle.abc_base.proofs.Spelling.{number_shortest}
-use Rattle.abc_format.specs.Ends.{blamed}
-use Rattle.abc_format.specs.Part.{limit}
-use Rattle.abc_format.specs.Numbers.{s24, u8, u30}
-use Rattle.abc_tables.specs.declared.code.Instr.TheVariants as instrs
-use Rattle.abc_tables.specs.declared.opcodes.Form.{Form}
-use Rattle.abc_tables.specs.declared.opcodes.Form.TheVariants as forms
-use Rattle.abc_tables.specs.Instructions.{RawInstr, Branch, Same, instruction, opcode, operands, signed_byte}
-use Rattle.abc_tables.specs.Opcodes.{form_at}
-use Rattle.abc_tables.proofs.CodeParts.{instruction-exact}
+use Rattle.abc_file_types.specs.Ends.{blamed}
+use Rattle.abc_file_types.specs.Part.{limit}
+use Rattle.abc_file_types.specs.Numbers.{s24, u8, u30}
+use Rattle.abc_file_types.specs.declared.code.Instr.TheVariants as instrs
+use Rattle.abc_file_types.specs.declared.opcodes.Form.{Form}
+use Rattle.abc_file_types.specs.declared.opcodes.Form.TheVariants as forms
+use Rattle.abc_file_types.specs.Instructions.{RawInstr, Branch, Same, instruction, opcode, operands, signed_byte}
+use Rattle.abc_file_types.specs.Opcodes.{form_at}
+use Rattle.abc_file_types.proofs.CodeParts.{instruction-exact}
 use Rattle.abc_varint.proofs.Front.{front_taken}
 use Rattle.abc_varint.specs.Reads.{Reads}
 use Rattle.abc_varint.specs.Ready.{IsReady}

@@ -5,14 +5,14 @@ use Rattle.std.specs.List.{flat_map}
 use Rattle.std.specs.declared.result.Result.{Result}
 use Rattle.std.proofs.lemmas.List.Elements.{All-append, All-nil, All-push}
 use Rattle.abc_base.specs.Numbers.{number_bytes}
-use Rattle.abc_format.specs.Part.{At, Refusal, refusal, ◌>>=◌}
-use Rattle.abc_tables.specs.declared.code.Instr.{Instr}
-use Rattle.abc_tables.specs.Code.{code, code_body}
-use Rattle.abc_tables.specs.CodeBytes.{canonical_starts, code_bytes, instrs_bytes}
-use Rattle.abc_tables.specs.Instructions.{RawInstr, code_length, pieces}
-use Rattle.abc_tables.specs.Starts.{starts, size}
-use Rattle.abc_tables.specs.Targets.{instrs_of, resolve}
-use Rattle.abc_tables.proofs.Resolving.{length-starts}
+use Rattle.abc_file_types.specs.Part.{At, Refusal, refusal, ◌>>=◌}
+use Rattle.abc_file_types.specs.declared.code.Instr.{Instr}
+use Rattle.abc_file_types.specs.Code.{code, code_body}
+use Rattle.abc_file_types.specs.CodeBytes.{canonical_starts, code_bytes, instrs_bytes}
+use Rattle.abc_file_types.specs.Instructions.{RawInstr, code_length, pieces}
+use Rattle.abc_file_types.specs.Starts.{starts, size}
+use Rattle.abc_file_types.specs.Targets.{instrs_of, resolve}
+use Rattle.abc_file_types.proofs.Resolving.{length-starts}
 use Rattle.abc_varint.specs.declared.error.ReadError.{ReadError}
 use Rattle.abc_varint.specs.declared.error.ReadError.TheVariants as errors
 use Rattle.abc_varint.specs.Reads.{Fails}

@@ -3,13 +3,13 @@ use Rattle.std.proofs.Common.{◌≡◌, ℕ, suc, ℤ, pos, negsuc, ◌+◌, �
 use Rattle.std.proofs.lemmas.List.{length-map}
 use Rattle.std.proofs.lemmas.List.Quantifiers.{position-Some}
 use Rattle.std.specs.declared.option.Option.{Option}
-use Rattle.abc_format.specs.Part.{◌>>=◌}
-use Rattle.abc_format.proofs.Exact.{bind_ok}
-use Rattle.abc_tables.specs.declared.code.Instr.{Instr}
-use Rattle.abc_tables.specs.declared.code.Instr.TheVariants as instrs
-use Rattle.abc_tables.specs.CodeBytes.{code_len, instr_len}
-use Rattle.abc_tables.specs.Ready.{AllCanSpell, AllUpTo, CanSpell, IsReady}
-use Rattle.abc_tables.specs.Targets.{at_start, cases_of, found, instr_of, instrs_of, target_of}
+use Rattle.abc_file_types.specs.Part.{◌>>=◌}
+use Rattle.abc_file_types.proofs.Exact.{bind_ok}
+use Rattle.abc_file_types.specs.declared.code.Instr.{Instr}
+use Rattle.abc_file_types.specs.declared.code.Instr.TheVariants as instrs
+use Rattle.abc_file_types.specs.CodeBytes.{code_len, instr_len}
+use Rattle.abc_file_types.specs.Ready.{AllCanSpell, AllUpTo, CanSpell, IsReady}
+use Rattle.abc_file_types.specs.Targets.{at_start, cases_of, found, instr_of, instrs_of, target_of}
 use Rattle.abc_instr.specs.declared.raw.RawInstr.{RawInstr as Raw}
 use Rattle.abc_instr.specs.declared.raw.RawInstr.TheVariants as raws
 use Rattle.abc_instr.specs.Offsets.{AreRaw, IsRaw, has_targets, raw_len, raw_of, raws_len}

@@ -9,13 +9,13 @@ use Rattle.std.specs.declared.option.Option.{Option}
 use Rattle.std.proofs.lemmas.List.{append-nil, map-append}
 use Rattle.std.proofs.lemmas.List.Concat.{flat_map-append}
 use Rattle.std.proofs.lemmas.List.Elements.{All-append, All-nil, All-push}
-use Rattle.abc_format.specs.Part.{◌>>=◌}
-use Rattle.abc_format.proofs.Exact.{bind_ok}
-use Rattle.abc_tables.specs.declared.code.Instr.{Instr}
-use Rattle.abc_tables.specs.declared.code.Instr.TheVariants as instrs
-use Rattle.abc_tables.specs.CodeBytes.{code_len, sized}
-use Rattle.abc_tables.specs.Starts.{starts, size}
-use Rattle.abc_tables.specs.Targets.{instr_of, instrs_of}
+use Rattle.abc_file_types.specs.Part.{◌>>=◌}
+use Rattle.abc_file_types.proofs.Exact.{bind_ok}
+use Rattle.abc_file_types.specs.declared.code.Instr.{Instr}
+use Rattle.abc_file_types.specs.declared.code.Instr.TheVariants as instrs
+use Rattle.abc_file_types.specs.CodeBytes.{code_len, sized}
+use Rattle.abc_file_types.specs.Starts.{starts, size}
+use Rattle.abc_file_types.specs.Targets.{instr_of, instrs_of}
 use Rattle.abc_instr.specs.declared.scan.Jump.{Jump}
 use Rattle.abc_instr.specs.declared.scan.Scan.{Scan}
 use Rattle.abc_instr.specs.declared.raw.RawInstr.{RawInstr as Raw}

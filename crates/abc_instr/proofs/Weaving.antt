@@ -5,21 +5,21 @@ use Rattle.std.specs.declared.option.Option.{Option}
 use Rattle.std.specs.declared.result.Result.{Result}
 use Rattle.std.proofs.lemmas.List.{append-nil, drop-drop, take_all, take_at, take-append-drop}
 use Rattle.std.proofs.Math.Seq.{drop-append_seam}
-use Rattle.abc_format.specs.Part.{Refusal, refusal, ◌>>=◌}
-use Rattle.abc_format.specs.declared.reason.Reason.TheVariants as reasons
-use Rattle.abc_tables.specs.declared.code.Instr.{Instr}
-use Rattle.abc_tables.specs.declared.code.Instr.TheVariants as instrs
+use Rattle.abc_file_types.specs.Part.{Refusal, refusal, ◌>>=◌}
+use Rattle.abc_file_types.specs.declared.reason.Reason.TheVariants as reasons
+use Rattle.abc_file_types.specs.declared.code.Instr.{Instr}
+use Rattle.abc_file_types.specs.declared.code.Instr.TheVariants as instrs
 use Rattle.abc_base.specs.Numbers.{number_bytes}
-use Rattle.abc_format.specs.Canonical.{s24_bytes}
-use Rattle.abc_tables.specs.CodeBytes.{instr_bytes, instr_len, instrs_bytes, offset}
-use Rattle.abc_tables.specs.Instructions.{RawInstr, Same}
-use Rattle.abc_tables.specs.Targets.{at_start, cases_of, found, instr_of, instrs_of, target_of}
+use Rattle.abc_file_types.specs.Canonical.{s24_bytes}
+use Rattle.abc_file_types.specs.CodeBytes.{instr_bytes, instr_len, instrs_bytes, offset}
+use Rattle.abc_file_types.specs.Instructions.{RawInstr, Same}
+use Rattle.abc_file_types.specs.Targets.{at_start, cases_of, found, instr_of, instrs_of, target_of}
 use Rattle.abc_instr.specs.declared.scan.Jump.{Jump}
 use Rattle.abc_instr.specs.Marks.{moved_at}
 use Rattle.abc_instr.specs.declared.raw.RawInstr.{RawInstr as Raw}
 use Rattle.abc_instr.specs.declared.raw.RawInstr.TheVariants as raws
 use Rattle.abc_instr.specs.Offsets.{has_targets, raw_len, raw_of, AreRaw, IsRaw}
-use Rattle.abc_tables.proofs.Resolving.{drop_read}
+use Rattle.abc_file_types.proofs.Resolving.{drop_read}
 use Rattle.abc_instr.specs.Resolving.{onto, Resolves}
 use Rattle.abc_instr.specs.declared.resolve.Missed.{Missed}
 use Rattle.abc_instr.specs.declared.resolve.Missed.TheVariants as missed

@@ -1,7 +1,7 @@
 -- Instructions without targets that are put straight from the bytes at hand.
 use Rattle.std.specs.Prelude.{◌≡◌, ℕ, ◌<◌, ◌≤◌, List, ◌++◌, take, None, Some}
 use Rattle.std.specs.declared.option.Option.{Option}
-use Rattle.abc_tables.specs.Instructions.{instruction}
+use Rattle.abc_file_types.specs.Instructions.{instruction}
 use Rattle.abc_varint.specs.Ready.{IsReady}
 use Rattle.abc_varint.specs.View.{View, held, onward}
 use Rattle.abc_instr.specs.declared.front.Front.{Front}

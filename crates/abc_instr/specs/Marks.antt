@@ -2,8 +2,8 @@
 use Rattle.std.specs.Prelude.{ℕ, ◌-◌, ◌^◌, List, get_or, nat_eq, option_map, Some, None, if◌then◌else◌}
 use Rattle.std.specs.declared.option.Option.{Option}
 use Rattle.std.specs.List.{position}
-use Rattle.abc_tables.specs.declared.instructions.Code.{Code}
-use Rattle.abc_tables.specs.CodeBytes.{canonical_starts}
+use Rattle.abc_file_types.specs.declared.instructions.Code.{Code}
+use Rattle.abc_file_types.specs.CodeBytes.{canonical_starts}
 
 -- no instruction starts there
 abbrev pub unmarked : ℕ

@@ -1,14 +1,14 @@
 -- Instructions between reading and resolving, as they are spelled: with offsets in bytes.
 use Rattle.std.specs.Prelude.{◌≡◌, ℕ, ◌+◌, ◌-◌, ◌*◌, ◌^◌, ◌<◌, ◌≤◌, Bool, true, false, List, [], ◌∷◌, length, Some, Ok, Err}
 use Rattle.std.specs.declared.result.Result.{Result}
-use Rattle.abc_tables.specs.declared.code.Instr.{Instr}
-use Rattle.abc_tables.specs.declared.code.Instr.TheVariants as instrs
-use Rattle.abc_tables.specs.declared.opcodes.Form.TheVariants as forms
-use Rattle.abc_tables.specs.CodeBytes.{instr_len, number_len}
-use Rattle.abc_tables.specs.Instructions.{RawInstr, Same, Branch, Switch}
-use Rattle.abc_tables.specs.Opcodes.{form_at}
-use Rattle.abc_tables.specs.Ready.{CanSpell}
-use Rattle.abc_tables.specs.Starts.{size}
+use Rattle.abc_file_types.specs.declared.code.Instr.{Instr}
+use Rattle.abc_file_types.specs.declared.code.Instr.TheVariants as instrs
+use Rattle.abc_file_types.specs.declared.opcodes.Form.TheVariants as forms
+use Rattle.abc_file_types.specs.CodeBytes.{instr_len, number_len}
+use Rattle.abc_file_types.specs.Instructions.{RawInstr, Same, Branch, Switch}
+use Rattle.abc_file_types.specs.Opcodes.{form_at}
+use Rattle.abc_file_types.specs.Ready.{CanSpell}
+use Rattle.abc_file_types.specs.Starts.{size}
 use Rattle.abc_instr.specs.declared.raw.RawInstr.{RawInstr as Raw}
 use Rattle.abc_instr.specs.declared.raw.RawInstr.TheVariants as raws
 

@@ -1,10 +1,10 @@
 -- Code in pieces: the bytes of the instructions without targets, and where those with some stand among them.
 use Rattle.std.specs.Prelude.{◌≡◌, ℕ, ◌+◌, ◌-◌, List, [], ◌∷◌, ◌++◌, length, get_or, take, drop}
 use Rattle.std.specs.List.{flat_map}
-use Rattle.abc_tables.specs.declared.code.Instr.{Instr}
-use Rattle.abc_tables.specs.declared.code.Instr.TheVariants as instrs
-use Rattle.abc_tables.specs.CodeBytes.{canonical_starts, code_len, instr_bytes, sized}
-use Rattle.abc_tables.specs.Starts.{starts as starts_from}
+use Rattle.abc_file_types.specs.declared.code.Instr.{Instr}
+use Rattle.abc_file_types.specs.declared.code.Instr.TheVariants as instrs
+use Rattle.abc_file_types.specs.CodeBytes.{canonical_starts, code_len, instr_bytes, sized}
+use Rattle.abc_file_types.specs.Starts.{starts as starts_from}
 use Rattle.abc_instr.specs.declared.pieces.Gap.{Gap}
 use Rattle.abc_instr.specs.declared.pieces.Pieces.{Pieces}
 

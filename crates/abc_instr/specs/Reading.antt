@@ -3,13 +3,13 @@ use Rattle.std.specs.Prelude.{◌≡◌, ℕ, ◌+◌, ◌^◌, ◌<◌, ◌≤�
 use Rattle.std.specs.Int.{w32, cast_signed}
 use Rattle.std.specs.declared.option.Option.{Option}
 use Rattle.std.specs.declared.result.Result.{Result}
-use Rattle.abc_format.specs.Part.{Refusal, limit, ◌>>=◌}
-use Rattle.abc_tables.specs.declared.code.Instr.{Instr}
-use Rattle.abc_tables.specs.declared.code.Instr.TheVariants as instrs
-use Rattle.abc_tables.specs.declared.instructions.Code.{Code}
-use Rattle.abc_tables.specs.Instructions.{RawInstr, Same, Branch, Switch}
-use Rattle.abc_tables.specs.Starts.{starts as starts_from, size as size_of, IsRising}
-use Rattle.abc_tables.specs.Targets.{instr_of}
+use Rattle.abc_file_types.specs.Part.{Refusal, limit, ◌>>=◌}
+use Rattle.abc_file_types.specs.declared.code.Instr.{Instr}
+use Rattle.abc_file_types.specs.declared.code.Instr.TheVariants as instrs
+use Rattle.abc_file_types.specs.declared.instructions.Code.{Code}
+use Rattle.abc_file_types.specs.Instructions.{RawInstr, Same, Branch, Switch}
+use Rattle.abc_file_types.specs.Starts.{starts as starts_from, size as size_of, IsRising}
+use Rattle.abc_file_types.specs.Targets.{instr_of}
 use Rattle.abc_varint.specs.View.{GoesOver, View}
 use Rattle.abc_instr.specs.declared.raw.RawInstr.{RawInstr as Raw}
 use Rattle.abc_instr.specs.declared.raw.RawInstr.TheVariants as raws

@@ -1,8 +1,8 @@
 -- What the search for targets answers.
 use Rattle.std.specs.Prelude.{◌≡◌, List, ◌++◌, Ok, Err}
 use Rattle.std.specs.declared.result.Result.{Result}
-use Rattle.abc_format.specs.declared.reason.Reason.TheVariants as reasons
-use Rattle.abc_format.specs.Part.{Refusal, refusal, ◌>>=◌}
+use Rattle.abc_file_types.specs.declared.reason.Reason.TheVariants as reasons
+use Rattle.abc_file_types.specs.Part.{Refusal, refusal, ◌>>=◌}
 use Rattle.abc_instr.specs.declared.resolve.Missed.{Missed}
 use Rattle.abc_instr.specs.declared.resolve.Missed.TheVariants as missed
 

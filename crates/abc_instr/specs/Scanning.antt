@@ -4,12 +4,12 @@ use Rattle.std.specs.List.{flat_map}
 use Rattle.std.specs.declared.option.Option.{Option}
 use Rattle.std.specs.declared.result.Result.{Result}
 use Rattle.abc_base.specs.Numbers.{number_bytes}
-use Rattle.abc_format.specs.Canonical.{s24_bytes}
-use Rattle.abc_format.specs.Part.{Refusal, limit, ◌>>=◌}
-use Rattle.abc_tables.specs.CodeBytes.{instr_bytes}
-use Rattle.abc_tables.specs.Instructions.{RawInstr}
-use Rattle.abc_tables.specs.Starts.{starts as starts_from, size as size_of}
-use Rattle.abc_tables.specs.Targets.{found}
+use Rattle.abc_file_types.specs.Canonical.{s24_bytes}
+use Rattle.abc_file_types.specs.Part.{Refusal, limit, ◌>>=◌}
+use Rattle.abc_file_types.specs.CodeBytes.{instr_bytes}
+use Rattle.abc_file_types.specs.Instructions.{RawInstr}
+use Rattle.abc_file_types.specs.Starts.{starts as starts_from, size as size_of}
+use Rattle.abc_file_types.specs.Targets.{found}
 use Rattle.abc_instr.specs.declared.scan.Jump.{Jump}
 use Rattle.abc_instr.specs.declared.scan.Scan.{Scan}
 use Rattle.abc_varint.specs.View.{GoesOver, View}

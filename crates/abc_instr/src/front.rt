@@ -1,13 +1,13 @@
 ghost use Rattle.std.specs.Prelude.{◌≡◌, ◌≤◌, ℕ, List, None, Some, IfOk, OnErr, get_or, length};
-ghost use Rattle.abc_tables.specs.Opcodes.{form_at};
-ghost use Rattle.abc_tables.specs.declared.code.Instr.{Instr};
+ghost use Rattle.abc_file_types.specs.Opcodes.{form_at};
+ghost use Rattle.abc_file_types.specs.declared.code.Instr.{Instr};
 ghost use Rattle.abc_instr.specs.Fronts.{IsFront, PutsFront, TakesFront, count_of};
 ghost use Rattle.abc_instr.specs.Reading.{done_in};
 ghost use Rattle.abc_instr.specs.Scanning.{plain_bytes};
 
 use crate::put::BYTE;
 use abc_base::NoMemory;
-use abc_tables::{Form, U30_LIMIT, opcode};
+use abc_file_types::{Form, U30_LIMIT, opcode};
 use abc_varint::{Window, front_number, front_s24, put_u8, put_u30};
 
 /// How many bytes have to be at hand: an opcode, and two numbers of five bytes.
@@ -113,7 +113,7 @@ pub fn branch_front(bytes: &[u8]) -> Front
 /// Puts the instruction that the bytes begin with, or gives it where it has targets. Nothing is put, and `None` given,
 /// where they spell none or a rare one.
 #[inline(always)]
-#[tactic(auto, unfolding(abc_tables::specs::Opcodes::form_at))]
+#[tactic(auto, unfolding(abc_file_types::specs::Opcodes::form_at))]
 fn put_front(bytes: &[u8], plain: &mut Vec<u8>) -> Result<Option<Front>, NoMemory>
     requires { 11 ≤ length bytes.now }
     ensures { IfOk result (λ f. PutsFront plain_bytes f bytes.now plain.old.items plain.new.items) }

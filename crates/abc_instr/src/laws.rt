@@ -1,9 +1,9 @@
 ghost use Rattle.std.specs.Prelude.{◌↔◌, List, ℕ};
-ghost use Rattle.abc_format.specs.Canonical.{IsCanonical};
-ghost use Rattle.abc_format.specs.Law.{IsDetermined};
-ghost use Rattle.abc_tables.specs.declared.instructions.Code.{Code as AnyCode};
-ghost use Rattle.abc_tables.specs.Code.{code as code_part, code_listing};
-ghost use Rattle.abc_tables.specs.CodeBytes.{code_bytes};
+ghost use Rattle.abc_file_types.specs.Canonical.{IsCanonical};
+ghost use Rattle.abc_file_types.specs.Law.{IsDetermined};
+ghost use Rattle.abc_file_types.specs.declared.instructions.Code.{Code as AnyCode};
+ghost use Rattle.abc_file_types.specs.Code.{code as code_part, code_listing};
+ghost use Rattle.abc_file_types.specs.CodeBytes.{code_bytes};
 ghost use Rattle.abc_instr.specs.Laws.{SpellsWithLength};
 
 /// What reading and putting code stand on. Code is spelled by the number of its bytes, below 2^23, and by the pieces of

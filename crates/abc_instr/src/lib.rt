@@ -18,7 +18,7 @@ mod scan;
 mod starts;
 mod weave;
 
-pub use abc_tables::{Code, Form, Instr, OpInfo, Pool, code_len, mnemonic, opcode};
+pub use abc_file_types::{Code, Form, Instr, OpInfo, Pool, code_len, mnemonic, opcode};
 pub use laws::code_law;
 pub use marks::Marks;
 pub use pass::pass_code;

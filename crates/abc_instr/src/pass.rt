@@ -1,6 +1,6 @@
 ghost use Rattle.std.specs.Prelude.{◌≡◌, ◌≤◌, ◌<◌, ◌^◌, ◌+◌, None, OnOk, length};
-ghost use Rattle.abc_tables.specs.Code.{code as code_part};
-ghost use Rattle.abc_tables.specs.CodeBytes.{code_bytes};
+ghost use Rattle.abc_file_types.specs.Code.{code as code_part};
+ghost use Rattle.abc_file_types.specs.CodeBytes.{code_bytes};
 ghost use Rattle.abc_varint.specs.Passes.{Passes, PassesPart};
 ghost use Rattle.abc_varint.specs.Reads.{Reads, ReadsPart, stored};
 ghost use Rattle.abc_instr.specs.Marks.{mark_at, moved_in};
@@ -10,7 +10,8 @@ use crate::resolve::Missed;
 use crate::scan::{Scan, scan_code};
 use crate::weave::put_scan;
 use abc_base::Source;
-use abc_varint::{ReadError, Reason, Window};
+use abc_file_types::Reason;
+use abc_varint::{ReadError, Window};
 use std::alloc::Global;
 
 /// Reads code, as `read_code` does, and appends its canonical bytes. What is left of it are the marks, which say where each

@@ -2,15 +2,15 @@
 ghost use Rattle.std.specs.Prelude.{◌≡◌, ◌<◌, ◌+◌, ◌^◌, ◌++◌, ◌∷◌, [], All, List, ℕ, length, IfOk, OnOk, OnErr};
 ghost use Rattle.abc_instr.specs.Offsets.{has_targets as has_some};
 ghost use Rattle.abc_instr.specs.Pieces.{ArePieces, filled, free_bytes, gap_bytes, gaps_in};
-ghost use Rattle.abc_tables.specs.Code.{code_listing};
-ghost use Rattle.abc_tables.specs.CodeBytes.{canonical_starts, code_bytes, instr_len as len_of};
-ghost use Rattle.abc_tables.specs.Ready.{IsReady};
+ghost use Rattle.abc_file_types.specs.Code.{code_listing};
+ghost use Rattle.abc_file_types.specs.CodeBytes.{canonical_starts, code_bytes, instr_len as len_of};
+ghost use Rattle.abc_file_types.specs.Ready.{IsReady};
 ghost use Rattle.abc_varint.specs.Puts.{Puts};
 
 use crate::put::{put_aimed, put_free, short_len};
 use crate::weave::put_range;
 use abc_base::{NoMemory, Table};
-use abc_tables::Instr;
+use abc_file_types::Instr;
 use abc_varint::put_u30;
 use std::alloc::Global;
 
@@ -146,7 +146,7 @@ fn put_filled(
 
 /// Appends the canonical code as `put_code` does, which was taken in pieces. Where memory runs out, the old bytes are still
 /// the front.
-#[tactic(auto, unfolding(abc_tables::specs::CodeBytes::code_bytes), using(abc_varint::proofs::Putting::stays, std::proofs::Common::append_assoc))]
+#[tactic(auto, unfolding(abc_file_types::specs::CodeBytes::code_bytes), using(abc_varint::proofs::Putting::stays, std::proofs::Common::append_assoc))]
 pub fn put_pieces(code: &Table<Instr>, pieces: &Pieces, out: &mut Vec<u8>) -> Result<(), NoMemory>
     requires ready { IsReady code.now }
     requires pieces { ArePieces code.now pieces.now }

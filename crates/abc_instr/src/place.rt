@@ -1,16 +1,17 @@
 ghost use Rattle.std.specs.Prelude.{◌≡◌, ◌≤◌, ◌<◌, ◌^◌, Err, IfOk, length};
-ghost use Rattle.abc_tables.specs.Places.{instruction_place};
-ghost use Rattle.abc_tables.specs.Starts.{IsRising};
+ghost use Rattle.abc_file_types.specs.Places.{instruction_place};
+ghost use Rattle.abc_file_types.specs.Starts.{IsRising};
 ghost use Rattle.abc_varint.specs.Reads.{ReadsPart};
 ghost use Rattle.abc_varint.specs.declared.error.ReadError.{ReadError};
 
 use crate::starts::number_of;
 use abc_base::Source;
-use abc_varint::{ReadError, Reason, Window, read_u30};
+use abc_file_types::Reason;
+use abc_varint::{ReadError, Window, read_u30};
 
 /// The number of the instruction that starts at a place in the code as it was read, or of the end, as an exception names
 /// it. It is refused by `HandlerRange` at its first byte where no instruction starts there. It takes no memory.
-#[tactic(auto, unfolding(abc_tables::specs::Places::instruction_place))]
+#[tactic(auto, unfolding(abc_file_types::specs::Places::instruction_place))]
 pub fn read_place<S: Source>(
     w: &mut Window,
     source: &mut S,

@@ -1,12 +1,12 @@
 //! Instructions without targets that are taken straight from the bytes at hand.
 ghost use Rattle.std.specs.Prelude.{◌≡◌, ◌≤◌, Some, IfOk, OnErr, get_or, length};
-ghost use Rattle.abc_tables.specs.Opcodes.{form_at};
+ghost use Rattle.abc_file_types.specs.Opcodes.{form_at};
 ghost use Rattle.abc_instr.specs.Fronts.{PutsFront, TakesFront};
 ghost use Rattle.abc_instr.specs.Reading.{done_in};
 
 use crate::front::{Front, ROOM, branch_front};
 use abc_base::{NoMemory, Table};
-use abc_tables::{Form, Instr, U30_LIMIT, opcode};
+use abc_file_types::{Form, Instr, U30_LIMIT, opcode};
 use abc_varint::{Window, front_number};
 
 /// Adds an opcode alone.
@@ -72,7 +72,7 @@ fn push_byte(bytes: &[u8], instrs: &mut Table<Instr>) -> Result<Option<Front>, N
 /// Adds the instruction that the bytes begin with, or gives it where it has targets. Nothing is added, and `None` given,
 /// where they spell none or a rare one.
 #[inline(always)]
-#[tactic(auto, unfolding(abc_tables::specs::Opcodes::form_at))]
+#[tactic(auto, unfolding(abc_file_types::specs::Opcodes::form_at))]
 fn push_front(bytes: &[u8], instrs: &mut Table<Instr>) -> Result<Option<Front>, NoMemory>
     requires { 11 ≤ length bytes.now }
     ensures { IfOk result (λ f. PutsFront done_in f bytes.now instrs.old instrs.new) }

@@ -1,15 +1,15 @@
 ghost use Rattle.std.specs.Prelude.{◌≡◌, ◌≤◌, ◌<◌, ◌-◌, ◌^◌, ◌++◌, ◌∷◌, [], length, get_or, All};
 ghost use Rattle.std.specs.List.{flat_map};
 ghost use Rattle.abc_base.specs.Numbers.{number_bytes};
-ghost use Rattle.abc_format.specs.Canonical.{s24_bytes};
+ghost use Rattle.abc_file_types.specs.Canonical.{s24_bytes};
 ghost use Rattle.abc_varint.specs.Puts.{Puts};
-ghost use Rattle.abc_tables.specs.Starts.{start};
+ghost use Rattle.abc_file_types.specs.Starts.{start};
 ghost use Rattle.abc_instr.specs.Pieces.{aimed_bytes, free_bytes};
-ghost use Rattle.abc_tables.specs.CodeBytes.{code_len as total, instr_len as len_of, offset as offset_of, sized};
-ghost use Rattle.abc_tables.specs.Ready.{CanSpell, Small};
+ghost use Rattle.abc_file_types.specs.CodeBytes.{code_len as total, instr_len as len_of, offset as offset_of, sized};
+ghost use Rattle.abc_file_types.specs.Ready.{CanSpell, Small};
 
 use abc_base::{NoMemory, Table};
-use abc_tables::{Instr, instr_len};
+use abc_file_types::{Instr, instr_len};
 use abc_varint::{put_count, put_s24, put_u8, put_u30, put_u32};
 
 /// `lookupswitch`
@@ -36,7 +36,7 @@ pub fn short_len(instr: &Instr) -> u32
 }
 
 /// Where an instruction starts in the canonical code, or where the code ends. Instructions count from 0.
-#[tactic(auto, using(abc_tables::proofs::Lengths::start_step, abc_tables::proofs::Lengths::len_step))]
+#[tactic(auto, using(abc_file_types::proofs::Lengths::start_step, abc_file_types::proofs::Lengths::len_step))]
 pub fn offset_at(code: &Table<Instr>, index: u32) -> u32
     requires index { index ≤ length code.now }
     requires short { total code.now < 2 ^ 23 }

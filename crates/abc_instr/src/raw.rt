@@ -1,18 +1,18 @@
 ghost use Rattle.std.specs.Prelude.{◌≡◌, ◌≤◌, ◌<◌, ◌*◌, ◌^◌, None, Some, IfOk, OnOk, length};
 ghost use Rattle.std.specs.Int.{w16, cast_unsigned};
-ghost use Rattle.abc_format.specs.Ends.{blamed};
-ghost use Rattle.abc_format.specs.Lists.{times};
-ghost use Rattle.abc_format.specs.Numbers.{s24};
-ghost use Rattle.abc_tables.specs.Instructions.{opcode as opcode_part, signed_byte, signed_short, instruction};
-ghost use Rattle.abc_tables.specs.CodeBytes.{number_len};
-ghost use Rattle.abc_tables.specs.Opcodes.{form_at};
+ghost use Rattle.abc_file_types.specs.Ends.{blamed};
+ghost use Rattle.abc_file_types.specs.Lists.{times};
+ghost use Rattle.abc_file_types.specs.Numbers.{s24};
+ghost use Rattle.abc_file_types.specs.Instructions.{opcode as opcode_part, signed_byte, signed_short, instruction};
+ghost use Rattle.abc_file_types.specs.CodeBytes.{number_len};
+ghost use Rattle.abc_file_types.specs.Opcodes.{form_at};
 ghost use Rattle.abc_varint.specs.Reads.{Blames, Keeps, Reads, ReadsPart};
 ghost use Rattle.abc_varint.specs.View.{GoesOver};
 ghost use Rattle.abc_instr.specs.Offsets.{raw_len, raw_of, seen, IsRaw};
 
 use abc_base::{Source, Table};
-use abc_tables::{Form, Instr, opcode};
-use abc_varint::{ReadError, Reason, Window, read_s24, read_u8, read_u30, read_u32};
+use abc_file_types::{Form, Instr, Reason, opcode};
+use abc_varint::{ReadError, Window, read_s24, read_u8, read_u30, read_u32};
 use std::alloc::Global;
 
 /// An instruction as it is spelled: one without targets is itself, and a branch and a switch have offsets in bytes.
@@ -27,7 +27,7 @@ pub enum RawInstr {
 }
 
 /// An opcode that some instruction has, and what follows it.
-#[tactic(auto, unfolding(abc_tables::specs::Instructions::opcode, abc_tables::specs::Opcodes::form_at))]
+#[tactic(auto, unfolding(abc_file_types::specs::Instructions::opcode, abc_file_types::specs::Opcodes::form_at))]
 fn read_opcode<S: Source>(w: &mut Window, source: &mut S) -> Result<(u8, Form), ReadError>
     ensures moves { OnOk result (w.old.place < w.new.place) }
     ensures value { ReadsPart S.left S.faults opcode_part w.old source.old w.new source.new result }
@@ -46,7 +46,7 @@ fn read_opcode<S: Source>(w: &mut Window, source: &mut S) -> Result<(u8, Form), 
 }
 
 /// A byte, in two's complement.
-#[tactic(auto, unfolding(abc_tables::specs::Instructions::signed_byte))]
+#[tactic(auto, unfolding(abc_file_types::specs::Instructions::signed_byte))]
 fn read_signed_byte<S: Source>(w: &mut Window, source: &mut S) -> Result<i8, ReadError>
     ensures value { ReadsPart S.left S.faults signed_byte w.old source.old w.new source.new result }
     ensures passes { OnOk result (GoesOver 1 w.old w.new) }
@@ -56,7 +56,7 @@ fn read_signed_byte<S: Source>(w: &mut Window, source: &mut S) -> Result<i8, Rea
 }
 
 /// A u32, of which the low 16 bits count, in two's complement.
-#[tactic(auto, unfolding(abc_tables::specs::Instructions::signed_short))]
+#[tactic(auto, unfolding(abc_file_types::specs::Instructions::signed_short))]
 fn read_signed_short<S: Source>(w: &mut Window, source: &mut S) -> Result<i16, ReadError>
     ensures value { ReadsPart S.left S.faults signed_short w.old source.old w.new source.new result }
     ensures passes { IfOk result (λ z. GoesOver (number_len (cast_unsigned w16 z)) w.old w.new) }
@@ -95,7 +95,7 @@ fn read_offsets<S: Source>(
 }
 
 /// An instruction; where it needs a byte past the end, that is told at that byte.
-#[tactic(auto, unfolding(abc_tables::specs::Instructions::instruction, abc_tables::specs::Instructions::switch_offsets))]
+#[tactic(auto, unfolding(abc_file_types::specs::Instructions::instruction, abc_file_types::specs::Instructions::switch_offsets))]
 fn read_instruction<S: Source>(
     alloc: Global,
     w: &mut Window,
@@ -156,7 +156,7 @@ fn read_instruction<S: Source>(
 }
 
 /// An instruction; where it needs a byte past the end, that is told at its opcode.
-#[tactic(auto, using(abc_format::proofs::Within::blamed_ends))]
+#[tactic(auto, using(abc_file_types::proofs::Within::blamed_ends))]
 pub fn read_raw<S: Source>(
     alloc: Global,
     w: &mut Window,

@@ -1,8 +1,8 @@
 ghost use Rattle.std.specs.Prelude.{◌≡◌, ◌≤◌, ◌<◌, ◌^◌, ◌+◌, None, All, IfOk, OnOk, length};
-ghost use Rattle.abc_tables.specs.Code.{code as code_part};
-ghost use Rattle.abc_tables.specs.Instructions.{code_length};
-ghost use Rattle.abc_tables.specs.Ready.{IsReady};
-ghost use Rattle.abc_tables.specs.Starts.{IsRising};
+ghost use Rattle.abc_file_types.specs.Code.{code as code_part};
+ghost use Rattle.abc_file_types.specs.Instructions.{code_length};
+ghost use Rattle.abc_file_types.specs.Ready.{IsReady};
+ghost use Rattle.abc_file_types.specs.Starts.{IsRising};
 ghost use Rattle.abc_varint.specs.Answers.{Answers};
 ghost use Rattle.abc_varint.specs.Reads.{ReadsPart};
 ghost use Rattle.abc_instr.specs.Reading.{AreSmallStarts, aimed, with_offsets};
@@ -11,15 +11,15 @@ ghost use Rattle.abc_instr.specs.Resolving.{Resolves};
 use crate::reading::{Reading, read_pieces};
 use crate::resolve::{Missed, resolve_all};
 use abc_base::{Source, Table};
-use abc_tables::{Code, Instr};
-use abc_varint::{ReadError, Reason, Window, read_u30};
+use abc_file_types::{Code, Instr, Reason};
+use abc_varint::{ReadError, Window, read_u30};
 use std::alloc::Global;
 
 /// The length of code is below it.
 const LENGTH_END: u32 = 1 << 23;
 
 /// The number of code's bytes, below 2^23. It is refused by `CodeLength` at its first byte where it is greater.
-#[tactic(auto, unfolding(abc_tables::specs::Instructions::code_length))]
+#[tactic(auto, unfolding(abc_file_types::specs::Instructions::code_length))]
 pub fn read_length<S: Source>(w: &mut Window, source: &mut S) -> Result<u32, ReadError>
     ensures small { IfOk result (λ n. n < 2 ^ 23) }
     ensures value { ReadsPart S.left S.faults code_length w.old source.old w.new source.new result }
@@ -50,7 +50,7 @@ fn take_instrs(alloc: Global, reading: &mut Reading) -> Result<Table<Instr>, Mis
 
 /// Reads code, as `read_code` does, in memory that serves one code after the other. Gives the instructions, and leaves
 /// their starts in the reading.
-#[tactic(auto, unfolding(abc_tables::specs::Code::code, abc_tables::specs::Code::code_body, abc_tables::specs::Targets::resolve))]
+#[tactic(auto, unfolding(abc_file_types::specs::Code::code, abc_file_types::specs::Code::code_body, abc_file_types::specs::Targets::resolve))]
 pub fn read_code_within<S: Source>(
     alloc: Global,
     w: &mut Window,

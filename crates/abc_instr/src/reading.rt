@@ -1,7 +1,7 @@
 ghost use Rattle.std.specs.Prelude.{◌≡◌, ◌≤◌, ◌<◌, ◌+◌, ◌^◌, ◌++◌, ◌∷◌, [], None, IfOk, OnOk, length, map};
 ghost use Rattle.std.specs.Int.{w32, cast_signed};
-ghost use Rattle.abc_format.specs.Ends.{blamed};
-ghost use Rattle.abc_tables.specs.Instructions.{instruction, pieces as pieces_part};
+ghost use Rattle.abc_file_types.specs.Ends.{blamed};
+ghost use Rattle.abc_file_types.specs.Instructions.{instruction, pieces as pieces_part};
 ghost use Rattle.abc_varint.specs.Reads.{Blames, Keeps, Reads, ReadsUntil};
 ghost use Rattle.abc_instr.specs.Offsets.{IsRaw};
 ghost use Rattle.abc_instr.specs.Reading.{IsReading, IsRead, ReadsPieces, Takes, TakesInstrOn};
@@ -11,7 +11,7 @@ use crate::push::push_next;
 use crate::raw::{RawInstr, read_raw};
 use crate::starts::Starts;
 use abc_base::{NoMemory, Source, Table};
-use abc_tables::{BoxedList, Instr};
+use abc_file_types::{BoxedList, Instr};
 use abc_varint::{ReadError, Window};
 use std::alloc::Global;
 

@@ -1,7 +1,7 @@
 ghost use Rattle.std.specs.Prelude.{◌≡◌, ◌≤◌, ◌<◌, ◌^◌, All, length, map};
 ghost use Rattle.std.specs.Int.{w32, cast_signed};
-ghost use Rattle.abc_tables.specs.Starts.{IsRising};
-ghost use Rattle.abc_tables.specs.Targets.{target_of, found, cases_of, instr_of};
+ghost use Rattle.abc_file_types.specs.Starts.{IsRising};
+ghost use Rattle.abc_file_types.specs.Targets.{target_of, found, cases_of, instr_of};
 ghost use Rattle.abc_varint.specs.Reads.{stored};
 ghost use Rattle.abc_instr.specs.Reading.{AreSmallStarts, aimed, spelled};
 ghost use Rattle.abc_instr.specs.Resolving.{Resolves};
@@ -9,7 +9,7 @@ ghost use Rattle.abc_instr.specs.declared.resolve.Missed.TheVariants as missed;
 
 use crate::starts::Starts;
 use abc_base::{NoMemory, Table};
-use abc_tables::{BoxedList, Instr};
+use abc_file_types::{BoxedList, Instr};
 use std::alloc::Global;
 
 /// Why a target was not found.

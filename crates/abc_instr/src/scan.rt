@@ -1,6 +1,6 @@
 ghost use Rattle.std.specs.Prelude.{◌≡◌, ◌≤◌, ◌<◌, ◌+◌, ◌-◌, ◌^◌, ◌++◌, ◌∷◌, [], None, IfOk, OnOk, ℕ, length};
-ghost use Rattle.abc_format.specs.Ends.{blamed};
-ghost use Rattle.abc_tables.specs.Instructions.{instruction, pieces as pieces_part};
+ghost use Rattle.abc_file_types.specs.Ends.{blamed};
+ghost use Rattle.abc_file_types.specs.Instructions.{instruction, pieces as pieces_part};
 ghost use Rattle.abc_varint.specs.Reads.{Blames, Keeps, Reads, ReadsUntil};
 ghost use Rattle.abc_instr.specs.Marks.{mark_at};
 ghost use Rattle.abc_instr.specs.Offsets.{raw_len as len_of, IsRaw};
@@ -11,7 +11,7 @@ use crate::marks::Marks;
 use crate::put::{put_free, short_len};
 use crate::raw::{RawInstr, read_raw};
 use abc_base::{NoMemory, Source};
-use abc_tables::count_len;
+use abc_file_types::count_len;
 use abc_varint::{ReadError, Window};
 use std::alloc::Global;
 

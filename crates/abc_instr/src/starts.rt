@@ -1,6 +1,6 @@
 ghost use Rattle.std.specs.Prelude.{◌≡◌, ◌<◌, ◌^◌, ◌++◌, ◌∷◌, [], OnOk, length, nat_eq};
 ghost use Rattle.std.specs.List.{position};
-ghost use Rattle.abc_tables.specs.Starts.{IsRising};
+ghost use Rattle.abc_file_types.specs.Starts.{IsRising};
 
 use crate::guesses::Guesses;
 use abc_base::{NoMemory, Table};

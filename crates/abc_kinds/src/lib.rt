@@ -2,19 +2,19 @@
 #![tactic(auto)]
 
 ghost use Rattle.std.specs.Prelude.{◌≡◌, ◌<◌, ◌↔◌, IsTrue};
-ghost use Rattle.abc_program.specs.Kinds.{IsAtMost, IsJoin};
-ghost use Rattle.abc_program.specs.Linked.{IsLinkedFile};
-ghost use Rattle.abc_program.specs.Tree.{IsBelow, IsCommon};
+ghost use Rattle.abc_link_program.specs.Kinds.{IsAtMost, IsJoin};
+ghost use Rattle.abc_link_program.specs.Linked.{IsLinkedFile};
+ghost use Rattle.abc_link_program.specs.Tree.{IsBelow, IsCommon};
 ghost use Rattle.abc_kinds.specs.Steps.{ClimbsTo, NearsTo};
 
-pub use abc_link::{Linked, Part, Ty, kind_of_type};
-pub use abc_program::{Kind, LayoutId};
+pub use abc_link::{Linked, kind_of_type};
+pub use abc_link_program::{Kind, LayoutId, Part, Ty};
 
 /// What tells which layout each layout stands under.
 pub trait Tree {
     ghost use Rattle.std.specs.Prelude.{◌≡◌};
-    ghost use Rattle.abc_program.specs.Linked.{LinkedFile, above};
-    ghost use Rattle.abc_program.specs.Tree.{IsBelow};
+    ghost use Rattle.abc_link_program.specs.Linked.{LinkedFile, above};
+    ghost use Rattle.abc_link_program.specs.Tree.{IsBelow};
 
     ghost file: { Self → LinkedFile };
 

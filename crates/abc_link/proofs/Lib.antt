@@ -1,3 +1,6 @@
+pub mod Reading
+pub mod Rows
+pub mod ScriptPlaces
+pub mod SetSearch
 pub mod Laws
 pub mod Rungs
-pub use Rattle.abc_interfaces.proofs.Finding

@@ -1,13 +1,13 @@
 -- A linked file, as the tables that say it.
-use Rattle.abc_link.specs.Made.{IsMade}
+use Rattle.abc_link.specs.LinkedMade.{IsMade}
 use Rattle.abc_link.specs.declared.linked.Linked.TheInside.{Inside}
-use Rattle.abc_interfaces.specs.Meanings.{AreMeanings}
-use Rattle.abc_interfaces.specs.Numbers.{AreNames}
-use Rattle.abc_interfaces.specs.Linked.{LinkedFile}
-use Rattle.abc_interfaces.specs.Firsts.{IsFew}
-use Rattle.abc_interfaces.specs.Rules.{AllHold}
-use Rattle.abc_search_tables.specs.Files.{linked}
-use Rattle.abc_tables.specs.Files.{Fits}
+use Rattle.abc_link_names.specs.Meanings.{AreMeanings}
+use Rattle.abc_link_names.specs.Numbers.{AreNames}
+use Rattle.abc_link_program.specs.Linked.{LinkedFile}
+use Rattle.abc_link_names.specs.Firsts.{IsFew}
+use Rattle.abc_link_names.specs.Rules.{AllHold}
+use Rattle.abc_link_layouts.specs.Files.{linked}
+use Rattle.abc_file_types.specs.Files.{Fits}
 
 abbrev pub file_of : Inside → LinkedFile
 file_of a = linked a.abc a.made.layouts

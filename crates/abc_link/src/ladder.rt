@@ -1,13 +1,13 @@
 ghost use Rattle.std.specs.Prelude.{◌≡◌, length, IfOk};
-ghost use Rattle.abc_interfaces.specs.Linked.{above as above_of};
-ghost use Rattle.abc_interfaces.specs.Tree.{IsBelow};
+ghost use Rattle.abc_link_program.specs.Linked.{above as above_of};
+ghost use Rattle.abc_link_program.specs.Tree.{IsBelow};
 ghost use Rattle.abc_link.specs.Ladders.{AreRungs};
-ghost use Rattle.abc_search_tables.specs.Files.{linked};
-ghost use Rattle.abc_search_tables.specs.Laid.{AreLayouts};
+ghost use Rattle.abc_link_layouts.specs.Files.{linked};
+ghost use Rattle.abc_link_layouts.specs.Laid.{AreLayouts};
 
 use abc_base::{NoMemory, Table};
-use abc_search_tables::Layouts;
-use abc_tables::Abc;
+use abc_file_types::Abc;
+use abc_link_layouts::Layouts;
 use std::alloc::Global;
 
 /// What is known of the way up from a layout.

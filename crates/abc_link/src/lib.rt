@@ -1,3 +1,6 @@
+//! Tables of a linked file by which a search takes constant time and no memory: where the slot of a trait stands, the traits
+//! of all scripts by the numbers of their texts, and whether a set has a namespace.
+//!
 //! Linking: a file that keeps the rules of linking becomes a program, with the owners of its methods, the layouts of its
 //! objects and the types of its names.
 #![tactic(auto)]
@@ -5,10 +8,17 @@
 mod ladder;
 mod linked;
 mod linking;
+mod scripts;
+mod sets;
+mod slots;
+mod tables;
 
-pub use abc_interfaces::{
-    Item, ItemKind, Kind, LayoutId, LinkError, LinkRule, Owner, Part, SlotInfo, Start, Ty, part_key,
-};
-pub use abc_search_tables::traits_of;
+pub use abc_link_layouts::{Layouts, Members, slots_of, string_number, traits_of, type_in};
+pub use abc_link_names::{Item, ItemKind, LinkError, LinkRule, Start};
+pub use abc_link_program::{Kind, LayoutId, Owner, Part, SlotInfo, Ty, part_key};
 pub use linked::{Linked, kind_of_type};
 pub use linking::{MOST_HANDLERS, link};
+pub use scripts::ScriptTraits;
+pub use sets::SetSpaces;
+pub use slots::OwnSlots;
+pub use tables::SearchTables;

@@ -1,32 +1,33 @@
 ghost use Rattle.std.specs.Prelude.{◌≡◌, ◌<◌, ◌^◌, length, IfOk, IsTrue, MatchResult, OnOk};
-ghost use Rattle.abc_interfaces.specs.Heirs.{list_at};
-ghost use Rattle.abc_interfaces.specs.Sets.{HasSets};
+ghost use Rattle.abc_base_graphs.specs.Heirs.{list_at};
+ghost use Rattle.abc_link_interfaces.specs.Sets.{HasSets};
 ghost use Rattle.abc_link.specs.Ladders.{AreRungs};
-ghost use Rattle.abc_link.specs.Made.{AreFewSlots, IsMade};
-ghost use Rattle.abc_owners.specs.Owning.{AreOwners};
-ghost use Rattle.abc_search_tables.specs.Files.{linked};
-ghost use Rattle.abc_search_tables.specs.Grouped.{HasGroups};
-ghost use Rattle.abc_search_tables.specs.Laid.{AreLayouts};
-ghost use Rattle.abc_search_tables.specs.Made.{AreSearchTables};
-ghost use Rattle.abc_search_tables.specs.SlotsTables.{HasSlots};
-ghost use Rattle.abc_interfaces.specs.Meanings.{AreMeanings};
-ghost use Rattle.abc_interfaces.specs.Numbers.{AreNames};
-ghost use Rattle.abc_interfaces.specs.Linked.{IsLinkedFile};
-ghost use Rattle.abc_interfaces.specs.Firsts.{IsFew, IsRefusal};
-ghost use Rattle.abc_interfaces.specs.Rules.{AllHold};
-ghost use Rattle.abc_tables.specs.Files.{Fits};
+ghost use Rattle.abc_link.specs.LinkedMade.{AreFewSlots, IsMade};
+ghost use Rattle.abc_link_layouts.specs.Owning.{AreOwners};
+ghost use Rattle.abc_link_layouts.specs.Files.{linked};
+ghost use Rattle.abc_link_layouts.specs.Grouped.{HasGroups};
+ghost use Rattle.abc_link_layouts.specs.Laid.{AreLayouts};
+ghost use Rattle.abc_link.specs.TablesMade.{AreSearchTables};
+ghost use Rattle.abc_link_layouts.specs.Tables.{HasSlots};
+ghost use Rattle.abc_link_names.specs.Meanings.{AreMeanings};
+ghost use Rattle.abc_link_names.specs.Numbers.{AreNames};
+ghost use Rattle.abc_link_program.specs.Linked.{IsLinkedFile};
+ghost use Rattle.abc_link_names.specs.Firsts.{IsFew, IsRefusal};
+ghost use Rattle.abc_link_names.specs.Rules.{AllHold};
+ghost use Rattle.abc_file_types.specs.Files.{Fits};
 
 use crate::ladder::{Rung, rungs_of};
 use crate::linked::{Linked, Made};
+use crate::tables::SearchTables;
 use abc_base::{NoMemory, Table, release};
-use abc_interfaces::{
-    Heirs, Interfaces, LinkError, Meanings, NameTables, Named, Names, SlotInfo, check_rules,
-    meanings_of,
-};
-use abc_known::known_of;
-use abc_owners::Owners;
-use abc_search_tables::{Layouts, Members, SearchTables, slots_of};
-use abc_tables::Abc;
+use abc_base_graphs::Heirs;
+use abc_file_types::Abc;
+use abc_link_interfaces::Interfaces;
+use abc_link_known::known_of;
+use abc_link_layouts::{Layouts, Members, Owners, slots_of};
+use abc_link_names::{LinkError, Meanings, NameTables, Named, Names, meanings_of};
+use abc_link_program::SlotInfo;
+use abc_link_rules::check_rules;
 use std::alloc::Global;
 
 /// Whether the tables of a file can be counted by 32 bits.

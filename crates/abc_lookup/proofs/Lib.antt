@@ -1,3 +1,6 @@
+pub mod Numerals
+pub mod WholeStrings
+pub mod SameSpace
 pub mod Past
 pub mod TextFirst
 pub mod Along

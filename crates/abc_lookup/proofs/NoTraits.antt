@@ -5,34 +5,34 @@ use Rattle.std.specs.declared.option.Option.{Option}
 use Rattle.std.proofs.lemmas.Bool.{false≢true}
 use Rattle.abc_base.specs.declared.names.HostClass.{HostClass}
 use Rattle.abc_base.specs.declared.names.HostClass.TheVariants as hosts
-use Rattle.abc_cells.specs.declared.values.ObjId.{ObjId}
-use Rattle.abc_cells.specs.declared.values.Value.{Value}
-use Rattle.abc_cells.specs.declared.values.Value.TheVariants as values
-use Rattle.abc_graph.proofs.Walks.{way_none, way_some}
-use Rattle.abc_graph.specs.Ways.{IsFalling, before, way}
-use Rattle.abc_heap.specs.Heap.{Heap, elements_of, obj_id, object_at}
-use Rattle.abc_heap.specs.Properties.{property_in_heap}
-use Rattle.abc_heap.specs.What.{is_array}
-use Rattle.abc_index.proofs.Numbering.{same_bytes}
-use Rattle.abc_program.proofs.Finding.{falling, found}
-use Rattle.abc_program.specs.Linked.{IsLinkedFile, LinkedFile, base}
-use Rattle.abc_program.specs.Numbering.{part_at}
-use Rattle.abc_program.specs.Parts.{parent}
-use Rattle.abc_program.specs.Places.{place_of, place_under}
-use Rattle.abc_program.specs.declared.part.Part.{Part}
-use Rattle.abc_program.specs.declared.part.Part.TheVariants as parts
-use Rattle.abc_search.proofs.Joins.{answer_none, ends, goes_on, hit_first}
-use Rattle.abc_search.specs.Candidates.{OfTrait, answer, elements, elements_from, layout_at, own_things, properties, text_in, things_along, traits, traits_after, where_public}
-use Rattle.abc_search.specs.ElementNames.{element_number, is_length}
-use Rattle.abc_search.specs.Objects.{delegate_at}
-use Rattle.abc_search.specs.Results.{is_hit, or_next, skip_for}
-use Rattle.abc_search.specs.Searches.{declared_found, found_on}
-use Rattle.abc_search.specs.Traits.{own, own_traits_of, slots_under}
-use Rattle.abc_search.specs.declared.found.Found.{Found}
-use Rattle.abc_search.specs.declared.found.Found.TheVariants as founds
-use Rattle.abc_search.specs.declared.found.Skip.{Skip}
-use Rattle.abc_search.specs.declared.found.Want.{Want}
-use Rattle.abc_search.specs.declared.name.Name.{Name}
+use Rattle.abc_heap_values.specs.declared.values.ObjId.{ObjId}
+use Rattle.abc_heap_values.specs.declared.values.Value.{Value}
+use Rattle.abc_heap_values.specs.declared.values.Value.TheVariants as values
+use Rattle.abc_base_graphs.proofs.Walks.{way_none, way_some}
+use Rattle.abc_base_graphs.specs.Ways.{IsFalling, before, way}
+use Rattle.abc_heap_store.specs.Heap.{Heap, elements_of, obj_id, object_at}
+use Rattle.abc_heap_store.specs.Properties.{property_in_heap}
+use Rattle.abc_heap_store.specs.What.{is_array}
+use Rattle.abc_base_graphs.proofs.Numbering.{same_bytes}
+use Rattle.abc_link_program.proofs.Finding.{falling, found}
+use Rattle.abc_link_program.specs.Linked.{IsLinkedFile, LinkedFile, base}
+use Rattle.abc_link_program.specs.Numbering.{part_at}
+use Rattle.abc_link_program.specs.Parts.{parent}
+use Rattle.abc_link_program.specs.Places.{place_of, place_under}
+use Rattle.abc_link_program.specs.declared.part.Part.{Part}
+use Rattle.abc_link_program.specs.declared.part.Part.TheVariants as parts
+use Rattle.abc_heap_search.proofs.Joins.{answer_none, ends, goes_on, hit_first}
+use Rattle.abc_heap_search.specs.Candidates.{OfTrait, answer, elements, elements_from, layout_at, own_things, properties, text_in, things_along, traits, traits_after, where_public}
+use Rattle.abc_heap_search.specs.ElementNames.{element_number, is_length}
+use Rattle.abc_heap_search.specs.Objects.{delegate_at}
+use Rattle.abc_heap_search.specs.Results.{is_hit, or_next, skip_for}
+use Rattle.abc_heap_search.specs.Searches.{declared_found, found_on}
+use Rattle.abc_heap_search.specs.Traits.{own, own_traits_of, slots_under}
+use Rattle.abc_heap_search.specs.declared.found.Found.{Found}
+use Rattle.abc_heap_search.specs.declared.found.Found.TheVariants as founds
+use Rattle.abc_heap_search.specs.declared.found.Skip.{Skip}
+use Rattle.abc_heap_search.specs.declared.found.Want.{Want}
+use Rattle.abc_heap_search.specs.declared.name.Name.{Name}
 use Rattle.abc_lookup.specs.NoTraits.{HasNoTraits, IsFirst, IsPlain, class_is_bare, part_is_bare}
 use Rattle.abc_lookup.proofs.Things.{an_array, length_miss, no_array, number_hit, properties_all, property_found, public_all, things_step}
 

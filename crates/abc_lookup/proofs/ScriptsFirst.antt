@@ -6,33 +6,33 @@ use Rattle.std.specs.declared.option.Option.{Option}
 use Rattle.std.specs.List.{find, list_any, range_with_len}
 use Rattle.std.specs.Str.{bytes_eq}
 use Rattle.abc_base.specs.declared.names.HostClass.TheVariants as hosts
-use Rattle.abc_graph.proofs.Walks.{way_none, way_some}
-use Rattle.abc_graph.specs.Ways.{before, way}
-use Rattle.abc_heap.specs.Heap.{Heap}
-use Rattle.abc_index.specs.Groups.{places_from, places_of}
-use Rattle.abc_items.specs.Parts.{no_script, script_at}
-use Rattle.abc_names.specs.Pool.{text}
-use Rattle.abc_names.specs.declared.named.DefiniteName.{DefiniteName}
+use Rattle.abc_base_graphs.proofs.Walks.{way_none, way_some}
+use Rattle.abc_base_graphs.specs.Ways.{before, way}
+use Rattle.abc_heap_store.specs.Heap.{Heap}
+use Rattle.abc_base_graphs.specs.Groups.{places_from, places_of}
+use Rattle.abc_link_names.specs.Parts.{no_script, script_at}
+use Rattle.abc_link_names.specs.Pool.{text}
+use Rattle.abc_link_names.specs.declared.named.DefiniteName.{DefiniteName}
 use Rattle.abc_objects.proofs.Opened.{global_made}
 use Rattle.abc_objects.specs.Stands.{StandsOver}
-use Rattle.abc_program.proofs.Finding.{falling, found}
-use Rattle.abc_program.specs.Linked.{IsLinkedFile, LinkedFile, base}
-use Rattle.abc_program.specs.Numbering.{part_at}
-use Rattle.abc_program.specs.Parts.{parent}
-use Rattle.abc_program.specs.Places.{place_of, place_under}
-use Rattle.abc_program.specs.Slots.{slots_in}
-use Rattle.abc_program.specs.Traits.{trait_name, trait_texts}
-use Rattle.abc_program.specs.declared.part.Part.{Part}
-use Rattle.abc_program.specs.declared.part.Part.TheVariants as parts
-use Rattle.abc_search.specs.Candidates.{OfTrait, fits, fits_space, layout_at, text_in, traits_after}
-use Rattle.abc_search.specs.Objects.{global_number}
-use Rattle.abc_search.specs.Scopes.{InScript, Place, has}
-use Rattle.abc_search.specs.Traits.{Trait, members_in, own, own_traits_of, slots_under, traits_from, traits_named}
-use Rattle.abc_search.specs.declared.name.Name.{Name}
-use Rattle.abc_search.specs.declared.traits.Member.{Member}
+use Rattle.abc_link_program.proofs.Finding.{falling, found}
+use Rattle.abc_link_program.specs.Linked.{IsLinkedFile, LinkedFile, base}
+use Rattle.abc_link_program.specs.Numbering.{part_at}
+use Rattle.abc_link_program.specs.Parts.{parent}
+use Rattle.abc_link_program.specs.Places.{place_of, place_under}
+use Rattle.abc_link_program.specs.Slots.{slots_in}
+use Rattle.abc_link_program.specs.Traits.{trait_name, trait_texts}
+use Rattle.abc_link_program.specs.declared.part.Part.{Part}
+use Rattle.abc_link_program.specs.declared.part.Part.TheVariants as parts
+use Rattle.abc_heap_search.specs.Candidates.{OfTrait, fits, fits_space, layout_at, text_in, traits_after}
+use Rattle.abc_heap_search.specs.Objects.{global_number}
+use Rattle.abc_heap_search.specs.Scopes.{InScript, Place, has}
+use Rattle.abc_heap_search.specs.Traits.{Trait, members_in, own, own_traits_of, slots_under, traits_from, traits_named}
+use Rattle.abc_heap_search.specs.declared.name.Name.{Name}
+use Rattle.abc_heap_search.specs.declared.traits.Member.{Member}
 use Rattle.abc_link.specs.ScriptTraits.{owners_from, owners_of, script_traits, traits_of_scripts}
-use Rattle.abc_tables.specs.declared.classes.Script.{Script}
-use Rattle.abc_tables.specs.declared.traits.TraitInfo.{TraitInfo}
+use Rattle.abc_file_types.specs.declared.classes.Script.{Script}
+use Rattle.abc_file_types.specs.declared.traits.TraitInfo.{TraitInfo}
 use Rattle.abc_lookup.specs.Scripts.{HasNot}
 use Rattle.abc_lookup.proofs.TextFirst.{none_none, places_below, some_at, some_some}
 

@@ -4,18 +4,18 @@ use Rattle.std.specs.Prelude.{Bool, true, false, Some, None, slice_get}
 use Rattle.std.specs.declared.option.Option.{Option}
 use Rattle.std.specs.List.{flat_map}
 use Rattle.abc_base.specs.declared.names.HostClass.TheVariants as hosts
-use Rattle.abc_heirs.specs.Heirs.{heritage}
-use Rattle.abc_heirs.proofs.Laid.{heritage_none, heritage_some}
-use Rattle.abc_program.specs.Linked.{IsLinkedFile, LinkedFile, base}
-use Rattle.abc_program.specs.Numbering.{part_at}
-use Rattle.abc_program.specs.Slots.{HasFewSlots, own_slots, slots_in, slots_of, traits_of}
-use Rattle.abc_program.specs.Traits.{own_table_of}
-use Rattle.abc_program.specs.declared.part.Part.{Part}
-use Rattle.abc_program.specs.declared.part.Part.TheVariants as parts
-use Rattle.abc_search.specs.Traits.{slots_under}
-use Rattle.abc_tables.specs.declared.traits.TraitBody.{TraitBody}
-use Rattle.abc_tables.specs.declared.traits.TraitBody.TheVariants as bodies
-use Rattle.abc_tables.specs.declared.traits.TraitInfo.{TraitInfo}
+use Rattle.abc_base_graphs.specs.Heirs.{heritage}
+use Rattle.abc_base_graphs.proofs.Laid.{heritage_none, heritage_some}
+use Rattle.abc_link_program.specs.Linked.{IsLinkedFile, LinkedFile, base}
+use Rattle.abc_link_program.specs.Numbering.{part_at}
+use Rattle.abc_link_program.specs.Slots.{HasFewSlots, own_slots, slots_in, slots_of, traits_of}
+use Rattle.abc_link_program.specs.Traits.{own_table_of}
+use Rattle.abc_link_program.specs.declared.part.Part.{Part}
+use Rattle.abc_link_program.specs.declared.part.Part.TheVariants as parts
+use Rattle.abc_heap_search.specs.Traits.{slots_under}
+use Rattle.abc_file_types.specs.declared.traits.TraitBody.{TraitBody}
+use Rattle.abc_file_types.specs.declared.traits.TraitBody.TheVariants as bodies
+use Rattle.abc_file_types.specs.declared.traits.TraitInfo.{TraitInfo}
 use Rattle.abc_link.specs.OwnSlots.{has_slot, slots_before, slots_from}
 use Rattle.abc_lookup.specs.Slots.{slot_count, slot_of}
 use Rattle.abc_lookup.proofs.Along.{bases_fall}

@@ -5,18 +5,18 @@ use Rattle.std.specs.declared.option.Option.{Option}
 use Rattle.std.proofs.lemmas.Bool.{cases_lt}
 use Rattle.std.proofs.lemmas.List.{get_or_past}
 use Rattle.abc_base.specs.declared.names.HostClass.{HostClass}
-use Rattle.abc_cells.specs.declared.values.ObjId.{ObjId}
-use Rattle.abc_cells.specs.declared.values.Value.{Value}
-use Rattle.abc_graph.specs.Ways.{IsBelow, IsFalling}
-use Rattle.abc_heap.specs.Heap.{Heap, Object, object_at, slots_of}
-use Rattle.abc_heap.specs.declared.records.ScopeId.{ScopeId}
-use Rattle.abc_heap.specs.declared.records.ScopeNode.{ScopeNode}
+use Rattle.abc_heap_values.specs.declared.values.ObjId.{ObjId}
+use Rattle.abc_heap_values.specs.declared.values.Value.{Value}
+use Rattle.abc_base_graphs.specs.Ways.{IsBelow, IsFalling}
+use Rattle.abc_heap_store.specs.Heap.{Heap, Object, object_at, slots_of}
+use Rattle.abc_heap_store.specs.declared.records.ScopeId.{ScopeId}
+use Rattle.abc_heap_store.specs.declared.records.ScopeNode.{ScopeNode}
 use Rattle.abc_objects.specs.Stands.{IsBeneath, IsObjectOrNone, IsOlder, IsScope, StandsOver, host_class_number}
 use Rattle.abc_objects.specs.Values.{Exists, IsObject}
-use Rattle.abc_program.specs.Linked.{LinkedFile}
-use Rattle.abc_search.specs.Candidates.{layout_at}
-use Rattle.abc_search.specs.Objects.{delegate_at, number_of}
-use Rattle.abc_search.specs.Scopes.{no_node, node_at, parent_at, scope_number}
+use Rattle.abc_link_program.specs.Linked.{LinkedFile}
+use Rattle.abc_heap_search.specs.Candidates.{layout_at}
+use Rattle.abc_heap_search.specs.Objects.{delegate_at, number_of}
+use Rattle.abc_heap_search.specs.Scopes.{no_node, node_at, parent_at, scope_number}
 
 -- ---- objects
 

@@ -1,7 +1,16 @@
+pub mod Named
+pub mod WholeStrings
 pub mod Slots
 pub mod Steps
 pub mod Scripts
 pub mod NoTraits
 pub mod OwnTraits
-pub use Rattle.abc_nameparts.specs.Named as NamepartsNamed
-pub use Rattle.abc_nameparts.specs.declared.elements.ElementName as NamepartsElementNameType
+pub use Rattle.abc_heap_search.specs.Objects
+pub use Rattle.abc_heap_search.specs.Spaces
+pub use Rattle.abc_heap_search.specs.Traits
+pub use Rattle.abc_heap_search.specs.ElementNames
+pub use Rattle.abc_heap_search.specs.Results
+pub use Rattle.abc_heap_search.specs.Candidates
+pub use Rattle.abc_heap_search.specs.Scopes
+pub use Rattle.abc_heap_search.specs.Searches
+pub use Rattle.abc_heap_search.specs.Laws

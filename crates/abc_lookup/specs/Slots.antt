@@ -2,13 +2,13 @@
 use Rattle.std.specs.Prelude.{ℕ, zero, suc, ◌+◌, List, [], ◌∷◌, Some, None, length, take}
 use Rattle.std.specs.declared.option.Option.{Option}
 use Rattle.std.specs.List.{flat_map}
-use Rattle.abc_names.specs.Pool.{name, qname}
-use Rattle.abc_program.specs.Linked.{LinkedFile, base}
-use Rattle.abc_program.specs.Slots.{slots_in}
-use Rattle.abc_program.specs.Traits.{own_table_of}
-use Rattle.abc_search.specs.Traits.{Trait, members_in, slots_under, traits_named}
-use Rattle.abc_search.specs.declared.traits.Member.{Member}
-use Rattle.abc_tables.specs.declared.traits.TraitInfo.{TraitInfo}
+use Rattle.abc_link_names.specs.Pool.{name, qname}
+use Rattle.abc_link_program.specs.Linked.{LinkedFile, base}
+use Rattle.abc_link_program.specs.Slots.{slots_in}
+use Rattle.abc_link_program.specs.Traits.{own_table_of}
+use Rattle.abc_heap_search.specs.Traits.{Trait, members_in, slots_under, traits_named}
+use Rattle.abc_heap_search.specs.declared.traits.Member.{Member}
+use Rattle.abc_file_types.specs.declared.traits.TraitInfo.{TraitInfo}
 
 -- how many slots some traits have
 abbrev pub slot_count : LinkedFile → List TraitInfo → ℕ

@@ -1,29 +1,30 @@
 ghost use Rattle.std.specs.Prelude.{◌≡◌, ◌<◌, true, Some, MatchOption, length};
 ghost use Rattle.std.specs.Str.{bytes_eq};
-ghost use Rattle.abc_heap.specs.Texts.{IsText};
-ghost use Rattle.abc_index.specs.Index.{first};
-ghost use Rattle.abc_index.specs.Texts.{texts_of};
+ghost use Rattle.abc_heap_store.specs.Texts.{IsText};
+ghost use Rattle.abc_base_graphs.specs.Index.{first};
+ghost use Rattle.abc_base_graphs.specs.Texts.{texts_of};
 ghost use Rattle.abc_lookup.specs.NoTraits.{IsFirst};
 ghost use Rattle.abc_lookup.specs.OwnTraits.{Gives, HasTable, own_named};
 ghost use Rattle.abc_lookup.specs.Slots.{own_at};
 ghost use Rattle.abc_objects.specs.Stands.{StandsOver};
 ghost use Rattle.abc_objects.specs.Values.{IsObject};
-ghost use Rattle.abc_program.specs.Linked.{IsLayout};
-ghost use Rattle.abc_program.specs.Numbering.{part_at};
-ghost use Rattle.abc_search.specs.Candidates.{layout_at, text_in};
-ghost use Rattle.abc_program.specs.Traits.{own_table_of, own_traits};
-ghost use Rattle.abc_program.specs.declared.types.Owner.{Owner};
-ghost use Rattle.abc_search.specs.declared.found.Found.TheVariants.{Method};
-ghost use Rattle.abc_search.specs.declared.name.Spaces.TheVariants.{One};
+ghost use Rattle.abc_link_program.specs.Linked.{IsLayout};
+ghost use Rattle.abc_link_program.specs.Numbering.{part_at};
+ghost use Rattle.abc_heap_search.specs.Candidates.{layout_at, text_in};
+ghost use Rattle.abc_link_program.specs.Traits.{own_table_of, own_traits};
+ghost use Rattle.abc_link_program.specs.declared.types.Owner.{Owner};
+ghost use Rattle.abc_heap_search.specs.declared.found.Found.TheVariants.{Method};
+ghost use Rattle.abc_heap_search.specs.declared.name.Spaces.TheVariants.{One};
 
-use crate::declared::only_of;
+use crate::declared_search::only_of;
+use crate::numbers::whole_number;
 use crate::tables::{member_at, own_table};
-use abc_cells::ObjId;
-use abc_link::{LayoutId, Linked, Part};
-use abc_nameparts::whole_number;
-use abc_names::qname_at;
+use abc_heap_search::{Found, Member, Name, Spaces};
+use abc_heap_values::ObjId;
+use abc_link::Linked;
+use abc_link_names::qname_at;
+use abc_link_program::{LayoutId, Part};
 use abc_objects::Arena;
-use abc_search::{Found, Member, Name, Spaces};
 
 /// Whether a name has just one namespace, that of an index.
 fn has_just(spaces: Spaces, space: u32) -> bool

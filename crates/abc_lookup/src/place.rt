@@ -1,4 +1,4 @@
-use abc_heap::ScopeEntry;
+use abc_heap_store::ScopeEntry;
 
 /// A place of a search in scopes.
 #[derive(Clone, Copy, Debug, PartialEq, Eq)]

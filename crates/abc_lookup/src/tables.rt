@@ -1,14 +1,16 @@
 ghost use Rattle.std.specs.Prelude.{◌≡◌, ◌<◌, length};
 ghost use Rattle.abc_lookup.specs.Slots.{listed, slot_of};
-ghost use Rattle.abc_program.specs.Linked.{IsLayout, base};
-ghost use Rattle.abc_program.specs.Slots.{handler_at};
-ghost use Rattle.abc_program.specs.Traits.{own_table_of};
-ghost use Rattle.abc_search.specs.Traits.{members_in, slots_under as slots_below};
+ghost use Rattle.abc_link_program.specs.Linked.{IsLayout, base};
+ghost use Rattle.abc_link_program.specs.Slots.{handler_at};
+ghost use Rattle.abc_link_program.specs.Traits.{own_table_of};
+ghost use Rattle.abc_heap_search.specs.Traits.{members_in, slots_under as slots_below};
 
-use abc_items::handlers;
-use abc_link::{LayoutId, Linked, traits_of};
-use abc_search::Member;
-use abc_tables::{Abc, TraitBody, TraitInfo};
+use abc_file_types::{Abc, TraitBody, TraitInfo};
+use abc_heap_search::Member;
+use abc_link::Linked;
+use abc_link_layouts::traits_of;
+use abc_link_names::handlers;
+use abc_link_program::LayoutId;
 
 /// The name of a caught value, by its index; 0 is none.
 #[tactic(auto, using(abc_base::proofs::Past::past_end))]

@@ -4,11 +4,11 @@ use Rattle.std.specs.Prelude.{IsSome, Ok, Err}
 use Rattle.std.specs.declared.option.Option.{Option}
 use Rattle.std.specs.declared.result.Result.{Result}
 use Rattle.abc_base.specs.declared.formula.Formula.{Formula}
-use Rattle.abc_calling.specs.Calls.{Replied, begins_call, call_meaning, replies, replies_for, then_replies}
-use Rattle.abc_cells.specs.declared.values.Value.TheVariants.{Undefined}
-use Rattle.abc_ends.specs.Ending.{IsSized, end_of, stepped_by}
-use Rattle.abc_ends.specs.declared.ended.Ended.{Ended}
-use Rattle.abc_ends.specs.declared.ended.Ended.TheVariants as ended
+use Rattle.abc_meaning_sound.specs.Calls.{Replied, begins_call, call_meaning, replies, replies_for, then_replies}
+use Rattle.abc_heap_values.specs.declared.values.Value.TheVariants.{Undefined}
+use Rattle.abc_run_finish.specs.Ending.{IsSized, end_of, stepped_by}
+use Rattle.abc_run_finish.specs.declared.ended.Ended.{Ended}
+use Rattle.abc_run_finish.specs.declared.ended.Ended.TheVariants as ended
 use Rattle.abc_machine.specs.Machines.{kept_world}
 use Rattle.abc_machine.specs.Replied.{IsReplyOf, RepliesAs, replied}
 use Rattle.abc_machine.specs.Runs.{Leaves}
@@ -18,13 +18,13 @@ use Rattle.abc_machine.specs.declared.replies.Reply.TheVariants.{WriteFault}
 use Rattle.abc_machine.proofs.Opening.{append_none}
 use Rattle.abc_machine.proofs.Reaching.{Comes, then_is}
 use Rattle.abc_meaning.specs.Throwing.{Stepped, goes_on}
-use Rattle.abc_openings.specs.Begun.{setting}
-use Rattle.abc_program.specs.Linked.{LinkedFile}
-use Rattle.abc_reached.specs.Halt.TheVariants.{Ends as Halts}
-use Rattle.abc_reached.specs.Steps.{machine}
-use Rattle.abc_states.specs.Outer.{Outer, world}
-use Rattle.abc_states.specs.WorldSetting.{Setting}
-use Rattle.abc_states.specs.declared.state.State.{State}
+use Rattle.abc_run_finish.specs.Begun.{setting}
+use Rattle.abc_link_program.specs.Linked.{LinkedFile}
+use Rattle.abc_run_finish.specs.declared.halts.Halt.TheVariants.{Ends as Halts}
+use Rattle.abc_run_finish.specs.Steps.{machine}
+use Rattle.abc_run_state.specs.Outer.{Outer, world}
+use Rattle.abc_meaning.specs.Setting.{Setting}
+use Rattle.abc_run_state.specs.declared.state.State.{State}
 
 -- where it can't be begun, that is its reply
 reply_is : (e : Ended) → IsReplyOf (reply_by Undefined (end_of e)) (reply_for (Halts e))

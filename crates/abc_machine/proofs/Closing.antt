@@ -9,10 +9,10 @@ use Rattle.abc_base.specs.Faults.{Rose}
 use Rattle.abc_base.specs.Sinks.{GrowsByFront, WritesAll}
 use Rattle.abc_base.specs.declared.formula.Formula.{Formula}
 use Rattle.abc_base.specs.declared.source.Failed.{Failed}
-use Rattle.abc_calling.specs.Calls.{replies_for}
-use Rattle.abc_logging.proofs.Lined.{told_on, whole_on}
-use Rattle.abc_logmeaning.specs.Lines.{end_line}
-use Rattle.abc_logmeaning.specs.Logs.{logs_for}
+use Rattle.abc_meaning_sound.specs.Calls.{replies_for}
+use Rattle.abc_machine.proofs.Lined.{told_on, whole_on}
+use Rattle.abc_meaning.specs.Lines.{end_line}
+use Rattle.abc_meaning.specs.Logs.{logs_for}
 use Rattle.abc_machine.specs.Ended.{HasRun, IsEndOf}
 use Rattle.abc_machine.specs.Logged as runs
 use Rattle.abc_machine.specs.Logged.{HasAllBut, LogsRun, logged}
@@ -26,10 +26,10 @@ use Rattle.abc_machine.proofs.Untold.{end_is, failed_back, runs_are}
 use Rattle.abc_meaning.specs.Meaning.{Ended, ran, runs_for}
 use Rattle.abc_meaning.specs.Throwing as meant
 use Rattle.abc_meaning.specs.Throwing.{Machine}
-use Rattle.abc_openings.specs.Begun.{setting}
-use Rattle.abc_program.specs.Linked.{LinkedFile}
-use Rattle.abc_states.specs.WorldSetting.{Setting}
-use Rattle.abc_tables.specs.declared.tables.Abc.{Abc}
+use Rattle.abc_run_finish.specs.Begun.{setting}
+use Rattle.abc_link_program.specs.Linked.{LinkedFile}
+use Rattle.abc_meaning.specs.Setting.{Setting}
+use Rattle.abc_file_types.specs.declared.tables.Abc.{Abc}
 
 -- the line of an end, by what the machine answers
 pub line_of_end : (v : Abc) (e end : meant.End) (y z : Option (List ℕ)) (written : Result Unit Failed) → e ≡ end → WritesAll y z written (end_line v end) → WritesAll y z written (end_line v e)

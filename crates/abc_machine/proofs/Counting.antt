@@ -3,17 +3,17 @@ use Rattle.std.proofs.Common.{◌≡◌, ◌≢◌, ℕ, suc, ◌+◌, ◌-◌, 
 use Rattle.std.specs.Prelude.{Err}
 use Rattle.std.specs.declared.option.Option.{Option}
 use Rattle.std.specs.declared.result.Result.{Result}
-use Rattle.abc_logmeaning.specs.Logs.{steps_for}
+use Rattle.abc_meaning.specs.Logs.{steps_for}
 use Rattle.abc_machine.specs.Runs.{Begun, IsAt, outer}
 use Rattle.abc_machine.specs.Spent.{EndsWith, SpendsAs}
 use Rattle.abc_machine.specs.declared.replies.Reply.{Reply}
 use Rattle.abc_machine.specs.declared.replies.Reply.TheVariants as replies
 use Rattle.abc_machine.proofs.Reaching.{count_all, counted_by}
 use Rattle.abc_meaning.specs.Throwing.{Ends}
-use Rattle.abc_openings.specs.Begun.{setting}
-use Rattle.abc_program.specs.Linked.{LinkedFile}
-use Rattle.abc_states.specs.Outer.{world}
-use Rattle.abc_states.specs.declared.state.State.{State}
+use Rattle.abc_run_finish.specs.Begun.{setting}
+use Rattle.abc_link_program.specs.Linked.{LinkedFile}
+use Rattle.abc_run_state.specs.Outer.{world}
+use Rattle.abc_run_state.specs.declared.state.State.{State}
 
 module _ (l : LinkedFile) (b : Begun) (s new : State) (x y z w : Option (List ℕ)) (fuel left : ℕ) where
   ends_count : (e : Reply) → fuel ≡ suc left → IsAt l b fuel s x y → EndsWith l (outer l b fuel) s new e w z → count_all l b + left ≡ b.fuel

@@ -6,19 +6,19 @@ use Rattle.abc_base.specs.Hosts.{AreFormulas, arguments}
 use Rattle.abc_base.specs.Ranges.{IsNumber}
 use Rattle.abc_base.specs.declared.formula.Formula.{Formula}
 use Rattle.abc_base.specs.declared.plain.Plain.{Plain}
-use Rattle.abc_calling.specs.Calling.{CanCall}
-use Rattle.abc_calling.proofs.CallsGiven.{calls_give}
-use Rattle.abc_calling.proofs.CallsLeft.{calls_left}
-use Rattle.abc_calling.specs.Calls.{Gives, Replied, call_meaning, silent}
-use Rattle.abc_calling.specs.CallLaws.{IsScriptMethod}
-use Rattle.abc_cells.specs.declared.values.Span.{Span}
-use Rattle.abc_cells.specs.declared.values.Value.{Value}
-use Rattle.abc_cells.specs.declared.values.Value.TheVariants as values
-use Rattle.abc_ends.specs.Ending.{IsSized}
-use Rattle.abc_entering.specs.Arguments.{IsKnown}
-use Rattle.abc_calling.proofs.Typed.{has_typings}
-use Rattle.abc_heap.specs.Heap.{Heap}
-use Rattle.abc_heap.specs.Texts.{IsText}
+use Rattle.abc_run_finish.specs.Calling.{CanCall}
+use Rattle.abc_meaning_sound.proofs.Given.{calls_give}
+use Rattle.abc_meaning_sound.proofs.Left.{calls_left}
+use Rattle.abc_meaning_sound.specs.Calls.{Gives, Replied, call_meaning, silent}
+use Rattle.abc_meaning_sound.specs.CallLaws.{IsScriptMethod}
+use Rattle.abc_heap_values.specs.declared.values.Span.{Span}
+use Rattle.abc_heap_values.specs.declared.values.Value.{Value}
+use Rattle.abc_heap_values.specs.declared.values.Value.TheVariants as values
+use Rattle.abc_run_finish.specs.Ending.{IsSized}
+use Rattle.abc_run_calls.specs.Arguments.{IsKnown}
+use Rattle.abc_meaning_sound.proofs.Typed.{has_typings}
+use Rattle.abc_heap_store.specs.Heap.{Heap}
+use Rattle.abc_heap_store.specs.Texts.{IsText}
 use Rattle.abc_machine.specs.Invoked.{Answers, call_of}
 use Rattle.abc_machine.specs.Machines.{CanGoOn, IsReady, Keeps, Opened, kept_world}
 use Rattle.abc_machine.specs.Replied.{IsReplyOf, RepliesAs, failed, is_write_fault, plain_value, replied}
@@ -30,16 +30,16 @@ use Rattle.abc_machine.specs.declared.replies.Reply.{Reply}
 use Rattle.abc_machine.specs.declared.replies.Reply.TheVariants as replies
 use Rattle.abc_machine.proofs.Keeping.{Drops, can_go_on, kept_is}
 use Rattle.abc_machine.proofs.Opening.{verified_setting, viewed}
-use Rattle.abc_meaning.specs.Laws.{IsVerified}
+use Rattle.abc_meaning.specs.ThrowLaws.{IsVerified}
 use Rattle.abc_meaning.specs.Sound.{WorldSound}
 use Rattle.abc_objects.specs.Opening.{formula_names}
 use Rattle.abc_objects.specs.Values.{Exists}
-use Rattle.abc_openings.specs.Begun.{setting}
-use Rattle.abc_program.specs.Linked.{IsLinkedFile, LinkedFile}
-use Rattle.abc_program.specs.Slots.{HasFewSlots}
-use Rattle.abc_states.specs.World.{World}
-use Rattle.abc_states.specs.declared.state.State.{State}
-use Rattle.abc_typing.specs.Lists.{Each}
+use Rattle.abc_run_finish.specs.Begun.{setting}
+use Rattle.abc_link_program.specs.Linked.{IsLinkedFile, LinkedFile}
+use Rattle.abc_link_program.specs.Slots.{HasFewSlots}
+use Rattle.abc_meaning.specs.World.{World}
+use Rattle.abc_run_state.specs.declared.state.State.{State}
+use Rattle.abc_verify_typing.specs.Lists.{Each}
 use Rattle.abc_verify.proofs.Methods.{all_typed}
 use Rattle.abc_verify.specs.Typed.{IsVerified as IsChecked}
 

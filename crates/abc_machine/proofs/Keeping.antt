@@ -2,21 +2,21 @@
 use Rattle.std.proofs.Common.{◌≡◌, List, [], length, Bool, refl, sym, ap, ◌∙◌, subst}
 use Rattle.std.proofs.lemmas.List.{length-map}
 use Rattle.abc_base.specs.declared.formula.Formula.{Formula}
-use Rattle.abc_calling.proofs.CallsHosts.{names_matter}
-use Rattle.abc_calling.proofs.CallsLeft.{silent_sound}
-use Rattle.abc_calling.specs.Calls.{silent}
-use Rattle.abc_entering.specs.Arguments.{IsKnown}
-use Rattle.abc_heap.specs.Heap.{Heap}
+use Rattle.abc_meaning_sound.proofs.Hosts.{names_matter}
+use Rattle.abc_meaning_sound.proofs.Left.{silent_sound}
+use Rattle.abc_meaning_sound.specs.Calls.{silent}
+use Rattle.abc_run_calls.specs.Arguments.{IsKnown}
+use Rattle.abc_heap_store.specs.Heap.{Heap}
 use Rattle.abc_machine.specs.Machines.{CanGoOn, kept_world}
 use Rattle.abc_machine.specs.Runs.{Leaves}
 use Rattle.abc_meaning.specs.Sound.{WorldSound}
-use Rattle.abc_openings.specs.Begun.{setting}
-use Rattle.abc_program.specs.Linked.{LinkedFile}
-use Rattle.abc_stacks.specs.Frame.{no_frames}
-use Rattle.abc_states.specs.Turns.{size_for}
-use Rattle.abc_states.specs.World.{World}
-use Rattle.abc_states.specs.WorldSetting.{Setting}
-use Rattle.abc_states.specs.declared.state.State.{State}
+use Rattle.abc_run_finish.specs.Begun.{setting}
+use Rattle.abc_link_program.specs.Linked.{LinkedFile}
+use Rattle.abc_frames.specs.Frame.{no_frames}
+use Rattle.abc_run_state.specs.Turns.{size_for}
+use Rattle.abc_meaning.specs.World.{World}
+use Rattle.abc_meaning.specs.Setting.{Setting}
+use Rattle.abc_run_state.specs.declared.state.State.{State}
 
 abbrev bare : State → State
 bare s = record s { frames = no_frames s.frames.frame_limit s.frames.value_limit }

@@ -1,9 +1,14 @@
+pub mod Counted
+pub mod Reached
+pub mod Kept
+pub mod Lined
+pub mod Noted
 pub mod Reaching
 pub mod Keeping
 pub mod Opening
 pub mod Spending
 pub mod Counting
-pub mod Logging
+pub mod LoggedRuns
 pub mod Closing
 pub mod Untold
 pub mod Asking

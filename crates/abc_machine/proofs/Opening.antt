@@ -7,13 +7,13 @@ use Rattle.std.specs.Io.KnownBytes.{append_known}
 use Rattle.std.specs.declared.option.Option.{Option}
 use Rattle.abc_base.specs.Hosts.{AreFormulas}
 use Rattle.abc_base.specs.declared.formula.Formula.{Formula}
-use Rattle.abc_calling.proofs.CallsLeft.{runs_left}
-use Rattle.abc_calling.specs.Calls.{replies_for, silent}
-use Rattle.abc_entering.specs.Arguments.{IsKnown}
-use Rattle.abc_heap.specs.Heap.{Heap}
-use Rattle.abc_heap.specs.declared.records.Limit.{Limit}
-use Rattle.abc_heap.specs.declared.records.Limits.{Limits}
-use Rattle.abc_logmeaning.specs.Logs.{log, log_if, logs_for, steps, steps_for, steps_if}
+use Rattle.abc_meaning_sound.proofs.Left.{runs_left}
+use Rattle.abc_meaning_sound.specs.Calls.{replies_for, silent}
+use Rattle.abc_run_calls.specs.Arguments.{IsKnown}
+use Rattle.abc_heap_store.specs.Heap.{Heap}
+use Rattle.abc_heap_store.specs.declared.records.Limit.{Limit}
+use Rattle.abc_heap_store.specs.declared.records.Limits.{Limits}
+use Rattle.abc_meaning.specs.Logs.{log, log_if, logs_for, steps, steps_for, steps_if}
 use Rattle.abc_machine.specs.Ended.{RunsAs}
 use Rattle.abc_machine.specs.Logged.{LogsRun}
 use Rattle.abc_machine.specs.Machines.{CanBegin, CanGoOn, IsOpened, Keeps, Opened, kept_world, world_run}
@@ -21,22 +21,22 @@ use Rattle.abc_machine.specs.Runs.{IsAt, Leaves, outer, reached}
 use Rattle.abc_machine.specs.declared.ends.End.{End}
 use Rattle.abc_machine.specs.declared.ends.End.TheVariants as ends
 use Rattle.abc_machine.proofs.Keeping.{Drops, can_go_on, kept_is}
-use Rattle.abc_meaning.specs.Laws.{IsVerified}
+use Rattle.abc_meaning.specs.ThrowLaws.{IsVerified}
 use Rattle.abc_meaning.specs.Meaning.{Meaning, first_state, first_world, meaning, meaning_if, ran, runs_for, too_small}
 use Rattle.abc_meaning.specs.Sound.{WorldSound}
 use Rattle.abc_meaning.specs.Throwing.{Machine}
 use Rattle.abc_objects.specs.Opening.{formula_names, opening}
-use Rattle.abc_openings.specs.Begun.{IsBegun, setting}
-use Rattle.abc_program.specs.Linked.{IsLinkedFile, LinkedFile}
-use Rattle.abc_program.specs.Slots.{HasFewSlots}
-use Rattle.abc_reached.proofs.Beginning.{limits_kept, machine_first, reached_first}
-use Rattle.abc_states.specs.Outer.{Outer}
-use Rattle.abc_states.specs.declared.state.State.{State}
-use Rattle.abc_reached.specs.Steps.{IsReached, machine}
+use Rattle.abc_run_finish.specs.Begun.{IsBegun, setting}
+use Rattle.abc_link_program.specs.Linked.{IsLinkedFile, LinkedFile}
+use Rattle.abc_link_program.specs.Slots.{HasFewSlots}
+use Rattle.abc_run_finish.proofs.Beginning.{limits_kept, machine_first, reached_first}
+use Rattle.abc_run_state.specs.Outer.{Outer}
+use Rattle.abc_run_state.specs.declared.state.State.{State}
+use Rattle.abc_run_finish.specs.Steps.{IsReached, machine}
 use Rattle.abc_verify.proofs.Methods.{all_typed}
 use Rattle.abc_verify.specs.Typed.{AllTyped, IsVerified as IsChecked}
-use Rattle.abc_states.specs.World.{World}
-use Rattle.abc_states.specs.WorldSetting.{Setting}
+use Rattle.abc_meaning.specs.World.{World}
+use Rattle.abc_meaning.specs.Setting.{Setting}
 
 begun_for : (l : LinkedFile) (fs gs : List Formula) (limits : Limits) (s : State) → formula_names fs ≡ formula_names gs → IsBegun (setting l fs) limits s → IsBegun (setting l gs) limits s
 begun_for l fs gs limits s e b = record {

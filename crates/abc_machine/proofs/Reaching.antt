@@ -4,10 +4,10 @@ use Rattle.std.specs.Prelude.{IsSome, None, Some}
 use Rattle.std.specs.Io.KnownBytes.{append_known}
 use Rattle.std.specs.declared.option.Option.{Option}
 use Rattle.abc_base.specs.Sinks.{GrowsByFront}
-use Rattle.abc_calling.proofs.Appended.{calls_append}
-use Rattle.abc_calling.specs.Calls.{EndsAs as RepliesEnd, Replied, replies, replies_for, returned, then_replies}
-use Rattle.abc_cells.specs.declared.values.Value.{Value}
-use Rattle.abc_logmeaning.specs.Logs.{steps_for, then_counts}
+use Rattle.abc_meaning_sound.proofs.Appended.{calls_append}
+use Rattle.abc_meaning_sound.specs.Calls.{EndsAs as RepliesEnd, Replied, replies, replies_for, returned, then_replies}
+use Rattle.abc_heap_values.specs.declared.values.Value.{Value}
+use Rattle.abc_meaning.specs.Logs.{steps_for, then_counts}
 use Rattle.abc_machine.specs.Replied.{IsReplyOf, RepliesAs, failed, replied}
 use Rattle.abc_machine.specs.Runs.{Begun, IsAt, Leaves, on, outer, reached}
 use Rattle.abc_machine.specs.Spent.{EndsWith, GoesTo, Rests, reply_by}
@@ -15,13 +15,13 @@ use Rattle.abc_machine.specs.declared.replies.Reply.{Reply}
 use Rattle.abc_machine.specs.declared.replies.Reply.TheVariants.{FuelSpent as Spent, WriteFault}
 use Rattle.abc_meaning.specs.Step.{step}
 use Rattle.abc_meaning.specs.Throwing.{Done, End, Ends, FuelSpent, Full, Machine, Profile, Stepped, Steps, Stuck, Uncaught}
-use Rattle.abc_outward.specs.Outward.{adding}
-use Rattle.abc_program.specs.Linked.{LinkedFile}
-use Rattle.abc_states.specs.Outer.{Outer, world}
-use Rattle.abc_states.specs.declared.state.State.{State}
-use Rattle.abc_reached.specs.Steps.{FailsAs, IsReached, machine, step_here}
-use Rattle.abc_states.specs.WorldSetting.{Setting}
-use Rattle.abc_states.specs.World.{World}
+use Rattle.abc_run_finish.specs.Outward.{adding}
+use Rattle.abc_link_program.specs.Linked.{LinkedFile}
+use Rattle.abc_run_state.specs.Outer.{Outer, world}
+use Rattle.abc_run_state.specs.declared.state.State.{State}
+use Rattle.abc_run_finish.specs.Steps.{FailsAs, IsReached, machine, step_here}
+use Rattle.abc_meaning.specs.Setting.{Setting}
+use Rattle.abc_meaning.specs.World.{World}
 
 -- ---- what was written
 

@@ -3,10 +3,10 @@ use Rattle.std.proofs.Common.{◌≡◌, ◌≢◌, ℕ, zero, suc, ◌-◌, ◌
 use Rattle.std.specs.Prelude.{Ok, Err}
 use Rattle.std.specs.declared.option.Option.{Option}
 use Rattle.std.specs.declared.result.Result.{Result}
-use Rattle.abc_calling.specs.Calls.{replies_for, returned}
-use Rattle.abc_cells.specs.declared.values.Value.{Value}
-use Rattle.abc_ends.specs.Ending.{IsSized}
-use Rattle.abc_ends.specs.declared.ended.Ended.TheVariants as ended
+use Rattle.abc_meaning_sound.specs.Calls.{replies_for, returned}
+use Rattle.abc_heap_values.specs.declared.values.Value.{Value}
+use Rattle.abc_run_finish.specs.Ending.{IsSized}
+use Rattle.abc_run_finish.specs.declared.ended.Ended.TheVariants as ended
 use Rattle.abc_machine.specs.Replied.{plain_value}
 use Rattle.abc_machine.specs.Runs.{Begun, IsAt, outer}
 use Rattle.abc_machine.specs.Spent.{SpendsAs, as_reply, reply_for}
@@ -14,14 +14,14 @@ use Rattle.abc_machine.specs.declared.replies.Reply.{Reply}
 use Rattle.abc_machine.specs.declared.replies.Reply.TheVariants as replies
 use Rattle.abc_machine.proofs.Reaching.{Comes, ends_at, fails_at, goes_at, spent_at}
 use Rattle.abc_meaning.specs.Throwing as meant
-use Rattle.abc_openings.specs.Begun.{setting as setting_of}
-use Rattle.abc_program.specs.Linked.{LinkedFile}
-use Rattle.abc_reached.proofs.Staying.{reached_on}
-use Rattle.abc_states.specs.Outer.{Outer, setting, world}
-use Rattle.abc_states.specs.declared.state.State.{State}
-use Rattle.abc_reached.specs.Steps.{GoesOnAs, IsReached, StepsAs}
-use Rattle.abc_reached.specs.Halt.{Halt}
-use Rattle.abc_reached.specs.Halt.TheVariants as halts
+use Rattle.abc_run_finish.specs.Begun.{setting as setting_of}
+use Rattle.abc_link_program.specs.Linked.{LinkedFile}
+use Rattle.abc_run_finish.proofs.Staying.{reached_on}
+use Rattle.abc_run_state.specs.Outer.{Outer, setting, world}
+use Rattle.abc_run_state.specs.declared.state.State.{State}
+use Rattle.abc_run_finish.specs.Steps.{GoesOnAs, IsReached, StepsAs}
+use Rattle.abc_run_finish.specs.declared.halts.Halt.{Halt}
+use Rattle.abc_run_finish.specs.declared.halts.Halt.TheVariants as halts
 
 some_left : (n : ℕ) → (n ≡ 0 → ⊥) → n ≡ suc (n - 1)
 some_left zero h = absurd (h refl)

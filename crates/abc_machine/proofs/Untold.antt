@@ -1,9 +1,9 @@
 -- A run is a call whose value is not told.
 use Rattle.std.proofs.Common.{◌≡◌, ◌≢◌, ℕ, zero, suc, List, refl, sym, ap, subst}
 use Rattle.std.specs.declared.option.Option.{Option}
-use Rattle.abc_calling.specs.Calls.{EndsAs, Gives, Replied, replies_for, returned, then_replies}
-use Rattle.abc_calling.specs.Calls as calls
-use Rattle.abc_cells.specs.declared.values.Value.{Value}
+use Rattle.abc_meaning_sound.specs.Calls.{EndsAs, Gives, Replied, replies_for, returned, then_replies}
+use Rattle.abc_meaning_sound.specs.Calls as calls
+use Rattle.abc_heap_values.specs.declared.values.Value.{Value}
 use Rattle.abc_machine.specs.Ended.{HasRun, IsEndOf, RunsAs, ended}
 use Rattle.abc_machine.specs.Ended as runs
 use Rattle.abc_machine.specs.Replied.{HasReplied, IsReplyOf, RepliesAs, failed, replied}
@@ -15,9 +15,9 @@ use Rattle.abc_machine.specs.declared.replies.Reply.TheVariants as replies
 use Rattle.abc_meaning.specs.Meaning.{Ended, ends_with, ran, runs_for, then_runs}
 use Rattle.abc_meaning.specs.Step.{step}
 use Rattle.abc_meaning.specs.Throwing.{Done, End, Ends, FuelSpent, Full, Machine, Profile, Stepped, Steps, Stuck, Uncaught}
-use Rattle.abc_states.specs.WorldSetting.{Setting}
-use Rattle.abc_states.specs.World.{World}
-use Rattle.abc_states.specs.declared.state.State.{State}
+use Rattle.abc_meaning.specs.Setting.{Setting}
+use Rattle.abc_meaning.specs.World.{World}
+use Rattle.abc_run_state.specs.declared.state.State.{State}
 
 -- how a run ends where a call comes to this
 abbrev pub end_of : calls.Reply → End

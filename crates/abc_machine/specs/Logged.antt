@@ -3,15 +3,15 @@ use Rattle.std.specs.Prelude.{◌≡◌, ℕ, zero, suc, List, [], ◌++◌, IsS
 use Rattle.std.specs.Io.KnownBytes.{append_known}
 use Rattle.std.specs.declared.option.Option.{Option}
 use Rattle.abc_base.specs.Sinks.{GrowsByFront}
-use Rattle.abc_logging.specs.Logging.{lines_here}
+use Rattle.abc_machine.specs.Logging.{lines_here}
 use Rattle.abc_machine.specs.Ended.{IsEndOf}
 use Rattle.abc_machine.specs.declared.ends.End.{End}
 use Rattle.abc_machine.specs.declared.ends.End.TheVariants as ends
 use Rattle.abc_meaning.specs.Meaning.{Meaning, Ran}
 use Rattle.abc_meaning.specs.Throwing as meant
-use Rattle.abc_program.specs.Linked.{LinkedFile}
-use Rattle.abc_states.specs.Outer.{Outer}
-use Rattle.abc_states.specs.declared.state.State.{State}
+use Rattle.abc_link_program.specs.Linked.{LinkedFile}
+use Rattle.abc_run_state.specs.Outer.{Outer}
+use Rattle.abc_run_state.specs.declared.state.State.{State}
 
 -- the lines of one step more; where there is no fuel for it there are none
 abbrev pub lines_for : LinkedFile → Outer → State → (fuel : ℕ) → List ℕ

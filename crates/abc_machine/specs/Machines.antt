@@ -2,18 +2,18 @@
 use Rattle.std.specs.Prelude.{◌≡◌, ℕ, ◌<◌, ◌^◌, List, [], Bool, false, length, replicate, None, Some}
 use Rattle.std.specs.declared.option.Option.{Option}
 use Rattle.abc_base.specs.declared.formula.Formula.{Formula}
-use Rattle.abc_ends.specs.Ending.{IsSized}
-use Rattle.abc_heap.specs.declared.records.Limits.{Limits}
+use Rattle.abc_run_finish.specs.Ending.{IsSized}
+use Rattle.abc_heap_store.specs.declared.records.Limits.{Limits}
 use Rattle.abc_machine.specs.declared.ends.End.{End}
 use Rattle.abc_machine.specs.declared.ends.End.TheVariants.{Done}
 use Rattle.abc_meaning.specs.Meaning.{first_state, first_world, runs_for, too_small}
 use Rattle.abc_meaning.specs.Sound.{WorldSound}
 use Rattle.abc_objects.specs.Opening.{formula_names}
-use Rattle.abc_openings.specs.Begun.{IsBegun, setting}
-use Rattle.abc_program.specs.Linked.{LinkedFile}
-use Rattle.abc_entering.specs.Arguments.{IsKnown}
-use Rattle.abc_states.specs.World.{World}
-use Rattle.abc_states.specs.declared.state.State.{State}
+use Rattle.abc_run_finish.specs.Begun.{IsBegun, setting}
+use Rattle.abc_link_program.specs.Linked.{LinkedFile}
+use Rattle.abc_run_calls.specs.Arguments.{IsKnown}
+use Rattle.abc_meaning.specs.World.{World}
+use Rattle.abc_run_state.specs.declared.state.State.{State}
 
 -- what it runs, the names of its host's formulas, in order, its limits, how its run ended, if one was, whether a call failed to
 -- write, which closes it, the heap and the started scripts, which are the world in which a call begins, with nothing written, and how

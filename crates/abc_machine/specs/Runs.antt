@@ -3,17 +3,17 @@ use Rattle.std.specs.Prelude.{◌≡◌, ℕ, zero, suc, ◌+◌, ◌-◌, ◌�
 use Rattle.std.specs.Io.KnownBytes.{append_known}
 use Rattle.std.specs.declared.option.Option.{Option}
 use Rattle.abc_base.specs.declared.formula.Formula.{Formula}
-use Rattle.abc_calling.specs.Calls.{replies_for}
-use Rattle.abc_ends.specs.Ending.{IsSized}
-use Rattle.abc_logmeaning.specs.Logs.{steps_for}
+use Rattle.abc_meaning_sound.specs.Calls.{replies_for}
+use Rattle.abc_run_finish.specs.Ending.{IsSized}
+use Rattle.abc_meaning.specs.Logs.{steps_for}
 use Rattle.abc_meaning.specs.Step.{step}
 use Rattle.abc_meaning.specs.Throwing.{Ends, Machine, Stepped, Steps}
-use Rattle.abc_program.specs.Linked.{LinkedFile}
-use Rattle.abc_states.specs.Outer.{Outer, setting}
-use Rattle.abc_states.specs.declared.state.State.{State}
-use Rattle.abc_reached.specs.Steps.{IsReached, machine}
-use Rattle.abc_states.specs.World.{World}
-use Rattle.abc_states.specs.WorldSetting.{Setting}
+use Rattle.abc_link_program.specs.Linked.{LinkedFile}
+use Rattle.abc_run_state.specs.Outer.{Outer, setting}
+use Rattle.abc_run_state.specs.declared.state.State.{State}
+use Rattle.abc_run_finish.specs.Steps.{IsReached, machine}
+use Rattle.abc_meaning.specs.World.{World}
+use Rattle.abc_meaning.specs.Setting.{Setting}
 
 -- a step that goes on
 abbrev pub on : Stepped → Machine

@@ -2,24 +2,24 @@
 use Rattle.std.specs.Prelude.{◌≡◌, ℕ, suc, List, Ok, Err}
 use Rattle.std.specs.declared.option.Option.{Option}
 use Rattle.std.specs.declared.result.Result.{Result}
-use Rattle.abc_calling.specs.Calls as calls
-use Rattle.abc_calling.specs.Calls.{returned}
-use Rattle.abc_cells.specs.declared.values.Value.{Value}
-use Rattle.abc_ends.specs.Ending.{IsSized}
-use Rattle.abc_ends.specs.declared.ended.Ended.TheVariants as ended
+use Rattle.abc_meaning_sound.specs.Calls as calls
+use Rattle.abc_meaning_sound.specs.Calls.{returned}
+use Rattle.abc_heap_values.specs.declared.values.Value.{Value}
+use Rattle.abc_run_finish.specs.Ending.{IsSized}
+use Rattle.abc_run_finish.specs.declared.ended.Ended.TheVariants as ended
 use Rattle.abc_machine.specs.Replied.{IsReplyOf, plain_value}
 use Rattle.abc_machine.specs.declared.ends.End.{End}
 use Rattle.abc_machine.specs.declared.ends.End.TheVariants as ends
 use Rattle.abc_machine.specs.declared.replies.Reply.{Reply}
 use Rattle.abc_machine.specs.declared.replies.Reply.TheVariants as replies
 use Rattle.abc_meaning.specs.Throwing as meant
-use Rattle.abc_outward.specs.Outward.{adding}
-use Rattle.abc_program.specs.Linked.{LinkedFile}
-use Rattle.abc_states.specs.Outer.{Outer, setting, world}
-use Rattle.abc_states.specs.declared.state.State.{State}
-use Rattle.abc_reached.specs.Steps.{EndsAs, FailsAs, GoesOnAs, IsReached}
-use Rattle.abc_reached.specs.Halt.{Halt}
-use Rattle.abc_reached.specs.Halt.TheVariants as halts
+use Rattle.abc_run_finish.specs.Outward.{adding}
+use Rattle.abc_link_program.specs.Linked.{LinkedFile}
+use Rattle.abc_run_state.specs.Outer.{Outer, setting, world}
+use Rattle.abc_run_state.specs.declared.state.State.{State}
+use Rattle.abc_run_finish.specs.Steps.{EndsAs, FailsAs, GoesOnAs, IsReached}
+use Rattle.abc_run_finish.specs.declared.halts.Halt.{Halt}
+use Rattle.abc_run_finish.specs.declared.halts.Halt.TheVariants as halts
 
 -- what comes of a call where a step ends
 abbrev pub reply_for : Halt → Reply

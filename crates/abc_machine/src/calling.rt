@@ -1,21 +1,20 @@
 ghost use Rattle.std.specs.Prelude.{◌≡◌, ◌≢◌, List, []};
 ghost use Rattle.abc_base.specs.Hosts.{arguments};
 ghost use Rattle.abc_base.specs.declared.formula.Formula.{Formula};
-ghost use Rattle.abc_calling.specs.Calls.{call_meaning};
-ghost use Rattle.abc_calling.specs.Calling.{CanCall};
+ghost use Rattle.abc_meaning_sound.specs.Calls.{call_meaning};
+ghost use Rattle.abc_run_finish.specs.Calling.{CanCall};
 ghost use Rattle.abc_machine.specs.Machines.{kept_world};
 ghost use Rattle.abc_machine.specs.Replied.{HasReplied, RepliesAs, is_write_fault as is_fault};
 ghost use Rattle.abc_machine.specs.Runs.{Leaves};
 ghost use Rattle.abc_machine.specs.declared.replies.Reply.TheVariants.{WriteFault};
-ghost use Rattle.abc_openings.specs.Begun.{setting};
+ghost use Rattle.abc_run_finish.specs.Begun.{setting};
 
 use crate::replies::Reply;
 use crate::running::{reply_for, take_steps};
 use abc_base::{Host, Plain, Sink};
-use abc_calling::begin_call;
 use abc_link::Linked;
-use abc_reached::Halt;
-use abc_states::State;
+use abc_run_finish::{Halt, begin_call};
+use abc_run_state::State;
 
 /// Whether a call ended because the sink failed.
 pub(crate) fn is_write_fault(reply: &Reply) -> bool

@@ -1,6 +1,6 @@
 use abc_base::Fault;
-use abc_ends::Thrown;
-use abc_heap::Limit;
+use abc_heap_store::Limit;
+use abc_meaning::Thrown;
 
 /// How a run ends.
 #[derive(Clone, Copy)]

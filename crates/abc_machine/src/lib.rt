@@ -1,19 +1,32 @@
+//! A step of a run: the start of the last script, or the instruction of the newest frame and what it leaves to be done.
+//!
+//! A step of a run with the lines that it has in the log of the run, and the line of what nothing caught. Nothing here takes memory.
+//!
 //! The machine: it runs a verified file within stated fuel and limits, just as the meaning says, and then calls methods of its last
 //! script on the heap that the run and the calls before left. A run writes its output, or its log. Neither a run nor a call takes
 //! memory.
 #![tactic(auto)]
 
 mod calling;
+mod ending;
 mod ends;
+mod left;
 mod logged;
+mod logging;
 mod machine;
 mod replies;
 mod running;
+mod stepping;
 
-pub use abc_ends::Thrown;
-pub use abc_heap::Limits;
-pub use abc_logging::thrown_name;
+pub use abc_heap_store::Limits;
+pub use abc_log::Seen;
+pub use abc_meaning::Thrown;
 pub use abc_objects::OpenError;
+pub use abc_run_dispatch::{Held, hold, run_newest};
+pub use abc_run_finish::{Halt, finish, start_last};
+pub use ending::{thrown_name, write_uncaught};
 pub use ends::End;
+pub use logging::step_logged;
 pub use machine::Machine;
 pub use replies::{PlainValue, Reply};
+pub use stepping::{step, step_on};

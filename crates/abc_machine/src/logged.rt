@@ -2,9 +2,9 @@ ghost use Rattle.std.specs.Prelude.{◌≡◌, ◌≢◌, ◌+◌, ◌≤◌, Is
 ghost use Rattle.std.specs.Io.KnownBytes.{append_known};
 ghost use Rattle.abc_base.specs.Faults.{HasCause, Rose};
 ghost use Rattle.abc_base.specs.Sinks.{GrowsByFront, WritesAll};
-ghost use Rattle.abc_calling.specs.Calls.{replies_for};
-ghost use Rattle.abc_logmeaning.specs.Lines.{end_line};
-ghost use Rattle.abc_logmeaning.specs.Logs.{logs_for, steps_for};
+ghost use Rattle.abc_meaning_sound.specs.Calls.{replies_for};
+ghost use Rattle.abc_meaning.specs.Lines.{end_line};
+ghost use Rattle.abc_meaning.specs.Logs.{logs_for, steps_for};
 ghost use Rattle.abc_machine.specs.Ended.{HasRun, IsEndOf};
 ghost use Rattle.abc_machine.specs.Logged.{HasAllBut, LogsRun, lines_for};
 ghost use Rattle.abc_machine.specs.Replied.{HasReplied, IsReplyOf};
@@ -14,18 +14,19 @@ ghost use Rattle.abc_machine.specs.declared.ends.End.TheVariants.{WriteFault as 
 ghost use Rattle.abc_machine.specs.declared.replies.Reply.TheVariants.{WriteFault};
 ghost use Rattle.abc_meaning.specs.Meaning.{ran, runs_for};
 ghost use Rattle.abc_meaning.specs.Throwing.{End as Ending};
-ghost use Rattle.abc_openings.specs.Begun.{setting};
-ghost use Rattle.abc_reached.specs.Steps.{IsReached};
-ghost use Rattle.abc_states.specs.Outer.{Outer};
+ghost use Rattle.abc_run_finish.specs.Begun.{setting};
+ghost use Rattle.abc_run_finish.specs.Steps.{IsReached};
+ghost use Rattle.abc_run_state.specs.Outer.{Outer};
 
+use crate::ending::write_uncaught;
 use crate::ends::End;
+use crate::logging::step_logged;
 use crate::replies::Reply;
 use crate::running::{end_for, reply_for};
 use abc_base::{Failed, Host, Sink};
 use abc_link::Linked;
-use abc_logging::{Seen, step_logged, write_uncaught};
-use abc_loglines::{write_limit_end, write_profile_end, write_word_end};
-use abc_states::State;
+use abc_log::{Seen, write_limit_end, write_profile_end, write_word_end};
+use abc_run_state::State;
 
 /// One step more with its lines, where there is fuel for it.
 fn spend_logged<K: Sink, H: Host>(

@@ -1,7 +1,7 @@
 use abc_base::Fault;
-use abc_cells::Span;
-use abc_ends::Thrown;
-use abc_heap::Limit;
+use abc_heap_store::Limit;
+use abc_heap_values::Span;
+use abc_meaning::Thrown;
 
 /// What a call gives, as its caller sees it.
 #[derive(Clone, Copy)]

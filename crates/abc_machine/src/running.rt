@@ -1,8 +1,8 @@
 ghost use Rattle.std.specs.Prelude.{◌≡◌, ◌≢◌, ◌+◌, ◌<◌, ◌≤◌, true, Ok};
 ghost use Rattle.abc_base.specs.Faults.{Rose};
-ghost use Rattle.abc_calling.specs.Calls.{replies_for};
-ghost use Rattle.abc_logging.specs.Held.{IsHeld};
-ghost use Rattle.abc_logmeaning.specs.Logs.{steps_for};
+ghost use Rattle.abc_meaning_sound.specs.Calls.{replies_for};
+ghost use Rattle.abc_run_dispatch.specs.Held.{IsHeld};
+ghost use Rattle.abc_meaning.specs.Logs.{steps_for};
 ghost use Rattle.abc_machine.specs.Ended.{HasRun, RunsAs};
 ghost use Rattle.abc_machine.specs.Replied.{HasReplied, RepliesAs, plain_value};
 ghost use Rattle.abc_machine.specs.Runs.{Begun, IsAt, Leaves};
@@ -10,21 +10,21 @@ ghost use Rattle.abc_machine.specs.Spent.{SpendsAs, as_reply, end_for as end_of,
 ghost use Rattle.abc_machine.specs.declared.ends.End.TheVariants.{WriteFault as FailedRun};
 ghost use Rattle.abc_machine.specs.declared.replies.Reply.TheVariants.{WriteFault};
 ghost use Rattle.abc_meaning.specs.Meaning.{ran, runs_for};
-ghost use Rattle.abc_openings.specs.Begun.{setting};
-ghost use Rattle.abc_reached.specs.Halt.TheVariants.{Fails};
-ghost use Rattle.abc_reached.specs.Steps.{IsReached};
-ghost use Rattle.abc_states.specs.Outer.{Outer};
-ghost use Rattle.abc_states.specs.declared.state.Left.TheVariants.{Goes};
+ghost use Rattle.abc_run_finish.specs.Begun.{setting};
+ghost use Rattle.abc_run_finish.specs.declared.halts.Halt.TheVariants.{Fails};
+ghost use Rattle.abc_run_finish.specs.Steps.{IsReached};
+ghost use Rattle.abc_run_state.specs.Outer.{Outer};
+ghost use Rattle.abc_run_state.specs.declared.state.Left.TheVariants.{Goes};
 
 use crate::ends::End;
 use crate::replies::{PlainValue, Reply};
+use crate::stepping::step_on;
 use abc_base::{Host, Sink};
-use abc_cells::Value;
-use abc_ends::Ended;
+use abc_heap_values::Value;
 use abc_link::Linked;
-use abc_logging::{Held, hold, step_on};
-use abc_reached::Halt;
-use abc_states::{Left, State, Stop};
+use abc_run_dispatch::{Held, hold};
+use abc_run_finish::{Ended, Halt};
+use abc_run_state::{Left, State, Stop};
 
 /// A value as the caller sees it.
 fn plain(value: Value) -> PlainValue

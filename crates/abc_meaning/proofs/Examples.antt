@@ -4,32 +4,32 @@ use Rattle.std.specs.Prelude.{codes}
 use Rattle.abc_base.specs.Hosts.{builtin_formulas}
 use Rattle.abc_base.specs.declared.names.Fault.TheVariants as faults
 use Rattle.abc_base.specs.declared.names.HostClass.TheVariants as hosts
-use Rattle.abc_graph.specs.Ways.{way}
-use Rattle.abc_heap.specs.declared.records.Limit.TheVariants as limits
-use Rattle.abc_heap.specs.declared.records.Limits.{Limits}
-use Rattle.abc_names.specs.Meaning.{host_classes}
-use Rattle.abc_program.specs.declared.part.Part.{Part}
-use Rattle.abc_program.specs.declared.part.Part.TheVariants as parts
-use Rattle.abc_acts.specs.SearchCandidates.{answer}
-use Rattle.abc_acts.specs.Searches.{declared_found, found_in_scopes, found_on}
-use Rattle.abc_shapes.specs.Rows.{row_at, table}
-use Rattle.abc_tables.specs.declared.classes.ClassInfo.{ClassInfo}
-use Rattle.abc_tables.specs.declared.classes.Instance.{Instance}
-use Rattle.abc_tables.specs.declared.classes.Script.{Script}
-use Rattle.abc_tables.specs.declared.code.Body.{Body}
-use Rattle.abc_tables.specs.declared.code.Handler.{Handler}
-use Rattle.abc_tables.specs.declared.code.Instr.{Instr}
-use Rattle.abc_tables.specs.declared.code.Instr.TheVariants.{Plain, One, Two, Branch, Byte}
-use Rattle.abc_tables.specs.declared.methods.Method.{Method}
-use Rattle.abc_tables.specs.declared.names.Multiname.{Multiname}
-use Rattle.abc_tables.specs.declared.names.Multiname.TheVariants as names
-use Rattle.abc_tables.specs.declared.names.NsKind.TheVariants as kinds
-use Rattle.abc_tables.specs.declared.tables.Abc.{Abc}
-use Rattle.abc_tables.specs.declared.traits.TraitBody.{TraitBody}
-use Rattle.abc_tables.specs.declared.traits.TraitBody.TheVariants as traits
-use Rattle.abc_tables.specs.declared.traits.TraitInfo.{TraitInfo}
-use Rattle.abc_acts.specs.WorldSetting.{Setting}
-use Rattle.abc_acts.specs.Table.{act_of, acts}
+use Rattle.abc_base_graphs.specs.Ways.{way}
+use Rattle.abc_heap_store.specs.declared.records.Limit.TheVariants as limits
+use Rattle.abc_heap_store.specs.declared.records.Limits.{Limits}
+use Rattle.abc_link_names.specs.Meaning.{host_classes}
+use Rattle.abc_link_program.specs.declared.part.Part.{Part}
+use Rattle.abc_link_program.specs.declared.part.Part.TheVariants as parts
+use Rattle.abc_heap_search.specs.Candidates.{answer}
+use Rattle.abc_heap_search.specs.Searches.{declared_found, found_in_scopes, found_on}
+use Rattle.abc_verify_typing.specs.Rows.{row_at, table}
+use Rattle.abc_file_types.specs.declared.classes.ClassInfo.{ClassInfo}
+use Rattle.abc_file_types.specs.declared.classes.Instance.{Instance}
+use Rattle.abc_file_types.specs.declared.classes.Script.{Script}
+use Rattle.abc_file_types.specs.declared.code.Body.{Body}
+use Rattle.abc_file_types.specs.declared.code.Handler.{Handler}
+use Rattle.abc_file_types.specs.declared.code.Instr.{Instr}
+use Rattle.abc_file_types.specs.declared.code.Instr.TheVariants.{Plain, One, Two, Branch, Byte}
+use Rattle.abc_file_types.specs.declared.methods.Method.{Method}
+use Rattle.abc_file_types.specs.declared.names.Multiname.{Multiname}
+use Rattle.abc_file_types.specs.declared.names.Multiname.TheVariants as names
+use Rattle.abc_file_types.specs.declared.names.NsKind.TheVariants as kinds
+use Rattle.abc_file_types.specs.declared.tables.Abc.{Abc}
+use Rattle.abc_file_types.specs.declared.traits.TraitBody.{TraitBody}
+use Rattle.abc_file_types.specs.declared.traits.TraitBody.TheVariants as traits
+use Rattle.abc_file_types.specs.declared.traits.TraitInfo.{TraitInfo}
+use Rattle.abc_meaning.specs.Setting.{Setting}
+use Rattle.abc_meaning.specs.Table.{act_of, acts}
 use Rattle.abc_meaning.specs.Meaning.{Ran, TooSmall, meaning}
 use Rattle.abc_meaning.specs.Throwing.{Done, FuelSpent, Full, Profile, Uncaught}
 use Rattle.abc_meaning.specs.declared.thrown.Thrown.TheVariants as thrown

@@ -1,8 +1,15 @@
+mod Reaching
+pub mod TypeTests
+pub mod Coercing
+mod Agreeing
 pub mod ValueKinds
 pub mod Unwinding
 mod Examples
-pub use Rattle.abc_acts.proofs.ObjectsGrown
-pub use Rattle.abc_acts.proofs.ObjectsKept
-pub use Rattle.abc_acts.proofs.ObjectsMade
-pub use Rattle.abc_acts.proofs.ObjectsOpened
-pub use Rattle.abc_acts.proofs.ObjectsReshaped
+pub mod Adding
+pub mod Entering
+pub mod Values
+pub mod Members
+pub mod Acting
+pub mod Tabled
+pub mod Stepping
+pub mod Counted

@@ -4,31 +4,31 @@ use Rattle.std.specs.Prelude.{Some, None, filter, nat_le, nat_lt}
 use Rattle.std.specs.declared.option.Option.{Option}
 use Rattle.std.specs.List.{find}
 use Rattle.std.proofs.lemmas.Bool.{false≢true, ltb-true}
-use Rattle.abc_cells.specs.declared.values.Value.{Value}
-use Rattle.abc_heap.specs.Heap.{Heap}
-use Rattle.abc_heap.specs.declared.records.Limits.{Limits}
-use Rattle.abc_acts.specs.ObjectsValues.{Exists}
-use Rattle.abc_program.specs.Linked.{IsLinkedFile, LinkedFile, layout_of}
-use Rattle.abc_program.specs.Owners.{body_of}
-use Rattle.abc_program.specs.Types.{type_of}
-use Rattle.abc_program.specs.declared.part.Part.TheVariants as parts
-use Rattle.abc_program.specs.declared.types.Ty.{Ty}
-use Rattle.abc_items.specs.Parts.{body_at}
-use Rattle.abc_tables.specs.declared.code.Handler.{Handler}
-use Rattle.abc_typing.specs.Effects.{caught, covering, covers}
-use Rattle.abc_typing.specs.Lists.{Each, Each2}
-use Rattle.abc_typing.specs.Routines.{Routine, catches as catches_from, kind_if, or_any, routine, type_at}
-use Rattle.abc_typing.specs.Rules.{is_empty}
-use Rattle.abc_typing.specs.Typing.{In, ScopeLe}
-use Rattle.abc_typing.specs.declared.catch.Catch.{Catch}
-use Rattle.abc_typing.specs.declared.rule.VerifyRule.TheVariants.{StackOver}
-use Rattle.abc_typing.specs.declared.state.Scope.{Scope}
-use Rattle.abc_typing.proofs.Fine.{stands}
-use Rattle.abc_typing.proofs.Member.{and_left, and_right, in_right, map_in}
-use Rattle.abc_stacks.specs.Frame.{Frame}
-use Rattle.abc_acts.specs.WorldSetting.{Setting, routine_in, routine_of}
-use Rattle.abc_acts.specs.World.{World}
-use Rattle.abc_meaning.specs.Laws.{ThrowsStaySound}
+use Rattle.abc_heap_values.specs.declared.values.Value.{Value}
+use Rattle.abc_heap_store.specs.Heap.{Heap}
+use Rattle.abc_heap_store.specs.declared.records.Limits.{Limits}
+use Rattle.abc_objects.specs.Values.{Exists}
+use Rattle.abc_link_program.specs.Linked.{IsLinkedFile, LinkedFile, layout_of}
+use Rattle.abc_link_program.specs.Owners.{body_of}
+use Rattle.abc_link_program.specs.Types.{type_of}
+use Rattle.abc_link_program.specs.declared.part.Part.TheVariants as parts
+use Rattle.abc_link_program.specs.declared.types.Ty.{Ty}
+use Rattle.abc_link_names.specs.Parts.{body_at}
+use Rattle.abc_file_types.specs.declared.code.Handler.{Handler}
+use Rattle.abc_verify_typing.specs.Effects.{caught, covering, covers}
+use Rattle.abc_verify_typing.specs.Lists.{Each, Each2}
+use Rattle.abc_verify_typing.specs.Routines.{Routine, catches as catches_from, kind_if, or_any, routine, type_at}
+use Rattle.abc_verify_typing.specs.Rules.{is_empty}
+use Rattle.abc_verify_typing.specs.Typing.{In, ScopeLe}
+use Rattle.abc_verify_typing.specs.declared.catch.Catch.{Catch}
+use Rattle.abc_verify_typing.specs.declared.rule.VerifyRule.TheVariants.{StackOver}
+use Rattle.abc_verify_typing.specs.declared.state.Scope.{Scope}
+use Rattle.abc_verify_typing.proofs.Fine.{stands}
+use Rattle.abc_verify_typing.proofs.Member.{and_left, and_right, in_right, map_in}
+use Rattle.abc_frames.specs.Frame.{Frame}
+use Rattle.abc_meaning.specs.Setting.{Setting, routine_in, routine_of}
+use Rattle.abc_meaning.specs.World.{World}
+use Rattle.abc_meaning.specs.ThrowLaws.{ThrowsStaySound}
 use Rattle.abc_meaning.specs.Sound.{AreTypings, FrameSound, FramesFit, FramesSound, IsCatching, IsOfKind, ScopeHolds, SteppedSound, Stands, Typings, WaitingSound, WorldSound}
 use Rattle.abc_meaning.specs.Throwing.{Ends, Stuck, catcher, catches, caught_at, goes_on, handlers_in, has_stack, is_caught_as, lands, unwinds}
 use Rattle.abc_meaning.proofs.ValueKinds.{kinds_up, type_holds}

@@ -2,25 +2,25 @@
 use Rattle.std.proofs.Common.{◌≡◌, ◌≤◌, ℕ, zero, suc, true, List, [], ◌∷◌, refl, sym, subst, arith}
 use Rattle.std.proofs.lemmas.Bool.{false≢true}
 use Rattle.abc_base.specs.declared.names.HostClass.TheVariants as hosts
-use Rattle.abc_cells.specs.declared.values.Value.{Value}
-use Rattle.abc_cells.specs.declared.values.Value.TheVariants as values
-use Rattle.abc_heap.specs.Heap.{Heap, object_at}
-use Rattle.abc_acts.specs.ObjectsValues.{Exists, Holds}
-use Rattle.abc_program.specs.Kinds.{IsAtMost}
-use Rattle.abc_program.specs.Linked.{IsLinkedFile, LinkedFile, above, layout_of}
-use Rattle.abc_program.specs.Tree.{IsBelow}
-use Rattle.abc_program.specs.Types.{kind_of_type}
-use Rattle.abc_program.specs.declared.part.LayoutId.{LayoutId}
-use Rattle.abc_program.specs.declared.part.Part.TheVariants as parts
-use Rattle.abc_program.specs.declared.types.Kind.{Kind}
-use Rattle.abc_program.specs.declared.types.Kind.TheVariants as kinds
-use Rattle.abc_program.specs.declared.types.Ty.{Ty}
-use Rattle.abc_program.specs.declared.types.Ty.TheVariants as types
-use Rattle.abc_program.proofs.Tree.{above_le, below_trans, below_up}
-use Rattle.abc_typing.specs.Lists.{Each2}
-use Rattle.abc_typing.proofs.Good.{good}
-use Rattle.abc_typing.proofs.Reaching.{below_reached}
-use Rattle.abc_acts.specs.WorldTypes.{is_of}
+use Rattle.abc_heap_values.specs.declared.values.Value.{Value}
+use Rattle.abc_heap_values.specs.declared.values.Value.TheVariants as values
+use Rattle.abc_heap_store.specs.Heap.{Heap, object_at}
+use Rattle.abc_objects.specs.Values.{Exists, Holds}
+use Rattle.abc_link_program.specs.Kinds.{IsAtMost}
+use Rattle.abc_link_program.specs.Linked.{IsLinkedFile, LinkedFile, above, layout_of}
+use Rattle.abc_link_program.specs.Tree.{IsBelow}
+use Rattle.abc_link_program.specs.Types.{kind_of_type}
+use Rattle.abc_link_program.specs.declared.part.LayoutId.{LayoutId}
+use Rattle.abc_link_program.specs.declared.part.Part.TheVariants as parts
+use Rattle.abc_link_program.specs.declared.types.Kind.{Kind}
+use Rattle.abc_link_program.specs.declared.types.Kind.TheVariants as kinds
+use Rattle.abc_link_program.specs.declared.types.Ty.{Ty}
+use Rattle.abc_link_program.specs.declared.types.Ty.TheVariants as types
+use Rattle.abc_link_program.proofs.Tree.{above_le, below_trans, below_up}
+use Rattle.abc_verify_typing.specs.Lists.{Each2}
+use Rattle.abc_verify_typing.proofs.Good.{good}
+use Rattle.abc_verify_typing.proofs.Reaching.{below_reached}
+use Rattle.abc_meaning.specs.Types.{is_of}
 use Rattle.abc_meaning.specs.Sound.{IsOfKind}
 
 -- ---- a value of a kind is of the kinds above it

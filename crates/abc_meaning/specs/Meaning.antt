@@ -1,13 +1,13 @@
 -- The state that a run begins with, and the meaning of a run.
 use Rattle.std.specs.Prelude.{ℕ, zero, suc, List, [], false, length, replicate, nat_lt, Some, None, if◌then◌else◌}
 use Rattle.std.specs.declared.option.Option.{Option}
-use Rattle.abc_heap.specs.Heap.{Heap, cells_used}
-use Rattle.abc_heap.specs.declared.records.Limit.{Limit}
-use Rattle.abc_heap.specs.declared.records.Limit.TheVariants.{Objects, Cells}
-use Rattle.abc_heap.specs.declared.records.Limits.{Limits}
-use Rattle.abc_acts.specs.ObjectsOpening.{formula_names, opening}
-use Rattle.abc_acts.specs.WorldSetting.{Setting}
-use Rattle.abc_acts.specs.World.{World}
+use Rattle.abc_heap_store.specs.Heap.{Heap, cells_used}
+use Rattle.abc_heap_store.specs.declared.records.Limit.{Limit}
+use Rattle.abc_heap_store.specs.declared.records.Limit.TheVariants.{Objects, Cells}
+use Rattle.abc_heap_store.specs.declared.records.Limits.{Limits}
+use Rattle.abc_objects.specs.Opening.{formula_names, opening}
+use Rattle.abc_meaning.specs.Setting.{Setting}
+use Rattle.abc_meaning.specs.World.{World}
 use Rattle.abc_meaning.specs.Step.{step}
 use Rattle.abc_meaning.specs.Throwing.{End, Ends, FuelSpent, Machine, Stepped, Steps}
 

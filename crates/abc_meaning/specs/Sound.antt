@@ -1,41 +1,41 @@
 -- Sound states: what they name is there, values are of the kinds of their places, and the ledger is right.
 use Rattle.std.specs.Prelude.{◌≡◌, ◌≢◌, ℕ, ◌+◌, ◌^◌, ◌<◌, ◌≤◌, List, [], ◌∷◌, false, length, take, drop, slice_get, Option, Some, None}
-use Rattle.abc_cells.specs.declared.values.Value.{Value}
-use Rattle.abc_cells.specs.declared.values.Value.TheVariants.{Obj}
-use Rattle.abc_cells.specs.declared.values.ObjId.{ObjId}
-use Rattle.abc_graph.specs.Graph.{Leads}
-use Rattle.abc_heap.specs.Heap.{Heap, Object, cells_used}
-use Rattle.abc_heap.specs.declared.records.Limits.{Limits}
-use Rattle.abc_heap.specs.declared.records.ScopeEntry.{ScopeEntry}
-use Rattle.abc_heap.specs.declared.records.What.{What}
-use Rattle.abc_heap.specs.declared.records.What.TheVariants as whats
-use Rattle.abc_acts.specs.ObjectsOpening.{formula_names}
-use Rattle.abc_acts.specs.ObjectsStands.{IsScope, StandsOver}
-use Rattle.abc_acts.specs.ObjectsValues.{Exists, Holds}
-use Rattle.abc_program.specs.Kinds.{IsAtMost}
-use Rattle.abc_program.specs.Linked.{LinkedFile, layout_of}
-use Rattle.abc_program.specs.Numbering.{part_at}
-use Rattle.abc_program.specs.Owners.{owner_of}
-use Rattle.abc_program.specs.Slots.{slots_of}
-use Rattle.abc_program.specs.Types.{kind_of_type}
-use Rattle.abc_program.specs.declared.part.Part.{Part}
-use Rattle.abc_program.specs.declared.part.Part.TheVariants as parts
-use Rattle.abc_program.specs.declared.types.Kind.{Kind}
-use Rattle.abc_program.specs.declared.types.Kind.TheVariants.{Any}
-use Rattle.abc_program.specs.declared.types.Owner.TheVariants.{Free}
-use Rattle.abc_program.specs.declared.types.SlotInfo.{SlotInfo}
-use Rattle.abc_items.specs.Bases.{base_graph, is_interface}
-use Rattle.abc_typing.specs.Lists.{Each, Each2}
-use Rattle.abc_typing.specs.Routines.{Routine, this_kind}
-use Rattle.abc_typing.specs.Typing.{IsTyping}
-use Rattle.abc_typing.specs.declared.state.Scope.{Scope}
-use Rattle.abc_typing.specs.declared.state.State.{State}
-use Rattle.abc_stacks.specs.Frame.{Frame}
-use Rattle.abc_acts.specs.WorldSetting.{Setting, routine_of}
-use Rattle.abc_acts.specs.World.{World}
-use Rattle.abc_stacks.specs.declared.records.Wait.{Wait}
-use Rattle.abc_stacks.specs.declared.records.Wait.TheVariants as waits
-use Rattle.abc_acts.specs.At.{next, pushed}
+use Rattle.abc_heap_values.specs.declared.values.Value.{Value}
+use Rattle.abc_heap_values.specs.declared.values.Value.TheVariants.{Obj}
+use Rattle.abc_heap_values.specs.declared.values.ObjId.{ObjId}
+use Rattle.abc_base_graphs.specs.Graph.{Leads}
+use Rattle.abc_heap_store.specs.Heap.{Heap, Object, cells_used}
+use Rattle.abc_heap_store.specs.declared.records.Limits.{Limits}
+use Rattle.abc_heap_store.specs.declared.records.ScopeEntry.{ScopeEntry}
+use Rattle.abc_heap_store.specs.declared.records.What.{What}
+use Rattle.abc_heap_store.specs.declared.records.What.TheVariants as whats
+use Rattle.abc_objects.specs.Opening.{formula_names}
+use Rattle.abc_objects.specs.Stands.{IsScope, StandsOver}
+use Rattle.abc_objects.specs.Values.{Exists, Holds}
+use Rattle.abc_link_program.specs.Kinds.{IsAtMost}
+use Rattle.abc_link_program.specs.Linked.{LinkedFile, layout_of}
+use Rattle.abc_link_program.specs.Numbering.{part_at}
+use Rattle.abc_link_program.specs.Owners.{owner_of}
+use Rattle.abc_link_program.specs.Slots.{slots_of}
+use Rattle.abc_link_program.specs.Types.{kind_of_type}
+use Rattle.abc_link_program.specs.declared.part.Part.{Part}
+use Rattle.abc_link_program.specs.declared.part.Part.TheVariants as parts
+use Rattle.abc_link_program.specs.declared.types.Kind.{Kind}
+use Rattle.abc_link_program.specs.declared.types.Kind.TheVariants.{Any}
+use Rattle.abc_link_program.specs.declared.types.Owner.TheVariants.{Free}
+use Rattle.abc_link_program.specs.declared.types.SlotInfo.{SlotInfo}
+use Rattle.abc_link_names.specs.Bases.{base_graph, is_interface}
+use Rattle.abc_verify_typing.specs.Lists.{Each, Each2}
+use Rattle.abc_verify_typing.specs.Routines.{Routine, this_kind}
+use Rattle.abc_verify_typing.specs.Typing.{IsTyping}
+use Rattle.abc_verify_typing.specs.declared.state.Scope.{Scope}
+use Rattle.abc_verify_typing.specs.declared.state.State.{State}
+use Rattle.abc_frames.specs.Frame.{Frame}
+use Rattle.abc_meaning.specs.Setting.{Setting, routine_of}
+use Rattle.abc_meaning.specs.World.{World}
+use Rattle.abc_frames.specs.declared.records.Wait.{Wait}
+use Rattle.abc_frames.specs.declared.records.Wait.TheVariants as waits
+use Rattle.abc_meaning.specs.At.{next, pushed}
 use Rattle.abc_meaning.specs.Step.{size_of_frames}
 use Rattle.abc_meaning.specs.Throwing.{Ends, Machine, Stepped, Steps, Stuck}
 

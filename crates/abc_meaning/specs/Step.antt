@@ -1,22 +1,22 @@
 -- One step: the start of the last script, or the instruction of the newest frame.
 use Rattle.std.specs.Prelude.{ℕ, ◌+◌, List, [], ◌∷◌, Bool, true, false, length, take, drop, reverse, slice_get, Some, None}
 use Rattle.std.specs.declared.option.Option.{Option}
-use Rattle.abc_cells.specs.declared.values.Value.{Value}
-use Rattle.abc_heap.specs.declared.records.Limit.TheVariants.{Frames, Stack}
-use Rattle.abc_shapes.specs.Instructions.{opcode}
-use Rattle.abc_shapes.specs.Rows.{Shape, row_at}
-use Rattle.abc_tables.specs.declared.code.Instr.{Instr}
-use Rattle.abc_typing.specs.Effects.{Here}
-use Rattle.abc_typing.specs.Routines.{Routine}
-use Rattle.abc_acts.specs.WorldEntering.{starts}
-use Rattle.abc_stacks.specs.Frame.{Frame}
-use Rattle.abc_acts.specs.WorldMaking.{new}
-use Rattle.abc_acts.specs.WorldSetting.{Setting, routine_of, size_of}
-use Rattle.abc_acts.specs.World.{Outcome, Run, Stopped, Went, World, done, room, see, stuck, ◌>>=◌, ◌>>◌}
-use Rattle.abc_stacks.specs.declared.records.Wait.{Wait}
-use Rattle.abc_stacks.specs.declared.records.Wait.TheVariants as waits
-use Rattle.abc_acts.specs.At.{Above, Act, Doing, Goes, Returns, Stays, Top, next, pushed, pushing, waiting}
-use Rattle.abc_acts.specs.Table.{act_of}
+use Rattle.abc_heap_values.specs.declared.values.Value.{Value}
+use Rattle.abc_heap_store.specs.declared.records.Limit.TheVariants.{Frames, Stack}
+use Rattle.abc_verify_typing.specs.Instructions.{opcode}
+use Rattle.abc_verify_typing.specs.Rows.{Shape, row_at}
+use Rattle.abc_file_types.specs.declared.code.Instr.{Instr}
+use Rattle.abc_verify_typing.specs.Effects.{Here}
+use Rattle.abc_verify_typing.specs.Routines.{Routine}
+use Rattle.abc_meaning.specs.Entering.{starts}
+use Rattle.abc_frames.specs.Frame.{Frame}
+use Rattle.abc_meaning.specs.Making.{new}
+use Rattle.abc_meaning.specs.Setting.{Setting, routine_of, size_of}
+use Rattle.abc_meaning.specs.World.{Outcome, Run, Stopped, Went, World, done, room, see, stuck, ◌>>=◌, ◌>>◌}
+use Rattle.abc_frames.specs.declared.records.Wait.{Wait}
+use Rattle.abc_frames.specs.declared.records.Wait.TheVariants as waits
+use Rattle.abc_meaning.specs.At.{Above, Act, Doing, Goes, Returns, Stays, Top, next, pushed, pushing, waiting}
+use Rattle.abc_meaning.specs.Table.{act_of}
 use Rattle.abc_meaning.specs.Tests.{at_frame, can_run}
 use Rattle.abc_meaning.specs.Throwing.{Done, Ends, Machine, Stepped, goes_on, last_script, stops}
 

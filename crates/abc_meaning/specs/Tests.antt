@@ -1,26 +1,26 @@
 -- The tests of a step, each asked before the act: where one fails, the step is stuck.
 use Rattle.std.specs.Prelude.{ℕ, ◌+◌, ◌-◌, List, [], ◌∷◌, Bool, true, false, ◌&&◌, length, take, drop, reverse, is_some, nat_le, nat_lt, slice_get, Some, None}
 use Rattle.std.specs.declared.option.Option.{Option}
-use Rattle.abc_cells.specs.declared.values.Value.{Value}
-use Rattle.abc_cells.specs.declared.values.Value.TheVariants.{Null, Num, Space, Obj}
-use Rattle.abc_heap.specs.Heap.{Object}
-use Rattle.abc_heap.specs.declared.records.ScopeEntry.{ScopeEntry}
-use Rattle.abc_program.specs.Slots.{slot_numbered}
-use Rattle.abc_program.specs.declared.part.LayoutId.{LayoutId}
-use Rattle.abc_shapes.specs.Instructions.{operand, second}
-use Rattle.abc_shapes.specs.declared.row.Locals.{Locals}
-use Rattle.abc_shapes.specs.declared.row.Locals.TheVariants.{Walks}
-use Rattle.abc_shapes.specs.declared.row.Need.{Need}
-use Rattle.abc_shapes.specs.declared.row.Need.TheVariants as needed
-use Rattle.abc_shapes.specs.declared.row.Operand.{Operand}
-use Rattle.abc_shapes.specs.declared.row.Operand.TheVariants.{ScopeAt}
-use Rattle.abc_tables.specs.declared.code.Instr.{Instr}
-use Rattle.abc_typing.specs.Effects.{Here, args, depth, name_at, needs, runtime}
-use Rattle.abc_typing.specs.Rules.{has_form, has_locals, in_table, is_here, may_pop, may_push, reaches, super_layout}
-use Rattle.abc_stacks.specs.Frame.{Frame}
-use Rattle.abc_acts.specs.WorldSetting.{Setting}
-use Rattle.abc_acts.specs.World.{World, object}
-use Rattle.abc_acts.specs.At.{At}
+use Rattle.abc_heap_values.specs.declared.values.Value.{Value}
+use Rattle.abc_heap_values.specs.declared.values.Value.TheVariants.{Null, Num, Space, Obj}
+use Rattle.abc_heap_store.specs.Heap.{Object}
+use Rattle.abc_heap_store.specs.declared.records.ScopeEntry.{ScopeEntry}
+use Rattle.abc_link_program.specs.Slots.{slot_numbered}
+use Rattle.abc_link_program.specs.declared.part.LayoutId.{LayoutId}
+use Rattle.abc_verify_typing.specs.Instructions.{operand, second}
+use Rattle.abc_verify_typing.specs.declared.row.Locals.{Locals}
+use Rattle.abc_verify_typing.specs.declared.row.Locals.TheVariants.{Walks}
+use Rattle.abc_verify_typing.specs.declared.row.Need.{Need}
+use Rattle.abc_verify_typing.specs.declared.row.Need.TheVariants as needed
+use Rattle.abc_verify_typing.specs.declared.row.Operand.{Operand}
+use Rattle.abc_verify_typing.specs.declared.row.Operand.TheVariants.{ScopeAt}
+use Rattle.abc_file_types.specs.declared.code.Instr.{Instr}
+use Rattle.abc_verify_typing.specs.Effects.{Here, args, depth, name_at, needs, runtime}
+use Rattle.abc_verify_typing.specs.Rules.{has_form, has_locals, in_table, is_here, may_pop, may_push, reaches, super_layout}
+use Rattle.abc_frames.specs.Frame.{Frame}
+use Rattle.abc_meaning.specs.Setting.{Setting}
+use Rattle.abc_meaning.specs.World.{World, object}
+use Rattle.abc_meaning.specs.At.{At}
 
 -- ---- how an instruction finds its values: its arguments on top, then the others, with the parts of the name among them
 

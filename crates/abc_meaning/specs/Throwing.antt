@@ -4,27 +4,27 @@ use Rattle.std.specs.declared.option.Option.{Option}
 use Rattle.std.specs.List.{find}
 use Rattle.abc_base.specs.declared.names.Fault.{Fault}
 use Rattle.abc_base.specs.declared.names.HostClass.TheVariants as hosts
-use Rattle.abc_cells.specs.declared.values.ObjId.{ObjId}
-use Rattle.abc_cells.specs.declared.values.Value.{Value}
-use Rattle.abc_cells.specs.declared.values.Value.TheVariants.{Undefined, Null, Num, Bool as Truth, Text, Space, Obj}
-use Rattle.abc_heap.specs.Heap.{object_at}
-use Rattle.abc_heap.specs.declared.records.Limit.{Limit}
-use Rattle.abc_heap.specs.declared.records.What.TheVariants.{Plain}
-use Rattle.abc_program.specs.Numbering.{part_at}
-use Rattle.abc_program.specs.Owners.{body_of}
-use Rattle.abc_program.specs.Types.{type_of}
-use Rattle.abc_program.specs.declared.part.Part.{Part}
-use Rattle.abc_program.specs.declared.part.Part.TheVariants as parts
-use Rattle.abc_program.specs.declared.types.Ty.{Ty}
-use Rattle.abc_items.specs.Parts.{body_at, script_at}
-use Rattle.abc_tables.specs.declared.code.Handler.{Handler}
-use Rattle.abc_typing.specs.Routines.{Routine}
-use Rattle.abc_stacks.specs.Frame.{Frame}
-use Rattle.abc_acts.specs.WorldObjects.{new_of_host}
-use Rattle.abc_acts.specs.WorldSetting.{Setting, routine_of}
-use Rattle.abc_acts.specs.WorldTypes.{is_of}
-use Rattle.abc_acts.specs.World.{Errs, Faults, Fills, Outcome, Sticks, Stop, Stopped, Throws, Went, World}
-use Rattle.abc_stacks.specs.declared.records.Wait.TheVariants as waits
+use Rattle.abc_heap_values.specs.declared.values.ObjId.{ObjId}
+use Rattle.abc_heap_values.specs.declared.values.Value.{Value}
+use Rattle.abc_heap_values.specs.declared.values.Value.TheVariants.{Undefined, Null, Num, Bool as Truth, Text, Space, Obj}
+use Rattle.abc_heap_store.specs.Heap.{object_at}
+use Rattle.abc_heap_store.specs.declared.records.Limit.{Limit}
+use Rattle.abc_heap_store.specs.declared.records.What.TheVariants.{Plain}
+use Rattle.abc_link_program.specs.Numbering.{part_at}
+use Rattle.abc_link_program.specs.Owners.{body_of}
+use Rattle.abc_link_program.specs.Types.{type_of}
+use Rattle.abc_link_program.specs.declared.part.Part.{Part}
+use Rattle.abc_link_program.specs.declared.part.Part.TheVariants as parts
+use Rattle.abc_link_program.specs.declared.types.Ty.{Ty}
+use Rattle.abc_link_names.specs.Parts.{body_at, script_at}
+use Rattle.abc_file_types.specs.declared.code.Handler.{Handler}
+use Rattle.abc_verify_typing.specs.Routines.{Routine}
+use Rattle.abc_frames.specs.Frame.{Frame}
+use Rattle.abc_meaning.specs.Objects.{new_of_host}
+use Rattle.abc_meaning.specs.Setting.{Setting, routine_of}
+use Rattle.abc_meaning.specs.Types.{is_of}
+use Rattle.abc_meaning.specs.World.{Errs, Faults, Fills, Outcome, Sticks, Stop, Stopped, Throws, Went, World}
+use Rattle.abc_frames.specs.declared.records.Wait.TheVariants as waits
 use Rattle.abc_meaning.specs.declared.thrown.Thrown.{Thrown}
 use Rattle.abc_meaning.specs.declared.thrown.Thrown.TheVariants as thrown
 

@@ -3,27 +3,27 @@ use Rattle.std.proofs.Common.{◌≡◌, ◌≢◌, ℕ, zero, suc, ◌+◌, ◌
 use Rattle.std.specs.Prelude.{slice_get}
 use Rattle.std.proofs.lemmas.Option.{slice_get_within}
 use Rattle.std.proofs.lemmas.List.{length-map, length-set}
-use Rattle.abc_cells.specs.declared.values.ObjId.{ObjId}
-use Rattle.abc_cells.specs.declared.values.Value.TheVariants as values
-use Rattle.abc_cells.proofs.Parts.{slice_get_more, slice_get_left, slice_get_seam}
-use Rattle.abc_heap.specs.declared.records.ScopeId.{ScopeId}
-use Rattle.abc_heap.specs.declared.records.ScopeEntry.{ScopeEntry}
-use Rattle.abc_heap.specs.declared.records.ScopeNode.{ScopeNode}
-use Rattle.abc_heap.specs.declared.records.What.TheVariants as whats
-use Rattle.abc_heap.specs.Heap.{Heap, Object, obj_id, object_at}
-use Rattle.abc_heap.proofs.Growth.{set_read}
+use Rattle.abc_heap_values.specs.declared.values.ObjId.{ObjId}
+use Rattle.abc_heap_values.specs.declared.values.Value.TheVariants as values
+use Rattle.abc_heap_values.proofs.Parts.{slice_get_more, slice_get_left, slice_get_seam}
+use Rattle.abc_heap_store.specs.declared.records.ScopeId.{ScopeId}
+use Rattle.abc_heap_store.specs.declared.records.ScopeEntry.{ScopeEntry}
+use Rattle.abc_heap_store.specs.declared.records.ScopeNode.{ScopeNode}
+use Rattle.abc_heap_store.specs.declared.records.What.TheVariants as whats
+use Rattle.abc_heap_store.specs.Heap.{Heap, Object, obj_id, object_at}
+use Rattle.abc_heap_store.proofs.Growth.{set_read}
 use Rattle.abc_base.specs.declared.names.HostClass.TheVariants as hosts
-use Rattle.abc_heap.specs.declared.store.ClassParts.{ClassParts}
-use Rattle.abc_heap.specs.Changes.{with_class, with_made, with_scopes, with_slot, with_more_slots, bare}
-use Rattle.abc_heap.specs.Scopes.{nodes, top, scope_id}
-use Rattle.abc_heap.proofs.Makes.{change_last, nodes_length}
-use Rattle.abc_link.specs.ProgramLinked.{LinkedFile, IsLinkedFile, layout_of}
-use Rattle.abc_link.specs.Numbering.{part_at}
-use Rattle.abc_link.specs.Parts.{parent}
-use Rattle.abc_link.specs.Slots.{own_slots, slots_of as slots_of_layout}
-use Rattle.abc_link.specs.Part.{Part}
-use Rattle.abc_link.specs.Part.TheVariants as parts
-use Rattle.abc_link.specs.SlotInfo.{SlotInfo}
+use Rattle.abc_heap_store.specs.declared.store.ClassParts.{ClassParts}
+use Rattle.abc_heap_store.specs.Changes.{with_class, with_made, with_scopes, with_slot, with_more_slots, bare}
+use Rattle.abc_heap_store.specs.Scopes.{nodes, top, scope_id}
+use Rattle.abc_heap_store.proofs.Makes.{change_last, nodes_length}
+use Rattle.abc_link_program.specs.Linked.{LinkedFile, IsLinkedFile, layout_of}
+use Rattle.abc_link_program.specs.Numbering.{part_at}
+use Rattle.abc_link_program.specs.Parts.{parent}
+use Rattle.abc_link_program.specs.Slots.{own_slots, slots_of as slots_of_layout}
+use Rattle.abc_link_program.specs.declared.part.Part.{Part}
+use Rattle.abc_link_program.specs.declared.part.Part.TheVariants as parts
+use Rattle.abc_link_program.specs.declared.types.SlotInfo.{SlotInfo}
 use Rattle.abc_objects.specs.Starts.{start_value, start_values}
 use Rattle.abc_objects.specs.Values.{Exists}
 use Rattle.abc_objects.proofs.Made.{fixed_long, part_found, host_found, over_made_object, older, slots_are, start_there}

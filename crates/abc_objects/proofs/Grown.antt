@@ -2,21 +2,21 @@
 use Rattle.std.proofs.Common.{◌≡◌, ℕ, zero, suc, ◌+◌, ◌≤◌, [], ◌++◌, Option, Some, None, length, refl, sym, ap, ◌∙◌, subst, arith, length-append, append_assoc, append-nil}
 use Rattle.std.specs.Prelude.{slice_get}
 use Rattle.std.proofs.lemmas.Option.{slice_get_within}
-use Rattle.abc_cells.proofs.Parts.{slice_get_left}
-use Rattle.abc_cells.specs.declared.values.Span.{Span}
-use Rattle.abc_cells.specs.declared.values.ObjId.{ObjId}
-use Rattle.abc_cells.specs.declared.values.Value.{Value}
-use Rattle.abc_cells.specs.declared.values.Value.TheVariants as values
-use Rattle.abc_heap.specs.declared.records.ScopeId.{ScopeId}
-use Rattle.abc_heap.specs.declared.records.ScopeNode.{ScopeNode}
-use Rattle.abc_heap.specs.declared.records.What.{What}
-use Rattle.abc_heap.specs.declared.records.What.TheVariants as whats
-use Rattle.abc_heap.specs.Heap.{Heap, Object, object_at}
-use Rattle.abc_heap.specs.Texts.{IsText, part_of}
-use Rattle.abc_link.specs.ProgramLinked.{LinkedFile}
-use Rattle.abc_link.specs.Tree.{IsBelow}
-use Rattle.abc_link.specs.Kind.{Kind}
-use Rattle.abc_link.specs.Kind.TheVariants as kinds
+use Rattle.abc_heap_values.proofs.Parts.{slice_get_left}
+use Rattle.abc_heap_values.specs.declared.values.Span.{Span}
+use Rattle.abc_heap_values.specs.declared.values.ObjId.{ObjId}
+use Rattle.abc_heap_values.specs.declared.values.Value.{Value}
+use Rattle.abc_heap_values.specs.declared.values.Value.TheVariants as values
+use Rattle.abc_heap_store.specs.declared.records.ScopeId.{ScopeId}
+use Rattle.abc_heap_store.specs.declared.records.ScopeNode.{ScopeNode}
+use Rattle.abc_heap_store.specs.declared.records.What.{What}
+use Rattle.abc_heap_store.specs.declared.records.What.TheVariants as whats
+use Rattle.abc_heap_store.specs.Heap.{Heap, Object, object_at}
+use Rattle.abc_heap_store.specs.Texts.{IsText, part_of}
+use Rattle.abc_link_program.specs.Linked.{LinkedFile}
+use Rattle.abc_link_program.specs.Tree.{IsBelow}
+use Rattle.abc_link_program.specs.declared.types.Kind.{Kind}
+use Rattle.abc_link_program.specs.declared.types.Kind.TheVariants as kinds
 use Rattle.abc_objects.specs.Values.{Exists, Holds}
 use Rattle.abc_objects.specs.Growing.{Grows, Keeps}
 use Rattle.abc_objects.specs.Opening.{opening_objects, opening_scopes}

@@ -2,17 +2,17 @@
 use Rattle.std.proofs.Common.{◌≡◌, ℕ, zero, suc, ◌+◌, ◌<◌, ◌≤◌, List, [], ◌∷◌, ◌++◌, Option, Some, None, length, refl, sym, ap, ◌∙◌, subst, arith, length-append, append-nil, ◌⊎◌, inl, inr}
 use Rattle.std.specs.Prelude.{slice_get}
 use Rattle.std.proofs.lemmas.Option.{slice_get_within}
-use Rattle.abc_cells.proofs.Parts.{slice_get_more, slice_get_left}
-use Rattle.abc_heap.specs.declared.records.ScopeId.{ScopeId}
-use Rattle.abc_heap.specs.declared.records.ScopeNode.{ScopeNode}
-use Rattle.abc_heap.specs.declared.records.ScopeEntry.{ScopeEntry}
-use Rattle.abc_heap.specs.declared.records.What.TheVariants as whats
-use Rattle.abc_heap.specs.Heap.{Heap, Object, object_at, slots_of}
-use Rattle.abc_heap.specs.Changes.{change, with_object, with_scopes}
-use Rattle.abc_heap.specs.Scopes.{nodes, top, scope_id}
-use Rattle.abc_heap.proofs.Arrays.{length_change}
-use Rattle.abc_heap.proofs.Makes.{nodes_length}
-use Rattle.abc_link.specs.ProgramLinked.{LinkedFile}
+use Rattle.abc_heap_values.proofs.Parts.{slice_get_more, slice_get_left}
+use Rattle.abc_heap_store.specs.declared.records.ScopeId.{ScopeId}
+use Rattle.abc_heap_store.specs.declared.records.ScopeNode.{ScopeNode}
+use Rattle.abc_heap_store.specs.declared.records.ScopeEntry.{ScopeEntry}
+use Rattle.abc_heap_store.specs.declared.records.What.TheVariants as whats
+use Rattle.abc_heap_store.specs.Heap.{Heap, Object, object_at, slots_of}
+use Rattle.abc_heap_store.specs.Changes.{change, with_object, with_scopes}
+use Rattle.abc_heap_store.specs.Scopes.{nodes, top, scope_id}
+use Rattle.abc_heap_store.proofs.Arrays.{length_change}
+use Rattle.abc_heap_store.proofs.Makes.{nodes_length}
+use Rattle.abc_link_program.specs.Linked.{LinkedFile}
 use Rattle.abc_objects.specs.Growing.{Grows, Keeps}
 use Rattle.abc_objects.specs.Stands.{StandsOver, ObjectStands, ScopeStands, IsScope, IsBeneath, AreEntries, host_class_number}
 use Rattle.abc_objects.proofs.Grown.{keeps_self, keeps_same, object_grown, opening_grown, scope_stands_grown}

@@ -9,3 +9,4 @@ pub mod Parts
 pub mod Opened
 pub mod Started
 pub mod Steps
+pub mod Lined

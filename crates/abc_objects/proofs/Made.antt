@@ -3,33 +3,33 @@ use Rattle.std.proofs.Common.{◌≡◌, ◌≢◌, ℕ, zero, suc, ◌+◌, ◌
 use Rattle.std.specs.Prelude.{slice_get, option_map, get_or, replicate}
 use Rattle.std.proofs.lemmas.Option.{slice_get-map}
 use Rattle.std.proofs.lemmas.List.{length-map, get_or_default}
-use Rattle.abc_cells.specs.declared.values.ObjId.{ObjId}
-use Rattle.abc_cells.specs.declared.values.Value.{Value}
-use Rattle.abc_cells.specs.declared.values.Value.TheVariants as values
-use Rattle.abc_heap.specs.declared.records.ScopeId.{ScopeId}
-use Rattle.abc_heap.specs.declared.records.What.{What}
-use Rattle.abc_heap.specs.declared.records.What.TheVariants as whats
-use Rattle.abc_heap.specs.Heap.{Heap, Object, slots_of as slots_of_object}
-use Rattle.abc_heap.specs.What.{is_array}
-use Rattle.abc_heap.proofs.Bytes.{past_pool}
-use Rattle.abc_heap.specs.Changes.{with_made, with_array, with_scopes, with_more_slots, with_more_elements, bare}
-use Rattle.abc_heap.specs.Scopes.{top}
-use Rattle.abc_heap.specs.declared.records.ScopeEntry.{ScopeEntry}
+use Rattle.abc_heap_values.specs.declared.values.ObjId.{ObjId}
+use Rattle.abc_heap_values.specs.declared.values.Value.{Value}
+use Rattle.abc_heap_values.specs.declared.values.Value.TheVariants as values
+use Rattle.abc_heap_store.specs.declared.records.ScopeId.{ScopeId}
+use Rattle.abc_heap_store.specs.declared.records.What.{What}
+use Rattle.abc_heap_store.specs.declared.records.What.TheVariants as whats
+use Rattle.abc_heap_store.specs.Heap.{Heap, Object, slots_of as slots_of_object}
+use Rattle.abc_heap_store.specs.What.{is_array}
+use Rattle.abc_heap_store.proofs.Bytes.{past_pool}
+use Rattle.abc_heap_store.specs.Changes.{with_made, with_array, with_scopes, with_more_slots, with_more_elements, bare}
+use Rattle.abc_heap_store.specs.Scopes.{top}
+use Rattle.abc_heap_store.specs.declared.records.ScopeEntry.{ScopeEntry}
 use Rattle.abc_base.specs.declared.names.HostClass.{HostClass}
 use Rattle.abc_base.specs.declared.names.HostClass.TheVariants as hosts
-use Rattle.abc_link.specs.ProgramLinked.{LinkedFile, IsLinkedFile, base, layout_of}
-use Rattle.abc_link.specs.Parts.{HasLayout, parent}
-use Rattle.abc_link.specs.Places.{place_under}
-use Rattle.abc_heirs.specs.Heirs.{heritage}
-use Rattle.abc_heirs.proofs.Laid.{heritage_none, heritage_some}
-use Rattle.abc_link.specs.Numbering.{part_at}
-use Rattle.abc_link.specs.Part.{Part}
-use Rattle.abc_link.specs.Part.TheVariants as parts
-use Rattle.abc_link.proofs.Finding.{place_low, falling}
-use Rattle.abc_link.specs.Slots.{slots_of, own_slots}
-use Rattle.abc_link.specs.SlotInfo.{SlotInfo}
-use Rattle.abc_link.specs.Start.{Start}
-use Rattle.abc_link.specs.Start.TheVariants as starts
+use Rattle.abc_link_program.specs.Linked.{LinkedFile, IsLinkedFile, base, layout_of}
+use Rattle.abc_link_program.specs.Parts.{HasLayout, parent}
+use Rattle.abc_link_program.specs.Places.{place_under}
+use Rattle.abc_base_graphs.specs.Heirs.{heritage}
+use Rattle.abc_base_graphs.proofs.Laid.{heritage_none, heritage_some}
+use Rattle.abc_link_program.specs.Numbering.{part_at}
+use Rattle.abc_link_program.specs.declared.part.Part.{Part}
+use Rattle.abc_link_program.specs.declared.part.Part.TheVariants as parts
+use Rattle.abc_link_program.proofs.Finding.{place_low, falling}
+use Rattle.abc_link_program.specs.Slots.{slots_of, own_slots}
+use Rattle.abc_link_program.specs.declared.types.SlotInfo.{SlotInfo}
+use Rattle.abc_link_names.specs.declared.start.Start.{Start}
+use Rattle.abc_link_names.specs.declared.start.Start.TheVariants as starts
 use Rattle.abc_objects.specs.Fixed.{fixed_bytes}
 use Rattle.abc_objects.specs.Starts.{start_value, start_values, StartExists, StartsExist, StartsIn, CanStart}
 use Rattle.abc_objects.specs.Values.{Exists}

@@ -8,25 +8,25 @@ use Rattle.abc_base.specs.Names.{class_name}
 use Rattle.std.proofs.lemmas.List.FromFn.{length-map-range_with_len}
 use Rattle.abc_base.specs.declared.names.HostClass.{HostClass}
 use Rattle.abc_base.specs.declared.names.HostClass.TheVariants as hosts
-use Rattle.abc_cells.specs.declared.values.ObjId.{ObjId}
-use Rattle.abc_cells.specs.declared.values.Span.{Span}
-use Rattle.abc_cells.specs.declared.values.Value.{Value}
-use Rattle.abc_cells.specs.declared.values.Value.TheVariants as values
-use Rattle.abc_heap.specs.Heap.{Heap, Object, obj_id, object_at, slots_of as slots_of_object}
-use Rattle.abc_heap.specs.What.{is_array}
-use Rattle.abc_heap.specs.declared.records.Limits.{Limits}
-use Rattle.abc_heap.specs.declared.records.ScopeId.{ScopeId}
-use Rattle.abc_heap.specs.declared.records.What.{What}
-use Rattle.abc_heap.specs.declared.records.What.TheVariants as whats
-use Rattle.abc_names.specs.Meaning.{host_classes}
-use Rattle.abc_link.specs.ProgramLinked.{LinkedFile, IsLinkedFile, layout_of}
-use Rattle.abc_link.specs.Numbering.{part_at}
-use Rattle.abc_link.specs.Parts.{HasLayout, parent}
-use Rattle.abc_link.specs.Places.{host_number}
-use Rattle.abc_link.specs.Slots.{own_slots, slots_of}
-use Rattle.abc_link.specs.Part.{Part}
-use Rattle.abc_link.specs.Part.TheVariants as parts
-use Rattle.abc_link.specs.SlotInfo.{SlotInfo}
+use Rattle.abc_heap_values.specs.declared.values.ObjId.{ObjId}
+use Rattle.abc_heap_values.specs.declared.values.Span.{Span}
+use Rattle.abc_heap_values.specs.declared.values.Value.{Value}
+use Rattle.abc_heap_values.specs.declared.values.Value.TheVariants as values
+use Rattle.abc_heap_store.specs.Heap.{Heap, Object, obj_id, object_at, slots_of as slots_of_object}
+use Rattle.abc_heap_store.specs.What.{is_array}
+use Rattle.abc_heap_store.specs.declared.records.Limits.{Limits}
+use Rattle.abc_heap_store.specs.declared.records.ScopeId.{ScopeId}
+use Rattle.abc_heap_store.specs.declared.records.What.{What}
+use Rattle.abc_heap_store.specs.declared.records.What.TheVariants as whats
+use Rattle.abc_link_names.specs.Meaning.{host_classes}
+use Rattle.abc_link_program.specs.Linked.{LinkedFile, IsLinkedFile, layout_of}
+use Rattle.abc_link_program.specs.Numbering.{part_at}
+use Rattle.abc_link_program.specs.Parts.{HasLayout, parent}
+use Rattle.abc_link_program.specs.Places.{host_number}
+use Rattle.abc_link_program.specs.Slots.{own_slots, slots_of}
+use Rattle.abc_link_program.specs.declared.part.Part.{Part}
+use Rattle.abc_link_program.specs.declared.part.Part.TheVariants as parts
+use Rattle.abc_link_program.specs.declared.types.SlotInfo.{SlotInfo}
 use Rattle.abc_objects.specs.Fixed.{fixed_bytes}
 use Rattle.abc_objects.specs.Opening.{above_host, class_object, entry_of, function_object, function_objects, global_number, global_object, host_object, host_object_number, host_properties, opened, opening, opening_objects, property_names, prototype_id, prototype_object, spans_from}
 use Rattle.abc_objects.specs.Starts.{start_value, StartsExist}

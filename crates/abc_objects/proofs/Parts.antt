@@ -6,9 +6,9 @@ use Rattle.std.proofs.lemmas.Option.{slice_get_within}
 use Rattle.std.proofs.Common.{length-append, inl, inr}
 use Rattle.abc_base.specs.declared.names.HostClass.{HostClass}
 use Rattle.abc_base.specs.declared.names.HostClass.TheVariants as hosts
-use Rattle.abc_cells.proofs.Parts.{slice_get_left}
-use Rattle.abc_names.specs.Meaning.{host_classes}
-use Rattle.abc_link.specs.Places.{host_number}
+use Rattle.abc_heap_values.proofs.Parts.{slice_get_left}
+use Rattle.abc_link_names.specs.Meaning.{host_classes}
+use Rattle.abc_link_program.specs.Places.{host_number}
 use Rattle.abc_objects.proofs.Kept.{in_either}
 
 pub left_at : {X : Type 0} (xs ys : List X) (i : ℕ) (x : X) → slice_get xs i ≡ Some x → slice_get (xs ++ ys) i ≡ Some x

@@ -2,16 +2,16 @@
 use Rattle.std.proofs.Common.{◌≡◌, ℕ, zero, suc, ◌+◌, List, [], ◌∷◌, ◌++◌, Option, Some, None, set, true, refl, sym, ap, ◌∙◌, subst, inl, inr}
 use Rattle.std.specs.Prelude.{slice_get}
 use Rattle.std.proofs.lemmas.List.{length-set}
-use Rattle.abc_cells.specs.declared.values.Span.{Span}
-use Rattle.abc_cells.specs.declared.values.Value.{Value}
-use Rattle.abc_cells.proofs.Parts.{slice_get_more}
-use Rattle.abc_heap.specs.Heap.{Heap, Object, object_at}
-use Rattle.abc_heap.specs.Texts.{IsText}
-use Rattle.abc_heap.specs.What.{is_array}
-use Rattle.abc_heap.specs.Properties.{with_put, with_delete, put_at, delete_at, place_named, valued, filled}
-use Rattle.abc_heap.specs.Changes.{with_slot, with_element, with_new_element}
-use Rattle.abc_heap.proofs.Growth.{set_read}
-use Rattle.abc_link.specs.ProgramLinked.{LinkedFile}
+use Rattle.abc_heap_values.specs.declared.values.Span.{Span}
+use Rattle.abc_heap_values.specs.declared.values.Value.{Value}
+use Rattle.abc_heap_values.proofs.Parts.{slice_get_more}
+use Rattle.abc_heap_store.specs.Heap.{Heap, Object, object_at}
+use Rattle.abc_heap_store.specs.Texts.{IsText}
+use Rattle.abc_heap_store.specs.What.{is_array}
+use Rattle.abc_heap_store.specs.Properties.{with_put, with_delete, put_at, delete_at, place_named, valued, filled}
+use Rattle.abc_heap_store.specs.Changes.{with_slot, with_element, with_new_element}
+use Rattle.abc_heap_store.proofs.Growth.{set_read}
+use Rattle.abc_link_program.specs.Linked.{LinkedFile}
 use Rattle.abc_objects.specs.Values.{Exists}
 use Rattle.abc_objects.specs.Stands.{StandsOver, IsProperty, Each}
 use Rattle.abc_objects.proofs.Kept.{Reshapes}

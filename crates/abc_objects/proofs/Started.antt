@@ -10,51 +10,51 @@ use Rattle.std.proofs.lemmas.List.Elements.{All-head, All-tail}
 use Rattle.abc_base.specs.Ranges.{IsNumber}
 use Rattle.abc_base.specs.declared.names.HostClass.{HostClass}
 use Rattle.abc_base.specs.declared.names.HostClass.TheVariants as hosts
-use Rattle.abc_fits.specs.Fitting.{FitTraits, FitUints, FitsInt, FitsNamespace, FitsSlotValue, FitsText, FitsTrait, FitsTraitFields, Spelled}
-use Rattle.abc_fits.proofs.BodiesFit.{bodies_fit, body_fits}
-use Rattle.abc_fits.proofs.ClassesFit.{class_fits, instance_fits, script_fits}
-use Rattle.abc_fits.proofs.Combined.{number_fits, pool_index_fits, pool_spelled, text_fits}
-use Rattle.abc_fits.proofs.DefinitionsFit.{definitions_fit}
-use Rattle.abc_fits.proofs.FileFits.{file_fits, tables_fit}
-use Rattle.abc_fits.proofs.MethodsFit.{option_fits, value_fits}
-use Rattle.abc_fits.proofs.PoolsFit.{ints_fit, namespace_fits, namespaces_fit, pools_fit, texts_fit}
-use Rattle.abc_fits.proofs.TraitsFit.{fields_fit, trait_fits, traits_fit}
-use Rattle.abc_format.specs.Numbers.{s32, u32}
-use Rattle.abc_heirs.specs.Heirs.{heritage}
-use Rattle.abc_heirs.proofs.Laid.{heritage_none, heritage_some}
-use Rattle.abc_names.specs.Instances.{instance_at, no_instance}
-use Rattle.abc_names.specs.Meaning.{type_named}
-use Rattle.abc_names.specs.Pool.{no_space, space}
-use Rattle.abc_names.specs.declared.named.Named.{Named}
-use Rattle.abc_names.specs.declared.named.Named.TheVariants as named
-use Rattle.abc_link.proofs.Finding.{falling}
-use Rattle.abc_link.specs.ProgramLinked.{IsLinkedFile, LinkedFile, base, layout_of}
-use Rattle.abc_link.specs.Numbering.{part_at}
-use Rattle.abc_link.specs.Parts.{HasLayout}
-use Rattle.abc_link.specs.Slots.{HasFewSlots, handler_at, own_slots, slots_in, slots_of}
-use Rattle.abc_link.specs.Types.{type_in}
-use Rattle.abc_link.specs.Part.{Part}
-use Rattle.abc_link.specs.Part.TheVariants as parts
-use Rattle.abc_link.specs.SlotInfo.{SlotInfo}
-use Rattle.abc_link.specs.Ty.TheVariants as types
-use Rattle.abc_link.specs.ItemsParts.{body_at, class_at, no_body, no_class, no_script, script_at}
-use Rattle.abc_link.specs.Starts.{coerced, default_of, host_default, int_at, number_of, raw_of, space_value, start_of, to_any, to_boolean, to_class, to_host, to_int, to_namespace, to_number, to_object, to_text, to_uint, to_void, uint_at}
-use Rattle.abc_link.specs.Traits.{type_or_any}
-use Rattle.abc_link.specs.StartsRawType.{Raw}
-use Rattle.abc_link.specs.StartsRawType.TheVariants as raws
-use Rattle.abc_link.specs.Start.{Start}
-use Rattle.abc_link.specs.Start.TheVariants as starts
-use Rattle.abc_tables.specs.Classes.{sizes_of}
-use Rattle.abc_tables.specs.Files.{Fits}
-use Rattle.abc_tables.specs.Methods.{has_value}
-use Rattle.abc_tables.specs.declared.methods.OptionValue.{OptionValue}
-use Rattle.abc_tables.specs.declared.methods.ValueKind.{ValueKind}
-use Rattle.abc_tables.specs.declared.methods.ValueKind.TheVariants as kinds
-use Rattle.abc_tables.specs.declared.names.Namespace.{Namespace}
-use Rattle.abc_tables.specs.declared.tables.Abc.{Abc}
-use Rattle.abc_tables.specs.declared.traits.TraitBody.{TraitBody}
-use Rattle.abc_tables.specs.declared.traits.TraitBody.TheVariants as traits
-use Rattle.abc_tables.specs.declared.traits.TraitInfo.{TraitInfo}
+use Rattle.abc_tables.specs.Fitting.{FitTraits, FitUints, FitsInt, FitsNamespace, FitsSlotValue, FitsText, FitsTrait, FitsTraitFields, Spelled}
+use Rattle.abc_tables.proofs.BodiesFit.{bodies_fit, body_fits}
+use Rattle.abc_tables.proofs.ClassesFit.{class_fits, instance_fits, script_fits}
+use Rattle.abc_tables.proofs.Combined.{number_fits, pool_index_fits, pool_spelled, text_fits}
+use Rattle.abc_tables.proofs.DefinitionsFit.{definitions_fit}
+use Rattle.abc_tables.proofs.FileFits.{file_fits, tables_fit}
+use Rattle.abc_tables.proofs.MethodsFit.{option_fits, value_fits}
+use Rattle.abc_tables.proofs.PoolsFit.{ints_fit, namespace_fits, namespaces_fit, pools_fit, texts_fit}
+use Rattle.abc_tables.proofs.TraitsFit.{fields_fit, trait_fits, traits_fit}
+use Rattle.abc_file_types.specs.Numbers.{s32, u32}
+use Rattle.abc_base_graphs.specs.Heirs.{heritage}
+use Rattle.abc_base_graphs.proofs.Laid.{heritage_none, heritage_some}
+use Rattle.abc_link_names.specs.Instances.{instance_at, no_instance}
+use Rattle.abc_link_names.specs.Meaning.{type_named}
+use Rattle.abc_link_names.specs.Pool.{no_space, space}
+use Rattle.abc_link_names.specs.declared.named.Named.{Named}
+use Rattle.abc_link_names.specs.declared.named.Named.TheVariants as named
+use Rattle.abc_link_program.proofs.Finding.{falling}
+use Rattle.abc_link_program.specs.Linked.{IsLinkedFile, LinkedFile, base, layout_of}
+use Rattle.abc_link_program.specs.Numbering.{part_at}
+use Rattle.abc_link_program.specs.Parts.{HasLayout}
+use Rattle.abc_link_program.specs.Slots.{HasFewSlots, handler_at, own_slots, slots_in, slots_of}
+use Rattle.abc_link_program.specs.Types.{type_in}
+use Rattle.abc_link_program.specs.declared.part.Part.{Part}
+use Rattle.abc_link_program.specs.declared.part.Part.TheVariants as parts
+use Rattle.abc_link_program.specs.declared.types.SlotInfo.{SlotInfo}
+use Rattle.abc_link_program.specs.declared.types.Ty.TheVariants as types
+use Rattle.abc_link_names.specs.Parts.{body_at, class_at, no_body, no_class, no_script, script_at}
+use Rattle.abc_link_names.specs.Starts.{coerced, default_of, host_default, int_at, number_of, raw_of, space_value, start_of, to_any, to_boolean, to_class, to_host, to_int, to_namespace, to_number, to_object, to_text, to_uint, to_void, uint_at}
+use Rattle.abc_link_names.specs.Traits.{type_or_any}
+use Rattle.abc_link_names.specs.declared.start.Raw.{Raw}
+use Rattle.abc_link_names.specs.declared.start.Raw.TheVariants as raws
+use Rattle.abc_link_names.specs.declared.start.Start.{Start}
+use Rattle.abc_link_names.specs.declared.start.Start.TheVariants as starts
+use Rattle.abc_file_types.specs.Classes.{sizes_of}
+use Rattle.abc_file_types.specs.Files.{Fits}
+use Rattle.abc_file_types.specs.Methods.{has_value}
+use Rattle.abc_file_types.specs.declared.methods.OptionValue.{OptionValue}
+use Rattle.abc_file_types.specs.declared.methods.ValueKind.{ValueKind}
+use Rattle.abc_file_types.specs.declared.methods.ValueKind.TheVariants as kinds
+use Rattle.abc_file_types.specs.declared.names.Namespace.{Namespace}
+use Rattle.abc_file_types.specs.declared.tables.Abc.{Abc}
+use Rattle.abc_file_types.specs.declared.traits.TraitBody.{TraitBody}
+use Rattle.abc_file_types.specs.declared.traits.TraitBody.TheVariants as traits
+use Rattle.abc_file_types.specs.declared.traits.TraitInfo.{TraitInfo}
 use Rattle.abc_objects.specs.Stands.{Each}
 use Rattle.abc_objects.specs.Starts.{IsShort, StartExists, StartsExist}
 use Rattle.abc_objects.specs.Values.{IsSpace}

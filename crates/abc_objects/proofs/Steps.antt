@@ -11,28 +11,28 @@ use Rattle.abc_base.specs.Names.{class_name}
 use Rattle.abc_base.specs.declared.formula.Formula.{Formula}
 use Rattle.abc_base.specs.declared.names.HostClass.{HostClass}
 use Rattle.abc_base.specs.declared.names.HostClass.TheVariants as hosts
-use Rattle.abc_cells.proofs.Parts.{slice_get_seam}
-use Rattle.abc_cells.specs.declared.values.ObjId.{ObjId}
-use Rattle.abc_cells.specs.declared.values.Span.{Span}
-use Rattle.abc_cells.specs.declared.values.Value.{Value}
-use Rattle.abc_cells.specs.declared.values.Value.TheVariants as values
-use Rattle.abc_heap.proofs.Arrays.{length_change}
-use Rattle.abc_heap.proofs.Bytes.{take_next_or}
-use Rattle.abc_heap.proofs.Makes.{change_last}
-use Rattle.abc_heap.specs.Changes.{change, with_made, with_object, with_scopes, with_slot}
-use Rattle.abc_heap.specs.Heap.{Heap, Object, HasRoomFor, all_cells, cells_of, ledger, obj_id, slots_of as slots_of_object}
-use Rattle.abc_heap.specs.declared.records.Limits.{Limits}
-use Rattle.abc_heap.specs.declared.records.ScopeNode.{ScopeNode}
-use Rattle.abc_heap.specs.declared.records.What.{What}
-use Rattle.abc_heap.specs.declared.records.What.TheVariants as whats
-use Rattle.abc_names.specs.Meaning.{host_classes}
-use Rattle.abc_link.specs.ProgramLinked.{LinkedFile, IsLinkedFile, layout_of}
-use Rattle.abc_link.specs.Places.{host_number}
-use Rattle.abc_link.specs.Slots.{slots_of}
-use Rattle.abc_link.specs.LayoutId.{LayoutId}
-use Rattle.abc_link.specs.Part.{Part}
-use Rattle.abc_link.specs.Part.TheVariants as parts
-use Rattle.abc_link.specs.SlotInfo.{SlotInfo}
+use Rattle.abc_heap_values.proofs.Parts.{slice_get_seam}
+use Rattle.abc_heap_values.specs.declared.values.ObjId.{ObjId}
+use Rattle.abc_heap_values.specs.declared.values.Span.{Span}
+use Rattle.abc_heap_values.specs.declared.values.Value.{Value}
+use Rattle.abc_heap_values.specs.declared.values.Value.TheVariants as values
+use Rattle.abc_heap_store.proofs.Arrays.{length_change}
+use Rattle.abc_heap_store.proofs.Bytes.{take_next_or}
+use Rattle.abc_heap_store.proofs.Makes.{change_last}
+use Rattle.abc_heap_store.specs.Changes.{change, with_made, with_object, with_scopes, with_slot}
+use Rattle.abc_heap_store.specs.Heap.{Heap, Object, HasRoomFor, all_cells, cells_of, ledger, obj_id, slots_of as slots_of_object}
+use Rattle.abc_heap_store.specs.declared.records.Limits.{Limits}
+use Rattle.abc_heap_store.specs.declared.records.ScopeNode.{ScopeNode}
+use Rattle.abc_heap_store.specs.declared.records.What.{What}
+use Rattle.abc_heap_store.specs.declared.records.What.TheVariants as whats
+use Rattle.abc_link_names.specs.Meaning.{host_classes}
+use Rattle.abc_link_program.specs.Linked.{LinkedFile, IsLinkedFile, layout_of}
+use Rattle.abc_link_program.specs.Places.{host_number}
+use Rattle.abc_link_program.specs.Slots.{slots_of}
+use Rattle.abc_link_program.specs.declared.part.LayoutId.{LayoutId}
+use Rattle.abc_link_program.specs.declared.part.Part.{Part}
+use Rattle.abc_link_program.specs.declared.part.Part.TheVariants as parts
+use Rattle.abc_link_program.specs.declared.types.SlotInfo.{SlotInfo}
 use Rattle.abc_objects.specs.Fixed.{fixed_bytes, in_fixed}
 use Rattle.abc_objects.specs.Opening.{IsWithin, above_host, class_object, entry_of, formula_names, formula_objects, function_object, function_objects, global_number, global_object, global_slots, host_object, host_properties, opened, opening, opening_counts, opening_objects, opening_scopes, part_zero, property_names, prototype_id, prototype_object, slot_count, slot_counts, spans_from, with_globals, with_more_properties, with_objects}
 use Rattle.abc_objects.specs.Starts.{start_value, start_values, StartsExist}

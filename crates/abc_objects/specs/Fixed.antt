@@ -1,6 +1,6 @@
 -- The fixed texts, one after the other at the head of part 0.
 use Rattle.std.specs.Prelude.{ℕ, List, codes}
-use Rattle.abc_cells.specs.declared.values.Span.{Span}
+use Rattle.abc_heap_values.specs.declared.values.Span.{Span}
 use Rattle.abc_objects.specs.declared.fixed.FixedText.{FixedText}
 use Rattle.abc_objects.specs.declared.fixed.FixedText.TheVariants as fixed
 

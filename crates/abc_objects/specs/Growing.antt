@@ -1,7 +1,7 @@
 -- A heap that grows: objects keep what they are made as, texts and scopes stay where they are, and nothing goes.
 use Rattle.std.specs.Prelude.{◌≡◌, ℕ, ◌<◌, ◌≤◌, List, ◌++◌, length}
-use Rattle.abc_heap.specs.Heap.{Heap, Object, object_at}
-use Rattle.abc_heap.specs.declared.records.ScopeNode.{ScopeNode}
+use Rattle.abc_heap_store.specs.Heap.{Heap, Object, object_at}
+use Rattle.abc_heap_store.specs.declared.records.ScopeNode.{ScopeNode}
 
 -- an object keeps its layout, its delegate and what it is
 pub record Keeps (old new : Object) : Type 0 where

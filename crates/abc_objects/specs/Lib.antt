@@ -4,3 +4,4 @@ pub mod Starts
 pub mod Growing
 pub mod Opening
 pub mod Stands
+pub mod Lines

@@ -5,28 +5,28 @@ use Rattle.abc_base.specs.Names.{class_name}
 use Rattle.abc_base.specs.declared.formula.Formula.{Formula}
 use Rattle.abc_base.specs.declared.names.HostClass.{HostClass}
 use Rattle.abc_base.specs.declared.names.HostClass.TheVariants as hosts
-use Rattle.abc_cells.specs.declared.values.ObjId.{ObjId}
-use Rattle.abc_cells.specs.declared.values.Span.{Span}
-use Rattle.abc_cells.specs.declared.values.Value.{Value}
-use Rattle.abc_cells.specs.declared.values.Value.TheVariants as values
-use Rattle.abc_heap.specs.Changes.{bare, with_more_slots, with_slot}
-use Rattle.abc_heap.specs.Heap.{Heap, Object, obj_id}
-use Rattle.abc_heap.specs.declared.records.Limit.{Limit}
-use Rattle.abc_heap.specs.declared.records.Limit.TheVariants.{Objects, Cells, Text, Frames, Stack}
-use Rattle.abc_heap.specs.declared.records.Limits.{Limits}
-use Rattle.abc_heap.specs.declared.records.ScopeNode.{ScopeNode}
-use Rattle.abc_heap.specs.declared.records.What.{What}
-use Rattle.abc_heap.specs.declared.records.What.TheVariants as whats
-use Rattle.abc_names.specs.Meaning.{host_classes}
+use Rattle.abc_heap_values.specs.declared.values.ObjId.{ObjId}
+use Rattle.abc_heap_values.specs.declared.values.Span.{Span}
+use Rattle.abc_heap_values.specs.declared.values.Value.{Value}
+use Rattle.abc_heap_values.specs.declared.values.Value.TheVariants as values
+use Rattle.abc_heap_store.specs.Changes.{bare, with_more_slots, with_slot}
+use Rattle.abc_heap_store.specs.Heap.{Heap, Object, obj_id}
+use Rattle.abc_heap_store.specs.declared.records.Limit.{Limit}
+use Rattle.abc_heap_store.specs.declared.records.Limit.TheVariants.{Objects, Cells, Text, Frames, Stack}
+use Rattle.abc_heap_store.specs.declared.records.Limits.{Limits}
+use Rattle.abc_heap_store.specs.declared.records.ScopeNode.{ScopeNode}
+use Rattle.abc_heap_store.specs.declared.records.What.{What}
+use Rattle.abc_heap_store.specs.declared.records.What.TheVariants as whats
+use Rattle.abc_link_names.specs.Meaning.{host_classes}
 use Rattle.abc_objects.specs.Fixed.{fixed_bytes, in_fixed}
 use Rattle.abc_objects.specs.Starts.{start_values}
 use Rattle.abc_objects.specs.declared.error.OpenError.{OpenError}
 use Rattle.abc_objects.specs.declared.error.OpenError.TheVariants as errors
-use Rattle.abc_link.specs.ProgramLinked.{LinkedFile, layout_of}
-use Rattle.abc_link.specs.Places.{host_number}
-use Rattle.abc_link.specs.Slots.{slots_of}
-use Rattle.abc_link.specs.Part.{Part}
-use Rattle.abc_link.specs.Part.TheVariants as parts
+use Rattle.abc_link_program.specs.Linked.{LinkedFile, layout_of}
+use Rattle.abc_link_program.specs.Places.{host_number}
+use Rattle.abc_link_program.specs.Slots.{slots_of}
+use Rattle.abc_link_program.specs.declared.part.Part.{Part}
+use Rattle.abc_link_program.specs.declared.part.Part.TheVariants as parts
 
 abbrev pub formula_names : List Formula → List (List ℕ)
 formula_names formulas = map (λ f. f.name) formulas

@@ -2,23 +2,23 @@
 use Rattle.std.specs.Prelude.{◌≡◌, ◌≢◌, ℕ, ◌+◌, ◌<◌, ◌≤◌, List, [], ◌++◌, length, true, false, Option, Some, None, slice_get}
 use Rattle.abc_base.specs.declared.names.HostClass.{HostClass}
 use Rattle.abc_base.specs.declared.names.HostClass.TheVariants as hosts
-use Rattle.abc_cells.specs.declared.values.Span.{Span}
-use Rattle.abc_cells.specs.declared.values.ObjId.{ObjId}
-use Rattle.abc_cells.specs.declared.values.Value.{Value}
-use Rattle.abc_heap.specs.declared.records.ScopeId.{ScopeId}
-use Rattle.abc_heap.specs.declared.records.ScopeEntry.{ScopeEntry}
-use Rattle.abc_heap.specs.declared.records.ScopeNode.{ScopeNode}
-use Rattle.abc_heap.specs.declared.store.ClassParts.{ClassParts}
-use Rattle.abc_heap.specs.declared.records.What.{What}
-use Rattle.abc_heap.specs.declared.records.What.TheVariants as whats
-use Rattle.abc_heap.specs.Heap.{Heap, Object, obj_id, object_at, slots_of as slots_of_object}
-use Rattle.abc_cells.specs.declared.values.Value.TheVariants as values
-use Rattle.abc_heap.specs.Texts.{IsText}
-use Rattle.abc_heap.specs.What.{is_array}
-use Rattle.abc_link.specs.ProgramLinked.{LinkedFile, IsLinkedFile, layout_of}
-use Rattle.abc_link.specs.Places.{host_number}
-use Rattle.abc_link.specs.Slots.{slots_of}
-use Rattle.abc_link.specs.Part.TheVariants as parts
+use Rattle.abc_heap_values.specs.declared.values.Span.{Span}
+use Rattle.abc_heap_values.specs.declared.values.ObjId.{ObjId}
+use Rattle.abc_heap_values.specs.declared.values.Value.{Value}
+use Rattle.abc_heap_store.specs.declared.records.ScopeId.{ScopeId}
+use Rattle.abc_heap_store.specs.declared.records.ScopeEntry.{ScopeEntry}
+use Rattle.abc_heap_store.specs.declared.records.ScopeNode.{ScopeNode}
+use Rattle.abc_heap_store.specs.declared.store.ClassParts.{ClassParts}
+use Rattle.abc_heap_store.specs.declared.records.What.{What}
+use Rattle.abc_heap_store.specs.declared.records.What.TheVariants as whats
+use Rattle.abc_heap_store.specs.Heap.{Heap, Object, obj_id, object_at, slots_of as slots_of_object}
+use Rattle.abc_heap_values.specs.declared.values.Value.TheVariants as values
+use Rattle.abc_heap_store.specs.Texts.{IsText}
+use Rattle.abc_heap_store.specs.What.{is_array}
+use Rattle.abc_link_program.specs.Linked.{LinkedFile, IsLinkedFile, layout_of}
+use Rattle.abc_link_program.specs.Places.{host_number}
+use Rattle.abc_link_program.specs.Slots.{slots_of}
+use Rattle.abc_link_program.specs.declared.part.Part.TheVariants as parts
 use Rattle.abc_objects.specs.Fixed.{fixed_bytes}
 use Rattle.abc_objects.specs.Growing.{Keeps}
 use Rattle.abc_objects.specs.Opening.{opening_objects, opening_scopes}

@@ -1,18 +1,18 @@
 -- The values with which the slots of a layout start.
 use Rattle.std.specs.Prelude.{◌≡◌, ℕ, zero, suc, ◌+◌, ◌<◌, ◌^◌, true, false, List, map, length, Some, slice_get}
 use Rattle.abc_base.specs.Ranges.{IsNumber}
-use Rattle.abc_cells.specs.declared.values.Span.{Span}
-use Rattle.abc_cells.specs.declared.values.Value.{Value}
-use Rattle.abc_cells.specs.declared.values.Value.TheVariants as values
-use Rattle.abc_heap.specs.Texts.{pool_text}
+use Rattle.abc_heap_values.specs.declared.values.Span.{Span}
+use Rattle.abc_heap_values.specs.declared.values.Value.{Value}
+use Rattle.abc_heap_values.specs.declared.values.Value.TheVariants as values
+use Rattle.abc_heap_store.specs.Texts.{pool_text}
 use Rattle.abc_objects.specs.Fixed.{fixed_span}
 use Rattle.abc_objects.specs.declared.fixed.FixedText.TheVariants as fixed
 use Rattle.abc_objects.specs.Values.{IsSpace}
-use Rattle.abc_link.specs.ProgramLinked.{LinkedFile}
-use Rattle.abc_link.specs.Slots.{slots_of}
-use Rattle.abc_link.specs.SlotInfo.{SlotInfo}
-use Rattle.abc_link.specs.Start.{Start}
-use Rattle.abc_link.specs.Start.TheVariants as starts
+use Rattle.abc_link_program.specs.Linked.{LinkedFile}
+use Rattle.abc_link_program.specs.Slots.{slots_of}
+use Rattle.abc_link_program.specs.declared.types.SlotInfo.{SlotInfo}
+use Rattle.abc_link_names.specs.declared.start.Start.{Start}
+use Rattle.abc_link_names.specs.declared.start.Start.TheVariants as starts
 
 -- a string of the pool; that of index 0 is the fixed empty text
 abbrev pub string_span : List (List ℕ) → ℕ → Span

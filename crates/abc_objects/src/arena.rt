@@ -1,15 +1,15 @@
 ghost use Rattle.std.specs.Prelude.{◌≡◌, ◌≢◌, ◌<◌, ◌≤◌, ◌+◌, ◌-◌, ◌^◌, ◌++◌, length, true, false, Some, None, slice_get, get_or, replicate, is_some, MatchResult, IfOk};
-ghost use Rattle.abc_cells.specs.declared.values.Value.TheVariants.{Undefined};
+ghost use Rattle.abc_heap_values.specs.declared.values.Value.TheVariants.{Undefined};
 ghost use Rattle.std.specs.Fmt.{signed_decimal};
 ghost use Rattle.abc_base.specs.Ranges.{IsNumber};
-ghost use Rattle.abc_heap.specs.What.{is_array};
-ghost use Rattle.abc_heap.specs.Heap.{object_at, slots_of, properties_of, elements_of, cells_used, ledger, IsFull, IsFullOf, Fits, PassesFrames};
-ghost use Rattle.abc_heap.specs.Texts.{IsText, text_of, IsTextMade};
-ghost use Rattle.abc_heap.specs.Properties.{place_in, property_in_heap, with_put, with_delete, cells_to_put, the_name, at_position, place_after, walked_value, walked_next};
-ghost use Rattle.abc_heap.specs.Changes.{with_object, with_slot, with_element, with_new_element, IsMade, IsFunctionMade, IsClassMade, IsArrayMade};
-ghost use Rattle.abc_heap.specs.declared.records.Limit.TheVariants.{Cells, Text};
+ghost use Rattle.abc_heap_store.specs.What.{is_array};
+ghost use Rattle.abc_heap_store.specs.Heap.{object_at, slots_of, properties_of, elements_of, cells_used, ledger, IsFull, IsFullOf, Fits, PassesFrames};
+ghost use Rattle.abc_heap_store.specs.Texts.{IsText, text_of, IsTextMade};
+ghost use Rattle.abc_heap_store.specs.Properties.{place_in, property_in_heap, with_put, with_delete, cells_to_put, the_name, at_position, place_after, walked_value, walked_next};
+ghost use Rattle.abc_heap_store.specs.Changes.{with_object, with_slot, with_element, with_new_element, IsMade, IsFunctionMade, IsClassMade, IsArrayMade};
+ghost use Rattle.abc_heap_store.specs.declared.records.Limit.TheVariants.{Cells, Text};
 ghost use Rattle.abc_base.specs.declared.names.HostClass.TheVariants.{Function, Object};
-ghost use Rattle.abc_link.specs.ProgramLinked.{LinkedFile, IsLayout};
+ghost use Rattle.abc_link_program.specs.Linked.{LinkedFile, IsLayout};
 ghost use Rattle.abc_objects.specs.Fixed.{fixed_span, fixed_name};
 ghost use Rattle.abc_objects.specs.Opening.{IsOpened, IsUnopened, class_object as class_object_of, entry_of, formula_names, global_number, global_object, host_object as host_object_of, host_object_number, opening_counts, property_names};
 ghost use Rattle.abc_objects.specs.Stands.{StandsOver, IsMadeAs, IsObjectOrNone, IsScope, NamesParts, IsMadeAlone, AreEntries, Each, array_layout, array_prototype, class_object_layout, class_parts, host_class_number, host_layout, prototype_of};
@@ -22,9 +22,10 @@ use crate::hosts::class_number;
 use crate::opening::open_store;
 use crate::starts::starts_of;
 use abc_base::{Host, HostClass};
-use abc_cells::{ObjId, Span, Value};
-use abc_heap::{ClassParts, Full, Limits, ScopeEntry, ScopeId, ScopeNode, Store, What};
-use abc_link::{LayoutId, Linked, Part};
+use abc_heap_store::{ClassParts, Full, Limits, ScopeEntry, ScopeId, ScopeNode, Store, What};
+use abc_heap_values::{ObjId, Span, Value};
+use abc_link::Linked;
+use abc_link_program::{LayoutId, Part};
 use std::alloc::Global;
 use std::marker::Model;
 
@@ -35,7 +36,7 @@ pub struct Arena {
 }
 
 impl Model for Arena {
-    ghost use Rattle.abc_heap.specs.Heap.{Heap};
+    ghost use Rattle.abc_heap_store.specs.Heap.{Heap};
 
     ghost Value = { Heap };
 

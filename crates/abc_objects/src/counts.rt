@@ -3,8 +3,9 @@ ghost use Rattle.abc_objects.specs.Opening.{IsUnopened, IsWithin, global_slots a
 ghost use Rattle.abc_objects.specs.Starts.{StartsExist};
 
 use crate::error::OpenError;
-use abc_heap::{Limit, Limits};
-use abc_link::{Linked, Part};
+use abc_heap_store::{Limit, Limits};
+use abc_link::Linked;
+use abc_link_program::Part;
 
 /// How many slots the global object of a script has.
 fn slots_of_global(l: &Linked, script: u32) -> u32

@@ -2,7 +2,7 @@ ghost use Rattle.std.specs.Prelude.{◌≡◌};
 ghost use Rattle.abc_objects.specs.declared.error.OpenError.TheVariants as errors;
 
 use abc_base::NoMemory;
-use abc_heap::Limit;
+use abc_heap_store::Limit;
 use thiserror::Error;
 
 /// Why no arena is opened.

@@ -1,7 +1,7 @@
 ghost use Rattle.std.specs.Prelude.{◌≡◌};
 ghost use Rattle.abc_objects.specs.Fixed.{fixed_span};
 
-use abc_cells::Span;
+use abc_heap_values::Span;
 
 /// A text that is always there.
 #[derive(Clone, Copy, Debug, PartialEq, Eq)]

@@ -1,14 +1,16 @@
 ghost use Rattle.std.specs.Prelude.{◌≡◌, length, map};
-ghost use Rattle.abc_heap.specs.Texts.{pool_text};
-ghost use Rattle.abc_link.specs.ProgramLinked.{IsLayout};
-ghost use Rattle.abc_link.specs.Slots.{slots_of};
+ghost use Rattle.abc_heap_store.specs.Texts.{pool_text};
+ghost use Rattle.abc_link_program.specs.Linked.{IsLayout};
+ghost use Rattle.abc_link_program.specs.Slots.{slots_of};
 ghost use Rattle.abc_objects.specs.Starts.{CanStart, IsShort, IsShortStart, StartsExist, start_value, string_span};
 
 use crate::fixed::FixedText;
 use abc_base::{Bytes, Table};
-use abc_cells::{Span, Value};
-use abc_heap::Starts;
-use abc_link::{LayoutId, Linked, SlotInfo, Start};
+use abc_heap_store::Starts;
+use abc_heap_values::{Span, Value};
+use abc_link::Linked;
+use abc_link_names::Start;
+use abc_link_program::{LayoutId, SlotInfo};
 
 /// The values with which the slots of a layout start.
 #[derive(Clone, Copy)]

@@ -9,19 +9,19 @@ use Rattle.std.specs.declared.result.Result.{Result}
 use Rattle.std.specs.declared.result.Result.TheVariants.{Ok, Err}
 use Rattle.abc_base.specs.declared.names.Fault.{Fault}
 use Rattle.abc_base.specs.declared.names.Fault.TheVariants.{NotANumber}
-use Rattle.abc_arithmetic.specs.Modular.{signed, unsigned}
-use Rattle.abc_arithmetic.specs.Plain.{remainder}
-use Rattle.abc_cells.specs.declared.values.Value.{Value}
-use Rattle.abc_cells.specs.declared.values.Value.TheVariants as values
-use Rattle.abc_conversions.specs.Equality.{same_values}
-use Rattle.abc_conversions.specs.Numbers.{and_then, whole_of}
-use Rattle.abc_conversions.specs.Order.{ordered}
-use Rattle.abc_conversions.specs.declared.order.Order.TheVariants as orders
-use Rattle.abc_heap.specs.Heap.{Heap}
-use Rattle.abc_heap.specs.Texts.{text_of}
-use Rattle.abc_names.specs.Pool.{same_space}
+use Rattle.abc_heap_values.specs.Modular.{signed, unsigned}
+use Rattle.abc_heap_values.specs.Plain.{remainder}
+use Rattle.abc_heap_values.specs.declared.values.Value.{Value}
+use Rattle.abc_heap_values.specs.declared.values.Value.TheVariants as values
+use Rattle.abc_heap_values.specs.Equality.{same_values}
+use Rattle.abc_heap_values.specs.Numbers.{and_then, whole_of}
+use Rattle.abc_heap_values.specs.Order.{ordered}
+use Rattle.abc_heap_values.specs.declared.order.Order.TheVariants as orders
+use Rattle.abc_heap_store.specs.Heap.{Heap}
+use Rattle.abc_heap_store.specs.Texts.{text_of}
+use Rattle.abc_link_names.specs.Pool.{same_space}
 use Rattle.abc_ops.proofs.Spaces.{same_space_equivalence}
-use Rattle.abc_kinds.specs.ProgramLinked.{LinkedFile}
+use Rattle.abc_link_program.specs.Linked.{LinkedFile}
 use Rattle.abc_ops.specs.Compares.{or_fault}
 use Rattle.abc_ops.specs.Laws.{ConvertsModulo, IntegersAreModulo, IsRemainder, ModuloHasTheSign, OrdersAreOpposed, ShiftsUseFiveBits, StrictEqualsIsEquivalence, UndefinedIsUnordered}
 use Rattle.abc_ops.specs.Left.{Left, gives, number_or_fault, unchanged}

@@ -3,11 +3,11 @@ use Rattle.std.proofs.Common.{◌≡◌, ℕ, ◌+◌, ◌<◌, ◌≤◌, List,
 use Rattle.std.proofs.lemmas.Bool.Decides.{nat_tests}
 use Rattle.std.specs.declared.result.Result.{Result}
 use Rattle.std.specs.declared.result.Result.TheVariants.{Ok, Err}
-use Rattle.abc_cells.specs.declared.values.Span.{Span}
-use Rattle.abc_heap.specs.Heap.{Heap, IsFull}
-use Rattle.abc_heap.specs.Texts.{IsText, IsTextMade, part_of, text_of}
-use Rattle.abc_heap.specs.declared.records.Full.{Full}
-use Rattle.abc_heap.specs.declared.records.Limit.TheVariants as limits
+use Rattle.abc_heap_values.specs.declared.values.Span.{Span}
+use Rattle.abc_heap_store.specs.Heap.{Heap, IsFull}
+use Rattle.abc_heap_store.specs.Texts.{IsText, IsTextMade, part_of, text_of}
+use Rattle.abc_heap_store.specs.declared.records.Full.{Full}
+use Rattle.abc_heap_store.specs.declared.records.Limit.TheVariants as limits
 use Rattle.abc_ops.specs.Left.{Leaves, text_made, text_made_if}
 use Rattle.abc_ops.specs.declared.end.OpEnd.{OpEnd}
 use Rattle.abc_ops.specs.declared.end.OpEnd.TheVariants as ends

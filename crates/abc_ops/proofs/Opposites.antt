@@ -7,14 +7,14 @@ use Rattle.std.specs.declared.result.Result.{Result}
 use Rattle.std.specs.declared.result.Result.TheVariants.{Ok, Err}
 use Rattle.abc_base.specs.declared.names.Fault.{Fault}
 use Rattle.abc_base.specs.declared.names.Fault.TheVariants.{TextOrder}
-use Rattle.abc_cells.specs.declared.values.Span.{Span}
-use Rattle.abc_cells.specs.declared.values.Value.{Value}
-use Rattle.abc_cells.specs.declared.values.Value.TheVariants as values
-use Rattle.abc_conversions.specs.Kinds.{is_text, is_undefined}
-use Rattle.abc_conversions.specs.Numbers.{and_then}
-use Rattle.abc_conversions.specs.Order.{is_ascii, number_or_none, numbers_hold, ordered, ordered_numbers, ordered_texts, text_below}
-use Rattle.abc_conversions.specs.declared.order.Order.{Order}
-use Rattle.abc_conversions.specs.declared.order.Order.TheVariants as orders
+use Rattle.abc_heap_values.specs.declared.values.Span.{Span}
+use Rattle.abc_heap_values.specs.declared.values.Value.{Value}
+use Rattle.abc_heap_values.specs.declared.values.Value.TheVariants as values
+use Rattle.abc_heap_values.specs.Kinds.{is_text, is_undefined}
+use Rattle.abc_heap_values.specs.Numbers.{and_then}
+use Rattle.abc_heap_values.specs.Order.{is_ascii, number_or_none, numbers_hold, ordered, ordered_numbers, ordered_texts, text_below}
+use Rattle.abc_heap_values.specs.declared.order.Order.{Order}
+use Rattle.abc_heap_values.specs.declared.order.Order.TheVariants as orders
 use Rattle.abc_ops.specs.Laws.{AreOpposed}
 
 -- ---- texts

@@ -1,8 +1,8 @@
 -- The layouts of objects are those of the file's parts.
 use Rattle.std.proofs.Common.{◌≡◌, ℕ, zero, suc, ◌<◌, List, [], ◌∷◌, Some, length, refl, arith}
 use Rattle.std.specs.Prelude.{slice_get}
-use Rattle.abc_heap.specs.Heap.{Heap, Object, object_at}
-use Rattle.abc_kinds.specs.ProgramLinked.{LinkedFile}
+use Rattle.abc_heap_store.specs.Heap.{Heap, Object, object_at}
+use Rattle.abc_link_program.specs.Linked.{LinkedFile}
 use Rattle.abc_objects.specs.Stands.{StandsOver}
 
 -- an object is found at its position

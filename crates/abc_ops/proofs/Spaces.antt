@@ -4,8 +4,8 @@ use Rattle.std.proofs.lemmas.Bool.{and_from, and_parts, eq-eqb, eqb-false, eqb-t
 use Rattle.std.proofs.lemmas.Slice.Eq.{bytes_eq-Decides}
 use Rattle.std.specs.Cmp.{IsEquivalence, both_ways, equiv}
 use Rattle.std.specs.Str.{bytes_eq}
-use Rattle.abc_names.specs.Pool.{same_space, shared_code, space, text}
-use Rattle.abc_tables.specs.declared.tables.Abc.{Abc}
+use Rattle.abc_link_names.specs.Pool.{same_space, shared_code, space, text}
+use Rattle.abc_file_types.specs.declared.tables.Abc.{Abc}
 
 -- by codes and texts, where those of code 05 are equal to themselves alone
 abbrev same_by : (ℕ → ℕ) → (ℕ → List ℕ) → ℕ → ℕ → Bool

@@ -4,15 +4,15 @@ use Rattle.std.specs.Prelude.{IfOk}
 use Rattle.std.specs.Fmt.{signed_decimal}
 use Rattle.std.specs.declared.result.Result.{Result}
 use Rattle.std.specs.declared.result.Result.TheVariants.{Ok, Err}
-use Rattle.abc_cells.specs.declared.values.Span.{Span}
-use Rattle.abc_cells.specs.declared.values.Value.{Value}
-use Rattle.abc_cells.specs.declared.values.Value.TheVariants as values
-use Rattle.abc_conversions.specs.Numbers.{IsInRange}
-use Rattle.abc_conversions.specs.Reads.{IsReadable}
-use Rattle.abc_heap.specs.Heap.{Heap}
-use Rattle.abc_heap.specs.Texts.{IsText}
-use Rattle.abc_names.specs.Pool.{space}
-use Rattle.abc_kinds.specs.ProgramLinked.{LinkedFile}
+use Rattle.abc_heap_values.specs.declared.values.Span.{Span}
+use Rattle.abc_heap_values.specs.declared.values.Value.{Value}
+use Rattle.abc_heap_values.specs.declared.values.Value.TheVariants as values
+use Rattle.abc_heap_values.specs.Numbers.{IsInRange}
+use Rattle.abc_heap_values.specs.Reads.{IsReadable}
+use Rattle.abc_heap_store.specs.Heap.{Heap}
+use Rattle.abc_heap_store.specs.Texts.{IsText}
+use Rattle.abc_link_names.specs.Pool.{space}
+use Rattle.abc_link_program.specs.Linked.{LinkedFile}
 use Rattle.abc_objects.specs.Fixed.{fixed_bytes, fixed_span}
 use Rattle.abc_objects.specs.Stands.{StandsOver}
 use Rattle.abc_objects.specs.Starts.{string_span}

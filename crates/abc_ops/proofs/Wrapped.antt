@@ -5,7 +5,7 @@ use Rattle.std.proofs.lemmas.Bool.{cases_lt, le-ltb}
 use Rattle.std.proofs.lemmas.Int.{SFits-int_wrap, ints}
 use Rattle.std.specs.Int.{cast_signed, int_wrap, w32}
 use Rattle.std.specs.Prelude.{int_rem}
-use Rattle.abc_arithmetic.specs.Modular.{signed, unsigned}
+use Rattle.abc_heap_values.specs.Modular.{signed, unsigned}
 
 -- ---- modulo 2 ^ 32
 

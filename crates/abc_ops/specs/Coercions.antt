@@ -2,14 +2,14 @@
 use Rattle.std.specs.Prelude.{◌≡◌, Bool, if◌then◌else◌, IsTrue, ◌↔◌, Ok, Err}
 use Rattle.std.specs.declared.result.Result.{Result}
 use Rattle.abc_base.specs.declared.names.HostClass.TheVariants as hosts
-use Rattle.abc_cells.specs.declared.values.Value.{Value}
-use Rattle.abc_cells.specs.declared.values.Value.TheVariants as values
-use Rattle.abc_conversions.specs.Kinds.{is_nothing, is_undefined}
-use Rattle.abc_conversions.specs.declared.numbers.Conversion.TheVariants as conversions
-use Rattle.abc_heap.specs.Heap.{Heap}
-use Rattle.abc_kinds.specs.ProgramLinked.{LinkedFile}
-use Rattle.abc_kinds.specs.ProgramTyType.{Ty}
-use Rattle.abc_kinds.specs.ProgramTyType.TheVariants as types
+use Rattle.abc_heap_values.specs.declared.values.Value.{Value}
+use Rattle.abc_heap_values.specs.declared.values.Value.TheVariants as values
+use Rattle.abc_heap_values.specs.Kinds.{is_nothing, is_undefined}
+use Rattle.abc_heap_values.specs.declared.numbers.Conversion.TheVariants as conversions
+use Rattle.abc_heap_store.specs.Heap.{Heap}
+use Rattle.abc_link_program.specs.Linked.{LinkedFile}
+use Rattle.abc_link_program.specs.declared.types.Ty.{Ty}
+use Rattle.abc_link_program.specs.declared.types.Ty.TheVariants as types
 use Rattle.abc_ops.specs.Conversions.{converted}
 use Rattle.abc_ops.specs.Left.{Leaves, gives}
 use Rattle.abc_ops.specs.Types.{IsOf}

@@ -4,16 +4,16 @@ use Rattle.std.specs.Fmt.{signed_decimal}
 use Rattle.std.specs.declared.result.Result.{Result}
 use Rattle.abc_base.specs.declared.names.Fault.TheVariants as faults
 use Rattle.abc_base.specs.declared.names.HostClass.TheVariants as hosts
-use Rattle.abc_cells.specs.declared.values.Span.{Span}
-use Rattle.abc_cells.specs.declared.values.Value.{Value}
-use Rattle.abc_cells.specs.declared.values.Value.TheVariants as values
-use Rattle.abc_conversions.specs.Kinds.{is_nothing}
-use Rattle.abc_conversions.specs.Numbers.{int_of, number_of, truth_of, uint_of}
-use Rattle.abc_conversions.specs.declared.numbers.Conversion.{Conversion}
-use Rattle.abc_conversions.specs.declared.numbers.Conversion.TheVariants as conversions
-use Rattle.abc_heap.specs.Heap.{Heap}
-use Rattle.abc_names.specs.Pool.{space}
-use Rattle.abc_kinds.specs.ProgramLinked.{LinkedFile}
+use Rattle.abc_heap_values.specs.declared.values.Span.{Span}
+use Rattle.abc_heap_values.specs.declared.values.Value.{Value}
+use Rattle.abc_heap_values.specs.declared.values.Value.TheVariants as values
+use Rattle.abc_heap_values.specs.Kinds.{is_nothing}
+use Rattle.abc_heap_values.specs.Numbers.{int_of, number_of, truth_of, uint_of}
+use Rattle.abc_heap_values.specs.declared.numbers.Conversion.{Conversion}
+use Rattle.abc_heap_values.specs.declared.numbers.Conversion.TheVariants as conversions
+use Rattle.abc_heap_store.specs.Heap.{Heap}
+use Rattle.abc_link_names.specs.Pool.{space}
+use Rattle.abc_link_program.specs.Linked.{LinkedFile}
 use Rattle.abc_objects.specs.Fixed.{fixed_span}
 use Rattle.abc_objects.specs.Starts.{string_span}
 use Rattle.abc_objects.specs.declared.fixed.FixedText.TheVariants as fixed

@@ -2,16 +2,16 @@
 use Rattle.std.specs.Prelude.{◌≡◌, ℕ, ◌%◌, ◌<◌, ℤ, pos, negsuc, ◌+ℤ◌, ◌*ℤ◌, ◌≤ℤ◌, unsigned_abs, Bool, false, not, Ok}
 use Rattle.std.specs.Cmp.{IsEquivalence}
 use Rattle.std.specs.declared.result.Result.{Result}
-use Rattle.abc_arithmetic.specs.Modular.{unsigned}
-use Rattle.abc_cells.specs.declared.values.Value.{Value}
-use Rattle.abc_cells.specs.declared.values.Value.TheVariants.{Num, Undefined}
-use Rattle.abc_conversions.specs.Kinds.{is_undefined}
-use Rattle.abc_conversions.specs.declared.numbers.Conversion.TheVariants.{ConvertI, ConvertU}
-use Rattle.abc_conversions.specs.declared.opcodes.Comparison.TheVariants.{Ordered}
-use Rattle.abc_conversions.specs.declared.order.Order.{Order}
-use Rattle.abc_conversions.specs.declared.order.Order.TheVariants.{Less, LessOrEqual, Greater, GreaterOrEqual}
-use Rattle.abc_heap.specs.Heap.{Heap}
-use Rattle.abc_kinds.specs.ProgramLinked.{LinkedFile}
+use Rattle.abc_heap_values.specs.Modular.{unsigned}
+use Rattle.abc_heap_values.specs.declared.values.Value.{Value}
+use Rattle.abc_heap_values.specs.declared.values.Value.TheVariants.{Num, Undefined}
+use Rattle.abc_heap_values.specs.Kinds.{is_undefined}
+use Rattle.abc_heap_values.specs.declared.numbers.Conversion.TheVariants.{ConvertI, ConvertU}
+use Rattle.abc_heap_values.specs.declared.opcodes.Comparison.TheVariants.{Ordered}
+use Rattle.abc_heap_values.specs.declared.order.Order.{Order}
+use Rattle.abc_heap_values.specs.declared.order.Order.TheVariants.{Less, LessOrEqual, Greater, GreaterOrEqual}
+use Rattle.abc_heap_store.specs.Heap.{Heap}
+use Rattle.abc_link_program.specs.Linked.{LinkedFile}
 use Rattle.abc_ops.specs.Compares.{compared, compared_as}
 use Rattle.abc_ops.specs.Conversions.{converted}
 use Rattle.abc_ops.specs.Left.{gives}

@@ -2,11 +2,11 @@
 use Rattle.std.specs.Prelude.{◌≡◌, ℕ, ℤ, ◌+◌, nat_le, List, ◌++◌, length, Bool, true, false, Ok, Err}
 use Rattle.std.specs.declared.result.Result.{Result}
 use Rattle.abc_base.specs.declared.names.Fault.{Fault}
-use Rattle.abc_cells.specs.declared.values.Span.{Span}
-use Rattle.abc_cells.specs.declared.values.Value.{Value}
-use Rattle.abc_cells.specs.declared.values.Value.TheVariants as values
-use Rattle.abc_heap.specs.Heap.{Heap}
-use Rattle.abc_heap.specs.declared.records.Limit.TheVariants as limits
+use Rattle.abc_heap_values.specs.declared.values.Span.{Span}
+use Rattle.abc_heap_values.specs.declared.values.Value.{Value}
+use Rattle.abc_heap_values.specs.declared.values.Value.TheVariants as values
+use Rattle.abc_heap_store.specs.Heap.{Heap}
+use Rattle.abc_heap_store.specs.declared.records.Limit.TheVariants as limits
 use Rattle.abc_ops.specs.declared.end.OpEnd.{OpEnd}
 use Rattle.abc_ops.specs.declared.end.OpEnd.TheVariants as ends
 

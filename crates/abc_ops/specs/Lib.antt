@@ -5,7 +5,3 @@ pub mod Coercions
 pub mod Operations
 pub mod Compares
 pub mod Laws
-pub use Rattle.abc_objects.specs.Starts
-pub use Rattle.abc_objects.specs.Stands
-pub use Rattle.abc_objects.specs.Values
-pub use Rattle.abc_objects.specs.Growing

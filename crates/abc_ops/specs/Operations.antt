@@ -1,16 +1,16 @@
 -- What the opcodes compute of one value and of two.
 use Rattle.std.specs.Prelude.{ℕ, ◌||◌, ◌&&◌, not, nat_eq, ◌++◌, if◌then◌else◌}
-use Rattle.abc_cells.specs.declared.values.Span.{Span}
-use Rattle.abc_cells.specs.declared.values.Value.{Value}
-use Rattle.abc_cells.specs.declared.values.Value.TheVariants as values
-use Rattle.abc_conversions.specs.Kinds.{is_text}
-use Rattle.abc_conversions.specs.Numbers.{calculated_of, calculated_single_of, truth_of}
-use Rattle.abc_conversions.specs.Opcodes.{operation_of, single_of}
-use Rattle.abc_heap.specs.Heap.{Heap, object_at}
-use Rattle.abc_heap.specs.Texts.{text_of}
-use Rattle.abc_heap.specs.declared.records.What.{What}
-use Rattle.abc_heap.specs.declared.records.What.TheVariants as whats
-use Rattle.abc_kinds.specs.ProgramLinked.{LinkedFile}
+use Rattle.abc_heap_values.specs.declared.values.Span.{Span}
+use Rattle.abc_heap_values.specs.declared.values.Value.{Value}
+use Rattle.abc_heap_values.specs.declared.values.Value.TheVariants as values
+use Rattle.abc_heap_values.specs.Kinds.{is_text}
+use Rattle.abc_heap_values.specs.Numbers.{calculated_of, calculated_single_of, truth_of}
+use Rattle.abc_heap_values.specs.Opcodes.{operation_of, single_of}
+use Rattle.abc_heap_store.specs.Heap.{Heap, object_at}
+use Rattle.abc_heap_store.specs.Texts.{text_of}
+use Rattle.abc_heap_store.specs.declared.records.What.{What}
+use Rattle.abc_heap_store.specs.declared.records.What.TheVariants as whats
+use Rattle.abc_link_program.specs.Linked.{LinkedFile}
 use Rattle.abc_objects.specs.Fixed.{fixed_span}
 use Rattle.abc_objects.specs.declared.fixed.FixedText.{FixedText}
 use Rattle.abc_objects.specs.declared.fixed.FixedText.TheVariants as fixed

@@ -5,9 +5,11 @@ ghost use Rattle.abc_ops.specs.Compares.{compared, compared_as, or_fault as or_f
 
 use crate::end::OpEnd;
 use abc_base::Fault;
-use abc_conversions::{Comparison, Texts, are_ordered, comparison_at, equal, strictly_equal};
-use abc_kinds::Linked;
-use abc_objects::{Arena, Span, Value};
+use abc_heap_values::{
+    Comparison, Span, Texts, Value, are_ordered, comparison_at, equal, strictly_equal,
+};
+use abc_link::Linked;
+use abc_objects::Arena;
 
 /// The texts of an arena over a linked file, and its namespaces.
 #[derive(Clone, Copy)]
@@ -17,8 +19,8 @@ struct Reading<'a> {
 }
 
 impl Texts for Reading<'_> {
-    ghost use Rattle.abc_heap.specs.Texts.{IsText, text_of};
-    ghost use Rattle.abc_names.specs.Pool.{same_space};
+    ghost use Rattle.abc_heap_store.specs.Texts.{IsText, text_of};
+    ghost use Rattle.abc_link_names.specs.Pool.{same_space};
 
     ghost has = { λ r s. IsText r.l.now.file.strings r.arena.now s };
 

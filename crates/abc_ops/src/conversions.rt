@@ -1,9 +1,9 @@
 ghost use Rattle.std.specs.Prelude.{◌≡◌, IfOk};
 ghost use Rattle.abc_base.specs.Ranges.{IsNumber};
-ghost use Rattle.abc_heap.specs.Heap.{Heap};
-ghost use Rattle.abc_heap.specs.Texts.{IsText};
-ghost use Rattle.abc_names.specs.Pool.{space as space_in};
-ghost use Rattle.abc_kinds.specs.ProgramLinked.{LinkedFile};
+ghost use Rattle.abc_heap_store.specs.Heap.{Heap};
+ghost use Rattle.abc_heap_store.specs.Texts.{IsText};
+ghost use Rattle.abc_link_names.specs.Pool.{space as space_in};
+ghost use Rattle.abc_link_program.specs.Linked.{LinkedFile};
 ghost use Rattle.abc_objects.specs.Growing.{Grows};
 ghost use Rattle.abc_objects.specs.Stands.{StandsOver};
 ghost use Rattle.abc_objects.specs.Starts.{string_span};
@@ -14,10 +14,10 @@ ghost use Rattle.abc_ops.specs.Left.{Leaves, as_value, number_or_fault};
 use crate::end::OpEnd;
 use crate::made::make_number;
 use abc_base::{Fault, HostClass};
-use abc_conversions::{Conversion, is_nothing, is_true, to_int, to_number, to_uint};
-use abc_kinds::Linked;
-use abc_names::space_name;
-use abc_objects::{Arena, FixedText, Span, Value, span_of_string};
+use abc_heap_values::{Conversion, Span, Value, is_nothing, is_true, to_int, to_number, to_uint};
+use abc_link::Linked;
+use abc_link_names::space_name;
+use abc_objects::{Arena, FixedText, span_of_string};
 
 /// The text of a namespace: its name.
 fn name_of_space(l: &Linked, space: u32) -> Span

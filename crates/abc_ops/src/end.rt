@@ -1,5 +1,5 @@
 use abc_base::{Fault, HostClass};
-use abc_objects::Limit;
+use abc_heap_store::Limit;
 
 /// Why an operation has no value.
 #[derive(Clone, Copy, Debug, PartialEq, Eq)]

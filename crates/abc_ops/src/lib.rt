@@ -11,8 +11,9 @@ mod made;
 mod operations;
 mod types;
 
-pub use abc_conversions::Conversion;
-pub use abc_kinds::{Linked, Ty};
+pub use abc_heap_values::Conversion;
+pub use abc_link::Linked;
+pub use abc_link_program::Ty;
 pub use abc_objects::{Arena, span_of_string};
 pub use coercions::coerce;
 pub use compares::compare;

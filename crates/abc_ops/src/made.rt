@@ -1,14 +1,15 @@
 ghost use Rattle.std.specs.Prelude.{◌≡◌, ◌++◌, IfOk};
 ghost use Rattle.std.specs.Fmt.{signed_decimal};
 ghost use Rattle.abc_base.specs.Ranges.{IsNumber};
-ghost use Rattle.abc_heap.specs.Texts.{IsText, text_of};
+ghost use Rattle.abc_heap_store.specs.Texts.{IsText, text_of};
 ghost use Rattle.abc_objects.specs.Growing.{Grows};
 ghost use Rattle.abc_objects.specs.Stands.{StandsOver};
 ghost use Rattle.abc_ops.specs.Left.{Leaves, text_made};
 
 use crate::end::OpEnd;
-use abc_kinds::Linked;
-use abc_objects::{Arena, Span};
+use abc_heap_values::Span;
+use abc_link::Linked;
+use abc_objects::Arena;
 
 /// Makes the text of a number.
 pub fn make_number(a: &mut Arena, n: i64) -> Result<Span, OpEnd>

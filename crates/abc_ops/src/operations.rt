@@ -1,6 +1,6 @@
 ghost use Rattle.std.specs.Prelude.{◌≡◌, IfOk};
-ghost use Rattle.abc_heap.specs.Texts.{IsText};
-ghost use Rattle.abc_kinds.specs.ProgramLinked.{LinkedFile};
+ghost use Rattle.abc_heap_store.specs.Texts.{IsText};
+ghost use Rattle.abc_link_program.specs.Linked.{LinkedFile};
 ghost use Rattle.abc_objects.specs.Growing.{Grows};
 ghost use Rattle.abc_objects.specs.Stands.{StandsOver};
 ghost use Rattle.abc_objects.specs.Values.{Exists};
@@ -10,9 +10,11 @@ ghost use Rattle.abc_ops.specs.Operations.{computed, computed_single, joined, jo
 use crate::conversions::{number_value, spell};
 use crate::end::OpEnd;
 use crate::made::make_joined;
-use abc_conversions::{calculate_value, calculate_values, is_text, is_true, operation, single};
-use abc_kinds::Linked;
-use abc_objects::{Arena, FixedText, Span, Value, What};
+use abc_heap_store::What;
+use abc_heap_values::opcodes::{operation, single};
+use abc_heap_values::{Span, Value, calculate_value, calculate_values, is_text, is_true};
+use abc_link::Linked;
+use abc_objects::{Arena, FixedText};
 
 fn name_of_object(what: What) -> FixedText
     ensures { result ≡ name_of_what what }

@@ -1,9 +1,9 @@
 -- A pool whose entries may name one another, read as one whose entries are read by how many there are.
 use Rattle.std.proofs.Common.{◌≡◌, ℕ, ◌-◌, List, Ok, Err, length, subst, ◌∙◌}
 use Rattle.std.specs.declared.result.Result.{Result}
-use Rattle.abc_format.specs.Lists.{pool, pool_by, times}
-use Rattle.abc_format.specs.Numbers.{u30}
-use Rattle.abc_format.specs.Part.{Part, At, Refusal, ◌>>=◌}
+use Rattle.abc_file_types.specs.Lists.{pool, pool_by, times}
+use Rattle.abc_file_types.specs.Numbers.{u30}
+use Rattle.abc_file_types.specs.Part.{Part, At, Refusal, ◌>>=◌}
 use Rattle.abc_varint.proofs.Passing.{times_count}
 
 module _ {A : Type 0} (p : ℕ → Part A) (m : ℕ) (xs : List A) (to : At) where

@@ -1,11 +1,11 @@
 ghost use Rattle.std.specs.Prelude.{◌≡◌, ◌≤◌, ◌∷◌, [], ◌++◌, Err, None, Some};
-ghost use Rattle.abc_tables.specs.Pools.{double, double_bytes};
+ghost use Rattle.abc_file_types.specs.Pools.{double, double_bytes};
 ghost use Rattle.abc_varint.specs.Puts.{Puts};
 ghost use Rattle.abc_varint.specs.Reads.{Reads, ReadsPart};
 ghost use Rattle.abc_varint.specs.declared.error.ReadError.{ReadError};
 
 use abc_base::{NoMemory, Source};
-use abc_tables::Eight;
+use abc_file_types::Eight;
 use abc_varint::{Codec, ReadError, Window, read_u8};
 use std::alloc::Global;
 
@@ -36,7 +36,7 @@ impl Codec for Doubles {
 }
 
 /// Eight bytes, in the order in which they stand.
-#[tactic(auto, unfolding(abc_tables::specs::Pools::double))]
+#[tactic(auto, unfolding(abc_file_types::specs::Pools::double))]
 fn read_double<S: Source>(w: &mut Window, source: &mut S) -> Result<Eight, ReadError>
     ensures value { ReadsPart S.left S.faults double w.old source.old w.new source.new result }
     ensures no_memory { result ≡ Err ReadError.NoMemory → ⊥ }

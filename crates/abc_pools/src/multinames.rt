@@ -1,7 +1,7 @@
 ghost use Rattle.std.specs.Prelude.{◌≡◌, ◌≤◌, ◌^◌, ◌∷◌, [], ◌++◌, Err, None, Some};
 ghost use Rattle.abc_base.specs.Numbers.{number_bytes};
-ghost use Rattle.abc_format.specs.Canonical.{counted_bytes};
-ghost use Rattle.abc_tables.specs.Pools.{multiname, multiname_bytes, multiname_code, multiname_fields, multiname_kind, type_fields};
+ghost use Rattle.abc_file_types.specs.Canonical.{counted_bytes};
+ghost use Rattle.abc_file_types.specs.Pools.{multiname, multiname_bytes, multiname_code, multiname_fields, multiname_kind, type_fields};
 ghost use Rattle.abc_varint.specs.Answers.{Answers};
 ghost use Rattle.abc_varint.specs.Passes.{Passes, PassesPart, nothing};
 ghost use Rattle.abc_varint.specs.Puts.{Puts, PutsWhole};
@@ -9,10 +9,10 @@ ghost use Rattle.abc_varint.specs.Reads.{Reads, ReadsPart};
 ghost use Rattle.abc_varint.specs.declared.error.ReadError.{ReadError};
 
 use abc_base::{NoMemory, Source};
-use abc_tables::{BoxedList, Multiname, MultinameKind};
+use abc_file_types::{BoxedList, Multiname, MultinameKind, Reason};
 use abc_varint::{
-    Codec, PoolIndex, ReadError, Reason, Window, pass_counted, put_counted, put_u8, put_u30,
-    read_counted, read_entry_index, read_pool_index, read_u8,
+    Codec, PoolIndex, ReadError, Window, pass_counted, put_counted, put_u8, put_u30, read_counted,
+    read_entry_index, read_pool_index, read_u8,
 };
 use std::alloc::Global;
 
@@ -57,7 +57,7 @@ impl Codec for Multinames {
 }
 
 /// What a multiname consists of: one of eleven bytes, or it is refused there by `MultinameKind`.
-#[tactic(auto, unfolding(abc_tables::specs::Pools::multiname_kind))]
+#[tactic(auto, unfolding(abc_file_types::specs::Pools::multiname_kind))]
 fn read_multiname_kind<S: Source>(
     w: &mut Window,
     source: &mut S,
@@ -126,7 +126,7 @@ fn read_fields<S: Source>(
 }
 
 /// A kind, and the fields that it asks for.
-#[tactic(auto, unfolding(abc_tables::specs::Pools::multiname))]
+#[tactic(auto, unfolding(abc_file_types::specs::Pools::multiname))]
 fn next_multiname<S: Source>(
     alloc: Global,
     w: &mut Window,
@@ -187,7 +187,7 @@ fn pass_type_fields<S: Source>(
 }
 
 /// Reads a multiname and appends its canonical bytes, as `read_multiname` and `put_multiname` do, and keeps none of it.
-#[tactic(auto, unfolding(abc_tables::specs::Pools::multiname))]
+#[tactic(auto, unfolding(abc_file_types::specs::Pools::multiname))]
 fn pass_multiname<S: Source>(
     alloc: Global,
     w: &mut Window,

@@ -1,14 +1,14 @@
 ghost use Rattle.std.specs.Prelude.{◌≡◌, ◌≤◌, ℕ, [], ◌∷◌, ◌++◌, None, Some, Err, length, nat_eq, if◌then◌else◌};
-ghost use Rattle.abc_format.specs.Canonical.{pool_bytes};
-ghost use Rattle.abc_tables.specs.Classes.{sizes_with};
-ghost use Rattle.abc_tables.specs.Pools.{multiname_bytes, multinames, pools as spelled_pools, pools_bytes};
+ghost use Rattle.abc_file_types.specs.Canonical.{pool_bytes};
+ghost use Rattle.abc_file_types.specs.Classes.{sizes_with};
+ghost use Rattle.abc_file_types.specs.Pools.{multiname_bytes, multinames, pools as spelled_pools, pools_bytes};
 ghost use Rattle.abc_varint.specs.Passes.{Passes, PassesPart};
 
 use crate::doubles::Doubles;
 use crate::multinames::Multinames;
 use crate::spaces::Namespaces;
 use abc_base::Source;
-use abc_tables::Sizes;
+use abc_file_types::Sizes;
 use abc_varint::{
     Counted, EntryIndex, Number32, ReadError, Signed32, Text, Window, pass_pool, pass_times,
     put_u30, read_u30,
@@ -24,7 +24,7 @@ fn shortest_count(count: u32) -> u32
 
 /// Reads the multinames, where there are so many strings, namespaces and sets of namespaces, and appends their canonical
 /// bytes. None is kept: gives how many there are.
-#[tactic(auto, unfolding(abc_tables::specs::Pools::multinames, abc_format::specs::Lists::pool_by))]
+#[tactic(auto, unfolding(abc_file_types::specs::Pools::multinames, abc_file_types::specs::Lists::pool_by))]
 fn pass_names<S: Source>(
     alloc: Global,
     w: &mut Window,
@@ -51,7 +51,7 @@ fn pass_names<S: Source>(
 
 /// Reads the seven pools, as `read_pools` does, and appends the canonical bytes of each entry before the next is read.
 /// None is kept: gives how many entries there are. After an Err `out` may hold any bytes.
-#[tactic(auto, unfolding(abc_tables::specs::Pools::pools, abc_tables::specs::Pools::namespace_set, abc_tables::specs::Pools::pools_bytes), using(std::proofs::Common::append_assoc))]
+#[tactic(auto, unfolding(abc_file_types::specs::Pools::pools, abc_file_types::specs::Pools::namespace_set, abc_file_types::specs::Pools::pools_bytes), using(std::proofs::Common::append_assoc))]
 pub fn pass_pools<S: Source>(
     alloc: Global,
     w: &mut Window,

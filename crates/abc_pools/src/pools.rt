@@ -1,7 +1,7 @@
 ghost use Rattle.std.specs.Prelude.{◌≡◌, ◌≤◌, ◌∷◌, [], ◌++◌, ℕ, Err, None, Some, length};
-ghost use Rattle.abc_format.specs.Canonical.{IsCanonical};
-ghost use Rattle.abc_format.specs.Law.{IsDetermined};
-ghost use Rattle.abc_tables.specs.Pools.{multiname, multiname_bytes, multinames, pools as spelled_pools, pools_bytes};
+ghost use Rattle.abc_file_types.specs.Canonical.{IsCanonical};
+ghost use Rattle.abc_file_types.specs.Law.{IsDetermined};
+ghost use Rattle.abc_file_types.specs.Pools.{multiname, multiname_bytes, multinames, pools as spelled_pools, pools_bytes};
 ghost use Rattle.abc_varint.specs.Answers.{Answers};
 ghost use Rattle.abc_varint.specs.Puts.{Puts, PutsWhole};
 ghost use Rattle.abc_varint.specs.Reads.{Reads, ReadsPart};
@@ -10,7 +10,7 @@ use crate::doubles::Doubles;
 use crate::multinames::Multinames;
 use crate::spaces::Namespaces;
 use abc_base::{NoMemory, Source, Table};
-use abc_tables::{Abc, Multiname};
+use abc_file_types::{Abc, Multiname};
 use abc_varint::{
     Counted, EntryIndex, Number32, ReadError, Signed32, Text, Window, put_pool, read_pool,
     read_times, read_u30,
@@ -19,7 +19,7 @@ use std::alloc::Global;
 
 /// The multinames, where there are so many strings, namespaces and sets of namespaces. They may name one another, so each
 /// is read by how many the count says that there are.
-#[tactic(auto, unfolding(abc_tables::specs::Pools::multinames, abc_format::specs::Lists::pool_by))]
+#[tactic(auto, unfolding(abc_file_types::specs::Pools::multinames, abc_file_types::specs::Lists::pool_by))]
 fn read_names<S: Source>(
     alloc: Global,
     w: &mut Window,
@@ -43,7 +43,7 @@ fn read_names<S: Source>(
 }
 
 /// The seven pools in their order, and no other table.
-#[tactic(auto, unfolding(abc_tables::specs::Pools::pools, abc_tables::specs::Pools::namespace_set))]
+#[tactic(auto, unfolding(abc_file_types::specs::Pools::pools, abc_file_types::specs::Pools::namespace_set))]
 fn next_pools<S: Source>(alloc: Global, w: &mut Window, source: &mut S) -> Result<Abc, ReadError>
     ensures { ReadsPart S.left S.faults spelled_pools w.old source.old w.new source.new result }
 {
@@ -94,7 +94,7 @@ pub fn read_pools<S: Source>(
 }
 
 /// Appends the pools in their order. Where memory runs out, the old bytes are still the front.
-#[tactic(auto, unfolding(abc_tables::specs::Pools::pools_bytes), using(abc_varint::proofs::Putting::stays, std::proofs::Common::append_assoc))]
+#[tactic(auto, unfolding(abc_file_types::specs::Pools::pools_bytes), using(abc_varint::proofs::Putting::stays, std::proofs::Common::append_assoc))]
 fn append_pools(abc: &Abc, out: &mut Vec<u8>) -> Result<(), NoMemory>
     ensures { Puts out.old.items out.new.items result (pools_bytes abc.now) }
 {

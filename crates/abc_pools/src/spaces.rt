@@ -1,13 +1,13 @@
 ghost use Rattle.std.specs.Prelude.{◌≡◌, ◌≤◌, ◌∷◌, [], ◌++◌, Err, None, Some};
 ghost use Rattle.abc_base.specs.Numbers.{number_bytes};
-ghost use Rattle.abc_tables.specs.Pools.{namespace, namespace_bytes, namespace_code, namespace_kind};
+ghost use Rattle.abc_file_types.specs.Pools.{namespace, namespace_bytes, namespace_code, namespace_kind};
 ghost use Rattle.abc_varint.specs.Puts.{Puts};
 ghost use Rattle.abc_varint.specs.Reads.{Reads, ReadsPart};
 ghost use Rattle.abc_varint.specs.declared.error.ReadError.{ReadError};
 
 use abc_base::{NoMemory, Source};
-use abc_tables::{Namespace, NsKind};
-use abc_varint::{Codec, ReadError, Reason, Window, put_u8, put_u30, read_pool_index, read_u8};
+use abc_file_types::{Namespace, NsKind, Reason};
+use abc_varint::{Codec, ReadError, Window, put_u8, put_u30, read_pool_index, read_u8};
 use std::alloc::Global;
 
 /// The codec of namespaces, where there are so many strings.
@@ -38,7 +38,7 @@ impl Codec for Namespaces {
 }
 
 /// What a namespace is for: one of seven bytes, or it is refused there by `NamespaceKind`.
-#[tactic(auto, unfolding(abc_tables::specs::Pools::namespace_kind))]
+#[tactic(auto, unfolding(abc_file_types::specs::Pools::namespace_kind))]
 fn read_namespace_kind<S: Source>(w: &mut Window, source: &mut S) -> Result<NsKind, ReadError>
     ensures value { ReadsPart S.left S.faults namespace_kind w.old source.old w.new source.new result }
     ensures no_memory { result ≡ Err ReadError.NoMemory → ⊥ }
@@ -60,7 +60,7 @@ fn read_namespace_kind<S: Source>(w: &mut Window, source: &mut S) -> Result<NsKi
 }
 
 /// A namespace: its kind, and its name among so many strings.
-#[tactic(auto, unfolding(abc_tables::specs::Pools::namespace))]
+#[tactic(auto, unfolding(abc_file_types::specs::Pools::namespace))]
 fn read_namespace<S: Source>(
     w: &mut Window,
     source: &mut S,
@@ -90,7 +90,7 @@ fn kind_byte(kind: NsKind) -> u8
 }
 
 /// Appends a namespace. Where memory runs out, the old bytes are still the front.
-#[tactic(auto, unfolding(abc_tables::specs::Pools::namespace_bytes), using(abc_varint::proofs::Putting::stays, std::proofs::Common::append_assoc))]
+#[tactic(auto, unfolding(abc_file_types::specs::Pools::namespace_bytes), using(abc_varint::proofs::Putting::stays, std::proofs::Common::append_assoc))]
 fn append_namespace(space: &Namespace, out: &mut Vec<u8>) -> Result<(), NoMemory>
     ensures { Puts out.old.items out.new.items result (namespace_bytes space.now) }
 {

@@ -7,23 +7,23 @@ use Rattle.std.specs.declared.result.Result.{Result}
 use Rattle.abc_base.specs.Faults.{Rose}
 use Rattle.abc_base.specs.Hosts.{AreFormulas}
 use Rattle.abc_base.specs.declared.formula.Formula.{Formula}
-use Rattle.abc_compare.specs.declared.compare.Verdict.{Verdict}
-use Rattle.abc_compare.specs.declared.compare.Verdict.TheVariants as verdicts
+use Rattle.abc_log.specs.declared.compare.Verdict.{Verdict}
+use Rattle.abc_log.specs.declared.compare.Verdict.TheVariants as verdicts
 use Rattle.abc_file.specs.Reading.{IsUsedUp, OfInput}
-use Rattle.abc_loghead.specs.declared.limits.LimitsLine.{LimitsLine}
-use Rattle.abc_logmeaning.specs.Logs.{log, steps}
-use Rattle.abc_logparts.specs.Checks.{IsCompared, IsFaultOf}
-use Rattle.abc_logparts.specs.declared.check.LogFault.{LogFault}
-use Rattle.abc_logparts.specs.declared.check.LogFault.TheVariants as faults
-use Rattle.abc_logparts.proofs.Judging.{all_there, has_cause}
-use Rattle.abc_machine.specs.OpeningsBegun.{setting}
-use Rattle.abc_program.specs.Linked.{LinkedFile}
-use Rattle.abc_replaying.specs.Prefaces.{HasPreface, RefusesAny, error_of_log}
-use Rattle.abc_replaying.specs.Replays.{IsRefusedBy, IsReplayed}
-use Rattle.abc_replaying.specs.declared.error.ReplayError.{ReplayError}
-use Rattle.abc_replaying.specs.declared.error.ReplayError.TheVariants as errors
-use Rattle.abc_replaying.proofs.Found.{rose_before}
-use Rattle.abc_replaying.proofs.Logged.{refuses, replays, used_up}
+use Rattle.abc_log.specs.declared.limits.LimitsLine.{LimitsLine}
+use Rattle.abc_meaning.specs.Logs.{log, steps}
+use Rattle.abc_log.specs.Checks.{IsCompared, IsFaultOf}
+use Rattle.abc_log.specs.declared.check.LogFault.{LogFault}
+use Rattle.abc_log.specs.declared.check.LogFault.TheVariants as faults
+use Rattle.abc_log.proofs.Judging.{all_there, has_cause}
+use Rattle.abc_run_finish.specs.Begun.{setting}
+use Rattle.abc_link_program.specs.Linked.{LinkedFile}
+use Rattle.abc_replay.specs.Prefaces.{HasPreface, RefusesAny, error_of_log}
+use Rattle.abc_replay.specs.Replays.{IsRefusedBy, IsReplayed}
+use Rattle.abc_replay.specs.declared.error.ReplayError.{ReplayError}
+use Rattle.abc_replay.specs.declared.error.ReplayError.TheVariants as errors
+use Rattle.abc_replay.proofs.Found.{rose_before}
+use Rattle.abc_replay.proofs.Logged.{refuses, replays, used_up}
 
 -- a failed read is told as such
 pub read_told : (place : ℕ) (f : LogFault) → error_of_log place f ≡ errors.ReadFault → f ≡ faults.ReadFault

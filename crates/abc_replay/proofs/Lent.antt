@@ -6,12 +6,12 @@ use Rattle.std.proofs.Math.Logic.{∥∥₁_elim}
 use Rattle.std.specs.declared.option.Option.{Option}
 use Rattle.std.specs.declared.result.Result.{Result}
 use Rattle.abc_base.specs.declared.memory.NoMemory.{NoMemory}
-use Rattle.abc_compare.specs.Followed.{Follows, bytes_in, noted, number_in, told}
-use Rattle.abc_compare.specs.declared.compare.Verdict.{Verdict}
-use Rattle.abc_compare.specs.declared.compare.Verdict.TheVariants.{Same}
-use Rattle.abc_compare.proofs.Following.{number_noted}
-use Rattle.abc_logparts.specs.Checks.{IsCompared, IsWritten}
-use Rattle.abc_logparts.proofs.Judging.{is_compared, same_start}
+use Rattle.abc_log.specs.Followed.{Follows, bytes_in, noted, number_in, told}
+use Rattle.abc_log.specs.declared.compare.Verdict.{Verdict}
+use Rattle.abc_log.specs.declared.compare.Verdict.TheVariants.{Same}
+use Rattle.abc_log.proofs.Following.{number_noted}
+use Rattle.abc_log.specs.Checks.{IsCompared, IsWritten}
+use Rattle.abc_log.proofs.Judging.{is_compared, same_start}
 
 -- the history begins as it did, whatever came of the writing
 pub begins_so : {None : Type 0} (lines start start2 bytes2 : List ℕ) (steps fb fn : ℕ) (r : Result ℕ NoMemory) → IfOk r (λ n. IsWritten lines steps n (Some (told start [])) (Some (told start2 bytes2)) fb fn) → (None → start2 ≡ start) → OnErr r None → start2 ≡ start

@@ -5,17 +5,17 @@ use Rattle.std.specs.declared.result.Result.{Result}
 use Rattle.abc_base.specs.Faults.{HasCause}
 use Rattle.abc_base.specs.Sinks.{WritesAll}
 use Rattle.abc_base.specs.declared.formula.Formula.{Formula}
-use Rattle.abc_heap.specs.declared.records.Limits.{Limits}
-use Rattle.abc_logmeaning.specs.Logs.{log, steps}
-use Rattle.abc_logparts.specs.Checks.{IsWritten}
+use Rattle.abc_heap_store.specs.declared.records.Limits.{Limits}
+use Rattle.abc_meaning.specs.Logs.{log, steps}
+use Rattle.abc_log.specs.Checks.{IsWritten}
 use Rattle.abc_machine.specs.Ended.{HasRun, IsEndOf}
 use Rattle.abc_machine.specs.Logged.{LogsRun}
 use Rattle.abc_machine.specs.Machines.{IsOpened, Opened}
-use Rattle.abc_machine.specs.OpeningsBegun.{setting}
+use Rattle.abc_run_finish.specs.Begun.{setting}
 use Rattle.abc_machine.specs.declared.ends.End.{End}
 use Rattle.abc_machine.specs.declared.ends.End.TheVariants as ends
 use Rattle.abc_meaning.specs.Meaning.{Meaning}
-use Rattle.abc_program.specs.Linked.{LinkedFile}
+use Rattle.abc_link_program.specs.Linked.{LinkedFile}
 
 -- a run writes all the lines, or a front of them where the sink failed
 pub run_written : (lines : List ℕ) (m : Meaning) (counted n : ℕ) (old new : Option (List ℕ)) (before now : ℕ) (end : End) → LogsRun lines m old new end → HasRun before now end → (end ≢ ends.WriteFault → n ≡ counted) → IsWritten lines counted n old new before now

@@ -1,2 +1,4 @@
-pub use Rattle.abc_replaying.specs.Names
-pub use Rattle.abc_replaying.specs.Replays
+pub mod Names
+pub mod Replays
+pub mod Prefaces
+pub mod Laws

@@ -1,18 +1,19 @@
 ghost use Rattle.std.specs.Prelude.{◌≡◌, ◌≤◌, ◌⊎◌, [], Err, IfErr, IfOk};
 ghost use Rattle.std.specs.Io.KnownBytes.{Consumes, IsAtEnd};
 ghost use Rattle.abc_base.specs.Faults.{Rose};
-ghost use Rattle.abc_compare.specs.declared.compare.Verdict.TheVariants as verdicts;
+ghost use Rattle.abc_log.specs.declared.compare.Verdict.TheVariants as verdicts;
 ghost use Rattle.abc_file.specs.Reading.{IsUsedUp, OfInput};
-ghost use Rattle.abc_logparts.specs.Checks.{IsFaultOf};
-ghost use Rattle.abc_logparts.specs.declared.check.LogFault.{LogFault};
-ghost use Rattle.abc_replaying.specs.Prefaces.{error_of_log};
-ghost use Rattle.abc_replaying.specs.Replays.{IsRefusedBy, IsReplayed};
-ghost use Rattle.abc_replaying.specs.declared.error.ReplayError.{ReplayError};
+ghost use Rattle.abc_log.specs.Checks.{IsFaultOf};
+ghost use Rattle.abc_log.specs.declared.check.LogFault.{LogFault};
+ghost use Rattle.abc_replay.specs.Prefaces.{error_of_log};
+ghost use Rattle.abc_replay.specs.Replays.{IsRefusedBy, IsReplayed};
+ghost use Rattle.abc_replay.specs.declared.error.ReplayError.{ReplayError};
 
+use crate::error::ReplayError;
+use crate::reading::{Preface, error_at, read_preface};
 use crate::run::compare_log;
 use abc_base::{Host, Source};
-use abc_compare::Verdict;
-use abc_replaying::{Preface, ReplayError, check_verdict, error_at, read_preface};
+use abc_log::{Verdict, check_verdict};
 use std::alloc::Global;
 
 /// How many steps a log has whose comparison gave this, or why it is none, where it begins at this place.

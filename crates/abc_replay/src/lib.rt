@@ -1,9 +1,18 @@
+//! What stands before the log of an input, and why an input is no log of a run.
+//!
 //! A log of a run, checked against the run of its file. There is no second engine: the one machine runs the file, and what it logs is
 //! compared with the input while that is read.
 #![tactic(auto)]
 
 mod answer;
+mod error;
+mod laws;
+mod reading;
 mod run;
 
-pub use abc_replaying::{ReplayError, ReplayReason};
+pub use abc_log::{Compare, LimitsLine, LogFault, Part, Verdict, check_verdict};
+pub use abc_verify::Verified;
 pub use answer::replay;
+pub use error::{ReplayError, ReplayReason};
+pub use laws::one_replay;
+pub use reading::{Preface, error_at, read_preface};

@@ -1,18 +1,17 @@
 ghost use Rattle.std.specs.Prelude.{◌≡◌, ◌≤◌, None, IfOk, OnErr};
-ghost use Rattle.abc_logmeaning.specs.Logs.{log as log_of, steps as steps_of};
-ghost use Rattle.abc_loglines.specs.Lines.{limit_end};
-ghost use Rattle.abc_logparts.specs.Checks.{IsCompared, IsWritten};
-ghost use Rattle.abc_machine.specs.OpeningsBegun.{setting};
+ghost use Rattle.abc_meaning.specs.Logs.{log as log_of, steps as steps_of};
+ghost use Rattle.abc_log.specs.Lines.{limit_end};
+ghost use Rattle.abc_log.specs.Checks.{IsCompared, IsWritten};
+ghost use Rattle.abc_run_finish.specs.Begun.{setting};
 ghost use Rattle.abc_objects.specs.Opening.{formula_names};
 
 use abc_base::{Host, NoMemory, Sink, Source, release};
-use abc_compare::{Lenient, Verdict};
-use abc_heap::Limit;
-use abc_loglines::write_limit_end;
-use abc_logmeaning::too_small_is_one_line;
+use abc_heap_store::Limit;
+use abc_log::{Lenient, LimitsLine, Verdict, write_limit_end};
 use abc_machine::Machine;
+use abc_meaning::too_small_is_one_line;
 use abc_objects::OpenError;
-use abc_replaying::{LimitsLine, Verified};
+use abc_verify::Verified;
 use std::alloc::Global;
 
 /// Runs an opened machine, whose log is written: how many steps it took. Where the sink failed, the number says nothing.

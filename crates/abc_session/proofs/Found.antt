@@ -3,15 +3,15 @@ use Rattle.std.proofs.Common.{◌≡◌, inl, inr, ℕ, List, [], ◌∷◌, Boo
 use Rattle.std.specs.Prelude.{IfSome, None, Some}
 use Rattle.std.specs.List.{find}
 use Rattle.std.specs.declared.option.Option.{Option}
-use Rattle.abc_machine.specs.CallmeaningExports.{export, is_export, method_in, method_of_trait}
-use Rattle.abc_machine.specs.CallLaws.{IsScriptMethod}
-use Rattle.abc_items.specs.Parts.{script_at}
+use Rattle.abc_meaning_sound.specs.Exports.{export, is_export, method_in, method_of_trait}
+use Rattle.abc_meaning_sound.specs.CallLaws.{IsScriptMethod}
+use Rattle.abc_link_names.specs.Parts.{script_at}
 use Rattle.abc_meaning.specs.Throwing.{last_script}
-use Rattle.abc_tables.specs.declared.traits.TraitBody.{TraitBody}
-use Rattle.abc_tables.specs.declared.traits.TraitBody.TheVariants as bodies
-use Rattle.abc_tables.specs.declared.traits.TraitInfo.{TraitInfo}
-use Rattle.abc_typing.specs.Typing.{In}
-use Rattle.abc_world.specs.Setting.{Setting}
+use Rattle.abc_file_types.specs.declared.traits.TraitBody.{TraitBody}
+use Rattle.abc_file_types.specs.declared.traits.TraitBody.TheVariants as bodies
+use Rattle.abc_file_types.specs.declared.traits.TraitInfo.{TraitInfo}
+use Rattle.abc_verify_typing.specs.Typing.{In}
+use Rattle.abc_meaning.specs.Setting.{Setting}
 
 found_among : (test : TraitInfo → Bool) (ts : List TraitInfo) (t : TraitInfo) → find test ts ≡ Some t → In t ts
 found_among test [] t e = absurd cc

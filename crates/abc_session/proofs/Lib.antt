@@ -1,3 +1,7 @@
-pub mod Following
+pub mod SessionFollowing
 pub mod Found
 pub mod Staying
+pub mod Pieces
+pub mod Calling
+pub mod TicksFollowing
+pub mod Telling

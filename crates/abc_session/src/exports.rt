@@ -1,14 +1,15 @@
 ghost use Rattle.std.specs.Prelude.{◌≡◌, List};
 ghost use Rattle.std.specs.List.{find};
 ghost use Rattle.abc_base.specs.declared.formula.Formula.{Formula};
-ghost use Rattle.abc_machine.specs.CallmeaningExports.{export as export_of, has_public_name as is_named, is_export, method_in as method_of, method_of_trait};
-ghost use Rattle.abc_items.specs.Parts.{script_at};
+ghost use Rattle.abc_meaning_sound.specs.Exports.{export as export_of, has_public_name as is_named, is_export, method_in as method_of, method_of_trait};
+ghost use Rattle.abc_link_names.specs.Parts.{script_at};
 ghost use Rattle.abc_meaning.specs.Throwing.{last_script};
-ghost use Rattle.abc_names.specs.Pool.{name as name_of, qname};
-ghost use Rattle.abc_openings.specs.Begun.{setting};
+ghost use Rattle.abc_link_names.specs.Pool.{name as name_of, qname};
+ghost use Rattle.abc_run_finish.specs.Begun.{setting};
 
+use abc_file_types::{TraitBody, TraitInfo};
 use abc_link::Linked;
-use abc_names::{TraitBody, TraitInfo, qname_at, text_at};
+use abc_link_names::{qname_at, text_at};
 
 /// The method of a method trait.
 fn method_in(body: &TraitBody) -> Option<u32>

@@ -1,10 +1,10 @@
 ghost use Rattle.std.specs.Prelude.{◌≡◌, ◌≢◌, ◌↔◌, List, MatchResult, IfSome, IsTrue, None, Some};
 ghost use Rattle.abc_base.specs.declared.formula.Formula.{Formula};
-ghost use Rattle.abc_machine.specs.Calls.{silent};
-ghost use Rattle.abc_machine.specs.CallmeaningExports.{export as export_of};
-ghost use Rattle.abc_machine.specs.CallLaws.{IsScriptMethod};
-ghost use Rattle.abc_cells.specs.declared.values.Span.{Span};
-ghost use Rattle.abc_heap.specs.Texts.{IsText, text_of};
+ghost use Rattle.abc_meaning_sound.specs.Calls.{silent};
+ghost use Rattle.abc_meaning_sound.specs.Exports.{export as export_of};
+ghost use Rattle.abc_meaning_sound.specs.CallLaws.{IsScriptMethod};
+ghost use Rattle.abc_heap_values.specs.declared.values.Span.{Span};
+ghost use Rattle.abc_heap_store.specs.Texts.{IsText, text_of};
 ghost use Rattle.abc_machine.specs.Ended.{HasRun, RunsAs};
 ghost use Rattle.abc_machine.specs.Invoked.{call_of};
 ghost use Rattle.abc_machine.specs.Machines.{IsOpened, IsReady, world_run};
@@ -14,16 +14,17 @@ ghost use Rattle.abc_machine.specs.declared.replies.PlainValue.TheVariants.{Text
 ghost use Rattle.abc_machine.specs.declared.replies.Reply.TheVariants.{Value};
 ghost use Rattle.abc_meaning.specs.Meaning.{meaning};
 ghost use Rattle.abc_objects.specs.Opening.{formula_names};
-ghost use Rattle.abc_openings.specs.Begun.{IsRefused, setting};
+ghost use Rattle.abc_run_finish.specs.Begun.{IsRefused, setting};
 ghost use Rattle.abc_session.specs.Sessions.{AnswersIn, HasCalled};
 
 use crate::exports::export;
 use crate::replies::SessionReply;
 use abc_base::{Host, Plain, Sink};
-use abc_cells::Span;
-use abc_heap::Limits;
+use abc_heap_store::Limits;
+use abc_heap_values::Span;
 use abc_link::Linked;
-use abc_machine::{End, Machine, OpenError};
+use abc_machine::{End, Machine};
+use abc_objects::OpenError;
 use abc_verify::Verified;
 use std::alloc::Global;
 use std::marker::Model;

@@ -1,32 +1,26 @@
-//! The whole file as a value, table by table, and in specs/ what spells each part of it, what refuses it, and its
-//! canonical bytes. Every index and number is a `u32`; the tables of entries that count from 1 leave entry 0 out.
+//! How many bytes the canonical bytes of a file have, and whether some bytes spell it. Neither takes memory.
 #![tactic(auto)]
 
-mod boxed_list;
-mod classes;
-mod code;
-mod copies;
-mod flags;
-mod instructions;
-mod methods;
-mod names;
-mod opcodes;
-mod ready;
-mod sizes;
-mod tables;
-mod traits;
+mod body_lengths;
+mod definition_lengths;
+mod fitting;
+mod fitting_bodies;
+mod fitting_definitions;
+mod fitting_pools;
+mod indices;
+mod laws;
+mod lengths;
+mod pool_lengths;
+mod total;
+mod walks;
 
-pub use abc_format::{Bytes, Table};
-pub use boxed_list::BoxedList;
-pub use classes::{ClassInfo, Instance, Script};
-pub use code::{Body, Handler, Instr};
-pub use copies::same;
-pub use flags::{HAS_METADATA, HAS_OPTIONAL, HAS_PARAM_NAMES, HAS_PROTECTED, has_flag};
-pub use instructions::{Code, code_len, count_len, instr_len};
-pub use methods::{Metadata, Method, OptionValue, ValueKind};
-pub use names::{Multiname, MultinameKind, Namespace, NsKind};
-pub use opcodes::{Form, OpInfo, Pool, mnemonic, opcode};
-pub use ready::{are_bodies_ready, is_ready, is_ready_body, ready_len};
-pub use sizes::{U30_LIMIT, sizes_of};
-pub use tables::{Abc, Eight, Sizes};
-pub use traits::{TraitBody, TraitInfo, TraitKind};
+pub use abc_file_types::{
+    Abc, Body, BoxedList, ClassInfo, Code, Eight, Form, HAS_METADATA, HAS_OPTIONAL,
+    HAS_PARAM_NAMES, HAS_PROTECTED, Handler, Instance, Instr, Metadata, Method, Multiname,
+    MultinameKind, Namespace, NsKind, OpInfo, OptionValue, Pool, Reason, Script, Sizes, TraitBody,
+    TraitInfo, TraitKind, U30_LIMIT, ValueKind, are_bodies_ready, code_len, count_len, has_flag,
+    instr_len, is_ready, is_ready_body, mnemonic, opcode, ready_len, same, sizes_of,
+};
+pub use fitting::fits;
+pub use laws::canonical_length;
+pub use total::canon_len;

@@ -5,27 +5,27 @@ use Rattle.std.proofs.lemmas.List.{get_or_past}
 use Rattle.std.specs.Result.{MatchResult}
 use Rattle.std.specs.declared.option.Option.{Option}
 use Rattle.std.specs.declared.result.Result.{Result}
-use Rattle.abc_refs.specs.declared.nodes.Counts.{Counts}
-use Rattle.abc_refs.specs.declared.nodes.Numbers.{Numbers}
-use Rattle.abc_refs.specs.Nodes.{counts_of, number_in}
-use Rattle.abc_refs.specs.Renumbered.{beside, new_file}
-use Rattle.abc_tables.specs.declared.tables.Abc.{Abc}
-use Rattle.abc_tables.specs.Files.{Fits}
-use Rattle.abc_trees.specs.declared.heads.Head.{Head}
-use Rattle.abc_trees.specs.declared.keys.Key.{Key}
-use Rattle.abc_trees.specs.Alike.{AreAlike}
-use Rattle.abc_trees.specs.Classes.{AllClassed, AreClasses}
-use Rattle.abc_trees.specs.Visits.{IsVisited}
-use Rattle.abc_trees.proofs.Alike.{visited_alike}
-use Rattle.abc_entries.specs.declared.error.TidyError.{TidyError}
-use Rattle.abc_entries.specs.declared.error.TidyError.TheVariants as errors
-use Rattle.abc_entries.specs.declared.error.TidyRule.TheVariants as rules
-use Rattle.abc_entries.specs.Entries.{graph_of, heads_of}
-use Rattle.abc_entries.specs.Firsts.{IsFirstCyclic}
-use Rattle.abc_entries.specs.NewPools.{new_pools}
+use Rattle.abc_tidy_refs.specs.declared.nodes.Counts.{Counts}
+use Rattle.abc_tidy_refs.specs.declared.nodes.Numbers.{Numbers}
+use Rattle.abc_tidy_refs.specs.Nodes.{counts_of, number_in}
+use Rattle.abc_tidy_refs.specs.Renumbered.{beside, new_file}
+use Rattle.abc_file_types.specs.declared.tables.Abc.{Abc}
+use Rattle.abc_file_types.specs.Files.{Fits}
+use Rattle.abc_base_trees.specs.declared.heads.Head.{Head}
+use Rattle.abc_base_trees.specs.declared.keys.Key.{Key}
+use Rattle.abc_base_trees.specs.Alike.{AreAlike}
+use Rattle.abc_base_trees.specs.Classes.{AllClassed, AreClasses}
+use Rattle.abc_base_trees.specs.Visits.{IsVisited}
+use Rattle.abc_base_trees.proofs.Alike.{visited_alike}
+use Rattle.abc_tidy_entries.specs.declared.error.TidyError.{TidyError}
+use Rattle.abc_tidy_entries.specs.declared.error.TidyError.TheVariants as errors
+use Rattle.abc_tidy_entries.specs.declared.error.TidyRule.TheVariants as rules
+use Rattle.abc_tidy_entries.specs.Entries.{graph_of, heads_of}
+use Rattle.abc_tidy_entries.specs.Firsts.{IsFirstCyclic}
+use Rattle.abc_tidy_entries.specs.NewPools.{new_pools}
 use Rattle.abc_tidy.specs.Planned.{IsPlan}
-use Rattle.abc_entries.specs.Rules.{Holds, IsFirstBroken, IsTidied, IsTidyError}
-use Rattle.abc_entries.specs.Visited.{AreNumbers, IsTidiedValue, roots_of}
+use Rattle.abc_tidy_entries.specs.Rules.{Holds, IsFirstBroken, IsTidied, IsTidyError}
+use Rattle.abc_tidy_entries.specs.Visited.{AreNumbers, IsTidiedValue, roots_of}
 
 -- those that have classes are nodes
 all_nodes : (graph : List (List ℕ)) (classes : List (Option ℕ)) (xs : List ℕ) → length classes ≡ length graph → AllClassed classes xs → All (λ x. x < length graph) xs

@@ -1,2 +1,4 @@
 pub mod Classed
 pub mod Planned
+pub mod Things
+pub mod Free

@@ -1,26 +1,26 @@
 ghost use Rattle.std.specs.Prelude.{◌≡◌, ◌<◌, ◌+◌, ◌^◌, length, IfOk, MatchResult};
-ghost use Rattle.abc_refs.specs.Nodes.{counts_of, node_count, number_in};
-ghost use Rattle.abc_refs.specs.Renumbered.{beside, new_file};
-ghost use Rattle.abc_entries.specs.declared.error.TidyError.TheVariants as errors;
-ghost use Rattle.abc_entries.specs.declared.error.TidyRule.TheVariants as rules;
-ghost use Rattle.abc_entries.specs.Rules.{Holds, IsTidied, IsTidyError};
-ghost use Rattle.abc_trees.specs.Classes.{AllClassed, AreClasses};
-ghost use Rattle.abc_tables.specs.Files.{Fits};
+ghost use Rattle.abc_tidy_refs.specs.Nodes.{counts_of, node_count, number_in};
+ghost use Rattle.abc_tidy_refs.specs.Renumbered.{beside, new_file};
+ghost use Rattle.abc_tidy_entries.specs.declared.error.TidyError.TheVariants as errors;
+ghost use Rattle.abc_tidy_entries.specs.declared.error.TidyRule.TheVariants as rules;
+ghost use Rattle.abc_tidy_entries.specs.Rules.{Holds, IsTidied, IsTidyError};
+ghost use Rattle.abc_base_trees.specs.Classes.{AllClassed, AreClasses};
+ghost use Rattle.abc_file_types.specs.Files.{Fits};
 ghost use Rattle.abc_tidy.specs.Classed.{AreClassed};
-ghost use Rattle.abc_entries.specs.Entries.{graph_of};
-ghost use Rattle.abc_entries.specs.Once.{once};
+ghost use Rattle.abc_tidy_entries.specs.Entries.{graph_of};
+ghost use Rattle.abc_tidy_entries.specs.Once.{once};
 ghost use Rattle.abc_tidy.specs.Planned.{IsPlan};
-ghost use Rattle.abc_entries.specs.Visited.{IsTidiedValue, roots_of};
+ghost use Rattle.abc_tidy_entries.specs.Visited.{IsTidiedValue, roots_of};
 
 use abc_base::{NoMemory, Table, release};
-use abc_entries::{
+use abc_base_trees::{Classes, Head, Rows, classes_of, parts_first, visit_order};
+use abc_file_types::Abc;
+use abc_tables::fits;
+use abc_tidy_entries::{
     TidyError, TidyRule, check_indices, entries_of, first_cyclic, heads_of, marks_of, named_in,
     new_pools, numbers_of,
 };
-use abc_fits::fits;
-use abc_refs::{Counts, Numbers, refs_of, renumber};
-use abc_tables::Abc;
-use abc_trees::{Classes, Head, Rows, classes_of, parts_first, visit_order};
+use abc_tidy_refs::{Counts, Numbers, refs_of, renumber};
 use std::alloc::Global;
 
 /// Tries that no name that is visited reaches itself. The first that does is refused.

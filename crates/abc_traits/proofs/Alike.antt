@@ -3,11 +3,11 @@ use Rattle.std.proofs.Common.{◌≡◌, ℕ, zero, suc, ◌^◌, ◌<◌, Bool,
 use Rattle.std.specs.Prelude.{nat_lt}
 use Rattle.std.specs.declared.result.Result.{Result}
 use Rattle.std.proofs.lemmas.Bool.{ltb-true}
-use Rattle.abc_format.specs.declared.reason.Reason.{Reason}
-use Rattle.abc_format.specs.Part.{At, Part, Refusal, refusal, checked, done, image, then_by, when, ◌>>=◌}
-use Rattle.abc_format.specs.Numbers.{number, u30}
-use Rattle.abc_format.specs.Lists.{times, counted}
-use Rattle.abc_format.proofs.Exact.{bind_ok, ok_is}
+use Rattle.abc_file_types.specs.declared.reason.Reason.{Reason}
+use Rattle.abc_file_types.specs.Part.{At, Part, Refusal, refusal, checked, done, image, then_by, when, ◌>>=◌}
+use Rattle.abc_file_types.specs.Numbers.{number, u30}
+use Rattle.abc_file_types.specs.Lists.{times, counted}
+use Rattle.abc_file_types.proofs.Exact.{bind_ok, ok_is}
 
 pub record Alike {A : Type 0} (p q : Part A) : Type 0 where
   pub same : (from : At) → p.reads from ≡ q.reads from

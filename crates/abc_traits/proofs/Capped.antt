@@ -2,17 +2,17 @@
 use Rattle.std.proofs.Common.{◌≡◌, ℕ, ◌^◌, ◌<◌, inl, inr, Bool, refl, sym, ap, ◌∙◌, min, arith}
 use Rattle.std.specs.Prelude.{nat_lt, nat_le, nat_eq, not, ◌&&◌}
 use Rattle.std.proofs.lemmas.Bool.{cases_lt, lt-ltb, le-leb}
-use Rattle.abc_format.specs.Part.{when}
-use Rattle.abc_format.specs.Numbers.{u30, index_below, pool_index, entry_index}
-use Rattle.abc_tables.specs.declared.methods.ValueKind.{ValueKind}
-use Rattle.abc_tables.specs.declared.methods.ValueKind.TheVariants as kinds
-use Rattle.abc_tables.specs.declared.traits.TraitKind.{TraitKind}
-use Rattle.abc_tables.specs.declared.traits.TraitKind.TheVariants as traits
-use Rattle.abc_tables.specs.declared.tables.Sizes.{Sizes}
-use Rattle.abc_tables.specs.Methods.{has_value, value_kind, option_value, options, method, metadata}
-use Rattle.abc_tables.specs.Traits.{slot_value, trait_fields, trait_info}
-use Rattle.abc_tables.specs.Classes.{instance, class_info, script}
-use Rattle.abc_tables.specs.Sizes.{capped}
+use Rattle.abc_file_types.specs.Part.{when}
+use Rattle.abc_file_types.specs.Numbers.{u30, index_below, pool_index, entry_index}
+use Rattle.abc_file_types.specs.declared.methods.ValueKind.{ValueKind}
+use Rattle.abc_file_types.specs.declared.methods.ValueKind.TheVariants as kinds
+use Rattle.abc_file_types.specs.declared.traits.TraitKind.{TraitKind}
+use Rattle.abc_file_types.specs.declared.traits.TraitKind.TheVariants as traits
+use Rattle.abc_file_types.specs.declared.tables.Sizes.{Sizes}
+use Rattle.abc_file_types.specs.Methods.{has_value, value_kind, option_value, options, method, metadata}
+use Rattle.abc_file_types.specs.Traits.{slot_value, trait_fields, trait_info}
+use Rattle.abc_file_types.specs.Classes.{instance, class_info, script}
+use Rattle.abc_file_types.specs.Sizes.{capped}
 use Rattle.abc_traits.proofs.Alike.{Alike, alike_refl, image-alike, then-alike, times-alike, counted-alike, when-alike, checked-alike, u30_below, first_read}
 
 -- ---- one index

@@ -2,12 +2,12 @@
 use Rattle.std.proofs.Common.{◌≡◌, ℕ, ◌^◌, length, List, Ok, Err, refl, sym, subst, ◌∙◌, min, arith}
 use Rattle.std.specs.declared.result.Result.{Result}
 use Rattle.std.specs.declared.option.Option.{Option}
-use Rattle.abc_format.specs.Part.{At, Part, image, ◌>>=◌}
-use Rattle.abc_format.specs.Numbers.{u30}
-use Rattle.abc_tables.specs.declared.tables.Abc.{Abc}
-use Rattle.abc_tables.specs.declared.tables.Sizes.{Sizes}
-use Rattle.abc_tables.specs.Classes.{instance, class_info, script, sizes_with, definitions}
-use Rattle.abc_tables.specs.Sizes.{capped}
+use Rattle.abc_file_types.specs.Part.{At, Part, image, ◌>>=◌}
+use Rattle.abc_file_types.specs.Numbers.{u30}
+use Rattle.abc_file_types.specs.declared.tables.Abc.{Abc}
+use Rattle.abc_file_types.specs.declared.tables.Sizes.{Sizes}
+use Rattle.abc_file_types.specs.Classes.{instance, class_info, script, sizes_with, definitions}
+use Rattle.abc_file_types.specs.Sizes.{capped}
 use Rattle.abc_varint.specs.declared.error.ReadError.{ReadError}
 use Rattle.abc_varint.specs.declared.error.ReadError.TheVariants as errors
 use Rattle.abc_varint.specs.View.{View}

@@ -2,17 +2,17 @@
 use Rattle.std.specs.Prelude.{ℕ, List, ◌++◌, length}
 use Rattle.std.specs.List.{flat_map}
 use Rattle.abc_base.specs.Numbers.{number_bytes}
-use Rattle.abc_format.specs.Canonical.{counted_bytes}
-use Rattle.abc_format.specs.Part.{Part, then_by, both, image}
-use Rattle.abc_format.specs.Numbers.{u30}
-use Rattle.abc_format.specs.Lists.{times, counted}
-use Rattle.abc_tables.specs.declared.tables.Abc.{Abc}
-use Rattle.abc_tables.specs.declared.tables.Sizes.{Sizes}
-use Rattle.abc_tables.specs.Methods.{method, method_bytes, metadata, metadata_bytes}
-use Rattle.abc_tables.specs.Classes.{instance, instance_bytes, class_info, class_bytes, script, script_bytes}
-use Rattle.abc_tables.specs.declared.classes.Instance.{Instance}
-use Rattle.abc_tables.specs.declared.classes.ClassInfo.{ClassInfo}
-use Rattle.abc_tables.specs.declared.classes.Script.{Script}
+use Rattle.abc_file_types.specs.Canonical.{counted_bytes}
+use Rattle.abc_file_types.specs.Part.{Part, then_by, both, image}
+use Rattle.abc_file_types.specs.Numbers.{u30}
+use Rattle.abc_file_types.specs.Lists.{times, counted}
+use Rattle.abc_file_types.specs.declared.tables.Abc.{Abc}
+use Rattle.abc_file_types.specs.declared.tables.Sizes.{Sizes}
+use Rattle.abc_file_types.specs.Methods.{method, method_bytes, metadata, metadata_bytes}
+use Rattle.abc_file_types.specs.Classes.{instance, instance_bytes, class_info, class_bytes, script, script_bytes}
+use Rattle.abc_file_types.specs.declared.classes.Instance.{Instance}
+use Rattle.abc_file_types.specs.declared.classes.ClassInfo.{ClassInfo}
+use Rattle.abc_file_types.specs.declared.classes.Script.{Script}
 use Rattle.abc_traits.specs.declared.definitions.Definitions.{Definitions}
 
 -- an Abc whose later tables are these

@@ -1,15 +1,15 @@
 ghost use Rattle.std.specs.Prelude.{◌≡◌, ◌≤◌, ℕ, [], ◌∷◌, ◌++◌, None, Some, Err, length};
-ghost use Rattle.abc_format.specs.Lists.{counted};
-ghost use Rattle.abc_format.specs.Numbers.{pool_index};
-ghost use Rattle.abc_format.specs.Part.{image, when};
-ghost use Rattle.abc_tables.specs.Classes.{some_index, instance, protected_bytes, instance_bytes, class_info, class_bytes, script, script_bytes};
+ghost use Rattle.abc_file_types.specs.Lists.{counted};
+ghost use Rattle.abc_file_types.specs.Numbers.{pool_index};
+ghost use Rattle.abc_file_types.specs.Part.{image, when};
+ghost use Rattle.abc_file_types.specs.Classes.{some_index, instance, protected_bytes, instance_bytes, class_info, class_bytes, script, script_bytes};
 ghost use Rattle.abc_varint.specs.Passes.{Passes, PassesPart, nothing};
 ghost use Rattle.abc_varint.specs.Puts.{Puts};
 ghost use Rattle.abc_varint.specs.Reads.{Reads, ReadsPart};
 
 use crate::traits::TraitCodec;
 use abc_base::{NoMemory, Source};
-use abc_tables::{ClassInfo, HAS_PROTECTED, Instance, Script, Sizes, has_flag};
+use abc_file_types::{ClassInfo, HAS_PROTECTED, Instance, Script, Sizes, has_flag};
 use abc_varint::{
     Codec, EntryIndex, IndexBelow, PoolIndex, ReadError, Window, pass_counted, put_counted, put_u8,
     put_u30, read_counted, read_entry_index, read_index_below, read_pool_index, read_u8,
@@ -17,7 +17,7 @@ use abc_varint::{
 use std::alloc::Global;
 
 /// A namespace where a flag asks for it.
-#[tactic(auto, unfolding(abc_format::specs::Part::when))]
+#[tactic(auto, unfolding(abc_file_types::specs::Part::when))]
 fn read_protected_if<S: Source>(
     flag: bool,
     w: &mut Window,
@@ -43,7 +43,7 @@ fn put_protected(namespace: Option<u32>, out: &mut Vec<u8>) -> Result<(), NoMemo
     }
 }
 
-#[tactic(auto, unfolding(abc_tables::specs::Classes::instance))]
+#[tactic(auto, unfolding(abc_file_types::specs::Classes::instance))]
 fn read_instance<S: Source>(
     alloc: Global,
     w: &mut Window,
@@ -71,7 +71,7 @@ fn read_instance<S: Source>(
     })
 }
 
-#[tactic(auto, unfolding(abc_tables::specs::Classes::instance_bytes), using(abc_varint::proofs::Putting::stays, std::proofs::Common::append_assoc))]
+#[tactic(auto, unfolding(abc_file_types::specs::Classes::instance_bytes), using(abc_varint::proofs::Putting::stays, std::proofs::Common::append_assoc))]
 fn put_instance(instance: &Instance, out: &mut Vec<u8>) -> Result<(), NoMemory>
     ensures { Puts out.old.items out.new.items result (instance_bytes instance.now) }
 {
@@ -86,7 +86,7 @@ fn put_instance(instance: &Instance, out: &mut Vec<u8>) -> Result<(), NoMemory>
 }
 
 /// Passes a namespace where a flag asks for it.
-#[tactic(auto, unfolding(abc_format::specs::Part::when))]
+#[tactic(auto, unfolding(abc_file_types::specs::Part::when))]
 fn pass_protected_if<S: Source>(
     flag: bool,
     alloc: Global,
@@ -105,7 +105,7 @@ fn pass_protected_if<S: Source>(
 }
 
 /// Reads an instance and appends its canonical bytes; none of it is kept.
-#[tactic(auto, unfolding(abc_tables::specs::Classes::instance, abc_tables::specs::Classes::instance_bytes))]
+#[tactic(auto, unfolding(abc_file_types::specs::Classes::instance, abc_file_types::specs::Classes::instance_bytes))]
 fn pass_instance<S: Source>(
     alloc: Global,
     w: &mut Window,
@@ -162,7 +162,7 @@ impl Codec for InstanceCodec {
     }
 }
 
-#[tactic(auto, unfolding(abc_tables::specs::Classes::class_info))]
+#[tactic(auto, unfolding(abc_file_types::specs::Classes::class_info))]
 fn read_class<S: Source>(
     alloc: Global,
     w: &mut Window,
@@ -176,7 +176,7 @@ fn read_class<S: Source>(
     Ok(ClassInfo { cinit, traits })
 }
 
-#[tactic(auto, unfolding(abc_tables::specs::Classes::class_bytes), using(abc_varint::proofs::Putting::stays, std::proofs::Common::append_assoc))]
+#[tactic(auto, unfolding(abc_file_types::specs::Classes::class_bytes), using(abc_varint::proofs::Putting::stays, std::proofs::Common::append_assoc))]
 fn put_class(class: &ClassInfo, out: &mut Vec<u8>) -> Result<(), NoMemory>
     ensures { Puts out.old.items out.new.items result (class_bytes class.now) }
 {
@@ -186,7 +186,7 @@ fn put_class(class: &ClassInfo, out: &mut Vec<u8>) -> Result<(), NoMemory>
 }
 
 /// Reads a method and traits and appends their canonical bytes; none of them is kept.
-#[tactic(auto, unfolding(abc_tables::specs::Classes::class_info, abc_tables::specs::Classes::class_bytes))]
+#[tactic(auto, unfolding(abc_file_types::specs::Classes::class_info, abc_file_types::specs::Classes::class_bytes))]
 fn pass_class<S: Source>(
     alloc: Global,
     w: &mut Window,
@@ -236,7 +236,7 @@ impl Codec for ClassCodec {
     }
 }
 
-#[tactic(auto, unfolding(abc_tables::specs::Classes::script))]
+#[tactic(auto, unfolding(abc_file_types::specs::Classes::script))]
 fn read_script<S: Source>(
     alloc: Global,
     w: &mut Window,
@@ -250,7 +250,7 @@ fn read_script<S: Source>(
     Ok(Script { init, traits })
 }
 
-#[tactic(auto, unfolding(abc_tables::specs::Classes::script_bytes), using(abc_varint::proofs::Putting::stays, std::proofs::Common::append_assoc))]
+#[tactic(auto, unfolding(abc_file_types::specs::Classes::script_bytes), using(abc_varint::proofs::Putting::stays, std::proofs::Common::append_assoc))]
 fn put_script(script: &Script, out: &mut Vec<u8>) -> Result<(), NoMemory>
     ensures { Puts out.old.items out.new.items result (script_bytes script.now) }
 {
@@ -260,7 +260,7 @@ fn put_script(script: &Script, out: &mut Vec<u8>) -> Result<(), NoMemory>
 }
 
 /// Reads a method and traits and appends their canonical bytes; none of them is kept.
-#[tactic(auto, unfolding(abc_tables::specs::Classes::script, abc_tables::specs::Classes::script_bytes))]
+#[tactic(auto, unfolding(abc_file_types::specs::Classes::script, abc_file_types::specs::Classes::script_bytes))]
 fn pass_script<S: Source>(
     alloc: Global,
     w: &mut Window,

@@ -1,8 +1,8 @@
 ghost use Rattle.std.specs.Prelude.{◌≡◌, ◌≤◌, ◌<◌, ◌^◌, ◌++◌, ℕ, None, Some, Err, OnErr, length};
-ghost use Rattle.abc_format.specs.Lists.{times, counted};
-ghost use Rattle.abc_format.specs.Part.{both};
-ghost use Rattle.abc_tables.specs.Classes.{instance, class_info, script, sizes_with, definitions, definitions_bytes};
-ghost use Rattle.abc_tables.specs.Sizes.{capped};
+ghost use Rattle.abc_file_types.specs.Lists.{times, counted};
+ghost use Rattle.abc_file_types.specs.Part.{both};
+ghost use Rattle.abc_file_types.specs.Classes.{instance, class_info, script, sizes_with, definitions, definitions_bytes};
+ghost use Rattle.abc_file_types.specs.Sizes.{capped};
 ghost use Rattle.abc_traits.specs.Definitions.{with_definitions, tables};
 ghost use Rattle.abc_varint.specs.Answers.{Answers};
 ghost use Rattle.abc_varint.specs.Puts.{Puts, PutsWhole};
@@ -11,7 +11,7 @@ ghost use Rattle.abc_varint.specs.Reads.{Reads, ReadsPart, stored};
 use crate::classes::{ClassCodec, InstanceCodec, ScriptCodec};
 use crate::methods::{MetadataCodec, MethodCodec};
 use abc_base::{NoMemory, Source, Table};
-use abc_tables::{Abc, ClassInfo, Instance, Metadata, Method, Script, Sizes, sizes_of};
+use abc_file_types::{Abc, ClassInfo, Instance, Metadata, Method, Script, Sizes, sizes_of};
 use abc_varint::{
     ReadError, Window, put_count, put_counted, put_items, read_counted, read_times, read_u30,
 };
@@ -119,7 +119,7 @@ pub fn read_definitions<S: Source>(
     }
 }
 
-#[tactic(auto, unfolding(abc_tables::specs::Classes::definitions_bytes), using(abc_varint::proofs::Putting::stays, std::proofs::Common::append_assoc))]
+#[tactic(auto, unfolding(abc_file_types::specs::Classes::definitions_bytes), using(abc_varint::proofs::Putting::stays, std::proofs::Common::append_assoc))]
 fn append_definitions(abc: &Abc, out: &mut Vec<u8>) -> Result<(), NoMemory>
     ensures { Puts out.old.items out.new.items result (definitions_bytes abc.now) }
 {

@@ -1,5 +1,5 @@
 //! Methods, metadata, instances, classes, scripts and their traits, read from a source through a window and appended to
-//! bytes. Which bytes spell them, and what refuses them, stands in abc_tables.
+//! bytes. Which bytes spell them, and what refuses them, stands in abc_file_types.
 #![tactic(auto)]
 
 mod classes;

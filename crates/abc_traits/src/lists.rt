@@ -1,10 +1,10 @@
 ghost use Rattle.std.specs.Prelude.{◌≡◌, ◌≤◌, ℕ, [], None, Some, Err, Bool, if◌then◌else◌};
 ghost use Rattle.std.specs.List.{flat_map};
 ghost use Rattle.abc_base.specs.Numbers.{number_bytes};
-ghost use Rattle.abc_format.specs.Canonical.{counted_bytes};
-ghost use Rattle.abc_format.specs.Lists.{times, counted};
-ghost use Rattle.abc_format.specs.Numbers.{u30};
-ghost use Rattle.abc_format.specs.Part.{when};
+ghost use Rattle.abc_file_types.specs.Canonical.{counted_bytes};
+ghost use Rattle.abc_file_types.specs.Lists.{times, counted};
+ghost use Rattle.abc_file_types.specs.Numbers.{u30};
+ghost use Rattle.abc_file_types.specs.Part.{when};
 ghost use Rattle.abc_varint.specs.Passes.{Passes, PassesPart, nothing};
 ghost use Rattle.abc_varint.specs.Puts.{Puts};
 ghost use Rattle.abc_varint.specs.Reads.{Reads, ReadsPart, ReadsNumber};
@@ -42,7 +42,7 @@ impl Codec for Number30 {
 }
 
 /// Reads so many items where a flag asks for them, and none where it does not.
-#[tactic(auto, unfolding(abc_format::specs::Part::when))]
+#[tactic(auto, unfolding(abc_file_types::specs::Part::when))]
 pub fn read_times_if<C: Codec, S: Source>(
     flag: bool,
     codec: &C,
@@ -62,7 +62,7 @@ pub fn read_times_if<C: Codec, S: Source>(
 }
 
 /// Reads a count and the items where a flag asks for them, and nothing where it does not.
-#[tactic(auto, unfolding(abc_format::specs::Part::when))]
+#[tactic(auto, unfolding(abc_file_types::specs::Part::when))]
 pub fn read_counted_if<C: Codec, S: Source>(
     flag: bool,
     codec: &C,
@@ -109,7 +109,7 @@ pub fn put_counted_if<C: Codec>(
 }
 
 /// Passes so many items where a flag asks for them, and none where it does not.
-#[tactic(auto, unfolding(abc_format::specs::Part::when))]
+#[tactic(auto, unfolding(abc_file_types::specs::Part::when))]
 pub fn pass_times_if<C: Codec, S: Source>(
     flag: bool,
     codec: &C,
@@ -129,7 +129,7 @@ pub fn pass_times_if<C: Codec, S: Source>(
 }
 
 /// Passes a count and the items where a flag asks for them, and nothing where it does not.
-#[tactic(auto, unfolding(abc_format::specs::Part::when))]
+#[tactic(auto, unfolding(abc_file_types::specs::Part::when))]
 pub fn pass_counted_if<C: Codec, S: Source>(
     flag: bool,
     codec: &C,

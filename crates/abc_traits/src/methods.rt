@@ -1,7 +1,7 @@
 ghost use Rattle.std.specs.Prelude.{◌≡◌, ◌≤◌, ◌*◌, ◌/◌, ℕ, [], ◌∷◌, ◌++◌, None, Some, Err, length, not, nat_eq, bit_and};
-ghost use Rattle.abc_format.specs.Lists.{times};
-ghost use Rattle.abc_format.specs.Part.{when};
-ghost use Rattle.abc_tables.specs.Methods.{method, method_bytes, metadata, metadata_bytes};
+ghost use Rattle.abc_file_types.specs.Lists.{times};
+ghost use Rattle.abc_file_types.specs.Part.{when};
+ghost use Rattle.abc_file_types.specs.Methods.{method, method_bytes, metadata, metadata_bytes};
 ghost use Rattle.abc_varint.specs.Passes.{Passes, PassesPart, nothing};
 ghost use Rattle.abc_varint.specs.Puts.{Puts};
 ghost use Rattle.abc_varint.specs.Reads.{Reads, ReadsPart};
@@ -9,14 +9,14 @@ ghost use Rattle.abc_varint.specs.Reads.{Reads, ReadsPart};
 use crate::lists::{Number30, pass_times_if, put_counted_if, put_items_if, read_times_if};
 use crate::options::{OptionCodec, pass_options_if, read_options_if};
 use abc_base::{NoMemory, Source};
-use abc_tables::{HAS_OPTIONAL, HAS_PARAM_NAMES, Metadata, Method, Sizes, has_flag};
+use abc_file_types::{HAS_OPTIONAL, HAS_PARAM_NAMES, Metadata, Method, Sizes, has_flag};
 use abc_varint::{
     Codec, PoolIndex, ReadError, Window, pass_times, put_count, put_items, put_u8, put_u30,
     read_pool_index, read_times, read_u8, read_u30,
 };
 use std::alloc::Global;
 
-#[tactic(auto, unfolding(abc_tables::specs::Methods::method))]
+#[tactic(auto, unfolding(abc_file_types::specs::Methods::method))]
 fn read_method<S: Source>(
     alloc: Global,
     w: &mut Window,
@@ -44,7 +44,7 @@ fn read_method<S: Source>(
     })
 }
 
-#[tactic(auto, unfolding(abc_tables::specs::Methods::method_bytes), using(abc_varint::proofs::Putting::stays, std::proofs::Common::append_assoc))]
+#[tactic(auto, unfolding(abc_file_types::specs::Methods::method_bytes), using(abc_varint::proofs::Putting::stays, std::proofs::Common::append_assoc))]
 fn put_method(method: &Method, out: &mut Vec<u8>) -> Result<(), NoMemory>
     ensures { Puts out.old.items out.new.items result (method_bytes method.now) }
 {
@@ -61,7 +61,7 @@ fn put_method(method: &Method, out: &mut Vec<u8>) -> Result<(), NoMemory>
 }
 
 /// Reads a method and appends its canonical bytes; none of it is kept.
-#[tactic(auto, unfolding(abc_tables::specs::Methods::method, abc_tables::specs::Methods::method_bytes))]
+#[tactic(auto, unfolding(abc_file_types::specs::Methods::method, abc_file_types::specs::Methods::method_bytes))]
 fn pass_method<S: Source>(
     alloc: Global,
     w: &mut Window,
@@ -121,7 +121,7 @@ impl Codec for MethodCodec {
 }
 
 /// A name, a count, and twice as many strings.
-#[tactic(auto, unfolding(abc_tables::specs::Methods::metadata))]
+#[tactic(auto, unfolding(abc_file_types::specs::Methods::metadata))]
 fn read_metadata<S: Source>(
     alloc: Global,
     w: &mut Window,
@@ -136,7 +136,7 @@ fn read_metadata<S: Source>(
     Ok(Metadata { name, items })
 }
 
-#[tactic(auto, unfolding(abc_tables::specs::Methods::metadata_bytes), using(abc_varint::proofs::Putting::stays, std::proofs::Common::append_assoc))]
+#[tactic(auto, unfolding(abc_file_types::specs::Methods::metadata_bytes), using(abc_varint::proofs::Putting::stays, std::proofs::Common::append_assoc))]
 fn put_metadata(metadata: &Metadata, out: &mut Vec<u8>) -> Result<(), NoMemory>
     ensures { Puts out.old.items out.new.items result (metadata_bytes metadata.now) }
 {
@@ -147,7 +147,7 @@ fn put_metadata(metadata: &Metadata, out: &mut Vec<u8>) -> Result<(), NoMemory>
 }
 
 /// Reads metadata and appends its canonical bytes; none of it is kept.
-#[tactic(auto, unfolding(abc_tables::specs::Methods::metadata, abc_tables::specs::Methods::metadata_bytes))]
+#[tactic(auto, unfolding(abc_file_types::specs::Methods::metadata, abc_file_types::specs::Methods::metadata_bytes))]
 fn pass_metadata<S: Source>(
     alloc: Global,
     w: &mut Window,

@@ -1,25 +1,25 @@
 ghost use Rattle.std.specs.Prelude.{◌≡◌, ◌≤◌, ℕ, [], ◌∷◌, ◌++◌, None, Some, Err, not, nat_eq, nat_le, if◌then◌else◌};
-ghost use Rattle.abc_format.specs.Lists.{times};
-ghost use Rattle.abc_format.specs.Numbers.{u30 as number30};
-ghost use Rattle.abc_format.specs.Part.{checked, when};
-ghost use Rattle.abc_format.specs.declared.reason.Reason.{Reason};
-ghost use Rattle.abc_tables.specs.declared.methods.ValueKind.TheVariants as kinds;
-ghost use Rattle.abc_tables.specs.Methods.{value_code, value_kind, option_value, option_bytes, options};
-ghost use Rattle.abc_tables.specs.Traits.{slot_value, slot_value_bytes};
-ghost use Rattle.abc_format.specs.Canonical.{counted_bytes};
+ghost use Rattle.abc_file_types.specs.Lists.{times};
+ghost use Rattle.abc_file_types.specs.Numbers.{u30 as number30};
+ghost use Rattle.abc_file_types.specs.Part.{checked, when};
+ghost use Rattle.abc_file_types.specs.declared.reason.Reason.{Reason};
+ghost use Rattle.abc_file_types.specs.declared.methods.ValueKind.TheVariants as kinds;
+ghost use Rattle.abc_file_types.specs.Methods.{value_code, value_kind, option_value, option_bytes, options};
+ghost use Rattle.abc_file_types.specs.Traits.{slot_value, slot_value_bytes};
+ghost use Rattle.abc_file_types.specs.Canonical.{counted_bytes};
 ghost use Rattle.abc_varint.specs.Passes.{Passes, PassesPart, nothing};
 ghost use Rattle.abc_varint.specs.Puts.{Puts};
 ghost use Rattle.abc_varint.specs.Reads.{Reads, ReadsPart};
 
 use abc_base::{NoMemory, Source, Table};
-use abc_tables::{OptionValue, Sizes, ValueKind};
+use abc_file_types::{OptionValue, Reason, Sizes, ValueKind};
 use abc_varint::{
-    Codec, ReadError, Reason, Window, pass_times, put_u8, put_u30, read_times, read_u8, read_u30,
+    Codec, ReadError, Window, pass_times, put_u8, put_u30, read_times, read_u8, read_u30,
 };
 use std::alloc::Global;
 
 /// The kind of a value.
-#[tactic(auto, unfolding(abc_tables::specs::Methods::value_kind))]
+#[tactic(auto, unfolding(abc_file_types::specs::Methods::value_kind))]
 fn read_value_kind<S: Source>(w: &mut Window, source: &mut S) -> Result<ValueKind, ReadError>
     ensures { ReadsPart S.left S.faults value_kind w.old source.old w.new source.new result }
 {
@@ -71,7 +71,7 @@ fn code_of(kind: ValueKind) -> u8
 }
 
 /// A value and its kind. The index is tested once the kind is accepted.
-#[tactic(auto, unfolding(abc_tables::specs::Methods::option_value))]
+#[tactic(auto, unfolding(abc_file_types::specs::Methods::option_value))]
 fn read_option_value<S: Source>(
     w: &mut Window,
     source: &mut S,
@@ -91,7 +91,7 @@ fn read_option_value<S: Source>(
     Ok(OptionValue { kind, value })
 }
 
-#[tactic(auto, unfolding(abc_tables::specs::Methods::option_bytes), using(abc_varint::proofs::Putting::stays, std::proofs::Common::append_assoc))]
+#[tactic(auto, unfolding(abc_file_types::specs::Methods::option_bytes), using(abc_varint::proofs::Putting::stays, std::proofs::Common::append_assoc))]
 fn put_option_value(option: &OptionValue, out: &mut Vec<u8>) -> Result<(), NoMemory>
     ensures { Puts out.old.items out.new.items result (option_bytes option.now) }
 {
@@ -145,7 +145,7 @@ fn read_option_count<S: Source>(
 }
 
 /// The values of the last parameters, at most as many as there are parameters.
-#[tactic(auto, unfolding(abc_tables::specs::Methods::options))]
+#[tactic(auto, unfolding(abc_file_types::specs::Methods::options))]
 fn read_options<S: Source>(
     alloc: Global,
     w: &mut Window,
@@ -161,7 +161,7 @@ fn read_options<S: Source>(
 }
 
 /// The values where a flag asks for them, and none where it does not.
-#[tactic(auto, unfolding(abc_format::specs::Part::when))]
+#[tactic(auto, unfolding(abc_file_types::specs::Part::when))]
 pub fn read_options_if<S: Source>(
     flag: bool,
     alloc: Global,
@@ -181,7 +181,7 @@ pub fn read_options_if<S: Source>(
 }
 
 /// Passes the values of the last parameters, at most as many as there are parameters.
-#[tactic(auto, unfolding(abc_tables::specs::Methods::options, abc_format::specs::Canonical::counted_bytes))]
+#[tactic(auto, unfolding(abc_file_types::specs::Methods::options, abc_file_types::specs::Canonical::counted_bytes))]
 fn pass_options<S: Source>(
     alloc: Global,
     w: &mut Window,
@@ -199,7 +199,7 @@ fn pass_options<S: Source>(
 }
 
 /// Passes the values where a flag asks for them, and nothing where it does not.
-#[tactic(auto, unfolding(abc_format::specs::Part::when))]
+#[tactic(auto, unfolding(abc_file_types::specs::Part::when))]
 pub fn pass_options_if<S: Source>(
     flag: bool,
     alloc: Global,
@@ -219,7 +219,7 @@ pub fn pass_options_if<S: Source>(
 }
 
 /// The kind of a value where a flag asks for it.
-#[tactic(auto, unfolding(abc_format::specs::Part::when))]
+#[tactic(auto, unfolding(abc_file_types::specs::Part::when))]
 fn read_value_kind_if<S: Source>(
     flag: bool,
     w: &mut Window,
@@ -236,7 +236,7 @@ fn read_value_kind_if<S: Source>(
 }
 
 /// The value of a slot: an index, and a kind only where it is not 0. The index is tested once the kind is accepted.
-#[tactic(auto, unfolding(abc_tables::specs::Traits::slot_value))]
+#[tactic(auto, unfolding(abc_file_types::specs::Traits::slot_value))]
 pub fn read_slot_value<S: Source>(
     w: &mut Window,
     source: &mut S,

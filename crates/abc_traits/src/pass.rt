@@ -6,7 +6,7 @@ ghost use Rattle.abc_varint.specs.Reads.{Reads, ReadsPart};
 use crate::classes::{ClassCodec, InstanceCodec, ScriptCodec};
 use crate::methods::{MetadataCodec, MethodCodec};
 use abc_base::Source;
-use abc_tables::Sizes;
+use abc_file_types::Sizes;
 use abc_varint::{ReadError, Window, pass_counted, pass_times, put_u30, read_u30};
 use std::alloc::Global;
 

@@ -1,9 +1,9 @@
 ghost use Rattle.std.specs.Prelude.{◌≡◌, ◌≤◌, ◌+◌, ◌*◌, ◌%◌, ◌/◌, ℕ, [], ◌∷◌, ◌++◌, None, Some, Err};
 ghost use Rattle.abc_base.specs.Numbers.{number_bytes};
-ghost use Rattle.abc_format.specs.Numbers.{u30, index_below, pool_index};
-ghost use Rattle.abc_format.specs.Part.{both, image};
-ghost use Rattle.abc_tables.specs.declared.traits.TraitBody.TheVariants as bodies;
-ghost use Rattle.abc_tables.specs.Traits.{slot_value, slot_value_bytes, trait_code, trait_kind, trait_kind_in, trait_fields, trait_fields_bytes, trait_info, trait_bytes};
+ghost use Rattle.abc_file_types.specs.Numbers.{u30, index_below, pool_index};
+ghost use Rattle.abc_file_types.specs.Part.{both, image};
+ghost use Rattle.abc_file_types.specs.declared.traits.TraitBody.TheVariants as bodies;
+ghost use Rattle.abc_file_types.specs.Traits.{slot_value, slot_value_bytes, trait_code, trait_kind, trait_kind_in, trait_fields, trait_fields_bytes, trait_info, trait_bytes};
 ghost use Rattle.abc_varint.specs.Passes.{Passes, PassesPart, nothing};
 ghost use Rattle.abc_varint.specs.Puts.{Puts};
 ghost use Rattle.abc_varint.specs.Reads.{Reads, ReadsPart};
@@ -11,15 +11,17 @@ ghost use Rattle.abc_varint.specs.Reads.{Reads, ReadsPart};
 use crate::lists::{pass_counted_if, put_counted_if, read_counted_if};
 use crate::options::{put_slot_value, read_slot_value};
 use abc_base::{NoMemory, Source};
-use abc_tables::{HAS_METADATA, OptionValue, Sizes, TraitBody, TraitInfo, TraitKind, has_flag};
+use abc_file_types::{
+    HAS_METADATA, OptionValue, Reason, Sizes, TraitBody, TraitInfo, TraitKind, has_flag,
+};
 use abc_varint::{
-    Codec, EntryIndex, IndexBelow, ReadError, Reason, Window, put_u8, put_u30, read_entry_index,
+    Codec, EntryIndex, IndexBelow, ReadError, Window, put_u8, put_u30, read_entry_index,
     read_index_below, read_pool_index, read_u8, read_u30,
 };
 use std::alloc::Global;
 
 /// The kind of a trait, and its attributes.
-#[tactic(auto, unfolding(abc_tables::specs::Traits::trait_kind))]
+#[tactic(auto, unfolding(abc_file_types::specs::Traits::trait_kind))]
 fn read_trait_kind<S: Source>(w: &mut Window, source: &mut S) -> Result<(TraitKind, u8), ReadError>
     ensures { ReadsPart S.left S.faults trait_kind w.old source.old w.new source.new result }
 {
@@ -107,7 +109,7 @@ fn read_trait_fields<S: Source>(
     }
 }
 
-#[tactic(auto, unfolding(abc_tables::specs::Traits::trait_info))]
+#[tactic(auto, unfolding(abc_file_types::specs::Traits::trait_info))]
 fn read_trait<S: Source>(
     alloc: Global,
     w: &mut Window,
@@ -185,7 +187,7 @@ fn put_trait_fields(body: &TraitBody, out: &mut Vec<u8>) -> Result<(), NoMemory>
     }
 }
 
-#[tactic(auto, unfolding(abc_tables::specs::Traits::trait_bytes), using(abc_varint::proofs::Putting::stays, std::proofs::Common::append_assoc))]
+#[tactic(auto, unfolding(abc_file_types::specs::Traits::trait_bytes), using(abc_varint::proofs::Putting::stays, std::proofs::Common::append_assoc))]
 fn put_trait(info: &TraitInfo, out: &mut Vec<u8>) -> Result<(), NoMemory>
     ensures { Puts out.old.items out.new.items result (trait_bytes info.now) }
 {
@@ -198,7 +200,7 @@ fn put_trait(info: &TraitInfo, out: &mut Vec<u8>) -> Result<(), NoMemory>
 }
 
 /// Reads a trait and appends its canonical bytes; none of it is kept.
-#[tactic(auto, unfolding(abc_tables::specs::Traits::trait_info, abc_tables::specs::Traits::trait_bytes))]
+#[tactic(auto, unfolding(abc_file_types::specs::Traits::trait_info, abc_file_types::specs::Traits::trait_bytes))]
 fn pass_trait<S: Source>(
     alloc: Global,
     w: &mut Window,

@@ -2,8 +2,8 @@
 use Rattle.std.proofs.Common.{◌≡◌, ℕ, ◌≤◌, List, Ok, Err, None, Some, [], refl, subst, arith}
 use Rattle.std.specs.declared.result.Result.{Result}
 use Rattle.std.specs.declared.option.Option.{Option}
-use Rattle.abc_format.specs.Part.{Part, At, refusal, limit}
-use Rattle.abc_format.specs.Law.{Exact}
+use Rattle.abc_file_types.specs.Part.{Part, At, refusal, limit}
+use Rattle.abc_file_types.specs.Law.{Exact}
 use Rattle.abc_varint.specs.declared.error.ReadError.{ReadError}
 use Rattle.abc_varint.specs.declared.error.ReadError.TheVariants as errors
 use Rattle.abc_varint.specs.View.{View}

@@ -2,10 +2,10 @@
 use Rattle.std.proofs.Common.{◌≡◌, ℕ, zero, suc, ◌+◌, ◌-◌, ◌<◌, ◌≤◌, List, [], ◌∷◌, ◌++◌, length, take, drop, length-append, length-take, Ok, Err, None, Some, refl, sym, ap, ◌∙◌, append_assoc, arith}
 use Rattle.std.specs.declared.result.Result.{Result}
 use Rattle.std.specs.declared.option.Option.{Option}
-use Rattle.abc_format.specs.Part.{At, Refusal, limit, ◌>>=◌}
-use Rattle.abc_format.specs.Numbers.{byte_at, u8}
-use Rattle.abc_format.specs.Lists.{times}
-use Rattle.abc_format.proofs.Numbers.{byte_again}
+use Rattle.abc_file_types.specs.Part.{At, Refusal, limit, ◌>>=◌}
+use Rattle.abc_file_types.specs.Numbers.{byte_at, u8}
+use Rattle.abc_file_types.specs.Lists.{times}
+use Rattle.abc_file_types.proofs.Numbers.{byte_again}
 use Rattle.abc_varint.specs.Ready.{IsReady}
 use Rattle.abc_varint.specs.View.{View, held, onward}
 use Rattle.abc_varint.specs.Reads.{IsInput, Reads, stand}

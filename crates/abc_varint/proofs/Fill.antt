@@ -4,9 +4,9 @@ use Rattle.std.proofs.lemmas.List.{append-nil}
 use Rattle.std.specs.declared.option.Option.{Option}
 use Rattle.abc_varint.specs.declared.error.ReadError.{ReadError}
 use Rattle.abc_varint.specs.declared.error.ReadError.TheVariants as errors
-use Rattle.abc_format.specs.Part.{Refusal, refusal, Part, limit, no_end}
-use Rattle.abc_format.specs.Ends.{fill, inside, IsNonEmpty}
-use Rattle.abc_format.specs.Law.{Exact}
+use Rattle.abc_file_types.specs.Part.{Refusal, refusal, Part, limit, no_end}
+use Rattle.abc_file_types.specs.Ends.{fill, inside, IsNonEmpty}
+use Rattle.abc_file_types.specs.Law.{Exact}
 use Rattle.abc_varint.specs.View.{View}
 use Rattle.abc_varint.specs.Reads.{Reads, Fails, IsInput, known, stand, opened, ReadsUntil}
 use Rattle.abc_varint.proofs.Inputs.{known_is}

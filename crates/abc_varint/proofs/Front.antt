@@ -5,10 +5,10 @@ use Rattle.std.specs.declared.option.Option.{Option}
 use Rattle.std.proofs.lemmas.List.{drop-drop, take-append-drop, take-append-le}
 use Rattle.abc_base.specs.Numbers.{SpellsNumber, number_bytes, signed24}
 use Rattle.abc_base.proofs.Spelling.{groups_number, number_shortest}
-use Rattle.abc_format.specs.Law.{Exact}
-use Rattle.abc_format.specs.Part.{Front, Part, limit}
-use Rattle.abc_format.specs.Numbers.{number, s24, u8}
-use Rattle.abc_format.proofs.Numbers.{number-exact, u8-exact}
+use Rattle.abc_file_types.specs.Law.{Exact}
+use Rattle.abc_file_types.specs.Part.{Front, Part, limit}
+use Rattle.abc_file_types.specs.Numbers.{number, s24, u8}
+use Rattle.abc_file_types.proofs.Numbers.{number-exact, u8-exact}
 use Rattle.abc_varint.specs.Ready.{IsReady, TakesNumber}
 use Rattle.abc_varint.specs.Reads.{IsInput, Reads, ReadsNumber, stand}
 use Rattle.abc_varint.specs.View.{View, GoesOver, held, onward}

@@ -4,9 +4,9 @@ use Rattle.std.specs.declared.option.Option.{Option}
 use Rattle.std.specs.declared.result.Result.{Result}
 use Rattle.std.proofs.lemmas.List.{drop-append-le, drop-drop, drop-take}
 use Rattle.std.proofs.lemmas.Bool.{le-ltb, lt-ltb}
-use Rattle.abc_format.specs.declared.reason.Reason.TheVariants as reasons
-use Rattle.abc_format.specs.Part.{At, Refusal, refusal, limit}
-use Rattle.abc_format.specs.Numbers.{byte_at, u8}
+use Rattle.abc_file_types.specs.declared.reason.Reason.TheVariants as reasons
+use Rattle.abc_file_types.specs.Part.{At, Refusal, refusal, limit}
+use Rattle.abc_file_types.specs.Numbers.{byte_at, u8}
 use Rattle.abc_varint.specs.declared.error.ReadError.{ReadError}
 use Rattle.abc_varint.specs.View.{View, NextOf, NextHere, held, onward}
 use Rattle.abc_varint.specs.Reads.{IsInput, Reads, known, stand, told}

@@ -5,8 +5,8 @@ use Rattle.std.specs.declared.result.Result.{Result}
 use Rattle.std.specs.declared.option.Option.{Option}
 use Rattle.abc_varint.specs.declared.error.ReadError.{ReadError}
 use Rattle.abc_varint.specs.declared.error.ReadError.TheVariants as errors
-use Rattle.abc_format.specs.Part.{At, Refusal, refusal, Part, ◌>>=◌}
-use Rattle.abc_format.specs.Lists.{times}
+use Rattle.abc_file_types.specs.Part.{At, Refusal, refusal, Part, ◌>>=◌}
+use Rattle.abc_file_types.specs.Lists.{times}
 use Rattle.abc_varint.specs.View.{View}
 use Rattle.abc_varint.specs.Reads.{Reads, Fails, IsInput, stand}
 

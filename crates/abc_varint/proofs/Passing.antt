@@ -7,11 +7,11 @@ use Rattle.std.specs.declared.result.Result.{Result}
 use Rattle.std.specs.declared.option.Option.{Option}
 use Rattle.abc_varint.specs.declared.error.ReadError.{ReadError}
 use Rattle.abc_varint.specs.declared.error.ReadError.TheVariants as errors
-use Rattle.abc_format.specs.Part.{At, Refusal, refusal, Part, ◌>>=◌}
+use Rattle.abc_file_types.specs.Part.{At, Refusal, refusal, Part, ◌>>=◌}
 use Rattle.abc_base.specs.Numbers.{number_bytes}
-use Rattle.abc_format.specs.Canonical.{pool_bytes, pool_count}
-use Rattle.abc_format.specs.Lists.{times, counted, pool}
-use Rattle.abc_format.specs.Numbers.{u30}
+use Rattle.abc_file_types.specs.Canonical.{pool_bytes, pool_count}
+use Rattle.abc_file_types.specs.Lists.{times, counted, pool}
+use Rattle.abc_file_types.specs.Numbers.{u30}
 use Rattle.abc_varint.specs.View.{View}
 use Rattle.abc_varint.specs.Passes.{Passes, Rewrites, nothing}
 use Rattle.abc_varint.specs.Reads.{Reads, Fails, IsInput, stand}

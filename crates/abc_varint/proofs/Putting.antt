@@ -4,7 +4,7 @@ use Rattle.std.specs.declared.result.Result.{Result}
 use Rattle.std.proofs.lemmas.List.{take_all, take_at, take-append-drop}
 use Rattle.std.proofs.lemmas.Bool.{le-ltb, lt-ltb}
 use Rattle.abc_base.specs.Numbers.{groups_of, number_bytes}
-use Rattle.abc_format.specs.Canonical.{pool_count}
+use Rattle.abc_file_types.specs.Canonical.{pool_count}
 use Rattle.abc_varint.specs.Puts.{Puts, PutsWhole}
 
 -- ---- what stands before

@@ -2,8 +2,8 @@
 use Rattle.std.proofs.Common.{◌≡◌, ℕ, zero, suc, ◌+◌, ◌-◌, ◌*◌, ◌/◌, ◌%◌, ◌^◌, ◌<◌, ◌≤◌, cond, ltb, length, inl, inr, Ok, refl, subst, arith}
 use Rattle.std.proofs.lemmas.Bool.{cases_lt, le-ltb, lt-ltb}
 use Rattle.abc_base.specs.Numbers.{groups_of, number_bytes}
-use Rattle.abc_format.specs.Part.{At, ◌>>=◌}
-use Rattle.abc_format.specs.Numbers.{u8, groups}
+use Rattle.abc_file_types.specs.Part.{At, ◌>>=◌}
+use Rattle.abc_file_types.specs.Numbers.{u8, groups}
 
 pub groups_step : (k start : ℕ) (from : At) → 0 < k
     → groups k start from ≡ u8.reads from >>= λ x. cond (ltb x.0 128) (Ok x) (groups (k - 1) start x.1 >>= λ y. Ok (x.0 % 128 + 128 * y.0, y.1))

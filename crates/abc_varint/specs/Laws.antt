@@ -1,8 +1,8 @@
 -- What holds of each form of number.
 use Rattle.std.specs.Prelude.{ℕ, List}
-use Rattle.abc_format.specs.Canonical.{IsCanonical}
-use Rattle.abc_format.specs.Law.{IsDetermined}
-use Rattle.abc_format.specs.Part.{Part}
+use Rattle.abc_file_types.specs.Canonical.{IsCanonical}
+use Rattle.abc_file_types.specs.Law.{IsDetermined}
+use Rattle.abc_file_types.specs.Part.{Part}
 
 -- Bytes begin with one in exactly one way or are refused, and these bytes are its shortest spelling.
 pub record IsNumberForm {A : Type 0} (part : Part A) (canonical : A → List ℕ) : Type 0 where

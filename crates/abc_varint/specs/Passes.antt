@@ -2,7 +2,7 @@
 use Rattle.std.specs.Prelude.{◌≡◌, ◌≤◌, ℕ, List, ◌++◌, Some, None, Ok, Err}
 use Rattle.std.specs.declared.result.Result.{Result}
 use Rattle.std.specs.declared.option.Option.{Option}
-use Rattle.abc_format.specs.Part.{Part, At}
+use Rattle.abc_file_types.specs.Part.{Part, At}
 use Rattle.abc_varint.specs.Reads.{Blames, Fails, IsInput, Keeps, known, stand}
 use Rattle.abc_varint.specs.View.{View}
 use Rattle.abc_varint.specs.declared.error.ReadError.{ReadError}

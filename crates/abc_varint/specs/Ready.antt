@@ -1,7 +1,7 @@
 -- Bytes that are read straight from those that a window holds.
 use Rattle.std.specs.Prelude.{◌≡◌, ℕ, ◌+◌, ◌<◌, ◌≤◌, None, length, take}
 use Rattle.abc_base.specs.Numbers.{SpellsNumber}
-use Rattle.abc_format.specs.Part.{limit}
+use Rattle.abc_file_types.specs.Part.{limit}
 use Rattle.abc_varint.specs.View.{View, held, onward}
 
 -- so many bytes are held, each before the end and within the longest file, and no Err is kept

@@ -2,9 +2,9 @@
 use Rattle.std.specs.Prelude.{◌≡◌, ℕ, ◌+◌, ◌<◌, ◌≤◌, ◌⊎◌, List, [], ◌∷◌, ◌++◌, Ok, Err, Some, None, drop, length, take}
 use Rattle.std.specs.declared.result.Result.{Result}
 use Rattle.std.specs.declared.option.Option.{Option}
-use Rattle.abc_format.specs.declared.reason.Reason.{Reason}
-use Rattle.abc_format.specs.declared.reason.Reason.TheVariants as reasons
-use Rattle.abc_format.specs.Part.{limit}
+use Rattle.abc_file_types.specs.declared.reason.Reason.{Reason}
+use Rattle.abc_file_types.specs.declared.reason.Reason.TheVariants as reasons
+use Rattle.abc_file_types.specs.Part.{limit}
 use Rattle.abc_varint.specs.declared.error.ReadError.{ReadError}
 use Rattle.abc_varint.specs.declared.error.ReadError.TheVariants as errors
 

@@ -1,9 +1,9 @@
 ghost use Rattle.std.specs.Prelude.{◌≡◌, ◌≤◌, ◌<◌, ◌^◌, ℕ, IfOk, List, [], ◌∷◌, length, None, Some, Err};
 ghost use Rattle.std.specs.List.{flat_map};
 ghost use Rattle.abc_base.specs.Numbers.{number_bytes};
-ghost use Rattle.abc_format.specs.Canonical.{counted_bytes, pool_bytes, pool_count as count_of};
-ghost use Rattle.abc_format.specs.Lists.{times, counted, pool};
-ghost use Rattle.abc_format.specs.Part.{Part};
+ghost use Rattle.abc_file_types.specs.Canonical.{counted_bytes, pool_bytes, pool_count as count_of};
+ghost use Rattle.abc_file_types.specs.Lists.{times, counted, pool};
+ghost use Rattle.abc_file_types.specs.Part.{Part};
 ghost use Rattle.abc_varint.specs.Passes.{PassesPart, nothing};
 ghost use Rattle.abc_varint.specs.Puts.{Puts};
 ghost use Rattle.abc_varint.specs.Reads.{Reads, ReadsPart};
@@ -82,7 +82,7 @@ pub fn read_times<C: Codec, S: Source>(
 }
 
 /// Reads a count below 2^30, as `read_u30` does, and that many items, as `read_times` does.
-#[tactic(auto, unfolding(abc_format::specs::Lists::counted))]
+#[tactic(auto, unfolding(abc_file_types::specs::Lists::counted))]
 pub fn read_counted<C: Codec, S: Source>(
     codec: &C,
     alloc: Global,
@@ -99,7 +99,7 @@ pub fn read_counted<C: Codec, S: Source>(
 
 /// Reads a pool, whose entry 0 is not spelled: a count below 2^30, as `read_u30` does, and one item less than that, or
 /// none at the count 0, as `read_times` does.
-#[tactic(auto, unfolding(abc_format::specs::Lists::pool))]
+#[tactic(auto, unfolding(abc_file_types::specs::Lists::pool))]
 pub fn read_pool<C: Codec, S: Source>(
     codec: &C,
     alloc: Global,
@@ -126,7 +126,7 @@ pub fn put_items<C: Codec>(items: &Table<C::Item>, out: &mut Vec<u8>) -> Result<
 }
 
 /// Appends how many items there are, and the items. Where memory runs out, the old bytes are still the front.
-#[tactic(auto, unfolding(abc_format::specs::Canonical::counted_bytes), using(crate::proofs::Putting::stays, std::proofs::Common::append_assoc))]
+#[tactic(auto, unfolding(abc_file_types::specs::Canonical::counted_bytes), using(crate::proofs::Putting::stays, std::proofs::Common::append_assoc))]
 pub fn put_counted<C: Codec>(items: &Table<C::Item>, out: &mut Vec<u8>) -> Result<(), NoMemory>
     ensures { Puts out.old.items out.new.items result (counted_bytes C.canonical items.now) }
 {
@@ -137,7 +137,7 @@ pub fn put_counted<C: Codec>(items: &Table<C::Item>, out: &mut Vec<u8>) -> Resul
 
 /// Appends a pool: how many items there are and one more for entry 0, or 0 where there are none, and the items. Where
 /// memory runs out, the old bytes are still the front.
-#[tactic(auto, unfolding(abc_format::specs::Canonical::pool_bytes), using(crate::proofs::Putting::stays, std::proofs::Common::append_assoc))]
+#[tactic(auto, unfolding(abc_file_types::specs::Canonical::pool_bytes), using(crate::proofs::Putting::stays, std::proofs::Common::append_assoc))]
 pub fn put_pool<C: Codec>(items: &Table<C::Item>, out: &mut Vec<u8>) -> Result<(), NoMemory>
     ensures { Puts out.old.items out.new.items result (pool_bytes C.canonical items.now) }
 {

@@ -2,7 +2,7 @@ ghost use Rattle.std.specs.Prelude.{◌≡◌};
 ghost use Rattle.abc_varint.specs.declared.error.ReadError.TheVariants as errors;
 
 use abc_base::NoMemory;
-use abc_format::Reason;
+use abc_file_types::Reason;
 use std::alloc::{AllocError, AllocFailed};
 use thiserror::Error;
 

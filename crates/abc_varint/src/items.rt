@@ -1,7 +1,7 @@
 ghost use Rattle.abc_base.specs.Numbers.{number_bytes};
-ghost use Rattle.abc_format.specs.Canonical.{s32_bytes, text_bytes as bytes_of};
-ghost use Rattle.abc_format.specs.Lists.{text};
-ghost use Rattle.abc_format.specs.Numbers.{u32 as wide, s32 as signed, index_below as below, pool_index as in_pool, entry_index as of_entry};
+ghost use Rattle.abc_file_types.specs.Canonical.{s32_bytes, text_bytes as bytes_of};
+ghost use Rattle.abc_file_types.specs.Lists.{text};
+ghost use Rattle.abc_file_types.specs.Numbers.{u32 as wide, s32 as signed, index_below as below, pool_index as in_pool, entry_index as of_entry};
 
 use crate::codec::Codec;
 use crate::error::ReadError;

@@ -1,8 +1,8 @@
 ghost use Rattle.std.specs.Prelude.{◌≡◌, ◌↔◌, ◌∷◌, [], ◌%◌, ◌^◌, List, ℕ, ℤ};
 ghost use Rattle.std.specs.Int.{cast_signed, w32};
 ghost use Rattle.abc_base.specs.Numbers.{SpellsNumber, SpellsU30, SpellsU32, number_bytes};
-ghost use Rattle.abc_format.specs.Canonical.{s24_bytes, s32_bytes, u16_bytes};
-ghost use Rattle.abc_format.specs.Numbers.{u8 as octet, u16 as two_bytes, u30 as small, u32 as wide, s24 as offset, s32 as signed};
+ghost use Rattle.abc_file_types.specs.Canonical.{s24_bytes, s32_bytes, u16_bytes};
+ghost use Rattle.abc_file_types.specs.Numbers.{u8 as octet, u16 as two_bytes, u30 as small, u32 as wide, s24 as offset, s32 as signed};
 ghost use Rattle.abc_varint.specs.Laws.{IsNumberForm};
 
 /// What the reads and the puts of numbers stand on. A number is spelled by one to five bytes, and its raw value is the

@@ -14,7 +14,7 @@ mod text;
 mod window;
 
 pub use abc_base::{len_u30, len_u32};
-pub use abc_format::Reason;
+pub use abc_file_types::Reason;
 pub use codec::{
     Codec, Counted, put_counted, put_items, put_pool, read_counted, read_pool, read_times,
 };

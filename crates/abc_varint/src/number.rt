@@ -1,6 +1,6 @@
 ghost use Rattle.std.specs.Prelude.{◌≡◌, ◌≤◌, ◌<◌, ◌*◌, ◌+◌, ◌%◌, ◌^◌, Some, Err, IfOk, IfErr, OnErr, OnOk, length, take};
 ghost use Rattle.abc_base.specs.Numbers.{number_bytes, signed24};
-ghost use Rattle.abc_format.specs.Numbers.{groups, number, u16 as two_bytes, u30 as small, u32 as wide, s24 as offset, s32 as signed, index_below as below, pool_index as in_pool, entry_index as of_entry};
+ghost use Rattle.abc_file_types.specs.Numbers.{groups, number, u16 as two_bytes, u30 as small, u32 as wide, s24 as offset, s32 as signed, index_below as below, pool_index as in_pool, entry_index as of_entry};
 ghost use Rattle.abc_varint.specs.Reads.{Blames, Reads, ReadsNumber, ReadsPart};
 ghost use Rattle.abc_varint.specs.View.{IsKept, GoesOver};
 ghost use Rattle.abc_varint.specs.declared.error.ReadError.{ReadError};
@@ -8,7 +8,7 @@ ghost use Rattle.abc_varint.specs.declared.error.ReadError.{ReadError};
 use crate::error::ReadError;
 use crate::window::Window;
 use abc_base::Source;
-use abc_format::Reason;
+use abc_file_types::Reason;
 
 /// At most `more` further bytes of a number that began at `start`.
 #[tactic(auto, using(crate::proofs::Steps::groups_step, crate::proofs::Steps::bound_step, crate::proofs::Steps::bound_one, abc_base::proofs::Spelling::length_1))]
@@ -74,7 +74,7 @@ fn slow_number<S: Source>(w: &mut Window, source: &mut S) -> Result<u64, ReadErr
 
 /// A number below 2^30.
 #[inline(always)]
-#[tactic(auto, unfolding(abc_format::specs::Numbers::u30))]
+#[tactic(auto, unfolding(abc_file_types::specs::Numbers::u30))]
 pub fn next_u30<S: Source>(w: &mut Window, source: &mut S) -> Result<u32, ReadError>
     ensures value { ReadsNumber S.left S.faults small w.old source.old w.new source.new result }
     ensures bound { IfOk result (λ x. x < 2 ^ 30) }
@@ -92,7 +92,7 @@ pub fn next_u30<S: Source>(w: &mut Window, source: &mut S) -> Result<u32, ReadEr
 
 /// The low 32 bits of a raw value.
 #[inline(always)]
-#[tactic(auto, unfolding(abc_format::specs::Numbers::u32), using(abc_base::proofs::Spelling::number_grows))]
+#[tactic(auto, unfolding(abc_file_types::specs::Numbers::u32), using(abc_base::proofs::Spelling::number_grows))]
 pub fn next_u32<S: Source>(w: &mut Window, source: &mut S) -> Result<u32, ReadError>
     ensures value { ReadsNumber S.left S.faults wide w.old source.old w.new source.new result }
     ensures rises { OnOk result (w.old.place < w.new.place) }
@@ -105,7 +105,7 @@ pub fn next_u32<S: Source>(w: &mut Window, source: &mut S) -> Result<u32, ReadEr
 
 /// The low 32 bits of a raw value, in two's complement.
 #[inline(always)]
-#[tactic(auto, unfolding(abc_format::specs::Numbers::s32))]
+#[tactic(auto, unfolding(abc_file_types::specs::Numbers::s32))]
 pub fn next_s32<S: Source>(w: &mut Window, source: &mut S) -> Result<i32, ReadError>
     ensures value { ReadsNumber S.left S.faults signed w.old source.old w.new source.new result }
     ensures rises { OnOk result (w.old.place < w.new.place) }
@@ -117,7 +117,7 @@ pub fn next_s32<S: Source>(w: &mut Window, source: &mut S) -> Result<i32, ReadEr
 
 /// Two bytes, the low one first.
 #[inline(always)]
-#[tactic(auto, unfolding(abc_format::specs::Numbers::u16))]
+#[tactic(auto, unfolding(abc_file_types::specs::Numbers::u16))]
 pub fn next_u16<S: Source>(w: &mut Window, source: &mut S) -> Result<u16, ReadError>
     ensures value { ReadsNumber S.left S.faults two_bytes w.old source.old w.new source.new result }
     ensures moves { OnOk result (w.new.place ≡ w.old.place + 2) }
@@ -151,7 +151,7 @@ pub fn front_s24(bytes: &[u8]) -> i32
 }
 
 /// Three bytes, the low one first, in two's complement.
-#[tactic(auto, unfolding(abc_format::specs::Numbers::s24))]
+#[tactic(auto, unfolding(abc_file_types::specs::Numbers::s24))]
 pub fn next_s24<S: Source>(w: &mut Window, source: &mut S) -> Result<i32, ReadError>
     ensures value { ReadsNumber S.left S.faults offset w.old source.old w.new source.new result }
     ensures moves { OnOk result (w.new.place ≡ w.old.place + 3) }
@@ -166,7 +166,7 @@ pub fn next_s24<S: Source>(w: &mut Window, source: &mut S) -> Result<i32, ReadEr
 
 /// A position in a table of n entries.
 #[inline(always)]
-#[tactic(auto, unfolding(abc_format::specs::Numbers::index_below))]
+#[tactic(auto, unfolding(abc_file_types::specs::Numbers::index_below))]
 pub fn next_index_below<S: Source>(w: &mut Window, source: &mut S, n: u32) -> Result<u32, ReadError>
     ensures value { ReadsPart S.left S.faults (below n) w.old source.old w.new source.new result }
     ensures no_memory { result ≡ Err ReadError.NoMemory → ⊥ }
@@ -186,7 +186,7 @@ pub fn next_index_below<S: Source>(w: &mut Window, source: &mut S, n: u32) -> Re
 
 /// An index into a pool of n entries, or 0.
 #[inline(always)]
-#[tactic(auto, unfolding(abc_format::specs::Numbers::pool_index))]
+#[tactic(auto, unfolding(abc_file_types::specs::Numbers::pool_index))]
 pub fn next_pool_index<S: Source>(w: &mut Window, source: &mut S, n: u32) -> Result<u32, ReadError>
     ensures value { ReadsPart S.left S.faults (in_pool n) w.old source.old w.new source.new result }
     ensures no_memory { result ≡ Err ReadError.NoMemory → ⊥ }
@@ -206,7 +206,7 @@ pub fn next_pool_index<S: Source>(w: &mut Window, source: &mut S, n: u32) -> Res
 
 /// An index into a pool of n entries, not 0.
 #[inline(always)]
-#[tactic(auto, unfolding(abc_format::specs::Numbers::entry_index))]
+#[tactic(auto, unfolding(abc_file_types::specs::Numbers::entry_index))]
 pub fn next_entry_index<S: Source>(w: &mut Window, source: &mut S, n: u32) -> Result<u32, ReadError>
     ensures value { ReadsPart S.left S.faults (of_entry n) w.old source.old w.new source.new result }
     ensures no_memory { result ≡ Err ReadError.NoMemory → ⊥ }

@@ -1,8 +1,8 @@
 ghost use Rattle.std.specs.Prelude.{◌≡◌, ◌≤◌, ◌<◌, ◌^◌, IfOk, List, [], ◌∷◌, length, None, Some, Err, nat_eq, if◌then◌else◌};
 ghost use Rattle.std.specs.List.{flat_map};
 ghost use Rattle.abc_base.specs.Numbers.{number_bytes};
-ghost use Rattle.abc_format.specs.Canonical.{counted_bytes, pool_bytes};
-ghost use Rattle.abc_format.specs.Lists.{times, counted, pool};
+ghost use Rattle.abc_file_types.specs.Canonical.{counted_bytes, pool_bytes};
+ghost use Rattle.abc_file_types.specs.Lists.{times, counted, pool};
 ghost use Rattle.abc_varint.specs.Passes.{Passes, PassesPart, nothing};
 ghost use Rattle.abc_varint.specs.Reads.{Reads, ReadsPart};
 
@@ -35,7 +35,7 @@ pub fn pass_times<C: Codec, S: Source>(
 
 /// Reads a count below 2^30 and that many items, and appends their canonical bytes, as `pass_times` does. Gives how many
 /// there are.
-#[tactic(auto, unfolding(abc_format::specs::Lists::counted, abc_format::specs::Canonical::counted_bytes), using(crate::proofs::Passing::times_count, std::proofs::Common::append_assoc))]
+#[tactic(auto, unfolding(abc_file_types::specs::Lists::counted, abc_file_types::specs::Canonical::counted_bytes), using(crate::proofs::Passing::times_count, std::proofs::Common::append_assoc))]
 pub fn pass_counted<C: Codec, S: Source>(
     codec: &C,
     alloc: Global,
@@ -61,7 +61,7 @@ fn shortest_count(count: u32) -> u32
 
 /// Reads a pool, whose entry 0 is not spelled, and appends its canonical bytes, as `pass_times` does. Gives how many
 /// entries there are.
-#[tactic(auto, unfolding(abc_format::specs::Lists::pool, abc_format::specs::Canonical::pool_bytes), using(crate::proofs::Passing::times_count, crate::proofs::Passing::shortest_count, std::proofs::Common::append_assoc))]
+#[tactic(auto, unfolding(abc_file_types::specs::Lists::pool, abc_file_types::specs::Canonical::pool_bytes), using(crate::proofs::Passing::times_count, crate::proofs::Passing::shortest_count, std::proofs::Common::append_assoc))]
 pub fn pass_pool<C: Codec, S: Source>(
     codec: &C,
     alloc: Global,

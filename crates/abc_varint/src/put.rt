@@ -1,6 +1,6 @@
 ghost use Rattle.std.specs.Prelude.{◌≡◌, ◌≤◌, ◌<◌, ◌+◌, ◌%◌, ◌^◌, ◌∷◌, []};
 ghost use Rattle.abc_base.specs.Numbers.{number_bytes};
-ghost use Rattle.abc_format.specs.Canonical.{FitsS24, low24, s24_bytes, s32_bytes, text_bytes, u16_bytes};
+ghost use Rattle.abc_file_types.specs.Canonical.{FitsS24, low24, s24_bytes, s32_bytes, text_bytes, u16_bytes};
 ghost use Rattle.abc_varint.specs.Puts.{Puts, PutsWhole};
 
 use abc_base::{Bytes, NoMemory};
@@ -18,7 +18,7 @@ pub fn put_u8(v: u8, out: &mut Vec<u8>) -> Result<(), NoMemory>
 
 /// Appends two bytes, the low one first.
 #[inline(always)]
-#[tactic(auto, unfolding(abc_format::specs::Canonical::u16_bytes))]
+#[tactic(auto, unfolding(abc_file_types::specs::Canonical::u16_bytes))]
 pub fn put_u16(v: u16, out: &mut Vec<u8>) -> Result<(), NoMemory>
     ensures { PutsWhole out.old.items out.new.items result (u16_bytes v) }
 {
@@ -44,7 +44,7 @@ pub fn put_u32(v: u32, out: &mut Vec<u8>) -> Result<(), NoMemory>
 
 /// Appends a number as its 32 bits in two's complement, in as few bytes as they need, one to five.
 #[inline(always)]
-#[tactic(auto, unfolding(abc_format::specs::Canonical::s32_bytes))]
+#[tactic(auto, unfolding(abc_file_types::specs::Canonical::s32_bytes))]
 pub fn put_s32(v: i32, out: &mut Vec<u8>) -> Result<(), NoMemory>
     ensures { PutsWhole out.old.items out.new.items result (s32_bytes v) }
 {
@@ -52,7 +52,7 @@ pub fn put_s32(v: i32, out: &mut Vec<u8>) -> Result<(), NoMemory>
 }
 
 /// Appends a number from -2^23 to 2^23 - 1 as three bytes in two's complement, the low one first.
-#[tactic(auto, unfolding(abc_format::specs::Canonical::s24_bytes))]
+#[tactic(auto, unfolding(abc_file_types::specs::Canonical::s24_bytes))]
 pub fn put_s24(v: i32, out: &mut Vec<u8>) -> Result<(), NoMemory>
     requires { FitsS24 v }
     ensures { PutsWhole out.old.items out.new.items result (s24_bytes v) }
@@ -77,7 +77,7 @@ pub fn put_count(n: usize, out: &mut Vec<u8>) -> Result<(), NoMemory>
 
 /// Appends a text: the number of its bytes, and the bytes. Where memory runs out, the old bytes are still the front.
 #[inline(always)]
-#[tactic(auto, unfolding(abc_format::specs::Canonical::text_bytes), using(crate::proofs::Putting::stays, std::proofs::Common::append_assoc))]
+#[tactic(auto, unfolding(abc_file_types::specs::Canonical::text_bytes), using(crate::proofs::Putting::stays, std::proofs::Common::append_assoc))]
 pub fn put_text(bytes: &Bytes, out: &mut Vec<u8>) -> Result<(), NoMemory>
     ensures { Puts out.old.items out.new.items result (text_bytes bytes.now) }
 {

@@ -1,7 +1,7 @@
 ghost use Rattle.std.specs.Prelude.{◌≡◌, ◌≤◌, ◌<◌, ◌^◌, IfOk, length, None};
-ghost use Rattle.abc_format.specs.Canonical.{text_bytes};
-ghost use Rattle.abc_format.specs.Lists.{text, times};
-ghost use Rattle.abc_format.specs.Numbers.{u8 as octet};
+ghost use Rattle.abc_file_types.specs.Canonical.{text_bytes};
+ghost use Rattle.abc_file_types.specs.Lists.{text, times};
+ghost use Rattle.abc_file_types.specs.Numbers.{u8 as octet};
 ghost use Rattle.abc_varint.specs.Passes.{PassesPart, nothing};
 ghost use Rattle.abc_varint.specs.Reads.{ReadsPart};
 
@@ -58,7 +58,7 @@ fn gather_bytes<S: Source>(
 
 /// Reads a text: a count below 2^30, as `read_u30` does, and that many bytes, as `read_bytes` does. They need not be
 /// UTF-8.
-#[tactic(auto, unfolding(abc_format::specs::Lists::text, abc_format::specs::Lists::counted))]
+#[tactic(auto, unfolding(abc_file_types::specs::Lists::text, abc_file_types::specs::Lists::counted))]
 pub fn read_text<S: Source>(
     alloc: Global,
     w: &mut Window,
@@ -96,7 +96,7 @@ fn pass_bytes<S: Source>(
 }
 
 /// Reads a text, as `read_text` does, and appends its canonical bytes. Gives the number of its bytes.
-#[tactic(auto, unfolding(abc_format::specs::Lists::text, abc_format::specs::Lists::counted, abc_format::specs::Canonical::text_bytes))]
+#[tactic(auto, unfolding(abc_file_types::specs::Lists::text, abc_file_types::specs::Lists::counted, abc_file_types::specs::Canonical::text_bytes))]
 pub fn pass_text<S: Source>(
     alloc: Global,
     w: &mut Window,

@@ -4,7 +4,7 @@ ghost use Rattle.std.specs.List.{AllByRecursion};
 ghost use Rattle.std.specs.Io.KnownBytes.{ReadConsumes};
 ghost use Rattle.abc_base.specs.Faults.{HasCause, Rose};
 ghost use Rattle.abc_base.specs.Numbers.{SpellsNumber};
-ghost use Rattle.abc_format.specs.Numbers.{u8 as octet};
+ghost use Rattle.abc_file_types.specs.Numbers.{u8 as octet};
 ghost use Rattle.abc_varint.specs.View.{IsKept, NextOf, held, kept_of, onward};
 ghost use Rattle.abc_varint.specs.declared.error.ReadError.{ReadError};
 ghost use Rattle.abc_varint.specs.Reads.{Blames, IsInput, Keeps, Reads, known, stand, told};
@@ -13,7 +13,7 @@ ghost use Rattle.abc_varint.specs.Ready.{IsReady, TakesNumber};
 use crate::error::ReadError;
 use crate::taken::Taken;
 use abc_base::{Bytes, Failed, NoMemory, Source};
-use abc_format::Reason;
+use abc_file_types::Reason;
 use std::alloc::Global;
 use std::marker::Model;
 

@@ -1,2 +1,9 @@
+pub mod Asking
+pub mod Loops
+pub mod Stepping
+pub mod Plain
+pub mod Kept
 pub mod Methods
 pub mod Shortness
+pub mod Single
+pub mod Verifying

@@ -2,27 +2,27 @@
 use Rattle.std.proofs.Common.{◌≡◌, ℕ, zero, suc, ◌+◌, ◌<◌, List, [], ◌∷◌, Some, None, true, length, map, get_or, nat_eq, refl, sym, ap, ◌∙◌, subst, arith, inl, inr, eq-eqb, eqb-true, below_more}
 use Rattle.std.proofs.lemmas.Bool.{cases_lt}
 use Rattle.std.proofs.lemmas.List.{length-map}
-use Rattle.abc_fits.proofs.BodiesFit.{bodies_fit, methods_below}
-use Rattle.abc_fits.proofs.FileFits.{file_fits, tables_fit}
-use Rattle.abc_flow.specs.Walking.{RefusedBy}
-use Rattle.abc_flow.specs.declared.step.Refusal.{Refusal}
-use Rattle.abc_flow.specs.declared.step.Refusal.TheVariants as flows
-use Rattle.abc_program.specs.Linked.{IsLinkedFile, LinkedFile}
-use Rattle.abc_program.specs.Owners.{body_of}
-use Rattle.abc_items.specs.Methods.{methods_with_bodies}
-use Rattle.abc_items.specs.Parts.{body_at, no_body}
-use Rattle.abc_items.proofs.Pairs.{first_found, first_hit}
-use Rattle.abc_tables.specs.Classes.{sizes_of}
-use Rattle.abc_tables.specs.Files.{Fits}
-use Rattle.abc_tables.specs.declared.code.Body.{Body}
-use Rattle.abc_tables.specs.declared.tables.Abc.{Abc}
-use Rattle.abc_typing.specs.Routines.{routine}
-use Rattle.abc_typing.specs.Typing.{HasTyping}
-use Rattle.abc_typing.proofs.Good.{good}
-use Rattle.abc_worklist.proofs.Exact.{typed_not_refuted}
-use Rattle.abc_verify.specs.Refusing.{IsRefusal, refused_of}
+use Rattle.abc_tables.proofs.BodiesFit.{bodies_fit, methods_below}
+use Rattle.abc_tables.proofs.FileFits.{file_fits, tables_fit}
+use Rattle.abc_verify_flow.specs.Walking.{RefusedBy}
+use Rattle.abc_verify_flow.specs.declared.step.Refusal.{Refusal}
+use Rattle.abc_verify_flow.specs.declared.step.Refusal.TheVariants as flows
+use Rattle.abc_link_program.specs.Linked.{IsLinkedFile, LinkedFile}
+use Rattle.abc_link_program.specs.Owners.{body_of}
+use Rattle.abc_link_names.specs.Methods.{methods_with_bodies}
+use Rattle.abc_link_names.specs.Parts.{body_at, no_body}
+use Rattle.abc_link_names.proofs.ItemsPairs.{first_found, first_hit}
+use Rattle.abc_file_types.specs.Classes.{sizes_of}
+use Rattle.abc_file_types.specs.Files.{Fits}
+use Rattle.abc_file_types.specs.declared.code.Body.{Body}
+use Rattle.abc_file_types.specs.declared.tables.Abc.{Abc}
+use Rattle.abc_verify_typing.specs.Routines.{routine}
+use Rattle.abc_verify_typing.specs.Typing.{HasTyping}
+use Rattle.abc_verify_typing.proofs.Good.{good}
+use Rattle.abc_verify_typing.proofs.Exact.{typed_not_refuted}
+use Rattle.abc_verify.specs.VerifyRefusing.{IsRefusal, refused_of}
 use Rattle.abc_verify.specs.Typed.{AllTyped, AreTyped, IsTyped, IsVerified}
-use Rattle.abc_verify.specs.declared.error.VerifyError.{VerifyError}
+use Rattle.abc_verify.specs.declared.verify_error.VerifyError.{VerifyError}
 
 -- ---- bodies
 

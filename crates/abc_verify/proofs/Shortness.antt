@@ -1,17 +1,17 @@
 -- The code of a body that some bytes spell is short.
 use Rattle.std.proofs.Common.{◌≡◌, ℕ, zero, suc, ◌^◌, ◌<◌, ◌≤◌, List, length, get_or, subst, sym, arith}
-use Rattle.abc_program.specs.Linked.{IsLinkedFile, LinkedFile}
-use Rattle.abc_items.specs.Parts.{body_at, no_body}
-use Rattle.abc_tables.specs.Bodies.{IsReadyBody}
-use Rattle.abc_tables.specs.CodeBytes.{canonical_starts}
-use Rattle.abc_tables.specs.Files.{Fits}
-use Rattle.abc_tables.specs.Starts.{IsRising}
-use Rattle.abc_tables.specs.declared.code.Body.{Body}
-use Rattle.abc_tables.specs.declared.tables.Abc.{Abc}
-use Rattle.abc_tables.proofs.BodiesShortest.{canonical_rising}
-use Rattle.abc_tables.proofs.Lengths.{canonical_count, canonical_small}
-use Rattle.abc_tables.proofs.Whole.{file_ready}
-use Rattle.abc_typing.specs.Routines.{Routine, routine}
+use Rattle.abc_link_program.specs.Linked.{IsLinkedFile, LinkedFile}
+use Rattle.abc_link_names.specs.Parts.{body_at, no_body}
+use Rattle.abc_file_types.specs.Bodies.{IsReadyBody}
+use Rattle.abc_file_types.specs.CodeBytes.{canonical_starts}
+use Rattle.abc_file_types.specs.Files.{Fits}
+use Rattle.abc_file_types.specs.Starts.{IsRising}
+use Rattle.abc_file_types.specs.declared.code.Body.{Body}
+use Rattle.abc_file_types.specs.declared.tables.Abc.{Abc}
+use Rattle.abc_file_types.proofs.BodiesShortest.{canonical_rising}
+use Rattle.abc_file_types.proofs.Lengths.{canonical_count, canonical_small}
+use Rattle.abc_file_types.proofs.Whole.{file_ready}
+use Rattle.abc_verify_typing.specs.Routines.{Routine, routine}
 
 rises : (ss : List ℕ) → IsRising ss → (i : ℕ) → i < length ss → i ≤ get_or ss i 0
 rises ss r zero h = omega arith

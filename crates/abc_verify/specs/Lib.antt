@@ -1,2 +1,6 @@
+pub mod Visits
+pub mod Asking
 pub mod Typed
-pub mod Refusing
+pub mod VerifyRefusing
+pub mod Verified
+pub mod FileRefusing

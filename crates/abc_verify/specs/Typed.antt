@@ -1,9 +1,9 @@
 -- What it is that a file is verified.
 use Rattle.std.specs.Prelude.{◌≡◌, ℕ, ◌<◌, Some, length}
-use Rattle.abc_program.specs.Linked.{LinkedFile}
-use Rattle.abc_program.specs.Owners.{body_of}
-use Rattle.abc_typing.specs.Routines.{routine}
-use Rattle.abc_typing.specs.Typing.{HasTyping}
+use Rattle.abc_link_program.specs.Linked.{LinkedFile}
+use Rattle.abc_link_program.specs.Owners.{body_of}
+use Rattle.abc_verify_typing.specs.Routines.{routine}
+use Rattle.abc_verify_typing.specs.Typing.{HasTyping}
 
 -- the body of a method, if it has one, has a typing
 abbrev pub IsTyped : LinkedFile → ℕ → Type 0

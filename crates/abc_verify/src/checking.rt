@@ -1,21 +1,20 @@
 ghost use Rattle.std.specs.Prelude.{◌≡◌, ◌<◌, ◌^◌, Some, MatchResult, length};
-ghost use Rattle.abc_frames.specs.Frames.{routine_in};
-ghost use Rattle.abc_program.specs.Linked.{IsLinkedFile};
-ghost use Rattle.abc_program.specs.Owners.{body_of as body_of_method};
-ghost use Rattle.abc_typing.specs.Routines.{routine};
-ghost use Rattle.abc_typing.specs.Typing.{HasTyping};
-ghost use Rattle.abc_flow.specs.Walking.{RefusedBy};
-ghost use Rattle.abc_verify.specs.Refusing.{IsRefusal, refused_of};
+ghost use Rattle.abc_verify_states.specs.Frames.{routine_in};
+ghost use Rattle.abc_link_program.specs.Linked.{IsLinkedFile};
+ghost use Rattle.abc_link_program.specs.Owners.{body_of as body_of_method};
+ghost use Rattle.abc_verify_typing.specs.Routines.{routine};
+ghost use Rattle.abc_verify_typing.specs.Typing.{HasTyping};
+ghost use Rattle.abc_verify_flow.specs.Walking.{RefusedBy};
+ghost use Rattle.abc_verify.specs.VerifyRefusing.{IsRefusal, refused_of};
 ghost use Rattle.abc_verify.specs.Typed.{AllTyped, AreTyped, IsTyped, IsVerified};
 
 use crate::checked::Verified;
-use crate::error::VerifyError;
 use crate::flowing::Flowing;
+use crate::verify_error::VerifyError;
 use abc_base::release;
-use abc_flow::{Memory, Refusal, check_flow};
-use abc_frames::{Frame, frame_of};
-use abc_heads::heads_of;
 use abc_link::Linked;
+use abc_verify_flow::{Memory, Refusal, check_flow};
+use abc_verify_states::{Frame, frame_of, heads_of};
 use std::alloc::Global;
 
 /// Verifies a body with its method.

@@ -1,13 +1,13 @@
+use crate::rules::broken_early_at;
+use crate::step::advance_at;
 use abc_base::{NoMemory, Table};
-use abc_flow::{Cover, Flow, Merged, Trial};
-use abc_frames::{Frame, entry_of};
+use abc_file_types::Instr;
 use abc_kinds::join;
 use abc_link::Linked;
-use abc_merging::merge;
-use abc_program::Kind;
-use abc_tables::Instr;
-use abc_typing::{Catch, State, VerifyRule};
-use abc_visits::{advance_at, broken_early_at};
+use abc_link_program::Kind;
+use abc_verify_flow::{Cover, Flow, Merged, Trial};
+use abc_verify_states::{Frame, entry_of, merge};
+use abc_verify_typing::{Catch, State, VerifyRule};
 use std::alloc::Global;
 
 /// A method with its body, and the places where walks begin.
@@ -20,7 +20,7 @@ pub(crate) struct Flowing<'a> {
 }
 
 impl Flow for Flowing<'_> {
-    ghost use Rattle.abc_frames.specs.Frames.{routine_in};
+    ghost use Rattle.abc_verify_states.specs.Frames.{routine_in};
 
     ghost file = { λ f. f.linked.now };
 

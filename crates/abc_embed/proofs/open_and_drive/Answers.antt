@@ -1,6 +1,6 @@
 use Rattle.std.proofs.Common.{ap}
 use Rattle.abc_session.proofs.Staying.{opened_beside}
-use Rattle.abc_session.specs.Machines.{Opened}
+use Rattle.abc_machine.specs.Machines.{Opened}
 use Rattle.abc_embed.proofs.open_and_drive.Goals as goal
 
 pub drive-driven-requires : goal.drive-driven-requires

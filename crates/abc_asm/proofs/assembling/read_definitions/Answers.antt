@@ -1,13 +1,13 @@
 -- One part after the other, each of which may have a fault.
 use Rattle.std.proofs.Common.{List, refl}
 use Rattle.std.proofs.lemmas.Result.{err_from_is_err_and}
-use Rattle.abc_tables.specs.declared.classes.ClassInfo.{ClassInfo}
-use Rattle.abc_tables.specs.declared.classes.Instance.{Instance}
-use Rattle.abc_tables.specs.declared.classes.Script.{Script}
-use Rattle.abc_tables.specs.declared.code.Body.{Body}
-use Rattle.abc_tables.specs.declared.methods.Metadata.{Metadata}
-use Rattle.abc_asmreader.specs.Parts.{Part, pair_of}
-use Rattle.abc_asmreader.proofs.Pairs.{mapped_err, mapped_ok, pair_first, pair_ok, pair_second}
+use Rattle.abc_file_types.specs.declared.classes.ClassInfo.{ClassInfo}
+use Rattle.abc_file_types.specs.declared.classes.Instance.{Instance}
+use Rattle.abc_file_types.specs.declared.classes.Script.{Script}
+use Rattle.abc_file_types.specs.declared.code.Body.{Body}
+use Rattle.abc_file_types.specs.declared.methods.Metadata.{Metadata}
+use Rattle.abc_text_reader.specs.Parts.{Part, pair_of}
+use Rattle.abc_text_reader.proofs.Pairs.{mapped_err, mapped_ok, pair_first, pair_ok, pair_second}
 use Rattle.abc_asm.specs.Whole.{bodies_read, classes_read, definitions_made, instances_read, metadata_read, methods_read, scripts_read}
 use Rattle.abc_asm.proofs.assembling.read_definitions.Goals as goal
 

@@ -1,8 +1,8 @@
 -- One part after the other, each of which may have a fault.
 use Rattle.std.proofs.Common.{refl}
 use Rattle.std.proofs.lemmas.Result.{err_from_is_err_and}
-use Rattle.abc_asmreader.specs.Parts.{pair_of}
-use Rattle.abc_asmreader.proofs.Pairs.{mapped_err, mapped_ok, pair_first, pair_ok, pair_second}
+use Rattle.abc_text_reader.specs.Parts.{pair_of}
+use Rattle.abc_text_reader.proofs.Pairs.{mapped_err, mapped_ok, pair_first, pair_ok, pair_second}
 use Rattle.abc_asm.specs.Whole.{abc_of, definitions_read, pools_read}
 use Rattle.abc_asm.proofs.assembling.read_file.Goals as goal
 

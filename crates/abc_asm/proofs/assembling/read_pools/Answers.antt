@@ -1,11 +1,11 @@
 -- One part after the other, each of which may have a fault.
 use Rattle.std.proofs.Common.{ℕ, List, refl}
 use Rattle.std.proofs.lemmas.Result.{err_from_is_err_and}
-use Rattle.abc_tables.specs.declared.names.Multiname.{Multiname}
-use Rattle.abc_tables.specs.declared.names.Namespace.{Namespace}
-use Rattle.abc_tables.specs.declared.tables.Eight.{Eight}
-use Rattle.abc_asmreader.specs.Parts.{Part, pair_of}
-use Rattle.abc_asmreader.proofs.Pairs.{mapped_err, mapped_ok, pair_first, pair_ok, pair_second}
+use Rattle.abc_file_types.specs.declared.names.Multiname.{Multiname}
+use Rattle.abc_file_types.specs.declared.names.Namespace.{Namespace}
+use Rattle.abc_file_types.specs.declared.tables.Eight.{Eight}
+use Rattle.abc_text_reader.specs.Parts.{Part, pair_of}
+use Rattle.abc_text_reader.proofs.Pairs.{mapped_err, mapped_ok, pair_first, pair_ok, pair_second}
 use Rattle.abc_asm.specs.Whole.{doubles_read, ints_read, names_read, namespaces_read, pools_made, sets_read, strings_read, uints_read}
 use Rattle.abc_asm.proofs.assembling.read_pools.Goals as goal
 

@@ -2,7 +2,7 @@
 use Rattle.std.proofs.Common.{sym, subst, ◌∙◌, arith}
 use Rattle.std.specs.Option.{IsSome}
 use Rattle.std.specs.declared.option.Option.{Option}
-use Rattle.abc_text.specs.declared.word.Word.{Word}
+use Rattle.abc_text_lines.specs.declared.word.Word.{Word}
 use Rattle.std.proofs.lemmas.Result.{err_from_is_err_and}
 use Rattle.abc_asm.proofs.Together.{file_fault, fine, is_left, long, more_fault, none_is_left, version_fault}
 use Rattle.abc_asm.proofs.assembling.read_text.Goals as goal

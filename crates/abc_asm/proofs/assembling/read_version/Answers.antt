@@ -1,7 +1,7 @@
 -- No line, another line, a broken one, a good one or a bad one.
 use Rattle.std.proofs.Common.{◌≡◌, sym, ◌∙◌}
 use Rattle.std.proofs.lemmas.Result.{err_from_is_err_and}
-use Rattle.abc_text.specs.Words.{place_of}
+use Rattle.abc_text_lines.specs.Words.{place_of}
 use Rattle.abc_asm.proofs.Begun.{broken_version, no_lines, other_line, taken_is, version_bad, version_read}
 use Rattle.abc_asm.proofs.assembling.read_version.Goals as goal
 

@@ -1,6 +1,6 @@
 use Rattle.std.proofs.Common.{arith}
 use Rattle.std.specs.List.{flat_map}
-use Rattle.abc_format.specs.Canonical.{counted_bytes}
+use Rattle.abc_file_types.specs.Canonical.{counted_bytes}
 use Rattle.abc_instr.specs.Marks.{mark_at}
 use Rattle.abc_bodies.specs.Moved.{moved_bytes, moved_handler}
 use Rattle.abc_varint.proofs.Passing.{counted_passes}

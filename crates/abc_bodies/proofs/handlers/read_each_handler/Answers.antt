@@ -1,7 +1,7 @@
 use Rattle.std.proofs.Common.{◌∙◌, arith, length, ◌-◌, ◌+◌}
 use Rattle.std.proofs.lemmas.List.Elements.{All-push}
 use Rattle.std.proofs.lemmas.Result.{err_from_is_err_and}
-use Rattle.abc_tables.specs.Bodies.{handler, IsWithin}
+use Rattle.abc_file_types.specs.Bodies.{handler, IsWithin}
 use Rattle.abc_varint.specs.declared.error.ReadError.TheVariants as errors
 use Rattle.abc_varint.proofs.Loop.{goes_on, ends, other_err}
 use Rattle.abc_bodies.proofs.handlers.read_each_handler.Goals as goal

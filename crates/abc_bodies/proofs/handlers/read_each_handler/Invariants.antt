@@ -1,6 +1,6 @@
 use Rattle.std.proofs.Common.{◌≤◌, ◌-◌, length}
 use Rattle.std.specs.Prelude.{All}
-use Rattle.abc_tables.specs.Bodies.{handler, IsWithin}
+use Rattle.abc_file_types.specs.Bodies.{handler, IsWithin}
 use Rattle.abc_varint.proofs.Loop.{Going}
 use Rattle.abc_bodies.proofs.handlers.read_each_handler.Given as goal
 

@@ -1,7 +1,7 @@
-use Rattle.abc_format.proofs.Determined.{determined}
-use Rattle.abc_tables.proofs.BodiesExact.{bodies-exact}
-use Rattle.abc_tables.proofs.BodiesReady.{bodies_ready}
-use Rattle.abc_tables.proofs.BodiesShortest.{bodies_alone-canonical}
+use Rattle.abc_file_types.proofs.Determined.{determined}
+use Rattle.abc_file_types.proofs.BodiesExact.{bodies-exact}
+use Rattle.abc_file_types.proofs.BodiesReady.{bodies_ready}
+use Rattle.abc_file_types.proofs.BodiesShortest.{bodies_alone-canonical}
 use Rattle.abc_bodies.proofs.laws.bodies_law.Goals as goal
 
 pub returns-clause-determined : goal.returns-clause-determined

@@ -2,9 +2,9 @@ use Rattle.std.proofs.Common.{arith, append_assoc, refl, ◌∙◌}
 use Rattle.std.proofs.Common.{◌≡◌, ℕ, List, length, sym}
 use Rattle.std.proofs.lemmas.List.Folds.{flat_map-map}
 use Rattle.std.proofs.lemmas.List.{length-map}
-use Rattle.abc_format.specs.Canonical.{counted_bytes}
-use Rattle.abc_tables.specs.declared.code.Body.{Body}
-use Rattle.abc_tables.specs.Bodies.{body_bytes, body_list}
+use Rattle.abc_file_types.specs.Canonical.{counted_bytes}
+use Rattle.abc_file_types.specs.declared.code.Body.{Body}
+use Rattle.abc_file_types.specs.Bodies.{body_bytes, body_list}
 use Rattle.abc_bodies.proofs.pass.pass_bodies.Goals as goal
 
 pub returns : goal.returns

@@ -1,6 +1,6 @@
 use Rattle.std.proofs.Common.{arith, append_assoc, refl, ◌∙◌}
 use Rattle.std.proofs.lemmas.Result.{err_from_is_err_and}
-use Rattle.abc_tables.specs.Bodies.{body_bytes, body_with}
+use Rattle.abc_file_types.specs.Bodies.{body_bytes, body_with}
 use Rattle.abc_varint.specs.declared.error.ReadError.TheVariants as errors
 use Rattle.abc_varint.specs.Reads.{known}
 use Rattle.abc_varint.proofs.Loop.{other_err}

@@ -1,7 +1,7 @@
 use Rattle.std.proofs.Common.{take}
 use Rattle.std.specs.List.{flat_map}
 use Rattle.std.proofs.lemmas.Result.{err_from_is_err_and}
-use Rattle.abc_tables.specs.Bodies.{body_bytes}
+use Rattle.abc_file_types.specs.Bodies.{body_bytes}
 use Rattle.abc_varint.proofs.Putting.{stays}
 use Rattle.abc_bodies.proofs.put.put_each_body.Goals as goal
 

@@ -1,7 +1,7 @@
 use Rattle.std.proofs.Common.{◌≡◌, ◌-◌, ℕ, All, length, subst, arith}
-use Rattle.abc_tables.specs.Bodies.{IsWithin}
-use Rattle.abc_tables.specs.CodeBytes.{canonical_starts}
-use Rattle.abc_tables.proofs.Lengths.{canonical_count}
+use Rattle.abc_file_types.specs.Bodies.{IsWithin}
+use Rattle.abc_file_types.specs.CodeBytes.{canonical_starts}
+use Rattle.abc_file_types.proofs.Lengths.{canonical_count}
 use Rattle.abc_bodies.proofs.put.put_fields.Goals as goal
 
 pub put_handlers-requires-clause-some : goal.put_handlers-requires-clause-some

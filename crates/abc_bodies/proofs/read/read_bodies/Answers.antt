@@ -1,8 +1,8 @@
 use Rattle.std.proofs.Common.{Ok, Err, arith}
-use Rattle.abc_format.specs.Part.{image}
-use Rattle.abc_format.proofs.Exact.{image-exact}
-use Rattle.abc_tables.specs.Bodies.{bodies}
-use Rattle.abc_tables.proofs.BodiesExact.{bodies-exact}
+use Rattle.abc_file_types.specs.Part.{image}
+use Rattle.abc_file_types.proofs.Exact.{image-exact}
+use Rattle.abc_file_types.specs.Bodies.{bodies}
+use Rattle.abc_file_types.proofs.BodiesExact.{bodies-exact}
 use Rattle.abc_varint.specs.declared.error.ReadError.TheVariants as errors
 use Rattle.abc_varint.proofs.Answering.{answers}
 use Rattle.abc_varint.proofs.Loop.{other_err}

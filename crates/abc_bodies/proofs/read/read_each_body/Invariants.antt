@@ -1,6 +1,6 @@
 use Rattle.std.proofs.Common.{◌≤◌, ◌-◌}
 use Rattle.std.specs.Prelude.{All}
-use Rattle.abc_tables.specs.Bodies.{IsReadyBody}
+use Rattle.abc_file_types.specs.Bodies.{IsReadyBody}
 use Rattle.abc_bodies.proofs.Collecting.{Gathering}
 use Rattle.abc_bodies.proofs.read.read_each_body.Given as goal
 

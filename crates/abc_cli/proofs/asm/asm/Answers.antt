@@ -1,9 +1,9 @@
 use Rattle.std.proofs.Common.{ℕ, List, subst}
 use Rattle.std.proofs.lemmas.Result.{err_from_is_err_and}
-use Rattle.abc_answers.specs.End.{stream}
-use Rattle.abc_answers.specs.Answers.{given}
+use Rattle.abc_cli_answers.specs.End.{stream}
+use Rattle.abc_cli_answers.specs.Answers.{given}
 use Rattle.abc_cli.specs.Outcome.{Asm}
-use Rattle.abc_answers.specs.Stops.{StopsAt}
+use Rattle.abc_cli_answers.specs.Stops.{StopsAt}
 use Rattle.abc_cli.proofs.Assembling.{input_stops, text_gives, text_stops}
 use Rattle.abc_cli.proofs.asm.asm.Goals as goal
 

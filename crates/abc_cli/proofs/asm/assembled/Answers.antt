@@ -1,6 +1,6 @@
 use Rattle.std.proofs.Common.{◌∙◌, ◌++◌, ap}
 use Rattle.std.proofs.lemmas.Result.{err_from_is_err_and}
-use Rattle.abc_tables.specs.Files.{file_bytes}
+use Rattle.abc_file_types.specs.Files.{file_bytes}
 use Rattle.abc_cli.proofs.Assembling.{asm_stops_at, assembled_gives}
 use Rattle.abc_cli.proofs.asm.assembled.Goals as goal
 

@@ -1,7 +1,7 @@
 use Rattle.std.proofs.lemmas.Result.{err_from_is_err_and}
-use Rattle.abc_answers.specs.End.{stream}
-use Rattle.abc_answers.specs.Answers.{OfFile}
-use Rattle.abc_tables.specs.Files.{file_bytes}
+use Rattle.abc_cli_answers.specs.End.{stream}
+use Rattle.abc_cli_answers.specs.Answers.{OfFile}
+use Rattle.abc_file_types.specs.Files.{file_bytes}
 use Rattle.abc_cli.specs.Outcome.{Canon}
 use Rattle.abc_cli.proofs.Files.{alone, on_file, read_stops, written_gives}
 use Rattle.abc_cli.proofs.canon.canon.Goals as goal

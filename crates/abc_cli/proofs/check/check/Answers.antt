@@ -1,11 +1,11 @@
 use Rattle.std.proofs.lemmas.Result.{err_from_is_err_and}
-use Rattle.abc_answers.specs.Answers.{OfFileRead, Unverified}
-use Rattle.abc_answers.specs.End.{stream}
+use Rattle.abc_cli_answers.specs.Answers.{OfFileRead, Unverified}
+use Rattle.abc_cli_answers.specs.End.{stream}
 use Rattle.abc_cli.specs.Outcome.{Check}
-use Rattle.abc_answers.specs.Stops.{stop_of_verified}
+use Rattle.abc_cli_answers.specs.Stops.{stop_of_verified}
 use Rattle.abc_cli.proofs.Checks.{unverified_checked, verified_gives}
-use Rattle.abc_answers.proofs.Unverified.{verified_stops}
-use Rattle.abc_answers.proofs.Ending.{stops_as}
+use Rattle.abc_cli_answers.proofs.Unverified.{verified_stops}
+use Rattle.abc_cli_answers.proofs.Ending.{stops_as}
 use Rattle.abc_cli.proofs.check.check.Goals as goal
 
 pub returns-in_err-verified-clause-stops : goal.returns-in_err-verified-clause-stops

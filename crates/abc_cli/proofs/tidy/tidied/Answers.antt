@@ -1,7 +1,7 @@
 use Rattle.std.proofs.Common.{◌∙◌, ◌++◌, ap}
 use Rattle.std.proofs.lemmas.Result.{err_from_is_err_and}
-use Rattle.abc_tables.specs.Files.{file_bytes}
-use Rattle.abc_answers.proofs.Ending.{fits_ready}
+use Rattle.abc_file_types.specs.Files.{file_bytes}
+use Rattle.abc_cli_answers.proofs.Ending.{fits_ready}
 use Rattle.abc_cli.proofs.Files.{tidied_gives, tidy_stops_at}
 use Rattle.abc_cli.proofs.tidy.tidied.Goals as goal
 

@@ -1,6 +1,6 @@
 use Rattle.std.proofs.lemmas.Result.{err_from_is_err_and}
-use Rattle.abc_answers.specs.End.{stream}
-use Rattle.abc_answers.specs.Answers.{OfFile}
+use Rattle.abc_cli_answers.specs.End.{stream}
+use Rattle.abc_cli_answers.specs.Answers.{OfFile}
 use Rattle.abc_cli.specs.Outcome.{Tidy}
 use Rattle.abc_cli.proofs.Files.{alone, alone_gives, alone_stops_at, on_file, read_stops}
 use Rattle.abc_cli.proofs.tidy.tidy.Goals as goal

@@ -1,13 +1,13 @@
 use Rattle.std.proofs.Common.{refl, sym, ap, subst, ◌∙◌}
-use Rattle.abc_words.specs.Grammar.{Says}
-use Rattle.abc_words.specs.declared.command.Usage.{Usage}
-use Rattle.abc_words.specs.declared.command.Command.{Command}
-use Rattle.abc_words.specs.declared.command.Command.TheVariants as commands
-use Rattle.abc_answers.specs.End.{Ends, GivesLine, stream}
-use Rattle.abc_answers.specs.Answers.{Answer}
+use Rattle.abc_cli_answers.specs.Grammar.{Says}
+use Rattle.abc_cli_answers.specs.declared.command.Usage.{Usage}
+use Rattle.abc_cli_answers.specs.declared.command.Command.{Command}
+use Rattle.abc_cli_answers.specs.declared.command.Command.TheVariants as commands
+use Rattle.abc_cli_answers.specs.End.{Ends, GivesLine, stream}
+use Rattle.abc_cli_answers.specs.Answers.{Answer}
 use Rattle.abc_cli.specs.Outcome.{AsksNoInput, CommandOutcome, IsOutcome, usage_answer}
-use Rattle.abc_logcommands.proofs.Pieces.{nothing}
-use Rattle.abc_answers.proofs.Ending.{line_ends, weaker}
+use Rattle.abc_session.proofs.Pieces.{nothing}
+use Rattle.abc_cli_answers.proofs.Ending.{line_ends, weaker}
 use Rattle.abc_cli.proofs.Usages.{usage_found, is_usage, usage_not_memory, usage_outcome, same_command, same_usage, not_ok, end_not_usage, unread_command, asking, few_methods, log_limits}
 use Rattle.abc_cli.proofs.Listings.{lists}
 use Rattle.abc_cli.proofs.top.abc_main.Goals as goal

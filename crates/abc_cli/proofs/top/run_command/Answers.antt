@@ -1,12 +1,12 @@
 use Rattle.std.proofs.Common.{refl, subst, sym}
-use Rattle.abc_words.specs.declared.command.Command.{Command}
-use Rattle.abc_words.specs.declared.command.Command.TheVariants as commands
-use Rattle.abc_answers.specs.End.{Ends, stream}
+use Rattle.abc_cli_answers.specs.declared.command.Command.{Command}
+use Rattle.abc_cli_answers.specs.declared.command.Command.TheVariants as commands
+use Rattle.abc_cli_answers.specs.End.{Ends, stream}
 use Rattle.abc_cli.specs.Outcome.{CommandOutcome, OutcomeOf}
-use Rattle.abc_loglines.specs.Lines.{AreLimits}
-use Rattle.abc_logcommands.specs.Meant.{limits_of}
-use Rattle.abc_words.specs.declared.command.RunOptions.{RunOptions}
-use Rattle.abc_answers.proofs.Ending.{finished_used_up}
+use Rattle.abc_log.specs.Lines.{AreLimits}
+use Rattle.abc_cli.specs.Meant.{limits_of}
+use Rattle.abc_cli_answers.specs.declared.command.RunOptions.{RunOptions}
+use Rattle.abc_cli_answers.proofs.Ending.{finished_used_up}
 use Rattle.abc_cli.proofs.Usages.{calls_ends, command_ends, gen_ends, log_ends, other_command, reading, run_ends, same_options, unreading}
 use Rattle.abc_cli.proofs.top.run_command.Goals as goal
 

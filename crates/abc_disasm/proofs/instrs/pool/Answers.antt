@@ -1,6 +1,6 @@
 -- The table of instructions has the pool.
 use Rattle.std.proofs.Common.{sym}
-use Rattle.abc_disasm.proofs.Forms.{pool_is}
+use Rattle.abc_disasm.proofs.PutForms.{pool_is}
 use Rattle.abc_disasm.proofs.instrs.pool.Goals as goal
 
 pub returns-in-Some : goal.returns-in-Some

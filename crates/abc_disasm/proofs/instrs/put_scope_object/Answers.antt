@@ -1,7 +1,7 @@
 -- A line of a word and a number.
 use Rattle.std.proofs.Common.{List, ℕ, sym, subst}
 use Rattle.abc_varint.specs.Puts.{Puts}
-use Rattle.abc_disasm.proofs.Forms.{scope_text}
+use Rattle.abc_disasm.proofs.PutForms.{scope_text}
 use Rattle.abc_disasm.proofs.instrs.put_scope_object.Goals as goal
 
 pub returns : goal.returns

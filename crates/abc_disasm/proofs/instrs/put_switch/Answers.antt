@@ -1,7 +1,7 @@
 -- A switch with a case.
 use Rattle.std.proofs.Common.{List, ℕ, sym, subst}
 use Rattle.abc_varint.specs.Puts.{Puts}
-use Rattle.abc_disasm.proofs.Forms.{switch_text}
+use Rattle.abc_disasm.proofs.PutForms.{switch_text}
 use Rattle.abc_disasm.proofs.instrs.put_switch.Goals as goal
 
 pub returns : goal.returns

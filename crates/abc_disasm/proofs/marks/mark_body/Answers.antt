@@ -1,8 +1,8 @@
 -- Nothing is marked at first; then what the code and the handlers name.
 use Rattle.std.proofs.Common.{◌++◌, [], List, ap, subst, ◌∙◌}
 use Rattle.std.specs.List.{flat_map}
-use Rattle.abc_tables.specs.declared.code.Handler.{Handler}
-use Rattle.abc_tables.specs.declared.code.Instr.{Instr}
+use Rattle.abc_file_types.specs.declared.code.Handler.{Handler}
+use Rattle.abc_file_types.specs.declared.code.Instr.{Instr}
 use Rattle.abc_disasm.specs.Marks.{AreMarks}
 use Rattle.abc_disasm.specs.Texts.{handler_targets, instr_targets}
 use Rattle.abc_disasm.proofs.Marking.{cleared}

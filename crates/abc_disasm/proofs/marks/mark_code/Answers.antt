@@ -1,7 +1,7 @@
 -- One instruction more, and all.
 use Rattle.std.proofs.Common.{◌++◌, List, ap, subst, take, ◌∙◌}
 use Rattle.std.specs.List.{flat_map}
-use Rattle.abc_tables.specs.declared.code.Instr.{Instr}
+use Rattle.abc_file_types.specs.declared.code.Instr.{Instr}
 use Rattle.abc_disasm.specs.Marks.{AreMarks}
 use Rattle.abc_disasm.specs.Texts.{instr_targets}
 use Rattle.abc_disasm.proofs.Marking.{more_by, whole}

@@ -1,6 +1,6 @@
 -- The default, and then the cases.
 use Rattle.std.proofs.Common.{◌++◌, ◌∷◌, [], List, ℕ, ap, subst, sym, ◌∙◌, append_assoc}
-use Rattle.abc_tables.specs.declared.code.Instr.{Instr}
+use Rattle.abc_file_types.specs.declared.code.Instr.{Instr}
 use Rattle.abc_disasm.specs.Marks.{AreMarks}
 use Rattle.abc_disasm.specs.Texts.{instr_targets}
 use Rattle.abc_disasm.proofs.marks.mark_instr.Goals as goal

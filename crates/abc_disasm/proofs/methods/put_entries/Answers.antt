@@ -1,7 +1,7 @@
 -- Two strings more, and all.
 use Rattle.std.proofs.Common.{◌+◌, ◌*◌, ◌++◌, List, ℕ, take, get_or, sym, ap, ◌∙◌, append_assoc, arith}
 use Rattle.std.specs.List.{flat_map}
-use Rattle.abc_lines.specs.Answers.{pairs}
+use Rattle.abc_text_lines.specs.Answers.{pairs}
 use Rattle.abc_disasm.specs.Texts.{entry_text}
 use Rattle.abc_disasm.proofs.Pairs.{pairs_all, pairs_more}
 use Rattle.abc_disasm.proofs.methods.put_entries.Goals as goal

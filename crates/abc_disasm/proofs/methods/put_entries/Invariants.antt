@@ -1,6 +1,6 @@
 use Rattle.std.proofs.Common.{◌≡◌, ◌++◌, take}
 use Rattle.std.specs.List.{flat_map}
-use Rattle.abc_lines.specs.Answers.{pairs}
+use Rattle.abc_text_lines.specs.Answers.{pairs}
 use Rattle.abc_disasm.specs.Texts.{entry_text}
 use Rattle.abc_disasm.proofs.methods.put_entries.Given as goal
 

@@ -1,8 +1,8 @@
 -- A slot's value without a kind.
 use Rattle.std.proofs.Common.{◌++◌, List, ℕ, sym, ap, ◌∙◌}
 use Rattle.std.specs.declared.option.Option.{Option}
-use Rattle.abc_tables.specs.declared.methods.OptionValue.{OptionValue}
-use Rattle.abc_tables.specs.Classes.{sizes_of}
+use Rattle.abc_file_types.specs.declared.methods.OptionValue.{OptionValue}
+use Rattle.abc_file_types.specs.Classes.{sizes_of}
 use Rattle.abc_disasm.specs.Texts.{slot_text}
 use Rattle.abc_disasm.proofs.Shown.{slot_zero}
 use Rattle.abc_disasm.proofs.traits.put_slot_value.Goals as goal

@@ -1,9 +1,9 @@
 use Rattle.std.proofs.Common.{arith, append_assoc, refl, ◌∙◌}
 use Rattle.std.proofs.Common.{◌≡◌, map, ap}
-use Rattle.abc_tables.specs.Files.{file_read, file_bytes}
-use Rattle.abc_tables.specs.Pools.{pools_bytes}
-use Rattle.abc_tables.specs.Classes.{definitions_bytes, sizes_of}
-use Rattle.abc_tables.specs.Bodies.{bodies_bytes}
+use Rattle.abc_file_types.specs.Files.{file_read, file_bytes}
+use Rattle.abc_file_types.specs.Pools.{pools_bytes}
+use Rattle.abc_file_types.specs.Classes.{definitions_bytes, sizes_of}
+use Rattle.abc_file_types.specs.Bodies.{bodies_bytes}
 use Rattle.abc_traits.specs.Definitions.{with_definitions, sizes_beside}
 use Rattle.abc_traits.proofs.Filling.{filled as definitions_filled}
 use Rattle.abc_bodies.proofs.Passing.{filled as bodies_filled}

@@ -1,5 +1,5 @@
 use Rattle.std.proofs.lemmas.Result.{err_from_is_err_and}
-use Rattle.abc_tables.specs.Files.{file_bytes}
+use Rattle.abc_file_types.specs.Files.{file_bytes}
 use Rattle.abc_file.proofs.Ending.{used_up_first}
 use Rattle.abc_file.proofs.Passing.{all_passed, all_refused_too, more_follows}
 use Rattle.abc_file.proofs.canon.pass_to_end.Goals as goal

@@ -1,6 +1,6 @@
 use Rattle.std.proofs.Common.{ap}
-use Rattle.abc_tables.specs.Files.{file_bytes}
-use Rattle.abc_tables.proofs.Whole.{canonical_file, canonical_same, decided}
+use Rattle.abc_file_types.specs.Files.{file_bytes}
+use Rattle.abc_file_types.proofs.Whole.{canonical_file, canonical_same, decided}
 use Rattle.abc_file.proofs.laws.canonical_form.Goals as goal
 
 pub returns-clause-spelled : goal.returns-clause-spelled

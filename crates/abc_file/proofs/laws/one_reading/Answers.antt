@@ -1,4 +1,4 @@
-use Rattle.abc_tables.proofs.Whole.{decided}
+use Rattle.abc_file_types.proofs.Whole.{decided}
 use Rattle.abc_file.proofs.laws.one_reading.Goals as goal
 
 pub returns : goal.returns

@@ -1,4 +1,4 @@
-use Rattle.abc_tables.proofs.Whole.{file_ready, read_spelled}
+use Rattle.abc_file_types.proofs.Whole.{file_ready, read_spelled}
 use Rattle.abc_file.proofs.laws.reading_gives_the_file.Goals as goal
 
 pub returns-clause-file : goal.returns-clause-file

@@ -1,13 +1,13 @@
 use Rattle.std.proofs.Common.{◌≡◌, ℕ, ◌<◌, ◌^◌, List, length, refl, subst, sym}
 use Rattle.std.proofs.lemmas.Bool.{ltb-true, lt-ltb}
 use Rattle.abc_base.specs.Numbers.{SpellsU30}
-use Rattle.abc_format.specs.Numbers.{u30}
-use Rattle.abc_format.proofs.Determined.{determined}
-use Rattle.abc_tables.specs.declared.instructions.Code.{Code}
-use Rattle.abc_tables.specs.Code.{SpellsCode, code, code_body}
-use Rattle.abc_tables.specs.Instructions.{code_length}
-use Rattle.abc_tables.proofs.CodeExact.{code-exact}
-use Rattle.abc_tables.proofs.CodeShortest.{code_listing-canonical}
+use Rattle.abc_file_types.specs.Numbers.{u30}
+use Rattle.abc_file_types.proofs.Determined.{determined}
+use Rattle.abc_file_types.specs.declared.instructions.Code.{Code}
+use Rattle.abc_file_types.specs.Code.{SpellsCode, code, code_body}
+use Rattle.abc_file_types.specs.Instructions.{code_length}
+use Rattle.abc_file_types.proofs.CodeExact.{code-exact}
+use Rattle.abc_file_types.proofs.CodeShortest.{code_listing-canonical}
 use Rattle.abc_instr.specs.Laws.{SpellsWithLength}
 use Rattle.abc_instr.proofs.laws.code_law.Goals as goal
 

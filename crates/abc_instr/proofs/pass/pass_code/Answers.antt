@@ -1,9 +1,9 @@
 use Rattle.std.proofs.Common.{◌∙◌, arith}
 use Rattle.std.proofs.lemmas.Result.{err_from_is_err_and}
-use Rattle.abc_format.specs.Part.{refusal}
-use Rattle.abc_format.specs.declared.reason.Reason.TheVariants as reasons
-use Rattle.abc_tables.specs.Starts.{starts}
-use Rattle.abc_tables.proofs.Resolving.{missed_within}
+use Rattle.abc_file_types.specs.Part.{refusal}
+use Rattle.abc_file_types.specs.declared.reason.Reason.TheVariants as reasons
+use Rattle.abc_file_types.specs.Starts.{starts}
+use Rattle.abc_file_types.proofs.Resolving.{missed_within}
 use Rattle.abc_varint.specs.declared.error.ReadError.TheVariants as errors
 use Rattle.abc_varint.specs.Reads.{known}
 use Rattle.abc_varint.proofs.Inputs.{known_is}

@@ -1,4 +1,4 @@
-use Rattle.abc_tables.proofs.CodeShortest.{listing_ready}
+use Rattle.abc_file_types.proofs.CodeShortest.{listing_ready}
 use Rattle.abc_instr.proofs.pieces.put_code.Goals as goal
 
 pub take-requires : goal.take-requires

@@ -1,9 +1,9 @@
 use Rattle.std.proofs.Common.{◌≡◌, ◌+◌, ◌-◌, ◌<◌, ℕ, length, get_or, refl, sym, subst, arith}
 use Rattle.std.proofs.lemmas.List.{get_or_read_under}
-use Rattle.abc_tables.specs.CodeBytes.{canonical_starts}
-use Rattle.abc_tables.specs.Ready.{AllCanSpell, Small}
-use Rattle.abc_tables.specs.declared.code.Instr.TheVariants as instrs
-use Rattle.abc_tables.proofs.Lengths.{can_at, canonical_count, canonical_small}
+use Rattle.abc_file_types.specs.CodeBytes.{canonical_starts}
+use Rattle.abc_file_types.specs.Ready.{AllCanSpell, Small}
+use Rattle.abc_file_types.specs.declared.code.Instr.TheVariants as instrs
+use Rattle.abc_file_types.proofs.Lengths.{can_at, canonical_count, canonical_small}
 use Rattle.abc_instr.proofs.pieces.put_gap.Goals as goal
 
 pub bounds-starts-gap : goal.bounds-starts-gap

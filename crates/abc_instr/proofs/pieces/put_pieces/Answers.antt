@@ -1,8 +1,8 @@
 use Rattle.std.proofs.Common.{◌≡◌, ◌<◌, ◌++◌, List, ℕ, length, get_or, refl, sym, ap, ◌∙◌, append_assoc, arith}
 use Rattle.std.proofs.lemmas.List.{get_or_read_under}
-use Rattle.abc_format.specs.BaseNumbers.{number_bytes}
-use Rattle.abc_tables.specs.CodeBytes.{canonical_starts, code_bytes, code_len, instrs_bytes}
-use Rattle.abc_tables.proofs.Lengths.{canonical_count, canonical_end}
+use Rattle.abc_base.specs.Numbers.{number_bytes}
+use Rattle.abc_file_types.specs.CodeBytes.{canonical_starts, code_bytes, code_len, instrs_bytes}
+use Rattle.abc_file_types.proofs.Lengths.{canonical_count, canonical_end}
 use Rattle.abc_instr.proofs.Filling.{filled_is, gaps_all_within}
 use Rattle.abc_instr.proofs.pieces.put_pieces.Goals as goal
 

@@ -1,5 +1,5 @@
 use Rattle.std.proofs.Common.{sym, ◌∙◌, arith}
-use Rattle.abc_tables.proofs.Lengths.{start_step, len_step}
+use Rattle.abc_file_types.proofs.Lengths.{start_step, len_step}
 use Rattle.abc_instr.proofs.put.offset_at.Goals as goal
 
 pub loop-i-preserved : goal.loop-i-preserved

@@ -1,6 +1,6 @@
 use Rattle.std.proofs.Common.{◌≡◌, ◌+◌, ◌-◌, drop}
-use Rattle.abc_tables.specs.CodeBytes.{code_len, sized}
-use Rattle.abc_tables.specs.Starts.{start}
+use Rattle.abc_file_types.specs.CodeBytes.{code_len, sized}
+use Rattle.abc_file_types.specs.Starts.{start}
 use Rattle.abc_instr.proofs.put.offset_at.Given as goal
 
 abbrev pub invariant-loop-i : goal.invariant-loop-i

@@ -1,5 +1,5 @@
 use Rattle.std.proofs.Common.{◌-◌, ◌<◌, ◌^◌, All, get_or, length, subst, sym, arith}
-use Rattle.abc_tables.proofs.Lengths.{below_all}
+use Rattle.abc_file_types.proofs.Lengths.{below_all}
 use Rattle.abc_instr.proofs.put.put_aimed.Goals as goal
 
 pub put_switch-requires-clause-cases : goal.put_switch-requires-clause-cases

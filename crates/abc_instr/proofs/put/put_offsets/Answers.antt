@@ -1,7 +1,7 @@
 use Rattle.std.proofs.Common.{ℕ}
-use Rattle.abc_format.specs.Canonical.{s24_bytes}
-use Rattle.abc_tables.specs.CodeBytes.{offset}
-use Rattle.abc_tables.proofs.Lengths.{map_more}
+use Rattle.abc_file_types.specs.Canonical.{s24_bytes}
+use Rattle.abc_file_types.specs.CodeBytes.{offset}
+use Rattle.abc_file_types.proofs.Lengths.{map_more}
 use Rattle.abc_instr.proofs.put.put_offsets.Goals as goal
 
 pub loop-target-preserved : goal.loop-target-preserved

@@ -1,5 +1,5 @@
 use Rattle.std.proofs.Common.{◌≡◌, ◌-◌, length, arith}
-use Rattle.abc_tables.proofs.Lengths.{four}
+use Rattle.abc_file_types.proofs.Lengths.{four}
 use Rattle.abc_instr.proofs.put.put_switch.Goals as goal
 
 pub returns : goal.returns

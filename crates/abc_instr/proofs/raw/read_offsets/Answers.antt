@@ -3,7 +3,7 @@ use Rattle.std.proofs.Common.{◌-◌, ◌+◌, ◌∷◌, [], length-append, ar
 use Rattle.std.proofs.lemmas.Int.{to_z-of_z}
 use Rattle.std.proofs.lemmas.Result.{err_from_is_err_and}
 use Rattle.std.specs.Int.{w32}
-use Rattle.abc_format.specs.Numbers.{s24}
+use Rattle.abc_file_types.specs.Numbers.{s24}
 use Rattle.abc_varint.specs.declared.error.ReadError.TheVariants as errors
 use Rattle.abc_varint.proofs.Loop.{goes_on, ends, other_err}
 use Rattle.abc_instr.proofs.raw.read_offsets.Goals as goal

@@ -1,5 +1,5 @@
 use Rattle.std.proofs.Common.{◌≡◌, ◌≤◌, ◌-◌, ◌*◌, length}
-use Rattle.abc_format.specs.Numbers.{s24}
+use Rattle.abc_file_types.specs.Numbers.{s24}
 use Rattle.abc_varint.specs.View.{GoesOver}
 use Rattle.abc_varint.proofs.Loop.{Going}
 use Rattle.abc_instr.proofs.raw.read_offsets.Given as goal

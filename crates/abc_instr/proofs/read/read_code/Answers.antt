@@ -1,6 +1,6 @@
 use Rattle.std.proofs.Common.{Ok, Err, arith}
-use Rattle.abc_tables.specs.Code.{code}
-use Rattle.abc_tables.proofs.CodeExact.{code-exact}
+use Rattle.abc_file_types.specs.Code.{code}
+use Rattle.abc_file_types.proofs.CodeExact.{code-exact}
 use Rattle.abc_varint.proofs.Answering.{answers}
 use Rattle.abc_instr.specs.Reading.{code_from}
 use Rattle.abc_instr.proofs.read.read_code.Goals as goal

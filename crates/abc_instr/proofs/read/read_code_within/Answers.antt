@@ -1,6 +1,6 @@
 use Rattle.std.proofs.Common.{◌∙◌, ap, arith}
-use Rattle.abc_format.specs.Part.{refusal}
-use Rattle.abc_format.specs.declared.reason.Reason.TheVariants as reasons
+use Rattle.abc_file_types.specs.Part.{refusal}
+use Rattle.abc_file_types.specs.declared.reason.Reason.TheVariants as reasons
 use Rattle.abc_varint.specs.Reads.{known}
 use Rattle.abc_varint.proofs.Inputs.{known_is}
 use Rattle.abc_instr.specs.Reading.{code_from, with_starts}

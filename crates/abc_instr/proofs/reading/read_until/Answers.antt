@@ -3,12 +3,12 @@ use Rattle.std.specs.Prelude.{map}
 use Rattle.std.proofs.lemmas.List.{map-append}
 use Rattle.std.proofs.lemmas.List.Elements.{All-nil, All-push}
 use Rattle.std.proofs.lemmas.Result.{err_from_is_err_and}
-use Rattle.abc_format.specs.Ends.{blamed}
+use Rattle.abc_file_types.specs.Ends.{blamed}
 use Rattle.abc_varint.proofs.Fill.{fill_starts, fill_goes_on, fill_ends, fill_done}
 use Rattle.abc_instr.specs.declared.raw.RawInstr.{RawInstr as Raw}
-use Rattle.abc_tables.specs.Instructions.{instruction, pieces}
-use Rattle.abc_tables.proofs.CodeParts.{instruction-exact, instruction-some}
-use Rattle.abc_tables.proofs.Resolving.{size-push}
+use Rattle.abc_file_types.specs.Instructions.{instruction, pieces}
+use Rattle.abc_file_types.proofs.CodeParts.{instruction-exact, instruction-some}
+use Rattle.abc_file_types.proofs.Resolving.{size-push}
 use Rattle.abc_instr.specs.Offsets.{raw_of}
 use Rattle.abc_instr.specs.Reading.{spelled}
 use Rattle.abc_instr.specs.Scanning.{instrs_in, raws_in}

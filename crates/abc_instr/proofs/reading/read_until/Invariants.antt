@@ -1,10 +1,10 @@
 use Rattle.std.proofs.Common.{◌≡◌, ℕ, ◌+◌, ◌≤◌, ◌<◌, ◌^◌, List}
 use Rattle.std.specs.Prelude.{All}
-use Rattle.abc_format.specs.Ends.{blamed}
+use Rattle.abc_file_types.specs.Ends.{blamed}
 use Rattle.abc_varint.proofs.Fill.{Filling}
 use Rattle.abc_instr.specs.declared.raw.RawInstr.{RawInstr as Raw}
-use Rattle.abc_tables.specs.Instructions.{instruction}
-use Rattle.abc_tables.specs.Starts.{size}
+use Rattle.abc_file_types.specs.Instructions.{instruction}
+use Rattle.abc_file_types.specs.Starts.{size}
 use Rattle.abc_instr.specs.Offsets.{raws_len, AreRaw}
 use Rattle.abc_instr.specs.Reading.{IsReading}
 use Rattle.abc_instr.specs.Scanning.{instrs_in, raws_in}

@@ -1,7 +1,7 @@
 use Rattle.std.proofs.Common.{◌≡◌, drop}
 use Rattle.std.specs.Prelude.{map}
 use Rattle.std.specs.Int.{w32, cast_signed}
-use Rattle.abc_tables.specs.Targets.{cases_of}
+use Rattle.abc_file_types.specs.Targets.{cases_of}
 use Rattle.abc_instr.specs.Resolving.{onto}
 use Rattle.abc_instr.proofs.resolve.resolve_cases.Given as goal
 

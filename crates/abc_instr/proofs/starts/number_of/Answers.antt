@@ -1,5 +1,5 @@
 use Rattle.std.proofs.Common.{Ok, Err}
-use Rattle.abc_tables.proofs.Resolving.{search_is}
+use Rattle.abc_file_types.proofs.Resolving.{search_is}
 use Rattle.abc_instr.proofs.starts.number_of.Goals as goal
 
 pub returns-in-Ok : goal.returns-in-Ok

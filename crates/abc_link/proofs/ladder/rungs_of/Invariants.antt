@@ -1,4 +1,4 @@
-use Rattle.abc_search_tables.specs.Files.{linked}
+use Rattle.abc_link_layouts.specs.Files.{linked}
 use Rattle.abc_link.proofs.Rungs.{AreFirst}
 use Rattle.abc_link.proofs.ladder.rungs_of.Given as goal
 

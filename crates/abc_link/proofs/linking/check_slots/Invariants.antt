@@ -1,4 +1,4 @@
-use Rattle.abc_link.specs.Made.{AreFewSlots}
+use Rattle.abc_link.specs.LinkedMade.{AreFewSlots}
 use Rattle.abc_link.proofs.linking.check_slots.Given as goal
 
 abbrev pub invariant-loop-x : goal.invariant-loop-x

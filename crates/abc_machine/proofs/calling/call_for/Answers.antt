@@ -2,8 +2,8 @@ use Rattle.std.proofs.Common.{[], refl, subst}
 use Rattle.std.specs.Prelude.{OnOk}
 use Rattle.std.specs.declared.result.Result.{Result}
 use Rattle.abc_base.specs.Hosts.{arguments}
-use Rattle.abc_ends.specs.declared.ended.Ended.{Ended}
-use Rattle.abc_reached.specs.Steps.{IsReached}
+use Rattle.abc_run_finish.specs.declared.ended.Ended.{Ended}
+use Rattle.abc_run_finish.specs.Steps.{IsReached}
 use Rattle.abc_machine.proofs.Asking.{ends, goes, goes_left}
 use Rattle.abc_machine.proofs.Opening.{at_start}
 use Rattle.abc_machine.proofs.calling.call_for.Goals as goal

@@ -1,5 +1,5 @@
 use Rattle.std.proofs.Common.{[]}
-use Rattle.abc_reached.specs.Steps.{machine}
+use Rattle.abc_run_finish.specs.Steps.{machine}
 use Rattle.abc_machine.proofs.calling.call_for.Given as goal
 
 abbrev pub ghost-begin_call : goal.ghost-begin_call

@@ -1,17 +1,17 @@
 use Rattle.std.proofs.Common.{◌∙◌, ℕ, refl, ap, subst, arith}
 use Rattle.std.specs.Prelude.{IsSome, None}
 use Rattle.abc_base.specs.Sinks.{GrowsByFront}
-use Rattle.abc_calling.specs.Calls.{replies_for}
-use Rattle.abc_logging.proofs.Lined.{rose_on}
-use Rattle.abc_logmeaning.specs.Lines.{end_line}
-use Rattle.abc_logmeaning.specs.Logs.{logs_for}
+use Rattle.abc_meaning_sound.specs.Calls.{replies_for}
+use Rattle.abc_machine.proofs.Lined.{rose_on}
+use Rattle.abc_meaning.specs.Lines.{end_line}
+use Rattle.abc_meaning.specs.Logs.{logs_for}
 use Rattle.abc_machine.specs.Logged.{HasAllBut}
 use Rattle.abc_machine.proofs.Counting.{counted_to}
 use Rattle.abc_machine.proofs.Invoking.{replied_so}
-use Rattle.abc_machine.proofs.Logging.{ended_so, lines_begun, lines_end, lines_front, lines_on, well_on, well_reply}
+use Rattle.abc_machine.proofs.LoggedRuns.{ended_so, lines_begun, lines_end, lines_front, lines_on, well_on, well_reply}
 use Rattle.abc_machine.proofs.Spending.{ended_on, went_on}
 use Rattle.abc_meaning.specs.Meaning.{runs_for}
-use Rattle.abc_openings.specs.Begun.{setting}
+use Rattle.abc_run_finish.specs.Begun.{setting}
 use Rattle.abc_machine.proofs.logged.log_steps.Goals as goal
 
 pub spend_logged-requires : goal.spend_logged-requires

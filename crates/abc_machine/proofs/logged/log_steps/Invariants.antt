@@ -2,7 +2,7 @@ use Rattle.std.proofs.Common.{◌≡◌, ◌≤◌}
 use Rattle.std.specs.Prelude.{None}
 use Rattle.abc_machine.specs.Logged.{HasAllBut}
 use Rattle.abc_machine.specs.Runs.{IsAt, outer}
-use Rattle.abc_machine.proofs.Logging.{all, rest}
+use Rattle.abc_machine.proofs.LoggedRuns.{all, rest}
 use Rattle.abc_machine.proofs.logged.log_steps.Given as goal
 
 abbrev pub ghost-spend_logged : goal.ghost-spend_logged

@@ -1,8 +1,8 @@
 use Rattle.std.proofs.Common.{◌≢◌, ◌∙◌, sym}
 use Rattle.std.specs.Prelude.{Err, None}
-use Rattle.abc_machine.proofs.Logging.{failed_step, front_for, none_for, well_step, whole_for}
+use Rattle.abc_machine.proofs.LoggedRuns.{failed_step, front_for, none_for, well_step, whole_for}
 use Rattle.abc_machine.proofs.Spending.{ended_as, went_as}
-use Rattle.abc_reached.specs.Halt.TheVariants.{Fails}
+use Rattle.abc_run_finish.specs.declared.halts.Halt.TheVariants.{Fails}
 use Rattle.abc_machine.proofs.logged.spend_logged.Goals as goal
 
 pub step_logged-requires : goal.step_logged-requires

@@ -1,6 +1,6 @@
 use Rattle.std.proofs.Common.{ℕ, List, subst}
 use Rattle.abc_base.specs.Sinks.{WritesAll}
-use Rattle.abc_loglines.specs.Lines.{profile_end}
+use Rattle.abc_log.specs.Lines.{profile_end}
 use Rattle.abc_machine.specs.Ended.{IsEndOf}
 use Rattle.abc_machine.proofs.Closing.{line_of_end}
 use Rattle.abc_meaning.specs.Throwing as meant

@@ -1,6 +1,6 @@
 use Rattle.std.proofs.Common.{ℕ, ◌∙◌, false, length, replicate, ap}
 use Rattle.std.proofs.lemmas.Result.{err_from_is_err_and}
-use Rattle.abc_tables.specs.declared.tables.Abc.{Abc}
+use Rattle.abc_file_types.specs.declared.tables.Abc.{Abc}
 use Rattle.abc_machine.proofs.machine.open_first.Goals as goal
 
 pub returns-in_err-seen : goal.returns-in_err-seen

@@ -1,9 +1,9 @@
 use Rattle.std.proofs.Common.{◌∙◌, refl, sym, ap, arith}
-use Rattle.abc_logging.proofs.Lined.{rose_on}
+use Rattle.abc_machine.proofs.Lined.{rose_on}
 use Rattle.abc_machine.specs.Spent.{as_reply}
 use Rattle.abc_machine.specs.declared.replies.Reply.TheVariants.{FuelSpent}
 use Rattle.abc_machine.proofs.Counting.{counted_to}
-use Rattle.abc_machine.proofs.Logging.{ended_so, failed_step}
+use Rattle.abc_machine.proofs.LoggedRuns.{ended_so, failed_step}
 use Rattle.abc_machine.proofs.Spending.{ended_on, went_on}
 use Rattle.abc_machine.proofs.running.take_steps.Goals as goal
 

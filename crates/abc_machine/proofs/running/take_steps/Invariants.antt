@@ -1,9 +1,9 @@
 use Rattle.std.proofs.Common.{◌≡◌, ◌≤◌}
 use Rattle.std.specs.Prelude.{Ok}
-use Rattle.abc_logging.specs.Held.{IsHeld}
+use Rattle.abc_run_dispatch.specs.Held.{IsHeld}
 use Rattle.abc_machine.specs.Runs.{IsAt, outer}
 use Rattle.abc_machine.proofs.running.take_steps.Given as goal
-use Rattle.abc_states.specs.declared.state.Left.TheVariants.{Goes}
+use Rattle.abc_run_state.specs.declared.state.Left.TheVariants.{Goes}
 
 abbrev pub ghost-spend : goal.ghost-spend
 ghost-spend g a = outer a.linked.now g.begun a.fuel.now

@@ -1,5 +1,5 @@
 use Rattle.std.proofs.Common.{◌∙◌, ap, arith, length, refl, sym}
-use Rattle.abc_heap.specs.Heap.{Heap}
+use Rattle.abc_heap_store.specs.Heap.{Heap}
 use Rattle.abc_objects.proofs.Steps.{length_small, no_properties, property_next, property_room, start_next, start_small, start_within}
 use Rattle.abc_objects.proofs.opening.add_properties.Goals as goal
 

@@ -1,6 +1,6 @@
 use Rattle.std.proofs.Common.{◌≡◌, ◌+◌, length, take}
 use Rattle.std.specs.List.{concat}
-use Rattle.abc_heap.specs.Changes.{with_object}
+use Rattle.abc_heap_store.specs.Changes.{with_object}
 use Rattle.abc_objects.specs.Opening.{host_properties, spans_from, with_more_properties}
 use Rattle.abc_objects.proofs.opening.add_properties.Given as goal
 

@@ -1,5 +1,5 @@
 use Rattle.std.proofs.Common.{sym, arith, ℕ}
-use Rattle.abc_heap.specs.declared.records.What.TheVariants as whats
+use Rattle.abc_heap_store.specs.declared.records.What.TheVariants as whats
 use Rattle.abc_objects.specs.Opening.{function_object}
 use Rattle.abc_objects.proofs.Steps.{formula_room, no_objects, range_on}
 use Rattle.abc_objects.proofs.opening.make_formulas.Goals as goal

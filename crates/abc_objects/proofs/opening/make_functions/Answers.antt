@@ -1,5 +1,5 @@
 use Rattle.std.proofs.Common.{◌∙◌, ◌+◌, ◌∷◌, [], ap, arith}
-use Rattle.abc_heap.specs.declared.records.What.TheVariants as whats
+use Rattle.abc_heap_store.specs.declared.records.What.TheVariants as whats
 use Rattle.abc_objects.specs.Opening.{formula_objects, function_object, with_objects}
 use Rattle.abc_objects.proofs.Steps.{function_cell, objects_on, room_on}
 use Rattle.abc_objects.proofs.opening.make_functions.Goals as goal

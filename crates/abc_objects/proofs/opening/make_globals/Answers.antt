@@ -1,6 +1,6 @@
 use Rattle.std.proofs.Common.{◌+◌, arith, subst, ℕ}
 use Rattle.std.specs.List.{sum}
-use Rattle.abc_heap.specs.Heap.{HasRoomFor}
+use Rattle.abc_heap_store.specs.Heap.{HasRoomFor}
 use Rattle.abc_objects.specs.Opening.{slot_counts}
 use Rattle.abc_objects.proofs.Steps.{global_on, global_room, no_globals}
 use Rattle.abc_objects.proofs.opening.make_globals.Goals as goal

@@ -1,5 +1,5 @@
 use Rattle.std.proofs.Common.{◌≡◌, ◌∙◌, ◌++◌, ap, refl, arith, length, length-append}
-use Rattle.abc_heap.specs.Heap.{Heap}
+use Rattle.abc_heap_store.specs.Heap.{Heap}
 use Rattle.abc_objects.specs.Opening.{property_names}
 use Rattle.std.specs.List.{concat}
 use Rattle.abc_objects.specs.Fixed.{fixed_bytes}

@@ -1,5 +1,5 @@
 use Rattle.std.proofs.Common.{ap}
-use Rattle.abc_tables.specs.declared.tables.Abc.{Abc}
+use Rattle.abc_file_types.specs.declared.tables.Abc.{Abc}
 use Rattle.abc_objects.proofs.Made.{can_start}
 use Rattle.abc_objects.proofs.starts.starts_of.Goals as goal
 

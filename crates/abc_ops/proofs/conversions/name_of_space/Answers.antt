@@ -1,6 +1,6 @@
 use Rattle.std.proofs.Common.{◌≡◌, subst, sym}
-use Rattle.abc_names.specs.Pool.{space}
-use Rattle.abc_tables.specs.declared.tables.Abc.{Abc}
+use Rattle.abc_link_names.specs.Pool.{space}
+use Rattle.abc_file_types.specs.declared.tables.Abc.{Abc}
 use Rattle.abc_objects.specs.Starts.{IsShort}
 use Rattle.abc_objects.proofs.Started.{linked_name}
 use Rattle.abc_ops.proofs.conversions.name_of_space.Goals as goal

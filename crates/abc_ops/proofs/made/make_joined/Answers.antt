@@ -1,5 +1,5 @@
 use Rattle.std.proofs.Common.{◌++◌}
-use Rattle.abc_heap.specs.Texts.{text_of}
+use Rattle.abc_heap_store.specs.Texts.{text_of}
 use Rattle.abc_ops.specs.Left.{text_made}
 use Rattle.abc_ops.proofs.Staying.{made_stays, stays_left}
 use Rattle.abc_ops.proofs.made.make_joined.Goals as goal

@@ -1,5 +1,5 @@
 use Rattle.std.proofs.Common.{◌++◌}
-use Rattle.abc_heap.specs.Texts.{text_of}
+use Rattle.abc_heap_store.specs.Texts.{text_of}
 use Rattle.abc_ops.proofs.Making.{full_is, length_of_both, made_is}
 use Rattle.abc_ops.proofs.made.make_joined_as.Goals as goal
 

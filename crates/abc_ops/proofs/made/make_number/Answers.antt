@@ -2,9 +2,9 @@ use Rattle.std.proofs.Common.{ℤ, length, refl, subst}
 use Rattle.std.proofs.lemmas.Int.{to_z-of_z}
 use Rattle.std.specs.Fmt.{signed_decimal}
 use Rattle.std.specs.Int.{w64}
-use Rattle.abc_heap.specs.Heap.{IsFull}
-use Rattle.abc_heap.specs.Texts.{IsTextMade}
-use Rattle.abc_heap.specs.declared.records.Limit.TheVariants.{Text}
+use Rattle.abc_heap_store.specs.Heap.{IsFull}
+use Rattle.abc_heap_store.specs.Texts.{IsTextMade}
+use Rattle.abc_heap_store.specs.declared.records.Limit.TheVariants.{Text}
 use Rattle.abc_ops.proofs.Making.{full_is, made_is}
 use Rattle.abc_ops.proofs.made.make_number.Goals as goal
 

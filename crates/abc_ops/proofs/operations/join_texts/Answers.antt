@@ -1,5 +1,5 @@
 use Rattle.std.proofs.Common.{◌++◌, refl}
-use Rattle.abc_heap.specs.Texts.{text_of}
+use Rattle.abc_heap_store.specs.Texts.{text_of}
 use Rattle.abc_ops.specs.Left.{text_made, text_value}
 use Rattle.abc_ops.proofs.Staying.{then_err, then_ok}
 use Rattle.abc_ops.proofs.operations.join_texts.Goals as goal

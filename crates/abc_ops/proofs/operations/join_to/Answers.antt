@@ -1,5 +1,5 @@
-use Rattle.abc_cells.specs.declared.values.Span.{Span}
-use Rattle.abc_heap.specs.Heap.{Heap}
+use Rattle.abc_heap_values.specs.declared.values.Span.{Span}
+use Rattle.abc_heap_store.specs.Heap.{Heap}
 use Rattle.abc_objects.proofs.Grown.{grows_on, text_grown}
 use Rattle.abc_ops.specs.Conversions.{spelled}
 use Rattle.abc_ops.specs.Operations.{joined_texts}

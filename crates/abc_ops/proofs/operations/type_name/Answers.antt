@@ -1,5 +1,5 @@
 use Rattle.std.proofs.Common.{subst}
-use Rattle.abc_cells.specs.declared.values.Value.{Value}
+use Rattle.abc_heap_values.specs.declared.values.Value.{Value}
 use Rattle.abc_objects.specs.Values.{Exists}
 use Rattle.abc_ops.proofs.operations.type_name.Goals as goal
 

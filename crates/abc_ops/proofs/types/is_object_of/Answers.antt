@@ -1,7 +1,7 @@
 use Rattle.std.proofs.Common.{◌↔◌, IsTrue, ℕ, subst, sym}
-use Rattle.abc_cells.specs.declared.values.Value.{Value}
+use Rattle.abc_heap_values.specs.declared.values.Value.{Value}
 use Rattle.abc_objects.specs.Values.{Exists}
-use Rattle.abc_kinds.specs.ProgramTree.{IsBelow}
+use Rattle.abc_link_program.specs.Tree.{IsBelow}
 use Rattle.abc_ops.specs.Types.{IsObjectOf}
 use Rattle.abc_ops.proofs.types.is_object_of.Goals as goal
 

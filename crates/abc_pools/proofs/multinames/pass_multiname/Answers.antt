@@ -1,6 +1,6 @@
 use Rattle.std.proofs.Common.{arith, append_assoc, refl, ◌∙◌}
-use Rattle.abc_tables.specs.Pools.{multiname}
-use Rattle.abc_tables.specs.declared.names.Multiname.TheVariants as names
+use Rattle.abc_file_types.specs.Pools.{multiname}
+use Rattle.abc_file_types.specs.declared.names.Multiname.TheVariants as names
 use Rattle.abc_pools.proofs.multinames.pass_multiname.Goals as goal
 
 pub returns-in-TypeName : goal.returns-in-TypeName

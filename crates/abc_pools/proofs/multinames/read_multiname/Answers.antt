@@ -1,4 +1,4 @@
-use Rattle.abc_tables.proofs.Exactness.{multiname-exact}
+use Rattle.abc_file_types.proofs.Exactness.{multiname-exact}
 use Rattle.abc_varint.proofs.Answering.{answers}
 use Rattle.abc_pools.proofs.multinames.read_multiname.Goals as goal
 

@@ -1,6 +1,6 @@
 use Rattle.std.proofs.Common.{arith, ℕ, ap, ◌∙◌, ◌++◌}
 use Rattle.abc_base.specs.Numbers.{number_bytes}
-use Rattle.abc_tables.specs.Pools.{multiname, multiname_bytes, multinames}
+use Rattle.abc_file_types.specs.Pools.{multiname, multiname_bytes, multinames}
 use Rattle.abc_varint.proofs.Passing.{pool_passes}
 use Rattle.abc_pools.proofs.Names.{in_pool}
 use Rattle.abc_pools.proofs.pass.pass_names.Goals as goal

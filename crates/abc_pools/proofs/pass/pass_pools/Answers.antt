@@ -1,5 +1,5 @@
 use Rattle.std.proofs.Common.{arith, append_assoc, refl, ◌∙◌}
-use Rattle.abc_tables.specs.Pools.{pools, pools_bytes, namespace_set, with_pools}
+use Rattle.abc_file_types.specs.Pools.{pools, pools_bytes, namespace_set, with_pools}
 use Rattle.abc_pools.proofs.pass.pass_pools.Goals as goal
 
 pub returns : goal.returns

@@ -1,5 +1,5 @@
 use Rattle.std.proofs.Common.{arith}
-use Rattle.abc_tables.proofs.Exactness.{pools-exact}
+use Rattle.abc_file_types.proofs.Exactness.{pools-exact}
 use Rattle.abc_varint.proofs.Answering.{answers}
 use Rattle.abc_pools.proofs.pools.read_pools.Goals as goal
 

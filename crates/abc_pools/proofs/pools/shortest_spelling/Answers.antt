@@ -1,6 +1,6 @@
-use Rattle.abc_format.proofs.Determined.{determined}
-use Rattle.abc_tables.proofs.Exactness.{multiname-exact, pools-exact}
-use Rattle.abc_tables.proofs.Shortest.{multiname-canonical, pools-canonical}
+use Rattle.abc_file_types.proofs.Determined.{determined}
+use Rattle.abc_file_types.proofs.Exactness.{multiname-exact, pools-exact}
+use Rattle.abc_file_types.proofs.Shortest.{multiname-canonical, pools-canonical}
 use Rattle.abc_pools.proofs.pools.shortest_spelling.Goals as goal
 
 pub returns : goal.returns

@@ -1,10 +1,10 @@
 use Rattle.std.proofs.Common.{◌≡◌, ◌≤◌, ◌∙◌, ℕ, List, Some, ap, subst}
 use Rattle.std.specs.Prelude.{IfOk}
-use Rattle.abc_compare.specs.Followed.{told}
-use Rattle.abc_logmeaning.specs.Logs.{log, steps}
-use Rattle.abc_logparts.specs.Checks.{IsWritten}
-use Rattle.abc_logparts.proofs.Judging.{same_name}
-use Rattle.abc_machine.specs.OpeningsBegun.{setting}
+use Rattle.abc_log.specs.Followed.{told}
+use Rattle.abc_meaning.specs.Logs.{log, steps}
+use Rattle.abc_log.specs.Checks.{IsWritten}
+use Rattle.abc_log.proofs.Judging.{same_name}
+use Rattle.abc_run_finish.specs.Begun.{setting}
 use Rattle.abc_replay.proofs.Lent.{begins_so, compared_so, lent_later}
 use Rattle.abc_replay.proofs.run.compare_lent.Goals as goal
 

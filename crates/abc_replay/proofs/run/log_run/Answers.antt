@@ -1,6 +1,6 @@
 use Rattle.std.proofs.Common.{◌∙◌}
-use Rattle.abc_machine.specs.OpeningsBegun.{setting}
-use Rattle.abc_logmeaning.specs.Logs.{log, steps}
+use Rattle.abc_run_finish.specs.Begun.{setting}
+use Rattle.abc_meaning.specs.Logs.{log, steps}
 use Rattle.abc_meaning.specs.Meaning.{meaning}
 use Rattle.abc_replay.proofs.Written.{run_written}
 use Rattle.abc_replay.proofs.run.log_run.Goals as goal

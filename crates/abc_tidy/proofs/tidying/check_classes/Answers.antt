@@ -1,8 +1,8 @@
 use Rattle.std.proofs.Common.{refl, subst}
-use Rattle.abc_trees.specs.Classes.{AllClassed}
-use Rattle.abc_entries.specs.Visited.{roots_of}
-use Rattle.abc_entries.proofs.Acyclic.{acyclic}
-use Rattle.abc_entries.proofs.Once.{all_classed}
+use Rattle.abc_base_trees.specs.Classes.{AllClassed}
+use Rattle.abc_tidy_entries.specs.Visited.{roots_of}
+use Rattle.abc_tidy_entries.proofs.Acyclic.{acyclic}
+use Rattle.abc_tidy_entries.proofs.Once.{all_classed}
 use Rattle.abc_tidy.proofs.tidying.check_classes.Goals as goal
 
 pub returns-then-have : goal.returns-then-have

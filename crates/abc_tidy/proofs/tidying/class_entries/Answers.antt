@@ -1,13 +1,13 @@
 use Rattle.std.proofs.Common.{ap, length, refl, subst, ◌∙◌}
-use Rattle.abc_trees.specs.Classes.{AreClasses}
-use Rattle.abc_entries.specs.Entries.{heads_of}
-use Rattle.abc_entries.specs.Heads.{TellHeads}
-use Rattle.abc_entries.specs.Visited.{roots_of}
-use Rattle.abc_entries.proofs.Building.{few_counts, few_names}
-use Rattle.abc_entries.proofs.Marked.{heads_many, marks_many, told_alike}
-use Rattle.abc_entries.proofs.NodeGraph.{is_graph}
-use Rattle.abc_entries.proofs.Once.{all_within, ordered_all}
-use Rattle.abc_entries.proofs.Ordered.{roots_classed}
+use Rattle.abc_base_trees.specs.Classes.{AreClasses}
+use Rattle.abc_tidy_entries.specs.Entries.{heads_of}
+use Rattle.abc_tidy_entries.specs.Heads.{TellHeads}
+use Rattle.abc_tidy_entries.specs.Visited.{roots_of}
+use Rattle.abc_tidy_entries.proofs.Building.{few_counts, few_names}
+use Rattle.abc_tidy_entries.proofs.Marked.{heads_many, marks_many, told_alike}
+use Rattle.abc_tidy_entries.proofs.NodeGraph.{is_graph}
+use Rattle.abc_tidy_entries.proofs.Once.{all_within, ordered_all}
+use Rattle.abc_tidy_entries.proofs.Ordered.{roots_classed}
 use Rattle.abc_tidy.proofs.tidying.class_entries.Goals as goal
 
 pub parts_first-requires-clause-in_range : goal.parts_first-requires-clause-in_range

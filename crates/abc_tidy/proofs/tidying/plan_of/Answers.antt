@@ -1,8 +1,8 @@
 use Rattle.std.proofs.Common.{refl}
-use Rattle.abc_refs.specs.Nodes.{number_in}
-use Rattle.abc_refs.specs.Renumbered.{beside, new_file}
-use Rattle.abc_entries.specs.Visited.{roots_of}
-use Rattle.abc_entries.proofs.Once.{once_classed, visited_all}
+use Rattle.abc_tidy_refs.specs.Nodes.{number_in}
+use Rattle.abc_tidy_refs.specs.Renumbered.{beside, new_file}
+use Rattle.abc_tidy_entries.specs.Visited.{roots_of}
+use Rattle.abc_tidy_entries.proofs.Once.{once_classed, visited_all}
 use Rattle.abc_tidy.proofs.Tidied.{tidied_value, with_numbers}
 use Rattle.abc_tidy.proofs.tidying.plan_of.Goals as goal
 

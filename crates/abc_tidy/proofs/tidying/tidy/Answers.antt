@@ -1,6 +1,6 @@
 use Rattle.std.specs.Result.{MatchResult}
 use Rattle.std.proofs.Common.{subst}
-use Rattle.abc_entries.specs.Rules.{IsTidied, IsTidyError}
+use Rattle.abc_tidy_entries.specs.Rules.{IsTidied, IsTidyError}
 use Rattle.abc_tidy.proofs.tidying.tidy.Goals as goal
 
 pub returns : goal.returns

@@ -1,5 +1,5 @@
 use Rattle.std.proofs.Common.{arith, append_assoc, refl, ◌∙◌}
-use Rattle.abc_tables.specs.Classes.{class_info, class_bytes}
+use Rattle.abc_file_types.specs.Classes.{class_info, class_bytes}
 use Rattle.abc_traits.proofs.classes.pass_class.Goals as goal
 
 pub returns : goal.returns

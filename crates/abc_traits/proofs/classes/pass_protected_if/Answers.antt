@@ -1,6 +1,6 @@
 use Rattle.std.proofs.Common.{arith, refl}
 use Rattle.std.proofs.Common.{Some}
-use Rattle.abc_format.specs.Part.{when}
+use Rattle.abc_file_types.specs.Part.{when}
 use Rattle.abc_traits.proofs.classes.pass_protected_if.Goals as goal
 
 pub returns-in_ok-pass : goal.returns-in_ok-pass

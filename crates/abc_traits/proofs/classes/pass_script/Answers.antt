@@ -1,5 +1,5 @@
 use Rattle.std.proofs.Common.{arith, append_assoc, refl, ◌∙◌}
-use Rattle.abc_tables.specs.Classes.{script, script_bytes}
+use Rattle.abc_file_types.specs.Classes.{script, script_bytes}
 use Rattle.abc_traits.proofs.classes.pass_script.Goals as goal
 
 pub returns : goal.returns

@@ -1,8 +1,8 @@
 use Rattle.std.proofs.Common.{Ok, Err, arith}
 use Rattle.std.specs.declared.result.Result.{Result}
-use Rattle.abc_tables.specs.declared.tables.Abc.{Abc}
-use Rattle.abc_tables.specs.Classes.{definitions}
-use Rattle.abc_tables.proofs.Exactness.{definitions-exact}
+use Rattle.abc_file_types.specs.declared.tables.Abc.{Abc}
+use Rattle.abc_file_types.specs.Classes.{definitions}
+use Rattle.abc_file_types.proofs.Exactness.{definitions-exact}
 use Rattle.abc_varint.specs.declared.error.ReadError.{ReadError}
 use Rattle.abc_varint.specs.declared.error.ReadError.TheVariants as errors
 use Rattle.abc_varint.proofs.Answering.{answers}

@@ -1,6 +1,6 @@
-use Rattle.abc_format.proofs.Determined.{determined}
-use Rattle.abc_tables.proofs.Exactness.{definitions-exact}
-use Rattle.abc_tables.proofs.Shortest.{definitions-canonical}
+use Rattle.abc_file_types.proofs.Determined.{determined}
+use Rattle.abc_file_types.proofs.Exactness.{definitions-exact}
+use Rattle.abc_file_types.proofs.Shortest.{definitions-canonical}
 use Rattle.abc_traits.proofs.laws.definitions_law.Goals as goal
 
 pub returns-clause-determined : goal.returns-clause-determined

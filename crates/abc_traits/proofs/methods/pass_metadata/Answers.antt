@@ -1,7 +1,7 @@
 use Rattle.std.proofs.Common.{arith, append_assoc, refl, ◌∙◌}
 use Rattle.std.proofs.Common.{◌≡◌, ◌*◌, ◌/◌, length}
-use Rattle.abc_format.specs.Numbers.{pool_index}
-use Rattle.abc_tables.specs.Methods.{metadata, metadata_bytes}
+use Rattle.abc_file_types.specs.Numbers.{pool_index}
+use Rattle.abc_file_types.specs.Methods.{metadata, metadata_bytes}
 use Rattle.abc_varint.proofs.Passing.{times_count}
 use Rattle.abc_traits.proofs.methods.pass_metadata.Goals as goal
 

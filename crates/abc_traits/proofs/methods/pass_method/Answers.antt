@@ -1,7 +1,7 @@
 use Rattle.std.proofs.Common.{arith, append_assoc, refl, ◌∙◌}
 use Rattle.std.proofs.Common.{◌≡◌, length}
-use Rattle.abc_format.specs.Numbers.{pool_index}
-use Rattle.abc_tables.specs.Methods.{method, method_bytes}
+use Rattle.abc_file_types.specs.Numbers.{pool_index}
+use Rattle.abc_file_types.specs.Methods.{method, method_bytes}
 use Rattle.std.proofs.lemmas.Result.{err_from_is_err_and}
 use Rattle.abc_varint.specs.Reads.{known}
 use Rattle.abc_varint.proofs.Inputs.{known_is}

@@ -1,7 +1,7 @@
 use Rattle.std.proofs.Common.{arith, append_assoc, refl, ◌∙◌}
 use Rattle.std.proofs.Common.{◌≡◌, length}
-use Rattle.abc_format.specs.Canonical.{counted_bytes}
-use Rattle.abc_tables.specs.Methods.{options, option_value}
+use Rattle.abc_file_types.specs.Canonical.{counted_bytes}
+use Rattle.abc_file_types.specs.Methods.{options, option_value}
 use Rattle.abc_varint.proofs.Passing.{times_count}
 use Rattle.abc_traits.proofs.options.pass_options.Goals as goal
 

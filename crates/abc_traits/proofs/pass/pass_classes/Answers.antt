@@ -1,6 +1,6 @@
 use Rattle.std.proofs.Common.{arith, append_assoc, refl, ◌∙◌}
 use Rattle.std.proofs.Common.{sym}
-use Rattle.abc_tables.specs.Classes.{class_info}
+use Rattle.abc_file_types.specs.Classes.{class_info}
 use Rattle.abc_varint.proofs.Passing.{times_count}
 use Rattle.abc_traits.proofs.pass.pass_classes.Goals as goal
 

@@ -1,5 +1,5 @@
 use Rattle.std.proofs.Common.{arith, append_assoc, refl, ◌∙◌}
-use Rattle.abc_tables.specs.Traits.{trait_info, trait_bytes}
+use Rattle.abc_file_types.specs.Traits.{trait_info, trait_bytes}
 use Rattle.abc_traits.proofs.traits.pass_trait.Goals as goal
 
 pub returns : goal.returns

@@ -1,14 +1,14 @@
 use Rattle.std.proofs.lemmas.Bool.{ltb-true, lt-ltb}
 use Rattle.std.specs.Prelude.{ℕ, List}
-use Rattle.abc_format.specs.Canonical.{IsCanonical}
-use Rattle.abc_format.specs.Law.{Exact}
-use Rattle.abc_format.specs.Numbers.{u30, u32, s32}
-use Rattle.abc_format.specs.Part.{Part}
-use Rattle.abc_format.proofs.Canon.{u30-canonical, u8-canonical}
-use Rattle.abc_format.proofs.Determined.{determined}
-use Rattle.abc_format.proofs.Fixed.{s24-canonical, u16-canonical}
-use Rattle.abc_format.proofs.Least.{s32-canonical, u32-canonical}
-use Rattle.abc_format.proofs.Numbers.{s24-exact, s32-exact, u16-exact, u30-exact, u32-exact, u8-exact}
+use Rattle.abc_file_types.specs.Canonical.{IsCanonical}
+use Rattle.abc_file_types.specs.Law.{Exact}
+use Rattle.abc_file_types.specs.Numbers.{u30, u32, s32}
+use Rattle.abc_file_types.specs.Part.{Part}
+use Rattle.abc_file_types.proofs.Canon.{u30-canonical, u8-canonical}
+use Rattle.abc_file_types.proofs.Determined.{determined}
+use Rattle.abc_file_types.proofs.Fixed.{s24-canonical, u16-canonical}
+use Rattle.abc_file_types.proofs.Least.{s32-canonical, u32-canonical}
+use Rattle.abc_file_types.proofs.Numbers.{s24-exact, s32-exact, u16-exact, u30-exact, u32-exact, u8-exact}
 use Rattle.abc_varint.specs.Laws.{IsNumberForm}
 use Rattle.abc_varint.proofs.laws.numbers_law.Goals as goal
 

@@ -1,6 +1,6 @@
 use Rattle.std.proofs.Common.{arith}
 use Rattle.std.specs.List.{flat_map}
-use Rattle.abc_format.specs.Canonical.{counted_bytes}
+use Rattle.abc_file_types.specs.Canonical.{counted_bytes}
 use Rattle.abc_varint.proofs.Passing.{counted_passes}
 use Rattle.abc_varint.proofs.pass.pass_counted.Goals as goal
 

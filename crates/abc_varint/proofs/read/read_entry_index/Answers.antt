@@ -1,4 +1,4 @@
-use Rattle.abc_format.proofs.Numbers.{entry_index-exact}
+use Rattle.abc_file_types.proofs.Numbers.{entry_index-exact}
 use Rattle.abc_varint.proofs.Answering.{answers}
 use Rattle.abc_varint.proofs.read.read_entry_index.Goals as goal
 

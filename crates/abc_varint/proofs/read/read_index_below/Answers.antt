@@ -1,4 +1,4 @@
-use Rattle.abc_format.proofs.Numbers.{index_below-exact}
+use Rattle.abc_file_types.proofs.Numbers.{index_below-exact}
 use Rattle.abc_varint.proofs.Answering.{answers}
 use Rattle.abc_varint.proofs.read.read_index_below.Goals as goal
 

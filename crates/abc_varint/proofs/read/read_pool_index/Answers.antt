@@ -1,4 +1,4 @@
-use Rattle.abc_format.proofs.Numbers.{pool_index-exact}
+use Rattle.abc_file_types.proofs.Numbers.{pool_index-exact}
 use Rattle.abc_varint.proofs.Answering.{answers}
 use Rattle.abc_varint.proofs.read.read_pool_index.Goals as goal
 

@@ -1,4 +1,4 @@
-use Rattle.abc_format.proofs.Numbers.{s24-exact}
+use Rattle.abc_file_types.proofs.Numbers.{s24-exact}
 use Rattle.abc_varint.proofs.Answering.{answers}
 use Rattle.abc_varint.proofs.read.read_s24.Goals as goal
 

@@ -1,6 +1,6 @@
 use Rattle.std.proofs.Common.{◌≡◌, ◌-◌, ◌+◌, ◌∷◌, ◌++◌, [], suc, arith, ◌∙◌}
 use Rattle.std.proofs.lemmas.Result.{err_from_is_err_and}
-use Rattle.abc_format.specs.Numbers.{u8}
+use Rattle.abc_file_types.specs.Numbers.{u8}
 use Rattle.abc_varint.specs.declared.error.ReadError.TheVariants as errors
 use Rattle.abc_varint.specs.View.{held}
 use Rattle.abc_varint.proofs.Chunks.{far_length, goes_far, more_length}

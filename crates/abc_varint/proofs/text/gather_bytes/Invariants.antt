@@ -1,5 +1,5 @@
 use Rattle.std.proofs.Common.{◌≡◌, ◌≤◌, ◌+◌, length}
-use Rattle.abc_format.specs.Numbers.{u8}
+use Rattle.abc_file_types.specs.Numbers.{u8}
 use Rattle.abc_varint.proofs.Loop.{Going}
 use Rattle.abc_varint.proofs.text.gather_bytes.Given as goal
 

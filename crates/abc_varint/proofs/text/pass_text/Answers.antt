@@ -1,7 +1,7 @@
 use Rattle.std.proofs.Common.{arith}
-use Rattle.abc_format.specs.Canonical.{text_bytes}
-use Rattle.abc_format.specs.Lists.{text}
-use Rattle.abc_format.specs.Numbers.{u8}
+use Rattle.abc_file_types.specs.Canonical.{text_bytes}
+use Rattle.abc_file_types.specs.Lists.{text}
+use Rattle.abc_file_types.specs.Numbers.{u8}
 use Rattle.abc_varint.proofs.Passing.{counted_passes}
 use Rattle.abc_varint.proofs.text.pass_text.Goals as goal
 

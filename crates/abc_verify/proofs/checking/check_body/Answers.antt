@@ -1,9 +1,9 @@
 use Rattle.std.proofs.Common.{subst}
 use Rattle.std.specs.Result.{MatchResult}
-use Rattle.abc_flow.specs.Walking.{RefusedBy}
-use Rattle.abc_typing.specs.Routines.{Routine}
-use Rattle.abc_typing.specs.Typing.{HasTyping}
-use Rattle.abc_frames.specs.Frames.{routine_in}
+use Rattle.abc_verify_flow.specs.Walking.{RefusedBy}
+use Rattle.abc_verify_typing.specs.Routines.{Routine}
+use Rattle.abc_verify_typing.specs.Typing.{HasTyping}
+use Rattle.abc_verify_states.specs.Frames.{routine_in}
 use Rattle.abc_verify.proofs.Shortness.{routine_short}
 use Rattle.abc_verify.proofs.checking.check_body.Goals as goal
 

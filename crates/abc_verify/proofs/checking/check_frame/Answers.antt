@@ -1,5 +1,5 @@
 use Rattle.std.proofs.Common.{sym}
-use Rattle.abc_frames.specs.Frames.{routine_in}
+use Rattle.abc_verify_states.specs.Frames.{routine_in}
 use Rattle.abc_verify.proofs.checking.check_frame.Goals as goal
 
 pub check_flow-requires-clause-heads : goal.check_flow-requires-clause-heads

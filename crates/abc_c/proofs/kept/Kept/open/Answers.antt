@@ -1,7 +1,7 @@
 use Rattle.std.proofs.Common.{ap}
 use Rattle.abc_base.specs.Hosts.{builtin_formulas}
 use Rattle.abc_session.proofs.Staying.{opened_beside}
-use Rattle.abc_session.specs.Machines.{Opened}
+use Rattle.abc_machine.specs.Machines.{Opened}
 use Rattle.abc_c.proofs.kept.Kept.open.Goals as goal
 
 pub invariant_of-result : goal.invariant_of-result

@@ -2,8 +2,8 @@ use mir.Val.{SFits}
 use Rattle.std.proofs.Common.{◌≡◌, ◌∙◌, ℤ, None, Some, sym, ap, refl, rules}
 use Rattle.std.proofs.lemmas.Int.{to_z-of_z}
 use Rattle.std.specs.Int.{w32, cast_signed}
-use Rattle.abc_tables.specs.Instructions.{Branch}
-use Rattle.abc_tables.specs.declared.code.Instr.TheVariants as instrs
+use Rattle.abc_file_types.specs.Instructions.{Branch}
+use Rattle.abc_file_types.specs.declared.code.Instr.TheVariants as instrs
 use Rattle.abc_instr.specs.declared.raw.RawInstr.TheVariants as raws
 use Rattle.abc_instr.specs.Fronts.{branch_in}
 use Rattle.abc_instr.specs.Reading.{done_in}

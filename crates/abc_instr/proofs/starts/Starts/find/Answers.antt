@@ -1,7 +1,7 @@
 use Rattle.std.proofs.Common.{◌≡◌, ℕ, get_or, nat_eq, Some, sym, subst, ◌∙◌, arith}
 use Rattle.std.specs.List.{position, slice_get}
 use Rattle.std.proofs.lemmas.Option.{get_or_from_slice_get, slice_get_within}
-use Rattle.abc_tables.proofs.Resolving.{position_is}
+use Rattle.abc_file_types.proofs.Resolving.{position_is}
 use Rattle.abc_instr.proofs.starts.Starts.find.Goals as goal
 
 -- the guess was tested

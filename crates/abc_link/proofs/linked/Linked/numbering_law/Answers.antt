@@ -1,5 +1,5 @@
 use Rattle.std.proofs.Common.{subst}
-use Rattle.abc_search_tables.specs.LayoutsNumbering.{IsNumbered}
+use Rattle.abc_link_layouts.specs.Numbering.{IsNumbered}
 use Rattle.abc_link.proofs.Laws.{is_numbered}
 use Rattle.abc_link.proofs.linked.Linked.numbering_law.Goals as goal
 

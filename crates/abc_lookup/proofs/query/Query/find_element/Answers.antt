@@ -1,5 +1,5 @@
 use Rattle.std.proofs.Common.{◌∙◌, sym}
-use Rattle.abc_heap.specs.Heap.{object_at}
+use Rattle.abc_heap_store.specs.Heap.{object_at}
 use Rattle.abc_lookup.proofs.Things.{an_array, no_array}
 use Rattle.abc_lookup.proofs.query.Query.find_element.Goals as goal
 

@@ -1,7 +1,7 @@
 use Rattle.std.proofs.Common.{◌∙◌, ℕ, Some, sym, ap}
 use Rattle.std.specs.Prelude.{slice_get}
-use Rattle.abc_cells.specs.declared.values.Value.TheVariants as values
-use Rattle.abc_heap.specs.Heap.{slots_of}
+use Rattle.abc_heap_values.specs.declared.values.Value.TheVariants as values
+use Rattle.abc_heap_store.specs.Heap.{slots_of}
 use Rattle.abc_lookup.proofs.Stands.{slot_exists}
 use Rattle.abc_lookup.proofs.query.Query.prototype.Goals as goal
 

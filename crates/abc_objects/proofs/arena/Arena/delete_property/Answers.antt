@@ -1,8 +1,8 @@
 use Rattle.std.proofs.Common.{◌≡◌, ◌∙◌, ap, is_some, sym, subst}
-use Rattle.abc_heap.specs.Heap.{Heap}
-use Rattle.abc_heap.specs.Texts.{IsText, text_of}
-use Rattle.abc_heap.specs.Properties.{with_delete, place_in}
-use Rattle.abc_heap.specs.Changes.{with_object}
+use Rattle.abc_heap_store.specs.Heap.{Heap}
+use Rattle.abc_heap_store.specs.Texts.{IsText, text_of}
+use Rattle.abc_heap_store.specs.Properties.{with_delete, place_in}
+use Rattle.abc_heap_store.specs.Changes.{with_object}
 use Rattle.abc_objects.specs.Stands.{StandsOver}
 use Rattle.abc_objects.proofs.Kept.{over_changed}
 use Rattle.abc_objects.proofs.Reshaped.{delete_reshapes}

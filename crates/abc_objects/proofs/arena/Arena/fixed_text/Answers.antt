@@ -1,6 +1,6 @@
 use Rattle.std.proofs.Common.{◌≡◌, sym, subst}
-use Rattle.abc_cells.specs.declared.values.Span.{Span}
-use Rattle.abc_heap.specs.Texts.{text_of}
+use Rattle.abc_heap_values.specs.declared.values.Span.{Span}
+use Rattle.abc_heap_store.specs.Texts.{text_of}
 use Rattle.abc_objects.specs.Fixed.{fixed_name}
 use Rattle.abc_objects.proofs.FixedTexts.{fixed_read}
 use Rattle.abc_objects.proofs.arena.Arena.fixed_text.Goals as goal

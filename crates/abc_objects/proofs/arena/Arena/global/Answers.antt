@@ -1,6 +1,6 @@
 use Rattle.std.proofs.Common.{◌≡◌, ℕ, ◌+◌, ap, arith, length, subst}
-use Rattle.abc_heap.specs.Heap.{Heap, obj_id}
-use Rattle.abc_heap.specs.declared.records.Limits.{Limits}
+use Rattle.abc_heap_store.specs.Heap.{Heap, obj_id}
+use Rattle.abc_heap_store.specs.declared.records.Limits.{Limits}
 use Rattle.abc_objects.specs.Opening.{global_number, global_object}
 use Rattle.abc_objects.specs.Stands.{IsMadeAs}
 use Rattle.abc_objects.proofs.Opened.{global_made}

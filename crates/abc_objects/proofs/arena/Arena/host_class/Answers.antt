@@ -1,5 +1,5 @@
 use Rattle.std.proofs.Common.{ℕ, ◌+◌, subst, sym}
-use Rattle.abc_heap.specs.Heap.{obj_id}
+use Rattle.abc_heap_store.specs.Heap.{obj_id}
 use Rattle.abc_objects.specs.Opening.{class_object}
 use Rattle.abc_objects.specs.Stands.{IsMadeAs}
 use Rattle.abc_objects.proofs.Opened.{class_made}

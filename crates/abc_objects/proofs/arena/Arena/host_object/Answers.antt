@@ -1,5 +1,5 @@
 use Rattle.std.proofs.Common.{◌≡◌, ℕ, ◌+◌, ap, arith, length, subst}
-use Rattle.abc_heap.specs.Heap.{Heap, obj_id}
+use Rattle.abc_heap_store.specs.Heap.{Heap, obj_id}
 use Rattle.abc_objects.specs.Opening.{host_object, host_object_number, property_names}
 use Rattle.abc_objects.specs.Stands.{IsMadeAs}
 use Rattle.abc_objects.proofs.Opened.{host_made}

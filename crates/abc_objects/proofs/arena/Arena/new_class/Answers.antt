@@ -2,12 +2,12 @@ use Rattle.std.proofs.Common.{◌≡◌, ◌<◌, ◌∙◌, ap, sym, subst, ari
 use Rattle.std.specs.Prelude.{get_or}
 use Rattle.std.proofs.lemmas.List.{length-map}
 use Rattle.abc_base.specs.declared.names.HostClass.TheVariants as hosts
-use Rattle.abc_heap.specs.Heap.{Heap}
-use Rattle.abc_heap.specs.Changes.{with_class}
-use Rattle.abc_heap.specs.declared.store.ClassParts.{ClassParts}
-use Rattle.abc_link.specs.Slots.{slots_of}
-use Rattle.abc_link.specs.LayoutId.{LayoutId}
-use Rattle.abc_link.specs.SlotInfo.{SlotInfo}
+use Rattle.abc_heap_store.specs.Heap.{Heap}
+use Rattle.abc_heap_store.specs.Changes.{with_class}
+use Rattle.abc_heap_store.specs.declared.store.ClassParts.{ClassParts}
+use Rattle.abc_link_program.specs.Slots.{slots_of}
+use Rattle.abc_link_program.specs.declared.part.LayoutId.{LayoutId}
+use Rattle.abc_link_program.specs.declared.types.SlotInfo.{SlotInfo}
 use Rattle.abc_objects.specs.Stands.{StandsOver, IsObjectOrNone, IsScope, AreEntries}
 use Rattle.abc_objects.specs.Starts.{start_value, start_values}
 use Rattle.abc_objects.proofs.Made.{host_found}

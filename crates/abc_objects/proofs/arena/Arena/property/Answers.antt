@@ -1,7 +1,7 @@
 use Rattle.std.proofs.Common.{◌∙◌, ap, sym, subst}
-use Rattle.abc_heap.specs.Heap.{Heap}
-use Rattle.abc_heap.specs.Texts.{IsText}
-use Rattle.abc_heap.specs.Properties.{property_in_heap}
+use Rattle.abc_heap_store.specs.Heap.{Heap}
+use Rattle.abc_heap_store.specs.Texts.{IsText}
+use Rattle.abc_heap_store.specs.Properties.{property_in_heap}
 use Rattle.abc_objects.specs.Stands.{StandsOver}
 use Rattle.abc_objects.proofs.arena.Arena.property.Goals as goal
 

@@ -1,7 +1,7 @@
 use Rattle.std.proofs.Common.{◌≡◌, sym, subst, true}
-use Rattle.abc_heap.specs.Heap.{Heap, object_at}
-use Rattle.abc_heap.specs.What.{is_array}
-use Rattle.abc_heap.specs.Changes.{with_new_element}
+use Rattle.abc_heap_store.specs.Heap.{Heap, object_at}
+use Rattle.abc_heap_store.specs.What.{is_array}
+use Rattle.abc_heap_store.specs.Changes.{with_new_element}
 use Rattle.abc_objects.specs.Stands.{StandsOver}
 use Rattle.abc_objects.specs.Values.{Exists}
 use Rattle.abc_objects.proofs.Kept.{over_changed}

@@ -1,9 +1,9 @@
 use Rattle.std.proofs.Common.{◌≡◌, List, ℕ, MatchResult, sym, subst}
-use Rattle.abc_heap.specs.Heap.{Heap, Fits, IsFull, cells_used}
-use Rattle.abc_heap.specs.Texts.{IsText, text_of}
-use Rattle.abc_heap.specs.Properties.{with_put, cells_to_put, place_in}
-use Rattle.abc_heap.specs.Changes.{with_object}
-use Rattle.abc_heap.specs.declared.records.Limit.TheVariants.{Cells}
+use Rattle.abc_heap_store.specs.Heap.{Heap, Fits, IsFull, cells_used}
+use Rattle.abc_heap_store.specs.Texts.{IsText, text_of}
+use Rattle.abc_heap_store.specs.Properties.{with_put, cells_to_put, place_in}
+use Rattle.abc_heap_store.specs.Changes.{with_object}
+use Rattle.abc_heap_store.specs.declared.records.Limit.TheVariants.{Cells}
 use Rattle.abc_objects.specs.Stands.{StandsOver}
 use Rattle.abc_objects.specs.Values.{Exists}
 use Rattle.abc_objects.proofs.Kept.{over_changed}

@@ -1,6 +1,6 @@
 use Rattle.std.proofs.Common.{sym, subst}
-use Rattle.abc_heap.specs.Heap.{Heap}
-use Rattle.abc_heap.specs.Changes.{with_slot}
+use Rattle.abc_heap_store.specs.Heap.{Heap}
+use Rattle.abc_heap_store.specs.Changes.{with_slot}
 use Rattle.abc_objects.specs.Stands.{StandsOver}
 use Rattle.abc_objects.specs.Values.{Exists}
 use Rattle.abc_objects.proofs.Kept.{over_changed}

@@ -1,8 +1,8 @@
 use Rattle.std.proofs.Common.{◌∙◌, ap}
-use Rattle.abc_machine.specs.CallmeaningExports.{export as export_of}
+use Rattle.abc_meaning_sound.specs.Exports.{export as export_of}
 use Rattle.abc_machine.specs.Machines.{Opened}
-use Rattle.abc_openings.specs.Begun.{setting}
-use Rattle.abc_program.specs.Linked.{LinkedFile}
+use Rattle.abc_run_finish.specs.Begun.{setting}
+use Rattle.abc_link_program.specs.Linked.{LinkedFile}
 use Rattle.abc_session.proofs.Found.{exported}
 use Rattle.abc_session.proofs.session.Session.export.Goals as goal
 

@@ -1,4 +1,0 @@
-pub mod Ending
-pub mod Runs
-pub mod Unverified
-pub mod VerifiedLine

@@ -1,4 +1,0 @@
-pub mod Modular
-pub mod Plain
-pub mod Whole
-pub mod Operations

@@ -1,0 +1,7 @@
+-- The entries so far.
+use Rattle.std.proofs.Common.{◌≡◌, take}
+use Rattle.abc_text_lines.specs.Answers.{joined}
+use Rattle.abc_asm.proofs.entries.joined.Given as goal
+
+abbrev pub invariant-loop-entry : goal.invariant-loop-entry
+invariant-loop-entry l = l.items ≡ joined (take l.entry-index l.entries)

@@ -1,3 +1,0 @@
-pub mod Coding
-pub mod Within
-pub mod Lined

@@ -1,9 +1,0 @@
-use Rattle.std.proofs.Common.{subst}
-use Rattle.std.specs.declared.result.Result.{Result}
-use Rattle.abc_text.specs.declared.reason.AsmReason.{AsmReason}
-use Rattle.abc_tables.specs.declared.code.Handler.{Handler}
-use Rattle.abc_operands.specs.Answers.{Answers}
-use Rattle.abc_asmlines.proofs.lower.HandlersFlat.line.Goals as goal
-
-pub returns : goal.returns
-returns c instances labels places = subst (λ (r : Result Handler AsmReason). Answers c.told.result r) (c.catch_line.ensures labels places) c.told.ensures

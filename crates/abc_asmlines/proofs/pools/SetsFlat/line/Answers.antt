@@ -1,4 +1,0 @@
-use Rattle.abc_asmlines.proofs.pools.SetsFlat.line.Goals as goal
-
-pub returns : goal.returns
-returns c instances labels places = c.set_line.ensures labels

@@ -1,5 +1,0 @@
-use Rattle.abc_asmparts.proofs.Heads.{initializer_says}
-use Rattle.abc_asmparts.proofs.scripts.InitializersHeaded.head.Goals as goal
-
-pub returns : goal.returns
-returns c = initializer_says c.args.reader.now c.args._taken.now c.requires.once _ c.as_slice.ensures.value c.method_index_line.result c.requires.word c.method_index_line.ensures

@@ -1,6 +1,0 @@
-use Rattle.std.proofs.Common.{◌++◌, take}
-use Rattle.abc_asmreader.specs.Names.{Same, names_in, texts}
-use Rattle.abc_asmreader.proofs.bodied.add_all.Given as goal
-
-abbrev pub invariant-loop-name : goal.invariant-loop-name
-invariant-loop-name l = Same (names_in l.seen) (texts (take l.name-index l.names) ++ names_in l.initial.seen)

@@ -1,0 +1,12 @@
+pub mod Searched
+pub mod Ranked
+pub mod Placing
+pub mod Settling
+pub mod Walks
+pub mod Lookup
+pub mod Grouped
+pub mod Numbering
+pub mod ByTexts
+pub mod Laid
+pub mod Sharing
+pub mod Slated

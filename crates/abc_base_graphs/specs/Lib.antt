@@ -1,0 +1,12 @@
+pub mod Graph
+pub mod Searching
+pub mod Ranks
+pub mod Orders
+pub mod Ways
+pub mod Index
+pub mod Texts
+pub mod Groups
+pub mod ByText
+pub mod Heirs
+pub mod Listed
+pub mod Marks

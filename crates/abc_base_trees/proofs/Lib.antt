@@ -1,0 +1,16 @@
+pub mod Efforts
+pub mod Reading
+pub mod Keyed
+pub mod Meanings
+pub mod TreeLaws
+pub mod Visited
+pub mod Walked
+pub mod Settled
+pub mod InRows
+pub mod Sizes
+pub mod Alike
+pub mod Pieces
+pub mod Levels
+pub mod Hanging
+pub mod Adding
+pub mod Paths

@@ -1,0 +1,10 @@
+-- For the prover alone: two lists of heads tell the nodes that have classes apart alike.
+use Rattle.std.specs.Prelude.{◌≡◌, ℕ, List}
+use Rattle.std.specs.declared.option.Option.{Option}
+use Rattle.abc_base_trees.specs.declared.heads.Head.{Head}
+use Rattle.abc_base_trees.specs.Classes.{HasClass}
+use Rattle.abc_base_trees.specs.Trees.{head}
+
+pub record AreAlike (classes : List (Option ℕ)) (hs ks : List Head) : Type 0 where
+  pub there : (x y : ℕ) → HasClass classes x → HasClass classes y → head hs x ≡ head hs y → head ks x ≡ head ks y
+  pub back : (x y : ℕ) → HasClass classes x → HasClass classes y → head ks x ≡ head ks y → head hs x ≡ head hs y

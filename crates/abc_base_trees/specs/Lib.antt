@@ -1,0 +1,12 @@
+pub mod Trees
+pub mod Classes
+pub mod Visits
+pub mod Effort
+pub mod Orders
+pub mod Walks
+pub mod Rows
+pub mod Alike
+pub mod Pieces
+pub mod Hanging
+pub mod Hung
+pub mod Adding

@@ -1,4 +1,0 @@
-use Rattle.abc_callarms.proofs.calling.call.Given as goal
-
-abbrev pub ghost-call_what : goal.ghost-call_what
-ghost-call_what g a = g.out

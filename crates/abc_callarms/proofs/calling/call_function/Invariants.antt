@@ -1,4 +1,0 @@
-use Rattle.abc_callarms.proofs.calling.call_function.Given as goal
-
-abbrev pub ghost-enter : goal.ghost-enter
-ghost-enter g a = g.out

@@ -1,7 +1,0 @@
-use Rattle.abc_callarms.proofs.calling.call_what.Given as goal
-
-abbrev pub ghost-call_function : goal.ghost-call_function
-ghost-call_function g a = g.out
-
-abbrev pub ghost-call_class : goal.ghost-call_class
-ghost-call_class g a = g.out

@@ -1,4 +1,0 @@
-use Rattle.abc_callarms.proofs.hosts.convert_only.Given as goal
-
-abbrev pub ghost-convert : goal.ghost-convert
-ghost-convert g a = g.out

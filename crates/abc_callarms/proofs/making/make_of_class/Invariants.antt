@@ -1,7 +1,0 @@
-use Rattle.abc_callarms.proofs.making.make_of_class.Given as goal
-
-abbrev pub ghost-convert_only : goal.ghost-convert_only
-ghost-convert_only g a = g.out
-
-abbrev pub ghost-make_plain : goal.ghost-make_plain
-ghost-make_plain g a = g.out

@@ -1,4 +1,0 @@
-use Rattle.abc_calling.proofs.arguments.coerce_argument.Given as goal
-
-abbrev pub ghost-coerce : goal.ghost-coerce
-ghost-coerce g a = g.out

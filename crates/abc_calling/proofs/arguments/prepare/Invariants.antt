@@ -1,4 +1,0 @@
-use Rattle.abc_calling.proofs.arguments.prepare.Given as goal
-
-abbrev pub ghost-coerce_arguments : goal.ghost-coerce_arguments
-ghost-coerce_arguments g a = g.out

@@ -1,4 +1,0 @@
-use Rattle.abc_calling.proofs.calling.call_stopped.Given as goal
-
-abbrev pub ghost-stopped : goal.ghost-stopped
-ghost-stopped g a = g.out

@@ -1,0 +1,38 @@
+use Rattle.abc_cli_answers.specs.End.{HasFailed, stream}
+use Rattle.abc_session.proofs.Pieces.{nothing}
+use Rattle.abc_cli_answers.proofs.Ending.{not_done}
+use Rattle.abc_cli_answers.proofs.Unverified.{read_is_verified, verified_stops}
+use Rattle.abc_cli_answers.proofs.Runs.{unread}
+use Rattle.abc_cli.proofs.CommandRuns.{unverified_runs, verified_runs}
+use Rattle.std.proofs.Common.{subst, sym}
+use Rattle.abc_cli_answers.specs.Answers.{OfFileRead, Unverified}
+use Rattle.abc_cli_answers.specs.Stops.{Stops}
+use Rattle.abc_cli_answers.specs.declared.stop.Stop.{Stop}
+use Rattle.abc_cli.proofs.run_command.run.Goals as goal
+
+pub run_verified-requires-clause-verified : goal.run_verified-requires-clause-verified
+run_verified-requires-clause-verified g c = read_is_verified (g.S.Source.left c.args.source.now) c.in-Ok.verified c.in-Ok.places c.in-Ok.ensures.ok
+
+pub returns-in-Ok-clause-end : goal.returns-in-Ok-clause-end
+returns-in-Ok-clause-end g c =
+    let source = stream g.S.Source.left g.S.Source.faults c.args.source.now c.read_verified.new.source in
+    verified_runs c.args.options.now (g.H.Host.formulas c.args.host.now) c.in-Ok.verified c.in-Ok.places (g.S.Source.left c.args.source.now) (HasFailed source) (stream g.K.Sink.written g.K.Sink.faults c.args.out.now c.run_verified.new.out)
+    (stream g.E.Sink.written g.E.Sink.faults c.args.err.now c.run_verified.new.err) c.run_verified.result c.in-Ok.ensures.ok c.run_verified.ensures.end
+
+pub returns-in-Ok-clause-used_up : goal.returns-in-Ok-clause-used_up
+returns-in-Ok-clause-used_up g c = λ h. c.in-Ok.ensures.end
+
+pub returns-in-Err-clause-end : goal.returns-in-Err-clause-end
+returns-in-Err-clause-end g c =
+    let source = stream g.S.Source.left g.S.Source.faults c.args.source.now c.read_verified.new.source in
+    unverified_runs c.args.options.now (g.H.Host.formulas c.args.host.now) source (stream g.K.Sink.written g.K.Sink.faults c.args.out.now c.args.out.now)
+    (stream g.E.Sink.written g.E.Sink.faults c.args.err.now c.give_stop.new.err) c.from.result c.give_stop.result
+    (subst (λ (stop : Stop). Stops (OfFileRead Unverified) source stop) (sym c.from.ensures) (verified_stops source c.in-Err.e c.in-Err.ensures.refused (λ e. c.in-Err.ensures.cause cc)))
+    (nothing (g.K.Sink.written c.args.out.now)) c.give_stop.ensures
+
+pub returns-in-Err-clause-used_up : goal.returns-in-Err-clause-used_up
+returns-in-Err-clause-used_up g c =
+    unread (stream g.S.Source.left g.S.Source.faults c.args.source.now c.read_verified.new.source) (stream g.E.Sink.written g.E.Sink.faults c.args.err.now c.give_stop.new.err) c.from.result c.give_stop.result c.give_stop.ensures
+
+pub returns-in-Err-clause-quiet : goal.returns-in-Err-clause-quiet
+returns-in-Err-clause-quiet g c = λ d. absurd (not_done (stream g.E.Sink.written g.E.Sink.faults c.args.err.now c.give_stop.new.err) c.from.result c.give_stop.result c.give_stop.ensures d)

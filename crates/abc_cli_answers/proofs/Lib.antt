@@ -1,0 +1,17 @@
+pub mod Cuts
+pub mod Digits
+pub mod Filling
+pub mod Places
+pub mod Steps
+pub mod Verdicts
+pub mod Ending
+pub mod Runs
+pub mod Unverified
+pub mod VerifiedLine
+pub mod Listed
+pub mod Ready
+pub mod Short
+pub mod Fitting
+pub mod Measuring
+pub mod Placed
+pub mod Started

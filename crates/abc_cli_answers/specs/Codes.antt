@@ -1,0 +1,88 @@
+-- The code of the generated file.
+use Rattle.std.specs.Prelude.{ℕ, ℤ, ◌+◌, ◌%◌, pos, nat_eq, if◌then◌else◌, List, [], ◌∷◌, ◌++◌}
+use Rattle.std.specs.List.{flat_map, range_with_len}
+use Rattle.abc_file_types.specs.declared.code.Instr.{Instr}
+use Rattle.abc_file_types.specs.declared.code.Instr.TheVariants as instrs
+use Rattle.abc_cli_answers.specs.Draws.{after, given_by}
+
+-- ---- the instructions, by their mnemonics
+
+abbrev pub label : Instr
+label = instrs.Plain 0x09
+
+abbrev pub pushscope : Instr
+pushscope = instrs.Plain 0x30
+
+abbrev pub returnvoid : Instr
+returnvoid = instrs.Plain 0x47
+
+abbrev pub returnvalue : Instr
+returnvalue = instrs.Plain 0x48
+
+abbrev pub convert_i : Instr
+convert_i = instrs.Plain 0x73
+
+abbrev pub getlocal_0 : Instr
+getlocal_0 = instrs.Plain 0xd0
+
+abbrev pub getlocal_1 : Instr
+getlocal_1 = instrs.Plain 0xd1
+
+abbrev pub getlocal_2 : Instr
+getlocal_2 = instrs.Plain 0xd2
+
+abbrev pub setlocal_1 : Instr
+setlocal_1 = instrs.Plain 0xd5
+
+abbrev pub setlocal_2 : Instr
+setlocal_2 = instrs.Plain 0xd6
+
+abbrev pub pushbyte : ℤ → Instr
+pushbyte z = instrs.Byte z
+
+abbrev pub pushshort : ℤ → Instr
+pushshort z = instrs.Short z
+
+abbrev pub ifgt : ℕ → Instr
+ifgt target = instrs.Branch 0x17 target
+
+abbrev pub findpropstrict : ℕ → Instr
+findpropstrict name = instrs.One 0x5d name
+
+abbrev pub declocal_i : ℕ → Instr
+declocal_i local = instrs.One 0xc3 local
+
+abbrev pub callproperty : ℕ → ℕ → Instr
+callproperty name arguments = instrs.Two 0x46 name arguments
+
+abbrev pub callpropvoid : ℕ → ℕ → Instr
+callpropvoid name arguments = instrs.Two 0x4f name arguments
+
+-- ---- the first body calls each function with what the one before gave, and traces what the last gave
+
+-- Function i has the name i + 2.
+abbrev pub call_of : ℕ → List Instr
+call_of i = getlocal_0 ∷ getlocal_1 ∷ callproperty (i + 2) 1 ∷ convert_i ∷ setlocal_1 ∷ []
+
+abbrev pub first_code : ℕ → List Instr
+first_code m =
+    (getlocal_0 ∷ pushscope ∷ pushbyte (pos 1) ∷ setlocal_1 ∷ [])
+    ++ flat_map call_of (range_with_len 1 m)
+    ++ (findpropstrict 1 ∷ getlocal_1 ∷ callpropvoid 1 1 ∷ returnvoid ∷ [])
+
+-- ---- the others repeat one operation
+
+-- add_i, subtract_i, multiply_i or bitxor
+abbrev pub operation_of : ℕ → ℕ
+operation_of n = if nat_eq n 0 then 0xc5 else if nat_eq n 1 then 0xc6 else if nat_eq n 2 then 0xc7 else 0xaa
+
+abbrev pub repeated : ℤ → ℤ → ℕ → List Instr
+repeated rounds operand op =
+    getlocal_1 ∷ convert_i ∷ setlocal_2 ∷ pushbyte rounds ∷ setlocal_1
+    ∷ label ∷ getlocal_2 ∷ pushshort operand ∷ instrs.Plain op ∷ setlocal_2
+    ∷ declocal_i 1 ∷ getlocal_1 ∷ pushbyte (pos 0) ∷ ifgt 5 ∷ getlocal_2 ∷ returnvalue ∷ []
+
+-- the code for which three draws are made from this number on
+abbrev pub drawn_code : ℕ → List Instr
+drawn_code x =
+    repeated (pos (given_by (after x 1) % 8 + 1)) (pos (given_by (after x 2) % 32768)) (operation_of (given_by (after x 3) % 4))

@@ -1,0 +1,12 @@
+pub mod Commands
+pub mod Grammar
+pub mod Reading
+pub mod Lines
+pub mod Answers
+pub mod End
+pub mod Stops
+pub mod Draws
+pub mod Codes
+pub mod Generated
+pub mod Measured
+pub mod Placed

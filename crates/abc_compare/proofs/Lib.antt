@@ -1,3 +1,0 @@
-mod Walks
-pub mod Taken
-pub mod Following

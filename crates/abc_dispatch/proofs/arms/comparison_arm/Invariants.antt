@@ -1,4 +1,0 @@
-use Rattle.abc_dispatch.proofs.arms.comparison_arm.Given as goal
-
-abbrev pub ghost-run_comparison : goal.ghost-run_comparison
-ghost-run_comparison g a = g.out

@@ -1,4 +1,0 @@
-use Rattle.abc_dispatch.proofs.arms.control_arm.Given as goal
-
-abbrev pub ghost-run_control : goal.ghost-run_control
-ghost-run_control g a = g.out

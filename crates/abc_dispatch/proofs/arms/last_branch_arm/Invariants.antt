@@ -1,4 +1,0 @@
-use Rattle.abc_dispatch.proofs.arms.last_branch_arm.Given as goal
-
-abbrev pub ghost-run_last_branch : goal.ghost-run_last_branch
-ghost-run_last_branch g a = g.out

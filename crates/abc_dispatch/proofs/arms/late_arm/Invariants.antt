@@ -1,4 +1,0 @@
-use Rattle.abc_dispatch.proofs.arms.late_arm.Given as goal
-
-abbrev pub ghost-run_late : goal.ghost-run_late
-ghost-run_late g a = g.out

@@ -1,4 +1,0 @@
-use Rattle.abc_dispatch.proofs.arms.scope_arm.Given as goal
-
-abbrev pub ghost-run_scope : goal.ghost-run_scope
-ghost-run_scope g a = g.out

@@ -1,4 +1,0 @@
-use Rattle.abc_dispatch.proofs.arms.typed_arm.Given as goal
-
-abbrev pub ghost-run_typed : goal.ghost-run_typed
-ghost-run_typed g a = g.out

@@ -1,4 +1,0 @@
-use Rattle.abc_dispatch.proofs.dispatch.run_instr.Goals as goal
-
-pub run_common-requires : goal.run_common-requires
-run_common-requires g c = (c.requires.0, (c.opcode_of.ensures c.in-Some.op c.in-Some.is, c.requires.1))

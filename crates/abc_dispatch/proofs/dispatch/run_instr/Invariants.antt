@@ -1,7 +1,0 @@
-use Rattle.abc_dispatch.proofs.dispatch.run_instr.Given as goal
-
-abbrev pub ghost-run_common : goal.ghost-run_common
-ghost-run_common g a = g.out
-
-abbrev pub ghost-run_byte_here : goal.ghost-run_byte_here
-ghost-run_byte_here g a = g.out

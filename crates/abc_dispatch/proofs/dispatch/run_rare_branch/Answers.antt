@@ -1,9 +1,0 @@
-use Rattle.abc_dispatch.proofs.Grouped.{first_in, last_in, row_there}
-use Rattle.abc_tables.specs.declared.code.Instr.TheVariants.{Branch}
-use Rattle.abc_dispatch.proofs.dispatch.run_rare_branch.Goals as goal
-
-pub first_branch_arm-requires : goal.first_branch_arm-requires
-first_branch_arm-requires g c = (c.requires.0, (first_in c.args.op c.requires.0.spelled.is (row_there c.args.linked.now g.out c.args.s.now (Branch c.args.op c.args.target) c.requires.0) c.if-op-lt19.true, c.requires.1.1))
-
-pub last_branch_arm-requires : goal.last_branch_arm-requires
-last_branch_arm-requires g c = (c.requires.0, (last_in c.args.op c.requires.0.spelled.is (row_there c.args.linked.now g.out c.args.s.now (Branch c.args.op c.args.target) c.requires.0) c.if-op-lt19.false, c.requires.1.1))

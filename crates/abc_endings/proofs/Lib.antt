@@ -1,2 +1,0 @@
-pub mod Running
-pub use Rattle.abc_ticks.proofs.Pieces

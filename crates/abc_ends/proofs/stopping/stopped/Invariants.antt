@@ -1,7 +1,0 @@
-use Rattle.abc_ends.proofs.stopping.stopped.Given as goal
-
-abbrev pub ghost-throw : goal.ghost-throw
-ghost-throw g a = g.out
-
-abbrev pub ghost-fault_at : goal.ghost-fault_at
-ghost-fault_at g a = g.out

@@ -1,4 +1,0 @@
-use Rattle.abc_ends.proofs.stopping.throw.Given as goal
-
-abbrev pub ghost-thrown_as : goal.ghost-thrown_as
-ghost-thrown_as g a = g.out

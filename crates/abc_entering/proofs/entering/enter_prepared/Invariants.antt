@@ -1,7 +1,0 @@
-use Rattle.abc_entering.proofs.entering.enter_prepared.Given as goal
-
-abbrev pub ghost-prepare : goal.ghost-prepare
-ghost-prepare g a = g.out
-
-abbrev pub ghost-put_on : goal.ghost-put_on
-ghost-put_on g a = g.out

@@ -1,4 +1,0 @@
-use Rattle.abc_entering.proofs.entering.enters_at_once.Given as goal
-
-abbrev pub ghost-enters_in_place : goal.ghost-enters_in_place
-ghost-enters_in_place g a = g.out

@@ -1,4 +1,0 @@
-use Rattle.abc_entering.proofs.entering.start_above.Given as goal
-
-abbrev pub ghost-enter : goal.ghost-enter
-ghost-enter g a = g.out

@@ -1,5 +1,0 @@
-use Rattle.std.proofs.Common.{◌≡◌, replicate}
-use Rattle.abc_entries.proofs.numbering.no_counts.Given as goal
-
-abbrev pub invariant-loop-pool : goal.invariant-loop-pool
-invariant-loop-pool l = l.met ≡ replicate l._pool 0

@@ -1,5 +1,0 @@
-use Rattle.abc_entries.specs.Numbered.{AreNodeNumbers}
-use Rattle.abc_entries.proofs.numbering.node_numbers.Given as goal
-
-abbrev pub invariant-loop-node : goal.invariant-loop-node
-invariant-loop-node l = AreNodeNumbers l.classes.classes l.places l.numbers l.node l.all

@@ -1,9 +1,0 @@
-use Rattle.std.proofs.Common.{◌≤◌, length}
-use Rattle.abc_entries.specs.Heads.{HoldsMarked}
-use Rattle.abc_entries.proofs.places.marked_texts.Given as goal
-
-abbrev pub invariant-loop-i : goal.invariant-loop-i
-invariant-loop-i l = record {
-  many : length l.kept ≤ l.i;
-  holds : HoldsMarked l.marks l.begin l.strings l.i l.kept;
-}

@@ -1,8 +1,0 @@
--- A verified setting has typings, one for each method that has a body.
-use Rattle.abc_unstuck.specs.MeaningLaws.{IsVerified}
-use Rattle.abc_unstuck.specs.MeaningSound.{AreTypings, Typings}
-use Rattle.abc_unstuck.proofs.Never.{are_typings, typings}
-use Rattle.abc_world.specs.Setting.{Setting}
-
-pub has_typings : (p : Setting) → IsVerified p → (states : Typings) × AreTypings p states
-has_typings p v = (typings p v, are_typings p v)

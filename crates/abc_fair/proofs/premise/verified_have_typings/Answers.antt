@@ -1,5 +1,0 @@
-use Rattle.abc_fair.proofs.Typed.{has_typings}
-use Rattle.abc_fair.proofs.premise.verified_have_typings.Goals as goal
-
-pub returns : goal.returns
-returns c = has_typings

@@ -1,3 +1,0 @@
-mod Stopping
-mod Placing
-mod Calling

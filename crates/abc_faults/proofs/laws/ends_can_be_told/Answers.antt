@@ -1,5 +1,0 @@
-use Rattle.abc_faults.proofs.Placing.{faults_placed}
-use Rattle.abc_faults.proofs.laws.ends_can_be_told.Goals as goal
-
-pub returns-clause-placed : goal.returns-clause-placed
-returns-clause-placed c = faults_placed

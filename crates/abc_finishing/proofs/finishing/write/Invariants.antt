@@ -1,7 +1,0 @@
-use Rattle.abc_finishing.proofs.finishing.write.Given as goal
-
-abbrev pub ghost-trace : goal.ghost-trace
-ghost-trace g a = g.out
-
-abbrev pub ghost-stopped : goal.ghost-stopped
-ghost-stopped g a = g.out

@@ -1,4 +1,0 @@
-use Rattle.abc_finishing.proofs.returning.give_back.Given as goal
-
-abbrev pub ghost-resume : goal.ghost-resume
-ghost-resume g a = g.out

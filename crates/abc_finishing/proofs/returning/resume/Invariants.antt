@@ -1,4 +1,0 @@
-use Rattle.abc_finishing.proofs.returning.resume.Given as goal
-
-abbrev pub ghost-make_of : goal.ghost-make_of
-ghost-make_of g a = g.out

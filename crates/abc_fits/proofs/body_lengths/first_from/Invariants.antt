@@ -1,7 +1,0 @@
-use Rattle.std.proofs.Common.{◌≡◌, ℕ, ◌-◌, ◌^◌, ◌<◌, min}
-use Rattle.abc_tables.specs.CodeBytes.{sized}
-use Rattle.abc_tables.specs.Starts.{start}
-use Rattle.abc_fits.proofs.body_lengths.first_from.Given as goal
-
-abbrev pub invariant-loop-i : goal.invariant-loop-i
-invariant-loop-i l = (l.here ≡ min (start (sized l.code) l.i) (2 ^ 64 - 1)) × ((t : ℕ) → t < l.i → start (sized l.code) t < l.limit)

@@ -1,6 +1,0 @@
-use Rattle.std.proofs.Common.{refl}
-use Rattle.abc_fits.proofs.Rising.{rise_differ}
-use Rattle.abc_fits.proofs.fitting_bodies.are_apart.Goals as goal
-
-pub returns-then-rise : goal.returns-then-rise
-returns-then-rise c = (λ yes_result. rise_differ c.args.bodies.now (c.requires.rise c.if-rise.true), λ pairs. refl)

@@ -1,8 +1,0 @@
-use Rattle.std.proofs.Common.{ℕ, ◌*◌, ◌<◌}
-use Rattle.std.specs.Prelude.{AllPairs}
-use Rattle.abc_fits.specs.declared.fitting_bodies.TheConstants.{WINDOW}
-use Rattle.abc_fits.specs.Distinct.{DifferFrom}
-use Rattle.abc_fits.proofs.fitting_bodies.are_distinct.Given as goal
-
-abbrev pub invariant-loop-window : goal.invariant-loop-window
-invariant-loop-window l = (w : ℕ) → w < l.window → AllPairs (DifferFrom (w * WINDOW) WINDOW) l.bodies

@@ -1,6 +1,0 @@
-use Rattle.std.proofs.Common.{length, take}
-use Rattle.abc_fits.proofs.Windows.{Walked}
-use Rattle.abc_fits.proofs.fitting_bodies.are_distinct_from.Given as goal
-
-abbrev pub invariant-loop-body : goal.invariant-loop-body
-invariant-loop-body l = Walked l.low (length l.initial.seen) l.seen (take l.body-index l.bodies)

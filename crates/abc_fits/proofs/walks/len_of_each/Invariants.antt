@@ -1,6 +1,0 @@
-use Rattle.std.proofs.Common.{take}
-use Rattle.abc_fits.proofs.Walking.{SoFar}
-use Rattle.abc_fits.proofs.walks.len_of_each.Given as goal
-
-abbrev pub invariant-loop-item : goal.invariant-loop-item
-invariant-loop-item g l = SoFar (g.T.Fitting.fits l.sizes) g.T.Measured.len (take l.item-index l.item-items) l.len

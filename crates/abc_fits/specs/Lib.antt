@@ -1,4 +1,0 @@
-pub mod Lengths
-pub mod StartWidths
-pub mod Fitting
-pub mod Distinct

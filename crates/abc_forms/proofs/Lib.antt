@@ -1,2 +1,0 @@
-pub mod Eaching
-pub mod Kinded

@@ -1,5 +1,0 @@
-use Rattle.abc_frames.proofs.Starts.{begun}
-use Rattle.abc_frames.proofs.entry.entry_of.Goals as goal
-
-pub returns : goal.returns
-returns c = begun _ _ _ _ c.new-stack.ensures c.new-scopes.ensures c.in_ok-locals.ensures

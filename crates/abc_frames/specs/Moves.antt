@@ -1,0 +1,105 @@
+-- What becomes of a frame.
+use Rattle.std.specs.Prelude.{ℕ, ◌+◌, ◌-◌, List, [], ◌∷◌, ◌++◌, Bool, true, false, length, drop, take, Option, None, Some}
+use Rattle.abc_heap_values.specs.declared.values.ObjId.{ObjId}
+use Rattle.abc_heap_values.specs.declared.values.Value.{Value}
+use Rattle.abc_heap_values.specs.declared.values.Value.TheVariants.{Undefined, Null, Num, Bool as Truth, Text, Space, Obj}
+use Rattle.abc_frames.specs.Frame.{Frame, Frames, newest, with_newest, at_place, dropped, with_local, with_scope, waiting}
+use Rattle.abc_frames.specs.declared.records.Wait.{Wait}
+use Rattle.abc_frames.specs.declared.records.Wait.TheVariants.{Not, Push, Drop, Keep, Again, New}
+
+-- ---- how a frame goes on
+
+abbrev pub next : Frame → Frame
+next f = record f { place = f.place + 1 }
+
+-- with values on its stack, the top first
+abbrev pub next_with : List Value → Frame → Frame
+next_with vs f = record f { stack = vs ++ f.stack; place = f.place + 1 }
+
+-- ---- what is taken: the top, and what is under it
+
+abbrev pub first_of : List Value → Value
+first_of [] = Undefined
+first_of (v ∷ vs) = v
+
+abbrev pub top : Frame → Value
+top f = first_of f.stack
+
+abbrev pub second : Frame → Value
+second f = first_of (drop 1 f.stack)
+
+-- ---- operands and locals
+
+abbrev pub popped : Frame → Frame
+popped f = next (dropped 1 f)
+
+abbrev pub duplicated : Frame → Frame
+duplicated f = next_with (top f ∷ top f ∷ []) (dropped 1 f)
+
+abbrev pub swapped : Frame → Frame
+swapped f = next_with (second f ∷ top f ∷ []) (dropped 2 f)
+
+abbrev pub stored : ℕ → Frame → Frame
+stored n f = next (with_local n (top f) (dropped 1 f))
+
+abbrev pub killed : ℕ → Frame → Frame
+killed n f = next (with_local n Undefined f)
+
+abbrev pub dropped_on : ℕ → Frame → Frame
+dropped_on n f = next (dropped n f)
+
+-- a value in place of the top ones, so many
+abbrev pub finished : ℕ → Value → Frame → Frame
+finished n v f = next_with (v ∷ []) (dropped n f)
+
+-- to the target, or on
+abbrev pub branched : Bool → (target : ℕ) → Frame → Frame
+branched true target f = at_place target f
+branched false target f = next f
+
+-- ---- scopes
+
+abbrev pub object_in : Value → Option ObjId
+object_in (Obj o) = Some o
+object_in Undefined = None
+object_in Null = None
+object_in (Num n) = None
+object_in (Truth b) = None
+object_in (Text t) = None
+object_in (Space n) = None
+
+-- an object that is taken goes onto the scopes, and no other value
+abbrev pub scoped : (with_flag : Bool) → ObjId → Frame → Frame
+scoped with_flag o f = next (with_scope (record { object = o; with_flag = with_flag }) (dropped 1 f))
+
+abbrev pub scoped_if : (with_flag : Bool) → Option ObjId → Frames → Frames
+scoped_if with_flag None q = q
+scoped_if with_flag (Some o) q = with_newest (scoped with_flag o) q
+
+abbrev pub scopes_pushed : (with_flag : Bool) → Frames → Frames
+scopes_pushed with_flag q = scoped_if with_flag (object_in (top (newest q))) q
+
+abbrev pub unscoped : Frame → Frame
+unscoped f = next (record f { scopes = take (length f.scopes - 1) f.scopes })
+
+-- ---- what a frame that waited does with what returns; where it makes an object of that, it still waits
+
+abbrev pub resumed_by : Wait → Value → Frame → Frame
+resumed_by Push v f = next_with (v ∷ []) (waiting Not f)
+resumed_by Drop v f = next (waiting Not f)
+resumed_by (Keep kept) v f = next_with (kept ∷ []) (waiting Not f)
+resumed_by Again v f = waiting Not f
+resumed_by (New n) v f = waiting Not f
+resumed_by Not v f = waiting Not f
+
+abbrev pub resumed : Value → Frame → Frame
+resumed v f = resumed_by f.wait v f
+
+-- with so many arguments an object is made of what returns
+abbrev pub makes_of : Wait → Option ℕ
+makes_of Push = None
+makes_of Drop = None
+makes_of (Keep kept) = None
+makes_of Again = None
+makes_of (New n) = Some n
+makes_of Not = None

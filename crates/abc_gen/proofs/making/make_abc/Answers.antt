@@ -1,8 +1,0 @@
-use Rattle.std.proofs.Common.{subst, sym}
-use Rattle.abc_tables.specs.declared.tables.Abc.{Abc}
-use Rattle.abc_tables.specs.Files.{Fits}
-use Rattle.abc_gen.proofs.Fitting.{generated_fits}
-use Rattle.abc_gen.proofs.making.make_abc.Goals as goal
-
-pub returns-clause-fits : goal.returns-clause-fits
-returns-clause-fits c = subst (λ (v : Abc). Fits v) (sym c.in_ok-abc.ensures) (generated_fits c.args.seed c.args.methods c.requires)

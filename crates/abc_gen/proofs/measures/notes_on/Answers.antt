@@ -1,5 +1,0 @@
-use Rattle.abc_gen.proofs.Measuring.{bodies_ready}
-use Rattle.abc_gen.proofs.measures.notes_on.Goals as goal
-
-pub places_of-requires : goal.places_of-requires
-places_of-requires c = bodies_ready c.args.abc.now c.requires.fits

@@ -1,5 +1,0 @@
-use Rattle.abc_gen.proofs.Started.{SoFar}
-use Rattle.abc_gen.proofs.placing.put_starts.Given as goal
-
-abbrev pub invariant-loop-instr : goal.invariant-loop-instr
-invariant-loop-instr l = SoFar l.code l.instr-index l.here l.starts.items

@@ -1,9 +1,0 @@
-pub mod Laws
-pub use Rattle.abc_opsound.specs.SoundGiven
-pub use Rattle.abc_opsound.specs.SoundKeeping
-pub use Rattle.abc_opsound.specs.MeaningLaws
-pub use Rattle.abc_opsound.specs.Meaning
-pub use Rattle.abc_opsound.specs.MeaningSound
-pub use Rattle.abc_opsound.specs.MeaningThrowing
-pub use Rattle.abc_opsound.specs.ActsAt
-pub use Rattle.abc_opsound.specs.MeaningStep

@@ -1,5 +1,0 @@
-use Rattle.abc_graph.proofs.Walks.{is_way, only_way}
-use Rattle.abc_graph.proofs.ways.one_way.Goals as goal
-
-pub returns : goal.returns
-returns c = record { is_way = is_way; no_other = only_way }

@@ -1,5 +1,0 @@
-use Rattle.abc_heads.proofs.Marked.{heads}
-use Rattle.abc_heads.proofs.heads_of.Goals as goal
-
-pub returns : goal.returns
-returns c = heads _ _ _ _ _ _ _ c.count_of.ensures.some c.count_of.ensures.enough c.in_ok-marks.ensures c.mark.ensures c.mark_code.ensures c.mark_handlers.ensures

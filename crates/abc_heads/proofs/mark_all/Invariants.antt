@@ -1,6 +1,0 @@
-use Rattle.std.proofs.Common.{take}
-use Rattle.abc_heads.specs.Marking.{Marks}
-use Rattle.abc_heads.proofs.mark_all.Given as goal
-
-abbrev pub invariant-loop-place : goal.invariant-loop-place
-invariant-loop-place l = Marks (take l.place-index l.places) l.initial.marks l.marks

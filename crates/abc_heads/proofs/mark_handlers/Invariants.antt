@@ -1,6 +1,0 @@
-use Rattle.std.proofs.Common.{take}
-use Rattle.abc_heads.specs.Marking.{Marks, handler_places}
-use Rattle.abc_heads.proofs.mark_handlers.Given as goal
-
-abbrev pub invariant-loop-handler : goal.invariant-loop-handler
-invariant-loop-handler l = Marks (handler_places (take l.handler-index l.handlers)) l.initial.marks l.marks

@@ -1,6 +1,0 @@
-use Rattle.std.proofs.Common.{◌≡◌, length, take}
-use Rattle.abc_heap.specs.Strings.{pieces, AreEnds}
-use Rattle.abc_heap.proofs.strings.copied.Given as goal
-
-abbrev pub invariant-loop-text : goal.invariant-loop-text
-invariant-loop-text l = AreEnds 0 l.ends.items (length l.bytes) × (pieces 0 l.ends.items l.bytes ≡ take l.text-index l.texts)

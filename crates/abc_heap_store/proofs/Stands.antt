@@ -1,0 +1,132 @@
+-- The flat lists stand for a heap, also after a call.
+use Rattle.std.proofs.Common.{◌≡◌, ℕ, ◌+◌, ◌<◌, ◌≤◌, ◌^◌, true, List, [], Option, Some, None, length, replicate, set, get_or, refl, sym, ap, ◌∙◌, subst, arith}
+use Rattle.std.specs.Prelude.{slice_get}
+use Rattle.abc_heap_values.specs.Filling.{Filling}
+use Rattle.abc_heap_values.specs.declared.cell.Cell.{Cell}
+use Rattle.abc_heap_values.specs.declared.cell.Held.{Held}
+use Rattle.abc_heap_values.specs.declared.cell.Held.TheVariants.{Slot, Property, Deleted, Element}
+use Rattle.abc_heap_values.specs.declared.values.Span.{Span}
+use Rattle.abc_heap_values.specs.declared.values.Value.{Value}
+use Rattle.abc_heap_values.specs.declared.cell.Lane.{Lane}
+use Rattle.abc_heap_values.specs.declared.cell.Lane.TheVariants.{Slots, Properties, Elements}
+use Rattle.abc_heap_values.specs.Lanes.{lane_of, property_in}
+use Rattle.abc_heap_values.specs.Links.{links, IsAt, held_at}
+use Rattle.abc_heap_values.proofs.Parts.{slice_get_some}
+use Rattle.abc_heap_store.specs.declared.heads.Head.{Head}
+use Rattle.abc_heap_store.specs.declared.search.Spot.{Spot}
+use Rattle.abc_heap_store.specs.declared.records.ScopeNode.{ScopeNode}
+use Rattle.abc_heap_store.specs.declared.records.Limits.{Limits}
+use Rattle.abc_heap_store.specs.declared.buckets.Buckets.{Buckets}
+use Rattle.abc_heap_store.specs.Buckets.{bucket, bucket_of, buckets_of, AreBuckets, IsIndexed}
+use Rattle.abc_heap_store.specs.Heap.{properties_of}
+use Rattle.abc_heap_store.specs.Texts.{text_in, IsTextIn}
+use Rattle.abc_heap_store.specs.Properties.{valued, is_named}
+use Rattle.abc_heap_store.specs.Spots.{IsSpot}
+use Rattle.abc_heap_store.specs.View.{objects, AreHeads, IsStored}
+use Rattle.abc_heap_store.proofs.Flat.{property_read}
+use Rattle.abc_heap_store.proofs.Indexed.{IsNameIn, index_held, index_gone, index_empty, key_at, same_some}
+use Rattle.abc_heap_store.proofs.Searches.{found_named, named_bucket}
+use Rattle.abc_heap_store.proofs.Writes.{hold_keeps, inside, cell_in}
+
+-- what holds no property has no name
+nameless : (fixed made : List ℕ) (strings : List (List ℕ)) (h : Held) → property_in h ≡ None → IsNameIn fixed made strings h
+nameless fixed made strings h e = λ n v p. no_name (sym e ∙ p)
+  where
+    no_name : {X Y : Type 0} {p : X} → ◌≡◌ {A = Option X} None (Some p) → Y
+    no_name e = absurd cc
+
+slot_none : (h : Held) → lane_of h ≡ Slots → property_in h ≡ None
+slot_none (Slot v) e = refl
+slot_none (Property n v) e = absurd cc
+slot_none Deleted e = absurd cc
+slot_none (Element v) e = absurd cc
+
+element_none : (h : Held) → lane_of h ≡ Elements → property_in h ≡ None
+element_none (Slot v) e = absurd cc
+element_none (Property n v) e = absurd cc
+element_none Deleted e = absurd cc
+element_none (Element v) e = refl
+
+hold_stored : (hs : Filling Head) (cs new : Filling Cell) (ss : Filling ScopeNode) (fixed : List ℕ) (ts : Filling ℕ) (strings : List (List ℕ)) (b : Buckets) (m : Limits) (p o : ℕ) (l : Lane) (k : ℕ) (h : Held) → IsStored hs cs ss fixed ts strings b m → IsAt (links cs.items) p o l k → lane_of h ≡ l → new ≡ record { items = held_at cs.items p h; limit = cs.limit } → IsNameIn fixed ts.items strings h → ((c : Cell) → slice_get cs.items p ≡ Some c → lane_of c.held ≡ l → bucket_of (length b.lasts.items) (text_in fixed ts.items strings) c.owner (property_in h) ≡ bucket_of (length b.lasts.items) (text_in fixed ts.items strings) c.owner (property_in c.held)) → IsStored hs new ss fixed ts strings b m
+hold_stored hs cs new ss fixed ts strings b m p o l k h s at lane e name same =
+    let i = inside cs.items p o l k at in
+    let w = slice_get_some cs.items p i in
+    let kept = hold_keeps hs cs new ss ts m p o l k h (s.heads, s.limits) at i lane e in
+    record {
+      heads = kept.0;
+      limits = kept.1;
+      index = index_held fixed ts.items strings cs new b p w.0 h s.index w.1 e name (same w.0 w.1 (cell_in cs.items p o l k w.0 at w.1).1);
+    }
+
+pub hold_slot : (hs : Filling Head) (cs new : Filling Cell) (ss : Filling ScopeNode) (fixed : List ℕ) (ts : Filling ℕ) (strings : List (List ℕ)) (b : Buckets) (m : Limits) (p o k : ℕ) (v : Value) → IsStored hs cs ss fixed ts strings b m → IsAt (links cs.items) p o Slots k → new ≡ record { items = held_at cs.items p (Slot v); limit = cs.limit } → IsStored hs new ss fixed ts strings b m
+hold_slot hs cs new ss fixed ts strings b m p o k v s at e = hold_stored hs cs new ss fixed ts strings b m p o Slots k (Slot v) s at refl e (nameless fixed ts.items strings (Slot v) refl) (λ c q lane. ap (bucket_of (length b.lasts.items) (text_in fixed ts.items strings) c.owner) (sym (slot_none c.held lane)))
+
+pub hold_element : (hs : Filling Head) (cs new : Filling Cell) (ss : Filling ScopeNode) (fixed : List ℕ) (ts : Filling ℕ) (strings : List (List ℕ)) (b : Buckets) (m : Limits) (p o k : ℕ) (v : Value) → IsStored hs cs ss fixed ts strings b m → IsAt (links cs.items) p o Elements k → new ≡ record { items = held_at cs.items p (Element v); limit = cs.limit } → IsStored hs new ss fixed ts strings b m
+hold_element hs cs new ss fixed ts strings b m p o k v s at e = hold_stored hs cs new ss fixed ts strings b m p o Elements k (Element v) s at refl e (nameless fixed ts.items strings (Element v) refl) (λ c q lane. ap (bucket_of (length b.lasts.items) (text_in fixed ts.items strings) c.owner) (sym (element_none c.held lane)))
+
+-- a property with another value
+valued_bucket : (n o : ℕ) (f : Span → List ℕ) (v : Value) (p : Option (Span × Value)) → bucket_of n f o (valued v p) ≡ bucket_of n f o p
+valued_bucket n o f v None = refl
+valued_bucket n o f v (Some p) = refl
+
+valued_name : (fixed made : List ℕ) (strings : List (List ℕ)) (v : Value) (p : Option (Span × Value)) → ((n : Span) (w : Value) → p ≡ Some (n, w) → IsTextIn fixed made strings n) → (n : Span) (w : Value) → valued v p ≡ Some (n, w) → IsTextIn fixed made strings n
+valued_name fixed made strings v None g n w e = absurd cc
+valued_name fixed made strings v (Some p) g n w e = subst (IsTextIn fixed made strings) (ap (λ (q : Span × Value). q.0) (same_some (p.0, v) (n, w) e)) (g p.0 p.1 refl)
+
+pub hold_put : (hs : Filling Head) (cs new : Filling Cell) (ss : Filling ScopeNode) (fixed : List ℕ) (ts : Filling ℕ) (strings : List (List ℕ)) (b : Buckets) (m : Limits) (p o k : ℕ) (c : Cell) (h : Held) (v : Value) → IsStored hs cs ss fixed ts strings b m → IsAt (links cs.items) p o Properties k → slice_get cs.items p ≡ Some c → lane_of h ≡ Properties → property_in h ≡ valued v (property_in c.held) → new ≡ record { items = held_at cs.items p h; limit = cs.limit } → IsStored hs new ss fixed ts strings b m
+hold_put hs cs new ss fixed ts strings b m p o k c h v s at is lane put e =
+    let n = length b.lasts.items in
+    let f = text_in fixed ts.items strings in
+    hold_stored hs cs new ss fixed ts strings b m p o Properties k h s at lane e
+    (λ name w q. valued_name fixed ts.items strings v (property_in c.held) (λ name w q. s.index.names p c name w is q) name w (sym put ∙ q))
+    (λ d q l. let same : c ≡ d = one_cell d q in ap (bucket_of n f d.owner) put ∙ (valued_bucket n d.owner f v (property_in c.held) ∙ ap (λ (x : Cell). bucket_of n f d.owner (property_in x.held)) same))
+  where
+    one_cell : (d : Cell) → slice_get cs.items p ≡ Some d → c ≡ d
+    one_cell d q = cc
+
+-- the bucket of what a search found
+pub spot_bucket : (hs : List Head) (cells : List Cell) (o n : ℕ) (f : Span → List ℕ) (t : List ℕ) (x : Spot) → AreHeads (links cells) hs → o < length hs → IsSpot f t cells hs o x → get_or (buckets_of n f cells) x.place None ≡ Some (bucket n o t)
+spot_bucket hs cells o n f t x a b spot =
+    let i = inside cells x.place o Properties x.position spot.at in
+    let w = slice_get_some cells x.place i in
+    let own = (cell_in cells x.place o Properties x.position w.0 spot.at w.1).0 in
+    let read = property_read cells hs x.place o x.position w.0 a b spot.at w.1 in
+    let named : is_named f t (Some (property_in w.0.held)) ≡ true = ap (is_named f t) (sym read) ∙ found_named f t (properties_of (objects cells 0 hs) o) x.position (length (properties_of (objects cells 0 hs) o)) spot.is in
+    key_at n f cells x.place w.0 w.1 ∙ (ap (λ m. bucket_of n f m (property_in w.0.held)) own ∙ named_bucket n o f t (property_in w.0.held) named)
+
+-- a property goes
+pub hold_gone : (hs : Filling Head) (cs new : Filling Cell) (ss : Filling ScopeNode) (fixed : List ℕ) (ts : Filling ℕ) (strings : List (List ℕ)) (b b' : Buckets) (m : Limits) (o d : ℕ) (t : List ℕ) (x : Spot) → IsStored hs cs ss fixed ts strings b m → o < length hs.items → IsSpot (text_in fixed ts.items strings) t cs.items hs.items o x → d ≡ bucket (length b.lasts.items) o t → new ≡ record { items = held_at cs.items x.place Deleted; limit = cs.limit } → ((ks : List (Option ℕ)) → AreBuckets ks b.lasts.items b.befores.items → get_or ks x.place None ≡ Some d → AreBuckets (set ks x.place None) b'.lasts.items b'.befores.items) → (length b'.lasts.items ≡ length b.lasts.items) × (b'.befores.limit ≡ b.befores.limit) → IsStored hs new ss fixed ts strings b' m
+hold_gone hs cs new ss fixed ts strings b b' m o d t x s in_heads spot key e goes sizes =
+    let n = length b.lasts.items in
+    let f = text_in fixed ts.items strings in
+    let i = inside cs.items x.place o Properties x.position spot.at in
+    let w = slice_get_some cs.items x.place i in
+    let kept = hold_keeps hs cs new ss ts m x.place o Properties x.position Deleted (s.heads, s.limits) spot.at i refl e in
+    record {
+      heads = kept.0;
+      limits = kept.1;
+      index = index_gone fixed ts.items strings cs new b b' x.place d w.0 Deleted s.index w.1 e refl (sym (key_at n f cs.items x.place w.0 w.1) ∙ (spot_bucket hs.items cs.items o n f t x s.heads in_heads spot ∙ ap Some (sym key))) goes sizes;
+    }
+
+-- at first there is nothing
+pub empty_stored : (hs : Filling Head) (cs : Filling Cell) (ss : Filling ScopeNode) (fixed : List ℕ) (ts : Filling ℕ) (strings : List (List ℕ)) (b : Buckets) (m : Limits) (n : ℕ) → hs ≡ record { items = []; limit = m.objects } → cs ≡ record { items = []; limit = m.cells } → ss ≡ record { items = []; limit = m.cells } → ts ≡ record { items = []; limit = m.text } → m.cells < 2 ^ 32 → 0 < n → b.lasts.items ≡ replicate n 0 → b.befores ≡ record { items = []; limit = m.cells } → IsStored hs cs ss fixed ts strings b m
+empty_stored hs cs ss fixed ts strings b m n eh ec es et small some lasts befores =
+    let no_heads : hs.items ≡ [] = ap (λ (f : Filling Head). f.items) eh in
+    let no_cells : cs.items ≡ [] = ap (λ (f : Filling Cell). f.items) ec in
+    let no_texts : ts.items ≡ [] = ap (λ (f : Filling ℕ). f.items) et in
+    let limit : cs.limit ≡ m.cells = ap (λ (f : Filling Cell). f.limit) ec in
+    record {
+      heads = subst (λ xs. AreHeads (links xs) hs.items) (sym no_cells) (subst (AreHeads []) (sym no_heads) nothing);
+      limits = record {
+        objects = ap (λ (f : Filling Head). f.limit) eh;
+        cells = limit;
+        scopes = ap (λ (f : Filling ScopeNode). f.limit) es;
+        text = ap (λ (f : Filling ℕ). f.limit) et;
+        within = omega (arith, ap length no_cells, ap (λ (f : Filling ScopeNode). length f.items) es);
+        small = small;
+      };
+      index = subst (λ t. IsIndexed fixed t strings cs b) (sym no_texts) (index_empty fixed strings cs b n m.cells no_cells (omega (arith, limit)) some lasts befores);
+    }
+  where
+    nothing : AreHeads [] []
+    nothing = record { linked = λ i x e. absurd cc; heads = λ o h e. absurd cc; owners = λ i x e. absurd cc }

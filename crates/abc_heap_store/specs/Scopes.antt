@@ -1,0 +1,16 @@
+-- The nodes of a captured scope stack: each names the one below it.
+use Rattle.std.specs.Prelude.{ℕ, ◌+◌, List, [], ◌∷◌, Option, Some}
+use Rattle.abc_heap_store.specs.declared.records.ScopeId.{ScopeId}
+use Rattle.abc_heap_store.specs.declared.records.ScopeEntry.{ScopeEntry}
+use Rattle.abc_heap_store.specs.declared.records.ScopeNode.{ScopeNode}
+
+abbrev pub scope_id : ℕ → ScopeId
+scope_id n = record { 0 = n }
+
+abbrev pub nodes : ℕ → Option ScopeId → List ScopeEntry → List ScopeNode
+nodes at below [] = []
+nodes at below (e ∷ es) = (record { entry = e; parent = below }) ∷ nodes (at + 1) (Some (scope_id at)) es
+
+abbrev pub top : ℕ → Option ScopeId → List ScopeEntry → Option ScopeId
+top at below [] = below
+top at below (e ∷ es) = top (at + 1) (Some (scope_id at)) es

@@ -1,0 +1,33 @@
+-- Texts, as spans.
+use Rattle.std.specs.Prelude.{◌≡◌, ℕ, zero, suc, ◌+◌, ◌≤◌, List, [], ◌++◌, length, take, drop, get_or}
+use Rattle.abc_heap_values.specs.declared.values.Span.{Span}
+use Rattle.abc_heap_store.specs.Heap.{Heap}
+
+-- a string of the pool, whose string 0 is empty
+abbrev pub pool_text : List (List ℕ) → ℕ → List ℕ
+pool_text pool zero = []
+pool_text pool (suc i) = get_or pool i []
+
+abbrev pub part_of : List ℕ → List ℕ → List (List ℕ) → ℕ → List ℕ
+part_of fixed made pool zero = fixed
+part_of fixed made pool (suc zero) = made
+part_of fixed made pool (suc (suc i)) = pool_text pool i
+
+abbrev pub text_in : List ℕ → List ℕ → List (List ℕ) → Span → List ℕ
+text_in fixed made pool s = take s.len (drop s.start (part_of fixed made pool s.part))
+
+abbrev pub IsTextIn : List ℕ → List ℕ → List (List ℕ) → Span → Type 0
+IsTextIn fixed made pool s = s.start + s.len ≤ length (part_of fixed made pool s.part)
+
+-- the span lies in its part
+abbrev pub IsText : List (List ℕ) → Heap → Span → Type 0
+IsText pool h s = IsTextIn h.fixed h.made pool s
+
+abbrev pub text_of : List (List ℕ) → Heap → Span → List ℕ
+text_of pool h s = text_in h.fixed h.made pool s
+
+-- a text is made, after all others, where there is room for it
+pub record IsTextMade (old : Heap) (new : Heap) (s : Span) (bytes : List ℕ) : Type 0 where
+  pub span : s ≡ record { part = 1; start = length old.made; len = length bytes }
+  pub fits : length old.made + length bytes ≤ old.limits.text
+  pub heap : new ≡ record old { made = old.made ++ bytes }

@@ -1,0 +1,13 @@
+pub mod Lanes
+pub mod Links
+pub mod Filling
+pub mod Modular
+pub mod Plain
+pub mod Whole
+pub mod Operations
+pub mod Kinds
+pub mod Reads
+pub mod Numbers
+pub mod Order
+pub mod Equality
+pub mod Opcodes

@@ -1,0 +1,96 @@
+-- Values as numbers and truths.
+use Rattle.std.specs.Prelude.{ℤ, pos, Bool, true, false, not, nat_eq, if◌then◌else◌, Ok, Err}
+use Rattle.std.specs.Ordering.{int_eq}
+use Rattle.std.specs.declared.result.Result.{Result}
+use Rattle.abc_base.specs.Ranges.{IsNumber}
+use Rattle.abc_base.specs.declared.names.Fault.{Fault}
+use Rattle.abc_base.specs.declared.names.Fault.TheVariants.{NotANumber, TextToNumber, ObjectToPrimitive}
+use Rattle.abc_heap_values.specs.declared.values.Value.{Value}
+use Rattle.abc_heap_values.specs.declared.values.Value.TheVariants as values
+use Rattle.abc_heap_values.specs.Kinds.{is_undefined}
+use Rattle.abc_heap_values.specs.Modular.{signed, unsigned}
+use Rattle.abc_heap_values.specs.Operations.{calculated, calculated_single}
+use Rattle.abc_heap_values.specs.declared.operations.Operation.{Operation}
+use Rattle.abc_heap_values.specs.declared.operations.Operation.TheVariants as ops
+use Rattle.abc_heap_values.specs.declared.operations.Single.{Single}
+use Rattle.abc_heap_values.specs.declared.operations.Single.TheVariants as singles
+
+-- a number is from -2147483648 to 4294967295
+abbrev pub IsInRange : Value → Type 0
+IsInRange values.Undefined = Unit {0}
+IsInRange values.Null = Unit {0}
+IsInRange (values.Num n) = IsNumber n
+IsInRange (values.Bool b) = Unit {0}
+IsInRange (values.Text s) = Unit {0}
+IsInRange (values.Space n) = Unit {0}
+IsInRange (values.Obj o) = Unit {0}
+
+-- a step, and what follows it where it is no fault
+abbrev pub and_then : {A B : Type 0} → Result A Fault → (A → Result B Fault) → Result B Fault
+and_then (Ok x) f = f x
+and_then (Err e) f = Err e
+
+-- ---- convert_d, convert_i, convert_u
+
+abbrev pub number_of_bool : Bool → ℤ
+number_of_bool true = pos 1
+number_of_bool false = pos 0
+
+abbrev pub number_of : Value → Result ℤ Fault
+number_of values.Undefined = Err NotANumber
+number_of values.Null = Ok (pos 0)
+number_of (values.Num n) = Ok n
+number_of (values.Bool b) = Ok (number_of_bool b)
+number_of (values.Text s) = Err TextToNumber
+number_of (values.Space n) = Err ObjectToPrimitive
+number_of (values.Obj o) = Err ObjectToPrimitive
+
+-- a number that is to be taken modulo 2 ^ 32: undefined is 0
+abbrev pub whole_of : Value → Result ℤ Fault
+whole_of v = if is_undefined v then Ok (pos 0) else number_of v
+
+abbrev pub int_of : Value → Result ℤ Fault
+int_of v = and_then (whole_of v) (λ n. Ok (signed n))
+
+abbrev pub uint_of : Value → Result ℤ Fault
+uint_of v = and_then (whole_of v) (λ n. Ok (pos (unsigned n)))
+
+-- ---- convert_b
+
+abbrev pub truth_of : Value → Bool
+truth_of values.Undefined = false
+truth_of values.Null = false
+truth_of (values.Num n) = not (int_eq n (pos 0))
+truth_of (values.Bool b) = b
+truth_of (values.Text s) = not (nat_eq s.len 0)
+truth_of (values.Space n) = true
+truth_of (values.Obj o) = true
+
+-- ---- operations on values
+
+abbrev pub is_modular : Operation → Bool
+is_modular ops.Add = false
+is_modular ops.Subtract = false
+is_modular ops.Multiply = false
+is_modular ops.Divide = false
+is_modular ops.Modulo = false
+is_modular other = true
+
+abbrev pub operand_of : Operation → Value → Result ℤ Fault
+operand_of op v = if is_modular op then whole_of v else number_of v
+
+-- the left is made a number before the right
+abbrev pub calculated_of : Operation → Value → Value → Result ℤ Fault
+calculated_of op x y = and_then (operand_of op x) (λ a. and_then (operand_of op y) (λ b. calculated op a b))
+
+abbrev pub is_modular_single : Single → Bool
+is_modular_single singles.Negate = false
+is_modular_single singles.Increment = false
+is_modular_single singles.Decrement = false
+is_modular_single other = true
+
+abbrev pub operand_of_single : Single → Value → Result ℤ Fault
+operand_of_single op v = if is_modular_single op then whole_of v else number_of v
+
+abbrev pub calculated_single_of : Single → Value → Result ℤ Fault
+calculated_single_of op v = and_then (operand_of_single op v) (λ n. calculated_single op n)

@@ -1,0 +1,45 @@
+-- What is computed of whole numbers modulo 2 ^ 32. All results but that of the unsigned shift are signed.
+use Rattle.std.specs.Prelude.{ℕ, ℤ, pos, ◌+ℤ◌, ◌-ℤ◌, ◌*ℤ◌, neg_ℤ, ◌/◌, ◌%◌, ◌^◌, bit_and, bit_or, bit_xor}
+use Rattle.std.specs.Int.{bit_not, cast_signed, int_shl, int_shr, w32}
+use Rattle.abc_heap_values.specs.Modular.{signed, unsigned}
+
+abbrev pub whole_sum : ℤ → ℤ → ℤ
+whole_sum x y = signed (signed x +ℤ signed y)
+
+abbrev pub whole_difference : ℤ → ℤ → ℤ
+whole_difference x y = signed (signed x -ℤ signed y)
+
+abbrev pub whole_product : ℤ → ℤ → ℤ
+whole_product x y = signed (signed x *ℤ signed y)
+
+abbrev pub whole_negated : ℤ → ℤ
+whole_negated x = signed (neg_ℤ (signed x))
+
+-- ---- bits: those of the unsigned number, read as a signed one
+
+abbrev pub bits_turned : ℤ → ℤ
+bits_turned x = cast_signed w32 (bit_not w32 (unsigned x))
+
+abbrev pub bits_in_both : ℤ → ℤ → ℤ
+bits_in_both x y = cast_signed w32 (bit_and (unsigned x) (unsigned y))
+
+abbrev pub bits_in_either : ℤ → ℤ → ℤ
+bits_in_either x y = cast_signed w32 (bit_or (unsigned x) (unsigned y))
+
+abbrev pub bits_in_one : ℤ → ℤ → ℤ
+bits_in_one x y = cast_signed w32 (bit_xor (unsigned x) (unsigned y))
+
+-- ---- shifts, by the low five bits of the right
+
+abbrev pub distance : ℤ → ℕ
+distance y = unsigned y % 32
+
+abbrev pub shifted_left : ℤ → ℤ → ℤ
+shifted_left x y = int_shl w32 (signed x) (distance y)
+
+-- the quotient by a power of two, rounded down
+abbrev pub shifted_right : ℤ → ℤ → ℤ
+shifted_right x y = int_shr (signed x) (distance y)
+
+abbrev pub shifted_right_unsigned : ℤ → ℤ → ℤ
+shifted_right_unsigned x y = pos (unsigned x / 2 ^ distance y)

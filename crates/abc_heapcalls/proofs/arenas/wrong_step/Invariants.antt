@@ -1,5 +1,0 @@
-use Rattle.abc_objects.specs.Stands.{StandsOver}
-use Rattle.abc_heapcalls.proofs.arenas.wrong_step.Given as goal
-
-abbrev pub invariant-loop-row : goal.invariant-loop-row
-invariant-loop-row l = StandsOver l.l l.a

@@ -1,9 +1,0 @@
-//! Tests of the calls over an arena, as tables: its room, properties and elements, and the operations. Its items are what such
-//! tests begin with: a file that is linked, an arena over it, and the tests that calls of these ask for.
-#![tactic(auto)]
-
-#[cfg(test)]
-mod arenas;
-pub mod opened;
-#[cfg(test)]
-mod operating;

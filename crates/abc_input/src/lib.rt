@@ -1,8 +1,0 @@
-//! The whole of an input in memory.
-#![tactic(auto)]
-
-mod error;
-mod reading;
-
-pub use error::InputError;
-pub use reading::read_input;

@@ -1,9 +1,0 @@
-pub mod Adding
-pub mod Gathering
-pub mod Visiting
-pub mod Graphs
-pub mod Uniting
-pub mod Marking
-pub mod Settling
-pub use Rattle.abc_program.proofs.Finding
-pub use Rattle.abc_program.proofs.Tree

@@ -1,5 +1,0 @@
-use Rattle.abc_interfaces.specs.Sets.{ListsMarked}
-use Rattle.abc_interfaces.proofs.sets.marked.Given as goal
-
-abbrev pub invariant-loop-class : goal.invariant-loop-class
-invariant-loop-class l = ListsMarked l.abc l.marks l.list.items l.class

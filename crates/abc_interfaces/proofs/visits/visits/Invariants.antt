@@ -1,5 +1,0 @@
-use Rattle.abc_interfaces.specs.Sets.{ListsBelow}
-use Rattle.abc_interfaces.proofs.visits.visits.Given as goal
-
-abbrev pub invariant-loop-node : goal.invariant-loop-node
-invariant-loop-node l = ListsBelow l.nodes.items l.node

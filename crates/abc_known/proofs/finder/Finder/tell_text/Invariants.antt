@@ -1,5 +1,0 @@
-use Rattle.abc_names.specs.Meanings.{AreKnown}
-use Rattle.abc_known.proofs.finder.Finder.tell_text.Given as goal
-
-abbrev pub invariant-loop-name : goal.invariant-loop-name
-invariant-loop-name l = AreKnown l.self.names.abc.now l.known

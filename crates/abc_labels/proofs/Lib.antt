@@ -1,4 +1,0 @@
-pub mod Counted
-pub mod Meeting
-pub mod Passing
-pub mod Setting

@@ -1,4 +1,0 @@
-pub mod Ahead
-pub mod Counts
-pub mod Labels
-pub mod Tables

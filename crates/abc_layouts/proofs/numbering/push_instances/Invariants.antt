@@ -1,6 +1,0 @@
-use Rattle.std.proofs.Common.{◌≡◌, ◌++◌, map, take}
-use Rattle.abc_program.specs.declared.part.Part.TheVariants as parts
-use Rattle.abc_layouts.proofs.numbering.push_instances.Given as goal
-
-abbrev pub invariant-loop-class : goal.invariant-loop-class
-invariant-loop-class l = l.parts ≡ l.initial.parts ++ map (λ k. parts.Instance k) (take l.class-index l.classes)

@@ -1,6 +1,0 @@
-pub mod Answers
-pub mod File
-pub mod Kinds
-pub mod Lineforms
-pub mod Listing
-pub mod Texts

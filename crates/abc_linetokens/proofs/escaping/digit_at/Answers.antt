@@ -1,6 +1,0 @@
-use Rattle.std.proofs.Common.{ℕ, List, get_or, ap, ◌∙◌}
-use Rattle.abc_linetokens.proofs.Tables.{digit_is}
-use Rattle.abc_linetokens.proofs.escaping.digit_at.Goals as goal
-
-pub returns : goal.returns
-returns c = ap (λ (l : List ℕ). get_or l c.args.n 0) c.requires.digits ∙ digit_is c.args.n c.requires.small

@@ -1,6 +1,0 @@
-use Rattle.std.proofs.Common.{◌≡◌, ◌∷◌, [], map, take}
-use Rattle.abc_lines.specs.Listing.{quoted_comment}
-use Rattle.abc_linetokens.proofs.shown.comments_of.Given as goal
-
-abbrev pub invariant-loop-string : goal.invariant-loop-string
-invariant-loop-string l = l.rows ≡ map quoted_comment ([] ∷ take l.string-index l.strings)

@@ -1,7 +1,0 @@
-use Rattle.std.proofs.Common.{◌≡◌, take}
-use Rattle.std.specs.List.{flat_map}
-use Rattle.abc_escape.specs.Escapes.{escape_of}
-use Rattle.abc_linetokens.proofs.tokens.are_plain.Given as goal
-
-abbrev pub invariant-loop-byte : goal.invariant-loop-byte
-invariant-loop-byte l = flat_map escape_of (take l.byte-index l.bytes) ≡ take l.byte-index l.bytes

@@ -1,0 +1,29 @@
+-- How many slots stand before those of each trait of a table.
+use Rattle.std.specs.Prelude.{◌≡◌, ℕ, ◌+◌, List, [], ◌∷◌, Bool, true, false, if◌then◌else◌, map}
+use Rattle.abc_link_program.specs.Slots.{traits_of}
+use Rattle.abc_link_program.specs.declared.part.Part.{Part}
+use Rattle.abc_link.specs.declared.slots.OwnSlots.{OwnSlots}
+use Rattle.abc_file_types.specs.declared.tables.Abc.{Abc}
+use Rattle.abc_file_types.specs.declared.traits.TraitBody.{TraitBody}
+use Rattle.abc_file_types.specs.declared.traits.TraitBody.TheVariants as bodies
+use Rattle.abc_file_types.specs.declared.traits.TraitInfo.{TraitInfo}
+
+abbrev pub has_slot : TraitBody → Bool
+has_slot (bodies.Slot id ty value constant) = true
+has_slot (bodies.Class id k) = true
+has_slot other = false
+
+-- the same, where so many stand before all of them
+abbrev pub slots_from : ℕ → List TraitInfo → List ℕ
+slots_from n [] = []
+slots_from n (t ∷ ts) = n ∷ slots_from (if has_slot t.body then n + 1 else n) ts
+
+abbrev pub slots_before : List TraitInfo → List ℕ
+slots_before ts = slots_from 0 ts
+
+-- those of the own traits of each part
+abbrev pub own_slots_before : Abc → List Part → List (List ℕ)
+own_slots_before v parts = map (λ (p : Part). slots_before (traits_of v p)) parts
+
+pub record HasOwnSlots (v : Abc) (parts : List Part) (s : OwnSlots) : Type 0 where
+  pub rows : s.rows ≡ own_slots_before v parts

@@ -1,0 +1,7 @@
+pub mod Adding
+pub mod Gathering
+pub mod Visiting
+pub mod Graphs
+pub mod Uniting
+pub mod Marking
+pub mod Settling

@@ -1,0 +1,67 @@
+-- The interfaces that a search marks.
+use Rattle.std.proofs.Common.{◌≡◌, ℕ, ◌+◌, ◌<◌, ◌≤◌, ◌⊎◌, inl, inr, Bool, true, false, List, [], ◌∷◌, ◌++◌, Contains, IsTrue, get_or, length, refl, sym, ap, subst, ◌∙◌, arith}
+use Rattle.std.proofs.lemmas.Bool.{cases_lt}
+use Rattle.std.proofs.lemmas.List.{get_or_default, get_or_past}
+use Rattle.std.proofs.lemmas.List.Elements.{Contains-append_left, Contains-push, Contains-push_cases}
+use Rattle.abc_base_graphs.specs.Graph.{Has, IsReached}
+use Rattle.abc_link_program.specs.Interfaces.{class_graph}
+use Rattle.abc_link_names.specs.Bases.{is_interface}
+use Rattle.abc_file_types.specs.declared.tables.Abc.{Abc}
+use Rattle.abc_link_interfaces.specs.Sets.{AddsEach, IsAbove, IsSetOf, ListsMarked}
+
+pub none_marked : (v : Abc) (marks : List Bool) → ListsMarked v marks [] 0
+none_marked v marks = record { sound = λ k c. let h = c.1 in absurd (omega arith); complete = λ k lt. absurd (omega arith) }
+
+pub next_marked : (v : Abc) (marks : List Bool) (old new : List ℕ) (n : ℕ) → ListsMarked v marks old n → new ≡ old ++ n ∷ [] → get_or marks n false ≡ true → IsTrue (is_interface v n) → ListsMarked v marks new (n + 1)
+next_marked v marks old new n h e mark is = subst (λ (ns : List ℕ). ListsMarked v marks ns (n + 1)) (sym e) (record {
+  sound = λ k c. sound k (Contains-push_cases old n k c);
+  complete = λ k lt m i. complete k lt m i (cases_lt k n);
+})
+  where
+    sound : (k : ℕ) → Contains old k ⊎ (n ≡ k) → (get_or marks k false ≡ true) × IsTrue (is_interface v k)
+    sound k (inl c) = h.sound k c
+    sound k (inr q) = subst (λ m. (get_or marks m false ≡ true) × IsTrue (is_interface v m)) q (mark, is)
+
+    complete : (k : ℕ) → k < n + 1 → get_or marks k false ≡ true → IsTrue (is_interface v k) → (k < n) ⊎ (n ≤ k) → Contains (old ++ n ∷ []) k
+    complete k lt m i (inl low) = Contains-append_left old (n ∷ []) k (h.complete k low m i)
+    complete k lt m i (inr high) = let q : n ≡ k = omega arith in subst (λ j. Contains (old ++ n ∷ []) j) q (Contains-push old n)
+
+-- one class more that is not listed
+skipped : (v : Abc) (marks : List Bool) (nodes : List ℕ) (n : ℕ) → ListsMarked v marks nodes n → (get_or marks n false ≡ true → IsTrue (is_interface v n) → ⊥) → ListsMarked v marks nodes (n + 1)
+skipped v marks nodes n h deny = record { sound = h.sound; complete = λ k lt m i. go k lt m i (cases_lt k n) }
+  where
+    go : (k : ℕ) → k < n + 1 → get_or marks k false ≡ true → IsTrue (is_interface v k) → (k < n) ⊎ (n ≤ k) → Contains nodes k
+    go k lt m i (inl low) = h.complete k low m i
+    go k lt m i (inr high) =
+        let q : k ≡ n = omega arith in
+        absurd (deny (subst (λ j. get_or marks j false ≡ true) q m) (subst (λ j. IsTrue (is_interface v j)) q i))
+
+pub next_unmarked : (v : Abc) (marks : List Bool) (nodes : List ℕ) (n : ℕ) → ListsMarked v marks nodes n → get_or marks n false ≡ false → ListsMarked v marks nodes (n + 1)
+next_unmarked v marks nodes n h e = skipped v marks nodes n h (λ m i. cc)
+
+pub next_class : (v : Abc) (marks : List Bool) (nodes : List ℕ) (n : ℕ) → ListsMarked v marks nodes n → is_interface v n ≡ false → ListsMarked v marks nodes (n + 1)
+next_class v marks nodes n h e = skipped v marks nodes n h (λ m i. cc)
+
+pub searched : (v : Abc) (g : List (List ℕ)) (k : ℕ) (marks marks2 : List Bool) (list given keys : List ℕ) → g ≡ class_graph v → IsReached g k marks → marks2 ≡ marks → ListsMarked v marks2 list (length marks2)
+    → given ≡ list → AddsEach [] keys given (length given) → IsSetOf v k keys
+searched v g k marks marks2 list given keys is_g r is_marks m is_given adds = record {
+  sound = λ y c. sound y (adds.only y c);
+  complete = λ y h. complete y h;
+}
+  where
+    reach : IsReached (class_graph v) k marks2
+    reach = subst (λ (ms : List Bool). IsReached (class_graph v) k ms) (sym is_marks) (subst (λ (h : List (List ℕ)). IsReached h k marks) is_g r)
+
+    sound : (y : ℕ) → Contains [] y ⊎ Contains given y → IsAbove v k y
+    sound y (inl c) = let h = c.1 in absurd (omega arith)
+    sound y (inr c) = let p = m.sound y (subst (λ (ns : List ℕ). Contains ns y) is_given c) in (p.1, reach.sound y (record { marked = p.0 }))
+
+    within : (y : ℕ) → get_or marks2 y false ≡ true → (y < length marks2) ⊎ (length marks2 ≤ y) → y < length marks2
+    within y e (inl lt) = lt
+    within y e (inr le) = let q : get_or marks2 y false ≡ false = get_or_past marks2 y false le in cc
+
+    complete : (y : ℕ) → IsAbove v k y → Contains keys y
+    complete y h =
+        let mark = (reach.complete y h.1).marked in
+        let c = subst (λ (ns : List ℕ). Contains ns y) (sym is_given) (m.complete y (within y mark (cases_lt y (length marks2))) mark h.0) in
+        subst (Contains keys) (get_or_default given c.0 0 y c.1 ∙ c.2) (adds.each c.0 c.1)

@@ -1,0 +1,5 @@
+use Rattle.abc_link_names.specs.Meanings.{AreKnown}
+use Rattle.abc_link_known.proofs.known.tell_likes.Given as goal
+
+abbrev pub invariant-loop-name : goal.invariant-loop-name
+invariant-loop-name l = AreKnown l.names.abc.now l.known

@@ -1,0 +1,12 @@
+pub mod Rooted
+pub mod Pushing
+pub mod Adding
+pub mod Hosts
+pub mod Numbered
+pub mod Finding
+pub mod Firsts
+pub mod Found
+pub mod Rest
+pub mod Slotted
+pub mod Reading
+pub mod Grouping

@@ -1,0 +1,7 @@
+use Rattle.std.proofs.Common.{arith}
+use Rattle.abc_link_program.specs.Owners.{of_instance}
+use Rattle.abc_link_layouts.proofs.Rest.{rest_next}
+use Rattle.abc_link_layouts.proofs.namings.push_instances.Goals as goal
+
+pub loop-k-preserved : goal.loop-k-preserved
+loop-k-preserved c = rest_next of_instance _ _ _ _ _ _ (omega arith) c.get-instance.ensures c.loop-k.invariant c.in_ok-push_part.ensures

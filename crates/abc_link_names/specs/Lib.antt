@@ -1,0 +1,14 @@
+pub mod Pool
+pub mod Instances
+pub mod Meaning
+pub mod Numbers
+pub mod Meanings
+pub mod Keys
+pub mod Starts
+pub mod Items
+pub mod Parts
+pub mod Traits
+pub mod Methods
+pub mod Bases
+pub mod Rules
+pub mod Firsts

@@ -1,0 +1,44 @@
+//! The names of a file: texts by numbers, namespaces, and what a name of a type, a base or an interface stands for.
+//!
+//! The value at which a slot starts: that of its trait, coerced to its type.
+//!
+//! The items of a file, when one breaks a rule of linking, and the first that does.
+#![tactic(auto)]
+
+mod coerce;
+mod error;
+mod hosts;
+mod items;
+mod keys;
+mod meanings;
+mod named;
+mod names;
+mod pairs;
+mod parts;
+mod pool;
+mod resolving;
+mod rule;
+mod start;
+mod tables;
+mod types;
+
+pub use coerce::start_of;
+pub use error::LinkError;
+pub use hosts::HOST_CLASSES;
+pub use items::{Item, ItemKind, LinkRule};
+pub use keys::{NameKey, are_equal, first_places};
+pub use meanings::{Known, Meanings, known_at, meanings_of};
+pub use named::{DefiniteName, Named, PlainName, Spaces};
+pub use names::Names;
+pub use pairs::{Clash, FEW, any_pair_of};
+pub use parts::{
+    body_traits, class_flags, class_name, class_traits, handlers, instance_table, instance_traits,
+    interface_names, is_interface, own_table, parameters, return_type, script_traits, super_name,
+};
+pub use pool::{
+    definite_name_at, is_plain_at, plain_name_at, qname_at, set_at, space_name, text_at,
+};
+pub use rule::{Rule, check};
+pub use start::{Raw, Start};
+pub use tables::NameTables;
+pub use types::{TypeTest, any_type};

@@ -1,0 +1,11 @@
+pub mod Parts
+pub mod Numbering
+pub mod Places
+pub mod Linked
+pub mod Tree
+pub mod Types
+pub mod Slots
+pub mod Owners
+pub mod Interfaces
+pub mod Traits
+pub mod Kinds

@@ -1,0 +1,4 @@
+pub mod Repeats
+pub mod Clashes
+pub mod Times
+pub mod Cycles

@@ -1,9 +1,0 @@
--- Bodies as they are listed.
-use Rattle.std.specs.Prelude.{ℕ, List}
-use Rattle.abc_lines.specs.Listing.{body_text}
-use Rattle.abc_tables.specs.declared.code.Body.{Body}
-use Rattle.abc_tables.specs.declared.tables.Abc.{Abc}
-
--- the lines of a body of a file, wherever its instructions started
-abbrev pub entry_text : Abc → Body × List ℕ → List ℕ
-entry_text v x = body_text v x.0

@@ -1,0 +1,14 @@
+pub mod Lines
+pub mod OutlineViews
+pub mod Outs
+pub mod OutLines
+pub mod Bytes
+pub mod Heads
+pub mod Limits
+pub mod Starts
+pub mod CompareViews
+pub mod Parts
+pub mod Compared
+pub mod Followed
+pub mod Lenients
+pub mod Checks

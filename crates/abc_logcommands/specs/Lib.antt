@@ -1,3 +1,0 @@
-pub mod Logs
-pub mod Logged
-pub use Rattle.abc_endings.specs.Meant

@@ -1,4 +1,0 @@
-use Rattle.abc_logging.proofs.logging.start_logged.Given as goal
-
-abbrev pub ghost-start_last : goal.ghost-start_last
-ghost-start_last g a = g.out

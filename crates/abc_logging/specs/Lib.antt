@@ -1,2 +1,0 @@
-pub mod Logging
-pub use Rattle.abc_stepping.specs.Held

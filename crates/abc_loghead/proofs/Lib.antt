@@ -1,4 +1,0 @@
-pub mod Fronts
-pub mod Standing
-pub mod Spelling
-pub mod Lined

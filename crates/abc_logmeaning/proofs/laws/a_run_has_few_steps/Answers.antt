@@ -1,5 +1,0 @@
-use Rattle.abc_logmeaning.proofs.Counted.{few_steps}
-use Rattle.abc_logmeaning.proofs.laws.a_run_has_few_steps.Goals as goal
-
-pub returns : goal.returns
-returns c = few_steps

@@ -1,5 +1,0 @@
-use Rattle.abc_logmeaning.proofs.Counted.{one_line}
-use Rattle.abc_logmeaning.proofs.laws.too_small_is_one_line.Goals as goal
-
-pub returns : goal.returns
-returns c = one_line

@@ -1,4 +1,0 @@
-pub mod Lines
-pub mod Logs
-pub mod Inputs
-pub mod Laws

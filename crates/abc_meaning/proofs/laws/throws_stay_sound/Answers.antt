@@ -1,5 +1,0 @@
-use Rattle.abc_meaning.proofs.Unwinding.{throws_stay_sound}
-use Rattle.abc_meaning.proofs.laws.throws_stay_sound.Goals as goal
-
-pub returns : goal.returns
-returns c = throws_stay_sound

@@ -1,0 +1,89 @@
+-- Operations as parts of a step.
+use Rattle.std.specs.Prelude.{ℕ, Bool, Ok, Err}
+use Rattle.std.specs.declared.result.Result.{Result}
+use Rattle.abc_heap_values.specs.declared.values.Span.{Span}
+use Rattle.abc_heap_values.specs.declared.values.Value.{Value}
+use Rattle.abc_heap_values.specs.declared.values.Value.TheVariants as values
+use Rattle.abc_heap_values.specs.declared.numbers.Conversion.{Conversion}
+use Rattle.abc_heap_values.specs.declared.numbers.Conversion.TheVariants.{ConvertS, ConvertI, ConvertU, ConvertD, ConvertB, CoerceS}
+use Rattle.abc_heap_store.specs.Heap.{Heap}
+use Rattle.abc_ops.specs.Coercions.{kept_by, undefined_as_null}
+use Rattle.abc_ops.specs.Compares.{compared}
+use Rattle.abc_ops.specs.Conversions.{converted, spelled}
+use Rattle.abc_ops.specs.Left.{Left, gives, unchanged}
+use Rattle.abc_ops.specs.Operations.{computed, computed_single}
+use Rattle.abc_ops.specs.declared.end.OpEnd.{OpEnd}
+use Rattle.abc_ops.specs.declared.end.OpEnd.TheVariants as ends
+use Rattle.abc_link_program.specs.Linked.{LinkedFile}
+use Rattle.abc_link_program.specs.declared.types.Ty.{Ty}
+use Rattle.abc_link_program.specs.declared.types.Ty.TheVariants as types
+use Rattle.abc_meaning.specs.Setting.{Setting}
+use Rattle.abc_meaning.specs.Types.{is_of}
+use Rattle.abc_meaning.specs.World.{Errs, Faults, Fills, Outcome, Run, Stop, Stopped, Went, World, with_heap}
+
+abbrev pub stop_of : OpEnd → Stop
+stop_of (ends.Profile fault) = Faults fault
+stop_of (ends.Full limit) = Fills limit
+stop_of (ends.Throw c) = Errs c
+
+abbrev pub outcome : {X : Type 0} → World → Result X OpEnd → Outcome X
+outcome w (Ok x) = Went w x
+outcome w (Err e) = Stopped w (stop_of e)
+
+-- what an operation answers, in the heap that it leaves
+abbrev pub operates : {X : Type 0} → (Heap → Left X) → Run X
+operates f w = outcome (with_heap (λ h. (f h).heap) w) (f w.heap).answer
+
+abbrev pub converts : Setting → Conversion → Value → Run Value
+converts p to v = operates (λ h. converted p.linked h to v)
+
+abbrev pub as_int : Setting → Value → Run Value
+as_int p = converts p ConvertI
+
+abbrev pub as_uint : Setting → Value → Run Value
+as_uint p = converts p ConvertU
+
+abbrev pub as_number : Setting → Value → Run Value
+as_number p = converts p ConvertD
+
+abbrev pub as_boolean : Setting → Value → Run Value
+as_boolean p = converts p ConvertB
+
+-- a text, as a value and as where it lies
+abbrev pub as_text : Setting → Value → Run Value
+as_text p = converts p ConvertS
+
+abbrev pub spells : Setting → Value → Run Span
+spells p v = operates (λ h. spelled p.linked h v)
+
+-- ---- coercion to a type
+
+abbrev pub kept_of : LinkedFile → Heap → Ty → Value → Left Value
+kept_of l h t v = unchanged h (kept_by (is_of l h t v) v)
+
+abbrev pub coerced : LinkedFile → Heap → Ty → Value → Left Value
+coerced l h types.Any v = gives h v
+coerced l h types.Void v = gives h values.Undefined
+coerced l h types.Object v = gives h (undefined_as_null v)
+coerced l h types.Int v = converted l h ConvertI v
+coerced l h types.UInt v = converted l h ConvertU v
+coerced l h types.Number v = converted l h ConvertD v
+coerced l h types.Boolean v = converted l h ConvertB v
+coerced l h types.Text v = converted l h CoerceS v
+coerced l h types.Space v = kept_of l h types.Space v
+coerced l h (types.Of x) v = kept_of l h (types.Of x) v
+coerced l h (types.Interface k) v = kept_of l h (types.Interface k) v
+
+abbrev pub coerces : Setting → Ty → Value → Run Value
+coerces p t v = operates (λ h. coerced p.linked h t v)
+
+-- ---- by the opcode
+
+abbrev pub computes_one : ℕ → Value → Run Value
+computes_one op v = operates (λ h. computed_single h op v)
+
+abbrev pub computes_two : Setting → ℕ → Value → Value → Run Value
+computes_two p op x y = operates (λ h. computed p.linked h op x y)
+
+abbrev pub compares : Setting → ℕ → Value → Value → Run Bool
+compares p op x y w = outcome w (compared p.linked w.heap op x y)

@@ -1,0 +1,19 @@
+-- The test of types and coercion, by computing, are what they are to be.
+use Rattle.std.specs.Prelude.{◌↔◌, IsTrue}
+use Rattle.std.specs.declared.result.Result.{Result}
+use Rattle.abc_heap_values.specs.declared.values.Value.{Value}
+use Rattle.abc_heap_store.specs.Heap.{Heap}
+use Rattle.abc_ops.specs.Coercions.{Coerces}
+use Rattle.abc_ops.specs.Left.{Leaves}
+use Rattle.abc_ops.specs.Types.{IsOf}
+use Rattle.abc_ops.specs.declared.end.OpEnd.{OpEnd}
+use Rattle.abc_link_program.specs.Linked.{IsLinkedFile, LinkedFile}
+use Rattle.abc_link_program.specs.declared.types.Ty.{Ty}
+use Rattle.abc_meaning.specs.Ops.{coerced}
+use Rattle.abc_meaning.specs.Types.{is_of}
+
+abbrev pub DecidesTypes : Type 0
+DecidesTypes = (l : LinkedFile) (h : Heap) (t : Ty) (v : Value) → IsLinkedFile l → (IsTrue (is_of l h t v) ↔ IsOf l h t v)
+
+abbrev pub ComputesCoercion : Type 0
+ComputesCoercion = (l : LinkedFile) (old new : Heap) (t : Ty) (v : Value) (result : Result Value OpEnd) → IsLinkedFile l → Coerces l old new t v result → Leaves (coerced l old t v) result new

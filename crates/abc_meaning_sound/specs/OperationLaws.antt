@@ -1,0 +1,7 @@
+-- What is proved: all operations leave a sound world, and what they answer is there and of its kind.
+use Rattle.abc_link_program.specs.Linked.{IsLinkedFile}
+use Rattle.abc_meaning_sound.specs.Given.{OpsGiven}
+use Rattle.abc_meaning.specs.Setting.{Setting}
+
+abbrev pub OperationsStaySound : Type 0
+OperationsStaySound = (p : Setting) → IsLinkedFile p.linked → OpsGiven p

@@ -1,4 +1,0 @@
-use Rattle.abc_memberarms.proofs.found.call_method.Given as goal
-
-abbrev pub ghost-enter_on : goal.ghost-enter_on
-ghost-enter_on g a = g.out

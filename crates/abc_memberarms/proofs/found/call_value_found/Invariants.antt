@@ -1,7 +1,0 @@
-use Rattle.abc_memberarms.proofs.found.call_value_found.Given as goal
-
-abbrev pub ghost-value_found : goal.ghost-value_found
-ghost-value_found g a = g.out
-
-abbrev pub ghost-call : goal.ghost-call
-ghost-call g a = g.out

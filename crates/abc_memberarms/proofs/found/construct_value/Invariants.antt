@@ -1,7 +1,0 @@
-use Rattle.abc_memberarms.proofs.found.construct_value.Given as goal
-
-abbrev pub ghost-value_of : goal.ghost-value_of
-ghost-value_of g a = g.out
-
-abbrev pub ghost-make : goal.ghost-make
-ghost-make g a = g.out

@@ -1,4 +1,0 @@
-use Rattle.abc_memberarms.proofs.found.enter_on.Given as goal
-
-abbrev pub ghost-enter_owned : goal.ghost-enter_owned
-ghost-enter_owned g a = g.out

@@ -1,4 +1,0 @@
-use Rattle.abc_memberarms.proofs.found.read_value.Given as goal
-
-abbrev pub ghost-value_of : goal.ghost-value_of
-ghost-value_of g a = g.out

@@ -1,4 +1,0 @@
-use Rattle.abc_memberarms.proofs.naming.call_on.Given as goal
-
-abbrev pub ghost-call_found : goal.ghost-call_found
-ghost-call_found g a = g.out

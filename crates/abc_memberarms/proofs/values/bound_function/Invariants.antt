@@ -1,4 +1,0 @@
-use Rattle.abc_memberarms.proofs.values.bound_function.Given as goal
-
-abbrev pub ghost-place_of_owner : goal.ghost-place_of_owner
-ghost-place_of_owner g a = g.out

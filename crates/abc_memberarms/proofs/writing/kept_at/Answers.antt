@@ -1,8 +1,0 @@
-use Rattle.std.proofs.Common.{ap, arith}
-use Rattle.std.specs.Prelude.{Some}
-use Rattle.abc_lookup.specs.NamepartsElementNameType.{ElementName}
-use Rattle.abc_lookup.specs.NamepartsNamed.{element_in}
-use Rattle.abc_memberarms.proofs.writing.kept_at.Goals as goal
-
-pub returns-then-k-length : goal.returns-then-k-length
-returns-then-k-length c = (ap (λ (e : ElementName). element_in (Some e)) c.in-Number.is, omega (arith, c.if-k-length.true, c.length.ensures))

@@ -1,4 +1,0 @@
-use Rattle.abc_memberarms.proofs.writing.write_declared.Given as goal
-
-abbrev pub ghost-write_at_once : goal.ghost-write_at_once
-ghost-write_at_once g a = g.out

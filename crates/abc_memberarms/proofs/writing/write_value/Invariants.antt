@@ -1,4 +1,0 @@
-use Rattle.abc_memberarms.proofs.writing.write_value.Given as goal
-
-abbrev pub ghost-write_to_slot : goal.ghost-write_to_slot
-ghost-write_to_slot g a = g.out

@@ -1,6 +1,0 @@
-use Rattle.abc_slots.specs.Files.{linked}
-use Rattle.abc_members.specs.Grouped.{HasGroups}
-use Rattle.abc_members.proofs.members.groups_of_layouts.Given as goal
-
-abbrev pub invariant-loop-x : goal.invariant-loop-x
-invariant-loop-x l = HasGroups (linked l.abc l.layouts) l.texts l.groups l.x

@@ -1,8 +1,0 @@
--- The strings of traits' names.
-use Rattle.std.specs.Prelude.{ℕ, List, map}
-use Rattle.abc_slots.specs.Traits.{trait_name}
-use Rattle.abc_tables.specs.declared.tables.Abc.{Abc}
-use Rattle.abc_tables.specs.declared.traits.TraitInfo.{TraitInfo}
-
-abbrev pub trait_strings : Abc → List TraitInfo → List ℕ
-trait_strings v ts = map (λ t. (trait_name v t).string) ts

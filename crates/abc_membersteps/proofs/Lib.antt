@@ -1,3 +1,0 @@
-pub mod Making
-pub mod MemberOps
-pub use Rattle.abc_propertyarms.proofs.CallarmsFinishing

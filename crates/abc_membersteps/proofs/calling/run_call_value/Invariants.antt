@@ -1,4 +1,0 @@
-use Rattle.abc_membersteps.proofs.calling.run_call_value.Given as goal
-
-abbrev pub ghost-call_value : goal.ghost-call_value
-ghost-call_value g a = g.out

@@ -1,4 +1,0 @@
-use Rattle.abc_membersteps.proofs.constructing.run_construct.Given as goal
-
-abbrev pub ghost-construct : goal.ghost-construct
-ghost-construct g a = g.out

@@ -1,7 +1,0 @@
-use Rattle.std.proofs.Common.{take}
-use Rattle.abc_typing.specs.Typing.{ScopeLe}
-use Rattle.abc_typing.specs.Lists.{Each2}
-use Rattle.abc_merging.proofs.below.are_scopes_at_most.Given as goal
-
-abbrev pub invariant-loop-place : goal.invariant-loop-place
-invariant-loop-place g l = Each2 (ScopeLe (g.T.Tree.file l.tree)) (take l.place l.a) (take l.place l.b)

@@ -1,6 +1,0 @@
-use Rattle.abc_program.specs.Kinds.{IsAtMost}
-use Rattle.abc_merging.proofs.Pairs.{tested_along}
-use Rattle.abc_merging.proofs.below.is_operand_at_most.Goals as goal
-
-pub returns : goal.returns
-returns g c = tested_along (IsAtMost (g.T.Tree.file c.args.tree.now)) c.is_at_most.result _ _ _ _ c.get_or-x.ensures c.get_or-y.ensures c.is_at_most.ensures

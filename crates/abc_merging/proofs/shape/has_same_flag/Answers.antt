@@ -1,6 +1,0 @@
-use Rattle.abc_typing.specs.Typing.{HasOneFlag}
-use Rattle.abc_merging.proofs.Pairs.{tested_along}
-use Rattle.abc_merging.proofs.shape.has_same_flag.Goals as goal
-
-pub returns : goal.returns
-returns c = tested_along HasOneFlag c.is_same_flag.result _ _ _ _ c.at_or-x.ensures c.at_or-y.ensures c.is_same_flag.ensures

@@ -1,5 +1,0 @@
-use Rattle.abc_objects.specs.Stands.{StandsOver}
-use Rattle.abc_namecalls.proofs.searches.make_properties.Given as goal
-
-abbrev pub invariant-loop-o : goal.invariant-loop-o
-invariant-loop-o l = StandsOver l.l l.a

@@ -1,4 +1,0 @@
-use Rattle.abc_named.proofs.deleting.delete_property.Given as goal
-
-abbrev pub ghost-name_of : goal.ghost-name_of
-ghost-name_of g a = g.out

@@ -1,6 +1,0 @@
-use Rattle.std.proofs.Common.{ap}
-use Rattle.abc_named.specs.Form.{form_of}
-use Rattle.abc_named.proofs.names.spaces_in.Goals as goal
-
-pub returns-in-NoText : goal.returns-in-NoText
-returns-in-NoText c = ap form_of c.in-NoText.is

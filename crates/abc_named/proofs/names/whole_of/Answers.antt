@@ -1,6 +1,0 @@
-use Rattle.std.proofs.Common.{ap}
-use Rattle.abc_named.specs.Form.{form_of}
-use Rattle.abc_named.proofs.names.whole_of.Goals as goal
-
-pub returns-in-Whole : goal.returns-in-Whole
-returns-in-Whole c = ap form_of c.in-Whole.is

@@ -1,4 +1,0 @@
-use Rattle.abc_named.proofs.slots.write_slot.Given as goal
-
-abbrev pub ghost-coerce : goal.ghost-coerce
-ghost-coerce g a = g.out

@@ -1,7 +1,0 @@
-pub mod Form
-pub mod Named
-pub mod Receivers
-pub mod Numbered
-pub mod Late
-pub mod Walked
-pub mod Deleted

@@ -1,2 +1,0 @@
-pub mod ObjectOps
-pub mod Walked

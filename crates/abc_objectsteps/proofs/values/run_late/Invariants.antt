@@ -1,4 +1,0 @@
-use Rattle.abc_objectsteps.proofs.values.run_late.Given as goal
-
-abbrev pub ghost-has_name : goal.ghost-has_name
-ghost-has_name g a = g.out

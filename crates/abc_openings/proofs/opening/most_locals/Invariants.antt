@@ -1,5 +1,0 @@
-use Rattle.abc_openings.proofs.Locals.{IsRoomBelow}
-use Rattle.abc_openings.proofs.opening.most_locals.Given as goal
-
-abbrev pub invariant-loop-method : goal.invariant-loop-method
-invariant-loop-method l = IsRoomBelow l.methods l.method-index l.most

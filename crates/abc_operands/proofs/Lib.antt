@@ -1,4 +1,0 @@
-pub mod Digits
-pub mod Joining
-pub mod More
-pub mod Signs

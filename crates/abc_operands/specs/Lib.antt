@@ -1,5 +1,0 @@
-pub mod Answers
-pub mod Heads
-pub mod Joined
-pub mod Places
-pub mod Signed

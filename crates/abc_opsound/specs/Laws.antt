@@ -1,7 +1,0 @@
--- What is proved: all operations leave a sound world, and what they answer is there and of its kind.
-use Rattle.abc_program.specs.Linked.{IsLinkedFile}
-use Rattle.abc_sound.specs.Given.{OpsGiven}
-use Rattle.abc_sound.specs.WorldSetting.{Setting}
-
-abbrev pub OperationsStaySound : Type 0
-OperationsStaySound = (p : Setting) → IsLinkedFile p.linked → OpsGiven p

@@ -1,4 +1,0 @@
-use Rattle.abc_outward.proofs.asking.ask.Given as goal
-
-abbrev pub ghost-convert_arguments : goal.ghost-convert_arguments
-ghost-convert_arguments g a = g.out

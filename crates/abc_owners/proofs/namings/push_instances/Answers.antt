@@ -1,7 +1,0 @@
-use Rattle.std.proofs.Common.{arith}
-use Rattle.abc_program.specs.Owners.{of_instance}
-use Rattle.abc_owners.proofs.Rest.{rest_next}
-use Rattle.abc_owners.proofs.namings.push_instances.Goals as goal
-
-pub loop-k-preserved : goal.loop-k-preserved
-loop-k-preserved c = rest_next of_instance _ _ _ _ _ _ (omega arith) c.get-instance.ensures c.loop-k.invariant c.in_ok-push_part.ensures

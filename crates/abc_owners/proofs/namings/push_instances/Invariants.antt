@@ -1,6 +1,0 @@
-use Rattle.std.proofs.Common.{◌≡◌, ◌++◌, drop}
-use Rattle.abc_program.specs.Owners.{namings_from, of_instance}
-use Rattle.abc_owners.proofs.namings.push_instances.Given as goal
-
-abbrev pub invariant-loop-k : goal.invariant-loop-k
-invariant-loop-k l = l.list ++ namings_from of_instance l.k (drop l.k l.abc.instances) ≡ l.initial.list ++ namings_from of_instance 0 l.abc.instances

@@ -1,4 +1,0 @@
-use Rattle.abc_plainsteps.proofs.others.run_debug.Given as goal
-
-abbrev pub ghost-step_on : goal.ghost-step_on
-ghost-step_on g a = g.out

@@ -1,4 +1,0 @@
-use Rattle.abc_plainsteps.proofs.others.run_short.Given as goal
-
-abbrev pub ghost-push_value : goal.ghost-push_value
-ghost-push_value g a = g.out

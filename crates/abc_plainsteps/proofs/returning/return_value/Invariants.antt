@@ -1,4 +1,0 @@
-use Rattle.abc_plainsteps.proofs.returning.return_value.Given as goal
-
-abbrev pub ghost-coerce : goal.ghost-coerce
-ghost-coerce g a = g.out

@@ -1,7 +1,0 @@
-use Rattle.std.proofs.Common.{ap}
-use Rattle.abc_states.specs.Outer.{setting}
-use Rattle.abc_states.specs.Turns.{turned}
-use Rattle.abc_plainsteps.proofs.returning.returns_kept.Goals as goal
-
-pub returns-clause-leaves : goal.returns-clause-leaves
-returns-clause-leaves g c = λ e. ap (turned (setting c.args.linked.now g.out) c.args.s.now.frames) (c.returns_whole.ensures c.if-not-returns_whole.false)

@@ -1,4 +1,0 @@
-use Rattle.abc_plainsteps.proofs.returning.returns_kept.Given as goal
-
-abbrev pub ghost-returns_whole : goal.ghost-returns_whole
-ghost-returns_whole g a = g.out

@@ -1,4 +1,0 @@
-use Rattle.abc_plainsteps.proofs.returning.returns_number.Given as goal
-
-abbrev pub ghost-returns_kept : goal.ghost-returns_kept
-ghost-returns_kept g a = g.out

@@ -1,4 +1,0 @@
-use Rattle.abc_propertyarms.proofs.elements.gets_numbered.Given as goal
-
-abbrev pub ghost-gets_element : goal.ghost-gets_element
-ghost-gets_element g a = g.out

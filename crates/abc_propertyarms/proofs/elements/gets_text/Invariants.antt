@@ -1,4 +1,0 @@
-use Rattle.abc_propertyarms.proofs.elements.gets_text.Given as goal
-
-abbrev pub ghost-gets_numbered : goal.ghost-gets_numbered
-ghost-gets_numbered g a = g.out

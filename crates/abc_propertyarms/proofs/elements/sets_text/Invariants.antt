@@ -1,4 +1,0 @@
-use Rattle.abc_propertyarms.proofs.elements.sets_text.Given as goal
-
-abbrev pub ghost-sets_numbered : goal.ghost-sets_numbered
-ghost-sets_numbered g a = g.out

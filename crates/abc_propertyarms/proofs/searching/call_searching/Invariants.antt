@@ -1,4 +1,0 @@
-use Rattle.abc_propertyarms.proofs.searching.call_searching.Given as goal
-
-abbrev pub ghost-call_searched : goal.ghost-call_searched
-ghost-call_searched g a = g.out

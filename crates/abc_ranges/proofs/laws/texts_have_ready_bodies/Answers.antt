@@ -1,6 +1,0 @@
--- The law of the bodies of texts.
-use Rattle.abc_ranges.proofs.Readied.{text_ready}
-use Rattle.abc_ranges.proofs.laws.texts_have_ready_bodies.Goals as goal
-
-pub returns : goal.returns
-returns c = λ text v is. text_ready v text is

@@ -1,6 +1,0 @@
-use Rattle.std.proofs.Common.{◌≡◌, map, take}
-use Rattle.abc_refs.specs.Nodes.{number_in}
-use Rattle.abc_refs.proofs.indexed.renumber_all.Given as goal
-
-abbrev pub invariant-loop-index : goal.invariant-loop-index
-invariant-loop-index l = l.new ≡ map (number_in l.numbers l.pool) (take l.index-index l.index-items)

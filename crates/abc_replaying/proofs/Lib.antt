@@ -1,7 +1,0 @@
-pub mod Inputs
-pub mod Lifted
-pub mod Parts
-pub mod Found
-pub mod Logged
-mod Counting
-pub mod Excluding

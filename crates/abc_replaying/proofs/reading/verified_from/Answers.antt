@@ -1,7 +1,0 @@
-use Rattle.std.proofs.Common.{subst}
-use Rattle.abc_program.specs.Slots.{HasFewSlots}
-use Rattle.abc_replaying.proofs.Found.{verified_there}
-use Rattle.abc_replaying.proofs.reading.verified_from.Goals as goal
-
-pub returns-in-Ok-clause-ok : goal.returns-in-Ok-clause-ok
-returns-in-Ok-clause-ok c = verified_there c.args.source.now.left c.in-Ok.verified c.in-Ok._places c.in-Ok.ensures.ok (subst HasFewSlots c.linked.ensures c.slots_law.ensures)

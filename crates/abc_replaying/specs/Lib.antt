@@ -1,4 +1,0 @@
-pub mod Names
-pub mod Replays
-pub mod Prefaces
-pub mod Laws

@@ -1,7 +1,0 @@
-use Rattle.std.proofs.Common.{◌≡◌, map, take}
-use Rattle.abc_items.specs.Meaning.{resolve}
-use Rattle.abc_items.specs.Bases.{classes_named}
-use Rattle.abc_rules.proofs.graphs.base_graph.Given as goal
-
-abbrev pub invariant-loop-instance : goal.invariant-loop-instance
-invariant-loop-instance l = l.graph ≡ map (λ i. classes_named (resolve l.meanings.abc.now i.super_name)) (take l.instance-index l.instance-items)

@@ -1,7 +1,0 @@
-use Rattle.std.proofs.Common.{◌≡◌, ◌++◌, take}
-use Rattle.std.specs.List.{flat_map}
-use Rattle.abc_items.specs.Methods.{of_class}
-use Rattle.abc_rules.proofs.methods.push_classes.Given as goal
-
-abbrev pub invariant-loop-class : goal.invariant-loop-class
-invariant-loop-class l = l.list.items ≡ l.initial.list.items ++ flat_map of_class (take l.class-index l.class-items)

@@ -1,7 +1,0 @@
-use Rattle.std.proofs.Common.{◌≡◌, ◌++◌, take}
-use Rattle.std.specs.List.{flat_map}
-use Rattle.abc_items.specs.Methods.{of_script}
-use Rattle.abc_rules.proofs.methods.push_scripts.Given as goal
-
-abbrev pub invariant-loop-script : goal.invariant-loop-script
-invariant-loop-script l = l.list.items ≡ l.initial.list.items ++ flat_map of_script (take l.script-index l.script-items)

@@ -1,7 +1,0 @@
-use Rattle.std.proofs.Common.{◌≡◌, false, not, take}
-use Rattle.std.specs.List.{list_any}
-use Rattle.abc_items.specs.Traits.{is_type_name}
-use Rattle.abc_rules.proofs.name_kind.has_bad_type.Given as goal
-
-abbrev pub invariant-loop-name : goal.invariant-loop-name
-invariant-loop-name l = list_any (λ n. not (is_type_name l.abc n)) (take l.name-index l.names) ≡ false

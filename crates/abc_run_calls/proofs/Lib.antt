@@ -1,0 +1,15 @@
+pub mod Bodied
+pub mod Coerced
+pub mod Entered
+pub mod Offered
+pub mod Opened
+pub mod Operands
+pub mod Placed
+pub mod Putting
+pub mod Stayed
+pub mod Finishing
+pub mod Alone
+pub mod Called
+pub mod Instances
+pub mod Settled
+pub mod Told

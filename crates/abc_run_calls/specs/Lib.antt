@@ -1,0 +1,4 @@
+pub mod Arguments
+pub mod Entering
+pub mod InPlace
+pub mod Calls

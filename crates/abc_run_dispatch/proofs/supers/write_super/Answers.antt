@@ -1,0 +1,18 @@
+use Rattle.std.proofs.Common.{◌+◌}
+use Rattle.abc_run_state.specs.Outer.{setting}
+use Rattle.abc_run_members.specs.Members.{parts_at}
+use Rattle.abc_file_types.specs.declared.code.Instr.TheVariants.{One}
+use Rattle.abc_run_values.proofs.Doing.{open_as, turns_as}
+use Rattle.abc_run_dispatch.proofs.SuperOps.{home_05, op_05}
+use Rattle.abc_run_dispatch.proofs.supers.write_super.Goals as goal
+
+pub layout_here-from-requires : goal.layout_here-from-requires
+layout_here-from-requires g c = record { live = c.requires.0.live; home = home_05 c.args.linked.now g.out c.args.s.now c.args.n c.requires.0 }
+
+pub set_super-requires : goal.set_super-requires
+set_super-requires g c =
+    let d = op_05 c.args.linked.now g.out c.args.s.now c.args.n c.layout_here-from.result c.layout_here-from.ensures.is c.requires.0 in
+    (c.requires.0.set, (c.requires.1, (d.ready, (c.layout_here-from.ensures.layout, open_as c.args.linked.now g.out c.args.s.now (One 0x05 c.args.n) (parts_at (setting c.args.linked.now g.out) c.args.n + 2) 0 _ d c.requires.0.free))))
+
+pub returns-clause-runs : goal.returns-clause-runs
+returns-clause-runs g c = turns_as c.args.linked.now g.out c.args.s.now (One 0x05 c.args.n) (parts_at (setting c.args.linked.now g.out) c.args.n + 2) 0 _ _ (op_05 c.args.linked.now g.out c.args.s.now c.args.n c.layout_here-from.result c.layout_here-from.ensures.is c.requires.0) c.set_super.ensures.runs

@@ -1,0 +1,9 @@
+pub mod ObjectGroups
+pub mod NewGroups
+pub mod MemberGroups
+pub mod ScopeGroups
+pub mod Homes
+pub mod Held
+pub mod StepGroups
+pub mod Numbers
+pub mod Ready

@@ -1,0 +1,4 @@
+use Rattle.abc_run_finish.proofs.asking.ask.Given as goal
+
+abbrev pub ghost-convert_arguments : goal.ghost-convert_arguments
+ghost-convert_arguments g a = g.out

@@ -1,0 +1,49 @@
+use Rattle.std.proofs.Common.{◌≡◌, ◌-◌, ◌≤◌, ◌∙◌, [], Some, None, drop, length, suc, ap, sym, arith}
+use Rattle.std.specs.Prelude.{slice_get}
+use Rattle.std.specs.declared.option.Option.{Option}
+use Rattle.std.proofs.Math.Seq.{drop-cons}
+use Rattle.std.proofs.lemmas.List.{drop_all}
+use Rattle.abc_heap_values.proofs.Parts.{slice_get_some}
+use Rattle.abc_heap_values.specs.declared.values.Value.TheVariants.{Undefined}
+use Rattle.abc_run_calls.proofs.Offered.{argument_first, enough_given, option_exists, option_first, option_within, unoffered}
+use Rattle.abc_run_calls.specs.Arguments.{first_of}
+use Rattle.abc_run_state.specs.Outer.{setting}
+use Rattle.abc_meaning.specs.Setting.{options_of}
+use Rattle.abc_file_types.specs.declared.methods.OptionValue.{OptionValue}
+use Rattle.abc_run_finish.proofs.call_arguments.argument.Goals as goal
+
+pub returns-then-k-args-clause-part : goal.returns-then-k-args-clause-part
+returns-then-k-args-clause-part c = λ out w.
+    let p = setting c.args.linked.now out in
+    let os = drop c.args.k (options_of c.args.method.now) in
+    let args = c.args.args.now in
+    ap (λ vs. first_of p os vs w) (drop-cons args c.args.k Undefined c.if-k-args.true)
+    ∙ argument_first p os _ (drop (suc c.args.k) args) w
+
+pub unreachable-requires : goal.unreachable-requires
+unreachable-requires c =
+    let m = c.args.method.now in
+    let first : c.saturating_sub-first.result ≡ unoffered m = omega (arith, c.saturating_sub-first.ensures, c.len.ensures, c.len-2.ensures) in
+    let past : length c.args.args.now ≤ c.args.k = omega (arith, c.if-k-args.false) in
+    let there = slice_get_some m.options (c.args.k - unoffered m) (option_within m (length c.args.args.now) c.args.k c.requires.takes past c.requires.parameter) in
+    let e : ◌≡◌ {A = Option OptionValue} None (Some there.0) = sym c.in-None.is ∙ c.fetch.ensures ∙ ap (λ n. slice_get m.options (c.args.k - n)) first ∙ there.1 in
+    cc
+
+pub returns-clause-part : goal.returns-clause-part
+returns-clause-part c = λ out w.
+    let p = setting c.args.linked.now out in
+    let m = c.args.method.now in
+    let first : c.saturating_sub-first.result ≡ unoffered m = omega (arith, c.saturating_sub-first.ensures, c.len.ensures, c.len-2.ensures) in
+    let past : length c.args.args.now ≤ c.args.k = omega (arith, c.if-k-args.false) in
+    let enough = enough_given m (length c.args.args.now) c.requires.takes in
+    let is : slice_get m.options (c.args.k - unoffered m) ≡ Some c.in-Some.option = sym (c.fetch.ensures ∙ ap (λ n. slice_get m.options (c.args.k - n)) first) ∙ c.in-Some.is in
+    ap (λ vs. first_of p (drop c.args.k (options_of m)) vs w) (drop_all c.args.k c.args.args.now past)
+    ∙ ap (λ os. first_of p os [] w) (option_first m c.args.k c.in-Some.option (omega (arith, enough, past)) is)
+    ∙ c.option_given.ensures out w
+
+pub returns-clause-there : goal.returns-clause-there
+returns-clause-there c = λ h over there.
+    let m = c.args.method.now in
+    let first : c.saturating_sub-first.result ≡ unoffered m = omega (arith, c.saturating_sub-first.ensures, c.len.ensures, c.len-2.ensures) in
+    let is : slice_get m.options (c.args.k - unoffered m) ≡ Some c.in-Some.option = sym (c.fetch.ensures ∙ ap (λ n. slice_get m.options (c.args.k - n)) first) ∙ c.in-Some.is in
+    option_exists c.args.linked.now h c.in-Some.option c.option_given.result (c.requires.options.each (c.args.k - unoffered m) c.in-Some.option is) over c.option_given.ensures

@@ -1,0 +1,8 @@
+use Rattle.abc_run_finish.proofs.Coercing.{AreMade}
+use Rattle.abc_run_finish.proofs.call_arguments.coerce_arguments.Given as goal
+
+abbrev pub ghost-coerce_argument : goal.ghost-coerce_argument
+ghost-coerce_argument g a = g.out
+
+abbrev pub invariant-loop-k : goal.invariant-loop-k
+invariant-loop-k g l = AreMade l.linked g.out l.method l.args l.k l.fn.s l.s

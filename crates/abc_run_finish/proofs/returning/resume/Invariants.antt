@@ -1,0 +1,4 @@
+use Rattle.abc_run_finish.proofs.returning.resume.Given as goal
+
+abbrev pub ghost-make_of : goal.ghost-make_of
+ghost-make_of g a = g.out

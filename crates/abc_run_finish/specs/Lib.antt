@@ -1,0 +1,11 @@
+pub mod Begun
+pub mod Turned
+pub mod Outward
+pub mod Handling
+pub mod Ending
+pub mod Starting
+pub mod Steps
+pub mod Fairly
+pub mod Calling
+pub mod OptionLaws
+pub mod ReachedLaws

@@ -1,0 +1,16 @@
+use Rattle.std.proofs.Common.{◌+◌, ◌∙◌, ◌≤◌, arith, length, subst, sym}
+use Rattle.std.specs.declared.option.Option.{Option}
+use Rattle.abc_run_names.specs.Named.{parts_count}
+use Rattle.abc_objects.specs.Values.{Exists}
+use Rattle.abc_frames.specs.Frame.{newest}
+use Rattle.abc_meaning.specs.Setting.{NameForm}
+use Rattle.abc_run_members.proofs.elements.gets_text.Goals as goal
+
+pub operand-v-requires : goal.operand-v-requires
+operand-v-requires g c = let two = subst (λ (r : Option NameForm). parts_count r + 1 ≤ length (newest c.args.s.now.frames).stack) c.requires.1.1 c.requires.1.0.operands in omega (arith, two)
+
+pub gets_numbered-requires : goal.gets_numbered-requires
+gets_numbered-requires g c =
+    let l = c.args.linked.now in
+    let h = c.args.s.now.arena in
+    (c.requires.0, (c.requires.1.0, (c.requires.1.1, ((sym c.operand-v.ensures.is ∙ c.in-Obj.is), (subst (Exists l h) c.in-Obj.is (c.operand-v.ensures.there l h c.requires.0.frame.stack))))))

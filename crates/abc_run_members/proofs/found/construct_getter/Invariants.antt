@@ -1,0 +1,4 @@
+use Rattle.abc_run_members.proofs.found.construct_getter.Given as goal
+
+abbrev pub ghost-enter_owned : goal.ghost-enter_owned
+ghost-enter_owned g a = g.out

@@ -1,0 +1,7 @@
+use Rattle.abc_run_members.proofs.found.construct_value.Given as goal
+
+abbrev pub ghost-value_of : goal.ghost-value_of
+ghost-value_of g a = g.out
+
+abbrev pub ghost-make : goal.ghost-make
+ghost-make g a = g.out

@@ -1,0 +1,32 @@
+use Rattle.std.proofs.Common.{rules, ◌∙◌, ap, subst}
+use Rattle.abc_frames.specs.Frame.{newest}
+use Rattle.abc_run_state.specs.Outer.{setting, world}
+use Rattle.abc_run_state.specs.Stops.{IsOpen}
+use Rattle.abc_run_state.specs.Turns.{turned}
+use Rattle.abc_run_members.proofs.Settled.{enters_as}
+use Rattle.abc_run_members.proofs.found.enter_on.Goals as goal
+
+pub enter_owned-requires : goal.enter_owned-requires
+enter_owned-requires g c = (
+  search rules,
+  (
+    search rules,
+    (
+      search rules,
+      (
+        search rules,
+        (
+          search rules,
+          (subst IsOpen (enters_as (setting c.args.linked.now g.out) c.args.method c.args.v c.args.count c.args.how (newest c.args.s.now.frames) (world c.args.s.now g.out) c.waiting-taken.result.0 c.waiting-taken.result.1 c.waiting-taken.ensures.taken c.waiting-taken.ensures.wait c.requires.1.1.1.1)
+              c.requires.1.1.1.1),
+        ),
+      ),
+    ),
+  ),
+)
+
+pub returns-clause-runs : goal.returns-clause-runs
+returns-clause-runs g c =
+    let p = setting c.args.linked.now g.out in
+    ap (turned p c.args.s.now.frames) (enters_as p c.args.method c.args.v c.args.count c.args.how (newest c.args.s.now.frames) (world c.args.s.now g.out) c.waiting-taken.result.0 c.waiting-taken.result.1 c.waiting-taken.ensures.taken c.waiting-taken.ensures.wait c.requires.1.1.1.1)
+    ∙ c.enter_owned.ensures.runs

@@ -1,0 +1,88 @@
+use Rattle.std.proofs.Common.{◌∙◌, ℕ, ◌<◌, ap, length, subst, sym}
+use Rattle.abc_base.specs.declared.names.HostClass.TheVariants as hosts
+use Rattle.abc_heap_values.specs.declared.values.ObjId.{ObjId}
+use Rattle.abc_heap_values.specs.declared.values.Value.TheVariants.{Obj}
+use Rattle.abc_heap_search.specs.declared.found.ScopeFound.{ScopeFound}
+use Rattle.abc_frames.specs.Frame.{newest}
+use Rattle.abc_run_members.specs.Found.{IsScopeThere}
+use Rattle.abc_meaning.specs.At.{Act}
+use Rattle.abc_run_calls.specs.Calls.{settled_by}
+use Rattle.abc_run_members.proofs.Pushed.{nothing_is, object_is, script_is}
+use Rattle.abc_run_state.specs.Outer.{setting, world}
+use Rattle.abc_run_state.specs.Stops.{IsOpen}
+use Rattle.abc_run_state.specs.Turns.{turned}
+use Rattle.abc_run_state.specs.declared.state.How.TheVariants.{Push}
+use Rattle.abc_meaning.specs.Members.{reads}
+use Rattle.abc_meaning.specs.World.{Run, throws}
+use Rattle.abc_run_members.proofs.lexical.read_in.Goals as goal
+
+pub read_on-requires : goal.read_on-requires
+read_on-requires g c =
+    let l = c.args.linked.now in
+    let p = setting l g.out in
+    let f = newest c.args.s.now.frames in
+    let w = world c.args.s.now g.out in
+    let go : ObjId → Run Act = λ o. settled_by (Push c.args.parts) f (reads p (Obj o) c.args.name.now) in (
+      c.requires.0,
+      (
+        c.requires.1.0,
+        (
+          c.requires.1.1.0,
+          (
+            subst (λ (r : ScopeFound). IsScopeThere l c.args.s.now.arena r) c.in-Object.is c.requires.1.1.1.1.0,
+            (
+              c.requires.1.1.1.1.1.0,
+              subst IsOpen (object_is p f c.in-Object.o go (throws hosts.ReferenceError) c.args.found w c.in-Object.is) c.requires.1.1.1.1.1.1,
+            ),
+          ),
+        ),
+      ),
+    )
+
+pub returns-in-Object-clause-runs : goal.returns-in-Object-clause-runs
+returns-in-Object-clause-runs g c =
+    let p = setting c.args.linked.now g.out in
+    let f = newest c.args.s.now.frames in
+    let w = world c.args.s.now g.out in
+    let go : ObjId → Run Act = λ o. settled_by (Push c.args.parts) f (reads p (Obj o) c.args.name.now) in
+    ap (turned p c.args.s.now.frames) (object_is p f c.in-Object.o go (throws hosts.ReferenceError) c.args.found w c.in-Object.is) ∙ c.read_on.ensures.runs
+
+pub start_above-requires : goal.start_above-requires
+start_above-requires g c =
+    let l = c.args.linked.now in
+    let p = setting l g.out in
+    let f = newest c.args.s.now.frames in
+    let w = world c.args.s.now g.out in
+    let go : ObjId → Run Act = λ o. settled_by (Push c.args.parts) f (reads p (Obj o) c.args.name.now) in
+    let there : c.in-Start.script < length l.file.scripts = subst (λ (r : ScopeFound). IsScopeThere l c.args.s.now.arena r) c.in-Start.is c.requires.1.1.1.1.0 in (
+      c.requires.0,
+      (
+        c.requires.1.0,
+        (
+          c.requires.1.1.0.live,
+          (
+            there,
+            (
+              subst (λ (n : ℕ). c.in-Start.script < n) (sym c.requires.1.1.1.0) there,
+              subst IsOpen (script_is p f c.in-Start.script go (throws hosts.ReferenceError) c.args.found w c.in-Start.is) c.requires.1.1.1.1.1.1,
+            ),
+          ),
+        ),
+      ),
+    )
+
+pub returns-in-Start-clause-runs : goal.returns-in-Start-clause-runs
+returns-in-Start-clause-runs g c =
+    let p = setting c.args.linked.now g.out in
+    let f = newest c.args.s.now.frames in
+    let w = world c.args.s.now g.out in
+    let go : ObjId → Run Act = λ o. settled_by (Push c.args.parts) f (reads p (Obj o) c.args.name.now) in
+    ap (turned p c.args.s.now.frames) (script_is p f c.in-Start.script go (throws hosts.ReferenceError) c.args.found w c.in-Start.is) ∙ c.start_above.ensures.runs
+
+pub returns-in-Missing-clause-runs : goal.returns-in-Missing-clause-runs
+returns-in-Missing-clause-runs g c =
+    let p = setting c.args.linked.now g.out in
+    let f = newest c.args.s.now.frames in
+    let w = world c.args.s.now g.out in
+    let go : ObjId → Run Act = λ o. settled_by (Push c.args.parts) f (reads p (Obj o) c.args.name.now) in
+    ap (turned p c.args.s.now.frames) (nothing_is p f go (throws hosts.ReferenceError) c.args.found w c.in-Missing.is)

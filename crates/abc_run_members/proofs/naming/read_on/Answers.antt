@@ -1,0 +1,35 @@
+use Rattle.std.proofs.Common.{rules, ◌∙◌, ap, subst}
+use Rattle.abc_heap_values.specs.declared.values.Value.{Value}
+use Rattle.abc_frames.specs.Frame.{newest}
+use Rattle.abc_run_state.specs.Outer.{setting, world}
+use Rattle.abc_run_state.specs.Stops.{IsOpen}
+use Rattle.abc_run_state.specs.Turns.{turned}
+use Rattle.abc_run_members.specs.Members.{reads_on}
+use Rattle.abc_run_members.proofs.naming.read_on.Goals as goal
+
+pub read_on_object-requires : goal.read_on_object-requires
+read_on_object-requires g c = (
+  search rules,
+  (
+    search rules,
+    (
+      search rules,
+      (
+        search rules,
+        (
+          search rules,
+          (let p = setting c.args.linked.now g.out in
+              let w = world c.args.s.now g.out in
+              subst (λ (v : Value). IsOpen (reads_on p v c.args.name.now c.args.how (newest c.args.s.now.frames) w)) c.in-Obj.is c.requires.1.1.1.1.1),
+        ),
+      ),
+    ),
+  ),
+)
+
+pub returns-in-Obj-clause-runs : goal.returns-in-Obj-clause-runs
+returns-in-Obj-clause-runs g c =
+    let p = setting c.args.linked.now g.out in
+    let q = c.args.s.now.frames in
+    let w = world c.args.s.now g.out in
+    ap (λ (v : Value). turned p q (reads_on p v c.args.name.now c.args.how (newest q) w)) c.in-Obj.is ∙ c.read_on_object.ensures.runs

@@ -1,0 +1,72 @@
+ghost use Rattle.std.specs.Prelude.{◌≡◌, ◌<◌, ◌^◌, None, get_or, length};
+ghost use Rattle.abc_frames.specs.Ready.{IsReady};
+ghost use Rattle.abc_frames.specs.Frame.{newest};
+ghost use Rattle.abc_run_calls.specs.Arguments.{IsKnown};
+ghost use Rattle.abc_run_state.specs.Outer.{Outer, setting, world};
+ghost use Rattle.abc_run_state.specs.Standing.{IsSet};
+ghost use Rattle.abc_run_state.specs.Stops.{IsOpen};
+ghost use Rattle.abc_run_state.specs.Turns.{Runs};
+ghost use Rattle.abc_run_members.specs.Scoped.{enters_class, makes_class, makes_unmade};
+
+use crate::bases::{base_of, base_prototype};
+use abc_base::HostClass;
+use abc_frames::Wait;
+use abc_heap_values::{ObjId, Value};
+use abc_link::Linked;
+use abc_run_calls::enter_owned;
+use abc_run_state::{State, Stop, make_class, operand};
+
+/// The initializer of a class is run on its class object, which is pushed at the return.
+fn enter_class(linked: &Linked, s: &mut State, class: u32, made: ObjId) -> Result<(), Stop>
+    ghost out: { Outer }
+    requires set { IsSet linked.now s.old }
+    requires known { IsKnown linked.now s.old.given.limit }
+    requires ready { IsReady 1 1 s.old.frames }
+    requires class { class < length linked.now.file.instances }
+    requires free { IsOpen (enters_class (setting linked.now out) class made (newest s.old.frames) (world s.old out)) }
+    ensures runs { Runs linked.now out (enters_class (setting linked.now out) class made (newest s.old.frames)) s.old result s.new }
+    ensures limit { s.new.given.limit ≡ s.old.given.limit }
+{
+    linked.linked_law();
+    let cinit = linked.abc().classes.get(class as usize).cinit;
+    let kept = Value::Obj(made);
+    enter_owned(linked, s, cinit, kept, 0, 1, Wait::Keep(kept))
+}
+
+/// A class that is not made yet is made, and its initializer is run.
+fn make_unmade(linked: &Linked, s: &mut State, class: u32) -> Result<(), Stop>
+    ghost out: { Outer }
+    requires set { IsSet linked.now s.old }
+    requires known { IsKnown linked.now s.old.given.limit }
+    requires ready { IsReady 1 1 s.old.frames }
+    requires class { class < length linked.now.file.instances }
+    requires first { get_or s.old.arena.classes class None ≡ None }
+    requires few { length (newest s.old.frames).scopes < 2 ^ 32 }
+    requires free { IsOpen (makes_unmade (setting linked.now out) class (newest s.old.frames) (world s.old out)) }
+    ensures runs { Runs linked.now out (makes_unmade (setting linked.now out) class (newest s.old.frames)) s.old result s.new }
+    ensures limit { s.new.given.limit ≡ s.old.given.limit }
+{
+    let v = operand(&s.frames, 0);
+    let base = base_of(linked, class);
+    let prototype = base_prototype(linked, s, base, v)?;
+    let made = make_class(linked, s, class, prototype)?;
+    enter_class(linked, s, class, made)
+}
+
+/// `newclass`: the class is made, once, and then its initializer is run on it; what is pushed at the return is the class object.
+pub fn new_class(linked: &Linked, s: &mut State, class: u32) -> Result<(), Stop>
+    ghost out: { Outer }
+    requires set { IsSet linked.now s.old }
+    requires known { IsKnown linked.now s.old.given.limit }
+    requires ready { IsReady 1 1 s.old.frames }
+    requires class { class < length linked.now.file.instances }
+    requires few { length (newest s.old.frames).scopes < 2 ^ 32 }
+    requires free { IsOpen (makes_class (setting linked.now out) class (newest s.old.frames) (world s.old out)) }
+    ensures runs { Runs linked.now out (makes_class (setting linked.now out) class (newest s.old.frames)) s.old result s.new }
+    ensures limit { s.new.given.limit ≡ s.old.given.limit }
+{
+    match s.arena.class_object(class) {
+        Some(_) => Err(Stop::Errs(HostClass::TypeError)),
+        None => make_unmade(linked, s, class),
+    }
+}

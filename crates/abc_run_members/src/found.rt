@@ -1,0 +1,316 @@
+ghost use Rattle.std.specs.Prelude.{◌≡◌, ◌+◌, ◌≤◌, ◌<◌, ◌^◌, true, Ok};
+ghost use Rattle.abc_heap_values.specs.declared.values.Value.TheVariants.{Obj};
+ghost use Rattle.abc_frames.specs.Ready.{IsReady};
+ghost use Rattle.abc_objects.specs.Values.{Exists};
+ghost use Rattle.abc_frames.specs.Frame.{newest};
+ghost use Rattle.abc_run_calls.specs.Arguments.{IsKnown};
+ghost use Rattle.abc_run_state.specs.Outer.{Outer, setting, world};
+ghost use Rattle.abc_run_state.specs.Settling.{given_by, taken_by};
+ghost use Rattle.abc_run_state.specs.Standing.{IsSet};
+ghost use Rattle.abc_run_state.specs.Stops.{IsOpen};
+ghost use Rattle.abc_run_state.specs.Turns.{IsDoneIf, Leaves, Runs};
+ghost use Rattle.abc_run_state.specs.declared.state.Left.TheVariants.{Goes};
+ghost use Rattle.abc_run_calls.specs.Calls.{CanFinish};
+ghost use Rattle.abc_run_members.specs.Members.{IsFoundThere, calls_found, calls_value_found, constructs_found, constructs_getter, constructs_value, enters_found, reads_found, reads_value};
+
+use crate::values::{value_found, value_of};
+use abc_base::Fault;
+use abc_frames::Wait;
+use abc_heap_search::Found;
+use abc_heap_values::{ObjId, Value};
+use abc_link::Linked;
+use abc_run_calls::{call, enter_owned, enters_on_object, make, waiting};
+use abc_run_state::{How, Left, State, Stop, goes, settle};
+
+/// Enters a method of an owner on an object, with so many arguments. The object is one, since the method was found on it.
+#[inline(always)]
+pub(crate) fn enter_on(
+    linked: &Linked,
+    s: &mut State,
+    method: u32,
+    v: Value,
+    count: u32,
+    how: How,
+) -> Result<(), Stop>
+    ghost out: { Outer }
+    requires set { IsSet linked.now s.old }
+    requires known { IsKnown linked.now s.old.given.limit }
+    requires ready { IsReady (taken_by how) (given_by how) s.old.frames }
+    requires count { count ≤ taken_by how }
+    requires free { IsOpen (enters_found (setting linked.now out) method v count how (newest s.old.frames) (world s.old out)) }
+    ensures runs { Runs linked.now out (enters_found (setting linked.now out) method v count how (newest s.old.frames)) s.old result s.new }
+    ensures limit { s.new.given.limit ≡ s.old.given.limit }
+{
+    let (taken, wait) = waiting(how);
+    enter_owned(linked, s, method, v, count, taken, wait)
+}
+
+/// Reads the value that was found, which settles at once.
+#[inline(always)]
+fn read_value(linked: &Linked, s: &mut State, found: Found, v: Value, how: How) -> Result<(), Stop>
+    ghost out: { Outer }
+    requires set { IsSet linked.now s.old }
+    requires ready { IsReady (taken_by how) (given_by how) s.old.frames }
+    requires value { Exists linked.now s.old.arena v }
+    requires found { IsFoundThere linked.now s.old.arena found }
+    requires free { IsOpen (reads_value (setting linked.now out) found v how (newest s.old.frames) (world s.old out)) }
+    ensures runs { Runs linked.now out (reads_value (setting linked.now out) found v how (newest s.old.frames)) s.old result s.new }
+    ensures limit { s.new.given.limit ≡ s.old.given.limit }
+{
+    let value = value_of(linked, s, found, v)?;
+    settle(&mut s.frames, how, value);
+    Ok(())
+}
+
+/// Reads what was found on a value.
+#[inline(always)]
+pub fn read_found(
+    linked: &Linked,
+    s: &mut State,
+    found: Found,
+    v: Value,
+    how: How,
+) -> Result<(), Stop>
+    ghost out: { Outer }
+    requires set { IsSet linked.now s.old }
+    requires known { IsKnown linked.now s.old.given.limit }
+    requires ready { IsReady (taken_by how) (given_by how) s.old.frames }
+    requires value { Exists linked.now s.old.arena v }
+    requires found { IsFoundThere linked.now s.old.arena found }
+    requires free { IsOpen (reads_found (setting linked.now out) found v how (newest s.old.frames) (world s.old out)) }
+    ensures runs { Runs linked.now out (reads_found (setting linked.now out) found v how (newest s.old.frames)) s.old result s.new }
+    ensures limit { s.new.given.limit ≡ s.old.given.limit }
+{
+    match found {
+        Found::Getter(method) => enter_on(linked, s, method, v, 0, how),
+        _ => read_value(linked, s, found, v, how),
+    }
+}
+
+/// Calls a method of an owner on an object, with so many arguments.
+#[inline(always)]
+fn call_method(
+    linked: &Linked,
+    s: &mut State,
+    method: u32,
+    v: Value,
+    count: u32,
+    how: How,
+) -> Result<Left, Stop>
+    ghost out: { Outer }
+    requires set { IsSet linked.now s.old }
+    requires known { IsKnown linked.now s.old.given.limit }
+    requires ready { IsReady (taken_by how) (given_by how) s.old.frames }
+    requires count { count ≤ taken_by how }
+    requires free { IsOpen (enters_found (setting linked.now out) method v count how (newest s.old.frames) (world s.old out)) }
+    ensures leaves { Leaves linked.now out (enters_found (setting linked.now out) method v count how (newest s.old.frames)) s.old result s.new }
+    ensures finishes { CanFinish linked.now result s.new }
+    ensures limit { s.new.given.limit ≡ s.old.given.limit }
+{
+    enter_on(linked, s, method, v, count, how)?;
+    Ok(Left::Goes)
+}
+
+/// Enters a method of an owner on an object, with so many arguments, where nothing has to be made for it: whether it is done; else
+/// nothing is.
+#[inline(always)]
+fn enters_object(
+    linked: &Linked,
+    s: &mut State,
+    method: u32,
+    o: ObjId,
+    count: u32,
+    how: How,
+) -> bool
+    ghost out: { Outer }
+    requires set { IsSet linked.now s.old }
+    requires ready { IsReady (taken_by how) (given_by how) s.old.frames }
+    requires free { IsOpen (enters_found (setting linked.now out) method (Obj o) count how (newest s.old.frames) (world s.old out)) }
+    ensures { IsDoneIf result linked.now out (enters_found (setting linked.now out) method (Obj o) count how (newest s.old.frames)) s.old s.new }
+{
+    let (taken, wait) = waiting(how);
+    enters_on_object(linked, s, method, o, count, taken, wait)
+}
+
+/// Calls a method of an owner on an object, with so many arguments, for which something has to be made. It answers whether the frame goes
+/// on; else `left` says why not.
+#[inline(never)]
+fn enter_slowly(
+    linked: &Linked,
+    s: &mut State,
+    method: u32,
+    o: ObjId,
+    count: u32,
+    how: How,
+    left: &mut Result<Left, Stop>,
+) -> bool
+    ghost out: { Outer }
+    requires set { IsSet linked.now s.old }
+    requires known { IsKnown linked.now s.old.given.limit }
+    requires ready { IsReady (taken_by how) (given_by how) s.old.frames }
+    requires count { count ≤ taken_by how }
+    requires free { IsOpen (enters_found (setting linked.now out) method (Obj o) count how (newest s.old.frames) (world s.old out)) }
+    requires none { left.old ≡ Ok Goes }
+    ensures leaves { Leaves linked.now out (enters_found (setting linked.now out) method (Obj o) count how (newest s.old.frames)) s.old left.new s.new }
+    ensures finishes { CanFinish linked.now left.new s.new }
+    ensures goes { result ≡ true → left.new ≡ Ok Goes }
+    ensures limit { s.new.given.limit ≡ s.old.given.limit }
+{
+    goes(enter_on(linked, s, method, Value::Obj(o), count, how), left)
+}
+
+/// Calls a method of an owner on an object, with so many arguments. It answers whether the frame goes on; else `left` says why not.
+#[inline(always)]
+pub fn call_object_method(
+    linked: &Linked,
+    s: &mut State,
+    method: u32,
+    o: ObjId,
+    count: u32,
+    how: How,
+    left: &mut Result<Left, Stop>,
+) -> bool
+    ghost out: { Outer }
+    requires set { IsSet linked.now s.old }
+    requires known { IsKnown linked.now s.old.given.limit }
+    requires ready { IsReady (taken_by how) (given_by how) s.old.frames }
+    requires count { count ≤ taken_by how }
+    requires free { IsOpen (enters_found (setting linked.now out) method (Obj o) count how (newest s.old.frames) (world s.old out)) }
+    requires none { left.old ≡ Ok Goes }
+    ensures leaves { Leaves linked.now out (enters_found (setting linked.now out) method (Obj o) count how (newest s.old.frames)) s.old left.new s.new }
+    ensures finishes { CanFinish linked.now left.new s.new }
+    ensures goes { result ≡ true → left.new ≡ Ok Goes }
+    ensures limit { s.new.given.limit ≡ s.old.given.limit }
+{
+    if enters_object(linked, s, method, o, count, how) {
+        return true;
+    }
+    enter_slowly(linked, s, method, o, count, how, left)
+}
+
+/// Calls the value that was found, with so many arguments.
+fn call_value_found(
+    linked: &Linked,
+    s: &mut State,
+    found: Found,
+    v: Value,
+    receiver: Value,
+    count: u32,
+    how: How,
+) -> Result<Left, Stop>
+    ghost out: { Outer }
+    requires set { IsSet linked.now s.old }
+    requires known { IsKnown linked.now s.old.given.limit }
+    requires ready { IsReady (taken_by how) (given_by how) s.old.frames }
+    requires count { count ≤ taken_by how }
+    requires value { Exists linked.now s.old.arena v }
+    requires found { IsFoundThere linked.now s.old.arena found }
+    requires free { IsOpen (calls_value_found (setting linked.now out) found v receiver count how (newest s.old.frames) (world s.old out)) }
+    ensures leaves { Leaves linked.now out (calls_value_found (setting linked.now out) found v receiver count how (newest s.old.frames)) s.old result s.new }
+    ensures finishes { CanFinish linked.now result s.new }
+    ensures limit { s.new.given.limit ≡ s.old.given.limit }
+{
+    let callee = value_found(linked, s, found, v)?;
+    call(linked, s, callee, receiver, count, how)
+}
+
+/// Calls what was found on a value, with so many arguments.
+#[inline(always)]
+pub fn call_found(
+    linked: &Linked,
+    s: &mut State,
+    found: Found,
+    v: Value,
+    receiver: Value,
+    count: u32,
+    how: How,
+) -> Result<Left, Stop>
+    ghost out: { Outer }
+    requires set { IsSet linked.now s.old }
+    requires known { IsKnown linked.now s.old.given.limit }
+    requires ready { IsReady (taken_by how) (given_by how) s.old.frames }
+    requires count { count ≤ taken_by how }
+    requires value { Exists linked.now s.old.arena v }
+    requires found { IsFoundThere linked.now s.old.arena found }
+    requires free { IsOpen (calls_found (setting linked.now out) found v receiver count how (newest s.old.frames) (world s.old out)) }
+    ensures leaves { Leaves linked.now out (calls_found (setting linked.now out) found v receiver count how (newest s.old.frames)) s.old result s.new }
+    ensures finishes { CanFinish linked.now result s.new }
+    ensures limit { s.new.given.limit ≡ s.old.given.limit }
+{
+    match found {
+        Found::Method { method, .. } => call_method(linked, s, method, v, count, how),
+        Found::Getter(_) => Err(Stop::Faults(Fault::GetterCall)),
+        _ => call_value_found(linked, s, found, v, receiver, count, how),
+    }
+}
+
+/// Does `new` on what a getter returns, with the arguments that stay on the stack: the operands under them leave.
+fn construct_getter(
+    linked: &Linked,
+    s: &mut State,
+    method: u32,
+    v: Value,
+    under: u32,
+    count: u32,
+) -> Result<(), Stop>
+    ghost out: { Outer }
+    requires set { IsSet linked.now s.old }
+    requires known { IsKnown linked.now s.old.given.limit }
+    requires ready { IsReady (count + under) 1 s.old.frames }
+    requires free { IsOpen (constructs_getter (setting linked.now out) method v under count (newest s.old.frames) (world s.old out)) }
+    ensures runs { Runs linked.now out (constructs_getter (setting linked.now out) method v under count (newest s.old.frames)) s.old result s.new }
+    ensures limit { s.new.given.limit ≡ s.old.given.limit }
+{
+    s.frames.drop_under(count, under);
+    enter_owned(linked, s, method, v, 0, 0, Wait::New(count))
+}
+
+/// Does `new` on the value that was found, with so many arguments.
+fn construct_value(
+    linked: &Linked,
+    s: &mut State,
+    found: Found,
+    v: Value,
+    under: u32,
+    count: u32,
+) -> Result<(), Stop>
+    ghost out: { Outer }
+    requires set { IsSet linked.now s.old }
+    requires known { IsKnown linked.now s.old.given.limit }
+    requires ready { IsReady (count + under) 1 s.old.frames }
+    requires few { count + under < 2 ^ 32 }
+    requires value { Exists linked.now s.old.arena v }
+    requires found { IsFoundThere linked.now s.old.arena found }
+    requires free { IsOpen (constructs_value (setting linked.now out) found v under count (newest s.old.frames) (world s.old out)) }
+    ensures runs { Runs linked.now out (constructs_value (setting linked.now out) found v under count (newest s.old.frames)) s.old result s.new }
+    ensures limit { s.new.given.limit ≡ s.old.given.limit }
+{
+    let of = value_of(linked, s, found, v)?;
+    make(linked, s, of, count, How::Push(count + under))
+}
+
+/// Does `new` on what was found on a value, with so many arguments.
+pub(crate) fn construct_found(
+    linked: &Linked,
+    s: &mut State,
+    found: Found,
+    v: Value,
+    under: u32,
+    count: u32,
+) -> Result<(), Stop>
+    ghost out: { Outer }
+    requires set { IsSet linked.now s.old }
+    requires known { IsKnown linked.now s.old.given.limit }
+    requires ready { IsReady (count + under) 1 s.old.frames }
+    requires few { count + under < 2 ^ 32 }
+    requires value { Exists linked.now s.old.arena v }
+    requires found { IsFoundThere linked.now s.old.arena found }
+    requires free { IsOpen (constructs_found (setting linked.now out) found v under count (newest s.old.frames) (world s.old out)) }
+    ensures runs { Runs linked.now out (constructs_found (setting linked.now out) found v under count (newest s.old.frames)) s.old result s.new }
+    ensures limit { s.new.given.limit ≡ s.old.given.limit }
+{
+    match found {
+        Found::Getter(method) => construct_getter(linked, s, method, v, under, count),
+        _ => construct_value(linked, s, found, v, under, count),
+    }
+}

@@ -1,0 +1,65 @@
+ghost use Rattle.std.specs.Prelude.{◌≡◌, ◌<◌, length};
+ghost use Rattle.abc_heap_store.specs.Texts.{IsText};
+ghost use Rattle.abc_frames.specs.Ready.{IsReady};
+ghost use Rattle.abc_frames.specs.Frame.{newest};
+ghost use Rattle.abc_run_calls.specs.Arguments.{IsKnown};
+ghost use Rattle.abc_run_members.specs.Members.{parts_at};
+ghost use Rattle.abc_run_state.specs.Outer.{Outer, setting, world};
+ghost use Rattle.abc_run_state.specs.Standing.{IsSet};
+ghost use Rattle.abc_run_state.specs.Stops.{IsOpen};
+ghost use Rattle.abc_run_state.specs.Turns.{Runs};
+ghost use Rattle.abc_run_members.specs.Found.{IsScopeThere};
+ghost use Rattle.abc_run_members.specs.Supers.{finds_and_reads, reads_in};
+
+use crate::naming::read_on;
+use crate::scopes_above::find_here;
+use abc_base::HostClass;
+use abc_heap_search::{Name, ScopeFound};
+use abc_heap_values::Value;
+use abc_link::Linked;
+use abc_run_calls::start_above;
+use abc_run_names::{name_of, parts_of};
+use abc_run_state::{How, State, Stop};
+
+/// What was found is read by the name; a script that is to be started first is entered, and what comes takes the place of the parts of the name.
+fn read_in(
+    linked: &Linked,
+    s: &mut State,
+    found: ScopeFound,
+    name: &Name,
+    parts: u32,
+) -> Result<(), Stop>
+    ghost out: { Outer }
+    requires set { IsSet linked.now s.old }
+    requires known { IsKnown linked.now s.old.given.limit }
+    requires ready { IsReady parts 1 s.old.frames }
+    requires started { length s.old.started ≡ length linked.now.file.scripts }
+    requires found { IsScopeThere linked.now s.old.arena found }
+    requires name { IsText linked.now.file.strings s.old.arena name.now.text }
+    requires free { IsOpen (reads_in (setting linked.now out) found name.now parts (newest s.old.frames) (world s.old out)) }
+    ensures runs { Runs linked.now out (reads_in (setting linked.now out) found name.now parts (newest s.old.frames)) s.old result s.new }
+    ensures limit { s.new.given.limit ≡ s.old.given.limit }
+{
+    match found {
+        ScopeFound::Object(o) => read_on(linked, s, Value::Obj(o), name, How::Push(parts)),
+        ScopeFound::Start(script) => start_above(linked, s, script),
+        ScopeFound::Missing => Err(Stop::Errs(HostClass::ReferenceError)),
+    }
+}
+
+/// `getlex`.
+pub fn get_lexical(linked: &Linked, s: &mut State, name: u32) -> Result<(), Stop>
+    ghost out: { Outer }
+    requires set { IsSet linked.now s.old }
+    requires known { IsKnown linked.now s.old.given.limit }
+    requires ready { IsReady (parts_at (setting linked.now out) name) 1 s.old.frames }
+    requires started { length s.old.started ≡ length linked.now.file.scripts }
+    requires free { IsOpen (finds_and_reads (setting linked.now out) name (newest s.old.frames) (world s.old out)) }
+    ensures runs { Runs linked.now out (finds_and_reads (setting linked.now out) name (newest s.old.frames)) s.old result s.new }
+    ensures limit { s.new.given.limit ≡ s.old.given.limit }
+{
+    let parts = parts_of(linked, name);
+    let wanted = name_of(linked, s, name, 0)?;
+    let found = find_here(linked, s, &wanted);
+    read_in(linked, s, found, &wanted, parts)
+}

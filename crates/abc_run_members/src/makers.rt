@@ -1,0 +1,93 @@
+ghost use Rattle.std.specs.Prelude.{◌≡◌, ◌+◌, ◌<◌, ◌^◌, length};
+ghost use Rattle.abc_frames.specs.Ready.{IsReady};
+ghost use Rattle.abc_objects.specs.Values.{IsObject};
+ghost use Rattle.abc_frames.specs.Frame.{newest};
+ghost use Rattle.abc_run_calls.specs.Calls.{settled_by};
+ghost use Rattle.abc_run_calls.specs.Arguments.{IsKnown};
+ghost use Rattle.abc_run_state.specs.Outer.{Outer, setting, world};
+ghost use Rattle.abc_run_state.specs.Standing.{IsSet};
+ghost use Rattle.abc_run_state.specs.Stops.{IsOpen};
+ghost use Rattle.abc_run_state.specs.Turns.{Runs};
+ghost use Rattle.abc_run_state.specs.declared.state.How.TheVariants.{Drop};
+ghost use Rattle.abc_run_members.specs.Based.{IsBase, named_of};
+ghost use Rattle.abc_run_members.specs.Supers.{constructs_super, runs_base, tells_base};
+
+use crate::bases::{Base, base_of};
+use abc_base::HostClass;
+use abc_frames::Wait;
+use abc_heap_values::{ObjId, Value};
+use abc_link::Linked;
+use abc_run_calls::{enter_owned, message_of, set_message};
+use abc_run_names::receiver;
+use abc_run_state::{How, State, Stop, operand, settle};
+
+/// The maker of a class of the host takes a message.
+fn tell_base(
+    linked: &Linked,
+    s: &mut State,
+    o: ObjId,
+    class: HostClass,
+    count: u32,
+) -> Result<(), Stop>
+    ghost out: { Outer }
+    requires set { IsSet linked.now s.old }
+    requires ready { IsReady (count + 1) 0 s.old.frames }
+    requires count { count < 2 ^ 30 }
+    requires inside { IsObject s.old.arena o }
+    ensures runs { Runs linked.now out (tells_base (setting linked.now out) o class count (newest s.old.frames)) s.old result s.new }
+    ensures limit { s.new.given.limit ≡ s.old.given.limit }
+{
+    let message = message_of(linked, s, class, count)?;
+    set_message(linked, s, o, message)?;
+    settle(&mut s.frames, How::Drop(count + 1), Value::Undefined);
+    Ok(())
+}
+
+/// The maker of the base is run on an object.
+fn construct_base(
+    linked: &Linked,
+    s: &mut State,
+    o: ObjId,
+    base: Base,
+    count: u32,
+) -> Result<(), Stop>
+    ghost out: { Outer }
+    requires set { IsSet linked.now s.old }
+    requires known { IsKnown linked.now s.old.given.limit }
+    requires ready { IsReady (count + 1) 0 s.old.frames }
+    requires count { count < 2 ^ 30 }
+    requires inside { IsObject s.old.arena o }
+    requires base { IsBase linked.now base }
+    requires free { IsOpen (settled_by (Drop (count + 1)) (newest s.old.frames) (runs_base (setting linked.now out) o count (newest s.old.frames) (named_of base)) (world s.old out)) }
+    ensures runs { Runs linked.now out (settled_by (Drop (count + 1)) (newest s.old.frames) (runs_base (setting linked.now out) o count (newest s.old.frames) (named_of base))) s.old result s.new }
+    ensures limit { s.new.given.limit ≡ s.old.given.limit }
+{
+    match base {
+        Base::Class(class) => {
+            let maker = linked.abc().instances.get(class as usize).iinit;
+            let taken = count + 1;
+            enter_owned(linked, s, maker, Value::Obj(o), count, taken, Wait::Drop)
+        }
+        Base::Host(class) => tell_base(linked, s, o, class, count),
+        Base::Nothing => unreachable!(),
+    }
+}
+
+/// `constructsuper`, in the maker of a class: the maker of its base is run on the object, which is under the arguments; a class of
+/// the host has none, and takes a message.
+pub fn construct_super(linked: &Linked, s: &mut State, class: u32, count: u32) -> Result<(), Stop>
+    ghost out: { Outer }
+    requires set { IsSet linked.now s.old }
+    requires known { IsKnown linked.now s.old.given.limit }
+    requires ready { IsReady (count + 1) 0 s.old.frames }
+    requires count { count < 2 ^ 30 }
+    requires class { class < length linked.now.file.instances }
+    requires free { IsOpen (constructs_super (setting linked.now out) class count (newest s.old.frames) (world s.old out)) }
+    ensures runs { Runs linked.now out (constructs_super (setting linked.now out) class count (newest s.old.frames)) s.old result s.new }
+    ensures limit { s.new.given.limit ≡ s.old.given.limit }
+{
+    let v = operand(&s.frames, count);
+    let o = receiver(v)?;
+    let base = base_of(linked, class);
+    construct_base(linked, s, o, base, count)
+}

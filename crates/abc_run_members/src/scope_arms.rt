@@ -1,0 +1,105 @@
+ghost use Rattle.std.specs.Prelude.{◌≡◌, ◌<◌, length};
+ghost use Rattle.abc_frames.specs.Ready.{IsReady};
+ghost use Rattle.abc_frames.specs.Frame.{newest};
+ghost use Rattle.abc_run_calls.specs.Arguments.{IsKnown};
+ghost use Rattle.abc_run_names.specs.Named.{form_at, parts_count};
+ghost use Rattle.abc_run_state.specs.Outer.{Outer, setting, world};
+ghost use Rattle.abc_run_state.specs.Standing.{IsSet};
+ghost use Rattle.abc_run_state.specs.Stops.{IsOpen};
+ghost use Rattle.abc_run_state.specs.Turns.{Runs};
+ghost use Rattle.abc_run_members.specs.Found.{IsScopeThere};
+ghost use Rattle.abc_run_members.specs.Scoped.{finds_or_global, finds_strictly, pushes_or_global, pushes_strictly};
+
+use crate::scopes_above::find_here;
+use abc_base::HostClass;
+use abc_frames::finish;
+use abc_heap_search::ScopeFound;
+use abc_heap_values::Value;
+use abc_link::Linked;
+use abc_run_calls::{global_of, start_above};
+use abc_run_names::{name_of, parts_of};
+use abc_run_state::{State, Stop};
+
+/// What was found takes the place of the parts of the name. A script that is to be started first is entered, and the instruction
+/// is executed again after that; nothing is a ReferenceError.
+fn push_strictly(linked: &Linked, s: &mut State, found: ScopeFound, parts: u32) -> Result<(), Stop>
+    ghost out: { Outer }
+    requires set { IsSet linked.now s.old }
+    requires known { IsKnown linked.now s.old.given.limit }
+    requires ready { IsReady parts 1 s.old.frames }
+    requires started { length s.old.started ≡ length linked.now.file.scripts }
+    requires found { IsScopeThere linked.now s.old.arena found }
+    requires free { IsOpen (pushes_strictly (setting linked.now out) found parts (newest s.old.frames) (world s.old out)) }
+    ensures runs { Runs linked.now out (pushes_strictly (setting linked.now out) found parts (newest s.old.frames)) s.old result s.new }
+    ensures limit { s.new.given.limit ≡ s.old.given.limit }
+{
+    match found {
+        ScopeFound::Object(o) => {
+            finish(&mut s.frames, parts, Value::Obj(o));
+            Ok(())
+        }
+        ScopeFound::Start(script) => start_above(linked, s, script),
+        ScopeFound::Missing => Err(Stop::Errs(HostClass::ReferenceError)),
+    }
+}
+
+/// The same, where the global object of the script in which the method was made stands for nothing.
+fn push_or_global(linked: &Linked, s: &mut State, found: ScopeFound, parts: u32) -> Result<(), Stop>
+    ghost out: { Outer }
+    requires set { IsSet linked.now s.old }
+    requires known { IsKnown linked.now s.old.given.limit }
+    requires ready { IsReady parts 1 s.old.frames }
+    requires started { length s.old.started ≡ length linked.now.file.scripts }
+    requires found { IsScopeThere linked.now s.old.arena found }
+    requires free { IsOpen (pushes_or_global (setting linked.now out) found parts (newest s.old.frames) (world s.old out)) }
+    ensures runs { Runs linked.now out (pushes_or_global (setting linked.now out) found parts (newest s.old.frames)) s.old result s.new }
+    ensures limit { s.new.given.limit ≡ s.old.given.limit }
+{
+    match found {
+        ScopeFound::Object(o) => {
+            finish(&mut s.frames, parts, Value::Obj(o));
+            Ok(())
+        }
+        ScopeFound::Start(script) => start_above(linked, s, script),
+        ScopeFound::Missing => {
+            let home = s.frames.home();
+            let global = global_of(linked, s, home);
+            finish(&mut s.frames, parts, global);
+            Ok(())
+        }
+    }
+}
+
+/// `findpropstrict`.
+pub fn find_strictly(linked: &Linked, s: &mut State, name: u32) -> Result<(), Stop>
+    ghost out: { Outer }
+    requires set { IsSet linked.now s.old }
+    requires known { IsKnown linked.now s.old.given.limit }
+    requires ready { IsReady (parts_count (form_at (setting linked.now out) name)) 1 s.old.frames }
+    requires started { length s.old.started ≡ length linked.now.file.scripts }
+    requires free { IsOpen (finds_strictly (setting linked.now out) name (newest s.old.frames) (world s.old out)) }
+    ensures runs { Runs linked.now out (finds_strictly (setting linked.now out) name (newest s.old.frames)) s.old result s.new }
+    ensures limit { s.new.given.limit ≡ s.old.given.limit }
+{
+    let parts = parts_of(linked, name);
+    let wanted = name_of(linked, s, name, 0)?;
+    let found = find_here(linked, s, &wanted);
+    push_strictly(linked, s, found, parts)
+}
+
+/// `findproperty`.
+pub fn find_or_global(linked: &Linked, s: &mut State, name: u32) -> Result<(), Stop>
+    ghost out: { Outer }
+    requires set { IsSet linked.now s.old }
+    requires known { IsKnown linked.now s.old.given.limit }
+    requires ready { IsReady (parts_count (form_at (setting linked.now out) name)) 1 s.old.frames }
+    requires started { length s.old.started ≡ length linked.now.file.scripts }
+    requires free { IsOpen (finds_or_global (setting linked.now out) name (newest s.old.frames) (world s.old out)) }
+    ensures runs { Runs linked.now out (finds_or_global (setting linked.now out) name (newest s.old.frames)) s.old result s.new }
+    ensures limit { s.new.given.limit ≡ s.old.given.limit }
+{
+    let parts = parts_of(linked, name);
+    let wanted = name_of(linked, s, name, 0)?;
+    let found = find_here(linked, s, &wanted);
+    push_or_global(linked, s, found, parts)
+}

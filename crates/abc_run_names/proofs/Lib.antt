@@ -1,0 +1,11 @@
+pub mod Delegates
+pub mod Forms
+pub mod Naming
+pub mod Receiving
+pub mod Coercing
+pub mod Slotted
+pub mod Amongst
+pub mod Walks
+pub mod Typed
+pub mod Removed
+pub mod Counted

@@ -1,0 +1,32 @@
+-- Types of class objects, and a name in an object.
+use Rattle.abc_heap_values.specs.declared.values.Value.{Value}
+use Rattle.abc_heap_values.specs.declared.values.Value.TheVariants.{Bool as Truth}
+use Rattle.abc_frames.specs.Frame.{Frame}
+use Rattle.abc_heap_search.specs.Searches.{found_on}
+use Rattle.abc_heap_search.specs.declared.found.Want.TheVariants.{Read}
+use Rattle.abc_heap_search.specs.declared.name.Spaces.TheVariants.{Public}
+use Rattle.abc_meaning.specs.At.{Act}
+use Rattle.abc_meaning.specs.Late.{is_found, is_instance, kept_as, late_type, tested_as}
+use Rattle.abc_run_state.specs.Operands.{operand_at}
+use Rattle.abc_meaning.specs.Members.{with_holder}
+use Rattle.abc_meaning.specs.Ops.{spells}
+use Rattle.abc_meaning.specs.Setting.{Setting}
+use Rattle.abc_meaning.specs.World.{Run, done, see, ◌>>=◌}
+use Rattle.abc_run_state.specs.Settling.{pushes}
+
+-- astypelate, istypelate, instanceof
+abbrev pub keeps_late : Setting → Frame → Run Act
+keeps_late p f = pushes 2 f (late_type p (operand_at 0 f) >>= kept_as p (operand_at 1 f))
+
+abbrev pub tests_late : Setting → Frame → Run Act
+tests_late p f = pushes 2 f (late_type p (operand_at 0 f) >>= tested_as p (operand_at 1 f))
+
+abbrev pub tests_instance : Setting → Frame → Run Act
+tests_instance p f = pushes 2 f (late_type p (operand_at 0 f) >>= λ t. see (is_instance (operand_at 1 f) (operand_at 0 f)) >>= λ b. done (Truth b))
+
+-- in
+abbrev pub name_is_in : Setting → (name object : Value) → Run Value
+name_is_in p n o = spells p n >>= λ t. with_holder o (see (λ w. Truth (is_found (found_on p.linked w.heap o (record { spaces = Public; text = t }) Read))))
+
+abbrev pub tests_name : Setting → Frame → Run Act
+tests_name p f = pushes 2 f (name_is_in p (operand_at 1 f) (operand_at 0 f))

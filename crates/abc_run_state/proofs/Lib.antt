@@ -1,0 +1,14 @@
+pub mod StateLimits
+pub mod Places
+pub mod Operated
+pub mod Turning
+pub mod AtOnce
+pub mod Told
+pub mod StaysSo
+pub mod Rooms
+pub mod Things
+pub mod Made
+pub mod Pushing
+pub mod Paired
+pub mod Keeping
+pub mod Tested

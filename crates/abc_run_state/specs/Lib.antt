@@ -1,0 +1,11 @@
+pub mod Stops
+pub mod Answers
+pub mod OfType
+pub mod Operands
+pub mod Outer
+pub mod Settling
+pub mod Turns
+pub mod Standing
+pub mod Makers
+pub mod Pairs
+pub mod Plain

@@ -1,3 +1,0 @@
-pub mod Running
-pub mod Called
-pub mod Generating

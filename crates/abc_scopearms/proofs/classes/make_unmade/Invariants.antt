@@ -1,4 +1,0 @@
-use Rattle.abc_scopearms.proofs.classes.make_unmade.Given as goal
-
-abbrev pub ghost-enter_class : goal.ghost-enter_class
-ghost-enter_class g a = g.out

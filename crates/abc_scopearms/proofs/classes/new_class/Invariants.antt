@@ -1,4 +1,0 @@
-use Rattle.abc_scopearms.proofs.classes.new_class.Given as goal
-
-abbrev pub ghost-make_unmade : goal.ghost-make_unmade
-ghost-make_unmade g a = g.out

@@ -1,7 +1,0 @@
-use Rattle.abc_scopearms.proofs.scopes.find_strictly.Given as goal
-
-abbrev pub ghost-name_of : goal.ghost-name_of
-ghost-name_of g a = g.out
-
-abbrev pub ghost-push_strictly : goal.ghost-push_strictly
-ghost-push_strictly g a = g.out

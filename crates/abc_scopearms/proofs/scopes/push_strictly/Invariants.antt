@@ -1,4 +1,0 @@
-use Rattle.abc_scopearms.proofs.scopes.push_strictly.Given as goal
-
-abbrev pub ghost-start_above : goal.ghost-start_above
-ghost-start_above g a = g.out

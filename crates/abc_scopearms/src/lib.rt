@@ -1,9 +1,0 @@
-//! Searches in scopes that push what they find, and classes that are made.
-#![tactic(auto)]
-
-mod classes;
-mod scopes;
-
-pub use abc_above::{Base, base_of, find_here, find_super};
-pub use classes::new_class;
-pub use scopes::{find_or_global, find_strictly};

@@ -1,5 +1,0 @@
-pub mod Homes
-pub mod Searching
-pub mod Receiving
-pub mod ScopeOps
-pub mod SuperOps

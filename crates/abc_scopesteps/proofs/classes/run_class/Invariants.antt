@@ -1,4 +1,0 @@
-use Rattle.abc_scopesteps.proofs.classes.run_class.Given as goal
-
-abbrev pub ghost-new_class : goal.ghost-new_class
-ghost-new_class g a = g.out

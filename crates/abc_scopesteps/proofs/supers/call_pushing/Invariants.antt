@@ -1,4 +1,0 @@
-use Rattle.abc_scopesteps.proofs.supers.call_pushing.Given as goal
-
-abbrev pub ghost-call_super : goal.ghost-call_super
-ghost-call_super g a = g.out

@@ -1,4 +1,0 @@
-use Rattle.abc_scopesteps.proofs.supers.make_super.Given as goal
-
-abbrev pub ghost-construct_super : goal.ghost-construct_super
-ghost-construct_super g a = g.out

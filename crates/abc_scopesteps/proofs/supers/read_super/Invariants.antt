@@ -1,4 +1,0 @@
-use Rattle.abc_scopesteps.proofs.supers.read_super.Given as goal
-
-abbrev pub ghost-get_super : goal.ghost-get_super
-ghost-get_super g a = g.out

@@ -1,4 +1,0 @@
-use Rattle.abc_scopesteps.proofs.supers.write_super.Given as goal
-
-abbrev pub ghost-set_super : goal.ghost-set_super
-ghost-set_super g a = g.out

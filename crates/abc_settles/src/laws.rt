@@ -1,6 +1,0 @@
-ghost use Rattle.abc_settles.specs.Laws.{StepsBySoundActs};
-
-/// Where the acts of the instructions are sound, a step from a sound state leaves one.
-pub fn steps_by_sound_acts()
-    ensures { StepsBySoundActs }
-{}

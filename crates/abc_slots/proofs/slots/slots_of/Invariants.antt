@@ -1,6 +1,0 @@
-use Rattle.abc_slots.specs.Files.{linked}
-use Rattle.abc_slots.specs.Tables.{HasSlots}
-use Rattle.abc_slots.proofs.slots.slots_of.Given as goal
-
-abbrev pub invariant-loop-x : goal.invariant-loop-x
-invariant-loop-x l = HasSlots (linked l.meanings.abc.now l.layouts) l.heirs l.x

@@ -1,7 +1,0 @@
--- A file and its layouts, as a linked file.
-use Rattle.abc_layouts.specs.declared.layouts.Layouts.{Layouts}
-use Rattle.abc_layouts.specs.Linked.{LinkedFile}
-use Rattle.abc_tables.specs.declared.tables.Abc.{Abc}
-
-abbrev pub linked : Abc → Layouts → LinkedFile
-linked v l = record { file = v; parts = l.parts }

@@ -1,8 +1,0 @@
-use Rattle.abc_stabs.proofs.Adding.{IsHanging}
-use Rattle.abc_stabs.proofs.stabs.Stabs.hang.Given as goal
-
-abbrev pub invariant-loop-low : goal.invariant-loop-low
-invariant-loop-low l = IsHanging l.number l.from l.to l.initial.self l.self l.low l.high
-
-abbrev pub decreases-loop-low : goal.decreases-loop-low
-decreases-loop-low l = l.high

@@ -1,4 +1,0 @@
-pub mod Pieces
-pub mod Hanging
-pub mod Hung
-pub mod Adding

@@ -1,5 +1,0 @@
-use Rattle.abc_states.proofs.StaysSo.{number_kept}
-use Rattle.abc_states.proofs.of_type.is_of_number.Goals as goal
-
-pub returns-in-Num : goal.returns-in-Num
-returns-in-Num c = λ e. number_kept c.args.v _ c.in-Num.is

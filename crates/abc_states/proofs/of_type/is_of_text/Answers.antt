@@ -1,5 +1,0 @@
-use Rattle.abc_states.proofs.StaysSo.{text_kept}
-use Rattle.abc_states.proofs.of_type.is_of_text.Goals as goal
-
-pub returns-in-Text : goal.returns-in-Text
-returns-in-Text c = λ e. text_kept c.args.v _ c.in-Text.is

@@ -1,4 +1,0 @@
-use Rattle.abc_stepping.proofs.stepping.finish_any.Given as goal
-
-abbrev pub ghost-finish : goal.ghost-finish
-ghost-finish g a = g.out

@@ -1,4 +1,0 @@
-use Rattle.abc_stepping.proofs.stepping.start_over.Given as goal
-
-abbrev pub ghost-start_last : goal.ghost-start_last
-ghost-start_last g a = g.out

@@ -1,5 +1,0 @@
-use Rattle.abc_steps.proofs.Slots.{reaches_below}
-use Rattle.abc_steps.proofs.lookup.is_under.Goals as goal
-
-pub returns : goal.returns
-returns c = reaches_below c.args.linked.now c.args.layout.0 c.args.other.0 c.is_below.result c.linked_law.ensures c.is_below.ensures

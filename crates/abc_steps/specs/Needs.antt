@@ -1,9 +1,0 @@
--- What a name takes at run time, as the code holds it.
-use Rattle.std.specs.Prelude.{List, [], ◌∷◌, ◌++◌, cond}
-use Rattle.abc_shapes.specs.declared.row.Need.{Need}
-use Rattle.abc_shapes.specs.declared.row.Need.TheVariants.{Value, Namespace}
-use Rattle.abc_steps.specs.declared.names.Parts.{Parts}
-
--- the top first
-abbrev pub parts_of : Parts → List Need
-parts_of x = cond x.name (Value ∷ []) [] ++ cond x.space (Namespace ∷ []) []

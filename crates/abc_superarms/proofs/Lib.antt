@@ -1,4 +1,0 @@
-pub mod Above
-pub mod Made
-pub use Rattle.abc_memberarms.proofs.Parts as MemberarmsParts
-pub use Rattle.abc_scopearms.proofs.GivenFiled

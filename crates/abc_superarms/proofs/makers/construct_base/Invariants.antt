@@ -1,7 +1,0 @@
-use Rattle.abc_superarms.proofs.makers.construct_base.Given as goal
-
-abbrev pub ghost-enter_owned : goal.ghost-enter_owned
-ghost-enter_owned g a = g.out
-
-abbrev pub ghost-tell_base : goal.ghost-tell_base
-ghost-tell_base g a = g.out

@@ -1,4 +1,0 @@
-use Rattle.abc_superarms.proofs.makers.construct_super.Given as goal
-
-abbrev pub ghost-construct_base : goal.ghost-construct_base
-ghost-construct_base g a = g.out

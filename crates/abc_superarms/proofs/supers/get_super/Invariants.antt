@@ -1,7 +1,0 @@
-use Rattle.abc_superarms.proofs.supers.get_super.Given as goal
-
-abbrev pub ghost-name_of : goal.ghost-name_of
-ghost-name_of g a = g.out
-
-abbrev pub ghost-read_super : goal.ghost-read_super
-ghost-read_super g a = g.out

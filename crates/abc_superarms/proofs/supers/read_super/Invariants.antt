@@ -1,4 +1,0 @@
-use Rattle.abc_superarms.proofs.supers.read_super.Given as goal
-
-abbrev pub ghost-read_found : goal.ghost-read_found
-ghost-read_found g a = g.out

@@ -1,4 +1,0 @@
-use Rattle.abc_superarms.proofs.supers.write_super.Given as goal
-
-abbrev pub ghost-write_found : goal.ghost-write_found
-ghost-write_found g a = g.out

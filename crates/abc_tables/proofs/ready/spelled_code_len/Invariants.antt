@@ -1,6 +1,0 @@
-use Rattle.std.proofs.Common.{take}
-use Rattle.abc_tables.proofs.Readiness.{SpelledSoFar}
-use Rattle.abc_tables.proofs.ready.spelled_code_len.Given as goal
-
-abbrev pub invariant-loop-instr : goal.invariant-loop-instr
-invariant-loop-instr l = SpelledSoFar l.count (take l.instr-index l.code) l.len

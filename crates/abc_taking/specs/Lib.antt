@@ -1,2 +1,0 @@
-pub use Rattle.abc_plainsteps.specs.Here as PlainstepsHere
-pub use Rattle.abc_plainsteps.specs.Ready as PlainstepsReady

@@ -1,4 +1,0 @@
-pub mod Bools
-pub mod Scans
-pub mod Readings
-pub mod Written

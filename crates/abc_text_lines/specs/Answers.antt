@@ -1,0 +1,131 @@
+-- Which file a text is, and the first fault of a text that is none's.
+use Rattle.std.specs.Prelude.{◌≡◌, ℕ, ◌<◌, ◌≤◌, ◌^◌, ◌⊎◌, List, [], ◌∷◌, length, map, Some, None, option_to_list}
+use Rattle.std.specs.declared.option.Option.{Option}
+use Rattle.abc_text_lines.specs.declared.reason.AsmReason.TheVariants as reasons
+use Rattle.abc_file_types.specs.declared.classes.Instance.{Instance}
+use Rattle.abc_file_types.specs.declared.methods.Metadata.{Metadata}
+use Rattle.abc_file_types.specs.declared.tables.Abc.{Abc}
+use Rattle.abc_file_types.specs.declared.tables.Sizes.{Sizes}
+use Rattle.abc_file_types.specs.declared.traits.TraitInfo.{TraitInfo}
+use Rattle.abc_file_types.specs.Classes.{sizes_of}
+use Rattle.abc_file_types.specs.Files.{file_bytes}
+use Rattle.abc_text_lines.specs.Assembly as rows
+use Rattle.abc_text_lines.specs.Law.{Match}
+use Rattle.abc_text_lines.specs.Lines.{Row, Shown}
+use Rattle.abc_text_lines.specs.Rows.{Fault, Rows, fault}
+use Rattle.abc_text_lines.specs.Wordlines.{shows_operands}
+use Rattle.abc_text_lines.specs.File.{Outline, faults, file}
+use Rattle.abc_text_lines.specs.Lineforms.{InstanceHead}
+use Rattle.abc_text_lines.specs.Texts.{instances_in, rows_of, sizes_in}
+
+-- ---- a file as lines have it
+
+-- the entries of metadata, two strings a line
+abbrev pub pairs : List ℕ → List (ℕ × ℕ)
+pairs [] = []
+pairs (a ∷ []) = []
+pairs (a ∷ b ∷ items) = (a, b) ∷ pairs items
+
+abbrev pub joined : List (ℕ × ℕ) → List ℕ
+joined [] = []
+joined (pair ∷ pairs) = pair.0 ∷ pair.1 ∷ joined pairs
+
+abbrev pub metadata_lines : Metadata → ℕ × List (ℕ × ℕ)
+metadata_lines m = (m.name, pairs m.items)
+
+abbrev pub metadata_of : ℕ × List (ℕ × ℕ) → Metadata
+metadata_of x = record { name = x.0; items = joined x.1 }
+
+abbrev pub first_in : List ℕ → Option ℕ
+first_in [] = None
+first_in (n ∷ ns) = Some n
+
+abbrev pub initializer_in : Option (ℕ × List TraitInfo) → ℕ × List TraitInfo
+initializer_in (Some x) = x
+initializer_in None = (0, [])
+
+abbrev pub instance_head : Instance → InstanceHead
+instance_head i = record { name = i.name; super_name = i.super_name; flags = i.flags }
+
+abbrev pub instance_in : Instance → InstanceHead × (List ℕ × (List ℕ × Option (ℕ × List TraitInfo)))
+instance_in i = (instance_head i, (option_to_list i.protected_ns, (i.interfaces, Some (i.iinit, i.traits))))
+
+abbrev pub instance_of : InstanceHead × (List ℕ × (List ℕ × Option (ℕ × List TraitInfo))) → Instance
+instance_of x = record {
+  name = x.0.name;
+  super_name = x.0.super_name;
+  flags = x.0.flags;
+  protected_ns = first_in x.1.0;
+  interfaces = x.1.1.0;
+  iinit = (initializer_in x.1.1.1).0;
+  traits = (initializer_in x.1.1.1).1;
+}
+
+module _ (sizes : Sizes) (instances : ℕ) where
+  abbrev pub outline_of : Abc → Outline sizes instances
+  outline_of v = (
+    (v.ints, (v.uints, (v.doubles, (v.strings, (v.namespaces, (v.sets, v.names)))))),
+    (v.methods, (map metadata_lines v.metadata, (map instance_in v.instances, (v.classes, (v.scripts, v.bodies))))),
+  )
+
+  abbrev pub abc_of : Outline sizes instances → Abc
+  abc_of x = record {
+    ints = x.0.0;
+    uints = x.0.1.0;
+    doubles = x.0.1.1.0;
+    strings = x.0.1.1.1.0;
+    namespaces = x.0.1.1.1.1.0;
+    sets = x.0.1.1.1.1.1.0;
+    names = x.0.1.1.1.1.1.1;
+    methods = x.1.0;
+    metadata = map metadata_of x.1.1.0;
+    instances = map instance_of x.1.1.1.0;
+    classes = x.1.1.1.1.0;
+    scripts = x.1.1.1.1.1.0;
+    bodies = x.1.1.1.1.1.1;
+  }
+
+-- ---- the lines of a file
+
+-- the lines of a file with so many entries in its tables and so many instances; how many lines a reader may take doesn't matter for them
+abbrev pub table : (v : Abc) → Rows (Outline (sizes_of v) (length v.instances))
+table v = file (sizes_of v) (length v.instances) 0
+
+abbrev pub outline : (v : Abc) → Outline (sizes_of v) (length v.instances)
+outline v = outline_of (sizes_of v) (length v.instances) v
+
+-- all lines of the one text of a file, without comments
+abbrev pub lines_of : Abc → List Shown
+lines_of v = rows.lines_of (table v) (outline v)
+
+-- Each entry of the metadata is two strings.
+abbrev pub IsWhole : Abc → Type 0
+IsWhole v = abc_of (sizes_of v) (length v.instances) (outline v) ≡ v
+
+-- The lines are those of a file whose fields are in their ranges.
+pub record IsListed (lines : List Row) (v : Abc) : Type 0 where
+  pub shown : Match shows_operands lines (lines_of v)
+  pub fits : (table v).fits (outline v)
+  pub whole : IsWhole v
+
+-- The text is one of the file.
+pub record IsAssemblyOf (text : List ℕ) (v : Abc) : Type 0 where
+  pub listed : IsListed (rows_of text) v
+  pub short : length (file_bytes v) ≤ 2 ^ 24
+
+-- No line has a fault, and the canonical bytes are too many.
+abbrev pub IsTooLong : List ℕ → Fault → Type 0
+IsTooLong text f = (v : Abc) × IsListed (rows_of text) v × (2 ^ 24 < length (file_bytes v)) × (f ≡ fault 1 reasons.FileTooLong)
+
+-- the least line with a fault and the first reason there, or FileTooLong
+abbrev pub IsAssemblyFault : List ℕ → Fault → Type 0
+IsAssemblyFault text f =
+    let lines = rows_of text in
+    rows.IsAssemblyFault (faults (sizes_in lines) (instances_in lines)) (file (sizes_in lines) (instances_in lines) (length lines)) lines f ⊎ IsTooLong text f
+
+-- A text is one of exactly one file, or has exactly one fault, and never both.
+pub record HasOneAnswer (text : List ℕ) : Type 0 where
+  pub some : ((v : Abc) × IsAssemblyOf text v) ⊎ ((f : Fault) × IsAssemblyFault text f)
+  pub one_value : (v w : Abc) → IsAssemblyOf text v → IsAssemblyOf text w → v ≡ w
+  pub one_fault : (f g : Fault) → IsAssemblyFault text f → IsAssemblyFault text g → f ≡ g
+  pub never_both : (v : Abc) (f : Fault) → IsAssemblyOf text v → IsAssemblyFault text f → ⊥

@@ -1,0 +1,32 @@
+-- How tokens are written.
+use Rattle.std.specs.Prelude.{◌≡◌, ℕ, ◌<◌, ◌⊎◌, true, List, [], ◌∷◌, ◌++◌}
+use Rattle.std.specs.List.{AllByRecursion}
+use Rattle.abc_base.specs.Escapes.{escaped}
+use Rattle.abc_text_lines.specs.Tokens.{Token, Bare, Quoted, is_run_byte, quote, semicolon}
+
+-- a run as it is, and a quoted text with every byte escaped that error lines escape
+abbrev pub written : Token → List ℕ
+written (Bare word) = word
+written (Quoted text) = quote ∷ (escaped text ++ quote ∷ [])
+
+-- each token behind a space
+abbrev pub spaced : List Token → List ℕ
+spaced [] = []
+spaced (token ∷ tokens) = 0x20 ∷ (written token ++ spaced tokens)
+
+-- one space between tokens
+abbrev pub written_line : List Token → List ℕ
+written_line [] = []
+written_line (token ∷ tokens) = written token ++ spaced tokens
+
+abbrev pub IsWritable : Token → Type 0
+IsWritable (Bare []) = ⊥
+IsWritable (Bare (byte ∷ bytes)) = AllByRecursion (λ b. is_run_byte b ≡ true) (byte ∷ bytes)
+IsWritable (Quoted text) = AllByRecursion (λ b. b < 256) text
+
+abbrev pub AreWritable : List Token → Type 0
+AreWritable tokens = AllByRecursion IsWritable tokens
+
+-- nothing, or a space, `;` and anything
+abbrev pub IsComment : List ℕ → Type 0
+IsComment comment = (comment ≡ []) ⊎ ((text : List ℕ) × (comment ≡ 0x20 ∷ semicolon ∷ text))

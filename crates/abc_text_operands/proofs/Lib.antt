@@ -1,0 +1,13 @@
+pub mod Digits
+pub mod Joining
+pub mod More
+pub mod Signs
+pub mod Eaching
+pub mod Kinded
+pub mod Coded
+pub mod Exact
+pub mod Hexing
+pub mod Marking
+pub mod Late
+pub mod Sloted
+pub mod Traitlemmas

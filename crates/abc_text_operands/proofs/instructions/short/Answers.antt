@@ -1,0 +1,47 @@
+use mir.Syntax.{w16, w64}
+use mir.Val.{of_z, to_z}
+use Rattle.std.proofs.Common.{◌≡◌, ℤ, Ok, Err, pos, negsuc, sym, ap, ◌∙◌, arith}
+use Rattle.std.proofs.lemmas.Int.{ints}
+use Rattle.std.specs.Prelude.{◌≤ℤ◌}
+use Rattle.std.specs.declared.result.Result.{Result}
+use Rattle.abc_text_lines.specs.declared.reason.AsmReason.{AsmReason}
+use Rattle.abc_file_types.specs.declared.code.Instr.{Instr}
+use Rattle.abc_text_operands.proofs.Coded.{within_range}
+use Rattle.abc_text_lines.specs.Operands.{any_signed, signed_between}
+use Rattle.abc_file_types.specs.declared.code.Instr.TheVariants as instrs
+use Rattle.abc_text_lines.specs.Lineforms.{signed_in}
+use Rattle.abc_text_operands.proofs.Kinded.{single_bad, single_good}
+use Rattle.abc_text_tokens.specs.Walks.{token_of}
+use Rattle.abc_text_operands.proofs.instructions.short.Goals as goal
+
+abbrev as_short : ℤ → Result Instr AsmReason
+as_short z = Ok (instrs.Short z)
+
+pub returns-in_default : goal.returns-in_default
+returns-in_default c labels = sym (single_bad (λ x. instrs.Short x.0) (λ i. (signed_in i, tt)) (signed_between (negsuc 32767) (pos 32767)) c.args.tokens.now labels c.in_default.ensures)
+
+pub short_of-requires-clause-low : goal.short_of-requires-clause-low
+short_of-requires-clause-low c =
+    let low : negsuc 32767 ≤ℤ c.in-Ok.number = (within_range (negsuc 32767) (pos 32767) (token_of c.in-Some.token) c.in-Ok.number c.in-Ok.ensures).0 in
+    let high : c.in-Ok.number ≤ℤ pos 32767 = (within_range (negsuc 32767) (pos 32767) (token_of c.in-Some.token) c.in-Ok.number c.in-Ok.ensures).1 in
+    omega (arith, ints)
+
+pub short_of-requires-clause-high : goal.short_of-requires-clause-high
+short_of-requires-clause-high c =
+    let low : negsuc 32767 ≤ℤ c.in-Ok.number = (within_range (negsuc 32767) (pos 32767) (token_of c.in-Some.token) c.in-Ok.number c.in-Ok.ensures).0 in
+    let high : c.in-Ok.number ≤ℤ pos 32767 = (within_range (negsuc 32767) (pos 32767) (token_of c.in-Some.token) c.in-Ok.number c.in-Ok.ensures).1 in
+    omega (arith, ints)
+
+pub returns-in-Ok : goal.returns-in-Ok
+unfolding any_signed
+returns-in-Ok c labels =
+    let low : negsuc 32767 ≤ℤ c.in-Ok.number = (within_range (negsuc 32767) (pos 32767) (token_of c.in-Some.token) c.in-Ok.number c.in-Ok.ensures).0 in
+    let high : c.in-Ok.number ≤ℤ pos 32767 = (within_range (negsuc 32767) (pos 32767) (token_of c.in-Some.token) c.in-Ok.number c.in-Ok.ensures).1 in
+    let back : to_z w64 (of_z w64 c.in-Ok.number) ≡ c.in-Ok.number = omega (arith, ints) in
+    let is : c.short_of.result ≡ c.in-Ok.number = c.short_of.ensures ∙ back in
+    let shown : to_z w16 (of_z w16 c.short_of.result) ≡ c.in-Ok.number = omega (arith, ints) in
+    ap as_short shown ∙ sym (single_good (λ x. instrs.Short x.0) (λ i. (signed_in i, tt)) (signed_between (negsuc 32767) (pos 32767)) c.args.tokens.now c.in-Some.token labels (Ok c.in-Ok.number) c.in-Some.ensures c.in-Ok.ensures)
+
+pub returns-in-Err : goal.returns-in-Err
+unfolding any_signed
+returns-in-Err c labels = sym (single_good (λ x. instrs.Short x.0) (λ i. (signed_in i, tt)) (signed_between (negsuc 32767) (pos 32767)) c.args.tokens.now c.in-Some.token labels (Err c.in-Err.reason) c.in-Some.ensures c.in-Err.ensures)

@@ -1,0 +1,10 @@
+use Rattle.std.proofs.Common.{sym, ◌∙◌}
+use Rattle.abc_file_types.specs.declared.names.Multiname.TheVariants as names
+use Rattle.abc_text_operands.proofs.Kinded.{none_bad, none_good}
+use Rattle.abc_text_operands.proofs.multinames.late.Goals as goal
+
+pub returns-then-is_empty : goal.returns-then-is_empty
+returns-then-is_empty c labels = sym (none_good (λ x. names.RtL c.args.attr) (λ m. tt) c.args.fields.now labels (sym c.is_empty.ensures ∙ c.if-is_empty.true))
+
+pub returns-else-is_empty : goal.returns-else-is_empty
+returns-else-is_empty c labels = sym (none_bad (λ x. names.RtL c.args.attr) (λ m. tt) c.args.fields.now labels (sym c.is_empty.ensures ∙ c.if-is_empty.false))

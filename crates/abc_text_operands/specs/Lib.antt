@@ -1,0 +1,9 @@
+pub mod Answers
+pub mod Heads
+pub mod Joined
+pub mod Places
+pub mod Signed
+pub mod Each
+pub mod Otherlines
+pub mod Numbered
+pub mod Traited

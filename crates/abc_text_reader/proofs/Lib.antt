@@ -1,0 +1,11 @@
+pub mod Seen
+pub mod Rising
+pub mod SetLines
+pub mod Taking
+pub mod Fresh
+pub mod Loops
+pub mod Lone
+pub mod Pairs
+pub mod Coding
+pub mod Within
+pub mod Lined

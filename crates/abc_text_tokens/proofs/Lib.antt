@@ -1,0 +1,12 @@
+pub mod Dividing
+pub mod Entering
+pub mod Keeping
+pub mod Naming
+pub mod Quoting
+pub mod Tables
+pub mod Walking
+pub mod Wording
+pub mod Counted
+pub mod Meeting
+pub mod Passing
+pub mod Setting

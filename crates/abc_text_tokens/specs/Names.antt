@@ -1,0 +1,60 @@
+-- Finding a name among some.
+use Rattle.std.specs.Prelude.{◌≡◌, ℕ, zero, suc, Bool, List, [], ◌∷◌, Some, None, nat_eq, take, if◌then◌else◌}
+use Rattle.std.specs.declared.option.Option.{Option}
+use Rattle.std.specs.declared.hash.FoldHasher.{FoldHasher}
+use Rattle.std.specs.declared.hash.BuildHasherDefault.{BuildHasherDefault}
+use Rattle.std.specs.Borrow.{Bor}
+use Rattle.std.specs.List.{position_or_len}
+use Rattle.std.specs.Str.{bytes_eq}
+use Rattle.indexmap.specs.IndexMap.{IndexMap, get_by}
+use Rattle.abc_file_types.specs.Opcodes.{name_at, named}
+
+abbrev pub is_named : List ℕ → Bor (List ℕ) → Bool
+is_named name key = bytes_eq key.now name
+
+-- values by names
+abbrev pub NameMap : Type 0 → Type 0
+NameMap V = IndexMap (Bor (List ℕ)) V (BuildHasherDefault FoldHasher)
+
+abbrev pub found : {V : Type 0} → NameMap V → List ℕ → Option V
+found m name = get_by (is_named name) m
+
+-- the first of two, where it is there
+abbrev pub either_of : {A : Type 0} → Option A → Option A → Option A
+either_of (Some n) o = Some n
+either_of None o = o
+
+-- The name has this value now, and the others have what they had.
+abbrev pub Gives : {V : Type 0} → NameMap V → NameMap V → List ℕ → V → Type 0
+Gives old new name value = (other : List ℕ) → found new other ≡ (if bytes_eq name other then Some value else found old other)
+
+-- The name has this value now, unless it had one.
+abbrev pub Adds : {V : Type 0} → NameMap V → NameMap V → List ℕ → V → Type 0
+Adds old new name value = (other : List ℕ) → found new other ≡ either_of (found old other) (if bytes_eq name other then Some value else None)
+
+-- the opcode of the first instruction of a name
+abbrev pub opcode_in : List (ℕ × List ℕ) → List ℕ → Option ℕ
+opcode_in [] name = None
+opcode_in (row ∷ rows) name = if bytes_eq row.1 name then Some row.0 else opcode_in rows name
+
+abbrev pub KnowsOpcodes : NameMap ℕ → Type 0
+KnowsOpcodes m = (name : List ℕ) → found m name ≡ opcode_in named name
+
+abbrev pub first_named : Option (List ℕ) → ℕ → List ℕ → Option ℕ → Option ℕ
+first_named None op name other = other
+first_named (Some n) op name other = if bytes_eq n name then Some op else other
+
+-- the opcode of a name, among so many from one on
+unfoldable pub opcode_from : ℕ → ℕ → List ℕ → Option ℕ
+opcode_from zero op name = None
+opcode_from (suc k) op name = first_named (name_at op) op name (opcode_from k (suc op) name)
+
+-- ---- words in a table, padded with blanks
+
+-- the bytes before the first blank, or all
+abbrev pub before_blank : List ℕ → List ℕ
+before_blank name = take (position_or_len (λ b. nat_eq b 0x20) name) name
+
+-- the row's word and its kind
+abbrev pub unpadded : {K : Type 0} → List ℕ × K → List ℕ × K
+unpadded row = (before_blank row.0, row.1)

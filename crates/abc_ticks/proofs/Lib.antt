@@ -1,4 +1,0 @@
-pub mod Pieces
-pub mod Calling
-pub mod Following
-pub mod Telling

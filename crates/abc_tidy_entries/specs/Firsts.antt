@@ -1,0 +1,17 @@
+-- The first of some items that is broken.
+use Rattle.std.specs.Prelude.{ℕ, ◌<◌, List, Some, None}
+use Rattle.std.specs.declared.option.Option.{Option}
+use Rattle.abc_file_types.specs.declared.tables.Abc.{Abc}
+use Rattle.abc_tidy_entries.specs.Rules.{IsBroken, IsCyclic}
+
+-- none of the items below a number is broken
+abbrev pub HoldBelow : {A : Type 0} → (A → Type 0) → List A → ℕ → Type 0
+HoldBelow P xs n = (j : ℕ) → j < n → IsBroken P xs j → ⊥
+
+abbrev pub IsFirst : {A : Type 0} → (A → Type 0) → List A → Option ℕ → Type 0
+IsFirst P xs None = (i : ℕ) → IsBroken P xs i → ⊥
+IsFirst P xs (Some i) = IsBroken P xs i × HoldBelow P xs i
+
+abbrev pub IsFirstCyclic : Abc → Option ℕ → Type 0
+IsFirstCyclic v None = (i : ℕ) → IsCyclic v i → ⊥
+IsFirstCyclic v (Some i) = IsCyclic v i × ((j : ℕ) → j < i → IsCyclic v j → ⊥)

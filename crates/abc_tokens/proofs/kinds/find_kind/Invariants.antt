@@ -1,7 +1,0 @@
-use Rattle.std.proofs.Common.{◌≡◌, map, drop}
-use Rattle.abc_rowparts.specs.Wordlines.{lookup}
-use Rattle.abc_tokens.specs.Names.{unpadded}
-use Rattle.abc_tokens.proofs.kinds.find_kind.Given as goal
-
-abbrev pub invariant-loop-row : goal.invariant-loop-row
-invariant-loop-row g l = lookup (map unpadded (drop l.row-index l.rows)) l.word ≡ lookup (map unpadded l.rows) l.word

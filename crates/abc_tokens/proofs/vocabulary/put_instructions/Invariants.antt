@@ -1,5 +1,0 @@
-use Rattle.abc_tokens.specs.Entries.{AreRight}
-use Rattle.abc_tokens.proofs.vocabulary.put_instructions.Given as goal
-
-abbrev pub invariant-loop-op : goal.invariant-loop-op
-invariant-loop-op l = AreRight l.entries.items

@@ -1,4 +1,0 @@
-pub mod Cursor
-pub mod Entries
-pub mod Names
-pub mod Walks

@@ -1,3 +1,0 @@
-pub mod Late
-pub mod Sloted
-pub mod Traitlemmas

@@ -1,6 +1,0 @@
--- Traits, as the code has them.
-use Rattle.abc_lines.specs.Lineforms as forms
-use Rattle.abc_traitlines.specs.declared.traits.TraitHead.{TraitHead}
-
-abbrev pub as_trait : TraitHead → forms.TraitHead
-as_trait t = record { attrs = t.attrs; name = t.name; body = t.body }

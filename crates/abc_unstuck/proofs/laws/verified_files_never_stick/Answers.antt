@@ -1,5 +1,0 @@
-use Rattle.abc_unstuck.proofs.Never.{is_never_stuck}
-use Rattle.abc_unstuck.proofs.laws.verified_files_never_stick.Goals as goal
-
-pub returns : goal.returns
-returns c = is_never_stuck

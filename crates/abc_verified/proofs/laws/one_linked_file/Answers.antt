@@ -1,5 +1,0 @@
-use Rattle.abc_verified.proofs.Single.{one_verified}
-use Rattle.abc_verified.proofs.laws.one_linked_file.Goals as goal
-
-pub returns : goal.returns
-returns c = one_verified

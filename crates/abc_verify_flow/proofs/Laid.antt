@@ -1,0 +1,215 @@
+-- States whose values lie one behind the other.
+use Rattle.std.proofs.Common.{◌≡◌, ◌≢◌, ℕ, zero, suc, ◌+◌, ◌≤◌, ◌<◌, List, [], ◌∷◌, ◌++◌, Some, length, set, map, take, drop, refl, sym, ap, ◌∙◌, subst, arith, ◌⊎◌, inl, inr, length-append}
+use Rattle.std.specs.Prelude.{Err, Ok, OnErr, Result, slice_get}
+use Rattle.std.proofs.lemmas.List.{append-nil, drop-append-le, drop_at, length-drop, length-map, length-take-le, map-append, take-append-drop, take-append-le, take_all, take_at}
+use Rattle.std.proofs.lemmas.Bool.{cases_lt}
+use Rattle.std.proofs.lemmas.Slice.{drop-put_mid}
+use Rattle.abc_link_program.specs.declared.types.Kind.{Kind}
+use Rattle.abc_verify_typing.specs.declared.state.Scope.{Scope}
+use Rattle.abc_verify_typing.specs.declared.state.State.{State}
+use Rattle.abc_verify_flow.specs.Kept.{AreApart, AreLaid, HasLengths, IsHeadBehind, IsLonger, IsSpan, over, part, state_of, states_of}
+use Rattle.abc_verify_flow.specs.declared.kept.Head.{Head}
+use Rattle.abc_verify_flow.specs.declared.span.Span.{Span}
+
+-- ---- lists
+
+pub got_inside : {X : Type 0} (xs : List X) (i : ℕ) (x : X) → slice_get xs i ≡ Some x → i < length xs
+got_inside [] i x e = absurd cc
+got_inside (y ∷ xs) zero x e = omega arith
+got_inside (y ∷ xs) (suc i) x e = let lt = got_inside xs i x e in omega arith
+
+got_map : {X Y : Type 0} (f : X → Y) (xs : List X) (i : ℕ) (x : X) → slice_get xs i ≡ Some x → slice_get (map f xs) i ≡ Some (f x)
+got_map f [] i x e = absurd cc
+got_map {X} f (y ∷ xs) zero x e = let q : y ≡ x = cc in ap (λ (z : X). Some (f z)) q
+got_map f (y ∷ xs) (suc i) x e = got_map f xs i x e
+
+-- a value of a list, or the one behind it
+got_last : {X : Type 0} (xs : List X) (x : X) (i : ℕ) (y : X) → slice_get (xs ++ x ∷ []) i ≡ Some y → (slice_get xs i ≡ Some y) ⊎ ((i ≡ length xs) × (x ≡ y))
+got_last [] x zero y e = inr (refl, cc)
+got_last [] x (suc i) y e = absurd cc
+got_last (z ∷ xs) x zero y e = inl e
+got_last (z ∷ xs) x (suc i) y e = elim (got_last xs x i y e) [ inl a ↦ inl a | inr a ↦ inr (ap suc a.0, a.1) ]
+
+map_same : {X Y : Type 0} (f g : X → Y) (xs : List X) → ((i : ℕ) (x : X) → slice_get xs i ≡ Some x → f x ≡ g x) → map f xs ≡ map g xs
+map_same f g [] h = refl
+map_same {X} {Y} f g (x ∷ xs) h = ap (λ (y : Y). y ∷ map f xs) (h 0 x refl) ∙ ap (λ (ys : List Y). g x ∷ ys) (map_same f g xs (λ i y e. h (suc i) y e))
+
+map_but : {X Y : Type 0} (f g : X → Y) (xs : List X) (i : ℕ) (y : Y) → i < length xs → ((x : X) → slice_get xs i ≡ Some x → g x ≡ y) → ((j : ℕ) (x : X) → j ≢ i → slice_get xs j ≡ Some x → g x ≡ f x) → map g xs ≡ set (map f xs) i y
+map_but f g [] i y lt h k = absurd (omega arith)
+map_but {X} {Y} f g (x ∷ xs) zero y lt h k = ap (λ (z : Y). z ∷ map g xs) (h x refl) ∙ ap (λ (ys : List Y). y ∷ ys) (map_same g f xs (λ j z e. k (suc j) z (λ q. omega arith) e))
+map_but {X} {Y} f g (x ∷ xs) (suc i) y lt h k = ap (λ (z : Y). z ∷ map g xs) (k 0 x (λ q. omega arith) refl) ∙ ap (λ (ys : List Y). f x ∷ ys) (map_but f g xs i y (omega arith) h (λ j z ne e. k (suc j) z (λ q. ne (omega arith)) e))
+
+-- what holds, holds at an error
+pub on_err : {A E : Type 0} (r : Result A E) (P : Type 0) → P → OnErr r P
+on_err (Ok a) P p = tt
+on_err (Err e) P p = p
+
+-- ---- parts of a list
+
+part_more : {X : Type 0} (s : Span) (xs ys : List X) → s.first + s.count ≤ length xs → part s (xs ++ ys) ≡ part s xs
+part_more s xs ys h =
+    ap (take s.count) (drop-append-le s.first xs ys (omega (arith, h)))
+    ∙ take-append-le s.count (drop s.first xs) ys (let e = length-drop s.first xs in omega (arith, e, h))
+
+part_longer : {X : Type 0} (s : Span) (xs ys : List X) → IsLonger xs ys → s.first + s.count ≤ length xs → part s ys ≡ part s xs
+part_longer s xs ys r h = ap (part s) r.1 ∙ part_more s xs r.0 h
+
+part_last : {X : Type 0} (s : Span) (xs ys zs : List X) → IsSpan (length xs) (length ys) s → zs ≡ xs ++ ys → part s zs ≡ ys
+part_last s xs ys zs h e =
+    ap (part s) e
+    ∙ ap (take s.count) (drop_at xs ys s.first (sym h.first))
+    ∙ take_all s.count ys (let q = h.count in omega (arith, q))
+
+pub longer_self : {X : Type 0} (xs : List X) → IsLonger xs xs
+longer_self xs = ([], sym (append-nil xs))
+
+longer_length : {X : Type 0} (xs ys : List X) → IsLonger xs ys → length xs ≤ length ys
+longer_length xs ys r = let e : length ys ≡ length (xs ++ r.0) = ap (λ zs. length zs) r.1 in let f = length-append xs r.0 in omega (arith, e, f)
+
+added_length : {X : Type 0} (xs ys zs : List X) → zs ≡ xs ++ ys → length zs ≡ length xs + length ys
+added_length xs ys zs r = let e : length zs ≡ length (xs ++ ys) = ap (λ us. length us) r in let f = length-append xs ys in omega (arith, e, f)
+
+over_length : {X : Type 0} (s : Span) (xs ys zs : List X) → zs ≡ over s xs ys → s.first + s.count ≤ length xs → length ys ≡ s.count → length zs ≡ length xs
+over_length s xs ys zs is h e =
+    let z : length zs ≡ length (over s xs ys) = ap (λ us. length us) is in
+    let a = length-append (take s.first xs) (ys ++ drop s.count (drop s.first xs)) in
+    let b = length-append ys (drop s.count (drop s.first xs)) in
+    let c = length-take-le s.first xs (omega (arith, h)) in
+    let d = length-drop s.count (drop s.first xs) in
+    let f = length-drop s.first xs in
+    omega (arith, h, e, z, a, b, c, d, f)
+
+part_put : {X : Type 0} (s : Span) (xs ys zs : List X) → zs ≡ over s xs ys → s.first + s.count ≤ length xs → length ys ≡ s.count → part s zs ≡ ys
+part_put s xs ys zs is h e =
+    ap (part s) is
+    ∙ ap (take s.count) (drop_at (take s.first xs) (ys ++ drop s.count (drop s.first xs)) s.first (length-take-le s.first xs (omega (arith, h))))
+    ∙ take_at ys (drop s.count (drop s.first xs)) s.count e
+
+part_before : {X : Type 0} (s t : Span) (xs ys : List X) → t.first + t.count ≤ s.first → s.first ≤ length xs → part t (over s xs ys) ≡ part t xs
+part_before s t xs ys h le =
+    let c = length-take-le s.first xs le in
+    let in' : t.first + t.count ≤ length (take s.first xs) = omega (arith, c, h) in
+    part_more t (take s.first xs) (ys ++ drop s.count (drop s.first xs)) in'
+    ∙ sym (part_more t (take s.first xs) (drop s.first xs) in')
+    ∙ ap (part t) (take-append-drop s.first xs)
+
+part_behind : {X : Type 0} (s t : Span) (xs ys : List X) → s.first + s.count ≤ t.first → s.first ≤ length xs → length ys ≡ s.count → part t (over s xs ys) ≡ part t xs
+part_behind s t xs ys h le e = ap (take t.count) (drop-put_mid s.first s.count xs ys t.first h le e)
+
+-- ---- the values of states lie one behind the other
+
+apart_more : (span : Head → Span) (hs : List Head) (m n : ℕ) → AreApart span hs m → m ≤ n → AreApart span hs n
+apart_more span hs m n h le = record { inside = λ i k e. let z = h.inside i k e in omega (arith, z, le); apart = h.apart }
+
+apart_pushed : (span : Head → Span) (hs : List Head) (h : Head) (m c n : ℕ) → AreApart span hs m → IsSpan m c (span h) → n ≡ m + c → AreApart span (hs ++ h ∷ []) n
+apart_pushed span hs h m c n old is e = record { inside = inside; apart = apart }
+  where
+    inside : (i : ℕ) (k : Head) → slice_get (hs ++ h ∷ []) i ≡ Some k → (span k).first + (span k).count ≤ n
+    inside i k g = elim (got_last hs h i k g) [
+      | inl a ↦ (let z = old.inside i k a in omega (arith, z, e))
+      | inr a ↦ subst (λ (x : Head). (span x).first + (span x).count ≤ n) a.1 (let f = is.first in let q = is.count in omega (arith, f, q, e))
+    ]
+
+    apart : (i j : ℕ) (k l : Head) → i < j → slice_get (hs ++ h ∷ []) i ≡ Some k → slice_get (hs ++ h ∷ []) j ≡ Some l → (span k).first + (span k).count ≤ (span l).first
+    apart i j k l lt f g = elim (got_last hs h i k f) [
+      | inl a ↦ elim (got_last hs h j l g) [
+        | inl b ↦ old.apart i j k l lt a b
+        | inr b ↦ subst (λ (x : Head). (span k).first + (span k).count ≤ (span x).first) b.1 (let z = old.inside i k a in let q = is.first in omega (arith, z, q))
+      ]
+      | inr a ↦ absurd (elim (got_last hs h j l g) [
+        | inl b ↦ (let z = got_inside hs j l b in let q = a.0 in omega (arith, z, q, lt))
+        | inr b ↦ (let z = b.0 in let q = a.0 in omega (arith, z, q, lt))
+      ])
+    ]
+
+-- what is put in place of the values of one state leaves those of another
+part_kept : {X : Type 0} (span : Head → Span) (hs : List Head) (i j : ℕ) (h k : Head) (xs ys zs : List X) → AreApart span hs (length xs) → slice_get hs i ≡ Some h → j ≢ i → slice_get hs j ≡ Some k → zs ≡ over (span h) xs ys → length ys ≡ (span h).count → part (span k) zs ≡ part (span k) xs
+part_kept span hs i j h k xs ys zs laid e ne f is c =
+    let inside = laid.inside i h e in
+    ap (part (span k)) is
+    ∙ elim (cases_lt j i) [
+      | inl lt ↦ part_before (span h) (span k) xs ys (laid.apart j i k h lt f e) (omega (arith, inside))
+      | inr le ↦ part_behind (span h) (span k) xs ys (laid.apart i j h k (near i j le ne) e f) (omega (arith, inside)) c
+    ]
+  where
+    near : (m n : ℕ) → m ≤ n → n ≢ m → m < n
+    near zero zero le q = absurd (q refl)
+    near zero (suc n) le q = omega arith
+    near (suc m) zero le q = absurd (omega arith)
+    near (suc m) (suc n) le q = let z = near m n (omega arith) (λ r. q (ap suc r)) in omega arith
+
+-- ---- states
+
+abbrev made : List Kind → List Scope → List Kind → State
+made operands scopes locals = record { stack = operands; scopes = scopes; locals = locals }
+
+state_is : (h : Head) (os : List Kind) (ss : List Scope) (ls : List Kind) (s : State) → part h.operands os ≡ s.stack → part h.scopes ss ≡ s.scopes → part h.locals ls ≡ s.locals → state_of os ss ls h ≡ s
+state_is h os ss ls s p q r =
+    ap (λ (x : List Kind). made x (part h.scopes ss) (part h.locals ls)) p
+    ∙ ap (λ (x : List Scope). made s.stack x (part h.locals ls)) q
+    ∙ ap (λ (x : List Kind). made s.stack s.scopes x) r
+
+pub head_along : (a b c m n k : ℕ) (s : State) (h : Head) → IsHeadBehind a b c s h → a ≡ m → b ≡ n → c ≡ k → IsHeadBehind m n k s h
+head_along a b c m n k s h is p q r = subst (λ (x : ℕ). IsHeadBehind x n k s h) p (subst (λ (x : ℕ). IsHeadBehind a x k s h) q (subst (λ (x : ℕ). IsHeadBehind a b x s h) r is))
+
+module _ (hs : List Head) (os ps : List Kind) (ss ts : List Scope) (ls ms : List Kind) where
+  pub longer_states : AreLaid hs (length os) (length ss) (length ls) → IsLonger os ps → IsLonger ss ts → IsLonger ls ms → states_of ps ts ms hs ≡ states_of os ss ls hs
+  longer_states laid p q r = map_same (state_of ps ts ms) (state_of os ss ls) hs (λ i h e. state_is h ps ts ms (state_of os ss ls h) (part_longer h.operands os ps p (laid.operands.inside i h e)) (part_longer h.scopes ss ts q (laid.scopes.inside i h e)) (part_longer h.locals ls ms r (laid.locals.inside i h e)))
+
+  pub longer_laid : AreLaid hs (length os) (length ss) (length ls) → IsLonger os ps → IsLonger ss ts → IsLonger ls ms → AreLaid hs (length ps) (length ts) (length ms)
+  longer_laid laid p q r = record {
+    operands = apart_more (λ h. h.operands) hs (length os) (length ps) laid.operands (longer_length os ps p);
+    scopes = apart_more (λ h. h.scopes) hs (length ss) (length ts) laid.scopes (longer_length ss ts q);
+    locals = apart_more (λ h. h.locals) hs (length ls) (length ms) laid.locals (longer_length ls ms r);
+  }
+
+  pub pushed_states : (h : Head) (s : State) → AreLaid hs (length os) (length ss) (length ls) → IsHeadBehind (length os) (length ss) (length ls) s h → ps ≡ os ++ s.stack → ts ≡ ss ++ s.scopes → ms ≡ ls ++ s.locals → states_of ps ts ms (hs ++ h ∷ []) ≡ states_of os ss ls hs ++ s ∷ []
+  pushed_states h s laid is p q r =
+      map-append (state_of ps ts ms) hs (h ∷ [])
+      ∙ ap (λ (xs : List State). xs ++ state_of ps ts ms h ∷ []) (longer_states laid (s.stack, p) (s.scopes, q) (s.locals, r))
+      ∙ ap (λ (x : State). states_of os ss ls hs ++ x ∷ []) (state_is h ps ts ms s (part_last h.operands os s.stack ps is.operands p) (part_last h.scopes ss s.scopes ts is.scopes q) (part_last h.locals ls s.locals ms is.locals r))
+
+  pub pushed_laid : (h : Head) (s : State) → AreLaid hs (length os) (length ss) (length ls) → IsHeadBehind (length os) (length ss) (length ls) s h → ps ≡ os ++ s.stack → ts ≡ ss ++ s.scopes → ms ≡ ls ++ s.locals → AreLaid (hs ++ h ∷ []) (length ps) (length ts) (length ms)
+  pushed_laid h s laid is p q r = record {
+    operands = apart_pushed (λ k. k.operands) hs h (length os) (length s.stack) (length ps) laid.operands is.operands (added_length os s.stack ps p);
+    scopes = apart_pushed (λ k. k.scopes) hs h (length ss) (length s.scopes) (length ts) laid.scopes is.scopes (added_length ss s.scopes ts q);
+    locals = apart_pushed (λ k. k.locals) hs h (length ls) (length s.locals) (length ms) laid.locals is.locals (added_length ls s.locals ms r);
+  }
+
+  pub put_states : (i : ℕ) (h : Head) (s : State) → AreLaid hs (length os) (length ss) (length ls) → slice_get hs i ≡ Some h → HasLengths h s → ps ≡ over h.operands os s.stack → ts ≡ over h.scopes ss s.scopes → ms ≡ over h.locals ls s.locals → states_of ps ts ms hs ≡ set (states_of os ss ls hs) i s
+  put_states i h s laid e fits p q r = map_but (state_of os ss ls) (state_of ps ts ms) hs i s (got_inside hs i h e) here other
+    where
+      here : (k : Head) → slice_get hs i ≡ Some k → state_of ps ts ms k ≡ s
+      here k f =
+          let z : Some h ≡ Some k = sym e ∙ f in
+          let same : h ≡ k = cc in
+          subst (λ (x : Head). state_of ps ts ms x ≡ s) same (state_is h ps ts ms s (part_put h.operands os s.stack ps p (laid.operands.inside i h e) fits.operands) (part_put h.scopes ss s.scopes ts q (laid.scopes.inside i h e) fits.scopes) (part_put h.locals ls s.locals ms r (laid.locals.inside i h e) fits.locals))
+
+      other : (j : ℕ) (k : Head) → j ≢ i → slice_get hs j ≡ Some k → state_of ps ts ms k ≡ state_of os ss ls k
+      other j k ne f = state_is k ps ts ms (state_of os ss ls k) (part_kept (λ x. x.operands) hs i j h k os s.stack ps laid.operands e ne f p fits.operands) (part_kept (λ x. x.scopes) hs i j h k ss s.scopes ts laid.scopes e ne f q fits.scopes) (part_kept (λ x. x.locals) hs i j h k ls s.locals ms laid.locals e ne f r fits.locals)
+
+  pub put_laid : (i : ℕ) (h : Head) (s : State) → AreLaid hs (length os) (length ss) (length ls) → slice_get hs i ≡ Some h → HasLengths h s → ps ≡ over h.operands os s.stack → ts ≡ over h.scopes ss s.scopes → ms ≡ over h.locals ls s.locals → AreLaid hs (length ps) (length ts) (length ms)
+  put_laid i h s laid e fits p q r =
+      let a = over_length h.operands os s.stack ps p (laid.operands.inside i h e) fits.operands in
+      let b = over_length h.scopes ss s.scopes ts q (laid.scopes.inside i h e) fits.scopes in
+      let c = over_length h.locals ls s.locals ms r (laid.locals.inside i h e) fits.locals in
+      record {
+        operands = apart_more (λ k. k.operands) hs (length os) (length ps) laid.operands (omega (arith, a));
+        scopes = apart_more (λ k. k.scopes) hs (length ss) (length ts) laid.scopes (omega (arith, b));
+        locals = apart_more (λ k. k.locals) hs (length ls) (length ms) laid.locals (omega (arith, c));
+      }
+
+module _ (hs : List Head) (os : List Kind) (ss : List Scope) (ls : List Kind) (a : List State) where
+  -- where the values of a state lie is known, if the state is one of them
+  pub head_inside : (i : ℕ) → states_of os ss ls hs ≡ a → i < length a → i < length hs
+  head_inside i e lt = let z : length a ≡ length hs = ap (λ xs. length xs) (sym e) ∙ length-map hs (state_of os ss ls) in omega (arith, z, lt)
+
+  -- a state is read
+  pub state_here : (i : ℕ) (h : Head) (s : State) → states_of os ss ls hs ≡ a → slice_get hs i ≡ Some h → part h.operands os ≡ s.stack → part h.scopes ss ≡ s.scopes → part h.locals ls ≡ s.locals → slice_get a i ≡ Some s
+  state_here i h s e f p q r = ap (λ (xs : List State). slice_get xs i) (sym e) ∙ got_map (state_of os ss ls) hs i h f ∙ ap (λ (x : State). Some x) (state_is h os ss ls s p q r)
+
+pub none_laid : AreLaid [] 0 0 0
+none_laid = record { operands = none (λ h. h.operands); scopes = none (λ h. h.scopes); locals = none (λ h. h.locals) }
+  where
+    none : (span : Head → Span) → AreApart span [] 0
+    none span = record { inside = λ i h e. absurd cc; apart = λ i j h k lt e f. absurd cc }

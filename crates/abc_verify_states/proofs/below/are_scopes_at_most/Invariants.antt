@@ -1,0 +1,7 @@
+use Rattle.std.proofs.Common.{take}
+use Rattle.abc_verify_typing.specs.Typing.{ScopeLe}
+use Rattle.abc_verify_typing.specs.Lists.{Each2}
+use Rattle.abc_verify_states.proofs.below.are_scopes_at_most.Given as goal
+
+abbrev pub invariant-loop-place : goal.invariant-loop-place
+invariant-loop-place g l = Each2 (ScopeLe (g.T.Tree.file l.tree)) (take l.place l.a) (take l.place l.b)

@@ -1,0 +1,4 @@
+pub mod Marking
+pub mod Needs
+pub mod Frames
+pub mod Triples

@@ -1,0 +1,196 @@
+-- What an instruction does to a state, by its row.
+use Rattle.std.specs.Prelude.{ℕ, ◌+◌, ◌-◌, ◌*◌, List, [], ◌∷◌, ◌++◌, Bool, true, false, cond, not, ◌&&◌, leb, ltb, Option, Some, None, length, take, drop, set, map, flat_map, filter, slice_get}
+use Rattle.abc_link_program.specs.declared.types.Kind.{Kind}
+use Rattle.abc_link_program.specs.declared.types.Kind.TheVariants.{Any, Undef, Null, Num, Bool as Truth, Text, Space, Obj}
+use Rattle.abc_base.specs.declared.names.HostClass.TheVariants as hosts
+use Rattle.abc_link_program.specs.Slots.{slot_numbered, slots_of}
+use Rattle.abc_link_program.specs.Types.{kind_of_type}
+use Rattle.abc_link_program.specs.declared.part.Part.TheVariants as parts
+use Rattle.abc_link_program.specs.declared.types.SlotInfo.{SlotInfo}
+use Rattle.abc_verify_typing.specs.Instructions.{arguments, local, operand, second, targets}
+use Rattle.abc_verify_typing.specs.Rows.{Shape}
+use Rattle.abc_verify_typing.specs.declared.row.RowKind.{RowKind}
+use Rattle.abc_verify_typing.specs.declared.row.RowKind.TheVariants as rows
+use Rattle.abc_file_types.specs.declared.code.Instr.{Instr}
+use Rattle.abc_file_types.specs.declared.names.Multiname.{Multiname}
+use Rattle.abc_file_types.specs.declared.names.Multiname.TheVariants as names
+use Rattle.abc_link_program.specs.Linked.{LinkedFile}
+use Rattle.abc_verify_typing.specs.Routines.{Routine, object_of, or_any, type_at}
+use Rattle.abc_verify_typing.specs.declared.catch.Catch.{Catch}
+use Rattle.abc_verify_typing.specs.declared.state.Scope.{Scope}
+use Rattle.abc_verify_typing.specs.declared.state.State.{State}
+use Rattle.abc_verify_typing.specs.declared.row.Need.{Need}
+use Rattle.abc_verify_typing.specs.declared.row.Need.TheVariants.{Value, Namespace, Slotted, Runtime}
+use Rattle.abc_verify_typing.specs.declared.row.Source.{Source}
+use Rattle.abc_verify_typing.specs.declared.row.Source.TheVariants.{Fixed, Taken, LocalKind, ScopeKind, SlotKind, SumKind, TypeKind, AsTypeKind, ActivationKind, ClassObjectKind, CatchObjectKind}
+use Rattle.abc_verify_typing.specs.declared.row.Locals.{Locals}
+use Rattle.abc_verify_typing.specs.declared.row.Locals.TheVariants.{Untouched, Reads, Sets, Walks}
+use Rattle.abc_verify_typing.specs.declared.row.Scoping.{Scoping}
+use Rattle.abc_verify_typing.specs.declared.row.Scoping.TheVariants.{Stays, Pushes, Pops}
+use Rattle.abc_verify_typing.specs.declared.row.Leads.{Leads}
+use Rattle.abc_verify_typing.specs.declared.row.Leads.TheVariants.{Next, Branches, Jumps, Switches, Ends}
+
+-- an instruction at its place, with its row
+pub record Here : Type 0 where
+  pub file : LinkedFile
+  pub method : Routine
+  pub place : ℕ
+  pub instr : Instr
+  pub row : Shape
+
+-- tables of the file
+
+-- of the name 0 there is none
+abbrev pub name_at : LinkedFile → ℕ → Option Multiname
+name_at p n = cond (ltb 0 n) (slice_get p.file.names (n - 1)) None
+
+abbrev pub kind_of_slot : LinkedFile → Option SlotInfo → Option Kind
+kind_of_slot p None = None
+kind_of_slot p (Some slot) = Some (kind_of_type p slot.ty)
+
+abbrev pub slot_in : LinkedFile → List SlotInfo → Option ℕ → Option Kind
+slot_in p slots None = None
+slot_in p slots (Some i) = kind_of_slot p (slice_get slots i)
+
+-- the kind of the slot of that number, if the layout has one
+abbrev pub slot : LinkedFile → ℕ → ℕ → Option Kind
+slot p l j = slot_in p (slots_of p l) (slot_numbered p l j)
+
+-- what is taken
+
+-- the runtime parts of a name, the top first
+abbrev pub runtime : Option Multiname → List Need
+runtime (Some (names.Rt attr n)) = Namespace ∷ []
+runtime (Some (names.RtL attr)) = Value ∷ Namespace ∷ []
+runtime (Some (names.MultiL attr set)) = Value ∷ []
+runtime name = []
+
+abbrev pub unfolded : List Need → Need → List Need
+unfolded parts Runtime = parts
+unfolded parts need = need ∷ []
+
+abbrev pub needs : Here → List Need
+needs h = flat_map (unfolded (runtime (name_at h.file (operand h.instr)))) h.row.takes
+
+abbrev pub args : Here → ℕ
+args h = h.row.args * arguments h.instr
+
+-- how many values are taken
+abbrev pub depth : Here → ℕ
+depth h = args h + length (needs h)
+
+-- the kinds below the arguments
+abbrev pub taken : Here → State → List Kind
+taken h s = drop (args h) s.stack
+
+-- kinds that are made; what is missing is Any
+
+abbrev pub kind_at : List Kind → ℕ → Kind
+kind_at kinds n = or_any (slice_get kinds n)
+
+-- the value that has to have the slot
+abbrev pub receiver : List Need → List Kind → Kind
+receiver (Slotted ∷ needs) (kind ∷ kinds) = kind
+receiver (need ∷ needs) (kind ∷ kinds) = receiver needs kinds
+receiver needs kinds = Any
+
+-- nothing follows a slot of null
+abbrev pub is_null : Kind → Bool
+is_null Null = true
+is_null k = false
+
+abbrev pub goes_on : List Need → List Kind → Bool
+goes_on needs kinds = not (is_null (receiver needs kinds))
+
+abbrev pub slot_kind : LinkedFile → ℕ → Kind → Kind
+slot_kind p j (Obj l) = or_any (slot p l.0 j)
+slot_kind p j k = Any
+
+abbrev pub sum_kind : Kind → Kind → Kind
+sum_kind Num Num = Num
+sum_kind Num Truth = Num
+sum_kind Truth Num = Num
+sum_kind Truth Truth = Num
+sum_kind a b = Any
+
+-- what may turn out to be null has to be of a kind that holds null
+abbrev pub nullable : Kind → Kind
+nullable Text = Text
+nullable Space = Space
+nullable (Obj l) = Obj l
+nullable k = Any
+
+abbrev pub scope_of : Option Scope → Kind
+scope_of None = Any
+scope_of (Some scope) = scope.kind
+
+abbrev pub catch_object : Option Catch → Kind
+catch_object None = Any
+catch_object (Some h) = Obj h.layout
+
+-- the kind that a row names
+abbrev pub fixed : LinkedFile → RowKind → Kind
+fixed p rows.Any = Any
+fixed p rows.Undef = Undef
+fixed p rows.Null = Null
+fixed p rows.Num = Num
+fixed p rows.Bool = Truth
+fixed p rows.Text = Text
+fixed p rows.Space = Space
+fixed p rows.Object = object_of p (parts.Host hosts.Object)
+fixed p rows.Function = object_of p (parts.Host hosts.Function)
+fixed p rows.Array = object_of p (parts.Host hosts.Array)
+
+abbrev pub kind_of : Here → State → Source → Kind
+kind_of h s (Fixed k) = fixed h.file k
+kind_of h s (Taken n) = kind_at (taken h s) n
+kind_of h s LocalKind = kind_at s.locals (local h.instr)
+kind_of h s ScopeKind = scope_of (slice_get s.scopes (operand h.instr))
+kind_of h s SlotKind = slot_kind h.file (operand h.instr) (receiver (needs h) (taken h s))
+kind_of h s SumKind = sum_kind (kind_at (taken h s) 1) (kind_at (taken h s) 0)
+kind_of h s TypeKind = or_any (type_at h.file (operand h.instr))
+kind_of h s AsTypeKind = nullable (or_any (type_at h.file (operand h.instr)))
+kind_of h s ActivationKind = Obj h.method.activation
+kind_of h s ClassObjectKind = object_of h.file (parts.ClassObject (operand h.instr))
+kind_of h s CatchObjectKind = catch_object (slice_get h.method.handlers (operand h.instr))
+
+-- a scope is an object
+abbrev pub scope_kind : LinkedFile → Kind → Kind
+scope_kind p Null = Null
+scope_kind p (Obj l) = Obj l
+scope_kind p k = fixed p rows.Object
+
+abbrev pub scopes_after : Here → State → Scoping → List Scope
+scopes_after h s Stays = s.scopes
+scopes_after h s (Pushes is_with) = s.scopes ++ record { kind = scope_kind h.file (kind_at (taken h s) 0); is_with = is_with } ∷ []
+scopes_after h s Pops = take (length s.scopes - 1) s.scopes
+
+abbrev pub locals_after : Here → State → Locals → List Kind
+locals_after h s Untouched = s.locals
+locals_after h s Reads = s.locals
+locals_after h s (Sets source) = set s.locals (local h.instr) (kind_of h s source)
+locals_after h s Walks = set (set s.locals (local h.instr) (fixed h.file rows.Object)) (second h.instr) Num
+
+-- the state after an instruction
+abbrev pub next : Here → State → State
+next h s = record { stack = map (kind_of h s) h.row.gives ++ drop (depth h) s.stack; scopes = scopes_after h s h.row.scoping; locals = locals_after h s h.row.locals }
+
+abbrev pub leads : Here → Leads → List ℕ
+leads h Next = (h.place + 1) ∷ []
+leads h Branches = (h.place + 1) ∷ targets h.instr
+leads h Jumps = targets h.instr
+leads h Switches = targets h.instr
+leads h Ends = []
+
+abbrev pub after : Here → State → List (ℕ × State)
+after h s = cond (goes_on (needs h) (taken h s)) (map (λ t. (t, next h s)) (leads h h.row.leads)) []
+
+-- the handlers that cover a place
+abbrev pub covers : ℕ → Catch → Bool
+covers i handler = leb handler.from i && ltb i handler.to
+
+abbrev pub covering : Routine → ℕ → List Catch
+covering m i = filter (covers i) m.handlers
+
+abbrev pub caught : State → Catch → ℕ × State
+caught s handler = (handler.target, record { stack = handler.kind ∷ []; scopes = []; locals = s.locals })

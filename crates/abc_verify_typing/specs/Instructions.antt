@@ -1,0 +1,45 @@
+-- What an instruction names: its opcode, its operands by their meaning, and places.
+use Rattle.std.specs.Prelude.{ℕ, ◌%◌, List, [], ◌∷◌}
+use Rattle.abc_file_types.specs.declared.code.Instr.{Instr}
+use Rattle.abc_file_types.specs.declared.code.Instr.TheVariants as instrs
+
+abbrev pub opcode : Instr → ℕ
+opcode (instrs.Plain op) = op
+opcode (instrs.One op n) = op
+opcode (instrs.Two op m n) = op
+opcode (instrs.Branch op t) = op
+opcode (instrs.Switch t ts) = 0x1B
+opcode (instrs.Byte n) = 0x24
+opcode (instrs.Short n) = 0x25
+opcode (instrs.ScopeObject n) = 0x65
+opcode (instrs.Debug kind name reg extra) = 0xEF
+
+-- the number that names something in a table
+abbrev pub operand : Instr → ℕ
+operand (instrs.One op n) = n
+operand (instrs.Two op n argc) = n
+operand (instrs.ScopeObject n) = n
+operand (instrs.Debug kind name reg extra) = name
+operand i = 0
+
+-- how many arguments a call has
+abbrev pub arguments : Instr → ℕ
+arguments (instrs.One op argc) = argc
+arguments (instrs.Two op n argc) = argc
+arguments i = 0
+
+-- the local that is named; the opcodes of getlocal_0 and of setlocal_0 are multiples of four
+abbrev pub local : Instr → ℕ
+local (instrs.Plain op) = op % 4
+local i = operand i
+
+-- the local of hasnext2 that is an index
+abbrev pub second : Instr → ℕ
+second (instrs.Two op p q) = q
+second i = 0
+
+-- the places that an instruction names
+abbrev pub targets : Instr → List ℕ
+targets (instrs.Branch op t) = t ∷ []
+targets (instrs.Switch t ts) = t ∷ ts
+targets i = []

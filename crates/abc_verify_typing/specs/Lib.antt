@@ -1,0 +1,14 @@
+pub mod Rows
+pub mod Instructions
+pub mod Agreement
+pub mod Table
+pub mod Lists
+pub mod Height
+pub mod Routines
+pub mod Effects
+pub mod Rules
+pub mod Typing
+pub mod Standing
+pub mod RuleNames
+pub mod Rank
+pub mod Work

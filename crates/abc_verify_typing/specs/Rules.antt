@@ -1,0 +1,224 @@
+-- The rules, in the order in which a refusal names them.
+use Rattle.std.specs.Prelude.{ℕ, zero, suc, is_some, nat_eq, ◌+◌, ◌-◌, List, [], ◌∷◌, ◌++◌, Bool, true, false, cond, not, ◌&&◌, ◌||◌, leb, ltb, eqb, Option, Some, None, length, map, slice_get}
+use Rattle.abc_link_program.specs.declared.types.Kind.{Kind}
+use Rattle.abc_link_program.specs.declared.types.Kind.TheVariants.{Null, Num, Space, Obj}
+use Rattle.abc_link_program.specs.Linked.{above, LinkedFile}
+use Rattle.abc_link_program.specs.Owners.{body_of, owner_of}
+use Rattle.abc_link_program.specs.declared.part.LayoutId.{LayoutId}
+use Rattle.abc_link_program.specs.declared.types.Owner.{Owner}
+use Rattle.abc_link_program.specs.declared.types.Owner.TheVariants as owners
+use Rattle.abc_verify_typing.specs.Instructions.{local, opcode, operand, second}
+use Rattle.abc_verify_typing.specs.Rows.{Shape, row_at}
+use Rattle.abc_file_types.specs.declared.code.Instr.{Instr}
+use Rattle.abc_file_types.specs.declared.names.Multiname.{Multiname}
+use Rattle.abc_file_types.specs.declared.names.Multiname.TheVariants as names
+use Rattle.abc_verify_typing.specs.declared.home.Home.{Home}
+use Rattle.abc_verify_typing.specs.declared.home.Home.TheVariants.{OnInstances, MakesInstances}
+use Rattle.abc_verify_typing.specs.Routines.{Routine, type_at}
+use Rattle.abc_verify_typing.specs.declared.catch.Catch.{Catch}
+use Rattle.abc_verify_typing.specs.declared.state.State.{State}
+use Rattle.abc_verify_typing.specs.declared.rule.VerifyRule.{VerifyRule}
+use Rattle.abc_verify_typing.specs.declared.rule.VerifyRule.TheVariants.{NotRun, PoolIndex, NameForm, StackUnder, StackOver, ScopeUnder, ScopeOver, LocalIndex, OffEnd, Merge, NotSpace, NotObject, SlotIndex, ScopeIndex, NotHere, NotIndex, Parameters, Flags}
+use Rattle.abc_verify_typing.specs.declared.row.Operand.{Operand}
+use Rattle.abc_verify_typing.specs.declared.row.Operand.TheVariants.{Unnamed, StringAt, IntAt, UintAt, DoubleAt, NamespaceAt, FunctionAt, ClassAt, HandlerAt, NameAt, PlainNameAt, TypeAt, TypeOrAny, ScopeAt}
+use Rattle.abc_verify_typing.specs.declared.row.Need.{Need}
+use Rattle.abc_verify_typing.specs.declared.row.Need.TheVariants.{Namespace, Index, Slotted, Instance}
+use Rattle.abc_verify_typing.specs.declared.row.Locals.{Locals}
+use Rattle.abc_verify_typing.specs.declared.row.Locals.TheVariants.{Untouched, Walks}
+use Rattle.abc_verify_typing.specs.declared.row.Scoping.{Scoping}
+use Rattle.abc_verify_typing.specs.declared.row.Scoping.TheVariants.{Pushes, Pops}
+use Rattle.abc_verify_typing.specs.declared.row.Site.{Site}
+use Rattle.abc_verify_typing.specs.declared.row.Site.TheVariants.{Anywhere, WithActivation, OnInstance, InMaker}
+use Rattle.abc_verify_typing.specs.Effects.{Here, name_at, slot, needs, depth, taken, kind_at, leads, after, covering, caught}
+
+abbrev pub is_free : Owner → Bool
+is_free owners.Free = true
+is_free owner = false
+
+-- a method that no one owns and that has a body
+abbrev pub is_function : LinkedFile → ℕ → Bool
+is_function p n = is_free (owner_of p.file n) && is_some (body_of p.file n)
+
+abbrev pub all_below : List ℕ → ℕ → Bool
+all_below [] n = true
+all_below (x ∷ xs) n = ltb x n && all_below xs n
+
+-- a pool begins with its number 1, and what the number 0 means is its own; other tables begin with 0
+abbrev pub in_table : LinkedFile → Routine → Operand → ℕ → Bool
+in_table p m StringAt n = leb n (length p.file.strings)
+in_table p m IntAt n = leb n (length p.file.ints)
+in_table p m UintAt n = leb n (length p.file.uints)
+in_table p m DoubleAt n = leb n (length p.file.doubles)
+in_table p m NamespaceAt n = ltb 0 n && leb n (length p.file.namespaces)
+in_table p m FunctionAt n = ltb n (length p.file.methods) && is_function p n
+in_table p m ClassAt n = ltb n (length p.file.instances)
+in_table p m HandlerAt n = ltb n (length m.handlers)
+in_table p m NameAt n = ltb 0 n && leb n (length p.file.names)
+in_table p m PlainNameAt n = ltb 0 n && leb n (length p.file.names)
+in_table p m TypeAt n = ltb 0 n && leb n (length p.file.names)
+in_table p m TypeOrAny n = leb n (length p.file.names)
+in_table p m Unnamed n = true
+in_table p m ScopeAt n = true
+
+-- no attribute, no name 0, and no type with parameters
+abbrev pub is_plain : Option Multiname → Bool
+is_plain (Some (names.QName attr ns n)) = not attr && ltb 0 n
+is_plain (Some (names.Multi attr n set)) = not attr && ltb 0 n
+is_plain name = false
+
+abbrev pub is_name : Option Multiname → Bool
+is_name (Some (names.Rt attr n)) = not attr && ltb 0 n
+is_name (Some (names.RtL attr)) = not attr
+is_name (Some (names.MultiL attr set)) = not attr
+is_name name = is_plain name
+
+abbrev pub has_form : LinkedFile → Operand → ℕ → Bool
+has_form p NameAt n = is_name (name_at p n)
+has_form p PlainNameAt n = is_plain (name_at p n)
+has_form p TypeAt n = is_some (type_at p n)
+has_form p TypeOrAny n = is_some (type_at p n)
+has_form p operand n = true
+
+abbrev pub is_empty : List Catch → Bool
+is_empty [] = true
+is_empty (h ∷ hs) = false
+
+abbrev pub may_pop : Scoping → ℕ → Bool
+may_pop Pops n = ltb 0 n
+may_pop scoping n = true
+
+abbrev pub may_push : Scoping → ℕ → ℕ → Bool
+may_push (Pushes is_with) n size = ltb n size
+may_push scoping n size = true
+
+abbrev pub has_locals : Locals → Instr → ℕ → Bool
+has_locals Untouched i count = true
+has_locals Walks i count = ltb (local i) count && (ltb (second i) count && not (eqb (local i) (second i)))
+has_locals locals i count = ltb (local i) count
+
+-- whether a layout is another or stands under it, by at most so many steps
+abbrev pub reaches : LinkedFile → ℕ → ℕ → ℕ → Bool
+reaches p zero l m = nat_eq l m
+reaches p (suc k) l m = nat_eq l m || reaches p k (above p l) m
+
+-- the layout that a super operation is about, where it is permitted
+abbrev pub super_layout : Site → Home → Option LayoutId
+super_layout OnInstance (OnInstances l) = Some l
+super_layout OnInstance (MakesInstances l) = Some l
+super_layout InMaker (MakesInstances l) = Some l
+super_layout site home = None
+
+abbrev pub is_here : Routine → Site → Bool
+is_here m Anywhere = true
+is_here m WithActivation = m.needs_activation
+is_here m OnInstance = is_some (super_layout OnInstance m.home)
+is_here m InMaker = is_some (super_layout InMaker m.home)
+
+-- kinds
+
+abbrev pub is_namespace : Kind → Bool
+is_namespace Null = true
+is_namespace Space = true
+is_namespace k = false
+
+abbrev pub is_object : Kind → Bool
+is_object Null = true
+is_object (Obj l) = true
+is_object k = false
+
+abbrev pub is_number : Kind → Bool
+is_number Num = true
+is_number k = false
+
+abbrev pub is_instance : LinkedFile → Option LayoutId → Kind → Bool
+is_instance p None k = true
+is_instance p (Some m) Null = true
+is_instance p (Some m) (Obj l) = reaches p l.0 l.0 m.0
+is_instance p (Some m) k = false
+
+abbrev pub has_slot : LinkedFile → ℕ → Kind → Bool
+has_slot p j (Obj l) = is_some (slot p l.0 j)
+has_slot p j k = true
+
+-- what a rule asks of a value that is taken
+abbrev pub suits : Here → VerifyRule → Need → Kind → Bool
+suits h NotSpace Namespace k = is_namespace k
+suits h NotObject Slotted k = is_object k
+suits h NotObject Instance k = is_instance h.file (super_layout h.row.site h.method.home) k
+suits h SlotIndex Slotted k = has_slot h.file (operand h.instr) k
+suits h NotIndex Index k = is_number k
+suits h rule need k = true
+
+abbrev pub all_suit : Here → VerifyRule → List Need → List Kind → Bool
+all_suit h r (n ∷ ns) (k ∷ ks) = suits h r n k && all_suit h r ns ks
+all_suit h r ns ks = true
+
+abbrev pub is_walked : Here → State → Locals → Bool
+is_walked h s Walks = is_number (kind_at s.locals (second h.instr))
+is_walked h s locals = true
+
+abbrev pub names_scope : Here → State → Operand → Bool
+names_scope h s ScopeAt = ltb (operand h.instr) (length s.scopes)
+names_scope h s operand = true
+
+abbrev pub handler_target : Catch → ℕ
+handler_target h = h.target
+
+-- what each rule asks of a state at an instruction
+abbrev pub keeps : Here → State → VerifyRule → Bool
+keeps h s PoolIndex = in_table h.file h.method h.row.operand (operand h.instr)
+keeps h s NameForm = has_form h.file h.row.operand (operand h.instr)
+keeps h s StackUnder = leb (depth h) (length s.stack)
+keeps h s StackOver = leb (length s.stack - depth h + length h.row.gives) h.method.max_stack && (ltb 0 h.method.max_stack || is_empty (covering h.method h.place))
+keeps h s ScopeUnder = may_pop h.row.scoping (length s.scopes)
+keeps h s ScopeOver = may_push h.row.scoping (length s.scopes) h.method.scope_size
+keeps h s LocalIndex = has_locals h.row.locals h.instr h.method.local_count
+keeps h s OffEnd = all_below (leads h h.row.leads) (length h.method.code) && all_below (map handler_target (covering h.method h.place)) (length h.method.code)
+keeps h s NotSpace = all_suit h NotSpace (needs h) (taken h s)
+keeps h s NotObject = all_suit h NotObject (needs h) (taken h s)
+keeps h s SlotIndex = all_suit h SlotIndex (needs h) (taken h s)
+keeps h s ScopeIndex = names_scope h s h.row.operand
+keeps h s NotHere = is_here h.method h.row.site
+keeps h s NotIndex = all_suit h NotIndex (needs h) (taken h s) && is_walked h s h.row.locals
+keeps h s Parameters = ltb 0 h.place || leb (length h.method.filled) h.method.local_count
+keeps h s Flags = ltb 0 h.place || not h.method.unsupported
+keeps h s NotRun = true
+keeps h s Merge = true
+
+abbrev pub early_rules : List VerifyRule
+early_rules = PoolIndex ∷ NameForm ∷ StackUnder ∷ StackOver ∷ ScopeUnder ∷ ScopeOver ∷ LocalIndex ∷ OffEnd ∷ []
+
+abbrev pub late_rules : List VerifyRule
+late_rules = NotSpace ∷ NotObject ∷ SlotIndex ∷ ScopeIndex ∷ NotHere ∷ NotIndex ∷ Parameters ∷ Flags ∷ []
+
+abbrev pub first_broken : (VerifyRule → Bool) → List VerifyRule → Option VerifyRule
+first_broken kept [] = None
+first_broken kept (r ∷ rs) = cond (kept r) (first_broken kept rs) (Some r)
+
+-- the code's end, where there is no code; an opcode that is not run
+abbrev pub at_row : LinkedFile → Routine → ℕ → Instr → List VerifyRule → State → Option Shape → Option VerifyRule
+at_row p m i instr rules s None = Some NotRun
+at_row p m i instr rules s (Some row) = first_broken (keeps (record { file = p; method = m; place = i; instr = instr; row = row }) s) rules
+
+abbrev pub at_instr : LinkedFile → Routine → ℕ → List VerifyRule → State → Option Instr → Option VerifyRule
+at_instr p m i rules s None = Some OffEnd
+at_instr p m i rules s (Some instr) = at_row p m i instr rules s (row_at (opcode instr))
+
+-- the first rule that a state breaks at a place, Merge left out; the first before Merge
+abbrev pub broken : LinkedFile → Routine → ℕ → State → Option VerifyRule
+broken p m i s = at_instr p m i (early_rules ++ late_rules) s (slice_get m.code i)
+
+abbrev pub broken_early : LinkedFile → Routine → ℕ → State → Option VerifyRule
+broken_early p m i s = at_instr p m i early_rules s (slice_get m.code i)
+
+-- what follows a state
+abbrev pub after_row : LinkedFile → Routine → ℕ → Instr → State → Option Shape → List (ℕ × State)
+after_row p m i instr s None = []
+after_row p m i instr s (Some row) = after (record { file = p; method = m; place = i; instr = instr; row = row }) s
+
+abbrev pub after_instr : LinkedFile → Routine → ℕ → State → Option Instr → List (ℕ × State)
+after_instr p m i s None = []
+after_instr p m i s (Some instr) = after_row p m i instr s (row_at (opcode instr))
+
+abbrev pub follows : LinkedFile → Routine → ℕ → State → List (ℕ × State)
+follows p m i s = after_instr p m i s (slice_get m.code i) ++ map (caught s) (covering m i)

@@ -1,6 +1,0 @@
-use Rattle.std.proofs.Common.{◌≡◌, drop}
-use Rattle.abc_typing.specs.Rules.{all_below}
-use Rattle.abc_visits.proofs.tables.are_below.Given as goal
-
-abbrev pub invariant-loop-place : goal.invariant-loop-place
-invariant-loop-place l = all_below l.places l.end ≡ all_below (drop l.place-index l.places) l.end
