@@ -5,15 +5,16 @@ ghost use Rattle.std.specs.Prelude.{◌≡◌, ◌<◌, ◌↔◌, IsTrue};
 ghost use Rattle.abc_link_program.specs.Kinds.{IsAtMost, IsJoin};
 ghost use Rattle.abc_link_program.specs.Linked.{IsLinkedFile};
 ghost use Rattle.abc_link_program.specs.Tree.{IsBelow, IsCommon};
+ghost use Rattle.abc_link_program.specs.Types.{kind_of_type as kind_of};
 ghost use Rattle.abc_kinds.specs.Steps.{ClimbsTo, NearsTo};
 
-pub use abc_link::{Linked, kind_of_type};
+use abc_base::HostClass;
 pub use abc_link_program::{Kind, LayoutId, Part, Ty};
 
 /// What tells which layout each layout stands under.
 pub trait Tree {
     ghost use Rattle.std.specs.Prelude.{◌≡◌};
-    ghost use Rattle.abc_link_program.specs.Linked.{LinkedFile, above};
+    ghost use Rattle.abc_link_program.specs.Linked.{LinkedFile, above, layout_of};
     ghost use Rattle.abc_link_program.specs.Tree.{IsBelow};
 
     ghost file: { Self → LinkedFile };
@@ -25,18 +26,10 @@ pub trait Tree {
     /// A layout that a layout is or stands under: one far above, where such a one is known.
     fn far_above(&self, layout: LayoutId) -> LayoutId
         ensures { IsBelow (file self.now) layout.0 result.0 };
-}
 
-impl Tree for Linked {
-    ghost file = { λ l. l };
-
-    fn above(&self, layout: LayoutId) -> LayoutId {
-        Linked::above(self, layout)
-    }
-
-    fn far_above(&self, layout: LayoutId) -> LayoutId {
-        Linked::far_above(self, layout)
-    }
+    /// The layout of a part; of a part without one, that of Object's instances.
+    fn layout_of(&self, part: Part) -> LayoutId
+        ensures { result ≡ layout_of (file self.now) part };
 }
 
 /// The next layout on the way up to another, or to where that would be.
@@ -121,5 +114,21 @@ pub fn join<T: Tree>(tree: &T, a: Kind, b: Kind) -> Kind
         (Kind::Null, Kind::Text | Kind::Space | Kind::Obj(_)) => b,
         (Kind::Text | Kind::Space | Kind::Obj(_), Kind::Null) => a,
         _ => { if a == b { a } else { Kind::Any } }
+    }
+}
+
+/// The kind of the values of a type.
+pub fn kind_of_type<T: Tree>(tree: &T, ty: Ty) -> Kind
+    ensures { result ≡ kind_of (T.file tree.now) ty }
+{
+    match ty {
+        Ty::Any | Ty::Object => Kind::Any,
+        Ty::Void => Kind::Undef,
+        Ty::Int | Ty::UInt | Ty::Number => Kind::Num,
+        Ty::Boolean => Kind::Bool,
+        Ty::Text => Kind::Text,
+        Ty::Space => Kind::Space,
+        Ty::Of(layout) => Kind::Obj(layout),
+        Ty::Interface(_) => Kind::Obj(tree.layout_of(Part::Host(HostClass::Object))),
     }
 }

@@ -16,7 +16,7 @@ mod tables;
 pub use abc_link_layouts::{Layouts, Members, slots_of, string_number, traits_of, type_in};
 pub use abc_link_names::{Item, ItemKind, LinkError, LinkRule, Start};
 pub use abc_link_program::{Kind, LayoutId, Owner, Part, SlotInfo, Ty, part_key};
-pub use linked::{Linked, kind_of_type};
+pub use linked::Linked;
 pub use linking::{MOST_HANDLERS, link};
 pub use scripts::ScriptTraits;
 pub use sets::SetSpaces;

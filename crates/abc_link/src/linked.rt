@@ -14,17 +14,18 @@ ghost use Rattle.abc_link_program.specs.Traits.{own_table_of, own_traits as own_
 ghost use Rattle.abc_link_layouts.specs.Numbering.{IsNumbered};
 ghost use Rattle.abc_link.specs.OwnSlots.{slots_before as slots_before_of};
 ghost use Rattle.abc_link.specs.ScriptTraits.{owners_of, script_traits as script_traits_of};
-ghost use Rattle.abc_link_program.specs.Types.{kind_of_type as kind_of, type_of as type_of_name};
+ghost use Rattle.abc_link_program.specs.Types.{type_of as type_of_name};
 
 use crate::ladder::{Rung, above, far_above};
 use crate::tables::SearchTables;
-use abc_base::{HostClass, Table};
+use abc_base::Table;
 use abc_base_graphs::Heirs;
 use abc_file_types::Abc;
+use abc_kinds::Tree;
 use abc_link_interfaces::Interfaces;
 use abc_link_layouts::{Layouts, Members, Owners, string_number, type_in};
 use abc_link_names::{Meanings, NameTables, Named, Names};
-use abc_link_program::{Kind, LayoutId, Owner, Part, SlotInfo, Ty};
+use abc_link_program::{LayoutId, Owner, Part, SlotInfo, Ty};
 use std::marker::Model;
 
 /// What is made of a file that keeps the rules of linking.
@@ -318,18 +319,18 @@ impl Linked {
     }
 }
 
-/// The kind of the values of a type.
-pub fn kind_of_type(l: &Linked, ty: Ty) -> Kind
-    ensures { result ≡ kind_of l.now ty }
-{
-    match ty {
-        Ty::Any | Ty::Object => Kind::Any,
-        Ty::Void => Kind::Undef,
-        Ty::Int | Ty::UInt | Ty::Number => Kind::Num,
-        Ty::Boolean => Kind::Bool,
-        Ty::Text => Kind::Text,
-        Ty::Space => Kind::Space,
-        Ty::Of(layout) => Kind::Obj(layout),
-        Ty::Interface(_) => Kind::Obj(l.layout_of(Part::Host(HostClass::Object))),
+impl Tree for Linked {
+    ghost file = { λ l. l };
+
+    fn above(&self, layout: LayoutId) -> LayoutId {
+        Linked::above(self, layout)
+    }
+
+    fn far_above(&self, layout: LayoutId) -> LayoutId {
+        Linked::far_above(self, layout)
+    }
+
+    fn layout_of(&self, part: Part) -> LayoutId {
+        Linked::layout_of(self, part)
     }
 }

@@ -8,8 +8,8 @@ ghost use Rattle.abc_verify_typing.specs.Routines.{object_of, or_any, type_at};
 ghost use Rattle.abc_verify_typing.specs.Rules.{is_free, is_function, reaches};
 
 use abc_base::HostClass;
-use abc_kinds::is_below;
-use abc_link::{Linked, kind_of_type};
+use abc_kinds::{is_below, kind_of_type};
+use abc_link::Linked;
 use abc_link_program::{Kind, LayoutId, Owner, Part};
 use abc_verify_typing::RowKind;
 
