@@ -3,7 +3,7 @@ use Rattle.std.proofs.Common.{◌≡◌, ◌≢◌, ℕ, ◌<◌, ◌^◌, List,
 use Rattle.std.specs.Prelude.{Ok}
 use Rattle.std.specs.declared.option.Option.{Option}
 use Rattle.std.specs.declared.result.Result.{Result}
-use Rattle.abc_meaning_sound.specs.Calls.{returned, value_returned}
+use Rattle.abc_meaning.specs.Calls.{returned, value_returned}
 use Rattle.abc_heap_values.specs.declared.values.Value.{Value}
 use Rattle.abc_run_dispatch.proofs.Led.{runs_here}
 use Rattle.abc_run_dispatch.specs.Ready.{CanStep, IsEquipped}

@@ -30,3 +30,5 @@ pub mod Lines
 pub mod Logs
 pub mod Inputs
 pub mod LogLaws
+pub mod Calls
+pub mod Exports

@@ -5,8 +5,9 @@ use Rattle.abc_base.specs.declared.names.Fault.{Fault}
 use Rattle.abc_meaning_sound.proofs.Called.{call_begins}
 use Rattle.abc_meaning_sound.proofs.Exported.{owned_by_script}
 use Rattle.abc_meaning_sound.proofs.Left.{silent_sound}
-use Rattle.abc_meaning_sound.specs.Calls.{EndsAs, Replied, begins_call, call_meaning, enters_call, entered_call, replies_for, returned, silent, stops_call, then_replies}
-use Rattle.abc_meaning_sound.specs.CallLaws.{CallsLeaveSound, IsScriptMethod, RunsLeaveSound}
+use Rattle.abc_meaning.specs.Calls.{EndsAs, Replied, begins_call, call_meaning, enters_call, entered_call, replies_for, returned, silent, stops_call, then_replies}
+use Rattle.abc_meaning.specs.Exports.{IsScriptMethod}
+use Rattle.abc_meaning_sound.specs.CallLaws.{CallsLeaveSound, RunsLeaveSound}
 use Rattle.abc_heap_values.specs.declared.values.Value.{Value}
 use Rattle.abc_heap_values.specs.declared.values.Value.TheVariants.{Undefined}
 use Rattle.abc_link_names.specs.Parts.{script_at}

@@ -11,7 +11,7 @@ use Rattle.abc_meaning_sound.specs.Keeping.{Fares, IsError, Leaves, StopSound}
 use Rattle.abc_meaning.specs.Setting.{Setting}
 use Rattle.abc_meaning.specs.World.{Errs, Faults, Fills, Outcome, Sticks, Stop, Stopped, Throws, Went, World}
 use Rattle.abc_meaning.specs.Throwing.{last_script}
-use Rattle.abc_meaning_sound.specs.Calls.{enters_call, numbers}
+use Rattle.abc_meaning.specs.Calls.{enters_call, numbers}
 use Rattle.abc_meaning_sound.specs.CallLaws.{CallsAreFair}
 use Rattle.abc_meaning_sound.proofs.Called.{numbers_exist}
 use Rattle.abc_meaning_sound.proofs.Exported.{owned_by_script}

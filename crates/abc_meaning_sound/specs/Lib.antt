@@ -11,7 +11,5 @@ pub mod Fair
 pub mod Running
 pub mod Premise
 pub mod ProgressLaws
-pub mod Calls
-pub mod Exports
 pub mod CallLaws
 pub mod Placed

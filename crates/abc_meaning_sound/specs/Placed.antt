@@ -2,8 +2,8 @@
 use Rattle.std.specs.Prelude.{◌≡◌, ◌≢◌, ℕ, ℤ, ◌<◌, List, length, None, Some}
 use Rattle.abc_base.specs.Ranges.{IsNumber}
 use Rattle.abc_base.specs.declared.names.Fault.{Fault}
-use Rattle.abc_meaning_sound.specs.Calls.{EndsAs, Replied, call_meaning}
-use Rattle.abc_meaning_sound.specs.CallLaws.{IsScriptMethod}
+use Rattle.abc_meaning.specs.Calls.{EndsAs, Replied, call_meaning}
+use Rattle.abc_meaning.specs.Exports.{IsScriptMethod}
 use Rattle.abc_heap_store.specs.declared.records.Limits.{Limits}
 use Rattle.abc_link_names.specs.Parts.{body_at}
 use Rattle.abc_meaning.specs.ThrowLaws.{AreCounted, IsVerified}

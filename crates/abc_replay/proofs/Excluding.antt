@@ -33,7 +33,7 @@ use Rattle.abc_verify.proofs.Single.{one_numbered}
 use Rattle.abc_verify.specs.FileRefusing.{IsRefused as IsNoVerifiedFile, IsUnverified, bad, unlinked, untyped, unverified}
 use Rattle.abc_verify.specs.declared.verified_error.VerifiedError.{VerifiedError}
 use Rattle.abc_verify.specs.VerifyRefusing.{IsFirstUntyped}
-use Rattle.abc_verify.proofs.Methods.{body_inside}
+use Rattle.abc_link_program.proofs.MethodBodies.{body_inside}
 use Rattle.abc_replay.specs.Laws.{HasOneNumber, IsNeverBoth}
 use Rattle.abc_replay.specs.Replays.{HasParts, IsRefused}
 use Rattle.abc_replay.specs.declared.error.ReplayError.{ReplayError}

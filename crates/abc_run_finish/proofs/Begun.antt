@@ -6,7 +6,7 @@ use Rattle.abc_base.specs.Ranges.{IsNumber}
 use Rattle.abc_run_finish.specs.Calling.{CanCall, enters_last}
 use Rattle.abc_meaning_sound.proofs.Called.{call_begins}
 use Rattle.abc_meaning_sound.proofs.Fairly.{call_fair}
-use Rattle.abc_meaning_sound.specs.Calls.{begins_call, entered_call, enters_call, numbers, stops_call}
+use Rattle.abc_meaning.specs.Calls.{begins_call, entered_call, enters_call, numbers, stops_call}
 use Rattle.abc_heap_values.specs.declared.values.Value.{Value}
 use Rattle.abc_run_finish.specs.Ending.{IsFree, IsSized, IsThrowable}
 use Rattle.abc_run_calls.specs.Arguments.{IsKnown, makes_arguments, receiver}

@@ -1,5 +1,5 @@
 -- The functions that a file exports: the method traits of its last script whose names are public.
-use Rattle.std.specs.Prelude.{ℕ, List, Bool, true, false, ◌&&◌, Some, None}
+use Rattle.std.specs.Prelude.{◌≡◌, ℕ, List, Bool, true, false, ◌&&◌, Some, None}
 use Rattle.std.specs.declared.option.Option.{Option}
 use Rattle.std.specs.List.{find}
 use Rattle.std.specs.Str.{bytes_eq}
@@ -12,6 +12,7 @@ use Rattle.abc_file_types.specs.declared.traits.TraitBody.TheVariants as bodies
 use Rattle.abc_file_types.specs.declared.traits.TraitInfo.{TraitInfo}
 use Rattle.abc_meaning.specs.Throwing.{last_script}
 use Rattle.abc_meaning.specs.Setting.{Setting}
+use Rattle.abc_verify_typing.specs.Typing.{In}
 
 abbrev pub method_in : TraitBody → Option ℕ
 method_in (bodies.Method disp m) = Some m
@@ -34,3 +35,10 @@ method_of_trait (Some t) = method_in t.body
 -- the method of the first such trait with that text
 abbrev pub export : Setting → List ℕ → Option ℕ
 export p s = method_of_trait (find (is_export p.linked.file s) (script_at p.linked.file (last_script p)).traits)
+
+-- a method trait of the last script, which is what is exported
+pub record IsScriptMethod (p : Setting) (m : ℕ) : Type 0 where
+  pub trait : TraitInfo
+  pub among : In trait (script_at p.linked.file (last_script p)).traits
+  pub disp : ℕ
+  pub is : trait.body ≡ bodies.Method disp m
