@@ -19,14 +19,9 @@ mod running;
 mod stepping;
 
 pub use abc_heap_store::Limits;
-pub use abc_log::Seen;
 pub use abc_meaning::Thrown;
 pub use abc_objects::OpenError;
-pub use abc_run_dispatch::{Held, hold, run_newest};
-pub use abc_run_finish::{Halt, finish, start_last};
-pub use ending::{thrown_name, write_uncaught};
+pub use ending::thrown_name;
 pub use ends::End;
-pub use logging::step_logged;
 pub use machine::Machine;
 pub use replies::{PlainValue, Reply};
-pub use stepping::{step, step_on};
