@@ -18,7 +18,8 @@ mod replies;
 mod running;
 mod stepping;
 
-pub use abc_heap_store::Limits;
+pub use abc_base::{Fault, HostClass};
+pub use abc_heap_store::{Limit, Limits};
 pub use abc_meaning::Thrown;
 pub use abc_objects::OpenError;
 pub use ending::thrown_name;
