@@ -1,5 +1,5 @@
 -- Sets of the interfaces of classes.
-use Rattle.std.specs.Prelude.{◌≡◌, ℕ, ◌<◌, ◌⊎◌, List, [], ◌∷◌, ◌++◌, Bool, true, false, Contains, IsTrue, Some, None, if◌then◌else◌, get_or, length, not, slice_get}
+use Rattle.std.specs.Prelude.{◌≡◌, ℕ, ◌<◌, ◌⊎◌, List, [], ◌∷◌, ◌++◌, Bool, true, false, Contains, IsTrue, Some, None, if◌then◌else◌, get_or, length, slice_get}
 use Rattle.std.specs.declared.option.Option.{Option}
 use Rattle.abc_base_graphs.specs.Graph.{Leads}
 use Rattle.abc_link_program.specs.Interfaces.{class_graph}
