@@ -10,7 +10,7 @@ use Rattle.abc_run_dispatch.specs.Ready.{CanStep, IsEquipped}
 use Rattle.abc_run_finish.specs.Ending.{IsSized}
 use Rattle.abc_run_finish.proofs.Finished.{ended_in}
 use Rattle.abc_meaning_sound.proofs.Sounded.{frames_run}
-use Rattle.abc_meaning_sound.specs.Running.{IsRunning}
+use Rattle.abc_meaning.specs.Running.{IsRunning}
 use Rattle.abc_run_finish.proofs.Sounding.{step_is, turn_fair}
 use Rattle.abc_run_finish.proofs.Turned.{entered_gives_none, living_is}
 use Rattle.abc_run_finish.specs.Fairly.{IsFairTurn}

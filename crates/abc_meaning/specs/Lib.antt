@@ -32,3 +32,6 @@ pub mod Inputs
 pub mod LogLaws
 pub mod Calls
 pub mod Exports
+pub mod Fair
+pub mod Running
+pub mod Told

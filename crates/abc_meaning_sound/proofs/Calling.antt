@@ -21,7 +21,8 @@ use Rattle.abc_meaning.specs.Throwing.{Done, End, Ends, FuelSpent, Full, Machine
 use Rattle.abc_meaning.specs.World.{Errs, Faults, Fills, Outcome, Sticks, Stop, Stopped, Throws, Went, World}
 use Rattle.abc_meaning.specs.Setting.{Setting}
 use Rattle.abc_meaning_sound.proofs.Never.{are_typings, given, stays_sound, the_first_is_sound, typings}
-use Rattle.abc_meaning_sound.specs.Placed.{CallsCanBeTold, IsInstruction, RunsEndSound}
+use Rattle.abc_meaning_sound.specs.Placed.{CallsCanBeTold, RunsEndSound}
+use Rattle.abc_meaning.specs.Told.{IsInstruction}
 use Rattle.abc_meaning_sound.proofs.Placing.{init_placed, placed, step_placed, there}
 use Rattle.abc_meaning_sound.proofs.Stopping.{TellsAt, puts_tells, stops_tells}
 

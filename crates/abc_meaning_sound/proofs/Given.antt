@@ -7,7 +7,7 @@ use Rattle.abc_heap_values.specs.declared.values.ObjId.{ObjId}
 use Rattle.abc_heap_values.specs.declared.values.Value.{Value}
 use Rattle.abc_heap_values.specs.declared.values.Value.TheVariants.{Obj, Undefined}
 use Rattle.abc_meaning_sound.proofs.Fared.{acts_fair}
-use Rattle.abc_meaning_sound.specs.Fair.{IsFairAs}
+use Rattle.abc_meaning.specs.Fair.{IsFairAs}
 use Rattle.abc_heap_store.specs.declared.records.Limit.{Limit}
 use Rattle.abc_heap_store.specs.declared.records.Limit.TheVariants.{Frames, Stack}
 use Rattle.abc_heap_store.specs.declared.records.What.TheVariants.{Plain}

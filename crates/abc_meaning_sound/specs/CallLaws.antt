@@ -3,7 +3,7 @@ use Rattle.std.specs.Prelude.{◌≡◌, ◌≢◌, ℕ, ℤ, List}
 use Rattle.abc_base.specs.Ranges.{IsNumber}
 use Rattle.abc_base.specs.declared.formula.Formula.{Formula}
 use Rattle.abc_heap_values.specs.declared.values.Value.{Value}
-use Rattle.abc_meaning_sound.specs.Fair.{IsFairPart}
+use Rattle.abc_meaning.specs.Fair.{IsFairPart}
 use Rattle.abc_objects.specs.Opening.{formula_names}
 use Rattle.abc_objects.specs.Values.{Exists}
 use Rattle.abc_meaning.specs.Front.{IsFront}

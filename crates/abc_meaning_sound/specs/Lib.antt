@@ -7,8 +7,6 @@ pub mod ObjectLaws
 pub mod OperationLaws
 pub mod FileLaws
 pub mod RunLaws
-pub mod Fair
-pub mod Running
 pub mod Premise
 pub mod ProgressLaws
 pub mod CallLaws
