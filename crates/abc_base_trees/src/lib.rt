@@ -15,6 +15,7 @@ mod marks;
 mod order;
 mod rows;
 mod stabs;
+mod stack;
 mod visit;
 
 pub use building::stabs_of;
