@@ -4,7 +4,7 @@ use Rattle.std.specs.Prelude.{slice_get, filter, nat_eq, is_some, option_map, �
 use Rattle.std.proofs.lemmas.Bool.{cases_lt}
 use Rattle.std.proofs.lemmas.List.{map-append}
 use Rattle.std.proofs.lemmas.List.Elements.{filter-append}
-use Rattle.std.proofs.lemmas.Option.{slice_get-map, slice_get_within}
+use Rattle.std.proofs.lemmas.Option.{same_Some, slice_get-map, slice_get_within}
 use Rattle.abc_heap_values.specs.Filling.{Filling}
 use Rattle.abc_heap_values.specs.declared.values.Span.{Span}
 use Rattle.abc_heap_values.specs.declared.values.Value.{Value}
@@ -33,10 +33,7 @@ held_properties cells = map (λ (c : Cell). property_in c.held) cells
 
 -- a position that is empty stays so: behind another cell, which is empty where the old one was
 first_stays : (b : Bool) (x y : Cell) (cells : List Cell) (j : ℕ) → (property_in x.held ≡ None → property_in y.held ≡ None) → slice_get (held_properties (cond b (x ∷ cells) cells)) j ≡ Some None → slice_get (held_properties (cond b (y ∷ cells) cells)) j ≡ Some None
-first_stays true x y cells zero f e = ap Some (f (same x e))
-  where
-    same : (x : Cell) → ◌≡◌ {A = Option (Option (Span × Value))} (Some (property_in x.held)) (Some None) → property_in x.held ≡ None
-    same x e = cc
+first_stays true x y cells zero f e = ap Some (f (same_Some (property_in x.held) None e))
 first_stays true x y cells (suc j) f e = e
 first_stays false x y cells j f e = e
 

@@ -13,7 +13,7 @@ goes_on (Some p) f = p ∷ f p
 -- the first n positions that a walk meets from position k on, each asked for from the one before it
 abbrev pub met : (ℕ → Option ℕ) → ℕ → ℕ → List ℕ
 met next zero k = []
-met next (suc n) k = goes_on (next k) (met next n)
+met next (suc n) k = goes_on (next k) (λ p. met next n p)
 
 -- the filled positions above k, where the list has the places from k on
 abbrev pub filled_above : ℕ → List (Option (Span × Value)) → List ℕ

@@ -59,10 +59,15 @@ fn are_empty(heads: &Reserved<Head>, cells: &Reserved<Cell>, o: u32, k: u32, siz
     requires small { k + size < 2 ^ 32 }
     ensures { result ≡ true → AreEmpty (properties_of (objects cells.now.items 0 heads.now.items) o) k (2 * size) }
 {
-    if empty_from(heads, cells, o, k) < size {
+    let low = empty_from(heads, cells, o, k);
+    if low < size {
         return false;
     }
-    size <= empty_from(heads, cells, o, k + size)
+    let high = empty_from(heads, cells, o, k + size);
+    if high < size {
+        return false;
+    }
+    true
 }
 
 /// The first place of the `pair` places among which `k` is, where the list is cut into pieces of so many.
@@ -84,11 +89,13 @@ fn join(heads: &Reserved<Head>, cells: &mut Reserved<Cell>, o: u32, k: u32, size
     ensures doubled { result ≡ true → 2 * size < 2 ^ 32 }
 {
     let count = property_count(heads, cells, o);
-    if count / 2 < size {
+    let half = count / 2;
+    if half < size {
         return false;
     }
     let first = first_of_pair(k, 2 * size);
-    if count - first <= size {
+    let rest = count - first;
+    if rest <= size {
         return false;
     }
     if !are_empty(heads, cells, o, first, size) {
@@ -100,8 +107,8 @@ fn join(heads: &Reserved<Head>, cells: &mut Reserved<Cell>, o: u32, k: u32, size
 }
 
 /// Remembers how many positions are empty around an emptied one: first for two, then for four, and so on while both
-/// halves are empty. So each piece of 2^n positions that is empty is known at its first, which some earlier call
-/// paid for: a call joins two pieces into one about once.
+/// halves are empty. So of a list that is cut into pieces of 2^n positions each piece that is empty is known at its first
+/// position, and no more pieces are joined than positions are emptied.
 pub fn join_around(heads: &Reserved<Head>, cells: &mut Reserved<Cell>, o: u32, k: u32)
     requires heads { AreHeads (links cells.old.items) heads.now.items }
     requires gaps { AreGaps cells.old.items }
