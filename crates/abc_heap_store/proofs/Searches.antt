@@ -158,7 +158,7 @@ named_at cells heads o f t j b e =
 property_lane : (h : Held) (f : Span → List ℕ) (t : List ℕ) → is_named f t (Some (property_in h)) ≡ true → lane_of h ≡ Properties
 property_lane (Slot v) f t e = clash (sym e)
 property_lane (Property n v) f t e = refl
-property_lane Deleted f t e = clash (sym e)
+property_lane (Deleted n) f t e = clash (sym e)
 property_lane (Element v) f t e = clash (sym e)
 
 pub named_bucket : (n o : ℕ) (f : Span → List ℕ) (t : List ℕ) (p : Option (Span × Value)) → is_named f t (Some p) ≡ true → bucket_of n f o p ≡ Some (bucket n o t)
