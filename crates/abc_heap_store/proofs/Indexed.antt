@@ -1,10 +1,9 @@
 -- The properties stay in their buckets.
-use Rattle.std.proofs.Common.{◌≡◌, ℕ, zero, suc, ◌+◌, ◌<◌, ◌≤◌, List, [], ◌∷◌, ◌++◌, Option, Some, None, length, set, get_or, map, take, drop, refl, sym, ap, ◌∙◌, subst, arith, inl, inr, length-append, length-set, replicate}
+use Rattle.std.proofs.Common.{◌≡◌, ℕ, zero, suc, ◌+◌, ◌<◌, ◌≤◌, List, [], ◌∷◌, ◌++◌, Option, Some, None, length, set, get_or, take, drop, refl, sym, ap, ◌∙◌, subst, arith, inl, inr, length-append, replicate}
 use lib.ListN.{get_or-replicate, length-replicate}
 use lib.Seq.{set-get_or}
 use Rattle.std.specs.Prelude.{slice_get}
 use Rattle.std.proofs.lemmas.List.{length-map, map-append, map-set}
-use Rattle.std.proofs.lemmas.Option.{slice_get_within}
 use Rattle.abc_heap_values.specs.Filling.{Filling}
 use Rattle.abc_heap_values.specs.Lanes.{property_in}
 use Rattle.abc_heap_values.specs.Links.{held_at, IsAdded}

@@ -1,12 +1,10 @@
 -- Runs of empty positions are joined: the objects stay.
-use Rattle.std.proofs.Common.{◌≡◌, ℕ, ◌<◌, List, Option, Some, None, length, set, refl, sym, ap, ◌∙◌, subst, arith}
+use Rattle.std.proofs.Common.{◌≡◌, ℕ, ◌<◌, List, Some, None, length, refl, sym, ap, ◌∙◌, subst, arith}
 use Rattle.std.specs.Prelude.{slice_get}
 use Rattle.abc_heap_values.specs.Filling.{Filling}
 use Rattle.abc_heap_values.specs.declared.cell.Cell.{Cell}
 use Rattle.abc_heap_values.specs.declared.cell.Held.TheVariants.{Deleted}
 use Rattle.abc_heap_values.specs.declared.cell.Lane.TheVariants.{Properties}
-use Rattle.abc_heap_values.specs.declared.values.Span.{Span}
-use Rattle.abc_heap_values.specs.declared.values.Value.{Value}
 use Rattle.abc_heap_values.specs.Lanes.{lane_of, properties, property_in}
 use Rattle.abc_heap_values.specs.Links.{links, IsAt, held_at}
 use Rattle.abc_heap_values.proofs.Parts.{slice_get_some, set_same}

@@ -1,12 +1,11 @@
 -- A walk meets each filled position, in rising order.
-use Rattle.std.proofs.Common.{◌≡◌, ℕ, zero, suc, ◌+◌, ◌<◌, Bool, true, false, List, [], ◌∷◌, Option, Some, None, length, take, drop, refl, sym, ap, ◌∙◌, arith}
-use Rattle.std.specs.Prelude.{nat_lt, if◌then◌else◌}
+use Rattle.std.proofs.Common.{◌≡◌, ℕ, zero, suc, ◌+◌, Bool, true, false, List, [], ◌∷◌, Option, Some, None, length, take, drop, refl, sym, ap, ◌∙◌, arith}
+use Rattle.std.specs.Prelude.{if◌then◌else◌}
 use Rattle.std.proofs.lemmas.Bool.{lt-ltb, le-ltb}
 use Rattle.abc_heap_values.specs.declared.values.Span.{Span}
 use Rattle.abc_heap_values.specs.declared.values.Value.{Value}
 use Rattle.abc_heap_store.specs.What.{is_array}
-use Rattle.abc_heap_store.specs.Heap.{Object}
-use Rattle.abc_heap_store.specs.Properties.{first_filled, next_filled, next_element, walked_next}
+use Rattle.abc_heap_store.specs.Properties.{first_filled, next_filled, next_element}
 use Rattle.abc_heap_store.specs.Walks.{goes_on, met, filled_above, counted_above, MeetsEachPosition}
 
 drop_on : (k : ℕ) (all ps : List (Option (Span × Value))) (p : Option (Span × Value)) → drop k all ≡ p ∷ ps → drop (k + 1) all ≡ ps

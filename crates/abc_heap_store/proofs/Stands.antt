@@ -1,5 +1,5 @@
 -- The flat lists stand for a heap, also after a call.
-use Rattle.std.proofs.Common.{◌≡◌, ℕ, ◌+◌, ◌<◌, ◌≤◌, ◌^◌, true, List, [], Option, Some, None, length, replicate, set, get_or, refl, sym, ap, ◌∙◌, subst, arith}
+use Rattle.std.proofs.Common.{◌≡◌, ℕ, ◌<◌, ◌^◌, true, List, [], Option, Some, None, length, replicate, set, get_or, refl, sym, ap, ◌∙◌, subst, arith}
 use Rattle.std.specs.Prelude.{slice_get, is_some}
 use Rattle.abc_heap_values.specs.Filling.{Filling}
 use Rattle.abc_heap_values.specs.declared.cell.Cell.{Cell}

@@ -1,4 +1,4 @@
-use Rattle.std.proofs.Common.{◌≡◌, ◌∙◌, sym, subst, arith}
+use Rattle.std.proofs.Common.{◌∙◌, sym, subst}
 use Rattle.abc_heap_store.specs.Gaps.{AreEmpty}
 use Rattle.abc_heap_store.specs.Heap.{properties_of}
 use Rattle.abc_heap_store.specs.View.{objects}

@@ -1,5 +1,5 @@
-use Rattle.std.proofs.Common.{◌≡◌, ◌<◌, ap, length, sym, subst, arith}
-use Rattle.abc_heap_store.specs.Heap.{Object, properties_of}
+use Rattle.std.proofs.Common.{ap, length, arith}
+use Rattle.abc_heap_store.specs.Heap.{properties_of}
 use Rattle.abc_heap_store.proofs.Joins.{same_self, same_then}
 use Rattle.abc_heap_store.proofs.empties.join_around.Goals as goal
 
