@@ -15,4 +15,4 @@ pub use abc_verify::Verified;
 pub use answer::replay;
 pub use error::{ReplayError, ReplayReason};
 pub use laws::one_replay;
-pub use reading::{Preface, error_at, read_preface};
+pub use reading::{Preface, error_at, read_file, read_preface};
