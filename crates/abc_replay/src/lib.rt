@@ -14,3 +14,4 @@ pub use abc_log::{Compare, Part, Verdict};
 pub use answer::replay;
 pub use error::{ReplayError, ReplayReason};
 pub use laws::one_replay;
+pub use reading::read_file;
