@@ -104,8 +104,17 @@ once_first walks states work none = record { place = 0; behind = λ i h. omega a
 pub known_first : (p : LinkedFile) (m : Routine) (states : List (Option State)) (work : List ℕ) → 0 < length m.code → states ≡ set (replicate (length m.code) None) 0 (Some (entry m)) → IsAdded 0 [] work → AllKnown states work
 known_first p m states work some e added i h = (entry m, go (added.only i h))
   where
+    blank : List (Option State)
+    blank = replicate (length m.code) None
+
+    long : length blank ≡ length m.code
+    long = length-replicate (length m.code) None
+
+    inside : 0 < length blank
+    inside = omega (arith, long, some)
+
     go : (i ≡ 0) ⊎ In i [] → at states i ≡ Some (entry m)
-    go (inl q) = ap (at states) q ∙ ap (λ (xs : List (Option State)). at xs 0) e ∙ at-set_same (replicate (length m.code) None) 0 (Some (entry m)) (let long = length-replicate {X = Option State} (length m.code) None in omega (arith, long, some))
+    go (inl q) = ap (at states) q ∙ ap (λ (xs : List (Option State)). at xs 0) e ∙ at-set_same (replicate (length m.code) None) 0 (Some (entry m)) inside
     go (inr k) = absurd k
 
 module _ (p : LinkedFile) (m : Routine) (heads : List Bool) (place : ℕ) (a c : List (Option State)) (old v w : List ℕ) where

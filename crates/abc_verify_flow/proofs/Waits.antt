@@ -1,5 +1,6 @@
 -- Places that wait for a walk, and lists of nothing.
 use Rattle.std.proofs.Common.{◌≡◌, ◌<◌, ◌≤◌, ℕ, suc, List, [], ◌∷◌, length, refl, sym, subst, arith, ◌⊎◌, inl, inr}
+use Rattle.std.specs.Prelude.{Option, Some, None, IfSome, IsSome, MatchOption, ◌↔◌}
 use Rattle.std.specs.BTreeSet.{insert_key}
 use Rattle.std.specs.BTreeMap.Range.{IsLtBy}
 use Rattle.std.specs.List.{All}
@@ -73,6 +74,10 @@ pub nothing : {X : Type 0} (xs : List X) → length xs ≡ 0 → [] ≡ xs
 nothing [] e = refl
 nothing (x ∷ xs) e = absurd (omega arith)
 
-pub none_waits : (xs : List ℕ) → (0 < length xs → ⊥) → xs ≡ []
+none_waits : (xs : List ℕ) → (0 < length xs → ⊥) → xs ≡ []
 none_waits [] h = refl
 none_waits (x ∷ xs) h = absurd (h (omega arith))
+
+pub popped : (r : Option ℕ) (xs ys : List ℕ) → IfSome r (λ k. xs ≡ k ∷ ys) → IfSome r (λ k. All (IsLtBy nat_cmp k) ys) → (IsSome r ↔ (0 < length xs)) → MatchOption r (xs ≡ []) (λ k. IsTaken k xs ys)
+popped (Some k) xs ys e above some = taken k xs ys e above
+popped None xs ys e above some = none_waits xs (λ lt. let z : IsSome {T = ℕ} None = some.1 lt in absurd cc)

@@ -49,13 +49,10 @@ impl Waiting {
     }
 
     /// Takes the lowest place and wipes its mark, or answers `None` where no place waits.
-    #[tactic(auto, using(crate::proofs::Waits::taken, crate::proofs::Waits::none_waits))]
+    #[tactic(auto, using(crate::proofs::Waits::popped))]
     pub(crate) fn pop(&mut self) -> Option<u32>
         ensures { MatchOption result (self.old ≡ []) (λ place. IsTaken place self.old self.new) }
     {
-        match self.marked.pop_first() {
-            Some(place) => Some(place),
-            None => None,
-        }
+        self.marked.pop_first()
     }
 }
