@@ -24,5 +24,7 @@ pub use abc_meaning::Thrown;
 pub use abc_objects::OpenError;
 pub use ending::thrown_name;
 pub use ends::End;
+pub use logging::step_logged;
 pub use machine::Machine;
 pub use replies::{PlainValue, Reply};
+pub use stepping::step;
