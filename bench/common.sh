@@ -2,7 +2,7 @@
 # this repository, and RUNS how many runs there are of each program, where it is not five.
 here=$(cd "$(dirname "${BASH_SOURCE[0]}")" && pwd)
 folder=${1:-/tmp/abc-bench}
-abc=${ABC:-$here/../crates/abc/out/abc}
+abc=${ABC:-$here/../crates/abc/out/program}
 peer=$folder/target/release/baseline
 # As bin/abc does it, for both programs.
 export GLIBC_TUNABLES="glibc.malloc.hugetlb=1${GLIBC_TUNABLES:+:$GLIBC_TUNABLES}"

@@ -33,6 +33,18 @@ def cases():
     yield ["run", "--fuel=6"], hello
     yield ["run", "--frames=0"], hello
     yield ["run"], hello.replace(b"trace", b"trac3")
+    ticks, log = example("ticks.abc"), example("ticks.log")
+    yield ["calls", "--times=3"], ticks
+    yield ["calls"], hello
+    yield ["calls", "--fuel=3"], ticks
+    yield ["log"], hello
+    yield ["log", "--fuel=3"], hello
+    yield ["log", "--objects=0"], hello
+    yield ["log"], hello.replace(b"trace", b"trac3")
+    yield ["replay"], log
+    yield ["replay"], log[:-4]
+    yield ["replay"], log.replace(b"end Done", b"end Gone")
+    yield ["replay"], hello
 
 
 class Runs:

@@ -12,7 +12,6 @@ and KIND_half.abc, of 8,388,608; from `tiny` on they have at most so many:
   compiled     classes with methods, as a compiler writes them: the file links and is verified
   tiny         2^20 bodies of one instruction
   chain        2^18 classes, each with the next one as its base
-  ladder       11 classes in a chain, each with 1000 slots
   interfaces   2^18 edges among 65 rows of 64 interfaces
   traits       2^20 slots of one class, each with a number
   one_text     2^20 slots of one text in as many namespaces
@@ -34,6 +33,8 @@ These are texts, KIND.abcasm and KIND_half.abcasm, and have any size:
   comment      2^28 bytes, of which the second line has all but a few
   loop_locals, loop_calls, loop_properties, loop_arrays
                programs that go around one loop five or ten million times
+  load_elements, load_properties, load_names
+               a million elements of an array, 400,000 properties of one object, and two million reads of names ten classes up
   generated    the program of `gen --methods=10000`, that of the half file with 5000
 FOLDER/huge gets small files, each of which claims 2^30 - 1 entries of one table and then ends.
 """
@@ -61,7 +62,6 @@ MAKERS = {
     "compiled": compiling.compiled,
     "tiny": bodies.tiny_bodies,
     "chain": linking.chain,
-    "ladder": linking.ladder,
     "interfaces": linking.interfaces,
     "traits": linking.traits,
     "one_text": linking.one_text,
@@ -84,9 +84,12 @@ MAKERS = {
     "loop_calls": running.loop_calls,
     "loop_properties": running.loop_properties,
     "loop_arrays": running.loop_arrays,
+    "load_elements": running.load_elements,
+    "load_properties": running.load_properties,
+    "load_names": running.load_names,
     "generated": running.generated,
 }
-RUNS = ("loop_locals", "loop_calls", "loop_properties", "loop_arrays", "generated")
+RUNS = ("loop_locals", "loop_calls", "loop_properties", "loop_arrays", "load_elements", "load_properties", "load_names", "generated")
 TEXTS = ("labels", "renewed", "long", "comment", *RUNS)
 HUGE = "ff ff ff ff 03"
 # The bytes between the version and the huge count.

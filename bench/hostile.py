@@ -2,7 +2,7 @@
 """Runs every command on inputs that want to hurt, and tells status, time and memory of each.
 
 Use: hostile.py PROGRAM FOLDER [--seconds 60] [--only WORD ..]. The inputs are made in the folder: those of files.py and those of
-hurting.py; listings of the files are assembled again. Programs that end at a limit are run with the greatest limits too. A run that is
+hurting.py; listings of the files are assembled again, and logs replayed. Programs that end at a limit are run with the greatest limits too. A run that is
 stopped by a signal, that lasts longer than so many seconds, that finds no memory where it may take 4 * 10^9 bytes (or does find it,
 where it is to say that there is none), or takes more than 2 * 10^9 at the default limits is told at the end, and makes the status 1.
 """
@@ -23,7 +23,8 @@ OF_FILES = ("canon", "dis", "check", "tidy")
 ROOMS = ("objects", "cells", "text", "frames", "stack")
 GREATEST = ["run", "--fuel=4294967295", *(f"--{room}=16777216" for room in ROOMS)]
 # These end with their fuel, or are done.
-WITHOUT_LIMIT = ("throws", "lines", "missing", "scripts")
+WITHOUT_LIMIT = ("throws", "lines", "missing", "scripts", "emptied")
+LOGGED = ["log", "--fuel=1000000"]
 ROOM, MOST, NO_MEMORY = 4 * 10**9, 2 * 10**9, 9
 LINE = "{:20} {:12} {:>6} {:>8} {:>8} {:>8}"
 
@@ -68,6 +69,8 @@ class Inputs:
         for name, text in hurting.RUNS.items():
             greatest = [] if name in WITHOUT_LIMIT else [GREATEST]
             yield "run_" + name, lambda: self.assembled("run_" + name, text), [["check"], ["run"], *greatest]
+        yield "log_lines", lambda: self.assembled("run_lines", hurting.RUNS["lines"]), [LOGGED]
+        yield "claim", lambda: self.write("claim.log", lambda: b"ffffffff\n" + bytes(500_000_000)), [["replay"]]
         yield "gen", lambda: os.devnull, [["gen", "--methods=10000"]]
 
 
@@ -105,18 +108,20 @@ def main():
     parser.add_argument("--only", nargs="*", default=[])
     given = parser.parse_args()
     os.makedirs(given.folder, exist_ok=True)
-    table, listing = Table(given.program, given.seconds), os.path.join(given.folder, "listing")
+    table, kept = Table(given.program, given.seconds), os.path.join(given.folder, "kept")
     print(LINE.format("input", "", "status", "clock s", "cpu s", "MB"))
     for name, make, all_words in Inputs(given.program, given.folder).all():
         if given.only and name not in given.only:
             continue
         path = make()
         for words in all_words:
-            listed = words == ["dis"]
-            if table.add(name, words, path, listing if listed else os.devnull) == 0 and listed:
-                table.add(name, ["asm"], listing)
-    if os.path.exists(listing):
-        os.remove(listing)
+            # What is read again, and by which command.
+            again = {"dis": "asm", "log": "replay"}.get(words[0])
+            status = table.add(name, words, path, kept if again else os.devnull)
+            if again and (status == 0 or again == "replay"):
+                table.add(name, [again], kept)
+    if os.path.exists(kept):
+        os.remove(kept)
     if table.bad:
         sys.exit("too long, too large, no memory, or stopped: " + ", ".join(table.bad))
 

@@ -1,11 +1,12 @@
 """Programs that want to hurt: each makes as much of one thing as the limits of a run allow, or makes the verifier work as much as
 the bytes of a file can. As assembly texts and as files."""
-from linking import INTERFACE, METHOD, PRIVATE, body, class_file, qname
+from linking import INTERFACE, METHOD, PACKAGE, PRIVATE, body, class_file, qname
 from spelling import HEAD, SIZE, counted, number, pool, text as spelled
 from statements import distance
 from verifying import body as body_of, exception, of_bodies
 
 CODE = (1 << 23) - 1
+PUBLIC = PACKAGE + b"\0"
 LAST = b"\x47"
 
 
@@ -51,6 +52,11 @@ RUNS = {
     "throws": throwing(),
     "lines": text(LOOP.format("findpropstrict 1; pushstring 1; callpropvoid 1 1")),
     "missing": text(LOOP.format("findproperty 2; pop")),
+    # A property is made and deleted 900,000 times, and then the next one after position 0 is asked for eleven times.
+    "emptied": text(
+        "newobject 0; setlocal_1; pushint 1; setlocal_2; Fill:; label; getlocal_1; pushnull; setproperty 2; getlocal_1; deleteproperty 2; pop; declocal_i 2; "
+        "getlocal_2; pushbyte 0; ifgt Fill; pushbyte 11; setlocal_2; Ask:; label; getlocal_1; pushbyte 0; hasnext; pop; declocal_i 2; getlocal_2; pushbyte 0; ifgt Ask; returnvoid"
+    ).replace("abc 16 46\n", "abc 16 46\nint 900000\n", 1),
 }
 
 
@@ -227,6 +233,128 @@ def wide_interfaces(count=2000):
     return class_file([0] * len(named), INTERFACE, named)
 
 
+def chain_code(classes, code, locals_=2, exceptions=()):
+    """A chain of classes, each with the next as its base, and a script with this code."""
+    bases = [n + 2 for n in range(classes - 1)] + [0]
+    method = 2 * classes
+    return class_file(bases, 0, [[]] * classes, code=body_of(method, 1, locals_, code, exceptions))
+
+
+def as_class(n):
+    """Makes local 1 null, of the n-th class."""
+    return b"\x20\x80" + number(n + 1) + b"\xd5"
+
+
+def back_to_one(classes, head):
+    """A chain of classes, and a head of so many instructions that is led to with each class in turn: it is walked from each time."""
+    code = b"\x10" + distance(len(head) + 1) + head + LAST
+    for n in range(classes):
+        code += as_class(n) + b"\x26\x11"
+        code += distance(4 - (len(code) + 3)) + NEXT
+    return code + LAST
+
+
+def one_head(classes=1000, length=200_000):
+    return chain_code(classes, back_to_one(classes, b"\x02" * length))
+
+
+def one_head_handled(classes=1000, handlers=1 << 16):
+    """The same, with a short head that so many handlers cover."""
+    target = b"\x29" + LAST
+    code = back_to_one(classes, b"\x02\x02" + LAST + target)
+    return chain_code(classes, code, exceptions=[exception(4, 7, 7)] * handlers)
+
+
+def led_to(before, rounds, heads, length):
+    """Code that leads to each of the heads in each round, forward alone, after what `before` makes of the round's number; a head is so many
+    instructions."""
+    unit, parts = length // heads, [before(n) for n in range(rounds)]
+    lead = sum(map(len, parts)) + 5 * heads * rounds + 1
+    starts, code = [lead + n * (unit + 1) for n in range(heads)], bytearray()
+    for part in parts:
+        code += part
+        for start in starts:
+            code += b"\x26\x11" + distance(start - (len(code) + 5))
+    return bytes(code) + LAST + (b"\x02" * unit + LAST) * heads
+
+
+def heads_by_class(classes=1000, length=200_000, heads=16):
+    """Heads that are led to with each class of a chain in turn, and nothing leads back."""
+    return chain_code(classes, led_to(as_class, classes, heads, length))
+
+
+def heads_by_local(count=1000, length=200_000, heads=16):
+    """The same without classes: one local after the other becomes a truth value before all heads are led to again."""
+    return of_bodies((count + 1, led_to(lambda n: b"\x26\x63" + number(n + 1), count, heads, length), []))
+
+
+def local_heads(count=1030):
+    """65,535 locals and so many branches, each to the next place."""
+    return of_bodies((65535, b"\x26\x11\0\0\0" * count + LAST, []))
+
+
+def near_all_bounds(sets=59_000, size=127, classes=5700, handlers=1 << 19, locals_=120, heads=540_000):
+    """Many sets of names, classes in a chain with a slot each, interfaces in a chain, handlers and heads with locals: each near the bound
+    beyond which memory is said to have run out."""
+    total = 2 * classes
+    pools = pool([spelled(b"%x" % n) for n in range(total)]) + pool([PUBLIC] + [b"\x08" + number(n + 1) for n in range(size)])
+    pools += pool([set_of(2, size - 1)] * sets) + pool([qname(1, n + 1) for n in range(total)])
+    instances = []
+    for n in range(classes):
+        instances.append(number(n + 1) + number(n + 2 if n + 1 < classes else 0) + b"\0\0" + number(2 * n) + b"\1\1\0\0\0\0")
+    for n in range(classes, total):
+        instances.append(number(n + 1) + b"\0\4" + (b"\1" + number(n + 2) if n + 1 < total else b"\0") + number(2 * n) + b"\0")
+    parts = counted(instances) + b"".join(number(2 * n + 1) + b"\0" for n in range(total)) + counted([number(2 * total) + b"\0"])
+    bodies = [body(of) for of in range(2 * total) if of % 2 or of < 2 * classes]
+    code = NEXT * heads
+    exceptions = [exception(4 * n, 4 * n + 4, len(code) + 1) for n in range(handlers)]
+    bodies.append(body_of(2 * total, 1, locals_, code + LAST + b"\x29" + LAST, exceptions))
+    made = HEAD + bytes(3) + pools + counted([METHOD] * (2 * total + 1)) + b"\0" + parts + counted(bodies)
+    assert len(made) <= SIZE, len(made)
+    return made
+
+
+def small_script(pools, methods=1):
+    """A file of pools and of so many methods, whose script has the first."""
+    made = HEAD + pools + counted([METHOD] * methods) + b"\0\0" + counted([b"\0\0"]) + counted([body(0)])
+    assert len(made) <= SIZE, len(made)
+    return made
+
+
+def many_scripts(count=860_000):
+    """As many scripts, each with an initializer that has an activation: two layouts for some 19 bytes."""
+    bodies = [number(n) + b"\0\1\0\0\1\x47\0\0" for n in range(count)]
+    made = HEAD + bytes(7) + counted([b"\0\0\0\2"] * count) + b"\0\0" + counted([number(n) + b"\0" for n in range(count)]) + counted(bodies)
+    assert len(made) <= SIZE, len(made)
+    return made
+
+
+def wide_sets(size=127, count=130_000):
+    """Sets of so many namespaces each."""
+    strings = pool([spelled(b"%x" % n) for n in range(size)])
+    return small_script(bytes(3) + strings + pool([b"\x08" + number(n + 1) for n in range(size)]) + pool([set_of(1, size)] * count) + b"\0")
+
+
+def bare_names(count=16_700_000):
+    return small_script(bytes(6) + number(count + 1) + b"\x11" * count)
+
+
+def empty_strings(count=16_700_000):
+    return small_script(bytes(3) + number(count + 1) + bytes(count + 3))
+
+
+def empty_sets(count=16_700_000):
+    return small_script(bytes(5) + number(count + 1) + bytes(count + 1))
+
+
+def bare_methods(count=4_180_000):
+    return small_script(bytes(7), count)
+
+
+def two_long_bodies():
+    return of_bodies((1, b"\x02" * (CODE - 200) + LAST, []), (1, b"\x02" * (CODE - 300) + LAST, []))
+
+
 FILES = {
     "nops": nops,
     "to_one_place": to_one_place,
@@ -248,9 +376,22 @@ FILES = {
     "many_handlers": many_handlers,
     "supers": supers,
     "wide_interfaces": wide_interfaces,
+    "one_head": one_head,
+    "one_head_handled": one_head_handled,
+    "heads_by_class": heads_by_class,
+    "heads_by_local": heads_by_local,
+    "local_heads": local_heads,
+    "near_all_bounds": near_all_bounds,
+    "many_scripts": many_scripts,
+    "wide_sets": wide_sets,
+    "bare_names": bare_names,
+    "empty_strings": empty_strings,
+    "empty_sets": empty_sets,
+    "bare_methods": bare_methods,
+    "two_long_bodies": two_long_bodies,
 }
 # `check` answers that memory ran out, since more would be made than is made of a file.
-TOO_MUCH = ("states", "scope_states", "told_states", "many_handlers", "wide_interfaces")
+TOO_MUCH = ("states", "scope_states", "told_states", "many_handlers", "wide_interfaces", "local_heads", "long_slot_chain")
 
 
 def linked(strings, names, methods, items, bodies):
@@ -280,4 +421,4 @@ def slot_chain(count=1 << 12):
     return linked(strings, public(2 * count), ["method 0 0 0"] * (2 * count + 1), items, range(2 * count + 1))
 
 
-LINKED = {"interface_chain": interface_chain, "slot_chain": slot_chain}
+LINKED = {"interface_chain": interface_chain, "slot_chain": slot_chain, "long_slot_chain": lambda: slot_chain(5900)}

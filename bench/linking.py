@@ -54,23 +54,6 @@ def chain(rng, size):
     return class_file(bases, 0, [[]] * count)
 
 
-def ladder(rng, size):
-    """Eleven classes, each with the one before it as its base and with 1000 slots of texts of its own, which are the first
-    strings in the order of the classes."""
-    steps, own = 11, 1000 * size // SIZE
-    texts = steps * own
-    strings = [text(b"t%x" % n) for n in range(texts)] + [text(b"c%x" % n) for n in range(steps)]
-    names = [qname(1, n + 1) for n in range(len(strings))]
-    instances = []
-    for n in range(steps):
-        traits = [slot(n * own + k + 1, 0) for k in range(own)]
-        base = texts + n if n else 0
-        instances.append(number(texts + n + 1) + number(base) + b"\0\0" + number(2 * n) + counted(traits))
-    classes = [number(2 * n + 1) + b"\0" for n in range(steps)]
-    methods = 2 * steps + 1
-    return program(strings, [PACKAGE + b"\0"], names, methods, instances, classes, [], [body(of) for of in range(methods)])
-
-
 def interfaces(rng, size):
     """65 rows of 64 interfaces, each of which names all of the next row: 2^18 edges, and 64^64 ways through them."""
     width, rows = 64, 64 * size // SIZE + 1

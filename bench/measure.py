@@ -8,7 +8,7 @@ Of so many runs each the best time counts: that on the clock, and that of the pr
 disturbs less. Growth is the time of a whole file by that of the half one. The peak of memory comes from one more run under
 GNU time: what the system tells of a direct child counts the memory of this script too. All answers have the status that
 --status says. With --beside the processor's times are also told by those of that program, whose answers are its own. Files that are
-refused are told by their peak alone. With --alone, and where the program's command isn't built yet, the peer is measured alone.
+refused are told by their peak alone. With --alone the peer is measured alone.
 """
 import argparse
 import hashlib
@@ -19,7 +19,6 @@ import tempfile
 import time
 
 GNU_TIME = "/usr/bin/time"
-NOT_BUILT = 11
 
 
 def peak(words, path):
@@ -49,11 +48,6 @@ class Best:
             self.answers.add((child.returncode, hashlib.file_digest(out, "sha256").hexdigest(), err.read()))
 
 
-def is_built(words):
-    """Whether the program's command is built: one that isn't says so whatever the input is."""
-    return subprocess.run(words, stdin=subprocess.DEVNULL, capture_output=True).returncode != NOT_BUILT
-
-
 def compare(programs, path, wanted, runs):
     """The best of each program on a file; all runs have to give the same answer, with the wanted status."""
     bests = [Best() for _ in programs]
@@ -81,8 +75,8 @@ class Table:
     def __init__(self, given):
         self.given = given
         self.programs = [given.ours.split(), given.peer.split()]
-        if given.alone or not is_built(self.programs[0]):
-            print(f"{given.ours}: not built, so these are figures of the peer alone")
+        if given.alone:
+            print("Figures of the peer alone:")
             del self.programs[0]
 
     def head(self):

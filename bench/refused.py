@@ -32,8 +32,12 @@ def cases(program):
     for text in texts():
         yield ["asm"], text
         file = subprocess.run([program, "asm"], input=text, stdout=subprocess.PIPE, check=True).stdout
-        for command in ("canon", "dis", "check", "tidy", "run"):
+        for command in ("canon", "dis", "check", "tidy", "run", "calls", "log"):
             yield [command], file
+        log = subprocess.run([program, "log"], input=file, capture_output=True).stdout
+        # Of a file that is refused there is none.
+        if log:
+            yield ["replay"], log
     yield ["gen", "--methods=4"], b""
 
 

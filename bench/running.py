@@ -1,4 +1,4 @@
-"""Texts of programs that run long: loops, and the program of `gen`. A size is that of files.py: the whole file has the greatest."""
+"""Texts of programs that run long: loops, loads, and the program of `gen`. A size is that of files.py: the whole file has the greatest."""
 from spelling import SIZE
 
 HEAD = '''abc 16 46
@@ -83,6 +83,50 @@ def loop_arrays(rng, size):
     )
     last = "getlocal_1\npushbyte 7\ngetproperty 5\nconvert_i\nsetlocal_1\n"
     return program(rounds_of(size, 5_000_000), first, each, last).replace(b"body 0 4 4 0 1", b"body 0 8 4 0 1")
+
+
+def load_elements(rng, size):
+    """Adds a million elements to an array, and reads each once, far from the one before."""
+    count = rounds_of(size, 1_000_000)
+    first = "newarray 0\nsetlocal_1\n" + loop(count, "", "getlocal_1\ngetlocal_2\ngetlocal_2\nsetproperty 5\n").replace("Next", "Added")
+    first += "pushbyte 0\nsetlocal 4\n"
+    each = (
+        "getlocal_1\ngetlocal_3\ngetproperty 5\ngetlocal 4\nadd_i\nsetlocal 4\n"
+        "getlocal_3\npushshort 7919\nadd_i\npushint 1\nmodulo\nconvert_i\nsetlocal_3\n"
+    )
+    last = "getlocal 4\nsetlocal_1\n"
+    return program(count, first + "pushbyte 0\nsetlocal_3\n", each, last).replace(b"body 0 4 4 0 1", b"body 0 4 5 0 1")
+
+
+def load_properties(rng, size):
+    """Gives one object 400,000 properties, named by numbers, and reads each once."""
+    first = "newobject 0\nsetlocal_1\n" + loop(0, "", "getlocal_1\ngetlocal_2\ngetlocal_2\nsetproperty 5\n").replace("Next", "Added")
+    each = "getlocal_1\ngetlocal_2\ngetproperty 5\ngetlocal_3\nadd_i\nsetlocal_3\n"
+    return program(rounds_of(size, 400_000), first + "pushbyte 0\nsetlocal_3\n", each, "getlocal_3\nsetlocal_1\n")
+
+
+def load_names(rng, size):
+    """Reads names of the first of eleven classes in a chain on an instance of the last, a hundred a round. Each class has 1000 slots of
+    texts of its own."""
+    steps, own, looked, rounds = 11, 1000, 100, rounds_of(size, 20_000)
+    slots = [f"t{n:x}" for n in range(steps * own)]
+    lines = ["abc 16 46", f"int {rounds}", *(f"int {n}" for n in range(own)), 'string "trace"', 'string "int"']
+    lines += [f'string "{text}"' for text in slots] + [f'string "c{n}"' for n in range(steps)] + ["ns Package 0"]
+    # Names of slots from 3 on, and behind them those of classes.
+    lines += [f"name QName 1 {n + 1}" for n in range(2 + len(slots) + steps)]
+    lines += ["method 0 0 0"] * (2 * steps + 1)
+    for n in range(steps):
+        base = 3 + len(slots) + n
+        lines += [f"instance {base} {base - 1 if n else 0} 0", f"iinit {2 * n}"]
+        lines += [f"trait slot 0 {3 + n * own + k} 0 2 {k + 2} Int" for k in range(own)]
+    lines += [f"class {2 * n + 1}" for n in range(steps)] + [f"script {2 * steps}"]
+    lines += [f"body {n} 1 1 0 0\nreturnvoid" for n in range(2 * steps)]
+    lines += [f"body {2 * steps} 2 4 0 1", "getlocal_0", "pushscope", "pushnull"] + [f"newclass {n}" for n in range(steps)]
+    lines += ["construct 0", "setlocal_3", "pushbyte 0", "setlocal_1", "pushbyte 0", "setlocal_2", "Next:", "label"]
+    for k in range(looked):
+        lines += ["getlocal_3", f"getproperty {3 + k * 7919 % own}", "getlocal_1", "add_i", "setlocal_1"]
+    lines += ["inclocal_i 2", "getlocal_2", "pushint 1", "iflt Next"]
+    return ("\n".join(lines) + "\n" + END).encode()
 
 
 def generated(rng, size):

@@ -24,11 +24,14 @@ pub enum What {
     /// What writes its arguments.
     Trace,
     Array,
+    /// The object of a class, and an instance of one.
+    Class(u32),
+    Instance(u32),
 }
 
 pub struct Object {
     pub what: What,
-    /// Those of a global object, by the places of its traits.
+    /// Those of a global object or an instance, by the places of their traits; of a class its prototype.
     pub slots: Vec<Value>,
     /// Own properties by the numbers of their texts.
     pub own: Map<u32, Value>,
@@ -96,7 +99,7 @@ impl Heap {
         Ok(())
     }
 
-    fn take_cells(&mut self, count: usize) -> Room<()> {
+    pub fn take_cells(&mut self, count: usize) -> Room<()> {
         self.cells += count;
         if self.cells > self.limits.cells {
             return Err("Cells");

@@ -35,8 +35,22 @@ struct Frame {
     /// Where its locals begin, and its scopes.
     base: usize,
     scopes: usize,
-    /// Whether its caller wants what it returns.
-    is_wanted: bool,
+    wait: Wait,
+}
+
+/// What its caller wants of a frame: nothing, what it returns, or its receiver.
+#[derive(Clone, Copy)]
+enum Wait {
+    Drop,
+    Push,
+    Receiver,
+}
+
+/// The slots of a class's instances: the place of each own one by its text, and what all start as, those of its base first.
+struct Class {
+    base: Option<u32>,
+    places: Map<u32, u32>,
+    starts: Vec<Value>,
 }
 
 /// A name that an instruction has, its text by number: none where it is on the stack.
@@ -63,6 +77,7 @@ struct Machine<'a, W> {
     names: Vec<Option<Wanted>>,
     /// By script and text.
     traits: Map<(u32, u32), Own>,
+    classes: Vec<Class>,
     length: u32,
     host: u32,
     stack: Vec<Value>,
@@ -111,6 +126,7 @@ impl<'a, W: Write> Machine<'a, W> {
             names: vec![None; file.names.len() + 1],
             texts,
             traits: Map::default(),
+            classes: Vec::new(),
             length,
             host: 0,
             stack: Vec::new(),
@@ -121,11 +137,12 @@ impl<'a, W: Write> Machine<'a, W> {
                 at: 0,
                 base: 0,
                 scopes: 0,
-                is_wanted: false,
+                wait: Wait::Drop,
             },
             kept: 0,
         };
         machine.add_names();
+        machine.add_classes()?;
         machine.add_objects()?;
         Ok(machine)
     }
@@ -162,6 +179,49 @@ impl<'a, W: Write> Machine<'a, W> {
         }
     }
 
+    /// The text of a qualified name.
+    fn qualified(&self, name: u32) -> Option<u32> {
+        match entry(&self.linked.file.names, name)?.name {
+            Name::Qualified { name, .. } => Some(self.texts[name as usize]),
+            _ => None,
+        }
+    }
+
+    /// The classes, of which each stands behind its base.
+    fn add_classes(&mut self) -> Stepped<()> {
+        let mut numbers = Map::default();
+        for (one, n) in self.linked.file.instances.iter().zip(0..) {
+            let base = match one.base {
+                0 => None,
+                name => {
+                    let text = self.qualified(name).ok_or(UNKNOWN_NAME)?;
+                    Some(*numbers.get(&text).ok_or(UNKNOWN_NAME)?)
+                }
+            };
+            let mut class = Class {
+                base,
+                places: Map::default(),
+                starts: base.map_or(Vec::new(), |base| {
+                    let base: &Class = &self.classes[base as usize];
+                    base.starts.clone()
+                }),
+            };
+            for slot in one.traits.iter().filter(|one| one.is_slot()) {
+                let text = self.qualified(slot.name).ok_or(UNKNOWN_NAME)?;
+                class.places.insert(text, class.starts.len() as u32);
+                class.starts.push(match slot.value {
+                    crate::value::Value { index, kind: 0x03 } if index > 0 => Value::Number(
+                        i64::from(self.linked.file.ints[index as usize - 1] as i32),
+                    ),
+                    _ => Value::Undefined,
+                });
+            }
+            numbers.insert(self.qualified(one.name).ok_or(UNKNOWN_NAME)?, n);
+            self.classes.push(class);
+        }
+        Ok(())
+    }
+
     /// The objects of the opening: those of the host that programs of benchmarks don't name stand for all others.
     fn add_objects(&mut self) -> Room<()> {
         for _ in 0..28 {
@@ -177,12 +237,8 @@ impl<'a, W: Write> Machine<'a, W> {
         for (script, n) in self.linked.file.scripts.iter().zip(0..) {
             let mut slots = Vec::new();
             for one in &script.traits {
-                let text = match entry(&self.linked.file.names, one.name) {
-                    Some(Multiname {
-                        name: Name::Qualified { name, .. },
-                        ..
-                    }) => self.texts[*name as usize],
-                    _ => continue,
+                let Some(text) = self.qualified(one.name) else {
+                    continue;
                 };
                 let own = if one.is_slot() {
                     slots.push(Value::Undefined);
@@ -206,7 +262,7 @@ impl<'a, W: Write> Machine<'a, W> {
         let script = self.linked.file.scripts.len() as u32 - 1;
         self.stack.push(Value::Object(self.global(script)));
         let init = self.linked.file.scripts[script as usize].init;
-        self.enter(init, 0, false)
+        self.enter(init, 0, Wait::Drop)
     }
 
     #[inline(always)]
@@ -219,7 +275,7 @@ impl<'a, W: Write> Machine<'a, W> {
     }
 
     /// Enters a method, whose receiver and arguments are the topmost values.
-    fn enter(&mut self, method: u32, count: usize, is_wanted: bool) -> Stepped<()> {
+    fn enter(&mut self, method: u32, count: usize, wait: Wait) -> Stepped<()> {
         let one = &self.linked.file.methods[method as usize];
         if one.flags & (NEEDS_ARGUMENTS | NEEDS_REST | HAS_OPTIONS) != 0 {
             return Err(UNKNOWN_NAME);
@@ -251,7 +307,7 @@ impl<'a, W: Write> Machine<'a, W> {
             at: 0,
             base,
             scopes: self.scopes.len(),
-            is_wanted,
+            wait,
         };
         Ok(())
     }
@@ -266,11 +322,15 @@ impl<'a, W: Write> Machine<'a, W> {
         let result = self.linked.file.methods[body.method as usize].result;
         let value = self.coerced(value, result)?;
         self.kept -= Self::keeps(body);
-        self.stack.truncate(self.now.base);
-        self.scopes.truncate(self.now.scopes);
-        if self.now.is_wanted {
-            self.stack.push(value);
+        match self.now.wait {
+            Wait::Drop => self.stack.truncate(self.now.base),
+            Wait::Push => {
+                self.stack.truncate(self.now.base);
+                self.stack.push(value);
+            }
+            Wait::Receiver => self.stack.truncate(self.now.base + 1),
         }
+        self.scopes.truncate(self.now.scopes);
         self.now = self.frames.pop().expect("a frame is under it");
         Ok(self.frames.is_empty())
     }
@@ -465,6 +525,8 @@ impl<W: Write> Machine<'_, W> {
             0x66 => self.read(one.first)?,
             0x61 | 0x68 => self.write(one.first)?,
             0x46 | 0x4f => self.call(one)?,
+            0x42 => self.construct(one.first as usize)?,
+            0x58 => self.new_class(one.first)?,
             opcode => return Err(End::Unknown(opcode)),
         }
         Ok(false)
@@ -631,6 +693,16 @@ impl<W: Write> Machine<'_, W> {
                 None => {}
             }
         }
+        if let What::Instance(class) = one.what {
+            let mut above = Some(class);
+            while let Some(class) = above {
+                let class = &self.classes[class as usize];
+                if let Some(&slot) = class.places.get(&text) {
+                    return Found::Slot(object, slot);
+                }
+                above = class.base;
+            }
+        }
         if one.what == What::Array && text == self.length {
             return Found::Value(Value::Number(one.elements.len() as i64));
         }
@@ -732,21 +804,21 @@ impl<W: Write> Machine<'_, W> {
         let count = one.second as usize;
         let wanted = self.names[one.first as usize].ok_or(UNKNOWN_NAME)?;
         let text = wanted.text.ok_or(UNKNOWN_NAME)?;
-        let is_wanted = one.opcode == 0x46;
+        let wait = if one.opcode == 0x46 { Wait::Push } else { Wait::Drop };
         let Value::Object(object) = self.stack[self.stack.len() - count - 1] else {
             return Err(End::Uncaught("TypeError"));
         };
         match self.found(object, text) {
-            Found::Method(method) => self.enter(method, count, is_wanted),
+            Found::Method(method) => self.enter(method, count, wait),
             found => {
                 let value = self.value_of(found)?;
-                self.call_value(value, count, is_wanted)
+                self.call_value(value, count, wait)
             }
         }
     }
 
     /// Of all values only `trace` can be called.
-    fn call_value(&mut self, value: Value, count: usize, is_wanted: bool) -> Stepped<()> {
+    fn call_value(&mut self, value: Value, count: usize, wait: Wait) -> Stepped<()> {
         let is_trace = |object: u32| self.heap.objects[object as usize].what == What::Trace;
         if !matches!(value, Value::Object(object) if is_trace(object)) {
             return Err(UNKNOWN_NAME);
@@ -763,9 +835,41 @@ impl<W: Write> Machine<'_, W> {
         line.push(b'\n');
         self.out.write_all(&line).map_err(|_| End::WriteFault)?;
         self.stack.truncate(self.stack.len() - count - 1);
-        if is_wanted {
+        if matches!(wait, Wait::Push) {
             self.stack.push(Value::Undefined);
         }
         Ok(())
+    }
+
+    /// Makes an instance of the class under the arguments, and enters its initializer.
+    fn construct(&mut self, count: usize) -> Stepped<()> {
+        let under = self.stack.len() - count - 1;
+        let class = match self.stack[under] {
+            Value::Object(object) => match self.heap.objects[object as usize].what {
+                What::Class(class) => class,
+                _ => return Err(UNKNOWN_NAME),
+            },
+            _ => return Err(End::Uncaught("TypeError")),
+        };
+        let starts = self.classes[class as usize].starts.clone();
+        self.stack[under] = self
+            .heap
+            .make(What::Instance(class), starts, Vec::new())?;
+        let init = self.linked.file.instances[class as usize].init;
+        self.enter(init, count, Wait::Receiver)
+    }
+
+    /// Makes the object of a class, whose base's object is on top, and enters its initializer.
+    fn new_class(&mut self, class: u32) -> Stepped<()> {
+        self.pop();
+        let prototype = self.heap.make(What::Plain, Vec::new(), Vec::new())?;
+        let made = self
+            .heap
+            .make(What::Class(class), vec![prototype], Vec::new())?;
+        self.heap
+            .take_cells(self.scopes.len() - self.now.scopes + 1)?;
+        self.stack.push(made);
+        let init = self.linked.file.classes[class as usize].init;
+        self.enter(init, 0, Wait::Receiver)
     }
 }

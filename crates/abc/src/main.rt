@@ -4,9 +4,11 @@
 ghost use Rattle.std.specs.Prelude.{◌≡◌, IfOk};
 ghost use Rattle.abc_base.specs.Hosts.{answer_of, number_or_none, plus, twice};
 
-use abc_base::{Bytes, Formula, NoMemory, Plain, Status, StdSink, StdSource, Table, Words};
+use abc_base::{
+    BuiltinHost, Bytes, Formula, NoMemory, Plain, Status, StdSink, StdSource, Table, Words,
+};
 use abc_cli::abc_main;
-use abc_host::{Entry, HostTable};
+use abc_host::{Entry, HostTable, means_builtin_host};
 use std::alloc::Global;
 use std::env;
 use std::io::ErrorKind;
@@ -107,6 +109,8 @@ fn run(rt: HostRuntime) -> Result<Status, NoMemory> {
     if host.add(entry).is_err() {
         return Err(NoMemory);
     }
+    // A law, which says that the host has the two formulas, in this order.
+    means_builtin_host(&host, &BuiltinHost);
     let mut source = StdSource::new(rt.stdin());
     let mut out = StdSink::new(rt.stdout());
     let mut err = StdSink::new(rt.stderr());

@@ -25,7 +25,7 @@ use Rattle.abc_objects.specs.declared.error.OpenError.{OpenError}
 use Rattle.abc_objects.specs.declared.error.OpenError.TheVariants as errors
 use Rattle.abc_link_program.specs.Linked.{LinkedFile}
 use Rattle.abc_file_types.specs.declared.tables.Abc.{Abc}
-use Rattle.abc_meaning_sound.specs.Exports.{export}
+use Rattle.abc_meaning.specs.Exports.{export}
 use Rattle.abc_machine.specs.Machines.{IsOpened, Opened}
 use Rattle.abc_run_finish.specs.Begun.{IsRefused}
 use Rattle.abc_session.specs.Ticks.{calls_meaning}

@@ -33,7 +33,7 @@ use Rattle.abc_machine.specs.declared.ends.End.{End}
 use Rattle.abc_machine.specs.declared.ends.End.TheVariants as ends
 use Rattle.abc_machine.specs.Ended.{HasRun, IsEndOf, RunsAs}
 use Rattle.abc_machine.specs.Machines.{IsOpened, Opened}
-use Rattle.abc_meaning_sound.specs.Placed.{IsInstruction}
+use Rattle.abc_meaning.specs.Told.{IsInstruction}
 use Rattle.abc_verify.specs.Verified.{IsVerifiedOf}
 use Rattle.abc_cli_answers.proofs.Runs.{told_quiet}
 

@@ -42,7 +42,7 @@ use Rattle.abc_machine.specs.declared.ends.End.TheVariants as ends
 use Rattle.abc_machine.specs.Ended.{HasRun, RunsAs}
 use Rattle.abc_machine.specs.Logged.{LogsRun}
 use Rattle.abc_machine.specs.Machines.{IsOpened, Opened}
-use Rattle.abc_meaning_sound.specs.Placed.{IsInstruction}
+use Rattle.abc_meaning.specs.Told.{IsInstruction}
 use Rattle.abc_base.specs.declared.names.Fault.{Fault}
 use Rattle.abc_bodies.specs.Places.{ArePlaces}
 use Rattle.abc_verify.proofs.Verifying.{of_any}

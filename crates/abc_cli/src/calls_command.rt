@@ -7,10 +7,10 @@ ghost use Rattle.abc_cli_answers.specs.Lines.{no_export_text};
 ghost use Rattle.abc_cli.specs.Meant.{IsMeant, limits_of as limits_in};
 ghost use Rattle.abc_meaning.specs.ThrowLaws.{AreCounted, IsVerified};
 ghost use Rattle.abc_meaning.specs.Meaning.{first_world, too_small};
-ghost use Rattle.abc_meaning_sound.specs.CallLaws.{IsScriptMethod};
+ghost use Rattle.abc_meaning.specs.Exports.{IsScriptMethod};
 ghost use Rattle.abc_machine.specs.Machines.{IsOpened};
 ghost use Rattle.abc_run_finish.specs.Begun.{setting};
-ghost use Rattle.abc_meaning_sound.specs.Placed.{CanBeTold};
+ghost use Rattle.abc_meaning.specs.Told.{CanBeTold};
 ghost use Rattle.abc_session.specs.Ticks.{calls_meaning};
 ghost use Rattle.abc_verify.specs.Verified.{IsVerifiedOf};
 

@@ -22,14 +22,4 @@ mod tidy;
 mod top;
 
 pub use abc_cli_answers::make_abc;
-pub use abc_machine::Machine;
-pub use abc_objects::OpenError;
-pub use abc_session::{Session, run_and_call, ticks_can_be_told};
-pub use calls_command::calls;
-pub use endings::{give_end, give_unopened};
-pub use gen_command::generate;
-pub use log_command::log;
-pub use machines::{close_file, close_machine, close_session, end_can_be_told, limits_of};
-pub use replay_command::replay;
-pub use run_command::run;
 pub use top::abc_main;

@@ -3,7 +3,7 @@ ghost use Rattle.abc_cli.specs.Meant.{limits_of as limits_in};
 ghost use Rattle.abc_meaning.specs.ThrowLaws.{AreCounted, IsVerified};
 ghost use Rattle.abc_meaning.specs.Meaning.{meaning};
 ghost use Rattle.abc_run_finish.specs.Begun.{setting};
-ghost use Rattle.abc_meaning_sound.specs.Placed.{CanBeTold};
+ghost use Rattle.abc_meaning.specs.Told.{CanBeTold};
 
 use abc_base::Host;
 use abc_cli_answers::RunOptions;

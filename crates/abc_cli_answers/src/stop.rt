@@ -17,32 +17,32 @@ use thiserror::Error;
 #[derive(Clone, Copy, Debug, Error)]
 pub enum Stop {
     /// The input is no file.
-    #[error("the file is refused at {place}: {reason:?}")]
+    #[error("the file is refused")]
     File {
         place: u32,
         reason: Reason,
     },
     /// The input is no assembly text.
-    #[error("line {line} is refused: {reason:?}")]
+    #[error("the text is refused")]
     Text {
         line: u32,
         reason: AsmReason,
     },
     /// The file breaks a rule of linking.
-    #[error("{rule:?} is broken by {item:?}")]
+    #[error("the file breaks a rule of linking")]
     Item {
         item: Item,
         rule: LinkRule,
     },
     /// A method breaks a rule of verifying, at an offset in its code as it was read.
-    #[error("{rule:?} is broken by method {method} at {offset}")]
+    #[error("a method has no typing")]
     Code {
         method: u32,
         offset: u32,
         rule: VerifyRule,
     },
     /// The file breaks a rule of tidying, at a body, a method or a name.
-    #[error("{rule:?} is broken at {index}")]
+    #[error("the file breaks a rule of tidying")]
     Tidy {
         rule: TidyRule,
         index: u32,

@@ -1,23 +1,25 @@
 -- The properties stay in their buckets.
-use Rattle.std.proofs.Common.{◌≡◌, ℕ, zero, suc, ◌+◌, ◌<◌, ◌≤◌, List, [], ◌∷◌, ◌++◌, Option, Some, None, length, set, get_or, map, take, drop, refl, sym, ap, ◌∙◌, subst, arith, inl, inr, length-append, length-set, replicate}
+use Rattle.std.proofs.Common.{◌≡◌, ℕ, zero, suc, ◌+◌, ◌<◌, ◌≤◌, List, [], ◌∷◌, ◌++◌, Option, Some, None, length, set, get_or, take, drop, refl, sym, ap, ◌∙◌, subst, arith, inl, inr, length-append, replicate}
 use lib.ListN.{get_or-replicate, length-replicate}
 use lib.Seq.{set-get_or}
 use Rattle.std.specs.Prelude.{slice_get}
 use Rattle.std.proofs.lemmas.List.{length-map, map-append, map-set}
-use Rattle.std.proofs.lemmas.Option.{slice_get_within}
 use Rattle.abc_heap_values.specs.Filling.{Filling}
 use Rattle.abc_heap_values.specs.Lanes.{property_in}
 use Rattle.abc_heap_values.specs.Links.{held_at, IsAdded}
 use Rattle.abc_heap_values.specs.declared.cell.Cell.{Cell}
 use Rattle.abc_heap_values.specs.declared.cell.Held.{Held}
+use Rattle.abc_heap_values.specs.declared.cell.Held.TheVariants.{Slot, Deleted, Element}
 use Rattle.abc_heap_values.specs.declared.values.Span.{Span}
 use Rattle.abc_heap_values.specs.declared.values.Value.{Value}
 use Rattle.abc_heap_values.proofs.Parts.{slice_get_more}
 use Rattle.abc_heap_values.proofs.Grows.{set_held}
 use Rattle.abc_heap_store.specs.Buckets.{bucket, bucket_of, buckets_of, AreBuckets, AreNamesIn, IsIndexed, KeepsIndex}
 use Rattle.abc_heap_store.specs.declared.buckets.Buckets.{Buckets}
+use Rattle.abc_heap_store.specs.Gaps.{AreGaps}
 use Rattle.abc_heap_store.specs.Texts.{part_of, text_in, IsTextIn}
 use Rattle.abc_heap_store.proofs.Lasts.{none_added}
+use Rattle.abc_heap_store.proofs.Gaps.{gaps_more}
 use Rattle.abc_heap_store.proofs.Growth.{set_read}
 use Rattle.abc_heap_store.proofs.Pieces.{front}
 
@@ -58,8 +60,8 @@ names_more fixed made strings cells c a g = λ j d n v ed p.
     ]
 
 -- a cell that holds another thing of the same bucket
-pub index_held : (fixed made : List ℕ) (strings : List (List ℕ)) (cs new : Filling Cell) (b : Buckets) (i : ℕ) (c : Cell) (h : Held) → IsIndexed fixed made strings cs b → slice_get cs.items i ≡ Some c → new ≡ record { items = held_at cs.items i h; limit = cs.limit } → IsNameIn fixed made strings h → bucket_of (length b.lasts.items) (text_in fixed made strings) c.owner (property_in h) ≡ bucket_of (length b.lasts.items) (text_in fixed made strings) c.owner (property_in c.held) → IsIndexed fixed made strings new b
-index_held fixed made strings cs new b i c h x e is g same =
+pub index_held : (fixed made : List ℕ) (strings : List (List ℕ)) (cs new : Filling Cell) (b : Buckets) (i : ℕ) (c : Cell) (h : Held) → IsIndexed fixed made strings cs b → slice_get cs.items i ≡ Some c → new ≡ record { items = held_at cs.items i h; limit = cs.limit } → IsNameIn fixed made strings h → bucket_of (length b.lasts.items) (text_in fixed made strings) c.owner (property_in h) ≡ bucket_of (length b.lasts.items) (text_in fixed made strings) c.owner (property_in c.held) → AreGaps (held_at cs.items i h) → IsIndexed fixed made strings new b
+index_held fixed made strings cs new b i c h x e is g same gaps =
     let n = length b.lasts.items in
     let f = text_in fixed made strings in
     let ks = buckets_of n f cs.items in
@@ -70,12 +72,13 @@ index_held fixed made strings cs new b i c h x e is g same =
       buckets = subst (λ k. AreBuckets k b.lasts.items b.befores.items) (sym stays) x.buckets;
       some = x.some;
       room = x.room;
+      gaps = gaps;
     } in
     subst (λ (y : Filling Cell). IsIndexed fixed made strings y b) (sym is) done
 
 -- a property that goes
-pub index_gone : (fixed made : List ℕ) (strings : List (List ℕ)) (cs new : Filling Cell) (b b' : Buckets) (i d : ℕ) (c : Cell) (h : Held) → IsIndexed fixed made strings cs b → slice_get cs.items i ≡ Some c → new ≡ record { items = held_at cs.items i h; limit = cs.limit } → property_in h ≡ None → bucket_of (length b.lasts.items) (text_in fixed made strings) c.owner (property_in c.held) ≡ Some d → ((ks : List (Option ℕ)) → AreBuckets ks b.lasts.items b.befores.items → get_or ks i None ≡ Some d → AreBuckets (set ks i None) b'.lasts.items b'.befores.items) → (length b'.lasts.items ≡ length b.lasts.items) × (b'.befores.limit ≡ b.befores.limit) → IsIndexed fixed made strings new b'
-index_gone fixed made strings cs new b b' i d c h x e is none key goes sizes =
+pub index_gone : (fixed made : List ℕ) (strings : List (List ℕ)) (cs new : Filling Cell) (b b' : Buckets) (i d : ℕ) (c : Cell) (h : Held) → IsIndexed fixed made strings cs b → slice_get cs.items i ≡ Some c → new ≡ record { items = held_at cs.items i h; limit = cs.limit } → property_in h ≡ None → bucket_of (length b.lasts.items) (text_in fixed made strings) c.owner (property_in c.held) ≡ Some d → ((ks : List (Option ℕ)) → AreBuckets ks b.lasts.items b.befores.items → get_or ks i None ≡ Some d → AreBuckets (set ks i None) b'.lasts.items b'.befores.items) → (length b'.lasts.items ≡ length b.lasts.items) × (b'.befores.limit ≡ b.befores.limit) → AreGaps (held_at cs.items i h) → IsIndexed fixed made strings new b'
+index_gone fixed made strings cs new b b' i d c h x e is none key goes sizes gaps =
     let n = length b.lasts.items in
     let f = text_in fixed made strings in
     let ks = buckets_of n f cs.items in
@@ -86,15 +89,16 @@ index_gone fixed made strings cs new b b' i d c h x e is none key goes sizes =
       buckets = subst (λ k. AreBuckets k b'.lasts.items b'.befores.items) (sym now) (goes ks x.buckets (key_at n f cs.items i c e ∙ key));
       some = omega (arith, x.some, sizes.0);
       room = omega (arith, x.room, sizes.1);
+      gaps = gaps;
     } in
     subst (λ (y : Filling Cell). IsIndexed fixed made strings y b') (sym is) done
   where
     no_name : {X Y : Type 0} {p : X} → ◌≡◌ {A = Option X} None (Some p) → Y
     no_name e = absurd cc
 
--- one more cell that holds no property
-pub index_none : (fixed made : List ℕ) (strings : List (List ℕ)) (cs new : Filling Cell) (b : Buckets) (c : Cell) → IsIndexed fixed made strings cs b → new.items ≡ cs.items ++ c ∷ [] → new.limit ≡ cs.limit → length cs.items + 1 ≤ cs.limit → property_in c.held ≡ None → IsIndexed fixed made strings new b
-index_none fixed made strings cs new b c x is limit room none =
+-- one more cell that holds no property, and is not emptied
+pub index_none : (fixed made : List ℕ) (strings : List (List ℕ)) (cs new : Filling Cell) (b : Buckets) (c : Cell) → IsIndexed fixed made strings cs b → new.items ≡ cs.items ++ c ∷ [] → new.limit ≡ cs.limit → length cs.items + 1 ≤ cs.limit → property_in c.held ≡ None → ((n : ℕ) → c.held ≡ Deleted n → ⊥) → IsIndexed fixed made strings new b
+index_none fixed made strings cs new b c x is limit room none full =
     let n = length b.lasts.items in
     let f = text_in fixed made strings in
     let ks = buckets_of n f cs.items in
@@ -104,13 +108,21 @@ index_none fixed made strings cs new b c x is limit room none =
       buckets = subst (λ k. AreBuckets k b.lasts.items b.befores.items) (sym now) (none_added ks b.lasts.items b.befores.items x.buckets);
       some = x.some;
       room = omega (arith, x.room);
+      gaps = subst AreGaps (sym is) (gaps_more cs.items c x.gaps full);
     }
   where
     no_name : {X Y : Type 0} {p : X} → ◌≡◌ {A = Option X} None (Some p) → Y
     no_name e = absurd cc
 
-pub added_keeps : (cs new : Filling Cell) (o : ℕ) (h : Held) → IsAdded cs.items new.items o h → new.limit ≡ cs.limit → length cs.items + 1 ≤ cs.limit → property_in h ≡ None → KeepsIndex cs new
-added_keeps cs new o h (c, is, own, held) limit room none = λ fixed made strings b x. index_none fixed made strings cs new b c x is limit room (ap property_in held ∙ none)
+pub added_keeps : (cs new : Filling Cell) (o : ℕ) (h : Held) → IsAdded cs.items new.items o h → new.limit ≡ cs.limit → length cs.items + 1 ≤ cs.limit → property_in h ≡ None → ((n : ℕ) → h ≡ Deleted n → ⊥) → KeepsIndex cs new
+added_keeps cs new o h (c, is, own, held) limit room none full = λ fixed made strings b x. index_none fixed made strings cs new b c x is limit room (ap property_in held ∙ none) (λ n q. full n (sym held ∙ q))
+
+-- a slot and an element are not emptied
+pub slot_full : (v : Value) (n : ℕ) → Slot v ≡ Deleted n → ⊥
+slot_full v n e = absurd cc
+
+pub element_full : (v : Value) (n : ℕ) → Element v ≡ Deleted n → ⊥
+element_full v n e = absurd cc
 
 pub keeps_on : (a b c : Filling Cell) → KeepsIndex a b → KeepsIndex b c → KeepsIndex a c
 keeps_on a b c f g = λ fixed made strings x i. g fixed made strings x (f fixed made strings x i)
@@ -129,10 +141,14 @@ index_one fixed made strings cs new b b' o place d h name v x (c, is, own, held)
       buckets = subst (λ k. AreBuckets k b'.lasts.items b'.befores.items) (sym now) (comes ks (omega (arith, at, buckets_long n f cs.items)) x.buckets);
       some = omega (arith, x.some, sizes.0);
       room = omega (arith, x.room, sizes.1);
+      gaps = subst AreGaps (sym is) (gaps_more cs.items c x.gaps (λ n q. full (sym holds ∙ ap property_in q)));
     }
   where
     the_text : (m : Span) (w : Value) → ◌≡◌ {A = Option (Span × Value)} (Some (name, v)) (Some (m, w)) → IsTextIn fixed made strings m
     the_text m w e = subst (IsTextIn fixed made strings) (ap (λ (p : Span × Value). p.0) (same_some (name, v) (m, w) e)) text
+
+    full : ◌≡◌ {A = Option (Span × Value)} (Some (name, v)) None → ⊥
+    full e = absurd cc
 
 -- more texts are made
 pub text_more : (fixed made more : List ℕ) (strings : List (List ℕ)) (p start n : ℕ) → start + n ≤ length (part_of fixed made strings p) → take n (drop start (part_of fixed (made ++ more) strings p)) ≡ take n (drop start (part_of fixed made strings p))
@@ -162,6 +178,7 @@ index_text fixed made new more strings cs b x is =
       buckets = subst (λ k. AreBuckets k b.lasts.items b.befores.items) (sym (buckets_text (length b.lasts.items) fixed made more strings cs.items x.names)) x.buckets;
       some = x.some;
       room = x.room;
+      gaps = x.gaps;
     } in
     subst (λ m. IsIndexed fixed m strings cs b) (sym is) grown
 
@@ -172,6 +189,7 @@ index_empty fixed strings cs b n m none limit some lasts befores = record {
   buckets = subst (λ ks. AreBuckets ks b.lasts.items b.befores.items) (sym (ap (buckets_of (length b.lasts.items) (text_in fixed [] strings)) none)) nothing;
   some = omega (arith, ap length lasts, length-replicate {A = ℕ} n 0);
   room = omega (arith, limit, ap (λ (f : Filling ℕ). f.limit) befores);
+  gaps = λ i c k e p. no_cell (sym (ap (λ xs. slice_get xs i) none) ∙ e);
 }
   where
     no_cell : {X Y : Type 0} {p : X} → ◌≡◌ {A = Option X} None (Some p) → Y

@@ -1,6 +1,6 @@
 -- The last place in a bucket, as places come and go.
 use Rattle.std.proofs.Common.{◌≡◌, ◌≢◌, ℕ, zero, suc, ◌+◌, ◌-◌, ◌<◌, ◌≤◌, Bool, true, false, List, [], ◌∷◌, ◌++◌, Option, Some, None, length, set, get_or, refl, sym, ap, ◌∙◌, arith, ◌⊎◌, inl, inr, length-append, length-set, get_or-set_same, get_or-set_other, drop, drop-cons, drop_of_length-le, ◌*◌, ◌%◌, eqb-true, eq-eqb, ne_eqb, true≢false, nat_eq, nat_le, leb-true, leb-false, if◌then◌else◌}
-use lib.ListN.{get_or-append, get_or-eq_default}
+use lib.ListN.{get_or-append}
 use lib.Seq.{get_or-append_seam}
 use Rattle.abc_heap_store.specs.Buckets.{hashed, is_in, last_in, AreBuckets}
 

@@ -2,6 +2,9 @@ pub mod Flat
 pub mod Writes
 pub mod Lasts
 pub mod Growth
+pub mod Positions
+pub mod Gaps
+pub mod Meeting
 pub mod Indexed
 pub mod Searches
 pub mod Latest
@@ -9,8 +12,8 @@ pub mod Stands
 pub mod Ledger
 pub mod Calls
 pub mod Makes
+pub mod Joins
 pub mod Bytes
 pub mod Pieces
-pub mod Positions
 pub mod Steps
 pub mod Arrays

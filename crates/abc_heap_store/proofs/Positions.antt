@@ -1,8 +1,10 @@
 -- Filled positions.
 use Rattle.std.proofs.Common.{◌≡◌, ℕ, zero, suc, ◌+◌, ◌<◌, ◌≤◌, true, false, List, [], ◌∷◌, Option, Some, None, length, drop, refl, sym, ap, ◌∙◌, arith}
 use Rattle.std.specs.Prelude.{slice_get, is_some}
+use Rattle.std.proofs.lemmas.Option.{slice_get_within}
 use Rattle.abc_heap_values.specs.declared.values.Span.{Span}
 use Rattle.abc_heap_values.specs.declared.values.Value.{Value}
+use Rattle.abc_heap_store.specs.Gaps.{AreEmpty}
 use Rattle.abc_heap_store.specs.Properties.{first_filled, next_filled, at_position, filled}
 
 next : (k : ℕ) → suc k ≡ k + 1
@@ -42,3 +44,11 @@ next_past ps k b s =
     go : (x : Option (Span × Value)) → is_some x ≡ false → first_filled k (x ∷ drop (suc k) ps) ≡ first_filled (k + 1) (drop (suc k) ps)
     go None e = refl
     go (Some p) e = absurd cc
+
+pub next_run : (ps : List (Option (Span × Value))) (k n : ℕ) → AreEmpty ps k n → next_filled ps k ≡ next_filled ps (k + n)
+next_run ps k zero a = let z : k ≡ k + 0 = omega arith in ap (next_filled ps) z
+next_run ps k (suc n) a =
+    let e = a k (omega arith) (omega arith) in
+    let none : is_some (at_position ps (k + 1)) ≡ false = ap (λ m. is_some (at_position ps m)) (sym (next k)) ∙ ap (λ x. is_some (filled x)) e in
+    let m : (k + 1) + n ≡ k + suc n = omega arith in
+    next_past ps k (slice_get_within ps k None e) none ∙ (next_run ps (k + 1) n (λ j b d. a j (omega arith) (omega arith)) ∙ ap (next_filled ps) m)

@@ -1,5 +1,5 @@
 -- The search by text, through a bucket from its last place down.
-use Rattle.std.proofs.Common.{◌≡◌, ◌≢◌, ℕ, zero, suc, ◌+◌, ◌-◌, ◌<◌, ◌≤◌, Bool, true, false, cond, ◌&&◌, List, [], ◌∷◌, Option, Some, None, length, filter, take, get_or, refl, sym, ap, ◌∙◌, subst, arith, ◌⊎◌, inl, inr, eqb-true, ltb-true, ltb-false, nat_eq, nat_lt, bytes_eq, if◌then◌else◌}
+use Rattle.std.proofs.Common.{◌≡◌, ◌≢◌, ℕ, zero, suc, ◌-◌, ◌<◌, ◌≤◌, Bool, true, false, cond, ◌&&◌, List, [], ◌∷◌, Option, Some, None, length, filter, take, get_or, refl, sym, ap, ◌∙◌, subst, arith, ◌⊎◌, inl, inr, eqb-true, ltb-true, ltb-false, nat_eq, nat_lt, bytes_eq}
 use Rattle.std.specs.Prelude.{slice_get, option_map}
 use Rattle.std.proofs.lemmas.List.{length-map}
 use Rattle.std.proofs.lemmas.Slice.Eq.{bytes_eq-Decides}
@@ -158,7 +158,7 @@ named_at cells heads o f t j b e =
 property_lane : (h : Held) (f : Span → List ℕ) (t : List ℕ) → is_named f t (Some (property_in h)) ≡ true → lane_of h ≡ Properties
 property_lane (Slot v) f t e = clash (sym e)
 property_lane (Property n v) f t e = refl
-property_lane Deleted f t e = clash (sym e)
+property_lane (Deleted n) f t e = clash (sym e)
 property_lane (Element v) f t e = clash (sym e)
 
 pub named_bucket : (n o : ℕ) (f : Span → List ℕ) (t : List ℕ) (p : Option (Span × Value)) → is_named f t (Some p) ≡ true → bucket_of n f o p ≡ Some (bucket n o t)

@@ -77,7 +77,7 @@ property_written cells p o k h hs a b at inside s =
     ∙ ap (λ s. record (object cells o x) { properties = s }) (map_held property_in (owned o Properties cells) k h))
 
 -- the invariant stays
-length_held : (cells : List Cell) (p : ℕ) (h : Held) → length (held_at cells p h) ≡ length cells
+pub length_held : (cells : List Cell) (p : ℕ) (h : Held) → length (held_at cells p h) ≡ length cells
 length_held [] p h = refl
 length_held (c ∷ cells) zero h = refl
 length_held (c ∷ cells) (suc p) h = ap suc (length_held cells p h)

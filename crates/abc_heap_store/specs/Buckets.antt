@@ -7,6 +7,7 @@ use Rattle.abc_heap_values.specs.declared.values.Span.{Span}
 use Rattle.abc_heap_values.specs.declared.values.Value.{Value}
 use Rattle.abc_heap_store.specs.declared.buckets.Buckets.{Buckets}
 use Rattle.abc_heap_store.specs.Texts.{text_in, IsTextIn}
+use Rattle.abc_heap_store.specs.Gaps.{AreGaps}
 
 -- a hash goes on over some bytes
 unfoldable pub hashed : ℕ → List ℕ → ℕ
@@ -44,12 +45,13 @@ pub record AreBuckets (ks : List (Option ℕ)) (ls : List ℕ) (bs : List ℕ) :
 abbrev pub AreNamesIn : List ℕ → List ℕ → List (List ℕ) → List Cell → Type 0
 AreNamesIn fixed made strings cells = (i : ℕ) (c : Cell) (n : Span) (v : Value) → slice_get cells i ≡ Some c → property_in c.held ≡ Some (n, v) → IsTextIn fixed made strings n
 
--- the properties are in their buckets
+-- the properties are in their buckets, and the emptied positions know of each other
 pub record IsIndexed (fixed : List ℕ) (made : List ℕ) (strings : List (List ℕ)) (cells : Filling Cell) (b : Buckets) : Type 0 where
   pub names : AreNamesIn fixed made strings cells.items
   pub buckets : AreBuckets (buckets_of (length b.lasts.items) (text_in fixed made strings) cells.items) b.lasts.items b.befores.items
   pub some : 0 < length b.lasts.items
   pub room : cells.limit ≤ b.befores.limit
+  pub gaps : AreGaps cells.items
 
 -- what changes no property keeps them there
 abbrev pub KeepsIndex : Filling Cell → Filling Cell → Type 0

@@ -3,8 +3,10 @@ pub mod Scopes
 pub mod Heap
 pub mod Texts
 pub mod Strings
+pub mod Gaps
 pub mod Buckets
 pub mod Properties
+pub mod Walks
 pub mod Changes
 pub mod View
 pub mod Spots

@@ -1,10 +1,10 @@
 -- An object's own properties: the search by text, a write, a delete, and the walk by positions.
-use Rattle.std.specs.Prelude.{◌≡◌, ℕ, zero, suc, ◌+◌, Bool, false, List, [], ◌∷◌, ◌++◌, length, drop, set, Option, Some, None, slice_get, bytes_eq, ℤ, pos, negsuc, nat_lt, if◌then◌else◌}
+use Rattle.std.specs.Prelude.{ℕ, zero, suc, ◌+◌, Bool, false, List, [], ◌∷◌, ◌++◌, length, drop, set, Option, Some, None, slice_get, bytes_eq, ℤ, pos, negsuc, nat_lt, if◌then◌else◌}
 use Rattle.abc_heap_values.specs.declared.values.Span.{Span}
 use Rattle.abc_heap_values.specs.declared.values.Value.{Value}
 use Rattle.abc_heap_store.specs.What.{is_array}
 use Rattle.abc_heap_store.specs.Heap.{Object, Heap, properties_of}
-use Rattle.abc_heap_store.specs.Texts.{text_of, IsText}
+use Rattle.abc_heap_store.specs.Texts.{text_of}
 
 -- the search among an object's own properties: the last of that text
 abbrev pub is_named : (Span → List ℕ) → List ℕ → Option (Option (Span × Value)) → Bool

@@ -13,7 +13,9 @@ use Rattle.abc_heap_store.specs.declared.heads.Head.{Head}
 use Rattle.abc_heap_store.specs.declared.search.Spot.{Spot}
 use Rattle.abc_heap_store.specs.Heap.{properties_of}
 use Rattle.abc_heap_store.specs.Properties.{place_named, valued}
-use Rattle.abc_heap_store.specs.View.{objects}
+use Rattle.abc_heap_store.specs.Gaps.{AreGaps}
+use Rattle.abc_heap_store.specs.Buckets.{KeepsIndex}
+use Rattle.abc_heap_store.specs.View.{objects, AreHeads}
 
 pub record IsSpot (f : Span → List ℕ) (t : List ℕ) (cells : List Cell) (heads : List Head) (o : ℕ) (s : Spot) : Type 0 where
   pub at : IsAt (links cells) s.place o Properties s.position
@@ -37,3 +39,12 @@ pub record IsRevalued (old new : Filling Cell) (place : ℕ) (held : Held) (v : 
   pub lane : lane_of now ≡ Properties
   pub value : property_in now ≡ valued v (property_in held)
   pub cells : new ≡ record { items = held_at old.items place now; limit = old.limit }
+
+-- the cells stand for the same objects, and as many are used
+pub record IsSame (hs : List Head) (old new : Filling Cell) : Type 0 where
+  pub objects : objects new.items 0 hs ≡ objects old.items 0 hs
+  pub heads : AreHeads (links new.items) hs
+  pub gaps : AreGaps new.items
+  pub index : KeepsIndex old new
+  pub cells : length new.items ≡ length old.items
+  pub limit : new.limit ≡ old.limit

@@ -1,4 +1,4 @@
-ghost use Rattle.std.specs.Prelude.{◌≡◌, ◌<◌, ◌≤◌, ◌+◌, ◌^◌, ℕ, length, Some, None, slice_get, is_some, true, [], ◌∷◌, ◌++◌};
+ghost use Rattle.std.specs.Prelude.{◌≡◌, ◌<◌, ◌≤◌, ◌+◌, ◌^◌, ℕ, length, Some, None, slice_get, true, [], ◌∷◌, ◌++◌};
 ghost use Rattle.abc_heap_values.specs.Lanes.{value_in, property_in, lane_of};
 ghost use Rattle.abc_heap_values.specs.Links.{links, held_at, IsAt, IsAdded};
 ghost use Rattle.abc_heap_values.specs.declared.cell.Held.TheVariants.{Element, Property};
@@ -7,7 +7,7 @@ ghost use Rattle.abc_heap_values.specs.Filling.{HasRoom};
 ghost use Rattle.abc_heap_store.specs.Buckets.{KeepsIndex};
 ghost use Rattle.abc_heap_store.specs.What.{what_in, elements_in, is_array};
 ghost use Rattle.abc_heap_store.specs.Heap.{object_at, slots_of, properties_of, elements_of};
-ghost use Rattle.abc_heap_store.specs.Properties.{at_position, the_value, the_name, valued, next_filled};
+ghost use Rattle.abc_heap_store.specs.Properties.{at_position, the_value, the_name, valued};
 ghost use Rattle.abc_heap_store.specs.Changes.{change, with_new_property, with_new_element, with_more_slots, bare};
 ghost use Rattle.abc_heap_store.specs.View.{objects, AreHeads};
 ghost use Rattle.abc_heap_store.specs.Spots.{IsGrown, IsFilling, IsRevalued};
@@ -44,7 +44,7 @@ pub fn value_of(held: Held) -> Value
     match held {
         Held::Slot(v) => v,
         Held::Property(_name, v) => v,
-        Held::Deleted => Value::Undefined,
+        Held::Deleted(_count) => Value::Undefined,
         Held::Element(v) => v,
     }
 }
@@ -140,7 +140,7 @@ pub fn revalued(held: Held, v: Value) -> Held
 {
     match held {
         Held::Property(name, _old) => Held::Property(name, v),
-        _ => Held::Deleted,
+        _ => Held::Deleted(1),
     }
 }
 
@@ -219,10 +219,10 @@ pub fn held_at_position(
     ensures { property_in result ≡ at_position (properties_of (objects cells.now.items 0 heads.now.items) o) position }
 {
     if position == 0 {
-        return Held::Deleted;
+        return Held::Deleted(1);
     }
     if head_at(heads, o).properties.count < position {
-        return Held::Deleted;
+        return Held::Deleted(1);
     }
     let place = property_place(heads, cells, o, position - 1);
     cell_at(cells, place).held
@@ -306,16 +306,6 @@ pub fn fill_slots<S: Starts>(heads: &Reserved<Head>, cells: &mut Reserved<Cell>,
     }
 }
 
-/// Whether a cell holds a property.
-fn is_property(held: Held) -> bool
-    ensures { result ≡ is_some (property_in held) }
-{
-    match held {
-        Held::Property(_name, _v) => true,
-        _ => false,
-    }
-}
-
 /// How many positions an object has.
 pub fn property_count(heads: &Reserved<Head>, cells: &Reserved<Cell>, o: u32) -> u32
     requires heads { AreHeads (links cells.now.items) heads.now.items }
@@ -324,19 +314,4 @@ pub fn property_count(heads: &Reserved<Head>, cells: &Reserved<Cell>, o: u32) ->
 {
     let _ = cells;
     head_at(heads, o).properties.count
-}
-
-/// The least filled position above `from`.
-pub fn next_from(heads: &Reserved<Head>, cells: &Reserved<Cell>, o: u32, from: u32) -> Option<u32>
-    requires heads { AreHeads (links cells.now.items) heads.now.items }
-    requires inside { o < length heads.now.items }
-    ensures { result ≡ next_filled (properties_of (objects cells.now.items 0 heads.now.items) o) from }
-{
-    let count = property_count(heads, cells, o);
-    for k in from..count {
-        if is_property(held_at_position(heads, cells, o, k + 1)) {
-            return Some(k + 1);
-        }
-    }
-    None
 }

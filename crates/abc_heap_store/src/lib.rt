@@ -3,7 +3,9 @@
 #![tactic(auto)]
 
 mod buckets;
+mod empties;
 mod heads;
+mod laws;
 mod records;
 mod scopes;
 mod search;
@@ -13,6 +15,7 @@ mod stored;
 mod strings;
 mod texts;
 
+pub use laws::walk_meets_each_position;
 pub use records::{Full, Limit, Limits, ScopeEntry, ScopeId, ScopeNode, What};
 pub use starts::Starts;
 pub use store::{ClassParts, Store};

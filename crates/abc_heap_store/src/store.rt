@@ -10,10 +10,11 @@ ghost use Rattle.abc_heap_store.specs.Scopes.{top};
 ghost use Rattle.abc_heap_store.specs.declared.records.Limit.TheVariants.{Cells, Text};
 
 use crate::buckets::Buckets;
+use crate::empties::{join_around, next_from};
 use crate::heads::{
     Head, add_element, add_object, add_property, element_count, element_place, fill_slots, head_at,
-    held_at_position, hold_element, hold_value, next_from, property_count, property_name,
-    property_value, slot_place, value_of,
+    held_at_position, hold_element, hold_value, property_count, property_name, property_value,
+    slot_place, value_of,
 };
 use crate::records::{Full, Limit, Limits, ScopeEntry, ScopeId, ScopeNode, What};
 use crate::scopes::capture;
@@ -214,7 +215,8 @@ impl Store {
                     name,
                 );
                 self.buckets.remove(bucket, spot.place);
-                hold(&mut self.cells, spot.place, Held::Deleted);
+                hold(&mut self.cells, spot.place, Held::Deleted(1));
+                join_around(&self.heads, &mut self.cells, o.0, spot.position);
                 true
             }
             None => false,

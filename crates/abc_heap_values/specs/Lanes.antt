@@ -12,7 +12,7 @@ use Rattle.abc_heap_values.specs.declared.cell.Cell.{Cell}
 abbrev pub lane_of : Held → Lane
 lane_of (Slot v) = Slots
 lane_of (Property n v) = Properties
-lane_of Deleted = Properties
+lane_of (Deleted n) = Properties
 lane_of (Element v) = Elements
 
 abbrev pub same_lane : Lane → Lane → Bool
@@ -36,13 +36,13 @@ owned o l cells = filter (is_of o l) cells
 abbrev pub value_in : Held → Value
 value_in (Slot v) = v
 value_in (Property n v) = v
-value_in Deleted = Undefined
+value_in (Deleted n) = Undefined
 value_in (Element v) = v
 
 abbrev pub property_in : Held → Option (Span × Value)
 property_in (Slot v) = None
 property_in (Property n v) = Some (n, v)
-property_in Deleted = None
+property_in (Deleted n) = None
 property_in (Element v) = None
 
 -- the three lists of object o

@@ -8,12 +8,13 @@ pub enum Lane {
     Elements,
 }
 
-/// What a cell holds. A deleted property leaves its cell empty.
+/// What a cell holds. A deleted property leaves its cell empty, which then knows how many positions of its list are empty
+/// from its own on: as many, or more.
 #[derive(Clone, Copy, Debug, PartialEq, Eq)]
 pub enum Held {
     Slot(Value),
     Property(Span, Value),
-    Deleted,
+    Deleted(u32),
     Element(Value),
 }
 

@@ -4,7 +4,8 @@ use Rattle.std.specs.Prelude.{slice_get, is_some}
 use Rattle.std.specs.List.{list_any}
 use Rattle.std.proofs.lemmas.Bool.{cases_eq}
 use Rattle.std.proofs.lemmas.List.{append-nil, length-take, take_more}
-use Rattle.abc_base_graphs.specs.Index.{first, first_from}
+use Rattle.abc_base_graphs.specs.Index.{first}
+use Rattle.abc_link_interfaces.proofs.Finding.{found_any}
 use Rattle.abc_link_names.specs.Keys.{keys_eq, name_key, same_name}
 use Rattle.abc_link_names.specs.Pool.{is_public, same_space, set}
 use Rattle.abc_link_names.specs.declared.named.DefiniteName.{DefiniteName}
@@ -33,14 +34,6 @@ keys_next v numbers old new ss i s lt is e en =
     ∙ ap (keys_from v numbers 1) (sym (take_more ss i s lt))
 
 -- ---- what a key finds
-
-found_any : {K : Type 0} (test : K → Bool) (n : ℕ) (ks : List K) → is_some (first_from test n ks) ≡ list_any test ks
-found_any test n [] = refl
-found_any test n (k ∷ ks) = go (test k) (found_any test (n + 1) ks)
-  where
-    go : (b : Bool) → is_some (first_from test (n + 1) ks) ≡ list_any test ks → is_some (cond b (Some n) (first_from test (n + 1) ks)) ≡ (b || list_any test ks)
-    go true e = refl
-    go false e = e
 
 any_append : {K : Type 0} (test : K → Bool) (xs ys : List K) → list_any test (xs ++ ys) ≡ (list_any test xs || list_any test ys)
 any_append test [] ys = refl

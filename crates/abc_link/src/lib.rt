@@ -13,12 +13,7 @@ mod sets;
 mod slots;
 mod tables;
 
-pub use abc_link_layouts::{Layouts, Members, slots_of, string_number, traits_of, type_in};
 pub use abc_link_names::{Item, ItemKind, LinkError, LinkRule, Start};
-pub use abc_link_program::{Kind, LayoutId, Owner, Part, SlotInfo, Ty, part_key};
+pub use abc_link_program::{Kind, LayoutId, Owner, Part, SlotInfo, Ty};
 pub use linked::Linked;
-pub use linking::{MOST_HANDLERS, link};
-pub use scripts::ScriptTraits;
-pub use sets::SetSpaces;
-pub use slots::OwnSlots;
-pub use tables::SearchTables;
+pub use linking::link;

@@ -1,4 +1,5 @@
 pub mod Adding
+pub mod Finding
 pub mod Gathering
 pub mod Visiting
 pub mod Graphs

@@ -1,13 +1,13 @@
 -- The interfaces that a search marks.
-use Rattle.std.proofs.Common.{◌≡◌, ℕ, ◌+◌, ◌<◌, ◌≤◌, ◌⊎◌, inl, inr, Bool, true, false, List, [], ◌∷◌, ◌++◌, Contains, IsTrue, get_or, length, refl, sym, ap, subst, ◌∙◌, arith}
+use Rattle.std.proofs.Common.{◌≡◌, ℕ, ◌+◌, ◌<◌, ◌≤◌, ◌⊎◌, inl, inr, Bool, true, false, List, [], ◌∷◌, ◌++◌, Contains, IsTrue, get_or, length, sym, subst, ◌∙◌, arith}
 use Rattle.std.proofs.lemmas.Bool.{cases_lt}
-use Rattle.std.proofs.lemmas.List.{get_or_default, get_or_past}
+use Rattle.std.proofs.lemmas.List.{get_or_past}
 use Rattle.std.proofs.lemmas.List.Elements.{Contains-append_left, Contains-push, Contains-push_cases}
-use Rattle.abc_base_graphs.specs.Graph.{Has, IsReached}
+use Rattle.abc_base_graphs.specs.Graph.{IsReached}
 use Rattle.abc_link_program.specs.Interfaces.{class_graph}
 use Rattle.abc_link_names.specs.Bases.{is_interface}
 use Rattle.abc_file_types.specs.declared.tables.Abc.{Abc}
-use Rattle.abc_link_interfaces.specs.Sets.{AddsEach, IsAbove, IsSetOf, ListsMarked}
+use Rattle.abc_link_interfaces.specs.Sets.{IsAbove, IsSetOf, ListsMarked}
 
 pub none_marked : (v : Abc) (marks : List Bool) → ListsMarked v marks [] 0
 none_marked v marks = record { sound = λ k c. let h = c.1 in absurd (omega arith); complete = λ k lt. absurd (omega arith) }
@@ -43,25 +43,18 @@ pub next_class : (v : Abc) (marks : List Bool) (nodes : List ℕ) (n : ℕ) → 
 next_class v marks nodes n h e = skipped v marks nodes n h (λ m i. cc)
 
 pub searched : (v : Abc) (g : List (List ℕ)) (k : ℕ) (marks marks2 : List Bool) (list given keys : List ℕ) → g ≡ class_graph v → IsReached g k marks → marks2 ≡ marks → ListsMarked v marks2 list (length marks2)
-    → given ≡ list → AddsEach [] keys given (length given) → IsSetOf v k keys
-searched v g k marks marks2 list given keys is_g r is_marks m is_given adds = record {
-  sound = λ y c. sound y (adds.only y c);
-  complete = λ y h. complete y h;
-}
+    → given ≡ list → keys ≡ given → IsSetOf v k keys
+searched v g k marks marks2 list given keys is_g r is_marks m is_given is_keys = subst (IsSetOf v k) (sym (is_keys ∙ is_given)) (record { sound = sound; complete = complete })
   where
     reach : IsReached (class_graph v) k marks2
     reach = subst (λ (ms : List Bool). IsReached (class_graph v) k ms) (sym is_marks) (subst (λ (h : List (List ℕ)). IsReached h k marks) is_g r)
 
-    sound : (y : ℕ) → Contains [] y ⊎ Contains given y → IsAbove v k y
-    sound y (inl c) = let h = c.1 in absurd (omega arith)
-    sound y (inr c) = let p = m.sound y (subst (λ (ns : List ℕ). Contains ns y) is_given c) in (p.1, reach.sound y (record { marked = p.0 }))
+    sound : (y : ℕ) → Contains list y → IsAbove v k y
+    sound y c = let p = m.sound y c in (p.1, reach.sound y (record { marked = p.0 }))
 
     within : (y : ℕ) → get_or marks2 y false ≡ true → (y < length marks2) ⊎ (length marks2 ≤ y) → y < length marks2
     within y e (inl lt) = lt
     within y e (inr le) = let q : get_or marks2 y false ≡ false = get_or_past marks2 y false le in cc
 
-    complete : (y : ℕ) → IsAbove v k y → Contains keys y
-    complete y h =
-        let mark = (reach.complete y h.1).marked in
-        let c = subst (λ (ns : List ℕ). Contains ns y) (sym is_given) (m.complete y (within y mark (cases_lt y (length marks2))) mark h.0) in
-        subst (Contains keys) (get_or_default given c.0 0 y c.1 ∙ c.2) (adds.each c.0 c.1)
+    complete : (y : ℕ) → IsAbove v k y → Contains list y
+    complete y h = let mark = (reach.complete y h.1).marked in m.complete y (within y mark (cases_lt y (length marks2))) mark h.0

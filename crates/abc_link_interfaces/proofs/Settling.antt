@@ -1,5 +1,5 @@
 -- Sets that are put there one after the other.
-use Rattle.std.proofs.Common.{◌≡◌, ◌≢◌, ℕ, zero, suc, ◌+◌, ◌<◌, ◌≤◌, ◌⊎◌, inl, inr, Bool, true, false, List, [], ◌∷◌, ◌++◌, Contains, Some, None, eq-eqb, eqb-true, get_or, length, nat_eq, set, slice_get, refl, sym, ap, subst, ◌∙◌, arith, length-append, length-set}
+use Rattle.std.proofs.Common.{◌≡◌, ℕ, zero, suc, ◌+◌, ◌<◌, ◌≤◌, ◌⊎◌, inl, inr, Bool, true, List, [], ◌∷◌, ◌++◌, Some, None, eq-eqb, eqb-true, get_or, length, nat_eq, set, slice_get, refl, sym, ap, subst, ◌∙◌, arith, length-append, length-set}
 use Rattle.std.specs.declared.option.Option.{Option}
 use Rattle.std.specs.List.{list_any}
 use Rattle.std.specs.Prelude.{◌↔◌, IsTrue}
@@ -34,7 +34,7 @@ elsewhere (y ∷ xs) (suc k) x (suc i) = go (elsewhere xs k x i)
 pub stays : (v : Abc) (sets : List (Option Set)) (k : ℕ) → AreSets v sets → (k < length sets → is_settled sets k ≡ true) → Settles v sets sets k
 stays v sets k a h = record { len = refl; are = a; keeps = λ x e. e; here = h }
 
-pub put : (v : Abc) (old new : List (Option Set)) (k : ℕ) (s : Set) → AreSets v old → IsSetOf v k s.keys → k < length old → new ≡ set old k (Some s) → Settles v old new k
+pub put : (v : Abc) (old new : List (Option Set)) (k : ℕ) (s : Set) → AreSets v old → IsSetOf v k s → k < length old → new ≡ set old k (Some s) → Settles v old new k
 put v old new k s a is lt e = subst (λ (ss : List (Option Set)). Settles v old ss k) (sym e) (record {
   len = length-set old k (Some s);
   are = record { exact = λ x t f. exact x t f (elsewhere old k (Some s) x) };
@@ -42,11 +42,11 @@ put v old new k s a is lt e = subst (λ (ss : List (Option Set)). Settles v old 
   here = λ low. ap is_there (here old k (Some s) lt);
 })
   where
-    exact : (x : ℕ) (t : Set) → slice_get (set old k (Some s)) x ≡ Some (Some t) → (x ≡ k) ⊎ (slice_get (set old k (Some s)) x ≡ slice_get old x) → IsSetOf v x t.keys
+    exact : (x : ℕ) (t : Set) → slice_get (set old k (Some s)) x ≡ Some (Some t) → (x ≡ k) ⊎ (slice_get (set old k (Some s)) x ≡ slice_get old x) → IsSetOf v x t
     exact x t f (inl q) =
         let at : slice_get (set old k (Some s)) x ≡ Some (Some s) = ap (slice_get (set old k (Some s))) q ∙ here old k (Some s) lt in
         let same : s ≡ t = cc in
-        subst (λ n. IsSetOf v n t.keys) (sym q) (subst (λ (u : Set). IsSetOf v k u.keys) same is)
+        subst (λ n. IsSetOf v n t) (sym q) (subst (λ (u : Set). IsSetOf v k u) same is)
     exact x t f (inr q) = a.exact x t (sym q ∙ f)
 
     keeps : (x : ℕ) → is_settled old x ≡ true → (x ≡ k) ⊎ (slice_get (set old k (Some s)) x ≡ slice_get old x) → is_settled (set old k (Some s)) x ≡ true

@@ -1,5 +1,5 @@
 -- The interfaces of a class are those of all that it leads to.
-use Rattle.std.proofs.Common.{◌≡◌, ℕ, ◌+◌, ◌⊎◌, inl, inr, Bool, true, false, not, cond, List, [], ◌∷◌, ◌++◌, Contains, IsTrue, Some, None, get_or, length, slice_get, refl, sym, ap, subst, ◌∙◌, arith}
+use Rattle.std.proofs.Common.{◌≡◌, ℕ, ◌⊎◌, inl, inr, Bool, true, false, not, cond, List, [], ◌∷◌, ◌++◌, Contains, IsTrue, Some, None, get_or, length, slice_get, refl, sym, ap, subst, ◌∙◌, arith}
 use Rattle.std.specs.declared.option.Option.{Option}
 use Rattle.std.specs.List.{list_any}
 use Rattle.std.proofs.lemmas.List.{get_or_default}
@@ -9,7 +9,7 @@ use Rattle.abc_link_program.specs.Interfaces.{class_graph}
 use Rattle.abc_link_names.proofs.ItemsPairs.{any_makes}
 use Rattle.abc_link_names.specs.Bases.{is_interface}
 use Rattle.abc_file_types.specs.declared.tables.Abc.{Abc}
-use Rattle.abc_link_interfaces.specs.Sets.{AddsEach, AreSets, Gathers, IsAbove, IsSetOf, Set, given_by, is_settled, is_there, keys_at, keys_in}
+use Rattle.abc_link_interfaces.specs.Sets.{AreSets, Gathers, IsAbove, IsSetOf, Set, given_by, is_settled, is_there, keys_at, keys_in}
 
 contains_none : {A : Type 0} (y : A) → Contains [] y → ⊥
 contains_none y c = let h = c.1 in omega arith
@@ -72,12 +72,9 @@ given_complete v sets k list a none gives y is (Then {y = t} {z = z} c rest) =
 gathered : (v : Abc) (sets : List (Option Set)) (classes list : List ℕ) → Gathers v sets classes list (length classes) → (t y : ℕ) → Contains classes t → Contains (given_by v sets t) y → Contains list y
 gathered v sets classes list g t y c h = g.complete c.0 y c.1 (subst (λ n. Contains (given_by v sets n) y) (sym (get_or_default classes c.0 0 t c.1 ∙ c.2)) h)
 
-pub united : (v : Abc) (g : List (List ℕ)) (sets : List (Option Set)) (k : ℕ) (classes list given keys : List ℕ) → g ≡ class_graph v → AreSets v sets → list_any (λ (x : ℕ). not (is_settled sets x)) (targets g k) ≡ false
-    → classes ≡ targets g k → Gathers v sets classes list (length classes) → given ≡ list → AddsEach [] keys given (length given) → IsSetOf v k keys
-united v g sets k classes list given keys is_g a none is_classes gathers is_given adds = record {
-  sound = λ y c. sound y (adds.only y c);
-  complete = λ y h. complete y (given_complete v sets k list a none2 gives y h.0 h.1);
-}
+pub united : (v : Abc) (g : List (List ℕ)) (sets : List (Option Set)) (k : ℕ) (classes list keys : List ℕ) → g ≡ class_graph v → AreSets v sets → list_any (λ (x : ℕ). not (is_settled sets x)) (targets g k) ≡ false
+    → classes ≡ targets g k → Gathers v sets classes list (length classes) → keys ≡ list → IsSetOf v k keys
+united v g sets k classes list keys is_g a none is_classes gathers is_list = subst (IsSetOf v k) (sym is_list) (record { sound = sound; complete = λ y h. given_complete v sets k list a none2 gives y h.0 h.1 })
   where
     all : classes ≡ targets (class_graph v) k
     all = is_classes ∙ ap (λ (h : List (List ℕ)). targets h k) is_g
@@ -91,13 +88,5 @@ united v g sets k classes list given keys is_g a none is_classes gathers is_give
     gives : (t y : ℕ) → Contains (targets (class_graph v) k) t → Contains (given_by v sets t) y → Contains list y
     gives = gathered v sets (targets (class_graph v) k) list theirs
 
-    sound : (y : ℕ) → Contains [] y ⊎ Contains given y → IsAbove v k y
-    sound y (inl c) = absurd (contains_none y c)
-    sound y (inr c) =
-        let h = theirs.sound y (subst (λ (ns : List ℕ). Contains ns y) is_given c) in
-        given_sound v sets k h.0 y a (settled_each sets (targets (class_graph v) k) h.0 none2 h.1) h.1 h.2
-
-    complete : (y : ℕ) → Contains list y → Contains keys y
-    complete y c =
-        let d : Contains given y = subst (λ (ns : List ℕ). Contains ns y) (sym is_given) c in
-        subst (Contains keys) (get_or_default given d.0 0 y d.1 ∙ d.2) (adds.each d.0 d.1)
+    sound : (y : ℕ) → Contains list y → IsAbove v k y
+    sound y c = let h = theirs.sound y c in given_sound v sets k h.0 y a (settled_each sets (targets (class_graph v) k) h.0 none2 h.1) h.1 h.2

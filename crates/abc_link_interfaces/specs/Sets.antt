@@ -1,16 +1,14 @@
 -- Sets of the interfaces of classes.
-use Rattle.std.specs.Prelude.{◌≡◌, ℕ, ◌<◌, ◌⊎◌, List, [], ◌∷◌, ◌++◌, Bool, true, false, Contains, IsTrue, Some, None, if◌then◌else◌, get_or, length, not, slice_get}
+use Rattle.std.specs.Prelude.{◌≡◌, ℕ, ◌<◌, ◌⊎◌, List, [], ◌∷◌, ◌++◌, Bool, true, false, Contains, IsTrue, Some, None, if◌then◌else◌, get_or, length, slice_get}
 use Rattle.std.specs.declared.option.Option.{Option}
-use Rattle.std.specs.declared.hash.FoldHasher.{FoldHasher}
-use Rattle.std.specs.declared.hash.BuildHasherDefault.{BuildHasherDefault}
-use Rattle.indexmap.specs.IndexSet.{IndexSet}
 use Rattle.abc_base_graphs.specs.Graph.{Leads}
 use Rattle.abc_link_program.specs.Interfaces.{class_graph}
 use Rattle.abc_link_names.specs.Bases.{is_interface}
 use Rattle.abc_file_types.specs.declared.tables.Abc.{Abc}
 
+-- the set of a class: the numbers of its interfaces
 abbrev pub Set : Type 0
-Set = IndexSet ℕ (BuildHasherDefault FoldHasher)
+Set = List ℕ
 
 -- the first n of some numbers were added to a set, and nothing else
 pub record AddsEach (old new numbers : List ℕ) (n : ℕ) : Type 0 where
@@ -35,7 +33,7 @@ pub record IsSetOf (v : Abc) (k : ℕ) (keys : List ℕ) : Type 0 where
 
 -- each set that is there is that of its class
 pub record AreSets (v : Abc) (sets : List (Option Set)) : Type 0 where
-  pub exact : (k : ℕ) (s : Set) → slice_get sets k ≡ Some (Some s) → IsSetOf v k s.keys
+  pub exact : (k : ℕ) (s : Set) → slice_get sets k ≡ Some (Some s) → IsSetOf v k s
 
 -- ---- the set of a class, if it is there
 
@@ -50,7 +48,7 @@ is_settled sets k = is_there (slice_get sets k)
 abbrev pub keys_in : Option (Option Set) → List ℕ
 keys_in None = []
 keys_in (Some None) = []
-keys_in (Some (Some s)) = s.keys
+keys_in (Some (Some s)) = s
 
 abbrev pub keys_at : List (Option Set) → ℕ → List ℕ
 keys_at sets k = keys_in (slice_get sets k)

@@ -2,10 +2,10 @@ ghost use Rattle.std.specs.Prelude.{◌≡◌, ◌∷◌, [], if◌then◌else�
 ghost use Rattle.abc_link_interfaces.specs.Sets.{AddsAll, AddsEach, Gathers, given_by, keys_at as keys_in_sets};
 ghost use Rattle.abc_link_names.specs.Bases.{is_interface as is_interface_class};
 
+use crate::set::NumberSet;
 use abc_base::{NoMemory, Table};
 use abc_file_types::Abc;
 use abc_link_names::is_interface;
-use indexmap::IndexSet;
 use std::alloc::Global;
 
 /// Whether a number stands at a place of a list.
@@ -63,7 +63,7 @@ fn push_all(list: &mut Vec<u32>, places: &mut Vec<u32>, numbers: &[u32]) -> Resu
 }
 
 /// The set of a class, as far as it is there.
-pub(crate) fn keys_at(sets: &Table<Option<IndexSet<u32>>>, class: u32) -> &[u32]
+pub(crate) fn keys_at(sets: &Table<Option<NumberSet>>, class: u32) -> &[u32]
     ensures { result.now ≡ keys_in_sets sets.now class }
 {
     match sets.find(class as usize) {
@@ -94,7 +94,7 @@ fn push_given(
     list: &mut Vec<u32>,
     places: &mut Vec<u32>,
     abc: &Abc,
-    sets: &Table<Option<IndexSet<u32>>>,
+    sets: &Table<Option<NumberSet>>,
     class: u32,
 ) -> Result<(), NoMemory>
     ensures list { OnOk result (AddsAll list.old.items list.new.items (given_by abc.now sets.now class)) }
@@ -109,7 +109,7 @@ fn push_given(
 pub(crate) fn given(
     alloc: Global,
     abc: &Abc,
-    sets: &Table<Option<IndexSet<u32>>>,
+    sets: &Table<Option<NumberSet>>,
     places: &mut Vec<u32>,
     classes: &[u32],
 ) -> Result<Vec<u32>, NoMemory>

@@ -2,18 +2,18 @@ ghost use Rattle.std.specs.Prelude.{◌≡◌, ◌<◌, ◌↔◌, ◌^◌, leng
 ghost use Rattle.abc_link_interfaces.specs.Sets.{HasSets, IsAbove};
 
 use crate::graph::class_graph;
+use crate::set::NumberSet;
 use crate::sets::{has, sets_of};
 use crate::visits::visits;
 use abc_base::{NoMemory, Table};
 use abc_file_types::Abc;
 use abc_link_names::Meanings;
-use indexmap::IndexSet;
 use std::alloc::Global;
 
 /// The interfaces of classes, as a set for each class.
 #[derive(Drop)]
 pub struct Interfaces {
-    pub(crate) sets: Table<Option<IndexSet<u32>>>,
+    pub(crate) sets: Table<Option<NumberSet>>,
 }
 
 impl Interfaces {

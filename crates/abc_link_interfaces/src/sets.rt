@@ -5,12 +5,11 @@ ghost use Rattle.abc_link_interfaces.specs.Sets.{AreSets, AreUnset, HasSets, IsS
 ghost use Rattle.abc_link_program.specs.Interfaces.{class_graph};
 
 use crate::gathered::{given, keys_at};
-use crate::set::set_of;
+use crate::set::NumberSet;
 use abc_base::{NoMemory, Table};
 use abc_base_graphs::reached;
 use abc_file_types::Abc;
 use abc_link_names::is_interface;
-use indexmap::IndexSet;
 use std::alloc::Global;
 
 /// The most numbers that all sets have. Where there would be more, memory is said to have run out: of a chain of interfaces, each of
@@ -29,7 +28,7 @@ struct Room {
 }
 
 /// How many numbers the sets of some classes have.
-fn numbers_in(sets: &Table<Option<IndexSet<u32>>>, classes: &[u32]) -> usize {
+fn numbers_in(sets: &Table<Option<NumberSet>>, classes: &[u32]) -> usize {
     let mut count = classes.len();
     for class in classes {
         count = count.saturating_add(keys_at(sets, *class).len());
@@ -38,7 +37,7 @@ fn numbers_in(sets: &Table<Option<IndexSet<u32>>>, classes: &[u32]) -> usize {
 }
 
 /// Whether the set of a class is there.
-fn is_settled(sets: &Table<Option<IndexSet<u32>>>, class: u32) -> bool
+fn is_settled(sets: &Table<Option<NumberSet>>, class: u32) -> bool
     ensures { result ≡ is_settled_in sets.now class }
 {
     match sets.find(class as usize) {
@@ -48,7 +47,7 @@ fn is_settled(sets: &Table<Option<IndexSet<u32>>>, class: u32) -> bool
 }
 
 /// Whether the set of one of several classes is missing.
-fn any_missing(sets: &Table<Option<IndexSet<u32>>>, classes: &[u32]) -> bool
+fn any_missing(sets: &Table<Option<NumberSet>>, classes: &[u32]) -> bool
     ensures { result ≡ list_any (λ t. not (is_settled_in sets.now t)) classes.now }
 {
     for class in classes {
@@ -95,17 +94,17 @@ fn united(
     alloc: Global,
     abc: &Abc,
     graph: &Table<Table<u32>>,
-    sets: &Table<Option<IndexSet<u32>>>,
+    sets: &Table<Option<NumberSet>>,
     places: &mut Vec<u32>,
     class: u32,
-) -> Result<IndexSet<u32>, NoMemory>
+) -> Result<NumberSet, NoMemory>
     requires graph { graph.now ≡ class_graph abc.now }
     requires sets { AreSets abc.now sets.now }
     requires there { list_any (λ t. not (is_settled_in sets.now t)) (targets graph.now class) ≡ false }
-    ensures { IfOk result (λ s. IsSetOf abc.now class s.keys) }
+    ensures { IfOk result (λ s. IsSetOf abc.now class s) }
 {
     let list = given(alloc, abc, sets, places, targets_of(graph, class))?;
-    let set = set_of(alloc, list.as_slice())?;
+    let set = NumberSet::new(alloc, list.as_slice())?;
     Ok(set)
 }
 
@@ -116,16 +115,16 @@ fn searched(
     abc: &Abc,
     graph: &Table<Table<u32>>,
     class: u32,
-) -> Result<IndexSet<u32>, NoMemory>
+) -> Result<NumberSet, NoMemory>
     requires graph { graph.now ≡ class_graph abc.now }
     requires in_range { IsGraph graph.now }
     requires few { length graph.now < 2 ^ 32 }
     requires known { class < length graph.now }
-    ensures { IfOk result (λ s. IsSetOf abc.now class s.keys) }
+    ensures { IfOk result (λ s. IsSetOf abc.now class s) }
 {
     let marks = reached(alloc, graph, class)?;
     let list = marked(alloc, abc, marks.as_slice(), graph.len() as u32)?;
-    set_of(alloc, list.as_slice())
+    NumberSet::new(alloc, list.as_slice())
 }
 
 /// What a class leads to.
@@ -144,16 +143,16 @@ fn set_for(
     alloc: Global,
     abc: &Abc,
     graph: &Table<Table<u32>>,
-    sets: &Table<Option<IndexSet<u32>>>,
+    sets: &Table<Option<NumberSet>>,
     places: &mut Vec<u32>,
     class: u32,
-) -> Result<IndexSet<u32>, NoMemory>
+) -> Result<NumberSet, NoMemory>
     requires graph { graph.now ≡ class_graph abc.now }
     requires in_range { IsGraph graph.now }
     requires few { length graph.now < 2 ^ 32 }
     requires known { class < length graph.now }
     requires sets { AreSets abc.now sets.now }
-    ensures { IfOk result (λ s. IsSetOf abc.now class s.keys) }
+    ensures { IfOk result (λ s. IsSetOf abc.now class s) }
 {
     if any_missing(sets, targets_of(graph, class)) {
         return searched(alloc, abc, graph, class);
@@ -167,7 +166,7 @@ fn settle(
     alloc: Global,
     abc: &Abc,
     graph: &Table<Table<u32>>,
-    sets: &mut Table<Option<IndexSet<u32>>>,
+    sets: &mut Table<Option<NumberSet>>,
     places: &mut Vec<u32>,
     room: &mut Room,
     class: u32,
@@ -188,14 +187,17 @@ fn settle(
     let steps = numbers_in(sets, targets_of(graph, class));
     room.gone_over = room.gone_over.checked_sub(steps).ok_or(NoMemory)?;
     let settled = set_for(alloc, abc, graph, sets, places, class)?;
-    room.kept = room.kept.checked_sub(settled.len()).ok_or(NoMemory)?;
+    room.kept = room
+        .kept
+        .checked_sub(settled.as_slice().len())
+        .ok_or(NoMemory)?;
     sets.set(class as usize, Some(settled));
     Ok(())
 }
 
 /// No sets, for so many classes.
 #[tactic(auto, using(crate::proofs::Settling::unset_none, crate::proofs::Settling::unset_next))]
-fn unset(alloc: Global, count: usize) -> Result<Table<Option<IndexSet<u32>>>, NoMemory>
+fn unset(alloc: Global, count: usize) -> Result<Table<Option<NumberSet>>, NoMemory>
     ensures { IfOk result (λ sets. AreUnset sets count) }
 {
     let mut sets = Table::new(alloc);
@@ -212,7 +214,7 @@ fn settle_each(
     abc: &Abc,
     graph: &Table<Table<u32>>,
     nodes: &[u32],
-) -> Result<Table<Option<IndexSet<u32>>>, NoMemory>
+) -> Result<Table<Option<NumberSet>>, NoMemory>
     requires graph { graph.now ≡ class_graph abc.now }
     requires in_range { IsGraph graph.now }
     requires few { length graph.now < 2 ^ 32 }
@@ -237,7 +239,7 @@ pub(crate) fn sets_of(
     abc: &Abc,
     graph: &Table<Table<u32>>,
     nodes: &[u32],
-) -> Result<Table<Option<IndexSet<u32>>>, NoMemory>
+) -> Result<Table<Option<NumberSet>>, NoMemory>
     requires graph { graph.now ≡ class_graph abc.now }
     requires in_range { IsGraph graph.now }
     requires few { length graph.now < 2 ^ 32 }
@@ -249,11 +251,11 @@ pub(crate) fn sets_of(
 }
 
 /// Whether the set of a class has a number.
-pub(crate) fn has(sets: &Table<Option<IndexSet<u32>>>, class: u32, number: u32) -> bool
+pub(crate) fn has(sets: &Table<Option<NumberSet>>, class: u32, number: u32) -> bool
     ensures { result ≡ list_any (nat_eq number) (keys_in_sets sets.now class) }
 {
     match sets.find(class as usize) {
-        Some(Some(set)) => set.contains(&number),
+        Some(Some(set)) => set.has(number),
         _ => false,
     }
 }

@@ -9,3 +9,4 @@ pub mod Owners
 pub mod Interfaces
 pub mod Traits
 pub mod Kinds
+pub mod ClassBases

@@ -4,7 +4,7 @@ use Rattle.std.specs.Prelude.{IsSome, Ok, Err}
 use Rattle.std.specs.declared.option.Option.{Option}
 use Rattle.std.specs.declared.result.Result.{Result}
 use Rattle.abc_base.specs.declared.formula.Formula.{Formula}
-use Rattle.abc_meaning_sound.specs.Calls.{Replied, begins_call, call_meaning, replies, replies_for, then_replies}
+use Rattle.abc_meaning.specs.Calls.{Replied, begins_call, call_meaning, replies, replies_for, then_replies}
 use Rattle.abc_heap_values.specs.declared.values.Value.TheVariants.{Undefined}
 use Rattle.abc_run_finish.specs.Ending.{IsSized, end_of, stepped_by}
 use Rattle.abc_run_finish.specs.declared.ended.Ended.{Ended}

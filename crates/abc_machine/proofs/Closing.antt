@@ -9,7 +9,7 @@ use Rattle.abc_base.specs.Faults.{Rose}
 use Rattle.abc_base.specs.Sinks.{GrowsByFront, WritesAll}
 use Rattle.abc_base.specs.declared.formula.Formula.{Formula}
 use Rattle.abc_base.specs.declared.source.Failed.{Failed}
-use Rattle.abc_meaning_sound.specs.Calls.{replies_for}
+use Rattle.abc_meaning.specs.Calls.{replies_for}
 use Rattle.abc_machine.proofs.Lined.{told_on, whole_on}
 use Rattle.abc_meaning.specs.Lines.{end_line}
 use Rattle.abc_meaning.specs.Logs.{logs_for}

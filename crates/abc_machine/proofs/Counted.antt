@@ -3,7 +3,7 @@ use Rattle.std.proofs.Common.{◌≡◌, ℕ, ◌<◌, ◌≤◌, Bool, true, fa
 use Rattle.std.specs.Prelude.{None, Some, ◌||◌, nat_lt}
 use Rattle.std.specs.declared.option.Option.{Option}
 use Rattle.std.proofs.lemmas.Bool.{ltb-false, or_parts}
-use Rattle.abc_run_calls.proofs.Bodied.{body_inside}
+use Rattle.abc_link_program.proofs.MethodBodies.{body_inside}
 use Rattle.abc_link_names.specs.Parts.{body_at}
 use Rattle.abc_link_names.specs.Rules.{is_too_large, size_limit}
 use Rattle.abc_link_names.specs.declared.items.ItemKind.TheVariants as items

@@ -9,8 +9,8 @@ use Rattle.abc_base.specs.declared.plain.Plain.{Plain}
 use Rattle.abc_run_finish.specs.Calling.{CanCall}
 use Rattle.abc_meaning_sound.proofs.Given.{calls_give}
 use Rattle.abc_meaning_sound.proofs.Left.{calls_left}
-use Rattle.abc_meaning_sound.specs.Calls.{Gives, Replied, call_meaning, silent}
-use Rattle.abc_meaning_sound.specs.CallLaws.{IsScriptMethod}
+use Rattle.abc_meaning.specs.Calls.{Gives, Replied, call_meaning, silent}
+use Rattle.abc_meaning.specs.Exports.{IsScriptMethod}
 use Rattle.abc_heap_values.specs.declared.values.Span.{Span}
 use Rattle.abc_heap_values.specs.declared.values.Value.{Value}
 use Rattle.abc_heap_values.specs.declared.values.Value.TheVariants as values

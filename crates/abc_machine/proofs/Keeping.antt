@@ -4,7 +4,7 @@ use Rattle.std.proofs.lemmas.List.{length-map}
 use Rattle.abc_base.specs.declared.formula.Formula.{Formula}
 use Rattle.abc_meaning_sound.proofs.Hosts.{names_matter}
 use Rattle.abc_meaning_sound.proofs.Left.{silent_sound}
-use Rattle.abc_meaning_sound.specs.Calls.{silent}
+use Rattle.abc_meaning.specs.Calls.{silent}
 use Rattle.abc_run_calls.specs.Arguments.{IsKnown}
 use Rattle.abc_heap_store.specs.Heap.{Heap}
 use Rattle.abc_machine.specs.Machines.{CanGoOn, kept_world}

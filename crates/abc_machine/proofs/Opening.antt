@@ -8,7 +8,7 @@ use Rattle.std.specs.declared.option.Option.{Option}
 use Rattle.abc_base.specs.Hosts.{AreFormulas}
 use Rattle.abc_base.specs.declared.formula.Formula.{Formula}
 use Rattle.abc_meaning_sound.proofs.Left.{runs_left}
-use Rattle.abc_meaning_sound.specs.Calls.{replies_for, silent}
+use Rattle.abc_meaning.specs.Calls.{replies_for, silent}
 use Rattle.abc_run_calls.specs.Arguments.{IsKnown}
 use Rattle.abc_heap_store.specs.Heap.{Heap}
 use Rattle.abc_heap_store.specs.declared.records.Limit.{Limit}

@@ -3,14 +3,14 @@ use Rattle.std.proofs.Common.{◌≡◌, ◌≢◌, ℕ, ◌<◌, ◌^◌, List,
 use Rattle.std.specs.Prelude.{Ok}
 use Rattle.std.specs.declared.option.Option.{Option}
 use Rattle.std.specs.declared.result.Result.{Result}
-use Rattle.abc_meaning_sound.specs.Calls.{returned, value_returned}
+use Rattle.abc_meaning.specs.Calls.{returned, value_returned}
 use Rattle.abc_heap_values.specs.declared.values.Value.{Value}
 use Rattle.abc_run_dispatch.proofs.Led.{runs_here}
 use Rattle.abc_run_dispatch.specs.Ready.{CanStep, IsEquipped}
 use Rattle.abc_run_finish.specs.Ending.{IsSized}
 use Rattle.abc_run_finish.proofs.Finished.{ended_in}
 use Rattle.abc_meaning_sound.proofs.Sounded.{frames_run}
-use Rattle.abc_meaning_sound.specs.Running.{IsRunning}
+use Rattle.abc_meaning.specs.Running.{IsRunning}
 use Rattle.abc_run_finish.proofs.Sounding.{step_is, turn_fair}
 use Rattle.abc_run_finish.proofs.Turned.{entered_gives_none, living_is}
 use Rattle.abc_run_finish.specs.Fairly.{IsFairTurn}

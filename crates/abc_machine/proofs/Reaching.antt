@@ -5,7 +5,7 @@ use Rattle.std.specs.Io.KnownBytes.{append_known}
 use Rattle.std.specs.declared.option.Option.{Option}
 use Rattle.abc_base.specs.Sinks.{GrowsByFront}
 use Rattle.abc_meaning_sound.proofs.Appended.{calls_append}
-use Rattle.abc_meaning_sound.specs.Calls.{EndsAs as RepliesEnd, Replied, replies, replies_for, returned, then_replies}
+use Rattle.abc_meaning.specs.Calls.{EndsAs as RepliesEnd, Replied, replies, replies_for, returned, then_replies}
 use Rattle.abc_heap_values.specs.declared.values.Value.{Value}
 use Rattle.abc_meaning.specs.Logs.{steps_for, then_counts}
 use Rattle.abc_machine.specs.Replied.{IsReplyOf, RepliesAs, failed, replied}

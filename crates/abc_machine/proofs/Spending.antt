@@ -3,7 +3,7 @@ use Rattle.std.proofs.Common.{◌≡◌, ◌≢◌, ℕ, zero, suc, ◌-◌, ◌
 use Rattle.std.specs.Prelude.{Ok, Err}
 use Rattle.std.specs.declared.option.Option.{Option}
 use Rattle.std.specs.declared.result.Result.{Result}
-use Rattle.abc_meaning_sound.specs.Calls.{replies_for, returned}
+use Rattle.abc_meaning.specs.Calls.{replies_for, returned}
 use Rattle.abc_heap_values.specs.declared.values.Value.{Value}
 use Rattle.abc_run_finish.specs.Ending.{IsSized}
 use Rattle.abc_run_finish.specs.declared.ended.Ended.TheVariants as ended

@@ -1,8 +1,8 @@
 -- A run is a call whose value is not told.
 use Rattle.std.proofs.Common.{◌≡◌, ◌≢◌, ℕ, zero, suc, List, refl, sym, ap, subst}
 use Rattle.std.specs.declared.option.Option.{Option}
-use Rattle.abc_meaning_sound.specs.Calls.{EndsAs, Gives, Replied, replies_for, returned, then_replies}
-use Rattle.abc_meaning_sound.specs.Calls as calls
+use Rattle.abc_meaning.specs.Calls.{EndsAs, Gives, Replied, replies_for, returned, then_replies}
+use Rattle.abc_meaning.specs.Calls as calls
 use Rattle.abc_heap_values.specs.declared.values.Value.{Value}
 use Rattle.abc_machine.specs.Ended.{HasRun, IsEndOf, RunsAs, ended}
 use Rattle.abc_machine.specs.Ended as runs

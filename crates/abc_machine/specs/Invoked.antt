@@ -4,7 +4,7 @@ use Rattle.std.specs.declared.option.Option.{Option}
 use Rattle.abc_base.specs.Hosts.{arguments}
 use Rattle.abc_base.specs.declared.formula.Formula.{Formula}
 use Rattle.abc_base.specs.declared.plain.Plain.{Plain}
-use Rattle.abc_meaning_sound.specs.Calls.{Call, Replied, answers_call, silent}
+use Rattle.abc_meaning.specs.Calls.{Call, Replied, answers_call, silent}
 use Rattle.abc_machine.specs.Machines.{Opened}
 use Rattle.abc_machine.specs.Replied.{RepliesAs, is_write_fault}
 use Rattle.abc_machine.specs.declared.replies.Reply.{Reply}

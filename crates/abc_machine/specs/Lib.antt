@@ -6,3 +6,12 @@ pub mod Machines
 pub mod Invoked
 pub mod Runs
 pub mod Spent
+pub use Rattle.abc_meaning.specs.World
+pub use Rattle.abc_meaning.specs.Setting
+pub use Rattle.abc_meaning.specs.Step
+pub use Rattle.abc_meaning.specs.Throwing
+pub use Rattle.abc_meaning.specs.Meaning
+pub use Rattle.abc_meaning.specs.Sound
+pub use Rattle.abc_meaning.specs.Calls
+pub use Rattle.abc_meaning.specs.Exports
+pub use Rattle.abc_meaning.specs.Logs

@@ -4,8 +4,8 @@ use Rattle.std.specs.Io.KnownBytes.{append_known}
 use Rattle.std.specs.declared.option.Option.{Option}
 use Rattle.abc_base.specs.Faults.{Rose}
 use Rattle.abc_base.specs.Sinks.{GrowsByFront}
-use Rattle.abc_meaning_sound.specs.Calls as meant
-use Rattle.abc_meaning_sound.specs.Calls.{Replied}
+use Rattle.abc_meaning.specs.Calls as meant
+use Rattle.abc_meaning.specs.Calls.{Replied}
 use Rattle.abc_heap_values.specs.declared.values.Value.{Value}
 use Rattle.abc_heap_values.specs.declared.values.Value.TheVariants as values
 use Rattle.abc_machine.specs.declared.replies.PlainValue.{PlainValue}

@@ -3,7 +3,7 @@ use Rattle.std.specs.Prelude.{◌≡◌, ℕ, zero, suc, ◌+◌, ◌-◌, ◌�
 use Rattle.std.specs.Io.KnownBytes.{append_known}
 use Rattle.std.specs.declared.option.Option.{Option}
 use Rattle.abc_base.specs.declared.formula.Formula.{Formula}
-use Rattle.abc_meaning_sound.specs.Calls.{replies_for}
+use Rattle.abc_meaning.specs.Calls.{replies_for}
 use Rattle.abc_run_finish.specs.Ending.{IsSized}
 use Rattle.abc_meaning.specs.Logs.{steps_for}
 use Rattle.abc_meaning.specs.Step.{step}

@@ -2,8 +2,8 @@
 use Rattle.std.specs.Prelude.{◌≡◌, ℕ, suc, List, Ok, Err}
 use Rattle.std.specs.declared.option.Option.{Option}
 use Rattle.std.specs.declared.result.Result.{Result}
-use Rattle.abc_meaning_sound.specs.Calls as calls
-use Rattle.abc_meaning_sound.specs.Calls.{returned}
+use Rattle.abc_meaning.specs.Calls as calls
+use Rattle.abc_meaning.specs.Calls.{returned}
 use Rattle.abc_heap_values.specs.declared.values.Value.{Value}
 use Rattle.abc_run_finish.specs.Ending.{IsSized}
 use Rattle.abc_run_finish.specs.declared.ended.Ended.TheVariants as ended

@@ -3,7 +3,7 @@ use abc_heap_store::Limit;
 use abc_meaning::Thrown;
 
 /// How a run ends.
-#[derive(Clone, Copy)]
+#[derive(Clone, Copy, Debug, PartialEq, Eq)]
 pub enum End {
     /// The init of the last script returned.
     Done,

@@ -2,7 +2,7 @@ ghost use Rattle.std.specs.Prelude.{◌≡◌, ◌≢◌, ◌+◌, ◌≤◌, Is
 ghost use Rattle.std.specs.Io.KnownBytes.{append_known};
 ghost use Rattle.abc_base.specs.Faults.{HasCause, Rose};
 ghost use Rattle.abc_base.specs.Sinks.{GrowsByFront, WritesAll};
-ghost use Rattle.abc_meaning_sound.specs.Calls.{replies_for};
+ghost use Rattle.abc_meaning.specs.Calls.{replies_for};
 ghost use Rattle.abc_meaning.specs.Lines.{end_line};
 ghost use Rattle.abc_meaning.specs.Logs.{logs_for, steps_for};
 ghost use Rattle.abc_machine.specs.Ended.{HasRun, IsEndOf};

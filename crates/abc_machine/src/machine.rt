@@ -1,6 +1,6 @@
 ghost use Rattle.std.specs.Prelude.{◌≡◌, ◌≢◌, None, Some, MatchResult};
-ghost use Rattle.abc_meaning_sound.specs.Calls.{silent};
-ghost use Rattle.abc_meaning_sound.specs.CallLaws.{IsScriptMethod};
+ghost use Rattle.abc_meaning.specs.Calls.{silent};
+ghost use Rattle.abc_meaning.specs.Exports.{IsScriptMethod};
 ghost use Rattle.abc_heap_values.specs.declared.values.Span.{Span};
 ghost use Rattle.abc_heap_store.specs.Texts.{IsText, text_of};
 ghost use Rattle.abc_meaning.specs.Logs.{log as log_of, steps as steps_of};

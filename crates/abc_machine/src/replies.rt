@@ -4,7 +4,7 @@ use abc_heap_values::Span;
 use abc_meaning::Thrown;
 
 /// What a call gives, as its caller sees it.
-#[derive(Clone, Copy)]
+#[derive(Clone, Copy, Debug, PartialEq, Eq)]
 pub enum PlainValue {
     Undefined,
     Null,
@@ -18,7 +18,7 @@ pub enum PlainValue {
 }
 
 /// What comes of a call.
-#[derive(Clone, Copy)]
+#[derive(Clone, Copy, Debug, PartialEq, Eq)]
 pub enum Reply {
     /// The method returned this.
     Value(PlainValue),

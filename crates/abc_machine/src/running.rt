@@ -1,6 +1,6 @@
 ghost use Rattle.std.specs.Prelude.{◌≡◌, ◌≢◌, ◌+◌, ◌<◌, ◌≤◌, true, Ok};
 ghost use Rattle.abc_base.specs.Faults.{Rose};
-ghost use Rattle.abc_meaning_sound.specs.Calls.{replies_for};
+ghost use Rattle.abc_meaning.specs.Calls.{replies_for};
 ghost use Rattle.abc_run_dispatch.specs.Held.{IsHeld};
 ghost use Rattle.abc_meaning.specs.Logs.{steps_for};
 ghost use Rattle.abc_machine.specs.Ended.{HasRun, RunsAs};

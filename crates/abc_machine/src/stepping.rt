@@ -1,7 +1,7 @@
 ghost use Rattle.std.specs.Prelude.{◌≡◌, ◌≢◌, ◌<◌, ◌≤◌, ℕ, List, length, true, Err, Ok, MatchOption};
 ghost use Rattle.std.specs.declared.option.Option.{Option};
 ghost use Rattle.abc_base.specs.Faults.{Rose};
-ghost use Rattle.abc_meaning_sound.specs.Calls.{returned};
+ghost use Rattle.abc_meaning.specs.Calls.{returned};
 ghost use Rattle.abc_heap_values.specs.declared.values.Value.{Value};
 ghost use Rattle.abc_run_calls.specs.Calls.{CanFinish};
 ghost use Rattle.abc_run_dispatch.specs.Held.{IsHeld};

@@ -30,3 +30,8 @@ pub mod Lines
 pub mod Logs
 pub mod Inputs
 pub mod LogLaws
+pub mod Calls
+pub mod Exports
+pub mod Fair
+pub mod Running
+pub mod Told

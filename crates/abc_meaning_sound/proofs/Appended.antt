@@ -7,7 +7,7 @@ use Rattle.abc_meaning.proofs.Stepping.{steps_append}
 use Rattle.abc_meaning.specs.World.{World}
 use Rattle.abc_meaning.specs.Step.{step}
 use Rattle.abc_meaning.specs.Throwing.{Done, End, Ends, FuelSpent, Full, Machine, Profile, Stepped, Steps, Stuck, Uncaught}
-use Rattle.abc_meaning_sound.specs.Calls.{Replied, replies_for, returned, then_replies}
+use Rattle.abc_meaning.specs.Calls.{Replied, replies_for, returned, then_replies}
 use Rattle.abc_meaning_sound.specs.CallLaws.{CallsAppend}
 
 ended_appends : (u : World) (x : Value) (w : World) (e : End) (go : Machine → Replied) → IsFront u w → IsFront u (then_replies x (Ends w e) go).world

@@ -15,7 +15,7 @@ use Rattle.abc_meaning_sound.proofs.Settled.{ends_sound, puts_sound}
 use Rattle.abc_meaning_sound.specs.Keeping.{Fares, StopSound}
 use Rattle.abc_meaning_sound.proofs.Entered.{owned_fares}
 use Rattle.abc_meaning_sound.proofs.Never.{given}
-use Rattle.abc_meaning_sound.specs.Calls.{enters_call, entered_call, numbers, stops_call}
+use Rattle.abc_meaning.specs.Calls.{enters_call, entered_call, numbers, stops_call}
 use Rattle.abc_meaning_sound.specs.CallLaws.{CallsBeginSound}
 use Rattle.abc_meaning_sound.proofs.Exported.{owned_by_script}
 

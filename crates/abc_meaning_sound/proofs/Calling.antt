@@ -5,8 +5,9 @@ use Rattle.abc_base.specs.declared.names.Fault.{Fault}
 use Rattle.abc_meaning_sound.proofs.Called.{call_begins}
 use Rattle.abc_meaning_sound.proofs.Exported.{owned_by_script}
 use Rattle.abc_meaning_sound.proofs.Left.{silent_sound}
-use Rattle.abc_meaning_sound.specs.Calls.{EndsAs, Replied, begins_call, call_meaning, enters_call, entered_call, replies_for, returned, silent, stops_call, then_replies}
-use Rattle.abc_meaning_sound.specs.CallLaws.{CallsLeaveSound, IsScriptMethod, RunsLeaveSound}
+use Rattle.abc_meaning.specs.Calls.{EndsAs, Replied, begins_call, call_meaning, enters_call, entered_call, replies_for, returned, silent, stops_call, then_replies}
+use Rattle.abc_meaning.specs.Exports.{IsScriptMethod}
+use Rattle.abc_meaning_sound.specs.CallLaws.{CallsLeaveSound, RunsLeaveSound}
 use Rattle.abc_heap_values.specs.declared.values.Value.{Value}
 use Rattle.abc_heap_values.specs.declared.values.Value.TheVariants.{Undefined}
 use Rattle.abc_link_names.specs.Parts.{script_at}
@@ -20,7 +21,8 @@ use Rattle.abc_meaning.specs.Throwing.{Done, End, Ends, FuelSpent, Full, Machine
 use Rattle.abc_meaning.specs.World.{Errs, Faults, Fills, Outcome, Sticks, Stop, Stopped, Throws, Went, World}
 use Rattle.abc_meaning.specs.Setting.{Setting}
 use Rattle.abc_meaning_sound.proofs.Never.{are_typings, given, stays_sound, the_first_is_sound, typings}
-use Rattle.abc_meaning_sound.specs.Placed.{CallsCanBeTold, IsInstruction, RunsEndSound}
+use Rattle.abc_meaning_sound.specs.Placed.{CallsCanBeTold, RunsEndSound}
+use Rattle.abc_meaning.specs.Told.{IsInstruction}
 use Rattle.abc_meaning_sound.proofs.Placing.{init_placed, placed, step_placed, there}
 use Rattle.abc_meaning_sound.proofs.Stopping.{TellsAt, puts_tells, stops_tells}
 

@@ -37,7 +37,8 @@ use Rattle.abc_meaning.specs.Setting.{Setting}
 use Rattle.abc_meaning.specs.World.{Errs, Went, World, and_then, object, some}
 use Rattle.abc_meaning.specs.Newing.{base_prototype, is_none, is_that}
 use Rattle.abc_meaning.specs.Sound.{AreMade, IsMade, IsWithin, ObjectSound, PartSound, SlotHolds, WhatSound, WorldSound}
-use Rattle.abc_meaning_sound.specs.Given.{BaseKnown, FileGiven, ScopesGiven}
+use Rattle.abc_meaning_sound.specs.Given.{FileGiven, ScopesGiven}
+use Rattle.abc_link_program.specs.ClassBases.{BaseKnown}
 use Rattle.abc_meaning_sound.specs.Keeping.{Evolves, Fares, Leaves}
 use Rattle.abc_meaning_sound.proofs.Faring.{cells_then, done_fares, if_fares, objects_then, stop_fares, went_fares}
 use Rattle.abc_meaning_sound.proofs.Growing.{any_kind, first_is, object_on}

@@ -34,7 +34,7 @@ use Rattle.abc_meaning.specs.Throwing.{last_script}
 use Rattle.abc_meaning_sound.specs.Given.{FileGiven, OpsGiven, OwnedSound}
 use Rattle.abc_meaning_sound.proofs.Entered.{global_kind}
 use Rattle.abc_meaning_sound.proofs.Lists.{inside}
-use Rattle.abc_meaning_sound.specs.CallLaws.{IsScriptMethod}
+use Rattle.abc_meaning.specs.Exports.{IsScriptMethod}
 
 -- ---- among the traits of a table
 

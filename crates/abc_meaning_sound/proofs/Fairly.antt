@@ -2,7 +2,7 @@
 use Rattle.std.proofs.Common.{◌≢◌}
 use Rattle.abc_base.specs.declared.names.HostClass.{HostClass}
 use Rattle.abc_base.specs.declared.names.HostClass.TheVariants as hosts
-use Rattle.abc_meaning_sound.specs.Fair.{IsFairPart, IsFairStop, IsLeft}
+use Rattle.abc_meaning.specs.Fair.{IsFairPart, IsFairStop, IsLeft}
 use Rattle.abc_heap_store.specs.Heap.{obj_id}
 use Rattle.abc_heap_search.specs.Objects.{global_number}
 use Rattle.abc_meaning_sound.proofs.Never.{given}
@@ -11,7 +11,7 @@ use Rattle.abc_meaning_sound.specs.Keeping.{Fares, IsError, Leaves, StopSound}
 use Rattle.abc_meaning.specs.Setting.{Setting}
 use Rattle.abc_meaning.specs.World.{Errs, Faults, Fills, Outcome, Sticks, Stop, Stopped, Throws, Went, World}
 use Rattle.abc_meaning.specs.Throwing.{last_script}
-use Rattle.abc_meaning_sound.specs.Calls.{enters_call, numbers}
+use Rattle.abc_meaning.specs.Calls.{enters_call, numbers}
 use Rattle.abc_meaning_sound.specs.CallLaws.{CallsAreFair}
 use Rattle.abc_meaning_sound.proofs.Called.{numbers_exist}
 use Rattle.abc_meaning_sound.proofs.Exported.{owned_by_script}

@@ -27,7 +27,7 @@ use Rattle.abc_meaning.specs.Entering.{starts}
 use Rattle.abc_meaning.specs.Making.{new}
 use Rattle.abc_meaning.specs.Setting.{Setting, routine_of}
 use Rattle.abc_meaning.specs.World.{Errs, Faults, Fills, Outcome, Sticks, Stop, Stopped, Throws, Went, World}
-use Rattle.abc_meaning_sound.specs.Fair.{IsFairAs, IsFairPart, IsFairStop, IsLeft}
+use Rattle.abc_meaning.specs.Fair.{IsFairAs, IsFairPart, IsFairStop, IsLeft}
 use Rattle.abc_meaning_sound.specs.ProgressLaws.{ActsAreFair, NewsAreFair, StartsAreFair}
 use Rattle.abc_meaning_sound.proofs.Waited.{receiver_there}
 

@@ -1,7 +1,7 @@
 -- What is given of a verified file: its methods and instructions.
 use Rattle.std.proofs.Common.{◌≡◌, ℕ, zero, suc, ◌-◌, ◌<◌, ◌≤◌, ◌%◌, ◌^◌, ℤ, pos, List, [], ◌∷◌, length, map, replicate, get_or, refl, sym, ap, ◌∙◌, subst, arith, eqb-true}
 use Rattle.std.proofs.lemmas.Int.{ints}
-use Rattle.std.proofs.lemmas.Bool.{leb-true}
+use Rattle.std.proofs.lemmas.Bool.{false_from_ne_true, leb-true}
 use Rattle.std.specs.Prelude.{Bool, true, false, not, ◌||◌, is_some, nat_eq, nat_le, slice_get, Some, None, if◌then◌else◌}
 use Rattle.std.specs.List.{list_all, list_any}
 use Rattle.std.specs.declared.option.Option.{Option}
@@ -63,7 +63,7 @@ use Rattle.abc_meaning.specs.Setting.{Setting, raw_value, routine_in, routine_of
 use Rattle.abc_meaning.specs.Simple.{whole}
 use Rattle.abc_meaning_sound.specs.Given.{HasTarget, IsFormed, IsMethod, IsType, OptionExists}
 use Rattle.abc_meaning_sound.proofs.Lists.{inside}
-use Rattle.abc_meaning_sound.proofs.Indexed.{all_each, first_passed, got, is_at, map_at, no_break, none_passes, or_left, or_right}
+use Rattle.abc_meaning_sound.proofs.Indexed.{all_each, first_passed, got, is_at, map_at, none_passes, or_left, or_right}
 use Rattle.abc_meaning_sound.proofs.Numbers.{cast_number}
 
 -- ---- numbers of the pools
@@ -214,13 +214,13 @@ can_at n (x ∷ xs) (suc i) instr a e = can_at n xs i instr a.1 e
 
 module _ (l : LinkedFile) (linked : IsLinkedFile l) where
   pub types_known : (kind : ItemKind) (i : ℕ) → i < count_of l.file kind → breaks_unknown_type l.file kind i ≡ false
-  types_known kind i b = or_left (breaks_unknown_type l.file kind i) (breaks_of_kind l.file rules.UnknownType kind i) (no_break (breaks_unknown_type l.file kind i || breaks_of_kind l.file rules.UnknownType kind i) (linked.rules rules.UnknownType (omega arith) (record { kind = kind; index = i }) (record { within = b })))
+  types_known kind i b = or_left (breaks_unknown_type l.file kind i) (breaks_of_kind l.file rules.UnknownType kind i) (false_from_ne_true (breaks_unknown_type l.file kind i || breaks_of_kind l.file rules.UnknownType kind i) (linked.rules rules.UnknownType (omega arith) (record { kind = kind; index = i }) (record { within = b })))
 
   pub traits_run : (kind : ItemKind) (i : ℕ) → i < count_of l.file kind → breaks_trait_not_run l.file kind i ≡ false
-  traits_run kind i b = or_left (breaks_trait_not_run l.file kind i) (breaks_of_kind l.file rules.TraitNotRun kind i) (no_break (breaks_trait_not_run l.file kind i || breaks_of_kind l.file rules.TraitNotRun kind i) (linked.rules rules.TraitNotRun (omega arith) (record { kind = kind; index = i }) (record { within = b })))
+  traits_run kind i b = or_left (breaks_trait_not_run l.file kind i) (breaks_of_kind l.file rules.TraitNotRun kind i) (false_from_ne_true (breaks_trait_not_run l.file kind i || breaks_of_kind l.file rules.TraitNotRun kind i) (linked.rules rules.TraitNotRun (omega arith) (record { kind = kind; index = i }) (record { within = b })))
 
   pub some_script : 0 < length l.file.scripts
-  some_script = go (length l.file.scripts) (no_break (nat_eq (length l.file.scripts) 0) (linked.rules rules.NoScript (omega arith) (record { kind = items.File; index = 0 }) (record { within = omega arith })))
+  some_script = go (length l.file.scripts) (false_from_ne_true (nat_eq (length l.file.scripts) 0) (linked.rules rules.NoScript (omega arith) (record { kind = items.File; index = 0 }) (record { within = omega arith })))
     where
       go : (n : ℕ) → nat_eq n 0 ≡ false → 0 < n
       go zero e = absurd cc

@@ -7,7 +7,7 @@ use Rattle.abc_heap_values.specs.declared.values.ObjId.{ObjId}
 use Rattle.abc_heap_values.specs.declared.values.Value.{Value}
 use Rattle.abc_heap_values.specs.declared.values.Value.TheVariants.{Obj, Undefined}
 use Rattle.abc_meaning_sound.proofs.Fared.{acts_fair}
-use Rattle.abc_meaning_sound.specs.Fair.{IsFairAs}
+use Rattle.abc_meaning.specs.Fair.{IsFairAs}
 use Rattle.abc_heap_store.specs.declared.records.Limit.{Limit}
 use Rattle.abc_heap_store.specs.declared.records.Limit.TheVariants.{Frames, Stack}
 use Rattle.abc_heap_store.specs.declared.records.What.TheVariants.{Plain}
@@ -23,7 +23,7 @@ use Rattle.abc_meaning.specs.ThrowLaws.{IsVerified}
 use Rattle.abc_meaning.specs.Sound.{AreTypings, IsSound, SteppedSound, Typings}
 use Rattle.abc_meaning.specs.Step.{acted, gives_back, put_on, puts, resumed, resumes, runs, settles, size_of_frame, size_of_frames, step}
 use Rattle.abc_meaning.specs.Throwing.{Done, End, Ends, FuelSpent, Full, Machine, Profile, Stepped, Steps, Stuck, Uncaught, catcher, caught_at, goes_on, has_stack, lands, stops, throws_made, unwinds}
-use Rattle.abc_meaning_sound.specs.Calls.{Gives, Replied, begins_call, call_meaning, replies_for, returned, silent, then_replies, value_returned}
+use Rattle.abc_meaning.specs.Calls.{Gives, Replied, begins_call, call_meaning, replies_for, returned, silent, then_replies, value_returned}
 use Rattle.abc_meaning_sound.specs.CallLaws.{CallsGiveThere}
 use Rattle.abc_meaning_sound.proofs.Called.{call_begins}
 use Rattle.abc_meaning_sound.proofs.Left.{silent_sound}

@@ -64,14 +64,15 @@ use Rattle.abc_meaning.specs.Objects.{Place, place, place_of_owner}
 use Rattle.abc_meaning.specs.Setting.{Setting}
 use Rattle.abc_meaning.specs.World.{Went, World}
 use Rattle.abc_meaning.specs.Sound.{IsFirstOf, IsMade, IsOfKind, PartSound, WorldSound}
-use Rattle.abc_meaning_sound.specs.Given.{BaseKnown, FileGiven, HasBody, OwnedSound, ScopesGiven}
+use Rattle.abc_meaning_sound.specs.Given.{FileGiven, HasBody, OwnedSound, ScopesGiven}
+use Rattle.abc_link_program.specs.ClassBases.{BaseKnown}
 use Rattle.abc_meaning_sound.proofs.Growing.{first_is}
 use Rattle.abc_meaning_sound.proofs.Lists.{inside, there}
 use Rattle.abc_meaning_sound.proofs.Filed.{definitions, traits_run}
 use Rattle.abc_meaning_sound.proofs.Indexed.{all_each, none_passes, or_right}
 use Rattle.abc_meaning_sound.proofs.Makers.{above_at, class_keeps, plain_base, under_class}
 use Rattle.abc_meaning_sound.proofs.Owned.{class_count, has_body, of_class_named, of_class_run, of_instance_named, of_instance_run, of_script_named, of_script_run, owned_by}
-use Rattle.abc_meaning_sound.proofs.Scoped.{bases_known, edge_is}
+use Rattle.abc_link_program.proofs.ClassBases.{bases_known, edge_is}
 
 -- ---- the methods that the traits of a table name
 

@@ -73,7 +73,3 @@ or_right false b e = e
 pub none_passes : {X : Type 0} (test : X → Bool) (xs : List X) → list_any test xs ≡ false → Each (λ (x : X). test x ≡ false) xs
 none_passes test [] e = tt
 none_passes test (x ∷ xs) e = (or_left (test x) (list_any test xs) e, none_passes test xs (or_right (test x) (list_any test xs) e))
-
-pub no_break : (b : Bool) → (b ≡ true → ⊥) → b ≡ false
-no_break true f = absurd (f refl)
-no_break false f = refl

@@ -10,7 +10,7 @@ use Rattle.abc_meaning.specs.Sound.{AreTypings, IsSound, SteppedSound, Typings, 
 use Rattle.abc_meaning.specs.Step.{step}
 use Rattle.abc_meaning.specs.Throwing.{Done, End, Ends, FuelSpent, Full, Machine, Profile, Stepped, Steps, Stuck, Uncaught}
 use Rattle.abc_meaning_sound.proofs.Never.{stays_sound}
-use Rattle.abc_meaning_sound.specs.Calls.{EndsAs, Replied, begins_call, call_meaning, replies_for, returned, silent, then_replies}
+use Rattle.abc_meaning.specs.Calls.{EndsAs, Replied, begins_call, call_meaning, replies_for, returned, silent, then_replies}
 use Rattle.abc_meaning_sound.specs.CallLaws.{CallsLeaveSound, RunsLeaveSound}
 use Rattle.abc_meaning_sound.proofs.Called.{call_begins}
 

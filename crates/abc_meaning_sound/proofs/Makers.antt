@@ -1,5 +1,6 @@
 -- What is given of a verified file: what makes the instances of a base.
 use Rattle.std.proofs.Common.{◌≡◌, ◌≢◌, ◌⊎◌, inl, inr, ℕ, zero, suc, ◌+◌, ◌<◌, List, [], ◌∷◌, ◌++◌, length, get_or, refl, sym, ap, ◌∙◌, subst, arith}
+use Rattle.std.proofs.lemmas.Bool.{false_from_ne_true}
 use Rattle.std.specs.Prelude.{Bool, true, false, ltb, nat_eq, unwrap_or, slice_get, Some, None, if◌then◌else◌}
 use Rattle.std.specs.declared.option.Option.{Option}
 use Rattle.abc_base.specs.declared.names.HostClass.{HostClass}
@@ -49,13 +50,14 @@ use Rattle.abc_meaning.specs.Objects.{Place, flat, instances_of, kept_by, place,
 use Rattle.abc_meaning.specs.Setting.{Setting}
 use Rattle.abc_meaning.specs.World.{Went, World}
 use Rattle.abc_meaning.specs.Sound.{AreMade, IsMade, IsOfKind, PartSound, WorldSound}
-use Rattle.abc_meaning_sound.specs.Given.{BaseKnown, BaseRuns, FileGiven, MakersGiven, ScopesGiven, base_of as base_maker}
+use Rattle.abc_meaning_sound.specs.Given.{BaseRuns, FileGiven, MakersGiven, ScopesGiven, base_of as base_maker}
+use Rattle.abc_link_program.specs.ClassBases.{BaseKnown}
 use Rattle.abc_meaning_sound.proofs.Classes.{class_there, kept_is}
 use Rattle.abc_meaning_sound.proofs.Lists.{there}
 use Rattle.abc_meaning_sound.proofs.Filed.{routine_found}
-use Rattle.abc_meaning_sound.proofs.Indexed.{first_passed, got, no_break}
+use Rattle.abc_meaning_sound.proofs.Indexed.{first_passed, got}
 use Rattle.abc_meaning_sound.proofs.Owned.{iinits}
-use Rattle.abc_meaning_sound.proofs.Scoped.{base_edge, bases_known, named_base}
+use Rattle.abc_link_program.proofs.ClassBases.{base_edge, bases_known, named_base}
 
 -- ---- layouts under those of a class
 
@@ -169,7 +171,7 @@ module _ (l : LinkedFile) (linked : IsLinkedFile l) where
 
   -- a base is no interface
   pub plain_base : (k b : ℕ) → k < length l.file.instances → base_named l.file k ≡ Some (named.Class b) → is_interface l.file b ≡ false
-  plain_base k b low e = sym (ap (is_interface_named l.file) e) ∙ no_break (is_interface_named l.file (base_named l.file k)) (linked.rules rules.BaseIsInterface (omega arith) (record { kind = items.Class; index = k }) (record { within = low }))
+  plain_base k b low e = sym (ap (is_interface_named l.file) e) ∙ false_from_ne_true (is_interface_named l.file (base_named l.file k)) (linked.rules rules.BaseIsInterface (omega arith) (record { kind = items.Class; index = k }) (record { within = low }))
 
 -- ---- an initializer of instances is of a class that there is
 

@@ -1,6 +1,6 @@
 -- What is given of a verified file: what is named is owned by what names it, and has a body where it is run.
 use Rattle.std.proofs.Common.{◌≡◌, ◌≢◌, inl, inr, ℕ, zero, suc, ◌+◌, ◌<◌, ◌≤◌, List, [], ◌∷◌, ◌++◌, length, map, get_or, refl, sym, ap, ◌∙◌, subst, arith}
-use Rattle.std.proofs.lemmas.Bool.{eq-eqb, lt-ltb, ltb-false}
+use Rattle.std.proofs.lemmas.Bool.{false_from_ne_true, eq-eqb, lt-ltb, ltb-false}
 use Rattle.std.proofs.lemmas.List.{map-append}
 use Rattle.std.proofs.lemmas.List.Sums.{sum_by-append, sum_by-cons}
 use Rattle.std.specs.Prelude.{Bool, true, false, ◌&&◌, cond, count_by, nat_eq, nat_lt, slice_get, Some, if◌then◌else◌}
@@ -30,7 +30,7 @@ use Rattle.abc_verify_typing.specs.Typing.{In}
 use Rattle.abc_verify_typing.proofs.Member.{in_left, in_right}
 use Rattle.abc_meaning.specs.Setting.{Setting, routine_in}
 use Rattle.abc_meaning_sound.specs.Given.{HasBody, IsOwned}
-use Rattle.abc_meaning_sound.proofs.Indexed.{first_passed, first_there, got, is_at, no_break}
+use Rattle.abc_meaning_sound.proofs.Indexed.{first_passed, first_there, got, is_at}
 use Rattle.abc_meaning_sound.proofs.Filed.{definitions}
 
 -- ---- counts
@@ -179,7 +179,7 @@ module _ (p : Setting) (linked : IsLinkedFile p.linked) where
   v = p.linked.file
 
   once : (m : ℕ) → m < length v.methods → times_named m (methods_named v) ≤ 1
-  once m low = go (nat_lt 1 (times_named m (methods_named v))) refl (no_break (breaks_owned_twice v m) (linked.rules rules.OwnedTwice (omega arith) (record { kind = items.Method; index = m }) (record { within = low })))
+  once m low = go (nat_lt 1 (times_named m (methods_named v))) refl (false_from_ne_true (breaks_owned_twice v m) (linked.rules rules.OwnedTwice (omega arith) (record { kind = items.Method; index = m }) (record { within = low })))
     where
       go : (b : Bool) → nat_lt 1 (times_named m (methods_named v)) ≡ b → b ≡ false → times_named m (methods_named v) ≤ 1
       go true q e = absurd cc
@@ -202,7 +202,7 @@ module _ (p : Setting) (linked : IsLinkedFile p.linked) where
   -- what is run has a body
   pub has_body : (m : ℕ) → m < length v.methods → In m (methods_run v) → HasBody p m
   has_body m low h =
-      let broken = no_break (breaks_no_body v m) (linked.rules rules.NoBody (omega arith) (record { kind = items.Method; index = m }) (record { within = low })) in
+      let broken = false_from_ne_true (breaks_no_body v m) (linked.rules rules.NoBody (omega arith) (record { kind = items.Method; index = m }) (record { within = low })) in
       let some = in_count m (methods_run v) h in
       go (nat_lt 0 (times_named m (methods_run v))) refl (nat_eq (times_named m (methods_with_bodies v)) 0) refl some broken
     where

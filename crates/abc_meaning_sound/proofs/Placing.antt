@@ -26,7 +26,8 @@ use Rattle.abc_meaning_sound.proofs.Filed.{body_is}
 use Rattle.abc_meaning_sound.proofs.Verified.{file_given}
 use Rattle.abc_meaning_sound.proofs.Lists.{inside}
 use Rattle.abc_meaning_sound.proofs.Never.{are_typings, stays_sound, the_first_is_sound, typings}
-use Rattle.abc_meaning_sound.specs.Placed.{FaultsArePlaced, IsInstruction}
+use Rattle.abc_meaning_sound.specs.Placed.{FaultsArePlaced}
+use Rattle.abc_meaning.specs.Told.{IsInstruction}
 use Rattle.abc_meaning_sound.proofs.Stopping.{TellsAt, puts_tells, settles_tells, stops_tells}
 
 module _ (p : Setting) (typings : Typings) (v : IsVerified p) (typed : AreTypings p typings) where

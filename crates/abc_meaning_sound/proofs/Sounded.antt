@@ -30,7 +30,7 @@ use Rattle.abc_meaning_sound.proofs.Filed.{routine_found}
 use Rattle.abc_meaning_sound.proofs.Lists.{each_at, inside}
 use Rattle.abc_meaning_sound.proofs.Never.{stays_sound}
 use Rattle.abc_meaning_sound.specs.Premise.{SoundFramesRun}
-use Rattle.abc_meaning_sound.specs.Running.{HasInstruction, IsThere}
+use Rattle.abc_meaning.specs.Running.{HasInstruction, IsThere}
 use Rattle.abc_meaning_sound.proofs.Formed.{row_low}
 
 -- ---- what a frame names is there

@@ -22,7 +22,7 @@ use Rattle.abc_verify_typing.specs.declared.rule.VerifyRule.TheVariants.{Paramet
 use Rattle.abc_verify_typing.specs.declared.state.Scope.{Scope}
 use Rattle.abc_verify_typing.proofs.Fine.{stands}
 use Rattle.abc_meaning.specs.Setting.{Setting, routine_of}
-use Rattle.abc_meaning_sound.specs.Fair.{IsWaiting}
+use Rattle.abc_meaning.specs.Fair.{IsWaiting}
 use Rattle.abc_meaning_sound.specs.ProgressLaws.{WaitingFramesAreThere}
 
 -- ---- what is of kinds is there

@@ -3,30 +3,20 @@ use Rattle.std.specs.Prelude.{◌≡◌, ◌≢◌, ℕ, ℤ, List}
 use Rattle.abc_base.specs.Ranges.{IsNumber}
 use Rattle.abc_base.specs.declared.formula.Formula.{Formula}
 use Rattle.abc_heap_values.specs.declared.values.Value.{Value}
-use Rattle.abc_meaning_sound.specs.Fair.{IsFairPart}
-use Rattle.abc_link_names.specs.Parts.{script_at}
+use Rattle.abc_meaning.specs.Fair.{IsFairPart}
 use Rattle.abc_objects.specs.Opening.{formula_names}
 use Rattle.abc_objects.specs.Values.{Exists}
 use Rattle.abc_meaning.specs.Front.{IsFront}
 use Rattle.abc_link_program.specs.Linked.{LinkedFile}
-use Rattle.abc_file_types.specs.declared.traits.TraitBody.TheVariants.{Method}
-use Rattle.abc_file_types.specs.declared.traits.TraitInfo.{TraitInfo}
 use Rattle.abc_verify_typing.specs.Lists.{Each}
-use Rattle.abc_verify_typing.specs.Typing.{In}
 use Rattle.abc_meaning.specs.Setting.{Setting}
 use Rattle.abc_meaning.specs.World.{World}
 use Rattle.abc_meaning.specs.ThrowLaws.{IsVerified}
 use Rattle.abc_meaning.specs.Meaning.{runs_for}
 use Rattle.abc_meaning.specs.Sound.{AreTypings, IsSound, SteppedSound, Typings, WorldSound}
-use Rattle.abc_meaning.specs.Throwing.{Machine, Stuck, last_script}
-use Rattle.abc_meaning_sound.specs.Calls.{EndsAs, Gives, begins_call, call_meaning, enters_call, replies_for}
-
--- a method trait of the last script, which is what is exported
-pub record IsScriptMethod (p : Setting) (m : ℕ) : Type 0 where
-  pub trait : TraitInfo
-  pub among : In trait (script_at p.linked.file (last_script p)).traits
-  pub disp : ℕ
-  pub is : trait.body ≡ Method disp m
+use Rattle.abc_meaning.specs.Throwing.{Machine, Stuck}
+use Rattle.abc_meaning.specs.Exports.{IsScriptMethod}
+use Rattle.abc_meaning.specs.Calls.{EndsAs, Gives, begins_call, call_meaning, enters_call, replies_for}
 
 -- however a run ends, what it leaves is sound
 abbrev pub RunsLeaveSound : Type 0

@@ -17,6 +17,7 @@ use Rattle.abc_link_names.specs.declared.named.Named.TheVariants as named
 use Rattle.abc_objects.specs.Stands.{IsScope, StandsOver, array_layout}
 use Rattle.abc_objects.specs.Starts.{start_values}
 use Rattle.abc_objects.specs.Values.{Exists, IsObject}
+use Rattle.abc_link_program.specs.ClassBases.{BaseKnown}
 use Rattle.abc_link_program.specs.Linked.{IsLinkedFile, LinkedFile}
 use Rattle.abc_link_program.specs.Numbering.{part_at}
 use Rattle.abc_link_program.specs.Owners.{owner_of}
@@ -125,13 +126,6 @@ pub record IsScopeLayout (p : Setting) (x : ℕ) : Type 0 where
   pub no_array : x ≢ array_layout p.linked
   pub part : (h : Heap) → PartSound p.linked h (part_at p.linked.parts x)
   pub first_of : IsFirstOf p.linked x
-
--- the base of a class, if it has one
-abbrev pub BaseKnown : LinkedFile → Option Named → Type 0
-BaseKnown l None = Unit {0}
-BaseKnown l (Some (named.Host c)) = Unit {0}
-BaseKnown l (Some (named.Class j)) = j < length l.file.instances
-BaseKnown l (Some other) = ⊥
 
 pub record ScopesGiven (p : Setting) : Type 0 where
   pub activations : (n : ℕ) (r : Routine) → routine_of p n ≡ Some r → r.needs_activation ≡ true → IsScopeLayout p r.activation.0

@@ -7,11 +7,7 @@ pub mod ObjectLaws
 pub mod OperationLaws
 pub mod FileLaws
 pub mod RunLaws
-pub mod Fair
-pub mod Running
 pub mod Premise
 pub mod ProgressLaws
-pub mod Calls
-pub mod Exports
 pub mod CallLaws
 pub mod Placed

@@ -10,7 +10,7 @@ use Rattle.abc_link_program.specs.Linked.{LinkedFile}
 use Rattle.abc_frames.specs.Frame.{Frame}
 use Rattle.abc_meaning.specs.Setting.{Setting}
 use Rattle.abc_meaning.specs.World.{World}
-use Rattle.abc_meaning_sound.specs.Running.{IsRunning}
+use Rattle.abc_meaning.specs.Running.{IsRunning}
 
 -- in a sound state of a verified file, the newest frame has an instruction that can be done
 abbrev pub SoundFramesRun : Type 0

@@ -12,7 +12,7 @@ use Rattle.abc_meaning.specs.Entering.{starts}
 use Rattle.abc_meaning.specs.Making.{new}
 use Rattle.abc_meaning.specs.Setting.{Setting, routine_of}
 use Rattle.abc_meaning.specs.World.{World}
-use Rattle.abc_meaning_sound.specs.Fair.{IsFairAs, IsFairPart, IsWaiting}
+use Rattle.abc_meaning.specs.Fair.{IsFairAs, IsFairPart, IsWaiting}
 
 -- an instruction of the newest frame, in which its receiver stands
 abbrev pub ActsAreFair : Type 0

@@ -14,7 +14,7 @@ mod types;
 pub use abc_heap_values::Conversion;
 pub use abc_link::Linked;
 pub use abc_link_program::Ty;
-pub use abc_objects::{Arena, span_of_string};
+pub use abc_objects::Arena;
 pub use coercions::coerce;
 pub use compares::compare;
 pub use conversions::convert;

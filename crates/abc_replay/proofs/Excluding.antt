@@ -33,7 +33,7 @@ use Rattle.abc_verify.proofs.Single.{one_numbered}
 use Rattle.abc_verify.specs.FileRefusing.{IsRefused as IsNoVerifiedFile, IsUnverified, bad, unlinked, untyped, unverified}
 use Rattle.abc_verify.specs.declared.verified_error.VerifiedError.{VerifiedError}
 use Rattle.abc_verify.specs.VerifyRefusing.{IsFirstUntyped}
-use Rattle.abc_verify.proofs.Methods.{body_inside}
+use Rattle.abc_link_program.proofs.MethodBodies.{body_inside}
 use Rattle.abc_replay.specs.Laws.{HasOneNumber, IsNeverBoth}
 use Rattle.abc_replay.specs.Replays.{HasParts, IsRefused}
 use Rattle.abc_replay.specs.declared.error.ReplayError.{ReplayError}
@@ -41,7 +41,7 @@ use Rattle.abc_replay.proofs.Counting.{counted, log_counted}
 
 -- ---- fronts of equal length
 
-same_front : (xs ys more rest : List ℕ) → length xs ≡ length ys → xs ++ more ≡ ys ++ rest → (xs ≡ ys) × (more ≡ rest)
+pub same_front : (xs ys more rest : List ℕ) → length xs ≡ length ys → xs ++ more ≡ ys ++ rest → (xs ≡ ys) × (more ≡ rest)
 same_front xs ys more rest long e = (
   sym (take-append_seam xs more) ∙ ap (take (length xs)) e ∙ ap (λ (n : ℕ). take n (ys ++ rest)) long ∙ take-append_seam ys rest,
   sym (drop-append_seam xs more) ∙ ap (drop (length xs)) e ∙ ap (λ (n : ℕ). drop n (ys ++ rest)) long ∙ drop-append_seam ys rest,
@@ -69,18 +69,18 @@ one_number_of (suc k) n m small_n small_m e =
     let high : n / 16 ≡ m / 16 = one_number_of k (n / 16) (m / 16) (omega (arith, small_n, next)) (omega (arith, small_m, next)) both.0 in
     omega (arith, low, high)
 
-length-head_line : (n : ℕ) → length (head_line n) ≡ 9
+pub length-head_line : (n : ℕ) → length (head_line n) ≡ 9
 unfolding head_line
 length-head_line n = length-append (hex_digits 8 n) (10 ∷ []) ∙ ap (λ (k : ℕ). k + 1) (length-hex_digits 8 n)
 
-same_head : (n m : ℕ) → n < 2 ^ 32 → m < 2 ^ 32 → head_line n ≡ head_line m → n ≡ m
+pub same_head : (n m : ℕ) → n < 2 ^ 32 → m < 2 ^ 32 → head_line n ≡ head_line m → n ≡ m
 unfolding head_line
 same_head n m small_n small_m e =
     let both = same_front (hex_digits 8 n) (hex_digits 8 m) (10 ∷ []) (10 ∷ []) (length-hex_digits 8 n ∙ sym (length-hex_digits 8 m)) e in
     one_number_of 8 n m small_n small_m both.0
 
 -- what stands as it may isn't wrong before its end
-stands_right : (from : ℕ) (xs right more rest : List ℕ) → AllStand from xs → xs ++ more ≡ right ++ rest → length right < length xs → IsWrong (from + length right) rest → ⊥
+pub stands_right : (from : ℕ) (xs right more rest : List ℕ) → AllStand from xs → xs ++ more ≡ right ++ rest → length right < length xs → IsWrong (from + length right) rest → ⊥
 stands_right from [] right more rest stand e short wrong = let none : length right < 0 = short in absurd (omega (arith, none))
 stands_right from (x ∷ xs) [] more rest stand e short wrong =
     let here : may_stand (from + 0) x ≡ false = subst (IsWrong (from + 0)) (sym e) wrong in
@@ -96,7 +96,7 @@ head_stands n =
     let far : 0 + length (hex_digits 8 n) ≡ 8 = omega (arith, length-hex_digits 8 n) in
     AllStand-append 0 (hex_digits 8 n) (10 ∷ []) (digits_stand 8 0 n (omega arith)) (subst (λ (k : ℕ). AllStand k (10 ∷ [])) (sym far) (refl, tt))
 
-right_head : (n place : ℕ) (input more : List ℕ) → input ≡ head_line n ++ more → GoesWrong 0 place input → ⊥
+pub right_head : (n place : ℕ) (input more : List ℕ) → input ≡ head_line n ++ more → GoesWrong 0 place input → ⊥
 right_head n place input more is w =
     let far : place ≡ length w.right = omega (arith, w.far) in
     let short : length w.right < length (head_line n) = omega (arith, w.within, far, length-head_line n) in
@@ -115,7 +115,7 @@ same_parts input file behind bytes rest short is p =
 
 -- ---- the line of limits
 
-same_text : (fuel fuel2 : ℕ) (m m2 : Limits) (more rest : List ℕ) → AreLimits fuel m → AreLimits fuel2 m2 → limits_line fuel m ++ more ≡ limits_line fuel2 m2 ++ rest → (limits_text fuel m ≡ limits_text fuel2 m2) × (10 ∷ more ≡ 10 ∷ rest)
+pub same_text : (fuel fuel2 : ℕ) (m m2 : Limits) (more rest : List ℕ) → AreLimits fuel m → AreLimits fuel2 m2 → limits_line fuel m ++ more ≡ limits_line fuel2 m2 ++ rest → (limits_text fuel m ≡ limits_text fuel2 m2) × (10 ∷ more ≡ 10 ∷ rest)
 same_text fuel fuel2 m m2 more rest a b e =
     one_front is_no_feed (limits_text fuel m) (limits_text fuel2 m2) (10 ∷ more) (10 ∷ rest) (limits_feedless fuel m a) (limits_feedless fuel2 m2 b) refl refl
     (sym (append_assoc (limits_text fuel m) (10 ∷ []) more) ∙ e ∙ append_assoc (limits_text fuel2 m2) (10 ∷ []) rest)
@@ -132,7 +132,7 @@ all_below a b c d e f n p q r s t u (suc (suc (suc (suc zero)))) lt = t
 all_below a b c d e f n p q r s t u (suc (suc (suc (suc (suc zero))))) lt = u
 all_below a b c d e f n p q r s t u (suc (suc (suc (suc (suc (suc k)))))) lt = absurd (omega (arith, lt))
 
-same_numbers : (fuel fuel2 : ℕ) (m m2 : Limits) → AreLimits fuel m → AreLimits fuel2 m2 → limits_text fuel m ≡ limits_text fuel2 m2 → numbers_of fuel m ≡ numbers_of fuel2 m2
+pub same_numbers : (fuel fuel2 : ℕ) (m m2 : Limits) → AreLimits fuel m → AreLimits fuel2 m2 → limits_text fuel m ≡ limits_text fuel2 m2 → numbers_of fuel m ≡ numbers_of fuel2 m2
 unfolding limits_text
 same_numbers fuel fuel2 m m2 a b e =
     these_limits (limits_text fuel m) (flat_map next_number (numbers_of fuel m)) (numbers_of fuel m) refl refl refl
@@ -141,7 +141,7 @@ same_numbers fuel fuel2 m m2 a b e =
 limits_in : List ℕ → Limits
 limits_in ns = record { objects = get_or ns 1 0; cells = get_or ns 2 0; text = get_or ns 3 0; frames = get_or ns 4 0; stack = get_or ns 5 0 }
 
-same_limits : (fuel fuel2 : ℕ) (m m2 : Limits) → numbers_of fuel m ≡ numbers_of fuel2 m2 → (fuel ≡ fuel2) × (m ≡ m2)
+pub same_limits : (fuel fuel2 : ℕ) (m m2 : Limits) → numbers_of fuel m ≡ numbers_of fuel2 m2 → (fuel ≡ fuel2) × (m ≡ m2)
 unfolding limits_in
 same_limits fuel fuel2 m m2 e = (ap (λ (l : List ℕ). get_or l 0 0) e, ap limits_in e)
 
@@ -191,7 +191,7 @@ one_number formulas input n k a b =
 -- ---- no log is refused
 
 -- there are 15 rules of linking
-few_rules : (rule : LinkRule) → rule_number rule < 15
+pub few_rules : (rule : LinkRule) → rule_number rule < 15
 few_rules rules.NoScript = omega arith
 few_rules rules.NameKind = omega arith
 few_rules rules.UnknownBase = omega arith

@@ -1,12 +1,12 @@
 -- What stands before a log, put together.
-use Rattle.std.proofs.Common.{◌≡◌, ℕ, ◌+◌, ◌^◌, ◌<◌, ◌≤◌, ◌⊎◌, List, length, Ok, Err, subst, sym, ◌∙◌, arith}
+use Rattle.std.proofs.Common.{◌≡◌, ℕ, ◌+◌, ◌≤◌, List, length, Ok, Err, subst, sym, ◌∙◌, arith}
 use Rattle.std.specs.Prelude.{IfErr, IfOk}
-use Rattle.std.specs.Io.KnownBytes.{Consumes, IsAtEnd}
+use Rattle.std.specs.Io.KnownBytes.{Consumes}
 use Rattle.std.specs.declared.option.Option.{Option}
 use Rattle.std.specs.declared.result.Result.{Result}
 use Rattle.abc_base.specs.Faults.{Rose}
 use Rattle.abc_log.specs.declared.limits.LimitsLine.{LimitsLine}
-use Rattle.abc_log.specs.Lines.{AreLimits, head_line, limits_line}
+use Rattle.abc_log.specs.Lines.{AreLimits, limits_line}
 use Rattle.abc_link_program.specs.Linked.{LinkedFile}
 use Rattle.abc_link_program.specs.Slots.{HasFewSlots}
 use Rattle.abc_file_types.proofs.Whole.{read_spelled}
@@ -29,9 +29,6 @@ verified_there bytes l starts r few = record { spells = (read_spelled (l.file, s
 -- memory has no faults
 pub never_rose : Rose 0 0 → ⊥
 never_rose rose = omega (arith, rose)
-
-pub has_file : (old mid new : Option (List ℕ)) (bytes : List ℕ) (stated : ℕ) → stated < 2 ^ 32 → Consumes old mid (head_line stated) → Consumes mid new bytes → length bytes ≤ stated → (length bytes ≡ stated) ⊎ IsAtEnd new → HasFile old new bytes
-has_file old mid new bytes stated low head part few end = record { stated = stated; mid = mid; low = low; head = head; part = part; few = few; end = end }
 
 -- ---- the whole
 

@@ -1,6 +1,8 @@
 pub mod Inputs
 pub mod Lifted
 pub mod Parts
+mod Longer
+pub mod Fronts
 pub mod Found
 pub mod Logged
 mod Counting

@@ -11,7 +11,7 @@ use Rattle.abc_replay.specs.Replays.{HasParts}
 
 -- ---- the parts of an input
 
-parts_told : (bytes rest : List ℕ) → length bytes < 2 ^ 32 → HasParts (head_line (length bytes) ++ (bytes ++ rest)) bytes rest
+pub parts_told : (bytes rest : List ℕ) → length bytes < 2 ^ 32 → HasParts (head_line (length bytes) ++ (bytes ++ rest)) bytes rest
 parts_told bytes rest low = record { stated = length bytes; following = bytes ++ rest; low = low; is = refl; file_is = sym (take-append_seam bytes rest); rest_is = sym (drop-append_seam bytes rest) }
 
 parts_full : (input ys bytes rest : List ℕ) (stated : ℕ) → stated < 2 ^ 32 → input ≡ head_line stated ++ ys → ys ≡ bytes ++ rest → length bytes ≡ stated → HasParts input bytes rest
@@ -38,7 +38,7 @@ parts_taken : (xs rest bytes : List ℕ) (mid : Option (List ℕ)) (stated : ℕ
 parts_taken xs rest bytes None stated low head part few end = absurd head
 parts_taken xs rest bytes (Some ys) stated low head part few end = parts_read xs ys bytes rest stated low head part few end
 
-none_taken : (xs bytes : List ℕ) (mid : Option (List ℕ)) (stated : ℕ) → Consumes (Some xs) mid (head_line stated) → Consumes mid None bytes → ⊥
+pub none_taken : (xs bytes : List ℕ) (mid : Option (List ℕ)) (stated : ℕ) → Consumes (Some xs) mid (head_line stated) → Consumes mid None bytes → ⊥
 none_taken xs bytes None stated head part = head
 none_taken xs bytes (Some ys) stated head part = part
 

@@ -17,6 +17,7 @@ use Rattle.abc_log.specs.declared.log_part.PartError.TheVariants as parts
 use Rattle.abc_link_program.specs.Linked.{LinkedFile}
 use Rattle.abc_link_program.specs.Slots.{HasFewSlots}
 use Rattle.abc_file_types.specs.Files.{IsFile}
+use Rattle.abc_file_types.specs.Part.{limit}
 use Rattle.abc_verify.specs.Verified.{IsVerifiedOf}
 use Rattle.abc_replay.specs.Replays.{IsRefusedBy, file_place}
 use Rattle.abc_replay.specs.declared.error.ReplayError.{ReplayError}
@@ -28,6 +29,17 @@ pub record IsVerifiedIn (bytes : List ℕ) (l : LinkedFile) : Type 0 where
   pub spells : IsFile l.file bytes
   pub verified : IsVerifiedOf l.file l
   pub few : HasFewSlots l
+
+-- the line before the file and the front of that were taken: as many bytes as are stated, or all where there are fewer, but no more
+-- than the greatest file has and one
+pub record HasFront (old new : Option (List ℕ)) (bytes : List ℕ) : Type 0 where
+  pub stated : ℕ
+  pub mid : Option (List ℕ)
+  pub low : stated < 2 ^ 32
+  pub head : Consumes old mid (head_line stated)
+  pub part : Consumes mid new bytes
+  pub few : length bytes ≤ min stated (limit + 1)
+  pub end : (length bytes ≡ min stated (limit + 1)) ⊎ IsAtEnd new
 
 -- the line before the file and the bytes of that were taken: as many as are stated, or all where there are fewer
 pub record HasFile (old new : Option (List ℕ)) (bytes : List ℕ) : Type 0 where

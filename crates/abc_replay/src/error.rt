@@ -43,19 +43,19 @@ impl ReplayReason {
 #[derive(Clone, Copy, Debug, Error)]
 pub enum ReplayError {
     /// It is no log: the place of the first byte that is wrong, missing or too much, and why. The place stands still at 2^64 - 1.
-    #[error("the log is refused at {place}: {reason:?}")]
+    #[error("the log is refused")]
     Refused {
         place: u64,
         reason: ReplayReason,
     },
     /// Its file breaks a rule of linking.
-    #[error("{rule:?} is broken by {item:?}")]
+    #[error("the file breaks a rule of linking")]
     Link {
         rule: LinkRule,
         item: Item,
     },
     /// A method of its file breaks a rule of verifying, at an offset in its code as it was read.
-    #[error("{rule:?} is broken by method {method} at {offset}")]
+    #[error("a method has no typing")]
     Verify {
         method: u32,
         offset: u32,

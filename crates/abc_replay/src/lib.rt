@@ -10,9 +10,8 @@ mod laws;
 mod reading;
 mod run;
 
-pub use abc_log::{Compare, LimitsLine, LogFault, Part, Verdict, check_verdict};
-pub use abc_verify::Verified;
+pub use abc_log::{Compare, Part, Verdict};
 pub use answer::replay;
 pub use error::{ReplayError, ReplayReason};
 pub use laws::one_replay;
-pub use reading::{Preface, error_at, read_preface};
+pub use reading::read_file;

@@ -2,7 +2,7 @@ ghost use Rattle.std.specs.Prelude.{◌≡◌, ◌≤◌, ◌<◌, ◌+◌, ◌^
 ghost use Rattle.std.specs.Io.KnownBytes.{Consumes};
 ghost use Rattle.abc_base.specs.Faults.{Rose};
 ghost use Rattle.abc_log.specs.Lines.{AreLimits, limits_line};
-ghost use Rattle.abc_replay.specs.Prefaces.{HasFile, HasPreface, IsNoLine, IsVerifiedIn, RefusesAny, error_of_log};
+ghost use Rattle.abc_replay.specs.Prefaces.{HasFront, HasPreface, IsNoLine, IsVerifiedIn, RefusesAny, error_of_log};
 ghost use Rattle.abc_replay.specs.declared.error.ReplayError.{ReplayError};
 ghost use Rattle.abc_verify.specs.FileRefusing.{IsRefusedBy};
 ghost use Rattle.abc_verify.specs.declared.verified_error.VerifiedError.{VerifiedError};
@@ -15,6 +15,9 @@ use std::alloc::Global;
 
 /// How many bytes of a file are handed to its reader at a time.
 const PIECE: usize = 4096;
+
+/// How many bytes of a file are taken at most: one more than the greatest has.
+const MOST: u32 = (1 << 24) + 1;
 
 /// What stands before the log of an input: a file that is verified, the fuel and the limits, and the place where the log begins.
 #[derive(Drop)]
@@ -79,16 +82,17 @@ fn counted(length: u32) -> u32
     length
 }
 
-/// Reads the bytes of the file, with the line before them, which states how many there are.
-fn read_file<S: Source>(alloc: Global, source: &mut S) -> Result<Vec<u8>, ReplayError>
-    ensures file { IfOk result (λ bytes. HasFile (S.left source.old) (S.left source.new) bytes.items) }
-    ensures few { IfOk result (λ bytes. length bytes.items < 2 ^ 32) }
+/// Reads the bytes of the file, with the line before them, which states how many there are. Of more than the greatest file has only
+/// one more is taken: by these the file is refused as it is by all of its bytes.
+pub fn read_file<S: Source>(alloc: Global, source: &mut S) -> Result<Vec<u8>, ReplayError>
+    ensures file { IfOk result (λ bytes. HasFront (S.left source.old) (S.left source.new) bytes.items) }
+    ensures few { IfOk result (λ bytes. length bytes.items ≤ 2 ^ 24 + 1) }
     ensures refused { IfErr result (RefusesAny (S.left source.old)) }
     ensures later { S.faults source.old ≤ S.faults source.new }
     ensures cause { result ≡ Err ReplayError.ReadFault → Rose (S.faults source.old) (S.faults source.new) }
 {
     let stated = counted(read_head(source)?);
-    let bytes = read_part(alloc, source, stated)?;
+    let bytes = read_part(alloc, source, stated.min(MOST))?;
     Ok(bytes)
 }
 

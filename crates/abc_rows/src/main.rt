@@ -2,16 +2,12 @@
 //! prints how many runs ended so, after lines for those that didn't.
 #![tactic(auto)]
 
-mod bytes;
-mod fault;
 mod file;
-mod number;
-mod row;
 mod run;
 
-use crate::fault::Fault;
 use crate::file::run_rows;
 use crate::run::Tally;
+use abc_rows_text::Fault;
 use std::process::ExitCode;
 use std::rt::{Env, Files};
 use std::{env, fs};

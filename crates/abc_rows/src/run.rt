@@ -1,9 +1,8 @@
 ghost use Rattle.std.specs.Prelude.{◌<◌};
 
-use crate::fault::Fault;
-use crate::row::{Row, Step};
 use abc_base::{BuiltinHost, MemSink, MemSource};
 use abc_cli::abc_main;
+use abc_rows_text::{Fault, Row, Step};
 use std::alloc::Global;
 
 /// How many bytes a stream moves at once where a row doesn't say.

@@ -1,24 +1,16 @@
 -- The body of a method is one of the file, and the frame keeps what it says.
-use Rattle.std.proofs.Common.{◌≡◌, ℕ, ◌-◌, ◌<◌, length, get_or, nat_eq, sym, ap, ◌∙◌, arith}
+use Rattle.std.proofs.Common.{◌≡◌, ℕ, ◌-◌, ◌<◌, length, get_or, sym, ap, ◌∙◌}
 use Rattle.std.specs.Prelude.{Some}
-use Rattle.std.proofs.lemmas.List.{get_or_default, length-map}
-use Rattle.abc_link_names.specs.Methods.{methods_with_bodies}
+use Rattle.std.proofs.lemmas.List.{get_or_default}
 use Rattle.abc_link_names.specs.Parts.{body_at, no_body, no_script, script_at}
 use Rattle.abc_link_program.specs.Owners.{body_of}
-use Rattle.abc_link_names.proofs.ItemsPairs.{first_hit}
+use Rattle.abc_link_program.proofs.MethodBodies.{body_inside}
 use Rattle.abc_frames.specs.declared.records.Size.{Size}
 use Rattle.abc_run_state.specs.Turns.{kept}
 use Rattle.abc_file_types.specs.declared.classes.Script.{Script}
 use Rattle.abc_file_types.specs.declared.code.Body.{Body}
 use Rattle.abc_file_types.specs.declared.tables.Abc.{Abc}
 use Rattle.abc_meaning.specs.Setting.{Setting, routine_in, routine_of}
-
-pub body_inside : (v : Abc) (n b : ℕ) → body_of v n ≡ Some b → b < length v.bodies
-body_inside v n b e =
-    let hit = first_hit (nat_eq n) (methods_with_bodies v) 0 b e in
-    let many : length (methods_with_bodies v) ≡ length v.bodies = length-map v.bodies (λ (x : Body). x.method) in
-    let within = hit.0 in
-    omega (arith, within, many)
 
 abbrev pub sized : Body → (scopes : ℕ) → Size
 sized b n = record { locals = b.local_count; stack = b.max_stack; scopes = n }

@@ -17,7 +17,7 @@ mod options;
 mod places;
 
 pub use calling::{call, waiting};
-pub use entering::{enter, enter_owned, enters_on_object, prepare, put_on, start_above};
+pub use entering::{enter_owned, enters_on_object, prepare, start_above};
 pub use making::make;
 pub use messages::{message_of, set_message};
 pub use methods::{entry_of, may_take, method_at};

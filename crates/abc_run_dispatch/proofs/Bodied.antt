@@ -2,7 +2,7 @@
 use Rattle.std.proofs.Common.{◌≡◌, ℕ, zero, suc, ◌+◌, ◌<◌, List, [], ◌∷◌, length, true, refl, sym, ap, ◌∙◌, subst, arith}
 use Rattle.std.specs.Prelude.{IsSome, None, Some, is_some, slice_get}
 use Rattle.std.specs.declared.option.Option.{Option}
-use Rattle.abc_run_calls.proofs.Bodied.{body_inside}
+use Rattle.abc_link_program.proofs.MethodBodies.{body_inside}
 use Rattle.abc_link_names.specs.Parts.{body_at}
 use Rattle.abc_run_values.specs.Here.{act_in}
 use Rattle.abc_run_values.specs.Ready.{CanRun}

@@ -3,7 +3,7 @@ use Rattle.std.proofs.Common.{◌≡◌, ℕ, List, get_or, refl, sym, ap, ◌�
 use Rattle.std.specs.Prelude.{None, Some}
 use Rattle.std.specs.declared.option.Option.{Option}
 use Rattle.std.proofs.lemmas.List.{get_or_default}
-use Rattle.abc_run_calls.proofs.Bodied.{body_inside}
+use Rattle.abc_link_program.proofs.MethodBodies.{body_inside}
 use Rattle.abc_link_names.specs.Parts.{body_at, no_body}
 use Rattle.abc_run_dispatch.proofs.Bodied.{routine_is}
 use Rattle.abc_link_program.specs.Linked.{LinkedFile}

@@ -1,19 +1,20 @@
 -- A method whose class has a base: its class is one of the file, and a super operation begins at the layout of its instances.
 use Rattle.std.proofs.Common.{◌≡◌, ◌∙◌, ℕ, ◌<◌, ◌≤◌, Bool, true, false, length, ap, refl, sym}
-use Rattle.std.specs.Prelude.{Some, is_some, nat_lt, if◌then◌else◌}
+use Rattle.std.specs.declared.option.Option.{Option}
+use Rattle.std.specs.Prelude.{None, Some, is_some, nat_lt, if◌then◌else◌}
 use Rattle.std.proofs.lemmas.Bool.{false≢true, ltb-false, ltb-true}
 use Rattle.std.proofs.lemmas.List.{get_or_past}
-use Rattle.abc_meaning_sound.proofs.Filed.{routine_found}
+use Rattle.abc_link_program.proofs.MethodBodies.{body_is_of}
 use Rattle.abc_link_names.specs.Instances.{no_instance}
-use Rattle.abc_link_program.specs.Linked.{IsLinkedFile, LinkedFile, layout_of}
-use Rattle.abc_link_program.specs.Owners.{owner_of}
+use Rattle.abc_link_program.specs.Linked.{LinkedFile, layout_of}
+use Rattle.abc_link_program.specs.Owners.{body_of, owner_of}
 use Rattle.abc_link_program.specs.declared.part.Part.TheVariants as parts
 use Rattle.abc_link_program.specs.declared.types.Owner.{Owner}
 use Rattle.abc_link_program.specs.declared.types.Owner.TheVariants as owners
 use Rattle.abc_verify_typing.specs.declared.row.Site.TheVariants.{InMaker, OnInstance}
-use Rattle.abc_meaning.specs.Setting.{Setting, routine_of}
+use Rattle.abc_meaning.specs.Setting.{Setting, routine_in, routine_of}
 use Rattle.abc_file_types.specs.declared.classes.Instance.{Instance}
-use Rattle.abc_verify_typing.specs.Routines.{Routine, has_base, home_of}
+use Rattle.abc_verify_typing.specs.Routines.{Routine, has_base, home_of, routine}
 use Rattle.abc_verify_typing.specs.Rules.{super_layout}
 use Rattle.abc_verify_typing.specs.declared.home.Home.{Home}
 use Rattle.abc_verify_typing.specs.declared.home.Home.TheVariants.{Elsewhere, MakesInstances, OnInstances}
@@ -74,7 +75,11 @@ maker_is l o k h e = absurd cc
 
 -- ---- what a routine says of its home is said of its method's owner
 
-pub routine_home : (p : Setting) (n : ℕ) (r : Routine) → IsLinkedFile p.linked → routine_of p n ≡ Some r → r.home ≡ home_of p.linked (owner_of p.linked.file n)
-routine_home p n r linked e =
-    let found = routine_found p linked n r e in
-    ap (λ (x : Routine). x.home) found.routine_is ∙ ap (λ (m : ℕ). home_of p.linked (owner_of p.linked.file m)) found.is.method
+pub routine_home : (p : Setting) (n : ℕ) (r : Routine) → routine_of p n ≡ Some r → r.home ≡ home_of p.linked (owner_of p.linked.file n)
+routine_home p n r e = go (body_of p.linked.file n) refl e
+  where
+    go : (o : Option ℕ) → body_of p.linked.file n ≡ o → routine_in p o ≡ Some r → r.home ≡ home_of p.linked (owner_of p.linked.file n)
+    go None q f = absurd cc
+    go (Some b) q f =
+        let is : r ≡ routine p.linked b = cc in
+        ap (λ (x : Routine). x.home) is ∙ ap (λ (m : ℕ). home_of p.linked (owner_of p.linked.file m)) (body_is_of p.linked.file n b q)

@@ -53,7 +53,7 @@ sited l out s i row act site can e a on is =
     let f = newest s.frames in
     let o = opened p f i (world s out) row act e a can.free in
     let t = tested_is p (here_of p o.routine f i row) f (world s out) o.tests in
-    ap (λ (home : Home). is_some (super_layout site home)) (sym (routine_home p f.method o.routine can.set.over.linked o.body)) ∙ sym (is o.routine) ∙ ap (is_here o.routine) (sym on) ∙ t.site
+    ap (λ (home : Home). is_some (super_layout site home)) (sym (routine_home p f.method o.routine o.body)) ∙ sym (is o.routine) ∙ ap (is_here o.routine) (sym on) ∙ t.site
 
 pub home_04 : (l : LinkedFile) (out : Outer) (s : State) (n : ℕ) → CanRun l out s (One 0x04 n) → HasHome l (owner_of l.file (newest s.frames).method)
 unfolding row_at table act_of acts
@@ -86,7 +86,7 @@ two_more j = omega arith
 
 begins_at : (l : LinkedFile) (out : Outer) (s : State) (x : LayoutId) (row : Shape) (r : Routine) → IsSet l s → super_layout OnInstance (home_of l (owner_of l.file (newest s.frames).method)) ≡ Some x → routine_of (setting l out) (newest s.frames).method ≡ Some r → row.site ≡ OnInstance → super_layout row.site r.home ≡ Some x
 begins_at l out s x row r set home body on =
-    ap (λ (site : Site). super_layout site r.home) on ∙ ap (super_layout OnInstance) (routine_home (setting l out) (newest s.frames).method r set.over.linked body) ∙ home
+    ap (λ (site : Site). super_layout site r.home) on ∙ ap (super_layout OnInstance) (routine_home (setting l out) (newest s.frames).method r body) ∙ home
 
 gets_as : (l : LinkedFile) (out : Outer) (s : State) (n : ℕ) (x : LayoutId) (row : Shape) → row.site ≡ OnInstance → IsSet l s → super_layout OnInstance (home_of l (owner_of l.file (newest s.frames).method)) ≡ Some x
     → let p = setting l out in let f = newest s.frames in Taking p s.frames (One 0x04 n) (world s out) row (gives_came acting.reads_super) 0 (parts_at p n + 1) 1 (operand_at (parts_at p n) f ∷ []) (parts_for (form_at p n) 0 f) → Does l out s (One 0x04 n) (parts_at p n + 1) 1 (gets_super p n x.0 f)

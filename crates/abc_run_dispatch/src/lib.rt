@@ -37,16 +37,4 @@ mod supers;
 mod values;
 mod walking;
 
-pub use calling::{run_call_value, run_property_call};
-pub use classes::run_class;
-pub use constructing::{run_construct, run_construct_property};
-pub use deleting::run_delete;
-pub use finding::run_find;
 pub use holding::{Held, hold, run_held, run_newest};
-pub use making::run_new;
-pub use properties::{run_element_at_once, run_property, run_property_at_once};
-pub use scoping::run_scope;
-pub use slots::run_slot;
-pub use supers::{run_super, run_super_call};
-pub use values::{run_late, run_walk};
-pub use walking::run_next;

@@ -6,13 +6,13 @@ use Rattle.abc_base.specs.Ranges.{IsNumber}
 use Rattle.abc_run_finish.specs.Calling.{CanCall, enters_last}
 use Rattle.abc_meaning_sound.proofs.Called.{call_begins}
 use Rattle.abc_meaning_sound.proofs.Fairly.{call_fair}
-use Rattle.abc_meaning_sound.specs.Calls.{begins_call, entered_call, enters_call, numbers, stops_call}
+use Rattle.abc_meaning.specs.Calls.{begins_call, entered_call, enters_call, numbers, stops_call}
 use Rattle.abc_heap_values.specs.declared.values.Value.{Value}
 use Rattle.abc_run_finish.specs.Ending.{IsFree, IsSized, IsThrowable}
 use Rattle.abc_run_calls.specs.Arguments.{IsKnown, makes_arguments, receiver}
 use Rattle.abc_meaning_sound.proofs.Filed.{definitions, some_script}
 use Rattle.abc_meaning_sound.proofs.Typed.{has_typings}
-use Rattle.abc_meaning_sound.specs.Fair.{IsFairPart}
+use Rattle.abc_meaning.specs.Fair.{IsFairPart}
 use Rattle.abc_run_finish.proofs.Started.{arguments_open, entered_is, entered_stops, first_halts, first_put, first_sized, part_open}
 use Rattle.abc_run_finish.proofs.Stepped.{free_of, throwable}
 use Rattle.abc_run_finish.specs.Starting.{alone_if, begins, frames_alone}

@@ -5,7 +5,7 @@ use Rattle.abc_base.specs.Hosts.{arguments}
 use Rattle.abc_base.specs.Ranges.{IsNumber}
 use Rattle.abc_base.specs.declared.plain.Plain.{Plain}
 use Rattle.abc_meaning_sound.proofs.Called.{numbers_exist}
-use Rattle.abc_meaning_sound.specs.Calls.{numbers}
+use Rattle.abc_meaning.specs.Calls.{numbers}
 use Rattle.abc_heap_values.specs.declared.values.Value.{Value}
 use Rattle.abc_heap_values.specs.declared.values.Value.TheVariants.{Num}
 use Rattle.abc_meaning_sound.proofs.Lists.{each_at, each_take}

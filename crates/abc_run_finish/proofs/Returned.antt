@@ -4,7 +4,7 @@ use Rattle.std.specs.declared.option.Option.{Option}
 use Rattle.abc_run_calls.specs.Calls.{makes_value}
 use Rattle.abc_heap_values.specs.declared.values.Value.{Value}
 use Rattle.abc_run_finish.specs.Ending.{IsFree, IsSized}
-use Rattle.abc_meaning_sound.specs.Fair.{IsFairAs, IsFairPart}
+use Rattle.abc_meaning.specs.Fair.{IsFairAs, IsFairPart}
 use Rattle.abc_heap_store.specs.declared.records.Limits.{Limits}
 use Rattle.abc_meaning.specs.Sound.{put_by, taken_by}
 use Rattle.abc_meaning.specs.Step.{acted, gives_back, resumed, resumes}

@@ -4,7 +4,7 @@ use Rattle.abc_heap_values.specs.declared.values.Value.{Value}
 use Rattle.abc_run_finish.specs.Ending.{IsFree}
 use Rattle.abc_meaning_sound.proofs.Fared.{acts_fair, news_fair, starts_fair}
 use Rattle.abc_meaning_sound.proofs.Waited.{waiting_frames}
-use Rattle.abc_meaning_sound.specs.Fair.{IsFairAs, IsFairPart, IsLeft, IsWaiting}
+use Rattle.abc_meaning.specs.Fair.{IsFairAs, IsFairPart, IsLeft, IsWaiting}
 use Rattle.abc_heap_store.specs.Heap.{Heap}
 use Rattle.abc_run_state.proofs.Keeping.{there_grown}
 use Rattle.abc_meaning.specs.ThrowLaws.{IsVerified}

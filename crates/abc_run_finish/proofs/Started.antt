@@ -8,7 +8,7 @@ use Rattle.abc_heap_values.specs.declared.values.Value.{Value}
 use Rattle.abc_run_finish.specs.Ending.{IsFree, IsSized, IsThrowable}
 use Rattle.abc_run_calls.specs.Arguments.{makes_arguments, receiver}
 use Rattle.abc_run_calls.specs.Entering.{entry_for}
-use Rattle.abc_meaning_sound.specs.Fair.{IsFairPart, IsFairStop, IsLeft}
+use Rattle.abc_meaning.specs.Fair.{IsFairPart, IsFairStop, IsLeft}
 use Rattle.abc_heap_store.specs.Heap.{Heap}
 use Rattle.abc_heap_store.specs.declared.records.Full.{Full}
 use Rattle.abc_heap_store.specs.declared.records.Limits.{Limits}

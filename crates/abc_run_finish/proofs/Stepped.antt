@@ -1,7 +1,7 @@
 -- From what becomes of the frames to what the code that goes on relies on.
 use Rattle.std.proofs.Common.{◌≡◌, ◌<◌, List, length, refl, sym, ap, ◌∙◌, subst}
 use Rattle.abc_run_finish.specs.Ending.{IsFree, IsSized, IsThrowable}
-use Rattle.abc_meaning_sound.specs.Fair.{IsFairStop}
+use Rattle.abc_meaning.specs.Fair.{IsFairStop}
 use Rattle.abc_meaning.specs.Sound.{SteppedSound, Typings}
 use Rattle.abc_meaning.specs.Throwing.{Stepped, stops}
 use Rattle.abc_objects.specs.Stands.{StandsOver}

@@ -5,7 +5,7 @@ use Rattle.std.specs.declared.option.Option.{Option}
 use Rattle.std.specs.declared.result.Result.{Result}
 use Rattle.abc_heap_values.specs.declared.values.Value.{Value}
 use Rattle.abc_run_finish.specs.Ending.{IsSized}
-use Rattle.abc_meaning_sound.specs.Fair.{IsFairAs, IsLeft}
+use Rattle.abc_meaning.specs.Fair.{IsFairAs, IsLeft}
 use Rattle.abc_heap_store.specs.declared.records.Full.{Full}
 use Rattle.abc_heap_store.specs.declared.records.Limit.TheVariants.{Frames as FrameLimit, Stack as StackLimit}
 use Rattle.abc_heap_store.specs.declared.records.Limits.{Limits}

@@ -1,6 +1,6 @@
 -- What a call is begun with: a sound world of a verified file, and no frame.
 use Rattle.std.specs.Prelude.{◌≡◌, ℕ, List, []}
-use Rattle.abc_meaning_sound.specs.CallLaws.{IsScriptMethod}
+use Rattle.abc_meaning.specs.Exports.{IsScriptMethod}
 use Rattle.abc_heap_values.specs.declared.values.Value.{Value}
 use Rattle.abc_run_finish.specs.Ending.{IsSized}
 use Rattle.abc_run_calls.specs.Arguments.{IsKnown}

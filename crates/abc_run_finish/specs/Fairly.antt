@@ -3,7 +3,7 @@ use Rattle.std.specs.Prelude.{◌≡◌, ℕ, ◌<◌, ◌≤◌, ◌^◌, List,
 use Rattle.abc_heap_values.specs.declared.values.Value.{Value}
 use Rattle.abc_run_finish.specs.Ending.{IsFree, IsSized}
 use Rattle.abc_run_calls.specs.Arguments.{IsKnown}
-use Rattle.abc_meaning_sound.specs.Fair.{IsFairPart, IsFairStop, IsWaiting}
+use Rattle.abc_meaning.specs.Fair.{IsFairPart, IsFairStop, IsWaiting}
 use Rattle.abc_meaning.specs.Sound.{WorldSound}
 use Rattle.abc_meaning.specs.Step.{resumed, resumes}
 use Rattle.abc_meaning.specs.Throwing.{Stepped, last_script}

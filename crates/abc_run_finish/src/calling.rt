@@ -1,7 +1,7 @@
 ghost use Rattle.std.specs.Prelude.{◌≡◌, ◌<◌, ◌^◌, [], ◌∷◌, length, take, OnOk};
 ghost use Rattle.abc_base.specs.Hosts.{arguments};
 ghost use Rattle.abc_run_finish.specs.Calling.{CanCall, enters_last};
-ghost use Rattle.abc_meaning_sound.specs.Calls.{begins_call, numbers, stops_call};
+ghost use Rattle.abc_meaning.specs.Calls.{begins_call, numbers, stops_call};
 ghost use Rattle.abc_run_finish.specs.Ending.{IsFree, IsSized, IsThrowable, stepped_by};
 ghost use Rattle.abc_run_calls.specs.Arguments.{IsKnown};
 ghost use Rattle.abc_run_finish.specs.Starting.{begins, went_alone};

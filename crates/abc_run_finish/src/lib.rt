@@ -35,7 +35,6 @@ mod starting;
 mod stopping;
 mod tracing;
 
-pub use asking::ask;
 pub use calling::begin_call;
 pub use dropping::drop_frames;
 pub use ended::Ended;
@@ -43,8 +42,5 @@ pub use finishing::finish;
 pub use halts::Halt;
 pub use opening::open_state;
 pub use option_laws::options_are_there;
-pub use outward_halts::Unwritten;
 pub use reached_laws::{runs_begin_reached, some_runs_begin, steps_stay_reached};
-pub use starting::{method_at, put_alone, start_last};
-pub use stopping::stopped;
-pub use tracing::trace;
+pub use starting::start_last;

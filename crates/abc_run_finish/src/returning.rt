@@ -3,7 +3,7 @@ ghost use Rattle.std.specs.declared.option.Option.{Option};
 ghost use Rattle.abc_heap_values.specs.declared.values.Value.{Value};
 ghost use Rattle.abc_run_finish.specs.Ending.{IsFree, IsSized, stepped_by};
 ghost use Rattle.abc_run_calls.specs.Arguments.{IsKnown};
-ghost use Rattle.abc_meaning_sound.specs.Fair.{IsFairPart};
+ghost use Rattle.abc_meaning.specs.Fair.{IsFairPart};
 ghost use Rattle.abc_meaning.specs.Step.{gives_back, resumes};
 ghost use Rattle.abc_frames.specs.Ready.{IsReady};
 ghost use Rattle.abc_objects.specs.Values.{Exists};

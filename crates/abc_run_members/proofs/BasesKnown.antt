@@ -7,7 +7,7 @@ use Rattle.abc_heap_values.specs.declared.values.ObjId.{ObjId}
 use Rattle.abc_heap_values.specs.declared.values.Value.{Value}
 use Rattle.abc_heap_values.specs.declared.values.Value.TheVariants.{Obj}
 use Rattle.std.proofs.lemmas.Bool.{false≢true}
-use Rattle.abc_meaning_sound.proofs.Scoped.{bases_known, named_base}
+use Rattle.abc_link_program.proofs.ClassBases.{bases_known, named_base}
 use Rattle.abc_link_names.specs.Bases.{base_named, is_some_class}
 use Rattle.abc_link_names.specs.Instances.{instance_at}
 use Rattle.abc_link_names.specs.Meaning.{resolve}
@@ -21,7 +21,7 @@ use Rattle.abc_link_program.specs.Parts.{HasLayout, base_part, parent}
 use Rattle.abc_link_program.specs.Places.{place_under}
 use Rattle.abc_link_program.specs.declared.part.Part.{Part}
 use Rattle.abc_link_program.specs.declared.part.Part.TheVariants as parts
-use Rattle.abc_meaning_sound.specs.Given.{BaseKnown}
+use Rattle.abc_link_program.specs.ClassBases.{BaseKnown}
 use Rattle.abc_frames.specs.Frame.{Frame}
 use Rattle.abc_meaning.specs.Newing.{is_that, unmade}
 use Rattle.abc_meaning.specs.Setting.{Setting}
@@ -30,9 +30,6 @@ use Rattle.abc_meaning.specs.World.{Errs, Outcome, Run, Stopped, Went, World, an
 use Rattle.abc_run_members.specs.declared.bases.Base.{Base}
 use Rattle.abc_run_members.specs.declared.bases.Base.TheVariants as bases
 use Rattle.abc_run_members.specs.Based.{IsBase, IsClassPart, named_of}
-
-pub no_base : (l : LinkedFile) (k : ℕ) → (instance_at l.file k).super_name ≡ 0 → base_named l.file k ≡ None
-no_base l k e = ap (λ (n : ℕ). resolve l.file n) e
 
 -- the layout above that of a class is that of its base
 up_is : (l : LinkedFile) → IsLinkedFile l → (k : ℕ) → k < length l.file.instances → above l (layout_of l (parts.Instance k)).0 ≡ (layout_of l (base_part (base_named l.file k))).0

@@ -28,20 +28,11 @@ mod values;
 mod writing;
 
 pub use at_once::{gets_at_once, sets_at_once};
-pub use bases::{Base, base_of, base_prototype};
-pub use bases_above::find_super;
 pub use classes::new_class;
 pub use elements::{gets_late, sets_late};
-pub use found::{call_found, call_object_method, read_found};
 pub use lexical::get_lexical;
 pub use makers::construct_super;
-pub use naming::{
-    call_on, construct_on, find_at_once, read_on, read_on_object, write_on, write_on_object,
-};
 pub use properties::{call_property, call_value, construct, construct_property};
 pub use scope_arms::{find_or_global, find_strictly};
-pub use scopes_above::find_here;
 pub use searching::{get_property, set_property};
 pub use super_arms::{call_super, get_super, set_super};
-pub use values::value_found;
-pub use writing::write_found;

@@ -14,9 +14,7 @@ mod walking;
 
 pub use deleting::{delete_property, is_dynamic};
 pub use late::{as_late, has_name, is_instance_of, is_late};
-pub use positions::{Position, has_next, next_along, value_at};
 pub use receivers::{is_holder, receiver};
-pub use runtime_names::{late_text, name_of, parts_of, whole_name, with_text};
+pub use runtime_names::{late_text, name_of, parts_of, whole_name};
 pub use slots::{get_slot, set_slot, write_slot};
-pub use walked_names::name_at;
 pub use walking::{next_name, next_value, walk_on, walk_one};

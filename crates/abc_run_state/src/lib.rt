@@ -29,13 +29,11 @@ pub use branches::{branch_if, branch_not, branch_so, branch_unless, switch};
 pub use class_types::{class_type, host_type, is_interface};
 pub use compute_arms::{compare_top, compute_both, compute_top, convert_top, count_local};
 pub use constants::{int_value, string_at, uint_value};
-pub use making::{
-    make_array, make_class, make_function, make_object, make_of_host, make_undefined, put_property,
-};
+pub use making::{make_array, make_class, make_object, make_of_host, make_undefined, put_property};
 pub use of_type::is_of_named;
 pub use operands::{local, operand};
 pub use pairs::new_object;
-pub use parts::{coerce, compare, compute_one, compute_two, convert, spell};
+pub use parts::{coerce, convert, spell};
 pub use prototypes::{prototype_for, prototype_of};
 pub use settling::settle;
 pub use state::{How, Left, Place, State, Stop};

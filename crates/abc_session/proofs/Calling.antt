@@ -12,7 +12,7 @@ use Rattle.abc_base.specs.Sinks.{GrowsByFront, WritesAll}
 use Rattle.abc_base.specs.declared.formula.Formula.{Formula}
 use Rattle.abc_base.specs.declared.plain.Plain.{Plain}
 use Rattle.abc_heap_values.specs.declared.values.Value.{Value}
-use Rattle.abc_meaning_sound.specs.Calls.{Call, EndsAs, Gives, Replied, Reply, answers_call, call_meaning, session, silent}
+use Rattle.abc_meaning.specs.Calls.{Call, EndsAs, Gives, Replied, Reply, answers_call, call_meaning, session, silent}
 use Rattle.abc_meaning.specs.Meaning.{Meaning, Ran, TooSmall, meaning, ran}
 use Rattle.abc_meaning.specs.Throwing as meant
 use Rattle.abc_meaning.specs.World.{World}

@@ -3,7 +3,7 @@ use Rattle.std.proofs.Common.{◌≡◌, ◌≢◌, ℕ, List, [], ◌∷◌, Bo
 use Rattle.std.proofs.lemmas.List.Elements.{All-cons, All-nil}
 use Rattle.std.specs.Prelude.{All, Some}
 use Rattle.std.specs.declared.option.Option.{Option}
-use Rattle.abc_meaning_sound.specs.Calls.{Call, Replied, answers_call, call_meaning, session, silent}
+use Rattle.abc_meaning.specs.Calls.{Call, Replied, answers_call, call_meaning, session, silent}
 use Rattle.abc_machine.specs.Invoked.{Answers}
 use Rattle.abc_machine.specs.Machines.{IsReady, Opened}
 use Rattle.abc_machine.specs.Replied.{RepliesAs, is_write_fault}

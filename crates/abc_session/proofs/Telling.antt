@@ -4,9 +4,10 @@ use Rattle.std.specs.Prelude.{pos}
 use Rattle.std.proofs.lemmas.Int.{ints}
 use Rattle.abc_base.specs.Ranges.{IsNumber}
 use Rattle.abc_base.specs.declared.names.Fault.{Fault}
-use Rattle.abc_meaning_sound.specs.Calls.{EndsAs, Gives, Reply, answers_call, session}
-use Rattle.abc_meaning_sound.specs.CallLaws.{IsScriptMethod}
-use Rattle.abc_meaning_sound.specs.Placed.{CallsCanBeTold, CanBeTold, FaultsArePlaced, IsInstruction, RunsEndSound}
+use Rattle.abc_meaning.specs.Calls.{EndsAs, Gives, Reply, answers_call, session}
+use Rattle.abc_meaning.specs.Exports.{IsScriptMethod}
+use Rattle.abc_meaning_sound.specs.Placed.{CallsCanBeTold, FaultsArePlaced, RunsEndSound}
+use Rattle.abc_meaning.specs.Told.{CanBeTold, IsInstruction}
 use Rattle.abc_heap_store.specs.declared.records.Limits.{Limits}
 use Rattle.abc_meaning.specs.ThrowLaws.{AreCounted, IsNeverStuck, IsVerified}
 use Rattle.abc_meaning.specs.Meaning.{Meaning, Ran, TooSmall, first_state, first_world, runs_for, too_small}

@@ -5,8 +5,8 @@ use Rattle.std.specs.Io.KnownBytes.{append_known}
 use Rattle.std.specs.declared.option.Option.{Option}
 use Rattle.abc_base.specs.Sinks.{GrowsByFront}
 use Rattle.abc_base.specs.declared.formula.Formula.{Formula}
-use Rattle.abc_meaning_sound.specs.Calls.{session, silent}
-use Rattle.abc_meaning_sound.specs.CallLaws.{IsScriptMethod}
+use Rattle.abc_meaning.specs.Calls.{session, silent}
+use Rattle.abc_meaning.specs.Exports.{IsScriptMethod}
 use Rattle.abc_heap_store.specs.declared.records.Limit.{Limit}
 use Rattle.abc_heap_store.specs.declared.records.Limits.{Limits}
 use Rattle.abc_meaning.specs.Meaning.{Ended, Meaning, Ran, first_state, first_world, meaning, meaning_if, ran, runs_for, too_small}

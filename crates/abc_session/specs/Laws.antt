@@ -1,7 +1,7 @@
 -- How a run and the calls after it end can be told.
 use Rattle.std.specs.Prelude.{◌≡◌, ℕ, ◌≤◌, None}
-use Rattle.abc_meaning_sound.specs.CallLaws.{IsScriptMethod}
-use Rattle.abc_meaning_sound.specs.Placed.{CanBeTold}
+use Rattle.abc_meaning.specs.Exports.{IsScriptMethod}
+use Rattle.abc_meaning.specs.Told.{CanBeTold}
 use Rattle.abc_heap_store.specs.declared.records.Limits.{Limits}
 use Rattle.abc_meaning.specs.ThrowLaws.{AreCounted, IsVerified}
 use Rattle.abc_meaning.specs.Meaning.{first_world, too_small}

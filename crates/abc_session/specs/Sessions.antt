@@ -2,7 +2,7 @@
 use Rattle.std.specs.Prelude.{◌≡◌, ◌≢◌, ℕ, ◌≤◌, List, [], ◌∷◌, true, Some, map, All}
 use Rattle.std.specs.declared.option.Option.{Option}
 use Rattle.abc_base.specs.Faults.{Rose}
-use Rattle.abc_meaning_sound.specs.Calls.{Call, Replied, session}
+use Rattle.abc_meaning.specs.Calls.{Call, Replied, session}
 use Rattle.abc_machine.specs.Invoked.{Answers}
 use Rattle.abc_machine.specs.Machines.{IsReady, Opened}
 use Rattle.abc_machine.specs.Replied.{RepliesAs}

@@ -3,7 +3,7 @@
 use Rattle.std.specs.Prelude.{ℕ, zero, suc, ◌+◌, pos, List, [], ◌∷◌, ◌++◌, true, false, codes}
 use Rattle.std.specs.Fmt.{signed_decimal}
 use Rattle.abc_base.specs.declared.formula.Formula.{Formula}
-use Rattle.abc_meaning_sound.specs.Calls.{Call, EndsAs, Gives, Replied, Reply, session}
+use Rattle.abc_meaning.specs.Calls.{Call, EndsAs, Gives, Replied, Reply, session}
 use Rattle.abc_heap_store.specs.Heap.{Heap}
 use Rattle.abc_heap_store.specs.Texts.{text_of}
 use Rattle.abc_heap_store.specs.declared.records.Limits.{Limits}

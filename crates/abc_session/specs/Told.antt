@@ -6,7 +6,7 @@ use Rattle.std.specs.declared.result.Result.{Result}
 use Rattle.abc_base.specs.Faults.{Rose}
 use Rattle.abc_heap_values.specs.declared.values.Span.{Span}
 use Rattle.abc_heap_values.specs.declared.values.Value.{Value}
-use Rattle.abc_meaning_sound.specs.Calls.{Gives, Replied, silent}
+use Rattle.abc_meaning.specs.Calls.{Gives, Replied, silent}
 use Rattle.abc_heap_store.specs.Texts.{IsText}
 use Rattle.abc_machine.specs.declared.ends.End.{End}
 use Rattle.abc_machine.specs.declared.ends.End.TheVariants as ends

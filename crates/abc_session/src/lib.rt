@@ -14,7 +14,6 @@ mod ticks;
 
 pub use abc_machine::{End, Machine, PlainValue, Reply, thrown_name};
 pub use abc_meaning::Thrown;
-pub use abc_meaning_sound::ends_can_be_told;
 pub use abc_objects::OpenError;
 pub use replies::SessionReply;
 pub use session::Session;

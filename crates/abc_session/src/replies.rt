@@ -1,7 +1,7 @@
 use abc_machine::Reply;
 
 /// What a session answers to a call.
-#[derive(Clone, Copy)]
+#[derive(Clone, Copy, Debug, PartialEq, Eq)]
 pub enum SessionReply {
     /// What came of the call.
     Reply(Reply),

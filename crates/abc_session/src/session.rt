@@ -1,8 +1,7 @@
 ghost use Rattle.std.specs.Prelude.{◌≡◌, ◌≢◌, ◌↔◌, List, MatchResult, IfSome, IsTrue, None, Some};
 ghost use Rattle.abc_base.specs.declared.formula.Formula.{Formula};
-ghost use Rattle.abc_meaning_sound.specs.Calls.{silent};
-ghost use Rattle.abc_meaning_sound.specs.Exports.{export as export_of};
-ghost use Rattle.abc_meaning_sound.specs.CallLaws.{IsScriptMethod};
+ghost use Rattle.abc_meaning.specs.Calls.{silent};
+ghost use Rattle.abc_meaning.specs.Exports.{IsScriptMethod, export as export_of};
 ghost use Rattle.abc_heap_values.specs.declared.values.Span.{Span};
 ghost use Rattle.abc_heap_store.specs.Texts.{IsText, text_of};
 ghost use Rattle.abc_machine.specs.Ended.{HasRun, RunsAs};

@@ -16,3 +16,6 @@ pub mod Renewed
 pub mod Back
 pub mod Again
 pub mod Kept
+pub mod Treed
+pub mod Existing
+pub mod Deciding

@@ -11,5 +11,5 @@ mod tidying;
 
 pub use abc_tidy_entries::{TidyError, TidyRule};
 pub use free_laws::free_forms;
-pub use tidy_laws::{tidied_once, tidying_by_free_forms};
+pub use tidy_laws::{tidied_once, tidying_by_free_forms, tidying_has_one_answer};
 pub use tidying::{tidy, tidy_owned};

@@ -1,4 +1,5 @@
 ghost use Rattle.std.specs.Prelude.{◌≡◌, ◌↔◌, MatchResult, Result};
+ghost use Rattle.abc_tidy.specs.Answers.{HasOneTidying};
 ghost use Rattle.abc_tidy.specs.Free.{HaveOneFree};
 ghost use Rattle.abc_file_types.specs.declared.tables.Abc.{Abc};
 ghost use Rattle.abc_file_types.specs.Files.{file_bytes};
@@ -18,4 +19,10 @@ pub fn tidying_by_free_forms()
 /// What `tidy` answers of a tidied file is that file, or that there was no memory.
 pub fn tidied_once()
     ensures { (v t : Abc) → (answer : Result Abc TidyError) → IsTidied v t → MatchResult answer (IsTidied t) (IsTidyError t) → MatchResult answer (λ u. u ≡ t) (λ e. e ≡ errors.NoMemory) }
+{}
+
+/// A file has one tidied file, or one rule is the first that is broken, at one index, and never both; and it can't be that
+/// there is neither.
+pub fn tidying_has_one_answer()
+    ensures { (v : Abc) → HasOneTidying v }
 {}

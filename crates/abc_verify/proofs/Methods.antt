@@ -26,14 +26,6 @@ use Rattle.abc_verify.specs.declared.verify_error.VerifyError.{VerifyError}
 
 -- ---- bodies
 
--- a method's body is one of the file
-pub body_inside : (v : Abc) (m b : ℕ) → body_of v m ≡ Some b → b < length v.bodies
-body_inside v m b e =
-    let h = first_hit (nat_eq m) (methods_with_bodies v) 0 b e in
-    let long : length (methods_with_bodies v) ≡ length v.bodies = length-map v.bodies (λ (x : Body). x.method) in
-    let lt = h.0 in
-    omega (arith, lt, long)
-
 mapped : (xs : List Body) (i : ℕ) → i < length xs → get_or (map (λ (x : Body). x.method) xs) i 0 ≡ (get_or xs i no_body).method
 mapped [] i h = absurd (omega arith)
 mapped (x ∷ xs) zero h = refl

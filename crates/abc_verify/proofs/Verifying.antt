@@ -22,7 +22,7 @@ use Rattle.abc_varint.specs.declared.error.ReadError.TheVariants as reads
 use Rattle.abc_verify.specs.VerifyRefusing.{IsRefusal}
 use Rattle.abc_verify.specs.declared.verify_error.VerifyError.{VerifyError}
 use Rattle.abc_verify.specs.declared.verify_error.VerifyError.TheVariants as untyped
-use Rattle.abc_verify.proofs.Methods.{body_inside}
+use Rattle.abc_link_program.proofs.MethodBodies.{body_inside}
 use Rattle.abc_verify.specs.FileRefusing.{IsPlaced, IsRefused, IsRefusedBy, IsUnverified, IsUnverifiedBy, error_of_link, error_of_read, error_of_verify}
 use Rattle.abc_verify.specs.Verified.{IsReadVerified, IsVerifiedOf}
 use Rattle.abc_verify.specs.declared.verified_error.VerifiedError.{VerifiedError}

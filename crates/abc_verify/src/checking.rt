@@ -37,7 +37,8 @@ fn check_frame(
         frame,
         heads: &heads,
     };
-    check_flow(&flow, memory)
+    check_flow(&flow, memory)?;
+    Ok(())
 }
 
 /// Verifies a body.

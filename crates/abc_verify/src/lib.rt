@@ -28,7 +28,5 @@ pub use checked::Verified;
 pub use checking::verify;
 pub use laws::one_linked_file;
 pub use reading::{read_verified, verified_file};
-pub use rules::broken_early_at;
-pub use step::advance_at;
 pub use verified_error::VerifiedError;
 pub use verify_error::VerifyError;

@@ -11,19 +11,19 @@ use thiserror::Error;
 #[derive(Clone, Copy, Debug, Error)]
 pub enum VerifiedError {
     /// The input is no file.
-    #[error("the file is refused at {place}: {reason:?}")]
+    #[error("the file is refused")]
     Refused {
         place: u32,
         reason: Reason,
     },
     /// The file breaks a rule of linking.
-    #[error("{rule:?} is broken by {item:?}")]
+    #[error("the file breaks a rule of linking")]
     Link {
         rule: LinkRule,
         item: Item,
     },
     /// A method breaks a rule of verifying, at an offset in its code as it was read.
-    #[error("{rule:?} is broken by method {method} at {offset}")]
+    #[error("a method has no typing")]
     Verify {
         method: u32,
         offset: u32,

@@ -6,6 +6,7 @@ pub mod Covered
 pub mod Ranges
 pub mod Told
 pub mod Waits
+pub mod Counts
 pub mod Numbering
 pub mod Laid
 pub mod Lists

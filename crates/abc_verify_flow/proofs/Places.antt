@@ -10,7 +10,7 @@ use Rattle.abc_verify_typing.specs.declared.rule.VerifyRule.{VerifyRule}
 use Rattle.abc_verify_typing.specs.declared.rule.VerifyRule.TheVariants.{Merge}
 use Rattle.abc_verify_typing.specs.declared.state.State.{State}
 use Rattle.abc_verify_typing.proofs.Good.{good}
-use Rattle.abc_verify_typing.proofs.Member.{in_append, map_in}
+use Rattle.abc_verify_typing.proofs.Member.{in_append, in_left, in_right, map_in}
 use Rattle.abc_verify_typing.proofs.Sized.{derivable_sized}
 use Rattle.abc_verify_typing.specs.Work.{at, flat, Landed}
 use Rattle.abc_verify_typing.specs.Rank.{layouts, rank, top}
@@ -36,22 +36,26 @@ is_derived p m a t old o e = o.derived t old (ap flat e)
 pub is_derived_copy : (p : LinkedFile) (m : Routine) (a : List (Option State)) (t : ℕ) (old n : State) → IsOpen p m a → slice_get a t ≡ Some (Some old) → n ≡ old → Derivable p m t n
 is_derived_copy p m a t old n o e same = subst (λ (x : State). Derivable p m t x) (sym same) (is_derived p m a t old o e)
 
-reach_one : (p : LinkedFile) (m : Routine) (heads : List Bool) (t : ℕ) (n : State) (a c : List (Option State)) (v w : List ℕ) → IsOpen p m a → Reaches p m (rank (layouts p)) (top (layouts p) m) (is_head heads) t n a v c w → AllReach p m heads ((t, n) ∷ []) a v c w
-reach_one p m heads t n a c v w o r = record { advances = r.advances; landed = landed; whole = record { long = r.advances.long ∙ o.long; derived = r.derived } }
+reach_one : (p : LinkedFile) (m : Routine) (heads : List Bool) (t : ℕ) (n : State) (a c : List (Option State)) (v w : List ℕ) → IsOpen p m a → ((i : ℕ) → In i w → In i v ⊎ (i ≡ t)) → Reaches p m (rank (layouts p)) (top (layouts p) m) (is_head heads) t n a v c w → AllReach p m heads ((t, n) ∷ []) a v c w
+reach_one p m heads t n a c v w o only r = record { advances = r.advances; landed = landed; adds = λ i h. elim (only i h) [ inl k ↦ inl k | inr q ↦ inr (n, inl (ap (λ (k : ℕ). (k, n)) q)) ]; whole = record { long = r.advances.long ∙ o.long; derived = r.derived } }
   where
     landed : (k : ℕ) (u : State) → In {X = ℕ × State} (k, u) ((t, n) ∷ []) → Landed p c k u
     landed k u (inl q) = subst (λ (z : ℕ × State). Landed p c z.0 z.1) (sym q) r.landed
     landed k u (inr h) = absurd h
 
 module _ (p : LinkedFile) (m : Routine) (heads : List Bool) (a : List (Option State)) (v : List ℕ) (t : ℕ) (n : State) where
+  first_of : (ws : List ℕ) (i : ℕ) → In i (t ∷ ws) → In i ws ⊎ (i ≡ t)
+  first_of ws i (inl q) = inr q
+  first_of ws i (inr h) = inl h
+
   pub merge_same : (old : State) → slice_get a t ≡ Some (Some old) → IsOpen p m a → StateLe p n old → AllReach p m heads ((t, n) ∷ []) a v a v
-  merge_same old e o le = reach_one p m heads t n a a v v o (visits.merge_same p m _ _ (is_head heads) a v t n old (ap flat e) o.derived le)
+  merge_same old e o le = reach_one p m heads t n a a v v o (λ i h. inl h) (visits.merge_same p m _ _ (is_head heads) a v t n old (ap flat e) o.derived le)
 
   pub merge_joined : (old joined : State) → slice_get a t ≡ Some (Some old) → IsOpen p m a → IsReady p m heads t n → IsJoinState p old n joined → rank (layouts p) joined < rank (layouts p) old → AllReach p m heads ((t, n) ∷ []) a v (set a t (Some joined)) (t ∷ v)
-  merge_joined old joined e o r j lt = reach_one p m heads t n a (set a t (Some joined)) v (t ∷ v) o (visits.merge_joined p m _ _ (is_head heads) a v t n old joined (let q = o.long in let b = r.inside in omega arith) r.head (ap flat e) o.derived r.derived j lt)
+  merge_joined old joined e o r j lt = reach_one p m heads t n a (set a t (Some joined)) v (t ∷ v) o (λ i h. first_of v i h) (visits.merge_joined p m _ _ (is_head heads) a v t n old joined (let q = o.long in let b = r.inside in omega arith) r.head (ap flat e) o.derived r.derived j lt)
 
   pub merge_first : IsLinkedFile p → at a t ≡ None → IsOpen p m a → IsReady p m heads t n → AllReach p m heads ((t, n) ∷ []) a v (set a t (Some n)) (t ∷ v)
-  merge_first g e o r = reach_one p m heads t n a (set a t (Some n)) v (t ∷ v) o (visits.merge_first p m _ _ (is_head heads) a v t n (let q = o.long in let b = r.inside in omega arith) r.head e (rank_most p (good p g) (layouts p) (omega arith) (omega arith) m n (derivable_sized p m t n r.derived)) o.derived r.derived)
+  merge_first g e o r = reach_one p m heads t n a (set a t (Some n)) v (t ∷ v) o (λ i h. first_of v i h) (visits.merge_first p m _ _ (is_head heads) a v t n (let q = o.long in let b = r.inside in omega arith) r.head e (rank_most p (good p g) (layouts p) (omega arith) (omega arith) m n (derivable_sized p m t n r.derived)) o.derived r.derived)
 
 -- what waits, where a place was added to it
 added_in : (t : ℕ) (v w : List ℕ) → IsAdded t v w → (i : ℕ) → In i (t ∷ v) → In i w
@@ -59,7 +63,7 @@ added_in t v w e i (inl q) = subst (λ (x : ℕ). In x w) (sym q) e.has
 added_in t v w e i (inr h) = e.keeps i h
 
 reach_added : (p : LinkedFile) (m : Routine) (heads : List Bool) (xs : List (ℕ × State)) (a c : List (Option State)) (v w : List ℕ) (t : ℕ) → IsAdded t v w → AllReach p m heads xs a v c (t ∷ v) → AllReach p m heads xs a v c w
-reach_added p m heads xs a c v w t e r = record { advances = record { long = r.advances.long; rises = r.advances.rises; marks = marks; keeps = e.keeps; falls = let f = r.advances.falls in let k = e.most in omega arith }; landed = r.landed; whole = r.whole }
+reach_added p m heads xs a c v w t e r = record { advances = record { long = r.advances.long; rises = r.advances.rises; marks = marks; keeps = e.keeps; falls = let f = r.advances.falls in let k = e.most in omega arith }; landed = r.landed; adds = λ i h. r.adds i (e.only i h); whole = r.whole }
   where
     marks : (i : ℕ) → (at c i ≡ at a i) ⊎ (In i w × (is_head heads i ≡ true))
     marks i = elim (r.advances.marks i) [ inl same ↦ inl same | inr h ↦ inr (added_in t v w e i h.0, h.1) ]
@@ -87,10 +91,18 @@ in_states p m heads a t n o r = let e = o.long in let h = r.inside in omega arit
 -- lists of states that land, one after the other
 module _ (p : LinkedFile) (m : Routine) (heads : List Bool) where
   pub reach_none : (a : List (Option State)) (v : List ℕ) → IsOpen p m a → AllReach p m heads [] a v a v
-  reach_none a v o = record { advances = advance_self p _ _ (is_head heads) a v; landed = λ t n h. absurd h; whole = o }
+  reach_none a v o = record { advances = advance_self p _ _ (is_head heads) a v; landed = λ t n h. absurd h; adds = λ i h. inl h; whole = o }
 
   pub reach_more : (xs ys : List (ℕ × State)) (a c e : List (Option State)) (v w u : List ℕ) → AllReach p m heads xs a v c w → AllReach p m heads ys c w e u → AllReach p m heads (xs ++ ys) a v e u
-  reach_more xs ys a c e v w u r s = record { advances = advance_trans p _ _ (is_head heads) a c e v w u r.advances s.advances; landed = λ t n h. elim (in_append (t, n) xs ys h) [ inl k ↦ lands_on p _ _ (is_head heads) c e w u s.advances t n (r.landed t n k) | inr k ↦ s.landed t n k ]; whole = s.whole }
+  reach_more xs ys a c e v w u r s = record {
+    advances = advance_trans p _ _ (is_head heads) a c e v w u r.advances s.advances;
+    landed = λ t n h. elim (in_append (t, n) xs ys h) [ inl k ↦ lands_on p _ _ (is_head heads) c e w u s.advances t n (r.landed t n k) | inr k ↦ s.landed t n k ];
+    adds = λ i h. elim (s.adds i h) [
+      | inr k ↦ inr (k.0, in_right (i, k.0) xs ys k.1)
+      | inl k ↦ elim (r.adds i k) [ inl j ↦ inl j | inr j ↦ inr (j.0, in_left (i, j.0) xs ys j.1) ]
+    ];
+    whole = s.whole;
+  }
 
 -- a list is read one by one
 pub take_next : {X : Type 0} (xs : List X) (k : ℕ) (d : X) → k < length xs → take (suc k) xs ≡ take k xs ++ get_or xs k d ∷ []

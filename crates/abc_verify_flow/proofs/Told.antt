@@ -17,7 +17,7 @@ use Rattle.abc_base_trees.proofs.Pieces.{piece_few}
 use Rattle.abc_verify_typing.specs.Effects.{covering}
 use Rattle.abc_verify_typing.specs.Lists.{Each2}
 use Rattle.abc_verify_typing.specs.Routines.{Routine}
-use Rattle.abc_verify_typing.specs.Typing.{IsJoinState, Join}
+use Rattle.abc_verify_typing.specs.Typing.{In, IsJoinState, Join}
 use Rattle.abc_verify_typing.specs.declared.catch.Catch.{Catch}
 use Rattle.abc_verify_typing.specs.declared.state.State.{State}
 use Rattle.abc_verify_typing.proofs.Lists.{Each2-self}
@@ -60,6 +60,7 @@ module _ (p : LinkedFile) (m : Routine) (heads : List Bool) where
 
   pub record IsCatching (t : Stabs) (node : ℕ) (locals now : List Kind) (link : ℕ) (a : List (Option State)) (v : List ℕ) (c : List (Option State)) (w : List ℕ) : Type 0 where
     pub advances : Moves p m heads a v c w
+    pub adds : (i : ℕ) → In i w → In i v ⊎ ((h : Catch) × HandlerAt t m.handlers node h × (i ≡ h.target))
     pub whole : IsOpen p m c
     pub same : now ≡ locals
     pub of_node : (k : ℕ) → Hangs t.hangs k link → HangsAt t node k
@@ -68,6 +69,7 @@ module _ (p : LinkedFile) (m : Routine) (heads : List Bool) where
   pub catching_first : (t : Stabs) (node : ℕ) (locals : List Kind) (link : ℕ) (a : List (Option State)) (v : List ℕ) → IsOpen p m a → link ≡ first_of t.firsts node → IsCatching t node locals locals link a v a v
   catching_first t node locals link a v o e = record {
     advances = advance_self p _ _ (is_head heads) a v;
+    adds = λ i h. inl h;
     whole = o;
     same = refl;
     of_node = λ k g. subst (λ (l : ℕ). Hangs t.hangs k l) e g;
@@ -77,6 +79,7 @@ module _ (p : LinkedFile) (m : Routine) (heads : List Bool) where
   pub catching_more : (t : Stabs) (node : ℕ) (locals now after : List Kind) (link : ℕ) (h : Hang) (a c d : List (Option State)) (v w x : List ℕ) → linked t.hangs link ≡ Some h → IsCatching t node locals now link a v c w → HasCaughtOne p m heads h.number now c w d x → after ≡ now → IsCatching t node locals after h.next a v d x
   catching_more t node locals now after link h a c d v w x e k one same = record {
     advances = advance_trans p _ _ (is_head heads) a c d v w x k.advances one.advances;
+    adds = λ i f. elim (one.adds i f) [ inl j ↦ k.adds i j | inr j ↦ inr (j.0, record { number = h.number; hangs = k.of_node h.number (Here link h e refl); is = j.1 }, j.2) ];
     whole = one.whole;
     same = same ∙ k.same;
     of_node = λ n g. k.of_node n (Further link h e g);
@@ -97,6 +100,7 @@ module _ (p : LinkedFile) (m : Routine) (heads : List Bool) where
   pub catching_last : (t : Stabs) (node : ℕ) (locals now : List Kind) (link : ℕ) (a c : List (Option State)) (v w : List ℕ) → linked t.hangs link ≡ None → IsCatching t node locals now link a v c w → HasCaught p m heads t node locals a v c w
   catching_last t node locals now link a c v w e k = record {
     advances = k.advances;
+    adds = k.adds;
     whole = k.whole;
     told = λ h g. elim (k.told h g.number g.hangs g.is) [
       | inr l ↦ l
@@ -112,13 +116,19 @@ module _ (p : LinkedFile) (m : Routine) (heads : List Bool) where
   pub caught_one : (number : ℕ) (h : Catch) (locals : List Kind) (a c : List (Option State)) (v w : List ℕ) → slice_get m.handlers number ≡ Some h → AllReach p m heads (caught_with locals h ∷ []) a v c w → HasCaughtOne p m heads number locals a v c w
   caught_one number h locals a c v w is r = record {
     advances = r.advances;
+    adds = λ i f. elim (r.adds i f) [ inl j ↦ inl j | inr j ↦ inr (h, is, target_of i j.0 j.1) ];
     whole = r.whole;
     told = λ g e. let q : h ≡ g = (let z : Some h ≡ Some g = sym is ∙ e in cc) in subst (λ (y : Catch). IsTold p c locals y) q (r.landed h.target (caught_with locals h).1 (inl refl));
   }
+    where
+      target_of : (i : ℕ) (n : State) → In {X = ℕ × State} (i, n) (caught_with locals h ∷ []) → i ≡ h.target
+      target_of i n (inl q) = ap (λ (y : ℕ × State). y.0) q
+      target_of i n (inr f) = absurd f
 
   pub caught_none : (number : ℕ) (locals : List Kind) (a : List (Option State)) (v : List ℕ) → slice_get m.handlers number ≡ None → IsOpen p m a → HasCaughtOne p m heads number locals a v a v
   caught_none number locals a v none o = record {
     advances = advance_self p _ _ (is_head heads) a v;
+    adds = λ i h. inl h;
     whole = o;
     told = λ g e. absurd (let z : None ≡ Some g = sym none ∙ e in cc);
   }
@@ -129,6 +139,7 @@ module _ (p : LinkedFile) (m : Routine) (heads : List Bool) where
   told_nobody t node seen a v told none o k = record {
     caught = record {
       advances = advance_self p _ _ (is_head heads) a v;
+      adds = λ i h. inl h;
       whole = o;
       told = λ h g. absurd (hangs_none t.hangs g.number (subst (λ (l : ℕ). Hangs t.hangs g.number l) none g.hangs));
     };
@@ -139,6 +150,7 @@ module _ (p : LinkedFile) (m : Routine) (heads : List Bool) where
   told_before t node seen s a v told e le o k = record {
     caught = record {
       advances = advance_self p _ _ (is_head heads) a v;
+      adds = λ i h. inl h;
       whole = o;
       told = λ h g. told_less p a seen.locals s.locals h le (k.told node s h e g);
     };
@@ -189,7 +201,7 @@ module _ (p : LinkedFile) (m : Routine) (heads : List Bool) where
       record { derived = Join h.target (caught_with j.0.locals h).1 (caught_with seen.locals h).1 (caught_with now.locals h).1 b.derived r.derived (join_caught j.0 seen now h j.2); inside = r.inside; head = r.head }
 
   pub told_seen : (t : Stabs) (node : ℕ) (seen locals : List Kind) (a c : List (Option State)) (v w : List ℕ) (told : List (Option State)) → Each2 (IsAtMost p) seen locals → HasToldAt p m heads t node locals a v told c w → HasToldAt p m heads t node seen a v told c w
-  told_seen t node seen locals a c v w told le r = record { caught = record { advances = r.caught.advances; whole = r.caught.whole; told = λ h g. told_less p c seen locals h le (r.caught.told h g) }; kept = r.kept }
+  told_seen t node seen locals a c v w told le r = record { caught = record { advances = r.caught.advances; adds = r.caught.adds; whole = r.caught.whole; told = λ h g. told_less p c seen locals h le (r.caught.told h g) }; kept = r.kept }
 
   -- ---- the nodes above a place, from its leaf up
 
@@ -197,18 +209,20 @@ module _ (p : LinkedFile) (m : Routine) (heads : List Bool) where
     pub level : ℕ
     pub here : node ≡ up level (leaf t place)
     pub advances : Moves p m heads a v c w
+    pub adds : (i : ℕ) → In i w → In i v ⊎ ((h : Catch) × ((j : ℕ) × HandlerAt t m.handlers (up j (leaf t place)) h) × (i ≡ h.target))
     pub whole : IsOpen p m c
     pub kept : AreKept p m heads t told c
     pub below : (j : ℕ) (h : Catch) → j < level → HandlerAt t m.handlers (up j (leaf t place)) h → IsTold p c seen h
 
   pub telling_first : (t : Stabs) (place node : ℕ) (seen : List Kind) (a : List (Option State)) (v : List ℕ) (told : List (Option State)) → node ≡ leaf t place → IsOpen p m a → AreKept p m heads t told a → IsTelling t place node seen a v told a v
-  telling_first t place node seen a v told e o k = record { level = 0; here = e; advances = advance_self p _ _ (is_head heads) a v; whole = o; kept = k; below = λ j h lt g. absurd (omega arith) }
+  telling_first t place node seen a v told e o k = record { level = 0; here = e; advances = advance_self p _ _ (is_head heads) a v; adds = λ i h. inl h; whole = o; kept = k; below = λ j h lt g. absurd (omega arith) }
 
   pub telling_more : (t : Stabs) (place node : ℕ) (seen : List Kind) (a c d : List (Option State)) (v w x : List ℕ) (old told : List (Option State)) → IsTelling t place node seen a v old c w → HasToldAt p m heads t node seen c w told d x → IsTelling t place (node / 2) seen a v told d x
   telling_more t place node seen a c d v w x old told k r = record {
     level = suc k.level;
     here = ap (λ (n : ℕ). n / 2) k.here;
     advances = advance_trans p _ _ (is_head heads) a c d v w x k.advances r.caught.advances;
+    adds = λ i f. elim (r.caught.adds i f) [ inl j ↦ k.adds i j | inr j ↦ inr (j.0, (k.level, subst (λ (n : ℕ). HandlerAt t m.handlers n j.0) k.here j.1), j.2) ];
     whole = r.caught.whole;
     kept = r.kept;
     below = λ j h lt g. elim (cases_lt j k.level) [
@@ -220,6 +234,7 @@ module _ (p : LinkedFile) (m : Routine) (heads : List Bool) where
   pub telling_last : (t : Stabs) (place node : ℕ) (seen : List Kind) (a c : List (Option State)) (v w : List ℕ) (told : List (Option State)) → first_of t.firsts 0 ≡ 0 → AreHung (map range_of m.handlers) t → node ≤ 0 → IsTelling t place node seen a v told c w → HasTold p m heads t place seen a v told c w
   telling_last t place node seen a c v w told root hung le k = record {
     advances = k.advances;
+    adds = λ i f. elim (k.adds i f) [ inl j ↦ inl j | inr j ↦ inr (j.0, hung_covers m.handlers t j.1.0 place j.0 hung j.1.1, j.2) ];
     whole = k.whole;
     kept = k.kept;
     told = λ h i. each h (covers_hung m.handlers t place h hung i);

@@ -1,5 +1,5 @@
 -- A walk over straight-line code, in the words of the code.
-use Rattle.std.proofs.Common.{◌≡◌, ◌≢◌, ℕ, suc, ◌+◌, ◌<◌, List, [], ◌∷◌, ◌++◌, Option, Some, None, length, refl, sym, ap, ◌∙◌, subst, arith, ◌⊎◌, inl, inr}
+use Rattle.std.proofs.Common.{◌≡◌, ◌≢◌, ℕ, suc, ◌+◌, ◌<◌, ◌≤◌, List, [], ◌∷◌, ◌++◌, Option, Some, None, length, refl, sym, ap, ◌∙◌, subst, arith, ◌⊎◌, inl, inr}
 use Rattle.std.specs.Prelude.{Bool, true, false, cond, map, filter, slice_get, leb, ltb, ◌&&◌}
 use Rattle.std.proofs.lemmas.Bool.{cases_lt, le-leb, le-ltb, lt-leb, lt-ltb}
 use Rattle.std.proofs.lemmas.Option.{slice_get_past}
@@ -26,7 +26,7 @@ use Rattle.abc_verify_flow.specs.declared.step.Written.{Written}
 use Rattle.abc_verify_flow.specs.declared.step.Written.TheVariants as writes
 use Rattle.abc_verify_flow.specs.declared.step.Onward.{Onward}
 use Rattle.abc_verify_flow.specs.declared.step.Onward.TheVariants.{Stops, GoesOn}
-use Rattle.abc_verify_flow.specs.Walking.{AllReach, AreHeads, AreReady, AreSeen, AreTold, ArrivesAt, First, HasPaced, HasTurned, HasWalked, IsOpen, IsPending, IsReady, IsSeen, IsSeenFirst, IsWalking, Later, MayGoOn, Moves, Noted, Passed, Steps, Wrote, caught_with, is_head, landing, leads_of, targets_at}
+use Rattle.abc_verify_flow.specs.Walking.{AddsBehind, AllReach, AreHeads, AreReady, AreSeen, AreTold, ArrivesAt, First, HasPaced, HasTurned, HasWalked, IsOpen, IsPending, IsReady, IsSeen, IsSeenFirst, IsWalking, Later, MayGoOn, Moves, Noted, Passed, Steps, Wrote, caught_with, is_head, landing, leads_of, targets_at}
 use Rattle.abc_verify_flow.proofs.Seen.{Joins, caught_join, joins_left, joins_right, noted_joins}
 use Rattle.abc_verify_flow.proofs.Covered.{empty_not, in_filter}
 use Rattle.abc_verify_flow.proofs.Told.{told_less}
@@ -153,9 +153,59 @@ module _ (p : LinkedFile) (m : Routine) (heads : List Bool) where
   in_next true t i (inr h) = absurd h
   in_next false t i h = absurd h
 
+  -- ---- what waits anew
+  behind_trans : (place : ℕ) (c d : List (Option State)) (v x y : List ℕ) → Moves p m heads c x d y → AddsBehind m place v c x → AddsBehind m place x d y → AddsBehind m place v d y
+  behind_trans place c d v x y g f h i k = elim (h i k) [
+    | inr j ↦ inr j
+    | inl j ↦ elim (f i j) [ inl l ↦ inl l | inr l ↦ inr (let r = g.rises i l.0 l.1 in (r.0, r.1, l.2)) ]
+  ]
+
+  behind_less : (less place : ℕ) (v : List ℕ) (c : List (Option State)) (w : List ℕ) → less ≤ place → AddsBehind m place v c w → AddsBehind m less v c w
+  behind_less less place v c w le f i k = elim (f i k) [ inl j ↦ inl j | inr j ↦ inr (j.0, j.1, λ on. let z = j.2 on in omega (arith, le, z)) ]
+
+  jump_adds : (i : ℕ) (n : State) (jumps : Bool) (a c : List (Option State)) (v x : List ℕ) → AllReach p m heads (map (landing n) (cond jumps (targets_at m i) [])) a v c x → AddsBehind m i v c x
+  jump_adds i n jumps a c v x r k h = elim (r.adds k h) [
+    | inl j ↦ inl j
+    | inr j ↦ (
+        let l = r.landed k j.0 j.1 in
+        let z = in_map (landing n) (k, j.0) (cond jumps (targets_at m i) []) j.1 in
+        let e : k ≡ z.0 = ap (λ (y : ℕ × State). y.0) z.2 in
+        inr (l.0, l.1, λ on. on.jumps i k (subst (λ q. In q (targets_at m i)) (sym e) (of_jumps jumps z.0 z.1))))
+  ]
+    where
+      of_jumps : (b : Bool) (q : ℕ) → In q (cond b (targets_at m i) []) → In q (targets_at m i)
+      of_jumps true q f = f
+      of_jumps false q f = absurd f
+
+  next_adds : (i : ℕ) (n : State) (next : Bool) (a c : List (Option State)) (v x : List ℕ) → AllReach p m heads (map (landing n) (cond next (suc i ∷ []) [])) a v c x → AddsBehind m i v c x
+  next_adds i n next a c v x r k h = elim (r.adds k h) [
+    | inl j ↦ inl j
+    | inr j ↦ (
+        let l = r.landed k j.0 j.1 in
+        let z = in_map (landing n) (k, j.0) (cond next (suc i ∷ []) []) j.1 in
+        let e : k ≡ z.0 = ap (λ (y : ℕ × State). y.0) z.2 in
+        let q : z.0 ≡ suc i = in_next next z.0 i z.1 in
+        inr (l.0, l.1, λ on. omega (arith, e, q)))
+  ]
+
+  told_adds : (t : Stabs) (start : ℕ) (seen : List Kind) (a c : List (Option State)) (v w : List ℕ) (told : List (Option State)) → HasTold p m heads t start seen a v told c w → AddsBehind m start v c w
+  told_adds t start seen a c v w told r k h = elim (r.adds k h) [
+    | inl j ↦ inl j
+    | inr j ↦ (
+        let l = r.told j.0 j.1 in
+        inr (l.0, ap (at c) j.2 ∙ l.1, λ on. let z = on.handlers start j.0 j.1 in let e = j.2 in omega (arith, e, z)))
+  ]
+
   pub passed : (cover : List Catch) (i : ℕ) (s n : State) (step : Step) (old seen : List Kind) (a c d : List (Option State)) (v x y : List ℕ) (o : Onward) → HasNoted p m heads cover old seen s.locals → Derivable p m i s → IsFine p m i s → Steps p m i s n step → AllReach p m heads (map (landing n) (cond step.jumps (targets_at m i) [])) a v c x → ArrivesAt p m heads step i n c x d y o → Passed p m heads cover i s n old seen a v d y o
   passed cover i s n step old seen a c d v x y Stops noted dv fine z jumped arrived =
-      record { advances = advance_trans p _ _ (is_head heads) a c d v x y jumped.advances arrived.advances; whole = arrived.whole; seen_is = noted.seen_is; rises = noted.rises; passes = record { fine = fine; follows = all } }
+      record {
+        advances = advance_trans p _ _ (is_head heads) a c d v x y jumped.advances arrived.advances;
+        adds = behind_trans i c d v x y arrived.advances (jump_adds i n step.jumps a c v x jumped) (next_adds i n step.next c d x y arrived);
+        whole = arrived.whole;
+        seen_is = noted.seen_is;
+        rises = noted.rises;
+        passes = record { fine = fine; follows = all };
+      }
     where
       all : (t : ℕ) (u : State) → Follows p m i s t u → Landed p d t u ⊎ In (t, u) (map (caught s) (covering m i))
       all t u f = elim (follow_leads i s n step t u z f) [
@@ -169,6 +219,7 @@ module _ (p : LinkedFile) (m : Routine) (heads : List Bool) where
       let ad : Moves p m heads a v d y = subst (λ (ws : List ℕ). Moves p m heads a v d ws) (sym left) (subst (λ (ss : List (Option State)). Moves p m heads a v ss x) (sym same) jumped.advances) in
       record {
         advances = ad;
+        adds = subst (λ (ws : List ℕ). AddsBehind m i v d ws) (sym left) (subst (λ (ss : List (Option State)). AddsBehind m i v ss x) (sym same) (jump_adds i n step.jumps a c v x jumped));
         whole = subst (λ (ss : List (Option State)). IsOpen p m ss) (sym same) jumped.whole;
         seen_is = noted.seen_is;
         rises = noted.rises;
@@ -183,7 +234,7 @@ module _ (p : LinkedFile) (m : Routine) (heads : List Bool) where
 
   -- walks
   pub walk_init : (cover : List Catch) (start : ℕ) (s : State) (seen : List Kind) (a : List (Option State)) (v : List ℕ) → IsOpen p m a → start < length m.code → Derivable p m start s → cover ≡ covering m start → IsSeenFirst cover seen s.locals → IsWalking p m heads cover start s start s seen writes.Nothing a v a v
-  walk_init cover start s seen a v o inside d is same = record { advances = advance_self p _ _ (is_head heads) a v; whole = o; inside = inside; derived = d; covers = is; pending = First same refl; back = λ c x g told r. r }
+  walk_init cover start s seen a v o inside d is same = record { advances = advance_self p _ _ (is_head heads) a v; adds = λ i h. inl h; whole = o; behind = omega arith; inside = inside; derived = d; covers = is; pending = First same refl; back = λ c x g told r. r }
 
   pub walk_step : (cover : List Catch) (start : ℕ) (s : State) (i : ℕ) (n u : State) (old seen : List Kind) (w next : Written) (a c d : List (Option State)) (v x y : List ℕ) → AreHeads m heads → IsWalking p m heads cover start s i n old w a v c x → Passed p m heads cover i n u old seen c x d y (GoesOn next) → IsWalking p m heads cover start s (i + 1) u seen next a v d y
   walk_step cover start s i n u old seen w next a c d v x y hs k r =
@@ -192,7 +243,9 @@ module _ (p : LinkedFile) (m : Routine) (heads : List Bool) where
       let moved : IsWalking p m heads cover start s (suc i) u seen next a v d y =
       record {
         advances = advance_trans p _ _ (is_head heads) a c d v x y k.advances r.advances;
+        adds = behind_trans start c d v x y r.advances k.adds (behind_less start i x d y k.behind r.adds);
         whole = r.whole;
+        behind = let z = k.behind in omega (arith, z);
         inside = on.inside;
         derived = on.derived;
         covers = k.covers ∙ covering_next m heads i hs on.inside on.inner;
@@ -208,6 +261,7 @@ module _ (p : LinkedFile) (m : Routine) (heads : List Bool) where
   walk_stop cover start s i n u old seen w a c d v x y k r =
       record {
         advances = advance_trans p _ _ (is_head heads) a c d v x y k.advances r.advances;
+        adds = behind_trans start c d v x y r.advances k.adds (behind_less start i x d y k.behind r.adds);
         whole = r.whole;
         ready = r.seen_is.ready;
         runs = λ b z g told. k.back b z (advance_trans p _ _ (is_head heads) c d b x y z r.advances g) (told_down p b cover old seen r.rises told) (Halts i n r.passes.fine (λ t q f. elim (r.passes.follows t q f) [
@@ -220,19 +274,22 @@ module _ (p : LinkedFile) (m : Routine) (heads : List Bool) where
   walked_all t start s seen a c d v w x told paced now = (
     record {
       advances = advance_trans p _ _ (is_head heads) a c d v w x paced.advances now.advances;
+      adds = behind_trans start c d v w x now.advances paced.adds (told_adds t start seen c d w x told now);
       whole = now.whole;
       runs = paced.runs d x now.advances now.told;
     },
     now.kept,
   )
 
-  pub visit_none : (t : Stabs) (told a : List (Option State)) (i : ℕ) (v : List ℕ) → IsUnderWay p m (is_head heads) a (i ∷ v) → at a i ≡ None → AreKept p m heads t told a → HasTurned p m heads a v a v × AreKept p m heads t told a
-  visit_none t told a i v u e k = (record { under_way = turn p m (rank (layouts p)) (top (layouts p) m) (is_head heads) a a i v v u (advance_self p _ _ (is_head heads) a v) (λ s q. absurd cc) u.derived; falls = omega arith }, k)
+  pub visit_none : (t : Stabs) (told a : List (Option State)) (i : ℕ) (v : List ℕ) → IsUnderWay p m (is_head heads) a (i ∷ v) → at a i ≡ None → AreKept p m heads t told a → HasTurned p m heads i a v a v × AreKept p m heads t told a
+  visit_none t told a i v u e k = (record { under_way = turn p m (rank (layouts p)) (top (layouts p) m) (is_head heads) a a i v v u (advance_self p _ _ (is_head heads) a v) (λ s q. absurd cc) u.derived; advances = advance_self p _ _ (is_head heads) a v; adds = λ j h. inl h; falls = omega arith }, k)
 
-  pub visit_walked : (t : Stabs) (told a c : List (Option State)) (i : ℕ) (s n : State) (v w : List ℕ) → IsUnderWay p m (is_head heads) a (i ∷ v) → at a i ≡ Some s → n ≡ s → HasWalked p m heads i n a v c w × AreKept p m heads t told c → HasTurned p m heads a v c w × AreKept p m heads t told c
+  pub visit_walked : (t : Stabs) (told a c : List (Option State)) (i : ℕ) (s n : State) (v w : List ℕ) → IsUnderWay p m (is_head heads) a (i ∷ v) → at a i ≡ Some s → n ≡ s → HasWalked p m heads i n a v c w × AreKept p m heads t told c → HasTurned p m heads i a v c w × AreKept p m heads t told c
   visit_walked t told a c i s n v w u e same r = (
     record {
       under_way = turn p m (rank (layouts p)) (top (layouts p) m) (is_head heads) a c i v w u r.0.advances (λ q f. let z : n ≡ q = (let y : Some s ≡ Some q = sym e ∙ f in let x : s ≡ q = cc in same ∙ x) in subst (λ x. Runs p m (is_head heads) c i x) z r.0.runs) r.0.whole.derived;
+      advances = r.0.advances;
+      adds = r.0.adds;
       falls = r.0.advances.falls;
     },
     r.1,

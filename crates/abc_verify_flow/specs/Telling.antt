@@ -9,7 +9,7 @@ use Rattle.abc_base_trees.specs.declared.stabs.Stabs.{Stabs}
 use Rattle.abc_verify_typing.specs.Effects.{covering}
 use Rattle.abc_verify_typing.specs.Lists.{Each2}
 use Rattle.abc_verify_typing.specs.Routines.{Routine}
-use Rattle.abc_verify_typing.specs.Typing.{IsJoinState}
+use Rattle.abc_verify_typing.specs.Typing.{In, IsJoinState}
 use Rattle.abc_verify_typing.specs.declared.catch.Catch.{Catch}
 use Rattle.abc_verify_typing.specs.declared.state.State.{State}
 use Rattle.abc_verify_typing.specs.Work.{at, Landed}
@@ -54,12 +54,14 @@ Raises p old seen (Some now) = (now.locals ≡ seen.locals) ⊎ ((s : State) × 
 -- the handler of a number, if there is one, got these locals
 pub record HasCaughtOne (p : LinkedFile) (m : Routine) (heads : List Bool) (number : ℕ) (locals : List Kind) (a : List (Option State)) (v : List ℕ) (c : List (Option State)) (w : List ℕ) : Type 0 where
   pub advances : Moves p m heads a v c w
+  pub adds : (i : ℕ) → In i w → In i v ⊎ ((h : Catch) × (slice_get m.handlers number ≡ Some h) × (i ≡ h.target))
   pub whole : IsOpen p m c
   pub told : (h : Catch) → slice_get m.handlers number ≡ Some h → IsTold p c locals h
 
 -- all handlers at a node got these locals
 pub record HasCaught (p : LinkedFile) (m : Routine) (heads : List Bool) (t : Stabs) (node : ℕ) (locals : List Kind) (a : List (Option State)) (v : List ℕ) (c : List (Option State)) (w : List ℕ) : Type 0 where
   pub advances : Moves p m heads a v c w
+  pub adds : (i : ℕ) → In i w → In i v ⊎ ((h : Catch) × HandlerAt t m.handlers node h × (i ≡ h.target))
   pub whole : IsOpen p m c
   pub told : (h : Catch) → HandlerAt t m.handlers node h → IsTold p c locals h
 
@@ -69,6 +71,7 @@ pub record HasToldAt (p : LinkedFile) (m : Routine) (heads : List Bool) (t : Sta
 
 pub record HasTold (p : LinkedFile) (m : Routine) (heads : List Bool) (t : Stabs) (place : ℕ) (locals : List Kind) (a : List (Option State)) (v : List ℕ) (last c : List (Option State)) (w : List ℕ) : Type 0 where
   pub advances : Moves p m heads a v c w
+  pub adds : (i : ℕ) → In i w → In i v ⊎ ((h : Catch) × In h (covering m place) × (i ≡ h.target))
   pub whole : IsOpen p m c
   pub told : AreTold p c (covering m place) locals
   pub kept : AreKept p m heads t last c

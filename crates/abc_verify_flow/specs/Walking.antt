@@ -1,5 +1,5 @@
 -- What the code of the work list promises.
-use Rattle.std.specs.Prelude.{◌≡◌, ◌≢◌, ℕ, suc, ◌+◌, ◌<◌, ◌≤◌, List, [], ◌∷◌, ◌++◌, Bool, true, false, cond, Option, Some, None, length, map, set, slice_get, ◌⊎◌}
+use Rattle.std.specs.Prelude.{◌≡◌, ◌≢◌, ℕ, suc, ◌+◌, ◌-◌, ◌<◌, ◌≤◌, List, [], ◌∷◌, ◌++◌, Bool, true, false, cond, Option, Some, None, length, map, set, slice_get, ◌⊎◌}
 use Rattle.abc_link_program.specs.Kinds.{IsAtMost, IsJoin}
 use Rattle.abc_link_program.specs.Linked.{LinkedFile}
 use Rattle.abc_link_program.specs.declared.types.Kind.{Kind}
@@ -9,10 +9,10 @@ use Rattle.abc_verify_typing.specs.Effects.{covering, caught}
 use Rattle.abc_verify_typing.specs.Lists.{Each2}
 use Rattle.abc_verify_typing.specs.Routines.{Routine}
 use Rattle.abc_verify_typing.specs.Rules.{after_instr, broken}
-use Rattle.abc_verify_typing.specs.Typing.{StateLe, HasOneShape, IsFine, In, Follows, IsJoinState, Derivable, Refutes}
+use Rattle.abc_verify_typing.specs.Typing.{StateLe, HasOneShape, IsFine, In, Follows, IsJoinState, IsTyping, Derivable, Refutes}
 use Rattle.abc_verify_typing.specs.declared.catch.Catch.{Catch}
 use Rattle.abc_verify_typing.specs.declared.state.State.{State}
-use Rattle.abc_verify_typing.specs.Work.{Landed, Runs, Advances, AreDerived, IsUnderWay, total}
+use Rattle.abc_verify_typing.specs.Work.{at, Landed, Runs, Advances, AreDerived, IsUnderWay, total, walked}
 use Rattle.abc_verify_typing.specs.Rank.{layouts, rank, top}
 use Rattle.abc_verify_flow.specs.declared.step.Step.{Step}
 use Rattle.abc_verify_flow.specs.declared.step.Trial.{Trial}
@@ -84,13 +84,20 @@ holds_so (Some b) = b
 abbrev pub is_head : List Bool → ℕ → Bool
 is_head heads i = holds_so (slice_get heads i)
 
--- the first place, and every place that something leads to or where a handler's range begins or ends
+-- a walk begins at the first place, at what something leads to, and where a handler's range begins or ends
+pub data BeginsWalk (m : Routine) (t : ℕ) : Type 0 where
+  AtStart : t ≡ 0 → BeginsWalk m t
+  AtTarget : (i : ℕ) → In t (targets_at m i) → BeginsWalk m t
+  AtHandler : (h : Catch) → In h m.handlers → (t ≡ h.target) ⊎ ((t ≡ h.from) ⊎ (t ≡ h.to)) → BeginsWalk m t
+
+-- the heads are the places of the code where a walk begins, and no other
 pub record AreHeads (m : Routine) (heads : List Bool) : Type 0 where
   pub first : is_head heads 0 ≡ true
   pub jumps : (i t : ℕ) → In t (targets_at m i) → t < length m.code → is_head heads t ≡ true
   pub handlers : (h : Catch) → In h m.handlers → h.target < length m.code → is_head heads h.target ≡ true
   pub begins : (h : Catch) → In h m.handlers → h.from < length m.code → is_head heads h.from ≡ true
   pub ends : (h : Catch) → In h m.handlers → h.to < length m.code → is_head heads h.to ≡ true
+  pub only : (t : ℕ) → is_head heads t ≡ true → BeginsWalk m t
 
 abbrev pub Moves : LinkedFile → Routine → List Bool → List (Option State) → List ℕ → List (Option State) → List ℕ → Type 0
 Moves p m heads a v c w = Advances p (rank (layouts p)) (top (layouts p) m) (is_head heads) a v c w
@@ -100,10 +107,20 @@ pub record IsOpen (p : LinkedFile) (m : Routine) (states : List (Option State)) 
   pub long : length states ≡ length m.code
   pub derived : AreDerived p m states
 
--- a state has landed at each of some places, and all that was known goes on
+-- nothing leads back: what an instruction or a handler leads to stands behind it
+pub record IsForward (m : Routine) : Type 0 where
+  pub jumps : (i t : ℕ) → In t (targets_at m i) → i < t
+  pub handlers : (i : ℕ) (h : Catch) → In h (covering m i) → i < h.target
+
+-- what waits anew has a state, and stands behind a place if nothing leads back
+abbrev pub AddsBehind : Routine → ℕ → List ℕ → List (Option State) → List ℕ → Type 0
+AddsBehind m place v c w = (i : ℕ) → In i w → In i v ⊎ ((s : State) × (at c i ≡ Some s) × (IsForward m → place < i))
+
+-- a state has landed at each of some places, nothing else waits anew, and all that was known goes on
 pub record AllReach (p : LinkedFile) (m : Routine) (heads : List Bool) (xs : List (ℕ × State)) (a : List (Option State)) (v : List ℕ) (c : List (Option State)) (w : List ℕ) : Type 0 where
   pub advances : Moves p m heads a v c w
   pub landed : (t : ℕ) (n : State) → In (t, n) xs → Landed p c t n
+  pub adds : (i : ℕ) → In i w → In i v ⊎ ((n : State) × In (i, n) xs)
   pub whole : IsOpen p m c
 
 -- what may come next
@@ -189,6 +206,7 @@ PassesTo p m heads i s n c (GoesOn w) = IsOnward p m heads i s n w c
 
 pub record Passed (p : LinkedFile) (m : Routine) (heads : List Bool) (cover : List Catch) (i : ℕ) (s n : State) (old seen : List Kind) (a : List (Option State)) (v : List ℕ) (c : List (Option State)) (w : List ℕ) (o : Onward) : Type 0 where
   pub advances : Moves p m heads a v c w
+  pub adds : AddsBehind m i v c w
   pub whole : IsOpen p m c
   pub seen_is : IsSeen p m heads cover seen s.locals
   pub rises : AreSeen p cover old seen
@@ -197,7 +215,9 @@ pub record Passed (p : LinkedFile) (m : Routine) (heads : List Bool) (cover : Li
 -- a walk, from a head on
 pub record IsWalking (p : LinkedFile) (m : Routine) (heads : List Bool) (cover : List Catch) (start : ℕ) (s : State) (i : ℕ) (n : State) (seen : List Kind) (w : Written) (a : List (Option State)) (v : List ℕ) (c : List (Option State)) (x : List ℕ) : Type 0 where
   pub advances : Moves p m heads a v c x
+  pub adds : AddsBehind m start v c x
   pub whole : IsOpen p m c
+  pub behind : start ≤ i
   pub inside : i < length m.code
   pub derived : Derivable p m i n
   pub covers : cover ≡ covering m i
@@ -207,15 +227,43 @@ pub record IsWalking (p : LinkedFile) (m : Routine) (heads : List Bool) (cover :
 -- all but what handlers get
 pub record HasPaced (p : LinkedFile) (m : Routine) (heads : List Bool) (cover : List Catch) (start : ℕ) (s : State) (seen : List Kind) (a : List (Option State)) (v : List ℕ) (c : List (Option State)) (w : List ℕ) : Type 0 where
   pub advances : Moves p m heads a v c w
+  pub adds : AddsBehind m start v c w
   pub whole : IsOpen p m c
   pub ready : AreReady p m heads (map (caught_with seen) cover)
   pub runs : (d : List (Option State)) (y : List ℕ) → Moves p m heads c w d y → AreTold p d cover seen → Runs p m (is_head heads) d start s
 
 pub record HasWalked (p : LinkedFile) (m : Routine) (heads : List Bool) (start : ℕ) (s : State) (a : List (Option State)) (v : List ℕ) (c : List (Option State)) (w : List ℕ) : Type 0 where
   pub advances : Moves p m heads a v c w
+  pub adds : AddsBehind m start v c w
   pub whole : IsOpen p m c
   pub runs : Runs p m (is_head heads) c start s
 
-pub record HasTurned (p : LinkedFile) (m : Routine) (heads : List Bool) (a : List (Option State)) (v : List ℕ) (c : List (Option State)) (w : List ℕ) : Type 0 where
+-- one head was taken from the work
+pub record HasTurned (p : LinkedFile) (m : Routine) (heads : List Bool) (place : ℕ) (a : List (Option State)) (v : List ℕ) (c : List (Option State)) (w : List ℕ) : Type 0 where
   pub under_way : IsUnderWay p m (is_head heads) c w
+  pub advances : Moves p m heads a v c w
+  pub adds : AddsBehind m place v c w
   pub falls : total (rank (layouts p)) (top (layouts p) m) c + length w ≤ total (rank (layouts p)) (top (layouts p) m) a + length v
+
+-- ---- how many walks there are
+
+-- how many walks begin at a place at most: where it has a state one, and one more for each step that the state rose from the lowest
+abbrev pub walks_from : (State → ℕ) → ℕ → Option State → ℕ
+walks_from rank top None = 0
+walks_from rank top (Some s) = suc (top - rank s)
+
+abbrev pub most_walks : (State → ℕ) → ℕ → List (Option State) → ℕ
+most_walks rank top [] = 0
+most_walks rank top (o ∷ os) = walks_from rank top o + most_walks rank top os
+
+-- how many places have a state
+abbrev pub count_known : List (Option State) → ℕ
+count_known [] = 0
+count_known (None ∷ os) = count_known os
+count_known (Some s ∷ os) = suc (count_known os)
+
+-- the states at the heads make a typing; from each head at most once more was walked than its state rose, and once where nothing leads back
+pub record IsSettled (p : LinkedFile) (m : Routine) (heads : List Bool) (walks : ℕ) (states : List (Option State)) : Type 0 where
+  pub typing : IsTyping p m (walked p m (is_head heads) states)
+  pub few : walks ≤ most_walks (rank (layouts p)) (top (layouts p) m) states
+  pub once : IsForward m → walks ≤ count_known states

@@ -5,7 +5,7 @@ ghost use Rattle.abc_verify_typing.specs.Typing.{Derivable, HasTyping};
 ghost use Rattle.abc_verify_typing.specs.Work.{IsUnderWay};
 ghost use Rattle.abc_verify_flow.specs.Handled.{IsCoverAt};
 ghost use Rattle.abc_verify_flow.specs.Telling.{AreKept, IsHandled};
-ghost use Rattle.abc_verify_flow.specs.Walking.{AllReach, AreHeads, AreReady, ArrivesAt, HasPaced, HasTurned, HasWalked, IsOpen, IsPending, IsSeenFirst, MayGoOn, Passed, RefusedBy, is_head, landing, targets_at};
+ghost use Rattle.abc_verify_flow.specs.Walking.{AllReach, AreHeads, AreReady, ArrivesAt, HasPaced, HasTurned, HasWalked, IsOpen, IsPending, IsSeenFirst, IsSettled, MayGoOn, Passed, RefusedBy, is_head, landing, targets_at};
 
 use crate::copies::{copy_over, no_state};
 use crate::flow::Flow;
@@ -199,7 +199,7 @@ fn visit<F: Flow>(
     requires handled { IsHandled (F.routine flow.now).handlers (length (F.routine flow.now).code) handled.now }
     requires under_way { IsUnderWay (F.file flow.now) (F.routine flow.now) (is_head (F.heads flow.now)) states.old (place ∷ work.old) }
     requires kept { AreKept (F.file flow.now) (F.routine flow.now) (F.heads flow.now) handled.now.all walker.old.told states.old }
-    ensures { MatchResult result (λ _. HasTurned (F.file flow.now) (F.routine flow.now) (F.heads flow.now) states.old work.old states.new work.new × AreKept (F.file flow.now) (F.routine flow.now) (F.heads flow.now) handled.now.all walker.new.told states.new) (λ e. RefusedBy (F.file flow.now) (F.routine flow.now) e) }
+    ensures { MatchResult result (λ _. HasTurned (F.file flow.now) (F.routine flow.now) (F.heads flow.now) place states.old work.old states.new work.new × AreKept (F.file flow.now) (F.routine flow.now) (F.heads flow.now) handled.now.all walker.new.told states.new) (λ e. RefusedBy (F.file flow.now) (F.routine flow.now) e) }
 {
     if !states.load(place, &mut walker.now)? {
         return Ok(());
@@ -217,18 +217,18 @@ fn visit<F: Flow>(
     Ok(())
 }
 
-/// The work list, where there is code.
+/// The work list, where there is code. The answer is how many walks there were.
 fn check_code<F: Flow>(
     flow: &F,
     states: &mut States,
     work: &mut Waiting,
     walker: &mut Walker,
-) -> Result<(), Refusal>
+) -> Result<u64, Refusal>
     requires linked { IsLinkedFile (F.file flow.now) }
     requires some { 0 < length (F.routine flow.now).code }
     requires small { length (F.routine flow.now).code < 2 ^ 31 }
     requires heads { AreHeads (F.routine flow.now) (F.heads flow.now) }
-    ensures { MatchResult result (λ _. HasTyping (F.file flow.now) (F.routine flow.now)) (λ e. RefusedBy (F.file flow.now) (F.routine flow.now) e) }
+    ensures { MatchResult result (λ walks. IsSettled (F.file flow.now) (F.routine flow.now) (F.heads flow.now) walks states.new) (λ e. RefusedBy (F.file flow.now) (F.routine flow.now) e) }
 {
     let handled = handled_of(flow.alloc(), flow.handlers(), flow.len())?;
     walker.told.renew(handled.all.nodes());
@@ -236,10 +236,12 @@ fn check_code<F: Flow>(
     work.clear();
     let entry = flow.entry()?;
     raise(states, work, 0, &entry)?;
+    let mut walks: u64 = 0;
     while let Some(place) = work.pop() {
         visit(flow, &handled, states, work, walker, place)?;
+        walks = walks.saturating_add(1);
     }
-    Ok(())
+    Ok(walks)
 }
 
 /// Memory that is used again from method to method.
@@ -265,14 +267,14 @@ impl Memory {
     }
 }
 
-/// Whether a method has a typing. The answer is Ok exactly where it has one; else a place and a rule refute every typing,
-/// or memory ran out.
-#[tactic(auto, using(crate::proofs::Walks::no_code))]
-pub fn check_flow<F: Flow>(flow: &F, memory: &mut Memory) -> Result<(), Refusal>
+/// Whether a method has a typing. The answer is Ok exactly where it has one, with how many walks there were: from each head at most
+/// once more than its state rose. Else a place and a rule refute every typing, or memory ran out.
+#[tactic(auto, using(crate::proofs::Walks::no_code, crate::proofs::Counts::settled_typing))]
+pub fn check_flow<F: Flow>(flow: &F, memory: &mut Memory) -> Result<u64, Refusal>
     requires linked { IsLinkedFile (F.file flow.now) }
     requires small { length (F.routine flow.now).code < 2 ^ 31 }
     requires heads { AreHeads (F.routine flow.now) (F.heads flow.now) }
-    ensures { MatchResult result (λ _. HasTyping (F.file flow.now) (F.routine flow.now)) (λ e. RefusedBy (F.file flow.now) (F.routine flow.now) e) }
+    ensures { MatchResult result (λ walks. HasTyping (F.file flow.now) (F.routine flow.now) × IsSettled (F.file flow.now) (F.routine flow.now) (F.heads flow.now) walks memory.new.states) (λ e. RefusedBy (F.file flow.now) (F.routine flow.now) e) }
 {
     if flow.len() == 0 {
         return Err(Refusal::Refused(0, VerifyRule::OffEnd));

@@ -9,7 +9,7 @@ use Rattle.abc_verify_typing.specs.Routines.{Routine}
 use Rattle.abc_verify_typing.specs.Typing.{In}
 use Rattle.abc_verify_typing.specs.declared.catch.Catch.{Catch}
 use Rattle.abc_verify_typing.proofs.Member.{in_append, in_left, in_right}
-use Rattle.abc_verify_flow.specs.Walking.{AreHeads, holds_so, is_head, targets_at, targets_in}
+use Rattle.abc_verify_flow.specs.Walking.{AreHeads, AtHandler, AtStart, AtTarget, BeginsWalk, holds_so, is_head, targets_at, targets_in}
 use Rattle.abc_verify_states.specs.Marking.{AreHeadsOf, Marks, code_targets, handler_places}
 
 -- a list of none, filled up
@@ -32,28 +32,36 @@ head_kept (x ∷ marks) zero (suc i) e = e
 head_kept (x ∷ marks) (suc t) zero e = e
 head_kept (x ∷ marks) (suc t) (suc i) e = head_kept marks t i e
 
+head_only : (marks : List Bool) (t i : ℕ) → is_head (set marks t true) i ≡ true → (is_head marks i ≡ true) ⊎ (i ≡ t)
+head_only [] t i e = inl e
+head_only (x ∷ marks) zero zero e = inr refl
+head_only (x ∷ marks) zero (suc i) e = inl e
+head_only (x ∷ marks) (suc t) zero e = inl e
+head_only (x ∷ marks) (suc t) (suc i) e = elim (head_only marks t i e) [ inl f ↦ inl f | inr q ↦ inr (ap suc q) ]
+
 pub marks_set : (marks : List Bool) (t : ℕ) → t < length marks → Marks (t ∷ []) marks (set marks t true)
-marks_set marks t h = record { long = length-set marks t true; keeps = λ i e. head_kept marks t i e; marks = marks_it }
+marks_set marks t h = record { long = length-set marks t true; keeps = λ i e. head_kept marks t i e; marks = marks_it; only = λ i e. elim (head_only marks t i e) [ inl f ↦ inl f | inr q ↦ inr (inl q) ] }
   where
     marks_it : (i : ℕ) → In i (t ∷ []) → i < length marks → is_head (set marks t true) i ≡ true
     marks_it i (inl q) lt = ap (is_head (set marks t true)) q ∙ head_set marks t h
     marks_it i (inr k) lt = absurd k
 
 pub marks_past : (marks : List Bool) (t : ℕ) → length marks ≤ t → Marks (t ∷ []) marks marks
-marks_past marks t h = record { long = refl; keeps = λ i e. e; marks = marks_it }
+marks_past marks t h = record { long = refl; keeps = λ i e. e; marks = marks_it; only = λ i e. inl e }
   where
     marks_it : (i : ℕ) → In i (t ∷ []) → i < length marks → is_head marks i ≡ true
     marks_it i (inl q) lt = absurd (omega arith)
     marks_it i (inr k) lt = absurd k
 
 pub marks_none : (marks : List Bool) → Marks [] marks marks
-marks_none marks = record { long = refl; keeps = λ i e. e; marks = λ i k lt. absurd k }
+marks_none marks = record { long = refl; keeps = λ i e. e; marks = λ i k lt. absurd k; only = λ i e. inl e }
 
 pub marks_more : (ts us : List ℕ) (a b c : List Bool) → Marks ts a b → Marks us b c → Marks (ts ++ us) a c
 marks_more ts us a b c x y = record {
   long = y.long ∙ x.long;
   keeps = λ i e. y.keeps i (x.keeps i e);
   marks = λ i k lt. elim (in_append i ts us k) [ inl j ↦ y.keeps i (x.marks i j lt) | inr j ↦ y.marks i j (let e = x.long in omega arith) ];
+  only = λ i e. elim (y.only i e) [ inr k ↦ inr (in_right i ts us k) | inl f ↦ elim (x.only i f) [ inl g ↦ inl g | inr k ↦ inr (in_left i ts us k) ] ];
 }
 
 pub marks_both : (t : ℕ) (us vs : List ℕ) (a b c : List Bool) → vs ≡ us → Marks (t ∷ []) a b → Marks vs b c → Marks (t ∷ us) a c
@@ -109,6 +117,10 @@ in_code [] i t k = absurd k
 in_code (x ∷ code) zero t k = in_left t (targets x) (code_targets code) k
 in_code (x ∷ code) (suc i) t k = in_right t (targets x) (code_targets code) (in_code code i t k)
 
+code_in : (code : List Instr) (t : ℕ) → In t (code_targets code) → (i : ℕ) × In t (targets_in (slice_get code i))
+code_in [] t k = absurd k
+code_in (x ∷ code) t k = elim (in_append t (targets x) (code_targets code) k) [ inl j ↦ (0, j) | inr j ↦ (let r = code_in code t j in (suc r.0, r.1)) ]
+
 -- ---- handlers
 
 handlers_append : (xs ys : List Catch) → handler_places (xs ++ ys) ≡ handler_places xs ++ handler_places ys
@@ -141,6 +153,18 @@ in_to h [] k = absurd k
 in_to h (x ∷ hs) (inl q) = inr (inr (inl (ap (λ (y : Catch). y.to) q)))
 in_to h (x ∷ hs) (inr k) = inr (inr (inr (in_to h hs k)))
 
+place_in : (hs : List Catch) (t : ℕ) → In t (handler_places hs) → (h : Catch) × In h hs × ((t ≡ h.target) ⊎ ((t ≡ h.from) ⊎ (t ≡ h.to)))
+place_in [] t k = absurd k
+place_in (x ∷ hs) t (inl q) = (x, inl refl, inl q)
+place_in (x ∷ hs) t (inr (inl q)) = (x, inl refl, inr (inl q))
+place_in (x ∷ hs) t (inr (inr (inl q))) = (x, inl refl, inr (inr q))
+place_in (x ∷ hs) t (inr (inr (inr k))) = let r = place_in hs t k in (r.0, inr r.1, r.2)
+
+none_head : (n i : ℕ) → is_head (replicate n false) i ≡ true → ⊥
+none_head zero i e = absurd cc
+none_head (suc n) zero e = absurd cc
+none_head (suc n) (suc i) e = none_head n i e
+
 -- ---- all
 
 pub heads : (code : List Instr) (hs : List Catch) (n : ℕ) (a b c d : List Bool) → 0 < n → length code ≤ n → a ≡ replicate n false → Marks (0 ∷ []) a b → Marks (code_targets code) b c → Marks (handler_places hs) c d → AreHeadsOf code hs d
@@ -154,5 +178,19 @@ heads code hs n a b c d some enough blank x y z m is_code is_handlers =
       jumps = λ i t k lt. z.keeps t (y.marks t (in_code code i t (subst (λ (is : List Instr). In t (targets_in (slice_get is i))) is_code k)) (omega arith));
       handlers = λ h k lt. z.marks h.target (in_target h hs (subst (λ (us : List Catch). In h us) is_handlers k)) (omega arith);
       begins = λ h k lt. z.marks h.from (in_from h hs (subst (λ (us : List Catch). In h us) is_handlers k)) (omega arith);
+      only = only;
       ends = λ h k lt. z.marks h.to (in_to h hs (subst (λ (us : List Catch). In h us) is_handlers k)) (omega arith);
     }
+  where
+    only : (t : ℕ) → is_head d t ≡ true → BeginsWalk m t
+    only t e = elim (z.only t e) [
+      | inr k ↦ (let r = place_in hs t k in AtHandler r.0 (subst (λ (us : List Catch). In r.0 us) (sym is_handlers) r.1) r.2)
+      | inl f ↦ elim (y.only t f) [
+        | inr k ↦ (let r = code_in code t k in AtTarget r.0 (subst (λ (is : List Instr). In t (targets_in (slice_get is r.0))) (sym is_code) r.1))
+        | inl g ↦ elim (x.only t g) [
+          | inr (inl q) ↦ AtStart q
+          | inr (inr k) ↦ absurd k
+          | inl i ↦ absurd (none_head n t (ap (λ (ms : List Bool). is_head ms t) (sym blank) ∙ i))
+        ]
+      ]
+    ]

@@ -1,5 +1,5 @@
 -- Marks at places.
-use Rattle.std.specs.Prelude.{◌≡◌, ℕ, ◌<◌, List, [], ◌∷◌, ◌++◌, Bool, true, length}
+use Rattle.std.specs.Prelude.{◌≡◌, ℕ, ◌<◌, List, [], ◌∷◌, ◌++◌, Bool, true, length, ◌⊎◌}
 use Rattle.abc_verify_typing.specs.Instructions.{targets}
 use Rattle.abc_file_types.specs.declared.code.Instr.{Instr}
 use Rattle.abc_verify_typing.specs.Routines.{Routine}
@@ -7,11 +7,12 @@ use Rattle.abc_verify_typing.specs.Typing.{In}
 use Rattle.abc_verify_typing.specs.declared.catch.Catch.{Catch}
 use Rattle.abc_verify_flow.specs.Walking.{AreHeads, is_head}
 
--- these places are marked now, and all that were before
+-- these places are marked now, all that were before, and no other
 pub record Marks (places : List ℕ) (old new : List Bool) : Type 0 where
   pub long : length new ≡ length old
   pub keeps : (t : ℕ) → is_head old t ≡ true → is_head new t ≡ true
   pub marks : (t : ℕ) → In t places → t < length old → is_head new t ≡ true
+  pub only : (t : ℕ) → is_head new t ≡ true → (is_head old t ≡ true) ⊎ In t places
 
 -- what instructions lead to
 abbrev pub code_targets : List Instr → List ℕ

@@ -29,6 +29,6 @@ pub use kinds::{
     is_instance_kind, is_namespace_kind, is_number_kind, is_object_kind, kind_has_slot,
     kind_of_scope, kind_of_slot, kind_of_sum, nullable_kind,
 };
-pub use lookup::{fixed_kind, is_function_method, is_under, slot_kind, type_kind, type_or_any};
+pub use lookup::{fixed_kind, is_function_method, type_or_any};
 pub use names::{Parts, has_good_form, parts_of_name};
 pub use places::{has_good_locals, layout_of_super, pops_well, pushes_well};

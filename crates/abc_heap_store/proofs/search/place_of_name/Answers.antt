@@ -1,4 +1,4 @@
-use Rattle.std.proofs.Common.{sym, length, arith, ◌∙◌, ◌-◌}
+use Rattle.std.proofs.Common.{sym, length, arith, ◌∙◌}
 use Rattle.abc_heap_store.specs.Heap.{properties_of}
 use Rattle.abc_heap_store.specs.View.{objects}
 use Rattle.abc_heap_store.specs.Texts.{text_in}

@@ -1,7 +1,7 @@
 use Rattle.std.proofs.Common.{◌∙◌, ℕ, refl, ap, subst, arith}
 use Rattle.std.specs.Prelude.{IsSome, None}
 use Rattle.abc_base.specs.Sinks.{GrowsByFront}
-use Rattle.abc_meaning_sound.specs.Calls.{replies_for}
+use Rattle.abc_meaning.specs.Calls.{replies_for}
 use Rattle.abc_machine.proofs.Lined.{rose_on}
 use Rattle.abc_meaning.specs.Lines.{end_line}
 use Rattle.abc_meaning.specs.Logs.{logs_for}

@@ -1,7 +1,8 @@
 use Rattle.std.proofs.Common.{◌<◌, ◌∙◌, length, get_or, ap, subst, sym}
 use Rattle.abc_run_state.specs.Outer.{setting}
 use Rattle.abc_file_types.specs.declared.tables.Abc.{Abc}
-use Rattle.abc_run_calls.proofs.Bodied.{body_inside, size_is, sized}
+use Rattle.abc_link_program.proofs.MethodBodies.{body_inside}
+use Rattle.abc_run_calls.proofs.Bodied.{size_is, sized}
 use Rattle.abc_run_calls.proofs.methods.size_of.Goals as goal
 
 pub get-body-requires : goal.get-body-requires

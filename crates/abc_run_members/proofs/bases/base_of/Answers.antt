@@ -1,6 +1,6 @@
 use Rattle.std.proofs.Common.{◌≡◌, ◌≢◌, ◌∙◌, ap, subst, sym}
 use Rattle.std.specs.declared.option.Option.{Option}
-use Rattle.abc_meaning_sound.proofs.Scoped.{bases_known, named_base}
+use Rattle.abc_link_program.proofs.ClassBases.{bases_known, named_base, no_base}
 use Rattle.abc_link_names.specs.Bases.{base_named}
 use Rattle.abc_link_names.specs.Instances.{instance_at}
 use Rattle.abc_link_names.specs.declared.named.Named.{Named}
@@ -8,14 +8,14 @@ use Rattle.abc_link_program.specs.Linked.{above}
 use Rattle.abc_link_program.specs.declared.part.LayoutId.{LayoutId}
 use Rattle.abc_link_program.specs.declared.part.Part.{Part}
 use Rattle.abc_link_program.specs.declared.part.Part.TheVariants as parts
-use Rattle.abc_meaning_sound.specs.Given.{BaseKnown}
+use Rattle.abc_link_program.specs.ClassBases.{BaseKnown}
 use Rattle.abc_file_types.specs.declared.tables.Abc.{Abc}
 use Rattle.abc_run_members.specs.Based.{IsClassPart, named_of}
-use Rattle.abc_run_members.proofs.BasesKnown.{base_found, base_is_class, base_known, no_base, same_base}
+use Rattle.abc_run_members.proofs.BasesKnown.{base_found, base_is_class, base_known, same_base}
 use Rattle.abc_run_members.proofs.bases.base_of.Goals as goal
 
 pub returns-then-name-eq0-clause-is : goal.returns-then-name-eq0-clause-is
-returns-then-name-eq0-clause-is c = no_base c.args.linked.now c.args.class (ap (λ (v : Abc). (instance_at v c.args.class).super_name) (sym c.abc.ensures) ∙ sym c.super_name-name.ensures ∙ c.if-name-eq0.true)
+returns-then-name-eq0-clause-is c = no_base c.args.linked.now c.linked_law.ensures c.args.class (ap (λ (v : Abc). (instance_at v c.args.class).super_name) (sym c.abc.ensures) ∙ sym c.super_name-name.ensures ∙ c.if-name-eq0.true)
 
 pub part_of-requires : goal.part_of-requires
 part_of-requires c =

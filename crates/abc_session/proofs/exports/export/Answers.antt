@@ -1,6 +1,6 @@
 use Rattle.std.proofs.Common.{◌∙◌, List, ap}
 use Rattle.std.specs.List.{find}
-use Rattle.abc_meaning_sound.specs.Exports.{is_export, method_of_trait}
+use Rattle.abc_meaning.specs.Exports.{is_export, method_of_trait}
 use Rattle.abc_file_types.specs.declared.traits.TraitInfo.{TraitInfo}
 use Rattle.abc_session.proofs.exports.export.Goals as goal
 

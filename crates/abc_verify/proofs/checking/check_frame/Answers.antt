@@ -4,6 +4,3 @@ use Rattle.abc_verify.proofs.checking.check_frame.Goals as goal
 
 pub check_flow-requires-clause-heads : goal.check_flow-requires-clause-heads
 check_flow-requires-clause-heads c = c.in_ok-heads.ensures (routine_in c.args.frame.now) (sym c.as_slice-code.ensures) (sym c.as_slice-handlers.ensures)
-
-pub returns : goal.returns
-returns c = c.check_flow.ensures

@@ -1,4 +1,5 @@
-use Rattle.abc_verify.proofs.Methods.{body_inside, is_typed, refused}
+use Rattle.abc_link_program.proofs.MethodBodies.{body_inside}
+use Rattle.abc_verify.proofs.Methods.{is_typed, refused}
 use Rattle.abc_verify.proofs.checking.check_numbered.Goals as goal
 
 pub check_body-requires : goal.check_body-requires

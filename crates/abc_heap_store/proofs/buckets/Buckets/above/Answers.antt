@@ -1,5 +1,5 @@
-use Rattle.std.proofs.Common.{◌∙◌, arith}
-use Rattle.abc_heap_store.proofs.Lasts.{top_above, above_first, first_in, next_above, above_next}
+use Rattle.std.proofs.Common.{arith}
+use Rattle.abc_heap_store.proofs.Lasts.{above_first, first_in, next_above, above_next}
 use Rattle.abc_heap_store.proofs.buckets.Buckets.above.Goals as goal
 
 pub last_place-above-requires-clause-some : goal.last_place-above-requires-clause-some

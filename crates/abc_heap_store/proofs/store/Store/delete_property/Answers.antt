@@ -8,6 +8,8 @@ use Rattle.abc_heap_store.specs.Texts.{text_in, text_of, IsText}
 use Rattle.abc_heap_store.specs.Properties.{with_delete, place_in}
 use Rattle.abc_heap_store.specs.View.{objects}
 use Rattle.abc_heap_store.proofs.Calls.{deleted, not_deleted, object_in, changed_by}
+use Rattle.abc_heap_store.proofs.Gaps.{gone_inside}
+use Rattle.abc_heap_store.proofs.Joins.{joined_stored}
 use Rattle.abc_heap_store.proofs.Stands.{hold_gone, spot_bucket}
 use Rattle.abc_heap_store.proofs.store.Store.delete_property.Goals as goal
 
@@ -15,7 +17,20 @@ pub invariant_of-self : goal.invariant_of-self
 invariant_of-self c =
     let inside = c.self.inside in
     let b = object_in inside.cells.items inside.heads.items c.args.self.now c.args.o.0 (ap (λ (h : Heap). h.objects) c.self.view_is) c.requires.inside in
-    hold_gone inside.heads inside.cells _ inside.scopes inside.fixed inside.made inside.strings inside.buckets c.remove.new.self inside.limits c.args.o.0 c.bucket_of_name-bucket.result (text_in inside.fixed inside.made.items inside.strings c.args.name) c.in-Some.spot c.self.invariant b c.in-Some.ensures c.bucket_of_name-bucket.ensures.bucket c.hold.ensures c.remove.ensures.removed c.remove.ensures.sizes
+    let gone = hold_gone inside.heads inside.cells c.hold.new.cells inside.scopes inside.fixed inside.made inside.strings inside.buckets c.remove.new.self inside.limits c.args.o.0 c.bucket_of_name-bucket.result (text_in inside.fixed inside.made.items inside.strings c.args.name) c.in-Some.spot c.self.invariant b c.in-Some.ensures c.bucket_of_name-bucket.ensures.bucket c.hold.ensures c.remove.ensures.removed c.remove.ensures.sizes in
+    joined_stored inside.heads c.hold.new.cells c.join_around.new.cells inside.scopes inside.fixed inside.made inside.strings c.remove.new.self inside.limits gone c.join_around.ensures
+
+pub join_around-requires : goal.join_around-requires
+join_around-requires c =
+    let inside = c.self.inside in
+    let b = object_in inside.cells.items inside.heads.items c.args.self.now c.args.o.0 (ap (λ (h : Heap). h.objects) c.self.view_is) c.requires.inside in
+    let gone = hold_gone inside.heads inside.cells c.hold.new.cells inside.scopes inside.fixed inside.made inside.strings inside.buckets c.remove.new.self inside.limits c.args.o.0 c.bucket_of_name-bucket.result (text_in inside.fixed inside.made.items inside.strings c.args.name) c.in-Some.spot c.self.invariant b c.in-Some.ensures c.bucket_of_name-bucket.ensures.bucket c.hold.ensures c.remove.ensures.removed c.remove.ensures.sizes in
+    record {
+      heads = gone.heads;
+      gaps = gone.index.gaps;
+      inside = b;
+      property = gone_inside inside.heads.items inside.cells c.hold.new.cells c.in-Some.spot.place c.args.o.0 c.in-Some.spot.position (Deleted 1) gone.heads b c.in-Some.ensures.at refl c.hold.ensures;
+    }
 
 pub remove-requires-clause-place : goal.remove-requires-clause-place
 remove-requires-clause-place c =
@@ -31,7 +46,7 @@ returns-in-Some-clause-heap c =
     let f = text_in c.self.inside.fixed c.self.inside.made.items c.self.inside.strings in
     let b = object_in cells heads c.args.self.now c.args.o.0 (ap (λ (h : Heap). h.objects) c.self.view_is) c.requires.inside in
     changed_by _ c.args.self.now _ (λ h. with_delete (text_of h.strings h) (text_of h.strings h c.args.name)) c.args.o.0 c.self.view_is
-    (ap (λ (x : Filling Cell). objects x.items 0 heads) c.hold.ensures ∙ deleted cells heads c.args.o.0 f (f c.args.name) c.in-Some.spot Deleted c.self.invariant.heads b c.in-Some.ensures refl refl)
+    (c.join_around.ensures.objects ∙ (ap (λ (x : Filling Cell). objects x.items 0 heads) c.hold.ensures ∙ deleted cells heads c.args.o.0 f (f c.args.name) c.in-Some.spot (Deleted 1) c.self.invariant.heads b c.in-Some.ensures refl refl))
 
 pub returns-in-None-clause-heap : goal.returns-in-None-clause-heap
 returns-in-None-clause-heap c =

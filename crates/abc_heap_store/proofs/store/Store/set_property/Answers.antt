@@ -10,7 +10,9 @@ use Rattle.abc_heap_store.proofs.Stands.{hold_put}
 use Rattle.abc_heap_store.proofs.store.Store.set_property.Goals as goal
 
 pub invariant_of-self : goal.invariant_of-self
-invariant_of-self c = hold_put c.self.inside.heads c.self.inside.cells _ c.self.inside.scopes c.self.inside.fixed c.self.inside.made c.self.inside.strings c.self.inside.buckets c.self.inside.limits c.in-Some.spot.place c.args.o.0 c.in-Some.spot.position c.cell_at-held.result c.hold_value.ensures.now c.args.v c.self.invariant c.in-Some.ensures.at c.cell_at-held.ensures c.hold_value.ensures.lane c.hold_value.ensures.value c.hold_value.ensures.cells
+invariant_of-self c =
+    let b = object_in c.self.inside.cells.items c.self.inside.heads.items c.args.self.now c.args.o.0 (ap (λ (h : Heap). h.objects) c.self.view_is) c.requires.inside in
+    hold_put c.self.inside.heads c.self.inside.cells _ c.self.inside.scopes c.self.inside.fixed c.self.inside.made c.self.inside.strings c.self.inside.buckets c.self.inside.limits c.args.o.0 (text_in c.self.inside.fixed c.self.inside.made.items c.self.inside.strings c.args.name) c.in-Some.spot c.cell_at-held.result c.hold_value.ensures.now c.args.v c.self.invariant b c.in-Some.ensures c.cell_at-held.ensures c.hold_value.ensures.lane c.hold_value.ensures.value c.hold_value.ensures.cells
 
 pub returns-in-Some : goal.returns-in-Some
 returns-in-Some c =

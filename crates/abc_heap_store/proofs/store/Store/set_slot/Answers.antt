@@ -1,8 +1,6 @@
-use Rattle.std.proofs.Common.{◌≡◌, ◌∙◌, ap, refl, sym, subst, length, ◌<◌}
+use Rattle.std.proofs.Common.{◌≡◌, ◌∙◌, ap, sym, subst, length, ◌<◌}
 use Rattle.abc_heap_values.specs.Filling.{Filling}
 use Rattle.abc_heap_values.specs.declared.cell.Cell.{Cell}
-use Rattle.abc_heap_values.specs.declared.cell.Held.TheVariants.{Slot}
-use Rattle.abc_heap_values.specs.declared.cell.Lane.TheVariants.{Slots}
 use Rattle.abc_heap_store.specs.Heap.{Heap, slots_of}
 use Rattle.abc_heap_store.specs.Changes.{with_slot, change}
 use Rattle.abc_heap_store.specs.View.{objects}

@@ -1,5 +1,5 @@
 use Rattle.std.proofs.Common.{◌∙◌, ap}
-use Rattle.abc_meaning_sound.specs.Exports.{export as export_of}
+use Rattle.abc_meaning.specs.Exports.{export as export_of}
 use Rattle.abc_machine.specs.Machines.{Opened}
 use Rattle.abc_run_finish.specs.Begun.{setting}
 use Rattle.abc_link_program.specs.Linked.{LinkedFile}

@@ -1,5 +1,5 @@
 use Rattle.std.proofs.Common.{◌≡◌, ◌≢◌, None, subst}
-use Rattle.abc_meaning_sound.specs.Calls.{silent}
+use Rattle.abc_meaning.specs.Calls.{silent}
 use Rattle.abc_machine.specs.Machines.{Opened, world_run}
 use Rattle.abc_machine.specs.declared.ends.End.TheVariants.{WriteFault}
 use Rattle.abc_session.proofs.session.Session.start.Goals as goal
