@@ -5,7 +5,11 @@
 #![tactic(auto)]
 
 #[cfg(test)]
+mod codes;
+#[cfg(test)]
 mod errors;
+#[cfg(test)]
+mod files;
 #[cfg(test)]
 mod formulas;
 #[cfg(test)]
