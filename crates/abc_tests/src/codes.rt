@@ -33,18 +33,29 @@ fn is_loop(code: &Table<Instr>) -> bool {
         && matches!(code.get(3), Instr::Branch(0x10, 0))
 }
 
-/// Where each instruction starts in the canonical code, and where the last ends.
-fn starts_of(alloc: Global, code: &Table<Instr>) -> Result<Table<u32>, Fail>
+/// Where an instruction starts in the canonical code, or the last ends, if there are so many.
+fn start_at(code: &Table<Instr>, index: u32) -> Option<u32>
     requires { IsReady code.now }
 {
-    let mut starts = Table::new(alloc);
-    for i in 0..=code.len() {
-        starts.push(offset_at(code, i as u32))?;
+    if index as usize > code.len() {
+        return None;
     }
-    Ok(starts)
+    Some(offset_at(code, index))
 }
 
-#[tactic(auto, using(crate::proofs::Codes::ready_code))]
+/// The first of these instructions that starts elsewhere.
+fn first_elsewhere(code: &Table<Instr>, starts: &[(u32, u32)]) -> Option<u32>
+    requires { IsReady code.now }
+{
+    for (index, start) in starts {
+        if start_at(code, *index) != Some(*start) {
+            return Some(*index);
+        }
+    }
+    None
+}
+
+#[tactic(auto, using(crate::proofs::Spelled::ready_code))]
 fn bytes_of(alloc: Global, code: &Table<Instr>) -> Result<Vec<u8>, Fail>
     requires { IsReady code.now }
 {
@@ -59,6 +70,8 @@ fn code_is_read_and_put(rt: HostRuntime) -> Result<(), Fail> {
     let code = code_of(alloc, LOOP)?;
     assert!(rt; is_loop(&code.instrs));
     assert_eq!(rt; code.offsets.as_slice(), [0, 1, 4, 5, 9].as_slice());
+    let elsewhere = first_elsewhere(&code.instrs, &[(0, 0), (1, 1), (2, 3), (3, 4), (4, 8)]);
+    assert_eq!(rt; elsewhere, None);
     let bytes = bytes_of(alloc, &code.instrs)?;
     assert_eq!(rt; bytes.as_slice(), CANONICAL);
     Ok(())

@@ -17,4 +17,8 @@ mod graphs;
 #[cfg(test)]
 mod host_tables;
 #[cfg(test)]
+mod names;
+#[cfg(test)]
+mod parts;
+#[cfg(test)]
 mod streams;
