@@ -5,12 +5,20 @@
 #![tactic(auto)]
 
 #[cfg(test)]
+mod codes;
+#[cfg(test)]
 mod errors;
+#[cfg(test)]
+mod files;
 #[cfg(test)]
 mod formulas;
 #[cfg(test)]
 mod graphs;
 #[cfg(test)]
 mod host_tables;
+#[cfg(test)]
+mod names;
+#[cfg(test)]
+mod parts;
 #[cfg(test)]
 mod streams;
