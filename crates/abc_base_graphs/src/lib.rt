@@ -32,5 +32,6 @@ pub use order::{Order, order_of};
 pub use ranks::ranks_of;
 pub use search::reached;
 pub use slate::Slate;
+pub use stack::Stack;
 pub use texts::Texts;
 pub use ways::one_way;

@@ -15,7 +15,6 @@ mod marks;
 mod order;
 mod rows;
 mod stabs;
-mod stack;
 mod visit;
 
 pub use building::stabs_of;

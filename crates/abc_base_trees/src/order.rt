@@ -7,8 +7,8 @@ ghost use Rattle.abc_base_trees.specs.Walks.{IsWalk, leave, pushed};
 use crate::classes::parts_of;
 use crate::marks::has_mark;
 use crate::rows::Rows;
-use crate::stack::Stack;
 use abc_base::{NoMemory, Table};
+use abc_base_graphs::Stack;
 use std::alloc::Global;
 
 /// What is still to be done at a node.

@@ -9,8 +9,8 @@ use crate::classes::{Classes, parts_of};
 use crate::heads::Head;
 use crate::marks::has_mark;
 use crate::rows::Rows;
-use crate::stack::Stack;
 use abc_base::{NoMemory, Table};
+use abc_base_graphs::Stack;
 use std::alloc::Global;
 
 /// A visit of nodes, of which only the first of each class is met.

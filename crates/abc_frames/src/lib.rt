@@ -23,6 +23,5 @@ pub use moves::{
 };
 pub use pile::Pile;
 pub use records::{Entry, Size, Wait};
-pub use returns::resume;
 pub use scopes::{get_scope_object, pop_scope, push_scope};
 pub use throws::{Handlers, unwind};

@@ -27,18 +27,8 @@ use abc_link_known::known_of;
 use abc_link_layouts::{Layouts, Members, Owners, slots_of};
 use abc_link_names::{LinkError, Meanings, NameTables, Named, Names, meanings_of};
 use abc_link_program::SlotInfo;
-use abc_link_rules::check_rules;
+use abc_link_rules::{are_few, check_rules};
 use std::alloc::Global;
-
-/// Whether the tables of a file can be counted by 32 bits.
-fn are_few(abc: &Abc) -> bool
-    ensures { IsTrue result → IsFew abc.now }
-{
-    abc.methods.len() <= u32::MAX as usize
-        && abc.instances.len() <= u32::MAX as usize
-        && abc.scripts.len() <= u32::MAX as usize
-        && abc.bodies.len() <= u32::MAX as usize
-}
 
 /// What the names of a file stand for.
 fn meanings_in(

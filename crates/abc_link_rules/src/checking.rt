@@ -20,7 +20,7 @@ use abc_link_names::{LinkError, Meanings, NameTables, Named, Names, check};
 use std::alloc::Global;
 
 /// Whether the tables of a file can be counted by 32 bits.
-fn are_few(abc: &Abc) -> bool
+pub fn are_few(abc: &Abc) -> bool
     ensures { IsTrue result → IsFew abc.now }
 {
     abc.methods.len() <= u32::MAX as usize

@@ -13,4 +13,4 @@ mod same_slot;
 mod simple;
 mod times;
 
-pub use checking::check_rules;
+pub use checking::{are_few, check_rules};

@@ -9,7 +9,7 @@ use thiserror::Error;
 #[derive(Clone, Copy, Debug, PartialEq, Eq, Error)]
 pub enum HeadError {
     /// A byte of it is wrong or missing: its place, from 0.
-    #[error("the line before the file is wrong at byte {0}")]
+    #[error("the line before the file is wrong")]
     Wrong(u32),
     /// A read failed.
     #[error("a read failed")]

@@ -10,7 +10,7 @@ use thiserror::Error;
 #[derive(Clone, Copy, Debug, PartialEq, Eq, Error)]
 pub enum ReadError {
     /// The bytes are refused.
-    #[error("the bytes are refused at {place}: {reason:?}")]
+    #[error("the bytes are refused")]
     Refused { place: u32, reason: Reason },
     /// The source failed.
     #[error("the source failed")]
