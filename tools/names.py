@@ -61,8 +61,8 @@ def faults(path, text, crates, others):
 def main():
     names = [line.split(":")[0].split()[0] for line in read("crates.txt").splitlines() if line.strip()]
     crates = {name: words_of(f"crates/{name}", (".rt", ".antt", ".edit")) for name in names}
-    others = words_of("include", (".h",)) | words_of("bench", (".py", ".rs", ".c")) | words_of("examples", (".abcasm",))
-    documents = sys.argv[1:] or ["README.md", *sorted(glob.glob("docs/*", root_dir=TOP)), *glob.glob("examples/*.md", root_dir=TOP), "bench/RESULTS.md", "bench/README.md"]
+    others = words_of("include", (".h",)) | words_of("bench", (".py", ".rs")) | words_of("tools", (".py", ".c")) | words_of("examples", (".abcasm", ".c"))
+    documents = sys.argv[1:] or ["README.md", *sorted(glob.glob("docs/*", root_dir=TOP)), *glob.glob("examples/*.md", root_dir=TOP), *glob.glob("contrib/*.md", root_dir=TOP), "tools/README.md", *sorted(glob.glob("bench/*.md", root_dir=TOP))]
     found = [f"{path}: {fault}" for path in documents for fault in dict.fromkeys(faults(path, read(path), crates, others))]
     rows = " ".join(re.findall(r"^\| ([^|]*) \|", read("docs/ARCHITECTURE.md"), flags=re.M))
     found += [f"docs/ARCHITECTURE.md: no row for {name}" for name in names if not re.search(rf"\b{name}\b", rows)]
