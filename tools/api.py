@@ -1,8 +1,9 @@
 #!/usr/bin/env python3
-"""Makes docs/API.md: the public calls of the public crates, each with its docstring and its contract, word for word from the sources.
+"""Makes docs/API.md: the public calls of the public crates, each with its docstring and its contract, word for word from the sources. README.md has the
+clauses of `abc_main`, which it puts in place too.
 
-Use: api.py             writes docs/API.md
-     api.py --check     says whether docs/API.md is what the sources give; status 1 where it isn't
+Use: api.py             writes docs/API.md, and the clauses in README.md
+     api.py --check     says whether both are what the sources give; status 1 where they aren't
 """
 import glob
 import os
@@ -11,6 +12,7 @@ import sys
 
 TOP = os.path.dirname(os.path.dirname(os.path.abspath(__file__)))
 PAGE = os.path.join(TOP, "docs", "API.md")
+README = os.path.join(TOP, "README.md")
 # The public crates by layers, lowest first: those whose calls a program, an embedder or a statement makes.
 LAYERS = [
     ("Base", "abc_base abc_host"),
@@ -164,6 +166,13 @@ def page():
     return "\n".join(lines).rstrip("\n") + "\n"
 
 
+def readme():
+    """README.md with the clauses of `abc_main` as they stand: they are its block that begins with `ensures`."""
+    top = read(os.path.join(TOP, "crates", "abc_cli", "src", "top.rt")).split("pub fn abc_main")[1].split("\n{")[0]
+    clauses = [line[4:] for line in top.split("-> Status\n")[1].splitlines() if not line.strip().startswith("//")]
+    return re.sub(r"(?<=```\n)ensures .*?(?=\n```)", lambda found: "\n".join(clauses), read(README), count=1, flags=re.S)
+
+
 def main():
     if sys.argv[1:] not in ([], ["--check"]):
         print(__doc__.strip())
@@ -172,8 +181,13 @@ def main():
     if sys.argv[1:]:
         if not os.path.exists(PAGE) or read(PAGE) != made:
             sys.exit("tools/api.py: docs/API.md is not what the sources give; tools/api.py makes it anew")
-        print("docs/API.md is current")
+        if read(README) != readme():
+            sys.exit("tools/api.py: README.md has other clauses than abc_main; tools/api.py puts them in place")
+        print("docs/API.md and the clauses in README.md are current")
         return
+    with_clauses = readme()
+    with open(README, "w", encoding="utf-8") as out:
+        out.write(with_clauses)
     with open(PAGE, "w", encoding="utf-8") as out:
         out.write(made)
     print(f"docs/API.md: {made.count(chr(10) + '### ')} calls of {made.count(chr(10) + '## ')} crates, {len(made.encode())} bytes")

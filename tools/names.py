@@ -5,7 +5,7 @@ Use: names.py [DOCUMENT ..]     all documents where none is named
 
 A document may name a crate of crates.txt, a word of a crate (`word` of abc_crate), a file of a crate (abc_crate/specs/File.antt), and any other word in backticks
 that begins with a capital letter and has a small one, or that has an underscore: each has to be found. docs/ARCHITECTURE.md has a row for each crate. What
-isn't found is printed, and the status is 1 then. README.md has the clauses of `abc_main` word for word.
+isn't found is printed, and the status is 1 then.
 """
 import glob
 import os
@@ -65,8 +65,6 @@ def main():
     documents = sys.argv[1:] or ["README.md", *sorted(glob.glob("docs/*", root_dir=TOP)), *glob.glob("examples/*.md", root_dir=TOP), *glob.glob("contrib/*.md", root_dir=TOP), "tools/README.md", *sorted(glob.glob("bench/*.md", root_dir=TOP))]
     found = [f"{path}: {fault}" for path in documents for fault in dict.fromkeys(faults(path, read(path), crates, others))]
     rows = " ".join(re.findall(r"^\| ([^|]*) \|", read("docs/ARCHITECTURE.md"), flags=re.M))
-    contract = read("crates/abc_cli/src/top.rt").split("pub fn abc_main")[1].split("\n{")[0]
-    found += [f"README.md: not a clause of abc_main as it stands: {line[:60]}" for line in re.findall(r"^    (ensures .*)", contract, flags=re.M) if line not in read("README.md")]
     found += [f"docs/ARCHITECTURE.md: no row for {name}" for name in names if not re.search(rf"\b{name}\b", rows)]
     print("\n".join(found) or "all names are found")
     sys.exit(bool(found))
