@@ -48,7 +48,7 @@ def faults(path, text, crates, others):
         for name in re.findall(r"`([\w:]+)`", names)[-1:]:
             if crate in crates and not set(name.split("::")) <= crates[crate]:
                 yield f"{crate} has no {name}"
-    for crate, rest in re.findall(r"\b(abc_[a-z_]+)/((?:src|specs|proofs)/[\w/]+(?:\.antt|\.rt)?)", text):
+    for crate, rest in re.findall(r"\b(abc_[a-z_]+)/((?:src|specs|proofs|must-fail)/[\w/]+(?:\.antt|\.rt|\.edit)?)", text):
         if not any(os.path.exists(os.path.join(TOP, "crates", crate, rest + ending)) for ending in ("", ".rt", ".antt")):
             yield f"no file {crate}/{rest}"
     for one in shown(text):
@@ -61,8 +61,8 @@ def faults(path, text, crates, others):
 def main():
     names = [line.split(":")[0].split()[0] for line in read("crates.txt").splitlines() if line.strip()]
     crates = {name: words_of(f"crates/{name}", (".rt", ".antt", ".edit")) for name in names}
-    others = words_of("include", (".h",)) | words_of("bench", (".py", ".rs", ".c")) | words_of("examples", (".abcasm",))
-    documents = sys.argv[1:] or ["README.md", *sorted(glob.glob("docs/*", root_dir=TOP)), *glob.glob("examples/*.md", root_dir=TOP), "bench/RESULTS.md", "bench/README.md"]
+    others = words_of("include", (".h",)) | words_of("bench", (".py", ".rs")) | words_of("tools", (".py", ".c")) | words_of("examples", (".abcasm", ".c"))
+    documents = sys.argv[1:] or ["README.md", *sorted(glob.glob("docs/*", root_dir=TOP)), *glob.glob("examples/*.md", root_dir=TOP), *glob.glob("contrib/*.md", root_dir=TOP), "tools/README.md", *sorted(glob.glob("bench/*.md", root_dir=TOP))]
     found = [f"{path}: {fault}" for path in documents for fault in dict.fromkeys(faults(path, read(path), crates, others))]
     rows = " ".join(re.findall(r"^\| ([^|]*) \|", read("docs/ARCHITECTURE.md"), flags=re.M))
     found += [f"docs/ARCHITECTURE.md: no row for {name}" for name in names if not re.search(rf"\b{name}\b", rows)]

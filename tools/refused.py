@@ -10,10 +10,12 @@ import subprocess
 import sys
 import tempfile
 
-import running
-from spelling import SIZE
-
 HERE = os.path.dirname(os.path.abspath(__file__))
+# The makers of files.
+sys.path.insert(0, os.path.join(HERE, "..", "bench"))
+import running  # noqa: E402
+from spelling import SIZE  # noqa: E402
+
 EXAMPLES = os.path.join(HERE, "..", "examples")
 NAMES = sorted(name[:-7] for name in os.listdir(EXAMPLES) if name.endswith(".abcasm"))
 NO_MEMORY = (9, b"", b"abc: no memory\n")

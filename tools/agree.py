@@ -17,15 +17,17 @@ import subprocess
 import sys
 import tempfile
 
-import bodies
-import compiling
-import linking
-import tables
-import tidying
-import verifying
-from spelling import HEAD
-
 TOP = os.path.dirname(os.path.dirname(os.path.abspath(__file__)))
+# The makers of files.
+sys.path.insert(0, os.path.join(TOP, "bench"))
+import bodies  # noqa: E402
+import compiling  # noqa: E402
+import linking  # noqa: E402
+import tables  # noqa: E402
+import tidying  # noqa: E402
+import verifying  # noqa: E402
+from spelling import HEAD  # noqa: E402
+
 SMALL, MIDDLE = 4096, 1 << 16
 MAKERS = (tables.ints, tables.strings, tables.names, tables.definitions, bodies.small_bodies, bodies.small_bodies, bodies.large_body)
 # These link, and are verified.
