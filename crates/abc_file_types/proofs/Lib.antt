@@ -21,3 +21,4 @@ pub mod BodiesShortest
 pub mod BodiesReady
 pub mod Readiness
 pub mod Rows
+mod Examples

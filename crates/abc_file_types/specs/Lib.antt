@@ -21,3 +21,4 @@ pub mod CodeBytes
 pub mod Ready
 pub mod Places
 pub mod Bodies
+pub mod Examples

@@ -35,3 +35,5 @@ pub mod Exports
 pub mod Fair
 pub mod Running
 pub mod Told
+pub mod Examples
+pub mod StuckExamples

@@ -14,6 +14,7 @@
 #![tactic(auto)]
 
 mod act_laws;
+mod example_laws;
 mod log_laws;
 mod output_laws;
 mod throw_laws;
@@ -21,6 +22,7 @@ mod thrown;
 mod type_laws;
 
 pub use act_laws::every_row_has_its_act;
+pub use example_laws::examples_hold;
 pub use log_laws::{a_run_has_few_steps, too_small_is_one_line};
 pub use output_laws::{runs_append, steps_append, steps_change_once};
 pub use throw_laws::throws_stay_sound;

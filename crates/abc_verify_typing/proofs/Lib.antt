@@ -16,3 +16,4 @@ pub mod Visits
 pub mod Heads
 pub mod Decides
 pub mod Exact
+mod Examples

@@ -12,3 +12,4 @@ pub mod Standing
 pub mod RuleNames
 pub mod Rank
 pub mod Work
+pub mod Examples

@@ -9,6 +9,7 @@
 #![tactic(auto)]
 
 mod catch;
+mod example_laws;
 mod home;
 mod instr;
 mod row;
@@ -21,6 +22,7 @@ mod typing_laws;
 mod worklist_laws;
 
 pub use catch::Catch;
+pub use example_laws::examples_hold;
 pub use home::Home;
 pub use instr::{arguments_of, local_of, opcode_of, operand_of, second_of};
 pub use row::{Gives, Leads, Locals, Need, Operand, Row, RowKind, Scoping, Site, Source, Takes};

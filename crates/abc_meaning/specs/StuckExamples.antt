@@ -1,0 +1,139 @@
+-- The tests of a step tried one by one: of two states that differ in one thing the first is stuck, and the second is not. No definition
+-- stands on these.
+use Rattle.std.specs.Prelude.{◌≡◌, ℕ, pos, List, [], ◌∷◌, Bool, true, false, codes, None}
+use Rattle.abc_file_types.specs.declared.code.Instr.{Instr}
+use Rattle.abc_file_types.specs.declared.code.Instr.TheVariants.{One, Plain, ScopeObject, Two}
+use Rattle.abc_file_types.specs.declared.names.Multiname.TheVariants as names
+use Rattle.abc_file_types.specs.declared.traits.TraitInfo.{TraitInfo}
+use Rattle.abc_heap_store.specs.Heap.{obj_id}
+use Rattle.abc_heap_store.specs.declared.records.ScopeEntry.{ScopeEntry}
+use Rattle.abc_heap_search.specs.Objects.{global_number}
+use Rattle.abc_heap_values.specs.declared.values.Value.{Value}
+use Rattle.abc_heap_values.specs.declared.values.Value.TheVariants.{Bool as Truth, Null, Num, Obj, Space}
+use Rattle.abc_link_program.specs.declared.part.Part.TheVariants as parts
+use Rattle.abc_frames.specs.Frame.{Frame}
+use Rattle.abc_frames.specs.declared.records.Wait.TheVariants as waits
+use Rattle.abc_meaning.specs.Examples.{ample, body, catching, constructsuper, file_of, getlex, getlocal_1, handler, method, newactivation, plain, pop, popscope, public, pushnull, pushscope, pushstring, returnvoid, script, setting, slot, throw}
+use Rattle.abc_meaning.specs.Meaning.{first_world}
+use Rattle.abc_meaning.specs.Setting.{Setting}
+use Rattle.abc_meaning.specs.Step.{step}
+use Rattle.abc_meaning.specs.Throwing.{Done, End, Ends, FuelSpent, Full, Profile, Stepped, Steps, Stuck, Uncaught}
+
+-- ---- states: one frame of the method 0, at its first instruction
+
+-- the init of a script with these traits: at most 2 values and one scope. Names 1 A, 2 A in a namespace that comes from the stack, and
+-- 3, all of which comes from it; method 1 has no body
+abbrev pub declaring : List TraitInfo → (flags : ℕ) → Instr → Setting
+declaring table flags i = setting
+    (file_of (codes "A" ∷ codes "B" ∷ []) (public 1 ∷ names.Rt false 1 ∷ names.RtL false ∷ []) (method [] flags ∷ plain ∷ [])
+    (script 0 table ∷ []) (body 0 2 2 1 (i ∷ returnvoid ∷ []) ∷ []))
+    (parts.Global 0 ∷ parts.Activation 0 ∷ [])
+
+abbrev pub init : Instr → Setting
+init i = declaring [] 0 i
+
+abbrev pub frame : List Value → List ScopeEntry → List Value → Frame
+frame stack scopes locals = record {
+  method = 0;
+  home = 0;
+  saved = None;
+  stack = stack;
+  scopes = scopes;
+  locals = locals;
+  place = 0;
+  wait = waits.Not;
+}
+
+abbrev pub operands : List Value → Frame
+operands stack = frame stack [] (Null ∷ Null ∷ [])
+
+-- the global object of the script, and a scope of it
+abbrev pub here : Setting → Value
+here p = Obj (obj_id (global_number (first_world p ample).heap 0))
+
+abbrev pub scope : Setting → ScopeEntry
+scope p = record { object = obj_id (global_number (first_world p ample).heap 0); with_flag = false }
+
+-- ---- stuck
+
+abbrev pub is_stuck_end : End → Bool
+is_stuck_end Done = false
+is_stuck_end (Uncaught t) = false
+is_stuck_end (Profile m i fault) = false
+is_stuck_end FuelSpent = false
+is_stuck_end (Full limit) = false
+is_stuck_end Stuck = true
+
+abbrev pub is_stuck : Stepped → Bool
+is_stuck (Steps q) = false
+is_stuck (Ends w e) = is_stuck_end e
+
+-- the next step from these frames, the newest first, in the world that a run begins with
+abbrev pub sticks : Setting → List Frame → Bool
+sticks p fs = is_stuck (step p (record { world = first_world p ample; frames = fs }))
+
+-- a frame is stuck, and another isn't
+abbrev pub Tells : Setting → (bad good : Frame) → Type 0
+Tells p bad good = (sticks p (bad ∷ []) ≡ true) × (sticks p (good ∷ []) ≡ false)
+
+-- a frame is stuck by one program, and isn't by another
+abbrev pub TellsOf : (bad good : Setting) → Frame → Type 0
+TellsOf bad good f = (sticks bad (f ∷ []) ≡ true) × (sticks good (f ∷ []) ≡ false)
+
+-- ---- programs for some of the tests
+
+-- the class A extends Object; method 1 makes its instances
+abbrev pub with_class : Setting
+with_class = setting
+    (record (file_of (codes "A" ∷ codes "Object" ∷ []) (public 1 ∷ public 2 ∷ []) (plain ∷ plain ∷ plain ∷ []) (script 0 [] ∷ [])
+    (body 1 2 2 1 (constructsuper 0 ∷ returnvoid ∷ []) ∷ [])) {
+      instances = record { name = 1; super_name = 2; flags = 0; protected_ns = None; interfaces = []; iinit = 1; traits = [] } ∷ [];
+      classes = record { cinit = 2; traits = [] } ∷ [];
+    })
+    (parts.Instance 0 ∷ parts.ClassObject 0 ∷ parts.Global 0 ∷ [])
+
+-- throw, covered by a handler, where so many values have room
+abbrev pub caught_in : (values : ℕ) → Setting
+caught_in values = setting
+    (file_of [] [] (plain ∷ []) (script 0 [] ∷ []) (catching (handler 0 1 1 0 ∷ []) (body 0 values 2 1 (throw ∷ returnvoid ∷ [])) ∷ []))
+    (parts.Global 0 ∷ [])
+
+pub record StuckExamples : Type 0 where
+  -- ---- what is run: a method with a body, a place in its code, and an opcode that has a row
+  pub method_without_body : Tells (init returnvoid) (record (operands []) { method = 1 }) (operands [])
+  pub past_the_code : Tells (init returnvoid) (record (operands []) { place = 2 }) (record (operands []) { place = 1 })
+  -- dxns and nop
+  pub no_row : TellsOf (init (One 0x06 1)) (init (Plain 0x02)) (operands [])
+  -- ---- the tests of an instruction
+  -- pushstring 3 and 2, of two strings
+  pub in_table : TellsOf (init (pushstring 3)) (init (pushstring 2)) (operands [])
+  -- getlex of a name that comes from the stack
+  pub has_form : TellsOf (init (getlex 3)) (init (getlex 1)) (operands [])
+  pub value_to_take : Tells (init pop) (operands []) (operands (Null ∷ []))
+  pub room_for_value : Tells (init pushnull) (operands (Null ∷ Null ∷ [])) (operands (Null ∷ []))
+  pub scope_to_pop : Tells (init popscope) (frame [] [] []) (frame [] (scope (init popscope) ∷ []) [])
+  pub room_for_scope : Tells (init pushscope) (frame (here (init pushscope) ∷ []) (scope (init pushscope) ∷ []) [])
+      (frame (here (init pushscope) ∷ []) [] [])
+  pub local_there : Tells (init getlocal_1) (frame [] [] (Null ∷ [])) (frame [] [] (Null ∷ Null ∷ []))
+  -- hasnext2 with local 1 as its index
+  pub index_in_local : Tells (init (Two 0x32 0 1)) (frame [] [] (Null ∷ Null ∷ [])) (frame [] [] (Null ∷ Num (pos 0) ∷ []))
+  -- getscopeobject 0
+  pub scope_there : Tells (init (ScopeObject 0)) (frame [] [] []) (frame [] (scope (init (ScopeObject 0)) ∷ []) [])
+  -- newactivation, without and with flag 02
+  pub stands_here : TellsOf (init newactivation) (declaring [] 2 newactivation) (operands [])
+  -- ---- what the values are
+  -- getproperty in the namespace true, and in namespace 1, of null
+  pub space_taken : Tells (init (One 0x66 2)) (operands (Truth true ∷ Null ∷ [])) (operands (Space 1 ∷ Null ∷ []))
+  -- nextvalue by null, and by 0, of null
+  pub index_taken : Tells (init (Plain 0x23)) (operands (Null ∷ Null ∷ [])) (operands (Num (pos 0) ∷ Null ∷ []))
+  -- getslot 1 of true, and of null; of an object without and with that slot
+  pub object_taken : Tells (init (One 0x6c 1)) (operands (Truth true ∷ [])) (operands (Null ∷ []))
+  pub slot_taken : TellsOf (init (One 0x6c 1)) (declaring (slot 1 1 ∷ []) 0 (One 0x6c 1)) (operands (here (init (One 0x6c 1)) ∷ []))
+  -- constructsuper of true, and of null
+  pub instance_taken : Tells with_class (record (operands (Truth true ∷ [])) { method = 1 }) (record (operands (Null ∷ [])) { method = 1 })
+  -- ---- what others do
+  -- returnvoid to a frame that waits for nothing, and to one that drops what returns
+  pub waits_for : (sticks (init returnvoid) (operands [] ∷ operands [] ∷ []) ≡ true)
+      × (sticks (init returnvoid) (operands [] ∷ record (operands []) { wait = waits.Drop } ∷ []) ≡ false)
+  -- a value that is caught, where no value has room
+  pub room_for_caught : TellsOf (caught_in 0) (caught_in 1) (operands (Null ∷ []))
