@@ -5,7 +5,7 @@ use Rattle.abc_verify_typing.specs.declared.state.State.{State}
 use Rattle.abc_verify_flow.specs.Kept.{AreLaid, states_of}
 use Rattle.abc_verify_flow.specs.declared.kept.Head.{Head}
 use Rattle.abc_verify_flow.proofs.Laid.{head_along, longer_laid, longer_self, longer_states, on_err, pushed_laid, pushed_states}
-use Rattle.abc_verify_flow.proofs.kept.Kept.push.Goals as goal
+use Rattle.abc_verify_flow.proofs.kept.Kept.push_behind.Goals as goal
 
 pub returns-in_err-add_operands-clause-err : goal.returns-in_err-add_operands-clause-err
 returns-in_err-add_operands-clause-err c =
