@@ -8,7 +8,7 @@ use Rattle.abc_link_program.specs.declared.types.Kind.{Kind}
 use Rattle.abc_verify_typing.specs.declared.state.Scope.{Scope}
 use Rattle.abc_verify_typing.specs.declared.state.State.{State}
 use Rattle.abc_verify_flow.proofs.Numbers.{got_other, got_same}
-use Rattle.abc_verify_flow.specs.Kept.{AreAlone, AreApart, AreDisjoint, AreLaid, HasLengths, IsHeadBehind, IsHeadBeside, IsLonger, IsSpan, over, part, state_of, states_of}
+use Rattle.abc_verify_flow.specs.Kept.{AreAlone, AreApart, AreDisjoint, AreLaid, HasLengths, HasLocals, IsHeadBehind, IsHeadBeside, IsLonger, IsMarked, IsSpan, LiesAt, over, part, state_of, states_of}
 use Rattle.abc_verify_flow.specs.declared.kept.Head.{Head}
 use Rattle.abc_verify_flow.specs.declared.span.Span.{Span}
 
@@ -316,6 +316,30 @@ marked_states hs i h k os ss ls at e = map-set (state_of os ss ls) hs i k ∙ ba
     back (x ∷ xs) zero f = let z : x ≡ h = cc in ap (λ (y : State). y ∷ map (state_of os ss ls) xs) (same ∙ ap (state_of os ss ls) (sym z))
     back (x ∷ xs) (suc j) f = ap (λ (ys : List State). state_of os ss ls x ∷ ys) (back xs j f)
 
+pub beside_along : (a b m n : ℕ) (s : State) (o h : Head) → IsHeadBeside a b s o h → a ≡ m → b ≡ n → IsHeadBeside m n s o h
+beside_along a b m n s o h is p q = subst (λ (x : ℕ). IsHeadBeside x n s o h) p (subst (λ (x : ℕ). IsHeadBeside a x s o h) q is)
+
+module _ (hs ms : List Head) (i : ℕ) (k : Head) (m : IsMarked hs ms i k) where
+  pub marked_at : slice_get ms i ≡ Some k
+  marked_at = ap (λ (xs : List Head). slice_get xs i) m.set_in ∙ got_same hs i k (got_inside hs i m.head m.was)
+
+  pub is_marked_laid : (o c l : ℕ) → AreLaid hs o c l → AreLaid ms o c l
+  is_marked_laid o c l laid = subst (λ (xs : List Head). AreLaid xs o c l) (sym m.set_in) (marked_laid hs i m.head k o c l m.was m.is laid)
+
+  pub is_marked_states : (os : List Kind) (ss : List Scope) (ls : List Kind) → states_of os ss ls ms ≡ states_of os ss ls hs
+  is_marked_states os ss ls = ap (states_of os ss ls) m.set_in ∙ marked_states hs i m.head k os ss ls m.was m.is
+
+  pub is_marked_shared : k.is_shared ≡ true
+  is_marked_shared = ap (λ (x : Head). x.is_shared) m.is
+
+  -- the locals of a marked state
+  pub is_marked_part : (os : List Kind) (ss : List Scope) (ls : List Kind) (a : List State) (locals : List Kind) → states_of os ss ls hs ≡ a → HasLocals a i locals → part k.locals ls ≡ locals
+  is_marked_part os ss ls a locals e has =
+      let got : slice_get a i ≡ Some (state_of os ss ls m.head) = ap (λ (xs : List State). slice_get xs i) (sym e) ∙ got_map (state_of os ss ls) hs i m.head m.was in
+      let both : Some (state_of os ss ls m.head) ≡ Some has.0 = sym got ∙ has.1 in
+      let same : state_of os ss ls m.head ≡ has.0 = cc in
+      ap (λ (x : Head). part x.locals ls) m.is ∙ ap (λ (x : State). x.locals) same ∙ has.2
+
 module _ (hs : List Head) (os ps : List Kind) (ss ts : List Scope) (ls : List Kind) (o h : Head) (s : State) where
   -- a state comes behind all others, and has its locals where another has them
   pub beside_states : AreLaid hs (length os) (length ss) (length ls) → IsHeadBeside (length os) (length ss) s o h → part o.locals ls ≡ s.locals → ps ≡ os ++ s.stack → ts ≡ ss ++ s.scopes → states_of ps ts ls (hs ++ h ∷ []) ≡ states_of os ss ls hs ++ s ∷ []
@@ -335,6 +359,13 @@ module _ (hs : List Head) (os : List Kind) (ss : List Scope) (ls : List Kind) (a
   -- where the values of a state lie is known, if the state is one of them
   pub head_inside : (i : ℕ) → states_of os ss ls hs ≡ a → i < length a → i < length hs
   head_inside i e lt = let z : length a ≡ length hs = ap (λ xs. length xs) (sym e) ∙ length-map hs (state_of os ss ls) in omega (arith, z, lt)
+
+  -- a state with the locals that lie where those of a head lie
+  pub has_locals : (i : ℕ) (locals : List Kind) → states_of os ss ls hs ≡ a → LiesAt hs i ls locals → HasLocals a i locals
+  has_locals i locals e lies = (state_of os ss ls lies.0, ap (λ (xs : List State). slice_get xs i) (sym e) ∙ got_map (state_of os ss ls) hs i lies.0 lies.1, lies.2)
+
+  pub locals_inside : (i : ℕ) (locals : List Kind) → states_of os ss ls hs ≡ a → HasLocals a i locals → i < length hs
+  locals_inside i locals e has = head_inside i e (got_inside a i has.0 has.1)
 
   -- a state is read
   pub state_here : (i : ℕ) (h : Head) (s : State) → states_of os ss ls hs ≡ a → slice_get hs i ≡ Some h → part h.operands os ≡ s.stack → part h.scopes ss ≡ s.scopes → part h.locals ls ≡ s.locals → slice_get a i ≡ Some s
