@@ -2,7 +2,7 @@ ghost use Rattle.std.specs.Prelude.{◌≡◌, ◌+◌, ◌++◌, ◌∷◌, ◌
 ghost use Rattle.abc_link_program.specs.Linked.{IsLinkedFile};
 ghost use Rattle.abc_verify_flow.specs.Kept.{AreAlone, HasLengths, HasLocals, IsBelow, IsHeadBehind, IsHeadBeside, IsLonger, IsMarked, LiesAt, over, part};
 
-use crate::below::{are_below, are_operands_below, are_scopes_below};
+use crate::below::{are_below, are_operands_below, are_same, are_scopes_below};
 use crate::copies::copy_over;
 use crate::flow::Flow;
 use crate::span::{Span, part, span_behind};
@@ -100,7 +100,7 @@ fn last_with(heads: &Vec<Head>, values: &[Kind], locals: &[Kind]) -> Option<usiz
         return None;
     }
     let last = heads.len() - 1;
-    if *part(values, head_at(heads, last).locals) == *locals {
+    if are_same(part(values, head_at(heads, last).locals), locals) {
         Some(last)
     } else {
         None
