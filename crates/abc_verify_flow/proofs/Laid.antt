@@ -1,6 +1,6 @@
 -- States whose values lie one behind the other.
 use Rattle.std.proofs.Common.{◌≡◌, ◌≢◌, ℕ, zero, suc, ◌+◌, ◌≤◌, ◌<◌, List, [], ◌∷◌, ◌++◌, Some, length, set, map, take, drop, refl, sym, ap, ◌∙◌, subst, arith, ◌⊎◌, inl, inr, length-append}
-use Rattle.std.specs.Prelude.{Bool, true, false, Err, Ok, OnErr, Result, slice_get}
+use Rattle.std.specs.Prelude.{true, false, Err, Ok, OnErr, Result, slice_get}
 use Rattle.std.proofs.lemmas.List.{append-nil, drop-append-le, drop_at, length-drop, length-map, length-take-le, map-append, map-set, take-append-drop, take-append-le, take_all, take_at}
 use Rattle.std.proofs.lemmas.Bool.{cases_eq, cases_lt}
 use Rattle.std.proofs.lemmas.Slice.{drop-put_mid}

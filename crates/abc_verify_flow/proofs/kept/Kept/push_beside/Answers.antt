@@ -1,7 +1,7 @@
 use Rattle.std.proofs.Common.{List, [], ◌∷◌, ◌++◌, length, sym, ap, ◌∙◌, subst}
 use Rattle.abc_verify_typing.specs.declared.state.Scope.{Scope}
 use Rattle.abc_verify_typing.specs.declared.state.State.{State}
-use Rattle.abc_verify_flow.specs.Kept.{AreLaid, IsHeadBeside, states_of}
+use Rattle.abc_verify_flow.specs.Kept.{AreLaid, states_of}
 use Rattle.abc_verify_flow.specs.declared.kept.Head.{Head}
 use Rattle.abc_verify_flow.proofs.Laid.{beside_along, beside_laid, beside_states, is_marked_laid, is_marked_part, is_marked_shared, is_marked_states, locals_inside, longer_laid, longer_self, longer_states, marked_at, on_err}
 use Rattle.abc_verify_flow.proofs.kept.Kept.push_beside.Goals as goal
