@@ -125,7 +125,14 @@ SCOPE = b"\xd0\x30"
 
 
 def states():
-    """A body with 65,535 locals and 2^13 branches to the next place: a state for each is 2^29 kinds."""
+    """A body with 65,535 locals and 2^13 branches to the next place, before each of which another local is written: a state for each
+    is 2^29 kinds."""
+    code = b"".join(b"\x26\x63" + number(k + 1) + NEXT for k in range(1 << 13))
+    return of_bodies((65535, code + LAST, []))
+
+
+def equal_states():
+    """The same without the writes: all states are equal."""
     return of_bodies((65535, NEXT * (1 << 13) + LAST, []))
 
 
@@ -363,6 +370,7 @@ FILES = {
     "covered_branches": covered_branches,
     "nests": nests,
     "states": states,
+    "equal_states": equal_states,
     "scope_states": scope_states,
     "told_states": told_states,
     "wide_branches": wide_branches,
@@ -391,7 +399,7 @@ FILES = {
     "two_long_bodies": two_long_bodies,
 }
 # `check` answers that memory ran out, since more would be made than is made of a file.
-TOO_MUCH = ("states", "scope_states", "told_states", "many_handlers", "wide_interfaces", "local_heads", "long_slot_chain")
+TOO_MUCH = ("states", "scope_states", "told_states", "many_handlers", "wide_interfaces", "long_slot_chain")
 
 
 def linked(strings, names, methods, items, bodies):

@@ -40,14 +40,14 @@ got_more [] k n h = absurd (omega arith)
 got_more (a ∷ ks) k zero h = refl
 got_more (a ∷ ks) k (suc n) h = got_more ks k n (omega arith)
 
-got_other : {X : Type 0} (ks : List X) (i j : ℕ) (k : X) → i ≢ j → slice_get (set ks i k) j ≡ slice_get ks j
+pub got_other : {X : Type 0} (ks : List X) (i j : ℕ) (k : X) → i ≢ j → slice_get (set ks i k) j ≡ slice_get ks j
 got_other [] i j k ne = refl
 got_other (a ∷ ks) zero zero k ne = absurd (ne refl)
 got_other (a ∷ ks) zero (suc j) k ne = refl
 got_other (a ∷ ks) (suc i) zero k ne = refl
 got_other (a ∷ ks) (suc i) (suc j) k ne = got_other ks i j k (λ e. ne (ap suc e))
 
-got_same : {X : Type 0} (ks : List X) (i : ℕ) (k : X) → i < length ks → slice_get (set ks i k) i ≡ Some k
+pub got_same : {X : Type 0} (ks : List X) (i : ℕ) (k : X) → i < length ks → slice_get (set ks i k) i ≡ Some k
 got_same [] i k h = absurd (omega arith)
 got_same (a ∷ ks) zero k h = refl
 got_same (a ∷ ks) (suc i) k h = got_same ks i k (omega arith)

@@ -52,6 +52,29 @@ fn is_scope_below<F: Flow>(flow: &F, a: &Scope, b: &Scope) -> bool
     is_below(flow, &a.kind, &b.kind)
 }
 
+/// Whether a kind is another.
+#[inline]
+fn is_same(a: &Kind, b: &Kind) -> bool
+    ensures { IsTrue result → a.now ≡ b.now }
+{
+    *a == *b
+}
+
+/// Whether kinds are others.
+pub(crate) fn are_same(kinds: &[Kind], others: &[Kind]) -> bool
+    ensures { IsTrue result → kinds.now ≡ others.now }
+{
+    if kinds.len() != others.len() {
+        return false;
+    }
+    for place in 0..kinds.len() {
+        if !is_same(value_at(kinds, place), value_at(others, place)) {
+            return false;
+        }
+    }
+    true
+}
+
 /// Whether kinds are seen to be others or below them.
 pub(crate) fn are_below<F: Flow>(flow: &F, kinds: &[Kind], others: &[Kind]) -> bool
     requires { IsLinkedFile (F.file flow.now) }

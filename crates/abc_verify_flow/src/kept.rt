@@ -1,8 +1,8 @@
-ghost use Rattle.std.specs.Prelude.{◌≡◌, ◌+◌, ◌++◌, ◌∷◌, ◌<◌, ◌≤◌, [], Some, cond, set, slice_get, length, IfOk, IsTrue, OnErr, OnOk};
+ghost use Rattle.std.specs.Prelude.{◌≡◌, ◌+◌, ◌++◌, ◌∷◌, ◌<◌, ◌≤◌, [], Some, cond, set, slice_get, false, length, IfOk, IsTrue, MatchOption, OnErr, OnOk};
 ghost use Rattle.abc_link_program.specs.Linked.{IsLinkedFile};
-ghost use Rattle.abc_verify_flow.specs.Kept.{AreLaid, HasLengths, IsBelow, IsHeadBehind, IsLonger, over, part};
+ghost use Rattle.abc_verify_flow.specs.Kept.{AreAlone, HasLengths, HasLocals, IsBelow, IsHeadBehind, IsHeadBeside, IsLonger, IsMarked, LiesAt, over, part};
 
-use crate::below::{are_below, are_operands_below, are_scopes_below};
+use crate::below::{are_below, are_operands_below, are_same, are_scopes_below};
 use crate::copies::copy_over;
 use crate::flow::Flow;
 use crate::span::{Span, part, span_behind};
@@ -25,9 +25,12 @@ pub(crate) struct Head {
     pub operands: Span,
     pub scopes: Span,
     pub locals: Span,
+    /// Whether the locals of another state lie there too.
+    pub is_shared: bool,
 }
 
-/// States, whose values lie one behind the other: so one of them takes no memory of its own. Contracts see the list of states.
+/// States, whose values lie one behind the other: so one of them takes no memory of its own. A state with the locals of the one
+/// before it has them where that has them. Contracts see the list of states.
 #[derive(Drop)]
 pub(crate) struct Kept {
     heads: Vec<Head>,
@@ -50,7 +53,7 @@ impl Model for Kept {
     ghost invariant = { λ k. AreLaid k.heads.items (length k.operands) (length k.scopes.items) (length k.locals.items) };
 }
 
-/// Where the values of a state lie behind all others.
+/// Where the values of a state lie behind all others, its locals too.
 fn head_behind(
     operands: usize,
     scopes: usize,
@@ -63,6 +66,19 @@ fn head_behind(
         operands: span_behind(operands, state.stack.len())?,
         scopes: span_behind(scopes, state.scopes.len())?,
         locals: span_behind(locals, state.locals.len())?,
+        is_shared: false,
+    })
+}
+
+/// Where the operands and scopes of a state lie behind all others, and its locals where those of another state lie.
+fn head_beside(operands: usize, scopes: usize, state: &State, other: Head) -> Result<Head, NoMemory>
+    ensures { IfOk result (IsHeadBeside operands scopes state.now other) }
+{
+    Ok(Head {
+        operands: span_behind(operands, state.stack.len())?,
+        scopes: span_behind(scopes, state.scopes.len())?,
+        locals: other.locals,
+        is_shared: true,
     })
 }
 
@@ -73,6 +89,33 @@ fn head_at(heads: &Vec<Head>, index: usize) -> Head
     ensures { slice_get heads.now.items index ≡ Some result }
 {
     heads[index]
+}
+
+/// The number of the last of the states, if its locals are these.
+fn last_with(heads: &Vec<Head>, values: &[Kind], locals: &[Kind]) -> Option<usize>
+    requires { AreAlone heads.now.items (length values.now) }
+    ensures { MatchOption result (Unit {0}) (λ i. LiesAt heads.now.items i values.now locals.now) }
+{
+    if heads.is_empty() {
+        return None;
+    }
+    let last = heads.len() - 1;
+    if are_same(part(values, head_at(heads, last).locals), locals) {
+        Some(last)
+    } else {
+        None
+    }
+}
+
+/// The locals of the state of a number are those of another too. The answer is where its values lie.
+fn mark_shared(heads: &mut Vec<Head>, index: usize) -> Head
+    requires { index < length heads.old.items }
+    ensures { IsMarked heads.old.items heads.new.items index result }
+{
+    let mut head = head_at(heads, index);
+    head.is_shared = true;
+    heads[index] = head;
+    head
 }
 
 /// Adds operands at the end, the top first.
@@ -164,11 +207,12 @@ fn load_operands(stack: &mut Stack<Kind>, operands: &[Kind]) -> Result<(), NoMem
     Ok(())
 }
 
-/// Whether a state has as many operands, scopes and locals as lie somewhere.
+/// Whether a state has as many operands, scopes and locals as lie somewhere, where nothing else lies.
 fn fits(head: Head, state: &State) -> bool
-    ensures { IsTrue result → HasLengths head state.now }
+    ensures { IsTrue result → HasLengths head state.now × (head.is_shared ≡ false) }
 {
-    head.operands.count as usize == state.stack.len()
+    !head.is_shared
+        && head.operands.count as usize == state.stack.len()
         && head.scopes.count as usize == state.scopes.len()
         && head.locals.count as usize == state.locals.len()
 }
@@ -214,8 +258,41 @@ impl Kept {
         self.locals.shrink_to_fit();
     }
 
+    /// How many values are kept.
+    pub(crate) fn values(&self) -> usize {
+        self.operands
+            .len()
+            .saturating_add(self.scopes.len())
+            .saturating_add(self.locals.len())
+    }
+
     /// A copy of a state is kept behind all others, which are those of so many places.
     pub(crate) fn push(&mut self, state: &State, places: usize) -> Result<(), NoMemory>
+        ensures ok { OnOk result (self.new ≡ self.old ++ state.now ∷ []) }
+        ensures err { OnErr result (self.new ≡ self.old) }
+    {
+        match last_with(&self.heads, self.locals.as_slice(), state.locals.as_slice()) {
+            Some(index) => self.push_beside(state, index, places),
+            None => self.push_behind(state, places),
+        }
+    }
+
+    /// A copy of a state is kept behind all others, but for its locals, which are those of the state of an index.
+    fn push_beside(&mut self, state: &State, index: usize, places: usize) -> Result<(), NoMemory>
+        requires { HasLocals self.old index state.now.locals }
+        ensures ok { OnOk result (self.new ≡ self.old ++ state.now ∷ []) }
+        ensures err { OnErr result (self.new ≡ self.old) }
+    {
+        let other = mark_shared(&mut self.heads, index);
+        let head = head_beside(self.operands.len(), self.scopes.len(), state, other)?;
+        add_operands(&mut self.operands, &state.stack)?;
+        add_all(&mut self.scopes, state.scopes.as_slice())?;
+        add_head(&mut self.heads, head, places)?;
+        Ok(())
+    }
+
+    /// A copy of a state is kept behind all others.
+    fn push_behind(&mut self, state: &State, places: usize) -> Result<(), NoMemory>
         ensures ok { OnOk result (self.new ≡ self.old ++ state.now ∷ []) }
         ensures err { OnErr result (self.new ≡ self.old) }
     {
@@ -275,7 +352,8 @@ impl Kept {
         )
     }
 
-    /// Puts a state in place of that of a number, if it has as many values, and tells whether it has.
+    /// Puts a state in place of that of a number, if it has as many values and no other state has its locals there, and tells
+    /// whether it was put.
     pub(crate) fn put(&mut self, index: usize, state: &State) -> bool
         requires { index < length self.old }
         ensures { self.new ≡ cond result (set self.old index state.now) self.old }

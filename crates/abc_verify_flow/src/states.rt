@@ -13,9 +13,9 @@ use abc_verify_typing::State;
 use std::alloc::Global;
 use std::marker::Model;
 
-/// The most operands, scopes and locals that the states which are kept of a method have, all together. Where there would be more,
-/// memory is said to have run out: a method of few bytes may have many places that are led to, and so many locals at each that
-/// the states would fit into no memory.
+/// The most operands, scopes and locals that are kept of a method's states, all together, before one more; locals that states share
+/// count once. Where there would be more, memory is said to have run out: a method of few bytes may have many places that are led to,
+/// and so many locals at each that the states would fit into no memory.
 pub const MOST_VALUES: usize = 1 << 26;
 
 /// Where the states of a method have more values, the next one has no use of their memory.
@@ -28,8 +28,6 @@ pub struct States {
     numbers: PlaceNumbers,
     /// The states by their numbers.
     known: Kept,
-    /// How many values more may be kept.
-    room: usize,
     /// What was known where a state came last, and what was joined of both. Their memory is used again.
     loaded: State,
     joined: State,
@@ -82,11 +80,11 @@ fn is_above_numbered<F: Flow>(flow: &F, known: &Kept, number: u32, state: &State
     known.is_above(flow, number as usize - 1, state)
 }
 
-/// Forgets all states. Where they had many values, as the room says that they left, their memory is given back.
-fn forget(known: &mut Kept, room: usize)
+/// Forgets all states. Where they had many values their memory is given back.
+fn forget(known: &mut Kept)
     ensures { known.new ≡ [] }
 {
-    if room < MOST_VALUES - MANY_VALUES {
+    if known.values() > MANY_VALUES {
         known.release();
     } else {
         known.clear();
@@ -97,7 +95,6 @@ fn forget(known: &mut Kept, room: usize)
 fn put_new(
     numbers: &mut PlaceNumbers,
     known: &mut Kept,
-    room: &mut usize,
     place: usize,
     state: &State,
 ) -> Result<(), NoMemory>
@@ -106,9 +103,9 @@ fn put_new(
     ensures numbers { AreNumbers numbers.new (length known.new) }
     ensures known { OnOk result (known_at numbers.new known.new ≡ set (known_at numbers.old known.old) place (Some state.now)) }
 {
-    let left = room.checked_sub(state.stack.len()).ok_or(NoMemory)?;
-    let left = left.checked_sub(state.scopes.len()).ok_or(NoMemory)?;
-    *room = left.checked_sub(state.locals.len()).ok_or(NoMemory)?;
+    if known.values() >= MOST_VALUES {
+        return Err(NoMemory);
+    }
     let number = number_behind(known.len())?;
     known.push(state, numbers.len())?;
     numbers.put(place, number)?;
@@ -119,7 +116,6 @@ fn put_new(
 fn put_again(
     numbers: &mut PlaceNumbers,
     known: &mut Kept,
-    room: &mut usize,
     place: usize,
     index: usize,
     state: &State,
@@ -132,7 +128,7 @@ fn put_again(
     if known.put(index, state) {
         return Ok(());
     }
-    put_new(numbers, known, room, place, state)
+    put_new(numbers, known, place, state)
 }
 
 impl States {
@@ -143,7 +139,6 @@ impl States {
         States {
             numbers: PlaceNumbers::new(alloc),
             known: Kept::new(alloc),
-            room: MOST_VALUES,
             loaded: no_state(alloc),
             joined: no_state(alloc),
         }
@@ -154,8 +149,7 @@ impl States {
         ensures { self.new ≡ replicate count None }
     {
         self.numbers.renew(count);
-        forget(&mut self.known, self.room);
-        self.room = MOST_VALUES;
+        forget(&mut self.known);
     }
 
     /// Copies the state at a place over another, whose memory is used again, and tells whether one is known there.
@@ -188,18 +182,11 @@ impl States {
         let place = place as usize;
         let number = self.numbers.at(place);
         if number == 0 {
-            return put_new(
-                &mut self.numbers,
-                &mut self.known,
-                &mut self.room,
-                place,
-                state,
-            );
+            return put_new(&mut self.numbers, &mut self.known, place, state);
         }
         put_again(
             &mut self.numbers,
             &mut self.known,
-            &mut self.room,
             place,
             number as usize - 1,
             state,
@@ -221,13 +208,7 @@ impl States {
         let place = place as usize;
         let number = self.numbers.at(place);
         if number == 0 {
-            put_new(
-                &mut self.numbers,
-                &mut self.known,
-                &mut self.room,
-                place,
-                next,
-            )?;
+            put_new(&mut self.numbers, &mut self.known, place, next)?;
             return Ok(Met::First);
         }
         let index = number as usize - 1;
@@ -241,7 +222,6 @@ impl States {
                 put_again(
                     &mut self.numbers,
                     &mut self.known,
-                    &mut self.room,
                     place,
                     index,
                     &self.joined,
