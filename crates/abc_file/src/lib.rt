@@ -3,6 +3,7 @@
 
 mod canon;
 mod laws;
+mod parts;
 mod reading;
 mod rest;
 mod writing;
@@ -10,6 +11,9 @@ mod writing;
 pub use abc_bodies::Places;
 pub use canon::canonical;
 pub use laws::{canonical_form, one_reading, reading_gives_the_file, widening};
+pub use parts::{
+    bodies_are_exact, definitions_are_exact, files_are_exact, numbers_are_exact, pools_are_exact,
+};
 pub use reading::{read, read_alone, read_version};
 pub use rest::read_nothing_more;
 pub use writing::write;
