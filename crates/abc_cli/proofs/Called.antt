@@ -27,7 +27,7 @@ use Rattle.abc_link_program.specs.Linked.{LinkedFile}
 use Rattle.abc_file_types.specs.declared.tables.Abc.{Abc}
 use Rattle.abc_meaning.specs.Exports.{export}
 use Rattle.abc_machine.specs.Machines.{IsOpened, Opened}
-use Rattle.abc_run_finish.specs.Begun.{IsRefused}
+use Rattle.abc_meaning.specs.Openings.{IsRefused}
 use Rattle.abc_session.specs.Ticks.{calls_meaning}
 use Rattle.abc_cli_answers.specs.declared.command.CallsOptions.{CallsOptions}
 use Rattle.abc_verify.proofs.Verifying.{of_any}

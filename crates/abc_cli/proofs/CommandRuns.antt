@@ -23,7 +23,7 @@ use Rattle.abc_objects.specs.declared.error.OpenError.TheVariants as errors
 use Rattle.abc_link_program.specs.Linked.{LinkedFile}
 use Rattle.abc_file_types.specs.declared.tables.Abc.{Abc}
 use Rattle.abc_machine.specs.Machines.{IsOpened, Opened}
-use Rattle.abc_run_finish.specs.Begun.{IsRefused}
+use Rattle.abc_meaning.specs.Openings.{IsRefused}
 use Rattle.abc_cli_answers.specs.declared.command.RunOptions.{RunOptions}
 use Rattle.abc_verify.proofs.Verifying.{of_any}
 use Rattle.abc_verify.specs.Verified.{IsReadVerified}

@@ -9,7 +9,7 @@ ghost use Rattle.abc_meaning.specs.ThrowLaws.{AreCounted, IsVerified};
 ghost use Rattle.abc_meaning.specs.Meaning.{first_world, too_small};
 ghost use Rattle.abc_meaning.specs.Exports.{IsScriptMethod};
 ghost use Rattle.abc_machine.specs.Machines.{IsOpened};
-ghost use Rattle.abc_run_finish.specs.Begun.{setting};
+ghost use Rattle.abc_meaning.specs.Openings.{setting};
 ghost use Rattle.abc_meaning.specs.Told.{CanBeTold};
 ghost use Rattle.abc_session.specs.Ticks.{calls_meaning};
 ghost use Rattle.abc_verify.specs.Verified.{IsVerifiedOf};

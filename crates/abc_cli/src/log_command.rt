@@ -15,7 +15,7 @@ ghost use Rattle.abc_meaning.specs.Meaning.{meaning};
 ghost use Rattle.abc_objects.specs.Opening.{formula_names};
 ghost use Rattle.abc_link_program.specs.Slots.{HasFewSlots};
 ghost use Rattle.abc_file_types.specs.Files.{file_bytes};
-ghost use Rattle.abc_run_finish.specs.Begun.{setting};
+ghost use Rattle.abc_meaning.specs.Openings.{setting};
 ghost use Rattle.abc_verify.specs.Verified.{IsVerifiedOf};
 
 use crate::endings::{give_end, give_unopened};

@@ -2,7 +2,7 @@ ghost use Rattle.std.specs.Prelude.{◌≡◌, ◌<◌, ◌^◌};
 ghost use Rattle.abc_cli.specs.Meant.{limits_of as limits_in};
 ghost use Rattle.abc_meaning.specs.ThrowLaws.{AreCounted, IsVerified};
 ghost use Rattle.abc_meaning.specs.Meaning.{meaning};
-ghost use Rattle.abc_run_finish.specs.Begun.{setting};
+ghost use Rattle.abc_meaning.specs.Openings.{setting};
 ghost use Rattle.abc_meaning.specs.Told.{CanBeTold};
 
 use abc_base::Host;

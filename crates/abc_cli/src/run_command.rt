@@ -7,7 +7,7 @@ ghost use Rattle.abc_cli.specs.Runs.{Run};
 ghost use Rattle.abc_meaning.specs.ThrowLaws.{AreCounted, IsVerified};
 ghost use Rattle.abc_meaning.specs.Meaning.{meaning};
 ghost use Rattle.abc_objects.specs.Opening.{formula_names};
-ghost use Rattle.abc_run_finish.specs.Begun.{setting};
+ghost use Rattle.abc_meaning.specs.Openings.{setting};
 ghost use Rattle.abc_verify.specs.Verified.{IsVerifiedOf};
 
 use crate::endings::{give_end, give_unopened};

@@ -34,7 +34,7 @@ use Rattle.abc_meaning.specs.ThrowLaws.{IsVerified}
 use Rattle.abc_meaning.specs.Sound.{WorldSound}
 use Rattle.abc_objects.specs.Opening.{formula_names}
 use Rattle.abc_objects.specs.Values.{Exists}
-use Rattle.abc_run_finish.specs.Begun.{setting}
+use Rattle.abc_meaning.specs.Openings.{setting}
 use Rattle.abc_link_program.specs.Linked.{IsLinkedFile, LinkedFile}
 use Rattle.abc_link_program.specs.Slots.{HasFewSlots}
 use Rattle.abc_meaning.specs.World.{World}

@@ -21,7 +21,7 @@ use Rattle.abc_machine.proofs.Untold.{ended_of, runs_are}
 use Rattle.abc_meaning.specs.Meaning.{Ended, runs_for, then_runs}
 use Rattle.abc_meaning.specs.Step.{step}
 use Rattle.abc_meaning.specs.Throwing.{Ends, Machine, Stepped, Steps}
-use Rattle.abc_run_finish.specs.Begun.{setting as setting_of}
+use Rattle.abc_meaning.specs.Openings.{setting as setting_of}
 use Rattle.abc_run_finish.specs.Outward.{adding}
 use Rattle.abc_link_program.specs.Linked.{LinkedFile}
 use Rattle.abc_run_finish.specs.declared.halts.Halt.{Halt}

@@ -26,7 +26,8 @@ use Rattle.abc_meaning.specs.Meaning.{Meaning, first_state, first_world, meaning
 use Rattle.abc_meaning.specs.Sound.{WorldSound}
 use Rattle.abc_meaning.specs.Throwing.{Machine}
 use Rattle.abc_objects.specs.Opening.{formula_names, opening}
-use Rattle.abc_run_finish.specs.Begun.{IsBegun, setting}
+use Rattle.abc_run_finish.specs.Begun.{IsBegun}
+use Rattle.abc_meaning.specs.Openings.{setting}
 use Rattle.abc_link_program.specs.Linked.{IsLinkedFile, LinkedFile}
 use Rattle.abc_link_program.specs.Slots.{HasFewSlots}
 use Rattle.abc_run_finish.proofs.Beginning.{limits_kept, machine_first, reached_first}

@@ -9,7 +9,8 @@ use Rattle.abc_machine.specs.declared.ends.End.TheVariants.{Done}
 use Rattle.abc_meaning.specs.Meaning.{first_state, first_world, runs_for, too_small}
 use Rattle.abc_meaning.specs.Sound.{WorldSound}
 use Rattle.abc_objects.specs.Opening.{formula_names}
-use Rattle.abc_run_finish.specs.Begun.{IsBegun, setting}
+use Rattle.abc_run_finish.specs.Begun.{IsBegun}
+use Rattle.abc_meaning.specs.Openings.{setting}
 use Rattle.abc_link_program.specs.Linked.{LinkedFile}
 use Rattle.abc_run_calls.specs.Arguments.{IsKnown}
 use Rattle.abc_meaning.specs.World.{World}

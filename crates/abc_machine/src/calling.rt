@@ -7,7 +7,7 @@ ghost use Rattle.abc_machine.specs.Machines.{kept_world};
 ghost use Rattle.abc_machine.specs.Replied.{HasReplied, RepliesAs, is_write_fault as is_fault};
 ghost use Rattle.abc_machine.specs.Runs.{Leaves};
 ghost use Rattle.abc_machine.specs.declared.replies.Reply.TheVariants.{WriteFault};
-ghost use Rattle.abc_run_finish.specs.Begun.{setting};
+ghost use Rattle.abc_meaning.specs.Openings.{setting};
 
 use crate::replies::Reply;
 use crate::running::{reply_for, take_steps};

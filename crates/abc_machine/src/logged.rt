@@ -14,7 +14,7 @@ ghost use Rattle.abc_machine.specs.declared.ends.End.TheVariants.{WriteFault as 
 ghost use Rattle.abc_machine.specs.declared.replies.Reply.TheVariants.{WriteFault};
 ghost use Rattle.abc_meaning.specs.Meaning.{ran, runs_for};
 ghost use Rattle.abc_meaning.specs.Throwing.{End as Ending};
-ghost use Rattle.abc_run_finish.specs.Begun.{setting};
+ghost use Rattle.abc_meaning.specs.Openings.{setting};
 ghost use Rattle.abc_run_finish.specs.Steps.{IsReached};
 ghost use Rattle.abc_run_state.specs.Outer.{Outer};
 

@@ -13,7 +13,7 @@ ghost use Rattle.abc_machine.specs.declared.ends.End.{End};
 ghost use Rattle.abc_machine.specs.declared.replies.PlainValue.TheVariants.{Text};
 ghost use Rattle.abc_meaning.specs.Meaning.{meaning};
 ghost use Rattle.abc_objects.specs.Opening.{formula_names};
-ghost use Rattle.abc_run_finish.specs.Begun.{IsRefused, setting};
+ghost use Rattle.abc_meaning.specs.Openings.{IsRefused, setting};
 
 use crate::calling::{call_for, is_write_fault};
 use crate::ends::End;

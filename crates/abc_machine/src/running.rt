@@ -10,7 +10,7 @@ ghost use Rattle.abc_machine.specs.Spent.{SpendsAs, as_reply, end_for as end_of,
 ghost use Rattle.abc_machine.specs.declared.ends.End.TheVariants.{WriteFault as FailedRun};
 ghost use Rattle.abc_machine.specs.declared.replies.Reply.TheVariants.{WriteFault};
 ghost use Rattle.abc_meaning.specs.Meaning.{ran, runs_for};
-ghost use Rattle.abc_run_finish.specs.Begun.{setting};
+ghost use Rattle.abc_meaning.specs.Openings.{setting};
 ghost use Rattle.abc_run_finish.specs.declared.halts.Halt.TheVariants.{Fails};
 ghost use Rattle.abc_run_finish.specs.Steps.{IsReached};
 ghost use Rattle.abc_run_state.specs.Outer.{Outer};

@@ -22,6 +22,7 @@ pub mod Tests
 pub mod Throwing
 pub mod Step
 pub mod Meaning
+pub mod Openings
 pub mod Sound
 pub mod ThrowLaws
 pub mod Front

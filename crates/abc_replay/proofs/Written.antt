@@ -11,7 +11,7 @@ use Rattle.abc_log.specs.Checks.{IsWritten}
 use Rattle.abc_machine.specs.Ended.{HasRun, IsEndOf}
 use Rattle.abc_machine.specs.Logged.{LogsRun}
 use Rattle.abc_machine.specs.Machines.{IsOpened, Opened}
-use Rattle.abc_run_finish.specs.Begun.{setting}
+use Rattle.abc_meaning.specs.Openings.{setting}
 use Rattle.abc_machine.specs.declared.ends.End.{End}
 use Rattle.abc_machine.specs.declared.ends.End.TheVariants as ends
 use Rattle.abc_meaning.specs.Meaning.{Meaning}

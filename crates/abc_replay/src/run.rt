@@ -2,7 +2,7 @@ ghost use Rattle.std.specs.Prelude.{◌≡◌, ◌≤◌, None, IfOk, OnErr};
 ghost use Rattle.abc_meaning.specs.Logs.{log as log_of, steps as steps_of};
 ghost use Rattle.abc_log.specs.Lines.{limit_end};
 ghost use Rattle.abc_log.specs.Checks.{IsCompared, IsWritten};
-ghost use Rattle.abc_run_finish.specs.Begun.{setting};
+ghost use Rattle.abc_meaning.specs.Openings.{setting};
 ghost use Rattle.abc_objects.specs.Opening.{formula_names};
 
 use abc_base::{Host, NoMemory, Sink, Source, release};

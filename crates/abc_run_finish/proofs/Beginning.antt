@@ -7,7 +7,8 @@ use Rattle.abc_heap_store.specs.Heap.{Heap}
 use Rattle.abc_heap_store.specs.declared.records.Limits.{Limits}
 use Rattle.abc_meaning.specs.Meaning.{first_state, first_world}
 use Rattle.abc_meaning.specs.Sound.{IsSound}
-use Rattle.abc_run_finish.specs.Begun.{IsBegun, setting}
+use Rattle.abc_run_finish.specs.Begun.{IsBegun}
+use Rattle.abc_meaning.specs.Openings.{setting}
 use Rattle.abc_run_finish.proofs.There.{there}
 use Rattle.abc_run_finish.specs.ReachedLaws.{RunsBeginReached}
 use Rattle.abc_frames.specs.Frame.{Frames}

@@ -1,11 +1,7 @@
 -- The state that a run begins with, as code makes it.
 use Rattle.std.specs.Prelude.{◌≡◌, ℕ, ◌+◌, ◌≤◌, List, [], length, slice_get, Some, None}
-use Rattle.abc_base.specs.declared.formula.Formula.{Formula}
 use Rattle.abc_heap_store.specs.declared.records.Limits.{Limits}
 use Rattle.abc_meaning.specs.Meaning.{first_world, too_small}
-use Rattle.abc_objects.specs.declared.error.OpenError.{OpenError}
-use Rattle.abc_objects.specs.declared.error.OpenError.TheVariants as errors
-use Rattle.abc_link_program.specs.Linked.{LinkedFile}
 use Rattle.abc_frames.specs.Frame.{no_frames}
 use Rattle.abc_run_state.specs.declared.state.State.{State}
 use Rattle.abc_file_types.specs.declared.methods.Method.{Method}
@@ -23,11 +19,3 @@ pub record IsBegun (p : Setting) (limits : Limits) (s : State) : Type 0 where
   pub frames : s.frames ≡ no_frames limits.frames limits.stack
   pub given : s.given.items ≡ []
   pub room : HasRoomFor p.linked.file.methods s.given.limit
-
--- a limit is too small, or there is no memory
-abbrev pub IsRefused : Setting → Limits → OpenError → Type 0
-IsRefused p limits errors.NoMemory = Unit {0}
-IsRefused p limits (errors.TooSmall which) = too_small (first_world p limits).heap ≡ Some which
-
-abbrev pub setting : LinkedFile → List Formula → Setting
-setting l formulas = record { linked = l; formulas = formulas }

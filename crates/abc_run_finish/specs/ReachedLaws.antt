@@ -6,7 +6,8 @@ use Rattle.abc_run_finish.specs.Ending.{IsSized}
 use Rattle.abc_run_finish.specs.Steps.{GoesOnAs, IsReached}
 use Rattle.abc_heap_store.specs.declared.records.Limits.{Limits}
 use Rattle.abc_meaning.specs.ThrowLaws.{IsVerified}
-use Rattle.abc_run_finish.specs.Begun.{IsBegun, setting}
+use Rattle.abc_run_finish.specs.Begun.{IsBegun}
+use Rattle.abc_meaning.specs.Openings.{setting}
 use Rattle.abc_run_finish.specs.Outward.{adding}
 use Rattle.abc_link_program.specs.Linked.{LinkedFile}
 use Rattle.abc_run_state.specs.Outer.{Outer, setting as setting_of}

@@ -1,6 +1,7 @@
 ghost use Rattle.std.specs.Prelude.{◌≡◌, ◌+◌, [], IfOk, MatchResult, false, length, replicate};
 ghost use Rattle.abc_frames.specs.Frame.{no_frames};
-ghost use Rattle.abc_run_finish.specs.Begun.{HasRoomFor, IsBegun, IsRefused, setting};
+ghost use Rattle.abc_run_finish.specs.Begun.{HasRoomFor, IsBegun};
+ghost use Rattle.abc_meaning.specs.Openings.{IsRefused, setting};
 
 use abc_base::{Host, NoMemory, Table, release};
 use abc_file_types::Method;

@@ -5,7 +5,7 @@ ghost use Rattle.abc_meaning.specs.Exports.{export as export_of, has_public_name
 ghost use Rattle.abc_link_names.specs.Parts.{script_at};
 ghost use Rattle.abc_meaning.specs.Throwing.{last_script};
 ghost use Rattle.abc_link_names.specs.Pool.{name as name_of, qname};
-ghost use Rattle.abc_run_finish.specs.Begun.{setting};
+ghost use Rattle.abc_meaning.specs.Openings.{setting};
 
 use abc_file_types::{TraitBody, TraitInfo};
 use abc_link::Linked;

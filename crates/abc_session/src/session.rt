@@ -13,7 +13,7 @@ ghost use Rattle.abc_machine.specs.declared.replies.PlainValue.TheVariants.{Text
 ghost use Rattle.abc_machine.specs.declared.replies.Reply.TheVariants.{Value};
 ghost use Rattle.abc_meaning.specs.Meaning.{meaning};
 ghost use Rattle.abc_objects.specs.Opening.{formula_names};
-ghost use Rattle.abc_run_finish.specs.Begun.{IsRefused, setting};
+ghost use Rattle.abc_meaning.specs.Openings.{IsRefused, setting};
 ghost use Rattle.abc_session.specs.Sessions.{AnswersIn, HasCalled};
 
 use crate::exports::export;

@@ -8,7 +8,7 @@ ghost use Rattle.abc_meaning.specs.Exports.{IsScriptMethod};
 ghost use Rattle.abc_objects.specs.Opening.{formula_names};
 ghost use Rattle.abc_machine.specs.Ended.{HasRun, RunsAs};
 ghost use Rattle.abc_machine.specs.Machines.{IsOpened, IsReady};
-ghost use Rattle.abc_run_finish.specs.Begun.{setting};
+ghost use Rattle.abc_meaning.specs.Openings.{setting};
 ghost use Rattle.abc_session.specs.Ticks.{calls_meaning, tick, ticks_run, value_line};
 ghost use Rattle.abc_session.specs.Told.{GoesOnAs, HasText, TellsAs, Tried, value_or_end as value_of_reply};
 

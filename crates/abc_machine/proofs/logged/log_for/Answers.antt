@@ -6,7 +6,7 @@ use Rattle.abc_machine.specs.declared.ends.End.TheVariants.{WriteFault}
 use Rattle.abc_machine.proofs.Closing.{cause_err, cause_ok, logs_err, logs_ok}
 use Rattle.abc_machine.proofs.Untold.{run_leaves}
 use Rattle.abc_meaning.specs.Meaning.{runs_for}
-use Rattle.abc_run_finish.specs.Begun.{setting}
+use Rattle.abc_meaning.specs.Openings.{setting}
 use Rattle.abc_machine.proofs.logged.log_for.Goals as goal
 
 pub returns-in-Ok-clause-logs : goal.returns-in-Ok-clause-logs

@@ -11,7 +11,7 @@ use Rattle.abc_machine.proofs.Invoking.{replied_so}
 use Rattle.abc_machine.proofs.LoggedRuns.{ended_so, lines_begun, lines_end, lines_front, lines_on, well_on, well_reply}
 use Rattle.abc_machine.proofs.Spending.{ended_on, went_on}
 use Rattle.abc_meaning.specs.Meaning.{runs_for}
-use Rattle.abc_run_finish.specs.Begun.{setting}
+use Rattle.abc_meaning.specs.Openings.{setting}
 use Rattle.abc_machine.proofs.logged.log_steps.Goals as goal
 
 pub spend_logged-requires : goal.spend_logged-requires

@@ -5,7 +5,7 @@ use Rattle.abc_machine.specs.Spent.{end_for}
 use Rattle.abc_machine.specs.declared.ends.End.{End}
 use Rattle.abc_machine.specs.declared.ends.End.TheVariants.{WriteFault}
 use Rattle.abc_meaning.specs.Meaning.{ran, runs_for}
-use Rattle.abc_run_finish.specs.Begun.{setting}
+use Rattle.abc_meaning.specs.Openings.{setting}
 use Rattle.abc_machine.proofs.Untold.{has_run, run_leaves, run_replied}
 use Rattle.abc_machine.proofs.running.run_for.Goals as goal
 

@@ -4,7 +4,7 @@ use Rattle.abc_log.specs.Followed.{told}
 use Rattle.abc_meaning.specs.Logs.{log, steps}
 use Rattle.abc_log.specs.Checks.{IsWritten}
 use Rattle.abc_log.proofs.Judging.{same_name}
-use Rattle.abc_run_finish.specs.Begun.{setting}
+use Rattle.abc_meaning.specs.Openings.{setting}
 use Rattle.abc_replay.proofs.Lent.{begins_so, compared_so, lent_later}
 use Rattle.abc_replay.proofs.run.compare_lent.Goals as goal
 

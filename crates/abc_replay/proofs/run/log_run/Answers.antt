@@ -1,5 +1,5 @@
 use Rattle.std.proofs.Common.{◌∙◌}
-use Rattle.abc_run_finish.specs.Begun.{setting}
+use Rattle.abc_meaning.specs.Openings.{setting}
 use Rattle.abc_meaning.specs.Logs.{log, steps}
 use Rattle.abc_meaning.specs.Meaning.{meaning}
 use Rattle.abc_replay.proofs.Written.{run_written}

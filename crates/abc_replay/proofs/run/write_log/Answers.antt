@@ -1,7 +1,7 @@
 use Rattle.std.proofs.Common.{ℕ}
 use Rattle.abc_meaning.specs.Logs.{log, steps}
 use Rattle.abc_log.specs.Lines.{limit_end}
-use Rattle.abc_run_finish.specs.Begun.{setting}
+use Rattle.abc_meaning.specs.Openings.{setting}
 use Rattle.abc_replay.proofs.Written.{small_written}
 use Rattle.abc_replay.proofs.run.write_log.Goals as goal
 

@@ -1,5 +1,5 @@
 use Rattle.abc_meaning.specs.Meaning.{first_state}
-use Rattle.abc_run_finish.specs.Begun.{setting}
+use Rattle.abc_meaning.specs.Openings.{setting}
 use Rattle.abc_machine.proofs.machine.Machine.run.Given as goal
 
 abbrev pub ghost-run_for : goal.ghost-run_for
