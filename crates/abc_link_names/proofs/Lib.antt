@@ -6,3 +6,4 @@ pub mod Order
 pub mod Paired
 pub mod ItemsPairs
 pub mod Within
+mod Examples

@@ -12,3 +12,4 @@ pub mod Methods
 pub mod Bases
 pub mod Rules
 pub mod Firsts
+pub mod Examples

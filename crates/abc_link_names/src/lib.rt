@@ -7,6 +7,7 @@
 
 mod coerce;
 mod error;
+mod example_laws;
 mod hosts;
 mod items;
 mod keys;
@@ -24,6 +25,7 @@ mod types;
 
 pub use coerce::start_of;
 pub use error::LinkError;
+pub use example_laws::examples_hold;
 pub use hosts::HOST_CLASSES;
 pub use items::{Item, ItemKind, LinkRule};
 pub use keys::{NameKey, are_equal, first_places};
