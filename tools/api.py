@@ -20,7 +20,7 @@ LAYERS = [
     ("Texts and tidying", "abc_text_lines abc_asm abc_disasm abc_tidy"),
     ("Linking", "abc_link_rules abc_kinds abc_link"),
     ("Verifying", "abc_verify_typing abc_verify"),
-    ("Heap", "abc_frames abc_log abc_objects abc_ops abc_lookup"),
+    ("Heap", "abc_frames abc_log abc_log_blocks abc_objects abc_ops abc_lookup"),
     ("Meaning", "abc_meaning abc_meaning_sound"),
     ("Machine and sessions", "abc_machine abc_session abc_replay"),
     ("Commands", "abc_cli_answers abc_cli"),
