@@ -10,10 +10,9 @@ use Rattle.abc_run_values.specs.Ready.{CanRun}
 use Rattle.abc_run_values.specs.Returned.{IsReturned}
 use Rattle.abc_link_program.specs.Linked.{LinkedFile}
 use Rattle.abc_frames.specs.Frame.{Frame, newest}
-use Rattle.abc_meaning.specs.At.{Act}
 use Rattle.abc_run_state.specs.Outer.{Outer, setting, world}
-use Rattle.abc_run_state.specs.Turns.{Leaves, Runs, Turned, turned}
-use Rattle.abc_meaning.specs.World.{Run, World}
+use Rattle.abc_run_state.specs.Turns.{Turned, turned}
+use Rattle.abc_meaning.specs.World.{World}
 use Rattle.abc_meaning.specs.Setting.{Setting, routine_of}
 use Rattle.abc_run_state.specs.declared.state.Left.{Left}
 use Rattle.abc_run_state.specs.declared.state.Left.TheVariants as lefts

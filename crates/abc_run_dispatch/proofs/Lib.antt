@@ -7,7 +7,6 @@ pub mod ObjectOps
 pub mod Walked
 pub mod Bodied
 pub mod NewOps
-pub mod Opened
 pub mod MembersMade
 pub mod MemberOps
 pub mod Homes
@@ -17,6 +16,7 @@ pub mod ScopeOps
 pub mod SuperOps
 pub mod Grouped
 pub mod Led
+mod Dispatched
 mod Told
 pub mod Coded
 mod StepTaken

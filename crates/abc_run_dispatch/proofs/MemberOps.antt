@@ -18,7 +18,7 @@ use Rattle.abc_meaning.specs.Names.{name_of}
 use Rattle.abc_meaning.specs.Table.{act_of, acts}
 use Rattle.abc_run_state.specs.Operands.{operand_at}
 use Rattle.abc_run_state.specs.Outer.{Outer, setting, world}
-use Rattle.abc_run_state.specs.Turns.{IsDoneIf, Turned, turned}
+use Rattle.abc_run_state.specs.Turns.{IsDoneIf}
 use Rattle.abc_meaning.specs.Making.{new}
 use Rattle.abc_meaning.specs.Members.{reads}
 use Rattle.abc_meaning.specs.World.{Run, and_then, ◌>>=◌}
@@ -29,10 +29,6 @@ use Rattle.abc_file_types.specs.declared.code.Instr.TheVariants.{One, Two}
 use Rattle.abc_run_dispatch.proofs.DeletedTaken.{Taking, taken, taking_at}
 use Rattle.abc_run_dispatch.proofs.Takes.{all_arguments, named_taken, no_arguments, one_taken, two_taken, valued_taken}
 use Rattle.abc_run_dispatch.proofs.MembersMade.{makes_as}
-
--- an opcode that is known
-pub known_at : (l : LinkedFile) (out : Outer) (s : State) (mk : ℕ → Instr) (op k : ℕ) (x : Turned) → op ≡ k → turned (setting l out) s.frames (act_here (setting l out) (newest s.frames) (mk k) (world s out)) ≡ x → turned (setting l out) s.frames (act_here (setting l out) (newest s.frames) (mk op) (world s out)) ≡ x
-known_at l out s mk op k x e r = ap (λ (o : ℕ). turned (setting l out) s.frames (act_here (setting l out) (newest s.frames) (mk o) (world s out))) e ∙ r
 
 -- what is done at once, by an opcode that is known
 pub done_at : (b : Bool) (l : LinkedFile) (out : Outer) (s new : State) (mk : ℕ → Instr) (op k n g : ℕ) (m : Run Act) → op ≡ k → Does l out s (mk k) n g m → IsDoneIf b l out m s new → IsDoneIf b l out (act_here (setting l out) (newest s.frames) (mk op)) s new

@@ -23,8 +23,6 @@ use Rattle.abc_meaning.specs.Table.{act_of, acts}
 use Rattle.abc_run_state.specs.Operands.{operand_at}
 use Rattle.abc_run_state.specs.Outer.{Outer, setting, world}
 use Rattle.abc_run_state.specs.Standing.{IsSet}
-use Rattle.abc_run_state.specs.Turns.{Turned, turned}
-use Rattle.abc_run_values.specs.Here.{act_here}
 use Rattle.abc_run_state.specs.declared.state.How.TheVariants.{Drop, Push}
 use Rattle.abc_run_state.specs.declared.state.State.{State}
 use Rattle.abc_meaning.specs.Setting.{routine_of}
@@ -41,9 +39,6 @@ use Rattle.abc_run_dispatch.proofs.Homes.{maker_home, routine_home}
 use Rattle.abc_run_dispatch.proofs.Receiving.{calls_dropping, calls_pushing, constructs_is, gets_is, sets_is}
 
 -- ---- an opcode that is known
-
-pub at_op : (l : LinkedFile) (out : Outer) (s : State) (mk : ℕ → Instr) (op k : ℕ) (x : Turned) → op ≡ k → turned (setting l out) s.frames (act_here (setting l out) (newest s.frames) (mk k) (world s out)) ≡ x → turned (setting l out) s.frames (act_here (setting l out) (newest s.frames) (mk op) (world s out)) ≡ x
-at_op l out s mk op k x e h = ap (λ (o : ℕ). turned (setting l out) s.frames (act_here (setting l out) (newest s.frames) (mk o) (world s out))) e ∙ h
 
 -- ---- where a super operation stands
 

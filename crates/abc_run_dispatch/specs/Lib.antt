@@ -7,3 +7,4 @@ pub mod Held
 pub mod StepGroups
 pub mod Numbers
 pub mod Ready
+pub mod Dispatching

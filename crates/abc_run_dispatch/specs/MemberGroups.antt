@@ -1,10 +1,11 @@
 -- The opcodes of the groups of instructions on properties.
 use Rattle.std.specs.Prelude.{ℕ, List, [], ◌∷◌}
+use Rattle.abc_run_values.specs.declared.op.TheConstants as op
 
--- setproperty, getproperty, initproperty, deleteproperty
+-- reads, writes and deletes
 abbrev pub property_ops : List ℕ
-property_ops = 0x61 ∷ 0x66 ∷ 0x68 ∷ 0x6A ∷ []
+property_ops = op.SETPROPERTY ∷ op.GETPROPERTY ∷ op.INITPROPERTY ∷ op.DELETEPROPERTY ∷ []
 
--- callproperty, callproplex, callpropvoid
+-- calls
 abbrev pub property_call_ops : List ℕ
-property_call_ops = 0x46 ∷ 0x4C ∷ 0x4F ∷ []
+property_call_ops = op.CALLPROPERTY ∷ op.CALLPROPLEX ∷ op.CALLPROPVOID ∷ []

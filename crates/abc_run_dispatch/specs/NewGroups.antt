@@ -1,10 +1,11 @@
 -- The opcodes of the groups of instructions that make objects and enter no method.
 use Rattle.std.specs.Prelude.{ℕ, List, [], ◌∷◌}
+use Rattle.abc_run_values.specs.declared.op.TheConstants as op
 
--- newfunction, newobject, newarray, newcatch
+-- with a number
 abbrev pub new_ops : List ℕ
-new_ops = 0x40 ∷ 0x55 ∷ 0x56 ∷ 0x5A ∷ []
+new_ops = op.NEWFUNCTION ∷ op.NEWOBJECT ∷ op.NEWARRAY ∷ op.NEWCATCH ∷ []
 
--- newactivation, getglobalscope
+-- the activation, and the global object
 abbrev pub scope_ops : List ℕ
-scope_ops = 0x57 ∷ 0x64 ∷ []
+scope_ops = op.NEWACTIVATION ∷ op.GETGLOBALSCOPE ∷ []

@@ -1,14 +1,15 @@
 -- The opcodes of the groups of instructions on objects.
 use Rattle.std.specs.Prelude.{ℕ, List, [], ◌∷◌}
+use Rattle.abc_run_values.specs.declared.op.TheConstants as op
 
--- nextname, hasnext, nextvalue
+-- walks over properties
 abbrev pub walk_ops : List ℕ
-walk_ops = 0x1E ∷ 0x1F ∷ 0x23 ∷ []
+walk_ops = op.NEXTNAME ∷ op.HASNEXT ∷ op.NEXTVALUE ∷ []
 
--- astypelate, instanceof, istypelate, in
+-- what asks for a class object that is a value, or for a name in an object
 abbrev pub late_ops : List ℕ
-late_ops = 0x87 ∷ 0xB1 ∷ 0xB3 ∷ 0xB4 ∷ []
+late_ops = op.ASTYPELATE ∷ op.INSTANCEOF ∷ op.ISTYPELATE ∷ op.IN ∷ []
 
--- getslot, setslot
+-- slots by their numbers
 abbrev pub slot_ops : List ℕ
-slot_ops = 0x6C ∷ 0x6D ∷ []
+slot_ops = op.GETSLOT ∷ op.SETSLOT ∷ []

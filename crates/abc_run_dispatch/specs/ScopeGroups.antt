@@ -1,14 +1,15 @@
 -- The opcodes of the groups of instructions that find names in scopes or work on the base of a class.
 use Rattle.std.specs.Prelude.{ℕ, List, [], ◌∷◌}
+use Rattle.abc_run_values.specs.declared.op.TheConstants as op
 
--- findpropstrict, findproperty, getlex
+-- searches in scopes
 abbrev pub find_ops : List ℕ
-find_ops = 0x5D ∷ 0x5E ∷ 0x60 ∷ []
+find_ops = op.FINDPROPSTRICT ∷ op.FINDPROPERTY ∷ op.GETLEX ∷ []
 
--- getsuper, setsuper, constructsuper
+-- what goes by the base of a class
 abbrev pub super_ops : List ℕ
-super_ops = 0x04 ∷ 0x05 ∷ 0x49 ∷ []
+super_ops = op.GETSUPER ∷ op.SETSUPER ∷ op.CONSTRUCTSUPER ∷ []
 
--- callsuper, callsupervoid
+-- calls of it
 abbrev pub super_call_ops : List ℕ
-super_call_ops = 0x45 ∷ 0x4E ∷ []
+super_call_ops = op.CALLSUPER ∷ op.CALLSUPERVOID ∷ []

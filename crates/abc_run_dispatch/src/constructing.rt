@@ -1,11 +1,10 @@
 ghost use Rattle.std.specs.Prelude.{◌≡◌};
 ghost use Rattle.abc_run_calls.specs.Arguments.{IsKnown};
-ghost use Rattle.abc_run_values.specs.Here.{act_here};
+ghost use Rattle.abc_run_values.specs.Here.{RunsHere};
 ghost use Rattle.abc_run_values.specs.Ready.{CanRun};
-ghost use Rattle.abc_frames.specs.Frame.{newest};
-ghost use Rattle.abc_run_state.specs.Outer.{Outer, setting};
-ghost use Rattle.abc_run_state.specs.Turns.{Runs};
+ghost use Rattle.abc_run_state.specs.Outer.{Outer};
 ghost use Rattle.abc_file_types.specs.declared.code.Instr.TheVariants.{One, Two};
+ghost use Rattle.abc_run_values.specs.declared.op.TheConstants.{CONSTRUCT, CONSTRUCTPROP};
 
 use abc_link::Linked;
 use abc_run_members::{construct, construct_property};
@@ -14,10 +13,9 @@ use abc_run_state::{State, Stop};
 /// `construct`, with so many arguments.
 pub fn run_construct(linked: &Linked, s: &mut State, count: u32) -> Result<(), Stop>
     ghost out: { Outer }
-    requires run { CanRun linked.now out s.old (One 0x42 count) }
+    requires run { CanRun linked.now out s.old (One CONSTRUCT count) }
     requires known { IsKnown linked.now s.old.given.limit }
-    ensures runs { Runs linked.now out (act_here (setting linked.now out) (newest s.old.frames) (One 0x42 count)) s.old result s.new }
-    ensures limit { s.new.given.limit ≡ s.old.given.limit }
+    ensures { RunsHere linked.now out (One CONSTRUCT count) s.old result s.new }
 {
     construct(linked, s, count)
 }
@@ -30,10 +28,9 @@ pub fn run_construct_property(
     count: u32,
 ) -> Result<(), Stop>
     ghost out: { Outer }
-    requires run { CanRun linked.now out s.old (Two 0x4A n count) }
+    requires run { CanRun linked.now out s.old (Two CONSTRUCTPROP n count) }
     requires known { IsKnown linked.now s.old.given.limit }
-    ensures runs { Runs linked.now out (act_here (setting linked.now out) (newest s.old.frames) (Two 0x4A n count)) s.old result s.new }
-    ensures limit { s.new.given.limit ≡ s.old.given.limit }
+    ensures { RunsHere linked.now out (Two CONSTRUCTPROP n count) s.old result s.new }
 {
     construct_property(linked, s, n, count)
 }

@@ -1,43 +1,30 @@
-ghost use Rattle.std.specs.Prelude.{◌≡◌, true, Ok};
-ghost use Rattle.abc_run_calls.specs.Calls.{CanFinish};
-ghost use Rattle.abc_run_dispatch.specs.Ready.{IsEquipped};
-ghost use Rattle.abc_run_values.specs.Here.{act_here};
-ghost use Rattle.abc_run_values.specs.Ready.{CanRun};
+ghost use Rattle.std.specs.Prelude.{◌≡◌};
 ghost use Rattle.abc_verify_typing.specs.Instructions.{opcode};
-ghost use Rattle.abc_frames.specs.Frame.{newest};
-ghost use Rattle.abc_run_state.specs.Outer.{Outer, setting};
-ghost use Rattle.abc_run_state.specs.Turns.{Leaves};
-ghost use Rattle.abc_run_state.specs.declared.state.Left.TheVariants.{Goes};
+ghost use Rattle.abc_run_state.specs.Outer.{Outer};
 ghost use Rattle.abc_file_types.specs.declared.code.Instr.TheVariants.{Branch, One, Plain, Two};
+ghost use Rattle.abc_run_dispatch.specs.Dispatching.{CanDispatch, DispatchesHere};
 
 use crate::arms::{
-    call_arm, class_arm, comparison_arm, constant_arm, construct_arm, construct_property_arm,
-    control_arm, convert_arm, count_arm, double_arm, find_arm, first_branch_arm, last_branch_arm,
-    late_arm, local_arm, new_arm, next_arm, property_arm, property_call_arm, push_arm, return_arm,
-    scope_arm, single_arm, slot_arm, super_arm, super_call_arm, typed_arm, walk_arm,
+    call_arm, class_arm, comparison_arm, constant_arm, constant_inline, construct_arm,
+    construct_property_arm, control_arm, control_inline, convert_arm, convert_fast, count_arm,
+    double_arm, double_fast, find_arm, first_branch_arm, first_branch_fast, first_branch_inline,
+    last_branch_arm, last_branch_fast, late_arm, local_arm, new_arm, next_arm, property_arm,
+    property_call_arm, property_fast, push_arm, return_arm, scope_arm, single_arm, slot_arm,
+    super_arm, super_call_arm, typed_arm, walk_arm,
 };
 use crate::groups::{Alone, Numbered, Paired, group_alone, group_numbered, group_paired};
 use crate::parts::{number_of, opcode_of, second_of};
-use crate::quick::{
-    constant_here, control_here, convert_quick, double_quick, first_branch_here,
-    first_branch_quick, last_branch_quick, property_quick,
-};
 use abc_file_types::Instr;
 use abc_link::Linked;
 use abc_run_state::{Left, State, Stop, goes};
-use abc_run_values::{run_byte, run_debug, run_scope_object, run_short, run_switch};
+use abc_run_values::{op, run_byte, run_debug, run_scope_object, run_short, run_switch};
 
 /// An opcode that stands alone, by its group.
 #[inline(never)]
 fn run_rare_alone(linked: &Linked, s: &mut State, op: u8, left: &mut Result<Left, Stop>) -> bool
     ghost out: { Outer }
-    requires run { CanRun linked.now out s.old (Plain op) }
-    requires equipped { IsEquipped linked.now s.old }
-    requires none { left.old ≡ Ok Goes }
-    ensures leaves { Leaves linked.now out (act_here (setting linked.now out) (newest s.old.frames) (Plain op)) s.old left.new s.new }
-    ensures finishes { CanFinish linked.now left.new s.new }
-    ensures goes { result ≡ true → left.new ≡ Ok Goes }
-    ensures limit { s.new.given.limit ≡ s.old.given.limit }
+    requires { CanDispatch linked.now out (Plain op) s.old left.old }
+    ensures { DispatchesHere linked.now out (Plain op) s.old result left.new s.new }
 {
     match group_alone(op) {
         Alone::Control => control_arm(linked, s, op, left),
@@ -64,13 +51,8 @@ fn run_rare_numbered(
     left: &mut Result<Left, Stop>,
 ) -> bool
     ghost out: { Outer }
-    requires run { CanRun linked.now out s.old (One op n) }
-    requires equipped { IsEquipped linked.now s.old }
-    requires none { left.old ≡ Ok Goes }
-    ensures leaves { Leaves linked.now out (act_here (setting linked.now out) (newest s.old.frames) (One op n)) s.old left.new s.new }
-    ensures finishes { CanFinish linked.now left.new s.new }
-    ensures goes { result ≡ true → left.new ≡ Ok Goes }
-    ensures limit { s.new.given.limit ≡ s.old.given.limit }
+    requires { CanDispatch linked.now out (One op n) s.old left.old }
+    ensures { DispatchesHere linked.now out (One op n) s.old result left.new s.new }
 {
     match group_numbered(op) {
         Numbered::Super => super_arm(linked, s, op, n, left),
@@ -98,13 +80,8 @@ fn run_paired(
     left: &mut Result<Left, Stop>,
 ) -> bool
     ghost out: { Outer }
-    requires run { CanRun linked.now out s.old (Two op n count) }
-    requires equipped { IsEquipped linked.now s.old }
-    requires none { left.old ≡ Ok Goes }
-    ensures leaves { Leaves linked.now out (act_here (setting linked.now out) (newest s.old.frames) (Two op n count)) s.old left.new s.new }
-    ensures finishes { CanFinish linked.now left.new s.new }
-    ensures goes { result ≡ true → left.new ≡ Ok Goes }
-    ensures limit { s.new.given.limit ≡ s.old.given.limit }
+    requires { CanDispatch linked.now out (Two op n count) s.old left.old }
+    ensures { DispatchesHere linked.now out (Two op n count) s.old result left.new s.new }
 {
     match group_paired(op) {
         Paired::Next => next_arm(linked, s, n, count, left),
@@ -124,15 +101,10 @@ fn run_rare_branch(
     left: &mut Result<Left, Stop>,
 ) -> bool
     ghost out: { Outer }
-    requires run { CanRun linked.now out s.old (Branch op target) }
-    requires equipped { IsEquipped linked.now s.old }
-    requires none { left.old ≡ Ok Goes }
-    ensures leaves { Leaves linked.now out (act_here (setting linked.now out) (newest s.old.frames) (Branch op target)) s.old left.new s.new }
-    ensures finishes { CanFinish linked.now left.new s.new }
-    ensures goes { result ≡ true → left.new ≡ Ok Goes }
-    ensures limit { s.new.given.limit ≡ s.old.given.limit }
+    requires { CanDispatch linked.now out (Branch op target) s.old left.old }
+    ensures { DispatchesHere linked.now out (Branch op target) s.old result left.new s.new }
 {
-    if op < 0x13 {
+    if op < op::IFEQ {
         first_branch_arm(linked, s, op, target, left)
     } else {
         last_branch_arm(linked, s, op, target, left)
@@ -143,13 +115,8 @@ fn run_rare_branch(
 #[inline(never)]
 fn run_other(linked: &Linked, s: &mut State, instr: &Instr, left: &mut Result<Left, Stop>) -> bool
     ghost out: { Outer }
-    requires run { CanRun linked.now out s.old instr.now }
-    requires equipped { IsEquipped linked.now s.old }
-    requires none { left.old ≡ Ok Goes }
-    ensures leaves { Leaves linked.now out (act_here (setting linked.now out) (newest s.old.frames) instr.now) s.old left.new s.new }
-    ensures finishes { CanFinish linked.now left.new s.new }
-    ensures goes { result ≡ true → left.new ≡ Ok Goes }
-    ensures limit { s.new.given.limit ≡ s.old.given.limit }
+    requires { CanDispatch linked.now out instr.now s.old left.old }
+    ensures { DispatchesHere linked.now out instr.now s.old result left.new s.new }
 {
     match instr {
         Instr::Plain(op) => run_rare_alone(linked, s, *op, left),
@@ -174,20 +141,15 @@ fn run_other(linked: &Linked, s: &mut State, instr: &Instr, left: &mut Result<Le
 
 /// `pushbyte`, or an instruction of another form.
 #[inline(always)]
-fn run_byte_here(
+fn run_byte_or_other(
     linked: &Linked,
     s: &mut State,
     instr: &Instr,
     left: &mut Result<Left, Stop>,
 ) -> bool
     ghost out: { Outer }
-    requires run { CanRun linked.now out s.old instr.now }
-    requires equipped { IsEquipped linked.now s.old }
-    requires none { left.old ≡ Ok Goes }
-    ensures leaves { Leaves linked.now out (act_here (setting linked.now out) (newest s.old.frames) instr.now) s.old left.new s.new }
-    ensures finishes { CanFinish linked.now left.new s.new }
-    ensures goes { result ≡ true → left.new ≡ Ok Goes }
-    ensures limit { s.new.given.limit ≡ s.old.given.limit }
+    requires { CanDispatch linked.now out instr.now s.old left.old }
+    ensures { DispatchesHere linked.now out instr.now s.old result left.new s.new }
 {
     match instr {
         Instr::Byte(n) => goes(run_byte(linked, s, *n), left),
@@ -205,78 +167,87 @@ fn run_common(
     left: &mut Result<Left, Stop>,
 ) -> bool
     ghost out: { Outer }
-    requires run { CanRun linked.now out s.old instr.now }
+    requires can { CanDispatch linked.now out instr.now s.old left.old }
     requires opcode { op ≡ opcode instr.now }
-    requires equipped { IsEquipped linked.now s.old }
-    requires none { left.old ≡ Ok Goes }
-    ensures leaves { Leaves linked.now out (act_here (setting linked.now out) (newest s.old.frames) instr.now) s.old left.new s.new }
-    ensures finishes { CanFinish linked.now left.new s.new }
-    ensures goes { result ≡ true → left.new ≡ Ok Goes }
-    ensures limit { s.new.given.limit ≡ s.old.given.limit }
+    ensures { DispatchesHere linked.now out instr.now s.old result left.new s.new }
 {
     match op {
-        0x09 => control_here(linked, s, op, left),
-        0x0C => first_branch_quick(linked, s, op, number_of(instr), left),
-        0x0D => first_branch_quick(linked, s, op, number_of(instr), left),
-        0x0E => first_branch_quick(linked, s, op, number_of(instr), left),
-        0x0F => first_branch_quick(linked, s, op, number_of(instr), left),
-        0x10 => first_branch_here(linked, s, op, number_of(instr), left),
-        0x11 => first_branch_here(linked, s, op, number_of(instr), left),
-        0x12 => first_branch_here(linked, s, op, number_of(instr), left),
-        0x15 => last_branch_quick(linked, s, op, number_of(instr), left),
-        0x16 => last_branch_quick(linked, s, op, number_of(instr), left),
-        0x17 => last_branch_quick(linked, s, op, number_of(instr), left),
-        0x18 => last_branch_quick(linked, s, op, number_of(instr), left),
-        0x20 => push_arm(linked, s, op, left),
-        0x21 => push_arm(linked, s, op, left),
-        0x26 => push_arm(linked, s, op, left),
-        0x27 => push_arm(linked, s, op, left),
-        0x29 => push_arm(linked, s, op, left),
-        0x2A => push_arm(linked, s, op, left),
-        0x2B => push_arm(linked, s, op, left),
-        0x2D => constant_here(linked, s, op, number_of(instr), left),
-        0x46 => property_call_arm(linked, s, op, number_of(instr), second_of(instr), left),
-        0x47 => return_arm(linked, s, op, left),
-        0x48 => return_arm(linked, s, op, left),
-        0x4F => property_call_arm(linked, s, op, number_of(instr), second_of(instr), left),
-        0x5D => find_arm(linked, s, op, number_of(instr), left),
-        0x60 => find_arm(linked, s, op, number_of(instr), left),
-        0x61 => property_quick(linked, s, op, number_of(instr), left),
-        0x62 => constant_here(linked, s, op, number_of(instr), left),
-        0x63 => constant_here(linked, s, op, number_of(instr), left),
-        0x66 => property_quick(linked, s, op, number_of(instr), left),
-        0x6C => slot_arm(linked, s, op, number_of(instr), left),
-        0x6D => slot_arm(linked, s, op, number_of(instr), left),
-        0x73 => convert_quick(linked, s, op, left),
-        0x74 => convert_quick(linked, s, op, left),
-        0x75 => convert_quick(linked, s, op, left),
-        0x91 => single_arm(linked, s, op, left),
-        0x93 => single_arm(linked, s, op, left),
-        0x96 => single_arm(linked, s, op, left),
-        0xA0 => double_quick(linked, s, op, left),
-        0xA1 => double_quick(linked, s, op, left),
-        0xA2 => double_quick(linked, s, op, left),
-        0xA5 => double_quick(linked, s, op, left),
-        0xA6 => double_quick(linked, s, op, left),
-        0xA7 => double_quick(linked, s, op, left),
-        0xA8 => double_quick(linked, s, op, left),
-        0xA9 => double_quick(linked, s, op, left),
-        0xAA => double_quick(linked, s, op, left),
-        0xC0 => single_arm(linked, s, op, left),
-        0xC1 => single_arm(linked, s, op, left),
-        0xC2 => count_arm(linked, s, op, number_of(instr), left),
-        0xC3 => count_arm(linked, s, op, number_of(instr), left),
-        0xC5 => double_quick(linked, s, op, left),
-        0xC6 => double_quick(linked, s, op, left),
-        0xC7 => double_quick(linked, s, op, left),
-        0xD0 => local_arm(linked, s, op, left),
-        0xD1 => local_arm(linked, s, op, left),
-        0xD2 => local_arm(linked, s, op, left),
-        0xD3 => local_arm(linked, s, op, left),
-        0xD4 => local_arm(linked, s, op, left),
-        0xD5 => local_arm(linked, s, op, left),
-        0xD6 => local_arm(linked, s, op, left),
-        0xD7 => local_arm(linked, s, op, left),
+        op::LABEL => control_inline(linked, s, op, left),
+        op::IFNLT => first_branch_fast(linked, s, op, number_of(instr), left),
+        op::IFNLE => first_branch_fast(linked, s, op, number_of(instr), left),
+        op::IFNGT => first_branch_fast(linked, s, op, number_of(instr), left),
+        op::IFNGE => first_branch_fast(linked, s, op, number_of(instr), left),
+        op::JUMP => first_branch_inline(linked, s, op, number_of(instr), left),
+        op::IFTRUE => first_branch_inline(linked, s, op, number_of(instr), left),
+        op::IFFALSE => first_branch_inline(linked, s, op, number_of(instr), left),
+        op::IFLT => last_branch_fast(linked, s, op, number_of(instr), left),
+        op::IFLE => last_branch_fast(linked, s, op, number_of(instr), left),
+        op::IFGT => last_branch_fast(linked, s, op, number_of(instr), left),
+        op::IFGE => last_branch_fast(linked, s, op, number_of(instr), left),
+        op::PUSHNULL => push_arm(linked, s, op, left),
+        op::PUSHUNDEFINED => push_arm(linked, s, op, left),
+        op::PUSHTRUE => push_arm(linked, s, op, left),
+        op::PUSHFALSE => push_arm(linked, s, op, left),
+        op::POP => push_arm(linked, s, op, left),
+        op::DUP => push_arm(linked, s, op, left),
+        op::SWAP => push_arm(linked, s, op, left),
+        op::PUSHINT => constant_inline(linked, s, op, number_of(instr), left),
+        op::CALLPROPERTY => property_call_arm(
+            linked,
+            s,
+            op,
+            number_of(instr),
+            second_of(instr),
+            left,
+        ),
+        op::RETURNVOID => return_arm(linked, s, op, left),
+        op::RETURNVALUE => return_arm(linked, s, op, left),
+        op::CALLPROPVOID => property_call_arm(
+            linked,
+            s,
+            op,
+            number_of(instr),
+            second_of(instr),
+            left,
+        ),
+        op::FINDPROPSTRICT => find_arm(linked, s, op, number_of(instr), left),
+        op::GETLEX => find_arm(linked, s, op, number_of(instr), left),
+        op::SETPROPERTY => property_fast(linked, s, op, number_of(instr), left),
+        op::GETLOCAL => constant_inline(linked, s, op, number_of(instr), left),
+        op::SETLOCAL => constant_inline(linked, s, op, number_of(instr), left),
+        op::GETPROPERTY => property_fast(linked, s, op, number_of(instr), left),
+        op::GETSLOT => slot_arm(linked, s, op, number_of(instr), left),
+        op::SETSLOT => slot_arm(linked, s, op, number_of(instr), left),
+        op::CONVERT_I => convert_fast(linked, s, op, left),
+        op::CONVERT_U => convert_fast(linked, s, op, left),
+        op::CONVERT_D => convert_fast(linked, s, op, left),
+        op::INCREMENT => single_arm(linked, s, op, left),
+        op::DECREMENT => single_arm(linked, s, op, left),
+        op::NOT => single_arm(linked, s, op, left),
+        op::ADD => double_fast(linked, s, op, left),
+        op::SUBTRACT => double_fast(linked, s, op, left),
+        op::MULTIPLY => double_fast(linked, s, op, left),
+        op::LSHIFT => double_fast(linked, s, op, left),
+        op::RSHIFT => double_fast(linked, s, op, left),
+        op::URSHIFT => double_fast(linked, s, op, left),
+        op::BITAND => double_fast(linked, s, op, left),
+        op::BITOR => double_fast(linked, s, op, left),
+        op::BITXOR => double_fast(linked, s, op, left),
+        op::INCREMENT_I => single_arm(linked, s, op, left),
+        op::DECREMENT_I => single_arm(linked, s, op, left),
+        op::INCLOCAL_I => count_arm(linked, s, op, number_of(instr), left),
+        op::DECLOCAL_I => count_arm(linked, s, op, number_of(instr), left),
+        op::ADD_I => double_fast(linked, s, op, left),
+        op::SUBTRACT_I => double_fast(linked, s, op, left),
+        op::MULTIPLY_I => double_fast(linked, s, op, left),
+        op::GETLOCAL_0 => local_arm(linked, s, op, left),
+        op::GETLOCAL_1 => local_arm(linked, s, op, left),
+        op::GETLOCAL_2 => local_arm(linked, s, op, left),
+        op::GETLOCAL_3 => local_arm(linked, s, op, left),
+        op::SETLOCAL_0 => local_arm(linked, s, op, left),
+        op::SETLOCAL_1 => local_arm(linked, s, op, left),
+        op::SETLOCAL_2 => local_arm(linked, s, op, left),
+        op::SETLOCAL_3 => local_arm(linked, s, op, left),
         _ => run_other(linked, s, instr, left),
     }
 }
@@ -290,16 +261,11 @@ pub(crate) fn run_instr(
     left: &mut Result<Left, Stop>,
 ) -> bool
     ghost out: { Outer }
-    requires run { CanRun linked.now out s.old instr.now }
-    requires equipped { IsEquipped linked.now s.old }
-    requires none { left.old ≡ Ok Goes }
-    ensures leaves { Leaves linked.now out (act_here (setting linked.now out) (newest s.old.frames) instr.now) s.old left.new s.new }
-    ensures finishes { CanFinish linked.now left.new s.new }
-    ensures goes { result ≡ true → left.new ≡ Ok Goes }
-    ensures limit { s.new.given.limit ≡ s.old.given.limit }
+    requires { CanDispatch linked.now out instr.now s.old left.old }
+    ensures { DispatchesHere linked.now out instr.now s.old result left.new s.new }
 {
     match opcode_of(instr) {
         Some(op) => run_common(linked, s, op, instr, left),
-        None => run_byte_here(linked, s, instr, left),
+        None => run_byte_or_other(linked, s, instr, left),
     }
 }

@@ -1,10 +1,8 @@
 ghost use Rattle.std.specs.Prelude.{◌≡◌, true, length};
 ghost use Rattle.abc_run_calls.specs.Arguments.{IsKnown};
-ghost use Rattle.abc_run_values.specs.Here.{act_here};
+ghost use Rattle.abc_run_values.specs.Here.{RunsHere};
 ghost use Rattle.abc_run_values.specs.Ready.{CanRun};
-ghost use Rattle.abc_frames.specs.Frame.{newest};
-ghost use Rattle.abc_run_state.specs.Outer.{Outer, setting};
-ghost use Rattle.abc_run_state.specs.Turns.{Runs};
+ghost use Rattle.abc_run_state.specs.Outer.{Outer};
 ghost use Rattle.abc_file_types.specs.Opcodes.{is_in};
 ghost use Rattle.abc_file_types.specs.declared.code.Instr.TheVariants.{One};
 ghost use Rattle.abc_run_dispatch.specs.ScopeGroups.{find_ops};
@@ -12,6 +10,7 @@ ghost use Rattle.abc_run_dispatch.specs.ScopeGroups.{find_ops};
 use abc_link::Linked;
 use abc_run_members::{find_or_global, find_strictly, get_lexical};
 use abc_run_state::{State, Stop};
+use abc_run_values::op;
 
 /// What finds a name among the scopes.
 pub fn run_find(linked: &Linked, s: &mut State, op: u8, n: u32) -> Result<(), Stop>
@@ -20,13 +19,12 @@ pub fn run_find(linked: &Linked, s: &mut State, op: u8, n: u32) -> Result<(), St
     requires known { IsKnown linked.now s.old.given.limit }
     requires started { length s.old.started ≡ length linked.now.file.scripts }
     requires among { is_in op find_ops ≡ true }
-    ensures runs { Runs linked.now out (act_here (setting linked.now out) (newest s.old.frames) (One op n)) s.old result s.new }
-    ensures limit { s.new.given.limit ≡ s.old.given.limit }
+    ensures { RunsHere linked.now out (One op n) s.old result s.new }
 {
     match op {
-        0x5D => find_strictly(linked, s, n),
-        0x5E => find_or_global(linked, s, n),
-        0x60 => get_lexical(linked, s, n),
+        op::FINDPROPSTRICT => find_strictly(linked, s, n),
+        op::FINDPROPERTY => find_or_global(linked, s, n),
+        op::GETLEX => get_lexical(linked, s, n),
         _ => unreachable!(),
     }
 }

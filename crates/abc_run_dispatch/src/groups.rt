@@ -1,6 +1,9 @@
 ghost use Rattle.std.specs.Prelude.{◌≡◌, ◌<◌, ◌≤◌, true};
 ghost use Rattle.abc_run_dispatch.specs.StepGroups.{alone_ops, first_alone_ops, last_alone_ops, numbered_ops, ops_alone, ops_numbered, ops_paired, paired_ops, second_alone_ops};
 ghost use Rattle.abc_file_types.specs.Opcodes.{is_in};
+ghost use Rattle.abc_run_values.specs.declared.op.TheConstants.{SETPROPERTY};
+
+use abc_run_values::op;
 
 /// The groups of opcodes that stand alone.
 #[derive(Clone, Copy)]
@@ -43,75 +46,75 @@ pub(crate) enum Paired {
     Construct,
 }
 
-/// The group of an opcode below 0x70. (An arm for each opcode makes a table of the groups.)
+/// The group of an opcode below `convert_s`. (An arm for each opcode makes a table of the groups.)
 #[inline(always)]
 fn first_alone(op: u8) -> Alone
     requires { is_in op first_alone_ops ≡ true }
     ensures { is_in op (ops_alone result) ≡ true }
 {
     match op {
-        0x02 => Alone::Control,
-        0x03 => Alone::Control,
-        0x09 => Alone::Control,
-        0x1C => Alone::Control,
-        0x1D => Alone::Control,
-        0x1E => Alone::Walk,
-        0x1F => Alone::Walk,
-        0x23 => Alone::Walk,
-        0x30 => Alone::Control,
-        0x47 => Alone::Return,
-        0x48 => Alone::Return,
-        0x57 => Alone::Scope,
-        0x64 => Alone::Scope,
+        op::NOP => Alone::Control,
+        op::THROW => Alone::Control,
+        op::LABEL => Alone::Control,
+        op::PUSHWITH => Alone::Control,
+        op::POPSCOPE => Alone::Control,
+        op::NEXTNAME => Alone::Walk,
+        op::HASNEXT => Alone::Walk,
+        op::NEXTVALUE => Alone::Walk,
+        op::PUSHSCOPE => Alone::Control,
+        op::RETURNVOID => Alone::Return,
+        op::RETURNVALUE => Alone::Return,
+        op::NEWACTIVATION => Alone::Scope,
+        op::GETGLOBALSCOPE => Alone::Scope,
         _ => Alone::Push,
     }
 }
 
-/// The group of an opcode from 0x70 to 0x9F.
+/// The group of an opcode from `convert_s` on, below `add`.
 #[inline(always)]
 fn second_alone(op: u8) -> Alone
     requires { is_in op second_alone_ops ≡ true }
     ensures { is_in op (ops_alone result) ≡ true }
 {
     match op {
-        0x87 => Alone::Late,
-        0x90 => Alone::Single,
-        0x91 => Alone::Single,
-        0x93 => Alone::Single,
-        0x95 => Alone::Single,
-        0x96 => Alone::Single,
-        0x97 => Alone::Single,
+        op::ASTYPELATE => Alone::Late,
+        op::NEGATE => Alone::Single,
+        op::INCREMENT => Alone::Single,
+        op::DECREMENT => Alone::Single,
+        op::TYPEOF => Alone::Single,
+        op::NOT => Alone::Single,
+        op::BITNOT => Alone::Single,
         _ => Alone::Convert,
     }
 }
 
-/// The group of an opcode from 0xA0 on.
+/// The group of an opcode from `add` on.
 #[inline(always)]
 fn last_alone(op: u8) -> Alone
     requires { is_in op last_alone_ops ≡ true }
     ensures { is_in op (ops_alone result) ≡ true }
 {
     match op {
-        0xAB => Alone::Comparison,
-        0xAC => Alone::Comparison,
-        0xAD => Alone::Comparison,
-        0xAE => Alone::Comparison,
-        0xAF => Alone::Comparison,
-        0xB0 => Alone::Comparison,
-        0xB1 => Alone::Late,
-        0xB3 => Alone::Late,
-        0xB4 => Alone::Late,
-        0xC0 => Alone::Single,
-        0xC1 => Alone::Single,
-        0xC4 => Alone::Single,
-        0xD0 => Alone::Local,
-        0xD1 => Alone::Local,
-        0xD2 => Alone::Local,
-        0xD3 => Alone::Local,
-        0xD4 => Alone::Local,
-        0xD5 => Alone::Local,
-        0xD6 => Alone::Local,
-        0xD7 => Alone::Local,
+        op::EQUALS => Alone::Comparison,
+        op::STRICTEQUALS => Alone::Comparison,
+        op::LESSTHAN => Alone::Comparison,
+        op::LESSEQUALS => Alone::Comparison,
+        op::GREATERTHAN => Alone::Comparison,
+        op::GREATEREQUALS => Alone::Comparison,
+        op::INSTANCEOF => Alone::Late,
+        op::ISTYPELATE => Alone::Late,
+        op::IN => Alone::Late,
+        op::INCREMENT_I => Alone::Single,
+        op::DECREMENT_I => Alone::Single,
+        op::NEGATE_I => Alone::Single,
+        op::GETLOCAL_0 => Alone::Local,
+        op::GETLOCAL_1 => Alone::Local,
+        op::GETLOCAL_2 => Alone::Local,
+        op::GETLOCAL_3 => Alone::Local,
+        op::SETLOCAL_0 => Alone::Local,
+        op::SETLOCAL_1 => Alone::Local,
+        op::SETLOCAL_2 => Alone::Local,
+        op::SETLOCAL_3 => Alone::Local,
         _ => Alone::Double,
     }
 }
@@ -122,8 +125,8 @@ pub(crate) fn group_alone(op: u8) -> Alone
     requires { is_in op alone_ops ≡ true }
     ensures { is_in op (ops_alone result) ≡ true }
 {
-    if op < 0xA0 {
-        if op < 0x70 {
+    if op < op::ADD {
+        if op < op::CONVERT_S {
             first_alone(op)
         } else {
             second_alone(op)
@@ -133,52 +136,52 @@ pub(crate) fn group_alone(op: u8) -> Alone
     }
 }
 
-/// The group of an opcode with one number, below 0x61.
+/// The group of an opcode with one number, below `setproperty`.
 #[inline(always)]
 fn first_numbered(op: u8) -> Numbered
     requires among { is_in op numbered_ops ≡ true }
-    requires below { op < 0x61 }
+    requires below { op < SETPROPERTY }
     ensures { is_in op (ops_numbered result) ≡ true }
 {
     match op {
-        0x04 => Numbered::Super,
-        0x05 => Numbered::Super,
-        0x40 => Numbered::New,
-        0x41 => Numbered::Call,
-        0x42 => Numbered::Construct,
-        0x49 => Numbered::Super,
-        0x55 => Numbered::New,
-        0x56 => Numbered::New,
-        0x58 => Numbered::Class,
-        0x5A => Numbered::New,
-        0x5D => Numbered::Find,
-        0x5E => Numbered::Find,
-        0x60 => Numbered::Find,
+        op::GETSUPER => Numbered::Super,
+        op::SETSUPER => Numbered::Super,
+        op::NEWFUNCTION => Numbered::New,
+        op::CALL => Numbered::Call,
+        op::CONSTRUCT => Numbered::Construct,
+        op::CONSTRUCTSUPER => Numbered::Super,
+        op::NEWOBJECT => Numbered::New,
+        op::NEWARRAY => Numbered::New,
+        op::NEWCLASS => Numbered::Class,
+        op::NEWCATCH => Numbered::New,
+        op::FINDPROPSTRICT => Numbered::Find,
+        op::FINDPROPERTY => Numbered::Find,
+        op::GETLEX => Numbered::Find,
         _ => Numbered::Constant,
     }
 }
 
-/// The group of an opcode with one number, from 0x61 on.
+/// The group of an opcode with one number, from `setproperty` on.
 #[inline(always)]
 fn last_numbered(op: u8) -> Numbered
     requires among { is_in op numbered_ops ≡ true }
-    requires from { 0x61 ≤ op }
+    requires from { SETPROPERTY ≤ op }
     ensures { is_in op (ops_numbered result) ≡ true }
 {
     match op {
-        0x61 => Numbered::Property,
-        0x66 => Numbered::Property,
-        0x68 => Numbered::Property,
-        0x6A => Numbered::Property,
-        0x6C => Numbered::Slot,
-        0x6D => Numbered::Slot,
-        0x80 => Numbered::Typed,
-        0x86 => Numbered::Typed,
-        0x92 => Numbered::Count,
-        0x94 => Numbered::Count,
-        0xB2 => Numbered::Typed,
-        0xC2 => Numbered::Count,
-        0xC3 => Numbered::Count,
+        op::SETPROPERTY => Numbered::Property,
+        op::GETPROPERTY => Numbered::Property,
+        op::INITPROPERTY => Numbered::Property,
+        op::DELETEPROPERTY => Numbered::Property,
+        op::GETSLOT => Numbered::Slot,
+        op::SETSLOT => Numbered::Slot,
+        op::COERCE => Numbered::Typed,
+        op::ASTYPE => Numbered::Typed,
+        op::INCLOCAL => Numbered::Count,
+        op::DECLOCAL => Numbered::Count,
+        op::ISTYPE => Numbered::Typed,
+        op::INCLOCAL_I => Numbered::Count,
+        op::DECLOCAL_I => Numbered::Count,
         _ => Numbered::Constant,
     }
 }
@@ -189,7 +192,7 @@ pub(crate) fn group_numbered(op: u8) -> Numbered
     requires { is_in op numbered_ops ≡ true }
     ensures { is_in op (ops_numbered result) ≡ true }
 {
-    if op < 0x61 {
+    if op < op::SETPROPERTY {
         first_numbered(op)
     } else {
         last_numbered(op)
@@ -203,9 +206,9 @@ pub(crate) fn group_paired(op: u8) -> Paired
     ensures { is_in op (ops_paired result) ≡ true }
 {
     match op {
-        0x32 => Paired::Next,
-        0x4A => Paired::Construct,
-        0x46 | 0x4C | 0x4F => Paired::PropertyCall,
+        op::HASNEXT2 => Paired::Next,
+        op::CONSTRUCTPROP => Paired::Construct,
+        op::CALLPROPERTY | op::CALLPROPLEX | op::CALLPROPVOID => Paired::PropertyCall,
         _ => Paired::SuperCall,
     }
 }

@@ -59,7 +59,8 @@ fn instr_here<'a>(linked: &'a Linked, s: &State, held: &Held<'a>) -> &'a Instr
     requires can { CanStep linked.now out s.now }
     requires held { IsHeld linked.now held.now }
     requires method { held.now.method ≡ (newest s.now.frames).method }
-    ensures { (r : Routine) → routine_of (setting linked.now out) (newest s.now.frames).method ≡ Some r → slice_get r.code (newest s.now.frames).place ≡ Some result.now }
+    ensures { (r : Routine) → routine_of (setting linked.now out) (newest s.now.frames).method ≡ Some r →
+        slice_get r.code (newest s.now.frames).place ≡ Some result.now }
 {
     let _ = linked;
     &held.code[s.frames.place() as usize]

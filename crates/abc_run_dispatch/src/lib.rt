@@ -29,7 +29,6 @@ mod making;
 mod new_here;
 mod parts;
 mod properties;
-mod quick;
 mod scopes_here;
 mod scoping;
 mod slots;

@@ -1,25 +1,24 @@
 ghost use Rattle.std.specs.Prelude.{◌≡◌, true};
 ghost use Rattle.abc_run_dispatch.specs.NewGroups.{scope_ops};
-ghost use Rattle.abc_run_values.specs.Here.{act_here};
+ghost use Rattle.abc_run_values.specs.Here.{RunsHere};
 ghost use Rattle.abc_run_values.specs.Ready.{CanRun};
-ghost use Rattle.abc_frames.specs.Frame.{newest};
-ghost use Rattle.abc_run_state.specs.Outer.{Outer, setting};
-ghost use Rattle.abc_run_state.specs.Turns.{Runs};
+ghost use Rattle.abc_run_state.specs.Outer.{Outer};
 ghost use Rattle.abc_file_types.specs.Opcodes.{is_in};
 ghost use Rattle.abc_file_types.specs.declared.code.Instr.TheVariants.{Plain};
+ghost use Rattle.abc_run_values.specs.declared.op.TheConstants.{GETGLOBALSCOPE, NEWACTIVATION};
 
 use crate::new_here::body_here;
 use abc_frames::push;
 use abc_link::Linked;
 use abc_run_calls::global_of;
 use abc_run_state::{State, Stop, new_activation};
+use abc_run_values::op;
 
 /// `newactivation`, of the method that runs.
 fn make_activation(linked: &Linked, s: &mut State) -> Result<(), Stop>
     ghost out: { Outer }
-    requires run { CanRun linked.now out s.old (Plain 0x57) }
-    ensures runs { Runs linked.now out (act_here (setting linked.now out) (newest s.old.frames) (Plain 0x57)) s.old result s.new }
-    ensures limit { s.new.given.limit ≡ s.old.given.limit }
+    requires { CanRun linked.now out s.old (Plain NEWACTIVATION) }
+    ensures { RunsHere linked.now out (Plain NEWACTIVATION) s.old result s.new }
 {
     let body = body_here(linked, s);
     new_activation(linked, s, body)
@@ -28,9 +27,8 @@ fn make_activation(linked: &Linked, s: &mut State) -> Result<(), Stop>
 /// `getglobalscope`: the global object of the script in which the method was made.
 fn push_global(linked: &Linked, s: &mut State) -> Result<(), Stop>
     ghost out: { Outer }
-    requires run { CanRun linked.now out s.old (Plain 0x64) }
-    ensures runs { Runs linked.now out (act_here (setting linked.now out) (newest s.old.frames) (Plain 0x64)) s.old result s.new }
-    ensures limit { s.new.given.limit ≡ s.old.given.limit }
+    requires { CanRun linked.now out s.old (Plain GETGLOBALSCOPE) }
+    ensures { RunsHere linked.now out (Plain GETGLOBALSCOPE) s.old result s.new }
 {
     let home = s.frames.home();
     let global = global_of(linked, s, home);
@@ -43,12 +41,11 @@ pub fn run_scope(linked: &Linked, s: &mut State, op: u8) -> Result<(), Stop>
     ghost out: { Outer }
     requires run { CanRun linked.now out s.old (Plain op) }
     requires among { is_in op scope_ops ≡ true }
-    ensures runs { Runs linked.now out (act_here (setting linked.now out) (newest s.old.frames) (Plain op)) s.old result s.new }
-    ensures limit { s.new.given.limit ≡ s.old.given.limit }
+    ensures { RunsHere linked.now out (Plain op) s.old result s.new }
 {
     match op {
-        0x57 => make_activation(linked, s),
-        0x64 => push_global(linked, s),
+        op::NEWACTIVATION => make_activation(linked, s),
+        op::GETGLOBALSCOPE => push_global(linked, s),
         _ => unreachable!(),
     }
 }

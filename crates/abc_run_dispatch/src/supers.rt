@@ -2,20 +2,20 @@ ghost use Rattle.std.specs.Prelude.{◌≡◌, ◌+◌, ◌<◌, ◌^◌, true};
 ghost use Rattle.abc_run_calls.specs.Calls.{CanFinish};
 ghost use Rattle.abc_run_calls.specs.Arguments.{IsKnown};
 ghost use Rattle.abc_run_members.specs.Members.{parts_at};
-ghost use Rattle.abc_run_values.specs.Here.{act_here};
+ghost use Rattle.abc_run_values.specs.Here.{LeavesHere, RunsHere};
 ghost use Rattle.abc_run_values.specs.Ready.{CanRun};
-ghost use Rattle.abc_frames.specs.Frame.{newest};
 ghost use Rattle.abc_run_state.specs.Outer.{Outer, setting};
-ghost use Rattle.abc_run_state.specs.Turns.{Leaves, Runs};
 ghost use Rattle.abc_file_types.specs.Opcodes.{is_in};
 ghost use Rattle.abc_file_types.specs.declared.code.Instr.TheVariants.{One, Two};
 ghost use Rattle.abc_run_dispatch.specs.ScopeGroups.{super_call_ops, super_ops};
+ghost use Rattle.abc_run_values.specs.declared.op.TheConstants.{CALLSUPER, CALLSUPERVOID, CONSTRUCTSUPER, GETSUPER, SETSUPER};
 
 use crate::scopes_here::{class_here, layout_here};
 use abc_link::Linked;
 use abc_run_members::{call_super, construct_super, get_super, set_super};
 use abc_run_names::parts_of;
 use abc_run_state::{How, Left, State, Stop};
+use abc_run_values::op;
 
 /// How many operands a call by a name takes: its arguments, the parts of the name, and the receiver.
 fn taken_with(linked: &Linked, n: u32, count: u32) -> u32
@@ -28,10 +28,9 @@ fn taken_with(linked: &Linked, n: u32, count: u32) -> u32
 /// `getsuper`, from the base of the class on whose instances the method runs.
 fn read_super(linked: &Linked, s: &mut State, n: u32) -> Result<(), Stop>
     ghost out: { Outer }
-    requires run { CanRun linked.now out s.old (One 0x04 n) }
+    requires run { CanRun linked.now out s.old (One GETSUPER n) }
     requires known { IsKnown linked.now s.old.given.limit }
-    ensures runs { Runs linked.now out (act_here (setting linked.now out) (newest s.old.frames) (One 0x04 n)) s.old result s.new }
-    ensures limit { s.new.given.limit ≡ s.old.given.limit }
+    ensures { RunsHere linked.now out (One GETSUPER n) s.old result s.new }
 {
     let from = layout_here(linked, s);
     get_super(linked, s, n, from)
@@ -40,10 +39,9 @@ fn read_super(linked: &Linked, s: &mut State, n: u32) -> Result<(), Stop>
 /// `setsuper`, from the same base.
 fn write_super(linked: &Linked, s: &mut State, n: u32) -> Result<(), Stop>
     ghost out: { Outer }
-    requires run { CanRun linked.now out s.old (One 0x05 n) }
+    requires run { CanRun linked.now out s.old (One SETSUPER n) }
     requires known { IsKnown linked.now s.old.given.limit }
-    ensures runs { Runs linked.now out (act_here (setting linked.now out) (newest s.old.frames) (One 0x05 n)) s.old result s.new }
-    ensures limit { s.new.given.limit ≡ s.old.given.limit }
+    ensures { RunsHere linked.now out (One SETSUPER n) s.old result s.new }
 {
     let from = layout_here(linked, s);
     set_super(linked, s, n, from)
@@ -52,10 +50,9 @@ fn write_super(linked: &Linked, s: &mut State, n: u32) -> Result<(), Stop>
 /// `constructsuper`, in the maker of a class.
 fn make_super(linked: &Linked, s: &mut State, count: u32) -> Result<(), Stop>
     ghost out: { Outer }
-    requires run { CanRun linked.now out s.old (One 0x49 count) }
+    requires run { CanRun linked.now out s.old (One CONSTRUCTSUPER count) }
     requires known { IsKnown linked.now s.old.given.limit }
-    ensures runs { Runs linked.now out (act_here (setting linked.now out) (newest s.old.frames) (One 0x49 count)) s.old result s.new }
-    ensures limit { s.new.given.limit ≡ s.old.given.limit }
+    ensures { RunsHere linked.now out (One CONSTRUCTSUPER count) s.old result s.new }
 {
     let class = class_here(linked, s);
     construct_super(linked, s, class, count)
@@ -67,13 +64,12 @@ pub fn run_super(linked: &Linked, s: &mut State, op: u8, n: u32) -> Result<(), S
     requires run { CanRun linked.now out s.old (One op n) }
     requires known { IsKnown linked.now s.old.given.limit }
     requires among { is_in op super_ops ≡ true }
-    ensures runs { Runs linked.now out (act_here (setting linked.now out) (newest s.old.frames) (One op n)) s.old result s.new }
-    ensures limit { s.new.given.limit ≡ s.old.given.limit }
+    ensures { RunsHere linked.now out (One op n) s.old result s.new }
 {
     match op {
-        0x04 => read_super(linked, s, n),
-        0x05 => write_super(linked, s, n),
-        0x49 => make_super(linked, s, n),
+        op::GETSUPER => read_super(linked, s, n),
+        op::SETSUPER => write_super(linked, s, n),
+        op::CONSTRUCTSUPER => make_super(linked, s, n),
         _ => unreachable!(),
     }
 }
@@ -81,11 +77,10 @@ pub fn run_super(linked: &Linked, s: &mut State, op: u8, n: u32) -> Result<(), S
 /// `callsuper`: what comes is pushed.
 fn call_pushing(linked: &Linked, s: &mut State, n: u32, count: u32) -> Result<Left, Stop>
     ghost out: { Outer }
-    requires run { CanRun linked.now out s.old (Two 0x45 n count) }
+    requires run { CanRun linked.now out s.old (Two CALLSUPER n count) }
     requires known { IsKnown linked.now s.old.given.limit }
-    ensures leaves { Leaves linked.now out (act_here (setting linked.now out) (newest s.old.frames) (Two 0x45 n count)) s.old result s.new }
+    ensures leaves { LeavesHere linked.now out (Two CALLSUPER n count) s.old result s.new }
     ensures finishes { CanFinish linked.now result s.new }
-    ensures limit { s.new.given.limit ≡ s.old.given.limit }
 {
     let from = layout_here(linked, s);
     let taken = taken_with(linked, n, count);
@@ -95,11 +90,10 @@ fn call_pushing(linked: &Linked, s: &mut State, n: u32, count: u32) -> Result<Le
 /// `callsupervoid`: what comes is dropped.
 fn call_dropping(linked: &Linked, s: &mut State, n: u32, count: u32) -> Result<Left, Stop>
     ghost out: { Outer }
-    requires run { CanRun linked.now out s.old (Two 0x4E n count) }
+    requires run { CanRun linked.now out s.old (Two CALLSUPERVOID n count) }
     requires known { IsKnown linked.now s.old.given.limit }
-    ensures leaves { Leaves linked.now out (act_here (setting linked.now out) (newest s.old.frames) (Two 0x4E n count)) s.old result s.new }
+    ensures leaves { LeavesHere linked.now out (Two CALLSUPERVOID n count) s.old result s.new }
     ensures finishes { CanFinish linked.now result s.new }
-    ensures limit { s.new.given.limit ≡ s.old.given.limit }
 {
     let from = layout_here(linked, s);
     let taken = taken_with(linked, n, count);
@@ -118,13 +112,12 @@ pub fn run_super_call(
     requires run { CanRun linked.now out s.old (Two op n count) }
     requires known { IsKnown linked.now s.old.given.limit }
     requires among { is_in op super_call_ops ≡ true }
-    ensures leaves { Leaves linked.now out (act_here (setting linked.now out) (newest s.old.frames) (Two op n count)) s.old result s.new }
+    ensures leaves { LeavesHere linked.now out (Two op n count) s.old result s.new }
     ensures finishes { CanFinish linked.now result s.new }
-    ensures limit { s.new.given.limit ≡ s.old.given.limit }
 {
     match op {
-        0x45 => call_pushing(linked, s, n, count),
-        0x4E => call_dropping(linked, s, n, count),
+        op::CALLSUPER => call_pushing(linked, s, n, count),
+        op::CALLSUPERVOID => call_dropping(linked, s, n, count),
         _ => unreachable!(),
     }
 }

@@ -1,5 +1,5 @@
 -- What is done at once by a name of which no part comes at run time.
-use Rattle.std.proofs.Common.{◌≡◌, ℕ, ◌+◌, [], ◌∷◌, Bool, true, false, cond, refl, sym, ap, ◌∙◌, subst, arith}
+use Rattle.std.proofs.Common.{◌≡◌, ℕ, ◌+◌, [], ◌∷◌, Bool, true, false, cond, refl, sym, ap, ◌∙◌, arith}
 use Rattle.std.specs.Prelude.{Some, None}
 use Rattle.std.specs.declared.option.Option.{Option}
 use Rattle.abc_run_calls.specs.Calls.{settled_by}
@@ -15,7 +15,6 @@ use Rattle.abc_meaning.specs.Names.{named}
 use Rattle.abc_run_names.specs.Named.{form_at, parts_count, parts_for}
 use Rattle.abc_objects.specs.Values.{IsObject}
 use Rattle.abc_link_program.specs.declared.types.Owner.{Owner}
-use Rattle.abc_link_program.specs.Linked.{LinkedFile}
 use Rattle.abc_heap_search.specs.Candidates.{layout_at}
 use Rattle.abc_heap_search.specs.ElementNames.{element_name}
 use Rattle.abc_heap_search.specs.declared.found.Found.{Found}
@@ -24,18 +23,14 @@ use Rattle.abc_heap_search.specs.declared.found.Want.TheVariants.{Read, Write}
 use Rattle.abc_heap_search.specs.declared.name.Name.{Name}
 use Rattle.abc_heap_search.specs.declared.name.Spaces.{Spaces}
 use Rattle.abc_frames.specs.Frame.{Frame, arguments}
-use Rattle.abc_meaning.specs.At.{Act}
 use Rattle.abc_run_state.specs.Operands.{operand_at}
-use Rattle.abc_run_state.specs.Outer.{Outer, setting, world}
 use Rattle.abc_run_state.specs.Settling.{settles}
-use Rattle.abc_run_state.specs.Turns.{turned}
-use Rattle.abc_run_state.specs.declared.state.State.{State}
 use Rattle.abc_run_state.specs.declared.state.How.{How}
 use Rattle.abc_run_state.specs.declared.state.How.TheVariants.{Drop, Push}
 use Rattle.abc_meaning.specs.Calling.{Came, Got, got}
 use Rattle.abc_meaning.specs.Members.{calls_name, is_dynamic, read_found, reads, writes_to}
 use Rattle.abc_meaning.specs.Setting.{NameForm, NoText, Setting, Whole}
-use Rattle.abc_meaning.specs.World.{Outcome, Run, Went, World, and_then, ◌>>=◌}
+use Rattle.abc_meaning.specs.World.{Outcome, Went, World, and_then, ◌>>=◌}
 use Rattle.abc_run_members.specs.Members.{calls_named, enters_found, gets_named, puts_own, puts_top, receiver_of, sets_named}
 use Rattle.abc_run_members.proofs.Cases.{calls_as, method_at, missing_written, public_kept, reads_as, writes_as}
 use Rattle.abc_run_members.proofs.Searched.{property_first}

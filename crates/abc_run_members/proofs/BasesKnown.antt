@@ -1,16 +1,14 @@
 -- The base of a class, by the layouts of the file, and its prototype.
-use Rattle.std.proofs.Common.{◌≡◌, ◌≢◌, ◌∙◌, ℕ, zero, suc, ◌<◌, true, false, List, [], ◌∷◌, length, refl, sym, ap, subst, arith, Bool, eq-eqb, ne_eqb, if◌then◌else◌}
-use Rattle.std.specs.Prelude.{Some, None, get_or, nat_eq, slice_get, unwrap_or}
+use Rattle.std.proofs.Common.{◌≡◌, ◌≢◌, ◌∙◌, ℕ, ◌<◌, true, false, length, sym, ap, subst, Bool, eq-eqb, ne_eqb, if◌then◌else◌}
+use Rattle.std.specs.Prelude.{Some, None, unwrap_or}
 use Rattle.std.specs.declared.option.Option.{Option}
 use Rattle.abc_base.specs.declared.names.HostClass.TheVariants as hosts
 use Rattle.abc_heap_values.specs.declared.values.ObjId.{ObjId}
 use Rattle.abc_heap_values.specs.declared.values.Value.{Value}
 use Rattle.abc_heap_values.specs.declared.values.Value.TheVariants.{Obj}
 use Rattle.std.proofs.lemmas.Bool.{false≢true}
-use Rattle.abc_link_program.proofs.ClassBases.{bases_known, named_base}
+use Rattle.abc_link_program.proofs.ClassBases.{bases_known}
 use Rattle.abc_link_names.specs.Bases.{base_named, is_some_class}
-use Rattle.abc_link_names.specs.Instances.{instance_at}
-use Rattle.abc_link_names.specs.Meaning.{resolve}
 use Rattle.abc_link_names.specs.declared.named.Named.{Named}
 use Rattle.abc_link_names.specs.declared.named.Named.TheVariants as named
 use Rattle.abc_objects.specs.Stands.{prototype_of}
@@ -22,11 +20,9 @@ use Rattle.abc_link_program.specs.Places.{place_under}
 use Rattle.abc_link_program.specs.declared.part.Part.{Part}
 use Rattle.abc_link_program.specs.declared.part.Part.TheVariants as parts
 use Rattle.abc_link_program.specs.ClassBases.{BaseKnown}
-use Rattle.abc_frames.specs.Frame.{Frame}
-use Rattle.abc_meaning.specs.Newing.{is_that, unmade}
-use Rattle.abc_meaning.specs.Setting.{Setting}
+use Rattle.abc_meaning.specs.Newing.{is_that}
 use Rattle.abc_meaning.specs.Making.{prototype_in}
-use Rattle.abc_meaning.specs.World.{Errs, Outcome, Run, Stopped, Went, World, and_then, see, throws}
+use Rattle.abc_meaning.specs.World.{Errs, Outcome, Run, Stopped, Went, World, see, throws}
 use Rattle.abc_run_members.specs.declared.bases.Base.{Base}
 use Rattle.abc_run_members.specs.declared.bases.Base.TheVariants as bases
 use Rattle.abc_run_members.specs.Based.{IsBase, IsClassPart, named_of}

@@ -1,5 +1,5 @@
 -- What is found above a class is a declared trait's.
-use Rattle.std.proofs.Common.{◌≡◌, inl, inr, ℕ, ◌<◌, Bool, true, false, List, [], ◌∷◌, ◌++◌, cond, length, map, refl, sym, subst, arith}
+use Rattle.std.proofs.Common.{inl, inr, ℕ, ◌<◌, Bool, true, false, List, [], ◌∷◌, ◌++◌, cond, length, map, refl, sym, subst, arith}
 use Rattle.std.specs.Prelude.{Some}
 use Rattle.std.specs.List.{list_any}
 use Rattle.abc_heap_values.specs.declared.values.ObjId.{ObjId}
@@ -7,7 +7,7 @@ use Rattle.abc_heap_store.specs.Heap.{Heap, object_at}
 use Rattle.abc_base_graphs.specs.Ways.{before, way}
 use Rattle.abc_link_program.specs.Linked.{IsLinkedFile, LinkedFile, above, base}
 use Rattle.abc_link_program.proofs.Tree.{above_le}
-use Rattle.abc_heap_search.specs.Candidates.{Candidate, OfElement, OfLength, OfProperty, OfTrait, answer, fits, found, found_as, traits, traits_after}
+use Rattle.abc_heap_search.specs.Candidates.{Candidate, OfElement, OfLength, OfProperty, OfTrait, fits, found, found_as, traits, traits_after}
 use Rattle.abc_heap_search.specs.Laws.{AnswersTheFirst}
 use Rattle.abc_heap_search.specs.Results.{skip_for}
 use Rattle.abc_heap_search.specs.Searches.{declared_found}

@@ -1,6 +1,6 @@
 -- What a search in scopes finds is there.
-use Rattle.std.proofs.Common.{◌≡◌, ◌⊎◌, inl, inr, ℕ, zero, suc, ◌+◌, ◌<◌, Bool, true, false, List, [], ◌∷◌, ◌++◌, length, map, reverse, refl, sym, subst, arith}
-use Rattle.std.specs.Prelude.{Some, None, get_or, slice_get, if◌then◌else◌}
+use Rattle.std.proofs.Common.{◌≡◌, inl, inr, ℕ, zero, suc, ◌+◌, ◌<◌, Bool, true, false, List, [], ◌∷◌, ◌++◌, length, map, reverse, refl, sym, subst, arith}
+use Rattle.std.specs.Prelude.{Some, None, get_or, if◌then◌else◌}
 use Rattle.std.specs.declared.option.Option.{Option}
 use Rattle.std.specs.List.{range_with_len}
 use Rattle.std.proofs.lemmas.Option.{slice_get-get_or}
@@ -16,9 +16,8 @@ use Rattle.abc_objects.proofs.Opened.{global_made, host_made}
 use Rattle.abc_link_program.specs.Linked.{LinkedFile}
 use Rattle.abc_heap_search.specs.Laws.{FindsTheFirstPlace}
 use Rattle.abc_heap_search.specs.Objects.{global_number}
-use Rattle.abc_heap_search.specs.Scopes.{InHost, InScope, InScript, Place, has, no_node, node_at, parent_at, places, saved_places, scope_named, scope_number}
+use Rattle.abc_heap_search.specs.Scopes.{InHost, InScope, InScript, Place, no_node, node_at, parent_at, places, saved_places, scope_named, scope_number}
 use Rattle.abc_heap_search.specs.Searches.{found_in_scopes}
-use Rattle.abc_heap_search.specs.declared.found.ScopeFound.{ScopeFound}
 use Rattle.abc_heap_search.specs.declared.found.ScopeFound.TheVariants as results
 use Rattle.abc_heap_search.specs.declared.name.Name.{Name}
 use Rattle.abc_verify_typing.specs.Lists.{Each}

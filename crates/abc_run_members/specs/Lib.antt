@@ -4,3 +4,4 @@ pub mod Members
 pub mod Scoped
 pub mod AtOnce
 pub mod Supers
+pub mod Doing

@@ -15,7 +15,8 @@ use Rattle.abc_heap_search.specs.declared.found.Found.TheVariants.{Method, Missi
 use Rattle.abc_heap_search.specs.declared.name.Name.{Name}
 use Rattle.abc_frames.specs.Frame.{Frame, arguments, dropped_under, waiting}
 use Rattle.abc_frames.specs.declared.records.Wait.TheVariants.{New}
-use Rattle.abc_run_calls.specs.Calls.{settled_by}
+use Rattle.abc_run_calls.specs.Calls.{calls_value, makes_value, settled_by}
+use Rattle.abc_run_members.specs.AtOnce.{how_for}
 use Rattle.abc_run_names.specs.Named.{form_at, named_here, parts_count}
 use Rattle.abc_run_state.specs.declared.state.How.{How}
 use Rattle.abc_run_state.specs.declared.state.How.TheVariants.{Drop, Push}
@@ -154,6 +155,17 @@ receiver_of lexical v = if lexical then Null else v
 
 abbrev pub calls_named : Setting → ℕ → (count : ℕ) → (lexical : Bool) → How → Frame → Run Act
 calls_named p n count lexical how f = settled_by how f (named_here p n count f >>= λ name. calls_name p (holder_under p n count f) (receiver_of lexical (holder_under p n count f)) name (arguments count f))
+
+-- `call`, `construct`, and callproperty with its two like, of which one drops what comes
+
+abbrev pub calls_operand : Setting → (count : ℕ) → Frame → Run Act
+calls_operand p count f = calls_value p (operand_at (count + 1) f) (operand_at count f) count (Push (count + 2)) f
+
+abbrev pub constructs_operand : Setting → (count : ℕ) → Frame → Run Act
+constructs_operand p count f = makes_value p (operand_at count f) count (Push (count + 1)) f
+
+abbrev pub calls_property : Setting → ℕ → (count : ℕ) → (lexical drops : Bool) → Frame → Run Act
+calls_property p n count lexical drops f = calls_named p n count lexical (how_for drops (count + parts_at p n + 1)) f
 
 abbrev pub constructs_named : Setting → ℕ → (count : ℕ) → Frame → Run Act
 constructs_named p n count f = named_here p n count f >>= reads p (holder_under p n count f) >>= constructs_of p (parts_at p n + 1) count f

@@ -1,12 +1,9 @@
 ghost use Rattle.std.specs.Prelude.{◌≡◌, ◌<◌, ◌^◌, None, get_or, length};
 ghost use Rattle.abc_frames.specs.Ready.{IsReady};
 ghost use Rattle.abc_frames.specs.Frame.{newest};
-ghost use Rattle.abc_run_calls.specs.Arguments.{IsKnown};
-ghost use Rattle.abc_run_state.specs.Outer.{Outer, setting, world};
-ghost use Rattle.abc_run_state.specs.Standing.{IsSet};
-ghost use Rattle.abc_run_state.specs.Stops.{IsOpen};
-ghost use Rattle.abc_run_state.specs.Turns.{Runs};
+ghost use Rattle.abc_run_state.specs.Outer.{Outer};
 ghost use Rattle.abc_run_members.specs.Scoped.{enters_class, makes_class, makes_unmade};
+ghost use Rattle.abc_run_members.specs.Doing.{CanDo, Does};
 
 use crate::bases::{base_of, base_prototype};
 use abc_base::HostClass;
@@ -19,13 +16,10 @@ use abc_run_state::{State, Stop, make_class, operand};
 /// The initializer of a class is run on its class object, which is pushed at the return.
 fn enter_class(linked: &Linked, s: &mut State, class: u32, made: ObjId) -> Result<(), Stop>
     ghost out: { Outer }
-    requires set { IsSet linked.now s.old }
-    requires known { IsKnown linked.now s.old.given.limit }
+    requires can { CanDo linked.now out (λ p. enters_class p class made) s.old }
     requires ready { IsReady 1 1 s.old.frames }
     requires class { class < length linked.now.file.instances }
-    requires free { IsOpen (enters_class (setting linked.now out) class made (newest s.old.frames) (world s.old out)) }
-    ensures runs { Runs linked.now out (enters_class (setting linked.now out) class made (newest s.old.frames)) s.old result s.new }
-    ensures limit { s.new.given.limit ≡ s.old.given.limit }
+    ensures { Does linked.now out (λ p. enters_class p class made) s.old result s.new }
 {
     linked.linked_law();
     let cinit = linked.abc().classes.get(class as usize).cinit;
@@ -36,15 +30,12 @@ fn enter_class(linked: &Linked, s: &mut State, class: u32, made: ObjId) -> Resul
 /// A class that is not made yet is made, and its initializer is run.
 fn make_unmade(linked: &Linked, s: &mut State, class: u32) -> Result<(), Stop>
     ghost out: { Outer }
-    requires set { IsSet linked.now s.old }
-    requires known { IsKnown linked.now s.old.given.limit }
+    requires can { CanDo linked.now out (λ p. makes_unmade p class) s.old }
     requires ready { IsReady 1 1 s.old.frames }
     requires class { class < length linked.now.file.instances }
     requires first { get_or s.old.arena.classes class None ≡ None }
     requires few { length (newest s.old.frames).scopes < 2 ^ 32 }
-    requires free { IsOpen (makes_unmade (setting linked.now out) class (newest s.old.frames) (world s.old out)) }
-    ensures runs { Runs linked.now out (makes_unmade (setting linked.now out) class (newest s.old.frames)) s.old result s.new }
-    ensures limit { s.new.given.limit ≡ s.old.given.limit }
+    ensures { Does linked.now out (λ p. makes_unmade p class) s.old result s.new }
 {
     let v = operand(&s.frames, 0);
     let base = base_of(linked, class);
@@ -56,14 +47,11 @@ fn make_unmade(linked: &Linked, s: &mut State, class: u32) -> Result<(), Stop>
 /// `newclass`: the class is made, once, and then its initializer is run on it; what is pushed at the return is the class object.
 pub fn new_class(linked: &Linked, s: &mut State, class: u32) -> Result<(), Stop>
     ghost out: { Outer }
-    requires set { IsSet linked.now s.old }
-    requires known { IsKnown linked.now s.old.given.limit }
+    requires can { CanDo linked.now out (λ p. makes_class p class) s.old }
     requires ready { IsReady 1 1 s.old.frames }
     requires class { class < length linked.now.file.instances }
     requires few { length (newest s.old.frames).scopes < 2 ^ 32 }
-    requires free { IsOpen (makes_class (setting linked.now out) class (newest s.old.frames) (world s.old out)) }
-    ensures runs { Runs linked.now out (makes_class (setting linked.now out) class (newest s.old.frames)) s.old result s.new }
-    ensures limit { s.new.given.limit ≡ s.old.given.limit }
+    ensures { Does linked.now out (λ p. makes_class p class) s.old result s.new }
 {
     match s.arena.class_object(class) {
         Some(_) => Err(Stop::Errs(HostClass::TypeError)),

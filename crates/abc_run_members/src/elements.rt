@@ -11,8 +11,8 @@ ghost use Rattle.abc_run_names.specs.Named.{form_at};
 ghost use Rattle.abc_run_state.specs.Operands.{operand_at};
 ghost use Rattle.abc_run_state.specs.Outer.{Outer, setting};
 ghost use Rattle.abc_run_state.specs.Standing.{IsSet};
-ghost use Rattle.abc_run_state.specs.Turns.{IsDoneIf};
 ghost use Rattle.abc_meaning.specs.Setting.{NoText};
+ghost use Rattle.abc_run_members.specs.Doing.{DoesIf};
 
 use abc_heap_search::{Name, Spaces};
 use abc_heap_values::{ObjId, Span, Value};
@@ -90,7 +90,7 @@ fn gets_element(linked: &Linked, s: &mut State, name: u32, spaces: Spaces, o: Ob
     requires holder { operand_at 1 (newest s.old.frames) ≡ Obj o }
     requires inside { IsObject s.old.arena o }
     requires told { TellsElement linked.now s.old.arena spaces o (operand_at 0 (newest s.old.frames)) k }
-    ensures { IsDoneIf result linked.now out (gets_named (setting linked.now out) name (newest s.old.frames)) s.old s.new }
+    ensures { DoesIf result linked.now out (λ p. gets_named p name) s.old s.new }
 {
     let _ = linked;
     let _ = name;
@@ -114,7 +114,7 @@ fn gets_numbered(linked: &Linked, s: &mut State, name: u32, spaces: Spaces, o: O
     requires form { form_at (setting linked.now out) name ≡ Some (NoText spaces) }
     requires holder { operand_at 1 (newest s.old.frames) ≡ Obj o }
     requires inside { IsObject s.old.arena o }
-    ensures { IsDoneIf result linked.now out (gets_named (setting linked.now out) name (newest s.old.frames)) s.old s.new }
+    ensures { DoesIf result linked.now out (λ p. gets_named p name) s.old s.new }
 {
     let asked = operand(&s.frames, 0);
     match element_told(linked, s, spaces, o, asked) {
@@ -130,7 +130,7 @@ fn gets_text(linked: &Linked, s: &mut State, name: u32, spaces: Spaces) -> bool
     requires set { IsSet linked.now s.old }
     requires ready { IsReady (parts_at (setting linked.now out) name + 1) 1 s.old.frames }
     requires form { form_at (setting linked.now out) name ≡ Some (NoText spaces) }
-    ensures { IsDoneIf result linked.now out (gets_named (setting linked.now out) name (newest s.old.frames)) s.old s.new }
+    ensures { DoesIf result linked.now out (λ p. gets_named p name) s.old s.new }
 {
     let v = operand(&s.frames, 1);
     match v {
@@ -139,14 +139,14 @@ fn gets_text(linked: &Linked, s: &mut State, name: u32, spaces: Spaces) -> bool
     }
 }
 
-/// `getproperty` by a name of which a part comes at run time: whether it is done, as it is where that is the number of an element;
-/// else nothing is.
+/// The fast path of `get_property`, by the number of an element: whether it is done. It says no, and has done nothing, of a name whose
+/// text doesn't come at run time, and where that isn't the number of an element that an array without traits has.
 #[inline(always)]
-pub fn gets_late(linked: &Linked, s: &mut State, name: u32) -> bool
+pub fn get_element_fast(linked: &Linked, s: &mut State, name: u32) -> bool
     ghost out: { Outer }
     requires set { IsSet linked.now s.old }
     requires ready { IsReady (parts_at (setting linked.now out) name + 1) 1 s.old.frames }
-    ensures { IsDoneIf result linked.now out (gets_named (setting linked.now out) name (newest s.old.frames)) s.old s.new }
+    ensures { DoesIf result linked.now out (λ p. gets_named p name) s.old s.new }
 {
     match late_text(linked, name) {
         Some(spaces) => gets_text(linked, s, name, spaces),
@@ -173,7 +173,7 @@ fn sets_element(
     requires holder { operand_at 2 (newest s.old.frames) ≡ Obj o }
     requires inside { IsObject s.old.arena o }
     requires told { TellsElement linked.now s.old.arena spaces o (operand_at 1 (newest s.old.frames)) k }
-    ensures { IsDoneIf result linked.now out (sets_named (setting linked.now out) name initial (newest s.old.frames)) s.old s.new }
+    ensures { DoesIf result linked.now out (λ p. sets_named p name initial) s.old s.new }
 {
     let _ = linked;
     let _ = name;
@@ -207,7 +207,7 @@ fn sets_numbered(
     requires form { form_at (setting linked.now out) name ≡ Some (NoText spaces) }
     requires holder { operand_at 2 (newest s.old.frames) ≡ Obj o }
     requires inside { IsObject s.old.arena o }
-    ensures { IsDoneIf result linked.now out (sets_named (setting linked.now out) name initial (newest s.old.frames)) s.old s.new }
+    ensures { DoesIf result linked.now out (λ p. sets_named p name initial) s.old s.new }
 {
     let asked = operand(&s.frames, 1);
     match element_told(linked, s, spaces, o, asked) {
@@ -223,7 +223,7 @@ fn sets_text(linked: &Linked, s: &mut State, name: u32, spaces: Spaces, initial:
     requires set { IsSet linked.now s.old }
     requires ready { IsReady (parts_at (setting linked.now out) name + 2) 0 s.old.frames }
     requires form { form_at (setting linked.now out) name ≡ Some (NoText spaces) }
-    ensures { IsDoneIf result linked.now out (sets_named (setting linked.now out) name initial (newest s.old.frames)) s.old s.new }
+    ensures { DoesIf result linked.now out (λ p. sets_named p name initial) s.old s.new }
 {
     let v = operand(&s.frames, 2);
     match v {
@@ -232,14 +232,14 @@ fn sets_text(linked: &Linked, s: &mut State, name: u32, spaces: Spaces, initial:
     }
 }
 
-/// `setproperty` and `initproperty` by a name of which a part comes at run time: whether it is done, as it is where that is the number
-/// of an element; else nothing is.
+/// The fast path of `set_property`, by the number of an element: whether it is done. It says no, and has done nothing, of a name whose
+/// text doesn't come at run time, and where that isn't the number of an element that an array without traits has.
 #[inline(always)]
-pub fn sets_late(linked: &Linked, s: &mut State, name: u32, initial: bool) -> bool
+pub fn set_element_fast(linked: &Linked, s: &mut State, name: u32, initial: bool) -> bool
     ghost out: { Outer }
     requires set { IsSet linked.now s.old }
     requires ready { IsReady (parts_at (setting linked.now out) name + 2) 0 s.old.frames }
-    ensures { IsDoneIf result linked.now out (sets_named (setting linked.now out) name initial (newest s.old.frames)) s.old s.new }
+    ensures { DoesIf result linked.now out (λ p. sets_named p name initial) s.old s.new }
 {
     match late_text(linked, name) {
         Some(spaces) => sets_text(linked, s, name, spaces, initial),

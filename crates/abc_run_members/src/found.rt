@@ -1,17 +1,15 @@
-ghost use Rattle.std.specs.Prelude.{◌≡◌, ◌+◌, ◌≤◌, ◌<◌, ◌^◌, true, Ok};
+ghost use Rattle.std.specs.Prelude.{◌≡◌, ◌+◌, ◌≤◌, ◌<◌, ◌^◌, Ok};
 ghost use Rattle.abc_heap_values.specs.declared.values.Value.TheVariants.{Obj};
 ghost use Rattle.abc_frames.specs.Ready.{IsReady};
 ghost use Rattle.abc_objects.specs.Values.{Exists};
 ghost use Rattle.abc_frames.specs.Frame.{newest};
-ghost use Rattle.abc_run_calls.specs.Arguments.{IsKnown};
 ghost use Rattle.abc_run_state.specs.Outer.{Outer, setting, world};
 ghost use Rattle.abc_run_state.specs.Settling.{given_by, taken_by};
 ghost use Rattle.abc_run_state.specs.Standing.{IsSet};
 ghost use Rattle.abc_run_state.specs.Stops.{IsOpen};
-ghost use Rattle.abc_run_state.specs.Turns.{IsDoneIf, Leaves, Runs};
 ghost use Rattle.abc_run_state.specs.declared.state.Left.TheVariants.{Goes};
-ghost use Rattle.abc_run_calls.specs.Calls.{CanFinish};
 ghost use Rattle.abc_run_members.specs.Members.{IsFoundThere, calls_found, calls_value_found, constructs_found, constructs_getter, constructs_value, enters_found, reads_found, reads_value};
+ghost use Rattle.abc_run_members.specs.Doing.{CanDo, Dispatches, Does, DoesIf, DoesOrLeaves};
 
 use crate::values::{value_found, value_of};
 use abc_base::Fault;
@@ -33,13 +31,10 @@ pub(crate) fn enter_on(
     how: How,
 ) -> Result<(), Stop>
     ghost out: { Outer }
-    requires set { IsSet linked.now s.old }
-    requires known { IsKnown linked.now s.old.given.limit }
+    requires can { CanDo linked.now out (λ p. enters_found p method v count how) s.old }
     requires ready { IsReady (taken_by how) (given_by how) s.old.frames }
     requires count { count ≤ taken_by how }
-    requires free { IsOpen (enters_found (setting linked.now out) method v count how (newest s.old.frames) (world s.old out)) }
-    ensures runs { Runs linked.now out (enters_found (setting linked.now out) method v count how (newest s.old.frames)) s.old result s.new }
-    ensures limit { s.new.given.limit ≡ s.old.given.limit }
+    ensures { Does linked.now out (λ p. enters_found p method v count how) s.old result s.new }
 {
     let (taken, wait) = waiting(how);
     enter_owned(linked, s, method, v, count, taken, wait)
@@ -54,8 +49,7 @@ fn read_value(linked: &Linked, s: &mut State, found: Found, v: Value, how: How) 
     requires value { Exists linked.now s.old.arena v }
     requires found { IsFoundThere linked.now s.old.arena found }
     requires free { IsOpen (reads_value (setting linked.now out) found v how (newest s.old.frames) (world s.old out)) }
-    ensures runs { Runs linked.now out (reads_value (setting linked.now out) found v how (newest s.old.frames)) s.old result s.new }
-    ensures limit { s.new.given.limit ≡ s.old.given.limit }
+    ensures { Does linked.now out (λ p. reads_value p found v how) s.old result s.new }
 {
     let value = value_of(linked, s, found, v)?;
     settle(&mut s.frames, how, value);
@@ -72,14 +66,11 @@ pub fn read_found(
     how: How,
 ) -> Result<(), Stop>
     ghost out: { Outer }
-    requires set { IsSet linked.now s.old }
-    requires known { IsKnown linked.now s.old.given.limit }
+    requires can { CanDo linked.now out (λ p. reads_found p found v how) s.old }
     requires ready { IsReady (taken_by how) (given_by how) s.old.frames }
     requires value { Exists linked.now s.old.arena v }
     requires found { IsFoundThere linked.now s.old.arena found }
-    requires free { IsOpen (reads_found (setting linked.now out) found v how (newest s.old.frames) (world s.old out)) }
-    ensures runs { Runs linked.now out (reads_found (setting linked.now out) found v how (newest s.old.frames)) s.old result s.new }
-    ensures limit { s.new.given.limit ≡ s.old.given.limit }
+    ensures { Does linked.now out (λ p. reads_found p found v how) s.old result s.new }
 {
     match found {
         Found::Getter(method) => enter_on(linked, s, method, v, 0, how),
@@ -98,14 +89,10 @@ fn call_method(
     how: How,
 ) -> Result<Left, Stop>
     ghost out: { Outer }
-    requires set { IsSet linked.now s.old }
-    requires known { IsKnown linked.now s.old.given.limit }
+    requires can { CanDo linked.now out (λ p. enters_found p method v count how) s.old }
     requires ready { IsReady (taken_by how) (given_by how) s.old.frames }
     requires count { count ≤ taken_by how }
-    requires free { IsOpen (enters_found (setting linked.now out) method v count how (newest s.old.frames) (world s.old out)) }
-    ensures leaves { Leaves linked.now out (enters_found (setting linked.now out) method v count how (newest s.old.frames)) s.old result s.new }
-    ensures finishes { CanFinish linked.now result s.new }
-    ensures limit { s.new.given.limit ≡ s.old.given.limit }
+    ensures { DoesOrLeaves linked.now out (λ p. enters_found p method v count how) s.old result s.new }
 {
     enter_on(linked, s, method, v, count, how)?;
     Ok(Left::Goes)
@@ -126,7 +113,7 @@ fn enters_object(
     requires set { IsSet linked.now s.old }
     requires ready { IsReady (taken_by how) (given_by how) s.old.frames }
     requires free { IsOpen (enters_found (setting linked.now out) method (Obj o) count how (newest s.old.frames) (world s.old out)) }
-    ensures { IsDoneIf result linked.now out (enters_found (setting linked.now out) method (Obj o) count how (newest s.old.frames)) s.old s.new }
+    ensures { DoesIf result linked.now out (λ p. enters_found p method (Obj o) count how) s.old s.new }
 {
     let (taken, wait) = waiting(how);
     enters_on_object(linked, s, method, o, count, taken, wait)
@@ -145,16 +132,11 @@ fn enter_slowly(
     left: &mut Result<Left, Stop>,
 ) -> bool
     ghost out: { Outer }
-    requires set { IsSet linked.now s.old }
-    requires known { IsKnown linked.now s.old.given.limit }
+    requires can { CanDo linked.now out (λ p. enters_found p method (Obj o) count how) s.old }
     requires ready { IsReady (taken_by how) (given_by how) s.old.frames }
     requires count { count ≤ taken_by how }
-    requires free { IsOpen (enters_found (setting linked.now out) method (Obj o) count how (newest s.old.frames) (world s.old out)) }
     requires none { left.old ≡ Ok Goes }
-    ensures leaves { Leaves linked.now out (enters_found (setting linked.now out) method (Obj o) count how (newest s.old.frames)) s.old left.new s.new }
-    ensures finishes { CanFinish linked.now left.new s.new }
-    ensures goes { result ≡ true → left.new ≡ Ok Goes }
-    ensures limit { s.new.given.limit ≡ s.old.given.limit }
+    ensures { Dispatches linked.now out (λ p. enters_found p method (Obj o) count how) s.old result left.new s.new }
 {
     goes(enter_on(linked, s, method, Value::Obj(o), count, how), left)
 }
@@ -171,16 +153,11 @@ pub fn call_object_method(
     left: &mut Result<Left, Stop>,
 ) -> bool
     ghost out: { Outer }
-    requires set { IsSet linked.now s.old }
-    requires known { IsKnown linked.now s.old.given.limit }
+    requires can { CanDo linked.now out (λ p. enters_found p method (Obj o) count how) s.old }
     requires ready { IsReady (taken_by how) (given_by how) s.old.frames }
     requires count { count ≤ taken_by how }
-    requires free { IsOpen (enters_found (setting linked.now out) method (Obj o) count how (newest s.old.frames) (world s.old out)) }
     requires none { left.old ≡ Ok Goes }
-    ensures leaves { Leaves linked.now out (enters_found (setting linked.now out) method (Obj o) count how (newest s.old.frames)) s.old left.new s.new }
-    ensures finishes { CanFinish linked.now left.new s.new }
-    ensures goes { result ≡ true → left.new ≡ Ok Goes }
-    ensures limit { s.new.given.limit ≡ s.old.given.limit }
+    ensures { Dispatches linked.now out (λ p. enters_found p method (Obj o) count how) s.old result left.new s.new }
 {
     if enters_object(linked, s, method, o, count, how) {
         return true;
@@ -199,16 +176,12 @@ fn call_value_found(
     how: How,
 ) -> Result<Left, Stop>
     ghost out: { Outer }
-    requires set { IsSet linked.now s.old }
-    requires known { IsKnown linked.now s.old.given.limit }
+    requires can { CanDo linked.now out (λ p. calls_value_found p found v receiver count how) s.old }
     requires ready { IsReady (taken_by how) (given_by how) s.old.frames }
     requires count { count ≤ taken_by how }
     requires value { Exists linked.now s.old.arena v }
     requires found { IsFoundThere linked.now s.old.arena found }
-    requires free { IsOpen (calls_value_found (setting linked.now out) found v receiver count how (newest s.old.frames) (world s.old out)) }
-    ensures leaves { Leaves linked.now out (calls_value_found (setting linked.now out) found v receiver count how (newest s.old.frames)) s.old result s.new }
-    ensures finishes { CanFinish linked.now result s.new }
-    ensures limit { s.new.given.limit ≡ s.old.given.limit }
+    ensures { DoesOrLeaves linked.now out (λ p. calls_value_found p found v receiver count how) s.old result s.new }
 {
     let callee = value_found(linked, s, found, v)?;
     call(linked, s, callee, receiver, count, how)
@@ -226,16 +199,12 @@ pub fn call_found(
     how: How,
 ) -> Result<Left, Stop>
     ghost out: { Outer }
-    requires set { IsSet linked.now s.old }
-    requires known { IsKnown linked.now s.old.given.limit }
+    requires can { CanDo linked.now out (λ p. calls_found p found v receiver count how) s.old }
     requires ready { IsReady (taken_by how) (given_by how) s.old.frames }
     requires count { count ≤ taken_by how }
     requires value { Exists linked.now s.old.arena v }
     requires found { IsFoundThere linked.now s.old.arena found }
-    requires free { IsOpen (calls_found (setting linked.now out) found v receiver count how (newest s.old.frames) (world s.old out)) }
-    ensures leaves { Leaves linked.now out (calls_found (setting linked.now out) found v receiver count how (newest s.old.frames)) s.old result s.new }
-    ensures finishes { CanFinish linked.now result s.new }
-    ensures limit { s.new.given.limit ≡ s.old.given.limit }
+    ensures { DoesOrLeaves linked.now out (λ p. calls_found p found v receiver count how) s.old result s.new }
 {
     match found {
         Found::Method { method, .. } => call_method(linked, s, method, v, count, how),
@@ -254,12 +223,9 @@ fn construct_getter(
     count: u32,
 ) -> Result<(), Stop>
     ghost out: { Outer }
-    requires set { IsSet linked.now s.old }
-    requires known { IsKnown linked.now s.old.given.limit }
+    requires can { CanDo linked.now out (λ p. constructs_getter p method v under count) s.old }
     requires ready { IsReady (count + under) 1 s.old.frames }
-    requires free { IsOpen (constructs_getter (setting linked.now out) method v under count (newest s.old.frames) (world s.old out)) }
-    ensures runs { Runs linked.now out (constructs_getter (setting linked.now out) method v under count (newest s.old.frames)) s.old result s.new }
-    ensures limit { s.new.given.limit ≡ s.old.given.limit }
+    ensures { Does linked.now out (λ p. constructs_getter p method v under count) s.old result s.new }
 {
     s.frames.drop_under(count, under);
     enter_owned(linked, s, method, v, 0, 0, Wait::New(count))
@@ -275,15 +241,12 @@ fn construct_value(
     count: u32,
 ) -> Result<(), Stop>
     ghost out: { Outer }
-    requires set { IsSet linked.now s.old }
-    requires known { IsKnown linked.now s.old.given.limit }
+    requires can { CanDo linked.now out (λ p. constructs_value p found v under count) s.old }
     requires ready { IsReady (count + under) 1 s.old.frames }
     requires few { count + under < 2 ^ 32 }
     requires value { Exists linked.now s.old.arena v }
     requires found { IsFoundThere linked.now s.old.arena found }
-    requires free { IsOpen (constructs_value (setting linked.now out) found v under count (newest s.old.frames) (world s.old out)) }
-    ensures runs { Runs linked.now out (constructs_value (setting linked.now out) found v under count (newest s.old.frames)) s.old result s.new }
-    ensures limit { s.new.given.limit ≡ s.old.given.limit }
+    ensures { Does linked.now out (λ p. constructs_value p found v under count) s.old result s.new }
 {
     let of = value_of(linked, s, found, v)?;
     make(linked, s, of, count, How::Push(count + under))
@@ -299,15 +262,12 @@ pub(crate) fn construct_found(
     count: u32,
 ) -> Result<(), Stop>
     ghost out: { Outer }
-    requires set { IsSet linked.now s.old }
-    requires known { IsKnown linked.now s.old.given.limit }
+    requires can { CanDo linked.now out (λ p. constructs_found p found v under count) s.old }
     requires ready { IsReady (count + under) 1 s.old.frames }
     requires few { count + under < 2 ^ 32 }
     requires value { Exists linked.now s.old.arena v }
     requires found { IsFoundThere linked.now s.old.arena found }
-    requires free { IsOpen (constructs_found (setting linked.now out) found v under count (newest s.old.frames) (world s.old out)) }
-    ensures runs { Runs linked.now out (constructs_found (setting linked.now out) found v under count (newest s.old.frames)) s.old result s.new }
-    ensures limit { s.new.given.limit ≡ s.old.given.limit }
+    ensures { Does linked.now out (λ p. constructs_found p found v under count) s.old result s.new }
 {
     match found {
         Found::Getter(method) => construct_getter(linked, s, method, v, under, count),

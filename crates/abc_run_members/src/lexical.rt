@@ -1,15 +1,11 @@
-ghost use Rattle.std.specs.Prelude.{◌≡◌, ◌<◌, length};
+ghost use Rattle.std.specs.Prelude.{◌≡◌, length};
 ghost use Rattle.abc_heap_store.specs.Texts.{IsText};
 ghost use Rattle.abc_frames.specs.Ready.{IsReady};
-ghost use Rattle.abc_frames.specs.Frame.{newest};
-ghost use Rattle.abc_run_calls.specs.Arguments.{IsKnown};
 ghost use Rattle.abc_run_members.specs.Members.{parts_at};
-ghost use Rattle.abc_run_state.specs.Outer.{Outer, setting, world};
-ghost use Rattle.abc_run_state.specs.Standing.{IsSet};
-ghost use Rattle.abc_run_state.specs.Stops.{IsOpen};
-ghost use Rattle.abc_run_state.specs.Turns.{Runs};
+ghost use Rattle.abc_run_state.specs.Outer.{Outer, setting};
 ghost use Rattle.abc_run_members.specs.Found.{IsScopeThere};
 ghost use Rattle.abc_run_members.specs.Supers.{finds_and_reads, reads_in};
+ghost use Rattle.abc_run_members.specs.Doing.{CanDo, Does};
 
 use crate::naming::read_on;
 use crate::scopes_above::find_here;
@@ -30,15 +26,12 @@ fn read_in(
     parts: u32,
 ) -> Result<(), Stop>
     ghost out: { Outer }
-    requires set { IsSet linked.now s.old }
-    requires known { IsKnown linked.now s.old.given.limit }
+    requires can { CanDo linked.now out (λ p. reads_in p found name.now parts) s.old }
     requires ready { IsReady parts 1 s.old.frames }
     requires started { length s.old.started ≡ length linked.now.file.scripts }
     requires found { IsScopeThere linked.now s.old.arena found }
     requires name { IsText linked.now.file.strings s.old.arena name.now.text }
-    requires free { IsOpen (reads_in (setting linked.now out) found name.now parts (newest s.old.frames) (world s.old out)) }
-    ensures runs { Runs linked.now out (reads_in (setting linked.now out) found name.now parts (newest s.old.frames)) s.old result s.new }
-    ensures limit { s.new.given.limit ≡ s.old.given.limit }
+    ensures { Does linked.now out (λ p. reads_in p found name.now parts) s.old result s.new }
 {
     match found {
         ScopeFound::Object(o) => read_on(linked, s, Value::Obj(o), name, How::Push(parts)),
@@ -50,13 +43,10 @@ fn read_in(
 /// `getlex`.
 pub fn get_lexical(linked: &Linked, s: &mut State, name: u32) -> Result<(), Stop>
     ghost out: { Outer }
-    requires set { IsSet linked.now s.old }
-    requires known { IsKnown linked.now s.old.given.limit }
+    requires can { CanDo linked.now out (λ p. finds_and_reads p name) s.old }
     requires ready { IsReady (parts_at (setting linked.now out) name) 1 s.old.frames }
     requires started { length s.old.started ≡ length linked.now.file.scripts }
-    requires free { IsOpen (finds_and_reads (setting linked.now out) name (newest s.old.frames) (world s.old out)) }
-    ensures runs { Runs linked.now out (finds_and_reads (setting linked.now out) name (newest s.old.frames)) s.old result s.new }
-    ensures limit { s.new.given.limit ≡ s.old.given.limit }
+    ensures { Does linked.now out (λ p. finds_and_reads p name) s.old result s.new }
 {
     let parts = parts_of(linked, name);
     let wanted = name_of(linked, s, name, 0)?;

@@ -10,11 +10,11 @@
 //! What a name finds in scopes and is read; super operations; makers of bases that are run.
 #![tactic(auto)]
 
-mod at_once;
 mod bases;
 mod bases_above;
 mod classes;
 mod elements;
+mod fast_paths;
 mod found;
 mod lexical;
 mod makers;
@@ -27,9 +27,9 @@ mod super_arms;
 mod values;
 mod writing;
 
-pub use at_once::{gets_at_once, sets_at_once};
 pub use classes::new_class;
-pub use elements::{gets_late, sets_late};
+pub use elements::{get_element_fast, set_element_fast};
+pub use fast_paths::{get_property_fast, set_property_fast};
 pub use lexical::get_lexical;
 pub use makers::construct_super;
 pub use properties::{call_property, call_value, construct, construct_property};

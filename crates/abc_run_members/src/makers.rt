@@ -1,16 +1,13 @@
-ghost use Rattle.std.specs.Prelude.{◌≡◌, ◌+◌, ◌<◌, ◌^◌, length};
+ghost use Rattle.std.specs.Prelude.{◌+◌, ◌<◌, ◌^◌, length};
 ghost use Rattle.abc_frames.specs.Ready.{IsReady};
 ghost use Rattle.abc_objects.specs.Values.{IsObject};
-ghost use Rattle.abc_frames.specs.Frame.{newest};
 ghost use Rattle.abc_run_calls.specs.Calls.{settled_by};
-ghost use Rattle.abc_run_calls.specs.Arguments.{IsKnown};
-ghost use Rattle.abc_run_state.specs.Outer.{Outer, setting, world};
+ghost use Rattle.abc_run_state.specs.Outer.{Outer};
 ghost use Rattle.abc_run_state.specs.Standing.{IsSet};
-ghost use Rattle.abc_run_state.specs.Stops.{IsOpen};
-ghost use Rattle.abc_run_state.specs.Turns.{Runs};
 ghost use Rattle.abc_run_state.specs.declared.state.How.TheVariants.{Drop};
 ghost use Rattle.abc_run_members.specs.Based.{IsBase, named_of};
 ghost use Rattle.abc_run_members.specs.Supers.{constructs_super, runs_base, tells_base};
+ghost use Rattle.abc_run_members.specs.Doing.{CanDo, Does};
 
 use crate::bases::{Base, base_of};
 use abc_base::HostClass;
@@ -34,8 +31,7 @@ fn tell_base(
     requires ready { IsReady (count + 1) 0 s.old.frames }
     requires count { count < 2 ^ 30 }
     requires inside { IsObject s.old.arena o }
-    ensures runs { Runs linked.now out (tells_base (setting linked.now out) o class count (newest s.old.frames)) s.old result s.new }
-    ensures limit { s.new.given.limit ≡ s.old.given.limit }
+    ensures { Does linked.now out (λ p. tells_base p o class count) s.old result s.new }
 {
     let message = message_of(linked, s, class, count)?;
     set_message(linked, s, o, message)?;
@@ -52,15 +48,12 @@ fn construct_base(
     count: u32,
 ) -> Result<(), Stop>
     ghost out: { Outer }
-    requires set { IsSet linked.now s.old }
-    requires known { IsKnown linked.now s.old.given.limit }
+    requires can { CanDo linked.now out (λ p f. settled_by (Drop (count + 1)) f (runs_base p o count f (named_of base))) s.old }
     requires ready { IsReady (count + 1) 0 s.old.frames }
     requires count { count < 2 ^ 30 }
     requires inside { IsObject s.old.arena o }
     requires base { IsBase linked.now base }
-    requires free { IsOpen (settled_by (Drop (count + 1)) (newest s.old.frames) (runs_base (setting linked.now out) o count (newest s.old.frames) (named_of base)) (world s.old out)) }
-    ensures runs { Runs linked.now out (settled_by (Drop (count + 1)) (newest s.old.frames) (runs_base (setting linked.now out) o count (newest s.old.frames) (named_of base))) s.old result s.new }
-    ensures limit { s.new.given.limit ≡ s.old.given.limit }
+    ensures { Does linked.now out (λ p f. settled_by (Drop (count + 1)) f (runs_base p o count f (named_of base))) s.old result s.new }
 {
     match base {
         Base::Class(class) => {
@@ -77,14 +70,11 @@ fn construct_base(
 /// the host has none, and takes a message.
 pub fn construct_super(linked: &Linked, s: &mut State, class: u32, count: u32) -> Result<(), Stop>
     ghost out: { Outer }
-    requires set { IsSet linked.now s.old }
-    requires known { IsKnown linked.now s.old.given.limit }
+    requires can { CanDo linked.now out (λ p. constructs_super p class count) s.old }
     requires ready { IsReady (count + 1) 0 s.old.frames }
     requires count { count < 2 ^ 30 }
     requires class { class < length linked.now.file.instances }
-    requires free { IsOpen (constructs_super (setting linked.now out) class count (newest s.old.frames) (world s.old out)) }
-    ensures runs { Runs linked.now out (constructs_super (setting linked.now out) class count (newest s.old.frames)) s.old result s.new }
-    ensures limit { s.new.given.limit ≡ s.old.given.limit }
+    ensures { Does linked.now out (λ p. constructs_super p class count) s.old result s.new }
 {
     let v = operand(&s.frames, count);
     let o = receiver(v)?;

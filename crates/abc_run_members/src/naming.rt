@@ -4,19 +4,15 @@ ghost use Rattle.abc_frames.specs.Ready.{IsReady};
 ghost use Rattle.abc_objects.specs.Values.{Exists, IsObject};
 ghost use Rattle.abc_frames.specs.Frame.{newest};
 ghost use Rattle.abc_heap_values.specs.declared.values.Value.TheVariants.{Obj};
-ghost use Rattle.abc_run_calls.specs.Arguments.{IsKnown};
 ghost use Rattle.abc_run_state.specs.Operands.{operand_at};
-ghost use Rattle.abc_run_state.specs.Outer.{Outer, setting, world};
+ghost use Rattle.abc_run_state.specs.Outer.{Outer};
 ghost use Rattle.abc_run_state.specs.Settling.{given_by, taken_by};
-ghost use Rattle.abc_run_state.specs.Standing.{IsSet};
-ghost use Rattle.abc_run_state.specs.Stops.{IsOpen};
-ghost use Rattle.abc_run_state.specs.Turns.{Leaves, Runs};
-ghost use Rattle.abc_run_calls.specs.Calls.{CanFinish};
 ghost use Rattle.abc_run_members.specs.Members.{IsFoundThere, calls_on, constructs_on, reads_on, writes_on};
 ghost use Rattle.abc_objects.specs.Stands.{StandsOver};
 ghost use Rattle.abc_lookup.specs.NoTraits.{IsFirst};
 ghost use Rattle.abc_heap_search.specs.Searches.{found_on};
 ghost use Rattle.abc_heap_search.specs.declared.found.Want.TheVariants.{Read};
+ghost use Rattle.abc_run_members.specs.Doing.{CanDo, Does, DoesOrLeaves};
 
 use crate::found::{call_found, construct_found, read_found};
 use crate::writing::{kept_element, write_found};
@@ -44,7 +40,7 @@ fn find(linked: &Linked, s: &State, v: Value, name: &Name) -> Found
 
 /// What a name finds at once on an object.
 #[inline(always)]
-pub fn find_at_once(linked: &Linked, s: &State, o: ObjId, name: &Name) -> Found
+pub fn find_first_on(linked: &Linked, s: &State, o: ObjId, name: &Name) -> Found
     requires over { StandsOver linked.now s.now.arena }
     requires inside { IsObject s.now.arena o }
     requires name { IsText linked.now.file.strings s.now.arena name.now.text }
@@ -66,14 +62,11 @@ fn read_searching(
     how: How,
 ) -> Result<(), Stop>
     ghost out: { Outer }
-    requires set { IsSet linked.now s.old }
-    requires known { IsKnown linked.now s.old.given.limit }
+    requires can { CanDo linked.now out (λ p. reads_on p v name.now how) s.old }
     requires ready { IsReady (taken_by how) (given_by how) s.old.frames }
     requires value { Exists linked.now s.old.arena v }
     requires name { IsText linked.now.file.strings s.old.arena name.now.text }
-    requires free { IsOpen (reads_on (setting linked.now out) v name.now how (newest s.old.frames) (world s.old out)) }
-    ensures runs { Runs linked.now out (reads_on (setting linked.now out) v name.now how (newest s.old.frames)) s.old result s.new }
-    ensures limit { s.new.given.limit ≡ s.old.given.limit }
+    ensures { Does linked.now out (λ p. reads_on p v name.now how) s.old result s.new }
 {
     is_holder(v)?;
     let found = find(linked, s, v, name);
@@ -101,16 +94,13 @@ pub fn read_on_object(
     how: How,
 ) -> Result<(), Stop>
     ghost out: { Outer }
-    requires set { IsSet linked.now s.old }
-    requires known { IsKnown linked.now s.old.given.limit }
+    requires can { CanDo linked.now out (λ p. reads_on p (Obj o) name.now how) s.old }
     requires ready { IsReady (taken_by how) (given_by how) s.old.frames }
     requires inside { IsObject s.old.arena o }
     requires name { IsText linked.now.file.strings s.old.arena name.now.text }
-    requires free { IsOpen (reads_on (setting linked.now out) (Obj o) name.now how (newest s.old.frames) (world s.old out)) }
-    ensures runs { Runs linked.now out (reads_on (setting linked.now out) (Obj o) name.now how (newest s.old.frames)) s.old result s.new }
-    ensures limit { s.new.given.limit ≡ s.old.given.limit }
+    ensures { Does linked.now out (λ p. reads_on p (Obj o) name.now how) s.old result s.new }
 {
-    let found = find_at_once(linked, s, o, name);
+    let found = find_first_on(linked, s, o, name);
     match found {
         Found::Property { .. } => read_found(linked, s, found, Value::Obj(o), how),
         Found::Element { .. } => read_found(linked, s, found, Value::Obj(o), how),
@@ -122,14 +112,11 @@ pub fn read_on_object(
 #[inline(always)]
 pub fn read_on(linked: &Linked, s: &mut State, v: Value, name: &Name, how: How) -> Result<(), Stop>
     ghost out: { Outer }
-    requires set { IsSet linked.now s.old }
-    requires known { IsKnown linked.now s.old.given.limit }
+    requires can { CanDo linked.now out (λ p. reads_on p v name.now how) s.old }
     requires ready { IsReady (taken_by how) (given_by how) s.old.frames }
     requires value { Exists linked.now s.old.arena v }
     requires name { IsText linked.now.file.strings s.old.arena name.now.text }
-    requires free { IsOpen (reads_on (setting linked.now out) v name.now how (newest s.old.frames) (world s.old out)) }
-    ensures runs { Runs linked.now out (reads_on (setting linked.now out) v name.now how (newest s.old.frames)) s.old result s.new }
-    ensures limit { s.new.given.limit ≡ s.old.given.limit }
+    ensures { Does linked.now out (λ p. reads_on p v name.now how) s.old result s.new }
 {
     match v {
         Value::Obj(o) => read_on_object(linked, s, o, name, how),
@@ -149,17 +136,14 @@ fn write_searching(
     how: How,
 ) -> Result<(), Stop>
     ghost out: { Outer }
-    requires set { IsSet linked.now s.old }
-    requires known { IsKnown linked.now s.old.given.limit }
+    requires can { CanDo linked.now out (λ p. writes_on p (Obj o) name.now x initial how) s.old }
     requires ready { IsReady (taken_by how) (given_by how) s.old.frames }
     requires one { 1 ≤ taken_by how }
     requires inside { IsObject s.old.arena o }
     requires name { IsText linked.now.file.strings s.old.arena name.now.text }
     requires value { Exists linked.now s.old.arena x }
     requires top { x ≡ operand_at 0 (newest s.old.frames) }
-    requires free { IsOpen (writes_on (setting linked.now out) (Obj o) name.now x initial how (newest s.old.frames) (world s.old out)) }
-    ensures runs { Runs linked.now out (writes_on (setting linked.now out) (Obj o) name.now x initial how (newest s.old.frames)) s.old result s.new }
-    ensures limit { s.new.given.limit ≡ s.old.given.limit }
+    ensures { Does linked.now out (λ p. writes_on p (Obj o) name.now x initial how) s.old result s.new }
 {
     let layout = s.arena.layout(o);
     let found = find_declared(linked, &s.arena, layout, layout, name, Want::Write);
@@ -179,17 +163,14 @@ pub fn write_on_object(
     how: How,
 ) -> Result<(), Stop>
     ghost out: { Outer }
-    requires set { IsSet linked.now s.old }
-    requires known { IsKnown linked.now s.old.given.limit }
+    requires can { CanDo linked.now out (λ p. writes_on p (Obj o) name.now x initial how) s.old }
     requires ready { IsReady (taken_by how) (given_by how) s.old.frames }
     requires one { 1 ≤ taken_by how }
     requires inside { IsObject s.old.arena o }
     requires name { IsText linked.now.file.strings s.old.arena name.now.text }
     requires value { Exists linked.now s.old.arena x }
     requires top { x ≡ operand_at 0 (newest s.old.frames) }
-    requires free { IsOpen (writes_on (setting linked.now out) (Obj o) name.now x initial how (newest s.old.frames) (world s.old out)) }
-    ensures runs { Runs linked.now out (writes_on (setting linked.now out) (Obj o) name.now x initial how (newest s.old.frames)) s.old result s.new }
-    ensures limit { s.new.given.limit ≡ s.old.given.limit }
+    ensures { Does linked.now out (λ p. writes_on p (Obj o) name.now x initial how) s.old result s.new }
 {
     match kept_element(linked, s, o, name) {
         Some(k) => {
@@ -214,17 +195,14 @@ pub fn write_on(
     how: How,
 ) -> Result<(), Stop>
     ghost out: { Outer }
-    requires set { IsSet linked.now s.old }
-    requires known { IsKnown linked.now s.old.given.limit }
+    requires can { CanDo linked.now out (λ p. writes_on p v name.now x initial how) s.old }
     requires ready { IsReady (taken_by how) (given_by how) s.old.frames }
     requires one { 1 ≤ taken_by how }
     requires holder { Exists linked.now s.old.arena v }
     requires name { IsText linked.now.file.strings s.old.arena name.now.text }
     requires value { Exists linked.now s.old.arena x }
     requires top { x ≡ operand_at 0 (newest s.old.frames) }
-    requires free { IsOpen (writes_on (setting linked.now out) v name.now x initial how (newest s.old.frames) (world s.old out)) }
-    ensures runs { Runs linked.now out (writes_on (setting linked.now out) v name.now x initial how (newest s.old.frames)) s.old result s.new }
-    ensures limit { s.new.given.limit ≡ s.old.given.limit }
+    ensures { Does linked.now out (λ p. writes_on p v name.now x initial how) s.old result s.new }
 {
     is_holder(v)?;
     match v {
@@ -245,16 +223,12 @@ pub fn call_on(
     how: How,
 ) -> Result<Left, Stop>
     ghost out: { Outer }
-    requires set { IsSet linked.now s.old }
-    requires known { IsKnown linked.now s.old.given.limit }
+    requires can { CanDo linked.now out (λ p. calls_on p v receiver name.now count how) s.old }
     requires ready { IsReady (taken_by how) (given_by how) s.old.frames }
     requires count { count ≤ taken_by how }
     requires value { Exists linked.now s.old.arena v }
     requires name { IsText linked.now.file.strings s.old.arena name.now.text }
-    requires free { IsOpen (calls_on (setting linked.now out) v receiver name.now count how (newest s.old.frames) (world s.old out)) }
-    ensures leaves { Leaves linked.now out (calls_on (setting linked.now out) v receiver name.now count how (newest s.old.frames)) s.old result s.new }
-    ensures finishes { CanFinish linked.now result s.new }
-    ensures limit { s.new.given.limit ≡ s.old.given.limit }
+    ensures { DoesOrLeaves linked.now out (λ p. calls_on p v receiver name.now count how) s.old result s.new }
 {
     is_holder(v)?;
     let found = find(linked, s, v, name);
@@ -271,15 +245,12 @@ pub fn construct_on(
     count: u32,
 ) -> Result<(), Stop>
     ghost out: { Outer }
-    requires set { IsSet linked.now s.old }
-    requires known { IsKnown linked.now s.old.given.limit }
+    requires can { CanDo linked.now out (λ p. constructs_on p v name.now under count) s.old }
     requires ready { IsReady (count + under) 1 s.old.frames }
     requires few { count + under < 2 ^ 32 }
     requires value { Exists linked.now s.old.arena v }
     requires name { IsText linked.now.file.strings s.old.arena name.now.text }
-    requires free { IsOpen (constructs_on (setting linked.now out) v name.now under count (newest s.old.frames) (world s.old out)) }
-    ensures runs { Runs linked.now out (constructs_on (setting linked.now out) v name.now under count (newest s.old.frames)) s.old result s.new }
-    ensures limit { s.new.given.limit ≡ s.old.given.limit }
+    ensures { Does linked.now out (λ p. constructs_on p v name.now under count) s.old result s.new }
 {
     is_holder(v)?;
     let found = find(linked, s, v, name);

@@ -1,14 +1,10 @@
-ghost use Rattle.std.specs.Prelude.{◌≡◌, ◌<◌, length};
+ghost use Rattle.std.specs.Prelude.{◌≡◌, length};
 ghost use Rattle.abc_frames.specs.Ready.{IsReady};
-ghost use Rattle.abc_frames.specs.Frame.{newest};
-ghost use Rattle.abc_run_calls.specs.Arguments.{IsKnown};
 ghost use Rattle.abc_run_names.specs.Named.{form_at, parts_count};
-ghost use Rattle.abc_run_state.specs.Outer.{Outer, setting, world};
-ghost use Rattle.abc_run_state.specs.Standing.{IsSet};
-ghost use Rattle.abc_run_state.specs.Stops.{IsOpen};
-ghost use Rattle.abc_run_state.specs.Turns.{Runs};
+ghost use Rattle.abc_run_state.specs.Outer.{Outer, setting};
 ghost use Rattle.abc_run_members.specs.Found.{IsScopeThere};
 ghost use Rattle.abc_run_members.specs.Scoped.{finds_or_global, finds_strictly, pushes_or_global, pushes_strictly};
+ghost use Rattle.abc_run_members.specs.Doing.{CanDo, Does};
 
 use crate::scopes_above::find_here;
 use abc_base::HostClass;
@@ -24,14 +20,11 @@ use abc_run_state::{State, Stop};
 /// is executed again after that; nothing is a ReferenceError.
 fn push_strictly(linked: &Linked, s: &mut State, found: ScopeFound, parts: u32) -> Result<(), Stop>
     ghost out: { Outer }
-    requires set { IsSet linked.now s.old }
-    requires known { IsKnown linked.now s.old.given.limit }
+    requires can { CanDo linked.now out (λ p. pushes_strictly p found parts) s.old }
     requires ready { IsReady parts 1 s.old.frames }
     requires started { length s.old.started ≡ length linked.now.file.scripts }
     requires found { IsScopeThere linked.now s.old.arena found }
-    requires free { IsOpen (pushes_strictly (setting linked.now out) found parts (newest s.old.frames) (world s.old out)) }
-    ensures runs { Runs linked.now out (pushes_strictly (setting linked.now out) found parts (newest s.old.frames)) s.old result s.new }
-    ensures limit { s.new.given.limit ≡ s.old.given.limit }
+    ensures { Does linked.now out (λ p. pushes_strictly p found parts) s.old result s.new }
 {
     match found {
         ScopeFound::Object(o) => {
@@ -46,14 +39,11 @@ fn push_strictly(linked: &Linked, s: &mut State, found: ScopeFound, parts: u32) 
 /// The same, where the global object of the script in which the method was made stands for nothing.
 fn push_or_global(linked: &Linked, s: &mut State, found: ScopeFound, parts: u32) -> Result<(), Stop>
     ghost out: { Outer }
-    requires set { IsSet linked.now s.old }
-    requires known { IsKnown linked.now s.old.given.limit }
+    requires can { CanDo linked.now out (λ p. pushes_or_global p found parts) s.old }
     requires ready { IsReady parts 1 s.old.frames }
     requires started { length s.old.started ≡ length linked.now.file.scripts }
     requires found { IsScopeThere linked.now s.old.arena found }
-    requires free { IsOpen (pushes_or_global (setting linked.now out) found parts (newest s.old.frames) (world s.old out)) }
-    ensures runs { Runs linked.now out (pushes_or_global (setting linked.now out) found parts (newest s.old.frames)) s.old result s.new }
-    ensures limit { s.new.given.limit ≡ s.old.given.limit }
+    ensures { Does linked.now out (λ p. pushes_or_global p found parts) s.old result s.new }
 {
     match found {
         ScopeFound::Object(o) => {
@@ -73,13 +63,10 @@ fn push_or_global(linked: &Linked, s: &mut State, found: ScopeFound, parts: u32)
 /// `findpropstrict`.
 pub fn find_strictly(linked: &Linked, s: &mut State, name: u32) -> Result<(), Stop>
     ghost out: { Outer }
-    requires set { IsSet linked.now s.old }
-    requires known { IsKnown linked.now s.old.given.limit }
+    requires can { CanDo linked.now out (λ p. finds_strictly p name) s.old }
     requires ready { IsReady (parts_count (form_at (setting linked.now out) name)) 1 s.old.frames }
     requires started { length s.old.started ≡ length linked.now.file.scripts }
-    requires free { IsOpen (finds_strictly (setting linked.now out) name (newest s.old.frames) (world s.old out)) }
-    ensures runs { Runs linked.now out (finds_strictly (setting linked.now out) name (newest s.old.frames)) s.old result s.new }
-    ensures limit { s.new.given.limit ≡ s.old.given.limit }
+    ensures { Does linked.now out (λ p. finds_strictly p name) s.old result s.new }
 {
     let parts = parts_of(linked, name);
     let wanted = name_of(linked, s, name, 0)?;
@@ -90,13 +77,10 @@ pub fn find_strictly(linked: &Linked, s: &mut State, name: u32) -> Result<(), St
 /// `findproperty`.
 pub fn find_or_global(linked: &Linked, s: &mut State, name: u32) -> Result<(), Stop>
     ghost out: { Outer }
-    requires set { IsSet linked.now s.old }
-    requires known { IsKnown linked.now s.old.given.limit }
+    requires can { CanDo linked.now out (λ p. finds_or_global p name) s.old }
     requires ready { IsReady (parts_count (form_at (setting linked.now out) name)) 1 s.old.frames }
     requires started { length s.old.started ≡ length linked.now.file.scripts }
-    requires free { IsOpen (finds_or_global (setting linked.now out) name (newest s.old.frames) (world s.old out)) }
-    ensures runs { Runs linked.now out (finds_or_global (setting linked.now out) name (newest s.old.frames)) s.old result s.new }
-    ensures limit { s.new.given.limit ≡ s.old.given.limit }
+    ensures { Does linked.now out (λ p. finds_or_global p name) s.old result s.new }
 {
     let parts = parts_of(linked, name);
     let wanted = name_of(linked, s, name, 0)?;

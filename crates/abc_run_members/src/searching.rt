@@ -1,15 +1,10 @@
-ghost use Rattle.std.specs.Prelude.{◌≡◌, ◌+◌, ◌<◌, ◌^◌, true, Ok};
+ghost use Rattle.std.specs.Prelude.{◌≡◌, ◌+◌, ◌<◌, ◌^◌, Ok};
 ghost use Rattle.abc_frames.specs.Ready.{IsReady};
-ghost use Rattle.abc_frames.specs.Frame.{newest};
-ghost use Rattle.abc_run_calls.specs.Arguments.{IsKnown};
-ghost use Rattle.abc_run_calls.specs.Calls.{CanFinish};
-ghost use Rattle.abc_run_state.specs.Outer.{Outer, setting, world};
+ghost use Rattle.abc_run_state.specs.Outer.{Outer, setting};
 ghost use Rattle.abc_run_state.specs.Settling.{given_by, taken_by};
-ghost use Rattle.abc_run_state.specs.Standing.{IsSet};
-ghost use Rattle.abc_run_state.specs.Stops.{IsOpen};
-ghost use Rattle.abc_run_state.specs.Turns.{Leaves, Runs};
 ghost use Rattle.abc_run_state.specs.declared.state.Left.TheVariants.{Goes};
 ghost use Rattle.abc_run_members.specs.Members.{calls_named, gets_named, parts_at, receiver_of, sets_named};
+ghost use Rattle.abc_run_members.specs.Doing.{CanDo, Dispatches, Does, DoesOrLeaves};
 
 use crate::naming::{call_on, read_on, write_on};
 use abc_heap_values::Value;
@@ -21,12 +16,9 @@ use abc_run_state::{How, Left, State, Stop, leaves, operand};
 #[inline(never)]
 pub fn get_property(linked: &Linked, s: &mut State, name: u32) -> Result<(), Stop>
     ghost out: { Outer }
-    requires set { IsSet linked.now s.old }
-    requires known { IsKnown linked.now s.old.given.limit }
+    requires can { CanDo linked.now out (λ p. gets_named p name) s.old }
     requires ready { IsReady (parts_at (setting linked.now out) name + 1) 1 s.old.frames }
-    requires free { IsOpen (gets_named (setting linked.now out) name (newest s.old.frames) (world s.old out)) }
-    ensures runs { Runs linked.now out (gets_named (setting linked.now out) name (newest s.old.frames)) s.old result s.new }
-    ensures limit { s.new.given.limit ≡ s.old.given.limit }
+    ensures { Does linked.now out (λ p. gets_named p name) s.old result s.new }
 {
     let parts = parts_of(linked, name);
     let v = operand(&s.frames, parts);
@@ -38,12 +30,9 @@ pub fn get_property(linked: &Linked, s: &mut State, name: u32) -> Result<(), Sto
 #[inline(never)]
 pub fn set_property(linked: &Linked, s: &mut State, name: u32, initial: bool) -> Result<(), Stop>
     ghost out: { Outer }
-    requires set { IsSet linked.now s.old }
-    requires known { IsKnown linked.now s.old.given.limit }
+    requires can { CanDo linked.now out (λ p. sets_named p name initial) s.old }
     requires ready { IsReady (parts_at (setting linked.now out) name + 2) 0 s.old.frames }
-    requires free { IsOpen (sets_named (setting linked.now out) name initial (newest s.old.frames) (world s.old out)) }
-    ensures runs { Runs linked.now out (sets_named (setting linked.now out) name initial (newest s.old.frames)) s.old result s.new }
-    ensures limit { s.new.given.limit ≡ s.old.given.limit }
+    ensures { Does linked.now out (λ p. sets_named p name initial) s.old result s.new }
 {
     let parts = parts_of(linked, name);
     let x = operand(&s.frames, 0);
@@ -70,15 +59,11 @@ fn call_searched(
     how: How,
 ) -> Result<Left, Stop>
     ghost out: { Outer }
-    requires set { IsSet linked.now s.old }
-    requires known { IsKnown linked.now s.old.given.limit }
+    requires can { CanDo linked.now out (λ p. calls_named p name count lexical how) s.old }
     requires ready { IsReady (count + parts_at (setting linked.now out) name + 1) (given_by how) s.old.frames }
     requires count { count < 2 ^ 30 }
     requires how { taken_by how ≡ count + parts_at (setting linked.now out) name + 1 }
-    requires free { IsOpen (calls_named (setting linked.now out) name count lexical how (newest s.old.frames) (world s.old out)) }
-    ensures leaves { Leaves linked.now out (calls_named (setting linked.now out) name count lexical how (newest s.old.frames)) s.old result s.new }
-    ensures finishes { CanFinish linked.now result s.new }
-    ensures limit { s.new.given.limit ≡ s.old.given.limit }
+    ensures { DoesOrLeaves linked.now out (λ p. calls_named p name count lexical how) s.old result s.new }
 {
     let parts = parts_of(linked, name);
     let v = operand(&s.frames, count + parts);
@@ -99,17 +84,12 @@ pub(crate) fn call_searching(
     left: &mut Result<Left, Stop>,
 ) -> bool
     ghost out: { Outer }
-    requires set { IsSet linked.now s.old }
-    requires known { IsKnown linked.now s.old.given.limit }
+    requires can { CanDo linked.now out (λ p. calls_named p name count lexical how) s.old }
     requires ready { IsReady (count + parts_at (setting linked.now out) name + 1) (given_by how) s.old.frames }
     requires count { count < 2 ^ 30 }
     requires how { taken_by how ≡ count + parts_at (setting linked.now out) name + 1 }
-    requires free { IsOpen (calls_named (setting linked.now out) name count lexical how (newest s.old.frames) (world s.old out)) }
     requires none { left.old ≡ Ok Goes }
-    ensures leaves { Leaves linked.now out (calls_named (setting linked.now out) name count lexical how (newest s.old.frames)) s.old left.new s.new }
-    ensures finishes { CanFinish linked.now left.new s.new }
-    ensures goes { result ≡ true → left.new ≡ Ok Goes }
-    ensures limit { s.new.given.limit ≡ s.old.given.limit }
+    ensures { Dispatches linked.now out (λ p. calls_named p name count lexical how) s.old result left.new s.new }
 {
     leaves(call_searched(linked, s, name, count, lexical, how), left)
 }

@@ -1,19 +1,16 @@
-ghost use Rattle.std.specs.Prelude.{◌≡◌, ◌+◌, ◌<◌, ◌≤◌, ◌^◌, false};
+ghost use Rattle.std.specs.Prelude.{◌≡◌, ◌+◌, ◌<◌, ◌≤◌, ◌^◌};
 ghost use Rattle.abc_heap_store.specs.Texts.{IsText};
 ghost use Rattle.abc_frames.specs.Ready.{IsReady};
 ghost use Rattle.abc_objects.specs.Values.{Exists};
 ghost use Rattle.abc_link_program.specs.Linked.{IsLayout};
 ghost use Rattle.abc_frames.specs.Frame.{arguments, newest};
-ghost use Rattle.abc_run_calls.specs.Calls.{CanFinish, settled_by};
-ghost use Rattle.abc_run_calls.specs.Arguments.{IsKnown};
+ghost use Rattle.abc_run_calls.specs.Calls.{settled_by};
 ghost use Rattle.abc_run_members.specs.Members.{parts_at};
 ghost use Rattle.abc_run_state.specs.Operands.{operand_at};
-ghost use Rattle.abc_run_state.specs.Outer.{Outer, setting, world};
+ghost use Rattle.abc_run_state.specs.Outer.{Outer, setting};
 ghost use Rattle.abc_run_state.specs.Settling.{given_by, taken_by};
-ghost use Rattle.abc_run_state.specs.Standing.{IsSet};
-ghost use Rattle.abc_run_state.specs.Stops.{IsOpen};
-ghost use Rattle.abc_run_state.specs.Turns.{Leaves, Runs};
 ghost use Rattle.abc_run_members.specs.Supers.{calls_super, calls_super_on, gets_super, reads_super, sets_super, writes_super};
+ghost use Rattle.abc_run_members.specs.Doing.{CanDo, Does, DoesOrLeaves};
 
 use crate::bases_above::find_super;
 use crate::found::{call_found, read_found};
@@ -35,15 +32,12 @@ fn read_super(
     how: How,
 ) -> Result<(), Stop>
     ghost out: { Outer }
-    requires set { IsSet linked.now s.old }
-    requires known { IsKnown linked.now s.old.given.limit }
+    requires can { CanDo linked.now out (λ p f. settled_by how f (reads_super p from.0 v name.now)) s.old }
     requires ready { IsReady (taken_by how) (given_by how) s.old.frames }
     requires from { IsLayout linked.now from }
     requires value { Exists linked.now s.old.arena v }
     requires name { IsText linked.now.file.strings s.old.arena name.now.text }
-    requires free { IsOpen (settled_by how (newest s.old.frames) (reads_super (setting linked.now out) from.0 v name.now) (world s.old out)) }
-    ensures runs { Runs linked.now out (settled_by how (newest s.old.frames) (reads_super (setting linked.now out) from.0 v name.now)) s.old result s.new }
-    ensures limit { s.new.given.limit ≡ s.old.given.limit }
+    ensures { Does linked.now out (λ p f. settled_by how f (reads_super p from.0 v name.now)) s.old result s.new }
 {
     let o = receiver(v)?;
     let found = find_super(linked, s, from, o, name, Want::Read);
@@ -61,8 +55,7 @@ fn write_super(
     how: How,
 ) -> Result<(), Stop>
     ghost out: { Outer }
-    requires set { IsSet linked.now s.old }
-    requires known { IsKnown linked.now s.old.given.limit }
+    requires can { CanDo linked.now out (λ p f. settled_by how f (writes_super p from.0 v name.now x)) s.old }
     requires ready { IsReady (taken_by how) (given_by how) s.old.frames }
     requires one { 1 ≤ taken_by how }
     requires from { IsLayout linked.now from }
@@ -70,9 +63,7 @@ fn write_super(
     requires name { IsText linked.now.file.strings s.old.arena name.now.text }
     requires value { Exists linked.now s.old.arena x }
     requires top { x ≡ operand_at 0 (newest s.old.frames) }
-    requires free { IsOpen (settled_by how (newest s.old.frames) (writes_super (setting linked.now out) from.0 v name.now x) (world s.old out)) }
-    ensures runs { Runs linked.now out (settled_by how (newest s.old.frames) (writes_super (setting linked.now out) from.0 v name.now x)) s.old result s.new }
-    ensures limit { s.new.given.limit ≡ s.old.given.limit }
+    ensures { Does linked.now out (λ p f. settled_by how f (writes_super p from.0 v name.now x)) s.old result s.new }
 {
     let o = receiver(v)?;
     let found = find_super(linked, s, from, o, name, Want::Write);
@@ -90,17 +81,13 @@ fn call_super_on(
     how: How,
 ) -> Result<Left, Stop>
     ghost out: { Outer }
-    requires set { IsSet linked.now s.old }
-    requires known { IsKnown linked.now s.old.given.limit }
+    requires can { CanDo linked.now out (λ p f. settled_by how f (calls_super_on p from.0 v name.now (arguments count f))) s.old }
     requires ready { IsReady (taken_by how) (given_by how) s.old.frames }
     requires count { count ≤ taken_by how }
     requires from { IsLayout linked.now from }
     requires value { Exists linked.now s.old.arena v }
     requires name { IsText linked.now.file.strings s.old.arena name.now.text }
-    requires free { IsOpen (settled_by how (newest s.old.frames) (calls_super_on (setting linked.now out) from.0 v name.now (arguments count (newest s.old.frames))) (world s.old out)) }
-    ensures leaves { Leaves linked.now out (settled_by how (newest s.old.frames) (calls_super_on (setting linked.now out) from.0 v name.now (arguments count (newest s.old.frames)))) s.old result s.new }
-    ensures finishes { CanFinish linked.now result s.new }
-    ensures limit { s.new.given.limit ≡ s.old.given.limit }
+    ensures { DoesOrLeaves linked.now out (λ p f. settled_by how f (calls_super_on p from.0 v name.now (arguments count f))) s.old result s.new }
 {
     let o = receiver(v)?;
     let found = find_super(linked, s, from, o, name, Want::Read);
@@ -111,13 +98,10 @@ fn call_super_on(
 /// `getsuper`, in a method of instances of a layout.
 pub fn get_super(linked: &Linked, s: &mut State, name: u32, from: LayoutId) -> Result<(), Stop>
     ghost out: { Outer }
-    requires set { IsSet linked.now s.old }
-    requires known { IsKnown linked.now s.old.given.limit }
+    requires can { CanDo linked.now out (λ p. gets_super p name from.0) s.old }
     requires ready { IsReady (parts_at (setting linked.now out) name + 1) 1 s.old.frames }
     requires from { IsLayout linked.now from }
-    requires free { IsOpen (gets_super (setting linked.now out) name from.0 (newest s.old.frames) (world s.old out)) }
-    ensures runs { Runs linked.now out (gets_super (setting linked.now out) name from.0 (newest s.old.frames)) s.old result s.new }
-    ensures limit { s.new.given.limit ≡ s.old.given.limit }
+    ensures { Does linked.now out (λ p. gets_super p name from.0) s.old result s.new }
 {
     let parts = parts_of(linked, name);
     let v = operand(&s.frames, parts);
@@ -128,13 +112,10 @@ pub fn get_super(linked: &Linked, s: &mut State, name: u32, from: LayoutId) -> R
 /// `setsuper`: the value is on top.
 pub fn set_super(linked: &Linked, s: &mut State, name: u32, from: LayoutId) -> Result<(), Stop>
     ghost out: { Outer }
-    requires set { IsSet linked.now s.old }
-    requires known { IsKnown linked.now s.old.given.limit }
+    requires can { CanDo linked.now out (λ p. sets_super p name from.0) s.old }
     requires ready { IsReady (parts_at (setting linked.now out) name + 2) 0 s.old.frames }
     requires from { IsLayout linked.now from }
-    requires free { IsOpen (sets_super (setting linked.now out) name from.0 (newest s.old.frames) (world s.old out)) }
-    ensures runs { Runs linked.now out (sets_super (setting linked.now out) name from.0 (newest s.old.frames)) s.old result s.new }
-    ensures limit { s.new.given.limit ≡ s.old.given.limit }
+    ensures { Does linked.now out (λ p. sets_super p name from.0) s.old result s.new }
 {
     let parts = parts_of(linked, name);
     let x = operand(&s.frames, 0);
@@ -153,16 +134,12 @@ pub fn call_super(
     how: How,
 ) -> Result<Left, Stop>
     ghost out: { Outer }
-    requires set { IsSet linked.now s.old }
-    requires known { IsKnown linked.now s.old.given.limit }
+    requires can { CanDo linked.now out (λ p. calls_super p name from.0 count how) s.old }
     requires ready { IsReady (count + parts_at (setting linked.now out) name + 1) (given_by how) s.old.frames }
     requires count { count < 2 ^ 30 }
     requires how { taken_by how ≡ count + parts_at (setting linked.now out) name + 1 }
     requires from { IsLayout linked.now from }
-    requires free { IsOpen (calls_super (setting linked.now out) name from.0 count how (newest s.old.frames) (world s.old out)) }
-    ensures leaves { Leaves linked.now out (calls_super (setting linked.now out) name from.0 count how (newest s.old.frames)) s.old result s.new }
-    ensures finishes { CanFinish linked.now result s.new }
-    ensures limit { s.new.given.limit ≡ s.old.given.limit }
+    ensures { DoesOrLeaves linked.now out (λ p. calls_super p name from.0 count how) s.old result s.new }
 {
     let parts = parts_of(linked, name);
     let v = operand(&s.frames, count + parts);

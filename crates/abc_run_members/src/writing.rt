@@ -9,15 +9,14 @@ ghost use Rattle.abc_objects.specs.Stands.{StandsOver};
 ghost use Rattle.abc_objects.specs.Values.{Exists, IsObject};
 ghost use Rattle.abc_heap_search.specs.ElementNames.{IsNumber};
 ghost use Rattle.abc_frames.specs.Frame.{newest};
-ghost use Rattle.abc_run_calls.specs.Arguments.{IsKnown};
 ghost use Rattle.abc_run_state.specs.Operands.{operand_at};
 ghost use Rattle.abc_run_state.specs.Outer.{Outer, setting, world};
 ghost use Rattle.abc_run_state.specs.Settling.{given_by, taken_by};
 ghost use Rattle.abc_run_state.specs.Standing.{IsSet, Stays};
 ghost use Rattle.abc_run_state.specs.Stops.{IsOpen, answer};
-ghost use Rattle.abc_run_state.specs.Turns.{Runs};
 ghost use Rattle.abc_meaning.specs.Members.{write_element as write_element_so, write_own as write_own_so, write_property as write_property_so, writes_to};
 ghost use Rattle.abc_run_members.specs.Members.{may_take as may_take_so, public_written, puts_element, slot_written_if, value_written, writes_found, writes_value};
+ghost use Rattle.abc_run_members.specs.Doing.{CanDo, Does};
 
 use crate::found::enter_on;
 use abc_base::{Fault, HostClass};
@@ -237,8 +236,7 @@ fn write_at_once(
     requires name { IsText linked.now.file.strings s.old.arena name.now.text }
     requires value { Exists linked.now s.old.arena v }
     requires free { IsOpen (writes_value (setting linked.now out) o name.now v initial found how (newest s.old.frames) (world s.old out)) }
-    ensures runs { Runs linked.now out (writes_value (setting linked.now out) o name.now v initial found how (newest s.old.frames)) s.old result s.new }
-    ensures limit { s.new.given.limit ≡ s.old.given.limit }
+    ensures { Does linked.now out (λ p. writes_value p o name.now v initial found how) s.old result s.new }
 {
     write_value(linked, s, o, name, v, initial, found)?;
     settle(&mut s.frames, how, Value::Undefined);
@@ -264,8 +262,7 @@ fn write_declared(
     requires name { IsText linked.now.file.strings s.old.arena name.now.text }
     requires value { Exists linked.now s.old.arena v }
     requires free { IsOpen (writes_value (setting linked.now out) o name.now v initial found how (newest s.old.frames) (world s.old out)) }
-    ensures runs { Runs linked.now out (writes_value (setting linked.now out) o name.now v initial found how (newest s.old.frames)) s.old result s.new }
-    ensures limit { s.new.given.limit ≡ s.old.given.limit }
+    ensures { Does linked.now out (λ p. writes_value p o name.now v initial found how) s.old result s.new }
 {
     write_at_once(linked, s, o, name, v, initial, found, how)
 }
@@ -284,17 +281,14 @@ pub fn write_found(
     how: How,
 ) -> Result<(), Stop>
     ghost out: { Outer }
-    requires set { IsSet linked.now s.old }
-    requires known { IsKnown linked.now s.old.given.limit }
+    requires can { CanDo linked.now out (λ p. writes_found p o name.now v initial found how) s.old }
     requires ready { IsReady (taken_by how) (given_by how) s.old.frames }
     requires one { 1 ≤ taken_by how }
     requires inside { IsObject s.old.arena o }
     requires name { IsText linked.now.file.strings s.old.arena name.now.text }
     requires value { Exists linked.now s.old.arena v }
     requires top { v ≡ operand_at 0 (newest s.old.frames) }
-    requires free { IsOpen (writes_found (setting linked.now out) o name.now v initial found how (newest s.old.frames) (world s.old out)) }
-    ensures runs { Runs linked.now out (writes_found (setting linked.now out) o name.now v initial found how (newest s.old.frames)) s.old result s.new }
-    ensures limit { s.new.given.limit ≡ s.old.given.limit }
+    ensures { Does linked.now out (λ p. writes_found p o name.now v initial found how) s.old result s.new }
 {
     match found {
         Found::Missing => write_at_once(linked, s, o, name, v, initial, Found::Missing, how),

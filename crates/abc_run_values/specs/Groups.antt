@@ -1,54 +1,55 @@
 -- The opcodes of each group of plain instructions.
 use Rattle.std.specs.Prelude.{ℕ, List, [], ◌∷◌}
+use Rattle.abc_run_values.specs.declared.op.TheConstants as op
 
--- nop, throw, label, pushwith, popscope, pushscope
+-- what goes on, throws, or changes the scopes
 abbrev pub control_ops : List ℕ
-control_ops = 0x02 ∷ 0x03 ∷ 0x09 ∷ 0x1C ∷ 0x1D ∷ 0x30 ∷ []
+control_ops = op.NOP ∷ op.THROW ∷ op.LABEL ∷ op.PUSHWITH ∷ op.POPSCOPE ∷ op.PUSHSCOPE ∷ []
 
--- pushnull, pushundefined, pushtrue, pushfalse, pushnan, pop, dup, swap
+-- what pushes a constant, and moves operands
 abbrev pub push_ops : List ℕ
-push_ops = 0x20 ∷ 0x21 ∷ 0x26 ∷ 0x27 ∷ 0x28 ∷ 0x29 ∷ 0x2A ∷ 0x2B ∷ []
+push_ops = op.PUSHNULL ∷ op.PUSHUNDEFINED ∷ op.PUSHTRUE ∷ op.PUSHFALSE ∷ op.PUSHNAN ∷ op.POP ∷ op.DUP ∷ op.SWAP ∷ []
 
--- convert_s, convert_i, convert_u, convert_d, convert_b, convert_o, coerce_a, coerce_s
+-- conversions
 abbrev pub convert_ops : List ℕ
-convert_ops = 0x70 ∷ 0x73 ∷ 0x74 ∷ 0x75 ∷ 0x76 ∷ 0x77 ∷ 0x82 ∷ 0x85 ∷ []
+convert_ops = op.CONVERT_S ∷ op.CONVERT_I ∷ op.CONVERT_U ∷ op.CONVERT_D ∷ op.CONVERT_B ∷ op.CONVERT_O ∷ op.COERCE_A ∷ op.COERCE_S ∷ []
 
--- negate, increment, decrement, typeof, not, bitnot, increment_i, decrement_i, negate_i
+-- what is computed of one value
 abbrev pub single_ops : List ℕ
-single_ops = 0x90 ∷ 0x91 ∷ 0x93 ∷ 0x95 ∷ 0x96 ∷ 0x97 ∷ 0xC0 ∷ 0xC1 ∷ 0xC4 ∷ []
+single_ops = op.NEGATE ∷ op.INCREMENT ∷ op.DECREMENT ∷ op.TYPEOF ∷ op.NOT ∷ op.BITNOT ∷ op.INCREMENT_I ∷ op.DECREMENT_I ∷ op.NEGATE_I ∷ []
 
--- add to bitxor, add_i, subtract_i, multiply_i
+-- what is computed of two
 abbrev pub double_ops : List ℕ
-double_ops = 0xA0 ∷ 0xA1 ∷ 0xA2 ∷ 0xA3 ∷ 0xA4 ∷ 0xA5 ∷ 0xA6 ∷ 0xA7 ∷ 0xA8 ∷ 0xA9 ∷ 0xAA ∷ 0xC5 ∷ 0xC6 ∷ 0xC7 ∷ []
+double_ops = op.ADD ∷ op.SUBTRACT ∷ op.MULTIPLY ∷ op.DIVIDE ∷ op.MODULO ∷ op.LSHIFT ∷ op.RSHIFT ∷ op.URSHIFT ∷ op.BITAND ∷ op.BITOR ∷ op.BITXOR ∷ op.ADD_I ∷ op.SUBTRACT_I ∷ op.MULTIPLY_I ∷ []
 
--- equals to greaterequals
+-- comparisons
 abbrev pub comparison_ops : List ℕ
-comparison_ops = 0xAB ∷ 0xAC ∷ 0xAD ∷ 0xAE ∷ 0xAF ∷ 0xB0 ∷ []
+comparison_ops = op.EQUALS ∷ op.STRICTEQUALS ∷ op.LESSTHAN ∷ op.LESSEQUALS ∷ op.GREATERTHAN ∷ op.GREATEREQUALS ∷ []
 
--- getlocal_0 to 3, setlocal_0 to 3
+-- the first four locals
 abbrev pub local_ops : List ℕ
-local_ops = 0xD0 ∷ 0xD1 ∷ 0xD2 ∷ 0xD3 ∷ 0xD4 ∷ 0xD5 ∷ 0xD6 ∷ 0xD7 ∷ []
+local_ops = op.GETLOCAL_0 ∷ op.GETLOCAL_1 ∷ op.GETLOCAL_2 ∷ op.GETLOCAL_3 ∷ op.SETLOCAL_0 ∷ op.SETLOCAL_1 ∷ op.SETLOCAL_2 ∷ op.SETLOCAL_3 ∷ []
 
--- returnvoid, returnvalue
+-- returns
 abbrev pub return_ops : List ℕ
-return_ops = 0x47 ∷ 0x48 ∷ []
+return_ops = op.RETURNVOID ∷ op.RETURNVALUE ∷ []
 
--- kill, pushstring, pushint, pushuint, pushdouble, pushnamespace, getlocal, setlocal, debugline, debugfile
+-- constants of pools, locals by their numbers, and what is for a debugger
 abbrev pub constant_ops : List ℕ
-constant_ops = 0x08 ∷ 0x2C ∷ 0x2D ∷ 0x2E ∷ 0x2F ∷ 0x31 ∷ 0x62 ∷ 0x63 ∷ 0xF0 ∷ 0xF1 ∷ []
+constant_ops = op.KILL ∷ op.PUSHSTRING ∷ op.PUSHINT ∷ op.PUSHUINT ∷ op.PUSHDOUBLE ∷ op.PUSHNAMESPACE ∷ op.GETLOCAL ∷ op.SETLOCAL ∷ op.DEBUGLINE ∷ op.DEBUGFILE ∷ []
 
--- coerce, astype, istype
+-- what asks for a type that is named
 abbrev pub type_ops : List ℕ
-type_ops = 0x80 ∷ 0x86 ∷ 0xB2 ∷ []
+type_ops = op.COERCE ∷ op.ASTYPE ∷ op.ISTYPE ∷ []
 
--- inclocal, declocal, inclocal_i, declocal_i
+-- locals that count
 abbrev pub count_ops : List ℕ
-count_ops = 0x92 ∷ 0x94 ∷ 0xC2 ∷ 0xC3 ∷ []
+count_ops = op.INCLOCAL ∷ op.DECLOCAL ∷ op.INCLOCAL_I ∷ op.DECLOCAL_I ∷ []
 
--- ifnlt to ifnge, jump, iftrue, iffalse
+-- branches, below ifeq
 abbrev pub first_branch_ops : List ℕ
-first_branch_ops = 0x0C ∷ 0x0D ∷ 0x0E ∷ 0x0F ∷ 0x10 ∷ 0x11 ∷ 0x12 ∷ []
+first_branch_ops = op.IFNLT ∷ op.IFNLE ∷ op.IFNGT ∷ op.IFNGE ∷ op.JUMP ∷ op.IFTRUE ∷ op.IFFALSE ∷ []
 
--- ifeq to ifstrictne
+-- and from ifeq on
 abbrev pub last_branch_ops : List ℕ
-last_branch_ops = 0x13 ∷ 0x14 ∷ 0x15 ∷ 0x16 ∷ 0x17 ∷ 0x18 ∷ 0x19 ∷ 0x1A ∷ []
+last_branch_ops = op.IFEQ ∷ op.IFNE ∷ op.IFLT ∷ op.IFLE ∷ op.IFGT ∷ op.IFGE ∷ op.IFSTRICTEQ ∷ op.IFSTRICTNE ∷ []

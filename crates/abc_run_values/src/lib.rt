@@ -8,6 +8,7 @@ mod moves;
 mod moving;
 mod numbered;
 mod numbers;
+pub mod op;
 mod others;
 mod returning;
 
@@ -18,4 +19,4 @@ pub use moving::{run_control, run_push};
 pub use numbered::{run_constant, run_count, run_typed};
 pub use numbers::{number_on_top, numbers_on_top};
 pub use others::{run_byte, run_debug, run_scope_object, run_short};
-pub use returning::{returns_at_once, run_return};
+pub use returning::{run_return, run_return_fast};

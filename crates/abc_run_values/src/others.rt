@@ -1,9 +1,7 @@
 ghost use Rattle.std.specs.Prelude.{◌≡◌};
-ghost use Rattle.abc_frames.specs.Frame.{newest};
-ghost use Rattle.abc_run_state.specs.Outer.{Outer, setting};
-ghost use Rattle.abc_run_state.specs.Turns.{Runs};
+ghost use Rattle.abc_run_state.specs.Outer.{Outer};
 ghost use Rattle.abc_heap_values.specs.declared.values.Value.TheVariants.{Num};
-ghost use Rattle.abc_run_values.specs.Here.{act_here};
+ghost use Rattle.abc_run_values.specs.Here.{RunsHere};
 ghost use Rattle.abc_run_values.specs.Ready.{CanRun};
 ghost use Rattle.abc_file_types.specs.declared.code.Instr.TheVariants.{Byte, Debug, ScopeObject, Short};
 
@@ -32,8 +30,7 @@ fn short_value(n: i16) -> Value
 pub fn run_byte(linked: &Linked, s: &mut State, n: i8) -> Result<(), Stop>
     ghost out: { Outer }
     requires { CanRun linked.now out s.old (Byte n) }
-    ensures runs { Runs linked.now out (act_here (setting linked.now out) (newest s.old.frames) (Byte n)) s.old result s.new }
-    ensures limit { s.new.given.limit ≡ s.old.given.limit }
+    ensures { RunsHere linked.now out (Byte n) s.old result s.new }
 {
     push_value(linked, s, byte_value(n))
 }
@@ -42,8 +39,7 @@ pub fn run_byte(linked: &Linked, s: &mut State, n: i8) -> Result<(), Stop>
 pub fn run_short(linked: &Linked, s: &mut State, n: i16) -> Result<(), Stop>
     ghost out: { Outer }
     requires { CanRun linked.now out s.old (Short n) }
-    ensures runs { Runs linked.now out (act_here (setting linked.now out) (newest s.old.frames) (Short n)) s.old result s.new }
-    ensures limit { s.new.given.limit ≡ s.old.given.limit }
+    ensures { RunsHere linked.now out (Short n) s.old result s.new }
 {
     push_value(linked, s, short_value(n))
 }
@@ -52,8 +48,7 @@ pub fn run_short(linked: &Linked, s: &mut State, n: i16) -> Result<(), Stop>
 pub fn run_scope_object(linked: &Linked, s: &mut State, n: u8) -> Result<(), Stop>
     ghost out: { Outer }
     requires { CanRun linked.now out s.old (ScopeObject n) }
-    ensures runs { Runs linked.now out (act_here (setting linked.now out) (newest s.old.frames) (ScopeObject n)) s.old result s.new }
-    ensures limit { s.new.given.limit ≡ s.old.given.limit }
+    ensures { RunsHere linked.now out (ScopeObject n) s.old result s.new }
 {
     read_scope(linked, s, n)
 }
@@ -69,8 +64,7 @@ pub fn run_debug(
 ) -> Result<(), Stop>
     ghost out: { Outer }
     requires { CanRun linked.now out s.old (Debug kind name reg extra) }
-    ensures runs { Runs linked.now out (act_here (setting linked.now out) (newest s.old.frames) (Debug kind name reg extra)) s.old result s.new }
-    ensures limit { s.new.given.limit ≡ s.old.given.limit }
+    ensures { RunsHere linked.now out (Debug kind name reg extra) s.old result s.new }
 {
     step_on(linked, s)
 }

@@ -1,13 +1,12 @@
-ghost use Rattle.std.specs.Prelude.{◌≡◌, ◌<◌, length, true, false};
+ghost use Rattle.std.specs.Prelude.{◌≡◌, ◌<◌, length, true};
 ghost use Rattle.abc_meaning.specs.At.{Returns};
 ghost use Rattle.abc_meaning.specs.Simple.{returns};
-ghost use Rattle.abc_heap_values.specs.declared.values.Value.{Value};
 ghost use Rattle.abc_objects.specs.Stands.{StandsOver};
 ghost use Rattle.abc_objects.specs.Values.{Exists};
 ghost use Rattle.abc_run_values.specs.Groups.{return_ops};
-ghost use Rattle.abc_run_values.specs.Here.{act_here};
+ghost use Rattle.abc_run_values.specs.Here.{LeavesHere, act_here};
 ghost use Rattle.abc_run_values.specs.Ready.{CanRun};
-ghost use Rattle.abc_run_values.specs.Returned.{IsReturned};
+ghost use Rattle.abc_run_values.specs.Returned.{IsReturned, ReturnsIf};
 ghost use Rattle.abc_frames.specs.Frame.{newest};
 ghost use Rattle.abc_run_state.specs.Outer.{Outer, setting, world};
 ghost use Rattle.abc_run_state.specs.Stops.{IsOpen};
@@ -15,7 +14,9 @@ ghost use Rattle.abc_run_state.specs.Turns.{Leaves};
 ghost use Rattle.abc_meaning.specs.World.{Went};
 ghost use Rattle.abc_file_types.specs.Opcodes.{is_in};
 ghost use Rattle.abc_file_types.specs.declared.code.Instr.TheVariants.{Plain};
+ghost use Rattle.abc_run_values.specs.declared.op.TheConstants.{RETURNVALUE};
 
+use crate::op;
 use abc_heap_values::Value;
 use abc_link::Linked;
 use abc_run_state::{Left, State, Stop, coerce, is_of_named, operand};
@@ -48,13 +49,12 @@ pub fn run_return(linked: &Linked, s: &mut State, op: u8) -> Result<Left, Stop>
     ghost out: { Outer }
     requires run { CanRun linked.now out s.old (Plain op) }
     requires among { is_in op return_ops ≡ true }
-    ensures leaves { Leaves linked.now out (act_here (setting linked.now out) (newest s.old.frames) (Plain op)) s.old result s.new }
+    ensures leaves { LeavesHere linked.now out (Plain op) s.old result s.new }
     ensures returns { IsReturned result }
-    ensures limit { s.new.given.limit ≡ s.old.given.limit }
 {
     match op {
-        0x47 => return_value(linked, s, Value::Undefined),
-        0x48 => {
+        op::RETURNVOID => return_value(linked, s, Value::Undefined),
+        op::RETURNVALUE => {
             let v = operand(&s.frames, 0);
             return_value(linked, s, v)
         }
@@ -81,9 +81,7 @@ fn returns_whole(linked: &Linked, s: &State, v: Value) -> bool
 fn returns_kept(linked: &Linked, s: &State, v: Value, left: &mut Result<Left, Stop>) -> bool
     ghost out: { Outer }
     requires { 0 < length s.now.frames.living }
-    ensures leaves { result ≡ true → Leaves linked.now out (returns (setting linked.now out) (newest s.now.frames) v) s.now left.new s.now }
-    ensures returns { result ≡ true → IsReturned left.new }
-    ensures undone { result ≡ false → left.new ≡ left.old }
+    ensures { ReturnsIf result linked.now out (λ p f. returns p f v) s.now left.old left.new }
 {
     if !returns_whole(linked, s, v) {
         return false;
@@ -96,10 +94,8 @@ fn returns_kept(linked: &Linked, s: &State, v: Value, left: &mut Result<Left, St
 #[inline(always)]
 fn returns_number(linked: &Linked, s: &State, left: &mut Result<Left, Stop>) -> bool
     ghost out: { Outer }
-    requires { CanRun linked.now out s.now (Plain 0x48) }
-    ensures leaves { result ≡ true → Leaves linked.now out (act_here (setting linked.now out) (newest s.now.frames) (Plain 0x48)) s.now left.new s.now }
-    ensures returns { result ≡ true → IsReturned left.new }
-    ensures undone { result ≡ false → left.new ≡ left.old }
+    requires { CanRun linked.now out s.now (Plain RETURNVALUE) }
+    ensures { ReturnsIf result linked.now out (λ p f. act_here p f (Plain RETURNVALUE)) s.now left.old left.new }
 {
     let v = operand(&s.frames, 0);
     match v {
@@ -108,18 +104,17 @@ fn returns_number(linked: &Linked, s: &State, left: &mut Result<Left, Stop>) -> 
     }
 }
 
-/// `returnvalue` of a number that is returned as it stands: whether it is done; then that is put into `left`, else nothing is. (So no
-/// more of it is copied than the number.)
+/// The fast path of `run_return`, for a number that is returned as it stands: whether it is done; then that is put into `left`. It says
+/// no, and has done nothing, of `returnvoid`, and where the top operand is no number or is to be coerced. (So no more of it is copied
+/// than the number.)
 #[inline(always)]
-pub fn returns_at_once(linked: &Linked, s: &State, op: u8, left: &mut Result<Left, Stop>) -> bool
+pub fn run_return_fast(linked: &Linked, s: &State, op: u8, left: &mut Result<Left, Stop>) -> bool
     ghost out: { Outer }
     requires { CanRun linked.now out s.now (Plain op) }
-    ensures leaves { result ≡ true → Leaves linked.now out (act_here (setting linked.now out) (newest s.now.frames) (Plain op)) s.now left.new s.now }
-    ensures returns { result ≡ true → IsReturned left.new }
-    ensures undone { result ≡ false → left.new ≡ left.old }
+    ensures { ReturnsIf result linked.now out (λ p f. act_here p f (Plain op)) s.now left.old left.new }
 {
     match op {
-        0x48 => returns_number(linked, s, left),
+        op::RETURNVALUE => returns_number(linked, s, left),
         _ => false,
     }
 }

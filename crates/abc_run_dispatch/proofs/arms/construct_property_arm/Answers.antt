@@ -1,13 +1,7 @@
-use Rattle.abc_run_calls.proofs.Finishing.{goes_finishes}
-use Rattle.abc_run_state.proofs.Told.{runs_leaves}
-use Rattle.abc_run_values.specs.Here.{act_here}
-use Rattle.abc_frames.specs.Frame.{newest}
-use Rattle.abc_run_state.specs.Outer.{setting}
+use Rattle.abc_run_dispatch.proofs.Dispatched.{dispatches_run}
 use Rattle.abc_file_types.specs.declared.code.Instr.TheVariants.{Two}
+use Rattle.abc_run_values.specs.declared.op.TheConstants.{CONSTRUCTPROP}
 use Rattle.abc_run_dispatch.proofs.arms.construct_property_arm.Goals as goal
 
-pub returns-clause-leaves : goal.returns-clause-leaves
-returns-clause-leaves g c = runs_leaves c.args.linked.now g.out (act_here (setting c.args.linked.now g.out) (newest c.args.s.now.frames) (Two 74 c.args.n c.args.count)) c.args.s.now c.run_construct_property.new.s c.run_construct_property.result _ c.goes.ensures.left c.run_construct_property.ensures.runs
-
-pub returns-clause-finishes : goal.returns-clause-finishes
-returns-clause-finishes g c = goes_finishes c.args.linked.now c.run_construct_property.result c.run_construct_property.new.s _ c.goes.ensures.left
+pub returns : goal.returns
+returns g c = dispatches_run c.args.linked.now g.out c.args.s.now (Two CONSTRUCTPROP c.args.n c.args.count) c.run_construct_property.new.s _ _ c.goes.ensures.goes c.run_construct_property.result c.run_construct_property.ensures c.goes.ensures.left

@@ -1,52 +1,29 @@
-use Rattle.std.proofs.Common.{◌∙◌, ap, subst, sym}
-use Rattle.std.specs.Prelude.{Ok}
-use Rattle.abc_run_calls.proofs.Finishing.{goes_finishes}
-use Rattle.abc_run_state.proofs.Told.{runs_leaves}
+use Rattle.std.proofs.Common.{subst, sym}
+use Rattle.abc_run_dispatch.proofs.Dispatched.{dispatches_done, dispatches_run}
+use Rattle.abc_run_dispatch.specs.Dispatching.{CanDispatch, DispatchesHere}
 use Rattle.abc_run_state.proofs.AtOnce.{is_done, not_done}
-use Rattle.abc_run_calls.specs.Arguments.{IsKnown}
 use Rattle.abc_run_values.specs.Here.{act_here}
-use Rattle.abc_run_values.specs.Ready.{CanRun}
 use Rattle.abc_frames.specs.Frame.{newest}
 use Rattle.abc_run_state.specs.Outer.{setting}
-use Rattle.abc_run_state.specs.Turns.{Leaves}
 use Rattle.abc_run_state.specs.declared.state.State.{State}
 use Rattle.abc_file_types.specs.declared.code.Instr.TheVariants.{One}
 use Rattle.abc_run_dispatch.proofs.arms.property_arm.Goals as goal
 
-pub returns-then-run_property_at_once-clause-leaves : goal.returns-then-run_property_at_once-clause-leaves
-returns-then-run_property_at_once-clause-leaves g c =
+pub returns-then-run_property_fast : goal.returns-then-run_property_fast
+returns-then-run_property_fast g c =
     let act = act_here (setting c.args.linked.now g.out) (newest c.args.s.now.frames) (One c.args.op c.args.n) in
-    runs_leaves c.args.linked.now g.out act c.args.s.now c.run_property_at_once.new.s (Ok tt) _ c.requires.1.1.1 (is_done _ c.args.linked.now g.out act c.args.s.now c.run_property_at_once.new.s c.run_property_at_once.ensures c.if-run_property_at_once.true).0
-
-pub returns-then-run_property_at_once-clause-finishes : goal.returns-then-run_property_at_once-clause-finishes
-returns-then-run_property_at_once-clause-finishes g c = goes_finishes c.args.linked.now (Ok tt) c.run_property_at_once.new.s _ c.requires.1.1.1
-
-pub returns-then-run_property_at_once-clause-limit : goal.returns-then-run_property_at_once-clause-limit
-returns-then-run_property_at_once-clause-limit g c =
-    let act = act_here (setting c.args.linked.now g.out) (newest c.args.s.now.frames) (One c.args.op c.args.n) in
-    (is_done _ c.args.linked.now g.out act c.args.s.now c.run_property_at_once.new.s c.run_property_at_once.ensures c.if-run_property_at_once.true).1
+    dispatches_done c.args.linked.now g.out c.args.s.now (One c.args.op c.args.n) c.run_property_fast.new.s _ _ c.requires.0.none (is_done _ c.args.linked.now g.out act c.args.s.now c.run_property_fast.new.s c.run_property_fast.ensures c.if-run_property_fast.true)
 
 pub run_property-requires : goal.run_property-requires
 run_property-requires g c =
     let act = act_here (setting c.args.linked.now g.out) (newest c.args.s.now.frames) (One c.args.op c.args.n) in
-    let same = sym (not_done _ c.args.linked.now g.out act c.args.s.now c.run_property_at_once.new.s c.run_property_at_once.ensures c.if-run_property_at_once.false) in (
-      subst (λ (x : State). CanRun c.args.linked.now g.out x (One c.args.op c.args.n)) same c.requires.0,
-      (subst (λ (x : State). IsKnown c.args.linked.now x.given.limit) same c.requires.1.0, c.requires.1.1.0),
-    )
+    let same = not_done _ c.args.linked.now g.out act c.args.s.now c.run_property_fast.new.s c.run_property_fast.ensures c.if-run_property_fast.false in
+    let can = subst (λ (x : State). CanDispatch c.args.linked.now g.out (One c.args.op c.args.n) x c.args.left.now) (sym same) c.requires.0 in
+    (can.run, (can.equipped.known, c.requires.1))
 
-pub returns-clause-leaves : goal.returns-clause-leaves
-returns-clause-leaves g c =
-    let l = c.args.linked.now in
-    let act = act_here (setting l g.out) (newest c.args.s.now.frames) (One c.args.op c.args.n) in
-    let mid = c.run_property_at_once.new.s in
-    let same = not_done _ l g.out act c.args.s.now mid c.run_property_at_once.ensures c.if-run_property_at_once.false in
-    subst (λ (x : State). Leaves l g.out (act_here (setting l g.out) (newest x.frames) (One c.args.op c.args.n)) x c.goes.new.left c.run_property.new.s) same
-    (runs_leaves l g.out (act_here (setting l g.out) (newest mid.frames) (One c.args.op c.args.n)) mid c.run_property.new.s c.run_property.result _ c.goes.ensures.left c.run_property.ensures.runs)
-
-pub returns-clause-finishes : goal.returns-clause-finishes
-returns-clause-finishes g c = goes_finishes c.args.linked.now c.run_property.result c.run_property.new.s _ c.goes.ensures.left
-
-pub returns-clause-limit : goal.returns-clause-limit
-returns-clause-limit g c =
+pub returns : goal.returns
+returns g c =
     let act = act_here (setting c.args.linked.now g.out) (newest c.args.s.now.frames) (One c.args.op c.args.n) in
-    c.run_property.ensures.limit ∙ ap (λ (x : State). x.given.limit) (not_done _ c.args.linked.now g.out act c.args.s.now c.run_property_at_once.new.s c.run_property_at_once.ensures c.if-run_property_at_once.false)
+    let same = not_done _ c.args.linked.now g.out act c.args.s.now c.run_property_fast.new.s c.run_property_fast.ensures c.if-run_property_fast.false in
+    let does = dispatches_run c.args.linked.now g.out c.run_property_fast.new.s (One c.args.op c.args.n) c.run_property.new.s c.goes.result c.goes.new.left c.goes.ensures.goes c.run_property.result c.run_property.ensures c.goes.ensures.left in
+    subst (λ (x : State). DispatchesHere c.args.linked.now g.out (One c.args.op c.args.n) x c.goes.result c.goes.new.left c.run_property.new.s) same does

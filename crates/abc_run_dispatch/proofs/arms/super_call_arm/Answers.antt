@@ -1,13 +1,6 @@
-use Rattle.abc_run_calls.proofs.Finishing.{told_finishes}
-use Rattle.abc_run_state.proofs.Told.{told_leaves}
-use Rattle.abc_run_values.specs.Here.{act_here}
-use Rattle.abc_frames.specs.Frame.{newest}
-use Rattle.abc_run_state.specs.Outer.{setting}
+use Rattle.abc_run_dispatch.proofs.Dispatched.{dispatches_left}
 use Rattle.abc_file_types.specs.declared.code.Instr.TheVariants.{Two}
 use Rattle.abc_run_dispatch.proofs.arms.super_call_arm.Goals as goal
 
-pub returns-clause-leaves : goal.returns-clause-leaves
-returns-clause-leaves g c = told_leaves c.args.linked.now g.out (act_here (setting c.args.linked.now g.out) (newest c.args.s.now.frames) (Two c.args.op c.args.n c.args.count)) c.args.s.now c.run_super_call.new.s c.run_super_call.result _ c.leaves.ensures.left c.run_super_call.ensures.leaves
-
-pub returns-clause-finishes : goal.returns-clause-finishes
-returns-clause-finishes g c = told_finishes c.args.linked.now c.run_super_call.result c.run_super_call.new.s _ c.leaves.ensures.left c.run_super_call.ensures.finishes
+pub returns : goal.returns
+returns g c = dispatches_left c.args.linked.now g.out c.args.s.now (Two c.args.op c.args.n c.args.count) c.run_super_call.new.s _ _ c.leaves.ensures.goes c.run_super_call.result c.run_super_call.ensures.leaves c.run_super_call.ensures.finishes c.leaves.ensures.left

@@ -6,8 +6,10 @@ use Rattle.abc_run_dispatch.proofs.constructing.run_construct.Goals as goal
 pub construct-requires : goal.construct-requires
 construct-requires g c =
     let can = c.requires.0 in
-    let d = op_42 c.args.linked.now g.out c.args.s.now c.args.count can in
-    (can.set, (c.requires.1, (d.ready, (can.spelled.1, open_as c.args.linked.now g.out c.args.s.now (One 0x42 c.args.count) _ 1 _ d can.free))))
+    let d = op_42 c.args.linked.now g.out c.args.s.now c.args.count can in (record { set = can.set; known = c.requires.1; free = open_as c.args.linked.now g.out c.args.s.now (One 0x42 c.args.count) _ 1 _ d can.free }, (d.ready, can.spelled.1))
 
-pub returns-clause-runs : goal.returns-clause-runs
-returns-clause-runs g c = turns_as c.args.linked.now g.out c.args.s.now (One 0x42 c.args.count) _ 1 _ _ (op_42 c.args.linked.now g.out c.args.s.now c.args.count c.requires.0) c.construct.ensures.runs
+pub returns : goal.returns
+returns g c = record {
+  runs = turns_as c.args.linked.now g.out c.args.s.now (One 0x42 c.args.count) _ 1 _ _ (op_42 c.args.linked.now g.out c.args.s.now c.args.count c.requires.0) c.construct.ensures.runs;
+  limit = c.construct.ensures.limit;
+}

@@ -6,8 +6,10 @@ use Rattle.abc_run_dispatch.proofs.constructing.run_construct_property.Goals as 
 pub construct_property-requires : goal.construct_property-requires
 construct_property-requires g c =
     let can = c.requires.0 in
-    let d = op_4A c.args.linked.now g.out c.args.s.now c.args.n c.args.count can in
-    (can.set, (c.requires.1, (d.ready, (can.spelled.2, open_as c.args.linked.now g.out c.args.s.now (Two 0x4A c.args.n c.args.count) _ 1 _ d can.free))))
+    let d = op_4A c.args.linked.now g.out c.args.s.now c.args.n c.args.count can in (record { set = can.set; known = c.requires.1; free = open_as c.args.linked.now g.out c.args.s.now (Two 0x4A c.args.n c.args.count) _ 1 _ d can.free }, (d.ready, can.spelled.2))
 
-pub returns-clause-runs : goal.returns-clause-runs
-returns-clause-runs g c = turns_as c.args.linked.now g.out c.args.s.now (Two 0x4A c.args.n c.args.count) _ 1 _ _ (op_4A c.args.linked.now g.out c.args.s.now c.args.n c.args.count c.requires.0) c.construct_property.ensures.runs
+pub returns : goal.returns
+returns g c = record {
+  runs = turns_as c.args.linked.now g.out c.args.s.now (Two 0x4A c.args.n c.args.count) _ 1 _ _ (op_4A c.args.linked.now g.out c.args.s.now c.args.n c.args.count c.requires.0) c.construct_property.ensures.runs;
+  limit = c.construct_property.ensures.limit;
+}

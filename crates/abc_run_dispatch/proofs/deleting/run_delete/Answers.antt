@@ -9,5 +9,8 @@ delete_property-requires g c =
     let d = op_6A c.args.linked.now g.out c.args.s.now c.args.n can in
     (can.set, (d.ready, open_as c.args.linked.now g.out c.args.s.now (One 0x6A c.args.n) _ 1 _ d can.free))
 
-pub returns-clause-runs : goal.returns-clause-runs
-returns-clause-runs g c = turns_as c.args.linked.now g.out c.args.s.now (One 0x6A c.args.n) _ 1 _ _ (op_6A c.args.linked.now g.out c.args.s.now c.args.n c.requires) c.delete_property.ensures.runs
+pub returns : goal.returns
+returns g c = record {
+  runs = turns_as c.args.linked.now g.out c.args.s.now (One 0x6A c.args.n) _ 1 _ _ (op_6A c.args.linked.now g.out c.args.s.now c.args.n c.requires) c.delete_property.ensures.runs;
+  limit = c.delete_property.ensures.limit;
+}

@@ -1,22 +1,22 @@
 use Rattle.abc_run_dispatch.proofs.dispatch.run_common.Given as goal
 
-abbrev pub ghost-control_here : goal.ghost-control_here
-ghost-control_here g a = g.out
+abbrev pub ghost-control_inline : goal.ghost-control_inline
+ghost-control_inline g a = g.out
 
-abbrev pub ghost-first_branch_quick : goal.ghost-first_branch_quick
-ghost-first_branch_quick g a = g.out
+abbrev pub ghost-first_branch_fast : goal.ghost-first_branch_fast
+ghost-first_branch_fast g a = g.out
 
-abbrev pub ghost-first_branch_here : goal.ghost-first_branch_here
-ghost-first_branch_here g a = g.out
+abbrev pub ghost-first_branch_inline : goal.ghost-first_branch_inline
+ghost-first_branch_inline g a = g.out
 
-abbrev pub ghost-last_branch_quick : goal.ghost-last_branch_quick
-ghost-last_branch_quick g a = g.out
+abbrev pub ghost-last_branch_fast : goal.ghost-last_branch_fast
+ghost-last_branch_fast g a = g.out
 
 abbrev pub ghost-push_arm : goal.ghost-push_arm
 ghost-push_arm g a = g.out
 
-abbrev pub ghost-constant_here : goal.ghost-constant_here
-ghost-constant_here g a = g.out
+abbrev pub ghost-constant_inline : goal.ghost-constant_inline
+ghost-constant_inline g a = g.out
 
 abbrev pub ghost-property_call_arm : goal.ghost-property_call_arm
 ghost-property_call_arm g a = g.out
@@ -27,20 +27,20 @@ ghost-return_arm g a = g.out
 abbrev pub ghost-find_arm : goal.ghost-find_arm
 ghost-find_arm g a = g.out
 
-abbrev pub ghost-property_quick : goal.ghost-property_quick
-ghost-property_quick g a = g.out
+abbrev pub ghost-property_fast : goal.ghost-property_fast
+ghost-property_fast g a = g.out
 
 abbrev pub ghost-slot_arm : goal.ghost-slot_arm
 ghost-slot_arm g a = g.out
 
-abbrev pub ghost-convert_quick : goal.ghost-convert_quick
-ghost-convert_quick g a = g.out
+abbrev pub ghost-convert_fast : goal.ghost-convert_fast
+ghost-convert_fast g a = g.out
 
 abbrev pub ghost-single_arm : goal.ghost-single_arm
 ghost-single_arm g a = g.out
 
-abbrev pub ghost-double_quick : goal.ghost-double_quick
-ghost-double_quick g a = g.out
+abbrev pub ghost-double_fast : goal.ghost-double_fast
+ghost-double_fast g a = g.out
 
 abbrev pub ghost-count_arm : goal.ghost-count_arm
 ghost-count_arm g a = g.out

@@ -22,7 +22,14 @@ pub instr_here-instr-requires : goal.instr_here-instr-requires
 instr_here-instr-requires g c = (c.requires.0, (c.hold_newest.ensures.held, c.hold_newest.ensures.method))
 
 pub run_instr-requires : goal.run_instr-requires
-run_instr-requires g c = let can = c.requires.0 in (run_as c.args.linked.now g.out c.args.s.now can.instr c.instr_here-instr.result.now (same_instr c.args.linked.now g.out c.args.s.now c.instr_here-instr.result.now can (c.instr_here-instr.ensures can.routine can.body)) can.run, (c.requires.1.0, c.requires.1.1.1))
+run_instr-requires g c =
+    let can = c.requires.0 in
+    let is = same_instr c.args.linked.now g.out c.args.s.now c.instr_here-instr.result.now can (c.instr_here-instr.ensures can.routine can.body) in
+    record {
+      run = run_as c.args.linked.now g.out c.args.s.now can.instr c.instr_here-instr.result.now is can.run;
+      equipped = c.requires.1.0;
+      none = c.requires.1.1.1;
+    }
 
 pub returns-clause-leaves : goal.returns-clause-leaves
 returns-clause-leaves g c =

@@ -10,5 +10,8 @@ body_here-body-requires g c = record { live = c.requires.live; there = body_ther
 pub new_activation-requires : goal.new_activation-requires
 new_activation-requires g c = let d = op_57 c.args.linked.now g.out c.args.s.now c.body_here-body.result c.requires c.body_here-body.ensures in record { set = c.requires.set; ready = d.0.ready; layout = d.1 }
 
-pub returns-clause-runs : goal.returns-clause-runs
-returns-clause-runs g c = turns_as c.args.linked.now g.out c.args.s.now (Plain 87) 0 1 _ _ ((op_57 c.args.linked.now g.out c.args.s.now c.body_here-body.result c.requires c.body_here-body.ensures).0) (c.new_activation.ensures.runs g.out)
+pub returns : goal.returns
+returns g c = record {
+  runs = turns_as c.args.linked.now g.out c.args.s.now (Plain 87) 0 1 _ _ ((op_57 c.args.linked.now g.out c.args.s.now c.body_here-body.result c.requires c.body_here-body.ensures).0) (c.new_activation.ensures.runs g.out);
+  limit = c.new_activation.ensures.limit;
+}

@@ -1,4 +1,4 @@
-use Rattle.std.proofs.Common.{◌<◌, ℕ, [], ◌∷◌, ap, length, subst, sym, ◌∙◌}
+use Rattle.std.proofs.Common.{◌<◌, ℕ, [], ◌∷◌, ap, length, refl, subst, sym, ◌∙◌}
 use Rattle.abc_heap_values.specs.declared.values.Value.{Value}
 use Rattle.abc_frames.specs.Moves.{next_with}
 use Rattle.abc_run_dispatch.proofs.NewOps.{op_64}
@@ -16,9 +16,12 @@ global_of-global-requires g c = record { over = c.requires.set.over; script = su
 pub push-requires : goal.push-requires
 push-requires g c = (op_64 c.args.linked.now g.out c.args.s.now c.requires).ready
 
-pub returns-clause-runs : goal.returns-clause-runs
-returns-clause-runs g c =
-    let w = world c.args.s.now g.out in
-    let q = c.args.s.now.frames in
-    let same = c.global_of-global.ensures.is g.out ∙ ap (λ (n : ℕ). global n w) c.home-home.ensures in
-    turns_as c.args.linked.now g.out c.args.s.now (Plain 100) 0 1 _ _ (op_64 c.args.linked.now g.out c.args.s.now c.requires) (ap (λ (v : Value). GoesOn w (with_newest (next_with (v ∷ [])) q)) (sym same) ∙ ap (λ (r : Frames). GoesOn w r) (sym c.push.ensures))
+pub returns : goal.returns
+returns g c = record {
+  runs =
+      let w = world c.args.s.now g.out in
+      let q = c.args.s.now.frames in
+      let same = c.global_of-global.ensures.is g.out ∙ ap (λ (n : ℕ). global n w) c.home-home.ensures in
+      turns_as c.args.linked.now g.out c.args.s.now (Plain 100) 0 1 _ _ (op_64 c.args.linked.now g.out c.args.s.now c.requires) (ap (λ (v : Value). GoesOn w (with_newest (next_with (v ∷ [])) q)) (sym same) ∙ ap (λ (r : Frames). GoesOn w r) (sym c.push.ensures));
+  limit = refl;
+}

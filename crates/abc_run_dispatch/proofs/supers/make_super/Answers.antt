@@ -12,8 +12,10 @@ class_here-class-requires g c = record { live = c.requires.0.live; home = home_4
 
 pub construct_super-requires : goal.construct_super-requires
 construct_super-requires g c =
-    let d = op_49 c.args.linked.now g.out c.args.s.now c.args.count c.class_here-class.result (maker_is c.args.linked.now (owner_of c.args.linked.now.file (newest c.args.s.now.frames).method) c.class_here-class.result (maker_49 c.args.linked.now g.out c.args.s.now c.args.count c.requires.0) c.class_here-class.ensures.is) c.requires.0 in
-    (c.requires.0.set, (c.requires.1, (d.ready, (c.requires.0.spelled.1, (c.class_here-class.ensures.inside, open_as c.args.linked.now g.out c.args.s.now (One 0x49 c.args.count) (c.args.count + 1) 0 _ d c.requires.0.free)))))
+    let d = op_49 c.args.linked.now g.out c.args.s.now c.args.count c.class_here-class.result (maker_is c.args.linked.now (owner_of c.args.linked.now.file (newest c.args.s.now.frames).method) c.class_here-class.result (maker_49 c.args.linked.now g.out c.args.s.now c.args.count c.requires.0) c.class_here-class.ensures.is) c.requires.0 in (record { set = c.requires.0.set; known = c.requires.1; free = open_as c.args.linked.now g.out c.args.s.now (One 0x49 c.args.count) (c.args.count + 1) 0 _ d c.requires.0.free }, (d.ready, (c.requires.0.spelled.1, c.class_here-class.ensures.inside)))
 
-pub returns-clause-runs : goal.returns-clause-runs
-returns-clause-runs g c = turns_as c.args.linked.now g.out c.args.s.now (One 0x49 c.args.count) (c.args.count + 1) 0 _ _ (op_49 c.args.linked.now g.out c.args.s.now c.args.count c.class_here-class.result (maker_is c.args.linked.now (owner_of c.args.linked.now.file (newest c.args.s.now.frames).method) c.class_here-class.result (maker_49 c.args.linked.now g.out c.args.s.now c.args.count c.requires.0) c.class_here-class.ensures.is) c.requires.0) c.construct_super.ensures.runs
+pub returns : goal.returns
+returns g c = record {
+  runs = turns_as c.args.linked.now g.out c.args.s.now (One 0x49 c.args.count) (c.args.count + 1) 0 _ _ (op_49 c.args.linked.now g.out c.args.s.now c.args.count c.class_here-class.result (maker_is c.args.linked.now (owner_of c.args.linked.now.file (newest c.args.s.now.frames).method) c.class_here-class.result (maker_49 c.args.linked.now g.out c.args.s.now c.args.count c.requires.0) c.class_here-class.ensures.is) c.requires.0) c.construct_super.ensures.runs;
+  limit = c.construct_super.ensures.limit;
+}

@@ -1,4 +1,4 @@
-use Rattle.std.proofs.Common.{◌∙◌, ◌<◌, ap, arith, length, refl, subst, sym}
+use Rattle.std.proofs.Common.{rules, ◌∙◌, ◌<◌, ap, arith, length, refl, subst, sym}
 use Rattle.abc_heap_values.specs.declared.values.Value.TheVariants.{Obj}
 use Rattle.abc_frames.specs.Frame.{newest}
 use Rattle.abc_file_types.specs.declared.tables.Abc.{Abc}
@@ -9,32 +9,35 @@ use Rattle.abc_run_members.proofs.Started.{class_counted, initializer_is, initia
 use Rattle.abc_run_members.proofs.classes.enter_class.Goals as goal
 
 pub get-requires : goal.get-requires
-get-requires g c = subst (λ (v : Abc). c.args.class < length v.classes) (sym c.abc.ensures) (class_counted c.args.linked.now c.linked_law.ensures c.args.class c.requires.1.1.1.0)
+get-requires g c = subst (λ (v : Abc). c.args.class < length v.classes) (sym c.abc.ensures) (class_counted c.args.linked.now c.linked_law.ensures c.args.class c.requires.1.1)
 
 pub enter_owned-requires : goal.enter_owned-requires
 enter_owned-requires g c =
     let l = c.args.linked.now in
     let p = setting l g.out in
-    let is = initializer_is c.abc.result.now l.file c.args.class c.get.result.now c.abc.ensures (class_counted l c.linked_law.ensures c.args.class c.requires.1.1.1.0) c.get.ensures in (
-      c.requires.0,
+    let is = initializer_is c.abc.result.now l.file c.args.class c.get.result.now c.abc.ensures (class_counted l c.linked_law.ensures c.args.class c.requires.1.1) c.get.ensures in (
+      c.requires.0.set,
       (
-        c.requires.1.0,
+        c.requires.0.known,
         (
-          c.requires.1.1.0.live,
+          c.requires.1.0.live,
           (
             omega arith,
             (
-              c.requires.1.1.0.operands,
-              subst IsOpen (initializes p c.args.class c.get.result.now.cinit c.args.made (Obj c.args.made) (newest c.args.s.now.frames) (world c.args.s.now g.out) is refl) c.requires.1.1.1.1,
+              c.requires.1.0.operands,
+              subst IsOpen (initializes p c.args.class c.get.result.now.cinit c.args.made (Obj c.args.made) (newest c.args.s.now.frames) (world c.args.s.now g.out) is refl) c.requires.0.free,
             ),
           ),
         ),
       ),
     )
 
-pub returns-clause-runs : goal.returns-clause-runs
-returns-clause-runs g c =
-    let l = c.args.linked.now in
-    let p = setting l g.out in
-    let is = initializer_is c.abc.result.now l.file c.args.class c.get.result.now c.abc.ensures (class_counted l c.linked_law.ensures c.args.class c.requires.1.1.1.0) c.get.ensures in
-    ap (turned p c.args.s.now.frames) (initializes p c.args.class c.get.result.now.cinit c.args.made (Obj c.args.made) (newest c.args.s.now.frames) (world c.args.s.now g.out) is refl) ∙ c.enter_owned.ensures.runs
+pub returns : goal.returns
+returns g c = record {
+  runs =
+      let l = c.args.linked.now in
+      let p = setting l g.out in
+      let is = initializer_is c.abc.result.now l.file c.args.class c.get.result.now c.abc.ensures (class_counted l c.linked_law.ensures c.args.class c.requires.1.1) c.get.ensures in
+      ap (turned p c.args.s.now.frames) (initializes p c.args.class c.get.result.now.cinit c.args.made (Obj c.args.made) (newest c.args.s.now.frames) (world c.args.s.now g.out) is refl) ∙ c.enter_owned.ensures.runs;
+  limit = search rules;
+}

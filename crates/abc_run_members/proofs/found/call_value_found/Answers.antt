@@ -19,7 +19,7 @@ value_found-requires g c = (
       search rules,
       (let p = setting c.args.linked.now g.out in
           let f = newest c.args.s.now.frames in
-          part_open (value_found p c.args.found c.args.v) (λ x. calls p x c.args.receiver (arguments c.args.count f)) (settles c.args.how f) (world c.args.s.now g.out) c.requires.1.1.1.1.1.1),
+          part_open (value_found p c.args.found c.args.v) (λ x. calls p x c.args.receiver (arguments c.args.count f)) (settles c.args.how f) (world c.args.s.now g.out) c.requires.0.free),
     ),
   ),
 )
@@ -38,24 +38,32 @@ call-requires g c = (
           (let p = setting c.args.linked.now g.out in
               let q = c.args.s.now.frames in
               let w = world c.args.s.now g.out in
-              next_open q q (value_found p c.args.found c.args.v) (λ (f : Frame) (x : Value). calls p x c.args.receiver (arguments c.args.count f)) (λ (f : Frame). settles c.args.how f) w w c.in_ok-callee.callee c.in_ok-callee.ensures.part refl c.requires.1.1.1.1.1.1),
+              next_open q q (value_found p c.args.found c.args.v) (λ (f : Frame) (x : Value). calls p x c.args.receiver (arguments c.args.count f)) (λ (f : Frame). settles c.args.how f) w w c.in_ok-callee.callee c.in_ok-callee.ensures.part refl c.requires.0.free),
         ),
       ),
     ),
   ),
 )
 
-pub returns-clause-leaves : goal.returns-clause-leaves
-returns-clause-leaves g c =
-    let p = setting c.args.linked.now g.out in
-    let q = c.args.s.now.frames in
-    let w = world c.args.s.now g.out in
-    next_turns p q q (value_found p c.args.found c.args.v) (λ (f : Frame) (x : Value). calls p x c.args.receiver (arguments c.args.count f)) (λ (f : Frame). settles c.args.how f) w w c.in_ok-callee.callee _ c.in_ok-callee.ensures.part refl c.call.ensures.leaves
+pub returns : goal.returns
+returns g c = record {
+  leaves =
+      let p = setting c.args.linked.now g.out in
+      let q = c.args.s.now.frames in
+      let w = world c.args.s.now g.out in
+      next_turns p q q (value_found p c.args.found c.args.v) (λ (f : Frame) (x : Value). calls p x c.args.receiver (arguments c.args.count f)) (λ (f : Frame). settles c.args.how f) w w c.in_ok-callee.callee _ c.in_ok-callee.ensures.part refl c.call.ensures.leaves;
+  finishes = search rules;
+  limit = search rules;
+}
 
-pub returns-in_err-callee-clause-leaves : goal.returns-in_err-callee-clause-leaves
-returns-in_err-callee-clause-leaves g c =
-    let p = setting c.args.linked.now g.out in
-    let q = c.args.s.now.frames in
-    let w = world c.args.s.now g.out in
-    let e = err_from_is_err_and c.from_residual.result c.from_residual.ensures.1 in
-    rw (e.1, e.2) (part_halts p q q (value_found p c.args.found c.args.v) (λ x. calls p x c.args.receiver (arguments c.args.count (newest q))) (settles c.args.how (newest q)) w w (why c.in_err-callee.field-0.0) c.in_err-callee.ensures.part refl)
+pub returns-in_err-callee : goal.returns-in_err-callee
+returns-in_err-callee g c = record {
+  leaves =
+      let p = setting c.args.linked.now g.out in
+      let q = c.args.s.now.frames in
+      let w = world c.args.s.now g.out in
+      let e = err_from_is_err_and c.from_residual.result c.from_residual.ensures.1 in
+      rw (e.1, e.2) (part_halts p q q (value_found p c.args.found c.args.v) (λ x. calls p x c.args.receiver (arguments c.args.count (newest q))) (settles c.args.how (newest q)) w w (why c.in_err-callee.field-0.0) c.in_err-callee.ensures.part refl);
+  finishes = search rules;
+  limit = search rules;
+}

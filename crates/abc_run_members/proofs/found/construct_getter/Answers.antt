@@ -10,7 +10,7 @@ use Rattle.abc_run_members.proofs.found.construct_getter.Goals as goal
 
 pub enter_owned-requires : goal.enter_owned-requires
 enter_owned-requires g c = (
-  (set_under c.args.linked.now c.args.s.now c.drop_under.new.self c.args.count c.args.under c.requires.0 c.drop_under.ensures),
+  (set_under c.args.linked.now c.args.s.now c.drop_under.new.self c.args.count c.args.under c.requires.0.set c.drop_under.ensures),
   (
     search rules,
     (
@@ -22,19 +22,22 @@ enter_owned-requires g c = (
           (let p = setting c.args.linked.now g.out in
               let w = world c.args.s.now g.out in
               subst (λ (q : Frames). IsOpen (enters_owned_above p c.args.method c.args.v 0 0 (New c.args.count) (newest q) w)) (sym c.drop_under.ensures)
-              (subst IsOpen (getter_constructs p c.args.method c.args.v c.args.under c.args.count (newest c.args.s.now.frames) w c.requires.1.1.1) c.requires.1.1.1)),
+              (subst IsOpen (getter_constructs p c.args.method c.args.v c.args.under c.args.count (newest c.args.s.now.frames) w c.requires.0.free) c.requires.0.free)),
         ),
       ),
     ),
   ),
 )
 
-pub returns-clause-runs : goal.returns-clause-runs
-returns-clause-runs g c =
-    let p = setting c.args.linked.now g.out in
-    let w = world c.args.s.now g.out in
-    let q = c.args.s.now.frames in
-    ap (turned p q) (getter_constructs p c.args.method c.args.v c.args.under c.args.count (newest q) w c.requires.1.1.1)
-    ∙ sym (turned_under p q c.args.count c.args.under _ c.requires.1.1.0.live)
-    ∙ ap (λ (r : Frames). turned p r (enters_owned_above p c.args.method c.args.v 0 0 (New c.args.count) (newest r) w)) (sym c.drop_under.ensures)
-    ∙ c.enter_owned.ensures.runs
+pub returns : goal.returns
+returns g c = record {
+  runs =
+      let p = setting c.args.linked.now g.out in
+      let w = world c.args.s.now g.out in
+      let q = c.args.s.now.frames in
+      ap (turned p q) (getter_constructs p c.args.method c.args.v c.args.under c.args.count (newest q) w c.requires.0.free)
+      ∙ sym (turned_under p q c.args.count c.args.under _ c.requires.1.live)
+      ∙ ap (λ (r : Frames). turned p r (enters_owned_above p c.args.method c.args.v 0 0 (New c.args.count) (newest r) w)) (sym c.drop_under.ensures)
+      ∙ c.enter_owned.ensures.runs;
+  limit = search rules;
+}

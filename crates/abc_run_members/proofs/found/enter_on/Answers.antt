@@ -17,16 +17,19 @@ enter_owned-requires g c = (
         search rules,
         (
           search rules,
-          (subst IsOpen (enters_as (setting c.args.linked.now g.out) c.args.method c.args.v c.args.count c.args.how (newest c.args.s.now.frames) (world c.args.s.now g.out) c.waiting-taken.result.0 c.waiting-taken.result.1 c.waiting-taken.ensures.taken c.waiting-taken.ensures.wait c.requires.1.1.1.1)
-              c.requires.1.1.1.1),
+          (subst IsOpen (enters_as (setting c.args.linked.now g.out) c.args.method c.args.v c.args.count c.args.how (newest c.args.s.now.frames) (world c.args.s.now g.out) c.waiting-taken.result.0 c.waiting-taken.result.1 c.waiting-taken.ensures.taken c.waiting-taken.ensures.wait c.requires.0.free)
+              c.requires.0.free),
         ),
       ),
     ),
   ),
 )
 
-pub returns-clause-runs : goal.returns-clause-runs
-returns-clause-runs g c =
-    let p = setting c.args.linked.now g.out in
-    ap (turned p c.args.s.now.frames) (enters_as p c.args.method c.args.v c.args.count c.args.how (newest c.args.s.now.frames) (world c.args.s.now g.out) c.waiting-taken.result.0 c.waiting-taken.result.1 c.waiting-taken.ensures.taken c.waiting-taken.ensures.wait c.requires.1.1.1.1)
-    ∙ c.enter_owned.ensures.runs
+pub returns : goal.returns
+returns g c = record {
+  runs =
+      let p = setting c.args.linked.now g.out in
+      ap (turned p c.args.s.now.frames) (enters_as p c.args.method c.args.v c.args.count c.args.how (newest c.args.s.now.frames) (world c.args.s.now g.out) c.waiting-taken.result.0 c.waiting-taken.result.1 c.waiting-taken.ensures.taken c.waiting-taken.ensures.wait c.requires.0.free)
+      ∙ c.enter_owned.ensures.runs;
+  limit = search rules;
+}

@@ -12,28 +12,27 @@ use Rattle.abc_run_members.proofs.found.read_found.Goals as goal
 
 pub enter_on-requires : goal.enter_on-requires
 enter_on-requires g c = (
+  record {
+    set = search rules;
+    known = search rules;
+    free =
+        let p = setting c.args.linked.now g.out in
+        let f = newest c.args.s.now.frames in
+        let w = world c.args.s.now g.out in
+        came_open (settles c.args.how f) (read_found p c.args.found c.args.v) (enters_on p c.in-Getter.method c.args.v []) w (getter_at p c.args.found c.in-Getter.method c.args.v w c.in-Getter.is) c.requires.0.free;
+  },
   search rules,
-  (
-    search rules,
-    (
-      search rules,
-      (
-        search rules,
-        (let p = setting c.args.linked.now g.out in
-            let f = newest c.args.s.now.frames in
-            let w = world c.args.s.now g.out in
-            came_open (settles c.args.how f) (read_found p c.args.found c.args.v) (enters_on p c.in-Getter.method c.args.v []) w (getter_at p c.args.found c.in-Getter.method c.args.v w c.in-Getter.is) c.requires.1.1.1.1.1),
-      ),
-    ),
-  ),
 )
 
-pub returns-in-Getter-clause-runs : goal.returns-in-Getter-clause-runs
-returns-in-Getter-clause-runs g c =
-    let p = setting c.args.linked.now g.out in
-    let q = c.args.s.now.frames in
-    let w = world c.args.s.now g.out in
-    came_same p q (settles c.args.how (newest q)) (read_found p c.args.found c.args.v) (enters_on p c.in-Getter.method c.args.v []) w _ (getter_at p c.args.found c.in-Getter.method c.args.v w c.in-Getter.is) c.enter_on.ensures.runs
+pub returns-in-Getter : goal.returns-in-Getter
+returns-in-Getter g c = record {
+  runs =
+      let p = setting c.args.linked.now g.out in
+      let q = c.args.s.now.frames in
+      let w = world c.args.s.now g.out in
+      came_same p q (settles c.args.how (newest q)) (read_found p c.args.found c.args.v) (enters_on p c.in-Getter.method c.args.v []) w _ (getter_at p c.args.found c.in-Getter.method c.args.v w c.in-Getter.is) c.enter_on.ensures.runs;
+  limit = search rules;
+}
 
 pub read_value-requires : goal.read_value-requires
 read_value-requires g c = (
@@ -46,15 +45,18 @@ read_value-requires g c = (
         search rules,
         (let p = setting c.args.linked.now g.out in
             let w = world c.args.s.now g.out in
-            came_open (settles c.args.how (newest c.args.s.now.frames)) (read_found p c.args.found c.args.v) (value_read p c.args.found c.args.v >>= λ x. got x) w (value_is_read p c.args.found c.args.v w (λ m e. c.in_default.not-Getter m e)) c.requires.1.1.1.1.1),
+            came_open (settles c.args.how (newest c.args.s.now.frames)) (read_found p c.args.found c.args.v) (value_read p c.args.found c.args.v >>= λ x. got x) w (value_is_read p c.args.found c.args.v w (λ m e. c.in_default.not-Getter m e)) c.requires.0.free),
       ),
     ),
   ),
 )
 
-pub returns-in_default-clause-runs : goal.returns-in_default-clause-runs
-returns-in_default-clause-runs g c =
-    let p = setting c.args.linked.now g.out in
-    let q = c.args.s.now.frames in
-    let w = world c.args.s.now g.out in
-    came_same p q (settles c.args.how (newest q)) (read_found p c.args.found c.args.v) (value_read p c.args.found c.args.v >>= λ x. got x) w _ (value_is_read p c.args.found c.args.v w (λ m e. c.in_default.not-Getter m e)) c.read_value.ensures.runs
+pub returns-in_default : goal.returns-in_default
+returns-in_default g c = record {
+  runs =
+      let p = setting c.args.linked.now g.out in
+      let q = c.args.s.now.frames in
+      let w = world c.args.s.now g.out in
+      came_same p q (settles c.args.how (newest q)) (read_found p c.args.found c.args.v) (value_read p c.args.found c.args.v >>= λ x. got x) w _ (value_is_read p c.args.found c.args.v w (λ m e. c.in_default.not-Getter m e)) c.read_value.ensures.runs;
+  limit = search rules;
+}

@@ -17,13 +17,19 @@ value_of-requires g c =
 pub settle-requires : goal.settle-requires
 settle-requires g c = ready_stays (taken_by c.args.how) (given_by c.args.how) c.args.s.now.frames c.value_of.new.s.frames c.in_ok-value.ensures.stays.frames c.requires.1.0
 
-pub returns-clause-runs : goal.returns-clause-runs
-returns-clause-runs g c =
-    let p = setting c.args.linked.now g.out in
-    came_goes p c.args.s.now.frames c.value_of.new.s.frames c.settle.new.frames c.args.how (value_read p c.args.found c.args.v) (λ x. x) (world c.args.s.now g.out) (world c.value_of.new.s g.out) c.in_ok-value.value c.in_ok-value.ensures.part c.in_ok-value.ensures.stays.frames c.settle.ensures
+pub returns : goal.returns
+returns g c = record {
+  runs =
+      let p = setting c.args.linked.now g.out in
+      came_goes p c.args.s.now.frames c.value_of.new.s.frames c.settle.new.frames c.args.how (value_read p c.args.found c.args.v) (λ x. x) (world c.args.s.now g.out) (world c.value_of.new.s g.out) c.in_ok-value.value c.in_ok-value.ensures.part c.in_ok-value.ensures.stays.frames c.settle.ensures;
+  limit = search rules;
+}
 
-pub returns-in_err-value-clause-runs : goal.returns-in_err-value-clause-runs
-returns-in_err-value-clause-runs g c =
-    let p = setting c.args.linked.now g.out in
-    let e = err_from_is_err_and c.from_residual.result c.from_residual.ensures.1 in
-    rw (e.1, e.2) (came_stops p c.args.s.now.frames c.value_of.new.s.frames c.args.how (value_read p c.args.found c.args.v) (λ x. x) (world c.args.s.now g.out) (world c.value_of.new.s g.out) (why c.in_err-value.field-0.0) c.in_err-value.ensures.part c.in_err-value.ensures.stays.frames)
+pub returns-in_err-value : goal.returns-in_err-value
+returns-in_err-value g c = record {
+  runs =
+      let p = setting c.args.linked.now g.out in
+      let e = err_from_is_err_and c.from_residual.result c.from_residual.ensures.1 in
+      rw (e.1, e.2) (came_stops p c.args.s.now.frames c.value_of.new.s.frames c.args.how (value_read p c.args.found c.args.v) (λ x. x) (world c.args.s.now g.out) (world c.value_of.new.s g.out) (why c.in_err-value.field-0.0) c.in_err-value.ensures.part c.in_err-value.ensures.stays.frames);
+  limit = search rules;
+}

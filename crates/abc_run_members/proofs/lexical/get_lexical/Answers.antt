@@ -19,60 +19,50 @@ going p = reads_in p
 
 pub name_of-requires : goal.name_of-requires
 name_of-requires g c = (
-  c.requires.0,
+  c.requires.0.set,
   (
     omega arith,
     (
       (let p = setting c.args.linked.now g.out in
-          has_parts (form_at p c.args.name) 0 (newest c.args.s.now.frames) (omega (arith, c.requires.1.1.0.operands))),
+          has_parts (form_at p c.args.name) 0 (newest c.args.s.now.frames) (omega (arith, c.requires.1.0.operands))),
       (let p = setting c.args.linked.now g.out in
-          named_open p c.args.name (going p) (newest c.args.s.now.frames) (world c.args.s.now g.out) c.requires.1.1.1.1),
+          named_open p c.args.name (going p) (newest c.args.s.now.frames) (world c.args.s.now g.out) c.requires.0.free),
     ),
   ),
 )
 
 pub find_here-found-requires-clause-set : goal.find_here-found-requires-clause-set
-find_here-found-requires-clause-set g c = set_stays c.args.linked.now c.args.s.now c.name_of.new.s c.in_ok-wanted.ensures.stays c.requires.0
+find_here-found-requires-clause-set g c = set_stays c.args.linked.now c.args.s.now c.name_of.new.s c.in_ok-wanted.ensures.stays c.requires.0.set
 
 pub find_here-found-requires-clause-live : goal.find_here-found-requires-clause-live
-find_here-found-requires-clause-live g c = subst (λ q. Rattle.std.proofs.Common.◌<◌ 0 (length q.living)) (sym c.in_ok-wanted.ensures.stays.frames) c.requires.1.1.0.live
+find_here-found-requires-clause-live g c = subst (λ q. Rattle.std.proofs.Common.◌<◌ 0 (length q.living)) (sym c.in_ok-wanted.ensures.stays.frames) c.requires.1.0.live
 
 pub read_in-requires : goal.read_in-requires
 read_in-requires g c = (
-  (set_stays c.args.linked.now c.args.s.now c.name_of.new.s c.in_ok-wanted.ensures.stays c.requires.0),
-  (
-    (known_stays c.args.linked.now c.args.s.now c.name_of.new.s c.in_ok-wanted.ensures.stays c.requires.1.0),
-    (
-      (subst (IsReady c.parts_of-parts.result 1) (sym c.in_ok-wanted.ensures.stays.frames) (subst (λ (n : ℕ). IsReady n 1 c.args.s.now.frames) (sym (c.parts_of-parts.ensures g.out)) c.requires.1.1.0)),
-      (
-        (ap (λ xs. length xs) c.in_ok-wanted.ensures.stays.started ∙ c.requires.1.1.1.0),
-        (
-          c.find_here-found.ensures.there,
-          (
-            c.in_ok-wanted.ensures.there,
-            (let p = setting c.args.linked.now g.out in
-                found_open p c.args.s.now.frames c.name_of.new.s.frames c.args.name c.parts_of-parts.result (going p) (world c.args.s.now g.out) (world c.name_of.new.s g.out) c.in_ok-wanted.wanted c.find_here-found.result (c.parts_of-parts.ensures g.out) c.in_ok-wanted.ensures.part c.in_ok-wanted.ensures.stays.frames (c.find_here-found.ensures.is g.out) c.requires.1.1.1.1),
-          ),
-        ),
-      ),
-    ),
-  ),
+  record {
+    set = (set_stays c.args.linked.now c.args.s.now c.name_of.new.s c.in_ok-wanted.ensures.stays c.requires.0.set);
+    known = (known_stays c.args.linked.now c.args.s.now c.name_of.new.s c.in_ok-wanted.ensures.stays c.requires.0.known);
+    free =
+        let p = setting c.args.linked.now g.out in
+        found_open p c.args.s.now.frames c.name_of.new.s.frames c.args.name c.parts_of-parts.result (going p) (world c.args.s.now g.out) (world c.name_of.new.s g.out) c.in_ok-wanted.wanted c.find_here-found.result (c.parts_of-parts.ensures g.out) c.in_ok-wanted.ensures.part c.in_ok-wanted.ensures.stays.frames (c.find_here-found.ensures.is g.out) c.requires.0.free;
+  },
+  ((subst (IsReady c.parts_of-parts.result 1) (sym c.in_ok-wanted.ensures.stays.frames) (subst (λ (n : ℕ). IsReady n 1 c.args.s.now.frames) (sym (c.parts_of-parts.ensures g.out)) c.requires.1.0)), ((ap (λ xs. length xs) c.in_ok-wanted.ensures.stays.started ∙ c.requires.1.1), (c.find_here-found.ensures.there, c.in_ok-wanted.ensures.there))),
 )
 
-pub returns-clause-runs : goal.returns-clause-runs
-returns-clause-runs g c =
-    let p = setting c.args.linked.now g.out in
-    found_turns p c.args.s.now.frames c.name_of.new.s.frames c.args.name c.parts_of-parts.result (going p) (world c.args.s.now g.out) (world c.name_of.new.s g.out) c.in_ok-wanted.wanted c.find_here-found.result (c.parts_of-parts.ensures g.out) c.in_ok-wanted.ensures.part c.in_ok-wanted.ensures.stays.frames (c.find_here-found.ensures.is g.out)
-    (went c.read_in.result (world c.read_in.new.s g.out) c.read_in.new.s.frames) c.read_in.ensures.runs
+pub returns : goal.returns
+returns g c = record {
+  runs =
+      let p = setting c.args.linked.now g.out in
+      found_turns p c.args.s.now.frames c.name_of.new.s.frames c.args.name c.parts_of-parts.result (going p) (world c.args.s.now g.out) (world c.name_of.new.s g.out) c.in_ok-wanted.wanted c.find_here-found.result (c.parts_of-parts.ensures g.out) c.in_ok-wanted.ensures.part c.in_ok-wanted.ensures.stays.frames (c.find_here-found.ensures.is g.out)
+      (went c.read_in.result (world c.read_in.new.s g.out) c.read_in.new.s.frames) c.read_in.ensures.runs;
+  limit = c.read_in.ensures.limit ∙ limit_stays c.args.linked.now c.args.s.now c.name_of.new.s c.in_ok-wanted.ensures.stays;
+}
 
-pub returns-clause-limit : goal.returns-clause-limit
-returns-clause-limit g c = c.read_in.ensures.limit ∙ limit_stays c.args.linked.now c.args.s.now c.name_of.new.s c.in_ok-wanted.ensures.stays
-
-pub returns-in_err-wanted-clause-runs : goal.returns-in_err-wanted-clause-runs
-returns-in_err-wanted-clause-runs g c =
-    let p = setting c.args.linked.now g.out in
-    let e = err_from_is_err_and c.from_residual.result c.from_residual.ensures.1 in
-    rw (e.1, e.2) (named_halts p c.args.s.now.frames c.name_of.new.s.frames c.args.name (going p) (world c.args.s.now g.out) (world c.name_of.new.s g.out) (why c.in_err-wanted.field-0.0) c.in_err-wanted.ensures.part c.in_err-wanted.ensures.stays.frames)
-
-pub returns-in_err-wanted-clause-limit : goal.returns-in_err-wanted-clause-limit
-returns-in_err-wanted-clause-limit g c = limit_stays c.args.linked.now c.args.s.now c.name_of.new.s c.in_err-wanted.ensures.stays
+pub returns-in_err-wanted : goal.returns-in_err-wanted
+returns-in_err-wanted g c = record {
+  runs =
+      let p = setting c.args.linked.now g.out in
+      let e = err_from_is_err_and c.from_residual.result c.from_residual.ensures.1 in
+      rw (e.1, e.2) (named_halts p c.args.s.now.frames c.name_of.new.s.frames c.args.name (going p) (world c.args.s.now g.out) (world c.name_of.new.s g.out) (why c.in_err-wanted.field-0.0) c.in_err-wanted.ensures.part c.in_err-wanted.ensures.stays.frames);
+  limit = limit_stays c.args.linked.now c.args.s.now c.name_of.new.s c.in_err-wanted.ensures.stays;
+}

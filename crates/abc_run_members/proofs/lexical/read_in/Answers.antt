@@ -1,4 +1,4 @@
-use Rattle.std.proofs.Common.{◌∙◌, ℕ, ◌<◌, ap, length, subst, sym}
+use Rattle.std.proofs.Common.{rules, ◌∙◌, ℕ, ◌<◌, ap, length, subst, sym}
 use Rattle.abc_base.specs.declared.names.HostClass.TheVariants as hosts
 use Rattle.abc_heap_values.specs.declared.values.ObjId.{ObjId}
 use Rattle.abc_heap_values.specs.declared.values.Value.TheVariants.{Obj}
@@ -22,30 +22,18 @@ read_on-requires g c =
     let p = setting l g.out in
     let f = newest c.args.s.now.frames in
     let w = world c.args.s.now g.out in
-    let go : ObjId → Run Act = λ o. settled_by (Push c.args.parts) f (reads p (Obj o) c.args.name.now) in (
-      c.requires.0,
-      (
-        c.requires.1.0,
-        (
-          c.requires.1.1.0,
-          (
-            subst (λ (r : ScopeFound). IsScopeThere l c.args.s.now.arena r) c.in-Object.is c.requires.1.1.1.1.0,
-            (
-              c.requires.1.1.1.1.1.0,
-              subst IsOpen (object_is p f c.in-Object.o go (throws hosts.ReferenceError) c.args.found w c.in-Object.is) c.requires.1.1.1.1.1.1,
-            ),
-          ),
-        ),
-      ),
-    )
+    let go : ObjId → Run Act = λ o. settled_by (Push c.args.parts) f (reads p (Obj o) c.args.name.now) in (record { set = c.requires.0.set; known = c.requires.0.known; free = subst IsOpen (object_is p f c.in-Object.o go (throws hosts.ReferenceError) c.args.found w c.in-Object.is) c.requires.0.free }, (c.requires.1.0, (subst (λ (r : ScopeFound). IsScopeThere l c.args.s.now.arena r) c.in-Object.is c.requires.1.1.1.0, c.requires.1.1.1.1)))
 
-pub returns-in-Object-clause-runs : goal.returns-in-Object-clause-runs
-returns-in-Object-clause-runs g c =
-    let p = setting c.args.linked.now g.out in
-    let f = newest c.args.s.now.frames in
-    let w = world c.args.s.now g.out in
-    let go : ObjId → Run Act = λ o. settled_by (Push c.args.parts) f (reads p (Obj o) c.args.name.now) in
-    ap (turned p c.args.s.now.frames) (object_is p f c.in-Object.o go (throws hosts.ReferenceError) c.args.found w c.in-Object.is) ∙ c.read_on.ensures.runs
+pub returns-in-Object : goal.returns-in-Object
+returns-in-Object g c = record {
+  runs =
+      let p = setting c.args.linked.now g.out in
+      let f = newest c.args.s.now.frames in
+      let w = world c.args.s.now g.out in
+      let go : ObjId → Run Act = λ o. settled_by (Push c.args.parts) f (reads p (Obj o) c.args.name.now) in
+      ap (turned p c.args.s.now.frames) (object_is p f c.in-Object.o go (throws hosts.ReferenceError) c.args.found w c.in-Object.is) ∙ c.read_on.ensures.runs;
+  limit = search rules;
+}
 
 pub start_above-requires : goal.start_above-requires
 start_above-requires g c =
@@ -54,35 +42,41 @@ start_above-requires g c =
     let f = newest c.args.s.now.frames in
     let w = world c.args.s.now g.out in
     let go : ObjId → Run Act = λ o. settled_by (Push c.args.parts) f (reads p (Obj o) c.args.name.now) in
-    let there : c.in-Start.script < length l.file.scripts = subst (λ (r : ScopeFound). IsScopeThere l c.args.s.now.arena r) c.in-Start.is c.requires.1.1.1.1.0 in (
-      c.requires.0,
+    let there : c.in-Start.script < length l.file.scripts = subst (λ (r : ScopeFound). IsScopeThere l c.args.s.now.arena r) c.in-Start.is c.requires.1.1.1.0 in (
+      c.requires.0.set,
       (
-        c.requires.1.0,
+        c.requires.0.known,
         (
-          c.requires.1.1.0.live,
+          c.requires.1.0.live,
           (
             there,
             (
-              subst (λ (n : ℕ). c.in-Start.script < n) (sym c.requires.1.1.1.0) there,
-              subst IsOpen (script_is p f c.in-Start.script go (throws hosts.ReferenceError) c.args.found w c.in-Start.is) c.requires.1.1.1.1.1.1,
+              subst (λ (n : ℕ). c.in-Start.script < n) (sym c.requires.1.1.0) there,
+              subst IsOpen (script_is p f c.in-Start.script go (throws hosts.ReferenceError) c.args.found w c.in-Start.is) c.requires.0.free,
             ),
           ),
         ),
       ),
     )
 
-pub returns-in-Start-clause-runs : goal.returns-in-Start-clause-runs
-returns-in-Start-clause-runs g c =
-    let p = setting c.args.linked.now g.out in
-    let f = newest c.args.s.now.frames in
-    let w = world c.args.s.now g.out in
-    let go : ObjId → Run Act = λ o. settled_by (Push c.args.parts) f (reads p (Obj o) c.args.name.now) in
-    ap (turned p c.args.s.now.frames) (script_is p f c.in-Start.script go (throws hosts.ReferenceError) c.args.found w c.in-Start.is) ∙ c.start_above.ensures.runs
+pub returns-in-Start : goal.returns-in-Start
+returns-in-Start g c = record {
+  runs =
+      let p = setting c.args.linked.now g.out in
+      let f = newest c.args.s.now.frames in
+      let w = world c.args.s.now g.out in
+      let go : ObjId → Run Act = λ o. settled_by (Push c.args.parts) f (reads p (Obj o) c.args.name.now) in
+      ap (turned p c.args.s.now.frames) (script_is p f c.in-Start.script go (throws hosts.ReferenceError) c.args.found w c.in-Start.is) ∙ c.start_above.ensures.runs;
+  limit = search rules;
+}
 
-pub returns-in-Missing-clause-runs : goal.returns-in-Missing-clause-runs
-returns-in-Missing-clause-runs g c =
-    let p = setting c.args.linked.now g.out in
-    let f = newest c.args.s.now.frames in
-    let w = world c.args.s.now g.out in
-    let go : ObjId → Run Act = λ o. settled_by (Push c.args.parts) f (reads p (Obj o) c.args.name.now) in
-    ap (turned p c.args.s.now.frames) (nothing_is p f go (throws hosts.ReferenceError) c.args.found w c.in-Missing.is)
+pub returns-in-Missing : goal.returns-in-Missing
+returns-in-Missing g c = record {
+  runs =
+      let p = setting c.args.linked.now g.out in
+      let f = newest c.args.s.now.frames in
+      let w = world c.args.s.now g.out in
+      let go : ObjId → Run Act = λ o. settled_by (Push c.args.parts) f (reads p (Obj o) c.args.name.now) in
+      ap (turned p c.args.s.now.frames) (nothing_is p f go (throws hosts.ReferenceError) c.args.found w c.in-Missing.is);
+  limit = search rules;
+}

@@ -1,4 +1,4 @@
-use Rattle.std.proofs.Common.{◌∙◌, ◌+◌, ap, subst, sym}
+use Rattle.std.proofs.Common.{rules, ◌∙◌, ◌+◌, ap, subst, sym}
 use Rattle.std.specs.declared.option.Option.{Option}
 use Rattle.std.proofs.lemmas.Result.{err_from_is_err_and}
 use Rattle.abc_heap_values.specs.declared.values.ObjId.{ObjId}
@@ -28,57 +28,62 @@ receiver-requires g c =
     let w = world c.args.s.now g.out in
     let base = base_named p.linked.file c.args.class in
     let run = λ (o : ObjId). runs_base p o c.args.count f base in
-    let free = subst (λ (v : Value). IsOpen (Rattle.abc_run_calls.specs.Calls.settled_by (Drop (c.args.count + 1)) f (on_receiver v run) w)) (sym c.operand-v.ensures.is) c.requires.1.1.1.1.1 in
+    let free = subst (λ (v : Value). IsOpen (Rattle.abc_run_calls.specs.Calls.settled_by (Drop (c.args.count + 1)) f (on_receiver v run) w)) (sym c.operand-v.ensures.is) c.requires.0.free in
     receives_open c.operand-v.result run w (open_first (on_receiver c.operand-v.result run w) (settles (Drop (c.args.count + 1)) f) free)
 
 pub construct_base-requires : goal.construct_base-requires
 construct_base-requires g c = (
-  c.requires.0,
+  record {
+    set = c.requires.0.set;
+    known = c.requires.0.known;
+    free =
+        let p = setting c.args.linked.now g.out in
+        let f = newest c.args.s.now.frames in
+        let w = world c.args.s.now g.out in
+        let base = base_named p.linked.file c.args.class in
+        let run = λ (o : ObjId). runs_base p o c.args.count f base in
+        let is = receives_object (operand_at c.args.count f) c.in_ok-o.o run w (sym c.operand-v.ensures.is ∙ c.in_ok-o.ensures.object) ∙ ap (λ (b : Option Named). runs_base p c.in_ok-o.o c.args.count f b w) c.base_of-base.ensures.is in
+        came_open (settles (Drop (c.args.count + 1)) f) (on_receiver (operand_at c.args.count f) run) (runs_base p c.in_ok-o.o c.args.count f (named_of c.base_of-base.result)) w is c.requires.0.free;
+  },
   (
     c.requires.1.0,
     (
       c.requires.1.1.0,
       (
-        c.requires.1.1.1.0,
-        (
-          (let l = c.args.linked.now in
-              subst (Exists l c.args.s.now.arena) c.in_ok-o.ensures.object (c.operand-v.ensures.there l c.args.s.now.arena c.requires.0.frame.stack)),
-          (
-            c.base_of-base.ensures.there,
-            (let p = setting c.args.linked.now g.out in
-                let f = newest c.args.s.now.frames in
-                let w = world c.args.s.now g.out in
-                let base = base_named p.linked.file c.args.class in
-                let run = λ (o : ObjId). runs_base p o c.args.count f base in
-                let is = receives_object (operand_at c.args.count f) c.in_ok-o.o run w (sym c.operand-v.ensures.is ∙ c.in_ok-o.ensures.object) ∙ ap (λ (b : Option Named). runs_base p c.in_ok-o.o c.args.count f b w) c.base_of-base.ensures.is in
-                came_open (settles (Drop (c.args.count + 1)) f) (on_receiver (operand_at c.args.count f) run) (runs_base p c.in_ok-o.o c.args.count f (named_of c.base_of-base.result)) w is c.requires.1.1.1.1.1),
-          ),
-        ),
+        (let l = c.args.linked.now in
+            subst (Exists l c.args.s.now.arena) c.in_ok-o.ensures.object (c.operand-v.ensures.there l c.args.s.now.arena c.requires.0.set.frame.stack)),
+        c.base_of-base.ensures.there,
       ),
     ),
   ),
 )
 
-pub returns-clause-runs : goal.returns-clause-runs
-returns-clause-runs g c =
-    let p = setting c.args.linked.now g.out in
-    let q = c.args.s.now.frames in
-    let f = newest q in
-    let w = world c.args.s.now g.out in
-    let base = base_named p.linked.file c.args.class in
-    let run = λ (o : ObjId). runs_base p o c.args.count f base in
-    let is = receives_object (operand_at c.args.count f) c.in_ok-o.o run w (sym c.operand-v.ensures.is ∙ c.in_ok-o.ensures.object) ∙ ap (λ (b : Option Named). runs_base p c.in_ok-o.o c.args.count f b w) c.base_of-base.ensures.is in
-    came_same p q (settles (Drop (c.args.count + 1)) f) (on_receiver (operand_at c.args.count f) run) (runs_base p c.in_ok-o.o c.args.count f (named_of c.base_of-base.result)) w (went c.construct_base.result (world c.construct_base.new.s g.out) c.construct_base.new.s.frames) is c.construct_base.ensures.runs
+pub returns : goal.returns
+returns g c = record {
+  runs =
+      let p = setting c.args.linked.now g.out in
+      let q = c.args.s.now.frames in
+      let f = newest q in
+      let w = world c.args.s.now g.out in
+      let base = base_named p.linked.file c.args.class in
+      let run = λ (o : ObjId). runs_base p o c.args.count f base in
+      let is = receives_object (operand_at c.args.count f) c.in_ok-o.o run w (sym c.operand-v.ensures.is ∙ c.in_ok-o.ensures.object) ∙ ap (λ (b : Option Named). runs_base p c.in_ok-o.o c.args.count f b w) c.base_of-base.ensures.is in
+      came_same p q (settles (Drop (c.args.count + 1)) f) (on_receiver (operand_at c.args.count f) run) (runs_base p c.in_ok-o.o c.args.count f (named_of c.base_of-base.result)) w (went c.construct_base.result (world c.construct_base.new.s g.out) c.construct_base.new.s.frames) is c.construct_base.ensures.runs;
+  limit = search rules;
+}
 
-pub returns-in_err-o-clause-runs : goal.returns-in_err-o-clause-runs
-returns-in_err-o-clause-runs g c =
-    let p = setting c.args.linked.now g.out in
-    let q = c.args.s.now.frames in
-    let f = newest q in
-    let w = world c.args.s.now g.out in
-    let base = base_named p.linked.file c.args.class in
-    let run = λ (o : ObjId). runs_base p o c.args.count f base in
-    let s = why c.in_err-o.field-0.0 in
-    let e = err_from_is_err_and c.from_residual.result c.from_residual.ensures.1 in
-    rw (e.1, e.2) (came_halts p q (settles (Drop (c.args.count + 1)) f) (on_receiver (operand_at c.args.count f) run) w w s
-    (ap (λ (v : Value). on_receiver v run w) (sym c.operand-v.ensures.is) ∙ receives_stopped c.operand-v.result run w s (c.in_err-o.ensures.is w)))
+pub returns-in_err-o : goal.returns-in_err-o
+returns-in_err-o g c = record {
+  runs =
+      let p = setting c.args.linked.now g.out in
+      let q = c.args.s.now.frames in
+      let f = newest q in
+      let w = world c.args.s.now g.out in
+      let base = base_named p.linked.file c.args.class in
+      let run = λ (o : ObjId). runs_base p o c.args.count f base in
+      let s = why c.in_err-o.field-0.0 in
+      let e = err_from_is_err_and c.from_residual.result c.from_residual.ensures.1 in
+      rw (e.1, e.2) (came_halts p q (settles (Drop (c.args.count + 1)) f) (on_receiver (operand_at c.args.count f) run) w w s
+      (ap (λ (v : Value). on_receiver v run w) (sym c.operand-v.ensures.is) ∙ receives_stopped c.operand-v.result run w s (c.in_err-o.ensures.is w)));
+  limit = search rules;
+}

@@ -9,27 +9,23 @@ use Rattle.abc_run_members.proofs.naming.read_on.Goals as goal
 
 pub read_on_object-requires : goal.read_on_object-requires
 read_on_object-requires g c = (
+  record {
+    set = search rules;
+    known = search rules;
+    free =
+        let p = setting c.args.linked.now g.out in
+        let w = world c.args.s.now g.out in
+        subst (λ (v : Value). IsOpen (reads_on p v c.args.name.now c.args.how (newest c.args.s.now.frames) w)) c.in-Obj.is c.requires.0.free;
+  },
   search rules,
-  (
-    search rules,
-    (
-      search rules,
-      (
-        search rules,
-        (
-          search rules,
-          (let p = setting c.args.linked.now g.out in
-              let w = world c.args.s.now g.out in
-              subst (λ (v : Value). IsOpen (reads_on p v c.args.name.now c.args.how (newest c.args.s.now.frames) w)) c.in-Obj.is c.requires.1.1.1.1.1),
-        ),
-      ),
-    ),
-  ),
 )
 
-pub returns-in-Obj-clause-runs : goal.returns-in-Obj-clause-runs
-returns-in-Obj-clause-runs g c =
-    let p = setting c.args.linked.now g.out in
-    let q = c.args.s.now.frames in
-    let w = world c.args.s.now g.out in
-    ap (λ (v : Value). turned p q (reads_on p v c.args.name.now c.args.how (newest q) w)) c.in-Obj.is ∙ c.read_on_object.ensures.runs
+pub returns-in-Obj : goal.returns-in-Obj
+returns-in-Obj g c = record {
+  runs =
+      let p = setting c.args.linked.now g.out in
+      let q = c.args.s.now.frames in
+      let w = world c.args.s.now g.out in
+      ap (λ (v : Value). turned p q (reads_on p v c.args.name.now c.args.how (newest q) w)) c.in-Obj.is ∙ c.read_on_object.ensures.runs;
+  limit = search rules;
+}

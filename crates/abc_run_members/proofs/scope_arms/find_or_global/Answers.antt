@@ -20,47 +20,40 @@ going p = (λ found name. pushes_or_global p found)
 pub name_of-requires : goal.name_of-requires
 name_of-requires g c =
     let p = setting c.args.linked.now g.out in
-    (c.requires.0, (omega arith, (has_parts (form_at p c.args.name) 0 (newest c.args.s.now.frames) (omega (arith, c.requires.1.1.0.operands)), named_open p c.args.name (going p) (newest c.args.s.now.frames) (world c.args.s.now g.out) c.requires.1.1.1.1)))
+    (c.requires.0.set, (omega arith, (has_parts (form_at p c.args.name) 0 (newest c.args.s.now.frames) (omega (arith, c.requires.1.0.operands)), named_open p c.args.name (going p) (newest c.args.s.now.frames) (world c.args.s.now g.out) c.requires.0.free)))
 
 pub find_here-found-requires-clause-set : goal.find_here-found-requires-clause-set
-find_here-found-requires-clause-set g c = set_stays c.args.linked.now c.args.s.now c.name_of.new.s c.in_ok-wanted.ensures.stays c.requires.0
+find_here-found-requires-clause-set g c = set_stays c.args.linked.now c.args.s.now c.name_of.new.s c.in_ok-wanted.ensures.stays c.requires.0.set
 
 pub find_here-found-requires-clause-live : goal.find_here-found-requires-clause-live
-find_here-found-requires-clause-live g c = subst (λ q. Rattle.std.proofs.Common.◌<◌ 0 (length q.living)) (sym c.in_ok-wanted.ensures.stays.frames) c.requires.1.1.0.live
+find_here-found-requires-clause-live g c = subst (λ q. Rattle.std.proofs.Common.◌<◌ 0 (length q.living)) (sym c.in_ok-wanted.ensures.stays.frames) c.requires.1.0.live
 
 pub push_or_global-requires : goal.push_or_global-requires
 push_or_global-requires g c = (
-  (set_stays c.args.linked.now c.args.s.now c.name_of.new.s c.in_ok-wanted.ensures.stays c.requires.0),
-  (
-    (known_stays c.args.linked.now c.args.s.now c.name_of.new.s c.in_ok-wanted.ensures.stays c.requires.1.0),
-    (
-      (subst (IsReady c.parts_of-parts.result 1) (sym c.in_ok-wanted.ensures.stays.frames) (subst (λ (n : ℕ). IsReady n 1 c.args.s.now.frames) (sym (c.parts_of-parts.ensures g.out)) c.requires.1.1.0)),
-      (
-        (ap (λ xs. length xs) c.in_ok-wanted.ensures.stays.started ∙ c.requires.1.1.1.0),
-        (
-          c.find_here-found.ensures.there,
-          (let p = setting c.args.linked.now g.out in
-              found_open p c.args.s.now.frames c.name_of.new.s.frames c.args.name c.parts_of-parts.result (going p) (world c.args.s.now g.out) (world c.name_of.new.s g.out) c.in_ok-wanted.wanted c.find_here-found.result (c.parts_of-parts.ensures g.out) c.in_ok-wanted.ensures.part c.in_ok-wanted.ensures.stays.frames (c.find_here-found.ensures.is g.out) c.requires.1.1.1.1),
-        ),
-      ),
-    ),
-  ),
+  record {
+    set = (set_stays c.args.linked.now c.args.s.now c.name_of.new.s c.in_ok-wanted.ensures.stays c.requires.0.set);
+    known = (known_stays c.args.linked.now c.args.s.now c.name_of.new.s c.in_ok-wanted.ensures.stays c.requires.0.known);
+    free =
+        let p = setting c.args.linked.now g.out in
+        found_open p c.args.s.now.frames c.name_of.new.s.frames c.args.name c.parts_of-parts.result (going p) (world c.args.s.now g.out) (world c.name_of.new.s g.out) c.in_ok-wanted.wanted c.find_here-found.result (c.parts_of-parts.ensures g.out) c.in_ok-wanted.ensures.part c.in_ok-wanted.ensures.stays.frames (c.find_here-found.ensures.is g.out) c.requires.0.free;
+  },
+  ((subst (IsReady c.parts_of-parts.result 1) (sym c.in_ok-wanted.ensures.stays.frames) (subst (λ (n : ℕ). IsReady n 1 c.args.s.now.frames) (sym (c.parts_of-parts.ensures g.out)) c.requires.1.0)), ((ap (λ xs. length xs) c.in_ok-wanted.ensures.stays.started ∙ c.requires.1.1), c.find_here-found.ensures.there)),
 )
 
-pub returns-clause-runs : goal.returns-clause-runs
-returns-clause-runs g c =
-    let p = setting c.args.linked.now g.out in
-    found_turns p c.args.s.now.frames c.name_of.new.s.frames c.args.name c.parts_of-parts.result (going p) (world c.args.s.now g.out) (world c.name_of.new.s g.out) c.in_ok-wanted.wanted c.find_here-found.result (c.parts_of-parts.ensures g.out) c.in_ok-wanted.ensures.part c.in_ok-wanted.ensures.stays.frames (c.find_here-found.ensures.is g.out)
-    (went c.push_or_global.result (world c.push_or_global.new.s g.out) c.push_or_global.new.s.frames) c.push_or_global.ensures.runs
+pub returns : goal.returns
+returns g c = record {
+  runs =
+      let p = setting c.args.linked.now g.out in
+      found_turns p c.args.s.now.frames c.name_of.new.s.frames c.args.name c.parts_of-parts.result (going p) (world c.args.s.now g.out) (world c.name_of.new.s g.out) c.in_ok-wanted.wanted c.find_here-found.result (c.parts_of-parts.ensures g.out) c.in_ok-wanted.ensures.part c.in_ok-wanted.ensures.stays.frames (c.find_here-found.ensures.is g.out)
+      (went c.push_or_global.result (world c.push_or_global.new.s g.out) c.push_or_global.new.s.frames) c.push_or_global.ensures.runs;
+  limit = c.push_or_global.ensures.limit ∙ limit_stays c.args.linked.now c.args.s.now c.name_of.new.s c.in_ok-wanted.ensures.stays;
+}
 
-pub returns-clause-limit : goal.returns-clause-limit
-returns-clause-limit g c = c.push_or_global.ensures.limit ∙ limit_stays c.args.linked.now c.args.s.now c.name_of.new.s c.in_ok-wanted.ensures.stays
-
-pub returns-in_err-wanted-clause-runs : goal.returns-in_err-wanted-clause-runs
-returns-in_err-wanted-clause-runs g c =
-    let p = setting c.args.linked.now g.out in
-    let e = err_from_is_err_and c.from_residual.result c.from_residual.ensures.1 in
-    rw (e.1, e.2) (named_halts p c.args.s.now.frames c.name_of.new.s.frames c.args.name (going p) (world c.args.s.now g.out) (world c.name_of.new.s g.out) (why c.in_err-wanted.field-0.0) c.in_err-wanted.ensures.part c.in_err-wanted.ensures.stays.frames)
-
-pub returns-in_err-wanted-clause-limit : goal.returns-in_err-wanted-clause-limit
-returns-in_err-wanted-clause-limit g c = limit_stays c.args.linked.now c.args.s.now c.name_of.new.s c.in_err-wanted.ensures.stays
+pub returns-in_err-wanted : goal.returns-in_err-wanted
+returns-in_err-wanted g c = record {
+  runs =
+      let p = setting c.args.linked.now g.out in
+      let e = err_from_is_err_and c.from_residual.result c.from_residual.ensures.1 in
+      rw (e.1, e.2) (named_halts p c.args.s.now.frames c.name_of.new.s.frames c.args.name (going p) (world c.args.s.now g.out) (world c.name_of.new.s g.out) (why c.in_err-wanted.field-0.0) c.in_err-wanted.ensures.part c.in_err-wanted.ensures.stays.frames);
+  limit = limit_stays c.args.linked.now c.args.s.now c.name_of.new.s c.in_err-wanted.ensures.stays;
+}

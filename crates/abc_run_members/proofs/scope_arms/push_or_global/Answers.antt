@@ -1,4 +1,4 @@
-use Rattle.std.proofs.Common.{◌∙◌, ℕ, ◌<◌, ap, subst, sym}
+use Rattle.std.proofs.Common.{rules, ◌∙◌, ℕ, ◌<◌, ap, subst, sym}
 use Rattle.abc_heap_values.specs.declared.values.Value.TheVariants.{Obj}
 use Rattle.abc_heap_search.specs.declared.found.ScopeFound.{ScopeFound}
 use Rattle.abc_frames.specs.Frame.{newest}
@@ -12,35 +12,43 @@ use Rattle.abc_run_members.specs.Scoped.{pushes_in}
 use Rattle.abc_run_members.proofs.Pushed.{global_pushed, object_pushed, script_is}
 use Rattle.abc_run_members.proofs.scope_arms.push_or_global.Goals as goal
 
-pub returns-in-Object-clause-runs : goal.returns-in-Object-clause-runs
-returns-in-Object-clause-runs g c = object_pushed (setting c.args.linked.now g.out) c.args.s.now.frames c.finish.new.frames c.args.parts c.in-Object.o (see (global (newest c.args.s.now.frames).home) >>= pushes_in c.args.parts (newest c.args.s.now.frames)) c.args.found (world c.args.s.now g.out) c.in-Object.is c.finish.ensures
+pub returns-in-Object : goal.returns-in-Object
+returns-in-Object g c = record {
+  runs = object_pushed (setting c.args.linked.now g.out) c.args.s.now.frames c.finish.new.frames c.args.parts c.in-Object.o (see (global (newest c.args.s.now.frames).home) >>= pushes_in c.args.parts (newest c.args.s.now.frames)) c.args.found (world c.args.s.now g.out) c.in-Object.is c.finish.ensures;
+  limit = search rules;
+}
 
 pub start_above-requires : goal.start_above-requires
 start_above-requires g c =
     let l = c.args.linked.now in
-    let there : c.in-Start.script < Rattle.std.proofs.Common.length l.file.scripts = subst (λ (f : ScopeFound). IsScopeThere l c.args.s.now.arena f) c.in-Start.is c.requires.1.1.1.1.0 in (
-      c.requires.0,
+    let there : c.in-Start.script < Rattle.std.proofs.Common.length l.file.scripts = subst (λ (f : ScopeFound). IsScopeThere l c.args.s.now.arena f) c.in-Start.is c.requires.1.1.1 in (
+      c.requires.0.set,
       (
-        c.requires.1.0,
+        c.requires.0.known,
         (
-          c.requires.1.1.0.live,
+          c.requires.1.0.live,
           (
             there,
             (
-              subst (λ (n : ℕ). c.in-Start.script < n) (sym c.requires.1.1.1.0) there,
-              subst IsOpen (script_is (setting l g.out) (newest c.args.s.now.frames) c.in-Start.script (λ x. pushes_in c.args.parts (newest c.args.s.now.frames) (Obj x)) (see (global (newest c.args.s.now.frames).home) >>= pushes_in c.args.parts (newest c.args.s.now.frames)) c.args.found (world c.args.s.now g.out) c.in-Start.is) c.requires.1.1.1.1.1,
+              subst (λ (n : ℕ). c.in-Start.script < n) (sym c.requires.1.1.0) there,
+              subst IsOpen (script_is (setting l g.out) (newest c.args.s.now.frames) c.in-Start.script (λ x. pushes_in c.args.parts (newest c.args.s.now.frames) (Obj x)) (see (global (newest c.args.s.now.frames).home) >>= pushes_in c.args.parts (newest c.args.s.now.frames)) c.args.found (world c.args.s.now g.out) c.in-Start.is) c.requires.0.free,
             ),
           ),
         ),
       ),
     )
 
-pub returns-in-Start-clause-runs : goal.returns-in-Start-clause-runs
-returns-in-Start-clause-runs g c =
-    ap (turned (setting c.args.linked.now g.out) c.args.s.now.frames) (script_is (setting c.args.linked.now g.out) (newest c.args.s.now.frames) c.in-Start.script (λ x. pushes_in c.args.parts (newest c.args.s.now.frames) (Obj x)) (see (global (newest c.args.s.now.frames).home) >>= pushes_in c.args.parts (newest c.args.s.now.frames)) c.args.found (world c.args.s.now g.out) c.in-Start.is) ∙ c.start_above.ensures.runs
+pub returns-in-Start : goal.returns-in-Start
+returns-in-Start g c = record {
+  runs = ap (turned (setting c.args.linked.now g.out) c.args.s.now.frames) (script_is (setting c.args.linked.now g.out) (newest c.args.s.now.frames) c.in-Start.script (λ x. pushes_in c.args.parts (newest c.args.s.now.frames) (Obj x)) (see (global (newest c.args.s.now.frames).home) >>= pushes_in c.args.parts (newest c.args.s.now.frames)) c.args.found (world c.args.s.now g.out) c.in-Start.is) ∙ c.start_above.ensures.runs;
+  limit = search rules;
+}
 
 pub global_of-global-requires-clause-script : goal.global_of-global-requires-clause-script
-global_of-global-requires-clause-script g c = subst (λ (n : ℕ). n < Rattle.std.proofs.Common.length c.args.linked.now.file.scripts) (sym c.home-home.ensures) c.requires.0.frame.home
+global_of-global-requires-clause-script g c = subst (λ (n : ℕ). n < Rattle.std.proofs.Common.length c.args.linked.now.file.scripts) (sym c.home-home.ensures) c.requires.0.set.frame.home
 
-pub returns-in-Missing-clause-runs : goal.returns-in-Missing-clause-runs
-returns-in-Missing-clause-runs g c = global_pushed (setting c.args.linked.now g.out) c.args.s.now.frames c.finish-in-Missing.new.frames c.args.parts c.home-home.result c.global_of-global.result c.args.found (world c.args.s.now g.out) c.in-Missing.is c.home-home.ensures (c.global_of-global.ensures.is g.out) c.finish-in-Missing.ensures
+pub returns-in-Missing : goal.returns-in-Missing
+returns-in-Missing g c = record {
+  runs = global_pushed (setting c.args.linked.now g.out) c.args.s.now.frames c.finish-in-Missing.new.frames c.args.parts c.home-home.result c.global_of-global.result c.args.found (world c.args.s.now g.out) c.in-Missing.is c.home-home.ensures (c.global_of-global.ensures.is g.out) c.finish-in-Missing.ensures;
+  limit = search rules;
+}

@@ -15,10 +15,10 @@ use Rattle.abc_run_members.proofs.Parts.{calls_as, few_parts, known_stays, limit
 use Rattle.abc_run_members.proofs.searching.call_searched.Goals as goal
 
 pub overflow_add-count : goal.overflow_add-count
-overflow_add-count g c = let few = few_parts (form_at (setting c.args.linked.now g.out) c.args.name) in omega (arith, few, c.parts_of-parts.ensures g.out, c.requires.1.1.1.0)
+overflow_add-count g c = let few = few_parts (form_at (setting c.args.linked.now g.out) c.args.name) in omega (arith, few, c.parts_of-parts.ensures g.out, c.requires.1.1.0)
 
 pub operand-v-requires : goal.operand-v-requires
-operand-v-requires g c = omega (arith, c.parts_of-parts.ensures g.out, c.requires.1.1.0.operands)
+operand-v-requires g c = omega (arith, c.parts_of-parts.ensures g.out, c.requires.1.0.operands)
 
 pub name_of-requires : goal.name_of-requires
 name_of-requires g c = (
@@ -26,62 +26,54 @@ name_of-requires g c = (
   (
     search rules,
     (
-      (has_parts (form_at (setting c.args.linked.now g.out) c.args.name) c.args.count (newest c.args.s.now.frames) (omega (arith, c.requires.1.1.0.operands))),
+      (has_parts (form_at (setting c.args.linked.now g.out) c.args.name) c.args.count (newest c.args.s.now.frames) (omega (arith, c.requires.1.0.operands))),
       (let p = setting c.args.linked.now g.out in
           let f = newest c.args.s.now.frames in
           let w = world c.args.s.now g.out in
-          part_open (named_here p c.args.name c.args.count f) (λ (name : Name). calls_name p c.operand-v.result c.receiver_for-receiver.result name (arguments c.args.count f)) (settles c.args.how f) w (subst IsOpen (calls_as p c.args.name c.parts_of-parts.result c.args.count c.operand-v.result c.receiver_for-receiver.result c.args.lexical c.args.how f w (c.parts_of-parts.ensures g.out) c.operand-v.ensures.is c.receiver_for-receiver.ensures) c.requires.1.1.1.1.1)),
+          part_open (named_here p c.args.name c.args.count f) (λ (name : Name). calls_name p c.operand-v.result c.receiver_for-receiver.result name (arguments c.args.count f)) (settles c.args.how f) w (subst IsOpen (calls_as p c.args.name c.parts_of-parts.result c.args.count c.operand-v.result c.receiver_for-receiver.result c.args.lexical c.args.how f w (c.parts_of-parts.ensures g.out) c.operand-v.ensures.is c.receiver_for-receiver.ensures) c.requires.0.free)),
     ),
   ),
 )
 
 pub call_on-requires : goal.call_on-requires
 call_on-requires g c = (
-  (set_stays c.args.linked.now c.args.s.now c.name_of.new.s c.in_ok-wanted.ensures.stays c.requires.0),
-  (
-    (known_stays c.args.linked.now c.args.s.now c.name_of.new.s c.in_ok-wanted.ensures.stays c.requires.1.0),
-    (
-      (subst (λ n. IsReady n (given_by c.args.how) c.name_of.new.s.frames) (sym c.requires.1.1.1.1.0) (ready_stays _ (given_by c.args.how) c.args.s.now.frames c.name_of.new.s.frames c.in_ok-wanted.ensures.stays.frames c.requires.1.1.0)),
-      (
-        (omega (arith, c.requires.1.1.1.1.0)),
-        (
-          (value_stays c.args.linked.now c.args.s.now c.name_of.new.s c.operand-v.result c.in_ok-wanted.ensures.stays (c.operand-v.ensures.there c.args.linked.now c.args.s.now.arena c.requires.0.frame.stack)),
-          (
-            search rules,
-            (let p = setting c.args.linked.now g.out in
-                let q = c.args.s.now.frames in
-                let f = newest q in
-                let w = world c.args.s.now g.out in
-                next_open q c.name_of.new.s.frames (named_here p c.args.name c.args.count f) (λ (f : Frame). λ (name : Name). calls_name p c.operand-v.result c.receiver_for-receiver.result name (arguments c.args.count f)) (λ (f : Frame). settles c.args.how f) w (world c.name_of.new.s g.out) c.in_ok-wanted.wanted c.in_ok-wanted.ensures.part c.in_ok-wanted.ensures.stays.frames
-                (subst IsOpen (calls_as p c.args.name c.parts_of-parts.result c.args.count c.operand-v.result c.receiver_for-receiver.result c.args.lexical c.args.how f w (c.parts_of-parts.ensures g.out) c.operand-v.ensures.is c.receiver_for-receiver.ensures) c.requires.1.1.1.1.1)),
-          ),
-        ),
-      ),
-    ),
-  ),
+  record {
+    set = (set_stays c.args.linked.now c.args.s.now c.name_of.new.s c.in_ok-wanted.ensures.stays c.requires.0.set);
+    known = (known_stays c.args.linked.now c.args.s.now c.name_of.new.s c.in_ok-wanted.ensures.stays c.requires.0.known);
+    free =
+        let p = setting c.args.linked.now g.out in
+        let q = c.args.s.now.frames in
+        let f = newest q in
+        let w = world c.args.s.now g.out in
+        next_open q c.name_of.new.s.frames (named_here p c.args.name c.args.count f) (λ (f : Frame). λ (name : Name). calls_name p c.operand-v.result c.receiver_for-receiver.result name (arguments c.args.count f)) (λ (f : Frame). settles c.args.how f) w (world c.name_of.new.s g.out) c.in_ok-wanted.wanted c.in_ok-wanted.ensures.part c.in_ok-wanted.ensures.stays.frames
+        (subst IsOpen (calls_as p c.args.name c.parts_of-parts.result c.args.count c.operand-v.result c.receiver_for-receiver.result c.args.lexical c.args.how f w (c.parts_of-parts.ensures g.out) c.operand-v.ensures.is c.receiver_for-receiver.ensures) c.requires.0.free);
+  },
+  ((subst (λ n. IsReady n (given_by c.args.how) c.name_of.new.s.frames) (sym c.requires.1.1.1) (ready_stays _ (given_by c.args.how) c.args.s.now.frames c.name_of.new.s.frames c.in_ok-wanted.ensures.stays.frames c.requires.1.0)), ((omega (arith, c.requires.1.1.1)), ((value_stays c.args.linked.now c.args.s.now c.name_of.new.s c.operand-v.result c.in_ok-wanted.ensures.stays (c.operand-v.ensures.there c.args.linked.now c.args.s.now.arena c.requires.0.set.frame.stack)), search rules))),
 )
 
-pub returns-clause-leaves : goal.returns-clause-leaves
-returns-clause-leaves g c =
-    let p = setting c.args.linked.now g.out in
-    let q = c.args.s.now.frames in
-    let f = newest q in
-    let w = world c.args.s.now g.out in
-    ap (turned p q) (calls_as p c.args.name c.parts_of-parts.result c.args.count c.operand-v.result c.receiver_for-receiver.result c.args.lexical c.args.how f w (c.parts_of-parts.ensures g.out) c.operand-v.ensures.is c.receiver_for-receiver.ensures)
-    ∙ next_turns p q c.name_of.new.s.frames (named_here p c.args.name c.args.count f) (λ (f : Frame). λ (name : Name). calls_name p c.operand-v.result c.receiver_for-receiver.result name (arguments c.args.count f)) (λ (f : Frame). settles c.args.how f) w (world c.name_of.new.s g.out) c.in_ok-wanted.wanted _ c.in_ok-wanted.ensures.part c.in_ok-wanted.ensures.stays.frames c.call_on.ensures.leaves
+pub returns : goal.returns
+returns g c = record {
+  leaves =
+      let p = setting c.args.linked.now g.out in
+      let q = c.args.s.now.frames in
+      let f = newest q in
+      let w = world c.args.s.now g.out in
+      ap (turned p q) (calls_as p c.args.name c.parts_of-parts.result c.args.count c.operand-v.result c.receiver_for-receiver.result c.args.lexical c.args.how f w (c.parts_of-parts.ensures g.out) c.operand-v.ensures.is c.receiver_for-receiver.ensures)
+      ∙ next_turns p q c.name_of.new.s.frames (named_here p c.args.name c.args.count f) (λ (f : Frame). λ (name : Name). calls_name p c.operand-v.result c.receiver_for-receiver.result name (arguments c.args.count f)) (λ (f : Frame). settles c.args.how f) w (world c.name_of.new.s g.out) c.in_ok-wanted.wanted _ c.in_ok-wanted.ensures.part c.in_ok-wanted.ensures.stays.frames c.call_on.ensures.leaves;
+  finishes = search rules;
+  limit = c.call_on.ensures.limit ∙ limit_stays c.args.linked.now c.args.s.now c.name_of.new.s c.in_ok-wanted.ensures.stays;
+}
 
-pub returns-clause-limit : goal.returns-clause-limit
-returns-clause-limit g c = c.call_on.ensures.limit ∙ limit_stays c.args.linked.now c.args.s.now c.name_of.new.s c.in_ok-wanted.ensures.stays
-
-pub returns-in_err-wanted-clause-leaves : goal.returns-in_err-wanted-clause-leaves
-returns-in_err-wanted-clause-leaves g c =
-    let p = setting c.args.linked.now g.out in
-    let q = c.args.s.now.frames in
-    let f = newest q in
-    let w = world c.args.s.now g.out in
-    let e = err_from_is_err_and c.from_residual.result c.from_residual.ensures.1 in
-    rw (e.1, e.2) (ap (turned p q) (calls_as p c.args.name c.parts_of-parts.result c.args.count c.operand-v.result c.receiver_for-receiver.result c.args.lexical c.args.how f w (c.parts_of-parts.ensures g.out) c.operand-v.ensures.is c.receiver_for-receiver.ensures)
-    ∙ part_halts p q c.name_of.new.s.frames (named_here p c.args.name c.args.count f) (λ (name : Name). calls_name p c.operand-v.result c.receiver_for-receiver.result name (arguments c.args.count f)) (settles c.args.how f) w (world c.name_of.new.s g.out) (why c.in_err-wanted.field-0.0) c.in_err-wanted.ensures.part c.in_err-wanted.ensures.stays.frames)
-
-pub returns-in_err-wanted-clause-limit : goal.returns-in_err-wanted-clause-limit
-returns-in_err-wanted-clause-limit g c = limit_stays c.args.linked.now c.args.s.now c.name_of.new.s c.in_err-wanted.ensures.stays
+pub returns-in_err-wanted : goal.returns-in_err-wanted
+returns-in_err-wanted g c = record {
+  leaves =
+      let p = setting c.args.linked.now g.out in
+      let q = c.args.s.now.frames in
+      let f = newest q in
+      let w = world c.args.s.now g.out in
+      let e = err_from_is_err_and c.from_residual.result c.from_residual.ensures.1 in
+      rw (e.1, e.2) (ap (turned p q) (calls_as p c.args.name c.parts_of-parts.result c.args.count c.operand-v.result c.receiver_for-receiver.result c.args.lexical c.args.how f w (c.parts_of-parts.ensures g.out) c.operand-v.ensures.is c.receiver_for-receiver.ensures)
+      ∙ part_halts p q c.name_of.new.s.frames (named_here p c.args.name c.args.count f) (λ (name : Name). calls_name p c.operand-v.result c.receiver_for-receiver.result name (arguments c.args.count f)) (settles c.args.how f) w (world c.name_of.new.s g.out) (why c.in_err-wanted.field-0.0) c.in_err-wanted.ensures.part c.in_err-wanted.ensures.stays.frames);
+  finishes = search rules;
+  limit = limit_stays c.args.linked.now c.args.s.now c.name_of.new.s c.in_err-wanted.ensures.stays;
+}

@@ -1,5 +1,3 @@
-use Rattle.std.specs.Prelude.{Some}
-use Rattle.abc_run_state.specs.Outer.{setting, world}
 use Rattle.abc_run_members.proofs.ElementsHeld.{elements_taken}
 use Rattle.abc_run_members.proofs.writing.kept_element.Goals as goal
 

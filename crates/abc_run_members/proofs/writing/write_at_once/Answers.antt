@@ -18,13 +18,19 @@ write_value-requires g c =
 pub settle-requires : goal.settle-requires
 settle-requires g c = ready_stays (taken_by c.args.how) (given_by c.args.how) c.args.s.now.frames c.write_value.new.s.frames c.in_ok-write_value.ensures.stays.frames c.requires.1.0
 
-pub returns-clause-runs : goal.returns-clause-runs
-returns-clause-runs g c =
-    let p = setting c.args.linked.now g.out in
-    came_goes p c.args.s.now.frames c.write_value.new.s.frames c.settle.new.frames c.args.how (value_written p c.args.o c.args.name.now c.args.v c.args.initial c.args.found) (λ u. Undefined) (world c.args.s.now g.out) (world c.write_value.new.s g.out) tt c.in_ok-write_value.ensures.part c.in_ok-write_value.ensures.stays.frames c.settle.ensures
+pub returns : goal.returns
+returns g c = record {
+  runs =
+      let p = setting c.args.linked.now g.out in
+      came_goes p c.args.s.now.frames c.write_value.new.s.frames c.settle.new.frames c.args.how (value_written p c.args.o c.args.name.now c.args.v c.args.initial c.args.found) (λ u. Undefined) (world c.args.s.now g.out) (world c.write_value.new.s g.out) tt c.in_ok-write_value.ensures.part c.in_ok-write_value.ensures.stays.frames c.settle.ensures;
+  limit = search rules;
+}
 
-pub returns-in_err-write_value-clause-runs : goal.returns-in_err-write_value-clause-runs
-returns-in_err-write_value-clause-runs g c =
-    let p = setting c.args.linked.now g.out in
-    let e = err_from_is_err_and c.from_residual.result c.from_residual.ensures.1 in
-    rw (e.1, e.2) (came_stops p c.args.s.now.frames c.write_value.new.s.frames c.args.how (value_written p c.args.o c.args.name.now c.args.v c.args.initial c.args.found) (λ u. Undefined) (world c.args.s.now g.out) (world c.write_value.new.s g.out) (why c.in_err-write_value.field-0.0) c.in_err-write_value.ensures.part c.in_err-write_value.ensures.stays.frames)
+pub returns-in_err-write_value : goal.returns-in_err-write_value
+returns-in_err-write_value g c = record {
+  runs =
+      let p = setting c.args.linked.now g.out in
+      let e = err_from_is_err_and c.from_residual.result c.from_residual.ensures.1 in
+      rw (e.1, e.2) (came_stops p c.args.s.now.frames c.write_value.new.s.frames c.args.how (value_written p c.args.o c.args.name.now c.args.v c.args.initial c.args.found) (λ u. Undefined) (world c.args.s.now g.out) (world c.write_value.new.s g.out) (why c.in_err-write_value.field-0.0) c.in_err-write_value.ensures.part c.in_err-write_value.ensures.stays.frames);
+  limit = search rules;
+}

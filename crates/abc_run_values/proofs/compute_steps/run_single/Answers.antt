@@ -18,5 +18,8 @@ does_so l out s op can among = pick (λ o. CanRun l out s (Plain o) → Does l o
 pub compute_top-requires : goal.compute_top-requires
 compute_top-requires g c = (c.requires.0.set, (does_so c.args.linked.now g.out c.args.s.now c.args.op c.requires.0 c.requires.1).ready)
 
-pub returns-clause-runs : goal.returns-clause-runs
-returns-clause-runs g c = turns_as c.args.linked.now g.out c.args.s.now (Plain c.args.op) 1 1 _ _ (does_so c.args.linked.now g.out c.args.s.now c.args.op c.requires.0 c.requires.1) c.compute_top.ensures.runs
+pub returns : goal.returns
+returns g c = record {
+  runs = turns_as c.args.linked.now g.out c.args.s.now (Plain c.args.op) 1 1 _ _ (does_so c.args.linked.now g.out c.args.s.now c.args.op c.requires.0 c.requires.1) c.compute_top.ensures.runs;
+  limit = c.compute_top.ensures.limit;
+}

@@ -13,5 +13,8 @@ use Rattle.abc_run_values.proofs.others.run_byte.Goals as goal
 pub push_value-requires : goal.push_value-requires
 push_value-requires g c = let d = op_24 c.args.linked.now g.out c.args.s.now c.args.n c.requires in d.ready
 
-pub returns-clause-runs : goal.returns-clause-runs
-returns-clause-runs g c = turns_as c.args.linked.now g.out c.args.s.now (Byte c.args.n) 0 1 _ _ (subst (λ (x : Value). Does c.args.linked.now g.out c.args.s.now (Byte c.args.n) 0 1 (goes (pushed (x ∷ []) (newest c.args.s.now.frames)))) (sym (c.byte_value.ensures ∙ ap Num (to_z-of_z w8 c.args.n c.ranges.n))) (op_24 c.args.linked.now g.out c.args.s.now c.args.n c.requires)) c.push_value.ensures.runs
+pub returns : goal.returns
+returns g c = record {
+  runs = turns_as c.args.linked.now g.out c.args.s.now (Byte c.args.n) 0 1 _ _ (subst (λ (x : Value). Does c.args.linked.now g.out c.args.s.now (Byte c.args.n) 0 1 (goes (pushed (x ∷ []) (newest c.args.s.now.frames)))) (sym (c.byte_value.ensures ∙ ap Num (to_z-of_z w8 c.args.n c.ranges.n))) (op_24 c.args.linked.now g.out c.args.s.now c.args.n c.requires)) c.push_value.ensures.runs;
+  limit = c.push_value.ensures.limit;
+}

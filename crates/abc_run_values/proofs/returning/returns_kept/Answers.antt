@@ -3,5 +3,9 @@ use Rattle.abc_run_state.specs.Outer.{setting}
 use Rattle.abc_run_state.specs.Turns.{turned}
 use Rattle.abc_run_values.proofs.returning.returns_kept.Goals as goal
 
-pub returns-clause-leaves : goal.returns-clause-leaves
-returns-clause-leaves g c = λ e. ap (turned (setting c.args.linked.now g.out) c.args.s.now.frames) (c.returns_whole.ensures c.if-not-returns_whole.false)
+pub returns : goal.returns
+returns g c = record {
+  leaves = λ e. ap (turned (setting c.args.linked.now g.out) c.args.s.now.frames) (c.returns_whole.ensures c.if-not-returns_whole.false);
+  returns = λ e. tt;
+  undone = λ e. absurd cc;
+}

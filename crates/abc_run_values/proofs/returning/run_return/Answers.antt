@@ -22,12 +22,18 @@ return_value-requires-in-72 g c =
     (can.set.over, (c.operand-v.ensures.there c.args.linked.now c.args.s.now.arena can.set.frame.stack, (can.live, open_as c.args.linked.now g.out c.args.s.now (Plain 72) 1 0 _ d can.free)))
 
 pub returns-in-71-clause-leaves : goal.returns-in-71-clause-leaves
-returns-in-71-clause-leaves g c =
-    let can = can_at c.args.linked.now g.out c.args.s.now Plain c.args.op 71 c.in-71.is c.requires.0 in
-    runs_at c.args.linked.now g.out c.args.s.now Plain c.args.op 71 0 0 _ _ c.in-71.is (op_47 c.args.linked.now g.out c.args.s.now can) c.return_value.ensures.leaves
+returns-in-71-clause-leaves g c = record {
+  leaves =
+      let can = can_at c.args.linked.now g.out c.args.s.now Plain c.args.op 71 c.in-71.is c.requires.0 in
+      runs_at c.args.linked.now g.out c.args.s.now Plain c.args.op 71 0 0 _ _ c.in-71.is (op_47 c.args.linked.now g.out c.args.s.now can) c.return_value.ensures.leaves;
+  limit = c.return_value.ensures.limit;
+}
 
 pub returns-in-72-clause-leaves : goal.returns-in-72-clause-leaves
-returns-in-72-clause-leaves g c =
-    let can = can_at c.args.linked.now g.out c.args.s.now Plain c.args.op 72 c.in-72.is c.requires.0 in
-    let d = returned c.args.linked.now g.out c.args.s.now c.operand-v.result can c.operand-v.ensures.is in
-    runs_at c.args.linked.now g.out c.args.s.now Plain c.args.op 72 1 0 _ _ c.in-72.is d c.return_value-in-72.ensures.leaves
+returns-in-72-clause-leaves g c = record {
+  leaves =
+      let can = can_at c.args.linked.now g.out c.args.s.now Plain c.args.op 72 c.in-72.is c.requires.0 in
+      let d = returned c.args.linked.now g.out c.args.s.now c.operand-v.result can c.operand-v.ensures.is in
+      runs_at c.args.linked.now g.out c.args.s.now Plain c.args.op 72 1 0 _ _ c.in-72.is d c.return_value-in-72.ensures.leaves;
+  limit = c.return_value-in-72.ensures.limit;
+}

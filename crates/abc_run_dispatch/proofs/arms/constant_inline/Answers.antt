@@ -1,0 +1,6 @@
+use Rattle.abc_run_dispatch.proofs.Dispatched.{dispatches_run}
+use Rattle.abc_file_types.specs.declared.code.Instr.TheVariants.{One}
+use Rattle.abc_run_dispatch.proofs.arms.constant_inline.Goals as goal
+
+pub returns : goal.returns
+returns g c = dispatches_run c.args.linked.now g.out c.args.s.now (One c.args.op c.args.n) c.run_constant.new.s _ _ c.goes.ensures.goes c.run_constant.result c.run_constant.ensures c.goes.ensures.left

@@ -1,4 +1,0 @@
-use Rattle.abc_run_dispatch.proofs.quick.control_here.Given as goal
-
-abbrev pub ghost-run_control : goal.ghost-run_control
-ghost-run_control g a = g.out

@@ -1,4 +1,0 @@
-use Rattle.abc_run_dispatch.proofs.quick.double_here.Given as goal
-
-abbrev pub ghost-run_double : goal.ghost-run_double
-ghost-run_double g a = g.out

@@ -1,5 +1,0 @@
-use Rattle.abc_run_dispatch.proofs.StepTaken.{two_there}
-use Rattle.abc_run_dispatch.proofs.quick.double_quick.Goals as goal
-
-pub numbers_on_top-requires : goal.numbers_on_top-requires
-numbers_on_top-requires g c = two_there c.args.linked.now g.out c.args.s.now c.args.op c.requires.0 c.requires.1.0

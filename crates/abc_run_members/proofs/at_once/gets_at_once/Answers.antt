@@ -1,4 +1,0 @@
-use Rattle.abc_run_members.proofs.at_once.gets_at_once.Goals as goal
-
-pub gets_whole-requires : goal.gets_whole-requires
-gets_whole-requires g c = (c.requires.0, (c.requires.1, (c.in-Some.ensures.form, (c.in-Some.ensures.text c.args.s.now.arena))))

@@ -1,4 +1,0 @@
-use Rattle.abc_run_members.proofs.at_once.gets_whole.Given as goal
-
-abbrev pub ghost-gets_on_object : goal.ghost-gets_on_object
-ghost-gets_on_object g a = g.out

@@ -1,4 +1,0 @@
-use Rattle.abc_run_members.proofs.at_once.puts_value.Given as goal
-
-abbrev pub ghost-puts : goal.ghost-puts
-ghost-puts g a = g.out

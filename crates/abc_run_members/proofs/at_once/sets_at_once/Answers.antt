@@ -1,4 +1,0 @@
-use Rattle.abc_run_members.proofs.at_once.sets_at_once.Goals as goal
-
-pub sets_whole-requires : goal.sets_whole-requires
-sets_whole-requires g c = (c.requires.0, (c.requires.1, (c.in-Some.ensures.form, (c.in-Some.ensures.text c.args.s.now.arena))))

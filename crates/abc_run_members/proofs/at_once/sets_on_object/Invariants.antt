@@ -1,4 +1,0 @@
-use Rattle.abc_run_members.proofs.at_once.sets_on_object.Given as goal
-
-abbrev pub ghost-puts_at_once : goal.ghost-puts_at_once
-ghost-puts_at_once g a = g.out

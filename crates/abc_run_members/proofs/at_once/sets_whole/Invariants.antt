@@ -1,4 +1,0 @@
-use Rattle.abc_run_members.proofs.at_once.sets_whole.Given as goal
-
-abbrev pub ghost-sets_on_object : goal.ghost-sets_on_object
-ghost-sets_on_object g a = g.out

@@ -1,4 +1,0 @@
-use Rattle.abc_run_members.proofs.elements.gets_late.Goals as goal
-
-pub gets_text-requires : goal.gets_text-requires
-gets_text-requires g c = (c.requires.0, (c.requires.1, c.in-Some.ensures))

@@ -1,4 +1,0 @@
-use Rattle.abc_run_members.proofs.elements.sets_late.Goals as goal
-
-pub sets_text-requires : goal.sets_text-requires
-sets_text-requires g c = (c.requires.0, (c.requires.1, c.in-Some.ensures))

@@ -1,4 +1,0 @@
-use Rattle.abc_run_values.proofs.returning.returns_at_once.Given as goal
-
-abbrev pub ghost-returns_number : goal.ghost-returns_number
-ghost-returns_number g a = g.out
