@@ -1,5 +1,5 @@
 -- What a comparison says of the input.
-use Rattle.std.proofs.Common.{◌≡◌, ◌⊎◌, ℕ, ◌≤◌, List, [], Ok, Err, refl, sym, subst, ◌∙◌}
+use Rattle.std.proofs.Common.{◌≡◌, ◌⊎◌, ℕ, ◌≤◌, List, [], Ok, Err, None, Some, refl, sym, subst, ◌∙◌}
 use Rattle.std.specs.Prelude.{IfErr, IfOk}
 use Rattle.std.specs.Io.KnownBytes.{Consumes, IsAtEnd}
 use Rattle.std.specs.declared.option.Option.{Option}
@@ -18,7 +18,7 @@ use Rattle.abc_log.specs.declared.check.LogFault.TheVariants as faults
 use Rattle.abc_log.proofs.Judging.{all_there, has_cause}
 use Rattle.abc_run_finish.specs.Begun.{setting}
 use Rattle.abc_link_program.specs.Linked.{LinkedFile}
-use Rattle.abc_replay.specs.Prefaces.{HasPreface, RefusesAny, error_of_log}
+use Rattle.abc_replay.specs.Prefaces.{AnswersLog, HasPreface, RefusesAny, error_of_log}
 use Rattle.abc_replay.specs.Replays.{IsRefusedBy, IsReplayed}
 use Rattle.abc_replay.specs.declared.error.ReplayError.{ReplayError}
 use Rattle.abc_replay.specs.declared.error.ReplayError.TheVariants as errors
@@ -64,3 +64,38 @@ module _ (formulas : List Formula) (old mid left new : Option (List ℕ)) (l : L
   pub is_caused : (first now : ℕ) → first ≤ before → faulty ≤ now → (v ≡ verdicts.ReadFault) ⊎ Rose faulty now → Rose first now
   is_caused first now earlier later cause =
       rose_before first before now earlier (has_cause (log (setting l formulas) line.limits line.fuel) (steps (setting l formulas) line.limits line.fuel) k mid left before faulty now agreed v compared later cause)
+
+-- ---- what is answered of a log
+
+module _ (formulas : List Formula) (mid left new : Option (List ℕ)) (l : LinkedFile) (line : LimitsLine) (place k before faulty agreed : ℕ) (v : Verdict) (formed : AreFormulas formulas)
+    (compared : IsCompared (log (setting l formulas) line.limits line.fuel) (steps (setting l formulas) line.limits line.fuel) k mid before left faulty agreed v) where
+  pub answers_log : (r : Result ℕ ReplayError) → IfOk r (λ n. n ≡ k) → EndsSame v left new r → HasFault place v left agreed r → AnswersLog formulas mid l line place new r
+  answers_log r same end fault = record {
+    replayed = λ old preface. is_replayed formulas old mid left new l line place k before faulty agreed v formed preface compared r same end;
+    end = λ old preface. is_used_up formulas old mid left new l line place k before faulty agreed v formed preface compared r end;
+    refused = λ old preface. is_refused formulas old mid left new l line place k before faulty agreed v formed preface compared r fault;
+  }
+
+free : (formulas : List Formula) (old : Option (List ℕ)) → OfInput old (λ input. IsRefusedBy formulas input errors.NoMemory)
+free formulas None = ([], tt)
+free formulas (Some input) = tt
+
+pub no_memory_answers : (formulas : List Formula) (mid new : Option (List ℕ)) (l : LinkedFile) (line : LimitsLine) (place : ℕ) → AnswersLog formulas mid l line place new (Err errors.NoMemory)
+no_memory_answers formulas mid new l line place = record { replayed = λ old preface. tt; end = λ old preface. tt; refused = λ old preface. free formulas old }
+
+-- ---- a source that is taken a block ahead, and what is below it
+
+used_up_below : (old new below : Option (List ℕ)) (r : Result ℕ ReplayError) → (new ≡ Some [] → below ≡ Some []) → IfOk r (λ _. IsUsedUp old new) → IfOk r (λ _. IsUsedUp old below)
+used_up_below old new below (Err e) none used = tt
+used_up_below None new below (Ok n) none used = tt
+used_up_below (Some bytes) new below (Ok n) none used = none used
+
+pub answers_below : (formulas : List Formula) (mid ahead new below : Option (List ℕ)) (l : LinkedFile) (line : LimitsLine) (place : ℕ) (r : Result ℕ ReplayError) → ahead ≡ mid → (new ≡ Some [] → below ≡ Some [])
+    → AnswersLog formulas ahead l line place new r → AnswersLog formulas mid l line place below r
+answers_below formulas mid ahead new below l line place r same none a =
+    let here = λ (old : Option (List ℕ)) (preface : HasPreface old mid l line place). subst (λ (m : Option (List ℕ)). HasPreface old m l line place) (sym same) preface in
+    record {
+      replayed = λ old preface. a.replayed old (here old preface);
+      end = λ old preface. used_up_below old new below r none (a.end old (here old preface));
+      refused = λ old preface. a.refused old (here old preface);
+    }

@@ -1,10 +1,11 @@
 -- What stands before the log of an input, as it is read.
-use Rattle.std.specs.Prelude.{◌≡◌, ◌⊎◌, ℕ, ◌+◌, ◌-◌, ◌^◌, ◌<◌, ◌≤◌, List, IfSome, length, min}
+use Rattle.std.specs.Prelude.{◌≡◌, ◌⊎◌, ℕ, ◌+◌, ◌-◌, ◌^◌, ◌<◌, ◌≤◌, List, IfErr, IfOk, IfSome, length, min}
 use Rattle.std.specs.Io.KnownBytes.{Consumes, IsAtEnd}
 use Rattle.std.specs.declared.option.Option.{Option}
+use Rattle.std.specs.declared.result.Result.{Result}
 use Rattle.abc_base.specs.declared.formula.Formula.{Formula}
 use Rattle.abc_base.specs.Hosts.{AreFormulas}
-use Rattle.abc_file.specs.Reading.{OfInput}
+use Rattle.abc_file.specs.Reading.{IsUsedUp, OfInput}
 use Rattle.abc_log.specs.declared.errors.HeadError.{HeadError}
 use Rattle.abc_log.specs.declared.errors.HeadError.TheVariants as heads
 use Rattle.abc_log.specs.Limits.{HasNoLimits}
@@ -19,7 +20,7 @@ use Rattle.abc_link_program.specs.Slots.{HasFewSlots}
 use Rattle.abc_file_types.specs.Files.{IsFile}
 use Rattle.abc_file_types.specs.Part.{limit}
 use Rattle.abc_verify.specs.Verified.{IsVerifiedOf}
-use Rattle.abc_replay.specs.Replays.{IsRefusedBy, file_place}
+use Rattle.abc_replay.specs.Replays.{IsRefusedBy, IsReplayed, file_place}
 use Rattle.abc_replay.specs.declared.error.ReplayError.{ReplayError}
 use Rattle.abc_replay.specs.declared.error.ReplayError.TheVariants as errors
 use Rattle.abc_replay.specs.declared.error.ReplayReason.TheVariants as reasons
@@ -60,6 +61,12 @@ pub record HasPreface (old new : Option (List ℕ)) (l : LinkedFile) (line : Lim
   pub limits : AreLimits line.fuel line.limits
   pub taken : Consumes mid new (limits_line line.fuel line.limits)
   pub begins : place ≡ file_place + length bytes + length (limits_line line.fuel line.limits)
+
+-- what is answered of any input that has this before its log: how many steps that has, and then the input is used up, or why it is refused
+pub record AnswersLog (formulas : List Formula) (left : Option (List ℕ)) (l : LinkedFile) (line : LimitsLine) (place : ℕ) (new : Option (List ℕ)) (result : Result ℕ ReplayError) : Type 0 where
+  pub replayed : (old : Option (List ℕ)) → HasPreface old left l line place → IfOk result (λ n. OfInput old (λ input. IsReplayed formulas input n))
+  pub end : (old : Option (List ℕ)) → HasPreface old left l line place → IfOk result (λ _. IsUsedUp old new)
+  pub refused : (old : Option (List ℕ)) → HasPreface old left l line place → IfErr result (λ e. OfInput old (λ input. IsRefusedBy formulas input e))
 
 -- why an input is refused, beside any host
 unfoldable pub RefusesAny : Option (List ℕ) → ReplayError → Type 0
