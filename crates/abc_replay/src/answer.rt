@@ -77,6 +77,21 @@ fn check_ahead<'a, S: Source, H: Host, N: SourceLoan>(
     (ahead.into_inner(), answer)
 }
 
+/// The same of a source that is read by blocks.
+fn check_in_blocks<S: Source, H: Host>(
+    alloc: Global,
+    preface: Preface,
+    source: &mut S,
+    host: &H,
+) -> Result<u64, ReplayError>
+    ensures answers { AnswersLog (H.formulas host.now) (S.left source.old) preface.verified preface.line preface.place (S.left source.new) result }
+    ensures later { S.faults source.old ≤ S.faults source.new }
+    ensures cause { result ≡ Err ReplayError.ReadFault → Rose (S.faults source.old) (S.faults source.new) }
+{
+    let checked = check_ahead::<S, H, Brand>(alloc, preface, source, host);
+    checked.1
+}
+
 /// Replays a log: the number of its steps, where the input is the line that states the length of a file, the bytes of that,
 /// which is verified, a line of limits and the log of the run within them beside this host, and nothing else. Otherwise it says why
 /// the input is none, in its order. `ReadFault` comes only where the source's count of faults rose; want of memory is free. Behind the
@@ -93,6 +108,5 @@ pub fn replay<S: Source, H: Host>(
     ensures cause { result ≡ Err ReplayError.ReadFault → Rose (S.faults source.old) (S.faults source.new) }
 {
     let preface = read_preface(alloc, source)?;
-    let checked = check_ahead::<S, H, Brand>(alloc, preface, source, host);
-    checked.1
+    check_in_blocks(alloc, preface, source, host)
 }

@@ -8,10 +8,10 @@ returns-in_err-preface-clause-refused g c =
     rw (p.1, p.2) (any_refuses (g.H.Host.formulas c.args.host.now) (g.S.Source.left c.args.source.now) c.in_err-preface.field-0.0 (g.met.H.Host.formed c.args.host.now) c.in_err-preface.ensures.refused)
 
 pub returns-clause-replayed : goal.returns-clause-replayed
-returns-clause-replayed g c = c.check_ahead-checked.ensures.answers.replayed (g.S.Source.left c.args.source.now) c.in_ok-preface.ensures.preface
+returns-clause-replayed g c = c.check_in_blocks.ensures.answers.replayed (g.S.Source.left c.args.source.now) c.in_ok-preface.ensures.preface
 
 pub returns-clause-end : goal.returns-clause-end
-returns-clause-end g c = c.check_ahead-checked.ensures.answers.end (g.S.Source.left c.args.source.now) c.in_ok-preface.ensures.preface
+returns-clause-end g c = c.check_in_blocks.ensures.answers.end (g.S.Source.left c.args.source.now) c.in_ok-preface.ensures.preface
 
 pub returns-clause-refused : goal.returns-clause-refused
-returns-clause-refused g c = c.check_ahead-checked.ensures.answers.refused (g.S.Source.left c.args.source.now) c.in_ok-preface.ensures.preface
+returns-clause-refused g c = c.check_in_blocks.ensures.answers.refused (g.S.Source.left c.args.source.now) c.in_ok-preface.ensures.preface
