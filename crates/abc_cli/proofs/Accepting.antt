@@ -4,15 +4,15 @@ use Rattle.abc_base.specs.Hosts.{AreFormulas}
 use Rattle.abc_base.specs.declared.formula.Formula.{Formula}
 use Rattle.abc_base.specs.declared.status.Status.{Status}
 use Rattle.abc_base.specs.declared.status.Status.TheVariants as status
-use Rattle.abc_cli_answers.proofs.Ending.{gave, line_ends, memory_failed, memory_stops, read_failed, stopped}
+use Rattle.abc_cli_answers.proofs.Ending.{gave, line_ends, memory_failed, read_failed}
 use Rattle.abc_cli.proofs.Logging.{short_file}
 use Rattle.abc_cli_answers.specs.Answers.{Answer, On, given, told}
-use Rattle.abc_cli_answers.specs.End.{Channel, Ends, GivesLine, Got, HasFailed, IsEnd, IsRead, RunsTo, UsesUp}
+use Rattle.abc_cli_answers.specs.End.{Channel, Ends, GivesBytes, GivesLine, Got, HasFailed, IsEnd, IsRead, RunsTo, UsesUp}
 use Rattle.abc_cli_answers.specs.Lines.{no_memory_text, read_fault_text, write_fault_text}
 use Rattle.abc_cli.specs.Logged.{GotLog, GotLogOf}
 use Rattle.abc_cli.specs.Logs.{IsLogged, Replay, replayed_line, unreplayed_answer, unreplayed_text, whole_log}
 use Rattle.abc_cli.specs.Meant.{IsEnded}
-use Rattle.abc_cli_answers.specs.Stops.{Gives, IsGiven, Stops}
+use Rattle.abc_cli_answers.specs.Stops.{Gives}
 use Rattle.abc_file.specs.Reading.{IsUsedUp, OfInput}
 use Rattle.abc_heap_store.specs.declared.records.Limits.{Limits}
 use Rattle.abc_log.specs.Lines.{AreLimits}
@@ -31,12 +31,6 @@ use Rattle.abc_file_types.specs.Files.{file_bytes}
 use Rattle.abc_file_types.proofs.Whole.{canonical_file}
 use Rattle.abc_verify.proofs.Verifying.{of_any}
 use Rattle.abc_verify.specs.Verified.{IsVerifiedOf}
-use Rattle.std.specs.Prelude.{IfErr, IfOk}
-use Rattle.std.specs.declared.alloc.Global.{Global}
-use Rattle.std.specs.declared.result.Result.{Result}
-use Rattle.std.specs.declared.vec.Vec.{Vec}
-use Rattle.abc_cli_answers.specs.declared.stop.Stop.{Stop}
-use Rattle.abc_cli_answers.specs.declared.stop.Stop.TheVariants as stops
 
 -- ---- what `log` wrote where a run ended
 
@@ -108,19 +102,16 @@ log_accepted one never fs fuel limits out within g =
 
 -- ---- `replay`
 
-replay_gives : (fs : List Formula) (source : Channel) (n : ℕ) (bytes : List ℕ) → OfInput source.before (λ input. IsReplayed fs input n) → IsUsedUp source.before source.after → bytes ≡ replayed_line n → Gives (Replay fs) source bytes
-replay_gives fs source n bytes f used e = record {
-  outcome = of_any (λ input. IsReplayed fs input n) (λ input. Replay fs input (given bytes)) source.before (λ b is. Replay.replayed n is (ap given e)) f;
+replay_gives : (fs : List Formula) (source : Channel) (n : ℕ) → OfInput source.before (λ input. IsReplayed fs input n) → IsUsedUp source.before source.after → Gives (Replay fs) source (replayed_line n)
+replay_gives fs source n f used = record {
+  outcome = of_any (λ input. IsReplayed fs input n) (λ input. Replay fs input (given (replayed_line n))) source.before (λ b is. Replay.replayed n is refl) f;
   used_up = used;
 }
 
 module _ (fs : List Formula) (source out err : Channel) (s : Status) where
-  -- the number of steps is given, or there is no memory for its line
-  pub steps_end : (n : ℕ) (done : Result (Vec ℕ Global) Stop) → OfInput source.before (λ input. IsReplayed fs input n) → IsUsedUp source.before source.after → IfOk done (λ bytes. bytes.items ≡ replayed_line n)
-      → IfErr done (λ stop. stop ≡ stops.NoMemory) → IsGiven done out err s → Ends (On (Replay fs)) source out err s
-  steps_end n (Ok bytes) f used is none end = gave (Replay fs) source out err bytes.items s (replay_gives fs source n bytes.items f used is) end
-  steps_end n (Err stop) f used is none end =
-      stopped (Replay fs) source out err stop s (subst (λ (x : Stop). Stops (Replay fs) source x) (sym none) (memory_stops (Replay fs) source)) end.0 end.1
+  -- the number of steps is given
+  pub steps_end : (n : ℕ) → OfInput source.before (λ input. IsReplayed fs input n) → IsUsedUp source.before source.after → GivesBytes out err (replayed_line n) s → Ends (On (Replay fs)) source out err s
+  steps_end n f used end = gave (Replay fs) source out err (replayed_line n) s (replay_gives fs source n f used) end
 
   -- an input that is no log has its line
   refused_ends : (e : ReplayError) → OfInput source.before (λ input. IsRefused fs input e) → Got out [] → GivesLine err (told status.Refused (unreplayed_text e)) s → Ends (On (Replay fs)) source out err s

@@ -3,6 +3,7 @@ pub mod CommandRuns
 pub mod Called
 pub mod Generating
 pub mod Logging
+pub mod LoggedRuns
 pub mod Accepting
 pub mod Files
 pub mod Checks

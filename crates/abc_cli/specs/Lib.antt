@@ -4,5 +4,6 @@ pub mod Runs
 pub mod Calls
 pub mod Logs
 pub mod Logged
+pub mod LoggedRuns
 pub mod Outcome
 pub mod Listed

@@ -15,6 +15,7 @@ mod dis;
 mod endings;
 mod gen_command;
 mod log_command;
+mod logged_run;
 mod machines;
 mod replay_command;
 mod run_command;

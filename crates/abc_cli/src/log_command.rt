@@ -19,6 +19,7 @@ ghost use Rattle.abc_meaning.specs.Openings.{setting};
 ghost use Rattle.abc_verify.specs.Verified.{IsVerifiedOf};
 
 use crate::endings::{give_end, give_unopened};
+use crate::logged_run::run_in_blocks;
 use crate::machines::{close_file, close_machine, end_can_be_told, limits_of};
 use abc_base::{Failed, Host, NoMemory, Sink, Source, Status, write_all};
 use abc_bodies::Places;
@@ -126,7 +127,7 @@ fn log_machine<K: Sink, E: Sink, H: Host>(
     end_can_be_told(machine, fuel, host);
     match write_front(out, front) {
         Ok(()) => {
-            let end = machine.run_logged(fuel, out, host);
+            let end = run_in_blocks(machine, fuel, out, host);
             give_end(err, machine.linked(), places, &end)
         }
         Err(Failed) => give_line(err, Status::WriteFault, b"write fault"),

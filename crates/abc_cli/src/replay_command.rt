@@ -1,25 +1,48 @@
-ghost use Rattle.std.specs.Prelude.{◌≡◌, IfErr, IfOk};
+ghost use Rattle.std.specs.Prelude.{◌∷◌, ◌++◌, []};
+ghost use Rattle.abc_base.specs.Faults.{HasCause};
+ghost use Rattle.abc_base.specs.Sinks.{WritesAll};
 ghost use Rattle.abc_cli_answers.specs.Answers.{On, told};
-ghost use Rattle.abc_cli_answers.specs.End.{Ends, GivesLine, UsesUp, stream};
+ghost use Rattle.abc_cli_answers.specs.End.{Ends, GivesBytes, GivesLine, UsesUp, stream};
 ghost use Rattle.abc_cli.specs.Logs.{Replay, replayed_line, unreplayed_answer, unreplayed_text};
 ghost use Rattle.abc_replay.specs.declared.error.ReplayError.{ReplayError};
 
-use abc_base::{Host, Sink, Source, Status};
-use abc_cli_answers::{Stop, ended, give, give_stop, numbered_line, write_place};
+use abc_base::{Failed, Host, Sink, Source, Status, write_all};
+use abc_cli_answers::{Stop, ended, give_line, give_stop, write_place};
 use abc_replay::{ReplayError, ReplayReason};
 use itoa::Buffer;
 use std::alloc::Global;
 
-/// The line of a log that is the log of its file.
+/// Writes a line of a word, its blank, and a number, which is given by its digits.
+#[tactic(auto, using(abc_base::proofs::Writing::writing))]
+fn write_numbered<K: Sink>(out: &mut K, word: &[u8], digits: &[u8]) -> Result<(), Failed>
+    ensures bytes { WritesAll (K.written out.old) (K.written out.new) result (word.now ++ digits.now ++ 10 ∷ []) }
+    ensures cause { HasCause (K.faults out.old) (K.faults out.new) result }
+{
+    write_all(out, word)?;
+    write_all(out, digits)?;
+    write_all(out, b"\n")
+}
+
+/// Writes the line of a log that is the log of its file.
 #[tactic(auto, unfolding(crate::specs::Logs::replayed_line))]
-fn line_of(alloc: Global, steps: u64) -> Result<Vec<u8>, Stop>
-    ensures gives { IfOk result (λ bytes. bytes.items ≡ replayed_line steps) }
-    ensures stops { IfErr result (λ stop. stop ≡ Stop.NoMemory) }
+fn write_replayed<K: Sink>(out: &mut K, steps: u64) -> Result<(), Failed>
+    ensures bytes { WritesAll (K.written out.old) (K.written out.new) result (replayed_line steps) }
+    ensures cause { HasCause (K.faults out.old) (K.faults out.new) result }
 {
     let mut buffer = Buffer::new();
     let digits = buffer.format(steps).as_bytes();
-    let bytes = numbered_line(alloc, b"replayed ", digits)?;
-    Ok(bytes)
+    write_numbered(out, b"replayed ", digits)
+}
+
+/// Gives the number of steps of a log, or where that can't be written the line that says so. It takes no memory.
+#[tactic(auto, unfolding(abc_cli_answers::specs::Lines::write_fault_text))]
+fn give_replayed<K: Sink, E: Sink>(steps: u64, out: &mut K, err: &mut E) -> Status
+    ensures { GivesBytes (stream K.written K.faults out.old out.new) (stream E.written E.faults err.old err.new) (replayed_line steps) result }
+{
+    match write_replayed(out, steps) {
+        Ok(()) => Status::Done,
+        Err(Failed) => give_line(err, Status::WriteFault, b"write fault"),
+    }
 }
 
 /// Writes the line of a place of the input, and of what is wrong there.
@@ -56,6 +79,7 @@ fn give_unreplayed<E: Sink>(err: &mut E, e: ReplayError) -> Status
 }
 
 /// Does the command `replay`: the number of steps of the input's log goes to `out`, or the line that says why it is none to `err`.
+/// Nothing is asked of memory once the run has begun.
 pub fn replay<S: Source, K: Sink, E: Sink, H: Host>(
     alloc: Global,
     source: &mut S,
@@ -67,7 +91,7 @@ pub fn replay<S: Source, K: Sink, E: Sink, H: Host>(
     ensures used_up { UsesUp (stream S.left S.faults source.old source.new) result }
 {
     match abc_replay::replay(alloc, source, host) {
-        Ok(steps) => give(line_of(alloc, steps), out, err),
+        Ok(steps) => give_replayed(steps, out, err),
         Err(e) => give_unreplayed(err, e),
     }
 }

@@ -5,8 +5,8 @@ use Rattle.abc_cli.proofs.replay_command.replay.Goals as goal
 
 pub returns-in-Ok-clause-end : goal.returns-in-Ok-clause-end
 returns-in-Ok-clause-end g c =
-    steps_end (g.H.Host.formulas c.args.host.now) (stream g.S.Source.left g.S.Source.faults c.args.source.now c.replay.new.source) (stream g.K.Sink.written g.K.Sink.faults c.args.out.now c.give.new.out)
-    (stream g.E.Sink.written g.E.Sink.faults c.args.err.now c.give.new.err) c.give.result c.in-Ok.steps c.line_of.result c.in-Ok.ensures.replayed c.in-Ok.ensures.end c.line_of.ensures.gives c.line_of.ensures.stops c.give.ensures
+    steps_end (g.H.Host.formulas c.args.host.now) (stream g.S.Source.left g.S.Source.faults c.args.source.now c.replay.new.source) (stream g.K.Sink.written g.K.Sink.faults c.args.out.now c.give_replayed.new.out)
+    (stream g.E.Sink.written g.E.Sink.faults c.args.err.now c.give_replayed.new.err) c.give_replayed.result c.in-Ok.steps c.in-Ok.ensures.replayed c.in-Ok.ensures.end c.give_replayed.ensures
 
 pub returns-in-Ok-clause-used_up : goal.returns-in-Ok-clause-used_up
 returns-in-Ok-clause-used_up g c = λ read. c.in-Ok.ensures.end
