@@ -125,15 +125,22 @@ SCOPE = b"\xd0\x30"
 
 
 def states():
-    """A body with 65,535 locals and 2^13 branches to the next place, before each of which another local is written: a state for each
-    is 2^29 kinds."""
-    code = b"".join(b"\x26\x63" + number(k + 1) + NEXT for k in range(1 << 13))
+    """A body with 65,535 locals and 2^9 branches to the next place, before each of which one local of each 64 gets another kind: a
+    state for each is 2^25 kinds."""
+    writes = [b"".join(kind + b"\x63" + number(64 * k) for k in range(1 << 10)) for kind in (b"\x20", b"\x26")]
+    return of_bodies((65535, b"".join(writes[k % 2] + NEXT for k in range(1 << 9)) + LAST, []))
+
+
+def locals_written():
+    """65,535 locals and 7,600 branches to the next place, before each of which another local is written: the blocks of 64 locals are near
+    the bound."""
+    code = b"".join(b"\x26\x63" + number(k + 1) + NEXT for k in range(7600))
     return of_bodies((65535, code + LAST, []))
 
 
 def equal_states():
-    """The same without the writes: all states are equal."""
-    return of_bodies((65535, NEXT * (1 << 13) + LAST, []))
+    """The same with 8,000 branches and without the writes: all states are equal."""
+    return of_bodies((65535, NEXT * 8000 + LAST, []))
 
 
 def scope_states():
@@ -300,10 +307,10 @@ def local_heads(count=1030):
     return of_bodies((65535, b"\x26\x11\0\0\0" * count + LAST, []))
 
 
-def near_all_bounds(sets=59_000, size=127, classes=5700, handlers=1 << 19, locals_=120, heads=540_000):
+def near_all_bounds(sets=85_000, size=127, classes=4000, interfaces=2800, handlers=1 << 18, locals_=890, heads=540_000):
     """Many sets of names, classes in a chain with a slot each, interfaces in a chain, handlers and heads with locals: each near the bound
     beyond which memory is said to have run out."""
-    total = 2 * classes
+    total = classes + interfaces
     pools = pool([spelled(b"%x" % n) for n in range(total)]) + pool([PUBLIC] + [b"\x08" + number(n + 1) for n in range(size)])
     pools += pool([set_of(2, size - 1)] * sets) + pool([qname(1, n + 1) for n in range(total)])
     instances = []
@@ -371,6 +378,7 @@ FILES = {
     "nests": nests,
     "states": states,
     "equal_states": equal_states,
+    "locals_written": locals_written,
     "scope_states": scope_states,
     "told_states": told_states,
     "wide_branches": wide_branches,
@@ -412,7 +420,7 @@ def public(count):
     return [f"name QName 1 {n + 1}" for n in range(count)]
 
 
-def interface_chain(count=1 << 12):
+def interface_chain(count=2800):
     """Interfaces of which each names the next: as many sets, of all that are below."""
     instances = [f"instance {n + 1} 0 4" + (f"\nimplements {n + 2}" if n + 1 < count else "") + f"\niinit {2 * n}" for n in range(count)]
     items = [*instances, *(f"class {2 * n + 1}" for n in range(count)), f"script {2 * count}"]
@@ -420,7 +428,7 @@ def interface_chain(count=1 << 12):
     return linked([f"i{n}" for n in range(count)], public(count), ["method 0 0 0"] * (2 * count + 1), items, bodies)
 
 
-def slot_chain(count=1 << 12):
+def slot_chain(count=4000):
     """Classes of which each has the next as its base and a slot of its own: as many layouts, with all slots of those below."""
     strings = [f"{kind}{n}" for kind in "cs" for n in range(count)]
     bases = [*range(2, count + 1), 0]

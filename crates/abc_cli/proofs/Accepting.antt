@@ -20,8 +20,7 @@ use Rattle.abc_meaning.specs.Logs.{steps}
 use Rattle.abc_meaning.specs.Meaning.{Meaning, Ran, TooSmall, meaning}
 use Rattle.abc_meaning.specs.Throwing as meant
 use Rattle.abc_meaning.specs.Setting.{Setting}
-use Rattle.abc_link_program.specs.Linked.{LinkedFile}
-use Rattle.abc_link_program.specs.Slots.{HasFewSlots}
+use Rattle.abc_link_names.specs.Linked.{LinkedFile}
 use Rattle.abc_replay.specs.Laws.{HasOneNumber, IsNeverBoth}
 use Rattle.abc_replay.specs.Replays.{IsRefused, IsRefusedBy, IsReplayed}
 use Rattle.abc_replay.specs.declared.error.ReplayError.{ReplayError}
@@ -66,13 +65,13 @@ module _ (v : Abc) (starts : List (List ℕ)) (wrote : List ℕ) (m : Meaning) w
   log_wrote out err s (RunsTo.other end) read = end_wrote out err s end read
   log_wrote out err s (RunsTo.cut a x rose front line) read = absurd (unwritten err s line read)
 
-pub got_log_of : (l : LinkedFile) (fs : List Formula) (fuel : ℕ) (limits : Limits) (starts : List (List ℕ)) (out err : Channel) (s : Status) → IsVerifiedOf l.file l → HasFewSlots l → AreFormulas fs
+pub got_log_of : (l : LinkedFile) (fs : List Formula) (fuel : ℕ) (limits : Limits) (starts : List (List ℕ)) (out err : Channel) (s : Status) → IsVerifiedOf l.file l → AreFormulas fs
     → RunsTo (IsLogged l.file starts (whole_log (record { linked = l; formulas = fs }) limits fuel) (meaning (record { linked = l; formulas = fs }) limits fuel)) ⊥ out err s → IsRead s → GotLogOf fs fuel limits out
-got_log_of l fs fuel limits starts out err s v few host end read =
+got_log_of l fs fuel limits starts out err s v host end read =
     let p : Setting = record { linked = l; formulas = fs } in
     record {
       linked = l;
-      verified = record { fits = v.linked.fits; linked = v.linked; few = few; typed = v.typed; host = host };
+      verified = record { fits = v.linked.fits; linked = v.linked; typed = v.typed; host = host };
       numbered = v.numbered;
       got = log_wrote l.file starts (whole_log p limits fuel) (meaning p limits fuel) out err s end read;
     }

@@ -1,7 +1,7 @@
 -- What is answered about a file that was read, linked and verified.
 use Rattle.std.proofs.Common.{◌≡◌, ℕ, List, length, ap, ◌∙◌}
 use Rattle.abc_file.specs.Reading.{IsUsedUp, OfInput}
-use Rattle.abc_link_program.specs.Linked.{LinkedFile}
+use Rattle.abc_link_names.specs.Linked.{LinkedFile}
 use Rattle.abc_verify.proofs.Verifying.{of_any}
 use Rattle.abc_verify.specs.Verified.{IsReadVerified}
 use Rattle.abc_cli_answers.specs.Lines.{verified_line}

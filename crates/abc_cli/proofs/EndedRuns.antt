@@ -19,15 +19,14 @@ use Rattle.abc_cli.specs.Meant.{IsEnded, IsMeant, ended}
 use Rattle.abc_meaning.specs.Lines.{thrown_name}
 use Rattle.abc_heap_store.specs.declared.records.Limit.{Limit}
 use Rattle.abc_heap_store.specs.declared.records.Limits.{Limits}
-use Rattle.abc_link_names.specs.Parts.{body_at, no_body}
+use Rattle.abc_link_names.specs.PartsByNumber.{body_at, no_body}
 use Rattle.abc_meaning.specs.ThrowLaws.{IsVerified}
 use Rattle.abc_meaning.specs.Meaning.{Meaning, Ran, TooSmall, first_state, first_world, meaning, meaning_if, runs_for, too_small}
 use Rattle.abc_meaning.specs.Throwing as meant
 use Rattle.abc_meaning.specs.Setting.{Setting}
 use Rattle.abc_objects.specs.declared.error.OpenError.{OpenError}
 use Rattle.abc_objects.specs.declared.error.OpenError.TheVariants as errors
-use Rattle.abc_link_program.specs.Linked.{LinkedFile}
-use Rattle.abc_link_program.specs.Slots.{HasFewSlots}
+use Rattle.abc_link_names.specs.Linked.{LinkedFile}
 use Rattle.abc_file_types.specs.declared.tables.Abc.{Abc}
 use Rattle.abc_machine.specs.declared.ends.End.{End}
 use Rattle.abc_machine.specs.declared.ends.End.TheVariants as ends
@@ -169,7 +168,7 @@ unopened_quiet err errors.NoMemory s line d = told_quiet err status.NoMemory no_
 unopened_quiet err (errors.TooSmall limit) s line d = told_quiet err status.Limit (limit_text limit) s (λ h. cc) line d
 
 -- a machine for a verified file can be run
-pub machine_verified : (l : LinkedFile) (fs : List Formula) (limits : Limits) (m : Opened) → IsOpened l fs limits m → IsVerifiedOf l.file l → HasFewSlots l → AreFormulas fs → IsVerified (record { linked = m.linked; formulas = fs })
-machine_verified l fs limits m is v few host =
-    let all : IsVerified (record { linked = l; formulas = fs }) = record { fits = v.linked.fits; linked = v.linked; few = few; typed = v.typed; host = host } in
+pub machine_verified : (l : LinkedFile) (fs : List Formula) (limits : Limits) (m : Opened) → IsOpened l fs limits m → IsVerifiedOf l.file l → AreFormulas fs → IsVerified (record { linked = m.linked; formulas = fs })
+machine_verified l fs limits m is v host =
+    let all : IsVerified (record { linked = l; formulas = fs }) = record { fits = v.linked.fits; linked = v.linked; typed = v.typed; host = host } in
     subst (λ (x : LinkedFile). IsVerified (record { linked = x; formulas = fs })) (sym (ap (λ (x : Opened). x.linked) is.is)) all

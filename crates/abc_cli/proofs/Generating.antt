@@ -10,7 +10,7 @@ use Rattle.abc_cli_answers.specs.Generated.{generated}
 use Rattle.abc_cli_answers.specs.Measured.{measured}
 use Rattle.abc_cli_answers.specs.Placed.{IsReadAgain}
 use Rattle.abc_meaning.specs.Meaning.{meaning}
-use Rattle.abc_link_program.specs.Linked.{LinkedFile}
+use Rattle.abc_link_names.specs.Linked.{LinkedFile}
 use Rattle.abc_file_types.specs.declared.tables.Abc.{Abc}
 use Rattle.abc_file_types.specs.Files.{Fits, file_bytes}
 use Rattle.abc_file_types.proofs.Whole.{read_spelled}

@@ -32,7 +32,7 @@ use Rattle.abc_meaning.specs.Setting.{Setting}
 use Rattle.abc_objects.specs.declared.error.OpenError.{OpenError}
 use Rattle.abc_objects.specs.declared.error.OpenError.TheVariants as errors
 use Rattle.abc_meaning.specs.Openings.{IsRefused}
-use Rattle.abc_link_program.specs.Linked.{LinkedFile}
+use Rattle.abc_link_names.specs.Linked.{LinkedFile}
 use Rattle.abc_file_types.specs.declared.tables.Abc.{Abc}
 use Rattle.abc_file_types.specs.Files.{Fits, file_bytes}
 use Rattle.abc_file_types.proofs.Whole.{canonical_file}

@@ -9,7 +9,7 @@ use Rattle.abc_cli.specs.Meant.{IsMeant, limits_of}
 use Rattle.abc_heap_store.specs.declared.records.Limit.{Limit}
 use Rattle.abc_meaning.specs.Meaning.{first_world, too_small}
 use Rattle.abc_meaning.specs.Setting.{Setting}
-use Rattle.abc_link_program.specs.Linked.{LinkedFile}
+use Rattle.abc_link_names.specs.Linked.{LinkedFile}
 use Rattle.abc_file_types.specs.declared.tables.Abc.{Abc}
 use Rattle.abc_meaning.specs.Exports.{export}
 use Rattle.abc_session.specs.Ticks.{calls_meaning}

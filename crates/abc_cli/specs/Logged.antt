@@ -3,7 +3,7 @@ use Rattle.std.specs.Prelude.{◌≡◌, ℕ, List}
 use Rattle.abc_base.specs.declared.formula.Formula.{Formula}
 use Rattle.abc_heap_store.specs.declared.records.Limits.{Limits}
 use Rattle.abc_meaning.specs.ThrowLaws.{IsVerified}
-use Rattle.abc_link_program.specs.Linked.{LinkedFile}
+use Rattle.abc_link_names.specs.Linked.{LinkedFile}
 use Rattle.abc_link_layouts.specs.Numbering.{IsNumbered}
 use Rattle.abc_replay.specs.Replays.{IsReplayed}
 use Rattle.abc_cli_answers.specs.Answers.{Answer, given}

@@ -8,7 +8,7 @@ use Rattle.abc_log.specs.Lines.{head_line, limit_end, limits_line}
 use Rattle.abc_meaning.specs.Logs.{log}
 use Rattle.abc_meaning.specs.Meaning.{Meaning, Ran, TooSmall, meaning}
 use Rattle.abc_meaning.specs.Setting.{Setting}
-use Rattle.abc_link_program.specs.Linked.{LinkedFile}
+use Rattle.abc_link_names.specs.Linked.{LinkedFile}
 use Rattle.abc_replay.specs.Names.{reason_name}
 use Rattle.abc_replay.specs.Replays.{IsRefused, IsReplayed}
 use Rattle.abc_replay.specs.declared.error.ReplayError.{ReplayError}

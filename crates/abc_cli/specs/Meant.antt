@@ -7,7 +7,7 @@ use Rattle.abc_heap_store.specs.declared.records.Limits.{Limits}
 use Rattle.abc_meaning.specs.Meaning.{Meaning, Ran, TooSmall}
 use Rattle.abc_meaning.specs.Throwing.{Done, End, FuelSpent, Full, Profile, Stuck, Uncaught}
 use Rattle.abc_meaning.specs.Lines.{thrown_name}
-use Rattle.abc_link_program.specs.Owners.{body_of}
+use Rattle.abc_link_names.specs.Owners.{body_of}
 use Rattle.abc_file_types.specs.declared.tables.Abc.{Abc}
 use Rattle.abc_verify.specs.FileRefusing.{offset_in}
 use Rattle.abc_cli_answers.specs.declared.command.RunOptions.{RunOptions}

@@ -5,7 +5,7 @@ use Rattle.abc_base.specs.declared.formula.Formula.{Formula}
 use Rattle.abc_base.specs.declared.status.Status.TheVariants as status
 use Rattle.abc_text_lines.specs.Answers.{IsAssemblyFault, IsAssemblyOf}
 use Rattle.abc_text_lines.specs.Listing.{listing}
-use Rattle.abc_link_program.specs.Linked.{LinkedFile}
+use Rattle.abc_link_names.specs.Linked.{LinkedFile}
 use Rattle.abc_text_lines.specs.Rows.{Fault, fault}
 use Rattle.abc_file_types.specs.declared.tables.Abc.{Abc}
 use Rattle.abc_file_types.specs.Files.{file_bytes}

@@ -3,7 +3,7 @@ use Rattle.std.specs.Prelude.{◌≡◌, ℕ, List, ◌≢◌, ◌++◌}
 use Rattle.abc_base.specs.declared.formula.Formula.{Formula}
 use Rattle.abc_base.specs.declared.status.Status.TheVariants as status
 use Rattle.abc_meaning.specs.Meaning.{meaning}
-use Rattle.abc_link_program.specs.Linked.{LinkedFile}
+use Rattle.abc_link_names.specs.Linked.{LinkedFile}
 use Rattle.abc_file_types.specs.declared.tables.Abc.{Abc}
 use Rattle.abc_verify.specs.Verified.{IsVerifiedOf}
 use Rattle.abc_cli_answers.specs.Commands.{cells as cells_option, frames as frames_option, fuel as fuel_option, objects as objects_option, stack as stack_option, text as text_option}

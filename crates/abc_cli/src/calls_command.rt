@@ -104,7 +104,6 @@ fn call_verified<K: Sink, E: Sink, H: Host>(
     requires places { ArePlaces verified.file.bodies places.now }
     ensures { RunsTo (IsCalled options.now (setting verified (H.formulas host.now)) places.now) ⊥ (stream K.written K.faults out.old out.new) (stream E.written E.faults err.old err.new) result }
 {
-    verified.linked().slots_law();
     let limits = limits_of(&options.run);
     match Session::open(alloc, verified, &limits, host) {
         Ok(mut session) => {

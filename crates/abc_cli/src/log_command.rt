@@ -13,7 +13,6 @@ ghost use Rattle.abc_meaning.specs.Logs.{log as log_of_run};
 ghost use Rattle.abc_meaning.specs.ThrowLaws.{AreCounted, IsVerified};
 ghost use Rattle.abc_meaning.specs.Meaning.{meaning};
 ghost use Rattle.abc_objects.specs.Opening.{formula_names};
-ghost use Rattle.abc_link_program.specs.Slots.{HasFewSlots};
 ghost use Rattle.abc_file_types.specs.Files.{file_bytes};
 ghost use Rattle.abc_meaning.specs.Openings.{setting};
 ghost use Rattle.abc_verify.specs.Verified.{IsVerifiedOf};
@@ -150,7 +149,6 @@ fn log_verified<K: Sink, E: Sink, H: Host>(
     requires counted { AreCounted (front.now).limits }
     ensures { RunsTo (IsLogged verified.file places.now (front_of_log (front.now).file.items (front.now).fuel (front.now).limits ++ log_of_run (setting verified (H.formulas host.now)) (front.now).limits (front.now).fuel) (meaning (setting verified (H.formulas host.now)) (front.now).limits (front.now).fuel)) ⊥ (stream K.written K.faults out.old out.new) (stream E.written E.faults err.old err.new) result }
 {
-    verified.linked().slots_law();
     too_small_is_one_line();
     match Machine::open(alloc, verified, &front.limits, host) {
         Ok(mut machine) => {
@@ -174,10 +172,8 @@ fn log_file<K: Sink, E: Sink, H: Host>(
 ) -> Status
     requires verified { IsVerifiedOf verified.file verified }
     requires places { ArePlaces verified.file.bodies places.now }
-    ensures end { RunsTo (IsLogged verified.file places.now (whole_log (setting verified (H.formulas host.now)) (limits_in options.now) (options.now).fuel) (meaning (setting verified (H.formulas host.now)) (limits_in options.now) (options.now).fuel)) ⊥ (stream K.written K.faults out.old out.new) (stream E.written E.faults err.old err.new) result }
-    ensures few { HasFewSlots verified }
+    ensures { RunsTo (IsLogged verified.file places.now (whole_log (setting verified (H.formulas host.now)) (limits_in options.now) (options.now).fuel) (meaning (setting verified (H.formulas host.now)) (limits_in options.now) (options.now).fuel)) ⊥ (stream K.written K.faults out.old out.new) (stream E.written E.faults err.old err.new) result }
 {
-    verified.linked().slots_law();
     match front_of(alloc, &verified, options) {
         Ok(front) => log_verified(alloc, verified, &front, places, out, err, host),
         Err(NoMemory) => {

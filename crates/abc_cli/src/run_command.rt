@@ -58,7 +58,6 @@ pub(crate) fn run_verified<K: Sink, E: Sink, H: Host>(
     ensures later { K.faults out.old ≤ K.faults out.new }
     ensures quiet { result ≡ Status.Done → err.new ≡ err.old }
 {
-    verified.linked().slots_law();
     let limits = limits_of(options);
     match Machine::open(alloc, verified, &limits, host) {
         Ok(mut machine) => {

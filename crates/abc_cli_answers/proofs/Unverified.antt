@@ -4,7 +4,7 @@ use Rattle.std.specs.declared.option.Option.{Option}
 use Rattle.abc_base.specs.declared.status.Status.TheVariants as status
 use Rattle.abc_file.specs.Reading.{OfInput}
 use Rattle.abc_file_types.specs.Part.{refusal}
-use Rattle.abc_link_program.specs.Linked.{LinkedFile}
+use Rattle.abc_link_names.specs.Linked.{LinkedFile}
 use Rattle.abc_file_types.specs.declared.tables.Abc.{Abc}
 use Rattle.abc_verify.proofs.Verifying.{of_any}
 use Rattle.abc_verify.specs.FileRefusing.{IsRefused, IsRefusedBy}

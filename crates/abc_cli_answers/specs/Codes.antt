@@ -4,38 +4,39 @@ use Rattle.std.specs.List.{flat_map, range_with_len}
 use Rattle.abc_file_types.specs.declared.code.Instr.{Instr}
 use Rattle.abc_file_types.specs.declared.code.Instr.TheVariants as instrs
 use Rattle.abc_cli_answers.specs.Draws.{after, given_by}
+use Rattle.abc_file_types.specs.declared.op.TheConstants as op
 
 -- ---- the instructions, by their mnemonics
 
 abbrev pub label : Instr
-label = instrs.Plain 0x09
+label = instrs.Plain op.LABEL
 
 abbrev pub pushscope : Instr
-pushscope = instrs.Plain 0x30
+pushscope = instrs.Plain op.PUSHSCOPE
 
 abbrev pub returnvoid : Instr
-returnvoid = instrs.Plain 0x47
+returnvoid = instrs.Plain op.RETURNVOID
 
 abbrev pub returnvalue : Instr
-returnvalue = instrs.Plain 0x48
+returnvalue = instrs.Plain op.RETURNVALUE
 
 abbrev pub convert_i : Instr
-convert_i = instrs.Plain 0x73
+convert_i = instrs.Plain op.CONVERT_I
 
 abbrev pub getlocal_0 : Instr
-getlocal_0 = instrs.Plain 0xd0
+getlocal_0 = instrs.Plain op.GETLOCAL_0
 
 abbrev pub getlocal_1 : Instr
-getlocal_1 = instrs.Plain 0xd1
+getlocal_1 = instrs.Plain op.GETLOCAL_1
 
 abbrev pub getlocal_2 : Instr
-getlocal_2 = instrs.Plain 0xd2
+getlocal_2 = instrs.Plain op.GETLOCAL_2
 
 abbrev pub setlocal_1 : Instr
-setlocal_1 = instrs.Plain 0xd5
+setlocal_1 = instrs.Plain op.SETLOCAL_1
 
 abbrev pub setlocal_2 : Instr
-setlocal_2 = instrs.Plain 0xd6
+setlocal_2 = instrs.Plain op.SETLOCAL_2
 
 abbrev pub pushbyte : ℤ → Instr
 pushbyte z = instrs.Byte z
@@ -44,19 +45,19 @@ abbrev pub pushshort : ℤ → Instr
 pushshort z = instrs.Short z
 
 abbrev pub ifgt : ℕ → Instr
-ifgt target = instrs.Branch 0x17 target
+ifgt target = instrs.Branch op.IFGT target
 
 abbrev pub findpropstrict : ℕ → Instr
-findpropstrict name = instrs.One 0x5d name
+findpropstrict name = instrs.One op.FINDPROPSTRICT name
 
 abbrev pub declocal_i : ℕ → Instr
-declocal_i local = instrs.One 0xc3 local
+declocal_i local = instrs.One op.DECLOCAL_I local
 
 abbrev pub callproperty : ℕ → ℕ → Instr
-callproperty name arguments = instrs.Two 0x46 name arguments
+callproperty name arguments = instrs.Two op.CALLPROPERTY name arguments
 
 abbrev pub callpropvoid : ℕ → ℕ → Instr
-callpropvoid name arguments = instrs.Two 0x4f name arguments
+callpropvoid name arguments = instrs.Two op.CALLPROPVOID name arguments
 
 -- ---- the first body calls each function with what the one before gave, and traces what the last gave
 
@@ -74,7 +75,7 @@ first_code m =
 
 -- add_i, subtract_i, multiply_i or bitxor
 abbrev pub operation_of : ℕ → ℕ
-operation_of n = if nat_eq n 0 then 0xc5 else if nat_eq n 1 then 0xc6 else if nat_eq n 2 then 0xc7 else 0xaa
+operation_of n = if nat_eq n 0 then op.ADD_I else if nat_eq n 1 then op.SUBTRACT_I else if nat_eq n 2 then op.MULTIPLY_I else op.BITXOR
 
 abbrev pub repeated : ℤ → ℤ → ℕ → List Instr
 repeated rounds operand op =

@@ -4,49 +4,19 @@ ghost use Rattle.abc_cli_answers.specs.Draws.{after};
 
 use crate::draws::Draws;
 use abc_base::{NoMemory, Table};
-use abc_file_types::Instr;
+use abc_file_types::{Instr, op};
 use std::alloc::Global;
-
-const LABEL: u8 = 0x09;
-
-const PUSHSCOPE: u8 = 0x30;
-
-const RETURNVOID: u8 = 0x47;
-
-const RETURNVALUE: u8 = 0x48;
-
-const CONVERT_I: u8 = 0x73;
-
-const GETLOCAL_0: u8 = 0xD0;
-
-const GETLOCAL_1: u8 = 0xD1;
-
-const GETLOCAL_2: u8 = 0xD2;
-
-const SETLOCAL_1: u8 = 0xD5;
-
-const SETLOCAL_2: u8 = 0xD6;
-
-const IFGT: u8 = 0x17;
-
-const CALLPROPERTY: u8 = 0x46;
-
-const CALLPROPVOID: u8 = 0x4F;
-
-const FINDPROPSTRICT: u8 = 0x5D;
-
-const DECLOCAL_I: u8 = 0xC3;
 
 /// Adds the call of a function, which takes what the one before gave.
 fn push_call(code: &mut Table<Instr>, function: u32) -> Result<(), NoMemory>
     requires { function < 2 ^ 30 }
     ensures { OnOk result (code.new ≡ code.old ++ call_of function) }
 {
-    code.push(Instr::Plain(GETLOCAL_0))?;
-    code.push(Instr::Plain(GETLOCAL_1))?;
-    code.push(Instr::Two(CALLPROPERTY, function + 2, 1))?;
-    code.push(Instr::Plain(CONVERT_I))?;
-    code.push(Instr::Plain(SETLOCAL_1))?;
+    code.push(Instr::Plain(op::GETLOCAL_0))?;
+    code.push(Instr::Plain(op::GETLOCAL_1))?;
+    code.push(Instr::Two(op::CALLPROPERTY, function + 2, 1))?;
+    code.push(Instr::Plain(op::CONVERT_I))?;
+    code.push(Instr::Plain(op::SETLOCAL_1))?;
     Ok(())
 }
 
@@ -56,17 +26,17 @@ pub(crate) fn first_code(alloc: Global, functions: u32) -> Result<Table<Instr>, 
     ensures { IfOk result (λ code. code ≡ code_of_first functions) }
 {
     let mut code = Table::new(alloc);
-    code.push(Instr::Plain(GETLOCAL_0))?;
-    code.push(Instr::Plain(PUSHSCOPE))?;
+    code.push(Instr::Plain(op::GETLOCAL_0))?;
+    code.push(Instr::Plain(op::PUSHSCOPE))?;
     code.push(Instr::Byte(1))?;
-    code.push(Instr::Plain(SETLOCAL_1))?;
+    code.push(Instr::Plain(op::SETLOCAL_1))?;
     for function in 0..functions {
         push_call(&mut code, function + 1)?;
     }
-    code.push(Instr::One(FINDPROPSTRICT, 1))?;
-    code.push(Instr::Plain(GETLOCAL_1))?;
-    code.push(Instr::Two(CALLPROPVOID, 1, 1))?;
-    code.push(Instr::Plain(RETURNVOID))?;
+    code.push(Instr::One(op::FINDPROPSTRICT, 1))?;
+    code.push(Instr::Plain(op::GETLOCAL_1))?;
+    code.push(Instr::Two(op::CALLPROPVOID, 1, 1))?;
+    code.push(Instr::Plain(op::RETURNVOID))?;
     Ok(code)
 }
 
@@ -75,10 +45,10 @@ fn operation(number: u32) -> u8
     ensures { result ≡ operation_of number }
 {
     match number {
-        0 => 0xC5,
-        1 => 0xC6,
-        2 => 0xC7,
-        _ => 0xAA,
+        0 => op::ADD_I,
+        1 => op::SUBTRACT_I,
+        2 => op::MULTIPLY_I,
+        _ => op::BITXOR,
     }
 }
 
@@ -87,22 +57,22 @@ fn put_repeated(code: &mut Table<Instr>, rounds: i8, operand: i16, op: u8) -> Re
     requires { code.old ≡ [] }
     ensures { OnOk result (code.new ≡ code_of rounds operand op) }
 {
-    code.push(Instr::Plain(GETLOCAL_1))?;
-    code.push(Instr::Plain(CONVERT_I))?;
-    code.push(Instr::Plain(SETLOCAL_2))?;
+    code.push(Instr::Plain(op::GETLOCAL_1))?;
+    code.push(Instr::Plain(op::CONVERT_I))?;
+    code.push(Instr::Plain(op::SETLOCAL_2))?;
     code.push(Instr::Byte(rounds))?;
-    code.push(Instr::Plain(SETLOCAL_1))?;
-    code.push(Instr::Plain(LABEL))?;
-    code.push(Instr::Plain(GETLOCAL_2))?;
+    code.push(Instr::Plain(op::SETLOCAL_1))?;
+    code.push(Instr::Plain(op::LABEL))?;
+    code.push(Instr::Plain(op::GETLOCAL_2))?;
     code.push(Instr::Short(operand))?;
     code.push(Instr::Plain(op))?;
-    code.push(Instr::Plain(SETLOCAL_2))?;
-    code.push(Instr::One(DECLOCAL_I, 1))?;
-    code.push(Instr::Plain(GETLOCAL_1))?;
+    code.push(Instr::Plain(op::SETLOCAL_2))?;
+    code.push(Instr::One(op::DECLOCAL_I, 1))?;
+    code.push(Instr::Plain(op::GETLOCAL_1))?;
     code.push(Instr::Byte(0))?;
-    code.push(Instr::Branch(IFGT, 5))?;
-    code.push(Instr::Plain(GETLOCAL_2))?;
-    code.push(Instr::Plain(RETURNVALUE))?;
+    code.push(Instr::Branch(op::IFGT, 5))?;
+    code.push(Instr::Plain(op::GETLOCAL_2))?;
+    code.push(Instr::Plain(op::RETURNVALUE))?;
     Ok(())
 }
 

@@ -12,12 +12,12 @@ use Rattle.std.proofs.lemmas.List.Quantifiers.{position-Some}
 use Rattle.std.proofs.lemmas.Simd.{map-map}
 use Rattle.abc_base.specs.Numbers.{number_bytes}
 use Rattle.abc_base.proofs.Spelling.{number_grows}
-use Rattle.abc_file_types.specs.Canonical.{IsCanonical, counted_bytes}
+use Rattle.abc_file_types.specs.Canonical.{IsCanonical, NoGreater, counted_bytes}
 use Rattle.abc_file_types.specs.Ends.{Pieces}
 use Rattle.abc_file_types.specs.Lists.{chain, counted}
 use Rattle.abc_file_types.specs.Numbers.{u30}
 use Rattle.abc_file_types.specs.Part.{Part, both, then_by}
-use Rattle.abc_file_types.proofs.Canon.{checked-canonical, counted-canonical, index_below-canonical, pool_index-canonical, u30-canonical, u30_fits}
+use Rattle.abc_file_types.proofs.Canon.{both-canonical, image-canonical, checked-canonical, counted-canonical, index_below-canonical, pool_index-canonical, u30-canonical, u30_fits}
 use Rattle.abc_file_types.specs.declared.code.Body.{Body}
 use Rattle.abc_file_types.specs.declared.code.Instr.{Instr}
 use Rattle.abc_file_types.specs.declared.code.Instr.TheVariants as instrs
@@ -33,11 +33,12 @@ use Rattle.abc_file_types.specs.Places.{instruction_place}
 use Rattle.abc_file_types.specs.Ready.{IsReady}
 use Rattle.abc_file_types.specs.Starts.{IsRising, start}
 use Rattle.abc_file_types.specs.Traits.{trait_bytes, trait_info}
-use Rattle.abc_file_types.proofs.CodeShortest.{canonical_body, code_bytes_length, code_listing-canonical, listing_ready, piece_can}
+use Rattle.abc_file_types.proofs.CodeShortest.{canonical_body, code_bytes_length, code_can, offsets_canonical, code_listing-canonical, listing_ready, piece_can}
 use Rattle.abc_file_types.proofs.Lengths.{canonical_count}
 use Rattle.abc_file_types.proofs.Meaning.{starts_from}
 use Rattle.abc_file_types.proofs.Resolving.{length-starts, position_is, starts_rising}
-use Rattle.abc_file_types.proofs.Shortening.{Shortens, both-shortens, canonical-shortens, chained, counted-shortens, image-shortens, kept, shortens-canonical, then-shortens}
+use Rattle.abc_file_types.proofs.Shortening.{Lessens, Shortens, both-lessens, both-shortens, canonical-lessens, canonical-shortens, chained, counted-shortens, image-lessens, image-shortens, kept, lessens-canonical, then-lessens, then-shortens}
+use Rattle.abc_file_types.proofs.Lesser.{halves, no_greater_append}
 use Rattle.abc_file_types.proofs.Shortest.{trait_info-canonical}
 
 -- ---- places
@@ -101,6 +102,19 @@ handler-shortens v ss cs near =
     image-shortens _ _ _ _ _ _ kept (handler_bytes cs)
     (both-shortens _ _ _ _ _ _ _ _ place (both-shortens _ _ _ _ _ _ _ _ place (both-shortens _ _ _ _ _ _ _ _ place (both-shortens _ _ _ _ _ _ _ _ name name))))
     (λ x. refl) (λ x b s. simp append_assoc)
+
+place-canonical : (ss : List ℕ) → IsRising ss → IsCanonical (instruction_place ss) (λ t. number_bytes (get_or ss t 0))
+place-canonical ss up =
+    let k = place-shortens ss ss (record { count = refl; up = up; below = λ t lt. omega arith }) in
+    record { spelled = k.spelled; shortest = k.shortest; least = λ t b s len. u30-canonical.least (get_or ss t 0) b (place_is ss t b s).spelled len }
+
+-- where the starts are those that the places were spelled by
+handler-canonical : (v : Sizes) (ss : List ℕ) → IsRising ss → IsCanonical (handler v ss) (handler_bytes ss)
+unfolding handler handler_bytes
+handler-canonical v ss up =
+    let place = place-canonical ss up in
+    let name = pool_index-canonical v.names in
+    image-canonical _ _ _ (handler_bytes ss) (both-canonical _ _ _ _ place (both-canonical _ _ _ _ place (both-canonical _ _ _ _ place (both-canonical _ _ _ _ name name)))) (λ x b s. simp append_assoc)
 
 -- ---- the starts of the canonical code
 
@@ -196,6 +210,29 @@ code-shortens = record {
   shortest = λ c b s. code_listing-canonical.shortest c.instrs b (listed c b s);
 }
 
+code-lessens : Lessens code (λ c. code_bytes c.instrs)
+code-lessens = record {
+  shortest = λ c b s. code_listing-canonical.shortest c.instrs b (listed c b s);
+  least = λ c b s len. code_listing-canonical.least c.instrs b (listed c b s) len;
+}
+
+offsets_from : (n : ℕ) (d : Code) (b1 b2 : List ℕ) → code_length.spells n b1 → SpellsCode d b2 → length b2 ≡ n → length (code_bytes d.instrs) ≡ length b1 + length b2 → d.offsets ≡ canonical_starts d.instrs
+unfolding code_length
+offsets_from n d b1 b2 l s full len =
+    let can = code_can d b2 s in
+    let count = number_grows (code_len d.instrs) n (omega (arith, can.1, full)) in
+    let few = u30-canonical.shortest n b1 l.0 in
+    offsets_canonical d b2 s (omega (arith, can.1, count, few, len, code_bytes_length d.instrs))
+
+-- code as short as its canonical bytes has its starts where they have them
+code_offsets : (c : Code) (b : List ℕ) → code.spells c b → length (code_bytes c.instrs) ≡ length b → c.offsets ≡ canonical_starts c.instrs
+unfolding code code_body
+code_offsets c b s len =
+    let t = s.1 in
+    let here = offsets_from s.0.0 s.0.1 t.0 t.1 t.3 t.4.0 t.4.1 in
+    let long : length (code_bytes s.0.1.instrs) ≡ length t.0 + length t.1 = ap (λ (d : Code). length (code_bytes d.instrs)) (sym s.2) ∙ len ∙ ap length t.2 ∙ length-append t.0 t.1 in
+    subst (λ (d : Code). d.offsets ≡ canonical_starts d.instrs) (sym s.2) (here long)
+
 -- ---- one body
 
 -- the body, with the starts in its canonical code
@@ -219,6 +256,27 @@ body-shortens v taken =
     (both-shortens _ _ _ _ _ _ _ _ number (both-shortens _ _ _ _ _ _ _ _ number (both-shortens _ _ _ _ _ _ _ _ number (both-shortens _ _ _ _ _ _ _ _ number (rest-shortens v))))))
     (λ x. refl) (λ x b s. simp append_assoc)
 
+rest-lessens : (v : Sizes) → Lessens (then_by code (λ c. both (counted (handler v c.offsets)) (counted (trait_info v))))
+    (λ x. code_bytes x.0.instrs ++ (counted_bytes (handler_bytes (canonical_starts x.0.instrs)) x.1.0 ++ counted_bytes trait_bytes x.1.1))
+rest-lessens v =
+    then-lessens code (λ c. code_bytes c.instrs) (λ c. both (counted (handler v c.offsets)) (counted (trait_info v))) (λ c y. counted_bytes (handler_bytes (canonical_starts c.instrs)) y.0 ++ counted_bytes trait_bytes y.1) code-lessens
+    (λ c b s. (both-shortens _ _ _ _ _ _ _ _ (counted-shortens _ _ _ (handler-shortens v c.offsets (canonical_starts c.instrs) (code_nearer c b s)))
+    (canonical-shortens _ _ (counted-canonical _ _ (trait_info-canonical v)))).shortest)
+    (λ c b s len.
+    let is = code_offsets c b s len in
+    let up : IsRising c.offsets = subst IsRising (sym is) (canonical_rising c.instrs) in
+    subst (λ (ss : List ℕ). Lessens (both (counted (handler v c.offsets)) (counted (trait_info v))) (λ y. counted_bytes (handler_bytes ss) y.0 ++ counted_bytes trait_bytes y.1)) is
+    (both-lessens _ _ _ _ (canonical-lessens _ _ (counted-canonical _ _ (handler-canonical v c.offsets up))) (canonical-lessens _ _ (counted-canonical _ _ (trait_info-canonical v)))))
+
+body-lessens : (v : Sizes) (taken : List ℕ) → Lessens (body v taken) (λ x. body_bytes x.0)
+unfolding body body_with body_bytes body_method
+body-lessens v taken =
+    let number = canonical-lessens _ _ u30-canonical in
+    image-lessens _ _ _ (λ x. body_bytes x.0)
+    (both-lessens _ _ _ _ (canonical-lessens _ _ (checked-canonical _ _ _ _ (index_below-canonical v.methods)))
+    (both-lessens _ _ _ _ number (both-lessens _ _ _ _ number (both-lessens _ _ _ _ number (both-lessens _ _ _ _ number (rest-lessens v))))))
+    (λ x b s. simp append_assoc)
+
 -- ---- all bodies
 
 methods_renewed : (read : List (Body × List ℕ)) → methods_of (map renewed read) ≡ methods_of read
@@ -239,11 +297,12 @@ next_body v before = body v (methods_of before)
 abbrev pub one_bytes : Body × List ℕ → List ℕ
 one_bytes x = body_bytes x.0
 
-list_best : (v : Sizes) (xs : List (Body × List ℕ)) (b : List ℕ) → (body_list v).spells xs b → (body_list v).spells (map renewed xs) (list_bytes xs) × (length (list_bytes xs) ≤ length b)
+list_best : (v : Sizes) (xs : List (Body × List ℕ)) (b : List ℕ) → (body_list v).spells xs b
+    → (body_list v).spells (map renewed xs) (list_bytes xs) × (length (list_bytes xs) ≤ length b) × (length (list_bytes xs) ≡ length b → NoGreater (list_bytes xs) b)
 unfolding body_list counted_bytes
 list_best v xs b s =
     let n = s.0.0 in
-    let c = chained (next_body v) renewed one_bytes (next-shortens v) n [] s.0.1 s.1.1 s.1.4 in
+    let c = chained (next_body v) renewed one_bytes (next-shortens v) (λ before. body-lessens v (methods_of before)) n [] s.0.1 s.1.1 s.1.4 in
     let all : xs ≡ c.rest = s.2 ∙ c.is in
     let len : length (map (λ (x : Body × List ℕ). x.0) xs) ≡ n = length-map xs (λ (x : Body × List ℕ). x.0) ∙ ap length all ∙ c.count in
     let one : flat_map body_bytes (map (λ (x : Body × List ℕ). x.0) xs) ≡ flat_map one_bytes c.rest = flat_map-map body_bytes (λ (x : Body × List ℕ). x.0) xs ∙ ap (flat_map one_bytes) all in
@@ -252,10 +311,16 @@ list_best v xs b s =
     let few = u30-canonical.shortest n s.1.0 s.1.3 in (
       ((n, map renewed xs), (number_bytes n, flat_map one_bytes c.rest, is, u30-canonical.spelled n s.1.0 s.1.3, moved), refl),
       omega (arith, few, c.short, ap length is, length-append (number_bytes n) (flat_map one_bytes c.rest), ap length s.1.2, length-append s.1.0 s.1.1),
+      λ long.
+          let h = halves (number_bytes n) (flat_map one_bytes c.rest) s.1.0 s.1.1 few c.short (ap length (sym is) ∙ long ∙ ap length s.1.2) in
+          rw (is, s.1.2) (no_greater_append (number_bytes n) (flat_map one_bytes c.rest) s.1.0 s.1.1 (u30-canonical.least n s.1.0 s.1.3 h.0) (c.least h.1)),
     )
 
 pub body_list-shortens : (v : Sizes) → Shortens (body_list v) (body_list v) (map renewed) list_bytes
 body_list-shortens v = record { spelled = λ xs b s. (list_best v xs b s).0; shortest = λ xs b s. (list_best v xs b s).1 }
+
+body_list-lessens : (v : Sizes) → Lessens (body_list v) list_bytes
+body_list-lessens v = record { shortest = λ xs b s. (list_best v xs b s).1; least = λ xs b s. (list_best v xs b s).2 }
 
 -- the bodies as they are, with the starts in their canonical code
 abbrev pub again : Abc × List (List ℕ) → Abc × List (List ℕ)
@@ -267,7 +332,12 @@ bodies-shortens abc =
     image-shortens _ _ _ _ (map renewed) list_bytes again (λ (x : Abc × List (List ℕ)). bodies_bytes x.0) (body_list-shortens (sizes_of abc))
     (λ xs. simp map-map) (λ xs b s. refl)
 
+bodies-lessens : (abc : Abc) → Lessens (bodies abc) (λ x. bodies_bytes x.0)
+unfolding bodies bodies_bytes
+bodies-lessens abc = image-lessens _ _ list_bytes (λ (x : Abc × List (List ℕ)). bodies_bytes x.0) (body_list-lessens (sizes_of abc)) (λ xs b s. refl)
+
 pub bodies_alone-canonical : (abc : Abc) → IsCanonical (bodies_alone abc) bodies_bytes
 unfolding bodies_alone
 bodies_alone-canonical abc =
-    shortens-canonical _ bodies_bytes (image-shortens _ _ _ _ again (λ (x : Abc × List (List ℕ)). bodies_bytes x.0) kept bodies_bytes (bodies-shortens abc) (λ x. refl) (λ x b s. refl))
+    lessens-canonical _ bodies_bytes (image-shortens _ _ _ _ again (λ (x : Abc × List (List ℕ)). bodies_bytes x.0) kept bodies_bytes (bodies-shortens abc) (λ x. refl) (λ x b s. refl))
+    (image-lessens _ _ (λ (x : Abc × List (List ℕ)). bodies_bytes x.0) bodies_bytes (bodies-lessens abc) (λ x b s. refl))

@@ -1,4 +1,4 @@
--- The canonical spelling is one, and the shortest.
+-- The canonical spelling is one, and the least.
 use Rattle.std.proofs.Common.{◌≡◌, ℕ, ℤ, pos, negsuc, zero, suc, ◌+◌, ◌*◌, ◌^◌, ◌-◌, ◌%◌, ◌/◌, ◌<◌, ◌≤◌, Bool, true, false, cond, List, [], ◌∷◌, ◌++◌, length, refl, sym, ap, subst, ◌∙◌, length-append, arith}
 use Rattle.std.specs.List.{flat_map}
 use Rattle.std.proofs.lemmas.List.Concat.{flat_map-cons}
@@ -7,26 +7,30 @@ use Rattle.std.proofs.lemmas.Bool.{le-ltb, lt-ltb}
 use Rattle.abc_file_types.specs.declared.reason.Reason.{Reason}
 use Rattle.abc_base.proofs.Spelling.{IsGroups, number_spelled, number_shortest, number_fits, number_groups}
 use Rattle.abc_base.specs.Numbers.{number_bytes, signed24}
-use Rattle.abc_file_types.specs.Canonical.{FitsS24, IsCanonical, counted_bytes, low24, pool_bytes, pool_count, s24_bytes}
+use Rattle.abc_file_types.specs.Canonical.{FitsS24, IsCanonical, NoGreater, counted_bytes, low24, pool_bytes, pool_count, s24_bytes}
 use Rattle.abc_file_types.specs.Lists.{counted, pool, pool_by, times}
 use Rattle.abc_file_types.specs.Numbers.{number, s24, u30, u8, index_below, pool_index, entry_index}
 use Rattle.abc_file_types.specs.Part.{when, Part, both, checked, done, image, then_by}
+use Rattle.abc_file_types.proofs.Lesser.{halves, no_greater_append, number_least, under_same}
 
 -- ---- numbers
 
 pub number-canonical : IsCanonical number number_bytes
-number-canonical = record { spelled = number_spelled; shortest = number_shortest }
+number-canonical = record { spelled = number_spelled; shortest = number_shortest; least = λ x b s len. number_least x x b s (omega arith) (under_same 5 x) len }
 
 -- ---- the ways to make a part
 
 pub done-canonical : {A : Type 0} (x : A) (h : A → List ℕ) → h x ≡ [] → IsCanonical (done x) h
-done-canonical x h e = record { spelled = λ y b s. (s.0, ap h s.0 ∙ e); shortest = λ y b s. rw (ap h s.0, e) (omega arith) }
+done-canonical x h e = record { spelled = λ y b s. (s.0, ap h s.0 ∙ e); shortest = λ y b s. rw (ap h s.0, e) (omega arith); least = λ y b s len. rw (ap h s.0, e, s.1) tt }
 
 pub then-canonical : {A B : Type 0} (p : Part A) (f : A → Part B) (cp : A → List ℕ) (cf : A → B → List ℕ) → IsCanonical p cp → ((x : A) → IsCanonical (f x) (cf x))
     → IsCanonical (then_by p f) (λ x. cp x.0 ++ cf x.0 x.1)
 then-canonical p f cp cf kp kf = record {
   spelled = λ x b s. (cp x.0, cf x.0 x.1, refl, kp.spelled x.0 s.0 s.3, (kf x.0).spelled x.1 s.1 s.4);
   shortest = λ x b s. let one = kp.shortest x.0 s.0 s.3 in let two = (kf x.0).shortest x.1 s.1 s.4 in rw s.2 (omega (arith, one, two, length-append s.0 s.1, length-append (cp x.0) (cf x.0 x.1)));
+  least = λ x b s len.
+      let h = halves (cp x.0) (cf x.0 x.1) s.0 s.1 (kp.shortest x.0 s.0 s.3) ((kf x.0).shortest x.1 s.1 s.4) (len ∙ ap length s.2) in
+      rw s.2 (no_greater_append (cp x.0) (cf x.0 x.1) s.0 s.1 (kp.least x.0 s.0 s.3 h.0) ((kf x.0).least x.1 s.1 s.4 h.1));
 }
 
 pub both-canonical : {A B : Type 0} (p : Part A) (q : Part B) (cp : A → List ℕ) (cq : B → List ℕ) → IsCanonical p cp → IsCanonical q cq → IsCanonical (both p q) (λ x. cp x.0 ++ cq x.1)
@@ -37,16 +41,17 @@ pub image-canonical : {A B : Type 0} (f : A → B) (p : Part A) (cp : A → List
 image-canonical f p cp h kp same = record {
   spelled = λ y b s. let e : cp s.0 ≡ h y = same s.0 b s.1 ∙ ap h (sym s.2) in (s.0, subst (λ (l : List ℕ). p.spells s.0 l) e (kp.spelled s.0 b s.1), s.2);
   shortest = λ y b s. let e : cp s.0 ≡ h y = same s.0 b s.1 ∙ ap h (sym s.2) in subst (λ (l : List ℕ). length l ≤ length b) e (kp.shortest s.0 b s.1);
+  least = λ y b s len. let e : cp s.0 ≡ h y = same s.0 b s.1 ∙ ap h (sym s.2) in subst (λ (l : List ℕ). NoGreater l b) e (kp.least s.0 b s.1 (ap length e ∙ len));
 }
 
 pub checked-canonical : {A : Type 0} (test : A → Bool) (reason : Reason) (p : Part A) (cp : A → List ℕ) → IsCanonical p cp → IsCanonical (checked test reason p) cp
-checked-canonical test reason p cp kp = record { spelled = λ x b s. (kp.spelled x b s.0, s.1); shortest = λ x b s. kp.shortest x b s.0 }
+checked-canonical test reason p cp kp = record { spelled = λ x b s. (kp.spelled x b s.0, s.1); shortest = λ x b s. kp.shortest x b s.0; least = λ x b s len. kp.least x b s.0 len }
 
 -- ---- leaves
 
 pub u8-canonical : IsCanonical u8 (λ x. x ∷ [])
 unfolding u8
-u8-canonical = record { spelled = λ x b s. refl; shortest = λ x b s. omega (arith, ap length s) }
+u8-canonical = record { spelled = λ x b s. refl; shortest = λ x b s. omega (arith, ap length s); least = λ x b s len. rw s (omega arith, tt) }
 
 pub u30-canonical : IsCanonical u30 number_bytes
 unfolding u30
@@ -84,8 +89,19 @@ times_shortest (suc n) p cp kp xs b s =
     let two = times_shortest n p cp kp rest s.1.1 s.1.4 in
     rw (s.2, flat_map-cons, s.1.2) (omega (arith, one, two, length-append (cp x) (flat_map cp rest), length-append s.1.0 s.1.1))
 
+times_least : {A : Type 0} (n : ℕ) (p : Part A) (cp : A → List ℕ) → IsCanonical p cp → (xs : List A) (b : List ℕ) → (times n p).spells xs b → length (flat_map cp xs) ≡ length b → NoGreater (flat_map cp xs) b
+times_least zero p cp kp xs b s len = rw (s.0, s.1) tt
+times_least (suc n) p cp kp xs b s len =
+    let x = s.0.0 in
+    let rest = s.0.1 in
+    let long : length (cp x ++ flat_map cp rest) ≡ length (s.1.0 ++ s.1.1) = ap length (sym (flat_map-cons cp x rest) ∙ ap (flat_map cp) (sym s.2)) ∙ len ∙ ap length s.1.2 in
+    let h = halves (cp x) (flat_map cp rest) s.1.0 s.1.1 (kp.shortest x s.1.0 s.1.3) (times_shortest n p cp kp rest s.1.1 s.1.4) long in
+    let one = kp.least x s.1.0 s.1.3 h.0 in
+    let two = times_least n p cp kp rest s.1.1 s.1.4 h.1 in
+    rw (s.2, flat_map-cons, s.1.2) (no_greater_append (cp x) (flat_map cp rest) s.1.0 s.1.1 one two)
+
 pub times-canonical : {A : Type 0} (n : ℕ) (p : Part A) (cp : A → List ℕ) → IsCanonical p cp → IsCanonical (times n p) (flat_map cp)
-times-canonical n p cp kp = record { spelled = times_spelled n p cp kp; shortest = times_shortest n p cp kp }
+times-canonical n p cp kp = record { spelled = times_spelled n p cp kp; shortest = times_shortest n p cp kp; least = times_least n p cp kp }
 
 pub times_length : {A : Type 0} (n : ℕ) (p : Part A) (xs : List A) (b : List ℕ) → (times n p).spells xs b → length xs ≡ n
 times_length zero p xs b s = rw s.0 refl
@@ -106,6 +122,12 @@ zero_spelled : u30.spells 0 (number_bytes 0) × (length (number_bytes 0) ≡ 1)
 unfolding u30 number_bytes
 zero_spelled = ((number_fits 0 (omega arith), refl), refl)
 
+zero_least : (b : List ℕ) → length (number_bytes 0) ≡ length b → NoGreater (number_bytes 0) b
+unfolding number_bytes
+zero_least [] len = absurd (omega arith)
+zero_least (y ∷ []) len = (omega arith, tt)
+zero_least (y ∷ z ∷ b) len = absurd (omega arith)
+
 some_groups : (n : ℕ) (b : List ℕ) → u30.spells n b → IsGroups b
 unfolding u30
 some_groups n b s = number_groups n b s.0
@@ -114,17 +136,23 @@ some_groups n b s = number_groups n b s.0
 record BestCount {A : Type 0} (n : ℕ) (xs : List A) (b : List ℕ) : Type 0 where
   spelled : u30.spells (pool_count xs) (number_bytes (pool_count xs))
   short : length (number_bytes (pool_count xs)) ≤ length b
+  least : length (number_bytes (pool_count xs)) ≡ length b → NoGreater (number_bytes (pool_count xs)) b
   same : n - 1 ≡ pool_count xs - 1
 
 best_count : {A : Type 0} (n : ℕ) (xs : List A) (b : List ℕ) → length xs ≡ n - 1 → u30.spells n b → BestCount n xs b
-best_count n [] b len s = record { spelled = zero_spelled.0; short = omega (arith, zero_spelled.1, not_empty b (some_groups n b s)); same = omega (arith, len) }
+best_count n [] b len s = record { spelled = zero_spelled.0; short = omega (arith, zero_spelled.1, not_empty b (some_groups n b s)); least = zero_least b; same = omega (arith, len) }
 best_count n (x ∷ xs) b len s =
     let e : n ≡ length xs + 2 = omega (arith, len) in
-    record { spelled = subst (λ (k : ℕ). u30.spells k (number_bytes k)) e (u30-canonical.spelled n b s); short = subst (λ (k : ℕ). length (number_bytes k) ≤ length b) e (u30-canonical.shortest n b s); same = omega (arith, e) }
+    record {
+      spelled = subst (λ (k : ℕ). u30.spells k (number_bytes k)) e (u30-canonical.spelled n b s);
+      short = subst (λ (k : ℕ). length (number_bytes k) ≤ length b) e (u30-canonical.shortest n b s);
+      least = subst (λ (k : ℕ). length (number_bytes k) ≡ length b → NoGreater (number_bytes k) b) e (u30-canonical.least n b s);
+      same = omega (arith, e);
+    }
 
 pub pool_by-canonical : {A : Type 0} (p : ℕ → Part A) (cp : A → List ℕ) → ((n : ℕ) → IsCanonical (p n) cp) → IsCanonical (pool_by p) (pool_bytes cp)
 unfolding pool_by pool_bytes
-pool_by-canonical p cp kp = record {
+pool_by-canonical {A = A} p cp kp = record {
   spelled = λ xs b s.
       let n = s.0.0 in
       let items = times_spelled (n - 1) (p (n - 1)) cp (kp (n - 1)) s.0.1 s.1.1 s.1.4 in
@@ -136,6 +164,14 @@ pool_by-canonical p cp kp = record {
       let items = times_shortest (n - 1) (p (n - 1)) cp (kp (n - 1)) s.0.1 s.1.1 s.1.4 in
       let c = best_count n s.0.1 s.1.0 (times_length (n - 1) (p (n - 1)) s.0.1 s.1.1 s.1.4) s.1.3 in
       rw (s.2, s.1.2) (omega (arith, items, c.short, length-append s.1.0 s.1.1, length-append (number_bytes (pool_count s.0.1)) (flat_map cp s.0.1)));
+  least = λ xs b s len.
+      let n = s.0.0 in
+      let items = times_shortest (n - 1) (p (n - 1)) cp (kp (n - 1)) s.0.1 s.1.1 s.1.4 in
+      let c = best_count n s.0.1 s.1.0 (times_length (n - 1) (p (n - 1)) s.0.1 s.1.1 s.1.4) s.1.3 in
+      let long : length (number_bytes (pool_count s.0.1) ++ flat_map cp s.0.1) ≡ length (s.1.0 ++ s.1.1) = ap (λ (l : List A). length (number_bytes (pool_count l) ++ flat_map cp l)) (sym s.2) ∙ len ∙ ap length s.1.2 in
+      let h = halves (number_bytes (pool_count s.0.1)) (flat_map cp s.0.1) s.1.0 s.1.1 c.short items long in
+      let rest = times_least (n - 1) (p (n - 1)) cp (kp (n - 1)) s.0.1 s.1.1 s.1.4 h.1 in
+      rw (s.2, s.1.2) (no_greater_append (number_bytes (pool_count s.0.1)) (flat_map cp s.0.1) s.1.0 s.1.1 (c.least h.0) rest);
 }
 
 pub pool-canonical : {A : Type 0} (p : Part A) (cp : A → List ℕ) → IsCanonical p cp → IsCanonical (pool p) (pool_bytes cp)
@@ -147,6 +183,7 @@ pub same-canonical : {A : Type 0} (p : Part A) (f h : A → List ℕ) → ((x : 
 same-canonical {A = A} p f h e k = record {
   spelled = λ x b s. subst (λ (l : List ℕ). p.spells x l) (e x) (k.spelled x b s);
   shortest = λ x b s. subst (λ (l : List ℕ). length l ≤ length b) (e x) (k.shortest x b s);
+  least = λ x b s len. subst (λ (l : List ℕ). NoGreater l b) (e x) (k.least x b s (ap length (e x) ∙ len));
 }
 
 -- ---- every number that fits

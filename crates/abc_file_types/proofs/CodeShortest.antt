@@ -1,31 +1,36 @@
--- The canonical bytes of code spell it, and are the fewest.
-use Rattle.std.proofs.Common.{◌≡◌, ℕ, zero, suc, ℤ, pos, negsuc, ◌≤ℤ◌, ◌<ℤ◌, ◌+◌, ◌-◌, ◌*◌, ◌^◌, ◌%◌, ◌<◌, ◌≤◌, inl, inr, true, List, [], ◌∷◌, ◌++◌, length, get_or, map, Some, None, refl, sym, ap, subst, ◌∙◌, length-append, arith}
-use Rattle.std.specs.Prelude.{is_some, unwrap_or}
+-- The canonical bytes of code spell it, and are the least.
+use Rattle.std.proofs.Common.{◌≡◌, ℕ, zero, suc, ℤ, pos, negsuc, ◌≤ℤ◌, ◌<ℤ◌, ◌+◌, ◌-◌, ◌*◌, ◌^◌, ◌%◌, ◌<◌, ◌≤◌, inl, inr, Bool, true, false, List, [], ◌∷◌, ◌++◌, length, get_or, map, Some, None, refl, sym, ap, subst, ◌∙◌, length-append, arith}
+use Rattle.std.specs.Prelude.{is_some, nat_eq, unwrap_or, if◌then◌else◌}
 use Rattle.std.specs.Int.{w8, w16, cast_signed, cast_unsigned}
 use Rattle.std.specs.List.{flat_map}
 use Rattle.std.specs.declared.option.Option.{Option}
-use Rattle.std.proofs.lemmas.Int.{ints}
+use Rattle.std.proofs.lemmas.Int.{ints, of_z-to_z}
+use Rattle.std.proofs.lemmas.List.Folds.{flat_map-map}
+use Rattle.std.proofs.lemmas.Bool.Decides.{nat_tests}
 use Rattle.std.proofs.lemmas.Bool.{cases_lt, le-ltb, lt-ltb, ltb-true}
 use Rattle.abc_base.specs.Numbers.{number_bytes}
 use Rattle.abc_base.proofs.Spelling.{number_fits, number_grows}
-use Rattle.abc_file_types.specs.Canonical.{IsCanonical, s24_bytes, FitsS24}
+use Rattle.abc_file_types.specs.Canonical.{IsCanonical, NoGreater, s24_bytes, FitsS24}
 use Rattle.abc_file_types.specs.Ends.{Pieces}
 use Rattle.abc_file_types.specs.Lists.{times}
 use Rattle.abc_file_types.specs.Numbers.{u8, u30, u32, s24}
-use Rattle.abc_file_types.proofs.Canon.{u30-canonical, u30_fits, s24_fits, s24_length, s24_three, s24s_three}
+use Rattle.abc_file_types.specs.Part.{both}
+use Rattle.abc_file_types.proofs.Canon.{both-canonical, then-canonical, times-canonical, u8-canonical, u30-canonical, u30_fits, s24_fits, s24_length, s24_three, s24s_three}
+use Rattle.abc_file_types.proofs.Fixed.{s24-canonical}
 use Rattle.abc_file_types.proofs.Least.{short-canonical}
+use Rattle.abc_file_types.proofs.Lesser.{halves, no_greater_append}
 use Rattle.abc_file_types.specs.declared.opcodes.Form.{Form}
 use Rattle.abc_file_types.specs.declared.opcodes.Form.TheVariants as forms
 use Rattle.abc_file_types.specs.Instructions.{RawInstr, Same, Branch, Switch, opcode, signed_byte, signed_short, switch_offsets, operands, instruction, code_length}
 use Rattle.abc_file_types.specs.declared.code.Instr.{Instr}
 use Rattle.abc_file_types.specs.declared.code.Instr.TheVariants as instrs
 use Rattle.abc_file_types.specs.declared.instructions.Code.{Code}
-use Rattle.abc_file_types.specs.Opcodes.{info_at, form_at}
+use Rattle.abc_file_types.specs.Opcodes.{branches, form_at, form_in, form_of, info_at, info_if, is_in, name_in, named, one_operand, two_operands}
 use Rattle.abc_file_types.specs.Starts.{starts, size, start}
 use Rattle.abc_file_types.specs.Code.{IsTarget, AreTargets, Means, MeansAll, SpellsCode, code_body, code, code_listing}
 use Rattle.abc_file_types.specs.Ready.{AllUpTo, CanSpell, AllCanSpell, Small, IsReady}
 use Rattle.abc_file_types.specs.CodeBytes.{instr_len, sized, offset, instr_bytes, instrs_bytes, canonical_starts, code_len, code_bytes}
-use Rattle.abc_file_types.proofs.Meaning.{starts_from}
+use Rattle.abc_file_types.proofs.Meaning.{starts_from, starts_same}
 use Rattle.abc_file_types.proofs.Resolving.{length-starts}
 
 -- ---- what is known of an instruction that some bytes spell
@@ -332,6 +337,193 @@ module _ (qs : List (RawInstr × ℕ)) (ss : List ℕ) (n : ℕ) (len : length q
   pieces_mean here [] c = tt
   pieces_mean here (i ∷ is) c = (piece_means here (here + instr_len i) i c.0, pieces_mean (here + instr_len i) is c.1)
 
+-- ---- an opcode that only one instruction's form has
+
+abbrev form_if : Bool → Bool → Bool → Bool → Bool → Bool → Bool → Bool → Form
+form_if a b c d e f g h =
+    if a then forms.One else if b then forms.Two else if c then forms.Branch else if d then forms.Switch else if e then forms.Byte else if f then forms.Short
+    else if g then forms.ScopeObject else if h then forms.Debug else forms.Plain
+
+-- the form of one opcode alone says that it is this
+abbrev Says : Form → Bool → Bool → Bool → Bool → Bool → Type 0
+Says forms.Switch d e f g h = d ≡ true
+Says forms.Byte d e f g h = e ≡ true
+Says forms.Short d e f g h = f ≡ true
+Says forms.ScopeObject d e f g h = g ≡ true
+Says forms.Debug d e f g h = h ≡ true
+Says _ d e f g h = Unit {0}
+
+form_says : (a b c d e f g h : Bool) → Says (form_if a b c d e f g h) d e f g h
+form_says true b c d e f g h = tt
+form_says false true c d e f g h = tt
+form_says false false true d e f g h = tt
+form_says false false false true e f g h = refl
+form_says false false false false true f g h = refl
+form_says false false false false false true g h = refl
+form_says false false false false false false true h = refl
+form_says false false false false false false false true = refl
+form_says false false false false false false false false = tt
+
+form_known : (name : Option (List ℕ)) (op : ℕ) (form : Form) → form_in (info_if name op) ≡ Some form → form_of op ≡ form
+form_known (Some name) op form e = ap (λ (o : Option Form). unwrap_or o forms.Plain) e
+form_known None op form e = absurd cc
+
+one_opcode : (op : ℕ) (form : Form) → form_at op ≡ Some form → Says form (nat_eq op 0x1b) (nat_eq op 0x24) (nat_eq op 0x25) (nat_eq op 0x65) (nat_eq op 0xef)
+unfolding form_at info_at
+one_opcode op form e =
+    let is : form_of op ≡ form = form_known (name_in named op) op form e in
+    subst (λ (f : Form). Says f (nat_eq op 0x1b) (nat_eq op 0x24) (nat_eq op 0x25) (nat_eq op 0x65) (nat_eq op 0xef)) is
+    (form_says (is_in op one_operand) (is_in op two_operands) (is_in op branches) (nat_eq op 0x1b) (nat_eq op 0x24) (nat_eq op 0x25) (nat_eq op 0x65) (nat_eq op 0xef))
+
+number_is : (op n : ℕ) → nat_eq op n ≡ true → op ≡ n
+number_is op n h = grind (arith, nat_tests)
+
+-- ---- as many bytes, of which none is less
+
+signed_byte_least : (z : ℤ) (b : List ℕ) → signed_byte.spells z b → NoGreater (cast_unsigned w8 z ∷ []) b
+unfolding signed_byte u8
+signed_byte_least z b s =
+    let x = s.0 in
+    let is : cast_unsigned w8 z ≡ x % 256 = ap (cast_unsigned w8) s.2 ∙ of_z-to_z w8 (x % 256) (omega arith) in
+    rw s.1 (omega (arith, is), tt)
+
+two-canonical : IsCanonical (both u30 u30) (λ x. number_bytes x.0 ++ number_bytes x.1)
+two-canonical = both-canonical _ _ _ _ u30-canonical u30-canonical
+
+switch-canonical : IsCanonical switch_offsets (λ x. s24_bytes x.0 ++ (number_bytes x.1.0 ++ flat_map s24_bytes x.1.1))
+unfolding switch_offsets
+switch-canonical = both-canonical _ _ _ (λ y. number_bytes y.0 ++ flat_map s24_bytes y.1) s24-canonical (then-canonical _ _ number_bytes (λ n. flat_map s24_bytes) u30-canonical (λ n. times-canonical (n + 1) _ _ s24-canonical))
+
+short_least : (z : ℤ) (b : List ℕ) → signed_short.spells z b → length (number_bytes (cast_unsigned w16 z)) ≡ length b → NoGreater (number_bytes (cast_unsigned w16 z)) b
+unfolding signed_short
+short_least z b s len = short-canonical.least z b s len
+
+debug-canonical : IsCanonical (both u8 (both u30 (both u8 u30))) (λ x. (x.0 ∷ []) ++ (number_bytes x.1.0 ++ ((x.1.1.0 ∷ []) ++ number_bytes x.1.1.1)))
+debug-canonical =
+    both-canonical _ _ _ (λ y. number_bytes y.0 ++ ((y.1.0 ∷ []) ++ number_bytes y.1.1)) u8-canonical
+    (both-canonical _ _ _ (λ y. (y.0 ∷ []) ++ number_bytes y.1) u30-canonical (both-canonical _ _ _ _ u8-canonical u30-canonical))
+
+switch_many : (z : ℤ) (n : ℕ) (zs : List ℤ) (b : List ℕ) → switch_offsets.spells (z, (n, zs)) b → length zs ≡ n + 1
+unfolding switch_offsets
+switch_many z n zs b s = (s24s_three (n + 1) zs s.4.1 s.4.4).0
+
+-- pieces as long as their instructions: the first and the others
+filled_so : (ps : List (RawInstr × ℕ)) (here : ℕ) (x : RawInstr × ℕ) (xs : List (RawInstr × ℕ)) (b : List ℕ) (i : Instr) (is : List Instr)
+    → (s : Pieces instruction (x ∷ xs) b) → MeansAll ps here (x ∷ xs) (i ∷ is) → code_len (i ∷ is) ≡ length b → (instr_len i ≡ length s.0) × (code_len is ≡ length s.1)
+filled_so ps here x xs b i is s m len =
+    let one = (piece_can ps here (here + x.1) x.0 s.0 i s.3 m.0).1 in
+    let more = (all_can ps (here + x.1) xs s.1 is s.5 m.1).1 in
+    let all : instr_len i + code_len is ≡ length s.0 + length s.1 = len ∙ ap length s.2 ∙ length-append s.0 s.1 in
+    (omega (arith, one, more, all), omega (arith, one, more, all))
+
+-- an opcode, and operands of as many bytes
+led_by : (op : ℕ) (bytes operands b : List ℕ) → bytes ≡ op ∷ operands → length bytes ≡ suc (length b) → (length operands ≡ length b → NoGreater operands b) → NoGreater bytes (op ∷ b)
+led_by op bytes operands b e len k = rw e (omega arith, k (omega (arith, ap length e, len)))
+
+module _ (ps : List (RawInstr × ℕ)) (ss : List ℕ) (same : (t : ℕ) → t ≤ length ps → get_or ss t 0 ≡ start ps t) where
+  -- an offset that leads to a start is the one that counts to it
+  offset_is : (base : ℕ) (z : ℤ) (t : ℕ) → IsTarget ps base z t → offset ss base t ≡ z
+  offset_is base z t h = let e = same t h.within in let is = h.is in omega (arith, ints, e, is)
+
+  offsets_are : (base : ℕ) (zs : List ℤ) (ts : List ℕ) → AreTargets ps base zs ts → map (λ u. offset ss base u) ts ≡ zs
+  offsets_are base [] [] h = refl
+  offsets_are base [] (t ∷ ts) h = absurd h
+  offsets_are base (z ∷ zs) [] h = absurd h
+  offsets_are base (z ∷ zs) (t ∷ ts) h = rw (offset_is base z t h.0, offsets_are base zs ts h.1) refl
+
+  operands_least : (here next op : ℕ) (form : Form) (raw : RawInstr) (b : List ℕ) (i : Instr) → form_at op ≡ Some form → (operands op form).spells raw b → Means ps here next raw i
+      → length (instr_bytes ss here next i) ≡ suc (length b) → NoGreater (instr_bytes ss here next i) (op ∷ b)
+  unfolding u8
+  operands_least here next op forms.Plain raw b i f s m len =
+      let e : i ≡ instrs.Plain op = subst (λ (r : RawInstr). Means ps here next r i) s.0 m in
+      led_by op (instr_bytes ss here next i) [] b (ap (instr_bytes ss here next) e) len (λ l. rw s.1 tt)
+  operands_least here next op forms.One raw b i f s m len =
+      let e : i ≡ instrs.One op s.0 = subst (λ (r : RawInstr). Means ps here next r i) s.2 m in
+      led_by op (instr_bytes ss here next i) (number_bytes s.0) b (ap (instr_bytes ss here next) e) len (u30-canonical.least s.0 b s.1)
+  operands_least here next op forms.Two raw b i f s m len =
+      let e : i ≡ instrs.Two op s.0.0 s.0.1 = subst (λ (r : RawInstr). Means ps here next r i) s.2 m in
+      led_by op (instr_bytes ss here next i) (number_bytes s.0.0 ++ number_bytes s.0.1) b (ap (instr_bytes ss here next) e) len (two-canonical.least s.0 b s.1)
+  operands_least here next op forms.Branch raw b i f s m len =
+      let e : Means ps here next (Branch op s.0) i = subst (λ (r : RawInstr). Means ps here next r i) s.2 m in
+      let is : instr_bytes ss here next i ≡ op ∷ s24_bytes s.0 = ap (instr_bytes ss here next) e.2 ∙ ap (λ (z : ℤ). op ∷ s24_bytes z) (offset_is next s.0 e.0 e.1) in
+      led_by op (instr_bytes ss here next i) (s24_bytes s.0) b is len (s24-canonical.least s.0 b s.1)
+  operands_least here next op forms.Switch raw b i f s m len =
+      let x = s.0 in
+      let e : Means ps here next (Switch x.0 x.1.1) i = subst (λ (r : RawInstr). Means ps here next r i) s.2 m in
+      let code : 0x1b ≡ op = sym (number_is op 0x1b (one_opcode op forms.Switch f)) in
+      let many = switch_many x.0 x.1.0 x.1.1 b s.1 in
+      let count : length e.1 - 1 ≡ x.1.0 = let below = targets_below ps here x.1.1 e.1 e.3 in omega (arith, below.1, many) in
+      let default = offset_is here x.0 e.0 e.2 in
+      let cases : flat_map (λ u. s24_bytes (offset ss here u)) e.1 ≡ flat_map s24_bytes x.1.1 = sym (flat_map-map s24_bytes (λ u. offset ss here u) e.1) ∙ ap (flat_map s24_bytes) (offsets_are here x.1.1 e.1 e.3) in
+      let is : instr_bytes ss here next i ≡ op ∷ (s24_bytes x.0 ++ (number_bytes x.1.0 ++ flat_map s24_bytes x.1.1)) = ap (instr_bytes ss here next) e.4 ∙ rw (← code, default, count, cases) refl in
+      led_by op (instr_bytes ss here next i) (s24_bytes x.0 ++ (number_bytes x.1.0 ++ flat_map s24_bytes x.1.1)) b is len (switch-canonical.least x b s.1)
+  operands_least here next op forms.Byte raw b i f s m len =
+      let e : i ≡ instrs.Byte s.0 = subst (λ (r : RawInstr). Means ps here next r i) s.2 m in
+      let code : 0x24 ≡ op = sym (number_is op 0x24 (one_opcode op forms.Byte f)) in
+      led_by op (instr_bytes ss here next i) (cast_unsigned w8 s.0 ∷ []) b (ap (instr_bytes ss here next) e ∙ ap (λ (o : ℕ). o ∷ cast_unsigned w8 s.0 ∷ []) code) len (λ l. signed_byte_least s.0 b s.1)
+  operands_least here next op forms.Short raw b i f s m len =
+      let e : i ≡ instrs.Short s.0 = subst (λ (r : RawInstr). Means ps here next r i) s.2 m in
+      let code : 0x25 ≡ op = sym (number_is op 0x25 (one_opcode op forms.Short f)) in
+      led_by op (instr_bytes ss here next i) (number_bytes (cast_unsigned w16 s.0)) b (ap (instr_bytes ss here next) e ∙ ap (λ (o : ℕ). o ∷ number_bytes (cast_unsigned w16 s.0)) code) len (short_least s.0 b s.1)
+  operands_least here next op forms.ScopeObject raw b i f s m len =
+      let e : i ≡ instrs.ScopeObject s.0 = subst (λ (r : RawInstr). Means ps here next r i) s.2 m in
+      let code : 0x65 ≡ op = sym (number_is op 0x65 (one_opcode op forms.ScopeObject f)) in
+      led_by op (instr_bytes ss here next i) (s.0 ∷ []) b (ap (instr_bytes ss here next) e ∙ ap (λ (o : ℕ). o ∷ s.0 ∷ []) code) len (λ l. rw s.1 (omega arith, tt))
+  operands_least here next op forms.Debug raw b i f s m len =
+      let x = s.0 in
+      let e : i ≡ instrs.Debug x.0 x.1.0 x.1.1.0 x.1.1.1 = subst (λ (r : RawInstr). Means ps here next r i) s.2 m in
+      let code : 0xef ≡ op = sym (number_is op 0xef (one_opcode op forms.Debug f)) in
+      led_by op (instr_bytes ss here next i) (x.0 ∷ (number_bytes x.1.0 ++ x.1.1.0 ∷ number_bytes x.1.1.1)) b
+      (ap (instr_bytes ss here next) e ∙ ap (λ (o : ℕ). o ∷ (x.0 ∷ (number_bytes x.1.0 ++ x.1.1.0 ∷ number_bytes x.1.1.1))) code) len (debug-canonical.least x b s.1)
+
+  piece_least : (here next : ℕ) (raw : RawInstr) (b : List ℕ) (i : Instr) → instruction.spells raw b → Means ps here next raw i → length (instr_bytes ss here next i) ≡ length b
+      → NoGreater (instr_bytes ss here next i) b
+  unfolding instruction opcode u8
+  piece_least here next raw b i s m len =
+      let o = s.0.0 in
+      let t = s.1 in
+      let c = t.3 in
+      let op : o.0 ≡ c.0 = ap (λ (p : ℕ × Form). p.0) c.2 in
+      let form : o.1 ≡ unwrap_or (form_at c.0) forms.Plain = ap (λ (p : ℕ × Form). p.1) c.2 in
+      let found : form_at o.0 ≡ Some o.1 = rw (op, form) (known (form_at c.0) c.1.1) in
+      let means : Means ps here next s.0.1 i = subst (λ (r : RawInstr). Means ps here next r i) s.2 m in
+      let is : o.0 ∷ t.1 ≡ b = sym (t.2 ∙ rw (c.1.0, op) refl) in
+      subst (NoGreater (instr_bytes ss here next i)) is (operands_least here next o.0 o.1 s.0.1 t.1 i found t.4 means (len ∙ ap length (sym is)))
+
+  all_least : (here : ℕ) (xs : List (RawInstr × ℕ)) (b : List ℕ) (is : List Instr) → Pieces instruction xs b → MeansAll ps here xs is → code_len is ≡ length b → NoGreater (instrs_bytes ss here is) b
+  all_least here [] b [] s m len = rw s tt
+  all_least here [] b (i ∷ is) s m len = absurd m
+  all_least here (x ∷ xs) b [] s m len = absurd m
+  all_least here (x ∷ xs) b (i ∷ is) s m len =
+      let h = filled_so ps here x xs b i is s m len in
+      let next = here + instr_len i in
+      let at : here + x.1 ≡ next = omega (arith, h.0, s.4) in
+      let one = piece_least here next x.0 s.0 i s.3 (subst (λ (n : ℕ). Means ps here n x.0 i) at m.0) (bytes_len ss here next i ∙ h.0) in
+      let more = all_least next xs s.1 is s.5 (subst (λ (n : ℕ). MeansAll ps n xs is) at m.1) h.1 in
+      rw s.2 (no_greater_append (instr_bytes ss here next i) (instrs_bytes ss next is) s.0 s.1 one more)
+
+same_starts : (ps : List (RawInstr × ℕ)) (here at : ℕ) (xs : List (RawInstr × ℕ)) (b : List ℕ) (is : List Instr) → Pieces instruction xs b → MeansAll ps here xs is → code_len is ≡ length b
+    → starts at xs ≡ starts at (sized is)
+same_starts ps here at [] b [] s m len = refl
+same_starts ps here at [] b (i ∷ is) s m len = absurd m
+same_starts ps here at (x ∷ xs) b [] s m len = absurd m
+same_starts ps here at (x ∷ xs) b (i ∷ is) s m len =
+    let h = filled_so ps here x xs b i is s m len in
+    let next : x.1 ≡ instr_len i = s.4 ∙ sym h.0 in
+    let more = same_starts ps (here + x.1) (at + x.1) xs s.1 is s.5 m.1 h.1 in
+    ap (λ (l : List ℕ). at ∷ l) (more ∙ ap (λ (n : ℕ). starts (at + n) (sized is)) next)
+
+-- code that fills no more bytes than its canonical bytes has its starts where they have them
+pub offsets_canonical : (c : Code) (b : List ℕ) → SpellsCode c b → code_len c.instrs ≡ length b → c.offsets ≡ canonical_starts c.instrs
+unfolding canonical_starts
+offsets_canonical c b s len = starts_same s.pieces c.offsets s.offsets ∙ same_starts s.pieces 0 0 s.pieces b c.instrs s.filled s.means len
+
+body_least : (c : Code) (b : List ℕ) → SpellsCode c b → code_len c.instrs ≡ length b → NoGreater (instrs_bytes (canonical_starts c.instrs) 0 c.instrs) b
+unfolding canonical_starts
+body_least c b s len =
+    let eq : starts 0 s.pieces ≡ starts 0 (sized c.instrs) = same_starts s.pieces 0 0 s.pieces b c.instrs s.filled s.means len in
+    all_least s.pieces (starts 0 (sized c.instrs)) (λ t le. ap (λ (l : List ℕ). get_or l t 0) (sym eq) ∙ starts_from s.pieces t le) 0 s.pieces b c.instrs s.filled s.means len
+
 -- ---- the whole
 
 pub canonical_body : (is : List Instr) → AllCanSpell (length is) is → code_len is < 2 ^ 23 → SpellsCode (record { instrs = is; offsets = canonical_starts is }) (instrs_bytes (canonical_starts is) 0 is)
@@ -356,11 +548,12 @@ code_can c b s =
     let h = all_can s.pieces 0 s.pieces b c.instrs s.filled s.means in
     (subst (λ (n : ℕ). AllCanSpell n c.instrs) (sym h.2) h.0, h.1)
 
-record Best (is : List Instr) (long : ℕ) : Type 0 where
+record Best (is : List Instr) (b : List ℕ) : Type 0 where
   spelled : code_listing.spells is (code_bytes is)
-  short : length (code_bytes is) ≤ long
+  short : length (code_bytes is) ≤ length b
+  least : length (code_bytes is) ≡ length b → NoGreater (code_bytes is) b
 
-best : (n : ℕ) (d : Code) (b1 b2 : List ℕ) → code_length.spells n b1 → SpellsCode d b2 → length b2 ≡ n → Best d.instrs (length b1 + length b2)
+best : (n : ℕ) (d : Code) (b1 b2 : List ℕ) → code_length.spells n b1 → SpellsCode d b2 → length b2 ≡ n → Best d.instrs (b1 ++ b2)
 unfolding code_listing code code_body code_bytes code_length
 best n d b1 b2 l s len =
     let is = d.instrs in
@@ -372,20 +565,26 @@ best n d b1 b2 l s len =
     let number : code_length.spells (code_len is) (number_bytes (code_len is)) = (u30_fits (code_len is) (omega arith), lt-ltb (code_len is) (2 ^ 23) less) in
     record {
       spelled = (made, ((code_len is, made), (number_bytes (code_len is), bytes, refl, number, (canonical_body is can.0 less, bytes_all (canonical_starts is) 0 is)), refl), refl);
-      short = omega (arith, bytes_all (canonical_starts is) 0 is, length-append (number_bytes (code_len is)) bytes, can.1, len, number_grows (code_len is) n (omega (arith, can.1, len)), u30-canonical.shortest n b1 l.0);
+      short = omega (arith, bytes_all (canonical_starts is) 0 is, length-append (number_bytes (code_len is)) bytes, length-append b1 b2, can.1, len, number_grows (code_len is) n (omega (arith, can.1, len)), u30-canonical.shortest n b1 l.0);
+      least = λ long.
+          let first : length (number_bytes (code_len is)) ≤ length b1 = omega (arith, number_grows (code_len is) n (omega (arith, can.1, len)), u30-canonical.shortest n b1 l.0) in
+          let second : length bytes ≤ length b2 = omega (arith, bytes_all (canonical_starts is) 0 is, can.1) in
+          let h = halves (number_bytes (code_len is)) bytes b1 b2 first second long in
+          let full : code_len is ≡ length b2 = sym (bytes_all (canonical_starts is) 0 is) ∙ h.1 in
+          let count : u30.spells (code_len is) b1 = subst (λ (m : ℕ). u30.spells m b1) (sym (full ∙ len)) l.0 in
+          no_greater_append (number_bytes (code_len is)) bytes b1 b2 (u30-canonical.least (code_len is) b1 count h.0) (body_least d b2 s full);
     }
 
-listing_best : (is : List Instr) (b : List ℕ) → code_listing.spells is b → Best is (length b)
+listing_best : (is : List Instr) (b : List ℕ) → code_listing.spells is b → Best is b
 unfolding code_listing code code_body
 listing_best is b s =
     let c = s.1 in
     let t = c.1 in
     let same : c.0.1.instrs ≡ is = sym (s.2 ∙ ap (λ (d : Code). d.instrs) c.2) in
-    let long : length t.0 + length t.1 ≡ length b = sym (ap length t.2 ∙ length-append t.0 t.1) in
-    subst (λ (js : List Instr). Best js (length b)) same (subst (λ (m : ℕ). Best c.0.1.instrs m) long (best c.0.0 c.0.1 t.0 t.1 t.3 t.4.0 t.4.1))
+    subst (λ (js : List Instr). Best js b) same (subst (Best c.0.1.instrs) (sym t.2) (best c.0.0 c.0.1 t.0 t.1 t.3 t.4.0 t.4.1))
 
 pub code_listing-canonical : IsCanonical code_listing code_bytes
-code_listing-canonical = record { spelled = λ is b s. (listing_best is b s).spelled; shortest = λ is b s. (listing_best is b s).short }
+code_listing-canonical = record { spelled = λ is b s. (listing_best is b s).spelled; shortest = λ is b s. (listing_best is b s).short; least = λ is b s len. (listing_best is b s).least len }
 
 listing_ready_from : (n : ℕ) (d : Code) (b1 b2 : List ℕ) → code_length.spells n b1 → SpellsCode d b2 → length b2 ≡ n → IsReady d.instrs
 unfolding code_length

@@ -2,6 +2,7 @@ pub mod Exact
 pub mod Numbers
 pub mod Within
 pub mod BadPieces
+pub mod Lesser
 pub mod Canon
 pub mod Least
 pub mod Determined

@@ -199,6 +199,11 @@ trait_kind-canonical = record {
       let low : nat_le (kind_byte k % 16) 6 ≡ true = rw (kind_byte_low (k.1 % 16) k.0) (trait_code_low k.0) in
       (kind_byte k, (refl, low), back);
   shortest = λ k b s. rw s.1.0 (omega arith);
+  least = λ k b s len.
+      let x = s.0 in
+      let low = trait_code_back (x % 16) s.1.1 in
+      let is : kind_byte k ≡ 16 * (x / 16 % 16) + x % 16 = rw (s.2, low) (omega arith) in
+      rw s.1.0 (omega (arith, is), tt);
 }
 
 slot_bytes_by : (zero_test : Bool) (n : ℕ) (kind : ValueKind) → (zero_test ≡ true → n ≡ 0)

@@ -6,17 +6,18 @@ use Rattle.std.proofs.lemmas.Bool.Decides.{nat_tests}
 use Rattle.abc_file_types.specs.declared.reason.Reason.TheVariants as reasons
 use Rattle.abc_file_types.specs.Part.{Part, At, at, limit, Front, Refusal, refusal, Begins}
 use Rattle.abc_file_types.specs.Law.{Exact, IsDetermined}
-use Rattle.abc_file_types.specs.Canonical.{IsCanonical, u16_bytes}
+use Rattle.abc_file_types.specs.Canonical.{IsCanonical, IsLeast, u16_bytes}
 use Rattle.abc_file_types.proofs.Exact.{image-exact, both-exact, checked-exact, then-exact}
 use Rattle.abc_file_types.proofs.Numbers.{u16-exact}
 use Rattle.abc_file_types.proofs.Canon.{image-canonical, both-canonical, checked-canonical, then-canonical}
 use Rattle.abc_file_types.proofs.Fixed.{u16-canonical}
+use Rattle.abc_file_types.proofs.Lesser.{no_greater_same}
 use Rattle.abc_file_types.proofs.Determined.{determined}
 use Rattle.abc_file_types.specs.declared.tables.Abc.{Abc}
 use Rattle.abc_file_types.specs.Pools.{pools_bytes}
 use Rattle.abc_file_types.specs.Classes.{definitions, definitions_bytes}
 use Rattle.abc_file_types.specs.Bodies.{IsReadyBody, bodies, bodies_alone, bodies_bytes}
-use Rattle.abc_file_types.specs.Files.{version, version_bytes, last_of, file, file_read, file_bytes, IsFile, IsFileRead, IsBadFile, IsDecided}
+use Rattle.abc_file_types.specs.Files.{version, version_bytes, last_of, file, file_read, file_bytes, Fits, IsFile, IsFileRead, IsBadFile, IsDecided}
 use Rattle.abc_file_types.proofs.BodiesExact.{bodies-exact}
 use Rattle.abc_file_types.proofs.BodiesReady.{bodies_ready}
 use Rattle.abc_file_types.proofs.BodiesShortest.{again, bodies-shortens, bodies_alone-canonical}
@@ -188,6 +189,21 @@ canonical_file v b f =
     let spelled = file-canonical.spelled v b f.0 in
     let shortest = file-canonical.shortest v b f.0 in
     ((spelled, omega (arith, shortest, f.1)), shortest)
+
+-- they are the least spelling, and no other bytes are
+pub canonical_least : (v : Abc) (b : List ℕ) → Fits v → b ≡ file_bytes v → IsLeast file v b
+canonical_least v b f e = subst (IsLeast file v) (sym e) (record {
+  spelled = file-canonical.spelled v f.0 (f.1).0;
+  shortest = λ c s. file-canonical.shortest v c s;
+  least = λ c s len. file-canonical.least v c s len;
+})
+
+pub least_only : (v : Abc) (b : List ℕ) → Fits v → IsLeast file v b → b ≡ file_bytes v
+least_only v b f l =
+    let made = canonical_least v (file_bytes v) f refl in
+    let one = l.shortest (file_bytes v) made.spelled in
+    let two = made.shortest b l.spelled in
+    no_greater_same b (file_bytes v) (l.least (file_bytes v) made.spelled (omega (arith, one, two))) (made.least b l.spelled (omega (arith, one, two)))
 
 -- they are read as the file, with the starts of its canonical code
 pub canonical_read : (v : Abc) (b : List ℕ) → IsFile v b → IsFileRead (again (v, [])) (file_bytes v)

@@ -1,14 +1,29 @@
 -- The canonical bytes of each value: its shortest spelling.
-use Rattle.std.specs.Prelude.{ℤ, pos, negsuc, ◌≤ℤ◌, ◌<ℤ◌, ◌-◌, ◌+◌, ◌^◌, ℕ, suc, ◌%◌, ◌/◌, ◌≤◌, List, [], ◌∷◌, ◌++◌, length}
+use Rattle.std.specs.Prelude.{◌≡◌, ℤ, pos, negsuc, ◌≤ℤ◌, ◌<ℤ◌, ◌-◌, ◌+◌, ◌^◌, ℕ, suc, ◌%◌, ◌/◌, ◌≤◌, List, [], ◌∷◌, ◌++◌, length}
 use Rattle.std.specs.Int.{w32, cast_unsigned}
 use Rattle.std.specs.List.{flat_map}
 use Rattle.abc_base.specs.Numbers.{number_bytes}
 use Rattle.abc_file_types.specs.Part.{Part}
 
--- What f gives is a spelling where there is one, and none is shorter.
+-- As many bytes, and none is greater than that in its place.
+abbrev pub NoGreater : List ℕ → List ℕ → Type 0
+NoGreater [] [] = Unit {0}
+NoGreater [] (y ∷ c) = ⊥
+NoGreater (x ∷ b) [] = ⊥
+NoGreater (x ∷ b) (y ∷ c) = (x ≤ y) × NoGreater b c
+
+-- The canonical bytes of a value, as a relation: of its spellings none is shorter, and of those as short none has a lesser
+-- byte in any place. So each number has the fewest bytes, and no bit that says nothing: an s32 is its 32 bits, unsigned.
+pub record IsLeast {A : Type 0} (p : Part A) (x : A) (b : List ℕ) : Type 0 where
+  pub spelled : p.spells x b
+  pub shortest : (c : List ℕ) → p.spells x c → length b ≤ length c
+  pub least : (c : List ℕ) → p.spells x c → length b ≡ length c → NoGreater b c
+
+-- What f gives are the canonical bytes, where there is a spelling.
 pub record IsCanonical {A : Type 0} (p : Part A) (f : A → List ℕ) : Type 0 where
   pub spelled : (x : A) (b : List ℕ) → p.spells x b → p.spells x (f x)
   pub shortest : (x : A) (b : List ℕ) → p.spells x b → length (f x) ≤ length b
+  pub least : (x : A) (b : List ℕ) → p.spells x b → length (f x) ≡ length b → NoGreater (f x) b
 
 -- an s32 is its 32 bits, unsigned
 unfoldable pub s32_bytes : ℤ → List ℕ

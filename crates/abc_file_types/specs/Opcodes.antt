@@ -6,56 +6,57 @@ use Rattle.abc_file_types.specs.declared.opcodes.Form.TheVariants as forms
 use Rattle.abc_file_types.specs.declared.opcodes.Pool.{Pool}
 use Rattle.abc_file_types.specs.declared.opcodes.Pool.TheVariants as pools
 use Rattle.abc_file_types.specs.declared.opcodes.OpInfo.{OpInfo}
+use Rattle.abc_file_types.specs.declared.op.TheConstants as op
 
 -- every opcode that an instruction has, and the instruction's name
 abbrev pub named : List (ℕ × List ℕ)
 named =
-    (0x02, codes "nop") ∷ (0x03, codes "throw") ∷ (0x04, codes "getsuper") ∷ (0x05, codes "setsuper") ∷ (0x06, codes "dxns") ∷
-    (0x07, codes "dxnslate") ∷ (0x08, codes "kill") ∷ (0x09, codes "label") ∷ (0x0c, codes "ifnlt") ∷ (0x0d, codes "ifnle") ∷ (0x0e, codes "ifngt") ∷
-    (0x0f, codes "ifnge") ∷ (0x10, codes "jump") ∷ (0x11, codes "iftrue") ∷ (0x12, codes "iffalse") ∷ (0x13, codes "ifeq") ∷ (0x14, codes "ifne") ∷
-    (0x15, codes "iflt") ∷ (0x16, codes "ifle") ∷ (0x17, codes "ifgt") ∷ (0x18, codes "ifge") ∷ (0x19, codes "ifstricteq") ∷
-    (0x1a, codes "ifstrictne") ∷ (0x1b, codes "lookupswitch") ∷ (0x1c, codes "pushwith") ∷ (0x1d, codes "popscope") ∷ (0x1e, codes "nextname") ∷
-    (0x1f, codes "hasnext") ∷ (0x20, codes "pushnull") ∷ (0x21, codes "pushundefined") ∷ (0x23, codes "nextvalue") ∷ (0x24, codes "pushbyte") ∷
-    (0x25, codes "pushshort") ∷ (0x26, codes "pushtrue") ∷ (0x27, codes "pushfalse") ∷ (0x28, codes "pushnan") ∷ (0x29, codes "pop") ∷
-    (0x2a, codes "dup") ∷ (0x2b, codes "swap") ∷ (0x2c, codes "pushstring") ∷ (0x2d, codes "pushint") ∷ (0x2e, codes "pushuint") ∷
-    (0x2f, codes "pushdouble") ∷ (0x30, codes "pushscope") ∷ (0x31, codes "pushnamespace") ∷ (0x32, codes "hasnext2") ∷ (0x40, codes "newfunction") ∷
-    (0x41, codes "call") ∷ (0x42, codes "construct") ∷ (0x43, codes "callmethod") ∷ (0x44, codes "callstatic") ∷ (0x45, codes "callsuper") ∷
-    (0x46, codes "callproperty") ∷ (0x47, codes "returnvoid") ∷ (0x48, codes "returnvalue") ∷ (0x49, codes "constructsuper") ∷
-    (0x4a, codes "constructprop") ∷ (0x4c, codes "callproplex") ∷ (0x4e, codes "callsupervoid") ∷ (0x4f, codes "callpropvoid") ∷
-    (0x53, codes "applytype") ∷ (0x55, codes "newobject") ∷ (0x56, codes "newarray") ∷ (0x57, codes "newactivation") ∷ (0x58, codes "newclass") ∷
-    (0x59, codes "getdescendants") ∷ (0x5a, codes "newcatch") ∷ (0x5d, codes "findpropstrict") ∷ (0x5e, codes "findproperty") ∷
-    (0x60, codes "getlex") ∷ (0x61, codes "setproperty") ∷ (0x62, codes "getlocal") ∷ (0x63, codes "setlocal") ∷ (0x64, codes "getglobalscope") ∷
-    (0x65, codes "getscopeobject") ∷ (0x66, codes "getproperty") ∷ (0x68, codes "initproperty") ∷ (0x6a, codes "deleteproperty") ∷
-    (0x6c, codes "getslot") ∷ (0x6d, codes "setslot") ∷ (0x6e, codes "getglobalslot") ∷ (0x6f, codes "setglobalslot") ∷ (0x70, codes "convert_s") ∷
-    (0x71, codes "esc_xelem") ∷ (0x72, codes "esc_xattr") ∷ (0x73, codes "convert_i") ∷ (0x74, codes "convert_u") ∷ (0x75, codes "convert_d") ∷
-    (0x76, codes "convert_b") ∷ (0x77, codes "convert_o") ∷ (0x78, codes "checkfilter") ∷ (0x80, codes "coerce") ∷ (0x82, codes "coerce_a") ∷
-    (0x85, codes "coerce_s") ∷ (0x86, codes "astype") ∷ (0x87, codes "astypelate") ∷ (0x90, codes "negate") ∷ (0x91, codes "increment") ∷
-    (0x92, codes "inclocal") ∷ (0x93, codes "decrement") ∷ (0x94, codes "declocal") ∷ (0x95, codes "typeof") ∷ (0x96, codes "not") ∷
-    (0x97, codes "bitnot") ∷ (0xa0, codes "add") ∷ (0xa1, codes "subtract") ∷ (0xa2, codes "multiply") ∷ (0xa3, codes "divide") ∷
-    (0xa4, codes "modulo") ∷ (0xa5, codes "lshift") ∷ (0xa6, codes "rshift") ∷ (0xa7, codes "urshift") ∷ (0xa8, codes "bitand") ∷
-    (0xa9, codes "bitor") ∷ (0xaa, codes "bitxor") ∷ (0xab, codes "equals") ∷ (0xac, codes "strictequals") ∷ (0xad, codes "lessthan") ∷
-    (0xae, codes "lessequals") ∷ (0xaf, codes "greaterthan") ∷ (0xb0, codes "greaterequals") ∷ (0xb1, codes "instanceof") ∷ (0xb2, codes "istype") ∷
-    (0xb3, codes "istypelate") ∷ (0xb4, codes "in") ∷ (0xc0, codes "increment_i") ∷ (0xc1, codes "decrement_i") ∷ (0xc2, codes "inclocal_i") ∷
-    (0xc3, codes "declocal_i") ∷ (0xc4, codes "negate_i") ∷ (0xc5, codes "add_i") ∷ (0xc6, codes "subtract_i") ∷ (0xc7, codes "multiply_i") ∷
-    (0xd0, codes "getlocal_0") ∷ (0xd1, codes "getlocal_1") ∷ (0xd2, codes "getlocal_2") ∷ (0xd3, codes "getlocal_3") ∷ (0xd4, codes "setlocal_0") ∷
-    (0xd5, codes "setlocal_1") ∷ (0xd6, codes "setlocal_2") ∷ (0xd7, codes "setlocal_3") ∷ (0xef, codes "debug") ∷ (0xf0, codes "debugline") ∷
-    (0xf1, codes "debugfile") ∷ []
+    (op.NOP, codes "nop") ∷ (op.THROW, codes "throw") ∷ (op.GETSUPER, codes "getsuper") ∷ (op.SETSUPER, codes "setsuper") ∷ (op.DXNS, codes "dxns") ∷
+    (op.DXNSLATE, codes "dxnslate") ∷ (op.KILL, codes "kill") ∷ (op.LABEL, codes "label") ∷ (op.IFNLT, codes "ifnlt") ∷ (op.IFNLE, codes "ifnle") ∷ (op.IFNGT, codes "ifngt") ∷
+    (op.IFNGE, codes "ifnge") ∷ (op.JUMP, codes "jump") ∷ (op.IFTRUE, codes "iftrue") ∷ (op.IFFALSE, codes "iffalse") ∷ (op.IFEQ, codes "ifeq") ∷ (op.IFNE, codes "ifne") ∷
+    (op.IFLT, codes "iflt") ∷ (op.IFLE, codes "ifle") ∷ (op.IFGT, codes "ifgt") ∷ (op.IFGE, codes "ifge") ∷ (op.IFSTRICTEQ, codes "ifstricteq") ∷
+    (op.IFSTRICTNE, codes "ifstrictne") ∷ (op.LOOKUPSWITCH, codes "lookupswitch") ∷ (op.PUSHWITH, codes "pushwith") ∷ (op.POPSCOPE, codes "popscope") ∷ (op.NEXTNAME, codes "nextname") ∷
+    (op.HASNEXT, codes "hasnext") ∷ (op.PUSHNULL, codes "pushnull") ∷ (op.PUSHUNDEFINED, codes "pushundefined") ∷ (op.NEXTVALUE, codes "nextvalue") ∷ (op.PUSHBYTE, codes "pushbyte") ∷
+    (op.PUSHSHORT, codes "pushshort") ∷ (op.PUSHTRUE, codes "pushtrue") ∷ (op.PUSHFALSE, codes "pushfalse") ∷ (op.PUSHNAN, codes "pushnan") ∷ (op.POP, codes "pop") ∷
+    (op.DUP, codes "dup") ∷ (op.SWAP, codes "swap") ∷ (op.PUSHSTRING, codes "pushstring") ∷ (op.PUSHINT, codes "pushint") ∷ (op.PUSHUINT, codes "pushuint") ∷
+    (op.PUSHDOUBLE, codes "pushdouble") ∷ (op.PUSHSCOPE, codes "pushscope") ∷ (op.PUSHNAMESPACE, codes "pushnamespace") ∷ (op.HASNEXT2, codes "hasnext2") ∷ (op.NEWFUNCTION, codes "newfunction") ∷
+    (op.CALL, codes "call") ∷ (op.CONSTRUCT, codes "construct") ∷ (op.CALLMETHOD, codes "callmethod") ∷ (op.CALLSTATIC, codes "callstatic") ∷ (op.CALLSUPER, codes "callsuper") ∷
+    (op.CALLPROPERTY, codes "callproperty") ∷ (op.RETURNVOID, codes "returnvoid") ∷ (op.RETURNVALUE, codes "returnvalue") ∷ (op.CONSTRUCTSUPER, codes "constructsuper") ∷
+    (op.CONSTRUCTPROP, codes "constructprop") ∷ (op.CALLPROPLEX, codes "callproplex") ∷ (op.CALLSUPERVOID, codes "callsupervoid") ∷ (op.CALLPROPVOID, codes "callpropvoid") ∷
+    (op.APPLYTYPE, codes "applytype") ∷ (op.NEWOBJECT, codes "newobject") ∷ (op.NEWARRAY, codes "newarray") ∷ (op.NEWACTIVATION, codes "newactivation") ∷ (op.NEWCLASS, codes "newclass") ∷
+    (op.GETDESCENDANTS, codes "getdescendants") ∷ (op.NEWCATCH, codes "newcatch") ∷ (op.FINDPROPSTRICT, codes "findpropstrict") ∷ (op.FINDPROPERTY, codes "findproperty") ∷
+    (op.GETLEX, codes "getlex") ∷ (op.SETPROPERTY, codes "setproperty") ∷ (op.GETLOCAL, codes "getlocal") ∷ (op.SETLOCAL, codes "setlocal") ∷ (op.GETGLOBALSCOPE, codes "getglobalscope") ∷
+    (op.GETSCOPEOBJECT, codes "getscopeobject") ∷ (op.GETPROPERTY, codes "getproperty") ∷ (op.INITPROPERTY, codes "initproperty") ∷ (op.DELETEPROPERTY, codes "deleteproperty") ∷
+    (op.GETSLOT, codes "getslot") ∷ (op.SETSLOT, codes "setslot") ∷ (op.GETGLOBALSLOT, codes "getglobalslot") ∷ (op.SETGLOBALSLOT, codes "setglobalslot") ∷ (op.CONVERT_S, codes "convert_s") ∷
+    (op.ESC_XELEM, codes "esc_xelem") ∷ (op.ESC_XATTR, codes "esc_xattr") ∷ (op.CONVERT_I, codes "convert_i") ∷ (op.CONVERT_U, codes "convert_u") ∷ (op.CONVERT_D, codes "convert_d") ∷
+    (op.CONVERT_B, codes "convert_b") ∷ (op.CONVERT_O, codes "convert_o") ∷ (op.CHECKFILTER, codes "checkfilter") ∷ (op.COERCE, codes "coerce") ∷ (op.COERCE_A, codes "coerce_a") ∷
+    (op.COERCE_S, codes "coerce_s") ∷ (op.ASTYPE, codes "astype") ∷ (op.ASTYPELATE, codes "astypelate") ∷ (op.NEGATE, codes "negate") ∷ (op.INCREMENT, codes "increment") ∷
+    (op.INCLOCAL, codes "inclocal") ∷ (op.DECREMENT, codes "decrement") ∷ (op.DECLOCAL, codes "declocal") ∷ (op.TYPEOF, codes "typeof") ∷ (op.NOT, codes "not") ∷
+    (op.BITNOT, codes "bitnot") ∷ (op.ADD, codes "add") ∷ (op.SUBTRACT, codes "subtract") ∷ (op.MULTIPLY, codes "multiply") ∷ (op.DIVIDE, codes "divide") ∷
+    (op.MODULO, codes "modulo") ∷ (op.LSHIFT, codes "lshift") ∷ (op.RSHIFT, codes "rshift") ∷ (op.URSHIFT, codes "urshift") ∷ (op.BITAND, codes "bitand") ∷
+    (op.BITOR, codes "bitor") ∷ (op.BITXOR, codes "bitxor") ∷ (op.EQUALS, codes "equals") ∷ (op.STRICTEQUALS, codes "strictequals") ∷ (op.LESSTHAN, codes "lessthan") ∷
+    (op.LESSEQUALS, codes "lessequals") ∷ (op.GREATERTHAN, codes "greaterthan") ∷ (op.GREATEREQUALS, codes "greaterequals") ∷ (op.INSTANCEOF, codes "instanceof") ∷ (op.ISTYPE, codes "istype") ∷
+    (op.ISTYPELATE, codes "istypelate") ∷ (op.IN, codes "in") ∷ (op.INCREMENT_I, codes "increment_i") ∷ (op.DECREMENT_I, codes "decrement_i") ∷ (op.INCLOCAL_I, codes "inclocal_i") ∷
+    (op.DECLOCAL_I, codes "declocal_i") ∷ (op.NEGATE_I, codes "negate_i") ∷ (op.ADD_I, codes "add_i") ∷ (op.SUBTRACT_I, codes "subtract_i") ∷ (op.MULTIPLY_I, codes "multiply_i") ∷
+    (op.GETLOCAL_0, codes "getlocal_0") ∷ (op.GETLOCAL_1, codes "getlocal_1") ∷ (op.GETLOCAL_2, codes "getlocal_2") ∷ (op.GETLOCAL_3, codes "getlocal_3") ∷ (op.SETLOCAL_0, codes "setlocal_0") ∷
+    (op.SETLOCAL_1, codes "setlocal_1") ∷ (op.SETLOCAL_2, codes "setlocal_2") ∷ (op.SETLOCAL_3, codes "setlocal_3") ∷ (op.DEBUG, codes "debug") ∷ (op.DEBUGLINE, codes "debugline") ∷
+    (op.DEBUGFILE, codes "debugfile") ∷ []
 
 -- ---- what follows the opcode
 
 -- one number below 2^30
 abbrev pub one_operand : List ℕ
 one_operand =
-    0x04 ∷ 0x05 ∷ 0x06 ∷ 0x08 ∷ 0x2c ∷ 0x2d ∷ 0x2e ∷ 0x2f ∷ 0x31 ∷ 0x40 ∷ 0x41 ∷ 0x42 ∷ 0x49 ∷ 0x53 ∷ 0x55 ∷ 0x56 ∷ 0x58 ∷ 0x59 ∷ 0x5a ∷ 0x5d ∷ 0x5e ∷
-    0x60 ∷ 0x61 ∷ 0x62 ∷ 0x63 ∷ 0x66 ∷ 0x68 ∷ 0x6a ∷ 0x6c ∷ 0x6d ∷ 0x6e ∷ 0x6f ∷ 0x80 ∷ 0x86 ∷ 0x92 ∷ 0x94 ∷ 0xb2 ∷ 0xc2 ∷ 0xc3 ∷ 0xf0 ∷ 0xf1 ∷ []
+    op.GETSUPER ∷ op.SETSUPER ∷ op.DXNS ∷ op.KILL ∷ op.PUSHSTRING ∷ op.PUSHINT ∷ op.PUSHUINT ∷ op.PUSHDOUBLE ∷ op.PUSHNAMESPACE ∷ op.NEWFUNCTION ∷ op.CALL ∷ op.CONSTRUCT ∷ op.CONSTRUCTSUPER ∷ op.APPLYTYPE ∷ op.NEWOBJECT ∷ op.NEWARRAY ∷ op.NEWCLASS ∷ op.GETDESCENDANTS ∷ op.NEWCATCH ∷ op.FINDPROPSTRICT ∷ op.FINDPROPERTY ∷
+    op.GETLEX ∷ op.SETPROPERTY ∷ op.GETLOCAL ∷ op.SETLOCAL ∷ op.GETPROPERTY ∷ op.INITPROPERTY ∷ op.DELETEPROPERTY ∷ op.GETSLOT ∷ op.SETSLOT ∷ op.GETGLOBALSLOT ∷ op.SETGLOBALSLOT ∷ op.COERCE ∷ op.ASTYPE ∷ op.INCLOCAL ∷ op.DECLOCAL ∷ op.ISTYPE ∷ op.INCLOCAL_I ∷ op.DECLOCAL_I ∷ op.DEBUGLINE ∷ op.DEBUGFILE ∷ []
 
 -- two numbers below 2^30
 abbrev pub two_operands : List ℕ
-two_operands = 0x32 ∷ 0x43 ∷ 0x44 ∷ 0x45 ∷ 0x46 ∷ 0x4a ∷ 0x4c ∷ 0x4e ∷ 0x4f ∷ []
+two_operands = op.HASNEXT2 ∷ op.CALLMETHOD ∷ op.CALLSTATIC ∷ op.CALLSUPER ∷ op.CALLPROPERTY ∷ op.CONSTRUCTPROP ∷ op.CALLPROPLEX ∷ op.CALLSUPERVOID ∷ op.CALLPROPVOID ∷ []
 
 -- an offset of a branch
 abbrev pub branches : List ℕ
-branches = 0x0c ∷ 0x0d ∷ 0x0e ∷ 0x0f ∷ 0x10 ∷ 0x11 ∷ 0x12 ∷ 0x13 ∷ 0x14 ∷ 0x15 ∷ 0x16 ∷ 0x17 ∷ 0x18 ∷ 0x19 ∷ 0x1a ∷ []
+branches = op.IFNLT ∷ op.IFNLE ∷ op.IFNGT ∷ op.IFNGE ∷ op.JUMP ∷ op.IFTRUE ∷ op.IFFALSE ∷ op.IFEQ ∷ op.IFNE ∷ op.IFLT ∷ op.IFLE ∷ op.IFGT ∷ op.IFGE ∷ op.IFSTRICTEQ ∷ op.IFSTRICTNE ∷ []
 
 abbrev pub is_in : ℕ → List ℕ → Bool
 is_in op [] = false
@@ -63,33 +64,33 @@ is_in op (x ∷ xs) = nat_eq op x || is_in op xs
 
 -- of an opcode that an instruction has; after all others nothing follows
 abbrev pub form_of : ℕ → Form
-form_of op =
-    if is_in op one_operand then forms.One
-    else if is_in op two_operands then forms.Two
-    else if is_in op branches then forms.Branch
-    else if nat_eq op 0x1b then forms.Switch
-    else if nat_eq op 0x24 then forms.Byte
-    else if nat_eq op 0x25 then forms.Short
-    else if nat_eq op 0x65 then forms.ScopeObject
-    else if nat_eq op 0xef then forms.Debug
+form_of code =
+    if is_in code one_operand then forms.One
+    else if is_in code two_operands then forms.Two
+    else if is_in code branches then forms.Branch
+    else if nat_eq code op.LOOKUPSWITCH then forms.Switch
+    else if nat_eq code op.PUSHBYTE then forms.Byte
+    else if nat_eq code op.PUSHSHORT then forms.Short
+    else if nat_eq code op.GETSCOPEOBJECT then forms.ScopeObject
+    else if nat_eq code op.DEBUG then forms.Debug
     else forms.Plain
 
 -- ---- the pool that the first operand names, and of debug the second
 
 abbrev pub names_text : List ℕ
-names_text = 0x06 ∷ 0x2c ∷ 0xef ∷ 0xf1 ∷ []
+names_text = op.DXNS ∷ op.PUSHSTRING ∷ op.DEBUG ∷ op.DEBUGFILE ∷ []
 
 abbrev pub names_multiname : List ℕ
-names_multiname = 0x04 ∷ 0x05 ∷ 0x45 ∷ 0x46 ∷ 0x4a ∷ 0x4c ∷ 0x4e ∷ 0x4f ∷ 0x59 ∷ 0x5d ∷ 0x5e ∷ 0x60 ∷ 0x61 ∷ 0x66 ∷ 0x68 ∷ 0x6a ∷ 0x80 ∷ 0x86 ∷ 0xb2 ∷ []
+names_multiname = op.GETSUPER ∷ op.SETSUPER ∷ op.CALLSUPER ∷ op.CALLPROPERTY ∷ op.CONSTRUCTPROP ∷ op.CALLPROPLEX ∷ op.CALLSUPERVOID ∷ op.CALLPROPVOID ∷ op.GETDESCENDANTS ∷ op.FINDPROPSTRICT ∷ op.FINDPROPERTY ∷ op.GETLEX ∷ op.SETPROPERTY ∷ op.GETPROPERTY ∷ op.INITPROPERTY ∷ op.DELETEPROPERTY ∷ op.COERCE ∷ op.ASTYPE ∷ op.ISTYPE ∷ []
 
 abbrev pub pool_of : ℕ → Pool
-pool_of op =
-    if is_in op names_multiname then pools.Name
-    else if is_in op names_text then pools.Text
-    else if nat_eq op 0x2d then pools.Int
-    else if nat_eq op 0x2e then pools.UInt
-    else if nat_eq op 0x2f then pools.Double
-    else if nat_eq op 0x31 then pools.Space
+pool_of code =
+    if is_in code names_multiname then pools.Name
+    else if is_in code names_text then pools.Text
+    else if nat_eq code op.PUSHINT then pools.Int
+    else if nat_eq code op.PUSHUINT then pools.UInt
+    else if nat_eq code op.PUSHDOUBLE then pools.Double
+    else if nat_eq code op.PUSHNAMESPACE then pools.Space
     else pools.NoPool
 
 -- ---- by opcode
@@ -102,7 +103,7 @@ name_in (row ∷ rows) op = if nat_eq op row.0 then Some row.1 else name_in rows
 unfoldable pub name_at : ℕ → Option (List ℕ)
 name_at op = name_in named op
 
-abbrev info_if : {A : Type 0} → Option A → ℕ → Option OpInfo
+abbrev pub info_if : {A : Type 0} → Option A → ℕ → Option OpInfo
 info_if (Some name) op = Some (record { form = form_of op; pool = pool_of op })
 info_if None op = None
 
@@ -120,4 +121,4 @@ form_at op = form_in (info_at op)
 
 -- some instruction has the opcode; where `wide` is false, as in the narrow format, 53 is none
 abbrev pub is_opcode : Bool → ℕ → Bool
-is_opcode wide op = (wide || not (nat_eq op 0x53)) && is_some (form_at op)
+is_opcode wide code = (wide || not (nat_eq code op.APPLYTYPE)) && is_some (form_at code)

@@ -15,6 +15,7 @@ mod flags;
 mod instructions;
 mod methods;
 mod names;
+pub mod op;
 mod opcodes;
 mod ready;
 mod reason;

@@ -1,15 +1,20 @@
 -- What is used after a step.
-use Rattle.std.proofs.Common.{◌≡◌, ℕ, ◌+◌, ◌<◌, List, [], ◌∷◌, ◌++◌, Option, Some, length, set, refl, ap, ◌∙◌, arith, length-append}
+use Rattle.std.proofs.Common.{◌≡◌, ℕ, ◌+◌, ◌<◌, min, MatchResult, List, [], ◌∷◌, ◌++◌, Option, Some, length, set, refl, ap, ◌∙◌, arith, length-append}
 use Rattle.std.specs.Prelude.{false}
+use Rattle.std.specs.declared.result.Result.{Result}
+use Rattle.std.proofs.lemmas.Result.{MatchResult-weaker}
 use Rattle.abc_heap_values.specs.declared.values.ObjId.{ObjId}
 use Rattle.abc_heap_values.specs.declared.values.Value.{Value}
 use Rattle.abc_heap_values.specs.declared.values.Value.TheVariants.{Obj}
+use Rattle.abc_heap_store.specs.declared.records.Full.{Full}
+use Rattle.abc_heap_store.specs.declared.records.Limit.{Limit}
+use Rattle.abc_heap_store.specs.declared.records.Limit.TheVariants as limits
 use Rattle.abc_heap_store.specs.declared.records.What.{What}
 use Rattle.abc_heap_store.specs.declared.records.What.TheVariants.{ClassObject, Plain}
 use Rattle.abc_heap_store.specs.declared.records.ScopeId.{ScopeId}
 use Rattle.abc_heap_store.specs.declared.records.ScopeEntry.{ScopeEntry}
 use Rattle.abc_heap_store.specs.declared.store.ClassParts.{ClassParts}
-use Rattle.abc_heap_store.specs.Heap.{Heap, Object, all_cells, cells_of, cells_used, slots_of, obj_id}
+use Rattle.abc_heap_store.specs.Heap.{HasRoomFor, Heap, Object, PassesLimit, all_cells, cells_of, cells_used, slots_of, obj_id}
 use Rattle.abc_heap_store.specs.Changes.{with_made, with_scopes, with_class, with_object, with_slot}
 use Rattle.abc_heap_store.specs.Scopes.{nodes, top, scope_id}
 use Rattle.abc_heap_store.proofs.Makes.{nodes_length}
@@ -78,3 +83,17 @@ class_made h h1 h2 h3 h4 h5 h6 ps cs parts saved es p o statics i ep e1 es1 e2 e
           ∙ (ap (λ q. f q o (top (length h.scopes) saved es) (length h.scopes + length es)) ep
           ∙ ap (λ r. f (length h.objects) r (top (length h.scopes) saved es) (length h.scopes + length es)) number))),
     )
+
+-- a test of the room for a sum that saturates above the limit is a test of the sum
+pub room_for_sum : (r : Result (Unit {0}) Full) (h : Heap) (objects n m most : ℕ) → n ≡ min m most → h.limits.cells < most → MatchResult r (λ _. HasRoomFor h objects n) (λ e. PassesLimit h objects n e.0) → MatchResult r (λ _. HasRoomFor h objects m) (λ e. PassesLimit h objects m e.0)
+room_for_sum r h objects n m most is low p = MatchResult-weaker r p (λ _ q. room q) (λ e q. passes e.0 q)
+  where
+    room : HasRoomFor h objects n → HasRoomFor h objects m
+    room q = let fits = q.1 in (q.0, omega (arith, fits, is, low))
+
+    passes : (e : Limit) → PassesLimit h objects n e → PassesLimit h objects m e
+    passes limits.Objects q = q
+    passes limits.Cells q = let over = q.1 in (q.0, omega (arith, over, is))
+    passes limits.Text q = q
+    passes limits.Frames q = q
+    passes limits.Stack q = q

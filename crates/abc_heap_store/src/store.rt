@@ -1,4 +1,4 @@
-ghost use Rattle.std.specs.Prelude.{◌≡◌, ◌<◌, ◌≤◌, ◌+◌, ◌-◌, ◌++◌, ◌∷◌, [], ◌^◌, ℕ, length, Some, None, slice_get, set, replicate, get_or, is_some, true, MatchResult, IfOk};
+ghost use Rattle.std.specs.Prelude.{◌≡◌, ◌<◌, ◌≤◌, ◌+◌, ◌-◌, ◌++◌, ◌∷◌, [], ℕ, length, Some, None, slice_get, set, replicate, get_or, is_some, true, MatchResult, IfOk};
 ghost use Rattle.std.specs.Fmt.{decimal, signed_decimal};
 ghost use Rattle.abc_heap_values.specs.declared.values.Value.TheVariants.{Undefined};
 ghost use Rattle.abc_heap_store.specs.What.{is_array};
@@ -410,6 +410,30 @@ impl Store {
         Ok(())
     }
 
+    /// Tests the room for a function with so many slots, which keeps some scopes.
+    fn room_for_function(&self, slots: u32, scopes: &[ScopeEntry]) -> Result<(), Full>
+        ensures { MatchResult result (λ _. HasRoomFor self.now 1 (slots + length scopes.now)) (λ e. PassesLimit self.now 1 (slots + length scopes.now) e.0) }
+    {
+        // For the prover: the limit has 32 bits, so a sum that saturates passes it.
+        let _limit = self.limits.cells;
+        self.room(1, u64::from(slots).saturating_add(scopes.len() as u64))
+    }
+
+    /// Tests the room for a class object and its prototype object with so many slots, which keep some scopes and one more.
+    fn room_for_class(
+        &self,
+        prototype_slots: u32,
+        class_slots: u32,
+        scopes: &[ScopeEntry],
+    ) -> Result<(), Full>
+        ensures { MatchResult result (λ _. HasRoomFor self.now 2 (prototype_slots + class_slots + length scopes.now + 1)) (λ e. PassesLimit self.now 2 (prototype_slots + class_slots + length scopes.now + 1) e.0) }
+    {
+        // For the prover: the limit has 32 bits, so a sum that saturates passes it.
+        let _limit = self.limits.cells;
+        let slots = u64::from(prototype_slots) + u64::from(class_slots) + 1;
+        self.room(2, slots.saturating_add(scopes.len() as u64))
+    }
+
     /// Makes an object at the end, where there is room.
     pub fn make_object<S: Starts>(
         &mut self,
@@ -536,11 +560,9 @@ impl Store {
         scopes: &[ScopeEntry],
         starts: &S,
     ) -> Result<ObjId, Full>
-        requires few { length scopes.now < 2 ^ 32 }
         ensures { MatchResult result (λ o. IsFunctionMade self.old self.new o (S.values starts.now) layout method home delegate saved scopes.now) (λ e. IsFullOf self.old self.new 1 (length (S.values starts.now) + length scopes.now) e) }
     {
-        let count = starts.count();
-        self.room(1, u64::from(count) + scopes.len() as u64)?;
+        self.room_for_function(starts.count(), scopes)?;
         let scope = self.keep_scopes(saved, scopes);
         let what = What::Closure {
             method,
@@ -563,15 +585,10 @@ impl Store {
     ) -> Result<ObjId, Full>
         requires class { parts.class < length self.old.classes }
         requires prototype { 0 < length (C.values class_starts.now) }
-        requires few { length scopes.now < 2 ^ 32 }
         ensures { MatchResult result (λ o. IsClassMade self.old self.new o (P.values prototype_starts.now) (C.values class_starts.now) parts saved scopes.now) (λ e. IsFullOf self.old self.new 2 (length (P.values prototype_starts.now) + length (C.values class_starts.now) + length scopes.now + 1) e) }
     {
         let _limit = self.limits.objects;
-        let cells = u64::from(prototype_starts.count())
-            + u64::from(class_starts.count())
-            + scopes.len() as u64
-            + 1;
-        self.room(2, cells)?;
+        self.room_for_class(prototype_starts.count(), class_starts.count(), scopes)?;
         let prototype = self.make_object(
             parts.prototype_layout,
             parts.base_prototype,

@@ -10,4 +10,3 @@ pub mod Reads
 pub mod Numbers
 pub mod Order
 pub mod Equality
-pub mod Opcodes

@@ -14,7 +14,6 @@ mod equality;
 mod kinds;
 mod modular;
 mod numbers;
-pub mod opcodes;
 pub mod operations;
 mod order;
 mod plain;
@@ -32,7 +31,6 @@ pub use modular::{from_signed, from_unsigned, to_signed, to_unsigned};
 pub use numbers::{
     Conversion, calculate_value, calculate_values, is_true, to_int, to_number, to_uint,
 };
-pub use opcodes::{Comparison, comparison_at};
 pub use operations::{calculate, calculate_single};
 pub use order::{Order, are_ordered};
 pub use reserved::Reserved;

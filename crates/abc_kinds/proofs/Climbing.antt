@@ -1,9 +1,9 @@
 -- Going up the tree, in the words of the code.
 use Rattle.std.proofs.Common.{◌≡◌, ◌≢◌, ℕ, zero, suc, ◌+◌, ◌-◌, ◌≤◌, ◌<◌, ◌↔◌, IsTrue, nat_eq, eq-eqb, eqb-true, sym, ap, ◌∙◌, subst, arith, inl, inr}
 use Rattle.std.proofs.lemmas.Bool.{cases_lt}
-use Rattle.abc_link_program.specs.Linked.{IsLinkedFile, LinkedFile, above}
-use Rattle.abc_link_program.specs.Tree.{IsBelow, IsCommon, up}
-use Rattle.abc_link_program.proofs.Tree.{above_le, below_le, below_next, below_self, below_trans, below_up, up_more}
+use Rattle.abc_link_names.specs.Linked.{IsLinkedFile, LinkedFile, above}
+use Rattle.abc_link_names.specs.Tree.{IsBelow, IsCommon, up}
+use Rattle.abc_link_names.proofs.Tree.{above_le, below_le, below_next, below_self, below_trans, below_up, up_more}
 use Rattle.abc_kinds.specs.Steps.{ClimbsTo, NearsTo}
 
 -- of two layouts above one, that with the lower number is above the other

@@ -1,7 +1,7 @@
 -- Steps up the tree of layouts.
 use Rattle.std.specs.Prelude.{ℕ, ◌<◌, ◌↔◌}
-use Rattle.abc_link_program.specs.Linked.{LinkedFile}
-use Rattle.abc_link_program.specs.Tree.{IsBelow}
+use Rattle.abc_link_names.specs.Linked.{LinkedFile}
+use Rattle.abc_link_names.specs.Tree.{IsBelow}
 
 -- a step up from a layout, which leads no higher than another that it stands under
 pub record ClimbsTo (l : LinkedFile) (at other next : ℕ) : Type 0 where

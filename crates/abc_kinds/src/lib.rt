@@ -2,22 +2,26 @@
 #![tactic(auto)]
 
 ghost use Rattle.std.specs.Prelude.{◌≡◌, ◌<◌, ◌↔◌, IsTrue};
-ghost use Rattle.abc_link_program.specs.Kinds.{IsAtMost, IsJoin};
-ghost use Rattle.abc_link_program.specs.Linked.{IsLinkedFile};
-ghost use Rattle.abc_link_program.specs.Tree.{IsBelow, IsCommon};
-ghost use Rattle.abc_link_program.specs.Types.{kind_of_type as kind_of};
+ghost use Rattle.abc_link_names.specs.Kinds.{IsAtMost, IsJoin};
+ghost use Rattle.abc_link_names.specs.Linked.{IsLinkedFile};
+ghost use Rattle.abc_link_names.specs.Tree.{IsBelow, IsCommon};
+ghost use Rattle.abc_link_names.specs.Types.{kind_of_type as kind_of};
 ghost use Rattle.abc_kinds.specs.Steps.{ClimbsTo, NearsTo};
 
 use abc_base::HostClass;
-pub use abc_link_program::{Kind, LayoutId, Part, Ty};
+pub use abc_link_names::{Kind, LayoutId, Part, Ty};
 
 /// What tells which layout each layout stands under.
 pub trait Tree {
     ghost use Rattle.std.specs.Prelude.{◌≡◌};
-    ghost use Rattle.abc_link_program.specs.Linked.{LinkedFile, above, layout_of};
-    ghost use Rattle.abc_link_program.specs.Tree.{IsBelow};
+    ghost use Rattle.abc_link_names.specs.Linked.{IsLinkedFile, LinkedFile, above, layout_of};
+    ghost use Rattle.abc_link_names.specs.Tree.{IsBelow};
 
     ghost file: { Self → LinkedFile };
+
+    /// The layouts are those of a linked file: so a layout stands under one with a lower number. This does nothing.
+    fn linked_law(&self)
+        ensures { IsLinkedFile (file self.now) };
 
     /// The layout that a layout stands under. Object's is above itself, and above what is no layout.
     fn above(&self, layout: LayoutId) -> LayoutId
@@ -49,9 +53,9 @@ fn climbed<T: Tree>(tree: &T, at: LayoutId, other: LayoutId) -> LayoutId
 /// Whether a layout is another or stands under it.
 #[tactic(auto, using(crate::proofs::Climbing::climb_on, crate::proofs::Climbing::reached))]
 pub fn is_below<T: Tree>(tree: &T, layout: LayoutId, other: LayoutId) -> bool
-    requires { IsLinkedFile (T.file tree.now) }
     ensures { IsTrue result ↔ IsBelow (T.file tree.now) layout.0 other.0 }
 {
+    tree.linked_law();
     let mut at = layout;
     while at.0 > other.0 {
         at = climbed(tree, at, other);
@@ -76,9 +80,9 @@ fn nearer<T: Tree>(tree: &T, at: LayoutId, other: LayoutId) -> LayoutId
 /// The lowest layout that is above both.
 #[tactic(auto, using(crate::proofs::Climbing::meeting_starts, crate::proofs::Climbing::meet))]
 pub fn common<T: Tree>(tree: &T, a: LayoutId, b: LayoutId) -> LayoutId
-    requires { IsLinkedFile (T.file tree.now) }
     ensures { IsCommon (T.file tree.now) a.0 b.0 result.0 }
 {
+    tree.linked_law();
     let mut at = a;
     while !is_below(tree, b, at) {
         at = nearer(tree, at, b);
@@ -88,7 +92,6 @@ pub fn common<T: Tree>(tree: &T, a: LayoutId, b: LayoutId) -> LayoutId
 
 /// Whether a kind is another or below it.
 pub fn at_most<T: Tree>(tree: &T, a: Kind, b: Kind) -> bool
-    requires { IsLinkedFile (T.file tree.now) }
     ensures { IsTrue result ↔ IsAtMost (T.file tree.now) a b }
 {
     match (a, b) {
@@ -106,7 +109,6 @@ pub fn at_most<T: Tree>(tree: &T, a: Kind, b: Kind) -> bool
 
 /// The least kind above both.
 pub fn join<T: Tree>(tree: &T, a: Kind, b: Kind) -> Kind
-    requires { IsLinkedFile (T.file tree.now) }
     ensures { IsJoin (T.file tree.now) a b result }
 {
     match (a, b) {

@@ -2,18 +2,18 @@
 use Rattle.std.proofs.Common.{◌≡◌, ℕ, ◌+◌, ◌<◌, ◌≤◌, ◌^◌, List, length, nat_eq, unwrap_or, ap, subst, sym, arith, below_more}
 use Rattle.std.proofs.lemmas.List.{get_or_past}
 use Rattle.abc_base.specs.declared.names.HostClass.TheVariants as hosts
-use Rattle.abc_link_program.specs.Parts.{parent}
-use Rattle.abc_link_program.specs.Places.{place_under}
-use Rattle.abc_link_program.specs.declared.part.Part.TheVariants as parts
+use Rattle.abc_link_names.specs.Parts.{parent}
+use Rattle.abc_link_names.specs.Places.{place_under}
+use Rattle.abc_link_names.specs.declared.part.Part.TheVariants as parts
 use Rattle.abc_base_graphs.specs.Heirs.{list_at}
 use Rattle.abc_base_graphs.specs.Listed.{Listed}
 use Rattle.abc_base_graphs.specs.Index.{first}
 use Rattle.abc_link.specs.LinkedMade.{AreFewSlots}
 use Rattle.abc_link.specs.Tables.{AreTables, file_of}
 use Rattle.abc_link.specs.declared.linked.Linked.TheInside.{Inside}
-use Rattle.abc_link_program.specs.Linked.{IsLinkedFile, LinkedFile, above}
-use Rattle.abc_link_program.specs.Slots.{HasFewSlots, numbers_of, slots_of}
-use Rattle.abc_link_program.specs.declared.types.SlotInfo.{SlotInfo}
+use Rattle.abc_link_names.specs.Linked.{IsLinkedFile, LinkedFile, above}
+use Rattle.abc_link_names.specs.Slots.{HasFewSlots, numbers_of, slots_of}
+use Rattle.abc_link_names.specs.declared.types.SlotInfo.{SlotInfo}
 use Rattle.abc_link_layouts.specs.Numbering.{IsNumbered}
 use Rattle.abc_link_layouts.specs.Tables.{HasSlots}
 

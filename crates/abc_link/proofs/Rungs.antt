@@ -2,9 +2,9 @@
 use Rattle.std.proofs.Common.{◌≡◌, ℕ, zero, suc, ◌+◌, List, [], ◌∷◌, ◌++◌, Some, length, refl, sym, subst, ap, arith, ◌⊎◌, inl, inr}
 use Rattle.std.specs.Prelude.{slice_get}
 use Rattle.std.proofs.lemmas.List.{length-append}
-use Rattle.abc_link_program.specs.Linked.{LinkedFile, above}
-use Rattle.abc_link_program.specs.Tree.{IsBelow}
-use Rattle.abc_link_program.proofs.Tree.{below_self, below_trans, below_up}
+use Rattle.abc_link_names.specs.Linked.{LinkedFile, above}
+use Rattle.abc_link_names.specs.Tree.{IsBelow}
+use Rattle.abc_link_names.proofs.Tree.{below_self, below_trans, below_up}
 use Rattle.abc_link.specs.Ladders.{AreRungs}
 use Rattle.abc_link.specs.declared.ladder.Rung.{Rung}
 

@@ -9,7 +9,7 @@ use Rattle.abc_base_graphs.specs.declared.texts.Texts.{Texts}
 use Rattle.abc_base_graphs.proofs.ByTexts.{no_places, same_places}
 use Rattle.abc_link_layouts.specs.Strings.{trait_strings}
 use Rattle.abc_link_names.specs.Pool.{text}
-use Rattle.abc_link_program.specs.Traits.{trait_name, trait_texts}
+use Rattle.abc_link_names.specs.Traits.{trait_name, trait_texts}
 use Rattle.abc_link.specs.ScriptTraits.{HasScripts, keys_of, owners_from, script_traits, traits_of_scripts}
 use Rattle.abc_link.specs.declared.scripts.ScriptTraits.{ScriptTraits}
 use Rattle.abc_file_types.specs.declared.classes.Script.{Script}

@@ -1,7 +1,7 @@
 -- A layout far above each.
 use Rattle.std.specs.Prelude.{◌≡◌, ℕ, List, Some, slice_get}
-use Rattle.abc_link_program.specs.Linked.{LinkedFile}
-use Rattle.abc_link_program.specs.Tree.{IsBelow}
+use Rattle.abc_link_names.specs.Linked.{LinkedFile}
+use Rattle.abc_link_names.specs.Tree.{IsBelow}
 use Rattle.abc_link.specs.declared.ladder.Rung.{Rung}
 
 abbrev pub AreRungs : LinkedFile → List Rung → Type 0

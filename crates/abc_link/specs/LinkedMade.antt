@@ -11,7 +11,7 @@ use Rattle.abc_link_names.specs.declared.tables.NameTables.{NameTables}
 use Rattle.abc_link_layouts.specs.Owning.{AreOwners}
 use Rattle.abc_link.specs.TablesMade.{AreSearchTables}
 use Rattle.abc_link_layouts.specs.Files.{linked}
-use Rattle.abc_link_program.specs.declared.types.SlotInfo.{SlotInfo}
+use Rattle.abc_link_names.specs.declared.types.SlotInfo.{SlotInfo}
 use Rattle.abc_link_layouts.specs.Tables.{HasSlots}
 use Rattle.abc_file_types.specs.declared.tables.Abc.{Abc}
 

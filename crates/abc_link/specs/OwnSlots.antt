@@ -1,7 +1,7 @@
 -- How many slots stand before those of each trait of a table.
 use Rattle.std.specs.Prelude.{◌≡◌, ℕ, ◌+◌, List, [], ◌∷◌, Bool, true, false, if◌then◌else◌, map}
-use Rattle.abc_link_program.specs.Slots.{traits_of}
-use Rattle.abc_link_program.specs.declared.part.Part.{Part}
+use Rattle.abc_link_names.specs.Slots.{traits_of}
+use Rattle.abc_link_names.specs.declared.part.Part.{Part}
 use Rattle.abc_link.specs.declared.slots.OwnSlots.{OwnSlots}
 use Rattle.abc_file_types.specs.declared.tables.Abc.{Abc}
 use Rattle.abc_file_types.specs.declared.traits.TraitBody.{TraitBody}

@@ -6,7 +6,7 @@ use Rattle.abc_base_graphs.specs.ByText.{GroupsTexts}
 use Rattle.abc_base_graphs.specs.Groups.{places_of, some_places}
 use Rattle.abc_base_graphs.specs.declared.texts.Texts.{Texts}
 use Rattle.abc_link_layouts.specs.Strings.{trait_strings}
-use Rattle.abc_link_program.specs.Traits.{trait_name, trait_texts}
+use Rattle.abc_link_names.specs.Traits.{trait_name, trait_texts}
 use Rattle.abc_link.specs.declared.scripts.ScriptTraits.{ScriptTraits}
 use Rattle.abc_file_types.specs.declared.classes.Script.{Script}
 use Rattle.abc_file_types.specs.declared.tables.Abc.{Abc}

@@ -3,7 +3,7 @@ use Rattle.abc_link.specs.LinkedMade.{IsMade}
 use Rattle.abc_link.specs.declared.linked.Linked.TheInside.{Inside}
 use Rattle.abc_link_names.specs.Meanings.{AreMeanings}
 use Rattle.abc_link_names.specs.Numbers.{AreNames}
-use Rattle.abc_link_program.specs.Linked.{LinkedFile}
+use Rattle.abc_link_names.specs.Linked.{LinkedFile}
 use Rattle.abc_link_names.specs.Firsts.{IsFew}
 use Rattle.abc_link_names.specs.Rules.{AllHold}
 use Rattle.abc_link_layouts.specs.Files.{linked}

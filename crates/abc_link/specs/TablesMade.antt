@@ -1,7 +1,7 @@
 -- All tables of a file.
 use Rattle.std.specs.Prelude.{ℕ, List}
 use Rattle.abc_base_graphs.specs.declared.texts.Texts.{Texts}
-use Rattle.abc_link_program.specs.declared.part.Part.{Part}
+use Rattle.abc_link_names.specs.declared.part.Part.{Part}
 use Rattle.abc_link.specs.OwnSlots.{HasOwnSlots}
 use Rattle.abc_link.specs.ScriptTraits.{HasScripts}
 use Rattle.abc_link.specs.SetKeys.{HasSets}

@@ -1,6 +1,6 @@
 ghost use Rattle.std.specs.Prelude.{◌≡◌, length, IfOk};
-ghost use Rattle.abc_link_program.specs.Linked.{above as above_of};
-ghost use Rattle.abc_link_program.specs.Tree.{IsBelow};
+ghost use Rattle.abc_link_names.specs.Linked.{above as above_of};
+ghost use Rattle.abc_link_names.specs.Tree.{IsBelow};
 ghost use Rattle.abc_link.specs.Ladders.{AreRungs};
 ghost use Rattle.abc_link_layouts.specs.Files.{linked};
 ghost use Rattle.abc_link_layouts.specs.Laid.{AreLayouts};

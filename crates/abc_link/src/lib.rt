@@ -13,7 +13,8 @@ mod sets;
 mod slots;
 mod tables;
 
-pub use abc_link_names::{Item, ItemKind, LinkError, LinkRule, Start};
-pub use abc_link_program::{Kind, LayoutId, Owner, Part, SlotInfo, Ty};
+pub use abc_link_names::{
+    Item, ItemKind, Kind, LayoutId, LinkError, LinkRule, Owner, Part, SlotInfo, Start, Ty,
+};
 pub use linked::Linked;
 pub use linking::link;

@@ -5,16 +5,16 @@ ghost use Rattle.std.specs.Str.{bytes_eq};
 ghost use Rattle.abc_base_graphs.specs.Index.{first};
 ghost use Rattle.abc_base_graphs.specs.Texts.{texts_of};
 ghost use Rattle.abc_link_names.specs.Pool.{is_public as is_public_in, same_space, set as set_of};
-ghost use Rattle.abc_link_program.specs.Interfaces.{Implements};
-ghost use Rattle.abc_link_program.specs.Linked.{IsLayout, IsLinkedFile, above as above_of, base as base_of, layout_of as layout_of_part, part_of as part_of_layout};
-ghost use Rattle.abc_link_program.specs.Owners.{body_of as body_of_method, owner_of};
-ghost use Rattle.abc_link_program.specs.Slots.{HasFewSlots, slot_numbered as slot_with, slots_of};
-ghost use Rattle.abc_link_program.specs.Tree.{IsBelow};
-ghost use Rattle.abc_link_program.specs.Traits.{own_table_of, own_traits as own_traits_of};
+ghost use Rattle.abc_link_names.specs.Interfaces.{Implements};
+ghost use Rattle.abc_link_names.specs.Linked.{IsLayout, IsLinkedFile, above as above_of, base as base_of, layout_of as layout_of_part, part_of as part_of_layout};
+ghost use Rattle.abc_link_names.specs.Owners.{body_of as body_of_method, owner_of};
+ghost use Rattle.abc_link_names.specs.Slots.{HasFewSlots, slot_numbered as slot_with, slots_of};
+ghost use Rattle.abc_link_names.specs.Tree.{IsBelow};
+ghost use Rattle.abc_link_names.specs.Traits.{own_table_of, own_traits as own_traits_of};
 ghost use Rattle.abc_link_layouts.specs.Numbering.{IsNumbered};
 ghost use Rattle.abc_link.specs.OwnSlots.{slots_before as slots_before_of};
 ghost use Rattle.abc_link.specs.ScriptTraits.{owners_of, script_traits as script_traits_of};
-ghost use Rattle.abc_link_program.specs.Types.{type_of as type_of_name};
+ghost use Rattle.abc_link_names.specs.Types.{type_of as type_of_name};
 
 use crate::ladder::{Rung, above, far_above};
 use crate::tables::SearchTables;
@@ -24,8 +24,7 @@ use abc_file_types::Abc;
 use abc_kinds::Tree;
 use abc_link_interfaces::Interfaces;
 use abc_link_layouts::{Layouts, Members, Owners, string_number, type_in};
-use abc_link_names::{Meanings, NameTables, Named, Names};
-use abc_link_program::{LayoutId, Owner, Part, SlotInfo, Ty};
+use abc_link_names::{LayoutId, Meanings, NameTables, Named, Names, Owner, Part, SlotInfo, Ty};
 use std::marker::Model;
 
 /// What is made of a file that keeps the rules of linking.
@@ -51,7 +50,7 @@ pub struct Linked {
 }
 
 impl Model for Linked {
-    ghost use Rattle.abc_link_program.specs.Linked.{LinkedFile};
+    ghost use Rattle.abc_link_names.specs.Linked.{LinkedFile};
 
     ghost Value = { LinkedFile };
 
@@ -321,6 +320,10 @@ impl Linked {
 
 impl Tree for Linked {
     ghost file = { λ l. l };
+
+    fn linked_law(&self) {
+        Linked::linked_law(self)
+    }
 
     fn above(&self, layout: LayoutId) -> LayoutId {
         Linked::above(self, layout)

@@ -11,7 +11,7 @@ ghost use Rattle.abc_link.specs.TablesMade.{AreSearchTables};
 ghost use Rattle.abc_link_layouts.specs.Tables.{HasSlots};
 ghost use Rattle.abc_link_names.specs.Meanings.{AreMeanings};
 ghost use Rattle.abc_link_names.specs.Numbers.{AreNames};
-ghost use Rattle.abc_link_program.specs.Linked.{IsLinkedFile};
+ghost use Rattle.abc_link_names.specs.Linked.{IsLinkedFile};
 ghost use Rattle.abc_link_names.specs.Firsts.{IsFew, IsRefusal};
 ghost use Rattle.abc_link_names.specs.Rules.{AllHold};
 ghost use Rattle.abc_file_types.specs.Files.{Fits};
@@ -25,8 +25,7 @@ use abc_file_types::Abc;
 use abc_link_interfaces::Interfaces;
 use abc_link_known::known_of;
 use abc_link_layouts::{Layouts, Members, Owners, slots_of};
-use abc_link_names::{LinkError, Meanings, NameTables, Named, Names, meanings_of};
-use abc_link_program::SlotInfo;
+use abc_link_names::{LinkError, Meanings, NameTables, Named, Names, SlotInfo, meanings_of};
 use abc_link_rules::{are_few, check_rules};
 use std::alloc::Global;
 

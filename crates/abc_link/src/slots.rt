@@ -1,12 +1,12 @@
 ghost use Rattle.std.specs.Prelude.{◌≡◌, ◌<◌, Some, length, slice_get, IfOk};
-ghost use Rattle.abc_link_program.specs.Numbering.{part_at};
-ghost use Rattle.abc_link_program.specs.Slots.{traits_of as traits_in};
+ghost use Rattle.abc_link_names.specs.Numbering.{part_at};
+ghost use Rattle.abc_link_names.specs.Slots.{traits_of as traits_in};
 ghost use Rattle.abc_link.specs.OwnSlots.{HasOwnSlots, has_slot as does_have_slot, own_slots_before, slots_before};
 
 use abc_base::{NoMemory, Table};
 use abc_file_types::{Abc, TraitBody, TraitInfo};
 use abc_link_layouts::{Layouts, traits_of};
-use abc_link_program::LayoutId;
+use abc_link_names::LayoutId;
 use std::alloc::Global;
 
 /// For each layout and each of its own traits, how many of its traits before that one have slots.

@@ -9,7 +9,7 @@ use Rattle.abc_link_names.specs.Instances.{no_instance}
 use Rattle.abc_link_names.specs.Meaning.{resolve}
 use Rattle.abc_link_names.specs.declared.named.Named.{Named}
 use Rattle.abc_link_names.specs.declared.named.Named.TheVariants as named
-use Rattle.abc_link_program.specs.Interfaces.{above_class, class_graph}
+use Rattle.abc_link_names.specs.Interfaces.{above_class, class_graph}
 use Rattle.abc_link_names.proofs.Within.{resolve_within}
 use Rattle.abc_link_names.specs.Bases.{classes_named, interfaces_named, interfaces_of, is_interface}
 use Rattle.abc_file_types.specs.Methods.{has_flag}

@@ -4,7 +4,7 @@ use Rattle.std.proofs.lemmas.Bool.{cases_lt}
 use Rattle.std.proofs.lemmas.List.{get_or_past}
 use Rattle.std.proofs.lemmas.List.Elements.{Contains-append_left, Contains-push, Contains-push_cases}
 use Rattle.abc_base_graphs.specs.Graph.{IsReached}
-use Rattle.abc_link_program.specs.Interfaces.{class_graph}
+use Rattle.abc_link_names.specs.Interfaces.{class_graph}
 use Rattle.abc_link_names.specs.Bases.{is_interface}
 use Rattle.abc_file_types.specs.declared.tables.Abc.{Abc}
 use Rattle.abc_link_interfaces.specs.Sets.{IsAbove, IsSetOf, ListsMarked}

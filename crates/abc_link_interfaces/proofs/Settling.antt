@@ -5,7 +5,7 @@ use Rattle.std.specs.List.{list_any}
 use Rattle.std.specs.Prelude.{◌↔◌, IsTrue}
 use Rattle.std.proofs.lemmas.Bool.{cases_lt}
 use Rattle.std.proofs.lemmas.List.{get_or_default}
-use Rattle.abc_link_program.specs.Interfaces.{class_graph}
+use Rattle.abc_link_names.specs.Interfaces.{class_graph}
 use Rattle.abc_file_types.specs.declared.tables.Abc.{Abc}
 use Rattle.abc_link_interfaces.specs.Sets.{AreSets, AreUnset, HasSets, IsAbove, IsSetOf, ListsBelow, Set, Settles, SettlesEach, is_settled, is_there, keys_at}
 use Rattle.abc_link_interfaces.proofs.Uniting.{known_set}

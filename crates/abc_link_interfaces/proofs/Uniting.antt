@@ -5,7 +5,7 @@ use Rattle.std.specs.List.{list_any}
 use Rattle.std.proofs.lemmas.List.{get_or_default}
 use Rattle.std.proofs.lemmas.List.Elements.{Contains-append_cases, Contains-append_right}
 use Rattle.abc_base_graphs.specs.Graph.{Edge, Leads, Then, targets}
-use Rattle.abc_link_program.specs.Interfaces.{class_graph}
+use Rattle.abc_link_names.specs.Interfaces.{class_graph}
 use Rattle.abc_link_names.proofs.ItemsPairs.{any_makes}
 use Rattle.abc_link_names.specs.Bases.{is_interface}
 use Rattle.abc_file_types.specs.declared.tables.Abc.{Abc}

@@ -2,7 +2,7 @@
 use Rattle.std.specs.Prelude.{◌≡◌, ℕ, ◌<◌, ◌⊎◌, List, [], ◌∷◌, ◌++◌, Bool, true, false, Contains, IsTrue, Some, None, if◌then◌else◌, get_or, length, slice_get}
 use Rattle.std.specs.declared.option.Option.{Option}
 use Rattle.abc_base_graphs.specs.Graph.{Leads}
-use Rattle.abc_link_program.specs.Interfaces.{class_graph}
+use Rattle.abc_link_names.specs.Interfaces.{class_graph}
 use Rattle.abc_link_names.specs.Bases.{is_interface}
 use Rattle.abc_file_types.specs.declared.tables.Abc.{Abc}
 

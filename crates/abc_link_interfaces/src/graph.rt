@@ -1,7 +1,7 @@
 ghost use Rattle.std.specs.Prelude.{◌≡◌, ◌++◌, IfOk, OnOk};
 ghost use Rattle.std.specs.List.{flat_map};
 ghost use Rattle.abc_link_names.specs.Meaning.{resolve};
-ghost use Rattle.abc_link_program.specs.Interfaces.{above_class as above_class_of, class_graph as class_graph_of};
+ghost use Rattle.abc_link_names.specs.Interfaces.{above_class as above_class_of, class_graph as class_graph_of};
 ghost use Rattle.abc_link_names.specs.Bases.{classes_named, interfaces_named};
 
 use abc_base::{NoMemory, Table};

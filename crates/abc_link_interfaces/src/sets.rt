@@ -2,7 +2,7 @@ ghost use Rattle.std.specs.Prelude.{◌≡◌, ◌+◌, ◌<◌, ◌^◌, false,
 ghost use Rattle.std.specs.List.{list_any};
 ghost use Rattle.abc_base_graphs.specs.Graph.{IsGraph, targets};
 ghost use Rattle.abc_link_interfaces.specs.Sets.{AreSets, AreUnset, HasSets, IsSetOf, ListsBelow, ListsMarked, Settles, SettlesEach, is_settled as is_settled_in, keys_at as keys_in_sets};
-ghost use Rattle.abc_link_program.specs.Interfaces.{class_graph};
+ghost use Rattle.abc_link_names.specs.Interfaces.{class_graph};
 
 use crate::gathered::{given, keys_at};
 use crate::set::NumberSet;

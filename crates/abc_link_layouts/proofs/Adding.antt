@@ -15,13 +15,13 @@ use Rattle.abc_link_names.specs.declared.named.Named.TheVariants as named
 use Rattle.abc_file_types.specs.declared.tables.Abc.{Abc}
 use Rattle.abc_link_layouts.specs.Forest.{class_bases, class_in}
 use Rattle.abc_link_layouts.specs.Numbering.{activation_in, parts_in}
-use Rattle.abc_link_program.specs.Numbering.{IsBehind, part_at}
-use Rattle.abc_link_program.specs.Parts.{HasLayout, base_part, has_activation, parent}
+use Rattle.abc_link_names.specs.Numbering.{IsBehind, part_at}
+use Rattle.abc_link_names.specs.Parts.{HasLayout, base_part, has_activation, parent}
 use Rattle.abc_link_names.specs.Bases.{base_named}
-use Rattle.abc_link_names.specs.Parts.{body_at}
+use Rattle.abc_link_names.specs.PartsByNumber.{body_at}
 use Rattle.abc_file_types.specs.declared.classes.Instance.{Instance}
-use Rattle.abc_link_program.specs.declared.part.Part.{Part}
-use Rattle.abc_link_program.specs.declared.part.Part.TheVariants as parts
+use Rattle.abc_link_names.specs.declared.part.Part.{Part}
+use Rattle.abc_link_names.specs.declared.part.Part.TheVariants as parts
 use Rattle.abc_link_layouts.proofs.Rooted.{base_at}
 use Rattle.abc_link_layouts.proofs.Pushing.{bodies_next, row_next}
 

@@ -8,12 +8,12 @@ use Rattle.abc_base_graphs.specs.Index.{first}
 use Rattle.abc_file_types.specs.declared.tables.Abc.{Abc}
 use Rattle.abc_link_layouts.specs.Laid.{AreLayouts, HasPlaces, PlaceMap, base_found, place_found, under_found}
 use Rattle.abc_link_layouts.specs.declared.layouts.Layouts.{Layouts}
-use Rattle.abc_link_program.specs.Numbering.{part_at}
-use Rattle.abc_link_program.specs.Parts.{parent}
-use Rattle.abc_link_program.specs.Places.{base_of, key_eq, part_key, place_of, place_under}
-use Rattle.abc_link_program.specs.declared.key.PartKey.{PartKey}
-use Rattle.abc_link_program.specs.declared.part.Part.{Part}
-use Rattle.abc_link_program.specs.declared.part.Part.TheVariants as parts
+use Rattle.abc_link_names.specs.Numbering.{part_at}
+use Rattle.abc_link_names.specs.Parts.{parent}
+use Rattle.abc_link_names.specs.Places.{base_of, key_eq, part_key, place_of, place_under}
+use Rattle.abc_link_names.specs.declared.key.PartKey.{PartKey}
+use Rattle.abc_link_names.specs.declared.part.Part.{Part}
+use Rattle.abc_link_names.specs.declared.part.Part.TheVariants as parts
 
 pub at_keys : (all : List Part) (keys given : List PartKey) (places : PlaceMap) → keys ≡ map part_key all → given ≡ keys → ((k : PartKey) → get key_eq places k ≡ first (key_eq k) given) → (k : PartKey) → get key_eq places k ≡ first (key_eq k) (map part_key all)
 at_keys all keys given places e q f k = f k ∙ ap (first (key_eq k)) (q ∙ e)

@@ -4,9 +4,9 @@ use Rattle.std.specs.Prelude.{if◌then◌else◌, unwrap_or}
 use Rattle.std.proofs.lemmas.Option.{unwrap_or-slice_get}
 use Rattle.std.specs.declared.option.Option.{Option}
 use Rattle.abc_base_graphs.specs.Index.{first, first_from}
-use Rattle.abc_link_program.specs.Owners.{body_of, namings, owner_at, owner_of}
-use Rattle.abc_link_program.specs.declared.types.Naming.{Naming}
-use Rattle.abc_link_program.specs.declared.types.Owner.{Owner}
+use Rattle.abc_link_names.specs.Owners.{body_of, namings, owner_at, owner_of}
+use Rattle.abc_link_names.specs.declared.types.Naming.{Naming}
+use Rattle.abc_link_names.specs.declared.types.Owner.{Owner}
 use Rattle.abc_link_names.specs.Methods.{methods_with_bodies}
 use Rattle.abc_file_types.specs.declared.tables.Abc.{Abc}
 use Rattle.abc_link_layouts.specs.Owning.{AreOwners}

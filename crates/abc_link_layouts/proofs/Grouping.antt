@@ -18,10 +18,10 @@ use Rattle.abc_file_types.specs.declared.tables.Abc.{Abc}
 use Rattle.abc_file_types.specs.declared.traits.TraitInfo.{TraitInfo}
 use Rattle.abc_link_layouts.specs.Grouped.{HasGroups}
 use Rattle.abc_link_layouts.specs.Strings.{trait_strings}
-use Rattle.abc_link_program.specs.Linked.{LinkedFile}
-use Rattle.abc_link_program.specs.Numbering.{part_at}
-use Rattle.abc_link_program.specs.Slots.{traits_of}
-use Rattle.abc_link_program.specs.Traits.{own_table_of, own_traits, trait_name, trait_texts}
+use Rattle.abc_link_names.specs.Linked.{LinkedFile}
+use Rattle.abc_link_names.specs.Numbering.{part_at}
+use Rattle.abc_link_names.specs.Slots.{traits_of}
+use Rattle.abc_link_names.specs.Traits.{own_table_of, own_traits, trait_name, trait_texts}
 
 -- ---- numbers of texts
 

@@ -5,10 +5,10 @@ use Rattle.abc_base.specs.declared.names.HostClass.{HostClass}
 use Rattle.abc_base.specs.declared.names.HostClass.TheVariants as hosts
 use Rattle.abc_link_names.specs.Meaning.{host_classes}
 use Rattle.abc_file_types.specs.declared.tables.Abc.{Abc}
-use Rattle.abc_link_program.specs.Numbering.{IsBehind, part_at}
-use Rattle.abc_link_program.specs.Parts.{HasLayout, host_parent, parent}
-use Rattle.abc_link_program.specs.declared.part.Part.{Part}
-use Rattle.abc_link_program.specs.declared.part.Part.TheVariants as parts
+use Rattle.abc_link_names.specs.Numbering.{IsBehind, part_at}
+use Rattle.abc_link_names.specs.Parts.{HasLayout, host_parent, parent}
+use Rattle.abc_link_names.specs.declared.part.Part.{Part}
+use Rattle.abc_link_names.specs.declared.part.Part.TheVariants as parts
 use Rattle.abc_link_layouts.proofs.Adding.{HasHosts, contains_map}
 
 pub host_known : (h : HostClass) → Contains host_classes h

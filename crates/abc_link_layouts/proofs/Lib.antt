@@ -2,6 +2,7 @@ pub mod Rooted
 pub mod Pushing
 pub mod Adding
 pub mod Hosts
+pub mod Apart
 pub mod Numbered
 pub mod Finding
 pub mod Firsts

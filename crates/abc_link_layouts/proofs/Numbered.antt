@@ -1,5 +1,5 @@
 -- All parts that have layouts have numbers.
-use Rattle.std.proofs.Common.{◌≡◌, ℕ, ◌<◌, List, ◌++◌, Contains, map, length, get_or, sym, subst, arith}
+use Rattle.std.proofs.Common.{◌≡◌, ℕ, ◌+◌, ◌*◌, ◌<◌, List, ◌++◌, Contains, map, length, get_or, sym, subst, arith}
 use Rattle.std.specs.List.{flat_map, range_with_len}
 use Rattle.std.specs.declared.option.Option.{Option}
 use Rattle.std.proofs.lemmas.List.{length-map}
@@ -10,11 +10,12 @@ use Rattle.abc_file_types.specs.declared.classes.Instance.{Instance}
 use Rattle.abc_file_types.specs.declared.tables.Abc.{Abc}
 use Rattle.abc_link_layouts.specs.Forest.{class_bases, class_in}
 use Rattle.abc_link_layouts.specs.Numbering.{numbering, parts_in}
-use Rattle.abc_link_program.specs.Numbering.{IsNumbering}
-use Rattle.abc_link_program.specs.Parts.{HasLayout}
-use Rattle.abc_link_program.specs.declared.part.Part.{Part}
-use Rattle.abc_link_program.specs.declared.part.Part.TheVariants as parts
+use Rattle.abc_link_names.specs.Numbering.{IsNumbering}
+use Rattle.abc_link_names.specs.Parts.{HasLayout}
+use Rattle.abc_link_names.specs.declared.part.Part.{Part}
+use Rattle.abc_link_names.specs.declared.part.Part.TheVariants as parts
 use Rattle.abc_link_layouts.proofs.Adding.{AddsBodies, AddsEach, AddsParts, adds_none, adds_then, bodies_added, class_objects_added, contains_map, globals_added, host_objects_added, instances_added}
+use Rattle.abc_link_layouts.proofs.Apart.{AreApart, bodies_apart, both_apart, class_objects_apart, globals_apart, host_objects_apart, hosts_apart, instances_apart}
 use Rattle.abc_link_layouts.proofs.Hosts.{has_hosts, host_known, host_parts, hosts_behind, hosts_only}
 
 -- ---- the parts as they come, kind after kind
@@ -39,8 +40,17 @@ numbered_with v nodes places o = record {
   every = every;
   only = all.only (hosts_only v);
   behind = all.behind has_hosts (hosts_behind v);
+  apart = apart.apart;
 }
   where
+    apart : AreApart 0 (5 + 2 * (0 + length v.bodies)) (with_bodies v nodes)
+    apart =
+        let old = both_apart 0 1 2 host_parts (map (λ h. parts.HostClassObject h) host_classes) hosts_apart host_objects_apart in
+        let made = both_apart 0 2 3 with_objects (map (λ k. parts.Instance k) nodes) old (instances_apart v nodes places o) in
+        let classes = both_apart 0 3 4 (with_instances nodes) (map (λ k. parts.ClassObject k) (range_with_len 0 (length v.instances))) made (class_objects_apart (length v.instances)) in
+        let globals = both_apart 0 4 5 (with_class_objects v nodes) (map (λ s. parts.Global s) (range_with_len 0 (length v.scripts))) classes (globals_apart (length v.scripts)) in
+        both_apart 0 5 (5 + 2 * (0 + length v.bodies)) (with_globals v nodes) (flat_map (parts_in v) (range_with_len 0 (length v.bodies))) globals (bodies_apart v 0 (length v.bodies))
+
     objects : AddsParts v host_parts with_objects
     objects = host_objects_added v host_parts host_parts host_classes (adds_none v host_parts)
 

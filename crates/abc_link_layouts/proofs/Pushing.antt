@@ -5,11 +5,11 @@ use Rattle.std.proofs.lemmas.List.FromFn.{map-range_with_len_more}
 use Rattle.std.specs.List.{flat_map, range_with_len}
 use Rattle.abc_base.specs.declared.names.HostClass.{HostClass}
 use Rattle.abc_base_graphs.specs.Orders.{order_of_all}
-use Rattle.abc_link_names.specs.Parts.{body_at}
+use Rattle.abc_link_names.specs.PartsByNumber.{body_at}
 use Rattle.abc_link_names.specs.Meaning.{host_classes}
-use Rattle.abc_link_program.specs.Parts.{has_activation}
-use Rattle.abc_link_program.specs.declared.part.Part.{Part}
-use Rattle.abc_link_program.specs.declared.part.Part.TheVariants as parts
+use Rattle.abc_link_names.specs.Parts.{has_activation}
+use Rattle.abc_link_names.specs.declared.part.Part.{Part}
+use Rattle.abc_link_names.specs.declared.part.Part.TheVariants as parts
 use Rattle.abc_file_types.specs.declared.tables.Abc.{Abc}
 use Rattle.abc_link_layouts.specs.Forest.{class_bases}
 use Rattle.abc_link_layouts.specs.Numbering.{activation_in, numbering, parts_in}

@@ -1,8 +1,8 @@
 -- What is still to be named.
 use Rattle.std.proofs.Common.{◌≡◌, ℕ, suc, ◌+◌, ◌<◌, List, ◌∷◌, ◌++◌, drop, length, get_or, refl, sym, ap, ◌∙◌, append_assoc, arith}
 use Rattle.std.proofs.Math.Seq.{drop-cons}
-use Rattle.abc_link_program.specs.Owners.{namings_from}
-use Rattle.abc_link_program.specs.declared.types.Naming.{Naming}
+use Rattle.abc_link_names.specs.Owners.{namings_from}
+use Rattle.abc_link_names.specs.declared.types.Naming.{Naming}
 
 pub rest_next : {A : Type 0} (f : ℕ → A → List Naming) (xs : List A) (k : ℕ) (x : A) (list new whole : List Naming) → k < length xs → get_or xs k x ≡ x
     → list ++ namings_from f k (drop k xs) ≡ whole → new ≡ list ++ f k x → new ++ namings_from f (k + 1) (drop (k + 1) xs) ≡ whole

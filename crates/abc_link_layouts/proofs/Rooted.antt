@@ -44,7 +44,7 @@ never_returns v all x r = go (cases_lt x (length v.instances))
     go : (x < length v.instances) ⊎ (length v.instances ≤ x) → ⊥
     go (inl lt) =
         let item : Item = record { kind = kinds.Class; index = x } in
-        all rules.BaseCycle (omega arith) item (record { within = lt }) (refl, inl r)
+        all rules.BaseCycle item (record { within = lt }) (refl, inl r)
     go (inr le) = no_edge (base_graph v) x x (omega (arith, length-map v.instances (λ (i : Instance). classes_named (resolve v i.super_name)))) r
 
 known_class : (o : Option Named) (b : ℕ) → class_in o ≡ Some b → o ≡ Some (named.Class b)

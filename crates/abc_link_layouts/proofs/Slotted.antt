@@ -11,13 +11,13 @@ use Rattle.abc_base_graphs.proofs.Laid.{heirs_next, no_heirs}
 use Rattle.abc_file_types.specs.declared.traits.TraitBody.{TraitBody}
 use Rattle.abc_file_types.specs.declared.traits.TraitBody.TheVariants as traits
 use Rattle.abc_file_types.specs.declared.traits.TraitInfo.{TraitInfo}
-use Rattle.abc_link_program.specs.Linked.{LinkedFile, base}
-use Rattle.abc_link_program.specs.Numbering.{IsNumbering, part_at}
-use Rattle.abc_link_program.specs.Slots.{numbers_in, own_numbers, own_slots, slots_in, traits_of}
-use Rattle.abc_link_program.specs.declared.part.Part.{Part}
-use Rattle.abc_link_program.specs.declared.part.Part.TheVariants as parts
-use Rattle.abc_link_program.specs.declared.types.SlotInfo.{SlotInfo}
-use Rattle.abc_link_program.proofs.Finding.{falling}
+use Rattle.abc_link_names.specs.Linked.{LinkedFile, base}
+use Rattle.abc_link_names.specs.Numbering.{IsNumbering, part_at}
+use Rattle.abc_link_names.specs.Slots.{numbers_in, own_numbers, own_slots, slots_in, traits_of}
+use Rattle.abc_link_names.specs.declared.part.Part.{Part}
+use Rattle.abc_link_names.specs.declared.part.Part.TheVariants as parts
+use Rattle.abc_link_names.specs.declared.types.SlotInfo.{SlotInfo}
+use Rattle.abc_link_names.proofs.Finding.{falling}
 use Rattle.abc_link_layouts.specs.Tables.{HasSlots}
 
 pub slots_none : (l : LinkedFile) → IsNumbering l.file l.parts → HasSlots l [] 0

@@ -1,6 +1,6 @@
 -- A file and its layouts, as a linked file.
 use Rattle.abc_link_layouts.specs.declared.layouts.Layouts.{Layouts}
-use Rattle.abc_link_program.specs.Linked.{LinkedFile}
+use Rattle.abc_link_names.specs.Linked.{LinkedFile}
 use Rattle.abc_file_types.specs.declared.tables.Abc.{Abc}
 
 abbrev pub linked : Abc → Layouts → LinkedFile

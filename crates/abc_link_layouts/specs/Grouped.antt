@@ -4,8 +4,8 @@ use Rattle.abc_base_graphs.specs.ByText.{GroupsTexts}
 use Rattle.abc_base_graphs.specs.Groups.{GroupMap}
 use Rattle.abc_base_graphs.specs.declared.texts.Texts.{Texts}
 use Rattle.abc_link_layouts.specs.Strings.{trait_strings}
-use Rattle.abc_link_program.specs.Linked.{LinkedFile}
-use Rattle.abc_link_program.specs.Traits.{own_table_of}
+use Rattle.abc_link_names.specs.Linked.{LinkedFile}
+use Rattle.abc_link_names.specs.Traits.{own_table_of}
 
 -- those of the first n layouts
 pub record HasGroups (l : LinkedFile) (t : Texts) (groups : List GroupMap) (n : ℕ) : Type 0 where

@@ -6,13 +6,13 @@ use Rattle.std.specs.declared.hash.BuildHasherDefault.{BuildHasherDefault}
 use Rattle.indexmap.specs.IndexMap.{get, IndexMap}
 use Rattle.abc_base_graphs.specs.Index.{first}
 use Rattle.abc_file_types.specs.declared.tables.Abc.{Abc}
-use Rattle.abc_link_program.specs.Numbering.{IsNumbering}
-use Rattle.abc_link_program.specs.Parts.{parent}
-use Rattle.abc_link_program.specs.Places.{base_of, key_eq, part_key}
-use Rattle.abc_link_program.specs.declared.key.PartKey.{PartKey}
+use Rattle.abc_link_names.specs.Numbering.{IsNumbering}
+use Rattle.abc_link_names.specs.Parts.{parent}
+use Rattle.abc_link_names.specs.Places.{base_of, key_eq, part_key}
+use Rattle.abc_link_names.specs.declared.key.PartKey.{PartKey}
 use Rattle.abc_link_layouts.specs.Numbering.{numbering}
 use Rattle.abc_link_layouts.specs.declared.layouts.Layouts.{Layouts}
-use Rattle.abc_link_program.specs.declared.part.Part.{Part}
+use Rattle.abc_link_names.specs.declared.part.Part.{Part}
 
 abbrev pub PlaceMap : Type 0
 PlaceMap = IndexMap PartKey ℕ (BuildHasherDefault FoldHasher)

@@ -2,7 +2,7 @@
 use Rattle.std.specs.Prelude.{◌≡◌, ℕ, ◌<◌, List, Some, None, drop, get_or, length, map, nat_eq, if◌then◌else◌}
 use Rattle.std.specs.declared.option.Option.{Option}
 use Rattle.abc_base_graphs.specs.Index.{first, first_from}
-use Rattle.abc_link_program.specs.Owners.{namings}
+use Rattle.abc_link_names.specs.Owners.{namings}
 use Rattle.abc_link_names.specs.Methods.{methods_with_bodies}
 use Rattle.abc_file_types.specs.declared.tables.Abc.{Abc}
 use Rattle.abc_link_layouts.specs.declared.owners.Owners.{Owners}

@@ -1,12 +1,12 @@
 ghost use Rattle.std.specs.Prelude.{◌≡◌, ◌<◌, ◌^◌, length, map, IfOk};
 ghost use Rattle.abc_base_graphs.specs.Index.{first};
 ghost use Rattle.indexmap.specs.IndexMap.{get};
-ghost use Rattle.abc_link_program.specs.Places.{key_eq, part_key as key_of};
-ghost use Rattle.abc_link_program.specs.declared.key.PartKey.{PartKey as AnyKey};
+ghost use Rattle.abc_link_names.specs.Places.{key_eq, part_key as key_of};
+ghost use Rattle.abc_link_names.specs.declared.key.PartKey.{PartKey as AnyKey};
 
 use abc_base::NoMemory;
 use abc_base_graphs::index_of;
-use abc_link_program::{Part, PartKey, part_key};
+use abc_link_names::{Part, PartKey, part_key};
 use indexmap::IndexMap;
 use std::alloc::Global;
 

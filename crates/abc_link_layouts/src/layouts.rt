@@ -2,10 +2,10 @@ ghost use Rattle.std.specs.Prelude.{◌≡◌, ◌<◌, length, map, IfOk};
 ghost use Rattle.std.specs.Option.{option_map};
 ghost use Rattle.abc_base_graphs.specs.Ways.{IsFalling};
 ghost use Rattle.abc_link_layouts.specs.Laid.{AreLayouts, HasPlaces, base_found, place_found};
-ghost use Rattle.abc_link_program.specs.Numbering.{part_at};
-ghost use Rattle.abc_link_program.specs.Parts.{HasLayout, base_part as base_part_of, host_parent as host_parent_of, parent as parent_of};
-ghost use Rattle.abc_link_program.specs.Places.{base_of, place_of};
-ghost use Rattle.abc_link_program.specs.declared.part.Part.{Part as AnyPart};
+ghost use Rattle.abc_link_names.specs.Numbering.{part_at};
+ghost use Rattle.abc_link_names.specs.Parts.{HasLayout, base_part as base_part_of, host_parent as host_parent_of, parent as parent_of};
+ghost use Rattle.abc_link_names.specs.Places.{base_of, place_of};
+ghost use Rattle.abc_link_names.specs.declared.part.Part.{Part as AnyPart};
 ghost use Rattle.abc_link_names.specs.Bases.{base_named};
 ghost use Rattle.abc_link_names.specs.Rules.{AllHold};
 
@@ -13,8 +13,7 @@ use crate::key::places_of;
 use crate::numbering::number_parts;
 use abc_base::{HostClass, NoMemory, Table};
 use abc_file_types::Abc;
-use abc_link_names::{Meanings, Named, super_name};
-use abc_link_program::{LayoutId, Part, PartKey, part_key};
+use abc_link_names::{LayoutId, Meanings, Named, Part, PartKey, part_key, super_name};
 use indexmap::IndexMap;
 use std::alloc::Global;
 

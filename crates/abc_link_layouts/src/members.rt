@@ -2,7 +2,7 @@ ghost use Rattle.std.specs.Prelude.{◌≡◌, ◌<◌, ◌+◌, ℕ, List, Some
 ghost use Rattle.std.specs.Option.{option_copied};
 ghost use Rattle.abc_base_graphs.specs.Texts.{HasTexts, number_in, numbers_in, texts_of};
 ghost use Rattle.abc_link_layouts.specs.Grouped.{HasGroups};
-ghost use Rattle.abc_link_program.specs.Traits.{own_traits as own_traits_of};
+ghost use Rattle.abc_link_names.specs.Traits.{own_traits as own_traits_of};
 ghost use Rattle.abc_link_layouts.specs.Files.{linked};
 
 use crate::layouts::Layouts;
@@ -11,7 +11,7 @@ use crate::parts::traits_of;
 use abc_base::{NoMemory, Table};
 use abc_base_graphs::Texts;
 use abc_file_types::Abc;
-use abc_link_program::LayoutId;
+use abc_link_names::LayoutId;
 use indexmap::IndexMap;
 use std::alloc::Global;
 

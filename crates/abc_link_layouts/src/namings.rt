@@ -1,9 +1,9 @@
 ghost use Rattle.std.specs.Prelude.{◌≡◌, ◌++◌, ◌∷◌, ◌<◌, ◌^◌, [], length, IfOk, IsTrue, OnOk};
-ghost use Rattle.abc_link_program.specs.Owners.{naming, namings as namings_in_file, namings_among, namings_from, namings_in, namings_of, of_class, of_instance, of_script};
+ghost use Rattle.abc_link_names.specs.Owners.{naming, namings as namings_in_file, namings_among, namings_from, namings_in, namings_of, of_class, of_instance, of_script};
 
 use abc_base::{NoMemory, Table};
 use abc_file_types::{Abc, TraitBody, TraitInfo};
-use abc_link_program::{Naming, Owner};
+use abc_link_names::{Naming, Owner};
 use std::alloc::Global;
 
 /// Adds a method, and what names it.

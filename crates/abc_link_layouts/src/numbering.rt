@@ -3,17 +3,16 @@ ghost use Rattle.std.specs.List.{flat_map, range_with_len};
 ghost use Rattle.abc_base_graphs.specs.Orders.{IsOrder};
 ghost use Rattle.abc_link_layouts.specs.Forest.{class_bases};
 ghost use Rattle.abc_link_layouts.specs.Numbering.{activation_in, numbering, parts_in};
-ghost use Rattle.abc_link_program.specs.Numbering.{IsNumbering};
-ghost use Rattle.abc_link_program.specs.Parts.{has_activation as activates};
-ghost use Rattle.abc_link_names.specs.Parts.{body_at, method_at};
+ghost use Rattle.abc_link_names.specs.Numbering.{IsNumbering};
+ghost use Rattle.abc_link_names.specs.Parts.{has_activation as activates};
+ghost use Rattle.abc_link_names.specs.PartsByNumber.{body_at, method_at};
 ghost use Rattle.abc_link_names.specs.Rules.{AllHold};
 
 use crate::forest::class_order;
 use abc_base::{HostClass, NoMemory, Table};
 use abc_base_graphs::Order;
 use abc_file_types::{Abc, has_flag};
-use abc_link_names::{HOST_CLASSES, Meanings, handlers};
-use abc_link_program::Part;
+use abc_link_names::{HOST_CLASSES, Meanings, Part, handlers};
 use std::alloc::Global;
 
 /// The instances of the classes of the host.
@@ -79,7 +78,7 @@ fn push_catches(parts: &mut Table<Part>, body: u32, count: u32) -> Result<(), No
     Ok(())
 }
 
-/// The flags of the method of a body.
+/// The method of a body.
 #[tactic(auto, using(abc_base::proofs::Past::past_end))]
 fn body_method(abc: &Abc, body: u32) -> u32
     ensures { result ≡ (body_at abc.now body).method }

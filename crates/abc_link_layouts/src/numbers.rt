@@ -4,7 +4,7 @@ ghost use Rattle.abc_base_graphs.specs.Index.{first};
 ghost use Rattle.abc_base_graphs.specs.Texts.{HasTexts, numbers_in, texts_of};
 ghost use Rattle.abc_base_graphs.specs.ByText.{GroupsTexts};
 ghost use Rattle.abc_link_layouts.specs.Strings.{trait_strings};
-ghost use Rattle.abc_link_program.specs.Traits.{trait_name};
+ghost use Rattle.abc_link_names.specs.Traits.{trait_name};
 
 use abc_base::{NoMemory, Table};
 use abc_base_graphs::{Texts, groups_of};

@@ -1,13 +1,13 @@
 ghost use Rattle.std.specs.Prelude.{◌≡◌, ◌<◌, ◌^◌, length, map, IfOk, OnOk};
 ghost use Rattle.abc_base_graphs.specs.Index.{first};
-ghost use Rattle.abc_link_program.specs.Owners.{body_of, owner_at as owner_at_of, owner_of};
+ghost use Rattle.abc_link_names.specs.Owners.{body_of, owner_at as owner_at_of, owner_of};
 ghost use Rattle.abc_link_names.specs.Methods.{methods_with_bodies as all_with_bodies};
 ghost use Rattle.abc_link_layouts.specs.Owning.{AreOwners, HasFirsts, Puts, Reaches};
 
 use crate::namings::namings;
 use abc_base::{NoMemory, Table};
 use abc_file_types::Abc;
-use abc_link_program::{Naming, Owner};
+use abc_link_names::{Naming, Owner};
 use std::alloc::Global;
 
 /// Whose method each method is, and which body it has.

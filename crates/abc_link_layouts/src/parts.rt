@@ -1,9 +1,8 @@
 ghost use Rattle.std.specs.Prelude.{◌≡◌};
-ghost use Rattle.abc_link_program.specs.Slots.{handler_at, traits_of as traits_in};
+ghost use Rattle.abc_link_names.specs.Slots.{handler_at, traits_of as traits_in};
 
 use abc_file_types::{Abc, TraitInfo};
-use abc_link_names::{body_traits, class_traits, handlers, instance_traits, script_traits};
-use abc_link_program::Part;
+use abc_link_names::{Part, body_traits, class_traits, handlers, instance_traits, script_traits};
 
 /// The own table of traits of a part; those of the host and catch objects have none.
 #[inline(always)]

@@ -3,11 +3,11 @@ ghost use Rattle.std.specs.List.{flat_map};
 ghost use Rattle.abc_base_graphs.specs.Heirs.{AreHeirs};
 ghost use Rattle.abc_link_layouts.specs.Laid.{AreLayouts, HasPlaces};
 ghost use Rattle.abc_link_names.specs.Meaning.{type_named};
-ghost use Rattle.abc_link_program.specs.Numbering.{part_at};
-ghost use Rattle.abc_link_program.specs.Slots.{numbers_in, own_numbers as own_numbers_of, own_slots as own_slots_of, slots_in};
-ghost use Rattle.abc_link_program.specs.Types.{type_in as type_of_named};
+ghost use Rattle.abc_link_names.specs.Numbering.{part_at};
+ghost use Rattle.abc_link_names.specs.Slots.{numbers_in, own_numbers as own_numbers_of, own_slots as own_slots_of, slots_in};
+ghost use Rattle.abc_link_names.specs.Types.{type_in as type_of_named};
 ghost use Rattle.abc_link_names.specs.Starts.{default_of, start_of as starts_at};
-ghost use Rattle.abc_link_names.specs.Traits.{type_or_any};
+ghost use Rattle.abc_link_names.specs.ItemTypes.{type_or_any};
 ghost use Rattle.abc_link_layouts.specs.Files.{linked};
 ghost use Rattle.abc_link_layouts.specs.Tables.{HasSlots};
 
@@ -17,8 +17,7 @@ use crate::types::type_in;
 use abc_base::{HostClass, NoMemory, Table};
 use abc_base_graphs::Heirs;
 use abc_file_types::{Abc, OptionValue, TraitBody, TraitInfo};
-use abc_link_names::{Meanings, Named, Start, start_of};
-use abc_link_program::{LayoutId, Part, SlotInfo, Ty};
+use abc_link_names::{LayoutId, Meanings, Named, Part, SlotInfo, Start, Ty, start_of};
 use std::alloc::Global;
 
 /// What a type's name stands for. A name that stands for nothing counts as any.

@@ -1,13 +1,12 @@
 ghost use Rattle.std.specs.Prelude.{◌≡◌};
 ghost use Rattle.abc_link_layouts.specs.Laid.{HasPlaces};
-ghost use Rattle.abc_link_program.specs.Types.{host_type as type_of_host, type_in as type_of_named};
+ghost use Rattle.abc_link_names.specs.Types.{host_type as type_of_host, type_in as type_of_named};
 ghost use Rattle.abc_link_layouts.specs.Files.{linked};
 
 use crate::layouts::Layouts;
 use abc_base::HostClass;
 use abc_file_types::Abc;
-use abc_link_names::{Named, is_interface};
-use abc_link_program::{Part, Ty};
+use abc_link_names::{Named, Part, Ty, is_interface};
 
 /// The type of a class of the host.
 #[inline(always)]

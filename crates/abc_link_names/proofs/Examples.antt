@@ -11,11 +11,15 @@ use Rattle.abc_link_names.specs.declared.items.ItemKind.{ItemKind}
 use Rattle.abc_link_names.specs.declared.items.ItemKind.TheVariants as kinds
 use Rattle.abc_link_names.specs.declared.items.LinkRule.{LinkRule}
 use Rattle.abc_link_names.specs.declared.items.LinkRule.TheVariants as rules
-use Rattle.abc_link_names.specs.Bases.{base_graph, interface_graph}
+use Rattle.abc_link_names.specs.Bases.{base_graph, base_named, breaks_unknown_base, breaks_unknown_interface, interface_graph, is_final_base, is_interface_named}
 use Rattle.abc_link_names.specs.Examples.{RuleExamples}
 use Rattle.abc_link_names.specs.Firsts.{item}
 use Rattle.abc_link_names.specs.Items.{IsItem, StandsBefore, count_of, kind_number, rule_number}
-use Rattle.abc_link_names.specs.Rules.{AllHoldBefore, Breaks, IsFirstBroken, breaks_plainly, is_class}
+use Rattle.abc_link_names.specs.Methods.{breaks_no_body, breaks_owned_twice}
+use Rattle.abc_link_names.specs.PartsByNumber.{body_at}
+use Rattle.abc_link_names.specs.Rules.{AllHoldBefore, Breaks, IsFirstBroken, is_kind, is_too_large}
+use Rattle.abc_link_names.specs.ItemTypes.{any_pair, any_table, breaks_name_kind, breaks_trait_not_run, breaks_unknown_type, names_clash, slots_clash}
+use Rattle.abc_link_names.proofs.FirstBroken.{all_hold}
 
 -- ---- tests of all numbers and of all elements
 
@@ -56,8 +60,20 @@ no_return graph x e r = let low = leads_down graph x x e r in omega (arith, low)
 -- ---- an item keeps a rule; BaseCycle, where no edge leads to a class behind
 
 abbrev keeps : Abc → LinkRule → Item → Bool
-keeps v rules.BaseCycle i = not (is_class i.kind) || (falls (base_graph v) && falls (interface_graph v))
-keeps v rule i = not (breaks_plainly v rule i)
+keeps v rules.NoScript i = not (is_kind kinds.File i.kind && nat_eq (length v.scripts) 0)
+keeps v rules.NameKind i = not (breaks_name_kind v i.kind i.index)
+keeps v rules.UnknownBase i = not (is_kind kinds.Class i.kind && breaks_unknown_base v i.index)
+keeps v rules.BaseCycle i = not (is_kind kinds.Class i.kind) || (falls (base_graph v) && falls (interface_graph v))
+keeps v rules.FinalBase i = not (is_kind kinds.Class i.kind && is_final_base v (base_named v i.index))
+keeps v rules.BaseIsInterface i = not (is_kind kinds.Class i.kind && is_interface_named v (base_named v i.index))
+keeps v rules.UnknownInterface i = not (is_kind kinds.Class i.kind && breaks_unknown_interface v i.index)
+keeps v rules.UnknownType i = not (breaks_unknown_type v i.kind i.index)
+keeps v rules.OwnedTwice i = not (is_kind kinds.Method i.kind && breaks_owned_twice v i.index)
+keeps v rules.NoBody i = not (is_kind kinds.Method i.kind && breaks_no_body v i.index)
+keeps v rules.SameName i = not (any_table (any_pair (names_clash v)) v i.kind i.index)
+keeps v rules.SameSlot i = not (any_table (any_pair slots_clash) v i.kind i.index)
+keeps v rules.TraitNotRun i = not (breaks_trait_not_run v i.kind i.index)
+keeps v rules.TooLarge i = not (is_kind kinds.Body i.kind && is_too_large (body_at v i.index))
 
 never_both : (b : Bool) → not b ≡ true → b ≡ true → ⊥
 never_both true e h = cc
@@ -72,7 +88,7 @@ kept v rules.NoScript i e h = never_both _ e h
 kept v rules.NameKind i e h = never_both _ e h
 kept v rules.UnknownBase i e h = never_both _ e h
 kept v rules.BaseCycle i e h =
-    let both = no_cycle (is_class i.kind) (falls (base_graph v)) (falls (interface_graph v)) e h.0 in
+    let both = no_cycle (is_kind kinds.Class i.kind) (falls (base_graph v)) (falls (interface_graph v)) e h.0 in
     elim h.1 [ inl r ↦ no_return (base_graph v) i.index both.0 r | inr r ↦ no_return (interface_graph v) i.index both.1 r ]
 kept v rules.FinalBase i e h = never_both _ e h
 kept v rules.BaseIsInterface i e h = never_both _ e h
@@ -196,5 +212,5 @@ rule_examples = record {
   too_large = told _ _ _ refl refl refl refl;
   earlier_rule = told _ _ _ refl refl refl refl;
   earlier_item = told _ _ _ refl refl refl refl;
-  all_hold = all_quiet _ 15 refl;
+  all_hold = all_hold _ (all_quiet _ 15 refl);
 }

@@ -3,7 +3,7 @@ use Rattle.std.proofs.Common.{◌≡◌, ℕ, zero, suc, ◌+◌, ◌<◌, ◌�
 use Rattle.std.specs.List.{list_any}
 use Rattle.std.proofs.lemmas.Bool.{false≢true}
 use Rattle.abc_base_graphs.specs.Index.{first_from, first}
-use Rattle.abc_link_names.specs.Traits.{any_pair}
+use Rattle.abc_link_names.specs.ItemTypes.{any_pair}
 
 -- ---- some value passes a test
 

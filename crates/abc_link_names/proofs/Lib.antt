@@ -2,8 +2,14 @@ pub mod Numbering
 pub mod InGroups
 pub mod Meant
 pub mod SameKeys
-pub mod Order
+pub mod FirstBroken
 pub mod Paired
 pub mod ItemsPairs
 pub mod Within
-mod Examples
+pub mod Examples
+pub mod Finding
+pub mod Tree
+pub mod Order
+pub mod ClassBases
+pub mod MethodBodies
+pub mod FewSlots

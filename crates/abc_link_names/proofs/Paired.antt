@@ -1,7 +1,7 @@
 -- Pairs of values of a list, of which the first is taken away.
 use Rattle.std.proofs.Common.{◌≡◌, Bool, true, false, ◌||◌, List, [], ◌∷◌, length, sym, ap, ◌∙◌, arith}
 use Rattle.std.specs.List.{list_any, IsFirstAndRest}
-use Rattle.abc_link_names.specs.Traits.{any_pair}
+use Rattle.abc_link_names.specs.ItemTypes.{any_pair}
 
 abbrev either : {A : Type 0} → (A → A → Bool) → A → List A → Bool → Bool
 either clash x rest b = b || any_pair clash rest

@@ -1,5 +1,5 @@
 -- Bases and interfaces of classes.
-use Rattle.std.specs.Prelude.{ℕ, List, [], ◌∷◌, Bool, true, false, nat_eq, not, ◌&&◌, Some, if◌then◌else◌, map}
+use Rattle.std.specs.Prelude.{ℕ, List, [], ◌∷◌, Bool, true, false, nat_eq, not, ◌&&◌, Some, None, if◌then◌else◌, map}
 use Rattle.std.specs.declared.option.Option.{Option}
 use Rattle.std.specs.List.{list_any, flat_map}
 use Rattle.abc_base.specs.declared.names.HostClass.{HostClass}
@@ -42,11 +42,16 @@ may_be_base other = false
 abbrev pub is_final_base : Abc → Option Named → Bool
 is_final_base v (Some (named.Class b)) = is_final v b
 is_final_base v (Some (named.Host h)) = not (may_be_base h)
-is_final_base v other = false
+is_final_base v (Some named.Any) = false
+is_final_base v (Some named.Void) = false
+is_final_base v None = false
 
 abbrev pub is_interface_named : Abc → Option Named → Bool
 is_interface_named v (Some (named.Class b)) = is_interface v b
-is_interface_named v other = false
+is_interface_named v (Some (named.Host h)) = false
+is_interface_named v (Some named.Any) = false
+is_interface_named v (Some named.Void) = false
+is_interface_named v None = false
 
 abbrev pub breaks_unknown_interface : Abc → ℕ → Bool
 breaks_unknown_interface v k = list_any (λ n. not (is_interface_named v (resolve v n))) (instance_at v k).interfaces

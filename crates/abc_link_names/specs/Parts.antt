@@ -1,51 +1,61 @@
--- The parts of a file by their numbers; no number past the end is asked for.
-use Rattle.std.specs.Prelude.{ℕ, List, [], get_or}
-use Rattle.abc_link_names.specs.Instances.{instance_at}
-use Rattle.abc_file_types.specs.declared.methods.Method.{Method}
-use Rattle.abc_file_types.specs.declared.traits.TraitInfo.{TraitInfo}
-use Rattle.abc_file_types.specs.declared.classes.ClassInfo.{ClassInfo}
-use Rattle.abc_file_types.specs.declared.classes.Script.{Script}
-use Rattle.abc_file_types.specs.declared.code.Body.{Body}
+-- What has a layout, and what stands under what.
+use Rattle.std.specs.Prelude.{ℕ, ◌<◌, Bool, Some, None, IsTrue, length}
+use Rattle.std.specs.declared.option.Option.{Option}
+use Rattle.abc_base.specs.declared.names.HostClass.{HostClass}
+use Rattle.abc_base.specs.declared.names.HostClass.TheVariants as hosts
+use Rattle.abc_link_names.specs.declared.named.Named.{Named}
+use Rattle.abc_link_names.specs.declared.named.Named.TheVariants as named
+use Rattle.abc_file_types.specs.Methods.{has_flag}
 use Rattle.abc_file_types.specs.declared.tables.Abc.{Abc}
-use Rattle.abc_link_names.specs.declared.items.ItemKind.{ItemKind}
-use Rattle.abc_link_names.specs.declared.items.ItemKind.TheVariants as kinds
+use Rattle.abc_link_names.specs.Bases.{base_named}
+use Rattle.abc_link_names.specs.PartsByNumber.{body_at, method_at}
+use Rattle.abc_link_names.specs.declared.part.Part.{Part}
+use Rattle.abc_link_names.specs.declared.part.Part.TheVariants as parts
 
-abbrev pub no_method : Method
-no_method = record { ret = 0; params = []; name = 0; flags = 0; options = []; param_names = [] }
+-- a body makes an activation where its method has flag 02
+abbrev pub has_activation : Abc → ℕ → Bool
+has_activation v b = has_flag (method_at v (body_at v b).method).flags 0x02
 
-abbrev pub method_at : Abc → ℕ → Method
-method_at v i = get_or v.methods i no_method
+-- the parts that have layouts
+abbrev pub HasLayout : Abc → Part → Type 0
+HasLayout v (parts.Host h) = Unit {0}
+HasLayout v (parts.HostClassObject h) = Unit {0}
+HasLayout v (parts.Instance k) = k < length v.instances
+HasLayout v (parts.ClassObject k) = k < length v.instances
+HasLayout v (parts.Global s) = s < length v.scripts
+HasLayout v (parts.Activation b) = (b < length v.bodies) × IsTrue (has_activation v b)
+HasLayout v (parts.Catch b e) = (b < length v.bodies) × (e < length (body_at v b).handlers)
 
-abbrev pub no_class : ClassInfo
-no_class = record { cinit = 0; traits = [] }
+-- ---- what a part stands under
 
-abbrev pub class_at : Abc → ℕ → ClassInfo
-class_at v i = get_or v.classes i no_class
+-- Error's three stand under Error, all other classes of the host under Object
+abbrev pub host_parent : HostClass → Option Part
+host_parent hosts.Object = None
+host_parent hosts.TypeError = Some (parts.Host hosts.Error)
+host_parent hosts.ReferenceError = Some (parts.Host hosts.Error)
+host_parent hosts.ArgumentError = Some (parts.Host hosts.Error)
+host_parent hosts.Class = Some (parts.Host hosts.Object)
+host_parent hosts.Function = Some (parts.Host hosts.Object)
+host_parent hosts.Namespace = Some (parts.Host hosts.Object)
+host_parent hosts.Str = Some (parts.Host hosts.Object)
+host_parent hosts.Int = Some (parts.Host hosts.Object)
+host_parent hosts.UInt = Some (parts.Host hosts.Object)
+host_parent hosts.Number = Some (parts.Host hosts.Object)
+host_parent hosts.Boolean = Some (parts.Host hosts.Object)
+host_parent hosts.Error = Some (parts.Host hosts.Object)
+host_parent hosts.Array = Some (parts.Host hosts.Object)
 
-abbrev pub no_script : Script
-no_script = record { init = 0; traits = [] }
+-- the instances of what a base's name stands for; without a base those of Object
+abbrev pub base_part : Option Named → Part
+base_part (Some (named.Class b)) = parts.Instance b
+base_part (Some (named.Host h)) = parts.Host h
+base_part other = parts.Host hosts.Object
 
-abbrev pub script_at : Abc → ℕ → Script
-script_at v i = get_or v.scripts i no_script
-
-abbrev pub no_body : Body
-no_body = record { method = 0; max_stack = 0; local_count = 0; init_scope = 0; max_scope = 0; code = []; handlers = []; traits = [] }
-
-abbrev pub body_at : Abc → ℕ → Body
-body_at v i = get_or v.bodies i no_body
-
--- the table of traits of an item: of a class that of the class itself
-abbrev pub own_table : Abc → ItemKind → ℕ → List TraitInfo
-own_table v kinds.File i = []
-own_table v kinds.Method i = []
-own_table v kinds.Class i = (class_at v i).traits
-own_table v kinds.Script i = (script_at v i).traits
-own_table v kinds.Body i = (body_at v i).traits
-
--- a class has another, that of its instances
-abbrev pub instance_table : Abc → ItemKind → ℕ → List TraitInfo
-instance_table v kinds.File i = []
-instance_table v kinds.Method i = []
-instance_table v kinds.Class i = (instance_at v i).traits
-instance_table v kinds.Script i = []
-instance_table v kinds.Body i = []
+abbrev pub parent : Abc → Part → Option Part
+parent v (parts.Host h) = host_parent h
+parent v (parts.HostClassObject h) = Some (parts.Host hosts.Class)
+parent v (parts.Instance k) = Some (base_part (base_named v k))
+parent v (parts.ClassObject k) = Some (parts.Host hosts.Class)
+parent v (parts.Global s) = Some (parts.Host hosts.Object)
+parent v (parts.Activation b) = Some (parts.Host hosts.Object)
+parent v (parts.Catch b e) = Some (parts.Host hosts.Object)

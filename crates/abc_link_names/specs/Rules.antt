@@ -1,5 +1,5 @@
 -- When an item of a file breaks a rule of linking, and the first broken rule.
-use Rattle.std.specs.Prelude.{ℕ, ◌<◌, ◌⊎◌, Bool, true, false, nat_eq, nat_lt, ◌||◌, IsTrue, length}
+use Rattle.std.specs.Prelude.{ℕ, ◌<◌, ◌⊎◌, Bool, nat_eq, nat_lt, ◌&&◌, ◌||◌, IsTrue, length}
 use Rattle.abc_base_graphs.specs.Graph.{Returns}
 use Rattle.abc_file_types.specs.declared.code.Body.{Body}
 use Rattle.abc_file_types.specs.declared.tables.Abc.{Abc}
@@ -8,27 +8,11 @@ use Rattle.abc_link_names.specs.declared.items.LinkRule.TheVariants as rules
 use Rattle.abc_link_names.specs.declared.items.ItemKind.{ItemKind}
 use Rattle.abc_link_names.specs.declared.items.ItemKind.TheVariants as kinds
 use Rattle.abc_link_names.specs.declared.items.Item.{Item}
-use Rattle.abc_link_names.specs.Items.{IsItem, StandsBefore, rule_number}
-use Rattle.abc_link_names.specs.Parts.{body_at}
+use Rattle.abc_link_names.specs.Items.{IsItem, StandsBefore, kind_number, rule_number}
+use Rattle.abc_link_names.specs.PartsByNumber.{body_at}
 use Rattle.abc_link_names.specs.Bases.{base_graph, base_named, breaks_unknown_base, breaks_unknown_interface, interface_graph, is_final_base, is_interface_named}
 use Rattle.abc_link_names.specs.Methods.{breaks_no_body, breaks_owned_twice}
-use Rattle.abc_link_names.specs.Traits.{any_pair, any_table, breaks_name_kind, breaks_trait_not_run, breaks_unknown_type, names_clash, slots_clash}
-
-abbrev pub breaks_file : Abc → LinkRule → Bool
-breaks_file v rules.NoScript = nat_eq (length v.scripts) 0
-breaks_file v other = false
-
-abbrev pub breaks_class : Abc → LinkRule → ℕ → Bool
-breaks_class v rules.UnknownBase k = breaks_unknown_base v k
-breaks_class v rules.FinalBase k = is_final_base v (base_named v k)
-breaks_class v rules.BaseIsInterface k = is_interface_named v (base_named v k)
-breaks_class v rules.UnknownInterface k = breaks_unknown_interface v k
-breaks_class v other k = false
-
-abbrev pub breaks_method : Abc → LinkRule → ℕ → Bool
-breaks_method v rules.OwnedTwice m = breaks_owned_twice v m
-breaks_method v rules.NoBody m = breaks_no_body v m
-breaks_method v other m = false
+use Rattle.abc_link_names.specs.ItemTypes.{any_pair, any_table, breaks_name_kind, breaks_trait_not_run, breaks_unknown_type, names_clash, slots_clash}
 
 abbrev pub size_limit : ℕ
 size_limit = 65535
@@ -36,38 +20,25 @@ size_limit = 65535
 abbrev pub is_too_large : Body → Bool
 is_too_large b = nat_lt size_limit b.max_stack || nat_lt size_limit b.local_count || nat_lt size_limit b.max_scope
 
-abbrev pub breaks_body : Abc → LinkRule → ℕ → Bool
-breaks_body v rules.TooLarge b = is_too_large (body_at v b)
-breaks_body v other b = false
-
--- the rules on items of one kind
-abbrev pub breaks_of_kind : Abc → LinkRule → ItemKind → ℕ → Bool
-breaks_of_kind v rule kinds.File i = breaks_file v rule
-breaks_of_kind v rule kinds.Method m = breaks_method v rule m
-breaks_of_kind v rule kinds.Class k = breaks_class v rule k
-breaks_of_kind v rule kinds.Script s = false
-breaks_of_kind v rule kinds.Body b = breaks_body v rule b
-
--- the rules on the names, traits and types of any item
-abbrev pub breaks_any : Abc → LinkRule → ItemKind → ℕ → Bool
-breaks_any v rules.NameKind kind i = breaks_name_kind v kind i
-breaks_any v rules.UnknownType kind i = breaks_unknown_type v kind i
-breaks_any v rules.SameName kind i = any_table (any_pair (names_clash v)) v kind i
-breaks_any v rules.SameSlot kind i = any_table (any_pair slots_clash) v kind i
-breaks_any v rules.TraitNotRun kind i = breaks_trait_not_run v kind i
-breaks_any v other kind i = false
-
-abbrev pub breaks_plainly : Abc → LinkRule → Item → Bool
-breaks_plainly v rule i = breaks_any v rule i.kind i.index || breaks_of_kind v rule i.kind i.index
-
-abbrev pub is_class : ItemKind → Bool
-is_class kinds.Class = true
-is_class other = false
+abbrev pub is_kind : ItemKind → ItemKind → Bool
+is_kind k l = nat_eq (kind_number k) (kind_number l)
 
 -- The item breaks the rule. Only BaseCycle is no plain test: following bases, or interfaces of interfaces, returns.
 abbrev pub Breaks : Abc → LinkRule → Item → Type 0
-Breaks v rules.BaseCycle i = IsTrue (is_class i.kind) × (Returns (base_graph v) i.index ⊎ Returns (interface_graph v) i.index)
-Breaks v rule i = IsTrue (breaks_plainly v rule i)
+Breaks v rules.NoScript i = IsTrue (is_kind kinds.File i.kind && nat_eq (length v.scripts) 0)
+Breaks v rules.NameKind i = IsTrue (breaks_name_kind v i.kind i.index)
+Breaks v rules.UnknownBase i = IsTrue (is_kind kinds.Class i.kind && breaks_unknown_base v i.index)
+Breaks v rules.BaseCycle i = IsTrue (is_kind kinds.Class i.kind) × (Returns (base_graph v) i.index ⊎ Returns (interface_graph v) i.index)
+Breaks v rules.FinalBase i = IsTrue (is_kind kinds.Class i.kind && is_final_base v (base_named v i.index))
+Breaks v rules.BaseIsInterface i = IsTrue (is_kind kinds.Class i.kind && is_interface_named v (base_named v i.index))
+Breaks v rules.UnknownInterface i = IsTrue (is_kind kinds.Class i.kind && breaks_unknown_interface v i.index)
+Breaks v rules.UnknownType i = IsTrue (breaks_unknown_type v i.kind i.index)
+Breaks v rules.OwnedTwice i = IsTrue (is_kind kinds.Method i.kind && breaks_owned_twice v i.index)
+Breaks v rules.NoBody i = IsTrue (is_kind kinds.Method i.kind && breaks_no_body v i.index)
+Breaks v rules.SameName i = IsTrue (any_table (any_pair (names_clash v)) v i.kind i.index)
+Breaks v rules.SameSlot i = IsTrue (any_table (any_pair slots_clash) v i.kind i.index)
+Breaks v rules.TraitNotRun i = IsTrue (breaks_trait_not_run v i.kind i.index)
+Breaks v rules.TooLarge i = IsTrue (is_kind kinds.Body i.kind && is_too_large (body_at v i.index))
 
 -- ---- the first broken rule
 
@@ -84,4 +55,4 @@ pub record IsFirstBroken (v : Abc) (rule : LinkRule) (i : Item) : Type 0 where
 
 -- Every rule holds.
 abbrev pub AllHold : Abc → Type 0
-AllHold v = AllHoldBefore v 15
+AllHold v = (rule : LinkRule) (i : Item) → IsItem v i → Breaks v rule i → ⊥

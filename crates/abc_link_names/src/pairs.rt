@@ -1,6 +1,6 @@
 ghost use Rattle.std.specs.Prelude.{◌≡◌};
 ghost use Rattle.std.specs.List.{list_any};
-ghost use Rattle.abc_link_names.specs.Traits.{any_pair};
+ghost use Rattle.abc_link_names.specs.ItemTypes.{any_pair};
 
 /// Of so many values each pair may be looked at: that takes less time than to put them into a table.
 pub const FEW: usize = 16;

@@ -1,7 +1,7 @@
 ghost use Rattle.std.specs.Prelude.{◌≡◌};
 ghost use Rattle.abc_link_names.specs.Instances.{instance_at};
 ghost use Rattle.abc_link_names.specs.Bases.{is_interface as is_interface_class};
-ghost use Rattle.abc_link_names.specs.Parts.{body_at, class_at, instance_table as instance_table_of, method_at, own_table as own_table_of, script_at};
+ghost use Rattle.abc_link_names.specs.PartsByNumber.{body_at, class_at, instance_table as instance_table_of, method_at, own_table as own_table_of, script_at};
 
 use crate::items::{Item, ItemKind};
 use abc_file_types::{Abc, Handler, TraitInfo, has_flag};

@@ -50,7 +50,7 @@ fn first_of_kind<R: Rule>(
 }
 
 /// The first item that breaks a rule, where the items of the kinds before were tried already.
-#[tactic(auto, using(crate::proofs::Order::next_kind))]
+#[tactic(auto, using(crate::proofs::FirstBroken::next_kind))]
 fn or_of_kind<R: Rule>(
     alloc: Global,
     rule: &R,
@@ -72,7 +72,7 @@ fn or_of_kind<R: Rule>(
 }
 
 /// The first item of the file that breaks a rule.
-#[tactic(auto, using(crate::proofs::Order::none_below, crate::proofs::Order::all_kinds))]
+#[tactic(auto, using(crate::proofs::FirstBroken::none_below, crate::proofs::FirstBroken::all_kinds))]
 fn first_item<R: Rule>(alloc: Global, rule: &R) -> Result<Option<Item>, NoMemory>
     requires { IsFew (R.file rule.now) }
     ensures { IfOk result (λ r. IsFirstItem (R.file rule.now) (R.rule rule.now) r) }
@@ -104,7 +104,7 @@ fn first_item<R: Rule>(alloc: Global, rule: &R) -> Result<Option<Item>, NoMemory
 }
 
 /// Tries a rule on every item, where the rules before it hold.
-#[tactic(auto, using(crate::proofs::Order::refused, crate::proofs::Order::one_more))]
+#[tactic(auto, using(crate::proofs::FirstBroken::refused, crate::proofs::FirstBroken::one_more))]
 pub fn check<R: Rule>(alloc: Global, rule: &R) -> Result<(), LinkError>
     requires few { IsFew (R.file rule.now) }
     requires before { AllHoldBefore (R.file rule.now) (rule_number (R.rule rule.now)) }

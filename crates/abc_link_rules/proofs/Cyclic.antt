@@ -11,10 +11,10 @@ use Rattle.abc_link_names.specs.declared.items.ItemKind.TheVariants as kinds
 use Rattle.abc_link_names.specs.declared.items.Item.{Item}
 use Rattle.abc_link_names.specs.Items.{IsItem, StandsBefore, count_of, kind_number}
 use Rattle.abc_link_names.specs.Bases.{base_graph, interface_graph}
-use Rattle.abc_link_names.specs.Rules.{Breaks, AllHoldBefore, IsFirstBroken, is_class}
+use Rattle.abc_link_names.specs.Rules.{Breaks, AllHoldBefore, IsFirstBroken, is_kind}
 use Rattle.abc_link_names.specs.Firsts.{item}
 use Rattle.abc_link_rules.specs.Cycles.{earlier}
-use Rattle.abc_link_names.proofs.Order.{one_more}
+use Rattle.abc_link_names.proofs.FirstBroken.{one_more}
 
 -- the first class that returns over one graph or the other
 abbrev pub IsFirstOfTwo : List (List ℕ) → List (List ℕ) → Option ℕ → Type 0
@@ -47,7 +47,7 @@ first_of_two g h (Some x) (Some y) len p q = (omega (arith, p.0), which (cases_l
     go z lt (inl r) = p.2 z (omega arith) r
     go z lt (inr r) = q.2 z (omega arith) r
 
-class_only : (k : ItemKind) → IsTrue (is_class k) → k ≡ kinds.Class
+class_only : (k : ItemKind) → IsTrue (is_kind kinds.Class k) → k ≡ kinds.Class
 class_only kinds.File t = absurd (false≢true t)
 class_only kinds.Method t = absurd (false≢true t)
 class_only kinds.Class t = refl

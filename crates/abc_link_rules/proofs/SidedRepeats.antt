@@ -20,7 +20,7 @@ use Rattle.abc_file_types.specs.declared.traits.TraitInfo.{TraitInfo}
 use Rattle.abc_link_rules.specs.declared.same_name.SidedKey.{SidedKey}
 use Rattle.abc_link_rules.specs.Clashes.{TellsSides, first_of_both, first_of_name, is_clash_of}
 use Rattle.abc_link_rules.specs.Repeats.{side_of, opposite, sided_key, sided_eq, keys_clash, no_key, no_sided, clashes_with, is_elsewhere, clashes_at}
-use Rattle.abc_link_names.specs.Traits.{any_pair, are_accessors, names_clash}
+use Rattle.abc_link_names.specs.ItemTypes.{any_pair, are_accessors, names_clash}
 use Rattle.abc_link_names.proofs.ItemsPairs.{first_found, first_hit, first_low, pair_found, pair_makes, pair_map}
 
 both : (a b : Bool) → (a && b) ≡ true → (a ≡ true) × (b ≡ true)

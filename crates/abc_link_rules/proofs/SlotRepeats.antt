@@ -5,7 +5,7 @@ use Rattle.std.proofs.lemmas.Bool.{false≢true}
 use Rattle.abc_base_graphs.specs.Index.{first}
 use Rattle.abc_file_types.specs.declared.traits.TraitInfo.{TraitInfo}
 use Rattle.abc_link_rules.specs.Repeats.{is_repeat}
-use Rattle.abc_link_names.specs.Traits.{any_pair, slot_id, slots_clash}
+use Rattle.abc_link_names.specs.ItemTypes.{any_pair, slot_id, slots_clash}
 use Rattle.abc_link_names.proofs.ItemsPairs.{first_found, first_hit, first_low, pair_found, pair_makes, pair_map}
 
 abbrev ids_clash : ℕ → ℕ → Bool

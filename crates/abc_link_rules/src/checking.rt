@@ -30,7 +30,7 @@ pub fn are_few(abc: &Abc) -> bool
 }
 
 /// Tries the rules from NoScript to UnknownBase.
-#[tactic(auto, using(abc_link_names::proofs::Order::none_before))]
+#[tactic(auto, using(abc_link_names::proofs::FirstBroken::none_before))]
 fn check_names(alloc: Global, meanings: &Meanings<'_>) -> Result<(), LinkError>
     requires { IsFew meanings.now.abc.now }
     ensures { MatchResult result (λ _. AllHoldBefore meanings.now.abc.now 4) (IsRefusal meanings.now.abc.now) }

@@ -1,6 +1,6 @@
 ghost use Rattle.std.specs.Prelude.{◌≡◌, nat_eq, not};
 ghost use Rattle.std.specs.List.{list_any};
-ghost use Rattle.abc_link_names.specs.Traits.{breaks_name_kind, has_bad_name as has_bad, has_bad_variable as is_bad_variable, is_definite as is_definite_name, is_type_name as is_type};
+ghost use Rattle.abc_link_names.specs.ItemTypes.{breaks_name_kind, has_bad_name as has_bad, has_bad_variable as is_bad_variable, is_definite as is_definite_name, is_type_name as is_type};
 ghost use Rattle.abc_link_names.specs.declared.items.LinkRule.TheVariants as rules;
 
 use abc_base::NoMemory;

@@ -4,7 +4,7 @@ ghost use Rattle.abc_link_names.specs.Keys.{keys_eq};
 ghost use Rattle.indexmap.specs.IndexMap.{get};
 ghost use Rattle.abc_link_rules.specs.Repeats.{clashes_at as clash_at, clashes_with as clash_with, is_elsewhere as stands_elsewhere, keys_clash, no_sided, opposite as are_opposite, side_of as side_in, sided_eq, sided_key as sided_of};
 ghost use Rattle.abc_link_rules.specs.Clashes.{TellsSides, is_clash_of};
-ghost use Rattle.abc_link_names.specs.Traits.{any_pair, any_table, names_clash};
+ghost use Rattle.abc_link_names.specs.ItemTypes.{any_pair, any_table, names_clash};
 ghost use Rattle.abc_link_names.specs.declared.items.LinkRule.TheVariants as rules;
 ghost use Rattle.abc_link_names.specs.declared.keys.NameKey.{NameKey as AnyNameKey};
 ghost use Rattle.abc_link_rules.specs.declared.same_name.SidedKey.{SidedKey as AnySidedKey};

@@ -2,7 +2,7 @@ ghost use Rattle.std.specs.Prelude.{◌≡◌, ◌<◌, ◌^◌, length, map, na
 ghost use Rattle.std.specs.Option.{option_copied};
 ghost use Rattle.indexmap.specs.IndexMap.{get};
 ghost use Rattle.abc_link_rules.specs.Repeats.{is_repeat as repeats_at};
-ghost use Rattle.abc_link_names.specs.Traits.{any_pair, any_table, slot_id as id_of, slots_clash};
+ghost use Rattle.abc_link_names.specs.ItemTypes.{any_pair, any_table, slot_id as id_of, slots_clash};
 ghost use Rattle.abc_link_names.specs.declared.items.LinkRule.TheVariants as rules;
 
 use abc_base::NoMemory;
@@ -33,7 +33,7 @@ fn slot_id(body: TraitBody) -> u32
 struct SlotsClash;
 
 impl Clash for SlotsClash {
-    ghost use Rattle.abc_link_names.specs.Traits.{slots_clash};
+    ghost use Rattle.abc_link_names.specs.ItemTypes.{slots_clash};
 
     type Value = TraitInfo;
 

@@ -1,9 +1,9 @@
 ghost use Rattle.std.specs.Prelude.{◌≡◌, ◌&&◌, ◌||◌, is_some, not};
 ghost use Rattle.std.specs.List.{list_any};
 ghost use Rattle.abc_link_names.specs.Meaning.{type_named};
-ghost use Rattle.abc_link_names.specs.Parts.{body_at};
+ghost use Rattle.abc_link_names.specs.PartsByNumber.{body_at};
 ghost use Rattle.abc_link_names.specs.Rules.{is_too_large};
-ghost use Rattle.abc_link_names.specs.Traits.{breaks_trait_not_run, is_body, is_no_slot as is_other, is_not_run as is_not_run_in, type_or_any};
+ghost use Rattle.abc_link_names.specs.ItemTypes.{breaks_trait_not_run, is_body, is_no_slot as is_other, is_not_run as is_not_run_in, type_or_any};
 ghost use Rattle.abc_link_names.specs.declared.items.LinkRule.TheVariants as rules;
 
 use abc_base::NoMemory;

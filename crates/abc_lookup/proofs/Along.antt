@@ -6,18 +6,18 @@ use Rattle.std.specs.List.{list_any}
 use Rattle.abc_base_graphs.specs.Ways.{before, left, way, IsBelow, IsFalling}
 use Rattle.abc_base_graphs.proofs.Walks.{way_none, way_some}
 use Rattle.abc_heap_store.specs.Heap.{Heap}
-use Rattle.abc_link_program.specs.Linked.{IsLinkedFile, LinkedFile, base}
-use Rattle.abc_link_program.specs.declared.part.LayoutId.{LayoutId}
-use Rattle.abc_link_program.proofs.Finding.{falling}
-use Rattle.abc_heap_search.specs.Candidates.{OfTrait, answer, text_in, traits, traits_after}
-use Rattle.abc_heap_search.specs.Results.{or_next}
-use Rattle.abc_heap_search.specs.Spaces.{holds_protected}
-use Rattle.abc_heap_search.specs.Traits.{own}
-use Rattle.abc_heap_search.specs.declared.found.Found.{Found}
-use Rattle.abc_heap_search.specs.declared.found.Found.TheVariants.{Missing}
-use Rattle.abc_heap_search.specs.declared.found.Skip.{Skip}
-use Rattle.abc_heap_search.specs.declared.name.Name.{Name}
-use Rattle.abc_heap_search.proofs.Joins.{answer_none, answer_append, or_assoc}
+use Rattle.abc_link_names.specs.Linked.{IsLinkedFile, LinkedFile, base}
+use Rattle.abc_link_names.specs.declared.part.LayoutId.{LayoutId}
+use Rattle.abc_link_names.proofs.Finding.{falling}
+use Rattle.abc_objects.specs.Candidates.{OfTrait, answer, text_in, traits, traits_after}
+use Rattle.abc_objects.specs.Results.{or_next}
+use Rattle.abc_objects.specs.Spaces.{holds_protected}
+use Rattle.abc_objects.specs.Traits.{own}
+use Rattle.abc_objects.specs.declared.found.Found.{Found}
+use Rattle.abc_objects.specs.declared.found.Found.TheVariants.{Missing}
+use Rattle.abc_objects.specs.declared.found.Skip.{Skip}
+use Rattle.abc_objects.specs.declared.name.Name.{Name}
+use Rattle.abc_objects.proofs.Joins.{answer_none, answer_append, or_assoc}
 use Rattle.abc_lookup.specs.Steps.{along, given, layout_number}
 use Rattle.abc_lookup.proofs.TextFirst.{text_first_of}
 

@@ -14,25 +14,25 @@ use Rattle.abc_heap_store.specs.Heap.{Heap, elements_of, obj_id, object_at}
 use Rattle.abc_heap_store.specs.Properties.{property_in_heap}
 use Rattle.abc_heap_store.specs.What.{is_array}
 use Rattle.abc_base_graphs.proofs.Numbering.{same_bytes}
-use Rattle.abc_link_program.proofs.Finding.{falling, found}
-use Rattle.abc_link_program.specs.Linked.{IsLinkedFile, LinkedFile, base}
-use Rattle.abc_link_program.specs.Numbering.{part_at}
-use Rattle.abc_link_program.specs.Parts.{parent}
-use Rattle.abc_link_program.specs.Places.{place_of, place_under}
-use Rattle.abc_link_program.specs.declared.part.Part.{Part}
-use Rattle.abc_link_program.specs.declared.part.Part.TheVariants as parts
-use Rattle.abc_heap_search.proofs.Joins.{answer_none, ends, goes_on, hit_first}
-use Rattle.abc_heap_search.specs.Candidates.{OfTrait, answer, elements, elements_from, layout_at, own_things, properties, text_in, things_along, traits, traits_after, where_public}
-use Rattle.abc_heap_search.specs.ElementNames.{element_number, is_length}
-use Rattle.abc_heap_search.specs.Objects.{delegate_at}
-use Rattle.abc_heap_search.specs.Results.{is_hit, or_next, skip_for}
-use Rattle.abc_heap_search.specs.Searches.{declared_found, found_on}
-use Rattle.abc_heap_search.specs.Traits.{own, own_traits_of, slots_under}
-use Rattle.abc_heap_search.specs.declared.found.Found.{Found}
-use Rattle.abc_heap_search.specs.declared.found.Found.TheVariants as founds
-use Rattle.abc_heap_search.specs.declared.found.Skip.{Skip}
-use Rattle.abc_heap_search.specs.declared.found.Want.{Want}
-use Rattle.abc_heap_search.specs.declared.name.Name.{Name}
+use Rattle.abc_link_names.proofs.Finding.{falling, found}
+use Rattle.abc_link_names.specs.Linked.{IsLinkedFile, LinkedFile, base}
+use Rattle.abc_link_names.specs.Numbering.{part_at}
+use Rattle.abc_link_names.specs.Parts.{parent}
+use Rattle.abc_link_names.specs.Places.{place_of, place_under}
+use Rattle.abc_link_names.specs.declared.part.Part.{Part}
+use Rattle.abc_link_names.specs.declared.part.Part.TheVariants as parts
+use Rattle.abc_objects.proofs.Joins.{answer_none, ends, goes_on, hit_first}
+use Rattle.abc_objects.specs.Candidates.{OfTrait, answer, elements, elements_from, layout_at, own_things, properties, text_in, things_along, traits, traits_after, where_public}
+use Rattle.abc_objects.specs.ElementNames.{element_number, is_length}
+use Rattle.abc_objects.specs.Objects.{delegate_at}
+use Rattle.abc_objects.specs.Results.{is_hit, or_next, skip_for}
+use Rattle.abc_objects.specs.Searches.{declared_found, found_on}
+use Rattle.abc_objects.specs.Traits.{own, own_traits_of, slots_under}
+use Rattle.abc_objects.specs.declared.found.Found.{Found}
+use Rattle.abc_objects.specs.declared.found.Found.TheVariants as founds
+use Rattle.abc_objects.specs.declared.found.Skip.{Skip}
+use Rattle.abc_objects.specs.declared.found.Want.{Want}
+use Rattle.abc_objects.specs.declared.name.Name.{Name}
 use Rattle.abc_lookup.specs.NoTraits.{HasNoTraits, IsFirst, IsPlain, class_is_bare, part_is_bare}
 use Rattle.abc_lookup.proofs.Things.{an_array, length_miss, no_array, number_hit, properties_all, property_found, public_all, things_step}
 

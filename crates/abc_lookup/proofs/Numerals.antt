@@ -2,7 +2,7 @@
 use Rattle.std.proofs.Common.{◌≡◌, ℕ, suc, ◌+◌, ◌-◌, ◌*◌, ◌<◌, ◌≤◌, List, [], ◌∷◌, Some, None, cond, drop, drop-cons, get_or, length, sym, ap, ◌∙◌, arith}
 use Rattle.std.specs.Prelude.{nat_le, if◌then◌else◌}
 use Rattle.std.proofs.lemmas.Bool.{lt-leb}
-use Rattle.abc_heap_search.specs.ElementNames.{number_from}
+use Rattle.abc_objects.specs.ElementNames.{number_from}
 
 -- more digits make no less
 grows : (n : ℕ) (bs : List ℕ) → n ≤ number_from n bs

@@ -8,28 +8,28 @@ use Rattle.abc_heap_values.specs.declared.values.Value.TheVariants as values
 use Rattle.abc_heap_store.specs.Heap.{Heap}
 use Rattle.abc_link_names.specs.declared.named.DefiniteName.{DefiniteName}
 use Rattle.abc_base_graphs.specs.Ways.{way}
-use Rattle.abc_link_program.proofs.Finding.{falling}
-use Rattle.abc_link_program.specs.Linked.{IsLinkedFile, LinkedFile, base}
-use Rattle.abc_link_program.specs.Numbering.{part_at}
-use Rattle.abc_link_program.specs.Owners.{owner_of}
-use Rattle.abc_link_program.specs.declared.part.Part.{Part}
-use Rattle.abc_link_program.specs.declared.part.Part.TheVariants as parts
-use Rattle.abc_heap_search.proofs.Joins.{ends, hit_first}
-use Rattle.abc_heap_search.specs.Candidates.{answer, holder_of, layout_at, text_in, things_along, traits, traits_of_object, where_public}
-use Rattle.abc_heap_search.specs.Results.{is_hit, skip_for}
-use Rattle.abc_heap_search.specs.Searches.{found_on}
-use Rattle.abc_heap_search.specs.Spaces.{holds_pooled, holds_protected, is_protected}
-use Rattle.abc_heap_search.specs.Traits.{Trait, traits_named}
-use Rattle.abc_heap_search.specs.declared.found.Found.{Found}
-use Rattle.abc_heap_search.specs.declared.found.Found.TheVariants as founds
-use Rattle.abc_heap_search.specs.declared.found.Skip.{Skip}
-use Rattle.abc_heap_search.specs.declared.found.Skip.TheVariants as skips
-use Rattle.abc_heap_search.specs.declared.found.Want.{Want}
-use Rattle.abc_heap_search.specs.declared.name.Name.{Name}
-use Rattle.abc_heap_search.specs.declared.name.Spaces.TheVariants.{One}
-use Rattle.abc_heap_search.specs.declared.traits.Member.{Member}
-use Rattle.abc_heap_search.specs.declared.traits.Member.TheVariants as members
-use Rattle.abc_heap_search.specs.declared.traits.TraitSpace.TheVariants as spaces
+use Rattle.abc_link_names.proofs.Finding.{falling}
+use Rattle.abc_link_names.specs.Linked.{IsLinkedFile, LinkedFile, base}
+use Rattle.abc_link_names.specs.Numbering.{part_at}
+use Rattle.abc_link_names.specs.Owners.{owner_of}
+use Rattle.abc_link_names.specs.declared.part.Part.{Part}
+use Rattle.abc_link_names.specs.declared.part.Part.TheVariants as parts
+use Rattle.abc_objects.proofs.Joins.{ends, hit_first}
+use Rattle.abc_objects.specs.Candidates.{answer, holder_of, layout_at, text_in, things_along, traits, traits_of_object, where_public}
+use Rattle.abc_objects.specs.Results.{is_hit, skip_for}
+use Rattle.abc_objects.specs.Searches.{found_on}
+use Rattle.abc_objects.specs.Spaces.{holds_pooled, holds_protected, is_protected}
+use Rattle.abc_objects.specs.Traits.{Trait, traits_named}
+use Rattle.abc_objects.specs.declared.found.Found.{Found}
+use Rattle.abc_objects.specs.declared.found.Found.TheVariants as founds
+use Rattle.abc_objects.specs.declared.found.Skip.{Skip}
+use Rattle.abc_objects.specs.declared.found.Skip.TheVariants as skips
+use Rattle.abc_objects.specs.declared.found.Want.{Want}
+use Rattle.abc_objects.specs.declared.name.Name.{Name}
+use Rattle.abc_objects.specs.declared.name.Spaces.TheVariants.{One}
+use Rattle.abc_objects.specs.declared.traits.Member.{Member}
+use Rattle.abc_objects.specs.declared.traits.Member.TheVariants as members
+use Rattle.abc_objects.specs.declared.traits.TraitSpace.TheVariants as spaces
 use Rattle.abc_lookup.specs.OwnTraits.{Gives, HasTable, own_named}
 use Rattle.abc_lookup.specs.Slots.{listed}
 use Rattle.abc_lookup.specs.Steps.{along, fits_held, given, gives, member_found}

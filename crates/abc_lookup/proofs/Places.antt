@@ -11,16 +11,16 @@ use Rattle.abc_heap_store.specs.declared.records.ScopeEntry.{ScopeEntry}
 use Rattle.abc_heap_store.specs.declared.records.ScopeId.{ScopeId}
 use Rattle.abc_heap_store.specs.declared.records.What.{What}
 use Rattle.abc_heap_store.specs.declared.records.What.TheVariants as whats
-use Rattle.abc_link_program.specs.Linked.{LinkedFile}
-use Rattle.abc_heap_search.specs.Candidates.{answer, own_things, things_along}
-use Rattle.abc_heap_search.specs.Scopes.{InHost, InScope, InScript, Place, candidates_at, global_things, has, node_at, parent_at, places, saved_places, scope_things}
-use Rattle.abc_heap_search.specs.Results.{is_hit}
-use Rattle.abc_heap_search.specs.declared.found.Found.{Found}
-use Rattle.abc_heap_search.specs.declared.found.Found.TheVariants.{Missing}
-use Rattle.abc_heap_search.specs.declared.found.Skip.{Skip}
-use Rattle.abc_heap_search.specs.declared.found.Skip.TheVariants.{Nothing}
-use Rattle.abc_heap_search.specs.declared.name.Name.{Name}
-use Rattle.abc_heap_search.proofs.Joins.{answer_none, nothing_skipped}
+use Rattle.abc_link_names.specs.Linked.{LinkedFile}
+use Rattle.abc_objects.specs.Candidates.{answer, own_things, things_along}
+use Rattle.abc_objects.specs.Scopes.{InHost, InScope, InScript, Place, candidates_at, global_things, has, node_at, parent_at, places, saved_places, scope_things}
+use Rattle.abc_objects.specs.Results.{is_hit}
+use Rattle.abc_objects.specs.declared.found.Found.{Found}
+use Rattle.abc_objects.specs.declared.found.Found.TheVariants.{Missing}
+use Rattle.abc_objects.specs.declared.found.Skip.{Skip}
+use Rattle.abc_objects.specs.declared.found.Skip.TheVariants.{Nothing}
+use Rattle.abc_objects.specs.declared.name.Name.{Name}
+use Rattle.abc_objects.proofs.Joins.{answer_none, nothing_skipped}
 
 -- ---- what is searched
 

@@ -10,26 +10,26 @@ use Rattle.abc_base_graphs.proofs.Walks.{way_none, way_some}
 use Rattle.abc_base_graphs.specs.Ways.{before, way}
 use Rattle.abc_heap_store.specs.Heap.{Heap}
 use Rattle.abc_base_graphs.specs.Groups.{places_from, places_of}
-use Rattle.abc_link_names.specs.Parts.{no_script, script_at}
+use Rattle.abc_link_names.specs.PartsByNumber.{no_script, script_at}
 use Rattle.abc_link_names.specs.Pool.{text}
 use Rattle.abc_link_names.specs.declared.named.DefiniteName.{DefiniteName}
 use Rattle.abc_objects.proofs.Opened.{global_made}
 use Rattle.abc_objects.specs.Stands.{StandsOver}
-use Rattle.abc_link_program.proofs.Finding.{falling, found}
-use Rattle.abc_link_program.specs.Linked.{IsLinkedFile, LinkedFile, base}
-use Rattle.abc_link_program.specs.Numbering.{part_at}
-use Rattle.abc_link_program.specs.Parts.{parent}
-use Rattle.abc_link_program.specs.Places.{place_of, place_under}
-use Rattle.abc_link_program.specs.Slots.{slots_in}
-use Rattle.abc_link_program.specs.Traits.{trait_name, trait_texts}
-use Rattle.abc_link_program.specs.declared.part.Part.{Part}
-use Rattle.abc_link_program.specs.declared.part.Part.TheVariants as parts
-use Rattle.abc_heap_search.specs.Candidates.{OfTrait, fits, fits_space, layout_at, text_in, traits_after}
-use Rattle.abc_heap_search.specs.Objects.{global_number}
-use Rattle.abc_heap_search.specs.Scopes.{InScript, Place, has}
-use Rattle.abc_heap_search.specs.Traits.{Trait, members_in, own, own_traits_of, slots_under, traits_from, traits_named}
-use Rattle.abc_heap_search.specs.declared.name.Name.{Name}
-use Rattle.abc_heap_search.specs.declared.traits.Member.{Member}
+use Rattle.abc_link_names.proofs.Finding.{falling, found}
+use Rattle.abc_link_names.specs.Linked.{IsLinkedFile, LinkedFile, base}
+use Rattle.abc_link_names.specs.Numbering.{part_at}
+use Rattle.abc_link_names.specs.Parts.{parent}
+use Rattle.abc_link_names.specs.Places.{place_of, place_under}
+use Rattle.abc_link_names.specs.Slots.{slots_in}
+use Rattle.abc_link_names.specs.Traits.{trait_name, trait_texts}
+use Rattle.abc_link_names.specs.declared.part.Part.{Part}
+use Rattle.abc_link_names.specs.declared.part.Part.TheVariants as parts
+use Rattle.abc_objects.specs.Candidates.{OfTrait, fits, fits_space, layout_at, text_in, traits_after}
+use Rattle.abc_objects.specs.Objects.{global_number}
+use Rattle.abc_objects.specs.Scopes.{InScript, Place, has}
+use Rattle.abc_objects.specs.Traits.{Trait, members_in, own, own_traits_of, slots_under, traits_from, traits_named}
+use Rattle.abc_objects.specs.declared.name.Name.{Name}
+use Rattle.abc_objects.specs.declared.traits.Member.{Member}
 use Rattle.abc_link.specs.ScriptTraits.{owners_from, owners_of, script_traits, traits_of_scripts}
 use Rattle.abc_file_types.specs.declared.classes.Script.{Script}
 use Rattle.abc_file_types.specs.declared.traits.TraitInfo.{TraitInfo}

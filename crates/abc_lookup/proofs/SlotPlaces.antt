@@ -6,13 +6,13 @@ use Rattle.std.specs.List.{flat_map}
 use Rattle.abc_base.specs.declared.names.HostClass.TheVariants as hosts
 use Rattle.abc_base_graphs.specs.Heirs.{heritage}
 use Rattle.abc_base_graphs.proofs.Laid.{heritage_none, heritage_some}
-use Rattle.abc_link_program.specs.Linked.{IsLinkedFile, LinkedFile, base}
-use Rattle.abc_link_program.specs.Numbering.{part_at}
-use Rattle.abc_link_program.specs.Slots.{HasFewSlots, own_slots, slots_in, slots_of, traits_of}
-use Rattle.abc_link_program.specs.Traits.{own_table_of}
-use Rattle.abc_link_program.specs.declared.part.Part.{Part}
-use Rattle.abc_link_program.specs.declared.part.Part.TheVariants as parts
-use Rattle.abc_heap_search.specs.Traits.{slots_under}
+use Rattle.abc_link_names.specs.Linked.{IsLinkedFile, LinkedFile, base}
+use Rattle.abc_link_names.specs.Numbering.{part_at}
+use Rattle.abc_link_names.specs.Slots.{HasFewSlots, own_slots, slots_in, slots_of, traits_of}
+use Rattle.abc_link_names.specs.Traits.{own_table_of}
+use Rattle.abc_link_names.specs.declared.part.Part.{Part}
+use Rattle.abc_link_names.specs.declared.part.Part.TheVariants as parts
+use Rattle.abc_objects.specs.Traits.{slots_under}
 use Rattle.abc_file_types.specs.declared.traits.TraitBody.{TraitBody}
 use Rattle.abc_file_types.specs.declared.traits.TraitBody.TheVariants as bodies
 use Rattle.abc_file_types.specs.declared.traits.TraitInfo.{TraitInfo}

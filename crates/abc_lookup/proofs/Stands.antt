@@ -13,10 +13,10 @@ use Rattle.abc_heap_store.specs.declared.records.ScopeId.{ScopeId}
 use Rattle.abc_heap_store.specs.declared.records.ScopeNode.{ScopeNode}
 use Rattle.abc_objects.specs.Stands.{IsBeneath, IsObjectOrNone, IsOlder, IsScope, StandsOver, host_class_number}
 use Rattle.abc_objects.specs.Values.{Exists, IsObject}
-use Rattle.abc_link_program.specs.Linked.{LinkedFile}
-use Rattle.abc_heap_search.specs.Candidates.{layout_at}
-use Rattle.abc_heap_search.specs.Objects.{delegate_at, number_of}
-use Rattle.abc_heap_search.specs.Scopes.{no_node, node_at, parent_at, scope_number}
+use Rattle.abc_link_names.specs.Linked.{LinkedFile}
+use Rattle.abc_objects.specs.Candidates.{layout_at}
+use Rattle.abc_objects.specs.Objects.{delegate_at, number_of}
+use Rattle.abc_objects.specs.Scopes.{no_node, node_at, parent_at, scope_number}
 
 -- ---- objects
 

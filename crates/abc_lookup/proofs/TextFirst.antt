@@ -11,25 +11,25 @@ use Rattle.abc_heap_store.specs.Heap.{Heap}
 use Rattle.abc_base_graphs.specs.Groups.{places_from, places_of, some_places}
 use Rattle.abc_link_names.specs.Pool.{name, qname, text}
 use Rattle.abc_link_names.specs.declared.named.DefiniteName.{DefiniteName}
-use Rattle.abc_link_program.specs.Linked.{LinkedFile, base}
-use Rattle.abc_link_program.specs.Numbering.{part_at}
-use Rattle.abc_link_program.specs.Slots.{handler_at, slots_in, traits_of}
-use Rattle.abc_link_program.specs.declared.part.Part.{Part}
-use Rattle.abc_link_program.specs.declared.part.Part.TheVariants as parts
-use Rattle.abc_link_program.specs.Traits.{own_table_of, own_traits, trait_texts}
-use Rattle.abc_heap_search.specs.Candidates.{OfTrait, answer, text_in}
-use Rattle.abc_heap_search.specs.Results.{or_next}
-use Rattle.abc_heap_search.specs.Spaces.{holds, holds_protected, is_protected}
-use Rattle.abc_heap_search.specs.Traits.{Trait, caught_trait, members_in, own, own_traits_of, slots_under, trait_named, traits_from, traits_named}
-use Rattle.abc_heap_search.specs.declared.found.Found.{Found}
-use Rattle.abc_heap_search.specs.declared.found.Found.TheVariants.{Missing}
-use Rattle.abc_heap_search.specs.declared.found.Skip.{Skip}
-use Rattle.abc_heap_search.specs.declared.name.Name.{Name}
-use Rattle.abc_heap_search.specs.declared.traits.Declared.{Declared}
-use Rattle.abc_heap_search.specs.declared.traits.Member.{Member}
-use Rattle.abc_heap_search.specs.declared.traits.Member.TheVariants as members
-use Rattle.abc_heap_search.specs.declared.traits.TraitSpace.TheVariants as spaces
-use Rattle.abc_heap_search.proofs.Joins.{one, answer_none, answer_more, or_assoc, or_missing}
+use Rattle.abc_link_names.specs.Linked.{LinkedFile, base}
+use Rattle.abc_link_names.specs.Numbering.{part_at}
+use Rattle.abc_link_names.specs.Slots.{handler_at, slots_in, traits_of}
+use Rattle.abc_link_names.specs.declared.part.Part.{Part}
+use Rattle.abc_link_names.specs.declared.part.Part.TheVariants as parts
+use Rattle.abc_link_names.specs.Traits.{own_table_of, own_traits, trait_texts}
+use Rattle.abc_objects.specs.Candidates.{OfTrait, answer, text_in}
+use Rattle.abc_objects.specs.Results.{or_next}
+use Rattle.abc_objects.specs.Spaces.{holds, holds_protected, is_protected}
+use Rattle.abc_objects.specs.Traits.{Trait, caught_trait, members_in, own, own_traits_of, slots_under, trait_named, traits_from, traits_named}
+use Rattle.abc_objects.specs.declared.found.Found.{Found}
+use Rattle.abc_objects.specs.declared.found.Found.TheVariants.{Missing}
+use Rattle.abc_objects.specs.declared.found.Skip.{Skip}
+use Rattle.abc_objects.specs.declared.name.Name.{Name}
+use Rattle.abc_objects.specs.declared.traits.Declared.{Declared}
+use Rattle.abc_objects.specs.declared.traits.Member.{Member}
+use Rattle.abc_objects.specs.declared.traits.Member.TheVariants as members
+use Rattle.abc_objects.specs.declared.traits.TraitSpace.TheVariants as spaces
+use Rattle.abc_objects.proofs.Joins.{one, answer_none, answer_more, or_assoc, or_missing}
 use Rattle.abc_lookup.specs.Slots.{listed, own_at, slot_count, slot_of, trait_at}
 use Rattle.abc_lookup.specs.Steps.{fits_held, given, gives, member_found, tried, with_text}
 use Rattle.abc_file_types.specs.declared.traits.TraitInfo.{TraitInfo}

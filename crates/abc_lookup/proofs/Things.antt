@@ -16,17 +16,17 @@ use Rattle.abc_heap_store.specs.Heap.{Heap, Object, obj_id, object_at, propertie
 use Rattle.abc_heap_store.specs.Properties.{filled, found as property_at_place, is_named, place_below, property_in_heap, the_value}
 use Rattle.abc_heap_store.specs.What.{is_array}
 use Rattle.abc_base_graphs.proofs.Numbering.{same_bytes}
-use Rattle.abc_link_program.specs.Linked.{LinkedFile}
-use Rattle.abc_heap_search.specs.Candidates.{Candidate, OfElement, OfLength, OfProperty, answer, elements, elements_from, own_things, properties, property_at, text_in, things_along, traits_on, where_public}
-use Rattle.abc_heap_search.specs.ElementNames.{element_number, is_length, is_that, names_element}
-use Rattle.abc_heap_search.specs.Objects.{delegate_at}
-use Rattle.abc_heap_search.specs.Results.{or_next}
-use Rattle.abc_heap_search.specs.Spaces.{holds_public}
-use Rattle.abc_heap_search.specs.declared.found.Found.{Found}
-use Rattle.abc_heap_search.specs.declared.found.Found.TheVariants as founds
-use Rattle.abc_heap_search.specs.declared.found.Skip.{Skip}
-use Rattle.abc_heap_search.specs.declared.name.Name.{Name}
-use Rattle.abc_heap_search.proofs.Joins.{answer_none, answer_more, answer_append, or_assoc}
+use Rattle.abc_link_names.specs.Linked.{LinkedFile}
+use Rattle.abc_objects.specs.Candidates.{Candidate, OfElement, OfLength, OfProperty, answer, elements, elements_from, own_things, properties, property_at, text_in, things_along, traits_on, where_public}
+use Rattle.abc_objects.specs.ElementNames.{element_number, is_length, is_that, names_element}
+use Rattle.abc_objects.specs.Objects.{delegate_at}
+use Rattle.abc_objects.specs.Results.{or_next}
+use Rattle.abc_objects.specs.Spaces.{holds_public}
+use Rattle.abc_objects.specs.declared.found.Found.{Found}
+use Rattle.abc_objects.specs.declared.found.Found.TheVariants as founds
+use Rattle.abc_objects.specs.declared.found.Skip.{Skip}
+use Rattle.abc_objects.specs.declared.name.Name.{Name}
+use Rattle.abc_objects.proofs.Joins.{answer_none, answer_more, answer_append, or_assoc}
 
 -- ---- properties
 

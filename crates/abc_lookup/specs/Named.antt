@@ -8,8 +8,8 @@ use Rattle.abc_heap_store.specs.Texts.{text_of}
 use Rattle.abc_heap_store.specs.What.{is_array}
 use Rattle.abc_lookup.specs.declared.elements.ElementName as declared
 use Rattle.abc_lookup.specs.declared.elements.ElementName.TheVariants as variants
-use Rattle.abc_link_program.specs.Linked.{LinkedFile}
-use Rattle.abc_heap_search.specs.ElementNames.{ElementName, IsLength, IsNumber, element_name}
+use Rattle.abc_link_names.specs.Linked.{LinkedFile}
+use Rattle.abc_objects.specs.ElementNames.{ElementName, IsLength, IsNumber, element_name}
 
 abbrev pub element_of : declared.ElementName → ElementName
 element_of variants.Length = IsLength

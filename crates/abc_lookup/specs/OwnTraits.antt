@@ -2,15 +2,15 @@
 use Rattle.std.specs.Prelude.{◌≡◌, ℕ, List, Bool}
 use Rattle.abc_base.specs.declared.names.HostClass.TheVariants as hosts
 use Rattle.abc_heap_store.specs.Heap.{Heap}
-use Rattle.abc_link_program.specs.Linked.{LinkedFile, base}
-use Rattle.abc_link_program.specs.Traits.{own_table_of}
-use Rattle.abc_link_program.specs.declared.part.Part.{Part}
-use Rattle.abc_link_program.specs.declared.part.Part.TheVariants as parts
-use Rattle.abc_heap_search.specs.Candidates.{text_in}
-use Rattle.abc_heap_search.specs.Traits.{Trait, slots_under, traits_from}
-use Rattle.abc_heap_search.specs.declared.found.Skip.{Skip}
-use Rattle.abc_heap_search.specs.declared.name.Name.{Name}
-use Rattle.abc_heap_search.specs.declared.traits.Member.{Member}
+use Rattle.abc_link_names.specs.Linked.{LinkedFile, base}
+use Rattle.abc_link_names.specs.Traits.{own_table_of}
+use Rattle.abc_link_names.specs.declared.part.Part.{Part}
+use Rattle.abc_link_names.specs.declared.part.Part.TheVariants as parts
+use Rattle.abc_objects.specs.Candidates.{text_in}
+use Rattle.abc_objects.specs.Traits.{Trait, slots_under, traits_from}
+use Rattle.abc_objects.specs.declared.found.Skip.{Skip}
+use Rattle.abc_objects.specs.declared.name.Name.{Name}
+use Rattle.abc_objects.specs.declared.traits.Member.{Member}
 use Rattle.abc_lookup.specs.Steps.{gives, member_found, with_text}
 
 abbrev pub own_named : LinkedFile → Heap → ℕ → Name → List Trait

@@ -1,7 +1,7 @@
 -- A script that was tried.
 use Rattle.std.specs.Prelude.{◌≡◌, ℕ, Bool, false, Some, None}
 use Rattle.std.specs.declared.option.Option.{Option}
-use Rattle.abc_heap_search.specs.Scopes.{InScript, Place}
+use Rattle.abc_objects.specs.Scopes.{InScript, Place}
 
 -- the script that was tried last, if any, has not the name
 abbrev pub HasNot : (Place → Bool) → Option ℕ → Type 0

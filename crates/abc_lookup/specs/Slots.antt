@@ -3,11 +3,11 @@ use Rattle.std.specs.Prelude.{ℕ, zero, suc, ◌+◌, List, [], ◌∷◌, Some
 use Rattle.std.specs.declared.option.Option.{Option}
 use Rattle.std.specs.List.{flat_map}
 use Rattle.abc_link_names.specs.Pool.{name, qname}
-use Rattle.abc_link_program.specs.Linked.{LinkedFile, base}
-use Rattle.abc_link_program.specs.Slots.{slots_in}
-use Rattle.abc_link_program.specs.Traits.{own_table_of}
-use Rattle.abc_heap_search.specs.Traits.{Trait, members_in, slots_under, traits_named}
-use Rattle.abc_heap_search.specs.declared.traits.Member.{Member}
+use Rattle.abc_link_names.specs.Linked.{LinkedFile, base}
+use Rattle.abc_link_names.specs.Slots.{slots_in}
+use Rattle.abc_link_names.specs.Traits.{own_table_of}
+use Rattle.abc_objects.specs.Traits.{Trait, members_in, slots_under, traits_named}
+use Rattle.abc_objects.specs.declared.traits.Member.{Member}
 use Rattle.abc_file_types.specs.declared.traits.TraitInfo.{TraitInfo}
 
 -- how many slots some traits have

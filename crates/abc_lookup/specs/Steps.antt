@@ -3,20 +3,20 @@ use Rattle.std.specs.Prelude.{ℕ, ◌<◌, List, [], ◌∷◌, Bool, ◌&&◌,
 use Rattle.std.specs.declared.option.Option.{Option}
 use Rattle.std.specs.List.{filter}
 use Rattle.std.specs.Str.{bytes_eq}
-use Rattle.abc_link_program.specs.Linked.{LinkedFile}
-use Rattle.abc_link_program.specs.declared.part.LayoutId.{LayoutId}
-use Rattle.abc_heap_search.specs.Candidates.{found_as}
-use Rattle.abc_heap_search.specs.Results.{or_next, passes_over}
-use Rattle.abc_heap_search.specs.Scopes as scopes
-use Rattle.abc_heap_search.specs.Spaces.{holds, holds_protected, is_protected}
-use Rattle.abc_heap_search.specs.Traits.{Trait, own}
-use Rattle.abc_heap_search.specs.declared.found.Found.{Found}
-use Rattle.abc_heap_search.specs.declared.found.Found.TheVariants.{WrongSide, Missing}
-use Rattle.abc_heap_search.specs.declared.found.Skip.{Skip}
-use Rattle.abc_heap_search.specs.declared.name.Name.{Name}
-use Rattle.abc_heap_search.specs.declared.traits.Declared.{Declared}
-use Rattle.abc_heap_search.specs.declared.traits.Member.{Member}
-use Rattle.abc_heap_search.specs.declared.traits.TraitSpace.{TraitSpace}
+use Rattle.abc_link_names.specs.Linked.{LinkedFile}
+use Rattle.abc_link_names.specs.declared.part.LayoutId.{LayoutId}
+use Rattle.abc_objects.specs.Candidates.{found_as}
+use Rattle.abc_objects.specs.Results.{or_next, passes_over}
+use Rattle.abc_objects.specs.Scopes as scopes
+use Rattle.abc_objects.specs.Spaces.{holds, holds_protected, is_protected}
+use Rattle.abc_objects.specs.Traits.{Trait, own}
+use Rattle.abc_objects.specs.declared.found.Found.{Found}
+use Rattle.abc_objects.specs.declared.found.Found.TheVariants.{WrongSide, Missing}
+use Rattle.abc_objects.specs.declared.found.Skip.{Skip}
+use Rattle.abc_objects.specs.declared.name.Name.{Name}
+use Rattle.abc_objects.specs.declared.traits.Declared.{Declared}
+use Rattle.abc_objects.specs.declared.traits.Member.{Member}
+use Rattle.abc_objects.specs.declared.traits.TraitSpace.{TraitSpace}
 use Rattle.abc_lookup.specs.declared.place.Place.{Place}
 use Rattle.abc_lookup.specs.declared.place.Place.TheVariants as places
 

@@ -8,23 +8,21 @@ ghost use Rattle.abc_lookup.specs.OwnTraits.{Gives, HasTable, own_named};
 ghost use Rattle.abc_lookup.specs.Slots.{own_at};
 ghost use Rattle.abc_objects.specs.Stands.{StandsOver};
 ghost use Rattle.abc_objects.specs.Values.{IsObject};
-ghost use Rattle.abc_link_program.specs.Linked.{IsLayout};
-ghost use Rattle.abc_link_program.specs.Numbering.{part_at};
-ghost use Rattle.abc_heap_search.specs.Candidates.{layout_at, text_in};
-ghost use Rattle.abc_link_program.specs.Traits.{own_table_of, own_traits};
-ghost use Rattle.abc_link_program.specs.declared.types.Owner.{Owner};
-ghost use Rattle.abc_heap_search.specs.declared.found.Found.TheVariants.{Method};
-ghost use Rattle.abc_heap_search.specs.declared.name.Spaces.TheVariants.{One};
+ghost use Rattle.abc_link_names.specs.Linked.{IsLayout};
+ghost use Rattle.abc_link_names.specs.Numbering.{part_at};
+ghost use Rattle.abc_objects.specs.Candidates.{layout_at, text_in};
+ghost use Rattle.abc_link_names.specs.Traits.{own_table_of, own_traits};
+ghost use Rattle.abc_link_names.specs.declared.types.Owner.{Owner};
+ghost use Rattle.abc_objects.specs.declared.found.Found.TheVariants.{Method};
+ghost use Rattle.abc_objects.specs.declared.name.Spaces.TheVariants.{One};
 
 use crate::declared_search::only_of;
 use crate::numbers::whole_number;
 use crate::tables::{member_at, own_table};
-use abc_heap_search::{Found, Member, Name, Spaces};
 use abc_heap_values::ObjId;
 use abc_link::Linked;
-use abc_link_names::qname_at;
-use abc_link_program::{LayoutId, Part};
-use abc_objects::Arena;
+use abc_link_names::{LayoutId, Part, qname_at};
+use abc_objects::{Arena, Found, Member, Name, Spaces};
 
 /// Whether a name has just one namespace, that of an index.
 fn has_just(spaces: Spaces, space: u32) -> bool

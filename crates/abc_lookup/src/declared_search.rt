@@ -4,22 +4,21 @@ ghost use Rattle.abc_base.specs.declared.names.HostClass.TheVariants as hosts;
 ghost use Rattle.abc_base_graphs.specs.Ways.{IsBelow, before, way};
 ghost use Rattle.abc_lookup.specs.Slots.{own_at};
 ghost use Rattle.abc_lookup.specs.Steps.{along, fits_held, layout_number, given, gives, member_found, tried, with_text};
-ghost use Rattle.abc_link_program.specs.Linked.{IsLayout, base};
-ghost use Rattle.abc_link_program.specs.Numbering.{part_at};
-ghost use Rattle.abc_link_program.specs.Traits.{own_table_of};
-ghost use Rattle.abc_link_program.specs.declared.part.Part.TheVariants as parts;
-ghost use Rattle.abc_heap_search.specs.Candidates.{answer, found_as, traits};
-ghost use Rattle.abc_heap_search.specs.Results.{or_next};
-ghost use Rattle.abc_heap_search.specs.Spaces.{holds_protected as does_hold_protected};
-ghost use Rattle.abc_heap_search.specs.Traits.{slots_under as slots_below, traits_from};
+ghost use Rattle.abc_link_names.specs.Linked.{IsLayout, base};
+ghost use Rattle.abc_link_names.specs.Numbering.{part_at};
+ghost use Rattle.abc_link_names.specs.Traits.{own_table_of};
+ghost use Rattle.abc_link_names.specs.declared.part.Part.TheVariants as parts;
+ghost use Rattle.abc_objects.specs.Candidates.{answer, found_as, traits};
+ghost use Rattle.abc_objects.specs.Results.{or_next};
+ghost use Rattle.abc_objects.specs.Spaces.{holds_protected as does_hold_protected};
+ghost use Rattle.abc_objects.specs.Traits.{slots_under as slots_below, traits_from};
 
 use crate::name_spaces::{holds, holds_pooled, is_protected, protected_of};
 use crate::query::Query;
 use crate::tables::{caught_name, member_at, own_table, slots_under};
 use abc_base::HostClass;
-use abc_heap_search::{Declared, Found, Member, TraitSpace};
-use abc_link_names::{qname_at, text_at};
-use abc_link_program::{LayoutId, Part};
+use abc_link_names::{LayoutId, Part, qname_at, text_at};
+use abc_objects::{Declared, Found, Member, TraitSpace};
 
 /// The place of a list that has only that one.
 #[inline(always)]

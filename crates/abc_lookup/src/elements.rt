@@ -3,7 +3,7 @@ ghost use Rattle.std.specs.List.{list_all};
 ghost use Rattle.abc_heap_store.specs.Texts.{IsText};
 ghost use Rattle.abc_lookup.specs.Named.{element_in, element_on};
 ghost use Rattle.abc_objects.specs.Values.{IsObject};
-ghost use Rattle.abc_heap_search.specs.ElementNames.{element_name, element_number as number_named, is_digit as does_digit, is_numeral as does_numeral, number_from};
+ghost use Rattle.abc_objects.specs.ElementNames.{element_name, element_number as number_named, is_digit as does_digit, is_numeral as does_numeral, number_from};
 
 use abc_heap_values::{ObjId, Span};
 use abc_link::Linked;

@@ -18,7 +18,7 @@ mod scopes;
 mod search;
 mod tables;
 
-pub use abc_heap_search::{
+pub use abc_objects::{
     Declared, Found, Member, Name, ScopeFound, Skip, Spaces, TraitSpace, Want, answer_is_the_first,
     derived_trait_hides, found_is_there, found_method_is_there, found_slot_is_there,
     no_object_matters, place_is_the_first, properties_are_public,

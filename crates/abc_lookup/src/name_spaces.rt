@@ -1,13 +1,13 @@
 ghost use Rattle.std.specs.Prelude.{◌≡◌};
 ghost use Rattle.abc_link_names.specs.Instances.{instance_at};
 ghost use Rattle.abc_link_names.specs.Pool.{same_space};
-ghost use Rattle.abc_link_program.specs.Linked.{IsLayout};
-ghost use Rattle.abc_heap_search.specs.Spaces.{above_zero as above_none, holds as does_hold, holds_pooled as does_hold_pooled, holds_public as does_hold_public, is_protected as does_protect, protected_of as protected_in};
+ghost use Rattle.abc_link_names.specs.Linked.{IsLayout};
+ghost use Rattle.abc_objects.specs.Spaces.{above_zero as above_none, holds as does_hold, holds_pooled as does_hold_pooled, holds_public as does_hold_public, is_protected as does_protect, protected_of as protected_in};
 
 use abc_file_types::Abc;
-use abc_heap_search::{Spaces, TraitSpace};
 use abc_link::Linked;
-use abc_link_program::{LayoutId, Part};
+use abc_link_names::{LayoutId, Part};
+use abc_objects::{Spaces, TraitSpace};
 
 /// Whether a name holds the public namespace or any.
 #[inline(always)]

@@ -1,13 +1,13 @@
 ghost use Rattle.std.specs.Prelude.{◌≡◌};
 ghost use Rattle.abc_objects.specs.Stands.{IsObjectOrNone, StandsOver};
 ghost use Rattle.abc_objects.specs.Values.{Exists, IsObject};
-ghost use Rattle.abc_heap_search.specs.Candidates.{answer, candidates_on, holder_of, things_along, traits_of_object, traits_on, where_public};
-ghost use Rattle.abc_heap_search.specs.Objects.{host_prototype, number_of};
+ghost use Rattle.abc_objects.specs.Candidates.{answer, candidates_on, holder_of, things_along, traits_of_object, traits_on, where_public};
+ghost use Rattle.abc_objects.specs.Objects.{host_prototype, number_of};
 
 use crate::query::Query;
 use abc_base::HostClass;
-use abc_heap_search::Found;
 use abc_heap_values::{ObjId, Value};
+use abc_objects::Found;
 
 impl Query<'_> {
     /// What the declared traits of an object give.

@@ -2,13 +2,13 @@ ghost use Rattle.std.specs.Prelude.{◌≡◌, ◌∷◌};
 ghost use Rattle.abc_heap_store.specs.Heap.{elements_of, object_at};
 ghost use Rattle.abc_objects.specs.Stands.{IsObjectOrNone, StandsOver};
 ghost use Rattle.abc_objects.specs.Values.{IsObject};
-ghost use Rattle.abc_heap_search.specs.Candidates.{OfLength, answer, elements, elements_from, own_things, properties, things_along};
-ghost use Rattle.abc_heap_search.specs.Objects.{number_of};
+ghost use Rattle.abc_objects.specs.Candidates.{OfLength, answer, elements, elements_from, own_things, properties, things_along};
+ghost use Rattle.abc_objects.specs.Objects.{number_of};
 
 use crate::elements::element_number;
 use crate::query::Query;
-use abc_heap_search::Found;
 use abc_heap_values::ObjId;
+use abc_objects::Found;
 
 impl Query<'_> {
     /// What an array's elements give.

@@ -5,16 +5,15 @@ ghost use Rattle.abc_heap_store.specs.Heap.{object_at};
 ghost use Rattle.abc_lookup.specs.NoTraits.{HasNoTraits, IsFirst, IsPlain, class_is_bare, part_is_bare};
 ghost use Rattle.abc_objects.specs.Stands.{StandsOver};
 ghost use Rattle.abc_objects.specs.Values.{IsObject};
-ghost use Rattle.abc_link_program.specs.Linked.{IsLayout};
+ghost use Rattle.abc_link_names.specs.Linked.{IsLayout};
 
 use crate::elements::element_number;
 use crate::name_spaces::holds_public;
 use abc_base::HostClass;
-use abc_heap_search::{Found, Name};
 use abc_heap_values::ObjId;
 use abc_link::Linked;
-use abc_link_program::{LayoutId, Part};
-use abc_objects::Arena;
+use abc_link_names::{LayoutId, Part};
+use abc_objects::{Arena, Found, Name};
 
 /// Whether instances of a class of the host have no traits: those of Object and arrays, of which there are most.
 fn is_bare_class(class: HostClass) -> bool

@@ -3,11 +3,10 @@ ghost use Rattle.std.specs.Str.{bytes_eq};
 ghost use Rattle.abc_heap_store.specs.Texts.{IsText, text_of};
 ghost use Rattle.abc_base_graphs.specs.Index.{first};
 ghost use Rattle.abc_base_graphs.specs.Texts.{texts_of};
-ghost use Rattle.abc_heap_search.specs.Spaces.{holds_public};
+ghost use Rattle.abc_objects.specs.Spaces.{holds_public};
 
-use abc_heap_search::{Name, Skip};
 use abc_link::Linked;
-use abc_objects::Arena;
+use abc_objects::{Arena, Name, Skip};
 
 /// A search for a name, of which is known what does not change from place to place.
 #[derive(Clone, Copy)]

@@ -4,16 +4,16 @@ ghost use Rattle.abc_lookup.specs.Scripts.{HasNot};
 ghost use Rattle.abc_lookup.specs.Steps.{IsPlace, place_in};
 ghost use Rattle.abc_objects.specs.Stands.{AreEntries, IsScope, StandsOver};
 ghost use Rattle.abc_objects.specs.Values.{IsObject};
-ghost use Rattle.abc_heap_search.specs.Candidates.{answer, where_public};
-ghost use Rattle.abc_heap_search.specs.Scopes as search;
-ghost use Rattle.abc_heap_search.specs.Scopes.{candidates_at, has, places, saved_places, scope_things};
-ghost use Rattle.abc_heap_search.specs.declared.found.Skip.TheVariants as skips;
+ghost use Rattle.abc_objects.specs.Candidates.{answer, where_public};
+ghost use Rattle.abc_objects.specs.Scopes as search;
+ghost use Rattle.abc_objects.specs.Scopes.{candidates_at, has, places, saved_places, scope_things};
+ghost use Rattle.abc_objects.specs.declared.found.Skip.TheVariants as skips;
 ghost use Rattle.abc_link.specs.ScriptTraits.{script_traits};
 
 use crate::place::Place;
 use crate::query::Query;
-use abc_heap_search::Found;
 use abc_heap_store::{ScopeEntry, ScopeId, What};
+use abc_objects::Found;
 
 /// Whether a script is the one that was tried last.
 fn is_tried(tried: Option<u32>, script: u32) -> bool

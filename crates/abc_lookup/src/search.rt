@@ -4,9 +4,9 @@ ghost use Rattle.abc_heap_store.specs.Texts.{IsText};
 ghost use Rattle.abc_objects.specs.Stands.{AreEntries, IsScope, StandsOver};
 ghost use Rattle.abc_heap_values.specs.declared.values.Value.TheVariants.{Obj};
 ghost use Rattle.abc_objects.specs.Values.{Exists, IsObject};
-ghost use Rattle.abc_link_program.specs.Linked.{IsLayout};
-ghost use Rattle.abc_heap_search.specs.Scopes.{scope_named};
-ghost use Rattle.abc_heap_search.specs.Searches.{declared_found, found_in_scopes, found_on};
+ghost use Rattle.abc_link_names.specs.Linked.{IsLayout};
+ghost use Rattle.abc_objects.specs.Scopes.{scope_named};
+ghost use Rattle.abc_objects.specs.Searches.{declared_found, found_in_scopes, found_on};
 
 use crate::at_once::first_of_traits;
 use crate::name_spaces::holds_public;
@@ -15,12 +15,11 @@ use crate::place::Place;
 use crate::plain::{find_first, has_no_traits};
 use crate::query::Query;
 use abc_base::Table;
-use abc_heap_search::{Found, Name, ScopeFound, Skip, Want};
 use abc_heap_store::{ScopeEntry, ScopeId};
 use abc_heap_values::{ObjId, Value};
 use abc_link::Linked;
-use abc_link_program::LayoutId;
-use abc_objects::Arena;
+use abc_link_names::LayoutId;
+use abc_objects::{Arena, Found, Name, ScopeFound, Skip, Want};
 
 /// The same as `find_declared`, where the layout or one above it may have traits.
 #[inline(never)]

@@ -1,16 +1,15 @@
 ghost use Rattle.std.specs.Prelude.{◌≡◌, ◌<◌, length};
 ghost use Rattle.abc_lookup.specs.Slots.{listed, slot_of};
-ghost use Rattle.abc_link_program.specs.Linked.{IsLayout, base};
-ghost use Rattle.abc_link_program.specs.Slots.{handler_at};
-ghost use Rattle.abc_link_program.specs.Traits.{own_table_of};
-ghost use Rattle.abc_heap_search.specs.Traits.{members_in, slots_under as slots_below};
+ghost use Rattle.abc_link_names.specs.Linked.{IsLayout, base};
+ghost use Rattle.abc_link_names.specs.Slots.{handler_at};
+ghost use Rattle.abc_link_names.specs.Traits.{own_table_of};
+ghost use Rattle.abc_objects.specs.Traits.{members_in, slots_under as slots_below};
 
 use abc_file_types::{Abc, TraitBody, TraitInfo};
-use abc_heap_search::Member;
 use abc_link::Linked;
 use abc_link_layouts::traits_of;
-use abc_link_names::handlers;
-use abc_link_program::LayoutId;
+use abc_link_names::{LayoutId, handlers};
+use abc_objects::Member;
 
 /// The name of a caught value, by its index; 0 is none.
 #[tactic(auto, using(abc_base::proofs::Past::past_end))]

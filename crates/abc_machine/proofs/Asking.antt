@@ -19,7 +19,7 @@ use Rattle.abc_machine.proofs.Opening.{append_none}
 use Rattle.abc_machine.proofs.Reaching.{Comes, then_is}
 use Rattle.abc_meaning.specs.Throwing.{Stepped, goes_on}
 use Rattle.abc_meaning.specs.Openings.{setting}
-use Rattle.abc_link_program.specs.Linked.{LinkedFile}
+use Rattle.abc_link_names.specs.Linked.{LinkedFile}
 use Rattle.abc_run_finish.specs.declared.halts.Halt.TheVariants.{Ends as Halts}
 use Rattle.abc_run_finish.specs.Steps.{machine}
 use Rattle.abc_run_state.specs.Outer.{Outer, world}

@@ -27,7 +27,7 @@ use Rattle.abc_meaning.specs.Meaning.{Ended, ran, runs_for}
 use Rattle.abc_meaning.specs.Throwing as meant
 use Rattle.abc_meaning.specs.Throwing.{Machine}
 use Rattle.abc_meaning.specs.Openings.{setting}
-use Rattle.abc_link_program.specs.Linked.{LinkedFile}
+use Rattle.abc_link_names.specs.Linked.{LinkedFile}
 use Rattle.abc_meaning.specs.Setting.{Setting}
 use Rattle.abc_file_types.specs.declared.tables.Abc.{Abc}
 

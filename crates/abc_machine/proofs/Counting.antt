@@ -11,7 +11,7 @@ use Rattle.abc_machine.specs.declared.replies.Reply.TheVariants as replies
 use Rattle.abc_machine.proofs.Reaching.{count_all, counted_by}
 use Rattle.abc_meaning.specs.Throwing.{Ends}
 use Rattle.abc_meaning.specs.Openings.{setting}
-use Rattle.abc_link_program.specs.Linked.{LinkedFile}
+use Rattle.abc_link_names.specs.Linked.{LinkedFile}
 use Rattle.abc_run_state.specs.Outer.{world}
 use Rattle.abc_run_state.specs.declared.state.State.{State}
 

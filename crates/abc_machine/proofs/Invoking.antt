@@ -1,12 +1,11 @@
 -- A machine that is ready can be called, and what a call leaves can be called again.
-use Rattle.std.proofs.Common.{◌≡◌, ◌≢◌, ℕ, List, [], ◌∷◌, Bool, true, false, take, zero, suc, refl, sym, ap, ◌∙◌, subst}
+use Rattle.std.proofs.Common.{◌≡◌, ◌≢◌, ℕ, List, [], Bool, true, false, refl, sym, ap, ◌∙◌, subst}
 use Rattle.std.specs.Prelude.{None, Some}
 use Rattle.std.specs.declared.option.Option.{Option}
 use Rattle.abc_base.specs.Hosts.{AreFormulas, arguments}
-use Rattle.abc_base.specs.Ranges.{IsNumber}
 use Rattle.abc_base.specs.declared.formula.Formula.{Formula}
 use Rattle.abc_base.specs.declared.plain.Plain.{Plain}
-use Rattle.abc_run_finish.specs.Calling.{CanCall}
+use Rattle.abc_machine.specs.Calling.{CanCall}
 use Rattle.abc_meaning_sound.proofs.Given.{calls_give}
 use Rattle.abc_meaning_sound.proofs.Left.{calls_left}
 use Rattle.abc_meaning.specs.Calls.{Gives, Replied, call_meaning, silent}
@@ -14,6 +13,7 @@ use Rattle.abc_meaning.specs.Exports.{IsScriptMethod}
 use Rattle.abc_heap_values.specs.declared.values.Span.{Span}
 use Rattle.abc_heap_values.specs.declared.values.Value.{Value}
 use Rattle.abc_heap_values.specs.declared.values.Value.TheVariants as values
+use Rattle.abc_run_finish.proofs.Listed.{each_number}
 use Rattle.abc_run_finish.specs.Ending.{IsSized}
 use Rattle.abc_run_calls.specs.Arguments.{IsKnown}
 use Rattle.abc_meaning_sound.proofs.Typed.{has_typings}
@@ -35,23 +35,11 @@ use Rattle.abc_meaning.specs.Sound.{WorldSound}
 use Rattle.abc_objects.specs.Opening.{formula_names}
 use Rattle.abc_objects.specs.Values.{Exists}
 use Rattle.abc_meaning.specs.Openings.{setting}
-use Rattle.abc_link_program.specs.Linked.{IsLinkedFile, LinkedFile}
-use Rattle.abc_link_program.specs.Slots.{HasFewSlots}
+use Rattle.abc_link_names.specs.Linked.{IsLinkedFile, LinkedFile}
 use Rattle.abc_meaning.specs.World.{World}
 use Rattle.abc_run_state.specs.declared.state.State.{State}
-use Rattle.abc_verify_typing.specs.Lists.{Each}
 use Rattle.abc_verify.proofs.Methods.{all_typed}
 use Rattle.abc_verify.specs.Typed.{IsVerified as IsChecked}
-
--- ---- the numbers of a call
-
-each_taken : {X : Type 0} (P : X → Type 0) (n : ℕ) (xs : List X) → Each P xs → Each P (take n xs)
-each_taken P zero xs a = tt
-each_taken P (suc n) [] a = tt
-each_taken P (suc n) (x ∷ xs) a = (a.0, each_taken P n xs a.1)
-
-are_numbers : (args : Plain) → Each IsNumber (arguments args)
-are_numbers args = each_taken IsNumber args.count (args.a ∷ args.b ∷ args.c ∷ args.d ∷ []) (args.first, (args.second, (args.third, (args.fourth, tt))))
 
 -- ---- a text that is told
 
@@ -99,9 +87,9 @@ module _ (l k : LinkedFile) (fs : List Formula) (s : State) (e : Option End) (cl
   known : IsKnown l s.given.limit
   known = subst (λ (i : LinkedFile). IsKnown i s.given.limit) (sym same) goes_on.known
 
-  module _ (linked : IsLinkedFile l) (few : HasFewSlots l) (typed : IsChecked k) (host : AreFormulas fs) where
+  module _ (linked : IsLinkedFile l) (typed : IsChecked k) (host : AreFormulas fs) where
     verified : IsVerified (setting l fs)
-    verified = verified_setting l fs linked few (all_typed l linked (subst IsChecked (sym same) typed)) host
+    verified = verified_setting l fs linked (all_typed l linked (subst IsChecked (sym same) typed)) host
 
     pub can_call : CanCall l (record { formulas = fs; wrote = [] }) method s
     can_call = record {
@@ -120,7 +108,7 @@ module _ (l k : LinkedFile) (fs : List Formula) (s : State) (e : Option End) (cl
       at_file i = call_meaning (setting i fs) fuel (kept_world s) method (arguments args)
 
       left_sound : WorldSound (setting l fs) (at_file l).world
-      left_sound = (let t = has_typings (setting l fs) verified in (calls_left (setting l fs) t.0 fuel (kept_world s) method (arguments args) verified t.1 sound exported_here (are_numbers args)).0)
+      left_sound = (let t = has_typings (setting l fs) verified in (calls_left (setting l fs) t.0 fuel (kept_world s) method (arguments args) verified t.1 sound exported_here (each_number args)).0)
 
       module _ (t u : State) (reply : Reply) (shut : Bool) (shuts : shut ≡ is_write_fault reply) (leaves : reply ≢ replies.WriteFault → Leaves (setting l fs) (at_file l).world t) (drops : Drops t u) (limit : t.given.limit ≡ s.given.limit) where
         not_fresh : {X : Type 0} → e ≡ None → X
@@ -151,6 +139,6 @@ module _ (l k : LinkedFile) (fs : List Formula) (s : State) (e : Option End) (cl
         pub call_text : (x z : Option (List ℕ)) (span : Span) → RepliesAs (at_file l) x z reply → reply ≡ replies.Value (plains.Text span) → IsText k.file.strings u.arena span
         call_text x z span a is =
             let gives : RepliesAs (at_file l) x z (replies.Value (plains.Text span)) = subst (RepliesAs (at_file l) x z) is a in
-            let there = text_there l (at_file l) x z span gives (λ v q. calls_give (setting l fs) fuel (kept_world s) method (arguments args) v verified sound exported_here (are_numbers args) q) in
+            let there = text_there l (at_file l) x z span gives (λ v q. calls_give (setting l fs) fuel (kept_world s) method (arguments args) v verified sound exported_here (each_number args) q) in
             let heap : u.arena ≡ (at_file l).world.heap = ap (λ (w : World). w.heap) (left_is (λ f. absurd (let two : replies.Value (plains.Text span) ≡ replies.WriteFault = sym is ∙ f in cc))) in
             subst (λ (i : LinkedFile). IsText i.file.strings u.arena span) same (subst (λ (h : Heap). IsText l.file.strings h span) (sym heap) there)

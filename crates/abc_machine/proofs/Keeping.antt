@@ -11,7 +11,7 @@ use Rattle.abc_machine.specs.Machines.{CanGoOn, kept_world}
 use Rattle.abc_machine.specs.Runs.{Leaves}
 use Rattle.abc_meaning.specs.Sound.{WorldSound}
 use Rattle.abc_meaning.specs.Openings.{setting}
-use Rattle.abc_link_program.specs.Linked.{LinkedFile}
+use Rattle.abc_link_names.specs.Linked.{LinkedFile}
 use Rattle.abc_frames.specs.Frame.{no_frames}
 use Rattle.abc_run_state.specs.Turns.{size_for}
 use Rattle.abc_meaning.specs.World.{World}

@@ -1,4 +1,8 @@
-pub mod Counted
+pub mod Sounding
+pub mod There
+pub mod Beginning
+pub mod Staying
+pub mod Example
 pub mod Reached
 pub mod Kept
 pub mod Lined
@@ -11,5 +15,6 @@ pub mod Counting
 pub mod LoggedRuns
 pub mod Closing
 pub mod Untold
+pub mod Called
 pub mod Asking
 pub mod Invoking

@@ -23,7 +23,7 @@ use Rattle.abc_meaning.specs.Step.{step}
 use Rattle.abc_meaning.specs.Throwing.{Ends, Machine, Stepped, Steps}
 use Rattle.abc_meaning.specs.Openings.{setting as setting_of}
 use Rattle.abc_run_finish.specs.Outward.{adding}
-use Rattle.abc_link_program.specs.Linked.{LinkedFile}
+use Rattle.abc_link_names.specs.Linked.{LinkedFile}
 use Rattle.abc_run_finish.specs.declared.halts.Halt.{Halt}
 use Rattle.abc_run_finish.specs.declared.halts.Halt.TheVariants as halts
 use Rattle.abc_run_finish.specs.Steps.{machine, step_here}

@@ -7,7 +7,7 @@ use Rattle.std.specs.declared.result.Result.{Result}
 use Rattle.abc_base.specs.Sinks.{GrowsByFront, WritesAll}
 use Rattle.abc_base.specs.declared.source.Failed.{Failed}
 use Rattle.abc_base.proofs.Writing.{front_first}
-use Rattle.abc_run_finish.proofs.Sounding.{scripts_few, step_is}
+use Rattle.abc_machine.proofs.Sounding.{scripts_few, step_is}
 use Rattle.abc_run_finish.proofs.Turned.{living_is}
 use Rattle.abc_run_finish.specs.Steps.{IsReached, StepsIn, left_here, machine, step_here, stepped}
 use Rattle.abc_run_finish.specs.declared.halts.Halt.{Halt}
@@ -21,7 +21,7 @@ use Rattle.abc_meaning.specs.Step.{runs, step_of}
 use Rattle.abc_meaning.specs.Throwing.{Ends, Stepped, Steps, last_script}
 use Rattle.abc_meaning.proofs.Stepping.{first_starts, steps_change}
 use Rattle.abc_meaning.specs.Front.{Changes, left_by}
-use Rattle.abc_link_program.specs.Linked.{LinkedFile}
+use Rattle.abc_link_names.specs.Linked.{LinkedFile}
 use Rattle.abc_log.proofs.Noting.{same_length}
 use Rattle.abc_log.specs.Starts.{IsOneMore, started_from}
 use Rattle.abc_frames.specs.Frame.{Frame, newest}

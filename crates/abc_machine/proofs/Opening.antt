@@ -28,9 +28,8 @@ use Rattle.abc_meaning.specs.Throwing.{Machine}
 use Rattle.abc_objects.specs.Opening.{formula_names, opening}
 use Rattle.abc_run_finish.specs.Begun.{IsBegun}
 use Rattle.abc_meaning.specs.Openings.{setting}
-use Rattle.abc_link_program.specs.Linked.{IsLinkedFile, LinkedFile}
-use Rattle.abc_link_program.specs.Slots.{HasFewSlots}
-use Rattle.abc_run_finish.proofs.Beginning.{limits_kept, machine_first, reached_first}
+use Rattle.abc_link_names.specs.Linked.{IsLinkedFile, LinkedFile}
+use Rattle.abc_machine.proofs.Beginning.{limits_kept, machine_first, reached_first}
 use Rattle.abc_run_state.specs.Outer.{Outer}
 use Rattle.abc_run_state.specs.declared.state.State.{State}
 use Rattle.abc_run_finish.specs.Steps.{IsReached, machine}
@@ -61,8 +60,8 @@ pub append_none : (known : Option (List ℕ)) → known ≡ append_known known [
 append_none None = refl
 append_none (Some bs) = ap Some (sym (append-nil bs))
 
-pub verified_setting : (l : LinkedFile) (fs : List Formula) → IsLinkedFile l → HasFewSlots l → AllTyped l → AreFormulas fs → IsVerified (setting l fs)
-verified_setting l fs linked few typed host = record { fits = linked.fits; linked = linked; few = few; typed = typed; host = host }
+pub verified_setting : (l : LinkedFile) (fs : List Formula) → IsLinkedFile l → AllTyped l → AreFormulas fs → IsVerified (setting l fs)
+verified_setting l fs linked typed host = record { fits = linked.fits; linked = linked; typed = typed; host = host }
 
 -- no step was taken
 pub at_start : (l : LinkedFile) (fs : List Formula) (s : State) (fuel : ℕ) (x : Option (List ℕ)) → IsReached l (record { formulas = fs; wrote = [] }) s → IsAt l (record { formulas = fs; first = machine s (record { formulas = fs; wrote = [] }); fuel = fuel }) fuel s x x
@@ -134,9 +133,9 @@ module _ (l k : LinkedFile) (fs : List Formula) (s : State) (fuel : ℕ) (e : Op
       let there : fuel - left ≡ steps p s.arena.limits fuel = here ∙ sym (steps_is p s.arena.limits fuel is_first.fits) in
       subst (λ (o : Opened). fuel - left ≡ steps (setting o.linked fs) o.limits fuel) shown (subst (λ (i : LinkedFile). fuel - left ≡ steps (setting i fs) s.arena.limits fuel) same there)
 
-  module _ (linked : IsLinkedFile l) (few : HasFewSlots l) (typed : IsChecked k) (host : AreFormulas fs) where
+  module _ (linked : IsLinkedFile l) (typed : IsChecked k) (host : AreFormulas fs) where
     verified : IsVerified (setting l fs)
-    verified = verified_setting l fs linked few (all_typed l linked (subst IsChecked (sym same) typed)) host
+    verified = verified_setting l fs linked (all_typed l linked (subst IsChecked (sym same) typed)) host
 
     first_reached : IsReached l (record { formulas = fs; wrote = [] }) s
     first_reached = reached_first l fs s.arena.limits s verified (keeps.begins fresh).1 is_first

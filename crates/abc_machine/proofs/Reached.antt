@@ -1,5 +1,5 @@
 -- From a state that a run reaches to what the code of its newest frame's instruction relies on, and from what that leaves to the step.
-use Rattle.std.proofs.Common.{◌≡◌, ◌≢◌, ℕ, ◌<◌, ◌^◌, List, ◌∷◌, length, map, refl, sym, ap, ◌∙◌, subst, arith}
+use Rattle.std.proofs.Common.{◌≡◌, ◌≢◌, ℕ, ◌<◌, ◌^◌, List, ◌∷◌, length, map, refl, sym, ap, ◌∙◌, subst}
 use Rattle.std.specs.Prelude.{Ok}
 use Rattle.std.specs.declared.option.Option.{Option}
 use Rattle.std.specs.declared.result.Result.{Result}
@@ -11,7 +11,7 @@ use Rattle.abc_run_finish.specs.Ending.{IsSized}
 use Rattle.abc_run_finish.proofs.Finished.{ended_in}
 use Rattle.abc_meaning_sound.proofs.Sounded.{frames_run}
 use Rattle.abc_meaning.specs.Running.{IsRunning}
-use Rattle.abc_run_finish.proofs.Sounding.{step_is, turn_fair}
+use Rattle.abc_machine.proofs.Sounding.{step_is, turn_fair}
 use Rattle.abc_run_finish.proofs.Turned.{entered_gives_none, living_is}
 use Rattle.abc_run_finish.specs.Fairly.{IsFairTurn}
 use Rattle.abc_run_finish.specs.Steps.{IsReached, StepsAs, StepsIn, left_here, stepped}
@@ -20,7 +20,7 @@ use Rattle.abc_meaning.specs.Sound.{IsSound}
 use Rattle.abc_meaning.specs.Step.{runs}
 use Rattle.abc_meaning.specs.Throwing.{Machine, Stepped}
 use Rattle.abc_run_values.specs.Spelled.{IsSpelled}
-use Rattle.abc_link_program.specs.Linked.{LinkedFile}
+use Rattle.abc_link_names.specs.Linked.{LinkedFile}
 use Rattle.abc_verify_typing.specs.Instructions.{opcode}
 use Rattle.abc_frames.specs.Frame.{Frame, Frames, first_size, newest, newest_size, room_for, under}
 use Rattle.abc_meaning.specs.At.{Above, Act, Goes, Returns, Stays}
@@ -34,7 +34,6 @@ use Rattle.abc_run_state.specs.declared.state.Left.{Left}
 use Rattle.abc_run_state.specs.declared.state.Left.TheVariants as lefts
 use Rattle.abc_run_state.specs.declared.state.State.{State}
 use Rattle.abc_run_state.specs.declared.state.Stop.{Stop}
-use Rattle.abc_machine.proofs.Counted.{few_scopes}
 use Rattle.abc_file_types.specs.Ready.{CanSpell}
 use Rattle.abc_file_types.specs.declared.code.Instr.{Instr}
 use Rattle.abc_file_types.specs.declared.code.Instr.TheVariants as instrs
@@ -111,11 +110,7 @@ module _ (l : LinkedFile) (out : Outer) (s : State) (reached : IsReached l out s
       }
 
   pub equipped : IsEquipped l s
-  equipped =
-      let stands = sound.frames.0.stands in
-      let fit = stands.scopes in
-      let low = few_scopes p reached.verified.linked top.method stands.routine stands.body in
-      record { known = reached.known; few = omega (arith, fit, low); started = reached.sound.world.scripts }
+  equipped = record { known = reached.known; started = reached.sound.world.scripts }
 
   -- ---- what the instruction left
 

@@ -16,7 +16,7 @@ use Rattle.abc_machine.specs.declared.replies.Reply.TheVariants.{FuelSpent as Sp
 use Rattle.abc_meaning.specs.Step.{step}
 use Rattle.abc_meaning.specs.Throwing.{Done, End, Ends, FuelSpent, Full, Machine, Profile, Stepped, Steps, Stuck, Uncaught}
 use Rattle.abc_run_finish.specs.Outward.{adding}
-use Rattle.abc_link_program.specs.Linked.{LinkedFile}
+use Rattle.abc_link_names.specs.Linked.{LinkedFile}
 use Rattle.abc_run_state.specs.Outer.{Outer, world}
 use Rattle.abc_run_state.specs.declared.state.State.{State}
 use Rattle.abc_run_finish.specs.Steps.{FailsAs, IsReached, machine, step_here}

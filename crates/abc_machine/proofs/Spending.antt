@@ -15,8 +15,8 @@ use Rattle.abc_machine.specs.declared.replies.Reply.TheVariants as replies
 use Rattle.abc_machine.proofs.Reaching.{Comes, ends_at, fails_at, goes_at, spent_at}
 use Rattle.abc_meaning.specs.Throwing as meant
 use Rattle.abc_meaning.specs.Openings.{setting as setting_of}
-use Rattle.abc_link_program.specs.Linked.{LinkedFile}
-use Rattle.abc_run_finish.proofs.Staying.{reached_on}
+use Rattle.abc_link_names.specs.Linked.{LinkedFile}
+use Rattle.abc_machine.proofs.Staying.{reached_on}
 use Rattle.abc_run_state.specs.Outer.{Outer, setting, world}
 use Rattle.abc_run_state.specs.declared.state.State.{State}
 use Rattle.abc_run_finish.specs.Steps.{GoesOnAs, IsReached, StepsAs}

@@ -3,9 +3,13 @@ pub mod Ended
 pub mod Logged
 pub mod Replied
 pub mod Machines
+pub mod OneRun
 pub mod Invoked
 pub mod Runs
 pub mod Spent
+pub mod Calling
+pub mod OptionLaws
+pub mod ReachedLaws
 pub use Rattle.abc_meaning.specs.World
 pub use Rattle.abc_meaning.specs.Setting
 pub use Rattle.abc_meaning.specs.Step

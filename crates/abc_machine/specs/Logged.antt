@@ -9,7 +9,7 @@ use Rattle.abc_machine.specs.declared.ends.End.{End}
 use Rattle.abc_machine.specs.declared.ends.End.TheVariants as ends
 use Rattle.abc_meaning.specs.Meaning.{Meaning, Ran}
 use Rattle.abc_meaning.specs.Throwing as meant
-use Rattle.abc_link_program.specs.Linked.{LinkedFile}
+use Rattle.abc_link_names.specs.Linked.{LinkedFile}
 use Rattle.abc_run_state.specs.Outer.{Outer}
 use Rattle.abc_run_state.specs.declared.state.State.{State}
 

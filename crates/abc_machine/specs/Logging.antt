@@ -11,7 +11,7 @@ use Rattle.abc_run_finish.specs.declared.halts.Halt.TheVariants as halts
 use Rattle.abc_meaning.specs.Logs.{lines_of, world_left, wrote_since}
 use Rattle.abc_log.specs.Lines.{out_line, start_line, step_line}
 use Rattle.abc_meaning.specs.Throwing.{Stepped}
-use Rattle.abc_link_program.specs.Linked.{LinkedFile}
+use Rattle.abc_link_names.specs.Linked.{LinkedFile}
 use Rattle.abc_run_state.specs.Outer.{Outer, setting, world}
 use Rattle.abc_run_state.specs.declared.state.Left.{Left}
 use Rattle.abc_run_state.specs.declared.state.State.{State}

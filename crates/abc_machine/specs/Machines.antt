@@ -11,7 +11,7 @@ use Rattle.abc_meaning.specs.Sound.{WorldSound}
 use Rattle.abc_objects.specs.Opening.{formula_names}
 use Rattle.abc_run_finish.specs.Begun.{IsBegun}
 use Rattle.abc_meaning.specs.Openings.{setting}
-use Rattle.abc_link_program.specs.Linked.{LinkedFile}
+use Rattle.abc_link_names.specs.Linked.{LinkedFile}
 use Rattle.abc_run_calls.specs.Arguments.{IsKnown}
 use Rattle.abc_meaning.specs.World.{World}
 use Rattle.abc_run_state.specs.declared.state.State.{State}

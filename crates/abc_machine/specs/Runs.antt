@@ -8,7 +8,7 @@ use Rattle.abc_run_finish.specs.Ending.{IsSized}
 use Rattle.abc_meaning.specs.Logs.{steps_for}
 use Rattle.abc_meaning.specs.Step.{step}
 use Rattle.abc_meaning.specs.Throwing.{Ends, Machine, Stepped, Steps}
-use Rattle.abc_link_program.specs.Linked.{LinkedFile}
+use Rattle.abc_link_names.specs.Linked.{LinkedFile}
 use Rattle.abc_run_state.specs.Outer.{Outer, setting}
 use Rattle.abc_run_state.specs.declared.state.State.{State}
 use Rattle.abc_run_finish.specs.Steps.{IsReached, machine}

@@ -14,7 +14,7 @@ use Rattle.abc_machine.specs.declared.replies.Reply.{Reply}
 use Rattle.abc_machine.specs.declared.replies.Reply.TheVariants as replies
 use Rattle.abc_meaning.specs.Throwing as meant
 use Rattle.abc_run_finish.specs.Outward.{adding}
-use Rattle.abc_link_program.specs.Linked.{LinkedFile}
+use Rattle.abc_link_names.specs.Linked.{LinkedFile}
 use Rattle.abc_run_state.specs.Outer.{Outer, setting, world}
 use Rattle.abc_run_state.specs.declared.state.State.{State}
 use Rattle.abc_run_finish.specs.Steps.{EndsAs, FailsAs, GoesOnAs, IsReached}

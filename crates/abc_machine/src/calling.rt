@@ -2,7 +2,7 @@ ghost use Rattle.std.specs.Prelude.{◌≡◌, ◌≢◌, List, []};
 ghost use Rattle.abc_base.specs.Hosts.{arguments};
 ghost use Rattle.abc_base.specs.declared.formula.Formula.{Formula};
 ghost use Rattle.abc_meaning.specs.Calls.{call_meaning};
-ghost use Rattle.abc_run_finish.specs.Calling.{CanCall};
+ghost use Rattle.abc_machine.specs.Calling.{CanCall};
 ghost use Rattle.abc_machine.specs.Machines.{kept_world};
 ghost use Rattle.abc_machine.specs.Replied.{HasReplied, RepliesAs, is_write_fault as is_fault};
 ghost use Rattle.abc_machine.specs.Runs.{Leaves};

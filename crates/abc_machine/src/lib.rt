@@ -5,6 +5,9 @@
 //! The machine: it runs a verified file within stated fuel and limits, just as the meaning says, and then calls methods of its last
 //! script on the heap that the run and the calls before left. A run writes its output, or its log. Neither a run nor a call takes
 //! memory.
+//!
+//! What each step of a run asks of its state, a run of a verified file keeps: it is so of the state that the run begins with, and of
+//! each that a step leaves. The values of options exist, and their numbers are low.
 #![tactic(auto)]
 
 mod calling;
@@ -14,6 +17,8 @@ mod left;
 mod logged;
 mod logging;
 mod machine;
+mod option_laws;
+mod reached_laws;
 mod replies;
 mod running;
 mod stepping;
@@ -26,5 +31,7 @@ pub use ending::thrown_name;
 pub use ends::End;
 pub use logging::step_logged;
 pub use machine::Machine;
+pub use option_laws::options_are_there;
+pub use reached_laws::{runs_begin_reached, some_runs_begin, steps_stay_reached};
 pub use replies::{PlainValue, Reply};
 pub use stepping::step;

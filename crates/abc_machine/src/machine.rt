@@ -1,17 +1,14 @@
-ghost use Rattle.std.specs.Prelude.{◌≡◌, ◌≢◌, None, Some, MatchResult};
-ghost use Rattle.abc_meaning.specs.Calls.{silent};
+ghost use Rattle.std.specs.Prelude.{◌≡◌, None, MatchResult};
 ghost use Rattle.abc_meaning.specs.Exports.{IsScriptMethod};
 ghost use Rattle.abc_heap_values.specs.declared.values.Span.{Span};
 ghost use Rattle.abc_heap_store.specs.Texts.{IsText, text_of};
-ghost use Rattle.abc_meaning.specs.Logs.{log as log_of, steps as steps_of};
 ghost use Rattle.abc_machine.specs.Ended.{HasRun, RunsAs};
 ghost use Rattle.abc_machine.specs.Invoked.{Answers, call_of};
 ghost use Rattle.abc_machine.specs.Logged.{LogsRun};
-ghost use Rattle.abc_machine.specs.Machines.{IsFirst, IsOpened, IsReady, world_run};
+ghost use Rattle.abc_machine.specs.Machines.{IsFirst, IsOpened, IsReady};
+ghost use Rattle.abc_machine.specs.OneRun.{AnswersAgain, HasEnded, LeavesRun, log_of, meaning_of};
 ghost use Rattle.abc_machine.specs.Replied.{HasReplied};
-ghost use Rattle.abc_machine.specs.declared.ends.End.{End};
 ghost use Rattle.abc_machine.specs.declared.replies.PlainValue.TheVariants.{Text};
-ghost use Rattle.abc_meaning.specs.Meaning.{meaning};
 ghost use Rattle.abc_objects.specs.Opening.{formula_names};
 ghost use Rattle.abc_meaning.specs.Openings.{IsRefused, setting};
 
@@ -108,22 +105,18 @@ impl Machine {
     /// of faults rose. It takes no memory. A second run writes nothing, and answers how the first one ended.
     pub fn run<K: Sink, H: Host>(&mut self, fuel: u32, out: &mut K, host: &H) -> End
         requires { self.old.ended ≡ None → formula_names (H.formulas host.now) ≡ self.old.names }
-        ensures ends { self.old.ended ≡ None → RunsAs (meaning (setting self.old.linked (H.formulas host.now)) self.old.limits fuel) (K.written out.old) (K.written out.new) result }
+        ensures ends { self.old.ended ≡ None →
+            RunsAs (meaning_of self.old (H.formulas host.now) fuel) (K.written out.old) (K.written out.new) result }
         ensures cause { self.old.ended ≡ None → HasRun (K.faults out.old) (K.faults out.new) result }
-        ensures world { self.old.ended ≡ None → result ≢ End.WriteFault → self.new.world ≡ silent (world_run self.old (H.formulas host.now) fuel) }
-        ensures names { self.old.ended ≡ None → result ≢ End.WriteFault → self.new.names ≡ self.old.names }
-        ensures steps { self.old.ended ≡ None → result ≢ End.WriteFault → self.new.steps ≡ steps_of (setting self.old.linked (H.formulas host.now)) self.old.limits fuel }
-        ensures again { (end : End) → self.old.ended ≡ Some end → (result ≡ end) × (out.new ≡ out.old) × (self.new ≡ self.old) }
-        ensures ended { self.new.ended ≡ Some result }
-        ensures closed { self.new.closed ≡ self.old.closed }
-        ensures linked { self.new.linked ≡ self.old.linked }
+        ensures leaves { self.old.ended ≡ None → LeavesRun self.old self.new (H.formulas host.now) fuel result }
+        ensures again { AnswersAgain self.old self.new out.old out.new result }
+        ensures keeps { HasEnded self.old self.new result }
     {
         match self.ended {
             Some(end) => end,
             None => {
                 let linked = self.verified.linked();
                 linked.linked_law();
-                linked.slots_law();
                 self.verified.verified_law();
                 let mut left = fuel;
                 let end = run_for(linked, &mut self.state, &mut left, out, host);
@@ -140,22 +133,19 @@ impl Machine {
     /// the sink's count of faults rose. It takes no memory. A machine that was run writes nothing, and answers how that ended.
     pub fn run_logged<K: Sink, H: Host>(&mut self, fuel: u32, log: &mut K, host: &H) -> End
         requires { self.old.ended ≡ None → formula_names (H.formulas host.now) ≡ self.old.names }
-        ensures logs { self.old.ended ≡ None → LogsRun (log_of (setting self.old.linked (H.formulas host.now)) self.old.limits fuel) (meaning (setting self.old.linked (H.formulas host.now)) self.old.limits fuel) (K.written log.old) (K.written log.new) result }
+        ensures logs { let formulas = H.formulas host.now in
+            self.old.ended ≡ None →
+            LogsRun (log_of self.old formulas fuel) (meaning_of self.old formulas fuel) (K.written log.old) (K.written log.new) result }
         ensures cause { self.old.ended ≡ None → HasRun (K.faults log.old) (K.faults log.new) result }
-        ensures world { self.old.ended ≡ None → result ≢ End.WriteFault → self.new.world ≡ silent (world_run self.old (H.formulas host.now) fuel) }
-        ensures names { self.old.ended ≡ None → result ≢ End.WriteFault → self.new.names ≡ self.old.names }
-        ensures steps { self.old.ended ≡ None → result ≢ End.WriteFault → self.new.steps ≡ steps_of (setting self.old.linked (H.formulas host.now)) self.old.limits fuel }
-        ensures again { (end : End) → self.old.ended ≡ Some end → (result ≡ end) × (log.new ≡ log.old) × (self.new ≡ self.old) }
-        ensures ended { self.new.ended ≡ Some result }
-        ensures closed { self.new.closed ≡ self.old.closed }
-        ensures linked { self.new.linked ≡ self.old.linked }
+        ensures leaves { self.old.ended ≡ None → LeavesRun self.old self.new (H.formulas host.now) fuel result }
+        ensures again { AnswersAgain self.old self.new log.old log.new result }
+        ensures keeps { HasEnded self.old self.new result }
     {
         match self.ended {
             Some(end) => end,
             None => {
                 let linked = self.verified.linked();
                 linked.linked_law();
-                linked.slots_law();
                 self.verified.verified_law();
                 let mut unspent = fuel;
                 let end = log_for(
@@ -195,7 +185,6 @@ impl Machine {
     {
         let linked = self.verified.linked();
         linked.linked_law();
-        linked.slots_law();
         self.verified.verified_law();
         let reply = call_for(linked, &mut self.state, method, args, fuel, out, host);
         drop_frames(&mut self.state);

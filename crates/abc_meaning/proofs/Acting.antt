@@ -13,23 +13,23 @@ use Rattle.abc_heap_store.specs.What.{is_array}
 use Rattle.abc_heap_store.specs.declared.records.What.{What}
 use Rattle.abc_heap_store.specs.declared.records.What.TheVariants as whats
 use Rattle.abc_link_names.specs.Bases.{base_named}
-use Rattle.abc_link_names.specs.Parts.{class_at}
+use Rattle.abc_link_names.specs.PartsByNumber.{class_at}
 use Rattle.abc_link_names.specs.Instances.{instance_at}
 use Rattle.abc_link_names.specs.declared.named.Named.{Named}
 use Rattle.abc_link_names.specs.declared.named.Named.TheVariants as named
 use Rattle.abc_ops.specs.Left.{text_made}
-use Rattle.abc_link_program.specs.Linked.{above}
-use Rattle.abc_link_program.specs.Owners.{owner_of}
-use Rattle.abc_link_program.specs.Slots.{slot_numbered}
-use Rattle.abc_link_program.specs.declared.part.LayoutId.{LayoutId}
+use Rattle.abc_link_names.specs.Linked.{above}
+use Rattle.abc_link_names.specs.Owners.{owner_of}
+use Rattle.abc_link_names.specs.Slots.{slot_numbered}
+use Rattle.abc_link_names.specs.declared.part.LayoutId.{LayoutId}
 use Rattle.abc_objects.specs.Stands.{host_class_number}
-use Rattle.abc_heap_search.specs.Searches.{declared_found}
-use Rattle.abc_heap_search.specs.declared.found.ScopeFound.{ScopeFound}
-use Rattle.abc_heap_search.specs.declared.found.ScopeFound.TheVariants.{Object as InObject, Start, Missing}
-use Rattle.abc_heap_search.specs.declared.found.Found.{Found}
-use Rattle.abc_heap_search.specs.declared.found.Want.{Want}
-use Rattle.abc_heap_search.specs.declared.found.Want.TheVariants.{Read, Write}
-use Rattle.abc_heap_search.specs.declared.name.Name.{Name}
+use Rattle.abc_objects.specs.Searches.{declared_found}
+use Rattle.abc_objects.specs.declared.found.ScopeFound.{ScopeFound}
+use Rattle.abc_objects.specs.declared.found.ScopeFound.TheVariants.{Object as InObject, Start, Missing}
+use Rattle.abc_objects.specs.declared.found.Found.{Found}
+use Rattle.abc_objects.specs.declared.found.Want.{Want}
+use Rattle.abc_objects.specs.declared.found.Want.TheVariants.{Read, Write}
+use Rattle.abc_objects.specs.declared.name.Name.{Name}
 use Rattle.abc_verify_typing.specs.Instructions.{local, second, targets}
 use Rattle.abc_meaning.specs.Calling.{Came, Calls, Got, Makes}
 use Rattle.abc_meaning.specs.Setting.{NameForm, NoPart, NoSpace, NoText, Setting, Whole, method_of}

@@ -7,9 +7,9 @@ use Rattle.abc_heap_store.specs.Heap.{Heap}
 use Rattle.abc_ops.specs.Coercions.{Keeps, kept_by}
 use Rattle.abc_ops.specs.Left.{Leaves}
 use Rattle.abc_ops.specs.declared.end.OpEnd.{OpEnd}
-use Rattle.abc_link_program.specs.Linked.{IsLinkedFile, LinkedFile}
-use Rattle.abc_link_program.specs.declared.types.Ty.{Ty}
-use Rattle.abc_link_program.specs.declared.types.Ty.TheVariants as types
+use Rattle.abc_link_names.specs.Linked.{IsLinkedFile, LinkedFile}
+use Rattle.abc_link_names.specs.declared.types.Ty.{Ty}
+use Rattle.abc_link_names.specs.declared.types.Ty.TheVariants as types
 use Rattle.abc_meaning.specs.TypeLaws.{ComputesCoercion}
 use Rattle.abc_meaning.specs.Ops.{kept_of}
 use Rattle.abc_meaning.specs.Types.{is_of}

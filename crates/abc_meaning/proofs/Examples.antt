@@ -3,8 +3,8 @@ use Rattle.std.proofs.Common.{refl}
 use Rattle.std.specs.Fmt.{digits}
 use Rattle.std.specs.Int.{int_wrap}
 use Rattle.abc_base_graphs.specs.Ways.{way}
-use Rattle.abc_heap_search.specs.Candidates.{answer}
-use Rattle.abc_heap_search.specs.Searches.{declared_found, found_in_scopes, found_on}
+use Rattle.abc_objects.specs.Candidates.{answer}
+use Rattle.abc_objects.specs.Searches.{declared_found, found_in_scopes, found_on}
 use Rattle.abc_heap_values.specs.Modular.{unsigned}
 use Rattle.abc_verify_typing.specs.Rows.{row_at, table}
 use Rattle.abc_meaning.specs.Examples.{RunExamples, WaitExamples}

@@ -10,15 +10,15 @@ use Rattle.abc_heap_values.specs.declared.values.Value.{Value}
 use Rattle.abc_heap_values.specs.declared.values.Value.TheVariants as values
 use Rattle.abc_heap_store.specs.Changes.{with_element, with_object}
 use Rattle.abc_heap_store.specs.Heap.{Object}
-use Rattle.abc_link_program.specs.declared.types.Owner.{Owner}
-use Rattle.abc_link_program.specs.declared.types.SlotInfo.{SlotInfo}
-use Rattle.abc_heap_search.specs.ElementNames.{ElementName, IsLength, IsNumber}
-use Rattle.abc_heap_search.specs.Searches.{declared_found}
-use Rattle.abc_heap_search.specs.Spaces.{holds_public}
-use Rattle.abc_heap_search.specs.declared.found.Found.{Found}
-use Rattle.abc_heap_search.specs.declared.found.Found.TheVariants.{Slot, Method, Getter, Setter, Property, Element, Length, WrongSide, Missing}
-use Rattle.abc_heap_search.specs.declared.found.Want.TheVariants.{Write}
-use Rattle.abc_heap_search.specs.declared.name.Name.{Name}
+use Rattle.abc_link_names.specs.declared.types.Owner.{Owner}
+use Rattle.abc_link_names.specs.declared.types.SlotInfo.{SlotInfo}
+use Rattle.abc_objects.specs.ElementNames.{ElementName, IsLength, IsNumber}
+use Rattle.abc_objects.specs.Searches.{declared_found}
+use Rattle.abc_objects.specs.Spaces.{holds_public}
+use Rattle.abc_objects.specs.declared.found.Found.{Found}
+use Rattle.abc_objects.specs.declared.found.Found.TheVariants.{Slot, Method, Getter, Setter, Property, Element, Length, WrongSide, Missing}
+use Rattle.abc_objects.specs.declared.found.Want.TheVariants.{Write}
+use Rattle.abc_objects.specs.declared.name.Name.{Name}
 use Rattle.abc_meaning.specs.Members.{at_place, bound_function, call_found, calls_name, delete_found, deletes, deletes_own, element_of, find_on, is_dynamic, may_hold, read_found, reads, slot_info, undefined_if, value_found, with_holder, write_element, write_found, write_own, write_property, write_slot, writes_to}
 use Rattle.abc_meaning.specs.Calling.{calls, got}
 use Rattle.abc_meaning.specs.Objects.{own_place, set_property, without_property}

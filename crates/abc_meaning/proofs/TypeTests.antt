@@ -9,13 +9,13 @@ use Rattle.abc_heap_values.specs.declared.values.Value.{Value}
 use Rattle.abc_heap_values.specs.declared.values.Value.TheVariants as values
 use Rattle.abc_heap_store.specs.Heap.{Heap, object_at}
 use Rattle.abc_ops.specs.Types.{IsInstanceOf, IsInt, IsObjectOf, IsOf, IsUInt, NamesInterface}
-use Rattle.abc_link_program.specs.Interfaces.{class_graph}
-use Rattle.abc_link_program.specs.Linked.{IsLinkedFile, LinkedFile}
-use Rattle.abc_link_program.specs.Numbering.{part_at}
-use Rattle.abc_link_program.specs.declared.part.Part.{Part}
-use Rattle.abc_link_program.specs.declared.part.Part.TheVariants as parts
-use Rattle.abc_link_program.specs.declared.types.Ty.{Ty}
-use Rattle.abc_link_program.specs.declared.types.Ty.TheVariants as types
+use Rattle.abc_link_names.specs.Interfaces.{class_graph}
+use Rattle.abc_link_names.specs.Linked.{IsLinkedFile, LinkedFile}
+use Rattle.abc_link_names.specs.Numbering.{part_at}
+use Rattle.abc_link_names.specs.declared.part.Part.{Part}
+use Rattle.abc_link_names.specs.declared.part.Part.TheVariants as parts
+use Rattle.abc_link_names.specs.declared.types.Ty.{Ty}
+use Rattle.abc_link_names.specs.declared.types.Ty.TheVariants as types
 use Rattle.abc_link_names.specs.Bases.{is_interface}
 use Rattle.abc_verify_typing.proofs.Reaching.{below_reached, reached}
 use Rattle.abc_meaning.specs.TypeLaws.{DecidesTypes}

@@ -8,12 +8,12 @@ use Rattle.abc_heap_values.specs.declared.values.Value.{Value}
 use Rattle.abc_heap_store.specs.Heap.{Heap}
 use Rattle.abc_heap_store.specs.declared.records.Limits.{Limits}
 use Rattle.abc_objects.specs.Values.{Exists}
-use Rattle.abc_link_program.specs.Linked.{IsLinkedFile, LinkedFile, layout_of}
-use Rattle.abc_link_program.specs.Owners.{body_of}
-use Rattle.abc_link_program.specs.Types.{type_of}
-use Rattle.abc_link_program.specs.declared.part.Part.TheVariants as parts
-use Rattle.abc_link_program.specs.declared.types.Ty.{Ty}
-use Rattle.abc_link_names.specs.Parts.{body_at}
+use Rattle.abc_link_names.specs.Linked.{IsLinkedFile, LinkedFile, layout_of}
+use Rattle.abc_link_names.specs.Owners.{body_of}
+use Rattle.abc_link_names.specs.Types.{type_of}
+use Rattle.abc_link_names.specs.declared.part.Part.TheVariants as parts
+use Rattle.abc_link_names.specs.declared.types.Ty.{Ty}
+use Rattle.abc_link_names.specs.PartsByNumber.{body_at}
 use Rattle.abc_file_types.specs.declared.code.Handler.{Handler}
 use Rattle.abc_verify_typing.specs.Effects.{caught, covering, covers}
 use Rattle.abc_verify_typing.specs.Lists.{Each, Each2}

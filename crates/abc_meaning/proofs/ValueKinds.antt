@@ -6,17 +6,17 @@ use Rattle.abc_heap_values.specs.declared.values.Value.{Value}
 use Rattle.abc_heap_values.specs.declared.values.Value.TheVariants as values
 use Rattle.abc_heap_store.specs.Heap.{Heap, object_at}
 use Rattle.abc_objects.specs.Values.{Exists, Holds}
-use Rattle.abc_link_program.specs.Kinds.{IsAtMost}
-use Rattle.abc_link_program.specs.Linked.{IsLinkedFile, LinkedFile, above, layout_of}
-use Rattle.abc_link_program.specs.Tree.{IsBelow}
-use Rattle.abc_link_program.specs.Types.{kind_of_type}
-use Rattle.abc_link_program.specs.declared.part.LayoutId.{LayoutId}
-use Rattle.abc_link_program.specs.declared.part.Part.TheVariants as parts
-use Rattle.abc_link_program.specs.declared.types.Kind.{Kind}
-use Rattle.abc_link_program.specs.declared.types.Kind.TheVariants as kinds
-use Rattle.abc_link_program.specs.declared.types.Ty.{Ty}
-use Rattle.abc_link_program.specs.declared.types.Ty.TheVariants as types
-use Rattle.abc_link_program.proofs.Tree.{above_le, below_trans, below_up}
+use Rattle.abc_link_names.specs.Kinds.{IsAtMost}
+use Rattle.abc_link_names.specs.Linked.{IsLinkedFile, LinkedFile, above, layout_of}
+use Rattle.abc_link_names.specs.Tree.{IsBelow}
+use Rattle.abc_link_names.specs.Types.{kind_of_type}
+use Rattle.abc_link_names.specs.declared.part.LayoutId.{LayoutId}
+use Rattle.abc_link_names.specs.declared.part.Part.TheVariants as parts
+use Rattle.abc_link_names.specs.declared.types.Kind.{Kind}
+use Rattle.abc_link_names.specs.declared.types.Kind.TheVariants as kinds
+use Rattle.abc_link_names.specs.declared.types.Ty.{Ty}
+use Rattle.abc_link_names.specs.declared.types.Ty.TheVariants as types
+use Rattle.abc_link_names.proofs.Tree.{above_le, below_trans, below_up}
 use Rattle.abc_verify_typing.specs.Lists.{Each2}
 use Rattle.abc_verify_typing.proofs.Good.{good}
 use Rattle.abc_verify_typing.proofs.Reaching.{below_reached}

@@ -18,7 +18,7 @@ use Rattle.abc_heap_store.specs.declared.records.What.TheVariants as whats
 use Rattle.abc_link_names.specs.Bases.{is_interface}
 use Rattle.abc_objects.specs.Fixed.{fixed_span}
 use Rattle.abc_objects.specs.declared.fixed.FixedText.TheVariants.{Message}
-use Rattle.abc_link_program.specs.declared.types.Ty.{Ty}
+use Rattle.abc_link_names.specs.declared.types.Ty.{Ty}
 use Rattle.abc_meaning.specs.Calling.{Came, Got, calls, calls_formula, calls_what, got, in_range, line, number_in, only, this_of, trace}
 use Rattle.abc_meaning.specs.Making.{host_arguments, message_of, most_arguments, new, new_elements, new_instance, new_of_class, new_plain, new_what, set_message}
 use Rattle.abc_meaning.specs.Objects.{place}

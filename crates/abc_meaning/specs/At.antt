@@ -34,8 +34,8 @@ pub data Act : Type 0 where
 abbrev pub Doing : Type 0
 Doing = At → Run Act
 
-abbrev pub op : At → ℕ
-op a = opcode a.here.instr
+abbrev pub opcode_at : At → ℕ
+opcode_at a = opcode a.here.instr
 
 abbrev pub number : At → ℕ
 number a = operand a.here.instr

@@ -6,14 +6,14 @@ use Rattle.abc_base.specs.declared.names.HostClass.TheVariants as hosts
 use Rattle.abc_heap_values.specs.declared.values.Value.{Value}
 use Rattle.abc_heap_values.specs.declared.values.Value.TheVariants.{Undefined, Obj}
 use Rattle.abc_heap_store.specs.Heap.{obj_id}
-use Rattle.abc_link_program.specs.Types.{type_of}
-use Rattle.abc_heap_search.specs.Objects.{global_number}
+use Rattle.abc_link_names.specs.Types.{type_of}
+use Rattle.abc_objects.specs.Objects.{global_number}
 use Rattle.abc_file_types.specs.Methods.{has_flag}
 use Rattle.abc_file_types.specs.declared.methods.Method.{Method}
 use Rattle.abc_file_types.specs.declared.methods.OptionValue.{OptionValue}
 use Rattle.abc_verify_typing.specs.Routines.{Routine}
-use Rattle.abc_link_names.specs.Parts.{script_at}
-use Rattle.abc_link_program.specs.Owners.{owner_of}
+use Rattle.abc_link_names.specs.PartsByNumber.{script_at}
+use Rattle.abc_link_names.specs.Owners.{owner_of}
 use Rattle.abc_meaning.specs.Objects.{Place, new_array, place, place_of_owner}
 use Rattle.abc_meaning.specs.Ops.{coerces}
 use Rattle.abc_meaning.specs.Setting.{Setting, may_take, method_of, options_of, routine_of, value_of_option}

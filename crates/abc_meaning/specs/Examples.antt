@@ -22,8 +22,8 @@ use Rattle.abc_heap_store.specs.declared.records.Limit.TheVariants as limits
 use Rattle.abc_heap_store.specs.declared.records.Limits.{Limits}
 use Rattle.abc_heap_values.specs.declared.values.Value.{Value}
 use Rattle.abc_link_names.specs.Meaning.{host_classes}
-use Rattle.abc_link_program.specs.declared.part.Part.{Part}
-use Rattle.abc_link_program.specs.declared.part.Part.TheVariants as parts
+use Rattle.abc_link_names.specs.declared.part.Part.{Part}
+use Rattle.abc_link_names.specs.declared.part.Part.TheVariants as parts
 use Rattle.abc_frames.specs.Frame.{Frame}
 use Rattle.abc_frames.specs.declared.records.Wait.{Wait}
 use Rattle.abc_frames.specs.declared.records.Wait.TheVariants as waits
@@ -32,116 +32,117 @@ use Rattle.abc_meaning.specs.Setting.{Setting}
 use Rattle.abc_meaning.specs.Step.{step}
 use Rattle.abc_meaning.specs.Throwing.{Done, Ends, FuelSpent, Full, Profile, Stepped, Steps, Uncaught}
 use Rattle.abc_meaning.specs.declared.thrown.Thrown.TheVariants as thrown
+use Rattle.abc_file_types.specs.declared.op.TheConstants as op
 
 -- ---- instructions by their names
 
 abbrev pub throw : Instr
-throw = Plain 0x03
+throw = Plain op.THROW
 
 abbrev pub pushwith : Instr
-pushwith = Plain 0x1c
+pushwith = Plain op.PUSHWITH
 
 abbrev pub popscope : Instr
-popscope = Plain 0x1d
+popscope = Plain op.POPSCOPE
 
 abbrev pub pushnull : Instr
-pushnull = Plain 0x20
+pushnull = Plain op.PUSHNULL
 
 abbrev pub pop : Instr
-pop = Plain 0x29
+pop = Plain op.POP
 
 abbrev pub dup : Instr
-dup = Plain 0x2a
+dup = Plain op.DUP
 
 abbrev pub pushscope : Instr
-pushscope = Plain 0x30
+pushscope = Plain op.PUSHSCOPE
 
 abbrev pub returnvoid : Instr
-returnvoid = Plain 0x47
+returnvoid = Plain op.RETURNVOID
 
 abbrev pub returnvalue : Instr
-returnvalue = Plain 0x48
+returnvalue = Plain op.RETURNVALUE
 
 abbrev pub newactivation : Instr
-newactivation = Plain 0x57
+newactivation = Plain op.NEWACTIVATION
 
 abbrev pub convert_o : Instr
-convert_o = Plain 0x77
+convert_o = Plain op.CONVERT_O
 
 abbrev pub typeof : Instr
-typeof = Plain 0x95
+typeof = Plain op.TYPEOF
 
 abbrev pub divide : Instr
-divide = Plain 0xa3
+divide = Plain op.DIVIDE
 
 abbrev pub getlocal_0 : Instr
-getlocal_0 = Plain 0xd0
+getlocal_0 = Plain op.GETLOCAL_0
 
 abbrev pub getlocal_1 : Instr
-getlocal_1 = Plain 0xd1
+getlocal_1 = Plain op.GETLOCAL_1
 
 abbrev pub getlocal_2 : Instr
-getlocal_2 = Plain 0xd2
+getlocal_2 = Plain op.GETLOCAL_2
 
 abbrev pub setlocal_1 : Instr
-setlocal_1 = Plain 0xd5
+setlocal_1 = Plain op.SETLOCAL_1
 
 abbrev pub pushstring : ℕ → Instr
-pushstring n = One 0x2c n
+pushstring n = One op.PUSHSTRING n
 
 abbrev pub newfunction : ℕ → Instr
-newfunction n = One 0x40 n
+newfunction n = One op.NEWFUNCTION n
 
 abbrev pub call : ℕ → Instr
-call n = One 0x41 n
+call n = One op.CALL n
 
 abbrev pub construct : ℕ → Instr
-construct n = One 0x42 n
+construct n = One op.CONSTRUCT n
 
 abbrev pub constructsuper : ℕ → Instr
-constructsuper n = One 0x49 n
+constructsuper n = One op.CONSTRUCTSUPER n
 
 abbrev pub newobject : ℕ → Instr
-newobject n = One 0x55 n
+newobject n = One op.NEWOBJECT n
 
 abbrev pub newarray : ℕ → Instr
-newarray n = One 0x56 n
+newarray n = One op.NEWARRAY n
 
 abbrev pub newclass : ℕ → Instr
-newclass n = One 0x58 n
+newclass n = One op.NEWCLASS n
 
 abbrev pub findpropstrict : ℕ → Instr
-findpropstrict n = One 0x5d n
+findpropstrict n = One op.FINDPROPSTRICT n
 
 abbrev pub getlex : ℕ → Instr
-getlex n = One 0x60 n
+getlex n = One op.GETLEX n
 
 abbrev pub setproperty : ℕ → Instr
-setproperty n = One 0x61 n
+setproperty n = One op.SETPROPERTY n
 
 abbrev pub getproperty : ℕ → Instr
-getproperty n = One 0x66 n
+getproperty n = One op.GETPROPERTY n
 
 abbrev pub initproperty : ℕ → Instr
-initproperty n = One 0x68 n
+initproperty n = One op.INITPROPERTY n
 
 abbrev pub setslot : ℕ → Instr
-setslot n = One 0x6d n
+setslot n = One op.SETSLOT n
 
 abbrev pub callproperty : (name args : ℕ) → Instr
-callproperty n k = Two 0x46 n k
+callproperty n k = Two op.CALLPROPERTY n k
 
 abbrev pub constructprop : (name args : ℕ) → Instr
-constructprop n k = Two 0x4a n k
+constructprop n k = Two op.CONSTRUCTPROP n k
 
 abbrev pub callpropvoid : (name args : ℕ) → Instr
-callpropvoid n k = Two 0x4f n k
+callpropvoid n k = Two op.CALLPROPVOID n k
 
 abbrev pub pushbyte : ℕ → Instr
 pushbyte n = Byte (pos n)
 
 abbrev pub ifeq : ℕ → Instr
-ifeq t = Branch 0x13 t
+ifeq t = Branch op.IFEQ t
 
 -- ---- files: namespace 1 is public and 2 private, set 1 is that of the public one
 

@@ -3,7 +3,7 @@ use Rattle.std.specs.Prelude.{◌≡◌, ℕ, List, Bool, true, false, ◌&&◌,
 use Rattle.std.specs.declared.option.Option.{Option}
 use Rattle.std.specs.List.{find}
 use Rattle.std.specs.Str.{bytes_eq}
-use Rattle.abc_link_names.specs.Parts.{script_at}
+use Rattle.abc_link_names.specs.PartsByNumber.{script_at}
 use Rattle.abc_link_names.specs.Pool.{is_public, name, qname, text}
 use Rattle.abc_link_names.specs.declared.named.DefiniteName.{DefiniteName}
 use Rattle.abc_file_types.specs.declared.tables.Abc.{Abc}

@@ -4,7 +4,7 @@ use Rattle.abc_base.specs.declared.formula.Formula.{Formula}
 use Rattle.abc_heap_store.specs.declared.records.Limits.{Limits}
 use Rattle.abc_link_layouts.specs.Numbering.{IsNumbered}
 use Rattle.abc_meaning.specs.ThrowLaws.{IsVerified}
-use Rattle.abc_link_program.specs.Linked.{LinkedFile}
+use Rattle.abc_link_names.specs.Linked.{LinkedFile}
 use Rattle.abc_file_types.specs.Files.{IsFile}
 use Rattle.abc_log.specs.Lines.{AreLimits, head_line, limits_line}
 use Rattle.abc_meaning.specs.Logs.{log}

@@ -10,15 +10,15 @@ use Rattle.abc_base_graphs.specs.Ways.{way}
 use Rattle.abc_heap_store.specs.Heap.{Heap, Object}
 use Rattle.abc_heap_store.specs.declared.records.What.{What}
 use Rattle.abc_heap_store.specs.declared.records.What.TheVariants as whats
-use Rattle.abc_link_program.specs.Slots.{slot_numbered}
-use Rattle.abc_link_program.specs.declared.types.Ty.{Ty}
-use Rattle.abc_heap_search.specs.Objects.{delegate_at, delegate_of}
+use Rattle.abc_link_names.specs.Slots.{slot_numbered}
+use Rattle.abc_link_names.specs.declared.types.Ty.{Ty}
+use Rattle.abc_objects.specs.Objects.{delegate_at, delegate_of}
 use Rattle.abc_objects.specs.Stands.{prototype_of}
-use Rattle.abc_heap_search.specs.Searches.{found_on}
-use Rattle.abc_heap_search.specs.declared.found.Found.{Found}
-use Rattle.abc_heap_search.specs.declared.found.Found.TheVariants.{Missing}
-use Rattle.abc_heap_search.specs.declared.found.Want.TheVariants.{Read}
-use Rattle.abc_heap_search.specs.declared.name.Spaces.TheVariants.{Public}
+use Rattle.abc_objects.specs.Searches.{found_on}
+use Rattle.abc_objects.specs.declared.found.Found.{Found}
+use Rattle.abc_objects.specs.declared.found.Found.TheVariants.{Missing}
+use Rattle.abc_objects.specs.declared.found.Want.TheVariants.{Read}
+use Rattle.abc_objects.specs.declared.name.Spaces.TheVariants.{Public}
 use Rattle.abc_meaning.specs.Members.{with_holder, write_slot}
 use Rattle.abc_meaning.specs.Ops.{coerces, spells}
 use Rattle.abc_meaning.specs.Setting.{Setting, type_of_class, type_of_host}

@@ -13,8 +13,8 @@ use Rattle.abc_link_names.specs.Instances.{instance_at}
 use Rattle.abc_objects.specs.Fixed.{fixed_span}
 use Rattle.abc_objects.specs.Stands.{host_layout, prototype_of}
 use Rattle.abc_objects.specs.declared.fixed.FixedText.TheVariants.{Message}
-use Rattle.abc_link_program.specs.Linked.{layout_of}
-use Rattle.abc_link_program.specs.declared.part.Part.TheVariants as parts
+use Rattle.abc_link_names.specs.Linked.{layout_of}
+use Rattle.abc_link_names.specs.declared.part.Part.TheVariants as parts
 use Rattle.abc_link_names.specs.Bases.{is_interface}
 use Rattle.std.specs.Prelude.{Some}
 use Rattle.std.specs.declared.option.Option.{Option}

@@ -4,11 +4,11 @@ use Rattle.std.specs.declared.option.Option.{Option}
 use Rattle.abc_base.specs.declared.names.HostClass.TheVariants as hosts
 use Rattle.abc_heap_values.specs.declared.values.Value.{Value}
 use Rattle.abc_heap_values.specs.declared.values.Value.TheVariants.{Null, Space}
-use Rattle.abc_link_program.specs.Types.{type_of}
-use Rattle.abc_link_program.specs.declared.types.Ty.{Ty}
-use Rattle.abc_heap_search.specs.declared.name.Name.{Name}
-use Rattle.abc_heap_search.specs.declared.name.Spaces.{Spaces}
-use Rattle.abc_heap_search.specs.declared.name.Spaces.TheVariants as spaces
+use Rattle.abc_link_names.specs.Types.{type_of}
+use Rattle.abc_link_names.specs.declared.types.Ty.{Ty}
+use Rattle.abc_objects.specs.declared.name.Name.{Name}
+use Rattle.abc_objects.specs.declared.name.Spaces.{Spaces}
+use Rattle.abc_objects.specs.declared.name.Spaces.TheVariants as spaces
 use Rattle.abc_file_types.specs.declared.names.Multiname.{Multiname}
 use Rattle.abc_verify_typing.specs.Effects.{name_at}
 use Rattle.abc_meaning.specs.Ops.{spells}

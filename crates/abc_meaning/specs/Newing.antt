@@ -11,9 +11,9 @@ use Rattle.abc_heap_store.specs.declared.records.What.{What}
 use Rattle.abc_heap_store.specs.declared.records.What.TheVariants as whats
 use Rattle.abc_link_names.specs.declared.named.Named.{Named}
 use Rattle.abc_link_names.specs.declared.named.Named.TheVariants as named
-use Rattle.abc_link_program.specs.declared.part.LayoutId.{LayoutId}
+use Rattle.abc_link_names.specs.declared.part.LayoutId.{LayoutId}
 use Rattle.abc_link_names.specs.Bases.{base_named}
-use Rattle.abc_link_names.specs.Parts.{class_at}
+use Rattle.abc_link_names.specs.PartsByNumber.{class_at}
 use Rattle.abc_objects.specs.Stands.{host_class_number}
 use Rattle.abc_meaning.specs.Entering.{enters_owned}
 use Rattle.abc_meaning.specs.Making.{prototype_in}

@@ -17,9 +17,9 @@ use Rattle.abc_heap_store.specs.declared.records.What.{What}
 use Rattle.abc_heap_store.specs.declared.records.What.TheVariants as whats
 use Rattle.abc_objects.specs.Stands.{class_parts, host_layout}
 use Rattle.abc_objects.specs.Starts.{start_values}
-use Rattle.abc_link_program.specs.declared.types.Owner.{Owner}
-use Rattle.abc_link_program.specs.declared.types.Owner.TheVariants as owners
-use Rattle.abc_heap_search.specs.Objects.{host_prototype}
+use Rattle.abc_link_names.specs.declared.types.Owner.{Owner}
+use Rattle.abc_link_names.specs.declared.types.Owner.TheVariants as owners
+use Rattle.abc_objects.specs.Objects.{host_prototype}
 use Rattle.abc_meaning.specs.Setting.{Setting}
 use Rattle.abc_meaning.specs.World.{Run, World, done, stuck, ◌>>=◌, ◌>>◌, some, the, see, changes, object, room_for_objects, room_for_cells}
 

@@ -2,7 +2,7 @@
 use Rattle.std.specs.Prelude.{◌≡◌, List, Some}
 use Rattle.abc_base.specs.declared.formula.Formula.{Formula}
 use Rattle.abc_heap_store.specs.declared.records.Limits.{Limits}
-use Rattle.abc_link_program.specs.Linked.{LinkedFile}
+use Rattle.abc_link_names.specs.Linked.{LinkedFile}
 use Rattle.abc_meaning.specs.Meaning.{first_world, too_small}
 use Rattle.abc_meaning.specs.Setting.{Setting}
 use Rattle.abc_objects.specs.declared.error.OpenError.{OpenError}

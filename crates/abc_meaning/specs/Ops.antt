@@ -14,9 +14,9 @@ use Rattle.abc_ops.specs.Left.{Left, gives, unchanged}
 use Rattle.abc_ops.specs.Operations.{computed, computed_single}
 use Rattle.abc_ops.specs.declared.end.OpEnd.{OpEnd}
 use Rattle.abc_ops.specs.declared.end.OpEnd.TheVariants as ends
-use Rattle.abc_link_program.specs.Linked.{LinkedFile}
-use Rattle.abc_link_program.specs.declared.types.Ty.{Ty}
-use Rattle.abc_link_program.specs.declared.types.Ty.TheVariants as types
+use Rattle.abc_link_names.specs.Linked.{LinkedFile}
+use Rattle.abc_link_names.specs.declared.types.Ty.{Ty}
+use Rattle.abc_link_names.specs.declared.types.Ty.TheVariants as types
 use Rattle.abc_meaning.specs.Setting.{Setting}
 use Rattle.abc_meaning.specs.Types.{is_of}
 use Rattle.abc_meaning.specs.World.{Errs, Faults, Fills, Outcome, Run, Stop, Stopped, Went, World, with_heap}

@@ -4,10 +4,10 @@ use Rattle.abc_base.specs.declared.names.HostClass.TheVariants as hosts
 use Rattle.abc_heap_values.specs.declared.values.ObjId.{ObjId}
 use Rattle.abc_heap_values.specs.declared.values.Value.{Value}
 use Rattle.abc_heap_values.specs.declared.values.Value.TheVariants.{Obj}
-use Rattle.abc_heap_search.specs.Searches.{found_in_scopes}
-use Rattle.abc_heap_search.specs.declared.found.ScopeFound.{ScopeFound}
-use Rattle.abc_heap_search.specs.declared.found.ScopeFound.TheVariants.{Object, Start, Missing}
-use Rattle.abc_heap_search.specs.declared.name.Name.{Name}
+use Rattle.abc_objects.specs.Searches.{found_in_scopes}
+use Rattle.abc_objects.specs.declared.found.ScopeFound.{ScopeFound}
+use Rattle.abc_objects.specs.declared.found.ScopeFound.TheVariants.{Object, Start, Missing}
+use Rattle.abc_objects.specs.declared.name.Name.{Name}
 use Rattle.abc_meaning.specs.Entering.{global, starts}
 use Rattle.abc_meaning.specs.Members.{reads}
 use Rattle.abc_meaning.specs.World.{Run, World, done, see, throws, ◌>>=◌}

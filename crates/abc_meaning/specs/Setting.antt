@@ -9,19 +9,19 @@ use Rattle.abc_heap_values.specs.declared.values.Value.TheVariants as values
 use Rattle.abc_link_names.specs.Instances.{instance_at}
 use Rattle.abc_link_names.specs.declared.named.Named.TheVariants as named
 use Rattle.abc_objects.specs.Starts.{string_span}
-use Rattle.abc_link_program.specs.Linked.{LinkedFile}
-use Rattle.abc_link_program.specs.Numbering.{part_at}
-use Rattle.abc_link_program.specs.Owners.{body_of}
-use Rattle.abc_link_program.specs.Types.{type_in}
-use Rattle.abc_link_program.specs.declared.part.Part.{Part}
-use Rattle.abc_link_program.specs.declared.part.Part.TheVariants as parts
-use Rattle.abc_link_program.specs.declared.types.Ty.{Ty}
+use Rattle.abc_link_names.specs.Linked.{LinkedFile}
+use Rattle.abc_link_names.specs.Numbering.{part_at}
+use Rattle.abc_link_names.specs.Owners.{body_of}
+use Rattle.abc_link_names.specs.Types.{type_in}
+use Rattle.abc_link_names.specs.declared.part.Part.{Part}
+use Rattle.abc_link_names.specs.declared.part.Part.TheVariants as parts
+use Rattle.abc_link_names.specs.declared.types.Ty.{Ty}
 use Rattle.abc_link_names.specs.Starts.{raw_of}
 use Rattle.abc_link_names.specs.declared.start.Raw.{Raw}
 use Rattle.abc_link_names.specs.declared.start.Raw.TheVariants as raws
-use Rattle.abc_heap_search.specs.declared.name.Name.{Name}
-use Rattle.abc_heap_search.specs.declared.name.Spaces.{Spaces}
-use Rattle.abc_heap_search.specs.declared.name.Spaces.TheVariants as spaces
+use Rattle.abc_objects.specs.declared.name.Name.{Name}
+use Rattle.abc_objects.specs.declared.name.Spaces.{Spaces}
+use Rattle.abc_objects.specs.declared.name.Spaces.TheVariants as spaces
 use Rattle.abc_file_types.specs.Methods.{has_flag}
 use Rattle.abc_file_types.specs.declared.methods.Method.{Method}
 use Rattle.abc_file_types.specs.declared.methods.OptionValue.{OptionValue}

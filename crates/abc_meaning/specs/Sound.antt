@@ -12,18 +12,18 @@ use Rattle.abc_heap_store.specs.declared.records.What.TheVariants as whats
 use Rattle.abc_objects.specs.Opening.{formula_names}
 use Rattle.abc_objects.specs.Stands.{IsScope, StandsOver}
 use Rattle.abc_objects.specs.Values.{Exists, Holds}
-use Rattle.abc_link_program.specs.Kinds.{IsAtMost}
-use Rattle.abc_link_program.specs.Linked.{LinkedFile, layout_of}
-use Rattle.abc_link_program.specs.Numbering.{part_at}
-use Rattle.abc_link_program.specs.Owners.{owner_of}
-use Rattle.abc_link_program.specs.Slots.{slots_of}
-use Rattle.abc_link_program.specs.Types.{kind_of_type}
-use Rattle.abc_link_program.specs.declared.part.Part.{Part}
-use Rattle.abc_link_program.specs.declared.part.Part.TheVariants as parts
-use Rattle.abc_link_program.specs.declared.types.Kind.{Kind}
-use Rattle.abc_link_program.specs.declared.types.Kind.TheVariants.{Any}
-use Rattle.abc_link_program.specs.declared.types.Owner.TheVariants.{Free}
-use Rattle.abc_link_program.specs.declared.types.SlotInfo.{SlotInfo}
+use Rattle.abc_link_names.specs.Kinds.{IsAtMost}
+use Rattle.abc_link_names.specs.Linked.{LinkedFile, layout_of}
+use Rattle.abc_link_names.specs.Numbering.{part_at}
+use Rattle.abc_link_names.specs.Owners.{owner_of}
+use Rattle.abc_link_names.specs.Slots.{slots_of}
+use Rattle.abc_link_names.specs.Types.{kind_of_type}
+use Rattle.abc_link_names.specs.declared.part.Part.{Part}
+use Rattle.abc_link_names.specs.declared.part.Part.TheVariants as parts
+use Rattle.abc_link_names.specs.declared.types.Kind.{Kind}
+use Rattle.abc_link_names.specs.declared.types.Kind.TheVariants.{Any}
+use Rattle.abc_link_names.specs.declared.types.Owner.TheVariants.{Free}
+use Rattle.abc_link_names.specs.declared.types.SlotInfo.{SlotInfo}
 use Rattle.abc_link_names.specs.Bases.{base_graph, is_interface}
 use Rattle.abc_verify_typing.specs.Lists.{Each, Each2}
 use Rattle.abc_verify_typing.specs.Routines.{Routine, this_kind}

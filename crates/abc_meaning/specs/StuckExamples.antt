@@ -7,10 +7,10 @@ use Rattle.abc_file_types.specs.declared.names.Multiname.TheVariants as names
 use Rattle.abc_file_types.specs.declared.traits.TraitInfo.{TraitInfo}
 use Rattle.abc_heap_store.specs.Heap.{obj_id}
 use Rattle.abc_heap_store.specs.declared.records.ScopeEntry.{ScopeEntry}
-use Rattle.abc_heap_search.specs.Objects.{global_number}
+use Rattle.abc_objects.specs.Objects.{global_number}
 use Rattle.abc_heap_values.specs.declared.values.Value.{Value}
 use Rattle.abc_heap_values.specs.declared.values.Value.TheVariants.{Bool as Truth, Null, Num, Obj, Space}
-use Rattle.abc_link_program.specs.declared.part.Part.TheVariants as parts
+use Rattle.abc_link_names.specs.declared.part.Part.TheVariants as parts
 use Rattle.abc_frames.specs.Frame.{Frame}
 use Rattle.abc_frames.specs.declared.records.Wait.TheVariants as waits
 use Rattle.abc_meaning.specs.Examples.{ample, body, catching, constructsuper, file_of, getlex, getlocal_1, handler, method, newactivation, plain, pop, popscope, public, pushnull, pushscope, pushstring, returnvoid, script, setting, slot, throw}
@@ -18,6 +18,7 @@ use Rattle.abc_meaning.specs.Meaning.{first_world}
 use Rattle.abc_meaning.specs.Setting.{Setting}
 use Rattle.abc_meaning.specs.Step.{step}
 use Rattle.abc_meaning.specs.Throwing.{Done, End, Ends, FuelSpent, Full, Profile, Stepped, Steps, Stuck, Uncaught}
+use Rattle.abc_file_types.specs.declared.op.TheConstants as op
 
 -- ---- states: one frame of the method 0, at its first instruction
 
@@ -103,7 +104,7 @@ pub record StuckExamples : Type 0 where
   pub method_without_body : Tells (init returnvoid) (record (operands []) { method = 1 }) (operands [])
   pub past_the_code : Tells (init returnvoid) (record (operands []) { place = 2 }) (record (operands []) { place = 1 })
   -- dxns and nop
-  pub no_row : TellsOf (init (One 0x06 1)) (init (Plain 0x02)) (operands [])
+  pub no_row : TellsOf (init (One op.DXNS 1)) (init (Plain op.NOP)) (operands [])
   -- ---- the tests of an instruction
   -- pushstring 3 and 2, of two strings
   pub in_table : TellsOf (init (pushstring 3)) (init (pushstring 2)) (operands [])
@@ -116,19 +117,19 @@ pub record StuckExamples : Type 0 where
       (frame (here (init pushscope) ∷ []) [] [])
   pub local_there : Tells (init getlocal_1) (frame [] [] (Null ∷ [])) (frame [] [] (Null ∷ Null ∷ []))
   -- hasnext2 with local 1 as its index
-  pub index_in_local : Tells (init (Two 0x32 0 1)) (frame [] [] (Null ∷ Null ∷ [])) (frame [] [] (Null ∷ Num (pos 0) ∷ []))
+  pub index_in_local : Tells (init (Two op.HASNEXT2 0 1)) (frame [] [] (Null ∷ Null ∷ [])) (frame [] [] (Null ∷ Num (pos 0) ∷ []))
   -- getscopeobject 0
   pub scope_there : Tells (init (ScopeObject 0)) (frame [] [] []) (frame [] (scope (init (ScopeObject 0)) ∷ []) [])
   -- newactivation, without and with flag 02
   pub stands_here : TellsOf (init newactivation) (declaring [] 2 newactivation) (operands [])
   -- ---- what the values are
   -- getproperty in the namespace true, and in namespace 1, of null
-  pub space_taken : Tells (init (One 0x66 2)) (operands (Truth true ∷ Null ∷ [])) (operands (Space 1 ∷ Null ∷ []))
+  pub space_taken : Tells (init (One op.GETPROPERTY 2)) (operands (Truth true ∷ Null ∷ [])) (operands (Space 1 ∷ Null ∷ []))
   -- nextvalue by null, and by 0, of null
-  pub index_taken : Tells (init (Plain 0x23)) (operands (Null ∷ Null ∷ [])) (operands (Num (pos 0) ∷ Null ∷ []))
+  pub index_taken : Tells (init (Plain op.NEXTVALUE)) (operands (Null ∷ Null ∷ [])) (operands (Num (pos 0) ∷ Null ∷ []))
   -- getslot 1 of true, and of null; of an object without and with that slot
-  pub object_taken : Tells (init (One 0x6c 1)) (operands (Truth true ∷ [])) (operands (Null ∷ []))
-  pub slot_taken : TellsOf (init (One 0x6c 1)) (declaring (slot 1 1 ∷ []) 0 (One 0x6c 1)) (operands (here (init (One 0x6c 1)) ∷ []))
+  pub object_taken : Tells (init (One op.GETSLOT 1)) (operands (Truth true ∷ [])) (operands (Null ∷ []))
+  pub slot_taken : TellsOf (init (One op.GETSLOT 1)) (declaring (slot 1 1 ∷ []) 0 (One op.GETSLOT 1)) (operands (here (init (One op.GETSLOT 1)) ∷ []))
   -- constructsuper of true, and of null
   pub instance_taken : Tells with_class (record (operands (Truth true ∷ [])) { method = 1 }) (record (operands (Null ∷ [])) { method = 1 })
   -- ---- what others do

@@ -8,17 +8,17 @@ use Rattle.abc_heap_values.specs.declared.values.Value.TheVariants.{Undefined, N
 use Rattle.abc_link_names.specs.Instances.{instance_at}
 use Rattle.abc_link_names.specs.declared.named.Named.{Named}
 use Rattle.abc_link_names.specs.declared.named.Named.TheVariants as named
-use Rattle.abc_link_program.specs.Linked.{above}
-use Rattle.abc_link_program.specs.Owners.{owner_of}
-use Rattle.abc_link_program.specs.declared.types.Owner.{Owner}
-use Rattle.abc_link_program.specs.declared.types.Owner.TheVariants as owners
+use Rattle.abc_link_names.specs.Linked.{above}
+use Rattle.abc_link_names.specs.Owners.{owner_of}
+use Rattle.abc_link_names.specs.declared.types.Owner.{Owner}
+use Rattle.abc_link_names.specs.declared.types.Owner.TheVariants as owners
 use Rattle.abc_link_names.specs.Bases.{base_named}
-use Rattle.abc_heap_search.specs.Searches.{declared_found}
-use Rattle.abc_heap_search.specs.declared.found.Found.{Found}
-use Rattle.abc_heap_search.specs.declared.found.Found.TheVariants.{Missing, WrongSide}
-use Rattle.abc_heap_search.specs.declared.found.Want.{Want}
-use Rattle.abc_heap_search.specs.declared.found.Want.TheVariants.{Read, Write}
-use Rattle.abc_heap_search.specs.declared.name.Name.{Name}
+use Rattle.abc_objects.specs.Searches.{declared_found}
+use Rattle.abc_objects.specs.declared.found.Found.{Found}
+use Rattle.abc_objects.specs.declared.found.Found.TheVariants.{Missing, WrongSide}
+use Rattle.abc_objects.specs.declared.found.Want.{Want}
+use Rattle.abc_objects.specs.declared.found.Want.TheVariants.{Read, Write}
+use Rattle.abc_objects.specs.declared.name.Name.{Name}
 use Rattle.abc_verify_typing.specs.Rules.{super_layout}
 use Rattle.abc_meaning.specs.Calling.{Came, entered, got}
 use Rattle.abc_meaning.specs.Entering.{enters_owned}

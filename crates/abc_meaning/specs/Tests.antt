@@ -5,8 +5,8 @@ use Rattle.abc_heap_values.specs.declared.values.Value.{Value}
 use Rattle.abc_heap_values.specs.declared.values.Value.TheVariants.{Null, Num, Space, Obj}
 use Rattle.abc_heap_store.specs.Heap.{Object}
 use Rattle.abc_heap_store.specs.declared.records.ScopeEntry.{ScopeEntry}
-use Rattle.abc_link_program.specs.Slots.{slot_numbered}
-use Rattle.abc_link_program.specs.declared.part.LayoutId.{LayoutId}
+use Rattle.abc_link_names.specs.Slots.{slot_numbered}
+use Rattle.abc_link_names.specs.declared.part.LayoutId.{LayoutId}
 use Rattle.abc_verify_typing.specs.Instructions.{operand, second}
 use Rattle.abc_verify_typing.specs.declared.row.Locals.{Locals}
 use Rattle.abc_verify_typing.specs.declared.row.Locals.TheVariants.{Walks}

@@ -4,8 +4,7 @@ use Rattle.abc_base.specs.Hosts.{AreFormulas}
 use Rattle.abc_heap_values.specs.declared.values.Value.{Value}
 use Rattle.abc_heap_store.specs.declared.records.Limits.{Limits}
 use Rattle.abc_objects.specs.Values.{Exists}
-use Rattle.abc_link_program.specs.Linked.{IsLinkedFile}
-use Rattle.abc_link_program.specs.Slots.{HasFewSlots}
+use Rattle.abc_link_names.specs.Linked.{IsLinkedFile}
 use Rattle.abc_file_types.specs.Files.{Fits}
 use Rattle.abc_verify_typing.specs.Routines.{routine}
 use Rattle.abc_verify_typing.specs.Typing.{HasTyping}
@@ -15,12 +14,10 @@ use Rattle.abc_meaning.specs.Sound.{AreTypings, IsSound, SteppedSound, Typings}
 use Rattle.abc_meaning.specs.Step.{step}
 use Rattle.abc_meaning.specs.Throwing.{Machine, Stuck, unwinds}
 
--- a linked file that some bytes spell, each of whose bodies has a typing, and whose layouts have few enough slots; and the formulas of a
--- host
+-- a linked file that some bytes spell, each of whose bodies has a typing; and the formulas of a host
 pub record IsVerified (p : Setting) : Type 0 where
   pub fits : Fits p.linked.file
   pub linked : IsLinkedFile p.linked
-  pub few : HasFewSlots p.linked
   pub typed : (b : ℕ) → b < length p.linked.file.bodies → HasTyping p.linked (routine p.linked b)
   pub host : AreFormulas p.formulas
 

@@ -10,13 +10,13 @@ use Rattle.abc_heap_values.specs.declared.values.Value.TheVariants.{Undefined, N
 use Rattle.abc_heap_store.specs.Heap.{object_at}
 use Rattle.abc_heap_store.specs.declared.records.Limit.{Limit}
 use Rattle.abc_heap_store.specs.declared.records.What.TheVariants.{Plain}
-use Rattle.abc_link_program.specs.Numbering.{part_at}
-use Rattle.abc_link_program.specs.Owners.{body_of}
-use Rattle.abc_link_program.specs.Types.{type_of}
-use Rattle.abc_link_program.specs.declared.part.Part.{Part}
-use Rattle.abc_link_program.specs.declared.part.Part.TheVariants as parts
-use Rattle.abc_link_program.specs.declared.types.Ty.{Ty}
-use Rattle.abc_link_names.specs.Parts.{body_at, script_at}
+use Rattle.abc_link_names.specs.Numbering.{part_at}
+use Rattle.abc_link_names.specs.Owners.{body_of}
+use Rattle.abc_link_names.specs.Types.{type_of}
+use Rattle.abc_link_names.specs.declared.part.Part.{Part}
+use Rattle.abc_link_names.specs.declared.part.Part.TheVariants as parts
+use Rattle.abc_link_names.specs.declared.types.Ty.{Ty}
+use Rattle.abc_link_names.specs.PartsByNumber.{body_at, script_at}
 use Rattle.abc_file_types.specs.declared.code.Handler.{Handler}
 use Rattle.abc_verify_typing.specs.Routines.{Routine}
 use Rattle.abc_frames.specs.Frame.{Frame}

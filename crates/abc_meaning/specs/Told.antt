@@ -2,8 +2,8 @@
 use Rattle.std.specs.Prelude.{◌≡◌, ◌≢◌, ℕ, ◌<◌, List, length, Some}
 use Rattle.abc_base.specs.declared.names.Fault.{Fault}
 use Rattle.abc_file_types.specs.declared.tables.Abc.{Abc}
-use Rattle.abc_link_names.specs.Parts.{body_at}
-use Rattle.abc_link_program.specs.Owners.{body_of}
+use Rattle.abc_link_names.specs.PartsByNumber.{body_at}
+use Rattle.abc_link_names.specs.Owners.{body_of}
 use Rattle.abc_meaning.specs.Meaning.{Meaning, Ran}
 use Rattle.abc_meaning.specs.Throwing.{Profile, Stuck}
 

@@ -7,8 +7,8 @@ use Rattle.abc_ops.specs.Coercions.{Coerces}
 use Rattle.abc_ops.specs.Left.{Leaves}
 use Rattle.abc_ops.specs.Types.{IsOf}
 use Rattle.abc_ops.specs.declared.end.OpEnd.{OpEnd}
-use Rattle.abc_link_program.specs.Linked.{IsLinkedFile, LinkedFile}
-use Rattle.abc_link_program.specs.declared.types.Ty.{Ty}
+use Rattle.abc_link_names.specs.Linked.{IsLinkedFile, LinkedFile}
+use Rattle.abc_link_names.specs.declared.types.Ty.{Ty}
 use Rattle.abc_meaning.specs.Ops.{coerced}
 use Rattle.abc_meaning.specs.Types.{is_of}
 

@@ -9,7 +9,7 @@ use Rattle.abc_heap_store.specs.Properties.{at_position, element_at, place_after
 use Rattle.abc_heap_store.specs.What.{is_array}
 use Rattle.abc_ops.specs.Left.{text_made}
 use Rattle.abc_heap_values.specs.declared.values.Span.{Span}
-use Rattle.abc_heap_search.specs.Objects.{delegate_at}
+use Rattle.abc_objects.specs.Objects.{delegate_at}
 use Rattle.abc_base_graphs.specs.Ways.{way}
 use Rattle.abc_verify_typing.specs.Instructions.{local, second}
 use Rattle.abc_meaning.specs.Ops.{operates}

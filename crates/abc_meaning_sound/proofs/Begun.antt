@@ -17,29 +17,29 @@ use Rattle.abc_objects.specs.Values.{Exists, Holds}
 use Rattle.abc_objects.specs.declared.fixed.FixedText.TheVariants as fixed
 use Rattle.abc_objects.proofs.Started.{part_has}
 use Rattle.abc_ops.proofs.Staying.{fixed_there, string_there}
-use Rattle.abc_link_program.specs.Linked.{IsLinkedFile, LinkedFile, base, layout_of}
-use Rattle.abc_link_program.specs.Numbering.{part_at}
-use Rattle.abc_link_program.specs.Parts.{HasLayout}
-use Rattle.abc_link_program.specs.Slots.{handler_at, own_slots, slots_in, slots_of}
-use Rattle.abc_link_program.specs.Types.{host_type, kind_of_type, type_in}
-use Rattle.abc_link_program.specs.declared.part.LayoutId.{LayoutId}
-use Rattle.abc_link_program.specs.declared.part.Part.{Part}
-use Rattle.abc_link_program.specs.declared.part.Part.TheVariants as parts
-use Rattle.abc_link_program.specs.declared.types.Kind.{Kind}
-use Rattle.abc_link_program.specs.declared.types.Kind.TheVariants as kinds
-use Rattle.abc_link_program.specs.declared.types.SlotInfo.{SlotInfo}
-use Rattle.abc_link_program.specs.declared.types.Ty.TheVariants as types
-use Rattle.abc_link_program.proofs.Finding.{falling}
+use Rattle.abc_link_names.specs.Linked.{IsLinkedFile, LinkedFile, base, layout_of}
+use Rattle.abc_link_names.specs.Numbering.{part_at}
+use Rattle.abc_link_names.specs.Parts.{HasLayout}
+use Rattle.abc_link_names.specs.Slots.{handler_at, own_slots, slots_in, slots_of}
+use Rattle.abc_link_names.specs.Types.{host_type, kind_of_type, type_in}
+use Rattle.abc_link_names.specs.declared.part.LayoutId.{LayoutId}
+use Rattle.abc_link_names.specs.declared.part.Part.{Part}
+use Rattle.abc_link_names.specs.declared.part.Part.TheVariants as parts
+use Rattle.abc_link_names.specs.declared.types.Kind.{Kind}
+use Rattle.abc_link_names.specs.declared.types.Kind.TheVariants as kinds
+use Rattle.abc_link_names.specs.declared.types.SlotInfo.{SlotInfo}
+use Rattle.abc_link_names.specs.declared.types.Ty.TheVariants as types
+use Rattle.abc_link_names.proofs.Finding.{falling}
 use Rattle.abc_link_names.specs.Bases.{is_interface}
 use Rattle.abc_link_names.specs.Starts.{coerced, default_of, host_default, raw_of, start_of, to_any, to_boolean, to_class, to_host, to_int, to_namespace, to_number, to_object, to_text, to_uint, to_void}
-use Rattle.abc_link_names.specs.Traits.{is_body, is_no_slot, is_not_run, type_or_any}
+use Rattle.abc_link_names.specs.ItemTypes.{is_body, is_no_slot, is_not_run, type_or_any}
 use Rattle.abc_link_names.specs.declared.items.ItemKind.{ItemKind}
 use Rattle.abc_link_names.specs.declared.items.ItemKind.TheVariants as items
 use Rattle.abc_link_names.specs.declared.start.Raw.{Raw}
 use Rattle.abc_link_names.specs.declared.start.Raw.TheVariants as raws
 use Rattle.abc_link_names.specs.declared.start.Start.{Start}
 use Rattle.abc_link_names.specs.declared.start.Start.TheVariants as starts
-use Rattle.abc_link_names.specs.Parts.{instance_table, own_table}
+use Rattle.abc_link_names.specs.PartsByNumber.{instance_table, own_table}
 use Rattle.abc_file_types.specs.declared.methods.OptionValue.{OptionValue}
 use Rattle.abc_file_types.specs.declared.traits.TraitBody.{TraitBody}
 use Rattle.abc_file_types.specs.declared.traits.TraitBody.TheVariants as traits

@@ -3,7 +3,7 @@ use Rattle.std.proofs.Common.{ℕ, ℤ, List, [], ◌∷◌}
 use Rattle.abc_base.specs.Ranges.{IsNumber}
 use Rattle.abc_heap_store.specs.Heap.{obj_id}
 use Rattle.abc_objects.specs.Values.{Exists}
-use Rattle.abc_heap_search.specs.Objects.{global_number}
+use Rattle.abc_objects.specs.Objects.{global_number}
 use Rattle.abc_frames.specs.Frame.{Frame}
 use Rattle.abc_verify_typing.specs.Lists.{Each}
 use Rattle.abc_meaning.specs.Setting.{Setting}

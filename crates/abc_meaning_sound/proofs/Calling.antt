@@ -10,7 +10,7 @@ use Rattle.abc_meaning.specs.Exports.{IsScriptMethod}
 use Rattle.abc_meaning_sound.specs.CallLaws.{CallsLeaveSound, RunsLeaveSound}
 use Rattle.abc_heap_values.specs.declared.values.Value.{Value}
 use Rattle.abc_heap_values.specs.declared.values.Value.TheVariants.{Undefined}
-use Rattle.abc_link_names.specs.Parts.{script_at}
+use Rattle.abc_link_names.specs.PartsByNumber.{script_at}
 use Rattle.abc_frames.specs.Frame.{Frame}
 use Rattle.abc_verify_typing.specs.Lists.{Each}
 use Rattle.abc_meaning.specs.ThrowLaws.{IsVerified}

@@ -24,14 +24,14 @@ use Rattle.abc_objects.specs.Stands.{IsScope, NamesParts, host_layout}
 use Rattle.abc_objects.specs.Values.{Exists, IsObject}
 use Rattle.abc_objects.specs.declared.fixed.FixedText.TheVariants.{Message}
 use Rattle.abc_objects.proofs.Made.{fixed_long, host_found, part_found, prototype_is}
-use Rattle.abc_link_program.specs.Linked.{layout_of}
-use Rattle.abc_link_program.specs.Numbering.{part_at}
-use Rattle.abc_link_program.specs.Owners.{owner_of}
-use Rattle.abc_link_program.specs.Tree.{IsBelow}
-use Rattle.abc_link_program.specs.declared.part.Part.{Part}
-use Rattle.abc_link_program.specs.declared.part.Part.TheVariants as parts
-use Rattle.abc_link_program.specs.declared.types.Ty.{Ty}
-use Rattle.abc_link_program.proofs.Tree.{below_self}
+use Rattle.abc_link_names.specs.Linked.{layout_of}
+use Rattle.abc_link_names.specs.Numbering.{part_at}
+use Rattle.abc_link_names.specs.Owners.{owner_of}
+use Rattle.abc_link_names.specs.Tree.{IsBelow}
+use Rattle.abc_link_names.specs.declared.part.Part.{Part}
+use Rattle.abc_link_names.specs.declared.part.Part.TheVariants as parts
+use Rattle.abc_link_names.specs.declared.types.Ty.{Ty}
+use Rattle.abc_link_names.proofs.Tree.{below_self}
 use Rattle.abc_link_names.specs.Bases.{is_interface}
 use Rattle.abc_verify_typing.specs.Lists.{Each}
 use Rattle.abc_verify_typing.specs.Routines.{this_kind}

@@ -3,7 +3,7 @@ use Rattle.std.proofs.Common.{◌≡◌, inl, inr, ℕ, ◌+◌, List, [], ◌�
 use Rattle.std.specs.Prelude.{Bool, true, false, map, Some, if◌then◌else◌}
 use Rattle.abc_heap_values.specs.declared.values.Value.{Value}
 use Rattle.abc_objects.specs.Values.{Exists}
-use Rattle.abc_link_program.specs.declared.types.Kind.{Kind}
+use Rattle.abc_link_names.specs.declared.types.Kind.{Kind}
 use Rattle.abc_verify_typing.specs.Instructions.{local, opcode, operand, targets}
 use Rattle.abc_verify_typing.specs.Rows.{Shape, row_at}
 use Rattle.abc_verify_typing.specs.declared.row.Leads.TheVariants.{Next, Branches}

@@ -13,9 +13,9 @@ use Rattle.abc_heap_store.specs.Texts.{IsText, text_of}
 use Rattle.abc_heap_store.specs.What.{is_array}
 use Rattle.abc_objects.specs.Values.{Exists, IsObject}
 use Rattle.abc_objects.proofs.Reshaped.{delete_reshapes, element_reshapes, new_element_reshapes, object_there, put_reshapes, slot_reshapes}
-use Rattle.abc_link_program.specs.Slots.{slots_of}
-use Rattle.abc_link_program.specs.Types.{kind_of_type}
-use Rattle.abc_link_program.specs.declared.types.SlotInfo.{SlotInfo}
+use Rattle.abc_link_names.specs.Slots.{slots_of}
+use Rattle.abc_link_names.specs.Types.{kind_of_type}
+use Rattle.abc_link_names.specs.declared.types.SlotInfo.{SlotInfo}
 use Rattle.abc_meaning.specs.Members.{slot_info, write_element, write_slot}
 use Rattle.abc_meaning.specs.Objects.{own_place, set_property, without_property}
 use Rattle.abc_meaning.specs.Setting.{Setting}

@@ -25,11 +25,11 @@ use Rattle.abc_objects.proofs.Classes.{over_class}
 use Rattle.abc_objects.proofs.Kept.{added_grows, changed_grows, scopes_grow}
 use Rattle.abc_objects.proofs.Made.{host_found, object_slots, part_found, prototype_is, slots_are}
 use Rattle.abc_objects.proofs.Reshaped.{object_there}
-use Rattle.abc_link_program.specs.Linked.{layout_of}
-use Rattle.abc_link_program.specs.Numbering.{part_at}
-use Rattle.abc_link_program.specs.Slots.{own_slots, slots_of}
-use Rattle.abc_link_program.specs.declared.part.Part.TheVariants as parts
-use Rattle.abc_link_program.specs.declared.types.Ty.TheVariants as types
+use Rattle.abc_link_names.specs.Linked.{layout_of}
+use Rattle.abc_link_names.specs.Numbering.{part_at}
+use Rattle.abc_link_names.specs.Slots.{own_slots, slots_of}
+use Rattle.abc_link_names.specs.declared.part.Part.TheVariants as parts
+use Rattle.abc_link_names.specs.declared.types.Ty.TheVariants as types
 use Rattle.abc_link_names.specs.Bases.{base_graph}
 use Rattle.abc_verify_typing.proofs.Lists.{slice_get-pushed, slice_get-last}
 use Rattle.abc_meaning.specs.Objects.{Place, class_object, flat, kept_by, new_class, prototype_for}
@@ -38,7 +38,7 @@ use Rattle.abc_meaning.specs.World.{Errs, Went, World, and_then, object, some}
 use Rattle.abc_meaning.specs.Newing.{base_prototype, is_none, is_that}
 use Rattle.abc_meaning.specs.Sound.{AreMade, IsMade, IsWithin, ObjectSound, PartSound, SlotHolds, WhatSound, WorldSound}
 use Rattle.abc_meaning_sound.specs.Given.{FileGiven, ScopesGiven}
-use Rattle.abc_link_program.specs.ClassBases.{BaseKnown}
+use Rattle.abc_link_names.specs.ClassBases.{BaseKnown}
 use Rattle.abc_meaning_sound.specs.Keeping.{Evolves, Fares, Leaves}
 use Rattle.abc_meaning_sound.proofs.Faring.{cells_then, done_fares, if_fares, objects_then, stop_fares, went_fares}
 use Rattle.abc_meaning_sound.proofs.Growing.{any_kind, first_is, object_on}
@@ -239,7 +239,7 @@ module _ (p : Setting) (file : FileGiven p) (scopes : ScopesGiven p) where
       let d = prototype_for hosts.Class w in
       let free = flat_or h.classes k none in
       let new = with_it h k home base d saved es in
-      let over = over_class p.linked h (class_parts p.linked k home base d) saved es z.stands b hh refl refl hb (prototype_there p file h (14 + Rattle.abc_link_program.specs.Places.host_number hosts.Class) z.stands) hs he free in
+      let over = over_class p.linked h (class_parts p.linked k home base d) saved es z.stands b hh refl refl hb (prototype_there p file h (14 + Rattle.abc_link_names.specs.Places.host_number hosts.Class) z.stands) hs he free in
       let g = evolves h k home base d saved es free in
       let made = made_now h k home base d saved es free b z.stands.counted (λ j lead. let m = bases j lead in (m.0, g.classes j m.0 m.1)) in
       let f = first h k home base d saved es in

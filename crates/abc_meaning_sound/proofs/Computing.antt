@@ -11,10 +11,10 @@ use Rattle.abc_heap_store.specs.Heap.{object_at}
 use Rattle.abc_heap_store.specs.declared.records.What.{What}
 use Rattle.abc_heap_store.specs.declared.records.What.TheVariants as whats
 use Rattle.abc_objects.specs.Values.{Exists}
-use Rattle.abc_link_program.specs.Types.{kind_of_type, type_of}
-use Rattle.abc_link_program.specs.declared.types.Kind.{Kind}
-use Rattle.abc_link_program.specs.declared.types.Kind.TheVariants as kinds
-use Rattle.abc_link_program.specs.declared.types.Ty.{Ty}
+use Rattle.abc_link_names.specs.Types.{kind_of_type, type_of}
+use Rattle.abc_link_names.specs.declared.types.Kind.{Kind}
+use Rattle.abc_link_names.specs.declared.types.Kind.TheVariants as kinds
+use Rattle.abc_link_names.specs.declared.types.Ty.{Ty}
 use Rattle.abc_verify_typing.specs.Instructions.{local, opcode, operand}
 use Rattle.abc_verify_typing.specs.Rows.{Shape, makes, naming, on_locals, row, row_at, table, two_values, value}
 use Rattle.abc_verify_typing.specs.declared.row.Locals.TheVariants.{Sets}
@@ -30,7 +30,7 @@ use Rattle.abc_meaning.specs.Members.{with_holder}
 use Rattle.abc_meaning.specs.Ops.{coerces, compares, computes_one, computes_two, converts}
 use Rattle.abc_meaning.specs.Setting.{Setting}
 use Rattle.abc_meaning.specs.World.{Errs, World, done, object, see, ◌>>=◌}
-use Rattle.abc_meaning.specs.At.{Doing, gives, one, op, two}
+use Rattle.abc_meaning.specs.At.{Doing, gives, one, opcode_at, two}
 use Rattle.abc_meaning.specs.Late.{coerces_to_operand, has_name, instance_test, is_instance, is_it, kept_as, late_type, or_null, tested_as, type_of_what}
 use Rattle.abc_meaning.specs.Names.{type_of_operand}
 use Rattle.abc_meaning.specs.Simple.{converting, counts, flag}
@@ -196,8 +196,8 @@ module _ (p : Setting) (file : FileGiven p) (ops : OpsGiven p) (typings : Typing
 
   -- ---- computing
 
-  single : (o : ℕ) (k : RowKind) → single_kind o ≡ fixed p.linked k → row_at o ≡ Some (makes value k) → E (o, gives (λ a. one a (computes_one (op a))))
-  single o k same e = entry p typings o (makes value k) (gives (λ a. one a (computes_one (op a)))) e (one_gives p file ops typings typed o (makes value k) (Fixed k) (λ a. computes_one (op a)) (record { unslotted_is = refl; scoping = refl; locals = λ h t. refl; leads_is = refl }) refl refl
+  single : (o : ℕ) (k : RowKind) → single_kind o ≡ fixed p.linked k → row_at o ≡ Some (makes value k) → E (o, gives (λ a. one a (computes_one (opcode_at a))))
+  single o k same e = entry p typings o (makes value k) (gives (λ a. one a (computes_one (opcode_at a)))) e (one_gives p file ops typings typed o (makes value k) (Fixed k) (λ a. computes_one (opcode_at a)) (record { unslotted_is = refl; scoping = refl; locals = λ h t. refl; leads_is = refl }) refl refl
       (λ c i v q hv. subst (λ n. Fares p c.world (computes_one n v c.world) (λ m z. IsOfKind p.linked m.heap (fixed p.linked k) z)) (sym c.is) (subst (λ x. Fares p c.world (computes_one o v c.world) (λ m z. IsOfKind p.linked m.heap x z)) same (ops.single c.world o v c.ready.world hv.exists))))
 
   abbrev count_row : Shape
@@ -209,23 +209,23 @@ module _ (p : Setting) (file : FileGiven p) (ops : OpsGiven p) (typings : Typing
       some_then p c.world (slice_get c.frame.locals (local c.instr)) v.0 _ _ v.1
       (then_fares p c.world _ _ _ _ (ops.single c.world operation v.0 c.ready.world v.2.exists) (λ n x l hx. sets p file ops typings typed o count_row (Fixed rows.Num) refl refl refl refl refl c n x l (subst (λ k. IsOfKind p.linked n.heap k x) same hx)))))
 
-  double : (o : ℕ) → Rattle.std.specs.Prelude.nat_eq o 0xA0 ≡ false → row_at o ≡ Some (makes two_values rows.Num) → E (o, gives (λ a. two a (computes_two a.setting (op a))))
-  double o other e = entry p typings o (makes two_values rows.Num) (gives (λ a. two a (computes_two a.setting (op a)))) e (two_give p file ops typings typed o (makes two_values rows.Num) (Fixed rows.Num) (λ a. computes_two a.setting (op a)) (record { unslotted_is = refl; scoping = refl; locals = λ h t. refl; leads_is = refl }) refl refl
+  double : (o : ℕ) → Rattle.std.specs.Prelude.nat_eq o 0xA0 ≡ false → row_at o ≡ Some (makes two_values rows.Num) → E (o, gives (λ a. two a (computes_two a.setting (opcode_at a))))
+  double o other e = entry p typings o (makes two_values rows.Num) (gives (λ a. two a (computes_two a.setting (opcode_at a)))) e (two_give p file ops typings typed o (makes two_values rows.Num) (Fixed rows.Num) (λ a. computes_two a.setting (opcode_at a)) (record { unslotted_is = refl; scoping = refl; locals = λ h t. refl; leads_is = refl }) refl refl
       (λ c i j x y q hx hy. subst (λ n. Fares p c.world (computes_two p n x y c.world) (λ m z. IsOfKind p.linked m.heap kinds.Num z)) (sym c.is) (subst (λ b. Fares p c.world (computes_two p o x y c.world) (λ m z. IsOfKind p.linked m.heap (if b then sum_kind i j else kinds.Num) z)) other (ops.double c.world o x y i j c.ready.world hx hy))))
 
   abbrev sum_row : Shape
   sum_row = row two_values (SumKind ∷ [])
 
-  sum : E (0xA0, gives (λ a. two a (computes_two a.setting (op a))))
+  sum : E (0xA0, gives (λ a. two a (computes_two a.setting (opcode_at a))))
   unfolding row_at table
-  sum = entry p typings 0xA0 sum_row (gives (λ a. two a (computes_two a.setting (op a)))) refl (two_give p file ops typings typed 0xA0 sum_row SumKind (λ a. computes_two a.setting (op a)) (record { unslotted_is = refl; scoping = refl; locals = λ h t. refl; leads_is = refl }) refl refl
+  sum = entry p typings 0xA0 sum_row (gives (λ a. two a (computes_two a.setting (opcode_at a)))) refl (two_give p file ops typings typed 0xA0 sum_row SumKind (λ a. computes_two a.setting (opcode_at a)) (record { unslotted_is = refl; scoping = refl; locals = λ h t. refl; leads_is = refl }) refl refl
       (λ c i j x y q hx hy.
       let two = two_kinds (parts_count (here_of c)) (taken (here_of c) c.state) i j q in
       let same : sum_kind (kind_at (taken (here_of c) c.state) 1) (kind_at (taken (here_of c) c.state) 0) ≡ sum_kind i j = ap (λ k. sum_kind k (kind_at (taken (here_of c) c.state) 0)) two.1 ∙ ap (sum_kind i) two.0 in
       subst (λ k. Fares p c.world (computes_two p (opcode c.instr) x y c.world) (λ m z. IsOfKind p.linked m.heap k z)) (sym same) (subst (λ n. Fares p c.world (computes_two p n x y c.world) (λ m z. IsOfKind p.linked m.heap (sum_kind i j) z)) (sym c.is) (ops.double c.world 0xA0 x y i j c.ready.world hx hy))))
 
-  comparing : (o : ℕ) → row_at o ≡ Some (makes two_values rows.Bool) → E (o, gives (λ a. flag (two a (compares a.setting (op a)))))
-  comparing o e = entry p typings o (makes two_values rows.Bool) (gives (λ a. flag (two a (compares a.setting (op a))))) e (gives_one p file ops typings typed o (makes two_values rows.Bool) (Fixed rows.Bool) (λ a. flag (two a (compares a.setting (op a)))) (record { unslotted_is = refl; scoping = refl; locals = λ h t. refl; leads_is = refl }) refl
+  comparing : (o : ℕ) → row_at o ≡ Some (makes two_values rows.Bool) → E (o, gives (λ a. flag (two a (compares a.setting (opcode_at a)))))
+  comparing o e = entry p typings o (makes two_values rows.Bool) (gives (λ a. flag (two a (compares a.setting (opcode_at a))))) e (gives_one p file ops typings typed o (makes two_values rows.Bool) (Fixed rows.Bool) (λ a. flag (two a (compares a.setting (opcode_at a)))) (record { unslotted_is = refl; scoping = refl; locals = λ h t. refl; leads_is = refl }) refl
       (λ c. then_fares p c.world _ _ _ _ (taking_two p file ops typings typed o (makes two_values rows.Bool) refl c (compares p (opcode c.instr)) (λ n b. Unit {0}) (λ k l x y q hx hy. ops.compare c.world (opcode c.instr) x y c.ready.world)) (λ n b l u. done_fares p n (Truth b) _ l.sound (truth n b))))
 
   pub operations_hold : (rest : List (ℕ × Doing)) → Each (EntrySound p typings) rest → Each (EntrySound p typings) (operation_acts rest)

@@ -11,12 +11,12 @@ use Rattle.abc_meaning_sound.proofs.Owned.{has_body, of_script_named, of_script_
 use Rattle.abc_heap_store.specs.Heap.{obj_id}
 use Rattle.abc_heap_store.specs.Scopes.{scope_id}
 use Rattle.abc_link_names.specs.Methods.{methods_among, methods_in}
-use Rattle.abc_link_names.specs.Parts.{no_script, script_at}
+use Rattle.abc_link_names.specs.PartsByNumber.{no_script, script_at}
 use Rattle.abc_objects.proofs.Opened.{scope_made}
-use Rattle.abc_link_program.specs.Owners.{naming, namings_among, namings_in, owner_of}
-use Rattle.abc_link_program.specs.declared.types.Owner.{Owner}
-use Rattle.abc_link_program.specs.declared.types.Owner.TheVariants as owners
-use Rattle.abc_heap_search.specs.Objects.{global_number}
+use Rattle.abc_link_names.specs.Owners.{naming, namings_among, namings_in, owner_of}
+use Rattle.abc_link_names.specs.declared.types.Owner.{Owner}
+use Rattle.abc_link_names.specs.declared.types.Owner.TheVariants as owners
+use Rattle.abc_objects.specs.Objects.{global_number}
 use Rattle.abc_file_types.specs.Classes.{sizes_of}
 use Rattle.abc_file_types.specs.declared.traits.TraitBody.{TraitBody}
 use Rattle.abc_file_types.specs.declared.traits.TraitBody.TheVariants as bodies

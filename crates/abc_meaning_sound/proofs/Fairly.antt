@@ -4,7 +4,7 @@ use Rattle.abc_base.specs.declared.names.HostClass.{HostClass}
 use Rattle.abc_base.specs.declared.names.HostClass.TheVariants as hosts
 use Rattle.abc_meaning.specs.Fair.{IsFairPart, IsFairStop, IsLeft}
 use Rattle.abc_heap_store.specs.Heap.{obj_id}
-use Rattle.abc_heap_search.specs.Objects.{global_number}
+use Rattle.abc_objects.specs.Objects.{global_number}
 use Rattle.abc_meaning_sound.proofs.Never.{given}
 use Rattle.abc_meaning_sound.proofs.Entered.{owned_fares}
 use Rattle.abc_meaning_sound.specs.Keeping.{Fares, IsError, Leaves, StopSound}

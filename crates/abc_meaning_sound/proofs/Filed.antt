@@ -21,14 +21,13 @@ use Rattle.abc_link_names.specs.declared.named.Named.{Named}
 use Rattle.abc_objects.specs.Values.{Exists, IsSpace}
 use Rattle.abc_objects.proofs.Started.{Stored, stored}
 use Rattle.abc_ops.proofs.Staying.{string_there}
-use Rattle.abc_link_program.specs.Linked.{IsLinkedFile, LinkedFile}
-use Rattle.abc_link_program.specs.Owners.{body_of, owner_of}
-use Rattle.abc_link_program.specs.Types.{type_if, type_in}
+use Rattle.abc_link_names.specs.Linked.{IsLinkedFile, LinkedFile}
+use Rattle.abc_link_names.specs.Owners.{body_of, owner_of}
+use Rattle.abc_link_names.specs.Types.{type_if, type_in}
 use Rattle.abc_link_names.specs.Methods.{methods_with_bodies}
-use Rattle.abc_link_names.specs.Parts.{body_at, method_at, no_body, no_method}
-use Rattle.abc_link_names.specs.Rules.{breaks_of_kind}
+use Rattle.abc_link_names.specs.PartsByNumber.{body_at, method_at, no_body, no_method}
 use Rattle.abc_link_names.specs.Starts.{int_at, raw_of, space_value, uint_at}
-use Rattle.abc_link_names.specs.Traits.{any_table, breaks_trait_not_run, breaks_unknown_type, own_type_fails, slot_type_fails}
+use Rattle.abc_link_names.specs.ItemTypes.{any_table, breaks_trait_not_run, breaks_unknown_type, own_type_fails, slot_type_fails}
 use Rattle.abc_link_names.specs.declared.items.ItemKind.{ItemKind}
 use Rattle.abc_link_names.specs.declared.items.ItemKind.TheVariants as items
 use Rattle.abc_link_names.specs.declared.items.LinkRule.TheVariants as rules
@@ -214,13 +213,13 @@ can_at n (x ∷ xs) (suc i) instr a e = can_at n xs i instr a.1 e
 
 module _ (l : LinkedFile) (linked : IsLinkedFile l) where
   pub types_known : (kind : ItemKind) (i : ℕ) → i < count_of l.file kind → breaks_unknown_type l.file kind i ≡ false
-  types_known kind i b = or_left (breaks_unknown_type l.file kind i) (breaks_of_kind l.file rules.UnknownType kind i) (false_from_ne_true (breaks_unknown_type l.file kind i || breaks_of_kind l.file rules.UnknownType kind i) (linked.rules rules.UnknownType (omega arith) (record { kind = kind; index = i }) (record { within = b })))
+  types_known kind i b = false_from_ne_true (breaks_unknown_type l.file kind i) (linked.rules rules.UnknownType (record { kind = kind; index = i }) (record { within = b }))
 
   pub traits_run : (kind : ItemKind) (i : ℕ) → i < count_of l.file kind → breaks_trait_not_run l.file kind i ≡ false
-  traits_run kind i b = or_left (breaks_trait_not_run l.file kind i) (breaks_of_kind l.file rules.TraitNotRun kind i) (false_from_ne_true (breaks_trait_not_run l.file kind i || breaks_of_kind l.file rules.TraitNotRun kind i) (linked.rules rules.TraitNotRun (omega arith) (record { kind = kind; index = i }) (record { within = b })))
+  traits_run kind i b = false_from_ne_true (breaks_trait_not_run l.file kind i) (linked.rules rules.TraitNotRun (record { kind = kind; index = i }) (record { within = b }))
 
   pub some_script : 0 < length l.file.scripts
-  some_script = go (length l.file.scripts) (false_from_ne_true (nat_eq (length l.file.scripts) 0) (linked.rules rules.NoScript (omega arith) (record { kind = items.File; index = 0 }) (record { within = omega arith })))
+  some_script = go (length l.file.scripts) (false_from_ne_true (nat_eq (length l.file.scripts) 0) (linked.rules rules.NoScript (record { kind = items.File; index = 0 }) (record { within = omega arith })))
     where
       go : (n : ℕ) → nat_eq n 0 ≡ false → 0 < n
       go zero e = absurd cc

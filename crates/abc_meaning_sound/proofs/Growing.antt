@@ -11,13 +11,13 @@ use Rattle.abc_heap_store.specs.declared.records.What.{What}
 use Rattle.abc_heap_store.specs.declared.records.What.TheVariants as whats
 use Rattle.abc_objects.specs.Values.{Exists}
 use Rattle.abc_objects.proofs.Grown.{exists_grown, grows_on, grows_self, holds_grown, scope_grown}
-use Rattle.abc_link_program.specs.Linked.{LinkedFile, layout_of}
-use Rattle.abc_link_program.specs.Numbering.{part_at}
-use Rattle.abc_link_program.specs.declared.part.Part.{Part}
-use Rattle.abc_link_program.specs.declared.part.Part.TheVariants as parts
-use Rattle.abc_link_program.specs.declared.types.Kind.{Kind}
-use Rattle.abc_link_program.specs.declared.types.Kind.TheVariants.{Any}
-use Rattle.abc_link_program.specs.declared.types.SlotInfo.{SlotInfo}
+use Rattle.abc_link_names.specs.Linked.{LinkedFile, layout_of}
+use Rattle.abc_link_names.specs.Numbering.{part_at}
+use Rattle.abc_link_names.specs.declared.part.Part.{Part}
+use Rattle.abc_link_names.specs.declared.part.Part.TheVariants as parts
+use Rattle.abc_link_names.specs.declared.types.Kind.{Kind}
+use Rattle.abc_link_names.specs.declared.types.Kind.TheVariants.{Any}
+use Rattle.abc_link_names.specs.declared.types.SlotInfo.{SlotInfo}
 use Rattle.abc_verify_typing.specs.Lists.{Each, Each2}
 use Rattle.abc_verify_typing.specs.Typing.{ScopeLe, StateLe}
 use Rattle.abc_verify_typing.specs.declared.state.Scope.{Scope}

@@ -27,29 +27,29 @@ use Rattle.abc_objects.specs.Values.{IsObject}
 use Rattle.abc_objects.proofs.Made.{object_slots, part_found}
 use Rattle.abc_objects.proofs.Opened.{scope_made}
 use Rattle.abc_objects.proofs.Started.{part_has}
-use Rattle.abc_link_program.specs.Linked.{IsLinkedFile, LinkedFile, above, base, layout_of}
-use Rattle.abc_link_program.specs.Numbering.{part_at}
-use Rattle.abc_link_program.specs.Owners.{naming, namings, namings_among, namings_in}
-use Rattle.abc_link_program.specs.Parts.{HasLayout, base_part, parent}
-use Rattle.abc_link_program.specs.Slots.{handler_at, own_slots, slots_in, slots_of}
-use Rattle.abc_link_program.specs.Tree.{IsBelow, up}
-use Rattle.abc_link_program.specs.declared.part.Part.{Part}
-use Rattle.abc_link_program.specs.declared.part.Part.TheVariants as parts
-use Rattle.abc_link_program.specs.declared.types.Naming.{Naming}
-use Rattle.abc_link_program.specs.declared.types.Owner.{Owner}
-use Rattle.abc_link_program.specs.declared.types.Owner.TheVariants as owners
-use Rattle.abc_link_program.specs.declared.types.SlotInfo.{SlotInfo}
-use Rattle.abc_link_program.proofs.Finding.{falling, found}
-use Rattle.abc_link_program.proofs.Tree.{below_above}
+use Rattle.abc_link_names.specs.Linked.{IsLinkedFile, LinkedFile, above, base, layout_of}
+use Rattle.abc_link_names.specs.Numbering.{part_at}
+use Rattle.abc_link_names.specs.Owners.{naming, namings, namings_among, namings_in}
+use Rattle.abc_link_names.specs.Parts.{HasLayout, base_part, parent}
+use Rattle.abc_link_names.specs.Slots.{handler_at, own_slots, slots_in, slots_of}
+use Rattle.abc_link_names.specs.Tree.{IsBelow, up}
+use Rattle.abc_link_names.specs.declared.part.Part.{Part}
+use Rattle.abc_link_names.specs.declared.part.Part.TheVariants as parts
+use Rattle.abc_link_names.specs.declared.types.Naming.{Naming}
+use Rattle.abc_link_names.specs.declared.types.Owner.{Owner}
+use Rattle.abc_link_names.specs.declared.types.Owner.TheVariants as owners
+use Rattle.abc_link_names.specs.declared.types.SlotInfo.{SlotInfo}
+use Rattle.abc_link_names.proofs.Finding.{falling, found}
+use Rattle.abc_link_names.proofs.Tree.{below_above}
 use Rattle.abc_link_names.specs.Bases.{base_graph, base_named, is_interface}
 use Rattle.abc_link_names.specs.Methods.{methods_among, methods_in}
-use Rattle.abc_link_names.specs.Parts.{body_at, class_at, no_class, no_script, script_at}
-use Rattle.abc_link_names.specs.Traits.{is_body, is_no_slot, is_not_run}
+use Rattle.abc_link_names.specs.PartsByNumber.{body_at, class_at, no_class, no_script, script_at}
+use Rattle.abc_link_names.specs.ItemTypes.{is_body, is_no_slot, is_not_run}
 use Rattle.abc_link_names.specs.declared.items.ItemKind.TheVariants as items
-use Rattle.abc_heap_search.specs.Candidates.{Candidate, OfTrait, traits, traits_after}
-use Rattle.abc_heap_search.specs.Traits.{Trait, caught_trait, members_in, own, own_traits_of, slots_under, trait_named, traits_from, traits_named}
-use Rattle.abc_heap_search.specs.declared.traits.Member.{Member}
-use Rattle.abc_heap_search.specs.declared.traits.Member.TheVariants as members
+use Rattle.abc_objects.specs.Candidates.{Candidate, OfTrait, traits, traits_after}
+use Rattle.abc_objects.specs.Traits.{Trait, caught_trait, members_in, own, own_traits_of, slots_under, trait_named, traits_from, traits_named}
+use Rattle.abc_objects.specs.declared.traits.Member.{Member}
+use Rattle.abc_objects.specs.declared.traits.Member.TheVariants as members
 use Rattle.abc_file_types.specs.Classes.{sizes_of}
 use Rattle.abc_file_types.specs.declared.traits.TraitBody.{TraitBody}
 use Rattle.abc_file_types.specs.declared.traits.TraitBody.TheVariants as bodies
@@ -65,14 +65,14 @@ use Rattle.abc_meaning.specs.Setting.{Setting}
 use Rattle.abc_meaning.specs.World.{Went, World}
 use Rattle.abc_meaning.specs.Sound.{IsFirstOf, IsMade, IsOfKind, PartSound, WorldSound}
 use Rattle.abc_meaning_sound.specs.Given.{FileGiven, HasBody, OwnedSound, ScopesGiven}
-use Rattle.abc_link_program.specs.ClassBases.{BaseKnown}
+use Rattle.abc_link_names.specs.ClassBases.{BaseKnown}
 use Rattle.abc_meaning_sound.proofs.Growing.{first_is}
 use Rattle.abc_meaning_sound.proofs.Lists.{inside, there}
 use Rattle.abc_meaning_sound.proofs.Filed.{definitions, traits_run}
 use Rattle.abc_meaning_sound.proofs.Indexed.{all_each, none_passes, or_right}
 use Rattle.abc_meaning_sound.proofs.Makers.{above_at, class_keeps, plain_base, under_class}
 use Rattle.abc_meaning_sound.proofs.Owned.{class_count, has_body, of_class_named, of_class_run, of_instance_named, of_instance_run, of_script_named, of_script_run, owned_by}
-use Rattle.abc_link_program.proofs.ClassBases.{bases_known, edge_is}
+use Rattle.abc_link_names.proofs.ClassBases.{bases_known, edge_is}
 
 -- ---- the methods that the traits of a table name
 

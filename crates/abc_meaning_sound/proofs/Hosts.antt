@@ -4,7 +4,7 @@ use Rattle.abc_base.specs.declared.formula.Formula.{Formula}
 use Rattle.abc_heap_store.specs.Heap.{Heap, Object}
 use Rattle.abc_heap_store.specs.declared.records.What.{What}
 use Rattle.abc_heap_store.specs.declared.records.What.TheVariants as whats
-use Rattle.abc_link_program.specs.Linked.{LinkedFile}
+use Rattle.abc_link_names.specs.Linked.{LinkedFile}
 use Rattle.abc_meaning.specs.Setting.{Setting}
 use Rattle.abc_meaning.specs.Sound.{ObjectSound, WhatSound}
 use Rattle.abc_meaning_sound.specs.CallLaws.{NamesAloneMatter}

@@ -5,8 +5,8 @@ use Rattle.abc_heap_values.specs.declared.values.Value.{Value}
 use Rattle.abc_heap_values.specs.declared.values.Value.TheVariants.{Undefined, Num}
 use Rattle.abc_heap_values.specs.Numbers.{truth_of}
 use Rattle.abc_objects.specs.Values.{Exists}
-use Rattle.abc_link_program.specs.declared.types.Kind.{Kind}
-use Rattle.abc_link_program.specs.declared.types.Kind.TheVariants as kinds
+use Rattle.abc_link_names.specs.declared.types.Kind.{Kind}
+use Rattle.abc_link_names.specs.declared.types.Kind.TheVariants as kinds
 use Rattle.abc_verify_typing.specs.Instructions.{targets}
 use Rattle.abc_verify_typing.specs.Rows.{Shape, leading, row, row_at, table, two_values, value}
 use Rattle.abc_verify_typing.specs.declared.row.Leads.TheVariants.{Branches, Jumps, Switches, Ends}

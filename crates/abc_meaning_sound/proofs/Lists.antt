@@ -1,5 +1,5 @@
 -- Lists, and the cells of lists of objects.
-use Rattle.std.proofs.Common.{◌≡◌, ◌⊎◌, inl, inr, ℕ, zero, suc, ◌+◌, ◌≤◌, ◌<◌, List, [], ◌∷◌, ◌++◌, length, drop, take, set, refl, ap, subst, arith}
+use Rattle.std.proofs.Common.{◌≡◌, ◌⊎◌, inl, inr, ℕ, zero, suc, ◌+◌, ◌≤◌, ◌<◌, List, [], ◌∷◌, ◌++◌, length, drop, set, refl, ap, subst, arith}
 use Rattle.std.specs.Prelude.{slice_get, Some}
 use Rattle.abc_heap_store.specs.Changes.{change}
 use Rattle.abc_heap_store.specs.Heap.{Object, all_cells, cells_of, object_at}
@@ -60,8 +60,3 @@ pub each_drop : {X : Type 0} (P : X → Type 0) (k : ℕ) (xs : List X) → Each
 each_drop P zero xs h = h
 each_drop P (suc k) [] h = tt
 each_drop P (suc k) (x ∷ xs) h = each_drop P k xs h.1
-
-pub each_take : {X : Type 0} (P : X → Type 0) (k : ℕ) (xs : List X) → Each P xs → Each P (take k xs)
-each_take P zero xs h = tt
-each_take P (suc k) [] h = tt
-each_take P (suc k) (x ∷ xs) h = (h.0, each_take P k xs h.1)

@@ -21,12 +21,12 @@ use Rattle.abc_objects.specs.Values.{Exists, IsObject}
 use Rattle.abc_objects.proofs.Grown.{bound_grown}
 use Rattle.abc_objects.proofs.Kept.{Reshapes, added_grows, changed_grows, made_grows, over_changed, over_made, over_scopes, scopes_grow, top_is}
 use Rattle.abc_objects.proofs.Made.{host_found, made_alone, no_slots, over_array, over_made_object, prototype_is}
-use Rattle.abc_link_program.specs.Linked.{layout_of}
-use Rattle.abc_link_program.specs.Numbering.{part_at}
-use Rattle.abc_link_program.specs.Tree.{IsBelow}
-use Rattle.abc_link_program.specs.declared.part.Part.TheVariants as parts
-use Rattle.abc_link_program.specs.declared.types.Kind.TheVariants as kinds
-use Rattle.abc_link_program.proofs.Tree.{below_self}
+use Rattle.abc_link_names.specs.Linked.{layout_of}
+use Rattle.abc_link_names.specs.Numbering.{part_at}
+use Rattle.abc_link_names.specs.Tree.{IsBelow}
+use Rattle.abc_link_names.specs.declared.part.Part.TheVariants as parts
+use Rattle.abc_link_names.specs.declared.types.Kind.TheVariants as kinds
+use Rattle.abc_link_names.proofs.Tree.{below_self}
 use Rattle.abc_verify_typing.specs.Lists.{Each, Each2}
 use Rattle.abc_verify_typing.proofs.Lists.{slice_get-pushed}
 use Rattle.abc_meaning.specs.Objects.{new_array, new_function, new_object, new_of_host, prototype_for, top_scope}
@@ -162,7 +162,7 @@ module _ (p : Setting) where
 
     pub new_of_host_fares : (w : World) (c : HostClass) (what : What) → WorldSound p w → (parts.Host c ≡ parts.Host hosts.Array → ⊥) → IsMadeAlone what → NamesParts p.linked w.heap what → WhatSound p w.heap (host_layout p.linked c) what → Fares p w (new_of_host p c what w) (IsMadeOf (host_layout p.linked c))
     new_of_host_fares w c what s ne alone names sound =
-        new_object_fares w (host_layout p.linked c) (prototype_for c w) what s (host_fresh w.heap c (prototype_for c w) what s.stands ne (prototype_there w.heap (14 + Rattle.abc_link_program.specs.Places.host_number c) s.stands) alone names sound)
+        new_object_fares w (host_layout p.linked c) (prototype_for c w) what s (host_fresh w.heap c (prototype_for c w) what s.stands ne (prototype_there w.heap (14 + Rattle.abc_link_names.specs.Places.host_number c) s.stands) alone names sound)
 
     -- ---- arrays
 
@@ -172,7 +172,7 @@ module _ (p : Setting) where
         let ob = with_more_elements vs (bare (host_layout p.linked hosts.Array) d whats.Array) in
         objects_then p w 1 _ _ s (λ a.
         cells_then p w (length vs) _ _ s (λ b.
-        let over = over_array p.linked w.heap vs d s.stands (prototype_there w.heap (14 + Rattle.abc_link_program.specs.Places.host_number hosts.Array) s.stands) (each_at (Exists p.linked w.heap) vs es) in
+        let over = over_array p.linked w.heap vs d s.stands (prototype_there w.heap (14 + Rattle.abc_link_names.specs.Places.host_number hosts.Array) s.stands) (each_at (Exists p.linked w.heap) vs es) in
         let sound : ObjectSound p (added ob w.heap) ob = record { slots = subst (λ ss. Each2 (SlotHolds p.linked (added ob w.heap)) ss []) (sym (no_slots p.linked file.linked hosts.Array refl refl)) tt; what = tt; part = host_part (added ob w.heap) hosts.Array; first_of = first_is p.linked (parts.Host hosts.Array) (host_found p.linked file.linked hosts.Array).1 } in
         let l = last_object w.heap.objects ob in
         went_fares p w _ _ _ (added_leaves w ob s over sound a (omega (arith, b)))
@@ -206,7 +206,7 @@ module _ (p : Setting) where
         let u : World = record w { heap = with_scopes saved es w.heap } in
         let nodes_are = nodes_length (length w.heap.scopes) saved es in
         let more = length-append w.heap.scopes (nodes (length w.heap.scopes) saved es) in
-        let fresh = host_fresh u.heap hosts.Function d what l.sound.stands (λ q. absurd cc) (bound_grown w.heap u.heap d l.grows.grows (prototype_there w.heap (14 + Rattle.abc_link_program.specs.Places.host_number hosts.Function) s.stands)) tt (hn, hh, top_is w.heap saved es hs, tt) (sound u.heap) in
+        let fresh = host_fresh u.heap hosts.Function d what l.sound.stands (λ q. absurd cc) (bound_grown w.heap u.heap d l.grows.grows (prototype_there w.heap (14 + Rattle.abc_link_names.specs.Places.host_number hosts.Function) s.stands)) tt (hn, hh, top_is w.heap saved es hs, tt) (sound u.heap) in
         let m = made_leaves u x d what l.sound fresh a (omega (arith, b, more, nodes_are)) in
         let at = last_object u.heap.objects (with_more_slots (start_values p.linked x) (bare x d what)) in
         went_fares p w _ _ _ (record { sound = m.sound; grows = evolves_on w.heap u.heap _ l.grows m.grows }) (at.0, ap (λ (y : Object). y.layout) at.1)))

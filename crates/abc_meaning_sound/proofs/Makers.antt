@@ -20,20 +20,20 @@ use Rattle.abc_objects.specs.Stands.{IsScope, NamesParts}
 use Rattle.abc_objects.specs.Values.{IsObject}
 use Rattle.abc_objects.proofs.Made.{part_found}
 use Rattle.abc_objects.proofs.Started.{part_has}
-use Rattle.abc_link_program.specs.Linked.{IsLinkedFile, LinkedFile, above, layout_of}
-use Rattle.abc_link_program.specs.Numbering.{part_at}
-use Rattle.abc_link_program.specs.Owners.{namings, namings_among, namings_from, namings_in, no_naming, of_class, of_instance, of_script, owner_at, owner_of}
-use Rattle.abc_link_program.specs.Parts.{HasLayout, base_part, host_parent, parent}
-use Rattle.abc_link_program.specs.Places.{place_of, place_under}
-use Rattle.abc_link_program.specs.Tree.{IsBelow, up}
-use Rattle.abc_link_program.specs.declared.part.LayoutId.{LayoutId}
-use Rattle.abc_link_program.specs.declared.part.Part.{Part}
-use Rattle.abc_link_program.specs.declared.part.Part.TheVariants as parts
-use Rattle.abc_link_program.specs.declared.types.Naming.{Naming}
-use Rattle.abc_link_program.specs.declared.types.Owner.{Owner}
-use Rattle.abc_link_program.specs.declared.types.Owner.TheVariants as owners
-use Rattle.abc_link_program.proofs.Finding.{found}
-use Rattle.abc_link_program.proofs.Tree.{above_le, below_above}
+use Rattle.abc_link_names.specs.Linked.{IsLinkedFile, LinkedFile, above, layout_of}
+use Rattle.abc_link_names.specs.Numbering.{part_at}
+use Rattle.abc_link_names.specs.Owners.{namings, namings_among, namings_from, namings_in, no_naming, of_class, of_instance, of_script, owner_at, owner_of}
+use Rattle.abc_link_names.specs.Parts.{HasLayout, base_part, host_parent, parent}
+use Rattle.abc_link_names.specs.Places.{place_of, place_under}
+use Rattle.abc_link_names.specs.Tree.{IsBelow, up}
+use Rattle.abc_link_names.specs.declared.part.LayoutId.{LayoutId}
+use Rattle.abc_link_names.specs.declared.part.Part.{Part}
+use Rattle.abc_link_names.specs.declared.part.Part.TheVariants as parts
+use Rattle.abc_link_names.specs.declared.types.Naming.{Naming}
+use Rattle.abc_link_names.specs.declared.types.Owner.{Owner}
+use Rattle.abc_link_names.specs.declared.types.Owner.TheVariants as owners
+use Rattle.abc_link_names.proofs.Finding.{found}
+use Rattle.abc_link_names.proofs.Tree.{above_le, below_above}
 use Rattle.abc_link_names.specs.Bases.{base_graph, base_named, is_interface, is_interface_named, is_some_class}
 use Rattle.abc_link_names.specs.declared.items.ItemKind.TheVariants as items
 use Rattle.abc_link_names.specs.declared.items.LinkRule.TheVariants as rules
@@ -51,13 +51,13 @@ use Rattle.abc_meaning.specs.Setting.{Setting}
 use Rattle.abc_meaning.specs.World.{Went, World}
 use Rattle.abc_meaning.specs.Sound.{AreMade, IsMade, IsOfKind, PartSound, WorldSound}
 use Rattle.abc_meaning_sound.specs.Given.{BaseRuns, FileGiven, MakersGiven, ScopesGiven, base_of as base_maker}
-use Rattle.abc_link_program.specs.ClassBases.{BaseKnown}
+use Rattle.abc_link_names.specs.ClassBases.{BaseKnown}
 use Rattle.abc_meaning_sound.proofs.Classes.{class_there, kept_is}
 use Rattle.abc_meaning_sound.proofs.Lists.{there}
 use Rattle.abc_meaning_sound.proofs.Filed.{routine_found}
 use Rattle.abc_meaning_sound.proofs.Indexed.{first_passed, got}
 use Rattle.abc_meaning_sound.proofs.Owned.{iinits}
-use Rattle.abc_link_program.proofs.ClassBases.{base_edge, bases_known, named_base}
+use Rattle.abc_link_names.proofs.ClassBases.{base_edge, bases_known, named_base}
 
 -- ---- layouts under those of a class
 
@@ -171,7 +171,7 @@ module _ (l : LinkedFile) (linked : IsLinkedFile l) where
 
   -- a base is no interface
   pub plain_base : (k b : ℕ) → k < length l.file.instances → base_named l.file k ≡ Some (named.Class b) → is_interface l.file b ≡ false
-  plain_base k b low e = sym (ap (is_interface_named l.file) e) ∙ false_from_ne_true (is_interface_named l.file (base_named l.file k)) (linked.rules rules.BaseIsInterface (omega arith) (record { kind = items.Class; index = k }) (record { within = low }))
+  plain_base k b low e = sym (ap (is_interface_named l.file) e) ∙ false_from_ne_true (is_interface_named l.file (base_named l.file k)) (linked.rules rules.BaseIsInterface (record { kind = items.Class; index = k }) (record { within = low }))
 
 -- ---- an initializer of instances is of a class that there is
 

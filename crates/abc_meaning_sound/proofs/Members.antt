@@ -15,16 +15,16 @@ use Rattle.abc_heap_store.specs.Texts.{IsText}
 use Rattle.abc_heap_store.specs.What.{is_array}
 use Rattle.abc_heap_store.specs.declared.records.What.TheVariants as whats
 use Rattle.abc_objects.specs.Values.{Exists, IsObject}
-use Rattle.abc_link_program.specs.Owners.{owner_of}
+use Rattle.abc_link_names.specs.Owners.{owner_of}
 use Rattle.abc_heap_store.specs.Changes.{with_element, with_object}
-use Rattle.abc_link_program.specs.Slots.{slots_of}
-use Rattle.abc_link_program.proofs.Tree.{below_self}
-use Rattle.abc_heap_search.specs.ElementNames.{ElementName, IsLength, IsNumber as IsElement}
-use Rattle.abc_heap_search.specs.Spaces.{holds_public}
-use Rattle.abc_heap_search.specs.declared.found.Found.{Found}
-use Rattle.abc_heap_search.specs.declared.found.Found.TheVariants.{Slot, Method, Getter, Setter, Property, Element, Length, WrongSide, Missing}
-use Rattle.abc_heap_search.specs.declared.found.Want.TheVariants as wants
-use Rattle.abc_heap_search.specs.declared.name.Name.{Name}
+use Rattle.abc_link_names.specs.Slots.{slots_of}
+use Rattle.abc_link_names.proofs.Tree.{below_self}
+use Rattle.abc_objects.specs.ElementNames.{ElementName, IsLength, IsNumber as IsElement}
+use Rattle.abc_objects.specs.Spaces.{holds_public}
+use Rattle.abc_objects.specs.declared.found.Found.{Found}
+use Rattle.abc_objects.specs.declared.found.Found.TheVariants.{Slot, Method, Getter, Setter, Property, Element, Length, WrongSide, Missing}
+use Rattle.abc_objects.specs.declared.found.Want.TheVariants as wants
+use Rattle.abc_objects.specs.declared.name.Name.{Name}
 use Rattle.abc_verify_typing.specs.Lists.{Each}
 use Rattle.abc_verify_typing.proofs.Lists.{slice_get-some}
 use Rattle.abc_meaning.specs.Calling.{Came, Calls, Got, Makes, calls, got}
@@ -196,7 +196,7 @@ module _ (p : Setting) (file : FileGiven p) (ops : OpsGiven p) (typings : Typing
   arrays_alone : (w : World) (ob : Object) (text : Span) (e : ElementName) → element_of p ob text w ≡ Some e → is_array ob.what ≡ true
   arrays_alone w ob text e q = go (is_array ob.what) refl q
     where
-      go : (b : Bool) → is_array ob.what ≡ b → (if b then Rattle.abc_heap_search.specs.ElementNames.element_name (Rattle.abc_heap_store.specs.Texts.text_of p.linked.file.strings w.heap text) else None) ≡ Some e → is_array ob.what ≡ true
+      go : (b : Bool) → is_array ob.what ≡ b → (if b then Rattle.abc_objects.specs.ElementNames.element_name (Rattle.abc_heap_store.specs.Texts.text_of p.linked.file.strings w.heap text) else None) ≡ Some e → is_array ob.what ≡ true
       go true is q = is
       go false is q = absurd cc
 

@@ -13,14 +13,14 @@ use Rattle.abc_heap_store.specs.declared.records.ScopeEntry.{ScopeEntry}
 use Rattle.abc_heap_store.specs.declared.records.What.TheVariants as whats
 use Rattle.abc_objects.specs.Values.{Exists, IsObject}
 use Rattle.abc_objects.proofs.Grown.{text_grown}
-use Rattle.abc_link_program.specs.Slots.{slot_numbered, slots_of}
-use Rattle.abc_link_program.specs.Types.{kind_of_type}
-use Rattle.abc_link_program.specs.declared.part.LayoutId.{LayoutId}
-use Rattle.abc_link_program.specs.declared.types.Kind.{Kind}
-use Rattle.abc_link_program.specs.declared.types.Kind.TheVariants as kinds
-use Rattle.abc_heap_search.specs.declared.found.ScopeFound.{ScopeFound}
-use Rattle.abc_heap_search.specs.declared.found.ScopeFound.TheVariants.{Object as InObject, Start, Missing}
-use Rattle.abc_heap_search.specs.declared.name.Name.{Name}
+use Rattle.abc_link_names.specs.Slots.{slot_numbered, slots_of}
+use Rattle.abc_link_names.specs.Types.{kind_of_type}
+use Rattle.abc_link_names.specs.declared.part.LayoutId.{LayoutId}
+use Rattle.abc_link_names.specs.declared.types.Kind.{Kind}
+use Rattle.abc_link_names.specs.declared.types.Kind.TheVariants as kinds
+use Rattle.abc_objects.specs.declared.found.ScopeFound.{ScopeFound}
+use Rattle.abc_objects.specs.declared.found.ScopeFound.TheVariants.{Object as InObject, Start, Missing}
+use Rattle.abc_objects.specs.declared.name.Name.{Name}
 use Rattle.abc_verify_typing.specs.Instructions.{operand}
 use Rattle.abc_verify_typing.specs.Rows.{Shape, makes, naming, row, row_at, table, two_values, value, with_args}
 use Rattle.abc_verify_typing.specs.declared.row.Need.TheVariants as needed
@@ -215,7 +215,7 @@ module _ (p : Setting) (file : FileGiven p) (ops : OpsGiven p) (search : SearchG
   pub record SlotThere (w : World) (o : ObjId) (n : ℕ) (kind : Kind) : Type 0 where
     pub place : ℕ
     pub numbered : slot_numbered p.linked (object_at w.heap.objects o.0).layout n ≡ Some place
-    pub info : Rattle.abc_link_program.specs.declared.types.SlotInfo.SlotInfo
+    pub info : Rattle.abc_link_names.specs.declared.types.SlotInfo.SlotInfo
     pub at : slice_get (slots_of p.linked (object_at w.heap.objects o.0).layout) place ≡ Some info
     pub value : Value
     pub value_at : slice_get (object_at w.heap.objects o.0).slots place ≡ Some value

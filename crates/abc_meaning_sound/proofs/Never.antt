@@ -3,7 +3,7 @@ use Rattle.std.proofs.Common.{◌≡◌, ℕ, ◌<◌, length, refl, subst}
 use Rattle.std.specs.Prelude.{Some, None}
 use Rattle.std.specs.declared.option.Option.{Option}
 use Rattle.abc_heap_store.specs.declared.records.Limit.{Limit}
-use Rattle.abc_link_program.specs.Owners.{body_of}
+use Rattle.abc_link_names.specs.Owners.{body_of}
 use Rattle.abc_verify_typing.specs.Routines.{Routine, routine}
 use Rattle.abc_verify_typing.specs.Typing.{IsTyping}
 use Rattle.abc_verify_typing.specs.declared.state.State.{State}

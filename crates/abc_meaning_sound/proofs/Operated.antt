@@ -12,11 +12,11 @@ use Rattle.abc_heap_values.specs.declared.values.Value.{Value}
 use Rattle.abc_heap_values.specs.declared.values.Value.TheVariants as values
 use Rattle.abc_heap_values.specs.Kinds.{is_nothing, is_text, is_undefined}
 use Rattle.abc_heap_values.specs.Numbers.{calculated_of, calculated_single_of, int_of, number_of, truth_of, uint_of}
-use Rattle.abc_heap_values.specs.Opcodes.{comparison_of, operation_of, single_of}
+use Rattle.abc_ops.specs.Opcodes.{comparison_of, operation_of, single_of}
 use Rattle.abc_heap_values.specs.declared.numbers.Conversion.{Conversion}
 use Rattle.abc_heap_values.specs.declared.numbers.Conversion.TheVariants.{ConvertS, ConvertI, ConvertU, ConvertD, ConvertB, ConvertO, CoerceS}
-use Rattle.abc_heap_values.specs.declared.opcodes.Comparison.{Comparison}
-use Rattle.abc_heap_values.specs.declared.opcodes.Comparison.TheVariants.{Equal, StrictlyEqual, Ordered}
+use Rattle.abc_ops.specs.declared.opcodes.Comparison.{Comparison}
+use Rattle.abc_ops.specs.declared.opcodes.Comparison.TheVariants.{Equal, StrictlyEqual, Ordered}
 use Rattle.abc_heap_store.specs.Heap.{Heap}
 use Rattle.abc_heap_store.specs.Texts.{IsText, text_of}
 use Rattle.abc_link_names.specs.Pool.{space}
@@ -24,12 +24,12 @@ use Rattle.abc_objects.specs.Fixed.{fixed_span}
 use Rattle.abc_objects.specs.Starts.{string_span}
 use Rattle.abc_objects.specs.Values.{Exists}
 use Rattle.abc_objects.specs.declared.fixed.FixedText.TheVariants as fixed
-use Rattle.abc_link_program.specs.Linked.{IsLinkedFile, LinkedFile}
-use Rattle.abc_link_program.specs.Types.{kind_of_type}
-use Rattle.abc_link_program.specs.declared.types.Kind.{Kind}
-use Rattle.abc_link_program.specs.declared.types.Kind.TheVariants as kinds
-use Rattle.abc_link_program.specs.declared.types.Ty.{Ty}
-use Rattle.abc_link_program.specs.declared.types.Ty.TheVariants as types
+use Rattle.abc_link_names.specs.Linked.{IsLinkedFile, LinkedFile}
+use Rattle.abc_link_names.specs.Types.{kind_of_type}
+use Rattle.abc_link_names.specs.declared.types.Kind.{Kind}
+use Rattle.abc_link_names.specs.declared.types.Kind.TheVariants as kinds
+use Rattle.abc_link_names.specs.declared.types.Ty.{Ty}
+use Rattle.abc_link_names.specs.declared.types.Ty.TheVariants as types
 use Rattle.abc_verify_typing.specs.Effects.{sum_kind}
 use Rattle.abc_ops.specs.Coercions.{undefined_as_null}
 use Rattle.abc_ops.specs.Compares.{compared_as, or_fault}

@@ -9,15 +9,15 @@ use Rattle.abc_tables.proofs.ClassesFit.{class_fits, instance_fits, script_fits}
 use Rattle.abc_tables.proofs.Combined.{position_fits}
 use Rattle.abc_base_graphs.specs.Index.{first_from}
 use Rattle.abc_link_names.specs.Instances.{instance_at, no_instance}
-use Rattle.abc_link_program.specs.Linked.{IsLinkedFile}
-use Rattle.abc_link_program.specs.Owners.{namings, namings_among, namings_from, namings_in, no_naming, of_class, of_instance, of_script, owner_at, owner_of}
-use Rattle.abc_link_program.specs.declared.types.Naming.{Naming}
-use Rattle.abc_link_program.specs.declared.types.Owner.{Owner}
-use Rattle.abc_link_program.specs.declared.types.Owner.TheVariants as owners
+use Rattle.abc_link_names.specs.Linked.{IsLinkedFile}
+use Rattle.abc_link_names.specs.Owners.{namings, namings_among, namings_from, namings_in, no_naming, of_class, of_instance, of_script, owner_at, owner_of}
+use Rattle.abc_link_names.specs.declared.types.Naming.{Naming}
+use Rattle.abc_link_names.specs.declared.types.Owner.{Owner}
+use Rattle.abc_link_names.specs.declared.types.Owner.TheVariants as owners
 use Rattle.abc_link_names.specs.Bases.{is_interface}
 use Rattle.abc_link_names.specs.Methods.{breaks_no_body, breaks_owned_twice, methods_among, methods_in, methods_named, methods_run, methods_with_bodies, of_body, run_of_instance, times_named}
 use Rattle.abc_link_names.specs.Methods as rule
-use Rattle.abc_link_names.specs.Parts.{class_at, no_class, no_script, script_at}
+use Rattle.abc_link_names.specs.PartsByNumber.{class_at, no_class, no_script, script_at}
 use Rattle.abc_link_names.specs.declared.items.ItemKind.TheVariants as items
 use Rattle.abc_link_names.specs.declared.items.LinkRule.TheVariants as rules
 use Rattle.abc_file_types.specs.Classes.{sizes_of}
@@ -179,7 +179,7 @@ module _ (p : Setting) (linked : IsLinkedFile p.linked) where
   v = p.linked.file
 
   once : (m : ℕ) → m < length v.methods → times_named m (methods_named v) ≤ 1
-  once m low = go (nat_lt 1 (times_named m (methods_named v))) refl (false_from_ne_true (breaks_owned_twice v m) (linked.rules rules.OwnedTwice (omega arith) (record { kind = items.Method; index = m }) (record { within = low })))
+  once m low = go (nat_lt 1 (times_named m (methods_named v))) refl (false_from_ne_true (breaks_owned_twice v m) (linked.rules rules.OwnedTwice (record { kind = items.Method; index = m }) (record { within = low })))
     where
       go : (b : Bool) → nat_lt 1 (times_named m (methods_named v)) ≡ b → b ≡ false → times_named m (methods_named v) ≤ 1
       go true q e = absurd cc
@@ -202,7 +202,7 @@ module _ (p : Setting) (linked : IsLinkedFile p.linked) where
   -- what is run has a body
   pub has_body : (m : ℕ) → m < length v.methods → In m (methods_run v) → HasBody p m
   has_body m low h =
-      let broken = false_from_ne_true (breaks_no_body v m) (linked.rules rules.NoBody (omega arith) (record { kind = items.Method; index = m }) (record { within = low })) in
+      let broken = false_from_ne_true (breaks_no_body v m) (linked.rules rules.NoBody (record { kind = items.Method; index = m }) (record { within = low })) in
       let some = in_count m (methods_run v) h in
       go (nat_lt 0 (times_named m (methods_run v))) refl (nat_eq (times_named m (methods_with_bodies v)) 0) refl some broken
     where

@@ -5,8 +5,8 @@ use Rattle.std.specs.declared.option.Option.{Option}
 use Rattle.abc_base.specs.declared.names.Fault.{Fault}
 use Rattle.abc_heap_values.specs.declared.values.Value.{Value}
 use Rattle.abc_heap_store.specs.declared.records.Limit.{Limit}
-use Rattle.abc_link_names.specs.Parts.{body_at, script_at}
-use Rattle.abc_link_program.specs.Owners.{body_of}
+use Rattle.abc_link_names.specs.PartsByNumber.{body_at, script_at}
+use Rattle.abc_link_names.specs.Owners.{body_of}
 use Rattle.abc_frames.specs.Frame.{Frame}
 use Rattle.abc_frames.specs.declared.records.Wait.TheVariants as waits
 use Rattle.abc_verify_typing.specs.Lists.{Each}

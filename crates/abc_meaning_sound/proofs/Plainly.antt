@@ -10,8 +10,8 @@ use Rattle.abc_heap_values.specs.declared.values.Value.TheVariants.{Undefined, N
 use Rattle.abc_heap_store.specs.Heap.{object_at}
 use Rattle.abc_heap_store.specs.declared.records.ScopeEntry.{ScopeEntry}
 use Rattle.abc_objects.specs.Values.{Exists, IsSpace}
-use Rattle.abc_link_program.specs.declared.types.Kind.{Kind}
-use Rattle.abc_link_program.specs.declared.types.Kind.TheVariants as kinds
+use Rattle.abc_link_names.specs.declared.types.Kind.{Kind}
+use Rattle.abc_link_names.specs.declared.types.Kind.TheVariants as kinds
 use Rattle.abc_link_names.specs.Starts.{int_at, uint_at}
 use Rattle.abc_verify_typing.specs.Instructions.{local, operand}
 use Rattle.abc_verify_typing.specs.Rows.{Shape, makes, naming, on_locals, on_scopes, row, row_at, table, two_values, value}

@@ -5,19 +5,19 @@ use Rattle.abc_base.specs.declared.names.HostClass.TheVariants as hosts
 use Rattle.abc_heap_store.specs.Heap.{Heap}
 use Rattle.abc_base_graphs.specs.Index.{first}
 use Rattle.abc_objects.proofs.Made.{host_found, part_found}
-use Rattle.abc_link_program.specs.Linked.{IsLinkedFile, LinkedFile, layout_of}
-use Rattle.abc_link_program.specs.Numbering.{part_at}
-use Rattle.abc_link_program.specs.Parts.{HasLayout, has_activation}
-use Rattle.abc_link_program.specs.declared.part.LayoutId.{LayoutId}
-use Rattle.abc_link_program.specs.declared.part.Part.{Part}
-use Rattle.abc_link_program.specs.declared.part.Part.TheVariants as parts
-use Rattle.abc_link_names.specs.Parts.{body_at}
+use Rattle.abc_link_names.specs.Linked.{IsLinkedFile, LinkedFile, layout_of}
+use Rattle.abc_link_names.specs.Numbering.{part_at}
+use Rattle.abc_link_names.specs.Parts.{HasLayout, has_activation}
+use Rattle.abc_link_names.specs.declared.part.LayoutId.{LayoutId}
+use Rattle.abc_link_names.specs.declared.part.Part.{Part}
+use Rattle.abc_link_names.specs.declared.part.Part.TheVariants as parts
+use Rattle.abc_link_names.specs.PartsByNumber.{body_at}
 use Rattle.abc_file_types.specs.declared.code.Handler.{Handler}
 use Rattle.abc_verify_typing.specs.Routines.{Routine, catches}
 use Rattle.abc_verify_typing.specs.declared.catch.Catch.{Catch}
 use Rattle.abc_meaning.specs.Setting.{Setting, routine_of}
 use Rattle.abc_meaning.specs.Sound.{PartSound}
-use Rattle.abc_link_program.proofs.ClassBases.{above_base, bases_known}
+use Rattle.abc_link_names.proofs.ClassBases.{above_base, bases_known}
 use Rattle.abc_meaning_sound.specs.Given.{IsScopeLayout, ScopesGiven}
 use Rattle.abc_meaning_sound.proofs.Growing.{first_is}
 use Rattle.abc_meaning_sound.proofs.Filed.{routine_found}

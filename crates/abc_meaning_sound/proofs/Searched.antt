@@ -19,22 +19,22 @@ use Rattle.abc_heap_store.specs.declared.records.ScopeNode.{ScopeNode}
 use Rattle.abc_objects.specs.Stands.{IsBeneath, IsProperty, IsScope, ScopeStands}
 use Rattle.abc_objects.specs.Values.{Exists, IsObject}
 use Rattle.abc_objects.proofs.Opened.{global_made, host_made}
-use Rattle.abc_link_program.specs.Linked.{LinkedFile}
-use Rattle.abc_link_program.specs.Tree.{IsBelow}
-use Rattle.abc_link_program.proofs.Tree.{below_self}
-use Rattle.abc_heap_search.specs.Candidates.{Candidate, OfElement, OfLength, OfProperty, OfTrait, answer, candidates_on, elements, elements_from, fits, found, found_as, holder_of, is_answer, named, own_things, properties, property_at, things_along, traits, where_public}
-use Rattle.abc_heap_search.specs.Objects.{delegate_at, global_number}
-use Rattle.abc_heap_search.specs.Results.{passes_over, skip_for}
-use Rattle.abc_heap_search.specs.Scopes.{InHost, InScope, InScript, Place, has, no_node, node_at, parent_at, places, saved_places, scope_named, scope_number}
-use Rattle.abc_heap_search.specs.Searches.{declared_found, found_in_scopes, found_on}
-use Rattle.abc_heap_search.specs.Spaces.{holds_public}
-use Rattle.abc_heap_search.specs.declared.found.Found.TheVariants as founds
-use Rattle.abc_heap_search.specs.declared.found.ScopeFound.TheVariants as results
-use Rattle.abc_heap_search.specs.declared.found.Want.{Want}
-use Rattle.abc_heap_search.specs.declared.found.Want.TheVariants as wants
-use Rattle.abc_heap_search.specs.declared.name.Name.{Name}
-use Rattle.abc_heap_search.specs.declared.traits.Member.{Member}
-use Rattle.abc_heap_search.specs.declared.traits.Member.TheVariants as members
+use Rattle.abc_link_names.specs.Linked.{LinkedFile}
+use Rattle.abc_link_names.specs.Tree.{IsBelow}
+use Rattle.abc_link_names.proofs.Tree.{below_self}
+use Rattle.abc_objects.specs.Candidates.{Candidate, OfElement, OfLength, OfProperty, OfTrait, answer, candidates_on, elements, elements_from, fits, found, found_as, holder_of, is_answer, named, own_things, properties, property_at, things_along, traits, where_public}
+use Rattle.abc_objects.specs.Objects.{delegate_at, global_number}
+use Rattle.abc_objects.specs.Results.{passes_over, skip_for}
+use Rattle.abc_objects.specs.Scopes.{InHost, InScope, InScript, Place, has, no_node, node_at, parent_at, places, saved_places, scope_named, scope_number}
+use Rattle.abc_objects.specs.Searches.{declared_found, found_in_scopes, found_on}
+use Rattle.abc_objects.specs.Spaces.{holds_public}
+use Rattle.abc_objects.specs.declared.found.Found.TheVariants as founds
+use Rattle.abc_objects.specs.declared.found.ScopeFound.TheVariants as results
+use Rattle.abc_objects.specs.declared.found.Want.{Want}
+use Rattle.abc_objects.specs.declared.found.Want.TheVariants as wants
+use Rattle.abc_objects.specs.declared.name.Name.{Name}
+use Rattle.abc_objects.specs.declared.traits.Member.{Member}
+use Rattle.abc_objects.specs.declared.traits.Member.TheVariants as members
 use Rattle.abc_verify_typing.specs.Lists.{Each}
 use Rattle.abc_verify_typing.proofs.Lists.{Each-append, Each-map, Each-reverse}
 use Rattle.abc_verify_typing.proofs.Member.{and_right}

@@ -14,8 +14,8 @@ use Rattle.abc_heap_store.specs.declared.records.What.TheVariants.{Plain}
 use Rattle.abc_objects.specs.Stands.{host_layout}
 use Rattle.abc_objects.specs.Starts.{start_values}
 use Rattle.abc_objects.specs.Values.{Exists, IsObject}
-use Rattle.abc_link_program.specs.declared.part.Part.TheVariants as parts
-use Rattle.abc_link_program.specs.declared.types.Kind.TheVariants.{Any}
+use Rattle.abc_link_names.specs.declared.part.Part.TheVariants as parts
+use Rattle.abc_link_names.specs.declared.types.Kind.TheVariants.{Any}
 use Rattle.abc_verify_typing.specs.Lists.{Each, Each2}
 use Rattle.abc_verify_typing.specs.declared.state.State.{State}
 use Rattle.abc_verify_typing.proofs.Lists.{Each-reverse}
@@ -117,7 +117,7 @@ module _ (p : Setting) (file : FileGiven p) (typings : Typings) (typed : AreTypi
   pub waiting_on : (w n : World) (fs : List Frame) → Leaves p w n → Each (WaitingSound p typings w.heap) fs → Each (WaitingSound p typings n.heap) fs
   waiting_on w n fs l ws = all_waiting_on p w.heap n.heap l.grows typings fs ws
 
-  no_array : (c : HostClass) → IsError c → ◌≡◌ {A = Rattle.abc_link_program.specs.declared.part.Part.Part} (parts.Host c) (parts.Host hosts.Array) → ⊥
+  no_array : (c : HostClass) → IsError c → ◌≡◌ {A = Rattle.abc_link_names.specs.declared.part.Part.Part} (parts.Host c) (parts.Host hosts.Array) → ⊥
   no_array hosts.TypeError e q = cc
   no_array hosts.ReferenceError e q = cc
   no_array hosts.ArgumentError e q = cc

@@ -8,9 +8,9 @@ use Rattle.abc_heap_values.specs.declared.values.Value.{Value}
 use Rattle.abc_objects.specs.Stands.{IsScope}
 use Rattle.abc_objects.specs.Values.{Exists}
 use Rattle.abc_objects.proofs.Grown.{scope_grown}
-use Rattle.abc_link_program.specs.Kinds.{IsAtMost}
-use Rattle.abc_link_program.specs.declared.types.Kind.{Kind}
-use Rattle.abc_link_program.specs.declared.types.Kind.TheVariants.{Any}
+use Rattle.abc_link_names.specs.Kinds.{IsAtMost}
+use Rattle.abc_link_names.specs.declared.types.Kind.{Kind}
+use Rattle.abc_link_names.specs.declared.types.Kind.TheVariants.{Any}
 use Rattle.abc_verify_typing.specs.Instructions.{operand}
 use Rattle.abc_verify_typing.specs.Rows.{Shape}
 use Rattle.abc_verify_typing.specs.declared.row.Leads.TheVariants.{Next}

@@ -21,14 +21,15 @@ use Rattle.abc_objects.specs.Starts.{start_values}
 use Rattle.abc_objects.proofs.Made.{host_found, object_slots, part_found, slots_are}
 use Rattle.abc_objects.proofs.Opened.{objects_length, opening_stands}
 use Rattle.abc_objects.proofs.Started.{starts_exist}
-use Rattle.abc_link_program.specs.Linked.{IsLinkedFile, LinkedFile, layout_of}
-use Rattle.abc_link_program.specs.Parts.{HasLayout}
-use Rattle.abc_link_program.specs.Places.{host_number}
-use Rattle.abc_link_program.specs.Slots.{HasFewSlots, own_slots, slots_of}
-use Rattle.abc_link_program.specs.declared.part.Part.{Part}
-use Rattle.abc_link_program.specs.declared.part.Part.TheVariants as parts
-use Rattle.abc_link_program.specs.declared.types.SlotInfo.{SlotInfo}
-use Rattle.abc_link_program.specs.declared.types.Ty.TheVariants as types
+use Rattle.abc_link_names.specs.Linked.{IsLinkedFile, LinkedFile, layout_of}
+use Rattle.abc_link_names.specs.Parts.{HasLayout}
+use Rattle.abc_link_names.specs.Places.{host_number}
+use Rattle.abc_link_names.proofs.FewSlots.{few_slots}
+use Rattle.abc_link_names.specs.Slots.{own_slots, slots_of}
+use Rattle.abc_link_names.specs.declared.part.Part.{Part}
+use Rattle.abc_link_names.specs.declared.part.Part.TheVariants as parts
+use Rattle.abc_link_names.specs.declared.types.SlotInfo.{SlotInfo}
+use Rattle.abc_link_names.specs.declared.types.Ty.TheVariants as types
 use Rattle.abc_link_names.specs.declared.start.Start.TheVariants as starts
 use Rattle.abc_verify_typing.specs.Lists.{Each}
 use Rattle.abc_verify_typing.proofs.Lists.{Each-append, Each-at}
@@ -40,7 +41,7 @@ use Rattle.abc_meaning_sound.proofs.Growing.{first_is}
 use Rattle.abc_meaning_sound.proofs.Lists.{each2_put}
 use Rattle.abc_meaning_sound.proofs.Begun.{starts_hold}
 
-module _ (p : Setting) (linked : IsLinkedFile p.linked) (few : HasFewSlots p.linked) (limits : Limits) (h : Heap) (z : StandsOver p.linked h) where
+module _ (p : Setting) (linked : IsLinkedFile p.linked) (limits : Limits) (h : Heap) (z : StandsOver p.linked h) where
   abbrev l : LinkedFile
   l = p.linked
 
@@ -132,13 +133,13 @@ begins_sound p typings limits v counted small =
     let count = length-map p.formulas (λ (f : Formula). f.name) in
     let host = v.host.few in
     let some : length fs ≤ 64 = subst (λ (n : ℕ). n ≤ 64) (sym count) host in
-    let z = opening_stands p.linked fs limits v.linked (starts_exist p.linked v.linked v.few) some in
+    let z = opening_stands p.linked fs limits v.linked (starts_exist p.linked v.linked (few_slots p.linked v.linked)) some in
     let long : 14 ≤ length h.objects = subst (λ (n : ℕ). 14 ≤ n) (sym (objects_length p.linked fs)) (omega arith) in
     let n = not_small h small in
     record {
       world = record {
         stands = z;
-        objects = λ o ob e. Each-at (ObjectSound p h) h.objects o ob (all_opened p v.linked v.few limits h z fs long) e;
+        objects = λ o ob e. Each-at (ObjectSound p h) h.objects o ob (all_opened p v.linked limits h z fs long) e;
         formulas = refl;
         scripts = length-replicate (length p.linked.file.scripts) false;
         within = record { objects = n.0; cells = n.1; text = omega arith; counted = counted };

@@ -19,23 +19,23 @@ use Rattle.abc_objects.specs.Stands.{AreEntries, IsMadeAlone, host_layout}
 use Rattle.abc_objects.specs.Values.{Exists, IsObject}
 use Rattle.abc_objects.proofs.Grown.{scope_grown}
 use Rattle.abc_objects.proofs.Made.{prototype_is}
-use Rattle.abc_link_program.specs.Linked.{above, layout_of}
-use Rattle.abc_link_program.specs.Owners.{body_of, owner_of}
-use Rattle.abc_link_program.specs.Tree.{IsBelow}
-use Rattle.abc_link_program.specs.declared.part.LayoutId.{LayoutId}
-use Rattle.abc_link_program.specs.declared.part.Part.TheVariants as parts
-use Rattle.abc_link_program.specs.declared.types.Kind.{Kind}
-use Rattle.abc_link_program.specs.declared.types.Kind.TheVariants as kinds
-use Rattle.abc_link_program.specs.declared.types.Owner.{Owner}
-use Rattle.abc_link_program.specs.declared.types.Owner.TheVariants as owners
-use Rattle.abc_link_program.proofs.Tree.{below_above, below_self, below_trans}
+use Rattle.abc_link_names.specs.Linked.{above, layout_of}
+use Rattle.abc_link_names.specs.Owners.{body_of, owner_of}
+use Rattle.abc_link_names.specs.Tree.{IsBelow}
+use Rattle.abc_link_names.specs.declared.part.LayoutId.{LayoutId}
+use Rattle.abc_link_names.specs.declared.part.Part.TheVariants as parts
+use Rattle.abc_link_names.specs.declared.types.Kind.{Kind}
+use Rattle.abc_link_names.specs.declared.types.Kind.TheVariants as kinds
+use Rattle.abc_link_names.specs.declared.types.Owner.{Owner}
+use Rattle.abc_link_names.specs.declared.types.Owner.TheVariants as owners
+use Rattle.abc_link_names.proofs.Tree.{below_above, below_self, below_trans}
 use Rattle.abc_link_names.specs.Bases.{base_graph, base_named}
-use Rattle.abc_link_names.specs.Parts.{class_at}
-use Rattle.abc_heap_search.specs.declared.found.Found.{Found}
-use Rattle.abc_heap_search.specs.declared.found.Found.TheVariants as founds
-use Rattle.abc_heap_search.specs.declared.found.Want.{Want}
-use Rattle.abc_heap_search.specs.declared.found.Want.TheVariants as wants
-use Rattle.abc_heap_search.specs.declared.name.Name.{Name}
+use Rattle.abc_link_names.specs.PartsByNumber.{class_at}
+use Rattle.abc_objects.specs.declared.found.Found.{Found}
+use Rattle.abc_objects.specs.declared.found.Found.TheVariants as founds
+use Rattle.abc_objects.specs.declared.found.Want.{Want}
+use Rattle.abc_objects.specs.declared.found.Want.TheVariants as wants
+use Rattle.abc_objects.specs.declared.name.Name.{Name}
 use Rattle.abc_verify_typing.specs.Instructions.{operand}
 use Rattle.abc_verify_typing.specs.Rows.{Shape, makes, naming, only, row, row_at, table, value, with_args}
 use Rattle.abc_verify_typing.specs.declared.row.Need.{Need}
@@ -286,7 +286,7 @@ module _ (p : Setting) (file : FileGiven p) (ops : OpsGiven p) (search : SearchG
   scope_object_fares op r c x what s alone names sound =
       let w = c.world in
       let d = prototype_for hosts.Object w in
-      then_fares p w _ _ _ _ (new_object_fares p file w x.0 d what c.ready.world (record { layout = s.layout; no_array = s.no_array; delegate_is = prototype_is p.linked w.heap (14 + Rattle.abc_link_program.specs.Places.host_number hosts.Object) c.ready.world.stands; alone = alone; names = names; what_is = sound; part = s.part w.heap; first_of = s.first_of })) (λ n o l h.
+      then_fares p w _ _ _ _ (new_object_fares p file w x.0 d what c.ready.world (record { layout = s.layout; no_array = s.no_array; delegate_is = prototype_is p.linked w.heap (14 + Rattle.abc_link_names.specs.Places.host_number hosts.Object) c.ready.world.stands; alone = alone; names = names; what_is = sound; part = s.part w.heap; first_of = s.first_of })) (λ n o l h.
       done_fares p n (Obj o) _ l.sound (record { exists = h.0; kind = (h.0, subst (λ y. IsBelow p.linked y x.0) (sym h.1) (below_self p.linked x.0)) }))
 
   newactivation : Sound p file ops typings typed 0x57 (only WithActivation (row [] (ActivationKind ∷ []))) (gives makes_activation)

@@ -8,9 +8,9 @@ use Rattle.abc_heap_values.specs.declared.values.Value.TheVariants.{Null, Space}
 use Rattle.abc_heap_store.specs.Heap.{Heap}
 use Rattle.abc_heap_store.specs.Texts.{IsText}
 use Rattle.abc_objects.proofs.Grown.{text_grown}
-use Rattle.abc_link_program.specs.declared.types.Kind.{Kind}
-use Rattle.abc_link_program.specs.declared.types.Kind.TheVariants as kinds
-use Rattle.abc_heap_search.specs.declared.name.Name.{Name}
+use Rattle.abc_link_names.specs.declared.types.Kind.{Kind}
+use Rattle.abc_link_names.specs.declared.types.Kind.TheVariants as kinds
+use Rattle.abc_objects.specs.declared.name.Name.{Name}
 use Rattle.abc_verify_typing.specs.Instructions.{operand}
 use Rattle.abc_verify_typing.specs.Rows.{Shape}
 use Rattle.abc_verify_typing.specs.declared.row.Need.{Need}
@@ -158,13 +158,13 @@ form_found : (p : Setting) (o : Option Multiname) → is_name o ≡ true → IsF
 form_found p None e = absurd (false≢true e)
 form_found p (Some (names.QName false ns n)) e = record { form = Whole (record { spaces = Rattle.abc_meaning.specs.Setting.spaces_of ns; text = string_of p n }); is = refl; parts = refl; text = λ h. string_there p h n }
 form_found p (Some (names.QName true ns n)) e = absurd (false≢true e)
-form_found p (Some (names.Multi false n set)) e = record { form = Whole (record { spaces = Rattle.abc_heap_search.specs.declared.name.Spaces.TheVariants.Set set; text = string_of p n }); is = refl; parts = refl; text = λ h. string_there p h n }
+form_found p (Some (names.Multi false n set)) e = record { form = Whole (record { spaces = Rattle.abc_objects.specs.declared.name.Spaces.TheVariants.Set set; text = string_of p n }); is = refl; parts = refl; text = λ h. string_there p h n }
 form_found p (Some (names.Multi true n set)) e = absurd (false≢true e)
 form_found p (Some (names.Rt false n)) e = record { form = NoSpace (string_of p n); is = refl; parts = refl; text = λ h. string_there p h n }
 form_found p (Some (names.Rt true n)) e = absurd (false≢true e)
 form_found p (Some (names.RtL false)) e = record { form = NoPart; is = refl; parts = refl; text = λ h. tt }
 form_found p (Some (names.RtL true)) e = absurd (false≢true e)
-form_found p (Some (names.MultiL false set)) e = record { form = NoText (Rattle.abc_heap_search.specs.declared.name.Spaces.TheVariants.Set set); is = refl; parts = refl; text = λ h. tt }
+form_found p (Some (names.MultiL false set)) e = record { form = NoText (Rattle.abc_objects.specs.declared.name.Spaces.TheVariants.Set set); is = refl; parts = refl; text = λ h. tt }
 form_found p (Some (names.MultiL true set)) e = absurd (false≢true e)
 form_found p (Some (names.TypeName base params)) e = absurd (false≢true e)
 

@@ -8,15 +8,15 @@ use Rattle.abc_heap_values.specs.declared.values.Value.{Value}
 use Rattle.abc_heap_values.specs.declared.values.Value.TheVariants.{Null, Num, Space, Obj}
 use Rattle.abc_heap_store.specs.Heap.{object_at}
 use Rattle.abc_objects.specs.Values.{Holds, IsObject}
-use Rattle.abc_link_program.specs.Linked.{IsLinkedFile, LinkedFile, above}
-use Rattle.abc_link_program.specs.Slots.{slot_numbered, slots_of}
-use Rattle.abc_link_program.specs.Tree.{IsBelow, up}
-use Rattle.abc_link_program.specs.Types.{kind_of_type}
-use Rattle.abc_link_program.specs.declared.part.LayoutId.{LayoutId}
-use Rattle.abc_link_program.specs.declared.types.Kind.{Kind}
-use Rattle.abc_link_program.specs.declared.types.Kind.TheVariants as kinds
-use Rattle.abc_link_program.specs.declared.types.SlotInfo.{SlotInfo}
-use Rattle.abc_link_program.proofs.Tree.{below_trans}
+use Rattle.abc_link_names.specs.Linked.{IsLinkedFile, LinkedFile, above}
+use Rattle.abc_link_names.specs.Slots.{slot_numbered, slots_of}
+use Rattle.abc_link_names.specs.Tree.{IsBelow, up}
+use Rattle.abc_link_names.specs.Types.{kind_of_type}
+use Rattle.abc_link_names.specs.declared.part.LayoutId.{LayoutId}
+use Rattle.abc_link_names.specs.declared.types.Kind.{Kind}
+use Rattle.abc_link_names.specs.declared.types.Kind.TheVariants as kinds
+use Rattle.abc_link_names.specs.declared.types.SlotInfo.{SlotInfo}
+use Rattle.abc_link_names.proofs.Tree.{below_trans}
 use Rattle.abc_verify_typing.specs.Instructions.{operand, second}
 use Rattle.abc_verify_typing.specs.Rows.{Shape}
 use Rattle.abc_verify_typing.specs.declared.row.Locals.{Locals}

@@ -1,6 +1,6 @@
 -- What is given of a verified file, all together.
 use Rattle.abc_objects.proofs.Started.{stored}
-use Rattle.abc_link_program.specs.Linked.{IsLinkedFile}
+use Rattle.abc_link_names.specs.Linked.{IsLinkedFile}
 use Rattle.abc_meaning.specs.Setting.{Setting}
 use Rattle.abc_meaning_sound.specs.Given.{FileGiven}
 use Rattle.abc_meaning_sound.proofs.Begun.{starts_hold}

@@ -10,8 +10,8 @@ use Rattle.abc_meaning.specs.ThrowLaws.{IsVerified}
 use Rattle.abc_meaning.specs.Sound.{AreTypings, FrameSound, IsOfKind, ScopeHolds, Typings, WaitSound, WaitingSound}
 use Rattle.abc_objects.specs.Values.{Exists, IsObject}
 use Rattle.abc_meaning_sound.proofs.Sounded.{place_counted}
-use Rattle.abc_link_program.specs.Linked.{LinkedFile}
-use Rattle.abc_link_program.specs.declared.types.Kind.{Kind}
+use Rattle.abc_link_names.specs.Linked.{LinkedFile}
+use Rattle.abc_link_names.specs.declared.types.Kind.{Kind}
 use Rattle.abc_meaning_sound.proofs.Lists.{each_at}
 use Rattle.abc_frames.specs.Frame.{Frame}
 use Rattle.abc_frames.specs.declared.records.Wait.{Wait}

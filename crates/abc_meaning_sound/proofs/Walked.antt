@@ -17,8 +17,8 @@ use Rattle.abc_heap_store.specs.What.{is_array}
 use Rattle.abc_objects.specs.Stands.{ObjectStands}
 use Rattle.abc_objects.specs.Values.{Exists}
 use Rattle.abc_objects.proofs.Reshaped.{object_there}
-use Rattle.abc_link_program.specs.declared.types.Kind.TheVariants as kinds
-use Rattle.abc_heap_search.specs.Objects.{delegate_at}
+use Rattle.abc_link_names.specs.declared.types.Kind.TheVariants as kinds
+use Rattle.abc_objects.specs.Objects.{delegate_at}
 use Rattle.abc_verify_typing.specs.Instructions.{local, second}
 use Rattle.abc_verify_typing.specs.Rows.{Shape, makes, on_locals, row_at, table}
 use Rattle.abc_verify_typing.specs.declared.row.Locals.TheVariants.{Walks}

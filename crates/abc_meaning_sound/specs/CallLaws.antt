@@ -7,7 +7,7 @@ use Rattle.abc_meaning.specs.Fair.{IsFairPart}
 use Rattle.abc_objects.specs.Opening.{formula_names}
 use Rattle.abc_objects.specs.Values.{Exists}
 use Rattle.abc_meaning.specs.Front.{IsFront}
-use Rattle.abc_link_program.specs.Linked.{LinkedFile}
+use Rattle.abc_link_names.specs.Linked.{LinkedFile}
 use Rattle.abc_verify_typing.specs.Lists.{Each}
 use Rattle.abc_meaning.specs.Setting.{Setting}
 use Rattle.abc_meaning.specs.World.{World}

@@ -1,5 +1,5 @@
 -- What is proved of a linked file.
-use Rattle.abc_link_program.specs.Linked.{IsLinkedFile}
+use Rattle.abc_link_names.specs.Linked.{IsLinkedFile}
 use Rattle.abc_meaning_sound.specs.Given.{FileGiven, ScopesGiven}
 use Rattle.abc_meaning.specs.Setting.{Setting}
 

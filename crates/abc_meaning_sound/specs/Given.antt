@@ -17,21 +17,21 @@ use Rattle.abc_link_names.specs.declared.named.Named.TheVariants as named
 use Rattle.abc_objects.specs.Stands.{IsScope, StandsOver, array_layout}
 use Rattle.abc_objects.specs.Starts.{start_values}
 use Rattle.abc_objects.specs.Values.{Exists, IsObject}
-use Rattle.abc_link_program.specs.ClassBases.{BaseKnown}
-use Rattle.abc_link_program.specs.Linked.{IsLinkedFile, LinkedFile}
-use Rattle.abc_link_program.specs.Numbering.{part_at}
-use Rattle.abc_link_program.specs.Owners.{owner_of}
-use Rattle.abc_link_program.specs.Slots.{slots_of}
-use Rattle.abc_link_program.specs.Tree.{IsBelow}
-use Rattle.abc_link_program.specs.Types.{kind_of_type, type_of}
-use Rattle.abc_link_program.specs.declared.part.LayoutId.{LayoutId}
-use Rattle.abc_link_program.specs.declared.types.Kind.{Kind}
-use Rattle.abc_link_program.specs.declared.types.Kind.TheVariants as kinds
-use Rattle.abc_link_program.specs.declared.types.Owner.{Owner}
-use Rattle.abc_link_program.specs.declared.types.Owner.TheVariants as owners
-use Rattle.abc_link_program.specs.declared.types.Ty.{Ty}
+use Rattle.abc_link_names.specs.ClassBases.{BaseKnown}
+use Rattle.abc_link_names.specs.Linked.{IsLinkedFile, LinkedFile}
+use Rattle.abc_link_names.specs.Numbering.{part_at}
+use Rattle.abc_link_names.specs.Owners.{owner_of}
+use Rattle.abc_link_names.specs.Slots.{slots_of}
+use Rattle.abc_link_names.specs.Tree.{IsBelow}
+use Rattle.abc_link_names.specs.Types.{kind_of_type, type_of}
+use Rattle.abc_link_names.specs.declared.part.LayoutId.{LayoutId}
+use Rattle.abc_link_names.specs.declared.types.Kind.{Kind}
+use Rattle.abc_link_names.specs.declared.types.Kind.TheVariants as kinds
+use Rattle.abc_link_names.specs.declared.types.Owner.{Owner}
+use Rattle.abc_link_names.specs.declared.types.Owner.TheVariants as owners
+use Rattle.abc_link_names.specs.declared.types.Ty.{Ty}
 use Rattle.abc_link_names.specs.Bases.{base_graph, base_named, is_interface}
-use Rattle.abc_link_names.specs.Parts.{class_at, script_at}
+use Rattle.abc_link_names.specs.PartsByNumber.{class_at, script_at}
 use Rattle.abc_link_names.specs.Starts.{int_at, uint_at}
 use Rattle.abc_verify_typing.specs.Instructions.{opcode, targets}
 use Rattle.abc_verify_typing.specs.Rows.{Shape, row_at}
@@ -39,14 +39,14 @@ use Rattle.abc_verify_typing.specs.declared.row.Leads.{Leads as Leading}
 use Rattle.abc_verify_typing.specs.declared.row.Leads.TheVariants.{Branches, Jumps, Switches}
 use Rattle.abc_file_types.specs.declared.code.Instr.{Instr}
 use Rattle.abc_link_names.specs.Instances.{instance_at}
-use Rattle.abc_heap_search.specs.Searches.{declared_found, found_in_scopes, found_on}
-use Rattle.abc_heap_search.specs.declared.found.Found.{Found}
-use Rattle.abc_heap_search.specs.declared.found.Found.TheVariants as founds
-use Rattle.abc_heap_search.specs.declared.found.ScopeFound.{ScopeFound}
-use Rattle.abc_heap_search.specs.declared.found.ScopeFound.TheVariants as results
-use Rattle.abc_heap_search.specs.declared.found.Want.{Want}
-use Rattle.abc_heap_search.specs.declared.found.Want.TheVariants as wants
-use Rattle.abc_heap_search.specs.declared.name.Name.{Name}
+use Rattle.abc_objects.specs.Searches.{declared_found, found_in_scopes, found_on}
+use Rattle.abc_objects.specs.declared.found.Found.{Found}
+use Rattle.abc_objects.specs.declared.found.Found.TheVariants as founds
+use Rattle.abc_objects.specs.declared.found.ScopeFound.{ScopeFound}
+use Rattle.abc_objects.specs.declared.found.ScopeFound.TheVariants as results
+use Rattle.abc_objects.specs.declared.found.Want.{Want}
+use Rattle.abc_objects.specs.declared.found.Want.TheVariants as wants
+use Rattle.abc_objects.specs.declared.name.Name.{Name}
 use Rattle.abc_file_types.specs.declared.methods.Method.{Method}
 use Rattle.abc_file_types.specs.declared.methods.OptionValue.{OptionValue}
 use Rattle.abc_verify_typing.specs.Effects.{sum_kind}
@@ -62,6 +62,7 @@ use Rattle.abc_meaning.specs.World.{Went, World}
 use Rattle.abc_meaning.specs.Simple.{whole}
 use Rattle.abc_meaning.specs.Sound.{IsFirstOf, IsOfKind, PartSound, SlotHolds, WorldSound}
 use Rattle.abc_meaning_sound.specs.Keeping.{Fares}
+use Rattle.abc_file_types.specs.declared.op.TheConstants as op
 
 -- ---- the file
 
@@ -144,10 +145,10 @@ conversion_kind ConvertO = kinds.Any
 conversion_kind to = kinds.Num
 
 abbrev pub single_kind : ℕ → Kind
-single_kind op = if nat_eq op 0x95 then kinds.Text else (if nat_eq op 0x96 then kinds.Bool else kinds.Num)
+single_kind code = if nat_eq code op.TYPEOF then kinds.Text else (if nat_eq code op.NOT then kinds.Bool else kinds.Num)
 
 abbrev pub double_kind : ℕ → Kind → Kind → Kind
-double_kind op k m = if nat_eq op 0xA0 then sum_kind k m else kinds.Num
+double_kind code k m = if nat_eq code op.ADD then sum_kind k m else kinds.Num
 
 pub record OpsGiven (p : Setting) : Type 0 where
   pub spell : (w : World) (v : Value) → WorldSound p w → Exists p.linked w.heap v → Fares p w (spells p v w) (λ n t. IsText p.linked.file.strings n.heap t)

@@ -11,3 +11,4 @@ pub mod Premise
 pub mod ProgressLaws
 pub mod CallLaws
 pub mod Placed
+pub mod Examples

@@ -1,5 +1,5 @@
 -- What is proved: all operations leave a sound world, and what they answer is there and of its kind.
-use Rattle.abc_link_program.specs.Linked.{IsLinkedFile}
+use Rattle.abc_link_names.specs.Linked.{IsLinkedFile}
 use Rattle.abc_meaning_sound.specs.Given.{OpsGiven}
 use Rattle.abc_meaning.specs.Setting.{Setting}
 

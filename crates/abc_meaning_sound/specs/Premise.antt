@@ -6,7 +6,7 @@ use Rattle.abc_meaning.specs.ThrowLaws.{IsVerified}
 use Rattle.abc_meaning.specs.Meaning.{first_state}
 use Rattle.abc_meaning.specs.Sound.{AreTypings, IsSound, Typings}
 use Rattle.abc_objects.specs.Opening.{formula_names}
-use Rattle.abc_link_program.specs.Linked.{LinkedFile}
+use Rattle.abc_link_names.specs.Linked.{LinkedFile}
 use Rattle.abc_frames.specs.Frame.{Frame}
 use Rattle.abc_meaning.specs.Setting.{Setting}
 use Rattle.abc_meaning.specs.World.{World}

@@ -28,6 +28,7 @@
 #![tactic(auto)]
 
 mod call_laws;
+mod example_laws;
 mod fault_laws;
 mod file_laws;
 mod frame_laws;
@@ -43,6 +44,7 @@ pub use call_laws::{
     calls_append, calls_are_fair, calls_begin_sound, calls_give_there, calls_leave_sound,
     names_alone_matter, runs_leave_sound,
 };
+pub use example_laws::examples_hold;
 pub use fault_laws::{calls_can_be_told, ends_can_be_told};
 pub use file_laws::{files_give, scopes_have_layouts};
 pub use frame_laws::frames_stay_sound;

@@ -17,13 +17,13 @@ use Rattle.abc_heap_store.specs.declared.store.ClassParts.{ClassParts}
 use Rattle.abc_heap_store.specs.Changes.{with_class, with_made, with_scopes, with_slot, with_more_slots, bare}
 use Rattle.abc_heap_store.specs.Scopes.{nodes, top, scope_id}
 use Rattle.abc_heap_store.proofs.Makes.{change_last, nodes_length}
-use Rattle.abc_link_program.specs.Linked.{LinkedFile, IsLinkedFile, layout_of}
-use Rattle.abc_link_program.specs.Numbering.{part_at}
-use Rattle.abc_link_program.specs.Parts.{parent}
-use Rattle.abc_link_program.specs.Slots.{own_slots, slots_of as slots_of_layout}
-use Rattle.abc_link_program.specs.declared.part.Part.{Part}
-use Rattle.abc_link_program.specs.declared.part.Part.TheVariants as parts
-use Rattle.abc_link_program.specs.declared.types.SlotInfo.{SlotInfo}
+use Rattle.abc_link_names.specs.Linked.{LinkedFile, IsLinkedFile, layout_of}
+use Rattle.abc_link_names.specs.Numbering.{part_at}
+use Rattle.abc_link_names.specs.Parts.{parent}
+use Rattle.abc_link_names.specs.Slots.{own_slots, slots_of as slots_of_layout}
+use Rattle.abc_link_names.specs.declared.part.Part.{Part}
+use Rattle.abc_link_names.specs.declared.part.Part.TheVariants as parts
+use Rattle.abc_link_names.specs.declared.types.SlotInfo.{SlotInfo}
 use Rattle.abc_objects.specs.Starts.{start_value, start_values}
 use Rattle.abc_objects.specs.Values.{Exists}
 use Rattle.abc_objects.proofs.Made.{fixed_long, part_found, host_found, over_made_object, older, slots_are, start_there}

@@ -13,10 +13,10 @@ use Rattle.abc_heap_store.specs.declared.records.What.{What}
 use Rattle.abc_heap_store.specs.declared.records.What.TheVariants as whats
 use Rattle.abc_heap_store.specs.Heap.{Heap, Object, object_at}
 use Rattle.abc_heap_store.specs.Texts.{IsText, part_of}
-use Rattle.abc_link_program.specs.Linked.{LinkedFile}
-use Rattle.abc_link_program.specs.Tree.{IsBelow}
-use Rattle.abc_link_program.specs.declared.types.Kind.{Kind}
-use Rattle.abc_link_program.specs.declared.types.Kind.TheVariants as kinds
+use Rattle.abc_link_names.specs.Linked.{LinkedFile}
+use Rattle.abc_link_names.specs.Tree.{IsBelow}
+use Rattle.abc_link_names.specs.declared.types.Kind.{Kind}
+use Rattle.abc_link_names.specs.declared.types.Kind.TheVariants as kinds
 use Rattle.abc_objects.specs.Values.{Exists, Holds}
 use Rattle.abc_objects.specs.Growing.{Grows, Keeps}
 use Rattle.abc_objects.specs.Opening.{opening_objects, opening_scopes}

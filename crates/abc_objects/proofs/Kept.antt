@@ -12,7 +12,7 @@ use Rattle.abc_heap_store.specs.Changes.{change, with_object, with_scopes}
 use Rattle.abc_heap_store.specs.Scopes.{nodes, top, scope_id}
 use Rattle.abc_heap_store.proofs.Arrays.{length_change}
 use Rattle.abc_heap_store.proofs.Makes.{nodes_length}
-use Rattle.abc_link_program.specs.Linked.{LinkedFile}
+use Rattle.abc_link_names.specs.Linked.{LinkedFile}
 use Rattle.abc_objects.specs.Growing.{Grows, Keeps}
 use Rattle.abc_objects.specs.Stands.{StandsOver, ObjectStands, ScopeStands, IsScope, IsBeneath, AreEntries, host_class_number}
 use Rattle.abc_objects.proofs.Grown.{keeps_self, keeps_same, object_grown, opening_grown, scope_stands_grown}

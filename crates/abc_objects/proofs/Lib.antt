@@ -10,3 +10,11 @@ pub mod Opened
 pub mod Started
 pub mod Steps
 pub mod Lined
+mod Firsts
+mod Hiding
+mod There
+mod Examples
+pub mod Joins
+mod Objectless
+mod SlotsFound
+mod MethodsFound

@@ -17,17 +17,17 @@ use Rattle.abc_heap_store.specs.Scopes.{top}
 use Rattle.abc_heap_store.specs.declared.records.ScopeEntry.{ScopeEntry}
 use Rattle.abc_base.specs.declared.names.HostClass.{HostClass}
 use Rattle.abc_base.specs.declared.names.HostClass.TheVariants as hosts
-use Rattle.abc_link_program.specs.Linked.{LinkedFile, IsLinkedFile, base, layout_of}
-use Rattle.abc_link_program.specs.Parts.{HasLayout, parent}
-use Rattle.abc_link_program.specs.Places.{place_under}
+use Rattle.abc_link_names.specs.Linked.{LinkedFile, IsLinkedFile, base, layout_of}
+use Rattle.abc_link_names.specs.Parts.{HasLayout, parent}
+use Rattle.abc_link_names.specs.Places.{place_under}
 use Rattle.abc_base_graphs.specs.Heirs.{heritage}
 use Rattle.abc_base_graphs.proofs.Laid.{heritage_none, heritage_some}
-use Rattle.abc_link_program.specs.Numbering.{part_at}
-use Rattle.abc_link_program.specs.declared.part.Part.{Part}
-use Rattle.abc_link_program.specs.declared.part.Part.TheVariants as parts
-use Rattle.abc_link_program.proofs.Finding.{place_low, falling}
-use Rattle.abc_link_program.specs.Slots.{slots_of, own_slots}
-use Rattle.abc_link_program.specs.declared.types.SlotInfo.{SlotInfo}
+use Rattle.abc_link_names.specs.Numbering.{part_at}
+use Rattle.abc_link_names.specs.declared.part.Part.{Part}
+use Rattle.abc_link_names.specs.declared.part.Part.TheVariants as parts
+use Rattle.abc_link_names.proofs.Finding.{place_low, falling}
+use Rattle.abc_link_names.specs.Slots.{slots_of, own_slots}
+use Rattle.abc_link_names.specs.declared.types.SlotInfo.{SlotInfo}
 use Rattle.abc_link_names.specs.declared.start.Start.{Start}
 use Rattle.abc_link_names.specs.declared.start.Start.TheVariants as starts
 use Rattle.abc_objects.specs.Fixed.{fixed_bytes}

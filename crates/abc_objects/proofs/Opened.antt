@@ -19,14 +19,14 @@ use Rattle.abc_heap_store.specs.declared.records.ScopeId.{ScopeId}
 use Rattle.abc_heap_store.specs.declared.records.What.{What}
 use Rattle.abc_heap_store.specs.declared.records.What.TheVariants as whats
 use Rattle.abc_link_names.specs.Meaning.{host_classes}
-use Rattle.abc_link_program.specs.Linked.{LinkedFile, IsLinkedFile, layout_of}
-use Rattle.abc_link_program.specs.Numbering.{part_at}
-use Rattle.abc_link_program.specs.Parts.{HasLayout, parent}
-use Rattle.abc_link_program.specs.Places.{host_number}
-use Rattle.abc_link_program.specs.Slots.{own_slots, slots_of}
-use Rattle.abc_link_program.specs.declared.part.Part.{Part}
-use Rattle.abc_link_program.specs.declared.part.Part.TheVariants as parts
-use Rattle.abc_link_program.specs.declared.types.SlotInfo.{SlotInfo}
+use Rattle.abc_link_names.specs.Linked.{LinkedFile, IsLinkedFile, layout_of}
+use Rattle.abc_link_names.specs.Numbering.{part_at}
+use Rattle.abc_link_names.specs.Parts.{HasLayout, parent}
+use Rattle.abc_link_names.specs.Places.{host_number}
+use Rattle.abc_link_names.specs.Slots.{own_slots, slots_of}
+use Rattle.abc_link_names.specs.declared.part.Part.{Part}
+use Rattle.abc_link_names.specs.declared.part.Part.TheVariants as parts
+use Rattle.abc_link_names.specs.declared.types.SlotInfo.{SlotInfo}
 use Rattle.abc_objects.specs.Fixed.{fixed_bytes}
 use Rattle.abc_objects.specs.Opening.{above_host, class_object, entry_of, function_object, function_objects, global_number, global_object, host_object, host_object_number, host_properties, opened, opening, opening_objects, property_names, prototype_id, prototype_object, spans_from}
 use Rattle.abc_objects.specs.Starts.{start_value, StartsExist}

@@ -8,7 +8,7 @@ use Rattle.abc_base.specs.declared.names.HostClass.{HostClass}
 use Rattle.abc_base.specs.declared.names.HostClass.TheVariants as hosts
 use Rattle.abc_heap_values.proofs.Parts.{slice_get_left}
 use Rattle.abc_link_names.specs.Meaning.{host_classes}
-use Rattle.abc_link_program.specs.Places.{host_number}
+use Rattle.abc_link_names.specs.Places.{host_number}
 use Rattle.abc_objects.proofs.Kept.{in_either}
 
 pub left_at : {X : Type 0} (xs ys : List X) (i : ℕ) (x : X) → slice_get xs i ≡ Some x → slice_get (xs ++ ys) i ≡ Some x

@@ -11,7 +11,7 @@ use Rattle.abc_heap_store.specs.What.{is_array}
 use Rattle.abc_heap_store.specs.Properties.{with_put, with_delete, put_at, delete_at, place_named, valued, filled}
 use Rattle.abc_heap_store.specs.Changes.{with_slot, with_element, with_new_element}
 use Rattle.abc_heap_store.proofs.Growth.{set_read}
-use Rattle.abc_link_program.specs.Linked.{LinkedFile}
+use Rattle.abc_link_names.specs.Linked.{LinkedFile}
 use Rattle.abc_objects.specs.Values.{Exists}
 use Rattle.abc_objects.specs.Stands.{StandsOver, IsProperty, Each}
 use Rattle.abc_objects.proofs.Kept.{Reshapes}

@@ -27,19 +27,19 @@ use Rattle.abc_link_names.specs.Meaning.{type_named}
 use Rattle.abc_link_names.specs.Pool.{no_space, space}
 use Rattle.abc_link_names.specs.declared.named.Named.{Named}
 use Rattle.abc_link_names.specs.declared.named.Named.TheVariants as named
-use Rattle.abc_link_program.proofs.Finding.{falling}
-use Rattle.abc_link_program.specs.Linked.{IsLinkedFile, LinkedFile, base, layout_of}
-use Rattle.abc_link_program.specs.Numbering.{part_at}
-use Rattle.abc_link_program.specs.Parts.{HasLayout}
-use Rattle.abc_link_program.specs.Slots.{HasFewSlots, handler_at, own_slots, slots_in, slots_of}
-use Rattle.abc_link_program.specs.Types.{type_in}
-use Rattle.abc_link_program.specs.declared.part.Part.{Part}
-use Rattle.abc_link_program.specs.declared.part.Part.TheVariants as parts
-use Rattle.abc_link_program.specs.declared.types.SlotInfo.{SlotInfo}
-use Rattle.abc_link_program.specs.declared.types.Ty.TheVariants as types
-use Rattle.abc_link_names.specs.Parts.{body_at, class_at, no_body, no_class, no_script, script_at}
+use Rattle.abc_link_names.proofs.Finding.{falling}
+use Rattle.abc_link_names.specs.Linked.{IsLinkedFile, LinkedFile, base, layout_of}
+use Rattle.abc_link_names.specs.Numbering.{part_at}
+use Rattle.abc_link_names.specs.Parts.{HasLayout}
+use Rattle.abc_link_names.specs.Slots.{HasFewSlots, handler_at, own_slots, slots_in, slots_of}
+use Rattle.abc_link_names.specs.Types.{type_in}
+use Rattle.abc_link_names.specs.declared.part.Part.{Part}
+use Rattle.abc_link_names.specs.declared.part.Part.TheVariants as parts
+use Rattle.abc_link_names.specs.declared.types.SlotInfo.{SlotInfo}
+use Rattle.abc_link_names.specs.declared.types.Ty.TheVariants as types
+use Rattle.abc_link_names.specs.PartsByNumber.{body_at, class_at, no_body, no_class, no_script, script_at}
 use Rattle.abc_link_names.specs.Starts.{coerced, default_of, host_default, int_at, number_of, raw_of, space_value, start_of, to_any, to_boolean, to_class, to_host, to_int, to_namespace, to_number, to_object, to_text, to_uint, to_void, uint_at}
-use Rattle.abc_link_names.specs.Traits.{type_or_any}
+use Rattle.abc_link_names.specs.ItemTypes.{type_or_any}
 use Rattle.abc_link_names.specs.declared.start.Raw.{Raw}
 use Rattle.abc_link_names.specs.declared.start.Raw.TheVariants as raws
 use Rattle.abc_link_names.specs.declared.start.Start.{Start}

@@ -26,13 +26,13 @@ use Rattle.abc_heap_store.specs.declared.records.ScopeNode.{ScopeNode}
 use Rattle.abc_heap_store.specs.declared.records.What.{What}
 use Rattle.abc_heap_store.specs.declared.records.What.TheVariants as whats
 use Rattle.abc_link_names.specs.Meaning.{host_classes}
-use Rattle.abc_link_program.specs.Linked.{LinkedFile, IsLinkedFile, layout_of}
-use Rattle.abc_link_program.specs.Places.{host_number}
-use Rattle.abc_link_program.specs.Slots.{slots_of}
-use Rattle.abc_link_program.specs.declared.part.LayoutId.{LayoutId}
-use Rattle.abc_link_program.specs.declared.part.Part.{Part}
-use Rattle.abc_link_program.specs.declared.part.Part.TheVariants as parts
-use Rattle.abc_link_program.specs.declared.types.SlotInfo.{SlotInfo}
+use Rattle.abc_link_names.specs.Linked.{LinkedFile, IsLinkedFile, layout_of}
+use Rattle.abc_link_names.specs.Places.{host_number}
+use Rattle.abc_link_names.specs.Slots.{slots_of}
+use Rattle.abc_link_names.specs.declared.part.LayoutId.{LayoutId}
+use Rattle.abc_link_names.specs.declared.part.Part.{Part}
+use Rattle.abc_link_names.specs.declared.part.Part.TheVariants as parts
+use Rattle.abc_link_names.specs.declared.types.SlotInfo.{SlotInfo}
 use Rattle.abc_objects.specs.Fixed.{fixed_bytes, in_fixed}
 use Rattle.abc_objects.specs.Opening.{IsWithin, above_host, class_object, entry_of, formula_names, formula_objects, function_object, function_objects, global_number, global_object, global_slots, host_object, host_properties, opened, opening, opening_counts, opening_objects, opening_scopes, part_zero, property_names, prototype_id, prototype_object, slot_count, slot_counts, spans_from, with_globals, with_more_properties, with_objects}
 use Rattle.abc_objects.specs.Starts.{start_value, start_values, StartsExist}

@@ -6,7 +6,7 @@ use Rattle.std.specs.declared.result.Result.TheVariants.{Ok, Err}
 use Rattle.std.proofs.lemmas.Option.{slice_get-map}
 use Rattle.std.proofs.lemmas.List.{length-map}
 use Rattle.abc_heap_values.specs.declared.values.Value.{Value}
-use Rattle.abc_link_program.specs.declared.types.SlotInfo.{SlotInfo}
+use Rattle.abc_link_names.specs.declared.types.SlotInfo.{SlotInfo}
 use Rattle.abc_objects.specs.Starts.{start_value, CanStart, IsShortStart}
 
 pub either_way : {T E : Type 0} (X : Type 0) (r : Result T E) (P : T → Type 0) (Q : E → Type 0) → MatchResult r P Q → ((x : T) → P x → X) → ((e : E) → Q e → X) → X

@@ -5,3 +5,12 @@ pub mod Growing
 pub mod Opening
 pub mod Stands
 pub mod Lines
+pub mod Objects
+pub mod Spaces
+pub mod Traits
+pub mod ElementNames
+pub mod Results
+pub mod Candidates
+pub mod Scopes
+pub mod Searches
+pub mod Laws

@@ -15,10 +15,10 @@ use Rattle.abc_heap_store.specs.Heap.{Heap, Object, obj_id, object_at, slots_of 
 use Rattle.abc_heap_values.specs.declared.values.Value.TheVariants as values
 use Rattle.abc_heap_store.specs.Texts.{IsText}
 use Rattle.abc_heap_store.specs.What.{is_array}
-use Rattle.abc_link_program.specs.Linked.{LinkedFile, IsLinkedFile, layout_of}
-use Rattle.abc_link_program.specs.Places.{host_number}
-use Rattle.abc_link_program.specs.Slots.{slots_of}
-use Rattle.abc_link_program.specs.declared.part.Part.TheVariants as parts
+use Rattle.abc_link_names.specs.Linked.{LinkedFile, IsLinkedFile, layout_of}
+use Rattle.abc_link_names.specs.Places.{host_number}
+use Rattle.abc_link_names.specs.Slots.{slots_of}
+use Rattle.abc_link_names.specs.declared.part.Part.TheVariants as parts
 use Rattle.abc_objects.specs.Fixed.{fixed_bytes}
 use Rattle.abc_objects.specs.Growing.{Keeps}
 use Rattle.abc_objects.specs.Opening.{opening_objects, opening_scopes}

@@ -1,4 +1,4 @@
-ghost use Rattle.std.specs.Prelude.{◌≡◌, ◌≢◌, ◌<◌, ◌≤◌, ◌+◌, ◌-◌, ◌^◌, ◌++◌, length, true, false, Some, None, slice_get, get_or, replicate, is_some, MatchResult, IfOk};
+ghost use Rattle.std.specs.Prelude.{◌≡◌, ◌≢◌, ◌<◌, ◌≤◌, ◌+◌, ◌-◌, ◌++◌, length, true, false, Some, None, slice_get, get_or, replicate, is_some, MatchResult, IfOk};
 ghost use Rattle.abc_heap_values.specs.declared.values.Value.TheVariants.{Undefined};
 ghost use Rattle.std.specs.Fmt.{signed_decimal};
 ghost use Rattle.abc_base.specs.Ranges.{IsNumber};
@@ -9,7 +9,7 @@ ghost use Rattle.abc_heap_store.specs.Properties.{place_in, property_in_heap, wi
 ghost use Rattle.abc_heap_store.specs.Changes.{with_object, with_slot, with_element, with_new_element, IsMade, IsFunctionMade, IsClassMade, IsArrayMade};
 ghost use Rattle.abc_heap_store.specs.declared.records.Limit.TheVariants.{Cells, Text};
 ghost use Rattle.abc_base.specs.declared.names.HostClass.TheVariants.{Function, Object};
-ghost use Rattle.abc_link_program.specs.Linked.{LinkedFile, IsLayout};
+ghost use Rattle.abc_link_names.specs.Linked.{LinkedFile, IsLayout};
 ghost use Rattle.abc_objects.specs.Fixed.{fixed_span, fixed_name};
 ghost use Rattle.abc_objects.specs.Opening.{IsOpened, IsUnopened, class_object as class_object_of, entry_of, formula_names, global_number, global_object, host_object as host_object_of, host_object_number, opening_counts, property_names};
 ghost use Rattle.abc_objects.specs.Stands.{StandsOver, IsMadeAs, IsObjectOrNone, IsScope, NamesParts, IsMadeAlone, AreEntries, Each, array_layout, array_prototype, class_object_layout, class_parts, host_class_number, host_layout, prototype_of};
@@ -25,7 +25,7 @@ use abc_base::{Host, HostClass};
 use abc_heap_store::{ClassParts, Full, Limits, ScopeEntry, ScopeId, ScopeNode, Store, What};
 use abc_heap_values::{ObjId, Span, Value};
 use abc_link::Linked;
-use abc_link_program::{LayoutId, Part};
+use abc_link_names::{LayoutId, Part};
 use std::alloc::Global;
 use std::marker::Model;
 
@@ -108,7 +108,6 @@ impl Arena {
         requires delegate { IsObjectOrNone self.old delegate }
         requires saved { IsScope self.old saved }
         requires scopes { AreEntries self.old scopes.now }
-        requires few { length scopes.now < 2 ^ 32 }
         ensures made { MatchResult result (λ o. IsFunctionMade self.old self.new o (start_values l.now (host_layout l.now Function)) (host_layout l.now Function) method home delegate saved scopes.now) (λ e. IsFullOf self.old self.new 1 (length (start_values l.now (host_layout l.now Function)) + length scopes.now) e) }
         ensures over { StandsOver l.now self.new }
     {
@@ -185,7 +184,6 @@ impl Arena {
         requires delegate { IsObjectOrNone self.old delegate }
         requires saved { IsScope self.old saved }
         requires scopes { AreEntries self.old scopes.now }
-        requires few { length scopes.now < 2 ^ 32 }
         ensures made { MatchResult result (λ o. IsClassMade self.old self.new o (start_values l.now (host_layout l.now Object)) (start_values l.now (class_object_layout l.now class)) (class_parts l.now class home base_prototype delegate) saved scopes.now) (λ e. IsFullOf self.old self.new 2 (length (start_values l.now (host_layout l.now Object)) + length (start_values l.now (class_object_layout l.now class)) + length scopes.now + 1) e) }
         ensures over { StandsOver l.now self.new }
     {

@@ -5,7 +5,7 @@ ghost use Rattle.abc_objects.specs.Starts.{StartsExist};
 use crate::error::OpenError;
 use abc_heap_store::{Limit, Limits};
 use abc_link::Linked;
-use abc_link_program::Part;
+use abc_link_names::Part;
 
 /// How many slots the global object of a script has.
 fn slots_of_global(l: &Linked, script: u32) -> u32

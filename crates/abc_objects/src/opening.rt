@@ -3,9 +3,9 @@ ghost use Rattle.std.specs.List.{concat};
 ghost use Rattle.std.specs.Option.{option_map};
 ghost use Rattle.abc_heap_store.specs.Changes.{with_object};
 ghost use Rattle.abc_heap_store.specs.Heap.{HasRoomFor};
-ghost use Rattle.abc_link_program.specs.Linked.{layout_of};
-ghost use Rattle.abc_link_program.specs.Parts.{HasLayout};
-ghost use Rattle.abc_link_program.specs.Slots.{slots_of};
+ghost use Rattle.abc_link_names.specs.Linked.{layout_of};
+ghost use Rattle.abc_link_names.specs.Parts.{HasLayout};
+ghost use Rattle.abc_link_names.specs.Slots.{slots_of};
 ghost use Rattle.abc_objects.specs.Opening.{IsOpened, IsUnopened, IsWithin, above_host as above, class_object, entry_of, formula_names as names_of, formula_objects, function_object, function_objects, global_object, global_slots, host_object, host_properties, opened, opening, opening_counts, opening_objects, opening_scopes, property_names as names_with, prototype_id, prototype_object, slot_count, spans_from, with_globals, with_more_properties, with_objects};
 ghost use Rattle.abc_objects.specs.Starts.{StartsExist};
 
@@ -18,8 +18,7 @@ use abc_base::{Bytes, Host, HostClass, NoMemory, Table};
 use abc_heap_store::{Limits, ScopeEntry, Store, What};
 use abc_heap_values::{ObjId, Span, Value};
 use abc_link::Linked;
-use abc_link_names::HOST_CLASSES;
-use abc_link_program::Part;
+use abc_link_names::{HOST_CLASSES, Part};
 use std::alloc::Global;
 
 /// The class whose prototype is the delegate of a class's prototype.

@@ -1,7 +1,7 @@
 ghost use Rattle.std.specs.Prelude.{◌≡◌, length, map};
 ghost use Rattle.abc_heap_store.specs.Texts.{pool_text};
-ghost use Rattle.abc_link_program.specs.Linked.{IsLayout};
-ghost use Rattle.abc_link_program.specs.Slots.{slots_of};
+ghost use Rattle.abc_link_names.specs.Linked.{IsLayout};
+ghost use Rattle.abc_link_names.specs.Slots.{slots_of};
 ghost use Rattle.abc_objects.specs.Starts.{CanStart, IsShort, IsShortStart, StartsExist, start_value, string_span};
 
 use crate::fixed::FixedText;
@@ -9,8 +9,7 @@ use abc_base::{Bytes, Table};
 use abc_heap_store::Starts;
 use abc_heap_values::{Span, Value};
 use abc_link::Linked;
-use abc_link_names::Start;
-use abc_link_program::{LayoutId, SlotInfo};
+use abc_link_names::{LayoutId, SlotInfo, Start};
 
 /// The values with which the slots of a layout start.
 #[derive(Clone, Copy)]

@@ -21,7 +21,7 @@ use Rattle.abc_heap_store.specs.Heap.{Heap}
 use Rattle.abc_heap_store.specs.Texts.{text_of}
 use Rattle.abc_link_names.specs.Pool.{same_space}
 use Rattle.abc_ops.proofs.Spaces.{same_space_equivalence}
-use Rattle.abc_link_program.specs.Linked.{LinkedFile}
+use Rattle.abc_link_names.specs.Linked.{LinkedFile}
 use Rattle.abc_ops.specs.Compares.{or_fault}
 use Rattle.abc_ops.specs.Laws.{ConvertsModulo, IntegersAreModulo, IsRemainder, ModuloHasTheSign, OrdersAreOpposed, ShiftsUseFiveBits, StrictEqualsIsEquivalence, UndefinedIsUnordered}
 use Rattle.abc_ops.specs.Left.{Left, gives, number_or_fault, unchanged}

@@ -12,7 +12,7 @@ use Rattle.abc_heap_values.specs.Reads.{IsReadable}
 use Rattle.abc_heap_store.specs.Heap.{Heap}
 use Rattle.abc_heap_store.specs.Texts.{IsText}
 use Rattle.abc_link_names.specs.Pool.{space}
-use Rattle.abc_link_program.specs.Linked.{LinkedFile}
+use Rattle.abc_link_names.specs.Linked.{LinkedFile}
 use Rattle.abc_objects.specs.Fixed.{fixed_bytes, fixed_span}
 use Rattle.abc_objects.specs.Stands.{StandsOver}
 use Rattle.abc_objects.specs.Starts.{string_span}

@@ -7,9 +7,9 @@ use Rattle.abc_heap_values.specs.declared.values.Value.TheVariants as values
 use Rattle.abc_heap_values.specs.Kinds.{is_nothing, is_undefined}
 use Rattle.abc_heap_values.specs.declared.numbers.Conversion.TheVariants as conversions
 use Rattle.abc_heap_store.specs.Heap.{Heap}
-use Rattle.abc_link_program.specs.Linked.{LinkedFile}
-use Rattle.abc_link_program.specs.declared.types.Ty.{Ty}
-use Rattle.abc_link_program.specs.declared.types.Ty.TheVariants as types
+use Rattle.abc_link_names.specs.Linked.{LinkedFile}
+use Rattle.abc_link_names.specs.declared.types.Ty.{Ty}
+use Rattle.abc_link_names.specs.declared.types.Ty.TheVariants as types
 use Rattle.abc_ops.specs.Conversions.{converted}
 use Rattle.abc_ops.specs.Left.{Leaves, gives}
 use Rattle.abc_ops.specs.Types.{IsOf}

@@ -4,14 +4,14 @@ use Rattle.std.specs.declared.result.Result.{Result}
 use Rattle.abc_base.specs.declared.names.Fault.{Fault}
 use Rattle.abc_heap_values.specs.declared.values.Value.{Value}
 use Rattle.abc_heap_values.specs.Equality.{equal_values, same_values}
-use Rattle.abc_heap_values.specs.Opcodes.{comparison_of}
+use Rattle.abc_ops.specs.Opcodes.{comparison_of}
 use Rattle.abc_heap_values.specs.Order.{ordered}
-use Rattle.abc_heap_values.specs.declared.opcodes.Comparison.{Comparison}
-use Rattle.abc_heap_values.specs.declared.opcodes.Comparison.TheVariants.{Equal, StrictlyEqual, Ordered}
+use Rattle.abc_ops.specs.declared.opcodes.Comparison.{Comparison}
+use Rattle.abc_ops.specs.declared.opcodes.Comparison.TheVariants.{Equal, StrictlyEqual, Ordered}
 use Rattle.abc_heap_store.specs.Heap.{Heap}
 use Rattle.abc_heap_store.specs.Texts.{text_of}
 use Rattle.abc_link_names.specs.Pool.{same_space}
-use Rattle.abc_link_program.specs.Linked.{LinkedFile}
+use Rattle.abc_link_names.specs.Linked.{LinkedFile}
 use Rattle.abc_ops.specs.declared.end.OpEnd.{OpEnd}
 use Rattle.abc_ops.specs.declared.end.OpEnd.TheVariants as ends
 

@@ -13,7 +13,7 @@ use Rattle.abc_heap_values.specs.declared.numbers.Conversion.{Conversion}
 use Rattle.abc_heap_values.specs.declared.numbers.Conversion.TheVariants as conversions
 use Rattle.abc_heap_store.specs.Heap.{Heap}
 use Rattle.abc_link_names.specs.Pool.{space}
-use Rattle.abc_link_program.specs.Linked.{LinkedFile}
+use Rattle.abc_link_names.specs.Linked.{LinkedFile}
 use Rattle.abc_objects.specs.Fixed.{fixed_span}
 use Rattle.abc_objects.specs.Starts.{string_span}
 use Rattle.abc_objects.specs.declared.fixed.FixedText.TheVariants as fixed

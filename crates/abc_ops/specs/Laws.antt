@@ -7,15 +7,16 @@ use Rattle.abc_heap_values.specs.declared.values.Value.{Value}
 use Rattle.abc_heap_values.specs.declared.values.Value.TheVariants.{Num, Undefined}
 use Rattle.abc_heap_values.specs.Kinds.{is_undefined}
 use Rattle.abc_heap_values.specs.declared.numbers.Conversion.TheVariants.{ConvertI, ConvertU}
-use Rattle.abc_heap_values.specs.declared.opcodes.Comparison.TheVariants.{Ordered}
+use Rattle.abc_ops.specs.declared.opcodes.Comparison.TheVariants.{Ordered}
 use Rattle.abc_heap_values.specs.declared.order.Order.{Order}
 use Rattle.abc_heap_values.specs.declared.order.Order.TheVariants.{Less, LessOrEqual, Greater, GreaterOrEqual}
 use Rattle.abc_heap_store.specs.Heap.{Heap}
-use Rattle.abc_link_program.specs.Linked.{LinkedFile}
+use Rattle.abc_link_names.specs.Linked.{LinkedFile}
 use Rattle.abc_ops.specs.Compares.{compared, compared_as}
 use Rattle.abc_ops.specs.Conversions.{converted}
 use Rattle.abc_ops.specs.Left.{gives}
 use Rattle.abc_ops.specs.Operations.{computed}
+use Rattle.abc_file_types.specs.declared.op.TheConstants as op
 
 -- ---- convert_i and convert_u: the number in a range of 2 ^ 32 numbers that differs by a multiple of 2 ^ 32
 
@@ -47,7 +48,7 @@ abbrev pub UsesFiveBits : ℕ → Type 0
 UsesFiveBits op = (l : LinkedFile) (h : Heap) (x : Value) (n : ℤ) → computed l h op x (Num n) ≡ computed l h op x (Num (low_five n))
 
 abbrev pub ShiftsUseFiveBits : Type 0
-ShiftsUseFiveBits = UsesFiveBits 0xA5 × UsesFiveBits 0xA6 × UsesFiveBits 0xA7
+ShiftsUseFiveBits = UsesFiveBits op.LSHIFT × UsesFiveBits op.RSHIFT × UsesFiveBits op.URSHIFT
 
 -- ---- modulo (A4): what is left of the dividend, with its sign
 
@@ -59,13 +60,13 @@ pub record IsRemainder (x y r : ℤ) : Type 0 where
   pub not_positive : x ≤ℤ pos 0 → r ≤ℤ pos 0
 
 abbrev pub ModuloHasTheSign : Type 0
-ModuloHasTheSign = (l : LinkedFile) (h : Heap) (x y r : ℤ) → computed l h 0xA4 (Num x) (Num y) ≡ gives h (Num r) → IsRemainder x y r
+ModuloHasTheSign = (l : LinkedFile) (h : Heap) (x y r : ℤ) → computed l h op.MODULO (Num x) (Num y) ≡ gives h (Num r) → IsRemainder x y r
 
 -- ---- strictequals (AC) answers always, and as an equivalence
 
 pub record IsStrict (l : LinkedFile) (h : Heap) : Type 0 where
   pub same : Value → Value → Bool
-  pub answers : (x y : Value) → compared l h 0xAC x y ≡ Ok (same x y)
+  pub answers : (x y : Value) → compared l h op.STRICTEQUALS x y ≡ Ok (same x y)
   pub equivalence : IsEquivalence same
 
 abbrev pub StrictEqualsIsEquivalence : Type 0

@@ -5,3 +5,4 @@ pub mod Coercions
 pub mod Operations
 pub mod Compares
 pub mod Laws
+pub mod Opcodes

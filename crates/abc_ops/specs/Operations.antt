@@ -5,17 +5,18 @@ use Rattle.abc_heap_values.specs.declared.values.Value.{Value}
 use Rattle.abc_heap_values.specs.declared.values.Value.TheVariants as values
 use Rattle.abc_heap_values.specs.Kinds.{is_text}
 use Rattle.abc_heap_values.specs.Numbers.{calculated_of, calculated_single_of, truth_of}
-use Rattle.abc_heap_values.specs.Opcodes.{operation_of, single_of}
+use Rattle.abc_ops.specs.Opcodes.{operation_of, single_of}
 use Rattle.abc_heap_store.specs.Heap.{Heap, object_at}
 use Rattle.abc_heap_store.specs.Texts.{text_of}
 use Rattle.abc_heap_store.specs.declared.records.What.{What}
 use Rattle.abc_heap_store.specs.declared.records.What.TheVariants as whats
-use Rattle.abc_link_program.specs.Linked.{LinkedFile}
+use Rattle.abc_link_names.specs.Linked.{LinkedFile}
 use Rattle.abc_objects.specs.Fixed.{fixed_span}
 use Rattle.abc_objects.specs.declared.fixed.FixedText.{FixedText}
 use Rattle.abc_objects.specs.declared.fixed.FixedText.TheVariants as fixed
 use Rattle.abc_ops.specs.Conversions.{spelled}
 use Rattle.abc_ops.specs.Left.{Left, as_value, gives, number_or_fault, followed, text_made, unchanged}
+use Rattle.abc_file_types.specs.declared.op.TheConstants as op
 
 -- ---- typeof
 
@@ -37,10 +38,10 @@ type_name h (values.Obj o) = name_of_what (object_at h.objects o.0).what
 -- ---- one value
 
 abbrev pub computed_single : Heap → ℕ → Value → Left Value
-computed_single h op v =
-    if nat_eq op 0x95 then gives h (values.Text (fixed_span (type_name h v)))
-    else (if nat_eq op 0x96 then gives h (values.Bool (not (truth_of v)))
-    else unchanged h (number_or_fault (calculated_single_of (single_of op) v)))
+computed_single h code v =
+    if nat_eq code op.TYPEOF then gives h (values.Text (fixed_span (type_name h v)))
+    else (if nat_eq code op.NOT then gives h (values.Bool (not (truth_of v)))
+    else unchanged h (number_or_fault (calculated_single_of (single_of code) v)))
 
 -- ---- two values
 
@@ -57,6 +58,6 @@ abbrev pub joined : LinkedFile → Heap → Value → Value → Left Value
 joined l h x y = followed (spelled l h x) (λ k a. joined_to l k a y)
 
 abbrev pub computed : LinkedFile → Heap → ℕ → Value → Value → Left Value
-computed l h op x y =
-    if nat_eq op 0xA0 && (is_text x || is_text y) then joined l h x y
-    else unchanged h (number_or_fault (calculated_of (operation_of op) x y))
+computed l h code x y =
+    if nat_eq code op.ADD && (is_text x || is_text y) then joined l h x y
+    else unchanged h (number_or_fault (calculated_of (operation_of code) x y))

@@ -1,6 +1,6 @@
 ghost use Rattle.std.specs.Prelude.{◌≡◌, IfOk};
 ghost use Rattle.abc_heap_store.specs.Heap.{Heap};
-ghost use Rattle.abc_link_program.specs.Linked.{LinkedFile};
+ghost use Rattle.abc_link_names.specs.Linked.{LinkedFile};
 ghost use Rattle.abc_objects.specs.Growing.{Grows};
 ghost use Rattle.abc_objects.specs.Stands.{StandsOver};
 ghost use Rattle.abc_objects.specs.Values.{Exists};
@@ -12,7 +12,7 @@ use crate::types::is_of;
 use abc_base::HostClass;
 use abc_heap_values::{Conversion, Value, is_nothing, is_undefined};
 use abc_link::Linked;
-use abc_link_program::Ty;
+use abc_link_names::Ty;
 use abc_objects::Arena;
 
 fn undefined_as_null(v: Value) -> Value

@@ -4,10 +4,9 @@ ghost use Rattle.abc_objects.specs.Values.{Exists};
 ghost use Rattle.abc_ops.specs.Compares.{compared, compared_as, or_fault as or_fault_of};
 
 use crate::end::OpEnd;
+use crate::opcodes::{Comparison, comparison_at};
 use abc_base::Fault;
-use abc_heap_values::{
-    Comparison, Span, Texts, Value, are_ordered, comparison_at, equal, strictly_equal,
-};
+use abc_heap_values::{Span, Texts, Value, are_ordered, equal, strictly_equal};
 use abc_link::Linked;
 use abc_objects::Arena;
 

@@ -3,7 +3,7 @@ ghost use Rattle.abc_base.specs.Ranges.{IsNumber};
 ghost use Rattle.abc_heap_store.specs.Heap.{Heap};
 ghost use Rattle.abc_heap_store.specs.Texts.{IsText};
 ghost use Rattle.abc_link_names.specs.Pool.{space as space_in};
-ghost use Rattle.abc_link_program.specs.Linked.{LinkedFile};
+ghost use Rattle.abc_link_names.specs.Linked.{LinkedFile};
 ghost use Rattle.abc_objects.specs.Growing.{Grows};
 ghost use Rattle.abc_objects.specs.Stands.{StandsOver};
 ghost use Rattle.abc_objects.specs.Starts.{string_span};

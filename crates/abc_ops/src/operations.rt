@@ -1,6 +1,6 @@
 ghost use Rattle.std.specs.Prelude.{◌≡◌, IfOk};
 ghost use Rattle.abc_heap_store.specs.Texts.{IsText};
-ghost use Rattle.abc_link_program.specs.Linked.{LinkedFile};
+ghost use Rattle.abc_link_names.specs.Linked.{LinkedFile};
 ghost use Rattle.abc_objects.specs.Growing.{Grows};
 ghost use Rattle.abc_objects.specs.Stands.{StandsOver};
 ghost use Rattle.abc_objects.specs.Values.{Exists};
@@ -10,8 +10,9 @@ ghost use Rattle.abc_ops.specs.Operations.{computed, computed_single, joined, jo
 use crate::conversions::{number_value, spell};
 use crate::end::OpEnd;
 use crate::made::make_joined;
+use crate::opcodes::{operation, single};
+use abc_file_types::op;
 use abc_heap_store::What;
-use abc_heap_values::opcodes::{operation, single};
 use abc_heap_values::{Span, Value, calculate_value, calculate_values, is_text, is_true};
 use abc_link::Linked;
 use abc_objects::{Arena, FixedText};
@@ -55,10 +56,10 @@ pub fn unary(l: &Linked, a: &mut Arena, op: u8, v: Value) -> Result<Value, OpEnd
     ensures there { IfOk result (Exists l.now a.new) }
 {
     let _ = l;
-    if op == 0x95 {
+    if op == op::TYPEOF {
         return Ok(Value::Text(type_name(a, v).span()));
     }
-    if op == 0x96 {
+    if op == op::NOT {
         return Ok(Value::Bool(!is_true(v)));
     }
     number_value(calculate_value(single(op), v))
@@ -128,7 +129,7 @@ pub fn binary(l: &Linked, a: &mut Arena, op: u8, x: Value, y: Value) -> Result<V
     ensures there { IfOk result (Exists l.now a.new) }
 {
     let texts = is_text(x) || is_text(y);
-    if op == 0xA0 && texts {
+    if op == op::ADD && texts {
         return join(l, a, x, y);
     }
     number_value(calculate_values(operation(op), x, y))

@@ -1,5 +1,5 @@
 ghost use Rattle.std.specs.Prelude.{◌↔◌, IsTrue};
-ghost use Rattle.abc_link_program.specs.Parts.{HasLayout};
+ghost use Rattle.abc_link_names.specs.Parts.{HasLayout};
 ghost use Rattle.abc_objects.specs.Stands.{StandsOver};
 ghost use Rattle.abc_objects.specs.Values.{Exists};
 ghost use Rattle.abc_ops.specs.Types.{IsBool, IsInstanceOf, IsInt, IsNum, IsObjectOf, IsOf, IsSomething, IsSpaceValue, IsTextValue, IsUInt, IsUndefined, NamesInterface};
@@ -7,7 +7,7 @@ ghost use Rattle.abc_ops.specs.Types.{IsBool, IsInstanceOf, IsInt, IsNum, IsObje
 use abc_heap_values::Value;
 use abc_kinds::is_below;
 use abc_link::Linked;
-use abc_link_program::{LayoutId, Part, Ty};
+use abc_link_names::{LayoutId, Part, Ty};
 use abc_objects::Arena;
 
 fn is_undefined(v: Value) -> bool

@@ -10,10 +10,7 @@ use Rattle.abc_log.specs.Followed.{parts_from}
 use Rattle.abc_base.specs.Escapes.{hex_digit}
 use Rattle.abc_file_types.specs.Part.{refusal}
 use Rattle.abc_heap_store.specs.declared.records.Limits.{Limits}
-use Rattle.abc_link_names.specs.Items.{rule_number}
 use Rattle.abc_link_names.specs.Rules.{IsFirstBroken}
-use Rattle.abc_link_names.specs.declared.items.LinkRule.{LinkRule}
-use Rattle.abc_link_names.specs.declared.items.LinkRule.TheVariants as rules
 use Rattle.abc_log.specs.Heads.{AllStand, GoesWrong, IsWrong, may_stand}
 use Rattle.abc_log.proofs.Fronts.{one_front}
 use Rattle.abc_log.specs.Limits.{is_no_feed}
@@ -24,7 +21,7 @@ use Rattle.abc_meaning.specs.Inputs.{IsLogOf}
 use Rattle.abc_meaning.specs.Logs.{log}
 use Rattle.abc_meaning.specs.ThrowLaws.{IsVerified}
 use Rattle.abc_meaning.specs.Setting.{Setting}
-use Rattle.abc_link_program.specs.Linked.{LinkedFile}
+use Rattle.abc_link_names.specs.Linked.{LinkedFile}
 use Rattle.abc_file_types.specs.Files.{IsFile}
 use Rattle.abc_file_types.specs.declared.tables.Abc.{Abc}
 use Rattle.abc_file_types.proofs.Whole.{decided, read_spelled}
@@ -33,7 +30,7 @@ use Rattle.abc_verify.proofs.Single.{one_numbered}
 use Rattle.abc_verify.specs.FileRefusing.{IsRefused as IsNoVerifiedFile, IsUnverified, bad, unlinked, untyped, unverified}
 use Rattle.abc_verify.specs.declared.verified_error.VerifiedError.{VerifiedError}
 use Rattle.abc_verify.specs.VerifyRefusing.{IsFirstUntyped}
-use Rattle.abc_link_program.proofs.MethodBodies.{body_inside}
+use Rattle.abc_link_names.proofs.MethodBodies.{body_inside}
 use Rattle.abc_replay.specs.Laws.{HasOneNumber, IsNeverBoth}
 use Rattle.abc_replay.specs.Replays.{HasParts, IsRefused}
 use Rattle.abc_replay.specs.declared.error.ReplayError.{ReplayError}
@@ -190,28 +187,11 @@ one_number formulas input n k a b =
 
 -- ---- no log is refused
 
--- there are 15 rules of linking
-pub few_rules : (rule : LinkRule) → rule_number rule < 15
-few_rules rules.NoScript = omega arith
-few_rules rules.NameKind = omega arith
-few_rules rules.UnknownBase = omega arith
-few_rules rules.BaseCycle = omega arith
-few_rules rules.FinalBase = omega arith
-few_rules rules.BaseIsInterface = omega arith
-few_rules rules.UnknownInterface = omega arith
-few_rules rules.UnknownType = omega arith
-few_rules rules.OwnedTwice = omega arith
-few_rules rules.NoBody = omega arith
-few_rules rules.SameName = omega arith
-few_rules rules.SameSlot = omega arith
-few_rules rules.TraitNotRun = omega arith
-few_rules rules.TooLarge = omega arith
-
 module _ (formulas : List Formula) (l : LinkedFile) (bytes : List ℕ) (spells : IsFile l.file bytes) (verified : IsVerified (setting_of l formulas)) (numbered : IsNumbered l) where
   verified_once : (v : Abc) (starts : List (List ℕ)) (e : VerifiedError) → v ≡ l.file → IsUnverified v starts e → ⊥
   verified_once v starts e same (unlinked rule i first) =
       let broken : IsFirstBroken l.file rule i = subst (λ (w : Abc). IsFirstBroken w rule i) same first in
-      verified.linked.rules rule (few_rules rule) i broken.item broken.breaks
+      verified.linked.rules rule i broken.item broken.breaks
   verified_once v starts e same (untyped k m b i rule is linked numbered_too first) =
       let one : k ≡ l = one_numbered k l numbered_too numbered (is ∙ same) in
       let here : IsFirstUntyped l m b i rule = subst (λ (x : LinkedFile). IsFirstUntyped x m b i rule) one first in

@@ -7,8 +7,7 @@ use Rattle.std.specs.declared.result.Result.{Result}
 use Rattle.abc_base.specs.Faults.{Rose}
 use Rattle.abc_log.specs.declared.limits.LimitsLine.{LimitsLine}
 use Rattle.abc_log.specs.Lines.{AreLimits, limits_line}
-use Rattle.abc_link_program.specs.Linked.{LinkedFile}
-use Rattle.abc_link_program.specs.Slots.{HasFewSlots}
+use Rattle.abc_link_names.specs.Linked.{LinkedFile}
 use Rattle.abc_file_types.proofs.Whole.{read_spelled}
 use Rattle.abc_verify.specs.Verified.{IsReadVerified}
 use Rattle.abc_verify.specs.declared.verified_error.VerifiedError.{VerifiedError}
@@ -23,8 +22,8 @@ use Rattle.abc_replay.proofs.Parts.{no_limits, read_error}
 -- ---- the file
 
 -- a file that was read from memory and verified
-pub verified_there : (bytes : List ℕ) (l : LinkedFile) (starts : List (List ℕ)) → IsReadVerified l starts bytes → HasFewSlots l → IsVerifiedIn bytes l
-verified_there bytes l starts r few = record { spells = (read_spelled (l.file, starts) bytes r.read.0, r.read.1); verified = r.verified; few = few }
+pub verified_there : (bytes : List ℕ) (l : LinkedFile) (starts : List (List ℕ)) → IsReadVerified l starts bytes → IsVerifiedIn bytes l
+verified_there bytes l starts r = record { spells = (read_spelled (l.file, starts) bytes r.read.0, r.read.1); verified = r.verified }
 
 -- memory has no faults
 pub never_rose : Rose 0 0 → ⊥

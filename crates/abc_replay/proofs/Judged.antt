@@ -17,7 +17,7 @@ use Rattle.abc_log.specs.declared.check.LogFault.{LogFault}
 use Rattle.abc_log.specs.declared.check.LogFault.TheVariants as faults
 use Rattle.abc_log.proofs.Judging.{all_there, has_cause}
 use Rattle.abc_meaning.specs.Openings.{setting}
-use Rattle.abc_link_program.specs.Linked.{LinkedFile}
+use Rattle.abc_link_names.specs.Linked.{LinkedFile}
 use Rattle.abc_replay.specs.Prefaces.{AnswersLog, HasPreface, RefusesAny, error_of_log}
 use Rattle.abc_replay.specs.Replays.{IsRefusedBy, IsReplayed}
 use Rattle.abc_replay.specs.declared.error.ReplayError.{ReplayError}

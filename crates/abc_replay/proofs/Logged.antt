@@ -19,7 +19,7 @@ use Rattle.abc_log.specs.declared.check.LogFault.{LogFault}
 use Rattle.abc_log.specs.declared.check.LogFault.TheVariants as faults
 use Rattle.abc_log.proofs.Judging.{at_place}
 use Rattle.abc_log.proofs.Parting.{front_parts, longer_parts}
-use Rattle.abc_link_program.specs.Linked.{LinkedFile}
+use Rattle.abc_link_names.specs.Linked.{LinkedFile}
 use Rattle.abc_replay.specs.Prefaces.{HasPreface, error_of_log}
 use Rattle.abc_replay.specs.Replays.{HasParts, IsRefusedBy, IsReplayed, SpellsVerified, differs, file_place, place_behind}
 use Rattle.abc_replay.specs.declared.error.ReplayError.TheVariants as errors

@@ -16,7 +16,7 @@ use Rattle.abc_log.specs.Lines.{limits_line, limits_text}
 use Rattle.abc_log.specs.declared.log_part.PartError.{PartError}
 use Rattle.abc_log.specs.declared.log_part.PartError.TheVariants as parts
 use Rattle.abc_meaning.specs.ThrowLaws.{IsVerified}
-use Rattle.abc_link_program.specs.Linked.{LinkedFile}
+use Rattle.abc_link_names.specs.Linked.{LinkedFile}
 use Rattle.abc_verify.specs.FileRefusing.{IsRefusedBy as IsNoFileBy}
 use Rattle.abc_verify.specs.declared.verified_error.VerifiedError.{VerifiedError}
 use Rattle.abc_verify.specs.declared.verified_error.VerifiedError.TheVariants as files
@@ -96,7 +96,7 @@ no_file old new bytes files.NoMemory f why = memory_ends old
 
 pub spells_verified : (formulas : List Formula) (bytes : List ℕ) (l : LinkedFile) → AreFormulas formulas → IsVerifiedIn bytes l → SpellsVerified formulas bytes l
 spells_verified formulas bytes l formed v =
-    let all : IsVerified (record { linked = l; formulas = formulas }) = record { fits = v.verified.linked.fits; linked = v.verified.linked; few = v.few; typed = v.verified.typed; host = formed } in
+    let all : IsVerified (record { linked = l; formulas = formulas }) = record { fits = v.verified.linked.fits; linked = v.verified.linked; typed = v.verified.typed; host = formed } in
     record { spells = v.spells; verified = all; numbered = v.verified.numbered }
 
 -- ---- the line of limits

@@ -15,7 +15,7 @@ use Rattle.abc_meaning.specs.Openings.{setting}
 use Rattle.abc_machine.specs.declared.ends.End.{End}
 use Rattle.abc_machine.specs.declared.ends.End.TheVariants as ends
 use Rattle.abc_meaning.specs.Meaning.{Meaning}
-use Rattle.abc_link_program.specs.Linked.{LinkedFile}
+use Rattle.abc_link_names.specs.Linked.{LinkedFile}
 
 -- a run writes all the lines, or a front of them where the sink failed
 pub run_written : (lines : List ℕ) (m : Meaning) (counted n : ℕ) (old new : Option (List ℕ)) (before now : ℕ) (end : End) → LogsRun lines m old new end → HasRun before now end → (end ≢ ends.WriteFault → n ≡ counted) → IsWritten lines counted n old new before now

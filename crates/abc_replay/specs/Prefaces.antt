@@ -15,8 +15,7 @@ use Rattle.abc_log.specs.declared.check.LogFault.{LogFault}
 use Rattle.abc_log.specs.declared.check.LogFault.TheVariants as logs
 use Rattle.abc_log.specs.declared.log_part.PartError.{PartError}
 use Rattle.abc_log.specs.declared.log_part.PartError.TheVariants as parts
-use Rattle.abc_link_program.specs.Linked.{LinkedFile}
-use Rattle.abc_link_program.specs.Slots.{HasFewSlots}
+use Rattle.abc_link_names.specs.Linked.{LinkedFile}
 use Rattle.abc_file_types.specs.Files.{IsFile}
 use Rattle.abc_file_types.specs.Part.{limit}
 use Rattle.abc_verify.specs.Verified.{IsVerifiedOf}
@@ -29,7 +28,6 @@ use Rattle.abc_replay.specs.declared.error.ReplayReason.TheVariants as reasons
 pub record IsVerifiedIn (bytes : List ℕ) (l : LinkedFile) : Type 0 where
   pub spells : IsFile l.file bytes
   pub verified : IsVerifiedOf l.file l
-  pub few : HasFewSlots l
 
 -- the line before the file and the front of that were taken: as many bytes as are stated, or all where there are fewer, but no more
 -- than the greatest file has and one

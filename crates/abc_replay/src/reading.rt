@@ -34,10 +34,7 @@ fn verified_from(alloc: Global, source: &mut SteadySource) -> Result<Verified, V
     ensures read { result ≡ Err VerifiedError.ReadFault → ⊥ }
 {
     match read_verified(alloc, source) {
-        Ok((verified, _places)) => {
-            verified.linked().slots_law();
-            Ok(verified)
-        }
+        Ok((verified, _places)) => Ok(verified),
         Err(e) => Err(e),
     }
 }

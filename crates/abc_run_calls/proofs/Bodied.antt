@@ -2,9 +2,9 @@
 use Rattle.std.proofs.Common.{◌≡◌, ℕ, ◌-◌, ◌<◌, length, get_or, sym, ap, ◌∙◌}
 use Rattle.std.specs.Prelude.{Some}
 use Rattle.std.proofs.lemmas.List.{get_or_default}
-use Rattle.abc_link_names.specs.Parts.{body_at, no_body, no_script, script_at}
-use Rattle.abc_link_program.specs.Owners.{body_of}
-use Rattle.abc_link_program.proofs.MethodBodies.{body_inside}
+use Rattle.abc_link_names.specs.PartsByNumber.{body_at, no_body, no_script, script_at}
+use Rattle.abc_link_names.specs.Owners.{body_of}
+use Rattle.abc_link_names.proofs.MethodBodies.{body_inside}
 use Rattle.abc_frames.specs.declared.records.Size.{Size}
 use Rattle.abc_run_state.specs.Turns.{kept}
 use Rattle.abc_file_types.specs.declared.classes.Script.{Script}

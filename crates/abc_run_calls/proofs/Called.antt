@@ -11,8 +11,8 @@ use Rattle.abc_heap_store.specs.declared.records.What.{What}
 use Rattle.abc_heap_store.specs.declared.records.What.TheVariants as whats
 use Rattle.abc_run_state.proofs.Things.{object_is}
 use Rattle.abc_objects.specs.Stands.{NamesParts, StandsOver}
-use Rattle.abc_link_program.specs.Linked.{LinkedFile}
-use Rattle.abc_link_program.specs.declared.types.Ty.{Ty}
+use Rattle.abc_link_names.specs.Linked.{LinkedFile}
+use Rattle.abc_link_names.specs.declared.types.Ty.{Ty}
 use Rattle.abc_frames.specs.Frame.{Frame}
 use Rattle.abc_run_state.specs.declared.state.How.{How}
 use Rattle.abc_meaning.specs.Calling.{calls, calls_what, this_of}

@@ -5,7 +5,7 @@ use Rattle.std.proofs.lemmas.List.{append-nil, drop-append-le, drop-drop, drop_a
 use Rattle.abc_heap_values.specs.Filling.{Filling}
 use Rattle.abc_run_state.proofs.Keeping.{set_stays}
 use Rattle.abc_objects.proofs.Grown.{grows_on, grows_self}
-use Rattle.abc_link_program.specs.Linked.{LinkedFile}
+use Rattle.abc_link_names.specs.Linked.{LinkedFile}
 use Rattle.abc_frames.specs.Frame.{Frames, arguments as operands, newest}
 use Rattle.abc_run_state.specs.Outer.{Outer, setting, world}
 use Rattle.abc_run_state.specs.Standing.{IsSet, IsThere, Stays}

@@ -9,7 +9,7 @@ use Rattle.abc_frames.specs.declared.records.Wait.TheVariants.{Again}
 use Rattle.abc_run_state.proofs.Turning.{open_first}
 use Rattle.abc_run_state.specs.Turns.{Turned, turned}
 use Rattle.abc_file_types.specs.declared.methods.Method.{Method}
-use Rattle.abc_link_names.specs.Parts.{script_at}
+use Rattle.abc_link_names.specs.PartsByNumber.{script_at}
 use Rattle.abc_meaning.specs.Entering.{arguments, enters, enters_owned, framed, global}
 use Rattle.abc_meaning.specs.Objects.{Place, place, place_of_owner}
 use Rattle.abc_meaning.specs.Setting.{Setting, method_of}
@@ -17,7 +17,7 @@ use Rattle.abc_run_state.specs.Stops.{IsOpen}
 use Rattle.abc_meaning.specs.World.{Outcome, Run, Went, World, and_then, some, ◌>>=◌}
 use Rattle.abc_meaning.specs.At.{Act}
 use Rattle.abc_run_calls.specs.Arguments.{makes_arguments, receiver}
-use Rattle.abc_link_program.specs.Owners.{owner_of}
+use Rattle.abc_link_names.specs.Owners.{owner_of}
 use Rattle.abc_run_calls.specs.Entering.{above, enters_above, enters_owned_above, puts_on, starts_above}
 
 -- ---- the method that is entered

@@ -9,9 +9,9 @@ use Rattle.abc_heap_values.specs.declared.values.Value.TheVariants.{Obj}
 use Rattle.abc_heap_store.specs.declared.records.ScopeId.{ScopeId}
 use Rattle.abc_heap_store.specs.declared.records.What.TheVariants as whats
 use Rattle.abc_link_names.specs.Instances.{instance_at, no_instance}
-use Rattle.abc_link_program.specs.Linked.{layout_of}
-use Rattle.abc_link_program.specs.declared.part.LayoutId.{LayoutId}
-use Rattle.abc_link_program.specs.declared.part.Part.TheVariants as parts
+use Rattle.abc_link_names.specs.Linked.{layout_of}
+use Rattle.abc_link_names.specs.declared.part.LayoutId.{LayoutId}
+use Rattle.abc_link_names.specs.declared.part.Part.TheVariants as parts
 use Rattle.abc_frames.specs.Frame.{Frame, Frames, arguments as operands, newest}
 use Rattle.abc_frames.specs.declared.records.Wait.{Wait}
 use Rattle.abc_run_state.specs.Settling.{settles, taken_by, wait_with}

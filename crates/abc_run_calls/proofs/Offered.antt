@@ -5,7 +5,7 @@ use Rattle.std.specs.declared.result.Result.{Result}
 use Rattle.abc_heap_store.specs.Heap.{Heap}
 use Rattle.abc_objects.specs.Stands.{StandsOver}
 use Rattle.abc_objects.specs.Values.{Exists}
-use Rattle.abc_link_program.specs.Linked.{LinkedFile}
+use Rattle.abc_link_names.specs.Linked.{LinkedFile}
 use Rattle.abc_run_state.specs.Outer.{Outer, setting}
 use Rattle.abc_run_state.specs.Stops.{answer}
 use Rattle.abc_run_state.specs.declared.state.Stop.{Stop}

@@ -6,7 +6,7 @@ use Rattle.std.specs.declared.result.Result.{Result}
 use Rattle.std.proofs.lemmas.Bool.{leb-true}
 use Rattle.abc_heap_values.specs.declared.values.Value.{Value}
 use Rattle.abc_heap_store.specs.declared.records.Full.{Full}
-use Rattle.abc_link_program.specs.Owners.{body_of}
+use Rattle.abc_link_names.specs.Owners.{body_of}
 use Rattle.abc_frames.specs.Frame.{Frame, Frames, arguments as operands, begun, dropped, entered, newest, room_for, waiting}
 use Rattle.abc_frames.specs.declared.records.Entry.{Entry}
 use Rattle.abc_frames.specs.declared.records.Wait.{Wait}

@@ -14,9 +14,9 @@ use Rattle.abc_heap_values.specs.declared.values.Span.{Span}
 use Rattle.abc_heap_values.specs.declared.values.Value.{Value}
 use Rattle.abc_heap_values.specs.declared.values.Value.TheVariants as values
 use Rattle.abc_heap_store.specs.declared.records.Full.{Full}
-use Rattle.abc_link_program.specs.Linked.{LinkedFile}
-use Rattle.abc_link_program.specs.Owners.{body_of}
-use Rattle.abc_link_program.specs.declared.types.Ty.TheVariants as types
+use Rattle.abc_link_names.specs.Linked.{LinkedFile}
+use Rattle.abc_link_names.specs.Owners.{body_of}
+use Rattle.abc_link_names.specs.declared.types.Ty.TheVariants as types
 use Rattle.abc_frames.specs.Frame.{Frame, Frames, arguments as operands, begun, dropped, entered, newest, room_for, waiting}
 use Rattle.abc_frames.specs.declared.records.Entry.{Entry}
 use Rattle.abc_frames.specs.declared.records.Wait.{Wait}

@@ -16,9 +16,9 @@ use Rattle.abc_objects.specs.Stands.{host_layout}
 use Rattle.abc_ops.specs.Conversions.{spelled}
 use Rattle.abc_ops.specs.Left.{followed_by, text_value}
 use Rattle.abc_ops.specs.declared.end.OpEnd.{OpEnd}
-use Rattle.abc_link_program.specs.Linked.{layout_of}
-use Rattle.abc_link_program.specs.declared.part.LayoutId.{LayoutId}
-use Rattle.abc_link_program.specs.declared.part.Part.TheVariants as parts
+use Rattle.abc_link_names.specs.Linked.{layout_of}
+use Rattle.abc_link_names.specs.declared.part.LayoutId.{LayoutId}
+use Rattle.abc_link_names.specs.declared.part.Part.TheVariants as parts
 use Rattle.abc_frames.specs.Frame.{Frame, arguments}
 use Rattle.abc_run_state.specs.Operands.{operand_at}
 use Rattle.abc_run_state.specs.Settling.{settles}

@@ -2,7 +2,7 @@
 -- coerced to.
 use Rattle.std.specs.Prelude.{◌≡◌, ℕ, ◌+◌, false, length}
 use Rattle.abc_heap_values.specs.declared.values.Value.{Value}
-use Rattle.abc_link_program.specs.Linked.{LinkedFile}
+use Rattle.abc_link_names.specs.Linked.{LinkedFile}
 use Rattle.abc_frames.specs.Frame.{Frame, arguments}
 use Rattle.abc_file_types.specs.declared.methods.Method.{Method}
 use Rattle.abc_verify_typing.specs.Routines.{takes_array}

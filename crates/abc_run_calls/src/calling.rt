@@ -2,16 +2,13 @@ ghost use Rattle.std.specs.Prelude.{◌≡◌, ◌<◌, ◌≤◌, length};
 ghost use Rattle.abc_frames.specs.Ready.{IsReady};
 ghost use Rattle.abc_objects.specs.Stands.{NamesParts, StandsOver};
 ghost use Rattle.abc_objects.specs.Values.{Exists};
-ghost use Rattle.abc_frames.specs.Frame.{newest};
-ghost use Rattle.abc_run_calls.specs.Arguments.{IsKnown};
 ghost use Rattle.abc_run_calls.specs.Entering.{placed};
-ghost use Rattle.abc_run_state.specs.Outer.{Outer, setting, world};
+ghost use Rattle.abc_run_state.specs.Outer.{Outer, world};
 ghost use Rattle.abc_run_state.specs.Settling.{given_by, taken_by, wait_of};
-ghost use Rattle.abc_run_state.specs.Standing.{IsSet};
-ghost use Rattle.abc_run_state.specs.Stops.{IsOpen};
-ghost use Rattle.abc_run_state.specs.Turns.{Leaves, Runs};
 ghost use Rattle.abc_meaning.specs.Calling.{this_of as this_so};
-ghost use Rattle.abc_run_calls.specs.Calls.{CanFinish, calls_object, calls_value, enters_settled};
+ghost use Rattle.abc_run_calls.specs.Calls.{calls_object, calls_value, enters_settled};
+ghost use Rattle.abc_run_state.specs.Doing.{Does};
+ghost use Rattle.abc_run_calls.specs.Doing.{CanDo, DoesOrLeaves};
 
 use crate::entering::enter;
 use crate::hosts::call_class;
@@ -66,13 +63,10 @@ fn call_function(
     how: How,
 ) -> Result<(), Stop>
     ghost out: { Outer }
-    requires set { IsSet linked.now s.old }
-    requires known { IsKnown linked.now s.old.given.limit }
+    requires can { CanDo linked.now out (λ p. enters_settled p method this (placed at) count how) s.old }
     requires ready { IsReady (taken_by how) (given_by how) s.old.frames }
     requires count { count ≤ taken_by how }
-    requires free { IsOpen (enters_settled (setting linked.now out) method this (placed at) count how (newest s.old.frames) (world s.old out)) }
-    ensures runs { Runs linked.now out (enters_settled (setting linked.now out) method this (placed at) count how (newest s.old.frames)) s.old result s.new }
-    ensures limit { s.new.given.limit ≡ s.old.given.limit }
+    ensures { Does linked.now out (λ p. enters_settled p method this (placed at) count how) s.old result s.new }
 {
     let (taken, wait) = waiting(how);
     enter(linked, s, method, this, at, count, taken, wait)
@@ -88,15 +82,11 @@ fn call_what(
     how: How,
 ) -> Result<Left, Stop>
     ghost out: { Outer }
-    requires set { IsSet linked.now s.old }
-    requires known { IsKnown linked.now s.old.given.limit }
+    requires can { CanDo linked.now out (λ p. calls_object p what receiver count how) s.old }
     requires ready { IsReady (taken_by how) (given_by how) s.old.frames }
     requires count { count ≤ taken_by how }
     requires names { NamesParts linked.now s.old.arena what }
-    requires free { IsOpen (calls_object (setting linked.now out) what receiver count how (newest s.old.frames) (world s.old out)) }
-    ensures leaves { Leaves linked.now out (calls_object (setting linked.now out) what receiver count how (newest s.old.frames)) s.old result s.new }
-    ensures finishes { CanFinish linked.now result s.new }
-    ensures limit { s.new.given.limit ≡ s.old.given.limit }
+    ensures { DoesOrLeaves linked.now out (λ p. calls_object p what receiver count how) s.old result s.new }
 {
     match what {
         What::Closure {
@@ -141,15 +131,11 @@ pub fn call(
     how: How,
 ) -> Result<Left, Stop>
     ghost out: { Outer }
-    requires set { IsSet linked.now s.old }
-    requires known { IsKnown linked.now s.old.given.limit }
+    requires can { CanDo linked.now out (λ p. calls_value p callee receiver count how) s.old }
     requires ready { IsReady (taken_by how) (given_by how) s.old.frames }
     requires count { count ≤ taken_by how }
     requires callee { Exists linked.now s.old.arena callee }
-    requires free { IsOpen (calls_value (setting linked.now out) callee receiver count how (newest s.old.frames) (world s.old out)) }
-    ensures leaves { Leaves linked.now out (calls_value (setting linked.now out) callee receiver count how (newest s.old.frames)) s.old result s.new }
-    ensures finishes { CanFinish linked.now result s.new }
-    ensures limit { s.new.given.limit ≡ s.old.given.limit }
+    ensures { DoesOrLeaves linked.now out (λ p. calls_value p callee receiver count how) s.old result s.new }
 {
     let Value::Obj(o) = callee else {
         return Err(Stop::Errs(HostClass::TypeError));

@@ -4,9 +4,11 @@ ghost use Rattle.abc_frames.specs.Frame.{arguments as operands, newest};
 ghost use Rattle.abc_run_state.specs.Outer.{Outer, setting, world};
 ghost use Rattle.abc_run_state.specs.Standing.{IsSet};
 ghost use Rattle.abc_run_state.specs.Stops.{IsOpen, answer};
-ghost use Rattle.abc_run_state.specs.Turns.{IsDoneIf, Runs};
+ghost use Rattle.abc_run_state.specs.Turns.{IsDoneIf};
 ghost use Rattle.abc_run_calls.specs.Arguments.{IsKnown, Makes, makes_arguments, receiver, with_values};
 ghost use Rattle.abc_run_calls.specs.Entering.{enters_above, enters_owned_above, placed, puts_on, starts_above};
+ghost use Rattle.abc_run_state.specs.Doing.{Does};
+ghost use Rattle.abc_run_calls.specs.Doing.{CanDo};
 
 use crate::arguments::{array_of, coerce_arguments, give};
 use crate::keeping::{enters_in_place, is_in_place};
@@ -65,8 +67,7 @@ pub fn put_on(
     requires given { 0 < length s.old.given.items }
     requires room { length s.old.given.items < s.old.given.limit }
     requires free { IsOpen (puts_on (setting linked.now out) method (placed at) (receiver s.old.given.items) (drop 1 s.old.given.items) count taken wait (newest s.old.frames) (world s.old out)) }
-    ensures runs { Runs linked.now out (puts_on (setting linked.now out) method (placed at) (receiver s.old.given.items) (drop 1 s.old.given.items) count taken wait (newest s.old.frames)) s.old result s.new }
-    ensures limit { s.new.given.limit ≡ s.old.given.limit }
+    ensures { Does linked.now out (λ p. puts_on p method (placed at) (receiver s.old.given.items) (drop 1 s.old.given.items) count taken wait) s.old result s.new }
 {
     let array = array_of(linked, s, method_at(linked, method), count)?;
     give(&mut s.given, array);
@@ -88,14 +89,11 @@ fn enter_prepared(
     wait: Wait,
 ) -> Result<(), Stop>
     ghost out: { Outer }
-    requires set { IsSet linked.now s.old }
-    requires known { IsKnown linked.now s.old.given.limit }
+    requires can { CanDo linked.now out (λ p. enters_above p method this (placed at) count taken wait) s.old }
     requires live { 0 < length s.old.frames.living }
     requires there { count ≤ length (newest s.old.frames).stack }
     requires taken { taken ≤ length (newest s.old.frames).stack }
-    requires free { IsOpen (enters_above (setting linked.now out) method this (placed at) count taken wait (newest s.old.frames) (world s.old out)) }
-    ensures runs { Runs linked.now out (enters_above (setting linked.now out) method this (placed at) count taken wait (newest s.old.frames)) s.old result s.new }
-    ensures limit { s.new.given.limit ≡ s.old.given.limit }
+    ensures { Does linked.now out (λ p. enters_above p method this (placed at) count taken wait) s.old result s.new }
 {
     prepare(linked, s, method, this, count)?;
     put_on(linked, s, method, at, count, taken, wait)
@@ -141,14 +139,11 @@ pub fn enter(
     wait: Wait,
 ) -> Result<(), Stop>
     ghost out: { Outer }
-    requires set { IsSet linked.now s.old }
-    requires known { IsKnown linked.now s.old.given.limit }
+    requires can { CanDo linked.now out (λ p. enters_above p method this (placed at) count taken wait) s.old }
     requires live { 0 < length s.old.frames.living }
     requires there { count ≤ length (newest s.old.frames).stack }
     requires taken { taken ≤ length (newest s.old.frames).stack }
-    requires free { IsOpen (enters_above (setting linked.now out) method this (placed at) count taken wait (newest s.old.frames) (world s.old out)) }
-    ensures runs { Runs linked.now out (enters_above (setting linked.now out) method this (placed at) count taken wait (newest s.old.frames)) s.old result s.new }
-    ensures limit { s.new.given.limit ≡ s.old.given.limit }
+    ensures { Does linked.now out (λ p. enters_above p method this (placed at) count taken wait) s.old result s.new }
 {
     if enters_at_once(linked, s, method, this, at, count, taken, wait) {
         return Ok(());
@@ -168,14 +163,11 @@ pub fn enter_owned(
     wait: Wait,
 ) -> Result<(), Stop>
     ghost out: { Outer }
-    requires set { IsSet linked.now s.old }
-    requires known { IsKnown linked.now s.old.given.limit }
+    requires can { CanDo linked.now out (λ p. enters_owned_above p method this count taken wait) s.old }
     requires live { 0 < length s.old.frames.living }
     requires there { count ≤ length (newest s.old.frames).stack }
     requires taken { taken ≤ length (newest s.old.frames).stack }
-    requires free { IsOpen (enters_owned_above (setting linked.now out) method this count taken wait (newest s.old.frames) (world s.old out)) }
-    ensures runs { Runs linked.now out (enters_owned_above (setting linked.now out) method this count taken wait (newest s.old.frames)) s.old result s.new }
-    ensures limit { s.new.given.limit ≡ s.old.given.limit }
+    ensures { Does linked.now out (λ p. enters_owned_above p method this count taken wait) s.old result s.new }
 {
     let at = place_of_owner(linked, s, linked.owner(method));
     enter(linked, s, method, this, at, count, taken, wait)
@@ -208,14 +200,11 @@ pub fn enters_on_object(
 /// here on.
 pub fn start_above(linked: &Linked, s: &mut State, script: u32) -> Result<(), Stop>
     ghost out: { Outer }
-    requires set { IsSet linked.now s.old }
-    requires known { IsKnown linked.now s.old.given.limit }
+    requires can { CanDo linked.now out (λ p. starts_above p script) s.old }
     requires live { 0 < length s.old.frames.living }
     requires script { script < length linked.now.file.scripts }
     requires started { script < length s.old.started }
-    requires free { IsOpen (starts_above (setting linked.now out) script (newest s.old.frames) (world s.old out)) }
-    ensures runs { Runs linked.now out (starts_above (setting linked.now out) script (newest s.old.frames)) s.old result s.new }
-    ensures limit { s.new.given.limit ≡ s.old.given.limit }
+    ensures { Does linked.now out (λ p. starts_above p script) s.old result s.new }
 {
     s.started.set(script as usize, true);
     let this = global_of(linked, s, script);

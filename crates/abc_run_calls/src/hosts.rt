@@ -1,16 +1,15 @@
-ghost use Rattle.std.specs.Prelude.{◌≡◌, ◌≤◌};
+ghost use Rattle.std.specs.Prelude.{◌≤◌};
 ghost use Rattle.abc_frames.specs.Ready.{IsReady};
-ghost use Rattle.abc_frames.specs.Frame.{newest};
-ghost use Rattle.abc_run_state.specs.Outer.{Outer, setting};
+ghost use Rattle.abc_run_state.specs.Outer.{Outer};
 ghost use Rattle.abc_run_state.specs.Settling.{given_by, taken_by};
 ghost use Rattle.abc_run_state.specs.Standing.{IsSet};
-ghost use Rattle.abc_run_state.specs.Turns.{Runs};
 ghost use Rattle.abc_run_calls.specs.Calls.{coerces_only, converts_only};
+ghost use Rattle.abc_run_state.specs.Doing.{Does};
 
 use abc_base::HostClass;
 use abc_heap_values::Conversion;
 use abc_link::Linked;
-use abc_link_program::Ty;
+use abc_link_names::Ty;
 use abc_run_state::{How, State, Stop, coerce, convert, operand, settle};
 
 /// A class object takes exactly one argument, which is coerced to the class's type.
@@ -25,8 +24,7 @@ pub(crate) fn call_class(
     requires set { IsSet linked.now s.old }
     requires ready { IsReady (taken_by how) (given_by how) s.old.frames }
     requires count { count ≤ taken_by how }
-    ensures runs { Runs linked.now out (coerces_only (setting linked.now out) ty count how (newest s.old.frames)) s.old result s.new }
-    ensures limit { s.new.given.limit ≡ s.old.given.limit }
+    ensures { Does linked.now out (λ p. coerces_only p ty count how) s.old result s.new }
 {
     if count != 1 {
         return Err(Stop::Errs(HostClass::ArgumentError));
@@ -49,8 +47,7 @@ pub(crate) fn convert_only(
     requires set { IsSet linked.now s.old }
     requires ready { IsReady (taken_by how) (given_by how) s.old.frames }
     requires count { count ≤ taken_by how }
-    ensures runs { Runs linked.now out (converts_only (setting linked.now out) to count how (newest s.old.frames)) s.old result s.new }
-    ensures limit { s.new.given.limit ≡ s.old.given.limit }
+    ensures { Does linked.now out (λ p. converts_only p to count how) s.old result s.new }
 {
     if count != 1 {
         return Err(Stop::Errs(HostClass::ArgumentError));

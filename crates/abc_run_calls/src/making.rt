@@ -4,13 +4,13 @@ ghost use Rattle.abc_frames.specs.Ready.{IsReady};
 ghost use Rattle.abc_objects.specs.Stands.{NamesParts};
 ghost use Rattle.abc_objects.specs.Values.{Exists, IsObject};
 ghost use Rattle.abc_frames.specs.Frame.{arguments, newest};
-ghost use Rattle.abc_run_calls.specs.Arguments.{IsKnown};
 ghost use Rattle.abc_run_state.specs.Outer.{Outer, setting, world};
 ghost use Rattle.abc_run_state.specs.Settling.{given_by, taken_by, wait_with};
 ghost use Rattle.abc_run_state.specs.Standing.{IsSet, Stays};
-ghost use Rattle.abc_run_state.specs.Stops.{IsOpen, answer};
-ghost use Rattle.abc_run_state.specs.Turns.{Runs};
+ghost use Rattle.abc_run_state.specs.Stops.{answer};
 ghost use Rattle.abc_run_calls.specs.Calls.{makes_instance, makes_of, makes_of_class, makes_plain, makes_value, plain_object};
+ghost use Rattle.abc_run_state.specs.Doing.{Does};
+ghost use Rattle.abc_run_calls.specs.Doing.{CanDo};
 
 use crate::elements::make_elements;
 use crate::entering::{prepare, put_on};
@@ -21,7 +21,7 @@ use abc_frames::Wait;
 use abc_heap_store::{ScopeId, What};
 use abc_heap_values::{Conversion, ObjId, Value};
 use abc_link::Linked;
-use abc_link_program::Part;
+use abc_link_names::Part;
 use abc_run_state::{How, Place, State, Stop, is_interface, make_object, prototype_of, settle};
 
 /// An object of Object, Error or one of its three, with its message.
@@ -63,8 +63,7 @@ fn make_plain(
     requires count { count ≤ taken_by how }
     requires inside { IsObject s.old.arena class_object }
     requires class { class ≢ Array }
-    ensures runs { Runs linked.now out (makes_plain (setting linked.now out) class_object class count how (newest s.old.frames)) s.old result s.new }
-    ensures limit { s.new.given.limit ≡ s.old.given.limit }
+    ensures { Does linked.now out (λ p. makes_plain p class_object class count how) s.old result s.new }
 {
     let made = plain_of(linked, s, class_object, class, count)?;
     settle(&mut s.frames, how, Value::Obj(made));
@@ -85,8 +84,7 @@ fn make_of_class(
     requires ready { IsReady (taken_by how) (given_by how) s.old.frames }
     requires count { count ≤ taken_by how }
     requires inside { IsObject s.old.arena class_object }
-    ensures runs { Runs linked.now out (makes_of_class (setting linked.now out) class_object class count how (newest s.old.frames)) s.old result s.new }
-    ensures limit { s.new.given.limit ≡ s.old.given.limit }
+    ensures { Does linked.now out (λ p. makes_of_class p class_object class count how) s.old result s.new }
 {
     match class {
         HostClass::Str => convert_only(linked, s, Conversion::ConvertS, count, how),
@@ -129,15 +127,12 @@ fn make_instance(
     how: How,
 ) -> Result<(), Stop>
     ghost out: { Outer }
-    requires set { IsSet linked.now s.old }
-    requires known { IsKnown linked.now s.old.given.limit }
+    requires can { CanDo linked.now out (λ p. makes_instance p class_object class home instances count how) s.old }
     requires ready { IsReady (taken_by how) (given_by how) s.old.frames }
     requires count { count ≤ taken_by how }
     requires inside { IsObject s.old.arena class_object }
     requires class { class < length linked.now.file.instances }
-    requires free { IsOpen (makes_instance (setting linked.now out) class_object class home instances count how (newest s.old.frames) (world s.old out)) }
-    ensures runs { Runs linked.now out (makes_instance (setting linked.now out) class_object class home instances count how (newest s.old.frames)) s.old result s.new }
-    ensures limit { s.new.given.limit ≡ s.old.given.limit }
+    ensures { Does linked.now out (λ p. makes_instance p class_object class home instances count how) s.old result s.new }
 {
     let maker = linked.abc().instances.get(class as usize).iinit;
     prepare(linked, s, maker, Value::Undefined, count)?;
@@ -164,15 +159,12 @@ fn make_of(
     how: How,
 ) -> Result<(), Stop>
     ghost out: { Outer }
-    requires set { IsSet linked.now s.old }
-    requires known { IsKnown linked.now s.old.given.limit }
+    requires can { CanDo linked.now out (λ p. makes_of p o what count how) s.old }
     requires ready { IsReady (taken_by how) (given_by how) s.old.frames }
     requires count { count ≤ taken_by how }
     requires inside { IsObject s.old.arena o }
     requires names { NamesParts linked.now s.old.arena what }
-    requires free { IsOpen (makes_of (setting linked.now out) o what count how (newest s.old.frames) (world s.old out)) }
-    ensures runs { Runs linked.now out (makes_of (setting linked.now out) o what count how (newest s.old.frames)) s.old result s.new }
-    ensures limit { s.new.given.limit ≡ s.old.given.limit }
+    ensures { Does linked.now out (λ p. makes_of p o what count how) s.old result s.new }
 {
     match what {
         What::ClassObject {
@@ -198,14 +190,11 @@ fn make_of(
 /// that `how` says. A value that is no class throws a TypeError; `new` on a function is a fault.
 pub fn make(linked: &Linked, s: &mut State, of: Value, count: u32, how: How) -> Result<(), Stop>
     ghost out: { Outer }
-    requires set { IsSet linked.now s.old }
-    requires known { IsKnown linked.now s.old.given.limit }
+    requires can { CanDo linked.now out (λ p. makes_value p of count how) s.old }
     requires ready { IsReady (taken_by how) (given_by how) s.old.frames }
     requires count { count ≤ taken_by how }
     requires value { Exists linked.now s.old.arena of }
-    requires free { IsOpen (makes_value (setting linked.now out) of count how (newest s.old.frames) (world s.old out)) }
-    ensures runs { Runs linked.now out (makes_value (setting linked.now out) of count how (newest s.old.frames)) s.old result s.new }
-    ensures limit { s.new.given.limit ≡ s.old.given.limit }
+    ensures { Does linked.now out (λ p. makes_value p of count how) s.old result s.new }
 {
     let Value::Obj(o) = of else {
         return Err(Stop::Errs(HostClass::TypeError));

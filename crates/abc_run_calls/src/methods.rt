@@ -1,5 +1,5 @@
 ghost use Rattle.std.specs.Prelude.{◌≡◌, IsSome, Some, slice_get};
-ghost use Rattle.abc_link_program.specs.Owners.{body_of};
+ghost use Rattle.abc_link_names.specs.Owners.{body_of};
 ghost use Rattle.abc_run_state.specs.Outer.{Outer, setting};
 ghost use Rattle.abc_run_state.specs.Turns.{kept};
 ghost use Rattle.abc_verify_typing.specs.Routines.{takes_array as takes_array_so};

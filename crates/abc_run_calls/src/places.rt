@@ -11,7 +11,7 @@ ghost use Rattle.abc_run_calls.specs.Entering.{placed};
 use abc_heap_store::What;
 use abc_heap_values::Value;
 use abc_link::Linked;
-use abc_link_program::Owner;
+use abc_link_names::Owner;
 use abc_run_state::{Place, State};
 
 /// The global object of a script.

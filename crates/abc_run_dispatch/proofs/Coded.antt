@@ -3,12 +3,12 @@ use Rattle.std.proofs.Common.{◌≡◌, ℕ, List, get_or, refl, sym, ap, ◌�
 use Rattle.std.specs.Prelude.{None, Some}
 use Rattle.std.specs.declared.option.Option.{Option}
 use Rattle.std.proofs.lemmas.List.{get_or_default}
-use Rattle.abc_link_program.proofs.MethodBodies.{body_inside}
-use Rattle.abc_link_names.specs.Parts.{body_at, no_body}
+use Rattle.abc_link_names.proofs.MethodBodies.{body_inside}
+use Rattle.abc_link_names.specs.PartsByNumber.{body_at, no_body}
 use Rattle.abc_run_dispatch.proofs.Bodied.{routine_is}
-use Rattle.abc_link_program.specs.Linked.{LinkedFile}
+use Rattle.abc_link_names.specs.Linked.{LinkedFile}
 use Rattle.abc_run_dispatch.specs.Held.{code_in}
-use Rattle.abc_link_program.specs.Owners.{body_of}
+use Rattle.abc_link_names.specs.Owners.{body_of}
 use Rattle.abc_meaning.specs.Setting.{Setting, routine_in, routine_of}
 use Rattle.abc_file_types.specs.declared.code.Body.{Body}
 use Rattle.abc_file_types.specs.declared.code.Instr.{Instr}

@@ -10,7 +10,7 @@ use Rattle.abc_run_values.proofs.Opened.{here_of, opened}
 use Rattle.abc_run_values.proofs.Shaped.{Tested, tested_is}
 use Rattle.abc_run_values.specs.Here.{act_here}
 use Rattle.abc_run_values.specs.Ready.{CanRun}
-use Rattle.abc_link_program.specs.Linked.{LinkedFile}
+use Rattle.abc_link_names.specs.Linked.{LinkedFile}
 use Rattle.abc_verify_typing.specs.Instructions.{arguments as argument_count, opcode, operand}
 use Rattle.abc_verify_typing.specs.Rows.{Shape, row_at}
 use Rattle.abc_verify_typing.specs.declared.row.Need.{Need}

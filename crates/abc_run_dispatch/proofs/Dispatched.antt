@@ -4,7 +4,7 @@ use Rattle.std.specs.Prelude.{Ok}
 use Rattle.std.specs.declared.result.Result.{Result}
 use Rattle.abc_file_types.specs.declared.code.Instr.{Instr}
 use Rattle.abc_frames.specs.Frame.{newest}
-use Rattle.abc_link_program.specs.Linked.{LinkedFile}
+use Rattle.abc_link_names.specs.Linked.{LinkedFile}
 use Rattle.abc_run_calls.proofs.Finishing.{goes_finishes, told_finishes}
 use Rattle.abc_run_calls.specs.Calls.{CanFinish}
 use Rattle.abc_run_dispatch.specs.Dispatching.{CanDispatch, DispatchesHere, IsDoneHereIf}

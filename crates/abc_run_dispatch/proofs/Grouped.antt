@@ -8,7 +8,7 @@ use Rattle.abc_run_values.specs.Groups.{first_branch_ops, last_branch_ops}
 use Rattle.abc_run_values.specs.Here.{act_in}
 use Rattle.abc_run_values.specs.Ready.{CanRun}
 use Rattle.abc_meaning.specs.Step.{does_row}
-use Rattle.abc_link_program.specs.Linked.{LinkedFile}
+use Rattle.abc_link_names.specs.Linked.{LinkedFile}
 use Rattle.abc_verify_typing.specs.Instructions.{opcode}
 use Rattle.abc_verify_typing.specs.Rows.{Shape, find, row_at, table}
 use Rattle.abc_frames.specs.Frame.{newest}

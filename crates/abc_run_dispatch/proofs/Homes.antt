@@ -4,13 +4,13 @@ use Rattle.std.specs.declared.option.Option.{Option}
 use Rattle.std.specs.Prelude.{None, Some, is_some, nat_lt, if◌then◌else◌}
 use Rattle.std.proofs.lemmas.Bool.{false≢true, ltb-false, ltb-true}
 use Rattle.std.proofs.lemmas.List.{get_or_past}
-use Rattle.abc_link_program.proofs.MethodBodies.{body_is_of}
+use Rattle.abc_link_names.proofs.MethodBodies.{body_is_of}
 use Rattle.abc_link_names.specs.Instances.{no_instance}
-use Rattle.abc_link_program.specs.Linked.{LinkedFile, layout_of}
-use Rattle.abc_link_program.specs.Owners.{body_of, owner_of}
-use Rattle.abc_link_program.specs.declared.part.Part.TheVariants as parts
-use Rattle.abc_link_program.specs.declared.types.Owner.{Owner}
-use Rattle.abc_link_program.specs.declared.types.Owner.TheVariants as owners
+use Rattle.abc_link_names.specs.Linked.{LinkedFile, layout_of}
+use Rattle.abc_link_names.specs.Owners.{body_of, owner_of}
+use Rattle.abc_link_names.specs.declared.part.Part.TheVariants as parts
+use Rattle.abc_link_names.specs.declared.types.Owner.{Owner}
+use Rattle.abc_link_names.specs.declared.types.Owner.TheVariants as owners
 use Rattle.abc_verify_typing.specs.declared.row.Site.TheVariants.{InMaker, OnInstance}
 use Rattle.abc_meaning.specs.Setting.{Setting, routine_in, routine_of}
 use Rattle.abc_file_types.specs.declared.classes.Instance.{Instance}

@@ -8,7 +8,7 @@ use Rattle.abc_meaning.specs.Step.{does_instr, runs}
 use Rattle.abc_run_values.specs.Here.{act_here, act_in}
 use Rattle.abc_run_values.specs.Ready.{CanRun}
 use Rattle.abc_run_values.specs.Returned.{IsReturned}
-use Rattle.abc_link_program.specs.Linked.{LinkedFile}
+use Rattle.abc_link_names.specs.Linked.{LinkedFile}
 use Rattle.abc_frames.specs.Frame.{Frame, newest}
 use Rattle.abc_run_state.specs.Outer.{Outer, setting, world}
 use Rattle.abc_run_state.specs.Turns.{Turned, turned}

@@ -8,7 +8,7 @@ use Rattle.abc_run_values.proofs.Doing.{Does}
 use Rattle.abc_run_values.proofs.Opened.{here_of}
 use Rattle.abc_run_values.specs.Here.{act_here}
 use Rattle.abc_run_values.specs.Ready.{CanRun}
-use Rattle.abc_link_program.specs.Linked.{LinkedFile}
+use Rattle.abc_link_names.specs.Linked.{LinkedFile}
 use Rattle.abc_verify_typing.specs.Rows.{Shape, row_at, table}
 use Rattle.abc_verify_typing.specs.declared.row.Need.TheVariants.{Value as OneValue}
 use Rattle.abc_frames.specs.Frame.{arguments, newest}

@@ -4,7 +4,7 @@ use Rattle.abc_run_names.specs.Deleted.{deletes_named}
 use Rattle.abc_run_names.specs.Named.{form_at, parts_count, parts_for}
 use Rattle.abc_run_values.proofs.Doing.{Does}
 use Rattle.abc_run_values.specs.Ready.{CanRun}
-use Rattle.abc_link_program.specs.Linked.{LinkedFile}
+use Rattle.abc_link_names.specs.Linked.{LinkedFile}
 use Rattle.abc_verify_typing.specs.Rows.{row_at, table}
 use Rattle.abc_verify_typing.specs.declared.row.Need.TheVariants.{Value as OneValue}
 use Rattle.abc_frames.specs.Frame.{newest}

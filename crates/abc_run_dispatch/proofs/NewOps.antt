@@ -8,11 +8,11 @@ use Rattle.abc_run_state.specs.Makers.{pushes_activation, pushes_array, pushes_c
 use Rattle.abc_run_dispatch.proofs.Bodied.{catch_is, has_activation_layout, routine_is}
 use Rattle.abc_run_values.proofs.Doing.{Does}
 use Rattle.abc_run_values.specs.Ready.{CanRun}
-use Rattle.abc_link_program.specs.Linked.{LinkedFile}
-use Rattle.abc_link_program.specs.Owners.{body_of}
-use Rattle.abc_link_program.specs.Parts.{HasLayout}
-use Rattle.abc_link_program.specs.declared.part.LayoutId.{LayoutId}
-use Rattle.abc_link_program.specs.declared.part.Part.TheVariants as parts
+use Rattle.abc_link_names.specs.Linked.{LinkedFile}
+use Rattle.abc_link_names.specs.Owners.{body_of}
+use Rattle.abc_link_names.specs.Parts.{HasLayout}
+use Rattle.abc_link_names.specs.declared.part.LayoutId.{LayoutId}
+use Rattle.abc_link_names.specs.declared.part.Part.TheVariants as parts
 use Rattle.abc_verify_typing.specs.Rows.{row_at, table}
 use Rattle.abc_frames.specs.Frame.{newest}
 use Rattle.abc_meaning.specs.Table.{act_of, acts}

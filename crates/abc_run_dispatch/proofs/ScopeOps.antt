@@ -9,7 +9,7 @@ use Rattle.abc_run_names.specs.Named.{form_at, parts_count, parts_for}
 use Rattle.abc_run_values.proofs.Doing.{Does}
 use Rattle.abc_run_values.proofs.Opened.{here_of}
 use Rattle.abc_run_values.specs.Ready.{CanRun}
-use Rattle.abc_link_program.specs.Linked.{LinkedFile}
+use Rattle.abc_link_names.specs.Linked.{LinkedFile}
 use Rattle.abc_run_members.specs.Scoped.{finds_or_global, finds_strictly, makes_class}
 use Rattle.abc_verify_typing.specs.Rows.{Shape, row_at, table}
 use Rattle.abc_verify_typing.specs.declared.row.Need.TheVariants as needed

@@ -6,9 +6,9 @@ use Rattle.abc_heap_values.specs.declared.values.Value.TheVariants.{Obj}
 use Rattle.abc_run_members.specs.Found.{find_in_scopes}
 use Rattle.abc_run_names.specs.Named.{form_at, named_here, parts_count}
 use Rattle.abc_run_members.specs.Scoped.{finds_or_global, finds_strictly, pushes_or_global, pushes_strictly}
-use Rattle.abc_heap_search.specs.declared.found.ScopeFound.{ScopeFound}
-use Rattle.abc_heap_search.specs.declared.found.ScopeFound.TheVariants.{Missing, Object, Start}
-use Rattle.abc_heap_search.specs.declared.name.Name.{Name}
+use Rattle.abc_objects.specs.declared.found.ScopeFound.{ScopeFound}
+use Rattle.abc_objects.specs.declared.found.ScopeFound.TheVariants.{Missing, Object, Start}
+use Rattle.abc_objects.specs.declared.name.Name.{Name}
 use Rattle.abc_frames.specs.Frame.{Frame}
 use Rattle.abc_meaning.specs.At.{At, gives_came}
 use Rattle.abc_meaning.specs.Names.{name_of}

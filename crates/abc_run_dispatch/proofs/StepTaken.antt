@@ -6,7 +6,7 @@ use Rattle.abc_run_values.proofs.Doing.{Does, pick}
 use Rattle.abc_run_values.proofs.OtherOps.{op_0C, op_0D, op_0E, op_0F, op_15, op_16, op_17, op_18}
 use Rattle.abc_run_values.specs.Groups.{double_ops}
 use Rattle.abc_run_values.specs.Ready.{CanRun}
-use Rattle.abc_link_program.specs.Linked.{LinkedFile}
+use Rattle.abc_link_names.specs.Linked.{LinkedFile}
 use Rattle.abc_frames.specs.Frame.{newest}
 use Rattle.abc_meaning.specs.At.{Act}
 use Rattle.abc_run_state.specs.Outer.{Outer}

@@ -7,10 +7,10 @@ use Rattle.abc_run_values.proofs.Doing.{Does}
 use Rattle.abc_run_values.proofs.Opened.{here_of, opened}
 use Rattle.abc_run_values.proofs.Shaped.{tested_is}
 use Rattle.abc_run_values.specs.Ready.{CanRun}
-use Rattle.abc_link_program.specs.Linked.{LinkedFile}
-use Rattle.abc_link_program.specs.Owners.{owner_of}
-use Rattle.abc_link_program.specs.declared.part.LayoutId.{LayoutId}
-use Rattle.abc_link_program.specs.declared.types.Owner.TheVariants.{Iinit}
+use Rattle.abc_link_names.specs.Linked.{LinkedFile}
+use Rattle.abc_link_names.specs.Owners.{owner_of}
+use Rattle.abc_link_names.specs.declared.part.LayoutId.{LayoutId}
+use Rattle.abc_link_names.specs.declared.types.Owner.TheVariants.{Iinit}
 use Rattle.abc_verify_typing.specs.Instructions.{opcode}
 use Rattle.abc_verify_typing.specs.Rows.{Shape, row_at, table}
 use Rattle.abc_verify_typing.specs.declared.row.Need.TheVariants as needed

@@ -11,7 +11,7 @@ use Rattle.abc_run_values.proofs.Armed.{Armed, armed, none_taken, taking}
 use Rattle.abc_run_values.proofs.Doing.{Does}
 use Rattle.abc_run_values.proofs.Opened.{here_of}
 use Rattle.abc_run_values.specs.Ready.{CanRun}
-use Rattle.abc_link_program.specs.Linked.{LinkedFile}
+use Rattle.abc_link_names.specs.Linked.{LinkedFile}
 use Rattle.abc_verify_typing.specs.Rows.{Shape, row_at, table}
 use Rattle.abc_frames.specs.Frame.{Frame, newest}
 use Rattle.abc_meaning.specs.At.{At, goes}

@@ -2,9 +2,9 @@
 use Rattle.std.specs.Prelude.{◌≡◌, [], ℕ, List, None, Some}
 use Rattle.std.specs.declared.option.Option.{Option}
 use Rattle.abc_run_dispatch.specs.declared.holding.Held.{Held}
-use Rattle.abc_link_names.specs.Parts.{body_at}
-use Rattle.abc_link_program.specs.Linked.{LinkedFile}
-use Rattle.abc_link_program.specs.Owners.{body_of}
+use Rattle.abc_link_names.specs.PartsByNumber.{body_at}
+use Rattle.abc_link_names.specs.Linked.{LinkedFile}
+use Rattle.abc_link_names.specs.Owners.{body_of}
 use Rattle.abc_file_types.specs.declared.code.Instr.{Instr}
 
 -- the code of a body of the file; where there is no body, none

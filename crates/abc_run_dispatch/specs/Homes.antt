@@ -1,9 +1,9 @@
 -- The class whose instances have a method, by the method's owner.
 use Rattle.std.specs.Prelude.{◌≡◌, ℕ, true, is_some, Some, None}
 use Rattle.std.specs.declared.option.Option.{Option}
-use Rattle.abc_link_program.specs.Linked.{LinkedFile}
-use Rattle.abc_link_program.specs.declared.types.Owner.{Owner}
-use Rattle.abc_link_program.specs.declared.types.Owner.TheVariants.{Iinit, Instance}
+use Rattle.abc_link_names.specs.Linked.{LinkedFile}
+use Rattle.abc_link_names.specs.declared.types.Owner.{Owner}
+use Rattle.abc_link_names.specs.declared.types.Owner.TheVariants.{Iinit, Instance}
 use Rattle.abc_verify_typing.specs.declared.row.Site.TheVariants.{OnInstance}
 use Rattle.abc_verify_typing.specs.Routines.{home_of}
 use Rattle.abc_verify_typing.specs.Rules.{super_layout}

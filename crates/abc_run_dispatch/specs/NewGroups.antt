@@ -1,6 +1,6 @@
 -- The opcodes of the groups of instructions that make objects and enter no method.
 use Rattle.std.specs.Prelude.{ℕ, List, [], ◌∷◌}
-use Rattle.abc_run_values.specs.declared.op.TheConstants as op
+use Rattle.abc_file_types.specs.declared.op.TheConstants as op
 
 -- with a number
 abbrev pub new_ops : List ℕ

@@ -1,6 +1,6 @@
 -- The opcodes of the groups of instructions on objects.
 use Rattle.std.specs.Prelude.{ℕ, List, [], ◌∷◌}
-use Rattle.abc_run_values.specs.declared.op.TheConstants as op
+use Rattle.abc_file_types.specs.declared.op.TheConstants as op
 
 -- walks over properties
 abbrev pub walk_ops : List ℕ

@@ -1,8 +1,8 @@
 -- What the code of the newest frame's instruction may rely on.
-use Rattle.std.specs.Prelude.{◌≡◌, ◌<◌, ◌^◌, length, slice_get, Some}
+use Rattle.std.specs.Prelude.{◌≡◌, length, slice_get, Some}
 use Rattle.abc_run_calls.specs.Arguments.{IsKnown}
 use Rattle.abc_run_values.specs.Ready.{CanRun}
-use Rattle.abc_link_program.specs.Linked.{LinkedFile}
+use Rattle.abc_link_names.specs.Linked.{LinkedFile}
 use Rattle.abc_frames.specs.Frame.{newest}
 use Rattle.abc_run_state.specs.Outer.{Outer, setting}
 use Rattle.abc_meaning.specs.Setting.{routine_of}
@@ -10,11 +10,9 @@ use Rattle.abc_run_state.specs.declared.state.State.{State}
 use Rattle.abc_file_types.specs.declared.code.Instr.{Instr}
 use Rattle.abc_verify_typing.specs.Routines.{Routine}
 
--- what calls, functions that are made and searches in scopes need: room for first locals, scopes that can be counted, and a flag
--- for each script
+-- what calls and searches in scopes need: room for first locals, and a flag for each script
 pub record IsEquipped (l : LinkedFile) (s : State) : Type 0 where
   pub known : IsKnown l s.given.limit
-  pub few : length (newest s.frames).scopes < 2 ^ 32
   pub started : length s.started ≡ length l.file.scripts
 
 -- an instruction stands at the place of the newest frame, and can be run

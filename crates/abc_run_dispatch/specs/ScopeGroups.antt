@@ -1,6 +1,6 @@
 -- The opcodes of the groups of instructions that find names in scopes or work on the base of a class.
 use Rattle.std.specs.Prelude.{ℕ, List, [], ◌∷◌}
-use Rattle.abc_run_values.specs.declared.op.TheConstants as op
+use Rattle.abc_file_types.specs.declared.op.TheConstants as op
 
 -- searches in scopes
 abbrev pub find_ops : List ℕ

@@ -11,7 +11,7 @@ use Rattle.abc_run_dispatch.specs.declared.groups.Numbered.{Numbered}
 use Rattle.abc_run_dispatch.specs.declared.groups.Numbered.TheVariants as numbereds
 use Rattle.abc_run_dispatch.specs.declared.groups.Paired.{Paired}
 use Rattle.abc_run_dispatch.specs.declared.groups.Paired.TheVariants as pairs
-use Rattle.abc_run_values.specs.declared.op.TheConstants as op
+use Rattle.abc_file_types.specs.declared.op.TheConstants as op
 
 -- ---- that stand alone
 

@@ -1,4 +1,4 @@
-ghost use Rattle.std.specs.Prelude.{true, ◌<◌, ◌^◌, ◌≡◌};
+ghost use Rattle.std.specs.Prelude.{true, ◌≡◌};
 ghost use Rattle.abc_run_dispatch.specs.MemberGroups.{property_call_ops, property_ops};
 ghost use Rattle.abc_run_dispatch.specs.NewGroups.{new_ops, scope_ops};
 ghost use Rattle.abc_run_dispatch.specs.ObjectGroups.{late_ops, slot_ops, walk_ops};
@@ -7,7 +7,7 @@ ghost use Rattle.abc_run_dispatch.specs.ScopeGroups.{find_ops, super_call_ops, s
 ghost use Rattle.abc_run_state.specs.Outer.{Outer};
 ghost use Rattle.abc_file_types.specs.Opcodes.{is_in};
 ghost use Rattle.abc_file_types.specs.declared.code.Instr.TheVariants.{Branch, One, Plain, Two};
-ghost use Rattle.abc_run_values.specs.declared.op.TheConstants.{CALL, CONSTRUCT, CONSTRUCTPROP, HASNEXT2, NEWCLASS};
+ghost use Rattle.abc_file_types.specs.declared.op.TheConstants.{CALL, CONSTRUCT, CONSTRUCTPROP, HASNEXT2, NEWCLASS};
 ghost use Rattle.abc_run_dispatch.specs.Dispatching.{CanDispatch, DispatchesHere};
 ghost use Rattle.abc_run_dispatch.specs.StepGroups.{first_order_ops, last_order_ops, to_number_ops};
 

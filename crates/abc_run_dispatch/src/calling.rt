@@ -7,13 +7,13 @@ ghost use Rattle.abc_run_state.specs.Outer.{Outer};
 ghost use Rattle.abc_file_types.specs.Opcodes.{is_in};
 ghost use Rattle.abc_file_types.specs.declared.code.Instr.TheVariants.{One, Two};
 ghost use Rattle.abc_run_dispatch.specs.MemberGroups.{property_call_ops};
-ghost use Rattle.abc_run_values.specs.declared.op.TheConstants.{CALL};
+ghost use Rattle.abc_file_types.specs.declared.op.TheConstants.{CALL};
 ghost use Rattle.abc_run_dispatch.specs.Dispatching.{CanDispatch, DispatchesHere};
 
+use abc_file_types::op;
 use abc_link::Linked;
 use abc_run_members::{call_property, call_value};
 use abc_run_state::{Left, State, Stop};
-use abc_run_values::op;
 
 /// `call`, with so many arguments.
 pub fn run_call_value(linked: &Linked, s: &mut State, count: u32) -> Result<Left, Stop>

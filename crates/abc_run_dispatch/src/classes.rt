@@ -1,11 +1,9 @@
-ghost use Rattle.std.specs.Prelude.{◌≡◌, ◌<◌, ◌^◌, length};
 ghost use Rattle.abc_run_calls.specs.Arguments.{IsKnown};
 ghost use Rattle.abc_run_values.specs.Here.{RunsHere};
 ghost use Rattle.abc_run_values.specs.Ready.{CanRun};
-ghost use Rattle.abc_frames.specs.Frame.{newest};
 ghost use Rattle.abc_run_state.specs.Outer.{Outer};
 ghost use Rattle.abc_file_types.specs.declared.code.Instr.TheVariants.{One};
-ghost use Rattle.abc_run_values.specs.declared.op.TheConstants.{NEWCLASS};
+ghost use Rattle.abc_file_types.specs.declared.op.TheConstants.{NEWCLASS};
 
 use abc_link::Linked;
 use abc_run_members::new_class;
@@ -16,7 +14,6 @@ pub fn run_class(linked: &Linked, s: &mut State, n: u32) -> Result<(), Stop>
     ghost out: { Outer }
     requires run { CanRun linked.now out s.old (One NEWCLASS n) }
     requires known { IsKnown linked.now s.old.given.limit }
-    requires few { length (newest s.old.frames).scopes < 2 ^ 32 }
     ensures { RunsHere linked.now out (One NEWCLASS n) s.old result s.new }
 {
     new_class(linked, s, n)

@@ -4,7 +4,7 @@ ghost use Rattle.abc_run_values.specs.Here.{RunsHere};
 ghost use Rattle.abc_run_values.specs.Ready.{CanRun};
 ghost use Rattle.abc_run_state.specs.Outer.{Outer};
 ghost use Rattle.abc_file_types.specs.declared.code.Instr.TheVariants.{One, Two};
-ghost use Rattle.abc_run_values.specs.declared.op.TheConstants.{CONSTRUCT, CONSTRUCTPROP};
+ghost use Rattle.abc_file_types.specs.declared.op.TheConstants.{CONSTRUCT, CONSTRUCTPROP};
 
 use abc_link::Linked;
 use abc_run_members::{construct, construct_property};

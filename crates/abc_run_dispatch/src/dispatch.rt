@@ -14,10 +14,10 @@ use crate::arms::{
 };
 use crate::groups::{Alone, Numbered, Paired, group_alone, group_numbered, group_paired};
 use crate::parts::{number_of, opcode_of, second_of};
-use abc_file_types::Instr;
+use abc_file_types::{Instr, op};
 use abc_link::Linked;
 use abc_run_state::{Left, State, Stop, goes};
-use abc_run_values::{op, run_byte, run_debug, run_scope_object, run_short, run_switch};
+use abc_run_values::{run_byte, run_debug, run_scope_object, run_short, run_switch};
 
 /// An opcode that stands alone, by its group.
 #[inline(never)]

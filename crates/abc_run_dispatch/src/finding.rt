@@ -7,10 +7,10 @@ ghost use Rattle.abc_file_types.specs.Opcodes.{is_in};
 ghost use Rattle.abc_file_types.specs.declared.code.Instr.TheVariants.{One};
 ghost use Rattle.abc_run_dispatch.specs.ScopeGroups.{find_ops};
 
+use abc_file_types::op;
 use abc_link::Linked;
 use abc_run_members::{find_or_global, find_strictly, get_lexical};
 use abc_run_state::{State, Stop};
-use abc_run_values::op;
 
 /// What finds a name among the scopes.
 pub fn run_find(linked: &Linked, s: &mut State, op: u8, n: u32) -> Result<(), Stop>

@@ -1,9 +1,9 @@
 ghost use Rattle.std.specs.Prelude.{◌≡◌, ◌<◌, ◌≤◌, true};
 ghost use Rattle.abc_run_dispatch.specs.StepGroups.{alone_ops, first_alone_ops, last_alone_ops, numbered_ops, ops_alone, ops_numbered, ops_paired, paired_ops, second_alone_ops};
 ghost use Rattle.abc_file_types.specs.Opcodes.{is_in};
-ghost use Rattle.abc_run_values.specs.declared.op.TheConstants.{SETPROPERTY};
+ghost use Rattle.abc_file_types.specs.declared.op.TheConstants.{SETPROPERTY};
 
-use abc_run_values::op;
+use abc_file_types::op;
 
 /// The groups of opcodes that stand alone.
 #[derive(Clone, Copy)]

@@ -1,11 +1,9 @@
-ghost use Rattle.std.specs.Prelude.{◌≡◌, ◌<◌, length, true, Ok, Some, slice_get};
-ghost use Rattle.abc_run_calls.specs.Calls.{CanFinish};
+ghost use Rattle.std.specs.Prelude.{◌≡◌, ◌<◌, length, Ok, Some, slice_get};
+ghost use Rattle.abc_run_dispatch.specs.Dispatching.{DispatchesNewest};
 ghost use Rattle.abc_run_dispatch.specs.Held.{IsHeld};
 ghost use Rattle.abc_run_dispatch.specs.Ready.{CanStep, IsEquipped};
-ghost use Rattle.abc_meaning.specs.Step.{runs};
 ghost use Rattle.abc_frames.specs.Frame.{newest};
 ghost use Rattle.abc_run_state.specs.Outer.{Outer, setting};
-ghost use Rattle.abc_run_state.specs.Turns.{Leaves};
 ghost use Rattle.abc_meaning.specs.Setting.{routine_of};
 ghost use Rattle.abc_run_state.specs.declared.state.Left.TheVariants.{Goes};
 ghost use Rattle.abc_verify_typing.specs.Routines.{Routine};
@@ -79,11 +77,8 @@ pub fn run_held<'a>(
     requires equipped { IsEquipped linked.now s.old }
     requires held { IsHeld linked.now held.old }
     requires none { left.old ≡ Ok Goes }
-    ensures leaves { Leaves linked.now out (runs (setting linked.now out) (newest s.old.frames) (routine_of (setting linked.now out) (newest s.old.frames).method)) s.old left.new s.new }
-    ensures finishes { CanFinish linked.now left.new s.new }
+    ensures dispatches { DispatchesNewest linked.now out s.old result left.new s.new }
     ensures held { IsHeld linked.now held.new }
-    ensures goes { result ≡ true → left.new ≡ Ok Goes }
-    ensures limit { s.new.given.limit ≡ s.old.given.limit }
 {
     hold_newest(linked, s, held);
     let instr = instr_here(linked, s, held);
@@ -100,10 +95,7 @@ pub fn run_newest(linked: &Linked, s: &mut State, left: &mut Result<Left, Stop>)
     requires can { CanStep linked.now out s.old }
     requires equipped { IsEquipped linked.now s.old }
     requires none { left.old ≡ Ok Goes }
-    ensures leaves { Leaves linked.now out (runs (setting linked.now out) (newest s.old.frames) (routine_of (setting linked.now out) (newest s.old.frames).method)) s.old left.new s.new }
-    ensures finishes { CanFinish linked.now left.new s.new }
-    ensures goes { result ≡ true → left.new ≡ Ok Goes }
-    ensures limit { s.new.given.limit ≡ s.old.given.limit }
+    ensures { DispatchesNewest linked.now out s.old result left.new s.new }
 {
     let mut held = hold(linked, s.frames.method());
     run_held(linked, s, &mut held, left)

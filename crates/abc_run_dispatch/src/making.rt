@@ -1,17 +1,16 @@
-ghost use Rattle.std.specs.Prelude.{◌≡◌, ◌<◌, ◌^◌, length, true};
+ghost use Rattle.std.specs.Prelude.{◌≡◌, true};
 ghost use Rattle.abc_run_dispatch.specs.NewGroups.{new_ops};
 ghost use Rattle.abc_run_values.specs.Here.{RunsHere};
 ghost use Rattle.abc_run_values.specs.Ready.{CanRun};
-ghost use Rattle.abc_frames.specs.Frame.{newest};
 ghost use Rattle.abc_run_state.specs.Outer.{Outer};
 ghost use Rattle.abc_file_types.specs.Opcodes.{is_in};
 ghost use Rattle.abc_file_types.specs.declared.code.Instr.TheVariants.{One};
-ghost use Rattle.abc_run_values.specs.declared.op.TheConstants.{NEWCATCH};
+ghost use Rattle.abc_file_types.specs.declared.op.TheConstants.{NEWCATCH};
 
 use crate::new_here::body_here;
+use abc_file_types::op;
 use abc_link::Linked;
 use abc_run_state::{State, Stop, new_array, new_catch, new_function, new_object};
-use abc_run_values::op;
 
 /// `newcatch`, for a handler of the method that runs.
 fn make_catch(linked: &Linked, s: &mut State, handler: u32) -> Result<(), Stop>
@@ -27,7 +26,6 @@ fn make_catch(linked: &Linked, s: &mut State, handler: u32) -> Result<(), Stop>
 pub fn run_new(linked: &Linked, s: &mut State, op: u8, n: u32) -> Result<(), Stop>
     ghost out: { Outer }
     requires run { CanRun linked.now out s.old (One op n) }
-    requires few { length (newest s.old.frames).scopes < 2 ^ 32 }
     requires among { is_in op new_ops ≡ true }
     ensures { RunsHere linked.now out (One op n) s.old result s.new }
 {

@@ -1,5 +1,5 @@
 ghost use Rattle.std.specs.Prelude.{◌≡◌, ◌<◌, IsSome, Some, length};
-ghost use Rattle.abc_link_program.specs.Owners.{body_of};
+ghost use Rattle.abc_link_names.specs.Owners.{body_of};
 ghost use Rattle.abc_frames.specs.Frame.{newest};
 
 use abc_link::Linked;

@@ -9,13 +9,13 @@ ghost use Rattle.abc_file_types.specs.declared.code.Instr.TheVariants.{One};
 ghost use Rattle.abc_run_dispatch.specs.MemberGroups.{property_ops};
 
 use crate::deleting::run_delete;
+use abc_file_types::op;
 use abc_link::Linked;
 use abc_run_members::{
     get_element_fast, get_property, get_property_fast, set_element_fast, set_property,
     set_property_fast,
 };
 use abc_run_state::{State, Stop};
-use abc_run_values::op;
 
 /// What reads, writes and deletes a property.
 pub fn run_property(linked: &Linked, s: &mut State, op: u8, n: u32) -> Result<(), Stop>

@@ -1,6 +1,6 @@
 ghost use Rattle.std.specs.Prelude.{◌≡◌, ◌<◌, Some, length};
-ghost use Rattle.abc_link_program.specs.Linked.{IsLayout};
-ghost use Rattle.abc_link_program.specs.Owners.{owner_of};
+ghost use Rattle.abc_link_names.specs.Linked.{IsLayout};
+ghost use Rattle.abc_link_names.specs.Owners.{owner_of};
 ghost use Rattle.abc_frames.specs.Frame.{newest};
 ghost use Rattle.abc_verify_typing.specs.Routines.{home_of};
 ghost use Rattle.abc_verify_typing.specs.Rules.{super_layout};
@@ -8,7 +8,7 @@ ghost use Rattle.abc_verify_typing.specs.declared.row.Site.TheVariants.{OnInstan
 ghost use Rattle.abc_run_dispatch.specs.Homes.{HasHome, class_of};
 
 use abc_link::Linked;
-use abc_link_program::{LayoutId, Owner, Part};
+use abc_link_names::{LayoutId, Owner, Part};
 use abc_run_state::State;
 
 /// The class whose instances have the methods of an owner.

@@ -5,14 +5,14 @@ ghost use Rattle.abc_run_values.specs.Ready.{CanRun};
 ghost use Rattle.abc_run_state.specs.Outer.{Outer};
 ghost use Rattle.abc_file_types.specs.Opcodes.{is_in};
 ghost use Rattle.abc_file_types.specs.declared.code.Instr.TheVariants.{Plain};
-ghost use Rattle.abc_run_values.specs.declared.op.TheConstants.{GETGLOBALSCOPE, NEWACTIVATION};
+ghost use Rattle.abc_file_types.specs.declared.op.TheConstants.{GETGLOBALSCOPE, NEWACTIVATION};
 
 use crate::new_here::body_here;
+use abc_file_types::op;
 use abc_frames::push;
 use abc_link::Linked;
 use abc_run_calls::global_of;
 use abc_run_state::{State, Stop, new_activation};
-use abc_run_values::op;
 
 /// `newactivation`, of the method that runs.
 fn make_activation(linked: &Linked, s: &mut State) -> Result<(), Stop>

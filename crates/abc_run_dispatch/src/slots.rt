@@ -6,10 +6,10 @@ ghost use Rattle.abc_run_state.specs.Outer.{Outer};
 ghost use Rattle.abc_file_types.specs.Opcodes.{is_in};
 ghost use Rattle.abc_file_types.specs.declared.code.Instr.TheVariants.{One};
 
+use abc_file_types::op;
 use abc_link::Linked;
 use abc_run_names::{get_slot, set_slot};
 use abc_run_state::{State, Stop};
-use abc_run_values::op;
 
 /// What reads and writes a slot by its number.
 pub fn run_slot(linked: &Linked, s: &mut State, op: u8, n: u32) -> Result<(), Stop>

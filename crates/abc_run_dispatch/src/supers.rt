@@ -8,14 +8,14 @@ ghost use Rattle.abc_run_state.specs.Outer.{Outer, setting};
 ghost use Rattle.abc_file_types.specs.Opcodes.{is_in};
 ghost use Rattle.abc_file_types.specs.declared.code.Instr.TheVariants.{One, Two};
 ghost use Rattle.abc_run_dispatch.specs.ScopeGroups.{super_call_ops, super_ops};
-ghost use Rattle.abc_run_values.specs.declared.op.TheConstants.{CALLSUPER, CALLSUPERVOID, CONSTRUCTSUPER, GETSUPER, SETSUPER};
+ghost use Rattle.abc_file_types.specs.declared.op.TheConstants.{CALLSUPER, CALLSUPERVOID, CONSTRUCTSUPER, GETSUPER, SETSUPER};
 
 use crate::scopes_here::{class_here, layout_here};
+use abc_file_types::op;
 use abc_link::Linked;
 use abc_run_members::{call_super, construct_super, get_super, set_super};
 use abc_run_names::parts_of;
 use abc_run_state::{How, Left, State, Stop};
-use abc_run_values::op;
 
 /// How many operands a call by a name takes: its arguments, the parts of the name, and the receiver.
 fn taken_with(linked: &Linked, n: u32, count: u32) -> u32

@@ -6,10 +6,10 @@ ghost use Rattle.abc_run_state.specs.Outer.{Outer};
 ghost use Rattle.abc_file_types.specs.Opcodes.{is_in};
 ghost use Rattle.abc_file_types.specs.declared.code.Instr.TheVariants.{Plain};
 
+use abc_file_types::op;
 use abc_link::Linked;
 use abc_run_names::{as_late, has_name, is_instance_of, is_late, next_name, next_value, walk_one};
 use abc_run_state::{State, Stop};
-use abc_run_values::op;
 
 /// What walks over properties.
 pub fn run_walk(linked: &Linked, s: &mut State, op: u8) -> Result<(), Stop>

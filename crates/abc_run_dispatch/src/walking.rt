@@ -3,7 +3,7 @@ ghost use Rattle.abc_run_values.specs.Here.{RunsHere};
 ghost use Rattle.abc_run_values.specs.Ready.{CanRun};
 ghost use Rattle.abc_run_state.specs.Outer.{Outer};
 ghost use Rattle.abc_file_types.specs.declared.code.Instr.TheVariants.{Two};
-ghost use Rattle.abc_run_values.specs.declared.op.TheConstants.{HASNEXT2};
+ghost use Rattle.abc_file_types.specs.declared.op.TheConstants.{HASNEXT2};
 
 use abc_link::Linked;
 use abc_run_names::walk_on;

@@ -1,29 +1,23 @@
 -- A method of the last script is entered over no frame, and what the call begins with.
-use Rattle.std.proofs.Common.{◌≡◌, ℕ, ℤ, ◌<◌, ◌^◌, List, [], ◌∷◌, length, drop, refl, sym, ap, ◌∙◌, subst, arith}
+use Rattle.std.proofs.Common.{◌≡◌, ℕ, ℤ, List, [], ◌∷◌, drop, refl, sym, ap, ◌∙◌, subst}
 use Rattle.std.specs.Prelude.{Ok, Err}
 use Rattle.std.specs.declared.result.Result.{Result}
-use Rattle.abc_base.specs.Ranges.{IsNumber}
-use Rattle.abc_run_finish.specs.Calling.{CanCall, enters_last}
-use Rattle.abc_meaning_sound.proofs.Called.{call_begins}
-use Rattle.abc_meaning_sound.proofs.Fairly.{call_fair}
+use Rattle.abc_run_finish.specs.Calling.{CanBegin, enters_last}
 use Rattle.abc_meaning.specs.Calls.{begins_call, entered_call, enters_call, numbers, stops_call}
 use Rattle.abc_heap_values.specs.declared.values.Value.{Value}
 use Rattle.abc_run_finish.specs.Ending.{IsFree, IsSized, IsThrowable}
-use Rattle.abc_run_calls.specs.Arguments.{IsKnown, makes_arguments, receiver}
-use Rattle.abc_meaning_sound.proofs.Filed.{definitions, some_script}
-use Rattle.abc_meaning_sound.proofs.Typed.{has_typings}
+use Rattle.abc_run_calls.specs.Arguments.{makes_arguments, receiver}
 use Rattle.abc_meaning.specs.Fair.{IsFairPart}
 use Rattle.abc_run_finish.proofs.Started.{arguments_open, entered_is, entered_stops, first_halts, first_put, first_sized, part_open}
-use Rattle.abc_run_finish.proofs.Stepped.{free_of, throwable}
+use Rattle.abc_run_finish.proofs.Stepped.{throwable}
 use Rattle.abc_run_finish.specs.Starting.{alone_if, begins, frames_alone}
-use Rattle.abc_run_finish.specs.Steps.{IsReached, stepped}
+use Rattle.abc_run_finish.specs.Steps.{stepped}
 use Rattle.abc_heap_store.specs.declared.records.Full.{Full}
 use Rattle.abc_heap_store.specs.declared.records.Limits.{Limits}
-use Rattle.abc_meaning.specs.Sound.{AreTypings, SteppedSound, Typings}
 use Rattle.abc_meaning.specs.Throwing.{Stepped, goes_on, last_script}
 use Rattle.abc_objects.specs.Stands.{StandsOver}
-use Rattle.abc_link_program.specs.Linked.{LinkedFile}
-use Rattle.abc_link_program.specs.Owners.{owner_of}
+use Rattle.abc_link_names.specs.Linked.{LinkedFile}
+use Rattle.abc_link_names.specs.Owners.{owner_of}
 use Rattle.abc_frames.specs.Frame.{Frame, Frames, room_for}
 use Rattle.abc_frames.specs.declared.records.Size.{Size}
 use Rattle.abc_run_state.specs.Outer.{Outer, setting, world}
@@ -36,7 +30,6 @@ use Rattle.abc_meaning.specs.World.{Outcome, Stop, Stopped, Went, World, and_the
 use Rattle.abc_run_state.proofs.Turning.{open_first}
 use Rattle.abc_run_state.specs.declared.state.State.{State}
 use Rattle.abc_run_state.specs.declared.state.Stop.{Stop as Why}
-use Rattle.abc_verify_typing.specs.Lists.{Each}
 
 -- ---- the method that is entered: `this` is the script's global object, and `at` is where the method runs
 
@@ -77,7 +70,7 @@ entered_called p m w q (Stopped n why) s none fair = refl
 
 -- ---- a call that can begin, with these numbers
 
-module _ (l : LinkedFile) (out : Outer) (m : ℕ) (s : State) (ns : List ℤ) (given : List Value) (can : CanCall l out m s) (numbered : Each IsNumber ns) (is : given ≡ numbers ns) where
+module _ (l : LinkedFile) (out : Outer) (m : ℕ) (s : State) (ns : List ℤ) (given : List Value) (can : CanBegin l out m ns s) (is : given ≡ numbers ns) where
   abbrev p : Setting
   p = setting l out
 
@@ -87,26 +80,14 @@ module _ (l : LinkedFile) (out : Outer) (m : ℕ) (s : State) (ns : List ℤ) (g
   abbrev entered : Outcome Frame
   entered = enters_last p m given here
 
-  pub scripts_there : 0 < length l.file.scripts
-  scripts_there = some_script l can.verified.linked
-
-  pub scripts_few : length l.file.scripts < 2 ^ 32
-  scripts_few = let count = (definitions l can.verified.linked).script_count in omega (arith, count)
-
-  typed : (states : Typings) × AreTypings p states
-  typed = has_typings p can.verified
-
   entered_is_call : enters_call p m ns here ≡ entered
   entered_is_call = ap (λ (vs : List Value). enters_last p m vs here) (sym is)
 
   fair : IsFairPart p here entered
-  fair = subst (λ (o : Outcome Frame). IsFairPart p here o) entered_is_call (call_fair p typed.0 here m ns can.verified typed.1 can.sound can.exported numbered)
+  fair = subst (λ (o : Outcome Frame). IsFairPart p here o) entered_is_call can.fair
 
   pub call_open : IsOpen entered
   call_open = part_open p here entered fair
-
-  begins_sound : SteppedSound p typed.0 (begins_call p here m ns)
-  begins_sound = call_begins p typed.0 here m ns can.verified typed.1 can.sound can.exported numbered
 
   begins_called : begins_call p here m ns ≡ called p m (begins p s.frames entered)
   begins_called = ap (entered_call p m) entered_is_call ∙ entered_called p m here s.frames entered can.sized can.none fair
@@ -118,16 +99,6 @@ module _ (l : LinkedFile) (out : Outer) (m : ℕ) (s : State) (ns : List ℤ) (g
 
     pub goes_sized : begins p s.frames entered ≡ GoesOn (world new out) new.frames → IsSized p new.arena.limits new.frames
     goes_sized e = first_sized p here (world new out) s.frames new.frames entered can.sized fair e
-
-    pub goes_reached : begins p s.frames entered ≡ GoesOn (world new out) new.frames → new.given.limit ≡ s.given.limit → IsReached l out new
-    goes_reached e limit = record {
-      verified = can.verified;
-      typings = typed.0;
-      typed = typed.1;
-      sound = subst (SteppedSound p typed.0) (goes_is e) begins_sound;
-      sized = goes_sized e;
-      known = subst (IsKnown l) (sym limit) can.known;
-    }
 
     pub stops_is : (why : Stop) → begins p s.frames entered ≡ Halts (world new out) new.frames why → begins_call p here m ns ≡ stops_call p m (world new out) why
     stops_is why e = begins_called ∙ ap (called p m) e
@@ -148,5 +119,5 @@ module _ (l : LinkedFile) (out : Outer) (m : ℕ) (s : State) (ns : List ℤ) (g
           none = ap (λ (q : Frames). q.living) (sym h.same) ∙ can.none;
           value = throwable l out new e h.fair;
           sized = subst (λ (x : Limits). IsSized p x new.frames) (sym h.left.limits) (subst (IsSized p s.arena.limits) h.same can.sized);
-          free = free_of p typed.0 (stops_call p m (world new out) (why_of e)) (subst (SteppedSound p typed.0) (stops_is (why_of e) b) begins_sound);
+          free = subst IsFree (stops_is (why_of e) b) can.free;
         }

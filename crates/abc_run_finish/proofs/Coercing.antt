@@ -17,7 +17,7 @@ use Rattle.abc_meaning.specs.World.{Outcome, Stop, Stopped, Went, World}
 use Rattle.abc_objects.proofs.Grown.{grows_self}
 use Rattle.abc_objects.specs.Stands.{Each, StandsOver}
 use Rattle.abc_objects.specs.Values.{Exists}
-use Rattle.abc_link_program.specs.Linked.{LinkedFile}
+use Rattle.abc_link_names.specs.Linked.{LinkedFile}
 use Rattle.abc_file_types.specs.declared.methods.Method.{Method}
 use Rattle.abc_file_types.specs.declared.methods.OptionValue.{OptionValue}
 

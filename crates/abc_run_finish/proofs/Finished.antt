@@ -1,5 +1,6 @@
 -- From what is left to be done to the step of the meaning.
 use Rattle.std.proofs.Common.{◌≡◌, ◌≢◌, ℕ, ◌<◌, List, [], length, refl, sym, ap, ◌∙◌, append-nil}
+use Rattle.std.proofs.lemmas.Option.{slice_get_within}
 use Rattle.std.specs.Prelude.{None, Some, Ok, Err, slice_get}
 use Rattle.std.specs.Io.KnownBytes.{append_known}
 use Rattle.std.specs.declared.option.Option.{Option}
@@ -10,7 +11,7 @@ use Rattle.abc_run_finish.specs.Ending.{stepped_by}
 use Rattle.abc_run_finish.specs.declared.ended.Ended.{Ended}
 use Rattle.abc_meaning.specs.Throwing.{Stepped, goes_on}
 use Rattle.abc_run_finish.specs.Outward.{Fails, Writes}
-use Rattle.abc_link_program.specs.Linked.{LinkedFile}
+use Rattle.abc_link_names.specs.Linked.{LinkedFile}
 use Rattle.abc_frames.specs.Frame.{Frames, arguments, newest}
 use Rattle.abc_run_state.specs.Outer.{Outer, setting, world}
 use Rattle.abc_run_state.specs.Settling.{settles}
@@ -20,7 +21,6 @@ use Rattle.abc_meaning.specs.Setting.{Setting}
 use Rattle.abc_meaning.specs.World.{World, and_then, some}
 use Rattle.abc_run_state.specs.declared.state.How.{How}
 use Rattle.abc_run_state.specs.declared.state.State.{State}
-use Rattle.abc_meaning_sound.proofs.Lists.{inside}
 use Rattle.abc_run_finish.specs.Fairly.{IsFairTurn, IsHeldTurn}
 use Rattle.abc_run_finish.specs.Steps.{FailsIn, GoesOnIn, StepsIn, halted_as, stepped}
 use Rattle.abc_run_finish.specs.declared.halts.Halt.TheVariants as halts
@@ -62,4 +62,4 @@ formula_there p n count how w q fair = go (slice_get p.formulas n) refl fair.hel
   where
     go : (o : Option Formula) → slice_get p.formulas n ≡ o → IsHeldTurn p (turned p q (and_then (and_then (some o w) (λ f. calls_formula p f (arguments count (newest q)))) (settles how (newest q)))) → n < length p.formulas
     go None e h = absurd h.fair
-    go (Some f) e h = inside p.formulas n f e
+    go (Some f) e h = slice_get_within p.formulas n f e

@@ -8,12 +8,7 @@ pub mod Stepped
 pub mod Returned
 pub mod Started
 pub mod Finished
-pub mod Sounding
 pub mod Begun
 pub mod Coercing
 pub mod Dropped
 pub mod Listed
-pub mod There
-pub mod Beginning
-pub mod Staying
-pub mod Example

@@ -15,7 +15,7 @@ use Rattle.abc_objects.specs.declared.error.OpenError.{OpenError}
 use Rattle.abc_objects.specs.declared.error.OpenError.TheVariants as errors
 use Rattle.abc_objects.proofs.Steps.{ledger_opened}
 use Rattle.abc_meaning.specs.Openings.{IsRefused, setting}
-use Rattle.abc_link_program.specs.Linked.{IsLinkedFile, LinkedFile}
+use Rattle.abc_link_names.specs.Linked.{IsLinkedFile, LinkedFile}
 
 is_less : (a b : ℕ) → a < b → nat_lt a b ≡ true
 is_less a b h = go (nat_lt a b) refl

@@ -14,7 +14,7 @@ use Rattle.abc_heap_values.specs.declared.values.Value.TheVariants as values
 use Rattle.abc_heap_store.specs.Heap.{Heap}
 use Rattle.abc_objects.specs.Stands.{Each}
 use Rattle.abc_objects.specs.Values.{Exists}
-use Rattle.abc_link_program.specs.Linked.{LinkedFile}
+use Rattle.abc_link_names.specs.Linked.{LinkedFile}
 use Rattle.abc_run_state.specs.Pairs.{with_operands}
 use Rattle.abc_frames.specs.Ready.{IsReady}
 use Rattle.abc_run_finish.specs.Outward.{Fails, Writes, adding}

@@ -12,11 +12,11 @@ use Rattle.abc_meaning.specs.Fair.{IsFairPart, IsFairStop, IsLeft}
 use Rattle.abc_heap_store.specs.Heap.{Heap}
 use Rattle.abc_heap_store.specs.declared.records.Full.{Full}
 use Rattle.abc_heap_store.specs.declared.records.Limits.{Limits}
-use Rattle.abc_link_names.specs.Parts.{script_at}
+use Rattle.abc_link_names.specs.PartsByNumber.{script_at}
 use Rattle.abc_meaning.specs.Step.{put_on, puts, size_of_frame, started as begun_by, step_of}
 use Rattle.abc_meaning.specs.Throwing.{last_script, stops}
 use Rattle.abc_objects.specs.Stands.{Each, StandsOver}
-use Rattle.abc_link_program.specs.Linked.{LinkedFile}
+use Rattle.abc_link_names.specs.Linked.{LinkedFile}
 use Rattle.abc_frames.specs.Frame.{Frame, Frames, begun, newest, newest_of, room_for, started, total, total_of_all}
 use Rattle.abc_frames.specs.declared.records.Entry.{Entry}
 use Rattle.abc_frames.specs.declared.records.Size.{Size}

@@ -5,7 +5,7 @@ use Rattle.abc_meaning.specs.Fair.{IsFairStop}
 use Rattle.abc_meaning.specs.Sound.{SteppedSound, Typings}
 use Rattle.abc_meaning.specs.Throwing.{Stepped, stops}
 use Rattle.abc_objects.specs.Stands.{StandsOver}
-use Rattle.abc_link_program.specs.Linked.{LinkedFile}
+use Rattle.abc_link_names.specs.Linked.{LinkedFile}
 use Rattle.abc_frames.specs.Frame.{Frame, Frames, newest, under}
 use Rattle.abc_run_state.specs.Outer.{Outer, setting, world}
 use Rattle.abc_run_state.specs.Stops.{why}

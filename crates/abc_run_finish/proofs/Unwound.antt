@@ -16,9 +16,9 @@ use Rattle.abc_frames.specs.declared.records.Size.{Size}
 use Rattle.abc_run_state.specs.Stops.{why}
 use Rattle.abc_run_state.specs.declared.state.Stop.{Stop as Why}
 use Rattle.abc_run_state.specs.declared.state.Stop.TheVariants as stopped
-use Rattle.abc_link_program.specs.Linked.{LinkedFile}
-use Rattle.abc_link_program.specs.Types.{type_of}
-use Rattle.abc_link_program.specs.declared.types.Ty.{Ty}
+use Rattle.abc_link_names.specs.Linked.{LinkedFile}
+use Rattle.abc_link_names.specs.Types.{type_of}
+use Rattle.abc_link_names.specs.declared.types.Ty.{Ty}
 use Rattle.abc_heap_store.specs.Heap.{Heap}
 use Rattle.abc_meaning.specs.Types.{is_of}
 use Rattle.abc_run_state.specs.Turns.{kept, size_for}

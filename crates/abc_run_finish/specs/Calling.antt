@@ -1,13 +1,13 @@
--- What a call is begun with: a sound world of a verified file, and no frame.
-use Rattle.std.specs.Prelude.{◌≡◌, ℕ, List, []}
-use Rattle.abc_meaning.specs.Exports.{IsScriptMethod}
+-- What the code that begins a call relies on: a world that stands, no frame, and a method that can be entered with these numbers.
+use Rattle.std.specs.Prelude.{◌≡◌, ◌<◌, ◌^◌, ℕ, ℤ, List, [], length}
 use Rattle.abc_heap_values.specs.declared.values.Value.{Value}
-use Rattle.abc_run_finish.specs.Ending.{IsSized}
+use Rattle.abc_run_finish.specs.Ending.{IsFree, IsSized}
 use Rattle.abc_run_calls.specs.Arguments.{IsKnown}
-use Rattle.abc_meaning.specs.ThrowLaws.{IsVerified}
-use Rattle.abc_meaning.specs.Sound.{WorldSound}
+use Rattle.abc_meaning.specs.Calls.{begins_call, enters_call}
+use Rattle.abc_meaning.specs.Fair.{IsFairPart}
 use Rattle.abc_meaning.specs.Throwing.{last_script}
-use Rattle.abc_link_program.specs.Linked.{LinkedFile}
+use Rattle.abc_objects.specs.Stands.{StandsOver}
+use Rattle.abc_link_names.specs.Linked.{LinkedFile}
 use Rattle.abc_frames.specs.Frame.{Frame}
 use Rattle.abc_run_state.specs.Outer.{Outer, setting, world}
 use Rattle.abc_meaning.specs.Entering.{enters_owned, global}
@@ -15,14 +15,16 @@ use Rattle.abc_meaning.specs.Setting.{Setting}
 use Rattle.abc_meaning.specs.World.{Run, see, ◌>>=◌}
 use Rattle.abc_run_state.specs.declared.state.State.{State}
 
--- a method trait of the last script can be called
-pub record CanCall (l : LinkedFile) (out : Outer) (m : ℕ) (s : State) : Type 0 where
-  pub verified : IsVerified (setting l out)
-  pub sound : WorldSound (setting l out) (world s out)
+-- over no frame a method can be entered with these numbers, and the call isn't stuck at once
+pub record CanBegin (l : LinkedFile) (out : Outer) (m : ℕ) (ns : List ℤ) (s : State) : Type 0 where
+  pub over : StandsOver l s.arena
   pub none : s.frames.living ≡ []
   pub sized : IsSized (setting l out) s.arena.limits s.frames
   pub known : IsKnown l s.given.limit
-  pub exported : IsScriptMethod (setting l out) m
+  pub scripts : 0 < length l.file.scripts
+  pub few : length l.file.scripts < 2 ^ 32
+  pub fair : IsFairPart (setting l out) (world s out) (enters_call (setting l out) m ns (world s out))
+  pub free : IsFree (begins_call (setting l out) (world s out) m ns)
 
 -- a method is entered on the global object of the last script, with any values
 abbrev pub enters_last : Setting → (method : ℕ) → List Value → Run Frame

@@ -10,7 +10,7 @@ use Rattle.abc_meaning.specs.World.{World}
 use Rattle.abc_base.specs.declared.names.HostClass.TheVariants as hosts
 use Rattle.abc_heap_store.specs.Heap.{Heap}
 use Rattle.abc_objects.specs.Values.{Exists}
-use Rattle.abc_link_program.specs.Linked.{LinkedFile}
+use Rattle.abc_link_names.specs.Linked.{LinkedFile}
 use Rattle.abc_run_state.specs.declared.state.Stop.{Stop}
 use Rattle.abc_run_state.specs.declared.state.Stop.TheVariants as stops
 use Rattle.abc_run_finish.specs.declared.ended.Ended.{Ended}

@@ -9,7 +9,7 @@ use Rattle.abc_meaning.specs.Step.{resumed, resumes}
 use Rattle.abc_meaning.specs.Throwing.{Stepped, last_script}
 use Rattle.abc_objects.specs.Stands.{StandsOver}
 use Rattle.abc_objects.specs.Values.{Exists}
-use Rattle.abc_link_program.specs.Linked.{LinkedFile}
+use Rattle.abc_link_names.specs.Linked.{LinkedFile}
 use Rattle.abc_frames.specs.Frame.{Frame, Frames, newest, under, waiting}
 use Rattle.abc_frames.specs.declared.records.Wait.{Wait}
 use Rattle.abc_frames.specs.declared.records.Wait.TheVariants as waits

@@ -4,11 +4,11 @@ use Rattle.std.specs.declared.option.Option.{Option}
 use Rattle.std.specs.List.{find}
 use Rattle.abc_heap_values.specs.declared.values.Value.{Value}
 use Rattle.abc_heap_store.specs.Heap.{Heap}
-use Rattle.abc_link_names.specs.Parts.{body_at}
-use Rattle.abc_link_program.specs.Linked.{LinkedFile}
-use Rattle.abc_link_program.specs.Owners.{body_of}
-use Rattle.abc_link_program.specs.Types.{type_of}
-use Rattle.abc_link_program.specs.declared.types.Ty.{Ty}
+use Rattle.abc_link_names.specs.PartsByNumber.{body_at}
+use Rattle.abc_link_names.specs.Linked.{LinkedFile}
+use Rattle.abc_link_names.specs.Owners.{body_of}
+use Rattle.abc_link_names.specs.Types.{type_of}
+use Rattle.abc_link_names.specs.declared.types.Ty.{Ty}
 use Rattle.abc_file_types.specs.declared.code.Handler.{Handler}
 use Rattle.abc_meaning.specs.Types.{is_of}
 

@@ -7,5 +7,3 @@ pub mod Starting
 pub mod Steps
 pub mod Fairly
 pub mod Calling
-pub mod OptionLaws
-pub mod ReachedLaws

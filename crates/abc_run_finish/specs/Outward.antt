@@ -6,7 +6,7 @@ use Rattle.std.specs.declared.result.Result.{Result}
 use Rattle.abc_base.specs.Sinks.{GrowsByFront}
 use Rattle.abc_run_finish.specs.declared.outward_halts.Unwritten.{Unwritten}
 use Rattle.abc_run_finish.specs.declared.outward_halts.Unwritten.TheVariants as unwritten
-use Rattle.abc_link_program.specs.Linked.{LinkedFile}
+use Rattle.abc_link_names.specs.Linked.{LinkedFile}
 use Rattle.abc_frames.specs.Frame.{Frames}
 use Rattle.abc_run_state.specs.Outer.{Outer, setting, world}
 use Rattle.abc_run_state.specs.Stops.{why}

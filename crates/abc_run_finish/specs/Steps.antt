@@ -12,7 +12,7 @@ use Rattle.abc_meaning.specs.Sound.{AreTypings, IsSound, Typings}
 use Rattle.abc_meaning.specs.Step.{gives_back, step_of}
 use Rattle.abc_meaning.specs.Throwing.{Done, End, Ends, Machine, Stepped, Steps, goes_on, stops}
 use Rattle.abc_run_finish.specs.Outward.{adding}
-use Rattle.abc_link_program.specs.Linked.{LinkedFile}
+use Rattle.abc_link_names.specs.Linked.{LinkedFile}
 use Rattle.abc_frames.specs.Frame.{under}
 use Rattle.abc_run_state.specs.Outer.{Outer, setting, world}
 use Rattle.abc_run_state.specs.Turns.{GoesOn, Gives, Halts, Turned, answered}

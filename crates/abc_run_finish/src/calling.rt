@@ -1,11 +1,10 @@
-ghost use Rattle.std.specs.Prelude.{◌≡◌, ◌<◌, ◌^◌, [], ◌∷◌, length, take, OnOk};
+ghost use Rattle.std.specs.Prelude.{◌≡◌, ◌<◌, ◌^◌, [], ◌∷◌, length, take};
 ghost use Rattle.abc_base.specs.Hosts.{arguments};
-ghost use Rattle.abc_run_finish.specs.Calling.{CanCall, enters_last};
+ghost use Rattle.abc_run_finish.specs.Calling.{CanBegin, enters_last};
 ghost use Rattle.abc_meaning.specs.Calls.{begins_call, numbers, stops_call};
 ghost use Rattle.abc_run_finish.specs.Ending.{IsFree, IsSized, IsThrowable, stepped_by};
 ghost use Rattle.abc_run_calls.specs.Arguments.{IsKnown};
 ghost use Rattle.abc_run_finish.specs.Starting.{begins, went_alone};
-ghost use Rattle.abc_run_finish.specs.Steps.{IsReached};
 ghost use Rattle.abc_meaning.specs.Throwing.{last_script};
 ghost use Rattle.abc_objects.specs.Stands.{Each, StandsOver};
 ghost use Rattle.abc_objects.specs.Values.{Exists};
@@ -102,9 +101,8 @@ fn call_stopped(linked: &Linked, s: &mut State, method: u32, stop: Stop) -> Resu
 /// options stand for them; nothing catches an error that is thrown, and a fault is at the method's first instruction.
 pub fn begin_call(linked: &Linked, s: &mut State, method: u32, args: &Plain) -> Result<(), Ended>
     ghost out: { Outer }
-    requires { CanCall linked.now out method s.old }
+    requires { CanBegin linked.now out method (arguments args.now) s.old }
     ensures step { begins_call (setting linked.now out) (world s.old out) method (arguments args.now) ≡ stepped_by result (world s.new out) s.new.frames }
-    ensures reached { OnOk result (IsReached linked.now out s.new) }
     ensures sized { IsSized (setting linked.now out) s.new.arena.limits s.new.frames }
     ensures limit { s.new.given.limit ≡ s.old.given.limit }
 {

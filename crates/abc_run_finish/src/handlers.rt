@@ -1,6 +1,6 @@
 ghost use Rattle.std.specs.Prelude.{◌≡◌};
 ghost use Rattle.std.specs.List.{find};
-ghost use Rattle.abc_link_names.specs.Parts.{body_at};
+ghost use Rattle.abc_link_names.specs.PartsByNumber.{body_at};
 ghost use Rattle.abc_objects.specs.Stands.{StandsOver};
 ghost use Rattle.abc_objects.specs.Values.{Exists};
 ghost use Rattle.abc_run_finish.specs.Handling.{catches as catches_so, target_of};

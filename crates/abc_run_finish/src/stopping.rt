@@ -14,7 +14,7 @@ use abc_frames::unwind;
 use abc_heap_store::{Limit, What};
 use abc_heap_values::Value;
 use abc_link::Linked;
-use abc_link_program::Part;
+use abc_link_names::Part;
 use abc_meaning::Thrown;
 use abc_run_state::{State, Stop, make_of_host};
 

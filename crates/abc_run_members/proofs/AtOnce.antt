@@ -14,14 +14,14 @@ use Rattle.abc_lookup.specs.NoTraits.{IsFirst, IsPlain}
 use Rattle.abc_meaning.specs.Names.{named}
 use Rattle.abc_run_names.specs.Named.{form_at, parts_count, parts_for}
 use Rattle.abc_objects.specs.Values.{IsObject}
-use Rattle.abc_link_program.specs.declared.types.Owner.{Owner}
-use Rattle.abc_heap_search.specs.Candidates.{layout_at}
-use Rattle.abc_heap_search.specs.ElementNames.{element_name}
-use Rattle.abc_heap_search.specs.declared.found.Found.{Found}
-use Rattle.abc_heap_search.specs.declared.found.Found.TheVariants as founds
-use Rattle.abc_heap_search.specs.declared.found.Want.TheVariants.{Read, Write}
-use Rattle.abc_heap_search.specs.declared.name.Name.{Name}
-use Rattle.abc_heap_search.specs.declared.name.Spaces.{Spaces}
+use Rattle.abc_link_names.specs.declared.types.Owner.{Owner}
+use Rattle.abc_objects.specs.Candidates.{layout_at}
+use Rattle.abc_objects.specs.ElementNames.{element_name}
+use Rattle.abc_objects.specs.declared.found.Found.{Found}
+use Rattle.abc_objects.specs.declared.found.Found.TheVariants as founds
+use Rattle.abc_objects.specs.declared.found.Want.TheVariants.{Read, Write}
+use Rattle.abc_objects.specs.declared.name.Name.{Name}
+use Rattle.abc_objects.specs.declared.name.Spaces.{Spaces}
 use Rattle.abc_frames.specs.Frame.{Frame, arguments}
 use Rattle.abc_run_state.specs.Operands.{operand_at}
 use Rattle.abc_run_state.specs.Settling.{settles}

@@ -7,19 +7,19 @@ use Rattle.abc_heap_values.specs.declared.values.ObjId.{ObjId}
 use Rattle.abc_heap_values.specs.declared.values.Value.{Value}
 use Rattle.abc_heap_values.specs.declared.values.Value.TheVariants.{Obj}
 use Rattle.std.proofs.lemmas.Bool.{false≢true}
-use Rattle.abc_link_program.proofs.ClassBases.{bases_known}
+use Rattle.abc_link_names.proofs.ClassBases.{bases_known}
 use Rattle.abc_link_names.specs.Bases.{base_named, is_some_class}
 use Rattle.abc_link_names.specs.declared.named.Named.{Named}
 use Rattle.abc_link_names.specs.declared.named.Named.TheVariants as named
 use Rattle.abc_objects.specs.Stands.{prototype_of}
 use Rattle.abc_objects.proofs.Made.{part_found}
-use Rattle.abc_link_program.specs.Linked.{IsLinkedFile, LinkedFile, above, layout_of}
-use Rattle.abc_link_program.specs.Numbering.{part_at}
-use Rattle.abc_link_program.specs.Parts.{HasLayout, base_part, parent}
-use Rattle.abc_link_program.specs.Places.{place_under}
-use Rattle.abc_link_program.specs.declared.part.Part.{Part}
-use Rattle.abc_link_program.specs.declared.part.Part.TheVariants as parts
-use Rattle.abc_link_program.specs.ClassBases.{BaseKnown}
+use Rattle.abc_link_names.specs.Linked.{IsLinkedFile, LinkedFile, above, layout_of}
+use Rattle.abc_link_names.specs.Numbering.{part_at}
+use Rattle.abc_link_names.specs.Parts.{HasLayout, base_part, parent}
+use Rattle.abc_link_names.specs.Places.{place_under}
+use Rattle.abc_link_names.specs.declared.part.Part.{Part}
+use Rattle.abc_link_names.specs.declared.part.Part.TheVariants as parts
+use Rattle.abc_link_names.specs.ClassBases.{BaseKnown}
 use Rattle.abc_meaning.specs.Newing.{is_that}
 use Rattle.abc_meaning.specs.Making.{prototype_in}
 use Rattle.abc_meaning.specs.World.{Errs, Outcome, Run, Stopped, Went, World, see, throws}

@@ -7,8 +7,8 @@ use Rattle.abc_run_members.specs.Members.{calls_named, parts_at}
 use Rattle.abc_run_names.specs.Named.{form_at, parts_count}
 use Rattle.abc_frames.specs.Ready.{IsReady}
 use Rattle.abc_run_members.specs.AtOnce.{how_for}
-use Rattle.abc_link_program.specs.Linked.{LinkedFile}
-use Rattle.abc_heap_search.specs.declared.name.Name.{Name}
+use Rattle.abc_link_names.specs.Linked.{LinkedFile}
+use Rattle.abc_objects.specs.declared.name.Name.{Name}
 use Rattle.abc_frames.specs.Frame.{newest}
 use Rattle.abc_run_state.specs.Outer.{Outer, setting, world}
 use Rattle.abc_run_state.specs.Settling.{given_by, taken_by}

@@ -7,15 +7,15 @@ use Rattle.abc_base.specs.declared.names.HostClass.TheVariants as hosts
 use Rattle.abc_heap_values.specs.declared.values.ObjId.{ObjId}
 use Rattle.abc_heap_values.specs.declared.values.Value.{Value}
 use Rattle.abc_heap_values.specs.declared.values.Value.TheVariants as values
-use Rattle.abc_link_program.specs.declared.types.Owner.{Owner}
+use Rattle.abc_link_names.specs.declared.types.Owner.{Owner}
 use Rattle.abc_heap_store.specs.Heap.{Object, object_at}
 use Rattle.abc_objects.specs.Values.{IsObject}
-use Rattle.abc_heap_search.specs.Searches.{declared_found}
-use Rattle.abc_heap_search.specs.Spaces.{holds_public}
-use Rattle.abc_heap_search.specs.declared.found.Found.{Found}
-use Rattle.abc_heap_search.specs.declared.found.Found.TheVariants as founds
-use Rattle.abc_heap_search.specs.declared.found.Want.TheVariants.{Write}
-use Rattle.abc_heap_search.specs.declared.name.Name.{Name}
+use Rattle.abc_objects.specs.Searches.{declared_found}
+use Rattle.abc_objects.specs.Spaces.{holds_public}
+use Rattle.abc_objects.specs.declared.found.Found.{Found}
+use Rattle.abc_objects.specs.declared.found.Found.TheVariants as founds
+use Rattle.abc_objects.specs.declared.found.Want.TheVariants.{Write}
+use Rattle.abc_objects.specs.declared.name.Name.{Name}
 use Rattle.abc_run_calls.specs.Calls.{settled_by}
 use Rattle.abc_frames.specs.Frame.{Frame, arguments}
 use Rattle.abc_run_state.specs.Operands.{operand_at}

@@ -11,12 +11,12 @@ use Rattle.abc_lookup.specs.Named.{element_in, element_on}
 use Rattle.abc_lookup.specs.declared.elements.ElementName as code
 use Rattle.abc_lookup.specs.NoTraits.{IsPlain}
 use Rattle.abc_objects.specs.Values.{IsObject}
-use Rattle.abc_link_program.specs.Linked.{LinkedFile}
-use Rattle.abc_heap_search.specs.Candidates.{layout_at}
-use Rattle.abc_heap_search.specs.ElementNames.{ElementName, IsNumber}
-use Rattle.abc_heap_search.specs.declared.found.Found.TheVariants as founds
-use Rattle.abc_heap_search.specs.declared.found.Want.TheVariants.{Write}
-use Rattle.abc_heap_search.specs.declared.name.Name.{Name}
+use Rattle.abc_link_names.specs.Linked.{LinkedFile}
+use Rattle.abc_objects.specs.Candidates.{layout_at}
+use Rattle.abc_objects.specs.ElementNames.{ElementName, IsNumber}
+use Rattle.abc_objects.specs.declared.found.Found.TheVariants as founds
+use Rattle.abc_objects.specs.declared.found.Want.TheVariants.{Write}
+use Rattle.abc_objects.specs.declared.name.Name.{Name}
 use Rattle.abc_run_state.specs.Outer.{Outer, setting, world}
 use Rattle.abc_run_state.specs.declared.state.State.{State}
 use Rattle.abc_meaning.specs.Calling.{got}

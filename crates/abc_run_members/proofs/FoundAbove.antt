@@ -5,19 +5,19 @@ use Rattle.std.specs.List.{list_any}
 use Rattle.abc_heap_values.specs.declared.values.ObjId.{ObjId}
 use Rattle.abc_heap_store.specs.Heap.{Heap, object_at}
 use Rattle.abc_base_graphs.specs.Ways.{before, way}
-use Rattle.abc_link_program.specs.Linked.{IsLinkedFile, LinkedFile, above, base}
-use Rattle.abc_link_program.proofs.Tree.{above_le}
-use Rattle.abc_heap_search.specs.Candidates.{Candidate, OfElement, OfLength, OfProperty, OfTrait, fits, found, found_as, traits, traits_after}
-use Rattle.abc_heap_search.specs.Laws.{AnswersTheFirst}
-use Rattle.abc_heap_search.specs.Results.{skip_for}
-use Rattle.abc_heap_search.specs.Searches.{declared_found}
-use Rattle.abc_heap_search.specs.Traits.{Trait, own}
-use Rattle.abc_heap_search.specs.declared.found.Found.{Found}
-use Rattle.abc_heap_search.specs.declared.found.Found.TheVariants as founds
-use Rattle.abc_heap_search.specs.declared.found.Want.{Want}
-use Rattle.abc_heap_search.specs.declared.name.Name.{Name}
-use Rattle.abc_heap_search.specs.declared.traits.Member.{Member}
-use Rattle.abc_heap_search.specs.declared.traits.Member.TheVariants as members
+use Rattle.abc_link_names.specs.Linked.{IsLinkedFile, LinkedFile, above, base}
+use Rattle.abc_link_names.proofs.Tree.{above_le}
+use Rattle.abc_objects.specs.Candidates.{Candidate, OfElement, OfLength, OfProperty, OfTrait, fits, found, found_as, traits, traits_after}
+use Rattle.abc_objects.specs.Laws.{AnswersTheFirst}
+use Rattle.abc_objects.specs.Results.{skip_for}
+use Rattle.abc_objects.specs.Searches.{declared_found}
+use Rattle.abc_objects.specs.Traits.{Trait, own}
+use Rattle.abc_objects.specs.declared.found.Found.{Found}
+use Rattle.abc_objects.specs.declared.found.Found.TheVariants as founds
+use Rattle.abc_objects.specs.declared.found.Want.{Want}
+use Rattle.abc_objects.specs.declared.name.Name.{Name}
+use Rattle.abc_objects.specs.declared.traits.Member.{Member}
+use Rattle.abc_objects.specs.declared.traits.Member.TheVariants as members
 use Rattle.abc_meaning.specs.Supers.{strict}
 use Rattle.abc_run_members.specs.Found.{IsDeclared, found_above}
 

@@ -7,7 +7,7 @@ use Rattle.std.proofs.lemmas.Bool.Decides.{nat_tests}
 use Rattle.std.proofs.lemmas.Fmt.{decimal_digit, decimal_is_IsNumeral, digits_value-decimal, first_decimal}
 use Rattle.std.proofs.lemmas.Str.Parse.{IsNumeralModel, digit_from_value, numerals_by_fold, tells_digits}
 use Rattle.std.specs.Str.Parse.{AllDigits}
-use Rattle.abc_heap_search.specs.ElementNames.{IsLength, IsNumber, element_name, element_number, is_digit, is_length, is_numeral, number_from, numbered}
+use Rattle.abc_objects.specs.ElementNames.{IsLength, IsNumber, element_name, element_number, is_digit, is_length, is_numeral, number_from, numbered}
 
 both : (a b : Bool) → (a && b) ≡ true → (a ≡ true) × (b ≡ true)
 both true b e = (refl, e)

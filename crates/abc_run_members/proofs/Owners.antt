@@ -18,11 +18,11 @@ use Rattle.abc_base_graphs.specs.Index.{first, first_from}
 use Rattle.abc_objects.specs.Stands.{IsScope, NamesParts, StandsOver}
 use Rattle.abc_objects.specs.Values.{IsObject}
 use Rattle.abc_objects.proofs.Opened.{scope_made}
-use Rattle.abc_link_program.specs.Linked.{IsLinkedFile, LinkedFile}
-use Rattle.abc_link_program.specs.Owners.{namings, namings_among, namings_from, namings_in, no_naming, of_class, of_instance, of_script, owner_at, owner_of}
-use Rattle.abc_link_program.specs.declared.types.Naming.{Naming}
-use Rattle.abc_link_program.specs.declared.types.Owner.{Owner}
-use Rattle.abc_link_program.specs.declared.types.Owner.TheVariants as owners
+use Rattle.abc_link_names.specs.Linked.{IsLinkedFile, LinkedFile}
+use Rattle.abc_link_names.specs.Owners.{namings, namings_among, namings_from, namings_in, no_naming, of_class, of_instance, of_script, owner_at, owner_of}
+use Rattle.abc_link_names.specs.declared.types.Naming.{Naming}
+use Rattle.abc_link_names.specs.declared.types.Owner.{Owner}
+use Rattle.abc_link_names.specs.declared.types.Owner.TheVariants as owners
 use Rattle.abc_file_types.specs.Classes.{sizes_of}
 use Rattle.abc_file_types.specs.declared.classes.ClassInfo.{ClassInfo}
 use Rattle.abc_file_types.specs.declared.classes.Instance.{Instance}

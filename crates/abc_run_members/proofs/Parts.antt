@@ -12,7 +12,7 @@ use Rattle.abc_run_names.proofs.Receiving.{holder_first}
 use Rattle.abc_run_names.specs.Named.{named_here, parts_count}
 use Rattle.abc_objects.specs.Values.{Exists}
 use Rattle.abc_objects.proofs.Grown.{exists_grown}
-use Rattle.abc_link_program.specs.Linked.{LinkedFile}
+use Rattle.abc_link_names.specs.Linked.{LinkedFile}
 use Rattle.abc_frames.specs.Frame.{Frame, Frames, arguments, newest}
 use Rattle.abc_run_state.specs.Operands.{operand_at}
 use Rattle.abc_run_state.specs.Standing.{Stays}

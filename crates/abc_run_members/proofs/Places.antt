@@ -12,8 +12,8 @@ use Rattle.abc_heap_store.specs.declared.records.What.TheVariants as whats
 use Rattle.abc_objects.specs.Stands.{ObjectStands, StandsOver}
 use Rattle.abc_objects.specs.Values.{Exists}
 use Rattle.abc_objects.proofs.Reshaped.{object_there}
-use Rattle.abc_link_program.specs.Linked.{LinkedFile}
-use Rattle.abc_link_program.specs.declared.types.Owner.{Owner}
+use Rattle.abc_link_names.specs.Linked.{LinkedFile}
+use Rattle.abc_link_names.specs.declared.types.Owner.{Owner}
 use Rattle.abc_run_state.specs.Stops.{IsOpen}
 use Rattle.abc_meaning.specs.Members.{at_place, bound_function}
 use Rattle.abc_meaning.specs.Objects.{Place, new_of_host, place_of_owner}

@@ -4,8 +4,8 @@ use Rattle.abc_heap_values.specs.declared.values.ObjId.{ObjId}
 use Rattle.abc_heap_values.specs.declared.values.Value.{Value}
 use Rattle.abc_heap_values.specs.declared.values.Value.TheVariants.{Obj}
 use Rattle.abc_frames.specs.Moves.{finished}
-use Rattle.abc_heap_search.specs.declared.found.ScopeFound.{ScopeFound}
-use Rattle.abc_heap_search.specs.declared.found.ScopeFound.TheVariants.{Missing, Object, Start}
+use Rattle.abc_objects.specs.declared.found.ScopeFound.{ScopeFound}
+use Rattle.abc_objects.specs.declared.found.ScopeFound.TheVariants.{Missing, Object, Start}
 use Rattle.abc_frames.specs.Frame.{Frame, Frames, newest, with_newest}
 use Rattle.abc_meaning.specs.At.{Act}
 use Rattle.abc_run_calls.specs.Entering.{starts_above}

@@ -13,13 +13,13 @@ use Rattle.abc_lookup.proofs.Stands.{entry_in, parents_fall}
 use Rattle.abc_objects.specs.Stands.{AreEntries, IsScope, StandsOver}
 use Rattle.abc_objects.specs.Values.{IsObject}
 use Rattle.abc_objects.proofs.Opened.{global_made, host_made}
-use Rattle.abc_link_program.specs.Linked.{LinkedFile}
-use Rattle.abc_heap_search.specs.Laws.{FindsTheFirstPlace}
-use Rattle.abc_heap_search.specs.Objects.{global_number}
-use Rattle.abc_heap_search.specs.Scopes.{InHost, InScope, InScript, Place, no_node, node_at, parent_at, places, saved_places, scope_named, scope_number}
-use Rattle.abc_heap_search.specs.Searches.{found_in_scopes}
-use Rattle.abc_heap_search.specs.declared.found.ScopeFound.TheVariants as results
-use Rattle.abc_heap_search.specs.declared.name.Name.{Name}
+use Rattle.abc_link_names.specs.Linked.{LinkedFile}
+use Rattle.abc_objects.specs.Laws.{FindsTheFirstPlace}
+use Rattle.abc_objects.specs.Objects.{global_number}
+use Rattle.abc_objects.specs.Scopes.{InHost, InScope, InScript, Place, no_node, node_at, parent_at, places, saved_places, scope_named, scope_number}
+use Rattle.abc_objects.specs.Searches.{found_in_scopes}
+use Rattle.abc_objects.specs.declared.found.ScopeFound.TheVariants as results
+use Rattle.abc_objects.specs.declared.name.Name.{Name}
 use Rattle.abc_verify_typing.specs.Lists.{Each}
 use Rattle.abc_verify_typing.proofs.Lists.{Each-append, Each-map, Each-reverse}
 use Rattle.abc_run_members.specs.Found.{IsScopeThere}

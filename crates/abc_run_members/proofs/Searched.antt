@@ -11,18 +11,18 @@ use Rattle.abc_lookup.specs.NoTraits.{IsFirst}
 use Rattle.abc_heap_store.specs.Heap.{Heap, Object, object_at, properties_of}
 use Rattle.abc_objects.specs.Stands.{StandsOver}
 use Rattle.abc_objects.specs.Values.{Exists}
-use Rattle.abc_link_program.specs.Linked.{LinkedFile}
-use Rattle.abc_heap_search.specs.Candidates.{Candidate, OfElement, OfLength, OfProperty, OfTrait, candidates_on, fits, found, found_as}
-use Rattle.abc_heap_search.specs.Laws.{AnswersTheFirst, FindsWhatIsThere, IsThere}
-use Rattle.abc_heap_search.specs.Results.{skip_for}
-use Rattle.abc_heap_search.specs.Searches.{found_on}
-use Rattle.abc_heap_search.specs.declared.found.Found.{Found}
-use Rattle.abc_heap_search.specs.declared.found.Found.TheVariants as founds
-use Rattle.abc_heap_search.specs.declared.found.Want.{Want}
-use Rattle.abc_heap_search.specs.declared.found.Want.TheVariants.{Read}
-use Rattle.abc_heap_search.specs.declared.name.Name.{Name}
-use Rattle.abc_heap_search.specs.declared.traits.Member.{Member}
-use Rattle.abc_heap_search.specs.declared.traits.Member.TheVariants as members
+use Rattle.abc_link_names.specs.Linked.{LinkedFile}
+use Rattle.abc_objects.specs.Candidates.{Candidate, OfElement, OfLength, OfProperty, OfTrait, candidates_on, fits, found, found_as}
+use Rattle.abc_objects.specs.Laws.{AnswersTheFirst, FindsWhatIsThere, IsThere}
+use Rattle.abc_objects.specs.Results.{skip_for}
+use Rattle.abc_objects.specs.Searches.{found_on}
+use Rattle.abc_objects.specs.declared.found.Found.{Found}
+use Rattle.abc_objects.specs.declared.found.Found.TheVariants as founds
+use Rattle.abc_objects.specs.declared.found.Want.{Want}
+use Rattle.abc_objects.specs.declared.found.Want.TheVariants.{Read}
+use Rattle.abc_objects.specs.declared.name.Name.{Name}
+use Rattle.abc_objects.specs.declared.traits.Member.{Member}
+use Rattle.abc_objects.specs.declared.traits.Member.TheVariants as members
 use Rattle.abc_run_members.specs.Members.{IsFoundThere}
 
 pub object_inside : (obs : List Object) (o : ℕ) → o < length obs → slice_get obs o ≡ Some (object_at obs o)

@@ -10,8 +10,8 @@ use Rattle.abc_run_calls.specs.Entering.{enters_owned_above}
 use Rattle.abc_tables.proofs.DefinitionsFit.{definitions_fit}
 use Rattle.abc_tables.proofs.FileFits.{file_fits, tables_fit}
 use Rattle.abc_link_names.specs.Bases.{base_named}
-use Rattle.abc_link_names.specs.Parts.{class_at, no_class}
-use Rattle.abc_link_program.specs.Linked.{IsLinkedFile, LinkedFile}
+use Rattle.abc_link_names.specs.PartsByNumber.{class_at, no_class}
+use Rattle.abc_link_names.specs.Linked.{IsLinkedFile, LinkedFile}
 use Rattle.abc_frames.specs.Frame.{Frame}
 use Rattle.abc_frames.specs.declared.records.Wait.TheVariants.{Keep}
 use Rattle.abc_file_types.specs.declared.classes.ClassInfo.{ClassInfo}

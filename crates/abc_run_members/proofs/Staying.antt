@@ -2,7 +2,7 @@
 use Rattle.std.proofs.Common.{◌≡◌, ℕ, ap, subst, sym}
 use Rattle.abc_heap_values.specs.declared.values.Value.{Value}
 use Rattle.abc_frames.specs.Ready.{IsReady}
-use Rattle.abc_link_program.specs.Linked.{LinkedFile}
+use Rattle.abc_link_names.specs.Linked.{LinkedFile}
 use Rattle.abc_run_calls.specs.Arguments.{IsKnown}
 use Rattle.abc_heap_values.specs.Filling.{Filling}
 use Rattle.abc_frames.specs.Frame.{Frames}

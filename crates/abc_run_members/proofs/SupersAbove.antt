@@ -5,13 +5,13 @@ use Rattle.abc_heap_values.specs.declared.values.ObjId.{ObjId}
 use Rattle.abc_heap_values.specs.declared.values.Value.{Value}
 use Rattle.abc_heap_values.specs.declared.values.Value.TheVariants.{Undefined, Null, Num, Bool as Truth, Text, Space, Obj}
 use Rattle.abc_heap_store.specs.Heap.{Heap, Object}
-use Rattle.abc_link_program.specs.Linked.{LinkedFile, above}
-use Rattle.abc_heap_search.specs.Candidates.{found}
-use Rattle.abc_heap_search.specs.Searches.{declared_found}
-use Rattle.abc_heap_search.specs.declared.found.Found.{Found}
-use Rattle.abc_heap_search.specs.declared.found.Found.TheVariants as founds
-use Rattle.abc_heap_search.specs.declared.found.Want.{Want}
-use Rattle.abc_heap_search.specs.declared.name.Name.{Name}
+use Rattle.abc_link_names.specs.Linked.{LinkedFile, above}
+use Rattle.abc_objects.specs.Candidates.{found}
+use Rattle.abc_objects.specs.Searches.{declared_found}
+use Rattle.abc_objects.specs.declared.found.Found.{Found}
+use Rattle.abc_objects.specs.declared.found.Found.TheVariants as founds
+use Rattle.abc_objects.specs.declared.found.Want.{Want}
+use Rattle.abc_objects.specs.declared.name.Name.{Name}
 use Rattle.abc_frames.specs.Frame.{Frame, arguments}
 use Rattle.abc_meaning.specs.Supers.{on_receiver, strict}
 use Rattle.abc_run_state.proofs.Things.{object_is}

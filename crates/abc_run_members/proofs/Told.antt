@@ -25,15 +25,15 @@ use Rattle.abc_objects.specs.Stands.{StandsOver}
 use Rattle.abc_objects.specs.Values.{IsObject}
 use Rattle.abc_ops.proofs.Making.{made_is}
 use Rattle.abc_ops.specs.Conversions.{spelled}
-use Rattle.abc_link_program.specs.Linked.{LinkedFile}
+use Rattle.abc_link_names.specs.Linked.{LinkedFile}
 use Rattle.abc_run_members.proofs.Numerals.{decimal_name, decimal_number}
 use Rattle.abc_run_members.specs.AtOnce.{TellsElement}
-use Rattle.abc_heap_search.specs.Spaces.{holds_public}
-use Rattle.abc_heap_search.specs.ElementNames.{IsNumber, element_name, element_number}
-use Rattle.abc_heap_search.specs.declared.found.Found.TheVariants as founds
-use Rattle.abc_heap_search.specs.declared.found.Want.TheVariants.{Read}
-use Rattle.abc_heap_search.specs.declared.name.Name.{Name}
-use Rattle.abc_heap_search.specs.declared.name.Spaces.{Spaces}
+use Rattle.abc_objects.specs.Spaces.{holds_public}
+use Rattle.abc_objects.specs.ElementNames.{IsNumber, element_name, element_number}
+use Rattle.abc_objects.specs.declared.found.Found.TheVariants as founds
+use Rattle.abc_objects.specs.declared.found.Want.TheVariants.{Read}
+use Rattle.abc_objects.specs.declared.name.Name.{Name}
+use Rattle.abc_objects.specs.declared.name.Spaces.{Spaces}
 use Rattle.abc_run_state.proofs.Operated.{operated_ok}
 use Rattle.abc_run_state.specs.Outer.{at_heap}
 use Rattle.abc_meaning.specs.Calling.{Got, got}

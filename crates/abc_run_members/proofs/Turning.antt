@@ -1,7 +1,7 @@
 -- The name of an instruction, a search in scopes, and then what is done with what was found.
 use Rattle.std.proofs.Common.{◌≡◌, ◌∙◌, ℕ, ap, sym, subst}
-use Rattle.abc_heap_search.specs.declared.found.ScopeFound.{ScopeFound}
-use Rattle.abc_heap_search.specs.declared.name.Name.{Name}
+use Rattle.abc_objects.specs.declared.found.ScopeFound.{ScopeFound}
+use Rattle.abc_objects.specs.declared.name.Name.{Name}
 use Rattle.abc_frames.specs.Frame.{Frame, Frames, newest}
 use Rattle.abc_meaning.specs.At.{Act}
 use Rattle.abc_run_names.specs.Named.{form_at, named_here, parts_count}

@@ -10,7 +10,7 @@ use Rattle.abc_heap_store.specs.declared.records.Full.{Full}
 use Rattle.abc_objects.specs.Stands.{Each}
 use Rattle.abc_objects.specs.Values.{Exists}
 use Rattle.abc_objects.proofs.Kept.{in_either}
-use Rattle.abc_link_program.specs.Linked.{LinkedFile}
+use Rattle.abc_link_names.specs.Linked.{LinkedFile}
 use Rattle.abc_frames.proofs.Living.{living_is}
 use Rattle.abc_frames.specs.Frame.{Frame, Frames, dropped_under, newest, room_for, under, with_newest}
 use Rattle.abc_frames.specs.declared.records.Size.{Size}

@@ -22,8 +22,8 @@ use Rattle.abc_objects.specs.Growing.{Grows}
 use Rattle.abc_objects.specs.Stands.{StandsOver}
 use Rattle.abc_objects.specs.Values.{IsObject}
 use Rattle.abc_objects.proofs.Kept.{changed_grows}
-use Rattle.abc_link_program.specs.Linked.{LinkedFile}
-use Rattle.abc_heap_search.specs.ElementNames.{ElementName, IsNumber, element_name}
+use Rattle.abc_link_names.specs.Linked.{LinkedFile}
+use Rattle.abc_objects.specs.ElementNames.{ElementName, IsNumber, element_name}
 use Rattle.abc_run_state.specs.Outer.{at_heap}
 use Rattle.abc_run_state.specs.Standing.{Stays}
 use Rattle.abc_run_state.specs.declared.state.State.{State}

@@ -6,10 +6,10 @@ use Rattle.abc_heap_values.specs.declared.values.Value.TheVariants.{Num}
 use Rattle.abc_heap_store.specs.Heap.{Heap, elements_of, object_at}
 use Rattle.abc_heap_store.specs.What.{is_array}
 use Rattle.abc_lookup.specs.NoTraits.{HasNoTraits}
-use Rattle.abc_link_program.specs.Linked.{LinkedFile}
-use Rattle.abc_heap_search.specs.Candidates.{layout_at}
-use Rattle.abc_heap_search.specs.Spaces.{holds_public}
-use Rattle.abc_heap_search.specs.declared.name.Spaces.{Spaces}
+use Rattle.abc_link_names.specs.Linked.{LinkedFile}
+use Rattle.abc_objects.specs.Candidates.{layout_at}
+use Rattle.abc_objects.specs.Spaces.{holds_public}
+use Rattle.abc_objects.specs.declared.name.Spaces.{Spaces}
 use Rattle.abc_run_state.specs.declared.state.How.{How}
 use Rattle.abc_run_state.specs.declared.state.How.TheVariants.{Drop, Push}
 

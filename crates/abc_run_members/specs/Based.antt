@@ -3,9 +3,9 @@ use Rattle.std.specs.Prelude.{◌<◌, Some, None, length}
 use Rattle.std.specs.declared.option.Option.{Option}
 use Rattle.abc_link_names.specs.declared.named.Named.{Named}
 use Rattle.abc_link_names.specs.declared.named.Named.TheVariants as named
-use Rattle.abc_link_program.specs.Linked.{LinkedFile}
-use Rattle.abc_link_program.specs.declared.part.Part.{Part}
-use Rattle.abc_link_program.specs.declared.part.Part.TheVariants as parts
+use Rattle.abc_link_names.specs.Linked.{LinkedFile}
+use Rattle.abc_link_names.specs.declared.part.Part.{Part}
+use Rattle.abc_link_names.specs.declared.part.Part.TheVariants as parts
 use Rattle.abc_run_members.specs.declared.bases.Base.{Base}
 use Rattle.abc_run_members.specs.declared.bases.Base.TheVariants as bases
 

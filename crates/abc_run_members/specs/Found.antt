@@ -3,15 +3,15 @@ use Rattle.std.specs.Prelude.{◌≡◌, ℕ, ◌<◌, length}
 use Rattle.abc_heap_values.specs.declared.values.ObjId.{ObjId}
 use Rattle.abc_heap_store.specs.Heap.{Heap, object_at}
 use Rattle.abc_objects.specs.Values.{IsObject}
-use Rattle.abc_link_program.specs.Linked.{LinkedFile, above}
-use Rattle.abc_link_program.specs.Owners.{owner_of}
-use Rattle.abc_heap_search.specs.Searches.{declared_found, found_in_scopes}
-use Rattle.abc_heap_search.specs.declared.found.Found.{Found}
-use Rattle.abc_heap_search.specs.declared.found.Found.TheVariants.{Method, Property}
-use Rattle.abc_heap_search.specs.declared.found.ScopeFound.{ScopeFound}
-use Rattle.abc_heap_search.specs.declared.found.ScopeFound.TheVariants.{Missing, Object, Start}
-use Rattle.abc_heap_search.specs.declared.found.Want.{Want}
-use Rattle.abc_heap_search.specs.declared.name.Name.{Name}
+use Rattle.abc_link_names.specs.Linked.{LinkedFile, above}
+use Rattle.abc_link_names.specs.Owners.{owner_of}
+use Rattle.abc_objects.specs.Searches.{declared_found, found_in_scopes}
+use Rattle.abc_objects.specs.declared.found.Found.{Found}
+use Rattle.abc_objects.specs.declared.found.Found.TheVariants.{Method, Property}
+use Rattle.abc_objects.specs.declared.found.ScopeFound.{ScopeFound}
+use Rattle.abc_objects.specs.declared.found.ScopeFound.TheVariants.{Missing, Object, Start}
+use Rattle.abc_objects.specs.declared.found.Want.{Want}
+use Rattle.abc_objects.specs.declared.name.Name.{Name}
 use Rattle.abc_frames.specs.Frame.{Frame}
 use Rattle.abc_meaning.specs.Supers.{strict}
 use Rattle.abc_meaning.specs.Setting.{Setting}

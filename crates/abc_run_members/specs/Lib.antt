@@ -4,4 +4,3 @@ pub mod Members
 pub mod Scoped
 pub mod AtOnce
 pub mod Supers
-pub mod Doing

@@ -7,12 +7,12 @@ use Rattle.abc_heap_values.specs.declared.values.Value.{Value}
 use Rattle.abc_heap_values.specs.declared.values.Value.TheVariants.{Null, Num, Obj, Undefined}
 use Rattle.abc_heap_store.specs.Heap.{Heap, object_at}
 use Rattle.abc_objects.specs.Values.{Exists}
-use Rattle.abc_link_program.specs.Linked.{LinkedFile}
-use Rattle.abc_link_program.specs.Owners.{owner_of}
-use Rattle.abc_heap_search.specs.Spaces.{holds_public}
-use Rattle.abc_heap_search.specs.declared.found.Found.{Found}
-use Rattle.abc_heap_search.specs.declared.found.Found.TheVariants.{Method, Missing, Property, Slot, WrongSide}
-use Rattle.abc_heap_search.specs.declared.name.Name.{Name}
+use Rattle.abc_link_names.specs.Linked.{LinkedFile}
+use Rattle.abc_link_names.specs.Owners.{owner_of}
+use Rattle.abc_objects.specs.Spaces.{holds_public}
+use Rattle.abc_objects.specs.declared.found.Found.{Found}
+use Rattle.abc_objects.specs.declared.found.Found.TheVariants.{Method, Missing, Property, Slot, WrongSide}
+use Rattle.abc_objects.specs.declared.name.Name.{Name}
 use Rattle.abc_frames.specs.Frame.{Frame, arguments, dropped_under, waiting}
 use Rattle.abc_frames.specs.declared.records.Wait.TheVariants.{New}
 use Rattle.abc_run_calls.specs.Calls.{calls_value, makes_value, settled_by}

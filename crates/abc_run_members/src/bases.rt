@@ -2,7 +2,7 @@ ghost use Rattle.std.specs.Prelude.{◌≡◌, ◌<◌, IfOk, None, length, true
 ghost use Rattle.abc_link_names.specs.Bases.{base_named, is_some_class};
 ghost use Rattle.abc_objects.specs.Stands.{IsObjectOrNone, StandsOver};
 ghost use Rattle.abc_objects.specs.Values.{Exists};
-ghost use Rattle.abc_link_program.specs.Parts.{base_part};
+ghost use Rattle.abc_link_names.specs.Parts.{base_part};
 ghost use Rattle.abc_meaning.specs.Newing.{base_prototype as base_prototype_so, is_none, is_that};
 ghost use Rattle.abc_run_state.specs.Outer.{Outer, world};
 ghost use Rattle.abc_run_state.specs.Stops.{answer};
@@ -12,8 +12,7 @@ ghost use Rattle.abc_run_members.specs.Based.{IsBase, IsClassPart, named_of};
 use abc_base::HostClass;
 use abc_heap_values::{ObjId, Value};
 use abc_link::Linked;
-use abc_link_names::super_name;
-use abc_link_program::Part;
+use abc_link_names::{Part, super_name};
 use abc_run_state::{State, Stop, prototype_of};
 
 /// The base of a class of the file.

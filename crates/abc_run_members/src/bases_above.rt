@@ -2,15 +2,15 @@ ghost use Rattle.std.specs.Prelude.{◌≡◌};
 ghost use Rattle.abc_heap_store.specs.Texts.{IsText};
 ghost use Rattle.abc_objects.specs.Stands.{StandsOver};
 ghost use Rattle.abc_objects.specs.Values.{IsObject};
-ghost use Rattle.abc_link_program.specs.Linked.{IsLayout};
+ghost use Rattle.abc_link_names.specs.Linked.{IsLayout};
 ghost use Rattle.abc_meaning.specs.Supers.{strict};
 ghost use Rattle.abc_run_members.specs.Found.{IsDeclared, found_above};
 
-use abc_heap_search::{Found, Name, Want, answer_is_the_first};
 use abc_heap_values::ObjId;
 use abc_link::Linked;
-use abc_link_program::LayoutId;
+use abc_link_names::LayoutId;
 use abc_lookup::find_declared;
+use abc_objects::{Found, Name, Want, answer_is_the_first};
 use abc_run_state::State;
 
 /// What is missing is of no side.

@@ -1,9 +1,9 @@
-ghost use Rattle.std.specs.Prelude.{◌≡◌, ◌<◌, ◌^◌, None, get_or, length};
+ghost use Rattle.std.specs.Prelude.{◌≡◌, ◌<◌, None, get_or, length};
 ghost use Rattle.abc_frames.specs.Ready.{IsReady};
-ghost use Rattle.abc_frames.specs.Frame.{newest};
 ghost use Rattle.abc_run_state.specs.Outer.{Outer};
 ghost use Rattle.abc_run_members.specs.Scoped.{enters_class, makes_class, makes_unmade};
-ghost use Rattle.abc_run_members.specs.Doing.{CanDo, Does};
+ghost use Rattle.abc_run_calls.specs.Doing.{CanDo};
+ghost use Rattle.abc_run_state.specs.Doing.{Does};
 
 use crate::bases::{base_of, base_prototype};
 use abc_base::HostClass;
@@ -34,7 +34,6 @@ fn make_unmade(linked: &Linked, s: &mut State, class: u32) -> Result<(), Stop>
     requires ready { IsReady 1 1 s.old.frames }
     requires class { class < length linked.now.file.instances }
     requires first { get_or s.old.arena.classes class None ≡ None }
-    requires few { length (newest s.old.frames).scopes < 2 ^ 32 }
     ensures { Does linked.now out (λ p. makes_unmade p class) s.old result s.new }
 {
     let v = operand(&s.frames, 0);
@@ -50,7 +49,6 @@ pub fn new_class(linked: &Linked, s: &mut State, class: u32) -> Result<(), Stop>
     requires can { CanDo linked.now out (λ p. makes_class p class) s.old }
     requires ready { IsReady 1 1 s.old.frames }
     requires class { class < length linked.now.file.instances }
-    requires few { length (newest s.old.frames).scopes < 2 ^ 32 }
     ensures { Does linked.now out (λ p. makes_class p class) s.old result s.new }
 {
     match s.arena.class_object(class) {

@@ -12,12 +12,12 @@ ghost use Rattle.abc_run_state.specs.Operands.{operand_at};
 ghost use Rattle.abc_run_state.specs.Outer.{Outer, setting};
 ghost use Rattle.abc_run_state.specs.Standing.{IsSet};
 ghost use Rattle.abc_meaning.specs.Setting.{NoText};
-ghost use Rattle.abc_run_members.specs.Doing.{DoesIf};
+ghost use Rattle.abc_run_state.specs.Doing.{DoesIf};
 
-use abc_heap_search::{Name, Spaces};
 use abc_heap_values::{ObjId, Span, Value};
 use abc_link::Linked;
 use abc_lookup::is_plain;
+use abc_objects::{Name, Spaces};
 use abc_run_names::late_text;
 use abc_run_state::{How, State, operand, settle};
 

@@ -14,15 +14,16 @@ ghost use Rattle.abc_run_state.specs.declared.state.Left.TheVariants.{Goes};
 ghost use Rattle.abc_meaning.specs.Members.{writes_to};
 ghost use Rattle.abc_meaning.specs.Setting.{Whole};
 ghost use Rattle.abc_run_members.specs.Members.{calls_named, gets_named, parts_at, puts_own, puts_top, sets_named};
-ghost use Rattle.abc_run_members.specs.Doing.{CanDo, Dispatches, DoesIf};
+ghost use Rattle.abc_run_calls.specs.Doing.{CanDo, Dispatches};
+ghost use Rattle.abc_run_state.specs.Doing.{DoesIf};
 
 use crate::found::call_object_method;
 use crate::naming::find_first_on;
 use crate::searching::call_searching;
-use abc_heap_search::{Found, Name};
 use abc_heap_values::{ObjId, Span, Value};
 use abc_link::Linked;
 use abc_lookup::{first_method, is_plain};
+use abc_objects::{Found, Name};
 use abc_run_names::{is_dynamic, whole_name};
 use abc_run_state::{How, Left, State, Stop, operand, settle};
 

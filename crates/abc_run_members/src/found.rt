@@ -9,14 +9,15 @@ ghost use Rattle.abc_run_state.specs.Standing.{IsSet};
 ghost use Rattle.abc_run_state.specs.Stops.{IsOpen};
 ghost use Rattle.abc_run_state.specs.declared.state.Left.TheVariants.{Goes};
 ghost use Rattle.abc_run_members.specs.Members.{IsFoundThere, calls_found, calls_value_found, constructs_found, constructs_getter, constructs_value, enters_found, reads_found, reads_value};
-ghost use Rattle.abc_run_members.specs.Doing.{CanDo, Dispatches, Does, DoesIf, DoesOrLeaves};
+ghost use Rattle.abc_run_calls.specs.Doing.{CanDo, Dispatches, DoesOrLeaves};
+ghost use Rattle.abc_run_state.specs.Doing.{Does, DoesIf};
 
 use crate::values::{value_found, value_of};
 use abc_base::Fault;
 use abc_frames::Wait;
-use abc_heap_search::Found;
 use abc_heap_values::{ObjId, Value};
 use abc_link::Linked;
+use abc_objects::Found;
 use abc_run_calls::{call, enter_owned, enters_on_object, make, waiting};
 use abc_run_state::{How, Left, State, Stop, goes, settle};
 

@@ -5,14 +5,15 @@ ghost use Rattle.abc_run_members.specs.Members.{parts_at};
 ghost use Rattle.abc_run_state.specs.Outer.{Outer, setting};
 ghost use Rattle.abc_run_members.specs.Found.{IsScopeThere};
 ghost use Rattle.abc_run_members.specs.Supers.{finds_and_reads, reads_in};
-ghost use Rattle.abc_run_members.specs.Doing.{CanDo, Does};
+ghost use Rattle.abc_run_calls.specs.Doing.{CanDo};
+ghost use Rattle.abc_run_state.specs.Doing.{Does};
 
 use crate::naming::read_on;
 use crate::scopes_above::find_here;
 use abc_base::HostClass;
-use abc_heap_search::{Name, ScopeFound};
 use abc_heap_values::Value;
 use abc_link::Linked;
+use abc_objects::{Name, ScopeFound};
 use abc_run_calls::start_above;
 use abc_run_names::{name_of, parts_of};
 use abc_run_state::{How, State, Stop};

@@ -7,7 +7,8 @@ ghost use Rattle.abc_run_state.specs.Standing.{IsSet};
 ghost use Rattle.abc_run_state.specs.declared.state.How.TheVariants.{Drop};
 ghost use Rattle.abc_run_members.specs.Based.{IsBase, named_of};
 ghost use Rattle.abc_run_members.specs.Supers.{constructs_super, runs_base, tells_base};
-ghost use Rattle.abc_run_members.specs.Doing.{CanDo, Does};
+ghost use Rattle.abc_run_calls.specs.Doing.{CanDo};
+ghost use Rattle.abc_run_state.specs.Doing.{Does};
 
 use crate::bases::{Base, base_of};
 use abc_base::HostClass;

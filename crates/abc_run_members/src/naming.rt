@@ -10,17 +10,18 @@ ghost use Rattle.abc_run_state.specs.Settling.{given_by, taken_by};
 ghost use Rattle.abc_run_members.specs.Members.{IsFoundThere, calls_on, constructs_on, reads_on, writes_on};
 ghost use Rattle.abc_objects.specs.Stands.{StandsOver};
 ghost use Rattle.abc_lookup.specs.NoTraits.{IsFirst};
-ghost use Rattle.abc_heap_search.specs.Searches.{found_on};
-ghost use Rattle.abc_heap_search.specs.declared.found.Want.TheVariants.{Read};
-ghost use Rattle.abc_run_members.specs.Doing.{CanDo, Does, DoesOrLeaves};
+ghost use Rattle.abc_objects.specs.Searches.{found_on};
+ghost use Rattle.abc_objects.specs.declared.found.Want.TheVariants.{Read};
+ghost use Rattle.abc_run_calls.specs.Doing.{CanDo, DoesOrLeaves};
+ghost use Rattle.abc_run_state.specs.Doing.{Does};
 
 use crate::found::{call_found, construct_found, read_found};
 use crate::writing::{kept_element, write_found};
 use abc_base::HostClass;
-use abc_heap_search::{Found, Name, Want, answer_is_the_first, found_is_there};
 use abc_heap_values::{ObjId, Value};
 use abc_link::Linked;
 use abc_lookup::{find_declared, find_first, find_on};
+use abc_objects::{Found, Name, Want, answer_is_the_first, found_is_there};
 use abc_run_names::is_holder;
 use abc_run_state::{How, Left, State, Stop, settle};
 

@@ -5,7 +5,8 @@ ghost use Rattle.abc_run_state.specs.Outer.{Outer, setting};
 ghost use Rattle.abc_run_state.specs.Settling.{given_by};
 ghost use Rattle.abc_run_state.specs.declared.state.Left.TheVariants.{Goes};
 ghost use Rattle.abc_run_members.specs.Members.{calls_operand, calls_property, constructs_named, constructs_operand, parts_at};
-ghost use Rattle.abc_run_members.specs.Doing.{CanDo, Dispatches, Does, DoesOrLeaves};
+ghost use Rattle.abc_run_calls.specs.Doing.{CanDo, Dispatches, DoesOrLeaves};
+ghost use Rattle.abc_run_state.specs.Doing.{Does};
 
 use crate::fast_paths::call_whole;
 use crate::naming::construct_on;

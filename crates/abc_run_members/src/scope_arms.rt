@@ -4,14 +4,15 @@ ghost use Rattle.abc_run_names.specs.Named.{form_at, parts_count};
 ghost use Rattle.abc_run_state.specs.Outer.{Outer, setting};
 ghost use Rattle.abc_run_members.specs.Found.{IsScopeThere};
 ghost use Rattle.abc_run_members.specs.Scoped.{finds_or_global, finds_strictly, pushes_or_global, pushes_strictly};
-ghost use Rattle.abc_run_members.specs.Doing.{CanDo, Does};
+ghost use Rattle.abc_run_calls.specs.Doing.{CanDo};
+ghost use Rattle.abc_run_state.specs.Doing.{Does};
 
 use crate::scopes_above::find_here;
 use abc_base::HostClass;
 use abc_frames::finish;
-use abc_heap_search::ScopeFound;
 use abc_heap_values::Value;
 use abc_link::Linked;
+use abc_objects::ScopeFound;
 use abc_run_calls::{global_of, start_above};
 use abc_run_names::{name_of, parts_of};
 use abc_run_state::{State, Stop};

@@ -5,9 +5,9 @@ ghost use Rattle.abc_run_state.specs.Outer.{Outer, setting, world};
 ghost use Rattle.abc_run_state.specs.Standing.{IsSet};
 ghost use Rattle.abc_run_members.specs.Found.{IsScopeThere, find_in_scopes as found_in_frame};
 
-use abc_heap_search::{Name, ScopeFound, place_is_the_first};
 use abc_link::Linked;
 use abc_lookup::find_in_scopes;
+use abc_objects::{Name, ScopeFound, place_is_the_first};
 use abc_run_state::State;
 
 /// Where a name is found among the scopes of the newest frame.

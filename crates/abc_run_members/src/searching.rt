@@ -4,7 +4,8 @@ ghost use Rattle.abc_run_state.specs.Outer.{Outer, setting};
 ghost use Rattle.abc_run_state.specs.Settling.{given_by, taken_by};
 ghost use Rattle.abc_run_state.specs.declared.state.Left.TheVariants.{Goes};
 ghost use Rattle.abc_run_members.specs.Members.{calls_named, gets_named, parts_at, receiver_of, sets_named};
-ghost use Rattle.abc_run_members.specs.Doing.{CanDo, Dispatches, Does, DoesOrLeaves};
+ghost use Rattle.abc_run_calls.specs.Doing.{CanDo, Dispatches, DoesOrLeaves};
+ghost use Rattle.abc_run_state.specs.Doing.{Does};
 
 use crate::naming::{call_on, read_on, write_on};
 use abc_heap_values::Value;

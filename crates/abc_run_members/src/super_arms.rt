@@ -2,7 +2,7 @@ ghost use Rattle.std.specs.Prelude.{◌≡◌, ◌+◌, ◌<◌, ◌≤◌, ◌^
 ghost use Rattle.abc_heap_store.specs.Texts.{IsText};
 ghost use Rattle.abc_frames.specs.Ready.{IsReady};
 ghost use Rattle.abc_objects.specs.Values.{Exists};
-ghost use Rattle.abc_link_program.specs.Linked.{IsLayout};
+ghost use Rattle.abc_link_names.specs.Linked.{IsLayout};
 ghost use Rattle.abc_frames.specs.Frame.{arguments, newest};
 ghost use Rattle.abc_run_calls.specs.Calls.{settled_by};
 ghost use Rattle.abc_run_members.specs.Members.{parts_at};
@@ -10,15 +10,16 @@ ghost use Rattle.abc_run_state.specs.Operands.{operand_at};
 ghost use Rattle.abc_run_state.specs.Outer.{Outer, setting};
 ghost use Rattle.abc_run_state.specs.Settling.{given_by, taken_by};
 ghost use Rattle.abc_run_members.specs.Supers.{calls_super, calls_super_on, gets_super, reads_super, sets_super, writes_super};
-ghost use Rattle.abc_run_members.specs.Doing.{CanDo, Does, DoesOrLeaves};
+ghost use Rattle.abc_run_calls.specs.Doing.{CanDo, DoesOrLeaves};
+ghost use Rattle.abc_run_state.specs.Doing.{Does};
 
 use crate::bases_above::find_super;
 use crate::found::{call_found, read_found};
 use crate::writing::write_found;
-use abc_heap_search::{Name, Want};
 use abc_heap_values::Value;
 use abc_link::Linked;
-use abc_link_program::LayoutId;
+use abc_link_names::LayoutId;
+use abc_objects::{Name, Want};
 use abc_run_names::{name_of, parts_of, receiver};
 use abc_run_state::{How, Left, State, Stop, operand};
 

@@ -7,7 +7,7 @@ ghost use Rattle.abc_lookup.specs.Named.{element_in};
 ghost use Rattle.abc_frames.specs.Ready.{IsReady};
 ghost use Rattle.abc_objects.specs.Stands.{StandsOver};
 ghost use Rattle.abc_objects.specs.Values.{Exists, IsObject};
-ghost use Rattle.abc_heap_search.specs.ElementNames.{IsNumber};
+ghost use Rattle.abc_objects.specs.ElementNames.{IsNumber};
 ghost use Rattle.abc_frames.specs.Frame.{newest};
 ghost use Rattle.abc_run_state.specs.Operands.{operand_at};
 ghost use Rattle.abc_run_state.specs.Outer.{Outer, setting, world};
@@ -16,14 +16,15 @@ ghost use Rattle.abc_run_state.specs.Standing.{IsSet, Stays};
 ghost use Rattle.abc_run_state.specs.Stops.{IsOpen, answer};
 ghost use Rattle.abc_meaning.specs.Members.{write_element as write_element_so, write_own as write_own_so, write_property as write_property_so, writes_to};
 ghost use Rattle.abc_run_members.specs.Members.{may_take as may_take_so, public_written, puts_element, slot_written_if, value_written, writes_found, writes_value};
-ghost use Rattle.abc_run_members.specs.Doing.{CanDo, Does};
+ghost use Rattle.abc_run_calls.specs.Doing.{CanDo};
+ghost use Rattle.abc_run_state.specs.Doing.{Does};
 
 use crate::found::enter_on;
 use abc_base::{Fault, HostClass};
-use abc_heap_search::{Found, Name};
 use abc_heap_values::{ObjId, Span, Value};
 use abc_link::Linked;
 use abc_lookup::{ElementName, element_named, holds_public, is_plain};
+use abc_objects::{Found, Name};
 use abc_run_names::{is_dynamic, write_slot};
 use abc_run_state::{How, State, Stop, put_property, settle};
 

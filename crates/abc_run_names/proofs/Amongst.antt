@@ -5,7 +5,7 @@ use Rattle.std.specs.declared.option.Option.{Option}
 use Rattle.abc_base_graphs.specs.Ways.{IsFalling, way}
 use Rattle.abc_base_graphs.proofs.Walks.{way_none, way_some}
 use Rattle.abc_heap_store.specs.Heap.{Heap}
-use Rattle.abc_heap_search.specs.Objects.{delegate_at}
+use Rattle.abc_objects.specs.Objects.{delegate_at}
 
 any_step : (h : Heap) (o x : ℕ) → IsFalling (delegate_at h) → list_any (nat_eq o) (way (delegate_at h) (Some x)) ≡ nat_eq o x || list_any (nat_eq o) (way (delegate_at h) (delegate_at h x))
 any_step h o x f = ap (list_any (nat_eq o)) (way_some (delegate_at h) f x)

@@ -11,8 +11,8 @@ use Rattle.abc_heap_values.specs.declared.values.ObjId.{ObjId}
 use Rattle.abc_lookup.proofs.Stands.{delegates_fall, outside}
 use Rattle.abc_objects.specs.Stands.{IsObjectOrNone, StandsOver}
 use Rattle.abc_objects.specs.Values.{IsObject}
-use Rattle.abc_link_program.specs.Linked.{LinkedFile}
-use Rattle.abc_heap_search.specs.Objects.{delegate_at, number_of}
+use Rattle.abc_link_names.specs.Linked.{LinkedFile}
+use Rattle.abc_objects.specs.Objects.{delegate_at, number_of}
 use Rattle.abc_run_names.specs.Walking.{element_named, first_position, named_in, next_in, or_later, position_at, text_or_null, value_in, value_or_undefined}
 
 -- ---- an object that is there

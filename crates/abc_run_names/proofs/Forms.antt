@@ -12,10 +12,10 @@ use Rattle.abc_tables.proofs.PoolsFit.{HasFields, multiname_fits, multinames_fit
 use Rattle.abc_heap_store.specs.Heap.{Heap}
 use Rattle.abc_heap_store.specs.Texts.{IsText}
 use Rattle.abc_ops.proofs.Staying.{string_there}
-use Rattle.abc_link_program.specs.Linked.{IsLinkedFile, LinkedFile}
-use Rattle.abc_heap_search.specs.declared.name.Name.{Name}
-use Rattle.abc_heap_search.specs.declared.name.Spaces.{Spaces}
-use Rattle.abc_heap_search.specs.declared.name.Spaces.TheVariants as spaces
+use Rattle.abc_link_names.specs.Linked.{IsLinkedFile, LinkedFile}
+use Rattle.abc_objects.specs.declared.name.Name.{Name}
+use Rattle.abc_objects.specs.declared.name.Spaces.{Spaces}
+use Rattle.abc_objects.specs.declared.name.Spaces.TheVariants as spaces
 use Rattle.abc_frames.specs.Frame.{Frame}
 use Rattle.abc_file_types.specs.Classes.{sizes_of}
 use Rattle.abc_file_types.specs.declared.names.Multiname.{Multiname}

@@ -5,8 +5,8 @@ use Rattle.std.specs.declared.option.Option.{Option}
 use Rattle.abc_heap_values.specs.declared.values.Span.{Span}
 use Rattle.abc_heap_values.specs.declared.values.Value.{Value}
 use Rattle.abc_heap_values.specs.declared.values.Value.TheVariants.{Undefined, Null, Num, Bool as Truth, Text, Space, Obj}
-use Rattle.abc_heap_search.specs.declared.name.Name.{Name}
-use Rattle.abc_heap_search.specs.declared.name.Spaces.{Spaces}
+use Rattle.abc_objects.specs.declared.name.Name.{Name}
+use Rattle.abc_objects.specs.declared.name.Spaces.{Spaces}
 use Rattle.abc_frames.specs.Frame.{Frame}
 use Rattle.abc_meaning.specs.Names.{named, space_of}
 use Rattle.abc_run_state.specs.Stops.{IsOpen}

@@ -4,9 +4,9 @@ use Rattle.abc_heap_values.specs.declared.values.ObjId.{ObjId}
 use Rattle.abc_heap_values.specs.declared.values.Value.{Value}
 use Rattle.abc_heap_values.specs.declared.values.Value.TheVariants.{Bool as Truth, Obj}
 use Rattle.abc_heap_store.specs.Heap.{Heap, object_at}
-use Rattle.abc_link_program.specs.Numbering.{part_at}
-use Rattle.abc_heap_search.specs.declared.found.Found.{Found}
-use Rattle.abc_heap_search.specs.declared.name.Name.{Name}
+use Rattle.abc_link_names.specs.Numbering.{part_at}
+use Rattle.abc_objects.specs.declared.found.Found.{Found}
+use Rattle.abc_objects.specs.declared.name.Name.{Name}
 use Rattle.abc_frames.specs.Frame.{Frame}
 use Rattle.abc_meaning.specs.Simple.{flag}
 use Rattle.abc_run_state.proofs.Things.{object_is}

@@ -14,12 +14,12 @@ use Rattle.abc_objects.specs.Growing.{Grows}
 use Rattle.abc_objects.specs.Stands.{StandsOver}
 use Rattle.abc_objects.specs.Values.{slot_kind}
 use Rattle.abc_objects.proofs.Kept.{slots_there}
-use Rattle.abc_link_program.specs.Linked.{LinkedFile}
-use Rattle.abc_link_program.specs.Slots.{slot_numbered, slots_of}
-use Rattle.abc_link_program.specs.Types.{kind_of_type}
-use Rattle.abc_link_program.specs.declared.types.SlotInfo.{SlotInfo}
-use Rattle.abc_link_program.specs.declared.types.Ty.{Ty}
-use Rattle.abc_link_program.specs.declared.types.Ty.TheVariants as types
+use Rattle.abc_link_names.specs.Linked.{LinkedFile}
+use Rattle.abc_link_names.specs.Slots.{slot_numbered, slots_of}
+use Rattle.abc_link_names.specs.Types.{kind_of_type}
+use Rattle.abc_link_names.specs.declared.types.SlotInfo.{SlotInfo}
+use Rattle.abc_link_names.specs.declared.types.Ty.{Ty}
+use Rattle.abc_link_names.specs.declared.types.Ty.TheVariants as types
 use Rattle.abc_frames.specs.Frame.{Frame, Frames, dropped, newest, with_newest}
 use Rattle.abc_link_names.specs.declared.start.Start.TheVariants as starts
 use Rattle.abc_meaning.specs.At.{Act, goes, next}

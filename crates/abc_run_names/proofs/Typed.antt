@@ -6,11 +6,11 @@ use Rattle.abc_heap_values.specs.declared.values.Span.{Span}
 use Rattle.abc_heap_values.specs.declared.values.Value.{Value}
 use Rattle.abc_heap_values.specs.declared.values.Value.TheVariants.{Bool as Truth, Obj}
 use Rattle.abc_heap_store.specs.Heap.{Object, object_at}
-use Rattle.abc_link_program.specs.declared.types.Ty.{Ty}
-use Rattle.abc_heap_search.specs.Searches.{found_on}
-use Rattle.abc_heap_search.specs.declared.found.Found.{Found}
-use Rattle.abc_heap_search.specs.declared.found.Want.TheVariants.{Read}
-use Rattle.abc_heap_search.specs.declared.name.Spaces.TheVariants.{Public}
+use Rattle.abc_link_names.specs.declared.types.Ty.{Ty}
+use Rattle.abc_objects.specs.Searches.{found_on}
+use Rattle.abc_objects.specs.declared.found.Found.{Found}
+use Rattle.abc_objects.specs.declared.found.Want.TheVariants.{Read}
+use Rattle.abc_objects.specs.declared.name.Spaces.TheVariants.{Public}
 use Rattle.abc_meaning.specs.Late.{is_found, is_instance, kept_as, late_type, or_null, tested_as, type_of_what}
 use Rattle.abc_run_state.proofs.Things.{object_is}
 use Rattle.abc_meaning.specs.Members.{with_holder}

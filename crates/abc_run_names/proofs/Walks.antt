@@ -16,8 +16,8 @@ use Rattle.abc_frames.specs.Ready.{IsReady}
 use Rattle.abc_objects.specs.Values.{Exists}
 use Rattle.abc_ops.specs.Left.{followed_by, gives, text_made, text_value}
 use Rattle.abc_ops.specs.declared.end.OpEnd.{OpEnd}
-use Rattle.abc_link_program.specs.Linked.{LinkedFile}
-use Rattle.abc_heap_search.specs.Objects.{delegate_at}
+use Rattle.abc_link_names.specs.Linked.{LinkedFile}
+use Rattle.abc_objects.specs.Objects.{delegate_at}
 use Rattle.abc_frames.specs.Frame.{Frames, newest, with_local, with_newest}
 use Rattle.abc_meaning.specs.At.{pushed}
 use Rattle.abc_meaning.specs.Walking as acts

@@ -2,9 +2,9 @@
 use Rattle.abc_heap_values.specs.declared.values.Value.{Value}
 use Rattle.abc_heap_values.specs.declared.values.Value.TheVariants.{Bool as Truth}
 use Rattle.abc_frames.specs.Frame.{Frame}
-use Rattle.abc_heap_search.specs.Searches.{found_on}
-use Rattle.abc_heap_search.specs.declared.found.Want.TheVariants.{Read}
-use Rattle.abc_heap_search.specs.declared.name.Spaces.TheVariants.{Public}
+use Rattle.abc_objects.specs.Searches.{found_on}
+use Rattle.abc_objects.specs.declared.found.Want.TheVariants.{Read}
+use Rattle.abc_objects.specs.declared.name.Spaces.TheVariants.{Public}
 use Rattle.abc_meaning.specs.At.{Act}
 use Rattle.abc_meaning.specs.Late.{is_found, is_instance, kept_as, late_type, tested_as}
 use Rattle.abc_run_state.specs.Operands.{operand_at}

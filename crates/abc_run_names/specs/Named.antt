@@ -3,7 +3,7 @@ use Rattle.std.specs.Prelude.{ℕ, ◌+◌, ◌<◌, List, [], ◌∷◌, length
 use Rattle.std.specs.declared.option.Option.{Option}
 use Rattle.abc_heap_values.specs.declared.values.Value.{Value}
 use Rattle.abc_heap_values.specs.declared.values.Value.TheVariants.{Undefined, Null, Num, Bool as Truth, Text, Space, Obj}
-use Rattle.abc_heap_search.specs.declared.name.Name.{Name}
+use Rattle.abc_objects.specs.declared.name.Name.{Name}
 use Rattle.abc_frames.specs.Frame.{Frame}
 use Rattle.abc_verify_typing.specs.Effects.{name_at}
 use Rattle.abc_meaning.specs.Names.{form_in, named}

@@ -11,7 +11,7 @@ use Rattle.abc_heap_store.specs.Heap.{Heap, Object, object_at, obj_id}
 use Rattle.abc_heap_store.specs.Properties.{at_position, element_at, place_after, the_name, walked_next, walked_value}
 use Rattle.abc_heap_store.specs.What.{is_array}
 use Rattle.abc_ops.specs.Left.{Left, as_value, gives, text_made}
-use Rattle.abc_heap_search.specs.Objects.{delegate_at}
+use Rattle.abc_objects.specs.Objects.{delegate_at}
 use Rattle.abc_run_names.specs.declared.positions.Position.{Position}
 
 -- a position to go on from, which is none below 0

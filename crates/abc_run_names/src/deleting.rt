@@ -6,29 +6,28 @@ ghost use Rattle.abc_heap_store.specs.Texts.{IsText};
 ghost use Rattle.abc_frames.specs.Ready.{IsReady};
 ghost use Rattle.abc_objects.specs.Stands.{StandsOver};
 ghost use Rattle.abc_objects.specs.Values.{Exists, IsObject};
-ghost use Rattle.abc_heap_search.specs.Laws.{IsThere};
+ghost use Rattle.abc_objects.specs.Laws.{IsThere};
 ghost use Rattle.abc_frames.specs.Frame.{newest};
 ghost use Rattle.abc_run_state.specs.Outer.{Outer, setting, world};
 ghost use Rattle.abc_run_state.specs.Standing.{IsSet, Stays};
 ghost use Rattle.abc_run_state.specs.Stops.{IsOpen, answer};
-ghost use Rattle.abc_run_state.specs.Turns.{Runs};
 ghost use Rattle.abc_meaning.specs.Members.{delete_found as found_deleted, deletes, deletes_own, is_dynamic as is_dynamic_value};
 ghost use Rattle.abc_meaning.specs.Objects.{without_property};
 ghost use Rattle.abc_meaning.specs.Setting.{is_dynamic_part as is_dynamic_of};
 ghost use Rattle.abc_meaning.specs.World.{Went, changes};
 ghost use Rattle.abc_run_names.specs.Deleted.{deletes_named};
 ghost use Rattle.abc_run_names.specs.Named.{form_at, parts_count};
+ghost use Rattle.abc_run_state.specs.Doing.{Does};
 
 use crate::runtime_names::{name_of, parts_of};
 use abc_base::HostClass;
 use abc_file_types::has_flag;
 use abc_frames::finish;
-use abc_heap_search::{Found, Name, Want, found_is_there};
 use abc_heap_values::{ObjId, Span, Value};
 use abc_link::Linked;
-use abc_link_names::class_flags;
-use abc_link_program::Part;
+use abc_link_names::{Part, class_flags};
 use abc_lookup::find_on;
+use abc_objects::{Found, Name, Want, found_is_there};
 use abc_run_state::{State, Stop, operand};
 
 /// All objects are dynamic but activations, catch objects and instances of sealed classes.
@@ -169,8 +168,7 @@ pub fn delete_property(linked: &Linked, s: &mut State, name: u32) -> Result<(), 
     requires set { IsSet linked.now s.old }
     requires ready { IsReady (parts_count (form_at (setting linked.now out) name) + 1) 1 s.old.frames }
     requires free { IsOpen (deletes_named (setting linked.now out) name (newest s.old.frames) (world s.old out)) }
-    ensures runs { Runs linked.now out (deletes_named (setting linked.now out) name (newest s.old.frames)) s.old result s.new }
-    ensures limit { s.new.given.limit ≡ s.old.given.limit }
+    ensures { Does linked.now out (λ p. deletes_named p name) s.old result s.new }
 {
     let parts = parts_of(linked, name);
     let v = operand(&s.frames, parts);

@@ -5,10 +5,10 @@ ghost use Rattle.abc_heap_store.specs.Texts.{IsText};
 ghost use Rattle.abc_frames.specs.Ready.{IsReady};
 ghost use Rattle.abc_objects.specs.Stands.{IsObjectOrNone, StandsOver};
 ghost use Rattle.abc_objects.specs.Values.{Exists, IsObject};
-ghost use Rattle.abc_heap_search.specs.Objects.{delegate_of as delegate_number, number_of};
-ghost use Rattle.abc_heap_search.specs.Searches.{found_on};
-ghost use Rattle.abc_heap_search.specs.declared.found.Want.TheVariants.{Read};
-ghost use Rattle.abc_heap_search.specs.declared.name.Spaces.TheVariants.{Public};
+ghost use Rattle.abc_objects.specs.Objects.{delegate_of as delegate_number, number_of};
+ghost use Rattle.abc_objects.specs.Searches.{found_on};
+ghost use Rattle.abc_objects.specs.declared.found.Want.TheVariants.{Read};
+ghost use Rattle.abc_objects.specs.declared.name.Spaces.TheVariants.{Public};
 ghost use Rattle.abc_frames.specs.Frame.{newest};
 ghost use Rattle.abc_run_state.specs.Outer.{Outer, setting, world};
 ghost use Rattle.abc_run_state.specs.Standing.{IsSet};
@@ -16,16 +16,17 @@ ghost use Rattle.abc_run_state.specs.Stops.{answer};
 ghost use Rattle.abc_run_state.specs.Turns.{Runs};
 ghost use Rattle.abc_meaning.specs.World.{World};
 ghost use Rattle.abc_run_names.specs.Late.{keeps_late, tests_instance, tests_late, tests_name};
+ghost use Rattle.abc_run_state.specs.Doing.{Does};
 
 use crate::receivers::is_holder;
 use abc_base::HostClass;
 use abc_frames::finish;
-use abc_heap_search::{Found, Name, Spaces, Want};
 use abc_heap_store::What;
 use abc_heap_values::{ObjId, Span, Value};
 use abc_link::Linked;
-use abc_link_program::Ty;
+use abc_link_names::Ty;
 use abc_lookup::find_on;
+use abc_objects::{Found, Name, Spaces, Want};
 use abc_run_state::{
     State, Stop, class_type, host_type, is_it, operand, prototype_for, prototype_of, spell,
     value_or_null,
@@ -189,8 +190,7 @@ pub fn has_name(linked: &Linked, s: &mut State) -> Result<(), Stop>
     ghost out: { Outer }
     requires set { IsSet linked.now s.old }
     requires ready { IsReady 2 1 s.old.frames }
-    ensures runs { Runs linked.now out (tests_name (setting linked.now out) (newest s.old.frames)) s.old result s.new }
-    ensures limit { s.new.given.limit ≡ s.old.given.limit }
+    ensures { Does linked.now out (λ p. tests_name p) s.old result s.new }
 {
     let name = operand(&s.frames, 1);
     let object = operand(&s.frames, 0);

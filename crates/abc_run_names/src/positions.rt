@@ -3,7 +3,7 @@ ghost use Rattle.abc_base_graphs.specs.Ways.{way};
 ghost use Rattle.abc_heap_store.specs.Properties.{place_after};
 ghost use Rattle.abc_objects.specs.Stands.{IsObjectOrNone, StandsOver};
 ghost use Rattle.abc_objects.specs.Values.{IsObject};
-ghost use Rattle.abc_heap_search.specs.Objects.{delegate_at, number_of};
+ghost use Rattle.abc_objects.specs.Objects.{delegate_at, number_of};
 ghost use Rattle.abc_run_names.specs.Walking.{CanWalk, IsPlace, first_position, next_along_from, next_in, number_or_zero, position_of, value_in, value_or_undefined, walked};
 
 use abc_heap_values::{ObjId, Value};

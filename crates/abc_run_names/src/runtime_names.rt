@@ -15,9 +15,9 @@ ghost use Rattle.abc_run_names.specs.Named.{HasParts, IsSpaceOrNull, form_at, na
 
 use abc_base::HostClass;
 use abc_file_types::Multiname;
-use abc_heap_search::{Name, Spaces};
 use abc_heap_values::{Span, Value};
 use abc_link::Linked;
+use abc_objects::{Name, Spaces};
 use abc_run_state::{State, Stop, operand, spell, string_at};
 
 /// What a name of the pool leaves to be taken from the stack.

@@ -3,20 +3,20 @@ ghost use Rattle.abc_heap_store.specs.Heap.{object_at, slots_of as slots_of_obje
 ghost use Rattle.abc_frames.specs.Ready.{IsReady};
 ghost use Rattle.abc_objects.specs.Stands.{StandsOver};
 ghost use Rattle.abc_objects.specs.Values.{Exists, IsObject};
-ghost use Rattle.abc_link_program.specs.Slots.{slot_numbered};
+ghost use Rattle.abc_link_names.specs.Slots.{slot_numbered};
 ghost use Rattle.abc_frames.specs.Frame.{newest};
 ghost use Rattle.abc_run_state.specs.Outer.{Outer, setting, world};
 ghost use Rattle.abc_run_state.specs.Standing.{IsSet, Stays};
 ghost use Rattle.abc_run_state.specs.Stops.{IsOpen, answer};
-ghost use Rattle.abc_run_state.specs.Turns.{Runs};
 ghost use Rattle.abc_meaning.specs.Members.{write_slot as slot_written};
 ghost use Rattle.abc_run_names.specs.Numbered.{reads_numbered, slot_type, writes_numbered};
+ghost use Rattle.abc_run_state.specs.Doing.{Does};
 
 use crate::receivers::receiver;
 use abc_frames::{drop_and_go, finish};
 use abc_heap_values::{ObjId, Value};
 use abc_link::Linked;
-use abc_link_program::Ty;
+use abc_link_names::Ty;
 use abc_run_state::{State, Stop, coerce, operand};
 
 /// The type of a slot of an object.
@@ -63,8 +63,7 @@ pub fn get_slot(linked: &Linked, s: &mut State, number: u32) -> Result<(), Stop>
     requires set { IsSet linked.now s.old }
     requires ready { IsReady 1 1 s.old.frames }
     requires free { IsOpen (reads_numbered (setting linked.now out) number (newest s.old.frames) (world s.old out)) }
-    ensures runs { Runs linked.now out (reads_numbered (setting linked.now out) number (newest s.old.frames)) s.old result s.new }
-    ensures limit { s.new.given.limit ≡ s.old.given.limit }
+    ensures { Does linked.now out (λ p. reads_numbered p number) s.old result s.new }
 {
     let v = operand(&s.frames, 0);
     let o = receiver(v)?;
@@ -80,8 +79,7 @@ pub fn set_slot(linked: &Linked, s: &mut State, number: u32) -> Result<(), Stop>
     requires set { IsSet linked.now s.old }
     requires ready { IsReady 2 0 s.old.frames }
     requires free { IsOpen (writes_numbered (setting linked.now out) number (newest s.old.frames) (world s.old out)) }
-    ensures runs { Runs linked.now out (writes_numbered (setting linked.now out) number (newest s.old.frames)) s.old result s.new }
-    ensures limit { s.new.given.limit ≡ s.old.given.limit }
+    ensures { Does linked.now out (λ p. writes_numbered p number) s.old result s.new }
 {
     let v = operand(&s.frames, 1);
     let x = operand(&s.frames, 0);

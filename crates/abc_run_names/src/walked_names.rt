@@ -5,7 +5,7 @@ ghost use Rattle.abc_heap_store.specs.What.{is_array};
 ghost use Rattle.abc_objects.specs.Stands.{StandsOver};
 ghost use Rattle.abc_objects.specs.Values.{IsObject};
 ghost use Rattle.abc_ops.specs.Left.{Leaves};
-ghost use Rattle.abc_link_program.specs.Linked.{LinkedFile};
+ghost use Rattle.abc_link_names.specs.Linked.{LinkedFile};
 ghost use Rattle.abc_run_names.specs.Walking.{CanWalk, IsPlace, element_named, named_in, position_of, text_or_null, walked};
 
 use crate::positions::place_of;

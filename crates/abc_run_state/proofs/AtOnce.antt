@@ -1,6 +1,6 @@
 -- What is done at once, or not at all.
 use Rattle.std.proofs.Common.{◌≡◌, Bool, true, false, ap, ◌∙◌, subst}
-use Rattle.abc_link_program.specs.Linked.{LinkedFile}
+use Rattle.abc_link_names.specs.Linked.{LinkedFile}
 use Rattle.abc_meaning.specs.At.{Act}
 use Rattle.abc_meaning.specs.World.{Run}
 use Rattle.abc_run_state.specs.Outer.{Outer, setting, world}

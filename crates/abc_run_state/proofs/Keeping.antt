@@ -8,7 +8,7 @@ use Rattle.abc_objects.specs.Stands.{Each}
 use Rattle.abc_objects.specs.Values.{Exists}
 use Rattle.abc_objects.proofs.Grown.{exists_grown, grows_on, grows_self, scope_grown}
 use Rattle.abc_objects.proofs.Reshaped.{each_set}
-use Rattle.abc_link_program.specs.Linked.{LinkedFile}
+use Rattle.abc_link_names.specs.Linked.{LinkedFile}
 use Rattle.abc_frames.proofs.Living.{living_is}
 use Rattle.abc_frames.specs.Frame.{Frame, Frames, newest, with_newest, with_operand}
 use Rattle.abc_run_state.specs.Standing.{IsSet, IsThere, Stays}

@@ -25,12 +25,12 @@ use Rattle.abc_objects.specs.Values.{IsObject}
 use Rattle.abc_objects.proofs.Grown.{grows_on, grows_self}
 use Rattle.abc_objects.proofs.Kept.{added_grows, changed_grows, scopes_grow}
 use Rattle.abc_objects.proofs.Made.{host_found, part_found}
-use Rattle.abc_link_program.specs.Linked.{IsLinkedFile, LinkedFile, layout_of}
-use Rattle.abc_link_program.specs.Numbering.{part_at}
-use Rattle.abc_link_program.specs.Parts.{HasLayout}
-use Rattle.abc_link_program.specs.declared.part.Part.{Part}
-use Rattle.abc_link_program.specs.declared.part.Part.TheVariants as parts
-use Rattle.abc_heap_search.specs.Objects.{host_prototype}
+use Rattle.abc_link_names.specs.Linked.{IsLinkedFile, LinkedFile, layout_of}
+use Rattle.abc_link_names.specs.Numbering.{part_at}
+use Rattle.abc_link_names.specs.Parts.{HasLayout}
+use Rattle.abc_link_names.specs.declared.part.Part.{Part}
+use Rattle.abc_link_names.specs.declared.part.Part.TheVariants as parts
+use Rattle.abc_objects.specs.Objects.{host_prototype}
 use Rattle.abc_run_state.specs.Outer.{at_heap}
 use Rattle.abc_meaning.specs.Objects.{new_array, new_class, new_function, new_id, new_object, own_place, prototype_for, set_property, with_function, with_property}
 use Rattle.abc_meaning.specs.Setting.{Setting}

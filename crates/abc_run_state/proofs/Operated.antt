@@ -10,8 +10,8 @@ use Rattle.abc_ops.specs.Coercions.{Coerces}
 use Rattle.abc_ops.specs.Left.{Leaves, Left, as_value}
 use Rattle.abc_ops.specs.declared.end.OpEnd.{OpEnd}
 use Rattle.abc_ops.specs.declared.end.OpEnd.TheVariants as ends
-use Rattle.abc_link_program.specs.Linked.{IsLinkedFile, LinkedFile}
-use Rattle.abc_link_program.specs.declared.types.Ty.{Ty}
+use Rattle.abc_link_names.specs.Linked.{IsLinkedFile, LinkedFile}
+use Rattle.abc_link_names.specs.declared.types.Ty.{Ty}
 use Rattle.abc_run_state.specs.Outer.{at_heap}
 use Rattle.abc_run_state.specs.Stops.{answer, stop_of_end, why}
 use Rattle.abc_run_state.specs.declared.state.Stop.{Stop}

@@ -11,7 +11,7 @@ use Rattle.abc_heap_store.specs.declared.records.What.TheVariants as whats
 use Rattle.abc_heap_store.specs.Heap.{Heap}
 use Rattle.abc_heap_store.specs.Texts.{IsText}
 use Rattle.abc_objects.specs.Values.{Exists}
-use Rattle.abc_link_program.specs.Linked.{LinkedFile}
+use Rattle.abc_link_names.specs.Linked.{LinkedFile}
 use Rattle.abc_meaning.specs.Newing.{entries_of, set_all}
 use Rattle.abc_meaning.specs.Objects.{new_of_host, set_property}
 use Rattle.abc_meaning.specs.Ops.{spells}

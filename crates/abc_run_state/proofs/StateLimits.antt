@@ -14,9 +14,9 @@ use Rattle.abc_ops.specs.Conversions.{converted, spelled, text_or_null}
 use Rattle.abc_ops.specs.Left.{Left, as_value, followed, followed_by, gives, text_made, text_made_if, text_value}
 use Rattle.abc_ops.specs.Operations.{computed, computed_single, joined, joined_texts, joined_to}
 use Rattle.abc_ops.specs.declared.end.OpEnd.{OpEnd}
-use Rattle.abc_link_program.specs.Linked.{LinkedFile}
-use Rattle.abc_link_program.specs.declared.types.Ty.{Ty}
-use Rattle.abc_link_program.specs.declared.types.Ty.TheVariants as types
+use Rattle.abc_link_names.specs.Linked.{LinkedFile}
+use Rattle.abc_link_names.specs.declared.types.Ty.{Ty}
+use Rattle.abc_link_names.specs.declared.types.Ty.TheVariants as types
 use Rattle.abc_meaning.specs.Ops.{coerced}
 
 made_limits : (b : Bool) (h : Heap) (bytes : List ℕ) → (text_made_if b h bytes).heap.limits ≡ h.limits

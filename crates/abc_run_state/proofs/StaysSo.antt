@@ -4,7 +4,7 @@ use Rattle.std.specs.Int.{int_wrap, w32}
 use Rattle.abc_heap_values.specs.declared.values.Span.{Span}
 use Rattle.abc_heap_values.specs.declared.values.Value.{Value}
 use Rattle.abc_heap_values.specs.declared.values.Value.TheVariants as values
-use Rattle.abc_link_program.specs.declared.types.Ty.TheVariants as types
+use Rattle.abc_link_names.specs.declared.types.Ty.TheVariants as types
 use Rattle.abc_meaning.specs.World.{Went}
 use Rattle.abc_meaning.specs.Ops.{coerces}
 use Rattle.abc_run_state.specs.OfType.{IsOfType}

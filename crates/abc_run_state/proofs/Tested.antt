@@ -4,8 +4,8 @@ use Rattle.std.specs.Prelude.{◌↔◌, IsTrue}
 use Rattle.abc_heap_values.specs.declared.values.Value.{Value}
 use Rattle.abc_heap_store.specs.Heap.{Heap}
 use Rattle.abc_ops.specs.Types.{IsOf}
-use Rattle.abc_link_program.specs.Linked.{IsLinkedFile, LinkedFile}
-use Rattle.abc_link_program.specs.declared.types.Ty.{Ty}
+use Rattle.abc_link_names.specs.Linked.{IsLinkedFile, LinkedFile}
+use Rattle.abc_link_names.specs.declared.types.Ty.{Ty}
 use Rattle.abc_meaning.specs.Types.{is_of}
 use Rattle.abc_meaning.proofs.TypeTests.{decides_types}
 

@@ -4,8 +4,8 @@ use Rattle.std.specs.Prelude.{Some, None, slice_get}
 use Rattle.abc_heap_values.specs.declared.values.Value.{Value}
 use Rattle.abc_heap_store.specs.Heap.{Heap, Object, object_at, slots_of as slots_of_object}
 use Rattle.abc_objects.specs.Stands.{StandsOver, object_in}
-use Rattle.abc_link_program.specs.Linked.{LinkedFile}
-use Rattle.abc_link_program.specs.Slots.{slots_of}
+use Rattle.abc_link_names.specs.Linked.{LinkedFile}
+use Rattle.abc_link_names.specs.Slots.{slots_of}
 
 pub object_is : (obs : List Object) (o : ℕ) → o < length obs → slice_get obs o ≡ Some (object_at obs o)
 object_is [] o b = absurd (omega arith)

@@ -4,7 +4,7 @@ use Rattle.std.specs.Prelude.{Ok, Err}
 use Rattle.std.specs.declared.result.Result.{Result}
 use Rattle.abc_meaning.specs.At.{Act}
 use Rattle.abc_meaning.specs.World.{Run}
-use Rattle.abc_link_program.specs.Linked.{LinkedFile}
+use Rattle.abc_link_names.specs.Linked.{LinkedFile}
 use Rattle.abc_run_state.specs.Answers.{goes_as}
 use Rattle.abc_run_state.specs.Outer.{Outer}
 use Rattle.abc_run_state.specs.Turns.{Leaves, Runs}

@@ -9,3 +9,4 @@ pub mod Standing
 pub mod Makers
 pub mod Pairs
 pub mod Plain
+pub mod Doing

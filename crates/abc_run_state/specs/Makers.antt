@@ -5,8 +5,8 @@ use Rattle.abc_heap_values.specs.declared.values.Value.{Value}
 use Rattle.abc_heap_values.specs.declared.values.Value.TheVariants.{Obj}
 use Rattle.abc_heap_store.specs.declared.records.What.{What}
 use Rattle.abc_heap_store.specs.declared.records.What.TheVariants as whats
-use Rattle.abc_link_program.specs.Linked.{layout_of}
-use Rattle.abc_link_program.specs.declared.part.Part.TheVariants as parts
+use Rattle.abc_link_names.specs.Linked.{layout_of}
+use Rattle.abc_link_names.specs.declared.part.Part.TheVariants as parts
 use Rattle.abc_frames.specs.Frame.{Frame, arguments}
 use Rattle.abc_meaning.specs.At.{Act}
 use Rattle.abc_meaning.specs.Newing.{entries_of, object_value, set_all}

@@ -1,8 +1,8 @@
 -- A value that is what it is coerced to.
 use Rattle.std.specs.Prelude.{◌≡◌, ℕ}
 use Rattle.abc_heap_values.specs.declared.values.Value.{Value}
-use Rattle.abc_link_program.specs.Linked.{LinkedFile}
-use Rattle.abc_link_program.specs.declared.types.Ty.{Ty}
+use Rattle.abc_link_names.specs.Linked.{LinkedFile}
+use Rattle.abc_link_names.specs.declared.types.Ty.{Ty}
 use Rattle.abc_meaning.specs.World.{Went, World}
 use Rattle.abc_meaning.specs.Entering.{coerces_to}
 use Rattle.abc_meaning.specs.Ops.{coerces}

@@ -2,7 +2,7 @@
 use Rattle.std.specs.Prelude.{ℕ, List, ◌∷◌, Bool, not, if◌then◌else◌}
 use Rattle.abc_heap_values.specs.declared.values.Value.TheVariants.{Bool as Truth}
 use Rattle.abc_heap_values.specs.declared.numbers.Conversion.{Conversion}
-use Rattle.abc_link_program.specs.Types.{type_of}
+use Rattle.abc_link_names.specs.Types.{type_of}
 use Rattle.abc_frames.specs.Frame.{Frame, dropped, with_local}
 use Rattle.abc_meaning.specs.Ops.{coerces, compares, computes_one, computes_two, converts}
 use Rattle.abc_meaning.specs.Setting.{Setting}

@@ -4,7 +4,7 @@ use Rattle.abc_heap_store.specs.Heap.{Heap}
 use Rattle.abc_objects.specs.Growing.{Grows}
 use Rattle.abc_objects.specs.Stands.{AreEntries, Each, IsScope, StandsOver}
 use Rattle.abc_objects.specs.Values.{Exists}
-use Rattle.abc_link_program.specs.Linked.{LinkedFile}
+use Rattle.abc_link_names.specs.Linked.{LinkedFile}
 use Rattle.abc_frames.specs.Frame.{Frame, newest}
 use Rattle.abc_run_state.specs.declared.state.State.{State}
 

@@ -6,7 +6,7 @@ use Rattle.abc_heap_values.specs.declared.values.Value.{Value}
 use Rattle.abc_heap_values.specs.declared.values.Value.TheVariants.{Undefined}
 use Rattle.abc_heap_store.specs.declared.records.Full.{Full}
 use Rattle.abc_heap_store.specs.declared.records.What.TheVariants.{Formula}
-use Rattle.abc_link_program.specs.Linked.{LinkedFile}
+use Rattle.abc_link_names.specs.Linked.{LinkedFile}
 use Rattle.abc_frames.specs.Frame.{Frame, Frames, arguments, newest, no_size, room_for, under}
 use Rattle.abc_frames.specs.declared.records.Size.{Size}
 use Rattle.abc_frames.specs.declared.records.Wait.TheVariants as waits

@@ -1,9 +1,9 @@
-ghost use Rattle.std.specs.Prelude.{◌≡◌, ◌≢◌, ◌<◌, ◌^◌, length};
+ghost use Rattle.std.specs.Prelude.{◌≡◌, ◌≢◌, ◌<◌, length};
 ghost use Rattle.abc_frames.specs.Ready.{IsReady};
 ghost use Rattle.abc_objects.specs.Stands.{IsMadeAlone, NamesParts, StandsOver, array_layout};
-ghost use Rattle.abc_link_program.specs.Linked.{IsLayout};
-ghost use Rattle.abc_link_program.specs.Parts.{HasLayout};
-ghost use Rattle.abc_link_program.specs.declared.part.Part.TheVariants as parts;
+ghost use Rattle.abc_link_names.specs.Linked.{IsLayout};
+ghost use Rattle.abc_link_names.specs.Parts.{HasLayout};
+ghost use Rattle.abc_link_names.specs.declared.part.Part.TheVariants as parts;
 ghost use Rattle.abc_frames.specs.Frame.{newest};
 ghost use Rattle.abc_run_state.specs.Outer.{Outer, setting};
 ghost use Rattle.abc_run_state.specs.Standing.{IsSet};
@@ -19,7 +19,7 @@ use abc_frames::finish;
 use abc_heap_store::What;
 use abc_heap_values::Value;
 use abc_link::Linked;
-use abc_link_program::{LayoutId, Part};
+use abc_link_names::{LayoutId, Part};
 
 /// `newarray`: of the operands on top, so many.
 pub fn new_array(linked: &Linked, s: &mut State, count: u32) -> Result<(), Stop>
@@ -38,7 +38,6 @@ pub fn new_function(linked: &Linked, s: &mut State, method: u32) -> Result<(), S
     requires set { IsSet linked.now s.old }
     requires ready { IsReady 0 1 s.old.frames }
     requires method { method < length linked.now.file.methods }
-    requires few { length (newest s.old.frames).scopes < 2 ^ 32 }
     ensures runs { (out : Outer) → Runs linked.now out (pushes_function (setting linked.now out) method (newest s.old.frames)) s.old result s.new }
     ensures limit { s.new.given.limit ≡ s.old.given.limit }
 {

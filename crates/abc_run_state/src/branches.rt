@@ -5,12 +5,12 @@ ghost use Rattle.abc_heap_values.specs.Numbers.{truth_of};
 ghost use Rattle.abc_frames.specs.Ready.{IsReady};
 ghost use Rattle.abc_frames.specs.Frame.{newest};
 ghost use Rattle.abc_run_state.specs.Operands.{operand_at};
-ghost use Rattle.abc_run_state.specs.Outer.{Outer, setting, world};
+ghost use Rattle.abc_run_state.specs.Outer.{Outer, world};
 ghost use Rattle.abc_run_state.specs.Standing.{IsSet};
 ghost use Rattle.abc_run_state.specs.Stops.{IsOpen};
-ghost use Rattle.abc_run_state.specs.Turns.{Runs};
 ghost use Rattle.abc_meaning.specs.World.{Went, World, done};
 ghost use Rattle.abc_run_state.specs.Plain.{branches_on, compares_both, opposite, switches_on};
+ghost use Rattle.abc_run_state.specs.Doing.{Does};
 
 use crate::operands::operand;
 use crate::parts::compare;
@@ -25,8 +25,7 @@ pub fn branch_so(linked: &Linked, s: &mut State, op: u8, target: u32) -> Result<
     ghost out: { Outer }
     requires set { IsSet linked.now s.old }
     requires ready { IsReady 2 0 s.old.frames }
-    ensures runs { Runs linked.now out (branches_on 2 target (newest s.old.frames) (compares_both (setting linked.now out) op (newest s.old.frames))) s.old result s.new }
-    ensures limit { s.new.given.limit ≡ s.old.given.limit }
+    ensures { Does linked.now out (λ p f. branches_on 2 target f (compares_both p op f)) s.old result s.new }
 {
     let x = operand(&s.frames, 1);
     let y = operand(&s.frames, 0);
@@ -42,8 +41,7 @@ pub fn branch_not(linked: &Linked, s: &mut State, op: u8, target: u32) -> Result
     ghost out: { Outer }
     requires set { IsSet linked.now s.old }
     requires ready { IsReady 2 0 s.old.frames }
-    ensures runs { Runs linked.now out (branches_on 2 target (newest s.old.frames) (opposite (compares_both (setting linked.now out) op (newest s.old.frames)))) s.old result s.new }
-    ensures limit { s.new.given.limit ≡ s.old.given.limit }
+    ensures { Does linked.now out (λ p f. branches_on 2 target f (opposite (compares_both p op f))) s.old result s.new }
 {
     let x = operand(&s.frames, 1);
     let y = operand(&s.frames, 0);
@@ -58,8 +56,7 @@ pub fn branch_not(linked: &Linked, s: &mut State, op: u8, target: u32) -> Result
 pub fn branch_if(linked: &Linked, s: &mut State, target: u32) -> Result<(), Stop>
     ghost out: { Outer }
     requires { IsReady 1 0 s.old.frames }
-    ensures runs { Runs linked.now out (branches_on 1 target (newest s.old.frames) (done (truth_of (operand_at 0 (newest s.old.frames))))) s.old result s.new }
-    ensures limit { s.new.given.limit ≡ s.old.given.limit }
+    ensures { Does linked.now out (λ p f. branches_on 1 target f (done (truth_of (operand_at 0 f)))) s.old result s.new }
 {
     let v = operand(&s.frames, 0);
     let is = is_true(v);
@@ -73,8 +70,7 @@ pub fn branch_if(linked: &Linked, s: &mut State, target: u32) -> Result<(), Stop
 pub fn branch_unless(linked: &Linked, s: &mut State, target: u32) -> Result<(), Stop>
     ghost out: { Outer }
     requires { IsReady 1 0 s.old.frames }
-    ensures runs { Runs linked.now out (branches_on 1 target (newest s.old.frames) (done (not (truth_of (operand_at 0 (newest s.old.frames)))))) s.old result s.new }
-    ensures limit { s.new.given.limit ≡ s.old.given.limit }
+    ensures { Does linked.now out (λ p f. branches_on 1 target f (done (not (truth_of (operand_at 0 f))))) s.old result s.new }
 {
     let v = operand(&s.frames, 0);
     let is = is_true(v);
@@ -109,8 +105,7 @@ pub fn switch(linked: &Linked, s: &mut State, default: u32, cases: &[u32]) -> Re
     ghost out: { Outer }
     requires ready { IsReady 1 0 s.old.frames }
     requires free { IsOpen (switches_on default cases.now (newest s.old.frames) (world s.old out)) }
-    ensures runs { Runs linked.now out (switches_on default cases.now (newest s.old.frames)) s.old result s.new }
-    ensures limit { s.new.given.limit ≡ s.old.given.limit }
+    ensures { Does linked.now out (λ p. switches_on default cases.now) s.old result s.new }
 {
     let v = operand(&s.frames, 0);
     let target = target_of(v, default, cases);

@@ -1,13 +1,12 @@
 ghost use Rattle.std.specs.Prelude.{◌≡◌};
 ghost use Rattle.abc_link_names.specs.Bases.{is_interface as is_interface_class};
 ghost use Rattle.abc_link_names.specs.declared.named.Named.TheVariants as named;
-ghost use Rattle.abc_link_program.specs.Types.{type_in};
+ghost use Rattle.abc_link_names.specs.Types.{type_in};
 
 use abc_base::HostClass;
 use abc_file_types::has_flag;
 use abc_link::Linked;
-use abc_link_names::class_flags;
-use abc_link_program::{Part, Ty};
+use abc_link_names::{Part, Ty, class_flags};
 
 /// Whether a class of the file is an interface.
 pub fn is_interface(linked: &Linked, class: u32) -> bool

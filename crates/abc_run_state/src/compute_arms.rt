@@ -1,10 +1,10 @@
-ghost use Rattle.std.specs.Prelude.{◌≡◌, ◌<◌, length};
+ghost use Rattle.std.specs.Prelude.{◌<◌, length};
 ghost use Rattle.abc_frames.specs.Ready.{IsReady};
 ghost use Rattle.abc_frames.specs.Frame.{newest};
-ghost use Rattle.abc_run_state.specs.Outer.{Outer, setting};
+ghost use Rattle.abc_run_state.specs.Outer.{Outer};
 ghost use Rattle.abc_run_state.specs.Standing.{IsSet};
-ghost use Rattle.abc_run_state.specs.Turns.{Runs};
 ghost use Rattle.abc_run_state.specs.Plain.{computes_both, computes_top, converts_top, counts_local, pushes_test};
+ghost use Rattle.abc_run_state.specs.Doing.{Does};
 
 use crate::operands::{local, operand};
 use crate::parts::{compare, compute_one, compute_two, convert};
@@ -19,8 +19,7 @@ pub fn convert_top(linked: &Linked, s: &mut State, to: Conversion) -> Result<(),
     ghost out: { Outer }
     requires set { IsSet linked.now s.old }
     requires ready { IsReady 1 1 s.old.frames }
-    ensures runs { Runs linked.now out (converts_top (setting linked.now out) to (newest s.old.frames)) s.old result s.new }
-    ensures limit { s.new.given.limit ≡ s.old.given.limit }
+    ensures { Does linked.now out (λ p. converts_top p to) s.old result s.new }
 {
     let v = operand(&s.frames, 0);
     let made = convert(linked, s, to, v)?;
@@ -34,8 +33,7 @@ pub fn compute_top(linked: &Linked, s: &mut State, op: u8) -> Result<(), Stop>
     ghost out: { Outer }
     requires set { IsSet linked.now s.old }
     requires ready { IsReady 1 1 s.old.frames }
-    ensures runs { Runs linked.now out (computes_top op (newest s.old.frames)) s.old result s.new }
-    ensures limit { s.new.given.limit ≡ s.old.given.limit }
+    ensures { Does linked.now out (λ p. computes_top op) s.old result s.new }
 {
     let v = operand(&s.frames, 0);
     let made = compute_one(linked, s, op, v)?;
@@ -49,8 +47,7 @@ pub fn compute_both(linked: &Linked, s: &mut State, op: u8) -> Result<(), Stop>
     ghost out: { Outer }
     requires set { IsSet linked.now s.old }
     requires ready { IsReady 2 1 s.old.frames }
-    ensures runs { Runs linked.now out (computes_both (setting linked.now out) op (newest s.old.frames)) s.old result s.new }
-    ensures limit { s.new.given.limit ≡ s.old.given.limit }
+    ensures { Does linked.now out (λ p. computes_both p op) s.old result s.new }
 {
     let x = operand(&s.frames, 1);
     let y = operand(&s.frames, 0);
@@ -65,8 +62,7 @@ pub fn compare_top(linked: &Linked, s: &mut State, op: u8) -> Result<(), Stop>
     ghost out: { Outer }
     requires set { IsSet linked.now s.old }
     requires ready { IsReady 2 1 s.old.frames }
-    ensures runs { Runs linked.now out (pushes_test (setting linked.now out) op (newest s.old.frames)) s.old result s.new }
-    ensures limit { s.new.given.limit ≡ s.old.given.limit }
+    ensures { Does linked.now out (λ p. pushes_test p op) s.old result s.new }
 {
     let x = operand(&s.frames, 1);
     let y = operand(&s.frames, 0);
@@ -82,8 +78,7 @@ pub fn count_local(linked: &Linked, s: &mut State, op: u8, n: u32) -> Result<(),
     requires set { IsSet linked.now s.old }
     requires ready { IsReady 0 0 s.old.frames }
     requires local { n < length (newest s.old.frames).locals }
-    ensures runs { Runs linked.now out (counts_local op n (newest s.old.frames)) s.old result s.new }
-    ensures limit { s.new.given.limit ≡ s.old.given.limit }
+    ensures { Does linked.now out (λ p. counts_local op n) s.old result s.new }
 {
     let v = local(&s.frames, n);
     let made = compute_one(linked, s, op, v)?;

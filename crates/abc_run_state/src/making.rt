@@ -1,10 +1,10 @@
-ghost use Rattle.std.specs.Prelude.{◌≡◌, ◌≢◌, ◌<◌, ◌≤◌, ◌^◌, None, IfOk, get_or, length, replicate};
+ghost use Rattle.std.specs.Prelude.{◌≡◌, ◌≢◌, ◌<◌, ◌≤◌, None, IfOk, get_or, length, replicate};
 ghost use Rattle.abc_base.specs.declared.names.HostClass.TheVariants.{Array};
 ghost use Rattle.abc_heap_values.specs.declared.values.Value.TheVariants.{Undefined};
 ghost use Rattle.abc_heap_store.specs.Texts.{IsText};
 ghost use Rattle.abc_objects.specs.Stands.{Each, IsMadeAlone, IsObjectOrNone, NamesParts, StandsOver, array_layout};
 ghost use Rattle.abc_objects.specs.Values.{Exists, IsObject};
-ghost use Rattle.abc_link_program.specs.Linked.{IsLayout};
+ghost use Rattle.abc_link_names.specs.Linked.{IsLayout};
 ghost use Rattle.abc_frames.specs.Frame.{arguments, newest};
 ghost use Rattle.abc_run_state.specs.Outer.{Outer, setting, world};
 ghost use Rattle.abc_run_state.specs.Standing.{IsSet, Stays};
@@ -17,7 +17,7 @@ use abc_base::HostClass;
 use abc_heap_store::What;
 use abc_heap_values::{ObjId, Span, Value};
 use abc_link::Linked;
-use abc_link_program::{LayoutId, Part};
+use abc_link_names::{LayoutId, Part};
 
 /// Makes an object of a layout, with the slots of the layout at their start values. `Fills` where a limit is passed, that of
 /// objects first.
@@ -101,7 +101,6 @@ pub fn make_function(linked: &Linked, s: &mut State, method: u32) -> Result<ObjI
     requires set { IsSet linked.now s.old }
     requires live { 0 < length s.old.frames.living }
     requires method { method < length linked.now.file.methods }
-    requires few { length (newest s.old.frames).scopes < 2 ^ 32 }
     ensures part { (out : Outer) → new_function (setting linked.now out) method (newest s.old.frames).home (newest s.old.frames).saved (newest s.old.frames).scopes (world s.old out) ≡ answer result (world s.new out) }
     ensures stays { Stays linked.now s.old s.new }
     ensures there { IfOk result (IsObject s.new.arena) }
@@ -130,7 +129,6 @@ pub fn make_class(
     requires class { class < length linked.now.file.instances }
     requires first { get_or s.old.arena.classes class None ≡ None }
     requires base { IsObjectOrNone s.old.arena base_prototype }
-    requires few { length (newest s.old.frames).scopes < 2 ^ 32 }
     ensures part { (out : Outer) → new_class (setting linked.now out) class (newest s.old.frames).home base_prototype (newest s.old.frames).saved (newest s.old.frames).scopes (world s.old out) ≡ answer result (world s.new out) }
     ensures stays { Stays linked.now s.old s.new }
     ensures there { IfOk result (IsObject s.new.arena) }

@@ -1,11 +1,11 @@
 ghost use Rattle.std.specs.Prelude.{◌≡◌, true};
 ghost use Rattle.std.specs.Int.{int_wrap, w32};
-ghost use Rattle.abc_link_program.specs.declared.types.Ty.TheVariants as types;
+ghost use Rattle.abc_link_names.specs.declared.types.Ty.TheVariants as types;
 ghost use Rattle.abc_run_state.specs.OfType.{IsOfNamed, IsOfType};
 
 use abc_heap_values::Value;
 use abc_link::Linked;
-use abc_link_program::Ty;
+use abc_link_names::Ty;
 
 /// Whether a number is from -2147483648 to 2147483647.
 fn is_int(n: i64) -> bool

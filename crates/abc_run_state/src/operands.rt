@@ -2,7 +2,7 @@ ghost use Rattle.std.specs.Prelude.{◌≡◌, ◌<◌, length};
 ghost use Rattle.abc_heap_store.specs.Heap.{Heap};
 ghost use Rattle.abc_objects.specs.Stands.{Each};
 ghost use Rattle.abc_objects.specs.Values.{Exists};
-ghost use Rattle.abc_link_program.specs.Linked.{LinkedFile};
+ghost use Rattle.abc_link_names.specs.Linked.{LinkedFile};
 ghost use Rattle.abc_frames.specs.Frame.{newest};
 ghost use Rattle.abc_run_state.specs.Operands.{local_at, operand_at};
 

@@ -1,17 +1,15 @@
 ghost use Rattle.std.specs.Prelude.{◌≡◌, ◌<◌, ◌≤◌, ◌*◌, ◌^◌, MatchResult, length};
 ghost use Rattle.abc_meaning.specs.Newing.{set_all};
 ghost use Rattle.abc_frames.specs.Ready.{IsReady};
-ghost use Rattle.abc_objects.specs.Growing.{Grows};
-ghost use Rattle.abc_objects.specs.Stands.{StandsOver};
 ghost use Rattle.abc_objects.specs.Values.{IsObject};
 ghost use Rattle.abc_frames.specs.Frame.{newest};
 ghost use Rattle.abc_run_state.specs.Outer.{Outer, setting, world};
 ghost use Rattle.abc_run_state.specs.Standing.{IsSet, Stays};
 ghost use Rattle.abc_run_state.specs.Stops.{answer, why};
-ghost use Rattle.abc_run_state.specs.Turns.{Runs};
 ghost use Rattle.abc_meaning.specs.World.{Stopped, Went};
 ghost use Rattle.abc_run_state.specs.Makers.{pushes_object};
 ghost use Rattle.abc_run_state.specs.Pairs.{entries_at, spelled, text_in, with_operands};
+ghost use Rattle.abc_run_state.specs.Doing.{Does};
 
 use crate::making::{make_of_host, put_property};
 use crate::operands::operand;
@@ -97,8 +95,7 @@ pub fn new_object(linked: &Linked, s: &mut State, pairs: u32) -> Result<(), Stop
     requires set { IsSet linked.now s.old }
     requires ready { IsReady (2 * pairs) 1 s.old.frames }
     requires count { pairs < 2 ^ 30 }
-    ensures runs { Runs linked.now out (pushes_object (setting linked.now out) pairs (newest s.old.frames)) s.old result s.new }
-    ensures limit { s.new.given.limit ≡ s.old.given.limit }
+    ensures { Does linked.now out (λ p. pushes_object p pairs) s.old result s.new }
 {
     spell_names(linked, s, pairs)?;
     let made = make_of_host(linked, s, HostClass::Object, What::Plain)?;

@@ -12,7 +12,7 @@ ghost use Rattle.abc_run_state.specs.Stops.{answer, stop_of_end};
 use crate::state::{State, Stop};
 use abc_heap_values::{Conversion, Span, Value};
 use abc_link::Linked;
-use abc_link_program::Ty;
+use abc_link_names::Ty;
 use abc_objects::Arena;
 use abc_ops::OpEnd;
 

@@ -2,7 +2,7 @@ ghost use Rattle.std.specs.Prelude.{◌≡◌, ◌<◌, length};
 ghost use Rattle.abc_heap_store.specs.Heap.{slots_of};
 ghost use Rattle.abc_objects.specs.Stands.{IsObjectOrNone, StandsOver, prototype_of as prototype_in};
 ghost use Rattle.abc_objects.specs.Values.{IsObject};
-ghost use Rattle.abc_heap_search.specs.Objects.{host_prototype};
+ghost use Rattle.abc_objects.specs.Objects.{host_prototype};
 
 use crate::state::State;
 use abc_base::HostClass;

@@ -1,15 +1,14 @@
 ghost use Rattle.std.specs.Prelude.{◌≡◌, IsSome, Some};
 ghost use Rattle.abc_meaning.specs.Late.{or_null};
-ghost use Rattle.abc_link_program.specs.Types.{type_of};
+ghost use Rattle.abc_link_names.specs.Types.{type_of};
 ghost use Rattle.abc_frames.specs.Ready.{IsReady};
 ghost use Rattle.abc_objects.specs.Stands.{StandsOver};
 ghost use Rattle.abc_objects.specs.Values.{Exists};
-ghost use Rattle.abc_frames.specs.Frame.{newest};
-ghost use Rattle.abc_run_state.specs.Outer.{Outer, setting};
+ghost use Rattle.abc_run_state.specs.Outer.{Outer};
 ghost use Rattle.abc_run_state.specs.Standing.{IsSet};
-ghost use Rattle.abc_run_state.specs.Turns.{Runs};
 ghost use Rattle.abc_meaning.specs.Types.{is_of as is_of_type};
 ghost use Rattle.abc_run_state.specs.Plain.{coerces_named, keeps_named, tests_named};
+ghost use Rattle.abc_run_state.specs.Doing.{Does};
 
 use crate::operands::operand;
 use crate::parts::coerce;
@@ -17,7 +16,7 @@ use crate::state::{State, Stop};
 use abc_frames::finish;
 use abc_heap_values::Value;
 use abc_link::Linked;
-use abc_link_program::Ty;
+use abc_link_names::Ty;
 use abc_ops::is_of;
 
 /// The type that a name is, where the meaning knows one.
@@ -46,8 +45,7 @@ pub fn coerce_to(linked: &Linked, s: &mut State, name: u32) -> Result<(), Stop>
     requires set { IsSet linked.now s.old }
     requires ready { IsReady 1 1 s.old.frames }
     requires ty { IsSome (type_of linked.now name) }
-    ensures runs { Runs linked.now out (coerces_named (setting linked.now out) name (newest s.old.frames)) s.old result s.new }
-    ensures limit { s.new.given.limit ≡ s.old.given.limit }
+    ensures { Does linked.now out (λ p. coerces_named p name) s.old result s.new }
 {
     let ty = type_named(linked, name);
     let v = operand(&s.frames, 0);
@@ -62,8 +60,7 @@ pub fn as_type(linked: &Linked, s: &mut State, name: u32) -> Result<(), Stop>
     requires set { IsSet linked.now s.old }
     requires ready { IsReady 1 1 s.old.frames }
     requires ty { IsSome (type_of linked.now name) }
-    ensures runs { Runs linked.now out (keeps_named (setting linked.now out) name (newest s.old.frames)) s.old result s.new }
-    ensures limit { s.new.given.limit ≡ s.old.given.limit }
+    ensures { Does linked.now out (λ p. keeps_named p name) s.old result s.new }
 {
     let ty = type_named(linked, name);
     let v = operand(&s.frames, 0);
@@ -85,8 +82,7 @@ pub fn is_type(linked: &Linked, s: &mut State, name: u32) -> Result<(), Stop>
     requires set { IsSet linked.now s.old }
     requires ready { IsReady 1 1 s.old.frames }
     requires ty { IsSome (type_of linked.now name) }
-    ensures runs { Runs linked.now out (tests_named (setting linked.now out) name (newest s.old.frames)) s.old result s.new }
-    ensures limit { s.new.given.limit ≡ s.old.given.limit }
+    ensures { Does linked.now out (λ p. tests_named p name) s.old result s.new }
 {
     let ty = type_named(linked, name);
     let v = operand(&s.frames, 0);

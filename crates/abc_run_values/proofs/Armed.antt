@@ -7,7 +7,7 @@ use Rattle.abc_meaning.specs.Table.{act_of}
 use Rattle.abc_heap_values.specs.declared.values.Value.{Value}
 use Rattle.abc_meaning.specs.Tests.{name_parts, parts_count, values_of}
 use Rattle.abc_frames.specs.Ready.{IsReady}
-use Rattle.abc_link_program.specs.Linked.{LinkedFile}
+use Rattle.abc_link_names.specs.Linked.{LinkedFile}
 use Rattle.abc_verify_typing.specs.Instructions.{opcode, operand}
 use Rattle.abc_verify_typing.specs.Rows.{Shape, row_at}
 use Rattle.abc_verify_typing.specs.declared.row.Need.{Need}

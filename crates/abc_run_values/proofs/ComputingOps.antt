@@ -7,7 +7,7 @@ use Rattle.abc_run_state.specs.Plain.{computes_both, computes_top, converts_top,
 use Rattle.abc_run_values.proofs.Armed.{armed, one_taken, two_taken}
 use Rattle.abc_run_values.proofs.Doing.{Does, kept_does}
 use Rattle.abc_run_values.specs.Ready.{CanRun}
-use Rattle.abc_link_program.specs.Linked.{LinkedFile}
+use Rattle.abc_link_names.specs.Linked.{LinkedFile}
 use Rattle.abc_verify_typing.specs.Rows.{row_at, table}
 use Rattle.abc_verify_typing.specs.declared.row.Need.TheVariants as needed
 use Rattle.abc_frames.specs.Frame.{newest}

@@ -13,8 +13,8 @@ use Rattle.abc_run_values.proofs.Shaped.{first_there}
 use Rattle.abc_run_values.specs.Reads.{reads_scope}
 use Rattle.abc_run_values.specs.Here.{act_here}
 use Rattle.abc_run_values.specs.Ready.{CanRun}
-use Rattle.abc_link_program.specs.Linked.{LinkedFile}
-use Rattle.abc_link_program.specs.declared.types.Ty.{Ty}
+use Rattle.abc_link_names.specs.Linked.{LinkedFile}
+use Rattle.abc_link_names.specs.declared.types.Ty.{Ty}
 use Rattle.abc_frames.specs.Frame.{Frames, dropped, newest, newest_size, with_local}
 use Rattle.abc_frames.specs.declared.records.Size.{Size}
 use Rattle.abc_run_state.specs.Operands.{operand_at}

@@ -11,7 +11,7 @@ use Rattle.abc_run_values.proofs.Armed.{armed, none_taken, one_taken, two_taken}
 use Rattle.abc_run_values.proofs.Doing.{Does, scopes_fit}
 use Rattle.abc_run_values.specs.Reads.{reads_local}
 use Rattle.abc_run_values.specs.Ready.{CanRun}
-use Rattle.abc_link_program.specs.Linked.{LinkedFile}
+use Rattle.abc_link_names.specs.Linked.{LinkedFile}
 use Rattle.abc_verify_typing.specs.Rows.{row_at, table}
 use Rattle.abc_verify_typing.specs.declared.row.Need.TheVariants as needed
 use Rattle.abc_frames.specs.Frame.{dropped, newest, newest_size, with_local}

@@ -13,8 +13,8 @@ use Rattle.abc_run_values.proofs.Armed.{armed, none_taken, one_taken, two_taken}
 use Rattle.abc_run_values.proofs.Doing.{Does, counted_does, has_type, scope_does}
 use Rattle.abc_run_values.specs.Reads.{reads_local, reads_scope}
 use Rattle.abc_run_values.specs.Ready.{CanRun}
-use Rattle.abc_link_program.specs.Linked.{LinkedFile}
-use Rattle.abc_link_program.specs.Types.{type_of}
+use Rattle.abc_link_names.specs.Linked.{LinkedFile}
+use Rattle.abc_link_names.specs.Types.{type_of}
 use Rattle.abc_verify_typing.specs.Rows.{row_at, table}
 use Rattle.abc_verify_typing.specs.declared.row.Need.TheVariants as needed
 use Rattle.abc_frames.specs.Frame.{dropped, newest, with_local}

@@ -1,6 +1,6 @@
 -- The opcodes of each group of plain instructions.
 use Rattle.std.specs.Prelude.{ℕ, List, [], ◌∷◌}
-use Rattle.abc_run_values.specs.declared.op.TheConstants as op
+use Rattle.abc_file_types.specs.declared.op.TheConstants as op
 
 -- what goes on, throws, or changes the scopes
 abbrev pub control_ops : List ℕ

@@ -2,7 +2,7 @@
 use Rattle.std.specs.Prelude.{◌≡◌, None, Some}
 use Rattle.std.specs.declared.option.Option.{Option}
 use Rattle.std.specs.declared.result.Result.{Result}
-use Rattle.abc_link_program.specs.Linked.{LinkedFile}
+use Rattle.abc_link_names.specs.Linked.{LinkedFile}
 use Rattle.abc_verify_typing.specs.Instructions.{opcode}
 use Rattle.abc_verify_typing.specs.Rows.{row_at}
 use Rattle.abc_frames.specs.Frame.{Frame, newest}
@@ -13,7 +13,8 @@ use Rattle.abc_meaning.specs.World.{Run, stuck}
 use Rattle.abc_meaning.specs.At.{Act}
 use Rattle.abc_meaning.specs.Step.{does_row}
 use Rattle.abc_run_state.specs.Outer.{Outer, setting}
-use Rattle.abc_run_state.specs.Turns.{Leaves, Runs}
+use Rattle.abc_run_state.specs.Doing.{Does}
+use Rattle.abc_run_state.specs.Turns.{Leaves}
 use Rattle.abc_run_state.specs.declared.state.Left.{Left}
 use Rattle.abc_run_state.specs.declared.state.State.{State}
 use Rattle.abc_run_state.specs.declared.state.Stop.{Stop}
@@ -28,9 +29,8 @@ act_here p f i = act_in p f i (routine_of p f.method)
 -- ---- what the code of an instruction promises: it does what the act says, and first locals keep their limit
 
 -- it goes on, or stops
-pub record RunsHere (l : LinkedFile) (out : Outer) (i : Instr) (old : State) (result : Result Unit Stop) (new : State) : Type 0 where
-  pub runs : Runs l out (act_here (setting l out) (newest old.frames) i) old result new
-  pub limit : new.given.limit ≡ old.given.limit
+abbrev pub RunsHere : LinkedFile → Outer → Instr → State → Result Unit Stop → State → Type 0
+RunsHere l out i old result new = Does l out (λ p f. act_here p f i) old result new
 
 -- it goes on, leaves something to be done, or stops
 pub record LeavesHere (l : LinkedFile) (out : Outer) (i : Instr) (old : State) (result : Result Left Stop) (new : State) : Type 0 where

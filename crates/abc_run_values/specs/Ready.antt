@@ -1,7 +1,7 @@
 -- What the code of an instruction may rely on: the newest frame is there, with the sizes of its routine, and the meaning of the
 -- instruction isn't stuck.
 use Rattle.std.specs.Prelude.{◌≡◌, ◌+◌, ◌<◌, ◌^◌, length}
-use Rattle.abc_link_program.specs.Linked.{LinkedFile}
+use Rattle.abc_link_names.specs.Linked.{LinkedFile}
 use Rattle.abc_frames.specs.Frame.{newest, newest_size}
 use Rattle.abc_run_state.specs.Outer.{Outer, setting, world}
 use Rattle.abc_run_state.specs.Standing.{IsSet}

@@ -7,7 +7,7 @@ ghost use Rattle.abc_run_values.specs.Groups.{first_branch_ops, last_branch_ops}
 ghost use Rattle.abc_file_types.specs.declared.code.Instr.TheVariants.{Branch, Switch};
 
 use crate::moves::step_to;
-use crate::op;
+use abc_file_types::op;
 use abc_link::Linked;
 use abc_run_state::{State, Stop, branch_if, branch_not, branch_so, branch_unless, switch};
 

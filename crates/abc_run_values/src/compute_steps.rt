@@ -7,7 +7,7 @@ ghost use Rattle.abc_run_values.specs.Groups.{comparison_ops, convert_ops, doubl
 ghost use Rattle.abc_file_types.specs.declared.code.Instr.TheVariants.{Plain};
 
 use crate::moves::step_on;
-use crate::op;
+use abc_file_types::op;
 use abc_heap_values::Conversion;
 use abc_link::Linked;
 use abc_run_state::{State, Stop, compare_top, compute_both, compute_top, convert_top};

@@ -8,7 +8,6 @@ mod moves;
 mod moving;
 mod numbered;
 mod numbers;
-pub mod op;
 mod others;
 mod returning;
 

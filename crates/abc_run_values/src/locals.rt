@@ -7,7 +7,7 @@ ghost use Rattle.abc_run_values.specs.Groups.{local_ops};
 ghost use Rattle.abc_file_types.specs.declared.code.Instr.TheVariants.{Plain};
 
 use crate::moves::{read_local, take_local};
-use crate::op;
+use abc_file_types::op;
 use abc_link::Linked;
 use abc_run_state::{State, Stop};
 

@@ -1,4 +1,4 @@
-ghost use Rattle.std.specs.Prelude.{◌≡◌, ◌<◌, ◌-◌, [], ◌∷◌, length, take};
+ghost use Rattle.std.specs.Prelude.{◌<◌, ◌-◌, [], ◌∷◌, length, take};
 ghost use Rattle.abc_meaning.specs.At.{goes, jumps, next, pushed};
 ghost use Rattle.abc_meaning.specs.Simple.{scoped};
 ghost use Rattle.abc_heap_values.specs.declared.values.Value.TheVariants.{Undefined};
@@ -7,8 +7,8 @@ ghost use Rattle.abc_run_values.specs.Reads.{reads_local, reads_scope};
 ghost use Rattle.abc_frames.specs.Frame.{dropped, newest, newest_size, with_local};
 ghost use Rattle.abc_run_state.specs.Operands.{operand_at};
 ghost use Rattle.abc_run_state.specs.Outer.{Outer};
-ghost use Rattle.abc_run_state.specs.Turns.{Runs};
 ghost use Rattle.abc_meaning.specs.World.{Throws, stop};
+ghost use Rattle.abc_run_state.specs.Doing.{Does};
 
 use abc_base::HostClass;
 use abc_frames::{
@@ -24,8 +24,7 @@ use abc_run_state::{State, Stop, operand};
 pub(crate) fn step_on(linked: &Linked, s: &mut State) -> Result<(), Stop>
     ghost out: { Outer }
     requires { IsReady 0 0 s.old.frames }
-    ensures runs { Runs linked.now out (goes (next (newest s.old.frames))) s.old result s.new }
-    ensures limit { s.new.given.limit ≡ s.old.given.limit }
+    ensures { Does linked.now out (λ p f. goes (next f)) s.old result s.new }
 {
     go_on(&mut s.frames);
     Ok(())
@@ -36,8 +35,7 @@ pub(crate) fn step_on(linked: &Linked, s: &mut State) -> Result<(), Stop>
 pub(crate) fn step_to(linked: &Linked, s: &mut State, target: u32) -> Result<(), Stop>
     ghost out: { Outer }
     requires { IsReady 0 0 s.old.frames }
-    ensures runs { Runs linked.now out (goes (jumps target (newest s.old.frames))) s.old result s.new }
-    ensures limit { s.new.given.limit ≡ s.old.given.limit }
+    ensures { Does linked.now out (λ p f. goes (jumps target f)) s.old result s.new }
 {
     jump(&mut s.frames, target);
     Ok(())
@@ -48,8 +46,7 @@ pub(crate) fn step_to(linked: &Linked, s: &mut State, target: u32) -> Result<(),
 pub(crate) fn push_value(linked: &Linked, s: &mut State, v: Value) -> Result<(), Stop>
     ghost out: { Outer }
     requires { IsReady 0 1 s.old.frames }
-    ensures runs { Runs linked.now out (goes (pushed (v ∷ []) (newest s.old.frames))) s.old result s.new }
-    ensures limit { s.new.given.limit ≡ s.old.given.limit }
+    ensures { Does linked.now out (λ p f. goes (pushed (v ∷ []) f)) s.old result s.new }
 {
     push(&mut s.frames, v);
     Ok(())
@@ -60,8 +57,7 @@ pub(crate) fn push_value(linked: &Linked, s: &mut State, v: Value) -> Result<(),
 pub(crate) fn drop_top(linked: &Linked, s: &mut State) -> Result<(), Stop>
     ghost out: { Outer }
     requires { IsReady 1 0 s.old.frames }
-    ensures runs { Runs linked.now out (goes (next (dropped 1 (newest s.old.frames)))) s.old result s.new }
-    ensures limit { s.new.given.limit ≡ s.old.given.limit }
+    ensures { Does linked.now out (λ p f. goes (next (dropped 1 f))) s.old result s.new }
 {
     pop(&mut s.frames);
     Ok(())
@@ -72,8 +68,7 @@ pub(crate) fn drop_top(linked: &Linked, s: &mut State) -> Result<(), Stop>
 pub(crate) fn double_top(linked: &Linked, s: &mut State) -> Result<(), Stop>
     ghost out: { Outer }
     requires { IsReady 1 2 s.old.frames }
-    ensures runs { Runs linked.now out (goes (pushed (operand_at 0 (newest s.old.frames) ∷ operand_at 0 (newest s.old.frames) ∷ []) (dropped 1 (newest s.old.frames)))) s.old result s.new }
-    ensures limit { s.new.given.limit ≡ s.old.given.limit }
+    ensures { Does linked.now out (λ p f. goes (pushed (operand_at 0 f ∷ operand_at 0 f ∷ []) (dropped 1 f))) s.old result s.new }
 {
     dup(&mut s.frames);
     Ok(())
@@ -84,8 +79,7 @@ pub(crate) fn double_top(linked: &Linked, s: &mut State) -> Result<(), Stop>
 pub(crate) fn exchange(linked: &Linked, s: &mut State) -> Result<(), Stop>
     ghost out: { Outer }
     requires { IsReady 2 2 s.old.frames }
-    ensures runs { Runs linked.now out (goes (pushed (operand_at 1 (newest s.old.frames) ∷ operand_at 0 (newest s.old.frames) ∷ []) (dropped 2 (newest s.old.frames)))) s.old result s.new }
-    ensures limit { s.new.given.limit ≡ s.old.given.limit }
+    ensures { Does linked.now out (λ p f. goes (pushed (operand_at 1 f ∷ operand_at 0 f ∷ []) (dropped 2 f))) s.old result s.new }
 {
     swap(&mut s.frames);
     Ok(())
@@ -95,8 +89,7 @@ pub(crate) fn exchange(linked: &Linked, s: &mut State) -> Result<(), Stop>
 pub(crate) fn throw_top(linked: &Linked, s: &mut State) -> Result<(), Stop>
     ghost out: { Outer }
     requires { IsReady 1 0 s.old.frames }
-    ensures runs { Runs linked.now out (stop (Throws (operand_at 0 (newest s.old.frames)))) s.old result s.new }
-    ensures limit { s.new.given.limit ≡ s.old.given.limit }
+    ensures { Does linked.now out (λ p f. stop (Throws (operand_at 0 f))) s.old result s.new }
 {
     Err(Stop::Throws(operand(&s.frames, 0)))
 }
@@ -107,8 +100,7 @@ pub(crate) fn read_local(linked: &Linked, s: &mut State, n: u32) -> Result<(), S
     ghost out: { Outer }
     requires ready { IsReady 0 1 s.old.frames }
     requires local { n < length (newest s.old.frames).locals }
-    ensures runs { Runs linked.now out (reads_local n (newest s.old.frames)) s.old result s.new }
-    ensures limit { s.new.given.limit ≡ s.old.given.limit }
+    ensures { Does linked.now out (λ p. reads_local n) s.old result s.new }
 {
     get_local(&mut s.frames, n);
     Ok(())
@@ -120,8 +112,7 @@ pub(crate) fn take_local(linked: &Linked, s: &mut State, n: u32) -> Result<(), S
     ghost out: { Outer }
     requires ready { IsReady 1 0 s.old.frames }
     requires local { n < length (newest s.old.frames).locals }
-    ensures runs { Runs linked.now out (goes (next (with_local n (operand_at 0 (newest s.old.frames)) (dropped 1 (newest s.old.frames))))) s.old result s.new }
-    ensures limit { s.new.given.limit ≡ s.old.given.limit }
+    ensures { Does linked.now out (λ p f. goes (next (with_local n (operand_at 0 f) (dropped 1 f)))) s.old result s.new }
 {
     set_local(&mut s.frames, n);
     Ok(())
@@ -132,8 +123,7 @@ pub(crate) fn clear_local(linked: &Linked, s: &mut State, n: u32) -> Result<(), 
     ghost out: { Outer }
     requires ready { IsReady 0 0 s.old.frames }
     requires local { n < length (newest s.old.frames).locals }
-    ensures runs { Runs linked.now out (goes (next (with_local n Undefined (newest s.old.frames)))) s.old result s.new }
-    ensures limit { s.new.given.limit ≡ s.old.given.limit }
+    ensures { Does linked.now out (λ p f. goes (next (with_local n Undefined f))) s.old result s.new }
 {
     kill(&mut s.frames, n);
     Ok(())
@@ -144,8 +134,7 @@ pub(crate) fn enter_scope(linked: &Linked, s: &mut State, with_flag: bool) -> Re
     ghost out: { Outer }
     requires ready { IsReady 1 0 s.old.frames }
     requires room { length (newest s.old.frames).scopes < (newest_size s.old.frames).scopes }
-    ensures runs { Runs linked.now out (scoped with_flag (dropped 1 (newest s.old.frames)) (operand_at 0 (newest s.old.frames))) s.old result s.new }
-    ensures limit { s.new.given.limit ≡ s.old.given.limit }
+    ensures { Does linked.now out (λ p f. scoped with_flag (dropped 1 f) (operand_at 0 f)) s.old result s.new }
 {
     if push_scope(&mut s.frames, with_flag) {
         Ok(())
@@ -159,8 +148,7 @@ pub(crate) fn leave_scope(linked: &Linked, s: &mut State) -> Result<(), Stop>
     ghost out: { Outer }
     requires ready { IsReady 0 0 s.old.frames }
     requires scope { 0 < length (newest s.old.frames).scopes }
-    ensures runs { Runs linked.now out (goes (next (record (newest s.old.frames) { scopes = take (length (newest s.old.frames).scopes - 1) (newest s.old.frames).scopes }))) s.old result s.new }
-    ensures limit { s.new.given.limit ≡ s.old.given.limit }
+    ensures { Does linked.now out (λ p f. goes (next (record f { scopes = take (length f.scopes - 1) f.scopes }))) s.old result s.new }
 {
     pop_scope(&mut s.frames);
     Ok(())
@@ -171,8 +159,7 @@ pub(crate) fn read_scope(linked: &Linked, s: &mut State, n: u8) -> Result<(), St
     ghost out: { Outer }
     requires ready { IsReady 0 1 s.old.frames }
     requires scope { n < length (newest s.old.frames).scopes }
-    ensures runs { Runs linked.now out (reads_scope n (newest s.old.frames)) s.old result s.new }
-    ensures limit { s.new.given.limit ≡ s.old.given.limit }
+    ensures { Does linked.now out (λ p. reads_scope n) s.old result s.new }
 {
     get_scope_object(&mut s.frames, n);
     Ok(())

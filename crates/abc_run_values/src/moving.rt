@@ -9,8 +9,8 @@ ghost use Rattle.abc_file_types.specs.declared.code.Instr.TheVariants.{Plain};
 use crate::moves::{
     double_top, drop_top, enter_scope, exchange, leave_scope, push_value, step_on, throw_top,
 };
-use crate::op;
 use abc_base::Fault;
+use abc_file_types::op;
 use abc_heap_values::Value;
 use abc_link::Linked;
 use abc_run_state::{State, Stop};

@@ -7,8 +7,8 @@ ghost use Rattle.abc_run_values.specs.Groups.{constant_ops, count_ops, type_ops}
 ghost use Rattle.abc_file_types.specs.declared.code.Instr.TheVariants.{One};
 
 use crate::moves::{clear_local, push_value, read_local, step_on, take_local};
-use crate::op;
 use abc_base::Fault;
+use abc_file_types::op;
 use abc_heap_values::Value;
 use abc_link::Linked;
 use abc_run_state::{

@@ -14,9 +14,9 @@ ghost use Rattle.abc_run_state.specs.Turns.{Leaves};
 ghost use Rattle.abc_meaning.specs.World.{Went};
 ghost use Rattle.abc_file_types.specs.Opcodes.{is_in};
 ghost use Rattle.abc_file_types.specs.declared.code.Instr.TheVariants.{Plain};
-ghost use Rattle.abc_run_values.specs.declared.op.TheConstants.{RETURNVALUE};
+ghost use Rattle.abc_file_types.specs.declared.op.TheConstants.{RETURNVALUE};
 
-use crate::op;
+use abc_file_types::op;
 use abc_heap_values::Value;
 use abc_link::Linked;
 use abc_run_state::{Left, State, Stop, coerce, is_of_named, operand};

@@ -16,7 +16,7 @@ use Rattle.abc_meaning.specs.Calls.{Call, EndsAs, Gives, Replied, Reply, answers
 use Rattle.abc_meaning.specs.Meaning.{Meaning, Ran, TooSmall, meaning, ran}
 use Rattle.abc_meaning.specs.Throwing as meant
 use Rattle.abc_meaning.specs.World.{World}
-use Rattle.abc_link_program.specs.Linked.{LinkedFile}
+use Rattle.abc_link_names.specs.Linked.{LinkedFile}
 use Rattle.abc_machine.specs.declared.ends.End.{End}
 use Rattle.abc_machine.specs.declared.ends.End.TheVariants as ends
 use Rattle.abc_machine.specs.Ended.{HasRun, IsEndOf, RunsAs}

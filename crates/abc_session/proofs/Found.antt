@@ -4,7 +4,7 @@ use Rattle.std.specs.Prelude.{IfSome, None, Some}
 use Rattle.std.specs.List.{find}
 use Rattle.std.specs.declared.option.Option.{Option}
 use Rattle.abc_meaning.specs.Exports.{IsScriptMethod, export, is_export, method_in, method_of_trait}
-use Rattle.abc_link_names.specs.Parts.{script_at}
+use Rattle.abc_link_names.specs.PartsByNumber.{script_at}
 use Rattle.abc_meaning.specs.Throwing.{last_script}
 use Rattle.abc_file_types.specs.declared.traits.TraitBody.{TraitBody}
 use Rattle.abc_file_types.specs.declared.traits.TraitBody.TheVariants as bodies

@@ -10,7 +10,7 @@ use Rattle.abc_machine.specs.Replied.{RepliesAs, is_write_fault}
 use Rattle.abc_machine.specs.declared.ends.End.TheVariants.{Done}
 use Rattle.abc_machine.specs.declared.replies.Reply.{Reply}
 use Rattle.abc_machine.specs.declared.replies.Reply.TheVariants as replies
-use Rattle.abc_link_program.specs.Linked.{LinkedFile}
+use Rattle.abc_link_names.specs.Linked.{LinkedFile}
 use Rattle.abc_meaning.specs.World.{World}
 use Rattle.abc_session.specs.Sessions.{AnswersIn, AreMade, CallsFollow, Follow, Made}
 use Rattle.abc_session.specs.Sessions as made

@@ -14,7 +14,7 @@ use Rattle.abc_meaning.specs.Throwing as meant
 use Rattle.abc_meaning.specs.World.{World}
 use Rattle.abc_meaning.specs.Setting.{Setting}
 use Rattle.abc_objects.specs.Opening.{formula_names}
-use Rattle.abc_link_program.specs.Linked.{LinkedFile}
+use Rattle.abc_link_names.specs.Linked.{LinkedFile}
 use Rattle.abc_machine.specs.declared.ends.End.{End}
 use Rattle.abc_machine.specs.declared.ends.End.TheVariants as ends
 use Rattle.abc_machine.specs.Ended.{HasRun, IsEndOf, RunsAs}

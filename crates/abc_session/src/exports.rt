@@ -2,7 +2,7 @@ ghost use Rattle.std.specs.Prelude.{◌≡◌, List};
 ghost use Rattle.std.specs.List.{find};
 ghost use Rattle.abc_base.specs.declared.formula.Formula.{Formula};
 ghost use Rattle.abc_meaning.specs.Exports.{export as export_of, has_public_name as is_named, is_export, method_in as method_of, method_of_trait};
-ghost use Rattle.abc_link_names.specs.Parts.{script_at};
+ghost use Rattle.abc_link_names.specs.PartsByNumber.{script_at};
 ghost use Rattle.abc_meaning.specs.Throwing.{last_script};
 ghost use Rattle.abc_link_names.specs.Pool.{name as name_of, qname};
 ghost use Rattle.abc_meaning.specs.Openings.{setting};

@@ -1,12 +1,12 @@
-ghost use Rattle.std.specs.Prelude.{◌≡◌, ◌≢◌, ◌↔◌, List, MatchResult, IfSome, IsTrue, None, Some};
+ghost use Rattle.std.specs.Prelude.{◌≡◌, ◌↔◌, List, MatchResult, IfSome, IsTrue, None, Some};
 ghost use Rattle.abc_base.specs.declared.formula.Formula.{Formula};
-ghost use Rattle.abc_meaning.specs.Calls.{silent};
 ghost use Rattle.abc_meaning.specs.Exports.{IsScriptMethod, export as export_of};
 ghost use Rattle.abc_heap_values.specs.declared.values.Span.{Span};
 ghost use Rattle.abc_heap_store.specs.Texts.{IsText, text_of};
 ghost use Rattle.abc_machine.specs.Ended.{HasRun, RunsAs};
 ghost use Rattle.abc_machine.specs.Invoked.{call_of};
-ghost use Rattle.abc_machine.specs.Machines.{IsOpened, IsReady, world_run};
+ghost use Rattle.abc_machine.specs.OneRun.{AnswersAgain, HasEnded, LeavesRun, meaning_of};
+ghost use Rattle.abc_machine.specs.Machines.{IsOpened, IsReady};
 ghost use Rattle.abc_machine.specs.declared.ends.End.{End};
 ghost use Rattle.abc_machine.specs.declared.ends.End.TheVariants.{WriteFault};
 ghost use Rattle.abc_machine.specs.declared.replies.PlainValue.TheVariants.{Text};
@@ -72,14 +72,12 @@ impl Session {
     /// of faults rose. A second start writes nothing, and answers how the first one ended.
     pub fn start<K: Sink, H: Host>(&mut self, fuel: u32, out: &mut K, host: &H) -> End
         requires { self.old.ended ≡ None → formula_names (H.formulas host.now) ≡ self.old.names }
-        ensures ends { self.old.ended ≡ None → RunsAs (meaning (setting self.old.linked (H.formulas host.now)) self.old.limits fuel) (K.written out.old) (K.written out.new) result }
+        ensures ends { self.old.ended ≡ None →
+            RunsAs (meaning_of self.old (H.formulas host.now) fuel) (K.written out.old) (K.written out.new) result }
         ensures cause { self.old.ended ≡ None → HasRun (K.faults out.old) (K.faults out.new) result }
-        ensures world { self.old.ended ≡ None → result ≢ WriteFault → self.new.world ≡ silent (world_run self.old (H.formulas host.now) fuel) }
-        ensures names { self.old.ended ≡ None → result ≢ WriteFault → self.new.names ≡ self.old.names }
-        ensures again { (end : End) → self.old.ended ≡ Some end → (result ≡ end) × (out.new ≡ out.old) × (self.new ≡ self.old) }
-        ensures ended { self.new.ended ≡ Some result }
-        ensures closed { self.new.closed ≡ self.old.closed }
-        ensures linked { self.new.linked ≡ self.old.linked }
+        ensures leaves { self.old.ended ≡ None → LeavesRun self.old self.new (H.formulas host.now) fuel result }
+        ensures again { AnswersAgain self.old self.new out.old out.new result }
+        ensures keeps { HasEnded self.old self.new result }
     {
         self.machine.run(fuel, out, host)
     }

@@ -5,7 +5,7 @@ use Rattle.abc_heap_values.specs.declared.values.ObjId.{ObjId}
 use Rattle.abc_heap_store.specs.Heap.{Heap, Object, object_at}
 use Rattle.abc_objects.specs.Stands.{NamesParts, StandsOver}
 use Rattle.abc_objects.specs.Values.{IsObject}
-use Rattle.abc_link_program.specs.Linked.{LinkedFile}
+use Rattle.abc_link_names.specs.Linked.{LinkedFile}
 
 object_there : (obs : List Object) (o : ℕ) → o < length obs → slice_get obs o ≡ Some (object_at obs o)
 object_there [] o h = absurd (omega arith)

@@ -11,7 +11,7 @@ use abc_base::{BuiltinHost, release};
 use abc_heap_store::{Full, Limit, Limits, ScopeEntry};
 use abc_heap_values::{ObjId, Value};
 use abc_link::Linked;
-use abc_link_program::Part;
+use abc_link_names::Part;
 use abc_objects::{Arena, FixedText, OpenError};
 use std::alloc::Global;
 use std::test::*;

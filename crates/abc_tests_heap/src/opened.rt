@@ -11,7 +11,7 @@ use abc_file::read;
 use abc_heap_store::{Full, Limit, Limits, What};
 use abc_heap_values::{ObjId, Span, Value};
 use abc_link::{Linked, link};
-use abc_link_program::Part;
+use abc_link_names::Part;
 use abc_objects::Arena;
 use std::alloc::{AllocError, Global};
 use std::test::*;

@@ -8,7 +8,7 @@ use abc_base::{Bytes, Fault, HostClass, NoMemory, release};
 use abc_heap_store::{Limit, Limits};
 use abc_heap_values::{Conversion, ObjId, Span, Value};
 use abc_link::Linked;
-use abc_link_program::{LayoutId, Part, Ty};
+use abc_link_names::{LayoutId, Part, Ty};
 use abc_objects::Arena;
 use abc_ops::{OpEnd, binary, coerce, compare, convert, is_of, unary};
 use std::alloc::Global;

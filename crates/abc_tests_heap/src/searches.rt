@@ -5,14 +5,13 @@ ghost use Rattle.abc_objects.specs.Stands.{IsScope, StandsOver};
 use crate::opened::{exists, is_method, is_object, is_script, is_text, linked, make, opened, put};
 use crate::searches::Scope::{Plain, With};
 use abc_base::{HostClass, NoMemory, Table, release};
-use abc_heap_search::ScopeFound::{Missing, Object, Start};
-use abc_heap_search::{Found, Name, ScopeFound, Spaces, Want};
 use abc_heap_store::{Full, Limit, Limits, ScopeEntry, ScopeId, What};
 use abc_heap_values::{ObjId, Span, Value};
 use abc_link::Linked;
-use abc_link_program::{Owner, Part};
+use abc_link_names::{Owner, Part};
 use abc_lookup::{find_declared, find_in_scopes, find_on};
-use abc_objects::Arena;
+use abc_objects::ScopeFound::{Missing, Object, Start};
+use abc_objects::{Arena, Found, Name, ScopeFound, Spaces, Want};
 use std::alloc::Global;
 use std::test::*;
 

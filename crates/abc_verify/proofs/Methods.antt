@@ -7,10 +7,10 @@ use Rattle.abc_tables.proofs.FileFits.{file_fits, tables_fit}
 use Rattle.abc_verify_flow.specs.Walking.{RefusedBy}
 use Rattle.abc_verify_flow.specs.declared.step.Refusal.{Refusal}
 use Rattle.abc_verify_flow.specs.declared.step.Refusal.TheVariants as flows
-use Rattle.abc_link_program.specs.Linked.{IsLinkedFile, LinkedFile}
-use Rattle.abc_link_program.specs.Owners.{body_of}
+use Rattle.abc_link_names.specs.Linked.{IsLinkedFile, LinkedFile}
+use Rattle.abc_link_names.specs.Owners.{body_of}
 use Rattle.abc_link_names.specs.Methods.{methods_with_bodies}
-use Rattle.abc_link_names.specs.Parts.{body_at, no_body}
+use Rattle.abc_link_names.specs.PartsByNumber.{body_at, no_body}
 use Rattle.abc_link_names.proofs.ItemsPairs.{first_found, first_hit}
 use Rattle.abc_file_types.specs.Classes.{sizes_of}
 use Rattle.abc_file_types.specs.Files.{Fits}

@@ -3,8 +3,8 @@ use Rattle.std.proofs.Common.{◌≡◌, ℕ, ◌+◌, ◌^◌, ◌<◌, List, [
 use Rattle.std.specs.Prelude.{Bool, true, false, cond, not, ◌&&◌, flat_map}
 use Rattle.std.specs.Bool.{OnFalse, OnTrue}
 use Rattle.std.proofs.lemmas.List.{append-nil}
-use Rattle.abc_link_program.specs.declared.types.Kind.{Kind}
-use Rattle.abc_link_program.specs.declared.types.Kind.TheVariants.{Any}
+use Rattle.abc_link_names.specs.declared.types.Kind.{Kind}
+use Rattle.abc_link_names.specs.declared.types.Kind.TheVariants.{Any}
 use Rattle.abc_verify_typing.specs.Instructions.{operand}
 use Rattle.abc_verify_typing.specs.declared.row.Need.{Need}
 use Rattle.abc_verify_typing.specs.declared.row.Need.TheVariants.{Value, Namespace}

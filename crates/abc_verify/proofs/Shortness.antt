@@ -1,7 +1,7 @@
 -- The code of a body that some bytes spell is short.
 use Rattle.std.proofs.Common.{◌≡◌, ℕ, zero, suc, ◌^◌, ◌<◌, ◌≤◌, List, length, get_or, subst, sym, arith}
-use Rattle.abc_link_program.specs.Linked.{IsLinkedFile, LinkedFile}
-use Rattle.abc_link_names.specs.Parts.{body_at, no_body}
+use Rattle.abc_link_names.specs.Linked.{IsLinkedFile, LinkedFile}
+use Rattle.abc_link_names.specs.PartsByNumber.{body_at, no_body}
 use Rattle.abc_file_types.specs.Bodies.{IsReadyBody}
 use Rattle.abc_file_types.specs.CodeBytes.{canonical_starts}
 use Rattle.abc_file_types.specs.Files.{Fits}

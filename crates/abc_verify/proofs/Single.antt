@@ -1,8 +1,8 @@
 -- A file has one linked file.
 use Rattle.std.proofs.Common.{◌≡◌, List, sym, ap, ◌∙◌}
 use Rattle.abc_link_layouts.specs.Numbering.{IsNumbered, numbering}
-use Rattle.abc_link_program.specs.declared.part.Part.{Part}
-use Rattle.abc_link_program.specs.Linked.{LinkedFile}
+use Rattle.abc_link_names.specs.declared.part.Part.{Part}
+use Rattle.abc_link_names.specs.Linked.{LinkedFile}
 use Rattle.abc_file_types.specs.declared.tables.Abc.{Abc}
 use Rattle.abc_verify.specs.Verified.{IsVerifiedOf}
 

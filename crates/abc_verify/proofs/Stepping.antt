@@ -5,9 +5,9 @@ use Rattle.abc_verify_flow.specs.Walking.{IsTriedAt, Steps, Wrote, landing, targ
 use Rattle.abc_verify_flow.specs.declared.step.Step.{Step}
 use Rattle.abc_verify_flow.specs.declared.step.Trial.{Trial}
 use Rattle.abc_verify_flow.specs.declared.step.Trial.TheVariants.{Breaks, Steps as Does}
-use Rattle.abc_link_program.specs.Linked.{LinkedFile}
-use Rattle.abc_link_program.specs.declared.types.Kind.{Kind}
-use Rattle.abc_link_program.specs.declared.types.Kind.TheVariants as kinds
+use Rattle.abc_link_names.specs.Linked.{LinkedFile}
+use Rattle.abc_link_names.specs.declared.types.Kind.{Kind}
+use Rattle.abc_link_names.specs.declared.types.Kind.TheVariants as kinds
 use Rattle.abc_verify_typing.specs.Instructions.{local, opcode, second, targets}
 use Rattle.abc_verify_typing.specs.Rows.{Shape, row_at}
 use Rattle.abc_verify_typing.specs.declared.row.RowKind.TheVariants as rows

@@ -3,12 +3,12 @@ use Rattle.std.proofs.Common.{◌≡◌, ℕ, ◌<◌, ◌≤◌, List, Some, No
 use Rattle.std.specs.declared.option.Option.{Option}
 use Rattle.std.proofs.lemmas.Option.{slice_get-get_or}
 use Rattle.abc_bodies.specs.Places.{ArePlaces}
-use Rattle.abc_link_program.specs.Linked.{IsLinkedFile, LinkedFile}
+use Rattle.abc_link_names.specs.Linked.{IsLinkedFile, LinkedFile}
 use Rattle.abc_link_layouts.specs.Numbering.{IsNumbered}
 use Rattle.abc_link_names.specs.declared.error.LinkError.{LinkError}
 use Rattle.abc_link_names.specs.declared.error.LinkError.TheVariants as refusals
 use Rattle.abc_link_names.specs.Firsts.{IsRefusal as IsUnlinked}
-use Rattle.abc_link_names.specs.Parts.{body_at, no_body}
+use Rattle.abc_link_names.specs.PartsByNumber.{body_at, no_body}
 use Rattle.abc_file.specs.Reading.{AnswersFile, OfInput}
 use Rattle.abc_file_types.specs.Files.{IsFileRead}
 use Rattle.abc_file_types.specs.declared.tables.Abc.{Abc}
@@ -22,7 +22,7 @@ use Rattle.abc_varint.specs.declared.error.ReadError.TheVariants as reads
 use Rattle.abc_verify.specs.VerifyRefusing.{IsRefusal}
 use Rattle.abc_verify.specs.declared.verify_error.VerifyError.{VerifyError}
 use Rattle.abc_verify.specs.declared.verify_error.VerifyError.TheVariants as untyped
-use Rattle.abc_link_program.proofs.MethodBodies.{body_inside}
+use Rattle.abc_link_names.proofs.MethodBodies.{body_inside}
 use Rattle.abc_verify.specs.FileRefusing.{IsPlaced, IsRefused, IsRefusedBy, IsUnverified, IsUnverifiedBy, error_of_link, error_of_read, error_of_verify}
 use Rattle.abc_verify.specs.Verified.{IsReadVerified, IsVerifiedOf}
 use Rattle.abc_verify.specs.declared.verified_error.VerifiedError.{VerifiedError}

@@ -8,7 +8,7 @@ use Rattle.abc_link_names.specs.declared.error.LinkError.TheVariants as refusals
 use Rattle.abc_link_names.specs.declared.items.Item.{Item}
 use Rattle.abc_link_names.specs.declared.items.LinkRule.{LinkRule}
 use Rattle.abc_link_layouts.specs.Numbering.{IsNumbered}
-use Rattle.abc_link_program.specs.Linked.{IsLinkedFile, LinkedFile}
+use Rattle.abc_link_names.specs.Linked.{IsLinkedFile, LinkedFile}
 use Rattle.abc_file_types.specs.declared.tables.Abc.{Abc}
 use Rattle.abc_file_types.specs.Files.{IsBadFile, IsFileRead}
 use Rattle.abc_verify_typing.specs.declared.rule.VerifyRule.{VerifyRule}

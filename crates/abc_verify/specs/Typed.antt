@@ -1,7 +1,7 @@
 -- What it is that a file is verified.
 use Rattle.std.specs.Prelude.{◌≡◌, ℕ, ◌<◌, Some, length}
-use Rattle.abc_link_program.specs.Linked.{LinkedFile}
-use Rattle.abc_link_program.specs.Owners.{body_of}
+use Rattle.abc_link_names.specs.Linked.{LinkedFile}
+use Rattle.abc_link_names.specs.Owners.{body_of}
 use Rattle.abc_verify_typing.specs.Routines.{routine}
 use Rattle.abc_verify_typing.specs.Typing.{HasTyping}
 

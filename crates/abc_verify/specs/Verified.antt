@@ -1,7 +1,7 @@
 -- What a verified file is.
 use Rattle.std.specs.Prelude.{◌≡◌, ℕ, List}
 use Rattle.abc_link_layouts.specs.Numbering.{IsNumbered}
-use Rattle.abc_link_program.specs.Linked.{IsLinkedFile, LinkedFile}
+use Rattle.abc_link_names.specs.Linked.{IsLinkedFile, LinkedFile}
 use Rattle.abc_file_types.specs.declared.tables.Abc.{Abc}
 use Rattle.abc_file_types.specs.Files.{IsFileRead}
 use Rattle.abc_verify.specs.Typed.{AllTyped}

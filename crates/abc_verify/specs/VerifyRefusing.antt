@@ -2,8 +2,8 @@
 use Rattle.std.specs.Prelude.{◌≡◌, ℕ, ◌<◌, Some, length}
 use Rattle.abc_verify_flow.specs.declared.step.Refusal.{Refusal}
 use Rattle.abc_verify_flow.specs.declared.step.Refusal.TheVariants as flows
-use Rattle.abc_link_program.specs.Linked.{LinkedFile}
-use Rattle.abc_link_program.specs.Owners.{body_of}
+use Rattle.abc_link_names.specs.Linked.{LinkedFile}
+use Rattle.abc_link_names.specs.Owners.{body_of}
 use Rattle.abc_verify_typing.specs.Routines.{routine}
 use Rattle.abc_verify_typing.specs.Typing.{HasTyping, Refutes}
 use Rattle.abc_verify_typing.specs.declared.rule.VerifyRule.{VerifyRule}

@@ -1,6 +1,6 @@
 -- An instruction at its place, as the code holds it.
 use Rattle.std.specs.Prelude.{◌≡◌, ◌-◌, Some, None, List, [], ◌∷◌, ◌++◌, Bool, true, false, ◌&&◌, length, take}
-use Rattle.abc_link_program.specs.declared.types.Kind.{Kind}
+use Rattle.abc_link_names.specs.declared.types.Kind.{Kind}
 use Rattle.abc_verify_typing.specs.Instructions.{local, second}
 use Rattle.abc_verify_typing.specs.Table.{shape_of}
 use Rattle.abc_verify_typing.specs.declared.row.Leads.{Leads}

@@ -1,11 +1,11 @@
 ghost use Rattle.std.specs.Prelude.{◌≡◌, ◌++◌, OnOk, drop, get_or, set};
-ghost use Rattle.abc_link_program.specs.declared.types.Kind.TheVariants as kinds;
+ghost use Rattle.abc_link_names.specs.declared.types.Kind.TheVariants as kinds;
 ghost use Rattle.abc_verify_typing.specs.Effects.{scope_kind};
 ghost use Rattle.abc_verify.specs.Visits.{given_kinds, scoped};
 
 use abc_base::{NoMemory, Table};
 use abc_link::Linked;
-use abc_link_program::Kind;
+use abc_link_names::Kind;
 use abc_verify_states::kind_of_scope;
 use abc_verify_typing::{Scope, Scoping, Stack};
 

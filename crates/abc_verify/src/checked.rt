@@ -8,7 +8,7 @@ pub struct Verified {
 }
 
 impl Model for Verified {
-    ghost use Rattle.abc_link_program.specs.Linked.{LinkedFile};
+    ghost use Rattle.abc_link_names.specs.Linked.{LinkedFile};
     ghost use Rattle.abc_verify.specs.Typed.{IsVerified};
 
     ghost Value = { LinkedFile };

@@ -1,7 +1,7 @@
 ghost use Rattle.std.specs.Prelude.{◌≡◌, ◌<◌, ◌^◌, Some, MatchResult, length};
 ghost use Rattle.abc_verify_states.specs.Frames.{routine_in};
-ghost use Rattle.abc_link_program.specs.Linked.{IsLinkedFile};
-ghost use Rattle.abc_link_program.specs.Owners.{body_of as body_of_method};
+ghost use Rattle.abc_link_names.specs.Linked.{IsLinkedFile};
+ghost use Rattle.abc_link_names.specs.Owners.{body_of as body_of_method};
 ghost use Rattle.abc_verify_typing.specs.Routines.{routine};
 ghost use Rattle.abc_verify_typing.specs.Typing.{HasTyping};
 ghost use Rattle.abc_verify_flow.specs.Walking.{RefusedBy};

@@ -4,7 +4,7 @@ use abc_base::{NoMemory, Table};
 use abc_file_types::Instr;
 use abc_kinds::join;
 use abc_link::Linked;
-use abc_link_program::Kind;
+use abc_link_names::Kind;
 use abc_verify_flow::{Cover, Flow, Merged, Trial};
 use abc_verify_states::{Frame, entry_of, merge};
 use abc_verify_typing::{Catch, State, VerifyRule};

@@ -7,7 +7,7 @@ ghost use Rattle.abc_verify.specs.Visits.{here_in, picked as picked_by};
 
 use crate::visit::{Asked, Visit, need_count};
 use abc_base::Table;
-use abc_link_program::{Kind, Part};
+use abc_link_names::{Kind, Part};
 use abc_verify_states::{Parts, fixed_kind, kind_of_slot, kind_of_sum, nullable_kind, type_or_any};
 use abc_verify_typing::{Catch, Need, RowKind, Scope, Source, Stack, State, Takes, local_of};
 

@@ -1,5 +1,5 @@
 ghost use Rattle.std.specs.Prelude.{◌≡◌};
-ghost use Rattle.abc_link_program.specs.Linked.{LinkedFile};
+ghost use Rattle.abc_link_names.specs.Linked.{LinkedFile};
 ghost use Rattle.abc_file_types.specs.declared.tables.Abc.{Abc};
 ghost use Rattle.abc_verify.specs.Verified.{IsVerifiedOf};
 

@@ -7,7 +7,7 @@ ghost use Rattle.abc_verify.specs.Asking.{IsAsked};
 ghost use Rattle.abc_verify.specs.Visits.{here_in};
 
 use crate::visit::{Asked, Visit, need_count};
-use abc_link_program::Kind;
+use abc_link_names::Kind;
 use abc_verify_states::{
     Parts, is_instance_kind, is_namespace_kind, is_number_kind, is_object_kind, kind_has_slot,
     layout_of_super,

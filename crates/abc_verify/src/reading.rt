@@ -3,7 +3,7 @@ ghost use Rattle.abc_base.specs.Faults.{Rose};
 ghost use Rattle.abc_bodies.specs.Places.{ArePlaces};
 ghost use Rattle.abc_file.specs.Reading.{IsUsedUp, OfInput};
 ghost use Rattle.abc_link_layouts.specs.Numbering.{IsNumbered};
-ghost use Rattle.abc_link_program.specs.Linked.{IsLinkedFile};
+ghost use Rattle.abc_link_names.specs.Linked.{IsLinkedFile};
 ghost use Rattle.abc_file_types.specs.Files.{Fits};
 ghost use Rattle.abc_verify.specs.FileRefusing.{IsPlaced, IsRefusedBy, IsUnverifiedBy, error_of_verify};
 ghost use Rattle.abc_verify.specs.Verified.{IsReadVerified, IsVerifiedOf};

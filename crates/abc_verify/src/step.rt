@@ -1,5 +1,5 @@
 ghost use Rattle.std.specs.Prelude.{◌≡◌, IfOk, Some, map, not, set, slice_get};
-ghost use Rattle.abc_link_program.specs.declared.types.Kind.TheVariants as kinds;
+ghost use Rattle.abc_link_names.specs.declared.types.Kind.TheVariants as kinds;
 ghost use Rattle.abc_verify_typing.specs.Instructions.{local, second};
 ghost use Rattle.abc_verify_typing.specs.Table.{sources};
 ghost use Rattle.abc_verify_typing.specs.declared.row.RowKind.TheVariants as rows;
@@ -16,7 +16,7 @@ use crate::visit::{Asked, Visit};
 use abc_base::{NoMemory, Table};
 use abc_file_types::Instr;
 use abc_link::Linked;
-use abc_link_program::Kind;
+use abc_link_names::Kind;
 use abc_verify_flow::{Cover, Step, Trial, Written};
 use abc_verify_states::{Frame, fixed_kind};
 use abc_verify_typing::{

@@ -8,5 +8,8 @@ pub mod Told
 pub mod Waits
 pub mod Counts
 pub mod Numbering
+pub mod Parts
+pub mod Alone
+pub mod Cut
 pub mod Laid
 pub mod Lists

@@ -4,9 +4,9 @@ use Rattle.std.specs.Prelude.{slice_get}
 use Rattle.std.proofs.lemmas.List.{take_more}
 use Rattle.std.proofs.lemmas.List.Edits.{paste_more}
 use Rattle.std.proofs.Math.Seq.{paste}
-use Rattle.abc_link_program.specs.Kinds.{IsAtMost, IsJoin}
-use Rattle.abc_link_program.specs.Linked.{LinkedFile}
-use Rattle.abc_link_program.specs.declared.types.Kind.{Kind}
+use Rattle.abc_link_names.specs.Kinds.{IsAtMost, IsJoin}
+use Rattle.abc_link_names.specs.Linked.{LinkedFile}
+use Rattle.abc_link_names.specs.declared.types.Kind.{Kind}
 use Rattle.abc_verify_typing.specs.Lists.{Each2}
 use Rattle.abc_verify_typing.proofs.Lists.{Each2-append}
 

@@ -1,11 +1,11 @@
 -- What was seen of locals, joined with what a step wrote.
 use Rattle.std.proofs.Common.{◌≡◌, ◌≢◌, ℕ, zero, suc, List, [], ◌∷◌, Some, None, set, refl, sym, ap, ◌∙◌, subst}
 use Rattle.std.specs.Prelude.{slice_get}
-use Rattle.abc_link_program.specs.Kinds.{IsAtMost, IsJoin}
-use Rattle.abc_link_program.specs.Linked.{LinkedFile}
-use Rattle.abc_link_program.specs.declared.types.Kind.{Kind}
-use Rattle.abc_link_program.specs.declared.types.Kind.TheVariants.{Any}
-use Rattle.abc_link_program.proofs.Order.{kind_self}
+use Rattle.abc_link_names.specs.Kinds.{IsAtMost, IsJoin}
+use Rattle.abc_link_names.specs.Linked.{LinkedFile}
+use Rattle.abc_link_names.specs.declared.types.Kind.{Kind}
+use Rattle.abc_link_names.specs.declared.types.Kind.TheVariants.{Any}
+use Rattle.abc_link_names.proofs.Order.{kind_self}
 use Rattle.abc_verify_typing.specs.Lists.{Each2}
 use Rattle.abc_verify_typing.specs.Typing.{IsJoinState}
 use Rattle.abc_verify_typing.specs.declared.catch.Catch.{Catch}

@@ -1,7 +1,7 @@
 -- How the states of places are kept: for each place 0, or one more than the number of its state.
-use Rattle.std.specs.Prelude.{◌≡◌, ◌≢◌, ◌⊎◌, ℕ, zero, suc, ◌+◌, ◌≤◌, ◌<◌, List, ◌++◌, Bool, true, false, Option, None, Some, drop, length, map, set, slice_get, take}
-use Rattle.abc_link_program.specs.Linked.{LinkedFile}
-use Rattle.abc_link_program.specs.declared.types.Kind.{Kind}
+use Rattle.std.specs.Prelude.{◌≡◌, ℕ, zero, suc, ◌+◌, ◌*◌, ◌≤◌, ◌<◌, List, [], ◌∷◌, ◌++◌, Bool, true, false, Option, None, Some, drop, length, map, set, slice_get, take}
+use Rattle.abc_link_names.specs.Linked.{LinkedFile}
+use Rattle.abc_link_names.specs.declared.types.Kind.{Kind}
 use Rattle.abc_verify_typing.specs.Routines.{Routine}
 use Rattle.abc_verify_typing.specs.Typing.{Derivable, HasOneShape, IsJoinState, StateLe}
 use Rattle.abc_verify_typing.specs.declared.state.Scope.{Scope}
@@ -83,68 +83,43 @@ part s xs = take s.count (drop s.first xs)
 abbrev pub over : {X : Type 0} → Span → List X → List X → List X
 over s xs ys = take s.first xs ++ (ys ++ drop s.count (drop s.first xs))
 
-abbrev pub state_of : List Kind → List Scope → List Kind → Head → State
-state_of operands scopes locals h = record { stack = part h.operands operands; scopes = part h.scopes scopes; locals = part h.locals locals }
+-- blocks, one after the other
+abbrev pub joined : {X : Type 0} → List (List X) → List X
+joined [] = []
+joined (b ∷ bs) = b ++ joined bs
 
-abbrev pub states_of : List Kind → List Scope → List Kind → List Head → List State
-states_of operands scopes locals heads = map (state_of operands scopes locals) heads
+abbrev pub state_of : List Kind → List Scope → List (List Kind) → Head → State
+state_of operands scopes blocks h = record { stack = part h.operands operands; scopes = part h.scopes scopes; locals = joined (part h.locals blocks) }
+
+abbrev pub states_of : List Kind → List Scope → List (List Kind) → List Head → List State
+states_of operands scopes blocks heads = map (state_of operands scopes blocks) heads
 
 -- the values of each state lie before an end, behind those of the states before it
 pub record AreApart (span : Head → Span) (heads : List Head) (end : ℕ) : Type 0 where
   pub inside : (i : ℕ) (h : Head) → slice_get heads i ≡ Some h → (span h).first + (span h).count ≤ end
   pub apart : (i j : ℕ) (h k : Head) → i < j → slice_get heads i ≡ Some h → slice_get heads j ≡ Some k → (span h).first + (span h).count ≤ (span k).first
 
--- one ends where the other begins, or before
-abbrev pub AreDisjoint : Span → Span → Type 0
-AreDisjoint s t = (s.first + s.count ≤ t.first) ⊎ (t.first + t.count ≤ s.first)
-
--- the locals of each state lie before an end; where they are not shared those of no other state lie there
-pub record AreAlone (heads : List Head) (end : ℕ) : Type 0 where
-  pub inside : (i : ℕ) (h : Head) → slice_get heads i ≡ Some h → h.locals.first + h.locals.count ≤ end
-  pub alone : (i j : ℕ) (h k : Head) → i ≢ j → slice_get heads i ≡ Some h → slice_get heads j ≡ Some k → h.is_shared ≡ false → AreDisjoint h.locals k.locals
-
 pub record AreLaid (heads : List Head) (o c l : ℕ) : Type 0 where
   pub operands : AreApart (λ h. h.operands) heads o
   pub scopes : AreApart (λ h. h.scopes) heads c
-  pub locals : AreAlone heads l
+  pub locals : AreApart (λ h. h.locals) heads l
 
 pub record IsSpan (start number : ℕ) (s : Span) : Type 0 where
   pub first : s.first ≡ start
   pub count : s.count ≡ number
 
--- a state is to lie behind all others
+-- a state is to lie behind all others, and has no more locals than as many blocks have
 pub record IsHeadBehind (o c l : ℕ) (s : State) (h : Head) : Type 0 where
   pub operands : IsSpan o (length s.stack) h.operands
   pub scopes : IsSpan c (length s.scopes) h.scopes
-  pub locals : IsSpan l (length s.locals) h.locals
+  pub first : h.locals.first ≡ l
+  pub all : length s.locals ≤ h.locals.count * 64
 
--- a state is to lie behind all others, and its locals where those of another lie
-pub record IsHeadBeside (o c : ℕ) (s : State) (other h : Head) : Type 0 where
-  pub operands : IsSpan o (length s.stack) h.operands
-  pub scopes : IsSpan c (length s.scopes) h.scopes
-  pub locals : h.locals ≡ other.locals
-  pub shared : h.is_shared ≡ true
-
--- the locals of the state of an index are those of another too
-pub record IsMarked (old new : List Head) (i : ℕ) (k : Head) : Type 0 where
-  pub head : Head
-  pub was : slice_get old i ≡ Some head
-  pub is : k ≡ record { operands = head.operands; scopes = head.scopes; locals = head.locals; is_shared = true }
-  pub set_in : new ≡ set old i k
-
--- these locals lie where those of the state of an index lie
-abbrev pub LiesAt : List Head → ℕ → List Kind → List Kind → Type 0
-LiesAt heads i values locals = (h : Head) × (slice_get heads i ≡ Some h) × (part h.locals values ≡ locals)
-
--- the state of an index has these locals
-abbrev pub HasLocals : List State → ℕ → List Kind → Type 0
-HasLocals states i locals = (s : State) × (slice_get states i ≡ Some s) × (s.locals ≡ locals)
-
--- a state has as many values as lie somewhere
+-- a state has as many operands and scopes as lie somewhere, and no more locals than as many blocks have
 pub record HasLengths (h : Head) (s : State) : Type 0 where
   pub operands : length s.stack ≡ h.operands.count
   pub scopes : length s.scopes ≡ h.scopes.count
-  pub locals : length s.locals ≡ h.locals.count
+  pub locals : length s.locals ≤ h.locals.count * 64
 
 -- values were added at the end
 abbrev pub IsLonger : {X : Type 0} → List X → List X → Type 0

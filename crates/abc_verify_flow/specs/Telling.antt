@@ -1,8 +1,8 @@
 -- What handlers are told, by the nodes of the tree that they hang in.
 use Rattle.std.specs.Prelude.{◌≡◌, ℕ, ◌*◌, List, Option, Some, None, Bool, length, map, filter, slice_get, ltb, not, ◌⊎◌}
-use Rattle.abc_link_program.specs.Kinds.{IsAtMost}
-use Rattle.abc_link_program.specs.Linked.{LinkedFile}
-use Rattle.abc_link_program.specs.declared.types.Kind.{Kind}
+use Rattle.abc_link_names.specs.Kinds.{IsAtMost}
+use Rattle.abc_link_names.specs.Linked.{LinkedFile}
+use Rattle.abc_link_names.specs.declared.types.Kind.{Kind}
 use Rattle.abc_base_trees.specs.Hung.{AreHung, HangsAt, leaves}
 use Rattle.abc_base_trees.specs.declared.hang.Range.{Range}
 use Rattle.abc_base_trees.specs.declared.stabs.Stabs.{Stabs}

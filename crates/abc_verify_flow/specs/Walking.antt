@@ -1,8 +1,8 @@
 -- What the code of the work list promises.
 use Rattle.std.specs.Prelude.{◌≡◌, ◌≢◌, ℕ, suc, ◌+◌, ◌-◌, ◌<◌, ◌≤◌, List, [], ◌∷◌, ◌++◌, Bool, true, false, cond, Option, Some, None, length, map, set, slice_get, ◌⊎◌}
-use Rattle.abc_link_program.specs.Kinds.{IsAtMost, IsJoin}
-use Rattle.abc_link_program.specs.Linked.{LinkedFile}
-use Rattle.abc_link_program.specs.declared.types.Kind.{Kind}
+use Rattle.abc_link_names.specs.Kinds.{IsAtMost, IsJoin}
+use Rattle.abc_link_names.specs.Linked.{LinkedFile}
+use Rattle.abc_link_names.specs.declared.types.Kind.{Kind}
 use Rattle.abc_verify_typing.specs.Instructions.{targets}
 use Rattle.abc_file_types.specs.declared.code.Instr.{Instr}
 use Rattle.abc_verify_typing.specs.Effects.{covering, caught}

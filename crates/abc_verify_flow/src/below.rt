@@ -1,11 +1,11 @@
 ghost use Rattle.std.specs.Prelude.{◌≡◌, ◌<◌, Some, length, slice_get, IsTrue};
-ghost use Rattle.abc_link_program.specs.Kinds.{IsAtMost};
-ghost use Rattle.abc_link_program.specs.Linked.{IsLinkedFile};
+ghost use Rattle.abc_link_names.specs.Kinds.{IsAtMost};
+ghost use Rattle.abc_link_names.specs.Linked.{IsLinkedFile};
 ghost use Rattle.abc_verify_typing.specs.Lists.{Each2};
 ghost use Rattle.abc_verify_typing.specs.Typing.{ScopeLe};
 
 use crate::flow::Flow;
-use abc_link_program::Kind;
+use abc_link_names::Kind;
 use abc_verify_typing::{Scope, Stack};
 
 /// Whether a kind is seen by the join of both to be at most another.
@@ -20,7 +20,7 @@ fn is_joined_below<F: Flow>(flow: &F, a: Kind, b: Kind) -> bool
 
 /// Whether a kind is seen to be another or below it. Mostly it is the other, and nothing is asked of the layouts.
 #[inline]
-#[tactic(auto, using(abc_link_program::proofs::Order::kind_self))]
+#[tactic(auto, using(abc_link_names::proofs::Order::kind_self))]
 fn is_below<F: Flow>(flow: &F, a: &Kind, b: &Kind) -> bool
     requires { IsLinkedFile (F.file flow.now) }
     ensures { IsTrue result → IsAtMost (F.file flow.now) a.now b.now }

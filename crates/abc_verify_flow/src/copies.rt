@@ -1,7 +1,7 @@
 ghost use Rattle.std.specs.Prelude.{◌≡◌, IfOk, OnOk};
 
 use abc_base::{NoMemory, Table};
-use abc_link_program::Kind;
+use abc_link_names::Kind;
 use abc_verify_typing::{Stack, State};
 use std::alloc::Global;
 

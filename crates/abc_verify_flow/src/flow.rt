@@ -2,15 +2,15 @@ use crate::handled::Cover;
 use crate::step::{Merged, Trial};
 use abc_base::NoMemory;
 use abc_file_types::Instr;
-use abc_link_program::Kind;
+use abc_link_names::Kind;
 use abc_verify_typing::{Catch, State, VerifyRule};
 use std::alloc::Global;
 
 /// What the instructions of a method do to states.
 pub trait Flow {
     ghost use Rattle.std.specs.Prelude.{◌≡◌, Bool, IfOk, List, MatchOption, None, Some, length, slice_get};
-    ghost use Rattle.abc_link_program.specs.Kinds.{IsJoin};
-    ghost use Rattle.abc_link_program.specs.Linked.{IsLinkedFile, LinkedFile};
+    ghost use Rattle.abc_link_names.specs.Kinds.{IsJoin};
+    ghost use Rattle.abc_link_names.specs.Linked.{IsLinkedFile, LinkedFile};
     ghost use Rattle.abc_verify_typing.specs.Routines.{Routine};
     ghost use Rattle.abc_verify_typing.specs.Rules.{broken_early};
     ghost use Rattle.abc_verify_typing.specs.Typing.{entry};

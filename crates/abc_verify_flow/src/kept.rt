@@ -1,14 +1,18 @@
-ghost use Rattle.std.specs.Prelude.{◌≡◌, ◌+◌, ◌++◌, ◌∷◌, ◌<◌, ◌≤◌, [], Some, cond, set, slice_get, false, length, IfOk, IsTrue, MatchOption, OnErr, OnOk};
-ghost use Rattle.abc_link_program.specs.Linked.{IsLinkedFile};
-ghost use Rattle.abc_verify_flow.specs.Kept.{AreAlone, HasLengths, HasLocals, IsBelow, IsHeadBehind, IsHeadBeside, IsLonger, IsMarked, LiesAt, over, part};
+ghost use Rattle.std.specs.Prelude.{◌≡◌, ◌+◌, ◌++◌, ◌∷◌, ◌<◌, ◌≤◌, [], Some, cond, set, slice_get, length, IfOk, IsTrue, OnErr, OnOk};
+ghost use Rattle.abc_link_names.specs.Linked.{IsLinkedFile};
+ghost use Rattle.abc_verify_flow.specs.Kept.{HasLengths, IsBelow, IsHeadBehind, IsLonger, over};
 
-use crate::below::{are_below, are_operands_below, are_same, are_scopes_below};
+use crate::below::{are_operands_below, are_scopes_below};
+use crate::blocks::Blocks;
 use crate::copies::copy_over;
+use crate::edits::{add_all, put_all};
 use crate::flow::Flow;
+use crate::locals::{
+    add_locals, are_blocks, are_locals_below, block_count, load_locals, put_locals,
+};
 use crate::span::{Span, part, span_behind};
-use crate::states::MOST_VALUES;
 use abc_base::{NoMemory, Table};
-use abc_link_program::Kind;
+use abc_link_names::Kind;
 use abc_verify_typing::{Scope, Stack, State};
 use std::alloc::Global;
 use std::marker::Model;
@@ -24,13 +28,12 @@ const PLACES_A_STATE: usize = 2;
 pub(crate) struct Head {
     pub operands: Span,
     pub scopes: Span,
+    /// The blocks of its locals.
     pub locals: Span,
-    /// Whether the locals of another state lie there too.
-    pub is_shared: bool,
 }
 
-/// States, whose values lie one behind the other: so one of them takes no memory of its own. A state with the locals of the one
-/// before it has them where that has them. Contracts see the list of states.
+/// States, whose values lie one behind the other: so one of them takes no memory of its own. Locals lie in blocks, which states
+/// share. Contracts see the list of states.
 #[derive(Drop)]
 pub(crate) struct Kept {
     heads: Vec<Head>,
@@ -38,7 +41,7 @@ pub(crate) struct Kept {
     operands: Table<Kind>,
     /// The scopes of each state, the bottom first.
     scopes: Vec<Scope>,
-    locals: Vec<Kind>,
+    locals: Blocks,
 }
 
 impl Model for Kept {
@@ -48,37 +51,24 @@ impl Model for Kept {
 
     ghost Value = { List AnyState };
 
-    ghost view = { λ k. states_of k.operands k.scopes.items k.locals.items k.heads.items };
+    ghost view = { λ k. states_of k.operands k.scopes.items k.locals k.heads.items };
 
-    ghost invariant = { λ k. AreLaid k.heads.items (length k.operands) (length k.scopes.items) (length k.locals.items) };
+    ghost invariant = { λ k. AreLaid k.heads.items (length k.operands) (length k.scopes.items) (length k.locals) };
 }
 
-/// Where the values of a state lie behind all others, its locals too.
+/// Where the values of a state lie behind all others.
 fn head_behind(
     operands: usize,
     scopes: usize,
-    locals: usize,
+    blocks: usize,
     state: &State,
 ) -> Result<Head, NoMemory>
-    ensures { IfOk result (IsHeadBehind operands scopes locals state.now) }
+    ensures { IfOk result (IsHeadBehind operands scopes blocks state.now) }
 {
     Ok(Head {
         operands: span_behind(operands, state.stack.len())?,
         scopes: span_behind(scopes, state.scopes.len())?,
-        locals: span_behind(locals, state.locals.len())?,
-        is_shared: false,
-    })
-}
-
-/// Where the operands and scopes of a state lie behind all others, and its locals where those of another state lie.
-fn head_beside(operands: usize, scopes: usize, state: &State, other: Head) -> Result<Head, NoMemory>
-    ensures { IfOk result (IsHeadBeside operands scopes state.now other) }
-{
-    Ok(Head {
-        operands: span_behind(operands, state.stack.len())?,
-        scopes: span_behind(scopes, state.scopes.len())?,
-        locals: other.locals,
-        is_shared: true,
+        locals: span_behind(blocks, block_count(state.locals.len()))?,
     })
 }
 
@@ -91,31 +81,12 @@ fn head_at(heads: &Vec<Head>, index: usize) -> Head
     heads[index]
 }
 
-/// The number of the last of the states, if its locals are these.
-fn last_with(heads: &Vec<Head>, values: &[Kind], locals: &[Kind]) -> Option<usize>
-    requires { AreAlone heads.now.items (length values.now) }
-    ensures { MatchOption result (Unit {0}) (λ i. LiesAt heads.now.items i values.now locals.now) }
-{
-    if heads.is_empty() {
-        return None;
+/// The first block of the last of the states, or 0 where there is none.
+fn last_block(heads: &Vec<Head>) -> usize {
+    match heads.last() {
+        Some(head) => head.locals.first as usize,
+        None => 0,
     }
-    let last = heads.len() - 1;
-    if are_same(part(values, head_at(heads, last).locals), locals) {
-        Some(last)
-    } else {
-        None
-    }
-}
-
-/// The locals of the state of a number are those of another too. The answer is where its values lie.
-fn mark_shared(heads: &mut Vec<Head>, index: usize) -> Head
-    requires { index < length heads.old.items }
-    ensures { IsMarked heads.old.items heads.new.items index result }
-{
-    let mut head = head_at(heads, index);
-    head.is_shared = true;
-    heads[index] = head;
-    head
 }
 
 /// Adds operands at the end, the top first.
@@ -129,18 +100,6 @@ fn add_operands(list: &mut Table<Kind>, stack: &Stack<Kind>) -> Result<(), NoMem
     Ok(())
 }
 
-/// Adds values at the end.
-fn add_all<T: Copy + Drop>(list: &mut Vec<T>, items: &[T]) -> Result<(), NoMemory>
-    ensures longer { IsLonger list.old.items list.new.items }
-    ensures ok { OnOk result (list.new.items ≡ list.old.items ++ items.now) }
-{
-    if items.is_empty() {
-        return Ok(());
-    }
-    list.extend_from_slice(items)?;
-    Ok(())
-}
-
 /// Makes room for so many values more, where a list has many and is full. By doubling it would be copied again and again, and room
 /// that no value takes is never touched. Where there is not so much memory, the list grows as ever.
 #[inline]
@@ -150,16 +109,6 @@ fn make_room<T: Drop>(list: &mut Vec<T>, more: usize)
     if list.len() >= MANY_STATES && list.len() == list.capacity() {
         let _ = list.reserve(more);
     }
-}
-
-/// Adds the locals of a state at the end, where there are so many places.
-fn add_locals(list: &mut Vec<Kind>, locals: &[Kind], places: usize) -> Result<(), NoMemory>
-    ensures longer { IsLonger list.old.items list.new.items }
-    ensures ok { OnOk result (list.new.items ≡ list.old.items ++ locals.now) }
-{
-    let more = (places / PLACES_A_STATE).saturating_mul(locals.len());
-    make_room(list, more.min(MOST_VALUES));
-    add_all(list, locals)
 }
 
 /// Adds where the values of a state lie at the end, where there are so many places.
@@ -184,16 +133,6 @@ fn put_operands(list: &mut Table<Kind>, span: Span, stack: &Stack<Kind>)
     }
 }
 
-/// Puts values in place of others.
-fn put_all<T: Copy + Drop>(list: &mut Vec<T>, span: Span, items: &[T])
-    requires inside { span.first + span.count ≤ length list.old.items }
-    requires counted { length items.now ≡ span.count }
-    ensures { list.new.items ≡ over span list.old.items items.now }
-{
-    let first = span.first as usize;
-    list[first..first + span.count as usize].copy_from_slice(items);
-}
-
 /// Copies operands over a stack, whose memory is used again. Mostly there are none.
 fn load_operands(stack: &mut Stack<Kind>, operands: &[Kind]) -> Result<(), NoMemory>
     ensures { OnOk result (stack.new ≡ operands.now) }
@@ -207,14 +146,13 @@ fn load_operands(stack: &mut Stack<Kind>, operands: &[Kind]) -> Result<(), NoMem
     Ok(())
 }
 
-/// Whether a state has as many operands, scopes and locals as lie somewhere, where nothing else lies.
+/// Whether a state has as many operands and scopes, and blocks of locals, as lie somewhere.
 fn fits(head: Head, state: &State) -> bool
-    ensures { IsTrue result → HasLengths head state.now × (head.is_shared ≡ false) }
+    ensures { IsTrue result → HasLengths head state.now }
 {
-    !head.is_shared
-        && head.operands.count as usize == state.stack.len()
+    head.operands.count as usize == state.stack.len()
         && head.scopes.count as usize == state.scopes.len()
-        && head.locals.count as usize == state.locals.len()
+        && are_blocks(state.locals.as_slice(), head.locals)
 }
 
 impl Kept {
@@ -226,7 +164,7 @@ impl Kept {
             heads: Vec::new(alloc),
             operands: Table::new(alloc),
             scopes: Vec::new(alloc),
-            locals: Vec::new(alloc),
+            locals: Blocks::new(alloc),
         }
     }
 
@@ -255,44 +193,20 @@ impl Kept {
         self.clear();
         self.heads.shrink_to_fit();
         self.scopes.shrink_to_fit();
-        self.locals.shrink_to_fit();
+        self.locals.release();
     }
 
-    /// How many values are kept.
+    /// How many values are kept, and blocks of them.
     pub(crate) fn values(&self) -> usize {
         self.operands
             .len()
             .saturating_add(self.scopes.len())
             .saturating_add(self.locals.len())
+            .saturating_add(self.locals.kinds())
     }
 
     /// A copy of a state is kept behind all others, which are those of so many places.
     pub(crate) fn push(&mut self, state: &State, places: usize) -> Result<(), NoMemory>
-        ensures ok { OnOk result (self.new ≡ self.old ++ state.now ∷ []) }
-        ensures err { OnErr result (self.new ≡ self.old) }
-    {
-        match last_with(&self.heads, self.locals.as_slice(), state.locals.as_slice()) {
-            Some(index) => self.push_beside(state, index, places),
-            None => self.push_behind(state, places),
-        }
-    }
-
-    /// A copy of a state is kept behind all others, but for its locals, which are those of the state of an index.
-    fn push_beside(&mut self, state: &State, index: usize, places: usize) -> Result<(), NoMemory>
-        requires { HasLocals self.old index state.now.locals }
-        ensures ok { OnOk result (self.new ≡ self.old ++ state.now ∷ []) }
-        ensures err { OnErr result (self.new ≡ self.old) }
-    {
-        let other = mark_shared(&mut self.heads, index);
-        let head = head_beside(self.operands.len(), self.scopes.len(), state, other)?;
-        add_operands(&mut self.operands, &state.stack)?;
-        add_all(&mut self.scopes, state.scopes.as_slice())?;
-        add_head(&mut self.heads, head, places)?;
-        Ok(())
-    }
-
-    /// A copy of a state is kept behind all others.
-    fn push_behind(&mut self, state: &State, places: usize) -> Result<(), NoMemory>
         ensures ok { OnOk result (self.new ≡ self.old ++ state.now ∷ []) }
         ensures err { OnErr result (self.new ≡ self.old) }
     {
@@ -302,9 +216,15 @@ impl Kept {
             self.locals.len(),
             state,
         )?;
+        let like = last_block(&self.heads);
         add_operands(&mut self.operands, &state.stack)?;
         add_all(&mut self.scopes, state.scopes.as_slice())?;
-        add_locals(&mut self.locals, state.locals.as_slice(), places)?;
+        add_locals(
+            &mut self.locals,
+            head.locals.count,
+            state.locals.as_slice(),
+            like,
+        )?;
         add_head(&mut self.heads, head, places)?;
         Ok(())
     }
@@ -320,7 +240,7 @@ impl Kept {
             part(self.operands.as_slice(), head.operands),
         )?;
         copy_over(&mut state.scopes, part(self.scopes.as_slice(), head.scopes))?;
-        copy_over(&mut state.locals, part(self.locals.as_slice(), head.locals))?;
+        load_locals(&mut state.locals, &self.locals, head.locals)?;
         Ok(())
     }
 
@@ -338,11 +258,7 @@ impl Kept {
         ) {
             return false;
         }
-        if !are_below(
-            flow,
-            state.locals.as_slice(),
-            part(self.locals.as_slice(), head.locals),
-        ) {
+        if !are_locals_below(flow, state.locals.as_slice(), &self.locals, head.locals) {
             return false;
         }
         are_scopes_below(
@@ -352,19 +268,19 @@ impl Kept {
         )
     }
 
-    /// Puts a state in place of that of a number, if it has as many values and no other state has its locals there, and tells
-    /// whether it was put.
-    pub(crate) fn put(&mut self, index: usize, state: &State) -> bool
+    /// Puts a state in place of that of a number, if it has as many values, and tells whether it was put.
+    pub(crate) fn put(&mut self, index: usize, state: &State) -> Result<bool, NoMemory>
         requires { index < length self.old }
-        ensures { self.new ≡ cond result (set self.old index state.now) self.old }
+        ensures as_many { length self.new ≡ length self.old }
+        ensures put { IfOk result (λ is_put. self.new ≡ cond is_put (set self.old index state.now) self.old) }
     {
         let head = head_at(&self.heads, index);
         if !fits(head, state) {
-            return false;
+            return Ok(false);
         }
+        put_locals(&mut self.locals, head.locals, state.locals.as_slice())?;
         put_operands(&mut self.operands, head.operands, &state.stack);
         put_all(&mut self.scopes, head.scopes, state.scopes.as_slice());
-        put_all(&mut self.locals, head.locals, state.locals.as_slice());
-        true
+        Ok(true)
     }
 }

@@ -4,10 +4,13 @@
 #![tactic(auto)]
 
 mod below;
+mod blocks;
 mod copies;
+mod edits;
 mod flow;
 mod handled;
 mod kept;
+mod locals;
 mod merging;
 mod notes;
 mod place_numbers;

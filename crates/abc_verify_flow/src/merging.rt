@@ -1,5 +1,5 @@
 ghost use Rattle.std.specs.Prelude.{◌≡◌, ◌∷◌, ◌<◌, [], Some, length, set, map, MatchResult};
-ghost use Rattle.abc_link_program.specs.Linked.{IsLinkedFile};
+ghost use Rattle.abc_link_names.specs.Linked.{IsLinkedFile};
 ghost use Rattle.abc_verify_typing.specs.Instructions.{targets};
 ghost use Rattle.abc_verify_typing.specs.Typing.{Derivable, HasOneShape, Refutes};
 ghost use Rattle.abc_verify_flow.specs.Kept.{Clashes};

@@ -1,12 +1,12 @@
 ghost use Rattle.std.specs.Prelude.{◌≡◌};
-ghost use Rattle.abc_link_program.specs.Linked.{IsLinkedFile};
+ghost use Rattle.abc_link_names.specs.Linked.{IsLinkedFile};
 ghost use Rattle.abc_verify_flow.specs.Walking.{Noted, NotedAt};
 ghost use Rattle.abc_verify_flow.specs.declared.step.Written.TheVariants as writes;
 
 use crate::flow::Flow;
 use crate::step::Written;
 use abc_base::Table;
-use abc_link_program::Kind;
+use abc_link_names::Kind;
 
 /// Joins a local to what was seen of it.
 #[tactic(auto, using(crate::proofs::Seen::noted_here, crate::proofs::Seen::noted_past, crate::proofs::Seen::noted_none))]

@@ -1,5 +1,5 @@
 ghost use Rattle.std.specs.Prelude.{◌≡◌, ◌<◌, ◌+◌, [], Some, None, length, replicate, set, slice_get, IfOk, IsTrue, OnOk};
-ghost use Rattle.abc_link_program.specs.Linked.{IsLinkedFile};
+ghost use Rattle.abc_link_names.specs.Linked.{IsLinkedFile};
 ghost use Rattle.abc_verify_typing.specs.Work.{at};
 ghost use Rattle.abc_verify_flow.specs.Kept.{AreNumbers, IsBelowKnown, IsLoaded, IsNumbered, Meets, known_at, numbered};
 
@@ -13,10 +13,10 @@ use abc_verify_typing::State;
 use std::alloc::Global;
 use std::marker::Model;
 
-/// The most operands, scopes and locals that are kept of a method's states, all together, before one more; locals that states share
-/// count once. Where there would be more, memory is said to have run out: a method of few bytes may have many places that are led to,
-/// and so many locals at each that the states would fit into no memory.
-pub const MOST_VALUES: usize = 1 << 26;
+/// The most operands, scopes, locals and blocks of locals that are kept of a method's states, all together, before one is added or
+/// rises; locals that blocks share count once. Where there would be more, memory is said to have run out: a method of few bytes may
+/// have many places that are led to, and so many locals at each that the states would fit into no memory.
+pub const MOST_VALUES: usize = 1 << 23;
 
 /// Where the states of a method have more values, the next one has no use of their memory.
 const MANY_VALUES: usize = 1 << 16;
@@ -91,6 +91,14 @@ fn forget(known: &mut Kept)
     }
 }
 
+/// Whether there is room for more values of states. Where there is none, memory is said to have run out.
+fn check_room(known: &Kept) -> Result<(), NoMemory> {
+    if known.values() >= MOST_VALUES {
+        return Err(NoMemory);
+    }
+    Ok(())
+}
+
 /// A place gets a state of its own, whatever it had before.
 fn put_new(
     numbers: &mut PlaceNumbers,
@@ -103,16 +111,15 @@ fn put_new(
     ensures numbers { AreNumbers numbers.new (length known.new) }
     ensures known { OnOk result (known_at numbers.new known.new ≡ set (known_at numbers.old known.old) place (Some state.now)) }
 {
-    if known.values() >= MOST_VALUES {
-        return Err(NoMemory);
-    }
+    check_room(known)?;
     let number = number_behind(known.len())?;
     known.push(state, numbers.len())?;
     numbers.put(place, number)?;
     Ok(())
 }
 
-/// A place that has the state of an index gets another. Mostly that has as many values, and takes its place.
+/// A place that has the state of an index gets another. Mostly that has as many values, and takes its place; what was shared of its
+/// locals then takes room of its own.
 fn put_again(
     numbers: &mut PlaceNumbers,
     known: &mut Kept,
@@ -125,7 +132,8 @@ fn put_again(
     ensures numbers { AreNumbers numbers.new (length known.new) }
     ensures known { OnOk result (known_at numbers.new known.new ≡ set (known_at numbers.old known.old) place (Some state.now)) }
 {
-    if known.put(index, state) {
+    check_room(known)?;
+    if known.put(index, state)? {
         return Ok(());
     }
     put_new(numbers, known, place, state)

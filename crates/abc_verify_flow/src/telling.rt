@@ -1,5 +1,5 @@
 ghost use Rattle.std.specs.Prelude.{◌≡◌, ◌*◌, ◌<◌, ◌∷◌, [], Some, map, slice_get, IfOk, MatchResult, OnOk};
-ghost use Rattle.abc_link_program.specs.Linked.{IsLinkedFile};
+ghost use Rattle.abc_link_names.specs.Linked.{IsLinkedFile};
 ghost use Rattle.abc_base_trees.specs.Hung.{AreHung, leaves};
 ghost use Rattle.abc_verify_typing.specs.Effects.{covering};
 ghost use Rattle.abc_verify_typing.specs.declared.catch.Catch.{Catch as AnyCatch};
@@ -15,7 +15,7 @@ use crate::step::{Merged, Refusal};
 use crate::waiting::Waiting;
 use abc_base::NoMemory;
 use abc_base_trees::Stabs;
-use abc_link_program::Kind;
+use abc_link_names::Kind;
 use abc_verify_typing::{Catch, State};
 
 /// What was told together with what was seen, if that is more than what was told. States that have not one shape, of which there

@@ -1,5 +1,5 @@
 ghost use Rattle.std.specs.Prelude.{◌≡◌, ◌<◌, ◌^◌, ◌∷◌, true, false, [], cond, map, length, MatchResult, OnOk};
-ghost use Rattle.abc_link_program.specs.Linked.{IsLinkedFile};
+ghost use Rattle.abc_link_names.specs.Linked.{IsLinkedFile};
 ghost use Rattle.abc_verify_typing.specs.Effects.{covering};
 ghost use Rattle.abc_verify_typing.specs.Typing.{Derivable, HasTyping};
 ghost use Rattle.abc_verify_typing.specs.Work.{IsUnderWay};
@@ -17,7 +17,7 @@ use crate::step::{Onward, Refusal, Step, Trial, Written};
 use crate::telling::tell;
 use crate::waiting::Waiting;
 use abc_base::{NoMemory, Table};
-use abc_link_program::Kind;
+use abc_link_names::Kind;
 use abc_verify_typing::{State, VerifyRule};
 use std::alloc::Global;
 

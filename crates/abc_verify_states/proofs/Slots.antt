@@ -3,17 +3,17 @@ use Rattle.std.proofs.Common.{◌≡◌, ℕ, ◌≤◌, ◌↔◌, IsTrue, Some
 use Rattle.std.specs.Prelude.{Bool, true, false, Option}
 use Rattle.abc_base.specs.declared.names.HostClass.TheVariants as hosts
 use Rattle.abc_file_types.specs.declared.tables.Abc.{Abc}
-use Rattle.abc_link_program.specs.Linked.{IsLinkedFile, LinkedFile}
-use Rattle.abc_link_program.specs.Numbering.{IsNumbering}
-use Rattle.abc_link_program.specs.Parts.{parent}
-use Rattle.abc_link_program.specs.Places.{place_of}
-use Rattle.abc_link_program.specs.Tree.{IsBelow}
-use Rattle.abc_link_program.specs.Slots.{slot_numbered, slots_of}
-use Rattle.abc_link_program.specs.declared.types.Kind.{Kind}
-use Rattle.abc_link_program.specs.declared.part.Part.{Part}
-use Rattle.abc_link_program.specs.declared.part.Part.TheVariants as parts
-use Rattle.abc_link_program.specs.declared.types.Kind.TheVariants.{Obj}
-use Rattle.abc_link_program.specs.declared.types.SlotInfo.{SlotInfo}
+use Rattle.abc_link_names.specs.Linked.{IsLinkedFile, LinkedFile}
+use Rattle.abc_link_names.specs.Numbering.{IsNumbering}
+use Rattle.abc_link_names.specs.Parts.{parent}
+use Rattle.abc_link_names.specs.Places.{place_of}
+use Rattle.abc_link_names.specs.Tree.{IsBelow}
+use Rattle.abc_link_names.specs.Slots.{slot_numbered, slots_of}
+use Rattle.abc_link_names.specs.declared.types.Kind.{Kind}
+use Rattle.abc_link_names.specs.declared.part.Part.{Part}
+use Rattle.abc_link_names.specs.declared.part.Part.TheVariants as parts
+use Rattle.abc_link_names.specs.declared.types.Kind.TheVariants.{Obj}
+use Rattle.abc_link_names.specs.declared.types.SlotInfo.{SlotInfo}
 use Rattle.abc_verify_typing.specs.Effects.{slot, slot_in}
 use Rattle.abc_verify_typing.specs.Routines.{object_of}
 use Rattle.abc_verify_typing.specs.Rules.{reaches}

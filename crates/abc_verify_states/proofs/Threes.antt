@@ -1,12 +1,12 @@
 -- Three lists, and that the joins of two states are their least state above both, with less to rise.
 use Rattle.std.proofs.Common.{◌≡◌, ℕ, zero, suc, ◌+◌, ◌≤◌, ◌<◌, List, [], ◌∷◌, ◌++◌, length, take, drop, get_or, refl, sym, ap, ◌∙◌, subst, arith, ◌⊎◌, inl, inr}
 use Rattle.std.specs.Prelude.{Bool}
-use Rattle.abc_link_program.specs.Kinds.{IsAtMost, IsJoin}
-use Rattle.abc_link_program.specs.Linked.{IsLinkedFile, LinkedFile}
-use Rattle.abc_link_program.specs.declared.types.Kind.{Kind}
-use Rattle.abc_link_program.specs.declared.types.Kind.TheVariants.{Any, Undef, Null, Num, Bool as Truth, Text, Space, Obj}
-use Rattle.abc_link_program.proofs.Order.{kind_self}
-use Rattle.abc_link_program.proofs.Tree.{below_antisym}
+use Rattle.abc_link_names.specs.Kinds.{IsAtMost, IsJoin}
+use Rattle.abc_link_names.specs.Linked.{IsLinkedFile, LinkedFile}
+use Rattle.abc_link_names.specs.declared.types.Kind.{Kind}
+use Rattle.abc_link_names.specs.declared.types.Kind.TheVariants.{Any, Undef, Null, Num, Bool as Truth, Text, Space, Obj}
+use Rattle.abc_link_names.proofs.Order.{kind_self}
+use Rattle.abc_link_names.proofs.Tree.{below_antisym}
 use Rattle.abc_verify_typing.specs.Lists.{Each2}
 use Rattle.abc_verify_typing.specs.Typing.{HasOneShape, IsJoinState, ScopeLe, StateLe}
 use Rattle.abc_verify_typing.specs.declared.state.Scope.{Scope}

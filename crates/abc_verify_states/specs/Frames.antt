@@ -1,7 +1,7 @@
 -- What the code holds of a method, as a routine.
 use Rattle.std.specs.Prelude.{ℕ}
-use Rattle.abc_link_program.specs.Linked.{LinkedFile, layout_of}
-use Rattle.abc_link_program.specs.declared.part.Part.TheVariants as parts
+use Rattle.abc_link_names.specs.Linked.{LinkedFile, layout_of}
+use Rattle.abc_link_names.specs.declared.part.Part.TheVariants as parts
 use Rattle.abc_file_types.specs.declared.code.Handler.{Handler}
 use Rattle.abc_verify_typing.specs.Routines.{Routine, or_any, type_at}
 use Rattle.abc_verify_typing.specs.declared.catch.Catch.{Catch}

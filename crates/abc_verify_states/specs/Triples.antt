@@ -1,8 +1,8 @@
 -- Three lists of one length, by what holds of each three elements.
 use Rattle.std.specs.Prelude.{◌≡◌, false, List, [], ◌∷◌}
-use Rattle.abc_link_program.specs.Kinds.{IsJoin}
-use Rattle.abc_link_program.specs.Linked.{LinkedFile}
-use Rattle.abc_link_program.specs.declared.types.Kind.TheVariants as kinds
+use Rattle.abc_link_names.specs.Kinds.{IsJoin}
+use Rattle.abc_link_names.specs.Linked.{LinkedFile}
+use Rattle.abc_link_names.specs.declared.types.Kind.TheVariants as kinds
 use Rattle.abc_verify_typing.specs.declared.state.Scope.{Scope}
 use Rattle.abc_verify_typing.specs.declared.state.State.{State}
 

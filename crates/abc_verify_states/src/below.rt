@@ -1,7 +1,7 @@
 ghost use Rattle.std.specs.Prelude.{◌≡◌, ◌<◌, ◌↔◌, IsTrue, get_or, length};
-ghost use Rattle.abc_link_program.specs.Kinds.{IsAtMost};
-ghost use Rattle.abc_link_program.specs.Linked.{IsLinkedFile};
-ghost use Rattle.abc_link_program.specs.declared.types.Kind.TheVariants as kinds;
+ghost use Rattle.abc_link_names.specs.Kinds.{IsAtMost};
+ghost use Rattle.abc_link_names.specs.Linked.{IsLinkedFile};
+ghost use Rattle.abc_link_names.specs.declared.types.Kind.TheVariants as kinds;
 ghost use Rattle.abc_verify_typing.specs.Lists.{Each2};
 ghost use Rattle.abc_verify_typing.specs.Typing.{HasOneShape, ScopeLe, StateLe};
 ghost use Rattle.abc_verify_states.specs.Triples.{no_scope};
@@ -9,13 +9,13 @@ ghost use Rattle.abc_verify_states.specs.Triples.{no_scope};
 use crate::shape::{NO_SCOPE, at_or, is_same_flag};
 use abc_base::Table;
 use abc_kinds::{Tree, at_most};
-use abc_link_program::Kind;
+use abc_link_names::Kind;
 use abc_verify_typing::{Scope, Stack, State};
 
 /// Whether a kind that stands in a list is another or below it. Mostly it is the other: then nothing is asked of the layouts, and only
 /// what tells that is read.
 #[inline]
-#[tactic(auto, using(abc_link_program::proofs::Order::kind_self))]
+#[tactic(auto, using(abc_link_names::proofs::Order::kind_self))]
 fn is_kind_at_most<T: Tree>(tree: &T, a: &Kind, b: &Kind) -> bool
     requires { IsLinkedFile (T.file tree.now) }
     ensures { IsTrue result ↔ IsAtMost (T.file tree.now) a.now b.now }

@@ -6,7 +6,7 @@ use crate::lookup::type_or_any;
 use abc_base::{NoMemory, Table};
 use abc_file_types::Handler;
 use abc_link::Linked;
-use abc_link_program::Part;
+use abc_link_names::Part;
 use abc_verify_typing::Catch;
 use std::alloc::Global;
 

@@ -1,11 +1,11 @@
 ghost use Rattle.std.specs.Prelude.{◌≡◌, ◌++◌, IfOk, replicate, take};
-ghost use Rattle.abc_link_program.specs.declared.types.Kind.TheVariants as kinds;
+ghost use Rattle.abc_link_names.specs.declared.types.Kind.TheVariants as kinds;
 ghost use Rattle.abc_verify_typing.specs.Typing.{entry};
 ghost use Rattle.abc_verify_states.specs.Frames.{routine_in};
 
 use crate::frame::Frame;
 use abc_base::{NoMemory, Table};
-use abc_link_program::Kind;
+use abc_link_names::Kind;
 use abc_verify_typing::{Stack, State};
 use std::alloc::Global;
 

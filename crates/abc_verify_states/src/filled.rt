@@ -1,13 +1,13 @@
 ghost use Rattle.std.specs.Prelude.{◌≡◌, ◌++◌, IfOk, OnOk, map};
-ghost use Rattle.abc_link_program.specs.Owners.{owner_of};
-ghost use Rattle.abc_link_names.specs.Parts.{method_at};
+ghost use Rattle.abc_link_names.specs.Owners.{owner_of};
+ghost use Rattle.abc_link_names.specs.PartsByNumber.{method_at};
 ghost use Rattle.abc_verify_typing.specs.Routines.{arrays, filled_by, object_of, or_any, takes_array as takes_array_by, this_kind, type_at};
 
 use crate::lookup::type_or_any;
 use abc_base::{HostClass, NoMemory, Table};
 use abc_file_types::has_flag;
 use abc_link::Linked;
-use abc_link_program::{Kind, Owner, Part};
+use abc_link_names::{Kind, Owner, Part};
 use std::alloc::Global;
 
 /// The kind of the objects of a part's layout.

@@ -1,6 +1,6 @@
 ghost use Rattle.std.specs.Prelude.{◌≡◌, ◌<◌, ◌-◌, IfOk, if◌then◌else◌, length};
-ghost use Rattle.abc_link_program.specs.Owners.{owner_of};
-ghost use Rattle.abc_link_names.specs.Parts.{body_at, method_at};
+ghost use Rattle.abc_link_names.specs.Owners.{owner_of};
+ghost use Rattle.abc_link_names.specs.PartsByNumber.{body_at, method_at};
 ghost use Rattle.abc_verify_typing.specs.Routines.{has_base, home_of, is_unsupported as is_unsupported_by, routine, routine_of};
 ghost use Rattle.abc_verify_typing.specs.declared.home.Home.TheVariants as homes;
 ghost use Rattle.abc_link_names.specs.Instances.{instance_at};
@@ -11,7 +11,7 @@ use crate::filled::{filled_of, flags_of};
 use abc_base::{NoMemory, Table};
 use abc_file_types::{Body, Instr, has_flag};
 use abc_link::Linked;
-use abc_link_program::{Kind, LayoutId, Owner, Part};
+use abc_link_names::{Kind, LayoutId, Owner, Part};
 use abc_verify_typing::{Catch, Home};
 use std::alloc::Global;
 

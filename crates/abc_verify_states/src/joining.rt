@@ -1,7 +1,7 @@
 ghost use Rattle.std.specs.Prelude.{◌≡◌, ◌<◌, IfOk, OnOk, get_or, length};
-ghost use Rattle.abc_link_program.specs.Kinds.{IsJoin};
-ghost use Rattle.abc_link_program.specs.Linked.{IsLinkedFile};
-ghost use Rattle.abc_link_program.specs.declared.types.Kind.TheVariants as kinds;
+ghost use Rattle.abc_link_names.specs.Kinds.{IsJoin};
+ghost use Rattle.abc_link_names.specs.Linked.{IsLinkedFile};
+ghost use Rattle.abc_link_names.specs.declared.types.Kind.TheVariants as kinds;
 ghost use Rattle.abc_verify_typing.specs.Lists.{Each2};
 ghost use Rattle.abc_verify_typing.specs.Typing.{HasOneFlag, HasOneShape};
 ghost use Rattle.abc_verify_flow.specs.Walking.{MergesTo};
@@ -11,7 +11,7 @@ use crate::below::is_state_at_most;
 use crate::shape::{NO_SCOPE, at_or, have_one_shape, local_at};
 use abc_base::{NoMemory, Table};
 use abc_kinds::{Tree, join};
-use abc_link_program::Kind;
+use abc_link_names::Kind;
 use abc_verify_flow::Merged;
 use abc_verify_typing::{Scope, Stack, State};
 

@@ -4,7 +4,7 @@ ghost use Rattle.abc_verify_typing.specs.Rules.{has_slot, is_instance, is_namesp
 
 use crate::lookup::{fixed_kind, is_under, slot_kind};
 use abc_link::Linked;
-use abc_link_program::{Kind, LayoutId};
+use abc_link_names::{Kind, LayoutId};
 use abc_verify_typing::RowKind;
 
 /// The kind of the slot of a number in a value of a kind.

@@ -1,8 +1,8 @@
 ghost use Rattle.std.specs.Prelude.{◌≡◌};
 ghost use Rattle.abc_base.specs.declared.names.HostClass.TheVariants as hosts;
-ghost use Rattle.abc_link_program.specs.Linked.{IsLayout};
-ghost use Rattle.abc_link_program.specs.Slots.{slots_of};
-ghost use Rattle.abc_link_program.specs.declared.part.Part.TheVariants as parts;
+ghost use Rattle.abc_link_names.specs.Linked.{IsLayout};
+ghost use Rattle.abc_link_names.specs.Slots.{slots_of};
+ghost use Rattle.abc_link_names.specs.declared.part.Part.TheVariants as parts;
 ghost use Rattle.abc_verify_typing.specs.Effects.{fixed, slot, slot_in};
 ghost use Rattle.abc_verify_typing.specs.Routines.{object_of, or_any, type_at};
 ghost use Rattle.abc_verify_typing.specs.Rules.{is_free, is_function, reaches};
@@ -10,7 +10,7 @@ ghost use Rattle.abc_verify_typing.specs.Rules.{is_free, is_function, reaches};
 use abc_base::HostClass;
 use abc_kinds::{is_below, kind_of_type};
 use abc_link::Linked;
-use abc_link_program::{Kind, LayoutId, Owner, Part};
+use abc_link_names::{Kind, LayoutId, Owner, Part};
 use abc_verify_typing::RowKind;
 
 /// The kind of the instances of a class of the host.

@@ -3,7 +3,7 @@ ghost use Rattle.abc_verify_typing.specs.Instructions.{local, second};
 ghost use Rattle.abc_verify_typing.specs.Rules.{has_locals, may_pop, may_push, super_layout};
 
 use abc_file_types::Instr;
-use abc_link_program::LayoutId;
+use abc_link_names::LayoutId;
 use abc_verify_typing::{Home, Locals, Scoping, Site, local_of, second_of};
 
 /// The layout that a super operation is about, where it is permitted.

@@ -1,11 +1,11 @@
 ghost use Rattle.std.specs.Prelude.{◌≡◌, ◌<◌, ◌↔◌, IsTrue, get_or, length};
-ghost use Rattle.abc_link_program.specs.declared.types.Kind.TheVariants as kinds;
+ghost use Rattle.abc_link_names.specs.declared.types.Kind.TheVariants as kinds;
 ghost use Rattle.abc_verify_typing.specs.Lists.{Each2};
 ghost use Rattle.abc_verify_typing.specs.Typing.{HasOneFlag, HasOneShape};
 ghost use Rattle.abc_verify_states.specs.Triples.{no_scope};
 
 use abc_base::Table;
-use abc_link_program::Kind;
+use abc_link_names::Kind;
 use abc_verify_typing::{Scope, Stack, State};
 
 /// A scope that stands where none is.

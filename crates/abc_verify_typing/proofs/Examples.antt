@@ -3,8 +3,8 @@ use Rattle.std.proofs.Common.{◌≡◌, ℕ, zero, suc, ◌+◌, List, [], ◌�
 use Rattle.std.specs.declared.option.Option.{Option}
 use Rattle.abc_base_graphs.specs.Ways.{way}
 use Rattle.abc_file_types.specs.declared.code.Instr.TheVariants.{Branch, Plain}
-use Rattle.abc_link_program.specs.Linked.{LinkedFile}
-use Rattle.abc_link_program.specs.declared.types.Kind.TheVariants.{Bool as Truth, Null}
+use Rattle.abc_link_names.specs.Linked.{LinkedFile}
+use Rattle.abc_link_names.specs.declared.types.Kind.TheVariants.{Bool as Truth, Null}
 use Rattle.abc_verify_typing.specs.declared.rule.VerifyRule.{VerifyRule}
 use Rattle.abc_verify_typing.specs.declared.rule.VerifyRule.TheVariants as rules
 use Rattle.abc_verify_typing.specs.declared.state.State.{State}

@@ -7,16 +7,16 @@ use Rattle.abc_base.specs.declared.names.HostClass.TheVariants as hosts
 use Rattle.abc_base_graphs.specs.Heirs.{heritage}
 use Rattle.abc_base_graphs.proofs.Laid.{heritage_none, heritage_some}
 use Rattle.abc_base_graphs.specs.Index.{first, first_from}
-use Rattle.abc_link_program.specs.Linked.{IsLinkedFile, LinkedFile, above, base}
-use Rattle.abc_link_program.specs.Numbering.{part_at}
-use Rattle.abc_link_program.specs.Parts.{parent}
-use Rattle.abc_link_program.specs.Places.{place_of, place_under}
-use Rattle.abc_link_program.specs.Slots.{numbers_of, own_numbers, own_slots, slot_numbered, slots_of}
-use Rattle.abc_link_program.specs.declared.part.Part.{Part}
-use Rattle.abc_link_program.specs.declared.part.Part.TheVariants as parts
-use Rattle.abc_link_program.specs.declared.types.Kind.{Kind}
-use Rattle.abc_link_program.specs.declared.types.SlotInfo.{SlotInfo}
-use Rattle.abc_link_program.proofs.Finding.{falling, place_low}
+use Rattle.abc_link_names.specs.Linked.{IsLinkedFile, LinkedFile, above, base}
+use Rattle.abc_link_names.specs.Numbering.{part_at}
+use Rattle.abc_link_names.specs.Parts.{parent}
+use Rattle.abc_link_names.specs.Places.{place_of, place_under}
+use Rattle.abc_link_names.specs.Slots.{numbers_of, own_numbers, own_slots, slot_numbered, slots_of}
+use Rattle.abc_link_names.specs.declared.part.Part.{Part}
+use Rattle.abc_link_names.specs.declared.part.Part.TheVariants as parts
+use Rattle.abc_link_names.specs.declared.types.Kind.{Kind}
+use Rattle.abc_link_names.specs.declared.types.SlotInfo.{SlotInfo}
+use Rattle.abc_link_names.proofs.Finding.{falling, place_low}
 use Rattle.abc_file_types.specs.declared.tables.Abc.{Abc}
 use Rattle.abc_verify_typing.specs.Effects.{kind_of_slot, slot, slot_in}
 use Rattle.abc_verify_typing.proofs.Lists.{slice_get-push}

@@ -1,15 +1,15 @@
 -- Two kinds have a least kind above both, and it is the first or stands higher.
 use Rattle.std.proofs.Common.{◌≡◌, ◌≢◌, ℕ, zero, suc, ◌+◌, ◌≤◌, ◌<◌, length, refl, sym, ap, subst, arith, ◌⊎◌, inl, inr, min}
 use Rattle.std.proofs.lemmas.Bool.{cases_lt, cases_eq}
-use Rattle.abc_link_program.specs.declared.types.Kind.{Kind}
-use Rattle.abc_link_program.specs.declared.types.Kind.TheVariants.{Any, Undef, Null, Num, Bool, Text, Space, Obj}
-use Rattle.abc_link_program.specs.Linked.{IsLinkedFile, LinkedFile, above}
-use Rattle.abc_link_program.specs.Tree.{IsBelow, IsCommon}
+use Rattle.abc_link_names.specs.declared.types.Kind.{Kind}
+use Rattle.abc_link_names.specs.declared.types.Kind.TheVariants.{Any, Undef, Null, Num, Bool, Text, Space, Obj}
+use Rattle.abc_link_names.specs.Linked.{IsLinkedFile, LinkedFile, above}
+use Rattle.abc_link_names.specs.Tree.{IsBelow, IsCommon}
 use Rattle.abc_verify_typing.proofs.Good.{IsGood}
-use Rattle.abc_link_program.specs.Kinds.{IsAtMost, IsJoin}
+use Rattle.abc_link_names.specs.Kinds.{IsAtMost, IsJoin}
 use Rattle.abc_verify_typing.specs.Height.{height}
-use Rattle.abc_link_program.proofs.Tree.{above_le, below_self, below_up, below_le, below_both, below_next}
-use Rattle.abc_link_program.proofs.Order.{kind_self, kind_any}
+use Rattle.abc_link_names.proofs.Tree.{above_le, below_self, below_up, below_le, below_both, below_next}
+use Rattle.abc_link_names.proofs.Order.{kind_self, kind_any}
 
 pub meeting : (p : LinkedFile) → IsLinkedFile p → (fuel a b : ℕ) → a + b ≤ fuel → (c : ℕ) × IsCommon p a b c
 meeting p t zero a b h = let e : b ≡ a = omega arith in (a, record { left = below_self p a; right = subst (λ x. IsBelow p x a) (sym e) (below_self p a); least = λ n x y. x })

@@ -16,4 +16,4 @@ pub mod Visits
 pub mod Heads
 pub mod Decides
 pub mod Exact
-mod Examples
+pub mod Examples

@@ -1,11 +1,11 @@
 -- Two states of one shape have a least state above both; the first, or one that has less to rise.
 use Rattle.std.proofs.Common.{◌≡◌, ℕ, zero, suc, ◌+◌, ◌*◌, ◌≤◌, ◌<◌, List, [], ◌∷◌, length, refl, sym, ap, ◌∙◌, subst, arith, ◌⊎◌, inl, inr}
 use Rattle.abc_verify_typing.specs.Lists.{Each2}
-use Rattle.abc_link_program.specs.declared.types.Kind.{Kind}
-use Rattle.abc_link_program.specs.declared.types.Kind.TheVariants.{Any, Undef, Null, Num, Bool as Truth, Text, Space, Obj}
-use Rattle.abc_link_program.specs.Linked.{LinkedFile}
+use Rattle.abc_link_names.specs.declared.types.Kind.{Kind}
+use Rattle.abc_link_names.specs.declared.types.Kind.TheVariants.{Any, Undef, Null, Num, Bool as Truth, Text, Space, Obj}
+use Rattle.abc_link_names.specs.Linked.{LinkedFile}
 use Rattle.abc_verify_typing.proofs.Good.{IsGood}
-use Rattle.abc_link_program.specs.Kinds.{IsAtMost}
+use Rattle.abc_link_names.specs.Kinds.{IsAtMost}
 use Rattle.abc_verify_typing.specs.Height.{height}
 use Rattle.abc_verify_typing.proofs.Joins.{kind_join}
 use Rattle.abc_verify_typing.specs.Routines.{Routine}

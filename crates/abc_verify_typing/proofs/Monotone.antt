@@ -3,18 +3,18 @@ use Rattle.std.proofs.Common.{◌≡◌, ℕ, zero, suc, ◌+◌, ◌-◌, ◌�
 use Rattle.std.specs.Prelude.{Bool, true, false, is_some, cond, not, ◌&&◌, ◌||◌, leb, ltb, slice_get, map}
 use Rattle.abc_verify_typing.specs.Lists.{Each2}
 use Rattle.abc_verify_typing.proofs.Lists.{Each2-length, Each2-take, Each2-drop, Each2-append, Each2-set}
-use Rattle.abc_link_program.specs.declared.types.Kind.{Kind}
-use Rattle.abc_link_program.specs.declared.types.Kind.TheVariants.{Any, Undef, Null, Num, Bool as Truth, Text, Space, Obj}
-use Rattle.abc_link_program.specs.Linked.{IsLinkedFile, LinkedFile, above}
-use Rattle.abc_link_program.specs.Tree.{up, IsBelow}
-use Rattle.abc_link_program.specs.declared.part.LayoutId.{LayoutId}
-use Rattle.abc_link_program.specs.Kinds.{IsAtMost}
-use Rattle.abc_link_program.proofs.Tree.{above_le, below_self, below_trans, below_up}
+use Rattle.abc_link_names.specs.declared.types.Kind.{Kind}
+use Rattle.abc_link_names.specs.declared.types.Kind.TheVariants.{Any, Undef, Null, Num, Bool as Truth, Text, Space, Obj}
+use Rattle.abc_link_names.specs.Linked.{IsLinkedFile, LinkedFile, above}
+use Rattle.abc_link_names.specs.Tree.{up, IsBelow}
+use Rattle.abc_link_names.specs.declared.part.LayoutId.{LayoutId}
+use Rattle.abc_link_names.specs.Kinds.{IsAtMost}
+use Rattle.abc_link_names.proofs.Tree.{above_le, below_self, below_trans, below_up}
 use Rattle.abc_verify_typing.proofs.Reaching.{below_reached, reached}
-use Rattle.abc_link_program.proofs.Order.{kind_self, kind_any}
+use Rattle.abc_link_names.proofs.Order.{kind_self, kind_any}
 use Rattle.abc_base.specs.declared.names.HostClass.TheVariants as hosts
-use Rattle.abc_link_program.specs.Places.{place_of}
-use Rattle.abc_link_program.specs.declared.part.Part.TheVariants as parts
+use Rattle.abc_link_names.specs.Places.{place_of}
+use Rattle.abc_link_names.specs.declared.part.Part.TheVariants as parts
 use Rattle.abc_verify_typing.specs.Instructions.{local, operand, second}
 use Rattle.abc_verify_typing.specs.declared.row.RowKind.TheVariants as rows
 use Rattle.abc_verify_typing.specs.Routines.{Routine, or_any}
@@ -26,7 +26,7 @@ use Rattle.abc_verify_typing.specs.declared.rule.VerifyRule.TheVariants.{NotRun,
 use Rattle.abc_verify_typing.specs.declared.row.Operand.{Operand}
 use Rattle.abc_verify_typing.specs.declared.row.Operand.TheVariants.{ScopeAt}
 use Rattle.abc_verify_typing.specs.declared.row.Need.{Need}
-use Rattle.abc_verify_typing.specs.declared.row.Need.TheVariants.{Namespace, Index, Slotted, Instance}
+use Rattle.abc_verify_typing.specs.declared.row.Need.TheVariants.{Value, Namespace, Index, Slotted, Instance, Runtime}
 use Rattle.abc_verify_typing.specs.declared.row.Source.{Source}
 use Rattle.abc_verify_typing.specs.declared.row.Source.TheVariants.{Fixed, Taken, LocalKind, ScopeKind, SlotKind, SumKind, TypeKind, AsTypeKind, ActivationKind, ClassObjectKind, CatchObjectKind}
 use Rattle.abc_verify_typing.specs.declared.row.Locals.{Locals}
@@ -34,7 +34,7 @@ use Rattle.abc_verify_typing.specs.declared.row.Locals.TheVariants.{Untouched, R
 use Rattle.abc_verify_typing.specs.declared.row.Scoping.{Scoping}
 use Rattle.abc_verify_typing.specs.declared.row.Scoping.TheVariants.{Stays, Pushes, Pops}
 use Rattle.abc_verify_typing.specs.Effects.{Here, fixed, slot, needs, args, depth, taken, kind_at, receiver, is_null, goes_on, slot_kind, sum_kind, scope_of, kind_of, scope_kind, scopes_after, locals_after, next, caught, covering, leads, after}
-use Rattle.abc_verify_typing.specs.Rules.{is_namespace, is_object, is_number, is_instance, has_slot, suits, all_suit, is_walked, names_scope, super_layout, keeps, may_pop, may_push, is_empty, after_instr, after_row}
+use Rattle.abc_verify_typing.specs.Rules.{is_namespace, is_object, is_number, is_instance, has_slot, suits, suits_index, suits_object, suits_slot, suits_space, all_suit, is_walked, names_scope, super_layout, keeps, may_pop, may_push, is_empty, after_instr, after_row}
 use Rattle.abc_verify_typing.specs.Typing.{ScopeLe, StateLe, IsFine, In, Follows}
 use Rattle.std.proofs.lemmas.Bool.{cases_eq}
 use Rattle.abc_verify_typing.proofs.Member.{in_left, in_right, map_in, and_left, and_right, and_both}
@@ -111,13 +111,57 @@ slot_down p g j (Obj l) b h o e = absurd h
 slot_down p g j a b h o e = refl
 
 module _ (h : Here) (g : IsGood h.file) where
+  space_suits_down : (n : Need) (a b : Kind) → IsAtMost h.file a b → suits_space n b ≡ true → suits_space n a ≡ true
+  space_suits_down Namespace a b le e = namespace_down h.file a b le e
+  space_suits_down Value a b le e = refl
+  space_suits_down Index a b le e = refl
+  space_suits_down Slotted a b le e = refl
+  space_suits_down Instance a b le e = refl
+  space_suits_down Runtime a b le e = refl
+
+  object_suits_down : (n : Need) (a b : Kind) → IsAtMost h.file a b → suits_object h n b ≡ true → suits_object h n a ≡ true
+  object_suits_down Slotted a b le e = object_down h.file a b le e
+  object_suits_down Instance a b le e = instance_down h.file g.linked (super_layout h.row.site h.method.home) a b le e
+  object_suits_down Value a b le e = refl
+  object_suits_down Namespace a b le e = refl
+  object_suits_down Index a b le e = refl
+  object_suits_down Runtime a b le e = refl
+
+  slot_suits_down : (n : Need) (a b : Kind) → IsAtMost h.file a b → suits_object h n b ≡ true → suits_slot h n b ≡ true → suits_slot h n a ≡ true
+  slot_suits_down Slotted a b le o e = slot_down h.file g (operand h.instr) a b le o e
+  slot_suits_down Value a b le o e = refl
+  slot_suits_down Namespace a b le o e = refl
+  slot_suits_down Index a b le o e = refl
+  slot_suits_down Instance a b le o e = refl
+  slot_suits_down Runtime a b le o e = refl
+
+  index_suits_down : (n : Need) (a b : Kind) → IsAtMost h.file a b → suits_index n b ≡ true → suits_index n a ≡ true
+  index_suits_down Index a b le e = number_down h.file a b le e
+  index_suits_down Value a b le e = refl
+  index_suits_down Namespace a b le e = refl
+  index_suits_down Slotted a b le e = refl
+  index_suits_down Instance a b le e = refl
+  index_suits_down Runtime a b le e = refl
+
   suits_down : (n : Need) (a b : Kind) → IsAtMost h.file a b → ((r : VerifyRule) → suits h r n b ≡ true) → (r : VerifyRule) → suits h r n a ≡ true
-  suits_down Namespace a b le f NotSpace = namespace_down h.file a b le (f NotSpace)
-  suits_down Slotted a b le f NotObject = object_down h.file a b le (f NotObject)
-  suits_down Instance a b le f NotObject = instance_down h.file g.linked (super_layout h.row.site h.method.home) a b le (f NotObject)
-  suits_down Slotted a b le f SlotIndex = slot_down h.file g (operand h.instr) a b le (f NotObject) (f SlotIndex)
-  suits_down Index a b le f NotIndex = number_down h.file a b le (f NotIndex)
-  suits_down n a b le f r = grind arith
+  suits_down n a b le f NotSpace = space_suits_down n a b le (f NotSpace)
+  suits_down n a b le f NotObject = object_suits_down n a b le (f NotObject)
+  suits_down n a b le f SlotIndex = slot_suits_down n a b le (f NotObject) (f SlotIndex)
+  suits_down n a b le f NotIndex = index_suits_down n a b le (f NotIndex)
+  suits_down n a b le f NotRun = refl
+  suits_down n a b le f PoolIndex = refl
+  suits_down n a b le f NameForm = refl
+  suits_down n a b le f StackUnder = refl
+  suits_down n a b le f StackOver = refl
+  suits_down n a b le f ScopeUnder = refl
+  suits_down n a b le f ScopeOver = refl
+  suits_down n a b le f LocalIndex = refl
+  suits_down n a b le f OffEnd = refl
+  suits_down n a b le f Merge = refl
+  suits_down n a b le f ScopeIndex = refl
+  suits_down n a b le f NotHere = refl
+  suits_down n a b le f Parameters = refl
+  suits_down n a b le f Flags = refl
 
   all_suit_down : (ns : List Need) (xs ys : List Kind) → Each2 (IsAtMost h.file) xs ys → ((r : VerifyRule) → all_suit h r ns ys ≡ true) → (r : VerifyRule) → all_suit h r ns xs ≡ true
   all_suit_down [] xs ys e f r = refl

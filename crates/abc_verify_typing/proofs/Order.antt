@@ -1,9 +1,9 @@
 -- States are ordered.
 use Rattle.std.proofs.Common.{refl, ◌∙◌}
 use Rattle.abc_verify_typing.proofs.Lists.{Each2-self, Each2-trans}
-use Rattle.abc_link_program.specs.Kinds.{IsAtMost}
-use Rattle.abc_link_program.proofs.Order.{kind_self, kind_trans}
-use Rattle.abc_link_program.specs.Linked.{LinkedFile}
+use Rattle.abc_link_names.specs.Kinds.{IsAtMost}
+use Rattle.abc_link_names.proofs.Order.{kind_self, kind_trans}
+use Rattle.abc_link_names.specs.Linked.{LinkedFile}
 use Rattle.abc_verify_typing.specs.declared.state.Scope.{Scope}
 use Rattle.abc_verify_typing.specs.declared.state.State.{State}
 use Rattle.abc_verify_typing.specs.Typing.{ScopeLe, StateLe}

@@ -1,8 +1,8 @@
 -- The test of a layout by its steps up.
 use Rattle.std.proofs.Common.{◌≡◌, ℕ, zero, suc, ◌-◌, ◌≤◌, ◌<◌, ◌≢◌, refl, sym, ap, ◌∙◌, arith, eqb-true, eq-eqb, Bool, true, false, nat_eq, ◌||◌}
-use Rattle.abc_link_program.specs.Linked.{IsLinkedFile, LinkedFile, above}
-use Rattle.abc_link_program.specs.Tree.{IsBelow}
-use Rattle.abc_link_program.proofs.Tree.{above_le, below_le, below_next, below_up}
+use Rattle.abc_link_names.specs.Linked.{IsLinkedFile, LinkedFile, above}
+use Rattle.abc_link_names.specs.Tree.{IsBelow}
+use Rattle.abc_link_names.proofs.Tree.{above_le, below_le, below_next, below_up}
 use Rattle.abc_verify_typing.specs.Rules.{reaches}
 
 -- what the test finds is below

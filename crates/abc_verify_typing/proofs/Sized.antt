@@ -4,8 +4,8 @@ use Rattle.std.specs.Prelude.{Bool, true, false, map, ◌||◌, ltb, replicate}
 use Rattle.std.proofs.lemmas.Bool.{leb-true, ltb-true}
 use Rattle.std.proofs.lemmas.List.{length-map, length-take, length-replicate}
 use Rattle.abc_verify_typing.proofs.Lists.{Each2-length}
-use Rattle.abc_link_program.specs.declared.types.Kind.TheVariants.{Undef}
-use Rattle.abc_link_program.specs.Linked.{LinkedFile}
+use Rattle.abc_link_names.specs.declared.types.Kind.TheVariants.{Undef}
+use Rattle.abc_link_names.specs.Linked.{LinkedFile}
 use Rattle.abc_verify_typing.specs.Routines.{Routine}
 use Rattle.abc_verify_typing.specs.declared.catch.Catch.{Catch}
 use Rattle.abc_verify_typing.specs.declared.state.Scope.{Scope}

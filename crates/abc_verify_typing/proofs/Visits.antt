@@ -1,7 +1,7 @@
 -- A state flows to a place.
 use Rattle.std.proofs.Common.{◌≡◌, ℕ, ◌≤◌, ◌<◌, List, ◌∷◌, Option, Some, None, length, set, sym, subst, arith}
 use Rattle.std.specs.Prelude.{Bool, true}
-use Rattle.abc_link_program.specs.Linked.{LinkedFile}
+use Rattle.abc_link_names.specs.Linked.{LinkedFile}
 use Rattle.abc_verify_typing.specs.Routines.{Routine}
 use Rattle.abc_verify_typing.specs.declared.state.State.{State}
 use Rattle.abc_verify_typing.specs.Typing.{StateLe, Derivable, Join, IsJoinState}

@@ -15,11 +15,12 @@ use Rattle.abc_verify_typing.specs.declared.row.Locals.{Locals}
 use Rattle.abc_verify_typing.specs.declared.row.Locals.TheVariants.{Untouched, Reads, Sets, Walks}
 use Rattle.abc_verify_typing.specs.declared.row.Leads.{Leads}
 use Rattle.abc_verify_typing.specs.declared.row.Leads.TheVariants.{Next, Branches, Jumps, Switches, Ends}
+use Rattle.abc_file_types.specs.declared.op.TheConstants as op
 
 -- the instructions that are not run: dxns, dxnslate, callmethod, callstatic, applytype, getdescendants, getglobalslot, setglobalslot,
 -- esc_xelem, esc_xattr, checkfilter
 abbrev pub not_run : List ℕ
-not_run = 0x06 ∷ 0x07 ∷ 0x43 ∷ 0x44 ∷ 0x53 ∷ 0x59 ∷ 0x6E ∷ 0x6F ∷ 0x71 ∷ 0x72 ∷ 0x78 ∷ []
+not_run = op.DXNS ∷ op.DXNSLATE ∷ op.CALLMETHOD ∷ op.CALLSTATIC ∷ op.APPLYTYPE ∷ op.GETDESCENDANTS ∷ op.GETGLOBALSLOT ∷ op.SETGLOBALSLOT ∷ op.ESC_XELEM ∷ op.ESC_XATTR ∷ op.CHECKFILTER ∷ []
 
 -- the pool that an operand names
 abbrev pub pool_of : Operand → Pool

@@ -8,12 +8,13 @@ use Rattle.abc_file_types.specs.declared.names.NsKind.TheVariants as spaces
 use Rattle.abc_file_types.specs.declared.tables.Abc.{Abc}
 use Rattle.abc_file_types.specs.Pools.{empty}
 use Rattle.abc_link_names.specs.Meaning.{host_classes}
-use Rattle.abc_link_program.specs.Linked.{LinkedFile}
-use Rattle.abc_link_program.specs.declared.part.Part.TheVariants as parts
+use Rattle.abc_link_names.specs.Linked.{LinkedFile}
+use Rattle.abc_link_names.specs.declared.part.Part.TheVariants as parts
 use Rattle.abc_verify_typing.specs.declared.rule.VerifyRule.{VerifyRule}
 use Rattle.abc_verify_typing.specs.declared.rule.VerifyRule.TheVariants as rules
 use Rattle.abc_verify_typing.specs.Routines.{routine}
 use Rattle.abc_verify_typing.specs.Typing.{HasTyping, Refutes}
+use Rattle.abc_file_types.specs.declared.op.TheConstants as op
 
 -- ---- methods: each is the init of the one script of a file
 
@@ -53,47 +54,47 @@ IsTyped l = HasTyping l (routine l 0)
 -- ---- what is typed
 
 pub record TypedExamples : Type 0 where
-  pub returns : IsTyped (small (Plain 0x47 ∷ []))
+  pub returns : IsTyped (small (Plain op.RETURNVOID ∷ []))
   -- label, getlocal_0, pop, and a jump to the label
-  pub loops : IsTyped (small (Plain 0x09 ∷ Plain 0xd0 ∷ Plain 0x29 ∷ Branch 0x10 0 ∷ []))
+  pub loops : IsTyped (small (Plain op.LABEL ∷ Plain op.GETLOCAL_0 ∷ Plain op.POP ∷ Branch op.JUMP 0 ∷ []))
   -- pushtrue, iftrue to the return, nop: both ways come to the return with nothing
-  pub meets : IsTyped (small (Plain 0x26 ∷ Branch 0x11 3 ∷ Plain 0x02 ∷ Plain 0x47 ∷ []))
+  pub meets : IsTyped (small (Plain op.PUSHTRUE ∷ Branch op.IFTRUE 3 ∷ Plain op.NOP ∷ Plain op.RETURNVOID ∷ []))
   -- the return leaves what is behind it without a state, whatever stands there
-  pub dead_code : IsTyped (small (Plain 0x47 ∷ Plain 0x29 ∷ []))
+  pub dead_code : IsTyped (small (Plain op.RETURNVOID ∷ Plain op.POP ∷ []))
 
 -- ---- what is refuted
 
 pub record RuleExamples : Type 0 where
   -- dxns
-  pub not_run : RefutesInit (small (One 0x06 1 ∷ Plain 0x47 ∷ [])) 0 rules.NotRun
+  pub not_run : RefutesInit (small (One op.DXNS 1 ∷ Plain op.RETURNVOID ∷ [])) 0 rules.NotRun
   -- pushstring 2, where there is one string
-  pub pool_index : RefutesInit (small (One 0x2c 2 ∷ Plain 0x47 ∷ [])) 0 rules.PoolIndex
+  pub pool_index : RefutesInit (small (One op.PUSHSTRING 2 ∷ Plain op.RETURNVOID ∷ [])) 0 rules.PoolIndex
   -- getlex of a name that comes from the stack
-  pub name_form : RefutesInit (small (One 0x60 3 ∷ Plain 0x47 ∷ [])) 0 rules.NameForm
+  pub name_form : RefutesInit (small (One op.GETLEX 3 ∷ Plain op.RETURNVOID ∷ [])) 0 rules.NameForm
   -- pop, with nothing to pop; a third pushnull, where two values have room
-  pub stack_under : RefutesInit (small (Plain 0x29 ∷ Plain 0x47 ∷ [])) 0 rules.StackUnder
-  pub stack_over : RefutesInit (small (Plain 0x20 ∷ Plain 0x20 ∷ Plain 0x20 ∷ Plain 0x47 ∷ [])) 2 rules.StackOver
+  pub stack_under : RefutesInit (small (Plain op.POP ∷ Plain op.RETURNVOID ∷ [])) 0 rules.StackUnder
+  pub stack_over : RefutesInit (small (Plain op.PUSHNULL ∷ Plain op.PUSHNULL ∷ Plain op.PUSHNULL ∷ Plain op.RETURNVOID ∷ [])) 2 rules.StackOver
   -- popscope, with no scope; a second pushscope, where one scope has room
-  pub scope_under : RefutesInit (small (Plain 0x1d ∷ Plain 0x47 ∷ [])) 0 rules.ScopeUnder
-  pub scope_over : RefutesInit (small (Plain 0xd0 ∷ Plain 0x30 ∷ Plain 0xd0 ∷ Plain 0x30 ∷ Plain 0x47 ∷ [])) 3 rules.ScopeOver
+  pub scope_under : RefutesInit (small (Plain op.POPSCOPE ∷ Plain op.RETURNVOID ∷ [])) 0 rules.ScopeUnder
+  pub scope_over : RefutesInit (small (Plain op.GETLOCAL_0 ∷ Plain op.PUSHSCOPE ∷ Plain op.GETLOCAL_0 ∷ Plain op.PUSHSCOPE ∷ Plain op.RETURNVOID ∷ [])) 3 rules.ScopeOver
   -- getlocal_1, where there is one local
-  pub local_index : RefutesInit (small (Plain 0xd1 ∷ Plain 0x47 ∷ [])) 0 rules.LocalIndex
+  pub local_index : RefutesInit (small (Plain op.GETLOCAL_1 ∷ Plain op.RETURNVOID ∷ [])) 0 rules.LocalIndex
   -- nothing stands behind pushnull; the default of a switch leads to the end, though 0 takes its case
-  pub off_end : RefutesInit (small (Plain 0x20 ∷ [])) 0 rules.OffEnd
-  pub switch_off_end : RefutesInit (small (Byte (pos 0) ∷ Switch 3 (2 ∷ []) ∷ Plain 0x47 ∷ [])) 1 rules.OffEnd
+  pub off_end : RefutesInit (small (Plain op.PUSHNULL ∷ [])) 0 rules.OffEnd
+  pub switch_off_end : RefutesInit (small (Byte (pos 0) ∷ Switch 3 (2 ∷ []) ∷ Plain op.RETURNVOID ∷ [])) 1 rules.OffEnd
   -- pushtrue, iftrue to the return, pushnull: one way comes to the return with a value, the other with none
-  pub merge : RefutesInit (small (Plain 0x26 ∷ Branch 0x11 3 ∷ Plain 0x20 ∷ Plain 0x47 ∷ [])) 3 rules.Merge
+  pub merge : RefutesInit (small (Plain op.PUSHTRUE ∷ Branch op.IFTRUE 3 ∷ Plain op.PUSHNULL ∷ Plain op.RETURNVOID ∷ [])) 3 rules.Merge
   -- pushnull, pushtrue, and getproperty in the namespace true
-  pub not_space : RefutesInit (small (Plain 0x20 ∷ Plain 0x26 ∷ One 0x66 2 ∷ Plain 0x47 ∷ [])) 2 rules.NotSpace
+  pub not_space : RefutesInit (small (Plain op.PUSHNULL ∷ Plain op.PUSHTRUE ∷ One op.GETPROPERTY 2 ∷ Plain op.RETURNVOID ∷ [])) 2 rules.NotSpace
   -- getslot of true; getslot of the global object, which has no slot
-  pub not_object : RefutesInit (small (Plain 0x26 ∷ One 0x6c 1 ∷ Plain 0x47 ∷ [])) 1 rules.NotObject
-  pub slot_index : RefutesInit (small (Plain 0xd0 ∷ One 0x6c 1 ∷ Plain 0x47 ∷ [])) 1 rules.SlotIndex
+  pub not_object : RefutesInit (small (Plain op.PUSHTRUE ∷ One op.GETSLOT 1 ∷ Plain op.RETURNVOID ∷ [])) 1 rules.NotObject
+  pub slot_index : RefutesInit (small (Plain op.GETLOCAL_0 ∷ One op.GETSLOT 1 ∷ Plain op.RETURNVOID ∷ [])) 1 rules.SlotIndex
   -- getscopeobject 0, with no scope
-  pub scope_index : RefutesInit (small (ScopeObject 0 ∷ Plain 0x47 ∷ [])) 0 rules.ScopeIndex
+  pub scope_index : RefutesInit (small (ScopeObject 0 ∷ Plain op.RETURNVOID ∷ [])) 0 rules.ScopeIndex
   -- newactivation, without flag 02
-  pub not_here : RefutesInit (small (Plain 0x57 ∷ Plain 0x47 ∷ [])) 0 rules.NotHere
+  pub not_here : RefutesInit (small (Plain op.NEWACTIVATION ∷ Plain op.RETURNVOID ∷ [])) 0 rules.NotHere
   -- a switch by null
-  pub not_index : RefutesInit (small (Plain 0x20 ∷ Switch 2 (2 ∷ []) ∷ Plain 0x47 ∷ [])) 1 rules.NotIndex
+  pub not_index : RefutesInit (small (Plain op.PUSHNULL ∷ Switch 2 (2 ∷ []) ∷ Plain op.RETURNVOID ∷ [])) 1 rules.NotIndex
   -- no local for `this`; flag 40
-  pub parameters : RefutesInit (init 0 (body 0 (Plain 0x47 ∷ []))) 0 rules.Parameters
-  pub flags : RefutesInit (init 0x40 (body 1 (Plain 0x47 ∷ []))) 0 rules.Flags
+  pub parameters : RefutesInit (init 0 (body 0 (Plain op.RETURNVOID ∷ []))) 0 rules.Parameters
+  pub flags : RefutesInit (init op.NEWFUNCTION (body 1 (Plain op.RETURNVOID ∷ []))) 0 rules.Flags

@@ -1,7 +1,7 @@
 -- How far a kind can rise, over so many layouts.
 use Rattle.std.specs.Prelude.{ℕ, suc, ◌+◌, min}
-use Rattle.abc_link_program.specs.declared.types.Kind.{Kind}
-use Rattle.abc_link_program.specs.declared.types.Kind.TheVariants.{Any, Undef, Null, Num, Bool, Text, Space, Obj}
+use Rattle.abc_link_names.specs.declared.types.Kind.{Kind}
+use Rattle.abc_link_names.specs.declared.types.Kind.TheVariants.{Any, Undef, Null, Num, Bool, Text, Space, Obj}
 
 abbrev pub height : ℕ → Kind → ℕ
 height n Any = 0

@@ -2,17 +2,18 @@
 use Rattle.std.specs.Prelude.{ℕ, ◌%◌, List, [], ◌∷◌}
 use Rattle.abc_file_types.specs.declared.code.Instr.{Instr}
 use Rattle.abc_file_types.specs.declared.code.Instr.TheVariants as instrs
+use Rattle.abc_file_types.specs.declared.op.TheConstants as op
 
 abbrev pub opcode : Instr → ℕ
-opcode (instrs.Plain op) = op
-opcode (instrs.One op n) = op
-opcode (instrs.Two op m n) = op
-opcode (instrs.Branch op t) = op
-opcode (instrs.Switch t ts) = 0x1B
-opcode (instrs.Byte n) = 0x24
-opcode (instrs.Short n) = 0x25
-opcode (instrs.ScopeObject n) = 0x65
-opcode (instrs.Debug kind name reg extra) = 0xEF
+opcode (instrs.Plain code) = code
+opcode (instrs.One code n) = code
+opcode (instrs.Two code m n) = code
+opcode (instrs.Branch code t) = code
+opcode (instrs.Switch t ts) = op.LOOKUPSWITCH
+opcode (instrs.Byte n) = op.PUSHBYTE
+opcode (instrs.Short n) = op.PUSHSHORT
+opcode (instrs.ScopeObject n) = op.GETSCOPEOBJECT
+opcode (instrs.Debug kind name reg extra) = op.DEBUG
 
 -- the number that names something in a table
 abbrev pub operand : Instr → ℕ

@@ -2,7 +2,7 @@
 use Rattle.std.specs.Prelude.{◌≡◌, ℕ, suc, ◌+◌, ◌*◌, ◌<◌, List, [], ◌∷◌, length, ◌⊎◌}
 use Rattle.abc_verify_typing.specs.Lists.{Each2}
 use Rattle.abc_verify_typing.specs.Height.{height}
-use Rattle.abc_link_program.specs.Linked.{LinkedFile}
+use Rattle.abc_link_names.specs.Linked.{LinkedFile}
 use Rattle.abc_verify_typing.specs.Routines.{Routine}
 use Rattle.abc_verify_typing.specs.declared.state.Scope.{Scope}
 use Rattle.abc_verify_typing.specs.declared.state.State.{State}

@@ -7,18 +7,18 @@ use Rattle.abc_file_types.specs.declared.code.Handler.{Handler}
 use Rattle.abc_file_types.specs.declared.code.Instr.{Instr}
 use Rattle.abc_file_types.specs.declared.code.Body.{Body}
 use Rattle.abc_file_types.specs.declared.methods.Method.{Method}
-use Rattle.abc_link_names.specs.Parts.{body_at, method_at}
-use Rattle.abc_link_program.specs.Linked.{LinkedFile, layout_of}
-use Rattle.abc_link_program.specs.Owners.{owner_of}
-use Rattle.abc_link_program.specs.Types.{kind_of_type, type_of}
-use Rattle.abc_link_program.specs.declared.part.LayoutId.{LayoutId}
-use Rattle.abc_link_program.specs.declared.part.Part.{Part}
-use Rattle.abc_link_program.specs.declared.part.Part.TheVariants as parts
-use Rattle.abc_link_program.specs.declared.types.Kind.{Kind}
-use Rattle.abc_link_program.specs.declared.types.Kind.TheVariants.{Any, Obj}
-use Rattle.abc_link_program.specs.declared.types.Owner.{Owner}
-use Rattle.abc_link_program.specs.declared.types.Ty.{Ty}
-use Rattle.abc_link_program.specs.declared.types.Owner.TheVariants as owners
+use Rattle.abc_link_names.specs.PartsByNumber.{body_at, method_at}
+use Rattle.abc_link_names.specs.Linked.{LinkedFile, layout_of}
+use Rattle.abc_link_names.specs.Owners.{owner_of}
+use Rattle.abc_link_names.specs.Types.{kind_of_type, type_of}
+use Rattle.abc_link_names.specs.declared.part.LayoutId.{LayoutId}
+use Rattle.abc_link_names.specs.declared.part.Part.{Part}
+use Rattle.abc_link_names.specs.declared.part.Part.TheVariants as parts
+use Rattle.abc_link_names.specs.declared.types.Kind.{Kind}
+use Rattle.abc_link_names.specs.declared.types.Kind.TheVariants.{Any, Obj}
+use Rattle.abc_link_names.specs.declared.types.Owner.{Owner}
+use Rattle.abc_link_names.specs.declared.types.Ty.{Ty}
+use Rattle.abc_link_names.specs.declared.types.Owner.TheVariants as owners
 use Rattle.abc_verify_typing.specs.declared.catch.Catch.{Catch}
 use Rattle.abc_verify_typing.specs.declared.home.Home.{Home}
 use Rattle.abc_verify_typing.specs.declared.home.Home.TheVariants.{Elsewhere, OnInstances, MakesInstances}

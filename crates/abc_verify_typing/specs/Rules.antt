@@ -1,19 +1,19 @@
 -- The rules, in the order in which a refusal names them.
 use Rattle.std.specs.Prelude.{ℕ, zero, suc, is_some, nat_eq, ◌+◌, ◌-◌, List, [], ◌∷◌, ◌++◌, Bool, true, false, cond, not, ◌&&◌, ◌||◌, leb, ltb, eqb, Option, Some, None, length, map, slice_get}
-use Rattle.abc_link_program.specs.declared.types.Kind.{Kind}
-use Rattle.abc_link_program.specs.declared.types.Kind.TheVariants.{Null, Num, Space, Obj}
-use Rattle.abc_link_program.specs.Linked.{above, LinkedFile}
-use Rattle.abc_link_program.specs.Owners.{body_of, owner_of}
-use Rattle.abc_link_program.specs.declared.part.LayoutId.{LayoutId}
-use Rattle.abc_link_program.specs.declared.types.Owner.{Owner}
-use Rattle.abc_link_program.specs.declared.types.Owner.TheVariants as owners
+use Rattle.abc_link_names.specs.declared.types.Kind.{Kind}
+use Rattle.abc_link_names.specs.declared.types.Kind.TheVariants.{Any, Undef, Null, Num, Bool as Truth, Text, Space, Obj}
+use Rattle.abc_link_names.specs.Linked.{above, LinkedFile}
+use Rattle.abc_link_names.specs.Owners.{body_of, owner_of}
+use Rattle.abc_link_names.specs.declared.part.LayoutId.{LayoutId}
+use Rattle.abc_link_names.specs.declared.types.Owner.{Owner}
+use Rattle.abc_link_names.specs.declared.types.Owner.TheVariants as owners
 use Rattle.abc_verify_typing.specs.Instructions.{local, opcode, operand, second}
 use Rattle.abc_verify_typing.specs.Rows.{Shape, row_at}
 use Rattle.abc_file_types.specs.declared.code.Instr.{Instr}
 use Rattle.abc_file_types.specs.declared.names.Multiname.{Multiname}
 use Rattle.abc_file_types.specs.declared.names.Multiname.TheVariants as names
 use Rattle.abc_verify_typing.specs.declared.home.Home.{Home}
-use Rattle.abc_verify_typing.specs.declared.home.Home.TheVariants.{OnInstances, MakesInstances}
+use Rattle.abc_verify_typing.specs.declared.home.Home.TheVariants.{Elsewhere, OnInstances, MakesInstances}
 use Rattle.abc_verify_typing.specs.Routines.{Routine, type_at}
 use Rattle.abc_verify_typing.specs.declared.catch.Catch.{Catch}
 use Rattle.abc_verify_typing.specs.declared.state.State.{State}
@@ -22,11 +22,11 @@ use Rattle.abc_verify_typing.specs.declared.rule.VerifyRule.TheVariants.{NotRun,
 use Rattle.abc_verify_typing.specs.declared.row.Operand.{Operand}
 use Rattle.abc_verify_typing.specs.declared.row.Operand.TheVariants.{Unnamed, StringAt, IntAt, UintAt, DoubleAt, NamespaceAt, FunctionAt, ClassAt, HandlerAt, NameAt, PlainNameAt, TypeAt, TypeOrAny, ScopeAt}
 use Rattle.abc_verify_typing.specs.declared.row.Need.{Need}
-use Rattle.abc_verify_typing.specs.declared.row.Need.TheVariants.{Namespace, Index, Slotted, Instance}
+use Rattle.abc_verify_typing.specs.declared.row.Need.TheVariants.{Value, Namespace, Index, Slotted, Instance, Runtime}
 use Rattle.abc_verify_typing.specs.declared.row.Locals.{Locals}
-use Rattle.abc_verify_typing.specs.declared.row.Locals.TheVariants.{Untouched, Walks}
+use Rattle.abc_verify_typing.specs.declared.row.Locals.TheVariants.{Untouched, Reads, Sets, Walks}
 use Rattle.abc_verify_typing.specs.declared.row.Scoping.{Scoping}
-use Rattle.abc_verify_typing.specs.declared.row.Scoping.TheVariants.{Pushes, Pops}
+use Rattle.abc_verify_typing.specs.declared.row.Scoping.TheVariants.{Stays, Pushes, Pops}
 use Rattle.abc_verify_typing.specs.declared.row.Site.{Site}
 use Rattle.abc_verify_typing.specs.declared.row.Site.TheVariants.{Anywhere, WithActivation, OnInstance, InMaker}
 use Rattle.abc_verify_typing.specs.Effects.{Here, name_at, slot, needs, depth, taken, kind_at, leads, after, covering, caught}
@@ -77,7 +77,16 @@ has_form p NameAt n = is_name (name_at p n)
 has_form p PlainNameAt n = is_plain (name_at p n)
 has_form p TypeAt n = is_some (type_at p n)
 has_form p TypeOrAny n = is_some (type_at p n)
-has_form p operand n = true
+has_form p Unnamed n = true
+has_form p StringAt n = true
+has_form p IntAt n = true
+has_form p UintAt n = true
+has_form p DoubleAt n = true
+has_form p NamespaceAt n = true
+has_form p FunctionAt n = true
+has_form p ClassAt n = true
+has_form p HandlerAt n = true
+has_form p ScopeAt n = true
 
 abbrev pub is_empty : List Catch → Bool
 is_empty [] = true
@@ -85,16 +94,19 @@ is_empty (h ∷ hs) = false
 
 abbrev pub may_pop : Scoping → ℕ → Bool
 may_pop Pops n = ltb 0 n
-may_pop scoping n = true
+may_pop Stays n = true
+may_pop (Pushes is_with) n = true
 
 abbrev pub may_push : Scoping → ℕ → ℕ → Bool
 may_push (Pushes is_with) n size = ltb n size
-may_push scoping n size = true
+may_push Stays n size = true
+may_push Pops n size = true
 
 abbrev pub has_locals : Locals → Instr → ℕ → Bool
 has_locals Untouched i count = true
+has_locals Reads i count = ltb (local i) count
+has_locals (Sets source) i count = ltb (local i) count
 has_locals Walks i count = ltb (local i) count && (ltb (second i) count && not (eqb (local i) (second i)))
-has_locals locals i count = ltb (local i) count
 
 -- whether a layout is another or stands under it, by at most so many steps
 abbrev pub reaches : LinkedFile → ℕ → ℕ → ℕ → Bool
@@ -106,7 +118,11 @@ abbrev pub super_layout : Site → Home → Option LayoutId
 super_layout OnInstance (OnInstances l) = Some l
 super_layout OnInstance (MakesInstances l) = Some l
 super_layout InMaker (MakesInstances l) = Some l
-super_layout site home = None
+super_layout OnInstance Elsewhere = None
+super_layout InMaker Elsewhere = None
+super_layout InMaker (OnInstances l) = None
+super_layout Anywhere home = None
+super_layout WithActivation home = None
 
 abbrev pub is_here : Routine → Site → Bool
 is_here m Anywhere = true
@@ -138,28 +154,95 @@ is_instance p (Some m) k = false
 
 abbrev pub has_slot : LinkedFile → ℕ → Kind → Bool
 has_slot p j (Obj l) = is_some (slot p l.0 j)
-has_slot p j k = true
+has_slot p j Any = true
+has_slot p j Undef = true
+has_slot p j Null = true
+has_slot p j Num = true
+has_slot p j Truth = true
+has_slot p j Text = true
+has_slot p j Space = true
 
--- what a rule asks of a value that is taken
+-- what the four rules on values ask of a value that is taken, by what the row says of it
+abbrev pub suits_space : Need → Kind → Bool
+suits_space Value k = true
+suits_space Namespace k = is_namespace k
+suits_space Index k = true
+suits_space Slotted k = true
+suits_space Instance k = true
+suits_space Runtime k = true
+
+abbrev pub suits_object : Here → Need → Kind → Bool
+suits_object h Value k = true
+suits_object h Namespace k = true
+suits_object h Index k = true
+suits_object h Slotted k = is_object k
+suits_object h Instance k = is_instance h.file (super_layout h.row.site h.method.home) k
+suits_object h Runtime k = true
+
+abbrev pub suits_slot : Here → Need → Kind → Bool
+suits_slot h Value k = true
+suits_slot h Namespace k = true
+suits_slot h Index k = true
+suits_slot h Slotted k = has_slot h.file (operand h.instr) k
+suits_slot h Instance k = true
+suits_slot h Runtime k = true
+
+abbrev pub suits_index : Need → Kind → Bool
+suits_index Value k = true
+suits_index Namespace k = true
+suits_index Index k = is_number k
+suits_index Slotted k = true
+suits_index Instance k = true
+suits_index Runtime k = true
+
+-- the other rules ask nothing of it
 abbrev pub suits : Here → VerifyRule → Need → Kind → Bool
-suits h NotSpace Namespace k = is_namespace k
-suits h NotObject Slotted k = is_object k
-suits h NotObject Instance k = is_instance h.file (super_layout h.row.site h.method.home) k
-suits h SlotIndex Slotted k = has_slot h.file (operand h.instr) k
-suits h NotIndex Index k = is_number k
-suits h rule need k = true
+suits h NotSpace need k = suits_space need k
+suits h NotObject need k = suits_object h need k
+suits h SlotIndex need k = suits_slot h need k
+suits h NotIndex need k = suits_index need k
+suits h NotRun need k = true
+suits h PoolIndex need k = true
+suits h NameForm need k = true
+suits h StackUnder need k = true
+suits h StackOver need k = true
+suits h ScopeUnder need k = true
+suits h ScopeOver need k = true
+suits h LocalIndex need k = true
+suits h OffEnd need k = true
+suits h Merge need k = true
+suits h ScopeIndex need k = true
+suits h NotHere need k = true
+suits h Parameters need k = true
+suits h Flags need k = true
 
+-- a value that isn't there is left to StackUnder
 abbrev pub all_suit : Here → VerifyRule → List Need → List Kind → Bool
+all_suit h r [] ks = true
+all_suit h r (n ∷ ns) [] = true
 all_suit h r (n ∷ ns) (k ∷ ks) = suits h r n k && all_suit h r ns ks
-all_suit h r ns ks = true
 
 abbrev pub is_walked : Here → State → Locals → Bool
 is_walked h s Walks = is_number (kind_at s.locals (second h.instr))
-is_walked h s locals = true
+is_walked h s Untouched = true
+is_walked h s Reads = true
+is_walked h s (Sets source) = true
 
 abbrev pub names_scope : Here → State → Operand → Bool
 names_scope h s ScopeAt = ltb (operand h.instr) (length s.scopes)
-names_scope h s operand = true
+names_scope h s Unnamed = true
+names_scope h s StringAt = true
+names_scope h s IntAt = true
+names_scope h s UintAt = true
+names_scope h s DoubleAt = true
+names_scope h s NamespaceAt = true
+names_scope h s FunctionAt = true
+names_scope h s ClassAt = true
+names_scope h s HandlerAt = true
+names_scope h s NameAt = true
+names_scope h s PlainNameAt = true
+names_scope h s TypeAt = true
+names_scope h s TypeOrAny = true
 
 abbrev pub handler_target : Catch → ℕ
 handler_target h = h.target
@@ -195,11 +278,12 @@ abbrev pub first_broken : (VerifyRule → Bool) → List VerifyRule → Option V
 first_broken kept [] = None
 first_broken kept (r ∷ rs) = cond (kept r) (first_broken kept rs) (Some r)
 
--- the code's end, where there is no code; an opcode that is not run
+-- an opcode without a row is not run
 abbrev pub at_row : LinkedFile → Routine → ℕ → Instr → List VerifyRule → State → Option Shape → Option VerifyRule
 at_row p m i instr rules s None = Some NotRun
 at_row p m i instr rules s (Some row) = first_broken (keeps (record { file = p; method = m; place = i; instr = instr; row = row }) s) rules
 
+-- a place without an instruction is the code's end
 abbrev pub at_instr : LinkedFile → Routine → ℕ → List VerifyRule → State → Option Instr → Option VerifyRule
 at_instr p m i rules s None = Some OffEnd
 at_instr p m i rules s (Some instr) = at_row p m i instr rules s (row_at (opcode instr))

@@ -3,7 +3,7 @@ use Rattle.std.specs.Prelude.{◌≡◌, ℕ, ◌≤◌, ◌++◌, true, Some, l
 use Rattle.abc_verify_typing.specs.Instructions.{opcode}
 use Rattle.abc_verify_typing.specs.Rows.{Shape, row_at}
 use Rattle.abc_file_types.specs.declared.code.Instr.{Instr}
-use Rattle.abc_link_program.specs.Linked.{LinkedFile}
+use Rattle.abc_link_names.specs.Linked.{LinkedFile}
 use Rattle.abc_verify_typing.specs.Routines.{Routine}
 use Rattle.abc_verify_typing.specs.declared.state.State.{State}
 use Rattle.abc_verify_typing.specs.declared.rule.VerifyRule.{VerifyRule}

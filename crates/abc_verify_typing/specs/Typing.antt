@@ -1,9 +1,9 @@
 -- Typings, and what can be derived.
 use Rattle.std.specs.Prelude.{◌≡◌, ℕ, List, [], ◌∷◌, ◌++◌, Option, Some, None, length, take, replicate, ◌⊎◌}
 use Rattle.abc_verify_typing.specs.Lists.{Each2}
-use Rattle.abc_link_program.specs.declared.types.Kind.TheVariants.{Undef}
-use Rattle.abc_link_program.specs.Kinds.{IsAtMost}
-use Rattle.abc_link_program.specs.Linked.{LinkedFile}
+use Rattle.abc_link_names.specs.declared.types.Kind.TheVariants.{Undef}
+use Rattle.abc_link_names.specs.Kinds.{IsAtMost}
+use Rattle.abc_link_names.specs.Linked.{LinkedFile}
 use Rattle.abc_verify_typing.specs.Routines.{Routine}
 use Rattle.abc_verify_typing.specs.declared.state.Scope.{Scope}
 use Rattle.abc_verify_typing.specs.declared.state.State.{State}

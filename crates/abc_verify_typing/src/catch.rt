@@ -1,4 +1,4 @@
-use abc_link_program::{Kind, LayoutId};
+use abc_link_names::{Kind, LayoutId};
 
 /// Where a throw between two places goes on.
 #[derive(Clone, Copy, Debug, PartialEq, Eq)]

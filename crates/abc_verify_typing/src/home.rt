@@ -1,4 +1,4 @@
-use abc_link_program::LayoutId;
+use abc_link_names::LayoutId;
 
 /// Where a method stands, as far as super operations ask.
 #[derive(Clone, Copy, Debug, PartialEq, Eq)]

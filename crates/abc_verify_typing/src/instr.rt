@@ -1,7 +1,7 @@
 ghost use Rattle.std.specs.Prelude.{◌≡◌};
 ghost use Rattle.abc_verify_typing.specs.Instructions.{arguments, local, opcode, operand, second};
 
-use abc_file_types::Instr;
+use abc_file_types::{Instr, op};
 
 /// The opcode of an instruction.
 pub fn opcode_of(instr: &Instr) -> u8
@@ -12,11 +12,11 @@ pub fn opcode_of(instr: &Instr) -> u8
         Instr::One(op, _) => *op,
         Instr::Two(op, _, _) => *op,
         Instr::Branch(op, _) => *op,
-        Instr::Switch { .. } => 0x1B,
-        Instr::Byte(_) => 0x24,
-        Instr::Short(_) => 0x25,
-        Instr::ScopeObject(_) => 0x65,
-        Instr::Debug { .. } => 0xEF,
+        Instr::Switch { .. } => op::LOOKUPSWITCH,
+        Instr::Byte(_) => op::PUSHBYTE,
+        Instr::Short(_) => op::PUSHSHORT,
+        Instr::ScopeObject(_) => op::GETSCOPEOBJECT,
+        Instr::Debug { .. } => op::DEBUG,
     }
 }
 

@@ -1,6 +1,6 @@
 use crate::stack::Stack;
 use abc_base::Table;
-use abc_link_program::Kind;
+use abc_link_names::Kind;
 
 /// A local scope.
 #[derive(Clone, Copy, Debug, PartialEq, Eq)]

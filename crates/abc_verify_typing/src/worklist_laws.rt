@@ -1,5 +1,5 @@
 ghost use Rattle.std.specs.Prelude.{◌↔◌};
-ghost use Rattle.abc_link_program.specs.Linked.{IsLinkedFile, LinkedFile};
+ghost use Rattle.abc_link_names.specs.Linked.{IsLinkedFile, LinkedFile};
 ghost use Rattle.abc_verify_typing.specs.Routines.{Routine};
 ghost use Rattle.abc_verify_typing.specs.Typing.{HasTyping, IsRefuted};
 

@@ -1,5 +1,5 @@
 use Rattle.std.proofs.Common.{◌↔◌}
-use Rattle.abc_link_program.specs.Tree.{IsBelow}
+use Rattle.abc_link_names.specs.Tree.{IsBelow}
 use Rattle.abc_kinds.proofs.is_below.Given as goal
 
 abbrev pub invariant-loop-at : goal.invariant-loop-at

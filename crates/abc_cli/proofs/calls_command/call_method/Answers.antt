@@ -2,7 +2,7 @@ use Rattle.std.proofs.Common.{◌≡◌, ◌∙◌, [], subst, sym}
 use Rattle.std.specs.Prelude.{IsSome}
 use Rattle.std.specs.Io.KnownBytes.{append_known}
 use Rattle.abc_meaning.specs.Setting.{Setting}
-use Rattle.abc_link_program.specs.Linked.{LinkedFile}
+use Rattle.abc_link_names.specs.Linked.{LinkedFile}
 use Rattle.abc_session.specs.Ticks.{calls_meaning}
 use Rattle.abc_cli_answers.specs.End.{GivesLine, stream}
 use Rattle.abc_cli.specs.Endings.{IsPlacedEnd, end_answer}

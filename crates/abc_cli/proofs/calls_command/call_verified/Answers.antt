@@ -5,8 +5,7 @@ use Rattle.abc_cli.proofs.EndedRuns.{machine_verified}
 use Rattle.abc_cli.proofs.calls_command.call_verified.Goals as goal
 use Rattle.abc_cli_answers.specs.End.{stream}
 use Rattle.abc_meaning.specs.ThrowLaws.{AreCounted}
-use Rattle.abc_link_program.specs.Linked.{LinkedFile}
-use Rattle.abc_link_program.specs.Slots.{HasFewSlots}
+use Rattle.abc_link_names.specs.Linked.{LinkedFile}
 use Rattle.abc_session.proofs.Pieces.{nothing}
 use Rattle.abc_machine.specs.Machines.{Opened}
 
@@ -17,7 +16,7 @@ call_exported-status-requires g c =
     record {
       opened = opened_as c.args.verified fs c.limits_of-limits.result c.in-Ok.session c.in-Ok.ensures;
       limits = ap (λ (m : Opened). m.limits) is ∙ c.limits_of-limits.ensures.is;
-      verified = machine_verified c.args.verified fs c.limits_of-limits.result c.in-Ok.session c.in-Ok.ensures c.requires.verified (subst (λ (x : LinkedFile). HasFewSlots x) c.linked.ensures c.slots_law.ensures) (g.met.H.Host.formed c.args.host.now);
+      verified = machine_verified c.args.verified fs c.limits_of-limits.result c.in-Ok.session c.in-Ok.ensures c.requires.verified (g.met.H.Host.formed c.args.host.now);
       counted = subst AreCounted (sym (ap (λ (m : Opened). m.limits) is)) c.limits_of-limits.ensures.counted;
       places = subst (λ (l : LinkedFile). ArePlaces l.file.bodies c.args.places.now) (sym (ap (λ (m : Opened). m.linked) is)) c.requires.places;
     }

@@ -2,7 +2,7 @@ use Rattle.std.proofs.Common.{◌∙◌, ◌++◌, ◌≤◌, ◌^◌, All, List
 use Rattle.abc_file_types.specs.Bodies.{IsReadyBody}
 use Rattle.abc_file_types.specs.Files.{file_bytes}
 use Rattle.abc_file_types.specs.declared.tables.Abc.{Abc}
-use Rattle.abc_link_program.specs.Linked.{LinkedFile}
+use Rattle.abc_link_names.specs.Linked.{LinkedFile}
 use Rattle.abc_cli_answers.proofs.Ending.{fits_ready}
 use Rattle.abc_cli.proofs.Logging.{short_file}
 use Rattle.abc_cli.proofs.log_command.front_of.Goals as goal

@@ -19,7 +19,7 @@ pub returns-in-Ok-clause-end : goal.returns-in-Ok-clause-end
 returns-in-Ok-clause-end g c =
     let source = stream g.S.Source.left g.S.Source.faults c.args.source.now c.read_verified.new.source in
     verified_logs c.args.options.now (g.H.Host.formulas c.args.host.now) c.in-Ok.verified c.in-Ok.places (g.S.Source.left c.args.source.now) (HasFailed source) (stream g.K.Sink.written g.K.Sink.faults c.args.out.now c.log_file.new.out)
-    (stream g.E.Sink.written g.E.Sink.faults c.args.err.now c.log_file.new.err) c.log_file.result c.in-Ok.ensures.ok c.log_file.ensures.end
+    (stream g.E.Sink.written g.E.Sink.faults c.args.err.now c.log_file.new.err) c.log_file.result c.in-Ok.ensures.ok c.log_file.ensures
 
 pub returns-in-Ok-clause-used_up : goal.returns-in-Ok-clause-used_up
 returns-in-Ok-clause-used_up g c = λ h. c.in-Ok.ensures.end
@@ -30,7 +30,7 @@ returns-in-Ok-clause-logged g c = λ within read.
     let fs = g.H.Host.formulas c.args.host.now in
     let out = stream g.K.Sink.written g.K.Sink.faults c.args.out.now c.log_file.new.out in
     let got = got_log_of c.in-Ok.verified fs o.fuel (limits_of o) c.in-Ok.places out (stream g.E.Sink.written g.E.Sink.faults c.args.err.now c.log_file.new.err) c.log_file.result
-    (read_is_verified (g.S.Source.left c.args.source.now) c.in-Ok.verified c.in-Ok.places c.in-Ok.ensures.ok) c.log_file.ensures.few (g.met.H.Host.formed c.args.host.now) c.log_file.ensures.end read in
+    (read_is_verified (g.S.Source.left c.args.source.now) c.in-Ok.verified c.in-Ok.places c.in-Ok.ensures.ok) (g.met.H.Host.formed c.args.host.now) c.log_file.ensures read in
     log_accepted c.one_replay.ensures.one_number c.one_replay.ensures.never_both fs o.fuel (limits_of o) out within got
 
 pub returns-in-Err-clause-end : goal.returns-in-Err-clause-end

@@ -9,7 +9,7 @@ use Rattle.abc_session.proofs.Pieces.{nothing}
 use Rattle.abc_cli.proofs.Logging.{front_failed, logged_ends, logged_placed}
 use Rattle.abc_meaning.specs.Logs.{log}
 use Rattle.abc_meaning.specs.Meaning.{meaning}
-use Rattle.abc_link_program.specs.Linked.{LinkedFile}
+use Rattle.abc_link_names.specs.Linked.{LinkedFile}
 use Rattle.abc_meaning.specs.Setting.{Setting}
 use Rattle.abc_cli.proofs.log_command.log_machine.Goals as goal
 

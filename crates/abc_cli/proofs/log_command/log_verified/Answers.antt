@@ -7,8 +7,7 @@ use Rattle.abc_cli_answers.specs.End.{stream}
 use Rattle.abc_cli.specs.Logs.{front}
 use Rattle.abc_meaning.specs.ThrowLaws.{AreCounted}
 use Rattle.abc_meaning.specs.Setting.{Setting}
-use Rattle.abc_link_program.specs.Linked.{LinkedFile}
-use Rattle.abc_link_program.specs.Slots.{HasFewSlots}
+use Rattle.abc_link_names.specs.Linked.{LinkedFile}
 use Rattle.abc_machine.specs.Machines.{Opened}
 
 pub log_machine-status-requires : goal.log_machine-status-requires
@@ -19,7 +18,7 @@ log_machine-status-requires g c =
     record {
       begun = ap (λ (m : Opened). m.ended) is;
       names = sym (ap (λ (m : Opened). m.names) is);
-      verified = machine_verified c.args.verified fs limits c.in-Ok.machine c.in-Ok.ensures c.requires.verified (subst (λ (x : LinkedFile). HasFewSlots x) c.linked.ensures c.slots_law.ensures) (g.met.H.Host.formed c.args.host.now);
+      verified = machine_verified c.args.verified fs limits c.in-Ok.machine c.in-Ok.ensures c.requires.verified (g.met.H.Host.formed c.args.host.now);
       counted = subst AreCounted (sym (ap (λ (m : Opened). m.limits) is)) c.requires.counted;
       places = subst (λ (l : LinkedFile). ArePlaces l.file.bodies c.args.places.now) (sym (ap (λ (m : Opened). m.linked) is)) c.requires.places;
       short = c.requires.short;

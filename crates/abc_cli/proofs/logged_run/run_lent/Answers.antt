@@ -1,4 +1,4 @@
-use Rattle.std.proofs.Common.{◌≡◌, ◌≤◌, ℕ, List, ap, subst, sym}
+use Rattle.std.proofs.Common.{ℕ, List, ap, subst, sym}
 use Rattle.std.specs.Io.KnownBytes.{Keeps, append_known}
 use Rattle.abc_log_blocks.specs.Begun.{BeginsWith}
 use Rattle.abc_log_blocks.specs.BlockSinks.{faults_of, waiting_of, written_of}

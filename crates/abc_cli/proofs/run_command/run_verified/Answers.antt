@@ -5,8 +5,7 @@ use Rattle.abc_cli.proofs.CommandRuns.{opened_runs, unopened_runs}
 use Rattle.abc_cli.proofs.run_command.run_verified.Goals as goal
 use Rattle.abc_cli_answers.specs.End.{stream}
 use Rattle.abc_meaning.specs.ThrowLaws.{AreCounted}
-use Rattle.abc_link_program.specs.Linked.{LinkedFile}
-use Rattle.abc_link_program.specs.Slots.{HasFewSlots}
+use Rattle.abc_link_names.specs.Linked.{LinkedFile}
 use Rattle.abc_session.proofs.Pieces.{nothing}
 use Rattle.abc_machine.specs.Machines.{Opened}
 
@@ -17,7 +16,7 @@ run_machine-status-requires g c =
     record {
       begun = ap (λ (m : Opened). m.ended) is;
       names = sym (ap (λ (m : Opened). m.names) is);
-      verified = machine_verified c.args.verified fs c.limits_of-limits.result c.in-Ok.machine c.in-Ok.ensures c.requires.verified (subst (λ (x : LinkedFile). HasFewSlots x) c.linked.ensures c.slots_law.ensures) (g.met.H.Host.formed c.args.host.now);
+      verified = machine_verified c.args.verified fs c.limits_of-limits.result c.in-Ok.machine c.in-Ok.ensures c.requires.verified (g.met.H.Host.formed c.args.host.now);
       counted = subst AreCounted (sym (ap (λ (m : Opened). m.limits) is)) c.limits_of-limits.ensures.counted;
       places = subst (λ (l : LinkedFile). ArePlaces l.file.bodies c.args.places.now) (sym (ap (λ (m : Opened). m.linked) is)) c.requires.places;
     }

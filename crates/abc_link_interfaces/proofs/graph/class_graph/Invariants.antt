@@ -1,5 +1,5 @@
 use Rattle.std.proofs.Common.{◌≡◌, map, take}
-use Rattle.abc_link_program.specs.Interfaces.{above_class}
+use Rattle.abc_link_names.specs.Interfaces.{above_class}
 use Rattle.abc_link_interfaces.proofs.graph.class_graph.Given as goal
 
 abbrev pub invariant-loop-instance : goal.invariant-loop-instance

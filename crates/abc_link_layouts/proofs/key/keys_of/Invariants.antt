@@ -1,5 +1,5 @@
 use Rattle.std.proofs.Common.{◌≡◌, map, take}
-use Rattle.abc_link_program.specs.Places.{part_key}
+use Rattle.abc_link_names.specs.Places.{part_key}
 use Rattle.abc_link_layouts.proofs.key.keys_of.Given as goal
 
 abbrev pub invariant-loop-part : goal.invariant-loop-part

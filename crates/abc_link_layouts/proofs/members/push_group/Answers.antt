@@ -1,5 +1,5 @@
 use Rattle.std.proofs.Common.{ap, ◌∙◌}
-use Rattle.abc_link_program.specs.Slots.{traits_of}
+use Rattle.abc_link_names.specs.Slots.{traits_of}
 use Rattle.abc_link_layouts.specs.Files.{linked}
 use Rattle.abc_link_layouts.proofs.Grouping.{groups_next}
 use Rattle.abc_link_layouts.proofs.members.push_group.Goals as goal

@@ -1,5 +1,5 @@
 use Rattle.std.proofs.Common.{◌≡◌, ◌++◌, drop}
-use Rattle.abc_link_program.specs.Owners.{namings_from, of_class}
+use Rattle.abc_link_names.specs.Owners.{namings_from, of_class}
 use Rattle.abc_link_layouts.proofs.namings.push_classes.Given as goal
 
 abbrev pub invariant-loop-k : goal.invariant-loop-k

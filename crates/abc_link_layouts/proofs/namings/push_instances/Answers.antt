@@ -1,5 +1,5 @@
 use Rattle.std.proofs.Common.{arith}
-use Rattle.abc_link_program.specs.Owners.{of_instance}
+use Rattle.abc_link_names.specs.Owners.{of_instance}
 use Rattle.abc_link_layouts.proofs.Rest.{rest_next}
 use Rattle.abc_link_layouts.proofs.namings.push_instances.Goals as goal
 

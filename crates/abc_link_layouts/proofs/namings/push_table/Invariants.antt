@@ -1,5 +1,5 @@
 use Rattle.std.proofs.Common.{◌≡◌, ◌++◌, take}
-use Rattle.abc_link_program.specs.Owners.{namings_among}
+use Rattle.abc_link_names.specs.Owners.{namings_among}
 use Rattle.abc_link_layouts.proofs.namings.push_table.Given as goal
 
 abbrev pub invariant-loop-info : goal.invariant-loop-info

@@ -1,5 +1,5 @@
 use Rattle.std.proofs.Common.{◌≡◌, get_or, map, take}
-use Rattle.abc_link_program.specs.Traits.{trait_name}
+use Rattle.abc_link_names.specs.Traits.{trait_name}
 use Rattle.abc_link_layouts.proofs.numbers.keys_of.Given as goal
 
 abbrev pub invariant-loop-info : goal.invariant-loop-info

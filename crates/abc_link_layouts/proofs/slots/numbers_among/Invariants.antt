@@ -1,6 +1,6 @@
 use Rattle.std.proofs.Common.{◌≡◌, take}
 use Rattle.std.specs.List.{flat_map}
-use Rattle.abc_link_program.specs.Slots.{numbers_in}
+use Rattle.abc_link_names.specs.Slots.{numbers_in}
 use Rattle.abc_link_layouts.proofs.slots.numbers_among.Given as goal
 
 abbrev pub invariant-loop-info : goal.invariant-loop-info

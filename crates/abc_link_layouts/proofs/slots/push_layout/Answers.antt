@@ -1,6 +1,6 @@
 use Rattle.std.proofs.Common.{ap, length, sym, ◌∙◌}
-use Rattle.abc_link_program.specs.Linked.{LinkedFile}
-use Rattle.abc_link_program.specs.Slots.{own_numbers, own_slots}
+use Rattle.abc_link_names.specs.Linked.{LinkedFile}
+use Rattle.abc_link_names.specs.Slots.{own_numbers, own_slots}
 use Rattle.abc_link_layouts.specs.Files.{linked}
 use Rattle.abc_link_layouts.proofs.Slotted.{base_known, own_paired, slots_next}
 use Rattle.abc_link_layouts.proofs.slots.push_layout.Goals as goal

@@ -1,6 +1,6 @@
 use Rattle.std.proofs.Common.{◌≡◌, take}
 use Rattle.std.specs.List.{flat_map}
-use Rattle.abc_link_program.specs.Slots.{slots_in}
+use Rattle.abc_link_names.specs.Slots.{slots_in}
 use Rattle.abc_link_layouts.specs.Files.{linked}
 use Rattle.abc_link_layouts.proofs.slots.slots_among.Given as goal
 

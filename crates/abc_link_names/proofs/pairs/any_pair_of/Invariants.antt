@@ -1,5 +1,5 @@
 use Rattle.std.proofs.Common.{◌≡◌, length}
-use Rattle.abc_link_names.specs.Traits.{any_pair}
+use Rattle.abc_link_names.specs.ItemTypes.{any_pair}
 use Rattle.abc_link_names.proofs.pairs.any_pair_of.Given as goal
 
 abbrev pub invariant-loop-parts : goal.invariant-loop-parts

@@ -1,6 +1,6 @@
 use Rattle.std.proofs.Common.{◌≡◌, false, take}
 use Rattle.std.specs.List.{list_any}
-use Rattle.abc_link_names.specs.Traits.{has_bad_variable}
+use Rattle.abc_link_names.specs.ItemTypes.{has_bad_variable}
 use Rattle.abc_link_rules.proofs.name_kind.has_bad_handler.Given as goal
 
 abbrev pub invariant-loop-handler : goal.invariant-loop-handler

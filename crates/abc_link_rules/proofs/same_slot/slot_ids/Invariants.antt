@@ -1,5 +1,5 @@
 use Rattle.std.proofs.Common.{◌≡◌, map, take}
-use Rattle.abc_link_names.specs.Traits.{slot_id}
+use Rattle.abc_link_names.specs.ItemTypes.{slot_id}
 use Rattle.abc_link_rules.proofs.same_slot.slot_ids.Given as goal
 
 abbrev pub invariant-loop-info : goal.invariant-loop-info

@@ -1,8 +1,8 @@
 use Rattle.std.proofs.Common.{◌≡◌, ◌∙◌, ap}
 use Rattle.abc_heap_values.specs.declared.values.Value.TheVariants as values
-use Rattle.abc_link_program.specs.declared.types.Owner.{Owner}
-use Rattle.abc_heap_search.specs.Searches.{found_on}
-use Rattle.abc_heap_search.specs.declared.found.Found.TheVariants as founds
+use Rattle.abc_link_names.specs.declared.types.Owner.{Owner}
+use Rattle.abc_objects.specs.Searches.{found_on}
+use Rattle.abc_objects.specs.declared.found.Found.TheVariants as founds
 use Rattle.abc_lookup.proofs.OwnFirst.{method_first, slot_first}
 use Rattle.abc_lookup.proofs.at_once.first_as.Goals as goal
 

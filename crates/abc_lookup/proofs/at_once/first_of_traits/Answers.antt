@@ -1,7 +1,7 @@
 use Rattle.std.proofs.Common.{ℕ, arith, subst}
 use Rattle.abc_lookup.proofs.Stands.{layout_in}
 use Rattle.abc_lookup.specs.OwnTraits.{HasTable}
-use Rattle.abc_link_program.specs.declared.part.Part.{Part}
+use Rattle.abc_link_names.specs.declared.part.Part.{Part}
 use Rattle.abc_lookup.proofs.at_once.first_of_traits.Goals as goal
 
 pub part_of-requires : goal.part_of-requires

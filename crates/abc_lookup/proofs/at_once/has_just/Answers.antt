@@ -1,5 +1,5 @@
 use Rattle.std.proofs.Common.{ℕ, ◌∙◌, ap, eqb-true}
-use Rattle.abc_heap_search.specs.declared.name.Spaces.TheVariants.{One}
+use Rattle.abc_objects.specs.declared.name.Spaces.TheVariants.{One}
 use Rattle.abc_lookup.proofs.at_once.has_just.Goals as goal
 
 pub returns-in-One : goal.returns-in-One

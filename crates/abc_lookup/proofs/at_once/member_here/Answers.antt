@@ -1,6 +1,6 @@
 use Rattle.std.proofs.Common.{◌∙◌, ap}
 use Rattle.abc_link_names.specs.Pool.{name, qname}
-use Rattle.abc_heap_search.specs.Traits.{members_in}
+use Rattle.abc_objects.specs.Traits.{members_in}
 use Rattle.abc_file_types.specs.declared.tables.Abc.{Abc}
 use Rattle.abc_lookup.specs.Slots.{own_at, slot_of}
 use Rattle.abc_lookup.proofs.OwnFirst.{given_just}

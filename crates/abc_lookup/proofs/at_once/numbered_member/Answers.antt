@@ -1,5 +1,5 @@
 use Rattle.std.proofs.Common.{◌∙◌, ap, List, ℕ, Some}
-use Rattle.abc_heap_search.specs.Candidates.{text_in}
+use Rattle.abc_objects.specs.Candidates.{text_in}
 use Rattle.abc_lookup.proofs.at_once.numbered_member.Goals as goal
 
 pub only_member-requires-clause-places : goal.only_member-requires-clause-places

@@ -1,6 +1,6 @@
 use Rattle.std.proofs.Common.{◌∙◌, length}
-use Rattle.abc_link_program.specs.Traits.{own_table_of}
-use Rattle.abc_heap_search.specs.Candidates.{text_in}
+use Rattle.abc_link_names.specs.Traits.{own_table_of}
+use Rattle.abc_objects.specs.Candidates.{text_in}
 use Rattle.abc_lookup.specs.OwnTraits.{own_named}
 use Rattle.abc_lookup.specs.Slots.{own_at}
 use Rattle.abc_lookup.proofs.OwnFirst.{given_more}

@@ -1,5 +1,5 @@
 use Rattle.std.proofs.Common.{◌≡◌, ◌≤◌, drop}
-use Rattle.abc_heap_search.specs.ElementNames.{number_from}
+use Rattle.abc_objects.specs.ElementNames.{number_from}
 use Rattle.abc_lookup.proofs.elements.number_of.Given as goal
 
 abbrev pub invariant-loop-digit : goal.invariant-loop-digit

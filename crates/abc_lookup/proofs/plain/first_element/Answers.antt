@@ -1,5 +1,5 @@
 use Rattle.std.proofs.Common.{◌∙◌, sym, ap, arith}
-use Rattle.abc_heap_search.specs.ElementNames.{element_number}
+use Rattle.abc_objects.specs.ElementNames.{element_number}
 use Rattle.abc_lookup.proofs.NoTraits.{own_element}
 use Rattle.abc_lookup.proofs.Stands.{delegates_fall}
 use Rattle.abc_lookup.proofs.plain.first_element.Goals as goal

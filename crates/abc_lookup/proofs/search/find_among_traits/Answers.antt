@@ -1,6 +1,6 @@
 use Rattle.std.proofs.Common.{◌∙◌, ap}
-use Rattle.abc_heap_search.specs.Candidates.{answer, traits}
-use Rattle.abc_heap_search.specs.Searches.{declared_found}
+use Rattle.abc_objects.specs.Candidates.{answer, traits}
+use Rattle.abc_objects.specs.Searches.{declared_found}
 use Rattle.abc_lookup.proofs.search.find_among_traits.Goals as goal
 
 pub returns : goal.returns

@@ -1,6 +1,6 @@
 use Rattle.std.proofs.Common.{◌∙◌, ap}
-use Rattle.abc_heap_search.specs.Scopes.{scope_named}
-use Rattle.abc_heap_search.specs.Searches.{found_in_scopes}
+use Rattle.abc_objects.specs.Scopes.{scope_named}
+use Rattle.abc_objects.specs.Searches.{found_in_scopes}
 use Rattle.abc_lookup.proofs.search.find_in_scopes.Goals as goal
 
 pub returns : goal.returns

@@ -1,6 +1,6 @@
 use Rattle.std.proofs.Common.{◌∙◌, ap}
-use Rattle.abc_heap_search.specs.Candidates.{answer, candidates_on}
-use Rattle.abc_heap_search.specs.Searches.{found_on}
+use Rattle.abc_objects.specs.Candidates.{answer, candidates_on}
+use Rattle.abc_objects.specs.Searches.{found_on}
 use Rattle.abc_lookup.proofs.search.find_on_any.Goals as goal
 
 pub returns : goal.returns

@@ -1,16 +1,21 @@
-use Rattle.std.proofs.Common.{[], refl, subst}
-use Rattle.std.specs.Prelude.{OnOk}
-use Rattle.std.specs.declared.result.Result.{Result}
+use Rattle.std.proofs.Common.{[], refl}
 use Rattle.abc_base.specs.Hosts.{arguments}
-use Rattle.abc_run_finish.specs.declared.ended.Ended.{Ended}
-use Rattle.abc_run_finish.specs.Steps.{IsReached}
+use Rattle.abc_run_finish.proofs.Listed.{each_number}
+use Rattle.abc_run_state.specs.Outer.{Outer}
 use Rattle.abc_machine.proofs.Asking.{ends, goes, goes_left}
+use Rattle.abc_machine.proofs.Called.{begins_reached, can_begin}
 use Rattle.abc_machine.proofs.Opening.{at_start}
 use Rattle.abc_machine.proofs.calling.call_for.Goals as goal
 
+pub begin_call-requires : goal.begin_call-requires
+begin_call-requires g c =
+    can_begin c.args.linked.now (record { formulas = g.formulas; wrote = [] }) c.args.method c.args.s.now (arguments c.args.args.now) c.requires.1.1.0 (each_number c.args.args.now)
+
 pub take_steps-requires : goal.take_steps-requires
 take_steps-requires g c =
-    let reached = subst (λ (r : Result Unit Ended). OnOk r (IsReached c.args.linked.now (record { formulas = g.formulas; wrote = [] }) c.begin_call.new.s)) c.in-Ok.is c.begin_call.ensures.reached in
+    let out : Outer = record { formulas = g.formulas; wrote = [] } in
+    let begun = c.begin_call.ensures in
+    let reached = begins_reached c.args.linked.now out c.args.method c.args.s.now (arguments c.args.args.now) c.requires.1.1.0 (each_number c.args.args.now) c.begin_call.new.s c.begin_call.result c.in-Ok.field-0 c.in-Ok.is begun.step begun.sized begun.limit in
     λ κs among. (among.0, (among.1, (at_start c.args.linked.now g.formulas c.begin_call.new.s c.args.fuel (g.K.Sink.written c.args.sink.now) reached, (c.requires.1.1.1, refl))))
 
 pub returns-in-Ok-clause-replies : goal.returns-in-Ok-clause-replies

@@ -1,7 +1,7 @@
 use Rattle.std.proofs.Common.{◌≡◌, ◌∙◌, List, refl, sym, ap, subst}
 use Rattle.std.specs.Prelude.{Bool, Err}
 use Rattle.abc_run_calls.specs.Arguments.{IsKnown}
-use Rattle.abc_run_finish.proofs.Sounding.{scripts_there}
+use Rattle.abc_machine.proofs.Sounding.{scripts_there}
 use Rattle.abc_run_finish.specs.declared.halts.Halt.TheVariants.{Fails}
 use Rattle.abc_machine.proofs.Lined.{rose_on}
 use Rattle.abc_machine.proofs.Noted.{few_flags, left_one_more, logs_front, logs_on, seen_left}

@@ -2,7 +2,7 @@ use Rattle.std.proofs.Common.{◌≡◌, ℕ, List, sym, ◌∙◌, subst}
 use Rattle.std.specs.Prelude.{Bool, None}
 use Rattle.std.specs.declared.result.Result.{Result}
 use Rattle.abc_base.specs.Sinks.{WritesAll}
-use Rattle.abc_run_finish.proofs.Sounding.{can_start, scripts_few, scripts_there}
+use Rattle.abc_machine.proofs.Sounding.{can_start, scripts_few, scripts_there}
 use Rattle.abc_run_finish.specs.Steps.{step_here}
 use Rattle.abc_run_finish.specs.declared.halts.Halt.{Halt}
 use Rattle.abc_machine.specs.Logging.{LogsAs}

@@ -3,7 +3,7 @@ use Rattle.std.specs.Prelude.{Ok, Err}
 use Rattle.std.specs.declared.result.Result.{Result}
 use Rattle.abc_heap_values.specs.declared.values.Value.{Value}
 use Rattle.abc_run_calls.specs.Arguments.{IsKnown}
-use Rattle.abc_run_finish.proofs.Sounding.{can_start, scripts_there}
+use Rattle.abc_machine.proofs.Sounding.{can_start, scripts_there}
 use Rattle.abc_run_finish.specs.Steps.{StepsAs}
 use Rattle.abc_run_finish.specs.declared.halts.Halt.{Halt}
 use Rattle.abc_run_finish.specs.declared.halts.Halt.TheVariants.{Fails, Returns}
@@ -35,21 +35,21 @@ finish_left-requires g c =
     let l = c.args.linked.now in
     let s = c.args.s.now in
     let live = some_left s.frames.living c.depth.result c.depth.ensures c.if-depth-eq0.false in
-    let known = subst (IsKnown l) (sym c.run_held.ensures.limit) c.requires.1.1.0.known in
-    let fair = fair_left l g.out s c.requires.1.1.0 live c.run_held.new.left c.run_held.new.s c.run_held.ensures.leaves in
-    λ κs among. (among.0, (among.1, (known, (scripts_there l g.out s c.requires.1.1.0, (c.requires.1.1.1.0, (c.run_held.ensures.finishes, (fair, c.requires.1.1.1.1.1.1)))))))
+    let known = subst (IsKnown l) (sym c.run_held.ensures.dispatches.limit) c.requires.1.1.0.known in
+    let fair = fair_left l g.out s c.requires.1.1.0 live c.run_held.new.left c.run_held.new.s c.run_held.ensures.dispatches.leaves in
+    λ κs among. (among.0, (among.1, (known, (scripts_there l g.out s c.requires.1.1.0, (c.requires.1.1.1.0, (c.run_held.ensures.dispatches.finishes, (fair, c.requires.1.1.1.1.1.1)))))))
 
 pub returns-clause-step : goal.returns-clause-step
 returns-clause-step g c =
     let s = c.args.s.now in
     let live = some_left s.frames.living c.depth.result c.depth.ensures c.if-depth-eq0.false in
-    steps_left c.args.linked.now g.out s c.requires.1.1.0 live c.run_held.new.left c.run_held.new.s c.run_held.ensures.leaves c.finish_left.new.halted c.finish_left.new.s (g.K.Sink.written c.args.sink.now) (g.K.Sink.written c.finish_left.new.sink) c.finish_left.ensures.step
+    steps_left c.args.linked.now g.out s c.requires.1.1.0 live c.run_held.new.left c.run_held.new.s c.run_held.ensures.dispatches.leaves c.finish_left.new.halted c.finish_left.new.s (g.K.Sink.written c.args.sink.now) (g.K.Sink.written c.finish_left.new.sink) c.finish_left.ensures.step
 
 pub returns-clause-value : goal.returns-clause-value
 returns-clause-value g c = λ v e.
     let s = c.args.s.now in
     let live = some_left s.frames.living c.depth.result c.depth.ensures c.if-depth-eq0.false in
-    returned_left c.args.linked.now g.out s c.requires.1.1.0 live c.run_held.new.left c.run_held.new.s c.run_held.ensures.leaves v (c.finish_left.ensures.value v e)
+    returned_left c.args.linked.now g.out s c.requires.1.1.0 live c.run_held.new.left c.run_held.new.s c.run_held.ensures.dispatches.leaves v (c.finish_left.ensures.value v e)
 
 pub returns-then-depth-eq0-clause-step : goal.returns-then-depth-eq0-clause-step
 returns-then-depth-eq0-clause-step g c = c.start_over.ensures.step (g.K.Sink.written c.args.sink.now)
@@ -64,7 +64,7 @@ returns-then-run_held-clause-step g c =
     let s = c.args.s.now in
     let live = some_left s.frames.living c.depth.result c.depth.ensures c.if-depth-eq0.false in
     let wrote = g.K.Sink.written c.args.sink.now in
-    subst (λ (r : Result Unit Halt). StepsAs l g.out s r c.run_held.new.s wrote wrote) (sym c.requires.1.1.1.1.1.1) (goes_step l g.out s c.requires.1.1.0 live c.run_held.new.left c.run_held.new.s c.run_held.ensures.leaves (c.run_held.ensures.goes c.if-run_held.true) wrote)
+    subst (λ (r : Result Unit Halt). StepsAs l g.out s r c.run_held.new.s wrote wrote) (sym c.requires.1.1.1.1.1.1) (goes_step l g.out s c.requires.1.1.0 live c.run_held.new.left c.run_held.new.s c.run_held.ensures.dispatches.leaves (c.run_held.ensures.dispatches.goes c.if-run_held.true) wrote)
 
 pub returns-then-run_held-clause-value : goal.returns-then-run_held-clause-value
 returns-then-run_held-clause-value g c = λ v e. absurd (not_ended c.args.halted.now (Returns v) c.requires.1.1.1.1.1.1 e)
@@ -73,10 +73,10 @@ pub returns-then-run_held-clause-sized : goal.returns-then-run_held-clause-sized
 returns-then-run_held-clause-sized g c =
     let s = c.args.s.now in
     let live = some_left s.frames.living c.depth.result c.depth.ensures c.if-depth-eq0.false in
-    λ h. goes_sized c.args.linked.now g.out s c.requires.1.1.0 live c.run_held.new.left c.run_held.new.s c.run_held.ensures.leaves (c.run_held.ensures.goes c.if-run_held.true)
+    λ h. goes_sized c.args.linked.now g.out s c.requires.1.1.0 live c.run_held.new.left c.run_held.new.s c.run_held.ensures.dispatches.leaves (c.run_held.ensures.dispatches.goes c.if-run_held.true)
 
 pub returns-then-run_held-clause-cause : goal.returns-then-run_held-clause-cause
 returns-then-run_held-clause-cause g c = λ e. absurd (not_ended c.args.halted.now Fails c.requires.1.1.1.1.1.1 e)
 
 pub returns-then-run_held-clause-none : goal.returns-then-run_held-clause-none
-returns-then-run_held-clause-none g c = c.run_held.ensures.goes c.if-run_held.true
+returns-then-run_held-clause-none g c = c.run_held.ensures.dispatches.goes c.if-run_held.true

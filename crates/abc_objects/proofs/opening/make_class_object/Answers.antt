@@ -2,8 +2,8 @@ use Rattle.std.proofs.Common.{◌<◌, ap, arith, length, sym, subst}
 use Rattle.abc_base.specs.declared.names.HostClass.TheVariants as hosts
 use Rattle.abc_heap_store.specs.Heap.{Heap, slots_of}
 use Rattle.abc_heap_store.specs.declared.records.What.TheVariants as whats
-use Rattle.abc_link_program.specs.Linked.{layout_of}
-use Rattle.abc_link_program.specs.declared.part.Part.TheVariants as parts
+use Rattle.abc_link_names.specs.Linked.{layout_of}
+use Rattle.abc_link_names.specs.declared.part.Part.TheVariants as parts
 use Rattle.abc_objects.specs.Opening.{opened}
 use Rattle.abc_objects.proofs.Opened.{class_slots}
 use Rattle.abc_objects.proofs.Steps.{class_written, last_slots, starts_count}

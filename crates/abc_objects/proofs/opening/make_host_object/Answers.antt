@@ -2,7 +2,7 @@ use Rattle.std.proofs.Common.{◌∷◌, [], arith, length, length-append, ap}
 use Rattle.abc_base.specs.declared.names.HostClass.TheVariants as hosts
 use Rattle.abc_heap_store.specs.Heap.{Heap}
 use Rattle.abc_heap_store.specs.declared.records.What.TheVariants as whats
-use Rattle.abc_link_program.specs.declared.part.Part.TheVariants as parts
+use Rattle.abc_link_names.specs.declared.part.Part.TheVariants as parts
 use Rattle.abc_objects.specs.Opening.{host_properties, opened, spans_from, with_more_properties}
 use Rattle.abc_objects.proofs.Steps.{last_changed, opened_cells, plain_slots, room_on}
 use Rattle.abc_objects.proofs.opening.make_host_object.Goals as goal

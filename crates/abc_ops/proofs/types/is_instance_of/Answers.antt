@@ -1,8 +1,8 @@
 use Rattle.std.proofs.Common.{◌<◌, ◌∙◌, ℕ, ◌↔◌, IsTrue, length, ap, subst, sym}
 use Rattle.abc_heap_values.specs.declared.values.Value.{Value}
-use Rattle.abc_link_program.specs.Numbering.{part_at}
-use Rattle.abc_link_program.specs.Parts.{HasLayout}
-use Rattle.abc_link_program.specs.declared.part.Part.{Part}
+use Rattle.abc_link_names.specs.Numbering.{part_at}
+use Rattle.abc_link_names.specs.Parts.{HasLayout}
+use Rattle.abc_link_names.specs.declared.part.Part.{Part}
 use Rattle.abc_objects.proofs.Started.{part_has}
 use Rattle.abc_objects.specs.Values.{Exists}
 use Rattle.abc_ops.specs.Types.{IsInstanceOf, NamesInterface}

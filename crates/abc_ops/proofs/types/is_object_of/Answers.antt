@@ -1,15 +1,12 @@
 use Rattle.std.proofs.Common.{◌↔◌, IsTrue, ℕ, subst, sym}
 use Rattle.abc_heap_values.specs.declared.values.Value.{Value}
 use Rattle.abc_objects.specs.Values.{Exists}
-use Rattle.abc_link_program.specs.Tree.{IsBelow}
+use Rattle.abc_link_names.specs.Tree.{IsBelow}
 use Rattle.abc_ops.specs.Types.{IsObjectOf}
 use Rattle.abc_ops.proofs.types.is_object_of.Goals as goal
 
 pub layout-requires : goal.layout-requires
 layout-requires c = subst (Exists c.args.l.now c.args.a.now) c.in-Obj.is c.requires.value
-
-pub is_below-requires : goal.is_below-requires
-is_below-requires c = c.requires.over.linked
 
 pub returns-in-Obj : goal.returns-in-Obj
 returns-in-Obj c =

@@ -1,5 +1,5 @@
 use Rattle.std.proofs.Common.{subst}
-use Rattle.abc_link_program.specs.Parts.{HasLayout}
+use Rattle.abc_link_names.specs.Parts.{HasLayout}
 use Rattle.abc_ops.proofs.types.names_interface.Goals as goal
 
 pub implements-requires : goal.implements-requires

@@ -13,4 +13,4 @@ returns g c =
     let p = setting c.args.machine.now.linked (g.H.Host.formulas c.args.host.now) in
     let limits = c.args.machine.now.limits in
     run_written (log p limits c.args.fuel) (meaning p limits c.args.fuel) (steps p limits c.args.fuel) c.from.result _ _ _ _ c.run_logged.result
-    (c.run_logged.ensures.logs c.requires.begun) (c.run_logged.ensures.cause c.requires.begun) (λ went. c.from.ensures ∙ c.steps.ensures ∙ c.run_logged.ensures.steps c.requires.begun went)
+    (c.run_logged.ensures.logs c.requires.begun) (c.run_logged.ensures.cause c.requires.begun) (λ went. c.from.ensures ∙ c.steps.ensures ∙ (c.run_logged.ensures.leaves c.requires.begun).steps went)

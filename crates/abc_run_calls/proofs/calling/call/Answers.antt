@@ -1,4 +1,4 @@
-use Rattle.std.proofs.Common.{◌∙◌, ap, subst}
+use Rattle.std.proofs.Common.{rules, ◌∙◌, ap, subst}
 use Rattle.abc_meaning.specs.At.{Act}
 use Rattle.abc_objects.specs.Values.{Exists}
 use Rattle.abc_frames.specs.Frame.{arguments, newest}
@@ -17,18 +17,21 @@ call_what-requires g c =
     let s = c.args.s.now in
     let q = s.frames in
     let o = c.in-Obj.o in
-    let inside = subst (Exists l s.arena) c.in-Obj.is c.requires.1.1.1.1.0 in
+    let inside = subst (Exists l s.arena) c.in-Obj.is c.requires.1.1.1 in
     let is = called_is p o c.what-what.result c.args.callee c.args.receiver (arguments c.args.count (newest q)) (world s g.out) c.in-Obj.is inside c.what-what.ensures in
-    let free = subst (λ (x : Outcome Act). IsOpen x) (ap (λ r. and_then r (settles c.args.how (newest q))) is) c.requires.1.1.1.1.1 in
-    (c.requires.0, (c.requires.1.0, (c.requires.1.1.0, (c.requires.1.1.1.0, (what_names l s.arena o.0 c.what-what.result c.requires.0.over inside c.what-what.ensures, free)))))
+    let free = subst (λ (x : Outcome Act). IsOpen x) (ap (λ r. and_then r (settles c.args.how (newest q))) is) c.requires.0.free in (record { set = c.requires.0.set; known = c.requires.0.known; free = free }, (c.requires.1.0, (c.requires.1.1.0, what_names l s.arena o.0 c.what-what.result c.requires.0.set.over inside c.what-what.ensures)))
 
-pub returns-clause-leaves : goal.returns-clause-leaves
-returns-clause-leaves g c =
-    let l = c.args.linked.now in
-    let p = setting l g.out in
-    let s = c.args.s.now in
-    let q = s.frames in
-    let o = c.in-Obj.o in
-    let inside = subst (Exists l s.arena) c.in-Obj.is c.requires.1.1.1.1.0 in
-    let is = called_is p o c.what-what.result c.args.callee c.args.receiver (arguments c.args.count (newest q)) (world s g.out) c.in-Obj.is inside c.what-what.ensures in
-    ap (λ r. turned p q (and_then r (settles c.args.how (newest q)))) is ∙ c.call_what.ensures.leaves
+pub returns : goal.returns
+returns g c = record {
+  leaves =
+      let l = c.args.linked.now in
+      let p = setting l g.out in
+      let s = c.args.s.now in
+      let q = s.frames in
+      let o = c.in-Obj.o in
+      let inside = subst (Exists l s.arena) c.in-Obj.is c.requires.1.1.1 in
+      let is = called_is p o c.what-what.result c.args.callee c.args.receiver (arguments c.args.count (newest q)) (world s g.out) c.in-Obj.is inside c.what-what.ensures in
+      ap (λ r. turned p q (and_then r (settles c.args.how (newest q)))) is ∙ c.call_what.ensures.leaves;
+  finishes = search rules;
+  limit = search rules;
+}

@@ -1,6 +1,6 @@
 use Rattle.std.proofs.Common.{◌≡◌, ◌∙◌, ap, subst, sym}
 use Rattle.abc_heap_values.specs.declared.values.Value.TheVariants.{Obj}
-use Rattle.abc_link_program.specs.declared.types.Owner.{Owner}
+use Rattle.abc_link_names.specs.declared.types.Owner.{Owner}
 use Rattle.abc_frames.specs.Frame.{newest}
 use Rattle.abc_run_state.proofs.AtOnce.{done_as}
 use Rattle.abc_meaning.specs.At.{Act}

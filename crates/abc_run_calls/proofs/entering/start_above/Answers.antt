@@ -1,4 +1,4 @@
-use Rattle.std.proofs.Common.{◌≤◌, ◌∙◌, length, get_or, ap, subst, sym, arith}
+use Rattle.std.proofs.Common.{rules, ◌≤◌, ◌∙◌, length, get_or, ap, subst, sym, arith}
 use Rattle.abc_meaning.specs.At.{Act}
 use Rattle.abc_frames.specs.Frame.{newest}
 use Rattle.abc_run_state.specs.Outer.{setting, world}
@@ -17,18 +17,20 @@ enter-requires g c =
     let p = setting c.args.linked.now g.out in
     let s = c.args.s.now in
     let file = c.args.linked.now.file in
-    let init = init_is file c.args.script c.get.result.now c.requires.1.1.1.0 (ap (λ (v : Abc). get_or v.scripts c.args.script c.get.result.now) (sym c.abc.ensures) ∙ c.get.ensures) in
+    let init = init_is file c.args.script c.get.result.now c.requires.1.1.0 (ap (λ (v : Abc). get_or v.scripts c.args.script c.get.result.now) (sym c.abc.ensures) ∙ c.get.ensures) in
     let is = starts_is p c.args.script (newest s.frames) (world s g.out) c.set.new.self c.global_of-this.result c.get.result.now.init c.set.ensures (c.global_of-this.ensures.is g.out) init in
     let s1 : State = record s { started = c.set.new.self } in
-    let set : IsSet c.args.linked.now s1 = record { over = c.requires.0.over; frame = c.requires.0.frame } in
-    let none : 0 ≤ length (newest s.frames).stack = omega arith in
-    (set, (c.requires.1.0, (c.requires.1.1.0, (none, (none, subst (λ (o : Outcome Act). IsOpen o) is c.requires.1.1.1.1.1)))))
+    let set : IsSet c.args.linked.now s1 = record { over = c.requires.0.set.over; frame = c.requires.0.set.frame } in
+    let none : 0 ≤ length (newest s.frames).stack = omega arith in (record { set = set; known = c.requires.0.known; free = subst (λ (o : Outcome Act). IsOpen o) is c.requires.0.free }, (c.requires.1.0, (none, none)))
 
-pub returns-clause-runs : goal.returns-clause-runs
-returns-clause-runs g c =
-    let p = setting c.args.linked.now g.out in
-    let s = c.args.s.now in
-    let file = c.args.linked.now.file in
-    let init = init_is file c.args.script c.get.result.now c.requires.1.1.1.0 (ap (λ (v : Abc). get_or v.scripts c.args.script c.get.result.now) (sym c.abc.ensures) ∙ c.get.ensures) in
-    let is = starts_is p c.args.script (newest s.frames) (world s g.out) c.set.new.self c.global_of-this.result c.get.result.now.init c.set.ensures (c.global_of-this.ensures.is g.out) init in
-    ap (turned p s.frames) is ∙ c.enter.ensures.runs
+pub returns : goal.returns
+returns g c = record {
+  runs =
+      let p = setting c.args.linked.now g.out in
+      let s = c.args.s.now in
+      let file = c.args.linked.now.file in
+      let init = init_is file c.args.script c.get.result.now c.requires.1.1.0 (ap (λ (v : Abc). get_or v.scripts c.args.script c.get.result.now) (sym c.abc.ensures) ∙ c.get.ensures) in
+      let is = starts_is p c.args.script (newest s.frames) (world s g.out) c.set.new.self c.global_of-this.result c.get.result.now.init c.set.ensures (c.global_of-this.ensures.is g.out) init in
+      ap (turned p s.frames) is ∙ c.enter.ensures.runs;
+  limit = search rules;
+}

@@ -3,8 +3,8 @@ use Rattle.std.proofs.lemmas.Result.{err_from_is_err_and}
 use Rattle.abc_run_state.proofs.Keeping.{set_stays, stays_on}
 use Rattle.abc_run_state.proofs.Made.{no_array, other_class, part_is}
 use Rattle.abc_objects.specs.Stands.{array_layout}
-use Rattle.abc_link_program.specs.declared.part.LayoutId.{LayoutId}
-use Rattle.abc_link_program.specs.declared.part.Part.TheVariants as parts
+use Rattle.abc_link_names.specs.declared.part.LayoutId.{LayoutId}
+use Rattle.abc_link_names.specs.declared.part.Part.TheVariants as parts
 use Rattle.abc_frames.specs.Frame.{arguments, newest}
 use Rattle.abc_run_state.specs.Outer.{setting, world}
 use Rattle.abc_run_state.specs.Stops.{why}

@@ -1,7 +1,7 @@
 use Rattle.std.proofs.Common.{◌<◌, ◌∙◌, length, get_or, ap, subst, sym}
 use Rattle.abc_run_state.specs.Outer.{setting}
 use Rattle.abc_file_types.specs.declared.tables.Abc.{Abc}
-use Rattle.abc_link_program.proofs.MethodBodies.{body_inside}
+use Rattle.abc_link_names.proofs.MethodBodies.{body_inside}
 use Rattle.abc_run_calls.proofs.Bodied.{size_is, sized}
 use Rattle.abc_run_calls.proofs.methods.size_of.Goals as goal
 

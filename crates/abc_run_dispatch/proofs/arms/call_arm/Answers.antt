@@ -1,6 +1,6 @@
 use Rattle.abc_run_dispatch.proofs.Dispatched.{dispatches_left}
 use Rattle.abc_file_types.specs.declared.code.Instr.TheVariants.{One}
-use Rattle.abc_run_values.specs.declared.op.TheConstants.{CALL}
+use Rattle.abc_file_types.specs.declared.op.TheConstants.{CALL}
 use Rattle.abc_run_dispatch.proofs.arms.call_arm.Goals as goal
 
 pub returns : goal.returns

@@ -1,6 +1,6 @@
 use Rattle.abc_run_dispatch.proofs.Dispatched.{dispatches_run}
 use Rattle.abc_file_types.specs.declared.code.Instr.TheVariants.{One}
-use Rattle.abc_run_values.specs.declared.op.TheConstants.{NEWCLASS}
+use Rattle.abc_file_types.specs.declared.op.TheConstants.{NEWCLASS}
 use Rattle.abc_run_dispatch.proofs.arms.class_arm.Goals as goal
 
 pub returns : goal.returns

@@ -2,8 +2,8 @@ use Rattle.std.proofs.Common.{◌≡◌, ◌<◌, get_or, length, sym, ap, ◌�
 use Rattle.std.specs.Prelude.{Some}
 use Rattle.abc_run_dispatch.proofs.Coded.{code_is}
 use Rattle.abc_run_dispatch.specs.Held.{code_in}
-use Rattle.abc_link_program.proofs.MethodBodies.{body_inside}
-use Rattle.abc_link_program.specs.Owners.{body_of}
+use Rattle.abc_link_names.proofs.MethodBodies.{body_inside}
+use Rattle.abc_link_names.specs.Owners.{body_of}
 use Rattle.abc_file_types.specs.declared.tables.Abc.{Abc}
 use Rattle.abc_run_dispatch.proofs.holding.hold.Goals as goal
 

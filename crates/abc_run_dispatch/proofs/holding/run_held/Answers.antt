@@ -2,7 +2,7 @@ use Rattle.std.proofs.Common.{◌≡◌, ap, ◌∙◌, sym}
 use Rattle.std.specs.Prelude.{Some, slice_get}
 use Rattle.abc_run_dispatch.proofs.Led.{run_as, runs_here}
 use Rattle.abc_run_dispatch.specs.Ready.{CanStep}
-use Rattle.abc_link_program.specs.Linked.{LinkedFile}
+use Rattle.abc_link_names.specs.Linked.{LinkedFile}
 use Rattle.abc_frames.specs.Frame.{newest}
 use Rattle.abc_meaning.specs.At.{Act}
 use Rattle.abc_run_state.specs.Outer.{Outer, setting, world}
@@ -31,9 +31,15 @@ run_instr-requires g c =
       none = c.requires.1.1.1;
     }
 
-pub returns-clause-leaves : goal.returns-clause-leaves
-returns-clause-leaves g c =
+pub returns-clause-dispatches : goal.returns-clause-dispatches
+returns-clause-dispatches g c =
     let can = c.requires.0 in
     let p = setting c.args.linked.now g.out in
     let q = c.args.s.now.frames in
-    ap (λ (o : Outcome Act). turned p q o) (runs_here p (world c.args.s.now g.out) (newest q) can.routine c.instr_here-instr.result.now can.body (c.instr_here-instr.ensures can.routine can.body)) ∙ c.run_instr.ensures.leaves
+    let does = c.run_instr.ensures in
+    record {
+      leaves = ap (λ (o : Outcome Act). turned p q o) (runs_here p (world c.args.s.now g.out) (newest q) can.routine c.instr_here-instr.result.now can.body (c.instr_here-instr.ensures can.routine can.body)) ∙ does.leaves;
+      finishes = does.finishes;
+      goes = does.goes;
+      limit = does.limit;
+    }

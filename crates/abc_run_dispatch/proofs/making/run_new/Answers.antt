@@ -6,7 +6,7 @@ use Rattle.abc_file_types.specs.declared.code.Instr.TheVariants.{One}
 use Rattle.abc_run_dispatch.proofs.making.run_new.Goals as goal
 
 pub new_function-requires : goal.new_function-requires
-new_function-requires g c = let can = can_at c.args.linked.now g.out c.args.s.now (λ o. One o c.args.n) c.args.op 64 c.in-64.is c.requires.0 in let d = op_40 c.args.linked.now g.out c.args.s.now c.args.n can in record { set = can.set; ready = d.0.ready; method = d.1; few = c.requires.1.0 }
+new_function-requires g c = let can = can_at c.args.linked.now g.out c.args.s.now (λ o. One o c.args.n) c.args.op 64 c.in-64.is c.requires.0 in let d = op_40 c.args.linked.now g.out c.args.s.now c.args.n can in record { set = can.set; ready = d.0.ready; method = d.1 }
 
 pub returns-in-64 : goal.returns-in-64
 returns-in-64 g c = record {

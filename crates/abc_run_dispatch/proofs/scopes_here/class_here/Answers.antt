@@ -1,6 +1,6 @@
 use Rattle.std.proofs.Common.{◌∙◌, ap, subst, sym}
-use Rattle.abc_link_program.specs.Owners.{owner_of}
-use Rattle.abc_link_program.specs.declared.types.Owner.{Owner}
+use Rattle.abc_link_names.specs.Owners.{owner_of}
+use Rattle.abc_link_names.specs.declared.types.Owner.{Owner}
 use Rattle.abc_run_dispatch.specs.Homes.{HasHome, class_of}
 use Rattle.abc_run_dispatch.proofs.scopes_here.class_here.Goals as goal
 

@@ -1,10 +1,10 @@
 use Rattle.std.proofs.Common.{◌∙◌, ap, subst, sym}
 use Rattle.std.specs.Prelude.{Some}
 use Rattle.abc_objects.proofs.Made.{part_found}
-use Rattle.abc_link_program.specs.Linked.{IsLayout}
-use Rattle.abc_link_program.specs.Owners.{owner_of}
-use Rattle.abc_link_program.specs.declared.part.LayoutId.{LayoutId}
-use Rattle.abc_link_program.specs.declared.part.Part.TheVariants as parts
+use Rattle.abc_link_names.specs.Linked.{IsLayout}
+use Rattle.abc_link_names.specs.Owners.{owner_of}
+use Rattle.abc_link_names.specs.declared.part.LayoutId.{LayoutId}
+use Rattle.abc_link_names.specs.declared.part.Part.TheVariants as parts
 use Rattle.abc_frames.specs.Frame.{newest}
 use Rattle.abc_run_dispatch.proofs.Homes.{home_layout}
 use Rattle.abc_run_dispatch.proofs.scopes_here.layout_here.Goals as goal

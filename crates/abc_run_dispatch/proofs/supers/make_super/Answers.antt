@@ -1,5 +1,5 @@
 use Rattle.std.proofs.Common.{◌+◌}
-use Rattle.abc_link_program.specs.Owners.{owner_of}
+use Rattle.abc_link_names.specs.Owners.{owner_of}
 use Rattle.abc_frames.specs.Frame.{newest}
 use Rattle.abc_file_types.specs.declared.code.Instr.TheVariants.{One}
 use Rattle.abc_run_values.proofs.Doing.{open_as, turns_as}

@@ -2,8 +2,8 @@ use Rattle.std.proofs.Common.{◌∙◌}
 use Rattle.abc_base.specs.Hosts.{arguments}
 use Rattle.abc_run_state.specs.Outer.{setting, world}
 use Rattle.abc_run_state.specs.Stops.{why}
-use Rattle.abc_run_finish.proofs.Begun.{call_open, can_end, goes_is, goes_reached, goes_sized, scripts_few, scripts_there, stops_is}
-use Rattle.abc_run_finish.proofs.Listed.{each_number, few_given, first_listed, given_exist}
+use Rattle.abc_run_finish.proofs.Begun.{call_open, can_end, goes_is, goes_sized, stops_is}
+use Rattle.abc_run_finish.proofs.Listed.{few_given, first_listed, given_exist}
 use Rattle.abc_run_finish.proofs.calling.begin_call.Goals as goal
 
 pub enter_alone-requires : goal.enter_alone-requires
@@ -16,29 +16,21 @@ enter_alone-requires g c =
     let can = c.requires in
     let ns = arguments args in
     let is = first_listed args c.four_values-values.result given c.four_values-values.ensures c.first_values-given.ensures in
-    let number = each_number args in
-    (can.sound.stands, (given_exist (setting l g.out) (world s g.out) args given is, (few_given args given is, (can.none, (can.known, (scripts_there l g.out m s ns given can number is, (scripts_few l g.out m s ns given can number is, call_open l g.out m s ns given can number is)))))))
+    (can.over, (given_exist (setting l g.out) (world s g.out) args given is, (few_given args given is, (can.none, (can.known, (can.scripts, (can.few, call_open l g.out m s ns given can is)))))))
 
 pub returns-in-Ok-clause-step : goal.returns-in-Ok-clause-step
 returns-in-Ok-clause-step g c =
     let args = c.args.args.now in
     let given = c.first_values-given.result.now in
     let is = first_listed args c.four_values-values.result given c.four_values-values.ensures c.first_values-given.ensures in
-    goes_is c.args.linked.now g.out c.args.method c.args.s.now (arguments args) given c.requires (each_number args) is c.enter_alone.new.s c.in-Ok.ensures.begins
-
-pub returns-in-Ok-clause-reached : goal.returns-in-Ok-clause-reached
-returns-in-Ok-clause-reached g c =
-    let args = c.args.args.now in
-    let given = c.first_values-given.result.now in
-    let is = first_listed args c.four_values-values.result given c.four_values-values.ensures c.first_values-given.ensures in
-    goes_reached c.args.linked.now g.out c.args.method c.args.s.now (arguments args) given c.requires (each_number args) is c.enter_alone.new.s c.in-Ok.ensures.begins c.in-Ok.ensures.limit
+    goes_is c.args.linked.now g.out c.args.method c.args.s.now (arguments args) given c.requires is c.enter_alone.new.s c.in-Ok.ensures.begins
 
 pub returns-in-Ok-clause-sized : goal.returns-in-Ok-clause-sized
 returns-in-Ok-clause-sized g c =
     let args = c.args.args.now in
     let given = c.first_values-given.result.now in
     let is = first_listed args c.four_values-values.result given c.four_values-values.ensures c.first_values-given.ensures in
-    goes_sized c.args.linked.now g.out c.args.method c.args.s.now (arguments args) given c.requires (each_number args) is c.enter_alone.new.s c.in-Ok.ensures.begins
+    goes_sized c.args.linked.now g.out c.args.method c.args.s.now (arguments args) given c.requires is c.enter_alone.new.s c.in-Ok.ensures.begins
 
 pub call_stopped-requires : goal.call_stopped-requires
 call_stopped-requires g c =
@@ -49,14 +41,13 @@ call_stopped-requires g c =
     let given = c.first_values-given.result.now in
     let can = c.requires in
     let is = first_listed args c.four_values-values.result given c.four_values-values.ensures c.first_values-given.ensures in
-    let number = each_number args in
-    let end = can_end l g.out m s (arguments args) given can number is c.enter_alone.new.s c.in-Err.stop c.in-Err.ensures.begins in
-    (end.over, (scripts_there l g.out m s (arguments args) given can number is, (end.none, (end.value, (end.sized, end.free)))))
+    let end = can_end l g.out m s (arguments args) given can is c.enter_alone.new.s c.in-Err.stop c.in-Err.ensures.begins in
+    (end.over, (can.scripts, (end.none, (end.value, (end.sized, end.free)))))
 
 pub returns-in-Err-clause-step : goal.returns-in-Err-clause-step
 returns-in-Err-clause-step g c =
     let args = c.args.args.now in
     let given = c.first_values-given.result.now in
     let is = first_listed args c.four_values-values.result given c.four_values-values.ensures c.first_values-given.ensures in
-    stops_is c.args.linked.now g.out c.args.method c.args.s.now (arguments args) given c.requires (each_number args) is c.enter_alone.new.s (why c.in-Err.stop) c.in-Err.ensures.begins
+    stops_is c.args.linked.now g.out c.args.method c.args.s.now (arguments args) given c.requires is c.enter_alone.new.s (why c.in-Err.stop) c.in-Err.ensures.begins
     ∙ c.call_stopped.ensures.step

@@ -6,7 +6,7 @@ use Rattle.abc_run_calls.specs.Entering.{placed}
 use Rattle.abc_run_finish.proofs.Started.{begins_stops}
 use Rattle.abc_run_finish.specs.Starting.{begins, frames_alone}
 use Rattle.abc_run_state.proofs.Keeping.{each_grown}
-use Rattle.abc_link_program.specs.declared.types.Owner.{Owner}
+use Rattle.abc_link_names.specs.declared.types.Owner.{Owner}
 use Rattle.abc_frames.specs.Frame.{Frame, Frames}
 use Rattle.abc_run_state.specs.Outer.{setting, world}
 use Rattle.abc_run_state.specs.Stops.{IsOpen, why}

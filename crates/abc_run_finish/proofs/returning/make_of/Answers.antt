@@ -16,8 +16,7 @@ make-requires g c =
     let value = c.requires.1.1.1.1.1.0 in
     let this = c.requires.1.1.1.1.1.1.0 in
     let fair = c.requires.1.1.1.1.1.1.1.0 in
-    let most : c.args.count ≤ c.args.count = omega arith in
-    (c.requires.1.1.0, (c.requires.0, (ready, (most, (value, makes_open p s.frames c.args.v c.args.count (world s g.out) held this ready.live fair)))))
+    let most : c.args.count ≤ c.args.count = omega arith in (record { set = c.requires.1.1.0; known = c.requires.0; free = makes_open p s.frames c.args.v c.args.count (world s g.out) held this ready.live fair }, (ready, (most, value)))
 
 pub stopped-requires : goal.stopped-requires
 stopped-requires g c =

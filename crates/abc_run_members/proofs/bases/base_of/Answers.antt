@@ -1,12 +1,12 @@
 use Rattle.std.proofs.Common.{◌≢◌, ◌∙◌, ap, subst, sym}
 use Rattle.std.specs.declared.option.Option.{Option}
-use Rattle.abc_link_program.proofs.ClassBases.{bases_known, named_base, no_base}
+use Rattle.abc_link_names.proofs.ClassBases.{bases_known, named_base, no_base}
 use Rattle.abc_link_names.specs.Bases.{base_named}
 use Rattle.abc_link_names.specs.Instances.{instance_at}
 use Rattle.abc_link_names.specs.declared.named.Named.{Named}
-use Rattle.abc_link_program.specs.Linked.{above}
-use Rattle.abc_link_program.specs.declared.part.LayoutId.{LayoutId}
-use Rattle.abc_link_program.specs.ClassBases.{BaseKnown}
+use Rattle.abc_link_names.specs.Linked.{above}
+use Rattle.abc_link_names.specs.declared.part.LayoutId.{LayoutId}
+use Rattle.abc_link_names.specs.ClassBases.{BaseKnown}
 use Rattle.abc_file_types.specs.declared.tables.Abc.{Abc}
 use Rattle.abc_run_members.specs.Based.{IsClassPart, named_of}
 use Rattle.abc_run_members.proofs.BasesKnown.{base_found, base_is_class, base_known, same_base}

@@ -1,7 +1,7 @@
 use Rattle.std.proofs.Common.{◌≡◌, ◌∙◌, ℕ, ◌<◌, ap, length, subst, sym}
 use Rattle.abc_heap_store.specs.Heap.{object_at}
-use Rattle.abc_heap_search.specs.Searches.{declared_found}
-use Rattle.abc_heap_search.specs.declared.found.Found.{Found}
+use Rattle.abc_objects.specs.Searches.{declared_found}
+use Rattle.abc_objects.specs.declared.found.Found.{Found}
 use Rattle.abc_meaning.specs.Supers.{strict}
 use Rattle.abc_run_state.proofs.Things.{layout_there}
 use Rattle.abc_run_members.specs.Found.{IsDeclared, found_above}

@@ -15,22 +15,7 @@ pub enter_owned-requires : goal.enter_owned-requires
 enter_owned-requires g c =
     let l = c.args.linked.now in
     let p = setting l g.out in
-    let is = initializer_is c.abc.result.now l.file c.args.class c.get.result.now c.abc.ensures (class_counted l c.linked_law.ensures c.args.class c.requires.1.1) c.get.ensures in (
-      c.requires.0.set,
-      (
-        c.requires.0.known,
-        (
-          c.requires.1.0.live,
-          (
-            omega arith,
-            (
-              c.requires.1.0.operands,
-              subst IsOpen (initializes p c.args.class c.get.result.now.cinit c.args.made (Obj c.args.made) (newest c.args.s.now.frames) (world c.args.s.now g.out) is refl) c.requires.0.free,
-            ),
-          ),
-        ),
-      ),
-    )
+    let is = initializer_is c.abc.result.now l.file c.args.class c.get.result.now c.abc.ensures (class_counted l c.linked_law.ensures c.args.class c.requires.1.1) c.get.ensures in (record { set = c.requires.0.set; known = c.requires.0.known; free = subst IsOpen (initializes p c.args.class c.get.result.now.cinit c.args.made (Obj c.args.made) (newest c.args.s.now.frames) (world c.args.s.now g.out) is refl) c.requires.0.free }, (c.requires.1.0.live, (omega arith, c.requires.1.0.operands)))
 
 pub returns : goal.returns
 returns g c = record {

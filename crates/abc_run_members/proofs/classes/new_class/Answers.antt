@@ -7,7 +7,7 @@ use Rattle.abc_run_members.proofs.ScopesBased.{made_twice, unmade_is}
 use Rattle.abc_run_members.proofs.classes.new_class.Goals as goal
 
 pub class_object-requires : goal.class_object-requires
-class_object-requires g c = omega (arith, c.requires.1.1.0, c.requires.0.set.over.counted)
+class_object-requires g c = omega (arith, c.requires.1.1, c.requires.0.set.over.counted)
 
 pub returns-in-Some : goal.returns-in-Some
 returns-in-Some g c = record {
@@ -19,7 +19,7 @@ returns-in-Some g c = record {
 }
 
 pub make_unmade-requires : goal.make_unmade-requires
-make_unmade-requires g c = (record { set = c.requires.0.set; known = c.requires.0.known; free = subst IsOpen (unmade_is (setting c.args.linked.now g.out) c.args.class (newest c.args.s.now.frames) (world c.args.s.now g.out) (sym c.in-None.ensures)) c.requires.0.free }, (c.requires.1.0, (c.requires.1.1.0, (sym c.in-None.ensures, c.requires.1.1.1))))
+make_unmade-requires g c = (record { set = c.requires.0.set; known = c.requires.0.known; free = subst IsOpen (unmade_is (setting c.args.linked.now g.out) c.args.class (newest c.args.s.now.frames) (world c.args.s.now g.out) (sym c.in-None.ensures)) c.requires.0.free }, (c.requires.1.0, (c.requires.1.1, sym c.in-None.ensures)))
 
 pub returns-in-None : goal.returns-in-None
 returns-in-None g c = record {

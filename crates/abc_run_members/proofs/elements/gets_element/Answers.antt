@@ -15,7 +15,7 @@ use Rattle.abc_run_members.proofs.Parts.{next_turns}
 use Rattle.abc_run_members.proofs.Settled.{value_goes}
 use Rattle.abc_run_members.proofs.AtOnce.{text_got}
 use Rattle.abc_run_members.proofs.Told.{element_read, name_made, told_stays}
-use Rattle.abc_heap_search.specs.declared.name.Name.{Name}
+use Rattle.abc_objects.specs.declared.name.Name.{Name}
 use Rattle.abc_frames.specs.Frame.{Frame, newest}
 use Rattle.abc_run_state.specs.Outer.{at_heap, setting, world}
 use Rattle.abc_run_state.specs.Settling.{settles}

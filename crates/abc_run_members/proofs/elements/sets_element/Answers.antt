@@ -16,7 +16,7 @@ use Rattle.abc_run_members.proofs.Settled.{value_runs}
 use Rattle.abc_run_members.proofs.Written.{element_kept}
 use Rattle.abc_run_members.proofs.AtOnce.{text_put}
 use Rattle.abc_run_members.proofs.Told.{element_written, name_made, told_stays}
-use Rattle.abc_heap_search.specs.declared.name.Name.{Name}
+use Rattle.abc_objects.specs.declared.name.Name.{Name}
 use Rattle.abc_frames.specs.Frame.{Frame, newest}
 use Rattle.abc_run_state.specs.Outer.{at_heap, setting, world}
 use Rattle.abc_run_state.specs.Settling.{settles}

@@ -1,5 +1,5 @@
 use Rattle.std.proofs.Common.{rules, ◌∙◌, ap}
-use Rattle.abc_heap_search.specs.declared.found.Found.{Found}
+use Rattle.abc_objects.specs.declared.found.Found.{Found}
 use Rattle.abc_frames.specs.Frame.{arguments, newest}
 use Rattle.abc_run_state.specs.Outer.{setting, world}
 use Rattle.abc_run_state.specs.Settling.{settles}

@@ -26,23 +26,15 @@ value_found-requires g c = (
 
 pub call-requires : goal.call-requires
 call-requires g c = (
-  search rules,
-  (
-    search rules,
-    (
-      search rules,
-      (
-        search rules,
-        (
-          (c.in_ok-callee.ensures.there),
-          (let p = setting c.args.linked.now g.out in
-              let q = c.args.s.now.frames in
-              let w = world c.args.s.now g.out in
-              next_open q q (value_found p c.args.found c.args.v) (λ (f : Frame) (x : Value). calls p x c.args.receiver (arguments c.args.count f)) (λ (f : Frame). settles c.args.how f) w w c.in_ok-callee.callee c.in_ok-callee.ensures.part refl c.requires.0.free),
-        ),
-      ),
-    ),
-  ),
+  record {
+    set = search rules;
+    known = search rules;
+    free = (let p = setting c.args.linked.now g.out in
+        let q = c.args.s.now.frames in
+        let w = world c.args.s.now g.out in
+        next_open q q (value_found p c.args.found c.args.v) (λ (f : Frame) (x : Value). calls p x c.args.receiver (arguments c.args.count f)) (λ (f : Frame). settles c.args.how f) w w c.in_ok-callee.callee c.in_ok-callee.ensures.part refl c.requires.0.free);
+  },
+  (search rules, (search rules, (c.in_ok-callee.ensures.there))),
 )
 
 pub returns : goal.returns

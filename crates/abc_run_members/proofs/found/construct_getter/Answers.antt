@@ -10,23 +10,15 @@ use Rattle.abc_run_members.proofs.found.construct_getter.Goals as goal
 
 pub enter_owned-requires : goal.enter_owned-requires
 enter_owned-requires g c = (
-  (set_under c.args.linked.now c.args.s.now c.drop_under.new.self c.args.count c.args.under c.requires.0.set c.drop_under.ensures),
-  (
-    search rules,
-    (
-      (live_under c.args.s.now.frames c.drop_under.new.self c.args.count c.args.under c.drop_under.ensures),
-      (
-        search rules,
-        (
-          search rules,
-          (let p = setting c.args.linked.now g.out in
-              let w = world c.args.s.now g.out in
-              subst (λ (q : Frames). IsOpen (enters_owned_above p c.args.method c.args.v 0 0 (New c.args.count) (newest q) w)) (sym c.drop_under.ensures)
-              (subst IsOpen (getter_constructs p c.args.method c.args.v c.args.under c.args.count (newest c.args.s.now.frames) w c.requires.0.free) c.requires.0.free)),
-        ),
-      ),
-    ),
-  ),
+  record {
+    set = (set_under c.args.linked.now c.args.s.now c.drop_under.new.self c.args.count c.args.under c.requires.0.set c.drop_under.ensures);
+    known = search rules;
+    free = (let p = setting c.args.linked.now g.out in
+        let w = world c.args.s.now g.out in
+        subst (λ (q : Frames). IsOpen (enters_owned_above p c.args.method c.args.v 0 0 (New c.args.count) (newest q) w)) (sym c.drop_under.ensures)
+        (subst IsOpen (getter_constructs p c.args.method c.args.v c.args.under c.args.count (newest c.args.s.now.frames) w c.requires.0.free) c.requires.0.free));
+  },
+  ((live_under c.args.s.now.frames c.drop_under.new.self c.args.count c.args.under c.drop_under.ensures), search rules),
 )
 
 pub returns : goal.returns

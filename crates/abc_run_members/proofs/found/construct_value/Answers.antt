@@ -24,21 +24,13 @@ value_of-requires g c = (
 
 pub make-requires : goal.make-requires
 make-requires g c = (
-  (set_stays c.args.linked.now c.args.s.now c.value_of.new.s c.in_ok-of.ensures.stays c.requires.0.set),
-  (
-    (known_stays c.args.linked.now c.args.s.now c.value_of.new.s c.in_ok-of.ensures.stays c.requires.0.known),
-    (
-      (ready_stays (c.args.count + c.args.under) 1 c.args.s.now.frames c.value_of.new.s.frames c.in_ok-of.ensures.stays.frames c.requires.1.0),
-      (
-        search rules,
-        (
-          (c.in_ok-of.ensures.there),
-          (let p = setting c.args.linked.now g.out in
-              next_open c.args.s.now.frames c.value_of.new.s.frames (value_read p c.args.found c.args.v) (λ f x. got x) (constructs_of p c.args.under c.args.count) (world c.args.s.now g.out) (world c.value_of.new.s g.out) c.in_ok-of.of c.in_ok-of.ensures.part c.in_ok-of.ensures.stays.frames c.requires.0.free),
-        ),
-      ),
-    ),
-  ),
+  record {
+    set = (set_stays c.args.linked.now c.args.s.now c.value_of.new.s c.in_ok-of.ensures.stays c.requires.0.set);
+    known = (known_stays c.args.linked.now c.args.s.now c.value_of.new.s c.in_ok-of.ensures.stays c.requires.0.known);
+    free = (let p = setting c.args.linked.now g.out in
+        next_open c.args.s.now.frames c.value_of.new.s.frames (value_read p c.args.found c.args.v) (λ f x. got x) (constructs_of p c.args.under c.args.count) (world c.args.s.now g.out) (world c.value_of.new.s g.out) c.in_ok-of.of c.in_ok-of.ensures.part c.in_ok-of.ensures.stays.frames c.requires.0.free);
+  },
+  ((ready_stays (c.args.count + c.args.under) 1 c.args.s.now.frames c.value_of.new.s.frames c.in_ok-of.ensures.stays.frames c.requires.1.0), (search rules, (c.in_ok-of.ensures.there))),
 )
 
 pub returns : goal.returns

@@ -8,21 +8,13 @@ use Rattle.abc_run_members.proofs.found.enter_on.Goals as goal
 
 pub enter_owned-requires : goal.enter_owned-requires
 enter_owned-requires g c = (
+  record {
+    set = search rules;
+    known = search rules;
+    free = (subst IsOpen (enters_as (setting c.args.linked.now g.out) c.args.method c.args.v c.args.count c.args.how (newest c.args.s.now.frames) (world c.args.s.now g.out) c.waiting-taken.result.0 c.waiting-taken.result.1 c.waiting-taken.ensures.taken c.waiting-taken.ensures.wait c.requires.0.free)
+        c.requires.0.free);
+  },
   search rules,
-  (
-    search rules,
-    (
-      search rules,
-      (
-        search rules,
-        (
-          search rules,
-          (subst IsOpen (enters_as (setting c.args.linked.now g.out) c.args.method c.args.v c.args.count c.args.how (newest c.args.s.now.frames) (world c.args.s.now g.out) c.waiting-taken.result.0 c.waiting-taken.result.1 c.waiting-taken.ensures.taken c.waiting-taken.ensures.wait c.requires.0.free)
-              c.requires.0.free),
-        ),
-      ),
-    ),
-  ),
 )
 
 pub returns : goal.returns

@@ -2,7 +2,7 @@ use Rattle.std.proofs.Common.{rules, ◌∙◌, ℕ, ◌<◌, ap, length, subst,
 use Rattle.abc_base.specs.declared.names.HostClass.TheVariants as hosts
 use Rattle.abc_heap_values.specs.declared.values.ObjId.{ObjId}
 use Rattle.abc_heap_values.specs.declared.values.Value.TheVariants.{Obj}
-use Rattle.abc_heap_search.specs.declared.found.ScopeFound.{ScopeFound}
+use Rattle.abc_objects.specs.declared.found.ScopeFound.{ScopeFound}
 use Rattle.abc_frames.specs.Frame.{newest}
 use Rattle.abc_run_members.specs.Found.{IsScopeThere}
 use Rattle.abc_meaning.specs.At.{Act}
@@ -42,22 +42,7 @@ start_above-requires g c =
     let f = newest c.args.s.now.frames in
     let w = world c.args.s.now g.out in
     let go : ObjId → Run Act = λ o. settled_by (Push c.args.parts) f (reads p (Obj o) c.args.name.now) in
-    let there : c.in-Start.script < length l.file.scripts = subst (λ (r : ScopeFound). IsScopeThere l c.args.s.now.arena r) c.in-Start.is c.requires.1.1.1.0 in (
-      c.requires.0.set,
-      (
-        c.requires.0.known,
-        (
-          c.requires.1.0.live,
-          (
-            there,
-            (
-              subst (λ (n : ℕ). c.in-Start.script < n) (sym c.requires.1.1.0) there,
-              subst IsOpen (script_is p f c.in-Start.script go (throws hosts.ReferenceError) c.args.found w c.in-Start.is) c.requires.0.free,
-            ),
-          ),
-        ),
-      ),
-    )
+    let there : c.in-Start.script < length l.file.scripts = subst (λ (r : ScopeFound). IsScopeThere l c.args.s.now.arena r) c.in-Start.is c.requires.1.1.1.0 in (record { set = c.requires.0.set; known = c.requires.0.known; free = subst IsOpen (script_is p f c.in-Start.script go (throws hosts.ReferenceError) c.args.found w c.in-Start.is) c.requires.0.free }, (c.requires.1.0.live, (there, subst (λ (n : ℕ). c.in-Start.script < n) (sym c.requires.1.1.0) there)))
 
 pub returns-in-Start : goal.returns-in-Start
 returns-in-Start g c = record {

@@ -27,29 +27,21 @@ get-requires g c =
 
 pub enter_owned-requires : goal.enter_owned-requires
 enter_owned-requires g c = (
-  c.requires.0.set,
-  (
-    c.requires.0.known,
-    (
-      c.requires.1.0.live,
-      (
-        omega (arith, c.requires.1.0.operands),
-        (
-          c.requires.1.0.operands,
-          (let l = c.args.linked.now in
-              let p = setting l g.out in
-              let f = newest c.args.s.now.frames in
-              let w = world c.args.s.now g.out in
-              let n = c.args.count in
-              let b = subst (λ (x : Base). IsBase l x) c.in-Class.is c.requires.1.1.1.1 in
-              let maker = maker_is c.abc.result.now l.file c.in-Class.class c.get.result.now c.abc.ensures b c.get.ensures in
-              let open_found = subst (λ (x : Base). IsOpen (settled_by (Drop (n + 1)) f (runs_base p c.args.o n f (named_of x)) w)) c.in-Class.is c.requires.0.free in
-              subst (λ (m : ℕ). IsOpen (enters_owned_above p m (Obj c.args.o) n (n + 1) waits.Drop f w)) (sym maker)
-              (subst IsOpen (enters_as p (instance_at l.file c.in-Class.class).iinit (Obj c.args.o) n (Drop (n + 1)) f w (n + 1) waits.Drop refl refl open_found) open_found)),
-        ),
-      ),
-    ),
-  ),
+  record {
+    set = c.requires.0.set;
+    known = c.requires.0.known;
+    free = (let l = c.args.linked.now in
+        let p = setting l g.out in
+        let f = newest c.args.s.now.frames in
+        let w = world c.args.s.now g.out in
+        let n = c.args.count in
+        let b = subst (λ (x : Base). IsBase l x) c.in-Class.is c.requires.1.1.1.1 in
+        let maker = maker_is c.abc.result.now l.file c.in-Class.class c.get.result.now c.abc.ensures b c.get.ensures in
+        let open_found = subst (λ (x : Base). IsOpen (settled_by (Drop (n + 1)) f (runs_base p c.args.o n f (named_of x)) w)) c.in-Class.is c.requires.0.free in
+        subst (λ (m : ℕ). IsOpen (enters_owned_above p m (Obj c.args.o) n (n + 1) waits.Drop f w)) (sym maker)
+        (subst IsOpen (enters_as p (instance_at l.file c.in-Class.class).iinit (Obj c.args.o) n (Drop (n + 1)) f w (n + 1) waits.Drop refl refl open_found) open_found));
+  },
+  (c.requires.1.0.live, (omega (arith, c.requires.1.0.operands), c.requires.1.0.operands)),
 )
 
 pub returns-in-Class : goal.returns-in-Class

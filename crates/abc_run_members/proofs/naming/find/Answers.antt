@@ -1,7 +1,7 @@
 use Rattle.abc_run_members.proofs.Searched.{found_there}
 use Rattle.std.proofs.Common.{subst, sym}
-use Rattle.abc_heap_search.specs.declared.found.Found.{Found}
-use Rattle.abc_heap_search.specs.declared.found.Want.TheVariants.{Read}
+use Rattle.abc_objects.specs.declared.found.Found.{Found}
+use Rattle.abc_objects.specs.declared.found.Want.TheVariants.{Read}
 use Rattle.abc_run_members.specs.Members.{IsFoundThere}
 use Rattle.abc_run_members.proofs.naming.find.Goals as goal
 

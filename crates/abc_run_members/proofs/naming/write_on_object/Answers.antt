@@ -3,7 +3,7 @@ use Rattle.std.specs.Prelude.{length}
 use Rattle.abc_heap_values.specs.declared.values.Value.TheVariants.{Obj, Undefined}
 use Rattle.abc_heap_store.specs.Heap.{elements_of}
 use Rattle.abc_heap_store.specs.Texts.{IsText}
-use Rattle.abc_heap_search.specs.declared.name.Name.{Name}
+use Rattle.abc_objects.specs.declared.name.Name.{Name}
 use Rattle.abc_frames.specs.Frame.{newest}
 use Rattle.abc_run_state.specs.Outer.{at_heap, setting, world}
 use Rattle.abc_run_state.specs.Stops.{IsOpen}

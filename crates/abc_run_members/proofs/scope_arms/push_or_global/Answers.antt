@@ -1,6 +1,6 @@
 use Rattle.std.proofs.Common.{rules, ◌∙◌, ℕ, ◌<◌, ap, subst, sym}
 use Rattle.abc_heap_values.specs.declared.values.Value.TheVariants.{Obj}
-use Rattle.abc_heap_search.specs.declared.found.ScopeFound.{ScopeFound}
+use Rattle.abc_objects.specs.declared.found.ScopeFound.{ScopeFound}
 use Rattle.abc_frames.specs.Frame.{newest}
 use Rattle.abc_run_state.specs.Outer.{setting, world}
 use Rattle.abc_run_state.specs.Stops.{IsOpen}
@@ -21,22 +21,7 @@ returns-in-Object g c = record {
 pub start_above-requires : goal.start_above-requires
 start_above-requires g c =
     let l = c.args.linked.now in
-    let there : c.in-Start.script < Rattle.std.proofs.Common.length l.file.scripts = subst (λ (f : ScopeFound). IsScopeThere l c.args.s.now.arena f) c.in-Start.is c.requires.1.1.1 in (
-      c.requires.0.set,
-      (
-        c.requires.0.known,
-        (
-          c.requires.1.0.live,
-          (
-            there,
-            (
-              subst (λ (n : ℕ). c.in-Start.script < n) (sym c.requires.1.1.0) there,
-              subst IsOpen (script_is (setting l g.out) (newest c.args.s.now.frames) c.in-Start.script (λ x. pushes_in c.args.parts (newest c.args.s.now.frames) (Obj x)) (see (global (newest c.args.s.now.frames).home) >>= pushes_in c.args.parts (newest c.args.s.now.frames)) c.args.found (world c.args.s.now g.out) c.in-Start.is) c.requires.0.free,
-            ),
-          ),
-        ),
-      ),
-    )
+    let there : c.in-Start.script < Rattle.std.proofs.Common.length l.file.scripts = subst (λ (f : ScopeFound). IsScopeThere l c.args.s.now.arena f) c.in-Start.is c.requires.1.1.1 in (record { set = c.requires.0.set; known = c.requires.0.known; free = subst IsOpen (script_is (setting l g.out) (newest c.args.s.now.frames) c.in-Start.script (λ x. pushes_in c.args.parts (newest c.args.s.now.frames) (Obj x)) (see (global (newest c.args.s.now.frames).home) >>= pushes_in c.args.parts (newest c.args.s.now.frames)) c.args.found (world c.args.s.now g.out) c.in-Start.is) c.requires.0.free }, (c.requires.1.0.live, (there, subst (λ (n : ℕ). c.in-Start.script < n) (sym c.requires.1.1.0) there)))
 
 pub returns-in-Start : goal.returns-in-Start
 returns-in-Start g c = record {

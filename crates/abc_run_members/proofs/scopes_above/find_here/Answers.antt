@@ -3,7 +3,7 @@ use Rattle.std.specs.declared.option.Option.{Option}
 use Rattle.abc_heap_store.specs.declared.records.ScopeEntry.{ScopeEntry}
 use Rattle.abc_heap_store.specs.declared.records.ScopeId.{ScopeId}
 use Rattle.abc_objects.specs.Stands.{AreEntries, IsScope}
-use Rattle.abc_heap_search.specs.Searches.{found_in_scopes}
+use Rattle.abc_objects.specs.Searches.{found_in_scopes}
 use Rattle.abc_frames.specs.Frame.{newest}
 use Rattle.abc_run_members.specs.Found.{IsScopeThere}
 use Rattle.abc_run_members.proofs.Scanned.{scopes_found}

@@ -4,7 +4,7 @@ use Rattle.abc_run_state.proofs.Keeping.{set_stays}
 use Rattle.abc_frames.specs.Ready.{IsReady}
 use Rattle.abc_run_names.proofs.Forms.{has_parts}
 use Rattle.abc_run_names.specs.Named.{form_at, named_here}
-use Rattle.abc_heap_search.specs.declared.name.Name.{Name}
+use Rattle.abc_objects.specs.declared.name.Name.{Name}
 use Rattle.abc_frames.specs.Frame.{Frame, arguments, newest}
 use Rattle.abc_run_state.specs.Outer.{setting, world}
 use Rattle.abc_run_state.specs.Settling.{given_by, settles}

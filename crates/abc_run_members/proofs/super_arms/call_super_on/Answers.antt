@@ -3,8 +3,8 @@ use Rattle.std.proofs.lemmas.Result.{err_from_is_err_and}
 use Rattle.abc_heap_values.specs.declared.values.ObjId.{ObjId}
 use Rattle.abc_heap_values.specs.declared.values.Value.TheVariants.{Obj}
 use Rattle.abc_objects.specs.Values.{Exists}
-use Rattle.abc_heap_search.specs.declared.found.Found.{Found}
-use Rattle.abc_heap_search.specs.declared.found.Want.TheVariants.{Read}
+use Rattle.abc_objects.specs.declared.found.Found.{Found}
+use Rattle.abc_objects.specs.declared.found.Want.TheVariants.{Read}
 use Rattle.abc_frames.specs.Frame.{arguments, newest}
 use Rattle.abc_run_members.proofs.Settled.{came_halts, came_open, came_same}
 use Rattle.abc_run_state.specs.Outer.{setting, world}

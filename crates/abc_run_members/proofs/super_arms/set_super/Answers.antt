@@ -1,7 +1,7 @@
 use Rattle.std.proofs.Common.{◌∙◌, ℕ, ◌+◌, ◌≤◌, ap, arith, subst, sym}
 use Rattle.std.proofs.lemmas.Result.{err_from_is_err_and}
 use Rattle.abc_frames.specs.Ready.{IsReady}
-use Rattle.abc_heap_search.specs.declared.name.Name.{Name}
+use Rattle.abc_objects.specs.declared.name.Name.{Name}
 use Rattle.abc_frames.specs.Frame.{Frame, Frames, newest}
 use Rattle.abc_run_state.proofs.Keeping.{set_stays}
 use Rattle.abc_run_members.proofs.Parts.{few_parts, known_stays, limit_stays, next_open, next_turns, part_halts, part_open, ready_stays, value_stays}

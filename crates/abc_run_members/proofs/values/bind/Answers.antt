@@ -1,7 +1,7 @@
 use Rattle.std.proofs.Common.{rules, ◌∙◌, ap, subst}
 use Rattle.abc_heap_values.specs.declared.values.Value.{Value}
 use Rattle.abc_objects.specs.Values.{Exists}
-use Rattle.abc_heap_search.specs.declared.found.Found.TheVariants.{Method}
+use Rattle.abc_objects.specs.declared.found.Found.TheVariants.{Method}
 use Rattle.abc_run_state.specs.Outer.{setting, world}
 use Rattle.abc_run_state.specs.Stops.{IsOpen}
 use Rattle.abc_run_members.specs.Members.{value_read}

@@ -2,7 +2,7 @@ use Rattle.std.proofs.Common.{rules}
 use Rattle.std.specs.Prelude.{◌≤◌, length}
 use Rattle.std.proofs.Common.{arith}
 use Rattle.abc_heap_values.specs.declared.values.Value.TheVariants.{Obj, Undefined}
-use Rattle.abc_heap_search.specs.declared.found.Found.TheVariants.{Missing}
+use Rattle.abc_objects.specs.declared.found.Found.TheVariants.{Missing}
 use Rattle.abc_frames.specs.Frame.{arguments, newest}
 use Rattle.abc_run_state.specs.Outer.{setting, world}
 use Rattle.abc_run_state.specs.Settling.{settles}

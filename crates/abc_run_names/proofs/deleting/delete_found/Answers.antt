@@ -1,5 +1,5 @@
 use Rattle.std.proofs.Common.{◌∙◌, ap}
-use Rattle.abc_heap_search.specs.declared.found.Found.{Found}
+use Rattle.abc_objects.specs.declared.found.Found.{Found}
 use Rattle.abc_run_state.specs.Outer.{setting, world}
 use Rattle.abc_meaning.specs.Members.{delete_found}
 use Rattle.abc_run_names.proofs.deleting.delete_found.Goals as goal

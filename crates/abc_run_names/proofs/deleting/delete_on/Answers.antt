@@ -1,9 +1,9 @@
 use Rattle.std.proofs.Common.{◌≡◌, false, refl, subst, sym, true}
 use Rattle.abc_heap_values.specs.declared.values.Value.TheVariants.{Obj}
 use Rattle.abc_objects.proofs.Grown.{grows_self}
-use Rattle.abc_heap_search.specs.Laws.{IsThere}
-use Rattle.abc_heap_search.specs.declared.found.Found.{Found}
-use Rattle.abc_heap_search.specs.declared.found.Want.TheVariants.{Read}
+use Rattle.abc_objects.specs.Laws.{IsThere}
+use Rattle.abc_objects.specs.declared.found.Found.{Found}
+use Rattle.abc_objects.specs.declared.found.Want.TheVariants.{Read}
 use Rattle.abc_run_state.specs.Outer.{setting, world}
 use Rattle.abc_run_names.proofs.Removed.{decided, sealed}
 use Rattle.abc_run_names.proofs.deleting.delete_on.Goals as goal

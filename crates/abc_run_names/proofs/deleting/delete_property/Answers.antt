@@ -1,4 +1,4 @@
-use Rattle.std.proofs.Common.{◌∙◌, ℕ, ◌+◌, ap, subst, sym, arith}
+use Rattle.std.proofs.Common.{rules, ◌∙◌, ℕ, ◌+◌, ap, subst, sym, arith}
 use Rattle.std.proofs.lemmas.Result.{err_from_is_err_and}
 use Rattle.abc_heap_values.specs.declared.values.Value.TheVariants.{Bool as Truth}
 use Rattle.abc_frames.specs.Ready.{IsReady}
@@ -41,41 +41,50 @@ finish-requires g c =
     let parts = c.parts_of-parts.ensures g.out in
     subst (IsReady (c.parts_of-parts.result + 1) 1) (sym (c.in_ok-is.ensures.stays.frames ∙ c.in_ok-wanted.ensures.stays.frames)) (subst (λ (n : ℕ). IsReady (n + 1) 1 c.args.s.now.frames) (sym parts) c.requires.1.0)
 
-pub returns-clause-runs : goal.returns-clause-runs
-returns-clause-runs g c =
-    let p = setting c.args.linked.now g.out in
-    let q = c.args.s.now.frames in
-    let f = newest q in
-    let n = c.args.name in
-    let w = world c.args.s.now g.out in
-    let a = world c.name_of.new.s g.out in
-    let b = world c.delete.new.s g.out in
-    let is = c.operand-v.ensures.is ∙ ap (λ (k : ℕ). operand_at k f) (c.parts_of-parts.ensures g.out) in
-    let done = pushes_on p q c.delete.new.s.frames _ (parts_count (form_at p n) + 1) (removing p n f) w b (Truth c.in_ok-is.is')
-    (removed p n f c.operand-v.result w a b c.in_ok-wanted.wanted c.in_ok-is.is' is c.in_ok-wanted.ensures.part (c.in_ok-is.ensures.part g.out)) (c.in_ok-is.ensures.stays.frames ∙ c.in_ok-wanted.ensures.stays.frames) (c.finish.ensures ∙ ap (λ (k : ℕ). Rattle.abc_frames.specs.Frame.with_newest (Rattle.abc_frames.specs.Moves.finished (k + 1) (Truth c.in_ok-is.is')) c.delete.new.s.frames) (c.parts_of-parts.ensures g.out)) in
-    done
+pub returns : goal.returns
+returns g c = record {
+  runs =
+      let p = setting c.args.linked.now g.out in
+      let q = c.args.s.now.frames in
+      let f = newest q in
+      let n = c.args.name in
+      let w = world c.args.s.now g.out in
+      let a = world c.name_of.new.s g.out in
+      let b = world c.delete.new.s g.out in
+      let is = c.operand-v.ensures.is ∙ ap (λ (k : ℕ). operand_at k f) (c.parts_of-parts.ensures g.out) in
+      let done = pushes_on p q c.delete.new.s.frames _ (parts_count (form_at p n) + 1) (removing p n f) w b (Truth c.in_ok-is.is')
+      (removed p n f c.operand-v.result w a b c.in_ok-wanted.wanted c.in_ok-is.is' is c.in_ok-wanted.ensures.part (c.in_ok-is.ensures.part g.out)) (c.in_ok-is.ensures.stays.frames ∙ c.in_ok-wanted.ensures.stays.frames) (c.finish.ensures ∙ ap (λ (k : ℕ). Rattle.abc_frames.specs.Frame.with_newest (Rattle.abc_frames.specs.Moves.finished (k + 1) (Truth c.in_ok-is.is')) c.delete.new.s.frames) (c.parts_of-parts.ensures g.out)) in
+      done;
+  limit = search rules;
+}
 
-pub returns-in_err-wanted-clause-runs : goal.returns-in_err-wanted-clause-runs
-returns-in_err-wanted-clause-runs g c =
-    let p = setting c.args.linked.now g.out in
-    let q = c.args.s.now.frames in
-    let f = newest q in
-    let n = c.args.name in
-    let w = world c.args.s.now g.out in
-    let a = world c.name_of.new.s g.out in
-    let e = err_from_is_err_and c.from_residual.result c.from_residual.ensures.1 in
-    rw (e.1, e.2) (pushes_stopped p q c.name_of.new.s.frames (parts_count (form_at p n) + 1) (removing p n f) w a c.in_err-wanted.field-0.0 (remove_named p n f w a (why c.in_err-wanted.field-0.0) c.in_err-wanted.ensures.part) c.in_err-wanted.ensures.stays.frames)
+pub returns-in_err-wanted : goal.returns-in_err-wanted
+returns-in_err-wanted g c = record {
+  runs =
+      let p = setting c.args.linked.now g.out in
+      let q = c.args.s.now.frames in
+      let f = newest q in
+      let n = c.args.name in
+      let w = world c.args.s.now g.out in
+      let a = world c.name_of.new.s g.out in
+      let e = err_from_is_err_and c.from_residual.result c.from_residual.ensures.1 in
+      rw (e.1, e.2) (pushes_stopped p q c.name_of.new.s.frames (parts_count (form_at p n) + 1) (removing p n f) w a c.in_err-wanted.field-0.0 (remove_named p n f w a (why c.in_err-wanted.field-0.0) c.in_err-wanted.ensures.part) c.in_err-wanted.ensures.stays.frames);
+  limit = search rules;
+}
 
-pub returns-in_err-is-clause-runs : goal.returns-in_err-is-clause-runs
-returns-in_err-is-clause-runs g c =
-    let p = setting c.args.linked.now g.out in
-    let q = c.args.s.now.frames in
-    let f = newest q in
-    let n = c.args.name in
-    let w = world c.args.s.now g.out in
-    let a = world c.name_of.new.s g.out in
-    let b = world c.delete.new.s g.out in
-    let is = c.operand-v.ensures.is ∙ ap (λ (k : ℕ). operand_at k f) (c.parts_of-parts.ensures g.out) in
-    let e = err_from_is_err_and c.from_residual-in_err-is.result c.from_residual-in_err-is.ensures.1 in
-    rw (e.1, e.2) (pushes_stopped p q c.delete.new.s.frames (parts_count (form_at p n) + 1) (removing p n f) w b c.in_err-is.field-0.0
-    (remove_stopped p n f c.operand-v.result w a b c.in_ok-wanted.wanted (why c.in_err-is.field-0.0) is c.in_ok-wanted.ensures.part (c.in_err-is.ensures.part g.out)) (c.in_err-is.ensures.stays.frames ∙ c.in_ok-wanted.ensures.stays.frames))
+pub returns-in_err-is : goal.returns-in_err-is
+returns-in_err-is g c = record {
+  runs =
+      let p = setting c.args.linked.now g.out in
+      let q = c.args.s.now.frames in
+      let f = newest q in
+      let n = c.args.name in
+      let w = world c.args.s.now g.out in
+      let a = world c.name_of.new.s g.out in
+      let b = world c.delete.new.s g.out in
+      let is = c.operand-v.ensures.is ∙ ap (λ (k : ℕ). operand_at k f) (c.parts_of-parts.ensures g.out) in
+      let e = err_from_is_err_and c.from_residual-in_err-is.result c.from_residual-in_err-is.ensures.1 in
+      rw (e.1, e.2) (pushes_stopped p q c.delete.new.s.frames (parts_count (form_at p n) + 1) (removing p n f) w b c.in_err-is.field-0.0
+      (remove_stopped p n f c.operand-v.result w a b c.in_ok-wanted.wanted (why c.in_err-is.field-0.0) is c.in_ok-wanted.ensures.part (c.in_err-is.ensures.part g.out)) (c.in_err-is.ensures.stays.frames ∙ c.in_ok-wanted.ensures.stays.frames));
+  limit = search rules;
+}

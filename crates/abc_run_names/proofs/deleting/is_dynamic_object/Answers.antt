@@ -1,5 +1,5 @@
 use Rattle.std.proofs.Common.{◌∙◌, ℕ, ◌<◌, ap, length, subst, sym}
-use Rattle.abc_link_program.specs.Numbering.{part_at}
+use Rattle.abc_link_names.specs.Numbering.{part_at}
 use Rattle.abc_run_state.proofs.Things.{layout_there}
 use Rattle.abc_run_state.specs.Outer.{setting, world}
 use Rattle.abc_meaning.specs.Setting.{is_dynamic_part}

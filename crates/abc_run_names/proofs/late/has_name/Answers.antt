@@ -1,4 +1,4 @@
-use Rattle.std.proofs.Common.{subst, sym}
+use Rattle.std.proofs.Common.{rules, subst, sym}
 use Rattle.std.proofs.lemmas.Result.{err_from_is_err_and}
 use Rattle.abc_heap_values.specs.declared.values.Value.TheVariants.{Bool as Truth}
 use Rattle.abc_frames.specs.Ready.{IsReady}
@@ -23,35 +23,44 @@ find_public-found-requires-clause-object g c =
 pub finish-requires : goal.finish-requires
 finish-requires g c = subst (IsReady 2 1) (sym c.in_ok-text.ensures.stays.frames) c.requires.1
 
-pub returns-clause-runs : goal.returns-clause-runs
-returns-clause-runs g c =
-    let p = setting c.args.linked.now g.out in
-    let q = c.args.s.now.frames in
-    let f = newest q in
-    let w = world c.args.s.now g.out in
-    let u = world c.spell.new.s g.out in
-    pushes_on p q c.spell.new.s.frames c.finish.new.frames 2 (name_is_in p (operand_at 1 f) (operand_at 0 f)) w u (Truth c.is_found.result)
-    (in_found p c.operand-name.result (operand_at 1 f) c.operand-object.result (operand_at 0 f) w u c.in_ok-text.text c.find_public-found.result c.is_found.result c.operand-name.ensures.is c.operand-object.ensures.is c.in_ok-text.ensures.part (c.in_ok-is_holder.ensures u) c.find_public-found.ensures c.is_found.ensures)
-    c.in_ok-text.ensures.stays.frames c.finish.ensures
+pub returns : goal.returns
+returns g c = record {
+  runs =
+      let p = setting c.args.linked.now g.out in
+      let q = c.args.s.now.frames in
+      let f = newest q in
+      let w = world c.args.s.now g.out in
+      let u = world c.spell.new.s g.out in
+      pushes_on p q c.spell.new.s.frames c.finish.new.frames 2 (name_is_in p (operand_at 1 f) (operand_at 0 f)) w u (Truth c.is_found.result)
+      (in_found p c.operand-name.result (operand_at 1 f) c.operand-object.result (operand_at 0 f) w u c.in_ok-text.text c.find_public-found.result c.is_found.result c.operand-name.ensures.is c.operand-object.ensures.is c.in_ok-text.ensures.part (c.in_ok-is_holder.ensures u) c.find_public-found.ensures c.is_found.ensures)
+      c.in_ok-text.ensures.stays.frames c.finish.ensures;
+  limit = search rules;
+}
 
-pub returns-in_err-text-clause-runs : goal.returns-in_err-text-clause-runs
-returns-in_err-text-clause-runs g c =
-    let p = setting c.args.linked.now g.out in
-    let q = c.args.s.now.frames in
-    let f = newest q in
-    let w = world c.args.s.now g.out in
-    let u = world c.spell.new.s g.out in
-    let e = err_from_is_err_and c.from_residual.result c.from_residual.ensures.1 in
-    rw (e.1, e.2) (pushes_stopped p q c.spell.new.s.frames 2 (name_is_in p (operand_at 1 f) (operand_at 0 f)) w u c.in_err-text.field-0.0
-    (in_stops p c.operand-name.result (operand_at 1 f) c.operand-object.result (operand_at 0 f) w u (why c.in_err-text.field-0.0) c.operand-name.ensures.is c.operand-object.ensures.is c.in_err-text.ensures.part) c.in_err-text.ensures.stays.frames)
+pub returns-in_err-text : goal.returns-in_err-text
+returns-in_err-text g c = record {
+  runs =
+      let p = setting c.args.linked.now g.out in
+      let q = c.args.s.now.frames in
+      let f = newest q in
+      let w = world c.args.s.now g.out in
+      let u = world c.spell.new.s g.out in
+      let e = err_from_is_err_and c.from_residual.result c.from_residual.ensures.1 in
+      rw (e.1, e.2) (pushes_stopped p q c.spell.new.s.frames 2 (name_is_in p (operand_at 1 f) (operand_at 0 f)) w u c.in_err-text.field-0.0
+      (in_stops p c.operand-name.result (operand_at 1 f) c.operand-object.result (operand_at 0 f) w u (why c.in_err-text.field-0.0) c.operand-name.ensures.is c.operand-object.ensures.is c.in_err-text.ensures.part) c.in_err-text.ensures.stays.frames);
+  limit = search rules;
+}
 
-pub returns-in_err-is_holder-clause-runs : goal.returns-in_err-is_holder-clause-runs
-returns-in_err-is_holder-clause-runs g c =
-    let p = setting c.args.linked.now g.out in
-    let q = c.args.s.now.frames in
-    let f = newest q in
-    let w = world c.args.s.now g.out in
-    let u = world c.spell.new.s g.out in
-    let e = err_from_is_err_and c.from_residual-in_err-is_holder.result c.from_residual-in_err-is_holder.ensures.1 in
-    rw (e.1, e.2) (pushes_stopped p q c.spell.new.s.frames 2 (name_is_in p (operand_at 1 f) (operand_at 0 f)) w u c.in_err-is_holder.field-0.0
-    (in_refused p c.operand-name.result (operand_at 1 f) c.operand-object.result (operand_at 0 f) w u c.in_ok-text.text (why c.in_err-is_holder.field-0.0) c.operand-name.ensures.is c.operand-object.ensures.is c.in_ok-text.ensures.part (c.in_err-is_holder.ensures u)) c.in_ok-text.ensures.stays.frames)
+pub returns-in_err-is_holder : goal.returns-in_err-is_holder
+returns-in_err-is_holder g c = record {
+  runs =
+      let p = setting c.args.linked.now g.out in
+      let q = c.args.s.now.frames in
+      let f = newest q in
+      let w = world c.args.s.now g.out in
+      let u = world c.spell.new.s g.out in
+      let e = err_from_is_err_and c.from_residual-in_err-is_holder.result c.from_residual-in_err-is_holder.ensures.1 in
+      rw (e.1, e.2) (pushes_stopped p q c.spell.new.s.frames 2 (name_is_in p (operand_at 1 f) (operand_at 0 f)) w u c.in_err-is_holder.field-0.0
+      (in_refused p c.operand-name.result (operand_at 1 f) c.operand-object.result (operand_at 0 f) w u c.in_ok-text.text (why c.in_err-is_holder.field-0.0) c.operand-name.ensures.is c.operand-object.ensures.is c.in_ok-text.ensures.part (c.in_err-is_holder.ensures u)) c.in_ok-text.ensures.stays.frames);
+  limit = search rules;
+}

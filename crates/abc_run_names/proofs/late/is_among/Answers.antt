@@ -2,7 +2,7 @@ use Rattle.std.proofs.Common.{◌≡◌, ◌∙◌, sym, ap, length, nat_eq, eq-
 use Rattle.std.specs.List.{list_any}
 use Rattle.abc_base_graphs.proofs.Walks.{step_in}
 use Rattle.abc_base_graphs.specs.Ways.{way}
-use Rattle.abc_heap_search.specs.Objects.{delegate_at, number_of}
+use Rattle.abc_objects.specs.Objects.{delegate_at, number_of}
 use Rattle.abc_lookup.proofs.Along.{less_left}
 use Rattle.abc_lookup.proofs.Stands.{delegates_fall, inside, object_in}
 use Rattle.abc_run_names.proofs.Amongst.{any_end, any_here, any_next}

@@ -1,7 +1,7 @@
 use Rattle.std.proofs.Common.{◌≡◌, length, nat_eq}
 use Rattle.std.specs.List.{list_any}
 use Rattle.abc_base_graphs.specs.Ways.{IsBelow, left, way}
-use Rattle.abc_heap_search.specs.Objects.{delegate_at, delegate_of, number_of}
+use Rattle.abc_objects.specs.Objects.{delegate_at, delegate_of, number_of}
 use Rattle.abc_run_names.proofs.late.is_among.Given as goal
 
 abbrev pub invariant-loop-at : goal.invariant-loop-at

@@ -2,7 +2,7 @@ use Rattle.std.proofs.Common.{refl}
 use Rattle.std.proofs.lemmas.Result.{err_from_is_err_and}
 use Rattle.abc_heap_values.specs.declared.values.Value.{Value}
 use Rattle.abc_heap_values.specs.declared.values.Value.TheVariants.{Bool as Truth}
-use Rattle.abc_link_program.specs.declared.types.Ty.{Ty}
+use Rattle.abc_link_names.specs.declared.types.Ty.{Ty}
 use Rattle.abc_frames.specs.Frame.{newest}
 use Rattle.abc_meaning.specs.Late.{is_instance, late_type}
 use Rattle.abc_run_state.proofs.Pushing.{pushes_on, pushes_stopped}

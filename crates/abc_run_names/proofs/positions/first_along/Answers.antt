@@ -2,7 +2,7 @@ use Rattle.std.proofs.Common.{◌≡◌, ◌∙◌, None, refl, sym, ap, length}
 use Rattle.abc_base_graphs.proofs.Walks.{step_in}
 use Rattle.abc_heap_store.specs.Heap.{object_at}
 use Rattle.abc_heap_store.specs.Properties.{walked_next}
-use Rattle.abc_heap_search.specs.Objects.{delegate_at, number_of}
+use Rattle.abc_objects.specs.Objects.{delegate_at, number_of}
 use Rattle.abc_lookup.proofs.Along.{less_left}
 use Rattle.abc_lookup.proofs.Stands.{delegates_fall, inside, object_in}
 use Rattle.abc_run_names.proofs.Delegates.{first_end, first_here, first_next}

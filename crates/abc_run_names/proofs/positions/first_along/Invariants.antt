@@ -1,6 +1,6 @@
 use Rattle.std.proofs.Common.{◌≡◌, length}
 use Rattle.abc_base_graphs.specs.Ways.{IsBelow, left, way}
-use Rattle.abc_heap_search.specs.Objects.{delegate_at, number_of}
+use Rattle.abc_objects.specs.Objects.{delegate_at, number_of}
 use Rattle.abc_run_names.specs.Walking.{first_position}
 use Rattle.abc_run_names.proofs.positions.first_along.Given as goal
 

@@ -7,7 +7,7 @@ use Rattle.abc_heap_store.specs.Texts.{IsText}
 use Rattle.abc_frames.specs.Frame.{newest}
 use Rattle.abc_meaning.specs.Names.{named}
 use Rattle.abc_run_state.proofs.Keeping.{stays_self}
-use Rattle.abc_heap_search.specs.declared.name.Name.{Name}
+use Rattle.abc_objects.specs.declared.name.Name.{Name}
 use Rattle.abc_run_state.specs.Operands.{operand_at}
 use Rattle.abc_run_state.specs.Outer.{setting, world}
 use Rattle.abc_run_state.specs.Stops.{IsOpen}

@@ -1,4 +1,4 @@
-use Rattle.std.proofs.Common.{◌∙◌, ℕ, ap, refl, subst}
+use Rattle.std.proofs.Common.{rules, ◌∙◌, ℕ, ap, refl, subst}
 use Rattle.std.specs.Prelude.{slice_get}
 use Rattle.std.proofs.lemmas.Result.{err_from_is_err_and}
 use Rattle.abc_heap_values.specs.declared.values.ObjId.{ObjId}
@@ -53,24 +53,30 @@ slot-held-requires g c =
     let at = numbered_at p c.args.number held c.operand-v.result (operand_at 0 f) w c.operand-v.ensures.is c.in_ok-o.o c.in_ok-o.ensures.object c.place_of-k.result there c.place_of-k.ensures in
     held_within (slots_of h.objects c.in_ok-o.o.0) c.place_of-k.result w (subst IsOpen at (pushes_open (on_numbered p c.args.number (operand_at 0 f) held) 1 f w c.requires.1.1))
 
-pub returns-clause-runs : goal.returns-clause-runs
-returns-clause-runs g c =
-    let l = c.args.linked.now in
-    let p = setting l g.out in
-    let q = c.args.s.now.frames in
-    let f = newest q in
-    let h = c.args.s.now.arena in
-    let w = world c.args.s.now g.out in
-    let there = subst (Exists l h) c.in_ok-o.ensures.object (c.operand-v.ensures.there l h c.requires.0.frame.stack) in
-    let at = numbered_at p c.args.number held c.operand-v.result (operand_at 0 f) w c.operand-v.ensures.is c.in_ok-o.o c.in_ok-o.ensures.object c.place_of-k.result there c.place_of-k.ensures in
-    pushes_on p q q c.finish.new.frames 1 (on_numbered p c.args.number (operand_at 0 f) held) w w c.slot-held.result (at ∙ ap (λ x. some x w) c.slot-held.ensures) refl c.finish.ensures
+pub returns : goal.returns
+returns g c = record {
+  runs =
+      let l = c.args.linked.now in
+      let p = setting l g.out in
+      let q = c.args.s.now.frames in
+      let f = newest q in
+      let h = c.args.s.now.arena in
+      let w = world c.args.s.now g.out in
+      let there = subst (Exists l h) c.in_ok-o.ensures.object (c.operand-v.ensures.there l h c.requires.0.frame.stack) in
+      let at = numbered_at p c.args.number held c.operand-v.result (operand_at 0 f) w c.operand-v.ensures.is c.in_ok-o.o c.in_ok-o.ensures.object c.place_of-k.result there c.place_of-k.ensures in
+      pushes_on p q q c.finish.new.frames 1 (on_numbered p c.args.number (operand_at 0 f) held) w w c.slot-held.result (at ∙ ap (λ x. some x w) c.slot-held.ensures) refl c.finish.ensures;
+  limit = search rules;
+}
 
-pub returns-in_err-o-clause-runs : goal.returns-in_err-o-clause-runs
-returns-in_err-o-clause-runs g c =
-    let p = setting c.args.linked.now g.out in
-    let q = c.args.s.now.frames in
-    let f = newest q in
-    let w = world c.args.s.now g.out in
-    let e = err_from_is_err_and c.from_residual.result c.from_residual.ensures.1 in
-    rw (e.1, e.2) (pushes_stopped p q q 1 (on_numbered p c.args.number (operand_at 0 f) held) w w c.in_err-o.field-0.0
-    (numbered_stopped p c.args.number held c.operand-v.result (operand_at 0 f) w c.operand-v.ensures.is (why c.in_err-o.field-0.0) (c.in_err-o.ensures.is w)) refl)
+pub returns-in_err-o : goal.returns-in_err-o
+returns-in_err-o g c = record {
+  runs =
+      let p = setting c.args.linked.now g.out in
+      let q = c.args.s.now.frames in
+      let f = newest q in
+      let w = world c.args.s.now g.out in
+      let e = err_from_is_err_and c.from_residual.result c.from_residual.ensures.1 in
+      rw (e.1, e.2) (pushes_stopped p q q 1 (on_numbered p c.args.number (operand_at 0 f) held) w w c.in_err-o.field-0.0
+      (numbered_stopped p c.args.number held c.operand-v.result (operand_at 0 f) w c.operand-v.ensures.is (why c.in_err-o.field-0.0) (c.in_err-o.ensures.is w)) refl);
+  limit = search rules;
+}

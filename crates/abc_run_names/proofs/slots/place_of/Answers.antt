@@ -1,7 +1,7 @@
 use Rattle.std.proofs.Common.{◌≡◌, ◌∙◌, ℕ, ◌<◌, ap, length, subst, sym}
 use Rattle.std.specs.Prelude.{None, is_some}
 use Rattle.std.specs.declared.option.Option.{Option}
-use Rattle.abc_link_program.specs.Slots.{slot_numbered}
+use Rattle.abc_link_names.specs.Slots.{slot_numbered}
 use Rattle.abc_run_state.proofs.Things.{layout_there}
 use Rattle.abc_run_names.proofs.slots.place_of.Goals as goal
 

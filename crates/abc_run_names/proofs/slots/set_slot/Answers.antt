@@ -1,4 +1,4 @@
-use Rattle.std.proofs.Common.{◌∙◌, ℕ, ap, refl, subst, sym}
+use Rattle.std.proofs.Common.{rules, ◌∙◌, ℕ, ap, refl, subst, sym}
 use Rattle.std.proofs.lemmas.Result.{err_from_is_err_and}
 use Rattle.abc_heap_values.specs.declared.values.ObjId.{ObjId}
 use Rattle.abc_heap_values.specs.declared.values.Value.{Value}
@@ -66,39 +66,48 @@ write_slot-requires g c = (
 pub drop_and_go-requires : goal.drop_and_go-requires
 drop_and_go-requires g c = subst (IsReady 2 0) (sym c.in_ok-write_slot.ensures.stays.frames) c.requires.1.0
 
-pub returns-clause-runs : goal.returns-clause-runs
-returns-clause-runs g c =
-    let l = c.args.linked.now in
-    let p = setting l g.out in
-    let q = c.args.s.now.frames in
-    let f = newest q in
-    let h = c.args.s.now.arena in
-    let w = world c.args.s.now g.out in
-    let there = subst (Exists l h) c.in_ok-o.ensures.object (c.operand-v.ensures.there l h c.requires.0.frame.stack) in
-    let at = numbered_at p c.args.number (writes p f) c.operand-v.result (operand_at 1 f) w c.operand-v.ensures.is c.in_ok-o.o c.in_ok-o.ensures.object c.place_of-k.result there c.place_of-k.ensures in
-    drops_on p q c.write_slot.new.s.frames c.drop_and_go.new.frames 2 (on_numbered p c.args.number (operand_at 1 f) (writes p f)) w (world c.write_slot.new.s g.out)
-    (at ∙ ap (λ (x : Value). write_slot p c.in_ok-o.o c.place_of-k.result x w) (sym c.operand-x.ensures.is) ∙ c.in_ok-write_slot.ensures.part) c.in_ok-write_slot.ensures.stays.frames c.drop_and_go.ensures
+pub returns : goal.returns
+returns g c = record {
+  runs =
+      let l = c.args.linked.now in
+      let p = setting l g.out in
+      let q = c.args.s.now.frames in
+      let f = newest q in
+      let h = c.args.s.now.arena in
+      let w = world c.args.s.now g.out in
+      let there = subst (Exists l h) c.in_ok-o.ensures.object (c.operand-v.ensures.there l h c.requires.0.frame.stack) in
+      let at = numbered_at p c.args.number (writes p f) c.operand-v.result (operand_at 1 f) w c.operand-v.ensures.is c.in_ok-o.o c.in_ok-o.ensures.object c.place_of-k.result there c.place_of-k.ensures in
+      drops_on p q c.write_slot.new.s.frames c.drop_and_go.new.frames 2 (on_numbered p c.args.number (operand_at 1 f) (writes p f)) w (world c.write_slot.new.s g.out)
+      (at ∙ ap (λ (x : Value). write_slot p c.in_ok-o.o c.place_of-k.result x w) (sym c.operand-x.ensures.is) ∙ c.in_ok-write_slot.ensures.part) c.in_ok-write_slot.ensures.stays.frames c.drop_and_go.ensures;
+  limit = search rules;
+}
 
-pub returns-in_err-o-clause-runs : goal.returns-in_err-o-clause-runs
-returns-in_err-o-clause-runs g c =
-    let p = setting c.args.linked.now g.out in
-    let q = c.args.s.now.frames in
-    let f = newest q in
-    let w = world c.args.s.now g.out in
-    let e = err_from_is_err_and c.from_residual.result c.from_residual.ensures.1 in
-    rw (e.1, e.2) (drops_stopped p q q 2 (on_numbered p c.args.number (operand_at 1 f) (writes p f)) w w c.in_err-o.field-0.0
-    (numbered_stopped p c.args.number (writes p f) c.operand-v.result (operand_at 1 f) w c.operand-v.ensures.is (why c.in_err-o.field-0.0) (c.in_err-o.ensures.is w)) refl)
+pub returns-in_err-o : goal.returns-in_err-o
+returns-in_err-o g c = record {
+  runs =
+      let p = setting c.args.linked.now g.out in
+      let q = c.args.s.now.frames in
+      let f = newest q in
+      let w = world c.args.s.now g.out in
+      let e = err_from_is_err_and c.from_residual.result c.from_residual.ensures.1 in
+      rw (e.1, e.2) (drops_stopped p q q 2 (on_numbered p c.args.number (operand_at 1 f) (writes p f)) w w c.in_err-o.field-0.0
+      (numbered_stopped p c.args.number (writes p f) c.operand-v.result (operand_at 1 f) w c.operand-v.ensures.is (why c.in_err-o.field-0.0) (c.in_err-o.ensures.is w)) refl);
+  limit = search rules;
+}
 
-pub returns-in_err-write_slot-clause-runs : goal.returns-in_err-write_slot-clause-runs
-returns-in_err-write_slot-clause-runs g c =
-    let l = c.args.linked.now in
-    let p = setting l g.out in
-    let q = c.args.s.now.frames in
-    let f = newest q in
-    let h = c.args.s.now.arena in
-    let w = world c.args.s.now g.out in
-    let there = subst (Exists l h) c.in_ok-o.ensures.object (c.operand-v.ensures.there l h c.requires.0.frame.stack) in
-    let at = numbered_at p c.args.number (writes p f) c.operand-v.result (operand_at 1 f) w c.operand-v.ensures.is c.in_ok-o.o c.in_ok-o.ensures.object c.place_of-k.result there c.place_of-k.ensures in
-    let e = err_from_is_err_and c.from_residual-in_err-write_slot.result c.from_residual-in_err-write_slot.ensures.1 in
-    rw (e.1, e.2) (drops_stopped p q c.write_slot.new.s.frames 2 (on_numbered p c.args.number (operand_at 1 f) (writes p f)) w (world c.write_slot.new.s g.out) c.in_err-write_slot.field-0.0
-    (at ∙ ap (λ (x : Value). write_slot p c.in_ok-o.o c.place_of-k.result x w) (sym c.operand-x.ensures.is) ∙ c.in_err-write_slot.ensures.part) c.in_err-write_slot.ensures.stays.frames)
+pub returns-in_err-write_slot : goal.returns-in_err-write_slot
+returns-in_err-write_slot g c = record {
+  runs =
+      let l = c.args.linked.now in
+      let p = setting l g.out in
+      let q = c.args.s.now.frames in
+      let f = newest q in
+      let h = c.args.s.now.arena in
+      let w = world c.args.s.now g.out in
+      let there = subst (Exists l h) c.in_ok-o.ensures.object (c.operand-v.ensures.there l h c.requires.0.frame.stack) in
+      let at = numbered_at p c.args.number (writes p f) c.operand-v.result (operand_at 1 f) w c.operand-v.ensures.is c.in_ok-o.o c.in_ok-o.ensures.object c.place_of-k.result there c.place_of-k.ensures in
+      let e = err_from_is_err_and c.from_residual-in_err-write_slot.result c.from_residual-in_err-write_slot.ensures.1 in
+      rw (e.1, e.2) (drops_stopped p q c.write_slot.new.s.frames 2 (on_numbered p c.args.number (operand_at 1 f) (writes p f)) w (world c.write_slot.new.s g.out) c.in_err-write_slot.field-0.0
+      (at ∙ ap (λ (x : Value). write_slot p c.in_ok-o.o c.place_of-k.result x w) (sym c.operand-x.ensures.is) ∙ c.in_err-write_slot.ensures.part) c.in_err-write_slot.ensures.stays.frames);
+  limit = search rules;
+}

@@ -6,8 +6,8 @@ use Rattle.abc_objects.specs.Growing.{Grows}
 use Rattle.abc_objects.specs.Values.{Holds}
 use Rattle.abc_objects.proofs.Grown.{grows_on}
 use Rattle.abc_objects.proofs.Kept.{changed_grows}
-use Rattle.abc_link_program.specs.Types.{kind_of_type}
-use Rattle.abc_link_program.specs.declared.types.Kind.{Kind}
+use Rattle.abc_link_names.specs.Types.{kind_of_type}
+use Rattle.abc_link_names.specs.declared.types.Kind.{Kind}
 use Rattle.abc_run_state.specs.Outer.{setting, world}
 use Rattle.abc_run_state.specs.Stops.{why}
 use Rattle.abc_run_names.proofs.Coercing.{coercion_holds}

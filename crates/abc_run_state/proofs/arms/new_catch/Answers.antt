@@ -1,5 +1,5 @@
-use Rattle.abc_link_program.specs.declared.part.LayoutId.{LayoutId}
-use Rattle.abc_link_program.specs.declared.part.Part.TheVariants as parts
+use Rattle.abc_link_names.specs.declared.part.LayoutId.{LayoutId}
+use Rattle.abc_link_names.specs.declared.part.Part.TheVariants as parts
 use Rattle.abc_objects.specs.Stands.{array_layout}
 use Rattle.std.proofs.Common.{◌≢◌, ◌<◌, length, subst, sym}
 use Rattle.abc_run_state.proofs.Made.{no_array, part_is}

@@ -1,7 +1,7 @@
 use Rattle.std.proofs.Common.{◌∙◌, ◌≢◌, ◌<◌, ap, length, subst, sym}
 use Rattle.abc_objects.specs.Stands.{array_layout, host_layout}
-use Rattle.abc_link_program.specs.declared.part.LayoutId.{LayoutId}
-use Rattle.abc_link_program.specs.declared.part.Part.TheVariants as parts
+use Rattle.abc_link_names.specs.declared.part.LayoutId.{LayoutId}
+use Rattle.abc_link_names.specs.declared.part.Part.TheVariants as parts
 use Rattle.abc_run_state.specs.Outer.{setting, world}
 use Rattle.abc_meaning.specs.Objects.{new_object}
 use Rattle.abc_run_state.proofs.Made.{no_array, other_class, part_is}

@@ -1,6 +1,6 @@
 use Rattle.std.proofs.Common.{◌∙◌, ap, sym}
 use Rattle.std.specs.declared.option.Option.{Option}
-use Rattle.abc_link_program.specs.declared.types.Ty.{Ty}
+use Rattle.abc_link_names.specs.declared.types.Ty.{Ty}
 use Rattle.abc_meaning.specs.World.{and_then, some}
 use Rattle.abc_meaning.specs.Ops.{coerces}
 use Rattle.abc_run_state.specs.Outer.{setting}

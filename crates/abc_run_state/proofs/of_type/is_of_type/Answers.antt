@@ -1,5 +1,5 @@
 use Rattle.std.proofs.Common.{subst, sym}
-use Rattle.abc_link_program.specs.declared.types.Ty.{Ty}
+use Rattle.abc_link_names.specs.declared.types.Ty.{Ty}
 use Rattle.abc_run_state.specs.OfType.{IsOfType}
 use Rattle.abc_run_state.proofs.StaysSo.{any_kept}
 use Rattle.abc_run_state.proofs.of_type.is_of_type.Goals as goal

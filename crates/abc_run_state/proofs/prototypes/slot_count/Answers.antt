@@ -1,6 +1,6 @@
 use Rattle.std.proofs.Common.{◌∙◌, ℕ, ◌<◌, List, ap, length, subst, sym}
-use Rattle.abc_link_program.specs.Slots.{slots_of}
-use Rattle.abc_link_program.specs.declared.types.SlotInfo.{SlotInfo}
+use Rattle.abc_link_names.specs.Slots.{slots_of}
+use Rattle.abc_link_names.specs.declared.types.SlotInfo.{SlotInfo}
 use Rattle.abc_run_state.proofs.Things.{layout_there, slots_counted}
 use Rattle.abc_run_state.proofs.prototypes.slot_count.Goals as goal
 

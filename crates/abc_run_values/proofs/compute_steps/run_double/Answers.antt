@@ -4,7 +4,7 @@ use Rattle.abc_run_values.proofs.ComputingOps.{op_A0, op_A1, op_A2, op_A3, op_A4
 use Rattle.abc_run_values.proofs.Doing.{Does, pick, turns_as}
 use Rattle.abc_run_values.specs.Groups.{double_ops}
 use Rattle.abc_run_values.specs.Ready.{CanRun}
-use Rattle.abc_link_program.specs.Linked.{LinkedFile}
+use Rattle.abc_link_names.specs.Linked.{LinkedFile}
 use Rattle.abc_frames.specs.Frame.{newest}
 use Rattle.abc_run_state.specs.Outer.{Outer, setting}
 use Rattle.abc_run_state.specs.declared.state.State.{State}

@@ -4,7 +4,7 @@ use Rattle.abc_run_values.proofs.ComputingOps.{op_90, op_91, op_93, op_95, op_96
 use Rattle.abc_run_values.proofs.Doing.{Does, pick, turns_as}
 use Rattle.abc_run_values.specs.Groups.{single_ops}
 use Rattle.abc_run_values.specs.Ready.{CanRun}
-use Rattle.abc_link_program.specs.Linked.{LinkedFile}
+use Rattle.abc_link_names.specs.Linked.{LinkedFile}
 use Rattle.abc_frames.specs.Frame.{newest}
 use Rattle.abc_run_state.specs.Outer.{Outer}
 use Rattle.abc_run_state.specs.declared.state.State.{State}

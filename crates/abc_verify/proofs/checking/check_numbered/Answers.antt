@@ -1,4 +1,4 @@
-use Rattle.abc_link_program.proofs.MethodBodies.{body_inside}
+use Rattle.abc_link_names.proofs.MethodBodies.{body_inside}
 use Rattle.abc_verify.proofs.Methods.{is_typed, refused}
 use Rattle.abc_verify.proofs.checking.check_numbered.Goals as goal
 

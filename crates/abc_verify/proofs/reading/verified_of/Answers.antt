@@ -1,6 +1,6 @@
 use Rattle.std.proofs.Common.{ap, refl, subst, sym}
 use Rattle.abc_link_layouts.specs.Numbering.{IsNumbered}
-use Rattle.abc_link_program.specs.Linked.{IsLinkedFile, LinkedFile}
+use Rattle.abc_link_names.specs.Linked.{IsLinkedFile, LinkedFile}
 use Rattle.abc_verify.specs.Typed.{AllTyped}
 use Rattle.abc_verify.specs.FileRefusing.{IsUnverifiedBy}
 use Rattle.abc_verify.specs.declared.verified_error.VerifiedError.{VerifiedError}

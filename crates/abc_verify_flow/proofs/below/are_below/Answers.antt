@@ -1,4 +1,4 @@
-use Rattle.abc_link_program.specs.Kinds.{IsAtMost}
+use Rattle.abc_link_names.specs.Kinds.{IsAtMost}
 use Rattle.abc_verify_flow.proofs.Lists.{each_next, read_more}
 use Rattle.abc_verify_flow.proofs.below.are_below.Goals as goal
 

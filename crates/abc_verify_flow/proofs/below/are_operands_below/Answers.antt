@@ -1,6 +1,6 @@
 use Rattle.std.proofs.Common.{arith}
-use Rattle.abc_link_program.specs.Kinds.{IsAtMost}
-use Rattle.abc_link_program.specs.declared.types.Kind.TheVariants.{Any}
+use Rattle.abc_link_names.specs.Kinds.{IsAtMost}
+use Rattle.abc_link_names.specs.declared.types.Kind.TheVariants.{Any}
 use Rattle.abc_verify_flow.proofs.Lists.{each_next, read_more, taken_more}
 use Rattle.abc_verify_flow.proofs.below.are_operands_below.Goals as goal
 

@@ -1,6 +1,6 @@
 use Rattle.std.proofs.Common.{List, [], ◌∷◌, ◌++◌, take, sym, ap, ◌∙◌, arith}
 use Rattle.std.proofs.lemmas.List.{take_all}
-use Rattle.abc_link_program.specs.declared.types.Kind.{Kind}
+use Rattle.abc_link_names.specs.declared.types.Kind.{Kind}
 use Rattle.abc_verify_flow.proofs.Lists.{read_more}
 use Rattle.abc_verify_flow.proofs.below.are_same.Goals as goal
 

@@ -1,6 +1,6 @@
 use Rattle.std.proofs.Common.{◌+◌, set, ap, ◌∙◌, arith}
-use Rattle.abc_link_program.specs.declared.types.Kind.{Kind}
-use Rattle.abc_link_program.specs.declared.types.Kind.TheVariants.{Any}
+use Rattle.abc_link_names.specs.declared.types.Kind.{Kind}
+use Rattle.abc_link_names.specs.declared.types.Kind.TheVariants.{Any}
 use Rattle.abc_verify_flow.proofs.Lists.{pasted_next}
 use Rattle.abc_verify_flow.proofs.kept.put_operands.Goals as goal
 

@@ -1,6 +1,6 @@
 use Rattle.std.proofs.Common.{◌≡◌, ◌<◌, ◌≤◌, length, refl, arith}
-use Rattle.abc_link_program.specs.Kinds.{IsAtMost}
-use Rattle.abc_link_program.specs.declared.types.Kind.TheVariants.{Any}
+use Rattle.abc_link_names.specs.Kinds.{IsAtMost}
+use Rattle.abc_link_names.specs.declared.types.Kind.TheVariants.{Any}
 use Rattle.abc_verify_states.proofs.Pairs.{clash, pairs_all, pairs_at, pairs_next, pairs_start}
 use Rattle.abc_verify_states.proofs.below.are_locals_at_most.Goals as goal
 

@@ -1,5 +1,5 @@
-use Rattle.abc_link_program.specs.Kinds.{IsAtMost}
-use Rattle.abc_link_program.specs.declared.types.Kind.TheVariants.{Any}
+use Rattle.abc_link_names.specs.Kinds.{IsAtMost}
+use Rattle.abc_link_names.specs.declared.types.Kind.TheVariants.{Any}
 use Rattle.abc_verify_states.proofs.Pairs.{tested_along, there}
 use Rattle.abc_verify_states.proofs.below.is_local_at_most.Goals as goal
 

@@ -1,4 +1,4 @@
-use Rattle.abc_link_program.specs.Kinds.{IsAtMost}
+use Rattle.abc_link_names.specs.Kinds.{IsAtMost}
 use Rattle.abc_verify_states.proofs.Pairs.{tested_along}
 use Rattle.abc_verify_states.proofs.below.is_operand_at_most.Goals as goal
 

@@ -1,5 +1,5 @@
 use Rattle.std.proofs.Common.{take}
-use Rattle.abc_link_program.specs.Kinds.{IsAtMost}
+use Rattle.abc_link_names.specs.Kinds.{IsAtMost}
 use Rattle.abc_verify_typing.specs.Lists.{Each2}
 use Rattle.abc_verify_states.proofs.below.is_stack_at_most.Given as goal
 

@@ -1,5 +1,5 @@
 use Rattle.std.proofs.Common.{◌≡◌, ◌<◌, ◌∙◌, ap, length, subst, sym}
-use Rattle.abc_link_names.specs.Parts.{body_at, no_body}
+use Rattle.abc_link_names.specs.PartsByNumber.{body_at, no_body}
 use Rattle.abc_file_types.specs.declared.tables.Abc.{Abc}
 use Rattle.abc_verify_states.proofs.Finds.{at_any}
 use Rattle.abc_verify_states.proofs.frame.body_numbered.Goals as goal

@@ -1,5 +1,5 @@
-use Rattle.abc_link_program.specs.Owners.{owner_of}
-use Rattle.abc_link_names.specs.Parts.{method_at}
+use Rattle.abc_link_names.specs.Owners.{owner_of}
+use Rattle.abc_link_names.specs.PartsByNumber.{method_at}
 use Rattle.abc_verify_states.proofs.Starts.{framed}
 use Rattle.abc_verify_states.proofs.frame.frame_in.Goals as goal
 

@@ -1,6 +1,6 @@
 use Rattle.std.proofs.Common.{◌∙◌, ap}
-use Rattle.abc_link_program.specs.Owners.{owner_of}
-use Rattle.abc_link_names.specs.Parts.{method_at}
+use Rattle.abc_link_names.specs.Owners.{owner_of}
+use Rattle.abc_link_names.specs.PartsByNumber.{method_at}
 use Rattle.abc_file_types.specs.declared.code.Body.{Body}
 use Rattle.abc_verify_typing.specs.Routines.{routine_of}
 use Rattle.abc_verify_states.proofs.frame.frame_of.Goals as goal

@@ -1,6 +1,6 @@
 use Rattle.std.proofs.Common.{◌≡◌, ◌<◌, ◌≤◌, length, arith}
-use Rattle.abc_link_program.specs.Kinds.{IsJoin}
-use Rattle.abc_link_program.specs.declared.types.Kind.TheVariants.{Any}
+use Rattle.abc_link_names.specs.Kinds.{IsJoin}
+use Rattle.abc_link_names.specs.declared.types.Kind.TheVariants.{Any}
 use Rattle.abc_verify_states.proofs.Threes.{threes_all, threes_next, threes_start}
 use Rattle.abc_verify_states.proofs.joining.join_locals.Goals as goal
 

@@ -1,5 +1,5 @@
 use Rattle.std.proofs.Common.{take}
-use Rattle.abc_link_program.specs.Kinds.{IsJoin}
+use Rattle.abc_link_names.specs.Kinds.{IsJoin}
 use Rattle.abc_verify_states.specs.Triples.{Each3}
 use Rattle.abc_verify_states.proofs.joining.join_locals.Given as goal
 

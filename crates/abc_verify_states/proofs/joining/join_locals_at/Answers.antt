@@ -1,4 +1,4 @@
-use Rattle.abc_link_program.specs.Kinds.{IsJoin}
+use Rattle.abc_link_names.specs.Kinds.{IsJoin}
 use Rattle.abc_verify_states.proofs.Threes.{joined_along}
 use Rattle.abc_verify_states.proofs.joining.join_locals_at.Goals as goal
 

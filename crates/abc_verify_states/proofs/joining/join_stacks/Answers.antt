@@ -1,6 +1,6 @@
 use Rattle.std.proofs.Common.{◌≡◌, ◌-◌, ◌<◌, ◌≤◌, length, suc, arith}
-use Rattle.abc_link_program.specs.Kinds.{IsJoin}
-use Rattle.abc_link_program.specs.declared.types.Kind.TheVariants.{Any}
+use Rattle.abc_link_names.specs.Kinds.{IsJoin}
+use Rattle.abc_link_names.specs.declared.types.Kind.TheVariants.{Any}
 use Rattle.abc_verify_states.proofs.Threes.{threes_down, threes_end, threes_whole}
 use Rattle.abc_verify_states.proofs.joining.join_stacks.Goals as goal
 

@@ -2,7 +2,7 @@ use Rattle.std.proofs.Common.{◌∙◌, ap}
 use Rattle.std.specs.Str.{bytes_eq}
 use Rattle.abc_base_graphs.specs.Index.{first}
 use Rattle.abc_base_graphs.specs.Texts.{texts_of}
-use Rattle.abc_link_program.specs.Linked.{LinkedFile}
+use Rattle.abc_link_names.specs.Linked.{LinkedFile}
 use Rattle.abc_link.specs.ScriptTraits.{script_traits}
 use Rattle.abc_link.proofs.linked.Linked.script_traits.Goals as goal
 

@@ -1,7 +1,7 @@
 use Rattle.std.proofs.Common.{◌≡◌, ◌∙◌, ℕ, List, length, get_or, sym, ap, arith}
 use Rattle.std.specs.Prelude.{slice_get}
-use Rattle.abc_link_program.specs.Numbering.{part_at}
-use Rattle.abc_link_program.specs.Slots.{traits_of}
+use Rattle.abc_link_names.specs.Numbering.{part_at}
+use Rattle.abc_link_names.specs.Slots.{traits_of}
 use Rattle.abc_link.specs.OwnSlots.{slots_before}
 use Rattle.abc_link.proofs.Rows.{row_length, row_of, there}
 use Rattle.abc_link.proofs.slots.OwnSlots.before.Goals as goal

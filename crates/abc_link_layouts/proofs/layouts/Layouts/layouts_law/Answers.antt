@@ -1,4 +1,4 @@
-use Rattle.abc_link_program.proofs.Finding.{falling, found}
+use Rattle.abc_link_names.proofs.Finding.{falling, found}
 use Rattle.abc_link_layouts.proofs.layouts.Layouts.layouts_law.Goals as goal
 
 pub returns : goal.returns

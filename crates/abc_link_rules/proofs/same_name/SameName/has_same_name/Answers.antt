@@ -1,6 +1,6 @@
 use Rattle.std.proofs.Common.{◌∙◌, ap}
 use Rattle.abc_link_rules.specs.Repeats.{keys_clash}
-use Rattle.abc_link_names.specs.Traits.{any_pair}
+use Rattle.abc_link_names.specs.ItemTypes.{any_pair}
 use Rattle.abc_link_rules.proofs.SidedRepeats.{of_traits, if_ok_same}
 use Rattle.abc_link_rules.proofs.same_name.SameName.has_same_name.Goals as goal
 

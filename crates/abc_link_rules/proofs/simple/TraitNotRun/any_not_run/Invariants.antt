@@ -1,6 +1,6 @@
 use Rattle.std.proofs.Common.{◌≡◌, ◌||◌, ◌&&◌, false, take}
 use Rattle.std.specs.List.{list_any}
-use Rattle.abc_link_names.specs.Traits.{is_no_slot, is_not_run}
+use Rattle.abc_link_names.specs.ItemTypes.{is_no_slot, is_not_run}
 use Rattle.abc_link_rules.proofs.simple.TraitNotRun.any_not_run.Given as goal
 
 abbrev pub invariant-loop-info : goal.invariant-loop-info

@@ -1,9 +1,9 @@
 use Rattle.std.proofs.Common.{◌≡◌, ◌∙◌, sym, ap, length}
 use Rattle.abc_base_graphs.specs.Ways.{way}
 use Rattle.abc_base_graphs.proofs.Walks.{step_in}
-use Rattle.abc_link_program.specs.Linked.{base}
-use Rattle.abc_heap_search.specs.Results.{or_next}
-use Rattle.abc_heap_search.proofs.Joins.{hit_first, or_missing}
+use Rattle.abc_link_names.specs.Linked.{base}
+use Rattle.abc_objects.specs.Results.{or_next}
+use Rattle.abc_objects.proofs.Joins.{hit_first, or_missing}
 use Rattle.abc_lookup.specs.Steps.{along, layout_number}
 use Rattle.abc_lookup.proofs.Along.{along_end, along_next, bases_fall, less_left, number_back, walk_in}
 use Rattle.abc_lookup.proofs.query.Query.find_above.Goals as goal

@@ -1,7 +1,7 @@
 use Rattle.std.proofs.Common.{◌≡◌, length}
 use Rattle.abc_base_graphs.specs.Ways.{IsBelow, left, way}
-use Rattle.abc_link_program.specs.Linked.{base}
-use Rattle.abc_heap_search.specs.Results.{or_next}
+use Rattle.abc_link_names.specs.Linked.{base}
+use Rattle.abc_objects.specs.Results.{or_next}
 use Rattle.abc_lookup.specs.Steps.{along, layout_number}
 use Rattle.abc_lookup.proofs.query.Query.find_above.Given as goal
 

@@ -1,9 +1,9 @@
 use Rattle.std.proofs.Common.{◌≡◌, ◌∙◌, refl, sym, ap, length}
 use Rattle.abc_base_graphs.proofs.Walks.{step_in}
-use Rattle.abc_heap_search.specs.Candidates.{answer, things_along}
-use Rattle.abc_heap_search.specs.Objects.{delegate_at, number_of}
-use Rattle.abc_heap_search.specs.Results.{or_next}
-use Rattle.abc_heap_search.proofs.Joins.{hit_first, or_missing}
+use Rattle.abc_objects.specs.Candidates.{answer, things_along}
+use Rattle.abc_objects.specs.Objects.{delegate_at, number_of}
+use Rattle.abc_objects.specs.Results.{or_next}
+use Rattle.abc_objects.proofs.Joins.{hit_first, or_missing}
 use Rattle.abc_lookup.proofs.Along.{less_left}
 use Rattle.abc_lookup.proofs.Stands.{delegates_fall, inside, object_in}
 use Rattle.abc_lookup.proofs.Things.{things_end, things_next}

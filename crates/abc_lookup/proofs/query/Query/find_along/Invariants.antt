@@ -1,8 +1,8 @@
 use Rattle.std.proofs.Common.{◌≡◌, length}
 use Rattle.abc_base_graphs.specs.Ways.{IsBelow, left}
-use Rattle.abc_heap_search.specs.Candidates.{answer, things_along}
-use Rattle.abc_heap_search.specs.Objects.{number_of}
-use Rattle.abc_heap_search.specs.Results.{or_next}
+use Rattle.abc_objects.specs.Candidates.{answer, things_along}
+use Rattle.abc_objects.specs.Objects.{number_of}
+use Rattle.abc_objects.specs.Results.{or_next}
 use Rattle.abc_lookup.proofs.query.Query.find_along.Given as goal
 
 abbrev pub invariant-loop-at : goal.invariant-loop-at

@@ -1,6 +1,6 @@
 use Rattle.std.proofs.Common.{◌∙◌, ap}
 use Rattle.abc_link_names.specs.Pool.{name, qname, text}
-use Rattle.abc_link_program.specs.Slots.{handler_at}
+use Rattle.abc_link_names.specs.Slots.{handler_at}
 use Rattle.abc_file_types.specs.declared.tables.Abc.{Abc}
 use Rattle.abc_lookup.proofs.TextFirst.{caught_given, caught_none}
 use Rattle.abc_lookup.proofs.query.Query.find_caught.Goals as goal

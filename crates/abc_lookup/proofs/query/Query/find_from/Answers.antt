@@ -1,9 +1,9 @@
 use Rattle.std.proofs.Common.{◌≡◌, ◌∙◌, Some, ap, length, refl, sym}
 use Rattle.abc_base_graphs.proofs.Walks.{step_in}
 use Rattle.abc_base_graphs.specs.Ways.{way}
-use Rattle.abc_link_program.specs.Linked.{base}
-use Rattle.abc_heap_search.specs.Results.{or_next}
-use Rattle.abc_heap_search.proofs.Joins.{hit_first}
+use Rattle.abc_link_names.specs.Linked.{base}
+use Rattle.abc_objects.specs.Results.{or_next}
+use Rattle.abc_objects.proofs.Joins.{hit_first}
 use Rattle.abc_lookup.specs.Steps.{along, layout_number}
 use Rattle.abc_lookup.proofs.Along.{along_first, bases_fall, number_back}
 use Rattle.abc_lookup.proofs.query.Query.find_from.Goals as goal

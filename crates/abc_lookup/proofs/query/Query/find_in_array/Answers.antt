@@ -1,6 +1,6 @@
 use Rattle.std.proofs.Common.{◌∙◌, sym, ap}
 use Rattle.std.specs.Str.{bytes_eq}
-use Rattle.abc_heap_search.specs.ElementNames.{is_length}
+use Rattle.abc_objects.specs.ElementNames.{is_length}
 use Rattle.abc_lookup.proofs.Things.{length_hit, length_miss}
 use Rattle.abc_lookup.proofs.query.Query.find_in_array.Goals as goal
 

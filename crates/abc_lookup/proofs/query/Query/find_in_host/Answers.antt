@@ -1,7 +1,7 @@
 use Rattle.std.proofs.Common.{◌∙◌, ℕ, sym, ap}
 use Rattle.abc_heap_store.specs.Heap.{object_at}
-use Rattle.abc_heap_search.specs.Candidates.{answer, properties}
-use Rattle.abc_heap_search.specs.Objects.{host_object_number}
+use Rattle.abc_objects.specs.Candidates.{answer, properties}
+use Rattle.abc_objects.specs.Objects.{host_object_number}
 use Rattle.abc_lookup.proofs.Things.{not_public_all, public_all}
 use Rattle.abc_lookup.proofs.query.Query.find_in_host.Goals as goal
 

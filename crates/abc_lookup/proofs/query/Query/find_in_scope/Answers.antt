@@ -1,7 +1,7 @@
 use Rattle.std.proofs.Common.{sym}
-use Rattle.abc_heap_search.specs.Candidates.{traits_of_object, where_public}
-use Rattle.abc_heap_search.specs.Scopes.{scope_things}
-use Rattle.abc_heap_search.proofs.Joins.{ends, goes_on}
+use Rattle.abc_objects.specs.Candidates.{traits_of_object, where_public}
+use Rattle.abc_objects.specs.Scopes.{scope_things}
+use Rattle.abc_objects.proofs.Joins.{ends, goes_on}
 use Rattle.abc_lookup.proofs.query.Query.find_in_scope.Goals as goal
 
 pub returns-then-is_hit : goal.returns-then-is_hit

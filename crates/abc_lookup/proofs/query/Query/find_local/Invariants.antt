@@ -1,6 +1,6 @@
 use Rattle.std.proofs.Common.{◌≡◌, map, reverse, take}
 use Rattle.std.specs.List.{find}
-use Rattle.abc_heap_search.specs.Scopes.{InScope, has}
+use Rattle.abc_objects.specs.Scopes.{InScope, has}
 use Rattle.abc_lookup.proofs.query.Query.find_local.Given as goal
 
 abbrev pub invariant-loop-i : goal.invariant-loop-i

@@ -1,6 +1,6 @@
 use Rattle.std.proofs.Common.{◌∙◌, sym, ap, arith}
 use Rattle.abc_heap_store.specs.Heap.{elements_of}
-use Rattle.abc_heap_search.specs.ElementNames.{element_number}
+use Rattle.abc_objects.specs.ElementNames.{element_number}
 use Rattle.abc_lookup.proofs.Things.{no_number, number_hit, number_past}
 use Rattle.abc_lookup.proofs.query.Query.find_numbered.Goals as goal
 

@@ -1,6 +1,6 @@
 use Rattle.std.proofs.Common.{sym}
-use Rattle.abc_heap_search.specs.Candidates.{holder_of, things_along, traits_on, where_public}
-use Rattle.abc_heap_search.proofs.Joins.{ends, goes_on}
+use Rattle.abc_objects.specs.Candidates.{holder_of, things_along, traits_on, where_public}
+use Rattle.abc_objects.proofs.Joins.{ends, goes_on}
 use Rattle.abc_lookup.proofs.query.Query.find_on.Goals as goal
 
 pub returns-then-is_hit : goal.returns-then-is_hit

@@ -1,6 +1,6 @@
 use Rattle.abc_heap_store.specs.Heap.{object_at}
-use Rattle.abc_heap_search.specs.Candidates.{elements, properties}
-use Rattle.abc_heap_search.proofs.Joins.{ends, goes_on}
+use Rattle.abc_objects.specs.Candidates.{elements, properties}
+use Rattle.abc_objects.proofs.Joins.{ends, goes_on}
 use Rattle.std.proofs.Common.{sym}
 use Rattle.abc_lookup.proofs.query.Query.find_own.Goals as goal
 

@@ -1,7 +1,7 @@
 use Rattle.std.proofs.Common.{◌∙◌, List, ℕ, map, ap, sym, arith}
 use Rattle.std.proofs.lemmas.List.{drop_all}
 use Rattle.std.specs.List.{find}
-use Rattle.abc_heap_search.specs.Scopes.{InScript, has}
+use Rattle.abc_objects.specs.Scopes.{InScript, has}
 use Rattle.abc_lookup.proofs.ScriptsFirst.{owner_at, owner_below, owner_has, owner_has_not, owner_is, owners_there, some_owners}
 use Rattle.abc_lookup.proofs.query.Query.find_owner.Goals as goal
 

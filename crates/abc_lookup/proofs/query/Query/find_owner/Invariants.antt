@@ -1,6 +1,6 @@
 use Rattle.std.proofs.Common.{◌≡◌, drop, length, map}
 use Rattle.std.specs.List.{find, range_with_len}
-use Rattle.abc_heap_search.specs.Scopes.{InScript, has}
+use Rattle.abc_objects.specs.Scopes.{InScript, has}
 use Rattle.abc_lookup.specs.Scripts.{HasNot}
 use Rattle.abc_lookup.proofs.ScriptsFirst.{owner_at}
 use Rattle.abc_lookup.proofs.query.Query.find_owner.Given as goal

@@ -1,6 +1,6 @@
 use Rattle.std.proofs.Common.{◌∙◌, sym, ap, length, map, reverse}
 use Rattle.std.specs.List.{range_with_len}
-use Rattle.abc_heap_search.specs.Scopes.{InHost, InScope, InScript, has, saved_places}
+use Rattle.abc_objects.specs.Scopes.{InHost, InScope, InScript, has, saved_places}
 use Rattle.abc_lookup.specs.Steps.{place_in, place_of}
 use Rattle.abc_lookup.proofs.Places.{first_here, first_later, first_of, past_local, past_saved, past_scripts}
 use Rattle.abc_lookup.proofs.query.Query.find_place.Goals as goal

@@ -1,5 +1,5 @@
 use Rattle.std.proofs.Common.{◌∙◌, sym}
-use Rattle.abc_heap_search.specs.Scopes.{scope_things}
+use Rattle.abc_objects.specs.Scopes.{scope_things}
 use Rattle.abc_lookup.proofs.Things.{not_public_all, public_all}
 use Rattle.abc_lookup.proofs.query.Query.find_public_in.Goals as goal
 

@@ -1,5 +1,5 @@
 use Rattle.std.proofs.Common.{◌∙◌, sym, ap}
-use Rattle.abc_heap_search.specs.Candidates.{answer, holder_of, things_along}
+use Rattle.abc_objects.specs.Candidates.{answer, holder_of, things_along}
 use Rattle.abc_lookup.proofs.Things.{not_public_all, public_all}
 use Rattle.abc_lookup.proofs.query.Query.find_public_on.Goals as goal
 

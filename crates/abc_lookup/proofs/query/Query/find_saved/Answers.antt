@@ -2,7 +2,7 @@ use Rattle.std.proofs.Common.{◌≡◌, ◌∙◌, Some, cond, sym, ap, length}
 use Rattle.std.specs.List.{find}
 use Rattle.abc_base_graphs.proofs.Walks.{step_in}
 use Rattle.abc_heap_store.specs.declared.records.ScopeNode.{ScopeNode}
-use Rattle.abc_heap_search.specs.Scopes.{InScope, has, no_node, node_at, parent_at, saved_places, scope_number}
+use Rattle.abc_objects.specs.Scopes.{InScope, has, no_node, node_at, parent_at, saved_places, scope_number}
 use Rattle.abc_lookup.proofs.Along.{less_left}
 use Rattle.abc_lookup.proofs.Places.{first_here, first_later, saved_end, saved_next}
 use Rattle.abc_lookup.proofs.Stands.{node_is, parents_fall}

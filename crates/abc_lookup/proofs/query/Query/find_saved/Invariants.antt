@@ -1,7 +1,7 @@
 use Rattle.std.proofs.Common.{◌≡◌, length}
 use Rattle.std.specs.List.{find}
 use Rattle.abc_base_graphs.specs.Ways.{IsBelow, left}
-use Rattle.abc_heap_search.specs.Scopes.{has, saved_places, scope_number}
+use Rattle.abc_objects.specs.Scopes.{has, saved_places, scope_number}
 use Rattle.abc_lookup.proofs.query.Query.find_saved.Given as goal
 
 abbrev pub invariant-loop-at : goal.invariant-loop-at

@@ -1,5 +1,5 @@
 use Rattle.std.proofs.Common.{◌∙◌, ℕ, ap, arith}
-use Rattle.abc_heap_search.specs.Candidates.{answer, traits}
+use Rattle.abc_objects.specs.Candidates.{answer, traits}
 use Rattle.abc_lookup.proofs.Stands.{layout_in}
 use Rattle.abc_lookup.proofs.query.Query.find_trait_of.Goals as goal
 

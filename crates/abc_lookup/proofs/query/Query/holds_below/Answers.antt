@@ -2,8 +2,8 @@ use Rattle.std.proofs.Common.{◌≡◌, ◌∙◌, sym, ap, ◌||◌, length}
 use Rattle.std.specs.List.{list_any}
 use Rattle.abc_base_graphs.specs.Ways.{before, way}
 use Rattle.abc_base_graphs.proofs.Walks.{step_in}
-use Rattle.abc_link_program.specs.Linked.{base}
-use Rattle.abc_heap_search.specs.Spaces.{holds_protected}
+use Rattle.abc_link_names.specs.Linked.{base}
+use Rattle.abc_objects.specs.Spaces.{holds_protected}
 use Rattle.abc_lookup.specs.Steps.{layout_number}
 use Rattle.abc_lookup.proofs.Along.{bases_fall, before_end, before_here, before_more, less_left, number_back, walk_in}
 use Rattle.abc_lookup.proofs.query.Query.holds_below.Goals as goal

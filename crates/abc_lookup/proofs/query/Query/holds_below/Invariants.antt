@@ -1,8 +1,8 @@
 use Rattle.std.proofs.Common.{◌≡◌, length, Some}
 use Rattle.std.specs.List.{list_any}
 use Rattle.abc_base_graphs.specs.Ways.{IsBelow, before, left, way}
-use Rattle.abc_link_program.specs.Linked.{base}
-use Rattle.abc_heap_search.specs.Spaces.{holds_protected}
+use Rattle.abc_link_names.specs.Linked.{base}
+use Rattle.abc_objects.specs.Spaces.{holds_protected}
 use Rattle.abc_lookup.specs.Steps.{layout_number}
 use Rattle.abc_lookup.proofs.query.Query.holds_below.Given as goal
 

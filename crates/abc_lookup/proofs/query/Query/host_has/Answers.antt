@@ -1,4 +1,4 @@
-use Rattle.abc_heap_search.specs.Scopes.{InHost}
+use Rattle.abc_objects.specs.Scopes.{InHost}
 use Rattle.abc_lookup.proofs.Places.{has_name}
 use Rattle.abc_lookup.proofs.query.Query.host_has.Goals as goal
 

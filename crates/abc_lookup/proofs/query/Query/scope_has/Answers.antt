@@ -1,4 +1,4 @@
-use Rattle.abc_heap_search.specs.Scopes.{InScope}
+use Rattle.abc_objects.specs.Scopes.{InScope}
 use Rattle.abc_lookup.proofs.Places.{has_name}
 use Rattle.abc_lookup.proofs.query.Query.scope_has.Goals as goal
 

@@ -1,6 +1,6 @@
 use Rattle.std.proofs.Common.{◌∙◌, ap}
-use Rattle.abc_heap_search.specs.Candidates.{answer, traits_of_object}
-use Rattle.abc_heap_search.specs.Scopes.{InScript}
+use Rattle.abc_objects.specs.Candidates.{answer, traits_of_object}
+use Rattle.abc_objects.specs.Scopes.{InScript}
 use Rattle.abc_lookup.proofs.Places.{has_name}
 use Rattle.abc_lookup.proofs.query.Query.script_has.Goals as goal
 

@@ -1,8 +1,8 @@
 use Rattle.std.proofs.Common.{◌∙◌, sym, ap, List, ℕ}
 use Rattle.std.specs.List.{flat_map}
 use Rattle.std.proofs.lemmas.List.{drop_all}
-use Rattle.abc_heap_search.specs.Results.{or_next}
-use Rattle.abc_heap_search.proofs.Joins.{hit_first, or_missing}
+use Rattle.abc_objects.specs.Results.{or_next}
+use Rattle.abc_objects.proofs.Joins.{hit_first, or_missing}
 use Rattle.abc_lookup.specs.Slots.{own_at}
 use Rattle.abc_lookup.specs.Steps.{gives}
 use Rattle.abc_lookup.proofs.TextFirst.{place_next}

@@ -1,6 +1,6 @@
 use Rattle.std.proofs.Common.{◌≡◌, drop}
 use Rattle.std.specs.List.{flat_map}
-use Rattle.abc_heap_search.specs.Results.{or_next}
+use Rattle.abc_objects.specs.Results.{or_next}
 use Rattle.abc_lookup.specs.Slots.{own_at}
 use Rattle.abc_lookup.specs.Steps.{gives}
 use Rattle.abc_lookup.proofs.query.Query.try_each.Given as goal

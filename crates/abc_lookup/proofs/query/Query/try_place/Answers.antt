@@ -1,6 +1,6 @@
 use Rattle.std.proofs.Common.{◌≡◌, ◌∙◌, sym, ap}
 use Rattle.abc_link_names.specs.Pool.{name, qname}
-use Rattle.abc_heap_search.specs.Traits.{members_in, traits_named}
+use Rattle.abc_objects.specs.Traits.{members_in, traits_named}
 use Rattle.abc_file_types.specs.declared.tables.Abc.{Abc}
 use Rattle.abc_lookup.specs.Slots.{listed, own_at, slot_of}
 use Rattle.abc_lookup.specs.Steps.{gives}

@@ -1,5 +1,5 @@
 use Rattle.std.proofs.Common.{◌∙◌, length}
-use Rattle.abc_link_program.specs.Traits.{own_table_of}
+use Rattle.abc_link_names.specs.Traits.{own_table_of}
 use Rattle.abc_lookup.specs.Slots.{own_at}
 use Rattle.abc_lookup.proofs.TextFirst.{only_given, only_inside}
 use Rattle.abc_lookup.proofs.query.Query.try_places.Goals as goal

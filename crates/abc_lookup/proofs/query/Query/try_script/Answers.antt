@@ -1,5 +1,5 @@
 use Rattle.std.proofs.Common.{sym}
-use Rattle.abc_heap_search.specs.Scopes.{has}
+use Rattle.abc_objects.specs.Scopes.{has}
 use Rattle.abc_lookup.proofs.ScriptsFirst.{tried_not}
 use Rattle.abc_lookup.proofs.query.Query.try_script.Goals as goal
 

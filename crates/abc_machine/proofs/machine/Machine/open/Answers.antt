@@ -1,6 +1,6 @@
 use Rattle.std.proofs.Common.{◌<◌, ◌^◌, subst, rules}
 use Rattle.abc_meaning.specs.Openings.{IsRefused, setting}
-use Rattle.abc_link_program.specs.Linked.{LinkedFile}
+use Rattle.abc_link_names.specs.Linked.{LinkedFile}
 use Rattle.abc_machine.specs.Machines.{IsFirst}
 use Rattle.abc_machine.proofs.Opening.{open_keeps, opened_as}
 use Rattle.abc_machine.proofs.machine.Machine.open.Goals as goal

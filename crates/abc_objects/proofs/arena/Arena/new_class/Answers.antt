@@ -5,9 +5,9 @@ use Rattle.abc_base.specs.declared.names.HostClass.TheVariants as hosts
 use Rattle.abc_heap_store.specs.Heap.{Heap}
 use Rattle.abc_heap_store.specs.Changes.{with_class}
 use Rattle.abc_heap_store.specs.declared.store.ClassParts.{ClassParts}
-use Rattle.abc_link_program.specs.Slots.{slots_of}
-use Rattle.abc_link_program.specs.declared.part.LayoutId.{LayoutId}
-use Rattle.abc_link_program.specs.declared.types.SlotInfo.{SlotInfo}
+use Rattle.abc_link_names.specs.Slots.{slots_of}
+use Rattle.abc_link_names.specs.declared.part.LayoutId.{LayoutId}
+use Rattle.abc_link_names.specs.declared.types.SlotInfo.{SlotInfo}
 use Rattle.abc_objects.specs.Stands.{StandsOver, IsObjectOrNone, IsScope, AreEntries}
 use Rattle.abc_objects.specs.Starts.{start_value, start_values}
 use Rattle.abc_objects.proofs.Made.{host_found}

@@ -3,9 +3,9 @@ use Rattle.abc_heap_store.specs.Heap.{Heap}
 use Rattle.abc_heap_store.specs.Changes.{with_made, with_scopes}
 use Rattle.abc_heap_store.specs.Scopes.{top}
 use Rattle.abc_heap_store.specs.declared.records.What.TheVariants.{Closure}
-use Rattle.abc_link_program.specs.declared.part.LayoutId.{LayoutId}
+use Rattle.abc_link_names.specs.declared.part.LayoutId.{LayoutId}
 use Rattle.abc_objects.specs.Starts.{start_values}
-use Rattle.abc_link_program.specs.Slots.{slots_of}
+use Rattle.abc_link_names.specs.Slots.{slots_of}
 use Rattle.abc_objects.specs.Stands.{StandsOver, IsObjectOrNone, IsScope, AreEntries}
 use Rattle.abc_objects.proofs.Made.{over_function, function_layout}
 use Rattle.abc_objects.proofs.Ways.{either_way, starts_are}

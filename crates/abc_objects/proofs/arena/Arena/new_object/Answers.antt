@@ -1,7 +1,7 @@
 use Rattle.std.proofs.Common.{◌∙◌, ap, sym, subst}
 use Rattle.abc_heap_store.specs.Heap.{Heap}
 use Rattle.abc_heap_store.specs.Changes.{with_made}
-use Rattle.abc_link_program.specs.Slots.{slots_of}
+use Rattle.abc_link_names.specs.Slots.{slots_of}
 use Rattle.abc_objects.specs.Stands.{StandsOver, IsObjectOrNone, NamesParts}
 use Rattle.abc_objects.proofs.Made.{over_made_object, made_alone}
 use Rattle.abc_objects.proofs.Ways.{either_way, starts_are}

@@ -4,7 +4,7 @@ use Rattle.abc_base.specs.declared.names.HostClass.TheVariants as hosts
 use Rattle.abc_heap_values.specs.declared.values.Value.TheVariants.{Undefined}
 use Rattle.abc_heap_store.specs.Heap.{Heap}
 use Rattle.abc_heap_store.specs.Changes.{with_array}
-use Rattle.abc_link_program.specs.declared.part.LayoutId.{LayoutId}
+use Rattle.abc_link_names.specs.declared.part.LayoutId.{LayoutId}
 use Rattle.abc_objects.specs.Stands.{StandsOver, array_layout, host_class_number, prototype_of}
 use Rattle.abc_objects.proofs.Made.{over_array, prototype_is, undefined_exist}
 use Rattle.abc_objects.proofs.Ways.{either_way}

@@ -2,8 +2,8 @@ use Rattle.std.proofs.Common.{◌≡◌, ◌∙◌, ℕ, List, Some, ap, sym}
 use Rattle.std.specs.List.{find}
 use Rattle.std.specs.declared.option.Option.{Option}
 use Rattle.abc_run_finish.specs.Handling.{Held, catches as catches_so, handlers_in, target_of}
-use Rattle.abc_link_program.specs.Linked.{LinkedFile}
-use Rattle.abc_link_program.specs.Owners.{body_of}
+use Rattle.abc_link_names.specs.Linked.{LinkedFile}
+use Rattle.abc_link_names.specs.Owners.{body_of}
 use Rattle.abc_file_types.specs.declared.code.Handler.{Handler}
 use Rattle.abc_run_finish.proofs.handlers.HandlersForHandlers.target.Goals as goal
 

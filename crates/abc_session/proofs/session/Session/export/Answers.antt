@@ -2,7 +2,7 @@ use Rattle.std.proofs.Common.{◌∙◌, ap}
 use Rattle.abc_meaning.specs.Exports.{export as export_of}
 use Rattle.abc_machine.specs.Machines.{Opened}
 use Rattle.abc_meaning.specs.Openings.{setting}
-use Rattle.abc_link_program.specs.Linked.{LinkedFile}
+use Rattle.abc_link_names.specs.Linked.{LinkedFile}
 use Rattle.abc_session.proofs.Found.{exported}
 use Rattle.abc_session.proofs.session.Session.export.Goals as goal
 

@@ -1,5 +1,0 @@
-use Rattle.abc_heap_search.proofs.Firsts.{answers_the_first}
-use Rattle.abc_heap_search.proofs.laws.answer_is_the_first.Goals as goal
-
-pub returns : goal.returns
-returns c = answers_the_first

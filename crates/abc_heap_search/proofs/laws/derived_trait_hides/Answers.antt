@@ -1,5 +1,0 @@
-use Rattle.abc_heap_search.proofs.Hiding.{hides_its_base}
-use Rattle.abc_heap_search.proofs.laws.derived_trait_hides.Goals as goal
-
-pub returns : goal.returns
-returns c = hides_its_base

@@ -1,5 +1,0 @@
-use Rattle.abc_heap_search.proofs.There.{finds_what_is_there}
-use Rattle.abc_heap_search.proofs.laws.found_is_there.Goals as goal
-
-pub returns : goal.returns
-returns c = finds_what_is_there

@@ -1,5 +1,0 @@
-use Rattle.abc_heap_search.proofs.Objectless.{asks_no_object}
-use Rattle.abc_heap_search.proofs.laws.no_object_matters.Goals as goal
-
-pub returns : goal.returns
-returns c = asks_no_object

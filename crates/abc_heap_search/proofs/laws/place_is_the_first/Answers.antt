@@ -1,5 +1,0 @@
-use Rattle.abc_heap_search.proofs.Firsts.{finds_the_first_place}
-use Rattle.abc_heap_search.proofs.laws.place_is_the_first.Goals as goal
-
-pub returns : goal.returns
-returns c = finds_the_first_place

@@ -1,5 +1,0 @@
-use Rattle.abc_heap_search.proofs.Hiding.{finds_traits_alone}
-use Rattle.abc_heap_search.proofs.laws.properties_are_public.Goals as goal
-
-pub returns : goal.returns
-returns c = finds_traits_alone

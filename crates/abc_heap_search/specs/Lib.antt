@@ -1,9 +1,0 @@
-pub mod Objects
-pub mod Spaces
-pub mod Traits
-pub mod ElementNames
-pub mod Results
-pub mod Candidates
-pub mod Scopes
-pub mod Searches
-pub mod Laws

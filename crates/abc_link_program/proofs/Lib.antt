@@ -1,5 +1,0 @@
-pub mod Finding
-pub mod Tree
-pub mod Order
-pub mod ClassBases
-pub mod MethodBodies

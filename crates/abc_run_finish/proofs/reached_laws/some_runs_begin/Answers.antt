@@ -1,5 +1,0 @@
-use Rattle.abc_run_finish.proofs.Example.{some_begins}
-use Rattle.abc_run_finish.proofs.reached_laws.some_runs_begin.Goals as goal
-
-pub returns : goal.returns
-returns c = some_begins
