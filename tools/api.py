@@ -81,7 +81,7 @@ def signature(lines, at):
     indent = re.match(r" *", lines[at])[0]
     found = []
     for line in lines[at:]:
-        if line == indent + "{":
+        if line in (indent + "{", indent + "{}"):
             break
         found.append(line.removeprefix(indent))
         if line.rstrip().endswith(" {") and not re.match(r"\s*(ensures|requires)\b", line):

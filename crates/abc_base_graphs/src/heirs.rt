@@ -10,7 +10,7 @@ use std::marker::Model;
 
 /// The most values that all lists have that are kept. Where there would be more, memory is said to have run out: a chain of lists,
 /// each with a value more than that before it, has values by the square of its length.
-pub const MOST_INHERITED: usize = 1 << 24;
+pub const MOST_INHERITED: usize = 1 << 23;
 
 /// Lists by their numbers, from 0 on, each with what it inherits.
 #[derive(Drop)]

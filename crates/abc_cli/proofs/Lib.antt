@@ -10,3 +10,14 @@ pub mod Checks
 pub mod Listings
 pub mod Usages
 pub mod Assembling
+mod OneFile
+mod OneRun
+mod OneReplay
+mod OneOutcome
+mod Tidyings
+mod SomeOrder
+mod SomeLinked
+mod SomeVerified
+mod SomeRun
+mod SomeReplay
+mod SomeOutcome

@@ -1,5 +1,5 @@
 -- What a run of `dis` that ends well leaves in `out`.
-use Rattle.std.proofs.Common.{◌≡◌, ℕ, List, ap, subst, ◌≤◌, length, ◌∙◌, arith}
+use Rattle.std.proofs.Common.{◌≡◌, ℕ, List, ap, subst, sym, ◌≤◌, length, ◌∙◌, arith}
 use Rattle.abc_base.specs.declared.formula.Formula.{Formula}
 use Rattle.abc_base.specs.declared.status.Status.{Status}
 use Rattle.abc_base.specs.declared.status.Status.TheVariants as status
@@ -8,15 +8,16 @@ use Rattle.abc_text_lines.specs.Answers.{IsAssemblyFault, IsAssemblyOf}
 use Rattle.abc_text_lines.specs.Rows.{Fault}
 use Rattle.abc_file_types.specs.declared.tables.Abc.{Abc}
 use Rattle.abc_file_types.specs.Files.{IsFile, file_bytes}
+use Rattle.abc_file_types.proofs.Whole.{decided}
 use Rattle.abc_cli_answers.specs.declared.command.Command.TheVariants as commands
 use Rattle.abc_cli_answers.specs.Answers.{Answer, OfFile, given}
-use Rattle.abc_cli.specs.Outcome.{CommandOutcome, Dis, OutcomeOf, Asm, text_limit}
+use Rattle.abc_cli.specs.Outcome.{Asm, Canon, CommandOutcome, Dis, OutcomeOf, text_limit}
 use Rattle.abc_cli_answers.specs.End.{Channel, Got, HasFailed, IsEnd, Ends}
 use Rattle.abc_cli.specs.Listed.{AreBytes, IsListed, Lists}
 use Rattle.abc_verify.proofs.Verifying.{of_any}
 
 -- a run that ended well wrote an answer of its outcome
-ended_well : (P : Answer → Type 0) (F : Type 0) (out err : Channel) (s : Status) → IsEnd P F out err s → s ≡ status.Done → (a : Answer) × P a × Got out a.out × (a.status ≡ status.Done)
+pub ended_well : (P : Answer → Type 0) (F : Type 0) (out err : Channel) (s : Status) → IsEnd P F out err s → s ≡ status.Done → (a : Answer) × P a × Got out a.out × (a.status ≡ status.Done)
 ended_well P F out err s (IsEnd.defined a x y z) e = (a, x, y, e)
 ended_well P F out err s (IsEnd.read_fault x y z) e = absurd cc
 ended_well P F out err s (IsEnd.no_memory y z) e = absurd cc
@@ -42,6 +43,11 @@ assembled_as text v other fault short a (Asm.assembled w fits is x) = x ∙ ap (
 assembled_as text v other fault short a (Asm.refused f fits is x) = absurd (fault f is)
 assembled_as text v other fault short a (Asm.too_long long x) = absurd (omega arith)
 
+-- what `canon` gives
+canon_of : (v : Abc) (input : List ℕ) (a : Answer) → IsFile v input → OfFile Canon input a → a ≡ given (file_bytes v)
+canon_of v input a f (OfFile.accepted w g x) = x ∙ ap (λ (u : Abc). given (file_bytes u)) ((decided input).one_value w v g f)
+canon_of v input a f (OfFile.refused r bad x) = absurd ((decided input).never_both v r f bad)
+
 listed : IsReadBack → IsNoOther → IsNoFault → (fs : List Formula) (out : Channel) (a : Answer) → Got out a.out → a.status ≡ status.Done → (input : List ℕ) → OutcomeOf fs commands.Dis input a → IsListed out input
 listed text other fault fs out a got done input (OfFile.accepted v f x) = record {
   value = v;
@@ -53,6 +59,7 @@ listed text other fault fs out a got done input (OfFile.accepted v f x) = record
     no_other = λ w. other v w input bytes f;
     assembled = assembled_as (listing v) v (λ w. other v w input bytes f) (λ d. fault v input d bytes f);
   };
+  as_canon = λ bytes short a b canon asm. canon_of v input a f canon ∙ sym (assembled_as (listing v) v (λ w. other v w input bytes f) (λ d. fault v input d bytes f) short b asm);
 }
 listed text other fault fs out a got done input (OfFile.refused r f x) = let k = ap (λ (y : Answer). y.status) x in absurd cc
 

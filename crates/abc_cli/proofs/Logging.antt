@@ -79,7 +79,7 @@ small_never m old new end limit (RunsAs.ended wrote e x is got) small = cc
 small_never m old new end limit (RunsAs.failed wrote e rest) small = cc
 
 -- every meaning that is not stuck has an answer
-some_logged : (v : Abc) (starts : List (List ℕ)) (wrote : List ℕ) (m : Meaning) → ((output : List ℕ) → m ≡ Ran output meant.Stuck → ⊥) → (a : Answer) × IsLogged v starts wrote m a × (a.out ≡ wrote)
+pub some_logged : (v : Abc) (starts : List (List ℕ)) (wrote : List ℕ) (m : Meaning) → ((output : List ℕ) → m ≡ Ran output meant.Stuck → ⊥) → (a : Answer) × IsLogged v starts wrote m a × (a.out ≡ wrote)
 some_logged v starts wrote (TooSmall limit) free = (ended status.Limit wrote (limit_text limit), refl, refl)
 some_logged v starts wrote (Ran output e) free = some_answer v starts wrote e (λ h. free output (ap (Ran output) h))
 

@@ -22,6 +22,7 @@ use Rattle.abc_cli.specs.Runs.{Gen, Run}
 use Rattle.abc_cli.specs.Calls.{Calls}
 use Rattle.abc_cli.specs.Logs.{Log, Replay}
 use Rattle.abc_log.specs.Lines.{AreLimits}
+use Rattle.abc_meaning.specs.ThrowLaws.{AreCounted}
 use Rattle.abc_cli.specs.Meant.{limits_of}
 use Rattle.abc_base.specs.declared.formula.Formula.{Formula}
 use Rattle.abc_file_types.specs.declared.tables.Abc.{Abc}
@@ -213,3 +214,20 @@ log_limits words o says =
       frames = at_limit 1000 o.frames (omega arith) all.1.1.1.1.0;
       stack = at_limit 100000 o.stack (omega arith) all.1.1.1.1.1.0;
     }
+
+-- ---- the limits of a run can be counted
+
+cells_counted : (o : RunOptions) → (o.cells ≡ 1000000) ⊎ (o.cells ≤ 16777216) → AreCounted (limits_of o)
+cells_counted o x = let h = at_limit 1000000 o.cells (omega arith) x in omega (arith, h)
+
+pub run_counted : (words : List (List ℕ)) (o : RunOptions) → Says words (commands.Run o) → AreCounted (limits_of o)
+run_counted words o says = cells_counted o (all_within says.settings).1.1.0
+
+pub log_counted : (words : List (List ℕ)) (o : RunOptions) → Says words (commands.Log o) → AreCounted (limits_of o)
+log_counted words o says = cells_counted o (all_within says.settings).1.1.0
+
+pub calls_counted : (words : List (List ℕ)) (o : CallsOptions) → Says words (commands.Calls o) → AreCounted (limits_of o.run)
+calls_counted words o says = cells_counted o.run (all_within says.settings).1.1.1.0
+
+pub few_times : (words : List (List ℕ)) (o : CallsOptions) → Says words (commands.Calls o) → o.times ≤ 10000
+few_times words o says = at_most 1 o.times 10000 (omega arith) (all_within says.settings).0

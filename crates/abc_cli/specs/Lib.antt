@@ -7,3 +7,5 @@ pub mod Logged
 pub mod LoggedRuns
 pub mod Outcome
 pub mod Listed
+pub mod Answered
+pub mod Tidied

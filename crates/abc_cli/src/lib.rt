@@ -4,6 +4,8 @@
 //!
 //! The commands of logs: `log` writes the log of a run, and `replay` tells whether an input is one.
 //!
+//! The laws of outcomes: words, formulas and an input have one. Nothing runs of them.
+//!
 //! The top call: what the program does with the words of a command line and an input; and the generator of `gen`.
 #![tactic(auto)]
 
@@ -14,6 +16,7 @@ mod check;
 mod dis;
 mod endings;
 mod gen_command;
+mod laws;
 mod log_command;
 mod logged_run;
 mod machines;
@@ -23,4 +26,5 @@ mod tidy;
 mod top;
 
 pub use abc_cli_answers::make_abc;
+pub use laws::{one_outcome, some_outcome};
 pub use top::abc_main;

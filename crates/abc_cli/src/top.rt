@@ -6,6 +6,7 @@ ghost use Rattle.abc_cli_answers.specs.Answers.{Answer};
 ghost use Rattle.abc_cli.specs.Outcome.{AsksNoInput, CommandOutcome, IsOutcome, IsUsage, UsageOutcome, reads_input, usage_answer};
 ghost use Rattle.abc_cli.specs.Listed.{Lists};
 ghost use Rattle.abc_cli.specs.Logged.{GotLog};
+ghost use Rattle.abc_cli.specs.Tidied.{Tidies};
 ghost use Rattle.abc_log.specs.Lines.{AreLimits};
 ghost use Rattle.abc_cli.specs.Meant.{limits_of};
 ghost use Rattle.abc_cli_answers.specs.Grammar.{IsWellFormed, Says};
@@ -91,6 +92,8 @@ pub fn abc_main<S: Source, K: Sink, E: Sink, H: Host>(
     ensures well_formed { IsWellFormed words.now → result ≡ Status.Usage → ⊥ }
     // What `dis` writes is a text of the file that was read, and of no other; unless it is too long, `asm` of it gives the canonical bytes.
     ensures listed { Says words.now Command.Dis → result ≡ Status.Done → Lists (stream S.left S.faults source.old source.new) (stream K.written K.faults out.old out.new) }
+    // What `tidy` writes spells a file of the same free form, and `tidy` of it gives the same bytes.
+    ensures tidied { Says words.now Command.Tidy → result ≡ Status.Done → Tidies (stream S.left S.faults source.old source.new) (stream K.written K.faults out.old out.new) }
     // What `log` writes where a run ended is a log: with a host of the same formulas, `replay` accepts it.
     ensures logged { (options : RunOptions) → Says words.now (Command.Log options) → IsRead result → GotLog (H.formulas host.now) (stream K.written K.faults out.old out.new) }
     // Memory is wanted for well-formed words alone.

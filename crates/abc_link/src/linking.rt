@@ -45,7 +45,7 @@ fn meanings_in(
 
 /// The most handlers that all bodies have. Where there are more, memory is said to have run out: each has a layout of its own,
 /// which takes hundreds of times the bytes of a handler in a file.
-pub const MOST_HANDLERS: usize = 1 << 19;
+pub const MOST_HANDLERS: usize = 1 << 18;
 
 /// How many handlers all bodies have.
 fn handler_count(abc: &Abc) -> usize {

@@ -14,7 +14,7 @@ use std::alloc::Global;
 
 /// The most numbers that all sets have. Where there would be more, memory is said to have run out: of a chain of interfaces, each of
 /// which names the next, the sets have numbers by the square of its length.
-pub const MOST_INTERFACES: usize = 1 << 24;
+pub const MOST_INTERFACES: usize = 1 << 22;
 
 /// The most numbers that are gone over to make all sets. Where there would be more, memory is said to have run out: many
 /// classes that each name many, of which each has many, go over numbers by the product of the three.

@@ -1,18 +1,16 @@
--- What is told of a start, and what the next byte of a comparison makes of it.
-use Rattle.std.proofs.Common.{◌≡◌, ℕ, suc, ◌+◌, ◌-◌, ◌≤◌, List, [], ◌∷◌, ◌++◌, length, take, drop, Some, None, refl, sym, ap, subst, ◌∙◌, arith, inl, inr, add-zero, zero-add, append_assoc, length-append}
+-- What is told of a start, and what the next bytes of a comparison make of it.
+use Rattle.std.proofs.Common.{◌≡◌, ℕ, suc, ◌+◌, ◌-◌, ◌<◌, ◌≤◌, List, [], ◌∷◌, ◌++◌, length, take, drop, get_or, min, ◌^◌, Some, None, refl, sym, ap, subst, ◌∙◌, arith, inl, inr, add-zero, zero-add, append_assoc, length-append, drop-cons}
 use Rattle.std.proofs.Math.Logic.{∥∥₁_map}
 use Rattle.std.proofs.Math.Seq.{take-append_seam, drop-append_seam}
-use Rattle.std.proofs.lemmas.Bool.{eq-eqb, eqb-true}
+use Rattle.std.proofs.lemmas.Bool.{cases_lt, eq-eqb, eqb-true}
+use Rattle.std.proofs.lemmas.List.{drop_all, length-take-le, take-append-drop, take_all, take_more}
 use Rattle.std.proofs.KnownBytes.{Consumes-nil, Consumes-trans}
-use Rattle.std.specs.Prelude.{Bool, true, false, ◌⊎◌, nat_eq, IfSome, Ok, Err, if◌then◌else◌}
-use Rattle.std.specs.Io.KnownBytes.{Consumes}
+use Rattle.std.specs.Prelude.{Bool, true, false, ◌⊎◌, nat_eq, IfSome, if◌then◌else◌}
+use Rattle.std.specs.Io.KnownBytes.{Consumes, IsAtEnd, prepend_known}
 use Rattle.std.specs.declared.option.Option.{Option}
-use Rattle.std.specs.declared.result.Result.{Result}
 use Rattle.abc_base.specs.Faults.{Rose}
-use Rattle.abc_base.specs.declared.source.Failed.{Failed}
-use Rattle.abc_log.specs.Compared.{Agrees, ComparesAs, Parts, PartsFrom}
-use Rattle.abc_log.specs.Followed.{EndsApart, Follows, bytes_in, coded, decoded, first_bytes, first_number, name_in, noted, number_in, parts_from, told}
-use Rattle.abc_log.specs.CompareViews.{CompareView}
+use Rattle.abc_log.specs.Compared.{PartsFrom}
+use Rattle.abc_log.specs.Followed.{EndsApart, Follows, FollowsOn, bytes_in, coded, decoded, first_bytes, first_number, name_in, noted, number_in, parts_from, told}
 use Rattle.abc_log.specs.declared.compare.Verdict.{Verdict}
 use Rattle.abc_log.specs.declared.compare.Verdict.TheVariants.{Differs, ReadFault, Same}
 
@@ -72,67 +70,64 @@ ends_apart (Some xs) (Some ys) bytes w taken other =
     let last : length bytes ≡ length (bytes ++ w ∷ []) - 1 = omega arith in
     ap (λ (l : List ℕ). parts_from 0 l (bytes ++ w ∷ [])) taken ∙ parts_at 0 w bytes ys [] (λ more e. other more (ap Some e)) ∙ ap Some (zero-add (length bytes) ∙ last)
 
--- ---- the next byte
+-- ---- the next bytes
 
-rose_on : (a b c : ℕ) → a ≤ b → Rose b c → Rose a c
-rose_on a b c low rose = omega arith
+-- of bytes that were taken, the front is taken first
+front_taken : (left now : Option (List ℕ)) (given : List ℕ) (n : ℕ) → Consumes left now given → Consumes left (prepend_known (drop n given) now) (take n given)
+front_taken None now given n taken = tt
+front_taken (Some xs) None given n taken = absurd taken
+front_taken (Some xs) (Some ys) given n taken = taken ∙ ap (λ (l : List ℕ). l ++ ys) (sym (take-append-drop n given)) ∙ append_assoc (take n given) (drop n given) ys
 
-module _ {S : Type 0} (left : S → Option (List ℕ)) (faults : S → ℕ) (start : Option (List ℕ)) (before : ℕ) (bytes : List ℕ) (w : ℕ) (old new : CompareView S) where
-  abbrev At : Verdict → Type 0
-  At v = Follows start before bytes (left old.source) (faults old.source) old.agreed v
+-- where they part from others before their end, or there are none since the source ended, it goes on with another byte or none
+goes_apart : (now : Option (List ℕ)) (given : List ℕ) (n w : ℕ) → (n < length given → get_or given n 0 ≡ w → ⊥) → (length given ≤ n → (given ≡ []) × IsAtEnd now) → PartsFrom w (prepend_known (drop n given) now)
+goes_apart None given n w other ended = λ bytes e. cc
+goes_apart (Some ys) given n w other ended = λ bytes e. go bytes (cases_lt n (length given)) (some_same e)
+  where
+    some_same : {xs zs : List ℕ} → Some xs ≡ Some zs → xs ≡ zs
+    some_same e = cc
 
-  abbrev Next : Verdict → Type 0
-  Next v = Follows start before (bytes ++ w ∷ []) (left new.source) (faults new.source) new.agreed v
+    go : (bytes : List ℕ) → (n < length given) ⊎ (length given ≤ n) → drop n given ++ ys ≡ w ∷ bytes → ⊥
+    go bytes (inl lt) e =
+        let first : get_or given n 0 ∷ (drop (suc n) given ++ ys) ≡ w ∷ bytes = ap (λ (l : List ℕ). l ++ ys) (sym (drop-cons given n 0 lt)) ∙ e in
+        other lt cc
+    go bytes (inr le) e =
+        let none : [] ≡ w ∷ bytes = sym (ap (λ (l : List ℕ). l ++ ys) (drop_all n given le) ∙ (ended le).1) ∙ e in
+        cc
 
-  pub agrees_next : (count : ℕ) → At Same → Agrees left faults w old count new → Next Same
-  agrees_next count f a =
-      let far : length (bytes ++ w ∷ []) ≡ length bytes + 1 = length-append bytes (w ∷ []) in
-      record { later = omega (arith, a.later, f.later); is = (Consumes-trans start (left old.source) (left new.source) bytes (w ∷ []) f.is.0 a.taken, a.agreed ∙ omega (arith, f.is.1)) }
+module _ (left now : Option (List ℕ)) (faults later agreed agreed_now same : ℕ) (given wanted : List ℕ) where
+  -- all of them are the source's
+  pub agrees_on : faults ≤ later → Consumes left now given → length given ≡ same → take same given ≡ take same wanted → agreed_now ≡ min (agreed + same) (2 ^ 64 - 1) → FollowsOn left faults agreed (take same wanted) now later agreed_now Same
+  agrees_on low taken long front more = λ start before written f.
+      let all : given ≡ take same wanted = sym (take_all same given (omega (arith, long))) ∙ front in
+      let far : length (written ++ take same wanted) ≡ length written + same = length-append written (take same wanted) ∙ ap (λ (n : ℕ). length written + n) (sym (ap length all) ∙ long) in
+      record { later = omega (arith, low, f.later); is = (Consumes-trans start left now written (take same wanted) f.is.0 (subst (Consumes left now) all taken), omega (arith, far, more, f.is.1)) }
 
-  pub differs_next : At Same → faults old.source ≤ faults new.source → PartsFrom w (left old.source) → Next (Differs old.agreed)
-  differs_next f low other =
-      let far : length (bytes ++ w ∷ []) ≡ length bytes + 1 = length-append bytes (w ∷ []) in
-      record { later = omega (arith, f.later); is = (omega arith, omega (arith, f.is.1), ends_apart start (left old.source) bytes w f.is.0 other) }
+  -- so many are, and the next is not
+  pub differs_on : faults ≤ later → Consumes left now given → same ≤ length given → same < length wanted → take same given ≡ take same wanted → (same < length given → get_or given same 0 ≡ get_or wanted same 0 → ⊥)
+      → (length given ≤ same → (given ≡ []) × IsAtEnd now) → agreed_now ≡ min (agreed + same) (2 ^ 64 - 1) → FollowsOn left faults agreed (take (same + 1) wanted) now later agreed_now (Differs agreed_now)
+  differs_on low taken within some front other ended more = λ start before written f.
+      let w : ℕ = get_or wanted same 0 in
+      let parts : (written ++ take same given) ++ w ∷ [] ≡ written ++ take (same + 1) wanted =
+      append_assoc written (take same given) (w ∷ []) ∙ ap (λ (l : List ℕ). written ++ (l ++ w ∷ [])) front ∙ ap (λ (l : List ℕ). written ++ l) (sym (take_more wanted same 0 some)) in
+      let far : length (written ++ take same given) ≡ length written + same = length-append written (take same given) ∙ ap (λ (n : ℕ). length written + n) (length-take-le same given within) in
+      let one : length ((written ++ take same given) ++ w ∷ []) ≡ length (written ++ take same given) + 1 = length-append (written ++ take same given) (w ∷ []) in
+      let rest : Option (List ℕ) = prepend_known (drop same given) now in
+      let apart = ends_apart start rest (written ++ take same given) w (Consumes-trans start left rest written (take same given) f.is.0 (front_taken left now given same taken)) (goes_apart now given same w other ended) in
+      subst (λ (l : List ℕ). Follows start before l now later agreed_now (Differs agreed_now)) parts
+      (record { later = omega (arith, low, f.later); is = (omega (arith, one), omega (arith, one, far, more, f.is.1), apart) })
 
-  pub fails_next : At Same → faults old.source ≤ faults new.source → Rose (faults old.source) (faults new.source) → Next ReadFault
-  fails_next f low rose = record { later = omega (arith, f.later); is = rose_on before (faults old.source) (faults new.source) f.later rose }
+-- the source failed
+pub fails_on : (left now : Option (List ℕ)) (faults later agreed agreed_now : ℕ) (bytes : List ℕ) → faults ≤ later → Rose faults later → FollowsOn left faults agreed bytes now later agreed_now ReadFault
+fails_on left now faults later agreed agreed_now bytes low rose = λ start before written f. record { later = omega (arith, low, f.later); is = omega (arith, rose, f.later) }
 
-  why_next : At Same → Parts left faults w old new → ((new.verdict ≡ ReadFault) × Rose (faults old.source) (faults new.source)) ⊎ ((new.verdict ≡ Differs old.agreed) × PartsFrom w (left old.source)) → Next new.verdict
-  why_next f p (inl q) = subst Next (sym q.0) (fails_next f p.later q.1)
-  why_next f p (inr q) = subst Next (sym q.0) (differs_next f p.later q.1)
-
-  pub next_follows : (r : Result ℕ Failed) → At Same → ComparesAs left faults w old r new → Next new.verdict
-  next_follows (Ok count) f a = subst Next (sym a.verdict) (agrees_next count f a)
-  next_follows (Err e) f p = why_next f p p.why
-
--- where all agreed no write failed
-other_verdict : (v : Verdict) (n : ℕ) → v ≡ Differs n → v ≡ Same → ⊥
-other_verdict v n e same = cc
-
-fault_verdict : (v : Verdict) → v ≡ ReadFault → v ≡ Same → ⊥
-fault_verdict v e same = cc
-
-module _ {S : Type 0} (left : S → Option (List ℕ)) (faults : S → ℕ) (w : ℕ) (old new : CompareView S) where
-  never_same : ((new.verdict ≡ ReadFault) × Rose (faults old.source) (faults new.source)) ⊎ ((new.verdict ≡ Differs old.agreed) × PartsFrom w (left old.source)) → new.verdict ≡ Same → ⊥
-  never_same (inl q) same = fault_verdict new.verdict q.0 same
-  never_same (inr q) same = other_verdict new.verdict old.agreed q.0 same
-
-  pub quiet_next : (r : Result ℕ Failed) → old.faults ≡ 0 → ComparesAs left faults w old r new → new.verdict ≡ Same → new.faults ≡ 0
-  quiet_next (Ok count) none a same = a.kept ∙ none
-  quiet_next (Err e) none p same = absurd (never_same p.why same)
-
--- a byte that is written is put behind those before it, whether it agrees or not
-pub lenient_next : {S : Type 0} (left : S → Option (List ℕ)) (faults : S → ℕ) (start bytes new_start new_bytes : List ℕ) (w v : ℕ) (old new : CompareView S) (r : Result ℕ Failed)
-    → new_start ≡ start → new_bytes ≡ bytes ++ w ∷ [] → v ≡ w → old.verdict ≡ Same
-    → ∥ Follows (bytes_in start) (number_in start) bytes (left old.source) (faults old.source) old.agreed old.verdict ∥₁ → ComparesAs left faults v old r new
-    → ∥ Follows (bytes_in new_start) (number_in new_start) new_bytes (left new.source) (faults new.source) new.agreed new.verdict ∥₁
-lenient_next {S = S} left faults start bytes new_start new_bytes w v old new r at more same agreed follows compares =
+-- what goes on is put behind what is told of the start
+pub follows_on : (start bytes new_start new_bytes more : List ℕ) (left now : Option (List ℕ)) (faults later agreed agreed_now : ℕ) (old new : Verdict) → new_start ≡ start → new_bytes ≡ bytes ++ more → old ≡ Same
+    → ∥ Follows (bytes_in start) (number_in start) bytes left faults agreed old ∥₁ → FollowsOn left faults agreed more now later agreed_now new → ∥ Follows (bytes_in new_start) (number_in new_start) new_bytes now later agreed_now new ∥₁
+follows_on start bytes new_start new_bytes more left now faults later agreed agreed_now old new at longer same follows on =
     ∥∥₁_map follows (λ f.
-    let before : Follows (bytes_in start) (number_in start) bytes (left old.source) (faults old.source) old.agreed Same = subst (λ (x : Verdict). Follows (bytes_in start) (number_in start) bytes (left old.source) (faults old.source) old.agreed x) agreed f in
-    let compared : ComparesAs left faults w old r new = subst (λ (x : ℕ). ComparesAs left faults x old r new) same compares in
-    let after : Follows (bytes_in start) (number_in start) (bytes ++ w ∷ []) (left new.source) (faults new.source) new.agreed new.verdict = next_follows left faults (bytes_in start) (number_in start) bytes w old new r before compared in
-    subst (λ (s : List ℕ). Follows (bytes_in s) (number_in s) new_bytes (left new.source) (faults new.source) new.agreed new.verdict) (sym at)
-    (subst (λ (b : List ℕ). Follows (bytes_in start) (number_in start) b (left new.source) (faults new.source) new.agreed new.verdict) (sym more) after))
+    let before : Follows (bytes_in start) (number_in start) bytes left faults agreed Same = subst (λ (v : Verdict). Follows (bytes_in start) (number_in start) bytes left faults agreed v) same f in
+    subst (λ (s : List ℕ). Follows (bytes_in s) (number_in s) new_bytes now later agreed_now new) (sym at)
+    (subst (λ (b : List ℕ). Follows (bytes_in start) (number_in start) b now later agreed_now new) (sym longer) (on (bytes_in start) (number_in start) bytes before)))
 
 -- nothing is written yet
 pub begun : (start name : List ℕ) (n : ℕ) (o : Option (List ℕ)) → start ≡ noted name n o → ∥ Follows (bytes_in start) (number_in start) [] o n 0 Same ∥₁

@@ -65,3 +65,8 @@ FollowsAs start before bytes left faults agreed ReadFault = Rose before faults
 pub record Follows (start : Option (List ℕ)) (before : ℕ) (bytes : List ℕ) (left : Option (List ℕ)) (faults agreed : ℕ) (verdict : Verdict) : Type 0 where
   pub later : before ≤ faults
   pub is : FollowsAs start before bytes left faults agreed verdict
+
+-- these bytes go on from others that all agreed: so much is left now, with so many failures and so many that agreed, and this verdict
+abbrev pub FollowsOn : (left : Option (List ℕ)) → (faults agreed : ℕ) → List ℕ → (left_now : Option (List ℕ)) → (faults_now agreed_now : ℕ) → Verdict → Type 0
+FollowsOn left faults agreed bytes left_now faults_now agreed_now verdict =
+    (start : Option (List ℕ)) (before : ℕ) (written : List ℕ) → Follows start before written left faults agreed Same → Follows start before (written ++ bytes) left_now faults_now agreed_now verdict

@@ -1,13 +1,17 @@
-ghost use Rattle.std.specs.Prelude.{◌≡◌, ◌≢◌, ◌<◌, ℕ, None, Ok, Err, IfOk, length, slice_index};
+ghost use Rattle.std.specs.Prelude.{◌≡◌, ◌≢◌, ◌<◌, ◌≤◌, ℕ, None, Ok, Err, IfOk, length, slice_index, take};
 ghost use Rattle.std.specs.Io.{WritesAtMost};
 ghost use Rattle.std.specs.Io.KnownBytes.{WriteAppends};
 ghost use Rattle.abc_base.specs.Faults.{HasCause};
 ghost use Rattle.abc_base.specs.Views.{one_more};
 ghost use Rattle.abc_log.specs.Compared.{ComparesAs};
+ghost use Rattle.abc_log.specs.Followed.{FollowsOn};
 ghost use Rattle.abc_log.specs.declared.compare.Verdict.TheVariants.{Same};
 
 use abc_base::{Failed, Sink, Source};
 use std::marker::Model;
+
+/// How many bytes are read at once to be compared, at most.
+const BLOCK: usize = 64;
 
 /// Whether what was written is what a source gives.
 #[derive(Clone, Copy, Debug, PartialEq, Eq)]
@@ -73,6 +77,21 @@ impl<S: Source> Compare<S> {
     }
 }
 
+/// How many bytes at the front are the same.
+fn same_front(given: &[u8], wanted: &[u8]) -> usize
+    requires { length given.now ≤ length wanted.now }
+    ensures within { result ≤ length given.now }
+    ensures same { take result given.now ≡ take result wanted.now }
+    ensures parts { result < length given.now → slice_index given.now result ≢ slice_index wanted.now result }
+{
+    for (i, byte) in given.iter().enumerate() {
+        if *byte != wanted[i] {
+            return i;
+        }
+    }
+    given.len()
+}
+
 impl<S: Source> Compare<S> {
     /// A write fails, and so do all after it.
     fn fail(&mut self, verdict: Verdict) -> Result<usize, Failed>
@@ -103,6 +122,32 @@ impl<S: Source> Compare<S> {
             }
             Err(_) => self.fail(Verdict::ReadFault),
         }
+    }
+
+    /// Compares the front of a piece with the next bytes of the source, which are taken, and gives how many bytes of the piece that
+    /// were: the first that isn't the source's is the last of them. No write fails by it.
+    pub(crate) fn compare_front(&mut self, piece: &[u8]) -> usize
+        requires some { 0 < length piece.now }
+        requires agreed { self.old.verdict ≡ Same }
+        ensures some { 0 < result }
+        ensures within { result ≤ length piece.now }
+        ensures follows { FollowsOn (S.left self.old.source) (S.faults self.old.source) self.old.agreed (take result piece.now) (S.left self.new.source) (S.faults self.new.source) self.new.agreed self.new.verdict }
+        ensures faults { self.new.faults ≡ self.old.faults }
+        ensures same { S.name self.new.source ≡ S.name self.old.source }
+    {
+        let mut block = [0; BLOCK];
+        let most = piece.len().min(BLOCK);
+        let Ok(count) = self.source.read(&mut block[..most]) else {
+            self.verdict = Verdict::ReadFault;
+            return 1;
+        };
+        let same = same_front(&block[..count], piece);
+        self.agreed = self.agreed.saturating_add(same as u64);
+        if same == count && count > 0 {
+            return count;
+        }
+        self.verdict = Verdict::Differs(self.agreed);
+        same + 1
     }
 }
 

@@ -1,4 +1,4 @@
-ghost use Rattle.std.specs.Prelude.{◌≡◌, ℕ, List, [], ◌∷◌, ◌++◌};
+ghost use Rattle.std.specs.Prelude.{◌≡◌, ℕ, List, [], ◌++◌};
 ghost use Rattle.std.specs.Borrow.{ftrue};
 
 use std::marker::Model;
@@ -24,9 +24,9 @@ impl History {
         History {}
     }
 
-    /// One more byte.
-    pub fn then(&self, _byte: &u8) -> History
-        ensures { (result.start ≡ self.now.start) × (result.bytes ≡ self.now.bytes ++ _byte.now ∷ []) }
+    /// So many bytes more.
+    pub fn then(&self, _bytes: &[u8]) -> History
+        ensures { (result.start ≡ self.now.start) × (result.bytes ≡ self.now.bytes ++ _bytes.now) }
     {
         History {}
     }

@@ -70,8 +70,8 @@ impl<S: Source> Sink for Lenient<S> {
         if self.compare.verdict() != Verdict::Same {
             return self.compare.write(piece);
         }
-        let _ = self.compare.write(&piece[..1]);
-        self.history = self.history.then(&piece[0]);
-        Ok(1)
+        let count = self.compare.compare_front(piece);
+        self.history = self.history.then(&piece[..count]);
+        Ok(count)
     }
 }

@@ -66,7 +66,7 @@ impl<L: Log> Sink for OutLine<L> {
             return Err(Failed);
         }
         self.shown.show(piece[0]);
-        self.history = self.history.then(&piece[0]);
+        self.history = self.history.then(&piece[..1]);
         Ok(1)
     }
 }

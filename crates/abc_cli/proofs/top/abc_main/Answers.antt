@@ -10,6 +10,7 @@ use Rattle.abc_session.proofs.Pieces.{nothing}
 use Rattle.abc_cli_answers.proofs.Ending.{line_ends, weaker}
 use Rattle.abc_cli.proofs.Usages.{usage_found, is_usage, usage_not_memory, usage_outcome, same_command, same_usage, not_ok, end_not_usage, unread_command, asking, few_methods, log_limits}
 use Rattle.abc_cli.proofs.Listings.{lists}
+use Rattle.abc_cli.proofs.Tidyings.{tidies}
 use Rattle.abc_cli.proofs.top.abc_main.Goals as goal
 
 pub give_usage-requires : goal.give_usage-requires
@@ -93,3 +94,14 @@ returns-in-Ok-clause-logged g c = λ o says read.
 
 pub returns-in-Err-clause-logged : goal.returns-in-Err-clause-logged
 returns-in-Err-clause-logged g c = λ o says read. absurd (not_ok (commands.Log o) c.in-Err.usage c.parse.result ((c.parse.ensures.command (commands.Log o)).1 says) c.in-Err.is)
+
+pub returns-in-Ok-clause-tidied : goal.returns-in-Ok-clause-tidied
+returns-in-Ok-clause-tidied g c = λ says done.
+    let source = stream g.S.Source.left g.S.Source.faults c.args.source.now c.run_command.new.source in
+    let out = stream g.K.Sink.written g.K.Sink.faults c.args.out.now c.run_command.new.out in
+    let err = stream g.E.Sink.written g.E.Sink.faults c.args.err.now c.run_command.new.err in
+    let is = same_command c.in-Ok.command commands.Tidy c.parse.result c.in-Ok.is ((c.parse.ensures.command commands.Tidy).1 says) in
+    tidies (g.H.Host.formulas c.args.host.now) source out err c.run_command.result (subst (λ (x : Command). Ends (CommandOutcome (g.H.Host.formulas c.args.host.now) x) source out err c.run_command.result) is c.run_command.ensures.end) done
+
+pub returns-in-Err-clause-tidied : goal.returns-in-Err-clause-tidied
+returns-in-Err-clause-tidied g c = λ says done. absurd (not_ok commands.Tidy c.in-Err.usage c.parse.result ((c.parse.ensures.command commands.Tidy).1 says) c.in-Err.is)
