@@ -3,7 +3,8 @@ use Rattle.std.proofs.Common.{◌≡◌, ◌↔◌, ℕ, Bool, true, false, List
 use Rattle.std.specs.Prelude.{All, ◌+◌, nat_eq, unwrap_or}
 use Rattle.std.proofs.lemmas.Bool.Decides.{nat_tests}
 use Rattle.std.proofs.lemmas.List.Elements.{All-cons, All-head, All-map, All-nil, All-same, All-tail}
-use Rattle.abc_file_types.specs.Canonical.{IsLeast}
+use Rattle.abc_file_types.specs.Canonical.{IsCanonical, IsLeast}
+use Rattle.abc_file_types.proofs.Whole.{file-canonical}
 use Rattle.abc_file_types.specs.Ends.{Pieces}
 use Rattle.abc_file_types.specs.Numbers.{u8, u30}
 use Rattle.abc_file_types.specs.Part.{Part, then_by}
@@ -19,7 +20,7 @@ use Rattle.abc_file_types.specs.declared.tables.Abc.{Abc}
 use Rattle.abc_file_types.specs.Bodies.{bodies, bodies_alone, body, body_list, body_with, methods_of}
 use Rattle.abc_file_types.specs.Classes.{definitions, sizes_of}
 use Rattle.abc_file_types.specs.Code.{Means, MeansAll, code, code_body}
-use Rattle.abc_file_types.specs.Files.{file}
+use Rattle.abc_file_types.specs.Files.{file, file_bytes}
 use Rattle.abc_file_types.specs.Instructions.{Branch, RawInstr, Same, Switch, instruction, opcode, opcode_in, operands}
 use Rattle.abc_file_types.specs.Opcodes.{form_at, info_at, is_opcode}
 use Rattle.abc_file_types.specs.Pools.{is_multiname_kind, multiname, multiname_fields, multiname_kind, multiname_kind_in, multiname_kind_of, multiname_of, multinames, pools, pools_of}
@@ -229,6 +230,13 @@ file_narrows = image_narrows _ _ _ IsNarrow (second_narrows _ _ _ _ (λ version.
 
 pub just_narrow : (v : Abc) (b : List ℕ) → narrow_file.spells v b ↔ (file.spells v b × IsNarrow v)
 just_narrow v b = (file_narrows.wider v b, λ h. file_narrows.narrower v b h.0 h.1)
+
+pub narrow-canonical : IsCanonical narrow_file file_bytes
+narrow-canonical = record {
+  spelled = λ v b s. let w = file_narrows.wider v b s in file_narrows.narrower v (file_bytes v) (file-canonical.spelled v b w.0) w.1;
+  shortest = λ v b s. file-canonical.shortest v b (file_narrows.wider v b s).0;
+  least = λ v b s. file-canonical.least v b (file_narrows.wider v b s).0;
+}
 
 -- the same bytes are canonical in both formats
 pub narrow_least : (v : Abc) (b : List ℕ) → IsNarrow v → IsLeast narrow_file v b ↔ IsLeast file v b

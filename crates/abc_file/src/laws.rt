@@ -1,6 +1,6 @@
 ghost use Rattle.std.specs.Prelude.{◌≡◌, ◌↔◌, ◌≤◌, All, List, ℕ, length};
 ghost use Rattle.abc_file.specs.Narrow.{IsNarrow, narrow_file};
-ghost use Rattle.abc_file_types.specs.Canonical.{IsLeast};
+ghost use Rattle.abc_file_types.specs.Canonical.{IsCanonical, IsLeast};
 ghost use Rattle.abc_file_types.specs.declared.tables.Abc.{Abc};
 ghost use Rattle.abc_file_types.specs.Bodies.{IsReadyBody};
 ghost use Rattle.abc_file_types.specs.Files.{Fits, IsFile, IsFileRead, IsDecided, file, file_bytes};
@@ -32,5 +32,6 @@ pub fn reading_gives_the_file()
 /// bytes as the format does; so the same bytes are canonical of such a file in both.
 pub fn widening()
     ensures same_values { (v : Abc) → (b : List ℕ) → (narrow_file.spells v b ↔ (file.spells v b × IsNarrow v)) }
+    ensures canonical { IsCanonical narrow_file file_bytes }
     ensures same_bytes { (v : Abc) → (b : List ℕ) → IsNarrow v → (IsLeast narrow_file v b ↔ IsLeast file v b) }
 {}
