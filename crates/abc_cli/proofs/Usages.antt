@@ -7,6 +7,7 @@ use Rattle.std.specs.declared.result.Result.{Result}
 use Rattle.std.specs.declared.vec.Vec.{Vec}
 use Rattle.abc_base.specs.declared.status.Status.{Status}
 use Rattle.abc_base.specs.declared.status.Status.TheVariants as status
+use Rattle.abc_base.specs.Taking.{TakesAtMost}
 use Rattle.abc_cli_answers.specs.declared.command.Command.{Command}
 use Rattle.abc_cli_answers.specs.declared.command.Command.TheVariants as commands
 use Rattle.abc_cli_answers.specs.declared.command.RunOptions.{RunOptions}
@@ -17,7 +18,7 @@ use Rattle.abc_cli_answers.specs.declared.command.Usage.TheVariants as usages
 use Rattle.abc_cli_answers.specs.Commands.{Setting}
 use Rattle.abc_cli_answers.specs.Grammar.{GiveAll, GivesOne, IsDefault, IsUsageWord, Says}
 use Rattle.abc_cli_answers.specs.Answers.{Answer, OfFile, OfFileRead, On}
-use Rattle.abc_cli.specs.Outcome.{Asm, AsksNoInput, Canon, Check, CommandOutcome, Dis, IsUsage, OutcomeOf, Tidy, UsageOutcome, reads_input, usage_answer}
+use Rattle.abc_cli.specs.Outcome.{Asm, AsksNoInput, Canon, Check, CommandOutcome, Dis, IsUsage, OutcomeOf, TakesFor, Tidy, UsageOutcome, reads_input, usage_answer}
 use Rattle.abc_cli.specs.Runs.{Gen, Run}
 use Rattle.abc_cli.specs.Calls.{Calls}
 use Rattle.abc_cli.specs.Logs.{Log, Replay}
@@ -93,6 +94,15 @@ asking words c says asks = go (reads_input c) refl
     go : (b : Bool) → reads_input c ≡ b → reads_input c ≡ true
     go true e = e
     go false e = absurd (asks (AsksNoInput.command c says e))
+
+-- what a command takes is what that takes which it is
+pub takes_as : (command c : Command) (old new : Option (List ℕ)) → command ≡ c → TakesFor c old new → TakesFor command old new
+takes_as command c old new is takes = subst (λ (x : Command). TakesFor x old new) (sym is) takes
+
+-- nothing is taken
+pub takes_none : (s : Option (List ℕ)) (most : ℕ) → TakesAtMost s s most
+takes_none None most = ([], tt, omega arith)
+takes_none (Some left) most = ([], refl, omega arith)
 
 -- ---- what a command's answer is not
 

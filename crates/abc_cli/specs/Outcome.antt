@@ -1,14 +1,16 @@
 -- What a command line and an input are answered with.
-use Rattle.std.specs.Prelude.{◌≡◌, ℕ, Bool, true, false, List, [], get_or, length, ◌<◌, ◌≤◌, ◌^◌}
+use Rattle.std.specs.Prelude.{◌≡◌, ℕ, Bool, true, false, List, [], get_or, length, ◌+◌, ◌<◌, ◌≤◌, ◌^◌}
 use Rattle.std.specs.declared.option.Option.{Option}
 use Rattle.abc_base.specs.declared.formula.Formula.{Formula}
 use Rattle.abc_base.specs.declared.status.Status.TheVariants as status
+use Rattle.abc_base.specs.Taking.{TakesAtMost}
 use Rattle.abc_text_lines.specs.Answers.{IsAssemblyFault, IsAssemblyOf}
 use Rattle.abc_text_lines.specs.Listing.{listing}
 use Rattle.abc_link_names.specs.Linked.{LinkedFile}
 use Rattle.abc_text_lines.specs.Rows.{Fault, fault}
 use Rattle.abc_file_types.specs.declared.tables.Abc.{Abc}
 use Rattle.abc_file_types.specs.Files.{file_bytes}
+use Rattle.abc_file_types.specs.Part.{limit}
 use Rattle.abc_text_lines.specs.declared.reason.AsmReason.TheVariants as reasons
 use Rattle.abc_tidy_entries.specs.Rules.{IsFirstBroken as IsFirstUntidy, IsTidied}
 use Rattle.abc_tidy_entries.specs.declared.error.TidyRule.{TidyRule}
@@ -82,6 +84,12 @@ reads_input (commands.Gen options) = false
 reads_input (commands.Calls options) = true
 reads_input (commands.Log options) = true
 reads_input commands.Replay = true
+
+-- How much of its input a command takes: at most one byte more than the greatest file has, or the greatest text. `replay` goes on behind its file, as far as the log agrees.
+abbrev pub TakesFor : Command → Option (List ℕ) → Option (List ℕ) → Type 0
+TakesFor commands.Asm old new = TakesAtMost old new (text_limit + 1)
+TakesFor commands.Replay old new = Unit {0}
+TakesFor command old new = TakesAtMost old new (limit + 1)
 
 -- ---- words outside the grammar
 

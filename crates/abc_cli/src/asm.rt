@@ -1,4 +1,5 @@
-ghost use Rattle.std.specs.Prelude.{◌≤◌, ◌^◌, IfErr, IfOk, length};
+ghost use Rattle.std.specs.Prelude.{◌≤◌, ◌+◌, ◌^◌, IfErr, IfOk, length};
+ghost use Rattle.abc_base.specs.Taking.{TakesAtMost};
 ghost use Rattle.abc_cli_answers.specs.End.{stream};
 ghost use Rattle.abc_cli_answers.specs.Answers.{given};
 ghost use Rattle.abc_cli.specs.Outcome.{Asm};
@@ -32,6 +33,7 @@ fn assembled(alloc: Global, text: &[u8]) -> Result<Vec<u8>, Stop>
 pub fn asm<S: Source>(alloc: Global, source: &mut S) -> Result<Vec<u8>, Stop>
     ensures gives { IfOk result (λ bytes. Gives Asm (stream S.left S.faults source.old source.new) bytes.items) }
     ensures stops { IfErr result (λ stop. Stops Asm (stream S.left S.faults source.old source.new) stop) }
+    ensures taken { TakesAtMost (S.left source.old) (S.left source.new) (2 ^ 28 + 1) }
 {
     let text = read_input(alloc, source, 1 << 28)?;
     let bytes = assembled(alloc, text.as_slice())?;

@@ -1,4 +1,5 @@
-ghost use Rattle.std.specs.Prelude.{◌≡◌, IfErr, IfOk, length};
+ghost use Rattle.std.specs.Prelude.{◌≡◌, ◌+◌, ◌^◌, IfErr, IfOk, length};
+ghost use Rattle.abc_base.specs.Taking.{TakesAtMost};
 ghost use Rattle.abc_cli_answers.specs.End.{stream};
 ghost use Rattle.abc_cli_answers.specs.Lines.{verified_line};
 ghost use Rattle.abc_cli_answers.specs.Answers.{OfFileRead};
@@ -33,6 +34,7 @@ fn body_count(verified: &Verified) -> usize
 pub fn check<S: Source>(alloc: Global, source: &mut S) -> Result<Vec<u8>, Stop>
     ensures gives { IfOk result (λ bytes. Gives (OfFileRead Check) (stream S.left S.faults source.old source.new) bytes.items) }
     ensures stops { IfErr result (λ stop. Stops (OfFileRead Check) (stream S.left S.faults source.old source.new) stop) }
+    ensures taken { TakesAtMost (S.left source.old) (S.left source.new) (2 ^ 24 + 1) }
 {
     let (verified, _) = read_verified(alloc, source)?;
     let count = body_count(&verified);

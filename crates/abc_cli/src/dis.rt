@@ -1,4 +1,5 @@
-ghost use Rattle.std.specs.Prelude.{IfErr, IfOk};
+ghost use Rattle.std.specs.Prelude.{◌+◌, ◌^◌, IfErr, IfOk};
+ghost use Rattle.abc_base.specs.Taking.{TakesAtMost};
 ghost use Rattle.abc_cli_answers.specs.End.{stream};
 ghost use Rattle.abc_cli_answers.specs.Answers.{OfFile};
 ghost use Rattle.abc_cli.specs.Outcome.{Dis};
@@ -13,6 +14,7 @@ use std::alloc::Global;
 pub fn dis<S: Source>(alloc: Global, source: &mut S) -> Result<Vec<u8>, Stop>
     ensures gives { IfOk result (λ bytes. Gives (OfFile Dis) (stream S.left S.faults source.old source.new) bytes.items) }
     ensures stops { IfErr result (λ stop. Stops (OfFile Dis) (stream S.left S.faults source.old source.new) stop) }
+    ensures taken { TakesAtMost (S.left source.old) (S.left source.new) (2 ^ 24 + 1) }
 {
     let text = listing_of(alloc, source)?;
     Ok(text)

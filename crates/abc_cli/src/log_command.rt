@@ -1,4 +1,5 @@
-ghost use Rattle.std.specs.Prelude.{◌≡◌, ◌≤◌, ◌++◌, ◌^◌, IfOk, None, length};
+ghost use Rattle.std.specs.Prelude.{◌≡◌, ◌≤◌, ◌+◌, ◌++◌, ◌^◌, IfOk, None, length};
+ghost use Rattle.abc_base.specs.Taking.{TakesAtMost};
 ghost use Rattle.abc_base.specs.Faults.{HasCause};
 ghost use Rattle.abc_base.specs.Sinks.{WritesAll};
 ghost use Rattle.abc_bodies.specs.Places.{ArePlaces};
@@ -193,6 +194,7 @@ pub fn log<S: Source, K: Sink, E: Sink, H: Host>(
     host: &H,
 ) -> Status
     ensures end { RunsTo (On (OfFileRead (Log options.now (H.formulas host.now))) (S.left source.old)) (HasFailed (stream S.left S.faults source.old source.new)) (stream K.written K.faults out.old out.new) (stream E.written E.faults err.old err.new) result }
+    ensures taken { TakesAtMost (S.left source.old) (S.left source.new) (2 ^ 24 + 1) }
     ensures used_up { UsesUp (stream S.left S.faults source.old source.new) result }
     ensures logged { AreLimits (options.now).fuel (limits_in options.now) → IsRead result → GotLog (H.formulas host.now) (stream K.written K.faults out.old out.new) }
 {

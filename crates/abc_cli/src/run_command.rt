@@ -1,4 +1,5 @@
-ghost use Rattle.std.specs.Prelude.{◌≡◌, ◌≤◌, ◌<◌, None};
+ghost use Rattle.std.specs.Prelude.{◌≡◌, ◌≤◌, ◌<◌, ◌+◌, ◌^◌, None};
+ghost use Rattle.abc_base.specs.Taking.{TakesAtMost};
 ghost use Rattle.abc_bodies.specs.Places.{ArePlaces};
 ghost use Rattle.abc_cli_answers.specs.Answers.{OfFileRead, On};
 ghost use Rattle.abc_cli_answers.specs.End.{HasFailed, RunsTo, UsesUp, stream};
@@ -79,6 +80,7 @@ pub fn run<S: Source, K: Sink, E: Sink, H: Host>(
     host: &H,
 ) -> Status
     ensures end { RunsTo (On (OfFileRead (Run options.now (H.formulas host.now))) (S.left source.old)) (HasFailed (stream S.left S.faults source.old source.new)) (stream K.written K.faults out.old out.new) (stream E.written E.faults err.old err.new) result }
+    ensures taken { TakesAtMost (S.left source.old) (S.left source.new) (2 ^ 24 + 1) }
     ensures used_up { UsesUp (stream S.left S.faults source.old source.new) result }
     ensures later { K.faults out.old ≤ K.faults out.new }
     ensures quiet { result ≡ Status.Done → err.new ≡ err.old }

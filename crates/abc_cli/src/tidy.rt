@@ -1,4 +1,5 @@
-ghost use Rattle.std.specs.Prelude.{IfErr, IfOk};
+ghost use Rattle.std.specs.Prelude.{◌+◌, ◌^◌, IfErr, IfOk};
+ghost use Rattle.abc_base.specs.Taking.{TakesAtMost};
 ghost use Rattle.abc_cli_answers.specs.End.{stream};
 ghost use Rattle.abc_cli_answers.specs.Answers.{OfFile, given};
 ghost use Rattle.abc_cli.specs.Outcome.{Tidy};
@@ -29,6 +30,7 @@ fn tidied(alloc: Global, abc: Abc) -> Result<Vec<u8>, Stop>
 pub fn tidy<S: Source>(alloc: Global, source: &mut S) -> Result<Vec<u8>, Stop>
     ensures gives { IfOk result (λ bytes. Gives (OfFile Tidy) (stream S.left S.faults source.old source.new) bytes.items) }
     ensures stops { IfErr result (λ stop. Stops (OfFile Tidy) (stream S.left S.faults source.old source.new) stop) }
+    ensures taken { TakesAtMost (S.left source.old) (S.left source.new) (2 ^ 24 + 1) }
 {
     let abc = read_alone(alloc, source)?;
     let bytes = tidied(alloc, abc)?;

@@ -1,9 +1,10 @@
 ghost use Rattle.std.specs.Prelude.{◌≡◌, ◌<◌, ◌≤◌, false, true};
+ghost use Rattle.abc_cli_answers.specs.declared.command.Command.{Command as AnyCommand};
 ghost use Rattle.abc_cli_answers.specs.declared.command.GenOptions.{GenOptions};
 ghost use Rattle.abc_cli_answers.specs.declared.command.RunOptions.{RunOptions};
 ghost use Rattle.abc_cli_answers.specs.End.{Ends, GivesLine, IsRead, UsesUp, stream};
 ghost use Rattle.abc_cli_answers.specs.Answers.{Answer};
-ghost use Rattle.abc_cli.specs.Outcome.{AsksNoInput, CommandOutcome, IsOutcome, IsUsage, UsageOutcome, reads_input, usage_answer};
+ghost use Rattle.abc_cli.specs.Outcome.{AsksNoInput, CommandOutcome, IsOutcome, IsUsage, TakesFor, UsageOutcome, reads_input, usage_answer};
 ghost use Rattle.abc_cli.specs.Listed.{Lists};
 ghost use Rattle.abc_cli.specs.Logged.{GotLog};
 ghost use Rattle.abc_cli.specs.Tidied.{Tidies};
@@ -39,6 +40,7 @@ fn run_command<S: Source, K: Sink, E: Sink, H: Host>(
     ensures end { Ends (CommandOutcome (H.formulas host.now) command.now) (stream S.left S.faults source.old source.new) (stream K.written K.faults out.old out.new) (stream E.written E.faults err.old err.new) result }
     ensures used_up { reads_input command.now ≡ true → UsesUp (stream S.left S.faults source.old source.new) result }
     ensures unread { reads_input command.now ≡ false → source.new ≡ source.old }
+    ensures taken { TakesFor command.now (S.left source.old) (S.left source.new) }
     ensures logged { (options : RunOptions) → command.now ≡ Command.Log options → AreLimits options.fuel (limits_of options) → IsRead result → GotLog (H.formulas host.now) (stream K.written K.faults out.old out.new) }
 {
     match command {
@@ -86,6 +88,8 @@ pub fn abc_main<S: Source, K: Sink, E: Sink, H: Host>(
     ensures used_up { ¬ AsksNoInput words.now → UsesUp (stream S.left S.faults source.old source.new) result }
     // Nothing is read where the words ask for nothing of the input.
     ensures unread { AsksNoInput words.now → source.new ≡ source.old }
+    // Whatever is answered, no more of the input is taken than shows that a file, or a text, is too long.
+    ensures taken { (c : AnyCommand) → Says words.now c → TakesFor c (S.left source.old) (S.left source.new) }
     // Words outside the grammar are answered by their line, whatever the input is, and other words never are.
     ensures usage { (a : Answer) → UsageOutcome words.now a → GivesLine (stream E.written E.faults err.old err.new) a result }
     ensures untouched { (a : Answer) → UsageOutcome words.now a → out.new ≡ out.old }

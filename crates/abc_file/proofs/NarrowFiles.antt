@@ -4,7 +4,6 @@ use Rattle.std.specs.Prelude.{All, ◌+◌, nat_eq, unwrap_or}
 use Rattle.std.proofs.lemmas.Bool.Decides.{nat_tests}
 use Rattle.std.proofs.lemmas.List.Elements.{All-cons, All-head, All-map, All-nil, All-same, All-tail}
 use Rattle.abc_file_types.specs.Canonical.{IsCanonical, IsLeast}
-use Rattle.abc_file_types.proofs.Whole.{file-canonical}
 use Rattle.abc_file_types.specs.Ends.{Pieces}
 use Rattle.abc_file_types.specs.Numbers.{u8, u30}
 use Rattle.abc_file_types.specs.Part.{Part, then_by}
@@ -24,6 +23,7 @@ use Rattle.abc_file_types.specs.Files.{file, file_bytes}
 use Rattle.abc_file_types.specs.Instructions.{Branch, RawInstr, Same, Switch, instruction, opcode, opcode_in, operands}
 use Rattle.abc_file_types.specs.Opcodes.{form_at, info_at, is_opcode}
 use Rattle.abc_file_types.specs.Pools.{is_multiname_kind, multiname, multiname_fields, multiname_kind, multiname_kind_in, multiname_kind_of, multiname_of, multinames, pools, pools_of}
+use Rattle.abc_file_types.proofs.Whole.{file-canonical}
 use Rattle.abc_file.specs.Narrow.{HasNoApplytype, IsNarrow, has_params, is_applytype, narrow_bodies, narrow_body, narrow_code_body, narrow_file, narrow_instruction, narrow_names}
 use Rattle.abc_file.proofs.Narrowing.{Narrows, chain_narrows, checked_narrows, first_narrows, image_narrows, pair_narrows, pool_by_narrows, second_narrows, told_narrows}
 

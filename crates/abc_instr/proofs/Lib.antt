@@ -6,3 +6,4 @@ pub mod Scanned
 pub mod Aiming
 pub mod Passing
 pub mod Filling
+pub mod Ended

@@ -24,8 +24,6 @@ pub fn pass_code<S: Source>(
     scan: &mut Scan,
     out: &mut Vec<u8>,
 ) -> Result<(), ReadError>
-    // The window has no end.
-    requires { w.old.end ≡ 2 ^ 25 }
     ensures { PassesPart S.left S.faults code_part (λ c. code_bytes c.instrs) moved_in w.old source.old w.new source.new out.old.items out.new.items (stored result (mark_at (scan.new).marks)) }
 {
     let length = read_length(w, source)?;

@@ -199,9 +199,9 @@ fn scan_until<S: Source>(
     scan: &mut Scan,
 ) -> Result<u32, ReadError>
     requires fresh { w.old.kept ≡ None }
-    requires end { w.old.end ≡ w.old.place + byte_count }
+    requires end { w.old.end ≤ w.old.place + byte_count }
     requires small { byte_count < 2 ^ 23 }
-    ensures value { ScansOn (ReadsUntil (pieces_part byte_count).reads w.old (S.left source.old) w.new (S.left source.new)) byte_count w.old w.new scan.new result }
+    ensures value { ScansOn (ReadsUntil byte_count (pieces_part byte_count).reads w.old (S.left source.old) w.new (S.left source.new)) byte_count w.old w.new scan.new result }
     ensures later { S.faults source.old ≤ S.faults source.new }
     ensures cause { Blames w.old (S.faults source.old) (S.faults source.new) result }
     ensures keeps { Keeps w.old w.new result }
@@ -229,7 +229,6 @@ fn scan_within<S: Source>(
     scan: &mut Scan,
 ) -> Result<u32, ReadError>
     requires fresh { w.old.kept ≡ None }
-    requires end { w.old.end ≡ 2 ^ 25 }
     requires small { byte_count < 2 ^ 23 }
     ensures value { ScansOn (Reads (pieces_part byte_count).reads w.old (S.left source.old) w.new (S.left source.new)) byte_count w.old w.new scan.new result }
     ensures later { S.faults source.old ≤ S.faults source.new }
@@ -237,7 +236,7 @@ fn scan_within<S: Source>(
     ensures keeps { Keeps w.old w.new result }
 {
     let outer = w.end();
-    let end = w.place() + byte_count;
+    let end = outer.min(w.place() + byte_count);
     w.set_end(end);
     let done = scan_until(alloc, w, source, byte_count, scan);
     w.set_end(outer);
@@ -253,7 +252,6 @@ pub fn scan_code<S: Source>(
     scan: &mut Scan,
 ) -> Result<(), ReadError>
     requires fresh { w.old.kept ≡ None }
-    requires end { w.old.end ≡ 2 ^ 25 }
     requires small { byte_count < 2 ^ 23 }
     ensures value { Scans (Reads (pieces_part byte_count).reads w.old (S.left source.old) w.new (S.left source.new)) byte_count scan.new result }
     ensures later { S.faults source.old ≤ S.faults source.new }

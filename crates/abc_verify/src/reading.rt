@@ -1,5 +1,6 @@
-ghost use Rattle.std.specs.Prelude.{◌≡◌, ◌≤◌, Err, IfErr, IfOk};
+ghost use Rattle.std.specs.Prelude.{◌≡◌, ◌≤◌, ◌+◌, ◌^◌, Err, IfErr, IfOk};
 ghost use Rattle.abc_base.specs.Faults.{Rose};
+ghost use Rattle.abc_base.specs.Taking.{TakesAtMost};
 ghost use Rattle.abc_bodies.specs.Places.{ArePlaces};
 ghost use Rattle.abc_file.specs.Reading.{IsUsedUp, OfInput};
 ghost use Rattle.abc_link_layouts.specs.Numbering.{IsNumbered};
@@ -68,13 +69,14 @@ pub fn verified_file(alloc: Global, abc: Abc, places: &Places) -> Result<Verifie
 
 /// The file of the input, linked and verified, with the places of its instructions as they were read; or why there is none: the
 /// input's first fault, or else the first broken rule of linking, or else the first method without a typing. `ReadFault` comes only
-/// where the source's count of faults rose.
+/// where the source's count of faults rose. At most 2^24 + 1 bytes are taken, whatever is answered.
 pub fn read_verified<S: Source>(
     alloc: Global,
     source: &mut S,
 ) -> Result<(Verified, Places), VerifiedError>
     ensures ok { IfOk result (λ x. OfInput (S.left source.old) (IsReadVerified x.0 x.1)) }
     ensures places { IfOk result (λ x. ArePlaces (x.0).file.bodies x.1) }
+    ensures taken { TakesAtMost (S.left source.old) (S.left source.new) (2 ^ 24 + 1) }
     ensures end { IfOk result (λ _. IsUsedUp (S.left source.old) (S.left source.new)) }
     ensures refused { IfErr result (λ e. OfInput (S.left source.old) (λ input. IsRefusedBy input e)) }
     ensures later { S.faults source.old ≤ S.faults source.new }

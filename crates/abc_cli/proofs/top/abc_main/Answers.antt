@@ -8,7 +8,7 @@ use Rattle.abc_cli_answers.specs.Answers.{Answer}
 use Rattle.abc_cli.specs.Outcome.{AsksNoInput, CommandOutcome, IsOutcome, usage_answer}
 use Rattle.abc_session.proofs.Pieces.{nothing}
 use Rattle.abc_cli_answers.proofs.Ending.{line_ends, weaker}
-use Rattle.abc_cli.proofs.Usages.{usage_found, is_usage, usage_not_memory, usage_outcome, same_command, same_usage, not_ok, end_not_usage, unread_command, asking, few_methods, log_limits}
+use Rattle.abc_cli.proofs.Usages.{usage_found, is_usage, usage_not_memory, usage_outcome, same_command, same_usage, not_ok, end_not_usage, unread_command, asking, few_methods, log_limits, takes_as}
 use Rattle.abc_cli.proofs.Listings.{lists}
 use Rattle.abc_cli.proofs.Tidyings.{tidies}
 use Rattle.abc_cli.proofs.top.abc_main.Goals as goal
@@ -105,3 +105,11 @@ returns-in-Ok-clause-tidied g c = λ says done.
 
 pub returns-in-Err-clause-tidied : goal.returns-in-Err-clause-tidied
 returns-in-Err-clause-tidied g c = λ says done. absurd (not_ok commands.Tidy c.in-Err.usage c.parse.result ((c.parse.ensures.command commands.Tidy).1 says) c.in-Err.is)
+
+pub returns-in-Ok-clause-taken : goal.returns-in-Ok-clause-taken
+returns-in-Ok-clause-taken g c = λ k says.
+    let is = same_command k c.in-Ok.command c.parse.result ((c.parse.ensures.command k).1 says) c.in-Ok.is in
+    takes_as k c.in-Ok.command (g.S.Source.left c.args.source.now) (g.S.Source.left c.run_command.new.source) is c.run_command.ensures.taken
+
+pub returns-in-Err-clause-taken : goal.returns-in-Err-clause-taken
+returns-in-Err-clause-taken g c = λ k says. absurd (not_ok k c.in-Err.usage c.parse.result ((c.parse.ensures.command k).1 says) c.in-Err.is)

@@ -1,4 +1,4 @@
-use Rattle.std.proofs.Common.{refl, subst, sym}
+use Rattle.std.proofs.Common.{◌+◌, ◌^◌, refl, subst, sym}
 use Rattle.abc_cli_answers.specs.declared.command.Command.{Command}
 use Rattle.abc_cli_answers.specs.declared.command.Command.TheVariants as commands
 use Rattle.abc_cli_answers.specs.End.{Ends, stream}
@@ -7,7 +7,7 @@ use Rattle.abc_log.specs.Lines.{AreLimits}
 use Rattle.abc_cli.specs.Meant.{limits_of}
 use Rattle.abc_cli_answers.specs.declared.command.RunOptions.{RunOptions}
 use Rattle.abc_cli_answers.proofs.Ending.{finished_used_up}
-use Rattle.abc_cli.proofs.Usages.{calls_ends, command_ends, gen_ends, log_ends, other_command, reading, run_ends, same_options, unreading}
+use Rattle.abc_cli.proofs.Usages.{calls_ends, command_ends, gen_ends, log_ends, other_command, reading, run_ends, same_options, takes_as, takes_none, unreading}
 use Rattle.abc_cli.proofs.top.run_command.Goals as goal
 
 pub returns-in-Canon-clause-end : goal.returns-in-Canon-clause-end
@@ -163,3 +163,33 @@ returns-in-Calls-clause-logged g c = λ o e within read. absurd (other_command c
 
 pub returns-in-Replay-clause-logged : goal.returns-in-Replay-clause-logged
 returns-in-Replay-clause-logged g c = λ o e within read. absurd (other_command c.args.command.now commands.Replay o c.in-Replay.is e (λ h. cc))
+
+pub returns-in-Canon-clause-taken : goal.returns-in-Canon-clause-taken
+returns-in-Canon-clause-taken g c = takes_as c.args.command.now commands.Canon (g.S.Source.left c.args.source.now) (g.S.Source.left c.canon.new.source) c.in-Canon.is c.canon.ensures.taken
+
+pub returns-in-Dis-clause-taken : goal.returns-in-Dis-clause-taken
+returns-in-Dis-clause-taken g c = takes_as c.args.command.now commands.Dis (g.S.Source.left c.args.source.now) (g.S.Source.left c.dis.new.source) c.in-Dis.is c.dis.ensures.taken
+
+pub returns-in-Check-clause-taken : goal.returns-in-Check-clause-taken
+returns-in-Check-clause-taken g c = takes_as c.args.command.now commands.Check (g.S.Source.left c.args.source.now) (g.S.Source.left c.check.new.source) c.in-Check.is c.check.ensures.taken
+
+pub returns-in-Tidy-clause-taken : goal.returns-in-Tidy-clause-taken
+returns-in-Tidy-clause-taken g c = takes_as c.args.command.now commands.Tidy (g.S.Source.left c.args.source.now) (g.S.Source.left c.tidy.new.source) c.in-Tidy.is c.tidy.ensures.taken
+
+pub returns-in-Asm-clause-taken : goal.returns-in-Asm-clause-taken
+returns-in-Asm-clause-taken g c = takes_as c.args.command.now commands.Asm (g.S.Source.left c.args.source.now) (g.S.Source.left c.asm.new.source) c.in-Asm.is c.asm.ensures.taken
+
+pub returns-in-Run-clause-taken : goal.returns-in-Run-clause-taken
+returns-in-Run-clause-taken g c = takes_as c.args.command.now (commands.Run c.in-Run.options) (g.S.Source.left c.args.source.now) (g.S.Source.left c.run.new.source) c.in-Run.is c.run.ensures.taken
+
+pub returns-in-Gen-clause-taken : goal.returns-in-Gen-clause-taken
+returns-in-Gen-clause-taken g c = takes_as c.args.command.now (commands.Gen c.in-Gen.options) (g.S.Source.left c.args.source.now) (g.S.Source.left c.args.source.now) c.in-Gen.is (takes_none (g.S.Source.left c.args.source.now) (2 ^ 24 + 1))
+
+pub returns-in-Calls-clause-taken : goal.returns-in-Calls-clause-taken
+returns-in-Calls-clause-taken g c = takes_as c.args.command.now (commands.Calls c.in-Calls.options) (g.S.Source.left c.args.source.now) (g.S.Source.left c.calls.new.source) c.in-Calls.is c.calls.ensures.taken
+
+pub returns-in-Log-clause-taken : goal.returns-in-Log-clause-taken
+returns-in-Log-clause-taken g c = takes_as c.args.command.now (commands.Log c.in-Log.options) (g.S.Source.left c.args.source.now) (g.S.Source.left c.log.new.source) c.in-Log.is c.log.ensures.taken
+
+pub returns-in-Replay-clause-taken : goal.returns-in-Replay-clause-taken
+returns-in-Replay-clause-taken g c = takes_as c.args.command.now commands.Replay (g.S.Source.left c.args.source.now) (g.S.Source.left c.replay.new.source) c.in-Replay.is tt

@@ -18,7 +18,7 @@ returns-in_err-length g c =
     let p = err_from_is_err_and c.from_residual.result c.from_residual.ensures.1 in
     let e = c.in_err-length.field-0.0 in
     let v = c.in_err-length.ensures.value in
-    rw (p.1, p.2) ((λ k. ((v.0 k).0, length_fails e _ (v.0 k).1)), (λ f h. other_err e f (v.1 f h)), v.2, (λ k h. v.3 k (other_err e errors.ReadFault h)), v.4)
+    rw (p.1, p.2) ((λ k. ((v.0 k).0, length_fails e _ (v.0 k).1)), (λ f h. let k = v.1 f h in (other_err e f k.0, k.1, k.2)), v.2, (λ k h. v.3 k (other_err e errors.ReadFault h)), v.4)
 
 pub returns-in_err-scan_code : goal.returns-in_err-scan_code
 returns-in_err-scan_code g c =

@@ -45,7 +45,7 @@ loop-preserved g c =
       xs ++ (x, n) ∷ [],
       record {
         scan = scan_push xs x n here c.loop.moved c.loop.scan (record c.loop.scan { marks = c.set.new.self }) c.pass_next.new.self inv.some (omega (arith, inv.size)) inv.moved inv.scan (rw (← c.place-first.ensures.is, ← c.place.ensures.is) c.in_ok-set.ensures) refl refl step.marks (rw c.place-first.ensures.is at step.adds);
-        filling = rw raws (fill_goes_on (blamed instruction) c.args.byte_count c.loop.counter (raws_in xs) _ _ _ _ _ _ _ instruction-exact instruction-some (omega (arith, c.place-first.ensures.bound, c.place-first.ensures.is)) (omega (arith, c.requires.small)) inv.room c.loop-test.true
+        filling = rw raws (fill_goes_on (blamed instruction) c.args.byte_count c.loop.counter (raws_in xs) _ _ _ _ _ _ _ instruction-exact instruction-some inv.room c.loop-test.true
             (omega (arith, c.if-here-byte_count.false, c.place.ensures.is, c.place-first.ensures.is, inv.size)) inv.filling step.says_so);
         some = All-push (λ (p : Raw × ℕ). 0 < p.1) xs (x, n) inv.some (omega (arith, step.moves));
         raw = rw all (raw_push (instrs_in xs) x inv.raw step.raw);
@@ -63,7 +63,7 @@ unfolding pieces
 returns-in_err-moved-clause-value g c =
     let p = err_from_is_err_and c.from_residual-in_err-moved.result c.from_residual-in_err-moved.ensures.1 in
     let inv = c.loop.invariant.1 in
-    rw (p.1, p.2) (λ k. fill_ends c.in_err-moved.field-0.0 (blamed instruction) c.args.byte_count c.loop.counter (raws_in c.loop.invariant.0) _ _ _ _ _ (omega (arith, c.place-first.ensures.bound, c.place-first.ensures.is)) (omega (arith, c.requires.small)) c.loop-test.true
+    rw (p.1, p.2) (λ k. fill_ends c.in_err-moved.field-0.0 (blamed instruction) c.args.byte_count c.loop.counter (raws_in c.loop.invariant.0) _ _ _ _ _ c.loop-test.true
     (omega (arith, c.if-here-byte_count.false, c.place.ensures.is, c.place-first.ensures.is, inv.size)) inv.filling (c.in_err-moved.ensures.value inv.filling.fresh))
 
 pub returns-after-loop-clause-value : goal.returns-after-loop-clause-value

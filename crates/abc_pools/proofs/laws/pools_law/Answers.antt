@@ -1,5 +1,5 @@
 use Rattle.abc_file_types.proofs.Exactness.{double-exact, multiname-exact, multinames-exact, namespace-exact, namespace_set-exact, pools-exact}
-use Rattle.abc_file.proofs.parts.pools_are_exact.Goals as goal
+use Rattle.abc_pools.proofs.laws.pools_law.Goals as goal
 
 pub returns : goal.returns
 returns c = record {

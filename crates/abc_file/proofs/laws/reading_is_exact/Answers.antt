@@ -1,5 +1,5 @@
 use Rattle.abc_file_types.proofs.Whole.{file-exact, file_read-exact, version-exact}
-use Rattle.abc_file.proofs.parts.files_are_exact.Goals as goal
+use Rattle.abc_file.proofs.laws.reading_is_exact.Goals as goal
 
 pub returns : goal.returns
 returns c = record {
