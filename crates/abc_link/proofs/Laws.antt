@@ -1,5 +1,5 @@
 -- What the tables of a linked file say.
-use Rattle.std.proofs.Common.{◌≡◌, ℕ, ◌+◌, ◌<◌, ◌≤◌, ◌^◌, List, length, nat_eq, unwrap_or, ap, subst, sym, arith, below_more}
+use Rattle.std.proofs.Common.{◌≡◌, ℕ, ◌<◌, ◌≤◌, List, length, nat_eq, unwrap_or, ap, sym, arith}
 use Rattle.std.proofs.lemmas.List.{get_or_past}
 use Rattle.abc_base.specs.declared.names.HostClass.TheVariants as hosts
 use Rattle.abc_link_names.specs.Parts.{parent}
@@ -8,17 +8,20 @@ use Rattle.abc_link_names.specs.declared.part.Part.TheVariants as parts
 use Rattle.abc_base_graphs.specs.Heirs.{list_at}
 use Rattle.abc_base_graphs.specs.Listed.{Listed}
 use Rattle.abc_base_graphs.specs.Index.{first}
-use Rattle.abc_link.specs.LinkedMade.{AreFewSlots}
 use Rattle.abc_link.specs.Tables.{AreTables, file_of}
 use Rattle.abc_link.specs.declared.linked.Linked.TheInside.{Inside}
 use Rattle.abc_link_names.specs.Linked.{IsLinkedFile, LinkedFile, above}
 use Rattle.abc_link_names.specs.Slots.{HasFewSlots, numbers_of, slots_of}
 use Rattle.abc_link_names.specs.declared.types.SlotInfo.{SlotInfo}
+use Rattle.abc_link_names.proofs.FewSlots.{few_slots}
 use Rattle.abc_link_layouts.specs.Numbering.{IsNumbered}
 use Rattle.abc_link_layouts.specs.Tables.{HasSlots}
 
 pub is_linked : (a : Inside) → AreTables a → IsLinkedFile (file_of a)
 is_linked a t = record { fits = t.fits; rules = t.rules; numbering = t.made_of.layouts_are.numbering; tables = t.tables; layouts = t.made_of.few }
+
+pub has_few_slots : (a : Inside) → AreTables a → HasFewSlots (file_of a)
+has_few_slots a t = few_slots (file_of a) (is_linked a t)
 
 pub is_numbered : (a : Inside) → AreTables a → IsNumbered (file_of a)
 is_numbered a t = t.made_of.layouts_are.is
@@ -35,14 +38,3 @@ numbered_found l lists n x k h lt = ap (first (nat_eq k)) (h.heirs.keys_of x (sl
 -- above what is no layout stands that of Object's instances
 pub none_above : (l : LinkedFile) (x : ℕ) → length l.parts ≤ x → 0 ≡ above l x
 none_above l x le = sym (ap (λ p. unwrap_or (place_under l.parts (parent l.file p)) 0) (get_or_past l.parts x (parts.Host hosts.Object) le))
-
--- ---- how many slots there are
-
-pub no_slots : (lists : List (Listed SlotInfo)) → AreFewSlots lists 0
-no_slots lists = record { each = λ x lt. absurd (omega arith) }
-
-pub more_slots : (lists : List (Listed SlotInfo)) (x : ℕ) → AreFewSlots lists x → length (list_at lists x).values < 2 ^ 32 → AreFewSlots lists (x + 1)
-more_slots lists x h few = record { each = below_more (λ (k : ℕ). length (list_at lists k).values < 2 ^ 32) x h.each few }
-
-pub few_slots : (l : LinkedFile) (lists : List (Listed SlotInfo)) → HasSlots l lists (length l.parts) → AreFewSlots lists (length l.parts) → HasFewSlots l
-few_slots l lists h few = λ x lt. subst (λ (xs : List SlotInfo). length xs < 2 ^ 32) (slots_found l lists (length l.parts) x h lt) (few.each x lt)

@@ -1,7 +1,5 @@
 -- What is made of a file that keeps the rules of linking.
-use Rattle.std.specs.Prelude.{◌≡◌, ℕ, ◌<◌, ◌^◌, List, length}
-use Rattle.abc_base_graphs.specs.Heirs.{list_at}
-use Rattle.abc_base_graphs.specs.Listed.{Listed}
+use Rattle.std.specs.Prelude.{◌<◌, ◌^◌, length}
 use Rattle.abc_link_interfaces.specs.Sets.{HasSets}
 use Rattle.abc_link_layouts.specs.Laid.{AreLayouts}
 use Rattle.abc_link.specs.Ladders.{AreRungs}
@@ -11,13 +9,8 @@ use Rattle.abc_link_names.specs.declared.tables.NameTables.{NameTables}
 use Rattle.abc_link_layouts.specs.Owning.{AreOwners}
 use Rattle.abc_link.specs.TablesMade.{AreSearchTables}
 use Rattle.abc_link_layouts.specs.Files.{linked}
-use Rattle.abc_link_names.specs.declared.types.SlotInfo.{SlotInfo}
 use Rattle.abc_link_layouts.specs.Tables.{HasSlots}
 use Rattle.abc_file_types.specs.declared.tables.Abc.{Abc}
-
--- the first n lists of slots can be counted by 32 bits
-pub record AreFewSlots (lists : List (Listed SlotInfo)) (n : ℕ) : Type 0 where
-  pub each : (x : ℕ) → x < n → length (list_at lists x).values < 2 ^ 32
 
 -- owners of methods, layouts, one far above each, their slots and their own traits, the interfaces of classes, what a search asks
 pub record IsMade (v : Abc) (names : NameTables) (m : Made) : Type 0 where
@@ -25,7 +18,6 @@ pub record IsMade (v : Abc) (names : NameTables) (m : Made) : Type 0 where
   pub layouts_are : AreLayouts v m.layouts
   pub few : length m.layouts.parts < 2 ^ 32
   pub slots_are : HasSlots (linked v m.layouts) m.slots (length m.layouts.parts)
-  pub few_slots : AreFewSlots m.slots (length m.layouts.parts)
   pub rungs_are : AreRungs (linked v m.layouts) m.rungs
   pub interfaces_are : HasSets v m.interfaces.sets
   pub members_are : HasGroups (linked v m.layouts) names.texts m.members.groups (length m.layouts.parts)

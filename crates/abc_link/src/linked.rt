@@ -85,7 +85,7 @@ impl Linked {
     }
 
     /// Every linked file has fewer than 2^32 slots in each layout.
-    #[tactic(auto, using(crate::proofs::Laws::few_slots))]
+    #[tactic(auto, using(crate::proofs::Laws::has_few_slots))]
     pub fn slots_law(&self)
         ensures { HasFewSlots self.now }
     {

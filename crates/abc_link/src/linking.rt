@@ -1,8 +1,7 @@
-ghost use Rattle.std.specs.Prelude.{◌≡◌, ◌<◌, ◌^◌, length, IfOk, IsTrue, MatchResult, OnOk};
-ghost use Rattle.abc_base_graphs.specs.Heirs.{list_at};
+ghost use Rattle.std.specs.Prelude.{◌≡◌, ◌<◌, ◌^◌, length, IfOk, MatchResult};
 ghost use Rattle.abc_link_interfaces.specs.Sets.{HasSets};
 ghost use Rattle.abc_link.specs.Ladders.{AreRungs};
-ghost use Rattle.abc_link.specs.LinkedMade.{AreFewSlots, IsMade};
+ghost use Rattle.abc_link.specs.LinkedMade.{IsMade};
 ghost use Rattle.abc_link_layouts.specs.Owning.{AreOwners};
 ghost use Rattle.abc_link_layouts.specs.Files.{linked};
 ghost use Rattle.abc_link_layouts.specs.Grouped.{HasGroups};
@@ -79,31 +78,6 @@ fn layouts_in(
     Ok(layouts)
 }
 
-/// Tells that the slots of a layout can be counted by 32 bits. Of 2^32 slots or more there is never room for all.
-fn check_slots_at(slots: &Heirs<SlotInfo>, x: u32) -> Result<(), NoMemory>
-    requires { x < length slots.now }
-    ensures { OnOk result (length (list_at slots.now x).values < 2 ^ 32) }
-{
-    if slots.values(x).len() > u32::MAX as usize {
-        return Err(NoMemory);
-    }
-    Ok(())
-}
-
-/// Tells the same of each layout.
-#[tactic(auto, using(crate::proofs::Laws::no_slots, crate::proofs::Laws::more_slots))]
-fn check_slots(slots: &Heirs<SlotInfo>, layouts: &Layouts, count: u32) -> Result<(), NoMemory>
-    requires count { count ≡ length layouts.now.parts }
-    requires all { length slots.now ≡ length layouts.now.parts }
-    ensures { OnOk result (AreFewSlots slots.now (length layouts.now.parts)) }
-{
-    let _layouts = layouts;
-    for x in 0..count {
-        check_slots_at(slots, x)?;
-    }
-    Ok(())
-}
-
 /// The layouts of a file, one far above each, and their slots.
 #[derive(Drop)]
 struct Laid {
@@ -120,14 +94,12 @@ fn lay(alloc: Global, abc: &Abc, meanings: &Table<Option<Named>>) -> Result<Laid
     ensures few { IfOk result (λ l. length l.layouts.parts < 2 ^ 32) }
     ensures rungs { IfOk result (λ l. AreRungs (linked abc.now l.layouts) l.rungs) }
     ensures slots { IfOk result (λ l. HasSlots (linked abc.now l.layouts) l.slots (length l.layouts.parts)) }
-    ensures few_slots { IfOk result (λ l. AreFewSlots l.slots (length l.layouts.parts)) }
 {
     let layouts = layouts_in(alloc, abc, meanings)?;
     let count = layouts.len() as u32;
     let rungs = rungs_of(alloc, abc, &layouts, count)?;
     let meanings = Meanings::new(abc, meanings);
     let slots = slots_of(alloc, &meanings, &layouts, count)?;
-    check_slots(&slots, &layouts, count)?;
     Ok(Laid {
         layouts,
         rungs,

@@ -1,6 +1,5 @@
 ghost use Rattle.std.specs.Prelude.{◌≡◌, ◌<◌, ◌↔◌, IsTrue, get_or, length};
 ghost use Rattle.abc_link_names.specs.Kinds.{IsAtMost};
-ghost use Rattle.abc_link_names.specs.Linked.{IsLinkedFile};
 ghost use Rattle.abc_link_names.specs.declared.types.Kind.TheVariants as kinds;
 ghost use Rattle.abc_verify_typing.specs.Lists.{Each2};
 ghost use Rattle.abc_verify_typing.specs.Typing.{HasOneShape, ScopeLe, StateLe};
@@ -17,7 +16,6 @@ use abc_verify_typing::{Scope, Stack, State};
 #[inline]
 #[tactic(auto, using(abc_link_names::proofs::Order::kind_self))]
 fn is_kind_at_most<T: Tree>(tree: &T, a: &Kind, b: &Kind) -> bool
-    requires { IsLinkedFile (T.file tree.now) }
     ensures { IsTrue result ↔ IsAtMost (T.file tree.now) a.now b.now }
 {
     if *a == *b {
@@ -29,7 +27,6 @@ fn is_kind_at_most<T: Tree>(tree: &T, a: &Kind, b: &Kind) -> bool
 /// Whether a kind is another or below it.
 #[inline]
 fn is_at_most<T: Tree>(tree: &T, a: Kind, b: Kind) -> bool
-    requires { IsLinkedFile (T.file tree.now) }
     ensures { IsTrue result ↔ IsAtMost (T.file tree.now) a b }
 {
     is_kind_at_most(tree, &a, &b)
@@ -37,7 +34,6 @@ fn is_at_most<T: Tree>(tree: &T, a: Kind, b: Kind) -> bool
 
 /// Whether the operand at a depth is at most another.
 fn is_operand_at_most<T: Tree>(tree: &T, a: &Stack<Kind>, b: &Stack<Kind>, depth: usize) -> bool
-    requires { IsLinkedFile (T.file tree.now) }
     ensures { IsTrue result ↔ IsAtMost (T.file tree.now) (get_or a.now depth kinds.Any) (get_or b.now depth kinds.Any) }
 {
     let x = a.get_or(depth, Kind::Any);
@@ -48,8 +44,7 @@ fn is_operand_at_most<T: Tree>(tree: &T, a: &Stack<Kind>, b: &Stack<Kind>, depth
 /// Whether each operand is at most another.
 #[inline(never)]
 fn is_stack_at_most<T: Tree>(tree: &T, a: &Stack<Kind>, b: &Stack<Kind>) -> bool
-    requires linked { IsLinkedFile (T.file tree.now) }
-    requires sized { length a.now ≡ length b.now }
+    requires { length a.now ≡ length b.now }
     ensures { IsTrue result ↔ Each2 (IsAtMost (T.file tree.now)) a.now b.now }
 {
     for depth in 0..a.len() {
@@ -62,7 +57,6 @@ fn is_stack_at_most<T: Tree>(tree: &T, a: &Stack<Kind>, b: &Stack<Kind>) -> bool
 
 /// Whether the local at a place is at most another.
 fn is_local_at_most<T: Tree>(tree: &T, a: &Table<Kind>, b: &Table<Kind>, place: usize) -> bool
-    requires linked { IsLinkedFile (T.file tree.now) }
     requires first { place < length a.now }
     requires second { place < length b.now }
     ensures { IsTrue result ↔ IsAtMost (T.file tree.now) (get_or a.now place kinds.Any) (get_or b.now place kinds.Any) }
@@ -75,8 +69,7 @@ fn is_local_at_most<T: Tree>(tree: &T, a: &Table<Kind>, b: &Table<Kind>, place: 
 /// Whether each local is at most another.
 #[inline(never)]
 fn are_locals_at_most<T: Tree>(tree: &T, a: &Table<Kind>, b: &Table<Kind>) -> bool
-    requires linked { IsLinkedFile (T.file tree.now) }
-    requires sized { length a.now ≡ length b.now }
+    requires { length a.now ≡ length b.now }
     ensures { IsTrue result ↔ Each2 (IsAtMost (T.file tree.now)) a.now b.now }
 {
     for place in 0..a.len() {
@@ -89,7 +82,6 @@ fn are_locals_at_most<T: Tree>(tree: &T, a: &Table<Kind>, b: &Table<Kind>) -> bo
 
 /// Whether a scope is at most another.
 fn is_scope_at_most<T: Tree>(tree: &T, a: Scope, b: Scope) -> bool
-    requires { IsLinkedFile (T.file tree.now) }
     ensures { IsTrue result ↔ ScopeLe (T.file tree.now) a b }
 {
     if !is_same_flag(a, b) {
@@ -100,7 +92,6 @@ fn is_scope_at_most<T: Tree>(tree: &T, a: Scope, b: Scope) -> bool
 
 /// Whether the scope at a place is at most another.
 fn is_scope_at_most_at<T: Tree>(tree: &T, a: &Table<Scope>, b: &Table<Scope>, place: usize) -> bool
-    requires { IsLinkedFile (T.file tree.now) }
     ensures { IsTrue result ↔ ScopeLe (T.file tree.now) (get_or a.now place no_scope) (get_or b.now place no_scope) }
 {
     let x = at_or(a, place, NO_SCOPE);
@@ -111,8 +102,7 @@ fn is_scope_at_most_at<T: Tree>(tree: &T, a: &Table<Scope>, b: &Table<Scope>, pl
 /// Whether each scope is at most another.
 #[inline(never)]
 fn are_scopes_at_most<T: Tree>(tree: &T, a: &Table<Scope>, b: &Table<Scope>) -> bool
-    requires linked { IsLinkedFile (T.file tree.now) }
-    requires sized { length a.now ≡ length b.now }
+    requires { length a.now ≡ length b.now }
     ensures { IsTrue result ↔ Each2 (ScopeLe (T.file tree.now)) a.now b.now }
 {
     for place in 0..a.len() {
@@ -125,8 +115,7 @@ fn are_scopes_at_most<T: Tree>(tree: &T, a: &Table<Scope>, b: &Table<Scope>) -> 
 
 /// Whether a state is at most another of its shape.
 pub(crate) fn is_state_at_most<T: Tree>(tree: &T, a: &State, b: &State) -> bool
-    requires linked { IsLinkedFile (T.file tree.now) }
-    requires shape { HasOneShape a.now b.now }
+    requires { HasOneShape a.now b.now }
     ensures { IsTrue result ↔ StateLe (T.file tree.now) a.now b.now }
 {
     if !is_stack_at_most(tree, &a.stack, &b.stack) {

@@ -1,6 +1,5 @@
 ghost use Rattle.std.specs.Prelude.{◌≡◌, ◌<◌, IfOk, OnOk, get_or, length};
 ghost use Rattle.abc_link_names.specs.Kinds.{IsJoin};
-ghost use Rattle.abc_link_names.specs.Linked.{IsLinkedFile};
 ghost use Rattle.abc_link_names.specs.declared.types.Kind.TheVariants as kinds;
 ghost use Rattle.abc_verify_typing.specs.Lists.{Each2};
 ghost use Rattle.abc_verify_typing.specs.Typing.{HasOneFlag, HasOneShape};
@@ -19,7 +18,6 @@ use abc_verify_typing::{Scope, Stack, State};
 #[inline]
 #[tactic(auto, using(crate::proofs::Threes::join_self))]
 fn join_kinds<T: Tree>(tree: &T, x: Kind, y: Kind) -> Kind
-    requires { IsLinkedFile (T.file tree.now) }
     ensures { IsJoin (T.file tree.now) x y result }
 {
     if x == y {
@@ -30,7 +28,6 @@ fn join_kinds<T: Tree>(tree: &T, x: Kind, y: Kind) -> Kind
 
 /// The join of the operands at a depth.
 fn join_operands<T: Tree>(tree: &T, a: &Stack<Kind>, b: &Stack<Kind>, depth: usize) -> Kind
-    requires { IsLinkedFile (T.file tree.now) }
     ensures { IsJoin (T.file tree.now) (get_or a.now depth kinds.Any) (get_or b.now depth kinds.Any) result }
 {
     let x = a.get_or(depth, Kind::Any);
@@ -45,8 +42,7 @@ fn join_stacks<T: Tree>(
     b: &Stack<Kind>,
     stack: &mut Stack<Kind>,
 ) -> Result<(), NoMemory>
-    requires linked { IsLinkedFile (T.file tree.now) }
-    requires sized { length a.now ≡ length b.now }
+    requires { length a.now ≡ length b.now }
     ensures { OnOk result (Each3 (IsJoin (T.file tree.now)) a.now b.now stack.new) }
 {
     stack.clear();
@@ -61,7 +57,6 @@ fn join_stacks<T: Tree>(
 
 /// The join of the locals at a place.
 fn join_locals_at<T: Tree>(tree: &T, a: &Table<Kind>, b: &Table<Kind>, place: usize) -> Kind
-    requires linked { IsLinkedFile (T.file tree.now) }
     requires first { place < length a.now }
     requires second { place < length b.now }
     ensures { IsJoin (T.file tree.now) (get_or a.now place kinds.Any) (get_or b.now place kinds.Any) result }
@@ -78,8 +73,7 @@ fn join_locals<T: Tree>(
     b: &Table<Kind>,
     locals: &mut Table<Kind>,
 ) -> Result<(), NoMemory>
-    requires linked { IsLinkedFile (T.file tree.now) }
-    requires sized { length a.now ≡ length b.now }
+    requires { length a.now ≡ length b.now }
     ensures { OnOk result (Each3 (IsJoin (T.file tree.now)) a.now b.now locals.new) }
 {
     locals.truncate(0);
@@ -92,8 +86,7 @@ fn join_locals<T: Tree>(
 
 /// The join of two scopes of one flag.
 fn join_scope<T: Tree>(tree: &T, a: Scope, b: Scope) -> Scope
-    requires linked { IsLinkedFile (T.file tree.now) }
-    requires same { HasOneFlag a b }
+    requires { HasOneFlag a b }
     ensures { IsJoinScope (T.file tree.now) a b result }
 {
     let kind = join_kinds(tree, a.kind, b.kind);
@@ -105,8 +98,7 @@ fn join_scope<T: Tree>(tree: &T, a: Scope, b: Scope) -> Scope
 
 /// The join of the scopes at a place.
 fn join_scopes_at<T: Tree>(tree: &T, a: &Table<Scope>, b: &Table<Scope>, place: usize) -> Scope
-    requires linked { IsLinkedFile (T.file tree.now) }
-    requires same { HasOneFlag (get_or a.now place no_scope) (get_or b.now place no_scope) }
+    requires { HasOneFlag (get_or a.now place no_scope) (get_or b.now place no_scope) }
     ensures { IsJoinScope (T.file tree.now) (get_or a.now place no_scope) (get_or b.now place no_scope) result }
 {
     let x = at_or(a, place, NO_SCOPE);
@@ -121,7 +113,6 @@ fn join_scopes<T: Tree>(
     b: &Table<Scope>,
     scopes: &mut Table<Scope>,
 ) -> Result<(), NoMemory>
-    requires linked { IsLinkedFile (T.file tree.now) }
     requires sized { length a.now ≡ length b.now }
     requires flags { Each2 HasOneFlag a.now b.now }
     ensures { OnOk result (Each3 (IsJoinScope (T.file tree.now)) a.now b.now scopes.new) }
@@ -136,8 +127,7 @@ fn join_scopes<T: Tree>(
 
 /// The joins of two states of one shape, in place of what stood in another state.
 fn join_states<T: Tree>(tree: &T, a: &State, b: &State, joined: &mut State) -> Result<(), NoMemory>
-    requires linked { IsLinkedFile (T.file tree.now) }
-    requires shape { HasOneShape a.now b.now }
+    requires { HasOneShape a.now b.now }
     ensures { OnOk result (JoinsState (T.file tree.now) a.now b.now joined.new) }
 {
     join_stacks(tree, &a.stack, &b.stack, &mut joined.stack)?;
@@ -154,9 +144,9 @@ pub fn merge<T: Tree>(
     next: &State,
     joined: &mut State,
 ) -> Result<Merged, NoMemory>
-    requires { IsLinkedFile (T.file tree.now) }
     ensures { IfOk result (λ m. MergesTo (T.file tree.now) old.now next.now joined.new m) }
 {
+    tree.linked_law();
     if !have_one_shape(old, next) {
         return Ok(Merged::Unequal);
     }

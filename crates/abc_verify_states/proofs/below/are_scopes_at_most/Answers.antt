@@ -8,10 +8,10 @@ pub loop-place-init : goal.loop-place-init
 loop-place-init g c = pairs_start (ScopeLe (g.T.Tree.file c.args.tree.now)) c.args.a.now c.args.b.now
 
 pub loop-place-preserved : goal.loop-place-preserved
-loop-place-preserved g c = pairs_next (ScopeLe (g.T.Tree.file c.args.tree.now)) c.args.a.now c.args.b.now c.loop-place.place no_scope (omega arith) c.requires.sized c.loop-place.invariant (c.is_scope_at_most_at.ensures.0 c.if-not-is_scope_at_most_at.false)
+loop-place-preserved g c = pairs_next (ScopeLe (g.T.Tree.file c.args.tree.now)) c.args.a.now c.args.b.now c.loop-place.place no_scope (omega arith) c.requires c.loop-place.invariant (c.is_scope_at_most_at.ensures.0 c.if-not-is_scope_at_most_at.false)
 
 pub returns-then-not-is_scope_at_most_at : goal.returns-then-not-is_scope_at_most_at
 returns-then-not-is_scope_at_most_at g c = (λ no. absurd cc, λ pairs. absurd (clash c.is_scope_at_most_at.result (c.is_scope_at_most_at.ensures.1 (pairs_at (ScopeLe (g.T.Tree.file c.args.tree.now)) c.args.a.now c.args.b.now c.loop-place.place no_scope (omega arith) pairs)) c.if-not-is_scope_at_most_at.true))
 
 pub returns : goal.returns
-returns g c = (λ yes. pairs_all (ScopeLe (g.T.Tree.file c.args.tree.now)) c.args.a.now c.args.b.now c.loop-place.place (omega arith) c.requires.sized c.loop-place.invariant, λ pairs. refl)
+returns g c = (λ yes. pairs_all (ScopeLe (g.T.Tree.file c.args.tree.now)) c.args.a.now c.args.b.now c.loop-place.place (omega arith) c.requires c.loop-place.invariant, λ pairs. refl)

@@ -2,13 +2,13 @@ use Rattle.abc_verify_states.proofs.Pairs.{clash, shape_scopes}
 use Rattle.abc_verify_states.proofs.below.is_state_at_most.Goals as goal
 
 pub is_stack_at_most-requires : goal.is_stack_at_most-requires
-is_stack_at_most-requires g c = record { linked = c.requires.linked; sized = c.requires.shape.stack }
+is_stack_at_most-requires g c = c.requires.stack
 
 pub are_scopes_at_most-requires : goal.are_scopes_at_most-requires
-are_scopes_at_most-requires g c = record { linked = c.requires.linked; sized = shape_scopes _ _ c.requires.shape }
+are_scopes_at_most-requires g c = shape_scopes _ _ c.requires
 
 pub are_locals_at_most-requires : goal.are_locals_at_most-requires
-are_locals_at_most-requires g c = record { linked = c.requires.linked; sized = c.requires.shape.locals }
+are_locals_at_most-requires g c = c.requires.locals
 
 pub returns-then-not-is_stack_at_most : goal.returns-then-not-is_stack_at_most
 returns-then-not-is_stack_at_most g c = (λ no. absurd cc, λ le. absurd (clash c.is_stack_at_most.result (c.is_stack_at_most.ensures.1 le.stack) c.if-not-is_stack_at_most.true))

@@ -8,7 +8,7 @@ pub loop-place-init : goal.loop-place-init
 loop-place-init g c = threes_start (IsJoin (g.T.Tree.file c.args.tree.now)) c.args.a.now c.args.b.now _ c.truncate.ensures
 
 pub loop-place-preserved : goal.loop-place-preserved
-loop-place-preserved g c = threes_next (IsJoin (g.T.Tree.file c.args.tree.now)) c.args.a.now c.args.b.now c.loop-place.locals _ c.loop-place.place Any c.join_locals_at-joined.result (omega arith) c.requires.sized c.loop-place.invariant c.join_locals_at-joined.ensures c.in_ok-push.ensures.ok
+loop-place-preserved g c = threes_next (IsJoin (g.T.Tree.file c.args.tree.now)) c.args.a.now c.args.b.now c.loop-place.locals _ c.loop-place.place Any c.join_locals_at-joined.result (omega arith) c.requires c.loop-place.invariant c.join_locals_at-joined.ensures c.in_ok-push.ensures.ok
 
 pub returns : goal.returns
-returns g c = threes_all (IsJoin (g.T.Tree.file c.args.tree.now)) c.args.a.now c.args.b.now _ c.loop-place.place (omega arith) c.requires.sized c.loop-place.invariant
+returns g c = threes_all (IsJoin (g.T.Tree.file c.args.tree.now)) c.args.a.now c.args.b.now _ c.loop-place.place (omega arith) c.requires c.loop-place.invariant

@@ -15,4 +15,4 @@ pub returns : goal.returns
 returns g c = threes_all (IsJoinScope (g.T.Tree.file c.args.tree.now)) c.args.a.now c.args.b.now _ c.loop-place.place (omega arith) c.requires.sized c.loop-place.invariant
 
 pub join_scopes_at-joined-requires : goal.join_scopes_at-joined-requires
-join_scopes_at-joined-requires g c = record { linked = c.requires.linked; same = pairs_at HasOneFlag c.args.a.now c.args.b.now c.loop-place.place no_scope (omega arith) c.requires.flags }
+join_scopes_at-joined-requires g c = pairs_at HasOneFlag c.args.a.now c.args.b.now c.loop-place.place no_scope (omega arith) c.requires.flags
