@@ -48,6 +48,8 @@ int main(int count, char **words) {
         calls[made++] = call_of(words[i]);
     struct abc_outcome outcome = abc_c_run(file, length, &bounds, names, names_length, calls, made, answers, MOST, out, ROOM);
     printf("status %u, %zu answers, %zu bytes\n", outcome.status, outcome.answered, outcome.written);
+    if (outcome.status == ABC_REFUSED)
+        printf("refused by %u at %u, %u: %.*s\n", outcome.refusal.by, outcome.refusal.place, outcome.refusal.offset, (int)outcome.written, (const char *)out);
     for (size_t i = 0; i < outcome.answered; i++)
         print(&answers[i], out);
     return (int)outcome.status;

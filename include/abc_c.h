@@ -29,7 +29,8 @@ struct abc_call {
 /* The statuses of the program: how a file was opened and its script ended, and what came of a call. */
 enum abc_status {
     ABC_DONE = 0,        /* all went well; of a call: it gave a value */
-    ABC_REFUSED = 1,     /* the file is refused; of a call: the file exports nothing under this name */
+    ABC_REFUSED = 1,     /* the file is refused, by the part and at the place that `refusal` tells, and the name of the reason
+                            stands in `out`; of a call: the file exports nothing under this name */
     ABC_USAGE = 2,       /* of a call: no such place among the names, more than four numbers, or one out of range */
     ABC_UNCAUGHT = 3,    /* it threw, and nothing caught it */
     ABC_PROFILE = 4,     /* it asked for what this profile leaves out */
@@ -49,9 +50,19 @@ struct abc_answer {
     size_t text_start, text_length;
 };
 
-/* How the file was opened and its last script ended; how many calls were answered; how many bytes stand in `out`. */
+enum abc_part { ABC_UNREFUSED, ABC_READER, ABC_LINKER, ABC_VERIFIER };
+
+/* Where a file was refused. By the reader: the byte. By a rule of linking: the index of a part of the file, whose kind is the offset (0
+   the file, 1 a method, 2 a class, 3 a script, 4 a body). By a rule of verifying: a method, and the offset in its code. */
+struct abc_refusal {
+    uint32_t by, place, offset;
+};
+
+/* How the file was opened and its last script ended; where it was refused, if it was; how many calls were answered; how many bytes
+   stand in `out`. */
 struct abc_outcome {
     uint32_t status;
+    struct abc_refusal refusal;
     size_t answered, written;
 };
 

@@ -31,7 +31,7 @@ try 'status 0, 4 answers, 14 bytes\nnumber 0\nnumber 8\nnumber 2\ntext The count
 # One heap for one list of calls, and no other.
 try 'status 0, 2 answers, 14 bytes\nnumber 2\ntext The count is 2' "$examples/counter.abc" add:1 report
 try 'status 0, 3 answers, 0 bytes\nstatus 1\nstatus 3\nstatus 2' "$examples/counter.abc" subtract add add:4294967296
-try 'status 1, 0 answers, 0 bytes' "$examples/empty.abc" add
-try 'status 1, 0 answers, 0 bytes' /dev/null add
+try 'status 1, 0 answers, 8 bytes\nrefused by 2 at 0, 0: NoScript' "$examples/empty.abc" add
+try 'status 1, 0 answers, 5 bytes\nrefused by 1 at 0, 0: Short' /dev/null add
 try 'status 0, 1 answers, 3 bytes\nstatus 1' "$examples/hello.abc" add
 echo "try_c.sh: $tries tries as wanted"

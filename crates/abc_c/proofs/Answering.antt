@@ -1,16 +1,13 @@
--- A session stays one that may be used beside a host of the same formulas, whatever it answers to a call.
-use Rattle.std.proofs.Common.{ℕ, List, sym, subst}
-use Rattle.std.specs.declared.option.Option.{Option}
-use Rattle.abc_base.specs.declared.formula.Formula.{Formula}
-use Rattle.abc_session.specs.Sessions.{AnswersIn}
-use Rattle.abc_session.specs.declared.replies.SessionReply.{SessionReply}
-use Rattle.abc_session.specs.declared.replies.SessionReply.TheVariants as answers
-use Rattle.abc_session.specs.Beside.{IsBeside}
+-- Calls that are answered one after the other, and what stands in the output.
+use Rattle.std.proofs.Common.{◌≡◌, ℕ, suc, ◌+◌, ◌<◌, ◌≤◌, List, [], ◌∷◌, ◌++◌, length, take, refl, sym, ap, ◌∙◌, subst}
 use Rattle.abc_machine.specs.Machines.{Opened}
-use Rattle.abc_session.proofs.Staying.{called_beside}
+use Rattle.abc_c.specs.Answered.{AreAnswered, IsAnswered}
+use Rattle.abc_c.specs.Answered as made
+use Rattle.abc_c.specs.declared.crossing.Answer.{Answer}
+use Rattle.abc_c.specs.declared.crossing.Call.{Call}
 
-pub answered_beside : (old new : Opened) (c : _) (before now : Option (List ℕ)) (reply : SessionReply) (formulas : List Formula) → AnswersIn old new c before now reply → IsBeside old formulas → IsBeside new formulas
-answered_beside old new c before now (answers.Reply reply) formulas does beside =
-    called_beside old new reply formulas does.ready does.answers.names does.answers.closed does.answers.ended beside
-answered_beside old new c before now answers.NotReady formulas un beside = subst (λ (m : Opened). IsBeside m formulas) (sym un.rests.same) beside
-answered_beside old new c before now answers.Closed formulas cl beside = subst (λ (m : Opened). IsBeside m formulas) (sym cl.rests.same) beside
+-- one more call, after all others
+pub answered_on : (names : List ℕ) (first old new : Opened) (cs : List Call) (told : List Answer) (c : Call) (a : Answer) (x y z : List ℕ) → AreAnswered names first cs told x old y → IsAnswered names old new c y z a → AreAnswered names first (cs ++ c ∷ []) (told ++ a ∷ []) x new z
+answered_on names first old new cs told c a x y z (made.nothing m written) one = made.more m new new c [] a [] written z z one (made.nothing new z)
+answered_on names first old new cs told c a x y z (made.more before mid last d ds b bs from between to here rest) one =
+    made.more before mid new d (ds ++ c ∷ []) b (bs ++ a ∷ []) from between z here (answered_on names mid last new ds bs c a between to z rest one)

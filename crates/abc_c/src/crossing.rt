@@ -1,6 +1,9 @@
 //! What crosses to C and back.
 ghost use Rattle.std.specs.Prelude.{◌≡◌, ◌↔◌, IsTrue};
+ghost use Rattle.abc_base.specs.Hosts.{arguments};
+ghost use Rattle.abc_base.specs.Names.{status_code};
 ghost use Rattle.abc_base.specs.Ranges.{IsNumber};
+ghost use Rattle.abc_c.specs.Crossing.{CanBeMade, kind_code, limits_of, name_of, numbers_of, of_value, text_at, without as none_of};
 
 use abc_base::{Plain, Status};
 use abc_heap_store::Limits;
@@ -19,7 +22,9 @@ pub struct Bounds {
 
 impl Bounds {
     /// The limits of a session.
-    pub fn limits(&self) -> Limits {
+    pub fn limits(&self) -> Limits
+        ensures { result ≡ limits_of self.now }
+    {
         Limits {
             objects: self.objects,
             cells: self.cells,
@@ -53,38 +58,40 @@ fn is_number(z: i64) -> bool
 }
 
 impl Call {
-    /// The numbers of the call, where there are at most four, and each is one that code computes with.
-    fn numbers(&self) -> Option<Plain> {
-        let fits = self.count <= 4;
-        if fits
+    /// Whether its name stands among the names, there are at most four numbers, and each is one that code computes with.
+    pub fn can_be_made(&self, names: &[u8]) -> bool
+        ensures { IsTrue result ↔ CanBeMade names.now self.now }
+    {
+        self.name_start as usize + self.name_length as usize <= names.len()
+            && self.count <= 4
             && is_number(self.a)
             && is_number(self.b)
             && is_number(self.c)
             && is_number(self.d)
-        {
-            Some(Plain {
-                count: self.count,
-                a: self.a,
-                b: self.b,
-                c: self.c,
-                d: self.d,
-            })
-        } else {
-            None
+    }
+
+    /// The name of the function.
+    pub fn name<'a>(&self, names: &'a [u8]) -> &'a [u8]
+        requires { CanBeMade names.now self.now }
+        ensures { result.now ≡ name_of names.now self.now }
+    {
+        let start = self.name_start as usize;
+        &names[start..start + self.name_length as usize]
+    }
+
+    /// The numbers that it is given.
+    pub fn numbers(&self, names: &[u8]) -> Plain
+        requires { CanBeMade names.now self.now }
+        ensures { arguments result ≡ numbers_of self.now }
+    {
+        let _names = names;
+        Plain {
+            count: self.count,
+            a: self.a,
+            b: self.b,
+            c: self.c,
+            d: self.d,
         }
-    }
-
-    /// The name of the function, where it stands among the names.
-    fn name<'a>(&self, names: &'a [u8]) -> Option<&'a [u8]> {
-        let rest = names.get(self.name_start as usize..)?;
-        rest.get(..self.name_length as usize)
-    }
-
-    /// The name of the function and the numbers, where both are as they may be.
-    pub fn parts<'a>(&self, names: &'a [u8]) -> Option<(&'a [u8], Plain)> {
-        let name = self.name(names)?;
-        let numbers = self.numbers()?;
-        Some((name, numbers))
     }
 }
 
@@ -113,7 +120,9 @@ pub enum Kind {
 
 impl Kind {
     /// The number of a kind, in the order of the variants.
-    fn code(&self) -> u32 {
+    fn code(&self) -> u32
+        ensures { result ≡ kind_code self.now }
+    {
         match self {
             Kind::Undefined => 0,
             Kind::Null => 1,
@@ -127,7 +136,9 @@ impl Kind {
 
 impl Answer {
     /// No value.
-    pub fn without(status: Status) -> Answer {
+    pub fn without(status: Status) -> Answer
+        ensures { result ≡ none_of status }
+    {
         Answer {
             status: status.code() as u32,
             kind: Kind::Undefined.code(),
@@ -139,7 +150,7 @@ impl Answer {
 
     /// A value with a number.
     pub fn of(kind: Kind, number: i64) -> Answer
-        ensures { result.number ≡ number }
+        ensures { result ≡ of_value kind number }
     {
         Answer {
             status: Status::Done.code() as u32,
@@ -152,7 +163,7 @@ impl Answer {
 
     /// A text, which stands there in the output.
     pub fn text(text_start: usize, text_length: usize) -> Answer
-        ensures { (result.text_start ≡ text_start) × (result.text_length ≡ text_length) }
+        ensures { result ≡ text_at text_start text_length }
     {
         Answer {
             status: Status::Done.code() as u32,
@@ -164,12 +175,23 @@ impl Answer {
     }
 }
 
-/// What came of all: how the file was opened and its script ended, as a status of the program's; how many calls were answered; and
-/// how many bytes of the output were written.
+/// Where a file was refused. By the reader: 1, and the byte. By a rule of linking: 2, and the index of a part of the file, whose kind is
+/// the offset. By a rule of verifying: 3, and a method, with the offset in its code. By none of these: 0.
+#[repr(C)]
+#[derive(Clone, Copy, Debug)]
+pub struct Refusal {
+    pub by: u32,
+    pub place: u32,
+    pub offset: u32,
+}
+
+/// What came of all: how the file was opened and its script ended, as a status of the program's; where it was refused, if it was; how
+/// many calls were answered; and how many bytes of the output were written.
 #[repr(C)]
 #[derive(Clone, Copy, Debug)]
 pub struct Outcome {
     pub status: u32,
+    pub refusal: Refusal,
     pub answered: usize,
     pub written: usize,
 }

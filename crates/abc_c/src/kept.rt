@@ -1,14 +1,22 @@
-ghost use Rattle.std.specs.Prelude.{◌≡◌};
-ghost use Rattle.abc_base.specs.Hosts.{builtin_formulas};
+ghost use Rattle.std.specs.Prelude.{◌≡◌, List, MatchResult, None, Some};
+ghost use Rattle.abc_base.specs.Hosts.{arguments, builtin_formulas};
 ghost use Rattle.abc_heap_values.specs.declared.values.Span.{Span};
-ghost use Rattle.abc_heap_store.specs.Texts.{IsText};
+ghost use Rattle.abc_machine.specs.Texts.{CanTell, told_text};
+ghost use Rattle.abc_meaning.specs.Exports.{IsScriptMethod, export as export_of};
+ghost use Rattle.abc_meaning.specs.Openings.{IsRefused, setting};
 ghost use Rattle.abc_session.specs.Beside.{IsBeside};
+ghost use Rattle.abc_session.specs.Told.{HasText};
+ghost use Rattle.abc_c.specs.Answered.{IsAnswered, IsDone, Tells, TellsText, TellsValue, end_status};
+ghost use Rattle.abc_c.specs.Crossing.{CanBeMade, limits_of, name_of};
+ghost use Rattle.abc_c.specs.Opening.{IsReadIn, IsUnopened};
+ghost use Rattle.abc_c.specs.Outcome.{IsBegun, IsStarted};
 
-use crate::crossing::{Answer, Bounds, Kind};
-use abc_base::{BuiltinHost, MemSink, Plain, Status, write_all};
+use crate::crossing::{Answer, Bounds, Call, Kind};
+use crate::opening::Unopened;
+use abc_base::{BuiltinHost, MemSink, Status, write_all};
 use abc_machine::{End, PlainValue, Reply};
 use abc_objects::OpenError;
-use abc_session::{Session, SessionReply};
+use abc_session::{Session, SessionReply, sessions_stay_beside};
 use abc_verify::Verified;
 use std::alloc::Global;
 
@@ -20,7 +28,9 @@ pub struct Kept {
 }
 
 /// The status of an end.
-fn status_of_end(end: End) -> Status {
+pub fn status_of_end(end: End) -> Status
+    ensures { result ≡ end_status end }
+{
     match end {
         End::Done => Status::Done,
         End::Uncaught(_) => Status::Uncaught,
@@ -32,7 +42,9 @@ fn status_of_end(end: End) -> Status {
 }
 
 /// Writes a text to the output, and tells where it stands there.
-fn tell_text(bytes: &[u8], out: &mut MemSink) -> Answer {
+fn tell_text(bytes: &[u8], out: &mut MemSink) -> Answer
+    ensures { TellsText bytes.now out.old.taken out.new.taken result }
+{
     let start = out.written().len();
     match write_all(out, bytes) {
         Ok(()) => Answer::text(start, bytes.len()),
@@ -42,7 +54,8 @@ fn tell_text(bytes: &[u8], out: &mut MemSink) -> Answer {
 
 /// The answer that gives a value.
 fn tell_value(session: &Session, value: PlainValue, out: &mut MemSink) -> Answer
-    requires { (s : Span) → value ≡ PlainValue.Text s → IsText (session.now).linked.file.strings (session.now).world.heap s }
+    requires { HasText session.now value }
+    ensures { TellsValue session.now value out.old.taken out.new.taken result }
 {
     match value {
         PlainValue::Undefined => Answer::of(Kind::Undefined, 0),
@@ -57,7 +70,8 @@ fn tell_value(session: &Session, value: PlainValue, out: &mut MemSink) -> Answer
 
 /// The answer of a reply.
 fn tell(session: &Session, reply: SessionReply, out: &mut MemSink) -> Answer
-    requires { (s : Span) → reply ≡ SessionReply.Reply (Reply.Value (PlainValue.Text s)) → IsText (session.now).linked.file.strings (session.now).world.heap s }
+    requires { (s : Span) → reply ≡ SessionReply.Reply (Reply.Value (PlainValue.Text s)) → CanTell session.now s }
+    ensures { Tells session.now reply out.old.taken out.new.taken result }
 {
     match reply {
         SessionReply::Reply(Reply::Value(value)) => tell_value(session, value, out),
@@ -73,28 +87,51 @@ fn tell(session: &Session, reply: SessionReply, out: &mut MemSink) -> Answer
 
 impl Kept {
     /// Opens a verified file within bounds.
-    pub fn open(alloc: Global, verified: Verified, bounds: &Bounds) -> Result<Kept, Status> {
+    pub fn open(alloc: Global, verified: Verified, bounds: &Bounds) -> Result<Kept, Unopened>
+        ghost file: { List ℕ }
+        requires { IsReadIn file verified }
+        ensures { MatchResult result (λ kept. IsBegun file bounds.now kept.session) (IsUnopened file bounds.now) }
+    {
+        sessions_stay_beside();
         match Session::open(alloc, verified, &bounds.limits(), &BuiltinHost) {
             Ok(session) => Ok(Kept { session }),
-            Err(OpenError::TooSmall(_)) => Err(Status::Limit),
-            Err(OpenError::NoMemory) => Err(Status::NoMemory),
+            Err(OpenError::TooSmall(_)) => Err(Unopened::TooSmall),
+            Err(OpenError::NoMemory) => Err(Unopened::NoMemory),
         }
     }
 
-    /// Runs the last script, and gives the status of its end.
-    #[tactic(auto, using(abc_session::proofs::Staying::started_beside))]
-    pub fn start(&mut self, fuel: u32, out: &mut MemSink) -> Status {
-        status_of_end(self.session.start(fuel, out, &BuiltinHost))
+    /// Runs the last script, and gives its end.
+    pub fn start(&mut self, fuel: u32, out: &mut MemSink) -> End
+        requires { (self.old.session).ended ≡ None }
+        ensures { IsStarted self.old.session self.new.session fuel result out.old.taken out.new.taken }
+    {
+        sessions_stay_beside();
+        self.session.start(fuel, out, &BuiltinHost)
     }
 
-    /// Calls the function that the file exports under a name.
-    #[tactic(auto, using(crate::proofs::Answering::answered_beside))]
-    pub fn ask(&mut self, name: &[u8], args: &Plain, fuel: u32, out: &mut MemSink) -> Answer {
-        match self.session.export(name) {
-            Some(method) => {
-                let reply = self.session.call(method, args, fuel, out, &BuiltinHost);
-                tell(&self.session, reply, out)
-            }
+    /// Makes a call of a method that the file exports.
+    fn call(&mut self, method: u32, names: &[u8], call: &Call, out: &mut MemSink) -> Answer
+        requires made { CanBeMade names.now call.now }
+        requires method { IsScriptMethod (setting (self.old.session).linked builtin_formulas) method }
+        ensures { IsDone self.old.session self.new.session method call.now out.old.taken out.new.taken result }
+    {
+        sessions_stay_beside();
+        let numbers = call.numbers(names);
+        let reply = self
+            .session
+            .call(method, &numbers, call.fuel, out, &BuiltinHost);
+        tell(&self.session, reply, out)
+    }
+
+    /// Makes a call, where its name and its numbers are as they may be, and the file exports that name.
+    pub fn answer(&mut self, names: &[u8], call: &Call, out: &mut MemSink) -> Answer
+        ensures { IsAnswered names.now self.old.session self.new.session call.now out.old.taken out.new.taken result }
+    {
+        if !call.can_be_made(names) {
+            return Answer::without(Status::Usage);
+        }
+        match self.session.export(call.name(names)) {
+            Some(method) => self.call(method, names, call, out),
             None => Answer::without(Status::Refused),
         }
     }

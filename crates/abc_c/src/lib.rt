@@ -7,19 +7,44 @@ mod crossing;
 mod kept;
 mod opening;
 
-ghost use Rattle.std.specs.Prelude.{◌≤◌, length, min};
+ghost use Rattle.std.specs.Prelude.{◌≡◌, [], length, Some};
+ghost use Rattle.abc_base.specs.Sinks.{GrowsByFront};
+ghost use Rattle.abc_c.specs.Outcome.{Comes, HasOutcome, IsBegun, IsHanded, IsUsed, Use, reason_of, refusal_of as refusal_in, unrefused as none_refused, use_of};
 
 use crate::answers::{answer_all, copy_out};
-use crate::crossing::{Answer, Bounds, Call, Outcome};
-use crate::kept::Kept;
-use crate::opening::open;
-use abc_base::{MemSink, NoMemory, Status, release};
+use crate::crossing::{Answer, Bounds, Call, Outcome, Refusal};
+use crate::kept::{Kept, status_of_end};
+use crate::opening::{Unopened, open, reason_for, refusal_of, unrefused};
+use abc_base::{MemSink, NoMemory, Status, release, write_all};
+use abc_machine::End;
+use abc_verify::VerifiedError;
 use std::alloc::Global;
 
 /// How many bytes the sink takes at once.
 const PIECE: usize = 4096;
 
-/// Runs the last script and makes the calls where it was done: the status of its end, and how many calls were made.
+/// What came of a file: a status, where it was refused, and how many calls were answered.
+#[derive(Clone, Copy)]
+struct Came {
+    status: Status,
+    refusal: Refusal,
+    answered: usize,
+}
+
+impl Came {
+    /// No call was answered, of a file that nothing refused.
+    fn to(status: Status) -> Came
+        ensures { (result.status ≡ status) × (result.refusal ≡ none_refused) × (result.answered ≡ 0) }
+    {
+        Came {
+            status,
+            refusal: unrefused(),
+            answered: 0,
+        }
+    }
+}
+
+/// Runs the last script and makes the calls where it was done.
 fn run(
     kept: &mut Kept,
     fuel: u32,
@@ -27,16 +52,41 @@ fn run(
     calls: &[Call],
     answers: &mut [Answer],
     out: &mut MemSink,
-) -> (Status, usize)
-    ensures { result.1 ≤ min (length calls.now) (length answers.old) }
+) -> Came
+    ghost u: { Use }
+    requires begun { IsBegun u.file u.bounds kept.old.session }
+    requires handed { IsHanded u fuel names.now calls.now }
+    requires fresh { (out.old).taken ≡ [] }
+    ensures used { IsUsed u answers.new result.status result.answered (out.new).taken }
+    ensures refusal { result.refusal ≡ none_refused }
+    ensures room { length answers.new ≡ length answers.old }
 {
-    match kept.start(fuel, out) {
-        Status::Done => (Status::Done, answer_all(kept, names, calls, answers, out)),
-        status => (status, 0),
+    let end = kept.start(fuel, out);
+    match end {
+        End::Done => Came {
+            status: Status::Done,
+            refusal: unrefused(),
+            answered: answer_all(kept, names, calls, answers, out),
+        },
+        _ => Came::to(status_of_end(end)),
     }
 }
 
-/// The same for a file that is to be opened first.
+/// A file is refused: the name of the reason is written.
+fn refuse(e: &VerifiedError, out: &mut MemSink) -> Came
+    requires { (out.old).taken ≡ [] }
+    ensures came { (result.status ≡ Status.Refused) × (result.refusal ≡ refusal_in e.now) × (result.answered ≡ 0) }
+    ensures front { GrowsByFront (Some []) (Some (out.new).taken) (reason_of e.now) }
+{
+    let _ = write_all(out, reason_for(e));
+    Came {
+        status: Status::Refused,
+        refusal: refusal_of(e),
+        answered: 0,
+    }
+}
+
+/// Opens a file, and does all with it.
 fn open_and_run(
     alloc: Global,
     file: &[u8],
@@ -45,21 +95,25 @@ fn open_and_run(
     calls: &[Call],
     answers: &mut [Answer],
     out: &mut MemSink,
-) -> (Status, usize)
-    ensures { result.1 ≤ min (length calls.now) (length answers.old) }
+) -> Came
+    requires { (out.old).taken ≡ [] }
+    ensures came { Comes (use_of file.now bounds.now names.now calls.now) answers.new result.status result.refusal result.answered (out.new).taken }
+    ensures room { length answers.new ≡ length answers.old }
 {
     match open(alloc, file, bounds) {
         Ok(mut kept) => {
-            let ended = run(&mut kept, bounds.fuel, names, calls, answers, out);
+            let came = run(&mut kept, bounds.fuel, names, calls, answers, out);
             release(kept);
-            ended
+            came
         }
-        Err(status) => (status, 0),
+        Err(Unopened::Refused(e)) => refuse(&e, out),
+        Err(Unopened::TooSmall) => Came::to(Status::Limit),
+        Err(Unopened::NoMemory) => Came::to(Status::NoMemory),
     }
 }
 
 /// Opens a file within bounds, runs its last script, and makes the calls, as far as there is room for their answers. What the script
-/// writes and the texts of answers stand in `out`, one after the other.
+/// writes and the texts of answers stand in `out`, one after the other; of a file that is refused, the name of the reason does.
 #[unsafe(no_mangle)]
 pub extern "C" fn abc_c_run(
     alloc: Global,
@@ -70,22 +124,21 @@ pub extern "C" fn abc_c_run(
     answers: &mut [Answer],
     out: &mut [u8],
 ) -> Outcome
-    ensures answered { result.answered ≤ min (length calls.now) (length answers.old) }
-    ensures written { result.written ≤ length out.new }
+    ensures { HasOutcome (use_of file.now bounds.now names.now calls.now) answers.new out.old out.new result }
 {
     match MemSink::new(alloc, out.len(), PIECE, &[]) {
         Ok(mut sink) => {
-            let (status, answered) = open_and_run(
-                alloc, file, bounds, names, calls, answers, &mut sink,
-            );
+            let came = open_and_run(alloc, file, bounds, names, calls, answers, &mut sink);
             Outcome {
-                status: status.code() as u32,
-                answered,
+                status: came.status.code() as u32,
+                refusal: came.refusal,
+                answered: came.answered,
                 written: copy_out(&sink, out),
             }
         }
         Err(NoMemory) => Outcome {
             status: Status::NoMemory.code() as u32,
+            refusal: unrefused(),
             answered: 0,
             written: 0,
         },

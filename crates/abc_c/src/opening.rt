@@ -1,80 +1,108 @@
-ghost use Rattle.std.specs.Prelude.{IfOk};
-ghost use Rattle.abc_file_types.specs.Files.{Fits};
+ghost use Rattle.std.specs.Prelude.{◌≡◌, MatchResult};
+ghost use Rattle.abc_c.specs.Opening.{IsReadIn, IsUnopened, IsUnread};
+ghost use Rattle.abc_c.specs.Outcome.{IsBegun, item_code, reason_of, refusal_of as refusal_in, unrefused as none_refused};
 
-use crate::crossing::Bounds;
+use crate::crossing::{Bounds, Refusal};
 use crate::kept::Kept;
-use abc_base::{MemSource, Status};
-use abc_file::read;
-use abc_file_types::Abc;
-use abc_link::{Linked, link};
-use abc_link_names::LinkError;
-use abc_varint::ReadError;
-use abc_verify::{Verified, VerifyError, verify};
+use abc_base::SteadySource;
+use abc_link_names::ItemKind;
+use abc_verify::{Verified, VerifiedError, read_verified};
 use std::alloc::Global;
 
 /// How many bytes the source gives at once.
 const PIECE: usize = 4096;
 
-/// The status of bytes that are no file.
-fn status_of_read(e: ReadError) -> Status {
-    match e {
-        ReadError::Refused { .. } => Status::Refused,
-        ReadError::ReadFault => Status::ReadFault,
-        ReadError::NoMemory => Status::NoMemory,
-    }
+/// Why no session is opened.
+#[derive(Clone, Copy, Debug)]
+pub enum Unopened {
+    /// The bytes are no file, or it isn't linked, or not verified.
+    Refused(VerifiedError),
+    /// What every run begins with passes a limit.
+    TooSmall,
+    /// Memory ran out.
+    NoMemory,
 }
 
-/// The status of a file that isn't linked.
-fn status_of_link(e: LinkError) -> Status {
-    match e {
-        LinkError::Refused { .. } => Status::Refused,
-        LinkError::NoMemory => Status::NoMemory,
-    }
-}
-
-/// The status of a file that isn't verified.
-fn status_of_verify(e: VerifyError) -> Status {
-    match e {
-        VerifyError::Refused { .. } => Status::Refused,
-        VerifyError::NoMemory => Status::NoMemory,
-    }
-}
-
-/// The file that some bytes are.
-fn read_file(alloc: Global, bytes: &[u8]) -> Result<Abc, Status>
-    ensures { IfOk result Fits }
+/// The verified file that some bytes are.
+fn read_in(alloc: Global, bytes: &[u8]) -> Result<Verified, VerifiedError>
+    ensures { MatchResult result (IsReadIn bytes.now) (IsUnread bytes.now) }
 {
-    match MemSource::new(alloc, bytes, PIECE, &[]) {
-        Ok(mut source) => match read(alloc, &mut source) {
-            Ok((abc, _)) => Ok(abc),
-            Err(e) => Err(status_of_read(e)),
+    match SteadySource::new(alloc, bytes, PIECE) {
+        Ok(mut source) => match read_verified(alloc, &mut source) {
+            Ok((verified, _)) => Ok(verified),
+            Err(e) => Err(e),
         },
-        Err(_) => Err(Status::NoMemory),
-    }
-}
-
-/// A file that keeps the rules of linking.
-fn link_file(alloc: Global, abc: Abc) -> Result<Linked, Status>
-    requires { Fits abc }
-{
-    match link(alloc, abc) {
-        Ok(linked) => Ok(linked),
-        Err(e) => Err(status_of_link(e)),
-    }
-}
-
-/// A linked file whose code can't misuse the machine.
-fn verify_file(alloc: Global, linked: Linked) -> Result<Verified, Status> {
-    match verify(alloc, linked) {
-        Ok(verified) => Ok(verified),
-        Err(e) => Err(status_of_verify(e)),
+        Err(_) => Err(VerifiedError::NoMemory),
     }
 }
 
 /// The session of the file that some bytes are.
-pub fn open(alloc: Global, bytes: &[u8], bounds: &Bounds) -> Result<Kept, Status> {
-    let abc = read_file(alloc, bytes)?;
-    let linked = link_file(alloc, abc)?;
-    let verified = verify_file(alloc, linked)?;
-    Kept::open(alloc, verified, bounds)
+pub fn open(alloc: Global, bytes: &[u8], bounds: &Bounds) -> Result<Kept, Unopened>
+    ensures { MatchResult result (λ kept. IsBegun bytes.now bounds.now kept.session) (IsUnopened bytes.now bounds.now) }
+{
+    match read_in(alloc, bytes) {
+        Ok(verified) => Kept::open(alloc, verified, bounds),
+        Err(VerifiedError::NoMemory) => Err(Unopened::NoMemory),
+        Err(e) => Err(Unopened::Refused(e)),
+    }
+}
+
+/// The number of a kind of item, in the order of the variants.
+fn code_of_item(kind: ItemKind) -> u32
+    ensures { result ≡ item_code kind }
+{
+    match kind {
+        ItemKind::File => 0,
+        ItemKind::Method => 1,
+        ItemKind::Class => 2,
+        ItemKind::Script => 3,
+        ItemKind::Body => 4,
+    }
+}
+
+/// A file that nothing refused.
+pub fn unrefused() -> Refusal
+    ensures { result ≡ none_refused }
+{
+    Refusal {
+        by: 0,
+        place: 0,
+        offset: 0,
+    }
+}
+
+/// Who refused a file, and where.
+pub fn refusal_of(e: &VerifiedError) -> Refusal
+    ensures { result ≡ refusal_in e.now }
+{
+    match e {
+        VerifiedError::Refused { place, .. } => Refusal {
+            by: 1,
+            place: *place,
+            offset: 0,
+        },
+        VerifiedError::Link { item, .. } => Refusal {
+            by: 2,
+            place: item.index,
+            offset: code_of_item(item.kind),
+        },
+        VerifiedError::Verify { method, offset, .. } => Refusal {
+            by: 3,
+            place: *method,
+            offset: *offset,
+        },
+        VerifiedError::ReadFault | VerifiedError::NoMemory => unrefused(),
+    }
+}
+
+/// Why it is refused: the name of a reason or of a rule.
+pub fn reason_for(e: &VerifiedError) -> &[u8]
+    ensures { result.now ≡ reason_of e.now }
+{
+    match e {
+        VerifiedError::Refused { reason, .. } => reason.name(),
+        VerifiedError::Link { rule, .. } => rule.name(),
+        VerifiedError::Verify { rule, .. } => rule.name(),
+        VerifiedError::ReadFault | VerifiedError::NoMemory => b"",
+    }
 }

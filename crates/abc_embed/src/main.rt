@@ -18,7 +18,7 @@ use abc_base::{
 };
 use abc_heap_store::Limits;
 use abc_host::{Entry, HostTable};
-use abc_session::Session;
+use abc_session::{Session, sessions_stay_beside};
 use std::alloc::Global;
 
 /// How much the code may hold: objects, cells, bytes of text, frames, and values on the stacks.
@@ -64,7 +64,6 @@ fn fare(args: &Plain) -> Option<i64>
 }
 
 /// Opens the file of a source beside a host, and drives.
-#[tactic(auto, using(abc_session::proofs::Staying::opened_beside))]
 fn open_and_drive<S: Source, K: Sink, H: Host>(
     alloc: Global,
     source: &mut S,
@@ -72,6 +71,7 @@ fn open_and_drive<S: Source, K: Sink, H: Host>(
     host: &H,
 ) -> Result<(), Fault> {
     let verified = verified_file(alloc, source)?;
+    sessions_stay_beside();
     let mut session = Session::open(alloc, verified, &LIMITS, host)?;
     let driven = drive(&mut session, out, host);
     release(session);

@@ -1,24 +1,24 @@
 ghost use Rattle.std.specs.Prelude.{◌≡◌, IfOk, OnOk};
 ghost use Rattle.abc_base.specs.Ranges.{IsNumber};
 ghost use Rattle.abc_heap_values.specs.declared.values.Span.{Span};
-ghost use Rattle.abc_heap_store.specs.Texts.{IsText};
+ghost use Rattle.abc_machine.specs.Texts.{CanTell};
 ghost use Rattle.abc_session.specs.Beside.{IsBeside};
 
 use crate::fault::Fault;
 use abc_base::{Host, Plain, Sink, write_all};
 use abc_machine::{End, PlainValue, Reply};
-use abc_session::{Session, SessionReply};
+use abc_session::{Session, SessionReply, sessions_stay_beside};
 use itoa::Buffer;
 
 /// How many steps the run and each call may take.
 const FUEL: u32 = 10000;
 
 /// Runs the file's last script, which makes the session ready for calls.
-#[tactic(auto, using(abc_session::proofs::Staying::started_beside))]
 fn start<K: Sink, H: Host>(session: &mut Session, out: &mut K, host: &H) -> Result<(), Fault>
     requires { IsBeside session.old (H.formulas host.now) }
     ensures { OnOk result (IsBeside session.new (H.formulas host.now)) }
 {
+    sessions_stay_beside();
     match session.start(FUEL, out, host) {
         End::Done => Ok(()),
         _ => Err(Fault::Ended),
@@ -40,7 +40,7 @@ fn write_number<K: Sink>(number: i64, out: &mut K) -> Result<(), Fault> {
 
 /// Writes a value that a call gave, on a line.
 fn write_value<K: Sink>(session: &Session, value: PlainValue, out: &mut K) -> Result<(), Fault>
-    requires { (s : Span) → value ≡ PlainValue.Text s → IsText (session.now).linked.file.strings (session.now).world.heap s }
+    requires { (s : Span) → value ≡ PlainValue.Text s → CanTell session.now s }
 {
     match value {
         PlainValue::Text(span) => write_line(session.text(span), out),
@@ -64,7 +64,6 @@ fn value_of(reply: SessionReply) -> Result<PlainValue, Fault>
 }
 
 /// Calls the function that the file exports under a name.
-#[tactic(auto, using(abc_session::proofs::Staying::called_beside))]
 fn ask<K: Sink, H: Host>(
     session: &mut Session,
     name: &[u8],
@@ -74,8 +73,9 @@ fn ask<K: Sink, H: Host>(
 ) -> Result<PlainValue, Fault>
     requires { IsBeside session.old (H.formulas host.now) }
     ensures kept { OnOk result (IsBeside session.new (H.formulas host.now)) }
-    ensures text { IfOk result (λ value. (s : Span) → value ≡ PlainValue.Text s → IsText session.new.linked.file.strings session.new.world.heap s) }
+    ensures text { IfOk result (λ value. (s : Span) → value ≡ PlainValue.Text s → CanTell session.new s) }
 {
+    sessions_stay_beside();
     match session.export(name) {
         Some(method) => value_of(session.call(method, args, FUEL, out, host)),
         None => Err(Fault::NoExport),

@@ -29,6 +29,8 @@ use Rattle.abc_machine.specs.declared.replies.PlainValue.TheVariants as plains
 use Rattle.abc_machine.specs.declared.replies.Reply.{Reply}
 use Rattle.abc_machine.specs.declared.replies.Reply.TheVariants as replies
 use Rattle.abc_machine.proofs.Keeping.{Drops, can_go_on, kept_is}
+use Rattle.abc_machine.proofs.TextsKept.{keeps_texts}
+use Rattle.abc_machine.specs.Texts.{KeepsTexts, TextsGrow}
 use Rattle.abc_machine.proofs.Opening.{verified_setting, viewed}
 use Rattle.abc_meaning.specs.ThrowLaws.{IsVerified}
 use Rattle.abc_meaning.specs.Sound.{WorldSound}
@@ -62,6 +64,11 @@ text_there p r x z s a there =
     let t = replied_so r x z (replies.Value (plains.Text s)) a (λ e. absurd cc) in
     let v : t.value ≡ values.Text s = told_text t.value s t.told in
     subst (Exists p r.world.heap) v (there t.value t.gives)
+
+-- texts that there were can be told still, however the call ended
+pub call_texts : (k : LinkedFile) (s t u : State) (e : Option End) (closed shut : Bool) (n : ℕ) (m : Opened) → viewed k s e closed n ≡ m → TextsGrow s.arena t.arena → u.arena ≡ t.arena → KeepsTexts m (viewed k u e shut n)
+call_texts k s t u e closed shut n m shown g same =
+    subst (λ (o : Opened). KeepsTexts o (viewed k u e shut n)) shown (keeps_texts (viewed k s e closed n) (viewed k u e shut n) refl (subst (TextsGrow s.arena) (sym same) g))
 
 -- ---- writing didn't fail
 

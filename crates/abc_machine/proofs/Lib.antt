@@ -1,4 +1,5 @@
 pub mod Sounding
+pub mod TextsKept
 pub mod There
 pub mod Beginning
 pub mod Staying

@@ -32,7 +32,7 @@ pub untold : (r : Stepped) (out : Outer) (done : Result Unit Halt) (new : State)
 untold r out (Ok u) new x y g = record { bytes = g.bytes; goes = g.goes; sink = λ some. absurd cc }
 untold r out (Err (halts.Returns v)) new x y e = record { ends = e.ends; sink = refl }
 untold r out (Err (halts.Ends end)) new x y e = record { ends = e.ends; sink = refl }
-untold r out (Err halts.Fails) new x y f = record { bytes = f.bytes; next = f.next; goes = f.goes; wrote = f.wrote; sink = λ some. absurd cc }
+untold r out (Err halts.Fails) new x y f = record { bytes = f.bytes; next = f.next; goes = f.goes; wrote = f.wrote; heap = f.heap; sink = λ some. absurd cc }
 
 -- ---- the bytes of a step
 
@@ -83,7 +83,7 @@ module _ (r : Stepped) (out : Outer) (w : World) (wrote : w.wrote ≡ out.wrote)
       let left : (world_left r).wrote ≡ w.wrote ++ g.bytes = ap (λ (x : Stepped). (world_left x).wrote) g.goes ∙ ap (λ (l : List ℕ). l ++ g.bytes) (sym wrote) in
       (i.0, i.1 ∙ sym (wrote_some w (world_left r) g.bytes left))
 
-  failed_bytes : FailsIn r out before after → (t ≡ s) × ((k : ℕ) × (b ≡ take k (wrote_since w (world_left r))))
+  failed_bytes : FailsIn r out new before after → (t ≡ s) × ((k : ℕ) × (b ≡ take k (wrote_since w (world_left r))))
   failed_bytes f =
       let front : GrowsByFront before after f.bytes = f.sink refl in
       let i = sink_at (take front.count f.bytes) (λ some. front.front) in

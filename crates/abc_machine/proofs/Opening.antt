@@ -17,6 +17,7 @@ use Rattle.abc_meaning.specs.Logs.{log, log_if, logs_for, steps, steps_for, step
 use Rattle.abc_machine.specs.Ended.{RunsAs}
 use Rattle.abc_machine.specs.Logged.{LogsRun}
 use Rattle.abc_machine.specs.Machines.{CanBegin, CanGoOn, IsOpened, Keeps, Opened, kept_world, world_run}
+use Rattle.abc_machine.proofs.TextsKept.{texts_self}
 use Rattle.abc_machine.specs.Runs.{IsAt, Leaves, outer, reached}
 use Rattle.abc_machine.specs.declared.ends.End.{End}
 use Rattle.abc_machine.specs.declared.ends.End.TheVariants as ends
@@ -76,6 +77,7 @@ at_start l fs s fuel x r =
       is = ap (machine s) out ∙ sym there;
       goes = ap (replies_for p fuel) (sym there);
       counts = (let same = ap (steps_for p fuel) there in omega (arith, none, same));
+      texts = texts_self s.arena;
       sink = λ some. append_none x ∙ ap (λ (o : Outer). append_known x o.wrote) (sym out);
       can = subst (λ (o : Outer). IsReached l o s) (sym out) r;
     }

@@ -9,6 +9,7 @@ use Rattle.abc_meaning.specs.Calls.{EndsAs as RepliesEnd, Replied, replies, repl
 use Rattle.abc_heap_values.specs.declared.values.Value.{Value}
 use Rattle.abc_meaning.specs.Logs.{steps_for, then_counts}
 use Rattle.abc_machine.specs.Replied.{IsReplyOf, RepliesAs, failed, replied}
+use Rattle.abc_machine.proofs.TextsKept.{texts_on, went_texts}
 use Rattle.abc_machine.specs.Runs.{Begun, IsAt, Leaves, on, outer, reached}
 use Rattle.abc_machine.specs.Spent.{EndsWith, GoesTo, Rests, reply_by}
 use Rattle.abc_machine.specs.declared.replies.Reply.{Reply}
@@ -122,6 +123,7 @@ module _ (l : LinkedFile) (b : Begun) where
             is = ap (machine new) same ∙ sym next;
             goes = meant_by left s x y (Steps q) a g.goes.goes ∙ ap (replies_for p left) (sym next);
             counts = counted_on left s x y q a g.goes.goes;
+            texts = texts_on b.first.world.heap s.arena new.arena a.texts (went_texts l (outer l b (suc left)) s new y z a.can g.goes);
             sink = λ some. g.goes.sink (subst IsSome (sym (a.sink some)) (append_some x out.wrote some)) ∙ ap (λ (o : Option (List ℕ)). append_known o g.goes.bytes) (a.sink some) ∙ append_more x out.wrote g.goes.bytes ∙ ap (λ (o : Outer). append_known x o.wrote) (sym same);
             can = subst (λ (o : Outer). IsReached l o new) (sym same) g.reached;
           }
@@ -150,10 +152,10 @@ module _ (l : LinkedFile) (b : Begun) where
           let g : in_all ≡ replies (world new out) (reply_by (value_at (suc left)) e.end) = meant_by left s x y (Ends (world new out) e.end) a e.ends.ends ∙ then_is (value_at (suc left)) (world new out) e.end (replies_for p left) in
           came (replies (world new out) (reply_by (value_at (suc left)) e.end)) reply x z new g is (λ some. e.ends.sink ∙ a.sink some) (record { heap = refl; started = refl; sized = e.sized })
 
-  pub fails_at : (s new : State) (x y z : Option (List ℕ)) (fuel left : ℕ) → fuel ≡ suc left → IsAt l b fuel s x y → FailsAs l (outer l b fuel) s y z → Comes p in_all x z WriteFault new
-  fails_at s new x y z fuel left f a e = go (subst (λ (n : ℕ). IsAt l b n s x y) f a) (subst (λ (n : ℕ). FailsAs l (outer l b n) s y z) f e)
+  pub fails_at : (s new : State) (x y z : Option (List ℕ)) (fuel left : ℕ) → fuel ≡ suc left → IsAt l b fuel s x y → FailsAs l (outer l b fuel) s new y z → Comes p in_all x z WriteFault new
+  fails_at s new x y z fuel left f a e = go (subst (λ (n : ℕ). IsAt l b n s x y) f a) (subst (λ (n : ℕ). FailsAs l (outer l b n) s new y z) f e)
     where
-      go : IsAt l b (suc left) s x y → FailsAs l (outer l b (suc left)) s y z → Comes p in_all x z WriteFault new
+      go : IsAt l b (suc left) s x y → FailsAs l (outer l b (suc left)) s new y z → Comes p in_all x z WriteFault new
       go a e =
           let out = outer l b (suc left) in
           let r = replies_for p left e.next in

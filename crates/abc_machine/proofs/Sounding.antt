@@ -76,7 +76,7 @@ module _ (p : Setting) (typings : Typings) (w n : World) (v : Value) (verified :
       fair_then p n (new p v args n) _ (news_fair p typings n v args verified typed left.sound value (each_at (Exists p.linked n.heap) args there))
   resumes_fair f waits.Not s = absurd s
 
-  below_takes : (f : Frame) (fs : List Frame) → IsSound p typings (record { world = w; frames = f ∷ fs }) → FirstCanTake p n v fs
+  pub below_takes : (f : Frame) (fs : List Frame) → IsSound p typings (record { world = w; frames = f ∷ fs }) → FirstCanTake p n v fs
   below_takes f [] s = tt
   below_takes f (g ∷ gs) s =
       let waits_sound = s.frames.1.0.waits in

@@ -9,7 +9,9 @@ use Rattle.abc_run_finish.specs.Ending.{IsSized}
 use Rattle.abc_run_finish.specs.declared.ended.Ended.TheVariants as ended
 use Rattle.abc_machine.specs.Replied.{plain_value}
 use Rattle.abc_machine.specs.Runs.{Begun, IsAt, outer}
-use Rattle.abc_machine.specs.Spent.{SpendsAs, as_reply, reply_for}
+use Rattle.abc_machine.specs.Texts.{TextsGrow}
+use Rattle.abc_machine.proofs.TextsKept.{ended_texts, failed_texts, texts_on, texts_self}
+use Rattle.abc_machine.specs.Spent.{EndsWith, SpendsAs, as_reply, reply_for}
 use Rattle.abc_machine.specs.declared.replies.Reply.{Reply}
 use Rattle.abc_machine.specs.declared.replies.Reply.TheVariants as replies
 use Rattle.abc_machine.proofs.Reaching.{Comes, ends_at, fails_at, goes_at, spent_at}
@@ -84,3 +86,23 @@ pub ended_on : (l : LinkedFile) (b : Begun) (s new : State) (x y z : Option (Lis
 ended_on l b s new x y z whole fuel left r e same a is spent =
     let d = subst (λ (q : Result Unit Reply). SpendsAs l (outer l b fuel) s fuel q new left y z) is spent in
     subst (λ (n : ℕ). Comes (setting_of l b.formulas) (replies_for (setting_of l b.formulas) n b.first) x z e new) same (spent_as l b s new x y z fuel left e a d)
+
+-- ---- the texts that there were
+
+module _ (l : LinkedFile) (b : Begun) (s new : State) (x y z : Option (List ℕ)) (fuel left : ℕ) where
+  texts_then : IsAt l b fuel s x y → TextsGrow s.arena new.arena → TextsGrow b.first.world.heap new.arena
+  texts_then a g = texts_on b.first.world.heap s.arena new.arena a.texts g
+
+  texts_ended : (e : Reply) → IsAt l b fuel s x y → EndsWith l (outer l b fuel) s new e y z → TextsGrow b.first.world.heap new.arena
+  texts_ended e a d = texts_then a (ended_texts l (outer l b fuel) s a.can new d.end y z d.ends)
+
+  texts_as : (e : Reply) → IsAt l b fuel s x y → SpendsAs l (outer l b fuel) s fuel (Err e) new left y z → TextsGrow b.first.world.heap new.arena
+  texts_as (replies.Value v) a r = texts_ended (replies.Value v) a r.1
+  texts_as (replies.Uncaught thrown) a r = texts_ended (replies.Uncaught thrown) a r.1
+  texts_as (replies.Profile method index fault) a r = texts_ended (replies.Profile method index fault) a r.1
+  texts_as replies.FuelSpent a r = texts_then a (subst (λ (t : State). TextsGrow s.arena t.arena) (sym r.1.state) (texts_self s.arena))
+  texts_as (replies.Full limit) a r = texts_ended (replies.Full limit) a r.1
+  texts_as replies.WriteFault a r = texts_then a (failed_texts l (outer l b fuel) s a.can new y z r.1)
+
+  pub ended_with_texts : (r : Result Unit Reply) (e : Reply) → IsAt l b fuel s x y → r ≡ Err e → SpendsAs l (outer l b fuel) s fuel r new left y z → TextsGrow b.first.world.heap new.arena
+  ended_with_texts r e a is spent = texts_as e a (subst (λ (q : Result Unit Reply). SpendsAs l (outer l b fuel) s fuel q new left y z) is spent)

@@ -3,6 +3,7 @@ pub mod Ended
 pub mod Logged
 pub mod Replied
 pub mod Machines
+pub mod Texts
 pub mod OneRun
 pub mod Invoked
 pub mod Runs

@@ -14,6 +14,7 @@ use Rattle.abc_run_state.specs.declared.state.State.{State}
 use Rattle.abc_run_finish.specs.Steps.{IsReached, machine}
 use Rattle.abc_meaning.specs.World.{World}
 use Rattle.abc_meaning.specs.Setting.{Setting}
+use Rattle.abc_machine.specs.Texts.{TextsGrow}
 
 -- a step that goes on
 abbrev pub on : Stepped → Machine
@@ -42,6 +43,7 @@ pub record IsAt (l : LinkedFile) (b : Begun) (left : ℕ) (s : State) (before no
   pub goes : replies_for (setting l (outer l b left)) b.fuel b.first ≡ replies_for (setting l (outer l b left)) left (reached (setting l (outer l b left)) (b.fuel - left) b.first)
   pub counts : steps_for (setting l (outer l b left)) b.fuel b.first ≡ (b.fuel - left) + steps_for (setting l (outer l b left)) left (reached (setting l (outer l b left)) (b.fuel - left) b.first)
   pub sink : IsSome before → now ≡ append_known before (outer l b left).wrote
+  pub texts : TextsGrow b.first.world.heap s.arena
   pub can : IsReached l (outer l b left) s
 
 -- the state that steps leave, where writing didn't fail: the world of the meaning, and frames that may keep what their routines say

@@ -72,7 +72,7 @@ pub record Rests (old new : State) (before now : Option (List ℕ)) : Type 0 whe
 abbrev pub SpendsAs : LinkedFile → Outer → (old : State) → (fuel : ℕ) → Result Unit Reply → (new : State) → (left : ℕ) → (before now : Option (List ℕ)) → Type 0
 SpendsAs l out old fuel (Ok u) new left before now = (fuel ≡ suc left) × GoesTo l out old new before now
 SpendsAs l out old fuel (Err replies.FuelSpent) new left before now = (fuel ≡ 0) × Rests old new before now
-SpendsAs l out old fuel (Err replies.WriteFault) new left before now = (fuel ≡ suc left) × FailsAs l out old before now
+SpendsAs l out old fuel (Err replies.WriteFault) new left before now = (fuel ≡ suc left) × FailsAs l out old new before now
 SpendsAs l out old fuel (Err (replies.Value v)) new left before now = (fuel ≡ suc left) × EndsWith l out old new (replies.Value v) before now
 SpendsAs l out old fuel (Err (replies.Uncaught thrown)) new left before now = (fuel ≡ suc left) × EndsWith l out old new (replies.Uncaught thrown) before now
 SpendsAs l out old fuel (Err (replies.Profile method index fault)) new left before now = (fuel ≡ suc left) × EndsWith l out old new (replies.Profile method index fault) before now

@@ -6,6 +6,7 @@ ghost use Rattle.abc_machine.specs.Calling.{CanCall};
 ghost use Rattle.abc_machine.specs.Machines.{kept_world};
 ghost use Rattle.abc_machine.specs.Replied.{HasReplied, RepliesAs, is_write_fault as is_fault};
 ghost use Rattle.abc_machine.specs.Runs.{Leaves};
+ghost use Rattle.abc_machine.specs.Texts.{TextsGrow};
 ghost use Rattle.abc_machine.specs.declared.replies.Reply.TheVariants.{WriteFault};
 ghost use Rattle.abc_meaning.specs.Openings.{setting};
 
@@ -48,6 +49,7 @@ pub(crate) fn call_for<K: Sink, H: Host>(
     ensures cause { HasReplied (K.faults sink.old) (K.faults sink.new) result }
     ensures leaves { result ≢ WriteFault → Leaves (setting linked.now formulas) (call_meaning (setting linked.now formulas) fuel (kept_world s.old) method (arguments args.now)).world s.new }
     ensures limit { s.new.given.limit ≡ s.old.given.limit }
+    ensures texts { TextsGrow s.old.arena s.new.arena }
 {
     let mut left = fuel;
     match begin_call(linked, s, method, args) {

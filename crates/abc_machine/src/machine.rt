@@ -1,13 +1,13 @@
 ghost use Rattle.std.specs.Prelude.{◌≡◌, None, MatchResult};
 ghost use Rattle.abc_meaning.specs.Exports.{IsScriptMethod};
 ghost use Rattle.abc_heap_values.specs.declared.values.Span.{Span};
-ghost use Rattle.abc_heap_store.specs.Texts.{IsText, text_of};
 ghost use Rattle.abc_machine.specs.Ended.{HasRun, RunsAs};
 ghost use Rattle.abc_machine.specs.Invoked.{Answers, call_of};
 ghost use Rattle.abc_machine.specs.Logged.{LogsRun};
 ghost use Rattle.abc_machine.specs.Machines.{IsFirst, IsOpened, IsReady};
 ghost use Rattle.abc_machine.specs.OneRun.{AnswersAgain, HasEnded, LeavesRun, log_of, meaning_of};
 ghost use Rattle.abc_machine.specs.Replied.{HasReplied};
+ghost use Rattle.abc_machine.specs.Texts.{CanTell, KeepsTexts, told_text};
 ghost use Rattle.abc_machine.specs.declared.replies.PlainValue.TheVariants.{Text};
 ghost use Rattle.abc_objects.specs.Opening.{formula_names};
 ghost use Rattle.abc_meaning.specs.Openings.{IsRefused, setting};
@@ -181,7 +181,8 @@ impl Machine {
         requires method { IsScriptMethod (setting self.old.linked (H.formulas host.now)) method }
         ensures answers { Answers self.old self.new (call_of method args.now fuel (H.formulas host.now)) (K.written out.old) (K.written out.new) result }
         ensures cause { HasReplied (K.faults out.old) (K.faults out.new) result }
-        ensures text { (s : Span) → result ≡ Reply.Value (Text s) → IsText self.new.linked.file.strings self.new.world.heap s }
+        ensures text { (s : Span) → result ≡ Reply.Value (Text s) → CanTell self.new s }
+        ensures texts { KeepsTexts self.old self.new }
     {
         let linked = self.verified.linked();
         linked.linked_law();
@@ -213,10 +214,10 @@ impl Machine {
         self.closed
     }
 
-    /// The bytes of a text that a call gave.
+    /// The bytes of a text that a call gave. They can be told after every later call, also one that failed to write.
     pub fn text(&self, s: Span) -> &[u8]
-        requires { IsText self.now.linked.file.strings self.now.world.heap s }
-        ensures { result.now ≡ text_of self.now.linked.file.strings self.now.world.heap s }
+        requires { CanTell self.now s }
+        ensures { result.now ≡ told_text self.now s }
     {
         self.state.arena.text_bytes(self.verified.linked(), s)
     }

@@ -6,6 +6,7 @@ ghost use Rattle.abc_meaning.specs.Logs.{steps_for};
 ghost use Rattle.abc_machine.specs.Ended.{HasRun, RunsAs};
 ghost use Rattle.abc_machine.specs.Replied.{HasReplied, RepliesAs, plain_value};
 ghost use Rattle.abc_machine.specs.Runs.{Begun, IsAt, Leaves};
+ghost use Rattle.abc_machine.specs.Texts.{TextsGrow};
 ghost use Rattle.abc_machine.specs.Spent.{SpendsAs, as_reply, end_for as end_of, reply_for as reply_of};
 ghost use Rattle.abc_machine.specs.declared.ends.End.TheVariants.{WriteFault as FailedRun};
 ghost use Rattle.abc_machine.specs.declared.replies.Reply.TheVariants.{WriteFault};
@@ -136,6 +137,7 @@ pub(crate) fn take_steps<K: Sink, H: Host>(
     ensures steps { result ≢ WriteFault → steps_for (setting linked.now begun.formulas) fuel.old begun.first + fuel.new ≡ fuel.old }
     ensures few { fuel.new ≤ fuel.old }
     ensures limit { s.new.given.limit ≡ s.old.given.limit }
+    ensures texts { TextsGrow begun.first.world.heap s.new.arena }
 {
     let mut held = hold(linked, 0);
     let mut left = Ok(Left::Goes);

@@ -173,8 +173,8 @@ fn finish_left<K: Sink, H: Host>(
 
 /// One step: where no frame lives the last script is started, else the instruction of the newest frame is run. A line goes to the
 /// sink, and a formula is the host's. It answers whether the run goes on. Else `halted` is `Returns` where the last frame returned,
-/// and what, `Ends` where the run ends otherwise, and why, and `Fails` where the sink failed, after a front of the line; then nothing
-/// is told of the state. Before the step, as after it, nothing is left to be done. (Most steps go on, and most instructions leave
+/// and what, `Ends` where the run ends otherwise, and why, and `Fails` where the sink failed, after a front of the line; then of
+/// the state its heap alone is told. Before the step, as after it, nothing is left to be done. (Most steps go on, and most instructions leave
 /// nothing: so that they copy no answer it is written where it is kept.)
 #[inline(always)]
 pub fn step_on<'a, K: Sink, H: Host>(
@@ -212,7 +212,7 @@ pub fn step_on<'a, K: Sink, H: Host>(
 }
 
 /// One step, as `step_on` takes it. It answers `Returns` where the last frame returned, and what, `Ends` where the run ends
-/// otherwise, and why, and `Fails` where the sink failed, after a front of the line; then nothing is told of the state.
+/// otherwise, and why, and `Fails` where the sink failed, after a front of the line; then of the state its heap alone is told.
 pub fn step<K: Sink, H: Host>(
     linked: &Linked,
     s: &mut State,

@@ -52,8 +52,15 @@ no_return (Err end) v e = cc
 pub wrote_in : (l : LinkedFile) (out : Outer) (count : ℕ) (how : How) (old new : State) (before now : Option (List ℕ)) → Writes l out count how old new before now → GoesOnIn (stepped (setting l out) (traced (setting l out) count how (world old out) old.frames)) out new before now
 wrote_in l out count how old new before now w = record { bytes = w.bytes; goes = ap (stepped (setting l out)) w.goes; sink = w.sink }
 
-pub failed_in : (l : LinkedFile) (out : Outer) (count : ℕ) (how : How) (old : State) (before now : Option (List ℕ)) → Fails l out count how old before now → FailsIn (stepped (setting l out) (traced (setting l out) count how (world old out) old.frames)) out before now
-failed_in l out count how old before now f = record { bytes = f.bytes; next = record { world = f.world_then; frames = f.frames_then.living }; goes = ap (stepped (setting l out)) f.goes; wrote = f.wrote; sink = f.sink }
+pub failed_in : (l : LinkedFile) (out : Outer) (count : ℕ) (how : How) (old new : State) (before now : Option (List ℕ)) → Fails l out count how old new before now → FailsIn (stepped (setting l out) (traced (setting l out) count how (world old out) old.frames)) out new before now
+failed_in l out count how old new before now f = record {
+  bytes = f.bytes;
+  next = record { world = f.world_then; frames = f.frames_then.living };
+  goes = ap (stepped (setting l out)) f.goes;
+  wrote = f.wrote;
+  heap = f.heap;
+  sink = f.sink;
+}
 
 -- ---- a formula that is asked is one of the host
 

@@ -242,12 +242,13 @@ module _ (l : LinkedFile) (out : Outer) (count : ℕ) (how : How) (s new : State
     sink = λ some. k some ∙ ap (append_known before) (line_is ts t);
   }
 
-  pub trace_fails : (before now : Option (List ℕ)) (ts : List Value) → count ≤ length (newest s.frames).stack → count ≤ taken_by how → Made → ts ≡ texts → (IsSome before → GrowsByFront before now (lines.line l.file.strings new.arena ts)) → Fails l out count how s before now
+  pub trace_fails : (before now : Option (List ℕ)) (ts : List Value) → count ≤ length (newest s.frames).stack → count ≤ taken_by how → Made → ts ≡ texts → (IsSome before → GrowsByFront before now (lines.line l.file.strings new.arena ts)) → Fails l out count how s new before now
   trace_fails before now ts b c e t k = record {
     bytes = bytes;
     world_then = world new (adding bytes out);
     frames_then = on_top (settled how values.Undefined (newest (with_operands (newest new.frames).stack s.frames))) (with_operands (newest new.frames).stack s.frames);
     goes = traced_goes p count how (world s out) (world new out) s.frames (newest new.frames).stack b c e;
     wrote = refl;
+    heap = refl;
     sink = λ some. subst (λ (bs : List ℕ). GrowsByFront before now bs) (line_is ts t) (k some);
   }

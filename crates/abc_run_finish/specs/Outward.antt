@@ -24,15 +24,17 @@ pub record Writes (p : LinkedFile) (out : Outer) (count : ℕ) (how : How) (old 
   pub goes : traced (setting p out) count how (world old out) old.frames ≡ GoesOn (world new (adding bytes out)) new.frames
   pub sink : IsSome before → now ≡ append_known before bytes
 
-pub record Fails (p : LinkedFile) (out : Outer) (count : ℕ) (how : How) (old : State) (before now : Option (List ℕ)) : Type 0 where
+-- then the heap is that of the line, though no value came for it
+pub record Fails (p : LinkedFile) (out : Outer) (count : ℕ) (how : How) (old new : State) (before now : Option (List ℕ)) : Type 0 where
   pub bytes : List ℕ
   pub world_then : World
   pub frames_then : Frames
   pub goes : traced (setting p out) count how (world old out) old.frames ≡ GoesOn world_then frames_then
   pub wrote : world_then.wrote ≡ out.wrote ++ bytes
+  pub heap : world_then.heap ≡ new.arena
   pub sink : IsSome before → GrowsByFront before now bytes
 
 abbrev pub TracesAs : LinkedFile → Outer → (count : ℕ) → How → (old : State) → Result Unit Unwritten → (new : State) → (before now : Option (List ℕ)) → Type 0
 TracesAs l out count how old (Ok u) new before now = Writes l out count how old new before now
 TracesAs l out count how old (Err (unwritten.Stops e)) new before now = (traced (setting l out) count how (world old out) old.frames ≡ Halts (world new out) (bared new.frames) (why e)) × (now ≡ before)
-TracesAs l out count how old (Err unwritten.Fails) new before now = Fails l out count how old before now
+TracesAs l out count how old (Err unwritten.Fails) new before now = Fails l out count how old new before now

@@ -57,19 +57,20 @@ pub record EndsIn (r : Stepped) (out : Outer) (new : State) (end : End) (before 
   pub ends : r ≡ Ends (world new out) end
   pub sink : now ≡ before
 
--- it goes on, but writing its bytes failed
-pub record FailsIn (r : Stepped) (out : Outer) (before now : Option (List ℕ)) : Type 0 where
+-- it goes on, but writing its bytes failed; the heap is what it goes on with
+pub record FailsIn (r : Stepped) (out : Outer) (new : State) (before now : Option (List ℕ)) : Type 0 where
   pub bytes : List ℕ
   pub next : Machine
   pub goes : r ≡ Steps next
   pub wrote : next.world.wrote ≡ out.wrote ++ bytes
+  pub heap : next.world.heap ≡ new.arena
   pub sink : IsSome before → GrowsByFront before now bytes
 
 abbrev pub StepsIn : Stepped → Outer → Result Unit Halt → (new : State) → (before now : Option (List ℕ)) → Type 0
 StepsIn r out (Ok u) new before now = GoesOnIn r out new before now
 StepsIn r out (Err (halts.Returns v)) new before now = EndsIn r out new Done before now
 StepsIn r out (Err (halts.Ends e)) new before now = EndsIn r out new (end_of e) before now
-StepsIn r out (Err halts.Fails) new before now = FailsIn r out before now
+StepsIn r out (Err halts.Fails) new before now = FailsIn r out new before now
 
 -- the step of a state
 abbrev pub GoesOnAs : LinkedFile → Outer → (old new : State) → (before now : Option (List ℕ)) → Type 0
@@ -78,8 +79,8 @@ GoesOnAs l out old new before now = GoesOnIn (step_here l out old) out new befor
 abbrev pub EndsAs : LinkedFile → Outer → (old new : State) → End → (before now : Option (List ℕ)) → Type 0
 EndsAs l out old new end before now = EndsIn (step_here l out old) out new end before now
 
-abbrev pub FailsAs : LinkedFile → Outer → (old : State) → (before now : Option (List ℕ)) → Type 0
-FailsAs l out old before now = FailsIn (step_here l out old) out before now
+abbrev pub FailsAs : LinkedFile → Outer → (old new : State) → (before now : Option (List ℕ)) → Type 0
+FailsAs l out old new before now = FailsIn (step_here l out old) out new before now
 
 abbrev pub StepsAs : LinkedFile → Outer → (old : State) → Result Unit Halt → (new : State) → (before now : Option (List ℕ)) → Type 0
 StepsAs l out old r new before now = StepsIn (step_here l out old) out r new before now

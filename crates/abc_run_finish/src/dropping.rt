@@ -16,7 +16,8 @@ fn leave_all(frames: &mut Frames)
 
 /// Drops all frames, and gives back their room. Nothing else changes.
 pub fn drop_frames(s: &mut State)
-    ensures { length s.old.frames.sizes ≡ length s.old.frames.living → s.new ≡ record s.old { frames = no_frames s.old.frames.frame_limit s.old.frames.value_limit } }
+    ensures drops { length s.old.frames.sizes ≡ length s.old.frames.living → s.new ≡ record s.old { frames = no_frames s.old.frames.frame_limit s.old.frames.value_limit } }
+    ensures heap { s.new.arena ≡ s.old.arena }
 {
     leave_all(&mut s.frames);
 }

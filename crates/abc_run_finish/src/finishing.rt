@@ -73,7 +73,7 @@ fn consult<H: Host>(
 
 /// What an instruction leaves to be done: what returns is given back, a line is written, a formula asked, and a throw caught. It
 /// answers how the run ends, if it does, with what returned where the last frame did, and `Fails` where the sink failed, after a
-/// front of the line; then nothing is told of the state.
+/// front of the line; then of the state its heap alone is told.
 #[inline(always)]
 pub fn finish<K: Sink, H: Host>(
     linked: &Linked,

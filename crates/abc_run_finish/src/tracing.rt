@@ -16,7 +16,7 @@ use abc_objects::write_line;
 use abc_run_state::{How, State, settle};
 
 /// The texts of the top operands, so many, are made and then written as a line, and undefined comes. It answers `Fails` where
-/// the sink failed, after a front of the line.
+/// the sink failed, after a front of the line; then the texts are made.
 pub fn trace<K: Sink>(
     linked: &Linked,
     s: &mut State,

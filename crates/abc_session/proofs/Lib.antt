@@ -1,4 +1,5 @@
 pub mod SessionFollowing
+pub mod Lived
 pub mod Found
 pub mod Staying
 pub mod Pieces

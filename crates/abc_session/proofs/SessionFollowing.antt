@@ -22,7 +22,7 @@ call_silent : (l : LinkedFile) (w : World) (c : Call) → answers_call l (silent
 unfolding call_meaning
 call_silent l w c = refl
 
-session_silent : (l : LinkedFile) (w : World) (cs : List Call) → session l (silent w) cs ≡ session l w cs
+pub session_silent : (l : LinkedFile) (w : World) (cs : List Call) → session l (silent w) cs ≡ session l w cs
 session_silent l w [] = refl
 session_silent l w (c ∷ cs) = ap (λ (r : Replied). r ∷ session l r.world cs) (call_silent l w c)
 
@@ -32,18 +32,18 @@ pub record IsShut (m : Opened) : Type 0 where
   pub done : m.ended ≡ Some Done
   pub closed : m.closed ≡ true
 
-closed_on : (old new : Opened) (c : Call) (x z : Option (List ℕ)) (reply : SessionReply) → IsShut old → AnswersIn old new c x z reply → (reply ≡ answers.Closed) × IsShut new
+pub closed_on : (old new : Opened) (c : Call) (x z : Option (List ℕ)) (reply : SessionReply) → IsShut old → AnswersIn old new c x z reply → (reply ≡ answers.Closed) × IsShut new
 closed_on old new c x z (answers.Reply reply) shut a = absurd (let two : true ≡ false = sym shut.closed ∙ a.ready.still in cc)
 closed_on old new c x z answers.NotReady shut a = absurd (a.unready shut.done)
 closed_on old new c x z answers.Closed shut a = (refl, subst IsShut (sym a.rests.same) shut)
 
-stay_closed : (m : Opened) (ds : List Made) → IsShut m → AreMade m ds → All (λ d. d.reply ≡ answers.Closed) ds
-stay_closed m [] shut a = All-nil (λ (e : Made). e.reply ≡ answers.Closed)
-stay_closed m (d ∷ ds) shut (made.more old new e es first rest) = (let x = closed_on old new e.call e.before e.now e.reply shut first in All-cons (λ (a : Made). a.reply ≡ answers.Closed) e es x.0 (stay_closed new es x.1 rest))
+stay_closed : (m last : Opened) (ds : List Made) → IsShut m → AreMade m ds last → All (λ d. d.reply ≡ answers.Closed) ds
+stay_closed m last [] shut a = All-nil (λ (e : Made). e.reply ≡ answers.Closed)
+stay_closed m last (d ∷ ds) shut (made.more old new end e es first rest) = (let x = closed_on old new e.call e.before e.now e.reply shut first.answers in All-cons (λ (a : Made). a.reply ≡ answers.Closed) e es x.0 (stay_closed new end es x.1 rest))
 
 -- ---- a session that is ready
 
-is_fault : (reply : Reply) → is_write_fault reply ≡ true → reply ≡ replies.WriteFault
+pub is_fault : (reply : Reply) → is_write_fault reply ≡ true → reply ≡ replies.WriteFault
 is_fault (replies.Value v) e = absurd cc
 is_fault (replies.Uncaught thrown) e = absurd cc
 is_fault (replies.Profile method index fault) e = absurd cc
@@ -51,34 +51,34 @@ is_fault replies.FuelSpent e = absurd cc
 is_fault (replies.Full limit) e = absurd cc
 is_fault replies.WriteFault e = refl
 
-no_fault : (reply : Reply) → is_write_fault reply ≡ false → reply ≢ replies.WriteFault
+pub no_fault : (reply : Reply) → is_write_fault reply ≡ false → reply ≢ replies.WriteFault
 no_fault reply e f = absurd (let two : true ≡ false = sym (ap is_write_fault f) ∙ e in cc)
 
 -- the session after a call that was answered so
-next_is : (old new : Opened) (d : Made) (reply : Reply) → Answers old new d.call d.before d.now reply → reply ≢ replies.WriteFault → (ds : List Call) → session new.linked new.world ds ≡ session old.linked (answers_call old.linked old.world d.call).world ds
+pub next_is : (old new : Opened) (d : Made) (reply : Reply) → Answers old new d.call d.before d.now reply → reply ≢ replies.WriteFault → (ds : List Call) → session new.linked new.world ds ≡ session old.linked (answers_call old.linked old.world d.call).world ds
 next_is old new d reply a f ds =
     ap (λ (l : LinkedFile). session l new.world ds) a.linked ∙ ap (λ (w : World). session old.linked w ds) (a.world f) ∙ session_silent old.linked (answers_call old.linked old.world d.call).world ds
 
 -- ---- the replies of a session that is ready are those of the calls' meanings
 
 -- by what the rest comes to
-follow_on : (old new : Opened) (d : Made) (ds : List Made) (reply : Reply) (shut : Bool) → d.reply ≡ answers.Reply reply → is_write_fault reply ≡ shut → IsReady old → Answers old new d.call d.before d.now reply → AreMade new ds → (IsReady new → Follow (session new.linked new.world (map (λ (e : Made). e.call) ds)) ds) → Follow (answers_call old.linked old.world d.call ∷ session old.linked (answers_call old.linked old.world d.call).world (map (λ (e : Made). e.call) ds)) (d ∷ ds)
-follow_on old new d ds reply true told fault ready a rest follows =
+follow_on : (old new last : Opened) (d : Made) (ds : List Made) (reply : Reply) (shut : Bool) → d.reply ≡ answers.Reply reply → is_write_fault reply ≡ shut → IsReady old → Answers old new d.call d.before d.now reply → AreMade new ds last → (IsReady new → Follow (session new.linked new.world (map (λ (e : Made). e.call) ds)) ds) → Follow (answers_call old.linked old.world d.call ∷ session old.linked (answers_call old.linked old.world d.call).world (map (λ (e : Made). e.call) ds)) (d ∷ ds)
+follow_on old new last d ds reply true told fault ready a rest follows =
     let failed : reply ≡ replies.WriteFault = is_fault reply fault in
     let shut : IsShut new = record { done = a.ended ∙ ready.done; closed = a.closed ∙ fault } in
-    made.failed (answers_call old.linked old.world d.call) (session old.linked (answers_call old.linked old.world d.call).world (map (λ (e : Made). e.call) ds)) d ds (told ∙ ap (λ (x : Reply). answers.Reply x) failed) (subst (λ (x : Reply). RepliesAs (answers_call old.linked old.world d.call) d.before d.now x) failed a.replies) (stay_closed new ds shut rest)
-follow_on old new d ds reply false told fault ready a rest follows =
+    made.failed (answers_call old.linked old.world d.call) (session old.linked (answers_call old.linked old.world d.call).world (map (λ (e : Made). e.call) ds)) d ds (told ∙ ap (λ (x : Reply). answers.Reply x) failed) (subst (λ (x : Reply). RepliesAs (answers_call old.linked old.world d.call) d.before d.now x) failed a.replies) (stay_closed new last ds shut rest)
+follow_on old new last d ds reply false told fault ready a rest follows =
     let wrote : reply ≢ replies.WriteFault = no_fault reply fault in
     let here : IsReady new = record { done = a.ended ∙ ready.done; still = a.closed ∙ fault } in
     let more = subst (λ (rs : List Replied). Follow rs ds) (next_is old new d reply a wrote (map (λ (e : Made). e.call) ds)) (follows here) in
     made.replied (answers_call old.linked old.world d.call) (session old.linked (answers_call old.linked old.world d.call).world (map (λ (e : Made). e.call) ds)) d ds reply told wrote a.replies more
 
 -- by what was answered first
-follow_first : (old new : Opened) (d : Made) (ds : List Made) (reply : SessionReply) → d.reply ≡ reply → IsReady old → AnswersIn old new d.call d.before d.now reply → AreMade new ds → (IsReady new → Follow (session new.linked new.world (map (λ (e : Made). e.call) ds)) ds) → Follow (answers_call old.linked old.world d.call ∷ session old.linked (answers_call old.linked old.world d.call).world (map (λ (e : Made). e.call) ds)) (d ∷ ds)
-follow_first old new d ds (answers.Reply reply) told ready a rest follows = follow_on old new d ds reply (is_write_fault reply) told refl ready a.answers rest follows
-follow_first old new d ds answers.NotReady told ready a rest follows = absurd (a.unready ready.done)
-follow_first old new d ds answers.Closed told ready a rest follows = absurd (let two : true ≡ false = sym a.closed ∙ ready.still in cc)
+follow_first : (old new last : Opened) (d : Made) (ds : List Made) (reply : SessionReply) → d.reply ≡ reply → IsReady old → AnswersIn old new d.call d.before d.now reply → AreMade new ds last → (IsReady new → Follow (session new.linked new.world (map (λ (e : Made). e.call) ds)) ds) → Follow (answers_call old.linked old.world d.call ∷ session old.linked (answers_call old.linked old.world d.call).world (map (λ (e : Made). e.call) ds)) (d ∷ ds)
+follow_first old new last d ds (answers.Reply reply) told ready a rest follows = follow_on old new last d ds reply (is_write_fault reply) told refl ready a.answers rest follows
+follow_first old new last d ds answers.NotReady told ready a rest follows = absurd (a.unready ready.done)
+follow_first old new last d ds answers.Closed told ready a rest follows = absurd (let two : true ≡ false = sym a.closed ∙ ready.still in cc)
 
 pub calls_follow : CallsFollow
-calls_follow m [] ready a = made.none
-calls_follow m (d ∷ ds) ready (made.more old new e es first rest) = follow_first old new e es e.reply refl ready first rest (λ next. calls_follow new es next rest)
+calls_follow m last [] ready a = made.none
+calls_follow m last (d ∷ ds) ready (made.more old new end e es first rest) = follow_first old new end e es e.reply refl ready first.answers rest (λ next. calls_follow new end es next rest)

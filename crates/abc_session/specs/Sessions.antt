@@ -8,7 +8,10 @@ use Rattle.abc_machine.specs.Machines.{IsReady, Opened}
 use Rattle.abc_machine.specs.Replied.{RepliesAs}
 use Rattle.abc_machine.specs.declared.ends.End.TheVariants.{Done}
 use Rattle.abc_machine.specs.declared.replies.Reply.{Reply}
-use Rattle.abc_machine.specs.declared.replies.Reply.TheVariants.{WriteFault}
+use Rattle.abc_heap_values.specs.declared.values.Span.{Span}
+use Rattle.abc_machine.specs.Texts.{CanTell, KeepsTexts}
+use Rattle.abc_machine.specs.declared.replies.PlainValue.TheVariants.{Text}
+use Rattle.abc_machine.specs.declared.replies.Reply.TheVariants.{Value, WriteFault}
 use Rattle.abc_session.specs.declared.replies.SessionReply.{SessionReply}
 use Rattle.abc_session.specs.declared.replies.SessionReply.TheVariants as answers
 
@@ -37,6 +40,12 @@ AnswersIn old new c before now (answers.Reply reply) = DoesCall old new c before
 AnswersIn old new c before now answers.NotReady = IsUnready old new before now
 AnswersIn old new c before now answers.Closed = IsClosed old new before now
 
+-- a session that does nothing leaves its sink as it was, and so its count of faults
+abbrev pub LeavesSink : {K : Type 0} → (before now : K) → SessionReply → Type 0
+LeavesSink before now (answers.Reply reply) = Unit {0}
+LeavesSink before now answers.NotReady = now ≡ before
+LeavesSink before now answers.Closed = now ≡ before
+
 -- the sink's count of faults never falls, and it rose where writing failed
 pub record HasCalled (before now : ℕ) (reply : SessionReply) : Type 0 where
   pub later : before ≤ now
@@ -51,10 +60,16 @@ pub record Made : Type 0 where
   pub before : Option (List ℕ)
   pub now : Option (List ℕ)
 
--- a session was asked these, one after the other
-pub data AreMade : Opened → List Made → Type 0 where
-  nothing : (m : Opened) → AreMade m []
-  more : (old new : Opened) (d : Made) (ds : List Made) → AnswersIn old new d.call d.before d.now d.reply → AreMade new ds → AreMade old (d ∷ ds)
+-- it was answered so; a text that it gave can be told, and so can those that could be told before
+pub record IsMade (old new : Opened) (d : Made) : Type 0 where
+  pub answers : AnswersIn old new d.call d.before d.now d.reply
+  pub text : (s : Span) → d.reply ≡ answers.Reply (Value (Text s)) → CanTell new s
+  pub texts : KeepsTexts old new
+
+-- a session was asked these, one after the other, and then it is the last
+pub data AreMade : Opened → List Made → (last : Opened) → Type 0 where
+  nothing : (m : Opened) → AreMade m [] m
+  more : (old new last : Opened) (d : Made) (ds : List Made) → IsMade old new d → AreMade new ds last → AreMade old (d ∷ ds) last
 
 -- each is answered by its meaning, until writing fails; after that the session is closed
 pub data Follow : List Replied → List Made → Type 0 where
@@ -64,4 +79,4 @@ pub data Follow : List Replied → List Made → Type 0 where
 
 -- every list of calls that a ready session is asked is answered by the calls' meanings, each in the world that the one before left
 abbrev pub CallsFollow : Type 0
-CallsFollow = (m : Opened) (ds : List Made) → IsReady m → AreMade m ds → Follow (session m.linked m.world (map (λ d. d.call) ds)) ds
+CallsFollow = (m last : Opened) (ds : List Made) → IsReady m → AreMade m ds last → Follow (session m.linked m.world (map (λ d. d.call) ds)) ds

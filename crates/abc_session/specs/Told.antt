@@ -7,7 +7,6 @@ use Rattle.abc_base.specs.Faults.{Rose}
 use Rattle.abc_heap_values.specs.declared.values.Span.{Span}
 use Rattle.abc_heap_values.specs.declared.values.Value.{Value}
 use Rattle.abc_meaning.specs.Calls.{Gives, Replied, silent}
-use Rattle.abc_heap_store.specs.Texts.{IsText}
 use Rattle.abc_machine.specs.declared.ends.End.{End}
 use Rattle.abc_machine.specs.declared.ends.End.TheVariants as ends
 use Rattle.abc_machine.specs.Ended.{RunsAs}
@@ -15,15 +14,16 @@ use Rattle.abc_machine.specs.Machines.{IsReady, Opened}
 use Rattle.abc_machine.specs.declared.replies.PlainValue.{PlainValue}
 use Rattle.abc_machine.specs.declared.replies.PlainValue.TheVariants as values
 use Rattle.abc_machine.specs.Replied.{plain_value}
+use Rattle.abc_machine.specs.Texts.{CanTell}
 use Rattle.abc_machine.specs.declared.replies.Reply.TheVariants as replies
 use Rattle.abc_session.specs.declared.replies.SessionReply.{SessionReply}
 use Rattle.abc_session.specs.declared.replies.SessionReply.TheVariants as answers
 use Rattle.abc_file_types.specs.declared.tables.Abc.{Abc}
 use Rattle.abc_session.specs.Ticks.{calls_run, value_line}
 
--- a text that a value tells stands in the heap
+-- a text that a value tells can be told
 abbrev pub HasText : Opened → PlainValue → Type 0
-HasText m value = (s : Span) → value ≡ values.Text s → IsText m.linked.file.strings m.world.heap s
+HasText m value = (s : Span) → value ≡ values.Text s → CanTell m s
 
 -- the value that a call gave, or how all ends; a session that answers nothing ends as one whose sink failed
 abbrev pub value_or_end : SessionReply → Result PlainValue End

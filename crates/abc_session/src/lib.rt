@@ -17,6 +17,6 @@ pub use abc_meaning::Thrown;
 pub use abc_objects::OpenError;
 pub use replies::SessionReply;
 pub use session::Session;
-pub use session_laws::{calls_follow, calls_stay_beside};
+pub use session_laws::{calls_follow, lives_follow, sessions_stay_beside};
 pub use tick_laws::ticks_can_be_told;
 pub use ticks::run_and_call;

@@ -2,7 +2,6 @@ ghost use Rattle.std.specs.Prelude.{◌≡◌, ◌↔◌, List, MatchResult, IfS
 ghost use Rattle.abc_base.specs.declared.formula.Formula.{Formula};
 ghost use Rattle.abc_meaning.specs.Exports.{IsScriptMethod, export as export_of};
 ghost use Rattle.abc_heap_values.specs.declared.values.Span.{Span};
-ghost use Rattle.abc_heap_store.specs.Texts.{IsText, text_of};
 ghost use Rattle.abc_machine.specs.Ended.{HasRun, RunsAs};
 ghost use Rattle.abc_machine.specs.Invoked.{call_of};
 ghost use Rattle.abc_machine.specs.OneRun.{AnswersAgain, HasEnded, LeavesRun, meaning_of};
@@ -14,7 +13,8 @@ ghost use Rattle.abc_machine.specs.declared.replies.Reply.TheVariants.{Value};
 ghost use Rattle.abc_meaning.specs.Meaning.{meaning};
 ghost use Rattle.abc_objects.specs.Opening.{formula_names};
 ghost use Rattle.abc_meaning.specs.Openings.{IsRefused, setting};
-ghost use Rattle.abc_session.specs.Sessions.{AnswersIn, HasCalled};
+ghost use Rattle.abc_machine.specs.Texts.{CanTell, KeepsTexts, told_text};
+ghost use Rattle.abc_session.specs.Sessions.{AnswersIn, HasCalled, LeavesSink};
 
 use crate::exports::export;
 use crate::replies::SessionReply;
@@ -94,7 +94,7 @@ impl Session {
     /// Calls an exported method with numbers, on the heap that the start and the calls before left, at most `fuel` steps. It
     /// writes the output of the call's meaning, with the formulas of the host given here, and answers what comes of it, or
     /// `WriteFault` after a front of that output, only where the sink's count of faults rose. It answers `NotReady` exactly where
-    /// no start answered `Done`, and `Closed` exactly where a call before answered `WriteFault`; then it does nothing.
+    /// no start answered `Done`, and `Closed` exactly where a call before answered `WriteFault`; then it does nothing, and the sink is as it was.
     pub fn call<K: Sink, H: Host>(
         &mut self,
         method: u32,
@@ -107,7 +107,9 @@ impl Session {
         requires method { IsReady self.old → IsScriptMethod (setting self.old.linked (H.formulas host.now)) method }
         ensures answers { AnswersIn self.old self.new (call_of method args.now fuel (H.formulas host.now)) (K.written out.old) (K.written out.new) result }
         ensures cause { HasCalled (K.faults out.old) (K.faults out.new) result }
-        ensures text { (s : Span) → result ≡ SessionReply.Reply (Value (Text s)) → IsText self.new.linked.file.strings self.new.world.heap s }
+        ensures sink { LeavesSink out.old out.new result }
+        ensures text { (s : Span) → result ≡ SessionReply.Reply (Value (Text s)) → CanTell self.new s }
+        ensures texts { KeepsTexts self.old self.new }
     {
         if !is_done(&self.machine) {
             return SessionReply::NotReady;
@@ -118,10 +120,10 @@ impl Session {
         SessionReply::Reply(self.machine.invoke(method, args, fuel, out, host))
     }
 
-    /// The bytes of a text that a call gave.
+    /// The bytes of a text that a call gave. They can be told after every later call, also one that failed to write.
     pub fn text(&self, s: Span) -> &[u8]
-        requires { IsText self.now.linked.file.strings self.now.world.heap s }
-        ensures { result.now ≡ text_of self.now.linked.file.strings self.now.world.heap s }
+        requires { CanTell self.now s }
+        ensures { result.now ≡ told_text self.now s }
     {
         self.machine.text(s)
     }

@@ -5,6 +5,7 @@ use Rattle.abc_run_state.specs.Outer.{Outer}
 use Rattle.abc_machine.proofs.Asking.{ends, goes, goes_left}
 use Rattle.abc_machine.proofs.Called.{begins_reached, can_begin}
 use Rattle.abc_machine.proofs.Opening.{at_start}
+use Rattle.abc_machine.proofs.TextsKept.{begun_texts, texts_on}
 use Rattle.abc_machine.proofs.calling.call_for.Goals as goal
 
 pub begin_call-requires : goal.begin_call-requires
@@ -33,3 +34,13 @@ returns-in-Err-clause-replies g c =
 pub returns-in-Err-clause-leaves : goal.returns-in-Err-clause-leaves
 returns-in-Err-clause-leaves g c =
     (ends c.args.linked.now g.formulas c.args.s.now c.begin_call.new.s c.args.fuel c.args.method (arguments c.args.args.now) c.begin_call.result c.begin_call.ensures.step c.in-Err.ended (g.K.Sink.written c.args.sink.now) c.reply_for.result c.in-Err.is c.reply_for.ensures c.begin_call.ensures.sized).leaves
+
+pub returns-in-Ok-clause-texts : goal.returns-in-Ok-clause-texts
+returns-in-Ok-clause-texts g c =
+    let out : Outer = record { formulas = g.formulas; wrote = [] } in
+    let begun = begun_texts c.args.linked.now out c.args.method c.args.s.now c.begin_call.new.s (arguments c.args.args.now) c.begin_call.result c.requires.1.1.0 (each_number c.args.args.now) c.begin_call.ensures.step in
+    texts_on c.args.s.now.arena c.begin_call.new.s.arena c.take_steps.new.s.arena begun c.take_steps.ensures.texts
+
+pub returns-in-Err-clause-texts : goal.returns-in-Err-clause-texts
+returns-in-Err-clause-texts g c =
+    begun_texts c.args.linked.now (record { formulas = g.formulas; wrote = [] }) c.args.method c.args.s.now c.begin_call.new.s (arguments c.args.args.now) c.begin_call.result c.requires.1.1.0 (each_number c.args.args.now) c.begin_call.ensures.step

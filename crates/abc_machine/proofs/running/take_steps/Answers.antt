@@ -4,7 +4,7 @@ use Rattle.abc_machine.specs.Spent.{as_reply}
 use Rattle.abc_machine.specs.declared.replies.Reply.TheVariants.{FuelSpent}
 use Rattle.abc_machine.proofs.Counting.{counted_to}
 use Rattle.abc_machine.proofs.LoggedRuns.{ended_so, failed_step}
-use Rattle.abc_machine.proofs.Spending.{ended_on, went_on}
+use Rattle.abc_machine.proofs.Spending.{ended_on, ended_with_texts, went_on}
 use Rattle.abc_machine.proofs.running.take_steps.Goals as goal
 
 pub spend-requires : goal.spend-requires
@@ -63,6 +63,9 @@ returns-in-Err-clause-steps g c = λ f.
     let taken = c.spend.ensures.taken in
     counted_to c.args.linked.now g.begun c.loop-rest.s c.spend.new.s (g.K.Sink.written c.args.sink.now) (g.K.Sink.written c.loop-rest.sink) (g.K.Sink.written c.spend.new.sink) (g.K.Sink.written c.loop-rest.sink) c.args.fuel.now c.loop-rest.rest c.spend.new.fuel (as_reply c.spend.new.halted) c.reply_for.result c.requires.1.1.1.1 c.loop-rest.invariant.at (ap as_reply c.in-Err.is ∙ ap ended_so (sym c.reply_for.ensures)) (omega (arith, taken)) c.spend.ensures.spends f
 
+pub returns-in-Err-clause-texts : goal.returns-in-Err-clause-texts
+returns-in-Err-clause-texts g c = ended_with_texts c.args.linked.now g.begun c.loop-rest.s c.spend.new.s (g.K.Sink.written c.args.sink.now) (g.K.Sink.written c.loop-rest.sink) (g.K.Sink.written c.spend.new.sink) c.loop-rest.rest c.spend.new.fuel (as_reply c.spend.new.halted) c.reply_for.result c.loop-rest.invariant.at (ap as_reply c.in-Err.is ∙ ap ended_so (sym c.reply_for.ensures)) c.spend.ensures.spends
+
 -- no fuel is left
 pub returns-clause-replies : goal.returns-clause-replies
 returns-clause-replies g c = (ended_on c.args.linked.now g.begun c.loop-rest.s c.loop-rest.s (g.K.Sink.written c.args.sink.now) (g.K.Sink.written c.loop-rest.sink) (g.K.Sink.written c.loop-rest.sink) c.args.fuel.now c.loop-rest.rest c.loop-rest.rest (ended_so FuelSpent) FuelSpent c.requires.1.1.1.1 c.loop-rest.invariant.at refl (omega arith, record { state = refl; sink = refl })).answer
@@ -73,3 +76,6 @@ returns-clause-leaves g c = (ended_on c.args.linked.now g.begun c.loop-rest.s c.
 pub returns-clause-steps : goal.returns-clause-steps
 returns-clause-steps g c = λ f.
     counted_to c.args.linked.now g.begun c.loop-rest.s c.loop-rest.s (g.K.Sink.written c.args.sink.now) (g.K.Sink.written c.loop-rest.sink) (g.K.Sink.written c.loop-rest.sink) (g.K.Sink.written c.loop-rest.sink) c.args.fuel.now c.loop-rest.rest c.loop-rest.rest (ended_so FuelSpent) FuelSpent c.requires.1.1.1.1 c.loop-rest.invariant.at refl (omega arith) (omega arith, record { state = refl; sink = refl }) f
+
+pub returns-clause-texts : goal.returns-clause-texts
+returns-clause-texts g c = c.loop-rest.invariant.at.texts

@@ -56,4 +56,4 @@ returns-in-Err-Fails-clause-step g c =
     let before = g.K.Sink.written c.args.sink.now in
     let now = g.K.Sink.written c.trace.new.sink in
     let told = subst (λ (x : Unwritten). TracesAs l g.out c.args.count c.args.how c.args.s.now (Err x) c.trace.new.s before now) c.in-Err-Fails.field-0-is c.in-Err-Fails.ensures.traces in
-    failed_in l g.out c.args.count c.args.how c.args.s.now before now told
+    failed_in l g.out c.args.count c.args.how c.args.s.now c.trace.new.s before now told

@@ -1,0 +1,4 @@
+pub mod Crossing
+pub mod Answered
+pub mod Outcome
+pub mod Opening

@@ -1,0 +1,29 @@
+-- How code opens a file, and why it doesn't.
+use Rattle.std.specs.Prelude.{◌≡◌, ℕ, List}
+use Rattle.abc_link_names.specs.Linked.{LinkedFile}
+use Rattle.abc_verify.specs.FileRefusing.{IsRefused}
+use Rattle.abc_verify.specs.Verified.{IsReadVerified}
+use Rattle.abc_verify.specs.declared.verified_error.VerifiedError.{VerifiedError}
+use Rattle.abc_verify.specs.declared.verified_error.VerifiedError.TheVariants as errors
+use Rattle.abc_c.specs.Outcome.{IsTooSmall}
+use Rattle.abc_c.specs.declared.crossing.Bounds.{Bounds}
+use Rattle.abc_c.specs.declared.opening.Unopened.{Unopened}
+use Rattle.abc_c.specs.declared.opening.Unopened.TheVariants as unopened
+
+-- some bytes are a verified file
+pub record IsReadIn (file : List ℕ) (l : LinkedFile) : Type 0 where
+  pub starts : List (List ℕ)
+  pub verified : IsReadVerified l starts file
+
+-- they aren't, by the defined refusal, or there is no memory; bytes in memory can always be read
+abbrev pub IsUnread : List ℕ → VerifiedError → Type 0
+IsUnread file errors.NoMemory = Unit {0}
+IsUnread file errors.ReadFault = ⊥
+IsUnread file (errors.Refused place reason) = IsRefused file (errors.Refused place reason)
+IsUnread file (errors.Link rule i) = IsRefused file (errors.Link rule i)
+IsUnread file (errors.Verify m offset rule) = IsRefused file (errors.Verify m offset rule)
+
+abbrev pub IsUnopened : List ℕ → Bounds → Unopened → Type 0
+IsUnopened file bounds (unopened.Refused e) = IsRefused file e
+IsUnopened file bounds unopened.TooSmall = IsTooSmall file bounds
+IsUnopened file bounds unopened.NoMemory = Unit {0}
