@@ -21,7 +21,7 @@ returns-clause-logs g c =
     let before = g.K.Sink.written c.args.log.now in
     let after = g.K.Sink.written c.end-back.result.0.now in
     let at : bytes_in (start_of line) ≡ before = ap bytes_in c.new-line.ensures.start ∙ bytes_noted (c.args.log.ghost_name ∷ []) (g.K.Sink.faults c.args.log.now) before in
-    let done = logs_if (left_here l g.out s c.args.left) g.out (world s g.out) refl c.finish-done.new.s (start_of line) (start_of now) (bytes_of line) (bytes_of now) c.new-line.ensures.bytes before after at c.end-back.result.1 c.finish-done.result c.finish-done.ensures.step c.end-back.ensures.line (λ e. c.end-back.ensures.front (no_rose _ _ (c.finish-done.ensures.cause e))) in
+    let done = logs_if (left_here l g.out s c.args.left) g.out (world s g.out) refl c.finish-done.new.s (start_of line) (start_of now) (bytes_of line) (bytes_of now) c.new-line.ensures.bytes before after at c.end-back.result.1 c.finish-done.result c.finish-done.ensures.step c.end-back.ensures.line (λ e. c.end-back.ensures.front (no_rose _ _ (c.finish-done.ensures.leaves.cause e))) in
     subst (λ (r : Result Unit Halt). LogsLeft l g.out s c.args.left r c.finish-done.new.s before after) (sym c.if_written.ensures) done
 
 pub returns-clause-value : goal.returns-clause-value
