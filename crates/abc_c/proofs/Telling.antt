@@ -1,7 +1,7 @@
 -- What is told of a text, and what a call came to.
 use Rattle.std.proofs.Common.{◌≡◌, ℕ, ℤ, List, ◌++◌, length, take, refl, sym, ap, ◌∙◌, subst, arith}
 use Rattle.std.proofs.lemmas.List.{take_all}
-use Rattle.std.specs.Prelude.{MatchResult, None, Some, Ok, Err}
+use Rattle.std.specs.Prelude.{Bool, true, false, MatchResult, None, Some, Ok, Err}
 use Rattle.std.specs.Io.KnownBytes.{append_known}
 use Rattle.std.specs.declared.option.Option.{Option}
 use Rattle.std.specs.declared.result.Result.{Result}
@@ -44,6 +44,10 @@ some_front (Ok x) before now piece e = record { count = length piece; front = e 
 some_front (Err x) before now piece front = front
 
 -- ---- a call
+
+-- a test has one answer
+pub not_both : (r : Bool) → r ≡ true → r ≡ false → ⊥
+not_both r yes no = let two : true ≡ false = sym yes ∙ no in cc
 
 pub done_as : (old new : Opened) (method : ℕ) (c : Call) (args : List ℤ) (before mid now : List ℕ) (reply : SessionReply) (a : Answer) → args ≡ numbers_of c
     → AnswersIn old new (record { method = method; args = args; fuel = c.fuel; formulas = builtin_formulas }) (Some before) (Some mid) reply → Tells new reply mid now a → IsDone old new method c before now a

@@ -9,4 +9,4 @@ pub returns-in-Ok : goal.returns-in-Ok
 returns-in-Ok g c = begun_of g.file c.args.bounds.now c.args.verified c.limits.result c.in-Ok.session c.limits.ensures c.requires c.in-Ok.ensures
 
 pub returns-in-Err-TooSmall : goal.returns-in-Err-TooSmall
-returns-in-Err-TooSmall g c = small_of g.file c.args.bounds.now c.args.verified c.limits.result _ c.limits.ensures c.requires ?
+returns-in-Err-TooSmall g c = small_of g.file c.args.bounds.now c.args.verified c.limits.result _ c.limits.ensures c.requires (rw c.in-Err-TooSmall.field-0-is at c.in-Err-TooSmall.ensures)
