@@ -16,14 +16,18 @@ limits_of b = record { objects = b.objects; cells = b.cells; text = b.text; fram
 
 -- ---- a call
 
--- its name stands among the names, and it is given at most four numbers that code computes with
-pub record CanBeMade (names : List ℕ) (c : Call) : Type 0 where
-  pub within : c.name_start + c.name_length ≤ length names
-  pub few : c.count ≤ 4
+-- code computes with each of its four numbers
+pub record HasNumbers (c : Call) : Type 0 where
   pub first : IsNumber c.a
   pub second : IsNumber c.b
   pub third : IsNumber c.c
   pub fourth : IsNumber c.d
+
+-- its name stands among the names, and it is given at most four of such numbers
+pub record CanBeMade (names : List ℕ) (c : Call) : Type 0 where
+  pub within : c.name_start + c.name_length ≤ length names
+  pub few : c.count ≤ 4
+  pub numbers : HasNumbers c
 
 abbrev pub name_of : List ℕ → Call → List ℕ
 name_of names c = take c.name_length (drop c.name_start names)

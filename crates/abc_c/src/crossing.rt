@@ -3,7 +3,7 @@ ghost use Rattle.std.specs.Prelude.{◌≡◌, ◌↔◌, IsTrue};
 ghost use Rattle.abc_base.specs.Hosts.{arguments};
 ghost use Rattle.abc_base.specs.Names.{status_code};
 ghost use Rattle.abc_base.specs.Ranges.{IsNumber};
-ghost use Rattle.abc_c.specs.Crossing.{CanBeMade, kind_code, limits_of, name_of, numbers_of, of_value, text_at, without as none_of};
+ghost use Rattle.abc_c.specs.Crossing.{CanBeMade, HasNumbers, kind_code, limits_of, name_of, numbers_of, of_value, text_at, without as none_of};
 
 use abc_base::{Plain, Status};
 use abc_heap_store::Limits;
@@ -57,17 +57,28 @@ fn is_number(z: i64) -> bool
     -2147483648 <= z && z <= 4294967295
 }
 
+/// Whether two numbers are.
+fn are_numbers(x: i64, y: i64) -> bool
+    ensures { IsTrue result ↔ (IsNumber x × IsNumber y) }
+{
+    is_number(x) && is_number(y)
+}
+
 impl Call {
+    /// Whether code computes with each of its four numbers.
+    fn has_numbers(&self) -> bool
+        ensures { IsTrue result ↔ HasNumbers self.now }
+    {
+        are_numbers(self.a, self.b) && are_numbers(self.c, self.d)
+    }
+
     /// Whether its name stands among the names, there are at most four numbers, and each is one that code computes with.
     pub fn can_be_made(&self, names: &[u8]) -> bool
         ensures { IsTrue result ↔ CanBeMade names.now self.now }
     {
         self.name_start as usize + self.name_length as usize <= names.len()
             && self.count <= 4
-            && is_number(self.a)
-            && is_number(self.b)
-            && is_number(self.c)
-            && is_number(self.d)
+            && self.has_numbers()
     }
 
     /// The name of the function.

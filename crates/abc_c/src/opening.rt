@@ -29,7 +29,7 @@ fn read_in(alloc: Global, bytes: &[u8]) -> Result<Verified, VerifiedError>
 {
     match SteadySource::new(alloc, bytes, PIECE) {
         Ok(mut source) => match read_verified(alloc, &mut source) {
-            Ok((verified, _)) => Ok(verified),
+            Ok((verified, _places)) => Ok(verified),
             Err(e) => Err(e),
         },
         Err(_) => Err(VerifiedError::NoMemory),

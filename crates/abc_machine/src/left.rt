@@ -1,11 +1,10 @@
-ghost use Rattle.std.specs.Prelude.{◌≡◌, ◌≢◌, ◌<◌, ◌≤◌, Err, Ok, length};
-ghost use Rattle.abc_base.specs.Faults.{Rose};
+ghost use Rattle.std.specs.Prelude.{◌≡◌, ◌<◌, Err, Ok, length};
 ghost use Rattle.abc_run_calls.specs.Calls.{CanFinish};
 ghost use Rattle.abc_heap_values.specs.declared.values.Value.{Value};
-ghost use Rattle.abc_run_finish.specs.Ending.{IsSized};
 ghost use Rattle.abc_run_calls.specs.Arguments.{IsKnown};
+ghost use Rattle.abc_run_finish.specs.Steps.{LeavesStep};
 ghost use Rattle.abc_run_finish.specs.Fairly.{IsFairTurn};
-ghost use Rattle.abc_run_finish.specs.declared.halts.Halt.TheVariants.{Fails, Returns};
+ghost use Rattle.abc_run_finish.specs.declared.halts.Halt.TheVariants.{Returns};
 ghost use Rattle.abc_machine.specs.Logging.{LogsLeft, if_written as answer_if_written};
 ghost use Rattle.abc_run_state.specs.Outer.{Outer, setting, world};
 ghost use Rattle.abc_run_state.specs.Turns.{answered};
@@ -42,10 +41,7 @@ fn finish_lent<'a, K: Sink, H: Host>(
     requires fair { IsFairTurn (setting linked.now out) (answered (setting linked.now out) left (world s.old out) s.old.frames) }
     ensures logs { LogsLeft linked.now out s.old left result.1 s.new (K.written log.old) (K.written result.0.now) }
     ensures value { (v : Value) → result.1 ≡ Err (Returns v) → left ≡ Ok (Left.Returns v) }
-    ensures sized { result.1 ≢ Err Fails → IsSized (setting linked.now out) s.new.arena.limits s.new.frames }
-    ensures later { K.faults log.old ≤ K.faults result.0.now }
-    ensures cause { result.1 ≡ Err Fails → Rose (K.faults log.old) (K.faults result.0.now) }
-    ensures limit { s.new.given.limit ≡ s.old.given.limit }
+    ensures leaves { LeavesStep (setting linked.now out) result.1 s.old s.new (K.faults log.old) (K.faults result.0.now) }
     ensures same { result.0.ghost_name ≡ log.entry.ghost_name }
 {
     let mut line = OutLine::new(log);
@@ -71,10 +67,7 @@ pub(crate) fn finish_logged<K: Sink, H: Host>(
     requires fair { IsFairTurn (setting linked.now out) (answered (setting linked.now out) left (world s.old out) s.old.frames) }
     ensures logs { LogsLeft linked.now out s.old left result s.new (K.written log.old) (K.written log.new) }
     ensures value { (v : Value) → result ≡ Err (Returns v) → left ≡ Ok (Left.Returns v) }
-    ensures sized { result ≢ Err Fails → IsSized (setting linked.now out) s.new.arena.limits s.new.frames }
-    ensures later { K.faults log.old ≤ K.faults log.new }
-    ensures cause { result ≡ Err Fails → Rose (K.faults log.old) (K.faults log.new) }
-    ensures limit { s.new.given.limit ≡ s.old.given.limit }
+    ensures leaves { LeavesStep (setting linked.now out) result s.old s.new (K.faults log.old) (K.faults log.new) }
 {
     let lent = finish_lent(linked, s, log, host, left);
     lent.1

@@ -1,10 +1,9 @@
-ghost use Rattle.std.specs.Prelude.{◌≡◌, ◌≢◌, ◌<◌, ◌≤◌, ◌-◌, ◌^◌, [], Err, length};
-ghost use Rattle.abc_base.specs.Faults.{HasCause, Rose};
+ghost use Rattle.std.specs.Prelude.{◌≡◌, ◌≢◌, ◌<◌, ◌-◌, ◌^◌, [], Err, length};
+ghost use Rattle.abc_base.specs.Faults.{HasCause};
 ghost use Rattle.abc_base.specs.Sinks.{WritesAll};
 ghost use Rattle.abc_meaning.specs.Calls.{returned};
 ghost use Rattle.abc_heap_values.specs.declared.values.Value.{Value};
-ghost use Rattle.abc_run_finish.specs.Ending.{IsSized};
-ghost use Rattle.abc_run_finish.specs.Steps.{IsReached};
+ghost use Rattle.abc_run_finish.specs.Steps.{IsReached, LeavesStep};
 ghost use Rattle.abc_run_finish.specs.declared.halts.Halt.TheVariants.{Fails, Returns};
 ghost use Rattle.abc_machine.specs.Logging.{LogsAs, line_at};
 ghost use Rattle.abc_meaning.specs.Throwing.{last_script};
@@ -58,10 +57,7 @@ fn start_logged<K: Sink>(
     ensures logs { LogsAs linked.now out s.old result s.new (K.written log.old) (K.written log.new) }
     ensures none { (v : Value) → result ≢ Err (Returns v) }
     ensures seen { result ≢ Err Fails → seen.new ≡ s.new.started }
-    ensures sized { result ≢ Err Fails → IsSized (setting linked.now out) s.new.arena.limits s.new.frames }
-    ensures later { K.faults log.old ≤ K.faults log.new }
-    ensures cause { result ≡ Err Fails → Rose (K.faults log.old) (K.faults log.new) }
-    ensures limit { s.new.given.limit ≡ s.old.given.limit }
+    ensures leaves { LeavesStep (setting linked.now out) result s.old s.new (K.faults log.old) (K.faults log.new) }
 {
     let done = start_last(linked, s);
     let _script = seen.note(&s.started);
@@ -85,10 +81,7 @@ fn run_logged<K: Sink, H: Host>(
     ensures logs { LogsAs linked.now out s.old result s.new (K.written log.old) (K.written log.new) }
     ensures value { (v : Value) → result ≡ Err (Returns v) → returned (setting linked.now out) (world s.old out) s.old.frames.living ≡ v }
     ensures seen { result ≢ Err Fails → seen.new ≡ s.new.started }
-    ensures sized { result ≢ Err Fails → IsSized (setting linked.now out) s.new.arena.limits s.new.frames }
-    ensures later { K.faults log.old ≤ K.faults log.new }
-    ensures cause { result ≡ Err Fails → Rose (K.faults log.old) (K.faults log.new) }
-    ensures limit { s.new.given.limit ≡ s.old.given.limit }
+    ensures leaves { LeavesStep (setting linked.now out) result s.old s.new (K.faults log.old) (K.faults log.new) }
 {
     let method = s.frames.method();
     let place = s.frames.place();
@@ -119,10 +112,7 @@ pub fn step_logged<K: Sink, H: Host>(
     ensures logs { LogsAs linked.now out s.old result s.new (K.written log.old) (K.written log.new) }
     ensures value { (v : Value) → result ≡ Err (Returns v) → returned (setting linked.now out) (world s.old out) s.old.frames.living ≡ v }
     ensures seen { result ≢ Err Fails → seen.new ≡ s.new.started }
-    ensures sized { result ≢ Err Fails → IsSized (setting linked.now out) s.new.arena.limits s.new.frames }
-    ensures later { K.faults log.old ≤ K.faults log.new }
-    ensures cause { result ≡ Err Fails → Rose (K.faults log.old) (K.faults log.new) }
-    ensures limit { s.new.given.limit ≡ s.old.given.limit }
+    ensures leaves { LeavesStep (setting linked.now out) result s.old s.new (K.faults log.old) (K.faults log.new) }
 {
     if s.frames.depth() == 0 {
         return start_logged(linked, s, seen, log);

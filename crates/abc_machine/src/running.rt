@@ -1,5 +1,4 @@
 ghost use Rattle.std.specs.Prelude.{◌≡◌, ◌≢◌, ◌+◌, ◌<◌, ◌≤◌, true, Ok};
-ghost use Rattle.abc_base.specs.Faults.{Rose};
 ghost use Rattle.abc_meaning.specs.Calls.{replies_for};
 ghost use Rattle.abc_run_dispatch.specs.Held.{IsHeld};
 ghost use Rattle.abc_meaning.specs.Logs.{steps_for};
@@ -12,8 +11,7 @@ ghost use Rattle.abc_machine.specs.declared.ends.End.TheVariants.{WriteFault as 
 ghost use Rattle.abc_machine.specs.declared.replies.Reply.TheVariants.{WriteFault};
 ghost use Rattle.abc_meaning.specs.Meaning.{ran, runs_for};
 ghost use Rattle.abc_meaning.specs.Openings.{setting};
-ghost use Rattle.abc_run_finish.specs.declared.halts.Halt.TheVariants.{Fails};
-ghost use Rattle.abc_run_finish.specs.Steps.{IsReached};
+ghost use Rattle.abc_run_finish.specs.Steps.{IsReached, LeavesStep};
 ghost use Rattle.abc_run_state.specs.Outer.{Outer};
 ghost use Rattle.abc_run_state.specs.declared.state.Left.TheVariants.{Goes};
 
@@ -107,13 +105,11 @@ fn spend<'a, K: Sink, H: Host>(
     requires none { left.old ≡ Ok Goes }
     requires going { halted.old ≡ Ok tt }
     ensures spends { SpendsAs linked.now out s.old fuel.old (as_reply halted.new) s.new fuel.new (K.written sink.old) (K.written sink.new) }
-    ensures later { K.faults sink.old ≤ K.faults sink.new }
-    ensures cause { halted.new ≡ Err Fails → Rose (K.faults sink.old) (K.faults sink.new) }
+    ensures leaves { LeavesStep (setting linked.now out.formulas) halted.new s.old s.new (K.faults sink.old) (K.faults sink.new) }
     ensures taken { fuel.new + 1 ≡ fuel.old }
     ensures held { IsHeld linked.now held.new }
     ensures none { left.new ≡ Ok Goes }
     ensures goes { result ≡ true → halted.new ≡ Ok tt }
-    ensures limit { s.new.given.limit ≡ s.old.given.limit }
 {
     *fuel -= 1;
     step_on(linked, s, sink, host, held, left, halted)

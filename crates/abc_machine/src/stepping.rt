@@ -1,6 +1,5 @@
-ghost use Rattle.std.specs.Prelude.{◌≡◌, ◌≢◌, ◌<◌, ◌≤◌, ℕ, List, length, true, Err, Ok, MatchOption};
+ghost use Rattle.std.specs.Prelude.{◌≡◌, ◌≢◌, ◌<◌, ℕ, List, length, true, Err, Ok, MatchOption};
 ghost use Rattle.std.specs.declared.option.Option.{Option};
-ghost use Rattle.abc_base.specs.Faults.{Rose};
 ghost use Rattle.abc_meaning.specs.Calls.{returned};
 ghost use Rattle.abc_heap_values.specs.declared.values.Value.{Value};
 ghost use Rattle.abc_run_calls.specs.Calls.{CanFinish};
@@ -8,7 +7,7 @@ ghost use Rattle.abc_run_dispatch.specs.Held.{IsHeld};
 ghost use Rattle.abc_run_finish.specs.Ending.{IsSized};
 ghost use Rattle.abc_run_calls.specs.Arguments.{IsKnown};
 ghost use Rattle.abc_run_finish.specs.Fairly.{CanStart, IsFairTurn};
-ghost use Rattle.abc_run_finish.specs.Steps.{IsReached, StepsAs, StepsIn, left_here};
+ghost use Rattle.abc_run_finish.specs.Steps.{IsReached, LeavesStep, StepsAs, StepsIn, left_here};
 ghost use Rattle.abc_run_finish.specs.declared.halts.Halt.TheVariants.{Fails, Returns};
 ghost use Rattle.abc_run_state.specs.Outer.{Outer, setting, world};
 ghost use Rattle.abc_run_state.specs.Turns.{answered};
@@ -95,12 +94,9 @@ fn finish_returned<K: Sink, H: Host>(
     requires going { halted.old ≡ Ok tt }
     ensures step { StepsIn (left_here linked.now out s.old left.old) out halted.new s.new (K.written sink.old) (K.written sink.new) }
     ensures value { (v : Value) → halted.new ≡ Err (Returns v) → left.old ≡ Ok (Left.Returns v) }
-    ensures sized { halted.new ≢ Err Fails → IsSized (setting linked.now out) s.new.arena.limits s.new.frames }
-    ensures later { K.faults sink.old ≤ K.faults sink.new }
-    ensures cause { halted.new ≡ Err Fails → Rose (K.faults sink.old) (K.faults sink.new) }
+    ensures leaves { LeavesStep (setting linked.now out) halted.new s.old s.new (K.faults sink.old) (K.faults sink.new) }
     ensures none { left.new ≡ Ok Goes }
     ensures goes { result ≡ true → halted.new ≡ Ok tt }
-    ensures limit { s.new.given.limit ≡ s.old.given.limit }
 {
     *left = Ok(Left::Goes);
     let done = finish(linked, s, sink, host, Ok(Left::Returns(v)));
@@ -125,12 +121,9 @@ fn finish_any<K: Sink, H: Host>(
     requires fair { IsFairTurn (setting linked.now out) (answered (setting linked.now out) left.old (world s.old out) s.old.frames) }
     ensures step { StepsIn (left_here linked.now out s.old left.old) out halted.new s.new (K.written sink.old) (K.written sink.new) }
     ensures value { (v : Value) → halted.new ≡ Err (Returns v) → left.old ≡ Ok (Left.Returns v) }
-    ensures sized { halted.new ≢ Err Fails → IsSized (setting linked.now out) s.new.arena.limits s.new.frames }
-    ensures later { K.faults sink.old ≤ K.faults sink.new }
-    ensures cause { halted.new ≡ Err Fails → Rose (K.faults sink.old) (K.faults sink.new) }
+    ensures leaves { LeavesStep (setting linked.now out) halted.new s.old s.new (K.faults sink.old) (K.faults sink.new) }
     ensures none { left.new ≡ Ok Goes }
     ensures goes { result ≡ true → halted.new ≡ Ok tt }
-    ensures limit { s.new.given.limit ≡ s.old.given.limit }
 {
     let what = *left;
     *left = Ok(Left::Goes);
@@ -158,12 +151,9 @@ fn finish_left<K: Sink, H: Host>(
     requires going { halted.old ≡ Ok tt }
     ensures step { StepsIn (left_here linked.now out s.old left.old) out halted.new s.new (K.written sink.old) (K.written sink.new) }
     ensures value { (v : Value) → halted.new ≡ Err (Returns v) → left.old ≡ Ok (Left.Returns v) }
-    ensures sized { halted.new ≢ Err Fails → IsSized (setting linked.now out) s.new.arena.limits s.new.frames }
-    ensures later { K.faults sink.old ≤ K.faults sink.new }
-    ensures cause { halted.new ≡ Err Fails → Rose (K.faults sink.old) (K.faults sink.new) }
+    ensures leaves { LeavesStep (setting linked.now out) halted.new s.old s.new (K.faults sink.old) (K.faults sink.new) }
     ensures none { left.new ≡ Ok Goes }
     ensures goes { result ≡ true → halted.new ≡ Ok tt }
-    ensures limit { s.new.given.limit ≡ s.old.given.limit }
 {
     match number_left(left) {
         Some(v) => finish_returned(linked, s, sink, host, v, left, halted),
@@ -194,13 +184,10 @@ pub fn step_on<'a, K: Sink, H: Host>(
     requires going { halted.old ≡ Ok tt }
     ensures step { StepsAs linked.now out s.old halted.new s.new (K.written sink.old) (K.written sink.new) }
     ensures value { (v : Value) → halted.new ≡ Err (Returns v) → returned (setting linked.now out) (world s.old out) s.old.frames.living ≡ v }
-    ensures sized { halted.new ≢ Err Fails → IsSized (setting linked.now out) s.new.arena.limits s.new.frames }
-    ensures later { K.faults sink.old ≤ K.faults sink.new }
-    ensures cause { halted.new ≡ Err Fails → Rose (K.faults sink.old) (K.faults sink.new) }
+    ensures leaves { LeavesStep (setting linked.now out) halted.new s.old s.new (K.faults sink.old) (K.faults sink.new) }
     ensures held { IsHeld linked.now held.new }
     ensures none { left.new ≡ Ok Goes }
     ensures goes { result ≡ true → halted.new ≡ Ok tt }
-    ensures limit { s.new.given.limit ≡ s.old.given.limit }
 {
     if s.frames.depth() == 0 {
         return start_over(linked, s, halted);
@@ -224,10 +211,7 @@ pub fn step<K: Sink, H: Host>(
     requires host { out.formulas ≡ H.formulas host.now }
     ensures step { StepsAs linked.now out s.old result s.new (K.written sink.old) (K.written sink.new) }
     ensures value { (v : Value) → result ≡ Err (Returns v) → returned (setting linked.now out) (world s.old out) s.old.frames.living ≡ v }
-    ensures sized { result ≢ Err Fails → IsSized (setting linked.now out) s.new.arena.limits s.new.frames }
-    ensures later { K.faults sink.old ≤ K.faults sink.new }
-    ensures cause { result ≡ Err Fails → Rose (K.faults sink.old) (K.faults sink.new) }
-    ensures limit { s.new.given.limit ≡ s.old.given.limit }
+    ensures leaves { LeavesStep (setting linked.now out) result s.old s.new (K.faults sink.old) (K.faults sink.new) }
 {
     let mut held = hold(linked, 0);
     let mut left = Ok(Left::Goes);

@@ -1,8 +1,9 @@
 -- From what a step makes of the frames to the states of the meaning.
-use Rattle.std.specs.Prelude.{◌≡◌, ℕ, List, ◌++◌, IsSome, Ok, Err}
+use Rattle.std.specs.Prelude.{◌≡◌, ◌≢◌, ℕ, ◌≤◌, List, ◌++◌, IsSome, Ok, Err}
 use Rattle.std.specs.Io.KnownBytes.{append_known}
 use Rattle.std.specs.declared.option.Option.{Option}
 use Rattle.std.specs.declared.result.Result.{Result}
+use Rattle.abc_base.specs.Faults.{Rose}
 use Rattle.abc_base.specs.Sinks.{GrowsByFront}
 use Rattle.abc_run_finish.specs.Ending.{IsSized, end_of}
 use Rattle.abc_run_finish.specs.declared.ended.Ended.{Ended}
@@ -84,6 +85,14 @@ FailsAs l out old new before now = FailsIn (step_here l out old) out new before 
 
 abbrev pub StepsAs : LinkedFile → Outer → (old : State) → Result Unit Halt → (new : State) → (before now : Option (List ℕ)) → Type 0
 StepsAs l out old r new before now = StepsIn (step_here l out old) out r new before now
+
+-- what else a step leaves: frames that may keep what their routines say, where the sink didn't fail; a count of faults that never falls, and
+-- that rose where it failed; and the room for first locals
+pub record LeavesStep (p : Setting) (r : Result Unit Halt) (old new : State) (before now : ℕ) : Type 0 where
+  pub sized : r ≢ Err halts.Fails → IsSized p new.arena.limits new.frames
+  pub later : before ≤ now
+  pub cause : r ≡ Err halts.Fails → Rose before now
+  pub limit : new.given.limit ≡ old.given.limit
 
 -- what an instruction left to be done, in the words of the meaning
 abbrev pub left_here : LinkedFile → Outer → State → Result Left Stop → Stepped

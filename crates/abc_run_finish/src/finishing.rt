@@ -1,5 +1,4 @@
-ghost use Rattle.std.specs.Prelude.{◌≡◌, ◌≢◌, ◌<◌, ◌≤◌, Err, Ok, length};
-ghost use Rattle.abc_base.specs.Faults.{Rose};
+ghost use Rattle.std.specs.Prelude.{◌≡◌, ◌≢◌, ◌<◌, Err, Ok, length};
 ghost use Rattle.abc_run_calls.specs.Calls.{CanFinish, Finishes};
 ghost use Rattle.abc_heap_values.specs.declared.values.Value.{Value};
 ghost use Rattle.abc_run_finish.specs.Ending.{IsSized, stepped_by};
@@ -7,8 +6,8 @@ ghost use Rattle.abc_run_calls.specs.Arguments.{IsKnown};
 ghost use Rattle.abc_run_state.specs.Outer.{Outer, setting, world};
 ghost use Rattle.abc_run_state.specs.Turns.{answered, asked, traced};
 ghost use Rattle.abc_run_finish.specs.Fairly.{IsFairTurn};
-ghost use Rattle.abc_run_finish.specs.Steps.{StepsIn, left_here, stepped};
-ghost use Rattle.abc_run_finish.specs.declared.halts.Halt.TheVariants.{Fails, Returns};
+ghost use Rattle.abc_run_finish.specs.Steps.{LeavesStep, StepsIn, left_here, stepped};
+ghost use Rattle.abc_run_finish.specs.declared.halts.Halt.TheVariants.{Returns};
 
 use crate::asking::ask;
 use crate::ended::Ended;
@@ -35,10 +34,7 @@ fn write<K: Sink>(
     requires fair { IsFairTurn (setting linked.now out) (traced (setting linked.now out) count how (world s.old out) s.old.frames) }
     ensures step { StepsIn (stepped (setting linked.now out) (traced (setting linked.now out) count how (world s.old out) s.old.frames)) out result s.new (K.written sink.old) (K.written sink.new) }
     ensures none { (v : Value) → result ≢ Err (Returns v) }
-    ensures sized { result ≢ Err Fails → IsSized (setting linked.now out) s.new.arena.limits s.new.frames }
-    ensures later { K.faults sink.old ≤ K.faults sink.new }
-    ensures cause { result ≡ Err Fails → Rose (K.faults sink.old) (K.faults sink.new) }
-    ensures limit { s.new.given.limit ≡ s.old.given.limit }
+    ensures leaves { LeavesStep (setting linked.now out) result s.old s.new (K.faults sink.old) (K.faults sink.new) }
 {
     match trace(linked, s, sink, count, how) {
         Ok(()) => Ok(()),
@@ -90,10 +86,7 @@ pub fn finish<K: Sink, H: Host>(
     requires fair { IsFairTurn (setting linked.now out) (answered (setting linked.now out) left (world s.old out) s.old.frames) }
     ensures step { StepsIn (left_here linked.now out s.old left) out result s.new (K.written sink.old) (K.written sink.new) }
     ensures value { (v : Value) → result ≡ Err (Returns v) → left ≡ Ok (Left.Returns v) }
-    ensures sized { result ≢ Err Fails → IsSized (setting linked.now out) s.new.arena.limits s.new.frames }
-    ensures later { K.faults sink.old ≤ K.faults sink.new }
-    ensures cause { result ≡ Err Fails → Rose (K.faults sink.old) (K.faults sink.new) }
-    ensures limit { s.new.given.limit ≡ s.old.given.limit }
+    ensures leaves { LeavesStep (setting linked.now out) result s.old s.new (K.faults sink.old) (K.faults sink.new) }
 {
     match left {
         Ok(Left::Goes) => Ok(()),

@@ -21,30 +21,28 @@ returns-clause-logs g c =
     let before = g.K.Sink.written c.args.log.now in
     let after = g.K.Sink.written c.end-back.result.0.now in
     let at : bytes_in (start_of line) ≡ before = ap bytes_in c.new-line.ensures.start ∙ bytes_noted (c.args.log.ghost_name ∷ []) (g.K.Sink.faults c.args.log.now) before in
-    let done = logs_if (left_here l g.out s c.args.left) g.out (world s g.out) refl c.finish-done.new.s (start_of line) (start_of now) (bytes_of line) (bytes_of now) c.new-line.ensures.bytes before after at c.end-back.result.1 c.finish-done.result c.finish-done.ensures.step c.end-back.ensures.line (λ e. c.end-back.ensures.front (no_rose _ _ (c.finish-done.ensures.cause e))) in
+    let done = logs_if (left_here l g.out s c.args.left) g.out (world s g.out) refl c.finish-done.new.s (start_of line) (start_of now) (bytes_of line) (bytes_of now) c.new-line.ensures.bytes before after at c.end-back.result.1 c.finish-done.result c.finish-done.ensures.step c.end-back.ensures.line (λ e. c.end-back.ensures.front (no_rose _ _ (c.finish-done.ensures.leaves.cause e))) in
     subst (λ (r : Result Unit Halt). LogsLeft l g.out s c.args.left r c.finish-done.new.s before after) (sym c.if_written.ensures) done
 
 pub returns-clause-value : goal.returns-clause-value
 returns-clause-value g c = λ v e. c.finish-done.ensures.value v (returns_in c.end-back.result.1 c.finish-done.result v (sym c.if_written.ensures ∙ e))
 
-pub returns-clause-sized : goal.returns-clause-sized
-returns-clause-sized g c = λ f. c.finish-done.ensures.sized (λ e. f (c.if_written.ensures ∙ fails_on c.end-back.result.1 c.finish-done.result e))
-
-pub returns-clause-later : goal.returns-clause-later
-returns-clause-later g c =
+pub returns-clause-leaves : goal.returns-clause-leaves
+returns-clause-leaves g c =
     let s = c.args.s.now in
     let line = c.new-line.result in
     let now = c.finish-done.new.sink in
+    let left = c.finish-done.ensures.leaves in
+    let had = g.K.Sink.faults c.args.log.now in
+    let has = g.K.Sink.faults c.end-back.result.0.now in
     let same = same_start (left_here c.args.linked.now g.out s c.args.left) g.out (world s g.out) refl c.finish-done.new.s (start_of line) (start_of now) (bytes_of line) (bytes_of now) c.new-line.ensures.bytes c.finish-done.result c.finish-done.ensures.step in
-    let at : number_in (start_of now) ≡ g.K.Sink.faults c.args.log.now = ap number_in (same ∙ c.new-line.ensures.start) ∙ number_noted (c.args.log.ghost_name ∷ []) (g.K.Sink.faults c.args.log.now) (g.K.Sink.written c.args.log.now) in
+    let at : number_in (start_of now) ≡ had = ap number_in (same ∙ c.new-line.ensures.start) ∙ number_noted (c.args.log.ghost_name ∷ []) had (g.K.Sink.written c.args.log.now) in
     let later = c.end-back.ensures.cause.later in
-    omega (arith, at, later)
-
-pub returns-clause-cause : goal.returns-clause-cause
-returns-clause-cause g c = λ e.
-    let s = c.args.s.now in
-    let line = c.new-line.result in
-    let now = c.finish-done.new.sink in
-    let same = same_start (left_here c.args.linked.now g.out s c.args.left) g.out (world s g.out) refl c.finish-done.new.s (start_of line) (start_of now) (bytes_of line) (bytes_of now) c.new-line.ensures.bytes c.finish-done.result c.finish-done.ensures.step in
-    let at : number_in (start_of now) ≡ g.K.Sink.faults c.args.log.now = ap number_in (same ∙ c.new-line.ensures.start) ∙ number_noted (c.args.log.ghost_name ∷ []) (g.K.Sink.faults c.args.log.now) (g.K.Sink.written c.args.log.now) in
-    subst (λ (k : ℕ). Rose k (g.K.Sink.faults c.end-back.result.0.now)) at (rose_if (number_in (start_of now)) (g.K.Sink.faults c.end-back.result.0.now) c.end-back.result.1 c.finish-done.result c.end-back.ensures.cause (λ q. (c.end-back.ensures.front (no_rose _ _ (c.finish-done.ensures.cause q))).0) (sym c.if_written.ensures ∙ e))
+    record {
+      sized = λ f. left.sized (λ e. f (c.if_written.ensures ∙ fails_on c.end-back.result.1 c.finish-done.result e));
+      later = omega (arith, at, later);
+      cause = λ e.
+          subst (λ (k : ℕ). Rose k has) at
+          (rose_if (number_in (start_of now)) has c.end-back.result.1 c.finish-done.result c.end-back.ensures.cause (λ q. (c.end-back.ensures.front (no_rose _ _ (left.cause q))).0) (sym c.if_written.ensures ∙ e));
+      limit = left.limit;
+    }

@@ -15,7 +15,7 @@ returns-then-fuel-eq0-clause-whole g c = λ f some. none_for c.args.linked.now g
 pub returns-in-Ok-clause-spends : goal.returns-in-Ok-clause-spends
 returns-in-Ok-clause-spends g c = λ f.
     let well : c.step_logged.result ≢ Err Fails = λ e. absurd (let other = sym c.in-Ok.is ∙ e in cc) in
-    went_as c.args.linked.now g.out c.args.s.now c.step_logged.new.s c.args.fuel.now c.step_logged.result c.in-Ok.field-0 None None c.requires.1.1.0 c.in-Ok.is c.if-fuel-eq0.false (c.step_logged.ensures.logs.step well) c.step_logged.ensures.sized c.step_logged.ensures.limit
+    went_as c.args.linked.now g.out c.args.s.now c.step_logged.new.s c.args.fuel.now c.step_logged.result c.in-Ok.field-0 None None c.requires.1.1.0 c.in-Ok.is c.if-fuel-eq0.false (c.step_logged.ensures.logs.step well) c.step_logged.ensures.leaves.sized c.step_logged.ensures.leaves.limit
 
 pub returns-in-Ok-clause-whole : goal.returns-in-Ok-clause-whole
 returns-in-Ok-clause-whole g c = λ f.
@@ -28,7 +28,7 @@ returns-in-Ok-clause-seen g c = λ f. c.step_logged.ensures.seen (λ e. absurd (
 -- one that ends
 pub returns-in-Err-clause-spends : goal.returns-in-Err-clause-spends
 returns-in-Err-clause-spends g c = λ f.
-    ended_as c.args.linked.now g.out c.args.s.now c.step_logged.new.s c.args.fuel.now c.step_logged.result c.in-Err.halt c.reply_for.result None None c.in-Err.is c.reply_for.ensures c.if-fuel-eq0.false (c.step_logged.ensures.logs.step (well_step c.step_logged.result c.in-Err.halt c.reply_for.result c.in-Err.is c.reply_for.ensures f)) c.step_logged.ensures.value c.step_logged.ensures.sized
+    ended_as c.args.linked.now g.out c.args.s.now c.step_logged.new.s c.args.fuel.now c.step_logged.result c.in-Err.halt c.reply_for.result None None c.in-Err.is c.reply_for.ensures c.if-fuel-eq0.false (c.step_logged.ensures.logs.step (well_step c.step_logged.result c.in-Err.halt c.reply_for.result c.in-Err.is c.reply_for.ensures f)) c.step_logged.ensures.value c.step_logged.ensures.leaves.sized
 
 pub returns-in-Err-clause-whole : goal.returns-in-Err-clause-whole
 returns-in-Err-clause-whole g c = λ f.
@@ -42,4 +42,4 @@ pub returns-in-Err-clause-seen : goal.returns-in-Err-clause-seen
 returns-in-Err-clause-seen g c = λ f. c.step_logged.ensures.seen (well_step c.step_logged.result c.in-Err.halt c.reply_for.result c.in-Err.is c.reply_for.ensures f)
 
 pub returns-in-Err-clause-cause : goal.returns-in-Err-clause-cause
-returns-in-Err-clause-cause g c = λ e. c.step_logged.ensures.cause (failed_step c.step_logged.result c.in-Err.halt c.reply_for.result c.in-Err.is c.reply_for.ensures e)
+returns-in-Err-clause-cause g c = λ e. c.step_logged.ensures.leaves.cause (failed_step c.step_logged.result c.in-Err.halt c.reply_for.result c.in-Err.is c.reply_for.ensures e)

@@ -1,4 +1,4 @@
-use Rattle.std.proofs.Common.{◌≡◌, ◌∙◌, List, refl, sym, ap, subst}
+use Rattle.std.proofs.Common.{◌≡◌, ◌∙◌, List, refl, sym, ap, subst, arith}
 use Rattle.std.specs.Prelude.{Bool, Err}
 use Rattle.abc_run_calls.specs.Arguments.{IsKnown}
 use Rattle.abc_machine.proofs.Sounding.{scripts_there}
@@ -42,8 +42,17 @@ returns-in-Ok-clause-value g c = λ v e. returned_left c.args.linked.now g.out c
 pub returns-in-Ok-clause-seen : goal.returns-in-Ok-clause-seen
 returns-in-Ok-clause-seen g c = λ f. c.note-script.ensures.seen ∙ seen_left c.args.linked.now g.out c.args.s.now c.requires.1.1.0 c.requires.1.1.1.0 c.run_newest.new.left c.run_newest.new.s c.run_newest.ensures.leaves c.finish_logged.result c.finish_logged.new.s (g.K.Sink.written c.write_line.new.log) (g.K.Sink.written c.finish_logged.new.log) c.finish_logged.ensures.logs f
 
-pub returns-in-Ok-clause-cause : goal.returns-in-Ok-clause-cause
-returns-in-Ok-clause-cause g c = λ e. rose_on (g.K.Sink.faults c.args.log.now) (g.K.Sink.faults c.write_line.new.log) (g.K.Sink.faults c.finish_logged.new.log) c.write_line.ensures.cause.later (c.finish_logged.ensures.cause e)
+pub returns-in-Ok-clause-leaves : goal.returns-in-Ok-clause-leaves
+returns-in-Ok-clause-leaves g c =
+    let left = c.finish_logged.ensures.leaves in
+    let wrote = c.write_line.ensures.cause.later in
+    let more = left.later in
+    record {
+      sized = left.sized;
+      later = omega (arith, wrote, more);
+      cause = λ e. rose_on (g.K.Sink.faults c.args.log.now) (g.K.Sink.faults c.write_line.new.log) (g.K.Sink.faults c.finish_logged.new.log) wrote (left.cause e);
+      limit = left.limit ∙ c.run_newest.ensures.limit;
+    }
 
 -- where the line can't be written
 pub returns-in-Err-clause-logs : goal.returns-in-Err-clause-logs

@@ -41,5 +41,10 @@ returns-clause-logs g c =
 pub returns-clause-none : goal.returns-clause-none
 returns-clause-none g c = λ v e. c.start_last-done.ensures.none v (returns_in c.write_start_line-written.result c.start_last-done.result v (sym c.if_written.ensures ∙ e))
 
-pub returns-clause-cause : goal.returns-clause-cause
-returns-clause-cause g c = λ e. rose_if (g.K.Sink.faults c.args.log.now) (g.K.Sink.faults c.write_start_line-written.new.log) c.write_start_line-written.result c.start_last-done.result c.write_start_line-written.ensures.cause (λ q. absurd (c.start_last-done.ensures.ends q)) (sym c.if_written.ensures ∙ e)
+pub returns-clause-leaves : goal.returns-clause-leaves
+returns-clause-leaves g c = record {
+  sized = λ h. c.start_last-done.ensures.sized;
+  later = c.write_start_line-written.ensures.cause.later;
+  cause = λ e. rose_if (g.K.Sink.faults c.args.log.now) (g.K.Sink.faults c.write_start_line-written.new.log) c.write_start_line-written.result c.start_last-done.result c.write_start_line-written.ensures.cause (λ q. absurd (c.start_last-done.ensures.ends q)) (sym c.if_written.ensures ∙ e);
+  limit = c.start_last-done.ensures.limit;
+}

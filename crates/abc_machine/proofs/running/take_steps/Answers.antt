@@ -13,14 +13,14 @@ spend-requires g c = λ κs among. (among.0, (among.1, (c.loop-rest.invariant.at
 pub loop-rest-preserved-then-spend : goal.loop-rest-preserved-then-spend
 loop-rest-preserved-then-spend g c =
     let sofar = c.loop-rest.invariant.later in
-    let later = c.spend.ensures.later in
+    let later = c.spend.ensures.leaves.later in
     let had = c.loop-rest.invariant.few in
     let taken = c.spend.ensures.taken in
     record {
       at = went_on c.args.linked.now g.begun c.loop-rest.s c.spend.new.s (g.K.Sink.written c.args.sink.now) (g.K.Sink.written c.loop-rest.sink) (g.K.Sink.written c.spend.new.sink) c.loop-rest.rest c.spend.new.fuel (as_reply c.spend.new.halted) tt c.loop-rest.invariant.at (ap as_reply (c.spend.ensures.goes c.if-spend.true)) c.spend.ensures.spends;
       later = omega (arith, sofar, later);
       few = omega (arith, had, taken);
-      limit = c.spend.ensures.limit ∙ c.loop-rest.invariant.limit;
+      limit = c.spend.ensures.leaves.limit ∙ c.loop-rest.invariant.limit;
       held = c.spend.ensures.held;
       none = c.spend.ensures.none;
       going = (c.spend.ensures.goes c.if-spend.true);
@@ -29,14 +29,14 @@ loop-rest-preserved-then-spend g c =
 pub loop-rest-preserved : goal.loop-rest-preserved
 loop-rest-preserved g c =
     let sofar = c.loop-rest.invariant.later in
-    let later = c.spend.ensures.later in
+    let later = c.spend.ensures.leaves.later in
     let had = c.loop-rest.invariant.few in
     let taken = c.spend.ensures.taken in
     record {
       at = went_on c.args.linked.now g.begun c.loop-rest.s c.spend.new.s (g.K.Sink.written c.args.sink.now) (g.K.Sink.written c.loop-rest.sink) (g.K.Sink.written c.spend.new.sink) c.loop-rest.rest c.spend.new.fuel (as_reply c.spend.new.halted) c.in_default.field-0 c.loop-rest.invariant.at (ap as_reply c.in_default.is) c.spend.ensures.spends;
       later = omega (arith, sofar, later);
       few = omega (arith, had, taken);
-      limit = c.spend.ensures.limit ∙ c.loop-rest.invariant.limit;
+      limit = c.spend.ensures.leaves.limit ∙ c.loop-rest.invariant.limit;
       held = c.spend.ensures.held;
       none = c.spend.ensures.none;
       going = c.in_default.is;
@@ -49,10 +49,10 @@ returns-in-Err-clause-replies g c = (ended_on c.args.linked.now g.begun c.loop-r
 pub returns-in-Err-clause-cause : goal.returns-in-Err-clause-cause
 returns-in-Err-clause-cause g c =
     let sofar = c.loop-rest.invariant.later in
-    let later = c.spend.ensures.later in
+    let later = c.spend.ensures.leaves.later in
     record {
       later = omega (arith, sofar, later);
-      failed = λ e. rose_on (g.K.Sink.faults c.args.sink.now) (g.K.Sink.faults c.loop-rest.sink) (g.K.Sink.faults c.spend.new.sink) sofar (c.spend.ensures.cause (failed_step c.spend.new.halted c.in-Err.halt c.reply_for.result c.in-Err.is c.reply_for.ensures (ap ended_so e)));
+      failed = λ e. rose_on (g.K.Sink.faults c.args.sink.now) (g.K.Sink.faults c.loop-rest.sink) (g.K.Sink.faults c.spend.new.sink) sofar (c.spend.ensures.leaves.cause (failed_step c.spend.new.halted c.in-Err.halt c.reply_for.result c.in-Err.is c.reply_for.ensures (ap ended_so e)));
     }
 
 pub returns-in-Err-clause-leaves : goal.returns-in-Err-clause-leaves

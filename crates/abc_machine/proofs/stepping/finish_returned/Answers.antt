@@ -36,8 +36,12 @@ returns-clause-step g c =
 pub returns-clause-value : goal.returns-clause-value
 returns-clause-value g c = λ v e. c.requires.1.1.1.1.1.1.1.0 ∙ c.finish-done.ensures.value v (sym c.goes_with.ensures.put ∙ e)
 
-pub returns-clause-sized : goal.returns-clause-sized
-returns-clause-sized g c = λ h. c.finish-done.ensures.sized (λ e. h (c.goes_with.ensures.put ∙ e))
-
-pub returns-clause-cause : goal.returns-clause-cause
-returns-clause-cause g c = λ e. c.finish-done.ensures.cause (sym c.goes_with.ensures.put ∙ e)
+pub returns-clause-leaves : goal.returns-clause-leaves
+returns-clause-leaves g c =
+    let left = c.finish-done.ensures.leaves in
+    record {
+      sized = λ h. left.sized (λ e. h (c.goes_with.ensures.put ∙ e));
+      later = left.later;
+      cause = λ e. left.cause (sym c.goes_with.ensures.put ∙ e);
+      limit = left.limit;
+    }

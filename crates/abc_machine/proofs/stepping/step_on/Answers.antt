@@ -51,11 +51,24 @@ returns-clause-value g c = λ v e.
     let live = some_left s.frames.living c.depth.result c.depth.ensures c.if-depth-eq0.false in
     returned_left c.args.linked.now g.out s c.requires.1.1.0 live c.run_held.new.left c.run_held.new.s c.run_held.ensures.dispatches.leaves v (c.finish_left.ensures.value v e)
 
+pub returns-clause-leaves : goal.returns-clause-leaves
+returns-clause-leaves g c =
+    let left = c.finish_left.ensures.leaves in
+    record { sized = left.sized; later = left.later; cause = left.cause; limit = left.limit ∙ c.run_held.ensures.dispatches.limit }
+
 pub returns-then-depth-eq0-clause-step : goal.returns-then-depth-eq0-clause-step
 returns-then-depth-eq0-clause-step g c = c.start_over.ensures.step (g.K.Sink.written c.args.sink.now)
 
 pub returns-then-depth-eq0-clause-value : goal.returns-then-depth-eq0-clause-value
 returns-then-depth-eq0-clause-value g c = λ v e. absurd (c.start_over.ensures.none v e)
+
+pub returns-then-depth-eq0-clause-leaves : goal.returns-then-depth-eq0-clause-leaves
+returns-then-depth-eq0-clause-leaves g c = record {
+  sized = λ h. c.start_over.ensures.sized;
+  later = omega arith;
+  cause = λ e. absurd (c.start_over.ensures.ends e);
+  limit = c.start_over.ensures.limit;
+}
 
 -- where the instruction goes on, as most do
 pub returns-then-run_held-clause-step : goal.returns-then-run_held-clause-step
@@ -69,14 +82,17 @@ returns-then-run_held-clause-step g c =
 pub returns-then-run_held-clause-value : goal.returns-then-run_held-clause-value
 returns-then-run_held-clause-value g c = λ v e. absurd (not_ended c.args.halted.now (Returns v) c.requires.1.1.1.1.1.1 e)
 
-pub returns-then-run_held-clause-sized : goal.returns-then-run_held-clause-sized
-returns-then-run_held-clause-sized g c =
+pub returns-then-run_held-clause-leaves : goal.returns-then-run_held-clause-leaves
+returns-then-run_held-clause-leaves g c =
     let s = c.args.s.now in
     let live = some_left s.frames.living c.depth.result c.depth.ensures c.if-depth-eq0.false in
-    λ h. goes_sized c.args.linked.now g.out s c.requires.1.1.0 live c.run_held.new.left c.run_held.new.s c.run_held.ensures.dispatches.leaves (c.run_held.ensures.dispatches.goes c.if-run_held.true)
-
-pub returns-then-run_held-clause-cause : goal.returns-then-run_held-clause-cause
-returns-then-run_held-clause-cause g c = λ e. absurd (not_ended c.args.halted.now Fails c.requires.1.1.1.1.1.1 e)
+    let did = c.run_held.ensures.dispatches in
+    record {
+      sized = λ h. goes_sized c.args.linked.now g.out s c.requires.1.1.0 live c.run_held.new.left c.run_held.new.s did.leaves (did.goes c.if-run_held.true);
+      later = omega arith;
+      cause = λ e. absurd (not_ended c.args.halted.now Fails c.requires.1.1.1.1.1.1 e);
+      limit = did.limit;
+    }
 
 pub returns-then-run_held-clause-none : goal.returns-then-run_held-clause-none
 returns-then-run_held-clause-none g c = c.run_held.ensures.dispatches.goes c.if-run_held.true

@@ -1,4 +1,4 @@
-use Rattle.std.proofs.Common.{◌∙◌, refl, ap, subst, sym}
+use Rattle.std.proofs.Common.{◌∙◌, refl, ap, subst, sym, arith}
 use Rattle.std.specs.Prelude.{Ok, Err}
 use Rattle.std.specs.declared.result.Result.{Result}
 use Rattle.abc_heap_values.specs.declared.values.Value.{Value}
@@ -27,8 +27,13 @@ returns-in-Ok-Returns-clause-value g c = λ x e.
     let is = c.in-Ok-Returns.is ∙ ap (λ (k : Left). Ok k) (rw c.in-Ok-Returns.is at c.in-Ok-Returns.field-0-is) in
     is ∙ ap (λ (v : Value). Ok (lefts.Returns v)) (sym (c.give_back.ensures.value x e))
 
-pub returns-in-Ok-Returns-clause-cause : goal.returns-in-Ok-Returns-clause-cause
-returns-in-Ok-Returns-clause-cause g c = λ e. absurd (c.give_back.ensures.ends e)
+pub returns-in-Ok-Returns-clause-leaves : goal.returns-in-Ok-Returns-clause-leaves
+returns-in-Ok-Returns-clause-leaves g c = record {
+  sized = λ h. c.give_back.ensures.sized;
+  later = omega arith;
+  cause = λ e. absurd (c.give_back.ensures.ends e);
+  limit = c.give_back.ensures.limit;
+}
 
 pub returns-in-Ok-Traces-clause-value : goal.returns-in-Ok-Traces-clause-value
 returns-in-Ok-Traces-clause-value g c = λ x e. absurd (c.write.ensures.none x e)

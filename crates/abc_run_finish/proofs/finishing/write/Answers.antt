@@ -8,17 +8,22 @@ use Rattle.abc_run_state.specs.Turns.{Turned, traced}
 use Rattle.abc_run_finish.specs.Fairly.{IsFairTurn}
 use Rattle.abc_run_finish.specs.Steps.{StepsIn, stepped}
 use Rattle.abc_run_finish.specs.declared.halts.Halt.{Halt}
-use Rattle.abc_run_finish.proofs.Finished.{ended_in, failed_in, no_return, wrote_in}
+use Rattle.abc_run_finish.proofs.Finished.{ended_in, failed_in, no_failure, no_return, wrote_in}
 use Rattle.abc_run_finish.proofs.Stepped.{can_stop}
 use Rattle.abc_run_finish.proofs.finishing.write.Goals as goal
 
 pub returns-in-Ok-clause-step : goal.returns-in-Ok-clause-step
 returns-in-Ok-clause-step g c = wrote_in c.args.linked.now g.out c.args.count c.args.how c.args.s.now c.trace.new.s (g.K.Sink.written c.args.sink.now) (g.K.Sink.written c.trace.new.sink) c.in-Ok.ensures.traces
 
-pub returns-in-Ok-clause-sized : goal.returns-in-Ok-clause-sized
-returns-in-Ok-clause-sized g c =
+pub returns-in-Ok-clause-leaves : goal.returns-in-Ok-clause-leaves
+returns-in-Ok-clause-leaves g c =
     let p = setting c.args.linked.now g.out in
-    λ h. (subst (λ (t : Turned). IsFairTurn p t) c.in-Ok.ensures.traces.goes c.requires.1.1.1).held.sized
+    record {
+      sized = λ h. (subst (λ (t : Turned). IsFairTurn p t) c.in-Ok.ensures.traces.goes c.requires.1.1.1).held.sized;
+      later = c.in-Ok.ensures.later;
+      cause = λ e. absurd cc;
+      limit = c.in-Ok.ensures.limit;
+    }
 
 pub stopped-requires : goal.stopped-requires
 stopped-requires g c =
@@ -44,8 +49,13 @@ returns-in-Err-Stops-clause-step g c =
     subst (λ (r : Result Unit Halt). StepsIn left g.out r new before now) (sym c.halted.ensures)
     (ended_in left g.out c.stopped.result new before now (ap (stepped p) told.0 ∙ can.is ∙ c.stopped.ensures.step) told.1)
 
-pub returns-in-Err-Stops-clause-sized : goal.returns-in-Err-Stops-clause-sized
-returns-in-Err-Stops-clause-sized g c = λ h. c.stopped.ensures.sized
+pub returns-in-Err-Stops-clause-leaves : goal.returns-in-Err-Stops-clause-leaves
+returns-in-Err-Stops-clause-leaves g c = record {
+  sized = λ h. c.stopped.ensures.sized;
+  later = c.trace.ensures.later;
+  cause = λ e. absurd (no_failure c.stopped.result (sym c.halted.ensures ∙ e));
+  limit = c.stopped.ensures.limit ∙ c.trace.ensures.limit;
+}
 
 pub returns-in-Err-Stops-clause-none : goal.returns-in-Err-Stops-clause-none
 returns-in-Err-Stops-clause-none g c = λ v e. no_return c.stopped.result v (sym c.halted.ensures ∙ e)
