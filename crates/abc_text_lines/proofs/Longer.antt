@@ -1,5 +1,5 @@
 -- CodeTooLong, by the lines below a body's.
-use Rattle.std.proofs.Common.{◌≡◌, ◌≢◌, ◌↔◌, ◌⊎◌, ℕ, ◌≤◌, ◌^◌, inl, inr, Bool, true, false, cond, ◌&&◌, nat_eq, nat_le, List, [], ◌∷◌, ◌++◌, length, Ok, Err, refl, sym, ap, subst, ◌∙◌, append-nil, arith}
+use Rattle.std.proofs.Common.{◌≡◌, ◌≢◌, ◌↔◌, ◌⊎◌, ℕ, ◌^◌, inl, inr, Bool, true, cond, ◌&&◌, nat_eq, nat_le, List, [], ◌∷◌, ◌++◌, length, Ok, Err, refl, sym, ap, subst, ◌∙◌, append-nil, arith}
 use Rattle.std.specs.declared.result.Result.{Result}
 use Rattle.std.proofs.lemmas.Bool.Decides.{nat_tests}
 use Rattle.abc_text_lines.specs.declared.reason.AsmReason.{AsmReason}
@@ -14,10 +14,10 @@ use Rattle.abc_file_types.specs.CodeBytes.{code_len}
 use Rattle.abc_text_lines.specs.Words.{place_of}
 use Rattle.abc_text_lines.specs.Lines.{Row}
 use Rattle.abc_text_lines.specs.Rows.{Fault, Rows}
-use Rattle.abc_text_lines.specs.Law.{Among, IsFree, Lawful, Match, Next}
+use Rattle.abc_text_lines.specs.Law.{Among, IsFree, Lawful, Match}
 use Rattle.abc_text_lines.specs.Wordlines.{faults_of, if_none, plain_faults, shows_operands}
 use Rattle.abc_text_lines.specs.File.{body_below, ends_body, extra, faults, long_code, plain_rules, rules, traits}
-use Rattle.abc_text_lines.specs.LongCode.{HasLongCode, IsBodyNext, TellsLongCode, lines_below}
+use Rattle.abc_text_lines.specs.LongCode.{HasLongCode, IsBodyNext, TellsLongCode}
 use Rattle.abc_text_lines.proofs.Bools.{if_is, and_true, split_bool}
 use Rattle.abc_text_lines.proofs.Many.{eq_true}
 use Rattle.abc_text_lines.proofs.Below.{body_below-lawful}
