@@ -18,3 +18,5 @@ pub mod Tables
 pub mod Whole
 pub mod Sizing
 pub mod Answering
+pub mod Repeating
+pub mod Longer

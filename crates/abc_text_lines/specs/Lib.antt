@@ -16,3 +16,5 @@ pub mod Kinds
 pub mod Lineforms
 pub mod Listing
 pub mod Texts
+pub mod Repeats
+pub mod LongCode

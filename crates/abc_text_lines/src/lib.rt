@@ -16,7 +16,7 @@ mod text_laws;
 mod word;
 
 pub use faults::Faults;
-pub use line_laws::text_has_one_answer;
+pub use line_laws::{long_code_is_of_lines, rows_are_of_lines, text_has_one_answer};
 pub use reason::AsmReason;
 pub use text_laws::{line_has_one_reading, written_line_is_read};
 pub use word::Word;
