@@ -97,4 +97,4 @@ pub record RuleExamples : Type 0 where
   pub not_index : RefutesInit (small (Plain op.PUSHNULL ∷ Switch 2 (2 ∷ []) ∷ Plain op.RETURNVOID ∷ [])) 1 rules.NotIndex
   -- no local for `this`; flag 40
   pub parameters : RefutesInit (init 0 (body 0 (Plain op.RETURNVOID ∷ []))) 0 rules.Parameters
-  pub flags : RefutesInit (init op.NEWFUNCTION (body 1 (Plain op.RETURNVOID ∷ []))) 0 rules.Flags
+  pub flags : RefutesInit (init 0x40 (body 1 (Plain op.RETURNVOID ∷ []))) 0 rules.Flags
