@@ -93,7 +93,12 @@ with_class i = setting
     (plain ∷ plain ∷ plain ∷ plain ∷ []) (script 0 [] ∷ [])
     (body 0 2 2 1 (i ∷ returnvoid ∷ []) ∷ body 1 2 2 1 (i ∷ returnvoid ∷ []) ∷ body 2 2 2 1 (i ∷ returnvoid ∷ []) ∷ [])) {
       instances = record {
-        name = 1; super_name = 2; flags = 0; protected_ns = None; interfaces = []; iinit = 1;
+        name = 1;
+        super_name = 2;
+        flags = 0;
+        protected_ns = None;
+        interfaces = [];
+        iinit = 1;
         traits = trait 3 (traits.Method 0 2) ∷ [];
       } ∷ [];
       classes = record { cinit = 3; traits = [] } ∷ [];

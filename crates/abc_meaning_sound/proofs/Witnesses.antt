@@ -72,7 +72,7 @@ each_all P [] h k d low = absurd (omega (arith, low))
 each_all P (x ∷ xs) h zero d low = h.0
 each_all P (x ∷ xs) h (suc k) d low = each_all P xs h.1 k d (omega (arith, low))
 
-abbrev IsAmong : List Part → Option Part → Type 0
+abbrev pub IsAmong : List Part → Option Part → Type 0
 IsAmong front None = Unit {0}
 IsAmong front (Some q) = Contains front q
 
@@ -87,7 +87,7 @@ behind_at v front (y ∷ ys) zero q h low e = subst (λ (zs : List Part). Contai
 behind_at v front (y ∷ ys) (suc x) q h low e = subst (λ (zs : List Part). Contains zs q) (append_assoc front (y ∷ []) (take x ys)) (behind_at v (front ++ y ∷ []) ys x q h.1 (omega (arith, low)) e)
 
 module _ (v : Abc) (more : List Part) where
-  abbrev all : List Part
+  abbrev pub all : List Part
   all = with_host more
 
   all_behind : Behind v (with_host []) more → Behind v [] all
