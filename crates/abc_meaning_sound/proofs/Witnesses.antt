@@ -5,6 +5,7 @@ use Rattle.std.proofs.lemmas.List.FromFn.{get_or-range_with_len}
 use Rattle.std.specs.Prelude.{All, Contains, Ok, Some, None}
 use Rattle.std.specs.List.{range_with_len}
 use Rattle.std.specs.declared.option.Option.{Option}
+use Rattle.abc_base.specs.Names.{host_classes}
 use Rattle.abc_base.specs.declared.names.HostClass.{HostClass}
 use Rattle.abc_base.specs.declared.names.HostClass.TheVariants as hosts
 use Rattle.abc_file_types.specs.declared.tables.Abc.{Abc}
@@ -12,7 +13,6 @@ use Rattle.abc_file_types.specs.Files.{Fits, file}
 use Rattle.abc_file_types.specs.Part.{at}
 use Rattle.abc_file_types.proofs.Whole.{file-exact}
 use Rattle.abc_link_names.specs.Linked.{LinkedFile}
-use Rattle.abc_link_names.specs.Meaning.{host_classes}
 use Rattle.abc_link_names.specs.Numbering.{IsNumbering, part_at}
 use Rattle.abc_link_names.specs.Parts.{HasLayout, parent}
 use Rattle.abc_link_names.specs.Places.{place_of}
