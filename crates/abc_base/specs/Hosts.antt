@@ -1,10 +1,9 @@
 -- The formulas of a host.
 use Rattle.std.specs.Prelude.{◌≡◌, ℕ, ◌-◌, ◌^◌, ◌≤◌, ℤ, pos, negsuc, ◌+ℤ◌, ◌*ℤ◌, ◌≤ℤ◌, int_le, ◌&&◌, List, [], ◌∷◌, length, take, get_or, map, codes, All, AllPairs, Some, None, if◌then◌else◌}
 use Rattle.std.specs.declared.option.Option.{Option}
-use Rattle.abc_base.specs.Names.{class_name}
+use Rattle.abc_base.specs.Names.{class_name, host_classes}
 use Rattle.abc_base.specs.declared.formula.Formula.{Formula}
 use Rattle.abc_base.specs.declared.plain.Plain.{Plain}
-use Rattle.abc_base.specs.declared.names.HostClass.TheVariants as classes
 
 -- ---- what a formula gives
 
@@ -38,9 +37,7 @@ formula_at formulas id = get_or formulas id (record { name = []; constant = pos 
 
 -- what stands beside the formulas in the host object
 abbrev pub taken_names : List (List ℕ)
-taken_names =
-    codes "trace"
-    ∷ map class_name (classes.Object ∷ classes.Class ∷ classes.Function ∷ classes.Namespace ∷ classes.Str ∷ classes.Int ∷ classes.UInt ∷ classes.Number ∷ classes.Boolean ∷ classes.Error ∷ classes.TypeError ∷ classes.ReferenceError ∷ classes.ArgumentError ∷ classes.Array ∷ [])
+taken_names = codes "trace" ∷ map class_name host_classes
 
 -- from -2^31 to 2^31
 abbrev pub IsSmall : ℤ → Type 0

@@ -1,11 +1,17 @@
 -- Names and codes.
-use Rattle.std.specs.Prelude.{ℕ, List, codes}
+use Rattle.std.specs.Prelude.{ℕ, List, [], ◌∷◌, codes}
 use Rattle.abc_base.specs.declared.names.HostClass.{HostClass}
 use Rattle.abc_base.specs.declared.names.HostClass.TheVariants as classes
 use Rattle.abc_base.specs.declared.names.Fault.{Fault}
 use Rattle.abc_base.specs.declared.names.Fault.TheVariants as faults
 use Rattle.abc_base.specs.declared.status.Status.{Status}
 use Rattle.abc_base.specs.declared.status.Status.TheVariants as statuses
+
+-- the classes of the host, in the order of the host object's properties
+abbrev pub host_classes : List HostClass
+host_classes =
+    classes.Object ∷ classes.Class ∷ classes.Function ∷ classes.Namespace ∷ classes.Str ∷ classes.Int ∷ classes.UInt ∷ classes.Number
+    ∷ classes.Boolean ∷ classes.Error ∷ classes.TypeError ∷ classes.ReferenceError ∷ classes.ArgumentError ∷ classes.Array ∷ []
 
 -- the name of a class of the host
 abbrev pub class_name : HostClass → List ℕ

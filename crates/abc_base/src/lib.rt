@@ -32,7 +32,7 @@ pub use formula::Formula;
 pub use host::{BuiltinHost, Host};
 pub use input_error::InputError;
 pub use memory::NoMemory;
-pub use names::{Fault, HostClass};
+pub use names::{Fault, HOST_CLASSES, HostClass};
 pub use number::{len_u30, len_u32};
 pub use plain::Plain;
 pub use releasing::release;

@@ -1,7 +1,7 @@
 ghost use Rattle.std.specs.Prelude.{◌≡◌};
 ghost use Rattle.abc_base.specs.Names.{class_name, fault_name};
 
-/// A class that the host has, in the order of the host object's properties.
+/// A class that the host has.
 #[derive(Clone, Copy, Debug, PartialEq, Eq)]
 pub enum HostClass {
     Object,
@@ -19,6 +19,24 @@ pub enum HostClass {
     ArgumentError,
     Array,
 }
+
+/// The classes of the host, in the order of the host object's properties.
+pub const HOST_CLASSES: [HostClass; 14] = [
+    HostClass::Object,
+    HostClass::Class,
+    HostClass::Function,
+    HostClass::Namespace,
+    HostClass::Str,
+    HostClass::Int,
+    HostClass::UInt,
+    HostClass::Number,
+    HostClass::Boolean,
+    HostClass::Error,
+    HostClass::TypeError,
+    HostClass::ReferenceError,
+    HostClass::ArgumentError,
+    HostClass::Array,
+];
 
 impl HostClass {
     /// The name of the class, as code names it.

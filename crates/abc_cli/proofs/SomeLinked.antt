@@ -9,6 +9,7 @@ use Rattle.std.proofs.lemmas.List.FromFn.{length-range_with_len}
 use Rattle.std.proofs.lemmas.List.Sums.{sum_by-cons}
 use Rattle.std.proofs.lemmas.Map.Keys.{IsDistinct-from_apart}
 use Rattle.std.proofs.lemmas.Map.Steps.{length-le_from_distinct_below}
+use Rattle.abc_base.specs.Names.{host_classes}
 use Rattle.abc_base.proofs.Spelling.{length_1, number_grows}
 use Rattle.abc_base_graphs.specs.Orders.{IsPlaced, place, order_of_all}
 use Rattle.abc_base_graphs.proofs.Placing.{placed_in_range}
@@ -21,7 +22,6 @@ use Rattle.abc_link_layouts.specs.Forest.{class_bases}
 use Rattle.abc_link_layouts.specs.Numbering.{activation_in, numbering, parts_in}
 use Rattle.abc_link_layouts.proofs.Numbered.{numbered}
 use Rattle.abc_link_layouts.proofs.Rooted.{few_bases, is_forest}
-use Rattle.abc_link_names.specs.Meaning.{host_classes}
 use Rattle.abc_link_names.specs.PartsByNumber.{body_at, no_body}
 use Rattle.abc_link_names.specs.Rules.{AllHold}
 use Rattle.abc_link_names.specs.Linked.{IsLinkedFile, LinkedFile}

@@ -5,10 +5,10 @@
 //! body is held and not that of all.
 //!
 //! What bytes spell has its fields in the ranges that the lines of a text ask for, and the bodies of a text's file are such
-//! as bytes spell. The definitions are in abc_text_lines and abc_file_types. What runs is nothing but the laws.
+//! as bytes spell: a law. The definitions are in abc_text_lines and abc_file_types.
 //!
 //! The listing of a file is a text of exactly that file, and a file that needs nothing of the wider format has the text that
-//! it had. The definitions are in abc_text_lines and abc_file_types. What runs is nothing but the laws.
+//! it had: two laws. The definitions are in abc_text_lines and abc_file_types.
 #![tactic(auto)]
 
 mod classes;

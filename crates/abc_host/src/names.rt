@@ -3,25 +3,7 @@ ghost use Rattle.abc_base.specs.Hosts.{taken_names};
 ghost use Rattle.abc_base.specs.Names.{class_name};
 
 use crate::entry::Entry;
-use abc_base::HostClass;
-
-/// The classes of the host.
-const CLASSES: [HostClass; 14] = [
-    HostClass::Object,
-    HostClass::Class,
-    HostClass::Function,
-    HostClass::Namespace,
-    HostClass::Str,
-    HostClass::Int,
-    HostClass::UInt,
-    HostClass::Number,
-    HostClass::Boolean,
-    HostClass::Error,
-    HostClass::TypeError,
-    HostClass::ReferenceError,
-    HostClass::ArgumentError,
-    HostClass::Array,
-];
+use abc_base::{HOST_CLASSES, HostClass};
 
 /// Whether a class of the host has this name.
 fn is_class_named(class: &HostClass, name: &[u8]) -> bool
@@ -48,7 +30,7 @@ fn is_trace(name: &[u8]) -> bool
 pub fn is_name_of_host(name: &[u8]) -> bool
     ensures { IsTrue result ↔ Contains taken_names name.now }
 {
-    is_trace(name) || is_class_among(&CLASSES, name)
+    is_trace(name) || is_class_among(&HOST_CLASSES, name)
 }
 
 /// Whether one of the entries has this name.

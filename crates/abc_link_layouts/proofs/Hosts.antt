@@ -1,9 +1,9 @@
 -- The classes of the host have the first layouts.
 use Rattle.std.proofs.Common.{◌≡◌, ℕ, zero, suc, ◌<◌, List, [], ◌∷◌, ◌++◌, All, Contains, Some, None, map, length, take, get_or, refl, sym, subst, arith, lit<}
 use Rattle.std.proofs.lemmas.List.{get_or-map, length-map}
+use Rattle.abc_base.specs.Names.{host_classes}
 use Rattle.abc_base.specs.declared.names.HostClass.{HostClass}
 use Rattle.abc_base.specs.declared.names.HostClass.TheVariants as hosts
-use Rattle.abc_link_names.specs.Meaning.{host_classes}
 use Rattle.abc_file_types.specs.declared.tables.Abc.{Abc}
 use Rattle.abc_link_names.specs.Numbering.{IsBehind, part_at}
 use Rattle.abc_link_names.specs.Parts.{HasLayout, host_parent, parent}

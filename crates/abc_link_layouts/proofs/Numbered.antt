@@ -4,8 +4,9 @@ use Rattle.std.specs.List.{flat_map, range_with_len}
 use Rattle.std.specs.declared.option.Option.{Option}
 use Rattle.std.proofs.lemmas.List.{length-map}
 use Rattle.std.proofs.lemmas.List.Elements.{Contains-append_right}
+use Rattle.abc_base.specs.Names.{host_classes}
 use Rattle.abc_base_graphs.specs.Orders.{IsOrder}
-use Rattle.abc_link_names.specs.Meaning.{host_classes, resolve}
+use Rattle.abc_link_names.specs.Meaning.{resolve}
 use Rattle.abc_file_types.specs.declared.classes.Instance.{Instance}
 use Rattle.abc_file_types.specs.declared.tables.Abc.{Abc}
 use Rattle.abc_link_layouts.specs.Forest.{class_bases, class_in}

@@ -1,10 +1,10 @@
 -- The one numbering of the parts that have layouts.
 use Rattle.std.specs.Prelude.{◌≡◌, ℕ, List, [], ◌∷◌, ◌++◌, if◌then◌else◌, length, map}
 use Rattle.std.specs.List.{flat_map, range_with_len}
+use Rattle.abc_base.specs.Names.{host_classes}
 use Rattle.abc_base_graphs.specs.Orders.{order_of_all}
 use Rattle.abc_link_names.specs.PartsByNumber.{body_at}
 use Rattle.abc_link_names.specs.Linked.{LinkedFile}
-use Rattle.abc_link_names.specs.Meaning.{host_classes}
 use Rattle.abc_link_names.specs.Parts.{has_activation}
 use Rattle.abc_link_names.specs.declared.part.Part.{Part}
 use Rattle.abc_link_names.specs.declared.part.Part.TheVariants as parts

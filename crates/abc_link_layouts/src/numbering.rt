@@ -9,10 +9,10 @@ ghost use Rattle.abc_link_names.specs.PartsByNumber.{body_at, method_at};
 ghost use Rattle.abc_link_names.specs.Rules.{AllHold};
 
 use crate::forest::class_order;
-use abc_base::{HostClass, NoMemory, Table};
+use abc_base::{HOST_CLASSES, HostClass, NoMemory, Table};
 use abc_base_graphs::Order;
 use abc_file_types::{Abc, has_flag};
-use abc_link_names::{HOST_CLASSES, Meanings, Part, handlers};
+use abc_link_names::{Meanings, Part, handlers};
 use std::alloc::Global;
 
 /// The instances of the classes of the host.

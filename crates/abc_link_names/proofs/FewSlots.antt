@@ -5,6 +5,7 @@ use Rattle.std.proofs.lemmas.Bool.{cases_lt}
 use Rattle.std.proofs.lemmas.List.{get_or_past, take_more}
 use Rattle.std.proofs.lemmas.List.Concat.{length-flat_map}
 use Rattle.std.proofs.lemmas.List.Sums.{sum_by-append, sum_by-cons, sum_by-take-le, sum_by_push}
+use Rattle.abc_base.specs.Names.{host_classes}
 use Rattle.abc_base.specs.Numbers.{number_bytes}
 use Rattle.abc_base.specs.declared.names.HostClass.{HostClass}
 use Rattle.abc_base.specs.declared.names.HostClass.TheVariants as hosts
@@ -31,7 +32,6 @@ use Rattle.abc_file_types.specs.declared.traits.TraitBody.TheVariants as traits
 use Rattle.abc_file_types.specs.declared.traits.TraitInfo.{TraitInfo}
 use Rattle.abc_file_types.proofs.Whole.{canonical_file}
 use Rattle.abc_link_names.specs.Instances.{instance_at, no_instance}
-use Rattle.abc_link_names.specs.Meaning.{host_classes}
 use Rattle.abc_link_names.specs.PartsByNumber.{body_at, class_at, no_body, no_class, no_script, script_at}
 use Rattle.abc_link_names.specs.Linked.{IsLinkedFile, LinkedFile, base}
 use Rattle.abc_link_names.specs.Numbering.{part_at}

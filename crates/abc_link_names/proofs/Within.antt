@@ -6,12 +6,12 @@ use Rattle.std.specs.Str.{bytes_eq}
 use Rattle.std.specs.Prelude.{codes}
 use Rattle.std.proofs.lemmas.List.{get_or-map, length-map}
 use Rattle.std.proofs.lemmas.List.Elements.{All-append, All-cons}
-use Rattle.abc_base.specs.Names.{class_name}
+use Rattle.abc_base.specs.Names.{class_name, host_classes}
 use Rattle.abc_base.specs.declared.names.HostClass.{HostClass}
 use Rattle.abc_base_graphs.specs.Graph.{IsGraph}
 use Rattle.abc_base_graphs.specs.Index.{first}
 use Rattle.abc_link_names.specs.Instances.{no_instance}
-use Rattle.abc_link_names.specs.Meaning.{class_or_host, holds_public, host_among, host_classes, host_named, is_class_named, meant, resolve}
+use Rattle.abc_link_names.specs.Meaning.{class_or_host, holds_public, host_among, host_named, is_class_named, meant, resolve}
 use Rattle.abc_link_names.specs.Pool.{name, plain_name, text}
 use Rattle.abc_link_names.specs.declared.named.Named.{Named}
 use Rattle.abc_link_names.specs.declared.named.Named.TheVariants as named

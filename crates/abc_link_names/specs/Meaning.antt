@@ -3,9 +3,8 @@ use Rattle.std.specs.Prelude.{ℕ, List, [], ◌∷◌, Bool, true, false, nat_e
 use Rattle.std.specs.declared.option.Option.{Option}
 use Rattle.std.specs.List.{list_any}
 use Rattle.std.specs.Str.{bytes_eq}
-use Rattle.abc_base.specs.Names.{class_name}
+use Rattle.abc_base.specs.Names.{class_name, host_classes}
 use Rattle.abc_base.specs.declared.names.HostClass.{HostClass}
-use Rattle.abc_base.specs.declared.names.HostClass.TheVariants as hosts
 use Rattle.abc_base_graphs.specs.Index.{first}
 use Rattle.abc_file_types.specs.declared.classes.Instance.{Instance}
 use Rattle.abc_file_types.specs.declared.tables.Abc.{Abc}
@@ -42,11 +41,6 @@ abbrev pub is_class_named : Abc → PlainName → Instance → Bool
 is_class_named v n i = has_name v n (class_name_of v i)
 
 -- ---- classes of the host
-
-abbrev pub host_classes : List HostClass
-host_classes =
-    hosts.Object ∷ hosts.Class ∷ hosts.Function ∷ hosts.Namespace ∷ hosts.Str ∷ hosts.Int ∷ hosts.UInt ∷ hosts.Number ∷ hosts.Boolean ∷ hosts.Error
-    ∷ hosts.TypeError ∷ hosts.ReferenceError ∷ hosts.ArgumentError ∷ hosts.Array ∷ []
 
 -- what there is under a text, where the host has these classes
 abbrev pub host_among : List HostClass → List ℕ → Option Named

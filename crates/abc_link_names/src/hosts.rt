@@ -2,25 +2,7 @@ ghost use Rattle.std.specs.Prelude.{◌≡◌};
 ghost use Rattle.abc_link_names.specs.Meaning.{host_among as among, host_named as host_of};
 
 use crate::named::Named;
-use abc_base::HostClass;
-
-/// The classes of the host.
-pub const HOST_CLASSES: [HostClass; 14] = [
-    HostClass::Object,
-    HostClass::Class,
-    HostClass::Function,
-    HostClass::Namespace,
-    HostClass::Str,
-    HostClass::Int,
-    HostClass::UInt,
-    HostClass::Number,
-    HostClass::Boolean,
-    HostClass::Error,
-    HostClass::TypeError,
-    HostClass::ReferenceError,
-    HostClass::ArgumentError,
-    HostClass::Array,
-];
+use abc_base::{HOST_CLASSES, HostClass};
 
 /// What there is under a text, where the host has these classes.
 fn host_among(hosts: &[HostClass], text: &[u8]) -> Option<Named>

@@ -32,7 +32,6 @@ mod types;
 pub use coerce::start_of;
 pub use error::LinkError;
 pub use example_laws::examples_hold;
-pub use hosts::HOST_CLASSES;
 pub use items::{Item, ItemKind, LinkRule};
 pub use key::{PartKey, part_key};
 pub use keys::{NameKey, are_equal, first_places};

@@ -65,11 +65,14 @@ stuck_examples = record {
   index_in_local = (refl, refl);
   scope_there = (refl, refl);
   stands_here = (refl, refl);
+  super_in_instance = (refl, refl);
+  super_in_maker = (refl, refl);
   space_taken = (refl, refl);
   index_taken = (refl, refl);
   object_taken = (refl, refl);
   slot_taken = (refl, refl);
   instance_taken = (refl, refl);
+  called_has_body = (refl, refl);
   waits_for = (refl, refl);
   room_for_caught = (refl, refl);
 }

@@ -2,6 +2,7 @@
 -- on these.
 use Rattle.std.specs.Prelude.{◌≡◌, ℕ, zero, suc, pos, List, [], ◌∷◌, ◌++◌, codes, map, false, Some, None}
 use Rattle.std.specs.declared.option.Option.{Option}
+use Rattle.abc_base.specs.Names.{host_classes}
 use Rattle.abc_base.specs.Hosts.{builtin_formulas}
 use Rattle.abc_base.specs.declared.names.Fault.TheVariants as faults
 use Rattle.abc_base.specs.declared.names.HostClass.TheVariants as hosts
@@ -21,7 +22,6 @@ use Rattle.abc_file_types.specs.declared.traits.TraitInfo.{TraitInfo}
 use Rattle.abc_heap_store.specs.declared.records.Limit.TheVariants as limits
 use Rattle.abc_heap_store.specs.declared.records.Limits.{Limits}
 use Rattle.abc_heap_values.specs.declared.values.Value.{Value}
-use Rattle.abc_link_names.specs.Meaning.{host_classes}
 use Rattle.abc_link_names.specs.declared.part.Part.{Part}
 use Rattle.abc_link_names.specs.declared.part.Part.TheVariants as parts
 use Rattle.abc_frames.specs.Frame.{Frame}

@@ -1,9 +1,11 @@
 -- The tests of a step tried one by one: of two states that differ in one thing the first is stuck, and the second is not. No definition
 -- stands on these.
 use Rattle.std.specs.Prelude.{◌≡◌, ℕ, pos, List, [], ◌∷◌, Bool, true, false, codes, None}
+use Rattle.abc_file_types.specs.declared.code.Body.{Body}
 use Rattle.abc_file_types.specs.declared.code.Instr.{Instr}
 use Rattle.abc_file_types.specs.declared.code.Instr.TheVariants.{One, Plain, ScopeObject, Two}
 use Rattle.abc_file_types.specs.declared.names.Multiname.TheVariants as names
+use Rattle.abc_file_types.specs.declared.traits.TraitBody.TheVariants as traits
 use Rattle.abc_file_types.specs.declared.traits.TraitInfo.{TraitInfo}
 use Rattle.abc_heap_store.specs.Heap.{obj_id}
 use Rattle.abc_heap_store.specs.declared.records.ScopeEntry.{ScopeEntry}
@@ -13,7 +15,7 @@ use Rattle.abc_heap_values.specs.declared.values.Value.TheVariants.{Bool as Trut
 use Rattle.abc_link_names.specs.declared.part.Part.TheVariants as parts
 use Rattle.abc_frames.specs.Frame.{Frame}
 use Rattle.abc_frames.specs.declared.records.Wait.TheVariants as waits
-use Rattle.abc_meaning.specs.Examples.{ample, body, catching, constructsuper, file_of, getlex, getlocal_1, handler, method, newactivation, plain, pop, popscope, public, pushnull, pushscope, pushstring, returnvoid, script, setting, slot, throw}
+use Rattle.abc_meaning.specs.Examples.{ample, body, callproperty, catching, constructsuper, file_of, getlex, getlocal_1, handler, method, newactivation, plain, pop, popscope, public, pushnull, pushscope, pushstring, returnvoid, script, setting, slot, throw, trait}
 use Rattle.abc_meaning.specs.Meaning.{first_world}
 use Rattle.abc_meaning.specs.Setting.{Setting}
 use Rattle.abc_meaning.specs.Step.{step}
@@ -83,15 +85,36 @@ TellsOf bad good f = (sticks bad (f ∷ []) ≡ true) × (sticks good (f ∷ [])
 
 -- ---- programs for some of the tests
 
--- the class A extends Object; method 1 makes its instances
-abbrev pub with_class : Setting
-with_class = setting
-    (record (file_of (codes "A" ∷ codes "Object" ∷ []) (public 1 ∷ public 2 ∷ []) (plain ∷ plain ∷ plain ∷ []) (script 0 [] ∷ [])
-    (body 1 2 2 1 (constructsuper 0 ∷ returnvoid ∷ []) ∷ [])) {
-      instances = record { name = 1; super_name = 2; flags = 0; protected_ns = None; interfaces = []; iinit = 1; traits = [] } ∷ [];
-      classes = record { cinit = 2; traits = [] } ∷ [];
+-- the class A extends Object: method 1 makes its instances, and method 2 is one of theirs; both, and the init of the script, begin with
+-- this instruction
+abbrev pub with_class : Instr → Setting
+with_class i = setting
+    (record (file_of (codes "A" ∷ codes "Object" ∷ codes "f" ∷ []) (public 1 ∷ public 2 ∷ public 3 ∷ [])
+    (plain ∷ plain ∷ plain ∷ plain ∷ []) (script 0 [] ∷ [])
+    (body 0 2 2 1 (i ∷ returnvoid ∷ []) ∷ body 1 2 2 1 (i ∷ returnvoid ∷ []) ∷ body 2 2 2 1 (i ∷ returnvoid ∷ []) ∷ [])) {
+      instances = record {
+        name = 1;
+        super_name = 2;
+        flags = 0;
+        protected_ns = None;
+        interfaces = [];
+        iinit = 1;
+        traits = trait 3 (traits.Method 0 2) ∷ [];
+      } ∷ [];
+      classes = record { cinit = 3; traits = [] } ∷ [];
     })
     (parts.Instance 0 ∷ parts.ClassObject 0 ∷ parts.Global 0 ∷ [])
+
+-- a frame of one of these methods, with null on its stack
+abbrev pub of_method : ℕ → Frame
+of_method n = record (operands (Null ∷ [])) { method = n }
+
+-- the init calls the method f of its script, which is method 1 of the file, with these bodies
+abbrev pub calling : List Body → Setting
+calling bodies = setting
+    (file_of (codes "f" ∷ []) (public 1 ∷ []) (plain ∷ plain ∷ []) (script 0 (trait 1 (traits.Method 0 1) ∷ []) ∷ [])
+    (body 0 2 2 1 (callproperty 1 0 ∷ returnvoid ∷ []) ∷ bodies))
+    (parts.Global 0 ∷ [])
 
 -- throw, covered by a handler, where so many values have room
 abbrev pub caught_in : (values : ℕ) → Setting
@@ -122,6 +145,9 @@ pub record StuckExamples : Type 0 where
   pub scope_there : Tells (init (ScopeObject 0)) (frame [] [] []) (frame [] (scope (init (ScopeObject 0)) ∷ []) [])
   -- newactivation, without and with flag 02
   pub stands_here : TellsOf (init newactivation) (declaring [] 2 newactivation) (operands [])
+  -- getsuper in the init of a script, and in a method of instances; constructsuper there, and in the method that makes them
+  pub super_in_instance : Tells (with_class (One op.GETSUPER 1)) (of_method 0) (of_method 2)
+  pub super_in_maker : Tells (with_class (constructsuper 0)) (of_method 2) (of_method 1)
   -- ---- what the values are
   -- getproperty in the namespace true, and in namespace 1, of null
   pub space_taken : Tells (init (One op.GETPROPERTY 2)) (operands (Truth true ∷ Null ∷ [])) (operands (Space 1 ∷ Null ∷ []))
@@ -131,8 +157,10 @@ pub record StuckExamples : Type 0 where
   pub object_taken : Tells (init (One op.GETSLOT 1)) (operands (Truth true ∷ [])) (operands (Null ∷ []))
   pub slot_taken : TellsOf (init (One op.GETSLOT 1)) (declaring (slot 1 1 ∷ []) 0 (One op.GETSLOT 1)) (operands (here (init (One op.GETSLOT 1)) ∷ []))
   -- constructsuper of true, and of null
-  pub instance_taken : Tells with_class (record (operands (Truth true ∷ [])) { method = 1 }) (record (operands (Null ∷ [])) { method = 1 })
+  pub instance_taken : Tells (with_class (constructsuper 0)) (record (of_method 1) { stack = Truth true ∷ [] }) (of_method 1)
   -- ---- what others do
+  -- a call of a method without and with a body
+  pub called_has_body : TellsOf (calling []) (calling (body 1 0 1 0 (returnvoid ∷ []) ∷ [])) (operands (here (calling []) ∷ []))
   -- returnvoid to a frame that waits for nothing, and to one that drops what returns
   pub waits_for : (sticks (init returnvoid) (operands [] ∷ operands [] ∷ []) ≡ true)
       × (sticks (init returnvoid) (operands [] ∷ record (operands []) { wait = waits.Drop } ∷ []) ≡ false)

@@ -9,11 +9,11 @@ use Rattle.abc_link_names.specs.Slots.{slot_numbered}
 use Rattle.abc_link_names.specs.declared.part.LayoutId.{LayoutId}
 use Rattle.abc_verify_typing.specs.Instructions.{operand, second}
 use Rattle.abc_verify_typing.specs.declared.row.Locals.{Locals}
-use Rattle.abc_verify_typing.specs.declared.row.Locals.TheVariants.{Walks}
+use Rattle.abc_verify_typing.specs.declared.row.Locals.TheVariants.{Untouched, Reads, Sets, Walks}
 use Rattle.abc_verify_typing.specs.declared.row.Need.{Need}
 use Rattle.abc_verify_typing.specs.declared.row.Need.TheVariants as needed
 use Rattle.abc_verify_typing.specs.declared.row.Operand.{Operand}
-use Rattle.abc_verify_typing.specs.declared.row.Operand.TheVariants.{ScopeAt}
+use Rattle.abc_verify_typing.specs.declared.row.Operand.TheVariants.{Unnamed, StringAt, IntAt, UintAt, DoubleAt, NamespaceAt, FunctionAt, ClassAt, HandlerAt, NameAt, PlainNameAt, TypeAt, TypeOrAny, ScopeAt}
 use Rattle.abc_file_types.specs.declared.code.Instr.{Instr}
 use Rattle.abc_verify_typing.specs.Effects.{Here, args, depth, name_at, needs, runtime}
 use Rattle.abc_verify_typing.specs.Rules.{has_form, has_locals, in_table, is_here, may_pop, may_push, reaches, super_layout}
@@ -78,11 +78,14 @@ meets p h w needed.Slotted Null = true
 meets p h w needed.Slotted (Obj o) = has_slot p (operand h.instr) (object o w)
 meets p h w needed.Slotted v = false
 meets p h w needed.Instance v = is_receiver p w (super_layout h.row.site h.method.home) v
-meets p h w need v = true
+meets p h w needed.Value v = true
+meets p h w needed.Runtime v = true
 
+-- whether a value is there is what the depth of the stack is tested for
 abbrev pub all_meet : Setting → Here → World → List Need → List Value → Bool
+all_meet p h w [] vs = true
+all_meet p h w (n ∷ ns) [] = true
 all_meet p h w (n ∷ ns) (v ∷ vs) = meets p h w n v && all_meet p h w ns vs
-all_meet p h w ns vs = true
 
 -- ---- tests of the frame
 
@@ -92,11 +95,25 @@ is_number v = false
 
 abbrev pub walks_number : Locals → Instr → List Value → Bool
 walks_number Walks i vs = is_number (slice_get vs (second i))
-walks_number locals i vs = true
+walks_number Untouched i vs = true
+walks_number Reads i vs = true
+walks_number (Sets source) i vs = true
 
 abbrev pub has_scope : Operand → Instr → List ScopeEntry → Bool
 has_scope ScopeAt i scopes = nat_lt (operand i) (length scopes)
-has_scope other i scopes = true
+has_scope Unnamed i scopes = true
+has_scope StringAt i scopes = true
+has_scope IntAt i scopes = true
+has_scope UintAt i scopes = true
+has_scope DoubleAt i scopes = true
+has_scope NamespaceAt i scopes = true
+has_scope FunctionAt i scopes = true
+has_scope ClassAt i scopes = true
+has_scope HandlerAt i scopes = true
+has_scope NameAt i scopes = true
+has_scope PlainNameAt i scopes = true
+has_scope TypeAt i scopes = true
+has_scope TypeOrAny i scopes = true
 
 abbrev pub can_run : Setting → Here → Frame → World → Bool
 can_run p h f w =

@@ -34,7 +34,9 @@ pub mod Starting
 pub mod Holders
 pub mod Searched
 pub mod Never
+pub mod Witnesses
 pub mod Witness
+mod Workshop
 pub mod Formed
 pub mod NamedFrames
 pub mod Sounded

@@ -5,6 +5,7 @@ use Rattle.std.proofs.lemmas.List.{length-map, length-replicate}
 use Rattle.std.specs.Prelude.{Bool, true, false, nat_lt, slice_get, Some, None, if◌then◌else◌}
 use Rattle.std.specs.List.{range_with_len}
 use Rattle.std.specs.declared.option.Option.{Option}
+use Rattle.abc_base.specs.Names.{host_classes}
 use Rattle.abc_base.specs.declared.formula.Formula.{Formula}
 use Rattle.abc_base.specs.declared.names.HostClass.{HostClass}
 use Rattle.abc_base.specs.declared.names.HostClass.TheVariants as hosts
@@ -14,7 +15,6 @@ use Rattle.abc_heap_store.specs.declared.records.Limit.TheVariants.{Objects, Cel
 use Rattle.abc_heap_store.specs.declared.records.Limits.{Limits}
 use Rattle.abc_heap_store.specs.declared.records.What.{What}
 use Rattle.abc_heap_store.specs.declared.records.What.TheVariants as whats
-use Rattle.abc_link_names.specs.Meaning.{host_classes}
 use Rattle.abc_objects.specs.Opening.{above_host, class_object, formula_names, function_object, function_objects, global_object, host_object, opened, opening, opening_objects, property_names, prototype_id, prototype_object}
 use Rattle.abc_objects.specs.Stands.{StandsOver, host_layout}
 use Rattle.abc_objects.specs.Starts.{start_values}

@@ -1,9 +1,13 @@
--- A verified file with a class, a call, a closure, a handler and a second script. No definition stands on it.
-use Rattle.std.specs.Prelude.{◌≡◌, [], ◌∷◌, codes, None}
+-- Two verified files: one with a class, a call, a closure, a handler and a second script, and one with a getter, a setter, a with scope,
+-- an array, and a frame that waits for what new is done on. No definition stands on them.
+use Rattle.std.specs.Prelude.{◌≡◌, [], ◌∷◌, codes, None, Some}
+use Rattle.abc_file_types.specs.declared.code.Instr.TheVariants.{One}
+use Rattle.abc_file_types.specs.declared.op.TheConstants as op
 use Rattle.abc_file_types.specs.declared.tables.Abc.{Abc}
 use Rattle.abc_file_types.specs.declared.traits.TraitBody.TheVariants as traits
 use Rattle.abc_link_names.specs.declared.part.Part.TheVariants as parts
-use Rattle.abc_meaning.specs.Examples.{ample, body, callproperty, catching, call, constructprop, constructsuper, dup, file_of, findpropstrict, getlex, getlocal_0, handler, initproperty, newclass, newfunction, plain, pop, public, pushbyte, pushnull, pushscope, returnvalue, returnvoid, script, setting, throw, trait}
+use Rattle.abc_frames.specs.declared.records.Wait.TheVariants as waits
+use Rattle.abc_meaning.specs.Examples.{ample, body, callproperty, callpropvoid, catching, call, constructprop, constructsuper, dup, file_of, findpropstrict, getlex, getlocal_0, getlocal_1, getproperty, handler, initproperty, line, method, newarray, newclass, newfunction, newobject, plain, pop, popscope, public, pushbyte, pushnull, pushscope, pushstring, pushwith, returnvalue, returnvoid, script, setproperty, setslot, setting, slot, throw, trait, typeof, wait_after}
 use Rattle.abc_meaning.specs.Meaning.{Ran, first_world, meaning, too_small}
 use Rattle.abc_meaning.specs.Setting.{Setting}
 use Rattle.abc_meaning.specs.ThrowLaws.{IsVerified}
@@ -31,7 +35,38 @@ parade = record (file_of (codes "A" ∷ codes "Object" ∷ codes "f" ∷ [])
 abbrev pub program : Setting
 program = setting parade (parts.Instance 0 ∷ parts.ClassObject 0 ∷ parts.Global 0 ∷ parts.Global 1 ∷ parts.Catch 1 0 ∷ [])
 
+-- A script with a slot s, which a setter v writes and a getter v reads, and a getter K of the class Object. Its init sets v, and traces
+-- v, the property x of an object that is a with scope, the length of an array, and the type of what new on K makes.
+abbrev pub workshop : Abc
+workshop = file_of
+    (codes "trace" ∷ codes "v" ∷ codes "K" ∷ codes "x" ∷ codes "Object" ∷ codes "length" ∷ codes "s" ∷ [])
+    (public 1 ∷ public 2 ∷ public 3 ∷ public 4 ∷ public 5 ∷ public 6 ∷ public 7 ∷ [])
+    (plain ∷ plain ∷ method (0 ∷ []) 0 ∷ plain ∷ [])
+    (script 0 (slot 7 1 ∷ trait 2 (traits.Getter 0 1) ∷ trait 2 (traits.Setter 0 2) ∷ trait 3 (traits.Getter 0 3) ∷ []) ∷ [])
+    (body 0 5 1 2 (getlocal_0 ∷ pushscope ∷ getlocal_0 ∷ pushbyte 5 ∷ setproperty 2
+    ∷ findpropstrict 1 ∷ getlocal_0 ∷ getproperty 2
+    ∷ pushstring 4 ∷ pushbyte 8 ∷ newobject 1 ∷ pushwith ∷ getlex 4 ∷ popscope
+    ∷ pushbyte 9 ∷ newarray 1 ∷ getproperty 6
+    ∷ getlocal_0 ∷ constructprop 3 0 ∷ typeof
+    ∷ callpropvoid 1 4 ∷ returnvoid ∷ [])
+    -- the getter and the setter v; the getter K
+    ∷ body 1 1 1 0 (getlocal_0 ∷ One op.GETSLOT 1 ∷ returnvalue ∷ [])
+    ∷ body 2 2 2 0 (getlocal_0 ∷ getlocal_1 ∷ setslot 1 ∷ returnvoid ∷ [])
+    ∷ body 3 1 1 0 (getlex 5 ∷ returnvalue ∷ []) ∷ [])
+
+abbrev pub making : Setting
+making = setting workshop (parts.Global 0 ∷ [])
+
 pub record VerifiedExamples : Type 0 where
   pub verified : IsVerified program
   pub begins : too_small (first_world program ample).heap ≡ None
   pub runs : meaning program ample 30 ≡ Ran [] Done
+
+pub record WorkshopExamples : Type 0 where
+  pub verified : IsVerified making
+  pub begins : too_small (first_world making ample).heap ≡ None
+  pub runs : meaning making ample 31 ≡ Ran (line (codes "5 8 1 object")) Done
+  -- how the init waits: for the setter, for the getter v, and for the class that K gives
+  pub drops : wait_after making 5 ≡ Some waits.Drop
+  pub pushes : wait_after making 12 ≡ Some waits.Push
+  pub makes_then : wait_after making 26 ≡ Some (waits.New 0)

@@ -4,7 +4,7 @@ use Rattle.std.specs.List.{concat, range_with_len}
 use Rattle.std.specs.Prelude.{codes, slice_get, option_map, replicate}
 use Rattle.std.proofs.lemmas.List.{length-map, length-set, length-replicate}
 use Rattle.std.proofs.lemmas.Option.{slice_get_within}
-use Rattle.abc_base.specs.Names.{class_name}
+use Rattle.abc_base.specs.Names.{class_name, host_classes}
 use Rattle.std.proofs.lemmas.List.FromFn.{length-map-range_with_len}
 use Rattle.abc_base.specs.declared.names.HostClass.{HostClass}
 use Rattle.abc_base.specs.declared.names.HostClass.TheVariants as hosts
@@ -18,7 +18,6 @@ use Rattle.abc_heap_store.specs.declared.records.Limits.{Limits}
 use Rattle.abc_heap_store.specs.declared.records.ScopeId.{ScopeId}
 use Rattle.abc_heap_store.specs.declared.records.What.{What}
 use Rattle.abc_heap_store.specs.declared.records.What.TheVariants as whats
-use Rattle.abc_link_names.specs.Meaning.{host_classes}
 use Rattle.abc_link_names.specs.Linked.{LinkedFile, IsLinkedFile, layout_of}
 use Rattle.abc_link_names.specs.Numbering.{part_at}
 use Rattle.abc_link_names.specs.Parts.{HasLayout, parent}

@@ -4,10 +4,10 @@ use Rattle.std.specs.List.{concat, range_with_len}
 use Rattle.std.specs.Prelude.{slice_get}
 use Rattle.std.proofs.lemmas.Option.{slice_get_within}
 use Rattle.std.proofs.Common.{length-append, inl, inr}
+use Rattle.abc_base.specs.Names.{host_classes}
 use Rattle.abc_base.specs.declared.names.HostClass.{HostClass}
 use Rattle.abc_base.specs.declared.names.HostClass.TheVariants as hosts
 use Rattle.abc_heap_values.proofs.Parts.{slice_get_left}
-use Rattle.abc_link_names.specs.Meaning.{host_classes}
 use Rattle.abc_link_names.specs.Places.{host_number}
 use Rattle.abc_objects.proofs.Kept.{in_either}
 

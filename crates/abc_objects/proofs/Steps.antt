@@ -7,7 +7,7 @@ use Rattle.std.proofs.lemmas.List.Elements.{All-head, All-tail}
 use Rattle.std.proofs.lemmas.List.FromFn.{length-map-range_with_len, map-range_with_len_more, take-map-range_with_len}
 use Rattle.std.proofs.lemmas.List.Sums.{sum_by-cons, sum_by-take-le, sum_by_push}
 use Rattle.abc_base.specs.Hosts.{AreFormulas, IsFormula, formula_at}
-use Rattle.abc_base.specs.Names.{class_name}
+use Rattle.abc_base.specs.Names.{class_name, host_classes}
 use Rattle.abc_base.specs.declared.formula.Formula.{Formula}
 use Rattle.abc_base.specs.declared.names.HostClass.{HostClass}
 use Rattle.abc_base.specs.declared.names.HostClass.TheVariants as hosts
@@ -25,7 +25,6 @@ use Rattle.abc_heap_store.specs.declared.records.Limits.{Limits}
 use Rattle.abc_heap_store.specs.declared.records.ScopeNode.{ScopeNode}
 use Rattle.abc_heap_store.specs.declared.records.What.{What}
 use Rattle.abc_heap_store.specs.declared.records.What.TheVariants as whats
-use Rattle.abc_link_names.specs.Meaning.{host_classes}
 use Rattle.abc_link_names.specs.Linked.{LinkedFile, IsLinkedFile, layout_of}
 use Rattle.abc_link_names.specs.Places.{host_number}
 use Rattle.abc_link_names.specs.Slots.{slots_of}

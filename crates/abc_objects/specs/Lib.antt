@@ -4,6 +4,7 @@ pub mod Starts
 pub mod Growing
 pub mod Opening
 pub mod Stands
+pub mod Answers
 pub mod Lines
 pub mod Objects
 pub mod Spaces

@@ -1,7 +1,7 @@
 -- The opening heap: what every run begins with.
 use Rattle.std.specs.Prelude.{◌≡◌, ℕ, ◌+◌, ◌<◌, ◌≤◌, List, [], ◌∷◌, ◌++◌, length, map, codes, replicate, Option, Some, None, option_map, false}
 use Rattle.std.specs.List.{concat, range_with_len, sum}
-use Rattle.abc_base.specs.Names.{class_name}
+use Rattle.abc_base.specs.Names.{class_name, host_classes}
 use Rattle.abc_base.specs.declared.formula.Formula.{Formula}
 use Rattle.abc_base.specs.declared.names.HostClass.{HostClass}
 use Rattle.abc_base.specs.declared.names.HostClass.TheVariants as hosts
@@ -17,7 +17,6 @@ use Rattle.abc_heap_store.specs.declared.records.Limits.{Limits}
 use Rattle.abc_heap_store.specs.declared.records.ScopeNode.{ScopeNode}
 use Rattle.abc_heap_store.specs.declared.records.What.{What}
 use Rattle.abc_heap_store.specs.declared.records.What.TheVariants as whats
-use Rattle.abc_link_names.specs.Meaning.{host_classes}
 use Rattle.abc_objects.specs.Fixed.{fixed_bytes, in_fixed}
 use Rattle.abc_objects.specs.Starts.{start_values}
 use Rattle.abc_objects.specs.declared.error.OpenError.{OpenError}

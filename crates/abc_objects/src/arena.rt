@@ -5,14 +5,15 @@ ghost use Rattle.abc_base.specs.Ranges.{IsNumber};
 ghost use Rattle.abc_heap_store.specs.What.{is_array};
 ghost use Rattle.abc_heap_store.specs.Heap.{object_at, slots_of, properties_of, elements_of, cells_used, ledger, IsFull, IsFullOf, Fits, PassesFrames};
 ghost use Rattle.abc_heap_store.specs.Texts.{IsText, text_of, IsTextMade};
-ghost use Rattle.abc_heap_store.specs.Properties.{place_in, property_in_heap, with_put, with_delete, cells_to_put, the_name, at_position, place_after, walked_value, walked_next};
-ghost use Rattle.abc_heap_store.specs.Changes.{with_object, with_slot, with_element, with_new_element, IsMade, IsFunctionMade, IsClassMade, IsArrayMade};
+ghost use Rattle.abc_heap_store.specs.Properties.{place_in, property_in_heap, with_delete, the_name, at_position, place_after, walked_value, walked_next};
+ghost use Rattle.abc_heap_store.specs.Changes.{with_object, with_slot, with_element, with_new_element, IsMade, IsFunctionMade, IsArrayMade};
 ghost use Rattle.abc_heap_store.specs.declared.records.Limit.TheVariants.{Cells, Text};
 ghost use Rattle.abc_base.specs.declared.names.HostClass.TheVariants.{Function, Object};
 ghost use Rattle.abc_link_names.specs.Linked.{LinkedFile, IsLayout};
+ghost use Rattle.abc_objects.specs.Answers.{MakesClass, PutsProperty};
 ghost use Rattle.abc_objects.specs.Fixed.{fixed_span, fixed_name};
 ghost use Rattle.abc_objects.specs.Opening.{IsOpened, IsUnopened, class_object as class_object_of, entry_of, formula_names, global_number, global_object, host_object as host_object_of, host_object_number, opening_counts, property_names};
-ghost use Rattle.abc_objects.specs.Stands.{StandsOver, IsMadeAs, IsObjectOrNone, IsScope, NamesParts, IsMadeAlone, AreEntries, Each, array_layout, array_prototype, class_object_layout, class_parts, host_class_number, host_layout, prototype_of};
+ghost use Rattle.abc_objects.specs.Stands.{StandsOver, IsMadeAs, IsObjectOrNone, IsScope, NamesParts, IsMadeAlone, AreEntries, Each, array_layout, array_prototype, host_class_number, host_layout, prototype_of};
 ghost use Rattle.abc_objects.specs.Starts.{start_values};
 ghost use Rattle.abc_objects.specs.Values.{Exists, Holds, IsObject, slot_kind};
 
@@ -184,7 +185,7 @@ impl Arena {
         requires delegate { IsObjectOrNone self.old delegate }
         requires saved { IsScope self.old saved }
         requires scopes { AreEntries self.old scopes.now }
-        ensures made { MatchResult result (λ o. IsClassMade self.old self.new o (start_values l.now (host_layout l.now Object)) (start_values l.now (class_object_layout l.now class)) (class_parts l.now class home base_prototype delegate) saved scopes.now) (λ e. IsFullOf self.old self.new 2 (length (start_values l.now (host_layout l.now Object)) + length (start_values l.now (class_object_layout l.now class)) + length scopes.now + 1) e) }
+        ensures made { MakesClass l.now class home base_prototype delegate saved scopes.now self.old self.new result }
         ensures over { StandsOver l.now self.new }
     {
         let prototype_layout = l.layout_of(Part::Host(HostClass::Object));
@@ -300,7 +301,7 @@ impl Arena {
         requires inside { IsObject self.old o }
         requires name { IsText l.now.file.strings self.old name }
         requires value { Exists l.now self.old v }
-        ensures put { MatchResult result (λ _. Fits self.old self.new (cells_to_put (place_in l.now.file.strings self.old o.0 name)) (with_object (with_put (text_of l.now.file.strings self.old) (text_of l.now.file.strings self.old name) name v) o.0 self.old)) (λ e. IsFull self.old self.new (cells_used self.old) (cells_to_put (place_in l.now.file.strings self.old o.0 name)) self.old.limits.cells Cells e) }
+        ensures put { PutsProperty l.now.file.strings o name v self.old self.new result }
         ensures over { StandsOver l.now self.new }
     {
         let _ = l;

@@ -14,11 +14,11 @@ use crate::error::OpenError;
 use crate::hosts::class_number;
 use crate::starts::starts_of;
 use crate::texts::{formula_names, part_zero, property_names};
-use abc_base::{Bytes, Host, HostClass, NoMemory, Table};
+use abc_base::{Bytes, HOST_CLASSES, Host, HostClass, NoMemory, Table};
 use abc_heap_store::{Limits, ScopeEntry, Store, What};
 use abc_heap_values::{ObjId, Span, Value};
 use abc_link::Linked;
-use abc_link_names::{HOST_CLASSES, Part};
+use abc_link_names::Part;
 use std::alloc::Global;
 
 /// The class whose prototype is the delegate of a class's prototype.

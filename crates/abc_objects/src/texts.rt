@@ -4,8 +4,7 @@ ghost use Rattle.abc_base.specs.Names.{class_name};
 ghost use Rattle.abc_objects.specs.Fixed.{fixed_bytes};
 ghost use Rattle.abc_objects.specs.Opening.{formula_names as names_of, property_names as names_with};
 
-use abc_base::{Bytes, Host, HostClass, NoMemory, Table};
-use abc_link_names::HOST_CLASSES;
+use abc_base::{Bytes, HOST_CLASSES, Host, HostClass, NoMemory, Table};
 use std::alloc::Global;
 
 /// The names of the formulas of a host, in order.

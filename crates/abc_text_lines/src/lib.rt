@@ -3,19 +3,17 @@
 //!
 //! How assembly texts are defined and proved: a part of a text is one value that says which lines a value has, and how
 //! lines are read; the ways to make a part from parts have one law each. The definitions are in specs/, the laws in
-//! proofs/. What runs is the first reason among the faults of a line.
+//! proofs/.
 //!
 //! The lines of an assembly text and of a file's value: one table of lines that the assembler and the disassembler share.
-//! The definitions are in specs/. What runs is nothing yet but the laws.
+//! What runs is the ranks and names of reasons, and the laws.
 #![tactic(auto)]
 
-mod faults;
 mod line_laws;
 mod reason;
 mod text_laws;
 mod word;
 
-pub use faults::Faults;
 pub use line_laws::{long_code_is_of_lines, rows_are_of_lines, text_has_one_answer};
 pub use reason::AsmReason;
 pub use text_laws::{line_has_one_reading, written_line_is_read};

@@ -2,7 +2,7 @@
 //!
 //! The free form of a file: its definitions and bodies with things in place of indices into pools.
 //!
-//! The laws of tidying: it keeps the free form of a file, and is told by it. What runs is nothing but the laws.
+//! The laws of tidying: it keeps the free form of a file, and is told by it.
 #![tactic(auto)]
 
 mod free_laws;

@@ -1,5 +1,6 @@
 -- The rules of verifying tried on small methods: one for each rule, which refutes it, with the place. No definition stands on these.
 use Rattle.std.specs.Prelude.{ℕ, List, [], ◌∷◌, ◌++◌, codes, false, map, pos}
+use Rattle.abc_base.specs.Names.{host_classes}
 use Rattle.abc_file_types.specs.declared.code.Body.{Body}
 use Rattle.abc_file_types.specs.declared.code.Instr.{Instr}
 use Rattle.abc_file_types.specs.declared.code.Instr.TheVariants.{Branch, One, Plain, ScopeObject, Switch, Byte}
@@ -7,7 +8,6 @@ use Rattle.abc_file_types.specs.declared.names.Multiname.TheVariants as names
 use Rattle.abc_file_types.specs.declared.names.NsKind.TheVariants as spaces
 use Rattle.abc_file_types.specs.declared.tables.Abc.{Abc}
 use Rattle.abc_file_types.specs.Pools.{empty}
-use Rattle.abc_link_names.specs.Meaning.{host_classes}
 use Rattle.abc_link_names.specs.Linked.{LinkedFile}
 use Rattle.abc_link_names.specs.declared.part.Part.TheVariants as parts
 use Rattle.abc_verify_typing.specs.declared.rule.VerifyRule.{VerifyRule}
@@ -97,4 +97,4 @@ pub record RuleExamples : Type 0 where
   pub not_index : RefutesInit (small (Plain op.PUSHNULL ∷ Switch 2 (2 ∷ []) ∷ Plain op.RETURNVOID ∷ [])) 1 rules.NotIndex
   -- no local for `this`; flag 40
   pub parameters : RefutesInit (init 0 (body 0 (Plain op.RETURNVOID ∷ []))) 0 rules.Parameters
-  pub flags : RefutesInit (init op.NEWFUNCTION (body 1 (Plain op.RETURNVOID ∷ []))) 0 rules.Flags
+  pub flags : RefutesInit (init 0x40 (body 1 (Plain op.RETURNVOID ∷ []))) 0 rules.Flags

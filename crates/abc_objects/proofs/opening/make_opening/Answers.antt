@@ -1,6 +1,6 @@
 use Rattle.std.proofs.Common.{◌≡◌, ◌∙◌, ℕ, ◌+◌, ◌++◌, ap, arith, length, map}
+use Rattle.abc_base.specs.Names.{host_classes}
 use Rattle.abc_heap_store.specs.Heap.{Heap}
-use Rattle.abc_link_names.specs.Meaning.{host_classes}
 use Rattle.abc_objects.specs.Opening.{class_object, function_objects, global_slots, prototype_object}
 use Rattle.abc_objects.proofs.Opened.{names_length}
 use Rattle.abc_objects.proofs.Steps.{built_room, opening_four, opening_made, opening_one, opening_room, opening_three, opening_two}

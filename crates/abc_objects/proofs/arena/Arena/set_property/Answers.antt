@@ -1,9 +1,8 @@
-use Rattle.std.proofs.Common.{◌≡◌, List, ℕ, MatchResult, sym, subst}
-use Rattle.abc_heap_store.specs.Heap.{Heap, Fits, IsFull, cells_used}
+use Rattle.std.proofs.Common.{◌≡◌, List, ℕ, sym, subst}
+use Rattle.abc_heap_store.specs.Heap.{Heap}
 use Rattle.abc_heap_store.specs.Texts.{IsText, text_of}
-use Rattle.abc_heap_store.specs.Properties.{with_put, cells_to_put, place_in}
-use Rattle.abc_heap_store.specs.Changes.{with_object}
-use Rattle.abc_heap_store.specs.declared.records.Limit.TheVariants.{Cells}
+use Rattle.abc_heap_store.specs.Properties.{with_put}
+use Rattle.abc_objects.specs.Answers.{PutsProperty}
 use Rattle.abc_objects.specs.Stands.{StandsOver}
 use Rattle.abc_objects.specs.Values.{Exists}
 use Rattle.abc_objects.proofs.Kept.{over_changed}
@@ -20,12 +19,9 @@ set_property-requires-clause-name c =
 pub returns-clause-put : goal.returns-clause-put
 returns-clause-put c =
     let h = c.self.inside.store in
-    let o = c.args.o.0 in
     let n = c.args.name in
     let s = subst (StandsOver c.args.l.now) (sym c.self.view_is) c.requires.over in
-    let put : List (List ℕ) → Heap → Type 0 = λ ps y. MatchResult c.set_property.result
-    (λ _. Fits y c.set_property.new.self (cells_to_put (place_in ps y o n)) (with_object (with_put (text_of ps y) (text_of ps y n) n c.args.v) o y))
-    (λ e. IsFull y c.set_property.new.self (cells_used y) (cells_to_put (place_in ps y o n)) y.limits.cells Cells e) in
+    let put : List (List ℕ) → Heap → Type 0 = λ ps y. PutsProperty ps c.args.o n c.args.v y c.set_property.new.self c.set_property.result in
     subst (put c.args.l.now.file.strings) c.self.view_is (subst (λ ps. put ps h) s.strings c.set_property.ensures)
 
 pub returns-clause-over : goal.returns-clause-over
