@@ -1,4 +1,4 @@
--- How bytes are shown in a text.
+-- How bytes are shown in a text (profile: docs/PROGRAM.md, "Words", and docs/ASSEMBLY.md).
 use Rattle.std.specs.Prelude.{ℕ, ◌+◌, ◌/◌, ◌%◌, List, [], ◌∷◌, Bool, not, nat_eq, nat_le, nat_lt, ◌&&◌, if◌then◌else◌}
 use Rattle.std.specs.List.{flat_map}
 

@@ -1,4 +1,4 @@
--- The formulas of a host.
+-- The formulas of a host (profile: docs/EMBEDDING.md, "The host").
 use Rattle.std.specs.Prelude.{◌≡◌, ℕ, ◌-◌, ◌^◌, ◌≤◌, ℤ, pos, negsuc, ◌+ℤ◌, ◌*ℤ◌, ◌≤ℤ◌, int_le, ◌&&◌, List, [], ◌∷◌, length, take, get_or, map, codes, All, AllPairs, Some, None, if◌then◌else◌}
 use Rattle.std.specs.declared.option.Option.{Option}
 use Rattle.abc_base.specs.Names.{class_name}

@@ -1,4 +1,4 @@
--- Graphs: for each node the list of the nodes that it leads to.
+-- Graphs: for each node the list of the nodes that it leads to (a tool of other definitions).
 use Rattle.std.specs.Prelude.{◌≡◌, ℕ, ◌<◌, List, [], All, Contains, Bool, true, false, length, get_or, Some, None}
 use Rattle.std.specs.declared.option.Option.{Option}
 

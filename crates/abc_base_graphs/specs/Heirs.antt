@@ -1,4 +1,4 @@
--- Lists of values under keys, of which each has first what its base has, and then its own.
+-- Lists of values under keys, of which each has first what its base has, and then its own (a tool of other definitions).
 use Rattle.std.specs.Prelude.{◌≡◌, ℕ, ◌<◌, List, Some, None, length, get_or, reverse}
 use Rattle.std.specs.declared.option.Option.{Option}
 use Rattle.std.specs.List.{flat_map}

@@ -1,4 +1,4 @@
--- Texts by their numbers.
+-- Texts by their numbers (a tool of other definitions).
 use Rattle.std.specs.Prelude.{◌≡◌, ℕ, List, [], ◌∷◌, cond, Some, unwrap_or, map, get_or, nat_eq}
 use Rattle.std.specs.declared.option.Option.{Option}
 use Rattle.std.specs.declared.hash.FoldHasher.{FoldHasher}

@@ -1,4 +1,4 @@
--- What reading a whole file answers.
+-- What reading a whole file answers (profile: docs/THEOREMS.md, "Files").
 use Rattle.std.specs.Prelude.{◌≡◌, ◌≢◌, List, ℕ, [], drop, Some, None, Ok, Err}
 use Rattle.std.specs.declared.result.Result.{Result}
 use Rattle.std.specs.declared.option.Option.{Option}

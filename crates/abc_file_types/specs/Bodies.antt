@@ -1,4 +1,4 @@
--- Method bodies: their sizes, code, exceptions and traits.
+-- Method bodies: their sizes, code, exceptions and traits (Overview, chapter 4, "Method body" and "Exception"; profile: docs/FORMAT.md).
 use Rattle.std.specs.Prelude.{ℕ, ◌≤◌, List, [], ◌++◌, All, length, map, not, nat_eq, get_or}
 use Rattle.std.specs.List.{list_any}
 use Rattle.abc_base.specs.Numbers.{number_bytes}

@@ -1,4 +1,4 @@
--- The canonical bytes of each value: its shortest spelling.
+-- The canonical bytes of each value: its shortest spelling (profile: docs/FORMAT.md, "Canonical bytes").
 use Rattle.std.specs.Prelude.{◌≡◌, ℤ, pos, negsuc, ◌≤ℤ◌, ◌<ℤ◌, ◌-◌, ◌+◌, ◌^◌, ℕ, suc, ◌%◌, ◌/◌, ◌≤◌, List, [], ◌∷◌, ◌++◌, length}
 use Rattle.std.specs.Int.{w32, cast_unsigned}
 use Rattle.std.specs.List.{flat_map}

@@ -1,4 +1,5 @@
--- Instances, classes and scripts, and all definitions in their order.
+-- Instances, classes and scripts, and all definitions in their order
+-- (Overview, chapter 4, "Instance", "Class" and "Script"; profile: docs/FORMAT.md).
 use Rattle.std.specs.Prelude.{ℕ, List, [], ◌∷◌, ◌++◌, length, Some, None}
 use Rattle.std.specs.declared.option.Option.{Option}
 use Rattle.std.specs.List.{flat_map}

@@ -1,4 +1,4 @@
--- The canonical bytes of code: the fewest for each operand, and offsets that count them.
+-- The canonical bytes of code: the fewest for each operand, and offsets that count them (profile: docs/FORMAT.md, "Canonical bytes").
 use Rattle.std.specs.Prelude.{ℕ, ℤ, pos, ◌-ℤ◌, ◌+◌, ◌-◌, ◌*◌, List, [], ◌∷◌, ◌++◌, length, get_or}
 use Rattle.std.specs.Int.{w8, w16, cast_unsigned}
 use Rattle.std.specs.List.{flat_map}

@@ -1,4 +1,4 @@
--- The whole file.
+-- The whole file (Overview, chapter 4, "abcFile"; profile: docs/FORMAT.md).
 use Rattle.std.specs.Prelude.{◌≡◌, ◌≢◌, ◌≤◌, ◌⊎◌, ℕ, List, [], ◌++◌, length, nat_eq}
 use Rattle.abc_file_types.specs.declared.reason.Reason.TheVariants as reasons
 use Rattle.abc_file_types.specs.Part.{Part, At, at, limit, Refusal, refusal, Begins, then_by, both, image, checked}

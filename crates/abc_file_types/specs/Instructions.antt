@@ -1,4 +1,4 @@
--- The parts of code: an instruction as it is spelled, with its offsets in bytes.
+-- The parts of code: an instruction as it is spelled, with its offsets in bytes (Overview, chapter 5; profile: docs/FORMAT.md, "Code").
 use Rattle.std.specs.Prelude.{ℕ, ℤ, ◌+◌, ◌%◌, ◌^◌, Bool, true, unwrap_or, List, nat_lt}
 use Rattle.std.specs.Int.{w8, w16, cast_signed}
 use Rattle.abc_file_types.specs.declared.reason.Reason.TheVariants as reasons

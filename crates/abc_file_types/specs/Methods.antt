@@ -1,4 +1,5 @@
--- Methods with their optional values, and metadata.
+-- Methods with their optional values, and metadata
+-- (Overview, chapter 4, "Method signature", "Optional parameters" and "Metadata"; profile: docs/FORMAT.md).
 use Rattle.std.specs.Prelude.{ℕ, ◌*◌, ◌/◌, List, [], ◌∷◌, ◌++◌, length, Bool, true, nat_eq, nat_le, not, ◌||◌, bit_and, if◌then◌else◌}
 use Rattle.std.specs.List.{flat_map}
 use Rattle.abc_base.specs.Numbers.{number_bytes}

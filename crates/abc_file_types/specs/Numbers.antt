@@ -1,4 +1,4 @@
--- Bytes and numbers as parts.
+-- Bytes and numbers as parts (Overview, chapter 4; profile: docs/FORMAT.md, "Numbers" and "Ranges of indices").
 use Rattle.std.specs.Int.{w32, cast_signed}
 use Rattle.std.specs.Prelude.{ℤ, ◌≡◌, ℕ, zero, suc, ◌+◌, ◌*◌, ◌%◌, ◌^◌, ◌<◌, ◌≤◌, ◌⊎◌, ◌&&◌, List, [], ◌∷◌, length, Ok, Err, nat_lt, nat_le, if◌then◌else◌}
 use Rattle.std.specs.declared.result.Result.{Result}

@@ -1,4 +1,5 @@
--- The instructions by their opcodes: their names, what follows the opcode, and the pool that an operand names.
+-- The instructions by their opcodes: their names, what follows the opcode, and the pool that an operand names
+-- (Overview, chapter 5; profile: docs/FORMAT.md, "Code").
 use Rattle.std.specs.Prelude.{ℕ, Bool, true, false, not, is_some, ◌||◌, ◌&&◌, List, [], ◌∷◌, Some, None, codes, nat_eq, if◌then◌else◌}
 use Rattle.std.specs.declared.option.Option.{Option}
 use Rattle.abc_file_types.specs.declared.opcodes.Form.{Form}

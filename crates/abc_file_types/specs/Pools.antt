@@ -1,4 +1,5 @@
--- The constant pools: numbers, texts, namespaces, sets of namespaces and multinames.
+-- The constant pools: numbers, texts, namespaces, sets of namespaces and multinames
+-- (Overview, chapter 4, "Constant pool", "Namespace" and "Multiname"; profile: docs/FORMAT.md).
 use Rattle.std.specs.Prelude.{ℕ, ℤ, List, [], ◌∷◌, ◌++◌, length, Bool, true, false, nat_eq, ◌||◌, ◌&&◌, if◌then◌else◌}
 use Rattle.abc_base.specs.Numbers.{number_bytes}
 use Rattle.abc_file_types.specs.declared.reason.Reason.TheVariants as reasons

@@ -1,4 +1,4 @@
--- The names of the reasons, as error lines show them.
+-- The names of the reasons, as error lines show them (profile: docs/FORMAT.md, "What is refused").
 use Rattle.std.specs.Prelude.{ℕ, List, codes}
 use Rattle.abc_file_types.specs.declared.reason.Reason.{Reason}
 use Rattle.abc_file_types.specs.declared.reason.Reason.TheVariants as reasons

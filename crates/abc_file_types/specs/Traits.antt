@@ -1,4 +1,4 @@
--- Traits.
+-- Traits (Overview, chapter 4, "Trait"; profile: docs/FORMAT.md).
 use Rattle.std.specs.Prelude.{ℕ, ◌+◌, ◌*◌, ◌%◌, ◌/◌, List, [], ◌∷◌, ◌++◌, true, false, nat_eq, nat_le, not, Some, None, if◌then◌else◌}
 use Rattle.std.specs.declared.option.Option.{Option}
 use Rattle.abc_base.specs.Numbers.{number_bytes}

@@ -1,4 +1,4 @@
--- Bases and interfaces of classes.
+-- Bases and interfaces of classes (Overview, chapter 4, "Instance"; profile: docs/LINKING.md, "The rules").
 use Rattle.std.specs.Prelude.{ℕ, List, [], ◌∷◌, Bool, true, false, nat_eq, not, ◌&&◌, Some, None, if◌then◌else◌, map}
 use Rattle.std.specs.declared.option.Option.{Option}
 use Rattle.std.specs.List.{list_any, flat_map}

@@ -1,4 +1,4 @@
--- Classes of a file by their numbers; no number past the end is asked for.
+-- Classes of a file by their numbers; no number past the end is asked for (a tool of other definitions).
 use Rattle.std.specs.Prelude.{ℕ, [], None, get_or}
 use Rattle.abc_file_types.specs.declared.classes.Instance.{Instance}
 use Rattle.abc_file_types.specs.declared.tables.Abc.{Abc}

@@ -1,5 +1,5 @@
--- Which interfaces a class names: itself, through its bases, or through the interfaces of interfaces. The base of an
--- interface is not followed.
+-- Which interfaces a class names: itself, through its bases, or through the interfaces of interfaces. The base of an interface is not followed
+-- (profile: docs/LINKING.md, "Interfaces").
 use Rattle.std.specs.Prelude.{ℕ, List, [], ◌++◌, IsTrue, if◌then◌else◌, map}
 use Rattle.abc_base_graphs.specs.Graph.{Leads}
 use Rattle.abc_link_names.specs.Meaning.{resolve}

@@ -1,4 +1,4 @@
--- The items of a file, and their order.
+-- The items of a file, and their order (profile: docs/LINKING.md, "The rules").
 use Rattle.std.specs.Prelude.{◌≡◌, ℕ, ◌<◌, ◌⊎◌, List, codes, length}
 use Rattle.abc_file_types.specs.declared.tables.Abc.{Abc}
 use Rattle.abc_link_names.specs.declared.items.LinkRule.{LinkRule}

@@ -1,4 +1,5 @@
--- Keys by which namespaces, and names of a namespace and a text, are found: equal keys are those of equal ones.
+-- Keys by which namespaces, and names of a namespace and a text, are found: equal keys are those of equal ones
+-- (a tool of other definitions; profile: docs/LINKING.md, "Texts, namespaces and names", for equality).
 use Rattle.std.specs.Prelude.{ℕ, List, Bool, nat_eq, ◌&&◌, if◌then◌else◌}
 use Rattle.std.specs.Str.{bytes_eq}
 use Rattle.abc_file_types.specs.declared.names.Namespace.{Namespace}

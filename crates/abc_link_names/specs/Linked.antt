@@ -1,5 +1,5 @@
--- A linked file is the file and the list of the parts that have layouts, by the numbers of these. All else is a function of
--- the two.
+-- A linked file is the file and the list of the parts that have layouts, by the numbers of these. All else is a function of the two
+-- (profile: docs/LINKING.md).
 use Rattle.std.specs.Prelude.{ℕ, ◌<◌, ◌^◌, List, length, unwrap_or}
 use Rattle.std.specs.declared.option.Option.{Option}
 use Rattle.abc_file_types.specs.Files.{Fits}

@@ -1,4 +1,4 @@
--- What a name of a type, a base or an interface stands for.
+-- What a name of a type, a base or an interface stands for (Overview, chapter 2; profile: docs/LINKING.md, "Texts, namespaces and names").
 use Rattle.std.specs.Prelude.{ℕ, List, [], ◌∷◌, Bool, true, false, nat_eq, ◌&&◌, Some, None, if◌then◌else◌, codes}
 use Rattle.std.specs.declared.option.Option.{Option}
 use Rattle.std.specs.List.{list_any}

@@ -1,4 +1,4 @@
--- Layouts by their numbers: a list of the parts that have one.
+-- Layouts by their numbers: a list of the parts that have one (profile: docs/LINKING.md, "Layouts").
 use Rattle.std.specs.Prelude.{◌≡◌, ◌≢◌, ℕ, ◌<◌, List, Some, All, Contains, length, take, get_or}
 use Rattle.abc_base.specs.declared.names.HostClass.TheVariants as hosts
 use Rattle.abc_file_types.specs.declared.tables.Abc.{Abc}

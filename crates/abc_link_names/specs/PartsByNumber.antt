@@ -1,4 +1,4 @@
--- The parts of a file by their numbers; no number past the end is asked for.
+-- The parts of a file by their numbers; no number past the end is asked for (a tool of other definitions).
 use Rattle.std.specs.Prelude.{ℕ, List, [], get_or}
 use Rattle.abc_link_names.specs.Instances.{instance_at}
 use Rattle.abc_file_types.specs.declared.methods.Method.{Method}

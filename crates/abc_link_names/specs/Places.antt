@@ -1,4 +1,4 @@
--- Layouts found by their parts, and the layout that one stands under.
+-- Layouts found by their parts, and the layout that one stands under (profile: docs/LINKING.md, "Layouts").
 use Rattle.std.specs.Prelude.{ℕ, List, Bool, nat_eq, ◌&&◌, Some, None, map, unwrap_or}
 use Rattle.std.specs.declared.option.Option.{Option}
 use Rattle.abc_base.specs.declared.names.HostClass.{HostClass}

@@ -1,5 +1,5 @@
--- Texts, namespaces, sets and names of a file by their indices. Index 0 is the empty text, and no namespace, set or name;
--- no index past the end is asked for.
+-- Texts, namespaces, sets and names of a file by their indices. Index 0 is the empty text, and no namespace, set or name; no index past the end is
+-- asked for (Overview, chapters 2 and 4; profile: docs/LINKING.md, "Texts, namespaces and names").
 use Rattle.std.specs.Prelude.{ℕ, ◌-◌, List, [], Bool, false, nat_eq, not, ◌||◌, ◌&&◌, Some, None, if◌then◌else◌, get_or}
 use Rattle.std.specs.declared.option.Option.{Option}
 use Rattle.std.specs.Str.{bytes_eq}

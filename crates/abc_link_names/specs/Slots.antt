@@ -1,4 +1,4 @@
--- The slots of layouts, and their numbers.
+-- The slots of layouts, and their numbers (Overview, chapter 4, "Trait"; profile: docs/LINKING.md, "Slots").
 use Rattle.std.specs.Prelude.{ℕ, ◌<◌, ◌^◌, List, [], ◌∷◌, true, false, Some, None, if◌then◌else◌, get_or, length, nat_eq, unwrap_or}
 use Rattle.std.specs.declared.option.Option.{Option}
 use Rattle.std.specs.List.{flat_map}

@@ -1,4 +1,5 @@
--- The value at which a slot starts: that of its trait, coerced to its type.
+-- The value at which a slot starts: that of its trait, coerced to its type
+-- (Overview, chapter 4, "Trait"; profile: docs/LINKING.md, "Where a slot starts").
 use Rattle.std.specs.Prelude.{ℕ, ℤ, ◌-◌, pos, List, [], ◌∷◌, Bool, true, false, nat_eq, not, Some, None, if◌then◌else◌, get_or}
 use Rattle.std.specs.Ordering.{int_eq}
 use Rattle.std.specs.Int.{cast_signed, cast_unsigned, w32}

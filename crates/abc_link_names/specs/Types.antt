@@ -1,4 +1,4 @@
--- Types of names, over the numbers of layouts.
+-- Types of names, over the numbers of layouts (profile: docs/LINKING.md, "Types").
 use Rattle.std.specs.Prelude.{ℕ, Some, None, if◌then◌else◌}
 use Rattle.std.specs.declared.option.Option.{Option}
 use Rattle.abc_base.specs.declared.names.HostClass.{HostClass}

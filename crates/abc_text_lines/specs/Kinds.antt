@@ -1,4 +1,4 @@
--- The words that an assembly text has for kinds.
+-- The words that an assembly text has for kinds (profile: docs/ASSEMBLY.md, "Lines").
 use Rattle.std.specs.Prelude.{ℕ, true, false, List, [], ◌∷◌, codes}
 use Rattle.abc_file_types.specs.declared.names.NsKind.{NsKind}
 use Rattle.abc_file_types.specs.declared.names.NsKind.TheVariants as spaces

@@ -1,4 +1,4 @@
--- The operands of each line.
+-- The operands of each line (profile: docs/ASSEMBLY.md, "Lines" and "Code").
 use Rattle.std.specs.Prelude.{ℕ, zero, suc, ℤ, pos, negsuc, ◌^◌, true, false, List, [], ◌∷◌, Some, None}
 use Rattle.std.specs.declared.option.Option.{Option}
 use Rattle.abc_text_lines.specs.declared.reason.AsmReason.TheVariants as reasons

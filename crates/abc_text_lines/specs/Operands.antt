@@ -1,4 +1,5 @@
--- Operands: what a token may be where one is wanted, and lists of them.
+-- Operands: what a token may be where one is wanted, and lists of them
+-- (profile: docs/ASSEMBLY.md, "Bytes, lines and tokens" and "Why a text is refused").
 use Rattle.std.specs.Prelude.{◌≡◌, ℕ, zero, suc, ℤ, pos, negsuc, ◌+◌, ◌-◌, ◌*◌, ◌^◌, Bool, true, false, ◌&&◌, ◌||◌, nat_le, nat_lt, nat_eq, int_le, List, [], ◌∷◌, ◌++◌, length, slice_index, Some, None, Ok, Err, if◌then◌else◌}
 use Rattle.std.specs.List.{list_all}
 use Rattle.std.specs.Str.{bytes_eq}

@@ -1,4 +1,4 @@
--- The reasons in their order, and the first of some.
+-- The reasons in their order, and the first of some (profile: docs/ASSEMBLY.md, "Why a text is refused").
 use Rattle.std.specs.Prelude.{ℕ, List, [], ◌∷◌, Some, None, codes, nat_le, if◌then◌else◌}
 use Rattle.std.specs.declared.option.Option.{Option}
 use Rattle.abc_text_lines.specs.declared.reason.AsmReason.{AsmReason}

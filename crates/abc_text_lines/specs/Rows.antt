@@ -1,4 +1,4 @@
--- Parts of a text: which lines a value has, and how lines are read.
+-- Parts of a text: which lines a value has, and how lines are read (a tool of other definitions).
 use Rattle.std.specs.Prelude.{ℕ, zero, suc, ◌+◌, Bool, true, false, nat_eq, List, [], ◌∷◌, ◌++◌, Some, None, Ok, Err, if◌then◌else◌}
 use Rattle.std.specs.declared.option.Option.{Option}
 use Rattle.std.specs.declared.result.Result.{Result}

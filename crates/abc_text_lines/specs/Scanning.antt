@@ -1,4 +1,4 @@
--- The tokens of a line, as one walk over its bytes finds them.
+-- The tokens of a line, as one walk over its bytes finds them (profile: docs/ASSEMBLY.md, "Bytes, lines and tokens").
 use Rattle.std.specs.Prelude.{ℕ, Bool, true, false, nat_eq, List, [], ◌∷◌, ◌++◌, if◌then◌else◌}
 use Rattle.abc_text_lines.specs.Tokens.{Token, Bare, Quoted, backslash, hex_pair, is_blank, is_hex, quote, semicolon}
 

@@ -1,4 +1,4 @@
--- From the bytes of a text to its lines.
+-- From the bytes of a text to its lines (profile: docs/ASSEMBLY.md, "Bytes, lines and tokens" and "Code").
 use Rattle.std.specs.Prelude.{ℕ, ◌+◌, Bool, true, false, nat_eq, List, [], ◌∷◌, ◌++◌, codes, Some, None, if◌then◌else◌}
 use Rattle.std.specs.Str.{bytes_eq}
 use Rattle.std.specs.declared.option.Option.{Option}

@@ -1,4 +1,4 @@
--- How tokens are written.
+-- How tokens are written (profile: docs/ASSEMBLY.md, "The text that `dis` writes").
 use Rattle.std.specs.Prelude.{◌≡◌, ℕ, ◌<◌, ◌⊎◌, true, List, [], ◌∷◌, ◌++◌}
 use Rattle.std.specs.List.{AllByRecursion}
 use Rattle.abc_base.specs.Escapes.{escaped}

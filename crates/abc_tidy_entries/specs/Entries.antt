@@ -1,4 +1,5 @@
--- The entries of a file's pools as nodes: what each is by itself, and the entries that its indices name, in order.
+-- The entries of a file's pools as nodes: what each is by itself, and the entries that its indices name, in order
+-- (profile: docs/TIDYING.md, "When two entries are one").
 use Rattle.std.specs.Prelude.{ℕ, ◌+◌, Bool, List, [], ◌∷◌, ◌++◌, map, unwrap_or, nat_eq}
 use Rattle.std.specs.Ordering.{int_eq}
 use Rattle.std.specs.Cmp.Lexicographic.{pointwise}

@@ -1,5 +1,5 @@
--- The pools of a tidied file: the entries that were met, pool by pool in the order in which they were met, each with new
--- numbers in place of its indices.
+-- The pools of a tidied file: the entries that were met, pool by pool in the order in which they were met, each with new numbers in place of its
+-- indices (profile: docs/TIDYING.md, "The visit").
 use Rattle.std.specs.Prelude.{ℕ, ◌+◌, ◌-◌, List, [], map, nat_lt, slice_get, if◌then◌else◌}
 use Rattle.std.specs.List.{flat_map}
 use Rattle.std.specs.Option.{option_to_list}

@@ -1,4 +1,4 @@
--- The rules of tidying, each with what breaks it, and the first that is broken.
+-- The rules of tidying, each with what breaks it, and the first that is broken (profile: docs/TIDYING.md, "What is refused").
 use Rattle.std.specs.Prelude.{◌≡◌, ℕ, ◌<◌, ◌≤◌, List, All, Bool, true, false, codes, length, get_or}
 use Rattle.std.specs.List.{flat_map}
 use Rattle.abc_base_graphs.specs.Graph.{Leads, Returns}

@@ -1,4 +1,4 @@
--- The indices of a file's definitions and bodies that name entries of its pools, in file order.
+-- The indices of a file's definitions and bodies that name entries of its pools, in file order (profile: docs/TIDYING.md, "What an index names").
 use Rattle.std.specs.Prelude.{ℕ, List, [], ◌∷◌, ◌++◌, map, Some, None}
 use Rattle.std.specs.declared.option.Option.{Option}
 use Rattle.std.specs.List.{flat_map}

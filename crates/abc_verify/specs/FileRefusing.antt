@@ -1,4 +1,4 @@
--- Why an input gives no verified file.
+-- Why an input gives no verified file (profile: docs/PROGRAM.md, "Statuses").
 use Rattle.std.specs.Prelude.{◌≡◌, ◌<◌, ℕ, List, [], get_or, length}
 use Rattle.abc_file_types.specs.Part.{refusal}
 use Rattle.abc_file_types.specs.declared.reason.Reason.{Reason}

@@ -1,4 +1,4 @@
--- What an instruction does to a state, by its row.
+-- What an instruction does to a state, by its row (Overview, chapter 5; profile: docs/VERIFYING.md, "Instructions").
 use Rattle.std.specs.Prelude.{ℕ, ◌+◌, ◌-◌, ◌*◌, List, [], ◌∷◌, ◌++◌, Bool, true, false, cond, not, ◌&&◌, leb, ltb, Option, Some, None, length, take, drop, set, map, flat_map, filter, slice_get}
 use Rattle.abc_link_names.specs.declared.types.Kind.{Kind}
 use Rattle.abc_link_names.specs.declared.types.Kind.TheVariants.{Any, Undef, Null, Num, Bool as Truth, Text, Space, Obj}

@@ -1,4 +1,5 @@
--- A method with its body, as a verifier sees it: what is known as it begins, its sizes, its code and its handlers.
+-- A method with its body, as a verifier sees it: what is known as it begins, its sizes, its code and its handlers
+-- (Overview, chapter 4, "Method signature" and "Method body"; profile: docs/VERIFYING.md, "States").
 use Rattle.std.specs.Prelude.{ℕ, suc, ◌-◌, List, [], ◌∷◌, Bool, ◌&&◌, ◌||◌, Option, Some, None, if◌then◌else◌, map, ltb, ◌++◌}
 use Rattle.abc_base.specs.declared.names.HostClass.TheVariants as hosts
 use Rattle.abc_link_names.specs.Instances.{instance_at}

@@ -1,4 +1,4 @@
--- The rules by the names that a refusal shows.
+-- The rules by the names that a refusal shows (profile: docs/VERIFYING.md, "Rules").
 use Rattle.std.specs.Prelude.{ℕ, List, codes}
 use Rattle.abc_verify_typing.specs.declared.rule.VerifyRule.{VerifyRule}
 use Rattle.abc_verify_typing.specs.declared.rule.VerifyRule.TheVariants as rules

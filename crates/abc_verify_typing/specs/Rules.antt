@@ -1,4 +1,4 @@
--- The rules, in the order in which a refusal names them.
+-- The rules, in the order in which a refusal names them (profile: docs/VERIFYING.md, "Rules").
 use Rattle.std.specs.Prelude.{ℕ, zero, suc, is_some, nat_eq, ◌+◌, ◌-◌, List, [], ◌∷◌, ◌++◌, Bool, true, false, cond, not, ◌&&◌, ◌||◌, leb, ltb, eqb, Option, Some, None, length, map, slice_get}
 use Rattle.abc_link_names.specs.declared.types.Kind.{Kind}
 use Rattle.abc_link_names.specs.declared.types.Kind.TheVariants.{Any, Undef, Null, Num, Bool as Truth, Text, Space, Obj}

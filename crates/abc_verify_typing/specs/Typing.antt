@@ -1,4 +1,4 @@
--- Typings, and what can be derived.
+-- Typings, and what can be derived (profile: docs/VERIFYING.md, "States" and "Typings").
 use Rattle.std.specs.Prelude.{◌≡◌, ℕ, List, [], ◌∷◌, ◌++◌, Option, Some, None, length, take, replicate, ◌⊎◌}
 use Rattle.abc_verify_typing.specs.Lists.{Each2}
 use Rattle.abc_link_names.specs.declared.types.Kind.TheVariants.{Undef}
