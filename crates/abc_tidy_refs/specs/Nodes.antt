@@ -1,5 +1,5 @@
 -- The entries of all pools as nodes, numbered one after the other: node 0 stands for every index 0 and for every index of no entry, and then come the
--- entries of the pools in file order (profile: docs/TIDYING.md, "What an index names").
+-- entries of the pools in file order (profile: docs/TIDYING.md, "What an index names" and "What is refused").
 use Rattle.std.specs.Prelude.{ℕ, ◌+◌, ◌<◌, ◌^◌, List, length, nat_eq, nat_le, get_or, if◌then◌else◌}
 use Rattle.abc_tidy_refs.specs.declared.nodes.Counts.{Counts}
 use Rattle.abc_tidy_refs.specs.declared.nodes.Numbers.{Numbers}
