@@ -67,5 +67,6 @@ twice = record { name = codes "twice"; constant = pos 0; factors = pos 2 ∷ [] 
 abbrev pub plus : Formula
 plus = record { name = codes "plus"; constant = pos 0; factors = pos 1 ∷ pos 1 ∷ [] }
 
+-- the formulas of the built-in host: `twice` is number 0, and `plus` number 1
 abbrev pub builtin_formulas : List Formula
 builtin_formulas = twice ∷ plus ∷ []

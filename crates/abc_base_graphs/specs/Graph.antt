@@ -20,6 +20,7 @@ Returns graph x = Leads graph x x
 
 -- ---- sets of nodes, as one mark for each node
 
+-- the node x is one of those that are marked
 pub record Has (marks : List Bool) (x : ℕ) : Type 0 where
   pub marked : get_or marks x false ≡ true
 

@@ -5,6 +5,7 @@ use Rattle.std.specs.List.{flat_map}
 use Rattle.abc_base_graphs.specs.Ways.{way}
 use Rattle.abc_base_graphs.specs.Listed.{Listed, empty}
 
+-- the list of the number l; past the end it is empty
 abbrev pub list_at : {T : Type 0} → List (Listed T) → ℕ → Listed T
 list_at lists l = get_or lists l empty
 
