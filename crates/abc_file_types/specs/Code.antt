@@ -93,6 +93,7 @@ code_body n = code_body_of instruction (pieces n) n
 abbrev pub code_of : (ℕ → Part Code) → Part Code
 code_of body = image (λ x. x.1) (then_by code_length body)
 
+-- the code of a body: its length in bytes, and its instructions with their starts
 unfoldable pub code : Part Code
 code = code_of code_body
 

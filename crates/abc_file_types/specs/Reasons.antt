@@ -3,6 +3,7 @@ use Rattle.std.specs.Prelude.{ℕ, List, codes}
 use Rattle.abc_file_types.specs.declared.reason.Reason.{Reason}
 use Rattle.abc_file_types.specs.declared.reason.Reason.TheVariants as reasons
 
+-- the name of a reason
 abbrev pub reason_name : Reason → List ℕ
 reason_name reasons.Short = codes "Short"
 reason_name reasons.Version = codes "Version"
