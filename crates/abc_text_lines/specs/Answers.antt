@@ -26,6 +26,7 @@ pairs [] = []
 pairs (a ∷ []) = []
 pairs (a ∷ b ∷ items) = (a, b) ∷ pairs items
 
+-- the strings of such pairs, one after the other
 abbrev pub joined : List (ℕ × ℕ) → List ℕ
 joined [] = []
 joined (pair ∷ pairs) = pair.0 ∷ pair.1 ∷ joined pairs

@@ -22,6 +22,7 @@ rank reasons.SecondBody = 13
 rank reasons.FileTooLong = 14
 rank reasons.TextTooLong = 15
 
+-- the name of a reason, as error lines show it
 abbrev pub reason_name : AsmReason → List ℕ
 reason_name reasons.Text = codes "Text"
 reason_name reasons.Word = codes "Word"

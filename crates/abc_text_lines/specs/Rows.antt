@@ -9,6 +9,7 @@ use Rattle.abc_text_lines.specs.Reasons.{least}
 use Rattle.abc_text_lines.specs.Words.{place_of}
 use Rattle.abc_text_lines.specs.Lines.{Row, Item, Shown, Line, Labels}
 
+-- Why a text is refused: the number of a line, and the reason there.
 pub record Fault : Type 0 where
   pub line : ℕ
   pub reason : AsmReason

@@ -118,6 +118,7 @@ abbrev pub labels_set : ℕ → List Raw → List Label
 labels_set n [] = []
 labels_set n (raw ∷ raws) = by_step (step_of raw.word) [] (record { name = raw.name; number = n } ∷ labels_set n raws) (labels_set (n + 1) raws) (labels_set n raws)
 
+-- the name is one of the others
 abbrev pub is_among : List ℕ → List (List ℕ) → Bool
 is_among name [] = false
 is_among name (other ∷ others) = if bytes_eq other name then true else is_among name others
@@ -165,5 +166,6 @@ sizes_in rows = record {
   classes = count_all 20 rows;
 }
 
+-- how many instances a text has, by its lines
 abbrev pub instances_in : List Row → ℕ
 instances_in rows = count_all 14 rows
