@@ -116,6 +116,7 @@ no_parts xs = map (λ x. []) xs
 abbrev pub value_graph : Abc → List (List ℕ)
 value_graph v = ([] ∷ []) ++ no_parts (int_places v) ++ no_parts (uint_places v) ++ no_parts (double_places v) ++ no_parts (text_places v)
 
+-- for each node those that its entry names; node 0, numbers, doubles and strings name none
 abbrev pub graph_of : Abc → List (List ℕ)
 graph_of v =
     value_graph v ++ map (space_parts (counts_of v)) v.namespaces ++ map (set_parts (counts_of v)) v.sets ++ map (name_parts (counts_of v)) v.names

@@ -52,5 +52,6 @@ pools_over w f v seen = let c = f.counts in record w {
   names = map (new_name f) (picked (c.ints + c.uints + c.doubles + c.strings + c.namespaces + c.sets) v.names seen);
 }
 
+-- a file that has nothing but the pools of the entries that were met, with new numbers
 abbrev pub new_pools : Numbers → Abc → List ℕ → Abc
 new_pools = pools_over empty
