@@ -49,6 +49,7 @@ rule_name rules.SameSlot = codes "SameSlot"
 rule_name rules.TraitNotRun = codes "TraitNotRun"
 rule_name rules.TooLarge = codes "TooLarge"
 
+-- the name of a kind of item, as error lines show it
 abbrev pub kind_name : ItemKind → List ℕ
 kind_name kinds.File = codes "file"
 kind_name kinds.Method = codes "method"

@@ -11,6 +11,7 @@ use Rattle.abc_link_names.specs.Places.{base_of, place_of}
 use Rattle.abc_link_names.specs.declared.part.LayoutId.{LayoutId}
 use Rattle.abc_link_names.specs.declared.part.Part.{Part}
 
+-- A file, and what each of its layouts is of.
 pub record LinkedFile : Type 0 where
   pub file : Abc
   pub parts : List Part
@@ -32,6 +33,7 @@ IsLayout l x = x.0 < length l.parts
 abbrev pub part_of : LinkedFile → LayoutId → Part
 part_of l x = part_at l.parts x.0
 
+-- the layout of a part that has one
 abbrev pub layout_of : LinkedFile → Part → LayoutId
 layout_of l p = record { 0 = place_of l.parts p }
 

@@ -6,6 +6,7 @@ use Rattle.abc_link_names.specs.Parts.{HasLayout, parent}
 use Rattle.abc_link_names.specs.declared.part.Part.{Part}
 use Rattle.abc_link_names.specs.declared.part.Part.TheVariants as parts
 
+-- the part whose layout has the number x
 abbrev pub part_at : List Part → ℕ → Part
 part_at all x = get_or all x (parts.Host hosts.Object)
 

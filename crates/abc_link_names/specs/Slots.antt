@@ -68,6 +68,7 @@ own_numbers l p = flat_map (λ t. numbers_in t.body) (traits_of l.file p)
 
 -- ---- with what is inherited
 
+-- all slots of the layout x: those of its bases, the highest base first, and then its own
 abbrev pub slots_of : LinkedFile → ℕ → List SlotInfo
 slots_of l x = heritage (base l) (λ y. own_slots l (part_at l.parts y)) (Some x)
 

@@ -20,9 +20,11 @@ use Rattle.abc_link_names.specs.declared.start.Start.TheVariants as starts
 
 -- ---- the value of a trait
 
+-- the number of an index into the pool of ints; of index 0 it is 0
 abbrev pub int_at : Abc → ℕ → ℤ
 int_at v n = if nat_eq n 0 then pos 0 else get_or v.ints (n - 1) (pos 0)
 
+-- the number of an index into the pool of uints; of index 0 it is 0
 abbrev pub uint_at : Abc → ℕ → ℕ
 uint_at v n = if nat_eq n 0 then 0 else get_or v.uints (n - 1) 0
 

@@ -24,6 +24,7 @@ host_type l hosts.Str = types.Text
 host_type l hosts.Namespace = types.Space
 host_type l other = types.Of (layout_of l (parts.Host other))
 
+-- the type of what a name stands for
 abbrev pub type_in : LinkedFile → Named → Ty
 type_in l named.Any = types.Any
 type_in l named.Void = types.Void
