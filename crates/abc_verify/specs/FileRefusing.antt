@@ -37,10 +37,12 @@ pub data IsRefused (input : List ℕ) : VerifiedError → Type 0 where
 
 -- ---- answers, where want of memory is free, and a failed read has another cause
 
+-- the error says why the file isn't verified, or is want of memory
 abbrev pub IsUnverifiedBy : Abc → List (List ℕ) → VerifiedError → Type 0
 IsUnverifiedBy v starts errors.NoMemory = Unit {0}
 IsUnverifiedBy v starts e = IsUnverified v starts e
 
+-- the error says why the input is no verified file, or is want of memory or a failed read
 abbrev pub IsRefusedBy : List ℕ → VerifiedError → Type 0
 IsRefusedBy input errors.NoMemory = Unit {0}
 IsRefusedBy input errors.ReadFault = Unit {0}

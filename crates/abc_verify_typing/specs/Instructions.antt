@@ -4,6 +4,7 @@ use Rattle.abc_file_types.specs.declared.code.Instr.{Instr}
 use Rattle.abc_file_types.specs.declared.code.Instr.TheVariants as instrs
 use Rattle.abc_file_types.specs.declared.op.TheConstants as op
 
+-- the opcode of an instruction
 abbrev pub opcode : Instr → ℕ
 opcode (instrs.Plain code) = code
 opcode (instrs.One code n) = code

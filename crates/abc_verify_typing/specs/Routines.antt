@@ -24,6 +24,7 @@ use Rattle.abc_verify_typing.specs.declared.catch.Catch.{Catch}
 use Rattle.abc_verify_typing.specs.declared.home.Home.{Home}
 use Rattle.abc_verify_typing.specs.declared.home.Home.TheVariants.{Elsewhere, OnInstances, MakesInstances}
 
+-- A method with its body.
 pub record Routine : Type 0 where
   -- what a call fills: `this`, then the parameters, then the array of what is left over or of all arguments
   pub filled : List Kind
@@ -41,6 +42,7 @@ pub record Routine : Type 0 where
 
 -- ---- of a file
 
+-- the kind, or Any where none is known
 abbrev pub or_any : Option Kind → Kind
 or_any None = Any
 or_any (Some k) = k

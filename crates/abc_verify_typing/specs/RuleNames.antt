@@ -3,6 +3,7 @@ use Rattle.std.specs.Prelude.{ℕ, List, codes}
 use Rattle.abc_verify_typing.specs.declared.rule.VerifyRule.{VerifyRule}
 use Rattle.abc_verify_typing.specs.declared.rule.VerifyRule.TheVariants as rules
 
+-- the name of a rule
 abbrev pub rule_name : VerifyRule → List ℕ
 rule_name rules.NotRun = codes "NotRun"
 rule_name rules.PoolIndex = codes "PoolIndex"
