@@ -51,7 +51,7 @@ IsTrailing w s w2 s2 errors.NoMemory = ⊥
 abbrev pub Writes : (Abc → List ℕ) → List ℕ → List ℕ → Type 0
 Writes write bytes input = (v : Abc) × IsFile v input × (bytes ≡ write v)
 
--- The bytes are what `write` makes of the file that the input spells: the input `left` that the source tells, or else some input.
+-- The bytes are what `write` makes of the file that the input spells. The input is `left`, where the source tells it, or else some input.
 abbrev pub IsWrittenOf : (Abc → List ℕ) → Option (List ℕ) → List ℕ → Type 0
 IsWrittenOf write left bytes = OfInput left (Writes write bytes)
 
@@ -65,7 +65,7 @@ Refuses (errors.Refused place reason) input = IsBadFile input (refusal place rea
 Refuses errors.ReadFault input = Unit {0}
 Refuses errors.NoMemory input = Unit {0}
 
--- The error, if it is a refusal, is the first fault of the input: of the input `left` that the source tells, or else of some input.
+-- The error, if it is a refusal, is the first fault of the input. The input is `left`, where the source tells it, or else some input.
 abbrev pub IsFaultOf : Option (List ℕ) → ReadError → Type 0
 IsFaultOf left e = OfInput left (Refuses e)
 

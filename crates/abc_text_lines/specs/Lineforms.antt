@@ -53,11 +53,11 @@ double_line = seen (λ x. record { 0 = x.0 }) (λ d. (d.0, tt)) (eight & none)
 unfoldable pub string_line : Operands (List ℕ)
 string_line = alone text
 
--- `ns`: a kind word, and the index of a string or 0
+-- `ns`: a kind word, and the name, by the index of a string or 0
 unfoldable pub namespace_line : Sizes → Operands Namespace
 namespace_line v = seen (λ x. record { kind = x.0; name = x.1.0 }) (λ n. (n.kind, (n.name, tt))) (space_kind & (index_upto v.strings & none))
 
--- `set`: any number of indices of namespaces, none of them 0
+-- `set`: any number of namespaces, each by its index, which isn't 0
 unfoldable pub set_line : Sizes → Operands (List ℕ)
 set_line v = several (entry_upto v.namespaces)
 
@@ -109,11 +109,11 @@ pub record MethodHead : Type 0 where
   pub name : ℕ
   pub flags : ℕ
 
--- `method`: the indices of a multiname, the return type, and of a string, the name, or 0; and the flags
+-- `method`: the return type, by the index of a multiname or 0, the name, by the index of a string or 0, and the flags
 unfoldable pub method_line : Sizes → Operands MethodHead
 method_line v = seen (λ x. record { ret = x.0; name = x.1.0; flags = x.1.1.0 }) (λ m. (m.ret, (m.name, (m.flags, tt)))) (index_upto v.names & (index_upto v.strings & (number_below 256 & none)))
 
--- `param`: the index of a multiname, the type of a parameter, or 0
+-- `param`: the type of a parameter, by the index of a multiname or 0
 unfoldable pub param_line : Sizes → Operands ℕ
 param_line v = alone (index_upto v.names)
 
@@ -133,11 +133,11 @@ option_line v = seen (λ x. record { kind = x.0; value = x.1.0 }) (λ o. (o.kind
 unfoldable pub number_line : Operands ℕ
 number_line = alone u30
 
--- `metadata`: the index of a string, its name, or 0
+-- `metadata`: the name, by the index of a string or 0
 unfoldable pub string_index_line : Sizes → Operands ℕ
 string_index_line v = alone (index_upto v.strings)
 
--- `item`: two indices of strings, or 0
+-- `item`: two strings, each by its index or 0
 unfoldable pub entry_line : Sizes → Operands (ℕ × ℕ)
 entry_line v = seen (λ x. (x.0, x.1.0)) (λ e. (e.0, (e.1, tt))) (index_upto v.strings & (index_upto v.strings & none))
 
@@ -149,19 +149,19 @@ pub record InstanceHead : Type 0 where
   pub super_name : ℕ
   pub flags : ℕ
 
--- `instance`: the index of a multiname, that of the base or 0, and the flags
+-- `instance`: the name of a class and that of its base, each by the index of a multiname, which may be 0 for the base, and the flags
 unfoldable pub instance_line : Sizes → Operands InstanceHead
 instance_line v = seen (λ x. record { name = x.0; super_name = x.1.0; flags = x.1.1.0 }) (λ i. (i.name, (i.super_name, (i.flags, tt)))) (entry_upto v.names & (index_upto v.names & (number_below 256 & none)))
 
--- `protected`: the index of a namespace, or 0
+-- `protected`: a namespace, by its index or 0
 unfoldable pub protected_line : Sizes → Operands ℕ
 protected_line v = alone (index_upto v.namespaces)
 
--- `implements`: the index of a multiname, the name of an interface
+-- `implements`: the name of an interface, by the index of a multiname
 unfoldable pub implements_line : Sizes → Operands ℕ
 implements_line v = alone (entry_upto v.names)
 
--- `iinit`, `class` and `script`: the index of a method, the initializer
+-- `iinit`, `class` and `script`: the initializer, by the index of a method
 unfoldable pub method_index_line : Sizes → Operands ℕ
 method_index_line v = alone (index_below v.methods)
 
@@ -230,11 +230,11 @@ abbrev pub trait_rest : Sizes → Option TraitKind → Operands TraitHead
 trait_rest v (Some kind) = seen (λ x. record { attrs = x.0; name = x.1.0; body = x.1.1 }) (λ t. (t.attrs, (t.name, t.body))) (number_below 16 & (entry_upto v.names & trait_fields v kind))
 trait_rest v None = unseen (record { attrs = 0; name = 0; body = bodies.Method 0 0 })
 
--- `trait`: a kind word, the attributes, the index of a multiname, and the fields of the kind
+-- `trait`: a kind word, the attributes, the name, by the index of a multiname, and the fields of the kind
 unfoldable pub trait_line : Sizes → Operands TraitHead
 trait_line v = seen (λ x. x.1) (λ t. (trait_kind_in t.body, t)) (by trait_kind (trait_rest v))
 
--- `tmeta`: the index of metadata
+-- `tmeta`: metadata of a trait, by its index
 unfoldable pub trait_metadata_line : Sizes → Operands ℕ
 trait_metadata_line v = alone (index_below v.metadata)
 
@@ -248,14 +248,14 @@ pub record BodyHead : Type 0 where
   pub init_scope : ℕ
   pub max_scope : ℕ
 
--- `body`: the index of a method, and four sizes
+-- `body`: the method, by its index, and four sizes
 unfoldable pub body_line : Sizes → Operands BodyHead
 body_line v =
     seen (λ x. record { method = x.0; max_stack = x.1.0; local_count = x.1.1.0; init_scope = x.1.1.1.0; max_scope = x.1.1.1.1.0 })
     (λ b. (b.method, (b.max_stack, (b.local_count, (b.init_scope, (b.max_scope, tt))))))
     (index_below v.methods & (u30 & (u30 & (u30 & (u30 & none)))))
 
--- `catch`: three labels, and the indices of the multinames of the type and of the variable, or 0
+-- `catch`: three labels, and the type and the name of the variable, each by the index of a multiname or 0
 unfoldable pub catch_line : Sizes → Operands Handler
 catch_line v =
     seen (λ x. record { from = x.0; to = x.1.0; target = x.1.1.0; exc_type = x.1.1.1.0; var_name = x.1.1.1.1.0 })

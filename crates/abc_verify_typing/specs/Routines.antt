@@ -28,14 +28,17 @@ use Rattle.abc_verify_typing.specs.declared.home.Home.TheVariants.{Elsewhere, On
 pub record Routine : Type 0 where
   -- what a call fills: `this`, then the parameters, then the array of what is left over or of all arguments
   pub filled : List Kind
+  -- whether super operations may stand in it, and on the instances of which layout
   pub home : Home
   -- flag 02
   pub needs_activation : Bool
   -- flag 40, or both flags 01 and 04
   pub unsupported : Bool
+  -- the layout of its activation object
   pub activation : LayoutId
   pub max_stack : ℕ
   pub local_count : ℕ
+  -- how many local scopes it may have
   pub scope_size : ℕ
   pub code : List Instr
   pub handlers : List Catch

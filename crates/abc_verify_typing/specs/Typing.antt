@@ -37,7 +37,7 @@ abbrev pub In : {X : Type 0} → X → List X → Type 0
 In x [] = ⊥
 In x (y ∷ ys) = (x ≡ y) ⊎ In x ys
 
--- The state n, at t, follows from the state s, at i: over the instruction there, or over a handler that covers it.
+-- The state n, at index t, follows from the state s, at index i: by the instruction there, or by a handler that covers it.
 abbrev pub Follows : LinkedFile → Routine → ℕ → State → ℕ → State → Type 0
 Follows p m i s t n = In (t, n) (follows p m i s)
 
